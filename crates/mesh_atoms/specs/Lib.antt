@@ -1,0 +1,5 @@
+pub mod Grammar
+pub mod Nodes
+pub mod Reading
+pub mod Relays
+pub mod Walk

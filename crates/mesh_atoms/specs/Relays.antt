@@ -1,0 +1,62 @@
+-- Which sets of neighbours serve as relays.
+use Rattle.std.specs.Prelude.{◌≡◌, ℕ, ◌+◌, ◌≤◌, ◌<◌, ◌⊎◌, ◌≢◌, ◌↔◌, List, Contains, AllPairs, Option, Some, None}
+use Rattle.mesh_atoms.specs.declared.addr.Addr4.{Addr4}
+use Rattle.mesh_atoms.specs.declared.graphs.Near.{Near}
+use Rattle.mesh_atoms.specs.declared.graphs.Direct.{Direct}
+use Rattle.mesh_atoms.specs.declared.graphs.Far.{Far}
+use Rattle.mesh_atoms.specs.declared.graphs.NeighbourGraph.{NeighbourGraph}
+
+-- y is offered at that cost: by its direct entry, or by way of a neighbour of the set
+abbrev pub Offers : NeighbourGraph → (Near → Type 0) → Addr4 → ℕ → Type 0
+Offers g Among y c =
+    ((d : Direct) × Contains g.direct d × (d.addr ≡ y) × (d.cost ≡ c))
+    ⊎ ((n : Near) × Contains g.near n × Among n × (f : Far) × Contains g.far f × (f.via ≡ n.id) × (f.addr ≡ y) × (n.cost + f.cost ≡ c))
+
+-- d(y, set): the least cost at which y is offered, and none where it is not offered
+abbrev pub IsDistance : NeighbourGraph → (Near → Type 0) → Addr4 → Option ℕ → Type 0
+IsDistance g Among y None = (c : ℕ) → Offers g Among y c → ⊥
+IsDistance g Among y (Some least) = Offers g Among y least × ((c : ℕ) → Offers g Among y c → least ≤ c)
+
+abbrev pub IsWilling : Near → Type 0
+IsWilling n = n.will ≢ 0
+
+abbrev pub IsRelay : List Addr4 → Near → Type 0
+IsRelay relays n = Contains relays n.id
+
+abbrev pub IsOtherRelay : List Addr4 → Addr4 → Near → Type 0
+IsOtherRelay relays id n = Contains relays n.id × (n.id ≢ id)
+
+-- by way of A, y is no dearer than by way of B
+abbrev pub IsAsCheap : NeighbourGraph → (Near → Type 0) → (Near → Type 0) → Addr4 → Type 0
+IsAsCheap g A B y = (c : ℕ) → Offers g B y c → (e : ℕ) × Offers g A y e × (e ≤ c)
+
+-- d(y, A) = d(y, B)
+abbrev pub HasSameDistance : NeighbourGraph → (Near → Type 0) → (Near → Type 0) → Addr4 → Type 0
+HasSameDistance g A B y = IsAsCheap g A B y × IsAsCheap g B A y
+
+-- no address that willing neighbours lead to becomes dearer by way of the relays alone
+pub record Covers (g : NeighbourGraph) (relays : List Addr4) : Type 0 where
+  pub always : (n : Near) → Contains g.near n → n.will ≡ 15 → Contains relays n.id
+  pub willing : (id : Addr4) → Contains relays id → (n : Near) × Contains g.near n × (n.id ≡ id) × IsWilling n
+  pub as_cheap : (f : Far) (c : ℕ) → Contains g.far f → Offers g IsWilling f.addr c → (e : ℕ) × Offers g (IsRelay relays) f.addr e × (e ≤ c)
+
+-- without that relay some address has another distance than by way of all willing neighbours
+abbrev pub IsMissed : NeighbourGraph → List Addr4 → Addr4 → Type 0
+IsMissed g relays id = (f : Far) × Contains g.far f × (HasSameDistance g (IsOtherRelay relays id) IsWilling f.addr → ⊥)
+
+-- each relay that may be left out is missed
+pub record Needed (g : NeighbourGraph) (relays : List Addr4) : Type 0 where
+  pub missed : (n : Near) → Contains g.near n → Contains relays n.id → IsWilling n → n.will < 15 → IsMissed g relays n.id
+
+-- ids in ascending order, each once
+abbrev pub IsAscending : List Addr4 → Type 0
+IsAscending ids = AllPairs (λ a b. a.0 < b.0) ids
+
+-- an id stands for one neighbour
+abbrev pub HasDistinctIds : NeighbourGraph → Type 0
+HasDistinctIds g = (m n : Near) → Contains g.near m → Contains g.near n → m.id ≡ n.id → m ≡ n
+
+-- HasSameDistance says that the two distances are equal
+abbrev pub DistancesTell : Type 0
+DistancesTell = (g : NeighbourGraph) (relays : List Addr4) (id y : Addr4) (a b : Option ℕ) →
+    IsDistance g (IsOtherRelay relays id) y a → IsDistance g IsWilling y b → (HasSameDistance g (IsOtherRelay relays id) IsWilling y ↔ (a ≡ b))

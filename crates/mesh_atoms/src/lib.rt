@@ -1,0 +1,32 @@
+//! The base that every crate stands on: lists of octets and of values, refusals, addresses, metrics, messages as typed
+//! values, the tuples of the information bases, settings, and the graphs of relays and routes.
+#![tactic(auto)]
+
+mod addr;
+mod bytes;
+mod graphs;
+mod hello;
+mod metric;
+mod refusal;
+mod seq;
+mod settings;
+mod tc;
+mod tuples;
+
+pub use addr::{Addr4, Endpoint, NetAddr};
+pub use bytes::Bytes;
+pub use graphs::{
+    Arc4, Certificate, Direct, Far, Graph, Near, NeighbourGraph, Pair, PathRow, RadioGraph, Route,
+};
+pub use hello::{Hello, HelloRow, LinkStatus, LocalIf, Metrics, Mpr, OtherStatus, Willing};
+pub use metric::Metric;
+pub use refusal::Refusal;
+pub use seq::Seq;
+pub use settings::{
+    Attached4, Interface, Port, RadioArc, RouterSettings, RunSetup, Scenario, SenderMetric, Times,
+};
+pub use tc::{Tc, TcRow};
+pub use tuples::{
+    AddressKey, AddressTuple, Advertiser, Base, FloodKey, Link, LinkKey, Lost, Neighbour,
+    NetworkKey, NetworkTuple, Noted, Relays, RouterKey, RouterTuple, TwoHop, TwoHopKey,
+};
