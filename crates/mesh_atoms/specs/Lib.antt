@@ -1,3 +1,4 @@
+pub mod Codes
 pub mod Grammar
 pub mod Nodes
 pub mod Reading

@@ -4,6 +4,7 @@
 
 mod addr;
 mod bytes;
+mod codes;
 mod graphs;
 mod hello;
 mod metric;
@@ -15,6 +16,7 @@ mod tuples;
 
 pub use addr::{Addr4, Endpoint, NetAddr};
 pub use bytes::Bytes;
+pub use codes::{seq_newer, time_at, time_code_at_least, time_of};
 pub use graphs::{
     Arc4, Certificate, Direct, Far, Graph, Near, NeighbourGraph, Pair, PathRow, RadioGraph, Route,
 };
