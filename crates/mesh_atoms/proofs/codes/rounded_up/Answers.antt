@@ -9,13 +9,13 @@ use Rattle.mesh_atoms.proofs.codes.rounded_up.Goals as goal
 ceil : (n d e q : ℕ) → d ≡ 2 ^ e → q ≡ n / d + min 1 (n % d) → q ≡ n / 2 ^ e + min 1 (n % 2 ^ e)
 ceil n d e q power is = is ∙ ap (λ (k : ℕ). n / k + min 1 (n % k)) power
 
-pub returns-clause-mantissa : goal.returns-clause-mantissa
-returns-clause-mantissa c =
+pub returns-clause-at_most : goal.returns-clause-at_most
+returns-clause-at_most c =
     let n : ℕ = c.args.value in
     let e : ℕ = c.exponent_for-exponent.result in
     let is = ceil n (1 * 2 ^ e % 2 ^ 64) e c.div_ceil.result (one_shl e 64 (omega arith)) c.div_ceil.ensures in
     let le = ceil_least n c.args.top (2 ^ e) (pow_pos e) c.exponent_for-exponent.ensures.enough in
-    (omega arith, omega (arith, is, le))
+    omega (arith, is, le)
 
 pub returns-clause-enough : goal.returns-clause-enough
 returns-clause-enough c =
