@@ -1,5 +1,5 @@
 //! A list of octets.
-ghost use Rattle.std.specs.Prelude.{◌≡◌, [], ◌∷◌, ◌++◌, length, OnOk, OnErr, slice_get};
+ghost use Rattle.std.specs.Prelude.{◌≡◌, [], ◌∷◌, ◌++◌, length, IfOk, OnOk, OnErr, slice_get};
 ghost use Rattle.std.specs.Option.{option_copied};
 
 use std::alloc::{AllocError, Global};
@@ -80,5 +80,14 @@ impl Bytes {
         ensures { self.new ≡ [] }
     {
         self.items.clear();
+    }
+
+    /// An equal list.
+    pub fn copy(&self) -> Result<Bytes, AllocError>
+        ensures { IfOk result (λ copy. copy ≡ self.now) }
+    {
+        Ok(Bytes {
+            items: Vec::from_slice(*self.items.allocator(), self.items.as_slice())?,
+        })
     }
 }

@@ -1,5 +1,5 @@
 //! A list of values.
-ghost use Rattle.std.specs.Prelude.{◌≡◌, [], ◌∷◌, ◌++◌, length, OnOk, OnErr, slice_get};
+ghost use Rattle.std.specs.Prelude.{◌≡◌, [], ◌∷◌, ◌++◌, length, IfOk, OnOk, OnErr, slice_get};
 ghost use Rattle.std.specs.Option.{option_copied};
 
 use std::alloc::{AllocError, Global};
@@ -71,5 +71,21 @@ impl<T: Drop> Seq<T> {
         ensures { self.new ≡ [] }
     {
         self.items.clear();
+    }
+
+    /// The allocator that the list takes its memory from.
+    pub fn allocator(&self) -> Global {
+        *self.items.allocator()
+    }
+}
+
+impl<T: Copy> Seq<T> {
+    /// An equal list.
+    pub fn copy(&self) -> Result<Seq<T>, AllocError>
+        ensures { IfOk result (λ copy. copy ≡ self.now) }
+    {
+        Ok(Seq {
+            items: Vec::from_slice(*self.items.allocator(), self.items.as_slice())?,
+        })
     }
 }

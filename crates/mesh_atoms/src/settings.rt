@@ -1,8 +1,15 @@
 //! The settings of a router, and the scenario of a network.
-use crate::{Addr4, Bytes, Endpoint, Metric, NetAddr, Seq, Willing};
+ghost use Rattle.std.specs.Prelude.{◌≡◌, ℕ, ◌≤◌, ◌<◌, ◌^◌, length, map, IsTrue, IfOk, nat_lt, nat_le, ◌&&◌};
+ghost use Rattle.std.specs.Option.{ForSome};
+ghost use Rattle.std.specs.List.{flat_map, list_all};
+ghost use Rattle.mesh_atoms.specs.Base.{addr_eq};
+ghost use Rattle.mesh_atoms.specs.Settings.{one_millisecond, one_hour, longest_delay, is_addressed, are_distinct, IsInterval, IsTimes, IsEnd, IsInterface, IsRouter, are_senders, AreRouters, AreArcs};
 
-/// The intervals and hold times of a router, in ticks of 1/8192 s (RFC 7181, section 5, and RFC 6130, section 5), and
-/// the hop limit of its TCs, at least 1.
+use crate::{Addr4, Bytes, Endpoint, Metric, NetAddr, Seq, Willing};
+use std::alloc::AllocError;
+
+/// The intervals and hold times of a router, in ticks of 1/8192 s, each from 820 (100 ms) to 29,491,200 (an hour)
+/// (RFC 7181, section 5, and RFC 6130, section 5), and the hop limit of its TCs, at least 1.
 #[derive(Clone, Copy, Debug, PartialEq, Eq)]
 pub struct Times {
     /// Between two HELLOs.
@@ -23,23 +30,41 @@ pub struct Times {
     pub processed_hold: u64,
     pub forwarded_hold: u64,
     pub tc_hop_limit: u8,
+    pub ghost sound: { IsTimes hello hold link_hold neighbour_hold tc topology_hold advertised_hold received_hold processed_hold forwarded_hold tc_hop_limit },
 }
 
-/// The metric of what is received from a sender.
+/// The metric of what is received from a sender other than 0.0.0.0.
 #[derive(Clone, Copy, Debug, PartialEq, Eq)]
 pub struct SenderMetric {
     pub sender: Addr4,
     pub metric: Metric,
+    pub ghost addressed: { 0 < sender.0 },
 }
 
-/// An interface of a router: its name, its addresses, and the metric of what it receives: that of the sender where
-/// there is one, else its own.
+/// An interface of a router: its name of 1 to 16 lower case letters and digits, its 1 to 4 addresses other than 0.0.0.0,
+/// and the metric of what it receives: that of the sender where there is one, else its own.
 #[derive(Debug, Drop)]
 pub struct Interface {
     pub name: Bytes,
     pub addrs: Seq<Addr4>,
     pub metric: Metric,
     pub senders: Seq<SenderMetric>,
+    pub ghost sound: { IsInterface name addrs },
+    pub ghost few_senders: { length senders ≤ 4096 },
+}
+
+impl Interface {
+    /// An equal interface.
+    pub fn copy(&self) -> Result<Interface, AllocError>
+        ensures { IfOk result (λ copy. copy ≡ self.now) }
+    {
+        Ok(Interface {
+            name: self.name.copy()?,
+            addrs: self.addrs.copy()?,
+            metric: self.metric,
+            senders: self.senders.copy()?,
+        })
+    }
 }
 
 /// A network behind a router (RFC 7181, section 7.2), at this distance in hops.
@@ -50,7 +75,9 @@ pub struct Attached4 {
     pub distance: u8,
 }
 
-/// The settings of a router. The moments of its first HELLO and its first TC are in ticks of 1/8192 s.
+/// The settings of a router: its name, its 1 to 8 interfaces, whose names and addresses are distinct, and at most 64
+/// distinct networks that it attaches, none of them one of its addresses. The moments of its first HELLO and its first
+/// TC are in ticks of 1/8192 s, up to 29,491,200 (an hour).
 #[derive(Debug, Drop)]
 pub struct RouterSettings {
     pub name: Bytes,
@@ -60,25 +87,61 @@ pub struct RouterSettings {
     pub times: Times,
     pub interfaces: Seq<Interface>,
     pub attached: Seq<Attached4>,
+    pub ghost sound: { IsRouter name hello_at tc_at (map (λ i. i.name) interfaces) (flat_map (λ i. i.addrs) interfaces) (map (λ a. a.net) attached) },
 }
 
-/// Where an interface of a running router receives, and where it sends to.
+impl RouterSettings {
+    /// Equal settings.
+    pub fn copy(&self) -> Result<RouterSettings, AllocError>
+        ensures { IfOk result (λ copy. copy ≡ self.now) }
+    {
+        let name = self.name.copy()?;
+        let interfaces = copy_interfaces(&self.interfaces)?;
+        let attached = self.attached.copy()?;
+        Ok(RouterSettings {
+            name,
+            willing: self.willing,
+            hello_at: self.hello_at,
+            tc_at: self.tc_at,
+            times: self.times,
+            interfaces,
+            attached,
+        })
+    }
+}
+
+fn copy_interfaces(interfaces: &Seq<Interface>) -> Result<Seq<Interface>, AllocError>
+    ensures { IfOk result (λ copy. copy ≡ interfaces.now) }
+{
+    let mut copies = Seq::new(interfaces.allocator());
+    for interface in interfaces.as_slice() {
+        copies.push(interface.copy()?)?;
+    }
+    Ok(copies)
+}
+
+/// Where an interface of a running router receives, and where it sends to: at most 64 peers.
 #[derive(Debug, Drop)]
 pub struct Port {
     pub local: Endpoint,
     pub peers: Seq<Endpoint>,
+    pub ghost few: { length peers ≤ 64 },
 }
 
-/// A router that runs up to a moment, in ticks of 1/8192 s, with one port for each interface.
+/// A router that runs up to a moment from 9 (1 ms) to 29,491,200 (an hour), in ticks of 1/8192 s, with one port for each
+/// interface. Each interface has metrics of at most 1,024 senders, which are distinct.
 #[derive(Debug, Drop)]
 pub struct RunSetup {
     pub end: u64,
     pub router: RouterSettings,
     pub ports: Seq<Port>,
+    pub ghost end_in_range: { IsEnd end },
+    pub ghost sound_senders: { IsTrue (list_all are_senders (map (λ i. map (λ s. s.sender) i.senders) router.interfaces)) },
+    pub ghost ports_of_interfaces: { length ports ≡ length router.interfaces },
 }
 
 /// A radio arc from one interface to another, routers and interfaces being numbered from 0: its metric, the frames that
-/// are lost on it among a thousand, and its delay in ticks of 1/8192 s.
+/// are lost on it among a thousand, and its delay from 9 (1 ms) to 8192 (1 s) in ticks of 1/8192 s.
 #[derive(Clone, Copy, Debug, PartialEq, Eq)]
 pub struct RadioArc {
     pub from: usize,
@@ -88,10 +151,15 @@ pub struct RadioArc {
     pub metric: Metric,
     pub loss: u16,
     pub delay: u64,
+    pub ghost lost_of_thousand: { loss ≤ 1000 },
+    pub ghost delayed: { one_millisecond ≤ delay },
+    pub ghost delayed_up_to: { delay ≤ longest_delay },
 }
 
-/// A network of routers and radio arcs. Its moments are in ticks of 1/8192 s: the end, and that before which frames may
-/// be lost.
+/// A network of 1 to 64 routers, whose names and addresses are distinct, and no attached network of which is a router's
+/// address, and of at most 4,096 radio arcs between interfaces of two different routers, no pair of which is joined
+/// twice. Its moments are in ticks of 1/8192 s: the end from 9 (1 ms) to 29,491,200 (an hour), and that before which
+/// frames may be lost, up to 29,491,200. The seed is below 2^63.
 #[derive(Debug, Drop)]
 pub struct Scenario {
     pub end: u64,
@@ -99,4 +167,90 @@ pub struct Scenario {
     pub loss_until: Option<u64>,
     pub routers: Seq<RouterSettings>,
     pub arcs: Seq<RadioArc>,
+    pub ghost end_in_range: { IsEnd end },
+    pub ghost seed_in_range: { seed < 2 ^ 63 },
+    pub ghost loss_in_range: { ForSome loss_until (λ moment. moment ≤ one_hour) },
+    pub ghost sound_routers: { AreRouters (map (λ r. r.name) routers) (flat_map (λ r. flat_map (λ i. i.addrs) r.interfaces) routers) (flat_map (λ r. map (λ a. a.net) r.attached) routers) },
+    pub ghost sound_arcs: { AreArcs (map (λ r. length r.interfaces) routers) (map (λ a. record { from = a.from; from_iface = a.from_iface; to = a.to; to_iface = a.to_iface }) arcs) },
+}
+
+#[cfg(test)]
+mod tests {
+    use super::*;
+    use std::alloc::Global;
+    use std::test::Fail;
+
+    const TIMES: Times = Times {
+        hello: 16384,
+        hold: 49152,
+        link_hold: 49152,
+        neighbour_hold: 49152,
+        tc: 40960,
+        topology_hold: 122880,
+        advertised_hold: 122880,
+        received_hold: 245760,
+        processed_hold: 245760,
+        forwarded_hold: 245760,
+        tc_hop_limit: 255,
+    };
+
+    fn list_of<T: Copy>(alloc: Global, items: &[T]) -> Result<Seq<T>, AllocError>
+        ensures { IfOk result (λ list. list ≡ items.now) }
+    {
+        Ok(Seq::from_vec(Vec::from_slice(alloc, items)?))
+    }
+
+    fn text(alloc: Global, octets: &[u8]) -> Result<Bytes, AllocError>
+        ensures { IfOk result (λ bytes. bytes ≡ octets.now) }
+    {
+        Ok(Bytes::from_vec(Vec::from_slice(alloc, octets)?))
+    }
+
+    #[test]
+    fn settings_are_built_and_copied(rt: HostRuntime) -> Result<(), Fail> {
+        let alloc = rt.alloc();
+        let mut interfaces = Seq::new(alloc);
+        interfaces.push(Interface {
+            name: text(alloc, b"w0")?,
+            addrs: list_of(alloc, &[Addr4(0x0a00_0001), Addr4(0x0a00_0002)])?,
+            metric: Metric { code: 0 },
+            senders: Seq::new(alloc),
+        })?;
+        let router = RouterSettings {
+            name: text(alloc, b"a")?,
+            willing: Willing {
+                flooding: 7,
+                routing: 7,
+            },
+            hello_at: 0,
+            tc_at: 9,
+            times: TIMES,
+            interfaces,
+            attached: list_of(
+                alloc,
+                &[Attached4 {
+                    net: NetAddr {
+                        addr: Addr4(0),
+                        prefix: 0,
+                    },
+                    metric: Metric { code: 1 },
+                    distance: 1,
+                }],
+            )?,
+        };
+        let copy = router.copy()?;
+        assert_eq!(rt; copy.name.as_slice(), b"a".as_slice());
+        assert_eq!(rt; copy.attached.as_slice(), router.attached.as_slice());
+        let mut routers = Seq::new(alloc);
+        routers.push(router)?;
+        let scenario = Scenario {
+            end: 9,
+            seed: 0,
+            loss_until: Some(0),
+            routers,
+            arcs: Seq::new(alloc),
+        };
+        assert_eq!(rt; scenario.routers.len(), 1);
+        Ok(())
+    }
 }
