@@ -4,7 +4,8 @@ use Rattle.std.specs.Prelude.{IsTrue, not, ◌&&◌, ◌||◌}
 use Rattle.std.specs.List.{IsDistinct, AllByRecursion, list_any}
 use Rattle.mesh_atoms.specs.Settings.{are_distinct}
 
-both : (a b : Bool) → (a && b) ≡ true → (a ≡ true) × (b ≡ true)
+-- both tests hold
+pub both : (a b : Bool) → (a && b) ≡ true → (a ≡ true) × (b ≡ true)
 both true b h = (refl, h)
 both false b h = absurd cc
 

@@ -1,0 +1,39 @@
+-- When two networks are the same.
+use Rattle.std.proofs.Common.{◌≡◌, ℕ, ◌-◌, ◌≤◌, ◌^◌, ◌%◌, Bool, true, false, refl, ap, subst, ◌∙◌}
+use Rattle.std.specs.Prelude.{◌&&◌}
+use Rattle.std.specs.Coded.{le_prop, Coded-set, coded_ℕ}
+use Rattle.std.proofs.lemmas.Bool.{eqb-true}
+use Rattle.mesh_atoms.specs.declared.addr.Addr4.{Addr4}
+use Rattle.mesh_atoms.specs.declared.addr.NetAddr.{NetAddr}
+use Rattle.mesh_atoms.specs.declared.tuples.NetworkKey.{NetworkKey}
+use Rattle.mesh_atoms.specs.Base.{addr_eq, net_eq, network_eq}
+use Rattle.mesh_atoms.proofs.Kept.{both}
+
+-- the network of an address and a prefix
+abbrev Clear : Addr4 → ℕ → Type 0
+Clear addr prefix = addr.0 % 2 ^ (32 - prefix) ≡ 0
+
+abbrev made : (addr : Addr4) (prefix : ℕ) → prefix ≤ 32 → Clear addr prefix → NetAddr
+made addr prefix within clear = record { addr = addr; prefix = prefix; within = within; clear = clear }
+
+made_same : (addr : Addr4) (prefix : ℕ) (w w' : prefix ≤ 32) (c c' : Clear addr prefix) → made addr prefix w c ≡ made addr prefix w' c'
+made_same addr prefix w w' c c' = ap (λ (x : prefix ≤ 32). made addr prefix x c) (le_prop w w') ∙ ap (λ (x : Clear addr prefix). made addr prefix w' x) (Coded-set coded_ℕ _ _ c c')
+
+-- networks of one address and one prefix are the same
+pub same_net : (a b : NetAddr) → a.addr ≡ b.addr → a.prefix ≡ b.prefix → a ≡ b
+same_net a b e f =
+    let by_prefix : (w : b.prefix ≤ 32) (c : Clear a.addr b.prefix) → a ≡ made a.addr b.prefix w c =
+    subst (λ (p : ℕ). (w : p ≤ 32) (c : Clear a.addr p) → a ≡ made a.addr p w c) f (λ w c. made_same a.addr a.prefix a.within w a.clear c) in
+    subst (λ (x : Addr4). (w : b.prefix ≤ 32) (c : Clear x b.prefix) → a ≡ made x b.prefix w c) e by_prefix b.within b.clear
+
+pub addr_exact : (a b : Addr4) → addr_eq a b ≡ true → a ≡ b
+addr_exact a b h = ap (λ (n : ℕ). record { 0 = n }) (eqb-true a.0 b.0 h)
+
+pub net_exact : (a b : NetAddr) → net_eq a b ≡ true → a ≡ b
+net_exact a b h = let parts = both (addr_eq a.addr b.addr) _ h in same_net a b (addr_exact a.addr b.addr parts.0) (eqb-true a.prefix b.prefix parts.1)
+
+pub network_exact : (a b : NetworkKey) → network_eq a b ≡ true → a ≡ b
+network_exact a b h =
+    let parts = both (addr_eq a.from b.from) (net_eq a.net b.net) h in
+    ap (λ (x : Addr4). record { from = x; net = a.net }) (addr_exact a.from b.from parts.0)
+    ∙ ap (λ (x : NetAddr). record { from = b.from; net = x }) (net_exact a.net b.net parts.1)

@@ -1,0 +1,59 @@
+//! What a table is.
+ghost use Rattle.std.specs.Prelude.{◌≡◌, ◌+◌, [], length, true, false, if◌then◌else◌, is_some, IfOk, OnOk, OnErr, IsTrue, IsSome, ◌↔◌, slice_get, option_map, Some, None};
+ghost use Rattle.std.specs.Option.{option_copied_mut};
+ghost use Rattle.std.specs.Borrow.{sem};
+ghost use Rattle.mesh_atoms.specs.Base.{Base, HasDistinctKeys, find, SetsOnly, Expires};
+ghost use Rattle.mesh_expire.specs.Table.{entry_of, value_of, changed_at, LendsValue};
+
+use std::alloc::{AllocError, Global};
+
+/// A key that `==` tells from every other.
+pub trait Key: Eq + Copy {
+    ghost exact: { (a b : Self) → Self.eq a b ≡ true → a ≡ b };
+}
+
+pub trait Table<K: Key, V>: Sized + Drop {
+    ghost content: { Self → Base K V };
+
+    fn new(alloc: Global) -> Result<Self, AllocError>
+        ensures { IfOk result (λ table. content table ≡ []) };
+
+    fn len(&self) -> usize
+        ensures value { result ≡ length (content self.now) }
+        ensures distinct { HasDistinctKeys K.eq (content self.now) };
+
+    fn at(&self, place: usize) -> Option<(&K, &V, u64)>
+        ensures { entry_of result ≡ slice_get (content self.now) place };
+
+    fn get(&self, key: &K) -> Option<(&V, u64)>
+        ensures { value_of result ≡ find K.eq (content self.now) key.now };
+
+    fn put(&mut self, key: K, value: V, until: u64) -> Result<(), AllocError>
+        ensures ok { OnOk result (SetsOnly K.eq (content self.old) (content self.new) key (Some (value, until))) }
+        ensures err { OnErr result (content self.new ≡ content self.old) }
+        ensures count { OnOk result (length (content self.new) ≡ length (content self.old) + (if is_some (find K.eq (content self.old) key) then 0 else 1)) }
+        ensures distinct { HasDistinctKeys K.eq (content self.new) };
+
+    fn remove(&mut self, key: &K) -> bool
+        ensures found { IsTrue result ↔ IsSome (find K.eq (content self.old) key.now) }
+        ensures removed { SetsOnly K.eq (content self.old) (content self.new) key.now None }
+        ensures unchanged { result ≡ false → content self.new ≡ content self.old }
+        ensures count { length (content self.new) + (if result then 1 else 0) ≡ length (content self.old) }
+        ensures distinct { HasDistinctKeys K.eq (content self.new) };
+
+    fn expire(&mut self, now: u64) -> usize
+        ensures kept { Expires K.eq now (content self.old) (content self.new) }
+        ensures count { result + length (content self.new) ≡ length (content self.old) }
+        ensures distinct { HasDistinctKeys K.eq (content self.new) };
+
+    fn value_mut(&mut self, key: &K) -> Option<&mut V>
+        ensures* lends { sem 𝓛 (LendsValue Self.row V.row content K.eq key.now self.entry result) }
+        ensures value { option_copied_mut result ≡ option_map (λ e. e.0) (find K.eq (content self.old) key.now) }
+        ensures distinct { HasDistinctKeys K.eq (content self.old) };
+
+    fn set_until(&mut self, key: &K, until: u64) -> Result<bool, AllocError>
+        ensures found { IfOk result (λ is_there. IsTrue is_there ↔ IsSome (find K.eq (content self.old) key.now)) }
+        ensures ok { OnOk result (content self.new ≡ changed_at K.eq (content self.old) key.now (λ e. (e.0, until))) }
+        ensures err { OnErr result (content self.new ≡ content self.old) }
+        ensures distinct { HasDistinctKeys K.eq (content self.new) };
+}
