@@ -1,9 +1,13 @@
 -- What follows from the laws of a table.
-use Rattle.std.proofs.Common.{◌≡◌, ℕ, zero, suc, ◌<◌, Bool, true, false, cond, List, [], ◌∷◌, length, Option, Some, None, refl, sym, ap, ◌∙◌}
+use Rattle.std.proofs.Common.{◌≡◌, ℕ, zero, suc, ◌<◌, Bool, true, false, cond, List, [], ◌∷◌, length, Option, Some, None, refl, sym, ap, subst, ◌∙◌}
 use Rattle.std.specs.Prelude.{option_map, slice_get, slice_set}
 use Rattle.std.specs.List.{IsDistinct, AllByRecursion}
 use Rattle.std.specs.Cmp.{IsEquivalence}
 use Rattle.std.specs.Map.{keys_of}
+use Rattle.std.proofs.lemmas.Map.{lookup-none}
+use Rattle.std.proofs.lemmas.Map.Keys.{IsDistinct-head, IsDistinct-tail}
+use Rattle.std.proofs.lemmas.Map.Entries.{none_past_head, place_from_lookup}
+use Rattle.std.proofs.lemmas.Option.{slice_get-map, slice_get_within}
 use Rattle.mesh_atoms.specs.Base.{Base, find, HasDistinctKeys, SetsOnly}
 use Rattle.mesh_expire.specs.Table.{changed_at}
 
@@ -11,6 +15,15 @@ use Rattle.mesh_expire.specs.Table.{changed_at}
 pub distinct_none : {K : Type 0} (eq : K → K → Bool) → IsDistinct eq []
 unfolding IsDistinct
 distinct_none eq = tt
+
+-- nothing is there where nothing of it is lent
+pub found_none : {A B : Type 0} (f : A → B) (o : Option A) → None ≡ option_map f o → o ≡ None
+found_none f None h = refl
+found_none f (Some x) h = absurd cc
+
+-- what is lent is of what is there
+pub found_some : {A B : Type 0} (f : A → B) (o : Option A) (x : A) (y : B) → Some y ≡ option_map f o → o ≡ Some x → y ≡ f x
+found_some f o x y h is = let both : Some y ≡ Some (f x) = h ∙ ap (option_map f) is in cc
 
 module _ {K V : Type 0} (eq : K → K → Bool) (key : K) (change : V × ℕ → V × ℕ) where
   -- a change keeps the keys, and each at its place
@@ -32,3 +45,92 @@ module _ {K V : Type 0} (eq : K → K → Bool) (key : K) (change : V × ℕ →
     absent : (b : Bool) → eq key e.0 ≡ b → (find eq es key ≡ None → changed_at eq es key change ≡ es) → find eq (e ∷ es) key ≡ None → changed_at eq (e ∷ es) key change ≡ e ∷ es
     absent true is others h = absurd (let some : find eq (e ∷ es) key ≡ Some e.1 = rw is refl in cc)
     absent false is others h = rw (is, others (rw is at h)) refl
+
+key_at : {K X : Type 0} (es : List (K × X)) (i : ℕ) (k : K) (x : X) → slice_get es i ≡ Some (k, x) → slice_get (keys_of es) i ≡ Some k
+key_at {K} {X} es i k x at = slice_get-map (λ (e : K × X). e.0) es i ∙ ap (option_map (λ (e : K × X). e.0)) at
+
+cond_same : {A : Type 0} (b : Bool) (x : A) → x ≡ cond b x x
+cond_same true x = refl
+cond_same false x = refl
+
+some_cond : {A : Type 0} (b : Bool) (x y : A) → Some (cond b x y) ≡ cond b (Some x) (Some y)
+some_cond true x y = refl
+some_cond false x y = refl
+
+-- what holds at each place holds of what is found
+pub walked : {K V : Type 0} {eq : K → K → Bool} (exact : (a b : K) → eq a b ≡ true → a ≡ b) (base : Base K V) (P : K × (V × ℕ) → Type 0)
+    → ((i : ℕ) (e : K × (V × ℕ)) → i < length base → slice_get base i ≡ Some e → P e)
+    → (q : K) (entry : V × ℕ) → find eq base q ≡ Some entry → P (q, entry)
+walked {eq = eq} exact base P each q entry found =
+    let there = place_from_lookup (eq q) base entry found in
+    let same : (there.1, entry) ≡ (q, entry) = ap (λ k. (k, entry)) (sym (exact q there.1 there.3)) in
+    subst P same (each there.0 (there.1, entry) (slice_get_within base there.0 (there.1, entry) there.2) there.2)
+
+-- what holds of each holds of the one at a place
+all_at : {A : Type 0} (P : A → Type 0) (xs : List A) (i : ℕ) (x : A) → AllByRecursion P xs → slice_get xs i ≡ Some x → P x
+all_at P [] i x h at = absurd cc
+all_at P (y ∷ ys) zero x h at = let is : y ≡ x = cc in subst P is h.0
+all_at P (y ∷ ys) (suc i) x h at = all_at P ys i x h.1 at
+
+-- keys that are equal are equal to the same keys
+same_key : {K : Type 0} {eq : K → K → Bool} (laws : IsEquivalence eq) (key q x : K) → eq q x ≡ true → eq key x ≡ eq key q
+same_key laws key q x h = laws.symm key x ∙ sym (laws.congr q x key h) ∙ laws.symm q key
+
+module _ {K V : Type 0} {eq : K → K → Bool} (laws : IsEquivalence eq) where
+  -- equal keys find the same
+  pub find_same : (key q : K) → eq key q ≡ true → (base : Base K V) → find eq base q ≡ find eq base key
+  find_same key q h [] = refl
+  find_same key q h (e ∷ es) = rw (laws.congr key q e.0 h, find_same key q h es) refl
+
+  -- what stands at each key after a change
+  pub find-changed_at : (key : K) (change : V × ℕ → V × ℕ) (q : K) (base : Base K V) → find eq (changed_at eq base key change) q ≡ cond (eq key q) (option_map change (find eq base q)) (find eq base q)
+  find-changed_at key change q [] = cond_same (eq key q) None
+  find-changed_at key change q (e ∷ es) = by_head (eq q e.0) refl (find-changed_at key change q es) where
+    by_head : (b : Bool) → eq q e.0 ≡ b
+        → find eq (changed_at eq es key change) q ≡ cond (eq key q) (option_map change (find eq es q)) (find eq es q)
+        → find eq (changed_at eq (e ∷ es) key change) q ≡ cond (eq key q) (option_map change (find eq (e ∷ es) q)) (find eq (e ∷ es) q)
+    by_head true is others = rw (is, same_key laws key q e.0 is) (some_cond (eq key q) (change e.1) e.1)
+    by_head false is others = rw is others
+
+  -- a change of what stands there, and of nothing else
+  pub sets-changed_at : (key : K) (change : V × ℕ → V × ℕ) (base : Base K V) (entry : V × ℕ) → find eq base key ≡ Some entry → SetsOnly eq base (changed_at eq base key change) key (Some (change entry))
+  sets-changed_at key change base entry found q = find-changed_at key change q base ∙ by_key (eq key q) refl where
+    by_key : (b : Bool) → eq key q ≡ b → cond b (option_map change (find eq base q)) (find eq base q) ≡ cond b (Some (change entry)) (find eq base q)
+    by_key false is = refl
+    by_key true is = ap (option_map change) (find_same key q is base ∙ found)
+
+  -- the tail of a base has not the key of its head
+  absent_behind : (key : K) (e : K × (V × ℕ)) (es : Base K V) → HasDistinctKeys eq (e ∷ es) → eq key e.0 ≡ true → find eq es key ≡ None
+  absent_behind key e es distinct is = lookup-none (eq key) es (none_past_head laws key e es distinct is)
+
+  -- changes that agree on what stands there are the same
+  pub changed_at-agrees : (key : K) (change change' : V × ℕ → V × ℕ) (base : Base K V) → HasDistinctKeys eq base
+      → ((entry : V × ℕ) → find eq base key ≡ Some entry → change entry ≡ change' entry)
+      → changed_at eq base key change ≡ changed_at eq base key change'
+  changed_at-agrees key change change' [] distinct agree = refl
+  changed_at-agrees key change change' (e ∷ es) distinct agree = by_head (eq key e.0) refl (λ k. changed_at-agrees key change change' es (IsDistinct-tail eq e.0 (keys_of es) distinct) k) where
+    by_head : (b : Bool) → eq key e.0 ≡ b
+        → (((entry : V × ℕ) → find eq es key ≡ Some entry → change entry ≡ change' entry) → changed_at eq es key change ≡ changed_at eq es key change')
+        → changed_at eq (e ∷ es) key change ≡ changed_at eq (e ∷ es) key change'
+    by_head true is others =
+        let none = absent_behind key e es distinct is in
+        let here : find eq (e ∷ es) key ≡ Some e.1 = rw is refl in
+        rw (is, changed_at-absent eq key change es none, changed_at-absent eq key change' es none, agree e.1 here) refl
+    by_head false is others =
+        let behind : find eq (e ∷ es) key ≡ find eq es key = rw is refl in
+        rw (is, others (λ entry h. agree entry (behind ∙ h))) refl
+
+  -- the first key is another than one further on
+  pub apart_before : (e : K × (V × ℕ)) (es : Base K V) (i : ℕ) (key : K) (entry : V × ℕ) → HasDistinctKeys eq (e ∷ es) → slice_get es i ≡ Some (key, entry) → eq key e.0 ≡ false
+  apart_before e es i key entry distinct at = laws.symm key e.0 ∙ all_at (λ y. eq e.0 y ≡ false) (keys_of es) i key (IsDistinct-head eq e.0 (keys_of es) distinct) (key_at es i key entry at)
+
+  -- a change by the key that stands at a place
+  pub changed_at-place : (change : V × ℕ → V × ℕ) (base : Base K V) (i : ℕ) (key : K) (entry : V × ℕ) → HasDistinctKeys eq base → slice_get base i ≡ Some (key, entry)
+      → changed_at eq base key change ≡ slice_set base i (key, change entry)
+  changed_at-place change [] i key entry distinct at = absurd cc
+  changed_at-place change (e ∷ es) zero key entry distinct at =
+      let is : e ≡ (key, entry) = cc in
+      let here : eq key e.0 ≡ true = rw is (laws.refl key) in
+      rw (here, changed_at-absent eq key change es (absent_behind key e es distinct here), is) refl
+  changed_at-place change (e ∷ es) (suc i) key entry distinct at =
+      rw (apart_before e es i key entry distinct at, changed_at-place change es i key entry (IsDistinct-tail eq e.0 (keys_of es) distinct) at) refl

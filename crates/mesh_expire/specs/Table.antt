@@ -1,5 +1,5 @@
 -- What calls of a table give and do.
-use Rattle.std.specs.Prelude.{◌≡◌, ℕ, Bool, cond, Option, None, Some, map, OnSome}
+use Rattle.std.specs.Prelude.{◌≡◌, ℕ, Bool, cond, Option, None, Some, map}
 use Rattle.std.specs.Borrow.{Bor, MutBor, RattleType, Fml, LendsSo}
 use Rattle.mesh_atoms.specs.Base.{Base}
 
@@ -21,4 +21,4 @@ changed_at eq base key change = map (λ e. (e.0, cond (eq key e.0) (change e.1) 
 -- it stays as it is
 abbrev pub LendsValue : (T V : RattleType) {K : Type 0} → (T.Denot → Base K V.Denot) → (K → K → Bool) → K → MutBor T.Denot → Option (MutBor V.Denot) → Fml
 LendsValue T V content eq key table r =
-    LendsSo T V table r (λ n w. OnSome r (content n ≡ changed_at eq (content table.now) key (λ e. (w, e.1)))) (λ n. content n ≡ content table.now)
+    LendsSo T V table r (λ n w. content n ≡ changed_at eq (content table.now) key (λ e. (w, e.1))) (λ n. content n ≡ content table.now)

@@ -2,7 +2,7 @@
 ghost use Rattle.std.proofs.Common.{rules};
 
 use crate::table::Key;
-use mesh_atoms::{AddressKey, Addr4, FloodKey, LinkKey, NetworkKey, RouterKey, TwoHopKey};
+use mesh_atoms::{Addr4, AddressKey, FloodKey, LinkKey, NetworkKey, RouterKey, TwoHopKey};
 
 impl Key for Addr4 {
     ghost exact = { Prim.search rules };

@@ -1,0 +1,6 @@
+use Rattle.std.proofs.Common.{◌≡◌, drop}
+use Rattle.mesh_atoms.specs.Base.{find}
+use Rattle.mesh_expire.proofs.list_table.ListTableTable.get.Given as goal
+
+abbrev pub invariant-loop-entry : goal.invariant-loop-entry
+invariant-loop-entry g l = find g.K.PartialEq.eq l.entry-items l.key ≡ find g.K.PartialEq.eq (drop l.entry-index l.entry-items) l.key

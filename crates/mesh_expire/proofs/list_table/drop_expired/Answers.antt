@@ -1,0 +1,16 @@
+use Rattle.std.proofs.Common.{◌≡◌, rules}
+use Rattle.std.specs.List.{filter}
+use Rattle.std.proofs.lemmas.Fn.{filter_same}
+use Rattle.std.proofs.lemmas.Map.Made.{IsDistinct-keys_filter}
+use Rattle.mesh_expire.proofs.Places.{is_live, lives}
+use Rattle.mesh_expire.proofs.list_table.drop_expired.Goals as goal
+
+pub returns-clause-distinct : goal.returns-clause-distinct
+returns-clause-distinct g c =
+    let e : c.retain.new.self.items ≡ filter (λ e. is_live c.args.now e.1) c.args.entries.now.items = filter_same _ _ _ (λ x b f' k. search rules) _ _ c.retain.ensures.filtered in
+    rw e (IsDistinct-keys_filter g.K.PartialEq.eq _ c.args.entries.now.items c.requires)
+
+pub returns-clause-kept : goal.returns-clause-kept
+returns-clause-kept g c =
+    let e : c.retain.new.self.items ≡ filter (λ e. is_live c.args.now e.1) c.args.entries.now.items = filter_same _ _ _ (λ x b f' k. search rules) _ _ c.retain.ensures.filtered in
+    λ q. rw e (lives g.met.K.Eq.laws c.args.now q c.args.entries.now.items c.requires)

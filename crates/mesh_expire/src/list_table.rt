@@ -1,0 +1,155 @@
+//! A table that is a list.
+ghost use Rattle.std.specs.Prelude.{◌≡◌, ◌+◌, [], length, false, if◌then◌else◌, is_some, IfOk, OnOk, OnErr, IfSome, IfNone, IsTrue, IsSome, ◌↔◌, slice_get, option_map, Some, None};
+ghost use Rattle.mesh_atoms.specs.Base.{HasDistinctKeys, find, SetsOnly, Expires};
+ghost use Rattle.mesh_expire.specs.Table.{changed_at};
+
+use crate::table::{Key, Table};
+use std::alloc::{AllocError, Global};
+use std::marker::Model;
+
+/// A table that is a list of entries, in which a key is looked for from the front.
+#[derive(Drop)]
+pub struct ListTable<K: Key, V> {
+    entries: Vec<(K, (V, u64))>,
+}
+
+impl<K: Key, V> Model for ListTable<K, V> {
+    ghost use Rattle.mesh_atoms.specs.Base.{Base, HasDistinctKeys};
+
+    ghost Value = { Base K V };
+
+    ghost view = { λ t. t.entries.items };
+
+    ghost invariant = { λ t. HasDistinctKeys K.eq t.entries.items };
+}
+
+// Where the key stands.
+fn place_of<K: Key, V>(entries: &Vec<(K, (V, u64))>, key: &K) -> Option<usize>
+    ensures some { IfSome result (λ i. option_map (λ e. e.0) (slice_get entries.now.items i) ≡ Some key.now) }
+    ensures none { IfNone result (find K.eq entries.now.items key.now ≡ None) }
+{
+    for (i, entry) in entries.iter().enumerate() {
+        if *key == entry.0 {
+            return Some(i);
+        }
+    }
+    None
+}
+
+fn put_in<K: Key + Drop, V: Drop>(
+    entries: &mut Vec<(K, (V, u64))>,
+    key: K,
+    value: V,
+    until: u64,
+) -> Result<(), AllocError>
+    requires { HasDistinctKeys K.eq entries.old.items }
+    ensures distinct { HasDistinctKeys K.eq entries.new.items }
+    ensures ok { OnOk result (SetsOnly K.eq entries.old.items entries.new.items key (Some (value, until))) }
+    ensures err { OnErr result (entries.new.items ≡ entries.old.items) }
+    ensures count { OnOk result (length entries.new.items ≡ length entries.old.items + (if is_some (find K.eq entries.old.items key) then 0 else 1)) }
+{
+    match place_of(entries, &key) {
+        Some(i) => {
+            entries[i] = (key, (value, until));
+            Ok(())
+        }
+        None => {
+            entries.push((key, (value, until)))?;
+            Ok(())
+        }
+    }
+}
+
+fn remove_from<K: Key + Drop, V: Drop>(entries: &mut Vec<(K, (V, u64))>, key: &K) -> bool
+    requires { HasDistinctKeys K.eq entries.old.items }
+    ensures distinct { HasDistinctKeys K.eq entries.new.items }
+    ensures found { IsTrue result ↔ IsSome (find K.eq entries.old.items key.now) }
+    ensures removed { SetsOnly K.eq entries.old.items entries.new.items key.now None }
+    ensures unchanged { result ≡ false → entries.new.items ≡ entries.old.items }
+    ensures count { length entries.new.items + (if result then 1 else 0) ≡ length entries.old.items }
+{
+    match place_of(entries, key) {
+        Some(i) => {
+            entries.remove(i);
+            true
+        }
+        None => false,
+    }
+}
+
+fn drop_expired<K: Key + Drop, V: Drop>(entries: &mut Vec<(K, (V, u64))>, now: u64) -> usize
+    requires { HasDistinctKeys K.eq entries.old.items }
+    ensures distinct { HasDistinctKeys K.eq entries.new.items }
+    ensures kept { Expires K.eq now entries.old.items entries.new.items }
+    ensures count { result + length entries.new.items ≡ length entries.old.items }
+{
+    let before = entries.len();
+    entries.retain(|entry| now < entry.1.1);
+    before - entries.len()
+}
+
+fn set_until_in<K: Key, V>(entries: &mut Vec<(K, (V, u64))>, key: &K, until: u64) -> bool
+    requires { HasDistinctKeys K.eq entries.old.items }
+    ensures distinct { HasDistinctKeys K.eq entries.new.items }
+    ensures found { IsTrue result ↔ IsSome (find K.eq entries.old.items key.now) }
+    ensures changed { entries.new.items ≡ changed_at K.eq entries.old.items key.now (λ e. (e.0, until)) }
+{
+    match place_of(entries, key) {
+        Some(i) => {
+            entries[i].1.1 = until;
+            true
+        }
+        None => false,
+    }
+}
+
+impl<K: Key + Drop, V: Drop> Table<K, V> for ListTable<K, V> {
+    ghost content = { λ t. t };
+
+    fn new(alloc: Global) -> Result<ListTable<K, V>, AllocError> {
+        Ok(ListTable {
+            entries: Vec::new(alloc),
+        })
+    }
+
+    fn len(&self) -> usize {
+        self.entries.len()
+    }
+
+    fn at(&self, place: usize) -> Option<(&K, &V, u64)> {
+        let entry = self.entries.as_slice().get(place)?;
+        Some((&entry.0, &entry.1.0, entry.1.1))
+    }
+
+    fn get(&self, key: &K) -> Option<(&V, u64)> {
+        for entry in &self.entries {
+            if *key == entry.0 {
+                return Some((&entry.1.0, entry.1.1));
+            }
+        }
+        None
+    }
+
+    fn put(&mut self, key: K, value: V, until: u64) -> Result<(), AllocError> {
+        put_in(&mut self.entries, key, value, until)
+    }
+
+    fn remove(&mut self, key: &K) -> bool {
+        remove_from(&mut self.entries, key)
+    }
+
+    fn expire(&mut self, now: u64) -> usize {
+        drop_expired(&mut self.entries, now)
+    }
+
+    fn value_mut(&mut self, key: &K) -> Option<&mut V> {
+        match place_of(&self.entries, key) {
+            Some(i) => Some(&mut self.entries[i].1.0),
+            None => None,
+        }
+    }
+
+    fn set_until(&mut self, key: &K, until: u64) -> Result<bool, AllocError> {
+        Ok(set_until_in(&mut self.entries, key, until))
+    }
+}
