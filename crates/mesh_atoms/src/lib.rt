@@ -12,6 +12,7 @@ mod refusal;
 mod seq;
 mod settings;
 mod tc;
+mod text;
 mod tuples;
 
 pub use addr::{Addr4, Endpoint, NetAddr};
@@ -28,6 +29,7 @@ pub use settings::{
     Attached4, Interface, Port, RadioArc, RouterSettings, RunSetup, Scenario, SenderMetric, Times,
 };
 pub use tc::{Tc, TcRow};
+pub use text::put_decimal;
 pub use tuples::{
     AddressKey, AddressTuple, Advertiser, Base, FloodKey, Link, LinkKey, Lost, Neighbour,
     NetworkKey, NetworkTuple, Noted, Relays, RouterKey, RouterTuple, TwoHop, TwoHopKey,
