@@ -1,0 +1,131 @@
+-- What can be looked up is there or isn't.
+use mathlib.Core.HLevel.{is_prop→PathP}
+use Rattle.std.specs.Coded.{le_prop}
+use Rattle.std.proofs.Math.Nat.{ℕ_set}
+use Rattle.std.proofs.Common.{◌≡◌, ℕ, zero, suc, ◌<◌, ◌≤◌, ◌%◌, ◌^◌, ◌-◌, ◌⊎◌, inl, inr, refl, sym, ◌∙◌, ap, subst, arith, List, [], ◌∷◌, length, Contains, slice_get, slice_index_or, Some, None}
+use Rattle.std.proofs.lemmas.Bool.{cases_eq}
+use Rattle.std.proofs.lemmas.Option.{slice_get_cases, slice_get_within, get_or_from_slice_get}
+use Rattle.mesh_atoms.specs.declared.addr.Addr4.{Addr4}
+use Rattle.mesh_atoms.specs.declared.addr.NetAddr.{NetAddr}
+use Rattle.mesh_atoms.specs.declared.tuples.Link.{Link}
+use Rattle.mesh_atoms.specs.declared.tuples.LinkKey.{LinkKey}
+use Rattle.mesh_atoms.specs.declared.settings.Attached4.{Attached4}
+use Rattle.mesh_atoms.specs.Base.{Base}
+use Rattle.mesh_atoms.specs.Codes.{metric_value}
+use Rattle.mesh_atoms.specs.Hello.{ShowsLink}
+use Rattle.mesh_atoms.specs.Radio.{Attaches}
+use Rattle.mesh_atoms.specs.State.{State, LinkState, Is_pending, Is_lost, Is_symmetric, Is_heard, state_of}
+use Rattle.mesh_atoms.specs.declared.settings.Scenario.{Scenario}
+use Rattle.mesh_atoms.specs.declared.settings.RouterSettings.{RouterSettings}
+
+pub Contains_at : {A : Type 0} (xs : List A) (k : ℕ) (a : A) → slice_get xs k ≡ Some a → Contains xs a
+Contains_at xs k a e = (k, slice_get_within xs k a e, get_or_from_slice_get xs k a a e)
+
+Contains_more : {A : Type 0} (x : A) (xs : List A) (t : A) → Contains xs t → Contains (x ∷ xs) t
+Contains_more x xs t c = (suc c.0, omega (arith, c.1), c.2)
+
+-- some element has the property, or none has
+pub any_or_none : {A : Type 0} (P : A → Type 0) → ((t : A) → P t ⊎ (P t → ⊥)) → (xs : List A) →
+    ((t : A) × Contains xs t × P t) ⊎ ((t : A) → Contains xs t → P t → ⊥)
+any_or_none P test [] = inr (λ t c p. absurd (omega (arith, c.1)))
+any_or_none {A} P test (x ∷ xs) = elim (test x) [
+  | inl p ↦ inl (x, (0, omega arith, refl), p)
+  | inr not_x ↦ elim (any_or_none P test xs) [
+    | inl found ↦ inl (found.0, Contains_more x xs found.0 found.1, found.2)
+    | inr none ↦ inr (λ t c p. rest x xs not_x none t c.0 c.1 c.2 p)
+  ]
+]
+  where
+    rest : {A : Type 0} {P : A → Type 0} (x : A) (xs : List A) → (P x → ⊥) → ((t : A) → Contains xs t → P t → ⊥) →
+        (t : A) (k : ℕ) → k < length (x ∷ xs) → slice_index_or (x ∷ xs) k t ≡ t → P t → ⊥
+    rest {P = P} x xs not_x none t zero l e p = not_x (subst P (sym e) p)
+    rest x xs not_x none t (suc k) l e p = none t (k, omega arith, e) p
+
+-- a node is known by its number and its prefix
+pub node_of : (a b : NetAddr) → a.addr.0 ≡ b.addr.0 → a.prefix ≡ b.prefix → a ≡ b
+node_of a b number prefix = λ i. record {
+  addr = record { 0 = number i };
+  prefix = prefix i;
+  within = is_prop→PathP (λ j. prefix j ≤ 32) (λ j. le_prop) a.within b.within i;
+  clear = is_prop→PathP (λ j. number j % 2 ^ (32 - prefix j) ≡ 0) (λ j. ℕ_set (number j % 2 ^ (32 - prefix j)) 0) a.clear b.clear i;
+}
+
+pub same_address : (a b : Addr4) → (a ≡ b) ⊎ (a ≡ b → ⊥)
+same_address a b = elim (cases_eq a.0 b.0) [
+  | inl e ↦ inl (ap (λ (n : ℕ). let r : Addr4 = record { 0 = n } in r) e)
+  | inr other ↦ inr (λ e. other (ap (λ (c : Addr4). c.0) e))
+]
+
+pub same_net : (a b : NetAddr) → (a ≡ b) ⊎ (a ≡ b → ⊥)
+same_net a b = elim (cases_eq a.addr.0 b.addr.0) [
+  | inl e ↦ elim (cases_eq a.prefix b.prefix) [
+    | inl f ↦ inl (node_of a b e f)
+    | inr other ↦ inr (λ g. other (ap (λ (c : NetAddr). c.prefix) g))
+  ]
+  | inr other ↦ inr (λ g. other (ap (λ (c : NetAddr). c.addr.0) g))
+]
+
+is_symmetric : (x : LinkState) → (x ≡ Is_symmetric) ⊎ (x ≡ Is_symmetric → ⊥)
+is_symmetric Is_pending = inr (λ e. (cc))
+is_symmetric Is_lost = inr (λ e. (cc))
+is_symmetric Is_symmetric = inl refl
+is_symmetric Is_heard = inr (λ e. (cc))
+
+-- the link has the address and is symmetric
+Fit : Addr4 → ℕ → LinkKey × (Link × ℕ) → Type 0
+Fit a now t = Contains t.1.0.addrs a × (state_of t.1.0 now ≡ Is_symmetric)
+
+fit : (a : Addr4) (now : ℕ) (t : LinkKey × (Link × ℕ)) → Fit a now t ⊎ (Fit a now t → ⊥)
+unfolding Fit
+fit a now t =
+    let P : Addr4 → Type 0 = λ b. b ≡ a in
+    let Q : Addr4 → Type 0 = λ b. Contains t.1.0.addrs b in
+    elim (any_or_none P (λ b. same_address b a) t.1.0.addrs) [
+      | inl found ↦ elim (is_symmetric (state_of t.1.0 now)) [
+        | inl e ↦ inl (subst Q found.2 found.1, e)
+        | inr other ↦ inr (λ f. other f.1)
+      ]
+      | inr none ↦ inr (λ f. none a f.0 refl)
+    ]
+
+-- a HELLO shows the address on a symmetric link, or it doesn't
+pub shows_link : (s : State) (i now : ℕ) (a : Addr4) → ShowsLink s i now a Is_symmetric ⊎ (ShowsLink s i now a Is_symmetric → ⊥)
+unfolding Fit
+shows_link s i now a = elim ((slice_get_cases s.bases.neighbourhood.links i).1) [
+  | inl there ↦
+      let (base, _, is, _) = there in
+      elim (any_or_none (Fit a now) (fit a now) base) [
+        | inl found ↦ inl (found.0.1.0, (found.0.0, (base, is, (found.0.1.1, found.1)), found.2.0, found.2.1))
+        | inr none ↦ inr (λ shows. none_in base is none shows)
+      ]
+  | inr past ↦ inr (λ shows. let (link, (key, (other, at, _), _, _)) = shows in let no : slice_get s.bases.neighbourhood.links i ≡ None = past.1 in (cc))
+]
+  where
+    none_in : (base : Base LinkKey Link) → slice_get s.bases.neighbourhood.links i ≡ Some base → ((t : LinkKey × (Link × ℕ)) → Contains base t → Fit a now t → ⊥) →
+        ShowsLink s i now a Is_symmetric → ⊥
+    none_in base is none shows =
+        let (link, (key, (other, at, (until, stands)), has, state)) = shows in
+        let same : other ≡ base = cc in
+        let P : Base LinkKey Link → Type 0 = λ b. Contains b (key, (link, until)) in
+        none (key, (link, until)) (subst P same stands) (has, state)
+
+-- a router attaches the network, or it doesn't
+pub attaches : (s : Scenario) (x : ℕ) (net : NetAddr) → ((k : ℕ) × Attaches s x net k) ⊎ ((k : ℕ) → Attaches s x net k → ⊥)
+attaches s x net = elim ((slice_get_cases s.routers x).1) [
+  | inl there ↦
+      let (r, _, is, _) = there in
+      let P : Attached4 → Type 0 = λ att. att.net ≡ net in
+      elim (any_or_none P (λ att. same_net att.net net) r.attached) [
+        | inl found ↦ inl (metric_value found.0.metric, (r, is, found.0, found.1, found.2, refl))
+        | inr none ↦ inr (λ k att. none_of r is none k att)
+      ]
+  | inr past ↦ inr (λ k att. let (r, is, _, _, _, _) = att in let no : slice_get s.routers x ≡ None = past.1 in (cc))
+]
+  where
+    none_of : (r : RouterSettings) → slice_get s.routers x ≡ Some r → ((t : Attached4) → Contains r.attached t → t.net ≡ net → ⊥) →
+        (k : ℕ) → Attaches s x net k → ⊥
+    none_of r is none k att =
+        let (q, at, t, stands, e, _) = att in
+        let same : q ≡ r = cc in
+        let P : RouterSettings → Type 0 = λ b. Contains b.attached t in
+        none t (subst P same stands) e

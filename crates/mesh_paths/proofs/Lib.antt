@@ -1,0 +1,4 @@
+mod Decide
+mod SettledWalks
+mod SettledFacts
+mod SettledLaw

@@ -1,0 +1,6 @@
+//! The least walks of a graph, and the law of settled routes.
+#![tactic(auto)]
+
+mod settled;
+
+pub use settled::settled_routes;

@@ -1,0 +1,13 @@
+//! The law of settled routes, over the definitions of a router and of the radio graph.
+ghost use Rattle.mesh_paths.specs.SettledRoutes.{RowsAreLeast, NextHopsLead, TripsEnd};
+
+/// The law of settled routes. In a network whose routers hold exactly what their neighbours' HELLOs and the TCs say at
+/// present, each router's rows are those of the radio graph's least metrics; each row's interface and next hop name joined
+/// interfaces whose arc costs exactly the metric to the next router, which leads on at the row's metric; and trips end.
+/// It does nothing.
+pub fn settled_routes()
+    ensures rows { RowsAreLeast }
+    ensures next_hops { NextHopsLead }
+    ensures trips { TripsEnd }
+{
+}
