@@ -2,3 +2,9 @@ mod Decide
 mod SettledWalks
 mod SettledFacts
 mod SettledLaw
+mod TwoRouters
+mod TwoRoutersSettled
+mod TwoRoutersRoutes
+mod TwoRoutersRelays
+mod TwoRoutersSound
+mod Witness

@@ -3,4 +3,4 @@
 
 mod settled;
 
-pub use settled::settled_routes;
+pub use settled::{settled_routes, two_routers_settle};

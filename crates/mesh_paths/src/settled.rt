@@ -1,5 +1,5 @@
 //! The law of settled routes, over the definitions of a router and of the radio graph.
-ghost use Rattle.mesh_paths.specs.SettledRoutes.{RowsAreLeast, NextHopsLead, TripsEnd};
+ghost use Rattle.mesh_paths.specs.SettledRoutes.{RowsAreLeast, NextHopsLead, TripsEnd, TwoRoutersSettle};
 
 /// The law of settled routes. In a network whose routers hold exactly what their neighbours' HELLOs and the TCs say at
 /// present, each router's rows are those of the radio graph's least metrics; each row's interface and next hop name joined
@@ -9,5 +9,12 @@ pub fn settled_routes()
     ensures rows { RowsAreLeast }
     ensures next_hops { NextHopsLead }
     ensures trips { TripsEnd }
+{
+}
+
+/// The premises of the law can be met: two routers that hear each other are a settled network, in which each has a row of
+/// the other. It does nothing.
+pub fn two_routers_settle()
+    ensures { TwoRoutersSettle }
 {
 }
