@@ -8,3 +8,4 @@ mod TwoRoutersRoutes
 mod TwoRoutersRelays
 mod TwoRoutersSound
 mod Witness
+mod WrongStates

@@ -1,1 +1,2 @@
 pub mod SettledRoutes
+pub mod WrongStates

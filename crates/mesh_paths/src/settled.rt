@@ -1,4 +1,5 @@
 //! The law of settled routes, over the definitions of a router and of the radio graph.
+ghost use Rattle.mesh_paths.specs.WrongStates.{RefusesExpiredLink, RefusesOwnTwoHop, RefusesTwoHopOfEndedLink, RefusesTupleOfOldNumber, RefusesHiddenNeighbour, RefusesRowOfNoSelector, RefusesTwoHopOnHeardLink, RefusesNeighbourWithoutLink, RefusesDearerRelays, RefusesGreaterParent, RefusesRouteTwice, RefusesTupleTooMany};
 ghost use Rattle.mesh_paths.specs.SettledRoutes.{RowsAreLeast, NextHopsLead, TripsEnd, TwoRoutersSettle};
 
 /// The law of settled routes. In a network whose routers hold exactly what their neighbours' HELLOs and the TCs say at
@@ -16,5 +17,22 @@ pub fn settled_routes()
 /// the other. It does nothing.
 pub fn two_routers_settle()
     ensures { TwoRoutersSettle }
+{
+}
+
+/// The definitions of a router refuse wrong states, each clause named by what is wrong. It does nothing.
+pub fn wrong_states_refused()
+    ensures expired_link { RefusesExpiredLink }
+    ensures own_two_hop { RefusesOwnTwoHop }
+    ensures two_hop_of_ended_link { RefusesTwoHopOfEndedLink }
+    ensures tuple_of_old_number { RefusesTupleOfOldNumber }
+    ensures hidden_neighbour { RefusesHiddenNeighbour }
+    ensures row_of_no_selector { RefusesRowOfNoSelector }
+    ensures two_hop_on_heard_link { RefusesTwoHopOnHeardLink }
+    ensures neighbour_without_link { RefusesNeighbourWithoutLink }
+    ensures dearer_relays { RefusesDearerRelays }
+    ensures greater_parent { RefusesGreaterParent }
+    ensures route_twice { RefusesRouteTwice }
+    ensures tuple_too_many { RefusesTupleTooMany }
 {
 }
