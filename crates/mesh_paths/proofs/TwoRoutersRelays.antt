@@ -1,5 +1,5 @@
 -- The relays of two routers that hear each other: there is nothing beyond the other one, so none is needed.
-use Rattle.std.proofs.Common.{◌≡◌, ℕ, zero, suc, ◌<◌, ◌≢◌, ◌↔◌, refl, sym, ◌∙◌, ap, subst, arith, List, [], ◌∷◌, Contains, slice_get, Some, None}
+use Rattle.std.proofs.Common.{◌≡◌, ℕ, ◌↔◌, refl, sym, ◌∙◌, ap, subst, arith, [], ◌∷◌, Contains, Some}
 use Rattle.mesh_atoms.specs.declared.addr.Addr4.{Addr4}
 use Rattle.mesh_atoms.specs.declared.metric.Metric.{Metric}
 use Rattle.mesh_atoms.specs.declared.tuples.LinkKey.{LinkKey}
@@ -10,7 +10,6 @@ use Rattle.mesh_atoms.specs.declared.graphs.Direct.{Direct}
 use Rattle.mesh_atoms.specs.declared.graphs.NeighbourGraph.{NeighbourGraph}
 use Rattle.mesh_atoms.specs.Codes.{metric_value}
 use Rattle.mesh_atoms.specs.RelayGraphs.{IsRoutingGraph, IsFloodingGraph, IsMetricOver, AreRelays, AreRelaysOf}
-use Rattle.mesh_atoms.specs.Relays.{Covers, Needed}
 use Rattle.mesh_atoms.specs.State.{HasLink, HasSymmetric, HasSymmetricWith, Is_symmetric, state_of}
 use Rattle.mesh_paths.proofs.TwoRouters.{one, addr, link, neighbour, state, none_of, only, here, first_of, symmetric_is, symmetric, link_is, no_two_hop}
 

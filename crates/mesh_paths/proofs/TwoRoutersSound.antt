@@ -1,7 +1,7 @@
 -- Two routers that hear each other are sound.
-use Rattle.std.proofs.Common.{◌≡◌, ℕ, zero, suc, ◌+◌, ◌<◌, ◌≤◌, ◌≢◌, ◌⊎◌, inl, inr, refl, sym, ◌∙◌, ap, subst, arith, List, [], ◌∷◌, Contains, length, Option, Some, None, IsTrue}
-use Rattle.std.specs.Prelude.{Bool, true, false, cond, nat_eq, nat_lt}
-use Rattle.std.specs.List.{IsDistinct, AllByRecursion}
+use Rattle.std.proofs.Common.{◌≡◌, ℕ, zero, suc, ◌<◌, ◌≤◌, ◌≢◌, inl, inr, refl, sym, ◌∙◌, ap, subst, arith, List, [], ◌∷◌, Contains, length, Option, Some, None}
+use Rattle.std.specs.Prelude.{Bool, true, false, cond, nat_eq}
+use Rattle.std.specs.List.{IsDistinct}
 use Rattle.std.proofs.lemmas.Bool.{eqb-true, eq-eqb}
 use Rattle.mesh_atoms.specs.declared.addr.Addr4.{Addr4}
 use Rattle.mesh_atoms.specs.declared.metric.Metric.{Metric}
@@ -13,13 +13,13 @@ use Rattle.mesh_atoms.specs.declared.tuples.Neighbour.{Neighbour}
 use Rattle.mesh_atoms.specs.declared.tuples.Lost.{Lost}
 use Rattle.mesh_atoms.specs.declared.tc.TcRow.{TcRow}
 use Rattle.mesh_atoms.specs.Advertised.{AreTcRows, IsTcRow, Of_address, Of_network}
-use Rattle.mesh_atoms.specs.Base.{Base, find, base_of, IsFresh, HasDistinctKeys, addr_eq, link_eq}
+use Rattle.mesh_atoms.specs.Base.{base_of, IsFresh, HasDistinctKeys, addr_eq, link_eq}
 use Rattle.mesh_atoms.specs.Codes.{metric_value}
-use Rattle.mesh_atoms.specs.Live.{HasLinkOf, HasSymmetricOf, IsByLinks}
-use Rattle.mesh_atoms.specs.Sound.{IsWithin, IsSoundLink, IsSoundNeighbour, SoundNeighbourhood, SoundTopology, SoundNoted, Sound}
-use Rattle.mesh_atoms.specs.State.{Neighbourhood, is_symmetric, link_at, two_hop_at, neighbour_at}
+use Rattle.mesh_atoms.specs.Live.{HasSymmetricOf, IsByLinks}
+use Rattle.mesh_atoms.specs.Sound.{IsWithin, IsSoundLink, IsSoundNeighbour, SoundNeighbourhood, Sound}
+use Rattle.mesh_atoms.specs.State.{Neighbourhood, link_at, two_hop_at, neighbour_at}
 use Rattle.mesh_atoms.specs.TakesHello.{AreMoreThan, IsHeld}
-use Rattle.mesh_paths.proofs.TwoRouters.{one, addr, settings, link, neighbour, state, none_of, only, here, address_on, has_own, apart}
+use Rattle.mesh_paths.proofs.TwoRouters.{one, addr, settings, link, neighbour, state, none_of, only, here, address_on, apart}
 use Rattle.mesh_paths.proofs.TwoRoutersRelays.{relays_are}
 use Rattle.mesh_paths.proofs.TwoRoutersRoutes.{routes_are}
 use Rattle.mesh_paths.proofs.TwoRoutersSettled.{no_selector}
@@ -104,6 +104,7 @@ by_links x y = record {
   where
     no_less : (m : Metric) {k : Metric} → k ≡ one → k ≡ m → metric_value one ≤ metric_value m
     no_less m e f = let same : metric_value m ≡ metric_value one = ap metric_value (sym f ∙ e) in omega (arith, same)
+
     no_less_out : (m : Metric) {o : Option Metric} → o ≡ Some one → o ≡ Some m → metric_value one ≤ metric_value m
     no_less_out m e f = let k : one ≡ m = cc in let same : metric_value one ≡ metric_value m = ap metric_value k in omega (arith, same)
 
@@ -193,6 +194,7 @@ sound_neighbourhood x y ne = record {
     distinct : (i : ℕ) → HasDistinctKeys link_eq (base_of (near x y).links i)
     distinct zero = single_distinct link_eq (record { addr = addr y }) (link y, 9)
     distinct (suc i) = empty_distinct Link link_eq
+
     fresh : (i : ℕ) → IsFresh link_eq 5 (base_of (near x y).links i)
     fresh i q value until h = let same : until ≡ 9 = ap (λ (e : Link × ℕ). e.1) (link_found x y i q (value, until) h).2 in rw same refl
 

@@ -1,36 +1,14 @@
 -- Two routers that hear each other are a settled network: the premises of the law of settled routes can be met.
-use Rattle.std.proofs.Common.{◌≡◌, ℕ, zero, suc, ◌+◌, ◌<◌, ◌⊎◌, ◌≢◌, inl, inr, refl, sym, ◌∙◌, ap, subst, arith, List, [], ◌∷◌, Contains, slice_get, slice_index_or, length, Some, None, true, false, IsTrue}
+use Rattle.std.proofs.Common.{◌≡◌, ℕ, zero, suc, ◌⊎◌, inl, inr, refl, sym, ◌∙◌, ap, subst, arith, [], Contains, slice_get, Some, None}
 use Rattle.mesh_atoms.specs.declared.addr.Addr4.{Addr4}
-use Rattle.mesh_atoms.specs.declared.addr.NetAddr.{NetAddr}
 use Rattle.mesh_atoms.specs.declared.metric.Metric.{Metric}
-use Rattle.mesh_atoms.specs.declared.hello.Willing.{Willing as Wills}
-use Rattle.mesh_atoms.specs.declared.tuples.LinkKey.{LinkKey}
-use Rattle.mesh_atoms.specs.declared.tuples.Link.{Link}
-use Rattle.mesh_atoms.specs.declared.tuples.TwoHopKey.{TwoHopKey}
-use Rattle.mesh_atoms.specs.declared.tuples.TwoHop.{TwoHop}
-use Rattle.mesh_atoms.specs.declared.tuples.Neighbour.{Neighbour}
-use Rattle.mesh_atoms.specs.declared.settings.Interface.{Interface}
 use Rattle.mesh_atoms.specs.declared.settings.RouterSettings.{RouterSettings}
 use Rattle.mesh_atoms.specs.declared.settings.RadioArc.{RadioArc}
-use Rattle.mesh_atoms.specs.declared.settings.Scenario.{Scenario}
-use Rattle.mesh_atoms.specs.declared.graphs.Route.{Route}
-use Rattle.mesh_atoms.specs.declared.graphs.Near.{Near}
-use Rattle.mesh_atoms.specs.declared.graphs.Direct.{Direct}
-use Rattle.mesh_atoms.specs.declared.graphs.NeighbourGraph.{NeighbourGraph}
-use Rattle.mesh_atoms.specs.Advertised.{Gives, Advertises}
 use Rattle.mesh_atoms.specs.Base.{host}
-use Rattle.mesh_atoms.specs.Codes.{metric_value}
-use Rattle.mesh_atoms.specs.Hello.{ShowsSymmetric}
-use Rattle.mesh_atoms.specs.Nodes.{IsAtMost}
-use Rattle.mesh_atoms.specs.Radio.{Leads, Joins, IsMetric, Router, IsSoundScenario}
-use Rattle.mesh_atoms.specs.RelayGraphs.{IsRoutingGraph}
-use Rattle.mesh_atoms.specs.Relays.{Covers}
-use Rattle.mesh_atoms.specs.Routes.{RouteArc, To_neighbour, To_two_hop, By_router, By_address, By_network, IsOutside, IsParent, IsNextHop, AreRoutes}
-use Rattle.mesh_atoms.specs.Settled.{At, IsSettledAt, IsLinkTo, IsNeighbourOf, IsPeer}
-use Rattle.mesh_atoms.specs.State.{State, HasLink, HasTwoHop, HasSymmetric, HasAddress, HasAddressOn, IsOriginator, HasSymmetricWith}
-use Rattle.mesh_atoms.specs.Walk.{Walk, Stay, Onward, Least, AtSelf}
-use Rattle.mesh_atoms.specs.declared.settings.Attached4.{Attached4}
-use Rattle.mesh_paths.proofs.TwoRouters.{one, addr, seven, face, settings, arc, scenario, link, neighbour, route, state, states, one_is, none_of, only, two, here, first_of, address_on, has_own, apart, symmetric_is, symmetric, link_is, no_two_hop}
+use Rattle.mesh_atoms.specs.Radio.{Leads, IsSoundScenario}
+use Rattle.mesh_atoms.specs.Settled.{At}
+use Rattle.mesh_atoms.specs.State.{State, HasAddressOn, IsOriginator}
+use Rattle.mesh_paths.proofs.TwoRouters.{one, addr, face, settings, arc, scenario, route, state, states, none_of, two, here, address_on}
 use Rattle.mesh_paths.proofs.TwoRoutersSettled.{Side, settled_at, turned, routers_of}
 use Rattle.mesh_atoms.specs.Sound.{Sound}
 use Rattle.mesh_atoms.specs.Radio.{AddressOf}

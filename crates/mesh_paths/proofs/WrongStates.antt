@@ -1,32 +1,28 @@
 -- The definitions of a router refuse wrong states.
-use Rattle.std.proofs.Common.{◌≡◌, ◌≢◌, ℕ, ◌+◌, ◌<◌, ◌≤◌, ◌⊎◌, inl, inr, refl, sym, ◌∙◌, ap, subst, arith, List, Contains, slice_get, slice_index_or, length, Option, Some, None, IsTrue, IsFalse}
+use Rattle.std.proofs.Common.{◌≡◌, ℕ, ◌+◌, ◌<◌, ◌⊎◌, inl, inr, refl, sym, ◌∙◌, ap, subst, arith, slice_index_or, length, Option, Some, None, IsTrue}
 use Rattle.std.specs.Prelude.{Bool, true, false, cond, nat_eq, nat_lt, not, ◌&&◌}
 use Rattle.std.proofs.lemmas.Bool.{eqb-true, eq-eqb, ltb-true}
 use Rattle.std.proofs.lemmas.Option.{slice_get_within, get_or_from_slice_get}
 use Rattle.mesh_atoms.specs.declared.addr.Addr4.{Addr4}
 use Rattle.mesh_atoms.specs.declared.addr.NetAddr.{NetAddr}
-use Rattle.mesh_atoms.specs.declared.metric.Metric.{Metric}
 use Rattle.mesh_atoms.specs.declared.hello.Hello.{Hello}
-use Rattle.mesh_atoms.specs.declared.tc.Tc.{Tc}
 use Rattle.mesh_atoms.specs.declared.tc.TcRow.{TcRow}
-use Rattle.mesh_atoms.specs.declared.tuples.LinkKey.{LinkKey}
 use Rattle.mesh_atoms.specs.declared.tuples.Link.{Link}
 use Rattle.mesh_atoms.specs.declared.tuples.TwoHop.{TwoHop}
-use Rattle.mesh_atoms.specs.declared.tuples.AddressKey.{AddressKey}
 use Rattle.mesh_atoms.specs.declared.tuples.AddressTuple.{AddressTuple}
 use Rattle.mesh_atoms.specs.declared.graphs.Route.{Route}
 use Rattle.mesh_atoms.specs.declared.settings.RouterSettings.{RouterSettings}
 use Rattle.mesh_atoms.specs.Advertised.{Gives, IsTcRow, Of_address, Of_network}
 use Rattle.mesh_atoms.specs.AfterHello.{AfterHello, StoodOn, Same_link, New_link, TellsTwoHop, By_row, By_none}
-use Rattle.mesh_atoms.specs.AfterTc.{AfterTc, Becomes, Given, Left, GivesAddress, if_not_dropped}
-use Rattle.mesh_atoms.specs.Base.{find, host, addr_eq, address_eq, if_live}
-use Rattle.mesh_atoms.specs.Hello.{IsHelloNow, Link_symmetric, Other_symmetric}
-use Rattle.mesh_atoms.specs.HelloTold.{Told, LooksAt}
-use Rattle.mesh_atoms.specs.Live.{trim, is_symmetric_at, LiveNeighbourhood}
+use Rattle.mesh_atoms.specs.AfterTc.{Becomes, Given, Left, GivesAddress, if_not_dropped}
+use Rattle.mesh_atoms.specs.Base.{find, host, addr_eq, address_eq}
+use Rattle.mesh_atoms.specs.Hello.{Link_symmetric, Other_symmetric}
+use Rattle.mesh_atoms.specs.HelloTold.{Told}
+use Rattle.mesh_atoms.specs.Live.{is_symmetric_at}
 use Rattle.mesh_atoms.specs.Nodes.{IsBefore, IsAtMost}
-use Rattle.mesh_atoms.specs.State.{State, Neighbourhood, two_hop_at, link_at, HasAddress}
+use Rattle.mesh_atoms.specs.State.{Neighbourhood, two_hop_at}
 use Rattle.mesh_paths.specs.WrongStates.{RefusesExpiredLink, RefusesOwnTwoHop, RefusesTwoHopOfEndedLink, RefusesTupleOfOldNumber, RefusesHiddenNeighbour, RefusesRowOfNoSelector, RefusesTwoHopOnHeardLink, RefusesNeighbourWithoutLink, RefusesDearerRelays, RefusesGreaterParent, RefusesRouteTwice, RefusesTupleTooMany}
-use Rattle.mesh_paths.proofs.Decide.{shows_link}
+use Rattle.mesh_paths.proofs.SettledDecisions.{shows_link}
 
 some_none : {A B : Type 0} {o : Option A} {a : A} → o ≡ Some a → o ≡ None → B
 some_none e f = absurd (cc)
@@ -67,6 +63,7 @@ own_two_hop settings now i told hello old new a t mine none stands after_hello =
     none_stood : {stood : Option (TwoHop × ℕ)} → StoodOn old i told a stood → stood ≡ None
     none_stood (Same_link e at same) = none
     none_stood (New_link ended) = refl
+
     told_of : {stood : Option (TwoHop × ℕ)} → TellsTwoHop settings told hello (now + told.validity) a stood (two_hop_at new i (record { link = told.least; addr = a })) → stood ≡ None → ⊥
     told_of (By_row row looks makes) f = looks.not_mine mine
     told_of (By_none quiet same) f = some_none stands (same ∙ f)
@@ -79,6 +76,7 @@ two_hop_of_ended_link settings now i told hello old new e a t at other quiet sta
     none_stood : {stood : Option (TwoHop × ℕ)} → StoodOn old i told a stood → stood ≡ None
     none_stood (Same_link f to same) = absurd (let is : e ≡ f = cc in other (ap (λ (g : Link × ℕ). g.0.addrs) is ∙ same))
     none_stood (New_link ended) = refl
+
     told_of : {stood : Option (TwoHop × ℕ)} → TellsTwoHop settings told hello (now + told.validity) a stood (two_hop_at new i (record { link = told.least; addr = a })) → stood ≡ None → ⊥
     told_of (By_row row looks makes) f = quiet row looks
     told_of (By_none no_row same) f = some_none stands (same ∙ f)
@@ -95,12 +93,14 @@ tuple_of_old_number now tc old new key t until complete from stands other after_
   where
     same_value : {e f : AddressTuple × ℕ} {o : Option (AddressTuple × ℕ)} → o ≡ Some e → o ≡ Some f → e ≡ f
     same_value g h = cc
+
     dropped : (stood : Option (AddressTuple × ℕ)) → if_not_dropped tc key.from (λ v. v.ansn) stood ≡ Some (t, until) → ⊥
     dropped None h = some_none h refl
     dropped (Some e) h =
         let mine : addr_eq key.from tc.originator ≡ true = eq-eqb _ _ (ap (λ (a : Addr4). a.0) from) in
         let (same, is) = left_by (addr_eq key.from tc.originator) tc.complete (nat_eq e.0.ansn tc.ansn) e (t, until) mine complete h in
         other (sym (ap (λ (v : AddressTuple × ℕ). v.0.ansn) is) ∙ eqb-true e.0.ansn tc.ansn same)
+
     by_case : Becomes tc (now + tc.validity) (λ k. k.from) (λ v. v.ansn) (λ k v. GivesAddress tc k v.metric × (v.ansn ≡ tc.ansn)) key (find address_eq old.addresses key) (find address_eq new.addresses key) → ⊥
     by_case (Given value given is) = other (ap (λ (v : AddressTuple × ℕ). v.0.ansn) (same_value stands is) ∙ given.1)
     by_case (Left none is) = dropped (find address_eq old.addresses key) (sym is ∙ stands)

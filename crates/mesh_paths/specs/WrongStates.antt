@@ -21,7 +21,7 @@ use Rattle.mesh_atoms.specs.declared.settings.RouterSettings.{RouterSettings}
 use Rattle.mesh_atoms.specs.declared.settings.Scenario.{Scenario}
 use Rattle.mesh_atoms.specs.Advertised.{Gives, AreTcRows}
 use Rattle.mesh_atoms.specs.AfterHello.{AfterHello}
-use Rattle.mesh_atoms.specs.AfterTc.{AfterTc, GivesAddress}
+use Rattle.mesh_atoms.specs.AfterTc.{AfterTc}
 use Rattle.mesh_atoms.specs.Base.{Has, find, host, address_eq}
 use Rattle.mesh_atoms.specs.Hello.{IsHelloNow}
 use Rattle.mesh_atoms.specs.HelloTold.{Told, LooksAt}

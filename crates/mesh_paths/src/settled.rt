@@ -10,15 +10,13 @@ pub fn settled_routes()
     ensures rows { RowsAreLeast }
     ensures next_hops { NextHopsLead }
     ensures trips { TripsEnd }
-{
-}
+{}
 
 /// The premises of the law can be met: two routers that hear each other are a settled network, in which each has a row of
 /// the other. It does nothing.
 pub fn two_routers_settle()
     ensures { TwoRoutersSettle }
-{
-}
+{}
 
 /// The definitions of a router refuse wrong states, each clause named by what is wrong. It does nothing.
 pub fn wrong_states_refused()
@@ -34,5 +32,4 @@ pub fn wrong_states_refused()
     ensures greater_parent { RefusesGreaterParent }
     ensures route_twice { RefusesRouteTwice }
     ensures tuple_too_many { RefusesTupleTooMany }
-{
-}
+{}
