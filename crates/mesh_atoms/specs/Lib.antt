@@ -3,6 +3,7 @@ pub mod Base
 pub mod Advertised
 pub mod AfterHello
 pub mod AfterTc
+pub mod Agreement
 pub mod Base
 pub mod Codes
 pub mod Grammar

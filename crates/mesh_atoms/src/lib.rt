@@ -3,6 +3,7 @@
 #![tactic(auto)]
 
 mod addr;
+mod agreement;
 mod bytes;
 mod codes;
 mod graphs;
@@ -16,6 +17,7 @@ mod text;
 mod tuples;
 
 pub use addr::{Addr4, Endpoint, NetAddr};
+pub use agreement::definitions_agree;
 pub use bytes::Bytes;
 pub use codes::{seq_newer, time_at, time_code_at_least, time_of};
 pub use graphs::{

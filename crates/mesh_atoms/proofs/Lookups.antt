@@ -1,0 +1,112 @@
+-- What a link is, by tests and by cases; tuples by look-up and by membership.
+use Rattle.std.proofs.Common.{◌≡◌, ℕ, inl, inr, refl, sym, ◌∙◌, ap, subst, arith, List, [], slice_get, Some}
+use Rattle.std.specs.Prelude.{◌↔◌, Bool, true, false, cond, nat_lt, not, ◌&&◌}
+use Rattle.std.specs.Cmp.{IsEquivalence}
+use Rattle.std.proofs.lemmas.Bool.{eqb-true, false≢true}
+use Rattle.std.proofs.lemmas.Cmp.{nat_eq_equiv, on_equiv, and_equiv}
+use Rattle.std.proofs.lemmas.Map.Views.{Contains-from_lookup, lookup-from_Contains}
+use Rattle.std.proofs.lemmas.List.{get_or_past}
+use Rattle.std.proofs.lemmas.Option.{slice_get_cases, get_or_from_slice_get}
+use Rattle.mesh_atoms.specs.declared.addr.Addr4.{Addr4}
+use Rattle.mesh_atoms.specs.declared.tuples.LinkKey.{LinkKey}
+use Rattle.mesh_atoms.specs.declared.tuples.TwoHopKey.{TwoHopKey}
+use Rattle.mesh_atoms.specs.Agreement.{TestsSymmetric, TestsHeard, LooksUpLinks, LooksUpTwoHops, LooksUpNeighbours}
+use Rattle.mesh_atoms.specs.Base.{Base, Has, find, base_of, HasDistinctKeys, addr_eq, link_eq, two_hop_eq}
+use Rattle.mesh_atoms.specs.State.{LinkState, Is_pending, Is_lost, Is_symmetric, Is_heard}
+
+-- The status of a link
+
+abbrev status : Bool → Bool → Bool → Bool → LinkState
+status pending lost late heard = cond pending Is_pending (cond lost Is_lost (cond late Is_symmetric (cond heard Is_heard Is_lost)))
+
+symmetric_by : (pending lost late heard : Bool) → (cond pending false (cond lost false late) ≡ true) ↔ (status pending lost late heard ≡ Is_symmetric)
+symmetric_by true lost late heard = ((λ h. absurd (false≢true h)), (λ h. absurd (cc)))
+symmetric_by false true late heard = ((λ h. absurd (false≢true h)), (λ h. absurd (cc)))
+symmetric_by false false true heard = ((λ h. refl), (λ h. refl))
+symmetric_by false false false true = ((λ h. absurd (false≢true h)), (λ h. absurd (cc)))
+symmetric_by false false false false = ((λ h. absurd (false≢true h)), (λ h. absurd (cc)))
+
+pub tests_symmetric : TestsSymmetric
+tests_symmetric link now = symmetric_by link.pending link.lost (nat_lt now link.sym) (nat_lt now link.heard)
+
+heard_by : (pending lost late heard : Bool) → ((not pending && (not lost && (not late && heard))) ≡ true) ↔ (status pending lost late heard ≡ Is_heard)
+heard_by true lost late heard = ((λ h. absurd (false≢true h)), (λ h. absurd (cc)))
+heard_by false true late heard = ((λ h. absurd (false≢true h)), (λ h. absurd (cc)))
+heard_by false false true heard = ((λ h. absurd (false≢true h)), (λ h. absurd (cc)))
+heard_by false false false true = ((λ h. refl), (λ h. refl))
+heard_by false false false false = ((λ h. absurd (false≢true h)), (λ h. absurd (cc)))
+
+pub tests_heard : TestsHeard
+tests_heard link now = heard_by link.pending link.lost (nat_lt now link.sym) (nat_lt now link.heard)
+
+-- When keys are the same
+
+pub addr_equiv : IsEquivalence addr_eq
+addr_equiv = on_equiv (λ (a : Addr4). a.0) nat_eq_equiv
+
+pub link_equiv : IsEquivalence link_eq
+link_equiv = on_equiv (λ (k : LinkKey). k.addr.0) nat_eq_equiv
+
+pub two_hop_equiv : IsEquivalence two_hop_eq
+two_hop_equiv = and_equiv (on_equiv (λ (k : TwoHopKey). k.link.addr.0) nat_eq_equiv) (on_equiv (λ (k : TwoHopKey). k.addr.0) nat_eq_equiv)
+
+both_true : (a b : Bool) → (a && b) ≡ true → (a ≡ true) × (b ≡ true)
+both_true true b h = (refl, h)
+both_true false b h = absurd (false≢true h)
+
+pub same_addr : (a b : Addr4) → addr_eq a b ≡ true → a ≡ b
+same_addr a b h = ap (λ (n : ℕ). let r : Addr4 = record { 0 = n } in r) (eqb-true a.0 b.0 h)
+
+pub same_link : (k l : LinkKey) → link_eq k l ≡ true → k ≡ l
+same_link k l h = ap (λ (a : Addr4). let r : LinkKey = record { addr = a } in r) (same_addr k.addr l.addr h)
+
+pub same_two_hop : (k l : TwoHopKey) → two_hop_eq k l ≡ true → k ≡ l
+same_two_hop k l h =
+    let (e, f) = both_true (link_eq k.link l.link) (addr_eq k.addr l.addr) h in
+    ap (λ (a : LinkKey). let r : TwoHopKey = record { link = a; addr = k.addr } in r) (same_link k.link l.link e)
+    ∙ ap (λ (a : Addr4). let r : TwoHopKey = record { link = l.link; addr = a } in r) (same_addr k.addr l.addr f)
+
+-- Look-up and membership
+
+-- in one base
+pub has_found : {K V : Type 0} {eq : K → K → Bool} → IsEquivalence eq → ((k l : K) → eq k l ≡ true → k ≡ l) → (base : Base K V) (key : K) (value : V) →
+    HasDistinctKeys eq base → Has base key value ↔ ((until : ℕ) × (find eq base key ≡ Some (value, until)))
+has_found equiv same base key value distinct = (
+  (λ has. (has.0, lookup-from_Contains equiv key (value, has.0) base distinct has.1)),
+  (λ found. (found.0, Contains-from_lookup same key (value, found.0) base found.1)),
+)
+
+-- in the base of an interface
+pub has_found_on : {K V : Type 0} {eq : K → K → Bool} → IsEquivalence eq → ((k l : K) → eq k l ≡ true → k ≡ l) → (bases : List (Base K V)) (i : ℕ) (key : K) (value : V) →
+    HasDistinctKeys eq (base_of bases i) →
+    ((base : Base K V) × (slice_get bases i ≡ Some base) × Has base key value) ↔ ((until : ℕ) × (find eq (base_of bases i) key ≡ Some (value, until)))
+has_found_on {K} {V} {eq} equiv same bases i key value distinct = (
+  (λ has.
+      (let (base, at, stands) = has in
+      let is : base_of bases i ≡ base = get_or_from_slice_get bases i base [] at in
+      let P : Base K V → Type 0 = λ b. Has b key value in
+      (has_found equiv same (base_of bases i) key value distinct).0 (subst P (sym is) stands))),
+  (λ found. elim ((slice_get_cases bases i).1) [
+    | inl there ↦
+        let (base, _, at, _) = there in
+        let is : base_of bases i ≡ base = get_or_from_slice_get bases i base [] at in
+        let P : Base K V → Type 0 = λ b. Has b key value in
+        (base, at, subst P is ((has_found equiv same (base_of bases i) key value distinct).1 found))
+    | inr past ↦
+        let empty : base_of bases i ≡ [] = get_or_past bases i [] past.0 in
+        let P : Base K V → Type 0 = λ b. Has b key value in
+        let (until, stands) = subst P empty ((has_found equiv same (base_of bases i) key value distinct).1 found) in
+        absurd (omega (arith, stands.1))
+  ]),
+)
+
+-- The bases of a router
+
+pub looks_up_links : LooksUpLinks
+looks_up_links s i key link distinct = has_found_on link_equiv same_link s.bases.neighbourhood.links i key link distinct
+
+pub looks_up_two_hops : LooksUpTwoHops
+looks_up_two_hops s i key t distinct = has_found_on two_hop_equiv same_two_hop s.bases.neighbourhood.two_hops i key t distinct
+
+pub looks_up_neighbours : LooksUpNeighbours
+looks_up_neighbours s originator n distinct = has_found addr_equiv same_addr s.bases.neighbourhood.neighbours originator n distinct
