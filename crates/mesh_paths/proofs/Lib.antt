@@ -6,10 +6,12 @@ mod SettledLeast
 mod SettledNeighbours
 mod SettledRelays
 mod SettledWalks
+mod ShortLists
 mod TwoRouters
 mod TwoRoutersRelays
 mod TwoRoutersRoutes
 mod TwoRoutersSettled
 mod TwoRoutersSound
 mod Witness
+mod WorkedHello
 mod WrongStates

@@ -17,6 +17,7 @@ use Rattle.mesh_atoms.specs.Base.{host}
 use Rattle.mesh_atoms.specs.Codes.{metric_value}
 use Rattle.mesh_atoms.specs.State.{State, HasLink, HasTwoHop, HasSymmetric, HasAddressOn}
 use Rattle.mesh_atoms.specs.declared.settings.Times.{Times}
+use Rattle.mesh_paths.proofs.ShortLists.{none_of, only, two, here, first_of}
 
 pub code_fits : 0 < 4096
 code_fits = omega arith
@@ -111,33 +112,6 @@ states = state 0 1 ∷ state 1 0 ∷ []
 
 pub one_is : metric_value one ≡ 1
 one_is = refl
-
--- Short lists
-
-pub none_of : {A : Type 0} (a : A) → Contains [] a → ⊥
-none_of a c = absurd (omega (arith, c.1))
-
-pub only_at : {A : Type 0} (a t : A) (k : ℕ) → k < length (a ∷ []) → slice_index_or (a ∷ []) k t ≡ t → t ≡ a
-only_at a t zero l e = sym e
-only_at a t (suc k) l e = absurd (omega arith)
-
-pub only : {A : Type 0} (a t : A) → Contains (a ∷ []) t → t ≡ a
-only a t c = only_at a t c.0 c.1 c.2
-
-pub two_at : {A : Type 0} (a b t : A) (k : ℕ) → k < length (a ∷ b ∷ []) → slice_index_or (a ∷ b ∷ []) k t ≡ t → (t ≡ a) ⊎ (t ≡ b)
-two_at a b t zero l e = inl (sym e)
-two_at a b t (suc zero) l e = inr (sym e)
-two_at a b t (suc (suc k)) l e = absurd (omega arith)
-
-pub two : {A : Type 0} (a b t : A) → Contains (a ∷ b ∷ []) t → (t ≡ a) ⊎ (t ≡ b)
-two a b t c = two_at a b t c.0 c.1 c.2
-
-pub here : {A : Type 0} (a : A) (rest : List A) → Contains (a ∷ rest) a
-here a rest = (0, omega arith, refl)
-
-pub first_of : {A : Type 0} (a t : A) (k : ℕ) → slice_get (a ∷ []) k ≡ Some t → (k ≡ 0) × (t ≡ a)
-first_of a t zero e = (refl, (cc))
-first_of a t (suc k) e = absurd (let f : None ≡ Some t = e in cc)
 
 -- Addresses, and what a state of the two holds
 

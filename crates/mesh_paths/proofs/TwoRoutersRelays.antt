@@ -11,7 +11,8 @@ use Rattle.mesh_atoms.specs.declared.graphs.NeighbourGraph.{NeighbourGraph}
 use Rattle.mesh_atoms.specs.Codes.{metric_value}
 use Rattle.mesh_atoms.specs.RelayGraphs.{IsRoutingGraph, IsFloodingGraph, IsMetricOver, AreRelays, AreRelaysOf}
 use Rattle.mesh_atoms.specs.State.{HasLink, HasSymmetric, HasSymmetricWith, Is_symmetric, state_of}
-use Rattle.mesh_paths.proofs.TwoRouters.{one, addr, link, neighbour, state, none_of, only, here, first_of, symmetric_is, symmetric, link_is, no_two_hop}
+use Rattle.mesh_paths.proofs.TwoRouters.{one, addr, link, neighbour, state, symmetric_is, symmetric, link_is, no_two_hop}
+use Rattle.mesh_paths.proofs.ShortLists.{none_of, only, here, first_of}
 
 abbrev pub graph_of : ℕ → NeighbourGraph
 graph_of y = record { near = record { id = addr y; cost = 1; will = 7 } ∷ []; direct = record { addr = addr y; cost = 1 } ∷ []; far = [] }

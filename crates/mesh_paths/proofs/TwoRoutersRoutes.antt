@@ -12,7 +12,8 @@ use Rattle.mesh_atoms.specs.Codes.{metric_value}
 use Rattle.mesh_atoms.specs.Nodes.{IsAtMost}
 use Rattle.mesh_atoms.specs.Routes.{RouteArc, To_neighbour, To_two_hop, By_router, By_address, By_network, IsOutside, IsParent, IsNextHop, AreRoutes}
 use Rattle.mesh_atoms.specs.Walk.{Walk, Stay, Onward, Least, AtSelf}
-use Rattle.mesh_paths.proofs.TwoRouters.{one, addr, face, arc, link, neighbour, route, state, none_of, only, here, first_of, address_on, has_own, apart, symmetric_is, symmetric, link_is, no_two_hop}
+use Rattle.mesh_paths.proofs.TwoRouters.{one, addr, face, arc, link, neighbour, route, state, address_on, has_own, apart, symmetric_is, symmetric, link_is, no_two_hop}
+use Rattle.mesh_paths.proofs.ShortLists.{none_of, only, here, first_of}
 
 pub arc_is : (x y : ℕ) (m n : NetAddr) (c : ℕ) → RouteArc (state x y) m n c → (m ≡ host (addr x)) × (n ≡ host (addr y)) × (c ≡ 1)
 arc_is x y _ _ _ (To_neighbour {self = self} {a = a} {m = m} o n is has out) =

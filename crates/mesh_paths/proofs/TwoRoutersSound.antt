@@ -19,41 +19,11 @@ use Rattle.mesh_atoms.specs.Live.{HasSymmetricOf, IsByLinks}
 use Rattle.mesh_atoms.specs.Sound.{IsWithin, IsSoundLink, IsSoundNeighbour, SoundNeighbourhood, Sound}
 use Rattle.mesh_atoms.specs.State.{Neighbourhood, link_at, two_hop_at, neighbour_at}
 use Rattle.mesh_atoms.specs.TakesHello.{AreMoreThan, IsHeld}
-use Rattle.mesh_paths.proofs.TwoRouters.{one, addr, settings, link, neighbour, state, none_of, only, here, address_on, apart}
+use Rattle.mesh_paths.proofs.TwoRouters.{one, addr, settings, link, neighbour, state, address_on, apart}
+use Rattle.mesh_paths.proofs.ShortLists.{none_of, only, here, same_number, found_one, none_some, empty_within, empties_within, single_distinct, empty_distinct, few_of_one}
 use Rattle.mesh_paths.proofs.TwoRoutersRelays.{relays_are}
 use Rattle.mesh_paths.proofs.TwoRoutersRoutes.{routes_are}
 use Rattle.mesh_paths.proofs.TwoRoutersSettled.{no_selector}
-
--- Bases of one tuple and of none
-
-same_number : (n : ℕ) → nat_eq n n ≡ true
-same_number n = eq-eqb n n refl
-
-found_one : {K V : Type 0} (eq : K → K → Bool) (k q : K) (e f : V) → cond (eq q k) (Some e) None ≡ Some f → (eq q k ≡ true) × (f ≡ e)
-found_one eq k q e f h = by_case (eq q k) h
-  where
-    by_case : (b : Bool) → cond b (Some e) None ≡ Some f → (b ≡ true) × (f ≡ e)
-    by_case true h = (refl, (cc))
-    by_case false h = absurd (cc)
-
-none_some : {A B : Type 0} (a : A) → None ≡ Some a → B
-none_some a e = absurd (cc)
-
-empty_within : {K V : Type 0} (eq : K → K → Bool) (now : ℕ) → IsWithin {K = K} {V = V} eq now 16384 []
-unfolding IsDistinct
-empty_within eq now = record { distinct = tt; limit = omega arith; fresh = λ q value until h. none_some (value, until) h }
-
-empties_within : {K V : Type 0} (eq : K → K → Bool) (now i : ℕ) → IsWithin {K = K} {V = V} eq now 16384 (base_of ([] ∷ []) i)
-empties_within eq now zero = empty_within eq now
-empties_within eq now (suc i) = empty_within eq now
-
-single_distinct : {K V : Type 0} (eq : K → K → Bool) (k : K) (e : V × ℕ) → HasDistinctKeys eq ((k, e) ∷ [])
-unfolding IsDistinct
-single_distinct eq k e = (tt, tt)
-
-empty_distinct : {K : Type 0} (V : Type 0) (eq : K → K → Bool) → HasDistinctKeys {K = K} {V = V} eq []
-unfolding IsDistinct
-empty_distinct V eq = tt
 
 -- The neighbourhood
 
@@ -121,18 +91,7 @@ held_is x y a held = elim held [
 ]
 
 within_limit : (x y : ℕ) → AreMoreThan 1024 (IsHeld (near x y)) → ⊥
-unfolding IsDistinct
-within_limit x y many = let (some, distinct, held, more) = many in few some distinct held more
-  where
-    few : (some : List Addr4) → IsDistinct addr_eq some → ((a : Addr4) → Contains some a → IsHeld (near x y) a) → 1024 < length some → ⊥
-    few [] distinct held more = absurd (omega (arith, more))
-    few (a ∷ []) distinct held more = absurd (omega (arith, more))
-    few (a ∷ b ∷ rest) distinct held more =
-        let first : a ≡ addr y = held_is x y a (held a (here a (b ∷ rest))) in
-        let second : b ≡ addr y = held_is x y b (held b (1, omega arith, refl)) in
-        let apart : addr_eq a b ≡ false = distinct.0.0 in
-        let same : addr_eq a b ≡ true = rw (first, second) (same_number (suc y)) in
-        absurd (cc)
+within_limit x y many = let (some, distinct, held, more) = many in few_of_one (addr y) some distinct (λ a c. held_is x y a (held a c)) more
 
 sound_link : (x y i : ℕ) (key : LinkKey) (l : Link) (until : ℕ) → link_at (near x y) i key ≡ Some (l, until) → IsSoundLink 5 key l
 sound_link x y i key l until h =

@@ -8,7 +8,8 @@ use Rattle.mesh_atoms.specs.Base.{host}
 use Rattle.mesh_atoms.specs.Radio.{Leads, IsSoundScenario}
 use Rattle.mesh_atoms.specs.Settled.{At}
 use Rattle.mesh_atoms.specs.State.{State, HasAddressOn, IsOriginator}
-use Rattle.mesh_paths.proofs.TwoRouters.{one, addr, face, settings, arc, scenario, route, state, states, none_of, two, here, address_on}
+use Rattle.mesh_paths.proofs.TwoRouters.{one, addr, face, settings, arc, scenario, route, state, states, address_on}
+use Rattle.mesh_paths.proofs.ShortLists.{none_of, two, here}
 use Rattle.mesh_paths.proofs.TwoRoutersSettled.{Side, settled_at, turned, routers_of}
 use Rattle.mesh_atoms.specs.Sound.{Sound}
 use Rattle.mesh_atoms.specs.Radio.{AddressOf}

@@ -1,2 +1,3 @@
 pub mod SettledRoutes
 pub mod WrongStates
+pub mod WorkedHello

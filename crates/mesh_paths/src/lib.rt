@@ -3,4 +3,4 @@
 
 mod settled;
 
-pub use settled::{settled_routes, two_routers_settle, wrong_states_refused};
+pub use settled::{settled_routes, two_routers_settle, worked_hello_is_taken, wrong_states_refused};
