@@ -1,0 +1,48 @@
+-- Reading one after the other, as a loop does.
+use Rattle.std.proofs.Common.{◌≡◌, ℕ, suc, ◌+◌, ◌-◌, ◌≤◌, ◌<◌, List, [], ◌∷◌, ◌++◌, Ok, Err, refl, sym, ap, ◌∙◌, append_assoc, arith, eqb, true}
+use Rattle.std.proofs.lemmas.List.{append-nil}
+use Rattle.std.proofs.lemmas.Bool.{ne_eqb}
+use Rattle.mesh_atoms.specs.declared.refusal.Refusal.{Refusal}
+use Rattle.mesh_atoms.specs.Reading.{◌>>=◌, Reading}
+use Rattle.mesh_tlv.specs.Reading.{items_at}
+
+-- what was read before, and what is still read
+abbrev pub with_front : {A : Type 0} → List A → Reading (List A) → Reading (List A)
+with_front front read = read >>= λ x. Ok (front ++ x.0, x.1)
+
+pub none_before : {A : Type 0} (read : Reading (List A)) → with_front [] read ≡ read
+none_before (Ok x) = refl
+none_before (Err f) = refl
+
+regroup : {A : Type 0} (front : List A) (p : A) (read : Reading (List A)) → with_front front (read >>= λ x. Ok (p ∷ x.0, x.1)) ≡ with_front (front ++ p ∷ []) read
+regroup {A} front p (Ok x) = ap (λ (ps : List A). Ok (ps, x.1)) (simp append_assoc)
+regroup front p (Err f) = refl
+
+module _ {A : Type 0} (one : ℕ → ℕ → Reading A) (front : List A) (limit i at end : ℕ) (total : Reading (List A)) (so_far : with_front front (items_at one (limit - i) at end) ≡ total) where
+  pub goes_on : i < limit → (at ≡ end → ⊥) → (p : A) (after : ℕ) → one at end ≡ Ok (p, after) → with_front (front ++ p ∷ []) (items_at one (limit - (i + 1)) after end) ≡ total
+  unfolding items_at
+  goes_on lt apart p after h =
+      let k : limit - i ≡ suc (limit - (i + 1)) = omega arith in
+      let step : with_front front (items_at one (limit - i) at end) ≡ with_front (front ++ p ∷ []) (items_at one (limit - (i + 1)) after end) = rw (k, ne_eqb at end apart, h) (regroup front p (items_at one (limit - (i + 1)) after end)) in
+      sym step ∙ so_far
+
+  pub ends : i < limit → (at ≡ end → ⊥) → (f : Refusal) → one at end ≡ Err f → total ≡ Err f
+  unfolding items_at
+  ends lt apart f h =
+      let k : limit - i ≡ suc (limit - (i + 1)) = omega arith in
+      let step : with_front front (items_at one (limit - i) at end) ≡ Err f = rw (k, ne_eqb at end apart, h) refl in
+      sym so_far ∙ step
+
+  pub is_done : limit ≤ i → total ≡ Ok (front, at)
+  unfolding items_at
+  is_done le =
+      let k : limit - i ≡ 0 = omega arith in
+      let step : with_front front (items_at one (limit - i) at end) ≡ Ok (front, at) = rw k (ap (λ (ps : List A). Ok (ps, at)) (append-nil front)) in
+      sym so_far ∙ step
+
+  pub is_at_end : i < limit → eqb at end ≡ true → total ≡ Ok (front, at)
+  unfolding items_at
+  is_at_end lt e =
+      let k : limit - i ≡ suc (limit - (i + 1)) = omega arith in
+      let step : with_front front (items_at one (limit - i) at end) ≡ Ok (front, at) = rw (k, e) (ap (λ (ps : List A). Ok (ps, at)) (append-nil front)) in
+      sym so_far ∙ step

@@ -1,0 +1,145 @@
+-- The least form is a spelling.
+use Rattle.std.proofs.Common.{◌≡◌, ℕ, ◌+◌, ◌/◌, ◌%◌, ◌<◌, ◌≤◌, Bool, true, false, not, ◌&&◌, eqb, ltb, bit_and, List, [], ◌∷◌, ◌++◌, length, Option, Some, None, refl, sym, ap, subst, arith, append_assoc}
+use Rattle.std.specs.Prelude.{All}
+use Rattle.std.specs.List.{flat_map}
+use Rattle.std.specs.Int.Bits.{and_zero_r}
+use Rattle.std.proofs.lemmas.Bool.{eqb-true}
+use Rattle.std.proofs.lemmas.List.Concat.{flat_map-cons}
+use Rattle.std.proofs.lemmas.List.Elements.{All-head, All-tail}
+use Rattle.mesh_atoms.specs.Grammar.{SpellsShort}
+use Rattle.mesh_atoms.specs.Reading.{has}
+use Rattle.mesh_tlv.specs.Fields.{TlvFields, AddrTlvFields, indexed}
+use Rattle.mesh_tlv.specs.Grammar.{SpellsExtension, SpellsIndex, SpellsLength, SpellsValue, HasEqualParts, SpellsTlvOf, SpellsTlv, SpellsItems, SpellsBlock}
+use Rattle.mesh_tlv.specs.Least.{IsFit, flag, octet_if, is_single, is_several, has_value, is_wide, least_flags, least_index, least_head, least_short, least_length, least_value, least_addr_tlv, least_tlv, least_block}
+
+-- ---- each flag is told from the sum of the flags, by trying all sums
+
+and_left : (a b : Bool) → (a && b) ≡ true → a ≡ true
+and_left true b h = refl
+and_left false b h = absurd cc
+
+and_right : (a b : Bool) → (a && b) ≡ true → b ≡ true
+and_right true b h = h
+and_right false b h = absurd cc
+
+abbrev both : (Bool → Bool) → Bool
+both f = f true && f false
+
+both_is : (f : Bool → Bool) → both f ≡ true → (b : Bool) → f b ≡ true
+both_is f h true = and_left (f true) (f false) h
+both_is f h false = and_right (f true) (f false) h
+
+abbrev same : Bool → Bool → Bool
+same true b = b
+same false b = not b
+
+same_is : (a b : Bool) → same a b ≡ true → a ≡ b
+same_is true true h = refl
+same_is true false h = absurd cc
+same_is false true h = absurd cc
+same_is false false h = refl
+
+abbrev flags_of : Bool → Bool → Bool → Bool → Bool → Bool → ℕ
+flags_of a b c d e f = flag a 128 + flag b 64 + flag c 32 + flag d 16 + flag e 8 + flag f 4
+
+abbrev six : (Bool → Bool → Bool → Bool → Bool → Bool → Bool) → Bool
+six t = both (λ a. both (λ b. both (λ c. both (λ d. both (λ e. both (λ f. t a b c d e f))))))
+
+six_is : (t : Bool → Bool → Bool → Bool → Bool → Bool → Bool) → six t ≡ true → (a b c d e f : Bool) → t a b c d e f ≡ true
+six_is t h a b c d e f =
+    both_is (λ f. t a b c d e f) (both_is (λ e. both (λ f. t a b c d e f)) (both_is (λ d. both (λ e. both (λ f. t a b c d e f))) (both_is (λ c. both (λ d. both (λ e. both (λ f. t a b c d e f)))) (both_is (λ b. both (λ c. both (λ d. both (λ e. both (λ f. t a b c d e f))))) (both_is (λ a. both (λ b. both (λ c. both (λ d. both (λ e. both (λ f. t a b c d e f)))))) h a) b) c) d) e) f
+
+tells_128 : (a b c d e f : Bool) → has (flags_of a b c d e f) 128 ≡ a
+tells_128 a b c d e f = same_is _ _ (six_is (λ a b c d e f. same (has (flags_of a b c d e f) 128) a) refl a b c d e f)
+
+tells_64 : (a b c d e f : Bool) → has (flags_of a b c d e f) 64 ≡ b
+tells_64 a b c d e f = same_is _ _ (six_is (λ a b c d e f. same (has (flags_of a b c d e f) 64) b) refl a b c d e f)
+
+tells_32 : (a b c d e f : Bool) → has (flags_of a b c d e f) 32 ≡ c
+tells_32 a b c d e f = same_is _ _ (six_is (λ a b c d e f. same (has (flags_of a b c d e f) 32) c) refl a b c d e f)
+
+tells_16 : (a b c d e f : Bool) → has (flags_of a b c d e f) 16 ≡ d
+tells_16 a b c d e f = same_is _ _ (six_is (λ a b c d e f. same (has (flags_of a b c d e f) 16) d) refl a b c d e f)
+
+tells_8 : (a b c d e f : Bool) → has (flags_of a b c d e f) 8 ≡ e
+tells_8 a b c d e f = same_is _ _ (six_is (λ a b c d e f. same (has (flags_of a b c d e f) 8) e) refl a b c d e f)
+
+tells_4 : (a b c d e f : Bool) → has (flags_of a b c d e f) 4 ≡ f
+tells_4 a b c d e f = same_is _ _ (six_is (λ a b c d e f. same (has (flags_of a b c d e f) 4) f) refl a b c d e f)
+
+none_barred : (a d e : Bool) → bit_and (flags_of a false false d e false) 100 ≡ 0
+none_barred true true true = refl
+none_barred true true false = refl
+none_barred true false true = refl
+none_barred true false false = refl
+none_barred false true true = refl
+none_barred false true false = refl
+none_barred false false true = refl
+none_barred false false false = refl
+
+-- ---- the parts of a TLV
+
+ext_spelled : (ext : ℕ) (b : Bool) → eqb ext 0 ≡ b → SpellsExtension (not b) ext (octet_if (not b) ext)
+ext_spelled ext true h = (eqb-true ext 0 h, refl)
+ext_spelled ext false h = refl
+
+index_spelled : (count first last : ℕ) → first ≤ last → last < count → (a b c : Bool) → eqb first 0 ≡ a → eqb (last + 1) count ≡ b → eqb first last ≡ c → SpellsIndex (not (a && b) && c) (not (a && b) && not c) count first last (octet_if (not (a && b)) first ++ octet_if (not (a && b) && not c) last)
+index_spelled count first last le lt true true c p q r = (eqb-true first 0 p, omega (arith, eqb-true (last + 1) count q), refl)
+index_spelled count first last le lt true false true p q r = (omega arith, sym (eqb-true first last r), refl)
+index_spelled count first last le lt true false false p q r = (le, lt, refl)
+index_spelled count first last le lt false b true p q r = (omega arith, sym (eqb-true first last r), refl)
+index_spelled count first last le lt false b false p q r = (le, lt, refl)
+
+short_spelled : (n : ℕ) → SpellsShort n (least_short n)
+short_spelled n = (n / 256, n % 256, omega arith, refl)
+
+length_spelled : (n : ℕ) (b : Bool) → ltb 255 n ≡ b → SpellsLength b n (least_length n)
+length_spelled n true h = rw h (short_spelled n)
+length_spelled n false h = rw h refl
+
+value_spelled : (v : Option (List ℕ)) → SpellsValue (has_value v) (is_wide v) v (least_value v)
+value_spelled None = refl
+value_spelled (Some text) = (least_length (length text), length_spelled (length text) (ltb 255 (length text)) refl, refl)
+
+-- ---- TLVs and blocks
+
+tlv_of_spelled : (barred count : ℕ) (tlv : AddrTlvFields) → IsFit count tlv → bit_and (least_flags count tlv) barred ≡ 0 → SpellsTlvOf barred count tlv (least_addr_tlv count tlv)
+unfolding least_head least_flags
+tlv_of_spelled barred count tlv fit free =
+    let a = not (eqb tlv.ext 0) in
+    let b = is_single count tlv.first tlv.last in
+    let c = is_several count tlv.first tlv.last in
+    let d = has_value tlv.value in
+    let e = is_wide tlv.value in
+    let ext : List ℕ = octet_if a tlv.ext in
+    let index : List ℕ = least_index count tlv.first tlv.last in
+    record {
+      flags = flags_of a b c d e tlv.multi;
+      ext = ext;
+      index = index;
+      value = least_value tlv.value;
+      not_barred = free;
+      ext_is = subst (λ (x : Bool). SpellsExtension x tlv.ext ext) (sym (tells_128 a b c d e tlv.multi)) (ext_spelled tlv.ext (eqb tlv.ext 0) refl);
+      index_is = subst (λ (x : Bool). SpellsIndex x (has (flags_of a b c d e tlv.multi) 32) count tlv.first tlv.last index) (sym (tells_64 a b c d e tlv.multi)) (subst (λ (x : Bool). SpellsIndex b x count tlv.first tlv.last index) (sym (tells_32 a b c d e tlv.multi)) (index_spelled count tlv.first tlv.last fit.0 fit.1 (eqb tlv.first 0) (eqb (tlv.last + 1) count) (eqb tlv.first tlv.last) refl refl refl));
+      value_is = subst (λ (x : Bool). SpellsValue x (has (flags_of a b c d e tlv.multi) 8) tlv.value (least_value tlv.value)) (sym (tells_16 a b c d e tlv.multi)) (subst (λ (x : Bool). SpellsValue d x tlv.value (least_value tlv.value)) (sym (tells_8 a b c d e tlv.multi)) (value_spelled tlv.value));
+      multi_is = sym (tells_4 a b c d e tlv.multi);
+      equal_parts = subst (λ (x : Bool). HasEqualParts x tlv.first tlv.last tlv.value) (sym (tells_4 a b c d e tlv.multi)) fit.2;
+      whole = ap (λ (l : List ℕ). tlv.kind ∷ (flags_of a b c d e tlv.multi ∷ l)) (append_assoc ext index (least_value tlv.value));
+    }
+
+pub addr_tlv_spelled : (count : ℕ) (tlv : AddrTlvFields) → IsFit count tlv → SpellsTlvOf 0 count tlv (least_addr_tlv count tlv)
+addr_tlv_spelled count tlv fit = tlv_of_spelled 0 count tlv fit (and_zero_r (least_flags count tlv))
+
+pub tlv_spelled : (tlv : TlvFields) → SpellsTlv tlv (least_tlv tlv)
+unfolding least_flags
+tlv_spelled tlv = tlv_of_spelled 100 1 (indexed tlv) (omega arith, omega arith, parted tlv.value) (none_barred (not (eqb tlv.ext 0)) (has_value tlv.value) (is_wide tlv.value)) where
+  parted : (v : Option (List ℕ)) → HasEqualParts false 0 0 v
+  parted (Some text) = tt
+  parted None = refl
+
+pub items_spelled : {A : Type 0} (Spells : A → List ℕ → Type 0) (least : A → List ℕ) (xs : List A) → All (λ x. Spells x (least x)) xs → SpellsItems Spells xs (flat_map least xs)
+items_spelled Spells least [] h = refl
+items_spelled Spells least (x ∷ xs) h = (least x, flat_map least xs, All-head (λ y. Spells y (least y)) x xs h, items_spelled Spells least xs (All-tail (λ y. Spells y (least y)) x xs h), flat_map-cons least x xs)
+
+pub block_spelled : {A : Type 0} (Spells : A → List ℕ → Type 0) (least : A → List ℕ) (xs : List A) → All (λ x. Spells x (least x)) xs → SpellsBlock Spells xs (least_block least xs)
+block_spelled Spells least xs h = (least_short (length (flat_map least xs)), flat_map least xs, short_spelled (length (flat_map least xs)), items_spelled Spells least xs h, refl)

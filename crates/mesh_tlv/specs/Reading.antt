@@ -1,0 +1,90 @@
+-- How a TLV block is read, field by field. Grammar says what it is.
+use Rattle.std.specs.Prelude.{◌≡◌, ℕ, zero, suc, ◌+◌, ◌-◌, ◌%◌, List, [], ◌∷◌, slice_range, Option, Some, None, Result, Ok, Err, Bool, not, ◌&&◌, ◌||◌, nat_lt, nat_le, ◌==◌, if◌then◌else◌, bit_and}
+use Rattle.mesh_atoms.specs.declared.refusal.Refusal.{Refusal}
+use Rattle.mesh_atoms.specs.Reading.{◌>>=◌, Reading, refuse, has, octet_at, short_at}
+use Rattle.mesh_tlv.specs.declared.tlv.ReadTlv.{ReadTlv}
+use Rattle.mesh_tlv.specs.declared.tlv.ReadTlv.TheVariants as errors
+use Rattle.mesh_tlv.specs.Fields.{TlvFields, AddrTlvFields, unindexed}
+
+-- what a reader gives, but for want of memory
+abbrev pub Fails : {Y : Type 0} → ReadTlv → Result Y Refusal → Type 0
+Fails (errors.Memory e) read = Unit {0}
+Fails (errors.Refused f) read = read ≡ Err f
+
+abbrev pub Gives : {X Y : Type 0} → (X → Y) → Result X ReadTlv → Result Y Refusal → Type 0
+Gives view (Ok x) read = read ≡ Ok (view x)
+Gives view (Err e) read = Fails e read
+
+abbrev pub IfRefused : (Refusal → Type 0) → ReadTlv → Type 0
+IfRefused P (errors.Memory e) = Unit {0}
+IfRefused P (errors.Refused f) = P f
+
+-- Flags: 128 extension, 64 single index, 32 multi index, 16 value, 8 length of 16 bits, 4 multivalue.
+-- `barred` are those that this kind of TLV doesn't take.
+abbrev pub is_sound : ℕ → ℕ → Bool
+is_sound barred flags =
+    (bit_and flags barred == 0) && not (has flags 64 && has flags 32) && (has flags 16 || not (has flags 8 || has flags 4))
+
+unfoldable pub flags_at : ℕ → List ℕ → ℕ → ℕ → Reading ℕ
+flags_at barred frame at end = do
+  flags ← octet_at 4 frame at end
+  if is_sound barred flags.0 then Ok flags else refuse at 5
+
+unfoldable pub extension_at : ℕ → List ℕ → ℕ → ℕ → Reading ℕ
+extension_at flags frame at end = if has flags 128 then octet_at 4 frame at end else Ok (0, at)
+
+-- an index from `low` to below `count`
+unfoldable pub index_octet_at : ℕ → ℕ → List ℕ → ℕ → ℕ → Reading ℕ
+index_octet_at low count frame at end = do
+  index ← octet_at 4 frame at end
+  if nat_lt index.0 low || nat_le count index.0 then refuse at 6 else Ok index
+
+-- the first and the last index
+unfoldable pub indexes_at : ℕ → ℕ → List ℕ → ℕ → ℕ → Reading (ℕ × ℕ)
+indexes_at flags count frame at end =
+    if has flags 64 then (index_octet_at 0 count frame at end >>= λ start. Ok ((start.0, start.0), start.1))
+    else if has flags 32 then (index_octet_at 0 count frame at end >>= λ start. index_octet_at start.0 count frame start.1 end >>= λ stop. Ok ((start.0, stop.0), stop.1))
+    else Ok ((0, count - 1), at)
+
+abbrev pub length_at : ℕ → List ℕ → ℕ → ℕ → Reading ℕ
+length_at flags frame at end = if has flags 8 then short_at 4 frame at end else octet_at 4 frame at end
+
+-- a value of so many equal parts
+unfoldable pub value_at : ℕ → ℕ → List ℕ → ℕ → ℕ → Reading (Option (List ℕ))
+value_at flags parts frame at end =
+    if has flags 16 then (length_at flags frame at end >>= λ len.
+    if not (len.0 % parts == 0) then refuse at 7
+    else if nat_lt (end - len.1) len.0 then refuse len.1 4
+    else Ok (Some (slice_range frame len.1 (len.1 + len.0)), len.1 + len.0))
+    else Ok (None, at)
+
+abbrev pub part_count : Bool → ℕ → ℕ → ℕ
+part_count multi first last = if multi then last + 1 - first else 1
+
+unfoldable pub tlv_of_at : ℕ → ℕ → List ℕ → ℕ → ℕ → Reading AddrTlvFields
+tlv_of_at barred count frame at end = do
+  kind ← octet_at 4 frame at end
+  flags ← flags_at barred frame kind.1 end
+  ext ← extension_at flags.0 frame flags.1 end
+  index ← indexes_at flags.0 count frame ext.1 end
+  value ← value_at flags.0 (part_count (has flags.0 4) index.0.0 index.0.1) frame index.1 end
+  Ok (record { kind = kind.0; ext = ext.0; first = index.0.0; last = index.0.1; multi = has flags.0 4; value = value.0 }, value.1)
+
+-- a packet or message TLV: neither index nor multivalue
+unfoldable pub tlv_at : List ℕ → ℕ → ℕ → Reading TlvFields
+tlv_at frame at end = tlv_of_at 100 1 frame at end >>= λ tlv. Ok (unindexed tlv.0, tlv.1)
+
+-- at most so many of them, up to the end
+unfoldable pub items_at : {A : Type 0} → (ℕ → ℕ → Reading A) → ℕ → ℕ → ℕ → Reading (List A)
+items_at one zero at end = Ok ([], at)
+items_at one (suc n) at end =
+    if at == end then Ok ([], at) else (one at end >>= λ first. items_at one n first.1 end >>= λ others. Ok (first.0 ∷ others.0, others.1))
+
+-- where a block's TLVs begin and end
+unfoldable pub range_at : List ℕ → ℕ → ℕ → Reading ℕ
+range_at frame at end = do
+  len ← short_at 1 frame at end
+  if nat_lt (end - len.1) len.0 then refuse at 4 else Ok (len.1, len.1 + len.0)
+
+unfoldable pub block_at : {A : Type 0} → (List ℕ → ℕ → ℕ → Reading A) → List ℕ → ℕ → ℕ → Reading (List A)
+block_at one frame at end = range_at frame at end >>= λ range. items_at (one frame) (range.1 - range.0) range.0 range.1
