@@ -9,7 +9,7 @@ use Rattle.mesh_tlv.specs.Fields.{AddrTlvFields}
 use Rattle.mesh_tlv.specs.Reading.{flags_at, extension_at, index_octet_at, indexes_at, length_at, value_at, part_count, tlv_of_at}
 use Rattle.mesh_tlv.specs.Grammar.{SpellsExtension, SpellsIndex, SpellsLength, SpellsValue, HasEqualParts, SpellsTlvOf, IsBroken, two_indexes, wide_nothing, multi_nothing, not_taken, Opens, Extends, Indexes, IsCut, TlvFault, flags_cut, flags_broken, ext_cut, start_cut, start_high, stop_cut, stop_wrong, length_cut, length_uneven, value_cut}
 use Rattle.mesh_tlv.proofs.Flags.{unsound_if, sound_if}
-use Rattle.mesh_tlv.proofs.Laws.{divides_if, divided_if}
+use Rattle.mesh_tlv.proofs.Takes.{divides_if, divided_if}
 
 -- ---- field by field
 

@@ -4,7 +4,8 @@ use Rattle.std.specs.Prelude.{All}
 use Rattle.std.proofs.lemmas.List.Elements.{All-nil, All-cons}
 use Rattle.mesh_atoms.specs.Reading.{has}
 use Rattle.mesh_tlv.specs.Fields.{AddrTlvFields}
-use Rattle.mesh_tlv.specs.Grammar.{SpellsIndex, HasEqualParts, SpellsTlvOf, SpellsItems}
+use Rattle.mesh_tlv.specs.Items.{SpellsItems}
+use Rattle.mesh_tlv.specs.Grammar.{SpellsIndex, HasEqualParts, SpellsAddrTlv}
 use Rattle.mesh_tlv.specs.Least.{IsFit}
 
 index_fit : (single several : Bool) (count first last : ℕ) (text : List ℕ) → 0 < count → SpellsIndex single several count first last text → (first ≤ last) × (last < count)
@@ -13,11 +14,11 @@ index_fit false true count first last text pos h = (h.0, h.1)
 index_fit false false count first last text pos h = (omega (arith, h.0), omega (arith, h.1))
 index_fit true true count first last text pos h = absurd h
 
-tlv_fit : (count : ℕ) (tlv : AddrTlvFields) (bytes : List ℕ) → 0 < count → SpellsTlvOf 0 count tlv bytes → IsFit count tlv
+tlv_fit : (count : ℕ) (tlv : AddrTlvFields) (bytes : List ℕ) → 0 < count → SpellsAddrTlv count tlv bytes → IsFit count tlv
 tlv_fit count tlv bytes pos h =
     let index = index_fit (has h.flags 64) (has h.flags 32) count tlv.first tlv.last h.index pos h.index_is in
     (index.0, index.1, subst (λ (b : Bool). HasEqualParts b tlv.first tlv.last tlv.value) (sym h.multi_is) h.equal_parts)
 
-pub all_fit : (count : ℕ) (tlvs : List AddrTlvFields) (bytes : List ℕ) → 0 < count → SpellsItems (SpellsTlvOf 0 count) tlvs bytes → All (IsFit count) tlvs
+pub all_fit : (count : ℕ) (tlvs : List AddrTlvFields) (bytes : List ℕ) → 0 < count → SpellsItems (SpellsAddrTlv count) tlvs bytes → All (IsFit count) tlvs
 all_fit count [] bytes pos h = All-nil (IsFit count)
 all_fit count (tlv ∷ tlvs) bytes pos h = All-cons (IsFit count) tlv tlvs (tlv_fit count tlv h.0 pos h.2) (all_fit count tlvs h.1 pos h.3)

@@ -1,9 +1,11 @@
 -- How long the items of a list are written.
-use Rattle.std.proofs.Common.{◌≡◌, ℕ, ◌+◌, ◌<◌, ◌≤◌, List, length, map, take, get_or, None, refl, arith}
+use Rattle.std.proofs.Common.{◌≡◌, ℕ, ◌+◌, ◌<◌, ◌≤◌, List, length, map, take, get_or, Option, Some, None, refl, ap, arith, inl, inr}
 use Rattle.std.specs.List.{flat_map}
 use Rattle.std.proofs.lemmas.Bool.{lt-ltb}
+use Rattle.std.proofs.lemmas.List.{length-append}
 use Rattle.std.proofs.lemmas.List.Folds.{length-flat_map-take, flat_map-map}
-use Rattle.mesh_tlv.specs.Least.{length_within}
+use Rattle.mesh_tlv.specs.Fields.{TlvFields, AddrTlvFields, indexed}
+use Rattle.mesh_tlv.specs.Least.{length_within, least_length, least_value, least_head, least_addr_tlv, least_tlv, IsLong, HasLongValue, IsTooLong}
 
 module _ {A B : Type 0} (view : A → B) (least : B → List ℕ) (xs : List A) (i : ℕ) (d : A) where
   item_fits : i < length xs → length (flat_map least (map view (take i xs))) + length (least (view (get_or xs i d))) ≤ length (flat_map least (map view xs))
@@ -14,3 +16,20 @@ module _ {A B : Type 0} (view : A → B) (least : B → List ℕ) (xs : List A) 
 
   pub too_long : (total len : ℕ) → i < length xs → total ≡ length (flat_map least (map view (take i xs))) → len ≡ length (least (view (get_or xs i d))) → 65535 < total + len → length_within (length (flat_map least (map view xs))) ≡ None
   too_long total len lt sum is more = rw (lt-ltb 65535 (length (flat_map least (map view xs))) (omega (arith, item_fits lt))) refl
+
+-- ---- a long value makes its TLV long, and a long TLV its block
+
+value_longer : (v : Option (List ℕ)) → HasLongValue v → IsLong (least_value v)
+value_longer None h = absurd h
+value_longer (Some text) h = omega (arith, h, length-append (least_length (length text)) text)
+
+pub addr_tlv_longer : (count : ℕ) (tlv : AddrTlvFields) → HasLongValue tlv.value → IsLong (least_addr_tlv count tlv)
+addr_tlv_longer count tlv h = omega (arith, value_longer tlv.value h, length-append (least_head count tlv) (least_value tlv.value))
+
+pub tlv_longer : (tlv : TlvFields) → HasLongValue tlv.value → IsLong (least_tlv tlv)
+tlv_longer tlv h = addr_tlv_longer 1 (indexed tlv) h
+
+pub block_longer : {A : Type 0} (least : A → List ℕ) (value : A → Option (List ℕ)) → ((tlv : A) → HasLongValue (value tlv) → IsLong (least tlv)) → (tlvs : List A) → IsTooLong least value tlvs → IsLong (flat_map least tlvs)
+block_longer least value longer tlvs (inl long) = long
+block_longer least value longer tlvs (inr any) =
+    omega (arith, length-flat_map-take least tlvs any.0 any.1 any.2, ap (λ tlv. length (least tlv)) any.3, longer any.1 any.4)

@@ -5,11 +5,12 @@ use Rattle.std.specs.List.{flat_map}
 use Rattle.std.specs.Int.Bits.{and_zero_r}
 use Rattle.std.proofs.lemmas.Bool.{eqb-true}
 use Rattle.std.proofs.lemmas.List.Concat.{flat_map-cons}
-use Rattle.std.proofs.lemmas.List.Elements.{All-head, All-tail}
+use Rattle.std.proofs.lemmas.List.Elements.{All-head, All-tail, All-weaker}
 use Rattle.mesh_atoms.specs.Grammar.{SpellsShort}
 use Rattle.mesh_atoms.specs.Reading.{has}
 use Rattle.mesh_tlv.specs.Fields.{TlvFields, AddrTlvFields, indexed}
-use Rattle.mesh_tlv.specs.Grammar.{SpellsExtension, SpellsIndex, SpellsLength, SpellsValue, HasEqualParts, SpellsTlvOf, SpellsTlv, SpellsItems, SpellsBlock}
+use Rattle.mesh_tlv.specs.Items.{SpellsItems}
+use Rattle.mesh_tlv.specs.Grammar.{SpellsExtension, SpellsIndex, SpellsLength, SpellsValue, HasEqualParts, SpellsTlvOf, SpellsTlv, SpellsAddrTlv, SpellsBlock, SpellsTlvBlock, SpellsAddrTlvBlock}
 use Rattle.mesh_tlv.specs.Least.{IsFit, flag, octet_if, is_single, is_several, has_value, is_wide, least_flags, least_index, least_head, least_short, least_length, least_value, least_addr_tlv, least_tlv, least_block}
 
 -- ---- each flag is told from the sum of the flags, by trying all sums
@@ -143,3 +144,9 @@ items_spelled Spells least (x ∷ xs) h = (least x, flat_map least xs, All-head 
 
 pub block_spelled : {A : Type 0} (Spells : A → List ℕ → Type 0) (least : A → List ℕ) (xs : List A) → All (λ x. Spells x (least x)) xs → SpellsBlock Spells xs (least_block least xs)
 block_spelled Spells least xs h = (least_short (length (flat_map least xs)), flat_map least xs, short_spelled (length (flat_map least xs)), items_spelled Spells least xs h, refl)
+
+pub tlv_block_spelled : (tlvs : List TlvFields) → SpellsTlvBlock tlvs (least_block least_tlv tlvs)
+tlv_block_spelled tlvs = block_spelled SpellsTlv least_tlv tlvs (λ k d lt. tlv_spelled _)
+
+pub addr_tlv_block_spelled : (count : ℕ) (tlvs : List AddrTlvFields) → All (IsFit count) tlvs → SpellsAddrTlvBlock count tlvs (least_block (least_addr_tlv count) tlvs)
+addr_tlv_block_spelled count tlvs fit = block_spelled (SpellsAddrTlv count) (least_addr_tlv count) tlvs (All-weaker (IsFit count) (λ tlv. SpellsAddrTlv count tlv (least_addr_tlv count tlv)) (λ tlv h. addr_tlv_spelled count tlv h) tlvs fit)

@@ -1,19 +1,16 @@
 -- The two kinds of TLV, each with its reader.
-use Rattle.std.proofs.Common.{◌≡◌, ℕ, ◌<◌, ◌≤◌, false, bit_and, Option, Some, None, List, length, Result, Ok, Err, refl, sym, ap, subst, ◌∙◌, arith}
-use Rattle.std.specs.Prelude.{IfOk, IfErr, MatchResult}
+use Rattle.std.proofs.Common.{◌≡◌, ℕ, ◌<◌, ◌≤◌, false, bit_and, Option, Some, None, List, length, refl, sym, ap, ◌∙◌, arith}
 use Rattle.std.specs.Int.Bits.{and_zero_l}
 use Rattle.std.proofs.lemmas.Nat.{and_assoc}
-use Rattle.mesh_atoms.specs.declared.refusal.Refusal.{Refusal}
-use Rattle.mesh_atoms.specs.Reading.{Reading, has, refuse}
+use Rattle.mesh_atoms.specs.Reading.{has}
 use Rattle.mesh_atoms.proofs.Reading.{meets_bind}
-use Rattle.mesh_tlv.specs.declared.tlv.ReadTlv.{ReadTlv}
-use Rattle.mesh_tlv.specs.declared.tlv.ReadTlv.TheVariants as errors
 use Rattle.mesh_tlv.specs.Fields.{AddrTlvFields, indexed, unindexed}
-use Rattle.mesh_tlv.specs.Reading.{Gives, IfRefused, tlv_of_at, tlv_at, block_at}
-use Rattle.mesh_tlv.specs.Grammar.{SpellsTlvOf, SpellsTlv, HasEqualParts, TlvFault, BlockFault, FirstFault}
-use Rattle.mesh_tlv.proofs.Laws.{Took, Faulted, tlv_of_takes}
+use Rattle.mesh_tlv.specs.Items.{FirstFault}
+use Rattle.mesh_tlv.specs.Reading.{tlv_of_at, tlv_at, addr_tlv_at}
+use Rattle.mesh_tlv.specs.Grammar.{SpellsTlvOf, SpellsTlv, SpellsAddrTlv, HasEqualParts, TlvFault}
+use Rattle.mesh_tlv.proofs.Items.{IsReader, Took}
+use Rattle.mesh_tlv.proofs.Takes.{tlv_of_takes}
 use Rattle.mesh_tlv.proofs.Again.{tlv_of_again, fault_again}
-use Rattle.mesh_tlv.proofs.Blocks.{IsReader, block_fault}
 
 some_tlv : (barred count : ℕ) (tlv : AddrTlvFields) (bytes : List ℕ) → SpellsTlvOf barred count tlv bytes → 0 < length bytes
 some_tlv barred count tlv bytes h = omega (arith, ap length h.whole)
@@ -25,6 +22,9 @@ tlv_of_reader barred count pos = record {
   fault_again = λ s at end distance reason le fits h. fault_again barred count s at end le fits distance reason h;
   some = some_tlv barred count;
 }
+
+pub addr_tlv_reader : (count : ℕ) → 0 < count → IsReader (addr_tlv_at count) (SpellsAddrTlv count) (TlvFault 0 count)
+addr_tlv_reader count pos = tlv_of_reader 0 count pos
 
 -- none of the flags that a packet or message TLV doesn't take
 no_flag : (flags flag : ℕ) → bit_and 100 flag ≡ flag → bit_and flags 100 ≡ 0 → has flags flag ≡ false
@@ -58,25 +58,10 @@ unindexed_is tlv bytes h =
 pub tlv_reader : IsReader tlv_at SpellsTlv (TlvFault 100 1)
 unfolding tlv_at
 tlv_reader = record {
-  takes = λ s at end lt fits. meets_bind (tlv_of_at 100 1 s at end) _ _ (Took s at end SpellsTlv) _ (Faulted s at end (TlvFault 100 1)) (tlv_of_takes 100 1 s at end one lt fits) (λ e h. h) (λ tlv t. (t.0, unindexed_is tlv.0 t.0 t.1, t.2));
+  takes = λ s at end lt fits. meets_bind (tlv_of_at 100 1 s at end) _ _ (Took s at end SpellsTlv) _ (FirstFault (TlvFault 100 1) s at end) (tlv_of_takes 100 1 s at end one lt fits) (λ e h. h) (λ tlv t. (t.0, unindexed_is tlv.0 t.0 t.1, t.2));
   again = λ s at end tlv bytes rest le fits h e. rw (tlv_of_again 100 1 s at end (indexed tlv) bytes rest le fits h e) refl;
   fault_again = λ s at end distance reason le fits h. rw (fault_again 100 1 s at end le fits distance reason h) refl;
   some = λ tlv bytes h. some_tlv 100 1 (indexed tlv) bytes h;
 } where
   one : 0 < 1
   one = omega arith
-
--- ---- what holds of a reading holds of what is given
-
-pub given : {X Y : Type 0} (view : X → Y) (P : Y → Type 0) (Q : Refusal → Type 0) (r : Result X ReadTlv) (read : Result Y Refusal) → Gives view r read → MatchResult read P Q → IfOk r (λ x. P (view x)) × IfErr r (IfRefused Q)
-given view P Q (Ok x) read h k = (rw h at k, tt)
-given view P Q (Err (errors.Memory e)) read h k = (tt, tt)
-given view P Q (Err (errors.Refused f)) read h k = (tt, rw h at k)
-
-pub given_so : {X Y : Type 0} (view : X → Y) (r : Result X ReadTlv) (read other : Result Y Refusal) → Gives view r read → read ≡ other → Gives view r other
-given_so view r read other h e = subst (λ x. Gives view r x) e h
-
-pub refuses : {A : Type 0} (one : List ℕ → ℕ → ℕ → Reading A) (Spells : A → List ℕ → Type 0) (Fault : List ℕ → ℕ → ℕ → Type 0) → IsReader one Spells Fault → (s : List ℕ) (at end : ℕ) (refusal : Refusal) → at ≤ end → end ≤ length s → FirstFault (BlockFault Spells Fault) s at end refusal → block_at one s at end ≡ Err refusal
-refuses {A} one Spells Fault reader s at end refusal le fits h =
-    block_fault one Spells Fault reader s at end h.0 refusal.reason le fits h.2
-    ∙ ap (λ (place : ℕ). refuse {A = List A × ℕ} place refusal.reason) (sym h.1)

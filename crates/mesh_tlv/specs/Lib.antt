@@ -1,4 +1,5 @@
 pub mod Fields
-pub mod Reading
 pub mod Grammar
+pub mod Items
 pub mod Least
+pub mod Reading

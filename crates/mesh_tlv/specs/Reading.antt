@@ -1,35 +1,40 @@
--- How a TLV block is read, field by field. Grammar says what it is.
-use Rattle.std.specs.Prelude.{◌≡◌, ℕ, zero, suc, ◌+◌, ◌-◌, ◌%◌, List, [], ◌∷◌, slice_range, Option, Some, None, Result, Ok, Err, Bool, not, ◌&&◌, ◌||◌, nat_lt, nat_le, ◌==◌, if◌then◌else◌, bit_and}
+-- How a TLV block is read, field by field, each with the place after it. Grammar says what it is, and what the flags
+-- and reasons are.
+use Rattle.std.specs.Prelude.{◌≡◌, ℕ, ◌+◌, ◌-◌, ◌%◌, List, slice_range, Option, Some, None, Result, Ok, Err, Bool, not, ◌&&◌, ◌||◌, nat_lt, nat_le, ◌==◌, if◌then◌else◌, bit_and}
 use Rattle.mesh_atoms.specs.declared.refusal.Refusal.{Refusal}
 use Rattle.mesh_atoms.specs.Reading.{◌>>=◌, Reading, refuse, has, octet_at, short_at}
 use Rattle.mesh_tlv.specs.declared.tlv.ReadTlv.{ReadTlv}
 use Rattle.mesh_tlv.specs.declared.tlv.ReadTlv.TheVariants as errors
 use Rattle.mesh_tlv.specs.Fields.{TlvFields, AddrTlvFields, unindexed}
+use Rattle.mesh_tlv.specs.Items.{items_at}
 
--- what a reader gives, but for want of memory
+-- an error stands for the same refusal, or for want of memory, which may come in place of any answer
 abbrev pub Fails : {Y : Type 0} → ReadTlv → Result Y Refusal → Type 0
 Fails (errors.Memory e) read = Unit {0}
 Fails (errors.Refused f) read = read ≡ Err f
 
+-- a result gives what is read, seen by `view`, or want of memory in its place
 abbrev pub Gives : {X Y : Type 0} → (X → Y) → Result X ReadTlv → Result Y Refusal → Type 0
 Gives view (Ok x) read = read ≡ Ok (view x)
 Gives view (Err e) read = Fails e read
 
+-- a fact of the refusal, where the error is one
 abbrev pub IfRefused : (Refusal → Type 0) → ReadTlv → Type 0
 IfRefused P (errors.Memory e) = Unit {0}
 IfRefused P (errors.Refused f) = P f
 
--- Flags: 128 extension, 64 single index, 32 multi index, 16 value, 8 length of 16 bits, 4 multivalue.
--- `barred` are those that this kind of TLV doesn't take.
+-- flags that break no rule, where those of `barred` aren't taken
 abbrev pub is_sound : ℕ → ℕ → Bool
 is_sound barred flags =
     (bit_and flags barred == 0) && not (has flags 64 && has flags 32) && (has flags 16 || not (has flags 8 || has flags 4))
 
+-- the flags
 unfoldable pub flags_at : ℕ → List ℕ → ℕ → ℕ → Reading ℕ
 flags_at barred frame at end = do
   flags ← octet_at 4 frame at end
   if is_sound barred flags.0 then Ok flags else refuse at 5
 
+-- the type extension, 0 where it isn't flagged
 unfoldable pub extension_at : ℕ → List ℕ → ℕ → ℕ → Reading ℕ
 extension_at flags frame at end = if has flags 128 then octet_at 4 frame at end else Ok (0, at)
 
@@ -39,17 +44,18 @@ index_octet_at low count frame at end = do
   index ← octet_at 4 frame at end
   if nat_lt index.0 low || nat_le count index.0 then refuse at 6 else Ok index
 
--- the first and the last index
+-- the first and the last address that is covered
 unfoldable pub indexes_at : ℕ → ℕ → List ℕ → ℕ → ℕ → Reading (ℕ × ℕ)
 indexes_at flags count frame at end =
     if has flags 64 then (index_octet_at 0 count frame at end >>= λ start. Ok ((start.0, start.0), start.1))
     else if has flags 32 then (index_octet_at 0 count frame at end >>= λ start. index_octet_at start.0 count frame start.1 end >>= λ stop. Ok ((start.0, stop.0), stop.1))
     else Ok ((0, count - 1), at)
 
+-- the length of a value
 abbrev pub length_at : ℕ → List ℕ → ℕ → ℕ → Reading ℕ
 length_at flags frame at end = if has flags 8 then short_at 4 frame at end else octet_at 4 frame at end
 
--- a value of so many equal parts
+-- a value of so many equal parts, where it is flagged
 unfoldable pub value_at : ℕ → ℕ → List ℕ → ℕ → ℕ → Reading (Option (List ℕ))
 value_at flags parts frame at end =
     if has flags 16 then (length_at flags frame at end >>= λ len.
@@ -58,9 +64,11 @@ value_at flags parts frame at end =
     else Ok (Some (slice_range frame len.1 (len.1 + len.0)), len.1 + len.0))
     else Ok (None, at)
 
+-- how many equal parts a value has: with multivalue one for each covered address
 abbrev pub part_count : Bool → ℕ → ℕ → ℕ
 part_count multi first last = if multi then last + 1 - first else 1
 
+-- a TLV of a block of `count` addresses, with none of the flags in `barred`
 unfoldable pub tlv_of_at : ℕ → ℕ → List ℕ → ℕ → ℕ → Reading AddrTlvFields
 tlv_of_at barred count frame at end = do
   kind ← octet_at 4 frame at end
@@ -70,21 +78,20 @@ tlv_of_at barred count frame at end = do
   value ← value_at flags.0 (part_count (has flags.0 4) index.0.0 index.0.1) frame index.1 end
   Ok (record { kind = kind.0; ext = ext.0; first = index.0.0; last = index.0.1; multi = has flags.0 4; value = value.0 }, value.1)
 
--- a packet or message TLV: neither index nor multivalue
+-- an address TLV, which takes each flag
+abbrev pub addr_tlv_at : ℕ → List ℕ → ℕ → ℕ → Reading AddrTlvFields
+addr_tlv_at count = tlv_of_at 0 count
+
+-- a packet or message TLV, which takes neither an index (64 and 32) nor multivalue (4)
 unfoldable pub tlv_at : List ℕ → ℕ → ℕ → Reading TlvFields
 tlv_at frame at end = tlv_of_at 100 1 frame at end >>= λ tlv. Ok (unindexed tlv.0, tlv.1)
 
--- at most so many of them, up to the end
-unfoldable pub items_at : {A : Type 0} → (ℕ → ℕ → Reading A) → ℕ → ℕ → ℕ → Reading (List A)
-items_at one zero at end = Ok ([], at)
-items_at one (suc n) at end =
-    if at == end then Ok ([], at) else (one at end >>= λ first. items_at one n first.1 end >>= λ others. Ok (first.0 ∷ others.0, others.1))
-
--- where a block's TLVs begin and end
+-- where a block's items begin and end, behind its length
 unfoldable pub range_at : List ℕ → ℕ → ℕ → Reading ℕ
 range_at frame at end = do
   len ← short_at 1 frame at end
   if nat_lt (end - len.1) len.0 then refuse at 4 else Ok (len.1, len.1 + len.0)
 
+-- a block of such items: a length, and items that fill it
 unfoldable pub block_at : {A : Type 0} → (List ℕ → ℕ → ℕ → Reading A) → List ℕ → ℕ → ℕ → Reading (List A)
 block_at one frame at end = range_at frame at end >>= λ range. items_at (one frame) (range.1 - range.0) range.0 range.1

@@ -2,7 +2,8 @@
 use mesh_atoms::Refusal;
 use std::alloc::AllocError;
 
-/// A TLV of a packet or a message. An extension that isn't written is 0.
+/// A TLV of a packet or a message (RFC 5444, section 5.4.1). `ext` is its type extension, 0 where none is written. A
+/// value of no octets is a value. The value is a slice of the frame that it was read from.
 #[derive(Clone, Copy, Debug, PartialEq, Eq)]
 pub struct Tlv<'a> {
     pub kind: u8,
@@ -10,8 +11,10 @@ pub struct Tlv<'a> {
     pub value: Option<&'a [u8]>,
 }
 
-/// A TLV of the addresses from `first` to `last` of a block. With `multi` its value is in equal
-/// parts, read_one_of for each of them.
+/// A TLV of the addresses from `first` to `last` of an address block, counted from 0 (RFC 5444, section 5.4.1). With
+/// `multi` its value is in equal parts, one for each of them in order. What is read has `first` at most `last`, `last`
+/// below the number of addresses, and `multi` only with a value whose length the number of covered addresses divides;
+/// the writer asks for the same.
 #[derive(Clone, Copy, Debug, PartialEq, Eq)]
 pub struct AddrTlv<'a> {
     pub kind: u8,
@@ -22,6 +25,7 @@ pub struct AddrTlv<'a> {
     pub value: Option<&'a [u8]>,
 }
 
+/// Why a block isn't read: its first fault, or want of memory.
 #[derive(Debug, Drop)]
 pub enum ReadTlv {
     Refused(Refusal),
@@ -50,6 +54,7 @@ impl From<Refusal> for ReadTlv {
     }
 }
 
+/// Why a block isn't written: it or one of its values has more than 65,535 octets, or want of memory.
 #[derive(Debug, Drop)]
 pub enum WriteTlv {
     TooLong,

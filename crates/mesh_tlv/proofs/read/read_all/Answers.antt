@@ -4,7 +4,8 @@ use Rattle.std.proofs.lemmas.List.{map_push}
 use Rattle.std.proofs.lemmas.Bool.{eq-eqb}
 use native.Mathlib.Nat.{sub-zero}
 use Rattle.mesh_tlv.specs.Fields.{fields}
-use Rattle.mesh_tlv.specs.Reading.{tlv_at, items_at}
+use Rattle.mesh_tlv.specs.Items.{items_at}
+use Rattle.mesh_tlv.specs.Reading.{tlv_at}
 use Rattle.mesh_tlv.proofs.Loop.{none_before, goes_on, ends, is_done, is_at_end}
 use Rattle.mesh_tlv.proofs.read.read_all.Goals as goal
 use Rattle.mesh_tlv.proofs.read.read_all.Goals.{else-loop-test, then-loop-test+then-place-end}

@@ -1,6 +1,7 @@
 use Rattle.std.proofs.Common.{◌≡◌, ◌-◌, ◌≤◌, map}
 use Rattle.mesh_tlv.specs.Fields.{fields}
-use Rattle.mesh_tlv.specs.Reading.{tlv_at, items_at}
+use Rattle.mesh_tlv.specs.Items.{items_at}
+use Rattle.mesh_tlv.specs.Reading.{tlv_at}
 use Rattle.mesh_tlv.proofs.Loop.{with_front}
 use Rattle.mesh_tlv.proofs.read.read_all.Given as goal
 

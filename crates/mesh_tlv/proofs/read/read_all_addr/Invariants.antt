@@ -1,11 +1,12 @@
 use Rattle.std.proofs.Common.{◌≡◌, ◌-◌, ◌≤◌, map}
 use Rattle.mesh_tlv.specs.Fields.{addr_fields}
-use Rattle.mesh_tlv.specs.Reading.{tlv_of_at, items_at}
+use Rattle.mesh_tlv.specs.Items.{items_at}
+use Rattle.mesh_tlv.specs.Reading.{addr_tlv_at}
 use Rattle.mesh_tlv.proofs.Loop.{with_front}
 use Rattle.mesh_tlv.proofs.read.read_all_addr.Given as goal
 
 abbrev pub invariant-loop : goal.invariant-loop
 invariant-loop l = record {
-  reads : with_front (map addr_fields l.tlvs) (items_at (tlv_of_at 0 l.fn.count l.frame) ((l.fn.end - l.fn.at) - l.counter) l.place l.fn.end) ≡ items_at (tlv_of_at 0 l.fn.count l.frame) (l.fn.end - l.fn.at) l.fn.at l.fn.end;
+  reads : with_front (map addr_fields l.tlvs) (items_at (addr_tlv_at l.fn.count l.frame) ((l.fn.end - l.fn.at) - l.counter) l.place l.fn.end) ≡ items_at (addr_tlv_at l.fn.count l.frame) (l.fn.end - l.fn.at) l.fn.at l.fn.end;
   within : l.place ≤ l.fn.end;
 }

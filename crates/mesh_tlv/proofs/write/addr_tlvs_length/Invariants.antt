@@ -2,7 +2,7 @@ use Rattle.std.proofs.Common.{◌≡◌, ◌≤◌, length, map, take}
 use Rattle.std.specs.List.{flat_map}
 use Rattle.mesh_tlv.specs.Fields.{addr_fields}
 use Rattle.mesh_tlv.specs.Least.{least_addr_tlv}
-use Rattle.mesh_tlv.proofs.write.addr_len.Given as goal
+use Rattle.mesh_tlv.proofs.write.addr_tlvs_length.Given as goal
 
 abbrev pub invariant-loop-tlv : goal.invariant-loop-tlv
 invariant-loop-tlv l = record {
