@@ -1,0 +1,10 @@
+pub mod Padding
+pub mod Loops
+pub mod Laws
+pub mod Back
+pub mod Told
+pub mod Choosing
+pub mod Fewest
+pub mod Outcomes
+pub mod Faults
+pub mod Raw

@@ -1,0 +1,78 @@
+-- Reading one after the other, as a loop does.
+use Rattle.std.proofs.Common.{◌≡◌, ℕ, suc, ◌+◌, ◌-◌, ◌*◌, ◌≤◌, ◌<◌, List, [], ◌∷◌, ◌++◌, Result, Ok, Err, refl, sym, ap, ◌∙◌, append_assoc, arith}
+use Rattle.std.specs.Prelude.{slice_range}
+use Rattle.std.proofs.lemmas.List.{append-nil}
+use Rattle.std.proofs.lemmas.Bool.{lt-ltb, le-ltb}
+use Rattle.std.proofs.Math.Nat.{mul-le-mul_right, suc-mul}
+use Rattle.mesh_atoms.specs.declared.refusal.Refusal.{Refusal}
+use Rattle.mesh_atoms.specs.Reading.{◌>>=◌, refuse}
+use Rattle.mesh_addr.specs.declared.records.RawAddr.{RawAddr}
+use Rattle.mesh_addr.specs.Reading.{Shape, mid_of, addr_of, parts_end, own_at, addrs_at}
+
+-- the next of so many parts ends before all end
+pub part_within : (i n size : ℕ) → i < n → i * size + size ≤ n * size
+part_within i n size lt =
+    let e : suc i * size ≡ i * size + size = suc-mul i size in
+    let le : suc i * size ≤ n * size = mul-le-mul_right size lt in
+    omega (arith, e, le)
+
+pub next_part : (i size : ℕ) → (i + 1) * size ≡ i * size + size
+next_part i size = let e : i + 1 ≡ suc i = omega arith in rw e (suc-mul i size)
+
+module _ (limit i place end size : ℕ) (total : Result ℕ Refusal) (lt : i < limit) (so_far : parts_end (limit - i) place end size ≡ total) where
+  pub part_short : end - place < size → refuse place 1 ≡ total
+  unfolding parts_end
+  part_short short =
+      let k : limit - i ≡ suc (limit - (i + 1)) = omega arith in
+      let one : parts_end (limit - i) place end size ≡ refuse place 1 = rw (k, lt-ltb (end - place) size short) refl in
+      sym one ∙ so_far
+
+  pub part_passed : size ≤ end - place → parts_end (limit - (i + 1)) (place + size) end size ≡ total
+  unfolding parts_end
+  part_passed fits =
+      let k : limit - i ≡ suc (limit - (i + 1)) = omega arith in
+      let one : parts_end (limit - i) place end size ≡ parts_end (limit - (i + 1)) (place + size) end size = rw (k, le-ltb (end - place) size fits) refl in
+      sym one ∙ so_far
+
+pub parts_done : (limit i place end size : ℕ) (total : Result ℕ Refusal) → limit ≤ i → parts_end (limit - i) place end size ≡ total → Ok place ≡ total
+unfolding parts_end
+parts_done limit i place end size total le so_far =
+    let k : limit - i ≡ 0 = omega arith in
+    let one : parts_end (limit - i) place end size ≡ Ok place = rw k refl in
+    sym one ∙ so_far
+
+-- what was read before, and what is still read
+abbrev pub with_front : List RawAddr → Result (List RawAddr × ℕ) Refusal → Result (List RawAddr × ℕ) Refusal
+with_front front read = read >>= λ x. Ok (front ++ x.0, x.1)
+
+pub none_before : (read : Result (List RawAddr × ℕ) Refusal) → with_front [] read ≡ read
+none_before (Ok x) = refl
+none_before (Err f) = refl
+
+regroup : (front : List RawAddr) (a : RawAddr) (read : Result (List RawAddr × ℕ) Refusal) → with_front front (read >>= λ x. Ok (a ∷ x.0, x.1)) ≡ with_front (front ++ a ∷ []) read
+regroup front a (Ok x) = ap (λ (l : List RawAddr). Ok (l, x.1)) (simp append_assoc)
+regroup front a (Err f) = refl
+
+module _ (frame : List ℕ) (shape : Shape) (front : List RawAddr) (limit i mid at end : ℕ) (total : Result (List RawAddr × ℕ) Refusal) (so_far : with_front front (addrs_at (limit - i) frame shape mid at end) ≡ total) where
+  pub goes_on : i < limit → (prefix after : ℕ) → own_at frame shape.prefix at end shape.width ≡ Ok (prefix, after) → with_front (front ++ addr_of shape (slice_range frame mid (mid + mid_of shape)) prefix ∷ []) (addrs_at (limit - (i + 1)) frame shape (mid + mid_of shape) after end) ≡ total
+  unfolding addrs_at
+  goes_on lt prefix after h =
+      let k : limit - i ≡ suc (limit - (i + 1)) = omega arith in
+      let a = addr_of shape (slice_range frame mid (mid + mid_of shape)) prefix in
+      let rest = addrs_at (limit - (i + 1)) frame shape (mid + mid_of shape) after end in
+      let one : with_front front (addrs_at (limit - i) frame shape mid at end) ≡ with_front (front ++ a ∷ []) rest = rw (k, h) (regroup front a rest) in
+      sym one ∙ so_far
+
+  pub ends : i < limit → (e : Refusal) → own_at frame shape.prefix at end shape.width ≡ Err e → total ≡ Err e
+  unfolding addrs_at
+  ends lt e h =
+      let k : limit - i ≡ suc (limit - (i + 1)) = omega arith in
+      let one : with_front front (addrs_at (limit - i) frame shape mid at end) ≡ Err e = rw (k, h) refl in
+      sym so_far ∙ one
+
+  pub is_done : limit ≤ i → total ≡ Ok (front, at)
+  unfolding addrs_at
+  is_done le =
+      let k : limit - i ≡ 0 = omega arith in
+      let one : with_front front (addrs_at (limit - i) frame shape mid at end) ≡ Ok (front, at) = rw k (ap (λ (l : List RawAddr). Ok (l, at)) (append-nil front)) in
+      sym so_far ∙ one

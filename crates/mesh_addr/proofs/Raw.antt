@@ -1,0 +1,40 @@
+-- What is read meets the writer's conditions.
+use Rattle.std.proofs.Common.{◌≡◌, ℕ, ◌+◌, ◌-◌, ◌*◌, ◌<◌, ◌≤◌, Bool, true, false, List, [], ◌∷◌, ◌++◌, length, get_or, take, drop, Result, Ok, Err, sym, ap, ◌∙◌, arith, length-append}
+use Rattle.std.specs.Prelude.{IfOk, slice_range, replicate}
+use Rattle.std.proofs.lemmas.List.{take_at, length-take}
+use Rattle.std.proofs.lemmas.List.Edits.{get_or-between}
+use Rattle.mesh_addr.specs.declared.records.RawAddr.{RawAddr}
+use Rattle.mesh_addr.specs.Grammar.{padded, SpellsMids, SpellsPrefixes, AreAll, AreAtMost, AreRaw, prefixes, SpellsBlock}
+use Rattle.mesh_addr.proofs.Back.{first_all}
+
+pub if_ok : {X E : Type 0} (r : Result X E) (P Q : X → Type 0) → ((x : X) → P x → Q x) → IfOk r P → IfOk r Q
+if_ok (Ok x) P Q f h = f x h
+if_ok (Err e) P Q f h = tt
+
+all_most : (p most : ℕ) (ps : List ℕ) → p ≤ most → AreAll p ps → AreAtMost most ps
+all_most p most [] le h = tt
+all_most p most (q ∷ ps) le h = let all = first_all p q ps h in (rw all.0 le, all_most p most ps le all.1)
+
+prefixes_most : (one each : Bool) (most : ℕ) (ps text : List ℕ) → SpellsPrefixes one each most ps text → AreAtMost most ps
+prefixes_most false false most ps text h = all_most most most ps (omega arith) h.0
+prefixes_most true false most ps text h = all_most h.0 most ps h.1 h.2
+prefixes_most false true most ps text h = h.0
+prefixes_most true true most ps text h = absurd h
+
+raw_so : (w : ℕ) (head tail : List ℕ) → length head + length tail ≤ w → (addrs : List RawAddr) (text : List ℕ) → SpellsMids head tail (w - (length head + length tail)) addrs text → AreAtMost (8 * w) (prefixes addrs) → AreRaw w addrs
+raw_so w head tail fits [] text h k = tt
+raw_so w head tail fits (a ∷ addrs) text h k =
+    let whole : List ℕ = head ++ (h.0 ++ tail) in
+    let long : length whole ≡ w = length-append head (h.0 ++ tail) ∙ omega (arith, length-append h.0 tail, h.2) in
+    let first : take w a.octets ≡ whole = ap (take w) h.3 ∙ take_at whole (replicate (16 - length whole) 0) w long in
+    (h.3 ∙ ap padded (sym first), k.0, raw_so w head tail fits addrs h.1 h.4 k.1)
+
+-- addresses that a list of octets spells can be written
+pub spelled_raw : (s : List ℕ) → ((i : ℕ) → get_or s i 0 < 256) → (at after w : ℕ) (addrs : List RawAddr) → SpellsBlock w addrs (slice_range s at after) → AreRaw w addrs × (0 < length addrs) × (length addrs ≤ 255)
+spelled_raw s fits at after w addrs h =
+    let more : List ℕ = h.flags ∷ (h.head_text ++ (h.tail_text ++ (h.mids_text ++ h.prefixes_text))) in
+    let first : get_or (slice_range s at after) 0 0 ≡ length addrs = ap (λ (l : List ℕ). get_or l 0 0) h.whole in
+    let room : at + 0 < after = omega (arith, length-take (after - at) (drop at s), ap length h.whole) in
+    let there : get_or (slice_range s at after) 0 0 ≡ get_or s (at + 0) 0 = get_or-between s at after 0 0 room in
+    let small : get_or s (at + 0) 0 < 256 = fits (at + 0) in
+    (raw_so w h.head h.tail h.fits addrs h.mids_text h.mids_is (prefixes_most _ _ _ _ _ h.prefixes_is), h.some, omega (arith, first, there, small))

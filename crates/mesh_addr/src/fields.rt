@@ -1,0 +1,230 @@
+//! The fields of an address block, in the order in which they stand.
+ghost use Rattle.std.specs.Prelude.{◌≡◌, ◌≤◌, ◌<◌, ◌+◌, ◌*◌, length, replicate, IfOk};
+ghost use Rattle.mesh_atoms.specs.Reading.{Reads, octet_at};
+ghost use Rattle.mesh_addr.specs.Reading.{clashes, count_at, flags_at, number_at, counted_at, head_at, tail_at, parts_end, prefix_at, common_at, own_at};
+
+use crate::flags::{EACH_PREFIX, FULL_TAIL, HEAD, ONE_PREFIX, ZERO_TAIL};
+use mesh_atoms::Refusal;
+
+pub fn octet(frame: &[u8], at: usize, end: usize) -> Result<(u8, usize), Refusal>
+    requires { end ≤ length frame.now }
+    ensures exact { result ≡ octet_at 1 frame.now at end }
+    ensures after { IfOk result (λ x. (x.1 ≤ end) × (at < x.1)) }
+{
+    if at < end {
+        Ok((frame[at], at + 1))
+    } else {
+        Err(Refusal {
+            place: at,
+            reason: 1,
+        })
+    }
+}
+
+#[tactic(auto, unfolding(crate::specs::Reading::count_at))]
+pub fn count(frame: &[u8], at: usize, end: usize) -> Result<(u8, usize), Refusal>
+    requires { end ≤ length frame.now }
+    ensures exact { result ≡ count_at frame.now at end }
+    ensures after { IfOk result (λ x. (x.1 ≤ end) × (at < x.1)) }
+{
+    let (count, after) = octet(frame, at, end)?;
+    if count == 0 {
+        Err(Refusal {
+            place: at,
+            reason: 8,
+        })
+    } else {
+        Ok((count, after))
+    }
+}
+
+pub fn has_clash(flags: u8) -> bool
+    ensures { result ≡ clashes flags }
+{
+    flags & FULL_TAIL != 0 && flags & ZERO_TAIL != 0
+        || flags & ONE_PREFIX != 0 && flags & EACH_PREFIX != 0
+}
+
+#[tactic(auto, unfolding(crate::specs::Reading::flags_at))]
+pub fn flags(frame: &[u8], at: usize, end: usize) -> Result<(u8, usize), Refusal>
+    requires { end ≤ length frame.now }
+    ensures exact { result ≡ flags_at frame.now at end }
+    ensures after { IfOk result (λ x. (x.1 ≤ end) × (at < x.1)) }
+{
+    let (flags, after) = octet(frame, at, end)?;
+    if has_clash(flags) {
+        Err(Refusal {
+            place: at,
+            reason: 9,
+        })
+    } else {
+        Ok((flags, after))
+    }
+}
+
+#[tactic(auto, unfolding(crate::specs::Reading::number_at))]
+pub fn number(frame: &[u8], at: usize, end: usize, room: usize) -> Result<(usize, usize), Refusal>
+    requires { end ≤ length frame.now }
+    ensures exact { result ≡ number_at frame.now at end room }
+    ensures after { IfOk result (λ x. (x.1 ≤ end) × (x.0 ≤ room) × (at < x.1)) }
+{
+    let (len, after) = octet(frame, at, end)?;
+    let len = len as usize;
+    if room < len {
+        Err(Refusal {
+            place: at,
+            reason: 10,
+        })
+    } else {
+        Ok((len, after))
+    }
+}
+
+#[tactic(auto, unfolding(crate::specs::Reading::counted_at))]
+pub fn counted_octets<'a>(
+    frame: &'a [u8],
+    at: usize,
+    end: usize,
+    room: usize,
+) -> Result<(&'a [u8], usize), Refusal>
+    requires { end ≤ length frame.now }
+    ensures exact { Reads (λ x. (x.0.now, x.1)) result (counted_at frame.now at end room) }
+    ensures after { IfOk result (λ x. (x.1 ≤ end) × (length x.0.now ≤ room)) }
+{
+    let (len, after) = number(frame, at, end, room)?;
+    if end - after < len {
+        return Err(Refusal {
+            place: after,
+            reason: 1,
+        });
+    }
+    let piece = &frame[after..after + len];
+    Ok((piece, after + len))
+}
+
+#[tactic(auto, unfolding(crate::specs::Reading::head_at))]
+pub fn head<'a>(
+    frame: &'a [u8],
+    flags: u8,
+    at: usize,
+    end: usize,
+    width: usize,
+) -> Result<(&'a [u8], usize), Refusal>
+    requires end { end ≤ length frame.now }
+    requires at { at ≤ end }
+    ensures exact { Reads (λ x. (x.0.now, x.1)) result (head_at frame.now flags at end width) }
+    ensures after { IfOk result (λ x. (x.1 ≤ end) × (length x.0.now ≤ width)) }
+{
+    if flags & HEAD != 0 {
+        let (head, after) = counted_octets(frame, at, end, width)?;
+        Ok((head, after))
+    } else {
+        Ok((&frame[..0], at))
+    }
+}
+
+#[tactic(auto, unfolding(crate::specs::Reading::tail_at))]
+pub fn tail<'a>(
+    frame: &'a [u8],
+    zeros: &'a [u8],
+    flags: u8,
+    at: usize,
+    end: usize,
+    room: usize,
+) -> Result<(&'a [u8], usize), Refusal>
+    requires end { end ≤ length frame.now }
+    requires at { at ≤ end }
+    requires zeros { zeros.now ≡ replicate 16 0 }
+    requires room { room ≤ 16 }
+    ensures exact { Reads (λ x. (x.0.now, x.1)) result (tail_at frame.now flags at end room) }
+    ensures after { IfOk result (λ x. (x.1 ≤ end) × (length x.0.now ≤ room)) }
+{
+    if flags & FULL_TAIL != 0 {
+        let (tail, after) = counted_octets(frame, at, end, room)?;
+        return Ok((tail, after));
+    }
+    if flags & ZERO_TAIL != 0 {
+        let (len, after) = number(frame, at, end, room)?;
+        return Ok((&zeros[..len], after));
+    }
+    Ok((&zeros[..0], at))
+}
+
+/// The place after so many parts of that size.
+pub fn after_parts(count: u8, at: usize, end: usize, size: usize) -> Result<usize, Refusal>
+    requires { at ≤ end }
+    ensures exact { result ≡ parts_end count at end size }
+    ensures after { IfOk result (λ after. (after ≡ at + count * size) × (after ≤ end)) }
+{
+    let mut place = at;
+    for _ in 0..count {
+        if end - place < size {
+            return Err(Refusal { place, reason: 1 });
+        }
+        place += size;
+    }
+    Ok(place)
+}
+
+#[tactic(auto, unfolding(crate::specs::Reading::prefix_at))]
+pub fn prefix_length(frame: &[u8], at: usize, end: usize, width: u8) -> Result<(u8, usize), Refusal>
+    requires end { end ≤ length frame.now }
+    requires width { width ≤ 16 }
+    ensures exact { result ≡ prefix_at frame.now at end width }
+    ensures after { IfOk result (λ x. (x.1 ≤ end) × (at < x.1)) }
+{
+    let (prefix, after) = octet(frame, at, end)?;
+    if 8 * width < prefix {
+        Err(Refusal {
+            place: at,
+            reason: 11,
+        })
+    } else {
+        Ok((prefix, after))
+    }
+}
+
+/// The prefix length of all, where there is one.
+#[tactic(auto, unfolding(crate::specs::Reading::common_at))]
+pub fn common_prefix(
+    frame: &[u8],
+    flags: u8,
+    at: usize,
+    end: usize,
+    width: u8,
+) -> Result<(Option<u8>, usize), Refusal>
+    requires end { end ≤ length frame.now }
+    requires at { at ≤ end }
+    requires width { width ≤ 16 }
+    ensures exact { result ≡ common_at frame.now flags at end width }
+    ensures after { IfOk result (λ x. x.1 ≤ end) }
+{
+    if flags & ONE_PREFIX != 0 {
+        let (prefix, after) = prefix_length(frame, at, end, width)?;
+        return Ok((Some(prefix), after));
+    }
+    if flags & EACH_PREFIX != 0 {
+        return Ok((None, at));
+    }
+    Ok((Some(8 * width), at))
+}
+
+/// The next prefix length, where each has its own.
+pub fn own_prefix(
+    frame: &[u8],
+    prefix: Option<u8>,
+    at: usize,
+    end: usize,
+    width: u8,
+) -> Result<(u8, usize), Refusal>
+    requires end { end ≤ length frame.now }
+    requires at { at ≤ end }
+    requires width { width ≤ 16 }
+    ensures exact { result ≡ own_at frame.now prefix at end width }
+    ensures after { IfOk result (λ x. x.1 ≤ end) }
+{
+    match prefix {
+        Some(prefix) => Ok((prefix, at)),
+        None => prefix_length(frame, at, end, width),
+    }
+}

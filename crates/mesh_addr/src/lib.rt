@@ -1,0 +1,13 @@
+//! Address blocks of RFC 5444: read exactly, with the first fault of what is malformed, and written in the fewest octets.
+#![tactic(auto)]
+
+mod choices;
+mod fields;
+mod flags;
+mod reader;
+mod records;
+mod writer;
+
+pub use reader::read_block;
+pub use records::{AddrBlock, RawAddr, ReadBlock};
+pub use writer::write_least;

@@ -1,0 +1,156 @@
+//! Reading an address block.
+ghost use Rattle.std.specs.Prelude.{◌≡◌, slice_range, ◌≤◌, ◌<◌, ◌+◌, ◌-◌, ◌*◌, ◌++◌, length, IfOk, List, ℕ};
+ghost use Rattle.mesh_addr.specs.Grammar.{padded, AreRaw, SpellsBlock, BlockFault};
+ghost use Rattle.mesh_addr.specs.Reading.{Gives, GivesOnly, IfRefused, RefusesOnly, addrs_at, block_at, mid_of};
+ghost use Rattle.mesh_addr.specs.Shown.{shape_of};
+ghost use Rattle.mesh_addr.specs.declared.records.RawAddr.{RawAddr};
+
+use crate::fields;
+use crate::records::{AddrBlock, RawAddr, ReadBlock};
+use mesh_atoms::Seq;
+use std::alloc::Global;
+
+/// What is known of a block before its middle parts are read.
+#[derive(Clone, Copy)]
+struct Shape<'a> {
+    width: u8,
+    head: &'a [u8],
+    tail: &'a [u8],
+    prefix: Option<u8>,
+}
+
+/// Puts a piece where the zeros begin.
+fn put_octets(octets: &mut [u8; 16], at: usize, piece: &[u8])
+    requires { at + length piece.now ≤ 16 }
+    ensures { (front : List ℕ) → at ≡ length front → octets.old ≡ padded front → octets.new ≡ padded (front ++ piece.now) }
+{
+    octets[at..at + piece.len()].copy_from_slice(piece);
+}
+
+fn joined_octets(head: &[u8], mid: &[u8], tail: &[u8]) -> [u8; 16]
+    requires { length head.now + (length mid.now + length tail.now) ≤ 16 }
+    ensures { result ≡ padded (head.now ++ (mid.now ++ tail.now)) }
+{
+    let mut octets = [0; 16];
+    put_octets(&mut octets, 0, head);
+    put_octets(&mut octets, head.len(), mid);
+    put_octets(&mut octets, head.len() + mid.len(), tail);
+    octets
+}
+
+/// So many addresses: middle parts from `mids` on, and prefix lengths from `at` on.
+fn addresses(
+    alloc: Global,
+    frame: &[u8],
+    shape: &Shape,
+    count: u8,
+    mids: usize,
+    at: usize,
+    end: usize,
+) -> Result<(Seq<RawAddr>, usize), ReadBlock>
+    requires end { end ≤ length frame.now }
+    requires at { at ≤ end }
+    requires width { shape.now.width ≤ 16 }
+    requires fits { length shape.now.head.now + length shape.now.tail.now ≤ shape.now.width }
+    requires mids { mids + count * mid_of (shape_of shape.now) ≤ end }
+    ensures { Gives (λ x. (x.0, x.1)) result (addrs_at count frame.now (shape_of shape.now) mids at end) }
+{
+    let mut addrs = Seq::new(alloc);
+    let size = shape.width as usize - (shape.head.len() + shape.tail.len());
+    let mut mid = mids;
+    let mut place = at;
+    for _ in 0..count {
+        let (prefix, after) = fields::own_prefix(frame, shape.prefix, place, end, shape.width)?;
+        let octets = joined_octets(shape.head, &frame[mid..mid + size], shape.tail);
+        addrs.push(RawAddr { octets, prefix })?;
+        mid += size;
+        place = after;
+    }
+    Ok((addrs, place))
+}
+
+#[tactic(auto, unfolding(crate::specs::Reading::block_at))]
+fn addresses_of_block(
+    alloc: Global,
+    frame: &[u8],
+    at: usize,
+    end: usize,
+    width: u8,
+) -> Result<(Seq<RawAddr>, usize), ReadBlock>
+    requires end { end ≤ length frame.now }
+    requires width { width ≤ 16 }
+    ensures { Gives (λ x. (x.0, x.1)) result (block_at frame.now at end width) }
+{
+    let zeros = [0; 16];
+    let (count, after) = fields::count(frame, at, end)?;
+    let (flags, after) = fields::flags(frame, after, end)?;
+    let (head, after) = fields::head(frame, flags, after, end, width as usize)?;
+    let (tail, mids) = fields::tail(
+        frame,
+        &zeros,
+        flags,
+        after,
+        end,
+        width as usize - head.len(),
+    )?;
+    let size = width as usize - (head.len() + tail.len());
+    let after = fields::after_parts(count, mids, end, size)?;
+    let (prefix, after) = fields::common_prefix(frame, flags, after, end, width)?;
+    let shape = Shape {
+        width,
+        head,
+        tail,
+        prefix,
+    };
+    addresses(alloc, frame, &shape, count, mids, after, end)
+}
+
+fn read_addresses(
+    alloc: Global,
+    frame: &[u8],
+    at: usize,
+    end: usize,
+    width: u8,
+) -> Result<(Seq<RawAddr>, usize), ReadBlock>
+    requires at { at ≤ end }
+    requires end { end ≤ length frame.now }
+    requires width { width ≤ 16 }
+    ensures value { IfOk result (λ x. (x.1 ≤ end) × SpellsBlock width x.0 (slice_range frame.now at x.1)) }
+    ensures raw { IfOk result (λ x. AreRaw width x.0 × (0 < length x.0) × (length x.0 ≤ 255)) }
+    ensures only { (addrs : List RawAddr) (text rest : List ℕ) → SpellsBlock width addrs text → slice_range frame.now at end ≡ text ++ rest → GivesOnly {Y = List RawAddr × ℕ} (λ x. (x.0, x.1)) result (addrs, at + length text) }
+    ensures refused { IfRefused result (λ e. (at ≤ e.place) × BlockFault width (slice_range frame.now at end) (e.place - at) e.reason) }
+    ensures first { (place reason : ℕ) → BlockFault width (slice_range frame.now at end) place reason → RefusesOnly result (at + place) reason }
+    ensures exact { Gives (λ x. (x.0, x.1)) result (block_at frame.now at end width) }
+{
+    addresses_of_block(alloc, frame, at, end, width)
+}
+
+/// The block from `at` on, and the place after it.
+pub fn read_block(
+    alloc: Global,
+    frame: &[u8],
+    at: usize,
+    end: usize,
+    width: u8,
+) -> Result<(AddrBlock, usize), ReadBlock>
+    requires at { at < end }
+    requires end { end ≤ length frame.now }
+    requires some { 0 < width }
+    requires width { width ≤ 16 }
+    ensures width { IfOk result (λ x. x.0.width ≡ width) }
+    // What is read is spelled by the octets up to the place after it.
+    ensures value { IfOk result (λ x. (x.1 ≤ end) × SpellsBlock width x.0.addrs (slice_range frame.now at x.1)) }
+    // It can be written.
+    ensures raw { IfOk result (λ x. AreRaw width x.0.addrs × (0 < length x.0.addrs) × (length x.0.addrs ≤ 255)) }
+    // What is spelled at the beginning is read.
+    ensures only { (addrs : List RawAddr) (text rest : List ℕ) → SpellsBlock width addrs text → slice_range frame.now at end ≡ text ++ rest → GivesOnly {Y = List RawAddr × ℕ} (λ x. (x.0.addrs, x.1)) result (addrs, at + length text) }
+    // What is refused has its first fault at that place.
+    ensures refused { IfRefused result (λ e. (at ≤ e.place) × BlockFault width (slice_range frame.now at end) (e.place - at) e.reason) }
+    // What has a first fault is refused so.
+    ensures first { (place reason : ℕ) → BlockFault width (slice_range frame.now at end) place reason → RefusesOnly result (at + place) reason }
+    // Which of them it is.
+    ensures exact { Gives (λ x. (x.0.addrs, x.1)) result (block_at frame.now at end width) }
+{
+    let (addrs, after) = read_addresses(alloc, frame, at, end, width)?;
+    Ok((AddrBlock { width, addrs }, after))
+}
