@@ -1,48 +1,145 @@
--- The first of the cheapest choices, as a loop finds it.
-use Rattle.std.proofs.Common.{◌≡◌, ℕ, ◌+◌, ◌-◌, ◌<◌, ◌≤◌, Bool, true, false, cond, ltb, List, [], ◌∷◌, length, refl, sym, subst, arith}
-use Rattle.std.specs.Prelude.{◌&&◌}
-use Rattle.std.proofs.lemmas.Bool.{ltb-false, ltb-true, le-ltb}
-use borrow.Author.Count.{below_more}
-use Rattle.mesh_addr.specs.declared.records.RawAddr.{RawAddr}
-use Rattle.mesh_addr.specs.Least.{IsBest, possible, cost, better, all_agree}
+-- The best of the choices within the limits, as the search finds it.
+use Rattle.std.proofs.Common.{◌≡◌, ℕ, ◌+◌, ◌-◌, ◌*◌, ◌<◌, ◌≤◌, Bool, true, false, cond, ltb, refl, sym, ap, subst, ◌∙◌, arith}
+use Rattle.std.proofs.lemmas.Bool.{ltb-false, ltb-true}
+use Rattle.std.proofs.Math.Nat.{mul-add, mul-le-mul_right}
+use Rattle.mesh_addr.specs.declared.choices.Choice.{Choice}
+use Rattle.mesh_addr.specs.declared.choices.Limits.{Limits}
+use Rattle.mesh_addr.specs.declared.choices.TailForm.{TailForm}
+use Rattle.mesh_addr.specs.declared.choices.TailForm.TheVariants as tails
+use Rattle.mesh_addr.specs.Spelling.{tail_len, tail_rank, choice_rank, cost, weight, cheaper, IsWithin, IsBestOf, HasHead, HasHeadBelow}
 
-plain_agree : (w : ℕ) (first : RawAddr) (addrs : List RawAddr) → all_agree 0 (w - 0) w first addrs ≡ true
-plain_agree w first [] = refl
-plain_agree w first (a ∷ addrs) = let z : w - (w - 0) ≡ 0 = omega arith in rw z (plain_agree w first addrs)
+rank_most : (t : TailForm) → tail_rank t ≤ 2
+rank_most tails.Absent = omega arith
+rank_most (tails.Zeros n) = omega arith
+rank_most (tails.Full n) = omega arith
 
--- no head and no tail
-pub plain_is_best : (w : ℕ) (first : RawAddr) (addrs : List RawAddr) → IsBest w first addrs 1 0
-unfolding possible
-plain_is_best w first addrs = record {
-  is_possible = rw (le-ltb w 0 (omega arith)) (plain_agree w first addrs);
-  least = λ k lt p. let z : k ≡ 0 = omega arith in subst (λ (m : ℕ). cost w (length addrs) 0 ≤ cost w (length addrs) m) (sym z) (omega arith);
-  earliest = λ k lt p. absurd (omega arith);
-}
+-- a rank is less than one octet weighs
+pub rank_below : (w : ℕ) (choice : Choice) → w ≤ 16 → choice.head + tail_len choice.tail ≤ w → choice_rank choice < 867
+rank_below w choice small fits = omega (arith, rank_most choice.tail)
 
-step : (w : ℕ) (first : RawAddr) (addrs : List RawAddr) (k best : ℕ) (p q : Bool) → possible w first addrs k ≡ p → ltb (cost w (length addrs) k) (cost w (length addrs) best) ≡ q → IsBest w first addrs k best → IsBest w first addrs (k + 1) (cond (p && q) k best)
-step w first addrs k best true true is less h =
-    let lt : cost w (length addrs) k < cost w (length addrs) best = ltb-true _ _ less in record {
-      is_possible = is;
-      least = below_more (λ j. possible w first addrs j ≡ true → cost w (length addrs) k ≤ cost w (length addrs) j) k (λ j below e. omega (arith, h.least j below e)) (λ e. omega arith);
-      earliest = λ j below e. omega (arith, h.least j below e);
-    }
-step w first addrs k best true false is less h =
-    let le : cost w (length addrs) best ≤ cost w (length addrs) k = ltb-false _ _ less in record {
-      is_possible = h.is_possible;
-      least = below_more (λ j. possible w first addrs j ≡ true → cost w (length addrs) best ≤ cost w (length addrs) j) k h.least (λ e. le);
-      earliest = h.earliest;
-    }
-step w first addrs k best false q is less h = record {
-  is_possible = h.is_possible;
-  least = below_more (λ j. possible w first addrs j ≡ true → cost w (length addrs) best ≤ cost w (length addrs) j) k h.least (λ e. absurd (cc));
-  earliest = h.earliest;
-}
+-- of two choices in the order of preference the cheaper one weighs no more than either
+pub cheaper_least : (w count : ℕ) (a b : Choice) → w ≤ 16 → a.head + tail_len a.tail ≤ w → b.head + tail_len b.tail ≤ w → choice_rank a ≤ choice_rank b → (weight w count (cheaper w count a b) ≤ weight w count a) × (weight w count (cheaper w count a b) ≤ weight w count b)
+cheaper_least w count a b small fits fits' before = either (ltb (cost w count b) (cost w count a)) refl where
+  either : (q : Bool) → ltb (cost w count b) (cost w count a) ≡ q → (weight w count (cond q b a) ≤ weight w count a) × (weight w count (cond q b a) ≤ weight w count b)
+  either true e = let lt : cost w count b < cost w count a = ltb-true _ _ e in (omega (arith, lt, rank_most b.tail), omega arith)
+  either false e = let le : cost w count a ≤ cost w count b = ltb-false _ _ e in (omega arith, omega (arith, le, before))
 
-pub better_is_best : (w : ℕ) (first : RawAddr) (addrs : List RawAddr) (k best : ℕ) → IsBest w first addrs k best → IsBest w first addrs (k + 1) (better w first addrs best k)
-better_is_best w first addrs k best h = step w first addrs k best (possible w first addrs k) (ltb (cost w (length addrs) k) (cost w (length addrs) best)) refl refl h
+-- what holds of both holds of the cheaper one
+pub cheaper_either : (P : Choice → Type 0) (w count : ℕ) (a b : Choice) → P a → P b → P (cheaper w count a b)
+cheaper_either P w count a b h k = either (ltb (cost w count b) (cost w count a)) where
+  either : (q : Bool) → P (cond q b a)
+  either true = k
+  either false = h
 
-pub better_within : (w : ℕ) (first : RawAddr) (addrs : List RawAddr) (k best : ℕ) → k < 867 → best < 867 → better w first addrs best k < 867
-better_within w first addrs k best lt lt' = chosen (possible w first addrs k && ltb (cost w (length addrs) k) (cost w (length addrs) best)) where
-  chosen : (b : Bool) → cond b k best < 867
-  chosen true = lt
-  chosen false = lt'
+-- ---- the tails of one head
+
+module _ (w count head : ℕ) where
+  abbrev pub plain : Choice
+  plain = record { head = head; tail = tails.Absent }
+
+  abbrev pub with_zeros : ℕ → Choice
+  with_zeros n = record { head = head; tail = tails.Zeros n }
+
+  abbrev pub with_full : ℕ → Choice
+  with_full n = record { head = head; tail = tails.Full n }
+
+  -- middle parts that are longer by some octets
+  longer : (n m : ℕ) → n ≤ m → head + m ≤ w → count * (w - (head + n)) ≡ count * (w - (head + m)) + count * (m - n)
+  longer n m le fits =
+      let e : w - (head + n) ≡ (w - (head + m)) + (m - n) = omega arith in
+      ap (λ (k : ℕ). count * k) e ∙ mul-add count (w - (head + m)) (m - n)
+
+  -- so many octets of each address are no fewer than those of some
+  times : (some n : ℕ) → some ≤ count → some * n ≤ count * n
+  times some n le = mul-le-mul_right n le
+
+  -- more zeros weigh no more
+  zeros_lighter : (n m : ℕ) → 0 < count → n ≤ m → m ≤ 16 → head + m ≤ w → weight w count (with_zeros m) ≤ weight w count (with_zeros n)
+  unfolding cost
+  zeros_lighter n m some le small fits = omega (arith, longer n m le fits, times 1 (m - n) some)
+
+  -- a longer full tail weighs no more where there are two addresses
+  full_lighter : (n m : ℕ) → 1 < count → n ≤ m → m ≤ 16 → head + m ≤ w → weight w count (with_full m) ≤ weight w count (with_full n)
+  unfolding cost
+  full_lighter n m two le small fits = omega (arith, longer n m le fits, times 2 (m - n) two)
+
+  -- with one address no tail weighs less than a full one
+  plain_lighter : (n : ℕ) → count ≡ 1 → head + n ≤ w → weight w count plain ≤ weight w count (with_full n)
+  unfolding cost
+  plain_lighter n one fits =
+      let e : count * (n - 0) ≡ n = ap (λ (k : ℕ). k * (n - 0)) one ∙ omega arith in
+      omega (arith, longer 0 n (omega arith) fits, e)
+
+-- the best of three tails is the best of all
+module _ (w count head : ℕ) (limits : Limits) (zeros full : ℕ) (small : w ≤ 16) (some : 0 < count) (within : head ≤ limits.head) (fits : head ≤ w)
+  (zeros_low : zeros ≤ limits.zeros) (zeros_fit : head + zeros ≤ w) (zeros_most : (n : ℕ) → n ≤ limits.zeros → head + n ≤ w → n ≤ zeros)
+  (full_low : full ≤ limits.tail) (full_fit : head + full ≤ w) (full_most : (n : ℕ) → n ≤ limits.tail → head + n ≤ w → n ≤ full) where
+  abbrev one : Choice
+  one = plain w count head
+
+  abbrev two : Choice
+  two = with_zeros w count head zeros
+
+  abbrev three : Choice
+  three = with_full w count head full
+
+  abbrev first : Choice
+  first = cheaper w count one two
+
+  abbrev least : Choice
+  least = cheaper w count first three
+
+  abbrev IsOf : Choice → Type 0
+  IsOf c = HasHead w limits head c × (choice_rank c ≤ choice_rank three)
+
+  first_is : IsOf first
+  first_is = cheaper_either IsOf w count one two
+      ((refl, record { fits = omega arith; head = within; tail = tt }), omega arith)
+      ((refl, record { fits = zeros_fit; head = within; tail = zeros_low }), omega arith)
+
+  first_least : (weight w count first ≤ weight w count one) × (weight w count first ≤ weight w count two)
+  first_least = cheaper_least w count one two small (omega arith) zeros_fit (omega arith)
+
+  all_least : (weight w count least ≤ weight w count first) × (weight w count least ≤ weight w count three)
+  all_least = cheaper_least w count first three small first_is.0.1.fits full_fit first_is.1
+
+  least_tail : (t : TailForm) → IsWithin w limits (record { head = head; tail = t }) → weight w count least ≤ weight w count (record { head = head; tail = t })
+  least_tail tails.Absent h = omega (arith, all_least.0, first_least.0)
+  least_tail (tails.Zeros n) h =
+      let lighter = zeros_lighter w count head n zeros some (zeros_most n h.tail h.fits) (omega (arith, zeros_fit)) zeros_fit in
+      omega (arith, all_least.0, first_least.1, lighter)
+  least_tail (tails.Full n) h = either (ltb 1 count) refl where
+    either : (q : Bool) → ltb 1 count ≡ q → weight w count least ≤ weight w count (with_full w count head n)
+    either true e =
+        let lighter = full_lighter w count head n full (ltb-true _ _ e) (full_most n h.tail h.fits) (omega (arith, full_fit)) full_fit in
+        omega (arith, all_least.1, lighter)
+    either false e =
+        let le : count ≤ 1 = ltb-false _ _ e in
+        let lighter = plain_lighter w count head n (omega (arith, le, some)) h.fits in
+        omega (arith, all_least.0, first_least.0, lighter)
+
+  pub best_of_head : IsBestOf w count (HasHead w limits head) least
+  best_of_head = record {
+    among = cheaper_either (HasHead w limits head) w count first three first_is.0 (refl, record { fits = full_fit; head = within; tail = full_low });
+    least = λ other h. subst (λ (x : ℕ). IsWithin w limits (record { head = x; tail = other.tail }) → weight w count least ≤ weight w count (record { head = x; tail = other.tail })) (sym h.0) (least_tail other.tail) h.1;
+  }
+
+-- ---- one head after the other
+
+pub best_of_first : (w count : ℕ) (limits : Limits) (best : Choice) → IsBestOf w count (HasHead w limits 0) best → IsBestOf w count (HasHeadBelow w limits 1) best
+best_of_first w count limits best h = record { among = (omega (arith, h.among.0), h.among.1); least = λ other k. h.least other (omega (arith, k.0), k.1) }
+
+pub best_of_more : (w count head : ℕ) (limits : Limits) (a b : Choice) → w ≤ 16 → IsBestOf w count (HasHeadBelow w limits head) a → IsBestOf w count (HasHead w limits head) b → IsBestOf w count (HasHeadBelow w limits (head + 1)) (cheaper w count a b)
+best_of_more w count head limits a b small h k = record {
+  among = cheaper_either (HasHeadBelow w limits (head + 1)) w count a b (omega (arith, h.among.0), h.among.1) (omega (arith, k.among.0), k.among.1);
+  least = λ other o. either other o (ltb other.head head) refl;
+} where
+  lighter : (weight w count (cheaper w count a b) ≤ weight w count a) × (weight w count (cheaper w count a b) ≤ weight w count b)
+  lighter = cheaper_least w count a b small h.among.1.fits k.among.1.fits (omega (arith, h.among.0, h.among.1.fits, k.among.0, rank_most a.tail))
+
+  either : (other : Choice) → HasHeadBelow w limits (head + 1) other → (q : Bool) → ltb other.head head ≡ q → weight w count (cheaper w count a b) ≤ weight w count other
+  either other o true e = let lt : other.head < head = ltb-true _ _ e in omega (arith, lighter.0, h.least other (omega arith, o.1))
+  either other o false e = let le : head ≤ other.head = ltb-false _ _ e in omega (arith, lighter.1, k.least other (omega (arith, o.0, le), o.1))
+
+pub best_of_all : (w count : ℕ) (limits : Limits) (best : Choice) → IsBestOf w count (HasHeadBelow w limits (limits.head + 1)) best → IsBestOf w count (IsWithin w limits) best
+best_of_all w count limits best h = record { among = h.among.1; least = λ other k. h.least other (omega (arith, k.head), k) }

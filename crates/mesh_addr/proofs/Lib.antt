@@ -3,6 +3,7 @@ pub mod Loops
 pub mod Laws
 pub mod Back
 pub mod Told
+pub mod Limits
 pub mod Choosing
 pub mod Fewest
 pub mod Outcomes

@@ -4,7 +4,7 @@ use Rattle.std.specs.Prelude.{IfOk, slice_range, replicate}
 use Rattle.std.proofs.lemmas.List.{take_at, length-take}
 use Rattle.std.proofs.lemmas.List.Edits.{get_or-between}
 use Rattle.mesh_addr.specs.declared.records.RawAddr.{RawAddr}
-use Rattle.mesh_addr.specs.Grammar.{padded, SpellsMids, SpellsPrefixes, AreAll, AreAtMost, AreRaw, prefixes, SpellsBlock}
+use Rattle.mesh_addr.specs.Grammar.{padded, SpellsMids, SpellsPrefixes, AreAll, AreAtMost, AreRaw, IsWritable, prefixes, SpellsBlock}
 use Rattle.mesh_addr.proofs.Back.{first_all}
 
 pub if_ok : {X E : Type 0} (r : Result X E) (P Q : X → Type 0) → ((x : X) → P x → Q x) → IfOk r P → IfOk r Q
@@ -30,11 +30,17 @@ raw_so w head tail fits (a ∷ addrs) text h k =
     (h.3 ∙ ap padded (sym first), k.0, raw_so w head tail fits addrs h.1 h.4 k.1)
 
 -- addresses that a list of octets spells can be written
-pub spelled_raw : (s : List ℕ) → ((i : ℕ) → get_or s i 0 < 256) → (at after w : ℕ) (addrs : List RawAddr) → SpellsBlock w addrs (slice_range s at after) → AreRaw w addrs × (0 < length addrs) × (length addrs ≤ 255)
-spelled_raw s fits at after w addrs h =
+pub spelled_writable : (s : List ℕ) → ((i : ℕ) → get_or s i 0 < 256) → (at after w : ℕ) (addrs : List RawAddr) → 0 < w → w ≤ 16 → SpellsBlock w addrs (slice_range s at after) → IsWritable w addrs
+spelled_writable s fits at after w addrs wide narrow h =
     let more : List ℕ = h.flags ∷ (h.head_text ++ (h.tail_text ++ (h.mids_text ++ h.prefixes_text))) in
     let first : get_or (slice_range s at after) 0 0 ≡ length addrs = ap (λ (l : List ℕ). get_or l 0 0) h.whole in
     let room : at + 0 < after = omega (arith, length-take (after - at) (drop at s), ap length h.whole) in
     let there : get_or (slice_range s at after) 0 0 ≡ get_or s (at + 0) 0 = get_or-between s at after 0 0 room in
     let small : get_or s (at + 0) 0 < 256 = fits (at + 0) in
-    (raw_so w h.head h.tail h.fits addrs h.mids_text h.mids_is (prefixes_most _ _ _ _ _ h.prefixes_is), h.some, omega (arith, first, there, small))
+    record {
+      some = h.some;
+      counted = omega (arith, first, there, small);
+      wide = wide;
+      narrow = narrow;
+      raw = raw_so w h.head h.tail h.fits addrs h.mids_text h.mids_is (prefixes_most _ _ _ _ _ h.prefixes_is);
+    }

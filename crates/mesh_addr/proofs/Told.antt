@@ -19,17 +19,21 @@ IsRead width s at end x = (x.1 ≤ end) × SpellsBlock width x.0 (slice_range s 
 abbrev pub IsRefused : ℕ → List ℕ → ℕ → ℕ → Refusal → Type 0
 IsRefused width s at end e = (at ≤ e.place) × BlockFault width (slice_range s at end) (e.place - at) e.reason
 
-pub block_told : (width : ℕ) (s : List ℕ) (at end : ℕ) → at ≤ end → end ≤ length s → MatchResult (block_at s at end width) (IsRead width s at end) (IsRefused width s at end)
+block_told : (width : ℕ) (s : List ℕ) (at end : ℕ) → at ≤ end → end ≤ length s → MatchResult (block_at s at end width) (IsRead width s at end) (IsRefused width s at end)
 block_told width s at end le fits = meets_ok (block_at s at end width) (IsBlock width s at end) (IsRead width s at end) (IsFault width s at end) (IsRefused width s at end) (block_takes width s at end fits)
     (λ e h. let back : at + h.0 - at ≡ h.0 = omega arith in rw (h.3, back) (omega arith, h.2))
     (λ x h. let text : slice_range s at x.1 ≡ h.0 = subst (λ (n : ℕ). slice_range s at n ≡ h.0) (sym h.2.len) (front_is s at h.0 (slice_range s x.1 end) end (record { parts = h.2.parts; at_end = le; fits = fits })) in
     (h.2.within, rw text h.1))
 
 -- what holds of a reading holds of what a call gave
-pub given : {X Y : Type 0} (view : X → Y) (P : Y → Type 0) (Q : Refusal → Type 0) (r : Result X ReadBlock) (read : Result Y Refusal) → Gives view r read → MatchResult read P Q → IfOk r (λ x. P (view x)) × IfRefused r Q
+given : {X Y : Type 0} (view : X → Y) (P : Y → Type 0) (Q : Refusal → Type 0) (r : Result X ReadBlock) (read : Result Y Refusal) → Gives view r read → MatchResult read P Q → IfOk r (λ x. P (view x)) × IfRefused r Q
 given view P Q (Ok x) read h k = (rw h at k, tt)
 given view P Q (Err (errors.Memory e)) read h k = (tt, tt)
 given view P Q (Err (errors.Refused e)) read h k = (tt, rw h at k)
+
+-- what a call gave is spelled, or is the first fault
+pub spelled_or_refused : {X : Type 0} (view : X → List RawAddr × ℕ) (r : Result X ReadBlock) (s : List ℕ) (at end width : ℕ) → Gives view r (block_at s at end width) → at ≤ end → end ≤ length s → IfOk r (λ x. IsRead width s at end (view x)) × IfRefused r (IsRefused width s at end)
+spelled_or_refused view r s at end width gives le fits = given view (IsRead width s at end) (IsRefused width s at end) r (block_at s at end width) gives (block_told width s at end le fits)
 
 no_other : {X Y : Type 0} (view : X → Y) (r : Result X ReadBlock) (read : Result Y Refusal) (y : Y) → Gives view r read → read ≡ Ok y → GivesOnly view r y
 no_other view (Ok x) read y h e = cc

@@ -115,3 +115,11 @@ pub data BlockFault (width : ℕ) (s : List ℕ) : ℕ → ℕ → Type 0 where
 abbrev pub AreRaw : ℕ → List RawAddr → Type 0
 AreRaw width [] = Unit {0}
 AreRaw width (a ∷ addrs) = (a.octets ≡ padded (take width a.octets)) × (a.prefix ≤ 8 * width) × AreRaw width addrs
+
+-- A block that has a spelling: 1 to 255 addresses of 1 to 16 octets each.
+pub record IsWritable (width : ℕ) (addrs : List RawAddr) : Type 0 where
+  pub some : 0 < length addrs
+  pub counted : length addrs ≤ 255
+  pub wide : 0 < width
+  pub narrow : width ≤ 16
+  pub raw : AreRaw width addrs

@@ -1,129 +1,206 @@
-//! The choices of a spelling, and which of them takes the fewest octets.
-ghost use Rattle.std.specs.Prelude.{◌≡◌, ◌≤◌, ◌<◌, ◌+◌, length};
-ghost use Rattle.mesh_addr.specs.Least as least;
-ghost use Rattle.mesh_addr.specs.Least.{IsBest};
+//! The choices of a spelling: head, tail and the form of the prefix lengths (RFC 5444, section 5.3). The limits of head
+//! and tail are found first. Then each head within them is tried with three tails, since longer tails of one form are
+//! cheaper.
+ghost use Rattle.std.specs.Prelude.{◌≡◌, ◌≤◌, ◌<◌, ◌+◌, length, take};
+ghost use Rattle.mesh_addr.specs.Spelling as spelling;
+ghost use Rattle.mesh_addr.specs.Spelling.{tail_len, last_octets, ShareHead, ShareTail, EndsInZeros, IsLimit, AreLimits, IsWithin, IsBestOf, HasHead};
 
 use crate::records::RawAddr;
 
-/// Do both have the same first octets, and the same ones from `start` on?
-pub fn agree(a: &RawAddr, b: &RawAddr, head: usize, start: usize, width: usize) -> bool
-    requires head { head ≤ 16 }
-    requires start { start ≤ width }
-    requires width { width ≤ 16 }
-    ensures { result ≡ least.agree head start width a.now b.now }
-{
-    a.octets[..head] == b.octets[..head] && a.octets[start..width] == b.octets[start..width]
+/// How a tail is written, and its length in octets.
+#[derive(Clone, Copy)]
+pub enum TailForm {
+    Absent,
+    Zeros(usize),
+    Full(usize),
 }
 
-pub fn all_agree(
-    first: &RawAddr,
-    addrs: &[RawAddr],
-    head: usize,
-    start: usize,
-    width: usize,
-) -> bool
-    requires head { head ≤ 16 }
-    requires start { start ≤ width }
-    requires width { width ≤ 16 }
-    ensures { result ≡ least.all_agree head start width first.now addrs.now }
-{
-    match addrs {
-        [] => true,
-        [a, rest @ ..] => {
-            agree(first, a, head, start, width) && all_agree(first, rest, head, start, width)
+/// How prefix lengths are written: not at all where each is 8 times the width, one for all, or one for each.
+#[derive(Clone, Copy)]
+pub enum PrefixForm {
+    Absent,
+    One,
+    Each,
+}
+
+/// The length of a head, and the tail.
+#[derive(Clone, Copy)]
+pub struct Choice {
+    pub head: usize,
+    pub tail: TailForm,
+}
+
+/// How many octets all addresses begin with and end in, and how many of the last are zeros.
+#[derive(Clone, Copy)]
+pub struct Limits {
+    pub head: usize,
+    pub tail: usize,
+    pub zeros: usize,
+}
+
+impl TailForm {
+    /// How many octets of an address are in the tail.
+    pub fn len(self) -> usize
+        ensures { result ≡ tail_len self }
+    {
+        match self {
+            TailForm::Absent => 0,
+            TailForm::Zeros(len) => len,
+            TailForm::Full(len) => len,
         }
     }
 }
 
-pub fn zero_tail(tail: usize, width: usize, first: &RawAddr) -> bool
-    requires tail { tail ≤ width }
+/// How many octets, up to `most`, both begin with.
+fn shared_head(a: &RawAddr, b: &RawAddr, most: usize) -> usize
+    requires { most ≤ 16 }
+    ensures { IsLimit most (λ n. take n a.now.octets ≡ take n b.now.octets) result }
+{
+    let mut len = most;
+    while len > 0 && a.octets[..len] != b.octets[..len] {
+        len -= 1;
+    }
+    len
+}
+
+/// How many octets, up to `most`, both end in.
+fn shared_tail(a: &RawAddr, b: &RawAddr, width: usize, most: usize) -> usize
+    requires most { most ≤ width }
     requires width { width ≤ 16 }
-    ensures { result ≡ least.zero_tail tail width first.now }
+    ensures { IsLimit most (λ n. last_octets width n a.now ≡ last_octets width n b.now) result }
+{
+    let mut len = most;
+    while len > 0 && a.octets[width - len..width] != b.octets[width - len..width] {
+        len -= 1;
+    }
+    len
+}
+
+/// How many of the last octets, up to `most`, are zeros.
+fn zero_tail(first: &RawAddr, width: usize, most: usize) -> usize
+    requires most { most ≤ width }
+    requires width { width ≤ 16 }
+    ensures { IsLimit most (EndsInZeros width first.now) result }
 {
     let zeros = [0; 16];
-    first.octets[width - tail..width] == zeros[..tail]
+    let mut len = most;
+    while len > 0 && first.octets[width - len..width] != zeros[..len] {
+        len -= 1;
+    }
+    len
 }
 
-/// Is a tail that isn't there empty, and one of zeros of zeros?
-pub fn kind_fits(kind: usize, tail: usize, width: usize, first: &RawAddr) -> bool
-    requires tail { tail ≤ width }
-    requires width { width ≤ 16 }
-    ensures { result ≡ least.kind_fits kind tail width first.now }
-{
-    if kind == 0 {
-        return tail == 0;
-    }
-    if kind == 1 {
-        return zero_tail(tail, width, first);
-    }
-    true
-}
-
-#[tactic(auto, unfolding(crate::specs::Least::possible))]
-pub fn possible(width: usize, first: &RawAddr, addrs: &[RawAddr], k: usize) -> bool
+fn common_head(first: &RawAddr, addrs: &[RawAddr], width: usize) -> usize
     requires { width ≤ 16 }
-    ensures { result ≡ least.possible width first.now addrs.now k }
+    ensures { IsLimit width (ShareHead first.now addrs.now) result }
 {
-    let head = k / 51;
-    let tail = k % 17;
-    if width < head + tail {
-        return false;
+    match addrs {
+        [] => width,
+        [a, rest @ ..] => shared_head(first, a, common_head(first, rest, width)),
     }
-    kind_fits(k % 51 / 17, tail, width, first) && all_agree(first, addrs, head, width - tail, width)
 }
 
-#[tactic(auto, unfolding(crate::specs::Least::cost))]
-pub fn cost(width: usize, count: usize, k: usize) -> usize
+fn common_tail(first: &RawAddr, addrs: &[RawAddr], width: usize) -> usize
+    requires { width ≤ 16 }
+    ensures { IsLimit width (ShareTail width first.now addrs.now) result }
+{
+    match addrs {
+        [] => width,
+        [a, rest @ ..] => shared_tail(first, a, width, common_tail(first, rest, width)),
+    }
+}
+
+/// How far head, tail and zeros of the addresses can reach.
+pub fn limits_of(width: usize, first: &RawAddr, addrs: &[RawAddr]) -> Limits
+    requires { width ≤ 16 }
+    ensures { AreLimits width first.now addrs.now result }
+{
+    let tail = common_tail(first, addrs, width);
+    Limits {
+        head: common_head(first, addrs, width),
+        tail,
+        zeros: zero_tail(first, width, tail),
+    }
+}
+
+/// How many octets head, tail and middle parts take.
+#[tactic(auto, unfolding(crate::specs::Spelling::cost))]
+fn cost(width: usize, count: usize, choice: Choice) -> usize
+    requires width { width ≤ 16 }
     requires count { count ≤ 255 }
-    requires width { width ≤ 16 }
-    requires k { k < 867 }
-    ensures { result ≡ least.cost width count k }
+    requires fits { choice.head + tail_len choice.tail ≤ width }
+    ensures { result ≡ spelling.cost width count choice }
 {
-    let head = k / 51;
-    let kind = k % 51 / 17;
-    let tail = k % 17;
-    let head_cost = if head == 0 { 0 } else { 1 + head };
-    let tail_cost = match kind {
-        0 => 0,
-        1 => 1,
-        _ => 1 + tail,
+    let head = if choice.head == 0 {
+        0
+    } else {
+        1 + choice.head
     };
-    head_cost + tail_cost + count * width.saturating_sub(head + tail)
+    let tail = match choice.tail {
+        TailForm::Absent => 0,
+        TailForm::Zeros(_) => 1,
+        TailForm::Full(len) => 1 + len,
+    };
+    head + tail + count * (width - (choice.head + choice.tail.len()))
 }
 
-pub fn better(width: usize, first: &RawAddr, addrs: &[RawAddr], best: usize, k: usize) -> usize
-    requires count { length addrs.now ≤ 255 }
+/// The cheaper one, or the first of two that cost the same.
+fn cheaper(width: usize, count: usize, a: Choice, b: Choice) -> Choice
     requires width { width ≤ 16 }
-    requires best { best < 867 }
-    requires k { k < 867 }
-    ensures { result ≡ least.better width first.now addrs.now best k }
+    requires count { count ≤ 255 }
+    requires fits_a { a.head + tail_len a.tail ≤ width }
+    requires fits_b { b.head + tail_len b.tail ≤ width }
+    ensures { result ≡ spelling.cheaper width count a b }
 {
-    if possible(width, first, addrs, k)
-        && cost(width, addrs.len(), k) < cost(width, addrs.len(), best)
-    {
-        k
+    if cost(width, count, b) < cost(width, count, a) {
+        b
     } else {
-        best
+        a
     }
 }
 
-/// The first of the cheapest choices.
-pub fn best(width: usize, first: &RawAddr, addrs: &[RawAddr]) -> usize
-    requires count { length addrs.now ≤ 255 }
+/// The best choice that has this head.
+fn best_with_head(width: usize, count: usize, limits: Limits, head: usize) -> Choice
     requires width { width ≤ 16 }
-    ensures within { result < 867 }
-    ensures best { IsBest width first.now addrs.now 867 result }
-    ensures fits { least.head_of result + least.tail_of result ≤ width }
+    requires some { 0 < count }
+    requires count { count ≤ 255 }
+    requires head { head ≤ limits.head }
+    requires within { head ≤ width }
+    ensures { IsBestOf width count (HasHead width limits head) result }
 {
-    let mut best = 0;
-    for k in 1..867 {
-        best = better(width, first, addrs, best, k);
+    let room = width - head;
+    let plain = Choice {
+        head,
+        tail: TailForm::Absent,
+    };
+    let zeros = Choice {
+        head,
+        tail: TailForm::Zeros(usize::min(limits.zeros, room)),
+    };
+    let full = Choice {
+        head,
+        tail: TailForm::Full(usize::min(limits.tail, room)),
+    };
+    cheaper(width, count, cheaper(width, count, plain, zeros), full)
+}
+
+/// The best choice within the limits: of the cheapest ones the first in the order of preference.
+pub fn best(width: usize, count: usize, limits: Limits) -> Choice
+    requires width { width ≤ 16 }
+    requires some { 0 < count }
+    requires count { count ≤ 255 }
+    requires head { limits.head ≤ width }
+    ensures { IsBestOf width count (IsWithin width limits) result }
+{
+    let mut best = best_with_head(width, count, limits, 0);
+    for head in 1..limits.head + 1 {
+        best = cheaper(width, count, best, best_with_head(width, count, limits, head));
     }
     best
 }
 
-pub fn all_have(prefix: u8, addrs: &[RawAddr]) -> bool
-    ensures { result ≡ least.all_have prefix addrs.now }
+fn all_have(prefix: u8, addrs: &[RawAddr]) -> bool
+    ensures { result ≡ spelling.all_have prefix addrs.now }
 {
     match addrs {
         [] => true,
@@ -131,17 +208,17 @@ pub fn all_have(prefix: u8, addrs: &[RawAddr]) -> bool
     }
 }
 
-/// 0 where no prefix length is written, 1 where one is, else 2.
-#[tactic(auto, unfolding(crate::specs::Least::form_of))]
-pub fn form_of(width: u8, first: &RawAddr, addrs: &[RawAddr]) -> u8
+/// The shortest form of the prefix lengths.
+#[tactic(auto, unfolding(crate::specs::Spelling::form_of))]
+pub fn form_of(width: u8, first: &RawAddr, addrs: &[RawAddr]) -> PrefixForm
     requires { width ≤ 16 }
-    ensures { result ≡ least.form_of width first.now addrs.now }
+    ensures { result ≡ spelling.form_of width first.now addrs.now }
 {
     if all_have(8 * width, addrs) {
-        0
+        PrefixForm::Absent
     } else if all_have(first.prefix, addrs) {
-        1
+        PrefixForm::One
     } else {
-        2
+        PrefixForm::Each
     }
 }

@@ -1,6 +1,6 @@
 //! Reading an address block.
 ghost use Rattle.std.specs.Prelude.{◌≡◌, slice_range, ◌≤◌, ◌<◌, ◌+◌, ◌-◌, ◌*◌, ◌++◌, length, IfOk, List, ℕ};
-ghost use Rattle.mesh_addr.specs.Grammar.{padded, AreRaw, SpellsBlock, BlockFault};
+ghost use Rattle.mesh_addr.specs.Grammar.{padded, IsWritable, SpellsBlock, BlockFault};
 ghost use Rattle.mesh_addr.specs.Reading.{Gives, GivesOnly, IfRefused, RefusesOnly, addrs_at, block_at, mid_of};
 ghost use Rattle.mesh_addr.specs.Shown.{shape_of};
 ghost use Rattle.mesh_addr.specs.declared.records.RawAddr.{RawAddr};
@@ -114,9 +114,10 @@ fn read_addresses(
 ) -> Result<(Seq<RawAddr>, usize), ReadBlock>
     requires at { at ≤ end }
     requires end { end ≤ length frame.now }
+    requires some { 0 < width }
     requires width { width ≤ 16 }
     ensures value { IfOk result (λ x. (x.1 ≤ end) × SpellsBlock width x.0 (slice_range frame.now at x.1)) }
-    ensures raw { IfOk result (λ x. AreRaw width x.0 × (0 < length x.0) × (length x.0 ≤ 255)) }
+    ensures writable { IfOk result (λ x. IsWritable width x.0) }
     ensures only { (addrs : List RawAddr) (text rest : List ℕ) → SpellsBlock width addrs text → slice_range frame.now at end ≡ text ++ rest → GivesOnly {Y = List RawAddr × ℕ} (λ x. (x.0, x.1)) result (addrs, at + length text) }
     ensures refused { IfRefused result (λ e. (at ≤ e.place) × BlockFault width (slice_range frame.now at end) (e.place - at) e.reason) }
     ensures first { (place reason : ℕ) → BlockFault width (slice_range frame.now at end) place reason → RefusesOnly result (at + place) reason }
@@ -141,7 +142,7 @@ pub fn read_block(
     // What is read is spelled by the octets up to the place after it.
     ensures value { IfOk result (λ x. (x.1 ≤ end) × SpellsBlock width x.0.addrs (slice_range frame.now at x.1)) }
     // It can be written.
-    ensures raw { IfOk result (λ x. AreRaw width x.0.addrs × (0 < length x.0.addrs) × (length x.0.addrs ≤ 255)) }
+    ensures writable { IfOk result (λ x. IsWritable x.0.width x.0.addrs) }
     // What is spelled at the beginning is read.
     ensures only { (addrs : List RawAddr) (text rest : List ℕ) → SpellsBlock width addrs text → slice_range frame.now at end ≡ text ++ rest → GivesOnly {Y = List RawAddr × ℕ} (λ x. (x.0.addrs, x.1)) result (addrs, at + length text) }
     // What is refused has its first fault at that place.

@@ -1,18 +1,36 @@
 //! Writing an address block in the fewest octets.
 ghost use Rattle.std.specs.Prelude.{◌≡◌, ◌≤◌, ◌<◌, ◌+◌, ◌++◌, length, OnOk, OnErr};
-ghost use Rattle.mesh_addr.specs.Grammar.{prefixes, AreRaw};
-ghost use Rattle.mesh_addr.specs.Least as least;
+ghost use Rattle.mesh_addr.specs.Grammar.{prefixes, IsWritable};
+ghost use Rattle.mesh_addr.specs.Spelling as spelling;
+ghost use Rattle.mesh_addr.specs.Spelling.{tail_len, IsPossible, IsBestOf};
 ghost use Rattle.mesh_addr.specs.Least.{Grew, IsFirst, WroteLeast, IsReadBack};
 
-use crate::choices::{best, form_of};
+use crate::choices::{Choice, PrefixForm, TailForm, best, form_of, limits_of};
 use crate::flags::{EACH_PREFIX, FULL_TAIL, HEAD, ONE_PREFIX, ZERO_TAIL};
 use crate::records::{AddrBlock, RawAddr};
 use mesh_atoms::Bytes;
 use std::alloc::AllocError;
 
-fn append_head(out: &mut Bytes, first: &RawAddr, head: usize) -> Result<(), AllocError>
+fn flags_of(choice: Choice, form: PrefixForm) -> u8
+    ensures { result ≡ spelling.flags_of choice form }
+{
+    let head = if choice.head == 0 { 0 } else { HEAD };
+    let tail = match choice.tail {
+        TailForm::Absent => 0,
+        TailForm::Zeros(_) => ZERO_TAIL,
+        TailForm::Full(_) => FULL_TAIL,
+    };
+    let prefixes = match form {
+        PrefixForm::Absent => 0,
+        PrefixForm::One => ONE_PREFIX,
+        PrefixForm::Each => EACH_PREFIX,
+    };
+    head + tail + prefixes
+}
+
+fn write_head(out: &mut Bytes, first: &RawAddr, head: usize) -> Result<(), AllocError>
     requires { head ≤ 16 }
-    ensures ok { OnOk result (out.new ≡ out.old ++ least.head_text head first.now) }
+    ensures ok { OnOk result (out.new ≡ out.old ++ spelling.head_text head first.now) }
     ensures err { OnErr result (Grew out.old out.new) }
 {
     if head == 0 {
@@ -22,29 +40,28 @@ fn append_head(out: &mut Bytes, first: &RawAddr, head: usize) -> Result<(), Allo
     out.append(&first.octets[..head])
 }
 
-fn append_tail(
+fn write_tail(
     out: &mut Bytes,
     first: &RawAddr,
-    kind: usize,
-    tail: usize,
+    tail: TailForm,
     width: usize,
 ) -> Result<(), AllocError>
-    requires tail { tail ≤ width }
+    requires tail { tail_len tail ≤ width }
     requires width { width ≤ 16 }
-    ensures ok { OnOk result (out.new ≡ out.old ++ least.tail_text kind tail width first.now) }
+    ensures ok { OnOk result (out.new ≡ out.old ++ spelling.tail_text tail width first.now) }
     ensures err { OnErr result (Grew out.old out.new) }
 {
-    if kind == 0 {
-        return Ok(());
+    match tail {
+        TailForm::Absent => Ok(()),
+        TailForm::Zeros(len) => out.push(len as u8),
+        TailForm::Full(len) => {
+            out.push(len as u8)?;
+            out.append(&first.octets[width - len..width])
+        }
     }
-    out.push(tail as u8)?;
-    if kind == 1 {
-        return Ok(());
-    }
-    out.append(&first.octets[width - tail..width])
 }
 
-fn append_mids(
+fn write_mids(
     out: &mut Bytes,
     addrs: &[RawAddr],
     start: usize,
@@ -52,19 +69,19 @@ fn append_mids(
 ) -> Result<(), AllocError>
     requires start { start ≤ end }
     requires end { end ≤ 16 }
-    ensures ok { OnOk result (out.new ≡ out.old ++ least.mids_text start end addrs.now) }
+    ensures ok { OnOk result (out.new ≡ out.old ++ spelling.mids_text start end addrs.now) }
     ensures err { OnErr result (Grew out.old out.new) }
 {
     match addrs {
         [] => Ok(()),
         [a, rest @ ..] => {
             out.append(&a.octets[start..end])?;
-            append_mids(out, rest, start, end)
+            write_mids(out, rest, start, end)
         }
     }
 }
 
-fn append_each(out: &mut Bytes, addrs: &[RawAddr]) -> Result<(), AllocError>
+fn write_each_prefix(out: &mut Bytes, addrs: &[RawAddr]) -> Result<(), AllocError>
     ensures ok { OnOk result (out.new ≡ out.old ++ prefixes addrs.now) }
     ensures err { OnErr result (Grew out.old out.new) }
 {
@@ -72,100 +89,83 @@ fn append_each(out: &mut Bytes, addrs: &[RawAddr]) -> Result<(), AllocError>
         [] => Ok(()),
         [a, rest @ ..] => {
             out.push(a.prefix)?;
-            append_each(out, rest)
+            write_each_prefix(out, rest)
         }
     }
 }
 
-fn append_prefixes(
+fn write_prefixes(
     out: &mut Bytes,
-    form: u8,
+    form: PrefixForm,
     first: &RawAddr,
     addrs: &[RawAddr],
 ) -> Result<(), AllocError>
-    ensures ok { OnOk result (out.new ≡ out.old ++ least.prefixes_text form first.now addrs.now) }
+    ensures ok { OnOk result (out.new ≡ out.old ++ spelling.prefixes_text form first.now addrs.now) }
     ensures err { OnErr result (Grew out.old out.new) }
 {
-    if form == 0 {
-        return Ok(());
+    match form {
+        PrefixForm::Absent => Ok(()),
+        PrefixForm::One => out.push(first.prefix),
+        PrefixForm::Each => write_each_prefix(out, addrs),
     }
-    if form == 1 {
-        return out.push(first.prefix);
-    }
-    append_each(out, addrs)
 }
 
-fn flags_of(k: usize, form: u8) -> u8
-    ensures { result ≡ least.flags_of k form }
-{
-    let head = if k / 51 == 0 { 0 } else { HEAD };
-    let kind = k % 51 / 17;
-    let tail = if kind == 0 {
-        0
-    } else if kind == 1 {
-        ZERO_TAIL
-    } else {
-        FULL_TAIL
-    };
-    let prefixes = if form == 0 {
-        0
-    } else if form == 1 {
-        ONE_PREFIX
-    } else {
-        EACH_PREFIX
-    };
-    head + tail + prefixes
-}
-
-#[tactic(auto, unfolding(crate::specs::Least::text_of))]
-fn append_choice(
+#[tactic(auto, unfolding(crate::specs::Spelling::text_of))]
+fn write_spelling(
     out: &mut Bytes,
     width: usize,
     first: &RawAddr,
     addrs: &[RawAddr],
-    k: usize,
-    form: u8,
+    choice: Choice,
+    form: PrefixForm,
 ) -> Result<(), AllocError>
     requires count { length addrs.now ≤ 255 }
     requires width { width ≤ 16 }
-    requires fits { least.head_of k + least.tail_of k ≤ width }
-    ensures ok { OnOk result (out.new ≡ out.old ++ least.text_of width first.now addrs.now k form) }
+    requires fits { choice.head + tail_len choice.tail ≤ width }
+    ensures ok { OnOk result (out.new ≡ out.old ++ spelling.text_of width first.now addrs.now choice form) }
     ensures err { OnErr result (Grew out.old out.new) }
 {
-    let head = k / 51;
-    let tail = k % 17;
     out.push(addrs.len() as u8)?;
-    out.push(flags_of(k, form))?;
-    append_head(out, first, head)?;
-    append_tail(out, first, k % 51 / 17, tail, width)?;
-    append_mids(out, addrs, head, width - tail)?;
-    append_prefixes(out, form, first, addrs)
+    out.push(flags_of(choice, form))?;
+    write_head(out, first, choice.head)?;
+    write_tail(out, first, choice.tail, width)?;
+    write_mids(out, addrs, choice.head, width - choice.tail.len())?;
+    write_prefixes(out, form, first, addrs)
 }
 
-fn append_least(
+/// The best choice for these addresses.
+fn best_choice(width: usize, first: &RawAddr, addrs: &[RawAddr]) -> Choice
+    requires some { 0 < length addrs.now }
+    requires count { length addrs.now ≤ 255 }
+    requires width { width ≤ 16 }
+    ensures best { IsBestOf width (length addrs.now) (IsPossible width first.now addrs.now) result }
+    ensures fits { result.head + tail_len result.tail ≤ width }
+{
+    best(width, addrs.len(), limits_of(width, first, addrs))
+}
+
+fn write_first(
     out: &mut Bytes,
     width: u8,
     first: &RawAddr,
     addrs: &[RawAddr],
 ) -> Result<(), AllocError>
     requires first { IsFirst first.now addrs.now }
-    requires count { length addrs.now ≤ 255 }
-    requires width { width ≤ 16 }
-    requires raw { AreRaw width addrs.now }
+    requires writable { IsWritable width addrs.now }
     ensures least { OnOk result (WroteLeast width addrs.now out.old out.new) }
     ensures err { OnErr result (Grew out.old out.new) }
 {
-    let k = best(width as usize, first, addrs);
+    let choice = best_choice(width as usize, first, addrs);
     let form = form_of(width, first, addrs);
-    append_choice(out, width as usize, first, addrs, k, form)
+    write_spelling(out, width as usize, first, addrs, choice, form)
 }
 
-/// Appends the spelling of fewest octets.
+/// Appends the block in the fewest octets (RFC 5444, section 5.3). Among several spellings of that length it takes the
+/// shortest head; then no tail, else one of zeros, else a full one; then the shortest tail; then one prefix length before
+/// one for each address. The block has 1 to 255 addresses and a width of 1 to 16 octets; each address has zeros after
+/// those, and a prefix of at most 8 times the width. After want of memory the old octets are a prefix of `out`.
 pub fn write_least(block: &AddrBlock, out: &mut Bytes) -> Result<(), AllocError>
-    requires some { 0 < length block.now.addrs }
-    requires count { length block.now.addrs ≤ 255 }
-    requires width { block.now.width ≤ 16 }
-    requires raw { AreRaw block.now.width block.now.addrs }
+    requires { IsWritable block.now.width block.now.addrs }
     // What is appended is a spelling of the block, and no spelling has fewer octets.
     ensures least { OnOk result (WroteLeast block.now.width block.now.addrs out.old out.new) }
     // It is read back as the same addresses, whatever follows.
@@ -176,6 +176,6 @@ pub fn write_least(block: &AddrBlock, out: &mut Bytes) -> Result<(), AllocError>
     let addrs = block.addrs.as_slice();
     match addrs {
         [] => Ok(()),
-        [first, ..] => append_least(out, block.width, first, addrs),
+        [first, ..] => write_first(out, block.width, first, addrs),
     }
 }

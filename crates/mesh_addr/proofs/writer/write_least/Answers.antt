@@ -8,5 +8,5 @@ returns-in-len1-up-clause-back c =
     let width = c.args.block.now.width in
     let addrs = c.args.block.now.addrs in
     let old = c.args.out.now in
-    let new = c.append_least.new.out in
-    on_ok c.append_least.result (WroteLeast width addrs old new) (IsReadBack width addrs old new) (read_back width addrs old new) (rw c.as_slice-addrs.ensures at c.append_least.ensures.least)
+    let new = c.write_first.new.out in
+    on_ok c.write_first.result (WroteLeast width addrs old new) (IsReadBack width addrs old new) (read_back width addrs old new) (rw c.as_slice-addrs.ensures at c.write_first.ensures.least)

@@ -1,0 +1,76 @@
+-- How far head, tail and zeros of a block reach.
+use Rattle.std.proofs.Common.{◌≡◌, ℕ, ◌+◌, ◌-◌, ◌<◌, ◌≤◌, Bool, true, false, List, take, drop, refl, sym, ap, subst, ◌∙◌, arith}
+use Rattle.std.specs.Prelude.{slice_range, replicate, not}
+use Rattle.std.specs.Str.{bytes_eq}
+use Rattle.std.proofs.lemmas.Slice.Eq.{bytes_eq-Decides}
+use Rattle.std.proofs.lemmas.List.{take-take, drop-take, drop-drop, drop-replicate}
+use Rattle.mesh_addr.specs.declared.records.RawAddr.{RawAddr}
+use Rattle.mesh_addr.specs.declared.choices.Choice.{Choice}
+use Rattle.mesh_addr.specs.declared.choices.Limits.{Limits}
+use Rattle.mesh_addr.specs.declared.choices.TailForm.{TailForm}
+use Rattle.mesh_addr.specs.declared.choices.TailForm.TheVariants as tails
+use Rattle.mesh_addr.specs.Spelling.{tail_len, last_octets, ShareTail, EndsInZeros, TailFits, IsPossible, IsLimit, AreLimits, IsTailWithin, IsWithin}
+use Rattle.mesh_addr.proofs.Padding.{zeros}
+
+-- what a test for a difference told
+pub is_same : (r : Bool) (xs ys : List ℕ) → r ≡ not (bytes_eq xs ys) → r ≡ false → xs ≡ ys
+is_same r xs ys e equal = (bytes_eq-Decides xs ys).0 (no_no (bytes_eq xs ys) (sym e ∙ equal)) where
+  no_no : (b : Bool) → not b ≡ false → b ≡ true
+  no_no true h = refl
+  no_no false h = absurd cc
+
+pub is_other : (r : Bool) (xs ys : List ℕ) → r ≡ not (bytes_eq xs ys) → r ≡ true → xs ≡ ys → ⊥
+is_other r xs ys e differ same = no_yes (bytes_eq xs ys) (sym e ∙ differ) ((bytes_eq-Decides xs ys).1 same) where
+  no_yes : (b : Bool) → not b ≡ true → b ≡ true → ⊥
+  no_yes true h k = absurd cc
+  no_yes false h k = absurd cc
+
+-- one less, where the fact doesn't hold yet
+pub one_less : (most len : ℕ) (P : ℕ → Type 0) → ((n : ℕ) → n ≤ most → P n → n ≤ len) → (P len → ⊥) → (n : ℕ) → n ≤ most → P n → n ≤ len - 1
+one_less most len P h fails n le p =
+    let small : n ≤ len = h n le p in
+    let apart : n ≡ len → ⊥ = λ e. fails (subst P e p) in
+    omega (arith, small, apart)
+
+-- the fact holds, and of less as well
+pub limit_found : (most len : ℕ) (P : ℕ → Type 0) → len ≤ most → ((n : ℕ) → n ≤ most → P n → n ≤ len) → P len → ((n : ℕ) → n ≤ len → P len → P n) → IsLimit most P len
+limit_found most len P le h p less = record { within = le; below = λ n small. less n small p; greatest = h }
+
+pub take_less : (xs ys : List ℕ) (n m : ℕ) → n ≤ m → take m xs ≡ take m ys → take n xs ≡ take n ys
+take_less xs ys n m le e = sym (take-take n m xs le) ∙ ap (take n) e ∙ take-take n m ys le
+
+-- the last octets of the last ones
+last_less : (xs : List ℕ) (w n m : ℕ) → n ≤ m → m ≤ w → slice_range xs (w - n) w ≡ drop (m - n) (slice_range xs (w - m) w)
+last_less xs w n m le le' =
+    let all : w - (w - m) ≡ (m - n) + n = omega arith in
+    let less : w - (w - n) ≡ n = omega arith in
+    let from : (w - m) + (m - n) ≡ w - n = omega arith in
+    ap (λ (k : ℕ). take k (drop (w - n) xs)) less ∙ ap (λ (i : ℕ). take n (drop i xs)) (sym from) ∙ ap (take n) (sym (drop-drop (m - n) (w - m) xs))
+    ∙ sym (drop-take (m - n) n (drop (w - m) xs)) ∙ ap (λ (k : ℕ). drop (m - n) (take k (drop (w - m) xs))) (sym all)
+
+pub tails_less : (xs ys : List ℕ) (w n m : ℕ) → n ≤ m → m ≤ w → slice_range xs (w - m) w ≡ slice_range ys (w - m) w → slice_range xs (w - n) w ≡ slice_range ys (w - n) w
+tails_less xs ys w n m le le' e = last_less xs w n m le le' ∙ ap (drop (m - n)) e ∙ sym (last_less ys w n m le le')
+
+pub zeros_less : (a : RawAddr) (w n m : ℕ) → n ≤ m → m ≤ w → EndsInZeros w a m → EndsInZeros w a n
+zeros_less a w n m le le' e = last_less a.octets w n m le le' ∙ ap (drop (m - n)) e ∙ drop-replicate {X = ℕ} (m - n) m 0 ∙ ap zeros (omega arith)
+
+-- what is within the limits is possible
+pub within_possible : (w : ℕ) (first : RawAddr) (addrs : List RawAddr) (limits : Limits) → AreLimits w first addrs limits → (choice : Choice) → IsWithin w limits choice → IsPossible w first addrs choice
+within_possible w first addrs limits h choice k = record { fits = k.fits; heads = h.heads.below choice.head k.head; tails = shared choice.tail k.tail; zeros = fit choice.tail k.tail } where
+  shared : (t : TailForm) → IsTailWithin limits t → ShareTail w first addrs (tail_len t)
+  shared tails.Absent le = h.tails.below 0 (omega arith)
+  shared (tails.Zeros n) le = h.tails.below n (omega (arith, le, h.zeros.within))
+  shared (tails.Full n) le = h.tails.below n le
+
+  fit : (t : TailForm) → IsTailWithin limits t → TailFits w first t
+  fit tails.Absent le = tt
+  fit (tails.Zeros n) le = h.zeros.below n le
+  fit (tails.Full n) le = tt
+
+-- what is possible is within the limits
+pub possible_within : (w : ℕ) (first : RawAddr) (addrs : List RawAddr) (limits : Limits) → AreLimits w first addrs limits → (choice : Choice) → IsPossible w first addrs choice → IsWithin w limits choice
+possible_within w first addrs limits h choice k = record { fits = k.fits; head = h.heads.greatest choice.head (omega (arith, k.fits)) k.heads; tail = small choice.tail k.fits k.tails k.zeros } where
+  small : (t : TailForm) → choice.head + tail_len t ≤ w → ShareTail w first addrs (tail_len t) → TailFits w first t → IsTailWithin limits t
+  small tails.Absent le shared fit = tt
+  small (tails.Zeros n) le shared fit = h.zeros.greatest n (h.tails.greatest n (omega (arith, le)) shared) fit
+  small (tails.Full n) le shared fit = h.tails.greatest n (omega (arith, le)) shared

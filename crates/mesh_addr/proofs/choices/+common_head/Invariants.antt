@@ -1,0 +1,5 @@
+use Rattle.std.proofs.Common.{length}
+use Rattle.mesh_addr.proofs.choices.+common_head.Given as goal
+
+abbrev pub decreases-common_head : goal.decreases-common_head
+decreases-common_head l = length l.addrs.now
