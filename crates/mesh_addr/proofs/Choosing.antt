@@ -72,8 +72,8 @@ module _ (w count head : ℕ) where
 
 -- the best of three tails is the best of all
 module _ (w count head : ℕ) (limits : Limits) (zeros full : ℕ) (small : w ≤ 16) (some : 0 < count) (within : head ≤ limits.head) (fits : head ≤ w)
-  (zeros_low : zeros ≤ limits.zeros) (zeros_fit : head + zeros ≤ w) (zeros_most : (n : ℕ) → n ≤ limits.zeros → head + n ≤ w → n ≤ zeros)
-  (full_low : full ≤ limits.tail) (full_fit : head + full ≤ w) (full_most : (n : ℕ) → n ≤ limits.tail → head + n ≤ w → n ≤ full) where
+    (zeros_low : zeros ≤ limits.zeros) (zeros_fit : head + zeros ≤ w) (zeros_most : (n : ℕ) → n ≤ limits.zeros → head + n ≤ w → n ≤ zeros)
+    (full_low : full ≤ limits.tail) (full_fit : head + full ≤ w) (full_most : (n : ℕ) → n ≤ limits.tail → head + n ≤ w → n ≤ full) where
   abbrev one : Choice
   one = plain w count head
 

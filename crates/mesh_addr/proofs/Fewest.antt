@@ -17,7 +17,7 @@ use Rattle.mesh_addr.specs.declared.choices.PrefixForm.TheVariants as forms
 use Rattle.mesh_addr.specs.Grammar.{padded, SpellsHead, SpellsTail, SpellsMids, SpellsPrefixes, AreAll, AreAtMost, prefixes, SpellsBlock, AreRaw, IsWritable}
 use Rattle.mesh_addr.specs.Spelling.{tail_len, last_octets, ShareHead, ShareTail, TailFits, IsPossible, head_cost, tail_cost, cost, tail_rank, choice_rank, weight, IsBestOf, all_have, form_of, tail_flag, form_flag, flags_of, head_text, tail_text, mids_text, prefixes_text, text_of}
 use Rattle.mesh_addr.specs.Least.{IsLeast, rank, IsFirst, WroteLeast, IsReadBack}
-use Rattle.mesh_addr.proofs.Back.{mids_long, first_all, block_again}
+use Rattle.mesh_addr.proofs.ReadAgain.{mids_long, first_all, block_again}
 
 both_true : (a b : Bool) → a ≡ true → b ≡ true → a && b ≡ true
 both_true a b h k = rw (h, k) refl

@@ -1,11 +1,11 @@
 pub mod Padding
 pub mod Loops
-pub mod Laws
-pub mod Back
-pub mod Told
+pub mod Taking
+pub mod ReadAgain
+pub mod Refusing
+pub mod Calls
+pub mod Writable
 pub mod Limits
 pub mod Choosing
 pub mod Fewest
 pub mod Outcomes
-pub mod Faults
-pub mod Raw

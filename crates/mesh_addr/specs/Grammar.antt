@@ -1,4 +1,4 @@
--- What an address block is, apart from how it is read.
+-- What an address block is (RFC 5444, section 5.3), apart from how it is read.
 use Rattle.std.specs.Prelude.{◌≡◌, ℕ, ◌+◌, ◌*◌, ◌-◌, ◌<◌, ◌≤◌, List, [], ◌∷◌, ◌++◌, length, map, take, replicate, Bool, true, false, cond, ◌&&◌}
 use Rattle.mesh_atoms.specs.Reading.{has}
 use Rattle.mesh_addr.specs.declared.records.RawAddr.{RawAddr}
@@ -25,10 +25,12 @@ SpellsMids head tail size [] text = text ≡ []
 SpellsMids head tail size (a ∷ addrs) text =
     (mid : List ℕ) × (rest : List ℕ) × (length mid ≡ size) × (a.octets ≡ padded (head ++ (mid ++ tail))) × SpellsMids head tail size addrs rest × (text ≡ mid ++ rest)
 
+-- none is above the greatest
 abbrev pub AreAtMost : ℕ → List ℕ → Type 0
 AreAtMost most [] = Unit {0}
 AreAtMost most (p ∷ ps) = (p ≤ most) × AreAtMost most ps
 
+-- all are the same
 abbrev pub AreAll : ℕ → List ℕ → Type 0
 AreAll p ps = ps ≡ replicate (length ps) p
 
@@ -39,6 +41,7 @@ SpellsPrefixes true false most ps text = (p : ℕ) × (p ≤ most) × AreAll p p
 SpellsPrefixes false true most ps text = AreAtMost most ps × (text ≡ ps)
 SpellsPrefixes true true most ps text = ⊥
 
+-- the prefix lengths of addresses
 abbrev pub prefixes : List RawAddr → List ℕ
 prefixes = map (λ (a : RawAddr). a.prefix)
 

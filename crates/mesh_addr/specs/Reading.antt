@@ -15,17 +15,21 @@ pub record Shape : Type 0 where
   -- the prefix length of all, or none where each has its own
   pub prefix : Option ℕ
 
+-- how many octets a middle part has
 abbrev pub mid_of : Shape → ℕ
 mid_of shape = shape.width - (length shape.head + length shape.tail)
 
+-- both tail flags or both prefix flags
 abbrev pub clashes : ℕ → Bool
 clashes flags = (has flags 64 && has flags 32) || (has flags 16 && has flags 8)
 
+-- the number of addresses
 unfoldable pub count_at : List ℕ → ℕ → ℕ → Result (ℕ × ℕ) Refusal
 count_at frame at end = do
   count ← octet_at 1 frame at end
   if count.0 == 0 then refuse at 8 else Ok count
 
+-- the flags
 unfoldable pub flags_at : List ℕ → ℕ → ℕ → Result (ℕ × ℕ) Refusal
 flags_at frame at end = do
   flags ← octet_at 1 frame at end
@@ -37,14 +41,17 @@ number_at frame at end room = do
   len ← octet_at 1 frame at end
   if nat_lt room len.0 then refuse at 10 else Ok len
 
+-- octets after their number, up to `room`
 unfoldable pub counted_at : List ℕ → ℕ → ℕ → ℕ → Result (List ℕ × ℕ) Refusal
 counted_at frame at end room = do
   len ← number_at frame at end room
   piece_at 1 frame len.1 end len.0
 
+-- the head, where there is one
 unfoldable pub head_at : List ℕ → ℕ → ℕ → ℕ → ℕ → Result (List ℕ × ℕ) Refusal
 head_at frame flags at end width = if has flags 128 then counted_at frame at end width else Ok ([], at)
 
+-- the tail, of its octets or of zeros, where there is one
 unfoldable pub tail_at : List ℕ → ℕ → ℕ → ℕ → ℕ → Result (List ℕ × ℕ) Refusal
 tail_at frame flags at end room =
     if has flags 64 then counted_at frame at end room
@@ -56,6 +63,7 @@ unfoldable pub parts_end : ℕ → ℕ → ℕ → ℕ → Result ℕ Refusal
 parts_end zero at end size = Ok at
 parts_end (suc n) at end size = if nat_lt (end - at) size then refuse at 1 else parts_end n (at + size) end size
 
+-- a prefix length
 unfoldable pub prefix_at : List ℕ → ℕ → ℕ → ℕ → Result (ℕ × ℕ) Refusal
 prefix_at frame at end width = do
   prefix ← octet_at 1 frame at end
@@ -73,6 +81,7 @@ abbrev pub own_at : List ℕ → Option ℕ → ℕ → ℕ → ℕ → Result (
 own_at frame None at end width = prefix_at frame at end width
 own_at frame (Some p) at end width = Ok (p, at)
 
+-- the address of a middle part
 abbrev pub addr_of : Shape → List ℕ → ℕ → RawAddr
 addr_of shape mid prefix = record { octets = padded (shape.head ++ (mid ++ shape.tail)); prefix = prefix }
 
@@ -84,6 +93,7 @@ addrs_at (suc n) frame shape mid at end =
     addrs_at n frame shape (mid + mid_of shape) prefix.1 end >>= λ others.
     Ok (addr_of shape (slice_range frame mid (mid + mid_of shape)) prefix.0 ∷ others.0, others.1)
 
+-- a block from `at` on, and the place after it
 unfoldable pub block_at : List ℕ → ℕ → ℕ → ℕ → Result (List RawAddr × ℕ) Refusal
 block_at frame at end width = do
   count ← count_at frame at end
@@ -99,10 +109,12 @@ abbrev pub Fails : {Y : Type 0} → ReadBlock → Result Y Refusal → Type 0
 Fails (errors.Memory e) read = Unit {0}
 Fails (errors.Refused f) read = read ≡ Err f
 
+-- a call gave what is read, as far as a view of its value goes, or wanted memory
 abbrev pub Gives : {X Y : Type 0} → (X → Y) → Result X ReadBlock → Result Y Refusal → Type 0
 Gives view (Ok x) read = read ≡ Ok (view x)
 Gives view (Err e) read = Fails e read
 
+-- what holds of the fault, where the call refused
 abbrev pub IfRefused : {X : Type 0} → Result X ReadBlock → (Refusal → Type 0) → Type 0
 IfRefused (Ok x) P = Unit {0}
 IfRefused (Err (errors.Memory e)) P = Unit {0}

@@ -1,3 +1,4 @@
+-- What is seen of the records that a reader keeps.
 use Rattle.mesh_addr.specs.declared.reader.Shape.{Shape}
 use Rattle.mesh_addr.specs.Reading as reading
 

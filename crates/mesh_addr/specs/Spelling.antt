@@ -77,6 +77,7 @@ pub record IsWithin (width : ℕ) (limits : Limits) (choice : Choice) : Type 0 w
 abbrev pub head_cost : ℕ → ℕ
 head_cost head = if head == 0 then 0 else 1 + head
 
+-- octets of a tail and its length
 abbrev pub tail_cost : TailForm → ℕ
 tail_cost tails.Absent = 0
 tail_cost (tails.Zeros n) = 1
@@ -86,6 +87,7 @@ tail_cost (tails.Full n) = 1 + n
 unfoldable pub cost : ℕ → ℕ → Choice → ℕ
 cost width count choice = head_cost choice.head + tail_cost choice.tail + count * (width - (choice.head + tail_len choice.tail))
 
+-- the order of preference among tails
 abbrev pub tail_rank : TailForm → ℕ
 tail_rank tails.Absent = 0
 tail_rank (tails.Zeros n) = 1
@@ -132,22 +134,27 @@ form_of width first addrs = if all_have (8 * width) addrs then forms.Absent else
 abbrev pub head_flag : ℕ → ℕ
 head_flag head = if head == 0 then 0 else 128
 
+-- the flag of a tail
 abbrev pub tail_flag : TailForm → ℕ
 tail_flag tails.Absent = 0
 tail_flag (tails.Zeros n) = 32
 tail_flag (tails.Full n) = 64
 
+-- the flag of prefix lengths
 abbrev pub form_flag : PrefixForm → ℕ
 form_flag forms.Absent = 0
 form_flag forms.One = 16
 form_flag forms.Each = 8
 
+-- the flags that a choice sets
 abbrev pub flags_of : Choice → PrefixForm → ℕ
 flags_of choice form = head_flag choice.head + tail_flag choice.tail + form_flag form
 
+-- what is written of the head
 abbrev pub head_text : ℕ → RawAddr → List ℕ
 head_text head first = if head == 0 then [] else head ∷ take head first.octets
 
+-- what is written of the tail
 abbrev pub tail_text : TailForm → ℕ → RawAddr → List ℕ
 tail_text tails.Absent width first = []
 tail_text (tails.Zeros n) width first = n ∷ []
@@ -158,6 +165,7 @@ abbrev pub mids_text : ℕ → ℕ → List RawAddr → List ℕ
 mids_text start end [] = []
 mids_text start end (a ∷ addrs) = slice_range a.octets start end ++ mids_text start end addrs
 
+-- what is written of the prefix lengths
 abbrev pub prefixes_text : PrefixForm → RawAddr → List RawAddr → List ℕ
 prefixes_text forms.Absent first addrs = []
 prefixes_text forms.One first addrs = first.prefix ∷ []

@@ -90,6 +90,7 @@ fn zero_tail(first: &RawAddr, width: usize, most: usize) -> usize
     len
 }
 
+/// How many octets all addresses begin with.
 fn common_head(first: &RawAddr, addrs: &[RawAddr], width: usize) -> usize
     requires { width ≤ 16 }
     ensures { IsLimit width (ShareHead first.now addrs.now) result }
@@ -100,6 +101,7 @@ fn common_head(first: &RawAddr, addrs: &[RawAddr], width: usize) -> usize
     }
 }
 
+/// How many octets all addresses end in.
 fn common_tail(first: &RawAddr, addrs: &[RawAddr], width: usize) -> usize
     requires { width ≤ 16 }
     ensures { IsLimit width (ShareTail width first.now addrs.now) result }
@@ -131,11 +133,7 @@ fn cost(width: usize, count: usize, choice: Choice) -> usize
     requires fits { choice.head + tail_len choice.tail ≤ width }
     ensures { result ≡ spelling.cost width count choice }
 {
-    let head = if choice.head == 0 {
-        0
-    } else {
-        1 + choice.head
-    };
+    let head = if choice.head == 0 { 0 } else { 1 + choice.head };
     let tail = match choice.tail {
         TailForm::Absent => 0,
         TailForm::Zeros(_) => 1,
@@ -194,11 +192,17 @@ pub fn best(width: usize, count: usize, limits: Limits) -> Choice
 {
     let mut best = best_with_head(width, count, limits, 0);
     for head in 1..limits.head + 1 {
-        best = cheaper(width, count, best, best_with_head(width, count, limits, head));
+        best = cheaper(
+            width,
+            count,
+            best,
+            best_with_head(width, count, limits, head),
+        );
     }
     best
 }
 
+/// Have all that prefix length?
 fn all_have(prefix: u8, addrs: &[RawAddr]) -> bool
     ensures { result ≡ spelling.all_have prefix addrs.now }
 {

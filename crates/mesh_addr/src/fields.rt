@@ -4,9 +4,11 @@ ghost use Rattle.mesh_atoms.specs.Reading.{Reads, octet_at};
 ghost use Rattle.mesh_addr.specs.Reading.{clashes, count_at, flags_at, number_at, counted_at, head_at, tail_at, parts_end, prefix_at, common_at, own_at};
 
 use crate::flags::{EACH_PREFIX, FULL_TAIL, HEAD, ONE_PREFIX, ZERO_TAIL};
+use crate::reasons::{ADDR_CUT, ADDR_FLAGS, NO_ADDRESSES, PREFIX_LENGTH, SHORT};
 use mesh_atoms::Refusal;
 
-pub fn octet(frame: &[u8], at: usize, end: usize) -> Result<(u8, usize), Refusal>
+/// The octet at a place, and the place after it.
+fn octet(frame: &[u8], at: usize, end: usize) -> Result<(u8, usize), Refusal>
     requires { end ≤ length frame.now }
     ensures exact { result ≡ octet_at 1 frame.now at end }
     ensures after { IfOk result (λ x. (x.1 ≤ end) × (at < x.1)) }
@@ -16,11 +18,12 @@ pub fn octet(frame: &[u8], at: usize, end: usize) -> Result<(u8, usize), Refusal
     } else {
         Err(Refusal {
             place: at,
-            reason: 1,
+            reason: SHORT,
         })
     }
 }
 
+/// The number of addresses.
 #[tactic(auto, unfolding(crate::specs::Reading::count_at))]
 pub fn count(frame: &[u8], at: usize, end: usize) -> Result<(u8, usize), Refusal>
     requires { end ≤ length frame.now }
@@ -31,20 +34,22 @@ pub fn count(frame: &[u8], at: usize, end: usize) -> Result<(u8, usize), Refusal
     if count == 0 {
         Err(Refusal {
             place: at,
-            reason: 8,
+            reason: NO_ADDRESSES,
         })
     } else {
         Ok((count, after))
     }
 }
 
-pub fn has_clash(flags: u8) -> bool
+/// Both tail flags, or both prefix flags?
+fn has_clash(flags: u8) -> bool
     ensures { result ≡ clashes flags }
 {
     flags & FULL_TAIL != 0 && flags & ZERO_TAIL != 0
         || flags & ONE_PREFIX != 0 && flags & EACH_PREFIX != 0
 }
 
+/// The flags. Reserved ones are ignored.
 #[tactic(auto, unfolding(crate::specs::Reading::flags_at))]
 pub fn flags(frame: &[u8], at: usize, end: usize) -> Result<(u8, usize), Refusal>
     requires { end ≤ length frame.now }
@@ -55,15 +60,16 @@ pub fn flags(frame: &[u8], at: usize, end: usize) -> Result<(u8, usize), Refusal
     if has_clash(flags) {
         Err(Refusal {
             place: at,
-            reason: 9,
+            reason: ADDR_FLAGS,
         })
     } else {
         Ok((flags, after))
     }
 }
 
+/// A number up to `room`.
 #[tactic(auto, unfolding(crate::specs::Reading::number_at))]
-pub fn number(frame: &[u8], at: usize, end: usize, room: usize) -> Result<(usize, usize), Refusal>
+fn number(frame: &[u8], at: usize, end: usize, room: usize) -> Result<(usize, usize), Refusal>
     requires { end ≤ length frame.now }
     ensures exact { result ≡ number_at frame.now at end room }
     ensures after { IfOk result (λ x. (x.1 ≤ end) × (x.0 ≤ room) × (at < x.1)) }
@@ -73,15 +79,16 @@ pub fn number(frame: &[u8], at: usize, end: usize, room: usize) -> Result<(usize
     if room < len {
         Err(Refusal {
             place: at,
-            reason: 10,
+            reason: ADDR_CUT,
         })
     } else {
         Ok((len, after))
     }
 }
 
+/// As many octets as the number before them tells, up to `room`.
 #[tactic(auto, unfolding(crate::specs::Reading::counted_at))]
-pub fn counted_octets<'a>(
+fn counted_octets<'a>(
     frame: &'a [u8],
     at: usize,
     end: usize,
@@ -95,13 +102,14 @@ pub fn counted_octets<'a>(
     if end - after < len {
         return Err(Refusal {
             place: after,
-            reason: 1,
+            reason: SHORT,
         });
     }
     let piece = &frame[after..after + len];
     Ok((piece, after + len))
 }
 
+/// The head, empty where there is none.
 #[tactic(auto, unfolding(crate::specs::Reading::head_at))]
 pub fn head<'a>(
     frame: &'a [u8],
@@ -123,6 +131,7 @@ pub fn head<'a>(
     }
 }
 
+/// The tail, empty where there is none. A tail of zeros is taken from `zeros`.
 #[tactic(auto, unfolding(crate::specs::Reading::tail_at))]
 pub fn tail<'a>(
     frame: &'a [u8],
@@ -150,7 +159,7 @@ pub fn tail<'a>(
     Ok((&zeros[..0], at))
 }
 
-/// The place after so many parts of that size.
+/// The place after so many middle parts of that size.
 pub fn after_parts(count: u8, at: usize, end: usize, size: usize) -> Result<usize, Refusal>
     requires { at ≤ end }
     ensures exact { result ≡ parts_end count at end size }
@@ -159,15 +168,19 @@ pub fn after_parts(count: u8, at: usize, end: usize, size: usize) -> Result<usiz
     let mut place = at;
     for _ in 0..count {
         if end - place < size {
-            return Err(Refusal { place, reason: 1 });
+            return Err(Refusal {
+                place,
+                reason: SHORT,
+            });
         }
         place += size;
     }
     Ok(place)
 }
 
+/// A prefix length, up to 8 times the width.
 #[tactic(auto, unfolding(crate::specs::Reading::prefix_at))]
-pub fn prefix_length(frame: &[u8], at: usize, end: usize, width: u8) -> Result<(u8, usize), Refusal>
+fn prefix_length(frame: &[u8], at: usize, end: usize, width: u8) -> Result<(u8, usize), Refusal>
     requires end { end ≤ length frame.now }
     requires width { width ≤ 16 }
     ensures exact { result ≡ prefix_at frame.now at end width }
@@ -177,14 +190,14 @@ pub fn prefix_length(frame: &[u8], at: usize, end: usize, width: u8) -> Result<(
     if 8 * width < prefix {
         Err(Refusal {
             place: at,
-            reason: 11,
+            reason: PREFIX_LENGTH,
         })
     } else {
         Ok((prefix, after))
     }
 }
 
-/// The prefix length of all, where there is one.
+/// The prefix length of all addresses; `None` where each has its own.
 #[tactic(auto, unfolding(crate::specs::Reading::common_at))]
 pub fn common_prefix(
     frame: &[u8],
@@ -209,7 +222,7 @@ pub fn common_prefix(
     Ok((Some(8 * width), at))
 }
 
-/// The next prefix length, where each has its own.
+/// The prefix length of the next address: that of all, or its own.
 pub fn own_prefix(
     frame: &[u8],
     prefix: Option<u8>,

@@ -5,7 +5,10 @@ mod choices;
 mod fields;
 mod flags;
 mod reader;
+mod reasons;
 mod records;
+#[cfg(test)]
+mod tests;
 mod writer;
 
 pub use reader::read_block;

@@ -27,6 +27,7 @@ fn put_octets(octets: &mut [u8; 16], at: usize, piece: &[u8])
     octets[at..at + piece.len()].copy_from_slice(piece);
 }
 
+/// Head, middle part and tail of an address, with zeros after them.
 fn joined_octets(head: &[u8], mid: &[u8], tail: &[u8]) -> [u8; 16]
     requires { length head.now + (length mid.now + length tail.now) ≤ 16 }
     ensures { result ≡ padded (head.now ++ (mid.now ++ tail.now)) }
@@ -69,6 +70,7 @@ fn addresses(
     Ok((addrs, place))
 }
 
+/// Field after field.
 #[tactic(auto, unfolding(crate::specs::Reading::block_at))]
 fn addresses_of_block(
     alloc: Global,
@@ -105,6 +107,7 @@ fn addresses_of_block(
     addresses(alloc, frame, &shape, count, mids, after, end)
 }
 
+/// The addresses of the block from `at` on, and the place after it.
 fn read_addresses(
     alloc: Global,
     frame: &[u8],
@@ -116,17 +119,26 @@ fn read_addresses(
     requires end { end ≤ length frame.now }
     requires some { 0 < width }
     requires width { width ≤ 16 }
-    ensures value { IfOk result (λ x. (x.1 ≤ end) × SpellsBlock width x.0 (slice_range frame.now at x.1)) }
+    ensures after { IfOk result (λ x. (at < x.1) × (x.1 ≤ end)) }
+    ensures value { IfOk result (λ x. SpellsBlock width x.0 (slice_range frame.now at x.1)) }
     ensures writable { IfOk result (λ x. IsWritable width x.0) }
-    ensures only { (addrs : List RawAddr) (text rest : List ℕ) → SpellsBlock width addrs text → slice_range frame.now at end ≡ text ++ rest → GivesOnly {Y = List RawAddr × ℕ} (λ x. (x.0, x.1)) result (addrs, at + length text) }
-    ensures refused { IfRefused result (λ e. (at ≤ e.place) × BlockFault width (slice_range frame.now at end) (e.place - at) e.reason) }
-    ensures first { (place reason : ℕ) → BlockFault width (slice_range frame.now at end) place reason → RefusesOnly result (at + place) reason }
+    ensures only { (addrs : List RawAddr) (text rest : List ℕ) → SpellsBlock width addrs text
+        → slice_range frame.now at end ≡ text ++ rest
+        → GivesOnly {Y = List RawAddr × ℕ} (λ x. (x.0, x.1)) result (addrs, at + length text) }
+    ensures refused { IfRefused result (λ e. (at ≤ e.place)
+        × BlockFault width (slice_range frame.now at end) (e.place - at) e.reason) }
+    ensures first { (place reason : ℕ) → BlockFault width (slice_range frame.now at end) place reason
+        → RefusesOnly result (at + place) reason }
     ensures exact { Gives (λ x. (x.0, x.1)) result (block_at frame.now at end width) }
 {
     addresses_of_block(alloc, frame, at, end, width)
 }
 
-/// The block from `at` on, and the place after it.
+/// The address block from `at` on, with addresses of `width` octets, and the place after it (RFC 5444, section 5.3). The
+/// block ends before `end`, and the width is 1 to 16. Middle parts and prefix lengths are read address by address;
+/// reserved flags are ignored. A block is refused exactly at its first fault: a field that passes `end` (1), no
+/// addresses (8), both tail flags or both prefix flags (9), a head length above the width or a tail length above the
+/// width that the head leaves (10), a prefix length above 8 times the width (11). Within one field the least number counts.
 pub fn read_block(
     alloc: Global,
     frame: &[u8],
@@ -139,17 +151,23 @@ pub fn read_block(
     requires some { 0 < width }
     requires width { width ≤ 16 }
     ensures width { IfOk result (λ x. x.0.width ≡ width) }
+    ensures after { IfOk result (λ x. (at < x.1) × (x.1 ≤ end)) }
     // What is read is spelled by the octets up to the place after it.
-    ensures value { IfOk result (λ x. (x.1 ≤ end) × SpellsBlock width x.0.addrs (slice_range frame.now at x.1)) }
+    ensures value { IfOk result (λ x. SpellsBlock width x.0.addrs (slice_range frame.now at x.1)) }
     // It can be written.
     ensures writable { IfOk result (λ x. IsWritable x.0.width x.0.addrs) }
     // What is spelled at the beginning is read.
-    ensures only { (addrs : List RawAddr) (text rest : List ℕ) → SpellsBlock width addrs text → slice_range frame.now at end ≡ text ++ rest → GivesOnly {Y = List RawAddr × ℕ} (λ x. (x.0.addrs, x.1)) result (addrs, at + length text) }
-    // What is refused has its first fault at that place.
-    ensures refused { IfRefused result (λ e. (at ≤ e.place) × BlockFault width (slice_range frame.now at end) (e.place - at) e.reason) }
+    ensures only { (addrs : List RawAddr) (text rest : List ℕ) → SpellsBlock width addrs text
+        → slice_range frame.now at end ≡ text ++ rest
+        → GivesOnly {Y = List RawAddr × ℕ} (λ x. (x.0.addrs, x.1)) result (addrs, at + length text) }
+
+    // What is refused has its first fault at that place, for that reason.
+    ensures refused { IfRefused result (λ e. (at ≤ e.place)
+        × BlockFault width (slice_range frame.now at end) (e.place - at) e.reason) }
     // What has a first fault is refused so.
-    ensures first { (place reason : ℕ) → BlockFault width (slice_range frame.now at end) place reason → RefusesOnly result (at + place) reason }
-    // Which of them it is.
+    ensures first { (place reason : ℕ) → BlockFault width (slice_range frame.now at end) place reason
+        → RefusesOnly result (at + place) reason }
+    // Which of them it is, as a function of the octets.
     ensures exact { Gives (λ x. (x.0.addrs, x.1)) result (block_at frame.now at end width) }
 {
     let (addrs, after) = read_addresses(alloc, frame, at, end, width)?;

@@ -11,6 +11,7 @@ use crate::records::{AddrBlock, RawAddr};
 use mesh_atoms::Bytes;
 use std::alloc::AllocError;
 
+/// The flags of a spelling.
 fn flags_of(choice: Choice, form: PrefixForm) -> u8
     ensures { result ≡ spelling.flags_of choice form }
 {
@@ -28,6 +29,7 @@ fn flags_of(choice: Choice, form: PrefixForm) -> u8
     head + tail + prefixes
 }
 
+/// Appends the length of the head and the head, where there is one.
 fn write_head(out: &mut Bytes, first: &RawAddr, head: usize) -> Result<(), AllocError>
     requires { head ≤ 16 }
     ensures ok { OnOk result (out.new ≡ out.old ++ spelling.head_text head first.now) }
@@ -40,6 +42,7 @@ fn write_head(out: &mut Bytes, first: &RawAddr, head: usize) -> Result<(), Alloc
     out.append(&first.octets[..head])
 }
 
+/// Appends the length of the tail and the octets of a full one, where there is one.
 fn write_tail(
     out: &mut Bytes,
     first: &RawAddr,
@@ -61,6 +64,7 @@ fn write_tail(
     }
 }
 
+/// Appends the octets from `start` to `end` of each address.
 fn write_mids(
     out: &mut Bytes,
     addrs: &[RawAddr],
@@ -81,6 +85,7 @@ fn write_mids(
     }
 }
 
+/// Appends the prefix length of each address.
 fn write_each_prefix(out: &mut Bytes, addrs: &[RawAddr]) -> Result<(), AllocError>
     ensures ok { OnOk result (out.new ≡ out.old ++ prefixes addrs.now) }
     ensures err { OnErr result (Grew out.old out.new) }
@@ -94,6 +99,7 @@ fn write_each_prefix(out: &mut Bytes, addrs: &[RawAddr]) -> Result<(), AllocErro
     }
 }
 
+/// Appends the prefix lengths in that form.
 fn write_prefixes(
     out: &mut Bytes,
     form: PrefixForm,
@@ -110,6 +116,7 @@ fn write_prefixes(
     }
 }
 
+/// Appends the whole block as the choice and the form say.
 #[tactic(auto, unfolding(crate::specs::Spelling::text_of))]
 fn write_spelling(
     out: &mut Bytes,
@@ -144,6 +151,7 @@ fn best_choice(width: usize, first: &RawAddr, addrs: &[RawAddr]) -> Choice
     best(width, addrs.len(), limits_of(width, first, addrs))
 }
 
+/// Appends the block of some addresses, of which one is the first.
 fn write_first(
     out: &mut Bytes,
     width: u8,

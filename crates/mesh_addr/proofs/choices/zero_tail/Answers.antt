@@ -12,7 +12,7 @@ loop-len-preserved c =
     record {
       within = omega (arith, c.loop-len.invariant.within);
       greatest = one_less c.args.most len (EndsInZeros c.args.width c.args.first.now) c.loop-len.invariant.greatest
-      (λ e. is_other c.ne.result (last_octets c.args.width len c.args.first.now) (take len (replicate 16 0)) c.ne.ensures c.if-ne.true (e ∙ sym (take-replicate {X = ℕ} len 16 0 short)));
+          (λ e. is_other c.ne.result (last_octets c.args.width len c.args.first.now) (take len (replicate 16 0)) c.ne.ensures c.if-ne.true (e ∙ sym (take-replicate {X = ℕ} len 16 0 short)));
     }
 
 pub returns-else-ne : goal.returns-else-ne

@@ -8,7 +8,7 @@ use Rattle.mesh_atoms.proofs.Reading.{Stands, behind, stands_first, stands_next,
 use Rattle.mesh_addr.specs.Grammar.{AreAtMost, CountedFault, ZerosFault, PrefixFault, Begins, Shaped, BlockFault, prefix_count}
 use Rattle.mesh_addr.specs.Grammar as fault
 use Rattle.mesh_addr.specs.Reading.{count_at, flags_at, number_at, counted_at, head_at, tail_at, parts_end, prefix_at, common_at, addrs_at, block_at}
-use Rattle.mesh_addr.proofs.Back.{count_again, flags_again, number_again, head_again, tail_again, parts_again, prefix_again}
+use Rattle.mesh_addr.proofs.ReadAgain.{count_again, flags_again, number_again, head_again, tail_again, parts_again, prefix_again}
 use Rattle.mesh_addr.proofs.Loops.{next_part}
 
 moved : {A : Type 0} (place place' reason : ℕ) → place ≡ place' → refuse {A = A} place reason ≡ refuse place' reason

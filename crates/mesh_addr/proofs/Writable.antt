@@ -5,7 +5,7 @@ use Rattle.std.proofs.lemmas.List.{take_at, length-take}
 use Rattle.std.proofs.lemmas.List.Edits.{get_or-between}
 use Rattle.mesh_addr.specs.declared.records.RawAddr.{RawAddr}
 use Rattle.mesh_addr.specs.Grammar.{padded, SpellsMids, SpellsPrefixes, AreAll, AreAtMost, AreRaw, IsWritable, prefixes, SpellsBlock}
-use Rattle.mesh_addr.proofs.Back.{first_all}
+use Rattle.mesh_addr.proofs.ReadAgain.{first_all}
 
 pub if_ok : {X E : Type 0} (r : Result X E) (P Q : X → Type 0) → ((x : X) → P x → Q x) → IfOk r P → IfOk r Q
 if_ok (Ok x) P Q f h = f x h

@@ -1,5 +1,5 @@
 -- The laws of a block, as callers of the reader see them.
-use Rattle.std.proofs.Common.{◌≡◌, ℕ, ◌+◌, ◌-◌, ◌≤◌, List, ◌++◌, length, Result, Ok, Err, sym, subst, arith}
+use Rattle.std.proofs.Common.{◌≡◌, ℕ, ◌+◌, ◌-◌, ◌<◌, ◌≤◌, List, ◌++◌, length, Result, Ok, Err, sym, ap, subst, arith}
 use Rattle.std.specs.Prelude.{IfOk, MatchResult, slice_range}
 use Rattle.mesh_atoms.specs.declared.refusal.Refusal.{Refusal}
 use Rattle.mesh_atoms.specs.Reading.{refuse}
@@ -9,12 +9,12 @@ use Rattle.mesh_addr.specs.declared.records.ReadBlock.{ReadBlock}
 use Rattle.mesh_addr.specs.declared.records.ReadBlock.TheVariants as errors
 use Rattle.mesh_addr.specs.Grammar.{SpellsBlock, BlockFault}
 use Rattle.mesh_addr.specs.Reading.{Gives, GivesOnly, IfRefused, RefusesOnly, block_at}
-use Rattle.mesh_addr.proofs.Laws.{meets_ok, IsBlock, IsFault, block_takes}
-use Rattle.mesh_addr.proofs.Back.{block_again}
-use Rattle.mesh_addr.proofs.Faults.{block_fault}
+use Rattle.mesh_addr.proofs.Taking.{meets_ok, IsBlock, IsFault, block_takes}
+use Rattle.mesh_addr.proofs.ReadAgain.{block_again}
+use Rattle.mesh_addr.proofs.Refusing.{block_fault}
 
 abbrev pub IsRead : ℕ → List ℕ → ℕ → ℕ → List RawAddr × ℕ → Type 0
-IsRead width s at end x = (x.1 ≤ end) × SpellsBlock width x.0 (slice_range s at x.1)
+IsRead width s at end x = (at < x.1) × (x.1 ≤ end) × SpellsBlock width x.0 (slice_range s at x.1)
 
 abbrev pub IsRefused : ℕ → List ℕ → ℕ → ℕ → Refusal → Type 0
 IsRefused width s at end e = (at ≤ e.place) × BlockFault width (slice_range s at end) (e.place - at) e.reason
@@ -23,7 +23,7 @@ block_told : (width : ℕ) (s : List ℕ) (at end : ℕ) → at ≤ end → end 
 block_told width s at end le fits = meets_ok (block_at s at end width) (IsBlock width s at end) (IsRead width s at end) (IsFault width s at end) (IsRefused width s at end) (block_takes width s at end fits)
     (λ e h. let back : at + h.0 - at ≡ h.0 = omega arith in rw (h.3, back) (omega arith, h.2))
     (λ x h. let text : slice_range s at x.1 ≡ h.0 = subst (λ (n : ℕ). slice_range s at n ≡ h.0) (sym h.2.len) (front_is s at h.0 (slice_range s x.1 end) end (record { parts = h.2.parts; at_end = le; fits = fits })) in
-    (h.2.within, rw text h.1))
+    (omega (arith, h.2.len, ap length h.1.whole), h.2.within, rw text h.1))
 
 -- what holds of a reading holds of what a call gave
 given : {X Y : Type 0} (view : X → Y) (P : Y → Type 0) (Q : Refusal → Type 0) (r : Result X ReadBlock) (read : Result Y Refusal) → Gives view r read → MatchResult read P Q → IfOk r (λ x. P (view x)) × IfRefused r Q
