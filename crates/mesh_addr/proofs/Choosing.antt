@@ -6,7 +6,7 @@ use Rattle.mesh_addr.specs.declared.choices.Choice.{Choice}
 use Rattle.mesh_addr.specs.declared.choices.Limits.{Limits}
 use Rattle.mesh_addr.specs.declared.choices.TailForm.{TailForm}
 use Rattle.mesh_addr.specs.declared.choices.TailForm.TheVariants as tails
-use Rattle.mesh_addr.specs.Spelling.{tail_len, tail_rank, choice_rank, cost, weight, cheaper, IsWithin, IsBestOf, HasHead, HasHeadBelow}
+use Rattle.mesh_addr.specs.Spelling.{tail_len, tail_rank, choice_rank, cost, weight, cheaper, IsWithin, IsBestOf, HasHead}
 
 rank_most : (t : TailForm) → tail_rank t ≤ 2
 rank_most tails.Absent = omega arith
@@ -123,23 +123,3 @@ module _ (w count head : ℕ) (limits : Limits) (zeros full : ℕ) (small : w �
     among = cheaper_either (HasHead w limits head) w count first three first_is.0 (refl, record { fits = full_fit; head = within; tail = full_low });
     least = λ other h. subst (λ (x : ℕ). IsWithin w limits (record { head = x; tail = other.tail }) → weight w count least ≤ weight w count (record { head = x; tail = other.tail })) (sym h.0) (least_tail other.tail) h.1;
   }
-
--- ---- one head after the other
-
-pub best_of_first : (w count : ℕ) (limits : Limits) (best : Choice) → IsBestOf w count (HasHead w limits 0) best → IsBestOf w count (HasHeadBelow w limits 1) best
-best_of_first w count limits best h = record { among = (omega (arith, h.among.0), h.among.1); least = λ other k. h.least other (omega (arith, k.0), k.1) }
-
-pub best_of_more : (w count head : ℕ) (limits : Limits) (a b : Choice) → w ≤ 16 → IsBestOf w count (HasHeadBelow w limits head) a → IsBestOf w count (HasHead w limits head) b → IsBestOf w count (HasHeadBelow w limits (head + 1)) (cheaper w count a b)
-best_of_more w count head limits a b small h k = record {
-  among = cheaper_either (HasHeadBelow w limits (head + 1)) w count a b (omega (arith, h.among.0), h.among.1) (omega (arith, k.among.0), k.among.1);
-  least = λ other o. either other o (ltb other.head head) refl;
-} where
-  lighter : (weight w count (cheaper w count a b) ≤ weight w count a) × (weight w count (cheaper w count a b) ≤ weight w count b)
-  lighter = cheaper_least w count a b small h.among.1.fits k.among.1.fits (omega (arith, h.among.0, h.among.1.fits, k.among.0, rank_most a.tail))
-
-  either : (other : Choice) → HasHeadBelow w limits (head + 1) other → (q : Bool) → ltb other.head head ≡ q → weight w count (cheaper w count a b) ≤ weight w count other
-  either other o true e = let lt : other.head < head = ltb-true _ _ e in omega (arith, lighter.0, h.least other (omega arith, o.1))
-  either other o false e = let le : head ≤ other.head = ltb-false _ _ e in omega (arith, lighter.1, k.least other (omega (arith, o.0, le), o.1))
-
-pub best_of_all : (w count : ℕ) (limits : Limits) (best : Choice) → IsBestOf w count (HasHeadBelow w limits (limits.head + 1)) best → IsBestOf w count (IsWithin w limits) best
-best_of_all w count limits best h = record { among = h.among.1; least = λ other k. h.least other (omega (arith, k.head), k) }

@@ -9,13 +9,7 @@ use Rattle.mesh_atoms.specs.Reading.{◌>>=◌, refuse}
 use Rattle.mesh_addr.specs.declared.records.RawAddr.{RawAddr}
 use Rattle.mesh_addr.specs.Reading.{Shape, mid_of, addr_of, parts_end, own_at, addrs_at}
 
--- the next of so many parts ends before all end
-pub part_within : (i n size : ℕ) → i < n → i * size + size ≤ n * size
-part_within i n size lt =
-    let e : suc i * size ≡ i * size + size = suc-mul i size in
-    let le : suc i * size ≤ n * size = mul-le-mul_right size lt in
-    omega (arith, e, le)
-
+-- so many parts and one more
 pub next_part : (i size : ℕ) → (i + 1) * size ≡ i * size + size
 next_part i size = let e : i + 1 ≡ suc i = omega arith in rw e (suc-mul i size)
 

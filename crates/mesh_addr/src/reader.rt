@@ -22,7 +22,8 @@ struct Shape<'a> {
 /// Puts a piece where the zeros begin.
 fn put_octets(octets: &mut [u8; 16], at: usize, piece: &[u8])
     requires { at + length piece.now ≤ 16 }
-    ensures { (front : List ℕ) → at ≡ length front → octets.old ≡ padded front → octets.new ≡ padded (front ++ piece.now) }
+    ensures { (front : List ℕ) → at ≡ length front → octets.old ≡ padded front
+        → octets.new ≡ padded (front ++ piece.now) }
 {
     octets[at..at + piece.len()].copy_from_slice(piece);
 }
@@ -134,11 +135,13 @@ fn read_addresses(
     addresses_of_block(alloc, frame, at, end, width)
 }
 
-/// The address block from `at` on, with addresses of `width` octets, and the place after it (RFC 5444, section 5.3). The
-/// block ends before `end`, and the width is 1 to 16. Middle parts and prefix lengths are read address by address;
-/// reserved flags are ignored. A block is refused exactly at its first fault: a field that passes `end` (1), no
-/// addresses (8), both tail flags or both prefix flags (9), a head length above the width or a tail length above the
-/// width that the head leaves (10), a prefix length above 8 times the width (11). Within one field the least number counts.
+/// Reads the address block that begins at `at` and ends at `end` at the latest, with addresses of `width` octets, from 1
+/// to 16, and gives the place after it (RFC 5444, section 5.3). A tail of zeros stands for zeros, middle parts of no
+/// octets are left out, each prefix is 8 times the width where no prefix flag is set, and reserved flags are ignored.
+///
+/// A block is refused exactly at its first fault, each middle part and each prefix length being a field: a field that
+/// passes `end` (1), no addresses (8), both tail flags or both prefix flags (9), a head length above the width or a tail
+/// length above what the head leaves of it (10), a prefix length above 8 times the width (11).
 pub fn read_block(
     alloc: Global,
     frame: &[u8],

@@ -21,7 +21,9 @@ pub struct AddrBlock {
 /// Why no block was read: its first fault, or want of memory.
 #[derive(Debug, Drop)]
 pub enum ReadBlock {
+    /// The place and the reason of the first fault.
     Refused(Refusal),
+    /// No memory was left for the addresses.
     Memory(AllocError),
 }
 
