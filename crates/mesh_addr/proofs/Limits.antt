@@ -1,6 +1,6 @@
 -- How far head, tail and zeros of a block reach.
-use Rattle.std.proofs.Common.{◌≡◌, ℕ, ◌+◌, ◌-◌, ◌<◌, ◌≤◌, Bool, true, false, List, take, drop, refl, sym, ap, subst, ◌∙◌, arith}
-use Rattle.std.specs.Prelude.{slice_range, replicate, not}
+use Rattle.std.proofs.Common.{◌≡◌, ℕ, ◌+◌, ◌-◌, ◌≤◌, Bool, true, false, List, take, drop, refl, sym, ap, subst, ◌∙◌, arith}
+use Rattle.std.specs.Prelude.{slice_range, not}
 use Rattle.std.specs.Str.{bytes_eq}
 use Rattle.std.proofs.lemmas.Slice.Eq.{bytes_eq-Decides}
 use Rattle.std.proofs.lemmas.List.{take-take, drop-take, drop-drop, drop-replicate}
@@ -9,7 +9,7 @@ use Rattle.mesh_addr.specs.declared.choices.Choice.{Choice}
 use Rattle.mesh_addr.specs.declared.choices.Limits.{Limits}
 use Rattle.mesh_addr.specs.declared.choices.TailForm.{TailForm}
 use Rattle.mesh_addr.specs.declared.choices.TailForm.TheVariants as tails
-use Rattle.mesh_addr.specs.Spelling.{tail_len, last_octets, ShareTail, EndsInZeros, TailFits, IsPossible, IsLimit, AreLimits, IsTailWithin, IsWithin}
+use Rattle.mesh_addr.specs.Spelling.{tail_len, ShareTail, EndsInZeros, TailFits, IsPossible, IsLimit, AreLimits, IsTailWithin, IsWithin}
 use Rattle.mesh_addr.proofs.Padding.{zeros}
 
 -- what a test for a difference told

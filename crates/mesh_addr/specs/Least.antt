@@ -1,5 +1,5 @@
 -- The spelling of a block that is written: of the fewest octets, and among those the one that is preferred.
-use Rattle.std.specs.Prelude.{◌≡◌, ℕ, ◌+◌, ◌*◌, ◌≤◌, ◌<◌, List, [], ◌∷◌, ◌++◌, length, cond, Ok}
+use Rattle.std.specs.Prelude.{◌≡◌, ℕ, ◌+◌, ◌*◌, ◌≤◌, List, [], ◌∷◌, ◌++◌, length, cond, Ok}
 use Rattle.mesh_atoms.specs.Reading.{has}
 use Rattle.mesh_addr.specs.declared.records.RawAddr.{RawAddr}
 use Rattle.mesh_addr.specs.Grammar.{SpellsBlock}

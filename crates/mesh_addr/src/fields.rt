@@ -7,7 +7,7 @@ use crate::flags::{EACH_PREFIX, FULL_TAIL, HEAD, ONE_PREFIX, ZERO_TAIL};
 use crate::reasons::{ADDR_CUT, ADDR_FLAGS, NO_ADDRESSES, PREFIX_LENGTH, SHORT};
 use mesh_atoms::Refusal;
 
-/// The octet at a place, and the place after it.
+/// The octet that stands there, and where the next one stands.
 fn octet(frame: &[u8], at: usize, end: usize) -> Result<(u8, usize), Refusal>
     requires { end ≤ length frame.now }
     ensures exact { result ≡ octet_at 1 frame.now at end }
