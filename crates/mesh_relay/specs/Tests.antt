@@ -1,0 +1,67 @@
+-- The tests of relay sets, which compute.
+use Rattle.std.specs.Prelude.{ℕ, ◌+◌, Bool, ◌&&◌, ◌||◌, not, List, nat_eq, nat_lt, nat_le}
+use Rattle.std.specs.List.{list_any, list_all}
+use Rattle.std.specs.Borrow.{Bor}
+use Rattle.mesh_atoms.specs.declared.addr.Addr4.{Addr4}
+use Rattle.mesh_atoms.specs.declared.graphs.Near.{Near}
+use Rattle.mesh_atoms.specs.declared.graphs.Far.{Far}
+use Rattle.mesh_atoms.specs.declared.graphs.NeighbourGraph.{NeighbourGraph}
+use Rattle.mesh_relay.specs.declared.sets.Among.{Among}
+use Rattle.mesh_relay.specs.declared.sets.Among.TheVariants.{Willing, Relays, Others, Both}
+
+abbrev pub same : Addr4 → Addr4 → Bool
+same a b = nat_eq a.0 b.0
+
+abbrev pub contains : List Addr4 → Addr4 → Bool
+contains ids id = list_any (λ r. same r id) ids
+
+abbrev pub counts : Among → Near → Bool
+counts Willing n = not (nat_eq n.will 0)
+counts (Relays relays) n = contains relays.now n.id
+counts (Both first last) n = contains first.now n.id || contains last.now n.id
+counts (Others relays id) n = contains relays.now n.id && not (same n.id id)
+
+abbrev pub leads : NeighbourGraph → Among → Far → ℕ → Bool
+leads g among f most = list_any (λ n. same n.id f.via && counts among n && nat_le (n.cost + f.cost) most) g.near
+
+abbrev pub is_direct_within : NeighbourGraph → Addr4 → ℕ → Bool
+is_direct_within g y most = list_any (λ d. same d.addr y && nat_le d.cost most) g.direct
+
+abbrev pub is_led_to_within : NeighbourGraph → Among → Addr4 → ℕ → Bool
+is_led_to_within g among y most = list_any (λ f. same f.addr y && leads g among f most) g.far
+
+abbrev pub offers_within : NeighbourGraph → Among → Addr4 → ℕ → Bool
+offers_within g among y most = is_direct_within g y most || is_led_to_within g among y most
+
+abbrev pub is_matched : NeighbourGraph → Among → Among → Far → Bool
+is_matched g among other f = list_all (λ n. not (same n.id f.via) || not (counts other n) || offers_within g among f.addr (n.cost + f.cost)) g.near
+
+abbrev pub is_as_cheap : NeighbourGraph → Among → Among → Addr4 → Bool
+is_as_cheap g among other y = list_all (λ f. not (same f.addr y) || is_matched g among other f) g.far
+
+abbrev pub keeps_costs : NeighbourGraph → Among → Bool
+keeps_costs g among = list_all (λ f. is_as_cheap g among Willing f.addr) g.far
+
+abbrev pub has_always : NeighbourGraph → Among → Bool
+has_always g among = list_all (λ n. not (nat_eq n.will 15) || counts among n) g.near
+
+abbrev pub is_willing_id : NeighbourGraph → Addr4 → Bool
+is_willing_id g id = list_any (λ n. same n.id id && not (nat_eq n.will 0)) g.near
+
+abbrev pub are_willing : NeighbourGraph → List Addr4 → Bool
+are_willing g relays = list_all (λ id. is_willing_id g id) relays
+
+abbrev pub has_same_distance : NeighbourGraph → Among → Among → Addr4 → Bool
+has_same_distance g among other y = is_as_cheap g among other y && is_as_cheap g other among y
+
+abbrev pub is_missed : NeighbourGraph → Bor (List Addr4) → Addr4 → Bool
+is_missed g relays id = list_any (λ f. not (has_same_distance g (Others relays id) Willing f.addr)) g.far
+
+abbrev pub may_be_left_out : Near → Bool
+may_be_left_out n = not (nat_eq n.will 0) && nat_lt n.will 15
+
+abbrev pub irredundant : NeighbourGraph → Bor (List Addr4) → Bool
+irredundant g relays = list_all (λ n. not (contains relays.now n.id) || not (may_be_left_out n) || is_missed g relays n.id) g.near
+
+abbrev pub covers : NeighbourGraph → Bor (List Addr4) → Bool
+covers g relays = has_always g (Relays relays) && are_willing g relays.now && keeps_costs g (Relays relays)
