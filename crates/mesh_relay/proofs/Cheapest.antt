@@ -1,231 +1,417 @@
--- Sets that have a way to each address that has one.
-use Rattle.std.proofs.Common.{◌≡◌, ℕ, ◌+◌, ◌-◌, ◌≤◌, ◌<◌, ◌⊎◌, Bool, true, false, ◌&&◌, cond, nat_lt, List, [], ◌∷◌, zero, suc, refl, sym, ◌∙◌, subst, inl, inr, arith, Decides, MatchBool}
-use Rattle.std.specs.Prelude.{Contains, filter, IsPermutation}
-use Rattle.std.specs.Borrow.{Bor}
-use Rattle.std.specs.List.Sorted.{IsNonDecreasingBy}
-use Rattle.std.proofs.lemmas.Bool.{false≢true, and_cases, and_parts, cases_lt, cases_Bool}
+-- The ways that are kept are the cheapest ones.
+use Rattle.std.proofs.Common.{◌≡◌, ℕ, ◌+◌, ◌-◌, ◌≤◌, ◌<◌, ◌⊎◌, Bool, true, false, ◌&&◌, ◌||◌, cond, nat_eq, nat_lt, List, [], ◌∷◌, Option, Some, None, length, get_or, zero, suc, refl, sym, ◌∙◌, ap, subst, inl, inr, arith, All, Ordering, Less, Equal, Greater}
+use Rattle.std.specs.Prelude.{Contains, filter_map, IsPermutation}
+use Rattle.std.specs.List.{dedup, dedup_from}
+use Rattle.std.specs.List.Sorted.{IsSorted}
+use Rattle.std.specs.Ordering.{MatchOrdering, nat_cmp, ordering_then, is_lt}
+use Rattle.std.proofs.lemmas.Cmp.{ranked}
+use Rattle.std.proofs.lemmas.Bool.{false≢true, true≢false, and_parts, and_from, or_cases, or_left, ltb-true, lt-ltb, eqb-true, cases_lt, cases_Bool}
+use Rattle.std.proofs.lemmas.List.Elements.{Contains-get_or}
 use Rattle.std.proofs.lemmas.List.Sorted.{Contains-permutation, IsPermutation-sym}
 use Rattle.mesh_atoms.specs.declared.addr.Addr4.{Addr4}
 use Rattle.mesh_atoms.specs.declared.graphs.Near.{Near}
-use Rattle.mesh_atoms.specs.declared.graphs.Direct.{Direct}
 use Rattle.mesh_atoms.specs.declared.graphs.Far.{Far}
 use Rattle.mesh_atoms.specs.declared.graphs.NeighbourGraph.{NeighbourGraph}
-use Rattle.mesh_atoms.specs.Relays.{Offers, IsWilling, IsAsCheap}
-use Rattle.mesh_relay.specs.declared.sets.Among.TheVariants.{Willing, Both}
-use Rattle.mesh_relay.specs.Tests.{is_direct_within, is_led_to_within, has_always}
-use Rattle.mesh_relay.specs.Pruning.{IsOfEither, IsCovering, Lacks}
-use Rattle.mesh_relay.specs.Ways.{is_beaten, is_way_by, is_way, AreWays, has_id, reaches_all}
-use Rattle.mesh_relay.proofs.Decide.{Decides-and, Decides-or, Decides-not, Decides-some, Decides-same, Decides-equal, Decides-less, Decides-contains, Decides-direct, Decides-led, Decides-always, OffersWithin, Leads, lacks_always}
-use Rattle.mesh_relay.proofs.Prune.{cons_cases, cons_more, cons_first, none_within}
-use Rattle.mesh_relay.proofs.Hits.{all_hit, one_missed}
+use Rattle.mesh_atoms.specs.Relays.{Offers, IsWilling}
+use Rattle.mesh_relay.specs.declared.ways.Way.{Way}
+use Rattle.mesh_relay.specs.Tests.{same, is_direct_within}
+use Rattle.mesh_relay.specs.Ways.{AreWilling, IsAt, IsDirect, IsCheapest, HasWay, RisesFrom, AreWays, way_at, way_from, adds_nothing}
+use Rattle.mesh_relay.proofs.Decide.{Decides-same, Decides-direct}
+use Rattle.mesh_relay.proofs.Lists.{none_within, cons_cases, cons_more, cons_first, given_by, gives, dedup_cases, dedup_within, joined, kept_within}
+use Rattle.mesh_relay.proofs.Willing.{one_near}
 
--- Elements that pass a test
+-- Ways in order
 
-filter_cons : {X : Type 0} (b : Bool) (x y : X) (rest : List X) → Contains (cond b (y ∷ rest) rest) x → ((y ≡ x) × (b ≡ true)) ⊎ Contains rest x
-filter_cons true x y rest w = elim (cons_cases y x rest w) [ inl e ↦ inl (e, refl) | inr v ↦ inr v ]
-filter_cons false x y rest w = inr w
+-- by address, and then by cost
+abbrev pub InOrder : Way → Way → Type 0
+InOrder a b = (a.addr.0 < b.addr.0) ⊎ ((a.addr.0 ≡ b.addr.0) × (a.cost ≤ b.cost))
 
-filter_first : {X : Type 0} (b : Bool) (y : X) (rest : List X) → b ≡ true → Contains (cond b (y ∷ rest) rest) y
-filter_first true y rest e = cons_first y rest
-filter_first false y rest e = absurd (false≢true e)
+abbrev pub Rises : Way → List Way → Type 0
+Rises k [] = Unit {0}
+Rises k (x ∷ xs) = InOrder k x × Rises x xs
 
-filter_later : {X : Type 0} (b : Bool) (x y : X) (rest : List X) → Contains rest x → Contains (cond b (y ∷ rest) rest) x
-filter_later true x y rest w = cons_more y x rest w
-filter_later false x y rest w = w
+abbrev pub IsInOrder : List Way → Type 0
+IsInOrder [] = Unit {0}
+IsInOrder (k ∷ xs) = Rises k xs
 
-pub passes : {X : Type 0} (p : X → Bool) (xs : List X) (x : X) → Contains (filter p xs) x → Contains xs x × (p x ≡ true)
-passes p [] x w = absurd (none_within x w)
-passes p (y ∷ xs) x w = elim (filter_cons (p y) x y (filter p xs) w) [
-  | inl e ↦ (subst (λ z. Contains (y ∷ xs) z) e.0 (cons_first y xs), subst (λ z. p z ≡ true) e.0 e.1)
-  | inr v ↦ let h = passes p xs x v in (cons_more y x xs h.0, h.1)
-]
+in_order_itself : (k : Way) → InOrder k k
+in_order_itself k = inr (refl, omega arith)
 
-pub stays : {X : Type 0} (p : X → Bool) (xs : List X) (x : X) → Contains xs x → p x ≡ true → Contains (filter p xs) x
-stays p [] x w e = absurd (none_within x w)
-stays p (y ∷ xs) x w e = elim (cons_cases y x xs w) [
-  | inl same' ↦ subst (λ z. Contains (filter p (y ∷ xs)) z) same' (filter_first (p y) y (filter p xs) (subst (λ z. p z ≡ true) (sym same') e))
-  | inr later ↦ filter_later (p y) x y (filter p xs) (stays p xs x later e)
-]
-
-pub are_ways : (g : NeighbourGraph) (found ways : List Far) → found ≡ filter (λ f. is_way g f) g.far → IsPermutation found ways → IsNonDecreasingBy (λ (f : Far). f.addr.0) ways → AreWays g ways
-are_ways g found ways is same' order = record {
-  each = λ f. (
-    λ w. passes (λ x. is_way g x) g.far f (subst (λ (l : List Far). Contains l f) is (Contains-permutation ways found f (IsPermutation-sym found ways same') w)),
-    λ h. Contains-permutation found ways f same' (subst (λ (l : List Far). Contains l f) (sym is) (stays (λ x. is_way g x) g.far f h.0 h.1)),
-  );
-  order = order;
-}
-
--- Ways
-
-abbrev IsDirect : NeighbourGraph → Addr4 → ℕ → Type 0
-IsDirect g y most = (d : Direct) × Contains g.direct d × ((d.addr ≡ y) × (d.cost ≤ most))
-
-abbrev Beaten : NeighbourGraph → Addr4 → ℕ → Type 0
-Beaten g y cost = (0 < cost) × ((f : Far) × Contains g.far f × ((f.addr ≡ y) × Leads g IsWilling f (cost - 1)))
-
-abbrev IsWayBy : NeighbourGraph → Far → Near → Type 0
-IsWayBy g f n = (((n.id ≡ f.via) × IsWilling n) × (IsDirect g f.addr (n.cost + f.cost) → ⊥)) × (Beaten g f.addr (n.cost + f.cost) → ⊥)
-
-Decides-beaten : (g : NeighbourGraph) (y : Addr4) (cost : ℕ) → Decides (is_beaten g y cost) (Beaten g y cost)
-Decides-beaten g y cost = Decides-and (nat_lt 0 cost) (is_led_to_within g Willing y (cost - 1)) (Decides-less 0 cost) (Decides-led g Willing y (cost - 1))
-
-Decides-way_by : (g : NeighbourGraph) (f : Far) (n : Near) → Decides (is_way_by g f n) (IsWayBy g f n)
-Decides-way_by g f n =
-    Decides-and _ _ (Decides-and _ _ (Decides-and _ _ (Decides-same n.id f.via) (Decides-not _ (Decides-equal n.will 0)))
-    (Decides-not _ (Decides-direct g f.addr (n.cost + f.cost)))) (Decides-not _ (Decides-beaten g f.addr (n.cost + f.cost)))
-
-Decides-way : (g : NeighbourGraph) (f : Far) → Decides (is_way g f) ((n : Near) × Contains g.near n × IsWayBy g f n)
-Decides-way g f = Decides-some (λ n. is_way_by g f n) (λ n. IsWayBy g f n) (λ n. Decides-way_by g f n) g.near
-
-record IsCheapest (g : NeighbourGraph) (w : Far) : Type 0 where
-  within : Contains g.far w
-  near : Near
-  known : Contains g.near near
-  via : near.id ≡ w.via
-  willing : IsWilling near
-  no_direct : IsDirect g w.addr (near.cost + w.cost) → ⊥
-  least : (c : ℕ) → Offers g IsWilling w.addr c → near.cost + w.cost ≤ c
-
-none_below : (g : NeighbourGraph) (w : Far) (n : Near) → (IsDirect g w.addr (n.cost + w.cost) → ⊥) → (Beaten g w.addr (n.cost + w.cost) → ⊥) →
-    (c : ℕ) → Offers g IsWilling w.addr c → c < n.cost + w.cost → ⊥
-none_below g w n no_direct unbeaten c o lt = elim o [
-  | inl d ↦ let e : d.0.cost ≡ c = d.3 in no_direct (d.0, d.1, (d.2, omega arith))
-  | inr m ↦ let e : m.0.cost + m.3.cost ≡ c = m.7 in
-      unbeaten (omega arith, (m.3, m.4, (m.6, (m.0, m.1, ((sym m.5, m.2), omega arith)))))
-]
-
-cheapest : (g : NeighbourGraph) (ways : List Far) → AreWays g ways → (w : Far) → Contains ways w → IsCheapest g w
-cheapest g ways are w within =
-    let h = (are.each w).0 within in
-    let by = (Decides-way g w).0 h.1 in
-    record {
-      within = h.0;
-      near = by.0;
-      known = by.1;
-      via = by.2.0.0.0;
-      willing = by.2.0.0.1;
-      no_direct = by.2.0.1;
-      least = λ c o. elim (cases_lt c (by.0.cost + w.cost)) [
-        | inl lt ↦ absurd (none_below g w by.0 by.2.0.1 by.2.1 c o lt)
-        | inr le ↦ le
-      ];
-    }
-
--- an offer by way of a willing neighbour is a way, or is no cheaper than a direct entry, or is dearer than another
-otherwise : (g : NeighbourGraph) (ways : List Far) → AreWays g ways → (n : Near) (f : Far) → Contains g.near n → IsWilling n → Contains g.far f → f.via ≡ n.id →
-    Contains ways f ⊎ (IsDirect g f.addr (n.cost + f.cost) ⊎ Beaten g f.addr (n.cost + f.cost))
-otherwise g ways are n f near willing far via =
-    elim (cases_Bool (is_direct_within g f.addr (n.cost + f.cost))) [
-      | inl e ↦ inr (inl ((Decides-direct g f.addr (n.cost + f.cost)).0 e))
-      | inr e ↦ elim (cases_Bool (is_beaten g f.addr (n.cost + f.cost))) [
-        | inl b ↦ inr (inr ((Decides-beaten g f.addr (n.cost + f.cost)).0 b))
-        | inr b ↦ inl ((are.each f).1 (
-          far,
-          (Decides-way g f).1 (
-            n,
-            near,
-            (
-              ((sym via, willing), λ d. false≢true (sym e ∙ (Decides-direct g f.addr (n.cost + f.cost)).1 d)),
-              λ d. false≢true (sym b ∙ (Decides-beaten g f.addr (n.cost + f.cost)).1 d),
-            ),
-          ),
-        ))
-      ]
-    ]
-
--- Sets
-
--- each way has one to the same address that the set has
-abbrev pub HasEach : NeighbourGraph → List Far → (Near → Type 0) → Type 0
-HasEach g ways A = (w : Far) → Contains ways w → (v : Far) × Contains ways v × (v.addr ≡ w.addr) × ((n : Near) → n.id ≡ v.via → A n)
-
-le-itself : (n : ℕ) → n ≤ n
-le-itself n = omega arith
-
-at_way : (g : NeighbourGraph) (ways : List Far) (A : Near → Type 0) → AreWays g ways → HasEach g ways A → (y : Addr4) (c : ℕ) → Offers g IsWilling y c → (n : Near) (f : Far) →
-    Contains g.near n → IsWilling n → Contains g.far f → f.via ≡ n.id → f.addr ≡ y → n.cost + f.cost ≡ c →
-    ((e : ℕ) → e < c → Offers g IsWilling y e → OffersWithin g A y e) → OffersWithin g A y c
-at_way g ways A are has y c o n f near willing far via at cost below = elim (otherwise g ways are n f near willing far via) [
-  | inl w ↦
-      let v = has f w in
-      let best = cheapest g ways are v.0 v.1 in
-      let there : v.0.addr ≡ y = v.2 ∙ at in (
-        best.near.cost + v.0.cost,
-        inr (best.near, best.known, v.3 best.near best.via, v.0, best.within, sym best.via, there, refl),
-        best.least c (subst (λ (a : Addr4). Offers g IsWilling a c) (sym there) o),
-      )
-  | inr rest ↦ elim rest [
-    | inl d ↦ let le : d.0.cost ≤ n.cost + f.cost = d.2.1 in (d.0.cost, inl (d.0, d.1, d.2.0 ∙ at, refl), omega arith)
-    | inr b ↦
-        let m = b.1.2.1 in
-        let less : m.0.cost + b.1.0.cost ≤ (n.cost + f.cost) - 1 = m.2.1 in
-        let some : 0 < n.cost + f.cost = b.0 in
-        let h = below (m.0.cost + b.1.0.cost) (omega arith) (inr (m.0, m.1, m.2.0.1, b.1.0, b.1.1, sym m.2.0.0, b.1.2.0 ∙ at, refl)) in
-        let le : h.0 ≤ m.0.cost + b.1.0.cost = h.2 in
-        (h.0, h.1, omega arith)
+in_order_on : (a b c : Way) → InOrder a b → InOrder b c → InOrder a c
+in_order_on a b c p q = elim p [
+  | inl lt ↦ elim q [ inl lt' ↦ inl (omega arith) | inr e ↦ let f : b.addr.0 ≡ c.addr.0 = e.0 in inl (omega arith) ]
+  | inr e ↦ let f : a.addr.0 ≡ b.addr.0 = e.0 in let le : a.cost ≤ b.cost = e.1 in elim q [
+    | inl lt' ↦ inl (omega arith)
+    | inr e' ↦ let g : b.addr.0 ≡ c.addr.0 = e'.0 in let le' : b.cost ≤ c.cost = e'.1 in inr (f ∙ g, omega arith)
   ]
 ]
 
-descends : (g : NeighbourGraph) (ways : List Far) (A : Near → Type 0) → AreWays g ways → HasEach g ways A → (y : Addr4) (fuel c : ℕ) → c < fuel → Offers g IsWilling y c → OffersWithin g A y c
-descends g ways A are has y zero c lt o = absurd (omega arith)
-descends g ways A are has y (suc fuel) c lt o = elim o [
-  | inl d ↦ (c, inl d, le-itself c)
-  | inr m ↦ at_way g ways A are has y c (inr m) m.0 m.3 m.1 m.2 m.4 m.5 m.6 m.7
-      (λ e below o'. descends g ways A are has y fuel e (omega arith) o')
+rises_lower : (j k : Way) (xs : List Way) → InOrder j k → Rises k xs → Rises j xs
+rises_lower j k [] le h = tt
+rises_lower j k (x ∷ xs) le h = (in_order_on j k x le h.0, h.1)
+
+rises_above : (k : Way) (xs : List Way) (v : Way) → Rises k xs → Contains (k ∷ xs) v → InOrder k v
+rises_above k [] v up w = elim (cons_cases k v [] w) [
+  | inl e ↦ subst (InOrder k) e (in_order_itself k)
+  | inr h ↦ absurd (none_within v h)
+]
+rises_above k (x ∷ xs) v up w = elim (cons_cases k v (x ∷ xs) w) [
+  | inl e ↦ subst (InOrder k) e (in_order_itself k)
+  | inr h ↦ in_order_on k x v up.0 (rises_above x xs v up.1 h)
 ]
 
-pub keeps_each : (g : NeighbourGraph) (ways : List Far) (A : Near → Type 0) → AreWays g ways → HasEach g ways A → (y : Addr4) → IsAsCheap g A IsWilling y
-keeps_each g ways A are has y c o = descends g ways A are has y (suc c) c (omega arith) o
+addr_le : (a b : Way) → InOrder a b → a.addr.0 ≤ b.addr.0
+addr_le a b p = elim p [ inl lt ↦ omega arith | inr e ↦ let f : a.addr.0 ≡ b.addr.0 = e.0 in omega arith ]
 
-dearer_at : (g : NeighbourGraph) (ways : List Far) (A : Near → Type 0) → AreWays g ways → ((n : Near) → Contains g.near n → A n → IsWilling n) →
-    (w : Far) → Contains ways w → ((v : Far) (n : Near) → Contains ways v → v.addr ≡ w.addr → n.id ≡ v.via → A n → ⊥) → IsAsCheap g A IsWilling w.addr → ⊥
-dearer_at g ways A are willing w within missed cheap =
-    let best = cheapest g ways are w within in
-    let h = cheap (best.near.cost + w.cost) (inr (best.near, best.known, best.willing, w, best.within, sym best.via, refl, refl)) in
-    let le : h.0 ≤ best.near.cost + w.cost = h.2 in
-    elim h.1 [
-      | inl d ↦ let e : d.0.cost ≡ h.0 = d.3 in best.no_direct (d.0, d.1, (d.2, omega arith))
-      | inr m ↦ elim (otherwise g ways are m.0 m.3 m.1 (willing m.0 m.1 m.2) m.4 m.5) [
-        | inl v ↦ missed m.3 m.0 v m.6 (sym m.5) m.2
-        | inr rest ↦ let cost : m.0.cost + m.3.cost ≡ h.0 = m.7 in elim rest [
-          | inl d ↦ let less : d.0.cost ≤ m.0.cost + m.3.cost = d.2.1 in best.no_direct (d.0, d.1, (d.2.0 ∙ m.6, omega arith))
-          | inr b ↦
-              let q = b.1.2.1 in
-              let less : q.0.cost + b.1.0.cost ≤ (m.0.cost + m.3.cost) - 1 = q.2.1 in
-              let some : 0 < m.0.cost + m.3.cost = b.0 in
-              let more : best.near.cost + w.cost ≤ q.0.cost + b.1.0.cost =
-              best.least (q.0.cost + b.1.0.cost) (inr (q.0, q.1, q.2.0.1, b.1.0, b.1.1, sym q.2.0.0, b.1.2.0 ∙ m.6, refl)) in
-              omega arith
-        ]
+cost_le : (a b : Way) → InOrder a b → a.addr ≡ b.addr → a.cost ≤ b.cost
+cost_le a b p e = elim p [
+  | inl lt ↦ let f : a.addr.0 ≡ b.addr.0 = ap (λ (y : Addr4). y.0) e in absurd (omega arith)
+  | inr h ↦ h.1
+]
+
+-- What is kept stays in order
+
+rises_cond : (b : Bool) (low : ℕ) (a c : List Way) → RisesFrom low a → RisesFrom low c → RisesFrom low (cond b a c)
+rises_cond true low a c h h' = h
+rises_cond false low a c h h' = h'
+
+kept_rises : (low : ℕ) (k : Way) (xs : List Way) → low ≤ k.addr.0 → Rises k xs → RisesFrom low (dedup_from adds_nothing k xs)
+kept_rises low k [] le up = (le, tt)
+kept_rises low k (x ∷ xs) le up =
+    rises_cond (adds_nothing x k) low (dedup_from adds_nothing k xs) (k ∷ dedup_from adds_nothing x xs)
+    (kept_rises low k xs le (rises_lower k x xs up.0 up.1))
+    (le, kept_rises k.addr.0 x xs (addr_le k x up.0) up.1)
+
+dedup_rises : (sorted : List Way) → IsInOrder sorted → RisesFrom 0 (dedup adds_nothing sorted)
+dedup_rises [] up = tt
+dedup_rises (k ∷ xs) up = kept_rises 0 k xs (omega arith) up
+
+-- What is kept is cheapest
+
+same_addr : (x k : Way) → adds_nothing x k ≡ true → x.addr ≡ k.addr
+same_addr x k e = (Decides-same x.addr k.addr).0 (and_parts _ _ e).0
+
+no_cheaper : (x k : Way) → adds_nothing x k ≡ false → x.addr ≡ k.addr → k.cost < x.cost → ⊥
+no_cheaper x k e at lt =
+    true≢false (sym (and_from (same x.addr k.addr) (nat_lt k.cost x.cost || nat_eq x.place k.place) ((Decides-same x.addr k.addr).1 at)
+    (or_left (nat_lt k.cost x.cost) (nat_eq x.place k.place) (lt-ltb k.cost x.cost lt))) ∙ e)
+
+abbrev IsLeastIn : List Way → List Way → Type 0
+IsLeastIn kept all = (w v : Way) → Contains kept w → Contains all v → v.addr ≡ w.addr → w.cost ≤ v.cost
+
+least_joined : (k x : Way) (xs a : List Way) → adds_nothing x k ≡ true → InOrder k x → IsLeastIn a (k ∷ xs) → IsLeastIn a (k ∷ x ∷ xs)
+least_joined k x xs a e up h w v in' there at = elim (cons_cases k v (x ∷ xs) there) [
+  | inl f ↦ h w v in' (subst (Contains (k ∷ xs)) f (cons_first k xs)) at
+  | inr later ↦ elim (cons_cases x v xs later) [
+    | inl f ↦
+        let here : x.addr ≡ w.addr = ap (λ (y : Way). y.addr) f ∙ at in
+        let low : w.cost ≤ k.cost = h w k in' (cons_first k xs) (sym (same_addr x k e) ∙ here) in
+        let high : k.cost ≤ x.cost = cost_le k x up (sym (same_addr x k e)) in
+        let end : x.cost ≡ v.cost = ap (λ (y : Way). y.cost) f in
+        omega arith
+    | inr last ↦ h w v in' (cons_more k v xs last) at
+  ]
+]
+
+-- a way that is kept later has a later address, or no other cost
+first_no_dearer : (k x w : Way) (xs : List Way) → adds_nothing x k ≡ false → InOrder k x → Rises x xs → Contains (x ∷ xs) w → k.addr ≡ w.addr →
+    (x.addr ≡ w.addr → w.cost ≤ x.cost) → w.cost ≤ k.cost
+first_no_dearer k x w xs e up rises there at h =
+    let low : k.addr.0 ≤ x.addr.0 = addr_le k x up in
+    let high : x.addr.0 ≤ w.addr.0 = addr_le x w (rises_above x xs w rises there) in
+    let ends : k.addr.0 ≡ w.addr.0 = ap (λ (y : Addr4). y.0) at in
+    let equal : x.addr.0 ≡ k.addr.0 = omega arith in
+    let here : x.addr ≡ k.addr = ap (λ (n : ℕ). record { 0 = n }) equal in
+    let le : w.cost ≤ x.cost = h (here ∙ at) in
+    let not_less : k.cost < x.cost → ⊥ = no_cheaper x k e here in
+    omega arith
+
+least_kept : (k x : Way) (xs c : List Way) → adds_nothing x k ≡ false → InOrder k x → Rises x xs → ((w : Way) → Contains c w → Contains (x ∷ xs) w) →
+    IsLeastIn c (x ∷ xs) → IsLeastIn (k ∷ c) (k ∷ x ∷ xs)
+least_kept k x xs c e up rises inside h w v in' there at = elim (cons_cases k w c in') [
+  | inl f ↦ subst (λ (y : Way). y.cost ≤ v.cost) f (cost_le k v (rises_above k (x ∷ xs) v (up, rises) there) (ap (λ (y : Way). y.addr) f ∙ sym at))
+  | inr later ↦ elim (cons_cases k v (x ∷ xs) there) [
+    | inl f ↦ subst (λ (y : Way). w.cost ≤ y.cost) f
+        (first_no_dearer k x w xs e up rises (inside w later) (ap (λ (y : Way). y.addr) f ∙ at) (λ here. h w x later (cons_first x xs) here))
+    | inr last ↦ h w v later last at
+  ]
+]
+
+least_cond : (b : Bool) (k x : Way) (xs a c : List Way) → adds_nothing x k ≡ b → InOrder k x → Rises x xs → ((w : Way) → Contains c w → Contains (x ∷ xs) w) →
+    IsLeastIn a (k ∷ xs) → IsLeastIn c (x ∷ xs) → IsLeastIn (cond b a (k ∷ c)) (k ∷ x ∷ xs)
+least_cond true k x xs a c e up rises inside h h' = least_joined k x xs a e up h
+least_cond false k x xs a c e up rises inside h h' = least_kept k x xs c e up rises inside h'
+
+least_one : (k : Way) → IsLeastIn (k ∷ []) (k ∷ [])
+least_one k w v in' there at = elim (cons_cases k w [] in') [
+  | inl e ↦ elim (cons_cases k v [] there) [
+    | inl f ↦ let d : w.cost ≡ v.cost = ap (λ (y : Way). y.cost) (sym e ∙ f) in omega arith
+    | inr h ↦ absurd (none_within v h)
+  ]
+  | inr h ↦ absurd (none_within w h)
+]
+
+least : (k : Way) (xs : List Way) → Rises k xs → IsLeastIn (dedup_from adds_nothing k xs) (k ∷ xs)
+least k [] up = least_one k
+least k (x ∷ xs) up =
+    least_cond (adds_nothing x k) k x xs (dedup_from adds_nothing k xs) (dedup_from adds_nothing x xs) refl up.0 up.1
+    (λ w h. dedup_within adds_nothing x xs w h) (least k xs (rises_lower k x xs up.0 up.1)) (least x xs up.1)
+
+dedup_least : (sorted : List Way) → IsInOrder sorted → IsLeastIn (dedup adds_nothing sorted) sorted
+dedup_least [] up w v in' there at = absurd (none_within w in')
+dedup_least (k ∷ xs) up w v in' there at = least k xs up w v in' there at
+
+-- What an entry gives
+
+some_same : {X : Type 0} (x y : X) → Some x ≡ Some y → x ≡ y
+some_same x y e = cc
+
+no_some : {X : Type 0} (x : X) → None ≡ Some x → ⊥
+no_some x e = cc
+
+-- the neighbour that gives the entry its way
+record Found (g : NeighbourGraph) (start : ℕ) (ns : List Near) (f : Far) : Type 0 where
+  near : Near
+  index : ℕ
+  at : IsAt ns index near
+  via : near.id ≡ f.via
+  place : ℕ
+  is : place ≡ start + index
+  gives : way_from g start ns f ≡ way_at g place near f
+
+abbrev NoneFound : NeighbourGraph → ℕ → List Near → Far → Type 0
+NoneFound g start ns f = ((n : Near) → Contains ns n → n.id ≡ f.via → ⊥) × (way_from g start ns f ≡ None)
+
+found_cons : (g : NeighbourGraph) (start : ℕ) (n : Near) (ns : List Near) (f : Far) (b : Bool) → same n.id f.via ≡ b →
+    NoneFound g (start + 1) ns f ⊎ Found g (start + 1) ns f → NoneFound g start (n ∷ ns) f ⊎ Found g start (n ∷ ns) f
+found_cons g start n ns f true e h = inr (record {
+  near = n;
+  index = 0;
+  at = (omega arith, refl);
+  via = (Decides-same n.id f.via).0 e;
+  place = start;
+  is = omega arith;
+  gives = ap (λ (t : Bool). cond t (way_at g start n f) (way_from g (start + 1) ns f)) e;
+})
+found_cons g start n ns f false e h =
+    let on : way_from g start (n ∷ ns) f ≡ way_from g (start + 1) ns f = ap (λ (t : Bool). cond t (way_at g start n f) (way_from g (start + 1) ns f)) e in
+    elim h [
+      | inl none ↦ inl (
+        λ m w id. elim (cons_cases n m ns w) [
+          | inl is ↦ false≢true (sym e ∙ (Decides-same n.id f.via).1 (ap (λ (x : Near). x.id) is ∙ id))
+          | inr later ↦ none.0 m later id
+        ],
+        on ∙ none.1,
+      )
+      | inr r ↦ let lt : r.index < length ns = r.at.0 in let is' : r.place ≡ (start + 1) + r.index = r.is in inr (record {
+        near = r.near;
+        index = suc r.index;
+        at = (omega arith, r.at.1);
+        via = r.via;
+        place = r.place;
+        is = omega arith;
+        gives = on ∙ r.gives;
+      })
+    ]
+
+found : (g : NeighbourGraph) (start : ℕ) (ns : List Near) (f : Far) → NoneFound g start ns f ⊎ Found g start ns f
+found g start [] f = inl (λ n w e. none_within n w, refl)
+found g start (n ∷ ns) f = found_cons g start n ns f (same n.id f.via) refl (found g (start + 1) ns f)
+
+abbrev IsWayBy : NeighbourGraph → ℕ → Near → Far → Way → Type 0
+IsWayBy g place n f w = (w ≡ record { addr = f.addr; cost = n.cost + f.cost; place = place }) × (IsDirect g f.addr (n.cost + f.cost) → ⊥)
+
+way_at_cases : (g : NeighbourGraph) (place : ℕ) (n : Near) (f : Far) (b : Bool) → is_direct_within g f.addr (n.cost + f.cost) ≡ b →
+    IsDirect g f.addr (n.cost + f.cost) ⊎ ((w : Way) × (way_at g place n f ≡ Some w) × IsWayBy g place n f w)
+way_at_cases g place n f true e = inl ((Decides-direct g f.addr (n.cost + f.cost)).0 e)
+way_at_cases g place n f false e = inr (
+  record { addr = f.addr; cost = n.cost + f.cost; place = place },
+  ap (λ (t : Bool). cond t None (Some (record { addr = f.addr; cost = n.cost + f.cost; place = place }))) e,
+  (refl, λ d. false≢true (sym e ∙ (Decides-direct g f.addr (n.cost + f.cost)).1 d)),
+)
+
+direct_gives_none : (g : NeighbourGraph) (place : ℕ) (n : Near) (f : Far) → IsDirect g f.addr (n.cost + f.cost) → way_at g place n f ≡ None
+direct_gives_none g place n f d =
+    ap (λ (t : Bool). cond t None (Some (record { addr = f.addr; cost = n.cost + f.cost; place = place }))) ((Decides-direct g f.addr (n.cost + f.cost)).1 d)
+
+way_at_is : (g : NeighbourGraph) (place : ℕ) (n : Near) (f : Far) (w : Way) → way_at g place n f ≡ Some w → IsWayBy g place n f w
+way_at_is g place n f w e = elim (way_at_cases g place n f (is_direct_within g f.addr (n.cost + f.cost)) refl) [
+  | inl d ↦ absurd (no_some w (sym (direct_gives_none g place n f d) ∙ e))
+  | inr h ↦ subst (IsWayBy g place n f) (some_same h.0 w (sym h.1 ∙ e)) h.2
+]
+
+-- The ways of a graph
+
+-- what a way says of the graph, but that it is cheapest
+record IsGiven (g : NeighbourGraph) (willing : List Near) (w : Way) : Type 0 where
+  near : Near
+  at : IsAt willing w.place near
+  far : Far
+  within : Contains g.far far
+  via : near.id ≡ far.via
+  by : IsWayBy g w.place near far w
+
+given : (g : NeighbourGraph) (willing : List Near) (w : Way) → Contains (filter_map (λ f. way_from g 0 willing f) g.far) w → IsGiven g willing w
+given g willing w h =
+    let f = given_by (λ (x : Far). way_from g 0 willing x) g.far w h in
+    elim (found g 0 willing f.0) [
+      | inl none ↦ absurd (no_some w (sym none.1 ∙ f.2))
+      | inr r ↦
+          let is = way_at_is g r.place r.near f.0 w (sym r.gives ∙ f.2) in
+          let start : r.place ≡ 0 + r.index = r.is in
+          let place : w.place ≡ r.place = ap (λ (x : Way). x.place) is.0 in
+          let index : r.index ≡ w.place = omega arith in
+          record {
+            near = r.near;
+            at = subst (λ (k : ℕ). IsAt willing k r.near) index r.at;
+            far = f.0;
+            within = f.1;
+            via = r.via;
+            by = subst (λ (k : ℕ). IsWayBy g k r.near f.0 w) (sym place) is;
+          }
+    ]
+
+-- each entry by a willing neighbour gives that way, or a direct entry is as cheap
+complete : (g : NeighbourGraph) (willing : List Near) (n : Near) (f : Far) → AreWilling g willing → Contains willing n → Contains g.far f → n.id ≡ f.via →
+    IsDirect g f.addr (n.cost + f.cost) ⊎ ((v : Way) × Contains (filter_map (λ x. way_from g 0 willing x) g.far) v × ((v.addr ≡ f.addr) × ((v.cost ≡ n.cost + f.cost) × IsAt willing v.place n)))
+complete g willing n f are within far via = elim (found g 0 willing f) [
+  | inl none ↦ absurd (none.0 n within via)
+  | inr r ↦
+      let n-at : IsAt willing within.0 n = (within.1, within.2) in
+      let is : r.near ≡ n = one_near willing r.index within.0 r.near n are.order r.at n-at (r.via ∙ sym via) in
+      elim (way_at_cases g r.place r.near f (is_direct_within g f.addr (r.near.cost + f.cost)) refl) [
+        | inl d ↦ inl (subst (λ (x : Near). IsDirect g f.addr (x.cost + f.cost)) is d)
+        | inr h ↦
+            let start : r.place ≡ 0 + r.index = r.is in
+            let place : h.0.place ≡ r.place = ap (λ (x : Way). x.place) h.2.0 in
+            let index : r.index ≡ h.0.place = omega arith in
+            inr (
+              h.0,
+              gives (λ (x : Far). way_from g 0 willing x) g.far f h.0 far (r.gives ∙ h.1),
+              (
+                ap (λ (x : Way). x.addr) h.2.0,
+                (
+                  ap (λ (x : Way). x.cost) h.2.0 ∙ ap (λ (x : Near). x.cost + f.cost) is,
+                  subst (λ (k : ℕ). IsAt willing k n) index (subst (λ (x : Near). IsAt willing r.index x) is r.at),
+                ),
+              ),
+            )
       ]
+]
+
+le-same : (n : ℕ) → n ≤ n
+le-same n = omega arith
+
+kept_least : (g : NeighbourGraph) (willing : List Near) (sorted ways : List Way) → AreWilling g willing →
+    ((v : Way) → Contains (filter_map (λ f. way_from g 0 willing f) g.far) v → Contains sorted v) → IsLeastIn ways sorted →
+    (w : Way) → Contains ways w → (IsDirect g w.addr w.cost → ⊥) → (c : ℕ) → Offers g IsWilling w.addr c → w.cost ≤ c
+kept_least g willing sorted ways are has least' w within no_direct c o = elim o [
+  | inl d ↦ elim (cases_lt c w.cost) [
+    | inl lt ↦ let e : d.0.cost ≡ c = d.3 in absurd (no_direct (d.0, d.1, (d.2, omega arith)))
+    | inr le ↦ le
+  ]
+  | inr m ↦ elim (complete g willing m.0 m.3 are ((are.each m.0).1 (m.1, m.2)) m.4 (sym m.5)) [
+    | inl d ↦ elim (cases_lt c w.cost) [
+      | inl lt ↦
+          let e : m.0.cost + m.3.cost ≡ c = m.7 in
+          let le : d.0.cost ≤ m.0.cost + m.3.cost = d.2.1 in
+          absurd (no_direct (d.0, d.1, (d.2.0 ∙ m.6, omega arith)))
+      | inr le ↦ le
     ]
+    | inr v ↦
+        let le : w.cost ≤ v.0.cost = least' w v.0 within (has v.0 v.1) (v.2.0 ∙ m.6) in
+        let e : v.0.cost ≡ m.0.cost + m.3.cost = v.2.1.0 in
+        let f : m.0.cost + m.3.cost ≡ c = m.7 in
+        omega arith
+  ]
+]
 
-pub Decides-id : (first last : List Addr4) (id : Addr4) → Decides (has_id first last id) (Contains first id ⊎ Contains last id)
-Decides-id first last id = Decides-or _ _ (Decides-contains first id) (Decides-contains last id)
-
-pub MatchBool-reaching : (g : NeighbourGraph) (ways : List Far) (first last : Bor (List Addr4)) → AreWays g ways →
-    ((n : Near) → Contains g.near n → IsOfEither first.now last.now n → IsWilling n) → (r : Bool) →
-    r ≡ (has_always g (Both first last) && reaches_all (λ w. has_id first.now last.now w.via) ways) →
-    MatchBool r (IsCovering g (IsOfEither first.now last.now)) (Lacks g (IsOfEither first.now last.now))
-MatchBool-reaching g ways first last are willing true e =
-    let parts = and_parts (has_always g (Both first last)) (reaches_all (λ w. has_id first.now last.now w.via) ways) (sym e) in
+cheapest_from : (g : NeighbourGraph) (willing : List Near) (w : Way) → IsGiven g willing w → ((IsDirect g w.addr w.cost → ⊥) → (c : ℕ) → Offers g IsWilling w.addr c → w.cost ≤ c) →
+    IsCheapest g willing w
+cheapest_from g willing w h least' =
+    let addr : w.addr ≡ h.far.addr = ap (λ (x : Way). x.addr) h.by.0 in
+    let cost : w.cost ≡ h.near.cost + h.far.cost = ap (λ (x : Way). x.cost) h.by.0 in
+    let no_direct : IsDirect g w.addr w.cost → ⊥ = λ d. h.by.1 (subst (λ (y : Addr4). IsDirect g y (h.near.cost + h.far.cost)) addr (subst (λ (c : ℕ). IsDirect g w.addr c) cost d)) in
     record {
-      always = (Decides-always g (Both first last)).0 parts.0;
-      as_cheap = λ f far. keeps_each g ways (IsOfEither first.now last.now) are
-          (λ w within. let hit = all_hit (λ v. has_id first.now last.now v.via) ways parts.1 w within in
-          (hit.0, hit.1, hit.2, λ n id. subst (λ (a : Addr4). Contains first.now a ⊎ Contains last.now a) (sym id) ((Decides-id first.now last.now hit.0.via).0 hit.3))) f.addr;
+      near = h.near;
+      at = h.at;
+      far = h.far;
+      within = h.within;
+      via = h.via;
+      addr = addr;
+      cost = cost;
+      no_direct = no_direct;
+      least = least' no_direct;
     }
-MatchBool-reaching g ways first last are willing false e =
-    elim (and_cases (has_always g (Both first last)) (reaches_all (λ w. has_id first.now last.now w.via) ways) (sym e)) [
-      | inl h ↦ lacks_always g (Both first last) h
-      | inr h ↦
-          let w = one_missed (λ v. has_id first.now last.now v.via) ways are.order h in
-          inr (
-            w.0,
-            ((are.each w.0).0 w.1).0,
-            dearer_at g ways (IsOfEither first.now last.now) are willing w.0 w.1
-                (λ v n within at id either. false≢true (sym (w.2 v within at)
-                ∙ (Decides-id first.now last.now v.via).1 (subst (λ (a : Addr4). Contains first.now a ⊎ Contains last.now a) id either))),
-          )
-    ]
+
+-- a way that another makes up for
+way_or_cheaper : (willing : List Near) (ways : List Way) (n : Near) (f : Far) (v w : Way) → Contains ways w → (w ≡ v) ⊎ (adds_nothing v w ≡ true) →
+    v.addr ≡ f.addr → v.cost ≡ n.cost + f.cost → IsAt willing v.place n → HasWay willing ways n f
+way_or_cheaper willing ways n f v w within same' addr cost at = elim same' [
+  | inl e ↦ (w, within, ap (λ (x : Way). x.addr) e ∙ addr, inr (subst (λ (x : Way). IsAt willing x.place n) (sym e) at))
+  | inr e ↦ (
+    w,
+    within,
+    sym (same_addr v w e) ∙ addr,
+    elim (or_cases (nat_lt w.cost v.cost) (nat_eq v.place w.place) (and_parts _ _ e).1) [
+      | inl lt ↦ inl (subst (λ (c : ℕ). w.cost < c) cost (ltb-true w.cost v.cost lt))
+      | inr eq ↦ inr (subst (λ (k : ℕ). IsAt willing k n) (eqb-true v.place w.place eq) at)
+    ],
+  )
+]
+
+pub are_ways : (g : NeighbourGraph) (willing : List Near) (offers sorted ways : List Way) → AreWilling g willing →
+    offers ≡ filter_map (λ f. way_from g 0 willing f) g.far → IsPermutation offers sorted → IsInOrder sorted → ways ≡ dedup adds_nothing sorted → AreWays g willing ways
+are_ways g willing offers sorted ways are is moved up kept =
+    let was = λ (v : Way) (h : Contains sorted v).
+    subst (λ (l : List Way). Contains l v) is (Contains-permutation sorted offers v (IsPermutation-sym offers sorted moved) h) in
+    let has = λ (v : Way) (h : Contains (filter_map (λ f. way_from g 0 willing f) g.far) v).
+    Contains-permutation offers sorted v moved (subst (λ (l : List Way). Contains l v) (sym is) h) in
+    let least' : IsLeastIn ways sorted = subst (λ (l : List Way). IsLeastIn l sorted) (sym kept) (dedup_least sorted up) in
+    record {
+      each = λ w h. cheapest_from g willing w (given g willing w (was w (kept_within adds_nothing sorted w (subst (λ (l : List Way). Contains l w) kept h))))
+          (kept_least g willing sorted ways are has least' w h);
+      rest = λ n f within far via. elim (complete g willing n f are within far via) [
+        | inl d ↦ inl d
+        | inr v ↦
+            let r = joined adds_nothing sorted v.0 (has v.0 v.1) in
+            inr (way_or_cheaper willing ways n f v.0 r.0 (subst (λ (l : List Way). Contains l r.0) (sym kept) r.1) r.2 v.2.0 v.2.1.0 v.2.1.1)
+      ];
+      order = subst (RisesFrom 0) (sym kept) (dedup_rises sorted up);
+    }
+
+pub places_within : (g : NeighbourGraph) (willing : List Near) (ways : List Way) (n : ℕ) → AreWays g willing ways → n ≡ length willing → All (λ w. w.place < n) ways
+places_within g willing ways n are e k d lt =
+    let w = get_or ways k d in
+    subst (λ (m : ℕ). w.place < m) (sym e) (are.each w (Contains-get_or ways k d lt)).at.0
+
+-- What a sort gives
+
+in_order_cases : (a b : Way) (o p q : Ordering) → MatchOrdering o (b.addr.0 < a.addr.0) (b.addr.0 ≡ a.addr.0) (a.addr.0 < b.addr.0) →
+    MatchOrdering p (b.cost < a.cost) (b.cost ≡ a.cost) (a.cost < b.cost) → is_lt (ordering_then o (ordering_then p q)) ≡ false → InOrder a b
+in_order_cases a b Less p q m n e = absurd (true≢false e)
+in_order_cases a b Equal Less q m n e = absurd (true≢false e)
+in_order_cases a b Equal Equal q m n e = inr (sym m, omega arith)
+in_order_cases a b Equal Greater q m n e = inr (sym m, omega arith)
+in_order_cases a b Greater p q m n e = inl m
+
+abbrev pub way_cmp : Way → Way → Ordering
+way_cmp a b = ordering_then (nat_cmp a.addr.0 b.addr.0) (ordering_then (nat_cmp a.cost b.cost) (nat_cmp a.place b.place))
+
+in_order_of : (a b : Way) → is_lt (way_cmp b a) ≡ false → InOrder a b
+in_order_of a b e =
+    in_order_cases a b (nat_cmp b.addr.0 a.addr.0) (nat_cmp b.cost a.cost) (nat_cmp b.place a.place)
+    (ranked b.addr.0 a.addr.0 _ refl) (ranked b.cost a.cost _ refl) e
+
+rises_sorted : (k : Way) (xs : List Way) → IsSorted way_cmp (k ∷ xs) → Rises k xs
+rises_sorted k [] up = tt
+rises_sorted k (x ∷ xs) up = (
+  in_order_of k x (up 0 k (omega arith) (omega arith)),
+  rises_sorted x xs (λ i d le lt.
+      let next : suc i + 1 ≡ suc (i + 1) = omega arith in
+      subst (λ (j : ℕ). is_lt (way_cmp (get_or (k ∷ x ∷ xs) j d) (get_or (x ∷ xs) i d)) ≡ false) next (up (suc i) d (omega arith) (omega arith))),
+)
+
+pub in_order_sorted : (xs : List Way) → IsSorted way_cmp xs → IsInOrder xs
+in_order_sorted [] up = tt
+in_order_sorted (k ∷ xs) up = rises_sorted k xs up

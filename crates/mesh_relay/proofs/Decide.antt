@@ -14,8 +14,8 @@ use Rattle.mesh_atoms.specs.declared.graphs.Far.{Far}
 use Rattle.mesh_atoms.specs.declared.graphs.NeighbourGraph.{NeighbourGraph}
 use Rattle.mesh_atoms.specs.Relays.{Offers, IsWilling, IsRelay, IsOtherRelay, IsAsCheap, HasSameDistance, Covers, IsMissed, Needed}
 use Rattle.mesh_relay.specs.declared.sets.Among.{Among}
-use Rattle.mesh_relay.specs.declared.sets.Among.TheVariants.{Willing, Relays, Others, Both}
-use Rattle.mesh_relay.specs.Pruning.{IsOfEither, Lacks}
+use Rattle.mesh_relay.specs.declared.sets.Among.TheVariants.{Willing, Relays, Others}
+use Rattle.mesh_relay.specs.Ways.{IsDirect}
 use Rattle.mesh_relay.specs.Tests.{same, contains, counts, leads, is_direct_within, is_led_to_within, offers_within, is_matched, is_as_cheap, keeps_costs, has_always, are_willing, is_missed, irredundant, covers}
 
 -- Tests in general
@@ -75,7 +75,6 @@ Decides-same a b = (λ e. ap (λ (n : ℕ). record { 0 = n }) (eqb-true _ _ e), 
 abbrev pub IsIn : Among → Near → Type 0
 IsIn Willing n = IsWilling n
 IsIn (Relays relays) n = IsRelay relays.now n
-IsIn (Both first last) n = IsOfEither first.now last.now n
 IsIn (Others relays id) n = IsOtherRelay relays.now id n
 
 pub Decides-contains : (ids : List Addr4) (id : Addr4) → Decides (contains ids id) (Contains ids id)
@@ -86,8 +85,6 @@ Decides-contains ids id =
 pub Decides-counts : (among : Among) (n : Near) → Decides (counts among n) (IsIn among n)
 Decides-counts Willing n = Decides-not (nat_eq n.will 0) (Decides-equal n.will 0)
 Decides-counts (Relays relays) n = Decides-contains relays.now n.id
-Decides-counts (Both first last) n =
-    Decides-or (contains first.now n.id) (contains last.now n.id) (Decides-contains first.now n.id) (Decides-contains last.now n.id)
 Decides-counts (Others relays id) n =
     Decides-and (contains relays.now n.id) (not (same n.id id)) (Decides-contains relays.now n.id) (Decides-not (same n.id id) (Decides-same n.id id))
 
@@ -103,7 +100,7 @@ Decides-leads g among f most =
 abbrev pub OffersWithin : NeighbourGraph → (Near → Type 0) → Addr4 → ℕ → Type 0
 OffersWithin g A y most = (e : ℕ) × Offers g A y e × (e ≤ most)
 
-pub Decides-direct : (g : NeighbourGraph) (y : Addr4) (most : ℕ) → Decides (is_direct_within g y most) ((d : Direct) × Contains g.direct d × ((d.addr ≡ y) × (d.cost ≤ most)))
+pub Decides-direct : (g : NeighbourGraph) (y : Addr4) (most : ℕ) → Decides (is_direct_within g y most) (IsDirect g y most)
 Decides-direct g y most =
     Decides-some _ (λ d. (d.addr ≡ y) × (d.cost ≤ most)) (λ d. Decides-and _ _ (Decides-same d.addr y) (Decides-le d.cost most)) g.direct
 
@@ -188,27 +185,3 @@ Decides-irredundant g relays =
       λ e. record { missed = λ n near within willing below. d.0 e n near within (willing, below) },
       λ w. d.1 (λ n near within both. w.missed n near within both.0 both.1),
     )
-
--- Pruning
-
-not_each : {X : Type 0} (test : X → Bool) (xs : List X) → list_all test xs ≡ false → list_any (λ x. not (test x)) xs ≡ true
-not_each test [] e = absurd (true≢false e)
-not_each test (x ∷ xs) e = elim (and_cases (test x) (list_all test xs) e) [
-  | inl h ↦ or_left (not (test x)) (list_any (λ y. not (test y)) xs) (not_from_false (test x) h)
-  | inr h ↦ or_right (not (test x)) (list_any (λ y. not (test y)) xs) (not_each test xs h)
-]
-
--- a test that fails at one element says which
-fails_at : {X : Type 0} (test : X → Bool) (P : X → Type 0) → ((x : X) → Decides (test x) (P x)) → (xs : List X) → list_all test xs ≡ false → (x : X) × Contains xs x × (P x → ⊥)
-fails_at test P decides xs e = (Decides-some (λ x. not (test x)) (λ x. P x → ⊥) (λ x. Decides-not (test x) (decides x)) xs).0 (not_each test xs e)
-
-fails_if : {P Q : Type 0} (b r : Bool) → Decides b P → Decides r Q → ((P → Q) → ⊥) → P × (Q → ⊥)
-fails_if true r p q h = (p.0 refl, λ w. h (λ _. w))
-fails_if false r p q h = absurd (h (λ w. absurd (false≢true (p.1 w))))
-
-pub lacks_always : (g : NeighbourGraph) (among : Among) → has_always g among ≡ false → Lacks g (IsIn among)
-lacks_always g among e =
-    let w = fails_at (λ n. not (nat_eq n.will 15) || counts among n) (λ n. n.will ≡ 15 → IsIn among n)
-    (λ n. Decides-if _ _ (Decides-equal n.will 15) (Decides-counts among n)) g.near e in
-    let v = fails_if _ _ (Decides-equal w.0.will 15) (Decides-counts among w.0) w.2 in
-    inl (w.0, w.1, v.0, v.1)

@@ -1,32 +1,31 @@
 -- One pass over the ways in order finds an address that is not reached.
 use Rattle.std.proofs.Common.{◌≡◌, ℕ, ◌≤◌, ◌<◌, ◌≢◌, ◌⊎◌, Bool, true, false, ◌&&◌, ◌||◌, cond, List, [], ◌∷◌, length, get_or, suc, refl, sym, ◌∙◌, ap, subst, inl, inr, arith, Decides}
 use Rattle.std.specs.Prelude.{Contains}
-use Rattle.std.specs.List.Sorted.{IsNonDecreasingBy}
 use Rattle.std.proofs.lemmas.Bool.{false≢true, true≢false, and_cases, and_parts, or_cases, or_parts}
 use Rattle.mesh_atoms.specs.declared.addr.Addr4.{Addr4}
-use Rattle.mesh_atoms.specs.declared.graphs.Far.{Far}
+use Rattle.mesh_relay.specs.declared.ways.Way.{Way}
 use Rattle.mesh_relay.specs.Tests.{same}
-use Rattle.mesh_relay.specs.Ways.{reached_on, reaches_all}
+use Rattle.mesh_relay.specs.Ways.{RisesFrom, reached_on, reaches_all}
 use Rattle.mesh_relay.proofs.Decide.{Decides-same}
-use Rattle.mesh_relay.proofs.Prune.{cons_cases, cons_more, cons_first, none_within}
+use Rattle.mesh_relay.proofs.Lists.{cons_cases, cons_more, cons_first, none_within}
 
 -- some way to y passes the test
-abbrev pub Hit : (Far → Bool) → Addr4 → List Far → Type 0
-Hit test y ws = (v : Far) × Contains ws v × (v.addr ≡ y) × (test v ≡ true)
+abbrev pub Hit : (Way → Bool) → Addr4 → List Way → Type 0
+Hit test y ws = (v : Way) × Contains ws v × (v.addr ≡ y) × (test v ≡ true)
 
 -- none does
-abbrev pub Missed : (Far → Bool) → Addr4 → List Far → Type 0
-Missed test y ws = (v : Far) → Contains ws v → v.addr ≡ y → test v ≡ false
+abbrev pub Missed : (Way → Bool) → Addr4 → List Way → Type 0
+Missed test y ws = (v : Way) → Contains ws v → v.addr ≡ y → test v ≡ false
 
-hit_more : (test : Far → Bool) (y : Addr4) (w : Far) (ws : List Far) → Hit test y ws → Hit test y (w ∷ ws)
+hit_more : (test : Way → Bool) (y : Addr4) (w : Way) (ws : List Way) → Hit test y ws → Hit test y (w ∷ ws)
 hit_more test y w ws h = (h.0, cons_more w h.0 ws h.1, h.2, h.3)
 
 -- where each is reached
 
-Reached : (Far → Bool) → Addr4 → Bool → List Far → Type 0
-Reached test y reached ws = ((reached ≡ true) ⊎ Hit test y ws) × ((w : Far) → Contains ws w → (w.addr ≡ y) ⊎ Hit test w.addr ws)
+Reached : (Way → Bool) → Addr4 → Bool → List Way → Type 0
+Reached test y reached ws = ((reached ≡ true) ⊎ Hit test y ws) × ((w : Way) → Contains ws w → (w.addr ≡ y) ⊎ Hit test w.addr ws)
 
-reached_true_cons : (test : Far → Bool) (y : Addr4) (reached : Bool) (w : Far) (ws : List Far) (b : Bool) → Decides b (w.addr ≡ y) →
+reached_true_cons : (test : Way → Bool) (y : Addr4) (reached : Bool) (w : Way) (ws : List Way) (b : Bool) → Decides b (w.addr ≡ y) →
     cond b (reached_on test y (reached || test w) ws) (reached && reached_on test w.addr (test w) ws) ≡ true →
     (reached_on test y (reached || test w) ws ≡ true → Reached test y (reached || test w) ws) →
     (reached_on test w.addr (test w) ws ≡ true → Reached test w.addr (test w) ws) → Reached test y reached (w ∷ ws)
@@ -38,7 +37,7 @@ reached_true_cons test y reached w ws true d e goes_on begins =
         | inr hit ↦ inr (hit_more test y w ws hit)
       ],
       λ v within. elim (cons_cases w v ws within) [
-        | inl same' ↦ inl (sym (ap (λ (f : Far). f.addr) same') ∙ d.0 refl)
+        | inl same' ↦ inl (sym (ap (λ (f : Way). f.addr) same') ∙ d.0 refl)
         | inr later ↦ elim (h.1 v later) [ inl at ↦ inl at | inr hit ↦ inr (hit_more test v.addr w ws hit) ]
       ],
     )
@@ -48,61 +47,51 @@ reached_true_cons test y reached w ws false d e goes_on begins =
     let here : Hit test w.addr (w ∷ ws) = elim h.0 [ inl t ↦ (w, cons_first w ws, refl, t) | inr hit ↦ hit_more test w.addr w ws hit ] in (
       inl both.0,
       λ v within. elim (cons_cases w v ws within) [
-        | inl same' ↦ inr (subst (λ (f : Far). Hit test f.addr (w ∷ ws)) same' here)
+        | inl same' ↦ inr (subst (λ (f : Way). Hit test f.addr (w ∷ ws)) same' here)
         | inr later ↦ elim (h.1 v later) [ inl at ↦ inr (subst (λ (a : Addr4). Hit test a (w ∷ ws)) (sym at) here) | inr hit ↦ inr (hit_more test v.addr w ws hit) ]
       ],
     )
 
-reached_true : (test : Far → Bool) (y : Addr4) (reached : Bool) (ws : List Far) → reached_on test y reached ws ≡ true → Reached test y reached ws
+reached_true : (test : Way → Bool) (y : Addr4) (reached : Bool) (ws : List Way) → reached_on test y reached ws ≡ true → Reached test y reached ws
 unfolding Reached
 reached_true test y reached [] e = (inl e, λ w within. absurd (none_within w within))
 reached_true test y reached (w ∷ ws) e =
     reached_true_cons test y reached w ws (same w.addr y) (Decides-same w.addr y) e
     (reached_true test y (reached || test w) ws) (reached_true test w.addr (test w) ws)
 
-pub all_hit : (test : Far → Bool) (ways : List Far) → reaches_all test ways ≡ true → (w : Far) → Contains ways w → Hit test w.addr ways
+pub all_hit : (test : Way → Bool) (ways : List Way) → reaches_all test ways ≡ true → (w : Way) → Contains ways w → Hit test w.addr ways
 unfolding Reached
 all_hit test [] e w within = absurd (none_within w within)
 all_hit test (v ∷ ways) e w within =
     let h = reached_true test v.addr (test v) ways e in
     let here : Hit test v.addr (v ∷ ways) = elim h.0 [ inl t ↦ (v, cons_first v ways, refl, t) | inr hit ↦ hit_more test v.addr v ways hit ] in
     elim (cons_cases v w ways within) [
-      | inl same' ↦ subst (λ (f : Far). Hit test f.addr (v ∷ ways)) same' here
+      | inl same' ↦ subst (λ (f : Way). Hit test f.addr (v ∷ ways)) same' here
       | inr later ↦ elim (h.1 w later) [ inl at ↦ subst (λ (a : Addr4). Hit test a (v ∷ ways)) (sym at) here | inr hit ↦ hit_more test w.addr v ways hit ]
     ]
 
 -- where one is not
 
--- in order, from that number on
-abbrev Rises : ℕ → List Far → Type 0
-Rises low [] = Unit {0}
-Rises low (w ∷ ws) = (low ≤ w.addr.0) × Rises w.addr.0 ws
-
-rises_above : (low : ℕ) (ws : List Far) → Rises low ws → (v : Far) → Contains ws v → low ≤ v.addr.0
+rises_above : (low : ℕ) (ws : List Way) → RisesFrom low ws → (v : Way) → Contains ws v → low ≤ v.addr.0
 rises_above low [] up v within = absurd (none_within v within)
 rises_above low (w ∷ ws) up v within = elim (cons_cases w v ws within) [
-  | inl same' ↦ subst (λ (f : Far). low ≤ f.addr.0) same' up.0
+  | inl same' ↦ subst (λ (f : Way). low ≤ f.addr.0) same' up.0
   | inr later ↦ let first : low ≤ w.addr.0 = up.0 in let above : w.addr.0 ≤ v.addr.0 = rises_above w.addr.0 ws up.1 v later in omega arith
 ]
 
-rises_from_sorted : (low : ℕ) (ws : List Far) → ((d : Far) → 0 < length ws → low ≤ (get_or ws 0 d).addr.0) → IsNonDecreasingBy (λ (f : Far). f.addr.0) ws → Rises low ws
-rises_from_sorted low [] first up = tt
-rises_from_sorted low (w ∷ ws) first up =
-    (first w (omega arith), rises_from_sorted w.addr.0 ws (λ d lt. up 0 1 d (omega arith) (omega arith)) (λ i j d le lt. up (suc i) (suc j) d (omega arith) (omega arith)))
-
 -- y is missed, or a later address is
-Misses : (Far → Bool) → Addr4 → Bool → List Far → Type 0
-Misses test y reached ws = ((reached ≡ false) × Missed test y ws) ⊎ ((w : Far) × Contains ws w × (w.addr ≢ y) × Missed test w.addr ws)
+Misses : (Way → Bool) → Addr4 → Bool → List Way → Type 0
+Misses test y reached ws = ((reached ≡ false) × Missed test y ws) ⊎ ((w : Way) × Contains ws w × (w.addr ≢ y) × Missed test w.addr ws)
 
-missed_first : (test : Far → Bool) (y : Addr4) (w : Far) (ws : List Far) → test w ≡ false → Missed test y ws → Missed test y (w ∷ ws)
+missed_first : (test : Way → Bool) (y : Addr4) (w : Way) (ws : List Way) → test w ≡ false → Missed test y ws → Missed test y (w ∷ ws)
 missed_first test y w ws t h v within at = elim (cons_cases w v ws within) [
-  | inl same' ↦ subst (λ (f : Far). test f ≡ false) same' t
+  | inl same' ↦ subst (λ (f : Way). test f ≡ false) same' t
   | inr later ↦ h v later at
 ]
 
-missed_other : (test : Far → Bool) (y : Addr4) (w : Far) (ws : List Far) → w.addr ≢ y → Missed test y ws → Missed test y (w ∷ ws)
+missed_other : (test : Way → Bool) (y : Addr4) (w : Way) (ws : List Way) → w.addr ≢ y → Missed test y ws → Missed test y (w ∷ ws)
 missed_other test y w ws other h v within at = elim (cons_cases w v ws within) [
-  | inl same' ↦ absurd (other (ap (λ (f : Far). f.addr) same' ∙ at))
+  | inl same' ↦ absurd (other (ap (λ (f : Way). f.addr) same' ∙ at))
   | inr later ↦ h v later at
 ]
 
@@ -110,30 +99,30 @@ le-same : (n : ℕ) → n ≤ n
 le-same n = omega arith
 
 -- an address that comes after another one doesn't come back
-not_later : (y : Addr4) (w : Far) (ws : List Far) → w.addr ≢ y → Rises y.0 (w ∷ ws) → (v : Far) → Contains (w ∷ ws) v → v.addr ≡ y → ⊥
+not_later : (y : Addr4) (w : Way) (ws : List Way) → w.addr ≢ y → RisesFrom y.0 (w ∷ ws) → (v : Way) → Contains (w ∷ ws) v → v.addr ≡ y → ⊥
 not_later y w ws other up v within at =
     let low : y.0 ≤ w.addr.0 = up.0 in
     let high : w.addr.0 ≤ v.addr.0 = elim (cons_cases w v ws within) [
-      | inl same' ↦ subst (λ (f : Far). w.addr.0 ≤ f.addr.0) same' (le-same w.addr.0)
+      | inl same' ↦ subst (λ (f : Way). w.addr.0 ≤ f.addr.0) same' (le-same w.addr.0)
       | inr later ↦ rises_above w.addr.0 ws up.1 v later
     ] in
     let equal : v.addr.0 ≡ y.0 = ap (λ (a : Addr4). a.0) at in
     other (ap (λ (n : ℕ). record { 0 = n }) (let e : w.addr.0 ≡ y.0 = omega arith in e))
 
-later_differs : (y : Addr4) (w v : Far) (ws : List Far) → Rises y.0 (w ∷ ws) → Contains ws v → v.addr ≢ w.addr → v.addr ≢ y
+later_differs : (y : Addr4) (w v : Way) (ws : List Way) → RisesFrom y.0 (w ∷ ws) → Contains ws v → v.addr ≢ w.addr → v.addr ≢ y
 later_differs y w v ws up within other at =
     let low : y.0 ≤ w.addr.0 = up.0 in
     let high : w.addr.0 ≤ v.addr.0 = rises_above w.addr.0 ws up.1 v within in
     let equal : v.addr.0 ≡ y.0 = ap (λ (a : Addr4). a.0) at in
     other (ap (λ (n : ℕ). record { 0 = n }) (let e : v.addr.0 ≡ w.addr.0 = omega arith in e))
 
-misses_cons : (test : Far → Bool) (y : Addr4) (reached : Bool) (w : Far) (ws : List Far) (b : Bool) → Decides b (w.addr ≡ y) → Rises y.0 (w ∷ ws) →
+misses_cons : (test : Way → Bool) (y : Addr4) (reached : Bool) (w : Way) (ws : List Way) (b : Bool) → Decides b (w.addr ≡ y) → RisesFrom y.0 (w ∷ ws) →
     cond b (reached_on test y (reached || test w) ws) (reached && reached_on test w.addr (test w) ws) ≡ false →
-    (Rises y.0 ws → reached_on test y (reached || test w) ws ≡ false → Misses test y (reached || test w) ws) →
-    (Rises w.addr.0 ws → reached_on test w.addr (test w) ws ≡ false → Misses test w.addr (test w) ws) → Misses test y reached (w ∷ ws)
+    (RisesFrom y.0 ws → reached_on test y (reached || test w) ws ≡ false → Misses test y (reached || test w) ws) →
+    (RisesFrom w.addr.0 ws → reached_on test w.addr (test w) ws ≡ false → Misses test w.addr (test w) ws) → Misses test y reached (w ∷ ws)
 unfolding Misses
 misses_cons test y reached w ws true d up e goes_on begins =
-    elim (goes_on (subst (λ (a : Addr4). Rises a.0 ws) (d.0 refl) up.1) e) [
+    elim (goes_on (subst (λ (a : Addr4). RisesFrom a.0 ws) (d.0 refl) up.1) e) [
       | inl h ↦ let parts = or_parts reached (test w) h.0 in inl (parts.0, missed_first test y w ws parts.1 h.1)
       | inr h ↦ inr (h.0, cons_more w h.0 ws h.1, h.2, missed_other test h.0.addr w ws (λ f. h.2 (sym f ∙ d.0 refl)) h.3)
     ]
@@ -146,19 +135,19 @@ misses_cons test y reached w ws false d up e goes_on begins =
       ]
     ]
 
-misses_false : (test : Far → Bool) (y : Addr4) (reached : Bool) (ws : List Far) → Rises y.0 ws → reached_on test y reached ws ≡ false → Misses test y reached ws
+misses_false : (test : Way → Bool) (y : Addr4) (reached : Bool) (ws : List Way) → RisesFrom y.0 ws → reached_on test y reached ws ≡ false → Misses test y reached ws
 unfolding Misses
 misses_false test y reached [] up e = inl (e, λ v within. absurd (none_within v within))
 misses_false test y reached (w ∷ ws) up e =
     misses_cons test y reached w ws (same w.addr y) (Decides-same w.addr y) up e
     (misses_false test y (reached || test w) ws) (misses_false test w.addr (test w) ws)
 
-pub one_missed : (test : Far → Bool) (ways : List Far) → IsNonDecreasingBy (λ (f : Far). f.addr.0) ways → reaches_all test ways ≡ false →
-    (w : Far) × Contains ways w × Missed test w.addr ways
+pub one_missed : (test : Way → Bool) (ways : List Way) → RisesFrom 0 ways → reaches_all test ways ≡ false →
+    (w : Way) × Contains ways w × Missed test w.addr ways
 unfolding Misses
 one_missed test [] up e = absurd (true≢false e)
 one_missed test (v ∷ ways) up e =
-    elim (misses_false test v.addr (test v) ways (rises_from_sorted v.addr.0 ways (λ d lt. up 0 1 d (omega arith) (omega arith)) (λ i j d le lt. up (suc i) (suc j) d (omega arith) (omega arith))) e) [
+    elim (misses_false test v.addr (test v) ways up.1 e) [
       | inl h ↦ (v, cons_first v ways, missed_first test v.addr v ways h.0 h.1)
       | inr h ↦ (h.0, cons_more v h.0 ways h.1, missed_other test h.0.addr v ways (λ f. h.2 (sym f)) h.3)
     ]

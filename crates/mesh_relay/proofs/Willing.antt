@@ -1,73 +1,139 @@
--- All willing neighbours cover.
-use Rattle.std.proofs.Common.{◌≡◌, ℕ, ◌≤◌, ◌⊎◌, Bool, true, false, cond, not, nat_eq, List, [], ◌∷◌, refl, sym, subst, inl, inr, arith, Decides}
-use Rattle.std.specs.Prelude.{Contains, map, filter, IsPermutation}
-use Rattle.std.proofs.lemmas.Bool.{false≢true}
+-- The willing neighbours in order.
+use Rattle.std.proofs.Common.{◌≡◌, ℕ, ◌+◌, ◌≤◌, ◌<◌, ◌⊎◌, Bool, true, false, cond, not, nat_eq, List, [], ◌∷◌, length, get_or, zero, suc, refl, sym, ◌∙◌, ap, subst, inl, inr, arith}
+use Rattle.std.specs.Prelude.{Contains, AllPairs, filter, IsPermutation}
+use Rattle.std.specs.List.{dedup, dedup_from}
+use Rattle.std.specs.List.Sorted.{IsNonDecreasingBy}
+use Rattle.std.proofs.lemmas.Bool.{false≢true, eqb-true, eq-eqb}
+use Rattle.std.proofs.lemmas.List.{get_or_default}
+use Rattle.std.proofs.lemmas.List.Elements.{Contains-get_or}
 use Rattle.std.proofs.lemmas.List.Sorted.{Contains-permutation, IsPermutation-sym}
 use Rattle.mesh_atoms.specs.declared.addr.Addr4.{Addr4}
 use Rattle.mesh_atoms.specs.declared.graphs.Near.{Near}
 use Rattle.mesh_atoms.specs.declared.graphs.NeighbourGraph.{NeighbourGraph}
-use Rattle.mesh_atoms.specs.Relays.{IsWilling, IsRelay, Covers}
-use Rattle.mesh_relay.proofs.Prune.{Offers-near, cons_cases, cons_more, cons_first, none_within}
+use Rattle.mesh_atoms.specs.Relays.{IsWilling, HasDistinctIds}
+use Rattle.mesh_relay.specs.Ways.{AreWilling, IsAt}
 use Rattle.mesh_relay.proofs.Decide.{Decides-not, Decides-equal}
+use Rattle.mesh_relay.proofs.Lists.{none_within, cons_cases, cons_more, cons_first, passes, stays, dedup_cases, kept_within, joined}
 
-abbrev willing_ids : List Near → List Addr4
-willing_ids near = map (λ n. n.id) (filter (λ n. not (nat_eq n.will 0)) near)
+abbrev pub has_same_id : Near → Near → Bool
+has_same_id next last = nat_eq next.id.0 last.id.0
 
-abbrev id_of : Near → Addr4
-id_of n = n.id
+abbrev IsBelow : Near → Near → Type 0
+IsBelow m n = m.id.0 < n.id.0
 
-kept_later : (b : Bool) (m : Near) (rest : List Near) (id : Addr4) → Contains (map id_of rest) id → Contains (map id_of (cond b (m ∷ rest) rest)) id
-kept_later true m rest id w = cons_more m.id id (map id_of rest) w
-kept_later false m rest id w = w
+-- ids that don't fall from that neighbour on
+abbrev Rises : Near → List Near → Type 0
+Rises k [] = Unit {0}
+Rises k (x ∷ xs) = (k.id.0 ≤ x.id.0) × Rises x xs
 
-kept_first : (b : Bool) (m : Near) (rest : List Near) → b ≡ true → Contains (map id_of (cond b (m ∷ rest) rest)) m.id
-kept_first true m rest e = cons_first m.id (map id_of rest)
-kept_first false m rest e = absurd (false≢true e)
+rises_lower : (j k : Near) (xs : List Near) → j.id.0 ≤ k.id.0 → Rises k xs → Rises j xs
+rises_lower j k [] le h = tt
+rises_lower j k (x ∷ xs) le h = let e : k.id.0 ≤ x.id.0 = h.0 in (omega arith, h.1)
 
-kept_cases : (b : Bool) (m : Near) (rest : List Near) (id : Addr4) → Contains (map id_of (cond b (m ∷ rest) rest)) id → ((m.id ≡ id) × (b ≡ true)) ⊎ Contains (map id_of rest) id
-kept_cases true m rest id w = elim (cons_cases m.id id (map id_of rest) w) [ inl e ↦ inl (e, refl) | inr v ↦ inr v ]
-kept_cases false m rest id w = inr w
+rises_from_sorted : (k : Near) (xs : List Near) → IsNonDecreasingBy (λ (n : Near). n.id.0) (k ∷ xs) → Rises k xs
+rises_from_sorted k [] up = tt
+rises_from_sorted k (x ∷ xs) up = (up 0 1 k (omega arith) (omega arith), rises_from_sorted x xs (λ i j d le lt. up (suc i) (suc j) d (omega arith) (omega arith)))
 
-decides_willing : (n : Near) → Decides (not (nat_eq n.will 0)) (IsWilling n)
-decides_willing n = Decides-not (nat_eq n.will 0) (Decides-equal n.will 0)
+unequal_ids : (x k : Near) → has_same_id x k ≡ false → k.id.0 ≤ x.id.0 → k.id.0 < x.id.0
+unequal_ids x k e le =
+    let other : x.id.0 ≡ k.id.0 → ⊥ = λ f. false≢true (sym e ∙ eq-eqb _ _ f) in omega arith
 
-has_willing : (near : List Near) (n : Near) → Contains near n → IsWilling n → Contains (willing_ids near) n.id
-has_willing [] n within willing = absurd (none_within n within)
-has_willing (m ∷ near) n within willing =
-    let rest = filter (λ (x : Near). not (nat_eq x.will 0)) near in
-    elim (cons_cases m n near within) [
-      | inl e ↦ subst (λ (x : Near). Contains (willing_ids (m ∷ near)) x.id) e
-          (kept_first (not (nat_eq m.will 0)) m rest ((decides_willing m).1 (subst (λ (x : Near). IsWilling x) (sym e) willing)))
-      | inr v ↦ kept_later (not (nat_eq m.will 0)) m rest n.id (has_willing near n v willing)
-    ]
+above_first : (k : Near) (xs : List Near) (m : Near) → Rises k xs → Contains (dedup_from has_same_id k xs) m → k.id.0 ≤ m.id.0
+above_first k [] m up w = elim (cons_cases k m [] w) [
+  | inl e ↦ subst (λ (z : Near). k.id.0 ≤ z.id.0) e (omega arith)
+  | inr v ↦ absurd (none_within m v)
+]
+above_first k (x ∷ xs) m up w = elim (dedup_cases (has_same_id x k) k m (dedup_from has_same_id k xs) (dedup_from has_same_id x xs) w) [
+  | inl a ↦ above_first k xs m (rises_lower k x xs up.0 up.1) a.1
+  | inr c ↦ elim c.1 [
+    | inl e ↦ subst (λ (z : Near). k.id.0 ≤ z.id.0) e (omega arith)
+    | inr v ↦
+        let first : k.id.0 ≤ x.id.0 = up.0 in
+        let above : x.id.0 ≤ m.id.0 = above_first x xs m up.1 v in
+        omega arith
+  ]
+]
 
-only_willing : (near : List Near) (id : Addr4) → Contains (willing_ids near) id → (n : Near) × Contains near n × (n.id ≡ id) × IsWilling n
-only_willing [] id within = absurd (none_within id within)
-only_willing (m ∷ near) id within =
-    elim (kept_cases (not (nat_eq m.will 0)) m (filter (λ (x : Near). not (nat_eq x.will 0)) near) id within) [
-      | inl e ↦ (m, cons_first m near, e.0, (decides_willing m).0 e.1)
-      | inr v ↦ let w = only_willing near id v in (w.0, cons_more m w.0 near w.1, w.2, w.3)
-    ]
+below_cons : (x : Near) (xs : List Near) → ((m : Near) → Contains xs m → IsBelow x m) → AllPairs IsBelow xs → AllPairs IsBelow (x ∷ xs)
+below_cons x xs below h zero zero d lt within = absurd (omega arith)
+below_cons x xs below h zero (suc j) d lt within = below (get_or xs j d) (Contains-get_or xs j d (omega arith))
+below_cons x xs below h (suc i) zero d lt within = absurd (omega arith)
+below_cons x xs below h (suc i) (suc j) d lt within = h i j d (omega arith) (omega arith)
 
-fifteen_not_zero : (w : ℕ) → w ≡ 15 → w ≡ 0 → ⊥
-fifteen_not_zero w e z = omega arith
+ordered_cond : (b : Bool) (k x : Near) (a c : List Near) → has_same_id x k ≡ b → k.id.0 ≤ x.id.0 → ((m : Near) → Contains c m → x.id.0 ≤ m.id.0) →
+    AllPairs IsBelow a → AllPairs IsBelow c → AllPairs IsBelow (cond b a (k ∷ c))
+ordered_cond true k x a c e le above h h' = h
+ordered_cond false k x a c e le above h h' = below_cons k c (λ m w.
+    let lt : k.id.0 < x.id.0 = unequal_ids x k e le in
+    let low : x.id.0 ≤ m.id.0 = above m w in
+    omega arith) h'
 
-le-refl : (n : ℕ) → n ≤ n
-le-refl n = omega arith
+one_ordered : (k : Near) → AllPairs IsBelow (k ∷ [])
+one_ordered k i j d lt within = absurd (omega arith)
 
-pub covers_by_willing : (g : NeighbourGraph) (ids : List Addr4) → ids ≡ willing_ids g.near → Covers g ids
-covers_by_willing g ids is =
-    let has = λ (n : Near) (near : Contains g.near n) (willing : IsWilling n). subst (λ (l : List Addr4). Contains l n.id) (sym is) (has_willing g.near n near willing) in
+ordered : (k : Near) (xs : List Near) → Rises k xs → AllPairs IsBelow (dedup_from has_same_id k xs)
+ordered k [] up = one_ordered k
+ordered k (x ∷ xs) up =
+    ordered_cond (has_same_id x k) k x (dedup_from has_same_id k xs) (dedup_from has_same_id x xs) refl up.0
+    (λ m w. above_first x xs m up.1 w) (ordered k xs (rises_lower k x xs up.0 up.1)) (ordered x xs up.1)
+
+none_ordered : AllPairs IsBelow []
+none_ordered i j d lt within = absurd (omega arith)
+
+dedup_ordered : (sorted : List Near) → IsNonDecreasingBy (λ (n : Near). n.id.0) sorted → AllPairs IsBelow (dedup has_same_id sorted)
+dedup_ordered [] up = none_ordered
+dedup_ordered (k ∷ xs) up = ordered k xs (rises_from_sorted k xs up)
+
+same_ids : (m n : Near) → has_same_id n m ≡ true → m.id ≡ n.id
+same_ids m n e = ap (λ (k : ℕ). record { 0 = k }) (sym (eqb-true _ _ e))
+
+pub are_willing : (g : NeighbourGraph) (found sorted willing : List Near) → HasDistinctIds g → found ≡ filter (λ n. not (nat_eq n.will 0)) g.near →
+    IsPermutation found sorted → IsNonDecreasingBy (λ (n : Near). n.id.0) sorted → willing ≡ dedup has_same_id sorted → AreWilling g willing
+are_willing g found sorted willing distinct is moved up kept =
+    let known = λ (n : Near) (w : Contains sorted n).
+    let p = passes (λ (x : Near). not (nat_eq x.will 0)) g.near n
+    (subst (λ (l : List Near). Contains l n) is (Contains-permutation sorted found n (IsPermutation-sym found sorted moved) w)) in
+    (let r : Contains g.near n × IsWilling n = (p.0, (Decides-not (nat_eq n.will 0) (Decides-equal n.will 0)).0 p.1) in r) in
+    let has = λ (n : Near) (near : Contains g.near n) (willing' : IsWilling n).
+    Contains-permutation found sorted n moved (subst (λ (l : List Near). Contains l n) (sym is)
+    (stays (λ (x : Near). not (nat_eq x.will 0)) g.near n near ((Decides-not (nat_eq n.will 0) (Decides-equal n.will 0)).1 willing'))) in
     record {
-      always = λ n near e. has n near (λ z. fifteen_not_zero n.will e z);
-      willing = λ id w. only_willing g.near id (subst (λ (l : List Addr4). Contains l id) is w);
-      as_cheap = λ f c far o. (c, Offers-near g IsWilling (IsRelay ids) f.addr c has o, le-refl c);
+      each = λ n. (
+        λ w. known n (kept_within has_same_id sorted n (subst (λ (l : List Near). Contains l n) kept w)),
+        λ h.
+            let r = joined has_same_id sorted n (has n h.0 h.1) in
+            let m = known r.0 (kept_within has_same_id sorted r.0 r.1) in
+            subst (λ (l : List Near). Contains l n) (sym kept)
+            (elim r.2 [
+              | inl e ↦ subst (Contains (dedup has_same_id sorted)) e r.1
+              | inr e ↦ subst (Contains (dedup has_same_id sorted)) (distinct r.0 n m.0 h.0 (same_ids r.0 n e)) r.1
+            ]),
+      );
+      order = subst (λ (l : List Near). AllPairs IsBelow l) (sym kept) (dedup_ordered sorted up);
     }
 
-pub covers_sorted : (g : NeighbourGraph) (ids sorted : List Addr4) → IsPermutation ids sorted → Covers g ids → Covers g sorted
-covers_sorted g ids sorted same h = record {
-  always = λ n near e. Contains-permutation ids sorted n.id same (h.always n near e);
-  willing = λ id w. h.willing id (Contains-permutation sorted ids id (IsPermutation-sym ids sorted same) w);
-  as_cheap = λ f c far o. let w = h.as_cheap f c far o in
-      (w.0, Offers-near g (IsRelay ids) (IsRelay sorted) f.addr w.0 (λ n near r. Contains-permutation ids sorted n.id same r) w.1, w.2);
-}
+-- Places
+
+not_below_itself : (m n : Near) → IsBelow m n → m.id ≡ n.id → ⊥
+not_below_itself m n lt e = let f : m.id.0 ≡ n.id.0 = ap (λ (a : Addr4). a.0) e in omega arith
+
+pairs_at : (willing : List Near) (i j : ℕ) (m n : Near) → AllPairs IsBelow willing → IsAt willing i m → IsAt willing j n → i < j → IsBelow m n
+pairs_at willing i j m n order a b lt =
+    subst (λ (x : Near). IsBelow x n) a.1
+    (subst (λ (x : Near). IsBelow (get_or willing i m) x) (get_or_default willing j m n b.0 ∙ b.1) (order i j m lt b.0))
+
+-- an id stands at one place
+pub one_place : (willing : List Near) (i j : ℕ) (m n : Near) → AllPairs IsBelow willing → IsAt willing i m → IsAt willing j n → m.id ≡ n.id → i ≡ j
+one_place willing i j m n order a b e =
+    let up : i < j → ⊥ = λ lt. not_below_itself m n (pairs_at willing i j m n order a b lt) e in
+    let down : j < i → ⊥ = λ lt. not_below_itself n m (pairs_at willing j i n m order b a lt) (sym e) in
+    omega arith
+
+pub one_near : (willing : List Near) (i j : ℕ) (m n : Near) → AllPairs IsBelow willing → IsAt willing i m → IsAt willing j n → m.id ≡ n.id → m ≡ n
+one_near willing i j m n order a b e =
+    let same' = one_place willing i j m n order a b e in
+    sym a.1 ∙ (get_or_default willing i m n a.0 ∙ (subst (λ (k : ℕ). get_or willing k n ≡ n) (sym same') b.1))
+
+-- the later neighbours stand in order too
+pub later_order : (n : Near) (ns : List Near) → AllPairs IsBelow (n ∷ ns) → AllPairs IsBelow ns
+later_order n ns h i j d lt within = h (suc i) (suc j) d (omega arith) (omega arith)

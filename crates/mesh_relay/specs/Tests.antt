@@ -7,7 +7,7 @@ use Rattle.mesh_atoms.specs.declared.graphs.Near.{Near}
 use Rattle.mesh_atoms.specs.declared.graphs.Far.{Far}
 use Rattle.mesh_atoms.specs.declared.graphs.NeighbourGraph.{NeighbourGraph}
 use Rattle.mesh_relay.specs.declared.sets.Among.{Among}
-use Rattle.mesh_relay.specs.declared.sets.Among.TheVariants.{Willing, Relays, Others, Both}
+use Rattle.mesh_relay.specs.declared.sets.Among.TheVariants.{Willing, Relays, Others}
 
 abbrev pub same : Addr4 → Addr4 → Bool
 same a b = nat_eq a.0 b.0
@@ -18,7 +18,6 @@ contains ids id = list_any (λ r. same r id) ids
 abbrev pub counts : Among → Near → Bool
 counts Willing n = not (nat_eq n.will 0)
 counts (Relays relays) n = contains relays.now n.id
-counts (Both first last) n = contains first.now n.id || contains last.now n.id
 counts (Others relays id) n = contains relays.now n.id && not (same n.id id)
 
 abbrev pub leads : NeighbourGraph → Among → Far → ℕ → Bool

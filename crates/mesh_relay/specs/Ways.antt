@@ -1,37 +1,74 @@
 -- The cheapest ways to the addresses that need a relay.
-use Rattle.std.specs.Prelude.{◌≡◌, ℕ, ◌+◌, ◌-◌, Bool, true, ◌&&◌, ◌||◌, not, cond, nat_eq, nat_lt, List, [], ◌∷◌, Contains, ◌↔◌}
-use Rattle.std.specs.List.{list_any}
-use Rattle.std.specs.List.Sorted.{IsNonDecreasingBy}
+use Rattle.std.specs.Prelude.{◌≡◌, ℕ, ◌+◌, ◌≤◌, ◌<◌, ◌⊎◌, Bool, true, ◌&&◌, ◌||◌, cond, nat_eq, nat_lt, List, [], ◌∷◌, Contains, AllPairs, ◌↔◌, Option, Some, None, length, slice_index_or}
 use Rattle.mesh_atoms.specs.declared.addr.Addr4.{Addr4}
 use Rattle.mesh_atoms.specs.declared.graphs.Near.{Near}
+use Rattle.mesh_atoms.specs.declared.graphs.Direct.{Direct}
 use Rattle.mesh_atoms.specs.declared.graphs.Far.{Far}
 use Rattle.mesh_atoms.specs.declared.graphs.NeighbourGraph.{NeighbourGraph}
-use Rattle.mesh_relay.specs.declared.sets.Among.TheVariants.{Willing}
-use Rattle.mesh_relay.specs.Tests.{same, contains, is_direct_within, is_led_to_within}
+use Rattle.mesh_atoms.specs.Relays.{Offers, IsWilling}
+use Rattle.mesh_relay.specs.declared.ways.Way.{Way}
+use Rattle.mesh_relay.specs.Tests.{same, is_direct_within}
 
-abbrev pub is_beaten : NeighbourGraph → Addr4 → ℕ → Bool
-is_beaten g y cost = nat_lt 0 cost && is_led_to_within g Willing y (cost - 1)
+-- the list has all willing neighbours, in ascending order of id
+pub record AreWilling (g : NeighbourGraph) (willing : List Near) : Type 0 where
+  pub each : (n : Near) → Contains willing n ↔ (Contains g.near n × IsWilling n)
+  pub order : AllPairs (λ m n. m.id.0 < n.id.0) willing
 
-abbrev pub is_way_by : NeighbourGraph → Far → Near → Bool
-is_way_by g f n =
-    same n.id f.via && not (nat_eq n.will 0) && not (is_direct_within g f.addr (n.cost + f.cost)) && not (is_beaten g f.addr (n.cost + f.cost))
+-- the neighbour stands at that place
+abbrev pub IsAt : List Near → ℕ → Near → Type 0
+IsAt willing place n = (place < length willing) × (slice_index_or willing place n ≡ n)
 
-abbrev pub is_way : NeighbourGraph → Far → Bool
-is_way g f = list_any (λ n. is_way_by g f n) g.near
+-- some direct entry offers the address at no more than that
+abbrev pub IsDirect : NeighbourGraph → Addr4 → ℕ → Type 0
+IsDirect g y most = (d : Direct) × Contains g.direct d × ((d.addr ≡ y) × (d.cost ≤ most))
 
--- the ways of the graph, in order of their addresses
-pub record AreWays (g : NeighbourGraph) (ways : List Far) : Type 0 where
-  pub each : (f : Far) → Contains ways f ↔ (Contains g.far f × (is_way g f ≡ true))
-  pub order : IsNonDecreasingBy (λ (f : Far). f.addr.0) ways
+-- the way is one by the neighbour at its place, it costs less than any direct entry, and no willing neighbour offers less
+pub record IsCheapest (g : NeighbourGraph) (willing : List Near) (w : Way) : Type 0 where
+  pub near : Near
+  pub at : IsAt willing w.place near
+  pub far : Far
+  pub within : Contains g.far far
+  pub via : near.id ≡ far.via
+  pub addr : w.addr ≡ far.addr
+  pub cost : w.cost ≡ near.cost + far.cost
+  pub no_direct : IsDirect g w.addr w.cost → ⊥
+  pub least : (c : ℕ) → Offers g IsWilling w.addr c → w.cost ≤ c
 
-abbrev pub has_id : List Addr4 → List Addr4 → Addr4 → Bool
-has_id first last id = contains first id || contains last id
+-- of ways to the entry's address one is cheaper than the entry by that neighbour, or is the neighbour's own
+abbrev pub HasWay : List Near → List Way → Near → Far → Type 0
+HasWay willing ways n f = (w : Way) × Contains ways w × (w.addr ≡ f.addr) × ((w.cost < n.cost + f.cost) ⊎ IsAt willing w.place n)
 
--- y is reached, or one of the ways that go on to it passes the test; and each later address has a way that passes
-abbrev pub reached_on : (Far → Bool) → Addr4 → Bool → List Far → Bool
+-- the addresses begin at that number and never fall
+abbrev pub RisesFrom : ℕ → List Way → Type 0
+RisesFrom low [] = Unit {0}
+RisesFrom low (w ∷ ws) = (low ≤ w.addr.0) × RisesFrom w.addr.0 ws
+
+-- the ways are the cheapest ones, and each entry has one or a direct entry that is as cheap
+pub record AreWays (g : NeighbourGraph) (willing : List Near) (ways : List Way) : Type 0 where
+  pub each : (w : Way) → Contains ways w → IsCheapest g willing w
+  pub rest : (n : Near) (f : Far) → Contains willing n → Contains g.far f → n.id ≡ f.via → IsDirect g f.addr (n.cost + f.cost) ⊎ HasWay willing ways n f
+  pub order : RisesFrom 0 ways
+
+-- the way that the entry gives by the neighbour at that place, and none where a direct entry is as cheap
+abbrev pub way_at : NeighbourGraph → ℕ → Near → Far → Option Way
+way_at g place n f =
+    cond (is_direct_within g f.addr (n.cost + f.cost)) None (Some (record { addr = f.addr; cost = n.cost + f.cost; place = place }))
+
+-- the way that the entry gives by the first of the neighbours that has its id; they stand from that place on
+abbrev pub way_from : NeighbourGraph → ℕ → List Near → Far → Option Way
+way_from g place [] f = None
+way_from g place (n ∷ ns) f = cond (same n.id f.via) (way_at g place n f) (way_from g (place + 1) ns f)
+
+-- of ways in order, the next one is dearer than the last one to its address, or by the same neighbour
+abbrev pub adds_nothing : Way → Way → Bool
+adds_nothing next last = same next.addr last.addr && (nat_lt last.cost next.cost || nat_eq next.place last.place)
+
+-- the address is reached, or one of the ways that go on to it passes the test; and each later address has a way that passes
+abbrev pub reached_on : (Way → Bool) → Addr4 → Bool → List Way → Bool
 reached_on test y reached [] = reached
 reached_on test y reached (w ∷ ws) = cond (same w.addr y) (reached_on test y (reached || test w) ws) (reached && reached_on test w.addr (test w) ws)
 
-abbrev pub reaches_all : (Far → Bool) → List Far → Bool
+-- each address has a way that passes the test
+abbrev pub reaches_all : (Way → Bool) → List Way → Bool
 reaches_all test [] = true
 reaches_all test (w ∷ ws) = reached_on test w.addr (test w) ws

@@ -1,10 +1,11 @@
+use Rattle.std.proofs.lemmas.Fn.{dedup_same}
 use Rattle.std.proofs.Common.{rules}
-use Rattle.std.proofs.lemmas.List.Sorted.{IsNonDecreasingBy-from_sort_by_key}
-use Rattle.mesh_atoms.specs.declared.graphs.Far.{Far}
-use Rattle.mesh_relay.proofs.Cheapest.{are_ways}
+use Rattle.mesh_relay.specs.Ways.{adds_nothing}
+use Rattle.mesh_relay.proofs.Cheapest.{are_ways, in_order_sorted}
 use Rattle.mesh_relay.proofs.ways.ways_of.Goals as goal
 
 pub returns : goal.returns
 returns c =
-    are_ways c.args.graph.now c.in_ok-ways.ways.items c.sort_by_key.new.self.items c.in_ok-ways.ensures c.in_ok-sort_by_key.ensures.permutation
-    (IsNonDecreasingBy-from_sort_by_key (λ (w : Far). w.addr.0) _ c.in_ok-sort_by_key.ensures.sorted (λ a r q k. search rules))
+    are_ways c.args.graph.now c.args.willing.now c.in_ok-ways.ways.items _ _ c.requires c.in_ok-ways.ensures c.sort_unstable.ensures.permutation
+    (in_order_sorted _ c.sort_unstable.ensures.sorted)
+    (dedup_same _ adds_nothing _ (λ x y b f' x' y' k. search rules) _ _ c.dedup_by.ensures.filtered)

@@ -1,0 +1,12 @@
+use Rattle.std.proofs.Common.{Bool, true, false, set, ◌≡◌, sym, ◌∙◌, subst, inr}
+use Rattle.std.proofs.lemmas.List.{set-set, set-get_or}
+use Rattle.mesh_relay.proofs.prune.leave_out.Goals as goal
+
+pub returns-then-not-reaches_all : goal.returns-then-not-reaches_all
+returns-then-not-reaches_all c =
+    let ts = c.args.taken.now in
+    let place = c.args.place in
+    inr (
+      set-set ts place false true ∙ subst (λ (b : Bool). set ts place b ≡ ts) c.requires.taken (set-get_or ts place false),
+      sym c.reaches_all.ensures ∙ c.if-not-reaches_all.true,
+    )
