@@ -1,5 +1,5 @@
 -- The tests decide what they are named for.
-use Rattle.std.proofs.Common.{◌≡◌, ℕ, ◌+◌, ◌≤◌, ◌<◌, ◌⊎◌, Bool, true, false, ◌&&◌, ◌||◌, not, nat_eq, nat_lt, nat_le, List, [], ◌∷◌, get_or, refl, sym, ap, subst, inl, inr, arith, Decides}
+use Rattle.std.proofs.Common.{◌≡◌, ℕ, ◌+◌, ◌≤◌, ◌<◌, ◌⊎◌, Bool, true, false, ◌&&◌, ◌||◌, not, nat_eq, nat_lt, nat_le, List, [], ◌∷◌, get_or, refl, sym, ◌∙◌, ap, subst, inl, inr, arith, Decides}
 use Rattle.std.specs.Prelude.{Contains}
 use Rattle.std.specs.Borrow.{Bor}
 use Rattle.std.specs.List.{list_any, list_all}
@@ -12,11 +12,11 @@ use Rattle.mesh_atoms.specs.declared.graphs.Near.{Near}
 use Rattle.mesh_atoms.specs.declared.graphs.Direct.{Direct}
 use Rattle.mesh_atoms.specs.declared.graphs.Far.{Far}
 use Rattle.mesh_atoms.specs.declared.graphs.NeighbourGraph.{NeighbourGraph}
-use Rattle.mesh_atoms.specs.Relays.{Offers, IsWilling, IsRelay, IsOtherRelay, IsAsCheap, HasSameDistance, Covers, IsMissed, Needed}
+use Rattle.mesh_atoms.specs.Relays.{Offers, IsWilling, IsRelay, IsOtherRelay, IsAsCheap, HasSameDistance, Covers, IsMissed, Needed, HasDistinctIds}
 use Rattle.mesh_relay.specs.declared.sets.Among.{Among}
 use Rattle.mesh_relay.specs.declared.sets.Among.TheVariants.{Willing, Relays, Others}
 use Rattle.mesh_relay.specs.Ways.{IsDirect}
-use Rattle.mesh_relay.specs.Tests.{same, contains, counts, leads, is_direct_within, is_led_to_within, offers_within, is_matched, is_as_cheap, keeps_costs, has_always, are_willing, is_missed, irredundant, covers}
+use Rattle.mesh_relay.specs.Tests.{same, contains, counts, leads, is_direct_within, is_led_to_within, offers_within, is_matched, is_as_cheap, keeps_costs, has_always, are_willing, is_missed, irredundant, covers, are_distinct, are_all_distinct}
 
 -- Tests in general
 
@@ -184,4 +184,27 @@ Decides-irredundant g relays =
     (Decides-and _ _ (Decides-not _ (Decides-equal n.will 0)) (Decides-less n.will 15)) (Decides-missed g relays n.id)) g.near in (
       λ e. record { missed = λ n near within willing below. d.0 e n near within (willing, below) },
       λ w. d.1 (λ n near within both. w.missed n near within both.0 both.1),
+    )
+
+-- Distinct ids
+
+same_near : (m n : Near) → m.id ≡ n.id → m.cost ≡ n.cost → m.will ≡ n.will → m ≡ n
+same_near m n id cost will =
+    ap (λ (x : Addr4). let r : Near = record { id = x; cost = m.cost; will = m.will } in r) id
+    ∙ (ap (λ (x : ℕ). let r : Near = record { id = n.id; cost = x; will = m.will } in r) cost
+    ∙ ap (λ (x : ℕ). let r : Near = record { id = n.id; cost = n.cost; will = x } in r) will)
+
+Decides-are_distinct : (m n : Near) → Decides (are_distinct m n) (m.id ≡ n.id → m ≡ n)
+Decides-are_distinct m n =
+    let d = Decides-if _ _ (Decides-same m.id n.id) (Decides-and _ _ (Decides-equal m.cost n.cost) (Decides-equal m.will n.will)) in (
+      λ e id. let w = d.0 e id in same_near m n id w.0 w.1,
+      λ h. d.1 (λ id. (ap (λ (x : Near). x.cost) (h id), ap (λ (x : Near). x.will) (h id))),
+    )
+
+pub Decides-distinct_ids : (g : NeighbourGraph) → Decides (are_all_distinct g) (HasDistinctIds g)
+Decides-distinct_ids g =
+    let d = Decides-each _ (λ m. (n : Near) → Contains g.near n → m.id ≡ n.id → m ≡ n)
+    (λ m. Decides-each _ (λ n. m.id ≡ n.id → m ≡ n) (λ n. Decides-are_distinct m n) g.near) g.near in (
+      λ e m n in-m in-n id. d.0 e m in-m n in-n id,
+      λ h. d.1 (λ m in-m n in-n id. h m n in-m in-n id),
     )

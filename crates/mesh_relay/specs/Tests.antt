@@ -64,3 +64,12 @@ irredundant g relays = list_all (λ n. not (contains relays.now n.id) || not (ma
 
 abbrev pub covers : NeighbourGraph → Bor (List Addr4) → Bool
 covers g relays = has_always g (Relays relays) && are_willing g relays.now && keeps_costs g (Relays relays)
+
+abbrev pub are_distinct : Near → Near → Bool
+are_distinct m n = not (same m.id n.id) || (nat_eq m.cost n.cost && nat_eq m.will n.will)
+
+abbrev pub is_distinct_from_all : NeighbourGraph → Near → Bool
+is_distinct_from_all g m = list_all (λ n. are_distinct m n) g.near
+
+abbrev pub are_all_distinct : NeighbourGraph → Bool
+are_all_distinct g = list_all (λ m. is_distinct_from_all g m) g.near
