@@ -1,9 +1,11 @@
 -- Equal distances.
-use Rattle.std.proofs.Common.{◌≡◌, ℕ, ◌≤◌, ◌↔◌, Option, Some, None, refl, ap, arith}
+use Rattle.std.specs.Prelude.{Contains}
+use Rattle.std.proofs.Common.{List, inl, inr, subst, ◌≡◌, ℕ, ◌≤◌, ◌↔◌, Option, Some, None, refl, ap, arith}
 use Rattle.mesh_atoms.specs.declared.addr.Addr4.{Addr4}
 use Rattle.mesh_atoms.specs.declared.graphs.Near.{Near}
+use Rattle.mesh_atoms.specs.declared.graphs.Far.{Far}
 use Rattle.mesh_atoms.specs.declared.graphs.NeighbourGraph.{NeighbourGraph}
-use Rattle.mesh_atoms.specs.Relays.{Offers, IsDistance, IsAsCheap, HasSameDistance}
+use Rattle.mesh_atoms.specs.Relays.{Offers, IsDistance, IsAsCheap, HasSameDistance, IsWilling, IsRelay, Covers, HasDistinctIds}
 
 no_some : (m : ℕ) → None ≡ Some m → ⊥
 no_some m e = cc
@@ -34,3 +36,22 @@ tells g A B y (Some l) (Some m) here there = (
       ap (λ (n : ℕ). Some n) (equal_from l m w.0 v.0 (here.1 w.0 w.1) w.2 (there.1 v.0 v.1) v.2),
   λ e. (λ c o. (l, here.0, through l m c (some_same l m e) (there.1 c o)), λ c o. (m, there.0, through_back l m c (some_same l m e) (here.1 c o))),
 )
+
+relays_are_willing : (g : NeighbourGraph) (relays : List Addr4) (n : Near) → HasDistinctIds g → Covers g relays → Contains g.near n → Contains relays n.id → IsWilling n
+relays_are_willing g relays n distinct covers near relay =
+    let m = covers.willing n.id relay in
+    subst IsWilling (distinct m.0 n m.1 near m.2) m.3
+
+le-same : (n : ℕ) → n ≤ n
+le-same n = omega arith
+
+willing_as_cheap : (g : NeighbourGraph) (relays : List Addr4) (y : Addr4) → HasDistinctIds g → Covers g relays → IsAsCheap g IsWilling (IsRelay relays) y
+willing_as_cheap g relays y distinct covers c o = elim o [
+  | inl d ↦ (c, inl d, le-same c)
+  | inr m ↦ (c, inr (m.0, m.1, relays_are_willing g relays m.0 distinct covers m.1 m.2, m.3, m.4, m.5, m.6, m.7), le-same c)
+]
+
+pub covering_keeps : (g : NeighbourGraph) (relays : List Addr4) (f : Far) (a b : Option ℕ) → HasDistinctIds g → Covers g relays → Contains g.far f →
+    IsDistance g (IsRelay relays) f.addr a → IsDistance g IsWilling f.addr b → a ≡ b
+covering_keeps g relays f a b distinct covers far here there =
+    (tells g (IsRelay relays) IsWilling f.addr a b here there).0 (λ c o. covers.as_cheap f c far o, willing_as_cheap g relays f.addr distinct covers)

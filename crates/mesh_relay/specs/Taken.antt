@@ -31,6 +31,7 @@ abbrev pub free_count : List Bool → ℕ
 free_count [] = 0
 free_count (t ∷ ts) = cond t (free_count ts) (suc (free_count ts))
 
+-- the neighbour's gain is greater than that of the best one so far
 abbrev pub is_better : List ℕ → ℕ → Option ℕ → Bool
 is_better gains place None = true
 is_better gains place (Some best) = nat_lt (slice_index gains best) (slice_index gains place)

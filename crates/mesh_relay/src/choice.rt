@@ -1,4 +1,4 @@
-//! The choice of relays.
+//! The choice of relays (RFC 7181, section 18.6).
 ghost use Rattle.std.specs.Prelude.{◌≡◌, IfOk, length, map, true};
 ghost use Rattle.mesh_atoms.specs.Relays.{Covers, Needed, IsAscending, HasDistinctIds};
 ghost use Rattle.mesh_relay.specs.Ways.{AreWilling, AreWays};
@@ -10,6 +10,7 @@ use crate::ways::{Way, ways_of, willing_of};
 use mesh_atoms::{Addr4, Near, NeighbourGraph, Seq};
 use std::alloc::{AllocError, Global};
 
+/// The ids of the neighbours that are taken.
 fn ids_of(alloc: Global, willing: &[Near], taken: &[bool]) -> Result<Seq<Addr4>, AllocError>
     requires { length taken.now ≡ length willing.now }
     ensures { IfOk result (λ ids. ids ≡ ids_of willing.now taken.now) }
@@ -65,7 +66,7 @@ fn take_all(
     all_flags(alloc, willing)
 }
 
-/// Relays for the graph (RFC 7181, section 18.3): ids in ascending order that cover, each of which is needed. All willing
+/// Relays for the graph (RFC 7181, sections 18.3 and 18.6): ids in ascending order that cover, each of which is needed. All willing
 /// neighbours are taken, and then those that the others make up for are left out, the greatest id first. The order of the
 /// graph's lists has no say. Ids must be distinct. Only want of memory refuses.
 pub fn choose_by_dropping(alloc: Global, graph: &NeighbourGraph) -> Result<Seq<Addr4>, AllocError>
@@ -80,7 +81,7 @@ pub fn choose_by_dropping(alloc: Global, graph: &NeighbourGraph) -> Result<Seq<A
     reduced(alloc, graph, &willing, &ways, &mut taken)
 }
 
-/// Relays for the graph (RFC 7181, section 18.3): ids in ascending order that cover, each of which is needed. The
+/// Relays for the graph (RFC 7181, sections 18.3 and 18.6): ids in ascending order that cover, each of which is needed. The
 /// neighbours of willingness 15 are taken first, then again and again the one by which most addresses come to be reached
 /// at their least cost, the least id among equals; then those that the others make up for are left out, the greatest id
 /// first. The order of the graph's lists has no say. Takes about as many steps as there are neighbours times `far`
