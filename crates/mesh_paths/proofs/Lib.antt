@@ -15,3 +15,10 @@ mod TwoRoutersSound
 mod Witness
 mod WorkedHello
 mod WrongStates
+pub mod Found
+pub mod Order
+pub mod Rows
+pub mod SearchLaw
+pub mod Sets
+pub mod TreeLaw
+pub mod Unique

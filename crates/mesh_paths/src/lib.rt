@@ -4,3 +4,12 @@
 mod settled;
 
 pub use settled::{settled_routes, two_routers_settle, worked_hello_is_taken, wrong_states_refused};
+//! The least walks of a router's graph (RFC 7181, section 19), and the certificate that shows them.
+#![tactic(auto)]
+
+mod certificate;
+mod frontier;
+
+pub use certificate::{check, one_certificate};
+pub use frontier::search;
+pub use mesh_atoms::{Arc4, Certificate, Graph, PathRow};

@@ -1,0 +1,96 @@
+-- The rows that an ended search has settled are a certificate.
+use Rattle.std.proofs.Common.{◌≡◌, ℕ, zero, suc, ◌+◌, ◌⊎◌, inl, inr, refl, sym, ap, subst, arith, List, [], ◌∷◌, Contains, slice_index_or, Some}
+use Rattle.std.specs.List.Sorted.{IsStrictlySortedBy}
+use Rattle.std.specs.Map.{keys_of, values_of}
+use Rattle.std.specs.Ordering.{eq_by_cmp}
+use Rattle.std.specs.BTreeMap as tree
+use Rattle.std.specs.BTreeMap.{BTreeMap}
+use Rattle.std.proofs.lemmas.Cmp.{eq_by_cmp_equiv}
+use Rattle.std.proofs.lemmas.Map.Keys.{IsDistinct-from_sorted}
+use Rattle.std.proofs.lemmas.Map.Views.{All-found, Contains-from_lookup, lookup-from_Contains}
+use Rattle.mesh_atoms.specs.declared.addr.NetAddr.{NetAddr}
+use Rattle.mesh_atoms.specs.Nodes.{IsBefore}
+use Rattle.mesh_atoms.specs.declared.graphs.Arc4.{Arc4}
+use Rattle.mesh_atoms.specs.declared.graphs.Graph.{Graph}
+use Rattle.mesh_atoms.specs.declared.graphs.PathRow.{PathRow}
+use Rattle.mesh_paths.specs.Paths.{HasCosts, IsAscending, IsCertificate}
+use Rattle.mesh_paths.specs.Tree.{Offers, MeetsBy, Meets, IsTree}
+use Rattle.mesh_paths.specs.Search.{Waits, IsSearch, IsFound, IsIndex, Settled, IsKeyed, node_cmp}
+use Rattle.mesh_paths.proofs.Rows.{move_offer}
+use Rattle.mesh_paths.proofs.SearchLaw.{in_tail, head_or_tail, meets_more}
+use Rattle.mesh_paths.proofs.Sets.{node_total, node_exact, node_less, is_equal}
+use Rattle.mesh_paths.proofs.TreeLaw.{certificate_of_tree}
+
+value_in : (es : List (NetAddr × PathRow)) (q : NetAddr) (r : PathRow) → Contains es (q, r) → Contains (values_of es) r
+value_in [] q r has = absurd (omega (arith, has.1))
+value_in (e ∷ es) q r has = elim (head_or_tail e es (q, r) has) [
+  | inl same ↦ (0, omega arith, ap (λ (x : NetAddr × PathRow). x.1) same)
+  | inr later ↦ in_tail e.1 (values_of es) r (value_in es q r later)
+]
+
+key_of : (es : List (NetAddr × PathRow)) (r : PathRow) → Contains (values_of es) r → (q : NetAddr) × Contains es (q, r)
+key_of [] r has = absurd (omega (arith, has.1))
+key_of (e ∷ es) r has = elim (head_or_tail e.1 (values_of es) r has) [
+  | inl same ↦ (e.0, (0, omega arith, ap (λ (x : PathRow). (e.0, x)) same))
+  | inr later ↦ let (q, found) = key_of es r later in (q, in_tail e es (q, r) found)
+]
+
+ascending_of : (es : List (NetAddr × PathRow)) → IsStrictlySortedBy node_cmp (keys_of es) → ((e : NetAddr × PathRow) → Contains es e → e.1.node ≡ e.0) → IsAscending (values_of es)
+unfolding IsStrictlySortedBy
+ascending_of [] up keyed k d l = absurd (omega arith)
+ascending_of (e ∷ []) up keyed k d l = absurd (omega arith)
+ascending_of (e ∷ f ∷ es) up keyed zero d l =
+    let before : IsBefore e.0 f.0 = node_less e.0 f.0 up.0.0 in
+    let one : IsBefore e.1.node f.0 = subst (λ (n : NetAddr). IsBefore n f.0) (sym (keyed e (0, omega arith, refl))) before in
+    subst (λ (n : NetAddr). IsBefore e.1.node n) (sym (keyed f (1, omega arith, refl))) one
+ascending_of (e ∷ f ∷ es) up keyed (suc k) d l =
+    let later : IsBefore (slice_index_or (values_of (f ∷ es)) k d).node (slice_index_or (values_of (f ∷ es)) (k + 1) d).node =
+    ascending_of (f ∷ es) up.1 (λ x has. keyed x (in_tail e (f ∷ es) x has)) k d (omega arith) in
+    let next : suc k + 1 ≡ suc (k + 1) = omega arith in
+    rw next later
+
+module _ (m : BTreeMap NetAddr PathRow) (keyed : IsKeyed m) (ordered : tree.IsOrdered node_cmp m) where
+  listed : (r : PathRow) → Settled m r → Contains (values_of m.entries) r
+  listed r has = value_in m.entries r.node r (Contains-from_lookup {eq = eq_by_cmp node_cmp} (λ x y e. node_exact x y (is_equal (node_cmp x y) e)) r.node r m.entries has)
+
+  settled : (r : PathRow) → Contains (values_of m.entries) r → Settled m r
+  settled r has =
+      let (q, found) = key_of m.entries r has in
+      let at : tree.get node_cmp m q ≡ Some r = lookup-from_Contains {eq = eq_by_cmp node_cmp} (eq_by_cmp_equiv node_total) q r m.entries (IsDistinct-from_sorted node_cmp (keys_of m.entries) ordered) found in
+      subst (λ (n : NetAddr). tree.get node_cmp m n ≡ Some r) (sym (keyed q r at)) at
+
+  in_order : IsAscending (values_of m.entries)
+  in_order = ascending_of m.entries ordered (λ e (k, l, is).
+      let at : tree.get node_cmp m e.0 ≡ Some e.1 = subst (λ (x : NetAddr × PathRow). tree.get node_cmp m x.0 ≡ Some x.1) is (All-found node_total m ordered k e l) in
+      keyed e.0 e.1 at)
+
+  module _ (arcs index : List Arc4) (from : NetAddr) (same : IsIndex arcs index) (rest : List Arc4) (now : IsSearch (Settled m) index from [] rest) where
+    met : (node : NetAddr) (metric : ℕ) (parent : NetAddr) → MeetsBy (Settled m) node metric parent ⊎ Waits [] node metric parent → Meets (values_of m.entries) node metric parent
+    met node metric parent state = elim state [
+      | inl found ↦ meets_more node metric parent listed found
+      | inr waits ↦ absurd (omega (arith, waits.1))
+    ]
+
+    offered : (r : PathRow) → Contains (values_of m.entries) r → Offers arcs from (values_of m.entries) r.node r.metric r.parent
+    offered r has = elim (now.of_rows r (settled r has)) [
+      | inl start ↦ inl start
+      | inr (p, a, has_p, there, begins, ends, sum, at) ↦ inr (p, a, listed p has_p, same.of_it a there, begins, ends, sum, at)
+    ]
+
+    closed : (node : NetAddr) (metric : ℕ) (parent : NetAddr) → Offers arcs from (values_of m.entries) node metric parent → Meets (values_of m.entries) node metric parent
+    closed node metric parent offer = elim offer [
+      | inl (n, c, p) ↦ move_offer (values_of m.entries) from node 0 metric from parent n c p (met from 0 from now.start)
+      | inr (r, a, has, there, begins, ends, sum, p) ↦ move_offer (values_of m.entries) a.to node (r.metric + a.metric) metric r.node parent ends sum p
+          (met a.to (r.metric + a.metric) r.node (now.of_arcs r a (settled r has) (same.has a there) begins))
+    ]
+
+    pub tree_found : IsTree arcs from (values_of m.entries)
+    tree_found = record { ascending = in_order; closed = closed; grounded = offered }
+
+pub certificate_found : (g : Graph) (from : NetAddr) → HasCosts g → (m : BTreeMap NetAddr PathRow) → IsKeyed m → tree.IsOrdered node_cmp m → (arcs index : List Arc4) → arcs ≡ g.arcs → IsIndex arcs index → IsFound (Settled m) index from →
+    (rows : List PathRow) → rows ≡ values_of m.entries → IsCertificate g from (record { rows = rows })
+certificate_found g from costs m keyed ordered arcs index is same (rest, now) rows e =
+    let found : IsTree arcs from (values_of m.entries) = tree_found m keyed ordered arcs index from same rest now in
+    let one : IsTree g.arcs from (values_of m.entries) = subst (λ (x : List Arc4). IsTree x from (values_of m.entries)) is found in
+    let two : IsTree g.arcs from rows = subst (λ (x : List PathRow). IsTree g.arcs from x) (sym e) one in
+    certificate_of_tree g from costs (record { rows = rows }) two

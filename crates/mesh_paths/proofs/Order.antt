@@ -1,0 +1,98 @@
+-- The order of nodes, and ascending rows.
+use mathlib.Core.HLevel.{is_prop→PathP}
+use Rattle.std.specs.Coded.{le_prop}
+use Rattle.std.proofs.Common.{◌≡◌, ℕ, zero, suc, ◌+◌, ◌-◌, ◌^◌, ◌%◌, ◌≤◌, ◌<◌, ◌⊎◌, inl, inr, sym, ◌∙◌, ap, arith, List, length, Contains, slice_index_or, Some}
+use Rattle.std.proofs.Math.Nat.{ℕ_set}
+use Rattle.std.proofs.lemmas.Bool.{cases_eq, cases_lt}
+use Rattle.std.proofs.lemmas.Option.{slice_get-get_or, get_or_from_slice_get}
+use Rattle.mesh_atoms.specs.declared.addr.NetAddr.{NetAddr}
+use Rattle.mesh_atoms.specs.Nodes.{IsBefore, IsAtMost}
+use Rattle.mesh_atoms.specs.declared.graphs.PathRow.{PathRow}
+use Rattle.mesh_paths.specs.Paths.{IsAscending}
+
+-- a node is known by its parts
+pub node_of : (a b : NetAddr) → a.addr.0 ≡ b.addr.0 → a.prefix ≡ b.prefix → a ≡ b
+node_of a b number prefix = λ i. record {
+  addr = record { 0 = number i };
+  prefix = prefix i;
+  within = is_prop→PathP (λ j. prefix j ≤ 32) (λ j. le_prop) a.within b.within i;
+  clear = is_prop→PathP (λ j. number j % 2 ^ (32 - prefix j) ≡ 0) (λ j. ℕ_set (number j % 2 ^ (32 - prefix j)) 0) a.clear b.clear i;
+}
+
+pub same_node : (a b : NetAddr) → (a ≡ b) ⊎ (a ≡ b → ⊥)
+same_node a b = elim (cases_eq a.addr.0 b.addr.0) [
+  | inl e ↦ elim (cases_eq a.prefix b.prefix) [
+    | inl f ↦ inl (node_of a b e f)
+    | inr other ↦ inr (λ g. other (ap (λ (c : NetAddr). c.prefix) g))
+  ]
+  | inr other ↦ inr (λ g. other (ap (λ (c : NetAddr). c.addr.0) g))
+]
+
+pub before_trans : (a b c : NetAddr) → IsBefore a b → IsBefore b c → IsBefore a c
+before_trans a b c f g = elim f [
+  | inl x ↦ elim g [
+    | inl y ↦ inl (omega arith)
+    | inr (e, y) ↦ inl (omega arith)
+  ]
+  | inr (d, x) ↦ elim g [
+    | inl y ↦ inl (omega arith)
+    | inr (e, y) ↦ inr (omega arith, omega arith)
+  ]
+]
+
+pub not_before_itself : (a b : NetAddr) → a ≡ b → IsBefore a b → ⊥
+not_before_itself a b e f =
+    let number : a.addr.0 ≡ b.addr.0 = ap (λ (c : NetAddr). c.addr.0) e in
+    let prefix : a.prefix ≡ b.prefix = ap (λ (c : NetAddr). c.prefix) e in
+    elim f [
+      | inl x ↦ omega arith
+      | inr (_, y) ↦ omega arith
+    ]
+
+pub at_most_itself : (a b : NetAddr) → a ≡ b → IsAtMost a b
+at_most_itself a b e =
+    let prefix : a.prefix ≡ b.prefix = ap (λ (c : NetAddr). c.prefix) e in
+    inr (ap (λ (c : NetAddr). c.addr.0) e, omega arith)
+
+pub at_most_both : (a b : NetAddr) → IsAtMost a b → IsAtMost b a → a ≡ b
+at_most_both a b f g = elim f [
+  | inl x ↦ elim g [
+    | inl y ↦ absurd (omega arith)
+    | inr (e, y) ↦ absurd (omega arith)
+  ]
+  | inr (d, x) ↦ elim g [
+    | inl y ↦ absurd (omega arith)
+    | inr (e, y) ↦ node_of a b d (omega arith)
+  ]
+]
+
+-- Ascending rows
+
+-- each row stands before all later ones
+pub before_later : (rows : List PathRow) → IsAscending rows → (k n : ℕ) (d : PathRow) → k + (n + 1) < length rows → IsBefore (slice_index_or rows k d).node (slice_index_or rows (k + (n + 1)) d).node
+before_later rows up k zero d l = up k d l
+before_later rows up k (suc n) d l =
+    let same : k + (suc n + 1) ≡ (k + (n + 1)) + 1 = omega arith in
+    let next : IsBefore (slice_index_or rows (k + (n + 1)) d).node (slice_index_or rows (k + (suc n + 1)) d).node = rw same (up (k + (n + 1)) d (omega arith)) in
+    before_trans (slice_index_or rows k d).node (slice_index_or rows (k + (n + 1)) d).node (slice_index_or rows (k + (suc n + 1)) d).node (before_later rows up k n d (omega arith)) next
+
+-- rows at two places, of which the first is the lesser, have different nodes
+apart : (rows : List PathRow) → IsAscending rows → (r t : PathRow) (i j : ℕ) → i < j → j < length rows → slice_index_or rows i r ≡ r → slice_index_or rows j t ≡ t → r.node ≡ t.node → ⊥
+apart rows up r t i j less in_j is_r is_t e =
+    let at_j : slice_index_or rows j r ≡ t = get_or_from_slice_get rows j t r (slice_get-get_or rows j t in_j ∙ ap Some is_t) in
+    let place : i + ((j - (i + 1)) + 1) ≡ j = omega arith in
+    let later : IsBefore (slice_index_or rows i r).node (slice_index_or rows j r).node = rw place at (before_later rows up i (j - (i + 1)) r (omega arith)) in
+    not_before_itself (slice_index_or rows i r).node (slice_index_or rows j r).node (ap (λ (x : PathRow). x.node) is_r ∙ e ∙ sym (ap (λ (x : PathRow). x.node) at_j)) later
+
+-- a row of ascending rows is known by its node
+pub single : (rows : List PathRow) → IsAscending rows → (r t : PathRow) → Contains rows r → Contains rows t → r.node ≡ t.node → r ≡ t
+single rows up r t (i, in_i, is_r) (j, in_j, is_t) e = elim (cases_lt i j) [
+  | inl less ↦ absurd (apart rows up r t i j less in_j is_r is_t e)
+  | inr more ↦ elim (cases_lt j i) [
+    | inl less ↦ absurd (apart rows up t r j i less in_i is_t is_r (sym e))
+    | inr less ↦
+        let same : i ≡ j = omega arith in
+        let at_j : slice_index_or rows j r ≡ t = get_or_from_slice_get rows j t r (slice_get-get_or rows j t in_j ∙ ap Some is_t) in
+        (cc)
+  ]
+]

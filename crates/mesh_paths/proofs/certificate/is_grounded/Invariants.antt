@@ -1,0 +1,6 @@
+use Rattle.std.specs.List.{AllWithin}
+use Rattle.mesh_paths.specs.Tree.{IsOffered}
+use Rattle.mesh_paths.proofs.certificate.is_grounded.Given as goal
+
+abbrev pub invariant-loop-row : goal.invariant-loop-row
+invariant-loop-row l = AllWithin (IsOffered l.arcs l.from l.rows) l.rows 0 l.row-index
