@@ -1,4 +1,4 @@
--- The rows that an ended search has settled are a certificate.
+-- Rows of a map that are a tree are a certificate, and those are that an ended search has settled.
 use Rattle.std.proofs.Common.{◌≡◌, ℕ, zero, suc, ◌+◌, ◌⊎◌, inl, inr, refl, sym, ap, subst, arith, List, [], ◌∷◌, Contains, slice_index_or, Some}
 use Rattle.std.specs.List.Sorted.{IsStrictlySortedBy}
 use Rattle.std.specs.Map.{keys_of, values_of}
@@ -14,10 +14,10 @@ use Rattle.mesh_atoms.specs.declared.graphs.Arc4.{Arc4}
 use Rattle.mesh_atoms.specs.declared.graphs.Graph.{Graph}
 use Rattle.mesh_atoms.specs.declared.graphs.PathRow.{PathRow}
 use Rattle.mesh_paths.specs.Paths.{HasCosts, IsAscending, IsCertificate}
-use Rattle.mesh_paths.specs.Tree.{Offers, MeetsBy, Meets, IsTree}
-use Rattle.mesh_paths.specs.Search.{Waits, IsSearch, IsFound, IsIndex, Settled, IsKeyed, node_cmp}
+use Rattle.mesh_paths.specs.Tree.{OffersBy, Offers, MeetsBy, Meets, IsTree}
+use Rattle.mesh_paths.specs.Search.{Waits, IsFound, IsIndex, Settled, IsKeyed, node_cmp}
 use Rattle.mesh_paths.proofs.Rows.{move_offer}
-use Rattle.mesh_paths.proofs.SearchLaw.{in_tail, head_or_tail, meets_more}
+use Rattle.mesh_paths.proofs.SearchLaw.{in_tail, head_or_tail, offers_more, meets_more}
 use Rattle.mesh_paths.proofs.Sets.{node_total, node_exact, node_less, is_equal}
 use Rattle.mesh_paths.proofs.TreeLaw.{certificate_of_tree}
 
@@ -64,33 +64,46 @@ module _ (m : BTreeMap NetAddr PathRow) (keyed : IsKeyed m) (ordered : tree.IsOr
       let at : tree.get node_cmp m e.0 ≡ Some e.1 = subst (λ (x : NetAddr × PathRow). tree.get node_cmp m x.0 ≡ Some x.1) is (All-found node_total m ordered k e l) in
       keyed e.0 e.1 at)
 
-  module _ (arcs index : List Arc4) (from : NetAddr) (same : IsIndex arcs index) (rest : List Arc4) (now : IsSearch (Settled m) index from [] rest) where
-    met : (node : NetAddr) (metric : ℕ) (parent : NetAddr) → MeetsBy (Settled m) node metric parent ⊎ Waits [] node metric parent → Meets (values_of m.entries) node metric parent
-    met node metric parent state = elim state [
-      | inl found ↦ meets_more node metric parent listed found
-      | inr waits ↦ absurd (omega (arith, waits.1))
-    ]
-
-    offered : (r : PathRow) → Contains (values_of m.entries) r → Offers arcs from (values_of m.entries) r.node r.metric r.parent
-    offered r has = elim (now.of_rows r (settled r has)) [
-      | inl start ↦ inl start
-      | inr (p, a, has_p, there, begins, ends, sum, at) ↦ inr (p, a, listed p has_p, same.of_it a there, begins, ends, sum, at)
-    ]
-
+  -- rows that meet what the start and the arcs from them offer, and are offered, are a tree
+  module _ (arcs : List Arc4) (from : NetAddr) (start : MeetsBy (Settled m) from 0 from)
+      (met : (r : PathRow) (a : Arc4) → Settled m r → Contains arcs a → a.from ≡ r.node → MeetsBy (Settled m) a.to (r.metric + a.metric) r.node)
+      (offered : (r : PathRow) → Settled m r → OffersBy (Settled m) arcs from r.node r.metric r.parent) where
     closed : (node : NetAddr) (metric : ℕ) (parent : NetAddr) → Offers arcs from (values_of m.entries) node metric parent → Meets (values_of m.entries) node metric parent
     closed node metric parent offer = elim offer [
-      | inl (n, c, p) ↦ move_offer (values_of m.entries) from node 0 metric from parent n c p (met from 0 from now.start)
+      | inl (n, c, p) ↦ move_offer (values_of m.entries) from node 0 metric from parent n c p (meets_more from 0 from listed start)
       | inr (r, a, has, there, begins, ends, sum, p) ↦ move_offer (values_of m.entries) a.to node (r.metric + a.metric) metric r.node parent ends sum p
-          (met a.to (r.metric + a.metric) r.node (now.of_arcs r a (settled r has) (same.has a there) begins))
+          (meets_more a.to (r.metric + a.metric) r.node listed (met r a (settled r has) there begins))
     ]
 
     pub tree_found : IsTree arcs from (values_of m.entries)
-    tree_found = record { ascending = in_order; closed = closed; grounded = offered }
+    tree_found = record {
+      ascending = in_order;
+      closed = closed;
+      grounded = λ r has. offers_more arcs from r.node r.metric r.parent listed (offered r (settled r has));
+    }
+
+-- a tree of the graph's arcs is its certificate
+pub certificate_of_rows : (g : Graph) (from : NetAddr) → HasCosts g → (arcs : List Arc4) (tree : List PathRow) → arcs ≡ g.arcs → IsTree arcs from tree → (rows : List PathRow) → rows ≡ tree → IsCertificate g from (record { rows = rows })
+certificate_of_rows g from costs arcs tree is found rows e =
+    let one : IsTree g.arcs from tree = subst (λ (x : List Arc4). IsTree x from tree) is found in
+    let two : IsTree g.arcs from rows = subst (λ (x : List PathRow). IsTree g.arcs from x) (sym e) one in
+    certificate_of_tree g from costs (record { rows = rows }) two
+
+-- where no step waits, what is offered is met
+ended : {Has : PathRow → Type 0} (node : NetAddr) (metric : ℕ) (parent : NetAddr) → MeetsBy Has node metric parent ⊎ Waits [] node metric parent → MeetsBy Has node metric parent
+ended node metric parent state = elim state [ inl found ↦ found | inr waits ↦ absurd (omega (arith, waits.1)) ]
+
+arcs_of_index : {Has : PathRow → Type 0} (arcs index : List Arc4) (from node : NetAddr) (metric : ℕ) (parent : NetAddr) → IsIndex arcs index → OffersBy Has index from node metric parent → OffersBy Has arcs from node metric parent
+arcs_of_index arcs index from node metric parent same offer = elim offer [
+  | inl start ↦ inl start
+  | inr (p, a, has, there, begins, ends, sum, at) ↦ inr (p, a, has, same.of_it a there, begins, ends, sum, at)
+]
 
 pub certificate_found : (g : Graph) (from : NetAddr) → HasCosts g → (m : BTreeMap NetAddr PathRow) → IsKeyed m → tree.IsOrdered node_cmp m → (arcs index : List Arc4) → arcs ≡ g.arcs → IsIndex arcs index → IsFound (Settled m) index from →
     (rows : List PathRow) → rows ≡ values_of m.entries → IsCertificate g from (record { rows = rows })
 certificate_found g from costs m keyed ordered arcs index is same (rest, now) rows e =
-    let found : IsTree arcs from (values_of m.entries) = tree_found m keyed ordered arcs index from same rest now in
-    let one : IsTree g.arcs from (values_of m.entries) = subst (λ (x : List Arc4). IsTree x from (values_of m.entries)) is found in
-    let two : IsTree g.arcs from rows = subst (λ (x : List PathRow). IsTree g.arcs from x) (sym e) one in
-    certificate_of_tree g from costs (record { rows = rows }) two
+    let found : IsTree arcs from (values_of m.entries) =
+    tree_found m keyed ordered arcs from (ended from 0 from now.start)
+    (λ r a has there begins. ended a.to (r.metric + a.metric) r.node (now.of_arcs r a has (same.has a there) begins))
+    (λ r has. arcs_of_index arcs index from r.node r.metric r.parent same (now.of_rows r has)) in
+    certificate_of_rows g from costs arcs (values_of m.entries) is found rows e

@@ -17,6 +17,7 @@ mod WorkedHello
 mod WrongStates
 pub mod Found
 pub mod Order
+pub mod RoundsLaw
 pub mod Rows
 pub mod SearchLaw
 pub mod Sets

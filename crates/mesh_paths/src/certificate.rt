@@ -109,7 +109,7 @@ fn row_of<'a>(rows: &'a [PathRow], node: NetAddr) -> Option<&'a PathRow>
 }
 
 // Whether the row has a lesser metric, or the same and a parent that is no greater.
-fn is_as_good(row: &PathRow, metric: u128, parent: NetAddr) -> bool
+pub(crate) fn is_as_good(row: &PathRow, metric: u128, parent: NetAddr) -> bool
     ensures { IsTrue result ↔ IsAsGood row.now metric parent }
 {
     u128::from(row.metric) < metric || u128::from(row.metric) == metric && row.parent <= parent

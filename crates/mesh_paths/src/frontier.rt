@@ -13,10 +13,10 @@ use std::collections::{BTreeMap, BTreeSet};
 
 // A step that may be taken: to a node, at a metric, by way of a parent.
 #[derive(Clone, Copy, PartialEq, Eq, PartialOrd, Ord)]
-struct Step {
-    metric: u64,
-    node: NetAddr,
-    parent: NetAddr,
+pub(crate) struct Step {
+    pub(crate) metric: u64,
+    pub(crate) node: NetAddr,
+    pub(crate) parent: NetAddr,
 }
 
 /// Finds the least walks from that node (RFC 7181, section 19), as the certificate of the graph: a row for each node that
@@ -76,7 +76,7 @@ fn settle_all(
 }
 
 // Settles the step as a row.
-fn settle(settled: &mut BTreeMap<NetAddr, PathRow>, step: Step) -> Result<(), AllocError>
+pub(crate) fn settle(settled: &mut BTreeMap<NetAddr, PathRow>, step: Step) -> Result<(), AllocError>
     requires fresh { get node_cmp settled.old step.node ≡ None }
     requires keyed { IsKeyed settled.old }
     ensures settled { OnOk result (Settles (Settled settled.old) (row_of step) (Settled settled.new)) }
@@ -99,7 +99,7 @@ fn settle(settled: &mut BTreeMap<NetAddr, PathRow>, step: Step) -> Result<(), Al
 }
 
 // The settled rows, in the order of nodes.
-fn rows_in_order(
+pub(crate) fn rows_in_order(
     alloc: Global,
     settled: &BTreeMap<NetAddr, PathRow>,
 ) -> Result<Seq<PathRow>, AllocError>

@@ -1,0 +1,321 @@
+-- Rounds over all arcs keep their state, come nearer to their end with each row that gets better, and have found a tree when none does.
+use Rattle.std.proofs.Common.{◌≡◌, ◌≢◌, ◌↔◌, ℕ, ◌+◌, ◌*◌, ◌<◌, ◌≤◌, ◌⊎◌, inl, inr, refl, sym, ◌∙◌, ap, subst, arith, Bool, true, false, cond, IsTrue, List, [], ◌∷◌, length, Contains, Option, Some, None, slice_index_or}
+use Rattle.std.specs.List.{sum_by, AllWithin}
+use Rattle.std.specs.Ordering.{is_eq}
+use Rattle.std.specs.BTreeMap as tree
+use Rattle.std.proofs.lemmas.Bool.{cases_lt, cases_eq, cases_Bool}
+use Rattle.std.proofs.lemmas.Cmp.{tied_itself}
+use Rattle.std.proofs.lemmas.List.Sums.{sum_by-cons}
+use Rattle.std.proofs.lemmas.List.Elements.{AllWithin-more, at_read}
+use Rattle.std.specs.Map.{lookup, values_of}
+use Rattle.mesh_atoms.specs.declared.addr.NetAddr.{NetAddr}
+use Rattle.mesh_atoms.specs.declared.graphs.Arc4.{Arc4}
+use Rattle.mesh_atoms.specs.declared.graphs.Graph.{Graph}
+use Rattle.mesh_atoms.specs.declared.graphs.PathRow.{PathRow}
+use Rattle.mesh_atoms.specs.Nodes.{IsBefore, IsAtMost}
+use Rattle.mesh_paths.specs.Paths.{HasCosts, IsCertificate}
+use Rattle.mesh_paths.specs.Tree.{OffersBy, IsAsGood}
+use Rattle.mesh_paths.specs.Search.{node_cmp, Settled, IsKeyed, Settles}
+use Rattle.mesh_paths.specs.Rounds.{RowMap, missing_of, weight_of, missing_in, weight_in, IsMetIn, Betters, IsOfferBy, HasAsGood, IsInRange, Tries, IsLedTo, IsRounds, Goes}
+use Rattle.mesh_paths.proofs.Order.{same_node}
+use Rattle.mesh_paths.proofs.Rows.{of_each, item_in}
+use Rattle.mesh_paths.proofs.SearchLaw.{in_tail, head_or_tail}
+use Rattle.mesh_paths.proofs.Sets.{node_total, node_exact, is_equal}
+use Rattle.mesh_paths.proofs.Found.{tree_found, certificate_of_rows}
+
+-- Sums over one list
+
+sums_upto : {A : Type 0} (f g : A → ℕ) (xs : List A) → ((x : A) → Contains xs x → f x ≤ g x) → sum_by f xs ≤ sum_by g xs
+sums_upto f g [] each = omega arith
+sums_upto f g (x ∷ xs) each = omega (arith, sum_by-cons f x xs, sum_by-cons g x xs, each x (0, omega arith, refl), sums_upto f g xs (λ y has. each y (in_tail x xs y has)))
+
+sums_less : {A : Type 0} (f g : A → ℕ) (xs : List A) (a : A) → ((x : A) → Contains xs x → f x ≤ g x) → Contains xs a → f a < g a → sum_by f xs < sum_by g xs
+sums_less f g [] a each has less = absurd (omega (arith, has.1))
+sums_less {A} f g (x ∷ xs) a each has less = elim (head_or_tail x xs a has) [
+  | inl same ↦
+      let at : f x < g x = subst (λ (y : A). f y < g y) (sym same) less in
+      omega (arith, sum_by-cons f x xs, sum_by-cons g x xs, sums_upto f g xs (λ y h. each y (in_tail x xs y h)))
+  | inr later ↦ omega (arith, sum_by-cons f x xs, sum_by-cons g x xs, each x (0, omega arith, refl), sums_less f g xs a (λ y h. each y (in_tail x xs y h)) later less)
+]
+
+sums_short : {A : Type 0} (f : A → ℕ) (xs : List A) → ((x : A) → f x ≤ 1) → sum_by f xs ≤ length xs
+sums_short f [] each = omega arith
+sums_short f (x ∷ xs) each = omega (arith, sum_by-cons f x xs, each x, sums_short f xs each)
+
+-- Rows at their nodes
+
+pub settled_at : (map : RowMap) (node : NetAddr) (row : PathRow) → IsKeyed map → tree.get node_cmp map node ≡ Some row → Settled map row
+settled_at map node row keyed at = subst (λ (n : NetAddr). tree.get node_cmp map n ≡ Some row) (sym (keyed node row at)) at
+
+-- A row that gets better
+module _ (old new : RowMap) (arc : Arc4) (row : PathRow) (betters : Betters old row new) (fits : IsInRange arc row) where
+  at : (node : NetAddr) → ((node ≡ row.node) × (tree.get node_cmp new node ≡ Some row)) ⊎ (tree.get node_cmp new node ≡ tree.get node_cmp old node)
+  at node = elim (same_node node row.node) [
+    | inl same ↦ inl (same, subst (λ (n : NetAddr). tree.get node_cmp new n ≡ Some row) (sym same) betters.has)
+    | inr off ↦ inr (betters.others node off)
+  ]
+
+  lighter : (before : Option PathRow) → tree.get node_cmp old row.node ≡ before → weight_of (Some row) < weight_of before
+  lighter None e = omega (arith, row.parent.within)
+  lighter (Some b) e = elim (betters.better b e) [
+    | inl less ↦ omega (arith, row.parent.within)
+    | inr (same, below) ↦ elim below [
+      | inl number ↦ omega (arith, row.parent.within)
+      | inr (number, prefix) ↦ omega arith
+    ]
+  ]
+
+  lighter_at : (node : NetAddr) → node ≡ row.node → tree.get node_cmp new node ≡ Some row → weight_of (tree.get node_cmp new node) < weight_of (tree.get node_cmp old node)
+  lighter_at node same is =
+      let here : weight_of (tree.get node_cmp new node) ≡ weight_of (Some row) = ap weight_of is in
+      let before : weight_of (tree.get node_cmp old node) ≡ weight_of (tree.get node_cmp old row.node) = ap (λ (n : NetAddr). weight_of (tree.get node_cmp old n)) same in
+      let less : weight_of (Some row) < weight_of (tree.get node_cmp old row.node) = lighter (tree.get node_cmp old row.node) refl in
+      subst (λ (n : ℕ). n < weight_of (tree.get node_cmp old node)) (sym here) (subst (λ (n : ℕ). weight_of (Some row) < n) (sym before) less)
+
+  no_heavier : (node : NetAddr) → weight_of (tree.get node_cmp new node) ≤ weight_of (tree.get node_cmp old node)
+  no_heavier node = elim (at node) [
+    | inl (same, is) ↦ let less : weight_of (tree.get node_cmp new node) < weight_of (tree.get node_cmp old node) = lighter_at node same is in omega arith
+    | inr is ↦ let same : weight_of (tree.get node_cmp new node) ≡ weight_of (tree.get node_cmp old node) = ap weight_of is in omega arith
+  ]
+
+  no_more : (node : NetAddr) → missing_of (tree.get node_cmp new node) ≤ missing_of (tree.get node_cmp old node)
+  no_more node = elim (at node) [
+    | inl (same, is) ↦ let none : missing_of (tree.get node_cmp new node) ≡ 0 = ap missing_of is in omega arith
+    | inr is ↦ let same : missing_of (tree.get node_cmp new node) ≡ missing_of (tree.get node_cmp old node) = ap missing_of is in omega arith
+  ]
+
+  -- each node keeps a row, no dearer
+  lower : (r : PathRow) → Settled old r → (p : PathRow) × Settled new p × (p.node ≡ r.node) × (p.metric ≤ r.metric)
+  lower r has = elim (at r.node) [
+    | inl (same, is) ↦ (row, betters.has, sym same, elim (betters.better r (subst (λ (n : NetAddr). tree.get node_cmp old n ≡ Some r) same has)) [ inl less ↦ omega arith | inr (e, _) ↦ omega arith ])
+    | inr is ↦ (r, is ∙ has, refl, omega arith)
+  ]
+
+  -- An arc that offers the row
+  module _ (arcs : List Arc4) (from : NetAddr) (there : Contains arcs arc) (cost : 1 ≤ arc.metric) (offer : IsOfferBy old arc row) (now : IsRounds old arcs from) where
+    pub lighter_in : weight_in new arcs < weight_in old arcs
+    lighter_in = sums_less (λ (a : Arc4). weight_of (tree.get node_cmp new a.to)) (λ (a : Arc4). weight_of (tree.get node_cmp old a.to)) arcs arc (λ a _. no_heavier a.to) there
+        (lighter_at arc.to ends (subst (λ (n : NetAddr). tree.get node_cmp new n ≡ Some row) (sym ends) betters.has))
+      where
+        ends : arc.to ≡ row.node
+        ends = offer.4
+
+    no_more_in : missing_in new arcs ≤ missing_in old arcs
+    no_more_in = sums_upto (λ (a : Arc4). missing_of (tree.get node_cmp new a.to)) (λ (a : Arc4). missing_of (tree.get node_cmp old a.to)) arcs (λ a _. no_more a.to)
+
+    fewer_in : tree.get node_cmp old row.node ≡ None → missing_in new arcs < missing_in old arcs
+    fewer_in none =
+        let ends : arc.to ≡ row.node = offer.4 in
+        let here : missing_of (tree.get node_cmp new arc.to) ≡ 0 = ap missing_of (subst (λ (n : NetAddr). tree.get node_cmp new n ≡ Some row) (sym ends) betters.has) in
+        let before : missing_of (tree.get node_cmp old arc.to) ≡ 1 = ap missing_of (subst (λ (n : NetAddr). tree.get node_cmp old n ≡ None) (sym ends) none) in
+        sums_less (λ (a : Arc4). missing_of (tree.get node_cmp new a.to)) (λ (a : Arc4). missing_of (tree.get node_cmp old a.to)) arcs arc (λ a _. no_more a.to) there (omega arith)
+
+    is_row : (r : PathRow) → tree.get node_cmp new r.node ≡ Some row → Settled new r → row ≡ r
+    is_row r is has = let h : Some row ≡ Some r = sym is ∙ has in (cc)
+
+    keyed_new : IsKeyed new
+    keyed_new node r has = elim (at node) [
+      | inl (same, is) ↦
+          let h : Some row ≡ Some r = sym is ∙ has in
+          let e : row ≡ r = (cc) in
+          ap (λ (x : PathRow). x.node) (sym e) ∙ sym same
+      | inr is ↦ now.keyed node r (sym is ∙ has)
+    ]
+
+    start_new : Settled new (record { node = from; metric = 0; parent = from })
+    start_new = elim (same_node from row.node) [
+      | inl same ↦ elim (betters.better (record { node = from; metric = 0; parent = from }) (subst (λ (n : NetAddr). tree.get node_cmp old n ≡ Some (record { node = from; metric = 0; parent = from })) same now.start)) [
+        | inl less ↦ absurd (omega arith)
+        | inr (none, _) ↦ absurd (omega (arith, offer.5))
+      ]
+      | inr off ↦ betters.others from off ∙ now.start
+    ]
+
+    led_row : IsLedTo new arcs from row
+    led_row =
+        let (first, has, begins, parent, ends, sum) = offer in
+        let (p, has_p, same, low) = lower first has in
+        inr (p, arc, has_p, there, sym begins ∙ sym same, ends, omega arith, same ∙ parent)
+
+    led_new : (r : PathRow) → Settled new r → IsLedTo new arcs from r
+    led_new r has = elim (at r.node) [
+      | inl (_, is) ↦ subst (λ (x : PathRow). IsLedTo new arcs from x) (is_row r is has) led_row
+      | inr is ↦ elim (now.led r (sym is ∙ has)) [
+        | inl start ↦ inl start
+        | inr (f, a, has_f, there_a, begins, ends, low, parent) ↦
+            let (p, has_p, same, lower_p) = lower f has_f in
+            inr (p, a, has_p, there_a, begins ∙ sym same, ends, omega arith, same ∙ parent)
+      ]
+    ]
+
+    small_row : (before : Option PathRow) → tree.get node_cmp old row.node ≡ before → row.metric + 4294967295 * missing_in new arcs ≤ 4294967295 * length arcs
+    small_row None e = let (first, has, _, _, _, sum) = offer in omega (arith, fewer_in e, now.small first has)
+    small_row (Some b) e =
+        let has : Settled old b = settled_at old row.node b now.keyed e in
+        elim (betters.better b e) [
+          | inl less ↦ omega (arith, no_more_in, now.small b has)
+          | inr (same, _) ↦ omega (arith, no_more_in, now.small b has)
+        ]
+
+    small_new : (r : PathRow) → Settled new r → r.metric + 4294967295 * missing_in new arcs ≤ 4294967295 * length arcs
+    small_new r has = elim (at r.node) [
+      | inl (_, is) ↦ subst (λ (x : PathRow). x.metric + 4294967295 * missing_in new arcs ≤ 4294967295 * length arcs) (is_row r is has) (small_row (tree.get node_cmp old row.node) refl)
+      | inr is ↦ omega (arith, no_more_in, now.small r (sym is ∙ has))
+    ]
+
+    pub rounds_new : IsRounds new arcs from
+    rounds_new = record { keyed = keyed_new; start = start_new; led = led_new; small = small_new }
+
+-- A round
+
+goes_better : (changed : Bool) (old before new : RowMap) (arcs : List Arc4) (i : ℕ) → weight_in new arcs < weight_in before arcs → Goes changed old arcs i before → Goes true old arcs (i + 1) new
+goes_better true old before new arcs i less gone = omega arith
+goes_better false old before new arcs i less (same, _) = subst (λ (m : RowMap). weight_in new arcs < weight_in m arcs) same less
+
+goes_met : (changed : Bool) (old before new : RowMap) (arcs : List Arc4) (i : ℕ) (arc : Arc4) → arc ≡ slice_index_or arcs i arc → i < length arcs → new ≡ before → IsMetIn new arc → Goes changed old arcs i before → Goes changed old arcs (i + 1) new
+goes_met true old before new arcs i arc is l same met gone = subst (λ (m : RowMap). weight_in m arcs < weight_in old arcs) (sym same) gone
+goes_met false old before new arcs i arc is l same met (e, all) =
+    (same ∙ e, AllWithin-more (IsMetIn new) arcs 0 i (subst (λ (m : RowMap). AllWithin (IsMetIn m) arcs 0 i) (sym same) all) (at_read arcs (IsMetIn new) i arc l is met))
+
+-- an arc of the round is tried
+pub goes_on : (changed after better : Bool) (old before new : RowMap) (arcs : List Arc4) (from : NetAddr) (i : ℕ) (arc : Arc4) → arc ≡ slice_index_or arcs i arc → i < length arcs → ((a : Arc4) → Contains arcs a → 1 ≤ a.metric) →
+    IsRounds before arcs from → Goes changed old arcs i before → Tries better before arc new → ((better ≡ true) × (after ≡ true)) ⊎ ((better ≡ false) × (after ≡ changed)) → IsRounds new arcs from × Goes after old arcs (i + 1) new
+goes_on changed after true old before new arcs from i arc is l costs now gone (row, offer, betters, fits) (inl (_, e)) =
+    let there : Contains arcs arc = item_in arcs i arc is l in
+    let less : weight_in new arcs < weight_in before arcs = lighter_in before new arc row betters fits arcs from there (costs arc there) offer now in
+    (rounds_new before new arc row betters fits arcs from there (costs arc there) offer now, subst (λ (b : Bool). Goes b old arcs (i + 1) new) (sym e) (goes_better changed old before new arcs i less gone))
+goes_on changed after true old before new arcs from i arc is l costs now gone tries (inr (e, _)) = absurd (cc)
+goes_on changed after false old before new arcs from i arc is l costs now gone tries (inl (e, _)) = absurd (cc)
+goes_on changed after false old before new arcs from i arc is l costs now gone (same, met) (inr (_, e)) = (
+  subst (λ (m : RowMap). IsRounds m arcs from) (sym same) now,
+  subst (λ (b : Bool). Goes b old arcs (i + 1) new) (sym e) (goes_met changed old before new arcs i arc is l same met gone),
+)
+
+pub gone_lighter : (changed : Bool) (old new : RowMap) (arcs : List Arc4) (i : ℕ) → changed ≡ true → Goes changed old arcs i new → weight_in new arcs < weight_in old arcs
+gone_lighter true old new arcs i e gone = gone
+gone_lighter false old new arcs i e gone = absurd (cc)
+
+pub gone_met : (changed : Bool) (old new : RowMap) (arcs : List Arc4) → changed ≡ false → Goes changed old arcs (length arcs) new → (arc : Arc4) → Contains arcs arc → IsMetIn new arc
+gone_met true old new arcs e gone = absurd (cc)
+gone_met false old new arcs e (_, all) = of_each (IsMetIn new) arcs (length arcs) (omega arith) all
+
+-- An arc is tried
+
+not_at_most : (a b : NetAddr) → (IsAtMost a b → ⊥) → IsBefore b a
+not_at_most a b not = elim (cases_lt b.addr.0 a.addr.0) [
+  | inl less ↦ inl less
+  | inr more ↦ elim (cases_eq b.addr.0 a.addr.0) [
+    | inl same ↦ elim (cases_lt b.prefix a.prefix) [
+      | inl less ↦ inr (same, less)
+      | inr upto ↦ absurd (not (inr (sym same, omega arith)))
+    ]
+    | inr off ↦ absurd (not (inl (omega arith)))
+  ]
+]
+
+-- the row of the node decides whether it is as good
+pub as_good_by : (map : RowMap) (node : NetAddr) (metric cost : ℕ) (parent : NetAddr) (before : PathRow) (b : Bool) → tree.get node_cmp map node ≡ Some before → cost ≡ metric → IsTrue b ↔ IsAsGood before cost parent → IsTrue b ↔ HasAsGood map node metric parent
+as_good_by map node metric cost parent before b found same test = (
+  λ e. (before, found, subst (λ (n : ℕ). IsAsGood before n parent) same (test.0 e)),
+  λ (r, at, good).
+      let h : Some r ≡ Some before = sym at ∙ found in
+      let e : r ≡ before = (cc) in
+      test.1 (subst (λ (n : ℕ). IsAsGood before n parent) (sym same) (subst (λ (x : PathRow). IsAsGood x metric parent) e good)),
+)
+
+pub met_already : (map : RowMap) (arc : Arc4) (first : PathRow) (metric : ℕ) → IsKeyed map → tree.get node_cmp map arc.from ≡ Some first → metric ≡ first.metric + arc.metric → HasAsGood map arc.to metric arc.from → IsMetIn map arc
+met_already map arc first metric keyed found sum (b, at, good) r has begins =
+    let found_r : tree.get node_cmp map arc.from ≡ Some r = subst (λ (n : NetAddr). tree.get node_cmp map n ≡ Some r) begins has in
+    let h : Some first ≡ Some r = sym found ∙ found_r in
+    let same : first ≡ r = (cc) in
+    let e : b.node ≡ arc.to = keyed arc.to b at in
+    let one : IsAsGood b (first.metric + arc.metric) arc.from = subst (λ (x : ℕ). IsAsGood b x arc.from) sum good in
+    let two : IsAsGood b (r.metric + arc.metric) arc.from = subst (λ (x : PathRow). IsAsGood b (x.metric + arc.metric) arc.from) same one in
+    (b, settled_at map arc.to b keyed at, e, subst (λ (n : NetAddr). IsAsGood b (r.metric + arc.metric) n) (sym begins) two)
+
+pub unreached : (map : RowMap) (arc : Arc4) → tree.get node_cmp map arc.from ≡ None → IsMetIn map arc
+unreached map arc none r has begins =
+    let found : tree.get node_cmp map arc.from ≡ Some r = subst (λ (n : NetAddr). tree.get node_cmp map n ≡ Some r) begins has in
+    absurd (cc)
+
+better_of : (before : PathRow) (metric : ℕ) (parent : NetAddr) → (IsAsGood before metric parent → ⊥) → (metric < before.metric) ⊎ ((metric ≡ before.metric) × IsBefore parent before.parent)
+better_of before metric parent not = elim (cases_lt metric before.metric) [
+  | inl less ↦ inl less
+  | inr upto ↦ elim (cases_lt before.metric metric) [
+    | inl less ↦ absurd (not (inl less))
+    | inr more ↦ inr (omega arith, not_at_most before.parent parent (λ at_most. not (inr (omega arith, at_most))))
+  ]
+]
+
+pub tried : (map new : RowMap) (arc : Arc4) (first row : PathRow) (b : Bool) → IsKeyed map → tree.get node_cmp map arc.from ≡ Some first →
+    row.node ≡ arc.to → row.metric ≡ first.metric + arc.metric → row.parent ≡ arc.from → IsInRange arc row →
+    IsTrue b ↔ HasAsGood map row.node row.metric row.parent → b ≡ false →
+    ((q : NetAddr) → tree.get node_cmp new q ≡ cond (is_eq (node_cmp row.node q)) (Some row) (tree.get node_cmp map q)) → Tries true map arc new
+tried map new arc first row b keyed found node metric parent fits test not updates =
+    let at : first.node ≡ arc.from = keyed arc.from first found in
+    (
+      row,
+      (first, settled_at map arc.from first keyed found, at, at ∙ sym parent, sym node, sym metric),
+      record { has = has; others = others; better = λ before is. better_of before row.metric row.parent (λ good. let t : b ≡ true = test.1 (before, is, good) in (cc)) },
+      fits,
+    )
+  where
+    has : tree.get node_cmp new row.node ≡ Some row
+    has = updates row.node ∙ ap (λ (x : Bool). cond x (Some row) (tree.get node_cmp map row.node)) (ap is_eq (tied_itself node_total row.node))
+
+    others : (q : NetAddr) → q ≢ row.node → tree.get node_cmp new q ≡ tree.get node_cmp map q
+    others q off = elim (cases_Bool (is_eq (node_cmp row.node q))) [
+      | inl e ↦ absurd (off (sym (node_exact row.node q (is_equal (node_cmp row.node q) e))))
+      | inr e ↦ updates q ∙ ap (λ (x : Bool). cond x (Some row) (tree.get node_cmp map q)) e
+    ]
+
+-- The rounds begin
+
+-- an empty map has no row
+pub none_settled : (map : RowMap) → map.entries ≡ [] → (r : PathRow) → Settled map r → ⊥
+none_settled map empty r has =
+    let none : tree.get node_cmp map r.node ≡ None = ap (λ (entries : List (NetAddr × PathRow)). lookup (λ k. is_eq (node_cmp r.node k)) entries) empty in
+    (cc)
+
+pub rounds_start : (old new : RowMap) (arcs : List Arc4) (from : NetAddr) → ((r : PathRow) → Settled old r → ⊥) → Settles (Settled old) (record { node = from; metric = 0; parent = from }) (Settled new) → IsKeyed new → IsRounds new arcs from
+rounds_start old new arcs from none settles keyed = record {
+  keyed = keyed;
+  start = settles.new;
+  led = λ r has. elim (settles.cases r has) [
+    | inl same ↦ inl (ap (λ (x : PathRow). x.node) same, ap (λ (x : PathRow). x.metric) same, ap (λ (x : PathRow). x.parent) same)
+    | inr before ↦ absurd (none r before)
+  ];
+  small = λ r has. elim (settles.cases r has) [
+    | inl same ↦ let e : 0 ≡ r.metric = ap (λ (x : PathRow). x.metric) same in omega (arith, few)
+    | inr before ↦ absurd (none r before)
+  ];
+}
+  where
+    one : (o : Option PathRow) → missing_of o ≤ 1
+    one None = omega arith
+    one (Some _) = omega arith
+
+    few : missing_in new arcs ≤ length arcs
+    few = sums_short (λ (a : Arc4). missing_of (tree.get node_cmp new a.to)) arcs (λ a. one (tree.get node_cmp new a.to))
+
+-- The rounds end
+module _ (m : RowMap) (arcs : List Arc4) (from : NetAddr) (now : IsRounds m arcs from) (met : (arc : Arc4) → Contains arcs arc → IsMetIn m arc) where
+  offered : (r : PathRow) → Settled m r → OffersBy (Settled m) arcs from r.node r.metric r.parent
+  offered r has = elim (now.led r has) [
+    | inl start ↦ inl start
+    | inr (f, a, has_f, there, begins, ends, low, parent) ↦
+        let (q, has_q, at, good) = met a there f has_f (sym begins) in
+        let found : tree.get node_cmp m r.node ≡ Some q = subst (λ (n : NetAddr). tree.get node_cmp m n ≡ Some q) (at ∙ ends) has_q in
+        let h : Some q ≡ Some r = sym found ∙ has in
+        let same : q ≡ r = (cc) in
+        let metrics : q.metric ≡ r.metric = ap (λ (x : PathRow). x.metric) same in
+        elim good [
+          | inl less ↦ absurd (omega arith)
+          | inr (sum, _) ↦ inr (f, a, has_f, there, begins, ends, omega arith, parent)
+        ]
+  ]
+
+  pub certificate_of_rounds : (g : Graph) → HasCosts g → arcs ≡ g.arcs → tree.IsOrdered node_cmp m → (rows : List PathRow) → rows ≡ values_of m.entries → IsCertificate g from (record { rows = rows })
+  certificate_of_rounds g costs is ordered rows e = certificate_of_rows g from costs arcs (values_of m.entries) is
+      (tree_found m now.keyed ordered arcs from (record { node = from; metric = 0; parent = from }, now.start, refl, inr (refl, inr (refl, omega arith)))
+      (λ r a has there begins. met a there r has (sym begins)) offered) rows e

@@ -1,0 +1,12 @@
+use Rattle.std.proofs.Common.{List, Contains, subst}
+use Rattle.mesh_atoms.specs.declared.graphs.Arc4.{Arc4}
+use Rattle.mesh_paths.proofs.RoundsLaw.{certificate_of_rounds}
+use Rattle.mesh_paths.proofs.rounds.search_by_rounds.Goals as goal
+
+pub reach_all-requires-clause-costs : goal.reach_all-requires-clause-costs
+reach_all-requires-clause-costs c = λ arc has. c.requires.costs arc (subst (λ (x : List Arc4). Contains x arc) c.as_slice.ensures has)
+
+pub returns : goal.returns
+returns c = record {
+  certificate = certificate_of_rounds c.in_ok-reached.reached c.as_slice.result.now c.args.from c.in_ok-reached.ensures.rows c.in_ok-reached.ensures.met c.args.graph.now c.requires.costs c.as_slice.ensures c.in_ok-rows.ensures.ordered c.in_ok-rows.rows c.in_ok-rows.ensures.all;
+}
