@@ -252,8 +252,7 @@ pub tried : (map new : RowMap) (arc : Arc4) (first row : PathRow) (b : Bool) →
     IsTrue b ↔ HasAsGood map row.node row.metric row.parent → b ≡ false →
     ((q : NetAddr) → tree.get node_cmp new q ≡ cond (is_eq (node_cmp row.node q)) (Some row) (tree.get node_cmp map q)) → Tries true map arc new
 tried map new arc first row b keyed found node metric parent fits test not updates =
-    let at : first.node ≡ arc.from = keyed arc.from first found in
-    (
+    let at : first.node ≡ arc.from = keyed arc.from first found in (
       row,
       (first, settled_at map arc.from first keyed found, at, at ∙ sym parent, sym node, sym metric),
       record { has = has; others = others; better = λ before is. better_of before row.metric row.parent (λ good. let t : b ≡ true = test.1 (before, is, good) in (cc)) },

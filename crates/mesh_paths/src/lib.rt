@@ -10,8 +10,10 @@ pub use settled::{settled_routes, two_routers_settle, worked_hello_is_taken, wro
 mod certificate;
 mod frontier;
 mod rounds;
+#[cfg(test)]
+mod tests;
 
 pub use certificate::{check, one_certificate};
 pub use frontier::search;
-pub use rounds::search_by_rounds;
 pub use mesh_atoms::{Arc4, Certificate, Graph, PathRow};
+pub use rounds::search_by_rounds;

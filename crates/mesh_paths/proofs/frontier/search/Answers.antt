@@ -9,5 +9,5 @@ settle_all-requires-clause-costs c = λ arc has. c.requires.costs arc (subst (λ
 pub returns : goal.returns
 returns c = record {
   certificate = certificate_found c.args.graph.now c.args.from c.requires.costs c.in_ok-settled.settled c.in_ok-settled.ensures.keyed c.in_ok-rows.ensures.ordered c.as_slice.result.now c.in_ok-left.left.keys c.as_slice.ensures c.in_ok-left.ensures c.in_ok-settled.ensures.found
-    c.in_ok-rows.rows c.in_ok-rows.ensures.all;
+      c.in_ok-rows.rows c.in_ok-rows.ensures.all;
 }
