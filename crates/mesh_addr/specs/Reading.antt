@@ -3,8 +3,6 @@ use Rattle.std.specs.Prelude.{◌≡◌, ℕ, zero, suc, ◌+◌, ◌*◌, ◌-�
 use Rattle.mesh_atoms.specs.declared.refusal.Refusal.{Refusal}
 use Rattle.mesh_atoms.specs.Reading.{◌>>=◌, refuse, has, octet_at, piece_at}
 use Rattle.mesh_addr.specs.declared.records.RawAddr.{RawAddr}
-use Rattle.mesh_addr.specs.declared.records.ReadBlock.{ReadBlock}
-use Rattle.mesh_addr.specs.declared.records.ReadBlock.TheVariants as errors
 use Rattle.mesh_addr.specs.Grammar.{padded}
 
 -- what is known of a block before its middle parts are read
@@ -103,31 +101,3 @@ block_at frame at end width = do
   after ← parts_end count.0 tail.1 end (width - (length head.0 + length tail.0))
   common ← common_at frame flags.0 after end width
   addrs_at count.0 frame (record { width = width; head = head.0; tail = tail.0; prefix = common.0 }) tail.1 common.1 end
-
--- what a call that takes memory gave
-abbrev pub Fails : {Y : Type 0} → ReadBlock → Result Y Refusal → Type 0
-Fails (errors.Memory e) read = Unit {0}
-Fails (errors.Refused f) read = read ≡ Err f
-
--- a call gave what is read, as far as a view of its value goes, or wanted memory
-abbrev pub Gives : {X Y : Type 0} → (X → Y) → Result X ReadBlock → Result Y Refusal → Type 0
-Gives view (Ok x) read = read ≡ Ok (view x)
-Gives view (Err e) read = Fails e read
-
--- what holds of the fault, where the call refused
-abbrev pub IfRefused : {X : Type 0} → Result X ReadBlock → (Refusal → Type 0) → Type 0
-IfRefused (Ok x) P = Unit {0}
-IfRefused (Err (errors.Memory e)) P = Unit {0}
-IfRefused (Err (errors.Refused e)) P = P e
-
--- a call that gives no other value, and refuses nothing
-abbrev pub GivesOnly : {X Y : Type 0} → (X → Y) → Result X ReadBlock → Y → Type 0
-GivesOnly view (Ok x) y = view x ≡ y
-GivesOnly view (Err (errors.Memory e)) y = Unit {0}
-GivesOnly view (Err (errors.Refused e)) y = ⊥
-
--- a call that gives no value, and refuses nothing else
-abbrev pub RefusesOnly : {X : Type 0} → Result X ReadBlock → ℕ → ℕ → Type 0
-RefusesOnly (Ok x) place reason = ⊥
-RefusesOnly (Err (errors.Memory e)) place reason = Unit {0}
-RefusesOnly (Err (errors.Refused e)) place reason = e ≡ record { place = place; reason = reason }

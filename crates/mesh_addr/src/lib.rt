@@ -11,6 +11,7 @@ mod records;
 mod tests;
 mod writer;
 
+pub use mesh_atoms::DecodeFault as ReadBlock;
 pub use reader::read_block;
-pub use records::{AddrBlock, RawAddr, ReadBlock};
+pub use records::{AddrBlock, RawAddr};
 pub use writer::write_least;

@@ -1,13 +1,14 @@
 //! Reading an address block.
-ghost use Rattle.std.specs.Prelude.{◌≡◌, slice_range, ◌≤◌, ◌<◌, ◌+◌, ◌-◌, ◌*◌, ◌++◌, length, IfOk, List, ℕ};
+ghost use Rattle.std.specs.Prelude.{◌≡◌, slice_range, ◌≤◌, ◌<◌, ◌+◌, ◌-◌, ◌*◌, ◌++◌, length, IfOk, IfErr, Ok, List, ℕ};
+ghost use Rattle.mesh_atoms.specs.Reading.{Gives, IfRefused, refuse};
 ghost use Rattle.mesh_addr.specs.Grammar.{padded, IsWritable, SpellsBlock, BlockFault};
-ghost use Rattle.mesh_addr.specs.Reading.{Gives, GivesOnly, IfRefused, RefusesOnly, addrs_at, block_at, mid_of};
+ghost use Rattle.mesh_addr.specs.Reading.{addrs_at, block_at, mid_of};
 ghost use Rattle.mesh_addr.specs.Shown.{shape_of};
 ghost use Rattle.mesh_addr.specs.declared.records.RawAddr.{RawAddr};
 
 use crate::fields;
-use crate::records::{AddrBlock, RawAddr, ReadBlock};
-use mesh_atoms::Seq;
+use crate::records::{AddrBlock, RawAddr};
+use mesh_atoms::{DecodeFault, Seq};
 use std::alloc::Global;
 
 /// What is known of a block before its middle parts are read.
@@ -49,7 +50,7 @@ fn addresses(
     mids: usize,
     at: usize,
     end: usize,
-) -> Result<(Seq<RawAddr>, usize), ReadBlock>
+) -> Result<(Seq<RawAddr>, usize), DecodeFault>
     requires end { end ≤ length frame.now }
     requires at { at ≤ end }
     requires width { shape.now.width ≤ 16 }
@@ -79,7 +80,7 @@ fn addresses_of_block(
     at: usize,
     end: usize,
     width: u8,
-) -> Result<(Seq<RawAddr>, usize), ReadBlock>
+) -> Result<(Seq<RawAddr>, usize), DecodeFault>
     requires end { end ≤ length frame.now }
     requires width { width ≤ 16 }
     ensures { Gives (λ x. (x.0, x.1)) result (block_at frame.now at end width) }
@@ -115,7 +116,7 @@ fn read_addresses(
     at: usize,
     end: usize,
     width: u8,
-) -> Result<(Seq<RawAddr>, usize), ReadBlock>
+) -> Result<(Seq<RawAddr>, usize), DecodeFault>
     requires at { at ≤ end }
     requires end { end ≤ length frame.now }
     requires some { 0 < width }
@@ -125,11 +126,11 @@ fn read_addresses(
     ensures writable { IfOk result (λ x. IsWritable width x.0) }
     ensures only { (addrs : List RawAddr) (text rest : List ℕ) → SpellsBlock width addrs text
         → slice_range frame.now at end ≡ text ++ rest
-        → GivesOnly {Y = List RawAddr × ℕ} (λ x. (x.0, x.1)) result (addrs, at + length text) }
-    ensures refused { IfRefused result (λ e. (at ≤ e.place)
-        × BlockFault width (slice_range frame.now at end) (e.place - at) e.reason) }
+        → Gives {Y = List RawAddr × ℕ} (λ x. (x.0, x.1)) result (Ok (addrs, at + length text)) }
+    ensures refused { IfErr result (IfRefused (λ e. (at ≤ e.place)
+        × BlockFault width (slice_range frame.now at end) (e.place - at) e.reason)) }
     ensures first { (place reason : ℕ) → BlockFault width (slice_range frame.now at end) place reason
-        → RefusesOnly result (at + place) reason }
+        → Gives {Y = List RawAddr × ℕ} (λ x. (x.0, x.1)) result (refuse (at + place) reason) }
     ensures exact { Gives (λ x. (x.0, x.1)) result (block_at frame.now at end width) }
 {
     addresses_of_block(alloc, frame, at, end, width)
@@ -148,7 +149,7 @@ pub fn read_block(
     at: usize,
     end: usize,
     width: u8,
-) -> Result<(AddrBlock, usize), ReadBlock>
+) -> Result<(AddrBlock, usize), DecodeFault>
     requires at { at < end }
     requires end { end ≤ length frame.now }
     requires some { 0 < width }
@@ -162,14 +163,14 @@ pub fn read_block(
     // What is spelled at the beginning is read.
     ensures only { (addrs : List RawAddr) (text rest : List ℕ) → SpellsBlock width addrs text
         → slice_range frame.now at end ≡ text ++ rest
-        → GivesOnly {Y = List RawAddr × ℕ} (λ x. (x.0.addrs, x.1)) result (addrs, at + length text) }
+        → Gives {Y = List RawAddr × ℕ} (λ x. (x.0.addrs, x.1)) result (Ok (addrs, at + length text)) }
 
     // What is refused has its first fault at that place, for that reason.
-    ensures refused { IfRefused result (λ e. (at ≤ e.place)
-        × BlockFault width (slice_range frame.now at end) (e.place - at) e.reason) }
+    ensures refused { IfErr result (IfRefused (λ e. (at ≤ e.place)
+        × BlockFault width (slice_range frame.now at end) (e.place - at) e.reason)) }
     // What has a first fault is refused so.
     ensures first { (place reason : ℕ) → BlockFault width (slice_range frame.now at end) place reason
-        → RefusesOnly result (at + place) reason }
+        → Gives {Y = List RawAddr × ℕ} (λ x. (x.0.addrs, x.1)) result (refuse (at + place) reason) }
     // Which of them it is, as a function of the octets.
     ensures exact { Gives (λ x. (x.0.addrs, x.1)) result (block_at frame.now at end width) }
 {

@@ -1,5 +1,3 @@
-pub mod Codes
-pub mod Base
 pub mod Advertised
 pub mod AfterHello
 pub mod AfterTc
@@ -15,8 +13,8 @@ pub mod Radio
 pub mod Reading
 pub mod RelayGraphs
 pub mod Relays
-pub mod Settings
 pub mod Routes
+pub mod Settings
 pub mod Settled
 pub mod Sound
 pub mod State

@@ -1,5 +1,7 @@
 -- Reading a frame from front to end: a reader gives a value and the place after it, or the first fault.
 use Rattle.std.specs.Prelude.{◌≡◌, ℕ, ◌+◌, ◌-◌, ◌*◌, List, slice_index, slice_range, Result, Ok, Err, Bool, not, nat_lt, ◌==◌, if◌then◌else◌, bit_and}
+use Rattle.mesh_atoms.specs.declared.refusal.DecodeFault.{DecodeFault}
+use Rattle.mesh_atoms.specs.declared.refusal.DecodeFault.TheVariants as faults
 use Rattle.mesh_atoms.specs.declared.refusal.Refusal.{Refusal}
 
 -- what a reader gives: a value, and the place after it
@@ -37,3 +39,20 @@ short_at reason frame at end =
 -- so many octets before `end`, else the reason
 abbrev pub piece_at : ℕ → List ℕ → ℕ → ℕ → ℕ → Reading (List ℕ)
 piece_at reason frame at end len = if nat_lt (end - at) len then refuse at reason else Ok (slice_range frame at (at + len), at + len)
+
+-- ---- what a call gives that may want memory, which may come in place of any answer
+
+-- a fault is the same refusal
+abbrev pub Fails : {Y : Type 0} → DecodeFault → Result Y Refusal → Type 0
+Fails (faults.Memory e) read = Unit {0}
+Fails (faults.Refused f) read = read ≡ Err f
+
+-- a result gives what is read, where `view` says what its value shows
+abbrev pub Gives : {X Y : Type 0} → (X → Y) → Result X DecodeFault → Result Y Refusal → Type 0
+Gives view (Ok x) read = read ≡ Ok (view x)
+Gives view (Err e) read = Fails e read
+
+-- a fact of the refusal, where the fault is one
+abbrev pub IfRefused : (Refusal → Type 0) → DecodeFault → Type 0
+IfRefused P (faults.Memory e) = Unit {0}
+IfRefused P (faults.Refused f) = P f

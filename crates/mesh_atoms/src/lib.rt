@@ -25,7 +25,7 @@ pub use graphs::{
 };
 pub use hello::{Hello, HelloRow, LinkStatus, LocalIf, Metrics, Mpr, OtherStatus, Willing};
 pub use metric::Metric;
-pub use refusal::Refusal;
+pub use refusal::{DecodeFault, Refusal};
 pub use seq::Seq;
 pub use settings::{
     Attached4, Interface, Port, RadioArc, RouterSettings, RunSetup, Scenario, SenderMetric, Times,

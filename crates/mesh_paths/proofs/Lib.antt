@@ -1,3 +1,9 @@
+pub mod Found
+pub mod Order
+pub mod RoundsLaw
+pub mod Rows
+pub mod SearchLaw
+pub mod Sets
 mod SettledArcs
 mod SettledDecisions
 mod SettledHops
@@ -7,19 +13,13 @@ mod SettledNeighbours
 mod SettledRelays
 mod SettledWalks
 mod ShortLists
+pub mod TreeLaw
 mod TwoRouters
 mod TwoRoutersRelays
 mod TwoRoutersRoutes
 mod TwoRoutersSettled
 mod TwoRoutersSound
+pub mod Unique
 mod Witness
 mod WorkedHello
 mod WrongStates
-pub mod Found
-pub mod Order
-pub mod RoundsLaw
-pub mod Rows
-pub mod SearchLaw
-pub mod Sets
-pub mod TreeLaw
-pub mod Unique

@@ -1,7 +1,7 @@
-pub mod SettledRoutes
-pub mod WrongStates
-pub mod WorkedHello
 pub mod Paths
 pub mod Rounds
 pub mod Search
+pub mod SettledRoutes
 pub mod Tree
+pub mod WorkedHello
+pub mod WrongStates

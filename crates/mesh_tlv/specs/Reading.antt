@@ -3,25 +3,8 @@
 use Rattle.std.specs.Prelude.{◌≡◌, ℕ, ◌+◌, ◌-◌, ◌%◌, List, slice_range, Option, Some, None, Result, Ok, Err, Bool, not, ◌&&◌, ◌||◌, nat_lt, nat_le, ◌==◌, if◌then◌else◌, bit_and}
 use Rattle.mesh_atoms.specs.declared.refusal.Refusal.{Refusal}
 use Rattle.mesh_atoms.specs.Reading.{◌>>=◌, Reading, refuse, has, octet_at, short_at}
-use Rattle.mesh_tlv.specs.declared.tlv.ReadTlv.{ReadTlv}
-use Rattle.mesh_tlv.specs.declared.tlv.ReadTlv.TheVariants as errors
 use Rattle.mesh_tlv.specs.Fields.{TlvFields, AddrTlvFields, unindexed}
 use Rattle.mesh_tlv.specs.Items.{items_at}
-
--- an error stands for the same refusal, or for want of memory, which may come in place of any answer
-abbrev pub Fails : {Y : Type 0} → ReadTlv → Result Y Refusal → Type 0
-Fails (errors.Memory e) read = Unit {0}
-Fails (errors.Refused f) read = read ≡ Err f
-
--- a result gives what is read, seen by `view`, or want of memory in its place
-abbrev pub Gives : {X Y : Type 0} → (X → Y) → Result X ReadTlv → Result Y Refusal → Type 0
-Gives view (Ok x) read = read ≡ Ok (view x)
-Gives view (Err e) read = Fails e read
-
--- a fact of the refusal, where the error is one
-abbrev pub IfRefused : (Refusal → Type 0) → ReadTlv → Type 0
-IfRefused P (errors.Memory e) = Unit {0}
-IfRefused P (errors.Refused f) = P f
 
 -- flags that break no rule, where those of `barred` aren't taken
 abbrev pub is_sound : ℕ → ℕ → Bool

@@ -1,17 +1,17 @@
 //! Reading TLV blocks: the value that the octets spell, or their first fault.
 ghost use Rattle.std.specs.Prelude.{◌≡◌, ◌≤◌, ◌<◌, ◌-◌, ◌+◌, ◌++◌, ℕ, List, length, map, slice_range, All, Ok, Err, IfOk, IfErr};
-ghost use Rattle.mesh_atoms.specs.Reading.{Reads};
+ghost use Rattle.mesh_atoms.specs.Reading.{Gives, IfRefused, Reads};
 ghost use Rattle.mesh_atoms.specs.declared.refusal.Refusal.{Refusal};
 ghost use Rattle.mesh_tlv.specs.Fields.{TlvFields, AddrTlvFields, fields, addr_fields, block_fields, addr_block_fields};
 ghost use Rattle.mesh_tlv.specs.Items.{FirstFault, items_at};
 ghost use Rattle.mesh_tlv.specs.Least.{IsFit};
 ghost use Rattle.mesh_tlv.specs.Grammar.{SpellsTlvBlock, SpellsAddrTlvBlock, TlvBlockFault, AddrTlvBlockFault};
-ghost use Rattle.mesh_tlv.specs.Reading.{Gives, IfRefused, tlv_of_at, addr_tlv_at, tlv_at, range_at, block_at};
+ghost use Rattle.mesh_tlv.specs.Reading.{tlv_of_at, addr_tlv_at, tlv_at, range_at, block_at};
 
 use crate::codes::{ADDRESS_FLAGS, BLOCK_LENGTH, MULTI_VALUE, SHORT};
 use crate::field::{extension, flags, indexes, octet, parts, refuse, short, value};
-use crate::tlv::{AddrTlv, ReadTlv, Tlv};
-use mesh_atoms::{Refusal, Seq};
+use crate::tlv::{AddrTlv, Tlv};
+use mesh_atoms::{DecodeFault, Refusal, Seq};
 use std::alloc::Global;
 
 /// What one kind of TLV takes: no flags of `barred`, and indexes below `count`.
@@ -98,7 +98,7 @@ fn read_all<'a>(
     frame: &'a [u8],
     at: usize,
     end: usize,
-) -> Result<(Seq<Tlv<'a>>, usize), ReadTlv>
+) -> Result<(Seq<Tlv<'a>>, usize), DecodeFault>
     requires at { at ≤ end }
     requires end { end ≤ length frame.now }
     ensures { Gives block_fields result (items_at (tlv_at frame.now) (end - at) at end) }
@@ -123,7 +123,7 @@ fn read_all_addr<'a>(
     frame: &'a [u8],
     at: usize,
     end: usize,
-) -> Result<(Seq<AddrTlv<'a>>, usize), ReadTlv>
+) -> Result<(Seq<AddrTlv<'a>>, usize), DecodeFault>
     requires count { 0 < count }
     requires at { at ≤ end }
     requires end { end ≤ length frame.now }
@@ -149,7 +149,7 @@ fn read_block<'a>(
     frame: &'a [u8],
     at: usize,
     end: usize,
-) -> Result<(Seq<Tlv<'a>>, usize), ReadTlv>
+) -> Result<(Seq<Tlv<'a>>, usize), DecodeFault>
     requires at { at ≤ end }
     requires end { end ≤ length frame.now }
     ensures { Gives block_fields result (block_at tlv_at frame.now at end) }
@@ -165,7 +165,7 @@ fn read_addr_block<'a>(
     frame: &'a [u8],
     at: usize,
     end: usize,
-) -> Result<(Seq<AddrTlv<'a>>, usize), ReadTlv>
+) -> Result<(Seq<AddrTlv<'a>>, usize), DecodeFault>
     requires count { 0 < count }
     requires at { at ≤ end }
     requires end { end ≤ length frame.now }
@@ -183,7 +183,7 @@ pub fn read_tlvs<'a>(
     frame: &'a [u8],
     at: usize,
     end: usize,
-) -> Result<(Seq<Tlv<'a>>, usize), ReadTlv>
+) -> Result<(Seq<Tlv<'a>>, usize), DecodeFault>
     requires at { at ≤ end }
     requires end { end ≤ length frame.now }
 
@@ -213,7 +213,7 @@ pub fn read_addr_tlvs<'a>(
     at: usize,
     end: usize,
     count: u8,
-) -> Result<(Seq<AddrTlv<'a>>, usize), ReadTlv>
+) -> Result<(Seq<AddrTlv<'a>>, usize), DecodeFault>
     requires count { 0 < count }
     requires at { at ≤ end }
     requires end { end ≤ length frame.now }

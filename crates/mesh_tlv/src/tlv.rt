@@ -1,5 +1,4 @@
 //! The values of TLVs, and why reading or writing them fails.
-use mesh_atoms::Refusal;
 use std::alloc::AllocError;
 
 /// A TLV of a packet or a message (RFC 5444, section 5.4.1). `ext` is its type extension, 0 where none is written. A
@@ -23,35 +22,6 @@ pub struct AddrTlv<'a> {
     pub last: u8,
     pub multi: bool,
     pub value: Option<&'a [u8]>,
-}
-
-/// Why a block isn't read: its first fault, or want of memory.
-#[derive(Debug, Drop)]
-pub enum ReadTlv {
-    Refused(Refusal),
-    Memory(AllocError),
-}
-
-impl From<AllocError> for ReadTlv {
-    ghost use Rattle.std.specs.Prelude.{◌≡◌};
-    ghost use Rattle.mesh_tlv.specs.declared.tlv.ReadTlv.TheVariants.{Memory};
-
-    ghost from_gives = { λ e r. r ≡ Memory e };
-
-    fn from(e: AllocError) -> ReadTlv {
-        ReadTlv::Memory(e)
-    }
-}
-
-impl From<Refusal> for ReadTlv {
-    ghost use Rattle.std.specs.Prelude.{◌≡◌};
-    ghost use Rattle.mesh_tlv.specs.declared.tlv.ReadTlv.TheVariants.{Refused};
-
-    ghost from_gives = { λ e r. r ≡ Refused e };
-
-    fn from(e: Refusal) -> ReadTlv {
-        ReadTlv::Refused(e)
-    }
 }
 
 /// Why a block isn't written: it or one of its values has more than 65,535 octets, or want of memory.

@@ -8,7 +8,7 @@ use Rattle.mesh_tlv.specs.Least.{IsFit}
 use Rattle.mesh_tlv.proofs.Fit.{all_fit}
 use Rattle.mesh_tlv.proofs.Items.{meets_weaker}
 use Rattle.mesh_tlv.proofs.Blocks.{BlockTook, block_takes, block_again, block_refuses}
-use Rattle.mesh_tlv.proofs.Given.{given, given_so}
+use Rattle.mesh_atoms.proofs.Given.{given, given_so}
 use Rattle.mesh_tlv.proofs.Tlvs.{addr_tlv_reader}
 use Rattle.mesh_tlv.proofs.read.read_addr_tlvs.Goals as goal
 

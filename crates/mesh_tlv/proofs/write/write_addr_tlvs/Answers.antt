@@ -4,7 +4,7 @@ use Rattle.mesh_tlv.specs.Reading.{addr_tlv_at}
 use Rattle.mesh_tlv.specs.Grammar.{SpellsAddrTlv, TlvFault}
 use Rattle.mesh_tlv.specs.Least.{least_addr_tlv, least_block}
 use Rattle.mesh_tlv.proofs.Blocks.{read_back}
-use Rattle.mesh_tlv.proofs.Given.{on_ok}
+use Rattle.mesh_tlv.proofs.Outcomes.{on_ok}
 use Rattle.mesh_tlv.proofs.Lengths.{addr_tlv_longer, block_longer}
 use Rattle.mesh_tlv.proofs.Spelled.{addr_tlv_block_spelled}
 use Rattle.mesh_tlv.proofs.Tlvs.{addr_tlv_reader}

@@ -4,7 +4,7 @@ use Rattle.mesh_tlv.specs.Reading.{tlv_at}
 use Rattle.mesh_tlv.specs.Grammar.{SpellsTlv, TlvFault}
 use Rattle.mesh_tlv.specs.Least.{least_tlv, least_block}
 use Rattle.mesh_tlv.proofs.Blocks.{read_back}
-use Rattle.mesh_tlv.proofs.Given.{on_ok}
+use Rattle.mesh_tlv.proofs.Outcomes.{on_ok}
 use Rattle.mesh_tlv.proofs.Lengths.{tlv_longer, block_longer}
 use Rattle.mesh_tlv.proofs.Spelled.{tlv_block_spelled}
 use Rattle.mesh_tlv.proofs.Tlvs.{tlv_reader}

@@ -1,0 +1,20 @@
+-- What holds of a reading holds of a result that gives it.
+use Rattle.std.proofs.Common.{◌≡◌, Result, Ok, Err, refl, subst}
+use Rattle.std.specs.Prelude.{IfOk, IfErr, MatchResult}
+use Rattle.mesh_atoms.specs.declared.refusal.DecodeFault.{DecodeFault}
+use Rattle.mesh_atoms.specs.declared.refusal.DecodeFault.TheVariants as faults
+use Rattle.mesh_atoms.specs.declared.refusal.Refusal.{Refusal}
+use Rattle.mesh_atoms.specs.Reading.{◌>>=◌, Fails, Gives, IfRefused}
+
+pub given : {X Y : Type 0} (view : X → Y) (P : Y → Type 0) (Q : Refusal → Type 0) (r : Result X DecodeFault) (read : Result Y Refusal) → Gives view r read → MatchResult read P Q → IfOk r (λ x. P (view x)) × IfErr r (IfRefused Q)
+given view P Q (Ok x) read h k = (rw h at k, tt)
+given view P Q (Err (faults.Memory e)) read h k = (tt, tt)
+given view P Q (Err (faults.Refused f)) read h k = (tt, rw h at k)
+
+pub given_so : {X Y : Type 0} (view : X → Y) (r : Result X DecodeFault) (read other : Result Y Refusal) → Gives view r read → read ≡ other → Gives view r other
+given_so view r read other h e = subst (λ x. Gives view r x) e h
+
+-- a fault of what is read first is the fault of all
+pub fails_on : {A B : Type 0} (read : Result A Refusal) (f : A → Result B Refusal) (fault : DecodeFault) → Fails fault read → Fails fault (read >>= f)
+fails_on read f (faults.Memory e) h = tt
+fails_on read f (faults.Refused e) h = rw h refl
