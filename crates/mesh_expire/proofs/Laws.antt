@@ -1,5 +1,5 @@
 -- What follows from the laws of a table.
-use Rattle.std.proofs.Common.{◌≡◌, ℕ, zero, suc, ◌<◌, Bool, true, false, cond, List, [], ◌∷◌, length, Option, Some, None, refl, sym, ap, subst, ◌∙◌}
+use Rattle.std.proofs.Common.{◌≡◌, ℕ, zero, suc, ◌+◌, ◌<◌, ◌≤◌, ◌++◌, take, drop, map, add-one, arith, Bool, true, false, cond, List, [], ◌∷◌, length, Option, Some, None, refl, sym, ap, subst, ◌∙◌}
 use Rattle.std.specs.Prelude.{option_map, slice_get, slice_set}
 use Rattle.std.specs.List.{IsDistinct, AllByRecursion}
 use Rattle.std.specs.Cmp.{IsEquivalence}
@@ -134,3 +134,27 @@ module _ {K V : Type 0} {eq : K → K → Bool} (laws : IsEquivalence eq) where
       rw (here, changed_at-absent eq key change es (absent_behind key e es distinct here), is) refl
   changed_at-place change (e ∷ es) (suc i) key entry distinct at =
       rw (apart_before e es i key entry distinct at, changed_at-place change es i key entry (IsDistinct-tail eq e.0 (keys_of es) distinct) at) refl
+
+module _ {A : Type 0} (f : A → A) where
+  -- a walk that has changed the front of a list changes what stands at its place
+  pub walk_step : (xs : List A) (i : ℕ) (x : A) → slice_get xs i ≡ Some x → slice_set (map f (take i xs) ++ drop i xs) i (f x) ≡ map f (take (i + 1) xs) ++ drop (i + 1) xs
+  walk_step xs i x at = rw add-one (steps xs i x at) where
+    steps : (ys : List A) (j : ℕ) (y : A) → slice_get ys j ≡ Some y → slice_set (map f (take j ys) ++ drop j ys) j (f y) ≡ map f (take (suc j) ys) ++ drop (suc j) ys
+    steps [] j y h = absurd cc
+    steps (z ∷ zs) zero y h = let is : z ≡ y = cc in rw is refl
+    steps (z ∷ zs) (suc j) y h = ap (λ (l : List A). f z ∷ l) (steps zs j y h)
+
+  -- what stands at the place of a walk is as it was
+  pub walk_at : (xs : List A) (i : ℕ) → i ≤ length xs → slice_get (map f (take i xs) ++ drop i xs) i ≡ slice_get xs i
+  walk_at xs zero h = refl
+  walk_at [] (suc i) h = refl
+  walk_at (x ∷ xs) (suc i) h = walk_at xs i (omega arith)
+
+-- a walk over the places that changes each entry in turn
+pub walk_changed : {K V : Type 0} {eq : K → K → Bool} (laws : IsEquivalence eq) (f : V × ℕ → V × ℕ) (before now after : Base K V) (i : ℕ) (key : K) (entry : V × ℕ)
+    → now ≡ map (λ e. (e.0, f e.1)) (take i before) ++ drop i before → i ≤ length before → slice_get now i ≡ Some (key, entry) → HasDistinctKeys eq now → after ≡ changed_at eq now key f
+    → after ≡ map (λ e. (e.0, f e.1)) (take (i + 1) before) ++ drop (i + 1) before
+walk_changed {K} {V} {eq} laws f before now after i key entry so_far within at distinct changed =
+    let F : K × (V × ℕ) → K × (V × ℕ) = λ e. (e.0, f e.1) in
+    let stood : slice_get before i ≡ Some (key, entry) = sym (walk_at F before i within) ∙ ap (λ (l : Base K V). slice_get l i) (sym so_far) ∙ at in
+    changed ∙ changed_at-place laws f now i key entry distinct at ∙ ap (λ (l : Base K V). slice_set l i (key, f entry)) so_far ∙ walk_step F before i (key, entry) stood

@@ -20,6 +20,19 @@ pub fn renumber<K: Key, T: Table<K, AddressTuple>>(table: &mut T, key: &K, ansn:
     }
 }
 
+/// Sets the ANSN of each tuple, place by place.
+pub fn renumber_all<T: Table<AddressKey, AddressTuple>>(table: &mut T, ansn: u16)
+    ensures { T.content table.new ≡ map (λ e. (e.0, (record e.1.0 { ansn = ansn }, e.1.1))) (T.content table.old) }
+{
+    for place in 0..table.len() {
+        let key = match table.at(place) {
+            Some((key, _, _)) => *key,
+            None => return,
+        };
+        renumber(table, &key, ansn);
+    }
+}
+
 /// Takes out what is expired, and counts what is left.
 pub fn sweep<K: Key, V, T: Table<K, V>>(table: &mut T, now: u64) -> usize
     ensures kept { Expires K.eq now (T.content table.old) (T.content table.new) }

@@ -12,28 +12,39 @@ pub trait Key: Eq + Copy {
     ghost exact: { (a b : Self) → Self.eq a b ≡ true → a ≡ b };
 }
 
+/// Tuples that expire: entries of a key, a record and a moment in ticks of 1/8192 s, no key twice. Their order has no
+/// meaning.
 pub trait Table<K: Key, V>: Sized + Drop {
     ghost content: { Self → Base K V };
 
+    /// No entries.
     fn new(alloc: Global) -> Result<Self, AllocError>
         ensures { IfOk result (λ table. content table ≡ []) };
 
+    /// How many entries there are.
     fn len(&self) -> usize
         ensures value { result ≡ length (content self.now) }
         ensures distinct { HasDistinctKeys K.eq (content self.now) };
 
+    /// The entry at a place, counted from 0; `None` from the length on. An entry stays at its place up to the next `put`,
+    /// `remove` or `expire`.
     fn at(&self, place: usize) -> Option<(&K, &V, u64)>
         ensures { entry_of result ≡ slice_get (content self.now) place };
 
+    /// The record and the moment of a key; `None` where the key isn't there.
     fn get(&self, key: &K) -> Option<(&V, u64)>
         ensures { value_of result ≡ find K.eq (content self.now) key.now };
 
+    /// Makes the entry of a key, in place of the one that the key had. Want of memory leaves the table unchanged, and drops
+    /// the record.
     fn put(&mut self, key: K, value: V, until: u64) -> Result<(), AllocError>
         ensures ok { OnOk result (SetsOnly K.eq (content self.old) (content self.new) key (Some (value, until))) }
+        ensures count { OnOk result (length (content self.new)
+            ≡ length (content self.old) + (if is_some (find K.eq (content self.old) key) then 0 else 1)) }
         ensures err { OnErr result (content self.new ≡ content self.old) }
-        ensures count { OnOk result (length (content self.new) ≡ length (content self.old) + (if is_some (find K.eq (content self.old) key) then 0 else 1)) }
         ensures distinct { HasDistinctKeys K.eq (content self.new) };
 
+    /// Takes out the entry of a key; false, changing nothing, where the key isn't there. Takes no memory.
     fn remove(&mut self, key: &K) -> bool
         ensures found { IsTrue result ↔ IsSome (find K.eq (content self.old) key.now) }
         ensures removed { SetsOnly K.eq (content self.old) (content self.new) key.now None }
@@ -41,18 +52,23 @@ pub trait Table<K: Key, V>: Sized + Drop {
         ensures count { length (content self.new) + (if result then 1 else 0) ≡ length (content self.old) }
         ensures distinct { HasDistinctKeys K.eq (content self.new) };
 
+    /// Takes out each entry whose moment is at or below now, and gives their number. Takes no memory.
     fn expire(&mut self, now: u64) -> usize
         ensures kept { Expires K.eq now (content self.old) (content self.new) }
         ensures count { result + length (content self.new) ≡ length (content self.old) }
         ensures distinct { HasDistinctKeys K.eq (content self.new) };
 
+    /// The record of a key, to be written; `None` where the key isn't there. No entry comes to another place. Takes no
+    /// memory.
     fn value_mut(&mut self, key: &K) -> Option<&mut V>
         ensures* lends { sem 𝓛 (LendsValue Self.row V.row content K.eq key.now self.entry result) }
         ensures value { option_copied_mut result ≡ option_map (λ e. e.0) (find K.eq (content self.old) key.now) }
         ensures distinct { HasDistinctKeys K.eq (content self.old) };
 
+    /// Sets the moment of a key; false, changing nothing, where the key isn't there. No entry comes to another place. Want
+    /// of memory leaves the table unchanged.
     fn set_until(&mut self, key: &K, until: u64) -> Result<bool, AllocError>
-        ensures found { IfOk result (λ is_there. IsTrue is_there ↔ IsSome (find K.eq (content self.old) key.now)) }
+        ensures found { IfOk result (λ was_there. IsTrue was_there ↔ IsSome (find K.eq (content self.old) key.now)) }
         ensures ok { OnOk result (content self.new ≡ changed_at K.eq (content self.old) key.now (λ e. (e.0, until))) }
         ensures err { OnErr result (content self.new ≡ content self.old) }
         ensures distinct { HasDistinctKeys K.eq (content self.new) };
