@@ -3,7 +3,7 @@ use Rattle.std.proofs.Common.{◌≡◌, ℕ, zero, suc, ◌+◌, ◌<◌, ◌�
 use Rattle.std.specs.Prelude.{option_map, slice_get, slice_set}
 use Rattle.std.specs.List.{IsDistinct, AllByRecursion}
 use Rattle.std.specs.Cmp.{IsEquivalence}
-use Rattle.std.specs.Map.{keys_of}
+use Rattle.std.specs.Map.{keys_of, set_value}
 use Rattle.std.proofs.lemmas.Map.{lookup-none}
 use Rattle.std.proofs.lemmas.Map.Keys.{IsDistinct-head, IsDistinct-tail}
 use Rattle.std.proofs.lemmas.Map.Entries.{none_past_head, place_from_lookup}
@@ -119,6 +119,19 @@ module _ {K V : Type 0} {eq : K → K → Bool} (laws : IsEquivalence eq) where
     by_head false is others =
         let behind : find eq (e ∷ es) key ≡ find eq es key = rw is refl in
         rw (is, others (λ entry h. agree entry (behind ∙ h))) refl
+
+  -- a change as std's write of a new value
+  pub changed_at-set_value : (key : K) (change : V × ℕ → V × ℕ) (base : Base K V) (entry : V × ℕ) → HasDistinctKeys eq base → find eq base key ≡ Some entry → changed_at eq base key change ≡ set_value (eq key) base (change entry)
+  changed_at-set_value key change [] entry distinct found = refl
+  changed_at-set_value key change (e ∷ es) entry distinct found = by_head (eq key e.0) refl (changed_at-set_value key change es entry (IsDistinct-tail eq e.0 (keys_of es) distinct)) where
+    by_head : (b : Bool) → eq key e.0 ≡ b → (find eq es key ≡ Some entry → changed_at eq es key change ≡ set_value (eq key) es (change entry)) → changed_at eq (e ∷ es) key change ≡ set_value (eq key) (e ∷ es) (change entry)
+    by_head true is others =
+        let here : find eq (e ∷ es) key ≡ Some e.1 = rw is refl in
+        let same : e.1 ≡ entry = let both : Some e.1 ≡ Some entry = sym here ∙ found in cc in
+        rw (is, changed_at-absent eq key change es (absent_behind key e es distinct is), same) refl
+    by_head false is others =
+        let behind : find eq es key ≡ find eq (e ∷ es) key = rw is refl in
+        rw is (ap (λ (l : Base K V). e ∷ l) (others (behind ∙ found)))
 
   -- the first key is another than one further on
   pub apart_before : (e : K × (V × ℕ)) (es : Base K V) (i : ℕ) (key : K) (entry : V × ℕ) → HasDistinctKeys eq (e ∷ es) → slice_get es i ≡ Some (key, entry) → eq key e.0 ≡ false
