@@ -1,0 +1,19 @@
+use Rattle.std.proofs.Common.{◌≡◌, ◌+◌, ◌-◌, ◌≤◌, ◌++◌, length, drop}
+use Rattle.std.specs.Str.Lines.{lines}
+use Rattle.mesh_tool.specs.Dump.{lines_text}
+use Rattle.mesh_tool.specs.Lines.{refused_count}
+use Rattle.mesh_tool.proofs.dump.put_lines.Given as goal
+
+-- what stands, with what is still to come, is the whole
+abbrev pub invariant-lines : goal.invariant-lines
+invariant-lines l = record {
+  within : l.at ≤ length l.input;
+  few : l.number ≤ l.at;
+  fewer : l.refused ≤ l.number;
+  text : l.out ++ lines_text (l.number + 1) (lines (drop l.at l.input)) ≡ l.fn.out ++ lines_text 1 (lines l.input);
+  count : l.number + length (lines (drop l.at l.input)) ≡ length (lines l.input);
+  refusals : l.refused + refused_count (lines (drop l.at l.input)) ≡ refused_count (lines l.input);
+}
+
+abbrev pub decreases-lines : goal.decreases-lines
+decreases-lines l = length l.input - l.at

@@ -1,0 +1,5 @@
+pub mod Dump
+pub mod Lines
+pub mod Parts
+pub mod Top
+pub mod Words
