@@ -21,5 +21,8 @@ mod TwoRoutersSettled
 mod TwoRoutersSound
 pub mod Unique
 mod Witness
+mod WorkedExpiry
 mod WorkedHello
+mod WorkedLoss
+mod WorkedNeighbourhood
 mod WrongStates

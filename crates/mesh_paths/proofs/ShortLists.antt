@@ -1,5 +1,5 @@
 -- Short lists, and bases of one tuple and of none.
-use Rattle.std.proofs.Common.{◌≡◌, ℕ, zero, suc, ◌<◌, ◌≤◌, ◌⊎◌, inl, inr, refl, sym, arith, List, [], ◌∷◌, Contains, slice_get, slice_index_or, length, Some, None}
+use Rattle.std.proofs.Common.{◌≡◌, ℕ, zero, suc, ◌<◌, ◌⊎◌, inl, inr, refl, sym, arith, List, [], ◌∷◌, Contains, slice_get, slice_index_or, length, Some, None}
 use Rattle.std.specs.Prelude.{Bool, true, false, cond, nat_eq}
 use Rattle.std.specs.List.{IsDistinct}
 use Rattle.std.proofs.lemmas.Bool.{eq-eqb}

@@ -1,5 +1,5 @@
 -- Two routers that hear each other: their settings, their scenario and their states.
-use Rattle.std.proofs.Common.{◌≡◌, ℕ, zero, suc, ◌<◌, ◌≤◌, ◌⊎◌, ◌≢◌, inl, inr, refl, sym, ap, subst, arith, List, [], ◌∷◌, Contains, slice_get, slice_index_or, length, Some, None, true, false}
+use Rattle.std.proofs.Common.{◌≡◌, ℕ, zero, suc, ◌<◌, ◌≤◌, ◌≢◌, refl, ap, subst, arith, List, [], ◌∷◌, Contains, Some, None, true, false}
 use Rattle.mesh_atoms.specs.declared.addr.Addr4.{Addr4}
 use Rattle.mesh_atoms.specs.declared.metric.Metric.{Metric}
 use Rattle.mesh_atoms.specs.declared.hello.Willing.{Willing as Wills}
@@ -17,7 +17,7 @@ use Rattle.mesh_atoms.specs.Base.{host}
 use Rattle.mesh_atoms.specs.Codes.{metric_value}
 use Rattle.mesh_atoms.specs.State.{State, HasLink, HasTwoHop, HasSymmetric, HasAddressOn}
 use Rattle.mesh_atoms.specs.declared.settings.Times.{Times}
-use Rattle.mesh_paths.proofs.ShortLists.{none_of, only, two, here, first_of}
+use Rattle.mesh_paths.proofs.ShortLists.{none_of, only, here, first_of}
 
 pub code_fits : 0 < 4096
 code_fits = omega arith

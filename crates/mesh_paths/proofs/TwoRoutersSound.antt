@@ -1,8 +1,7 @@
 -- Two routers that hear each other are sound.
-use Rattle.std.proofs.Common.{◌≡◌, ℕ, zero, suc, ◌<◌, ◌≤◌, ◌≢◌, inl, inr, refl, sym, ◌∙◌, ap, subst, arith, List, [], ◌∷◌, Contains, length, Option, Some, None}
-use Rattle.std.specs.Prelude.{Bool, true, false, cond, nat_eq}
-use Rattle.std.specs.List.{IsDistinct}
-use Rattle.std.proofs.lemmas.Bool.{eqb-true, eq-eqb}
+use Rattle.std.proofs.Common.{◌≡◌, ℕ, zero, suc, ◌≤◌, ◌≢◌, inl, inr, refl, sym, ◌∙◌, ap, subst, arith, [], ◌∷◌, Contains, Option, Some}
+use Rattle.std.specs.Prelude.{true, false, nat_eq}
+use Rattle.std.proofs.lemmas.Bool.{eqb-true}
 use Rattle.mesh_atoms.specs.declared.addr.Addr4.{Addr4}
 use Rattle.mesh_atoms.specs.declared.metric.Metric.{Metric}
 use Rattle.mesh_atoms.specs.declared.tuples.LinkKey.{LinkKey}
@@ -16,7 +15,7 @@ use Rattle.mesh_atoms.specs.Advertised.{AreTcRows, IsTcRow, Of_address, Of_netwo
 use Rattle.mesh_atoms.specs.Base.{base_of, IsFresh, HasDistinctKeys, addr_eq, link_eq}
 use Rattle.mesh_atoms.specs.Codes.{metric_value}
 use Rattle.mesh_atoms.specs.Live.{HasSymmetricOf, IsByLinks}
-use Rattle.mesh_atoms.specs.Sound.{IsWithin, IsSoundLink, IsSoundNeighbour, SoundNeighbourhood, Sound}
+use Rattle.mesh_atoms.specs.Sound.{IsSoundLink, IsSoundNeighbour, SoundNeighbourhood, Sound}
 use Rattle.mesh_atoms.specs.State.{Neighbourhood, link_at, two_hop_at, neighbour_at}
 use Rattle.mesh_atoms.specs.TakesHello.{AreMoreThan, IsHeld}
 use Rattle.mesh_paths.proofs.TwoRouters.{one, addr, settings, link, neighbour, state, address_on, apart}

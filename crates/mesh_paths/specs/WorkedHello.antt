@@ -1,22 +1,22 @@
--- A HELLO that is taken, worked out: the router with the address 10.0.0.2 hears 10.0.0.1 for the first time.
-use Rattle.std.specs.Prelude.{◌≡◌, ℕ, ◌<◌, List, [], ◌∷◌, Some, None, Bool, true, false}
+-- Two HELLOs that are taken, worked out: the router with the address 10.0.0.2 hears 10.0.0.1 for the first time, and then hears that
+-- 10.0.0.1 has lost it.
+use Rattle.std.specs.Prelude.{◌≡◌, [], ◌∷◌, Some, None, true, false}
 use Rattle.std.proofs.Common.{lit≤}
 use Rattle.mesh_atoms.specs.declared.addr.Addr4.{Addr4}
 use Rattle.mesh_atoms.specs.declared.metric.Metric.{Metric}
 use Rattle.mesh_atoms.specs.declared.hello.Willing.{Willing}
 use Rattle.mesh_atoms.specs.declared.hello.LocalIf.TheVariants.{This}
-use Rattle.mesh_atoms.specs.declared.hello.LinkStatus.TheVariants.{Symmetric, Heard}
+use Rattle.mesh_atoms.specs.declared.hello.LinkStatus.TheVariants.{Lost as Down, Symmetric, Heard}
 use Rattle.mesh_atoms.specs.declared.hello.Mpr.{Mpr}
 use Rattle.mesh_atoms.specs.declared.hello.HelloRow.{HelloRow}
 use Rattle.mesh_atoms.specs.declared.hello.Hello.{Hello}
-use Rattle.mesh_atoms.specs.declared.tuples.LinkKey.{LinkKey}
 use Rattle.mesh_atoms.specs.declared.tuples.Link.{Link}
-use Rattle.mesh_atoms.specs.declared.tuples.TwoHop.{TwoHop}
 use Rattle.mesh_atoms.specs.declared.tuples.Neighbour.{Neighbour}
 use Rattle.mesh_atoms.specs.declared.settings.Interface.{Interface}
 use Rattle.mesh_atoms.specs.declared.settings.RouterSettings.{RouterSettings}
 use Rattle.mesh_atoms.specs.Base.{host}
 use Rattle.mesh_atoms.specs.State.{Neighbourhood}
+use Rattle.mesh_atoms.specs.Live.{LiveNeighbourhood}
 use Rattle.mesh_atoms.specs.TakesHello.{TakesHello, Taken}
 
 -- 10.0.0.1, which sends
@@ -70,6 +70,7 @@ pub record IsReceiver (settings : RouterSettings) : Type 0 where
   pub metric : face.metric ≡ one
   pub senders : face.senders ≡ []
   pub link_hold : settings.times.link_hold ≡ 49152
+  pub neighbour_hold : settings.times.neighbour_hold ≡ 49152
 
 -- it knows of nothing
 abbrev pub nothing : Neighbourhood
@@ -94,3 +95,32 @@ after = record {
 -- the first HELLO, heard at 200, is taken
 abbrev pub FirstHelloIsTaken : Type 0
 FirstHelloIsTaken = (settings : RouterSettings) → IsReceiver settings → TakesHello settings 200 0 peer hello nothing after Taken
+
+-- the receiver, lost
+abbrev pub lost_row : HelloRow
+lost_row = record { addr = host me; local = None; link = Some Down; other = None; metrics = record { link_in = None; link_out = None; near_in = None; near_out = None }; mpr = no_relay }
+
+-- the second HELLO
+abbrev pub later_hello : Hello
+later_hello = record { originator = Some peer; validity = 49152; interval = Some 16384; willing = seven; rows = own_row ∷ lost_row ∷ [] }
+
+-- the link is HEARD
+abbrev pub heard_link : Link
+heard_link = record { addrs = peer ∷ []; heard = 49452; sym = 0; quality = 0; pending = false; lost = false; link_in = one; link_out = None; selector = false }
+
+abbrev pub heard_neighbour : Neighbour
+heard_neighbour = record { addrs = peer ∷ []; symmetric = false; metric_in = None; metric_out = None; willing = seven; selector = false }
+
+-- then the neighbour isn't symmetric, its address is lost, and the address beyond is gone
+abbrev pub later : Neighbourhood
+later = record {
+  links = ((record { addr = peer }, (heard_link, 98604)) ∷ []) ∷ [];
+  two_hops = [] ∷ [];
+  neighbours = (peer, (heard_neighbour, 98604)) ∷ [];
+  losts = (peer, (record {}, 49452)) ∷ [];
+}
+
+-- at 300 nothing is expired, and the second HELLO is taken
+abbrev pub SecondHelloIsTaken : Type 0
+SecondHelloIsTaken =
+    (settings : RouterSettings) → IsReceiver settings → LiveNeighbourhood settings 300 after after × TakesHello settings 300 0 peer later_hello after later Taken

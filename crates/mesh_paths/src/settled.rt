@@ -1,6 +1,6 @@
 //! The law of settled routes, over the definitions of a router and of the radio graph.
 ghost use Rattle.mesh_paths.specs.WrongStates.{RefusesExpiredLink, RefusesOwnTwoHop, RefusesTwoHopOfEndedLink, RefusesTupleOfOldNumber, RefusesHiddenNeighbour, RefusesRowOfNoSelector, RefusesTwoHopOnHeardLink, RefusesNeighbourWithoutLink, RefusesDearerRelays, RefusesGreaterParent, RefusesRouteTwice, RefusesTupleTooMany};
-ghost use Rattle.mesh_paths.specs.WorkedHello.{FirstHelloIsTaken};
+ghost use Rattle.mesh_paths.specs.WorkedHello.{FirstHelloIsTaken, SecondHelloIsTaken};
 ghost use Rattle.mesh_paths.specs.SettledRoutes.{RowsAreLeast, NextHopsLead, TripsEnd, TwoRoutersSettle};
 
 /// The law of settled routes. In a network whose routers hold exactly what their neighbours' HELLOs and the TCs say at
@@ -35,8 +35,8 @@ pub fn wrong_states_refused()
     ensures tuple_too_many { RefusesTupleTooMany }
 {}
 
-/// The definitions take a worked HELLO, with the tuples and moments that are expected. It does nothing.
-pub fn worked_hello_is_taken()
-    ensures { FirstHelloIsTaken }
-{
-}
+/// The definitions take two worked HELLOs, with the tuples and moments that are expected. It does nothing.
+pub fn worked_hellos_are_taken()
+    ensures first { FirstHelloIsTaken }
+    ensures second { SecondHelloIsTaken }
+{}
