@@ -13,7 +13,6 @@ pub use certificate::{check, one_certificate};
 pub use frontier::search;
 pub use mesh_atoms::{Arc4, Certificate, Graph, PathRow};
 pub use rounds::search_by_rounds;
-pub use settled::{settled_routes, two_routers_settle, worked_hello_is_taken, wrong_states_refused};
 pub use settled::{
     settled_routes, two_routers_settle, worked_hellos_are_taken, wrong_states_refused,
 };
