@@ -15,6 +15,7 @@ mod SettledWalks
 mod ShortLists
 pub mod TreeLaw
 mod TwoRouters
+mod TwoRoutersInRange
 mod TwoRoutersRelays
 mod TwoRoutersRoutes
 mod TwoRoutersSettled

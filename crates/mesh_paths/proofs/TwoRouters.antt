@@ -1,5 +1,5 @@
 -- Two routers that hear each other: their settings, their scenario and their states.
-use Rattle.std.proofs.Common.{◌≡◌, ℕ, zero, suc, ◌<◌, ◌≤◌, ◌≢◌, refl, ap, subst, arith, List, [], ◌∷◌, Contains, Some, None, true, false}
+use Rattle.std.proofs.Common.{◌≡◌, ℕ, suc, ◌≢◌, refl, ap, subst, arith, List, [], ◌∷◌, Contains, Some, None, true, false}
 use Rattle.mesh_atoms.specs.declared.addr.Addr4.{Addr4}
 use Rattle.mesh_atoms.specs.declared.metric.Metric.{Metric}
 use Rattle.mesh_atoms.specs.declared.hello.Willing.{Willing as Wills}
@@ -18,29 +18,17 @@ use Rattle.mesh_atoms.specs.Codes.{metric_value}
 use Rattle.mesh_atoms.specs.State.{State, HasLink, HasTwoHop, HasSymmetric, HasAddressOn}
 use Rattle.mesh_atoms.specs.declared.settings.Times.{Times}
 use Rattle.mesh_paths.proofs.ShortLists.{none_of, only, here, first_of}
-
-pub code_fits : 0 < 4096
-code_fits = omega arith
-
-pub seven_within : 7 ≤ 15
-seven_within = omega arith
+pub use Rattle.mesh_paths.proofs.TwoRoutersInRange.{addr}
+use Rattle.mesh_paths.proofs.TwoRoutersInRange.{code_fits, seven_within, letter, is_interface, no_senders, are_times, is_router, none_lost, some_delay, short_delay, is_end, small_seed, no_loss, are_routers, are_arcs}
 
 abbrev pub one : Metric
 one = record { code = 0; in_range = code_fits }
 
-abbrev pub addr : ℕ → Addr4
-addr x = record { 0 = suc x }
-
 abbrev pub seven : Wills
 seven = record { flooding = 7; routing = 7; flooding_within = seven_within; routing_within = seven_within }
 
--- the names are a and b
-abbrev pub letter : ℕ → ℕ
-letter zero = 97
-letter (suc x) = 98
-
 abbrev pub face : ℕ → Interface
-face x = record { name = letter x ∷ []; addrs = addr x ∷ []; metric = one; senders = [] }
+face x = record { name = letter x ∷ []; addrs = addr x ∷ []; metric = one; senders = []; sound = is_interface x; few_senders = no_senders }
 
 abbrev pub times : Times
 times = record {
@@ -55,6 +43,7 @@ times = record {
   processed_hold = 245760;
   forwarded_hold = 245760;
   tc_hop_limit = 255;
+  sound = are_times;
 }
 
 abbrev pub settings : ℕ → RouterSettings
@@ -66,13 +55,25 @@ settings x = record {
   times = times;
   interfaces = face x ∷ [];
   attached = [];
+  sound = is_router x;
 }
 
 abbrev pub arc : ℕ → ℕ → RadioArc
-arc x y = record { from = x; from_iface = 0; to = y; to_iface = 0; metric = one; loss = 0; delay = 9 }
+arc x y = record { from = x; from_iface = 0; to = y; to_iface = 0; metric = one; loss = 0; delay = 9; lost_of_thousand = none_lost; delayed = some_delay; delayed_up_to = short_delay }
 
 abbrev pub scenario : Scenario
-scenario = record { end = 16384; seed = 0; loss_until = None; routers = settings 0 ∷ settings 1 ∷ []; arcs = arc 0 1 ∷ arc 1 0 ∷ [] }
+scenario = record {
+  end = 16384;
+  seed = 0;
+  loss_until = None;
+  routers = settings 0 ∷ settings 1 ∷ [];
+  arcs = arc 0 1 ∷ arc 1 0 ∷ [];
+  end_in_range = is_end;
+  seed_in_range = small_seed;
+  loss_in_range = no_loss;
+  sound_routers = are_routers;
+  sound_arcs = are_arcs;
+}
 
 abbrev pub link : ℕ → Link
 link y = record { addrs = addr y ∷ []; heard = 9; sym = 9; quality = 0; pending = false; lost = false; link_in = one; link_out = Some one; selector = false }

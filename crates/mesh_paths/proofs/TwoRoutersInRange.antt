@@ -1,0 +1,99 @@
+-- The settings of two routers that hear each other are in their ranges.
+use Rattle.std.proofs.Common.{◌≡◌, ℕ, zero, suc, ◌<◌, ◌≤◌, ◌^◌, refl, arith, [], ◌∷◌, Option, Some, None, IsTrue}
+use Rattle.std.specs.Prelude.{nat_lt, true}
+use Rattle.std.specs.List.{list_all}
+use Rattle.std.proofs.lemmas.Bool.{lt-ltb}
+use Rattle.mesh_atoms.specs.declared.addr.Addr4.{Addr4}
+use Rattle.mesh_atoms.specs.Settings.{one_millisecond, one_hour, longest_delay, IsInterval, IsTimes, IsEnd, IsName, is_name_octet, IsInterface, IsRouter, AreRouters, AreArcs}
+
+-- router x has one address and one interface
+abbrev pub addr : ℕ → Addr4
+addr x = record { 0 = suc x }
+
+-- the names are a and b
+abbrev pub letter : ℕ → ℕ
+letter zero = 97
+letter (suc x) = 98
+
+pub code_fits : 0 < 4096
+code_fits = omega arith
+
+pub seven_within : 7 ≤ 15
+seven_within = omega arith
+
+pub no_senders : 0 ≤ 4096
+no_senders = omega arith
+
+pub none_lost : 0 ≤ 1000
+none_lost = omega arith
+
+pub some_delay : one_millisecond ≤ 9
+some_delay = omega arith
+
+pub short_delay : 9 ≤ longest_delay
+short_delay = omega arith
+
+pub is_end : IsEnd 16384
+is_end = record { least = omega arith; most = omega arith }
+
+pub small_seed : 0 < 2 ^ 63
+small_seed = omega arith
+
+pub no_loss : (moment : ℕ) → ◌≡◌ {A = Option ℕ} None (Some moment) → moment ≤ one_hour
+no_loss moment e = absurd (cc)
+
+is_interval : (ticks : ℕ) → 820 ≤ ticks → ticks ≤ 29491200 → IsInterval ticks
+is_interval ticks least most = record { least = least; most = most }
+
+pub are_times : IsTimes 16384 49152 49152 49152 40960 122880 122880 245760 245760 245760 255
+are_times = record {
+  hello_range = is_interval 16384 (omega arith) (omega arith);
+  hold_range = is_interval 49152 (omega arith) (omega arith);
+  link_hold_range = is_interval 49152 (omega arith) (omega arith);
+  neighbour_hold_range = is_interval 49152 (omega arith) (omega arith);
+  tc_range = is_interval 40960 (omega arith) (omega arith);
+  topology_hold_range = is_interval 122880 (omega arith) (omega arith);
+  advertised_hold_range = is_interval 122880 (omega arith) (omega arith);
+  received_hold_range = is_interval 245760 (omega arith) (omega arith);
+  processed_hold_range = is_interval 245760 (omega arith) (omega arith);
+  forwarded_hold_range = is_interval 245760 (omega arith) (omega arith);
+  hop_limit = omega arith;
+}
+
+is_name : (x : ℕ) → IsName (letter x ∷ [])
+is_name x = record { size = record { at_least = omega arith; at_most = omega arith }; octets = octets x }
+  where
+    octets : (x : ℕ) → IsTrue (list_all is_name_octet (letter x ∷ []))
+    octets zero = refl
+    octets (suc x) = refl
+
+pub is_interface : (x : ℕ) → IsInterface (letter x ∷ []) (addr x ∷ [])
+is_interface x = record {
+  named = is_name x;
+  few = record { at_least = omega arith; at_most = omega arith };
+  addressed = (let h : nat_lt 0 (suc x) ≡ true = lt-ltb 0 (suc x) (omega arith) in rw h refl);
+}
+
+pub is_router : (x : ℕ) → IsRouter (letter x ∷ []) 0 0 ((letter x ∷ []) ∷ []) (addr x ∷ []) []
+is_router x = record {
+  named = is_name x;
+  hello_range = omega arith;
+  tc_range = omega arith;
+  interfaces = record { at_least = omega arith; at_most = omega arith };
+  attached = omega arith;
+  distinct_names = refl;
+  distinct_addrs = refl;
+  distinct_nets = refl;
+  no_hosts = refl;
+}
+
+pub are_routers : AreRouters ((97 ∷ []) ∷ (98 ∷ []) ∷ []) (addr 0 ∷ addr 1 ∷ []) []
+are_routers = record {
+  routers = record { at_least = omega arith; at_most = omega arith };
+  distinct_names = refl;
+  distinct_addrs = refl;
+  no_hosts = refl;
+}
+
+pub are_arcs : AreArcs (1 ∷ 1 ∷ []) (record { from = 0; from_iface = 0; to = 1; to_iface = 0 } ∷ record { from = 1; from_iface = 0; to = 0; to_iface = 0 } ∷ [])
+are_arcs = record { few = omega arith; join_routers = refl; distinct = refl }
