@@ -4,6 +4,7 @@ pub mod RoundsLaw
 pub mod Rows
 pub mod SearchLaw
 pub mod Sets
+mod Scenarios
 mod SettledArcs
 mod SettledDecisions
 mod SettledHops

@@ -23,6 +23,10 @@ pub record IsSettledNetwork (s : Scenario) (states : List State) (now : ℕ) : T
   pub moment : (x : ℕ) (p : State) → At states x p → p.last ≡ now
   pub settled : Settled s states now
 
+-- each scenario is sound
+abbrev pub EveryScenarioIsSound : Type 0
+EveryScenarioIsSound = (s : Scenario) → IsSoundScenario s
+
 -- Rows
 
 -- the router has a row of the destination at that metric

@@ -14,5 +14,6 @@ pub use frontier::search;
 pub use mesh_atoms::{Arc4, Certificate, Graph, PathRow};
 pub use rounds::search_by_rounds;
 pub use settled::{
-    settled_routes, two_routers_settle, worked_hellos_are_taken, wrong_states_refused,
+    scenarios_are_sound, settled_routes, two_routers_settle, worked_hellos_are_taken,
+    wrong_states_refused,
 };

@@ -1,7 +1,7 @@
 //! The law of settled routes, over the definitions of a router and of the radio graph.
 ghost use Rattle.mesh_paths.specs.WrongStates.{RefusesExpiredLink, RefusesOwnTwoHop, RefusesTwoHopOfEndedLink, RefusesTupleOfOldNumber, RefusesHiddenNeighbour, RefusesRowOfNoSelector, RefusesTwoHopOnHeardLink, RefusesNeighbourWithoutLink, RefusesDearerRelays, RefusesGreaterParent, RefusesRouteTwice, RefusesTupleTooMany};
 ghost use Rattle.mesh_paths.specs.WorkedHello.{FirstHelloIsTaken, SecondHelloIsTaken};
-ghost use Rattle.mesh_paths.specs.SettledRoutes.{RowsAreLeast, NextHopsLead, TripsEnd, TwoRoutersSettle};
+ghost use Rattle.mesh_paths.specs.SettledRoutes.{RowsAreLeast, NextHopsLead, TripsEnd, TwoRoutersSettle, EveryScenarioIsSound};
 
 /// The law of settled routes. In a network whose routers hold exactly what their neighbours' HELLOs and the TCs say at
 /// present, each router's rows are those of the radio graph's least metrics; each row's interface and next hop name joined
@@ -39,4 +39,10 @@ pub fn wrong_states_refused()
 pub fn worked_hellos_are_taken()
     ensures first { FirstHelloIsTaken }
     ensures second { SecondHelloIsTaken }
+{}
+
+/// Each scenario's addresses are distinct, and no network of it is a router's address: its type keeps so. So the law of
+/// settled routes asks for no more than sound states that are settled. It does nothing.
+pub fn scenarios_are_sound()
+    ensures { EveryScenarioIsSound }
 {}

@@ -1,0 +1,226 @@
+-- Each scenario is sound: its type keeps that addresses are distinct, that no network is a router's address, and what arcs join.
+use Rattle.std.proofs.Common.{◌≡◌, ◌≢◌, ℕ, zero, suc, ◌<◌, ◌≤◌, ◌⊎◌, inl, inr, refl, sym, ◌∙◌, ap, subst, arith, List, [], ◌∷◌, ◌++◌, map, length, Contains, slice_get, slice_index_or, Some}
+use Rattle.std.specs.Prelude.{Bool, true, false, not, nat_eq, nat_lt, slice_index, ◌&&◌, ◌||◌}
+use Rattle.std.specs.Cmp.{IsEquivalence}
+use Rattle.std.specs.List.{flat_map, list_all, list_any}
+use Rattle.std.proofs.lemmas.Bool.{eq-eqb, ltb-true}
+use Rattle.std.proofs.lemmas.List.Elements.{Contains-append_left, Contains-append_right}
+use Rattle.std.proofs.lemmas.List.Folds.{list_any-append}
+use Rattle.std.proofs.lemmas.Map.Views.{list_any-from_Contains}
+use Rattle.mesh_atoms.specs.declared.addr.Addr4.{Addr4}
+use Rattle.mesh_atoms.specs.declared.addr.NetAddr.{NetAddr}
+use Rattle.mesh_atoms.specs.declared.metric.Metric.{Metric}
+use Rattle.mesh_atoms.specs.declared.settings.Interface.{Interface}
+use Rattle.mesh_atoms.specs.declared.settings.Attached4.{Attached4}
+use Rattle.mesh_atoms.specs.declared.settings.RouterSettings.{RouterSettings}
+use Rattle.mesh_atoms.specs.declared.settings.RadioArc.{RadioArc}
+use Rattle.mesh_atoms.specs.declared.settings.Scenario.{Scenario}
+use Rattle.mesh_atoms.specs.Base.{host, addr_eq}
+use Rattle.mesh_atoms.specs.Radio.{Leads, Router, AddressOf, Attaches, IsSoundScenario}
+use Rattle.mesh_atoms.specs.Settings.{are_distinct, is_host, Ends, ends_eq, is_interface}
+use Rattle.mesh_atoms.specs.State.{HasAddressOn, IsOriginator}
+use Rattle.mesh_atoms.proofs.Lookups.{addr_equiv}
+use Rattle.mesh_paths.proofs.ShortLists.{none_of, none_some}
+
+-- Tests
+
+both_true : (a b : Bool) → (a && b) ≡ true → (a ≡ true) × (b ≡ true)
+both_true true b h = (refl, h)
+both_true false b h = absurd (cc)
+
+not_both : {A : Type 0} (b : Bool) → b ≡ true → not b ≡ true → A
+not_both true h g = absurd (let f : false ≡ true = g in cc)
+not_both false h g = absurd (cc)
+
+first_false : (a b : Bool) → not (a || b) ≡ true → not a ≡ true
+first_false true b h = h
+first_false false b h = refl
+
+-- Elements
+
+contains_cases : {A : Type 0} (x : A) (xs : List A) (a : A) → Contains (x ∷ xs) a → (x ≡ a) ⊎ Contains xs a
+contains_cases {A} x xs a c = at c.0 c.1 c.2
+  where
+    at : (k : ℕ) → k < length (x ∷ xs) → slice_index_or (x ∷ xs) k a ≡ a → (x ≡ a) ⊎ Contains xs a
+    at zero l e = inl e
+    at (suc k) l e = inr (k, omega (arith, l), e)
+
+all_of : {A : Type 0} (p : A → Bool) (xs : List A) (a : A) → list_all p xs ≡ true → Contains xs a → p a ≡ true
+all_of p [] a h c = absurd (none_of a c)
+all_of p (x ∷ xs) a h c = elim (contains_cases x xs a c) [
+  | inl e ↦ subst (λ b. p b ≡ true) e (both_true (p x) (list_all p xs) h).0
+  | inr more ↦ all_of p xs a (both_true (p x) (list_all p xs) h).1 more
+]
+
+or_left : (a b : Bool) → a ≡ true → (a || b) ≡ true
+or_left true b h = refl
+or_left false b h = absurd (cc)
+
+or_right : (a b : Bool) → b ≡ true → (a || b) ≡ true
+or_right true b h = refl
+or_right false b h = h
+
+any_of : {A : Type 0} (p : A → Bool) (xs : List A) (a : A) → p a ≡ true → Contains xs a → list_any p xs ≡ true
+any_of p [] a h c = absurd (none_of a c)
+any_of p (x ∷ xs) a h c = elim (contains_cases x xs a c) [
+  | inl e ↦ or_left (p x) (list_any p xs) (subst (λ b. p b ≡ true) (sym e) h)
+  | inr more ↦ or_right (p x) (list_any p xs) (any_of p xs a h more)
+]
+
+contains_map : {A B : Type 0} (f : A → B) (xs : List A) (a : A) → Contains xs a → Contains (map f xs) (f a)
+contains_map f [] a c = absurd (none_of a c)
+contains_map {A} {B} f (x ∷ xs) a c = elim (contains_cases x xs a c) [
+  | inl e ↦ (0, omega arith, ap f e)
+  | inr more ↦ (let (k, l, e) = contains_map f xs a more in (suc k, omega (arith, l), e))
+]
+
+contains_flat : {A B : Type 0} (f : A → List B) (xs : List A) (k : ℕ) (u : A) (a : B) → slice_get xs k ≡ Some u → Contains (f u) a → Contains (flat_map f xs) a
+contains_flat f [] k u a at c = none_some u at
+contains_flat f (x ∷ xs) zero u a at c = let e : x ≡ u = cc in Contains-append_left (f x) (flat_map f xs) a (subst (λ b. Contains (f b) a) (sym e) c)
+contains_flat f (x ∷ xs) (suc k) u a at c = Contains-append_right (f x) (flat_map f xs) a (contains_flat f xs k u a at c)
+
+-- Distinct values
+
+back_distinct : {A : Type 0} (eq : A → A → Bool) (xs ys : List A) → are_distinct eq (xs ++ ys) ≡ true → are_distinct eq ys ≡ true
+back_distinct eq [] ys h = h
+back_distinct eq (x ∷ xs) ys h = back_distinct eq xs ys (both_true (not (list_any (eq x) (xs ++ ys))) (are_distinct eq (xs ++ ys)) h).1
+
+front_distinct : {A : Type 0} (eq : A → A → Bool) (xs ys : List A) → are_distinct eq (xs ++ ys) ≡ true → are_distinct eq xs ≡ true
+front_distinct eq [] ys h = refl
+front_distinct eq (x ∷ xs) ys h =
+    let (new, rest) = both_true (not (list_any (eq x) (xs ++ ys))) (are_distinct eq (xs ++ ys)) h in
+    let parts : not (list_any (eq x) xs || list_any (eq x) ys) ≡ true = subst (λ b. not b ≡ true) (list_any-append (eq x) xs ys) new in
+    let here : not (list_any (eq x) xs) ≡ true = first_false (list_any (eq x) xs) (list_any (eq x) ys) parts in
+    let more : are_distinct eq xs ≡ true = front_distinct eq xs ys rest in
+    rw (here, more) refl
+
+apart_parts : {A : Type 0} {eq : A → A → Bool} → IsEquivalence eq → (xs ys : List A) (a : A) → are_distinct eq (xs ++ ys) ≡ true → Contains xs a → Contains ys a → ⊥
+apart_parts equiv [] ys a h c d = none_of a c
+apart_parts {A} {eq} equiv (x ∷ xs) ys a h c d =
+    let (new, rest) = both_true (not (list_any (eq x) (xs ++ ys))) (are_distinct eq (xs ++ ys)) h in
+    elim (contains_cases x xs a c) [
+      | inl e ↦ not_both (list_any (eq x) (xs ++ ys)) (list_any-from_Contains equiv x (xs ++ ys) (subst (λ b. Contains (xs ++ ys) b) (sym e) (Contains-append_right xs ys a d))) new
+      | inr more ↦ apart_parts equiv xs ys a rest more d
+    ]
+
+-- what two parts have in common they have at one place
+one_part : {A B : Type 0} {eq : B → B → Bool} → IsEquivalence eq → (f : A → List B) (xs : List A) (k l : ℕ) (u v : A) (a : B) → are_distinct eq (flat_map f xs) ≡ true →
+    slice_get xs k ≡ Some u → slice_get xs l ≡ Some v → Contains (f u) a → Contains (f v) a → k ≡ l
+one_part equiv f [] k l u v a h at to c d = none_some u at
+one_part equiv f (x ∷ xs) zero zero u v a h at to c d = refl
+one_part equiv f (x ∷ xs) zero (suc l) u v a h at to c d =
+    let e : x ≡ u = cc in
+    absurd (apart_parts equiv (f x) (flat_map f xs) a h (subst (λ b. Contains (f b) a) (sym e) c) (contains_flat f xs l v a to d))
+one_part equiv f (x ∷ xs) (suc k) zero u v a h at to c d =
+    let e : x ≡ v = cc in
+    absurd (apart_parts equiv (f x) (flat_map f xs) a h (subst (λ b. Contains (f b) a) (sym e) d) (contains_flat f xs k u a at c))
+one_part {eq = eq} equiv f (x ∷ xs) (suc k) (suc l) u v a h at to c d =
+    let same : k ≡ l = one_part equiv f xs k l u v a (back_distinct eq (f x) (flat_map f xs) h) at to c d in
+    ap (λ (n : ℕ). suc n) same
+
+part_distinct : {A B : Type 0} (eq : B → B → Bool) (f : A → List B) (xs : List A) (k : ℕ) (u : A) → are_distinct eq (flat_map f xs) ≡ true → slice_get xs k ≡ Some u → are_distinct eq (f u) ≡ true
+part_distinct eq f [] k u h at = none_some u at
+part_distinct eq f (x ∷ xs) zero u h at = let e : x ≡ u = cc in subst (λ b. are_distinct eq (f b) ≡ true) e (front_distinct eq (f x) (flat_map f xs) h)
+part_distinct eq f (x ∷ xs) (suc k) u h at = part_distinct eq f xs k u (back_distinct eq (f x) (flat_map f xs) h) at
+
+first_one : {A : Type 0} (xs : List A) → 1 ≤ length xs → (x : A) × (slice_get xs 0 ≡ Some x)
+first_one [] h = absurd (omega (arith, h))
+first_one (x ∷ xs) h = (x, refl)
+
+mapped_length : {A B : Type 0} (f : A → B) (xs : List A) → 1 ≤ length (map f xs) → 1 ≤ length xs
+mapped_length f [] h = h
+mapped_length f (x ∷ xs) h = omega arith
+
+-- a number that counts says that there is one
+counted : {A : Type 0} (count : A → ℕ) (xs : List A) (k n : ℕ) → nat_lt n (slice_index (map count xs) k) ≡ true → (x : A) × (slice_get xs k ≡ Some x)
+counted count [] k n h = absurd (let below : n < 0 = ltb-true n 0 h in omega arith)
+counted count (x ∷ xs) zero n h = (x, refl)
+counted count (x ∷ xs) (suc k) n h = counted count xs k n h
+
+-- The scenario
+
+abbrev ends_of : RadioArc → Ends
+ends_of a = record { from = a.from; from_iface = a.from_iface; to = a.to; to_iface = a.to_iface }
+
+same_ends : (a b : RadioArc) → a.from ≡ b.from → a.from_iface ≡ b.from_iface → a.to ≡ b.to → a.to_iface ≡ b.to_iface → ends_eq (ends_of a) (ends_of b) ≡ true
+same_ends a b e f g h = rw (eq-eqb a.from b.from e, eq-eqb a.from_iface b.from_iface f, eq-eqb a.to b.to g, eq-eqb a.to_iface b.to_iface h) refl
+
+one_arc : (xs : List RadioArc) (a b : RadioArc) → are_distinct ends_eq (map ends_of xs) ≡ true → Contains xs a → Contains xs b →
+    ends_eq (ends_of a) (ends_of b) ≡ true → ends_eq (ends_of b) (ends_of a) ≡ true → a ≡ b
+one_arc [] a b h c d there back = absurd (none_of a c)
+one_arc (x ∷ xs) a b h c d there back =
+    let (new, rest) = both_true (not (list_any (ends_eq (ends_of x)) (map ends_of xs))) (are_distinct ends_eq (map ends_of xs)) h in
+    elim (contains_cases x xs a c) [
+      | inl e ↦ elim (contains_cases x xs b d) [
+        | inl f ↦ sym e ∙ f
+        | inr more ↦ not_both (list_any (ends_eq (ends_of x)) (map ends_of xs)) (any_of (ends_eq (ends_of x)) (map ends_of xs) (ends_of b) (subst (λ y. ends_eq (ends_of y) (ends_of b) ≡ true) (sym e) there) (contains_map ends_of xs b more)) new
+      ]
+      | inr more ↦ elim (contains_cases x xs b d) [
+        | inl f ↦ not_both (list_any (ends_eq (ends_of x)) (map ends_of xs)) (any_of (ends_eq (ends_of x)) (map ends_of xs) (ends_of a) (subst (λ y. ends_eq (ends_of y) (ends_of a) ≡ true) (sym f) back) (contains_map ends_of xs a more)) new
+        | inr other ↦ one_arc xs a b rest more other there back
+      ]
+    ]
+
+abbrev addrs_of : RouterSettings → List Addr4
+addrs_of r = flat_map (λ i. i.addrs) r.interfaces
+
+abbrev nets_of : RouterSettings → List NetAddr
+nets_of r = map (λ a. a.net) r.attached
+
+address_in : (r : RouterSettings) (i : ℕ) (a : Addr4) → HasAddressOn r i a → Contains (addrs_of r) a
+address_in r i a on = contains_flat (λ (f : Interface). f.addrs) r.interfaces i on.0 a on.1 on.2
+
+one_owner : (s : Scenario) (x y i j : ℕ) (r q : RouterSettings) (a : Addr4) → Router s x r → Router s y q → HasAddressOn r i a → HasAddressOn q j a → (x ≡ y) × (i ≡ j)
+one_owner s x y i j r q a at to on from =
+    let whole : are_distinct addr_eq (flat_map addrs_of s.routers) ≡ true = s.sound_routers.distinct_addrs in
+    let same : x ≡ y = one_part addr_equiv addrs_of s.routers x y r q a whole at to (address_in r i a on) (address_in q j a from) in
+    let there : slice_get s.routers x ≡ Some q = subst (λ b. slice_get s.routers b ≡ Some q) (sym same) to in
+    let is : q ≡ r = cc in
+    let here : HasAddressOn r j a = subst (λ b. HasAddressOn b j a) is from in
+    let own : are_distinct addr_eq (addrs_of r) ≡ true = part_distinct addr_eq addrs_of s.routers x r whole at in
+    (same, one_part addr_equiv (λ (f : Interface). f.addrs) r.interfaces i j on.0 here.0 a own on.1 here.1 on.2 here.2)
+
+no_host : (s : Scenario) (x y c : ℕ) (net : NetAddr) (a : Addr4) → Attaches s x net c → AddressOf s y a → net ≢ host a
+no_host s x y c net a attached of_y e =
+    let (r, at, t, stands, is, _) = attached in
+    let (q, to, (j, on)) = of_y in
+    let nets : List NetAddr = flat_map nets_of s.routers in
+    let addrs : List Addr4 = flat_map addrs_of s.routers in
+    let in_nets : Contains nets t.net = contains_flat nets_of s.routers x r t.net at (contains_map (λ (b : Attached4). b.net) r.attached t stands) in
+    let in_addrs : Contains addrs a = contains_flat addrs_of s.routers y q a to (address_in q j a on) in
+    let none : not (list_any (is_host t.net) addrs) ≡ true = all_of (λ n. not (list_any (is_host n) addrs)) nets t.net s.sound_routers.no_hosts in_nets in
+    let same : t.net ≡ host a = is ∙ e in
+    let yes : is_host t.net a ≡ true = subst (λ n. is_host n a ≡ true) (sym same) (eq-eqb a.0 a.0 refl) in
+    not_both (list_any (is_host t.net) addrs) (any_of (is_host t.net) addrs a yes in_addrs) none
+
+originator : (s : Scenario) (x : ℕ) (r : RouterSettings) → Router s x r → (a : Addr4) × IsOriginator r a
+originator s x r at =
+    let (face, first) = first_one r.interfaces (mapped_length (λ (i : Interface). i.name) r.interfaces r.sound.interfaces.at_least) in
+    let (a, is) = first_one face.addrs face.sound.few.at_least in
+    (a, (face, first, is))
+
+arc_ends : (s : Scenario) (x i y j : ℕ) (m : Metric) → Leads s x i y j m → (x ≢ y) × ((r : RouterSettings) × Router s x r) × ((q : RouterSettings) × Router s y q)
+arc_ends s x i y j m leads =
+    let (arc, stands, from, from_iface, to, to_iface, _) = leads in
+    let counts : List ℕ = map (λ (r : RouterSettings). length r.interfaces) s.routers in
+    let joins = all_of _ (map ends_of s.arcs) (ends_of arc) s.sound_arcs.join_routers (contains_map ends_of s.arcs arc stands) in
+    let (first, rest) = both_true (is_interface counts arc.from arc.from_iface) _ joins in
+    let (second, other) = both_true (is_interface counts arc.to arc.to_iface) (not (nat_eq arc.from arc.to)) rest in
+    let out = counted (λ (r : RouterSettings). length r.interfaces) s.routers arc.from arc.from_iface first in
+    let home = counted (λ (r : RouterSettings). length r.interfaces) s.routers arc.to arc.to_iface second in (
+      (λ e. not_both (nat_eq arc.from arc.to) (eq-eqb arc.from arc.to (from ∙ (e ∙ sym to))) other),
+      (out.0, subst (λ b. slice_get s.routers b ≡ Some out.0) from out.1),
+      (home.0, subst (λ b. slice_get s.routers b ≡ Some home.0) to home.1),
+    )
+
+one_metric : (s : Scenario) (x i y j : ℕ) (m n : Metric) → Leads s x i y j m → Leads s x i y j n → m ≡ n
+one_metric s x i y j m n first second =
+    let (a, a_stands, a_from, a_from_iface, a_to, a_to_iface, a_metric) = first in
+    let (b, b_stands, b_from, b_from_iface, b_to, b_to_iface, b_metric) = second in
+    let there = same_ends a b (a_from ∙ sym b_from) (a_from_iface ∙ sym b_from_iface) (a_to ∙ sym b_to) (a_to_iface ∙ sym b_to_iface) in
+    let back = same_ends b a (b_from ∙ sym a_from) (b_from_iface ∙ sym a_from_iface) (b_to ∙ sym a_to) (b_to_iface ∙ sym a_to_iface) in
+    let same : a ≡ b = one_arc s.arcs a b s.sound_arcs.distinct a_stands b_stands there back in
+    sym a_metric ∙ (ap (λ (c : RadioArc). c.metric) same ∙ b_metric)
+
+pub sound_scenario : (s : Scenario) → IsSoundScenario s
+sound_scenario s = record { addresses = one_owner s; networks = no_host s; originators = originator s; ends = arc_ends s; arcs = one_metric s }
