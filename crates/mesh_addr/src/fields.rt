@@ -1,27 +1,11 @@
 //! The fields of an address block, in the order in which they stand.
 ghost use Rattle.std.specs.Prelude.{◌≡◌, ◌≤◌, ◌<◌, ◌+◌, ◌*◌, length, replicate, IfOk};
-ghost use Rattle.mesh_atoms.specs.Reading.{Reads, octet_at};
+ghost use Rattle.mesh_atoms.specs.Reading.{Reads};
 ghost use Rattle.mesh_addr.specs.Reading.{clashes, count_at, flags_at, number_at, counted_at, head_at, tail_at, parts_end, prefix_at, common_at, own_at};
 
 use crate::flags::{EACH_PREFIX, FULL_TAIL, HEAD, ONE_PREFIX, ZERO_TAIL};
-use crate::reasons::{ADDR_CUT, ADDR_FLAGS, NO_ADDRESSES, PREFIX_LENGTH, SHORT};
-use mesh_atoms::Refusal;
-
-/// The octet that stands there, and where the next one stands.
-fn octet(frame: &[u8], at: usize, end: usize) -> Result<(u8, usize), Refusal>
-    requires { end ≤ length frame.now }
-    ensures exact { result ≡ octet_at 1 frame.now at end }
-    ensures after { IfOk result (λ x. (x.1 ≤ end) × (at < x.1)) }
-{
-    if at < end {
-        Ok((frame[at], at + 1))
-    } else {
-        Err(Refusal {
-            place: at,
-            reason: SHORT,
-        })
-    }
-}
+use mesh_atoms::reason::{ADDR_CUT, ADDR_FLAGS, NO_ADDRESSES, PREFIX_LENGTH, SHORT};
+use mesh_atoms::{Refusal, read_octet};
 
 /// The number of addresses.
 #[tactic(auto, unfolding(crate::specs::Reading::count_at))]
@@ -30,7 +14,7 @@ pub fn count(frame: &[u8], at: usize, end: usize) -> Result<(u8, usize), Refusal
     ensures exact { result ≡ count_at frame.now at end }
     ensures after { IfOk result (λ x. (x.1 ≤ end) × (at < x.1)) }
 {
-    let (count, after) = octet(frame, at, end)?;
+    let (count, after) = read_octet(frame, at, end, SHORT)?;
     if count == 0 {
         Err(Refusal {
             place: at,
@@ -56,7 +40,7 @@ pub fn flags(frame: &[u8], at: usize, end: usize) -> Result<(u8, usize), Refusal
     ensures exact { result ≡ flags_at frame.now at end }
     ensures after { IfOk result (λ x. (x.1 ≤ end) × (at < x.1)) }
 {
-    let (flags, after) = octet(frame, at, end)?;
+    let (flags, after) = read_octet(frame, at, end, SHORT)?;
     if has_clash(flags) {
         Err(Refusal {
             place: at,
@@ -74,7 +58,7 @@ fn number(frame: &[u8], at: usize, end: usize, room: usize) -> Result<(usize, us
     ensures exact { result ≡ number_at frame.now at end room }
     ensures after { IfOk result (λ x. (x.1 ≤ end) × (x.0 ≤ room) × (at < x.1)) }
 {
-    let (len, after) = octet(frame, at, end)?;
+    let (len, after) = read_octet(frame, at, end, SHORT)?;
     let len = len as usize;
     if room < len {
         Err(Refusal {
@@ -186,7 +170,7 @@ fn prefix_length(frame: &[u8], at: usize, end: usize, width: u8) -> Result<(u8, 
     ensures exact { result ≡ prefix_at frame.now at end width }
     ensures after { IfOk result (λ x. (x.1 ≤ end) × (at < x.1)) }
 {
-    let (prefix, after) = octet(frame, at, end)?;
+    let (prefix, after) = read_octet(frame, at, end, SHORT)?;
     if 8 * width < prefix {
         Err(Refusal {
             place: at,

@@ -5,7 +5,6 @@ mod choices;
 mod fields;
 mod flags;
 mod reader;
-mod reasons;
 mod records;
 #[cfg(test)]
 mod tests;

@@ -9,6 +9,8 @@ mod codes;
 mod graphs;
 mod hello;
 mod metric;
+mod octets;
+pub mod reason;
 mod refusal;
 mod seq;
 mod settings;
@@ -25,6 +27,7 @@ pub use graphs::{
 };
 pub use hello::{Hello, HelloRow, LinkStatus, LocalIf, Metrics, Mpr, OtherStatus, Willing};
 pub use metric::Metric;
+pub use octets::{read_octet, read_short, refuse};
 pub use refusal::{DecodeFault, Refusal};
 pub use seq::Seq;
 pub use settings::{

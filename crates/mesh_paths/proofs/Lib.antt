@@ -2,9 +2,9 @@ pub mod Found
 pub mod Order
 pub mod RoundsLaw
 pub mod Rows
+mod Scenarios
 pub mod SearchLaw
 pub mod Sets
-mod Scenarios
 mod SettledArcs
 mod SettledDecisions
 mod SettledHops

@@ -1,51 +1,12 @@
 //! Reading the fields of one TLV, each with the place after it. A fault's place is that of the field's first octet.
 ghost use Rattle.std.specs.Prelude.{◌≡◌, ◌≤◌, ◌<◌, ◌-◌, ◌+◌, length, Ok, Err, IfOk};
 ghost use Rattle.std.specs.Option.{option_copied};
-ghost use Rattle.mesh_atoms.specs.Reading.{Reads, octet_at, short_at};
+ghost use Rattle.mesh_atoms.specs.Reading.{Reads};
 ghost use Rattle.mesh_tlv.specs.Reading.{is_sound, flags_at, extension_at, index_octet_at, indexes_at, length_at, value_at, part_count};
 
-use crate::codes::{
-    BLOCK_LENGTH, EXTENSION, MULTI_INDEX, MULTI_VALUE, SINGLE_INDEX, TLV_FLAGS, TLV_INDEX,
-    TLV_VALUE, VALUE, WIDE_LENGTH,
-};
-use mesh_atoms::Refusal;
-
-/// The fault of the field at a place.
-pub fn refuse(place: usize, reason: u8) -> Refusal
-    ensures { result ≡ record { place = place; reason = reason } }
-{
-    Refusal { place, reason }
-}
-
-/// One octet.
-pub fn octet(frame: &[u8], at: usize, end: usize) -> Result<(u8, usize), Refusal>
-    requires { end ≤ length frame.now }
-    ensures exact { result ≡ octet_at 4 frame.now at end }
-    ensures after { IfOk result (λ x. (x.1 ≤ end) × (at < x.1)) }
-{
-    if at < end {
-        Ok((frame[at], at + 1))
-    } else {
-        Err(refuse(at, BLOCK_LENGTH))
-    }
-}
-
-/// A number of 16 bits, the high octet first.
-pub fn short(frame: &[u8], at: usize, end: usize, reason: u8) -> Result<(u16, usize), Refusal>
-    requires at { at ≤ end }
-    requires end { end ≤ length frame.now }
-    ensures exact { result ≡ short_at reason frame.now at end }
-    ensures after { IfOk result (λ x. (x.1 ≤ end) × (at < x.1)) }
-{
-    if end - at > 1 {
-        Ok((
-            256 * u16::from(frame[at]) + u16::from(frame[at + 1]),
-            at + 2,
-        ))
-    } else {
-        Err(refuse(at, reason))
-    }
-}
+use crate::bits::{EXTENSION, MULTI_INDEX, MULTI_VALUE, SINGLE_INDEX, VALUE, WIDE_LENGTH};
+use mesh_atoms::reason::{BLOCK_LENGTH, TLV_FLAGS, TLV_INDEX, TLV_VALUE};
+use mesh_atoms::{Refusal, read_octet, read_short, refuse};
 
 /// Whether flags break no rule, where those of `barred` aren't taken.
 pub fn flags_are_sound(barred: u8, flags: u8) -> bool
@@ -63,7 +24,7 @@ pub fn flags(barred: u8, frame: &[u8], at: usize, end: usize) -> Result<(u8, usi
     ensures exact { result ≡ flags_at barred frame.now at end }
     ensures after { IfOk result (λ x. (x.1 ≤ end) × (at < x.1)) }
 {
-    let (flags, after) = octet(frame, at, end)?;
+    let (flags, after) = read_octet(frame, at, end, BLOCK_LENGTH)?;
     if flags_are_sound(barred, flags) {
         Ok((flags, after))
     } else {
@@ -80,7 +41,7 @@ pub fn extension(flags: u8, frame: &[u8], at: usize, end: usize) -> Result<(u8, 
     ensures after { IfOk result (λ x. (x.1 ≤ end) × (at ≤ x.1)) }
 {
     if flags & EXTENSION != 0 {
-        octet(frame, at, end)
+        read_octet(frame, at, end, BLOCK_LENGTH)
     } else {
         Ok((0, at))
     }
@@ -100,7 +61,7 @@ pub fn index_from(
     ensures after { IfOk result (λ x. (x.1 ≤ end) × (at < x.1)) }
     ensures within { IfOk result (λ x. (low ≤ x.0) × (x.0 < count)) }
 {
-    let (index, after) = octet(frame, at, end)?;
+    let (index, after) = read_octet(frame, at, end, BLOCK_LENGTH)?;
     if index < low || count <= index {
         Err(refuse(at, TLV_INDEX))
     } else {
@@ -149,10 +110,10 @@ pub fn value_length(
     ensures after { IfOk result (λ x. (x.1 ≤ end) × (at < x.1)) }
 {
     if flags & WIDE_LENGTH != 0 {
-        let (len, after) = short(frame, at, end, BLOCK_LENGTH)?;
+        let (len, after) = read_short(frame, at, end, BLOCK_LENGTH)?;
         Ok((usize::from(len), after))
     } else {
-        let (len, after) = octet(frame, at, end)?;
+        let (len, after) = read_octet(frame, at, end, BLOCK_LENGTH)?;
         Ok((usize::from(len), after))
     }
 }

@@ -4,7 +4,7 @@ ghost use Rattle.std.specs.Option.{option_copied};
 ghost use Rattle.mesh_tlv.specs.Fields.{fields, addr_fields, indexed};
 ghost use Rattle.mesh_tlv.specs.Least.{flag, octet_if, covers_all, is_single, is_several, has_value, is_wide, least_flags, least_index, least_head, least_short, least_length, least_value, least_addr_tlv, least_tlv, Grows};
 
-use crate::codes::{EXTENSION, MULTI_INDEX, MULTI_VALUE, SINGLE_INDEX, VALUE, WIDE_LENGTH};
+use crate::bits::{EXTENSION, MULTI_INDEX, MULTI_VALUE, SINGLE_INDEX, VALUE, WIDE_LENGTH};
 use crate::tlv::{AddrTlv, Tlv};
 use mesh_atoms::Bytes;
 use std::alloc::AllocError;

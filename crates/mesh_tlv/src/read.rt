@@ -8,10 +8,11 @@ ghost use Rattle.mesh_tlv.specs.Least.{IsFit};
 ghost use Rattle.mesh_tlv.specs.Grammar.{SpellsTlvBlock, SpellsAddrTlvBlock, TlvBlockFault, AddrTlvBlockFault};
 ghost use Rattle.mesh_tlv.specs.Reading.{tlv_of_at, addr_tlv_at, tlv_at, range_at, block_at};
 
-use crate::codes::{ADDRESS_FLAGS, BLOCK_LENGTH, MULTI_VALUE, SHORT};
-use crate::field::{extension, flags, indexes, octet, parts, refuse, short, value};
+use crate::bits::{ADDRESS_FLAGS, MULTI_VALUE};
+use crate::field::{extension, flags, indexes, parts, value};
 use crate::tlv::{AddrTlv, Tlv};
-use mesh_atoms::{DecodeFault, Refusal, Seq};
+use mesh_atoms::reason::{BLOCK_LENGTH, SHORT};
+use mesh_atoms::{DecodeFault, Refusal, Seq, read_octet, read_short, refuse};
 use std::alloc::Global;
 
 /// What one kind of TLV takes: no flags of `barred`, and indexes below `count`.
@@ -35,7 +36,7 @@ fn read_tlv_of<'a>(
     ensures after { IfOk result (λ x. (x.1 ≤ end) × (at < x.1)) }
 {
     let Form { barred, count } = form;
-    let (kind, at) = octet(frame, at, end)?;
+    let (kind, at) = read_octet(frame, at, end, BLOCK_LENGTH)?;
     let (flags, at) = flags(barred, frame, at, end)?;
     let (ext, at) = extension(flags, frame, at, end)?;
     let ((first, last), at) = indexes(flags, count, frame, at, end)?;
@@ -84,7 +85,7 @@ fn range(frame: &[u8], at: usize, end: usize) -> Result<(usize, usize), Refusal>
     ensures exact { result ≡ range_at frame.now at end }
     ensures after { IfOk result (λ x. (at ≤ x.0) × (x.0 ≤ x.1) × (x.1 ≤ end)) }
 {
-    let (len, start) = short(frame, at, end, SHORT)?;
+    let (len, start) = read_short(frame, at, end, SHORT)?;
     let len = usize::from(len);
     if end - start < len {
         return Err(refuse(at, BLOCK_LENGTH));
