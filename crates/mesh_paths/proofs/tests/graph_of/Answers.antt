@@ -1,4 +1,4 @@
-use Rattle.std.proofs.Common.{◌≡◌, ◌+◌, ◌++◌, ◌≤◌, inl, inr, ap, subst, arith, List, [], ◌∷◌, length, length-append, Contains}
+use Rattle.std.proofs.Common.{◌≡◌, ◌++◌, ◌≤◌, inl, inr, ap, subst, arith, List, [], ◌∷◌, length, length-append, Contains}
 use Rattle.std.proofs.lemmas.List.Elements.{Contains-push_cases}
 use Rattle.mesh_atoms.specs.declared.graphs.Arc4.{Arc4}
 use Rattle.mesh_paths.proofs.tests.graph_of.Goals as goal
