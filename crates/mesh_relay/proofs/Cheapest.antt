@@ -1,11 +1,11 @@
 -- The ways that are kept are the cheapest ones.
-use Rattle.std.proofs.Common.{◌≡◌, ℕ, ◌+◌, ◌-◌, ◌≤◌, ◌<◌, ◌⊎◌, Bool, true, false, ◌&&◌, ◌||◌, cond, nat_eq, nat_lt, List, [], ◌∷◌, Option, Some, None, length, get_or, zero, suc, refl, sym, ◌∙◌, ap, subst, inl, inr, arith, All, Ordering, Less, Equal, Greater}
+use Rattle.std.proofs.Common.{◌≡◌, ℕ, ◌+◌, ◌≤◌, ◌<◌, ◌⊎◌, Bool, true, false, ◌||◌, cond, nat_eq, nat_lt, List, [], ◌∷◌, Some, None, length, get_or, suc, refl, sym, ◌∙◌, ap, subst, inl, inr, arith, All, Ordering, Less, Equal, Greater}
 use Rattle.std.specs.Prelude.{Contains, filter_map, IsPermutation}
 use Rattle.std.specs.List.{dedup, dedup_from}
 use Rattle.std.specs.List.Sorted.{IsSorted}
 use Rattle.std.specs.Ordering.{MatchOrdering, nat_cmp, ordering_then, is_lt}
 use Rattle.std.proofs.lemmas.Cmp.{ranked}
-use Rattle.std.proofs.lemmas.Bool.{false≢true, true≢false, and_parts, and_from, or_cases, or_left, ltb-true, lt-ltb, eqb-true, cases_lt, cases_Bool}
+use Rattle.std.proofs.lemmas.Bool.{false≢true, true≢false, and_parts, and_from, or_cases, or_left, ltb-true, lt-ltb, eqb-true, cases_lt}
 use Rattle.std.proofs.lemmas.List.Elements.{Contains-get_or}
 use Rattle.std.proofs.lemmas.List.Sorted.{Contains-permutation, IsPermutation-sym}
 use Rattle.mesh_atoms.specs.declared.addr.Addr4.{Addr4}
@@ -17,7 +17,7 @@ use Rattle.mesh_relay.specs.declared.ways.Way.{Way}
 use Rattle.mesh_relay.specs.Tests.{same, is_direct_within}
 use Rattle.mesh_relay.specs.Ways.{AreWilling, IsAt, IsDirect, IsCheapest, HasWay, RisesFrom, AreWays, way_at, way_from, adds_nothing}
 use Rattle.mesh_relay.proofs.Decide.{Decides-same, Decides-direct}
-use Rattle.mesh_relay.proofs.Lists.{none_within, cons_cases, cons_more, cons_first, given_by, gives, dedup_cases, dedup_within, joined, kept_within}
+use Rattle.mesh_relay.proofs.Lists.{none_within, cons_cases, cons_more, cons_first, given_by, gives, dedup_within, joined, kept_within}
 use Rattle.mesh_relay.proofs.Willing.{one_near}
 
 -- Ways in order

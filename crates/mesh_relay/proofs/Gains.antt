@@ -7,7 +7,7 @@ use Rattle.mesh_atoms.specs.declared.graphs.Near.{Near}
 use Rattle.mesh_atoms.specs.declared.graphs.NeighbourGraph.{NeighbourGraph}
 use Rattle.mesh_atoms.specs.Relays.{Covers}
 use Rattle.mesh_relay.specs.declared.ways.Way.{Way}
-use Rattle.mesh_relay.specs.Ways.{AreWilling, IsAt, AreWays}
+use Rattle.mesh_relay.specs.Ways.{AreWilling, AreWays}
 use Rattle.mesh_relay.specs.Taken.{ids_of, IsTaken, AreAllTaken, IsFree, free_count, is_better, IsBest, reaches}
 use Rattle.mesh_relay.proofs.Taken.{HasAlways, covers_taken, covers_all}
 

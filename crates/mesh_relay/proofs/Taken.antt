@@ -1,22 +1,21 @@
 -- Flags and the ids that they stand for.
-use Rattle.std.proofs.Common.{◌≡◌, ℕ, ◌+◌, ◌≤◌, ◌<◌, ◌≢◌, ◌⊎◌, Bool, true, false, cond, List, [], ◌∷◌, ◌++◌, length, drop, get_or, zero, suc, refl, sym, ◌∙◌, ap, subst, inl, inr, arith}
+use Rattle.std.proofs.Common.{◌≡◌, ℕ, ◌+◌, ◌≤◌, ◌<◌, ◌⊎◌, Bool, true, false, cond, List, [], ◌∷◌, ◌++◌, length, drop, get_or, zero, suc, refl, sym, ◌∙◌, ap, subst, inl, inr, arith}
 use Rattle.std.specs.Prelude.{Contains, AllPairs, map}
 use Rattle.std.proofs.lemmas.Bool.{false≢true, cases_Bool}
 use Rattle.std.proofs.lemmas.List.{drop_more, append_assoc, get_or-map}
 use Rattle.std.proofs.lemmas.List.Elements.{Contains-get_or}
 use Rattle.mesh_atoms.specs.declared.addr.Addr4.{Addr4}
 use Rattle.mesh_atoms.specs.declared.graphs.Near.{Near}
-use Rattle.mesh_atoms.specs.declared.graphs.Direct.{Direct}
 use Rattle.mesh_atoms.specs.declared.graphs.Far.{Far}
 use Rattle.mesh_atoms.specs.declared.graphs.NeighbourGraph.{NeighbourGraph}
-use Rattle.mesh_atoms.specs.Relays.{Offers, IsWilling, IsRelay, IsOtherRelay, IsAsCheap, Covers, IsAscending, HasDistinctIds}
+use Rattle.mesh_atoms.specs.Relays.{Offers, IsWilling, IsRelay, IsAsCheap, Covers, IsAscending, HasDistinctIds}
 use Rattle.mesh_relay.specs.declared.ways.Way.{Way}
-use Rattle.mesh_relay.specs.Ways.{AreWilling, IsAt, IsDirect, IsCheapest, AreWays}
+use Rattle.mesh_relay.specs.Ways.{AreWilling, IsAt, IsCheapest, AreWays}
 use Rattle.mesh_relay.specs.Taken.{ids_of, IsTaken, reaches}
 use Rattle.mesh_relay.proofs.Decide.{OffersWithin}
 use Rattle.mesh_relay.proofs.Lists.{none_within, cons_cases, cons_more, cons_first}
 use Rattle.mesh_relay.proofs.Hits.{all_hit, one_missed}
-use Rattle.mesh_relay.proofs.Willing.{one_place, one_near, later_order}
+use Rattle.mesh_relay.proofs.Willing.{one_place, later_order}
 
 -- Ids
 

@@ -1,5 +1,5 @@
 -- The willing neighbours in order.
-use Rattle.std.proofs.Common.{◌≡◌, ℕ, ◌+◌, ◌≤◌, ◌<◌, ◌⊎◌, Bool, true, false, cond, not, nat_eq, List, [], ◌∷◌, length, get_or, zero, suc, refl, sym, ◌∙◌, ap, subst, inl, inr, arith}
+use Rattle.std.proofs.Common.{◌≡◌, ℕ, ◌≤◌, ◌<◌, Bool, true, false, cond, not, nat_eq, List, [], ◌∷◌, get_or, zero, suc, refl, sym, ◌∙◌, ap, subst, inl, inr, arith}
 use Rattle.std.specs.Prelude.{Contains, AllPairs, filter, IsPermutation}
 use Rattle.std.specs.List.{dedup, dedup_from}
 use Rattle.std.specs.List.Sorted.{IsNonDecreasingBy}
@@ -13,7 +13,7 @@ use Rattle.mesh_atoms.specs.declared.graphs.NeighbourGraph.{NeighbourGraph}
 use Rattle.mesh_atoms.specs.Relays.{IsWilling, HasDistinctIds}
 use Rattle.mesh_relay.specs.Ways.{AreWilling, IsAt}
 use Rattle.mesh_relay.proofs.Decide.{Decides-not, Decides-equal}
-use Rattle.mesh_relay.proofs.Lists.{none_within, cons_cases, cons_more, cons_first, passes, stays, dedup_cases, kept_within, joined}
+use Rattle.mesh_relay.proofs.Lists.{none_within, cons_cases, passes, stays, dedup_cases, kept_within, joined}
 
 abbrev pub has_same_id : Near → Near → Bool
 has_same_id next last = nat_eq next.id.0 last.id.0

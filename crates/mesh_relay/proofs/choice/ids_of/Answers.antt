@@ -1,6 +1,4 @@
-use Rattle.std.proofs.Common.{◌≡◌, ◌++◌, drop, sym, subst, List, arith}
-use Rattle.mesh_atoms.specs.declared.addr.Addr4.{Addr4}
-use Rattle.mesh_relay.specs.Taken.{ids_of}
+use Rattle.std.proofs.Common.{arith}
 use Rattle.mesh_relay.proofs.Taken.{ids_more_taken, ids_more_untaken}
 use Rattle.mesh_relay.proofs.choice.ids_of.Goals as goal
 use Rattle.mesh_relay.proofs.choice.ids_of.Goals.{then-taken-place+in_ok-push, else-taken-place}
