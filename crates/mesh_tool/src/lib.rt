@@ -5,6 +5,8 @@ mod dump;
 mod lines;
 mod say;
 mod status;
+#[cfg(test)]
+mod tests;
 mod top;
 mod words;
 
