@@ -1,6 +1,5 @@
 -- When two networks are the same.
-use Rattle.std.proofs.Common.{◌≡◌, ℕ, ◌-◌, ◌≤◌, ◌^◌, ◌%◌, Bool, true, false, refl, ap, subst, ◌∙◌}
-use Rattle.std.specs.Prelude.{◌&&◌}
+use Rattle.std.proofs.Common.{◌≡◌, ℕ, ◌-◌, ◌≤◌, ◌^◌, ◌%◌, true, ap, subst, ◌∙◌}
 use Rattle.std.specs.Coded.{le_prop, Coded-set, coded_ℕ}
 use Rattle.std.proofs.lemmas.Bool.{eqb-true}
 use Rattle.mesh_atoms.specs.declared.addr.Addr4.{Addr4}

@@ -1,9 +1,8 @@
 //! The settings of a router, and the scenario of a network.
-ghost use Rattle.std.specs.Prelude.{◌≡◌, ℕ, ◌≤◌, ◌<◌, ◌^◌, length, map, IsTrue, IfOk, nat_lt, nat_le, ◌&&◌};
+ghost use Rattle.std.specs.Prelude.{◌≡◌, ◌≤◌, ◌<◌, ◌^◌, length, map, IsTrue, IfOk};
 ghost use Rattle.std.specs.Option.{ForSome};
 ghost use Rattle.std.specs.List.{flat_map, list_all};
-ghost use Rattle.mesh_atoms.specs.Base.{addr_eq};
-ghost use Rattle.mesh_atoms.specs.Settings.{one_millisecond, one_hour, longest_delay, is_addressed, are_distinct, IsInterval, IsTimes, IsEnd, IsInterface, IsRouter, are_senders, AreRouters, AreArcs};
+ghost use Rattle.mesh_atoms.specs.Settings.{one_millisecond, one_hour, longest_delay, IsTimes, IsEnd, IsInterface, IsRouter, are_senders, AreRouters, AreArcs};
 
 use crate::{Addr4, Bytes, Endpoint, Metric, NetAddr, Seq, Willing};
 use std::alloc::AllocError;

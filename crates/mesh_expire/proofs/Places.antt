@@ -4,7 +4,7 @@ use Rattle.std.specs.Prelude.{remove, insert, slice_get, slice_set, option_map, 
 use Rattle.std.specs.List.{IsDistinct, AllByRecursion, list_any, filter}
 use Rattle.std.specs.Cmp.{IsEquivalence}
 use Rattle.std.specs.Map.{lookup, remove_entry, keys_of}
-use Rattle.std.proofs.lemmas.Map.{lookup-none, none_passes_from_lookup, lookup-insert, lookup-remove_entry}
+use Rattle.std.proofs.lemmas.Map.{none_passes_from_lookup, lookup-insert, lookup-remove_entry}
 use Rattle.std.proofs.lemmas.Map.Made.{is_some-lookup}
 use Rattle.std.proofs.lemmas.Map.Keys.{IsDistinct-push, IsDistinct-tail}
 use Rattle.std.proofs.lemmas.Map.Entries.{lookup-filter-values, lookup_from_place, option_filter}

@@ -1,6 +1,6 @@
 //! Callers over any table.
-ghost use Rattle.std.specs.Prelude.{◌≡◌, ◌+◌, ◌<◌, ℕ, [], length, true, false, cond, if◌then◌else◌, is_some, map, IfOk, OnOk, OnErr, IsTrue, IsSome, IfSome, IfNone, ◌↔◌, slice_get, option_map, Some, None};
-ghost use Rattle.mesh_atoms.specs.Base.{Base, HasDistinctKeys, find, SetsOnly, Expires, two_hop_eq, link_eq, address_eq};
+ghost use Rattle.std.specs.Prelude.{◌≡◌, length, if◌then◌else◌, map, IsTrue, IsSome, IfSome, IfNone, ◌↔◌, None};
+ghost use Rattle.mesh_atoms.specs.Base.{find, Expires, two_hop_eq, link_eq};
 ghost use Rattle.mesh_expire.specs.Table.{changed_at};
 
 use crate::table::{Key, Table};
@@ -59,7 +59,7 @@ pub fn first_of<T: Table<TwoHopKey, TwoHop>>(table: &T, link: LinkKey) -> Option
 
 /// Takes out the tuples of a link.
 pub fn drop_link<T: Table<TwoHopKey, TwoHop>>(table: &mut T, link: LinkKey)
-    ensures { (q : _) → find two_hop_eq (T.content table.new) q ≡ cond (link_eq q.link link) None (find two_hop_eq (T.content table.old) q) }
+    ensures { (q : _) → find two_hop_eq (T.content table.new) q ≡ (if link_eq q.link link then None else find two_hop_eq (T.content table.old) q) }
 {
     while let Some(key) = first_of(table, link) {
         table.remove(&key);

@@ -1,4 +1,4 @@
-use Rattle.std.proofs.Common.{◌≡◌, ℕ, ◌<◌, false, length}
+use Rattle.std.proofs.Common.{◌≡◌, false, length}
 use Rattle.mesh_atoms.specs.Base.{link_eq, find, two_hop_eq}
 use Rattle.mesh_expire.proofs.callers.drop_link.Given as goal
 

@@ -1,4 +1,4 @@
-use Rattle.std.proofs.Common.{◌≡◌, refl, ap, sym, ◌∙◌}
+use Rattle.std.proofs.Common.{ap, sym, ◌∙◌}
 use Rattle.mesh_expire.proofs.Laws.{changed_at-agrees, changed_at-absent, found_none, found_some}
 use Rattle.mesh_atoms.specs.declared.tuples.AddressTuple.{AddressTuple}
 use Rattle.mesh_expire.proofs.callers.renumber.Goals as goal

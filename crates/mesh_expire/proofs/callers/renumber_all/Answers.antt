@@ -1,5 +1,5 @@
-use Rattle.std.proofs.Common.{sym, arith, ap, subst, ◌≡◌}
-use Rattle.mesh_atoms.specs.Base.{address_eq, HasDistinctKeys}
+use Rattle.std.proofs.Common.{sym, arith}
+use Rattle.mesh_atoms.specs.Base.{address_eq}
 use Rattle.mesh_atoms.specs.contracts.tuples.AddressKeyEq.TheImpl.Laws.{laws-law}
 use Rattle.mesh_expire.proofs.Laws.{walk_changed, distinct-changed_at}
 use Rattle.mesh_expire.proofs.callers.renumber_all.Goals as goal
