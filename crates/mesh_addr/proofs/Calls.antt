@@ -1,5 +1,5 @@
 -- The laws of a block, as callers of the reader see them.
-use Rattle.std.proofs.Common.{◌≡◌, ℕ, ◌+◌, ◌-◌, ◌<◌, ◌≤◌, List, ◌++◌, length, Result, Ok, Err, sym, ap, subst, arith}
+use Rattle.std.proofs.Common.{◌≡◌, ℕ, ◌+◌, ◌-◌, ◌<◌, ◌≤◌, List, ◌++◌, length, Result, Ok, sym, ap, subst, arith}
 use Rattle.std.specs.Prelude.{IfOk, IfErr, MatchResult, slice_range}
 use Rattle.mesh_atoms.specs.declared.refusal.Refusal.{Refusal}
 use Rattle.mesh_atoms.specs.declared.refusal.DecodeFault.{DecodeFault}

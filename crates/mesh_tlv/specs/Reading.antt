@@ -1,7 +1,6 @@
 -- How a TLV block is read, field by field, each with the place after it. Grammar says what it is, and what the flags
 -- and reasons are.
-use Rattle.std.specs.Prelude.{◌≡◌, ℕ, ◌+◌, ◌-◌, ◌%◌, List, slice_range, Option, Some, None, Result, Ok, Err, Bool, not, ◌&&◌, ◌||◌, nat_lt, nat_le, ◌==◌, if◌then◌else◌, bit_and}
-use Rattle.mesh_atoms.specs.declared.refusal.Refusal.{Refusal}
+use Rattle.std.specs.Prelude.{ℕ, ◌+◌, ◌-◌, ◌%◌, List, slice_range, Option, Some, None, Ok, Bool, not, ◌&&◌, ◌||◌, nat_lt, nat_le, ◌==◌, if◌then◌else◌, bit_and}
 use Rattle.mesh_atoms.specs.Reading.{◌>>=◌, Reading, refuse, has, octet_at, short_at}
 use Rattle.mesh_tlv.specs.Fields.{TlvFields, AddrTlvFields, unindexed}
 use Rattle.mesh_tlv.specs.Items.{items_at}
