@@ -1,12 +1,9 @@
+-- What calls of a source or a sink, one after the other, took and put in all.
 use Rattle.std.proofs.Common.{◌≡◌, ℕ, ◌+◌, ◌-◌, ◌≤◌, List, [], ◌++◌, length, take, drop, arith, Option, Some, None, refl, sym, ap, ◌∙◌, append_assoc}
 use Rattle.std.specs.Io.KnownBytes.{Consumes, Appends, Keeps}
 use Rattle.std.proofs.lemmas.List.{append-nil, take_all, take_at, take-append-drop, length-append, length-take, length-drop}
 use Rattle.std.proofs.Math.Seq.{take-append-add}
 use Rattle.std.proofs.lemmas.List.Folds.{drop_split}
-
-pub consumes_none : (o : Option (List ℕ)) → Consumes o o []
-consumes_none None = tt
-consumes_none (Some left) = refl
 
 -- what was taken, and then more
 pub consumes_more : (a b c : Option (List ℕ)) (x y : List ℕ) → Consumes a b x → Consumes b c y → Consumes a c (x ++ y)
@@ -15,28 +12,12 @@ consumes_more (Some l) None c x y h k = absurd h
 consumes_more (Some l) (Some m) None x y h k = absurd k
 consumes_more (Some l) (Some m) (Some n) x y h k = h ∙ ap (λ (r : List ℕ). x ++ r) k ∙ sym (append_assoc x y n)
 
--- what was taken, where the rest stays
-pub consumes_keeps : (a b c : Option (List ℕ)) (x : List ℕ) → Consumes a b x → Keeps b c → Consumes a c x
-consumes_keeps None b c x h k = tt
-consumes_keeps (Some l) None c x h k = absurd h
-consumes_keeps (Some l) (Some m) None x h k = absurd k
-consumes_keeps (Some l) (Some m) (Some n) x h k = h ∙ ap (λ (r : List ℕ). x ++ r) (sym k)
-
-pub appends_none : (o : Option (List ℕ)) → Appends o o []
-appends_none None = tt
-appends_none (Some x) = sym (append-nil x)
-
+-- what was put, and then more
 pub appends_more : (a b c : Option (List ℕ)) (x y : List ℕ) → Appends a b x → Appends b c y → Appends a c (x ++ y)
 appends_more None b c x y h k = tt
 appends_more (Some l) None c x y h k = absurd h
 appends_more (Some l) (Some m) None x y h k = absurd k
 appends_more (Some l) (Some m) (Some n) x y h k = k ∙ ap (λ (r : List ℕ). r ++ y) h ∙ append_assoc l x y
-
-pub appends_keeps : (a b c : Option (List ℕ)) (x : List ℕ) → Appends a b x → Keeps b c → Appends a c x
-appends_keeps None b c x h k = tt
-appends_keeps (Some l) None c x h k = absurd h
-appends_keeps (Some l) (Some m) None x h k = absurd k
-appends_keeps (Some l) (Some m) (Some n) x h k = k ∙ h
 
 -- the front that was put, and the front of the rest
 pub front_more : (bytes : List ℕ) (done n : ℕ) → done ≤ length bytes → n ≤ length (take (length bytes - done) (drop done bytes)) → (done + n ≤ length bytes) × (take done bytes ++ take n (take (length bytes - done) (drop done bytes)) ≡ take (done + n) bytes)
@@ -46,6 +27,7 @@ front_more bytes done n le fits =
     let whole : take (length (take done bytes) + n) (take done bytes ++ drop done bytes) ≡ take done bytes ++ take n (drop done bytes) = take-append-add (take done bytes) (drop done bytes) n in
     (omega (arith, length-drop done bytes, ap length rest), rw rest (sym whole ∙ rw (take-append-drop done bytes, len) refl))
 
+-- what was put so far, and the next piece of the rest
 pub content_more : (a b c : Option (List ℕ)) (bytes : List ℕ) (done n : ℕ) → done ≤ length bytes → n ≤ length (take (length bytes - done) (drop done bytes)) → Appends a b (take done bytes) → Appends b c (take n (take (length bytes - done) (drop done bytes))) → Appends a c (take (done + n) bytes)
 content_more a b c bytes done n le fits so_far now = rw (← (front_more bytes done n le fits).1) (appends_more a b c (take done bytes) _ so_far now)
 

@@ -27,7 +27,8 @@ impl Model for MemSource {
 
     ghost Value = { SourceState };
 
-    ghost view = { λ s. record { left = drop s.at s.bytes; taken = s.at; calls = s.calls; fails = s.fails; faults = s.faults } };
+    ghost view = { λ s. record {
+        left = drop s.at s.bytes; taken = s.at; calls = s.calls; fails = s.fails; faults = s.faults } };
 
     ghost invariant = { λ s. s.at ≤ length s.bytes };
 }
@@ -35,7 +36,8 @@ impl Model for MemSource {
 impl MemSource {
     /// A source that has these octets left; its calls with the numbers in `fails`, counted from 1, fail. Takes no memory.
     pub fn new(bytes: Bytes, fails: Seq<u64>) -> MemSource
-        ensures { result ≡ record { left = bytes; taken = 0; calls = 0; fails = fails; faults = 0 } }
+        ensures { result
+            ≡ record { left = bytes; taken = 0; calls = 0; fails = fails; faults = 0 } }
     {
         MemSource {
             bytes,
@@ -65,7 +67,8 @@ impl Source for MemSource {
         ensures failed { (result ≡ Took.Failed) ↔ IsTrue (fails_at self.old.fails self.new.calls) }
         ensures calls { self.new.calls ≡ one_more self.old.calls }
         ensures fails { self.new.fails ≡ self.old.fails }
-        ensures faults { self.new.faults ≡ (if fails_at self.old.fails self.new.calls then one_more self.old.faults else self.old.faults) }
+        ensures faults { self.new.faults ≡ (if fails_at self.old.fails self.new.calls
+            then one_more self.old.faults else self.old.faults) }
     {
         self.calls = self.calls.saturating_add(1);
         if self.fails.as_slice().contains(&self.calls) {
@@ -99,7 +102,9 @@ impl Model for MemSink {
 
     ghost Value = { SinkState };
 
-    ghost view = { λ s. record { content = take s.used s.store.items; room = length s.store.items - s.used; calls = s.calls; fails = s.fails; faults = s.faults } };
+    ghost view = { λ s. record {
+        content = take s.used s.store.items; room = length s.store.items - s.used;
+        calls = s.calls; fails = s.fails; faults = s.faults } };
 
     ghost invariant = { λ s. s.used ≤ length s.store.items };
 }
@@ -108,7 +113,8 @@ impl MemSink {
     /// An empty sink with a room of `room` octets; its calls with the numbers in `fails`, counted from 1, fail. Takes all the
     /// memory that it will need.
     pub fn new(alloc: Global, room: usize, fails: Seq<u64>) -> Result<MemSink, AllocError>
-        ensures { IfOk result (λ sink. sink ≡ record { content = []; room = room; calls = 0; fails = fails; faults = 0 }) }
+        ensures { IfOk result (λ sink. sink
+            ≡ record { content = []; room = room; calls = 0; fails = fails; faults = 0 }) }
     {
         Ok(MemSink {
             store: vec![in alloc; 0; room]?,
@@ -139,10 +145,12 @@ impl Sink for MemSink {
         ensures whole { (n : ℕ) → result ≡ Put.Took n → n ≡ length bytes.now }
 
         // The calls in the list fail, and those whose octets don't fit the room that is left.
-        ensures failed { (result ≡ Put.Failed) ↔ IsTrue (is_refused self.old.fails self.new.calls self.old.room (length bytes.now)) }
+        ensures failed { (result ≡ Put.Failed)
+            ↔ IsTrue (is_refused self.old.fails self.new.calls self.old.room (length bytes.now)) }
         ensures calls { self.new.calls ≡ one_more self.old.calls }
         ensures fails { self.new.fails ≡ self.old.fails }
-        ensures faults { self.new.faults ≡ (if is_refused self.old.fails self.new.calls self.old.room (length bytes.now) then one_more self.old.faults else self.old.faults) }
+        ensures faults { self.new.faults ≡ (if is_refused self.old.fails self.new.calls self.old.room (length bytes.now)
+            then one_more self.old.faults else self.old.faults) }
         ensures room { self.new.room + length self.new.content ≡ self.old.room + length self.old.content }
     {
         self.calls = self.calls.saturating_add(1);

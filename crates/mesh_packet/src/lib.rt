@@ -137,7 +137,8 @@ pub fn decode(frame: &[u8]) -> Result<Packet, Refusal>
 
     // What is refused has its first fault there, and what has a first fault there is refused so.
     ensures refused { IfErr result (λ e. FirstFault frame.now e.place e.reason) }
-    ensures first { (place reason : ℕ) → FirstFault frame.now place reason → result ≡ Err (record { place = place; reason = reason }) }
+    ensures first { (place reason : ℕ) → FirstFault frame.now place reason →
+        result ≡ Err (record { place = place; reason = reason }) }
 
     // The same as a function of the frame.
     ensures exact { result ≡ packet_of frame.now }

@@ -42,9 +42,3 @@ lines-no_feed text some e =
     ap lines_of_parts (slice_split_none p text none)
     ∙ one_part text some
     ∙ ap (λ (rest : List ℕ). text ∷ lines rest) (sym (drop_all (length text) text (omega arith)))
-
--- the same from a place in an input
-pub lines-at : (input line : List ℕ) (at used : ℕ) → lines (take (length input - at) (drop at input)) ≡ line ∷ lines (drop used (take (length input - at) (drop at input))) → lines (drop at input) ≡ line ∷ lines (drop (at + used) input)
-lines-at input line at used e =
-    let rest : take (length input - at) (drop at input) ≡ drop at input = take_all (length input - at) (drop at input) (omega (arith, length-drop at input)) in
-    sym (ap lines rest) ∙ e ∙ ap (λ (l : List ℕ). line ∷ lines (drop used l)) rest ∙ ap (λ (l : List ℕ). line ∷ lines l) (drop-drop used at input)

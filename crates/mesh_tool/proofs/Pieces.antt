@@ -25,14 +25,6 @@ pub on_err : {A E P Q : Type 0} (r : Result A E) → (P → Q) → OnErr r P →
 on_err (Ok x) f p = tt
 on_err (Err e) f p = f p
 
-pub keeps_same : (o : Option (List ℕ)) → Keeps o o
-keeps_same None = tt
-keeps_same (Some x) = refl
-
-pub appends_none : (o : Option (List ℕ)) → Appends o o []
-appends_none None = tt
-appends_none (Some x) = sym (append-nil x)
-
 -- a front of `x` is a front of `x ++ y`
 pub front_first : (a b : Option (List ℕ)) (x y : List ℕ) → (n : ℕ) × Appends a b (take n x) → (n : ℕ) × Appends a b (take n (x ++ y))
 front_first a b x y (n, h) = by (ltb (length x) n) refl where

@@ -120,7 +120,8 @@ fn put_lines(alloc: Global, out: &mut Bytes, input: &[u8]) -> Result<Counts, All
 
 // Lists the input on `out`. Nothing is written before the whole text is there.
 pub fn dump<O: Sink>(alloc: Global, input: &[u8], out: &mut O) -> Status
-    ensures lists { Lists (O.content out.old) (O.content out.new) (O.faults out.old) (O.faults out.new) input.now result }
+    ensures lists { Lists (O.content out.old) (O.content out.new) (O.faults out.old) (O.faults out.new)
+        input.now result }
     ensures later { O.faults out.old ≤ O.faults out.new }
 {
     let mut text = Bytes::new(alloc);
