@@ -22,12 +22,18 @@ const MOST_OCTETS: usize = 67_108_864;
 // Does the job that the words ask for, and tells no fault.
 fn does<S: Source, O: Sink>(alloc: Global, words: &[String], input: &mut S, out: &mut O) -> Status
     ensures does { Does (record {
-        words = texts words.now;
-        left = S.left input.old; left' = S.left input.new;
-        taken = S.taken input.old; taken' = S.taken input.new;
-        read_faults = S.faults input.old; read_faults' = S.faults input.new;
-        content = O.content out.old; content' = O.content out.new;
-        write_faults = O.faults out.old; write_faults' = O.faults out.new }) result }
+      words = texts words.now;
+      left = S.left input.old;
+      left' = S.left input.new;
+      taken = S.taken input.old;
+      taken' = S.taken input.new;
+      read_faults = S.faults input.old;
+      read_faults' = S.faults input.new;
+      content = O.content out.old;
+      content' = O.content out.new;
+      write_faults = O.faults out.old;
+      write_faults' = O.faults out.new;
+    }) result }
     ensures later_input { S.faults input.old ≤ S.faults input.new }
     ensures later_out { O.faults out.old ≤ O.faults out.new }
 {
@@ -74,12 +80,12 @@ pub fn mesh_top<S: Source, O: Sink, E: Sink>(
         Rose (O.faults out.old) (O.faults out.new) ⊎ Rose (E.faults err.old) (E.faults err.new) }
     ensures part { result ≡ Status.Write →
         ((octets : List ℕ)
-            × IsInput (S.left input.old) (S.left input.new) (S.taken input.old) (S.taken input.new) octets
-            × (n : ℕ) × Appends (O.content out.old) (O.content out.new) (take n (DumpText octets))
-            × Appends (E.content err.old) (E.content err.new) [])
+        × IsInput (S.left input.old) (S.left input.new) (S.taken input.old) (S.taken input.new) octets
+        × (n : ℕ) × Appends (O.content out.old) (O.content out.new) (take n (DumpText octets))
+        × Appends (E.content err.old) (E.content err.new) [])
         ⊎ ((fault : Status) × (n : ℕ)
-            × Appends (E.content err.old) (E.content err.new) (take n (fault_text (texts words.now) fault))
-            × Keeps (O.content out.old) (O.content out.new)) }
+        × Appends (E.content err.old) (E.content err.new) (take n (fault_text (texts words.now) fault))
+        × Keeps (O.content out.old) (O.content out.new)) }
 
     // The input has more than 67,108,864 octets; one more than these was taken.
     ensures refused { result ≡ Status.Refused → (S.taken input.new ≡ S.taken input.old + 67108865)
