@@ -1,0 +1,152 @@
+-- The fields of a fixed size that a flag says are there: read, spelled and cut off.
+use Rattle.std.proofs.Common.{◌≡◌, ℕ, suc, ◌+◌, ◌*◌, ◌<◌, ◌≤◌, Bool, true, false, List, [], ◌∷◌, ◌++◌, length, Option, Some, None, Ok, refl, sym, ap, subst, ◌∙◌, arith}
+use Rattle.std.specs.Prelude.{MatchResult, slice_range}
+use Rattle.mesh_atoms.specs.declared.refusal.Refusal.{Refusal}
+use Rattle.mesh_atoms.specs.Reading.{Reading, refuse, octet_at, short_at, piece_at}
+use Rattle.mesh_atoms.proofs.Reading.{meets_bind, Takes, takes_none, Stands, octet_takes, octet_again, octet_cut, short_takes, short_again, short_cut, two_long, piece_takes, piece_again, piece_cut}
+use Rattle.mesh_addr.specs.declared.records.RawAddr.{RawAddr}
+use Rattle.mesh_addr.specs.Grammar.{padded}
+use Rattle.mesh_packet.specs.Grammar.{SpellsOctet, SpellsNumber, SpellsOriginator, size_if}
+use Rattle.mesh_packet.specs.Reading.{octet_if, short_if, originator_if}
+
+-- the fault of a field that is cut off
+abbrev pub IsCut : List ℕ → ℕ → ℕ → ℕ → Refusal → Type 0
+IsCut s at end size e = (e ≡ record { place = at; reason = 1 }) × (length (slice_range s at end) < size)
+
+-- what a reader took, and what it spells
+abbrev pub Took : {A : Type 0} → List ℕ → ℕ → ℕ → (A → List ℕ → Type 0) → A × ℕ → Type 0
+Took s at end Says x = (text : List ℕ) × Says x.0 text × Takes s at text x.1 end
+
+-- What the reader of a field of that size keeps: it takes what is spelled, is refused only where it is cut off, takes again
+-- what is spelled, and any octets of that size spell some value.
+pub record IsField {A : Type 0} (read : List ℕ → ℕ → ℕ → Reading A) (Says : A → List ℕ → Type 0) (size : ℕ) : Type 0 where
+  pub takes : (s : List ℕ) (at end : ℕ) → at ≤ end → end ≤ length s → MatchResult (read s at end) (Took s at end Says) (IsCut s at end size)
+  pub again : (s : List ℕ) (at : ℕ) (x : A) (text rest : List ℕ) (end : ℕ) → Stands s at text rest end → Says x text → read s at end ≡ Ok (x, at + length text)
+  pub cut : (s : List ℕ) (at end : ℕ) → end ≤ length s → length (slice_range s at end) < size → read s at end ≡ refuse at 1
+  pub long : (x : A) (text : List ℕ) → Says x text → length text ≡ size
+  pub some : (text : List ℕ) → length text ≡ size → (x : A) × Says x text
+
+pub octet_field : (set : Bool) → IsField (octet_if set) (SpellsOctet set) (size_if set 1)
+unfolding octet_if
+octet_field true = record {
+  takes = λ s at end le fits. meets_bind (octet_at 1 s at end) _ _ (Took s at end (SpellsOctet true)) _ (IsCut s at end 1) (octet_takes 1 s at end fits) (λ e h. (h.0, omega (arith, ap length h.1))) (λ x t. (x.0 ∷ [], refl, t));
+  again = again;
+  cut = λ s at end fits short. rw (octet_cut 1 s at end fits (none (slice_range s at end) short)) refl;
+  long = long;
+  some = some;
+} where
+  again : (s : List ℕ) (at : ℕ) (x : Option ℕ) (text rest : List ℕ) (end : ℕ) → Stands s at text rest end → SpellsOctet true x text → octet_if true s at end ≡ Ok (x, at + length text)
+  again s at (Some n) text rest end h e = rw (octet_again 1 s at end n rest h.fits (rw e at h.parts), e) refl
+  again s at None text rest end h e = absurd e
+
+  none : (l : List ℕ) → length l < 1 → l ≡ []
+  none [] h = refl
+  none (x ∷ l) h = absurd (omega arith)
+
+  long : (x : Option ℕ) (text : List ℕ) → SpellsOctet true x text → length text ≡ 1
+  long (Some n) text e = ap length e
+  long None text e = absurd e
+
+  some : (text : List ℕ) → length text ≡ 1 → (x : Option ℕ) × SpellsOctet true x text
+  some (n ∷ []) e = (Some n, refl)
+  some [] e = absurd (omega arith)
+  some (n ∷ m ∷ l) e = absurd (omega arith)
+octet_field false = record {
+  takes = λ s at end le fits. ([], refl, takes_none s at end le);
+  again = again;
+  cut = λ s at end fits short. absurd (omega arith);
+  long = long;
+  some = some;
+} where
+  again : (s : List ℕ) (at : ℕ) (x : Option ℕ) (text rest : List ℕ) (end : ℕ) → Stands s at text rest end → SpellsOctet false x text → octet_if false s at end ≡ Ok (x, at + length text)
+  again s at None text rest end h e = let z : at ≡ at + length text = omega (arith, ap length e) in ap (λ (k : ℕ). Ok (None, k)) z
+  again s at (Some n) text rest end h e = absurd e
+
+  long : (x : Option ℕ) (text : List ℕ) → SpellsOctet false x text → length text ≡ 0
+  long None text e = ap length e
+  long (Some n) text e = absurd e
+
+  some : (text : List ℕ) → length text ≡ 0 → (x : Option ℕ) × SpellsOctet false x text
+  some [] e = (None, refl)
+  some (n ∷ l) e = absurd (omega arith)
+
+pub number_field : (set : Bool) → IsField (short_if set) (SpellsNumber set) (size_if set 2)
+unfolding short_if
+number_field true = record {
+  takes = λ s at end le fits. meets_bind (short_at 1 s at end) _ _ (Took s at end (SpellsNumber true)) _ (IsCut s at end 2) (short_takes 1 s at end fits) (λ e h. h) (λ x t. t);
+  again = again;
+  cut = λ s at end fits short. rw (short_cut 1 s at end fits short) refl;
+  long = long;
+  some = some;
+} where
+  again : (s : List ℕ) (at : ℕ) (x : Option ℕ) (text rest : List ℕ) (end : ℕ) → Stands s at text rest end → SpellsNumber true x text → short_if true s at end ≡ Ok (x, at + length text)
+  again s at (Some n) text rest end h e = rw (short_again 1 s at end n text rest h.fits e h.parts, two_long n text e) refl
+  again s at None text rest end h e = absurd e
+
+  long : (x : Option ℕ) (text : List ℕ) → SpellsNumber true x text → length text ≡ 2
+  long (Some n) text e = two_long n text e
+  long None text e = absurd e
+
+  some : (text : List ℕ) → length text ≡ 2 → (x : Option ℕ) × SpellsNumber true x text
+  some (a ∷ b ∷ []) e = (Some (256 * a + b), (a, b, refl, refl))
+  some [] e = absurd (omega arith)
+  some (a ∷ []) e = absurd (omega arith)
+  some (a ∷ b ∷ c ∷ l) e = absurd (omega arith)
+number_field false = record {
+  takes = λ s at end le fits. ([], refl, takes_none s at end le);
+  again = again;
+  cut = λ s at end fits short. absurd (omega arith);
+  long = long;
+  some = some;
+} where
+  again : (s : List ℕ) (at : ℕ) (x : Option ℕ) (text rest : List ℕ) (end : ℕ) → Stands s at text rest end → SpellsNumber false x text → short_if false s at end ≡ Ok (x, at + length text)
+  again s at None text rest end h e = let z : at ≡ at + length text = omega (arith, ap length e) in ap (λ (k : ℕ). Ok (None, k)) z
+  again s at (Some n) text rest end h e = absurd e
+
+  long : (x : Option ℕ) (text : List ℕ) → SpellsNumber false x text → length text ≡ 0
+  long None text e = ap length e
+  long (Some n) text e = absurd e
+
+  some : (text : List ℕ) → length text ≡ 0 → (x : Option ℕ) × SpellsNumber false x text
+  some [] e = (None, refl)
+  some (n ∷ l) e = absurd (omega arith)
+
+same : (a : RawAddr) (octets : List ℕ) (prefix : ℕ) → a.octets ≡ octets → a.prefix ≡ prefix → record { octets = octets; prefix = prefix } ≡ a
+same a octets prefix h k = ap (λ (l : List ℕ). record { octets = l; prefix = prefix }) (sym h) ∙ ap (λ (n : ℕ). record { octets = a.octets; prefix = n }) (sym k)
+
+pub originator_field : (set : Bool) (width : ℕ) → IsField (originator_if set width) (SpellsOriginator set width) (size_if set width)
+unfolding originator_if
+originator_field true width = record {
+  takes = λ s at end le fits. meets_bind (piece_at 1 s at end width) _ _ (Took s at end (SpellsOriginator true width)) _ (IsCut s at end width) (piece_takes 1 s at end width le fits) (λ e h. h) (λ x t. (x.0, (t.0, refl, refl), t.1));
+  again = again;
+  cut = λ s at end fits short. rw (piece_cut 1 s at end width fits short) refl;
+  long = long;
+  some = λ text e. (Some (record { octets = padded text; prefix = 8 * width }), (e, refl, refl));
+} where
+  again : (s : List ℕ) (at : ℕ) (x : Option RawAddr) (text rest : List ℕ) (end : ℕ) → Stands s at text rest end → SpellsOriginator true width x text → originator_if true width s at end ≡ Ok (x, at + length text)
+  again s at (Some a) text rest end h e =
+      let piece : piece_at 1 s at end width ≡ Ok (text, at + length text) = subst (λ (n : ℕ). piece_at 1 s at end n ≡ Ok (text, at + length text)) e.0 (piece_again 1 s at text rest end h) in
+      rw piece (ap (λ (r : RawAddr). Ok (Some r, at + length text)) (same a (padded text) (8 * width) e.1 e.2))
+  again s at None text rest end h e = absurd e
+
+  long : (x : Option RawAddr) (text : List ℕ) → SpellsOriginator true width x text → length text ≡ width
+  long (Some a) text e = e.0
+  long None text e = absurd e
+originator_field false width = record {
+  takes = λ s at end le fits. ([], refl, takes_none s at end le);
+  again = again;
+  cut = λ s at end fits short. absurd (omega arith);
+  long = long;
+  some = some;
+} where
+  again : (s : List ℕ) (at : ℕ) (x : Option RawAddr) (text rest : List ℕ) (end : ℕ) → Stands s at text rest end → SpellsOriginator false width x text → originator_if false width s at end ≡ Ok (x, at + length text)
+  again s at None text rest end h e = let z : at ≡ at + length text = omega (arith, ap length e) in ap (λ (k : ℕ). Ok (None, k)) z
+  again s at (Some n) text rest end h e = absurd e
+
+  long : (x : Option RawAddr) (text : List ℕ) → SpellsOriginator false width x text → length text ≡ 0
+  long None text e = ap length e
+  long (Some n) text e = absurd e
+
+  some : (text : List ℕ) → length text ≡ 0 → (x : Option RawAddr) × SpellsOriginator false width x text
+  some [] e = (None, refl)
+  some (n ∷ l) e = absurd (omega arith)

@@ -1,0 +1,76 @@
+-- Messages one after the other, as the loop over them reads them, with where each stands.
+use Rattle.std.proofs.Common.{◌≡◌, ℕ, ◌+◌, ◌-◌, ◌<◌, ◌≤◌, eqb, true, List, [], ◌∷◌, ◌++◌, length, map, Result, Ok, Err, refl, sym, ap, subst, ◌∙◌, arith, length-append}
+use Rattle.std.specs.List.{zip}
+use Rattle.std.proofs.lemmas.List.{map_push}
+use native.Mathlib.Nat.{sub-zero}
+use Rattle.mesh_atoms.specs.declared.refusal.Refusal.{Refusal}
+use Rattle.mesh_atoms.specs.declared.refusal.DecodeFault.{DecodeFault}
+use Rattle.mesh_atoms.specs.declared.refusal.DecodeFault.TheVariants as faults
+use Rattle.mesh_atoms.specs.Reading.{◌>>=◌, Reading, Fails}
+use Rattle.mesh_tlv.specs.Items.{items_at}
+use Rattle.mesh_tlv.proofs.Loop.{with_front, none_before, goes_on, is_done, is_at_end}
+use Rattle.mesh_packet.specs.declared.packet.Span.{Span}
+use Rattle.mesh_packet.specs.Fields.{MessageFields}
+use Rattle.mesh_packet.specs.Reading.{message_at, sized_at, spans_from, messages_at}
+use Rattle.mesh_packet.proofs.Runs.{fails}
+use Rattle.mesh_packet.proofs.Sizes.{zip_push, zip_firsts, zip_seconds, spans_push, total, total_push}
+
+abbrev pub sizes : List Span → List ℕ
+sizes spans = map (λ (s : Span). s.len) spans
+
+long : (ss : List Span) → length ss ≡ length (sizes ss)
+long [] = refl
+long (s ∷ ss) = omega (arith, long ss)
+
+-- what the loop has read after so many turns: these messages, which stand there, up to the place
+pub record SoFar (frame : List ℕ) (at end turns : ℕ) (messages : List MessageFields) (spans : List Span) (place : ℕ) : Type 0 where
+  pub reads : with_front (zip messages (sizes spans)) (items_at (sized_at frame) ((end - at) - turns) place end) ≡ items_at (sized_at frame) (end - at) at end
+  pub as_many : length messages ≡ length spans
+  pub in_row : spans ≡ spans_from at (sizes spans)
+  pub reached : place ≡ at + total (sizes spans)
+
+pub nothing_yet : (frame : List ℕ) (at end : ℕ) → SoFar frame at end 0 [] [] at
+nothing_yet frame at end = record {
+  reads = rw (sub-zero (end - at)) (none_before (items_at (sized_at frame) (end - at) at end));
+  as_many = refl;
+  in_row = refl;
+  reached = omega arith;
+}
+
+fails_on : {A B : Type 0} (read : Result A Refusal) (f : A → Result B Refusal) (fault : DecodeFault) → Fails fault read → Fails fault (read >>= f)
+fails_on read f (faults.Memory e) h = tt
+fails_on read f (faults.Refused e) h = rw h refl
+
+module _ (frame : List ℕ) (at end turns : ℕ) (messages : List MessageFields) (spans : List Span) (place : ℕ) (h : SoFar frame at end turns messages spans place) where
+  pub one_more : turns < end - at → (place ≡ end → ⊥) → (message : MessageFields) (after : ℕ) → message_at frame place end ≡ Ok (message, after) → place ≤ after → SoFar frame at end (turns + 1) (messages ++ message ∷ []) (spans ++ record { start = place; len = after - place } ∷ []) after
+  unfolding sized_at
+  one_more lt apart message after read le =
+      let span : Span = record { start = place; len = after - place } in
+      let size : sizes (spans ++ span ∷ []) ≡ sizes spans ++ (after - place) ∷ [] = map_push (λ (s : Span). s.len) spans span in
+      let one : sized_at frame place end ≡ Ok ((message, after - place), after) = rw read refl in
+      let many : length messages ≡ length (sizes spans) = h.as_many ∙ long spans in
+      record {
+        reads = rw (size, zip_push messages (sizes spans) message (after - place) many) (goes_on (sized_at frame) (zip messages (sizes spans)) (end - at) turns place end _ h.reads lt apart (message, after - place) after one);
+        as_many = omega (arith, h.as_many, length-append messages (message ∷ []), length-append spans (span ∷ []));
+        in_row =
+            rw (size, spans_push at (sizes spans) (after - place))
+            (ap (λ (l : List Span). l ++ span ∷ []) h.in_row ∙ ap (λ (k : ℕ). spans_from at (sizes spans) ++ record { start = k; len = after - place } ∷ []) h.reached);
+        reached = rw size (omega (arith, h.reached, total_push (sizes spans) (after - place)));
+      }
+
+  both : items_at (sized_at frame) (end - at) at end ≡ Ok (zip messages (sizes spans), place) → messages_at frame at end ≡ Ok ((messages, spans), place)
+  unfolding messages_at
+  both e =
+      let many : length messages ≡ length (sizes spans) = h.as_many ∙ long spans in
+      rw (e, zip_firsts messages (sizes spans) many, zip_seconds messages (sizes spans) many) (ap (λ (l : List Span). Ok ((messages, l), place)) (sym h.in_row))
+
+  pub all_turns : end - at ≤ turns → messages_at frame at end ≡ Ok ((messages, spans), place)
+  all_turns le = both (is_done (sized_at frame) (zip messages (sizes spans)) (end - at) turns place end _ h.reads le)
+
+  pub at_the_end : turns < end - at → eqb place end ≡ true → messages_at frame at end ≡ Ok ((messages, spans), place)
+  at_the_end lt e = both (is_at_end (sized_at frame) (zip messages (sizes spans)) (end - at) turns place end _ h.reads lt e)
+
+  pub one_fails : turns < end - at → (place ≡ end → ⊥) → (fault : DecodeFault) → Fails fault (message_at frame place end) → Fails fault (messages_at frame at end)
+  unfolding sized_at messages_at
+  one_fails lt apart fault f =
+      fails_on (items_at (sized_at frame) (end - at) at end) _ fault (fails (sized_at frame) (zip messages (sizes spans)) (end - at) turns place end _ h.reads lt apart fault (fails_on (message_at frame place end) _ fault f))
