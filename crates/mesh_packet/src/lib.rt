@@ -5,5 +5,5 @@ mod packet;
 mod read;
 
 pub use mesh_atoms::DecodeFault;
-pub use packet::{Block, Decoded, Message, Packet, Span};
+pub use packet::{Block, Decoded, EncodeFault, Message, Packet, Span};
 pub use read::decode;
