@@ -1,13 +1,12 @@
 -- Where a message's head is cut off it is refused there, and octets of its size always are one.
-use Rattle.std.proofs.Common.{◌≡◌, ℕ, ◌+◌, ◌-◌, ◌<◌, ◌≤◌, List, ◌++◌, length, take, drop, Option, Ok, refl, sym, ap, subst, ◌∙◌, arith, append_assoc}
+use Rattle.std.proofs.Common.{◌≡◌, ℕ, ◌+◌, ◌-◌, ◌≤◌, List, ◌++◌, length, take, drop, Option, Ok, refl, sym, ap, subst, ◌∙◌, arith}
 use Rattle.std.specs.Prelude.{slice_range}
-use Rattle.std.proofs.lemmas.List.{length-append, length-take, length-drop, take-append-drop}
-use Rattle.mesh_atoms.specs.declared.refusal.Refusal.{Refusal}
+use Rattle.std.proofs.lemmas.List.{length-take, length-drop, take-append-drop}
 use Rattle.mesh_atoms.specs.Reading.{Reading, refuse, has}
 use Rattle.mesh_atoms.proofs.Reading.{Stands, behind, range_length}
 use Rattle.mesh_addr.specs.declared.records.RawAddr.{RawAddr}
 use Rattle.mesh_packet.specs.declared.read.Opening.{Opening}
-use Rattle.mesh_packet.specs.Grammar.{SpellsHead, HeadCut, originator_cut, limit_cut, count_cut, sequence_cut, width_of, originator_size, limit_size, count_size, sequence_size, head_size}
+use Rattle.mesh_packet.specs.Grammar.{SpellsHead, HeadCut, originator_cut, limit_cut, count_cut, sequence_cut, width_of, originator_size, limit_size, count_size, head_size}
 use Rattle.mesh_packet.specs.Reading.{head_at}
 use Rattle.mesh_packet.proofs.Fields.{IsField, octet_field, number_field, originator_field}
 

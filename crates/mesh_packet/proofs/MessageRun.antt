@@ -1,12 +1,12 @@
 -- Messages one after the other, as the loop over them reads them, with where each stands.
-use Rattle.std.proofs.Common.{◌≡◌, ℕ, ◌+◌, ◌-◌, ◌<◌, ◌≤◌, eqb, true, List, [], ◌∷◌, ◌++◌, length, map, Result, Ok, Err, refl, sym, ap, subst, ◌∙◌, arith, length-append}
+use Rattle.std.proofs.Common.{◌≡◌, ℕ, ◌+◌, ◌-◌, ◌<◌, ◌≤◌, eqb, true, List, [], ◌∷◌, ◌++◌, length, map, Result, Ok, refl, sym, ap, ◌∙◌, arith, length-append}
 use Rattle.std.specs.List.{zip}
 use Rattle.std.proofs.lemmas.List.{map_push}
 use native.Mathlib.Nat.{sub-zero}
 use Rattle.mesh_atoms.specs.declared.refusal.Refusal.{Refusal}
 use Rattle.mesh_atoms.specs.declared.refusal.DecodeFault.{DecodeFault}
 use Rattle.mesh_atoms.specs.declared.refusal.DecodeFault.TheVariants as faults
-use Rattle.mesh_atoms.specs.Reading.{◌>>=◌, Reading, Fails}
+use Rattle.mesh_atoms.specs.Reading.{◌>>=◌, Fails}
 use Rattle.mesh_tlv.specs.Items.{items_at}
 use Rattle.mesh_tlv.proofs.Loop.{with_front, none_before, goes_on, is_done, is_at_end}
 use Rattle.mesh_packet.specs.declared.packet.Span.{Span}

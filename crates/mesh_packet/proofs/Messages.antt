@@ -1,11 +1,11 @@
 -- Messages: read, spelled and refused as their parts are.
-use Rattle.std.proofs.Common.{◌≡◌, ℕ, suc, ◌+◌, ◌-◌, ◌<◌, ◌≤◌, ltb, ◌||◌, true, false, Bool, List, [], ◌∷◌, ◌++◌, length, Ok, Err, refl, sym, ap, subst, ◌∙◌, arith, append_assoc, inl, inr, ◌⊎◌}
+use Rattle.std.proofs.Common.{◌≡◌, ℕ, ◌+◌, ◌-◌, ◌<◌, ◌≤◌, ltb, ◌||◌, true, false, Bool, List, [], ◌∷◌, ◌++◌, length, Ok, refl, sym, ap, subst, ◌∙◌, arith, append_assoc, inl, inr, ◌⊎◌}
 use Rattle.std.specs.Prelude.{MatchResult, slice_range}
 use Rattle.std.proofs.lemmas.Bool.{ltb-false, ltb-true, le-ltb, lt-ltb}
 use Rattle.std.proofs.lemmas.List.{length-append}
 use Rattle.mesh_atoms.specs.declared.refusal.Refusal.{Refusal}
 use Rattle.mesh_atoms.specs.Grammar.{SpellsShort}
-use Rattle.mesh_atoms.specs.Reading.{Reading, refuse, octet_at, short_at}
+use Rattle.mesh_atoms.specs.Reading.{refuse, octet_at, short_at}
 use Rattle.mesh_atoms.proofs.Reading.{meets_bind, meets_if, Takes, takes_both, takes_range, Stands, stands_first, stands_next, behind, front_is, range_length, octet_takes, octet_again, octet_cut, short_takes, short_again, short_cut, two_long}
 use Rattle.mesh_tlv.specs.Items.{FirstFault}
 use Rattle.mesh_tlv.proofs.Items.{IsReader, Took, meets_weaker}

@@ -1,18 +1,16 @@
 -- An address block and the TLVs of its addresses: read, spelled and refused as its two parts are.
-use Rattle.std.proofs.Common.{◌≡◌, ℕ, suc, ◌+◌, ◌-◌, ◌<◌, ◌≤◌, List, [], ◌∷◌, ◌++◌, length, Ok, Err, refl, sym, ap, subst, ◌∙◌, arith, append_assoc}
+use Rattle.std.proofs.Common.{◌≡◌, ℕ, ◌+◌, ◌-◌, ◌<◌, ◌≤◌, List, ◌++◌, length, Ok, refl, sym, ap, subst, ◌∙◌, arith}
 use Rattle.std.specs.Prelude.{MatchResult, slice_range}
 use Rattle.std.proofs.lemmas.List.{length-append}
 use Rattle.mesh_atoms.specs.declared.refusal.Refusal.{Refusal}
-use Rattle.mesh_atoms.specs.Reading.{Reading, refuse}
-use Rattle.mesh_atoms.proofs.Reading.{meets_bind, Takes, takes_both, takes_range, Stands, stands_first, stands_next, behind, text_is}
-use Rattle.mesh_addr.specs.declared.records.RawAddr.{RawAddr}
-use Rattle.mesh_addr.specs.Grammar as addresses
+use Rattle.mesh_atoms.specs.Reading.{refuse}
+use Rattle.mesh_atoms.proofs.Reading.{meets_bind, Takes, takes_both, takes_range, Stands, stands_first, stands_next, behind}
 use Rattle.mesh_addr.specs.Reading as addresses_read
 use Rattle.mesh_addr.proofs.Taking as address_laws
 use Rattle.mesh_addr.proofs.ReadAgain as address_back
 use Rattle.mesh_addr.proofs.Refusing as address_faults
 use Rattle.mesh_tlv.specs.Items.{FirstFault}
-use Rattle.mesh_tlv.specs.Grammar.{SpellsAddrTlv, SpellsAddrTlvBlock, AddrTlvBlockFault, TlvFault}
+use Rattle.mesh_tlv.specs.Grammar.{SpellsAddrTlv, AddrTlvBlockFault, TlvFault}
 use Rattle.mesh_tlv.specs.Reading.{addr_tlv_at, block_at}
 use Rattle.mesh_tlv.proofs.Items.{IsReader, Took}
 use Rattle.mesh_tlv.proofs.Blocks.{block_takes, block_again, block_refuses}

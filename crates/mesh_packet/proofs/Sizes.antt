@@ -1,5 +1,5 @@
 -- Messages beside their sizes, and where they stand.
-use Rattle.std.proofs.Common.{◌≡◌, ℕ, suc, ◌+◌, ◌-◌, ◌<◌, List, [], ◌∷◌, ◌++◌, length, map, refl, sym, ap, ◌∙◌, arith, drop}
+use Rattle.std.proofs.Common.{◌≡◌, ℕ, suc, ◌+◌, ◌-◌, ◌<◌, List, [], ◌∷◌, ◌++◌, length, map, refl, ap, ◌∙◌, arith, drop}
 use Rattle.std.specs.Prelude.{slice_range}
 use Rattle.std.specs.List.{zip, sum_by}
 use Rattle.std.proofs.lemmas.List.{length-take}

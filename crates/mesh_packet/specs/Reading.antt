@@ -1,5 +1,5 @@
 -- How a packet is read, field by field, with the places. Grammar says what it is.
-use Rattle.std.specs.Prelude.{◌≡◌, ℕ, ◌+◌, ◌*◌, ◌-◌, ◌/◌, List, [], ◌∷◌, length, map, Option, Some, None, Result, Ok, Err, Bool, ◌||◌, nat_lt, ◌==◌, if◌then◌else◌}
+use Rattle.std.specs.Prelude.{ℕ, ◌+◌, ◌*◌, ◌-◌, ◌/◌, List, [], ◌∷◌, length, map, Option, Some, None, Result, Ok, Bool, ◌||◌, nat_lt, ◌==◌, if◌then◌else◌}
 use Rattle.mesh_atoms.specs.declared.refusal.Refusal.{Refusal}
 use Rattle.mesh_atoms.specs.Reading.{◌>>=◌, Reading, refuse, has, octet_at, short_at, piece_at}
 use Rattle.mesh_addr.specs.declared.records.RawAddr.{RawAddr}

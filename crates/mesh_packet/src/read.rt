@@ -9,29 +9,17 @@ ghost use Rattle.mesh_tlv.specs.Reading.{block_at, tlv_at};
 ghost use Rattle.mesh_tlv.specs.Fields.{fields, block_fields};
 ghost use Rattle.mesh_packet.specs.Fields.{PacketFields, fields_of_packet, pair_read, pairs_read, message_read, messages_read, fields_of_decoded};
 ghost use Rattle.mesh_packet.specs.Grammar.{Spells, FirstFault, width_of};
+ghost use Rattle.mesh_packet.specs.Least.{IsEncodable};
 ghost use Rattle.mesh_packet.specs.Reading.{octet_if, short_if, originator_if, pair_at, head_at, body_at, message_at, messages_at, flags_at, header_tlvs_at, packet_of};
 ghost use Rattle.mesh_packet.specs.declared.packet.Span.{Span};
 
+use crate::flags::{COUNT, LIMIT, ORIGINATOR, PACKET_SEQUENCE, PACKET_TLVS, SEQUENCE};
 use crate::packet::{Block, Decoded, Message, Packet, Span};
 use mesh_addr::{RawAddr, read_block};
 use mesh_atoms::reason::{MESSAGE_SIZE, SHORT, VERSION};
 use mesh_atoms::{DecodeFault, Refusal, Seq, read_octet, read_short, refuse};
 use mesh_tlv::{Tlv, read_addr_tlvs, read_tlvs};
 use std::alloc::Global;
-
-/// The flags of a message.
-const ORIGINATOR: u8 = 0x80;
-
-const LIMIT: u8 = 0x40;
-
-const COUNT: u8 = 0x20;
-
-const SEQUENCE: u8 = 0x10;
-
-/// The flags of a packet.
-const PACKET_SEQUENCE: u8 = 0x08;
-
-const PACKET_TLVS: u8 = 0x04;
 
 #[tactic(auto, unfolding(crate::specs::Reading::octet_if))]
 fn octet_if(set: bool, frame: &[u8], at: usize, end: usize) -> Result<(Option<u8>, usize), Refusal>
@@ -337,6 +325,9 @@ pub fn decode<'a>(alloc: Global, frame: &'a [u8]) -> Result<Decoded<'a>, DecodeF
 
     // What has its first fault there is refused so.
     ensures first { (place reason : ℕ) → FirstFault frame.now place reason → Gives fields_of_decoded result (refuse place reason) }
+
+    // What is read can be encoded.
+    ensures encodable { IfOk result (λ decoded. IsEncodable (fields_of_packet decoded.packet)) }
 
     // How it is read.
     ensures exact { Gives fields_of_decoded result (packet_of frame.now) }

@@ -1,6 +1,9 @@
+use Rattle.std.proofs.Common.{arith}
+use Rattle.mesh_addr.proofs.Writable.{if_ok}
 use Rattle.mesh_atoms.proofs.Given.{given, given_so}
-use Rattle.mesh_packet.specs.Fields.{PacketFields, fields_of_decoded}
-use Rattle.mesh_packet.specs.Grammar.{Spells}
+use Rattle.mesh_packet.specs.Fields.{fields_of_packet, fields_of_decoded}
+use Rattle.mesh_packet.specs.Least.{IsEncodable}
+use Rattle.mesh_packet.proofs.Encodable.{packet_encodable}
 use Rattle.mesh_packet.proofs.Packets.{IsFault, IsSpelled, packet_takes, packet_again, packet_fault}
 use Rattle.mesh_packet.proofs.read.decode.Goals as goal
 
@@ -15,3 +18,9 @@ returns-clause-only c = λ packet spans h. given_so fields_of_decoded c.whole.re
 
 pub returns-clause-first : goal.returns-clause-first
 returns-clause-first c = λ place reason h. given_so fields_of_decoded c.whole.result _ _ c.whole.ensures (packet_fault c.args.frame.now place reason h)
+
+pub returns-clause-encodable : goal.returns-clause-encodable
+returns-clause-encodable c =
+    if_ok c.whole.result _ (λ decoded. IsEncodable (fields_of_packet decoded.packet))
+    (λ decoded h. packet_encodable c.args.frame.now (fields_of_packet decoded.packet) decoded.spans (λ i. omega (arith, c.type_inv.frame i)) h)
+    (given fields_of_decoded (IsSpelled c.args.frame.now) (IsFault c.args.frame.now) c.whole.result _ c.whole.ensures (packet_takes c.args.frame.now)).0

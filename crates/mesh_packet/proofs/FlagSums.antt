@@ -1,0 +1,86 @@
+-- Each flag and the width are told from the sum that is written, by trying all sums.
+use Rattle.std.proofs.Common.{◌≡◌, ℕ, zero, suc, ◌+◌, ◌%◌, ◌<◌, ◌≤◌, Bool, true, false, not, ◌&&◌, eqb, refl, sym, subst, arith}
+use Rattle.std.proofs.lemmas.Bool.{eqb-true, eqb-false}
+use Rattle.mesh_atoms.specs.Reading.{has}
+use Rattle.mesh_tlv.specs.Least.{flag}
+
+and_left : (a b : Bool) → (a && b) ≡ true → a ≡ true
+and_left true b h = refl
+and_left false b h = absurd cc
+
+and_right : (a b : Bool) → (a && b) ≡ true → b ≡ true
+and_right true b h = h
+and_right false b h = absurd cc
+
+-- of both
+abbrev both : (Bool → Bool) → Bool
+both f = f true && f false
+
+both_is : (f : Bool → Bool) → both f ≡ true → (b : Bool) → f b ≡ true
+both_is f h true = and_left (f true) (f false) h
+both_is f h false = and_right (f true) (f false) h
+
+-- of all numbers below
+abbrev below : ℕ → (ℕ → Bool) → Bool
+below zero f = true
+below (suc n) f = f n && below n f
+
+at_last : (n : ℕ) (f : ℕ → Bool) (i : ℕ) → i < suc n → f n ≡ true → (i < n → f i ≡ true) → (b : Bool) → eqb i n ≡ b → f i ≡ true
+at_last n f i lt last before true e = subst (λ (k : ℕ). f k ≡ true) (sym (eqb-true i n e)) last
+at_last n f i lt last before false e = before (omega (arith, lt, eqb-false i n e))
+
+below_is : (n : ℕ) (f : ℕ → Bool) → below n f ≡ true → (i : ℕ) → i < n → f i ≡ true
+below_is zero f h i lt = absurd (omega (arith, lt))
+below_is (suc n) f h i lt = at_last n f i lt (and_left (f n) (below n f) h) (λ k. below_is n f (and_right (f n) (below n f) h) i k) (eqb i n) refl
+
+abbrev same : Bool → Bool → Bool
+same true b = b
+same false b = not b
+
+same_is : (a b : Bool) → same a b ≡ true → a ≡ b
+same_is true true h = refl
+same_is true false h = absurd cc
+same_is false true h = absurd cc
+same_is false false h = refl
+
+-- ---- the flags of a message
+
+abbrev flags_of : Bool → Bool → Bool → Bool → ℕ → ℕ
+flags_of a b c d n = flag a 128 + flag b 64 + flag c 32 + flag d 16 + n
+
+abbrev tried : (Bool → Bool → Bool → Bool → ℕ → Bool) → Bool
+tried t = both (λ a. both (λ b. both (λ c. both (λ d. below 16 (λ n. t a b c d n)))))
+
+tried_is : (t : Bool → Bool → Bool → Bool → ℕ → Bool) → tried t ≡ true → (a b c d : Bool) (n : ℕ) → n < 16 → t a b c d n ≡ true
+tried_is t h a b c d n lt =
+    below_is 16 (λ n. t a b c d n) (both_is (λ d. below 16 (λ n. t a b c d n)) (both_is (λ c. both (λ d. below 16 (λ n. t a b c d n))) (both_is (λ b. both (λ c. both (λ d. below 16 (λ n. t a b c d n)))) (both_is (λ a. both (λ b. both (λ c. both (λ d. below 16 (λ n. t a b c d n))))) h a) b) c) d) n lt
+
+pub tells_128 : (a b c d : Bool) (n : ℕ) → n < 16 → has (flags_of a b c d n) 128 ≡ a
+tells_128 a b c d n lt = same_is _ _ (tried_is (λ a b c d n. same (has (flags_of a b c d n) 128) a) refl a b c d n lt)
+
+pub tells_64 : (a b c d : Bool) (n : ℕ) → n < 16 → has (flags_of a b c d n) 64 ≡ b
+tells_64 a b c d n lt = same_is _ _ (tried_is (λ a b c d n. same (has (flags_of a b c d n) 64) b) refl a b c d n lt)
+
+pub tells_32 : (a b c d : Bool) (n : ℕ) → n < 16 → has (flags_of a b c d n) 32 ≡ c
+tells_32 a b c d n lt = same_is _ _ (tried_is (λ a b c d n. same (has (flags_of a b c d n) 32) c) refl a b c d n lt)
+
+pub tells_16 : (a b c d : Bool) (n : ℕ) → n < 16 → has (flags_of a b c d n) 16 ≡ d
+tells_16 a b c d n lt = same_is _ _ (tried_is (λ a b c d n. same (has (flags_of a b c d n) 16) d) refl a b c d n lt)
+
+pub tells_width : (a b c d : Bool) (n : ℕ) → n < 16 → flags_of a b c d n % 16 ≡ n
+tells_width a b c d n lt = eqb-true _ _ (tried_is (λ a b c d n. eqb (flags_of a b c d n % 16) n) refl a b c d n lt)
+
+-- ---- the flags of a packet
+
+pub tells_8 : (a b : Bool) → has (flag a 8 + flag b 4) 8 ≡ a
+tells_8 a b = same_is _ _ (both_is (λ b. same (has (flag a 8 + flag b 4) 8) a) (both_is (λ a. both (λ b. same (has (flag a 8 + flag b 4) 8) a)) refl a) b)
+
+pub tells_4 : (a b : Bool) → has (flag a 8 + flag b 4) 4 ≡ b
+tells_4 a b = same_is _ _ (both_is (λ b. same (has (flag a 8 + flag b 4) 4) b) (both_is (λ a. both (λ b. same (has (flag a 8 + flag b 4) 4) b)) refl a) b)
+
+flag_most : (a : Bool) (n : ℕ) → flag a n ≤ n
+flag_most true n = omega arith
+flag_most false n = omega arith
+
+pub version_none : (a b : Bool) → flag a 8 + flag b 4 < 16
+version_none a b = omega (arith, flag_most a 8, flag_most b 4)

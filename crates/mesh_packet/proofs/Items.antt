@@ -1,0 +1,77 @@
+-- Items of a list, one after the other: put there one by one, and parted at one of them.
+use Rattle.std.proofs.Common.{◌≡◌, ℕ, zero, suc, ◌+◌, ◌<◌, ◌≤◌, List, [], ◌∷◌, ◌++◌, length, map, take, get_or, refl, sym, ap, subst, ◌∙◌, arith, append_assoc}
+use Rattle.std.proofs.lemmas.List.{append-nil, length-append, length-map, get_or-map, take_all}
+use Rattle.std.specs.Prelude.{All}
+use Rattle.std.proofs.Math.Seq.{take-suc}
+use Rattle.std.proofs.lemmas.List.{map_push}
+use Rattle.mesh_tlv.specs.Items.{SpellsItems}
+use Rattle.mesh_packet.specs.Least.{Passes, Wrote}
+
+items_push : {B : Type 0} (Says : B → List ℕ → Type 0) (ys : List B) (front : List ℕ) (y : B) (text : List ℕ) → SpellsItems Says ys front → Says y text → SpellsItems Says (ys ++ y ∷ []) (front ++ text)
+items_push Says [] front y text h s = (text, [], s, refl, ap (λ (l : List ℕ). l ++ text) h ∙ sym (append-nil text))
+items_push Says (x ∷ ys) front y text h s = (h.0, h.1 ++ text, h.2, items_push Says ys h.1 y text h.3 s, ap (λ (l : List ℕ). l ++ text) h.4 ∙ append_assoc h.0 h.1 text)
+
+-- two texts of one item are of the same length
+abbrev pub AreSameLength : {B : Type 0} → (B → List ℕ → Type 0) → Type 0
+AreSameLength {B} Says = (x : B) (a b : List ℕ) → Says x a → Says x b → length a ≡ length b
+
+pub items_same : {B : Type 0} (Says : B → List ℕ → Type 0) → AreSameLength Says → AreSameLength (SpellsItems Says)
+items_same Says same [] a b h k = ap length h ∙ sym (ap length k)
+items_same Says same (x ∷ xs) a b h k =
+    omega (arith, ap length h.4, ap length k.4, length-append h.0 h.1, length-append k.0 k.1, same x h.0 k.0 h.2 k.2, items_same Says same xs h.1 k.1 h.3 k.3)
+
+module _ {A B : Type 0} (view : A → B) (Says : B → List ℕ → Type 0) where
+  -- the items before one, that one, and those behind it
+  record Parted (xs : List A) (i : ℕ) (d : A) (text : List ℕ) : Type 0 where
+    front : List ℕ
+    one : List ℕ
+    rest : List ℕ
+    before : SpellsItems Says (map view (take i xs)) front
+    is_one : Says (view (get_or xs i d)) one
+    whole : text ≡ front ++ (one ++ rest)
+
+  parted : (xs : List A) (i : ℕ) (d : A) (text : List ℕ) → i < length xs → SpellsItems Says (map view xs) text → Parted xs i d text
+  parted [] i d text lt h = absurd (omega arith)
+  parted (x ∷ xs) zero d text lt h = record { front = []; one = h.0; rest = h.1; before = refl; is_one = h.2; whole = h.4 }
+  parted (x ∷ xs) (suc i) d text lt h =
+      let p = parted xs i d h.1 (omega arith) h.3 in
+      record {
+        front = h.0 ++ p.front;
+        one = p.one;
+        rest = p.rest;
+        before = (h.0, p.front, h.2, p.before, refl);
+        is_one = p.is_one;
+        whole = h.4 ∙ ap (λ (l : List ℕ). h.0 ++ l) p.whole ∙ sym (append_assoc h.0 p.front (p.one ++ p.rest));
+      }
+
+  pub wrote_none : (old : List ℕ) → Wrote (SpellsItems Says []) old old
+  wrote_none old = ([], sym (append-nil old), refl)
+
+  -- the next item of a loop
+  pub wrote_next : (xs : List A) (i : ℕ) (x : A) (old mid new : List ℕ) → i < length xs → x ≡ get_or xs i x → Wrote (SpellsItems Says (map view (take i xs))) old mid → Wrote (Says (view x)) mid new → Wrote (SpellsItems Says (map view (take (i + 1) xs))) old new
+  wrote_next xs i x old mid new lt is h k =
+      let one : suc i ≡ i + 1 = omega arith in
+      let e : map view (take (suc i) xs) ≡ map view (take i xs) ++ view x ∷ [] = ap (map view) (take-suc xs i x lt) ∙ map_push view (take i xs) (get_or xs i x) ∙ ap (λ (y : A). map view (take i xs) ++ view y ∷ []) (sym is) in (
+        h.0 ++ k.0,
+        k.1 ∙ ap (λ (l : List ℕ). l ++ k.0) h.1 ∙ append_assoc old h.0 k.0,
+        subst (λ (n : ℕ). SpellsItems Says (map view (take n xs)) (h.0 ++ k.0)) one (subst (λ (l : List B). SpellsItems Says l (h.0 ++ k.0)) (sym e) (items_push Says (map view (take i xs)) h.0 (view x) k.0 h.2 k.2)),
+      )
+
+  pub wrote_all : (xs : List A) (i : ℕ) (old new : List ℕ) → length xs ≤ i → Wrote (SpellsItems Says (map view (take i xs))) old new → Wrote (SpellsItems Says (map view xs)) old new
+  wrote_all xs i old new le h = subst (λ (l : List A). Wrote (SpellsItems Says (map view l)) old new) (take_all i xs le) h
+
+  -- behind what was written, the next item passes the limit, and so do all items together
+  pub items_pass : AreSameLength Says → (xs : List A) (i : ℕ) (x : A) (old mid : List ℕ) → i < length xs → x ≡ get_or xs i x → Wrote (SpellsItems Says (map view (take i xs))) old mid → Passes (Says (view x)) (length mid) → Passes (SpellsItems Says (map view xs)) (length old)
+  items_pass same xs i x old mid lt is h k = λ text t.
+      let p = parted xs i x text lt t in
+      omega (arith, ap length p.whole, length-append p.front (p.one ++ p.rest), length-append p.one p.rest, ap length h.1, length-append old h.0, items_same Says same (map view (take i xs)) h.0 p.front h.2 p.before, k p.one (subst (λ (y : A). Says (view y) p.one) (sym is) p.is_one))
+
+  pub item_passes : (xs : List A) (i : ℕ) (x : A) → i < length xs → x ≡ get_or xs i x → Passes (Says (view x)) 0 → Passes (SpellsItems Says (map view xs)) 0
+  item_passes xs i x lt is k = λ text t.
+      let p = parted xs i x text lt t in
+      omega (arith, ap length p.whole, length-append p.front (p.one ++ p.rest), length-append p.one p.rest, k p.one (subst (λ (y : A). Says (view y) p.one) (sym is) p.is_one))
+
+-- what all have, the item has that stands at a place
+pub all_at : {A B : Type 0} (view : A → B) (P : B → Type 0) (xs : List A) (i : ℕ) (x : A) → All P (map view xs) → i < length xs → x ≡ get_or xs i x → P (view x)
+all_at view P xs i x h lt is =
+    subst (λ y. P (view y)) (sym is) (subst P (get_or-map view xs i x (view x) lt) (h i (view x) (omega (arith, lt, length-map xs view))))

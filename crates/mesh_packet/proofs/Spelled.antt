@@ -1,0 +1,142 @@
+-- The least form is a spelling.
+use Rattle.std.proofs.Common.{◌≡◌, ℕ, ◌+◌, ◌-◌, ◌/◌, ◌%◌, ◌<◌, ◌≤◌, Bool, List, [], ◌∷◌, length, take, Option, Some, None, refl, sym, ap, subst, arith}
+use Rattle.std.specs.Prelude.{All, replicate}
+use Rattle.std.specs.Option.{is_some}
+use Rattle.std.proofs.lemmas.List.{length-append, length-take, length-replicate}
+use Rattle.std.proofs.lemmas.List.Elements.{All-head, All-tail}
+use Rattle.mesh_atoms.specs.Grammar.{SpellsShort}
+use Rattle.mesh_addr.specs.declared.records.RawAddr.{RawAddr}
+use Rattle.mesh_addr.specs.Grammar as addresses
+use Rattle.mesh_addr.specs.Grammar.{padded}
+use Rattle.mesh_tlv.specs.Fields.{TlvFields}
+use Rattle.mesh_tlv.specs.Items.{SpellsItems}
+use Rattle.mesh_tlv.specs.Least.{least_short, least_tlv, least_addr_tlv, least_block}
+use Rattle.mesh_tlv.proofs.Spelled.{tlv_block_spelled, addr_tlv_block_spelled}
+use Rattle.mesh_packet.specs.declared.packet.Span.{Span}
+use Rattle.mesh_packet.specs.Fields.{BlockFields, MessageFields, PacketFields}
+use Rattle.mesh_packet.specs.Grammar.{SpellsOctet, SpellsNumber, SpellsOriginator, SpellsPair, SpellsHead, SpellsBody, SpellsMessage, SpellsMessages, SpellsHeaderTlvs, Spells, width_of}
+use Rattle.mesh_packet.specs.Least.{IsOriginator, IsEncodableBlock, IsEncodableMessage, IsEncodable, least_octet, least_number, least_originator, least_head, message_flags, LeastPair, LeastBody, LeastMessage, has_tlvs, least_header_tlvs, packet_flags, LeastForm}
+use Rattle.mesh_packet.proofs.FlagSums.{tells_128, tells_64, tells_32, tells_16, tells_width, tells_8, tells_4, version_none}
+
+short_spelled : (n : ℕ) → SpellsShort n (least_short n)
+short_spelled n = (n / 256, n % 256, omega arith, refl)
+
+-- ---- optional parts
+
+octet_spelled : (x : Option ℕ) → SpellsOctet (is_some x) x (least_octet x)
+octet_spelled None = refl
+octet_spelled (Some n) = refl
+
+number_spelled : (x : Option ℕ) → SpellsNumber (is_some x) x (least_number x)
+number_spelled None = refl
+number_spelled (Some n) = short_spelled n
+
+originator_spelled : (width : ℕ) (x : Option RawAddr) → width ≤ 16 → IsOriginator width x → SpellsOriginator (is_some x) width x (least_originator width x)
+originator_spelled width None le h = refl
+originator_spelled width (Some a) le h =
+    let octets : List ℕ = take width a.octets in
+    (omega (arith, le, length-take width a.octets, ap length h.0, length-append octets (replicate (16 - length octets) 0), length-replicate {A = ℕ} (16 - length octets) 0), h.0, h.1)
+
+header_tlvs_spelled : (tlvs : List TlvFields) → SpellsHeaderTlvs (has_tlvs tlvs) tlvs (least_header_tlvs tlvs)
+header_tlvs_spelled [] = (refl, refl)
+header_tlvs_spelled (t ∷ ts) = tlv_block_spelled (t ∷ ts)
+
+-- ---- messages
+
+pair_spelled : (width : ℕ) (b : BlockFields) (text : List ℕ) → IsEncodableBlock width b → LeastPair b text → SpellsPair width b text
+pair_spelled width b text fit h = record {
+  addrs = h.addrs;
+  tlvs = least_block (least_addr_tlv (length b.addrs)) b.tlvs;
+  width_is = fit.width_is;
+  addrs_is = subst (λ (w : ℕ). addresses.SpellsBlock w b.addrs h.addrs) fit.width_is h.addrs_is.spelled;
+  tlvs_is = addr_tlv_block_spelled (length b.addrs) b.tlvs fit.tlvs;
+  whole = h.whole;
+}
+
+items_spelled : {A : Type 0} (P : A → Type 0) (Least Says : A → List ℕ → Type 0) → ((x : A) (text : List ℕ) → P x → Least x text → Says x text) → (xs : List A) (text : List ℕ) → All P xs → SpellsItems Least xs text → SpellsItems Says xs text
+items_spelled P Least Says one [] text fit h = h
+items_spelled P Least Says one (x ∷ xs) text fit h = (h.0, h.1, one x h.0 (All-head P x xs fit) h.2, items_spelled P Least Says one xs h.1 (All-tail P x xs fit) h.3, h.4)
+
+module _ (m : MessageFields) (fit : IsEncodableMessage m) where
+  abbrev a : Bool
+  a = is_some m.originator
+
+  abbrev b : Bool
+  b = is_some m.limit
+
+  abbrev c : Bool
+  c = is_some m.count
+
+  abbrev d : Bool
+  d = is_some m.sequence
+
+  small : m.width - 1 < 16
+  small = omega (arith, fit.wide, fit.narrow)
+
+  width_told : width_of (message_flags m) ≡ m.width
+  unfolding message_flags
+  width_told = omega (arith, tells_width a b c d (m.width - 1) small, fit.wide)
+
+  head_spelled : SpellsHead (message_flags m) m.originator m.limit m.count m.sequence (least_head m)
+  unfolding message_flags least_head
+  head_spelled = record {
+    originator_text = least_originator m.width m.originator;
+    limit_text = least_octet m.limit;
+    count_text = least_octet m.count;
+    sequence_text = least_number m.sequence;
+    originator_is = subst (λ (x : Bool). SpellsOriginator x (width_of (message_flags m)) m.originator (least_originator m.width m.originator)) (sym (tells_128 a b c d (m.width - 1) small)) (subst (λ (w : ℕ). SpellsOriginator a w m.originator (least_originator m.width m.originator)) (sym width_told) (originator_spelled m.width m.originator fit.narrow fit.originator));
+    limit_is = subst (λ (x : Bool). SpellsOctet x m.limit (least_octet m.limit)) (sym (tells_64 a b c d (m.width - 1) small)) (octet_spelled m.limit);
+    count_is = subst (λ (x : Bool). SpellsOctet x m.count (least_octet m.count)) (sym (tells_32 a b c d (m.width - 1) small)) (octet_spelled m.count);
+    sequence_is = subst (λ (x : Bool). SpellsNumber x m.sequence (least_number m.sequence)) (sym (tells_16 a b c d (m.width - 1) small)) (number_spelled m.sequence);
+    whole = refl;
+  }
+
+  body_spelled : (text : List ℕ) → LeastBody m text → SpellsBody (message_flags m) m text
+  body_spelled text h = record {
+    head = least_head m;
+    tlvs = least_block least_tlv m.tlvs;
+    blocks = h.blocks;
+    width_is = sym width_told;
+    head_is = head_spelled;
+    tlvs_is = tlv_block_spelled m.tlvs;
+    blocks_is = subst (λ (w : ℕ). SpellsItems (SpellsPair w) m.blocks h.blocks) (sym width_told) (items_spelled (IsEncodableBlock m.width) LeastPair (SpellsPair m.width) (pair_spelled m.width) m.blocks h.blocks fit.blocks h.blocks_is);
+    whole = h.whole;
+  }
+
+message_spelled : (m : MessageFields) (text : List ℕ) → IsEncodableMessage m → LeastMessage m text → SpellsMessage m text
+message_spelled m text fit h = record {
+  flags = message_flags m;
+  size = least_short (4 + length h.body);
+  body = h.body;
+  size_is = short_spelled (4 + length h.body);
+  body_is = body_spelled m fit h.body h.body_is;
+  whole = h.whole;
+}
+
+-- where messages stand that are spelled from a place on
+placed : (at : ℕ) (ms : List MessageFields) (text : List ℕ) → SpellsItems SpellsMessage ms text → (spans : List Span) × SpellsMessages at ms spans text
+placed at [] text h = ([], h)
+placed at (m ∷ ms) text h =
+    let rest = placed (at + length h.0) ms h.1 h.3 in
+    (record { start = at; len = length h.0 } ∷ rest.0, (h.0, h.1, h.2, refl, rest.1, h.4))
+
+pub form_spelled : (p : PacketFields) (bytes : List ℕ) → IsEncodable p → LeastForm p bytes → (spans : List Span) × Spells p spans bytes
+form_spelled p bytes fit h =
+    let sequence : List ℕ = least_number p.sequence in
+    let tlvs : List ℕ = least_header_tlvs p.tlvs in
+    let s = is_some p.sequence in
+    let t = has_tlvs p.tlvs in
+    let there = placed (1 + length sequence + length tlvs) p.messages h.messages (items_spelled IsEncodableMessage LeastMessage SpellsMessage message_spelled p.messages h.messages fit.messages h.messages_is) in (
+      there.0,
+      record {
+        flags = packet_flags p;
+        sequence = sequence;
+        tlvs = tlvs;
+        messages = h.messages;
+        version = version_none s t;
+        sequence_is = subst (λ (x : Bool). SpellsNumber x p.sequence sequence) (sym (tells_8 s t)) (number_spelled p.sequence);
+        tlvs_is = subst (λ (x : Bool). SpellsHeaderTlvs x p.tlvs tlvs) (sym (tells_4 s t)) (header_tlvs_spelled p.tlvs);
+        messages_is = there.1;
+        whole = h.whole;
+      },
+    )
