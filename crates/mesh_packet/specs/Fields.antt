@@ -14,6 +14,7 @@ pub record BlockFields : Type 0 where
   pub addrs : List RawAddr
   pub tlvs : List AddrTlvFields
 
+-- a message
 pub record MessageFields : Type 0 where
   pub kind : ℕ
   pub width : ℕ
@@ -24,14 +25,17 @@ pub record MessageFields : Type 0 where
   pub tlvs : List TlvFields
   pub blocks : List BlockFields
 
+-- a packet
 pub record PacketFields : Type 0 where
   pub sequence : Option ℕ
   pub tlvs : List TlvFields
   pub messages : List MessageFields
 
+-- the fields of an address block and its TLVs
 abbrev pub fields_of_block : Block → BlockFields
 fields_of_block b = record { width = b.addrs.width; addrs = b.addrs.addrs; tlvs = map addr_fields b.tlvs }
 
+-- the fields of a message
 abbrev pub fields_of_message : Message → MessageFields
 fields_of_message m = record {
   kind = m.kind;
@@ -44,22 +48,28 @@ fields_of_message m = record {
   blocks = map fields_of_block m.blocks;
 }
 
+-- the fields of a packet
 abbrev pub fields_of_packet : Packet → PacketFields
 fields_of_packet p = record { sequence = p.sequence; tlvs = map fields p.tlvs; messages = map fields_of_message p.messages }
 
+-- the fields of a packet that was read, and the spans of its messages
 abbrev pub fields_of_decoded : Decoded → PacketFields × List Span
 fields_of_decoded d = (fields_of_packet d.packet, d.spans)
 
 -- ---- what was read, and the place after it
 
+-- an address block and its TLVs
 abbrev pub pair_read : Block × ℕ → BlockFields × ℕ
 pair_read x = (fields_of_block x.0, x.1)
 
+-- the address blocks of a message
 abbrev pub pairs_read : List Block × ℕ → List BlockFields × ℕ
 pairs_read x = (map fields_of_block x.0, x.1)
 
+-- a message
 abbrev pub message_read : Message × ℕ → MessageFields × ℕ
 message_read x = (fields_of_message x.0, x.1)
 
+-- messages and their spans
 abbrev pub messages_read : (List Message × List Span) × ℕ → (List MessageFields × List Span) × ℕ
 messages_read x = ((map fields_of_message x.0.0, x.0.1), x.1)

@@ -21,6 +21,7 @@ use mesh_atoms::{DecodeFault, Refusal, Seq, read_octet, read_short, refuse};
 use mesh_tlv::{Tlv, read_addr_tlvs, read_tlvs};
 use std::alloc::Global;
 
+/// The octet at a place, where it is flagged, and the place after it.
 #[tactic(auto, unfolding(crate::specs::Reading::octet_if))]
 fn octet_if(set: bool, frame: &[u8], at: usize, end: usize) -> Result<(Option<u8>, usize), Refusal>
     requires at { at ≤ end }
@@ -36,6 +37,7 @@ fn octet_if(set: bool, frame: &[u8], at: usize, end: usize) -> Result<(Option<u8
     }
 }
 
+/// The number of 16 bits at a place, where it is flagged, and the place after it.
 #[tactic(auto, unfolding(crate::specs::Reading::short_if))]
 fn short_if(set: bool, frame: &[u8], at: usize, end: usize) -> Result<(Option<u16>, usize), Refusal>
     requires at { at ≤ end }
@@ -65,6 +67,7 @@ fn whole_address(frame: &[u8], at: usize, width: u8) -> RawAddr
     }
 }
 
+/// The originator at a place, where it is flagged, and the place after it.
 #[tactic(auto, unfolding(crate::specs::Reading::originator_if))]
 fn originator_if(
     set: bool,
@@ -100,6 +103,7 @@ struct Opening {
     sequence: Option<u16>,
 }
 
+/// How many octets an address of a message with these flags has.
 fn width_of(flags: u8) -> u8
     ensures exact { result ≡ width_of flags }
     ensures most { result ≤ 16 }
@@ -108,6 +112,7 @@ fn width_of(flags: u8) -> u8
     flags % 16 + 1
 }
 
+/// What a message with these flags has before its TLVs, and the place after it.
 #[tactic(auto, unfolding(crate::specs::Reading::head_at))]
 fn head(flags: u8, frame: &[u8], at: usize, end: usize) -> Result<(Opening, usize), Refusal>
     requires at { at ≤ end }
@@ -151,6 +156,7 @@ fn pair<'a>(
     Ok((Block { addrs, tlvs }, after))
 }
 
+/// The address blocks up to the end of their message, each with the TLVs of its addresses.
 fn pairs<'a>(
     alloc: Global,
     width: u8,
@@ -212,6 +218,7 @@ fn body<'a>(
     ))
 }
 
+/// The message at a place, and the place after it, which its size tells.
 #[tactic(auto, unfolding(crate::specs::Reading::message_at))]
 fn message<'a>(
     alloc: Global,
@@ -234,6 +241,7 @@ fn message<'a>(
     body(alloc, kind, flags, frame, start, at + size)
 }
 
+/// The messages up to the end of the frame, and where each stands.
 fn messages<'a>(
     alloc: Global,
     frame: &'a [u8],
@@ -262,6 +270,7 @@ fn messages<'a>(
     Ok(((messages, spans), place))
 }
 
+/// The flags of a packet, whose version is 0.
 #[tactic(auto, unfolding(crate::specs::Reading::flags_at))]
 fn packet_flags(frame: &[u8]) -> Result<(u8, usize), Refusal>
     ensures exact { result ≡ flags_at frame.now (length frame.now) }
@@ -274,6 +283,7 @@ fn packet_flags(frame: &[u8]) -> Result<(u8, usize), Refusal>
         Err(refuse(0, VERSION))
     }
 }
+
 /// The TLVs of the packet's header, where a block of them is flagged.
 #[tactic(auto, unfolding(crate::specs::Reading::header_tlvs_at))]
 fn header_tlvs<'a>(
@@ -293,6 +303,7 @@ fn header_tlvs<'a>(
     }
 }
 
+/// The packet that the whole frame spells, or its first fault.
 #[tactic(auto, unfolding(crate::specs::Reading::packet_of))]
 fn whole<'a>(alloc: Global, frame: &'a [u8]) -> Result<Decoded<'a>, DecodeFault>
     ensures { Gives fields_of_decoded result (packet_of frame.now) }
