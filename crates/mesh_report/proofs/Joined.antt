@@ -1,0 +1,16 @@
+-- Pieces that were put one behind the other.
+use Rattle.std.proofs.Common.{◌≡◌, List, ℕ, ◌++◌, Result, Ok, Err, ap, ◌∙◌, append_assoc}
+use Rattle.std.specs.Prelude.{OnOk}
+
+pub on_ok : {A E P Q : Type 0} (r : Result A E) → (P → Q) → OnOk r P → OnOk r Q
+on_ok (Ok x) f p = f p
+on_ok (Err e) f p = tt
+
+pub two : {new' new'' : List ℕ} (old a b : List ℕ) → new' ≡ old ++ a → new'' ≡ new' ++ b → new'' ≡ old ++ (a ++ b)
+two old a b h k = k ∙ ap (λ (l : List ℕ). l ++ b) h ∙ append_assoc old a b
+
+pub three : {new' new'' new''' : List ℕ} (old a b c : List ℕ) → new' ≡ old ++ a → new'' ≡ new' ++ b → new''' ≡ new'' ++ c → new''' ≡ old ++ (a ++ b ++ c)
+three old a b c h k l = two old (a ++ b) c (two old a b h k) l
+
+pub four : {new' new'' new''' new'''' : List ℕ} (old a b c d : List ℕ) → new' ≡ old ++ a → new'' ≡ new' ++ b → new''' ≡ new'' ++ c → new'''' ≡ new''' ++ d → new'''' ≡ old ++ (a ++ b ++ c ++ d)
+four old a b c d h k l m = two old (a ++ b ++ c) d (three old a b c h k l) m

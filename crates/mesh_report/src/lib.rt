@@ -1,0 +1,8 @@
+//! The texts that the program prints.
+#![tactic(auto)]
+
+mod lines;
+mod packet;
+mod pieces;
+
+pub use packet::{LineRead, packet_text, put_packet_text};
