@@ -1,9 +1,11 @@
 -- The listing of a line that was read as a packet, or refused.
-use Rattle.std.specs.Prelude.{ℕ, List, [], ◌∷◌, ◌++◌, Result, Ok, Err}
+use Rattle.std.specs.Prelude.{◌≡◌, ℕ, ◌≤◌, ◌⊎◌, List, [], ◌∷◌, ◌++◌, length, Result, Ok, Err, Bool, true, false, codes}
 use Rattle.std.specs.List.{flat_map}
 use Rattle.mesh_atoms.specs.declared.refusal.Refusal.{Refusal}
 use Rattle.mesh_packet.specs.Fields.{BlockFields, MessageFields, PacketFields, fields_of_decoded}
+use Rattle.mesh_packet.specs.Least.{IsEncodable, LeastForm, IsTooLong}
 use Rattle.mesh_packet.specs.declared.packet.Span.{Span}
+use Rattle.hex.specs.Hex.{encode_lower}
 use Rattle.mesh_report.specs.Lines.{packet_line, tlv_line, message_line, block_line, address_line, addr_tlv_line, refused_line}
 use Rattle.mesh_report.specs.declared.packet.LineRead.{LineRead}
 use Rattle.mesh_report.specs.declared.packet.LineRead.TheVariants.{Read, Refused}
@@ -35,3 +37,29 @@ line_read (Refused refusal) = Err refusal
 abbrev pub line_text : ℕ → Result (PacketFields × List Span) Refusal → List ℕ
 line_text number (Ok read) = listed number read.0 read.1
 line_text number (Err refusal) = refused_line number refusal
+
+-- ---- with the packet written again
+
+-- the octets of a recode, as the last line of a packet
+unfoldable pub recode_line : List ℕ → List ℕ
+recode_line octets = codes " recode " ++ encode_lower octets ++ codes "\n"
+
+-- the last line of a packet: the packet in its least form, or `none` where that has more than 65,507 octets
+abbrev pub IsRecodeLine : PacketFields → List ℕ → Type 0
+IsRecodeLine packet line =
+    ((octets : List ℕ) × LeastForm packet octets × (length octets ≤ 65507) × (line ≡ recode_line octets)) ⊎ (IsTooLong packet × (line ≡ codes " recode none\n"))
+
+-- a packet that was read can be written again
+abbrev pub CanRecode : Result (PacketFields × List Span) Refusal → Type 0
+CanRecode (Ok read) = IsEncodable read.0
+CanRecode (Err refusal) = Unit {0}
+
+-- what is listed of the line of this number, with the packet written again or without
+abbrev pub IsLineText : Bool → ℕ → Result (PacketFields × List Span) Refusal → List ℕ → Type 0
+IsLineText false number read text = text ≡ line_text number read
+IsLineText true number (Ok read) text = (line : List ℕ) × IsRecodeLine read.0 line × (text ≡ listed number read.0 read.1 ++ line)
+IsLineText true number (Err refusal) text = text ≡ refused_line number refusal
+
+-- such a text was put behind the old octets
+abbrev pub Put : (List ℕ → Type 0) → List ℕ → List ℕ → Type 0
+Put IsText old new = (text : List ℕ) × (new ≡ old ++ text) × IsText text
