@@ -1,9 +1,9 @@
 -- The first line of a text, and those after it.
-use Rattle.std.proofs.Common.{◌≡◌, ℕ, ◌+◌, ◌<◌, ◌≤◌, Bool, true, false, cond, eqb, ltb, List, [], ◌∷◌, length, take, drop, Some, None, refl, sym, ap, ◌∙◌, arith}
+use Rattle.std.proofs.Common.{◌≡◌, ℕ, ◌+◌, ◌-◌, ◌<◌, ◌≤◌, Bool, true, false, cond, eqb, ltb, List, [], ◌∷◌, length, take, drop, Some, None, refl, sym, ap, ◌∙◌, arith}
 use Rattle.std.specs.List.{All, position, position_or_len, slice_split, before_first, after_first}
 use Rattle.std.specs.Str.Lines.{lines, lines_of_parts, strip_carriage_return}
 use Rattle.std.proofs.lemmas.Bool.{ltb-true, ltb-false, ne_eqb}
-use Rattle.std.proofs.lemmas.List.{drop_all}
+use Rattle.std.proofs.lemmas.List.{drop_all, drop-drop, take_all, length-drop}
 use Rattle.std.proofs.lemmas.List.Elements.{All-from_get_or}
 use Rattle.std.proofs.lemmas.List.Splits.{slice_split_first, slice_split_none, length-slice_split}
 use Rattle.std.proofs.lemmas.List.Sums.{fails_before_first}
@@ -42,3 +42,9 @@ lines-no_feed text some e =
     ap lines_of_parts (slice_split_none p text none)
     ∙ one_part text some
     ∙ ap (λ (rest : List ℕ). text ∷ lines rest) (sym (drop_all (length text) text (omega arith)))
+
+-- the same from a place in an input
+pub lines-at : (input line : List ℕ) (at used : ℕ) → lines (take (length input - at) (drop at input)) ≡ line ∷ lines (drop used (take (length input - at) (drop at input))) → lines (drop at input) ≡ line ∷ lines (drop (at + used) input)
+lines-at input line at used e =
+    let rest : take (length input - at) (drop at input) ≡ drop at input = take_all (length input - at) (drop at input) (omega (arith, length-drop at input)) in
+    sym (ap lines rest) ∙ e ∙ ap (λ (l : List ℕ). line ∷ lines (drop used l)) rest ∙ ap (λ (l : List ℕ). line ∷ lines l) (drop-drop used at input)

@@ -1,10 +1,10 @@
 -- Text that is put and written in pieces.
-use Rattle.std.proofs.Common.{◌≡◌, ℕ, ◌+◌, Bool, true, false, ltb, List, ◌++◌, length, take, Option, Result, Ok, Err, refl, ap, ◌∙◌, arith, append_assoc}
+use Rattle.std.proofs.Common.{◌≡◌, ℕ, ◌+◌, Bool, true, false, ltb, List, [], ◌++◌, length, take, Option, Some, None, Result, Ok, Err, refl, sym, ap, ◌∙◌, arith, append_assoc}
 use Rattle.std.specs.Prelude.{OnOk, OnErr}
-use Rattle.std.specs.Io.KnownBytes.{Appends}
+use Rattle.std.specs.Io.KnownBytes.{Appends, Keeps}
 use Rattle.std.proofs.lemmas.Bool.{ltb-true, ltb-false}
 use Rattle.std.proofs.Math.Seq.{take-append-add}
-use Rattle.std.proofs.lemmas.List.{take-append-le, take_all, take_at}
+use Rattle.std.proofs.lemmas.List.{take-append-le, take_all, take_at, append-nil}
 use Rattle.mesh_io.proofs.Steps.{appends_more}
 
 -- a piece stands at the end now
@@ -24,6 +24,14 @@ on_ok (Err e) f p = tt
 pub on_err : {A E P Q : Type 0} (r : Result A E) → (P → Q) → OnErr r P → OnErr r Q
 on_err (Ok x) f p = tt
 on_err (Err e) f p = f p
+
+pub keeps_same : (o : Option (List ℕ)) → Keeps o o
+keeps_same None = tt
+keeps_same (Some x) = refl
+
+pub appends_none : (o : Option (List ℕ)) → Appends o o []
+appends_none None = tt
+appends_none (Some x) = sym (append-nil x)
 
 -- a front of `x` is a front of `x ++ y`
 pub front_first : (a b : Option (List ℕ)) (x y : List ℕ) → (n : ℕ) × Appends a b (take n x) → (n : ℕ) × Appends a b (take n (x ++ y))

@@ -5,7 +5,8 @@ use Rattle.hex.specs.declared.error.FromHexError.{FromHexError}
 use Rattle.hex.specs.declared.error.FromHexError.TheVariants.{InvalidHexCharacter, OddLength, InvalidStringLength, OutOfMemory}
 use Rattle.mesh_atoms.specs.declared.refusal.Refusal.{Refusal}
 use Rattle.mesh_atoms.specs.Reading.{◌>>=◌}
-use Rattle.mesh_packet.specs.declared.Packet.{Packet}
+use Rattle.mesh_packet.specs.declared.packet.Span.{Span}
+use Rattle.mesh_packet.specs.Fields.{PacketFields}
 use Rattle.mesh_packet.specs.Reading.{packet_of}
 
 -- why a text of so many octets is no hexadecimal text: 12, at the first octet that is no digit, or 13, an odd number of
@@ -21,8 +22,8 @@ abbrev pub written : ℕ → Result (List ℕ) FromHexError → Result (List ℕ
 written len (Ok octets) = Ok octets
 written len (Err e) = Err (not_hex len e)
 
--- the packet that a line writes, or the line's first fault
-abbrev pub packet_of_line : List ℕ → Result Packet Refusal
+-- the packet that a line writes, and where its messages stand in it, or the line's first fault
+abbrev pub packet_of_line : List ℕ → Result (PacketFields × List Span) Refusal
 packet_of_line line = written (length line) (decode_of line) >>= packet_of
 
 -- whether a line has a fault

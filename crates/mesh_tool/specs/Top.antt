@@ -1,7 +1,10 @@
 -- What the top call answers.
-use Rattle.std.specs.Prelude.{◌≡◌, ℕ, ◌+◌, ◌≤◌, List, [], ◌++◌, length, Option, codes}
+use Rattle.std.specs.Prelude.{◌≡◌, ℕ, ◌+◌, ◌≤◌, List, [], ◌++◌, length, Option, Result, Ok, Err, codes}
 use Rattle.std.specs.Io.KnownBytes.{Consumes, IsAtEnd}
+use Rattle.mesh_tool.specs.Dump.{IsDumpText}
 use Rattle.mesh_tool.specs.Words.{word_at_fault}
+use Rattle.mesh_tool.specs.declared.words.Job.{Job}
+use Rattle.mesh_tool.specs.declared.words.Job.TheVariants as job
 use Rattle.mesh_tool.specs.declared.status.Status.{Status}
 use Rattle.mesh_tool.specs.declared.status.Status.TheVariants as status
 
@@ -21,6 +24,11 @@ pub record IsInput (left left' : Option (List ℕ)) (taken taken' : ℕ) (octets
   pub whole : IsAtEnd left'
   pub count : taken' ≡ taken + length octets
   pub within : length octets ≤ 67108864
+
+-- the text that the words ask for
+abbrev pub IsAskedText : Result Job ℕ → List ℕ → List ℕ → Type 0
+IsAskedText (Ok (job.Dump recode)) octets text = IsDumpText octets recode text
+IsAskedText (Err place) octets text = ⊥
 
 -- the statuses of a fault that is told on err
 abbrev pub IsTold : Status → Type 0

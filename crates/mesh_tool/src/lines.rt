@@ -1,11 +1,16 @@
 //! Lines of hexadecimal text.
-ghost use Rattle.std.specs.Prelude.{◌≡◌, ◌∷◌, ◌<◌, ◌≤◌, ◌==◌, length, drop, position, IfOk};
+ghost use Rattle.std.specs.Prelude.{◌≡◌, ◌∷◌, ◌<◌, ◌≤◌, ◌==◌, length, drop, position, is_ok, if◌then◌else◌, OnOk, IfOk};
 ghost use Rattle.std.specs.Str.Lines.{lines, strip_carriage_return};
-ghost use Rattle.mesh_tool.specs.Lines.{packet_of_line};
+ghost use Rattle.hex.specs.Hex.{decode_of};
+ghost use Rattle.mesh_atoms.specs.Reading.{Gives};
+ghost use Rattle.mesh_packet.specs.Reading.{packet_of};
+ghost use Rattle.mesh_report.specs.Packets.{line_read, CanRecode, IsLineText, Put};
+ghost use Rattle.mesh_tool.specs.Lines.{written, packet_of_line, is_refused};
 
 use hex::FromHexError;
-use mesh_atoms::Refusal;
-use mesh_packet::{Packet, decode};
+use mesh_atoms::{Bytes, DecodeFault, refuse};
+use mesh_packet::decode;
+use mesh_report::{LineRead, put_packet_text};
 use std::alloc::{AllocError, Global};
 
 // The rules that a text can break before it is a frame.
@@ -45,20 +50,77 @@ pub fn first_line(text: &[u8]) -> (&[u8], usize)
     }
 }
 
-// The packet that a line writes, or the line's first fault.
-pub fn read_line(alloc: Global, line: &[u8]) -> Result<Result<Packet, Refusal>, AllocError>
-    ensures { IfOk result (λ read. read ≡ packet_of_line line.now) }
+// The octets that a line writes.
+fn octets_of(alloc: Global, line: &[u8]) -> Result<Bytes, DecodeFault>
+    ensures { Gives (λ octets. octets) result (written (length line.now) (decode_of line.now)) }
 {
     match hex::decode(alloc, line) {
-        Ok(octets) => Ok(decode(octets.as_slice())),
-        Err(FromHexError::InvalidHexCharacter { index, .. }) => Ok(Err(Refusal {
-            place: index,
-            reason: NOT_HEX,
-        })),
-        Err(FromHexError::OddLength) => Ok(Err(Refusal {
-            place: line.len(),
-            reason: ODD_DIGITS,
-        })),
-        Err(_) => Err(AllocError),
+        Ok(octets) => Ok(Bytes::from_vec(octets)),
+        Err(FromHexError::InvalidHexCharacter { index, .. }) => {
+            Err(DecodeFault::Refused(refuse(index, NOT_HEX)))
+        }
+        Err(FromHexError::OddLength) => Err(DecodeFault::Refused(refuse(line.len(), ODD_DIGITS))),
+        Err(_) => Err(DecodeFault::Memory(AllocError)),
+    }
+}
+
+// What a frame says.
+fn read_frame<'a>(alloc: Global, frame: &'a [u8]) -> Result<LineRead<'a>, AllocError>
+    ensures read { IfOk result (λ read. line_read read ≡ packet_of frame.now) }
+    ensures recode { IfOk result (λ read. CanRecode (line_read read)) }
+{
+    match decode(alloc, frame) {
+        Ok(decoded) => Ok(LineRead::Read(decoded)),
+        Err(DecodeFault::Refused(refusal)) => Ok(LineRead::Refused(refusal)),
+        Err(DecodeFault::Memory(e)) => Err(e),
+    }
+}
+
+// 1 where a line is refused, else 0.
+fn refusals(read: &LineRead) -> u64
+    ensures { result ≡ (if is_ok (line_read read.now) then 0 else 1) }
+{
+    match read {
+        LineRead::Read(_) => 0,
+        LineRead::Refused(_) => 1,
+    }
+}
+
+// Puts what was read of the line of this number, and gives 1 where it is refused, else 0.
+fn put_read(
+    alloc: Global,
+    out: &mut Bytes,
+    number: u64,
+    read: &LineRead,
+    recode: bool,
+) -> Result<u64, AllocError>
+    requires { CanRecode (line_read read.now) }
+    ensures text { OnOk result (Put (IsLineText recode number (line_read read.now)) out.old out.new) }
+    ensures refused { IfOk result (λ count. count ≡ (if is_ok (line_read read.now) then 0 else 1)) }
+{
+    put_packet_text(alloc, out, number, read, recode)?;
+    Ok(refusals(read))
+}
+
+/// Puts the listing of the line of this number, and gives 1 where the line is refused, else 0.
+pub fn put_line(
+    alloc: Global,
+    out: &mut Bytes,
+    number: u64,
+    line: &[u8],
+    recode: bool,
+) -> Result<u64, AllocError>
+    ensures text { OnOk result (Put (IsLineText recode number (packet_of_line line.now)) out.old out.new) }
+    ensures refused { IfOk result (λ count. count ≡ (if is_refused line.now then 1 else 0)) }
+{
+    match octets_of(alloc, line) {
+        Ok(octets) => {
+            let read = read_frame(alloc, octets.as_slice())?;
+            put_read(alloc, out, number, &read, recode)
+        }
+        Err(DecodeFault::Refused(refusal)) => {
+            put_read(alloc, out, number, &LineRead::Refused(refusal), recode)
+        }
+        Err(DecodeFault::Memory(e)) => Err(e),
     }
 }

@@ -12,8 +12,7 @@ use mesh_io::{Sink, WriteFault, write_all};
 // Writes the first octets, and then the second ones.
 pub fn write_both<O: Sink>(out: &mut O, first: &[u8], second: &[u8]) -> Result<(), WriteFault>
     ensures whole { OnOk result (Appends (O.content out.old) (O.content out.new) (first.now ++ second.now)) }
-    ensures part { OnErr result ((n : ℕ)
-        × Appends (O.content out.old) (O.content out.new) (take n (first.now ++ second.now))) }
+    ensures part { OnErr result ((n : ℕ) × Appends (O.content out.old) (O.content out.new) (take n (first.now ++ second.now))) }
     ensures failed { OnErr result (Rose (O.faults out.old) (O.faults out.new)) }
     ensures later { O.faults out.old ≤ O.faults out.new }
 {
@@ -30,10 +29,8 @@ fn write_three<O: Sink>(
     second: &[u8],
     third: &[u8],
 ) -> Result<(), WriteFault>
-    ensures whole { OnOk result
-        (Appends (O.content out.old) (O.content out.new) (first.now ++ (second.now ++ third.now))) }
-    ensures part { OnErr result ((n : ℕ)
-        × Appends (O.content out.old) (O.content out.new) (take n (first.now ++ (second.now ++ third.now)))) }
+    ensures whole { OnOk result (Appends (O.content out.old) (O.content out.new) (first.now ++ (second.now ++ third.now))) }
+    ensures part { OnErr result ((n : ℕ) × Appends (O.content out.old) (O.content out.new) (take n (first.now ++ (second.now ++ third.now)))) }
     ensures failed { OnErr result (Rose (O.faults out.old) (O.faults out.new)) }
     ensures later { O.faults out.old ≤ O.faults out.new }
 {
@@ -58,8 +55,7 @@ fn faulty_word(words: &[String]) -> &[u8]
 }
 
 fn tell_line<E: Sink>(err: &mut E, line: &[u8], status: Status) -> Status
-    ensures tells { Tells (E.content err.old) (E.content err.new) (E.faults err.old) (E.faults err.new)
-        line.now status result }
+    ensures tells { Tells (E.content err.old) (E.content err.new) (E.faults err.old) (E.faults err.new) line.now status result }
     ensures later { E.faults err.old ≤ E.faults err.new }
 {
     match write_all(err, line) {
@@ -69,8 +65,7 @@ fn tell_line<E: Sink>(err: &mut E, line: &[u8], status: Status) -> Status
 }
 
 fn tell_words<E: Sink>(err: &mut E, words: &[String]) -> Status
-    ensures tells { Tells (E.content err.old) (E.content err.new) (E.faults err.old) (E.faults err.new)
-        (fault_text (texts words.now) Status.Words) Status.Words result }
+    ensures tells { Tells (E.content err.old) (E.content err.new) (E.faults err.old) (E.faults err.new) (fault_text (texts words.now) Status.Words) Status.Words result }
     ensures later { E.faults err.old ≤ E.faults err.new }
 {
     match write_three(err, b"mesh: words ", faulty_word(words), b"\n") {
@@ -81,10 +76,9 @@ fn tell_words<E: Sink>(err: &mut E, words: &[String]) -> Status
 
 // Tells a fault on `err`, and answers the status, or that of a failed write.
 pub fn tell<E: Sink>(err: &mut E, words: &[String], status: Status) -> Status
-    ensures tells { Tells (E.content err.old) (E.content err.new) (E.faults err.old) (E.faults err.new)
-        (fault_text (texts words.now) status) status result }
-    ensures silent { ¬ IsTold status → result ≡ status }
-    ensures kept { ¬ IsTold status → Appends (E.content err.old) (E.content err.new) [] }
+    ensures tells { Tells (E.content err.old) (E.content err.new) (E.faults err.old) (E.faults err.new) (fault_text (texts words.now) status) status result }
+    ensures silent { (IsTold status → ⊥) → result ≡ status }
+    ensures kept { (IsTold status → ⊥) → Appends (E.content err.old) (E.content err.new) [] }
     ensures later { E.faults err.old ≤ E.faults err.new }
 {
     match status {
