@@ -2,14 +2,12 @@
 use Rattle.std.proofs.Common.{◌≡◌, ℕ, ◌+◌, ◌<◌, ◌≤◌, List, [], ◌∷◌, ◌++◌, length, map, ap, arith}
 use Rattle.std.specs.List.{flat_map}
 use Rattle.std.proofs.lemmas.List.{length-append}
-use Rattle.mesh_tlv.specs.Items.{SpellsItems}
 use Rattle.mesh_tlv.specs.Least.{least_tlv, least_addr_tlv, least_block, least_short, IsTooLong}
 use Rattle.mesh_tlv.specs.declared.tlv.Tlv.{Tlv}
 use Rattle.mesh_tlv.specs.Fields.{fields}
 use Rattle.mesh_tlv.proofs.Lengths.{tlv_longer, addr_tlv_longer, block_longer}
 use Rattle.mesh_packet.specs.Fields.{BlockFields, MessageFields, PacketFields}
-use Rattle.mesh_packet.specs.Least as packets
-use Rattle.mesh_packet.specs.Least.{LeastPair, LeastBody, LeastMessage, LeastForm, least_head, least_number, least_header_tlvs, message_flags, packet_flags, Passes}
+use Rattle.mesh_packet.specs.Least.{LeastPair, LeastBody, LeastMessage, LeastForm, least_head, least_number, least_header_tlvs, Passes}
 use Rattle.mesh_packet.proofs.Items.{AreSameLength, items_same}
 
 pub pair_same : AreSameLength LeastPair
@@ -52,24 +50,9 @@ pair_passes b long = λ text h.
 pub body_tlvs_pass : (m : MessageFields) → IsTooLong least_tlv (λ tlv. tlv.value) m.tlvs → Passes (LeastBody m) 0
 body_tlvs_pass m long = λ text h. omega (arith, body_long m text h, block_passes least_tlv m.tlvs (block_longer least_tlv (λ tlv. tlv.value) tlv_longer m.tlvs long))
 
-pub body_blocks_pass : (m : MessageFields) → Passes (SpellsItems LeastPair m.blocks) 0 → Passes (LeastBody m) 0
-body_blocks_pass m k = λ text h. omega (arith, body_long m text h, k h.blocks h.blocks_is)
-
-pub message_passes_by_body : (m : MessageFields) (before : ℕ) → Passes (LeastBody m) 0 → Passes (LeastMessage m) before
-message_passes_by_body m before k = λ text h. omega (arith, message_long m text h, k h.body h.body_is)
-
 pub message_passes_by_length : (m : MessageFields) (before : ℕ) (body : List ℕ) → LeastBody m body → 65507 < before + (4 + length body) → Passes (LeastMessage m) before
 message_passes_by_length m before body b lt = λ text h. omega (arith, message_long m text h, body_same m body h.body b h.body_is)
 
 pub header_tlvs_pass : (tlvs : List Tlv) → 1 ≤ length tlvs → IsTooLong least_tlv (λ tlv. tlv.value) (map fields tlvs) → 65507 < length (least_header_tlvs (map fields tlvs))
 header_tlvs_pass [] some long = absurd (omega (arith, some))
 header_tlvs_pass (t ∷ ts) some long = omega (arith, block_passes least_tlv (map fields (t ∷ ts)) (block_longer least_tlv (λ tlv. tlv.value) tlv_longer (map fields (t ∷ ts)) long))
-
-pub form_passes_by_header : (p : PacketFields) → 65507 < 1 + length (least_number p.sequence) + length (least_header_tlvs p.tlvs) → packets.IsTooLong p
-form_passes_by_header p lt = λ text h. omega (arith, form_long p text h)
-
-pub form_passes_by_messages : (p : PacketFields) (header : List ℕ) → header ≡ packet_flags p ∷ (least_number p.sequence ++ least_header_tlvs p.tlvs) → Passes (SpellsItems LeastMessage p.messages) (length header) → packets.IsTooLong p
-form_passes_by_messages p header e k = λ text h. omega (arith, form_long p text h, ap length e, length-append (least_number p.sequence) (least_header_tlvs p.tlvs), k h.messages h.messages_is)
-
-pub form_fits : (p : PacketFields) (bytes : List ℕ) → LeastForm p bytes → length bytes ≤ 65507 → packets.IsTooLong p → ⊥
-form_fits p bytes h le long = absurd (omega (arith, long bytes h))

@@ -1,5 +1,5 @@
 -- What the writers put behind the old octets, part by part.
-use Rattle.std.proofs.Common.{◌≡◌, ℕ, List, [], ◌∷◌, ◌++◌, length, Result, Err, refl, ap, ◌∙◌, append_assoc}
+use Rattle.std.proofs.Common.{◌≡◌, ℕ, List, [], ◌++◌, length, Result, Err, refl, ap, ◌∙◌, append_assoc}
 use Rattle.std.specs.Result.{IsErrAnd}
 use Rattle.std.proofs.lemmas.Result.{err_from_is_err_and}
 use Rattle.mesh_addr.specs.Least.{WroteLeast}
@@ -9,8 +9,8 @@ use Rattle.mesh_tlv.specs.Items.{SpellsItems}
 use Rattle.mesh_tlv.specs.Least.{least_tlv, least_addr_tlv, least_block}
 use Rattle.mesh_packet.specs.declared.packet.EncodeFault.{EncodeFault}
 use Rattle.mesh_packet.specs.declared.packet.EncodeFault.TheVariants as faults
-use Rattle.mesh_packet.specs.Fields.{BlockFields, MessageFields, PacketFields}
-use Rattle.mesh_packet.specs.Least.{LeastPair, LeastBody, LeastMessage, LeastForm, least_head, least_number, least_header_tlvs, packet_flags, Wrote, as_encode_fault}
+use Rattle.mesh_packet.specs.Fields.{BlockFields, MessageFields}
+use Rattle.mesh_packet.specs.Least.{LeastPair, LeastBody, least_head, Wrote, as_encode_fault}
 
 told : (f : WriteTlv) → as_encode_fault f ≡ faults.TooLong → f ≡ tlvs.TooLong
 told tlvs.TooLong h = refl
@@ -40,13 +40,6 @@ body_wrote m old head tlvs new e k h =
 -- a body that was put behind no octets
 pub body_alone : (m : MessageFields) (old new : List ℕ) → old ≡ [] → Wrote (LeastBody m) old new → LeastBody m new
 body_alone m old new e h = rw (h.1, e) h.2
-
-pub form_wrote : (p : PacketFields) (header new : List ℕ) → header ≡ packet_flags p ∷ (least_number p.sequence ++ least_header_tlvs p.tlvs) → Wrote (SpellsItems LeastMessage p.messages) header new → LeastForm p new
-form_wrote p header new e h = record {
-  messages = h.0;
-  messages_is = h.2;
-  whole = h.1 ∙ ap (λ (l : List ℕ). l ++ h.0) e ∙ ap (λ (l : List ℕ). packet_flags p ∷ l) (append_assoc (least_number p.sequence) (least_header_tlvs p.tlvs) h.0);
-}
 
 -- a fault that is handed on
 pub handed_on : {A B : Type 0} (r : Result A EncodeFault) (w : Result B EncodeFault) (f : EncodeFault) → w ≡ Err f → IsErrAnd r (λ e. e ≡ f) → r ≡ Err faults.TooLong → w ≡ Err faults.TooLong

@@ -104,18 +104,16 @@ pub record LeastForm (packet : PacketFields) (bytes : List ℕ) : Type 0 where
   pub messages_is : SpellsItems LeastMessage packet.messages messages
   pub whole : bytes ≡ packet_flags packet ∷ (least_number packet.sequence ++ (least_header_tlvs packet.tlvs ++ messages))
 
--- ---- what is too long
-
--- Each text of this kind, behind so many octets, passes 65,507 octets, the most that a datagram of UDP over IPv4 takes.
-abbrev pub Passes : (List ℕ → Type 0) → ℕ → Type 0
-Passes Least before = (text : List ℕ) → Least text → 65507 < before + length text
-
--- The least form has more than 65,507 octets, as it has where a message, a TLV block or a value has more than 65,535. All
--- least forms of a packet are of the same length.
+-- The packet has a least form of more than 65,507 octets, the most that a datagram of UDP over IPv4 takes. So it is where a
+-- message, a TLV block or a value has more than 65,535. All least forms of a packet are of one length.
 abbrev pub IsTooLong : PacketFields → Type 0
-IsTooLong packet = Passes (LeastForm packet) 0
+IsTooLong packet = (bytes : List ℕ) × LeastForm packet bytes × (65507 < length bytes)
 
 -- ---- words of the writers
+
+-- each text of this kind, behind so many octets, passes 65,507
+abbrev pub Passes : (List ℕ → Type 0) → ℕ → Type 0
+Passes Least before = (text : List ℕ) → Least text → 65507 < before + length text
 
 -- a text of this kind was put behind the old octets
 abbrev pub Wrote : (List ℕ → Type 0) → List ℕ → List ℕ → Type 0

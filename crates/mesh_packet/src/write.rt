@@ -216,7 +216,7 @@ fn write_header(packet: &Packet, out: &mut Bytes) -> Result<(), EncodeFault>
 fn least_form(alloc: Global, packet: &Packet) -> Result<Bytes, EncodeFault>
     requires { IsEncodable (fields_of_packet packet.now) }
     ensures ok { IfOk result (λ bytes. LeastForm (fields_of_packet packet.now) bytes × (length bytes ≤ 65507)) }
-    ensures too_long { result ≡ Err EncodeFault.TooLong → IsTooLong (fields_of_packet packet.now) }
+    ensures too_long { result ≡ Err EncodeFault.TooLong → Passes (LeastForm (fields_of_packet packet.now)) 0 }
 {
     let mut out = Bytes::new(alloc);
     write_header(packet, &mut out)?;
