@@ -59,7 +59,3 @@ abbrev pub IsLineText : Bool → ℕ → Result (PacketFields × List Span) Refu
 IsLineText false number read text = text ≡ line_text number read
 IsLineText true number (Ok read) text = (line : List ℕ) × IsRecodeLine read.0 line × (text ≡ listed number read.0 read.1 ++ line)
 IsLineText true number (Err refusal) text = text ≡ refused_line number refusal
-
--- such a text was put behind the old octets
-abbrev pub Put : (List ℕ → Type 0) → List ℕ → List ℕ → Type 0
-Put IsText old new = (text : List ℕ) × (new ≡ old ++ text) × IsText text

@@ -4,5 +4,7 @@
 mod lines;
 mod packet;
 mod pieces;
+#[cfg(test)]
+mod tests;
 
 pub use packet::{LineRead, packet_text, put_packet_text};

@@ -1,7 +1,7 @@
 //! The listing of lines of hexadecimal text as packets.
 ghost use Rattle.std.specs.Prelude.{◌≡◌, ◌++◌, ◌≤◌, length, OnOk, IfOk};
 ghost use Rattle.std.specs.Str.Lines.{lines};
-ghost use Rattle.mesh_report.specs.Packets.{Put};
+ghost use Rattle.mesh_packet.specs.Least.{Wrote};
 ghost use Rattle.mesh_tool.specs.Dump.{IsLinesText, total_text};
 ghost use Rattle.mesh_tool.specs.Lines.{refused_count};
 ghost use Rattle.mesh_tool.specs.Parts.{Lists};
@@ -37,7 +37,7 @@ fn put_lines(
     input: &[u8],
     recode: bool,
 ) -> Result<Counts, AllocError>
-    ensures text { OnOk result (Put (IsLinesText recode 1 (lines input.now)) out.old out.new) }
+    ensures text { OnOk result (Wrote (IsLinesText recode 1 (lines input.now)) out.old out.new) }
     ensures lines { IfOk result (λ counts. counts.lines ≡ length (lines input.now)) }
     ensures refused { IfOk result (λ counts. counts.refused ≡ refused_count (lines input.now)) }
 {

@@ -4,7 +4,8 @@ ghost use Rattle.std.specs.Str.Lines.{lines, strip_carriage_return};
 ghost use Rattle.hex.specs.Hex.{decode_of};
 ghost use Rattle.mesh_atoms.specs.Reading.{Gives};
 ghost use Rattle.mesh_packet.specs.Reading.{packet_of};
-ghost use Rattle.mesh_report.specs.Packets.{line_read, CanRecode, IsLineText, Put};
+ghost use Rattle.mesh_packet.specs.Least.{Wrote};
+ghost use Rattle.mesh_report.specs.Packets.{line_read, CanRecode, IsLineText};
 ghost use Rattle.mesh_tool.specs.Lines.{written, packet_of_line, is_refused};
 
 use hex::FromHexError;
@@ -95,7 +96,7 @@ fn put_read(
     recode: bool,
 ) -> Result<u64, AllocError>
     requires { CanRecode (line_read read.now) }
-    ensures text { OnOk result (Put (IsLineText recode number (line_read read.now)) out.old out.new) }
+    ensures text { OnOk result (Wrote (IsLineText recode number (line_read read.now)) out.old out.new) }
     ensures refused { IfOk result (λ count. count ≡ (if is_ok (line_read read.now) then 0 else 1)) }
 {
     put_packet_text(alloc, out, number, read, recode)?;
@@ -110,7 +111,7 @@ pub fn put_line(
     line: &[u8],
     recode: bool,
 ) -> Result<u64, AllocError>
-    ensures text { OnOk result (Put (IsLineText recode number (packet_of_line line.now)) out.old out.new) }
+    ensures text { OnOk result (Wrote (IsLineText recode number (packet_of_line line.now)) out.old out.new) }
     ensures refused { IfOk result (λ count. count ≡ (if is_refused line.now then 1 else 0)) }
 {
     match octets_of(alloc, line) {

@@ -2,7 +2,7 @@ use Rattle.std.proofs.Common.{◌≡◌, ℕ, ◌+◌, ◌≤◌, Bool, true, fa
 use Rattle.std.specs.Str.Lines.{lines}
 use Rattle.std.proofs.lemmas.List.{append-nil, drop_all}
 use Rattle.std.proofs.lemmas.List.Sums.{sum_by-cons}
-use Rattle.mesh_report.specs.Packets.{Put}
+use Rattle.mesh_packet.specs.Least.{Wrote}
 use Rattle.mesh_tool.specs.Dump.{IsLinesText}
 use Rattle.mesh_tool.specs.Lines.{is_refused, refused_count}
 use Rattle.mesh_tool.proofs.FirstLine.{lines-at}
@@ -19,8 +19,8 @@ lines-preserved c =
     let more : List (List ℕ) = lines (drop (c.lines.at + c.first_line-used.result.1) c.args.input.now) in
     let cut : lines (drop c.lines.at c.args.input.now) ≡ line ∷ more = lines-at c.args.input.now line c.lines.at c.first_line-used.result.1 c.first_line-used.ensures.line in
     let text = c.in_ok-refused.ensures.text in
-    let whole : (rest : List ℕ) → IsLinesText c.args.recode (c.lines.number + 1 + 1) more rest → Put (IsLinesText c.args.recode 1 (lines c.args.input.now)) c.args.out.now (c.put_line.new.out ++ rest)
-      = λ rest h. rw (text.1, append_assoc) (i.text (text.0 ++ rest) (rw cut (text.0, rest, text.2, h, refl))) in
+    let whole : (rest : List ℕ) → IsLinesText c.args.recode (c.lines.number + 1 + 1) more rest → Wrote (IsLinesText c.args.recode 1 (lines c.args.input.now)) c.args.out.now (c.put_line.new.out ++ rest)
+    = λ rest h. rw (text.1, append_assoc) (i.text (text.0 ++ rest) (rw cut (text.0, rest, text.2, h, refl))) in
     let refused = c.in_ok-refused.ensures.refused in
     record {
       within = omega (arith, i.within, c.first_line-used.ensures.within);

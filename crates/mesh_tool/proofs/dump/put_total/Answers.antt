@@ -1,6 +1,7 @@
 use Rattle.std.proofs.Common.{codes, decimal}
 use Rattle.mesh_tool.specs.Dump.{total_text}
-use Rattle.mesh_tool.proofs.Pieces.{adds, join, on_ok}
+use Rattle.mesh_report.proofs.Joined.{on_ok}
+use Rattle.mesh_tool.proofs.Pieces.{adds, join}
 use Rattle.mesh_tool.proofs.dump.put_total.Goals as goal
 
 pub returns : goal.returns

@@ -1,6 +1,7 @@
 use Rattle.std.proofs.Common.{◌++◌}
 use Rattle.mesh_io.proofs.Steps.{appends_more}
-use Rattle.mesh_tool.proofs.Pieces.{on_ok, on_err, front_first, front_second}
+use Rattle.mesh_report.proofs.Joined.{on_ok}
+use Rattle.mesh_tool.proofs.Pieces.{on_err, front_first, front_second}
 use Rattle.mesh_tool.proofs.say.write_three.Goals as goal
 
 pub returns-in-Ok-clause-whole : goal.returns-in-Ok-clause-whole
