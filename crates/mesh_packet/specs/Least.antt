@@ -97,8 +97,8 @@ least_header_tlvs (t ∷ ts) = least_block least_tlv (t ∷ ts)
 abbrev pub packet_flags : PacketFields → ℕ
 packet_flags p = flag (is_some p.sequence) 8 + flag (has_tlvs p.tlvs) 4
 
--- The least form of a packet. Its length fields are written of any length (their high octet is then no octet), so that a
--- packet that is too long has one too.
+-- The least form of a packet. Its length fields are defined above 65,535 too (their high number is then no octet), so that a
+-- packet that is too long has a least form as well.
 pub record LeastForm (packet : PacketFields) (bytes : List ℕ) : Type 0 where
   pub messages : List ℕ
   pub messages_is : SpellsItems LeastMessage packet.messages messages
