@@ -1,5 +1,5 @@
 -- The cheapest choice is spelled, and no spelling has fewer octets.
-use Rattle.std.proofs.Common.{◌≡◌, ℕ, zero, suc, ◌+◌, ◌-◌, ◌*◌, ◌<◌, ◌≤◌, Bool, true, false, cond, eqb, List, [], ◌∷◌, ◌++◌, length, take, Ok, refl, sym, ap, subst, ◌∙◌, arith, append_assoc, length-append}
+use Rattle.std.proofs.Common.{◌≡◌, ℕ, zero, suc, ◌+◌, ◌-◌, ◌*◌, ◌%◌, ◌<◌, ◌≤◌, Bool, true, false, cond, eqb, List, [], ◌∷◌, ◌++◌, length, take, Ok, refl, sym, ap, subst, ◌∙◌, arith, append_assoc, length-append}
 use Rattle.std.specs.Prelude.{slice_range, replicate, not, ◌&&◌}
 use Rattle.std.proofs.lemmas.Bool.{eq-eqb, eqb-true, ne_eqb}
 use Rattle.std.proofs.lemmas.List.{take_at, drop_at, length-replicate, length-take, length-take-le, nil_from_length, append-nil}
@@ -15,7 +15,7 @@ use Rattle.mesh_addr.specs.declared.choices.TailForm.TheVariants as tails
 use Rattle.mesh_addr.specs.declared.choices.PrefixForm.{PrefixForm}
 use Rattle.mesh_addr.specs.declared.choices.PrefixForm.TheVariants as forms
 use Rattle.mesh_addr.specs.Grammar.{padded, SpellsHead, SpellsTail, SpellsMids, SpellsPrefixes, AreAll, AreAtMost, prefixes, SpellsBlock, AreRaw, IsWritable}
-use Rattle.mesh_addr.specs.Spelling.{tail_len, last_octets, ShareHead, ShareTail, TailFits, IsPossible, head_cost, tail_cost, cost, tail_rank, choice_rank, weight, IsBestOf, all_have, form_of, tail_flag, form_flag, flags_of, head_text, tail_text, mids_text, prefixes_text, text_of}
+use Rattle.mesh_addr.specs.Spelling.{tail_len, last_octets, ShareHead, ShareTail, TailFits, IsPossible, head_cost, tail_cost, cost, tail_rank, choice_rank, weight, IsBestOf, all_have, form_of, head_flag, tail_flag, form_flag, flags_of, head_text, tail_text, mids_text, prefixes_text, text_of}
 use Rattle.mesh_addr.specs.Least.{IsLeast, rank, IsFirst, WroteLeast, IsReadBack}
 use Rattle.mesh_addr.proofs.ReadAgain.{mids_long, first_all, block_again}
 
@@ -350,10 +350,31 @@ module _ (w : ℕ) (first : RawAddr) (more : List RawAddr) (choice : Choice) (sm
       let ranked : choice_rank choice ≤ choice_rank spelled_choice.choice = omega (arith, cheap, no_lighter) in
       rw (text_rank w first more choice small raw best.among) (omega (arith, ranked, form, spelled_choice.ranked))
 
+-- no reserved flag is written
+unreserved_head : (n : ℕ) → head_flag n % 8 ≡ 0
+unreserved_head n = by (eqb n 0) where
+  by : (b : Bool) → cond b 0 128 % 8 ≡ 0
+  by true = refl
+  by false = refl
+
+unreserved_tail : (t : TailForm) → tail_flag t % 8 ≡ 0
+unreserved_tail tails.Absent = refl
+unreserved_tail (tails.Zeros n) = refl
+unreserved_tail (tails.Full n) = refl
+
+unreserved_form : (f : PrefixForm) → form_flag f % 8 ≡ 0
+unreserved_form forms.Absent = refl
+unreserved_form forms.One = refl
+unreserved_form forms.Each = refl
+
+unreserved_flags : (choice : Choice) (form : PrefixForm) → flags_of choice form % 8 ≡ 0
+unreserved_flags choice form = omega (arith, unreserved_head choice.head, unreserved_tail choice.tail, unreserved_form form)
+
 least_text : (w : ℕ) (first : RawAddr) (more : List RawAddr) (choice : Choice) → w ≤ 16 → AreRaw w (first ∷ more) → IsBestOf w (length (first ∷ more)) (IsPossible w first (first ∷ more)) choice → IsLeast w (first ∷ more) (text_of w first (first ∷ more) choice (form_of w first (first ∷ more)))
-unfolding form_of
+unfolding form_of text_spelled
 least_text w first more choice small raw best = record {
   spelled = text_spelled w first more choice small raw best.among;
+  unreserved = unreserved_flags choice (form_for (all_have (8 * w) (first ∷ more)) (all_have first.prefix (first ∷ more)));
   least = not_longer w first more choice small raw best;
   preferred = not_later w first more choice small raw best;
 }

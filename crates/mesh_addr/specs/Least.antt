@@ -1,5 +1,5 @@
 -- The spelling of a block that is written: of the fewest octets, and among those the one that is preferred.
-use Rattle.std.specs.Prelude.{◌≡◌, ℕ, ◌+◌, ◌*◌, ◌≤◌, List, [], ◌∷◌, ◌++◌, length, cond, Ok}
+use Rattle.std.specs.Prelude.{◌≡◌, ◌%◌, ℕ, ◌+◌, ◌*◌, ◌≤◌, List, [], ◌∷◌, ◌++◌, length, cond, Ok}
 use Rattle.mesh_atoms.specs.Reading.{has}
 use Rattle.mesh_addr.specs.declared.records.RawAddr.{RawAddr}
 use Rattle.mesh_addr.specs.Grammar.{SpellsBlock}
@@ -12,9 +12,11 @@ rank spelled =
     ((length spelled.head * 3 + cond (has spelled.flags 64) 2 (cond (has spelled.flags 32) 1 0)) * 17 + length spelled.tail) * 3
     + cond (has spelled.flags 16) 1 (cond (has spelled.flags 8) 2 0)
 
--- A spelling of the block. None has fewer octets, and of those with as many this is the one to be preferred.
+-- A spelling of the block without a reserved flag (1, 2 and 4). None has fewer octets, and of those with as many this is the
+-- one to be preferred.
 pub record IsLeast (width : ℕ) (addrs : List RawAddr) (text : List ℕ) : Type 0 where
   pub spelled : SpellsBlock width addrs text
+  pub unreserved : spelled.flags % 8 ≡ 0
   pub least : (other : List ℕ) → SpellsBlock width addrs other → length text ≤ length other
   pub preferred : (other : List ℕ) (h : SpellsBlock width addrs other) → length other ≡ length text → rank spelled ≤ rank h
 
