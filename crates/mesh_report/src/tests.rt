@@ -20,6 +20,6 @@ fn texts_of_lines(rt: HostRuntime) -> Result<(), AllocError> {
         reason: 5,
     });
     let text = packet_text(rt.alloc(), 3, &refused, true)?;
-    assert!(rt; text.as_slice() == b"line 3 refused at 8 reason 5 TlvFlags\n");
+    assert!(rt; text.as_slice() == "line 3 refused at 8 reason 5 TlvFlags\n".as_bytes());
     Ok(())
 }
