@@ -1,4 +1,4 @@
-use Rattle.std.proofs.Common.{◌≡◌, ℕ, suc, ◌+◌, ◌<◌, ◌++◌, List, sym, ap, ◌∙◌, arith, append_assoc, add-one, length, map, take, get_or}
+use Rattle.std.proofs.Common.{◌≡◌, ℕ, suc, ◌<◌, ◌++◌, List, sym, ap, ◌∙◌, arith, append_assoc, add-one, length, map, take, get_or}
 use Rattle.std.proofs.lemmas.List.{append-nil}
 use Rattle.mesh_packet.specs.Fields.{fields_of_message}
 use Rattle.mesh_packet.specs.declared.packet.Span.{Span}

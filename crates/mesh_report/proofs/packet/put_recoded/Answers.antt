@@ -1,4 +1,4 @@
-use Rattle.std.proofs.Common.{◌≡◌, ◌++◌, List, ℕ, refl}
+use Rattle.std.proofs.Common.{◌++◌, List, ℕ, refl}
 use Rattle.mesh_packet.specs.Fields.{fields_of_packet}
 use Rattle.mesh_report.specs.Packets.{listed}
 use Rattle.mesh_report.proofs.Joined.{on_ok, two}
