@@ -1,0 +1,167 @@
+-- A message that keeps the rules of a HELLO reads as one HELLO.
+use Rattle.std.proofs.Common.{◌≡◌, ℕ, zero, suc, ◌/◌, ◌%◌, inl, inr, List, Bool, refl, sym, ap, subst, ◌∙◌}
+use Rattle.std.specs.Prelude.{Option, Some, None, IsSome}
+use Rattle.mesh_atoms.specs.declared.addr.Addr4.{Addr4}
+use Rattle.mesh_atoms.specs.declared.addr.NetAddr.{NetAddr}
+use Rattle.mesh_atoms.specs.declared.hello.LocalIf.{LocalIf}
+use Rattle.mesh_atoms.specs.declared.hello.LocalIf.TheVariants.{This, Other}
+use Rattle.mesh_atoms.specs.declared.hello.LinkStatus.{LinkStatus}
+use Rattle.mesh_atoms.specs.declared.hello.LinkStatus.TheVariants as link
+use Rattle.mesh_atoms.specs.declared.hello.OtherStatus.{OtherStatus}
+use Rattle.mesh_atoms.specs.declared.hello.OtherStatus.TheVariants as other
+use Rattle.mesh_atoms.specs.declared.hello.Metrics.{Metrics}
+use Rattle.mesh_atoms.specs.declared.hello.Mpr.{Mpr}
+use Rattle.mesh_atoms.specs.declared.hello.Willing.{Willing}
+use Rattle.mesh_atoms.specs.declared.hello.HelloRow.{HelloRow}
+use Rattle.mesh_atoms.specs.declared.hello.Hello.{Hello}
+use Rattle.mesh_atoms.specs.declared.metric.Metric.{Metric}
+use Rattle.mesh_wire.specs.Hello.{local_value, link_value, other_value, HasWilling, WillingIs, TellsOther, TellsNoOther, IsHelloRow, HelloIs}
+use Rattle.mesh_wire.specs.HelloRules.{BreaksHello, TwoValues, Metric as MetricRule}
+use Rattle.mesh_wire.specs.Kinds.{local_if, link_status, other_neighb, IsStatusBelow}
+use Rattle.mesh_packet.specs.Fields.{MessageFields}
+use Rattle.mesh_wire.specs.Metrics.{Link_in, Link_out, Near_in, Near_out, HasTwoMetrics}
+use Rattle.mesh_wire.specs.Rows.{HasTwoValues}
+use Rattle.mesh_wire.specs.Rules.{Keeps}
+use Rattle.mesh_wire.proofs.Same.{same_willing}
+use Rattle.mesh_wire.proofs.Single.{one_time, one_interval, one_originator, one_octet, one_metric, one_flag, told_by, one_rows}
+
+-- ---- enumerations by their values
+
+local_of : ℕ → LocalIf
+local_of zero = This
+local_of (suc n) = Other
+
+local_again : (x : LocalIf) → local_of (local_value x) ≡ x
+unfolding local_of
+local_again This = refl
+local_again Other = refl
+
+link_of : ℕ → LinkStatus
+link_of zero = link.Lost
+link_of (suc zero) = link.Symmetric
+link_of (suc (suc n)) = link.Heard
+
+link_again : (x : LinkStatus) → link_of (link_value x) ≡ x
+unfolding link_of
+link_again link.Lost = refl
+link_again link.Symmetric = refl
+link_again link.Heard = refl
+
+other_of : ℕ → OtherStatus
+other_of zero = other.Lost
+other_of (suc n) = other.Symmetric
+
+other_again : (x : OtherStatus) → other_of (other_value x) ≡ x
+unfolding other_of
+other_again other.Lost = refl
+other_again other.Symmetric = refl
+
+-- ---- rows
+
+abbrev metrics_of : Option Metric → Option Metric → Option Metric → Option Metric → Metrics
+metrics_of a b c d = record { link_in = a; link_out = b; near_in = c; near_out = d }
+
+same_metrics : (m n : Metrics) → m.link_in ≡ n.link_in → m.link_out ≡ n.link_out → m.near_in ≡ n.near_in → m.near_out ≡ n.near_out → m ≡ n
+same_metrics m n a b c d =
+    ap (λ (x : Option Metric). metrics_of x m.link_out m.near_in m.near_out) a
+    ∙ ap (λ (x : Option Metric). metrics_of n.link_in x m.near_in m.near_out) b
+    ∙ ap (λ (x : Option Metric). metrics_of n.link_in n.link_out x m.near_out) c
+    ∙ ap (λ (x : Option Metric). metrics_of n.link_in n.link_out n.near_in x) d
+
+abbrev mpr_of : Bool → Bool → Mpr
+mpr_of a b = record { flooding = a; routing = b }
+
+same_mpr : (m n : Mpr) → m.flooding ≡ n.flooding → m.routing ≡ n.routing → m ≡ n
+same_mpr m n a b = ap (λ (x : Bool). mpr_of x m.routing) a ∙ ap (λ (x : Bool). mpr_of n.flooding x) b
+
+-- what rows of one address have in common
+record Alike (r s : HelloRow) : Type 0 where
+  link : r.link ≡ s.link
+  other : r.other ≡ s.other
+  metrics : r.metrics ≡ s.metrics
+  mpr : r.mpr ≡ s.mpr
+
+abbrev row_of : NetAddr → Option LocalIf → Option LinkStatus → Option OtherStatus → Metrics → Mpr → HelloRow
+row_of a l k o m p = record { addr = a; local = l; link = k; other = o; metrics = m; mpr = p }
+
+same_row : (r s : HelloRow) → r.addr ≡ s.addr → r.local ≡ s.local → Alike r s → r ≡ s
+same_row r s a l alike =
+    ap (λ (x : NetAddr). row_of x r.local r.link r.other r.metrics r.mpr) a
+    ∙ ap (λ (x : Option LocalIf). row_of s.addr x r.link r.other r.metrics r.mpr) l
+    ∙ ap (λ (x : Option LinkStatus). row_of s.addr s.local x r.other r.metrics r.mpr) alike.link
+    ∙ ap (λ (x : Option OtherStatus). row_of s.addr s.local s.link x r.metrics r.mpr) alike.other
+    ∙ ap (λ (x : Metrics). row_of s.addr s.local s.link s.other x r.mpr) alike.metrics
+    ∙ ap (λ (x : Mpr). row_of s.addr s.local s.link s.other s.metrics x) alike.mpr
+
+-- ---- what rows of one address say
+
+module _ (message : MessageFields) (keeps : Keeps (BreaksHello message)) where
+  not_two : (net : NetAddr) (kind bound : ℕ) → IsStatusBelow kind bound → HasTwoValues message net kind → ⊥
+  not_two net kind bound status values = keeps 27 (Some net) (TwoValues net kind bound status values)
+
+  not_two_metrics : (net : NetAddr) → HasTwoMetrics message net → ⊥
+  not_two_metrics net metrics = keeps 29 (Some net) (MetricRule net (inr metrics))
+
+  others_alike : (r : HelloRow) (l : Option LocalIf) (k : Option LinkStatus) (o : Option OtherStatus) (m : Metrics) (p : Mpr) →
+      TellsOther message r → TellsOther message (row_of r.addr l k o m p) → Alike r (row_of r.addr l k o m p)
+  others_alike r l k o m p h g = record {
+    link = told_by link_value link_of link_again r.link k (one_octet message r.addr link_status _ _ (not_two r.addr link_status 3 (inr (inl (refl, refl)))) h.link g.link);
+    other = told_by other_value other_of other_again r.other o (one_octet message r.addr other_neighb _ _ (not_two r.addr other_neighb 2 (inr (inr (refl, refl)))) h.other g.other);
+    metrics = same_metrics r.metrics m
+        (one_metric message r.addr Link_in _ _ (not_two_metrics r.addr) h.link_in g.link_in)
+        (one_metric message r.addr Link_out _ _ (not_two_metrics r.addr) h.link_out g.link_out)
+        (one_metric message r.addr Near_in _ _ (not_two_metrics r.addr) h.near_in g.near_in)
+        (one_metric message r.addr Near_out _ _ (not_two_metrics r.addr) h.near_out g.near_out);
+    mpr = same_mpr r.mpr p (one_flag r.mpr.flooding p.flooding _ h.flooding g.flooding) (one_flag r.mpr.routing p.routing _ h.routing g.routing);
+  }
+
+  senders_alike : (r s : HelloRow) → TellsNoOther r → TellsNoOther s → Alike r s
+  senders_alike r s h g = record {
+    link = h.link ∙ sym g.link;
+    other = h.other ∙ sym g.other;
+    metrics = h.metrics ∙ sym g.metrics;
+    mpr = h.mpr ∙ sym g.mpr;
+  }
+
+  alike : (r : HelloRow) (l : Option LocalIf) (k : Option LinkStatus) (o : Option OtherStatus) (m : Metrics) (p : Mpr) (q : Option LocalIf) → r.local ≡ q → l ≡ q →
+      IsHelloRow message r → IsHelloRow message (row_of r.addr l k o m p) → Alike r (row_of r.addr l k o m p)
+  alike r l k o m p None e f h g = others_alike r l k o m p (h.of_other e) (g.of_other f)
+  alike r l k o m p (Some x) e f h g = senders_alike r (row_of r.addr l k o m p) (h.of_sender (subst IsSome (sym e) refl)) (g.of_sender (subst IsSome (sym f) refl))
+
+  told_here : (r : HelloRow) (l : Option LocalIf) (k : Option LinkStatus) (o : Option OtherStatus) (m : Metrics) (p : Mpr) →
+      IsHelloRow message r → IsHelloRow message (row_of r.addr l k o m p) → r ≡ row_of r.addr l k o m p
+  told_here r l k o m p h g =
+      let local : r.local ≡ l = told_by local_value local_of local_again r.local l (one_octet message r.addr local_if _ _ (not_two r.addr local_if 2 (inl (refl, refl))) h.local g.local) in
+      same_row r (row_of r.addr l k o m p) refl local (alike r l k o m p l local refl h g)
+
+  -- a row is told by its address
+  told : (r s : HelloRow) → r.addr ≡ s.addr → IsHelloRow message r → IsHelloRow message s → r ≡ s
+  told r s a h g =
+      let here : IsHelloRow message (row_of r.addr s.local s.link s.other s.metrics s.mpr) =
+      subst (λ (net : NetAddr). IsHelloRow message (row_of net s.local s.link s.other s.metrics s.mpr)) (sym a) g in
+      told_here r s.local s.link s.other s.metrics s.mpr h here ∙ ap (λ (net : NetAddr). row_of net s.local s.link s.other s.metrics s.mpr) a
+
+-- ---- the whole
+
+one_octet_of_willing : (message : MessageFields) (a b : ℕ) → HasWilling message a → HasWilling message b → a ≡ b
+one_octet_of_willing message a b (inl h) (inl k) = h.1 ∙ sym k.1
+one_octet_of_willing message a b (inl h) (inr k) = (let e = h.0 in cc)
+one_octet_of_willing message a b (inr h) (inl k) = (let e = k.0 in cc)
+one_octet_of_willing message a b (inr h) (inr k) = cc
+
+one_willing : (message : MessageFields) (a b : Willing) → WillingIs message a → WillingIs message b → a ≡ b
+one_willing message a b (x, is_x, flooding_x, routing_x) (y, is_y, flooding_y, routing_y) =
+    let same : x ≡ y = one_octet_of_willing message x y is_x is_y in
+    same_willing a b (flooding_x ∙ ap (λ (n : ℕ). n / 16) same ∙ sym flooding_y) (routing_x ∙ ap (λ (n : ℕ). n % 16) same ∙ sym routing_y)
+
+abbrev hello_from : Option Addr4 → ℕ → Option ℕ → Willing → List HelloRow → Hello
+hello_from o v i w r = record { originator = o; validity = v; interval = i; willing = w; rows = r }
+
+pub one_hello : (message : MessageFields) → Keeps (BreaksHello message) → (a b : Hello) → HelloIs message a → HelloIs message b → a ≡ b
+one_hello message keeps a b h g =
+    ap (λ (x : Option Addr4). hello_from x a.validity a.interval a.willing a.rows) (one_originator message.originator a.originator b.originator h.originator g.originator)
+    ∙ ap (λ (x : ℕ). hello_from b.originator x a.interval a.willing a.rows) (one_time message 1 1 a.validity b.validity h.validity.0 g.validity.0)
+    ∙ ap (λ (x : Option ℕ). hello_from b.originator b.validity x a.willing a.rows) (one_interval message 1 a.interval b.interval h.interval g.interval)
+    ∙ ap (λ (x : Willing). hello_from b.originator b.validity b.interval x a.rows) (one_willing message a.willing b.willing h.willing g.willing)
+    ∙ ap (λ (x : List HelloRow). hello_from b.originator b.validity b.interval b.willing x)
+    (one_rows message (λ (row : HelloRow). row.addr) (IsHelloRow message) (told message keeps) a.rows b.rows h.rows g.rows)

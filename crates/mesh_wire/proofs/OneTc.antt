@@ -1,0 +1,75 @@
+-- A message that keeps the rules of a TC reads as one TC.
+use Rattle.std.proofs.Common.{◌≡◌, ℕ, ◌+◌, ◌*◌, inr, List, [], ◌∷◌, Bool, refl, sym, ap, subst, ◌∙◌}
+use Rattle.std.specs.Prelude.{Option, Some, ◌==◌}
+use Rattle.mesh_atoms.specs.declared.addr.Addr4.{Addr4}
+use Rattle.mesh_atoms.specs.declared.addr.NetAddr.{NetAddr}
+use Rattle.mesh_atoms.specs.declared.metric.Metric.{Metric}
+use Rattle.mesh_atoms.specs.declared.tc.TcRow.{TcRow}
+use Rattle.mesh_atoms.specs.declared.tc.Tc.{Tc}
+use Rattle.mesh_wire.specs.Kinds.{gateway}
+use Rattle.mesh_tlv.specs.Fields.{TlvFields}
+use Rattle.mesh_packet.specs.Fields.{MessageFields}
+use Rattle.mesh_wire.specs.Parts.{octets_of}
+use Rattle.mesh_wire.specs.Metrics.{Near_out}
+use Rattle.mesh_wire.specs.Rules.{Keeps}
+use Rattle.mesh_wire.specs.Tc.{ContentIs, IsTcRow, TcIs}
+use Rattle.mesh_wire.specs.TcRules.{BreaksTc, TwoGateways, Metric as MetricRule}
+use Rattle.mesh_wire.specs.Times.{distance_of}
+use Rattle.mesh_wire.proofs.Single.{one_time, one_interval, one_originator, one_octet, one_metric, one_flag, one_rows}
+
+-- ---- rows
+
+abbrev row_of : NetAddr → Bool → Bool → Option ℕ → Option Metric → TcRow
+row_of d o r g m = record { dest = d; origin = o; routable = r; gateway = g; metric = m }
+
+module _ (message : MessageFields) (keeps : Keeps (BreaksTc message)) where
+  told_here : (r : TcRow) (o q : Bool) (g : Option ℕ) (m : Option Metric) → IsTcRow message r → IsTcRow message (row_of r.dest o q g m) → r ≡ row_of r.dest o q g m
+  told_here r o q g m h k =
+      ap (λ (x : Bool). row_of r.dest x r.routable r.gateway r.metric) (one_flag r.origin o _ h.origin k.origin)
+      ∙ ap (λ (x : Bool). row_of r.dest o x r.gateway r.metric) (one_flag r.routable q _ h.routable k.routable)
+      ∙ ap (λ (x : Option ℕ). row_of r.dest o q x r.metric) (one_octet message r.dest gateway r.gateway g (λ values. keeps 38 (Some r.dest) (TwoGateways r.dest values)) h.gateway_is k.gateway_is)
+      ∙ ap (λ (x : Option Metric). row_of r.dest o q g x) (one_metric message r.dest Near_out r.metric m (λ metrics. keeps 39 (Some r.dest) (MetricRule r.dest (inr metrics))) h.metric k.metric)
+
+  -- a row is told by its address
+  told : (r s : TcRow) → r.dest ≡ s.dest → IsTcRow message r → IsTcRow message s → r ≡ s
+  told r s d h k =
+      let here : IsTcRow message (row_of r.dest s.origin s.routable s.gateway s.metric) =
+      subst (λ (net : NetAddr). IsTcRow message (row_of net s.origin s.routable s.gateway s.metric)) (sym d) k in
+      told_here r s.origin s.routable s.gateway s.metric h here ∙ ap (λ (net : NetAddr). row_of net s.origin s.routable s.gateway s.metric) d
+
+-- ---- the whole
+
+one_part : (a b : TlvFields) (parts : List TlvFields) → parts ≡ a ∷ [] → parts ≡ b ∷ [] → a ≡ b
+one_part a b parts e f = cc
+
+one_short : (a b c d : ℕ) (octets : List ℕ) → octets ≡ a ∷ b ∷ [] → octets ≡ c ∷ d ∷ [] → 256 * a + b ≡ 256 * c + d
+one_short a b c d octets e f =
+    let high : a ≡ c = cc in
+    let low : b ≡ d = cc in
+    cc
+
+one_content : (message : MessageFields) (a b : ℕ) (x y : Bool) → ContentIs message a x → ContentIs message b y → (a ≡ b) × (x ≡ y)
+one_content message a b x y (p, high, low, is_p, octets_p, ansn_p, complete_p) (q, high', low', is_q, octets_q, ansn_q, complete_q) =
+    let same : p ≡ q = one_part p q _ is_p is_q in
+    let octets : octets_of p.value ≡ high' ∷ low' ∷ [] = ap (λ (r : TlvFields). octets_of r.value) same ∙ octets_q in
+    (ansn_p ∙ one_short high low high' low' _ octets_p octets ∙ sym ansn_q, complete_p ∙ ap (λ (r : TlvFields). r.ext == 0) same ∙ sym complete_q)
+
+abbrev tc_from : Addr4 → ℕ → ℕ → Bool → ℕ → Option ℕ → List TcRow → Tc
+tc_from o s n c v i r = record { originator = o; sequence = s; ansn = n; complete = c; validity = v; interval = i; rows = r }
+
+some_same : {X : Type 0} (a b : X) (o : Option X) → o ≡ Some a → o ≡ Some b → a ≡ b
+some_same a b o e f = cc
+
+pub one_tc : (message : MessageFields) → Keeps (BreaksTc message) → (a b : Tc) → TcIs message a → TcIs message b → a ≡ b
+one_tc message keeps a b h g =
+    let distance : ℕ = distance_of message.count in
+    let originator : Some a.originator ≡ Some b.originator = one_originator message.originator (Some a.originator) (Some b.originator) h.originator g.originator in
+    let content = one_content message a.ansn b.ansn a.complete b.complete h.content g.content in
+    ap (λ (x : Addr4). tc_from x a.sequence a.ansn a.complete a.validity a.interval a.rows) (some_same a.originator b.originator (Some b.originator) (sym originator) refl)
+    ∙ ap (λ (x : ℕ). tc_from b.originator x a.ansn a.complete a.validity a.interval a.rows) (some_same a.sequence b.sequence message.sequence h.sequence g.sequence)
+    ∙ ap (λ (x : ℕ). tc_from b.originator b.sequence x a.complete a.validity a.interval a.rows) content.0
+    ∙ ap (λ (x : Bool). tc_from b.originator b.sequence b.ansn x a.validity a.interval a.rows) content.1
+    ∙ ap (λ (x : ℕ). tc_from b.originator b.sequence b.ansn b.complete x a.interval a.rows) (one_time message 1 distance a.validity b.validity h.validity.0 g.validity.0)
+    ∙ ap (λ (x : Option ℕ). tc_from b.originator b.sequence b.ansn b.complete b.validity x a.rows) (one_interval message distance a.interval b.interval h.interval g.interval)
+    ∙ ap (λ (x : List TcRow). tc_from b.originator b.sequence b.ansn b.complete b.validity b.interval x)
+    (one_rows message (λ (row : TcRow). row.dest) (IsTcRow message) (told message keeps) a.rows b.rows h.rows g.rows)

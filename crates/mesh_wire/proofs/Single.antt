@@ -1,0 +1,114 @@
+-- What a message that keeps its rules says is said once.
+use Rattle.std.proofs.Common.{◌≡◌, ℕ, ◌≤◌, inl, inr, List, [], ◌∷◌, Bool, true, false, refl, sym, ap, subst, ◌∙◌, arith}
+use Rattle.std.specs.Prelude.{◌↔◌, Contains, Option, Some, None, IsTrue}
+use Rattle.std.specs.Option.{option_map}
+use Rattle.std.proofs.lemmas.Bool.{cases_eq}
+use Rattle.mesh_atoms.specs.declared.addr.Addr4.{Addr4}
+use Rattle.mesh_atoms.specs.declared.addr.NetAddr.{NetAddr}
+use Rattle.mesh_atoms.specs.declared.metric.Metric.{Metric}
+use Rattle.mesh_atoms.specs.Codes.{time_at_distance}
+use Rattle.mesh_atoms.specs.Nodes.{IsBefore, IsAtMost}
+use Rattle.mesh_wire.specs.Hello.{OriginatorIs}
+use Rattle.mesh_addr.specs.declared.records.RawAddr.{RawAddr}
+use Rattle.mesh_packet.specs.Fields.{MessageFields}
+use Rattle.mesh_wire.specs.Metrics.{MetricKind, MetricIs, HasTwoMetrics}
+use Rattle.mesh_wire.specs.Rows.{OctetIs, HasTwoValues, AreRows}
+use Rattle.mesh_wire.specs.Rules.{FirstBroken, IsLow}
+use Rattle.mesh_wire.specs.Times.{HasTime, IntervalIs}
+use Rattle.mesh_wire.proofs.Ascending.{same_ascending}
+use Rattle.mesh_atoms.proofs.Nets.{same_net}
+use Rattle.mesh_wire.proofs.Same.{same_addr, same_metric}
+
+one_value : (v w : List ℕ) (vs : List (List ℕ)) → vs ≡ v ∷ [] → vs ≡ w ∷ [] → v ≡ w
+one_value v w vs e f = cc
+
+pub one_time : (message : MessageFields) (kind distance a b : ℕ) → HasTime message kind distance a → HasTime message kind distance b → a ≡ b
+one_time message kind distance a b (v, is_v, odd_v, at_v) (w, is_w, odd_w, at_w) =
+    sym at_v ∙ ap (time_at_distance distance) (one_value v w _ is_v is_w) ∙ at_w
+
+pub one_interval : (message : MessageFields) (distance : ℕ) (a b : Option ℕ) → IntervalIs message distance a → IntervalIs message distance b → a ≡ b
+one_interval message distance None None h k = refl
+one_interval message distance None (Some b) h (v, is_v, odd, at) = cc
+one_interval message distance (Some a) None (v, is_v, odd, at) k = cc
+one_interval message distance (Some a) (Some b) h k = ap Some (one_time message 0 distance a b h k)
+
+pub one_originator : (address : Option RawAddr) (a b : Option Addr4) → OriginatorIs address a → OriginatorIs address b → a ≡ b
+one_originator None None None h k = refl
+one_originator None None (Some b) h k = absurd k
+one_originator None (Some a) b h k = absurd h
+one_originator (Some address) None b h k = absurd h
+one_originator (Some address) (Some a) None h k = absurd k
+one_originator (Some address) (Some a) (Some b) h k = ap Some (same_addr a b (h ∙ sym k))
+
+pub one_octet : (message : MessageFields) (net : NetAddr) (kind : ℕ) (a b : Option ℕ) → (HasTwoValues message net kind → ⊥) → OctetIs message net kind a → OctetIs message net kind b → a ≡ b
+one_octet message net kind None None not_two h k = refl
+one_octet message net kind None (Some b) not_two h k = absurd (h (b ∷ []) k)
+one_octet message net kind (Some a) None not_two h k = absurd (k (a ∷ []) h)
+one_octet message net kind (Some a) (Some b) not_two h k = elim (cases_eq a b) [
+  | inl e ↦ ap Some e
+  | inr other ↦ absurd (not_two (a ∷ [], b ∷ [], h, k, λ e. other cc))
+]
+
+pub one_metric : (message : MessageFields) (net : NetAddr) (kind : MetricKind) (a b : Option Metric) → (HasTwoMetrics message net → ⊥) → MetricIs message net kind a → MetricIs message net kind b → a ≡ b
+one_metric message net kind None None not_two h k = refl
+one_metric message net kind None (Some b) not_two h k = absurd (h b.code k)
+one_metric message net kind (Some a) None not_two h k = absurd (k a.code h)
+one_metric message net kind (Some a) (Some b) not_two h k = elim (cases_eq a.code b.code) [
+  | inl e ↦ ap Some (same_metric a b e)
+  | inr other ↦ absurd (not_two (kind, a.code, b.code, h, k, other))
+]
+
+pub one_flag : (a b : Bool) (P : Type 0) → (IsTrue a ↔ P) → (IsTrue b ↔ P) → a ≡ b
+one_flag true true P h k = refl
+one_flag false false P h k = refl
+one_flag true false P h k = sym (k.1 (h.0 refl))
+one_flag false true P h k = h.1 (k.0 refl)
+
+-- an enumeration is told by its values
+pub told_by : {X : Type 0} (f : X → ℕ) (g : ℕ → X) → ((x : X) → g (f x) ≡ x) → (a b : Option X) → option_map f a ≡ option_map f b → a ≡ b
+told_by f g back None None e = refl
+told_by f g back None (Some b) e = cc
+told_by f g back (Some a) None e = cc
+told_by f g back (Some a) (Some b) e =
+    let same : f a ≡ f b = cc in
+    ap Some (sym (back a) ∙ ap g same ∙ back b)
+
+one_way : (a b : NetAddr) → IsBefore a b → IsBefore b a → ⊥
+one_way a b (inl l) (inl m) = omega arith
+one_way a b (inl l) (inr m) = omega arith
+one_way a b (inr l) (inl m) = omega arith
+one_way a b (inr l) (inr m) = omega arith
+
+-- rows are told by the message, where each row is told by its address
+pub one_rows : {Row : Type 0} (message : MessageFields) (addr_of : Row → NetAddr) (IsRow : Row → Type 0) → ((r s : Row) → addr_of r ≡ addr_of s → IsRow r → IsRow s → r ≡ s) →
+    (xs ys : List Row) → AreRows message addr_of IsRow xs → AreRows message addr_of IsRow ys → xs ≡ ys
+one_rows {Row} message addr_of IsRow told xs ys a b =
+    let across : (us vs : List Row) → AreRows message addr_of IsRow us → AreRows message addr_of IsRow vs → (z : Row) → Contains us z → Contains vs z =
+    λ us vs c d z has.
+    let of_z = c.each z has in
+    let there = d.all (addr_of z) of_z.0 in
+    let same : there.0 ≡ z = told there.0 z there.2 (d.each there.0 there.1).1 of_z.1 in
+    subst (Contains vs) same there.1 in
+    same_ascending (λ r s. IsBefore (addr_of r) (addr_of s)) (λ r s. one_way (addr_of r) (addr_of s)) xs ys a.ascending b.ascending (across xs ys a b) (across ys xs b a)
+
+at_most_both : (a b : NetAddr) → IsAtMost a b → IsAtMost b a → (a.addr.0 ≡ b.addr.0) × (a.prefix ≡ b.prefix)
+at_most_both a b (inl l) (inl m) = absurd (omega arith)
+at_most_both a b (inl l) (inr m) = absurd (omega arith)
+at_most_both a b (inr l) (inl m) = absurd (omega arith)
+at_most_both a b (inr l) (inr m) = (l.0, omega arith)
+
+low_both : (a b : Option NetAddr) → IsLow a b → IsLow b a → a ≡ b
+low_both None None h k = refl
+low_both None (Some b) h k = absurd k
+low_both (Some a) None h k = absurd h
+low_both (Some a) (Some b) h k = (let e = at_most_both a b h k in ap Some (same_net a b (same_addr a.addr b.addr e.0) e.1))
+
+-- one rule is the first that is broken, at one address
+pub one_broken : (Breaks : ℕ → Option NetAddr → Type 0) (n m : ℕ) (a b : Option NetAddr) → FirstBroken Breaks n a → FirstBroken Breaks m b → (n ≡ m) × (a ≡ b)
+one_broken Breaks n m a b h k =
+    let up : n ≤ m = h.first m b k.broken in
+    let down : m ≤ n = k.first n a h.broken in
+    let same : n ≡ m = omega arith in
+    let there : Breaks m a = subst (λ (x : ℕ). Breaks x a) same h.broken in
+    let here : Breaks n b = subst (λ (x : ℕ). Breaks x b) (sym same) k.broken in
+    (same, low_both a b (h.least b here) (k.least a there))

@@ -1,0 +1,22 @@
+-- What a reading of a message answers.
+use Rattle.std.specs.Prelude.{◌≡◌, ℕ, Option, Result, Ok, Err}
+use Rattle.mesh_atoms.specs.declared.addr.NetAddr.{NetAddr}
+use Rattle.mesh_wire.specs.declared.fault.WireFault.{WireFault}
+use Rattle.mesh_wire.specs.declared.fault.WireFault.TheVariants as faults
+
+-- a fact of the rule and the address, where the fault isn't want of memory
+abbrev pub IfBroken : (ℕ → Option NetAddr → Type 0) → WireFault → Type 0
+IfBroken P (faults.Memory e) = Unit {0}
+IfBroken P (faults.Broken number addr) = P number addr
+
+-- that value, or want of memory
+abbrev pub Gives : {X : Type 0} → X → Result X WireFault → Type 0
+Gives x (Ok y) = y ≡ x
+Gives x (Err (faults.Memory e)) = Unit {0}
+Gives x (Err (faults.Broken number addr)) = ⊥
+
+-- that rule at that address, or want of memory
+abbrev pub Refuses : {X : Type 0} → ℕ → Option NetAddr → Result X WireFault → Type 0
+Refuses number addr (Ok y) = ⊥
+Refuses number addr (Err (faults.Memory e)) = Unit {0}
+Refuses number addr (Err (faults.Broken n a)) = (n ≡ number) × (a ≡ addr)

@@ -1,0 +1,84 @@
+-- The HELLO that a message reads as (RFC 6130, section 10; RFC 7181, section 15).
+use Rattle.std.specs.Prelude.{◌≡◌, ℕ, ◌/◌, ◌%◌, ◌⊎◌, ◌↔◌, [], ◌∷◌, Option, Some, None, false, IsTrue, IsSome}
+use Rattle.std.specs.Option.{option_map}
+use Rattle.mesh_atoms.specs.declared.addr.Addr4.{Addr4}
+use Rattle.mesh_atoms.specs.declared.hello.LocalIf.{LocalIf}
+use Rattle.mesh_atoms.specs.declared.hello.LocalIf.TheVariants.{This, Other}
+use Rattle.mesh_atoms.specs.declared.hello.LinkStatus.{LinkStatus}
+use Rattle.mesh_atoms.specs.declared.hello.LinkStatus.TheVariants as link
+use Rattle.mesh_atoms.specs.declared.hello.OtherStatus.{OtherStatus}
+use Rattle.mesh_atoms.specs.declared.hello.OtherStatus.TheVariants as other
+use Rattle.mesh_atoms.specs.declared.hello.Willing.{Willing}
+use Rattle.mesh_atoms.specs.declared.hello.HelloRow.{HelloRow}
+use Rattle.mesh_atoms.specs.declared.hello.Hello.{Hello}
+use Rattle.mesh_wire.specs.Kinds.{mpr_willing, local_if, link_status, other_neighb, mpr}
+use Rattle.mesh_addr.specs.declared.records.RawAddr.{RawAddr}
+use Rattle.mesh_packet.specs.Fields.{MessageFields}
+use Rattle.mesh_wire.specs.Parts.{values_of, number_of}
+use Rattle.mesh_wire.specs.Metrics.{MetricIs, Link_in, Link_out, Near_in, Near_out}
+use Rattle.mesh_wire.specs.Rows.{OctetIs, SaysFlag, AreRows}
+use Rattle.mesh_wire.specs.Times.{ValidityIs, IntervalIs}
+
+-- LOCAL_IF by its value
+abbrev pub local_value : LocalIf → ℕ
+local_value This = 0
+local_value Other = 1
+
+-- LINK_STATUS by its value
+abbrev pub link_value : LinkStatus → ℕ
+link_value link.Lost = 0
+link_value link.Symmetric = 1
+link_value link.Heard = 2
+
+-- OTHER_NEIGHB by its value
+abbrev pub other_value : OtherStatus → ℕ
+other_value other.Lost = 0
+other_value other.Symmetric = 1
+
+-- the originator is that of the header, if it has one
+abbrev pub OriginatorIs : Option RawAddr → Option Addr4 → Type 0
+OriginatorIs None None = Unit {0}
+OriginatorIs (Some address) (Some originator) = originator.0 ≡ number_of address.octets
+OriginatorIs None (Some originator) = ⊥
+OriginatorIs (Some address) None = ⊥
+
+-- the octet of willingness: that of the one MPR_WILLING, or 7 and 7 without one (RFC 7181, section 13.3.1)
+abbrev pub HasWilling : MessageFields → ℕ → Type 0
+HasWilling message octet =
+    ((values_of mpr_willing message ≡ []) × (octet ≡ 119)) ⊎ (values_of mpr_willing message ≡ (octet ∷ []) ∷ [])
+
+-- how willing the sender is: for flooding by the high 4 bits, for routing by the low 4
+abbrev pub WillingIs : MessageFields → Willing → Type 0
+WillingIs message willing = (octet : ℕ) × HasWilling message octet × (willing.flooding ≡ octet / 16) × (willing.routing ≡ octet % 16)
+
+-- all that the message says of an address that isn't the sender's
+pub record TellsOther (message : MessageFields) (row : HelloRow) : Type 0 where
+  pub link : OctetIs message row.addr link_status (option_map link_value row.link)
+  pub other : OctetIs message row.addr other_neighb (option_map other_value row.other)
+  pub link_in : MetricIs message row.addr Link_in row.metrics.link_in
+  pub link_out : MetricIs message row.addr Link_out row.metrics.link_out
+  pub near_in : MetricIs message row.addr Near_in row.metrics.near_in
+  pub near_out : MetricIs message row.addr Near_out row.metrics.near_out
+  pub flooding : IsTrue row.mpr.flooding ↔ SaysFlag message row.addr mpr 1
+  pub routing : IsTrue row.mpr.routing ↔ SaysFlag message row.addr mpr 2
+
+-- no status, no metric and no relay
+pub record TellsNoOther (row : HelloRow) : Type 0 where
+  pub link : row.link ≡ None
+  pub other : row.other ≡ None
+  pub metrics : row.metrics ≡ record { link_in = None; link_out = None; near_in = None; near_out = None }
+  pub mpr : row.mpr ≡ record { flooding = false; routing = false }
+
+-- the row says of its address what the message does; of an address of the sender's it says no more than that
+pub record IsHelloRow (message : MessageFields) (row : HelloRow) : Type 0 where
+  pub local : OctetIs message row.addr local_if (option_map local_value row.local)
+  pub of_other : row.local ≡ None → TellsOther message row
+  pub of_sender : IsSome row.local → TellsNoOther row
+
+-- the message reads as the HELLO
+pub record HelloIs (message : MessageFields) (hello : Hello) : Type 0 where
+  pub originator : OriginatorIs message.originator hello.originator
+  pub validity : ValidityIs message 1 hello.validity
+  pub interval : IntervalIs message 1 hello.interval
+  pub willing : WillingIs message hello.willing
+  pub rows : AreRows message (λ (row : HelloRow). row.addr) (IsHelloRow message) hello.rows

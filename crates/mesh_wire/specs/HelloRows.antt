@@ -1,0 +1,67 @@
+-- How the row of a HELLO is made of what is kept of its address.
+use Rattle.std.proofs.Common.{zero, suc}
+use Rattle.std.specs.Prelude.{◌≡◌, ℕ, ◌/◌, List, [], ◌∷◌, Option, Some, None, IsSome}
+use Rattle.std.specs.Option.{option_map}
+use Rattle.mesh_atoms.specs.declared.metric.Metric.{Metric}
+use Rattle.mesh_atoms.specs.declared.hello.LocalIf.{LocalIf}
+use Rattle.mesh_atoms.specs.declared.hello.LocalIf.TheVariants.{This, Other}
+use Rattle.mesh_atoms.specs.declared.hello.LinkStatus.{LinkStatus}
+use Rattle.mesh_atoms.specs.declared.hello.LinkStatus.TheVariants as link
+use Rattle.mesh_atoms.specs.declared.hello.OtherStatus.{OtherStatus}
+use Rattle.mesh_atoms.specs.declared.hello.OtherStatus.TheVariants as other
+use Rattle.mesh_atoms.specs.declared.hello.HelloRow.{HelloRow}
+use Rattle.mesh_wire.specs.declared.collect.Told.{Told}
+use Rattle.mesh_wire.specs.declared.parts.One.{One}
+use Rattle.mesh_wire.specs.declared.parts.One.TheVariants.{Unsaid, Said, Several}
+use Rattle.mesh_wire.specs.Hello.{TellsNoOther}
+
+-- the one number
+abbrev pub number_from : One → Option ℕ
+number_from Unsaid = None
+number_from (Said n) = Some n
+number_from Several = None
+
+-- LOCAL_IF of a value
+abbrev pub local_from : ℕ → LocalIf
+local_from zero = This
+local_from (suc n) = Other
+
+-- LINK_STATUS of a value
+abbrev pub link_from : ℕ → LinkStatus
+link_from zero = link.Lost
+link_from (suc zero) = link.Symmetric
+link_from (suc (suc n)) = link.Heard
+
+-- OTHER_NEIGHB of a value
+abbrev pub other_from : ℕ → OtherStatus
+other_from zero = other.Lost
+other_from (suc n) = other.Symmetric
+
+-- the metric whose code is kept 16 times
+abbrev pub MetricFrom : One → Option Metric → Type 0
+MetricFrom one metric = option_map (λ (m : Metric). m.code) metric ≡ option_map (λ (n : ℕ). n / 16) (number_from one)
+
+-- status, metrics and relays as they are kept
+pub record TellsKept (told : Told) (row : HelloRow) : Type 0 where
+  pub link : row.link ≡ option_map link_from (number_from told.parts.link.one)
+  pub other : row.other ≡ option_map other_from (number_from told.parts.other.one)
+  pub link_in : MetricFrom told.parts.link_in row.metrics.link_in
+  pub link_out : MetricFrom told.parts.link_out row.metrics.link_out
+  pub near_in : MetricFrom told.parts.near_in row.metrics.near_in
+  pub near_out : MetricFrom told.parts.near_out row.metrics.near_out
+  pub flooding : row.mpr.flooding ≡ told.parts.flooding
+  pub routing : row.mpr.routing ≡ told.parts.routing
+
+-- the row of what is kept of an address
+pub record HelloRowFrom (told : Told) (row : HelloRow) : Type 0 where
+  pub addr : row.addr ≡ told.net
+  pub local : row.local ≡ option_map local_from (number_from told.parts.local.one)
+  pub of_other : row.local ≡ None → TellsKept told row
+  pub of_sender : IsSome row.local → TellsNoOther row
+
+-- rows one by one
+abbrev pub HelloRowsFrom : List Told → List HelloRow → Type 0
+HelloRowsFrom [] [] = Unit {0}
+HelloRowsFrom (t ∷ told) (r ∷ rows) = HelloRowFrom t r × HelloRowsFrom told rows
+HelloRowsFrom [] (r ∷ rows) = ⊥
+HelloRowsFrom (t ∷ told) [] = ⊥

@@ -1,0 +1,55 @@
+-- Types of TLVs by their numbers (RFC 5497, section 7; RFC 6130, section 10; RFC 7181, section 13.3).
+use Rattle.std.specs.Prelude.{◌≡◌, ℕ, ◌⊎◌}
+
+-- ---- types of message TLVs
+
+-- the time until the message is sent again
+abbrev pub interval_time : ℕ
+interval_time = 0
+
+-- the time for which the message holds
+abbrev pub validity_time : ℕ
+validity_time = 1
+
+-- how willing the sender is to be a relay
+abbrev pub mpr_willing : ℕ
+mpr_willing = 7
+
+-- the sequence number of what a TC advertises
+abbrev pub cont_seq_num : ℕ
+cont_seq_num = 8
+
+-- ---- types of address TLVs
+
+-- an address of the sender's
+abbrev pub local_if : ℕ
+local_if = 2
+
+-- the state of the link with an address
+abbrev pub link_status : ℕ
+link_status = 3
+
+-- the state of the neighbour with an address
+abbrev pub other_neighb : ℕ
+other_neighb = 4
+
+-- metrics of an address
+abbrev pub link_metric : ℕ
+link_metric = 7
+
+-- the relay with an address
+abbrev pub mpr : ℕ
+mpr = 8
+
+-- what an advertised address is
+abbrev pub nbr_addr_type : ℕ
+nbr_addr_type = 9
+
+-- the distance of an attached network
+abbrev pub gateway : ℕ
+gateway = 10
+
+-- a type whose value is one octet, below a number: LOCAL_IF, LINK_STATUS or OTHER_NEIGHB (RFC 6130, section 10)
+abbrev pub IsStatusBelow : ℕ → ℕ → Type 0
+IsStatusBelow kind bound =
+    ((kind ≡ local_if) × (bound ≡ 2)) ⊎ (((kind ≡ link_status) × (bound ≡ 3)) ⊎ ((kind ≡ other_neighb) × (bound ≡ 2)))

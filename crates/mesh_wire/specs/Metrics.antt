@@ -1,0 +1,41 @@
+-- The metrics that a message shows of an address (RFC 7181, section 13.3.2).
+use Rattle.std.specs.Prelude.{◌≡◌, ℕ, ◌+◌, ◌*◌, ◌%◌, ◌⊎◌, ◌≢◌, [], ◌∷◌, Option, Some, None, true}
+use Rattle.mesh_atoms.specs.declared.addr.NetAddr.{NetAddr}
+use Rattle.mesh_atoms.specs.declared.metric.Metric.{Metric}
+use Rattle.mesh_atoms.specs.Reading.{has}
+use Rattle.mesh_wire.specs.Kinds.{link_metric}
+use Rattle.mesh_packet.specs.Fields.{MessageFields}
+use Rattle.mesh_wire.specs.Rows.{Says, HasOtherLength}
+
+-- kinds of metric: of the link or of the neighbour, to the sender or from it
+pub data MetricKind : Type 0 where
+  Link_in : MetricKind
+  Link_out : MetricKind
+  Near_in : MetricKind
+  Near_out : MetricKind
+
+-- the flag of a kind, in the high octet
+abbrev pub flag_of : MetricKind → ℕ
+flag_of Link_in = 128
+flag_of Link_out = 64
+flag_of Near_in = 32
+flag_of Near_out = 16
+
+-- a LINK_METRIC shows the address with that code: of two octets, four flags for its kinds and 12 bits
+abbrev pub ShowsMetric : MessageFields → NetAddr → MetricKind → ℕ → Type 0
+ShowsMetric message net kind code =
+    (high : ℕ) × (low : ℕ) × Says message net link_metric (high ∷ low ∷ []) × (has high (flag_of kind) ≡ true) × (code ≡ 256 * (high % 16) + low)
+
+-- the metric of that kind that is shown of the address, or that none is
+abbrev pub MetricIs : MessageFields → NetAddr → MetricKind → Option Metric → Type 0
+MetricIs message net kind (Some metric) = ShowsMetric message net kind metric.code
+MetricIs message net kind None = (code : ℕ) → ShowsMetric message net kind code → ⊥
+
+-- two different codes of one kind
+abbrev pub HasTwoMetrics : MessageFields → NetAddr → Type 0
+HasTwoMetrics message net =
+    (kind : MetricKind) × (a : ℕ) × (b : ℕ) × ShowsMetric message net kind a × ShowsMetric message net kind b × (a ≢ b)
+
+-- a LINK_METRIC that isn't of two octets, or two codes
+abbrev pub HasWrongMetric : MessageFields → NetAddr → Type 0
+HasWrongMetric message net = HasOtherLength message net link_metric 2 ⊎ HasTwoMetrics message net

@@ -1,0 +1,239 @@
+//! HELLO messages read as typed values.
+ghost use Rattle.std.specs.Prelude.{◌≡◌, ◌↔◌, ℕ, Option, map, IsTrue, IfOk, IfErr, Some, None};
+ghost use Rattle.std.specs.Option.{option_map};
+ghost use Rattle.mesh_atoms.specs.declared.addr.NetAddr.{NetAddr};
+ghost use Rattle.mesh_atoms.specs.declared.hello.Hello.{Hello};
+ghost use Rattle.mesh_packet.specs.Fields.{fields_of_message};
+ghost use Rattle.mesh_wire.specs.Answers.{IfBroken, Gives, Refuses};
+ghost use Rattle.mesh_wire.specs.FirstNet.{hello_rule};
+ghost use Rattle.mesh_wire.specs.Hello.{OriginatorIs, HelloIs};
+ghost use Rattle.mesh_wire.specs.HelloHeading.{IsOther, HeadingIs};
+ghost use Rattle.mesh_wire.specs.HelloRows.{number_from, local_from, link_from, other_from, HelloRowFrom, HelloRowsFrom};
+ghost use Rattle.mesh_wire.specs.HelloRules.{BreaksHello};
+ghost use Rattle.mesh_wire.specs.Rules.{Keeps, FirstBroken};
+
+use crate::collect::{Told, collect, number_of};
+use crate::fault::WireFault;
+use crate::parts::One;
+use crate::rules::first_breaking;
+use crate::times;
+use mesh_atoms::{
+    Addr4, Hello, HelloRow, LinkStatus, LocalIf, Metrics, Mpr, NetAddr, OtherStatus, Seq, Willing,
+};
+use mesh_packet::Message;
+use std::alloc::{AllocError, Global};
+
+/// What a HELLO says before its rows.
+#[derive(Clone, Copy)]
+pub(crate) struct Heading {
+    pub validity: u64,
+    pub interval: Option<u64>,
+    pub willing: u8,
+}
+
+// Whether a number is there that isn't the wanted one.
+fn is_other(value: Option<u8>, wanted: u8) -> bool
+    ensures { IsTrue result ↔ IsOther wanted value }
+{
+    match value {
+        Some(number) => number != wanted,
+        None => false,
+    }
+}
+
+// What the message says before its rows, or the first rule on it that is broken.
+fn heading_of(message: &Message) -> Result<Heading, u8>
+    ensures heading { IfOk result (HeadingIs (fields_of_message message.now)) }
+    ensures broken { IfErr result (λ number. FirstBroken (BreaksHello (fields_of_message message.now)) number None) }
+{
+    if message.width != 4 {
+        return Err(20);
+    }
+    if is_other(message.limit, 1) {
+        return Err(21);
+    }
+    if is_other(message.count, 0) {
+        return Err(22);
+    }
+    let Some(validity) = times::validity(message, 1) else {
+        return Err(23);
+    };
+    let Some(interval) = times::interval(message, 1) else {
+        return Err(24);
+    };
+    let Some(willing) = times::willing(message) else {
+        return Err(25);
+    };
+    Ok(Heading {
+        validity,
+        interval,
+        willing,
+    })
+}
+
+// The first rule on rows that is broken, and the first row that breaks it.
+fn broken_rule(rows: &[Told]) -> Option<(u8, NetAddr)>
+    ensures { result ≡ hello_rule rows.now }
+{
+    if let Some(net) = first_breaking(rows, 26) {
+        return Some((26, net));
+    }
+    if let Some(net) = first_breaking(rows, 27) {
+        return Some((27, net));
+    }
+    if let Some(net) = first_breaking(rows, 28) {
+        return Some((28, net));
+    }
+    if let Some(net) = first_breaking(rows, 29) {
+        return Some((29, net));
+    }
+    None
+}
+
+fn local_from(one: One) -> Option<LocalIf>
+    ensures { result ≡ option_map local_from (number_from one) }
+{
+    match one.number() {
+        Some(0) => Some(LocalIf::This),
+        Some(_) => Some(LocalIf::Other),
+        None => None,
+    }
+}
+
+fn link_from(one: One) -> Option<LinkStatus>
+    ensures { result ≡ option_map link_from (number_from one) }
+{
+    match one.number() {
+        Some(0) => Some(LinkStatus::Lost),
+        Some(1) => Some(LinkStatus::Symmetric),
+        Some(_) => Some(LinkStatus::Heard),
+        None => None,
+    }
+}
+
+fn other_from(one: One) -> Option<OtherStatus>
+    ensures { result ≡ option_map other_from (number_from one) }
+{
+    match one.number() {
+        Some(0) => Some(OtherStatus::Lost),
+        Some(_) => Some(OtherStatus::Symmetric),
+        None => None,
+    }
+}
+
+// The row of what is kept of an address.
+fn row_from(told: &Told) -> HelloRow
+    ensures { HelloRowFrom told.now result }
+{
+    let local = local_from(told.parts.local.one);
+    if local.is_some() {
+        return HelloRow {
+            addr: told.net,
+            local,
+            link: None,
+            other: None,
+            metrics: Metrics {
+                link_in: None,
+                link_out: None,
+                near_in: None,
+                near_out: None,
+            },
+            mpr: Mpr {
+                flooding: false,
+                routing: false,
+            },
+        };
+    }
+    HelloRow {
+        addr: told.net,
+        local,
+        link: link_from(told.parts.link.one),
+        other: other_from(told.parts.other.one),
+        metrics: Metrics {
+            link_in: told.parts.link_in.metric(),
+            link_out: told.parts.link_out.metric(),
+            near_in: told.parts.near_in.metric(),
+            near_out: told.parts.near_out.metric(),
+        },
+        mpr: Mpr {
+            flooding: told.parts.flooding,
+            routing: told.parts.routing,
+        },
+    }
+}
+
+// The rows, in the same order.
+fn rows_from(alloc: Global, told: &[Told]) -> Result<Seq<HelloRow>, AllocError>
+    ensures { IfOk result (HelloRowsFrom told.now) }
+{
+    let mut rows = Seq::new(alloc);
+    for i in 0..told.len() {
+        rows.push(row_from(&told[i]))?;
+    }
+    Ok(rows)
+}
+
+// The originator of the header.
+pub(crate) fn originator_of(message: &Message) -> Option<Addr4>
+    ensures { OriginatorIs message.now.originator result }
+{
+    match message.originator {
+        Some(address) => Some(Addr4(number_of(&address.octets))),
+        None => None,
+    }
+}
+
+// The HELLO, or the first rule that is broken.
+fn read_hello(alloc: Global, message: &Message) -> Result<Hello, WireFault>
+    ensures reads { IfOk result (HelloIs (fields_of_message message.now)) }
+    ensures keeps { IfOk result (λ hello. Keeps (BreaksHello (fields_of_message message.now))) }
+    ensures broken { IfErr result (IfBroken (FirstBroken (BreaksHello (fields_of_message message.now)))) }
+{
+    let heading = match heading_of(message) {
+        Ok(heading) => heading,
+        Err(number) => {
+            return Err(WireFault::Broken { number, addr: None });
+        }
+    };
+    let told = collect(alloc, message)?;
+    if let Some((number, net)) = broken_rule(told.as_slice()) {
+        return Err(WireFault::Broken {
+            number,
+            addr: Some(net),
+        });
+    }
+    let rows = rows_from(alloc, told.as_slice())?;
+    Ok(Hello {
+        originator: originator_of(message),
+        validity: heading.validity,
+        interval: heading.interval,
+        willing: Willing {
+            flooding: heading.willing / 16,
+            routing: heading.willing % 16,
+        },
+        rows,
+    })
+}
+
+/// Reads a message of type HELLO (RFC 6130, section 10, and RFC 7181, section 15). TLVs with an extension, of other types, and
+/// MPR values other than 1, 2 and 3 are ignored. The rows are the distinct addresses of the message, each with all that the
+/// TLVs over it say, in ascending order. Where rules are broken, the fault is the one of least number, with the least
+/// address that breaks it where the rule is about addresses; else want of memory is the only fault.
+pub fn hello_of(alloc: Global, message: &Message) -> Result<Hello, WireFault>
+    requires kind { message.now.kind ≡ 0 }
+    // What is read is what the message says.
+    ensures reads { IfOk result (HelloIs (fields_of_message message.now)) }
+    // It breaks no rule.
+    ensures keeps { IfOk result (λ hello. Keeps (BreaksHello (fields_of_message message.now))) }
+    // Else the fault is the first rule that is broken, at the least address.
+    ensures broken { IfErr result (IfBroken (FirstBroken (BreaksHello (fields_of_message message.now)))) }
+
+    // A message that says a HELLO and breaks no rule is read as that.
+    ensures only { (hello : Hello) → Keeps (BreaksHello (fields_of_message message.now))
+        → HelloIs (fields_of_message message.now) hello → Gives hello result }
+    // A message that breaks rules is refused by the first.
+    ensures first { (number : ℕ) (addr : Option NetAddr)
+        → FirstBroken (BreaksHello (fields_of_message message.now)) number addr → Refuses number addr result }
+{
+    read_hello(alloc, message)
+}

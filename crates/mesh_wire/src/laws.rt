@@ -1,0 +1,28 @@
+//! Laws of the definitions, and small messages that they are tried on.
+ghost use Rattle.std.specs.Prelude.{◌∷◌, [], None, Some};
+ghost use Rattle.mesh_wire.specs.Laws.{ReadsAsOneHello, ReadsAsOneTc, BreaksOneHelloRule, BreaksOneTcRule};
+ghost use Rattle.mesh_wire.specs.Examples.{lone, lone_hello, bare, two_near, near_net, odd_types, own_net};
+ghost use Rattle.mesh_wire.specs.Hello.{HelloIs};
+ghost use Rattle.mesh_wire.specs.HelloRules.{BreaksHello};
+ghost use Rattle.mesh_wire.specs.Kinds.{link_status};
+ghost use Rattle.mesh_wire.specs.Rows.{Says};
+ghost use Rattle.mesh_wire.specs.Rules.{Keeps, FirstBroken};
+ghost use Rattle.mesh_wire.specs.TcRules.{BreaksTc};
+
+/// A message that breaks no rule of a HELLO or a TC reads as one at most; of broken rules one is the first, at one address.
+pub fn one_reading()
+    ensures hello { ReadsAsOneHello }
+    ensures tc { ReadsAsOneTc }
+    ensures hello_broken { BreaksOneHelloRule }
+    ensures tc_broken { BreaksOneTcRule }
+{}
+
+/// The HELLO of a router that hears nobody is read so, and breaks no rule. A message of nothing but its header wants its
+/// validity first. A multivalue gives each address its own part. Of addresses that break a rule the least is told.
+pub fn worked_readings()
+    ensures lone { HelloIs lone lone_hello }
+    ensures lone_keeps { Keeps (BreaksHello lone) }
+    ensures bare { FirstBroken (BreaksHello bare) 23 None }
+    ensures multivalue { Says two_near near_net link_status (2 ∷ []) }
+    ensures least { FirstBroken (BreaksTc odd_types) 37 (Some own_net) }
+{}

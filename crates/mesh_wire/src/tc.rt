@@ -1,0 +1,227 @@
+//! TC messages read as typed values.
+ghost use Rattle.std.specs.Prelude.{◌≡◌, ◌/◌, ℕ, Bool, Option, map, IfSome, IfNone, IfOk, IfErr, Some, None};
+ghost use Rattle.std.specs.Option.{option_map};
+ghost use Rattle.mesh_atoms.specs.declared.addr.NetAddr.{NetAddr};
+ghost use Rattle.mesh_atoms.specs.declared.tc.Tc.{Tc};
+ghost use Rattle.mesh_tlv.specs.Fields.{fields};
+ghost use Rattle.mesh_packet.specs.Fields.{fields_of_message};
+ghost use Rattle.mesh_wire.specs.Answers.{IfBroken, Gives, Refuses};
+ghost use Rattle.mesh_wire.specs.FirstNet.{tc_rule};
+ghost use Rattle.mesh_wire.specs.HelloRows.{number_from};
+ghost use Rattle.mesh_wire.specs.Rules.{Keeps, FirstBroken};
+ghost use Rattle.mesh_wire.specs.Tc.{ContentIs, TcIs};
+ghost use Rattle.mesh_wire.specs.TcHeading.{contents_in, ContentsAre, TcHeadingIs, TcRowFrom, TcRowsFrom};
+ghost use Rattle.mesh_wire.specs.TcRules.{BreaksTc};
+ghost use Rattle.mesh_wire.specs.Times.{distance_of};
+
+use crate::collect::{Told, collect};
+use crate::fault::WireFault;
+use crate::hello::originator_of;
+use crate::parts::One;
+use crate::rules::first_breaking;
+use crate::times;
+use mesh_atoms::{Addr4, NetAddr, Seq, Tc, TcRow};
+use mesh_packet::Message;
+use mesh_tlv::Tlv;
+use std::alloc::{AllocError, Global};
+
+/// What a TC says before its rows.
+#[derive(Clone, Copy)]
+pub(crate) struct Heading {
+    pub originator: Addr4,
+    pub sequence: u16,
+    pub ansn: u16,
+    pub complete: bool,
+    pub validity: u64,
+    pub interval: Option<u64>,
+}
+
+/// The TLVs CONT_SEQ_NUM: none, one, or more.
+#[derive(Clone, Copy)]
+pub(crate) enum Contents<'a> {
+    Nothing,
+    Single(Tlv<'a>),
+    More,
+}
+
+// How many hops a message has come when it is heard: one more than its hop count, and 1 where it has none.
+fn distance_of(count: Option<u8>) -> u16
+    ensures { result ≡ distance_of count }
+{
+    match count {
+        Some(count) => u16::from(count) + 1,
+        None => 1,
+    }
+}
+
+// The TLVs CONT_SEQ_NUM of extension 0 or 1.
+fn contents_of<'a>(tlvs: &[Tlv<'a>]) -> Contents<'a>
+    ensures { ContentsAre (contents_in (map fields tlvs.now)) result }
+{
+    let mut found = None;
+    for i in 0..tlvs.len() {
+        let tlv = tlvs[i];
+        if tlv.kind == 8 && tlv.ext < 2 {
+            if found.is_some() {
+                return Contents::More;
+            }
+            found = Some(tlv);
+        }
+    }
+    match found {
+        Some(tlv) => Contents::Single(tlv),
+        None => Contents::Nothing,
+    }
+}
+
+// The number of what is advertised, and whether all rows are told; none where the message breaks the rule on it.
+fn content_of(message: &Message) -> Option<(u16, bool)>
+    ensures some { IfSome result (λ x. ContentIs (fields_of_message message.now) x.0 x.1) }
+    ensures none { IfNone result ((ansn : ℕ) (complete : Bool) → ContentIs (fields_of_message message.now) ansn complete → ⊥) }
+{
+    match contents_of(message.tlvs.as_slice()) {
+        Contents::Single(tlv) => match times::octets_of(&tlv) {
+            [high, low] => Some((256 * u16::from(*high) + u16::from(*low), tlv.ext == 0)),
+            _ => None,
+        },
+        _ => None,
+    }
+}
+
+// What the message says before its rows, or the first rule on it that is broken.
+fn heading_of(message: &Message) -> Result<Heading, u8>
+    ensures heading { IfOk result (TcHeadingIs (fields_of_message message.now)) }
+    ensures broken { IfErr result (λ number. FirstBroken (BreaksTc (fields_of_message message.now)) number None) }
+{
+    if message.width != 4 {
+        return Err(32);
+    }
+    let Some(originator) = originator_of(message) else {
+        return Err(33);
+    };
+    let Some(sequence) = message.sequence else {
+        return Err(33);
+    };
+    let distance = distance_of(message.count);
+    let Some(validity) = times::validity(message, distance) else {
+        return Err(34);
+    };
+    let Some(interval) = times::interval(message, distance) else {
+        return Err(35);
+    };
+    let Some((ansn, complete)) = content_of(message) else {
+        return Err(36);
+    };
+    Ok(Heading {
+        originator,
+        sequence,
+        ansn,
+        complete,
+        validity,
+        interval,
+    })
+}
+
+// The first rule on rows that is broken, and the first row that breaks it.
+fn broken_rule(rows: &[Told]) -> Option<(u8, NetAddr)>
+    ensures { result ≡ tc_rule rows.now }
+{
+    if let Some(net) = first_breaking(rows, 37) {
+        return Some((37, net));
+    }
+    if let Some(net) = first_breaking(rows, 38) {
+        return Some((38, net));
+    }
+    if let Some(net) = first_breaking(rows, 39) {
+        return Some((39, net));
+    }
+    None
+}
+
+// The octet that is kept 256 times.
+fn octet_from(one: One) -> Option<u8>
+    ensures { result ≡ option_map (λ n. n / 256) (number_from one) }
+{
+    match one.number() {
+        Some(number) => Some((number / 256) as u8),
+        None => None,
+    }
+}
+
+// The row of what is kept of an address.
+fn row_from(told: &Told) -> TcRow
+    ensures { TcRowFrom told.now result }
+{
+    TcRow {
+        dest: told.net,
+        origin: told.parts.origin,
+        routable: told.parts.routable,
+        gateway: octet_from(told.parts.gateway),
+        metric: told.parts.near_out.metric(),
+    }
+}
+
+// The rows, in the same order.
+fn rows_from(alloc: Global, told: &[Told]) -> Result<Seq<TcRow>, AllocError>
+    ensures { IfOk result (TcRowsFrom told.now) }
+{
+    let mut rows = Seq::new(alloc);
+    for i in 0..told.len() {
+        rows.push(row_from(&told[i]))?;
+    }
+    Ok(rows)
+}
+
+// The TC, or the first rule that is broken.
+fn read_tc(alloc: Global, message: &Message) -> Result<Tc, WireFault>
+    ensures reads { IfOk result (TcIs (fields_of_message message.now)) }
+    ensures keeps { IfOk result (λ tc. Keeps (BreaksTc (fields_of_message message.now))) }
+    ensures broken { IfErr result (IfBroken (FirstBroken (BreaksTc (fields_of_message message.now)))) }
+{
+    let heading = match heading_of(message) {
+        Ok(heading) => heading,
+        Err(number) => {
+            return Err(WireFault::Broken { number, addr: None });
+        }
+    };
+    let told = collect(alloc, message)?;
+    if let Some((number, net)) = broken_rule(told.as_slice()) {
+        return Err(WireFault::Broken {
+            number,
+            addr: Some(net),
+        });
+    }
+    let rows = rows_from(alloc, told.as_slice())?;
+    Ok(Tc {
+        originator: heading.originator,
+        sequence: heading.sequence,
+        ansn: heading.ansn,
+        complete: heading.complete,
+        validity: heading.validity,
+        interval: heading.interval,
+        rows,
+    })
+}
+
+/// Reads a message of type TC (RFC 7181, sections 13 and 16). TLVs with an extension, but for CONT_SEQ_NUM, and of other types
+/// are ignored. The rows are the distinct addresses of the message, each with all that the TLVs over it say, in ascending
+/// order; times are those at the distance that the message has come. Where rules are broken, the fault is the one of least
+/// number, with the least address that breaks it where the rule is about addresses; else want of memory is the only fault.
+pub fn tc_of(alloc: Global, message: &Message) -> Result<Tc, WireFault>
+    requires kind { message.now.kind ≡ 1 }
+    // What is read is what the message says.
+    ensures reads { IfOk result (TcIs (fields_of_message message.now)) }
+    // It breaks no rule.
+    ensures keeps { IfOk result (λ tc. Keeps (BreaksTc (fields_of_message message.now))) }
+    // Else the fault is the first rule that is broken, at the least address.
+    ensures broken { IfErr result (IfBroken (FirstBroken (BreaksTc (fields_of_message message.now)))) }
+
+    // A message that says a TC and breaks no rule is read as that.
+    ensures only { (tc : Tc) → Keeps (BreaksTc (fields_of_message message.now))
+        → TcIs (fields_of_message message.now) tc → Gives tc result }
+    // A message that breaks rules is refused by the first.
+    ensures first { (number : ℕ) (addr : Option NetAddr)
+        → FirstBroken (BreaksTc (fields_of_message message.now)) number addr → Refuses number addr result }
+{
+    read_tc(alloc, message)
+}

@@ -1,0 +1,94 @@
+//! What the TLVs of a message's header say: its times and how willing its sender is to be a relay.
+ghost use Rattle.std.specs.Prelude.{◌≡◌, ◌≤◌, ◌<◌, ℕ, Option, map, IfSome, IfNone};
+ghost use Rattle.mesh_tlv.specs.Fields.{fields};
+ghost use Rattle.mesh_packet.specs.Fields.{fields_of_message};
+ghost use Rattle.mesh_wire.specs.Hello.{HasWilling};
+ghost use Rattle.mesh_wire.specs.Parts.{octets_of};
+ghost use Rattle.mesh_wire.specs.Times.{ValidityIs, IntervalIs};
+ghost use Rattle.mesh_wire.specs.Values.{values_in, ValuesAre};
+
+use mesh_atoms::time_at;
+use mesh_packet::Message;
+use mesh_tlv::Tlv;
+
+/// The values of the TLVs of a type: none, one, or more.
+#[derive(Clone, Copy)]
+pub(crate) enum Values<'a> {
+    Nothing,
+    Single(&'a [u8]),
+    More,
+}
+
+// The octets of a TLV's value.
+pub(crate) fn octets_of<'a>(tlv: &Tlv<'a>) -> &'a [u8]
+    ensures { result.now ≡ octets_of (fields tlv.now).value }
+{
+    match tlv.value {
+        Some(octets) => octets,
+        None => &[],
+    }
+}
+
+// The values of the TLVs of that type, without extension.
+fn values_of<'a>(tlvs: &[Tlv<'a>], kind: u8) -> Values<'a>
+    ensures { ValuesAre (values_in kind (map fields tlvs.now)) result }
+{
+    let mut found = None;
+    for i in 0..tlvs.len() {
+        let tlv = &tlvs[i];
+        if tlv.kind == kind && tlv.ext == 0 {
+            if found.is_some() {
+                return Values::More;
+            }
+            found = Some(octets_of(tlv));
+        }
+    }
+    match found {
+        Some(octets) => Values::Single(octets),
+        None => Values::Nothing,
+    }
+}
+
+/// The validity at the distance; none where the message breaks the rule on it.
+pub(crate) fn validity(message: &Message, distance: u16) -> Option<u64>
+    ensures some { IfSome result (ValidityIs (fields_of_message message.now) distance) }
+    ensures none { IfNone result ((ticks : ℕ) → ValidityIs (fields_of_message message.now) distance ticks → ⊥) }
+{
+    match values_of(message.tlvs.as_slice(), 1) {
+        Values::Single(value) => match time_at(value, distance) {
+            Some(ticks) => { if ticks > 0 { Some(ticks) } else { None } }
+            None => None,
+        },
+        _ => None,
+    }
+}
+
+/// The interval at the distance, which may be left out; none where the message breaks the rule on it.
+pub(crate) fn interval(message: &Message, distance: u16) -> Option<Option<u64>>
+    ensures some { IfSome result (IntervalIs (fields_of_message message.now) distance) }
+    ensures none { IfNone result ((ticks : Option ℕ) → IntervalIs (fields_of_message message.now) distance ticks → ⊥) }
+{
+    match values_of(message.tlvs.as_slice(), 0) {
+        Values::Nothing => Some(None),
+        Values::Single(value) => match time_at(value, distance) {
+            Some(ticks) => Some(Some(ticks)),
+            None => None,
+        },
+        Values::More => None,
+    }
+}
+
+/// How willing the sender is, by its octet; none where the message breaks the rule on it.
+pub(crate) fn willing(message: &Message) -> Option<u8>
+    ensures some { IfSome result (HasWilling (fields_of_message message.now)) }
+    ensures none { IfNone result ((octet : ℕ) → HasWilling (fields_of_message message.now) octet → ⊥) }
+{
+    match values_of(message.tlvs.as_slice(), 7) {
+        Values::Nothing => Some(119),
+        Values::Single(value) => match value {
+            [octet] => Some(*octet),
+            _ => None,
+        },
+        Values::More => None,
+    }
+}
