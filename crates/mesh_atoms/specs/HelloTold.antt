@@ -11,6 +11,7 @@ use Rattle.mesh_atoms.specs.declared.hello.OtherStatus.{OtherStatus}
 use Rattle.mesh_atoms.specs.declared.hello.OtherStatus.TheVariants.{Symmetric as Still}
 use Rattle.mesh_atoms.specs.declared.hello.HelloRow.{HelloRow}
 use Rattle.mesh_atoms.specs.declared.hello.Hello.{Hello}
+use Rattle.mesh_atoms.specs.declared.hello.Shown.{Shown}
 use Rattle.mesh_atoms.specs.declared.tuples.LinkKey.{LinkKey}
 use Rattle.mesh_atoms.specs.declared.tuples.TwoHop.{TwoHop}
 use Rattle.mesh_atoms.specs.declared.settings.Interface.{Interface}
@@ -65,31 +66,26 @@ IsHandedIn face sender metric =
 
 -- what a HELLO tells
 pub record Told : Type 0 where
-  pub sending : List Addr4
+  pub shown : Shown  -- of the link that it came over
   pub least : LinkKey  -- of the sending list
   pub listed : List Addr4
   pub originator : Addr4
   pub willing : Willing
-  pub validity : ℕ
-  pub status : Option LinkStatus
-  pub link_in : Metric
-  pub link_out : Option Metric
-  pub flooding : Bool  -- whether the sender has chosen the receiver as a flooding relay
-  pub routing : Bool  -- and as a routing relay
+  pub routing : Bool  -- whether the sender has chosen the receiver as a routing relay
 
 -- what the HELLO from that sender tells on interface i (RFC 6130, section 12.2, and RFC 7181, section 15.3). Without an
 -- originator, a listed address is the originator
 pub record Tells (settings : RouterSettings) (i : ℕ) (sender : Addr4) (hello : Hello) (told : Told) : Type 0 where
-  pub sending : Lists told.sending (IsSending hello sender)
-  pub least : slice_get told.sending 0 ≡ Some told.least.addr
+  pub sending : Lists told.shown.sending (IsSending hello sender)
+  pub least : slice_get told.shown.sending 0 ≡ Some told.least.addr
   pub listed : Lists told.listed (IsListed hello sender)
   pub originator : (hello.originator ≡ Some told.originator) ⊎ ((hello.originator ≡ None) × Contains told.listed told.originator)
   pub willing : told.willing ≡ hello.willing
-  pub validity : told.validity ≡ hello.validity
-  pub status : IsMyStatus settings i hello told.status
-  pub link_in : (face : Interface) → slice_get settings.interfaces i ≡ Some face → IsHandedIn face sender told.link_in
-  pub link_out : IsLeastMetric (λ m. (a : Addr4) × (row : HelloRow) × HasAddressOn settings i a × HasRowOf hello a row × (row.metrics.link_in ≡ Some m)) told.link_out
-  pub flooding : IsTrue told.flooding ↔ ((a : Addr4) × (row : HelloRow) × HasAddressOn settings i a × HasRowOf hello a row × IsTrue row.mpr.flooding)
+  pub validity : told.shown.validity ≡ hello.validity
+  pub status : IsMyStatus settings i hello told.shown.status
+  pub link_in : (face : Interface) → slice_get settings.interfaces i ≡ Some face → IsHandedIn face sender told.shown.link_in
+  pub link_out : IsLeastMetric (λ m. (a : Addr4) × (row : HelloRow) × HasAddressOn settings i a × HasRowOf hello a row × (row.metrics.link_in ≡ Some m)) told.shown.link_out
+  pub flooding : IsTrue told.shown.selector ↔ ((a : Addr4) × (row : HelloRow) × HasAddressOn settings i a × HasRowOf hello a row × IsTrue row.mpr.flooding)
   pub routing : IsTrue told.routing ↔ ((a : Addr4) × (row : HelloRow) × HasAddress settings a × HasRowOf hello a row × IsTrue row.mpr.routing)
 
 -- What it says of others (RFC 6130, section 12.6, and RFC 7181, section 15.3)

@@ -76,3 +76,20 @@ pub struct Hello {
     pub willing: Willing,
     pub rows: Seq<HelloRow>,
 }
+
+/// What a HELLO shows of the link that it came over (RFC 6130, section 12.5, and RFC 7181, section 15.3). The validity is in
+/// ticks of 1/8192 s.
+#[derive(Debug, Drop)]
+pub struct Shown {
+    /// The sending list: the addresses of the interface that sent it, ascending, each once.
+    pub sending: Seq<Addr4>,
+    /// What it says of the link.
+    pub status: Option<LinkStatus>,
+    /// The metric handed in for the sender.
+    pub link_in: Metric,
+    /// The least incoming metric that it shows of the link; it counts where the status is HEARD or SYMMETRIC.
+    pub link_out: Option<Metric>,
+    /// Whether the sender has chosen the receiver as a flooding relay.
+    pub selector: bool,
+    pub validity: u64,
+}

@@ -25,7 +25,7 @@ pub use codes::{seq_newer, time_at, time_code_at_least, time_of};
 pub use graphs::{
     Arc4, Certificate, Direct, Far, Graph, Near, NeighbourGraph, Pair, PathRow, RadioGraph, Route,
 };
-pub use hello::{Hello, HelloRow, LinkStatus, LocalIf, Metrics, Mpr, OtherStatus, Willing};
+pub use hello::{Hello, HelloRow, LinkStatus, LocalIf, Metrics, Mpr, OtherStatus, Shown, Willing};
 pub use metric::Metric;
 pub use octets::{read_octet, read_short, refuse};
 pub use refusal::{DecodeFault, Refusal};

@@ -21,16 +21,18 @@ use Rattle.mesh_paths.proofs.ShortLists.{none_of, only, here, none_some, few_of_
 
 abbrev pub told : Told
 told = record {
-  sending = peer ∷ [];
+  shown = record {
+    sending = peer ∷ [];
+    status = Some Heard;
+    link_in = one;
+    link_out = Some three;
+    selector = false;
+    validity = 49152;
+  };
   least = record { addr = peer };
   listed = peer ∷ [];
   originator = peer;
   willing = seven;
-  validity = 49152;
-  status = Some Heard;
-  link_in = one;
-  link_out = Some three;
-  flooding = false;
   routing = false;
 }
 

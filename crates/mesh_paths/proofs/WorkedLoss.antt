@@ -39,7 +39,7 @@ use Rattle.mesh_paths.proofs.WorkedNeighbourhood.{same_peer, no_link, no_neighbo
 use Rattle.mesh_paths.proofs.WorkedExpiry.{was_symmetric_address, peer_symmetric, live}
 
 abbrev told_loss : Told
-told_loss = record told { status = Some Down; link_out = None }
+told_loss = record told { shown = record told.shown { status = Some Down; link_out = None } }
 
 -- Rows
 
@@ -232,7 +232,7 @@ module _ (settings : RouterSettings) (r : IsReceiver settings) where
     };
     interfaces = refl;
     two_hop_interfaces = refl;
-    link = ((link, 98504), Stood (link, 98504) refl refl, (let P : ℕ → Type 0 = λ hold. link_at later 0 (record { addr = peer }) ≡ Some (renewed told_loss hold 300 (link, 98504)) in subst P (sym r.link_hold) refl));
+    link = ((link, 98504), Stood (link, 98504) refl refl, (let P : ℕ → Type 0 = λ hold. link_at later 0 (record { addr = peer }) ≡ Some (renewed told_loss.shown hold 300 (link, 98504)) in subst P (sym r.link_hold) refl));
     other_links = λ j key other. kept_none _ _ _ (no_link j key other) (no_later_link j key other);
     neighbour = record { addrs = refl; willing = refl; selector = refl; by_links = by_heard_links };
     other_neighbours = λ o other. Remains (λ e h m. none_some e (sym (no_neighbour o other) ∙ h)) (restored o other);

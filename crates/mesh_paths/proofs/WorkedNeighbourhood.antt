@@ -137,7 +137,7 @@ module _ (settings : RouterSettings) (r : IsReceiver settings) where
     };
     interfaces = refl;
     two_hop_interfaces = refl;
-    link = (made told 200, Made (λ e h. none_some e h), (let P : ℕ → Type 0 = λ hold. link_at after 0 (record { addr = peer }) ≡ Some (renewed told hold 200 (made told 200)) in subst P (sym r.link_hold) refl));
+    link = (made told.shown 200, Made (λ e h. none_some e h), (let P : ℕ → Type 0 = λ hold. link_at after 0 (record { addr = peer }) ≡ Some (renewed told.shown hold 200 (made told.shown 200)) in subst P (sym r.link_hold) refl));
     other_links = λ j key other. kept_none _ _ _ (stood_nothing j key) (no_link j key other);
     neighbour = record { addrs = refl; willing = refl; selector = refl; by_links = by_links 200 refl };
     other_neighbours = λ o other. Remains (λ e h m. none_some e h) (no_neighbour o other);

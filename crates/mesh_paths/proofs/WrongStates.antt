@@ -49,7 +49,7 @@ expired_link settings now old new i key link until e stood late stands live =
 after : {settings : RouterSettings} {now i : ℕ} {told : Told} {hello : Hello} {old new : Neighbourhood} (a : Addr4) (t : TwoHop × ℕ) →
     two_hop_at new i (record { link = told.least; addr = a }) ≡ Some t → AfterHello settings now i told hello old new →
     (stood : Option (TwoHop × ℕ)) × StoodOn old i told a stood
-    × TellsTwoHop settings told hello (now + told.validity) a stood (two_hop_at new i (record { link = told.least; addr = a }))
+    × TellsTwoHop settings told hello (now + told.shown.validity) a stood (two_hop_at new i (record { link = told.least; addr = a }))
 after {now = now} {i = i} {told = told} {new = new} a t stands hello = elim (tested (is_symmetric_at new now i told.least)) [
   | inl h ↦ hello.two_hops h a
   | inr h ↦ some_none stands (hello.no_two_hops h a)
@@ -64,7 +64,7 @@ own_two_hop settings now i told hello old new a t mine none stands after_hello =
     none_stood (Same_link e at same) = none
     none_stood (New_link ended) = refl
 
-    told_of : {stood : Option (TwoHop × ℕ)} → TellsTwoHop settings told hello (now + told.validity) a stood (two_hop_at new i (record { link = told.least; addr = a })) → stood ≡ None → ⊥
+    told_of : {stood : Option (TwoHop × ℕ)} → TellsTwoHop settings told hello (now + told.shown.validity) a stood (two_hop_at new i (record { link = told.least; addr = a })) → stood ≡ None → ⊥
     told_of (By_row row looks makes) f = looks.not_mine mine
     told_of (By_none quiet same) f = some_none stands (same ∙ f)
 
@@ -77,7 +77,7 @@ two_hop_of_ended_link settings now i told hello old new e a t at other quiet sta
     none_stood (Same_link f to same) = absurd (let is : e ≡ f = cc in other (ap (λ (g : Link × ℕ). g.0.addrs) is ∙ same))
     none_stood (New_link ended) = refl
 
-    told_of : {stood : Option (TwoHop × ℕ)} → TellsTwoHop settings told hello (now + told.validity) a stood (two_hop_at new i (record { link = told.least; addr = a })) → stood ≡ None → ⊥
+    told_of : {stood : Option (TwoHop × ℕ)} → TellsTwoHop settings told hello (now + told.shown.validity) a stood (two_hop_at new i (record { link = told.least; addr = a })) → stood ≡ None → ⊥
     told_of (By_row row looks makes) f = quiet row looks
     told_of (By_none no_row same) f = some_none stands (same ∙ f)
 

@@ -53,7 +53,7 @@ RefusesOwnTwoHop =
 abbrev pub RefusesTwoHopOfEndedLink : Type 0
 RefusesTwoHopOfEndedLink =
     (settings : RouterSettings) (now i : ℕ) (told : Told) (hello : Hello) (old new : Neighbourhood) (e : Link × ℕ) (a : Addr4) (t : TwoHop × ℕ) →
-    link_at old i told.least ≡ Some e → e.0.addrs ≢ told.sending → ((row : HelloRow) → LooksAt settings told hello a row → ⊥) →
+    link_at old i told.least ≡ Some e → e.0.addrs ≢ told.shown.sending → ((row : HelloRow) → LooksAt settings told hello a row → ⊥) →
     two_hop_at new i (record { link = told.least; addr = a }) ≡ Some t → AfterHello settings now i told hello old new → ⊥
 
 -- after a complete TC, a tuple of its originator with another number
