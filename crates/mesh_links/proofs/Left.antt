@@ -1,0 +1,36 @@
+-- What is left where some links are taken out.
+use Rattle.std.proofs.Common.{◌≡◌, ◌⊎◌, ℕ, inl, inr, refl, sym, subst, ◌∙◌, Bool, true, false, Option, Some, None}
+use Rattle.mesh_atoms.specs.declared.tuples.Link.{Link}
+use Rattle.mesh_atoms.specs.declared.tuples.LinkKey.{LinkKey}
+use Rattle.mesh_atoms.specs.Base.{Base, find, link_eq, SetsOnly}
+use Rattle.mesh_atoms.specs.AfterHello.{IsKept}
+use Rattle.mesh_atoms.proofs.Lookups.{link_equiv}
+use Rattle.mesh_expire.proofs.Laws.{find_same}
+
+-- what stood at a key stands there, or had the property and is gone
+abbrev pub IsLeft : {A : Type 0} → (A → Type 0) → Option A → Option A → Type 0
+IsLeft {A} Goes old new = (new ≡ old) ⊎ ((e : A) × (old ≡ Some e) × Goes e × (new ≡ None))
+
+-- one more is taken out
+pub left_without : (Goes : Link × ℕ → Type 0) (first before after : Base LinkKey Link) (gone : LinkKey) (e : Link × ℕ)
+    → find link_eq before gone ≡ Some e → Goes e → SetsOnly link_eq before after gone None
+    → ((key : LinkKey) → IsLeft Goes (find link_eq first key) (find link_eq before key))
+    → (key : LinkKey) → IsLeft Goes (find link_eq first key) (find link_eq after key)
+left_without Goes first before after gone e found goes removed left key = by_key (link_eq gone key) refl where
+  by_key : (b : Bool) → link_eq gone key ≡ b → IsLeft Goes (find link_eq first key) (find link_eq after key)
+  by_key false is = let same : find link_eq after key ≡ find link_eq before key = removed key ∙ rw is refl in rw same (left key)
+  by_key true is = elim (left key) [
+    | inl stood ↦ inr (e, sym stood ∙ find_same link_equiv gone key is before ∙ found, goes, removed key ∙ rw is refl)
+    | inr over ↦ inr (over.0, over.1, over.2, removed key ∙ rw is refl)
+  ]
+
+-- all that are left stay
+pub left_kept : {A : Type 0} (Stays : A → Type 0) (old new : Option A) → IsLeft (λ e. Stays e → ⊥) old new → ((e : A) → new ≡ Some e → Stays e) → IsKept Stays old new
+left_kept Stays None new left all = elim left [
+  | inl same ↦ same
+  | inr gone ↦ let both = gone.1 in absurd cc
+]
+left_kept Stays (Some e) new left all = elim left [
+  | inl same ↦ inl (all e same, same)
+  | inr gone ↦ let is : gone.0 ≡ e = let both = gone.1 in cc in inr ((λ stays. gone.2 (subst Stays (sym is) stays)), gone.3)
+]

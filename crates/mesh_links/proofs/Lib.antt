@@ -1,0 +1,4 @@
+mod Left
+mod Renewed
+mod Room
+mod Tables

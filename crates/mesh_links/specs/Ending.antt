@@ -1,0 +1,10 @@
+-- Which links stay where some end.
+use Rattle.mesh_atoms.specs.declared.tuples.Link.{Link}
+use Rattle.mesh_atoms.specs.AfterHello.{Meets, IsBeyond, IsApart}
+use Rattle.mesh_links.specs.declared.ending.Ending.{Ending}
+use Rattle.mesh_links.specs.declared.ending.Ending.TheVariants.{Outside, Beside}
+
+-- the link stays
+abbrev pub Spares : Ending → Link → Type 0
+Spares (Outside old new) link = (Meets link.addrs old.now × IsBeyond link.addrs new.now) → ⊥
+Spares (Beside sending) link = IsApart sending.now link

@@ -1,0 +1,56 @@
+-- The links of one interface: what they say of an address, and what each event makes of them.
+use Rattle.std.specs.Prelude.{◌≡◌, ℕ, ◌<◌, ◌^◌, ◌≢◌, List, Contains, Option, Some, None, cond, Bool, true}
+use Rattle.mesh_atoms.specs.declared.addr.Addr4.{Addr4}
+use Rattle.mesh_atoms.specs.declared.hello.LinkStatus.{LinkStatus}
+use Rattle.mesh_atoms.specs.declared.hello.LinkStatus.TheVariants.{Lost, Symmetric, Heard}
+use Rattle.mesh_atoms.specs.declared.hello.Shown.{Shown}
+use Rattle.mesh_atoms.specs.declared.tuples.LinkKey.{LinkKey}
+use Rattle.mesh_atoms.specs.declared.tuples.Link.{Link}
+use Rattle.mesh_atoms.specs.Base.{Base, find, if_live, link_eq}
+use Rattle.mesh_atoms.specs.State.{is_symmetric, is_heard}
+use Rattle.mesh_atoms.specs.Live.{trim}
+use Rattle.mesh_atoms.specs.AfterHello.{Meets, IsBeyond, IsKept, IsApart, Begins, renewed}
+
+-- What is told of links
+
+-- the status of a link: one that is neither SYMMETRIC nor HEARD is LOST (RFC 6130, section 7.1)
+abbrev pub status_of : Link → ℕ → LinkStatus
+status_of link now = cond (is_symmetric link now) Symmetric (cond (is_heard link now) Heard Lost)
+
+-- the status of the link with a key, where there is one
+abbrev pub status_at : Option (Link × ℕ) → ℕ → Option LinkStatus
+status_at None now = None
+status_at (Some e) now = Some (status_of e.0 now)
+
+-- a SYMMETRIC link that has the address
+abbrev pub IsSymmetricWith : Base LinkKey Link → ℕ → Addr4 → Link → Type 0
+IsSymmetricWith links now a link =
+    (key : LinkKey) × (until : ℕ) × (find link_eq links key ≡ Some (link, until)) × Contains link.addrs a × (is_symmetric link now ≡ true)
+
+-- the selector flag of the SYMMETRIC link that has the address, where there is one (RFC 7181, section 8.1)
+pub data SelectorOf (links : Base LinkKey Link) (now : ℕ) (a : Addr4) : Option Bool → Type 0 where
+  Linked : (link : Link) → IsSymmetricWith links now a link → SelectorOf links now a (Some link.selector)
+  Unlinked : ((link : Link) → IsSymmetricWith links now a link → ⊥) → SelectorOf links now a None
+
+-- What becomes of them
+
+-- each link that isn't expired stays, and has link_out and selector flag only where it is SYMMETRIC (RFC 6130, section 13)
+abbrev pub ExpiresLinks : ℕ → Base LinkKey Link → Base LinkKey Link → Type 0
+ExpiresLinks now old new = (key : LinkKey) → find link_eq new key ≡ trim now (if_live now (find link_eq old key))
+
+-- each link that has an address among the old ones and one outside the new ones ends; all others stay
+abbrev pub EndsOutside : List Addr4 → List Addr4 → Base LinkKey Link → Base LinkKey Link → Type 0
+EndsOutside before listed old new =
+    (key : LinkKey) → IsKept (λ e. (Meets e.0.addrs before × IsBeyond e.0.addrs listed) → ⊥) (find link_eq old key) (find link_eq new key)
+
+-- the links after a HELLO: the one with the sending list, keyed by its least address, is renewed or made; each other link that
+-- meets the sending list ends; all others stay (RFC 6130, section 12.5, and RFC 7181, section 15.3)
+pub record HearsOn (shown : Shown) (least : LinkKey) (hold now : ℕ) (old new : Base LinkKey Link) : Type 0 where
+  pub one : (start : Link × ℕ) × Begins shown now (find link_eq old least) start × (find link_eq new least ≡ Some (renewed shown hold now start))
+  pub others : (key : LinkKey) → key ≢ least → IsKept (λ e. IsApart shown.sending e.0) (find link_eq old key) (find link_eq new key)
+
+-- How far a link reaches
+
+-- each link is symmetric up to a moment that leaves room for a hold time in 64 bits
+abbrev pub HasRoom : Base LinkKey Link → Type 0
+HasRoom links = (key : LinkKey) (e : Link × ℕ) → find link_eq links key ≡ Some e → e.0.sym < 2 ^ 63

@@ -1,0 +1,47 @@
+//! Tests on lists of addresses.
+ghost use Rattle.std.specs.Prelude.{◌≡◌, ◌↔◌, ◌⊎◌, IsTrue, Contains};
+ghost use Rattle.mesh_atoms.specs.AfterHello.{Meets, IsBeyond};
+
+use mesh_atoms::Addr4;
+
+/// Whether the address is in the list.
+pub fn contains(addrs: &[Addr4], addr: Addr4) -> bool
+    ensures { IsTrue result ↔ Contains addrs.now addr }
+{
+    addrs.contains(&addr)
+}
+
+/// Whether two lists have an address in common.
+pub fn meets(addrs: &[Addr4], others: &[Addr4]) -> bool
+    ensures { IsTrue result ↔ Meets addrs.now others.now }
+{
+    addrs.iter().any(|addr| contains(others, *addr))
+}
+
+/// Whether the first list has an address outside the second.
+pub fn is_beyond(addrs: &[Addr4], others: &[Addr4]) -> bool
+    ensures { IsTrue result ↔ IsBeyond addrs.now others.now }
+{
+    addrs.iter().any(|addr| !contains(others, *addr))
+}
+
+/// Whether two lists are the same.
+pub fn are_same(addrs: &[Addr4], others: &[Addr4]) -> bool
+    ensures { IsTrue result ↔ (addrs.now ≡ others.now) }
+{
+    addrs == others
+}
+
+/// Whether a list has an address among the old ones and one outside the new ones.
+pub fn leaves(addrs: &[Addr4], old: &[Addr4], new: &[Addr4]) -> bool
+    ensures { IsTrue result ↔ (Meets addrs.now old.now × IsBeyond addrs.now new.now) }
+{
+    meets(addrs, old) && is_beyond(addrs, new)
+}
+
+/// Whether a list is the other, or has none of its addresses.
+pub fn is_apart(addrs: &[Addr4], others: &[Addr4]) -> bool
+    ensures { IsTrue result ↔ ((addrs.now ≡ others.now) ⊎ (Meets addrs.now others.now → ⊥)) }
+{
+    are_same(addrs, others) || !meets(addrs, others)
+}

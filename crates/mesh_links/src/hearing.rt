@@ -1,0 +1,147 @@
+//! What a HELLO makes of the links of the interface that hears it.
+ghost use Rattle.std.specs.Prelude.{◌≡◌, ◌≢◌, ◌<◌, ◌^◌, ℕ, OnOk, IfSome, IfNone, Some, length, slice_get};
+ghost use Rattle.mesh_atoms.specs.declared.tuples.Link.{Link};
+ghost use Rattle.mesh_atoms.specs.declared.tuples.LinkKey.{LinkKey};
+ghost use Rattle.mesh_atoms.specs.Base.{HasDistinctKeys, SetsOnly, find, link_eq};
+ghost use Rattle.mesh_atoms.specs.AfterHello.{Begins, made, renewed};
+ghost use Rattle.mesh_links.specs.Links.{HasRoom, HearsOn};
+
+use crate::addresses::are_same;
+use crate::ending::{Ending, end_all};
+use crate::renewal::{make, renew};
+use mesh_atoms::{Addr4, Link, LinkKey, Shown};
+use mesh_expire::Table;
+use std::alloc::AllocError;
+
+/// The moment of the link with that key, where it has these addresses.
+fn standing<T: Table<LinkKey, Link>>(table: &T, key: LinkKey, addrs: &[Addr4]) -> Option<u64>
+    ensures some { IfSome result (λ until. (link : Link) × (find link_eq (T.content table.now) key ≡ Some (link, until)) × (link.addrs ≡ addrs.now)) }
+    ensures none { IfNone result ((e : Link × ℕ) → find link_eq (T.content table.now) key ≡ Some e → e.0.addrs ≢ addrs.now) }
+{
+    let (link, until) = table.get(&key)?;
+    if are_same(link.addrs.as_slice(), addrs) {
+        Some(until)
+    } else {
+        None
+    }
+}
+
+/// Renews the link with that key and moment, but for the moment; the moment up to which it then stays.
+fn renew_value<T: Table<LinkKey, Link>>(
+    table: &mut T,
+    key: &LinkKey,
+    until: u64,
+    now: u64,
+    hold: u64,
+    shown: &Shown,
+) -> u64
+    requires now { now < 2 ^ 62 }
+    requires hold { hold < 2 ^ 62 }
+    requires validity { shown.now.validity < 2 ^ 62 }
+    requires room { HasRoom (T.content table.old) }
+    ensures renewed { (link : Link) → find link_eq (T.content table.old) key.now ≡ Some (link, until)
+        → (after : Link) × ((after, result) ≡ renewed shown.now hold now (link, until)) × SetsOnly link_eq (T.content table.old) (T.content table.new) key.now (Some (after, until)) }
+    ensures room { HasRoom (T.content table.new) }
+    ensures distinct { HasDistinctKeys link_eq (T.content table.new) }
+{
+    match table.value_mut(key) {
+        Some(link) => renew(link, until, now, hold, shown),
+        None => until,
+    }
+}
+
+/// Renews the link with that key and moment.
+fn renew_standing<T: Table<LinkKey, Link>>(
+    table: &mut T,
+    key: LinkKey,
+    until: u64,
+    now: u64,
+    hold: u64,
+    shown: &Shown,
+) -> Result<(), AllocError>
+    requires now { now < 2 ^ 62 }
+    requires hold { hold < 2 ^ 62 }
+    requires validity { shown.now.validity < 2 ^ 62 }
+    requires room { HasRoom (T.content table.old) }
+    ensures ok { (link : Link) → find link_eq (T.content table.old) key ≡ Some (link, until)
+        → OnOk result (SetsOnly link_eq (T.content table.old) (T.content table.new) key (Some (renewed shown.now hold now (link, until)))) }
+    ensures room { HasRoom (T.content table.new) }
+    ensures distinct { HasDistinctKeys link_eq (T.content table.new) }
+{
+    let until = renew_value(table, &key, until, now, hold, shown);
+    table.set_until(&key, until)?;
+    Ok(())
+}
+
+/// Makes the link with the sending list, in place of one that had its key.
+fn put_made<T: Table<LinkKey, Link>>(
+    table: &mut T,
+    key: LinkKey,
+    now: u64,
+    hold: u64,
+    shown: &Shown,
+) -> Result<(), AllocError>
+    requires now { now < 2 ^ 62 }
+    requires hold { hold < 2 ^ 62 }
+    requires validity { shown.now.validity < 2 ^ 62 }
+    requires room { HasRoom (T.content table.old) }
+    requires distinct { HasDistinctKeys link_eq (T.content table.old) }
+    ensures ok { OnOk result (SetsOnly link_eq (T.content table.old) (T.content table.new) key (Some (renewed shown.now hold now (made shown.now now)))) }
+    ensures room { HasRoom (T.content table.new) }
+    ensures distinct { HasDistinctKeys link_eq (T.content table.new) }
+{
+    let mut link = make(shown)?;
+    let until = renew(&mut link, now + shown.validity, now, hold, shown);
+    table.put(key, link, until)?;
+    Ok(())
+}
+
+/// Renews the link with that key where it has the sending list, else makes it.
+fn renew_at<T: Table<LinkKey, Link>>(
+    table: &mut T,
+    key: LinkKey,
+    now: u64,
+    hold: u64,
+    shown: &Shown,
+) -> Result<(), AllocError>
+    requires now { now < 2 ^ 62 }
+    requires hold { hold < 2 ^ 62 }
+    requires validity { shown.now.validity < 2 ^ 62 }
+    requires room { HasRoom (T.content table.old) }
+    requires distinct { HasDistinctKeys link_eq (T.content table.old) }
+    ensures ok { OnOk result ((start : Link × ℕ) × Begins shown.now now (find link_eq (T.content table.old) key) start × SetsOnly link_eq (T.content table.old) (T.content table.new) key (Some (renewed shown.now hold now start))) }
+    ensures room { HasRoom (T.content table.new) }
+    ensures distinct { HasDistinctKeys link_eq (T.content table.new) }
+{
+    match standing(table, key, shown.sending.as_slice()) {
+        Some(until) => renew_standing(table, key, until, now, hold, shown),
+        None => put_made(table, key, now, hold, shown),
+    }
+}
+
+/// The links after a HELLO.
+pub fn hear_on<T: Table<LinkKey, Link>>(
+    table: &mut T,
+    now: u64,
+    hold: u64,
+    shown: &Shown,
+) -> Result<(), AllocError>
+    requires now { now < 2 ^ 62 }
+    requires hold { hold < 2 ^ 62 }
+    requires validity { shown.now.validity < 2 ^ 62 }
+    requires some { 0 < length shown.now.sending }
+    requires room { HasRoom (T.content table.old) }
+    requires distinct { HasDistinctKeys link_eq (T.content table.old) }
+    ensures ok { OnOk result ((least : LinkKey) → slice_get shown.now.sending 0 ≡ Some least.addr → HearsOn shown.now least hold now (T.content table.old) (T.content table.new)) }
+    ensures room { HasRoom (T.content table.new) }
+    ensures distinct { HasDistinctKeys link_eq (T.content table.new) }
+{
+    match shown.sending.get(0) {
+        Some(addr) => {
+            renew_at(table, LinkKey { addr: *addr }, now, hold, shown)?;
+            end_all(table, Ending::Beside(shown.sending.as_slice()));
+            Ok(())
+        }
+        None => Ok(()),
+    }
+}

@@ -1,0 +1,15 @@
+//! The links of one interface (RFC 6130, section 7.1, and RFC 7181, section 8.1).
+#![tactic(auto)]
+
+mod addresses;
+mod ending;
+mod expiry;
+mod hearing;
+mod links;
+mod renewal;
+mod status;
+#[cfg(test)]
+mod tests;
+
+pub use links::LinkSet;
+pub use mesh_atoms::Shown;

@@ -1,0 +1,96 @@
+//! What a HELLO makes of the link with its sending list (RFC 6130, section 12.5, and RFC 7181, section 15.3).
+ghost use Rattle.std.specs.Prelude.{◌≡◌, ◌<◌, ◌+◌, ◌^◌, ℕ, IfOk};
+ghost use Rattle.mesh_atoms.specs.Live.{trimmed};
+ghost use Rattle.mesh_atoms.specs.AfterHello.{by_status, by_hearing, made, renewed};
+
+use crate::status::{is_heard, is_symmetric};
+use mesh_atoms::{Link, LinkStatus, Shown};
+use std::alloc::AllocError;
+
+/// Takes link_out and the selector flag from a link that isn't SYMMETRIC (RFC 7181, section 8.1).
+pub fn trim(link: &mut Link, now: u64)
+    ensures trimmed { (until : ℕ) → (link.new, until) ≡ trimmed now (link.old, until) }
+    ensures sym { link.new.sym ≡ link.old.sym }
+{
+    if !is_symmetric(link, now) {
+        link.link_out = None;
+        link.selector = false;
+    }
+}
+
+/// What the HELLO says of the link; the moment up to which the link then stays.
+fn tell(link: &mut Link, until: u64, now: u64, hold: u64, shown: &Shown) -> u64
+    requires now { now < 2 ^ 62 }
+    requires hold { hold < 2 ^ 62 }
+    requires validity { shown.now.validity < 2 ^ 62 }
+    ensures told { (link.new, result) ≡ by_status shown.now hold now shown.now.status (link.old, until) }
+    ensures sym { link.old.sym < 2 ^ 63 → link.new.sym < 2 ^ 63 }
+{
+    match shown.status {
+        None => until,
+        Some(LinkStatus::Lost) => {
+            link.sym = 0;
+            if is_heard(link, now) {
+                now + hold
+            } else {
+                until
+            }
+        }
+        Some(_) => {
+            link.sym = now + shown.validity;
+            link.link_out = shown.link_out;
+            link.selector = shown.selector;
+            until
+        }
+    }
+}
+
+/// The link is heard up to the HELLO's validity at least; the moment up to which it then stays.
+fn hold_on(link: &mut Link, until: u64, now: u64, hold: u64, shown: &Shown) -> u64
+    requires now { now < 2 ^ 62 }
+    requires hold { hold < 2 ^ 62 }
+    requires validity { shown.now.validity < 2 ^ 62 }
+    requires sym { link.old.sym < 2 ^ 63 }
+    ensures heard { (link.new, result) ≡ by_hearing shown.now hold now (link.old, until) }
+    ensures sym { link.new.sym ≡ link.old.sym }
+{
+    link.heard = u64::max(now + shown.validity, link.sym);
+    if link.pending {
+        u64::max(until, link.heard)
+    } else if is_symmetric(link, now) || is_heard(link, now) {
+        u64::max(until, link.heard + hold)
+    } else {
+        until
+    }
+}
+
+/// The link after the HELLO; the moment up to which it then stays.
+pub fn renew(link: &mut Link, until: u64, now: u64, hold: u64, shown: &Shown) -> u64
+    requires now { now < 2 ^ 62 }
+    requires hold { hold < 2 ^ 62 }
+    requires validity { shown.now.validity < 2 ^ 62 }
+    requires sym { link.old.sym < 2 ^ 63 }
+    ensures renewed { (link.new, result) ≡ renewed shown.now hold now (link.old, until) }
+    ensures sym { link.new.sym < 2 ^ 63 }
+{
+    let until = tell(link, until, now, hold, shown);
+    trim(link, now);
+    hold_on(link, until, now, hold, shown)
+}
+
+/// The link that is made where none has the sending list.
+pub fn make(shown: &Shown) -> Result<Link, AllocError>
+    ensures { IfOk result (λ link. (now : ℕ) → (link, now + shown.now.validity) ≡ made shown.now now) }
+{
+    Ok(Link {
+        addrs: shown.sending.copy()?,
+        heard: 0,
+        sym: 0,
+        quality: 0,
+        pending: false,
+        lost: false,
+        link_in: shown.link_in,
+        link_out: None,
+        selector: false,
+    })
+}
