@@ -1,0 +1,5 @@
+pub mod Ended
+pub mod Listed
+pub mod Sets
+pub mod Summaries
+pub mod Walks

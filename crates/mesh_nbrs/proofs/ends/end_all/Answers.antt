@@ -1,0 +1,17 @@
+use Rattle.std.proofs.Common.{◌≡◌, true, ap, is_some, arith}
+use Rattle.mesh_nbrs.proofs.Ended.{ended_more, all_ended}
+use Rattle.mesh_nbrs.proofs.ends.end_all.Goals as goal
+
+pub loop-next-preserved : goal.loop-next-preserved
+loop-next-preserved g c =
+    let next = c.in-Some.ensures.some in
+    let found : c.remove.result ≡ true = c.remove.ensures.found.1 (ap is_some next.1) in
+    record {
+      kept = ended_more g.K.PartialEq.eq g.met.K.Key.exact (g.E.Ending.ends c.args.ending.now) (g.T.Table.content c.args.table.now) (g.T.Table.content c.loop-next.table) (g.T.Table.content c.remove.new.self) c.in-Some.next.1 next.0 c.loop-next.invariant.kept next.1 next.2 c.remove.ensures.removed;
+      count = omega (arith, c.loop-next.invariant.count, rw found at c.remove.ensures.count);
+      most = c.loop-next.invariant.most;
+      distinct = c.remove.ensures.distinct;
+    }
+
+pub returns-clause-kept : goal.returns-clause-kept
+returns-clause-kept g c = all_ended g.K.PartialEq.eq (g.E.Ending.ends c.args.ending.now) (g.T.Table.content c.args.table.now) (g.T.Table.content c.loop-next.table) c.loop-next.invariant.kept c.in_default.ensures.none

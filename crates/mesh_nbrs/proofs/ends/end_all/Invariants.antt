@@ -1,0 +1,18 @@
+use Rattle.std.proofs.Common.{◌≡◌, ◌+◌, length}
+use Rattle.mesh_atoms.specs.Base.{HasDistinctKeys}
+use Rattle.mesh_nbrs.proofs.Ended.{HasEnded}
+use Rattle.mesh_nbrs.proofs.ends.end_all.Given as goal
+
+abbrev pub invariant-loop-next : goal.invariant-loop-next
+invariant-loop-next g l =
+    let before = g.T.Table.content l.initial.table in
+    let now = g.T.Table.content l.table in
+    record {
+      kept : (q : _) → HasEnded g.K.PartialEq.eq (g.E.Ending.ends l.ending) before now q;
+      count : l.ended + length now ≡ length before;
+      most : length before ≡ l._most;
+      distinct : HasDistinctKeys g.K.PartialEq.eq now;
+    }
+
+abbrev pub decreases-loop-next : goal.decreases-loop-next
+decreases-loop-next g l = length (g.T.Table.content l.table)

@@ -1,0 +1,36 @@
+use Rattle.std.proofs.Common.{◌≡◌, ℕ, ◌≤◌, length, List, Option, Some, None, inl, inr, sym, ◌∙◌, refl, arith}
+use Rattle.std.proofs.lemmas.Option.{slice_get_cases}
+use Rattle.mesh_atoms.proofs.Lookups.{addr_equiv, same_addr}
+use Rattle.mesh_atoms.specs.declared.addr.Addr4.{Addr4}
+use Rattle.mesh_atoms.specs.declared.tuples.Neighbour.{Neighbour}
+use Rattle.mesh_atoms.specs.Base.{Base, find, addr_eq}
+use Rattle.mesh_nbrs.specs.declared.neighbours.LinkNote.{LinkNote}
+use Rattle.mesh_nbrs.specs.Neighbours.{by_summary, HasSummary}
+use Rattle.mesh_nbrs.proofs.Walks.{IsWalked, walk_begins, walk_on, walk_ends}
+use Rattle.mesh_nbrs.proofs.neighbours.renew_all.Goals as goal
+
+-- after a walk over all places
+all_walked : (notes : List LinkNote) (before now : Base Addr4 Neighbour) (place : ℕ) → length now ≤ place → IsWalked addr_eq (λ old new. HasSummary notes (Some old) (Some new)) before now place
+    → (o : Addr4) → HasSummary notes (find addr_eq before o) (find addr_eq now o)
+all_walked notes before now place all h o = by_case (find addr_eq now o) refl where
+  by_case : (new : Option (Neighbour × ℕ)) → find addr_eq now o ≡ new → HasSummary notes (find addr_eq before o) new
+  by_case None is = rw (h.none o is) refl
+  by_case (Some e) is = let was = walk_ends (λ old new. HasSummary notes (Some old) (Some new)) before now place same_addr all h o e is in rw (was.1) was.2
+
+pub loop-place-init : goal.loop-place-init
+loop-place-init g c = walk_begins _ _ addr_equiv c.len-place-end.ensures.distinct
+
+pub loop-place-preserved : goal.loop-place-preserved
+loop-place-preserved g c =
+    walk_on _ (g.T.Table.content c.args.table.now) (g.T.Table.content c.loop-place.table) c.loop-place.place addr_equiv (g.T.Table.content c.renew.new.table) c.in-Some.originator.now
+    (c.in-Some.neighbour.now, c.in-Some.field-0-2) (λ e. (by_summary c.summary_of.result e.0, c.summary_of.result.until)) (sym c.in-Some.ensures)
+    (c.summary_of.result, rw c.as_slice.ensures at c.summary_of.ensures, refl) c.in_ok-renew.ensures.ok c.loop-place.invariant
+
+pub returns-in-None-clause-ok : goal.returns-in-None-clause-ok
+returns-in-None-clause-ok g c = elim ((slice_get_cases (g.T.Table.content c.loop-place.table) c.loop-place.place).1) [
+  | inl there ↦ absurd (let clash : None ≡ Some (there.0) = c.in-None.ensures ∙ there.2 in cc)
+  | inr past ↦ all_walked _ _ _ c.loop-place.place past.0 c.loop-place.invariant
+]
+
+pub returns-clause-ok : goal.returns-clause-ok
+returns-clause-ok g c = all_walked _ _ _ c.loop-place.place (omega (arith, c.loop-place.invariant.len, c.len-place-end.ensures.value)) c.loop-place.invariant

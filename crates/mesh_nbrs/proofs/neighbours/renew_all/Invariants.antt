@@ -1,0 +1,8 @@
+use Rattle.std.proofs.Common.{Some}
+use Rattle.mesh_atoms.specs.Base.{addr_eq}
+use Rattle.mesh_nbrs.specs.Neighbours.{HasSummary}
+use Rattle.mesh_nbrs.proofs.Walks.{IsWalked}
+use Rattle.mesh_nbrs.proofs.neighbours.renew_all.Given as goal
+
+abbrev pub invariant-loop-place : goal.invariant-loop-place
+invariant-loop-place g l = IsWalked addr_eq (λ old new. HasSummary l.notes (Some old) (Some new)) (g.T.Table.content l.initial.table) (g.T.Table.content l.table) l.place

@@ -1,0 +1,3 @@
+pub mod Losts
+pub mod Neighbours
+pub mod TwoHops

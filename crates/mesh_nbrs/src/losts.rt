@@ -1,0 +1,102 @@
+//! The set of lost addresses.
+ghost use Rattle.std.specs.Prelude.{◌≡◌, ◌≤◌, ◌&&◌, [], length, not, IfOk, OnOk, None, Some, cond};
+ghost use Rattle.std.specs.List.{list_any};
+ghost use Rattle.mesh_atoms.specs.Base.{Base, HasDistinctKeys, find, Expires, addr_eq};
+ghost use Rattle.mesh_nbrs.specs.Losts.{SettlesAll};
+
+use mesh_atoms::{Addr4, Lost};
+use mesh_expire::Table;
+use std::alloc::{AllocError, Global};
+use std::marker::Model;
+
+/// The addresses that were a symmetric neighbour's. After want of memory the set may only be dropped.
+#[derive(Drop)]
+pub struct LostSet<T: Table<Addr4, Lost>> {
+    table: T,
+}
+
+impl<T: Table<Addr4, Lost>> Model for LostSet<T> {
+    ghost use Rattle.mesh_atoms.specs.Base.{Base};
+    ghost use Rattle.mesh_atoms.specs.declared.addr.Addr4.{Addr4};
+    ghost use Rattle.mesh_atoms.specs.declared.tuples.Lost.{Lost};
+
+    ghost Value = { Base Addr4 Lost };
+
+    ghost view = { λ s. T.content s.table };
+}
+
+impl<T: Table<Addr4, Lost>> LostSet<T> {
+    /// No lost addresses.
+    pub fn new(alloc: Global) -> Result<LostSet<T>, AllocError>
+        ensures { IfOk result (λ set. set ≡ []) }
+    {
+        Ok(LostSet {
+            table: T::new(alloc)?,
+        })
+    }
+
+    /// The lost addresses as a table. Takes no memory.
+    pub fn table(&self) -> &T
+        ensures { T.content result.now ≡ self.now }
+    {
+        &self.table
+    }
+
+    /// Settles which addresses are lost, from the addresses of symmetric neighbours before an event and after it
+    /// (RFC 6130, sections 8.2 and 12.4): those of after are not lost, those of before alone are lost until that moment, and
+    /// all others stay as they are. Takes memory for the newly lost ones. Each address of before is looked for in after.
+    pub fn settle_lost(
+        &mut self,
+        before: &[Addr4],
+        after: &[Addr4],
+        until: u64,
+    ) -> Result<(), AllocError>
+        ensures ok { OnOk result (SettlesAll before.now after.now until self.old self.new) }
+        ensures distinct { HasDistinctKeys addr_eq self.new }
+    {
+        take_back(&mut self.table, after);
+        put_gone(&mut self.table, before, after, until)
+    }
+
+    /// Takes out the lost addresses whose moment is at or below now (RFC 6130, section 13). Takes no memory.
+    pub fn expire(&mut self, now: u64)
+        ensures expired { Expires addr_eq now self.old self.new }
+        ensures count { length self.new ≤ length self.old }
+        ensures distinct { HasDistinctKeys addr_eq self.new }
+    {
+        self.table.expire(now);
+    }
+}
+
+// Takes out the addresses that are a symmetric neighbour's.
+fn take_back<T: Table<Addr4, Lost>>(table: &mut T, after: &[Addr4])
+    ensures back { (a : _) → find addr_eq (T.content table.new) a
+        ≡ cond (list_any (λ x. addr_eq x a) after.now) None (find addr_eq (T.content table.old) a) }
+    ensures distinct { HasDistinctKeys addr_eq (T.content table.new) }
+{
+    let _count = table.len();
+    for addr in after {
+        table.remove(addr);
+    }
+}
+
+// Puts in the addresses that were a symmetric neighbour's and are none's now.
+fn put_gone<T: Table<Addr4, Lost>>(
+    table: &mut T,
+    before: &[Addr4],
+    after: &[Addr4],
+    until: u64,
+) -> Result<(), AllocError>
+    ensures gone { OnOk result ((a : _) → find addr_eq (T.content table.new) a
+        ≡ cond (list_any (λ x. addr_eq x a && not (list_any (λ y. addr_eq y x) after.now)) before.now) (Some (record {}, until)) (find addr_eq (T.content table.old) a)) }
+    ensures distinct { HasDistinctKeys addr_eq (T.content table.new) }
+{
+    let _count = table.len();
+    for addr in before {
+        if after.contains(addr) {
+            continue;
+        }
+        table.put(*addr, Lost {}, until)?;
+    }
+    Ok(())
+}

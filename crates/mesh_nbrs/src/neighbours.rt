@@ -1,0 +1,219 @@
+//! The set of neighbours.
+ghost use Rattle.std.specs.Prelude.{◌≡◌, ◌+◌, ◌<◌, ◌↔◌, [], length, IfOk, OnOk, IsTrue};
+ghost use Rattle.mesh_atoms.specs.Base.{Base, HasDistinctKeys, find, addr_eq};
+ghost use Rattle.mesh_atoms.specs.Relays.{IsAscending};
+ghost use Rattle.mesh_atoms.specs.AfterHello.{Matches, Meets, announced};
+ghost use Rattle.mesh_expire.specs.Table.{changed_at};
+ghost use Rattle.mesh_nbrs.specs.Neighbours.{Replaces, RestoresBy, HasNoNote, HasSummary, by_summary};
+
+use crate::ends::{Ending, end_all};
+use crate::summary::{Summary, summary_of};
+use mesh_atoms::{Addr4, LinkKey, Metric, Neighbour, Seq, Willing};
+use mesh_expire::Table;
+use std::alloc::{AllocError, Global};
+use std::marker::Model;
+
+/// What a neighbour is to know of a link: its key, whether it is SYMMETRIC, its metrics and its moment in ticks of 1/8192 s.
+#[derive(Clone, Copy, Debug, PartialEq, Eq)]
+pub struct LinkNote {
+    pub key: LinkKey,
+    pub symmetric: bool,
+    pub link_in: Metric,
+    pub link_out: Option<Metric>,
+    pub until: u64,
+}
+
+/// The neighbours of a router, by originator. After want of memory the set may only be dropped.
+#[derive(Drop)]
+pub struct NeighbourSet<T: Table<Addr4, Neighbour>> {
+    table: T,
+    alloc: Global,
+}
+
+impl<T: Table<Addr4, Neighbour>> Model for NeighbourSet<T> {
+    ghost use Rattle.mesh_atoms.specs.Base.{Base};
+    ghost use Rattle.mesh_atoms.specs.declared.addr.Addr4.{Addr4};
+    ghost use Rattle.mesh_atoms.specs.declared.tuples.Neighbour.{Neighbour};
+
+    ghost Value = { Base Addr4 Neighbour };
+
+    ghost view = { λ s. T.content s.table };
+}
+
+impl<T: Table<Addr4, Neighbour>> NeighbourSet<T> {
+    /// No neighbours.
+    pub fn new(alloc: Global) -> Result<NeighbourSet<T>, AllocError>
+        ensures { IfOk result (λ set. set ≡ []) }
+    {
+        Ok(NeighbourSet {
+            table: T::new(alloc)?,
+            alloc,
+        })
+    }
+
+    /// The neighbours as a table. Takes no memory.
+    pub fn table(&self) -> &T
+        ensures { T.content result.now ≡ self.now }
+    {
+        &self.table
+    }
+
+    /// Makes one neighbour of all that match a HELLO, by the originator or by one of the addresses that it tells of
+    /// (RFC 6130, section 12.3, and RFC 7181, section 15.3), and gives how many were taken out. The new one has that
+    /// originator, those addresses, willingness and routing selector flag; it is not symmetric and has no metrics. The
+    /// addresses are in ascending order, at least one. Each address of each neighbour is looked for among them.
+    pub fn replace(
+        &mut self,
+        originator: Addr4,
+        addrs: &[Addr4],
+        willing: Willing,
+        selector: bool,
+        until: u64,
+    ) -> Result<usize, AllocError>
+        requires ascending { IsAscending addrs.now }
+        requires some { 0 < length addrs.now }
+        ensures ok { OnOk result (Replaces originator addrs.now willing selector until self.old self.new) }
+        ensures count { IfOk result (λ taken_out. taken_out + length self.new ≡ length self.old + 1) }
+        ensures distinct { HasDistinctKeys addr_eq self.new }
+    {
+        let matching = Matching {
+            originator,
+            listed: addrs,
+        };
+        let taken_out = end_all(&mut self.table, &matching);
+        let neighbour = neighbour_with(self.alloc, addrs, willing, selector)?;
+        self.table.put(originator, neighbour, until)?;
+        Ok(taken_out)
+    }
+
+    /// Brings the neighbours in line with their links (RFC 6130, section 13, and RFC 7181, section 17.6), which the notes tell
+    /// of: a link is a neighbour's where the neighbour has the address of its key. A neighbour without a link goes. Any other
+    /// gets the latest moment of its links, is symmetric where one of them is SYMMETRIC, and gets the least metrics of those;
+    /// one that isn't symmetric loses its routing selector flag. All notes are looked at for each neighbour, each address by
+    /// address.
+    pub fn expire(&mut self, notes: &[LinkNote]) -> Result<(), AllocError>
+        ensures ok { OnOk result ((o : Addr4) → RestoresBy notes.now (find addr_eq self.old o) (find addr_eq self.new o)) }
+        ensures distinct { HasDistinctKeys addr_eq self.new }
+    {
+        end_all(&mut self.table, &Unnoted { notes });
+        renew_all(&mut self.table, notes)
+    }
+}
+
+// The neighbours that no note is of.
+#[derive(Clone, Copy)]
+struct Unnoted<'a> {
+    notes: &'a [LinkNote],
+}
+
+impl<'a> Ending<Addr4, Neighbour> for Unnoted<'a> {
+    ghost ends = { λ u _ neighbour. HasNoNote u.notes.now neighbour.addrs };
+
+    fn ends(&self, _originator: &Addr4, neighbour: &Neighbour) -> bool {
+        is_unnoted(self.notes, neighbour.addrs.as_slice())
+    }
+}
+
+fn is_unnoted(notes: &[LinkNote], addrs: &[Addr4]) -> bool
+    ensures { IsTrue result ↔ HasNoNote notes.now addrs.now }
+{
+    for note in notes {
+        if addrs.contains(&note.key.addr) {
+            return false;
+        }
+    }
+    true
+}
+
+// Sets what the notes tell of each neighbour.
+fn renew_all<T: Table<Addr4, Neighbour>>(
+    table: &mut T,
+    notes: &[LinkNote],
+) -> Result<(), AllocError>
+    ensures ok { OnOk result ((o : Addr4) → HasSummary notes.now (find addr_eq (T.content table.old) o) (find addr_eq (T.content table.new) o)) }
+    ensures distinct { HasDistinctKeys addr_eq (T.content table.new) }
+{
+    for place in 0..table.len() {
+        let (originator, summary) = match table.at(place) {
+            Some((originator, neighbour, _)) => (
+                *originator,
+                summary_of(notes, neighbour.addrs.as_slice()),
+            ),
+            None => return Ok(()),
+        };
+        renew(table, &originator, &summary)?;
+    }
+    Ok(())
+}
+
+// Sets flags, metrics and moment of one neighbour.
+fn renew<T: Table<Addr4, Neighbour>>(
+    table: &mut T,
+    originator: &Addr4,
+    summary: &Summary,
+) -> Result<(), AllocError>
+    ensures ok { OnOk result (T.content table.new
+        ≡ changed_at addr_eq (T.content table.old) originator.now (λ e. (by_summary summary.now e.0, summary.now.until))) }
+    ensures distinct { HasDistinctKeys addr_eq (T.content table.new) }
+{
+    write(table, originator, summary);
+    table.set_until(originator, summary.until)?;
+    Ok(())
+}
+
+// Sets flags and metrics of one neighbour.
+fn write<T: Table<Addr4, Neighbour>>(table: &mut T, originator: &Addr4, summary: &Summary)
+    ensures { T.content table.new ≡ changed_at addr_eq (T.content table.old) originator.now (λ e. (by_summary summary.now e.0, e.1)) }
+{
+    if let Some(neighbour) = table.value_mut(originator) {
+        neighbour.symmetric = summary.symmetric;
+        neighbour.metric_in = summary.metric_in;
+        neighbour.metric_out = summary.metric_out;
+        neighbour.selector &= summary.symmetric;
+    }
+}
+
+// The neighbours that a HELLO with this originator and these addresses speaks of.
+#[derive(Clone, Copy)]
+struct Matching<'a> {
+    originator: Addr4,
+    listed: &'a [Addr4],
+}
+
+impl<'a> Ending<Addr4, Neighbour> for Matching<'a> {
+    ghost ends = { λ m originator neighbour. Matches m.originator m.listed.now originator neighbour };
+
+    fn ends(&self, originator: &Addr4, neighbour: &Neighbour) -> bool {
+        *originator == self.originator || meets(neighbour.addrs.as_slice(), self.listed)
+    }
+}
+
+fn meets(xs: &[Addr4], ys: &[Addr4]) -> bool
+    ensures { IsTrue result ↔ Meets xs.now ys.now }
+{
+    for x in xs {
+        if ys.contains(x) {
+            return true;
+        }
+    }
+    false
+}
+
+// The neighbour that a HELLO tells of, before its links are looked at.
+fn neighbour_with(
+    alloc: Global,
+    addrs: &[Addr4],
+    willing: Willing,
+    selector: bool,
+) -> Result<Neighbour, AllocError>
+    ensures { IfOk result (λ neighbour. neighbour ≡ announced addrs.now willing selector) }
+{
+    Ok(Neighbour {
+        addrs: Seq::from_vec(Vec::from_slice(alloc, addrs)?),
+        symmetric: false,
+        metric_in: None,
+        metric_out: None,
+        willing,
+        selector,
+    })
+}
