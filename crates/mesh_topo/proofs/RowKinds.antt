@@ -1,0 +1,104 @@
+-- What the rows of a TC give, in the words of the definitions.
+use Rattle.std.proofs.Common.{◌≡◌, ℕ, inl, inr, Bool, true, false, cond, Option, Some, None, Contains, refl, sym, ap, ◌∙◌}
+use Rattle.std.specs.Prelude.{option_map, IsTrue}
+use Rattle.mesh_atoms.specs.declared.addr.Addr4.{Addr4}
+use Rattle.mesh_atoms.specs.declared.addr.NetAddr.{NetAddr}
+use Rattle.mesh_atoms.specs.declared.metric.Metric.{Metric}
+use Rattle.mesh_atoms.specs.declared.tc.Tc.{Tc}
+use Rattle.mesh_atoms.specs.declared.tc.TcRow.{TcRow}
+use Rattle.mesh_atoms.specs.declared.tuples.RouterKey.{RouterKey}
+use Rattle.mesh_atoms.specs.declared.tuples.RouterTuple.{RouterTuple}
+use Rattle.mesh_atoms.specs.declared.tuples.AddressKey.{AddressKey}
+use Rattle.mesh_atoms.specs.declared.tuples.AddressTuple.{AddressTuple}
+use Rattle.mesh_atoms.specs.declared.tuples.NetworkKey.{NetworkKey}
+use Rattle.mesh_atoms.specs.declared.tuples.NetworkTuple.{NetworkTuple}
+use Rattle.mesh_atoms.specs.Base.{Base, host, router_eq, address_eq, network_eq}
+use Rattle.mesh_atoms.specs.AfterTc.{BecomesSet, GivesRouter, GivesAddress, GivesNetwork}
+use Rattle.mesh_atoms.proofs.Nets.{same_net}
+use Rattle.mesh_topo.specs.Sets.{GivenBy}
+use Rattle.mesh_topo.specs.Tuples.{router_of, address_of, network_of, network_with, HasHosts}
+use Rattle.mesh_topo.proofs.Laws.{set_by}
+
+-- a value that is there by a test and an option
+some_of : {A B : Type 0} (f : A → B) (b : Bool) (o : Option A) (y : B) → cond b (option_map f o) None ≡ Some y → (x : A) × (b ≡ true) × (o ≡ Some x) × (f x ≡ y)
+some_of f true (Some x) y e = (x, refl, refl, let both : Some (f x) ≡ Some y = e in cc)
+some_of f true None y e = absurd cc
+some_of f false o y e = absurd cc
+
+-- tuples of a single address, keyed by the originator and the address
+module _ {K V : Type 0} (key : Addr4 → Addr4 → K) (from to : K → Addr4) (value : ℕ → Metric → V) (number : V → ℕ) (metric : V → Metric) (flag : TcRow → Bool)
+    (key_is : (k : K) → key (from k) (to k) ≡ k) (from_is : (a b : Addr4) → from (key a b) ≡ a) (to_is : (a b : Addr4) → to (key a b) ≡ b)
+    (value_is : (v : V) → value (number v) (metric v) ≡ v) (number_is : (n : ℕ) (m : Metric) → number (value n m) ≡ n) (metric_is : (n : ℕ) (m : Metric) → metric (value n m) ≡ m) where
+  abbrev tuple_of : Addr4 → ℕ → TcRow → Option (K × V)
+  tuple_of originator ansn row = cond (flag row) (option_map (λ m. (key originator row.dest.addr, value ansn m)) row.metric) None
+
+  abbrev Tells : Tc → K → V → Type 0
+  Tells tc k v = ((from k ≡ tc.originator) × (row : TcRow) × Contains tc.rows row × (row.dest ≡ host (to k)) × IsTrue (flag row) × (row.metric ≡ Some (metric v))) × (number v ≡ tc.ansn)
+
+  tells_given : (tc : Tc) → ((row : TcRow) → Contains tc.rows row → IsTrue (flag row) → row.dest.prefix ≡ 32) → (k : K) (v : V) → GivenBy tuple_of tc k v → Tells tc k v
+  tells_given tc hosts k v (row, has, is) =
+      let (m, flagged, known, pair) = some_of (λ m. (key tc.originator row.dest.addr, value tc.ansn m)) (flag row) row.metric (k, v) is in
+      let k_is : key tc.originator row.dest.addr ≡ k = ap (λ (p : K × V). p.0) pair in
+      let v_is : value tc.ansn m ≡ v = ap (λ (p : K × V). p.1) pair in
+      let addr : row.dest.addr ≡ to k = sym (to_is tc.originator row.dest.addr) ∙ ap to k_is in
+      let by_metric : m ≡ metric v = sym (metric_is tc.ansn m) ∙ ap metric v_is in
+      ((sym (ap from k_is) ∙ from_is tc.originator row.dest.addr, row, has, same_net row.dest (host (to k)) addr (hosts row has flagged), flagged, known ∙ ap Some by_metric), sym (ap number v_is) ∙ number_is tc.ansn m)
+
+  given_tells : (tc : Tc) (k : K) (v : V) → Tells tc k v → GivenBy tuple_of tc k v
+  given_tells tc k v ((by, row, has, dest, flagged, known), numbered) = (
+    row,
+    has,
+    ap (λ (b : Bool). cond b (option_map (λ m. (key tc.originator row.dest.addr, value tc.ansn m)) row.metric) None) flagged
+        ∙ ap (λ (o : Option Metric). option_map (λ m. (key tc.originator row.dest.addr, value tc.ansn m)) o) known
+        ∙ ap (λ (a : Addr4). Some (key a row.dest.addr, value tc.ansn (metric v))) (sym by)
+        ∙ ap (λ (d : NetAddr). Some (key (from k) d.addr, value tc.ansn (metric v))) dest
+        ∙ ap (λ (n : ℕ). Some (key (from k) (to k), value n (metric v))) (sym numbered)
+        ∙ ap (λ (x : K). Some (x, value (number v) (metric v))) (key_is k)
+        ∙ ap (λ (x : V). Some (k, x)) (value_is v),
+  )
+
+pub router_set : (tc : Tc) (until : ℕ) (old new : Base RouterKey RouterTuple) → HasHosts tc → BecomesSet router_eq tc until (λ k. k.from) (λ t. t.ansn) (GivenBy router_of tc) old new →
+    BecomesSet router_eq tc until (λ k. k.from) (λ t. t.ansn) (λ k t. GivesRouter tc k t.metric × (t.ansn ≡ tc.ansn)) old new
+router_set tc until old new hosts set = set_by router_eq tc until _ _ _ _ old new
+    (tells_given (λ a b. record { from = a; to = b }) (λ k. k.from) (λ k. k.to) (λ n m. record { ansn = n; metric = m }) (λ t. t.ansn) (λ t. t.metric) (λ row. row.origin) (λ k. refl) (λ a b. refl) (λ a b. refl) (λ v. refl) (λ n m. refl) (λ n m. refl) tc (λ row has flagged. hosts row has (inl flagged)))
+    (given_tells (λ a b. record { from = a; to = b }) (λ k. k.from) (λ k. k.to) (λ n m. record { ansn = n; metric = m }) (λ t. t.ansn) (λ t. t.metric) (λ row. row.origin) (λ k. refl) (λ a b. refl) (λ a b. refl) (λ v. refl) (λ n m. refl) (λ n m. refl) tc)
+    set
+
+pub address_set : (tc : Tc) (until : ℕ) (old new : Base AddressKey AddressTuple) → HasHosts tc → BecomesSet address_eq tc until (λ k. k.from) (λ t. t.ansn) (GivenBy address_of tc) old new →
+    BecomesSet address_eq tc until (λ k. k.from) (λ t. t.ansn) (λ k t. GivesAddress tc k t.metric × (t.ansn ≡ tc.ansn)) old new
+address_set tc until old new hosts set = set_by address_eq tc until _ _ _ _ old new
+    (tells_given (λ a b. record { from = a; addr = b }) (λ k. k.from) (λ k. k.addr) (λ n m. record { ansn = n; metric = m }) (λ t. t.ansn) (λ t. t.metric) (λ row. row.routable) (λ k. refl) (λ a b. refl) (λ a b. refl) (λ v. refl) (λ n m. refl) (λ n m. refl) tc (λ row has flagged. hosts row has (inr flagged)))
+    (given_tells (λ a b. record { from = a; addr = b }) (λ k. k.from) (λ k. k.addr) (λ n m. record { ansn = n; metric = m }) (λ t. t.ansn) (λ t. t.metric) (λ row. row.routable) (λ k. refl) (λ a b. refl) (λ a b. refl) (λ v. refl) (λ n m. refl) (λ n m. refl) tc)
+    set
+
+-- a network tuple by its parts
+network_parts : (from : Addr4) (ansn : ℕ) (net : NetAddr) (d : Option ℕ) (m : Option Metric) (k : NetworkKey) (t : NetworkTuple) → network_with from ansn net d m ≡ Some (k, t) →
+    (k.from ≡ from) × (net ≡ k.net) × (d ≡ Some t.distance) × (m ≡ Some t.metric) × (t.ansn ≡ ansn)
+network_parts from ansn net (Some d) (Some m) k t e =
+    let pair : Some (record { from = from; net = net }, record { ansn = ansn; distance = d; metric = m }) ≡ Some (k, t) = e in
+    let same : (record { from = from; net = net }, record { ansn = ansn; distance = d; metric = m }) ≡ (k, t) = cc in (
+      sym (ap (λ (p : NetworkKey × NetworkTuple). p.0.from) same),
+      ap (λ (p : NetworkKey × NetworkTuple). p.0.net) same,
+      ap (λ (p : NetworkKey × NetworkTuple). Some p.1.distance) same,
+      ap (λ (p : NetworkKey × NetworkTuple). Some p.1.metric) same,
+      sym (ap (λ (p : NetworkKey × NetworkTuple). p.1.ansn) same),
+    )
+network_parts from ansn net (Some d) None k t e = absurd cc
+network_parts from ansn net None m k t e = absurd cc
+
+pub network_set : (tc : Tc) (until : ℕ) (old new : Base NetworkKey NetworkTuple) → BecomesSet network_eq tc until (λ k. k.from) (λ t. t.ansn) (GivenBy network_of tc) old new →
+    BecomesSet network_eq tc until (λ k. k.from) (λ t. t.ansn) (λ k t. GivesNetwork tc k t.distance t.metric × (t.ansn ≡ tc.ansn)) old new
+network_set tc until old new set = set_by network_eq tc until _ _ _ _ old new
+    (λ k t (row, has, is).
+    let (by, net, d, m, numbered) = network_parts tc.originator tc.ansn row.dest row.gateway row.metric k t is in
+    ((by, row, has, net, d, m), numbered))
+    (λ k t ((by, row, has, net, d, m), numbered). (
+      row,
+      has,
+      ap (λ (o : Option ℕ). network_with tc.originator tc.ansn row.dest o row.metric) d
+          ∙ ap (λ (o : Option Metric). network_with tc.originator tc.ansn row.dest (Some t.distance) o) m
+          ∙ ap (λ (a : Addr4). network_with a tc.ansn row.dest (Some t.distance) (Some t.metric)) (sym by)
+          ∙ ap (λ (n : NetAddr). network_with k.from tc.ansn n (Some t.distance) (Some t.metric)) net
+          ∙ ap (λ (n : ℕ). network_with k.from n k.net (Some t.distance) (Some t.metric)) (sym numbered),
+    ))
+    set

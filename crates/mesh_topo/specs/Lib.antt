@@ -1,0 +1,5 @@
+pub mod Answers
+pub mod Offers
+pub mod Selectors
+pub mod Sets
+pub mod Tuples

@@ -1,0 +1,13 @@
+//! The topology that TCs tell (RFC 7181, section 10), and the rows that a router's own TCs tell (section 16.1).
+#![tactic(auto)]
+
+mod rows;
+mod set;
+mod take;
+#[cfg(test)]
+mod tests;
+mod topology;
+mod tuple;
+
+pub use rows::{Selector, tc_rows};
+pub use topology::{TcTaken, Topology};
