@@ -1,0 +1,2 @@
+mod Room
+pub mod Soundness

@@ -1,0 +1,97 @@
+-- The sets stay sound: what is noted is not expired, and expiry leaves nothing that is.
+use Rattle.std.proofs.Common.{◌≡◌, ◌≢◌, ◌<◌, ◌+◌, ℕ, length, Option, Some, None, Bool, true, false, cond, refl, sym, ap, subst, ◌∙◌, arith, inl, inr}
+use Rattle.std.specs.Prelude.{nat_lt, nat_eq}
+use Rattle.std.proofs.lemmas.Bool.{eqb-true, eqb-false, lt-ltb}
+use Rattle.mesh_atoms.specs.declared.tuples.FloodKey.{FloodKey}
+use Rattle.mesh_atoms.specs.declared.tuples.Noted.{Noted}
+use Rattle.mesh_atoms.specs.declared.settings.RouterSettings.{RouterSettings}
+use Rattle.mesh_atoms.specs.Base.{Base, base_of, find, flood_eq, if_live, Expires, IsFresh, Same}
+use Rattle.mesh_atoms.specs.State.{NotedMessages}
+use Rattle.mesh_atoms.specs.Live.{LiveNoted}
+use Rattle.mesh_atoms.specs.Sound.{SoundNoted}
+use Rattle.mesh_flood.specs.declared.verdict.Heading.{Heading}
+use Rattle.mesh_flood.specs.declared.verdict.Forward.{Forward}
+use Rattle.mesh_flood.specs.Verdict.{key_of, is_received, is_forwarded}
+use Rattle.mesh_flood.specs.Noting.{Notes, AfterNote, AreWithin}
+
+later : (now hold until : ℕ) (value : Noted) → 0 < hold → Some (let e : Noted × ℕ = (record {}, now + hold) in e) ≡ Some (value, until) → nat_lt now until ≡ true
+later now hold until value some is =
+    let left : Noted × ℕ = (record {}, now + hold) in
+    let right : Noted × ℕ = (value, until) in
+    let both : left ≡ right = cc in
+    let end : now + hold ≡ until = ap (λ (e : Noted × ℕ). e.1) both in
+    lt-ltb now until (omega (arith, end, some))
+
+fresh_noted : (wanted : Bool) (key : FloodKey) (now hold : ℕ) (old new : Base FloodKey Noted) → 0 < hold → Notes wanted key (now + hold) old new → IsFresh flood_eq now old → IsFresh flood_eq now new
+fresh_noted false key now hold old new some same fresh q value until found = fresh q value until (sym (same q) ∙ found)
+fresh_noted true key now hold old new some sets fresh q value until found = by_key (flood_eq key q) (sym (sets q) ∙ found) where
+  by_key : (b : Bool) → cond b (Some (record {}, now + hold)) (find flood_eq old q) ≡ Some (value, until) → nat_lt now until ≡ true
+  by_key true is = later now hold until value some is
+  by_key false is = fresh q value until is
+
+fresh_live : (now : ℕ) (old new : Base FloodKey Noted) → Expires flood_eq now old new → IsFresh flood_eq now new
+fresh_live now old new expires q value until found = by_entry (find flood_eq old q) (sym (expires q) ∙ found) where
+  by_live : (e : Noted × ℕ) (b : Bool) → nat_lt now e.1 ≡ b → cond b (Some e) None ≡ Some (value, until) → nat_lt now until ≡ true
+  by_live e true live is =
+      let right : Noted × ℕ = (value, until) in
+      let both : e ≡ right = cc in
+      let end : e.1 ≡ until = ap (λ (f : Noted × ℕ). f.1) both in
+      subst (λ (n : ℕ). nat_lt now n ≡ true) end live
+  by_live e false live is = absurd cc
+
+  by_entry : (o : Option (Noted × ℕ)) → if_live now o ≡ Some (value, until) → nat_lt now until ≡ true
+  by_entry None is = absurd cc
+  by_entry (Some e) is = by_live e (nat_lt now e.1) refl is
+
+-- sound sets, once a message is noted and each set is within its limit
+pub sound_after_note : (settings : RouterSettings) (now i : ℕ) (heading : Heading) (processed : Bool) (answer : Forward) (old new : NotedMessages)
+    → SoundNoted settings now old → AfterNote settings.times now i heading processed answer old new → AreWithin new → SoundNoted settings now new
+sound_after_note settings now i heading processed answer old new sound after within =
+    let ranges = settings.times.sound in
+    let some_received : 0 < settings.times.received_hold = omega (arith, ranges.received_hold_range.least) in
+    let some_processed : 0 < settings.times.processed_hold = omega (arith, ranges.processed_hold_range.least) in
+    let some_forwarded : 0 < settings.times.forwarded_hold = omega (arith, ranges.forwarded_hold_range.least) in
+    let here = fresh_noted (is_received answer) (key_of heading) now settings.times.received_hold (base_of old.received i) (base_of new.received i) some_received after.received (sound.received i).fresh in
+    record {
+      interfaces = after.interfaces ∙ sound.interfaces;
+      received = λ j. record {
+        distinct = after.tables.received j;
+        limit = within.received j;
+        fresh = fresh_at j here (nat_eq j i) refl;
+      };
+      processed = record {
+        distinct = after.tables.processed;
+        limit = within.processed;
+        fresh = fresh_noted processed (key_of heading) now settings.times.processed_hold old.processed new.processed some_processed after.processed sound.processed.fresh;
+      };
+      forwarded = record {
+        distinct = after.tables.forwarded;
+        limit = within.forwarded;
+        fresh = fresh_noted (is_forwarded answer) (key_of heading) now settings.times.forwarded_hold old.forwarded new.forwarded some_forwarded after.forwarded sound.forwarded.fresh;
+      };
+    } where
+      fresh_at : (j : ℕ) → IsFresh flood_eq now (base_of new.received i) → (b : Bool) → nat_eq j i ≡ b → IsFresh flood_eq now (base_of new.received j)
+      fresh_at j here true is = subst (λ (n : ℕ). IsFresh flood_eq now (base_of new.received n)) (sym (eqb-true j i is)) here
+      fresh_at j here false is = λ q value until found. (sound.received j).fresh q value until (sym (after.others j (eqb-false j i is) q) ∙ found)
+
+-- sound sets, once what is expired is gone and each set is within its limit
+pub sound_after_expiry : (settings : RouterSettings) (now : ℕ) (old new : NotedMessages)
+    → length old.received ≡ length settings.interfaces → LiveNoted now old new → AreWithin new → SoundNoted settings now new
+sound_after_expiry settings now old new interfaces live within = record {
+  interfaces = live.interfaces ∙ interfaces;
+  received = λ j. record {
+    distinct = live.distinct_received j;
+    limit = within.received j;
+    fresh = fresh_live now (base_of old.received j) (base_of new.received j) (live.received j);
+  };
+  processed = record {
+    distinct = live.distinct_processed;
+    limit = within.processed;
+    fresh = fresh_live now old.processed new.processed live.processed;
+  };
+  forwarded = record {
+    distinct = live.distinct_forwarded;
+    limit = within.forwarded;
+    fresh = fresh_live now old.forwarded new.forwarded live.forwarded;
+  };
+}
