@@ -1,0 +1,52 @@
+-- Addresses in ascending order.
+use Rattle.std.proofs.Common.{◌≡◌, ◌<◌, List, Ordering, Less, get_or, sym, refl, ◌∙◌, arith, ap}
+use Rattle.std.specs.Prelude.{Bool, false}
+use Rattle.std.specs.List.{IsDistinct, dedup}
+use Rattle.std.specs.List.Sorted.{IsSorted}
+use Rattle.std.specs.Cmp.{IsTotalOrder}
+use Rattle.std.specs.Ordering.{nat_cmp, eq_by_cmp}
+use Rattle.std.proofs.lemmas.Cmp.{on_total, nat_cmp_total, ranked, by_ranked}
+use Rattle.std.proofs.lemmas.Bool.{ne_eqb, eq-eqb}
+use Rattle.std.proofs.lemmas.List.Kept.{IsStrictlySortedBy-dedup}
+use Rattle.std.proofs.lemmas.Map.Keys.{Less-from_sorted, IsDistinct-from_apart}
+use Rattle.mesh_atoms.specs.declared.addr.Addr4.{Addr4}
+use Rattle.mesh_atoms.specs.Base.{addr_eq}
+use Rattle.mesh_atoms.specs.Relays.{IsAscending}
+
+abbrev pub addr_cmp : Addr4 → Addr4 → Ordering
+addr_cmp a b = nat_cmp a.0 b.0
+
+apart : (a b : Addr4) → (a.0 ≡ b.0 → ⊥) → addr_eq a b ≡ false
+apart a b other = ne_eqb a.0 b.0 other
+
+addr_total : IsTotalOrder addr_cmp
+addr_total = on_total (λ (a : Addr4). a.0) nat_cmp_total
+
+ties : (a b : Addr4) → addr_eq a b ≡ eq_by_cmp addr_cmp a b
+ties a b = by_ranked (a.0 < b.0) (a.0 ≡ b.0) (b.0 < a.0) (addr_cmp a b) (ranked a.0 b.0 (addr_cmp a b) refl)
+    (λ is lt. apart a b (omega (arith, lt)) ∙ sym (ap is_eq_ordering is))
+    (λ is same. eq-eqb a.0 b.0 same ∙ sym (ap is_eq_ordering is))
+    (λ is gt. apart a b (omega (arith, gt)) ∙ sym (ap is_eq_ordering is))
+  where
+    is_eq_ordering : Ordering → Bool
+    is_eq_ordering o = eq_by_cmp (λ (x y : Addr4). o) a b
+
+-- sorted and each once
+pub ascending_dedup : (addrs : List Addr4) → IsSorted addr_cmp addrs → IsAscending (dedup addr_eq addrs)
+ascending_dedup addrs sorted i j d lt within =
+    by_ranked (x.0 < y.0) (x.0 ≡ y.0) (y.0 < x.0) (addr_cmp x y) (ranked x.0 y.0 (addr_cmp x y) refl) (λ is h. h) (λ is h. absurd (let e = sym is ∙ less in cc)) (λ is h. absurd (let e = sym is ∙ less in cc))
+  where
+    list : List Addr4
+    list = dedup addr_eq addrs
+
+    x : Addr4
+    x = get_or list i d
+
+    y : Addr4
+    y = get_or list j d
+
+    less : addr_cmp x y ≡ Less
+    less = Less-from_sorted addr_cmp list i j d (IsStrictlySortedBy-dedup addr_total ties addrs sorted) lt within
+
+pub distinct_ascending : (addrs : List Addr4) → IsAscending addrs → IsDistinct addr_eq addrs
+distinct_ascending addrs up = IsDistinct-from_apart addr_eq addrs (λ i j d lt within. let below = up i j d lt within in apart (get_or addrs i d) (get_or addrs j d) (omega (arith, below)))

@@ -1,0 +1,67 @@
+-- A walk over the keys of links drops the tuples of those that ended.
+use Rattle.std.proofs.Common.{◌≡◌, ℕ, ◌+◌, ◌⊎◌, inl, inr, refl, sym, ◌∙◌, ap, subst, arith, List, length, Contains, slice_get, Option, Some, None}
+use Rattle.std.specs.Prelude.{Bool, true, false, cond, not, ◌&&◌}
+use Rattle.std.proofs.lemmas.Bool.{false≢true}
+use Rattle.mesh_atoms.specs.declared.tuples.LinkKey.{LinkKey}
+use Rattle.mesh_atoms.specs.declared.tuples.TwoHop.{TwoHop}
+use Rattle.mesh_atoms.specs.Base.{link_eq}
+use Rattle.mesh_atoms.specs.AfterHello.{IsKept}
+use Rattle.mesh_atoms.proofs.Lookups.{same_link}
+use Rattle.mesh_nhdp.proofs.Collect.{SomeBelow, below_here, below_later, below_cases, below_contains}
+use Rattle.mesh_nhdp.proofs.Composes.{kept_iff}
+use Rattle.mesh_nhdp.proofs.TwoHops.{link_eq_same}
+
+-- a key below the place is that of a link, which isn't SYMMETRIC
+abbrev pub IsEndedBelow : (keys : List LinkKey) (symmetric : LinkKey → Bool) (n : ℕ) (link : LinkKey) → Type 0
+IsEndedBelow keys symmetric n link = SomeBelow keys n (λ x. x ≡ link) × (symmetric link ≡ false)
+
+module _ (keys : List LinkKey) (symmetric : LinkKey → Bool) (n : ℕ) (key link : LinkKey) (at : slice_get keys n ≡ Some key) where
+  -- a step changes only tuples of the link of its key, where that ended
+  ended_here : symmetric key ≡ false → link_eq link key ≡ true → IsEndedBelow keys symmetric (n + 1) link
+  ended_here ended is =
+      let same : link ≡ key = same_link link key is in
+      (below_here keys (λ x. x ≡ link) n key at (sym same), ap symmetric same ∙ ended)
+
+  not_ended_here : (symmetric key ≡ true) ⊎ (link_eq link key ≡ false) → IsEndedBelow keys symmetric (n + 1) link → IsEndedBelow keys symmetric n link
+  not_ended_here not (below, ended) = elim (below_cases keys (λ x. x ≡ link) n key at below) [
+    | inl before ↦ (before, ended)
+    | inr same ↦ elim not [
+      | inl is ↦ absurd (false≢true (sym ended ∙ (ap symmetric (sym same) ∙ is)))
+      | inr other ↦ absurd (false≢true (sym other ∙ link_eq_same link key (sym same)))
+    ]
+  ]
+
+  ended_later : IsEndedBelow keys symmetric n link → IsEndedBelow keys symmetric (n + 1) link
+  ended_later (below, ended) = (below_later keys (λ x. x ≡ link) n below, ended)
+
+  pub ended_more : (o m new : Option (TwoHop × ℕ)) → IsKept (λ t. IsEndedBelow keys symmetric n link → ⊥) o m →
+      new ≡ cond (link_eq link key && not (symmetric key)) None m → IsKept (λ t. IsEndedBelow keys symmetric (n + 1) link → ⊥) o new
+  ended_more o m new kept is = by_case o (link_eq link key) (symmetric key) refl refl kept is
+    where
+      none_either : (b : Bool) → m ≡ None → new ≡ cond b None m → new ≡ None
+      none_either true none is = is
+      none_either false none is = is ∙ none
+
+      by_case : (o : Option (TwoHop × ℕ)) (same symmetric_key : Bool) → link_eq link key ≡ same → symmetric key ≡ symmetric_key →
+          IsKept (λ t. IsEndedBelow keys symmetric n link → ⊥) o m → new ≡ cond (same && not symmetric_key) None m → IsKept (λ t. IsEndedBelow keys symmetric (n + 1) link → ⊥) o new
+      by_case None same sk e f none is = none_either (same && not sk) none is
+      by_case (Some t) same sk e f (inr gone) is = inr (λ stays. gone.0 (λ ended. stays (ended_later ended)), none_either (same && not sk) gone.1 is)
+      by_case (Some t) true false e f (inl stood) is = inr (λ stays. stays (ended_here f e), is)
+      by_case (Some t) true true e f (inl stood) is = inl (λ ended. stood.0 (not_ended_here (inl f) ended), is ∙ stood.1)
+      by_case (Some t) false sk e f (inl stood) is = inl (λ ended. stood.0 (not_ended_here (inr e) ended), is ∙ stood.1)
+
+-- nothing is dropped before the first step
+pub ended_none : (keys : List LinkKey) (symmetric : LinkKey → Bool) (link : LinkKey) (o : Option (TwoHop × ℕ)) → IsKept (λ t. IsEndedBelow keys symmetric 0 link → ⊥) o o
+ended_none keys symmetric link None = refl
+ended_none keys symmetric link (Some t) = inl (λ ended. omega (arith, ended.0.2), refl)
+
+-- after the last step
+pub ended_all : (keys : List LinkKey) (symmetric : LinkKey → Bool) (link : LinkKey) (o new : Option (TwoHop × ℕ)) →
+    IsKept (λ t. IsEndedBelow keys symmetric (length keys) link → ⊥) o new → IsKept (λ t. (Contains keys link × (symmetric link ≡ false)) → ⊥) o new
+ended_all keys symmetric link o new kept = kept_iff _ _ (λ t stays both. stays (to both)) (λ t stays ended. stays (from ended)) o new kept
+  where
+    to : Contains keys link × (symmetric link ≡ false) → IsEndedBelow keys symmetric (length keys) link
+    to (c, ended) = ((below_contains keys (λ x. x ≡ link)).1 (link, c, refl), ended)
+
+    from : IsEndedBelow keys symmetric (length keys) link → Contains keys link × (symmetric link ≡ false)
+    from (below, ended) = let (x, c, same) = (below_contains keys (λ x. x ≡ link)).0 below in (subst (λ y. Contains keys y) same c, ended)

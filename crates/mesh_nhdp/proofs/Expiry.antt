@@ -1,0 +1,137 @@
+-- The parts of expiry, interface by interface.
+use Rattle.std.proofs.Common.{◌≡◌, ℕ, ◌+◌, ◌<◌, ◌≤◌, ◌↔◌, inl, inr, refl, sym, ◌∙◌, ap, subst, arith, List, [], ◌∷◌, ◌++◌, length, take, drop, Contains, Result, Ok, Err}
+use Rattle.std.specs.Prelude.{OnOk}
+use Rattle.std.specs.List.{IsDistinct}
+use Rattle.std.proofs.lemmas.List.{take_all, length-drop}
+use Rattle.mesh_atoms.specs.declared.addr.Addr4.{Addr4}
+use Rattle.mesh_atoms.specs.declared.tuples.LinkKey.{LinkKey}
+use Rattle.mesh_atoms.specs.declared.tuples.Link.{Link}
+use Rattle.mesh_atoms.specs.declared.tuples.TwoHopKey.{TwoHopKey}
+use Rattle.mesh_atoms.specs.declared.tuples.TwoHop.{TwoHop}
+use Rattle.mesh_atoms.specs.declared.tuples.Neighbour.{Neighbour}
+use Rattle.mesh_atoms.specs.declared.tuples.Lost.{Lost}
+use Rattle.mesh_atoms.specs.declared.settings.RouterSettings.{RouterSettings}
+use Rattle.mesh_atoms.specs.Base.{Base, Expires, base_of, addr_eq}
+use Rattle.mesh_atoms.specs.State.{Neighbourhood}
+use Rattle.mesh_atoms.specs.Live.{LiveNeighbourhood}
+use Rattle.mesh_atoms.specs.Sound.{SoundNeighbourhood}
+use Rattle.mesh_nhdp.specs.declared.near_addresses.Wanted.TheVariants.{Symmetric}
+use Rattle.mesh_nhdp.specs.Follows.{FollowsLinks}
+use Rattle.mesh_nhdp.specs.Interfaces.{ExpiresOn}
+use Rattle.mesh_nhdp.specs.Wanted.{IsWantedAddress}
+use Rattle.mesh_nhdp.proofs.Bases.{base_cases}
+use Rattle.mesh_nhdp.proofs.Whole.{live_by_calls}
+use Rattle.mesh_nhdp.proofs.LiveSound.{live_sound}
+
+-- what a result that isn't an error tells
+pub on_ok : {T E : Type 0} {P Q : Type 0} (r : Result T E) → (P → Q) → OnOk r P → OnOk r Q
+on_ok (Ok x) to h = to h
+on_ok (Err e) to h = tt
+
+-- a slice of the whole of a vector is written back whole
+pub written_back : {A : Type 0} (len : ℕ) (new items : List A) → length new ≡ length items → len ≡ length items → take len (new ++ drop (length new) items) ≡ new
+written_back len new items same all =
+    ap (λ rest. take len (new ++ rest)) (none_left (drop (length new) items) (let h = length-drop (length new) items in omega (arith, h, same))) ∙ (ap (λ xs. take len xs) (append_none new) ∙ take_all len new (omega (arith, same, all)))
+  where
+    none_left : {A : Type 0} (xs : List A) → length xs ≡ 0 → xs ≡ []
+    none_left [] h = refl
+    none_left (x ∷ xs) h = absurd (omega (arith, h))
+
+    append_none : {A : Type 0} (xs : List A) → xs ++ [] ≡ xs
+    append_none [] = refl
+    append_none (x ∷ xs) = ap (λ rest. x ∷ rest) (append_none xs)
+
+-- where there is no interface
+expires_on_none : (now : ℕ) → ExpiresOn now [] [] [] []
+unfolding IsDistinct
+expires_on_none now = record {
+  distinct_links = tt;
+  distinct_two_hops = tt;
+  links = λ key. refl;
+  two_hops = ([], [], (λ key. refl), record { told = λ key c. absurd (omega (arith, c.1)); all = λ key e is. absurd cc }, (λ key. refl));
+}
+
+module _ (settings : RouterSettings) (moment now : ℕ) (old : Neighbourhood) (S : SoundNeighbourhood settings moment old)
+    (links : List (Base LinkKey Link)) (two_hops : List (Base TwoHopKey TwoHop)) (neighbours : Base Addr4 Neighbour) (losts live_losts : Base Addr4 Lost) (before : List Addr4)
+    (before_is : (a : Addr4) → Contains before a ↔ IsWantedAddress old.neighbours Symmetric a) (same : length links ≡ length old.links) (same_two_hops : length two_hops ≡ length old.two_hops)
+    (each : (i : ℕ) → i < length old.links → ExpiresOn now (base_of old.links i) (base_of links i) (base_of old.two_hops i) (base_of two_hops i)) (expires : Expires addr_eq now old.losts live_losts)
+    (F : FollowsLinks links now before (now + settings.times.neighbour_hold) old.neighbours neighbours live_losts losts) where
+  empty_past : {K V : Type 0} (bases : List (Base K V)) (i : ℕ) → length bases ≤ i → base_of bases i ≡ []
+  empty_past bases i past = elim (base_cases bases i) [ inl there ↦ absurd (omega (arith, there.0, past)) | inr none ↦ none.1 ]
+
+  on : (i : ℕ) → ExpiresOn now (base_of old.links i) (base_of links i) (base_of old.two_hops i) (base_of two_hops i)
+  on i = elim (base_cases old.links i) [
+    | inl there ↦ each i there.0
+    | inr past ↦
+        let counts = S.interfaces in
+        let counts_too = S.two_hop_interfaces in
+        subst (λ b. ExpiresOn now b (base_of links i) (base_of old.two_hops i) (base_of two_hops i)) (sym past.1)
+        (subst (λ b. ExpiresOn now [] b (base_of old.two_hops i) (base_of two_hops i)) (sym (empty_past links i (omega (arith, past.0, same))))
+        (subst (λ b. ExpiresOn now [] [] b (base_of two_hops i)) (sym (empty_past old.two_hops i (omega (arith, past.0, counts, counts_too))))
+        (subst (λ b. ExpiresOn now [] [] [] b) (sym (empty_past two_hops i (omega (arith, past.0, same_two_hops, counts, counts_too)))) (expires_on_none now))))
+  ]
+
+  pub expiry_is : LiveNeighbourhood settings now old (record { links = links; two_hops = two_hops; neighbours = neighbours; losts = losts })
+  expiry_is = live_by_calls settings moment now old (record { links = links; two_hops = two_hops; neighbours = neighbours; losts = losts }) S (record {
+    tables = record { links = λ i. (on i).distinct_links; two_hops = λ i. (on i).distinct_two_hops; neighbours = F.distinct; losts = F.distinct_losts };
+    interfaces = same;
+    two_hop_interfaces = same_two_hops;
+    links = λ i. (on i).links;
+    two_hops = λ i. (on i).two_hops;
+    notes = F.notes;
+    notes_are = F.notes_are;
+    neighbours = F.neighbours;
+    before = before;
+    before_is = before_is;
+    after = F.after;
+    after_is = F.after_is;
+    live_losts = live_losts;
+    expires_losts = expires;
+    losts = F.losts;
+  })
+
+  pub expiry_sound : SoundNeighbourhood settings now (record { links = links; two_hops = two_hops; neighbours = neighbours; losts = losts })
+  expiry_sound = live_sound settings moment now old (record { links = links; two_hops = two_hops; neighbours = neighbours; losts = losts }) S expiry_is
+      (let least = settings.times.sound.neighbour_hold_range.least in omega (arith, least))
+
+-- expiry, as the calls on the fields of a neighbourhood leave them
+pub expiry_runs : (settings : RouterSettings) (moment now until : ℕ) (old : Neighbourhood) (old_links items links seen : List (Base LinkKey Link)) (old_two_hops items_two_hops two_hops : List (Base TwoHopKey TwoHop))
+    (old_neighbours neighbours seen_neighbours : Base Addr4 Neighbour) (old_losts losts live_losts : Base Addr4 Lost) (before seen_before : List Addr4) (len len_two_hops : ℕ) →
+    SoundNeighbourhood settings moment old → old ≡ record { links = items; two_hops = items_two_hops; neighbours = old_neighbours; losts = old_losts } → until ≡ now + settings.times.neighbour_hold →
+    old_links ≡ items → old_two_hops ≡ items_two_hops → len ≡ length old_links → len_two_hops ≡ length old_two_hops → length links ≡ length old_links → length two_hops ≡ length old_two_hops →
+    seen_neighbours ≡ old_neighbours → ((a : Addr4) → Contains before a ↔ IsWantedAddress seen_neighbours Symmetric a) →
+    ((i : ℕ) → i < length old_links → ExpiresOn now (base_of old_links i) (base_of links i) (base_of old_two_hops i) (base_of two_hops i)) → Expires addr_eq now old_losts live_losts →
+    seen ≡ take len (links ++ drop (length links) items) → seen_before ≡ before → FollowsLinks seen now seen_before until old_neighbours neighbours live_losts losts →
+    (LiveNeighbourhood settings now old (record {
+      links = take len (links ++ drop (length links) items);
+      two_hops = take len_two_hops (two_hops ++ drop (length two_hops) items_two_hops);
+      neighbours = neighbours;
+      losts = losts;
+    })) × (SoundNeighbourhood settings now (record {
+      links = take len (links ++ drop (length links) items);
+      two_hops = take len_two_hops (two_hops ++ drop (length two_hops) items_two_hops);
+      neighbours = neighbours;
+      losts = losts;
+    }))
+expiry_runs settings moment now until old old_links items links seen old_two_hops items_two_hops two_hops old_neighbours neighbours seen_neighbours old_losts losts live_losts before seen_before len len_two_hops
+    S from_items until_is is_items is_items_two_hops all all_two_hops same same_two_hops sees before_is each expires seen_is seen_before_is F =
+    let whole : take len (links ++ drop (length links) items) ≡ links = written_back len links items (same ∙ ap length is_items) (all ∙ ap length is_items) in
+    let whole_two_hops : take len_two_hops (two_hops ++ drop (length two_hops) items_two_hops) ≡ two_hops = written_back len_two_hops two_hops items_two_hops (same_two_hops ∙ ap length is_items_two_hops) (all_two_hops ∙ ap length is_items_two_hops) in
+    let O : Neighbourhood = record { links = old_links; two_hops = old_two_hops; neighbours = old_neighbours; losts = old_losts } in
+    let is : old ≡ O = from_items
+    ∙ (ap (λ (ls : List (Base LinkKey Link)). let n : Neighbourhood = record { links = ls; two_hops = items_two_hops; neighbours = old_neighbours; losts = old_losts } in n) (sym is_items)
+    ∙ ap (λ (hs : List (Base TwoHopKey TwoHop)). let n : Neighbourhood = record { links = old_links; two_hops = hs; neighbours = old_neighbours; losts = old_losts } in n) (sym is_items_two_hops)) in
+    let begins : SoundNeighbourhood settings moment O = subst (λ (n : Neighbourhood). SoundNeighbourhood settings moment n) is S in
+    let follows : FollowsLinks links now before (now + settings.times.neighbour_hold) old_neighbours neighbours live_losts losts =
+    subst (λ (ls : List (Base LinkKey Link)). FollowsLinks ls now before (now + settings.times.neighbour_hold) old_neighbours neighbours live_losts losts) (seen_is ∙ whole)
+    (subst (λ (b : List Addr4). FollowsLinks seen now b (now + settings.times.neighbour_hold) old_neighbours neighbours live_losts losts) seen_before_is
+    (subst (λ (u : ℕ). FollowsLinks seen now seen_before u old_neighbours neighbours live_losts losts) until_is F)) in
+    let wanted : (a : Addr4) → Contains before a ↔ IsWantedAddress old_neighbours Symmetric a = subst (λ (b : Base Addr4 Neighbour). (a : Addr4) → Contains before a ↔ IsWantedAddress b Symmetric a) sees before_is in
+    let live = expiry_is settings moment now O begins links two_hops neighbours losts live_losts before wanted same same_two_hops each expires follows in
+    let sound = expiry_sound settings moment now O begins links two_hops neighbours losts live_losts before wanted same same_two_hops each expires follows in (
+      subst (λ (o : Neighbourhood). LiveNeighbourhood settings now o (record { links = take len (links ++ drop (length links) items); two_hops = take len_two_hops (two_hops ++ drop (length two_hops) items_two_hops); neighbours = neighbours; losts = losts })) (sym is)
+          (subst (λ (ls : List (Base LinkKey Link)). LiveNeighbourhood settings now O (record { links = ls; two_hops = take len_two_hops (two_hops ++ drop (length two_hops) items_two_hops); neighbours = neighbours; losts = losts })) (sym whole)
+          (subst (λ (hs : List (Base TwoHopKey TwoHop)). LiveNeighbourhood settings now O (record { links = links; two_hops = hs; neighbours = neighbours; losts = losts })) (sym whole_two_hops) live)),
+      subst (λ (ls : List (Base LinkKey Link)). SoundNeighbourhood settings now (record { links = ls; two_hops = take len_two_hops (two_hops ++ drop (length two_hops) items_two_hops); neighbours = neighbours; losts = losts })) (sym whole)
+          (subst (λ (hs : List (Base TwoHopKey TwoHop)). SoundNeighbourhood settings now (record { links = links; two_hops = hs; neighbours = neighbours; losts = losts })) (sym whole_two_hops) sound),
+    )

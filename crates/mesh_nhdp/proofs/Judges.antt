@@ -1,0 +1,64 @@
+-- What is judged of a HELLO.
+use Rattle.std.proofs.Common.{◌≡◌, ℕ, ◌<◌, ◌≤◌, ◌+◌, ◌⊎◌, ◌↔◌, refl, sym, ◌∙◌, subst, arith, List, length, Contains, IsTrue, None}
+use Rattle.std.specs.Prelude.{Bool, true, false}
+use Rattle.std.proofs.lemmas.Bool.{false≢true}
+use Rattle.mesh_atoms.specs.declared.addr.Addr4.{Addr4}
+use Rattle.mesh_atoms.specs.declared.hello.Hello.{Hello}
+use Rattle.mesh_atoms.specs.declared.settings.RouterSettings.{RouterSettings}
+use Rattle.mesh_atoms.specs.Base.{base_of}
+use Rattle.mesh_atoms.specs.State.{Neighbourhood, HasAddress}
+use Rattle.mesh_atoms.specs.HelloTold.{Told, Tells}
+use Rattle.mesh_atoms.specs.TakesHello.{IsFault, IsFullOfAddresses, IsFullOfTwoHops, FitsTwoHops, AreTwoHopRows, AreMoreThan, IsHeld, HelloAnswer, TakesHello, Full_of_addresses, Full_of_two_hops, Overfull, Overfull_two_hops}
+use Rattle.mesh_atoms.specs.declared.tuples.Base.{Base}
+use Rattle.mesh_atoms.specs.declared.tuples.Base.TheVariants.{Neighbours, TwoHops}
+use Rattle.mesh_atoms.specs.AfterHello.{AfterHello}
+use Rattle.mesh_atoms.specs.Sound.{SoundNeighbourhood}
+use Rattle.mesh_nhdp.specs.declared.judge.Judgement.TheVariants.{Overfills}
+use Rattle.mesh_nhdp.specs.declared.take.HelloTaken.TheVariants.{Full}
+use Rattle.mesh_nhdp.specs.Judged.{Judges, IsAnswer}
+use Rattle.mesh_nhdp.proofs.HelloSound.{hello_sound}
+
+-- the router's addresses, said of equal settings and of an equal list
+pub own_at : (s r : RouterSettings) (xs ys : List Addr4) → s ≡ r → ys ≡ xs → ((a : Addr4) → Contains xs a ↔ HasAddress s a) → (a : Addr4) → Contains ys a ↔ HasAddress r a
+own_at s r xs ys same is own = subst (λ (t : RouterSettings). (a : Addr4) → Contains ys a ↔ HasAddress t a) same (subst (λ (zs : List Addr4). (a : Addr4) → Contains zs a ↔ HasAddress s a) (sym is) own)
+
+pub flipped : (s : RouterSettings) (xs : List Addr4) → ((a : Addr4) → Contains xs a ↔ HasAddress s a) → (a : Addr4) → HasAddress s a ↔ Contains xs a
+flipped s xs own a = ((own a).1, (own a).0)
+
+module _ (near : Neighbourhood) (told : Told) (listed : List Addr4) (is : listed ≡ told.listed) (full : Bool)
+    (says : IsTrue full ↔ AreMoreThan 1024 (λ a. IsHeld near a ⊎ (Contains listed a ⊎ (a ≡ told.originator)))) where
+  Says : List Addr4 → Type 0
+  Says xs = IsTrue full ↔ AreMoreThan 1024 (λ a. IsHeld near a ⊎ (Contains xs a ⊎ (a ≡ told.originator)))
+
+  said : IsTrue full ↔ IsFullOfAddresses near told
+  unfolding Says
+  said = subst (λ (xs : List Addr4). Says xs) is says
+
+  pub is_full : full ≡ true → IsFullOfAddresses near told
+  is_full h = said.0 h
+
+  pub is_not_full : full ≡ false → IsFullOfAddresses near told → ⊥
+  is_not_full h more = false≢true (sym h ∙ said.1 more)
+
+-- by the count of the rows and of the tuples that stand
+pub overfills : (settings : RouterSettings) (i : ℕ) (near : Neighbourhood) (told : Told) (hello : Hello) (count held : ℕ) → AreTwoHopRows settings told hello count → held ≡ length (base_of near.two_hops i) → held ≤ 16384 →
+    16384 < held + count → IsFullOfTwoHops settings i near told hello
+overfills settings i near told hello count held rows is few more = (count, rows, omega (arith, is, more))
+
+pub fits : (settings : RouterSettings) (i : ℕ) (near : Neighbourhood) (told : Told) (hello : Hello) (count held : ℕ) → AreTwoHopRows settings told hello count → held ≡ length (base_of near.two_hops i) →
+    held + count ≤ 16384 → FitsTwoHops settings i near told hello
+fits settings i near told hello count held rows is few = (count, rows, omega (arith, is, few))
+
+-- what is too much is answered so, and changes nothing
+pub overfull : (settings : RouterSettings) (now i : ℕ) (sender : Addr4) (hello : Hello) (near : Neighbourhood) (base : Base) → Judges settings i sender hello near (Overfills base) →
+    (answer : HelloAnswer) × IsAnswer (Full base) answer × TakesHello settings now i sender hello near near answer
+overfull settings now i sender hello near Neighbours judged = let (told, fault, tells, full) = judged in (Full_of_addresses, refl, Overfull told fault tells full)
+overfull settings now i sender hello near TwoHops judged = let (told, fault, tells, few, full) = judged in (Full_of_two_hops, refl, Overfull_two_hops told fault tells few full)
+overfull settings now i sender hello near base judged = absurd judged
+
+-- a HELLO that is taken keeps what holds of the neighbourhood
+pub taken_sound : (settings r : RouterSettings) (now i : ℕ) (sender : Addr4) (hello : Hello) (told : Told) (old new : Neighbourhood) → IsFault settings sender hello None → Tells settings i sender hello told →
+    0 < hello.validity → SoundNeighbourhood settings now old → AfterHello settings now i told hello old new → (IsFullOfAddresses old told → ⊥) → FitsTwoHops settings i old told hello → r ≡ settings → SoundNeighbourhood r now new
+taken_sound settings r now i sender hello told old new fault tells lasts sound after few room same = subst (λ (s : RouterSettings). SoundNeighbourhood s now new) (sym same)
+    (hello_sound settings now i sender hello told old new fault tells (subst (λ n. 0 < n) (sym tells.validity) lasts) (let least = settings.times.sound.link_hold_range.least in omega (arith, least))
+    (let least = settings.times.sound.neighbour_hold_range.least in omega (arith, least)) sound after few room)

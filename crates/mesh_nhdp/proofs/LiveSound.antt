@@ -1,0 +1,217 @@
+-- Expiry keeps what holds of a neighbourhood.
+use Rattle.std.proofs.Common.{◌≡◌, ℕ, ◌+◌, ◌<◌, ◌≤◌, ◌⊎◌, inl, inr, refl, sym, ◌∙◌, ap, subst, arith, List, length, Contains, slice_get, Option, Some, None, IsTrue}
+use Rattle.std.specs.Prelude.{Bool, true, false, cond, nat_lt, ◌&&◌}
+use Rattle.std.proofs.lemmas.Bool.{false≢true, lt-ltb}
+use Rattle.mesh_atoms.specs.declared.addr.Addr4.{Addr4}
+use Rattle.mesh_atoms.specs.declared.tuples.LinkKey.{LinkKey}
+use Rattle.mesh_atoms.specs.declared.tuples.TwoHopKey.{TwoHopKey}
+use Rattle.mesh_atoms.specs.declared.tuples.Link.{Link}
+use Rattle.mesh_atoms.specs.declared.tuples.TwoHop.{TwoHop}
+use Rattle.mesh_atoms.specs.declared.tuples.Neighbour.{Neighbour}
+use Rattle.mesh_atoms.specs.declared.tuples.Lost.{Lost}
+use Rattle.mesh_atoms.specs.declared.settings.RouterSettings.{RouterSettings}
+use Rattle.mesh_atoms.specs.Base.{base_of, if_live}
+use Rattle.mesh_atoms.specs.State.{Neighbourhood, is_symmetric, link_at, two_hop_at, neighbour_at, lost_at, HasAddress}
+use Rattle.mesh_atoms.specs.Live.{LiveNeighbourhood, trimmed, trim, HasLinkOf, Renews, Restores, SettlesLost, Back, Gone, Stays, is_symmetric_at}
+use Rattle.mesh_atoms.specs.Relays.{IsAscending}
+use Rattle.mesh_atoms.specs.TakesHello.{IsHeld}
+use Rattle.mesh_atoms.specs.Sound.{SoundNeighbourhood, IsSoundLink, IsSoundNeighbour}
+use Rattle.mesh_atoms.proofs.Lookups.{two_hop_equiv}
+use Rattle.mesh_nhdp.proofs.Limits.{no_more}
+use Rattle.mesh_nhdp.proofs.Lookups.{Contains_at, some_same, none_not, live_from, cond_from}
+
+-- Links
+
+-- what trimming leaves
+pub record IsTrimmed (now : ℕ) (e t : Link × ℕ) : Type 0 where
+  pub addrs : t.0.addrs ≡ e.0.addrs
+  pub until : t.1 ≡ e.1
+  pub link_out : is_symmetric t.0 now ≡ false → t.0.link_out ≡ None
+  pub selector : is_symmetric t.0 now ≡ false → t.0.selector ≡ false
+
+pub is_trimmed : (now : ℕ) (e : Link × ℕ) → IsTrimmed now e (trimmed now e)
+is_trimmed now e = by_case (is_symmetric e.0 now) refl
+  where
+    by_case : (b : Bool) → is_symmetric e.0 now ≡ b → IsTrimmed now e (cond b e (record e.0 { link_out = None; selector = false }, e.1))
+    by_case true is = record { addrs = refl; until = refl; link_out = λ h. absurd (false≢true (sym h ∙ is)); selector = λ h. absurd (false≢true (sym h ∙ is)) }
+    by_case false is = record { addrs = refl; until = refl; link_out = λ h. refl; selector = λ h. refl }
+
+-- where a link that is left comes from
+pub record ComesFrom (now : ℕ) (old : Option (Link × ℕ)) (e : Link × ℕ) : Type 0 where
+  pub was : Link × ℕ
+  pub stood : old ≡ Some was
+  pub addrs : e.0.addrs ≡ was.0.addrs
+  pub live : nat_lt now e.1 ≡ true
+  pub link_out : is_symmetric e.0 now ≡ false → e.0.link_out ≡ None
+  pub selector : is_symmetric e.0 now ≡ false → e.0.selector ≡ false
+
+pub trim_from : (now : ℕ) (o : Option (Link × ℕ)) (e : Link × ℕ) → trim now o ≡ Some e → (f : Link × ℕ) × (o ≡ Some f) × IsTrimmed now f e
+trim_from now None e h = none_not refl h
+trim_from now (Some f) e h = (f, refl, subst (λ (g : Link × ℕ). IsTrimmed now f g) (some_same refl h) (is_trimmed now f))
+
+pub link_from : (now : ℕ) (old new : Option (Link × ℕ)) (e : Link × ℕ) → new ≡ trim now (if_live now old) → new ≡ Some e → ComesFrom now old e
+link_from now old new e is at =
+    let (g, live, t) = trim_from now (if_live now old) e (sym is ∙ at) in
+    let (stood, later) = live_from now old g live in
+    record {
+      was = g;
+      stood = stood;
+      addrs = t.addrs;
+      live = subst (λ (n : ℕ). nat_lt now n ≡ true) (sym t.until) later;
+      link_out = t.link_out;
+      selector = t.selector;
+    }
+
+-- Neighbours
+
+pub restores_from : (near : Neighbourhood) (now : ℕ) (old new : Option (Neighbour × ℕ)) (f : Neighbour × ℕ) → Restores near now old new → new ≡ Some f →
+    (e : Neighbour × ℕ) × (old ≡ Some e) × Renews near now e.0 f.0 f.1
+restores_from near now None new f r is = none_not r is
+restores_from near now (Some e) None f r is = none_not refl is
+restores_from near now (Some e) (Some g) f r is = (e, refl, subst (λ (x : Neighbour × ℕ). Renews near now e.0 x.0 x.1) (some_same refl is) r)
+
+pub restores_to : (near : Neighbourhood) (now : ℕ) (old new : Option (Neighbour × ℕ)) (e : Neighbour × ℕ) (i : ℕ) (key : LinkKey) (f : Link × ℕ) →
+    Restores near now old new → old ≡ Some e → HasLinkOf near e.0.addrs i key f → (g : Neighbour × ℕ) × (new ≡ Some g) × Renews near now e.0 g.0 g.1
+restores_to near now None new e i key f r is has = none_not refl is
+restores_to near now (Some d) None e i key f r is has =
+    absurd (r i key f (subst (λ (x : Neighbour × ℕ). HasLinkOf near x.0.addrs i key f) (sym (some_same refl is)) has))
+restores_to near now (Some d) (Some g) e i key f r is has = (g, refl, subst (λ (x : Neighbour × ℕ). Renews near now x.0 g.0 g.1) (some_same refl is) r)
+
+-- Lost addresses
+
+pub settles_back : {was is : Type 0} {until : ℕ} {stood new : Option (Lost × ℕ)} {e : Lost × ℕ} → SettlesLost was is until stood new → new ≡ Some e → is → ⊥
+settles_back (Back i none) stands here = none_not none stands
+settles_back (Gone w not_is set) stands here = not_is here
+settles_back (Stays not_was not_is same) stands here = not_is here
+
+-- where a lost address comes from
+pub settles_from : {was is : Type 0} {until : ℕ} {stood new : Option (Lost × ℕ)} {e : Lost × ℕ} → SettlesLost was is until stood new → new ≡ Some e →
+    (was × (e.1 ≡ until)) ⊎ (stood ≡ Some e)
+settles_from (Back i none) stands = none_not none stands
+settles_from {e = e} (Gone w not_is set) stands = inl (w, ap (λ (x : Lost × ℕ). x.1) (some_same stands set))
+settles_from (Stays not_was not_is same) stands = inr (sym same ∙ stands)
+
+module _ (settings : RouterSettings) (before now : ℕ) (old new : Neighbourhood) (S : SoundNeighbourhood settings before old) (L : LiveNeighbourhood settings now old new) where
+  pub link_was : (i : ℕ) (key : LinkKey) (e : Link × ℕ) → link_at new i key ≡ Some e → ComesFrom now (link_at old i key) e
+  link_was i key e is = link_from now (link_at old i key) (link_at new i key) e (L.links i key) is
+
+  pub neighbour_was : (o : Addr4) (f : Neighbour × ℕ) → neighbour_at new o ≡ Some f → (e : Neighbour × ℕ) × (neighbour_at old o ≡ Some e) × Renews new now e.0 f.0 f.1
+  neighbour_was o f is = restores_from new now (neighbour_at old o) (neighbour_at new o) f (L.neighbours o) is
+
+  new_link : (i : ℕ) (key : LinkKey) (link : Link) (until : ℕ) → link_at new i key ≡ Some (link, until) → IsSoundLink now key link
+  new_link i key link until is =
+      let c = link_was i key (link, until) is in
+      let s = S.link i key c.was.0 c.was.1 c.stood in
+      record {
+        least = subst (λ (addrs : List Addr4). slice_get addrs 0 ≡ Some key.addr) (sym c.addrs) s.least;
+        ascending = subst (λ (addrs : List Addr4). IsAscending addrs) (sym c.addrs) s.ascending;
+        link_out = c.link_out;
+        selector = c.selector;
+      }
+
+  new_apart : (i : ℕ) (k l : LinkKey) (e f : Link × ℕ) (a : Addr4) → link_at new i k ≡ Some e → link_at new i l ≡ Some f →
+      Contains e.0.addrs a → Contains f.0.addrs a → k ≡ l
+  new_apart i k l e f a at to has as_well =
+      let c = link_was i k e at in
+      let d = link_was i l f to in
+      S.links_apart i k l c.was d.was a c.stood d.stood (subst (λ (addrs : List Addr4). Contains addrs a) c.addrs has) (subst (λ (addrs : List Addr4). Contains addrs a) d.addrs as_well)
+
+  new_owner : (i : ℕ) (key : LinkKey) (link : Link) (until : ℕ) → link_at new i key ≡ Some (link, until) →
+      (o : Addr4) × (n : Neighbour) × (u : ℕ) × (neighbour_at new o ≡ Some (n, u)) × ((a : Addr4) → Contains link.addrs a → Contains n.addrs a)
+  new_owner i key link until is =
+      let c = link_was i key (link, until) is in
+      let s = S.link i key c.was.0 c.was.1 c.stood in
+      let (o, n, u, at, within) = S.owner i key c.was.0 c.was.1 c.stood in
+      let (g, stands, r) = restores_to new now (neighbour_at old o) (neighbour_at new o) (n, u) i key (link, until) (L.neighbours o) at
+      (within key.addr (Contains_at c.was.0.addrs 0 key.addr s.least), is) in
+      (o, g.0, g.1, stands, λ a has. subst (λ (addrs : List Addr4). Contains addrs a) (sym r.addrs) (within a (subst (λ (addrs : List Addr4). Contains addrs a) c.addrs has)))
+
+  new_neighbour : (o : Addr4) (n : Neighbour) (until : ℕ) → neighbour_at new o ≡ Some (n, until) → IsSoundNeighbour settings new now o n until
+  new_neighbour o n until is =
+      let (e, at, r) = neighbour_was o (n, until) is in
+      let s = S.neighbour o e.0 e.1 at in
+      record {
+        ascending = subst (λ (addrs : List Addr4). IsAscending addrs) (sym r.addrs) s.ascending;
+        by_links = r.by_links;
+        selector = λ h. and_right e.0.selector n.symmetric (subst (λ (b : Bool). IsTrue b) r.selector h);
+        not_mine = s.not_mine;
+        none_mine = λ a has mine. s.none_mine a (subst (λ (addrs : List Addr4). Contains addrs a) r.addrs has) mine;
+      }
+    where
+      and_right : (a b : Bool) → IsTrue (a && b) → IsTrue b
+      and_right true b h = h
+      and_right false true h = refl
+      and_right false false h = h
+
+  new_neighbours_apart : (o p : Addr4) (e f : Neighbour × ℕ) (a : Addr4) → neighbour_at new o ≡ Some e → neighbour_at new p ≡ Some f →
+      Contains e.0.addrs a → Contains f.0.addrs a → o ≡ p
+  new_neighbours_apart o p e f a at to has as_well =
+      let (c, stood, r) = neighbour_was o e at in
+      let (d, stood_too, t) = neighbour_was p f to in
+      S.neighbours_apart o p c d a stood stood_too (subst (λ (addrs : List Addr4). Contains addrs a) r.addrs has) (subst (λ (addrs : List Addr4). Contains addrs a) t.addrs as_well)
+
+  two_hop_was : (i : ℕ) (key : TwoHopKey) (t : TwoHop × ℕ) → two_hop_at new i key ≡ Some t →
+      (is_symmetric_at new now i key.link ≡ true) × (two_hop_at old i key ≡ Some t) × (nat_lt now t.1 ≡ true)
+  two_hop_was i key t is =
+      let (symmetric, live) = cond_from (is_symmetric_at new now i key.link) (if_live now (two_hop_at old i key)) t (sym (L.two_hops i key) ∙ is) in
+      let (stood, later) = live_from now (two_hop_at old i key) t live in
+      (symmetric, stood, later)
+
+  -- the addresses that are held were held
+  held_was : (a : Addr4) → IsHeld new a → IsHeld old a
+  held_was a (inl (f, is)) = let (e, at, r) = neighbour_was a f is in inl (e, at)
+  held_was a (inr (inl (o, n, until, is, has))) =
+      let (e, at, r) = neighbour_was o (n, until) is in
+      inr (inl (o, e.0, e.1, at, subst (λ (addrs : List Addr4). Contains addrs a) r.addrs has))
+  held_was a (inr (inr (e, is))) = elim (settles_from (L.losts a) is) [
+    | inl gone ↦ let (o, n, until, at, _, has) = gone.0 in inr (inl (o, n, until, at, has))
+    | inr stood ↦ inr (inr (e, (live_from now (lost_at old a) e stood).0))
+  ]
+
+  new_lost_not_mine : (a : Addr4) (e : Lost × ℕ) → lost_at new a ≡ Some e → HasAddress settings a → ⊥
+  new_lost_not_mine a e is mine = elim (settles_from (L.losts a) is) [
+    | inl gone ↦ let (o, n, until, at, _, has) = gone.0 in (S.neighbour o n until at).none_mine a has mine
+    | inr stood ↦ S.lost_not_mine a e (live_from now (lost_at old a) e stood).0 mine
+  ]
+
+  new_fresh_lost : 0 < settings.times.neighbour_hold → (a : Addr4) (e : Lost) (until : ℕ) → lost_at new a ≡ Some (e, until) → nat_lt now until ≡ true
+  new_fresh_lost holds a e until is = elim (settles_from (L.losts a) is) [
+    | inl gone ↦ let at : until ≡ now + settings.times.neighbour_hold = gone.1 in lt-ltb now until (omega (arith, at, holds))
+    | inr stood ↦ (live_from now (lost_at old a) (e, until) stood).1
+  ]
+
+  new_fresh_neighbour : (o : Addr4) (n : Neighbour) (until : ℕ) → neighbour_at new o ≡ Some (n, until) → nat_lt now until ≡ true
+  new_fresh_neighbour o n until is =
+      let (e, at, r) = neighbour_was o (n, until) is in
+      let (i, key, link, has) = r.by_links.latest in
+      (link_was i key (link, until) has.1).live
+
+  fewer : (i : ℕ) → length (base_of new.two_hops i) ≤ length (base_of old.two_hops i)
+  fewer i = no_more two_hop_equiv (base_of new.two_hops i) (base_of old.two_hops i) (L.tables.two_hops i) (λ key t is. (t, (two_hop_was i key t is).1))
+
+  -- expiry keeps the statements
+  pub live_sound : 0 < settings.times.neighbour_hold → SoundNeighbourhood settings now new
+  live_sound holds = record {
+    interfaces = L.interfaces ∙ S.interfaces;
+    two_hop_interfaces = L.two_hop_interfaces ∙ S.two_hop_interfaces;
+    distinct_links = L.tables.links;
+    distinct_neighbours = L.tables.neighbours;
+    distinct_losts = L.tables.losts;
+    fresh_links = λ i key link until is. (link_was i key (link, until) is).live;
+    fresh_neighbours = new_fresh_neighbour;
+    fresh_losts = new_fresh_lost holds;
+    two_hops = λ i. record {
+      distinct = L.tables.two_hops i;
+      limit = let a : length (base_of old.two_hops i) ≤ 16384 = (S.two_hops i).limit in omega (arith, fewer i, a);
+      fresh = λ key t until is. (two_hop_was i key (t, until) is).2;
+    };
+    limit = λ more. let (some, distinct, all, many) = more in S.limit (some, distinct, λ a has. held_was a (all a has), many);
+    link = new_link;
+    links_apart = new_apart;
+    owner = new_owner;
+    neighbour = new_neighbour;
+    neighbours_apart = new_neighbours_apart;
+    two_hop = λ i key t is. (two_hop_was i key t is).0;
+    lost = λ a e is symmetric. settles_back (L.losts a) is symmetric;
+    lost_not_mine = new_lost_not_mine;
+  }

@@ -1,0 +1,143 @@
+-- The HELLO out of its rows, and sound tuples are apart.
+use Rattle.std.proofs.Common.{◌≡◌, ◌<◌, ◌≤◌, ℕ, false, nat_lt, inl, inr, refl, sym, ◌∙◌, ap, subst, map, length, get_or, zero, suc, ◌∷◌, arith}
+use Rattle.std.specs.Prelude.{List, [], Contains, AllPairs, Some, None, slice_get, ◌↔◌}
+use Rattle.std.proofs.lemmas.List.{length-map, get_or-map, get_or_default, get_or_past}
+use Rattle.std.proofs.lemmas.Option.{slice_get-get_or, none-some}
+use Rattle.std.proofs.lemmas.Bool.{cases_lt, lt-ltb, false≢true}
+use Rattle.mesh_atoms.specs.declared.addr.Addr4.{Addr4}
+use Rattle.mesh_atoms.specs.declared.addr.NetAddr.{NetAddr}
+use Rattle.mesh_atoms.specs.declared.hello.HelloRow.{HelloRow}
+use Rattle.mesh_atoms.specs.declared.hello.Hello.{Hello}
+use Rattle.mesh_atoms.specs.declared.settings.RouterSettings.{RouterSettings}
+use Rattle.mesh_atoms.specs.declared.tuples.LinkKey.{LinkKey}
+use Rattle.mesh_atoms.specs.declared.tuples.Link.{Link}
+use Rattle.mesh_atoms.specs.declared.tuples.Lost.{Lost}
+use Rattle.mesh_atoms.specs.declared.tuples.Neighbour.{Neighbour}
+use Rattle.mesh_atoms.specs.declared.tuples.Relays.{Relays}
+use Rattle.mesh_atoms.specs.Base.{Base, base_of, find, host, addr_eq, link_eq}
+use Rattle.mesh_atoms.specs.Hello.{IsHelloNow, IsRoundedUp}
+use Rattle.mesh_atoms.specs.Nodes.{IsBefore}
+use Rattle.mesh_atoms.specs.Relays.{IsAscending}
+use Rattle.mesh_atoms.specs.Sound.{SoundNeighbourhood}
+use Rattle.mesh_atoms.specs.State.{State, Neighbourhood, IsOriginator}
+use Rattle.mesh_atoms.proofs.Lookups.{has_found, addr_equiv, same_addr, link_equiv, same_link}
+use Rattle.mesh_atoms.specs.declared.settings.Interface.{Interface}
+use Rattle.mesh_links.specs.Links.{SelectorOf, Unlinked}
+use Rattle.mesh_nhdp.specs.Held.{Held}
+use Rattle.mesh_nhdp.specs.Shown.{AreApart, IsSeen, IsRowOf, told_addresses}
+use Rattle.mesh_nhdp.proofs.Lookups.{some_same}
+use Rattle.mesh_nhdp.proofs.Somewhere.{told_all}
+
+-- what the HELLO is made of: the addresses of which something is said, and a row for each, in their order
+pub record IsHelloOf (settings : RouterSettings) (links : Base LinkKey Link) (neighbours : Base Addr4 Neighbour) (losts : Base Addr4 Lost) (relays : Relays) (i now : ℕ) (list : List Addr4) (hello : Hello) : Type 0 where
+  pub ascending : IsAscending list
+  pub same : (a : Addr4) → Contains list a ↔ Contains (told_addresses settings links neighbours losts) a
+  pub addrs : map (λ (row : HelloRow). row.addr) hello.rows ≡ map host list
+  pub says : (row : HelloRow) → Contains hello.rows row → (a : Addr4) × IsRowOf settings links neighbours losts relays i now row a
+  pub originator : (o : Addr4) × IsOriginator settings o × (hello.originator ≡ Some o)
+  pub validity : IsRoundedUp settings.times.hold hello.validity
+  pub interval : (time : ℕ) × (hello.interval ≡ Some time) × IsRoundedUp settings.times.hello time
+  pub willing : hello.willing ≡ settings.willing
+
+-- Lists that are mapped
+
+map_gives : {A B : Type 0} (f : A → B) (xs : List A) (x : A) → Contains xs x → Contains (map f xs) (f x)
+map_gives f xs x (k, lt, is) = (k, (let e : length (map f xs) ≡ length xs = length-map xs f in omega arith), get_or-map f xs k x (f x) lt ∙ ap f is)
+
+map_given : {A B : Type 0} (f : A → B) (xs : List A) (y : B) → Contains (map f xs) y → (x : A) × Contains xs x × (f x ≡ y)
+map_given f [] y (k, lt, is) = absurd (omega arith)
+map_given f (x ∷ xs) y (zero, lt, is) = (x, (0, omega arith, refl), is)
+map_given f (x ∷ xs) y (suc k, lt, is) = let (z, (j, within, at), e) = map_given f xs y (k, omega arith, is) in (z, (suc j, omega arith, at), e)
+
+rows_before : (rows : List HelloRow) (list : List Addr4) → map (λ (row : HelloRow). row.addr) rows ≡ map host list → IsAscending list → AllPairs (λ (r t : HelloRow). IsBefore r.addr t.addr) rows
+rows_before rows list same up i j d lt within =
+    let addr = λ (row : HelloRow). row.addr in
+    let sizes : length rows ≡ length list = sym (length-map rows addr) ∙ (ap length same ∙ length-map list host) in
+    let at : (k : ℕ) → k < length list → (get_or rows k d).addr ≡ host (get_or list k d.addr.addr) = λ k below.
+    sym (get_or-map addr rows k d d.addr (omega arith)) ∙ (ap (λ (nets : List NetAddr). get_or nets k d.addr) same ∙ get_or-map host list k d.addr.addr d.addr below) in
+    let less : (get_or list i d.addr.addr).0 < (get_or list j d.addr.addr).0 = up i j d.addr.addr lt (omega arith) in
+    rw (at i (omega arith), at j (omega arith)) (inl less)
+
+pub hello_is : (settings : RouterSettings) (links : Base LinkKey Link) (neighbours : Base Addr4 Neighbour) (losts : Base Addr4 Lost) (relays : Relays) (i now : ℕ) (list : List Addr4) (hello : Hello) →
+    IsHelloOf settings links neighbours losts relays i now list hello → (s : State) → IsSeen s settings links neighbours losts relays i → IsHelloNow s i now hello
+hello_is settings links neighbours losts relays i now list hello made s seen = record {
+  originator = rw seen.settings_are made.originator;
+  validity = rw seen.settings_are made.validity;
+  interval = rw seen.settings_are made.interval;
+  willing = rw seen.settings_are made.willing;
+  rows = λ row has. let (a, row_is) = made.says row has in (a, row_is.says s seen);
+  all = λ a part shows.
+      let told : Contains (told_addresses settings links neighbours losts) a =
+      rw (← seen.settings_are, ← seen.neighbours_are, ← seen.losts_are) (told_all s i now a links seen.links_are part shows) in
+      let there : Contains (map (λ (row : HelloRow). row.addr) hello.rows) (host a) = rw made.addrs (map_gives host list a ((made.same a).1 told)) in
+      map_given (λ (row : HelloRow). row.addr) hello.rows (host a) there;
+  ordered = rows_before hello.rows list made.addrs made.ascending;
+}
+
+-- Sound tuples
+
+pub apart_by : (settings : RouterSettings) (now : ℕ) (near : Neighbourhood) (i : ℕ) → SoundNeighbourhood settings now near → AreApart (base_of near.links i) near.neighbours near.losts
+apart_by settings now near i sound =
+    let links = base_of near.links i in
+    let link_found = λ (key : LinkKey) (link : Link). has_found link_equiv same_link links key link (sound.distinct_links i) in
+    let near_found = λ (o : Addr4) (n : Neighbour). has_found addr_equiv same_addr near.neighbours o n sound.distinct_neighbours in
+    record {
+      one_link = λ a k l e f has has' in' in''.
+          let (u, at) = (link_found k e).0 has in
+          let (v, at') = (link_found l f).0 has' in
+          let same : k ≡ l = sound.links_apart i k l (e, u) (f, v) a at at' in' in'' in
+          ap (λ (x : Link × ℕ). x.0) (some_same (ap (find link_eq links) (sym same) ∙ at) at');
+      one_neighbour = λ a o p m n has has' in' in''.
+          let (u, at) = (near_found o m).0 has in
+          let (v, at') = (near_found p n).0 has' in
+          let same : o ≡ p = sound.neighbours_apart o p (m, u) (n, v) a at at' in' in'' in
+          (same, ap (λ (x : Neighbour × ℕ). x.0) (some_same (ap (find addr_eq near.neighbours) (sym same) ∙ at) at'));
+      owner = λ k e has.
+          let (u, at) = (link_found k e).0 has in
+          let (o, n, v, at', all) = sound.owner i k e u at in
+          (o, n, (near_found o n).1 (v, at'), all);
+      distinct_losts = sound.distinct_losts;
+    }
+
+-- The neighbourhood of a router
+
+-- a place within a list is of an element, whatever stands for none
+stands_at : {A : Type 0} (xs : List A) (i : ℕ) (x d : A) → x ≡ get_or xs i x → i < length xs → get_or xs i d ≡ x
+stands_at xs i x d is lt = get_or_default xs i d x lt ∙ sym is
+
+pub apart_held : (held inside : Held) (now i : ℕ) (links l : Base LinkKey Link) (neighbours : Base Addr4 Neighbour) (losts : Base Addr4 Lost) → inside ≡ held →
+    SoundNeighbourhood held.settings now held.near → i < length held.settings.interfaces → links ≡ l → l ≡ get_or inside.near.links i l → neighbours ≡ inside.near.neighbours → losts ≡ inside.near.losts →
+    AreApart links neighbours losts
+apart_held held inside now i links l neighbours losts is sound lt e f g h =
+    let lt' : i < length held.near.links = omega (arith, lt, sound.interfaces) in
+    let there : l ≡ get_or held.near.links i l = f ∙ ap (λ (x : Held). get_or x.near.links i l) is in
+    rw (e, ← stands_at held.near.links i l [] there lt', g, h, is) (apart_by held.settings now held.near i sound)
+
+pub seen_held : (held inside : Held) (now i : ℕ) (links l : Base LinkKey Link) (neighbours : Base Addr4 Neighbour) (losts : Base Addr4 Lost) → inside ≡ held →
+    SoundNeighbourhood held.settings now held.near → i < length held.settings.interfaces → links ≡ l → l ≡ get_or inside.near.links i l → neighbours ≡ inside.near.neighbours → losts ≡ inside.near.losts →
+    (relays : Relays) (s : State) → s.settings ≡ held.settings → s.bases.neighbourhood ≡ held.near → s.relays ≡ relays → IsSeen s inside.settings links neighbours losts relays i
+seen_held held inside now i links l neighbours losts is sound lt e f g h relays s own near chosen =
+    let lt' : i < length held.near.links = omega (arith, lt, sound.interfaces) in
+    let there : l ≡ get_or held.near.links i l = f ∙ ap (λ (x : Held). get_or x.near.links i l) is in
+    record {
+      settings_are = own ∙ ap (λ (x : Held). x.settings) (sym is);
+      links_are = ap (λ (n : Neighbourhood). slice_get n.links i) near ∙ (slice_get-get_or held.near.links i l lt' ∙ ap (λ (x : Base LinkKey Link). Some x) (sym there ∙ sym e));
+      neighbours_are = ap (λ (n : Neighbourhood). n.neighbours) near ∙ (ap (λ (x : Held). x.near.neighbours) (sym is) ∙ sym g);
+      losts_are = ap (λ (n : Neighbourhood). n.losts) near ∙ (ap (λ (x : Held). x.near.losts) (sym is) ∙ sym h);
+      relays_are = chosen;
+    }
+
+pub some_interface : (settings : RouterSettings) → 0 < length settings.interfaces
+some_interface settings =
+    let e : length (map (λ (face : Interface). face.name) settings.interfaces) ≡ length settings.interfaces = length-map settings.interfaces (λ (face : Interface). face.name) in
+    omega (arith, e, settings.sound.interfaces.at_least)
+
+-- no link, where there is no such interface
+pub no_selector : (links items : List (Base LinkKey Link)) (i now : ℕ) (a : Addr4) → items ≡ links → false ≡ nat_lt i (length items) → SelectorOf (base_of links i) now a None
+no_selector links items i now a same past = elim (cases_lt i (length items)) [
+  | inl lt ↦ absurd (false≢true (past ∙ lt-ltb i (length items) lt))
+  | inr le ↦
+      let P : Base LinkKey Link → Type 0 = λ base. SelectorOf base now a None in
+      let empty : base_of links i ≡ [] = get_or_past links i [] (subst (λ (l : List (Base LinkKey Link)). length l ≤ i) same le) in
+      subst P (sym empty) (Unlinked (λ link w. none-some (link, w.1) w.2))
+]

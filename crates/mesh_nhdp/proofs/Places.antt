@@ -1,0 +1,33 @@
+-- Elements of lists by their places.
+use Rattle.std.proofs.Common.{◌≡◌, ℕ, zero, suc, ◌+◌, ◌<◌, ◌≤◌, ◌++◌, List, [], ◌∷◌, drop, length, refl, ◌∙◌, ap, subst, arith, add-one}
+use Rattle.std.specs.Prelude.{Contains, Some, slice_get, ◌↔◌}
+use Rattle.std.specs.List.{flat_map}
+use Rattle.std.proofs.lemmas.List.{append_assoc}
+use Rattle.std.proofs.lemmas.Option.{slice_get-get_or}
+
+-- an element stands at a place
+pub place_of : {A : Type 0} (xs : List A) (x : A) → Contains xs x → (k : ℕ) × (k < length xs) × (slice_get xs k ≡ Some x)
+place_of xs x (k, lt, is) = (k, lt, slice_get-get_or xs k x lt ∙ ap Some is)
+
+drop_at : {A : Type 0} (xs : List A) (k : ℕ) (x : A) → slice_get xs k ≡ Some x → drop k xs ≡ x ∷ drop (suc k) xs
+drop_at [] k x h = absurd cc
+drop_at (y ∷ ys) zero x h = let e : y ≡ x = cc in ap (λ z. z ∷ ys) e
+drop_at (y ∷ ys) (suc k) x h = drop_at ys k x h
+
+-- what a list with the rest gives, with what the next element gives put at its end
+pub put_next : {A B : Type 0} (f : A → List B) (xs : List A) (k : ℕ) (x : A) (list whole : List B) → slice_get xs k ≡ Some x →
+    list ++ flat_map f (drop k xs) ≡ whole → (list ++ f x) ++ flat_map f (drop (k + 1) xs) ≡ whole
+put_next f xs k x list whole at h =
+    let e : drop k xs ≡ x ∷ drop (k + 1) xs = rw add-one (drop_at xs k x at) in
+    rw append_assoc (subst (λ l. list ++ flat_map f l ≡ whole) e h)
+
+-- lists put one after another have what they have one by one
+pub same_in_turn : {A : Type 0} (once w x y z l0 l1 l2 l3 : List A) → l0 ≡ w → l1 ≡ l0 ++ x → l2 ≡ l1 ++ y → l3 ≡ l2 ++ z →
+    ((a : A) → Contains once a ↔ Contains l3 a) → (a : A) → Contains once a ↔ Contains (w ++ (x ++ (y ++ z))) a
+same_in_turn {A} once w x y z l0 l1 l2 l3 e0 e1 e2 e3 same a =
+    let is : l3 ≡ w ++ (x ++ (y ++ z)) = rw (e3, e2, e1, e0) (simp append_assoc) in
+    subst (λ (l : List A). Contains once a ↔ Contains l a) is (same a)
+
+pub one_first : {A : Type 0} (xs : List A) → 1 ≤ length xs → (x : A) × (slice_get xs 0 ≡ Some x)
+one_first [] h = absurd (omega arith)
+one_first (x ∷ xs) h = (x, refl)

@@ -1,0 +1,54 @@
+-- 2-hop tuples through the ends of links.
+use Rattle.std.proofs.Common.{◌≡◌, ℕ, inl, inr, refl, sym, ◌∙◌, subst, List, Contains, Option, Some, None}
+use Rattle.std.specs.Prelude.{Bool, true, false, cond}
+use Rattle.std.proofs.lemmas.Bool.{false≢true}
+use Rattle.mesh_atoms.specs.declared.tuples.LinkKey.{LinkKey}
+use Rattle.mesh_atoms.specs.declared.tuples.TwoHopKey.{TwoHopKey}
+use Rattle.mesh_atoms.specs.declared.tuples.Link.{Link}
+use Rattle.mesh_atoms.specs.declared.tuples.TwoHop.{TwoHop}
+use Rattle.mesh_atoms.specs.Base.{Base, find, link_eq, two_hop_eq}
+use Rattle.mesh_atoms.specs.AfterHello.{IsKept}
+use Rattle.mesh_atoms.proofs.Lookups.{same_link, link_equiv}
+use Rattle.mesh_nbrs.specs.TwoHops.{DropsLink}
+use Rattle.mesh_nhdp.specs.Calls.{TellsKeys, is_symmetric_in, DropsEnded}
+
+pub link_eq_same : (a b : LinkKey) → a ≡ b → link_eq a b ≡ true
+link_eq_same a b e = subst (λ (c : LinkKey). link_eq a c ≡ true) e (link_equiv.refl a)
+
+pub link_eq_other : (a b : LinkKey) → (a ≡ b → ⊥) → link_eq a b ≡ false
+link_eq_other a b other = by_case (link_eq a b) refl
+  where
+    by_case : (c : Bool) → link_eq a b ≡ c → link_eq a b ≡ false
+    by_case true is = absurd (other (same_link a b is))
+    by_case false is = is
+
+pub on_true : {A : Type 0} (b : Bool) (x y : A) → b ≡ true → cond b x y ≡ x
+on_true true x y e = refl
+on_true false x y e = absurd (false≢true e)
+
+pub on_false : {A : Type 0} (b : Bool) (x y : A) → b ≡ false → cond b x y ≡ y
+on_false true x y e = absurd (false≢true (sym e))
+on_false false x y e = refl
+
+-- a dropped link has no tuples
+pub dropped_here : (link : LinkKey) (old new : Base TwoHopKey TwoHop) (key : TwoHopKey) → DropsLink link old new → key.link ≡ link → find two_hop_eq new key ≡ None
+dropped_here link old new key d same = d key ∙ on_true (link_eq key.link link) None (find two_hop_eq old key) (link_eq_same key.link link same)
+
+-- and all other links have theirs
+pub dropped_elsewhere : (link : LinkKey) (old new : Base TwoHopKey TwoHop) (key : TwoHopKey) → DropsLink link old new → (key.link ≡ link → ⊥) → find two_hop_eq new key ≡ find two_hop_eq old key
+dropped_elsewhere link old new key d other = d key ∙ on_false (link_eq key.link link) None (find two_hop_eq old key) (link_eq_other key.link link other)
+
+-- after the drops, the tuples of SYMMETRIC links are left, where each had a link that is looked at
+pub left_by_ends : (before links : Base LinkKey Link) (now : ℕ) (keys : List LinkKey) (old new : Base TwoHopKey TwoHop) → TellsKeys before keys →
+    ((key : TwoHopKey) (t : TwoHop × ℕ) → find two_hop_eq old key ≡ Some t → (e : Link × ℕ) × (find link_eq before key.link ≡ Some e)) → DropsEnded keys links now old new →
+    (key : TwoHopKey) → find two_hop_eq new key ≡ cond (is_symmetric_in links now key.link) (find two_hop_eq old key) None
+left_by_ends before links now keys old new K linked d key = by_case (find two_hop_eq old key) (is_symmetric_in links now key.link) refl refl (d key)
+  where
+    by_case : (o : Option (TwoHop × ℕ)) (symmetric : Bool) → find two_hop_eq old key ≡ o → is_symmetric_in links now key.link ≡ symmetric →
+        IsKept (λ t. (Contains keys key.link × (symmetric ≡ false)) → ⊥) o (find two_hop_eq new key) → find two_hop_eq new key ≡ cond symmetric o None
+    by_case None true at is kept = kept
+    by_case None false at is kept = kept
+    by_case (Some t) true at is (inl kept) = kept.1
+    by_case (Some t) true at is (inr gone) = absurd (gone.0 (λ both. false≢true (sym both.1)))
+    by_case (Some t) false at is (inl kept) = absurd (let (e, there) = linked key t at in kept.0 (K.all key.link e there, refl))
+    by_case (Some t) false at is (inr gone) = gone.1

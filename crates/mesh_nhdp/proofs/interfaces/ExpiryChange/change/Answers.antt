@@ -1,0 +1,22 @@
+use Rattle.std.proofs.Common.{subst}
+use Rattle.std.specs.Prelude.{List}
+use Rattle.mesh_atoms.specs.declared.tuples.LinkKey.{LinkKey}
+use Rattle.mesh_atoms.specs.declared.tuples.TwoHopKey.{TwoHopKey}
+use Rattle.mesh_atoms.specs.declared.tuples.TwoHop.{TwoHop}
+use Rattle.mesh_atoms.specs.Base.{Base, HasDistinctKeys, two_hop_eq}
+use Rattle.mesh_nhdp.specs.Calls.{DropsEnded}
+use Rattle.mesh_nhdp.proofs.interfaces.ExpiryChange.change.Goals as goal
+
+pub returns : goal.returns
+returns g c = record {
+  distinct_links = c.expire.ensures.distinct;
+  distinct_two_hops = subst (λ (b : Base TwoHopKey TwoHop). HasDistinctKeys two_hop_eq b) c.table.ensures c.len-count.ensures.distinct;
+  links = c.expire.ensures.expired;
+  two_hops = (
+    c.expire-2.new.self,
+    c.in_ok-before.before.items,
+    c.expire-2.ensures.expired,
+    c.in_ok-before.ensures,
+    subst (λ (ks : List LinkKey). DropsEnded ks c.expire.new.self c.args.self.now.now c.expire-2.new.self c.drop_ended.new.two_hops) c.deref.ensures.value c.drop_ended.ensures.dropped,
+  );
+}

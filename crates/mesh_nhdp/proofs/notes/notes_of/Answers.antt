@@ -1,0 +1,21 @@
+use Rattle.std.proofs.Common.{◌≡◌, ◌↔◌, length, Contains, subst, arith}
+use Rattle.mesh_atoms.specs.declared.tuples.LinkKey.{LinkKey}
+use Rattle.mesh_atoms.specs.declared.tuples.Link.{Link}
+use Rattle.mesh_atoms.specs.Base.{Base}
+use Rattle.mesh_nbrs.specs.declared.neighbours.LinkNote.{LinkNote}
+use Rattle.mesh_nhdp.specs.Calls.{IsNoteIn}
+use Rattle.mesh_nhdp.specs.Gathers.{Adds}
+use Rattle.mesh_nhdp.proofs.Collect.{SomeBelow, gathers_more, item_at}
+use Rattle.mesh_nhdp.proofs.AllNotes.{tells_links}
+use Rattle.mesh_nhdp.proofs.notes.notes_of.Goals as goal
+
+pub loop-set-preserved : goal.loop-set-preserved
+loop-set-preserved g c =
+    gathers_more c.args.sets.now (λ (base : Base LinkKey Link) (note : LinkNote). IsNoteIn base c.args.now note) c.loop-set.set-index c.set-item.result _ _
+    (item_at c.args.sets.now c.loop-set.set-index c.set-item.result (omega arith) c.set-item.is) c.loop-set.invariant
+    (subst (λ (b : Base LinkKey Link). Adds c.loop-set.notes.items c.add_notes.new.notes.items (IsNoteIn b c.args.now)) c.table.ensures c.in_ok-add_notes.ensures)
+
+pub returns : goal.returns
+returns g c =
+    let all : c.loop-set.set-index ≡ length c.args.sets.now = omega arith in
+    tells_links c.args.sets.now c.args.now c.loop-set.notes.items (λ note. subst (λ n. Contains c.loop-set.notes.items note ↔ SomeBelow c.args.sets.now n (λ base. IsNoteIn base c.args.now note)) all (c.loop-set.invariant note))

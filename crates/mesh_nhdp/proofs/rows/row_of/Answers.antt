@@ -1,0 +1,29 @@
+use Rattle.std.proofs.Common.{◌∙◌}
+use Rattle.mesh_expire.specs.Table.{entry_of}
+use Rattle.mesh_nhdp.proofs.OneRow.{row_of, lent_some}
+use Rattle.mesh_nhdp.proofs.rows.row_of.Goals as goal
+
+pub returns-clause-says : goal.returns-clause-says
+returns-clause-says g c =
+    row_of c.args.settings.now (g.L.Table.content c.args.links.now) (g.N.Table.content c.args.neighbours.now) (g.O.Table.content c.args.losts.now) c.args.relays.now c.args.iface c.args.now _ c.args.addr
+    c.requires.apart c.requires.told
+    (record {
+      linked = entry_of c.link_with-link.result;
+      near = entry_of c.neighbour_with-neighbour.result;
+      is_near = c.is_some.result;
+      is_lost = c.is_lost.result;
+      linked_is = c.link_with-link.ensures;
+      near_is = c.neighbour_with-neighbour.ensures;
+      is_near_so = c.is_some.ensures ∙ lent_some c.neighbour_with-neighbour.result;
+      is_lost_so = c.is_lost.ensures;
+      addr = c.host.ensures;
+      local = c.local_of.ensures;
+      link = c.status_shown-status.ensures;
+      other = c.other_shown.ensures;
+      link_in = c.link_in_shown.ensures;
+      link_out = c.link_out_shown.ensures;
+      near_in = c.near_in_shown.ensures;
+      near_out = c.near_out_shown.ensures;
+      flooding = c.is_flooding_relay.ensures;
+      routing = rw (← c.as_slice.ensures) c.is_relay.ensures;
+    })

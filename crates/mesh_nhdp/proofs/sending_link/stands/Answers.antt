@@ -1,0 +1,19 @@
+use Rattle.std.proofs.Common.{◌≡◌, ℕ, true, ap, sym, subst, ◌∙◌}
+use Rattle.std.specs.Bool.{Decides}
+use Rattle.std.proofs.lemmas.Slice.Eq.{slice_eq-Decides}
+use Rattle.mesh_atoms.specs.declared.addr.Addr4.{Addr4}
+use Rattle.mesh_atoms.specs.declared.tuples.Link.{Link}
+use Rattle.mesh_atoms.specs.Base.{addr_eq}
+use Rattle.mesh_atoms.proofs.Lookups.{addr_equiv, same_addr}
+use Rattle.mesh_nhdp.proofs.Lookups.{some_same}
+use Rattle.mesh_nhdp.proofs.sending_link.stands.Goals as goal
+
+addr_decides : (a b : Addr4) → Decides (addr_eq a b) (a ≡ b)
+addr_decides a b = (same_addr a b, (λ e. subst (λ (c : Addr4). addr_eq a c ≡ true) e (addr_equiv.refl a)))
+
+pub returns-in-Some : goal.returns-in-Some
+returns-in-Some g c =
+    let decides = slice_eq-Decides {E = addr_eq} addr_decides c.as_slice.result.now c.args.addrs.now c.eq.result c.eq.ensures in (
+      λ h. ((c.in-Some.link.now, c.in-Some.field-0-1), sym c.in-Some.ensures, sym c.as_slice.ensures ∙ decides.0 h),
+      λ h. let (e, is, same) = h in decides.1 (c.as_slice.ensures ∙ (ap (λ (x : Link × ℕ). x.0.addrs) (some_same (sym c.in-Some.ensures) is) ∙ same)),
+    )

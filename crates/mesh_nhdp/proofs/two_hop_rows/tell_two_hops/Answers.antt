@@ -1,0 +1,34 @@
+use Rattle.std.proofs.Common.{◌≡◌, length, slice_get, Some, ap, ◌∙◌, subst, refl, arith}
+use Rattle.mesh_atoms.specs.Base.{find, two_hop_eq}
+use Rattle.mesh_nhdp.proofs.Collect.{item_at}
+use Rattle.mesh_nhdp.proofs.RowWalks.{RowsTell, one_more, others_more, rows_none, rows_all}
+use Rattle.mesh_nhdp.proofs.two_hop_rows.tell_two_hops.Goals as goal
+
+pub loop-row-init : goal.loop-row-init
+loop-row-init g c = record {
+  one = λ a. rows_none c.args.own.now c.args.listed.now c.args.hello.now.rows c.args.until a _;
+  others = λ key other. refl;
+}
+
+pub loop-row-preserved : goal.loop-row-preserved
+loop-row-preserved g c =
+    let at : slice_get c.args.hello.now.rows c.loop-row.row-index ≡ Some c.row-item.result =
+    subst (λ rows. slice_get rows c.loop-row.row-index ≡ Some c.row-item.result) c.as_slice-row-items.ensures
+    (item_at c.as_slice-row-items.result.now c.loop-row.row-index c.row-item.result c.loop-row-test.true c.row-item.is) in
+    record {
+      one = λ a. one_more c.args.own.now c.args.listed.now c.args.hello.now.rows c.loop-row.row-index c.args.until c.args.link c.row-item.result at c.loop-row.two_hops c.tell_if_looked_at.new.two_hops
+          c.in_ok-tell_if_looked_at.ensures a _ (c.loop-row.invariant.one a);
+      others = λ key other. others_more c.args.own.now c.args.listed.now c.args.hello.now.rows c.loop-row.row-index c.args.until c.args.link c.row-item.result at c.loop-row.two_hops c.tell_if_looked_at.new.two_hops
+          c.in_ok-tell_if_looked_at.ensures key other ∙ c.loop-row.invariant.others key other;
+    }
+
+pub returns : goal.returns
+returns g c settings told own_is listed_is =
+    let same = ap length c.as_slice-row-items.ensures in
+    let all : c.loop-row.row-index ≡ length c.args.hello.now.rows = omega (arith, same) in
+    record {
+      one = λ a. rows_all settings told c.args.hello.now c.args.own.now c.args.listed.now own_is listed_is c.args.until a _ _
+          (subst (λ n. RowsTell c.args.own.now c.args.listed.now c.args.hello.now.rows n c.args.until a (find two_hop_eq c.args.two_hops.now (record { link = c.args.link; addr = a }))
+          (find two_hop_eq c.loop-row.two_hops (record { link = c.args.link; addr = a }))) all (c.loop-row.invariant.one a));
+      others = λ key other. c.loop-row.invariant.others key other;
+    }

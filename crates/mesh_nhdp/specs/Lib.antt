@@ -1,0 +1,14 @@
+pub mod Calls
+pub mod Follows
+pub mod Gathers
+pub mod Hearings
+pub mod Held
+pub mod Interfaces
+pub mod Mine
+pub mod Receive
+pub mod Rows
+pub mod Sender
+pub mod Shown
+pub mod Telling
+pub mod Wanted
+pub mod Judged

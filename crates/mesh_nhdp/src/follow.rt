@@ -1,0 +1,31 @@
+//! Neighbours and lost addresses follow the links.
+ghost use Rattle.std.specs.Prelude.{OnOk};
+ghost use Rattle.mesh_nhdp.specs.Follows.{FollowsLinks};
+
+use crate::near_addresses::{Wanted, wanted_addresses};
+use crate::notes::notes_of;
+use mesh_atoms::{Addr4, Link, LinkKey, Lost, Neighbour};
+use mesh_expire::Table;
+use mesh_links::LinkSet;
+use mesh_nbrs::{LostSet, NeighbourSet};
+use std::alloc::{AllocError, Global};
+
+/// Sets the neighbours as their links have them, and the addresses as lost until that moment that were a symmetric
+/// neighbour's and are none's now (RFC 6130, sections 12.4 and 13). After want of memory both sets may only be dropped.
+pub fn follow_links<L: Table<LinkKey, Link>, N: Table<Addr4, Neighbour>, O: Table<Addr4, Lost>>(
+    alloc: Global,
+    links: &[LinkSet<L>],
+    now: u64,
+    before: &[Addr4],
+    until: u64,
+    neighbours: &mut NeighbourSet<N>,
+    losts: &mut LostSet<O>,
+) -> Result<(), AllocError>
+    ensures { OnOk result (FollowsLinks links.now now before.now until neighbours.old neighbours.new losts.old losts.new) }
+{
+    let notes = notes_of(alloc, links, now)?;
+    neighbours.expire(&notes)?;
+    let after = wanted_addresses(alloc, neighbours.table(), Wanted::Symmetric)?;
+    losts.settle_lost(before, &after, until)?;
+    Ok(())
+}

@@ -1,0 +1,34 @@
+//! Whether the addresses are too many.
+ghost use Rattle.std.specs.Prelude.{◌≡◌, ◌↔◌, ◌⊎◌, Contains, IsTrue, IfOk};
+ghost use Rattle.mesh_atoms.specs.State.{Neighbourhood};
+ghost use Rattle.mesh_atoms.specs.TakesHello.{AreMoreThan, IsHeld};
+
+use crate::lists::{ascending, keys};
+use crate::near_addresses::{Wanted, wanted_addresses};
+use mesh_atoms::{Addr4, Lost, Neighbour};
+use mesh_expire::Table;
+use mesh_nbrs::{LostSet, NeighbourSet};
+use std::alloc::{AllocError, Global};
+
+/// Whether more than 1,024 addresses and originators are held with those that a HELLO tells of.
+pub fn is_full_of_addresses<N: Table<Addr4, Neighbour>, O: Table<Addr4, Lost>>(
+    alloc: Global,
+    neighbours: &NeighbourSet<N>,
+    losts: &LostSet<O>,
+    originator: Addr4,
+    listed: &[Addr4],
+) -> Result<bool, AllocError>
+    ensures { IfOk result (λ full. (near : Neighbourhood) → near.neighbours ≡ neighbours.now → near.losts ≡ losts.now
+        → IsTrue full ↔ AreMoreThan 1024 (λ a. IsHeld near a ⊎ (Contains listed.now a ⊎ (a ≡ originator)))) }
+{
+    let mut addrs = wanted_addresses(alloc, neighbours.table(), Wanted::Each)?;
+    let originators = keys(alloc, neighbours.table())?;
+    addrs.extend_from_slice(&originators)?;
+    let lost = keys(alloc, losts.table())?;
+    addrs.extend_from_slice(&lost)?;
+    addrs.extend_from_slice(listed)?;
+    addrs.push(originator)?;
+    let held = ascending(addrs);
+    let count = held.len();
+    Ok(count > 1024)
+}

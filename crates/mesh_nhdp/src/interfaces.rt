@@ -1,0 +1,150 @@
+//! What expiry and a HELLO make of the links and the 2-hop tuples, interface by interface.
+ghost use Rattle.std.specs.Prelude.{◌≡◌, ◌<◌, ◌^◌, ℕ, Bool, true, false, nat_eq, Some, length, slice_get, IfOk, OnOk};
+ghost use Rattle.mesh_atoms.specs.Base.{Base, HasDistinctKeys, base_of, link_eq};
+ghost use Rattle.mesh_atoms.specs.Relays.{IsAscending};
+ghost use Rattle.mesh_atoms.specs.declared.tuples.LinkKey.{LinkKey};
+ghost use Rattle.mesh_atoms.specs.declared.tuples.Link.{Link};
+ghost use Rattle.mesh_atoms.specs.declared.tuples.TwoHopKey.{TwoHopKey};
+ghost use Rattle.mesh_atoms.specs.declared.tuples.TwoHop.{TwoHop};
+ghost use Rattle.mesh_links.specs.Links.{HearsOn};
+ghost use Rattle.mesh_nhdp.specs.Calls.{TellsKeys};
+ghost use Rattle.mesh_nhdp.specs.Interfaces.{ExpiresOn, HearsAt, CanHear};
+
+use crate::drops::drop_ended;
+use crate::lists::keys;
+use mesh_atoms::{Addr4, Link, LinkKey, Shown, TwoHop, TwoHopKey};
+use mesh_expire::Table;
+use mesh_links::LinkSet;
+use mesh_nbrs::TwoHopSet;
+use std::alloc::{AllocError, Global};
+
+/// The keys of the links of one interface.
+fn link_keys<L: Table<LinkKey, Link>>(
+    alloc: Global,
+    links: &LinkSet<L>,
+) -> Result<Vec<LinkKey>, AllocError>
+    ensures { IfOk result (λ keys. TellsKeys links.now keys.items) }
+{
+    let table = links.table();
+    let _count = table.len();
+    let found = keys(alloc, table)?;
+    Ok(found)
+}
+
+/// What becomes of the links and the 2-hop tuples of one interface.
+pub trait Change<L: Table<LinkKey, Link>, H: Table<TwoHopKey, TwoHop>> {
+    ghost is_ready: { Self → Type 0 };
+
+    ghost makes: { Self → ℕ → Base LinkKey Link → Base LinkKey Link → Base TwoHopKey TwoHop → Base TwoHopKey TwoHop → Type 0 };
+
+    /// Changes those of the interface of that number. After want of memory both may only be dropped.
+    fn change(
+        &self,
+        alloc: Global,
+        iface: usize,
+        links: &mut LinkSet<L>,
+        two_hops: &mut TwoHopSet<H>,
+    ) -> Result<(), AllocError>
+        requires ready { is_ready self.now }
+        ensures { OnOk result (makes self.now iface links.old links.new two_hops.old two_hops.new) };
+}
+
+/// Expiry at a moment in ticks of 1/8192 s.
+#[derive(Clone, Copy)]
+pub struct Expiry {
+    pub now: u64,
+}
+
+impl<L: Table<LinkKey, Link>, H: Table<TwoHopKey, TwoHop>> Change<L, H> for Expiry {
+    ghost is_ready = { λ s. Unit {0} };
+
+    ghost makes = { λ s i old new before after. ExpiresOn s.now old new before after };
+
+    fn change(
+        &self,
+        alloc: Global,
+        _iface: usize,
+        links: &mut LinkSet<L>,
+        two_hops: &mut TwoHopSet<H>,
+    ) -> Result<(), AllocError> {
+        let before = link_keys(alloc, links)?;
+        links.expire(self.now);
+        two_hops.expire(self.now);
+        drop_ended(links, two_hops, &before, self.now);
+        let _count = two_hops.table().len();
+        Ok(())
+    }
+}
+
+/// The taking of a HELLO on an interface: the moment, the hold time of links, what it shows of its link, the addresses of the
+/// neighbours that it speaks of, and those that it tells of.
+#[derive(Clone, Copy)]
+pub struct Hearing<'a> {
+    pub moment: u64,
+    pub hold: u64,
+    pub iface: usize,
+    pub shown: &'a Shown,
+    pub theirs: &'a [Addr4],
+    pub listed: &'a [Addr4],
+}
+
+/// Hears the HELLO, if it came over these links.
+fn hear_here<L: Table<LinkKey, Link>>(
+    hearing: &Hearing,
+    links: &mut LinkSet<L>,
+    here: bool,
+) -> Result<(), AllocError>
+    requires ready { CanHear hearing.now.moment hearing.now.hold hearing.now.shown.now }
+    ensures elsewhere { OnOk result (here ≡ false → links.new ≡ links.old) }
+    ensures here { OnOk result (here ≡ true → (least : LinkKey) → slice_get hearing.now.shown.now.sending 0 ≡ Some least.addr
+        → HearsOn hearing.now.shown.now least hearing.now.hold hearing.now.moment links.old links.new) }
+    ensures distinct { HasDistinctKeys link_eq links.new }
+{
+    let _count = links.table().len();
+    if here {
+        links.hear(hearing.moment, hearing.hold, hearing.shown)
+    } else {
+        Ok(())
+    }
+}
+
+impl<'a, L: Table<LinkKey, Link>, H: Table<TwoHopKey, TwoHop>> Change<L, H> for Hearing<'a> {
+    ghost is_ready = { λ s. CanHear s.moment s.hold s.shown.now };
+
+    ghost makes = { λ s i old new before after. (least : LinkKey) → slice_get s.shown.now.sending 0 ≡ Some least.addr
+        → HearsAt s.shown.now least s.theirs.now s.listed.now s.hold s.moment (nat_eq i s.iface) old new before after };
+
+    fn change(
+        &self,
+        alloc: Global,
+        iface: usize,
+        links: &mut LinkSet<L>,
+        two_hops: &mut TwoHopSet<H>,
+    ) -> Result<(), AllocError> {
+        let before = link_keys(alloc, links)?;
+        links.end_outside(self.theirs, self.listed);
+        hear_here(self, links, iface == self.iface)?;
+        drop_ended(links, two_hops, &before, self.moment);
+        let _count = two_hops.table().len();
+        Ok(())
+    }
+}
+
+/// Changes all interfaces.
+pub fn change_all<L: Table<LinkKey, Link>, H: Table<TwoHopKey, TwoHop>, C: Change<L, H>>(
+    alloc: Global,
+    change: &C,
+    links: &mut [LinkSet<L>],
+    two_hops: &mut [TwoHopSet<H>],
+) -> Result<(), AllocError>
+    requires ready { C.is_ready change.now }
+    requires length { length links.old ≡ length two_hops.old }
+    ensures links { length links.new ≡ length links.old }
+    ensures two_hops { length two_hops.new ≡ length two_hops.old }
+    ensures each { OnOk result ((i : ℕ) → i < length links.old → C.makes change.now i (base_of links.old i) (base_of links.new i) (base_of two_hops.old i) (base_of two_hops.new i)) }
+{
+    for i in 0..links.len() {
+        change.change(alloc, i, &mut links[i], &mut two_hops[i])?;
+    }
+    Ok(())
+}

@@ -1,0 +1,31 @@
+//! The neighbourhood of a router: its links, neighbours, lost neighbours and 2-hop neighbours over all interfaces (RFC 6130,
+//! and RFC 7181, sections 8, 9 and 15).
+#![tactic(auto)]
+
+mod drops;
+mod expire;
+mod follow;
+mod full;
+mod hearing;
+mod interfaces;
+mod judge;
+mod lists;
+mod mine;
+mod near;
+mod near_addresses;
+mod nhdp;
+mod notes;
+mod receive;
+mod rows;
+mod say;
+mod sender;
+mod sending_link;
+mod shown;
+mod take;
+mod tell;
+mod told;
+mod two_hop_rows;
+
+pub use nhdp::Nhdp;
+pub use receive::receive_fault;
+pub use take::HelloTaken;

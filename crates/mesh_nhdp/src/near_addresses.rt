@@ -1,0 +1,68 @@
+//! Addresses of neighbours.
+ghost use Rattle.std.specs.Prelude.{◌↔◌, Contains, IsTrue, IfOk, OnOk};
+ghost use Rattle.mesh_nhdp.specs.Gathers.{Adds};
+ghost use Rattle.mesh_nhdp.specs.Wanted.{IsWanted, IsWantedAddress};
+
+use crate::lists::meets;
+use mesh_atoms::{Addr4, Neighbour};
+use mesh_expire::Table;
+use std::alloc::{AllocError, Global};
+
+/// The neighbours whose addresses are wanted: all, the symmetric ones, or those that a HELLO with this originator and these
+/// addresses speaks of.
+#[derive(Clone, Copy)]
+pub enum Wanted<'a> {
+    Each,
+    Symmetric,
+    Matching(Addr4, &'a [Addr4]),
+}
+
+/// Whether the neighbour is wanted.
+fn is_wanted(wanted: Wanted, originator: Addr4, neighbour: &Neighbour) -> bool
+    ensures { IsTrue result ↔ IsWanted wanted.entry originator neighbour.now }
+{
+    match wanted {
+        Wanted::Each => true,
+        Wanted::Symmetric => neighbour.symmetric,
+        Wanted::Matching(other, listed) => originator == other
+            || meets(neighbour.addrs.as_slice(), listed),
+    }
+}
+
+/// Adds the neighbour's addresses where it is wanted.
+fn add_wanted(
+    addrs: &mut Vec<Addr4>,
+    wanted: Wanted,
+    originator: Addr4,
+    neighbour: &Neighbour,
+) -> Result<(), AllocError>
+    ensures { OnOk result (Adds addrs.old.items addrs.new.items (λ a. IsWanted wanted.entry originator neighbour.now × Contains neighbour.now.addrs a)) }
+{
+    if is_wanted(wanted, originator, neighbour) {
+        addrs.extend_from_slice(neighbour.addrs.as_slice())?;
+    }
+    Ok(())
+}
+
+/// The addresses of the neighbours that are wanted, an address once for each neighbour that has it.
+pub fn wanted_addresses<T: Table<Addr4, Neighbour>>(
+    alloc: Global,
+    table: &T,
+    wanted: Wanted,
+) -> Result<Vec<Addr4>, AllocError>
+    ensures { IfOk result (λ addrs. (a : Addr4) → Contains addrs.items a ↔ IsWantedAddress (T.content table.now) wanted.entry a) }
+{
+    let mut addrs = Vec::new(alloc);
+    for place in 0..table.len() {
+        match table.at(place) {
+            Some((originator, neighbour, _)) => add_wanted(
+                &mut addrs,
+                wanted,
+                *originator,
+                neighbour,
+            )?,
+            None => return Ok(addrs),
+        }
+    }
+    Ok(addrs)
+}

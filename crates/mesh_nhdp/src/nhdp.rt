@@ -1,0 +1,83 @@
+//! The neighbourhood of a router, and what it is made of.
+ghost use Rattle.std.specs.Prelude.{◌≡◌, ℕ, [], length, replicate, IfOk};
+ghost use Rattle.mesh_atoms.specs.Sound.{SoundNeighbourhood};
+ghost use Rattle.mesh_nhdp.specs.Held.{Held, empty_near};
+
+use mesh_atoms::{Link, LinkKey, RouterSettings, TwoHop, TwoHopKey};
+use mesh_expire::{Bases, Table};
+use mesh_links::LinkSet;
+use mesh_nbrs::{LostSet, NeighbourSet, TwoHopSet};
+use std::alloc::{AllocError, Global};
+use std::marker::Model;
+
+/// The neighbourhood of a router, with its settings. Moments are in ticks of 1/8192 s. After want of memory it may only be
+/// dropped.
+#[derive(Drop)]
+pub struct Nhdp<B: Bases> {
+    pub(crate) settings: RouterSettings,
+    pub(crate) links: Vec<LinkSet<B::Links>>,
+    pub(crate) two_hops: Vec<TwoHopSet<B::TwoHops>>,
+    pub(crate) neighbours: NeighbourSet<B::Neighbours>,
+    pub(crate) losts: LostSet<B::Losts>,
+}
+
+impl<B: Bases> Model for Nhdp<B> {
+    ghost use Rattle.mesh_nhdp.specs.Held.{Held};
+
+    ghost Value = { Held };
+
+    ghost view = { λ n. record { settings = n.settings; near = record { links = n.links.items; two_hops = n.two_hops.items; neighbours = n.neighbours; losts = n.losts } } };
+}
+
+impl<B: Bases> Nhdp<B> {
+    /// The empty neighbourhood of a router with these settings.
+    pub fn new(alloc: Global, settings: &RouterSettings) -> Result<Nhdp<B>, AllocError>
+        ensures settings { IfOk result (λ n. n.settings ≡ settings.now) }
+        ensures empty { IfOk result (λ n. n.near ≡ empty_near (length settings.now.interfaces)) }
+        ensures sound { IfOk result (λ n. (moment : ℕ) → SoundNeighbourhood n.settings moment n.near) }
+    {
+        let count = settings.interfaces.len();
+        Ok(Nhdp {
+            settings: settings.copy()?,
+            links: no_links(alloc, count)?,
+            two_hops: no_two_hops(alloc, count)?,
+            neighbours: NeighbourSet::new(alloc)?,
+            losts: LostSet::new(alloc)?,
+        })
+    }
+
+    /// The settings. Takes no memory.
+    pub fn settings(&self) -> &RouterSettings
+        ensures { result.now ≡ self.now.settings }
+    {
+        &self.settings
+    }
+}
+
+/// No links on so many interfaces.
+fn no_links<T: Table<LinkKey, Link>>(
+    alloc: Global,
+    count: usize,
+) -> Result<Vec<LinkSet<T>>, AllocError>
+    ensures { IfOk result (λ sets. sets.items ≡ replicate count []) }
+{
+    let mut sets = Vec::new(alloc);
+    for _ in 0..count {
+        sets.push(LinkSet::new(alloc)?)?;
+    }
+    Ok(sets)
+}
+
+/// No 2-hop tuples on so many interfaces.
+fn no_two_hops<T: Table<TwoHopKey, TwoHop>>(
+    alloc: Global,
+    count: usize,
+) -> Result<Vec<TwoHopSet<T>>, AllocError>
+    ensures { IfOk result (λ sets. sets.items ≡ replicate count []) }
+{
+    let mut sets = Vec::new(alloc);
+    for _ in 0..count {
+        sets.push(TwoHopSet::new(alloc)?)?;
+    }
+    Ok(sets)
+}

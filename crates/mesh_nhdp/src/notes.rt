@@ -1,0 +1,66 @@
+//! What neighbours are to know of the links of all interfaces.
+ghost use Rattle.std.specs.Prelude.{◌≡◌, ◌↔◌, ℕ, Contains, IfOk, OnOk, Some};
+ghost use Rattle.mesh_atoms.specs.Base.{find, link_eq};
+ghost use Rattle.mesh_atoms.specs.State.{is_symmetric};
+ghost use Rattle.mesh_nhdp.specs.Calls.{note_of, IsNoteIn, TellsLinks};
+ghost use Rattle.mesh_nhdp.specs.Gathers.{Adds};
+
+use mesh_atoms::{Link, LinkKey};
+use mesh_expire::Table;
+use mesh_links::LinkSet;
+use mesh_nbrs::LinkNote;
+use std::alloc::{AllocError, Global};
+
+/// Whether the link is SYMMETRIC at that moment, in ticks of 1/8192 s (RFC 6130, section 7.1).
+pub fn is_symmetric(link: &Link, now: u64) -> bool
+    ensures { result ≡ is_symmetric link.now now }
+{
+    !link.pending && !link.lost && now < link.sym
+}
+
+/// The note of a link.
+fn note_of(key: LinkKey, link: &Link, until: u64, now: u64) -> LinkNote
+    ensures { result ≡ note_of now key (link.now, until) }
+{
+    LinkNote {
+        key,
+        symmetric: is_symmetric(link, now),
+        link_in: link.link_in,
+        link_out: link.link_out,
+        until,
+    }
+}
+
+/// Adds the notes of the links of one interface.
+fn add_notes<T: Table<LinkKey, Link>>(
+    notes: &mut Vec<LinkNote>,
+    table: &T,
+    now: u64,
+) -> Result<(), AllocError>
+    ensures { OnOk result (Adds notes.old.items notes.new.items (IsNoteIn (T.content table.now) now)) }
+{
+    for place in 0..table.len() {
+        match table.at(place) {
+            Some((key, link, until)) => {
+                notes.push(note_of(*key, link, until, now))?;
+            }
+            None => return Ok(()),
+        }
+    }
+    Ok(())
+}
+
+/// The notes of the links of all interfaces.
+pub fn notes_of<T: Table<LinkKey, Link>>(
+    alloc: Global,
+    sets: &[LinkSet<T>],
+    now: u64,
+) -> Result<Vec<LinkNote>, AllocError>
+    ensures { IfOk result (λ notes. TellsLinks sets.now now notes.items) }
+{
+    let mut notes = Vec::new(alloc);
+    for set in sets {
+        add_notes(&mut notes, set.table(), now)?;
+    }
+    Ok(notes)
+}

@@ -1,0 +1,86 @@
+//! The rows of a HELLO.
+ghost use Rattle.std.specs.Prelude.{◌≡◌, ◌↔◌, IsTrue, Contains, IfOk, map};
+ghost use Rattle.mesh_atoms.specs.Base.{Has, HasDistinctKeys, addr_eq, host};
+ghost use Rattle.mesh_nhdp.specs.Shown.{AreApart, IsRowOf, told_addresses};
+
+use crate::shown::{
+    host, is_flooding_relay, is_relay, link_in_shown, link_out_shown, link_with, local_of,
+    near_in_shown, near_out_shown, neighbour_with, other_shown, status_shown,
+};
+use mesh_atoms::{
+    Addr4, HelloRow, Link, LinkKey, Lost, Metrics, Mpr, Neighbour, Relays, RouterSettings, Seq,
+};
+use mesh_expire::Table;
+use std::alloc::{AllocError, Global};
+
+/// Whether the address is lost.
+fn is_lost<T: Table<Addr4, Lost>>(losts: &T, addr: Addr4) -> bool
+    requires { HasDistinctKeys addr_eq (T.content losts.now) }
+    ensures { IsTrue result ↔ ((lost : _) × Has (T.content losts.now) addr lost) }
+{
+    losts.get(&addr).is_some()
+}
+
+/// The row of an address of which something is said.
+fn row_of<L: Table<LinkKey, Link>, N: Table<Addr4, Neighbour>, O: Table<Addr4, Lost>>(
+    settings: &RouterSettings,
+    links: &L,
+    neighbours: &N,
+    losts: &O,
+    relays: &Relays,
+    iface: usize,
+    now: u64,
+    addr: Addr4,
+) -> HelloRow
+    requires apart { AreApart (L.content links.now) (N.content neighbours.now) (O.content losts.now) }
+    requires told { Contains (told_addresses settings.now (L.content links.now) (N.content neighbours.now) (O.content losts.now)) addr }
+    ensures addr { result.addr ≡ host addr }
+    ensures says { IsRowOf settings.now (L.content links.now) (N.content neighbours.now) (O.content losts.now) relays.now iface now result addr }
+{
+    let link = link_with(links, addr);
+    let neighbour = neighbour_with(neighbours, addr);
+    let status = status_shown(link, now);
+    HelloRow {
+        addr: host(addr),
+        local: local_of(settings, iface, addr),
+        link: status,
+        other: other_shown(status, neighbour.is_some(), is_lost(losts, addr)),
+        metrics: Metrics {
+            link_in: link_in_shown(status, link),
+            link_out: link_out_shown(status, link),
+            near_in: near_in_shown(neighbour),
+            near_out: near_out_shown(neighbour),
+        },
+        mpr: Mpr {
+            flooding: is_flooding_relay(&relays.flooding, iface, status, neighbour),
+            routing: is_relay(relays.routing.as_slice(), neighbour),
+        },
+    }
+}
+
+/// The rows of those addresses, in their order. Each takes a walk over the links and over the neighbours.
+pub fn rows_of<L: Table<LinkKey, Link>, N: Table<Addr4, Neighbour>, O: Table<Addr4, Lost>>(
+    alloc: Global,
+    settings: &RouterSettings,
+    links: &L,
+    neighbours: &N,
+    losts: &O,
+    relays: &Relays,
+    iface: usize,
+    now: u64,
+    addrs: &[Addr4],
+) -> Result<Seq<HelloRow>, AllocError>
+    requires apart { AreApart (L.content links.now) (N.content neighbours.now) (O.content losts.now) }
+    requires told { (a : Addr4) → Contains addrs.now a → Contains (told_addresses settings.now (L.content links.now) (N.content neighbours.now) (O.content losts.now)) a }
+    ensures addrs { IfOk result (λ rows. map (λ row. row.addr) rows ≡ map host addrs.now) }
+    ensures says { IfOk result (λ rows. (row : HelloRow) → Contains rows row → (a : Addr4) ×
+        IsRowOf settings.now (L.content links.now) (N.content neighbours.now) (O.content losts.now) relays.now iface now row a) }
+{
+    let mut rows = Seq::new(alloc);
+    for addr in addrs {
+        rows.push(row_of(
+            settings, links, neighbours, losts, relays, iface, now, *addr,
+        ))?;
+    }
+    Ok(rows)
+}

@@ -1,0 +1,119 @@
+//! The HELLO that a router sends.
+ghost use Rattle.std.specs.Prelude.{◌≡◌, ◌<◌, ◌≤◌, length, IfOk, Some};
+ghost use Rattle.std.specs.Option.{option_copied};
+ghost use Rattle.mesh_atoms.specs.Hello.{IsHelloNow, IsRoundedUp};
+ghost use Rattle.mesh_atoms.specs.Settings.{one_hour};
+ghost use Rattle.mesh_atoms.specs.Sound.{SoundNeighbourhood};
+ghost use Rattle.mesh_atoms.specs.State.{State, IsOriginator};
+ghost use Rattle.mesh_links.specs.Links.{SelectorOf};
+ghost use Rattle.mesh_nhdp.specs.Shown.{AreApart, IsSeen};
+ghost use Rattle.mesh_atoms.specs.Base.{base_of};
+
+use crate::nhdp::Nhdp;
+use crate::rows::rows_of;
+use crate::told::told_addresses;
+use mesh_atoms::{
+    Addr4, Hello, Link, LinkKey, Lost, Neighbour, Relays, RouterSettings, time_code_at_least,
+    time_of,
+};
+use mesh_expire::{Bases, Table};
+use std::alloc::{AllocError, Global};
+
+/// The router's originator address.
+fn originator_of(settings: &RouterSettings) -> Option<Addr4>
+    ensures { (o : Addr4) × IsOriginator settings.now o × (result ≡ Some o) }
+{
+    match settings.interfaces.get(0) {
+        Some(face) => face.addrs.get(0).copied(),
+        None => None,
+    }
+}
+
+/// Ticks rounded up to a time code that is sent.
+fn rounded_up(ticks: u64) -> u64
+    requires { ticks ≤ one_hour }
+    ensures { IsRoundedUp ticks result }
+{
+    match time_code_at_least(ticks) {
+        Some(code) => time_of(code),
+        None => 0,
+    }
+}
+
+/// The HELLO of an interface, out of its links, the neighbours and the lost addresses.
+fn hello_of<L: Table<LinkKey, Link>, N: Table<Addr4, Neighbour>, O: Table<Addr4, Lost>>(
+    alloc: Global,
+    settings: &RouterSettings,
+    links: &L,
+    neighbours: &N,
+    losts: &O,
+    relays: &Relays,
+    iface: usize,
+    now: u64,
+) -> Result<Hello, AllocError>
+    requires { AreApart (L.content links.now) (N.content neighbours.now) (O.content losts.now) }
+    ensures { IfOk result (λ hello. (s : State) →
+        IsSeen s settings.now (L.content links.now) (N.content neighbours.now) (O.content losts.now) relays.now iface → IsHelloNow s iface now hello) }
+{
+    let addrs = told_addresses(alloc, settings, links, neighbours, losts)?;
+    let rows = rows_of(
+        alloc,
+        settings,
+        links,
+        neighbours,
+        losts,
+        relays,
+        iface,
+        now,
+        addrs.as_slice(),
+    )?;
+    Ok(Hello {
+        originator: originator_of(settings),
+        validity: rounded_up(settings.times.hold),
+        interval: Some(rounded_up(settings.times.hello)),
+        willing: settings.willing,
+        rows,
+    })
+}
+
+impl<B: Bases> Nhdp<B> {
+    /// The HELLO that interface `iface` sends at `now`, in ticks of 1/8192 s: originator, validity and interval rounded up to
+    /// time codes, willingness, and a row for each address of which something is to be said (RFC 6130, section 11, and
+    /// RFC 7181, section 15.1). `iface` is an interface, and nothing is expired at `now`. Each row takes a walk over the links
+    /// of the interface and over the neighbours, so the cost is at worst quadratic in their addresses; nothing but the list of
+    /// addresses and the rows is copied. Only want of memory refuses.
+    pub fn hello_now(
+        &self,
+        alloc: Global,
+        iface: usize,
+        now: u64,
+        relays: &Relays,
+    ) -> Result<Hello, AllocError>
+        requires iface { iface < length self.now.settings.interfaces }
+        requires sound { SoundNeighbourhood self.now.settings now self.now.near }
+        ensures ok { IfOk result (λ hello. (s : State) → s.settings ≡ self.now.settings →
+            s.bases.neighbourhood ≡ self.now.near → s.relays ≡ relays.now → IsHelloNow s iface now hello) }
+    {
+        hello_of(
+            alloc,
+            &self.settings,
+            self.links[iface].table(),
+            self.neighbours.table(),
+            self.losts.table(),
+            relays,
+            iface,
+            now,
+        )
+    }
+
+    /// The selector flag of the SYMMETRIC link of interface `iface` that has the sender's address; `None` where there is no such
+    /// link, or no such interface (RFC 7181, section 8.1). Takes no memory.
+    pub fn symmetric_of(&self, iface: usize, sender: Addr4, now: u64) -> Option<bool>
+        ensures { SelectorOf (base_of self.now.near.links iface) now sender result }
+    {
+        match self.links.as_slice().get(iface) {
+            Some(links) => links.symmetric_of(sender, now),
+            None => None,
+        }
+    }
+}

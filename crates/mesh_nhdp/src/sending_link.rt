@@ -1,0 +1,81 @@
+//! The 2-hop tuples of the link that a HELLO came over.
+ghost use Rattle.std.specs.Prelude.{◌≡◌, ◌↔◌, ℕ, Contains, Some, IsTrue, true, false, OnOk};
+ghost use Rattle.mesh_atoms.specs.Base.{find, link_eq, HasDistinctKeys, two_hop_eq};
+ghost use Rattle.mesh_atoms.specs.State.{HasAddress};
+ghost use Rattle.mesh_atoms.specs.HelloTold.{Told};
+ghost use Rattle.mesh_atoms.specs.declared.tuples.Link.{Link};
+ghost use Rattle.mesh_atoms.specs.declared.settings.RouterSettings.{RouterSettings};
+ghost use Rattle.mesh_nbrs.specs.TwoHops.{DropsLink};
+ghost use Rattle.mesh_nhdp.specs.Calls.{TellsTwoHops};
+ghost use Rattle.mesh_nhdp.specs.Hearings.{UpdatesTwoHops};
+
+use crate::two_hop_rows::tell_two_hops;
+use mesh_atoms::{Addr4, Hello, Link, LinkKey, TwoHop, TwoHopKey};
+use mesh_expire::Table;
+use mesh_nbrs::TwoHopSet;
+use std::alloc::AllocError;
+
+/// Whether the link with that key has exactly these addresses.
+pub fn stands<L: Table<LinkKey, Link>>(table: &L, key: LinkKey, addrs: &[Addr4]) -> bool
+    ensures { IsTrue result ↔ ((e : Link × ℕ) × (find link_eq (L.content table.now) key ≡ Some e) × (e.0.addrs ≡ addrs.now)) }
+{
+    match table.get(&key) {
+        Some((link, _)) => link.addrs.as_slice() == addrs,
+        None => false,
+    }
+}
+
+/// Takes out the tuples of the link, where it is a new one.
+pub fn start_two_hops<H: Table<TwoHopKey, TwoHop>>(
+    two_hops: &mut TwoHopSet<H>,
+    link: LinkKey,
+    stood: bool,
+)
+    ensures stood { stood ≡ true → two_hops.new ≡ two_hops.old }
+    ensures anew { stood ≡ false → DropsLink link two_hops.old two_hops.new }
+{
+    if !stood {
+        two_hops.drop_link(link);
+    }
+}
+
+/// Makes of the tuples of the link what the rows of the HELLO tell, where it is SYMMETRIC.
+pub fn tell_if_symmetric<H: Table<TwoHopKey, TwoHop>>(
+    two_hops: &mut TwoHopSet<H>,
+    link: LinkKey,
+    until: u64,
+    hello: &Hello,
+    own: &[Addr4],
+    listed: &[Addr4],
+    symmetric: bool,
+) -> Result<(), AllocError>
+    ensures rows { OnOk result (symmetric ≡ true → (settings : RouterSettings) (told : Told) → ((a : Addr4) → Contains own.now a ↔ HasAddress settings a)
+        → told.listed ≡ listed.now → TellsTwoHops settings told hello.now link until two_hops.old two_hops.new) }
+    ensures no_rows { OnOk result (symmetric ≡ false → two_hops.new ≡ two_hops.old) }
+{
+    if symmetric {
+        tell_two_hops(two_hops, link, until, hello, own, listed)
+    } else {
+        Ok(())
+    }
+}
+
+/// Brings the tuples of the link that the HELLO came over up to date: where it is a new one they go, and where it is SYMMETRIC
+/// they are made as the rows tell.
+pub fn update_two_hops<H: Table<TwoHopKey, TwoHop>>(
+    two_hops: &mut TwoHopSet<H>,
+    link: LinkKey,
+    until: u64,
+    hello: &Hello,
+    own: &[Addr4],
+    listed: &[Addr4],
+    stood: bool,
+    symmetric: bool,
+) -> Result<(), AllocError>
+    ensures { OnOk result (UpdatesTwoHops stood symmetric own.now listed.now hello.now link until two_hops.old two_hops.new) }
+{
+    start_two_hops(two_hops, link, stood);
+    tell_if_symmetric(two_hops, link, until, hello, own, listed, symmetric)?;
+    let _count = two_hops.table().len();
+    Ok(())
+}

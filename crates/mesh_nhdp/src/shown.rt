@@ -1,0 +1,201 @@
+//! What a HELLO shows of an address.
+ghost use Rattle.std.specs.Prelude.{◌≡◌, ◌≢◌, ◌↔◌, ◌<◌, ℕ, List, IsTrue, IsSome, Contains, Option, Some, None, length, is_some, IfSome, IfNone};
+ghost use Rattle.mesh_atoms.specs.Base.{host, addr_eq, find};
+ghost use Rattle.mesh_atoms.specs.Hello.{IsValue, IsHelloRow, local_part};
+ghost use Rattle.mesh_atoms.specs.State.{State, HasAddressOn, state_of};
+ghost use Rattle.mesh_expire.specs.Table.{entry_of};
+ghost use Rattle.mesh_nhdp.specs.Shown.{IsLinkWith, IsNeighbourWith, AreApart, IsSeen, status_by, status_shown, other_shown, link_in_shown, link_out_shown, near_in_shown, near_out_shown, IsRelayOf, IsFloodingRelay, IsLocalOn, told_addresses};
+
+use crate::lists::has;
+use mesh_atoms::{
+    Addr4, HelloRow, Link, LinkKey, LinkStatus, LocalIf, Lost, Metric, Metrics, Mpr, Neighbour,
+    NetAddr, OtherStatus, Relays, RouterSettings, Seq,
+};
+use mesh_expire::Table;
+
+/// The host of an address.
+pub fn host(addr: Addr4) -> NetAddr
+    ensures { result ≡ host addr }
+{
+    NetAddr { addr, prefix: 32 }
+}
+
+/// A link that has the address.
+pub fn link_with<T: Table<LinkKey, Link>>(links: &T, addr: Addr4) -> Option<(&LinkKey, &Link, u64)>
+    ensures { IsValue (IsLinkWith (T.content links.now) addr) (entry_of result) }
+{
+    for place in 0..links.len() {
+        if let Some((key, link, until)) = links.at(place) {
+            if has(link.addrs.as_slice(), addr) {
+                return Some((key, link, until));
+            }
+        }
+    }
+    None
+}
+
+/// A symmetric neighbour that has the address.
+pub fn neighbour_with<T: Table<Addr4, Neighbour>>(
+    neighbours: &T,
+    addr: Addr4,
+) -> Option<(&Addr4, &Neighbour, u64)>
+    ensures { IsValue (IsNeighbourWith (T.content neighbours.now) addr) (entry_of result) }
+{
+    for place in 0..neighbours.len() {
+        if let Some((originator, neighbour, until)) = neighbours.at(place) {
+            if neighbour.symmetric && has(neighbour.addrs.as_slice(), addr) {
+                return Some((originator, neighbour, until));
+            }
+        }
+    }
+    None
+}
+
+/// Whether the interface has the address.
+fn is_on(settings: &RouterSettings, iface: usize, addr: Addr4) -> bool
+    ensures { IsTrue result ↔ HasAddressOn settings.now iface addr }
+{
+    match settings.interfaces.get(iface) {
+        Some(face) => has(face.addrs.as_slice(), addr),
+        None => false,
+    }
+}
+
+/// Whether another interface has the address.
+fn is_on_other(settings: &RouterSettings, iface: usize, addr: Addr4) -> bool
+    ensures { IsTrue result ↔ IsLocalOn settings.now iface addr LocalIf.Other }
+{
+    for place in 0..settings.interfaces.len() {
+        if place != iface && is_on(settings, place, addr) {
+            return true;
+        }
+    }
+    false
+}
+
+/// LOCAL_IF of an address.
+pub fn local_of(settings: &RouterSettings, iface: usize, addr: Addr4) -> Option<LocalIf>
+    ensures { IsValue (IsLocalOn settings.now iface addr) result }
+{
+    if is_on(settings, iface, addr) {
+        Some(LocalIf::This)
+    } else if is_on_other(settings, iface, addr) {
+        Some(LocalIf::Other)
+    } else {
+        None
+    }
+}
+
+/// LINK_STATUS of a link.
+fn status_of(link: &Link, now: u64) -> Option<LinkStatus>
+    ensures { result ≡ status_by (state_of link.now now) }
+{
+    if link.pending {
+        None
+    } else if link.lost {
+        Some(LinkStatus::Lost)
+    } else if now < link.sym {
+        Some(LinkStatus::Symmetric)
+    } else if now < link.heard {
+        Some(LinkStatus::Heard)
+    } else {
+        Some(LinkStatus::Lost)
+    }
+}
+
+/// LINK_STATUS of an address, by the link that has it.
+pub fn status_shown(link: Option<(&LinkKey, &Link, u64)>, now: u64) -> Option<LinkStatus>
+    ensures { result ≡ status_shown (entry_of link.entry) now }
+{
+    match link {
+        Some((_, link, _)) => status_of(link, now),
+        None => None,
+    }
+}
+
+/// OTHER_NEIGHB of an address.
+pub fn other_shown(status: Option<LinkStatus>, neighbour: bool, lost: bool) -> Option<OtherStatus>
+    ensures { result ≡ other_shown status neighbour lost }
+{
+    if lost {
+        return Some(OtherStatus::Lost);
+    }
+    if !neighbour {
+        return None;
+    }
+    match status {
+        Some(LinkStatus::Symmetric) => None,
+        _ => Some(OtherStatus::Symmetric),
+    }
+}
+
+/// The incoming metric of the link that has an address.
+pub fn link_in_shown(
+    status: Option<LinkStatus>,
+    link: Option<(&LinkKey, &Link, u64)>,
+) -> Option<Metric>
+    ensures { result ≡ link_in_shown status (entry_of link.entry) }
+{
+    match (status, link) {
+        (Some(LinkStatus::Symmetric | LinkStatus::Heard), Some((_, link, _))) => Some(link.link_in),
+        _ => None,
+    }
+}
+
+/// The outgoing metric of the link that has an address.
+pub fn link_out_shown(
+    status: Option<LinkStatus>,
+    link: Option<(&LinkKey, &Link, u64)>,
+) -> Option<Metric>
+    ensures { result ≡ link_out_shown status (entry_of link.entry) }
+{
+    match (status, link) {
+        (Some(LinkStatus::Symmetric), Some((_, link, _))) => link.link_out,
+        _ => None,
+    }
+}
+
+/// The incoming metric of the neighbour that has an address.
+pub fn near_in_shown(neighbour: Option<(&Addr4, &Neighbour, u64)>) -> Option<Metric>
+    ensures { result ≡ near_in_shown (entry_of neighbour.entry) }
+{
+    match neighbour {
+        Some((_, neighbour, _)) => neighbour.metric_in,
+        None => None,
+    }
+}
+
+/// The outgoing metric of the neighbour that has an address.
+pub fn near_out_shown(neighbour: Option<(&Addr4, &Neighbour, u64)>) -> Option<Metric>
+    ensures { result ≡ near_out_shown (entry_of neighbour.entry) }
+{
+    match neighbour {
+        Some((_, neighbour, _)) => neighbour.metric_out,
+        None => None,
+    }
+}
+
+/// Whether the neighbour that has an address is among the relays.
+pub fn is_relay(relays: &[Addr4], neighbour: Option<(&Addr4, &Neighbour, u64)>) -> bool
+    ensures { IsTrue result ↔ IsRelayOf relays.now (entry_of neighbour.entry) }
+{
+    match neighbour {
+        Some((originator, _, _)) => has(relays, *originator),
+        None => false,
+    }
+}
+
+/// Whether the neighbour that has an address is a flooding relay of the interface, and its link SYMMETRIC.
+pub fn is_flooding_relay(
+    flooding: &Seq<Seq<Addr4>>,
+    iface: usize,
+    status: Option<LinkStatus>,
+    neighbour: Option<(&Addr4, &Neighbour, u64)>,
+) -> bool
+    ensures { IsTrue result ↔ IsFloodingRelay flooding.now iface status (entry_of neighbour.entry) }
+{
+    match (status, flooding.get(iface)) {
+        (Some(LinkStatus::Symmetric), Some(relays)) => is_relay(relays.as_slice(), neighbour),
+        _ => false,
+    }
+}

@@ -1,0 +1,124 @@
+//! The taking of a HELLO.
+ghost use Rattle.std.specs.Prelude.{◌≡◌, ◌<◌, ◌^◌, ◌↔◌, ℕ, Contains, None, length, IfOk, OnOk};
+ghost use Rattle.mesh_atoms.specs.HelloTold.{Tells};
+ghost use Rattle.mesh_atoms.specs.State.{HasAddress};
+ghost use Rattle.mesh_atoms.specs.AfterHello.{AfterHello};
+ghost use Rattle.mesh_atoms.specs.TakesHello.{HelloAnswer, IsFault, TakesHello};
+ghost use Rattle.mesh_atoms.specs.Sound.{SoundNeighbourhood};
+ghost use Rattle.mesh_nhdp.specs.Judged.{IsAnswer};
+ghost use Rattle.mesh_nhdp.specs.Telling.{told_of};
+
+use crate::follow::follow_links;
+use crate::hearing::hear_interfaces;
+use crate::interfaces::Hearing;
+use crate::judge::Judgement;
+use crate::near_addresses::{Wanted, wanted_addresses};
+use crate::nhdp::Nhdp;
+use crate::tell::Telling;
+use mesh_atoms::{Addr4, Base, Hello};
+use mesh_expire::Bases;
+use std::alloc::AllocError;
+
+/// What became of a HELLO: it was taken, it broke the rule of that number (RFC 6130, section 12.1), or a base would have been
+/// full.
+#[derive(Clone, Copy, Debug, PartialEq, Eq)]
+pub enum HelloTaken {
+    Done,
+    Broken(u8),
+    Full(Base),
+}
+
+impl<B: Bases> Nhdp<B> {
+    /// Takes in a HELLO from that sender on an interface, at a moment below 2^62 at which nothing is expired; its validity is
+    /// above 0 and below 2^62 (RFC 6130, section 12, and RFC 7181, section 15.3). One that is refused or too much changes
+    /// nothing. After want of memory the neighbourhood may only be dropped. Quadratic at worst in links, rows and tuples.
+    pub fn take_hello(
+        &mut self,
+        now: u64,
+        iface: usize,
+        sender: Addr4,
+        hello: &Hello,
+    ) -> Result<HelloTaken, AllocError>
+        requires now { now < 2 ^ 62 }
+        requires iface { iface < length self.old.settings.interfaces }
+        requires lasts { 0 < hello.now.validity }
+        requires validity { hello.now.validity < 2 ^ 62 }
+        requires sound { SoundNeighbourhood self.old.settings now self.old.near }
+        ensures ok { IfOk result (λ taken. (answer : HelloAnswer) × IsAnswer taken answer × TakesHello self.old.settings now iface sender hello.now self.old.near self.new.near answer) }
+        ensures sound { OnOk result (SoundNeighbourhood self.new.settings now self.new.near) }
+        ensures settings { self.new.settings ≡ self.old.settings }
+    {
+        match self.judge(now, iface, sender, hello)? {
+            Judgement::Breaks(number) => Ok(HelloTaken::Broken(number)),
+            Judgement::Overfills(base) => Ok(HelloTaken::Full(base)),
+            Judgement::Fits(own, telling) => {
+                self.hear(now, iface, hello, own.as_slice(), &telling)?;
+                Ok(HelloTaken::Done)
+            }
+        }
+    }
+
+    /// Takes in a HELLO that isn't refused and isn't too much; `own` has the router's addresses. After want of memory the
+    /// neighbourhood may only be dropped.
+    fn hear(
+        &mut self,
+        now: u64,
+        iface: usize,
+        hello: &Hello,
+        own: &[Addr4],
+        telling: &Telling,
+    ) -> Result<(), AllocError>
+        requires now { now < 2 ^ 62 }
+        requires iface { iface < length self.old.settings.interfaces }
+        requires lasts { 0 < hello.now.validity }
+        requires validity { hello.now.validity < 2 ^ 62 }
+        requires own { (a : Addr4) → Contains own.now a ↔ HasAddress self.old.settings a }
+        requires told { (sender : Addr4) × Tells self.old.settings iface sender hello.now (told_of telling.now) × IsFault self.old.settings sender hello.now None }
+        requires sound { SoundNeighbourhood self.old.settings now self.old.near }
+        ensures after { OnOk result (AfterHello self.old.settings now iface (told_of telling.now) hello.now self.old.near self.new.near) }
+        ensures settings { self.new.settings ≡ self.old.settings }
+    {
+        let alloc = self.settings.interfaces.allocator();
+        let until = now + self.settings.times.neighbour_hold;
+        let listed = telling.listed.as_slice();
+        let before = wanted_addresses(alloc, self.neighbours.table(), Wanted::Symmetric)?;
+        let theirs = wanted_addresses(
+            alloc,
+            self.neighbours.table(),
+            Wanted::Matching(telling.originator, listed),
+        )?;
+        let hearing = Hearing {
+            moment: now,
+            hold: self.settings.times.link_hold,
+            iface,
+            shown: &telling.shown,
+            theirs: &theirs,
+            listed,
+        };
+        hear_interfaces(
+            alloc,
+            &hearing,
+            telling.least,
+            hello,
+            own,
+            &mut self.links,
+            &mut self.two_hops,
+        )?;
+        self.neighbours.replace(
+            telling.originator,
+            listed,
+            telling.willing,
+            telling.routing,
+            now,
+        )?;
+        follow_links(
+            alloc,
+            &self.links,
+            now,
+            &before,
+            until,
+            &mut self.neighbours,
+            &mut self.losts,
+        )
+    }
+}

@@ -1,0 +1,141 @@
+//! What the rows of a HELLO tell of the sender's neighbours.
+ghost use Rattle.std.specs.Prelude.{◌≡◌, ◌↔◌, Contains, IsTrue, IfOk, OnOk};
+ghost use Rattle.mesh_atoms.specs.Base.{SetsOnly, two_hop_eq};
+ghost use Rattle.mesh_atoms.specs.State.{HasAddress};
+ghost use Rattle.mesh_atoms.specs.HelloTold.{Told, says_symmetric, or_else};
+ghost use Rattle.mesh_atoms.specs.AfterHello.{row_makes};
+ghost use Rattle.mesh_atoms.specs.TakesHello.{AreTwoHopRows};
+ghost use Rattle.mesh_atoms.specs.declared.settings.RouterSettings.{RouterSettings};
+ghost use Rattle.mesh_nhdp.specs.Calls.{TellsTwoHops};
+ghost use Rattle.mesh_nhdp.specs.Gathers.{Adds};
+ghost use Rattle.mesh_nhdp.specs.Rows.{LooksOn, RowTells, TellsSymmetric};
+
+use crate::lists::{ascending, has};
+use mesh_atoms::{
+    Addr4, Hello, HelloRow, LinkKey, LinkStatus, Metric, OtherStatus, TwoHop, TwoHopKey,
+};
+use mesh_expire::Table;
+use mesh_nbrs::TwoHopSet;
+use std::alloc::{AllocError, Global};
+
+/// Whether the row tells of a neighbour of the sender (RFC 6130, section 12.6).
+fn is_looked_at(row: &HelloRow, own: &[Addr4], listed: &[Addr4]) -> bool
+    ensures { IsTrue result ↔ LooksOn own.now listed.now row.now }
+{
+    row.addr.prefix == 32
+        && (row.link.is_some() || row.other.is_some())
+        && !has(own, row.addr.addr)
+        && !has(listed, row.addr.addr)
+}
+
+/// Whether the row says that it is a SYMMETRIC neighbour.
+fn says_symmetric(row: &HelloRow) -> bool
+    ensures { result ≡ says_symmetric row.now.link row.now.other }
+{
+    match row.link {
+        Some(LinkStatus::Symmetric) => true,
+        _ => match row.other {
+            Some(OtherStatus::Symmetric) => true,
+            _ => false,
+        },
+    }
+}
+
+/// The neighbour metric where there is one, else the link metric.
+fn or_else(near: Option<Metric>, link: Option<Metric>) -> Option<Metric>
+    ensures { result ≡ or_else near link }
+{
+    match near {
+        Some(metric) => Some(metric),
+        None => link,
+    }
+}
+
+/// Makes of the tuple of its address what the row tells.
+fn tell_row<H: Table<TwoHopKey, TwoHop>>(
+    two_hops: &mut TwoHopSet<H>,
+    link: LinkKey,
+    until: u64,
+    row: &HelloRow,
+) -> Result<(), AllocError>
+    ensures { OnOk result (SetsOnly two_hop_eq two_hops.old two_hops.new (record { link = link; addr = row.now.addr.addr }) (row_makes until row.now)) }
+{
+    if says_symmetric(row) {
+        let metric_in = or_else(row.metrics.near_in, row.metrics.link_in);
+        let metric_out = or_else(row.metrics.near_out, row.metrics.link_out);
+        two_hops.renew(link, row.addr.addr, metric_in, metric_out, until)
+    } else {
+        two_hops.drop_row(link, row.addr.addr);
+        Ok(())
+    }
+}
+
+/// The same, where the row tells of a neighbour of the sender.
+fn tell_if_looked_at<H: Table<TwoHopKey, TwoHop>>(
+    two_hops: &mut TwoHopSet<H>,
+    link: LinkKey,
+    until: u64,
+    row: &HelloRow,
+    own: &[Addr4],
+    listed: &[Addr4],
+) -> Result<(), AllocError>
+    ensures { OnOk result (RowTells own.now listed.now link until row.now two_hops.old two_hops.new) }
+{
+    if is_looked_at(row, own, listed) {
+        tell_row(two_hops, link, until, row)
+    } else {
+        Ok(())
+    }
+}
+
+/// Makes of the 2-hop tuples of a link what the rows of the HELLO tell (RFC 6130, section 12.6, and RFC 7181, section 15.3).
+pub fn tell_two_hops<H: Table<TwoHopKey, TwoHop>>(
+    two_hops: &mut TwoHopSet<H>,
+    link: LinkKey,
+    until: u64,
+    hello: &Hello,
+    own: &[Addr4],
+    listed: &[Addr4],
+) -> Result<(), AllocError>
+    ensures { OnOk result ((settings : RouterSettings) (told : Told) → ((a : Addr4) → Contains own.now a ↔ HasAddress settings a) → told.listed ≡ listed.now
+        → TellsTwoHops settings told hello.now link until two_hops.old two_hops.new) }
+{
+    for row in hello.rows.as_slice() {
+        tell_if_looked_at(two_hops, link, until, row, own, listed)?;
+    }
+    Ok(())
+}
+
+/// Adds the row's address, where the row tells of a SYMMETRIC neighbour of the sender.
+fn add_symmetric(
+    addrs: &mut Vec<Addr4>,
+    row: &HelloRow,
+    own: &[Addr4],
+    listed: &[Addr4],
+) -> Result<(), AllocError>
+    ensures { OnOk result (Adds addrs.old.items addrs.new.items (TellsSymmetric own.now listed.now row.now)) }
+{
+    if is_looked_at(row, own, listed) && says_symmetric(row) {
+        addrs.push(row.addr.addr)?;
+    }
+    Ok(())
+}
+
+/// How many addresses the HELLO tells as SYMMETRIC neighbours of the sender.
+pub fn count_symmetric(
+    alloc: Global,
+    hello: &Hello,
+    own: &[Addr4],
+    listed: &[Addr4],
+) -> Result<usize, AllocError>
+    ensures { IfOk result (λ count. (settings : RouterSettings) (told : Told) → ((a : Addr4) → Contains own.now a ↔ HasAddress settings a) → told.listed ≡ listed.now
+        → AreTwoHopRows settings told hello.now count) }
+{
+    let mut addrs = Vec::new(alloc);
+    for row in hello.rows.as_slice() {
+        add_symmetric(&mut addrs, row, own, listed)?;
+    }
+    let told = ascending(addrs);
+    let count = told.len();
+    Ok(count)
+}
