@@ -15,7 +15,7 @@ use Rattle.mesh_wire.proofs.Collecting.{of_one, one_of}
 
 -- ---- places of lists
 
-get_drop : {X : Type 0} (n : ℕ) (xs : List X) (i : ℕ) → slice_get (drop n xs) i ≡ slice_get xs (n + i)
+pub get_drop : {X : Type 0} (n : ℕ) (xs : List X) (i : ℕ) → slice_get (drop n xs) i ≡ slice_get xs (n + i)
 get_drop zero xs i = let e : i ≡ zero + i = omega arith in ap (slice_get xs) e
 get_drop (suc n) [] i = none i (suc n + i)
   where
@@ -23,13 +23,13 @@ get_drop (suc n) [] i = none i (suc n + i)
     none i j = refl
 get_drop (suc n) (x ∷ xs) i = let e : suc n + i ≡ suc (n + i) = omega arith in rw e (get_drop n xs i)
 
-get_take : {X : Type 0} (n : ℕ) (xs : List X) (i : ℕ) → i < n → slice_get (take n xs) i ≡ slice_get xs i
+pub get_take : {X : Type 0} (n : ℕ) (xs : List X) (i : ℕ) → i < n → slice_get (take n xs) i ≡ slice_get xs i
 get_take zero xs i lt = absurd (omega arith)
 get_take (suc n) [] i lt = refl
 get_take (suc n) (x ∷ xs) zero lt = refl
 get_take (suc n) (x ∷ xs) (suc i) lt = get_take n xs i (omega arith)
 
-taken : {X : Type 0} (n : ℕ) (xs : List X) (i : ℕ) (x : X) → slice_get (take n xs) i ≡ Some x → i < n
+pub taken : {X : Type 0} (n : ℕ) (xs : List X) (i : ℕ) (x : X) → slice_get (take n xs) i ≡ Some x → i < n
 taken zero xs i x e = cc
 taken (suc n) [] i x e = cc
 taken (suc n) (y ∷ ys) zero x e = omega arith

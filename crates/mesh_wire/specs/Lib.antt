@@ -1,5 +1,6 @@
 pub mod Answers
 pub mod Collects
+pub mod Drafts
 pub mod Entries
 pub mod Examples
 pub mod FirstNet
@@ -9,13 +10,17 @@ pub mod HelloRows
 pub mod HelloRules
 pub mod Kinds
 pub mod Laws
+pub mod Lines
 pub mod Metrics
 pub mod Parts
+pub mod Rehop
 pub mod Rows
 pub mod Rules
+pub mod Runs
 pub mod Tc
 pub mod TcHeading
 pub mod TcRules
 pub mod Times
 pub mod Told
 pub mod Values
+pub mod Writes

@@ -4,15 +4,24 @@
 mod collect;
 mod fault;
 mod hello;
+mod hop;
 mod laws;
+mod lay;
+mod lines;
 mod parts;
 mod rules;
+mod runs;
 mod tc;
 #[cfg(test)]
 mod tests;
 mod times;
+mod write;
+#[cfg(test)]
+mod write_tests;
 
 pub use fault::WireFault;
 pub use hello::hello_of;
+pub use hop::rehop;
 pub use laws::{one_reading, worked_readings};
 pub use tc::tc_of;
+pub use write::{write_hello, write_tc};

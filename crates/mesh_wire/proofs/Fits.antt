@@ -1,0 +1,244 @@
+-- Messages of at most 1,100 lines can be encoded, and fit a datagram.
+use Rattle.std.proofs.Common.{◌≡◌, ℕ, ◌+◌, ◌*◌, ◌<◌, ◌≤◌, List, [], ◌∷◌, ◌++◌, length, take, drop, map, refl, sym, ap, subst, ◌∙◌, arith, lit≤, lit<, length-append, length-take, length-drop}
+use Rattle.std.specs.Prelude.{slice_range, Contains, All, Option, Some, None, Bool, true, false}
+use Rattle.std.specs.Option.{option_map}
+use Rattle.std.specs.List.{flat_map, AllByRecursion}
+use Rattle.std.proofs.lemmas.List.{length-map}
+use Rattle.std.proofs.lemmas.List.Elements.{All-from_recursion, Contains-append_left, Contains-append_right}
+use Rattle.mesh_atoms.specs.declared.addr.Addr4.{Addr4}
+use Rattle.mesh_addr.specs.declared.records.RawAddr.{RawAddr}
+use Rattle.mesh_addr.specs.Grammar.{prefixes, SpellsMids, SpellsBlock, AreAtMost, AreRaw}
+use Rattle.mesh_addr.specs.Least.{IsLeast}
+use Rattle.mesh_packet.specs.Fields.{BlockFields, MessageFields}
+use Rattle.mesh_packet.specs.Least as packets
+use Rattle.mesh_packet.specs.Least.{IsOriginator, IsEncodableBlock, IsEncodableMessage, least_octet, least_number, least_originator, message_flags, LeastPair, LeastBody, LeastMessage, LeastForm}
+use Rattle.mesh_tlv.specs.Items.{SpellsItems}
+use Rattle.mesh_tlv.specs.Least as tlvs
+use Rattle.mesh_tlv.specs.Least.{IsFit, octet_if, least_short, least_length, least_value, least_addr_tlv, least_tlv, least_block}
+use Rattle.mesh_wire.specs.declared.lines.Line.{Line}
+use Rattle.mesh_wire.specs.Drafts.{whole, saying, heading_of, FitsAlone}
+use Rattle.mesh_wire.specs.Lines.{columns}
+use Rattle.mesh_wire.specs.Runs.{raw_of, IsBlock, AreBlocks}
+use Rattle.mesh_wire.proofs.Ascending.{at_head, in_tail}
+use Rattle.mesh_wire.proofs.Laid.{runs_of_all, all_short, parts_in}
+use Rattle.mesh_wire.proofs.RunLaws.{head_long, length_short}
+
+-- ---- what can be encoded
+
+all_of : {X : Type 0} (P : X → Type 0) (xs : List X) → ((x : X) → Contains xs x → P x) → All P xs
+all_of P xs each = All-from_recursion P xs (go xs each)
+  where
+    go : (ys : List _) → ((x : _) → Contains ys x → P x) → AllByRecursion P ys
+    go [] each = tt
+    go (y ∷ ys) each = (each y (at_head y ys), go ys (λ x has. each x (in_tail y ys x has)))
+
+abbrev raws : List Line → List RawAddr
+raws lines = map (λ (l : Line). raw_of l.net) lines
+
+raws_raw : (lines : List Line) → AreRaw 4 (raws lines)
+raws_raw [] = tt
+raws_raw (l ∷ lines) = (refl, l.net.within, raws_raw lines)
+
+raws_long : (lines : List Line) → length (raws lines) ≡ length lines
+raws_long lines = length-map lines (λ (l : Line). raw_of l.net)
+
+block_fits : (front : List Line) (b : BlockFields) → 0 < length front → IsBlock front b → IsEncodableBlock 4 b
+block_fits front b some h =
+    let long : length b.addrs ≡ length front = ap length h.addrs ∙ raws_long front in record {
+      width_is = h.width;
+      addrs = record {
+        some = omega (arith, long);
+        counted = omega (arith, long, h.few);
+        wide = lit< tt;
+        narrow = lit≤ tt;
+        raw = subst (AreRaw 4) (sym h.addrs) (raws_raw front);
+      };
+      tlvs = all_of (IsFit (length b.addrs)) b.tlvs (λ tlv has. subst (λ (n : ℕ). IsFit n tlv) (sym long) (runs_of_all columns front b.tlvs h.tlvs tlv has).1.fit);
+    }
+
+blocks_fit : (lines : List Line) (blocks : List BlockFields) → AreBlocks lines blocks → AllByRecursion (IsEncodableBlock 4) blocks
+blocks_fit lines [] h = tt
+blocks_fit lines (b ∷ blocks) (front, rest, whole, some, h, k) = (block_fits front b some h, blocks_fit rest blocks k)
+
+originator_fits : (o : Option Addr4) → IsOriginator 4 (option_map whole o)
+originator_fits None = tt
+originator_fits (Some a) = (refl, refl)
+
+pub message_fits : (m : MessageFields) (lines : List Line) (o : Option Addr4) → m.width ≡ 4 → m.originator ≡ option_map whole o → AreBlocks lines m.blocks → IsEncodableMessage m
+message_fits m lines o width origin are = record {
+  wide = omega (arith, width);
+  narrow = omega (arith, width);
+  originator = subst (λ (w : ℕ). IsOriginator w m.originator) (sym width) (subst (IsOriginator 4) (sym origin) (originator_fits o));
+  blocks = subst (λ (w : ℕ). All (IsEncodableBlock w) m.blocks) (sym width) (All-from_recursion (IsEncodableBlock 4) m.blocks (blocks_fit lines m.blocks are));
+}
+
+-- ---- how long an address block is
+
+-- four octets of each
+mids : List Line → List ℕ
+mids [] = []
+mids (l ∷ lines) = take 4 (raw_of l.net).octets ++ mids lines
+
+mids_spelled : (lines : List Line) → SpellsMids [] [] 4 (raws lines) (mids lines)
+unfolding mids
+mids_spelled [] = refl
+mids_spelled (l ∷ lines) = (take 4 (raw_of l.net).octets, mids lines, refl, refl, mids_spelled lines, refl)
+
+mids_long : (lines : List Line) → length (mids lines) ≡ 4 * length lines
+unfolding mids
+mids_long [] = refl
+mids_long (l ∷ lines) = omega (arith, mids_long lines)
+
+prefixes_most : (lines : List Line) → AreAtMost 32 (prefixes (raws lines))
+prefixes_most [] = tt
+prefixes_most (l ∷ lines) = (l.net.within, prefixes_most lines)
+
+-- a spelling without a head or a tail, with a prefix length for each address
+plain : List Line → List ℕ
+plain lines = length (raws lines) ∷ (8 ∷ (mids lines ++ prefixes (raws lines)))
+
+plain_spelled : (lines : List Line) → 0 < length lines → SpellsBlock 4 (raws lines) (plain lines)
+unfolding plain
+plain_spelled lines some = record {
+  flags = 8;
+  head = [];
+  tail = [];
+  head_text = [];
+  tail_text = [];
+  mids_text = mids lines;
+  prefixes_text = prefixes (raws lines);
+  some = omega (arith, raws_long lines);
+  fits = lit≤ tt;
+  head_is = (refl, refl);
+  tail_is = (refl, refl);
+  mids_is = mids_spelled lines;
+  prefixes_is = (prefixes_most lines, refl);
+  whole = refl;
+}
+
+addrs_short : (lines : List Line) (text : List ℕ) → 0 < length lines → IsLeast 4 (raws lines) text → length text ≤ 2 + 5 * length lines
+unfolding plain
+addrs_short lines text some h =
+    omega (arith, h.least (plain lines) (plain_spelled lines some), length-append (mids lines) (prefixes (raws lines)), mids_long lines, raws_long lines, length-map (raws lines) (λ (a : RawAddr). a.prefix))
+
+-- ---- how long blocks are
+
+-- a line has at most seven parts
+abbrev pub HasFewParts : Line → Type 0
+HasFewParts line = parts_in columns (line ∷ []) ≤ 7
+
+parts_few : (lines : List Line) → ((line : Line) → Contains lines line → HasFewParts line) → parts_in columns lines ≤ 7 * length lines
+parts_few [] few = omega arith
+parts_few (l ∷ lines) few = omega (arith, few l (at_head l lines), parts_few lines (λ line has. few line (in_tail l lines line has)))
+
+pair_short : (front : List Line) (b : BlockFields) (text : List ℕ) → 0 < length front → IsBlock front b → parts_in columns front ≤ 7 * length front → LeastPair b text → length text ≤ 58 * length front
+pair_short front b text some h few pair =
+    let least : IsLeast 4 (raws front) pair.addrs = subst (λ (a : List RawAddr). IsLeast 4 a pair.addrs) h.addrs (subst (λ (w : ℕ). IsLeast w b.addrs pair.addrs) h.width pair.addrs_is) in
+    let one = least_addr_tlv (length b.addrs) in
+    omega (
+      arith,
+      few,
+      addrs_short front pair.addrs some least,
+      all_short columns front b.tlvs h.tlvs (length b.addrs),
+      ap length pair.whole,
+      length-append pair.addrs (least_block one b.tlvs),
+      length-append (least_short (length (flat_map one b.tlvs))) (flat_map one b.tlvs),
+    )
+
+blocks_short : (lines : List Line) (blocks : List BlockFields) (text : List ℕ) → AreBlocks lines blocks → ((line : Line) → Contains lines line → HasFewParts line) → SpellsItems LeastPair blocks text → length text ≤ 58 * length lines
+blocks_short lines [] text h few spelled = omega (arith, ap length spelled)
+blocks_short lines (b ∷ blocks) text (front, rest, whole, some, h, k) few (first, others, is, are, joined) =
+    let up : (line : Line) → Contains front line → HasFewParts line = λ line has. few line (subst (λ (l : List Line). Contains l line) (sym whole) (Contains-append_left front rest line has)) in
+    let on : (line : Line) → Contains rest line → HasFewParts line = λ line has. few line (subst (λ (l : List Line). Contains l line) (sym whole) (Contains-append_right front rest line has)) in
+    omega (arith, pair_short front b first some h (parts_few front up) is, blocks_short rest blocks others k on are, ap length joined, length-append first others, ap length whole, length-append front rest)
+
+-- ---- how long message TLVs are
+
+saying_short : (kind ext : ℕ) (octets : List ℕ) → length octets ≤ 2 → length (least_tlv (saying kind ext octets)) ≤ 8
+saying_short kind ext octets le =
+    omega (
+      arith,
+      le,
+      head_long 1 (record { kind = kind; ext = ext; first = 0; last = 0; multi = false; value = Some octets }),
+      length_short (length octets),
+      length-append (least_length (length octets)) octets,
+      length-append (tlvs.least_head 1 (record { kind = kind; ext = ext; first = 0; last = 0; multi = false; value = Some octets })) (least_value (Some octets)),
+    )
+
+heading_short : (values : List ℕ) (b : Bool) (kind ext : ℕ) → length values ≤ 4 → length (flat_map least_tlv (heading_of values b kind ext)) ≤ 24
+heading_short values true kind ext le =
+    let v = least_tlv (saying 1 0 (take 1 values)) in
+    let i = least_tlv (saying 0 0 (slice_range values 1 2)) in
+    let x = least_tlv (saying kind ext (drop 2 values)) in
+    omega (
+      arith,
+      saying_short 1 0 (take 1 values) (omega (arith, length-take 1 values)),
+      saying_short 0 0 (slice_range values 1 2) (omega (arith, length-take 1 (drop 1 values))),
+      saying_short kind ext (drop 2 values) (omega (arith, length-drop 2 values)),
+      length-append v (i ++ (x ++ [])),
+      length-append i (x ++ []),
+      length-append x [],
+    )
+heading_short values false kind ext le =
+    let v = least_tlv (saying 1 0 (take 1 values)) in
+    let x = least_tlv (saying kind ext (drop 2 values)) in
+    omega (
+      arith,
+      saying_short 1 0 (take 1 values) (omega (arith, length-take 1 values)),
+      saying_short kind ext (drop 2 values) (omega (arith, length-drop 2 values)),
+      length-append v (x ++ []),
+      length-append x [],
+    )
+
+-- ---- how long the packet is
+
+octet_short : (o : Option ℕ) → length (least_octet o) ≤ 1
+octet_short None = omega arith
+octet_short (Some n) = omega arith
+
+number_short : (o : Option ℕ) → length (least_number o) ≤ 2
+number_short None = omega arith
+number_short (Some n) = omega arith
+
+originator_short : (w : ℕ) (o : Option RawAddr) → length (least_originator w o) ≤ w
+originator_short w None = omega arith
+originator_short w (Some a) = omega (arith, length-take w a.octets)
+
+head_short : (m : MessageFields) → m.width ≡ 4 → length (packets.least_head m) ≤ 8
+unfolding packets.least_head
+head_short m width =
+    omega (
+      arith,
+      width,
+      originator_short m.width m.originator,
+      octet_short m.limit,
+      octet_short m.count,
+      number_short m.sequence,
+      length-append (least_originator m.width m.originator) (least_octet m.limit ++ (least_octet m.count ++ least_number m.sequence)),
+      length-append (least_octet m.limit) (least_octet m.count ++ least_number m.sequence),
+      length-append (least_octet m.count) (least_number m.sequence),
+    )
+
+pub fits_alone : (m : MessageFields) (lines : List Line) (values : List ℕ) (b : Bool) (kind ext : ℕ) → m.width ≡ 4 → length values ≤ 4 → m.tlvs ≡ heading_of values b kind ext → AreBlocks lines m.blocks →
+    length lines ≤ 1100 → ((line : Line) → Contains lines line → HasFewParts line) → FitsAlone m
+fits_alone m lines values b kind ext width short tlvs are most few bytes form =
+    let (text, rest, message, none, joined) = form.messages_is in
+    let body = message.body_is in
+    let heading : length (flat_map least_tlv m.tlvs) ≤ 24 = rw tlvs (heading_short values b kind ext short) in
+    omega (
+      arith,
+      most,
+      heading,
+      head_short m width,
+      blocks_short lines m.blocks body.blocks are few body.blocks_is,
+      ap length form.whole,
+      ap length joined,
+      length-append text rest,
+      ap length none,
+      ap length message.whole,
+      length-append (least_short (4 + length message.body)) message.body,
+      ap length body.whole,
+      length-append (packets.least_head m) (least_block least_tlv m.tlvs ++ body.blocks),
+      length-append (least_block least_tlv m.tlvs) body.blocks,
+      length-append (least_short (length (flat_map least_tlv m.tlvs))) (flat_map least_tlv m.tlvs),
+    )

@@ -1,0 +1,295 @@
+-- What is written of a HELLO reads as it, breaks no rule, and has nothing that is ignored.
+use Rattle.std.proofs.Common.{◌≡◌, ℕ, ◌+◌, ◌*◌, ◌/◌, ◌%◌, ◌<◌, ◌≤◌, ◌⊎◌, inl, inr, List, [], ◌∷◌, length, take, map, refl, sym, ap, subst, ◌∙◌, arith, length-take}
+use Rattle.std.specs.Prelude.{Contains, AllPairs, Option, Some, None, IsSome, Bool, true, false, cond}
+use Rattle.std.specs.Option.{option_map, is_some}
+use Rattle.std.proofs.lemmas.List.{length-map}
+use Rattle.mesh_atoms.specs.declared.addr.Addr4.{Addr4}
+use Rattle.mesh_atoms.specs.declared.addr.NetAddr.{NetAddr}
+use Rattle.mesh_atoms.specs.declared.hello.LocalIf.{LocalIf}
+use Rattle.mesh_atoms.specs.declared.hello.LocalIf.TheVariants as locals
+use Rattle.mesh_atoms.specs.declared.hello.LinkStatus.{LinkStatus}
+use Rattle.mesh_atoms.specs.declared.hello.LinkStatus.TheVariants as links
+use Rattle.mesh_atoms.specs.declared.hello.OtherStatus.{OtherStatus}
+use Rattle.mesh_atoms.specs.declared.hello.OtherStatus.TheVariants as others
+use Rattle.mesh_atoms.specs.declared.hello.HelloRow.{HelloRow}
+use Rattle.mesh_atoms.specs.declared.hello.Hello.{Hello}
+use Rattle.mesh_atoms.specs.declared.hello.Metrics.{Metrics}
+use Rattle.mesh_atoms.specs.declared.hello.Mpr.{Mpr as MprFlags}
+use Rattle.mesh_atoms.specs.declared.metric.Metric.{Metric}
+use Rattle.mesh_atoms.specs.Nodes.{IsBefore}
+use Rattle.mesh_addr.specs.declared.records.RawAddr.{RawAddr}
+use Rattle.mesh_packet.specs.Fields.{MessageFields, PacketFields}
+use Rattle.mesh_packet.specs.declared.packet.Span.{Span}
+use Rattle.mesh_packet.specs.Grammar.{Spells}
+use Rattle.mesh_packet.specs.Least.{IsEncodableMessage}
+use Rattle.mesh_tlv.specs.Fields.{TlvFields}
+use Rattle.mesh_wire.specs.declared.lines.Column.{Column}
+use Rattle.mesh_wire.specs.declared.lines.Column.TheVariants.{Local, Link, Other, Mpr, AddrType, Gateway, LinkIn, LinkOut, NearIn, NearOut}
+use Rattle.mesh_wire.specs.declared.lines.Line.{Line}
+use Rattle.mesh_wire.specs.Drafts.{octet_of, whole, HasHelloValues, heading_of, IsHelloMessage, FitsAlone}
+use Rattle.mesh_wire.specs.Hello.{local_value, link_value, other_value, OriginatorIs, TellsOther, TellsNoOther, IsHelloRow, HelloIs}
+use Rattle.mesh_wire.specs.HelloRules.{BreaksHello, AddressWidth, HopLimit, HopCount, Validity, Interval, Willing, Undefined, TwoValues, Prefix, Metric as MetricRule}
+use Rattle.mesh_wire.specs.Kinds.{local_if, link_metric, mpr_willing, IsStatusBelow}
+use Rattle.mesh_wire.specs.Lines.{kind_of, number, value_of, hello_line, high, flags_number}
+use Rattle.mesh_wire.specs.Metrics.{MetricKind, Link_in, Link_out, Near_in, Near_out, flag_of, ShowsMetric}
+use Rattle.mesh_wire.specs.Parts.{octets_of}
+use Rattle.mesh_wire.specs.Rows.{Has, HasPart, Says, AreRows}
+use Rattle.mesh_wire.specs.Rules.{IsOctet, Keeps}
+use Rattle.mesh_wire.specs.Runs.{has_part}
+use Rattle.mesh_wire.specs.Writes.{SayNoOtherOfSender, HaveStatusWhole, IsAlone, HasFlag, IsReadOfOther, IsReadOfHelloAddress, WritesHello, ReadsBackHello}
+use Rattle.mesh_wire.proofs.Fits.{message_fits, HasFewParts, fits_alone}
+use Rattle.mesh_wire.proofs.Headings.{validity_is, interval_is, willing_is, read_of_hello}
+use Rattle.mesh_wire.proofs.Laid.{whole_number}
+use Rattle.mesh_wire.proofs.LinesSay.{octet_value, octet_is, flags_are, metric_is, two_octets, metric_octets, has_flag, metric_value, column_of, metric_of}
+use Rattle.mesh_wire.proofs.OneHello.{one_hello}
+use Rattle.mesh_wire.proofs.RowLines.{unmapped, of_value, alone_again}
+use Rattle.mesh_wire.proofs.RowsSay.{unique, among, row_stands, row_at, row_there, part_there, said_of, once, at_row, one_code}
+
+-- ---- fewest parts
+
+pub bit_most : (b : Bool) → cond b 1 0 ≤ 1
+bit_most true = omega arith
+bit_most false = omega arith
+
+pub none_there : (c : Column) (l : Line) → number c l ≡ None → ◌≡◌ {A = ℕ} (cond (has_part c l) 1 0) 0
+none_there c l e = ap (λ (o : Option ℕ). cond (is_some o) 1 0) e
+
+few_of : (row : HelloRow) (local : Option LocalIf) → row.local ≡ local → (IsSome row.local → TellsNoOther row) → HasFewParts (hello_line row)
+few_of row None e sender =
+    let l = hello_line row in
+    omega (arith, none_there Local l (ap (λ (o : Option LocalIf). high (option_map local_value o)) e), bit_most (has_part Link l), bit_most (has_part Other l), bit_most (has_part Mpr l), bit_most (has_part LinkIn l), bit_most (has_part LinkOut l), bit_most (has_part NearIn l), bit_most (has_part NearOut l))
+few_of row (Some x) e sender =
+    let l = hello_line row in
+    let t = sender (subst IsSome (sym e) refl) in
+    omega (arith, bit_most (has_part Local l), none_there Link l (ap (λ (o : Option LinkStatus). high (option_map link_value o)) t.link), none_there Other l (ap (λ (o : Option OtherStatus). high (option_map other_value o)) t.other), bit_most (has_part Mpr l), bit_most (has_part LinkIn l), bit_most (has_part LinkOut l), bit_most (has_part NearIn l), bit_most (has_part NearOut l))
+
+-- ---- originator
+
+pub originator_is : (a : Option RawAddr) (o : Option Addr4) → a ≡ option_map whole o → OriginatorIs a o
+originator_is a None e = subst (λ (x : Option RawAddr). OriginatorIs x None) (sym e) tt
+originator_is a (Some o) e = subst (λ (x : Option RawAddr). OriginatorIs x (Some o)) (sym e) (sym (whole_number o))
+
+local_below : (x : LocalIf) → local_value x < 2
+local_below locals.This = omega arith
+local_below locals.Other = omega arith
+
+link_below : (x : LinkStatus) → link_value x < 3
+link_below links.Lost = omega arith
+link_below links.Symmetric = omega arith
+link_below links.Heard = omega arith
+
+other_below : (x : OtherStatus) → other_value x < 2
+other_below others.Lost = omega arith
+other_below others.Symmetric = omega arith
+
+-- ---- what is read of a part
+
+pub none_said : (octets : List ℕ) (o : Option (List ℕ)) → o ≡ None → o ≡ Some octets → ⊥
+none_said octets o e f = cc
+
+pub local_or_not : {X : Type 0} (o : Option X) → (o ≡ None) ⊎ IsSome o
+local_or_not None = inl refl
+local_or_not (Some x) = inr refl
+
+pub flags_octet : (a b : Bool) (octets : List ℕ) → option_map (λ (n : ℕ). n ∷ []) (flags_number a b) ≡ Some octets → IsOctet 1 4 octets
+flags_octet false false octets e = cc
+flags_octet true false octets e = (1, cc, omega arith, omega arith)
+flags_octet false true octets e = (2, cc, omega arith, omega arith)
+flags_octet true true octets e = (3, cc, omega arith, omega arith)
+
+pub metric_flagged : (k : MetricKind) (o : Option Metric) (octets : List ℕ) → option_map (metric_octets k) o ≡ Some octets → HasFlag k octets
+metric_flagged k None octets e = cc
+metric_flagged k (Some x) octets e = ((256 * flag_of k + x.code) / 256, (256 * flag_of k + x.code) % 256, cc, has_flag k x)
+
+metric_read : (row : HelloRow) (k : MetricKind) (kind : ℕ) (octets : List ℕ) → kind ≡ link_metric → value_of (column_of k) (hello_line row) ≡ Some octets → IsReadOfOther kind octets
+metric_read row k kind octets e v = inr (inr (inr (e, (k, metric_flagged k (metric_of k row.metrics) octets (sym (metric_value k (hello_line row)) ∙ v)))))
+
+other_read : (row : HelloRow) (kind : ℕ) (octets : List ℕ) (c : Column) → kind ≡ kind_of c → value_of c (hello_line row) ≡ Some octets → row.local ≡ None → IsReadOfOther kind octets
+other_read row kind octets Local e v none =
+    absurd (none_said octets (option_map (λ (n : ℕ). n ∷ []) (option_map local_value row.local)) (ap (λ (o : Option LocalIf). option_map (λ (n : ℕ). n ∷ []) (option_map local_value o)) none) (sym (octet_value (hello_line row).local) ∙ v))
+other_read row kind octets Link e v none = inl e
+other_read row kind octets Other e v none = inr (inl e)
+other_read row kind octets Mpr e v none = inr (inr (inl (e, flags_octet row.mpr.flooding row.mpr.routing octets (sym (octet_value (hello_line row).mpr) ∙ v))))
+other_read row kind octets AddrType e v none = cc
+other_read row kind octets Gateway e v none = cc
+other_read row kind octets LinkIn e v none = metric_read row Link_in kind octets e v
+other_read row kind octets LinkOut e v none = metric_read row Link_out kind octets e v
+other_read row kind octets NearIn e v none = metric_read row Near_in kind octets e v
+other_read row kind octets NearOut e v none = metric_read row Near_out kind octets e v
+
+no_metric : (row : HelloRow) (k : MetricKind) (octets : List ℕ) → TellsNoOther row → value_of (column_of k) (hello_line row) ≡ Some octets → ⊥
+no_metric row k octets t v = none_said octets (option_map (metric_octets k) (metric_of k row.metrics)) (ap (λ (x : Metrics). option_map (metric_octets k) (metric_of k x)) t.metrics ∙ nothing k) (sym (metric_value k (hello_line row)) ∙ v)
+  where
+    nothing : (k : MetricKind) → option_map (metric_octets k) (metric_of k (record { link_in = None; link_out = None; near_in = None; near_out = None })) ≡ None
+    nothing Link_in = refl
+    nothing Link_out = refl
+    nothing Near_in = refl
+    nothing Near_out = refl
+
+only_local : (row : HelloRow) (kind : ℕ) (octets : List ℕ) (c : Column) → kind ≡ kind_of c → value_of c (hello_line row) ≡ Some octets → TellsNoOther row → kind ≡ local_if
+only_local row kind octets Local e v t = e
+only_local row kind octets Link e v t = absurd (none_said octets (option_map (λ (n : ℕ). n ∷ []) (option_map link_value row.link)) (ap (λ (o : Option LinkStatus). option_map (λ (n : ℕ). n ∷ []) (option_map link_value o)) t.link) (sym (octet_value (hello_line row).link) ∙ v))
+only_local row kind octets Other e v t = absurd (none_said octets (option_map (λ (n : ℕ). n ∷ []) (option_map other_value row.other)) (ap (λ (o : Option OtherStatus). option_map (λ (n : ℕ). n ∷ []) (option_map other_value o)) t.other) (sym (octet_value (hello_line row).other) ∙ v))
+only_local row kind octets Mpr e v t = absurd (none_said octets (option_map (λ (n : ℕ). n ∷ []) (flags_number row.mpr.flooding row.mpr.routing)) (ap (λ (x : MprFlags). option_map (λ (n : ℕ). n ∷ []) (flags_number x.flooding x.routing)) t.mpr) (sym (octet_value (hello_line row).mpr) ∙ v))
+only_local row kind octets AddrType e v t = cc
+only_local row kind octets Gateway e v t = cc
+only_local row kind octets LinkIn e v t = absurd (no_metric row Link_in octets t v)
+only_local row kind octets LinkOut e v t = absurd (no_metric row Link_out octets t v)
+only_local row kind octets NearIn e v t = absurd (no_metric row Near_in octets t v)
+only_local row kind octets NearOut e v t = absurd (no_metric row Near_out octets t v)
+
+-- ---- the rows
+
+module _ (hello : Hello) (values : List ℕ) (m : MessageFields) (h : IsHelloMessage hello (map hello_line hello.rows) values m) (has : HasHelloValues hello (map hello_line hello.rows) values)
+    (up : AllPairs (λ (a b : HelloRow). IsBefore a.addr b.addr) hello.rows) (sender : SayNoOtherOfSender hello.rows) (is_whole : HaveStatusWhole hello.rows) where
+  other_is : (row : HelloRow) → Contains hello.rows row → TellsOther m row
+  other_is row there =
+      let l = hello_line row in
+      let flags = flags_are m (map hello_line hello.rows) h.blocks (unique hello_line hello.rows m h.blocks up) l (among hello_line hello.rows m h.blocks up row there) Mpr refl row.mpr.flooding row.mpr.routing (octet_value l.mpr) in record {
+        link = octet_is m (map hello_line hello.rows) h.blocks (unique hello_line hello.rows m h.blocks up) l (among hello_line hello.rows m h.blocks up row there) Link refl (option_map link_value row.link) (octet_value l.link);
+        other = octet_is m (map hello_line hello.rows) h.blocks (unique hello_line hello.rows m h.blocks up) l (among hello_line hello.rows m h.blocks up row there) Other refl (option_map other_value row.other) (octet_value l.other);
+        link_in = metric_is m (map hello_line hello.rows) h.blocks (unique hello_line hello.rows m h.blocks up) l (among hello_line hello.rows m h.blocks up row there) Link_in;
+        link_out = metric_is m (map hello_line hello.rows) h.blocks (unique hello_line hello.rows m h.blocks up) l (among hello_line hello.rows m h.blocks up row there) Link_out;
+        near_in = metric_is m (map hello_line hello.rows) h.blocks (unique hello_line hello.rows m h.blocks up) l (among hello_line hello.rows m h.blocks up row there) Near_in;
+        near_out = metric_is m (map hello_line hello.rows) h.blocks (unique hello_line hello.rows m h.blocks up) l (among hello_line hello.rows m h.blocks up row there) Near_out;
+        flooding = flags.0;
+        routing = flags.1;
+      }
+
+  row_is : (row : HelloRow) → Contains hello.rows row → IsHelloRow m row
+  row_is row there = record {
+    local = octet_is m (map hello_line hello.rows) h.blocks (unique hello_line hello.rows m h.blocks up) (hello_line row) (among hello_line hello.rows m h.blocks up row there) Local refl (option_map local_value row.local) (octet_value (hello_line row).local);
+    of_other = λ none. other_is row there;
+    of_sender = sender row there;
+  }
+
+  rows_are : AreRows m (λ (row : HelloRow). row.addr) (IsHelloRow m) hello.rows
+  rows_are = record {
+    ascending = up;
+    each = λ row there. (row_stands hello_line hello.rows m h.blocks up row there, row_is row there);
+    all = λ net at. row_at hello_line hello.rows m h.blocks up net at;
+  }
+
+  three : take 3 values ≡ has.0 ∷ (has.1 ∷ (octet_of hello.willing ∷ []))
+  three = let (v, i, is_v, is_i, is) = has in ap (take 3) is
+
+  heading : m.tlvs ≡ heading_of (has.0 ∷ (has.1 ∷ (octet_of hello.willing ∷ []))) (is_some hello.interval) mpr_willing 0
+  heading = h.tlvs ∙ ap (λ (l : List ℕ). heading_of l (is_some hello.interval) mpr_willing 0) three
+
+  hello_is : HelloIs m hello
+  hello_is = record {
+    originator = originator_is m.originator hello.originator h.originator;
+    validity = validity_is has.0 has.1 (octet_of hello.willing ∷ []) 0 m mpr_willing (inl refl) 1 (is_some hello.interval) hello.validity heading has.2;
+    interval = interval_is has.0 has.1 (octet_of hello.willing ∷ []) 0 m mpr_willing (inl refl) 1 hello.interval heading has.3;
+    willing = willing_is has.0 has.1 (is_some hello.interval) m hello.willing heading;
+    rows = rows_are;
+  }
+
+  -- ---- rules
+
+  -- a status that is said is the row's
+  record StatusIs (row : HelloRow) (bound : ℕ) (octets : List ℕ) : Type 0 where
+    column : Column
+    value : value_of column (hello_line row) ≡ Some octets
+    octet : ℕ
+    is : octets ≡ octet ∷ []
+    below : octet < bound
+    shown_is : IsSome row.local ⊎ (IsSome row.link ⊎ IsSome row.other)
+
+  status_is : (row : HelloRow) → Contains hello.rows row → (kind bound : ℕ) → IsStatusBelow kind bound → (octets : List ℕ) → Says m row.addr kind octets → StatusIs row bound octets
+  status_is row there kind bound (inl (k, b)) octets s =
+      let v = said_of hello_line hello.rows m h.blocks up row there Local refl kind k octets s in
+      let (n, is, below, some) = of_value local_value 2 local_below row.local octets (sym (octet_value (hello_line row).local) ∙ v) in
+      record { column = Local; value = v; octet = n; is = is; below = omega (arith, below, b); shown_is = inl some }
+  status_is row there kind bound (inr (inl (k, b))) octets s =
+      let v = said_of hello_line hello.rows m h.blocks up row there Link refl kind k octets s in
+      let (n, is, below, some) = of_value link_value 3 link_below row.link octets (sym (octet_value (hello_line row).link) ∙ v) in
+      record { column = Link; value = v; octet = n; is = is; below = omega (arith, below, b); shown_is = inr (inl some) }
+  status_is row there kind bound (inr (inr (k, b))) octets s =
+      let v = said_of hello_line hello.rows m h.blocks up row there Other refl kind k octets s in
+      let (n, is, below, some) = of_value other_value 2 other_below row.other octets (sym (octet_value (hello_line row).other) ∙ v) in
+      record { column = Other; value = v; octet = n; is = is; below = omega (arith, below, b); shown_is = inr (inr some) }
+
+  status_once : (row : HelloRow) → Contains hello.rows row → (kind bound : ℕ) → IsStatusBelow kind bound → (x y : List ℕ) → Says m row.addr kind x → Says m row.addr kind y → x ≡ y
+  status_once row there kind bound (inl (k, b)) x y s t = once hello_line hello.rows m h.blocks up row there Local refl kind k x y s t
+  status_once row there kind bound (inr (inl (k, b))) x y s t = once hello_line hello.rows m h.blocks up row there Link refl kind k x y s t
+  status_once row there kind bound (inr (inr (k, b))) x y s t = once hello_line hello.rows m h.blocks up row there Other refl kind k x y s t
+
+  keeps : Keeps (BreaksHello m)
+  keeps n a (AddressWidth wide) = wide h.width
+  keeps n a (HopLimit limit is other) = let e = h.limit in cc
+  keeps n a (HopCount count is other) = let e = h.count in cc
+  keeps n a (Validity none) = none hello.validity hello_is.validity
+  keeps n a (Interval none) = none hello.interval hello_is.interval
+  keeps n a (Willing none) = let (octet, is, f, r) = hello_is.willing in none octet is
+  keeps n a (Undefined net kind bound status (octets, s, wrong)) =
+      let (row, there, of) = row_there hello_line hello.rows m h.blocks up net kind octets s in
+      let st = status_is row there kind bound status octets (at_row hello_line hello.rows m h.blocks up row net of kind octets s) in
+      wrong (st.octet, st.is, omega arith, st.below)
+  keeps n a (TwoValues net kind bound status (x, y, s, t, other)) =
+      let (row, there, of) = row_there hello_line hello.rows m h.blocks up net kind x s in
+      other (status_once row there kind bound status x y (at_row hello_line hello.rows m h.blocks up row net of kind x s) (at_row hello_line hello.rows m h.blocks up row net of kind y t))
+  keeps n a (Prefix net kind bound status (octets, s) short) =
+      let (row, there, of) = row_there hello_line hello.rows m h.blocks up net kind octets s in
+      let st = status_is row there kind bound status octets (at_row hello_line hello.rows m h.blocks up row net of kind octets s) in
+      omega (arith, short, is_whole row there st.shown_is, ap (λ (x : NetAddr). x.prefix) of)
+  keeps n a (MetricRule net (inl (octets, s, other))) =
+      let (row, there, of) = row_there hello_line hello.rows m h.blocks up net link_metric octets s in
+      let (x, y, is) = two_octets m (map hello_line hello.rows) h.blocks (unique hello_line hello.rows m h.blocks up) (hello_line row) (among hello_line hello.rows m h.blocks up row there) octets (at_row hello_line hello.rows m h.blocks up row net of link_metric octets s) in
+      other (ap length is)
+  keeps n a (MetricRule net (inr (k, x, y, s, t, other))) =
+      let (high, low, is, flag, code) = s in
+      let (row, there, of) = row_there hello_line hello.rows m h.blocks up net link_metric (high ∷ (low ∷ [])) is in
+      other (one_code hello_line hello.rows m h.blocks up row there k x y (subst (λ (p : NetAddr). ShowsMetric m p k x) (sym of) s) (subst (λ (p : NetAddr). ShowsMetric m p k y) (sym of) t))
+
+  -- ---- nothing is ignored
+
+  no_local : (row : HelloRow) → Contains hello.rows row → row.local ≡ None → (net : NetAddr) → row.addr ≡ net → Has m net local_if → ⊥
+  no_local row there e net of (octets, s) =
+      let v = said_of hello_line hello.rows m h.blocks up row there Local refl local_if refl octets (at_row hello_line hello.rows m h.blocks up row net of local_if octets s) in
+      none_said octets (option_map (λ (n : ℕ). n ∷ []) (option_map local_value row.local)) (ap (λ (o : Option LocalIf). option_map (λ (n : ℕ). n ∷ []) (option_map local_value o)) e) (sym (octet_value (hello_line row).local) ∙ v)
+
+  part_read : (net : NetAddr) (part : TlvFields) → HasPart m net part → IsReadOfHelloAddress m net part
+  part_read net part p =
+      let (row, c, there, here, k, ext, value) = part_there hello_line hello.rows m h.blocks up net part p in
+      record {
+        kind = elim (local_or_not row.local) [
+          | inl e ↦ inr (no_local row there e net here, other_read row part.kind (octets_of part.value) c k value e)
+          | inr some ↦ inl (only_local row part.kind (octets_of part.value) c k value (sender row there some))
+        ];
+        ext = ext;
+      }
+
+  -- ---- the whole
+
+  few : (line : Line) → Contains (map hello_line hello.rows) line → HasFewParts line
+  few line on = let (row, there, is) = unmapped hello_line hello.rows line on in subst HasFewParts is (few_of row row.local refl (sender row there))
+
+  pub fits : length hello.rows ≤ 1100 → FitsAlone m
+  fits most = fits_alone m (map hello_line hello.rows) (take 3 values) (is_some hello.interval) mpr_willing 0 h.width (omega (arith, length-take 3 values)) h.tlvs h.blocks (omega (arith, most, length-map hello.rows hello_line)) few
+
+  pub encodable : IsEncodableMessage m
+  encodable = message_fits m (map hello_line hello.rows) hello.originator h.width h.originator h.blocks
+
+  pub written : (bytes : List ℕ) → IsAlone m bytes → WritesHello hello bytes
+  written bytes is = record {
+    message = m;
+    packet = is;
+    kind = h.kind;
+    limit = h.limit;
+    count = h.count;
+    sequence = h.sequence;
+    reads = hello_is;
+    keeps = keeps;
+    tlvs = read_of_hello m (take 3 values) (is_some hello.interval) h.tlvs;
+    parts = part_read;
+  }
+
+  pub back : (bytes : List ℕ) → IsAlone m bytes → (packet : PacketFields) (spans : List Span) → Spells packet spans bytes → ReadsBackHello hello packet
+  back bytes is packet spans spelled = record {
+    message = m;
+    one = ap (λ (p : PacketFields). p.messages) (alone_again m bytes is packet spans spelled);
+    kind = h.kind;
+    keeps = keeps;
+    same = λ other reads. one_hello m keeps other hello reads hello_is;
+  }

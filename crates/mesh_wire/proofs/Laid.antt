@@ -1,0 +1,214 @@
+-- Blocks of lines say what the lines say.
+use Rattle.std.proofs.Common.{◌≡◌, ℕ, zero, suc, ◌+◌, ◌-◌, ◌*◌, ◌/◌, ◌%◌, ◌^◌, ◌<◌, ◌≤◌, inl, inr, List, [], ◌∷◌, ◌++◌, length, take, refl, sym, ap, subst, ◌∙◌, arith, length-append}
+use Rattle.std.specs.Prelude.{slice_get, Contains, Option, Some, None}
+use Rattle.std.specs.Option.{option_map}
+use Rattle.std.specs.List.{flat_map}
+use Rattle.std.proofs.Math.Nat.{mod-eq-sub-div-mul, div-mul-le_self}
+use Rattle.std.proofs.lemmas.List.{take_all}
+use Rattle.std.proofs.lemmas.List.Elements.{Contains-append_left, Contains-append_right, Contains-append_cases}
+use Rattle.std.proofs.lemmas.Grind.{flat_map-append}
+use Rattle.std.proofs.lemmas.Option.{slice_get-map}
+use Rattle.mesh_atoms.specs.declared.addr.Addr4.{Addr4}
+use Rattle.mesh_atoms.specs.declared.addr.NetAddr.{NetAddr}
+use Rattle.mesh_atoms.proofs.Nets.{same_net}
+use Rattle.mesh_addr.specs.declared.records.RawAddr.{RawAddr}
+use Rattle.mesh_packet.specs.Fields.{BlockFields, MessageFields}
+use Rattle.mesh_tlv.specs.Fields.{TlvFields, AddrTlvFields}
+use Rattle.mesh_tlv.specs.Least.{least_addr_tlv}
+use Rattle.mesh_wire.specs.declared.lines.Column.{Column}
+use Rattle.mesh_wire.specs.declared.lines.Column.TheVariants.{Local, Link, Other, Mpr, AddrType, Gateway, LinkIn, LinkOut, NearIn, NearOut}
+use Rattle.mesh_wire.specs.declared.lines.Line.{Line}
+use Rattle.mesh_wire.specs.Lines.{kind_of, value_of, columns}
+use Rattle.mesh_wire.specs.Parts.{octets_of, number_of, IsIn, value_at}
+use Rattle.mesh_wire.specs.Rows.{HasAddressAt, HasAddress, HasPart, Says}
+use Rattle.mesh_wire.specs.Runs.{host_octets, raw_of, present, IsRun, LaysAll, IsBlock, AreBlocks}
+use Rattle.mesh_wire.proofs.Ascending.{at_head, in_tail, head_or_tail, none_in}
+use Rattle.mesh_wire.proofs.Same.{same_addr}
+
+-- ---- places of lists
+
+pub at_place : {X : Type 0} (xs : List X) (k : ℕ) (x : X) → slice_get xs k ≡ Some x → Contains xs x
+at_place [] k x e = cc
+at_place (y ∷ ys) zero x e = let same : y ≡ x = cc in subst (Contains (y ∷ ys)) same (at_head y ys)
+at_place (y ∷ ys) (suc k) x e = in_tail y ys x (at_place ys k x e)
+
+pub place_of : {X : Type 0} (xs : List X) (x : X) → Contains xs x → (k : ℕ) × (k < length xs) × (slice_get xs k ≡ Some x)
+place_of [] x has = absurd (none_in x has)
+place_of (y ∷ ys) x has = elim (head_or_tail y ys x has) [
+  | inl same ↦ (0, omega arith, ap Some same)
+  | inr later ↦ let (k, lt, at) = place_of ys x later in (suc k, omega arith, at)
+]
+
+same_some : {X : Type 0} (a b : X) (o : Option X) → o ≡ Some a → o ≡ Some b → a ≡ b
+same_some a b o e f = cc
+
+-- ---- addresses as they stand in a block
+
+number_again : (net : NetAddr) → number_of (raw_of net).octets ≡ net.addr.0
+number_again net = omega arith
+
+pub whole_number : (a : Addr4) → number_of (host_octets a.0) ≡ a.0
+whole_number a = omega arith
+
+cleared : (n m : ℕ) → n % m ≡ 0 → n / m * m ≡ n
+cleared n m e = omega (arith, e, mod-eq-sub-div-mul n m, div-mul-le_self n m)
+
+pub is_in : (net : NetAddr) → IsIn (raw_of net) net
+is_in net = record {
+  prefix = refl;
+  number = sym (ap (λ (n : ℕ). n / 2 ^ (32 - net.prefix) * 2 ^ (32 - net.prefix)) (number_again net) ∙ cleared net.addr.0 (2 ^ (32 - net.prefix)) net.clear);
+}
+
+pub in_same : (net other : NetAddr) → IsIn (raw_of net) other → net ≡ other
+in_same net other h = same_net net other (same_addr net.addr other.addr ((is_in net).number ∙ sym h.number)) (sym h.prefix)
+
+-- ---- columns
+
+pub each_column : (c : Column) → Contains columns c
+each_column Local = at_place columns 0 Local refl
+each_column Link = at_place columns 1 Link refl
+each_column Other = at_place columns 2 Other refl
+each_column Mpr = at_place columns 3 Mpr refl
+each_column AddrType = at_place columns 4 AddrType refl
+each_column Gateway = at_place columns 5 Gateway refl
+each_column LinkIn = at_place columns 6 LinkIn refl
+each_column LinkOut = at_place columns 7 LinkOut refl
+each_column NearIn = at_place columns 8 NearIn refl
+each_column NearOut = at_place columns 9 NearOut refl
+
+pub runs_of_all : (cs : List Column) (lines : List Line) (tlvs : List AddrTlvFields) → LaysAll cs lines tlvs → (tlv : AddrTlvFields) → Contains tlvs tlv → (c : Column) × IsRun c lines tlv
+runs_of_all [] lines tlvs h tlv has = absurd (none_in tlv (subst (λ (l : List AddrTlvFields). Contains l tlv) h has))
+runs_of_all (c ∷ cs) lines tlvs (first, others, is, h, k) tlv has =
+    let there : Contains (first ++ others) tlv = subst (λ (l : List AddrTlvFields). Contains l tlv) is has in
+    elim (Contains-append_cases first others tlv there) [
+      | inl here ↦ (c, h.each tlv here)
+      | inr later ↦ runs_of_all cs lines others k tlv later
+    ]
+
+-- the run that covers a place
+abbrev Covered : Column → List Line → List AddrTlvFields → ℕ → Type 0
+Covered c lines tlvs place = (tlv : AddrTlvFields) × Contains tlvs tlv × IsRun c lines tlv × (tlv.first ≤ place) × (place ≤ tlv.last)
+
+covered_in : (cs : List Column) (lines : List Line) (tlvs : List AddrTlvFields) → LaysAll cs lines tlvs → (c : Column) → Contains cs c → (place : ℕ) (line : Line) (octets : List ℕ) →
+    place < length lines → slice_get lines place ≡ Some line → value_of c line ≡ Some octets → Covered c lines tlvs place
+covered_in [] lines tlvs h c among place line octets lt at is = absurd (none_in c among)
+covered_in (d ∷ cs) lines tlvs (first, others, whole, h, k) c among place line octets lt at is = elim (head_or_tail d cs c among) [
+  | inl same ↦
+      let said : value_of d line ≡ Some octets = subst (λ (x : Column). value_of x line ≡ Some octets) (sym same) is in
+      let (tlv, has, low, high) = h.all place line octets lt at said in
+      (tlv, subst (λ (l : List AddrTlvFields). Contains l tlv) (sym whole) (Contains-append_left first others tlv has), subst (λ (x : Column). IsRun x lines tlv) same (h.each tlv has), low, high)
+  | inr later ↦
+      let (tlv, has, run, low, high) = covered_in cs lines others k c later place line octets lt at is in
+      (tlv, subst (λ (l : List AddrTlvFields). Contains l tlv) (sym whole) (Contains-append_right first others tlv has), run, low, high)
+]
+
+-- how many parts lines have in columns
+abbrev pub parts_in : List Column → List Line → ℕ
+parts_in [] lines = 0
+parts_in (c ∷ cs) lines = present c lines + parts_in cs lines
+
+pub all_short : (cs : List Column) (lines : List Line) (tlvs : List AddrTlvFields) → LaysAll cs lines tlvs → (count : ℕ) → length (flat_map (least_addr_tlv count) tlvs) ≤ 7 * parts_in cs lines
+all_short [] lines tlvs h count = rw h (omega arith)
+all_short (c ∷ cs) lines tlvs (first, others, whole, h, k) count =
+    let least = least_addr_tlv count in
+    let all : take (length lines) lines ≡ lines = take_all (length lines) lines (omega arith) in
+    let one : length (flat_map least first) ≤ 7 * present c lines = rw all at h.short count in
+    omega (arith, one, all_short cs lines others k count, ap (λ (l : List AddrTlvFields). length (flat_map least l)) whole, ap length (flat_map-append least first others), length-append (flat_map least first) (flat_map least others))
+
+-- ---- blocks
+
+pub block_there : (lines : List Line) (blocks : List BlockFields) → AreBlocks lines blocks → (b : BlockFields) → Contains blocks b → (front : List Line) × IsBlock front b × ((line : Line) → Contains front line → Contains lines line)
+block_there lines [] h b has = absurd (none_in b has)
+block_there lines (d ∷ blocks) (front, rest, whole, some, h, k) b has = elim (head_or_tail d blocks b has) [
+  | inl same ↦ (front, subst (IsBlock front) same h, λ line at. subst (λ (l : List Line). Contains l line) (sym whole) (Contains-append_left front rest line at))
+  | inr later ↦
+      let (part, is, up) = block_there rest blocks k b later in
+      (part, is, λ line at. subst (λ (l : List Line). Contains l line) (sym whole) (Contains-append_right front rest line (up line at)))
+]
+
+pub line_there : (lines : List Line) (blocks : List BlockFields) → AreBlocks lines blocks → (line : Line) → Contains lines line → (b : BlockFields) × (front : List Line) × Contains blocks b × IsBlock front b × Contains front line
+line_there lines [] h line has = absurd (none_in line (subst (λ (l : List Line). Contains l line) h has))
+line_there lines (d ∷ blocks) (front, rest, whole, some, h, k) line has =
+    let there : Contains (front ++ rest) line = subst (λ (l : List Line). Contains l line) whole has in
+    elim (Contains-append_cases front rest line there) [
+      | inl here ↦ (d, front, at_head d blocks, h, here)
+      | inr later ↦ let (b, part, among, is, at) = line_there rest blocks k line later in (b, part, in_tail d blocks b among, is, at)
+    ]
+
+-- the line of the address at a place of a block
+line_at : (front : List Line) (b : BlockFields) → IsBlock front b → (place : ℕ) (address : RawAddr) (net : NetAddr) → slice_get b.addrs place ≡ Some address → IsIn address net → (line : Line) × (slice_get front place ≡ Some line) × (line.net ≡ net)
+line_at front b h place address net at is =
+    let mapped : option_map (λ (l : Line). raw_of l.net) (slice_get front place) ≡ Some address =
+    sym (slice_get-map (λ (l : Line). raw_of l.net) front place) ∙ ap (λ (l : List RawAddr). slice_get l place) (sym h.addrs) ∙ at in
+    from (slice_get front place) mapped refl
+  where
+    from : (o : Option Line) → option_map (λ (l : Line). raw_of l.net) o ≡ Some address → slice_get front place ≡ o → (line : Line) × (slice_get front place ≡ Some line) × (line.net ≡ net)
+    from None e there = cc
+    from (Some line) e there = let same : raw_of line.net ≡ address = cc in (line, there, in_same line.net net (subst (λ (a : RawAddr). IsIn a net) (sym same) is))
+
+-- ---- what the message says
+
+same_part : (a b x y : ℕ) (v w : Option (List ℕ)) → a ≡ b → x ≡ y → v ≡ w → ◌≡◌ {A = TlvFields} (record { kind = a; ext = x; value = v }) (record { kind = b; ext = y; value = w })
+same_part a b x y v w e f g = ap (λ (k : ℕ). record { kind = k; ext = x; value = v }) e ∙ ap (λ (k : ℕ). record { kind = b; ext = k; value = v }) f ∙ ap (λ (o : Option (List ℕ)). record { kind = b; ext = y; value = o }) g
+
+module _ (m : MessageFields) (lines : List Line) (are : AreBlocks lines m.blocks) where
+  -- what is said of an address is what its line says
+  pub said : (net : NetAddr) (part : TlvFields) → HasPart m net part → (line : Line) × (c : Column) × Contains lines line × (line.net ≡ net) × (part.kind ≡ kind_of c) × (part.ext ≡ 0) × (value_of c line ≡ Some (octets_of part.value))
+  said net part h =
+      let (front, is, up) = block_there lines m.blocks are h.block h.address.in_message in
+      let (line, at, of) = line_at front h.block is h.place h.address.address net h.address.in_block h.address.is_in in
+      let (c, run) = runs_of_all columns front h.block.tlvs is.tlvs h.tlv h.in_block in
+      let (other, octets, there, value, told) = run.says h.place h.first h.last in
+      let same : other ≡ line = same_some other line (slice_get front h.place) there at in
+      let e : octets_of part.value ≡ octets = ap (λ (p : TlvFields). octets_of p.value) h.part_is ∙ ap octets_of told in (
+        line,
+        c,
+        up line (at_place front h.place line at),
+        of,
+        ap (λ (p : TlvFields). p.kind) h.part_is ∙ run.kind,
+        ap (λ (p : TlvFields). p.ext) h.part_is ∙ run.ext,
+        ap (value_of c) (sym same) ∙ value ∙ ap Some (sym e),
+      )
+
+  address_at : (front : List Line) (b : BlockFields) → IsBlock front b → Contains m.blocks b → (place : ℕ) (line : Line) → slice_get front place ≡ Some line → HasAddressAt m b place line.net
+  address_at front b is among place line at = record {
+    address = raw_of line.net;
+    in_message = among;
+    in_block = ap (λ (l : List RawAddr). slice_get l place) is.addrs ∙ slice_get-map (λ (l : Line). raw_of l.net) front place ∙ ap (option_map (λ (l : Line). raw_of l.net)) at;
+    is_in = is_in line.net;
+  }
+
+  -- and what the line says is said
+  pub says : (line : Line) (c : Column) (octets : List ℕ) → Contains lines line → value_of c line ≡ Some octets → Says m line.net (kind_of c) octets
+  says line c octets has value =
+      let (b, front, among, is, here) = line_there lines m.blocks are line has in
+      let (place, lt, at) = place_of front line here in
+      let (tlv, in_block, run, low, high) = covered_in columns front b.tlvs is.tlvs c (each_column c) place line octets lt at value in
+      let (other, told, there, value', is_told) = run.says place low high in
+      let same : other ≡ line = same_some other line (slice_get front place) there at in
+      let e : told ≡ octets = same_some told octets (value_of c line) (ap (value_of c) (sym same) ∙ value') value in (
+        Some octets,
+        record {
+          block = b;
+          place = place;
+          tlv = tlv;
+          address = address_at front b is among place line at;
+          in_block = in_block;
+          first = low;
+          last = high;
+          part_is = same_part (kind_of c) tlv.kind 0 tlv.ext (Some octets) (value_at tlv place) (sym run.kind) (sym run.ext) (ap Some (sym e) ∙ sym is_told);
+        },
+        refl,
+      )
+
+  pub stands : (line : Line) → Contains lines line → HasAddress m line.net
+  stands line has =
+      let (b, front, among, is, here) = line_there lines m.blocks are line has in
+      let (place, lt, at) = place_of front line here in
+      (b, place, address_at front b is among place line at)
+
+  pub standing_line : (net : NetAddr) → HasAddress m net → (line : Line) × Contains lines line × (line.net ≡ net)
+  standing_line net (b, place, h) =
+      let (front, is, up) = block_there lines m.blocks are b h.in_message in
+      let (line, at, of) = line_at front b is place h.address net h.in_block h.is_in in
+      (line, up line (at_place front place line at), of)

@@ -1,0 +1,259 @@
+-- What a message says of an address, by the fields of its line.
+use Rattle.std.proofs.Common.{◌≡◌, ℕ, ◌+◌, ◌*◌, ◌/◌, ◌%◌, ◌<◌, ◌⊎◌, inl, inr, List, [], ◌∷◌, refl, sym, ap, subst, ◌∙◌, arith, lit<}
+use Rattle.std.specs.Prelude.{◌↔◌, ◌==◌, Contains, Option, Some, None, Bool, true, false, IsTrue, if◌then◌else◌}
+use Rattle.std.specs.Option.{option_map}
+use Rattle.std.proofs.Math.Nat.{mul-div_right}
+use Rattle.mesh_atoms.specs.declared.hello.Metrics.{Metrics}
+use Rattle.mesh_atoms.specs.declared.metric.Metric.{Metric}
+use Rattle.mesh_atoms.specs.Reading.{has}
+use Rattle.mesh_packet.specs.Fields.{MessageFields}
+use Rattle.mesh_packet.proofs.FlagSums.{tells_128, tells_64, tells_32, tells_16}
+use Rattle.mesh_wire.specs.declared.lines.Column.{Column}
+use Rattle.mesh_wire.specs.declared.lines.Column.TheVariants.{Local, Link, Other, Mpr, AddrType, Gateway, LinkIn, LinkOut, NearIn, NearOut}
+use Rattle.mesh_wire.specs.declared.lines.Line.{Line}
+use Rattle.mesh_wire.specs.Kinds.{link_metric}
+use Rattle.mesh_wire.specs.Lines.{kind_of, is_wide, high, value_of, flags_number}
+use Rattle.mesh_wire.specs.Metrics.{MetricKind, Link_in, Link_out, Near_in, Near_out, flag_of, ShowsMetric, MetricIs}
+use Rattle.mesh_wire.specs.Rows.{Says, OctetIs, SaysFlag}
+use Rattle.mesh_wire.specs.Runs.{AreBlocks}
+use Rattle.mesh_wire.proofs.Laid.{said, says}
+
+-- ---- the one column of a type whose values are octets
+
+of_kind : ℕ → Column
+of_kind n = if n == 2 then Local else if n == 3 then Link else if n == 4 then Other else if n == 8 then Mpr else if n == 9 then AddrType else if n == 10 then Gateway else LinkIn
+
+narrow_told : (c : Column) → is_wide c ≡ false → of_kind (kind_of c) ≡ c
+unfolding of_kind
+narrow_told Local e = refl
+narrow_told Link e = refl
+narrow_told Other e = refl
+narrow_told Mpr e = refl
+narrow_told AddrType e = refl
+narrow_told Gateway e = refl
+narrow_told LinkIn e = cc
+narrow_told LinkOut e = cc
+narrow_told NearIn e = cc
+narrow_told NearOut e = cc
+
+wide_told : (c : Column) → (is_wide c ≡ false) ⊎ (is_wide (of_kind (kind_of c)) ≡ true)
+unfolding of_kind
+wide_told Local = inl refl
+wide_told Link = inl refl
+wide_told Other = inl refl
+wide_told Mpr = inl refl
+wide_told AddrType = inl refl
+wide_told Gateway = inl refl
+wide_told LinkIn = inr refl
+wide_told LinkOut = inr refl
+wide_told NearIn = inr refl
+wide_told NearOut = inr refl
+
+only : (c d : Column) → is_wide c ≡ false → kind_of c ≡ kind_of d → d ≡ c
+only c d narrow same = elim (wide_told d) [
+  | inl other ↦ sym (narrow_told d other) ∙ ap of_kind (sym same) ∙ narrow_told c narrow
+  | inr wide ↦
+      let e : of_kind (kind_of d) ≡ c = ap of_kind (sym same) ∙ narrow_told c narrow in
+      let f : is_wide c ≡ true = sym (ap is_wide e) ∙ wide in
+      cc
+]
+
+-- the value of an octet
+pub octet_value : (o : Option ℕ) → option_map (λ (n : ℕ). n / 256 ∷ []) (high o) ≡ option_map (λ (n : ℕ). n ∷ []) o
+octet_value None = refl
+octet_value (Some n) = ap (λ (k : ℕ). Some (k ∷ [])) (mul-div_right n {m = 256} (lit< tt))
+
+-- ---- metrics
+
+abbrev pub column_of : MetricKind → Column
+column_of Link_in = LinkIn
+column_of Link_out = LinkOut
+column_of Near_in = NearIn
+column_of Near_out = NearOut
+
+abbrev pub metric_of : MetricKind → Metrics → Option Metric
+metric_of Link_in m = m.link_in
+metric_of Link_out m = m.link_out
+metric_of Near_in m = m.near_in
+metric_of Near_out m = m.near_out
+
+pub column_kind : (k : MetricKind) → kind_of (column_of k) ≡ link_metric
+column_kind Link_in = refl
+column_kind Link_out = refl
+column_kind Near_in = refl
+column_kind Near_out = refl
+
+-- a column of that type is one of a kind of metric
+pub metric_column : (c : Column) → link_metric ≡ kind_of c → (k : MetricKind) × (c ≡ column_of k)
+metric_column Local e = absurd (omega arith)
+metric_column Link e = absurd (omega arith)
+metric_column Other e = absurd (omega arith)
+metric_column Mpr e = absurd (omega arith)
+metric_column AddrType e = absurd (omega arith)
+metric_column Gateway e = absurd (omega arith)
+metric_column LinkIn e = (Link_in, refl)
+metric_column LinkOut e = (Link_out, refl)
+metric_column NearIn e = (Near_in, refl)
+metric_column NearOut e = (Near_out, refl)
+
+-- the octets of a metric
+abbrev pub metric_octets : MetricKind → Metric → List ℕ
+metric_octets k m = (256 * flag_of k + m.code) / 256 ∷ ((256 * flag_of k + m.code) % 256 ∷ [])
+
+pub metric_value : (k : MetricKind) (l : Line) → value_of (column_of k) l ≡ option_map (metric_octets k) (metric_of k l.metrics)
+metric_value Link_in l = twice Link_in l.metrics.link_in
+  where
+    twice : (k : MetricKind) (o : Option Metric) → option_map (λ (n : ℕ). n / 256 ∷ (n % 256 ∷ [])) (option_map (λ (m : Metric). 256 * flag_of k + m.code) o) ≡ option_map (metric_octets k) o
+    twice k None = refl
+    twice k (Some m) = refl
+metric_value Link_out l = elim l.metrics.link_out as (λ (o : Option Metric). option_map (λ (n : ℕ). n / 256 ∷ (n % 256 ∷ [])) (option_map (λ (m : Metric). 256 * 64 + m.code) o) ≡ option_map (metric_octets Link_out) o) [ None ↦ refl | Some m ↦ refl ]
+metric_value Near_in l = elim l.metrics.near_in as (λ (o : Option Metric). option_map (λ (n : ℕ). n / 256 ∷ (n % 256 ∷ [])) (option_map (λ (m : Metric). 256 * 32 + m.code) o) ≡ option_map (metric_octets Near_in) o) [ None ↦ refl | Some m ↦ refl ]
+metric_value Near_out l = elim l.metrics.near_out as (λ (o : Option Metric). option_map (λ (n : ℕ). n / 256 ∷ (n % 256 ∷ [])) (option_map (λ (m : Metric). 256 * 16 + m.code) o) ≡ option_map (metric_octets Near_out) o) [ None ↦ refl | Some m ↦ refl ]
+
+flags_told : (k j : MetricKind) (n : ℕ) → n < 16 → has (flag_of k + n) (flag_of j) ≡ (flag_of k == flag_of j)
+flags_told Link_in Link_in n lt = tells_128 true false false false n lt
+flags_told Link_in Link_out n lt = tells_64 true false false false n lt
+flags_told Link_in Near_in n lt = tells_32 true false false false n lt
+flags_told Link_in Near_out n lt = tells_16 true false false false n lt
+flags_told Link_out Link_in n lt = tells_128 false true false false n lt
+flags_told Link_out Link_out n lt = tells_64 false true false false n lt
+flags_told Link_out Near_in n lt = tells_32 false true false false n lt
+flags_told Link_out Near_out n lt = tells_16 false true false false n lt
+flags_told Near_in Link_in n lt = tells_128 false false true false n lt
+flags_told Near_in Link_out n lt = tells_64 false false true false n lt
+flags_told Near_in Near_in n lt = tells_32 false false true false n lt
+flags_told Near_in Near_out n lt = tells_16 false false true false n lt
+flags_told Near_out Link_in n lt = tells_128 false false false true n lt
+flags_told Near_out Link_out n lt = tells_64 false false false true n lt
+flags_told Near_out Near_in n lt = tells_32 false false false true n lt
+flags_told Near_out Near_out n lt = tells_16 false false false true n lt
+
+same_kind : (k j : MetricKind) → (flag_of k == flag_of j) ≡ true → k ≡ j
+same_kind Link_in Link_in e = refl
+same_kind Link_in Link_out e = cc
+same_kind Link_in Near_in e = cc
+same_kind Link_in Near_out e = cc
+same_kind Link_out Link_in e = cc
+same_kind Link_out Link_out e = refl
+same_kind Link_out Near_in e = cc
+same_kind Link_out Near_out e = cc
+same_kind Near_in Link_in e = cc
+same_kind Near_in Link_out e = cc
+same_kind Near_in Near_in e = refl
+same_kind Near_in Near_out e = cc
+same_kind Near_out Link_in e = cc
+same_kind Near_out Link_out e = cc
+same_kind Near_out Near_in e = cc
+same_kind Near_out Near_out e = refl
+
+high_is : (f code : ℕ) → (256 * f + code) / 256 ≡ f + code / 256
+high_is f code = omega arith
+
+-- the high octet has the flag of the kind, and no other
+metric_flag : (k j : MetricKind) (m : Metric) → has ((256 * flag_of k + m.code) / 256) (flag_of j) ≡ (flag_of k == flag_of j)
+metric_flag k j m = let less = m.in_range in ap (λ (n : ℕ). has n (flag_of j)) (high_is (flag_of k) m.code) ∙ flags_told k j (m.code / 256) (omega arith)
+
+own_flag : (k : MetricKind) → (flag_of k == flag_of k) ≡ true
+own_flag Link_in = refl
+own_flag Link_out = refl
+own_flag Near_in = refl
+own_flag Near_out = refl
+
+pub has_flag : (k : MetricKind) (m : Metric) → has ((256 * flag_of k + m.code) / 256) (flag_of k) ≡ true
+has_flag k m = metric_flag k k m ∙ own_flag k
+
+code_again : (k : MetricKind) (m : Metric) → m.code ≡ 256 * ((256 * flag_of k + m.code) / 256 % 16) + (256 * flag_of k + m.code) % 256
+code_again Link_in m = let less = m.in_range in omega arith
+code_again Link_out m = let less = m.in_range in omega arith
+code_again Near_in m = let less = m.in_range in omega arith
+code_again Near_out m = let less = m.in_range in omega arith
+
+same_two : (a b x y : ℕ) → Some (a ∷ (b ∷ [])) ≡ Some (x ∷ (y ∷ [])) → (a ≡ x) × (b ≡ y)
+same_two a b x y e = (cc, cc)
+
+pub same_one : (a b : ℕ) → Some (a ∷ []) ≡ Some (b ∷ []) → a ≡ b
+same_one a b e = cc
+
+-- ---- what is said of the address of a line
+
+module _ (m : MessageFields) (lines : List Line) (are : AreBlocks lines m.blocks) (unique : (a b : Line) → Contains lines a → Contains lines b → a.net ≡ b.net → a ≡ b) (line : Line) (among : Contains lines line) where
+  pub line_says : (kind : ℕ) (octets : List ℕ) → Says m line.net kind octets → (c : Column) × (kind ≡ kind_of c) × (value_of c line ≡ Some octets)
+  line_says kind octets (value, part, is) =
+      let (other, c, there, of, k, ext, v) = said m lines are line.net (record { kind = kind; ext = 0; value = value }) part in
+      let same : other ≡ line = unique other line there among of in
+      (c, k, ap (value_of c) (sym same) ∙ v ∙ ap Some (sym is))
+
+  -- of a type whose values are octets
+  pub says_only : (c : Column) → is_wide c ≡ false → (octets : List ℕ) → Says m line.net (kind_of c) octets → value_of c line ≡ Some octets
+  says_only c narrow octets s =
+      let (d, k, v) = line_says (kind_of c) octets s in
+      subst (λ (x : Column). value_of x line ≡ Some octets) (only c d narrow k) v
+
+  pub octet_is : (c : Column) → is_wide c ≡ false → (o : Option ℕ) → value_of c line ≡ option_map (λ (n : ℕ). n ∷ []) o → OctetIs m line.net (kind_of c) o
+  octet_is c narrow None e = λ octets s. (let f = says_only c narrow octets s in cc)
+  octet_is c narrow (Some n) e = says m lines are line c (n ∷ []) among e
+
+  -- one of two values is said, where the value is known
+  flag_said : (c : Column) → is_wide c ≡ false → (n flag : ℕ) → value_of c line ≡ Some (n ∷ []) → SaysFlag m line.net (kind_of c) flag → (n ≡ flag) ⊎ (n ≡ 3)
+  flag_said c narrow n flag e (inl s) = inl (same_one n flag (sym e ∙ says_only c narrow (flag ∷ []) s))
+  flag_said c narrow n flag e (inr s) = inr (same_one n 3 (sym e ∙ says_only c narrow (3 ∷ []) s))
+
+  none_flag : (c : Column) → is_wide c ≡ false → (flag : ℕ) → value_of c line ≡ None → SaysFlag m line.net (kind_of c) flag → ⊥
+  none_flag c narrow flag e (inl s) = let f = says_only c narrow (flag ∷ []) s in cc
+  none_flag c narrow flag e (inr s) = let f = says_only c narrow (3 ∷ []) s in cc
+
+  apart : (n flag : ℕ) → (n ≡ flag → ⊥) → (n ≡ 3 → ⊥) → (n ≡ flag) ⊎ (n ≡ 3) → ⊥
+  apart n flag a b (inl e) = a e
+  apart n flag a b (inr e) = b e
+
+  pub flags_are : (c : Column) → is_wide c ≡ false → (a b : Bool) → value_of c line ≡ option_map (λ (n : ℕ). n ∷ []) (flags_number a b) → (IsTrue a ↔ SaysFlag m line.net (kind_of c) 1) × (IsTrue b ↔ SaysFlag m line.net (kind_of c) 2)
+  flags_are c narrow false false e = ((λ t. cc, λ s. absurd (none_flag c narrow 1 e s)), (λ t. cc, λ s. absurd (none_flag c narrow 2 e s)))
+  flags_are c narrow true false e = ((λ t. inl (says m lines are line c (1 ∷ []) among e), λ s. refl), (λ t. cc, λ s. absurd (apart 1 2 (λ f. omega (arith, f)) (λ f. omega (arith, f)) (flag_said c narrow 1 2 e s))))
+  flags_are c narrow false true e = ((λ t. cc, λ s. absurd (apart 2 1 (λ f. omega (arith, f)) (λ f. omega (arith, f)) (flag_said c narrow 2 1 e s))), (λ t. inl (says m lines are line c (2 ∷ []) among e), λ s. refl))
+  flags_are c narrow true true e = ((λ t. inr (says m lines are line c (3 ∷ []) among e), λ s. refl), (λ t. inr (says m lines are line c (3 ∷ []) among e), λ s. refl))
+
+  -- a metric that is said is the line's
+  from_metric : (k j : MetricKind) (o : Option Metric) (x y code : ℕ) → metric_of k line.metrics ≡ o → option_map (metric_octets k) o ≡ Some (x ∷ (y ∷ [])) → has x (flag_of j) ≡ true → code ≡ 256 * (x % 16) + y →
+      (metric : Metric) × (metric_of j line.metrics ≡ Some metric) × (metric.code ≡ code)
+  from_metric k j None x y code of e flag is = cc
+  from_metric k j (Some metric) x y code of e flag is =
+      let (first, second) = same_two ((256 * flag_of k + metric.code) / 256) ((256 * flag_of k + metric.code) % 256) x y e in
+      let there : has ((256 * flag_of k + metric.code) / 256) (flag_of j) ≡ true = ap (λ (n : ℕ). has n (flag_of j)) first ∙ flag in
+      let same : k ≡ j = same_kind k j (sym (metric_flag k j metric) ∙ there) in (
+        metric,
+        subst (λ (i : MetricKind). metric_of i line.metrics ≡ Some metric) same of,
+        code_again k metric ∙ ap (λ (n : ℕ). 256 * (n % 16) + (256 * flag_of k + metric.code) % 256) first ∙ ap (λ (n : ℕ). 256 * (x % 16) + n) second ∙ sym is,
+      )
+
+  pub shown : (j : MetricKind) (code : ℕ) → ShowsMetric m line.net j code → (metric : Metric) × (metric_of j line.metrics ≡ Some metric) × (metric.code ≡ code)
+  shown j code (x, y, s, flag, is) =
+      let (c, kind, v) = line_says link_metric (x ∷ (y ∷ [])) s in
+      let (k, same) = metric_column c kind in
+      let value : value_of (column_of k) line ≡ Some (x ∷ (y ∷ [])) = subst (λ (d : Column). value_of d line ≡ Some (x ∷ (y ∷ []))) same v in
+      from_metric k j (metric_of k line.metrics) x y code refl (sym (metric_value k line) ∙ value) flag is
+
+  metric_from : (k : MetricKind) (o : Option Metric) → metric_of k line.metrics ≡ o → MetricIs m line.net k o
+  metric_from k None e = λ code s. (let f = (shown k code s).1 in cc)
+  metric_from k (Some metric) e =
+      let value : value_of (column_of k) line ≡ Some (metric_octets k metric) = metric_value k line ∙ ap (option_map (metric_octets k)) e in (
+        (256 * flag_of k + metric.code) / 256,
+        (256 * flag_of k + metric.code) % 256,
+        subst (λ (kind : ℕ). Says m line.net kind (metric_octets k metric)) (column_kind k) (says m lines are line (column_of k) (metric_octets k metric) among value),
+        has_flag k metric,
+        code_again k metric,
+      )
+
+  pub metric_is : (k : MetricKind) → MetricIs m line.net k (metric_of k line.metrics)
+  metric_is k = metric_from k (metric_of k line.metrics) refl
+
+  -- each metric that is said has two octets
+  pub two_octets : (octets : List ℕ) → Says m line.net link_metric octets → (x : ℕ) × (y : ℕ) × (octets ≡ x ∷ (y ∷ []))
+  two_octets octets s =
+      let (c, kind, v) = line_says link_metric octets s in
+      let (k, same) = metric_column c kind in
+      let value : value_of (column_of k) line ≡ Some octets = subst (λ (d : Column). value_of d line ≡ Some octets) same v in
+      from k (metric_of k line.metrics) (sym (metric_value k line) ∙ value)
+    where
+      from : (k : MetricKind) (o : Option Metric) → option_map (metric_octets k) o ≡ Some octets → (x : ℕ) × (y : ℕ) × (octets ≡ x ∷ (y ∷ []))
+      from k None e = cc
+      from k (Some metric) e = ((256 * flag_of k + metric.code) / 256, (256 * flag_of k + metric.code) % 256, cc)

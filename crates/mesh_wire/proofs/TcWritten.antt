@@ -1,0 +1,178 @@
+-- What is written of a TC reads as it, breaks no rule, and has nothing that is ignored.
+use Rattle.std.proofs.Common.{◌≡◌, ℕ, ◌/◌, ◌%◌, ◌≤◌, ◌⊎◌, inl, inr, List, [], ◌∷◌, length, take, map, refl, sym, ap, subst, ◌∙◌, arith, length-take}
+use Rattle.std.specs.Prelude.{Contains, AllPairs, Option, Some, None, IsTrue, Bool, true, false, cond}
+use Rattle.std.specs.Option.{option_map, is_some}
+use Rattle.std.proofs.lemmas.List.{length-map}
+use Rattle.mesh_atoms.specs.declared.addr.NetAddr.{NetAddr}
+use Rattle.mesh_atoms.specs.declared.tc.TcRow.{TcRow}
+use Rattle.mesh_atoms.specs.declared.tc.Tc.{Tc}
+use Rattle.mesh_atoms.specs.Nodes.{IsBefore}
+use Rattle.mesh_packet.specs.declared.packet.Span.{Span}
+use Rattle.mesh_packet.specs.Fields.{MessageFields, PacketFields}
+use Rattle.mesh_packet.specs.Grammar.{Spells}
+use Rattle.mesh_packet.specs.Least.{IsEncodableMessage}
+use Rattle.mesh_tlv.specs.Fields.{TlvFields}
+use Rattle.mesh_wire.specs.declared.lines.Column.{Column}
+use Rattle.mesh_wire.specs.declared.lines.Column.TheVariants.{Local, Link, Other, Mpr, AddrType, Gateway, LinkIn, LinkOut, NearIn, NearOut}
+use Rattle.mesh_wire.specs.declared.lines.Line.{Line}
+use Rattle.mesh_wire.specs.Drafts.{HasTcValues, heading_of, IsTcMessage, FitsAlone}
+use Rattle.mesh_wire.specs.Kinds.{nbr_addr_type, gateway, link_metric, cont_seq_num}
+use Rattle.mesh_wire.specs.Lines.{kind_of, value_of, flags_number, tc_line}
+use Rattle.mesh_wire.specs.Metrics.{Near_out, ShowsMetric}
+use Rattle.mesh_wire.specs.Parts.{octets_of}
+use Rattle.mesh_wire.specs.Rows.{HasPart, Says, AreRows}
+use Rattle.mesh_wire.specs.Rules.{Keeps}
+use Rattle.mesh_wire.specs.Runs.{has_part}
+use Rattle.mesh_wire.specs.Tc.{IsTcRow, TcIs}
+use Rattle.mesh_wire.specs.TcRules.{BreaksTc, AddressWidth, NoOriginator, NoSequence, Validity, Interval, Content, AddrType as AddrTypeRule, TwoAddrTypes, Prefix, GatewayOctet, TwoGateways, Beside, Metric as MetricRule}
+use Rattle.mesh_wire.specs.Times.{distance_of}
+use Rattle.mesh_wire.specs.Writes.{AreOneType, HaveTypeWhole, IsAlone, HasFlag, IsReadOfTcAddress, WritesTc, ReadsBackTc}
+use Rattle.mesh_wire.proofs.Fits.{message_fits, HasFewParts, fits_alone}
+use Rattle.mesh_wire.proofs.Headings.{validity_is, interval_is, content_is, read_of_tc}
+use Rattle.mesh_wire.proofs.HelloWritten.{bit_most, originator_is, none_said, flags_octet, metric_flagged}
+use Rattle.mesh_wire.proofs.LinesSay.{octet_value, octet_is, flags_are, metric_is, two_octets, metric_value}
+use Rattle.mesh_wire.proofs.OneTc.{one_tc}
+use Rattle.mesh_wire.proofs.RowLines.{unmapped, alone_again}
+use Rattle.mesh_wire.proofs.RowsSay.{unique, among, row_stands, row_at, row_there, part_there, said_of, once, at_row, one_code}
+
+few_of : (row : TcRow) → HasFewParts (tc_line row)
+few_of row = let l = tc_line row in omega (arith, bit_most (has_part AddrType l), bit_most (has_part Gateway l), bit_most (has_part NearOut l))
+
+-- a flag is set where a type is said
+set_of : (a b : Bool) (octets : List ℕ) → option_map (λ (n : ℕ). n ∷ []) (flags_number a b) ≡ Some octets → IsTrue a ⊎ IsTrue b
+set_of false false octets e = cc
+set_of true b octets e = inl refl
+set_of false true octets e = inr refl
+
+-- the one octet of a distance
+distance_octet : (o : Option ℕ) (octets : List ℕ) → option_map (λ (n : ℕ). n ∷ []) o ≡ Some octets → length octets ≡ 1
+distance_octet None octets e = cc
+distance_octet (Some n) octets e = let f : octets ≡ n ∷ [] = cc in ap length f
+
+part_of : (row : TcRow) (kind : ℕ) (octets : List ℕ) (c : Column) → kind ≡ kind_of c → value_of c (tc_line row) ≡ Some octets → (kind ≡ nbr_addr_type) ⊎ ((kind ≡ gateway) ⊎ ((kind ≡ link_metric) × HasFlag Near_out octets))
+part_of row kind octets Local e v = cc
+part_of row kind octets Link e v = cc
+part_of row kind octets Other e v = cc
+part_of row kind octets Mpr e v = cc
+part_of row kind octets AddrType e v = inl e
+part_of row kind octets Gateway e v = inr (inl e)
+part_of row kind octets LinkIn e v = cc
+part_of row kind octets LinkOut e v = cc
+part_of row kind octets NearIn e v = cc
+part_of row kind octets NearOut e v = inr (inr (e, metric_flagged Near_out row.metric octets (sym (metric_value Near_out (tc_line row)) ∙ v)))
+
+module _ (tc : Tc) (hop_limit : ℕ) (values : List ℕ) (m : MessageFields) (h : IsTcMessage tc hop_limit (map tc_line tc.rows) values m) (has : HasTcValues tc (map tc_line tc.rows) values)
+    (up : AllPairs (λ (a b : TcRow). IsBefore a.dest b.dest) tc.rows) (one_type : AreOneType tc.rows) (is_whole : HaveTypeWhole tc.rows) where
+  row_is : (row : TcRow) → Contains tc.rows row → IsTcRow m row
+  row_is row there =
+      let l = tc_line row in
+      let flags = flags_are m (map tc_line tc.rows) h.blocks (unique tc_line tc.rows m h.blocks up) l (among tc_line tc.rows m h.blocks up row there) AddrType refl row.origin row.routable (octet_value l.addr_type) in record {
+        origin = flags.0;
+        routable = flags.1;
+        gateway_is = octet_is m (map tc_line tc.rows) h.blocks (unique tc_line tc.rows m h.blocks up) l (among tc_line tc.rows m h.blocks up row there) Gateway refl row.gateway (octet_value l.gateway);
+        metric = metric_is m (map tc_line tc.rows) h.blocks (unique tc_line tc.rows m h.blocks up) l (among tc_line tc.rows m h.blocks up row there) Near_out;
+      }
+
+  rows_are : AreRows m (λ (row : TcRow). row.dest) (IsTcRow m) tc.rows
+  rows_are = record {
+    ascending = up;
+    each = λ row there. (row_stands tc_line tc.rows m h.blocks up row there, row_is row there);
+    all = λ net at. row_at tc_line tc.rows m h.blocks up net at;
+  }
+
+  four : take 4 values ≡ has.0 ∷ (has.1 ∷ (tc.ansn / 256 ∷ (tc.ansn % 256 ∷ [])))
+  four = let (v, i, is_v, is_i, is) = has in ap (take 4) is
+
+  heading : m.tlvs ≡ heading_of (has.0 ∷ (has.1 ∷ (tc.ansn / 256 ∷ (tc.ansn % 256 ∷ [])))) (is_some tc.interval) cont_seq_num (cond tc.complete 0 1)
+  heading = h.tlvs ∙ ap (λ (l : List ℕ). heading_of l (is_some tc.interval) cont_seq_num (cond tc.complete 0 1)) four
+
+  tc_is : TcIs m tc
+  tc_is = record {
+    originator = originator_is m.originator (Some tc.originator) h.originator;
+    sequence = h.sequence;
+    content = content_is has.0 has.1 (is_some tc.interval) m tc.ansn tc.complete heading;
+    validity = validity_is has.0 has.1 (tc.ansn / 256 ∷ (tc.ansn % 256 ∷ [])) (cond tc.complete 0 1) m cont_seq_num (inr refl) (distance_of m.count) (is_some tc.interval) tc.validity heading has.2;
+    interval = interval_is has.0 has.1 (tc.ansn / 256 ∷ (tc.ansn % 256 ∷ [])) (cond tc.complete 0 1) m cont_seq_num (inr refl) (distance_of m.count) tc.interval heading has.3;
+    rows = rows_are;
+  }
+
+  -- ---- rules
+
+  type_of : (row : TcRow) → Contains tc.rows row → (octets : List ℕ) → Says m row.dest nbr_addr_type octets → option_map (λ (n : ℕ). n ∷ []) (flags_number row.origin row.routable) ≡ Some octets
+  type_of row there octets s = sym (octet_value (tc_line row).addr_type) ∙ said_of tc_line tc.rows m h.blocks up row there AddrType refl nbr_addr_type refl octets s
+
+  gateway_of : (row : TcRow) → Contains tc.rows row → (octets : List ℕ) → Says m row.dest gateway octets → option_map (λ (n : ℕ). n ∷ []) row.gateway ≡ Some octets
+  gateway_of row there octets s = sym (octet_value (tc_line row).gateway) ∙ said_of tc_line tc.rows m h.blocks up row there Gateway refl gateway refl octets s
+
+  keeps : Keeps (BreaksTc m)
+  keeps n a (AddressWidth wide) = wide h.width
+  keeps n a (NoOriginator none) = let e = h.originator in cc
+  keeps n a (NoSequence none) = let e = h.sequence in cc
+  keeps n a (Validity none) = none tc.validity tc_is.validity
+  keeps n a (Interval none) = none tc.interval tc_is.interval
+  keeps n a (Content none) = none tc.ansn tc.complete tc_is.content
+  keeps n a (AddrTypeRule net (octets, s, wrong)) =
+      let (row, there, of) = row_there tc_line tc.rows m h.blocks up net nbr_addr_type octets s in
+      wrong (flags_octet row.origin row.routable octets (type_of row there octets (at_row tc_line tc.rows m h.blocks up row net of nbr_addr_type octets s)))
+  keeps n a (TwoAddrTypes net (x, y, s, t, other)) =
+      let (row, there, of) = row_there tc_line tc.rows m h.blocks up net nbr_addr_type x s in
+      other (once tc_line tc.rows m h.blocks up row there AddrType refl nbr_addr_type refl x y (at_row tc_line tc.rows m h.blocks up row net of nbr_addr_type x s) (at_row tc_line tc.rows m h.blocks up row net of nbr_addr_type y t))
+  keeps n a (Prefix net (octets, s) short) =
+      let (row, there, of) = row_there tc_line tc.rows m h.blocks up net nbr_addr_type octets s in
+      omega (arith, short, is_whole row there (set_of row.origin row.routable octets (type_of row there octets (at_row tc_line tc.rows m h.blocks up row net of nbr_addr_type octets s))), ap (λ (x : NetAddr). x.prefix) of)
+  keeps n a (GatewayOctet net (octets, s, other)) =
+      let (row, there, of) = row_there tc_line tc.rows m h.blocks up net gateway octets s in
+      other (distance_octet row.gateway octets (gateway_of row there octets (at_row tc_line tc.rows m h.blocks up row net of gateway octets s)))
+  keeps n a (TwoGateways net (x, y, s, t, other)) =
+      let (row, there, of) = row_there tc_line tc.rows m h.blocks up net gateway x s in
+      other (once tc_line tc.rows m h.blocks up row there Gateway refl gateway refl x y (at_row tc_line tc.rows m h.blocks up row net of gateway x s) (at_row tc_line tc.rows m h.blocks up row net of gateway y t))
+  keeps n a (Beside net (octets, s) (x, t)) =
+      let (row, there, of) = row_there tc_line tc.rows m h.blocks up net gateway octets s in
+      let none : row.gateway ≡ None = one_type row there (set_of row.origin row.routable x (type_of row there x (at_row tc_line tc.rows m h.blocks up row net of nbr_addr_type x t))) in
+      none_said octets (option_map (λ (n : ℕ). n ∷ []) row.gateway) (ap (option_map (λ (n : ℕ). n ∷ [])) none) (gateway_of row there octets (at_row tc_line tc.rows m h.blocks up row net of gateway octets s))
+  keeps n a (MetricRule net (inl (octets, s, other))) =
+      let (row, there, of) = row_there tc_line tc.rows m h.blocks up net link_metric octets s in
+      let (x, y, is) = two_octets m (map tc_line tc.rows) h.blocks (unique tc_line tc.rows m h.blocks up) (tc_line row) (among tc_line tc.rows m h.blocks up row there) octets (at_row tc_line tc.rows m h.blocks up row net of link_metric octets s) in
+      other (ap length is)
+  keeps n a (MetricRule net (inr (k, x, y, s, t, other))) =
+      let (high, low, is, flag, code) = s in
+      let (row, there, of) = row_there tc_line tc.rows m h.blocks up net link_metric (high ∷ (low ∷ [])) is in
+      other (one_code tc_line tc.rows m h.blocks up row there k x y (subst (λ (p : NetAddr). ShowsMetric m p k x) (sym of) s) (subst (λ (p : NetAddr). ShowsMetric m p k y) (sym of) t))
+
+  -- ---- the whole
+
+  part_read : (net : NetAddr) (part : TlvFields) → HasPart m net part → IsReadOfTcAddress part
+  part_read net part p =
+      let (row, c, there, here, k, ext, value) = part_there tc_line tc.rows m h.blocks up net part p in
+      record { kind = part_of row part.kind (octets_of part.value) c k value; ext = ext }
+
+  few : (line : Line) → Contains (map tc_line tc.rows) line → HasFewParts line
+  few line on = let (row, there, is) = unmapped tc_line tc.rows line on in subst HasFewParts is (few_of row)
+
+  pub fits : length tc.rows ≤ 1100 → FitsAlone m
+  fits most = fits_alone m (map tc_line tc.rows) (take 4 values) (is_some tc.interval) cont_seq_num (cond tc.complete 0 1) h.width (omega (arith, length-take 4 values)) h.tlvs h.blocks (omega (arith, most, length-map tc.rows tc_line)) few
+
+  pub encodable : IsEncodableMessage m
+  encodable = message_fits m (map tc_line tc.rows) (Some tc.originator) h.width h.originator h.blocks
+
+  pub written : (bytes : List ℕ) → IsAlone m bytes → WritesTc tc hop_limit bytes
+  written bytes is = record {
+    message = m;
+    packet = is;
+    kind = h.kind;
+    limit = h.limit;
+    count = h.count;
+    reads = tc_is;
+    keeps = keeps;
+    tlvs = read_of_tc m (take 4 values) (is_some tc.interval) tc.complete h.tlvs;
+    parts = part_read;
+  }
+
+  pub back : (bytes : List ℕ) → IsAlone m bytes → (packet : PacketFields) (spans : List Span) → Spells packet spans bytes → ReadsBackTc tc packet
+  back bytes is packet spans spelled = record {
+    message = m;
+    one = ap (λ (p : PacketFields). p.messages) (alone_again m bytes is packet spans spelled);
+    kind = h.kind;
+    keeps = keeps;
+    same = λ other reads. one_tc m keeps other tc reads tc_is;
+  }

@@ -1,0 +1,24 @@
+use Rattle.std.proofs.Common.{refl, ap, subst, ◌∙◌, List, map, Bool}
+use Rattle.std.specs.Prelude.{take}
+use Rattle.mesh_packet.specs.Fields.{fields_of_block}
+use Rattle.mesh_wire.specs.declared.lines.Line.{Line}
+use Rattle.mesh_wire.specs.Drafts.{HasHelloValues, heading_of}
+use Rattle.mesh_wire.specs.Runs.{AreBlocks}
+use Rattle.mesh_wire.proofs.write.hello_message.Goals as goal
+
+pub returns : goal.returns
+returns c =
+    let values = c.args.values.now in (
+      values,
+      subst (λ (lines : List Line). HasHelloValues c.args.hello.now lines values) c.requires.lines c.requires.values,
+      record {
+        kind = refl;
+        width = refl;
+        originator = c.whole_if_some.ensures;
+        limit = refl;
+        count = refl;
+        sequence = refl;
+        tlvs = c.in_ok-tlvs.ensures ∙ ap (λ (b : Bool). heading_of (take 3 values) b 7 0) c.is_some.ensures;
+        blocks = subst (λ (lines : List Line). AreBlocks lines (map fields_of_block c.in_ok-blocks.blocks)) c.requires.lines c.in_ok-blocks.ensures;
+      },
+    )

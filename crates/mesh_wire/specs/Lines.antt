@@ -1,0 +1,120 @@
+-- What is written of each address, by what its TLVs may say.
+use Rattle.std.specs.Prelude.{ℕ, ◌+◌, ◌*◌, ◌/◌, ◌%◌, List, [], ◌∷◌, Option, Some, None, Bool, true, false, if◌then◌else◌, unwrap_or}
+use Rattle.std.specs.Option.{option_map}
+use Rattle.std.specs.List.{flat_map}
+use Rattle.mesh_atoms.specs.declared.hello.HelloRow.{HelloRow}
+use Rattle.mesh_atoms.specs.declared.metric.Metric.{Metric}
+use Rattle.mesh_atoms.specs.declared.tc.TcRow.{TcRow}
+use Rattle.mesh_wire.specs.Hello.{local_value, link_value, other_value}
+use Rattle.mesh_wire.specs.Kinds.{local_if, link_status, other_neighb, mpr, nbr_addr_type, gateway, link_metric}
+use Rattle.mesh_wire.specs.declared.lines.Column.{Column}
+use Rattle.mesh_wire.specs.declared.lines.Column.TheVariants.{Local, Link, Other, Mpr, AddrType, Gateway, LinkIn, LinkOut, NearIn, NearOut}
+use Rattle.mesh_wire.specs.declared.lines.Line.{Line}
+
+-- the type of TLV
+abbrev pub kind_of : Column → ℕ
+kind_of Local = local_if
+kind_of Link = link_status
+kind_of Other = other_neighb
+kind_of Mpr = mpr
+kind_of AddrType = nbr_addr_type
+kind_of Gateway = gateway
+kind_of LinkIn = link_metric
+kind_of LinkOut = link_metric
+kind_of NearIn = link_metric
+kind_of NearOut = link_metric
+
+-- whether a value has two octets, and not one
+abbrev pub is_wide : Column → Bool
+is_wide Local = false
+is_wide Link = false
+is_wide Other = false
+is_wide Mpr = false
+is_wide AddrType = false
+is_wide Gateway = false
+is_wide LinkIn = true
+is_wide LinkOut = true
+is_wide NearIn = true
+is_wide NearOut = true
+
+-- how many octets a value has
+abbrev pub width_of : Column → ℕ
+width_of c = if is_wide c then 2 else 1
+
+-- a number whose high octet is this one
+abbrev pub high : Option ℕ → Option ℕ
+high octet = option_map (λ (n : ℕ). 256 * n) octet
+
+-- a metric with the flag of its kind in the high octet
+abbrev pub flagged : ℕ → Option Metric → Option ℕ
+flagged flag metric = option_map (λ (m : Metric). 256 * flag + m.code) metric
+
+-- what is said of an address, as a number of 16 bits whose high octet is the first of the value
+abbrev pub number : Column → Line → Option ℕ
+number Local l = high l.local
+number Link l = high l.link
+number Other l = high l.other
+number Mpr l = high l.mpr
+number AddrType l = high l.addr_type
+number Gateway l = high l.gateway
+number LinkIn l = flagged 128 l.metrics.link_in
+number LinkOut l = flagged 64 l.metrics.link_out
+number NearIn l = flagged 32 l.metrics.near_in
+number NearOut l = flagged 16 l.metrics.near_out
+
+-- the value of a number
+abbrev pub octets_of : Column → ℕ → List ℕ
+octets_of c n = n / 256 ∷ (if is_wide c then n % 256 ∷ [] else [])
+
+-- the value that is said of an address
+abbrev pub value_of : Column → Line → Option (List ℕ)
+value_of c l = option_map (octets_of c) (number c l)
+
+-- two flags, 1 and 2, in one octet; none where neither is set
+abbrev pub flags_number : Bool → Bool → Option ℕ
+flags_number false false = None
+flags_number true false = Some 1
+flags_number false true = Some 2
+flags_number true true = Some 3
+
+-- what is written of a row of a HELLO
+abbrev pub hello_line : HelloRow → Line
+hello_line r = record {
+  net = r.addr;
+  local = option_map local_value r.local;
+  link = option_map link_value r.link;
+  other = option_map other_value r.other;
+  mpr = flags_number r.mpr.flooding r.mpr.routing;
+  addr_type = None;
+  gateway = None;
+  metrics = r.metrics;
+}
+
+-- what is written of a row of a TC
+abbrev pub tc_line : TcRow → Line
+tc_line r = record {
+  net = r.dest;
+  local = None;
+  link = None;
+  other = None;
+  mpr = None;
+  addr_type = flags_number r.origin r.routable;
+  gateway = r.gateway;
+  metrics = record { link_in = None; link_out = None; near_in = None; near_out = r.metric };
+}
+
+-- all columns, in the order in which they are written
+abbrev pub columns : List Column
+columns = Local ∷ (Link ∷ (Other ∷ (Mpr ∷ (AddrType ∷ (Gateway ∷ (LinkIn ∷ (LinkOut ∷ (NearIn ∷ (NearOut ∷ [])))))))))
+
+-- the octets that are laid for an address: its value, or zeros of that length
+abbrev pub laid : Column → Line → List ℕ
+laid c l = octets_of c (unwrap_or (number c l) 0)
+
+-- the octets that are laid for addresses, one after the other
+abbrev pub column_text : Column → List Line → List ℕ
+column_text c lines = flat_map (laid c) lines
+
+-- the same for several columns, one after the other
+abbrev pub columns_text : List Column → List Line → List ℕ
+columns_text cs lines = flat_map (λ (c : Column). column_text c lines) cs

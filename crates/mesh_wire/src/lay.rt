@@ -1,0 +1,62 @@
+//! The values of all address TLVs of a message, laid in one buffer.
+ghost use Rattle.std.specs.Prelude.{◌≡◌, ◌+◌, ◌*◌, ◌++◌, OnOk};
+ghost use Rattle.mesh_wire.specs.Lines.{octets_of, columns, column_text, columns_text};
+
+use crate::lines::{Column, Line};
+use mesh_atoms::Bytes;
+use std::alloc::AllocError;
+
+/// All columns, in the order in which they are laid and written.
+pub(crate) const COLUMNS: [Column; 10] = [
+    Column::Local,
+    Column::Link,
+    Column::Other,
+    Column::Mpr,
+    Column::AddrType,
+    Column::Gateway,
+    Column::LinkIn,
+    Column::LinkOut,
+    Column::NearIn,
+    Column::NearOut,
+];
+
+// Appends the value of a number.
+fn put_value(column: Column, number: u16, out: &mut Bytes) -> Result<(), AllocError>
+    ensures { OnOk result (out.new ≡ out.old ++ octets_of column number) }
+{
+    out.push((number / 256) as u8)?;
+    if column.is_wide() {
+        out.push((number % 256) as u8)?;
+    }
+    Ok(())
+}
+
+// Appends a value for each line: that of the column, or zeros where the line has none.
+fn lay_column(column: Column, lines: &[Line], out: &mut Bytes) -> Result<(), AllocError>
+    ensures { OnOk result (out.new ≡ out.old ++ column_text column lines.now) }
+{
+    for line in lines {
+        put_value(column, line.number(column).unwrap_or(0), out)?;
+    }
+    Ok(())
+}
+
+// The same for several columns.
+fn lay_columns(columns: &[Column], lines: &[Line], out: &mut Bytes) -> Result<(), AllocError>
+    ensures { OnOk result (out.new ≡ out.old ++ columns_text columns.now lines.now) }
+{
+    match columns {
+        [] => Ok(()),
+        [column, rest @ ..] => {
+            lay_column(*column, lines, out)?;
+            lay_columns(rest, lines, out)
+        }
+    }
+}
+
+/// Appends the values of all columns.
+pub(crate) fn lay(lines: &[Line], out: &mut Bytes) -> Result<(), AllocError>
+    ensures { OnOk result (out.new ≡ out.old ++ columns_text columns lines.now) }
+{
+    lay_columns(&COLUMNS, lines, out)
+}

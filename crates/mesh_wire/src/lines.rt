@@ -1,0 +1,208 @@
+//! What is written of each address of a message, whichever message it is.
+ghost use Rattle.std.specs.Prelude.{◌≡◌, ◌+◌, ◌*◌, ◌<◌, ◌≤◌, IfOk, map};
+ghost use Rattle.std.specs.Option.{option_map};
+ghost use Rattle.mesh_wire.specs.Hello.{local_value, link_value, other_value};
+ghost use Rattle.mesh_wire.specs.Lines.{kind_of, is_wide, width_of, number, flags_number, hello_line, tc_line};
+
+use mesh_atoms::{
+    HelloRow, LinkStatus, LocalIf, Metric, Metrics, NetAddr, OtherStatus, Seq, TcRow,
+};
+use std::alloc::{AllocError, Global};
+
+/// What a TLV may say of an address: its type, and for LINK_METRIC which metric.
+#[derive(Clone, Copy, Debug, PartialEq, Eq)]
+pub(crate) enum Column {
+    Local,
+    Link,
+    Other,
+    Mpr,
+    AddrType,
+    Gateway,
+    LinkIn,
+    LinkOut,
+    NearIn,
+    NearOut,
+}
+
+/// All that is written of one address.
+#[derive(Clone, Copy, Debug, PartialEq, Eq)]
+pub(crate) struct Line {
+    pub net: NetAddr,
+    pub local: Option<u8>,
+    pub link: Option<u8>,
+    pub other: Option<u8>,
+    pub mpr: Option<u8>,
+    pub addr_type: Option<u8>,
+    pub gateway: Option<u8>,
+    pub metrics: Metrics,
+}
+
+impl Column {
+    /// The type of its TLVs.
+    pub(crate) fn kind(self) -> u8
+        ensures { result ≡ kind_of self }
+    {
+        match self {
+            Column::Local => 2,
+            Column::Link => 3,
+            Column::Other => 4,
+            Column::Mpr => 8,
+            Column::AddrType => 9,
+            Column::Gateway => 10,
+            Column::LinkIn | Column::LinkOut | Column::NearIn | Column::NearOut => 7,
+        }
+    }
+
+    /// Whether its values have two octets, and not one.
+    pub(crate) fn is_wide(self) -> bool
+        ensures { result ≡ is_wide self }
+    {
+        matches!(
+            self,
+            Column::LinkIn | Column::LinkOut | Column::NearIn | Column::NearOut
+        )
+    }
+}
+
+// An octet as the high one of 16 bits.
+fn high(octet: Option<u8>) -> Option<u16>
+    ensures { result ≡ option_map (λ n. 256 * n) octet }
+{
+    match octet {
+        Some(octet) => Some(256 * u16::from(octet)),
+        None => None,
+    }
+}
+
+// A metric with the flag of its kind in the high octet.
+fn flagged(flag: u16, metric: Option<Metric>) -> Option<u16>
+    requires { flag ≤ 128 }
+    ensures { result ≡ option_map (λ m. 256 * flag + m.code) metric }
+{
+    match metric {
+        Some(metric) => Some(256 * flag + metric.code),
+        None => None,
+    }
+}
+
+impl Line {
+    /// What is said of the address, as a number whose high octet is the first of the value.
+    pub(crate) fn number(&self, column: Column) -> Option<u16>
+        ensures { result ≡ number column self.now }
+    {
+        match column {
+            Column::Local => high(self.local),
+            Column::Link => high(self.link),
+            Column::Other => high(self.other),
+            Column::Mpr => high(self.mpr),
+            Column::AddrType => high(self.addr_type),
+            Column::Gateway => high(self.gateway),
+            Column::LinkIn => flagged(128, self.metrics.link_in),
+            Column::LinkOut => flagged(64, self.metrics.link_out),
+            Column::NearIn => flagged(32, self.metrics.near_in),
+            Column::NearOut => flagged(16, self.metrics.near_out),
+        }
+    }
+}
+
+// Two flags, 1 and 2, in one octet; none where neither is set.
+fn flags_number(first: bool, second: bool) -> Option<u8>
+    ensures { result ≡ flags_number first second }
+{
+    match (first, second) {
+        (false, false) => None,
+        (true, false) => Some(1),
+        (false, true) => Some(2),
+        (true, true) => Some(3),
+    }
+}
+
+fn local_value(local: Option<LocalIf>) -> Option<u8>
+    ensures { result ≡ option_map local_value local }
+{
+    match local {
+        Some(LocalIf::This) => Some(0),
+        Some(LocalIf::Other) => Some(1),
+        None => None,
+    }
+}
+
+fn link_value(link: Option<LinkStatus>) -> Option<u8>
+    ensures { result ≡ option_map link_value link }
+{
+    match link {
+        Some(LinkStatus::Lost) => Some(0),
+        Some(LinkStatus::Symmetric) => Some(1),
+        Some(LinkStatus::Heard) => Some(2),
+        None => None,
+    }
+}
+
+fn other_value(other: Option<OtherStatus>) -> Option<u8>
+    ensures { result ≡ option_map other_value other }
+{
+    match other {
+        Some(OtherStatus::Lost) => Some(0),
+        Some(OtherStatus::Symmetric) => Some(1),
+        None => None,
+    }
+}
+
+// What is written of a row of a HELLO.
+fn hello_line(row: &HelloRow) -> Line
+    ensures { result ≡ hello_line row.now }
+{
+    Line {
+        net: row.addr,
+        local: local_value(row.local),
+        link: link_value(row.link),
+        other: other_value(row.other),
+        mpr: flags_number(row.mpr.flooding, row.mpr.routing),
+        addr_type: None,
+        gateway: None,
+        metrics: row.metrics,
+    }
+}
+
+// What is written of a row of a TC.
+fn tc_line(row: &TcRow) -> Line
+    ensures { result ≡ tc_line row.now }
+{
+    Line {
+        net: row.dest,
+        local: None,
+        link: None,
+        other: None,
+        mpr: None,
+        addr_type: flags_number(row.origin, row.routable),
+        gateway: row.gateway,
+        metrics: Metrics {
+            link_in: None,
+            link_out: None,
+            near_in: None,
+            near_out: row.metric,
+        },
+    }
+}
+
+/// What is written of the rows of a HELLO.
+pub(crate) fn hello_lines(alloc: Global, rows: &[HelloRow]) -> Result<Seq<Line>, AllocError>
+    ensures { IfOk result (λ lines. lines ≡ map hello_line rows.now) }
+{
+    let mut lines = Seq::new(alloc);
+    for row in rows {
+        lines.push(hello_line(row))?;
+    }
+    Ok(lines)
+}
+
+/// What is written of the rows of a TC.
+pub(crate) fn tc_lines(alloc: Global, rows: &[TcRow]) -> Result<Seq<Line>, AllocError>
+    ensures { IfOk result (λ lines. lines ≡ map tc_line rows.now) }
+{
+    let mut lines = Seq::new(alloc);
+    for row in rows {
+        lines.push(tc_line(row))?;
+    }
+    Ok(lines)
+}

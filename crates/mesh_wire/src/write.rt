@@ -1,0 +1,242 @@
+//! Writing HELLO and TC messages, each as a packet of its own.
+ghost use Rattle.std.specs.Prelude.{◌≡◌, ◌≤◌, length, map, List, IfOk, AllPairs};
+ghost use Rattle.std.specs.Option.{option_map};
+ghost use Rattle.mesh_atoms.specs.Nodes.{IsBefore};
+ghost use Rattle.mesh_tlv.specs.Fields.{fields};
+ghost use Rattle.mesh_packet.specs.declared.packet.Span.{Span};
+ghost use Rattle.mesh_packet.specs.Fields.{fields_of_message, PacketFields};
+ghost use Rattle.mesh_packet.specs.Grammar.{Spells};
+ghost use Rattle.mesh_packet.specs.Least.{IsEncodableMessage};
+ghost use Rattle.mesh_wire.specs.Drafts.{IsCodeOf, IsCodeIfSome, octet_of, whole, HasHelloValues, HasTcValues, saying, heading_of, DraftsHello, DraftsTc, FitsAlone};
+ghost use Rattle.mesh_wire.specs.Lines.{hello_line, tc_line};
+ghost use Rattle.mesh_wire.specs.Writes.{IsSentTime, IsSentIfSome, SayNoOtherOfSender, HaveStatusWhole, AreOneType, HaveTypeWhole, IsAlone, WritesHello, WritesTc, ReadsBackHello, ReadsBackTc};
+
+use crate::lay::lay;
+use crate::lines::{Line, hello_lines, tc_lines};
+use crate::runs::{blocks_of, raw_of};
+use mesh_addr::RawAddr;
+use mesh_atoms::{Addr4, Bytes, Hello, Seq, Tc, Willing, time_code_at_least};
+use mesh_packet::{EncodeFault, Message, Packet, encode};
+use mesh_tlv::Tlv;
+use std::alloc::{AllocError, Global};
+
+// The code of a time that has one.
+fn code_of(ticks: u64) -> u8
+    requires { IsSentTime ticks }
+    ensures { IsCodeOf ticks result }
+{
+    match time_code_at_least(ticks) {
+        Some(code) => code,
+        None => unreachable!(),
+    }
+}
+
+// The code of a time that may be left out, or 0.
+fn code_if_some(ticks: Option<u64>) -> u8
+    requires { IsSentIfSome ticks }
+    ensures { IsCodeIfSome ticks result }
+{
+    match ticks {
+        Some(ticks) => code_of(ticks),
+        None => 0,
+    }
+}
+
+// The octet of willingness.
+fn octet_of(willing: Willing) -> u8
+    ensures { result ≡ octet_of willing }
+{
+    16 * willing.flooding + willing.routing
+}
+
+// The address as a whole one.
+fn whole(address: Addr4) -> RawAddr
+    ensures { result ≡ whole address }
+{
+    raw_of(address, 32)
+}
+
+// The same, where there is one.
+fn whole_if_some(address: Option<Addr4>) -> Option<RawAddr>
+    ensures { result ≡ option_map whole address }
+{
+    match address {
+        Some(address) => Some(whole(address)),
+        None => None,
+    }
+}
+
+// A TLV with a value.
+fn saying<'a>(kind: u8, ext: u8, octets: &'a [u8]) -> Tlv<'a>
+    ensures { fields result ≡ saying kind ext octets.now }
+{
+    Tlv {
+        kind,
+        ext,
+        value: Some(octets),
+    }
+}
+
+// The message TLVs: validity, interval where there is one, and another.
+fn heading_of<'a>(
+    alloc: Global,
+    values: &'a [u8],
+    has_interval: bool,
+    kind: u8,
+    ext: u8,
+) -> Result<Seq<Tlv<'a>>, AllocError>
+    requires { 2 ≤ length values.now }
+    ensures { IfOk result (λ tlvs. map fields tlvs ≡ heading_of values.now has_interval kind ext) }
+{
+    let mut tlvs = Seq::new(alloc);
+    tlvs.push(saying(1, 0, &values[..1]))?;
+    if has_interval {
+        tlvs.push(saying(0, 0, &values[1..2]))?;
+    }
+    tlvs.push(saying(kind, ext, &values[2..]))?;
+    Ok(tlvs)
+}
+
+// The packet of one message.
+fn alone(alloc: Global, message: Message) -> Result<Bytes, AllocError>
+    requires encodable { IsEncodableMessage (fields_of_message message) }
+    requires fits { FitsAlone (fields_of_message message) }
+    ensures { IfOk result (λ bytes. IsAlone (fields_of_message message.entry) bytes) }
+{
+    let mut messages = Seq::new(alloc);
+    messages.push(message)?;
+    let packet = Packet {
+        sequence: None,
+        tlvs: Seq::new(alloc),
+        messages,
+    };
+    match encode(alloc, &packet) {
+        Ok(bytes) => Ok(bytes),
+        Err(EncodeFault::Memory(e)) => Err(e),
+        Err(EncodeFault::TooLong) => unreachable!(),
+    }
+}
+
+// The values of all TLVs of a HELLO.
+fn hello_values(alloc: Global, hello: &Hello, lines: &[Line]) -> Result<Bytes, AllocError>
+    requires validity { IsSentTime hello.now.validity }
+    requires interval { IsSentIfSome hello.now.interval }
+    ensures { IfOk result (HasHelloValues hello.now lines.now) }
+{
+    let mut values = Bytes::new(alloc);
+    values.push(code_of(hello.validity))?;
+    values.push(code_if_some(hello.interval))?;
+    values.push(octet_of(hello.willing))?;
+    lay(lines, &mut values)?;
+    Ok(values)
+}
+
+// The message of a HELLO.
+fn hello_message<'a>(
+    alloc: Global,
+    hello: &Hello,
+    lines: &[Line],
+    values: &'a [u8],
+) -> Result<Message<'a>, AllocError>
+    requires lines { lines.now ≡ map hello_line hello.now.rows }
+    requires values { HasHelloValues hello.now lines.now values.now }
+    ensures { IfOk result (λ message. DraftsHello hello.now (fields_of_message message)) }
+{
+    let tlvs = heading_of(alloc, &values[..3], hello.interval.is_some(), 7, 0)?;
+    let blocks = blocks_of(alloc, lines, &values[3..])?;
+    Ok(Message {
+        kind: 0,
+        width: 4,
+        originator: whole_if_some(hello.originator),
+        limit: None,
+        count: None,
+        sequence: None,
+        tlvs,
+        blocks,
+    })
+}
+
+// The values of all TLVs of a TC.
+fn tc_values(alloc: Global, tc: &Tc, lines: &[Line]) -> Result<Bytes, AllocError>
+    requires validity { IsSentTime tc.now.validity }
+    requires interval { IsSentIfSome tc.now.interval }
+    ensures { IfOk result (HasTcValues tc.now lines.now) }
+{
+    let mut values = Bytes::new(alloc);
+    values.push(code_of(tc.validity))?;
+    values.push(code_if_some(tc.interval))?;
+    values.push((tc.ansn / 256) as u8)?;
+    values.push((tc.ansn % 256) as u8)?;
+    lay(lines, &mut values)?;
+    Ok(values)
+}
+
+// The message of a TC.
+fn tc_message<'a>(
+    alloc: Global,
+    tc: &Tc,
+    hop_limit: u8,
+    lines: &[Line],
+    values: &'a [u8],
+) -> Result<Message<'a>, AllocError>
+    requires lines { lines.now ≡ map tc_line tc.now.rows }
+    requires values { HasTcValues tc.now lines.now values.now }
+    ensures { IfOk result (λ message. DraftsTc tc.now hop_limit (fields_of_message message)) }
+{
+    let ext = if tc.complete { 0 } else { 1 };
+    let tlvs = heading_of(alloc, &values[..4], tc.interval.is_some(), 8, ext)?;
+    let blocks = blocks_of(alloc, lines, &values[4..])?;
+    Ok(Message {
+        kind: 1,
+        width: 4,
+        originator: Some(whole(tc.originator)),
+        limit: Some(hop_limit),
+        count: Some(0),
+        sequence: Some(tc.sequence),
+        tlvs,
+        blocks,
+    })
+}
+
+/// Writes a HELLO as a packet of its own, in the least form (RFC 6130, section 10, and RFC 7181, section 15). It takes at most
+/// 1,100 rows, in ascending order of address, each address once. Its times are those of codes from 1 to 254. A row with
+/// `local` has no status, no metric and no relay; one with `local`, `link` or `other` is of a whole address. The message has no
+/// hop limit, hop count or sequence number. Want of memory is the only fault.
+pub fn write_hello(alloc: Global, hello: &Hello) -> Result<Bytes, AllocError>
+    requires few { length hello.now.rows ≤ 1100 }
+    requires ascending { AllPairs (λ a b. IsBefore a.addr b.addr) hello.now.rows }
+    requires validity { IsSentTime hello.now.validity }
+    requires interval { IsSentIfSome hello.now.interval }
+    requires sender { SayNoOtherOfSender hello.now.rows }
+    requires whole { HaveStatusWhole hello.now.rows }
+    // What is written.
+    ensures writes { IfOk result (WritesHello hello.now) }
+    // Whatever it is read as is that HELLO.
+    ensures back { IfOk result (λ bytes. (packet : PacketFields) (spans : List Span) → Spells packet spans bytes → ReadsBackHello hello.now packet) }
+{
+    let lines = hello_lines(alloc, hello.rows.as_slice())?;
+    let values = hello_values(alloc, hello, lines.as_slice())?;
+    let message = hello_message(alloc, hello, lines.as_slice(), values.as_slice())?;
+    alone(alloc, message)
+}
+
+/// Writes a TC as a packet of its own with that hop limit and hop count 0, in the least form (RFC 7181, section 16). It takes at
+/// most 1,100 rows, in ascending order of address, each address once. Its times are those of codes from 1 to 254. A row with
+/// `origin` or `routable` has no gateway, and is of a whole address. Want of memory is the only fault.
+pub fn write_tc(alloc: Global, tc: &Tc, hop_limit: u8) -> Result<Bytes, AllocError>
+    requires few { length tc.now.rows ≤ 1100 }
+    requires ascending { AllPairs (λ a b. IsBefore a.dest b.dest) tc.now.rows }
+    requires validity { IsSentTime tc.now.validity }
+    requires interval { IsSentIfSome tc.now.interval }
+    requires kinds { AreOneType tc.now.rows }
+    requires whole { HaveTypeWhole tc.now.rows }
+    // What is written.
+    ensures writes { IfOk result (WritesTc tc.now hop_limit) }
+    // Whatever it is read as is that TC.
+    ensures back { IfOk result (λ bytes. (packet : PacketFields) (spans : List Span) → Spells packet spans bytes → ReadsBackTc tc.now packet) }
+{
+    let lines = tc_lines(alloc, tc.rows.as_slice())?;
+    let values = tc_values(alloc, tc, lines.as_slice())?;
+    let message = tc_message(alloc, tc, hop_limit, lines.as_slice(), values.as_slice())?;
+    alone(alloc, message)
+}
