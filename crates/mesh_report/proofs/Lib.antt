@@ -1,3 +1,4 @@
 mod Digits
 pub mod Joined
-mod Spans
+mod Messages
+pub mod OneListing

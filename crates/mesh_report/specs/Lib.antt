@@ -1,3 +1,5 @@
+pub mod Laws
 pub mod Lines
 pub mod Packets
 pub mod Pieces
+pub mod Readings

@@ -6,6 +6,7 @@ use Rattle.mesh_packet.specs.Fields.{BlockFields, MessageFields, PacketFields, f
 use Rattle.mesh_packet.specs.Least.{IsEncodable, LeastForm, IsTooLong}
 use Rattle.mesh_packet.specs.declared.packet.Span.{Span}
 use Rattle.hex.specs.Hex.{encode_lower}
+use Rattle.mesh_report.specs.Readings.{IsReading}
 use Rattle.mesh_report.specs.Lines.{packet_line, tlv_line, message_line, block_line, address_line, addr_tlv_line, refused_line}
 use Rattle.mesh_report.specs.declared.packet.LineRead.{LineRead}
 use Rattle.mesh_report.specs.declared.packet.LineRead.TheVariants.{Read, Refused}
@@ -18,25 +19,26 @@ block_text block = block_line block ++ flat_map (address_line block.width) block
 unfoldable pub message_text : ℕ → MessageFields → List ℕ
 message_text size message = message_line size message ++ flat_map tlv_line message.tlvs ++ flat_map block_text message.blocks
 
+-- a message, and behind it how it reads
+abbrev pub IsMessageText : ℕ → MessageFields → List ℕ → Type 0
+IsMessageText size message text = (reading : List ℕ) × IsReading message reading × (text ≡ message_text size message ++ reading)
+
 -- messages, each by the span in which it stands
-unfoldable pub messages_text : List MessageFields → List Span → List ℕ
-messages_text (message ∷ messages) (span ∷ spans) = message_text span.len message ++ messages_text messages spans
-messages_text [] spans = []
-messages_text (message ∷ messages) [] = []
+abbrev pub IsMessagesText : List MessageFields → List Span → List ℕ → Type 0
+IsMessagesText (message ∷ messages) (span ∷ spans) text =
+    (first : List ℕ) × (rest : List ℕ) × IsMessageText span.len message first × IsMessagesText messages spans rest × (text ≡ first ++ rest)
+IsMessagesText [] spans text = text ≡ []
+IsMessagesText (message ∷ messages) [] text = text ≡ []
 
 -- a packet with its TLVs and its messages
-abbrev pub listed : ℕ → PacketFields → List Span → List ℕ
-listed number packet spans = packet_line number packet ++ flat_map tlv_line packet.tlvs ++ messages_text packet.messages spans
+abbrev pub IsListed : ℕ → PacketFields → List Span → List ℕ → Type 0
+IsListed number packet spans text =
+    (messages : List ℕ) × IsMessagesText packet.messages spans messages × (text ≡ packet_line number packet ++ flat_map tlv_line packet.tlvs ++ messages)
 
 -- what a line says: a packet and where its messages stand, or the refusal
 abbrev pub line_read : LineRead → Result (PacketFields × List Span) Refusal
 line_read (Read decoded) = Ok (fields_of_decoded decoded)
 line_read (Refused refusal) = Err refusal
-
--- what is listed of the line of this number
-abbrev pub line_text : ℕ → Result (PacketFields × List Span) Refusal → List ℕ
-line_text number (Ok read) = listed number read.0 read.1
-line_text number (Err refusal) = refused_line number refusal
 
 -- ---- with the packet written again
 
@@ -54,8 +56,13 @@ abbrev pub CanRecode : Result (PacketFields × List Span) Refusal → Type 0
 CanRecode (Ok read) = IsEncodable read.0
 CanRecode (Err refusal) = Unit {0}
 
+-- what stands behind a packet: its least form where that is asked for
+abbrev pub IsRecode : Bool → PacketFields → List ℕ → Type 0
+IsRecode false packet text = text ≡ []
+IsRecode true packet text = IsRecodeLine packet text
+
 -- what is listed of the line of this number, with the packet written again or without
 abbrev pub IsLineText : Bool → ℕ → Result (PacketFields × List Span) Refusal → List ℕ → Type 0
-IsLineText false number read text = text ≡ line_text number read
-IsLineText true number (Ok read) text = (line : List ℕ) × IsRecodeLine read.0 line × (text ≡ listed number read.0 read.1 ++ line)
-IsLineText true number (Err refusal) text = text ≡ refused_line number refusal
+IsLineText recode number (Ok read) text =
+    (listing : List ℕ) × (last : List ℕ) × IsListed number read.0 read.1 listing × IsRecode recode read.0 last × (text ≡ listing ++ last)
+IsLineText recode number (Err refusal) text = text ≡ refused_line number refusal

@@ -1,10 +1,13 @@
 //! The texts that the program prints.
 #![tactic(auto)]
 
+mod laws;
 mod lines;
 mod packet;
 mod pieces;
+mod reading;
 #[cfg(test)]
 mod tests;
 
+pub use laws::one_listing;
 pub use packet::{LineRead, packet_text, put_packet_text};

@@ -156,12 +156,12 @@ pub fn put_addr_tlv_line(out: &mut Bytes, tlv: AddrTlv) -> Result<(), AllocError
     put_value_end(out, tlv.value)
 }
 
-// Puts the rule that is broken, and ends the line.
-fn put_reason(out: &mut Bytes, reason: u8) -> Result<(), AllocError>
-    ensures ok { OnOk result (out.new ≡ out.old ++ (numbered (codes " reason ") reason ++ named (codes " ") reason ++ codes "\n")) }
+/// Puts a label, the number of the rule that is broken, and its name, and ends the line.
+pub fn put_rule(out: &mut Bytes, label: &[u8], reason: u8) -> Result<(), AllocError>
+    ensures ok { OnOk result (out.new ≡ out.old ++ (numbered label.now reason ++ named (codes " ") reason ++ codes "\n")) }
     ensures kept { Grows out.old out.new }
 {
-    put_octet(out, b" reason ", reason)?;
+    put_octet(out, label, reason)?;
     put_name(out, b" ", reason)?;
     put(out, b"\n")
 }
@@ -174,5 +174,5 @@ pub fn put_refused_line(out: &mut Bytes, number: u64, refusal: Refusal) -> Resul
 {
     put_numbered(out, b"line ", number)?;
     put_numbered(out, b" refused at ", refusal.place as u64)?;
-    put_reason(out, refusal.reason)
+    put_rule(out, b" reason ", refusal.reason)
 }

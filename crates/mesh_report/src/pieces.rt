@@ -3,10 +3,10 @@ ghost use Rattle.std.specs.Prelude.{◌≡◌, ◌++◌, ◌≤◌, length, take
 ghost use Rattle.std.specs.Option.{option_copied};
 ghost use Rattle.hex.specs.Hex.{encode_lower};
 ghost use Rattle.mesh_tlv.specs.Least.{Grows};
-ghost use Rattle.mesh_report.specs.Pieces.{numbered, numbered_or_none, addressed, addressed_or_none, valued, chosen, named, reason_name};
+ghost use Rattle.mesh_report.specs.Pieces.{numbered, numbered_or_none, addressed, addressed_or_none, addressed_by_number, valued, chosen, named, reason_name};
 
 use mesh_addr::RawAddr;
-use mesh_atoms::{Bytes, put_decimal};
+use mesh_atoms::{Addr4, Bytes, put_decimal};
 use std::alloc::AllocError;
 
 /// Puts octets.
@@ -45,8 +45,34 @@ pub fn put_octet(out: &mut Bytes, label: &[u8], number: u8) -> Result<(), AllocE
     put_number(out, u64::from(number))
 }
 
-/// Puts a label, and a number of 16 bits that may be absent.
+/// Puts a label, and a number of 16 bits in decimal digits.
+#[tactic(auto, unfolding(crate::specs::Pieces::numbered))]
+pub fn put_short(out: &mut Bytes, label: &[u8], number: u16) -> Result<(), AllocError>
+    ensures ok { OnOk result (out.new ≡ out.old ++ numbered label.now number) }
+    ensures kept { Grows out.old out.new }
+{
+    put(out, label)?;
+    put_number(out, u64::from(number))
+}
+
+/// Puts a label, and a number that may be absent.
 #[tactic(auto, unfolding(crate::specs::Pieces::numbered_or_none))]
+pub fn put_number_or_none(
+    out: &mut Bytes,
+    label: &[u8],
+    number: Option<u64>,
+) -> Result<(), AllocError>
+    ensures ok { OnOk result (out.new ≡ out.old ++ numbered_or_none label.now number) }
+    ensures kept { Grows out.old out.new }
+{
+    put(out, label)?;
+    match number {
+        Some(number) => put_number(out, number),
+        None => put(out, b"none"),
+    }
+}
+
+/// Puts a label, and a number of 16 bits that may be absent.
 pub fn put_short_or_none(
     out: &mut Bytes,
     label: &[u8],
@@ -55,15 +81,13 @@ pub fn put_short_or_none(
     ensures ok { OnOk result (out.new ≡ out.old ++ numbered_or_none label.now number) }
     ensures kept { Grows out.old out.new }
 {
-    put(out, label)?;
     match number {
-        Some(number) => put_number(out, u64::from(number)),
-        None => put(out, b"none"),
+        Some(number) => put_number_or_none(out, label, Some(u64::from(number))),
+        None => put_number_or_none(out, label, None),
     }
 }
 
 /// Puts a label, and a number of 8 bits that may be absent.
-#[tactic(auto, unfolding(crate::specs::Pieces::numbered_or_none))]
 pub fn put_octet_or_none(
     out: &mut Bytes,
     label: &[u8],
@@ -72,10 +96,9 @@ pub fn put_octet_or_none(
     ensures ok { OnOk result (out.new ≡ out.old ++ numbered_or_none label.now number) }
     ensures kept { Grows out.old out.new }
 {
-    put(out, label)?;
     match number {
-        Some(number) => put_number(out, u64::from(number)),
-        None => put(out, b"none"),
+        Some(number) => put_number_or_none(out, label, Some(u64::from(number))),
+        None => put_number_or_none(out, label, None),
     }
 }
 
@@ -140,6 +163,16 @@ pub fn put_address_or_none(
     }
 }
 
+/// Puts a label, and the four octets of a router's address.
+#[tactic(auto, unfolding(crate::specs::Pieces::addressed_by_number))]
+pub fn put_router(out: &mut Bytes, label: &[u8], addr: Addr4) -> Result<(), AllocError>
+    ensures ok { OnOk result (out.new ≡ out.old ++ addressed_by_number label.now addr) }
+    ensures kept { Grows out.old out.new }
+{
+    put(out, label)?;
+    put_piece(out, &addr.0.to_be_bytes())
+}
+
 /// Puts a label, and the value of a TLV.
 #[tactic(auto, unfolding(crate::specs::Pieces::valued))]
 pub fn put_value(out: &mut Bytes, label: &[u8], value: Option<&[u8]>) -> Result<(), AllocError>
@@ -192,6 +225,20 @@ fn reason_name(reason: u8) -> &'static [u8]
         11 => b"PrefixLength",
         12 => b"NotHex",
         13 => b"OddDigits",
+        20 | 32 => b"AddressWidth",
+        21 => b"HopLimit",
+        22 => b"HopCount",
+        23 | 34 => b"Validity",
+        24 | 35 => b"Interval",
+        25 => b"Willing",
+        26 => b"Undefined",
+        27 => b"TwoValues",
+        28 => b"Prefix",
+        29 | 39 => b"Metric",
+        33 => b"Heading",
+        36 => b"Content",
+        37 => b"AddrType",
+        38 => b"Gateway",
         _ => b"none",
     }
 }

@@ -5,7 +5,7 @@ use mesh_packet::decode;
 use std::alloc::AllocError;
 
 const SMALLEST: &str =
-    "line 1 packet sequence none tlvs 0 messages 1\n message type 0 width 4 size 6 originator none limit none count none sequence none tlvs 0 blocks 0\n";
+    "line 1 packet sequence none tlvs 0 messages 1\n message type 0 width 4 size 6 originator none limit none count none sequence none tlvs 0 blocks 0\n reading broken 23 Validity\n";
 
 #[test]
 fn texts_of_lines(rt: HostRuntime) -> Result<(), AllocError> {

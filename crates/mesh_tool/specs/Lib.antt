@@ -1,4 +1,5 @@
 pub mod Dump
+pub mod Laws
 pub mod Lines
 pub mod Parts
 pub mod Top

@@ -2,6 +2,7 @@
 #![tactic(auto)]
 
 mod dump;
+mod laws;
 mod lines;
 mod say;
 mod status;
@@ -10,6 +11,7 @@ mod tests;
 mod top;
 mod words;
 
+pub use laws::one_text;
 pub use status::Status;
 pub use top::mesh_top;
 pub use words::{Job, read_words};

@@ -112,13 +112,19 @@ fn lists_packets(rt: HostRuntime) -> Result<(), AllocError> {
             plain,
             "00000300060000\n",
             0,
-            "line 1 packet sequence none tlvs 0 messages 1\n message type 0 width 4 size 6 originator none limit none count none sequence none tlvs 0 blocks 0\nlines 1 refused 0\n",
+            "line 1 packet sequence none tlvs 0 messages 1\n message type 0 width 4 size 6 originator none limit none count none sequence none tlvs 0 blocks 0\n reading broken 23 Validity\nlines 1 refused 0\n",
         ),
         (
             plain,
             "00008300220a000001000c01100164001001580710017701000a000001000402100100\n",
             0,
-            "line 1 packet sequence none tlvs 0 messages 1\n message type 0 width 4 size 34 originator 0a000001 limit none count none sequence none tlvs 3 blocks 1\n  tlv 1 extension 0 value 64\n  tlv 0 extension 0 value 58\n  tlv 7 extension 0 value 77\n  block addresses 1 tlvs 1\n   address 0a000001/32\n   tlv 2 extension 0 first 0 last 0 multi no value 00\nlines 1 refused 0\n",
+            "line 1 packet sequence none tlvs 0 messages 1\n message type 0 width 4 size 34 originator 0a000001 limit none count none sequence none tlvs 3 blocks 1\n  tlv 1 extension 0 value 64\n  tlv 0 extension 0 value 58\n  tlv 7 extension 0 value 77\n  block addresses 1 tlvs 1\n   address 0a000001/32\n   tlv 2 extension 0 first 0 last 0 multi no value 00\n reading hello validity 49152 interval 16384 flooding 7 routing 7 rows 1\nlines 1 refused 0\n",
+        ),
+        (
+            plain,
+            "00000f00060000\n0000430007020000\n00010300060000\n0001f3001b0a000002ff000005000d0110016f001001620810020007\n",
+            0,
+            "line 1 packet sequence none tlvs 0 messages 1\n message type 0 width 16 size 6 originator none limit none count none sequence none tlvs 0 blocks 0\n reading broken 20 AddressWidth\nline 2 packet sequence none tlvs 0 messages 1\n message type 0 width 4 size 7 originator none limit 2 count none sequence none tlvs 0 blocks 0\n reading broken 21 HopLimit\nline 3 packet sequence none tlvs 0 messages 1\n message type 1 width 4 size 6 originator none limit none count none sequence none tlvs 0 blocks 0\n reading broken 33 Heading\nline 4 packet sequence none tlvs 0 messages 1\n message type 1 width 4 size 27 originator 0a000002 limit 255 count 0 sequence 5 tlvs 3 blocks 0\n  tlv 1 extension 0 value 6f\n  tlv 0 extension 0 value 62\n  tlv 8 extension 0 value 0007\n reading tc originator 0a000002 sequence 5 ansn 7 complete yes validity 122880 interval 40960 rows 0\nlines 4 refused 0\n",
         ),
         (
             plain,

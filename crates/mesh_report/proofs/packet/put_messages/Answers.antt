@@ -1,14 +1,12 @@
-use Rattle.std.proofs.Common.{◌≡◌, ℕ, suc, ◌<◌, ◌++◌, List, sym, ap, ◌∙◌, arith, append_assoc, add-one, length, map, take, get_or}
-use Rattle.std.proofs.lemmas.List.{append-nil}
-use Rattle.mesh_packet.specs.Fields.{fields_of_message}
+use Rattle.std.proofs.Common.{◌≡◌, ℕ, ◌+◌, ◌<◌, List, [], ◌++◌, length, map, drop, get_or, arith, append_assoc, length-drop}
+use Rattle.std.specs.Prelude.{min}
+use Rattle.std.proofs.lemmas.List.{append-nil, length-map}
+use Rattle.mesh_tlv.proofs.Grows.{grows_on}
+use Rattle.mesh_packet.specs.Fields.{MessageFields, fields_of_message}
 use Rattle.mesh_packet.specs.declared.packet.Span.{Span}
-use Rattle.mesh_report.specs.Packets.{message_text, messages_text}
-use Rattle.mesh_report.proofs.Spans.{messages_more, messages_all}
+use Rattle.mesh_report.specs.Packets.{IsMessageText, IsMessagesText}
+use Rattle.mesh_report.proofs.Messages.{none_left, next_first}
 use Rattle.mesh_report.proofs.packet.put_messages.Goals as goal
-
-pub loop-at-init : goal.loop-at-init
-unfolding messages_text
-loop-at-init c = record { wrote = sym (append-nil c.args.out.now) }
 
 pub loop-at-preserved : goal.loop-at-preserved
 loop-at-preserved c =
@@ -17,12 +15,25 @@ loop-at-preserved c =
     let at : ℕ = c.loop-at.at in
     let in_messages : at < length messages = omega arith in
     let in_spans : at < length spans = omega arith in
-    let first : Span = record { start = 0; len = 0 } in
-    let text : List ℕ = message_text (get_or spans at first).len (fields_of_message c.index-messages-at.result) in
-    let front : List ℕ = messages_text (map fields_of_message (take at messages)) (take at spans) in
-    let more : messages_text (map fields_of_message (take (suc at) messages)) (take (suc at) spans) ≡ front ++ text
-    = rw (← c.index-messages-at.is) at (messages_more fields_of_message messages spans at c.index-messages-at.result first in_messages in_spans) in
-    record { wrote = rw add-one (c.in_ok-put_message.ensures.ok ∙ ap (λ (l : List ℕ). l ++ text) c.loop-at.invariant.wrote ∙ append_assoc c.args.out.now front text ∙ ap (λ (l : List ℕ). c.args.out.now ++ l) (sym more)) }
+    let none : Span = record { start = 0; len = 0 } in
+    let message = c.index-messages-at.result in
+    let text = c.in_ok-put_message.ensures.ok in
+    let is : IsMessageText (get_or spans at none).len (fields_of_message (get_or messages at message)) text.0 = rw (← c.index-messages-at.is) text.2 in
+    let next : (rest : List ℕ) → IsMessagesText (map fields_of_message (drop (at + 1) messages)) (drop (at + 1) spans) rest → IsMessagesText (map fields_of_message (drop at messages)) (drop at spans) (text.0 ++ rest)
+    = λ rest h. next_first fields_of_message messages spans at message none text.0 rest in_messages in_spans is h in
+    record {
+      kept = grows_on c.loop-at.invariant.kept c.in_ok-put_message.ensures.kept;
+      text = λ rest h. rw (text.1, append_assoc) (c.loop-at.invariant.text (text.0 ++ rest) (next rest h));
+    }
+
+pub returns-in_err-put_message-clause-kept : goal.returns-in_err-put_message-clause-kept
+returns-in_err-put_message-clause-kept c = grows_on c.loop-at.invariant.kept c.put_message.ensures.kept
 
 pub returns-clause-ok : goal.returns-clause-ok
-returns-clause-ok c = c.loop-at.invariant.wrote ∙ ap (λ (l : List ℕ). c.args.out.now ++ l) (messages_all fields_of_message c.args.messages.now c.args.spans.now c.loop-at.at (omega arith))
+returns-clause-ok c =
+    let messages = c.args.messages.now in
+    let spans = c.args.spans.now in
+    let at : ℕ = c.loop-at.at in
+    let left : List MessageFields = map fields_of_message (drop at messages) in
+    let none : min (length left) (length (drop at spans)) ≡ 0 = omega (arith, length-map (drop at messages) fields_of_message, length-drop at messages, length-drop at spans) in
+    rw append-nil at (c.loop-at.invariant.text [] (none_left left (drop at spans) none))

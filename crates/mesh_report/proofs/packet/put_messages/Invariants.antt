@@ -1,7 +1,14 @@
-use Rattle.std.proofs.Common.{◌≡◌, ◌++◌, map, take}
+use Rattle.std.proofs.Common.{ℕ, List, ◌++◌, map, drop}
+use Rattle.mesh_tlv.specs.Least.{Grows}
 use Rattle.mesh_packet.specs.Fields.{fields_of_message}
-use Rattle.mesh_report.specs.Packets.{messages_text}
+use Rattle.mesh_packet.specs.Least.{Wrote}
+use Rattle.mesh_report.specs.Packets.{IsMessagesText}
 use Rattle.mesh_report.proofs.packet.put_messages.Given as goal
 
+-- what stands, with what is still to come, is the whole
 abbrev pub invariant-loop-at : goal.invariant-loop-at
-invariant-loop-at l = record { wrote : l.out ≡ l.fn.out ++ messages_text (map fields_of_message (take l.at l.messages)) (take l.at l.spans) }
+invariant-loop-at l = record {
+  kept : Grows l.fn.out l.out;
+  text : (rest : List ℕ) → IsMessagesText (map fields_of_message (drop l.at l.messages)) (drop l.at l.spans) rest
+      → Wrote (IsMessagesText (map fields_of_message l.messages) l.spans) l.fn.out (l.out ++ rest);
+}

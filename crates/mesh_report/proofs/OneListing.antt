@@ -1,0 +1,48 @@
+-- A message reads in one way, and a line has one listing.
+use Rattle.std.proofs.Common.{◌≡◌, ℕ, zero, suc, List, [], ◌∷◌, ◌++◌, Option, Result, Ok, Err, false, inl, inr, sym, ap, ◌∙◌, arith, refl}
+use Rattle.mesh_atoms.specs.declared.addr.NetAddr.{NetAddr}
+use Rattle.mesh_atoms.specs.declared.refusal.Refusal.{Refusal}
+use Rattle.mesh_packet.specs.Fields.{MessageFields, PacketFields}
+use Rattle.mesh_packet.specs.declared.packet.Span.{Span}
+use Rattle.mesh_wire.specs.Hello.{HelloIs}
+use Rattle.mesh_wire.specs.HelloRules.{BreaksHello}
+use Rattle.mesh_wire.specs.Rules.{Keeps}
+use Rattle.mesh_wire.specs.Tc.{TcIs}
+use Rattle.mesh_wire.specs.TcRules.{BreaksTc}
+use Rattle.mesh_wire.proofs.OneHello.{one_hello}
+use Rattle.mesh_wire.proofs.OneTc.{one_tc}
+use Rattle.mesh_wire.proofs.Single.{one_broken}
+use Rattle.mesh_report.specs.Packets.{message_text, IsMessagesText, IsListed, IsLineText}
+use Rattle.mesh_report.specs.Readings.{hello_line, tc_line, broken_line, Reads, IsReading}
+
+-- two texts that are each of two parts, and the parts are the same
+pub same_both : {a b x x' y y' : List ℕ} → a ≡ x ++ y → b ≡ x' ++ y' → x ≡ x' → y ≡ y' → a ≡ b
+same_both {a} {b} {x} {x'} {y} {y'} e e' p q = e ∙ ap (λ (l : List ℕ). l ++ y) p ∙ ap (λ (l : List ℕ). x' ++ l) q ∙ sym e'
+
+-- one typed value at most, and one first rule, have one line
+one_line : {X : Type 0} (Breaks : ℕ → Option NetAddr → Type 0) (Is : X → Type 0) (line_of : X → List ℕ) → (Keeps Breaks → (x y : X) → Is x → Is y → x ≡ y)
+    → (a b : List ℕ) → Reads Breaks Is line_of a → Reads Breaks Is line_of b → a ≡ b
+one_line Breaks Is line_of only a b (inl (x, keeps, is, e)) (inl (y, keeps', is', e')) = e ∙ ap line_of (only keeps x y is is') ∙ sym e'
+one_line Breaks Is line_of only a b (inl (x, keeps, is, e)) (inr (n, at, first, e')) = absurd (keeps n at first.broken)
+one_line Breaks Is line_of only a b (inr (n, at, first, e)) (inl (x, keeps, is, e')) = absurd (keeps n at first.broken)
+one_line Breaks Is line_of only a b (inr (n, at, first, e)) (inr (m, at', first', e')) = e ∙ ap broken_line (one_broken Breaks n m at at' first first').0 ∙ sym e'
+
+pub one_way : (message : MessageFields) (a b : List ℕ) → IsReading message a → IsReading message b → a ≡ b
+one_way message a b h k = by message.kind refl where
+  by : (kind : ℕ) → message.kind ≡ kind → a ≡ b
+  by zero e = one_line (BreaksHello message) (HelloIs message) hello_line (one_hello message) a b (h.hello e) (k.hello e)
+  by (suc zero) e = one_line (BreaksTc message) (TcIs message) tc_line (one_tc message) a b (h.tc e) (k.tc e)
+  by (suc (suc n)) e = h.other (λ z. omega (arith, z, e)) (λ z. omega (arith, z, e)) ∙ sym (k.other (λ z. omega (arith, z, e)) (λ z. omega (arith, z, e)))
+
+one_messages : (messages : List MessageFields) (spans : List Span) (a b : List ℕ) → IsMessagesText messages spans a → IsMessagesText messages spans b → a ≡ b
+one_messages [] spans a b e e' = e ∙ sym e'
+one_messages (m ∷ messages) [] a b e e' = e ∙ sym e'
+one_messages (m ∷ messages) (s ∷ spans) a b (x, y, (r, reads, is), more, e) (x', y', (r', reads', is'), more', e') =
+    same_both e e' (is ∙ ap (λ (l : List ℕ). message_text s.len m ++ l) (one_way m r r' reads reads') ∙ sym is') (one_messages messages spans y y' more more')
+
+one_packet : (number : ℕ) (packet : PacketFields) (spans : List Span) (a b : List ℕ) → IsListed number packet spans a → IsListed number packet spans b → a ≡ b
+one_packet number packet spans a b (x, is, e) (x', is', e') = same_both e e' refl (one_messages packet.messages spans x x' is is')
+
+pub one_listing : (number : ℕ) (read : Result (PacketFields × List Span) Refusal) (a b : List ℕ) → IsLineText false number read a → IsLineText false number read b → a ≡ b
+one_listing number (Ok read) a b (x, y, is, none, e) (x', y', is', none', e') = same_both e e' (one_packet number read.0 read.1 x x' is is') (none ∙ sym none')
+one_listing number (Err refusal) a b e e' = e ∙ sym e'

@@ -1,0 +1,18 @@
+use Rattle.std.proofs.Common.{◌≡◌, ◌++◌, List, ℕ, map, refl}
+use Rattle.std.specs.List.{flat_map}
+use Rattle.mesh_tlv.specs.Fields.{fields}
+use Rattle.mesh_packet.specs.Fields.{fields_of_packet, fields_of_message}
+use Rattle.mesh_packet.specs.Least.{Wrote}
+use Rattle.mesh_report.specs.Lines.{packet_line, tlv_line}
+use Rattle.mesh_report.specs.Packets.{IsMessagesText}
+use Rattle.mesh_report.proofs.Joined.{on_ok, three}
+use Rattle.mesh_report.proofs.packet.put_decoded.Goals as goal
+
+pub returns-clause-ok : goal.returns-clause-ok
+returns-clause-ok c = on_ok c.put_messages.result (λ wrote.
+    let packet = c.args.decoded.now.packet in
+    let first : List ℕ = packet_line c.args.number (fields_of_packet packet) in
+    let tlvs : List ℕ = flat_map tlv_line (map fields packet.tlvs) in
+    let put_tlvs : c.put_tlvs.new.out ≡ c.put_packet_line.new.out ++ tlvs = rw (← c.as_slice.ensures) c.in_ok-put_tlvs.ensures.ok in
+    let messages : Wrote (IsMessagesText (map fields_of_message packet.messages) c.args.decoded.now.spans) c.put_tlvs.new.out c.put_messages.new.out = rw (← c.as_slice-2.ensures, ← c.as_slice-3.ensures) wrote in
+    (first ++ tlvs ++ messages.0, three c.args.out.now first tlvs messages.0 c.in_ok-put_packet_line.ensures.ok put_tlvs messages.1, (messages.0, messages.2, refl))) c.put_messages.ensures.ok

@@ -1,0 +1,15 @@
+-- That the definitions of a listing leave no choice.
+use Rattle.std.specs.Prelude.{◌≡◌, ℕ, List, Result, false}
+use Rattle.mesh_atoms.specs.declared.refusal.Refusal.{Refusal}
+use Rattle.mesh_packet.specs.Fields.{MessageFields, PacketFields}
+use Rattle.mesh_packet.specs.declared.packet.Span.{Span}
+use Rattle.mesh_report.specs.Packets.{IsLineText}
+use Rattle.mesh_report.specs.Readings.{IsReading}
+
+-- a message reads in one way
+abbrev pub ReadsInOneWay : Type 0
+ReadsInOneWay = (message : MessageFields) (a b : List ℕ) → IsReading message a → IsReading message b → a ≡ b
+
+-- a line has one listing, where its packet isn't written again
+abbrev pub HasOneListing : Type 0
+HasOneListing = (number : ℕ) (read : Result (PacketFields × List Span) Refusal) (a b : List ℕ) → IsLineText false number read a → IsLineText false number read b → a ≡ b

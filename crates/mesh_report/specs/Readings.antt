@@ -1,0 +1,42 @@
+-- How a HELLO or a TC reads, as the last line of its message.
+use Rattle.std.specs.Prelude.{◌≡◌, ◌≢◌, ◌⊎◌, ℕ, List, [], ◌++◌, length, codes, Option}
+use Rattle.mesh_atoms.specs.declared.addr.NetAddr.{NetAddr}
+use Rattle.mesh_atoms.specs.declared.hello.Hello.{Hello}
+use Rattle.mesh_atoms.specs.declared.tc.Tc.{Tc}
+use Rattle.mesh_packet.specs.Fields.{MessageFields}
+use Rattle.mesh_wire.specs.Hello.{HelloIs}
+use Rattle.mesh_wire.specs.HelloRules.{BreaksHello}
+use Rattle.mesh_wire.specs.Rules.{Keeps, FirstBroken}
+use Rattle.mesh_wire.specs.Tc.{TcIs}
+use Rattle.mesh_wire.specs.TcRules.{BreaksTc}
+use Rattle.mesh_report.specs.Pieces.{numbered, numbered_or_none, addressed_by_number, chosen, named}
+
+-- a HELLO; times are in ticks
+unfoldable pub hello_line : Hello → List ℕ
+hello_line hello =
+    (numbered (codes " reading hello validity ") hello.validity ++ numbered_or_none (codes " interval ") hello.interval)
+    ++ (numbered (codes " flooding ") hello.willing.flooding ++ numbered (codes " routing ") hello.willing.routing)
+    ++ (numbered (codes " rows ") (length hello.rows) ++ codes "\n")
+
+-- a TC; times are in ticks
+unfoldable pub tc_line : Tc → List ℕ
+tc_line tc =
+    (addressed_by_number (codes " reading tc originator ") tc.originator ++ numbered (codes " sequence ") tc.sequence ++ numbered (codes " ansn ") tc.ansn ++ chosen (codes " complete ") tc.complete)
+    ++ (numbered (codes " validity ") tc.validity ++ numbered_or_none (codes " interval ") tc.interval)
+    ++ (numbered (codes " rows ") (length tc.rows) ++ codes "\n")
+
+-- the rule of a HELLO or a TC that is broken first
+unfoldable pub broken_line : ℕ → List ℕ
+broken_line number = numbered (codes " reading broken ") number ++ named (codes " ") number ++ codes "\n"
+
+-- the line of the typed value where no rule is broken, else of the first rule that is
+abbrev pub Reads : {X : Type 0} → (ℕ → Option NetAddr → Type 0) → (X → Type 0) → (X → List ℕ) → List ℕ → Type 0
+Reads {X} Breaks Is line_of text =
+    ((value : X) × Keeps Breaks × Is value × (text ≡ line_of value))
+    ⊎ ((number : ℕ) × (addr : Option NetAddr) × FirstBroken Breaks number addr × (text ≡ broken_line number))
+
+-- how a message reads, by its type; messages of other types than HELLO and TC have no reading
+pub record IsReading (message : MessageFields) (text : List ℕ) : Type 0 where
+  pub hello : message.kind ≡ 0 → Reads (BreaksHello message) (HelloIs message) hello_line text
+  pub tc : message.kind ≡ 1 → Reads (BreaksTc message) (TcIs message) tc_line text
+  pub other : message.kind ≢ 0 → message.kind ≢ 1 → text ≡ []
