@@ -9,16 +9,16 @@ use Rattle.std.proofs.lemmas.Cmp.{eq_by_cmp_equiv}
 use Rattle.std.proofs.lemmas.Map.Keys.{IsDistinct-from_sorted}
 use Rattle.std.proofs.lemmas.Map.Views.{All-found, Contains-from_lookup, lookup-from_Contains}
 use Rattle.mesh_atoms.specs.declared.addr.NetAddr.{NetAddr}
-use Rattle.mesh_atoms.specs.Nodes.{IsBefore}
+use Rattle.mesh_atoms.specs.Nodes.{IsBefore, net_cmp}
 use Rattle.mesh_atoms.specs.declared.graphs.Arc4.{Arc4}
 use Rattle.mesh_atoms.specs.declared.graphs.Graph.{Graph}
 use Rattle.mesh_atoms.specs.declared.graphs.PathRow.{PathRow}
+use Rattle.mesh_atoms.proofs.NetOrder.{net_total, net_exact, net_less, is_equal}
 use Rattle.mesh_paths.specs.Paths.{HasCosts, IsAscending, IsCertificate}
 use Rattle.mesh_paths.specs.Tree.{OffersBy, Offers, MeetsBy, Meets, IsTree}
-use Rattle.mesh_paths.specs.Search.{Waits, IsFound, IsIndex, Settled, IsKeyed, node_cmp}
+use Rattle.mesh_paths.specs.Search.{Waits, IsFound, IsIndex, Settled, IsKeyed}
 use Rattle.mesh_paths.proofs.Rows.{move_offer}
 use Rattle.mesh_paths.proofs.SearchLaw.{in_tail, head_or_tail, offers_more, meets_more}
-use Rattle.mesh_paths.proofs.Sets.{node_total, node_exact, node_less, is_equal}
 use Rattle.mesh_paths.proofs.TreeLaw.{certificate_of_tree}
 
 value_in : (es : List (NetAddr × PathRow)) (q : NetAddr) (r : PathRow) → Contains es (q, r) → Contains (values_of es) r
@@ -35,12 +35,12 @@ key_of (e ∷ es) r has = elim (head_or_tail e.1 (values_of es) r has) [
   | inr later ↦ let (q, found) = key_of es r later in (q, in_tail e es (q, r) found)
 ]
 
-ascending_of : (es : List (NetAddr × PathRow)) → IsStrictlySortedBy node_cmp (keys_of es) → ((e : NetAddr × PathRow) → Contains es e → e.1.node ≡ e.0) → IsAscending (values_of es)
+ascending_of : (es : List (NetAddr × PathRow)) → IsStrictlySortedBy net_cmp (keys_of es) → ((e : NetAddr × PathRow) → Contains es e → e.1.node ≡ e.0) → IsAscending (values_of es)
 unfolding IsStrictlySortedBy
 ascending_of [] up keyed k d l = absurd (omega arith)
 ascending_of (e ∷ []) up keyed k d l = absurd (omega arith)
 ascending_of (e ∷ f ∷ es) up keyed zero d l =
-    let before : IsBefore e.0 f.0 = node_less e.0 f.0 up.0.0 in
+    let before : IsBefore e.0 f.0 = net_less e.0 f.0 up.0.0 in
     let one : IsBefore e.1.node f.0 = subst (λ (n : NetAddr). IsBefore n f.0) (sym (keyed e (0, omega arith, refl))) before in
     subst (λ (n : NetAddr). IsBefore e.1.node n) (sym (keyed f (1, omega arith, refl))) one
 ascending_of (e ∷ f ∷ es) up keyed (suc k) d l =
@@ -49,19 +49,19 @@ ascending_of (e ∷ f ∷ es) up keyed (suc k) d l =
     let next : suc k + 1 ≡ suc (k + 1) = omega arith in
     rw next later
 
-module _ (m : BTreeMap NetAddr PathRow) (keyed : IsKeyed m) (ordered : tree.IsOrdered node_cmp m) where
+module _ (m : BTreeMap NetAddr PathRow) (keyed : IsKeyed m) (ordered : tree.IsOrdered net_cmp m) where
   listed : (r : PathRow) → Settled m r → Contains (values_of m.entries) r
-  listed r has = value_in m.entries r.node r (Contains-from_lookup {eq = eq_by_cmp node_cmp} (λ x y e. node_exact x y (is_equal (node_cmp x y) e)) r.node r m.entries has)
+  listed r has = value_in m.entries r.node r (Contains-from_lookup {eq = eq_by_cmp net_cmp} (λ x y e. net_exact x y (is_equal (net_cmp x y) e)) r.node r m.entries has)
 
   settled : (r : PathRow) → Contains (values_of m.entries) r → Settled m r
   settled r has =
       let (q, found) = key_of m.entries r has in
-      let at : tree.get node_cmp m q ≡ Some r = lookup-from_Contains {eq = eq_by_cmp node_cmp} (eq_by_cmp_equiv node_total) q r m.entries (IsDistinct-from_sorted node_cmp (keys_of m.entries) ordered) found in
-      subst (λ (n : NetAddr). tree.get node_cmp m n ≡ Some r) (sym (keyed q r at)) at
+      let at : tree.get net_cmp m q ≡ Some r = lookup-from_Contains {eq = eq_by_cmp net_cmp} (eq_by_cmp_equiv net_total) q r m.entries (IsDistinct-from_sorted net_cmp (keys_of m.entries) ordered) found in
+      subst (λ (n : NetAddr). tree.get net_cmp m n ≡ Some r) (sym (keyed q r at)) at
 
   in_order : IsAscending (values_of m.entries)
   in_order = ascending_of m.entries ordered (λ e (k, l, is).
-      let at : tree.get node_cmp m e.0 ≡ Some e.1 = subst (λ (x : NetAddr × PathRow). tree.get node_cmp m x.0 ≡ Some x.1) is (All-found node_total m ordered k e l) in
+      let at : tree.get net_cmp m e.0 ≡ Some e.1 = subst (λ (x : NetAddr × PathRow). tree.get net_cmp m x.0 ≡ Some x.1) is (All-found net_total m ordered k e l) in
       keyed e.0 e.1 at)
 
   -- rows that meet what the start and the arcs from them offer, and are offered, are a tree
@@ -99,7 +99,7 @@ arcs_of_index arcs index from node metric parent same offer = elim offer [
   | inr (p, a, has, there, begins, ends, sum, at) ↦ inr (p, a, has, same.of_it a there, begins, ends, sum, at)
 ]
 
-pub certificate_found : (g : Graph) (from : NetAddr) → HasCosts g → (m : BTreeMap NetAddr PathRow) → IsKeyed m → tree.IsOrdered node_cmp m → (arcs index : List Arc4) → arcs ≡ g.arcs → IsIndex arcs index → IsFound (Settled m) index from →
+pub certificate_found : (g : Graph) (from : NetAddr) → HasCosts g → (m : BTreeMap NetAddr PathRow) → IsKeyed m → tree.IsOrdered net_cmp m → (arcs index : List Arc4) → arcs ≡ g.arcs → IsIndex arcs index → IsFound (Settled m) index from →
     (rows : List PathRow) → rows ≡ values_of m.entries → IsCertificate g from (record { rows = rows })
 certificate_found g from costs m keyed ordered arcs index is same (rest, now) rows e =
     let found : IsTree arcs from (values_of m.entries) =

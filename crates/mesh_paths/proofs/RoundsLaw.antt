@@ -12,15 +12,15 @@ use Rattle.mesh_atoms.specs.declared.addr.NetAddr.{NetAddr}
 use Rattle.mesh_atoms.specs.declared.graphs.Arc4.{Arc4}
 use Rattle.mesh_atoms.specs.declared.graphs.Graph.{Graph}
 use Rattle.mesh_atoms.specs.declared.graphs.PathRow.{PathRow}
-use Rattle.mesh_atoms.specs.Nodes.{IsBefore, IsAtMost}
+use Rattle.mesh_atoms.specs.Nodes.{IsBefore, IsAtMost, net_cmp}
+use Rattle.mesh_atoms.proofs.NetOrder.{net_total, net_exact, is_equal}
 use Rattle.mesh_paths.specs.Paths.{HasCosts, IsCertificate}
 use Rattle.mesh_paths.specs.Tree.{OffersBy, IsAsGood}
-use Rattle.mesh_paths.specs.Search.{node_cmp, Settled, IsKeyed, Settles}
+use Rattle.mesh_paths.specs.Search.{Settled, IsKeyed, Settles}
 use Rattle.mesh_paths.specs.Rounds.{RowMap, missing_of, weight_of, missing_in, weight_in, IsMetIn, Betters, IsOfferBy, HasAsGood, IsInRange, Tries, IsLedTo, IsRounds, Goes}
 use Rattle.mesh_paths.proofs.Order.{same_node}
 use Rattle.mesh_paths.proofs.Rows.{of_each, item_in}
 use Rattle.mesh_paths.proofs.SearchLaw.{in_tail, head_or_tail}
-use Rattle.mesh_paths.proofs.Sets.{node_total, node_exact, is_equal}
 use Rattle.mesh_paths.proofs.Found.{tree_found, certificate_of_rows}
 
 -- Sums over one list
@@ -44,18 +44,18 @@ sums_short f (x ∷ xs) each = omega (arith, sum_by-cons f x xs, each x, sums_sh
 
 -- Rows at their nodes
 
-pub settled_at : (map : RowMap) (node : NetAddr) (row : PathRow) → IsKeyed map → tree.get node_cmp map node ≡ Some row → Settled map row
-settled_at map node row keyed at = subst (λ (n : NetAddr). tree.get node_cmp map n ≡ Some row) (sym (keyed node row at)) at
+pub settled_at : (map : RowMap) (node : NetAddr) (row : PathRow) → IsKeyed map → tree.get net_cmp map node ≡ Some row → Settled map row
+settled_at map node row keyed at = subst (λ (n : NetAddr). tree.get net_cmp map n ≡ Some row) (sym (keyed node row at)) at
 
 -- A row that gets better
 module _ (old new : RowMap) (arc : Arc4) (row : PathRow) (betters : Betters old row new) (fits : IsInRange arc row) where
-  at : (node : NetAddr) → ((node ≡ row.node) × (tree.get node_cmp new node ≡ Some row)) ⊎ (tree.get node_cmp new node ≡ tree.get node_cmp old node)
+  at : (node : NetAddr) → ((node ≡ row.node) × (tree.get net_cmp new node ≡ Some row)) ⊎ (tree.get net_cmp new node ≡ tree.get net_cmp old node)
   at node = elim (same_node node row.node) [
-    | inl same ↦ inl (same, subst (λ (n : NetAddr). tree.get node_cmp new n ≡ Some row) (sym same) betters.has)
+    | inl same ↦ inl (same, subst (λ (n : NetAddr). tree.get net_cmp new n ≡ Some row) (sym same) betters.has)
     | inr off ↦ inr (betters.others node off)
   ]
 
-  lighter : (before : Option PathRow) → tree.get node_cmp old row.node ≡ before → weight_of (Some row) < weight_of before
+  lighter : (before : Option PathRow) → tree.get net_cmp old row.node ≡ before → weight_of (Some row) < weight_of before
   lighter None e = omega (arith, row.parent.within)
   lighter (Some b) e = elim (betters.better b e) [
     | inl less ↦ omega (arith, row.parent.within)
@@ -65,52 +65,52 @@ module _ (old new : RowMap) (arc : Arc4) (row : PathRow) (betters : Betters old 
     ]
   ]
 
-  lighter_at : (node : NetAddr) → node ≡ row.node → tree.get node_cmp new node ≡ Some row → weight_of (tree.get node_cmp new node) < weight_of (tree.get node_cmp old node)
+  lighter_at : (node : NetAddr) → node ≡ row.node → tree.get net_cmp new node ≡ Some row → weight_of (tree.get net_cmp new node) < weight_of (tree.get net_cmp old node)
   lighter_at node same is =
-      let here : weight_of (tree.get node_cmp new node) ≡ weight_of (Some row) = ap weight_of is in
-      let before : weight_of (tree.get node_cmp old node) ≡ weight_of (tree.get node_cmp old row.node) = ap (λ (n : NetAddr). weight_of (tree.get node_cmp old n)) same in
-      let less : weight_of (Some row) < weight_of (tree.get node_cmp old row.node) = lighter (tree.get node_cmp old row.node) refl in
-      subst (λ (n : ℕ). n < weight_of (tree.get node_cmp old node)) (sym here) (subst (λ (n : ℕ). weight_of (Some row) < n) (sym before) less)
+      let here : weight_of (tree.get net_cmp new node) ≡ weight_of (Some row) = ap weight_of is in
+      let before : weight_of (tree.get net_cmp old node) ≡ weight_of (tree.get net_cmp old row.node) = ap (λ (n : NetAddr). weight_of (tree.get net_cmp old n)) same in
+      let less : weight_of (Some row) < weight_of (tree.get net_cmp old row.node) = lighter (tree.get net_cmp old row.node) refl in
+      subst (λ (n : ℕ). n < weight_of (tree.get net_cmp old node)) (sym here) (subst (λ (n : ℕ). weight_of (Some row) < n) (sym before) less)
 
-  no_heavier : (node : NetAddr) → weight_of (tree.get node_cmp new node) ≤ weight_of (tree.get node_cmp old node)
+  no_heavier : (node : NetAddr) → weight_of (tree.get net_cmp new node) ≤ weight_of (tree.get net_cmp old node)
   no_heavier node = elim (at node) [
-    | inl (same, is) ↦ let less : weight_of (tree.get node_cmp new node) < weight_of (tree.get node_cmp old node) = lighter_at node same is in omega arith
-    | inr is ↦ let same : weight_of (tree.get node_cmp new node) ≡ weight_of (tree.get node_cmp old node) = ap weight_of is in omega arith
+    | inl (same, is) ↦ let less : weight_of (tree.get net_cmp new node) < weight_of (tree.get net_cmp old node) = lighter_at node same is in omega arith
+    | inr is ↦ let same : weight_of (tree.get net_cmp new node) ≡ weight_of (tree.get net_cmp old node) = ap weight_of is in omega arith
   ]
 
-  no_more : (node : NetAddr) → missing_of (tree.get node_cmp new node) ≤ missing_of (tree.get node_cmp old node)
+  no_more : (node : NetAddr) → missing_of (tree.get net_cmp new node) ≤ missing_of (tree.get net_cmp old node)
   no_more node = elim (at node) [
-    | inl (same, is) ↦ let none : missing_of (tree.get node_cmp new node) ≡ 0 = ap missing_of is in omega arith
-    | inr is ↦ let same : missing_of (tree.get node_cmp new node) ≡ missing_of (tree.get node_cmp old node) = ap missing_of is in omega arith
+    | inl (same, is) ↦ let none : missing_of (tree.get net_cmp new node) ≡ 0 = ap missing_of is in omega arith
+    | inr is ↦ let same : missing_of (tree.get net_cmp new node) ≡ missing_of (tree.get net_cmp old node) = ap missing_of is in omega arith
   ]
 
   -- each node keeps a row, no dearer
   lower : (r : PathRow) → Settled old r → (p : PathRow) × Settled new p × (p.node ≡ r.node) × (p.metric ≤ r.metric)
   lower r has = elim (at r.node) [
-    | inl (same, is) ↦ (row, betters.has, sym same, elim (betters.better r (subst (λ (n : NetAddr). tree.get node_cmp old n ≡ Some r) same has)) [ inl less ↦ omega arith | inr (e, _) ↦ omega arith ])
+    | inl (same, is) ↦ (row, betters.has, sym same, elim (betters.better r (subst (λ (n : NetAddr). tree.get net_cmp old n ≡ Some r) same has)) [ inl less ↦ omega arith | inr (e, _) ↦ omega arith ])
     | inr is ↦ (r, is ∙ has, refl, omega arith)
   ]
 
   -- An arc that offers the row
   module _ (arcs : List Arc4) (from : NetAddr) (there : Contains arcs arc) (cost : 1 ≤ arc.metric) (offer : IsOfferBy old arc row) (now : IsRounds old arcs from) where
     pub lighter_in : weight_in new arcs < weight_in old arcs
-    lighter_in = sums_less (λ (a : Arc4). weight_of (tree.get node_cmp new a.to)) (λ (a : Arc4). weight_of (tree.get node_cmp old a.to)) arcs arc (λ a _. no_heavier a.to) there
-        (lighter_at arc.to ends (subst (λ (n : NetAddr). tree.get node_cmp new n ≡ Some row) (sym ends) betters.has))
+    lighter_in = sums_less (λ (a : Arc4). weight_of (tree.get net_cmp new a.to)) (λ (a : Arc4). weight_of (tree.get net_cmp old a.to)) arcs arc (λ a _. no_heavier a.to) there
+        (lighter_at arc.to ends (subst (λ (n : NetAddr). tree.get net_cmp new n ≡ Some row) (sym ends) betters.has))
       where
         ends : arc.to ≡ row.node
         ends = offer.4
 
     no_more_in : missing_in new arcs ≤ missing_in old arcs
-    no_more_in = sums_upto (λ (a : Arc4). missing_of (tree.get node_cmp new a.to)) (λ (a : Arc4). missing_of (tree.get node_cmp old a.to)) arcs (λ a _. no_more a.to)
+    no_more_in = sums_upto (λ (a : Arc4). missing_of (tree.get net_cmp new a.to)) (λ (a : Arc4). missing_of (tree.get net_cmp old a.to)) arcs (λ a _. no_more a.to)
 
-    fewer_in : tree.get node_cmp old row.node ≡ None → missing_in new arcs < missing_in old arcs
+    fewer_in : tree.get net_cmp old row.node ≡ None → missing_in new arcs < missing_in old arcs
     fewer_in none =
         let ends : arc.to ≡ row.node = offer.4 in
-        let here : missing_of (tree.get node_cmp new arc.to) ≡ 0 = ap missing_of (subst (λ (n : NetAddr). tree.get node_cmp new n ≡ Some row) (sym ends) betters.has) in
-        let before : missing_of (tree.get node_cmp old arc.to) ≡ 1 = ap missing_of (subst (λ (n : NetAddr). tree.get node_cmp old n ≡ None) (sym ends) none) in
-        sums_less (λ (a : Arc4). missing_of (tree.get node_cmp new a.to)) (λ (a : Arc4). missing_of (tree.get node_cmp old a.to)) arcs arc (λ a _. no_more a.to) there (omega arith)
+        let here : missing_of (tree.get net_cmp new arc.to) ≡ 0 = ap missing_of (subst (λ (n : NetAddr). tree.get net_cmp new n ≡ Some row) (sym ends) betters.has) in
+        let before : missing_of (tree.get net_cmp old arc.to) ≡ 1 = ap missing_of (subst (λ (n : NetAddr). tree.get net_cmp old n ≡ None) (sym ends) none) in
+        sums_less (λ (a : Arc4). missing_of (tree.get net_cmp new a.to)) (λ (a : Arc4). missing_of (tree.get net_cmp old a.to)) arcs arc (λ a _. no_more a.to) there (omega arith)
 
-    is_row : (r : PathRow) → tree.get node_cmp new r.node ≡ Some row → Settled new r → row ≡ r
+    is_row : (r : PathRow) → tree.get net_cmp new r.node ≡ Some row → Settled new r → row ≡ r
     is_row r is has = let h : Some row ≡ Some r = sym is ∙ has in (cc)
 
     keyed_new : IsKeyed new
@@ -124,7 +124,7 @@ module _ (old new : RowMap) (arc : Arc4) (row : PathRow) (betters : Betters old 
 
     start_new : Settled new (record { node = from; metric = 0; parent = from })
     start_new = elim (same_node from row.node) [
-      | inl same ↦ elim (betters.better (record { node = from; metric = 0; parent = from }) (subst (λ (n : NetAddr). tree.get node_cmp old n ≡ Some (record { node = from; metric = 0; parent = from })) same now.start)) [
+      | inl same ↦ elim (betters.better (record { node = from; metric = 0; parent = from }) (subst (λ (n : NetAddr). tree.get net_cmp old n ≡ Some (record { node = from; metric = 0; parent = from })) same now.start)) [
         | inl less ↦ absurd (omega arith)
         | inr (none, _) ↦ absurd (omega (arith, offer.5))
       ]
@@ -148,7 +148,7 @@ module _ (old new : RowMap) (arc : Arc4) (row : PathRow) (betters : Betters old 
       ]
     ]
 
-    small_row : (before : Option PathRow) → tree.get node_cmp old row.node ≡ before → row.metric + 4294967295 * missing_in new arcs ≤ 4294967295 * length arcs
+    small_row : (before : Option PathRow) → tree.get net_cmp old row.node ≡ before → row.metric + 4294967295 * missing_in new arcs ≤ 4294967295 * length arcs
     small_row None e = let (first, has, _, _, _, sum) = offer in omega (arith, fewer_in e, now.small first has)
     small_row (Some b) e =
         let has : Settled old b = settled_at old row.node b now.keyed e in
@@ -159,7 +159,7 @@ module _ (old new : RowMap) (arc : Arc4) (row : PathRow) (betters : Betters old 
 
     small_new : (r : PathRow) → Settled new r → r.metric + 4294967295 * missing_in new arcs ≤ 4294967295 * length arcs
     small_new r has = elim (at r.node) [
-      | inl (_, is) ↦ subst (λ (x : PathRow). x.metric + 4294967295 * missing_in new arcs ≤ 4294967295 * length arcs) (is_row r is has) (small_row (tree.get node_cmp old row.node) refl)
+      | inl (_, is) ↦ subst (λ (x : PathRow). x.metric + 4294967295 * missing_in new arcs ≤ 4294967295 * length arcs) (is_row r is has) (small_row (tree.get net_cmp old row.node) refl)
       | inr is ↦ omega (arith, no_more_in, now.small r (sym is ∙ has))
     ]
 
@@ -214,7 +214,7 @@ not_at_most a b not = elim (cases_lt b.addr.0 a.addr.0) [
 ]
 
 -- the row of the node decides whether it is as good
-pub as_good_by : (map : RowMap) (node : NetAddr) (metric cost : ℕ) (parent : NetAddr) (before : PathRow) (b : Bool) → tree.get node_cmp map node ≡ Some before → cost ≡ metric → IsTrue b ↔ IsAsGood before cost parent → IsTrue b ↔ HasAsGood map node metric parent
+pub as_good_by : (map : RowMap) (node : NetAddr) (metric cost : ℕ) (parent : NetAddr) (before : PathRow) (b : Bool) → tree.get net_cmp map node ≡ Some before → cost ≡ metric → IsTrue b ↔ IsAsGood before cost parent → IsTrue b ↔ HasAsGood map node metric parent
 as_good_by map node metric cost parent before b found same test = (
   λ e. (before, found, subst (λ (n : ℕ). IsAsGood before n parent) same (test.0 e)),
   λ (r, at, good).
@@ -223,9 +223,9 @@ as_good_by map node metric cost parent before b found same test = (
       test.1 (subst (λ (n : ℕ). IsAsGood before n parent) (sym same) (subst (λ (x : PathRow). IsAsGood x metric parent) e good)),
 )
 
-pub met_already : (map : RowMap) (arc : Arc4) (first : PathRow) (metric : ℕ) → IsKeyed map → tree.get node_cmp map arc.from ≡ Some first → metric ≡ first.metric + arc.metric → HasAsGood map arc.to metric arc.from → IsMetIn map arc
+pub met_already : (map : RowMap) (arc : Arc4) (first : PathRow) (metric : ℕ) → IsKeyed map → tree.get net_cmp map arc.from ≡ Some first → metric ≡ first.metric + arc.metric → HasAsGood map arc.to metric arc.from → IsMetIn map arc
 met_already map arc first metric keyed found sum (b, at, good) r has begins =
-    let found_r : tree.get node_cmp map arc.from ≡ Some r = subst (λ (n : NetAddr). tree.get node_cmp map n ≡ Some r) begins has in
+    let found_r : tree.get net_cmp map arc.from ≡ Some r = subst (λ (n : NetAddr). tree.get net_cmp map n ≡ Some r) begins has in
     let h : Some first ≡ Some r = sym found ∙ found_r in
     let same : first ≡ r = (cc) in
     let e : b.node ≡ arc.to = keyed arc.to b at in
@@ -233,9 +233,9 @@ met_already map arc first metric keyed found sum (b, at, good) r has begins =
     let two : IsAsGood b (r.metric + arc.metric) arc.from = subst (λ (x : PathRow). IsAsGood b (x.metric + arc.metric) arc.from) same one in
     (b, settled_at map arc.to b keyed at, e, subst (λ (n : NetAddr). IsAsGood b (r.metric + arc.metric) n) (sym begins) two)
 
-pub unreached : (map : RowMap) (arc : Arc4) → tree.get node_cmp map arc.from ≡ None → IsMetIn map arc
+pub unreached : (map : RowMap) (arc : Arc4) → tree.get net_cmp map arc.from ≡ None → IsMetIn map arc
 unreached map arc none r has begins =
-    let found : tree.get node_cmp map arc.from ≡ Some r = subst (λ (n : NetAddr). tree.get node_cmp map n ≡ Some r) begins has in
+    let found : tree.get net_cmp map arc.from ≡ Some r = subst (λ (n : NetAddr). tree.get net_cmp map n ≡ Some r) begins has in
     absurd (cc)
 
 better_of : (before : PathRow) (metric : ℕ) (parent : NetAddr) → (IsAsGood before metric parent → ⊥) → (metric < before.metric) ⊎ ((metric ≡ before.metric) × IsBefore parent before.parent)
@@ -247,10 +247,10 @@ better_of before metric parent not = elim (cases_lt metric before.metric) [
   ]
 ]
 
-pub tried : (map new : RowMap) (arc : Arc4) (first row : PathRow) (b : Bool) → IsKeyed map → tree.get node_cmp map arc.from ≡ Some first →
+pub tried : (map new : RowMap) (arc : Arc4) (first row : PathRow) (b : Bool) → IsKeyed map → tree.get net_cmp map arc.from ≡ Some first →
     row.node ≡ arc.to → row.metric ≡ first.metric + arc.metric → row.parent ≡ arc.from → IsInRange arc row →
     IsTrue b ↔ HasAsGood map row.node row.metric row.parent → b ≡ false →
-    ((q : NetAddr) → tree.get node_cmp new q ≡ cond (is_eq (node_cmp row.node q)) (Some row) (tree.get node_cmp map q)) → Tries true map arc new
+    ((q : NetAddr) → tree.get net_cmp new q ≡ cond (is_eq (net_cmp row.node q)) (Some row) (tree.get net_cmp map q)) → Tries true map arc new
 tried map new arc first row b keyed found node metric parent fits test not updates =
     let at : first.node ≡ arc.from = keyed arc.from first found in (
       row,
@@ -259,13 +259,13 @@ tried map new arc first row b keyed found node metric parent fits test not updat
       fits,
     )
   where
-    has : tree.get node_cmp new row.node ≡ Some row
-    has = updates row.node ∙ ap (λ (x : Bool). cond x (Some row) (tree.get node_cmp map row.node)) (ap is_eq (tied_itself node_total row.node))
+    has : tree.get net_cmp new row.node ≡ Some row
+    has = updates row.node ∙ ap (λ (x : Bool). cond x (Some row) (tree.get net_cmp map row.node)) (ap is_eq (tied_itself net_total row.node))
 
-    others : (q : NetAddr) → q ≢ row.node → tree.get node_cmp new q ≡ tree.get node_cmp map q
-    others q off = elim (cases_Bool (is_eq (node_cmp row.node q))) [
-      | inl e ↦ absurd (off (sym (node_exact row.node q (is_equal (node_cmp row.node q) e))))
-      | inr e ↦ updates q ∙ ap (λ (x : Bool). cond x (Some row) (tree.get node_cmp map q)) e
+    others : (q : NetAddr) → q ≢ row.node → tree.get net_cmp new q ≡ tree.get net_cmp map q
+    others q off = elim (cases_Bool (is_eq (net_cmp row.node q))) [
+      | inl e ↦ absurd (off (sym (net_exact row.node q (is_equal (net_cmp row.node q) e))))
+      | inr e ↦ updates q ∙ ap (λ (x : Bool). cond x (Some row) (tree.get net_cmp map q)) e
     ]
 
 -- The rounds begin
@@ -273,7 +273,7 @@ tried map new arc first row b keyed found node metric parent fits test not updat
 -- an empty map has no row
 pub none_settled : (map : RowMap) → map.entries ≡ [] → (r : PathRow) → Settled map r → ⊥
 none_settled map empty r has =
-    let none : tree.get node_cmp map r.node ≡ None = ap (λ (entries : List (NetAddr × PathRow)). lookup (λ k. is_eq (node_cmp r.node k)) entries) empty in
+    let none : tree.get net_cmp map r.node ≡ None = ap (λ (entries : List (NetAddr × PathRow)). lookup (λ k. is_eq (net_cmp r.node k)) entries) empty in
     (cc)
 
 pub rounds_start : (old new : RowMap) (arcs : List Arc4) (from : NetAddr) → ((r : PathRow) → Settled old r → ⊥) → Settles (Settled old) (record { node = from; metric = 0; parent = from }) (Settled new) → IsKeyed new → IsRounds new arcs from
@@ -295,7 +295,7 @@ rounds_start old new arcs from none settles keyed = record {
     one (Some _) = omega arith
 
     few : missing_in new arcs ≤ length arcs
-    few = sums_short (λ (a : Arc4). missing_of (tree.get node_cmp new a.to)) arcs (λ a. one (tree.get node_cmp new a.to))
+    few = sums_short (λ (a : Arc4). missing_of (tree.get net_cmp new a.to)) arcs (λ a. one (tree.get net_cmp new a.to))
 
 -- The rounds end
 module _ (m : RowMap) (arcs : List Arc4) (from : NetAddr) (now : IsRounds m arcs from) (met : (arc : Arc4) → Contains arcs arc → IsMetIn m arc) where
@@ -304,7 +304,7 @@ module _ (m : RowMap) (arcs : List Arc4) (from : NetAddr) (now : IsRounds m arcs
     | inl start ↦ inl start
     | inr (f, a, has_f, there, begins, ends, low, parent) ↦
         let (q, has_q, at, good) = met a there f has_f (sym begins) in
-        let found : tree.get node_cmp m r.node ≡ Some q = subst (λ (n : NetAddr). tree.get node_cmp m n ≡ Some q) (at ∙ ends) has_q in
+        let found : tree.get net_cmp m r.node ≡ Some q = subst (λ (n : NetAddr). tree.get net_cmp m n ≡ Some q) (at ∙ ends) has_q in
         let h : Some q ≡ Some r = sym found ∙ has in
         let same : q ≡ r = (cc) in
         let metrics : q.metric ≡ r.metric = ap (λ (x : PathRow). x.metric) same in
@@ -314,7 +314,7 @@ module _ (m : RowMap) (arcs : List Arc4) (from : NetAddr) (now : IsRounds m arcs
         ]
   ]
 
-  pub certificate_of_rounds : (g : Graph) → HasCosts g → arcs ≡ g.arcs → tree.IsOrdered node_cmp m → (rows : List PathRow) → rows ≡ values_of m.entries → IsCertificate g from (record { rows = rows })
+  pub certificate_of_rounds : (g : Graph) → HasCosts g → arcs ≡ g.arcs → tree.IsOrdered net_cmp m → (rows : List PathRow) → rows ≡ values_of m.entries → IsCertificate g from (record { rows = rows })
   certificate_of_rounds g costs is ordered rows e = certificate_of_rows g from costs arcs (values_of m.entries) is
       (tree_found m now.keyed ordered arcs from (record { node = from; metric = 0; parent = from }, now.start, refl, inr (refl, inr (refl, omega arith)))
       (λ r a has there begins. met a there r has (sym begins)) offered) rows e

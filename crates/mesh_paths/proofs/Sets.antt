@@ -16,34 +16,22 @@ use Rattle.std.proofs.lemmas.Cmp.{then_total, on_total, nat_cmp_total, tied_itse
 use Rattle.std.proofs.lemmas.Map.Lookups.{CmpEqualImpliesEq, exact_unsigned}
 use Rattle.std.proofs.lemmas.Map.Views.{btree_set_contains_iff}
 use Rattle.mesh_atoms.specs.declared.addr.NetAddr.{NetAddr}
-use Rattle.mesh_atoms.specs.Nodes.{IsBefore, IsAtMost}
+use Rattle.mesh_atoms.specs.Nodes.{IsBefore, IsAtMost, net_cmp}
 use Rattle.mesh_atoms.specs.declared.graphs.Arc4.{Arc4}
 use Rattle.mesh_atoms.specs.declared.graphs.PathRow.{PathRow}
+use Rattle.mesh_atoms.proofs.NetOrder.{net_total, net_exact, net_less, then_equal, then_less, is_equal}
 use Rattle.mesh_paths.specs.declared.frontier.Step.{Step}
-use Rattle.mesh_paths.specs.Search.{node_cmp, arc_cmp, step_cmp, Takes, IsSpent, Puts, Settled, IsKeyed, Settles, IsNoLater, row_of}
+use Rattle.mesh_paths.specs.Search.{arc_cmp, step_cmp, Takes, IsSpent, Puts, Settled, IsKeyed, Settles, IsNoLater, row_of}
 use Rattle.mesh_paths.proofs.Order.{node_of, at_most_itself, at_most_both, not_before_itself}
 use Rattle.mesh_paths.proofs.Rows.{item_in}
 
 -- Orders
 
-pub node_total : IsTotalOrder node_cmp
-node_total = then_total (on_total (λ (a : NetAddr). a.addr.0) nat_cmp_total) (on_total (λ (a : NetAddr). a.prefix) nat_cmp_total)
-
 pub arc_total : IsTotalOrder arc_cmp
-arc_total = then_total (on_total (λ (a : Arc4). a.from) node_total) (then_total (on_total (λ (a : Arc4). a.to) node_total) (on_total (λ (a : Arc4). a.metric) nat_cmp_total))
+arc_total = then_total (on_total (λ (a : Arc4). a.from) net_total) (then_total (on_total (λ (a : Arc4). a.to) net_total) (on_total (λ (a : Arc4). a.metric) nat_cmp_total))
 
 pub step_total : IsTotalOrder step_cmp
-step_total = then_total (on_total (λ (a : Step). a.metric) nat_cmp_total) (then_total (on_total (λ (a : Step). a.node) node_total) (on_total (λ (a : Step). a.parent) node_total))
-
-then_equal : (o p : Ordering) → ordering_then o p ≡ Equal → (o ≡ Equal) × (p ≡ Equal)
-then_equal Less p e = absurd (cc)
-then_equal Equal p e = (refl, e)
-then_equal Greater p e = absurd (cc)
-
-then_less : (o p : Ordering) → ordering_then o p ≡ Less → (o ≡ Less) ⊎ ((o ≡ Equal) × (p ≡ Less))
-then_less Less p e = inl refl
-then_less Equal p e = inr (refl, e)
-then_less Greater p e = absurd (cc)
+step_total = then_total (on_total (λ (a : Step). a.metric) nat_cmp_total) (then_total (on_total (λ (a : Step). a.node) net_total) (on_total (λ (a : Step). a.parent) net_total))
 
 then_upto : (o p : Ordering) → is_gt (ordering_then o p) ≡ false → (o ≡ Less) ⊎ ((o ≡ Equal) × (is_gt p ≡ false))
 then_upto Less p e = inl refl
@@ -65,52 +53,41 @@ nat_order a b Less e l = inl refl
 nat_order a b Equal e l = inr refl
 nat_order a b Greater e l = let m : b < a = ranked a b Greater e in absurd (omega arith)
 
-pub node_exact : CmpEqualImpliesEq node_cmp
-node_exact a b e =
-    let (f, g) = then_equal (nat_cmp a.addr.0 b.addr.0) (nat_cmp a.prefix b.prefix) e in
-    node_of a b (exact_unsigned a.addr.0 b.addr.0 f) (exact_unsigned a.prefix b.prefix g)
-
 pub arc_exact : CmpEqualImpliesEq arc_cmp
 arc_exact a b e =
-    let (f, rest) = then_equal (node_cmp a.from b.from) (ordering_then (node_cmp a.to b.to) (nat_cmp a.metric b.metric)) e in
-    let (g, h) = then_equal (node_cmp a.to b.to) (nat_cmp a.metric b.metric) rest in
-    ap (λ (n : NetAddr). let r : Arc4 = record { from = n; to = a.to; metric = a.metric } in r) (node_exact a.from b.from f)
-    ∙ ap (λ (n : NetAddr). let r : Arc4 = record { from = b.from; to = n; metric = a.metric } in r) (node_exact a.to b.to g)
+    let (f, rest) = then_equal (net_cmp a.from b.from) (ordering_then (net_cmp a.to b.to) (nat_cmp a.metric b.metric)) e in
+    let (g, h) = then_equal (net_cmp a.to b.to) (nat_cmp a.metric b.metric) rest in
+    ap (λ (n : NetAddr). let r : Arc4 = record { from = n; to = a.to; metric = a.metric } in r) (net_exact a.from b.from f)
+    ∙ ap (λ (n : NetAddr). let r : Arc4 = record { from = b.from; to = n; metric = a.metric } in r) (net_exact a.to b.to g)
     ∙ ap (λ (m : ℕ). let r : Arc4 = record { from = b.from; to = b.to; metric = m } in r) (exact_unsigned a.metric b.metric h)
 
 pub step_exact : CmpEqualImpliesEq step_cmp
 step_exact a b e =
-    let (f, rest) = then_equal (nat_cmp a.metric b.metric) (ordering_then (node_cmp a.node b.node) (node_cmp a.parent b.parent)) e in
-    let (g, h) = then_equal (node_cmp a.node b.node) (node_cmp a.parent b.parent) rest in
+    let (f, rest) = then_equal (nat_cmp a.metric b.metric) (ordering_then (net_cmp a.node b.node) (net_cmp a.parent b.parent)) e in
+    let (g, h) = then_equal (net_cmp a.node b.node) (net_cmp a.parent b.parent) rest in
     ap (λ (m : ℕ). let r : Step = record { metric = m; node = a.node; parent = a.parent } in r) (exact_unsigned a.metric b.metric f)
-    ∙ ap (λ (n : NetAddr). let r : Step = record { metric = b.metric; node = n; parent = a.parent } in r) (node_exact a.node b.node g)
-    ∙ ap (λ (n : NetAddr). let r : Step = record { metric = b.metric; node = b.node; parent = n } in r) (node_exact a.parent b.parent h)
-
-pub node_less : (a b : NetAddr) → node_cmp a b ≡ Less → IsBefore a b
-node_less a b e = elim (then_less (nat_cmp a.addr.0 b.addr.0) (nat_cmp a.prefix b.prefix) e) [
-  | inl f ↦ inl (ranked a.addr.0 b.addr.0 Less (sym f))
-  | inr (f, g) ↦ inr (ranked a.addr.0 b.addr.0 Equal (sym f), ranked a.prefix b.prefix Less (sym g))
-]
+    ∙ ap (λ (n : NetAddr). let r : Step = record { metric = b.metric; node = n; parent = a.parent } in r) (net_exact a.node b.node g)
+    ∙ ap (λ (n : NetAddr). let r : Step = record { metric = b.metric; node = b.node; parent = n } in r) (net_exact a.parent b.parent h)
 
 before_at_most : (a b : NetAddr) → IsBefore a b → IsAtMost a b
 before_at_most a b h = elim h [ inl l ↦ inl l | inr (e, l) ↦ inr (e, omega arith) ]
 
 -- an arc is no greater than those from a lesser node
 pub from_upto : (a b : Arc4) → is_gt (arc_cmp a b) ≡ false → IsAtMost a.from b.from
-from_upto a b e = elim (then_upto (node_cmp a.from b.from) (ordering_then (node_cmp a.to b.to) (nat_cmp a.metric b.metric)) e) [
-  | inl f ↦ before_at_most a.from b.from (node_less a.from b.from f)
-  | inr (f, _) ↦ at_most_itself a.from b.from (node_exact a.from b.from f)
+from_upto a b e = elim (then_upto (net_cmp a.from b.from) (ordering_then (net_cmp a.to b.to) (nat_cmp a.metric b.metric)) e) [
+  | inl f ↦ before_at_most a.from b.from (net_less a.from b.from f)
+  | inr (f, _) ↦ at_most_itself a.from b.from (net_exact a.from b.from f)
 ]
 
-node_tied : (a b : NetAddr) → a ≡ b → node_cmp a b ≡ Equal
-node_tied a b e = subst (λ (x : NetAddr). node_cmp a x ≡ Equal) e (tied_itself node_total a)
+node_tied : (a b : NetAddr) → a ≡ b → net_cmp a b ≡ Equal
+node_tied a b e = subst (λ (x : NetAddr). net_cmp a x ≡ Equal) e (tied_itself net_total a)
 
 -- the arc of a node to the least node, at 0, is no greater than another of the node
 pub least_upto : (a b : Arc4) → a.from ≡ b.from → a.to.addr.0 ≡ 0 → a.to.prefix ≡ 0 → a.metric ≡ 0 → is_gt (arc_cmp a b) ≡ false
 least_upto a b same number prefix metric =
-    upto_then (node_cmp a.from b.from) (ordering_then (node_cmp a.to b.to) (nat_cmp a.metric b.metric)) (inr (
+    upto_then (net_cmp a.from b.from) (ordering_then (net_cmp a.to b.to) (nat_cmp a.metric b.metric)) (inr (
       node_tied a.from b.from same,
-      upto_then (node_cmp a.to b.to) (nat_cmp a.metric b.metric) (pair (nat_cmp a.to.addr.0 b.to.addr.0) (nat_cmp a.to.prefix b.to.prefix) (nat_cmp a.metric b.metric) (nat_order a.to.addr.0 b.to.addr.0 (nat_cmp a.to.addr.0 b.to.addr.0) refl (omega arith)) (nat_order a.to.prefix b.to.prefix (nat_cmp a.to.prefix b.to.prefix) refl (omega arith))
+      upto_then (net_cmp a.to b.to) (nat_cmp a.metric b.metric) (pair (nat_cmp a.to.addr.0 b.to.addr.0) (nat_cmp a.to.prefix b.to.prefix) (nat_cmp a.metric b.metric) (nat_order a.to.addr.0 b.to.addr.0 (nat_cmp a.to.addr.0 b.to.addr.0) refl (omega arith)) (nat_order a.to.prefix b.to.prefix (nat_cmp a.to.prefix b.to.prefix) refl (omega arith))
           (nat_order a.metric b.metric (nat_cmp a.metric b.metric) refl (omega arith))),
     ))
   where
@@ -126,13 +103,13 @@ least_upto a b same number prefix metric =
 
 -- of two steps the greater is no earlier than the row of the lesser
 pub no_later : (s x : Step) → step_cmp s x ≡ Less → IsNoLater (row_of s) x
-no_later s x e = elim (then_less (nat_cmp s.metric x.metric) (ordering_then (node_cmp s.node x.node) (node_cmp s.parent x.parent)) e) [
+no_later s x e = elim (then_less (nat_cmp s.metric x.metric) (ordering_then (net_cmp s.node x.node) (net_cmp s.parent x.parent)) e) [
   | inl f ↦ inl (ranked s.metric x.metric Less (sym f))
   | inr (f, rest) ↦ inr (
     ranked s.metric x.metric Equal (sym f),
-    λ same. elim (then_less (node_cmp s.node x.node) (node_cmp s.parent x.parent) rest) [
-      | inl g ↦ absurd (not_before_itself s.node x.node same (node_less s.node x.node g))
-      | inr (_, h) ↦ before_at_most s.parent x.parent (node_less s.parent x.parent h)
+    λ same. elim (then_less (net_cmp s.node x.node) (net_cmp s.parent x.parent) rest) [
+      | inl g ↦ absurd (not_before_itself s.node x.node same (net_less s.node x.node g))
+      | inr (_, h) ↦ before_at_most s.parent x.parent (net_less s.parent x.parent h)
     ],
   )
 ]
@@ -141,11 +118,6 @@ pub later_steps : (s : Step) (steps : List Step) → All (λ x. step_cmp s x ≡
 later_steps s steps all x has = no_later s x (All-contains (λ (y : Step). step_cmp s y ≡ Less) steps x all has)
 
 -- Elements
-
-pub is_equal : (o : Ordering) → is_eq o ≡ true → o ≡ Equal
-is_equal Less e = absurd (cc)
-is_equal Equal e = refl
-is_equal Greater e = absurd (cc)
 
 module _ {K : Type 0} {cmp : K → K → Ordering} (o : IsTotalOrder cmp) (exact : CmpEqualImpliesEq cmp) where
   listed : (s : BTreeSet K) (k : K) → IsTrue (sorted.contains cmp s k) ↔ Contains s.keys k
@@ -257,53 +229,53 @@ module _ (s : BTreeSet Arc4) (lo : Arc4) (node : NetAddr) (r : List Arc4) (part 
 -- Rows
 
 -- a node that is found has its row
-pub row_found : (m : BTreeMap NetAddr PathRow) (node : NetAddr) → IsKeyed m → is_some (tree.get node_cmp m node) ≡ true → (r : PathRow) × Settled m r × (r.node ≡ node)
-row_found m node keyed there = by_value m node keyed (tree.get node_cmp m node) refl there
+pub row_found : (m : BTreeMap NetAddr PathRow) (node : NetAddr) → IsKeyed m → is_some (tree.get net_cmp m node) ≡ true → (r : PathRow) × Settled m r × (r.node ≡ node)
+row_found m node keyed there = by_value m node keyed (tree.get net_cmp m node) refl there
   where
-    by_value : (m : BTreeMap NetAddr PathRow) (node : NetAddr) → IsKeyed m → (o : Option PathRow) → tree.get node_cmp m node ≡ o → is_some o ≡ true → (r : PathRow) × Settled m r × (r.node ≡ node)
+    by_value : (m : BTreeMap NetAddr PathRow) (node : NetAddr) → IsKeyed m → (o : Option PathRow) → tree.get net_cmp m node ≡ o → is_some o ≡ true → (r : PathRow) × Settled m r × (r.node ≡ node)
     by_value m node keyed None e t = absurd (cc)
-    by_value m node keyed (Some r) e t = let at : r.node ≡ node = keyed node r e in (r, subst (λ (q : NetAddr). tree.get node_cmp m q ≡ Some r) (sym at) e, at)
+    by_value m node keyed (Some r) e t = let at : r.node ≡ node = keyed node r e in (r, subst (λ (q : NetAddr). tree.get net_cmp m q ≡ Some r) (sym at) e, at)
 
-pub no_row : (m : BTreeMap NetAddr PathRow) (node : NetAddr) → is_some (tree.get node_cmp m node) ≡ false → (r : PathRow) → Settled m r → r.node ≢ node
+pub no_row : (m : BTreeMap NetAddr PathRow) (node : NetAddr) → is_some (tree.get net_cmp m node) ≡ false → (r : PathRow) → Settled m r → r.node ≢ node
 no_row m node none r has at =
-    let h : tree.get node_cmp m node ≡ Some r = subst (λ (q : NetAddr). tree.get node_cmp m q ≡ Some r) at has in
-    let t : is_some (tree.get node_cmp m node) ≡ true = ap is_some h in
+    let h : tree.get net_cmp m node ≡ Some r = subst (λ (q : NetAddr). tree.get net_cmp m q ≡ Some r) at has in
+    let t : is_some (tree.get net_cmp m node) ≡ true = ap is_some h in
     (cc)
 
-module _ (m n : BTreeMap NetAddr PathRow) (step : Step) (at : (q : NetAddr) → tree.get node_cmp n q ≡ cond (is_eq (node_cmp step.node q)) (Some (row_of step)) (tree.get node_cmp m q)) where
-  here : (q : NetAddr) → is_eq (node_cmp step.node q) ≡ true → tree.get node_cmp n q ≡ Some (row_of step)
-  here q e = at q ∙ ap (λ (b : Bool). cond b (Some (row_of step)) (tree.get node_cmp m q)) e
+module _ (m n : BTreeMap NetAddr PathRow) (step : Step) (at : (q : NetAddr) → tree.get net_cmp n q ≡ cond (is_eq (net_cmp step.node q)) (Some (row_of step)) (tree.get net_cmp m q)) where
+  here : (q : NetAddr) → is_eq (net_cmp step.node q) ≡ true → tree.get net_cmp n q ≡ Some (row_of step)
+  here q e = at q ∙ ap (λ (b : Bool). cond b (Some (row_of step)) (tree.get net_cmp m q)) e
 
-  there : (q : NetAddr) → is_eq (node_cmp step.node q) ≡ false → tree.get node_cmp n q ≡ tree.get node_cmp m q
-  there q e = at q ∙ ap (λ (b : Bool). cond b (Some (row_of step)) (tree.get node_cmp m q)) e
+  there : (q : NetAddr) → is_eq (net_cmp step.node q) ≡ false → tree.get net_cmp n q ≡ tree.get net_cmp m q
+  there q e = at q ∙ ap (λ (b : Bool). cond b (Some (row_of step)) (tree.get net_cmp m q)) e
 
-  kept_at : tree.get node_cmp m step.node ≡ None → (r : PathRow) → Settled m r → Settled n r
-  kept_at fresh r has = elim (cases_Bool (is_eq (node_cmp step.node r.node))) [
+  kept_at : tree.get net_cmp m step.node ≡ None → (r : PathRow) → Settled m r → Settled n r
+  kept_at fresh r has = elim (cases_Bool (is_eq (net_cmp step.node r.node))) [
     | inl e ↦
-        let same : step.node ≡ r.node = node_exact step.node r.node (is_equal (node_cmp step.node r.node) e) in
-        let old : tree.get node_cmp m step.node ≡ Some r = subst (λ (q : NetAddr). tree.get node_cmp m q ≡ Some r) (sym same) has in
+        let same : step.node ≡ r.node = net_exact step.node r.node (is_equal (net_cmp step.node r.node) e) in
+        let old : tree.get net_cmp m step.node ≡ Some r = subst (λ (q : NetAddr). tree.get net_cmp m q ≡ Some r) (sym same) has in
         absurd (cc)
     | inr e ↦ there r.node e ∙ has
   ]
 
   cases_at : (r : PathRow) → Settled n r → (row_of step ≡ r) ⊎ Settled m r
-  cases_at r has = elim (cases_Bool (is_eq (node_cmp step.node r.node))) [
+  cases_at r has = elim (cases_Bool (is_eq (net_cmp step.node r.node))) [
     | inl e ↦ let h : Some (row_of step) ≡ Some r = sym (here r.node e) ∙ has in inl (cc)
     | inr e ↦ inr (sym (there r.node e) ∙ has)
   ]
 
-  pub settles_of : tree.get node_cmp m step.node ≡ None → Settles (Settled m) (row_of step) (Settled n)
+  pub settles_of : tree.get net_cmp m step.node ≡ None → Settles (Settled m) (row_of step) (Settled n)
   settles_of fresh = record {
-    new = here step.node (ap is_eq (tied_itself node_total step.node));
+    new = here step.node (ap is_eq (tied_itself net_total step.node));
     kept = kept_at fresh;
     cases = cases_at;
   }
 
   pub keyed_of : IsKeyed m → IsKeyed n
-  keyed_of keyed node row has = elim (cases_Bool (is_eq (node_cmp step.node node))) [
+  keyed_of keyed node row has = elim (cases_Bool (is_eq (net_cmp step.node node))) [
     | inl e ↦
         let h : Some (row_of step) ≡ Some row = sym (here node e) ∙ has in
         let same : row_of step ≡ row = (cc) in
-        ap (λ (x : PathRow). x.node) (sym same) ∙ node_exact step.node node (is_equal (node_cmp step.node node) e)
+        ap (λ (x : PathRow). x.node) (sym same) ∙ net_exact step.node node (is_equal (net_cmp step.node node) e)
     | inr e ↦ keyed node row (sym (there node e) ∙ has)
   ]

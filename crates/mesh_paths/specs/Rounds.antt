@@ -5,9 +5,9 @@ use Rattle.std.specs.BTreeMap as tree
 use Rattle.mesh_atoms.specs.declared.addr.NetAddr.{NetAddr}
 use Rattle.mesh_atoms.specs.declared.graphs.Arc4.{Arc4}
 use Rattle.mesh_atoms.specs.declared.graphs.PathRow.{PathRow}
-use Rattle.mesh_atoms.specs.Nodes.{IsBefore}
+use Rattle.mesh_atoms.specs.Nodes.{IsBefore, net_cmp}
 use Rattle.mesh_paths.specs.Tree.{IsStart, IsAsGood, MeetsBy}
-use Rattle.mesh_paths.specs.Search.{node_cmp, Settled, IsKeyed}
+use Rattle.mesh_paths.specs.Search.{Settled, IsKeyed}
 
 -- a map from nodes to their rows
 abbrev pub RowMap : Type 0
@@ -25,11 +25,11 @@ weight_of (Some row) = 1099511627776 * row.metric + (64 * row.parent.addr.0 + ro
 
 -- how many arcs lead to a node that has no row
 abbrev pub missing_in : RowMap → List Arc4 → ℕ
-missing_in map arcs = sum_by (λ arc. missing_of (tree.get node_cmp map arc.to)) arcs
+missing_in map arcs = sum_by (λ arc. missing_of (tree.get net_cmp map arc.to)) arcs
 
 -- a number that falls with each row that gets better
 abbrev pub weight_in : RowMap → List Arc4 → ℕ
-weight_in map arcs = sum_by (λ arc. weight_of (tree.get node_cmp map arc.to)) arcs
+weight_in map arcs = sum_by (λ arc. weight_of (tree.get net_cmp map arc.to)) arcs
 
 -- what the arc offers is met by a row of the map
 abbrev pub IsMetIn : RowMap → Arc4 → Type 0
@@ -37,9 +37,9 @@ IsMetIn map arc = (row : PathRow) → Settled map row → row.node ≡ arc.from 
 
 -- the row goes into the map at its node, where no row is as good
 pub record Betters (old : RowMap) (row : PathRow) (new : RowMap) : Type 0 where
-  pub has : tree.get node_cmp new row.node ≡ Some row
-  pub others : (node : NetAddr) → node ≢ row.node → tree.get node_cmp new node ≡ tree.get node_cmp old node
-  pub better : (before : PathRow) → tree.get node_cmp old row.node ≡ Some before → (row.metric < before.metric) ⊎ ((row.metric ≡ before.metric) × IsBefore row.parent before.parent)
+  pub has : tree.get net_cmp new row.node ≡ Some row
+  pub others : (node : NetAddr) → node ≢ row.node → tree.get net_cmp new node ≡ tree.get net_cmp old node
+  pub better : (before : PathRow) → tree.get net_cmp old row.node ≡ Some before → (row.metric < before.metric) ⊎ ((row.metric ≡ before.metric) × IsBefore row.parent before.parent)
 
 -- the row is what the arc offers from a row of the map
 abbrev pub IsOfferBy : RowMap → Arc4 → PathRow → Type 0
@@ -47,7 +47,7 @@ IsOfferBy map arc row = (first : PathRow) × Settled map first × (first.node �
 
 -- a row of the node is as good as this
 abbrev pub HasAsGood : RowMap → NetAddr → ℕ → NetAddr → Type 0
-HasAsGood map node metric parent = (before : PathRow) × (tree.get node_cmp map node ≡ Some before) × IsAsGood before metric parent
+HasAsGood map node metric parent = (before : PathRow) × (tree.get net_cmp map node ≡ Some before) × IsAsGood before metric parent
 
 -- the numbers that a row by the arc weighs fit their types
 abbrev pub IsInRange : Arc4 → PathRow → Type 0

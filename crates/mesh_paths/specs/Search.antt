@@ -4,7 +4,7 @@ use Rattle.std.specs.Ordering.{nat_cmp, ordering_then}
 use Rattle.std.specs.declared.cmp.Ordering.{Ordering}
 use Rattle.std.specs.BTreeMap as tree
 use Rattle.mesh_atoms.specs.declared.addr.NetAddr.{NetAddr}
-use Rattle.mesh_atoms.specs.Nodes.{IsAtMost}
+use Rattle.mesh_atoms.specs.Nodes.{IsAtMost, net_cmp}
 use Rattle.mesh_atoms.specs.declared.graphs.Arc4.{Arc4}
 use Rattle.mesh_atoms.specs.declared.graphs.PathRow.{PathRow}
 use Rattle.mesh_paths.specs.declared.frontier.Step.{Step}
@@ -74,22 +74,19 @@ pub record IsSearch (Has : PathRow → Type 0) (arcs : List Arc4) (from : NetAdd
   pub small : (s : Step) → Contains steps s → IsSmall s.metric left
 
 -- the orders of the sets
-abbrev pub node_cmp : NetAddr → NetAddr → Ordering
-node_cmp a b = ordering_then (nat_cmp a.addr.0 b.addr.0) (nat_cmp a.prefix b.prefix)
-
 abbrev pub arc_cmp : Arc4 → Arc4 → Ordering
-arc_cmp a b = ordering_then (node_cmp a.from b.from) (ordering_then (node_cmp a.to b.to) (nat_cmp a.metric b.metric))
+arc_cmp a b = ordering_then (net_cmp a.from b.from) (ordering_then (net_cmp a.to b.to) (nat_cmp a.metric b.metric))
 
 abbrev pub step_cmp : Step → Step → Ordering
-step_cmp a b = ordering_then (nat_cmp a.metric b.metric) (ordering_then (node_cmp a.node b.node) (node_cmp a.parent b.parent))
+step_cmp a b = ordering_then (nat_cmp a.metric b.metric) (ordering_then (net_cmp a.node b.node) (net_cmp a.parent b.parent))
 
 -- a settled row is found at its node
 abbrev pub Settled : tree.BTreeMap NetAddr PathRow → PathRow → Type 0
-Settled map row = tree.get node_cmp map row.node ≡ Some row
+Settled map row = tree.get net_cmp map row.node ≡ Some row
 
 -- each row is found at its own node alone
 abbrev pub IsKeyed : tree.BTreeMap NetAddr PathRow → Type 0
-IsKeyed map = (node : NetAddr) (row : PathRow) → tree.get node_cmp map node ≡ Some row → row.node ≡ node
+IsKeyed map = (node : NetAddr) (row : PathRow) → tree.get net_cmp map node ≡ Some row → row.node ≡ node
 
 -- the step as a row
 abbrev pub row_of : Step → PathRow

@@ -4,7 +4,8 @@ ghost use Rattle.mesh_atoms.specs.declared.graphs.PathRow.{PathRow};
 ghost use Rattle.mesh_atoms.specs.declared.graphs.Arc4.{Arc4};
 ghost use Rattle.std.specs.BTreeMap.{get, values, IsOrdered};
 ghost use Rattle.mesh_paths.specs.Paths.{HasCosts, IsCertificate};
-ghost use Rattle.mesh_paths.specs.Search.{Takes, Puts, Offering, IsSpent, IsSmall, IsIndex, IsFound, Settled, IsKeyed, Settles, row_of, node_cmp};
+ghost use Rattle.mesh_atoms.specs.Nodes.{net_cmp};
+ghost use Rattle.mesh_paths.specs.Search.{Takes, Puts, Offering, IsSpent, IsSmall, IsIndex, IsFound, Settled, IsKeyed, Settles, row_of};
 
 use crate::certificate::is_from;
 use mesh_atoms::{Addr4, Arc4, Certificate, Graph, NetAddr, PathRow, Seq};
@@ -77,7 +78,7 @@ fn settle_all(
 
 // Settles the step as a row.
 pub(crate) fn settle(settled: &mut BTreeMap<NetAddr, PathRow>, step: Step) -> Result<(), AllocError>
-    requires fresh { get node_cmp settled.old step.node ≡ None }
+    requires fresh { get net_cmp settled.old step.node ≡ None }
     requires keyed { IsKeyed settled.old }
     ensures settled { OnOk result (Settles (Settled settled.old) (row_of step) (Settled settled.new)) }
     ensures keyed { OnOk result (IsKeyed settled.new) }
@@ -104,7 +105,7 @@ pub(crate) fn rows_in_order(
     settled: &BTreeMap<NetAddr, PathRow>,
 ) -> Result<Seq<PathRow>, AllocError>
     ensures all { IfOk result (λ rows. rows ≡ values settled.now) }
-    ensures ordered { IfOk result (λ rows. IsOrdered node_cmp settled.now) }
+    ensures ordered { IfOk result (λ rows. IsOrdered net_cmp settled.now) }
 {
     let mut rows = Seq::new(alloc);
     for row in settled.values() {

@@ -4,7 +4,8 @@ ghost use Rattle.std.specs.BTreeMap.{get};
 ghost use Rattle.mesh_atoms.specs.declared.graphs.PathRow.{PathRow};
 ghost use Rattle.mesh_atoms.specs.declared.graphs.Arc4.{Arc4};
 ghost use Rattle.mesh_paths.specs.Paths.{HasCosts, IsCertificate};
-ghost use Rattle.mesh_paths.specs.Search.{Settled, IsKeyed, node_cmp};
+ghost use Rattle.mesh_atoms.specs.Nodes.{net_cmp};
+ghost use Rattle.mesh_paths.specs.Search.{Settled, IsKeyed};
 ghost use Rattle.mesh_paths.specs.Rounds.{HasAsGood, IsMetIn, Tries, IsRounds, Goes};
 
 use crate::certificate::is_as_good;
@@ -101,7 +102,7 @@ fn try_arc(reached: &mut BTreeMap<NetAddr, PathRow>, arc: Arc4) -> Result<bool, 
 
 // The row at a node.
 fn row_at(reached: &BTreeMap<NetAddr, PathRow>, node: NetAddr) -> Option<PathRow>
-    ensures { result ≡ get node_cmp reached.now node }
+    ensures { result ≡ get net_cmp reached.now node }
 {
     reached.get(&node).copied()
 }

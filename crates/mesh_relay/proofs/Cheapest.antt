@@ -13,10 +13,12 @@ use Rattle.mesh_atoms.specs.declared.graphs.Near.{Near}
 use Rattle.mesh_atoms.specs.declared.graphs.Far.{Far}
 use Rattle.mesh_atoms.specs.declared.graphs.NeighbourGraph.{NeighbourGraph}
 use Rattle.mesh_atoms.specs.Relays.{Offers, IsWilling}
+use Rattle.mesh_atoms.specs.Base.{addr_eq}
 use Rattle.mesh_relay.specs.declared.ways.Way.{Way}
-use Rattle.mesh_relay.specs.Tests.{same, is_direct_within}
+use Rattle.mesh_relay.specs.Tests.{is_direct_within}
 use Rattle.mesh_relay.specs.Ways.{AreWilling, IsAt, IsDirect, IsCheapest, HasWay, RisesFrom, AreWays, way_at, way_from, adds_nothing}
-use Rattle.mesh_relay.proofs.Decide.{Decides-same, Decides-direct}
+use Rattle.mesh_atoms.proofs.Deciding.{Decides-addr}
+use Rattle.mesh_relay.proofs.Decide.{Decides-direct}
 use Rattle.mesh_relay.proofs.Lists.{none_within, cons_cases, cons_more, cons_first, given_by, gives, dedup_within, joined, kept_within}
 use Rattle.mesh_relay.proofs.Willing.{one_near}
 
@@ -89,11 +91,11 @@ dedup_rises (k ∷ xs) up = kept_rises 0 k xs (omega arith) up
 -- What is kept is cheapest
 
 same_addr : (x k : Way) → adds_nothing x k ≡ true → x.addr ≡ k.addr
-same_addr x k e = (Decides-same x.addr k.addr).0 (and_parts _ _ e).0
+same_addr x k e = (Decides-addr x.addr k.addr).0 (and_parts _ _ e).0
 
 no_cheaper : (x k : Way) → adds_nothing x k ≡ false → x.addr ≡ k.addr → k.cost < x.cost → ⊥
 no_cheaper x k e at lt =
-    true≢false (sym (and_from (same x.addr k.addr) (nat_lt k.cost x.cost || nat_eq x.place k.place) ((Decides-same x.addr k.addr).1 at)
+    true≢false (sym (and_from (addr_eq x.addr k.addr) (nat_lt k.cost x.cost || nat_eq x.place k.place) ((Decides-addr x.addr k.addr).1 at)
     (or_left (nat_lt k.cost x.cost) (nat_eq x.place k.place) (lt-ltb k.cost x.cost lt))) ∙ e)
 
 abbrev IsLeastIn : List Way → List Way → Type 0
@@ -182,13 +184,13 @@ record Found (g : NeighbourGraph) (start : ℕ) (ns : List Near) (f : Far) : Typ
 abbrev NoneFound : NeighbourGraph → ℕ → List Near → Far → Type 0
 NoneFound g start ns f = ((n : Near) → Contains ns n → n.id ≡ f.via → ⊥) × (way_from g start ns f ≡ None)
 
-found_cons : (g : NeighbourGraph) (start : ℕ) (n : Near) (ns : List Near) (f : Far) (b : Bool) → same n.id f.via ≡ b →
+found_cons : (g : NeighbourGraph) (start : ℕ) (n : Near) (ns : List Near) (f : Far) (b : Bool) → addr_eq n.id f.via ≡ b →
     NoneFound g (start + 1) ns f ⊎ Found g (start + 1) ns f → NoneFound g start (n ∷ ns) f ⊎ Found g start (n ∷ ns) f
 found_cons g start n ns f true e h = inr (record {
   near = n;
   index = 0;
   at = (omega arith, refl);
-  via = (Decides-same n.id f.via).0 e;
+  via = (Decides-addr n.id f.via).0 e;
   place = start;
   is = omega arith;
   gives = ap (λ (t : Bool). cond t (way_at g start n f) (way_from g (start + 1) ns f)) e;
@@ -198,7 +200,7 @@ found_cons g start n ns f false e h =
     elim h [
       | inl none ↦ inl (
         λ m w id. elim (cons_cases n m ns w) [
-          | inl is ↦ false≢true (sym e ∙ (Decides-same n.id f.via).1 (ap (λ (x : Near). x.id) is ∙ id))
+          | inl is ↦ false≢true (sym e ∙ (Decides-addr n.id f.via).1 (ap (λ (x : Near). x.id) is ∙ id))
           | inr later ↦ none.0 m later id
         ],
         on ∙ none.1,
@@ -216,7 +218,7 @@ found_cons g start n ns f false e h =
 
 found : (g : NeighbourGraph) (start : ℕ) (ns : List Near) (f : Far) → NoneFound g start ns f ⊎ Found g start ns f
 found g start [] f = inl (λ n w e. none_within n w, refl)
-found g start (n ∷ ns) f = found_cons g start n ns f (same n.id f.via) refl (found g (start + 1) ns f)
+found g start (n ∷ ns) f = found_cons g start n ns f (addr_eq n.id f.via) refl (found g (start + 1) ns f)
 
 abbrev IsWayBy : NeighbourGraph → ℕ → Near → Far → Way → Type 0
 IsWayBy g place n f w = (w ≡ record { addr = f.addr; cost = n.cost + f.cost; place = place }) × (IsDirect g f.addr (n.cost + f.cost) → ⊥)

@@ -1,72 +1,21 @@
 -- The tests decide what they are named for.
-use Rattle.std.proofs.Common.{◌≡◌, ℕ, ◌+◌, ◌≤◌, ◌<◌, ◌⊎◌, Bool, true, false, ◌&&◌, ◌||◌, not, nat_eq, nat_lt, nat_le, List, get_or, refl, sym, ◌∙◌, ap, subst, inl, inr, arith, Decides}
+use Rattle.std.proofs.Common.{◌≡◌, ℕ, ◌+◌, ◌≤◌, ◌<◌, ◌||◌, not, nat_eq, List, refl, sym, ◌∙◌, ap, subst, inl, inr, arith, Decides}
 use Rattle.std.specs.Prelude.{Contains}
 use Rattle.std.specs.Borrow.{Bor}
-use Rattle.std.specs.List.{list_any, list_all}
-use Rattle.std.proofs.lemmas.Bool.{false≢true, eqb-true, eq-eqb, leb-true, le-leb, ltb-true, lt-ltb, and_parts, and_from}
-use Rattle.std.proofs.lemmas.List.Folds.{Any-from_list_any, list_any_at}
-use Rattle.std.proofs.lemmas.List.Sums.{AllPass-from_list_all, list_all-from_AllPass}
-use Rattle.std.proofs.lemmas.List.Elements.{All-contains, Contains-get_or}
 use Rattle.mesh_atoms.specs.declared.addr.Addr4.{Addr4}
 use Rattle.mesh_atoms.specs.declared.graphs.Near.{Near}
 use Rattle.mesh_atoms.specs.declared.graphs.Far.{Far}
 use Rattle.mesh_atoms.specs.declared.graphs.NeighbourGraph.{NeighbourGraph}
+use Rattle.mesh_atoms.proofs.Deciding.{Decides-eqb, Decides-ltb, Decides-leb, Decides-addr, Decides-and, Decides-or, Decides-not, Decides-if, Decides-if_both, Decides-some, Decides-each}
 use Rattle.mesh_atoms.specs.Relays.{Offers, IsWilling, IsRelay, IsOtherRelay, IsAsCheap, HasSameDistance, Covers, IsMissed, Needed, HasDistinctIds}
+use Rattle.mesh_atoms.specs.Base.{addr_eq}
 use Rattle.mesh_relay.specs.declared.sets.Among.{Among}
 use Rattle.mesh_relay.specs.declared.sets.Among.TheVariants.{Willing, Relays, Others}
 use Rattle.mesh_relay.specs.Ways.{IsDirect}
-use Rattle.mesh_relay.specs.Tests.{same, contains, counts, leads, is_direct_within, is_led_to_within, offers_within, is_matched, is_as_cheap, keeps_costs, has_always, are_willing, is_missed, irredundant, covers, are_distinct, are_all_distinct}
-
--- Tests in general
+use Rattle.mesh_relay.specs.Tests.{contains, counts, leads, is_direct_within, is_led_to_within, offers_within, is_matched, is_as_cheap, keeps_costs, has_always, are_willing, is_missed, irredundant, covers, are_distinct, are_all_distinct}
 
 le-refl : (n : ℕ) → n ≤ n
 le-refl n = omega arith
-
-pub Decides-equal : (a b : ℕ) → Decides (nat_eq a b) (a ≡ b)
-Decides-equal a b = (eqb-true a b, eq-eqb a b)
-
-pub Decides-less : (a b : ℕ) → Decides (nat_lt a b) (a < b)
-Decides-less a b = (ltb-true a b, lt-ltb a b)
-
-Decides-under : {P Q : Type 0} {r : Bool} → Decides r Q → P → Decides r (P → Q)
-Decides-under q h = (λ e _. q.0 e, λ w. q.1 (w h))
-
-pub Decides-and : {P Q : Type 0} (b r : Bool) → Decides b P → Decides r Q → Decides (b && r) (P × Q)
-Decides-and b r p q = (λ e. let w = and_parts b r e in (p.0 w.0, q.0 w.1), λ w. and_from b r (p.1 w.0) (q.1 w.1))
-
-pub Decides-or : {P Q : Type 0} (b r : Bool) → Decides b P → Decides r Q → Decides (b || r) (P ⊎ Q)
-Decides-or true r p q = (λ _. inl (p.0 refl), λ _. refl)
-Decides-or false r p q = (λ e. inr (q.0 e), λ w. elim w [ inl h ↦ absurd (false≢true (p.1 h)) | inr h ↦ q.1 h ])
-
-pub Decides-not : {P : Type 0} (b : Bool) → Decides b P → Decides (not b) (P → ⊥)
-Decides-not true p = (λ e. absurd (false≢true e), λ w. absurd (w (p.0 refl)))
-Decides-not false p = (λ _ h. false≢true (p.1 h), λ _. refl)
-
-pub Decides-if : {P Q : Type 0} (b r : Bool) → Decides b P → Decides r Q → Decides (not b || r) (P → Q)
-Decides-if true r p q = (λ e _. q.0 e, λ w. q.1 (w (p.0 refl)))
-Decides-if false r p q = (λ _ h. absurd (false≢true (p.1 h)), λ _. refl)
-
-pub Decides-if_both : {P Q R : Type 0} (a b r : Bool) → Decides a P → Decides b Q → Decides r R → Decides (not a || not b || r) (P → Q → R)
-Decides-if_both true b r p q s = Decides-under (Decides-if b r q s) (p.0 refl)
-Decides-if_both false b r p q s = (λ _ h _. absurd (false≢true (p.1 h)), λ _. refl)
-
-pub Decides-some : {X : Type 0} (test : X → Bool) (P : X → Type 0) → ((x : X) → Decides (test x) (P x)) → (xs : List X) → Decides (list_any test xs) ((x : X) × Contains xs x × P x)
-Decides-some test P decides xs = (
-  λ e. let w = Any-from_list_any test xs e in (w.1, (w.0, w.2, w.3), (decides w.1).0 w.4),
-  λ w. list_any_at test xs w.1.0 w.0 w.1.1 (rw w.1.2 ((decides w.0).1 w.2)),
-)
-
-pub Decides-each : {X : Type 0} (test : X → Bool) (P : X → Type 0) → ((x : X) → Decides (test x) (P x)) → (xs : List X) → Decides (list_all test xs) ((x : X) → Contains xs x → P x)
-Decides-each test P decides xs = (
-  λ e x within. (decides x).0 (All-contains (λ y. test y ≡ true) xs x (AllPass-from_list_all test xs e) within),
-  λ each. list_all-from_AllPass test xs (λ k d lt. (decides (get_or xs k d)).1 (each (get_or xs k d) (Contains-get_or xs k d lt))),
-)
-
-pub Decides-le : (a b : ℕ) → Decides (nat_le a b) (a ≤ b)
-Decides-le a b = (leb-true a b, le-leb a b)
-
-pub Decides-same : (a b : Addr4) → Decides (same a b) (a ≡ b)
-Decides-same a b = (λ e. ap (λ (n : ℕ). record { 0 = n }) (eqb-true _ _ e), λ e. eq-eqb _ _ (ap (λ (x : Addr4). x.0) e))
 
 -- Sets of neighbours
 
@@ -78,14 +27,14 @@ IsIn (Others relays id) n = IsOtherRelay relays.now id n
 
 pub Decides-contains : (ids : List Addr4) (id : Addr4) → Decides (contains ids id) (Contains ids id)
 Decides-contains ids id =
-    let d = Decides-some (λ (r : Addr4). same r id) (λ r. r ≡ id) (λ (r : Addr4). Decides-same r id) ids in
+    let d = Decides-some (λ (r : Addr4). addr_eq r id) (λ r. r ≡ id) (λ (r : Addr4). Decides-addr r id) ids in
     (λ e. let w = d.0 e in subst (Contains ids) w.2 w.1, λ w. d.1 (id, w, refl))
 
 pub Decides-counts : (among : Among) (n : Near) → Decides (counts among n) (IsIn among n)
-Decides-counts Willing n = Decides-not (nat_eq n.will 0) (Decides-equal n.will 0)
+Decides-counts Willing n = Decides-not (nat_eq n.will 0) (Decides-eqb n.will 0)
 Decides-counts (Relays relays) n = Decides-contains relays.now n.id
 Decides-counts (Others relays id) n =
-    Decides-and (contains relays.now n.id) (not (same n.id id)) (Decides-contains relays.now n.id) (Decides-not (same n.id id) (Decides-same n.id id))
+    Decides-and (contains relays.now n.id) (not (addr_eq n.id id)) (Decides-contains relays.now n.id) (Decides-not (addr_eq n.id id) (Decides-addr n.id id))
 
 abbrev pub Leads : NeighbourGraph → (Near → Type 0) → Far → ℕ → Type 0
 Leads g A f most = (n : Near) × Contains g.near n × (((n.id ≡ f.via) × A n) × (n.cost + f.cost ≤ most))
@@ -93,7 +42,7 @@ Leads g A f most = (n : Near) × Contains g.near n × (((n.id ≡ f.via) × A n)
 pub Decides-leads : (g : NeighbourGraph) (among : Among) (f : Far) (most : ℕ) → Decides (leads g among f most) (Leads g (IsIn among) f most)
 Decides-leads g among f most =
     Decides-some _ (λ n. ((n.id ≡ f.via) × IsIn among n) × (n.cost + f.cost ≤ most))
-    (λ n. Decides-and _ _ (Decides-and _ _ (Decides-same n.id f.via) (Decides-counts among n)) (Decides-le (n.cost + f.cost) most)) g.near
+    (λ n. Decides-and _ _ (Decides-and _ _ (Decides-addr n.id f.via) (Decides-counts among n)) (Decides-leb (n.cost + f.cost) most)) g.near
 
 -- some offer of the set is no dearer than that
 abbrev pub OffersWithin : NeighbourGraph → (Near → Type 0) → Addr4 → ℕ → Type 0
@@ -101,12 +50,12 @@ OffersWithin g A y most = (e : ℕ) × Offers g A y e × (e ≤ most)
 
 pub Decides-direct : (g : NeighbourGraph) (y : Addr4) (most : ℕ) → Decides (is_direct_within g y most) (IsDirect g y most)
 Decides-direct g y most =
-    Decides-some _ (λ d. (d.addr ≡ y) × (d.cost ≤ most)) (λ d. Decides-and _ _ (Decides-same d.addr y) (Decides-le d.cost most)) g.direct
+    Decides-some _ (λ d. (d.addr ≡ y) × (d.cost ≤ most)) (λ d. Decides-and _ _ (Decides-addr d.addr y) (Decides-leb d.cost most)) g.direct
 
 pub Decides-led : (g : NeighbourGraph) (among : Among) (y : Addr4) (most : ℕ) →
     Decides (is_led_to_within g among y most) ((f : Far) × Contains g.far f × ((f.addr ≡ y) × Leads g (IsIn among) f most))
 Decides-led g among y most =
-    Decides-some _ (λ f. (f.addr ≡ y) × Leads g (IsIn among) f most) (λ f. Decides-and _ _ (Decides-same f.addr y) (Decides-leads g among f most)) g.far
+    Decides-some _ (λ f. (f.addr ≡ y) × Leads g (IsIn among) f most) (λ f. Decides-and _ _ (Decides-addr f.addr y) (Decides-leads g among f most)) g.far
 
 pub Decides-offers : (g : NeighbourGraph) (among : Among) (y : Addr4) (most : ℕ) → Decides (offers_within g among y most) (OffersWithin g (IsIn among) y most)
 Decides-offers g among y most =
@@ -127,13 +76,13 @@ Decides-matched : (g : NeighbourGraph) (among other : Among) (f : Far) →
     Decides (is_matched g among other f) ((n : Near) → Contains g.near n → n.id ≡ f.via → IsIn other n → OffersWithin g (IsIn among) f.addr (n.cost + f.cost))
 Decides-matched g among other f =
     Decides-each _ (λ n. n.id ≡ f.via → IsIn other n → OffersWithin g (IsIn among) f.addr (n.cost + f.cost))
-    (λ n. Decides-if_both _ _ _ (Decides-same n.id f.via) (Decides-counts other n) (Decides-offers g among f.addr (n.cost + f.cost))) g.near
+    (λ n. Decides-if_both _ _ _ (Decides-addr n.id f.via) (Decides-counts other n) (Decides-offers g among f.addr (n.cost + f.cost))) g.near
 
 pub Decides-as_cheap : (g : NeighbourGraph) (among other : Among) (y : Addr4) → Decides (is_as_cheap g among other y) (IsAsCheap g (IsIn among) (IsIn other) y)
 Decides-as_cheap g among other y =
-    let d = Decides-each (λ f. not (same f.addr y) || is_matched g among other f)
+    let d = Decides-each (λ f. not (addr_eq f.addr y) || is_matched g among other f)
     (λ f. f.addr ≡ y → (n : Near) → Contains g.near n → n.id ≡ f.via → IsIn other n → OffersWithin g (IsIn among) f.addr (n.cost + f.cost))
-    (λ f. Decides-if _ _ (Decides-same f.addr y) (Decides-matched g among other f)) g.far in (
+    (λ f. Decides-if _ _ (Decides-addr f.addr y) (Decides-matched g among other f)) g.far in (
       λ e c o. elim o [
         | inl w ↦ (c, inl w, le-refl c)
         | inr w ↦ subst (λ (x : ℕ). OffersWithin g (IsIn among) y x) w.7
@@ -150,13 +99,13 @@ Decides-keeps_costs g among = Decides-each _ (λ f. IsAsCheap g (IsIn among) IsW
 
 pub Decides-always : (g : NeighbourGraph) (among : Among) → Decides (has_always g among) ((n : Near) → Contains g.near n → n.will ≡ 15 → IsIn among n)
 Decides-always g among =
-    Decides-each _ (λ n. n.will ≡ 15 → IsIn among n) (λ n. Decides-if _ _ (Decides-equal n.will 15) (Decides-counts among n)) g.near
+    Decides-each _ (λ n. n.will ≡ 15 → IsIn among n) (λ n. Decides-if _ _ (Decides-eqb n.will 15) (Decides-counts among n)) g.near
 
 Decides-willing : (g : NeighbourGraph) (relays : List Addr4) →
     Decides (are_willing g relays) ((id : Addr4) → Contains relays id → (n : Near) × Contains g.near n × ((n.id ≡ id) × IsWilling n))
 Decides-willing g relays =
     Decides-each _ (λ id. (n : Near) × Contains g.near n × ((n.id ≡ id) × IsWilling n))
-    (λ id. Decides-some _ (λ n. (n.id ≡ id) × IsWilling n) (λ n. Decides-and _ _ (Decides-same n.id id) (Decides-not _ (Decides-equal n.will 0))) g.near) relays
+    (λ id. Decides-some _ (λ n. (n.id ≡ id) × IsWilling n) (λ n. Decides-and _ _ (Decides-addr n.id id) (Decides-not _ (Decides-eqb n.will 0))) g.near) relays
 
 pub Decides-covers : (g : NeighbourGraph) (relays : Bor (List Addr4)) → Decides (covers g relays) (Covers g relays.now)
 Decides-covers g relays =
@@ -180,7 +129,7 @@ pub Decides-irredundant : (g : NeighbourGraph) (relays : Bor (List Addr4)) → D
 Decides-irredundant g relays =
     let d = Decides-each _ (λ n. Contains relays.now n.id → IsWilling n × (n.will < 15) → IsMissed g relays.now n.id)
     (λ n. Decides-if_both _ _ _ (Decides-contains relays.now n.id)
-    (Decides-and _ _ (Decides-not _ (Decides-equal n.will 0)) (Decides-less n.will 15)) (Decides-missed g relays n.id)) g.near in (
+    (Decides-and _ _ (Decides-not _ (Decides-eqb n.will 0)) (Decides-ltb n.will 15)) (Decides-missed g relays n.id)) g.near in (
       λ e. record { missed = λ n near within willing below. d.0 e n near within (willing, below) },
       λ w. d.1 (λ n near within both. w.missed n near within both.0 both.1),
     )
@@ -195,7 +144,7 @@ same_near m n id cost will =
 
 Decides-are_distinct : (m n : Near) → Decides (are_distinct m n) (m.id ≡ n.id → m ≡ n)
 Decides-are_distinct m n =
-    let d = Decides-if _ _ (Decides-same m.id n.id) (Decides-and _ _ (Decides-equal m.cost n.cost) (Decides-equal m.will n.will)) in (
+    let d = Decides-if _ _ (Decides-addr m.id n.id) (Decides-and _ _ (Decides-eqb m.cost n.cost) (Decides-eqb m.will n.will)) in (
       λ e id. let w = d.0 e id in same_near m n id w.0 w.1,
       λ h. d.1 (λ id. (ap (λ (x : Near). x.cost) (h id), ap (λ (x : Near). x.will) (h id))),
     )

@@ -3,10 +3,10 @@ use Rattle.std.proofs.Common.{◌≡◌, ℕ, ◌≤◌, ◌≢◌, ◌⊎◌, B
 use Rattle.std.specs.Prelude.{Contains}
 use Rattle.std.proofs.lemmas.Bool.{false≢true, true≢false, and_cases, and_parts, or_cases, or_parts}
 use Rattle.mesh_atoms.specs.declared.addr.Addr4.{Addr4}
+use Rattle.mesh_atoms.specs.Base.{addr_eq}
 use Rattle.mesh_relay.specs.declared.ways.Way.{Way}
-use Rattle.mesh_relay.specs.Tests.{same}
 use Rattle.mesh_relay.specs.Ways.{RisesFrom, reached_on, reaches_all}
-use Rattle.mesh_relay.proofs.Decide.{Decides-same}
+use Rattle.mesh_atoms.proofs.Deciding.{Decides-addr}
 use Rattle.mesh_relay.proofs.Lists.{cons_cases, cons_more, cons_first, none_within}
 
 -- some way to y passes the test
@@ -56,7 +56,7 @@ reached_true : (test : Way → Bool) (y : Addr4) (reached : Bool) (ws : List Way
 unfolding Reached
 reached_true test y reached [] e = (inl e, λ w within. absurd (none_within w within))
 reached_true test y reached (w ∷ ws) e =
-    reached_true_cons test y reached w ws (same w.addr y) (Decides-same w.addr y) e
+    reached_true_cons test y reached w ws (addr_eq w.addr y) (Decides-addr w.addr y) e
     (reached_true test y (reached || test w) ws) (reached_true test w.addr (test w) ws)
 
 pub all_hit : (test : Way → Bool) (ways : List Way) → reaches_all test ways ≡ true → (w : Way) → Contains ways w → Hit test w.addr ways
@@ -139,7 +139,7 @@ misses_false : (test : Way → Bool) (y : Addr4) (reached : Bool) (ws : List Way
 unfolding Misses
 misses_false test y reached [] up e = inl (e, λ v within. absurd (none_within v within))
 misses_false test y reached (w ∷ ws) up e =
-    misses_cons test y reached w ws (same w.addr y) (Decides-same w.addr y) up e
+    misses_cons test y reached w ws (addr_eq w.addr y) (Decides-addr w.addr y) up e
     (misses_false test y (reached || test w) ws) (misses_false test w.addr (test w) ws)
 
 pub one_missed : (test : Way → Bool) (ways : List Way) → RisesFrom 0 ways → reaches_all test ways ≡ false →

@@ -12,7 +12,7 @@ use Rattle.mesh_atoms.specs.declared.graphs.Near.{Near}
 use Rattle.mesh_atoms.specs.declared.graphs.NeighbourGraph.{NeighbourGraph}
 use Rattle.mesh_atoms.specs.Relays.{IsWilling, HasDistinctIds}
 use Rattle.mesh_relay.specs.Ways.{AreWilling, IsAt}
-use Rattle.mesh_relay.proofs.Decide.{Decides-not, Decides-equal}
+use Rattle.mesh_atoms.proofs.Deciding.{Decides-not, Decides-eqb}
 use Rattle.mesh_relay.proofs.Lists.{none_within, cons_cases, passes, stays, dedup_cases, kept_within, joined}
 
 abbrev pub has_same_id : Near → Near → Bool
@@ -93,10 +93,10 @@ are_willing g found sorted willing distinct is moved up kept =
     let known = λ (n : Near) (w : Contains sorted n).
     let p = passes (λ (x : Near). not (nat_eq x.will 0)) g.near n
     (subst (λ (l : List Near). Contains l n) is (Contains-permutation sorted found n (IsPermutation-sym found sorted moved) w)) in
-    (let r : Contains g.near n × IsWilling n = (p.0, (Decides-not (nat_eq n.will 0) (Decides-equal n.will 0)).0 p.1) in r) in
+    (let r : Contains g.near n × IsWilling n = (p.0, (Decides-not (nat_eq n.will 0) (Decides-eqb n.will 0)).0 p.1) in r) in
     let has = λ (n : Near) (near : Contains g.near n) (willing' : IsWilling n).
     Contains-permutation found sorted n moved (subst (λ (l : List Near). Contains l n) (sym is)
-    (stays (λ (x : Near). not (nat_eq x.will 0)) g.near n near ((Decides-not (nat_eq n.will 0) (Decides-equal n.will 0)).1 willing'))) in
+    (stays (λ (x : Near). not (nat_eq x.will 0)) g.near n near ((Decides-not (nat_eq n.will 0) (Decides-eqb n.will 0)).1 willing'))) in
     record {
       each = λ n. (
         λ w. known n (kept_within has_same_id sorted n (subst (λ (l : List Near). Contains l n) kept w)),

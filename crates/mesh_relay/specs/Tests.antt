@@ -6,34 +6,31 @@ use Rattle.mesh_atoms.specs.declared.addr.Addr4.{Addr4}
 use Rattle.mesh_atoms.specs.declared.graphs.Near.{Near}
 use Rattle.mesh_atoms.specs.declared.graphs.Far.{Far}
 use Rattle.mesh_atoms.specs.declared.graphs.NeighbourGraph.{NeighbourGraph}
+use Rattle.mesh_atoms.specs.Base.{addr_eq}
 use Rattle.mesh_relay.specs.declared.sets.Among.{Among}
 use Rattle.mesh_relay.specs.declared.sets.Among.TheVariants.{Willing, Relays, Others}
 
--- two ids or addresses are equal
-abbrev pub same : Addr4 → Addr4 → Bool
-same a b = nat_eq a.0 b.0
-
 -- the id is in the list
 abbrev pub contains : List Addr4 → Addr4 → Bool
-contains ids id = list_any (λ r. same r id) ids
+contains ids id = list_any (λ r. addr_eq r id) ids
 
 -- the neighbour is in the set
 abbrev pub counts : Among → Near → Bool
 counts Willing n = not (nat_eq n.will 0)
 counts (Relays relays) n = contains relays.now n.id
-counts (Others relays id) n = contains relays.now n.id && not (same n.id id)
+counts (Others relays id) n = contains relays.now n.id && not (addr_eq n.id id)
 
 -- a neighbour of the set leads by that far entry at no more than that cost
 abbrev pub leads : NeighbourGraph → Among → Far → ℕ → Bool
-leads g among f most = list_any (λ n. same n.id f.via && counts among n && nat_le (n.cost + f.cost) most) g.near
+leads g among f most = list_any (λ n. addr_eq n.id f.via && counts among n && nat_le (n.cost + f.cost) most) g.near
 
 -- a direct entry offers the address at no more than that cost
 abbrev pub is_direct_within : NeighbourGraph → Addr4 → ℕ → Bool
-is_direct_within g y most = list_any (λ d. same d.addr y && nat_le d.cost most) g.direct
+is_direct_within g y most = list_any (λ d. addr_eq d.addr y && nat_le d.cost most) g.direct
 
 -- the set leads to the address at no more than that cost
 abbrev pub is_led_to_within : NeighbourGraph → Among → Addr4 → ℕ → Bool
-is_led_to_within g among y most = list_any (λ f. same f.addr y && leads g among f most) g.far
+is_led_to_within g among y most = list_any (λ f. addr_eq f.addr y && leads g among f most) g.far
 
 -- the address is offered at no more than that cost
 abbrev pub offers_within : NeighbourGraph → Among → Addr4 → ℕ → Bool
@@ -41,11 +38,11 @@ offers_within g among y most = is_direct_within g y most || is_led_to_within g a
 
 -- each offer by that far entry and the other set has one by the set that is no dearer
 abbrev pub is_matched : NeighbourGraph → Among → Among → Far → Bool
-is_matched g among other f = list_all (λ n. not (same n.id f.via) || not (counts other n) || offers_within g among f.addr (n.cost + f.cost)) g.near
+is_matched g among other f = list_all (λ n. not (addr_eq n.id f.via) || not (counts other n) || offers_within g among f.addr (n.cost + f.cost)) g.near
 
 -- by way of the set the address is no dearer than by way of the other set
 abbrev pub is_as_cheap : NeighbourGraph → Among → Among → Addr4 → Bool
-is_as_cheap g among other y = list_all (λ f. not (same f.addr y) || is_matched g among other f) g.far
+is_as_cheap g among other y = list_all (λ f. not (addr_eq f.addr y) || is_matched g among other f) g.far
 
 -- by way of the set no address is dearer than by way of all willing neighbours
 abbrev pub keeps_costs : NeighbourGraph → Among → Bool
@@ -57,13 +54,13 @@ has_always g among = list_all (λ n. not (nat_eq n.will 15) || counts among n) g
 
 -- the id is a willing neighbour's
 abbrev pub is_willing_id : NeighbourGraph → Addr4 → Bool
-is_willing_id g id = list_any (λ n. same n.id id && not (nat_eq n.will 0)) g.near
+is_willing_id g id = list_any (λ n. addr_eq n.id id && not (nat_eq n.will 0)) g.near
 
 -- each id is a willing neighbour's
 abbrev pub are_willing : NeighbourGraph → List Addr4 → Bool
 are_willing g relays = list_all (λ id. is_willing_id g id) relays
 
--- by way of both sets the address costs the same
+-- by way of both sets the address costs the addr_eq
 abbrev pub has_same_distance : NeighbourGraph → Among → Among → Addr4 → Bool
 has_same_distance g among other y = is_as_cheap g among other y && is_as_cheap g other among y
 
@@ -85,7 +82,7 @@ covers g relays = has_always g (Relays relays) && are_willing g relays.now && ke
 
 -- two neighbours aren't different ones of one id
 abbrev pub are_distinct : Near → Near → Bool
-are_distinct m n = not (same m.id n.id) || (nat_eq m.cost n.cost && nat_eq m.will n.will)
+are_distinct m n = not (addr_eq m.id n.id) || (nat_eq m.cost n.cost && nat_eq m.will n.will)
 
 -- the neighbour isn't another one of an id in the graph
 abbrev pub is_distinct_from_all : NeighbourGraph → Near → Bool

@@ -6,8 +6,9 @@ use Rattle.mesh_atoms.specs.declared.graphs.Direct.{Direct}
 use Rattle.mesh_atoms.specs.declared.graphs.Far.{Far}
 use Rattle.mesh_atoms.specs.declared.graphs.NeighbourGraph.{NeighbourGraph}
 use Rattle.mesh_atoms.specs.Relays.{Offers, IsWilling}
+use Rattle.mesh_atoms.specs.Base.{addr_eq}
 use Rattle.mesh_relay.specs.declared.ways.Way.{Way}
-use Rattle.mesh_relay.specs.Tests.{same, is_direct_within}
+use Rattle.mesh_relay.specs.Tests.{is_direct_within}
 
 -- the list has all willing neighbours, in ascending order of id
 pub record AreWilling (g : NeighbourGraph) (willing : List Near) : Type 0 where
@@ -57,16 +58,16 @@ way_at g place n f =
 -- the way that the entry gives by the first of the neighbours that has its id; they stand from that place on
 abbrev pub way_from : NeighbourGraph → ℕ → List Near → Far → Option Way
 way_from g place [] f = None
-way_from g place (n ∷ ns) f = cond (same n.id f.via) (way_at g place n f) (way_from g (place + 1) ns f)
+way_from g place (n ∷ ns) f = cond (addr_eq n.id f.via) (way_at g place n f) (way_from g (place + 1) ns f)
 
 -- of ways in order, the next one is dearer than the last one to its address, or by the same neighbour
 abbrev pub adds_nothing : Way → Way → Bool
-adds_nothing next last = same next.addr last.addr && (nat_lt last.cost next.cost || nat_eq next.place last.place)
+adds_nothing next last = addr_eq next.addr last.addr && (nat_lt last.cost next.cost || nat_eq next.place last.place)
 
 -- the address is reached, or one of the ways that go on to it passes the test; and each later address has a way that passes
 abbrev pub reached_on : (Way → Bool) → Addr4 → Bool → List Way → Bool
 reached_on test y reached [] = reached
-reached_on test y reached (w ∷ ws) = cond (same w.addr y) (reached_on test y (reached || test w) ws) (reached && reached_on test w.addr (test w) ws)
+reached_on test y reached (w ∷ ws) = cond (addr_eq w.addr y) (reached_on test y (reached || test w) ws) (reached && reached_on test w.addr (test w) ws)
 
 -- each address has a way that passes the test
 abbrev pub reaches_all : (Way → Bool) → List Way → Bool

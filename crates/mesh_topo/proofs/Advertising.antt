@@ -22,11 +22,13 @@ use Rattle.mesh_atoms.proofs.Kept.{both}
 use Rattle.mesh_atoms.proofs.CodeLaws.{cost-injective}
 use Rattle.mesh_topo.specs.declared.rows.Offer.{Offer}
 use Rattle.mesh_topo.specs.declared.rows.Selector.{Selector}
-use Rattle.mesh_topo.specs.Offers.{net_cmp, put_offer, offered, of_address, of_selector, of_network, row_of}
+use Rattle.mesh_atoms.specs.Nodes.{net_cmp}
+use Rattle.mesh_topo.specs.Offers.{put_offer, offered, of_address, of_selector, of_network, row_of}
 use Rattle.mesh_topo.specs.Selectors.{AreSelectors}
 use Rattle.mesh_topo.proofs.Best.{Best, SumsUp, sums_as, sums_all}
 use Rattle.mesh_topo.proofs.Members.{at_head, in_tail, head_or_tail, none_in, in_map, from_map, in_each, from_each}
-use Rattle.mesh_topo.proofs.NetOrder.{net_total, net_exact, same_at, at_same, ascending_rows}
+use Rattle.mesh_atoms.proofs.NetOrder.{net_total, net_exact, same_at, at_same}
+use Rattle.mesh_topo.proofs.RowOrder.{ascending_rows}
 
 -- ---- selectors
 

@@ -8,9 +8,10 @@ use Rattle.mesh_atoms.specs.declared.metric.Metric.{Metric}
 use Rattle.mesh_atoms.specs.Codes.{metric_value}
 use Rattle.mesh_atoms.proofs.CodeLaws.{cost-le}
 use Rattle.mesh_topo.specs.declared.rows.Offer.{Offer}
-use Rattle.mesh_topo.specs.Offers.{net_cmp, lesser, put_offer, offered}
+use Rattle.mesh_atoms.specs.Nodes.{net_cmp}
+use Rattle.mesh_topo.specs.Offers.{lesser, put_offer, offered}
 use Rattle.mesh_topo.proofs.Members.{at_head, in_tail, head_or_tail, none_in}
-use Rattle.mesh_topo.proofs.NetOrder.{same_at, at_same}
+use Rattle.mesh_atoms.proofs.NetOrder.{same_at, at_same}
 
 -- the offer sums up these offers of an address
 pub record Best (C : Offer → Type 0) (o : Offer) : Type 0 where

@@ -1,9 +1,9 @@
 pub mod Full
 pub mod RowKinds
+pub mod RowOrder
 pub mod Soundness
 pub mod Advertising
 pub mod Best
 pub mod Laws
 pub mod Members
-pub mod NetOrder
 pub mod Offering

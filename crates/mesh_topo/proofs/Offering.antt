@@ -5,7 +5,8 @@ use Rattle.std.specs.Ordering.{is_eq}
 use Rattle.std.specs.BTreeMap.{BTreeMap, get}
 use Rattle.mesh_atoms.specs.declared.addr.NetAddr.{NetAddr}
 use Rattle.mesh_topo.specs.declared.rows.Offer.{Offer}
-use Rattle.mesh_topo.specs.Offers.{net_cmp, offered, Keeps}
+use Rattle.mesh_atoms.specs.Nodes.{net_cmp}
+use Rattle.mesh_topo.specs.Offers.{offered, Keeps}
 
 pub offered_all : (net : NetAddr) (xs ys : List (NetAddr × Offer)) (offer : Option Offer) → offered net (xs ++ ys) offer ≡ offered net ys (offered net xs offer)
 offered_all net [] ys offer = refl

@@ -1,7 +1,6 @@
 -- What is offered of each node by the selectors and attached networks of a router, one after the other.
 use Rattle.std.specs.Prelude.{◌≡◌, List, [], ◌∷◌, map, Option, Some, None, is_some, is_none, Bool, true, false, cond, nat_lt, ◌||◌}
-use Rattle.std.specs.Ordering.{nat_cmp, ordering_then, is_eq}
-use Rattle.std.specs.declared.cmp.Ordering.{Ordering}
+use Rattle.std.specs.Ordering.{is_eq}
 use Rattle.std.specs.BTreeMap.{BTreeMap, get}
 use Rattle.mesh_atoms.specs.declared.addr.Addr4.{Addr4}
 use Rattle.mesh_atoms.specs.declared.addr.NetAddr.{NetAddr}
@@ -9,12 +8,9 @@ use Rattle.mesh_atoms.specs.declared.metric.Metric.{Metric}
 use Rattle.mesh_atoms.specs.declared.settings.Attached4.{Attached4}
 use Rattle.mesh_atoms.specs.declared.tc.TcRow.{TcRow}
 use Rattle.mesh_atoms.specs.Base.{host}
+use Rattle.mesh_atoms.specs.Nodes.{net_cmp}
 use Rattle.mesh_topo.specs.declared.rows.Offer.{Offer}
 use Rattle.mesh_topo.specs.declared.rows.Selector.{Selector}
-
--- the order of nodes, by number, then by prefix
-abbrev pub net_cmp : NetAddr → NetAddr → Ordering
-net_cmp a b = ordering_then (nat_cmp a.addr.0 b.addr.0) (nat_cmp a.prefix b.prefix)
 
 -- of two metrics, the one of the lesser cost
 abbrev pub lesser : Metric → Metric → Metric

@@ -5,7 +5,8 @@ ghost use Rattle.mesh_atoms.specs.Advertised.{AreTcRows};
 ghost use Rattle.mesh_atoms.specs.Base.{host, net_eq};
 ghost use Rattle.mesh_atoms.specs.Settings.{are_distinct};
 ghost use Rattle.mesh_atoms.specs.State.{State};
-ghost use Rattle.mesh_topo.specs.Offers.{net_cmp, lesser, put_offer, of_selector, of_network, of_address, row_of, Keeps};
+ghost use Rattle.mesh_atoms.specs.Nodes.{net_cmp};
+ghost use Rattle.mesh_topo.specs.Offers.{lesser, put_offer, of_selector, of_network, of_address, row_of, Keeps};
 ghost use Rattle.mesh_topo.specs.Selectors.{AreSelectors};
 
 use mesh_atoms::{Addr4, Attached4, Metric, NetAddr, Seq, TcRow};

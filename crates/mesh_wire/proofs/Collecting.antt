@@ -15,10 +15,12 @@ use Rattle.mesh_tlv.specs.Fields.{addr_fields}
 use Rattle.mesh_wire.specs.declared.collect.Told.{Told}
 use Rattle.mesh_wire.specs.declared.parts.RowParts.{RowParts}
 use Rattle.mesh_wire.specs.Collects.{Collects, AreCollected, told_of}
-use Rattle.mesh_wire.specs.Entries.{Entry, net_cmp, entry_on, is_of, standing, of_tlvs, put_said, collected}
+use Rattle.mesh_atoms.specs.Nodes.{net_cmp}
+use Rattle.mesh_wire.specs.Entries.{Entry, entry_on, is_of, standing, of_tlvs, put_said, collected}
 use Rattle.mesh_wire.specs.Parts.{IsIn}
 use Rattle.mesh_wire.specs.Told.{no_parts}
-use Rattle.mesh_wire.proofs.NetOrder.{same_at, at_same, listed_found, found_listed, told_in, told_from, ascending_told}
+use Rattle.mesh_atoms.proofs.NetOrder.{same_at, at_same}
+use Rattle.mesh_wire.proofs.NetMaps.{listed_found, found_listed, told_in, told_from, ascending_told}
 use Rattle.mesh_wire.proofs.Same.{same_addr}
 
 pub all_of : (net : NetAddr) (xs ys : List Entry) (row : Option RowParts) → collected net (xs ++ ys) row ≡ collected net ys (collected net xs row)

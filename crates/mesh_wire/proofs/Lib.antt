@@ -16,7 +16,7 @@ pub mod Hops
 pub mod Kept
 pub mod Laid
 pub mod LinesSay
-pub mod NetOrder
+pub mod NetMaps
 pub mod OneHello
 pub mod OneTc
 pub mod RowLines

@@ -7,7 +7,8 @@ use Rattle.mesh_atoms.specs.Nodes.{IsBefore}
 use Rattle.mesh_wire.specs.declared.collect.Said.{Said}
 use Rattle.mesh_wire.specs.declared.collect.Told.{Told}
 use Rattle.mesh_wire.specs.declared.parts.RowParts.{RowParts}
-use Rattle.mesh_wire.specs.Entries.{Entry, net_cmp, collected}
+use Rattle.mesh_atoms.specs.Nodes.{net_cmp}
+use Rattle.mesh_wire.specs.Entries.{Entry, collected}
 
 -- a type and a value, without where the value lies
 abbrev pub said_of : Option Said → Option (ℕ × List ℕ)

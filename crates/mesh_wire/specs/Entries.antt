@@ -1,7 +1,5 @@
 -- A message as one list: its addresses, and what each TLV says of each address that it covers.
 use Rattle.std.specs.Prelude.{ℕ, ◌+◌, ◌-◌, ◌*◌, ◌/◌, ◌^◌, List, [], ◌∷◌, ◌++◌, map, slice_range, Option, Some, None, Bool, ◌&&◌, ◌==◌, if◌then◌else◌, unwrap_or}
-use Rattle.std.specs.Ordering.{nat_cmp, ordering_then}
-use Rattle.std.specs.declared.cmp.Ordering.{Ordering}
 use Rattle.mesh_atoms.specs.declared.addr.NetAddr.{NetAddr}
 use Rattle.mesh_addr.specs.declared.records.RawAddr.{RawAddr}
 use Rattle.mesh_tlv.specs.Fields.{AddrTlvFields}
@@ -9,10 +7,6 @@ use Rattle.mesh_packet.specs.Fields.{BlockFields}
 use Rattle.mesh_wire.specs.declared.parts.RowParts.{RowParts}
 use Rattle.mesh_wire.specs.Parts.{number_of, octets_of, value_at}
 use Rattle.mesh_wire.specs.Told.{no_parts, take_part}
-
--- the order of networks
-abbrev pub net_cmp : NetAddr → NetAddr → Ordering
-net_cmp a b = ordering_then (nat_cmp a.addr.0 b.addr.0) (nat_cmp a.prefix b.prefix)
 
 -- a network, and a type with a value that is said of it, or that it stands in the message
 pub record Entry : Type 0 where
