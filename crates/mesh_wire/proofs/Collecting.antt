@@ -1,6 +1,6 @@
 -- Putting entries into a map one after the other.
-use Rattle.std.proofs.Common.{◌≡◌, ℕ, zero, suc, slice_range, take, ◌-◌, ◌<◌, ◌≤◌, inl, inr, refl, sym, ◌∙◌, ap, subst, arith, Bool, true, cond, List, length, Option, Some, None, [], ◌∷◌, ◌++◌, map}
-use Rattle.std.specs.Prelude.{drop, unwrap_or}
+use Rattle.std.proofs.Common.{◌≡◌, ℕ, zero, suc, slice_range, take, ◌-◌, ◌<◌, ◌≤◌, inl, inr, refl, sym, ◌∙◌, ap, subst, arith, Bool, true, false, cond, List, length, Option, Some, None, [], ◌∷◌, ◌++◌, map}
+use Rattle.std.specs.Prelude.{drop}
 use Rattle.std.specs.Ordering.{is_eq}
 use Rattle.std.specs.Map.{lookup}
 use Rattle.std.specs.BTreeMap as tree
@@ -18,7 +18,6 @@ use Rattle.mesh_wire.specs.Collects.{Collects, AreCollected, told_of}
 use Rattle.mesh_atoms.specs.Nodes.{net_cmp}
 use Rattle.mesh_wire.specs.Entries.{Entry, entry_on, is_of, standing, of_tlvs, put_said, collected}
 use Rattle.mesh_wire.specs.Parts.{IsIn}
-use Rattle.mesh_wire.specs.Told.{no_parts}
 use Rattle.mesh_atoms.proofs.NetOrder.{same_at, at_same}
 use Rattle.mesh_wire.proofs.NetMaps.{listed_found, found_listed, told_in, told_from, ascending_told}
 use Rattle.mesh_wire.proofs.Same.{same_addr}
@@ -39,11 +38,6 @@ one_of a said net i = rw (eq-eqb _ _ i.number, eq-eqb _ _ i.prefix) refl
 
 pub one_net : (a : RawAddr) (x y : NetAddr) → IsIn a x → IsIn a y → x ≡ y
 one_net a x y i j = same_net x y (same_addr x.addr y.addr (i.number ∙ sym j.number)) (i.prefix ∙ sym j.prefix)
-
--- a row that is made where there is none yet
-filled : (said : Option (ℕ × List ℕ)) (row : Option RowParts) → put_said said (Some (unwrap_or row no_parts)) ≡ put_said said row
-filled None row = refl
-filled (Some s) row = refl
 
 -- an address that is in no network
 pub put_none : (old : BTreeMap NetAddr RowParts) (a : RawAddr) (said : Option (ℕ × List ℕ)) → 32 < a.prefix → Collects old (entry_on a said ∷ []) old
@@ -69,8 +63,15 @@ put_one old new a said k parts i is h net = elim (cases_Bool (is_eq (net_cmp k n
       ]
 ]
 
-pub parts_are : (said : Option (ℕ × List ℕ)) (row : Option RowParts) (before after : RowParts) → before ≡ unwrap_or row no_parts → after ≡ put_said said (Some before) → after ≡ put_said said row
-parts_are said row before after b a = a ∙ ap (λ (x : RowParts). put_said said (Some x)) b ∙ filled said row
+-- an address that was there, and is put back
+pub put_back : (old mid new : BTreeMap NetAddr RowParts) (a : RawAddr) (k : NetAddr) (parts made : RowParts) → IsIn a k → Some parts ≡ tree.get net_cmp old k →
+    ((q : NetAddr) → tree.get net_cmp mid q ≡ cond (is_eq (net_cmp k q)) (Some made) (tree.get net_cmp old q)) →
+    ((q : NetAddr) → tree.get net_cmp new q ≡ cond (is_eq (net_cmp k q)) (Some parts) (tree.get net_cmp mid q)) → Collects old (entry_on a None ∷ []) new
+put_back old mid new a k parts made i was h g = put_one old new a None k parts i (ap (put_said None) was) (λ q. g q ∙ twice (is_eq (net_cmp k q)) (tree.get net_cmp mid q) (tree.get net_cmp old q) (h q))
+  where
+    twice : (b : Bool) (between before : Option RowParts) → between ≡ cond b (Some made) before → cond b (Some parts) between ≡ cond b (Some parts) before
+    twice true between before e = refl
+    twice false between before e = e
 
 -- ---- a loop: what is still to be put
 

@@ -1,30 +1,24 @@
 -- Maps of networks in their order.
-use Rattle.std.proofs.Common.{◌≡◌, ℕ, zero, suc, ◌⊎◌, inl, inr, refl, sym, ap, subst, arith, true, List, Contains, Some, [], ◌∷◌, map, slice_index_or}
+use Rattle.std.proofs.Common.{◌≡◌, ℕ, zero, suc, inl, inr, refl, sym, ap, subst, arith, List, Contains, Some, [], ◌∷◌, map, slice_index_or}
 use Rattle.std.specs.Prelude.{AllPairs}
-use Rattle.std.specs.Ordering.{nat_cmp, ordering_then, is_eq, eq_by_cmp}
-use Rattle.std.specs.declared.cmp.Ordering.{Ordering}
-use Rattle.std.specs.declared.cmp.Ordering.TheVariants.{Less, Equal, Greater}
-use Rattle.std.specs.Cmp.{IsTotalOrder, eq_by_cmp_equiv}
+use Rattle.std.specs.Ordering.{eq_by_cmp}
+use Rattle.std.specs.declared.cmp.Ordering.TheVariants.{Less}
+use Rattle.std.specs.Cmp.{eq_by_cmp_equiv}
 use Rattle.std.specs.List.Sorted.{IsStrictlySortedBy}
 use Rattle.std.specs.Map.{keys_of}
 use Rattle.std.specs.BTreeMap as tree
 use Rattle.std.specs.BTreeMap.{BTreeMap}
 use Rattle.std.proofs.lemmas.List.{length-map}
-use Rattle.std.proofs.lemmas.Cmp.{then_total, on_total, nat_cmp_total, tied_itself, ranked}
 use Rattle.std.proofs.lemmas.Map.Keys.{Less-from_sorted, IsDistinct-from_sorted}
-use Rattle.std.proofs.lemmas.Map.Lookups.{CmpEqualImpliesEq, exact_unsigned}
 use Rattle.std.proofs.lemmas.Map.Views.{Contains-from_lookup, lookup-from_Contains}
 use Rattle.mesh_atoms.specs.declared.addr.NetAddr.{NetAddr}
 use Rattle.mesh_atoms.specs.Nodes.{IsBefore}
-use Rattle.mesh_atoms.proofs.Nets.{same_net}
 use Rattle.mesh_atoms.specs.Nodes.{net_cmp}
 use Rattle.mesh_wire.specs.declared.collect.Told.{Told}
 use Rattle.mesh_wire.specs.declared.parts.RowParts.{RowParts}
-
 use Rattle.mesh_wire.specs.Collects.{told_of}
 use Rattle.mesh_atoms.proofs.NetOrder.{net_total, net_less, same_at}
 use Rattle.mesh_wire.proofs.Ascending.{head_or_tail, in_tail}
-use Rattle.mesh_wire.proofs.Same.{same_addr}
 
 module _ (m : BTreeMap NetAddr RowParts) (ordered : tree.IsOrdered net_cmp m) where
   pub listed_found : (net : NetAddr) (parts : RowParts) → Contains m.entries (net, parts) → tree.get net_cmp m net ≡ Some parts

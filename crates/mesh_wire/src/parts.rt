@@ -1,5 +1,5 @@
 //! What is kept of all that the TLVs of a message say of one address.
-ghost use Rattle.std.specs.Prelude.{◌≡◌, ◌<◌, ◌&&◌, ◌||◌};
+ghost use Rattle.std.specs.Prelude.{◌≡◌, true, ◌<◌, ◌||◌};
 ghost use Rattle.mesh_wire.specs.Told.{also, is_octet_in, octets_also, octet_also, code_also, has_other_length, says_flag, take_part, no_parts};
 
 /// Of several numbers: none, one, though it may have come more than once, or different ones.
@@ -49,30 +49,24 @@ impl One {
         }
     }
 
-    // One octet more, where it is of that type. It is kept as 256 times the octet, so that its type keeps that to 8 bits.
-    fn also_octet(self, on: bool, octets: &[u8]) -> One
-        ensures { result ≡ octet_also on octets.now self }
+    // One octet more. It is kept as 256 times the octet, so that its type keeps that to 8 bits.
+    fn also_octet(self, octets: &[u8]) -> One
+        ensures { result ≡ octet_also true octets.now self }
     {
         match octets {
-            [octet] => {
-                if on {
-                    self.also(256 * u16::from(*octet))
-                } else {
-                    self
-                }
-            }
+            [octet] => self.also(256 * u16::from(*octet)),
             _ => self,
         }
     }
 
-    // One metric more, where it is of that kind. It is kept as 16 times its code, so that its type keeps the code to 12 bits.
-    fn also_code(self, on: bool, flag: u8, octets: &[u8]) -> One
+    // One metric more, where its flags name that kind. It is kept as 16 times its code, so that its type keeps the code to 12 bits.
+    fn also_code(self, flag: u8, octets: &[u8]) -> One
         requires { flag < 256 }
-        ensures { result ≡ code_also on flag octets.now self }
+        ensures { result ≡ code_also true flag octets.now self }
     {
         match octets {
             [high, low] => {
-                if on && *high & flag != 0 {
+                if *high & flag != 0 {
                     self.also(16 * (256 * u16::from(*high % 16) + u16::from(*low)))
                 } else {
                     self
@@ -101,19 +95,11 @@ fn says_flag(octets: &[u8], flag: u16) -> bool
     is_octet_in(octets, flag, flag + 1) || is_octet_in(octets, 3, 4)
 }
 
-// Whether a value of that type sets the flag.
-fn sets_flag(on: bool, octets: &[u8], flag: u16) -> bool
-    requires { flag < 256 }
-    ensures { result ≡ (on && says_flag flag octets.now) }
+// Whether a value is not of so many octets.
+fn has_other_length(octets: &[u8], len: usize) -> bool
+    ensures { result ≡ has_other_length len octets.now }
 {
-    on && says_flag(octets, flag)
-}
-
-// Whether a value of that type is not of so many octets.
-fn has_other_length(on: bool, octets: &[u8], len: usize) -> bool
-    ensures { result ≡ (on && has_other_length len octets.now) }
-{
-    on && octets.len() != len
+    octets.len() != len
 }
 
 // Whether one of them is so.
@@ -124,13 +110,10 @@ fn or(a: bool, b: bool) -> bool
 }
 
 impl Octets {
-    // One value more, where it is of that type.
-    fn also(self, on: bool, low: u16, bound: u16, octets: &[u8]) -> Octets
-        ensures { result ≡ octets_also on low bound octets.now self }
+    // One value more.
+    fn also(self, low: u16, bound: u16, octets: &[u8]) -> Octets
+        ensures { result ≡ octets_also true low bound octets.now self }
     {
-        if !on {
-            return self;
-        }
         match octets {
             [octet] => {
                 if low <= u16::from(*octet) && u16::from(*octet) < bound {
@@ -181,29 +164,46 @@ impl RowParts {
         }
     }
 
-    // One value more, of a type without extension.
-    pub(crate) fn take(self, kind: u8, octets: &[u8]) -> RowParts
-        ensures { result ≡ take_part kind octets.now self }
+    // One value more of the type of metrics.
+    fn take_metric(&mut self, octets: &[u8])
+        ensures { self.new ≡ take_part 7 octets.now self.old }
     {
-        let is_metric = kind == 7;
-        let is_mpr = kind == 8;
-        let is_type = kind == 9;
-        RowParts {
-            local: self.local.also(kind == 2, 0, 2, octets),
-            link: self.link.also(kind == 3, 0, 3, octets),
-            other: self.other.also(kind == 4, 0, 2, octets),
-            addr_type: self.addr_type.also(is_type, 1, 4, octets),
-            wrong_gateway: or(self.wrong_gateway, has_other_length(kind == 10, octets, 1)),
-            gateway: self.gateway.also_octet(kind == 10, octets),
-            wrong_metric: or(self.wrong_metric, has_other_length(is_metric, octets, 2)),
-            link_in: self.link_in.also_code(is_metric, 128, octets),
-            link_out: self.link_out.also_code(is_metric, 64, octets),
-            near_in: self.near_in.also_code(is_metric, 32, octets),
-            near_out: self.near_out.also_code(is_metric, 16, octets),
-            flooding: or(self.flooding, sets_flag(is_mpr, octets, 1)),
-            routing: or(self.routing, sets_flag(is_mpr, octets, 2)),
-            origin: or(self.origin, sets_flag(is_type, octets, 1)),
-            routable: or(self.routable, sets_flag(is_type, octets, 2)),
+        self.wrong_metric = or(self.wrong_metric, has_other_length(octets, 2));
+        self.link_in = self.link_in.also_code(128, octets);
+        self.link_out = self.link_out.also_code(64, octets);
+        self.near_in = self.near_in.also_code(32, octets);
+        self.near_out = self.near_out.also_code(16, octets);
+    }
+
+    // One value more of the type of addresses of routers.
+    fn take_type(&mut self, octets: &[u8])
+        ensures { self.new ≡ take_part 9 octets.now self.old }
+    {
+        self.addr_type = self.addr_type.also(1, 4, octets);
+        self.origin = or(self.origin, says_flag(octets, 1));
+        self.routable = or(self.routable, says_flag(octets, 2));
+    }
+
+    // One value more, of a type without extension.
+    pub(crate) fn take(&mut self, kind: u8, octets: &[u8])
+        ensures { self.new ≡ take_part kind octets.now self.old }
+    {
+        if kind == 2 {
+            self.local = self.local.also(0, 2, octets);
+        } else if kind == 3 {
+            self.link = self.link.also(0, 3, octets);
+        } else if kind == 4 {
+            self.other = self.other.also(0, 2, octets);
+        } else if kind == 7 {
+            self.take_metric(octets);
+        } else if kind == 8 {
+            self.flooding = or(self.flooding, says_flag(octets, 1));
+            self.routing = or(self.routing, says_flag(octets, 2));
+        } else if kind == 9 {
+            self.take_type(octets);
+        } else if kind == 10 {
+            self.wrong_gateway = or(self.wrong_gateway, has_other_length(octets, 1));
+            self.gateway = self.gateway.also_octet(octets);
         }
     }
 }
