@@ -1,8 +1,9 @@
 pub mod Found
 pub mod Order
+pub mod RadioLaw
 pub mod RoundsLaw
 pub mod Rows
-mod Scenarios
+pub mod Scenarios
 pub mod SearchLaw
 pub mod Sets
 mod SettledArcs

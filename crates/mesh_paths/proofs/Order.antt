@@ -1,28 +1,18 @@
 -- The order of nodes, and ascending rows.
-use mathlib.Core.HLevel.{is_prop→PathP}
-use Rattle.std.specs.Coded.{le_prop}
-use Rattle.std.proofs.Common.{◌≡◌, ℕ, zero, suc, ◌+◌, ◌-◌, ◌^◌, ◌%◌, ◌≤◌, ◌<◌, ◌⊎◌, inl, inr, sym, ◌∙◌, ap, arith, List, length, Contains, slice_index_or, Some}
-use Rattle.std.proofs.Math.Nat.{ℕ_set}
+use Rattle.std.proofs.Common.{◌≡◌, ℕ, zero, suc, ◌+◌, ◌-◌, ◌<◌, ◌⊎◌, inl, inr, sym, ◌∙◌, ap, arith, List, length, Contains, slice_index_or, Some}
 use Rattle.std.proofs.lemmas.Bool.{cases_eq, cases_lt}
 use Rattle.std.proofs.lemmas.Option.{slice_get-get_or, get_or_from_slice_get}
+use Rattle.mesh_atoms.specs.declared.addr.Addr4.{Addr4}
 use Rattle.mesh_atoms.specs.declared.addr.NetAddr.{NetAddr}
 use Rattle.mesh_atoms.specs.Nodes.{IsBefore, IsAtMost}
 use Rattle.mesh_atoms.specs.declared.graphs.PathRow.{PathRow}
+use Rattle.mesh_atoms.proofs.Nets.{same_net}
 use Rattle.mesh_paths.specs.Paths.{IsAscending}
-
--- a node is known by its parts
-pub node_of : (a b : NetAddr) → a.addr.0 ≡ b.addr.0 → a.prefix ≡ b.prefix → a ≡ b
-node_of a b number prefix = λ i. record {
-  addr = record { 0 = number i };
-  prefix = prefix i;
-  within = is_prop→PathP (λ j. prefix j ≤ 32) (λ j. le_prop) a.within b.within i;
-  clear = is_prop→PathP (λ j. number j % 2 ^ (32 - prefix j) ≡ 0) (λ j. ℕ_set (number j % 2 ^ (32 - prefix j)) 0) a.clear b.clear i;
-}
 
 pub same_node : (a b : NetAddr) → (a ≡ b) ⊎ (a ≡ b → ⊥)
 same_node a b = elim (cases_eq a.addr.0 b.addr.0) [
   | inl e ↦ elim (cases_eq a.prefix b.prefix) [
-    | inl f ↦ inl (node_of a b e f)
+    | inl f ↦ inl (same_net a b (ap (λ (n : ℕ). let r : Addr4 = record { 0 = n } in r) e) f)
     | inr other ↦ inr (λ g. other (ap (λ (c : NetAddr). c.prefix) g))
   ]
   | inr other ↦ inr (λ g. other (ap (λ (c : NetAddr). c.addr.0) g))
@@ -62,7 +52,7 @@ at_most_both a b f g = elim f [
   ]
   | inr (d, x) ↦ elim g [
     | inl y ↦ absurd (omega arith)
-    | inr (e, y) ↦ node_of a b d (omega arith)
+    | inr (e, y) ↦ same_net a b (ap (λ (n : ℕ). let r : Addr4 = record { 0 = n } in r) d) (omega arith)
   ]
 ]
 

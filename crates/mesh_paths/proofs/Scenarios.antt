@@ -24,11 +24,11 @@ use Rattle.mesh_paths.proofs.ShortLists.{none_of, none_some}
 
 -- Tests
 
-both_true : (a b : Bool) → (a && b) ≡ true → (a ≡ true) × (b ≡ true)
+pub both_true : (a b : Bool) → (a && b) ≡ true → (a ≡ true) × (b ≡ true)
 both_true true b h = (refl, h)
 both_true false b h = absurd (cc)
 
-not_both : {A : Type 0} (b : Bool) → b ≡ true → not b ≡ true → A
+pub not_both : {A : Type 0} (b : Bool) → b ≡ true → not b ≡ true → A
 not_both true h g = absurd (let f : false ≡ true = g in cc)
 not_both false h g = absurd (cc)
 
@@ -38,7 +38,7 @@ first_false false b h = refl
 
 -- Elements
 
-contains_cases : {A : Type 0} (x : A) (xs : List A) (a : A) → Contains (x ∷ xs) a → (x ≡ a) ⊎ Contains xs a
+pub contains_cases : {A : Type 0} (x : A) (xs : List A) (a : A) → Contains (x ∷ xs) a → (x ≡ a) ⊎ Contains xs a
 contains_cases {A} x xs a c = at c.0 c.1 c.2
   where
     at : (k : ℕ) → k < length (x ∷ xs) → slice_index_or (x ∷ xs) k a ≡ a → (x ≡ a) ⊎ Contains xs a
@@ -60,14 +60,14 @@ or_right : (a b : Bool) → b ≡ true → (a || b) ≡ true
 or_right true b h = refl
 or_right false b h = h
 
-any_of : {A : Type 0} (p : A → Bool) (xs : List A) (a : A) → p a ≡ true → Contains xs a → list_any p xs ≡ true
+pub any_of : {A : Type 0} (p : A → Bool) (xs : List A) (a : A) → p a ≡ true → Contains xs a → list_any p xs ≡ true
 any_of p [] a h c = absurd (none_of a c)
 any_of p (x ∷ xs) a h c = elim (contains_cases x xs a c) [
   | inl e ↦ or_left (p x) (list_any p xs) (subst (λ b. p b ≡ true) (sym e) h)
   | inr more ↦ or_right (p x) (list_any p xs) (any_of p xs a h more)
 ]
 
-contains_map : {A B : Type 0} (f : A → B) (xs : List A) (a : A) → Contains xs a → Contains (map f xs) (f a)
+pub contains_map : {A B : Type 0} (f : A → B) (xs : List A) (a : A) → Contains xs a → Contains (map f xs) (f a)
 contains_map f [] a c = absurd (none_of a c)
 contains_map {A} {B} f (x ∷ xs) a c = elim (contains_cases x xs a c) [
   | inl e ↦ (0, omega arith, ap f e)
@@ -139,10 +139,10 @@ counted count (x ∷ xs) (suc k) n h = counted count xs k n h
 
 -- The scenario
 
-abbrev ends_of : RadioArc → Ends
+abbrev pub ends_of : RadioArc → Ends
 ends_of a = record { from = a.from; from_iface = a.from_iface; to = a.to; to_iface = a.to_iface }
 
-same_ends : (a b : RadioArc) → a.from ≡ b.from → a.from_iface ≡ b.from_iface → a.to ≡ b.to → a.to_iface ≡ b.to_iface → ends_eq (ends_of a) (ends_of b) ≡ true
+pub same_ends : (a b : RadioArc) → a.from ≡ b.from → a.from_iface ≡ b.from_iface → a.to ≡ b.to → a.to_iface ≡ b.to_iface → ends_eq (ends_of a) (ends_of b) ≡ true
 same_ends a b e f g h = rw (eq-eqb a.from b.from e, eq-eqb a.from_iface b.from_iface f, eq-eqb a.to b.to g, eq-eqb a.to_iface b.to_iface h) refl
 
 one_arc : (xs : List RadioArc) (a b : RadioArc) → are_distinct ends_eq (map ends_of xs) ≡ true → Contains xs a → Contains xs b →

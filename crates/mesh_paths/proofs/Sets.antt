@@ -22,7 +22,7 @@ use Rattle.mesh_atoms.specs.declared.graphs.PathRow.{PathRow}
 use Rattle.mesh_atoms.proofs.NetOrder.{net_total, net_exact, net_less, then_equal, then_less, is_equal}
 use Rattle.mesh_paths.specs.declared.frontier.Step.{Step}
 use Rattle.mesh_paths.specs.Search.{arc_cmp, step_cmp, Takes, IsSpent, Puts, Settled, IsKeyed, Settles, IsNoLater, row_of}
-use Rattle.mesh_paths.proofs.Order.{node_of, at_most_itself, at_most_both, not_before_itself}
+use Rattle.mesh_paths.proofs.Order.{at_most_itself, at_most_both, not_before_itself}
 use Rattle.mesh_paths.proofs.Rows.{item_in}
 
 -- Orders

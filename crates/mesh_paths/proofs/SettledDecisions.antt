@@ -1,8 +1,5 @@
 -- What can be looked up is there or isn't.
-use mathlib.Core.HLevel.{is_prop→PathP}
-use Rattle.std.specs.Coded.{le_prop}
-use Rattle.std.proofs.Math.Nat.{ℕ_set}
-use Rattle.std.proofs.Common.{◌≡◌, ℕ, zero, suc, ◌<◌, ◌≤◌, ◌%◌, ◌^◌, ◌-◌, ◌⊎◌, inl, inr, refl, sym, ap, subst, arith, List, [], ◌∷◌, length, Contains, slice_get, slice_index_or, Some, None}
+use Rattle.std.proofs.Common.{◌≡◌, ℕ, zero, suc, ◌<◌, ◌⊎◌, inl, inr, refl, sym, ap, subst, arith, List, [], ◌∷◌, length, Contains, slice_get, slice_index_or, Some, None}
 use Rattle.std.proofs.lemmas.Bool.{cases_eq}
 use Rattle.std.proofs.lemmas.Option.{slice_get_cases, slice_get_within, get_or_from_slice_get}
 use Rattle.mesh_atoms.specs.declared.addr.Addr4.{Addr4}
@@ -17,6 +14,7 @@ use Rattle.mesh_atoms.specs.Radio.{Attaches}
 use Rattle.mesh_atoms.specs.State.{State, LinkState, Is_pending, Is_lost, Is_symmetric, Is_heard, state_of}
 use Rattle.mesh_atoms.specs.declared.settings.Scenario.{Scenario}
 use Rattle.mesh_atoms.specs.declared.settings.RouterSettings.{RouterSettings}
+use Rattle.mesh_paths.proofs.Order.{same_node}
 
 pub Contains_at : {A : Type 0} (xs : List A) (k : ℕ) (a : A) → slice_get xs k ≡ Some a → Contains xs a
 Contains_at xs k a e = (k, slice_get_within xs k a e, get_or_from_slice_get xs k a a e)
@@ -41,28 +39,10 @@ any_or_none {A} P test (x ∷ xs) = elim (test x) [
     rest {P = P} x xs not_x none t zero l e p = not_x (subst P (sym e) p)
     rest x xs not_x none t (suc k) l e p = none t (k, omega arith, e) p
 
--- a node is known by its number and its prefix
-pub node_of : (a b : NetAddr) → a.addr.0 ≡ b.addr.0 → a.prefix ≡ b.prefix → a ≡ b
-node_of a b number prefix = λ i. record {
-  addr = record { 0 = number i };
-  prefix = prefix i;
-  within = is_prop→PathP (λ j. prefix j ≤ 32) (λ j. le_prop) a.within b.within i;
-  clear = is_prop→PathP (λ j. number j % 2 ^ (32 - prefix j) ≡ 0) (λ j. ℕ_set (number j % 2 ^ (32 - prefix j)) 0) a.clear b.clear i;
-}
-
 pub same_address : (a b : Addr4) → (a ≡ b) ⊎ (a ≡ b → ⊥)
 same_address a b = elim (cases_eq a.0 b.0) [
   | inl e ↦ inl (ap (λ (n : ℕ). let r : Addr4 = record { 0 = n } in r) e)
   | inr other ↦ inr (λ e. other (ap (λ (c : Addr4). c.0) e))
-]
-
-pub same_net : (a b : NetAddr) → (a ≡ b) ⊎ (a ≡ b → ⊥)
-same_net a b = elim (cases_eq a.addr.0 b.addr.0) [
-  | inl e ↦ elim (cases_eq a.prefix b.prefix) [
-    | inl f ↦ inl (node_of a b e f)
-    | inr other ↦ inr (λ g. other (ap (λ (c : NetAddr). c.prefix) g))
-  ]
-  | inr other ↦ inr (λ g. other (ap (λ (c : NetAddr). c.addr.0) g))
 ]
 
 is_symmetric : (x : LinkState) → (x ≡ Is_symmetric) ⊎ (x ≡ Is_symmetric → ⊥)
@@ -115,7 +95,7 @@ attaches s x net = elim ((slice_get_cases s.routers x).1) [
   | inl there ↦
       let (r, _, is, _) = there in
       let P : Attached4 → Type 0 = λ att. att.net ≡ net in
-      elim (any_or_none P (λ att. same_net att.net net) r.attached) [
+      elim (any_or_none P (λ att. same_node att.net net) r.attached) [
         | inl found ↦ inl (metric_value found.0.metric, (r, is, found.0, found.1, found.2, refl))
         | inr none ↦ inr (λ k att. none_of r is none k att)
       ]

@@ -20,6 +20,7 @@ use Rattle.mesh_atoms.specs.Settled.{At, IsNeighbourOf}
 use Rattle.mesh_atoms.specs.Sound.{Sound}
 use Rattle.mesh_atoms.specs.State.{State, HasSymmetric, HasAddress, IsOriginator, HasSymmetricWith}
 use Rattle.mesh_paths.specs.SettledRoutes.{IsSettledNetwork}
+use Rattle.mesh_paths.proofs.RadioLaw.{adjacent_back}
 use Rattle.mesh_paths.proofs.SettledDecisions.{shows_link, Contains_at}
 
 pub metric_above_zero : (m : Metric) → 1 ≤ metric_value m
@@ -81,9 +82,7 @@ module _ (s : Scenario) (states : List State) (now : ℕ) (S : IsSettledNetwork 
       subst P (same_settings r at to) has
 
   pub back : {y z : ℕ} → Adjacent s y z → Adjacent s z y
-  back adj =
-      let (i, j, there, home, joins) = adj in
-      (j, i, home, there, record { out = joins.home; home = joins.out })
+  back {y} {z} adj = adjacent_back s y z adj
 
   pub state_there : {y z : ℕ} → Adjacent s y z → (q : State) × At states z q
   state_there {y} {z} adj =

@@ -1,3 +1,4 @@
+pub mod Parts
 pub mod Paths
 pub mod Rounds
 pub mod Search

@@ -1,9 +1,12 @@
-//! The least walks of a router's graph (RFC 7181, section 19), the certificate that shows them, and the law of the routes
-//! of a settled network.
+//! The least walks of a router's graph (RFC 7181, section 19), the certificate that shows them, the radio graph of a
+//! scenario, and the law of the routes of a settled network.
 #![tactic(auto)]
 
 mod certificate;
 mod frontier;
+mod radio;
+#[cfg(test)]
+mod radio_tests;
 mod rounds;
 mod settled;
 #[cfg(test)]
@@ -11,7 +14,8 @@ mod tests;
 
 pub use certificate::{check, one_certificate};
 pub use frontier::search;
-pub use mesh_atoms::{Arc4, Certificate, Graph, PathRow};
+pub use mesh_atoms::{Arc4, Certificate, Graph, Pair, PathRow, RadioGraph};
+pub use radio::radio_graph;
 pub use rounds::search_by_rounds;
 pub use settled::{
     scenarios_are_sound, settled_routes, two_routers_settle, worked_hellos_are_taken,
