@@ -1,0 +1,55 @@
+-- Two routers are joined exactly where the radio graph has them in one part.
+use Rattle.std.proofs.Common.{◌≡◌, ◌≢◌, ℕ, ◌≤◌, ◌<◌, refl, sym, subst, arith, Some, length, Decides}
+use Rattle.std.specs.Prelude.{slice_get, slice_index}
+use Rattle.std.proofs.lemmas.Option.{slice_get_within, slice_get-get_or}
+use Rattle.mesh_atoms.specs.declared.settings.RouterSettings.{RouterSettings}
+use Rattle.mesh_atoms.specs.declared.settings.Scenario.{Scenario}
+use Rattle.mesh_atoms.specs.declared.graphs.RadioGraph.{RadioGraph}
+use Rattle.mesh_atoms.specs.Radio.{Joined, Itself, By, Router, IsRadioGraph}
+use Rattle.mesh_atoms.proofs.Deciding.{Decides-eqb, Decides-ltb, Decides-and, Decides-not}
+use Rattle.mesh_paths.proofs.RadioLaw.{joined_back, joined_trans}
+use Rattle.mesh_paths.proofs.Scenarios.{sound_scenario}
+use Rattle.mesh_model.specs.TopologyTests.{is_joined}
+
+module _ (s : Scenario) where
+  -- what is joined with another is a router
+  last_router : {x w : ℕ} → Joined s x w → w ≢ x → (r : RouterSettings) × Router s w r
+  last_router Itself other = absurd (other refl)
+  last_router (By {v} {w} j near) other = let (i, j, there, back, joins) = near in ((sound_scenario s).ends v i w j there joins.out).2
+
+  module _ (g : RadioGraph) (graph : IsRadioGraph s g) where
+    -- the part of a router
+    part_at : (x : ℕ) → x < length g.parts → slice_get g.parts x ≡ Some (slice_index g.parts x)
+    part_at x lt = slice_get-get_or g.parts x 0 lt
+
+    within_parts : {x w : ℕ} → Joined s x w → w ≢ x → w < length g.parts
+    within_parts {w = w} j other =
+        let (r, at) = last_router j other in
+        let lt : w < length s.routers = slice_get_within s.routers w r at in
+        let same : length g.parts ≡ length s.routers = graph.routers in
+        omega arith
+
+    same_part : {x w : ℕ} → Joined s x w → x < length g.parts → w < length g.parts → slice_index g.parts x ≤ slice_index g.parts w
+    same_part {x} {w} j in_x in_w =
+        let (near, _) = graph.parts w (slice_index g.parts w) (part_at w in_w) in
+        (graph.parts x (slice_index g.parts x) (part_at x in_x)).1 (slice_index g.parts w) (joined_trans s _ _ _ j near)
+
+    pub Decides-joined : (x w : ℕ) → Decides (is_joined g.parts x w) ((w ≢ x) × Joined s x w)
+    Decides-joined x w =
+        let d = Decides-and _ _ (Decides-and _ _ (Decides-and _ _ (Decides-not _ (Decides-eqb w x)) (Decides-ltb x (length g.parts))) (Decides-ltb w (length g.parts)))
+        (Decides-eqb (slice_index g.parts x) (slice_index g.parts w)) in (
+          λ e.
+              let (((other, in_x), in_w), same) = d.0 e in
+              let from_x = (graph.parts x (slice_index g.parts x) (part_at x in_x)).0 in
+              let from_w = (graph.parts w (slice_index g.parts w) (part_at w in_w)).0 in
+              (other, joined_trans s _ _ _ from_x (joined_back s _ _ (subst (Joined s w) (sym same) from_w))),
+          λ both.
+              let (other, j) = both in
+              let back : x ≢ w = λ e. other (sym e) in
+              let in_w : w < length g.parts = within_parts j other in
+              let in_x : x < length g.parts = within_parts (joined_back s _ _ j) back in
+              let least : slice_index g.parts x ≤ slice_index g.parts w = same_part j in_x in_w in
+              let most : slice_index g.parts w ≤ slice_index g.parts x = same_part (joined_back s _ _ j) in_w in_x in
+              let same : slice_index g.parts x ≡ slice_index g.parts w = omega arith in
+              d.1 (((other, in_x), in_w), same),
+        )
