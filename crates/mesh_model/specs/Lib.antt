@@ -16,3 +16,4 @@ pub mod Tables
 pub mod TopologyTests
 pub mod TwoHopTests
 pub mod Values
+pub mod Scenarios
