@@ -27,6 +27,8 @@ mod tell;
 mod tests;
 mod told;
 mod two_hop_rows;
+#[cfg(test)]
+mod worked;
 
 pub use nhdp::Nhdp;
 pub use receive::receive_fault;

@@ -1,4 +1,4 @@
-use Rattle.mesh_nhdp.proofs.tests.start.Goals as goal
+use Rattle.mesh_nhdp.proofs.worked.start.Goals as goal
 
 -- an empty neighbourhood is sound at every moment
 pub returns-clause-sound : goal.returns-clause-sound
