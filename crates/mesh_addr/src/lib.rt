@@ -6,8 +6,6 @@ mod fields;
 mod flags;
 mod reader;
 mod records;
-#[cfg(test)]
-mod tests;
 mod writer;
 
 pub use mesh_atoms::DecodeFault as ReadBlock;

@@ -3,6 +3,7 @@
 #![tactic(auto)]
 
 mod addr;
+mod addresses;
 mod agreement;
 mod bytes;
 mod codes;
@@ -19,6 +20,7 @@ mod text;
 mod tuples;
 
 pub use addr::{Addr4, Endpoint, NetAddr};
+pub use addresses::{contains, meets};
 pub use agreement::definitions_agree;
 pub use bytes::Bytes;
 pub use codes::{seq_newer, time_at, time_code_at_least, time_of};
@@ -31,7 +33,8 @@ pub use octets::{read_octet, read_short, refuse};
 pub use refusal::{DecodeFault, Refusal};
 pub use seq::Seq;
 pub use settings::{
-    Attached4, Interface, Port, RadioArc, RouterSettings, RunSetup, Scenario, SenderMetric, Times,
+    Attached4, DEFAULT_TIMES, Interface, Port, RadioArc, RouterSettings, RunSetup, Scenario,
+    SenderMetric, Times,
 };
 pub use tc::{Tc, TcRow};
 pub use text::put_decimal;

@@ -32,6 +32,22 @@ pub struct Times {
     pub ghost sound: { IsTimes hello hold link_hold neighbour_hold tc topology_hold advertised_hold received_hold processed_hold forwarded_hold tc_hop_limit },
 }
 
+/// The times that stand where a setting says no other: a HELLO every 2 s with a validity of 6 s, a TC every 5 s with one of
+/// 15 s, and messages seen before held for 30 s (RFC 6130, section 5, and RFC 7181, section 5.4).
+pub const DEFAULT_TIMES: Times = Times {
+    hello: 16384,
+    hold: 49152,
+    link_hold: 49152,
+    neighbour_hold: 49152,
+    tc: 40960,
+    topology_hold: 122880,
+    advertised_hold: 122880,
+    received_hold: 245760,
+    processed_hold: 245760,
+    forwarded_hold: 245760,
+    tc_hop_limit: 255,
+};
+
 /// The metric of what is received from a sender other than 0.0.0.0.
 #[derive(Clone, Copy, Debug, PartialEq, Eq)]
 pub struct SenderMetric {
@@ -171,85 +187,4 @@ pub struct Scenario {
     pub ghost loss_in_range: { ForSome loss_until (λ moment. moment ≤ one_hour) },
     pub ghost sound_routers: { AreRouters (map (λ r. r.name) routers) (flat_map (λ r. flat_map (λ i. i.addrs) r.interfaces) routers) (flat_map (λ r. map (λ a. a.net) r.attached) routers) },
     pub ghost sound_arcs: { AreArcs (map (λ r. length r.interfaces) routers) (map (λ a. record { from = a.from; from_iface = a.from_iface; to = a.to; to_iface = a.to_iface }) arcs) },
-}
-
-#[cfg(test)]
-mod tests {
-    use super::*;
-    use std::alloc::Global;
-    use std::test::Fail;
-
-    const TIMES: Times = Times {
-        hello: 16384,
-        hold: 49152,
-        link_hold: 49152,
-        neighbour_hold: 49152,
-        tc: 40960,
-        topology_hold: 122880,
-        advertised_hold: 122880,
-        received_hold: 245760,
-        processed_hold: 245760,
-        forwarded_hold: 245760,
-        tc_hop_limit: 255,
-    };
-
-    fn list_of<T: Copy>(alloc: Global, items: &[T]) -> Result<Seq<T>, AllocError>
-        ensures { IfOk result (λ list. list ≡ items.now) }
-    {
-        Ok(Seq::from_vec(Vec::from_slice(alloc, items)?))
-    }
-
-    fn text(alloc: Global, octets: &[u8]) -> Result<Bytes, AllocError>
-        ensures { IfOk result (λ bytes. bytes ≡ octets.now) }
-    {
-        Ok(Bytes::from_vec(Vec::from_slice(alloc, octets)?))
-    }
-
-    #[test]
-    fn settings_are_built_and_copied(rt: HostRuntime) -> Result<(), Fail> {
-        let alloc = rt.alloc();
-        let mut interfaces = Seq::new(alloc);
-        interfaces.push(Interface {
-            name: text(alloc, b"w0")?,
-            addrs: list_of(alloc, &[Addr4(0x0a00_0001), Addr4(0x0a00_0002)])?,
-            metric: Metric { code: 0 },
-            senders: Seq::new(alloc),
-        })?;
-        let router = RouterSettings {
-            name: text(alloc, b"a")?,
-            willing: Willing {
-                flooding: 7,
-                routing: 7,
-            },
-            hello_at: 0,
-            tc_at: 9,
-            times: TIMES,
-            interfaces,
-            attached: list_of(
-                alloc,
-                &[Attached4 {
-                    net: NetAddr {
-                        addr: Addr4(0),
-                        prefix: 0,
-                    },
-                    metric: Metric { code: 1 },
-                    distance: 1,
-                }],
-            )?,
-        };
-        let copy = router.copy()?;
-        assert_eq!(rt; copy.name.as_slice(), b"a".as_slice());
-        assert_eq!(rt; copy.attached.as_slice(), router.attached.as_slice());
-        let mut routers = Seq::new(alloc);
-        routers.push(router)?;
-        let scenario = Scenario {
-            end: 9,
-            seed: 0,
-            loss_until: Some(0),
-            routers,
-            arcs: Seq::new(alloc),
-        };
-        assert_eq!(rt; scenario.routers.len(), 1);
-        Ok(())
-    }
 }

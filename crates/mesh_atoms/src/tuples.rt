@@ -1,5 +1,8 @@
 //! The tuples of the information bases, and their keys. Each tuple has an expiry moment beside its record; moments are in
 //! ticks of 1/8192 s, and a tuple is expired where its moment is at or below now.
+ghost use Rattle.std.specs.Prelude.{◌≡◌};
+ghost use Rattle.mesh_atoms.specs.State.{is_symmetric, is_heard};
+
 use crate::{Addr4, Metric, NetAddr, Seq, Willing};
 
 /// A link of an interface, by the least address of the neighbour's interface.
@@ -65,6 +68,22 @@ pub struct Link {
     pub link_out: Option<Metric>,
     /// Whether the neighbour has chosen this router as a flooding relay.
     pub selector: bool,
+}
+
+impl Link {
+    /// Whether the link is SYMMETRIC at that moment, in ticks of 1/8192 s (RFC 6130, section 7.1).
+    pub fn is_symmetric(&self, now: u64) -> bool
+        ensures { result ≡ is_symmetric self.now now }
+    {
+        !self.pending && !self.lost && now < self.sym
+    }
+
+    /// Whether the link is HEARD at that moment: not SYMMETRIC, and heard not long ago (RFC 6130, section 7.1).
+    pub fn is_heard(&self, now: u64) -> bool
+        ensures { result ≡ is_heard self.now now }
+    {
+        !self.pending && !self.lost && now >= self.sym && now < self.heard
+    }
 }
 
 /// A 2-hop tuple (RFC 6130, section 7.2, and RFC 7181, section 8.2): the neighbour's metrics from and to the address.

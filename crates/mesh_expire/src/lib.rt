@@ -2,14 +2,10 @@
 #![tactic(auto)]
 
 mod bases;
-#[cfg(test)]
-mod callers;
 mod keys;
 mod list_table;
 mod no_table;
 mod table;
-#[cfg(test)]
-mod tests;
 
 pub use bases::{Bases, NoBases, PlainBases};
 pub use list_table::ListTable;

@@ -3,8 +3,6 @@
 
 mod flood;
 mod set;
-#[cfg(test)]
-mod tests;
 mod verdict;
 
 pub use flood::Flood;

@@ -1,22 +1,8 @@
 //! Tests on lists of addresses.
-ghost use Rattle.std.specs.Prelude.{◌≡◌, ◌↔◌, ◌⊎◌, IsTrue, Contains};
+ghost use Rattle.std.specs.Prelude.{◌≡◌, ◌↔◌, ◌⊎◌, IsTrue};
 ghost use Rattle.mesh_atoms.specs.AfterHello.{Meets, IsBeyond};
 
-use mesh_atoms::Addr4;
-
-/// Whether the address is in the list.
-pub fn contains(addrs: &[Addr4], addr: Addr4) -> bool
-    ensures { IsTrue result ↔ Contains addrs.now addr }
-{
-    addrs.contains(&addr)
-}
-
-/// Whether two lists have an address in common.
-pub fn meets(addrs: &[Addr4], others: &[Addr4]) -> bool
-    ensures { IsTrue result ↔ Meets addrs.now others.now }
-{
-    addrs.iter().any(|addr| contains(others, *addr))
-}
+use mesh_atoms::{Addr4, contains, meets};
 
 /// Whether the first list has an address outside the second.
 pub fn is_beyond(addrs: &[Addr4], others: &[Addr4]) -> bool

@@ -8,8 +8,6 @@ mod hearing;
 mod links;
 mod renewal;
 mod status;
-#[cfg(test)]
-mod tests;
 
 pub use links::LinkSet;
 pub use mesh_atoms::Shown;

@@ -3,7 +3,6 @@ ghost use Rattle.std.specs.Prelude.{◌≡◌, ◌<◌, ◌+◌, ◌^◌, ℕ, I
 ghost use Rattle.mesh_atoms.specs.Live.{trimmed};
 ghost use Rattle.mesh_atoms.specs.AfterHello.{by_status, by_hearing, made, renewed};
 
-use crate::status::{is_heard, is_symmetric};
 use mesh_atoms::{Link, LinkStatus, Shown};
 use std::alloc::AllocError;
 
@@ -12,7 +11,7 @@ pub fn trim(link: &mut Link, now: u64)
     ensures trimmed { (until : ℕ) → (link.new, until) ≡ trimmed now (link.old, until) }
     ensures sym { link.new.sym ≡ link.old.sym }
 {
-    if !is_symmetric(link, now) {
+    if !link.is_symmetric(now) {
         link.link_out = None;
         link.selector = false;
     }
@@ -30,7 +29,7 @@ fn tell(link: &mut Link, until: u64, now: u64, hold: u64, shown: &Shown) -> u64
         None => until,
         Some(LinkStatus::Lost) => {
             link.sym = 0;
-            if is_heard(link, now) {
+            if link.is_heard(now) {
                 now + hold
             } else {
                 until
@@ -57,7 +56,7 @@ fn hold_on(link: &mut Link, until: u64, now: u64, hold: u64, shown: &Shown) -> u
     link.heard = u64::max(now + shown.validity, link.sym);
     if link.pending {
         u64::max(until, link.heard)
-    } else if is_symmetric(link, now) || is_heard(link, now) {
+    } else if link.is_symmetric(now) || link.is_heard(now) {
         u64::max(until, link.heard + hold)
     } else {
         until

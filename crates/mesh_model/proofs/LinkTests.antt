@@ -10,12 +10,11 @@ use Rattle.mesh_atoms.specs.declared.settings.Scenario.{Scenario}
 use Rattle.mesh_atoms.specs.Hello.{Shows, Flooding}
 use Rattle.mesh_atoms.specs.Radio.{Joins}
 use Rattle.mesh_atoms.specs.Settled.{At, IsLeastAddress, IsLinkTo}
-use Rattle.mesh_atoms.specs.State.{State, Is_symmetric, state_of, HasLink, HasAddressOn}
+use Rattle.mesh_atoms.specs.State.{State, Is_symmetric, state_of, HasLink, HasAddressOn, is_symmetric}
 use Rattle.mesh_atoms.proofs.Deciding.{Decides-eqb, Decides-and, Decides-if, Decides-some, Decides-each}
 use Rattle.mesh_model.specs.declared.router.Router.{Router}
 use Rattle.mesh_model.specs.Router.{held}
 use Rattle.mesh_model.specs.Meeting.{Meeting, hop_by}
-use Rattle.mesh_model.specs.Tables.{is_symmetric_link}
 use Rattle.mesh_model.specs.Values.{metric_eq, have_same}
 use Rattle.mesh_model.specs.ShowTests.{addrs_of, shows_flooding}
 use Rattle.mesh_model.specs.HopTests.{leaves, is_back, is_answered_at}
@@ -137,7 +136,7 @@ module _ (s : Scenario) (routers : List Router) (x : ℕ) (p : Router) (now : �
   pub Decides-links_given : (i : ℕ) → Decides (are_links_given s.arcs routers x i p now)
       ((key : LinkKey) (link : Link) → HasLink (held p) i key link → state_of link now ≡ Is_symmetric → IsLinkFrom i key link)
   Decides-links_given i =
-      Decides-each_at (λ (e : LinkKey × (Link × ℕ)). not (is_symmetric_link e.1.0 now) || is_link_given s.arcs routers x i p e.0 e.1.0 now)
+      Decides-each_at (λ (e : LinkKey × (Link × ℕ)). not (is_symmetric e.1.0 now) || is_link_given s.arcs routers x i p e.0 e.1.0 now)
       (λ key link. state_of link now ≡ Is_symmetric → IsLinkFrom i key link)
       (λ e. Decides-if _ _ (Decides-symmetric_link e.1.0 now) (Decides-link_given i e.0 e.1.0)) p.links i
 
@@ -150,7 +149,7 @@ HasGivenLink p q i j now there back =
 
 Decides-has_link_by : (h : Meeting) (there back : Metric) → Decides (has_link_by h there back) (HasGivenLink (held h.p) (held h.q) h.i h.j h.now there back)
 Decides-has_link_by h there back =
-    Decides-as (Decides-some_at (λ (e : LinkKey × (Link × ℕ)). is_symmetric_link e.1.0 h.now && metric_eq e.1.0.link_in back && is_link_by h there e.0 e.1.0)
+    Decides-as (Decides-some_at (λ (e : LinkKey × (Link × ℕ)). is_symmetric e.1.0 h.now && metric_eq e.1.0.link_in back && is_link_by h there e.0 e.1.0)
     (λ key link. ((state_of link h.now ≡ Is_symmetric) × (link.link_in ≡ back)) × IsLinkBy h there key link)
     (λ e. Decides-and _ _ (Decides-and _ _ (Decides-symmetric_link e.1.0 h.now) (Decides-metric e.1.0.link_in back)) (Decides-link_by h there e.0 e.1.0)) h.p.links h.i)
     (λ w. (w.0, w.1, w.2, w.3.0.0, link_to h there back w.0 w.1 w.3.1 w.3.0.1))

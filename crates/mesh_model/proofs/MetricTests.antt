@@ -6,7 +6,7 @@ use Rattle.mesh_atoms.specs.declared.metric.Metric.{Metric}
 use Rattle.mesh_atoms.specs.declared.tuples.Link.{Link}
 use Rattle.mesh_atoms.specs.declared.tuples.LinkKey.{LinkKey}
 use Rattle.mesh_atoms.specs.declared.tuples.Neighbour.{Neighbour}
-use Rattle.mesh_atoms.specs.State.{is_heard, HasLink, HasSymmetricWith}
+use Rattle.mesh_atoms.specs.State.{is_heard, HasLink, HasSymmetricWith, is_symmetric}
 use Rattle.mesh_atoms.specs.Hello.{Part, Shows, IsShown, Near_in, Near_out, Link_in, Link_out}
 use Rattle.mesh_atoms.proofs.Deciding.{Decides-and, Decides-or, Decides-not}
 use Rattle.mesh_atoms.proofs.Lookups.{tests_heard}
@@ -14,7 +14,7 @@ use Rattle.mesh_model.specs.declared.router.Router.{Router}
 use Rattle.mesh_model.specs.declared.shows.Side.{Side}
 use Rattle.mesh_model.specs.declared.shows.Side.TheVariants.{In, Out}
 use Rattle.mesh_model.specs.Router.{held}
-use Rattle.mesh_model.specs.Tables.{is_symmetric_link, is_neighbour_at}
+use Rattle.mesh_model.specs.Tables.{is_neighbour_at}
 use Rattle.mesh_model.specs.Values.{contains, is_metric}
 use Rattle.mesh_model.specs.ShowTests.{items_of, near_metric, link_metric, shows_near, has_near, shows_link_metric, has_link_metric, is_shown}
 use Rattle.mesh_model.proofs.ItemTests.{Decides-as, Decides-is_some, some_where, where_some, of_items, Decides-some_in, Decides-some_at}
@@ -49,7 +49,7 @@ link_by : (q : Router) (j : ℕ) (a : Addr4) (now : ℕ) (side : Side) (m : Metr
 link_by q j a now In m = (
   λ w.
       let link = w.1 in
-      let shown = some_where (is_heard link now || is_symmetric_link link now) (Some link.link_in) m w.3.1 in
+      let shown = some_where (is_heard link now || is_symmetric link now) (Some link.link_in) m w.3.1 in
       let d = Decides-or _ _ (tests_heard link now) (Decides-symmetric_link link now) in
       (link, elim (d.0 shown.0) [ inl h ↦ inl (w.0, w.2, w.3.0, h) | inr s ↦ inr (w.0, w.2, w.3.0, s) ], same_value link.link_in m shown.1),
   λ w.
@@ -63,7 +63,7 @@ link_by q j a now In m = (
 )
 link_by q j a now Out m = (
   λ w.
-      let shown = some_where (is_symmetric_link w.1 now) w.1.link_out m w.3.1 in
+      let shown = some_where (is_symmetric w.1 now) w.1.link_out m w.3.1 in
       (w.1, (w.0, w.2, w.3.0, (Decides-symmetric_link w.1 now).0 shown.0), shown.1),
   λ w. (w.1.0, w.0, w.1.1, (w.1.2, where_some _ _ _ ((Decides-symmetric_link w.0 now).1 w.1.3) w.2)),
 )

@@ -5,22 +5,14 @@ use Rattle.mesh_atoms.specs.declared.addr.Addr4.{Addr4}
 use Rattle.mesh_atoms.specs.declared.tuples.Link.{Link}
 use Rattle.mesh_atoms.specs.declared.tuples.Neighbour.{Neighbour}
 use Rattle.mesh_atoms.specs.Base.{Base, Has, addr_eq}
-use Rattle.mesh_atoms.specs.State.{Is_symmetric, state_of}
+use Rattle.mesh_atoms.specs.State.{Is_symmetric, state_of, is_symmetric}
 use Rattle.mesh_atoms.proofs.Deciding.{Decides-and, Decides-addr, Decides-some}
 use Rattle.mesh_atoms.proofs.Lookups.{tests_symmetric}
-use Rattle.mesh_model.specs.Tables.{is_symmetric_link, is_neighbour_at, is_neighbour_of, has_neighbour_at}
+use Rattle.mesh_model.specs.Tables.{is_neighbour_at, is_neighbour_of, has_neighbour_at}
 use Rattle.mesh_model.proofs.ValueTests.{Decides-contains}
 
-in_turn : (pending lost late : Bool) → (not pending && (not lost && late)) ≡ cond pending false (cond lost false late)
-in_turn true lost late = refl
-in_turn false true late = refl
-in_turn false false late = refl
-
-pub Decides-symmetric_link : (link : Link) (now : ℕ) → Decides (is_symmetric_link link now) (state_of link now ≡ Is_symmetric)
-Decides-symmetric_link link now =
-    let same = in_turn link.pending link.lost (nat_lt now link.sym) in
-    let d = tests_symmetric link now in
-    (λ e. d.0 (subst (λ (b : Bool). b ≡ true) same e), λ e. subst (λ (b : Bool). b ≡ true) (sym same) (d.1 e))
+pub Decides-symmetric_link : (link : Link) (now : ℕ) → Decides (is_symmetric link now) (state_of link now ≡ Is_symmetric)
+Decides-symmetric_link link now = tests_symmetric link now
 
 -- a symmetric neighbour with that address
 abbrev pub IsNeighbourAt : Neighbour → Addr4 → Type 0

@@ -16,4 +16,3 @@ pub mod Tables
 pub mod TopologyTests
 pub mod TwoHopTests
 pub mod Values
-pub mod Scenarios

@@ -6,9 +6,9 @@ use Rattle.mesh_atoms.specs.declared.metric.Metric.{Metric}
 use Rattle.mesh_atoms.specs.declared.tuples.Link.{Link}
 use Rattle.mesh_atoms.specs.declared.tuples.LinkKey.{LinkKey}
 use Rattle.mesh_atoms.specs.declared.settings.RadioArc.{RadioArc}
+use Rattle.mesh_atoms.specs.State.{is_symmetric}
 use Rattle.mesh_model.specs.declared.router.Router.{Router}
 use Rattle.mesh_model.specs.Meeting.{Meeting, hop_by}
-use Rattle.mesh_model.specs.Tables.{is_symmetric_link}
 use Rattle.mesh_model.specs.Values.{have_same, is_metric, metric_eq}
 use Rattle.mesh_model.specs.HopTests.{leaves, is_back, is_answered_at}
 use Rattle.mesh_model.specs.ShowTests.{if_some, unless_none, addrs_of, items_of, is_least, shows_flooding}
@@ -35,12 +35,12 @@ is_link_given arcs routers x i p key link now =
 -- each SYMMETRIC link of the interface is given by some hop
 abbrev pub are_links_given : List RadioArc → List Router → ℕ → ℕ → Router → ℕ → Bool
 are_links_given arcs routers x i p now =
-    list_all (λ e. not (is_symmetric_link e.1.0 now) || is_link_given arcs routers x i p e.0 e.1.0 now) (items_of p.links i)
+    list_all (λ e. not (is_symmetric e.1.0 now) || is_link_given arcs routers x i p e.0 e.1.0 now) (items_of p.links i)
 
 -- the router has the SYMMETRIC link that the hop gives, at those metrics
 abbrev pub has_link_by : Meeting → Metric → Metric → Bool
 has_link_by h there back =
-    list_any (λ e. is_symmetric_link e.1.0 h.now && metric_eq e.1.0.link_in back && is_link_by h there e.0 e.1.0) (items_of h.p.links h.i)
+    list_any (λ e. is_symmetric e.1.0 h.now && metric_eq e.1.0.link_in back && is_link_by h there e.0 e.1.0) (items_of h.p.links h.i)
 
 -- the router has the SYMMETRIC link that the arc, and one that leads back at that metric, give
 abbrev pub has_link_to : List Router → Router → RadioArc → Metric → ℕ → Bool

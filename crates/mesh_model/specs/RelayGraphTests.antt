@@ -14,17 +14,18 @@ use Rattle.mesh_atoms.specs.declared.tuples.TwoHop.{TwoHop}
 use Rattle.mesh_atoms.specs.declared.tuples.TwoHopKey.{TwoHopKey}
 use Rattle.mesh_atoms.specs.Base.{Base, addr_eq}
 use Rattle.mesh_atoms.specs.Codes.{metric_value}
+use Rattle.mesh_atoms.specs.State.{is_symmetric}
 use Rattle.mesh_model.specs.declared.relay_graph.Purpose.{Purpose}
 use Rattle.mesh_model.specs.declared.relay_graph.Purpose.TheVariants.{Routing, Flooding}
 use Rattle.mesh_model.specs.declared.router.Router.{Router}
-use Rattle.mesh_model.specs.Tables.{is_neighbour_at, is_symmetric_link}
+use Rattle.mesh_model.specs.Tables.{is_neighbour_at}
 use Rattle.mesh_model.specs.Values.{contains, is_cost}
 
 -- Metrics to a neighbour over an interface
 
 -- a SYMMETRIC link of the neighbour
 abbrev pub is_way : ℕ → Neighbour → LinkKey → Link → Bool
-is_way now n key link = contains n.addrs key.addr && is_symmetric_link link now
+is_way now n key link = contains n.addrs key.addr && is_symmetric link now
 
 -- the metric is no less than that cost, if it is known
 abbrev pub is_at_least : Option Metric → ℕ → Bool

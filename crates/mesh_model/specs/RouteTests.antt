@@ -13,10 +13,11 @@ use Rattle.mesh_atoms.specs.declared.graphs.PathRow.{PathRow}
 use Rattle.mesh_atoms.specs.declared.graphs.Route.{Route}
 use Rattle.mesh_atoms.specs.Base.{Base, addr_eq, net_eq}
 use Rattle.mesh_atoms.specs.Codes.{metric_value}
+use Rattle.mesh_atoms.specs.State.{is_symmetric}
 use Rattle.mesh_model.specs.declared.router.Router.{Router}
 use Rattle.mesh_model.specs.Own.{is_address_of}
 use Rattle.mesh_model.specs.Values.{contains}
-use Rattle.mesh_model.specs.Tables.{is_symmetric_link, is_neighbour_at}
+use Rattle.mesh_model.specs.Tables.{is_neighbour_at}
 
 -- The router itself
 
@@ -67,7 +68,7 @@ are_reached r routes rows = list_all (λ row. not (is_outside r row.node) || has
 
 -- the link is SYMMETRIC, and the neighbour's
 abbrev pub is_way : Neighbour → ℕ → LinkKey × (Link × ℕ) → Bool
-is_way n now e = is_symmetric_link e.1.0 now && contains n.addrs e.0.addr
+is_way n now e = is_symmetric e.1.0 now && contains n.addrs e.0.addr
 
 -- the route at its metric is no worse than by that link of interface i at another metric
 abbrev pub is_no_worse : Route → Metric → ℕ → LinkKey → Metric → Bool

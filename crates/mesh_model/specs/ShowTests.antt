@@ -8,11 +8,11 @@ use Rattle.mesh_atoms.specs.declared.tuples.Link.{Link}
 use Rattle.mesh_atoms.specs.declared.tuples.Neighbour.{Neighbour}
 use Rattle.mesh_atoms.specs.declared.settings.Interface.{Interface}
 use Rattle.mesh_atoms.specs.declared.settings.RouterSettings.{RouterSettings}
-use Rattle.mesh_atoms.specs.State.{is_heard}
+use Rattle.mesh_atoms.specs.State.{is_heard, is_symmetric}
 use Rattle.mesh_model.specs.declared.router.Router.{Router}
 use Rattle.mesh_model.specs.declared.shows.Side.{Side}
 use Rattle.mesh_model.specs.declared.shows.Side.TheVariants.{In, Out}
-use Rattle.mesh_model.specs.Tables.{is_symmetric_link, is_neighbour_at, has_neighbour_at}
+use Rattle.mesh_model.specs.Tables.{is_neighbour_at, has_neighbour_at}
 use Rattle.mesh_model.specs.Values.{contains, is_metric}
 
 -- the test passes for what is there, if anything
@@ -51,7 +51,7 @@ is_least r i a = contains (addrs_of r i) a && is_lower a (addrs_of r i)
 
 -- a SYMMETRIC link to that address
 abbrev pub is_symmetric_to : Link → Addr4 → ℕ → Bool
-is_symmetric_to link a now = is_symmetric_link link now && contains link.addrs a
+is_symmetric_to link a now = is_symmetric link now && contains link.addrs a
 
 -- the address is shown as a SYMMETRIC link's
 abbrev pub shows_link : Router → ℕ → Addr4 → ℕ → Bool
@@ -84,8 +84,8 @@ near_metric n Out = n.metric_out
 
 -- the link's metric of that side, where it is shown
 abbrev pub link_metric : Link → ℕ → Side → Option Metric
-link_metric link now In = cond (is_heard link now || is_symmetric_link link now) (Some link.link_in) None
-link_metric link now Out = cond (is_symmetric_link link now) link.link_out None
+link_metric link now In = cond (is_heard link now || is_symmetric link now) (Some link.link_in) None
+link_metric link now Out = cond (is_symmetric link now) link.link_out None
 
 -- the address is shown with that metric of a neighbour
 abbrev pub shows_near : Router → Addr4 → Side → Metric → Bool

@@ -7,10 +7,6 @@ use Rattle.mesh_atoms.specs.declared.tuples.Neighbour.{Neighbour}
 use Rattle.mesh_atoms.specs.Base.{Base, addr_eq}
 use Rattle.mesh_model.specs.Values.{contains}
 
--- the link is SYMMETRIC
-abbrev pub is_symmetric_link : Link → ℕ → Bool
-is_symmetric_link link now = not link.pending && (not link.lost && nat_lt now link.sym)
-
 -- a symmetric neighbour that has the address
 abbrev pub is_neighbour_at : Neighbour → Addr4 → Bool
 is_neighbour_at n a = n.symmetric && contains n.addrs a

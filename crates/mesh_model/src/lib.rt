@@ -8,8 +8,6 @@ mod near;
 mod near_links;
 mod near_neighbours;
 mod near_two_hops;
-#[cfg(test)]
-mod networks;
 mod next_hops;
 mod own;
 mod relay_graph;
@@ -19,8 +17,6 @@ mod rows;
 mod settled;
 mod shows;
 mod tables;
-#[cfg(test)]
-mod tests;
 mod topology;
 mod values;
 

@@ -6,7 +6,6 @@ ghost use Rattle.mesh_model.specs.LinkTests.{is_flooding_for, is_link_by, is_lin
 use crate::Router;
 use crate::hops::{Hop, hop_by, is_answered_at, is_back, leaves};
 use crate::shows::{addrs_of, is_least, items_of, shows_flooding};
-use crate::tables::is_symmetric_link;
 use crate::values::{have_same, is_metric};
 use mesh_atoms::{Link, LinkKey, Metric, RadioArc};
 
@@ -81,7 +80,7 @@ pub(crate) fn are_links_given(
     ensures { result ≡ are_links_given arcs.now routers.now x i router.now now }
 {
     items_of(&router.links, i).iter().all(|entry| {
-        !is_symmetric_link(&entry.1.0, now)
+        !entry.1.0.is_symmetric(now)
             || is_link_given(arcs, routers, x, i, router, entry.0, &entry.1.0, now)
     })
 }
@@ -91,7 +90,7 @@ fn has_link_by(hop: Hop, there: Metric, back: Metric) -> bool
     ensures { result ≡ has_link_by (meeting hop.entry) there back }
 {
     items_of(&hop.router.links, hop.i).iter().any(|entry| {
-        is_symmetric_link(&entry.1.0, hop.now)
+        entry.1.0.is_symmetric(hop.now)
             && entry.1.0.link_in.code == back.code
             && is_link_by(hop, there, entry.0, &entry.1.0)
     })

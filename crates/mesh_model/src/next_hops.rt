@@ -2,7 +2,7 @@
 ghost use Rattle.std.specs.Prelude.{◌≡◌};
 ghost use Rattle.mesh_model.specs.RouteTests.{parent_of, first_node, is_way, is_no_worse, is_no_worse_at, is_best_on, is_best, is_best_at, is_way_of, has_way_on, has_way, has_hop, is_hop_by, is_next_hop};
 
-use crate::tables::{is_neighbour_at, is_symmetric_link};
+use crate::tables::is_neighbour_at;
 use crate::values::{contains, same_net};
 use mesh_atoms::{Addr4, Link, LinkKey, Metric, Neighbour, NetAddr, PathRow, Route, Seq};
 
@@ -37,7 +37,7 @@ pub(crate) fn first_node(
 fn is_way(neighbour: &Neighbour, now: u64, entry: &(LinkKey, (Link, u64))) -> bool
     ensures { result ≡ is_way neighbour.now now entry.now }
 {
-    is_symmetric_link(&entry.1.0, now) && contains(neighbour.addrs.as_slice(), entry.0.addr)
+    entry.1.0.is_symmetric(now) && contains(neighbour.addrs.as_slice(), entry.0.addr)
 }
 
 /// Whether the route at its metric is no worse than by that link of interface `i` at another metric.

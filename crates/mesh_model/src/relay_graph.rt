@@ -6,7 +6,7 @@ ghost use Rattle.mesh_model.specs.RelayGraphTests.{is_way, is_at_least, is_least
 ghost use Rattle.mesh_model.specs.Router.{held};
 
 use crate::router::Router;
-use crate::tables::{is_neighbour_at, is_symmetric_link};
+use crate::tables::is_neighbour_at;
 use crate::values::{contains, is_cost};
 use mesh_atoms::{
     Addr4, Direct, Far, Link, LinkKey, Metric, Near, Neighbour, NeighbourGraph, TwoHop, TwoHopKey,
@@ -23,7 +23,7 @@ enum Purpose {
 fn is_way(now: u64, neighbour: &Neighbour, key: LinkKey, link: &Link) -> bool
     ensures { result ≡ is_way now neighbour.now key link.now }
 {
-    contains(neighbour.addrs.as_slice(), key.addr) && is_symmetric_link(link, now)
+    contains(neighbour.addrs.as_slice(), key.addr) && link.is_symmetric(now)
 }
 
 // Whether the metric is no less than that cost, if it is known.

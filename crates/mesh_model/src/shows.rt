@@ -1,10 +1,9 @@
 //! What the HELLO of a router's interface shows of an address.
 ghost use Rattle.std.specs.Prelude.{◌≡◌, slice_get};
-ghost use Rattle.mesh_atoms.specs.State.{is_heard};
 ghost use Rattle.mesh_model.specs.ShowTests.{items_of, addrs_of, is_lower, is_least, is_symmetric_to, shows_link, shows_symmetric, meets, is_flooding_link, shows_flooding, shows_routing, near_metric, link_metric, shows_near, has_near, shows_link_metric, has_link_metric, is_shown};
 
 use crate::Router;
-use crate::tables::{has_neighbour_at, is_neighbour_at, is_symmetric_link};
+use crate::tables::{has_neighbour_at, is_neighbour_at};
 use crate::values::{contains, is_metric};
 use mesh_atoms::{Addr4, Link, Metric, Neighbour, RouterSettings, Seq};
 
@@ -49,18 +48,11 @@ fn is_lower(addr: Addr4, addrs: &[Addr4]) -> bool
     addrs.iter().all(|other| addr.0 <= other.0)
 }
 
-/// Whether the link is HEARD.
-fn is_heard_link(link: &Link, now: u64) -> bool
-    ensures { result ≡ is_heard link.now now }
-{
-    !link.pending && !link.lost && !(now < link.sym) && now < link.heard
-}
-
 /// Whether it is a SYMMETRIC link to that address.
 fn is_symmetric_to(link: &Link, addr: Addr4, now: u64) -> bool
     ensures { result ≡ is_symmetric_to link.now addr now }
 {
-    is_symmetric_link(link, now) && contains(link.addrs.as_slice(), addr)
+    link.is_symmetric(now) && contains(link.addrs.as_slice(), addr)
 }
 
 /// Whether the address is shown as a SYMMETRIC link's.
@@ -128,14 +120,14 @@ pub(crate) fn link_metric(link: &Link, now: u64, side: Side) -> Option<Metric>
 {
     match side {
         Side::In => {
-            if is_heard_link(link, now) || is_symmetric_link(link, now) {
+            if link.is_heard(now) || link.is_symmetric(now) {
                 Some(link.link_in)
             } else {
                 None
             }
         }
         Side::Out => {
-            if is_symmetric_link(link, now) {
+            if link.is_symmetric(now) {
                 link.link_out
             } else {
                 None

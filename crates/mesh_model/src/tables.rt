@@ -1,16 +1,9 @@
 //! Whether a base has a tuple.
 ghost use Rattle.std.specs.Prelude.{◌≡◌};
-ghost use Rattle.mesh_model.specs.Tables.{is_symmetric_link, is_neighbour_at, is_neighbour_of, has_neighbour_at};
+ghost use Rattle.mesh_model.specs.Tables.{is_neighbour_at, is_neighbour_of, has_neighbour_at};
 
 use crate::values::contains;
 use mesh_atoms::{Addr4, Link, Neighbour};
-
-/// Whether the link is SYMMETRIC.
-pub(crate) fn is_symmetric_link(link: &Link, now: u64) -> bool
-    ensures { result ≡ is_symmetric_link link.now now }
-{
-    !link.pending && !link.lost && now < link.sym
-}
 
 /// Whether it is a symmetric neighbour that has the address.
 pub(crate) fn is_neighbour_at(neighbour: &Neighbour, addr: Addr4) -> bool

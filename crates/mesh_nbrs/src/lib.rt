@@ -1,15 +1,11 @@
 //! Neighbours, lost neighbours and 2-hop neighbours (RFC 6130, sections 7.2 and 8, and RFC 7181, sections 8.2 and 9).
 #![tactic(auto)]
 
-#[cfg(test)]
-mod callers;
 mod ends;
 mod losts;
 mod near;
 mod neighbours;
 mod summary;
-#[cfg(test)]
-mod tests;
 mod two_hops;
 
 pub use losts::LostSet;

@@ -8,7 +8,7 @@ ghost use Rattle.mesh_nbrs.specs.Neighbours.{Replaces, RestoresBy, HasNoNote, Ha
 
 use crate::ends::{Ending, end_all};
 use crate::summary::{Summary, summary_of};
-use mesh_atoms::{Addr4, LinkKey, Metric, Neighbour, Seq, Willing};
+use mesh_atoms::{Addr4, LinkKey, Metric, Neighbour, Seq, Willing, meets};
 use mesh_expire::Table;
 use std::alloc::{AllocError, Global};
 use std::marker::Model;
@@ -186,17 +186,6 @@ impl<'a> Ending<Addr4, Neighbour> for Matching<'a> {
     fn ends(&self, originator: &Addr4, neighbour: &Neighbour) -> bool {
         *originator == self.originator || meets(neighbour.addrs.as_slice(), self.listed)
     }
-}
-
-fn meets(xs: &[Addr4], ys: &[Addr4]) -> bool
-    ensures { IsTrue result ↔ Meets xs.now ys.now }
-{
-    for x in xs {
-        if ys.contains(x) {
-            return true;
-        }
-    }
-    false
 }
 
 // The neighbour that a HELLO tells of, before its links are looked at.

@@ -3,7 +3,6 @@ ghost use Rattle.std.specs.Prelude.{◌≡◌, ◌&&◌, not, cond, None};
 ghost use Rattle.mesh_atoms.specs.Base.{HasDistinctKeys, find, link_eq, two_hop_eq};
 ghost use Rattle.mesh_nhdp.specs.Calls.{is_symmetric_in, DropsEnded};
 
-use crate::notes::is_symmetric;
 use mesh_atoms::{Link, LinkKey, TwoHop, TwoHopKey};
 use mesh_expire::Table;
 use mesh_links::LinkSet;
@@ -14,7 +13,7 @@ pub fn has_symmetric<T: Table<LinkKey, Link>>(table: &T, key: LinkKey, now: u64)
     ensures { result ≡ is_symmetric_in (T.content table.now) now key }
 {
     match table.get(&key) {
-        Some((link, _)) => is_symmetric(link, now),
+        Some((link, _)) => link.is_symmetric(now),
         None => false,
     }
 }

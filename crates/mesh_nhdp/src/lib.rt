@@ -23,12 +23,8 @@ mod sending_link;
 mod shown;
 mod take;
 mod tell;
-#[cfg(test)]
-mod tests;
 mod told;
 mod two_hop_rows;
-#[cfg(test)]
-mod worked;
 
 pub use nhdp::Nhdp;
 pub use receive::receive_fault;

@@ -1,31 +1,11 @@
 //! Lists of addresses, and the keys of tables.
 ghost use Rattle.std.specs.Prelude.{◌≡◌, ◌↔◌, ◌⊎◌, Contains, IsTrue, IfOk, OnOk};
 ghost use Rattle.std.specs.Map.{keys_of};
-ghost use Rattle.mesh_atoms.specs.AfterHello.{Meets};
 ghost use Rattle.mesh_atoms.specs.Relays.{IsAscending};
 
 use mesh_atoms::{Addr4, Seq};
 use mesh_expire::{Key, Table};
 use std::alloc::{AllocError, Global};
-
-/// Whether the address is in the list.
-pub fn has(addrs: &[Addr4], addr: Addr4) -> bool
-    ensures { IsTrue result ↔ Contains addrs.now addr }
-{
-    addrs.contains(&addr)
-}
-
-/// Whether two lists have an address in common, in the product of their lengths.
-pub fn meets(xs: &[Addr4], ys: &[Addr4]) -> bool
-    ensures { IsTrue result ↔ Meets xs.now ys.now }
-{
-    for x in xs {
-        if has(ys, *x) {
-            return true;
-        }
-    }
-    false
-}
 
 /// The addresses in ascending order, each once. Takes no memory.
 pub fn ascending(addrs: Vec<Addr4>) -> Seq<Addr4>

@@ -7,8 +7,7 @@ ghost use Rattle.mesh_atoms.specs.declared.hello.HelloRow.{HelloRow};
 ghost use Rattle.mesh_atoms.specs.declared.settings.RouterSettings.{RouterSettings};
 ghost use Rattle.mesh_nhdp.specs.Mine.{Bears, IsRowOf, Shows};
 
-use crate::lists::has;
-use mesh_atoms::{Addr4, Hello, HelloRow, Interface, LinkStatus, Metric};
+use mesh_atoms::{Addr4, Hello, HelloRow, Interface, LinkStatus, Metric, contains};
 
 /// What a row may say of its address: the link's status, or that its router is a relay for flooding or for routing.
 #[derive(Clone, Copy)]
@@ -42,7 +41,7 @@ fn bears(row: &HelloRow, sign: Sign) -> bool
 fn is_row_of(row: &HelloRow, own: &[Addr4]) -> bool
     ensures { IsTrue result ↔ IsRowOf own.now row.now }
 {
-    row.addr.prefix == 32 && has(own, row.addr.addr)
+    row.addr.prefix == 32 && contains(own, row.addr.addr)
 }
 
 /// Whether a row says that of one of these addresses.

@@ -3,8 +3,7 @@ ghost use Rattle.std.specs.Prelude.{◌↔◌, Contains, IsTrue, IfOk, OnOk};
 ghost use Rattle.mesh_nhdp.specs.Gathers.{Adds};
 ghost use Rattle.mesh_nhdp.specs.Wanted.{IsWanted, IsWantedAddress};
 
-use crate::lists::meets;
-use mesh_atoms::{Addr4, Neighbour};
+use mesh_atoms::{Addr4, Neighbour, meets};
 use mesh_expire::Table;
 use std::alloc::{AllocError, Global};
 

@@ -1,7 +1,6 @@
 //! What neighbours are to know of the links of all interfaces.
 ghost use Rattle.std.specs.Prelude.{◌≡◌, ◌↔◌, ℕ, Contains, IfOk, OnOk, Some};
 ghost use Rattle.mesh_atoms.specs.Base.{find, link_eq};
-ghost use Rattle.mesh_atoms.specs.State.{is_symmetric};
 ghost use Rattle.mesh_nhdp.specs.Calls.{note_of, IsNoteIn, TellsLinks};
 ghost use Rattle.mesh_nhdp.specs.Gathers.{Adds};
 
@@ -11,20 +10,13 @@ use mesh_links::LinkSet;
 use mesh_nbrs::LinkNote;
 use std::alloc::{AllocError, Global};
 
-/// Whether the link is SYMMETRIC at that moment, in ticks of 1/8192 s (RFC 6130, section 7.1).
-pub fn is_symmetric(link: &Link, now: u64) -> bool
-    ensures { result ≡ is_symmetric link.now now }
-{
-    !link.pending && !link.lost && now < link.sym
-}
-
 /// The note of a link.
 fn note_of(key: LinkKey, link: &Link, until: u64, now: u64) -> LinkNote
     ensures { result ≡ note_of now key (link.now, until) }
 {
     LinkNote {
         key,
-        symmetric: is_symmetric(link, now),
+        symmetric: link.is_symmetric(now),
         link_in: link.link_in,
         link_out: link.link_out,
         until,

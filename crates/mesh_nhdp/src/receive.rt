@@ -7,8 +7,7 @@ ghost use Rattle.mesh_atoms.specs.State.{HasAddress};
 ghost use Rattle.mesh_atoms.specs.TakesHello.{IsOwn, IsNameless, IsFault};
 ghost use Rattle.mesh_nhdp.specs.Receive.{IsLocalRow, IsLocalWith, HasOriginatorOf, IsBareSender, NamesAsSender};
 
-use crate::lists::has;
-use mesh_atoms::{Addr4, Hello, HelloRow, LocalIf};
+use mesh_atoms::{Addr4, Hello, HelloRow, LocalIf, contains};
 
 /// The address that a row shows as one of the sender's; `None` where it shows none.
 fn local_host(row: &HelloRow) -> Option<Addr4>
@@ -27,7 +26,7 @@ fn is_local_of(row: &HelloRow, own: &[Addr4]) -> bool
     ensures { IsTrue result ↔ IsLocalWith (Contains own.now) row.now }
 {
     match local_host(row) {
-        Some(addr) => has(own, addr),
+        Some(addr) => contains(own, addr),
         None => false,
     }
 }
@@ -93,7 +92,7 @@ fn has_originator_of(hello: &Hello, own: &[Addr4]) -> bool
     ensures { IsTrue result ↔ HasOriginatorOf own.now hello.now }
 {
     match hello.originator {
-        Some(addr) => has(own, addr),
+        Some(addr) => contains(own, addr),
         None => false,
     }
 }
@@ -102,7 +101,7 @@ fn has_originator_of(hello: &Hello, own: &[Addr4]) -> bool
 fn is_bare_sender(hello: &Hello, sender: Addr4, own: &[Addr4]) -> bool
     ensures { IsTrue result ↔ IsBareSender own.now sender hello.now }
 {
-    has(own, sender) && sending(hello).is_none()
+    contains(own, sender) && sending(hello).is_none()
 }
 
 /// Whether the HELLO names one of those addresses as its sender's.

@@ -6,10 +6,9 @@ ghost use Rattle.mesh_atoms.specs.State.{State, HasAddressOn, state_of};
 ghost use Rattle.mesh_expire.specs.Table.{entry_of};
 ghost use Rattle.mesh_nhdp.specs.Shown.{IsLinkWith, IsNeighbourWith, AreApart, IsSeen, status_by, status_shown, other_shown, link_in_shown, link_out_shown, near_in_shown, near_out_shown, IsRelayOf, IsFloodingRelay, IsLocalOn, told_addresses};
 
-use crate::lists::has;
 use mesh_atoms::{
     Addr4, HelloRow, Link, LinkKey, LinkStatus, LocalIf, Lost, Metric, Metrics, Mpr, Neighbour,
-    NetAddr, OtherStatus, Relays, RouterSettings, Seq,
+    NetAddr, OtherStatus, Relays, RouterSettings, Seq, contains,
 };
 use mesh_expire::Table;
 
@@ -26,7 +25,7 @@ pub fn link_with<T: Table<LinkKey, Link>>(links: &T, addr: Addr4) -> Option<(&Li
 {
     for place in 0..links.len() {
         if let Some((key, link, until)) = links.at(place) {
-            if has(link.addrs.as_slice(), addr) {
+            if contains(link.addrs.as_slice(), addr) {
                 return Some((key, link, until));
             }
         }
@@ -43,7 +42,7 @@ pub fn neighbour_with<T: Table<Addr4, Neighbour>>(
 {
     for place in 0..neighbours.len() {
         if let Some((originator, neighbour, until)) = neighbours.at(place) {
-            if neighbour.symmetric && has(neighbour.addrs.as_slice(), addr) {
+            if neighbour.symmetric && contains(neighbour.addrs.as_slice(), addr) {
                 return Some((originator, neighbour, until));
             }
         }
@@ -56,7 +55,7 @@ fn is_on(settings: &RouterSettings, iface: usize, addr: Addr4) -> bool
     ensures { IsTrue result ↔ HasAddressOn settings.now iface addr }
 {
     match settings.interfaces.get(iface) {
-        Some(face) => has(face.addrs.as_slice(), addr),
+        Some(face) => contains(face.addrs.as_slice(), addr),
         None => false,
     }
 }
@@ -180,7 +179,7 @@ pub fn is_relay(relays: &[Addr4], neighbour: Option<(&Addr4, &Neighbour, u64)>) 
     ensures { IsTrue result ↔ IsRelayOf relays.now (entry_of neighbour.entry) }
 {
     match neighbour {
-        Some((originator, _, _)) => has(relays, *originator),
+        Some((originator, _, _)) => contains(relays, *originator),
         None => false,
     }
 }

@@ -10,9 +10,9 @@ ghost use Rattle.mesh_nhdp.specs.Calls.{TellsTwoHops};
 ghost use Rattle.mesh_nhdp.specs.Gathers.{Adds};
 ghost use Rattle.mesh_nhdp.specs.Rows.{LooksOn, RowTells, TellsSymmetric};
 
-use crate::lists::{ascending, has};
+use crate::lists::ascending;
 use mesh_atoms::{
-    Addr4, Hello, HelloRow, LinkKey, LinkStatus, Metric, OtherStatus, TwoHop, TwoHopKey,
+    Addr4, Hello, HelloRow, LinkKey, LinkStatus, Metric, OtherStatus, TwoHop, TwoHopKey, contains,
 };
 use mesh_expire::Table;
 use mesh_nbrs::TwoHopSet;
@@ -24,8 +24,8 @@ fn is_looked_at(row: &HelloRow, own: &[Addr4], listed: &[Addr4]) -> bool
 {
     row.addr.prefix == 32
         && (row.link.is_some() || row.other.is_some())
-        && !has(own, row.addr.addr)
-        && !has(listed, row.addr.addr)
+        && !contains(own, row.addr.addr)
+        && !contains(listed, row.addr.addr)
 }
 
 /// Whether the row says that it is a SYMMETRIC neighbour.

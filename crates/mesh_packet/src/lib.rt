@@ -4,8 +4,6 @@
 mod flags;
 mod packet;
 mod read;
-#[cfg(test)]
-mod tests;
 mod write;
 
 pub use mesh_atoms::DecodeFault;

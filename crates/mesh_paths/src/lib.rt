@@ -5,12 +5,8 @@
 mod certificate;
 mod frontier;
 mod radio;
-#[cfg(test)]
-mod radio_tests;
 mod rounds;
 mod settled;
-#[cfg(test)]
-mod tests;
 
 pub use certificate::{check, one_certificate};
 pub use frontier::search;

@@ -6,8 +6,6 @@ mod lines;
 mod packet;
 mod pieces;
 mod reading;
-#[cfg(test)]
-mod tests;
 
 pub use laws::one_listing;
 pub use packet::{LineRead, packet_text, put_packet_text};

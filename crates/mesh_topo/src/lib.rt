@@ -4,8 +4,6 @@
 mod rows;
 mod set;
 mod take;
-#[cfg(test)]
-mod tests;
 mod topology;
 mod tuple;
 

@@ -32,4 +32,3 @@ pub mod TcRuled
 pub mod TcWritten
 pub mod Texts
 pub mod Values
-pub mod WorkedHop

@@ -12,12 +12,8 @@ mod parts;
 mod rules;
 mod runs;
 mod tc;
-#[cfg(test)]
-mod tests;
 mod times;
 mod write;
-#[cfg(test)]
-mod write_tests;
 
 pub use fault::WireFault;
 pub use hello::hello_of;

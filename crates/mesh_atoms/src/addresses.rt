@@ -1,0 +1,19 @@
+//! Tests on lists of addresses.
+ghost use Rattle.std.specs.Prelude.{◌↔◌, Contains, IsTrue};
+ghost use Rattle.mesh_atoms.specs.AfterHello.{Meets};
+
+use crate::Addr4;
+
+/// Whether the address is in the list. Takes no memory.
+pub fn contains(addrs: &[Addr4], addr: Addr4) -> bool
+    ensures { IsTrue result ↔ Contains addrs.now addr }
+{
+    addrs.contains(&addr)
+}
+
+/// Whether two lists have an address in common. Takes no memory, and time by the product of their lengths.
+pub fn meets(addrs: &[Addr4], others: &[Addr4]) -> bool
+    ensures { IsTrue result ↔ Meets addrs.now others.now }
+{
+    addrs.iter().any(|addr| contains(others, *addr))
+}
