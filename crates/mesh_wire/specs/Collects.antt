@@ -1,18 +1,12 @@
 -- What a map of networks keeps, entry by entry.
-use Rattle.std.specs.Prelude.{◌≡◌, ℕ, List, Contains, AllPairs, Option, Some, None}
-use Rattle.std.specs.Option.{option_map}
+use Rattle.std.specs.Prelude.{◌≡◌, List, Contains, AllPairs, Some, None}
 use Rattle.std.specs.BTreeMap.{BTreeMap, get}
 use Rattle.mesh_atoms.specs.declared.addr.NetAddr.{NetAddr}
 use Rattle.mesh_atoms.specs.Nodes.{IsBefore}
-use Rattle.mesh_wire.specs.declared.collect.Said.{Said}
 use Rattle.mesh_wire.specs.declared.collect.Told.{Told}
 use Rattle.mesh_wire.specs.declared.parts.RowParts.{RowParts}
 use Rattle.mesh_atoms.specs.Nodes.{net_cmp}
 use Rattle.mesh_wire.specs.Entries.{Entry, collected}
-
--- a type and a value, without where the value lies
-abbrev pub said_of : Option Said → Option (ℕ × List ℕ)
-said_of said = option_map (λ (s : Said). (s.kind, s.octets.now)) said
 
 -- an entry of a map
 abbrev pub told_of : NetAddr × RowParts → Told
