@@ -1,26 +1,26 @@
-pub mod Arcs
+mod Arcs
 mod Below
-pub mod Deciders
-pub mod FirstNodes
-pub mod GraphTests
-pub mod HopTests
-pub mod ItemTests
+mod Deciders
+mod FirstNodes
+mod GraphTests
+mod HopTests
+mod ItemTests
 mod JoinedRouters
-pub mod LinkTests
-pub mod MetricTests
-pub mod NearTests
-pub mod NeighbourTests
-pub mod OutsideTests
-pub mod OwnTests
-pub mod Places
-pub mod RelayGraphTests
-pub mod RouteTests
-pub mod RouterStates
+mod LinkTests
+mod MetricTests
+mod NearTests
+mod NeighbourTests
+mod OutsideTests
+mod OwnTests
+mod Places
+mod RelayGraphTests
+mod RouteTests
+mod RouterStates
 mod RowDecisions
 mod SettledParts
-pub mod ShowTests
-pub mod TableTests
+mod ShowTests
+mod TableTests
 mod TopologyDecisions
-pub mod TwoHopTests
-pub mod ValueTests
-pub mod WayTests
+mod TwoHopTests
+mod ValueTests
+mod WayTests

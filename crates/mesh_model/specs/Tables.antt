@@ -1,19 +1,14 @@
 -- Tests of links and neighbours.
-use Rattle.std.specs.Prelude.{ℕ, Bool, ◌&&◌, not, nat_lt}
+use Rattle.std.specs.Prelude.{Bool, ◌&&◌}
 use Rattle.std.specs.List.{list_any}
 use Rattle.mesh_atoms.specs.declared.addr.Addr4.{Addr4}
-use Rattle.mesh_atoms.specs.declared.tuples.Link.{Link}
 use Rattle.mesh_atoms.specs.declared.tuples.Neighbour.{Neighbour}
-use Rattle.mesh_atoms.specs.Base.{Base, addr_eq}
+use Rattle.mesh_atoms.specs.Base.{Base}
 use Rattle.mesh_model.specs.Values.{contains}
 
 -- a symmetric neighbour that has the address
 abbrev pub is_neighbour_at : Neighbour → Addr4 → Bool
 is_neighbour_at n a = n.symmetric && contains n.addrs a
-
--- there is a symmetric neighbour with that originator that has the address
-abbrev pub is_neighbour_of : Base Addr4 Neighbour → Addr4 → Addr4 → Bool
-is_neighbour_of base a o = list_any (λ e. addr_eq e.0 o && is_neighbour_at e.1.0 a) base
 
 -- some symmetric neighbour has the address
 abbrev pub has_neighbour_at : Base Addr4 Neighbour → Addr4 → Bool

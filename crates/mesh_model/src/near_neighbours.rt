@@ -6,7 +6,7 @@ use crate::Router;
 use crate::hops::{is_answered, leads};
 use crate::own::{is_address_of, is_originator};
 use crate::shows::shows_routing;
-use crate::values::{are_within, is_metric};
+use crate::values::are_within;
 use mesh_atoms::{Addr4, Metric, Neighbour, RadioArc, RouterSettings, Willing};
 
 /// Whether the addresses are those of the router.

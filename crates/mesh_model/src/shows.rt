@@ -1,5 +1,5 @@
 //! What the HELLO of a router's interface shows of an address.
-ghost use Rattle.std.specs.Prelude.{◌≡◌, slice_get};
+ghost use Rattle.std.specs.Prelude.{◌≡◌};
 ghost use Rattle.mesh_model.specs.ShowTests.{items_of, addrs_of, is_lower, is_least, is_symmetric_to, shows_link, shows_symmetric, meets, is_flooding_link, shows_flooding, shows_routing, near_metric, link_metric, shows_near, has_near, shows_link_metric, has_link_metric, is_shown};
 
 use crate::Router;

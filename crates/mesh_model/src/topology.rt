@@ -11,7 +11,7 @@ use crate::rows::{Told, gives_tuple, sender};
 use crate::values::same_net;
 use mesh_atoms::{
     Addr4, AddressKey, AddressTuple, Attached4, Metric, Neighbour, NetworkKey, NetworkTuple,
-    RadioGraph, RouterKey, RouterSettings, RouterTuple, Scenario,
+    RadioGraph, RouterKey, RouterTuple, Scenario,
 };
 
 /// Whether the base has the tuple of that router.

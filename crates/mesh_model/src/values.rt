@@ -1,6 +1,6 @@
 //! Whether addresses, networks and metrics are the same.
 ghost use Rattle.std.specs.Prelude.{◌≡◌};
-ghost use Rattle.mesh_atoms.specs.Base.{addr_eq, net_eq};
+ghost use Rattle.mesh_atoms.specs.Base.{net_eq};
 ghost use Rattle.mesh_model.specs.Values.{contains, is_host, is_metric, is_cost, same_metrics, are_within, have_same};
 
 use mesh_atoms::{Addr4, Metric, NetAddr};
