@@ -1,4 +1,5 @@
-ghost use Rattle.std.specs.Prelude.{IfOk, ◌≡◌, ◌<◌, ◌≤◌, ◌^◌, length};
+//! Certificates of least walks, and both searches: on worked graphs, and on graphs that a generator makes.
+ghost use Rattle.std.specs.Prelude.{IfOk, ◌≡◌, ◌<◌, ◌^◌, length};
 ghost use Rattle.mesh_paths.specs.Paths.{HasCosts};
 
 use mesh_atoms::{Addr4, NetAddr, Seq};

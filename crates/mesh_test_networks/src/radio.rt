@@ -1,110 +1,27 @@
-ghost use Rattle.std.specs.Prelude.{◌≡◌, ◌+◌, ◌<◌, [], ◌∷◌, length, map, replicate, IfOk};
-ghost use Rattle.std.specs.List.{flat_map};
-ghost use Rattle.mesh_atoms.specs.Settings.{IsName, AreRouters, AreArcs, Ends};
+//! The radio graphs of worked networks of ten routers, which have two interfaces each.
+ghost use Rattle.std.specs.Prelude.{replicate};
+ghost use Rattle.mesh_atoms.specs.Settings.{AreArcs};
+ghost use Rattle.mesh_test_networks.specs.Scenarios.{ends_of};
 
-use mesh_atoms::{
-    Addr4, Bytes, DEFAULT_TIMES, Interface, Metric, Pair, RadioArc, RouterSettings, Scenario, Seq,
-    Willing,
-};
+use crate::builders::{Joint, arcs_of, doubles_of, metric_of, scenario_of};
+use mesh_atoms::{Addr4, Pair, Seq};
 use mesh_paths::radio_graph;
 use std::alloc::{AllocError, Global};
 use std::test::Fail;
 
-// From an interface of a router to one of another, at a cost.
-type Joint = (usize, usize, usize, usize, u16);
-
-// An interface of one address.
-fn interface(alloc: Global, name: &[u8], addr: u32) -> Result<Interface, AllocError>
-    requires named { IsName name.now }
-    requires addressed { 0 < addr }
-    ensures name { IfOk result (λ interface. interface.name ≡ name.now) }
-    ensures addrs { IfOk result (λ interface. interface.addrs ≡ record { 0 = addr } ∷ []) }
-{
-    Ok(Interface {
-        name: Bytes::from_vec(Vec::from_slice(alloc, name)?),
-        addrs: Seq::from_vec(Vec::from_slice(alloc, &[Addr4(addr)])?),
-        metric: Metric { code: 0 },
-        senders: Seq::new(alloc),
-    })
-}
-
-// One of ten routers, of two interfaces.
-fn router(alloc: Global, number: u8) -> Result<RouterSettings, AllocError>
-    requires { number < 10 }
-    ensures name { IfOk result (λ router. router.name ≡ (48 + number) ∷ []) }
-    ensures addrs { IfOk result (λ router. flat_map (λ i. i.addrs) router.interfaces ≡ record { 0 = 1 + number } ∷ (record { 0 = 11 + number } ∷ [])) }
-    ensures nets { IfOk result (λ router. router.attached ≡ []) }
-    ensures two { IfOk result (λ router. length router.interfaces ≡ 2) }
-{
-    let mut interfaces = Seq::new(alloc);
-    interfaces.push(interface(alloc, b"a", 1 + u32::from(number))?)?;
-    interfaces.push(interface(alloc, b"b", 11 + u32::from(number))?)?;
-    Ok(RouterSettings {
-        name: Bytes::from_vec(Vec::from_slice(alloc, &[b'0' + number])?),
-        willing: Willing {
-            flooding: 7,
-            routing: 7,
-        },
-        hello_at: 0,
-        tc_at: 0,
-        times: DEFAULT_TIMES,
-        interfaces,
-        attached: Seq::new(alloc),
-    })
-}
-
-// The ten routers.
-fn ten_routers(alloc: Global) -> Result<Seq<RouterSettings>, AllocError>
-    ensures sound { IfOk result (λ routers. AreRouters (map (λ r. r.name) routers) (flat_map (λ r. flat_map (λ i. i.addrs) r.interfaces) routers) (flat_map (λ r. map (λ a. a.net) r.attached) routers)) }
-    ensures two { IfOk result (λ routers. map (λ r. length r.interfaces) routers ≡ replicate 10 2) }
-{
-    let mut routers = Seq::new(alloc);
-    for number in 0..10 {
-        routers.push(router(alloc, number)?)?;
-    }
-    Ok(routers)
-}
-
-// The metric of a cost from 1 to 256.
-fn metric(cost: u16) -> Metric {
-    Metric {
-        code: cost.saturating_sub(1) % 256,
-    }
-}
-
-// The arcs of those ends.
-fn arcs_of(alloc: Global, ends: &[Joint]) -> Result<Seq<RadioArc>, AllocError>
-    ensures { IfOk result (λ arcs. map {B = Ends} (λ a. record { from = a.from; from_iface = a.from_iface; to = a.to; to_iface = a.to_iface }) arcs ≡ map {B = Ends} (λ e. record { from = e.0; from_iface = e.1; to = e.2; to_iface = e.3 }) ends.now) }
-{
-    let mut arcs = Seq::new(alloc);
-    for &(from, from_iface, to, to_iface, cost) in ends {
-        arcs.push(RadioArc {
-            from,
-            from_iface,
-            to,
-            to_iface,
-            metric: metric(cost),
-            loss: 0,
-            delay: 9,
-        })?;
-    }
-    Ok(arcs)
-}
-
-// The ten routers, with these arcs.
-fn scenario_of(alloc: Global, ends: &[Joint]) -> Result<Scenario, AllocError>
-    requires { AreArcs (replicate 10 2) (map {B = Ends} (λ e. record { from = e.0; from_iface = e.1; to = e.2; to_iface = e.3 }) ends.now) }
-{
-    let routers = ten_routers(alloc)?;
-    let arcs = arcs_of(alloc, ends)?;
-    Ok(Scenario {
-        end: 9,
-        seed: 0,
-        loss_until: None,
-        routers,
-        arcs,
-    })
-}
+// The ten routers, as name and addresses.
+const TEN: [(u8, Addr4, Addr4); 10] = [
+    (b'0', Addr4(1), Addr4(11)),
+    (b'1', Addr4(2), Addr4(12)),
+    (b'2', Addr4(3), Addr4(13)),
+    (b'3', Addr4(4), Addr4(14)),
+    (b'4', Addr4(5), Addr4(15)),
+    (b'5', Addr4(6), Addr4(16)),
+    (b'6', Addr4(7), Addr4(17)),
+    (b'7', Addr4(8), Addr4(18)),
+    (b'8', Addr4(9), Addr4(19)),
+    (b'9', Addr4(10), Addr4(20)),
+];
 
 // Whether the radio graph of these arcs has exactly these pairs, in that order, and these parts.
 fn has_graph(
@@ -113,9 +30,9 @@ fn has_graph(
     pairs: &[Joint],
     parts: &[usize],
 ) -> Result<bool, AllocError>
-    requires { AreArcs (replicate 10 2) (map {B = Ends} (λ e. record { from = e.0; from_iface = e.1; to = e.2; to_iface = e.3 }) ends.now) }
+    requires { AreArcs (replicate 10 2) (ends_of ends.now) }
 {
-    let scenario = scenario_of(alloc, ends)?;
+    let scenario = scenario_of(doubles_of(alloc, &TEN)?, arcs_of(alloc, ends)?);
     let graph = radio_graph(alloc, &scenario)?;
     let mut wanted = Seq::new(alloc);
     for &(from, from_iface, to, to_iface, cost) in pairs {
@@ -124,7 +41,7 @@ fn has_graph(
             from_iface,
             to,
             to_iface,
-            metric: metric(cost),
+            metric: metric_of(cost),
         })?;
     }
     Ok(graph.pairs.as_slice() == wanted.as_slice() && graph.parts.as_slice() == parts)

@@ -1,5 +1,5 @@
 //! Worked networks: each is settled, its routers have the routes that are written beside it, and with one thing changed in
-//! it the tests of this crate say no.
+//! it the tests of `mesh_model` say no.
 ghost use Rattle.mesh_atoms.specs.Radio.{IsRadioGraph};
 
 use crate::networks::changes::{Wrong, put_wrong};

@@ -1,6 +1,7 @@
 //! One thing changed in a router.
+use crate::builders::metric_of;
 use crate::networks::LATER;
-use crate::networks::scenarios::{BASE, metric_of};
+use crate::networks::scenarios::BASE;
 use mesh_atoms::{
     Addr4, Link, LinkKey, Neighbour, RouterKey, RouterTuple, Seq, TwoHop, TwoHopKey, Willing,
 };

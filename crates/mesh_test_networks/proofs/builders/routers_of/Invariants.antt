@@ -1,6 +1,6 @@
 use Rattle.std.proofs.Common.{◌≡◌, [], ◌∷◌, take, length, map, cond}
 use Rattle.std.specs.List.{flat_map}
-use Rattle.mesh_test_networks.proofs.networks.scenarios.routers_of.Given as goal
+use Rattle.mesh_test_networks.proofs.builders.routers_of.Given as goal
 
 abbrev pub invariant-loop-name : goal.invariant-loop-name
 invariant-loop-name l = record {
