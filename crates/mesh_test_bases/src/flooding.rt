@@ -3,9 +3,8 @@ ghost use Rattle.mesh_atoms.specs.declared.tuples.Base.TheVariants.{Received, Fo
 ghost use Rattle.mesh_atoms.specs.Base.{addr_eq, find, flood_eq};
 ghost use Rattle.mesh_flood.specs.Verdict.{key_of, has_no_hops, process_of, forward_by};
 
-use mesh_atoms::{
-    Addr4, Base, Bytes, DEFAULT_TIMES, Interface, Metric, RouterSettings, Seq, Times, Willing,
-};
+use crate::fixtures::{metric, two_interfaces};
+use mesh_atoms::{Addr4, Base, DEFAULT_TIMES, RouterSettings, Times};
 use mesh_expire::{Bases, NoBases, PlainBases};
 use mesh_flood::{Flood, Forward, Heading, Process, Verdict};
 use std::alloc::{AllocError, Global};
@@ -28,41 +27,13 @@ const APART: Times = Times {
     tc_hop_limit: 255,
 };
 
-fn text(alloc: Global, octets: &[u8]) -> Result<Bytes, AllocError>
-    ensures { IfOk result (λ bytes. bytes ≡ octets.now) }
-{
-    Ok(Bytes::from_vec(Vec::from_slice(alloc, octets)?))
-}
-
 // A router of two interfaces.
 fn settings(alloc: Global, times: Times) -> Result<RouterSettings, AllocError>
     ensures { IfOk result (λ settings. length settings.interfaces ≡ 2) }
 {
-    let mut interfaces = Seq::new(alloc);
-    interfaces.push(Interface {
-        name: text(alloc, b"w0")?,
-        addrs: Seq::from_vec(Vec::from_slice(alloc, &[OWN])?),
-        metric: Metric { code: 0 },
-        senders: Seq::new(alloc),
-    })?;
-    interfaces.push(Interface {
-        name: text(alloc, b"w1")?,
-        addrs: Seq::from_vec(Vec::from_slice(alloc, &[Addr4(0x0a00_0101)])?),
-        metric: Metric { code: 0 },
-        senders: Seq::new(alloc),
-    })?;
-    Ok(RouterSettings {
-        name: text(alloc, b"a")?,
-        willing: Willing {
-            flooding: 7,
-            routing: 7,
-        },
-        hello_at: 0,
-        tc_at: 0,
-        times,
-        interfaces,
-        attached: Seq::new(alloc),
-    })
+    let first = (OWN, metric(1));
+    let second = (Addr4(0x0a00_0101), metric(1));
+    two_interfaces(alloc, first, second, times)
 }
 
 // A message of another router.
@@ -230,22 +201,6 @@ fn each_answer_comes_in_its_order(rt: HostRuntime) -> Result<(), Fail> {
         Step::Hear(0, tc(1), None, true, Process::Do, Forward::NoSender),
     ];
     let settings = settings(rt.alloc(), APART)?;
-    let mut flood = Flood::<PlainBases>::new(rt.alloc(), &settings)?;
-    assert_eq!(rt; first_wrong(&mut flood, &steps)?, None);
-    Ok(())
-}
-
-#[test]
-fn tcs_of_one_originator(rt: HostRuntime) -> Result<(), Fail> {
-    let done = Process::Done { until: 245760 };
-    let steps = [
-        Step::Hear(0, tc(5), None, true, Process::Do, Forward::NoSender),
-        Step::Hear(0, tc(5), None, true, done, Forward::NoSender),
-        Step::Hear(0, tc(6), None, true, Process::Do, Forward::NoSender),
-        Step::Hear(0, tc(7), None, true, Process::Do, Forward::NoSender),
-        Step::Hear(0, tc(8), None, true, Process::Do, Forward::NoSender),
-    ];
-    let settings = settings(rt.alloc(), DEFAULT_TIMES)?;
     let mut flood = Flood::<PlainBases>::new(rt.alloc(), &settings)?;
     assert_eq!(rt; first_wrong(&mut flood, &steps)?, None);
     Ok(())

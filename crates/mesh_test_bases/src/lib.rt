@@ -2,6 +2,10 @@
 #![tactic(auto)]
 
 #[cfg(test)]
+mod exchange;
+#[cfg(test)]
+mod fixtures;
+#[cfg(test)]
 mod flooding;
 #[cfg(test)]
 mod links;
@@ -12,11 +16,15 @@ mod neighbourhood;
 #[cfg(test)]
 mod neighbours;
 #[cfg(test)]
+mod sequence;
+#[cfg(test)]
 mod settings;
 #[cfg(test)]
 mod table_callers;
 #[cfg(test)]
 mod tables;
+#[cfg(test)]
+mod tcs;
 #[cfg(test)]
 mod topology;
 #[cfg(test)]

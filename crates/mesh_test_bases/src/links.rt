@@ -2,7 +2,8 @@
 ghost use Rattle.std.specs.Prelude.{◌<◌, length, IfOk};
 ghost use Rattle.mesh_atoms.specs.Relays.{IsAscending};
 
-use mesh_atoms::{Addr4, Link, LinkKey, LinkStatus, Metric, Seq};
+use crate::fixtures::{cost, metric};
+use mesh_atoms::{Addr4, Link, LinkKey, LinkStatus, Seq};
 use mesh_expire::{Bases, NoBases, PlainBases, Table};
 use mesh_links::{LinkSet, Shown};
 use std::alloc::{AllocError, Global};
@@ -12,8 +13,8 @@ use std::test::Fail;
 const HOLD: u64 = 49152;
 
 /// What a HELLO shows of the link: the two addresses of the sending list, which is of the first alone where the second
-/// isn't greater; what it says; the metric of the sender, the one that is shown, and the selector flag; and for how many
-/// ticks it holds, at least one.
+/// isn't greater; what it says; the metric of the sender, the one that is shown, both by their costs, and the selector
+/// flag; and for how many ticks it holds, at least one.
 #[derive(Clone, Copy)]
 struct Told {
     first: u32,
@@ -25,14 +26,14 @@ struct Told {
     validity: u16,
 }
 
-/// What a link has, with its moment.
+/// What a link has, with its moment; its metrics by their costs.
 #[derive(Clone, Copy, Debug, PartialEq, Eq)]
 struct Has {
     heard: u64,
     sym: u64,
     until: u64,
-    link_in: u16,
-    link_out: Option<u16>,
+    link_in: u32,
+    link_out: Option<u32>,
     selector: bool,
 }
 
@@ -50,11 +51,6 @@ enum Call<'a> {
     SymmetricOf(u32, u32, Option<bool>),
     // the key; the link
     Link(u32, Option<Has>),
-}
-
-/// The metric of a code below 4096.
-fn metric(code: u16) -> Metric {
-    Metric { code: code % 4096 }
 }
 
 fn sending_of(alloc: Global, first: u32, second: u32) -> Result<Seq<Addr4>, AllocError>
@@ -91,8 +87,8 @@ fn link_of<T: Table<LinkKey, Link>>(set: &LinkSet<T>, key: u32) -> Option<Has> {
         heard: link.heard,
         sym: link.sym,
         until,
-        link_in: link.link_in.code,
-        link_out: link.link_out.map(|metric| metric.code),
+        link_in: link.link_in.value(),
+        link_out: cost(link.link_out),
         selector: link.selector,
     })
 }

@@ -1,7 +1,9 @@
 //! Worked neighbourhoods.
+use crate::fixtures::metric;
+use crate::near_callers::symmetric_neighbours;
 use crate::worked::{
     Counts, FIVE, LinkHas, NOTHING, NeighbourHas, ONE, ONE_LINK, ONE_LOST, OWN, OWN_TOO, Step,
-    THREE, TwoHopHas, WITH_TWO_HOP, first_wrong, hear, link, metric, other, start, this,
+    THREE, TwoHopHas, WITH_TWO_HOP, first_wrong, hear, link, other, start, this,
 };
 use mesh_atoms::{Addr4, Base, HelloRow, LinkStatus, Metrics, Relays, Seq};
 use mesh_expire::{NoBases, PlainBases};
@@ -101,6 +103,48 @@ fn a_neighbour_is_symmetric_and_lost(rt: HostRuntime) -> Result<(), Fail> {
         Step::Expire(49452),
         Step::Counts(ONE_LINK),
         Step::Status(0, ONE, 49452, Some(LinkStatus::Lost)),
+    ];
+    assert_eq!(rt; first_wrong(rt.alloc(), &steps)?, None);
+    Ok(())
+}
+
+#[test]
+fn a_lost_neighbour_is_symmetric_again(rt: HostRuntime) -> Result<(), Fail> {
+    let shown = [
+        this(ONE),
+        link(OWN, LinkStatus::Heard, 3),
+        link(THREE, LinkStatus::Symmetric, 5),
+    ];
+    let gone = [this(ONE), link(OWN, LinkStatus::Lost, 0)];
+    let again = LinkHas {
+        heard: 49552,
+        sym: 49552,
+        until: 98704,
+        link_in: 1,
+        link_out: Some(3),
+    };
+    let reached = TwoHopHas {
+        until: 49552,
+        metric_in: Some(5),
+        metric_out: None,
+    };
+    let close = NeighbourHas {
+        symmetric: true,
+        addrs: 1,
+        metric_in: Some(1),
+        metric_out: Some(3),
+    };
+    let steps = [
+        Step::Hear(200, 0, Some(ONE), &shown, HelloTaken::Done),
+        Step::Counts(WITH_TWO_HOP),
+        Step::Hear(300, 0, Some(ONE), &gone, HelloTaken::Done),
+        Step::Counts(ONE_LOST),
+        Step::Hear(400, 0, Some(ONE), &shown, HelloTaken::Done),
+        Step::Counts(WITH_TWO_HOP),
+        Step::Link(0, ONE, Some(again)),
+        Step::Status(0, ONE, 400, Some(LinkStatus::Symmetric)),
+        Step::TwoHop(0, ONE, THREE, Some(reached)),
+        Step::Neighbour(ONE, Some(close)),
     ];
     assert_eq!(rt; first_wrong(rt.alloc(), &steps)?, None);
     Ok(())
@@ -252,6 +296,32 @@ fn too_many_two_hop_tuples_are_told(rt: HostRuntime) -> Result<(), Fail> {
 }
 
 #[test]
+fn two_hop_tuples_fill_an_interface(rt: HostRuntime) -> Result<(), Fail> {
+    let alloc = rt.alloc();
+    let most = with_neighbours(alloc, ONE, 16384)?;
+    let one_more = [
+        link(OWN, LinkStatus::Heard, 3),
+        this(THREE),
+        link(0x0c00_0000, LinkStatus::Symmetric, 5),
+    ];
+    let full = HelloTaken::Full(Base::TwoHops);
+    let held = Counts {
+        two_hops: [16384, 0],
+        ..ONE_LINK
+    };
+    let steps = [
+        Step::Hear(100, 0, Some(ONE), most.as_slice(), HelloTaken::Done),
+        Step::Counts(held),
+        Step::Hear(200, 0, Some(THREE), &one_more, full),
+        Step::Counts(held),
+        Step::Link(0, THREE, None),
+        Step::Neighbour(THREE, None),
+    ];
+    assert_eq!(rt; first_wrong(alloc, &steps)?, None);
+    Ok(())
+}
+
+#[test]
 fn no_bases_answer_want_of_memory(rt: HostRuntime) -> Result<(), Fail> {
     let alloc = rt.alloc();
     let mut nhdp = start::<NoBases>(alloc)?;
@@ -270,6 +340,7 @@ fn a_hello_tells_of_a_symmetric_neighbour(rt: HostRuntime) -> Result<(), Fail> {
     ];
     let taken = hear(alloc, &mut nhdp, 200, 0, Some(Addr4(ONE)), &shown)?;
     assert_eq!(rt; taken, HelloTaken::Done);
+    assert_eq!(rt; symmetric_neighbours(&nhdp), 1);
     let relays = Relays {
         flooding: Seq::new(alloc),
         routing: Seq::new(alloc),

@@ -1,22 +1,10 @@
 //! The settings of a router and of a network.
+use crate::fixtures::{list_of, text};
 use mesh_atoms::{
-    Addr4, Attached4, Bytes, DEFAULT_TIMES, Interface, Metric, NetAddr, RouterSettings, Scenario,
-    Seq, Willing,
+    Addr4, Attached4, DEFAULT_TIMES, Interface, Metric, NetAddr, RouterSettings, Scenario, Seq,
+    Willing,
 };
-use std::alloc::{AllocError, Global};
 use std::test::Fail;
-
-fn list_of<T: Copy>(alloc: Global, items: &[T]) -> Result<Seq<T>, AllocError>
-    ensures { IfOk result (λ list. list ≡ items.now) }
-{
-    Ok(Seq::from_vec(Vec::from_slice(alloc, items)?))
-}
-
-fn text(alloc: Global, octets: &[u8]) -> Result<Bytes, AllocError>
-    ensures { IfOk result (λ bytes. bytes ≡ octets.now) }
-{
-    Ok(Bytes::from_vec(Vec::from_slice(alloc, octets)?))
-}
 
 #[test]
 fn settings_are_built_and_copied(rt: HostRuntime) -> Result<(), Fail> {

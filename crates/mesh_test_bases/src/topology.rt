@@ -1,35 +1,10 @@
-ghost use Rattle.std.specs.Prelude.{◌≡◌, ◌≤◌, All, true};
-ghost use Rattle.mesh_topo.specs.Tuples.{IsHost};
-
-use mesh_atoms::{Addr4, Attached4, Base, Metric, NetAddr, RouterKey, Seq, Tc, TcRow};
+use crate::fixtures::list_of;
+use crate::tcs::{net, plain, router, take, tc_from};
+use mesh_atoms::{Addr4, Attached4, Base, Metric, NetAddr, RouterKey, Tc, TcRow};
 use mesh_expire::{Bases, NoBases, PlainBases, Table};
 use mesh_topo::{Selector, TcTaken, Topology, tc_rows};
 use std::alloc::{AllocError, Global};
 use std::test::Fail;
-
-const VALIDITY: u64 = 122880;
-
-fn net(addr: u32, prefix: u8) -> NetAddr
-    requires { prefix ≤ 32 }
-{
-    NetAddr::of(Addr4(addr), prefix)
-}
-
-fn plain(addr: u32) -> TcRow {
-    TcRow {
-        dest: net(addr, 32),
-        origin: false,
-        routable: false,
-        gateway: None,
-        metric: Metric::of_code(1),
-    }
-}
-
-fn router(addr: u32) -> TcRow {
-    let mut row = plain(addr);
-    row.origin = true;
-    row
-}
 
 fn address(addr: u32) -> TcRow {
     let mut row = plain(addr);
@@ -47,62 +22,6 @@ fn bare(row: TcRow) -> TcRow {
     let mut row = row;
     row.metric = None;
     row
-}
-
-// A TC of one originator, of so many equal rows.
-fn tc_from(
-    alloc: Global,
-    ansn: u16,
-    complete: bool,
-    row: &TcRow,
-    count: usize,
-) -> Result<Tc, AllocError> {
-    let mut rows = Seq::new(alloc);
-    for _ in 0..count {
-        rows.push(*row)?;
-    }
-    Ok(Tc {
-        originator: Addr4(1),
-        sequence: 1,
-        ansn,
-        complete,
-        validity: VALIDITY,
-        interval: None,
-        rows,
-    })
-}
-
-// Whether a row of an originator or of a routable address is of a single address.
-fn is_host(row: &TcRow) -> bool
-    ensures { result ≡ true → IsHost row.now }
-{
-    if row.origin || row.routable {
-        row.dest.prefix == 32
-    } else {
-        true
-    }
-}
-
-fn are_hosts(rows: &[TcRow]) -> bool
-    ensures { result ≡ true → All IsHost rows.now }
-{
-    for row in rows {
-        if !is_host(row) {
-            return false;
-        }
-    }
-    true
-}
-
-// What comes of a TC that may be taken.
-fn take<B: Bases>(topology: &mut Topology<B>, tc: &Tc) -> Result<Option<TcTaken>, AllocError> {
-    if tc.validity > VALIDITY {
-        return Ok(None);
-    }
-    if !are_hosts(tc.rows.as_slice()) {
-        return Ok(None);
-    }
-    Ok(Some(topology.take_tc(0, tc)?))
 }
 
 // What came of a TC, how many tuples there are then (advertisers, routers, addresses, networks), and the number of the
@@ -149,9 +68,6 @@ fn outcomes<B: Bases>(
 #[test]
 fn tcs_are_taken_in_turn(rt: HostRuntime) -> Result<(), Fail> {
     let heard = [
-        (65535, true, router(1)),
-        (65534, true, router(2)),
-        (0, true, router(3)),
         (32768, true, router(4)),
         // an incomplete one leaves older tuples
         (32769, false, router(5)),
@@ -161,9 +77,6 @@ fn tcs_are_taken_in_turn(rt: HostRuntime) -> Result<(), Fail> {
         (32771, true, bare(router(7))),
     ];
     let wanted = [
-        (Some(TcTaken::Done), (1, 1, 0, 0), Some(65535)),
-        (Some(TcTaken::Old { kept: 65535 }), (1, 1, 0, 0), None),
-        (Some(TcTaken::Done), (1, 1, 0, 0), Some(0)),
         (Some(TcTaken::Done), (1, 1, 0, 0), Some(32768)),
         (Some(TcTaken::Done), (1, 2, 0, 0), Some(32769)),
         (Some(TcTaken::Done), (1, 2, 1, 0), Some(32769)),
@@ -218,7 +131,7 @@ fn selector(
 ) -> Result<Selector, AllocError> {
     Ok(Selector {
         originator: Addr4(originator),
-        addrs: Seq::from_vec(Vec::from_slice(alloc, addrs)?),
+        addrs: list_of(alloc, addrs)?,
         metric,
     })
 }

@@ -2,9 +2,10 @@
 ghost use Rattle.std.specs.Prelude.{◌≡◌, ◌<◌, ◌^◌, ℕ, length, IfOk, OnOk};
 ghost use Rattle.mesh_atoms.specs.Sound.{SoundNeighbourhood};
 
+use crate::fixtures::{cost, list_of, metric, two_interfaces};
 use mesh_atoms::{
-    Addr4, Bytes, DEFAULT_TIMES, Hello, HelloRow, Interface, Link, LinkStatus, LocalIf, Metric,
-    Metrics, Mpr, NetAddr, RouterSettings, Seq, Willing,
+    Addr4, DEFAULT_TIMES, Hello, HelloRow, Link, LinkStatus, LocalIf, Metrics, Mpr, NetAddr,
+    Relays, Seq, Willing,
 };
 use mesh_expire::{Bases, PlainBases};
 use mesh_nbrs::Near4;
@@ -21,57 +22,16 @@ pub(crate) const THREE: u32 = 0x0a00_0003;
 
 pub(crate) const FIVE: u32 = 0x0a00_0005;
 
-/// The metric of a cost from 1 to 256.
-pub(crate) fn metric(cost: u16) -> Metric {
-    Metric {
-        code: cost.saturating_sub(1) % 256,
-    }
-}
-
-pub(crate) fn cost(metric: Option<Metric>) -> Option<u32> {
-    match metric {
-        Some(metric) => Some(metric.value()),
-        None => None,
-    }
-}
-
-/// A router of two interfaces, whose in-metrics are 1 and 4, with the default times (RFC 7181, section 5.4).
-pub(crate) fn settings(alloc: Global) -> Result<RouterSettings, AllocError>
-    ensures { IfOk result (λ settings. length settings.interfaces ≡ 2) }
-{
-    let mut interfaces = Seq::new(alloc);
-    interfaces.push(Interface {
-        name: Bytes::from_vec(Vec::from_slice(alloc, b"w0")?),
-        addrs: Seq::from_vec(Vec::from_slice(alloc, &[Addr4(OWN)])?),
-        metric: Metric { code: 0 },
-        senders: Seq::new(alloc),
-    })?;
-    interfaces.push(Interface {
-        name: Bytes::from_vec(Vec::from_slice(alloc, b"w1")?),
-        addrs: Seq::from_vec(Vec::from_slice(alloc, &[Addr4(OWN_TOO)])?),
-        metric: Metric { code: 3 },
-        senders: Seq::new(alloc),
-    })?;
-    Ok(RouterSettings {
-        name: Bytes::from_vec(Vec::from_slice(alloc, b"b")?),
-        willing: Willing {
-            flooding: 7,
-            routing: 7,
-        },
-        hello_at: 0,
-        tc_at: 0,
-        times: DEFAULT_TIMES,
-        interfaces,
-        attached: Seq::new(alloc),
-    })
-}
-
-/// The empty neighbourhood of that router.
+/// The empty neighbourhood of a router of two interfaces, whose in-metrics are 1 and 4, with the default times (RFC 7181,
+/// section 5.4).
 pub(crate) fn start<B: Bases>(alloc: Global) -> Result<Nhdp<B>, AllocError>
     ensures two { IfOk result (λ nhdp. length nhdp.settings.interfaces ≡ 2) }
     ensures sound { IfOk result (λ nhdp. SoundNeighbourhood nhdp.settings 0 nhdp.near) }
 {
-    let nhdp = Nhdp::new(alloc, &settings(alloc)?)?;
+    let first = (Addr4(OWN), metric(1));
+    let second = (Addr4(OWN_TOO), metric(4));
+    let settings = two_interfaces(alloc, first, second, DEFAULT_TIMES)?;
+    let nhdp = Nhdp::new(alloc, &settings)?;
     Ok(nhdp)
 }
 
@@ -129,7 +89,7 @@ pub(crate) fn hello_of(
             flooding: 7,
             routing: 7,
         },
-        rows: Seq::from_vec(Vec::from_slice(alloc, rows)?),
+        rows: list_of(alloc, rows)?,
     })
 }
 
@@ -151,6 +111,44 @@ pub(crate) fn hear<B: Bases>(
     let now = u64::from(now);
     nhdp.expire(now)?;
     nhdp.take_hello(now, iface, originator.unwrap_or(Addr4(ONE)), &hello)
+}
+
+/// Empty lists of relays, one for flooding on each of so many interfaces.
+pub(crate) fn no_relays(alloc: Global, interfaces: usize) -> Result<Relays, AllocError> {
+    let mut flooding = Seq::new(alloc);
+    for _ in 0..interfaces {
+        flooding.push(Seq::new(alloc))?;
+    }
+    Ok(Relays {
+        flooding,
+        routing: Seq::new(alloc),
+    })
+}
+
+/// Expires at that moment, and then gives the HELLO of the first interface of a router that has chosen no relays.
+pub(crate) fn tell<B: Bases>(
+    alloc: Global,
+    nhdp: &mut Nhdp<B>,
+    now: u32,
+) -> Result<Hello, AllocError>
+    requires iface { 0 < length nhdp.old.settings.interfaces }
+    requires sound { (moment : ℕ) × SoundNeighbourhood nhdp.old.settings moment nhdp.old.near }
+    ensures sound { OnOk result (SoundNeighbourhood nhdp.new.settings now nhdp.new.near) }
+    ensures settings { nhdp.new.settings ≡ nhdp.old.settings }
+{
+    let now = u64::from(now);
+    nhdp.expire(now)?;
+    let relays = no_relays(alloc, nhdp.settings().interfaces.len())?;
+    nhdp.hello_now(alloc, 0, now, &relays)
+}
+
+pub(crate) fn row_of(hello: &Hello, addr: u32) -> Option<HelloRow> {
+    for row in hello.rows.as_slice() {
+        if row.addr.addr == Addr4(addr) {
+            return Some(*row);
+        }
+    }
+    None
 }
 
 /// What a link has, with its moment; its metrics by their costs.
@@ -284,6 +282,8 @@ pub(crate) enum Step<'a> {
     Hear(u32, usize, Option<u32>, &'a [HelloRow], HelloTaken),
     // the moment
     Expire(u32),
+    // moment, address; its row in the first interface's HELLO
+    Row(u32, u32, Option<HelloRow>),
     // interface and least address; the link
     Link(usize, u32, Option<LinkHas>),
     // interface, least address and moment; the link's status
@@ -301,19 +301,21 @@ pub(crate) fn is_right(
     nhdp: &mut Nhdp<PlainBases>,
     step: &Step,
 ) -> Result<bool, AllocError>
-    requires two { length nhdp.old.settings.interfaces ≡ 2 }
+    requires some { 0 < length nhdp.old.settings.interfaces }
     requires sound { (moment : ℕ) × SoundNeighbourhood nhdp.old.settings moment nhdp.old.near }
     ensures sound { OnOk result ((moment : ℕ) × SoundNeighbourhood nhdp.new.settings moment nhdp.new.near) }
     ensures settings { nhdp.new.settings ≡ nhdp.old.settings }
 {
     Ok(match *step {
         Step::Hear(now, iface, originator, rows, want) => {
-            hear(alloc, nhdp, now, iface % 2, originator.map(Addr4), rows)? == want
+            let iface = iface % nhdp.settings().interfaces.len();
+            hear(alloc, nhdp, now, iface, originator.map(Addr4), rows)? == want
         }
         Step::Expire(now) => {
             nhdp.expire(u64::from(now))?;
             true
         }
+        Step::Row(now, addr, want) => row_of(&tell(alloc, nhdp, now)?, addr) == want,
         Step::Link(iface, addr, want) => link_of(nhdp, iface, addr) == want,
         Step::Status(iface, addr, now, want) => status_of(nhdp, iface, addr, now) == want,
         Step::TwoHop(iface, link, addr, want) => two_hop_of(nhdp, iface, link, addr) == want,
