@@ -2,7 +2,7 @@
 ghost use Rattle.std.specs.Prelude.{◌≡◌, ◌+◌, ◌<◌, ◌↔◌, [], length, IfOk, OnOk, IsTrue};
 ghost use Rattle.mesh_atoms.specs.Base.{Base, HasDistinctKeys, find, addr_eq};
 ghost use Rattle.mesh_atoms.specs.Relays.{IsAscending};
-ghost use Rattle.mesh_atoms.specs.AfterHello.{Matches, Meets, announced};
+ghost use Rattle.mesh_atoms.specs.AfterHello.{Matches, announced};
 ghost use Rattle.mesh_expire.specs.Table.{changed_at};
 ghost use Rattle.mesh_nbrs.specs.Neighbours.{Replaces, RestoresBy, HasNoNote, HasSummary, by_summary};
 

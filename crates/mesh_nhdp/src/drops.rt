@@ -1,6 +1,6 @@
 //! The end of 2-hop tuples whose link isn't SYMMETRIC.
 ghost use Rattle.std.specs.Prelude.{◌≡◌, ◌&&◌, not, cond, None};
-ghost use Rattle.mesh_atoms.specs.Base.{HasDistinctKeys, find, link_eq, two_hop_eq};
+ghost use Rattle.mesh_atoms.specs.Base.{find, link_eq, two_hop_eq};
 ghost use Rattle.mesh_nhdp.specs.Calls.{is_symmetric_in, DropsEnded};
 
 use mesh_atoms::{Link, LinkKey, TwoHop, TwoHopKey};

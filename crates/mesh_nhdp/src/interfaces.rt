@@ -1,7 +1,6 @@
 //! What expiry and a HELLO make of the links and the 2-hop tuples, interface by interface.
-ghost use Rattle.std.specs.Prelude.{◌≡◌, ◌<◌, ◌^◌, ℕ, Bool, true, false, nat_eq, Some, length, slice_get, IfOk, OnOk};
+ghost use Rattle.std.specs.Prelude.{◌≡◌, ◌<◌, ℕ, true, false, nat_eq, Some, length, slice_get, IfOk, OnOk};
 ghost use Rattle.mesh_atoms.specs.Base.{Base, HasDistinctKeys, base_of, link_eq};
-ghost use Rattle.mesh_atoms.specs.Relays.{IsAscending};
 ghost use Rattle.mesh_atoms.specs.declared.tuples.LinkKey.{LinkKey};
 ghost use Rattle.mesh_atoms.specs.declared.tuples.Link.{Link};
 ghost use Rattle.mesh_atoms.specs.declared.tuples.TwoHopKey.{TwoHopKey};

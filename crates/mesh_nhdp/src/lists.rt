@@ -1,5 +1,5 @@
 //! Lists of addresses, and the keys of tables.
-ghost use Rattle.std.specs.Prelude.{◌≡◌, ◌↔◌, ◌⊎◌, Contains, IsTrue, IfOk, OnOk};
+ghost use Rattle.std.specs.Prelude.{◌≡◌, ◌↔◌, Contains, IfOk};
 ghost use Rattle.std.specs.Map.{keys_of};
 ghost use Rattle.mesh_atoms.specs.Relays.{IsAscending};
 

@@ -1,6 +1,5 @@
 //! What neighbours are to know of the links of all interfaces.
-ghost use Rattle.std.specs.Prelude.{◌≡◌, ◌↔◌, ℕ, Contains, IfOk, OnOk, Some};
-ghost use Rattle.mesh_atoms.specs.Base.{find, link_eq};
+ghost use Rattle.std.specs.Prelude.{◌≡◌, IfOk, OnOk, Some};
 ghost use Rattle.mesh_nhdp.specs.Calls.{note_of, IsNoteIn, TellsLinks};
 ghost use Rattle.mesh_nhdp.specs.Gathers.{Adds};
 

@@ -1,10 +1,9 @@
 //! Which HELLOs their receiver refuses.
-ghost use Rattle.std.specs.Prelude.{◌≡◌, ◌≢◌, ◌↔◌, IsTrue, IfSome, IfNone, Contains, Any, Some, None};
-ghost use Rattle.mesh_atoms.specs.Base.{host};
+ghost use Rattle.std.specs.Prelude.{◌≢◌, ◌↔◌, IsTrue, IfSome, IfNone, Contains, Any, Some, None};
 ghost use Rattle.mesh_atoms.specs.Hello.{IsValue};
 ghost use Rattle.mesh_atoms.specs.HelloTold.{ShowsLocal};
 ghost use Rattle.mesh_atoms.specs.State.{HasAddress};
-ghost use Rattle.mesh_atoms.specs.TakesHello.{IsOwn, IsNameless, IsFault};
+ghost use Rattle.mesh_atoms.specs.TakesHello.{IsNameless, IsFault};
 ghost use Rattle.mesh_nhdp.specs.Receive.{IsLocalRow, IsLocalWith, HasOriginatorOf, IsBareSender, NamesAsSender};
 
 use mesh_atoms::{Addr4, Hello, HelloRow, LocalIf, contains};

@@ -1,6 +1,5 @@
 //! The HELLO that a router sends.
 ghost use Rattle.std.specs.Prelude.{◌≡◌, ◌<◌, ◌≤◌, length, IfOk, Some};
-ghost use Rattle.std.specs.Option.{option_copied};
 ghost use Rattle.mesh_atoms.specs.Hello.{IsHelloNow, IsRoundedUp};
 ghost use Rattle.mesh_atoms.specs.Settings.{one_hour};
 ghost use Rattle.mesh_atoms.specs.Sound.{SoundNeighbourhood};

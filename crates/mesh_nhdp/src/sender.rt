@@ -1,5 +1,5 @@
 //! The addresses that a HELLO shows as its sender's (RFC 6130, section 12.2).
-ghost use Rattle.std.specs.Prelude.{◌≡◌, ◌↔◌, ◌⊎◌, Some, Contains, IsTrue, IfOk, OnOk};
+ghost use Rattle.std.specs.Prelude.{◌≡◌, ◌↔◌, Some, Contains, IsTrue, IfOk, OnOk};
 ghost use Rattle.mesh_atoms.specs.HelloTold.{ShowsLocal, IsSending, IsListed, Lists};
 ghost use Rattle.mesh_nhdp.specs.Gathers.{Adds};
 ghost use Rattle.mesh_nhdp.specs.Sender.{IsLocalAddress, IsOrSender};

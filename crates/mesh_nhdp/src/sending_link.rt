@@ -1,6 +1,6 @@
 //! The 2-hop tuples of the link that a HELLO came over.
 ghost use Rattle.std.specs.Prelude.{◌≡◌, ◌↔◌, ℕ, Contains, Some, IsTrue, true, false, OnOk};
-ghost use Rattle.mesh_atoms.specs.Base.{find, link_eq, HasDistinctKeys, two_hop_eq};
+ghost use Rattle.mesh_atoms.specs.Base.{find, link_eq};
 ghost use Rattle.mesh_atoms.specs.State.{HasAddress};
 ghost use Rattle.mesh_atoms.specs.HelloTold.{Told};
 ghost use Rattle.mesh_atoms.specs.declared.tuples.Link.{Link};

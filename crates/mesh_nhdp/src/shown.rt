@@ -1,10 +1,10 @@
 //! What a HELLO shows of an address.
-ghost use Rattle.std.specs.Prelude.{◌≡◌, ◌≢◌, ◌↔◌, ◌<◌, ℕ, List, IsTrue, IsSome, Contains, Option, Some, None, length, is_some, IfSome, IfNone};
-ghost use Rattle.mesh_atoms.specs.Base.{host, addr_eq, find};
-ghost use Rattle.mesh_atoms.specs.Hello.{IsValue, IsHelloRow, local_part};
-ghost use Rattle.mesh_atoms.specs.State.{State, HasAddressOn, state_of};
+ghost use Rattle.std.specs.Prelude.{◌≡◌, ◌↔◌, ◌<◌, IsTrue, Option, Some, None};
+ghost use Rattle.mesh_atoms.specs.Base.{host};
+ghost use Rattle.mesh_atoms.specs.Hello.{IsValue};
+ghost use Rattle.mesh_atoms.specs.State.{HasAddressOn, state_of};
 ghost use Rattle.mesh_expire.specs.Table.{entry_of};
-ghost use Rattle.mesh_nhdp.specs.Shown.{IsLinkWith, IsNeighbourWith, AreApart, IsSeen, status_by, status_shown, other_shown, link_in_shown, link_out_shown, near_in_shown, near_out_shown, IsRelayOf, IsFloodingRelay, IsLocalOn, told_addresses};
+ghost use Rattle.mesh_nhdp.specs.Shown.{IsLinkWith, IsNeighbourWith, status_by, status_shown, other_shown, link_in_shown, link_out_shown, near_in_shown, near_out_shown, IsRelayOf, IsFloodingRelay, IsLocalOn};
 
 use mesh_atoms::{
     Addr4, HelloRow, Link, LinkKey, LinkStatus, LocalIf, Lost, Metric, Metrics, Mpr, Neighbour,

@@ -1,5 +1,5 @@
 //! The taking of a HELLO.
-ghost use Rattle.std.specs.Prelude.{◌≡◌, ◌<◌, ◌^◌, ◌↔◌, ℕ, Contains, None, length, IfOk, OnOk};
+ghost use Rattle.std.specs.Prelude.{◌≡◌, ◌<◌, ◌^◌, ◌↔◌, Contains, None, length, IfOk, OnOk};
 ghost use Rattle.mesh_atoms.specs.HelloTold.{Tells};
 ghost use Rattle.mesh_atoms.specs.State.{HasAddress};
 ghost use Rattle.mesh_atoms.specs.AfterHello.{AfterHello};

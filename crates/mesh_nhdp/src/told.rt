@@ -1,5 +1,5 @@
 //! Of which addresses a HELLO says something.
-ghost use Rattle.std.specs.Prelude.{◌≡◌, ◌++◌, ◌↔◌, [], cond, Contains, IfOk, OnOk};
+ghost use Rattle.std.specs.Prelude.{◌≡◌, ◌++◌, ◌↔◌, [], Contains, IfOk, OnOk};
 ghost use Rattle.std.specs.List.{flat_map};
 ghost use Rattle.mesh_atoms.specs.Relays.{IsAscending};
 ghost use Rattle.mesh_nhdp.specs.Shown.{linked_addresses, symmetric_addresses, told_addresses};

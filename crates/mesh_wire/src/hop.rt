@@ -1,6 +1,5 @@
 //! A message that is forwarded as it came, but for its hop limit and hop count.
 ghost use Rattle.std.specs.Prelude.{◌≡◌, ◌≤◌, ◌+◌, ℕ, length, slice_get, slice_index, IsTrue};
-ghost use Rattle.mesh_atoms.specs.Reading.{has};
 ghost use Rattle.mesh_packet.specs.Fields.{MessageFields};
 ghost use Rattle.mesh_packet.specs.Grammar.{SpellsMessage};
 ghost use Rattle.mesh_wire.specs.Rehop.{HasHop, IsElsewhere, CanHop, one_hop_on, limit_place, count_place, flags_of, has_count, hopped};
