@@ -27,7 +27,12 @@ fn is_own(settings: &RouterSettings, node: NetAddr) -> bool
 fn has_host(addrs: &[Addr4], node: NetAddr) -> bool
     ensures { result ≡ has_host addrs.now node }
 {
-    addrs.iter().any(|addr| is_host(node, *addr))
+    for addr in addrs {
+        if is_host(node, *addr) {
+            return true;
+        }
+    }
+    false
 }
 
 // Whether the arc ends at an address of the symmetric neighbour, at its metric.
@@ -43,9 +48,12 @@ fn is_to_neighbour(neighbour: &Neighbour, arc: Arc4) -> bool
 fn is_to_neighbours(neighbours: &[(Addr4, (Neighbour, u64))], arc: Arc4) -> bool
     ensures { result ≡ is_to_neighbours neighbours.now arc }
 {
-    neighbours
-        .iter()
-        .any(|entry| is_to_neighbour(&entry.1.0, arc))
+    for entry in neighbours {
+        if is_to_neighbour(&entry.1.0, arc) {
+            return true;
+        }
+    }
+    false
 }
 
 // Whether the arc leads from the router itself to a neighbour.
@@ -66,7 +74,12 @@ fn is_willing_at(neighbour: &Neighbour, addr: Addr4) -> bool
 fn is_from_willing(neighbours: &[(Addr4, (Neighbour, u64))], addr: Addr4, node: NetAddr) -> bool
     ensures { result ≡ is_from_willing neighbours.now addr node }
 {
-    neighbours.iter().any(|entry| is_host(node, entry.0) && is_willing_at(&entry.1.0, addr))
+    for entry in neighbours {
+        if is_host(node, entry.0) && is_willing_at(&entry.1.0, addr) {
+            return true;
+        }
+    }
+    false
 }
 
 // Whether the arc is that of a 2-hop tuple of the base.
@@ -77,9 +90,15 @@ fn is_to_two_hop(
 ) -> bool
     ensures { result ≡ is_to_two_hop neighbours.now two_hops.now arc }
 {
-    two_hops.iter().any(|entry| is_host(arc.to, entry.0.addr)
-        && is_cost(entry.1.0.metric_out, u64::from(arc.metric))
-        && is_from_willing(neighbours, entry.0.link.addr, arc.from))
+    for entry in two_hops {
+        if is_host(arc.to, entry.0.addr)
+            && is_cost(entry.1.0.metric_out, u64::from(arc.metric))
+            && is_from_willing(neighbours, entry.0.link.addr, arc.from)
+        {
+            return true;
+        }
+    }
+    false
 }
 
 // Whether the arc is that of a 2-hop tuple of some interface.
@@ -87,38 +106,57 @@ fn is_by_two_hops(router: &Router, arc: Arc4) -> bool
     ensures { result ≡ is_by_two_hops router.now arc }
 {
     let neighbours = router.neighbours.as_slice();
-    router
-        .two_hops
-        .as_slice()
-        .iter()
-        .any(|base| is_to_two_hop(neighbours, base.as_slice(), arc))
+    for base in router.two_hops.as_slice() {
+        if is_to_two_hop(neighbours, base.as_slice(), arc) {
+            return true;
+        }
+    }
+    false
 }
 
 // Whether the arc is that of a router topology tuple.
 fn is_by_routers(routers: &[(RouterKey, (RouterTuple, u64))], arc: Arc4) -> bool
     ensures { result ≡ is_by_routers routers.now arc }
 {
-    routers.iter().any(|entry| is_host(arc.from, entry.0.from)
-        && is_host(arc.to, entry.0.to)
-        && entry.1.0.metric.value() == arc.metric)
+    for entry in routers {
+        if is_host(arc.from, entry.0.from)
+            && is_host(arc.to, entry.0.to)
+            && entry.1.0.metric.value() == arc.metric
+        {
+            return true;
+        }
+    }
+    false
 }
 
 // Whether the arc is that of a routable address topology tuple.
 fn is_by_addresses(addresses: &[(AddressKey, (AddressTuple, u64))], arc: Arc4) -> bool
     ensures { result ≡ is_by_addresses addresses.now arc }
 {
-    addresses.iter().any(|entry| is_host(arc.from, entry.0.from)
-        && is_host(arc.to, entry.0.addr)
-        && entry.1.0.metric.value() == arc.metric)
+    for entry in addresses {
+        if is_host(arc.from, entry.0.from)
+            && is_host(arc.to, entry.0.addr)
+            && entry.1.0.metric.value() == arc.metric
+        {
+            return true;
+        }
+    }
+    false
 }
 
 // Whether the arc is that of an attached network tuple.
 fn is_by_networks(networks: &[(NetworkKey, (NetworkTuple, u64))], arc: Arc4) -> bool
     ensures { result ≡ is_by_networks networks.now arc }
 {
-    networks.iter().any(|entry| is_host(arc.from, entry.0.from)
-        && same_net(arc.to, entry.0.net)
-        && entry.1.0.metric.value() == arc.metric)
+    for entry in networks {
+        if is_host(arc.from, entry.0.from)
+            && same_net(arc.to, entry.0.net)
+            && entry.1.0.metric.value() == arc.metric
+        {
+            return true;
+        }
+    }
+    false
 }
 
 // Whether the arc is one of the router's own graph.
@@ -136,25 +174,36 @@ fn is_route_arc(router: &Router, arc: Arc4) -> bool
 fn are_route_arcs(router: &Router, arcs: &[Arc4]) -> bool
     ensures { result ≡ are_route_arcs router.now arcs.now }
 {
-    arcs.iter().all(|arc| is_route_arc(router, *arc))
+    for arc in arcs {
+        if !is_route_arc(router, *arc) {
+            return false;
+        }
+    }
+    true
 }
 
 // Whether the list has an arc between the addresses at that metric's cost.
 fn has_host_arc(arcs: &[Arc4], from: Addr4, to: Addr4, metric: Metric) -> bool
     ensures { result ≡ has_host_arc arcs.now from to metric }
 {
-    arcs.iter().any(|arc| is_host(arc.from, from)
-        && is_host(arc.to, to)
-        && metric.value() == arc.metric)
+    for arc in arcs {
+        if is_host(arc.from, from) && is_host(arc.to, to) && metric.value() == arc.metric {
+            return true;
+        }
+    }
+    false
 }
 
 // Whether the list has an arc from the address to the network at that metric's cost.
 fn has_net_arc(arcs: &[Arc4], from: Addr4, to: NetAddr, metric: Metric) -> bool
     ensures { result ≡ has_net_arc arcs.now from to metric }
 {
-    arcs.iter().any(|arc| is_host(arc.from, from)
-        && same_net(arc.to, to)
-        && metric.value() == arc.metric)
+    for arc in arcs {
+        if is_host(arc.from, from) && same_net(arc.to, to) && metric.value() == arc.metric {
+            return true;
+        }
+    }
+    false
 }
 
 // Whether the list has an arc between the addresses at that metric, if it is known.
@@ -184,8 +233,14 @@ fn has_arcs_to_neighbours(
 ) -> bool
     ensures { result ≡ has_arcs_to_neighbours arcs.now from neighbours.now }
 {
-    neighbours.iter().all(|entry| !entry.1.0.symmetric
-        || has_arcs_to_all(arcs, from, entry.1.0.addrs.as_slice(), entry.1.0.metric_out))
+    for entry in neighbours {
+        if entry.1.0.symmetric
+            && !has_arcs_to_all(arcs, from, entry.1.0.addrs.as_slice(), entry.1.0.metric_out)
+        {
+            return false;
+        }
+    }
+    true
 }
 
 // Whether the list has each arc from the router itself to a neighbour.
@@ -207,10 +262,14 @@ fn has_arcs_to_two_hop(
 ) -> bool
     ensures { result ≡ has_arcs_to_two_hop arcs.now neighbours.now key two_hop }
 {
-    neighbours.iter().all(|entry| {
-        !is_willing_at(&entry.1.0, key.link.addr)
-            || has_known_arc(arcs, entry.0, key.addr, two_hop.metric_out)
-    })
+    for entry in neighbours {
+        if is_willing_at(&entry.1.0, key.link.addr)
+            && !has_known_arc(arcs, entry.0, key.addr, two_hop.metric_out)
+        {
+            return false;
+        }
+    }
+    true
 }
 
 // Whether the list has each arc of the 2-hop tuples of the base.
@@ -221,7 +280,12 @@ fn has_arcs_of_two_hops(
 ) -> bool
     ensures { result ≡ has_arcs_of_two_hops arcs.now neighbours.now two_hops.now }
 {
-    two_hops.iter().all(|entry| has_arcs_to_two_hop(arcs, neighbours, entry.0, entry.1.0))
+    for entry in two_hops {
+        if !has_arcs_to_two_hop(arcs, neighbours, entry.0, entry.1.0) {
+            return false;
+        }
+    }
+    true
 }
 
 // Whether the list has each arc of the 2-hop tuples of all interfaces.
@@ -229,32 +293,48 @@ fn has_two_hop_arcs(router: &Router, arcs: &[Arc4]) -> bool
     ensures { result ≡ has_two_hop_arcs router.now arcs.now }
 {
     let neighbours = router.neighbours.as_slice();
-    router.two_hops.as_slice().iter().all(|base| has_arcs_of_two_hops(
-        arcs,
-        neighbours,
-        base.as_slice(),
-    ))
+    for base in router.two_hops.as_slice() {
+        if !has_arcs_of_two_hops(arcs, neighbours, base.as_slice()) {
+            return false;
+        }
+    }
+    true
 }
 
 // Whether the list has the arc of each router topology tuple.
 fn has_router_arcs(arcs: &[Arc4], routers: &[(RouterKey, (RouterTuple, u64))]) -> bool
     ensures { result ≡ has_router_arcs arcs.now routers.now }
 {
-    routers.iter().all(|entry| has_host_arc(arcs, entry.0.from, entry.0.to, entry.1.0.metric))
+    for entry in routers {
+        if !has_host_arc(arcs, entry.0.from, entry.0.to, entry.1.0.metric) {
+            return false;
+        }
+    }
+    true
 }
 
 // Whether the list has the arc of each routable address topology tuple.
 fn has_address_arcs(arcs: &[Arc4], addresses: &[(AddressKey, (AddressTuple, u64))]) -> bool
     ensures { result ≡ has_address_arcs arcs.now addresses.now }
 {
-    addresses.iter().all(|entry| has_host_arc(arcs, entry.0.from, entry.0.addr, entry.1.0.metric))
+    for entry in addresses {
+        if !has_host_arc(arcs, entry.0.from, entry.0.addr, entry.1.0.metric) {
+            return false;
+        }
+    }
+    true
 }
 
 // Whether the list has the arc of each attached network tuple.
 fn has_network_arcs(arcs: &[Arc4], networks: &[(NetworkKey, (NetworkTuple, u64))]) -> bool
     ensures { result ≡ has_network_arcs arcs.now networks.now }
 {
-    networks.iter().all(|entry| has_net_arc(arcs, entry.0.from, entry.0.net, entry.1.0.metric))
+    for entry in networks {
+        if !has_net_arc(arcs, entry.0.from, entry.0.net, entry.1.0.metric) {
+            return false;
+        }
+    }
+    true
 }
 
 // Whether the list has each arc of the router's own graph.

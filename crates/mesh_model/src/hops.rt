@@ -55,14 +55,24 @@ pub(crate) fn is_back(there: &RadioArc, back: &RadioArc) -> bool
 pub(crate) fn is_answered(arcs: &[RadioArc], there: &RadioArc) -> bool
     ensures { result ≡ is_answered arcs.now there.now }
 {
-    arcs.iter().any(|back| is_back(there, back))
+    for back in arcs {
+        if is_back(there, back) {
+            return true;
+        }
+    }
+    false
 }
 
 /// Whether some arc leads back at that metric.
 pub(crate) fn is_answered_at(arcs: &[RadioArc], there: &RadioArc, metric: Metric) -> bool
     ensures { result ≡ is_answered_at arcs.now there.now metric }
 {
-    arcs.iter().any(|back| is_back(there, back) && back.metric.code == metric.code)
+    for back in arcs {
+        if is_back(there, back) && back.metric.code == metric.code {
+            return true;
+        }
+    }
+    false
 }
 
 /// Whether the arc leads from router x to router y, and some arc leads back.

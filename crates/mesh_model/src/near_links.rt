@@ -13,9 +13,12 @@ use mesh_atoms::{Link, LinkKey, Metric, RadioArc};
 fn is_flooding_for(hop: Hop) -> bool
     ensures { result ≡ is_flooding_for (meeting hop.entry) }
 {
-    addrs_of(&hop.router.settings, hop.i)
-        .iter()
-        .any(|addr| shows_flooding(hop.other, hop.j, *addr, hop.now))
+    for addr in addrs_of(&hop.router.settings, hop.i) {
+        if shows_flooding(hop.other, hop.j, *addr, hop.now) {
+            return true;
+        }
+    }
+    false
 }
 
 /// Whether the link is what the hop gives but for its metric from the other router, at that metric there.
@@ -61,11 +64,15 @@ fn is_link_given(
 ) -> bool
     ensures { result ≡ is_link_given arcs.now routers.now x i router.now key link.now now }
 {
-    arcs.iter().any(|there| {
-        leaves(there, x, i)
+    for there in arcs {
+        if leaves(there, x, i)
             && is_answered_at(arcs, there, link.link_in)
             && is_link_at(routers, router, there, key, link, now)
-    })
+        {
+            return true;
+        }
+    }
+    false
 }
 
 /// Whether each SYMMETRIC link of the interface is given by some hop.
@@ -79,21 +86,29 @@ pub(crate) fn are_links_given(
 ) -> bool
     ensures { result ≡ are_links_given arcs.now routers.now x i router.now now }
 {
-    items_of(&router.links, i).iter().all(|entry| {
-        !entry.1.0.is_symmetric(now)
-            || is_link_given(arcs, routers, x, i, router, entry.0, &entry.1.0, now)
-    })
+    for entry in items_of(&router.links, i) {
+        if entry.1.0.is_symmetric(now)
+            && !is_link_given(arcs, routers, x, i, router, entry.0, &entry.1.0, now)
+        {
+            return false;
+        }
+    }
+    true
 }
 
 /// Whether the router has the SYMMETRIC link that the hop gives, at those metrics.
 fn has_link_by(hop: Hop, there: Metric, back: Metric) -> bool
     ensures { result ≡ has_link_by (meeting hop.entry) there back }
 {
-    items_of(&hop.router.links, hop.i).iter().any(|entry| {
-        entry.1.0.is_symmetric(hop.now)
+    for entry in items_of(&hop.router.links, hop.i) {
+        if entry.1.0.is_symmetric(hop.now)
             && entry.1.0.link_in.code == back.code
             && is_link_by(hop, there, entry.0, &entry.1.0)
-    })
+        {
+            return true;
+        }
+    }
+    false
 }
 
 /// Whether the router has the SYMMETRIC link that the arc, and one that leads back at that metric, give.
@@ -125,9 +140,12 @@ fn has_links_to(
 ) -> bool
     ensures { result ≡ has_links_to arcs.now routers.now router.now there.now now }
 {
-    arcs.iter().all(|back| {
-        !is_back(there, back) || has_link_to(routers, router, there, back.metric, now)
-    })
+    for back in arcs {
+        if is_back(there, back) && !has_link_to(routers, router, there, back.metric, now) {
+            return false;
+        }
+    }
+    true
 }
 
 /// Whether the router has each SYMMETRIC link that a hop gives.
@@ -140,5 +158,10 @@ pub(crate) fn has_links(
 ) -> bool
     ensures { result ≡ has_links arcs.now routers.now x router.now now }
 {
-    arcs.iter().all(|there| { there.from != x || has_links_to(arcs, routers, router, there, now) })
+    for there in arcs {
+        if there.from == x && !has_links_to(arcs, routers, router, there, now) {
+            return false;
+        }
+    }
+    true
 }

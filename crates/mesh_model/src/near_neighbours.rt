@@ -20,35 +20,48 @@ fn has_addresses(addrs: &[Addr4], settings: &RouterSettings) -> bool
 fn are_all_had(addrs: &[Addr4], settings: &RouterSettings) -> bool
     ensures { result ≡ are_all_had addrs.now settings.now }
 {
-    addrs.iter().all(|addr| is_address_of(settings, *addr))
+    for addr in addrs {
+        if !is_address_of(settings, *addr) {
+            return false;
+        }
+    }
+    true
 }
 
 /// Whether each of the router's addresses is in the list.
 fn are_all_within(addrs: &[Addr4], settings: &RouterSettings) -> bool
     ensures { result ≡ are_all_within addrs.now settings.now }
 {
-    settings
-        .interfaces
-        .as_slice()
-        .iter()
-        .all(|interface| are_within(interface.addrs.as_slice(), addrs))
+    for interface in settings.interfaces.as_slice() {
+        if !are_within(interface.addrs.as_slice(), addrs) {
+            return false;
+        }
+    }
+    true
 }
 
 /// Whether one of the addresses is shown as a routing relay's.
 fn is_any_routing(other: &Router, addrs: &[Addr4]) -> bool
     ensures { result ≡ is_any_routing other.now addrs.now }
 {
-    addrs.iter().any(|addr| shows_routing(other, *addr))
+    for addr in addrs {
+        if shows_routing(other, *addr) {
+            return true;
+        }
+    }
+    false
 }
 
 /// Whether the other router has chosen this one as a routing relay.
 fn is_routing_for(router: &Router, other: &Router) -> bool
     ensures { result ≡ is_routing_for router.now other.now }
 {
-    router.settings.interfaces.as_slice().iter().any(|interface| is_any_routing(
-        other,
-        interface.addrs.as_slice(),
-    ))
+    for interface in router.settings.interfaces.as_slice() {
+        if is_any_routing(other, interface.addrs.as_slice()) {
+            return true;
+        }
+    }
+    false
 }
 
 /// Whether the willingness is the same.
@@ -77,14 +90,24 @@ fn is_neighbour_by(
 fn is_cheapest(arcs: &[RadioArc], x: usize, y: usize, metric: Metric) -> bool
     ensures { result ≡ is_cheapest arcs.now x y metric }
 {
-    arcs.iter().all(|arc| !leads(arcs, arc, x, y) || metric.value() <= arc.metric.value())
+    for arc in arcs {
+        if leads(arcs, arc, x, y) && metric.value() > arc.metric.value() {
+            return false;
+        }
+    }
+    true
 }
 
 /// Whether some hop leads from router x to router y at that metric.
 fn is_metric_to(arcs: &[RadioArc], x: usize, y: usize, metric: Metric) -> bool
     ensures { result ≡ is_metric_to arcs.now x y metric }
 {
-    arcs.iter().any(|arc| leads(arcs, arc, x, y) && arc.metric.code == metric.code)
+    for arc in arcs {
+        if leads(arcs, arc, x, y) && arc.metric.code == metric.code {
+            return true;
+        }
+    }
+    false
 }
 
 /// Whether it is the metric from router x to router y.
@@ -143,10 +166,14 @@ fn is_neighbour_given(
 ) -> bool
     ensures { result ≡ is_neighbour_given arcs.now routers.now x router.now originator neighbour.now }
 {
-    arcs.iter().any(|there| {
-        there.from == x
+    for there in arcs {
+        if there.from == x
             && is_neighbour_at_end(arcs, routers, x, there.to, router, originator, neighbour)
-    })
+        {
+            return true;
+        }
+    }
+    false
 }
 
 /// Whether each symmetric neighbour of router x is given by some router.
@@ -158,18 +185,26 @@ pub(crate) fn are_neighbours_given(
 ) -> bool
     ensures { result ≡ are_neighbours_given arcs.now routers.now x router.now }
 {
-    router.neighbours.as_slice().iter().all(|entry| {
-        !entry.1.0.symmetric || is_neighbour_given(arcs, routers, x, router, entry.0, &entry.1.0)
-    })
+    for entry in router.neighbours.as_slice() {
+        if entry.1.0.symmetric
+            && !is_neighbour_given(arcs, routers, x, router, entry.0, &entry.1.0)
+        {
+            return false;
+        }
+    }
+    true
 }
 
 /// Whether router x has the symmetric neighbour that router y gives.
 fn has_neighbour_by(arcs: &[RadioArc], x: usize, y: usize, router: &Router, other: &Router) -> bool
     ensures { result ≡ has_neighbour_by arcs.now x y router.now other.now }
 {
-    router.neighbours.as_slice().iter().any(|entry| {
-        entry.1.0.symmetric && is_neighbour_to(arcs, x, y, router, other, entry.0, &entry.1.0)
-    })
+    for entry in router.neighbours.as_slice() {
+        if entry.1.0.symmetric && is_neighbour_to(arcs, x, y, router, other, entry.0, &entry.1.0) {
+            return true;
+        }
+    }
+    false
 }
 
 /// Whether router x has the symmetric neighbour that router y gives, if there is one.
@@ -197,9 +232,13 @@ pub(crate) fn has_neighbours(
 ) -> bool
     ensures { result ≡ has_neighbours arcs.now routers.now x router.now }
 {
-    arcs.iter().all(|there| {
-        there.from != x
-            || !is_answered(arcs, there)
-            || has_neighbour_to(arcs, routers, x, there.to, router)
-    })
+    for there in arcs {
+        if there.from == x
+            && is_answered(arcs, there)
+            && !has_neighbour_to(arcs, routers, x, there.to, router)
+        {
+            return false;
+        }
+    }
+    true
 }

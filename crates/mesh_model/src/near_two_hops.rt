@@ -78,11 +78,15 @@ fn is_two_hop_given(
 ) -> bool
     ensures { result ≡ is_two_hop_given arcs.now routers.now x i router.now key tuple now }
 {
-    arcs.iter().any(|there| {
-        leaves(there, x, i)
+    for there in arcs {
+        if leaves(there, x, i)
             && is_answered(arcs, there)
             && is_two_hop_at(routers, router, there, key, tuple, now)
-    })
+        {
+            return true;
+        }
+    }
+    false
 }
 
 /// Whether each 2-hop tuple of the interface is given by some hop.
@@ -96,9 +100,12 @@ pub(crate) fn are_two_hops_given(
 ) -> bool
     ensures { result ≡ are_two_hops_given arcs.now routers.now x i router.now now }
 {
-    items_of(&router.two_hops, i).iter().all(|entry| is_two_hop_given(
-        arcs, routers, x, i, router, entry.0, entry.1.0, now,
-    ))
+    for entry in items_of(&router.two_hops, i) {
+        if !is_two_hop_given(arcs, routers, x, i, router, entry.0, entry.1.0, now) {
+            return false;
+        }
+    }
+    true
 }
 
 /// Whether the 2-hop tuple has that key and these metrics.
@@ -125,9 +132,12 @@ fn has_tuple(
 ) -> bool
     ensures { result ≡ has_tuple (meeting hop.entry) key metric_in metric_out }
 {
-    items_of(&hop.router.two_hops, hop.i)
-        .iter()
-        .any(|entry| is_tuple(entry, key, metric_in, metric_out))
+    for entry in items_of(&hop.router.two_hops, hop.i) {
+        if is_tuple(entry, key, metric_in, metric_out) {
+            return true;
+        }
+    }
+    false
 }
 
 /// Whether the router has the 2-hop tuple with these metrics, if the outgoing one is shown.
@@ -147,26 +157,29 @@ fn takes_out(
 fn takes_near_out(hop: Hop, key: TwoHopKey, metric_in: Option<Metric>) -> bool
     ensures { result ≡ takes_near_out (meeting hop.entry) key metric_in }
 {
-    hop.other.neighbours.as_slice().iter().all(|entry| takes_out(
-        hop,
-        key,
-        metric_in,
-        near_metric(&entry.1.0, Side::Out),
-    ))
+    for entry in hop.other.neighbours.as_slice() {
+        if !takes_out(hop, key, metric_in, near_metric(&entry.1.0, Side::Out)) {
+            return false;
+        }
+    }
+    true
 }
 
 /// The same for each outgoing metric of a link.
 fn takes_link_out(hop: Hop, key: TwoHopKey, metric_in: Option<Metric>) -> bool
     ensures { result ≡ takes_link_out (meeting hop.entry) key metric_in }
 {
-    items_of(&hop.other.links, hop.j)
-        .iter()
-        .all(|entry| takes_out(
+    for entry in items_of(&hop.other.links, hop.j) {
+        if !takes_out(
             hop,
             key,
             metric_in,
             link_metric(&entry.1.0, hop.now, Side::Out),
-        ))
+        ) {
+            return false;
+        }
+    }
+    true
 }
 
 /// Whether the router has the 2-hop tuple with each outgoing metric that is shown, if the incoming one is.
@@ -182,11 +195,12 @@ fn takes_in(hop: Hop, key: TwoHopKey, metric_in: Option<Metric>) -> bool
 fn takes_near_in(hop: Hop, key: TwoHopKey) -> bool
     ensures { result ≡ takes_near_in (meeting hop.entry) key }
 {
-    hop.other.neighbours.as_slice().iter().all(|entry| takes_in(
-        hop,
-        key,
-        near_metric(&entry.1.0, Side::In),
-    ))
+    for entry in hop.other.neighbours.as_slice() {
+        if !takes_in(hop, key, near_metric(&entry.1.0, Side::In)) {
+            return false;
+        }
+    }
+    true
 }
 
 /// The same for each incoming metric of a link.
@@ -213,42 +227,54 @@ fn takes_key(hop: Hop, key: TwoHopKey) -> bool
 fn takes_addr(hop: Hop, addr: Addr4) -> bool
     ensures { result ≡ takes_addr (meeting hop.entry) addr }
 {
-    addrs_of(&hop.other.settings, hop.j)
-        .iter()
-        .all(|least| takes_key(
+    for least in addrs_of(&hop.other.settings, hop.j) {
+        if !takes_key(
             hop,
             TwoHopKey {
                 link: LinkKey { addr: *least },
                 addr,
             },
-        ))
+        ) {
+            return false;
+        }
+    }
+    true
 }
 
 /// The same for each of these addresses.
 fn takes_addrs(hop: Hop, addrs: &[Addr4]) -> bool
     ensures { result ≡ takes_addrs (meeting hop.entry) addrs.now }
 {
-    addrs.iter().all(|addr| takes_addr(hop, *addr))
+    for addr in addrs {
+        if !takes_addr(hop, *addr) {
+            return false;
+        }
+    }
+    true
 }
 
 /// The same for each address of a neighbour.
 fn takes_near(hop: Hop) -> bool
     ensures { result ≡ takes_near (meeting hop.entry) }
 {
-    hop.other
-        .neighbours
-        .as_slice()
-        .iter()
-        .all(|entry| takes_addrs(hop, entry.1.0.addrs.as_slice()))
+    for entry in hop.other.neighbours.as_slice() {
+        if !takes_addrs(hop, entry.1.0.addrs.as_slice()) {
+            return false;
+        }
+    }
+    true
 }
 
 /// The same for each address of a link.
 fn takes_links(hop: Hop) -> bool
     ensures { result ≡ takes_links (meeting hop.entry) }
 {
-    items_of(&hop.other.links, hop.j)
-        .iter()
-        .all(|entry| takes_addrs(hop, entry.1.0.addrs.as_slice()))
+    for entry in items_of(&hop.other.links, hop.j) {
+        if !takes_addrs(hop, entry.1.0.addrs.as_slice()) {
+            return false;
+        }
+    }
+    true
 }
 
 /// Whether the router has each 2-hop tuple that the router at the end of the arc gives.
@@ -274,7 +300,10 @@ pub(crate) fn has_two_hops(
 ) -> bool
     ensures { result ≡ has_two_hops arcs.now routers.now x router.now now }
 {
-    arcs.iter().all(|there| {
-        there.from != x || !is_answered(arcs, there) || takes_end(routers, router, there, now)
-    })
+    for there in arcs {
+        if there.from == x && is_answered(arcs, there) && !takes_end(routers, router, there, now) {
+            return false;
+        }
+    }
+    true
 }

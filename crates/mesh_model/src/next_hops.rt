@@ -76,8 +76,14 @@ fn is_best_on(
 ) -> bool
     ensures { result ≡ is_best_on route.now metric neighbour.now now i links.now }
 {
-    links.iter().all(|entry| !is_way(neighbour, now, entry)
-        || is_no_worse_at(route, metric, i, entry.0, entry.1.0.link_out))
+    for entry in links {
+        if is_way(neighbour, now, entry)
+            && !is_no_worse_at(route, metric, i, entry.0, entry.1.0.link_out)
+        {
+            return false;
+        }
+    }
+    true
 }
 
 /// Whether the route at its metric is no worse than the neighbour's ways.
@@ -139,8 +145,12 @@ fn has_way_on(
 ) -> bool
     ensures { result ≡ has_way_on route.now neighbour.now now links.now own.now }
 {
-    own.iter()
-        .any(|entry| is_way_of(route, neighbour, now, links, entry))
+    for entry in own {
+        if is_way_of(route, neighbour, now, links, entry) {
+            return true;
+        }
+    }
+    false
 }
 
 /// Whether the route's interface has a link that is the neighbour's best way, and the route's.
@@ -168,8 +178,12 @@ fn has_hop(
 ) -> bool
     ensures { result ≡ has_hop route.now neighbours.now now links.now addr }
 {
-    neighbours.iter().any(|entry| is_neighbour_at(&entry.1.0, addr)
-        && has_way(route, &entry.1.0, now, links))
+    for entry in neighbours {
+        if is_neighbour_at(&entry.1.0, addr) && has_way(route, &entry.1.0, now, links) {
+            return true;
+        }
+    }
+    false
 }
 
 /// Whether the node is an address, by which such a neighbour is the route's next hop.

@@ -29,9 +29,10 @@ pub(crate) fn is_originator(settings: &RouterSettings, addr: Addr4) -> bool
 pub(crate) fn is_address_of(settings: &RouterSettings, addr: Addr4) -> bool
     ensures { result ≡ is_address_of settings.now addr }
 {
-    settings
-        .interfaces
-        .as_slice()
-        .iter()
-        .any(|interface| contains(interface.addrs.as_slice(), addr))
+    for interface in settings.interfaces.as_slice() {
+        if contains(interface.addrs.as_slice(), addr) {
+            return true;
+        }
+    }
+    false
 }

@@ -45,8 +45,12 @@ fn is_least_over(
 ) -> bool
     ensures { result ≡ is_least_over links.now now neighbour.now cost }
 {
-    links.iter().all(|entry| !is_way(now, neighbour, entry.0, &entry.1.0)
-        || is_at_least(entry.1.0.link_out, cost))
+    for entry in links {
+        if is_way(now, neighbour, entry.0, &entry.1.0) && !is_at_least(entry.1.0.link_out, cost) {
+            return false;
+        }
+    }
+    true
 }
 
 // Whether the metric is known, and no SYMMETRIC link of the neighbour is cheaper.
@@ -145,24 +149,36 @@ fn is_near(router: &Router, purpose: Purpose, id: Addr4, neighbour: &Neighbour, 
 fn is_some_near(router: &Router, purpose: Purpose, near: Near) -> bool
     ensures { result ≡ is_some_near router.now purpose near }
 {
-    router.neighbours.as_slice().iter().any(|entry| is_near(
-        router, purpose, entry.0, &entry.1.0, near,
-    ))
+    for entry in router.neighbours.as_slice() {
+        if is_near(router, purpose, entry.0, &entry.1.0, near) {
+            return true;
+        }
+    }
+    false
 }
 
 // Whether each entry is that of a symmetric neighbour.
 fn are_near(router: &Router, purpose: Purpose, near: &[Near]) -> bool
     ensures { result ≡ are_near router.now purpose near.now }
 {
-    near.iter()
-        .all(|entry| is_some_near(router, purpose, *entry))
+    for entry in near {
+        if !is_some_near(router, purpose, *entry) {
+            return false;
+        }
+    }
+    true
 }
 
 // Whether the list has that entry.
 fn has_near(near: &[Near], id: Addr4, cost: u32, will: u8) -> bool
     ensures { result ≡ has_near near.now id cost will }
 {
-    near.iter().any(|entry| entry.id.0 == id.0 && entry.cost == cost && entry.will == will)
+    for entry in near {
+        if entry.id.0 == id.0 && entry.cost == cost && entry.will == will {
+            return true;
+        }
+    }
+    false
 }
 
 // Whether the list has that entry, if the metric is known.
@@ -179,13 +195,19 @@ fn has_known_near(near: &[Near], id: Addr4, metric: Option<Metric>, will: u8) ->
 fn has_all_near(router: &Router, purpose: Purpose, near: &[Near]) -> bool
     ensures { result ≡ has_all_near router.now purpose near.now }
 {
-    router.neighbours.as_slice().iter().all(|entry| !entry.1.0.symmetric
-        || has_known_near(
-            near,
-            entry.0,
-            metric_of(router, purpose, &entry.1.0),
-            will_of(purpose, &entry.1.0),
-        ))
+    for entry in router.neighbours.as_slice() {
+        if entry.1.0.symmetric
+            && !has_known_near(
+                near,
+                entry.0,
+                metric_of(router, purpose, &entry.1.0),
+                will_of(purpose, &entry.1.0),
+            )
+        {
+            return false;
+        }
+    }
+    true
 }
 
 // Whether the entry is that of an address of the neighbour.
@@ -203,29 +225,36 @@ fn is_direct(router: &Router, purpose: Purpose, neighbour: &Neighbour, direct: D
 fn is_some_direct(router: &Router, purpose: Purpose, direct: Direct) -> bool
     ensures { result ≡ is_some_direct router.now purpose direct }
 {
-    router
-        .neighbours
-        .as_slice()
-        .iter()
-        .any(|entry| is_direct(router, purpose, &entry.1.0, direct))
+    for entry in router.neighbours.as_slice() {
+        if is_direct(router, purpose, &entry.1.0, direct) {
+            return true;
+        }
+    }
+    false
 }
 
 // Whether each entry is that of an address of a symmetric neighbour.
 fn are_direct(router: &Router, purpose: Purpose, direct: &[Direct]) -> bool
     ensures { result ≡ are_direct router.now purpose direct.now }
 {
-    direct
-        .iter()
-        .all(|entry| is_some_direct(router, purpose, *entry))
+    for entry in direct {
+        if !is_some_direct(router, purpose, *entry) {
+            return false;
+        }
+    }
+    true
 }
 
 // Whether the list has that entry.
 fn has_direct(direct: &[Direct], addr: Addr4, cost: u32) -> bool
     ensures { result ≡ has_direct direct.now addr cost }
 {
-    direct
-        .iter()
-        .any(|entry| entry.addr.0 == addr.0 && entry.cost == cost)
+    for entry in direct {
+        if entry.addr.0 == addr.0 && entry.cost == cost {
+            return true;
+        }
+    }
+    false
 }
 
 // Whether the list has that entry, if the metric is known.
@@ -251,12 +280,18 @@ fn has_direct_to_all(direct: &[Direct], addrs: &[Addr4], metric: Option<Metric>)
 fn has_all_direct(router: &Router, purpose: Purpose, direct: &[Direct]) -> bool
     ensures { result ≡ has_all_direct router.now purpose direct.now }
 {
-    router.neighbours.as_slice().iter().all(|entry| !entry.1.0.symmetric
-        || has_direct_to_all(
-            direct,
-            entry.1.0.addrs.as_slice(),
-            metric_of(router, purpose, &entry.1.0),
-        ))
+    for entry in router.neighbours.as_slice() {
+        if entry.1.0.symmetric
+            && !has_direct_to_all(
+                direct,
+                entry.1.0.addrs.as_slice(),
+                metric_of(router, purpose, &entry.1.0),
+            )
+        {
+            return false;
+        }
+    }
+    true
 }
 
 // Whether it is a symmetric neighbour that has the address, by a known metric.
@@ -270,8 +305,12 @@ fn is_via(router: &Router, purpose: Purpose, neighbour: &Neighbour, addr: Addr4)
 fn is_some_via(router: &Router, purpose: Purpose, id: Addr4, addr: Addr4) -> bool
     ensures { result ≡ is_some_via router.now purpose id addr }
 {
-    router.neighbours.as_slice().iter().any(|entry| entry.0.0 == id.0
-        && is_via(router, purpose, &entry.1.0, addr))
+    for entry in router.neighbours.as_slice() {
+        if entry.0.0 == id.0 && is_via(router, purpose, &entry.1.0, addr) {
+            return true;
+        }
+    }
+    false
 }
 
 // Whether the entry is that of the 2-hop tuple.
@@ -292,20 +331,24 @@ fn is_far_of(
 ) -> bool
     ensures { result ≡ is_far_of router.now purpose two_hops.now far }
 {
-    two_hops
-        .iter()
-        .any(|entry| is_far(router, purpose, entry.0, entry.1.0, far))
+    for entry in two_hops {
+        if is_far(router, purpose, entry.0, entry.1.0, far) {
+            return true;
+        }
+    }
+    false
 }
 
 // Whether the entry is that of a 2-hop tuple of some interface.
 fn is_far_of_some(router: &Router, purpose: Purpose, far: Far) -> bool
     ensures { result ≡ is_far_of_some router.now purpose far }
 {
-    router
-        .two_hops
-        .as_slice()
-        .iter()
-        .any(|base| is_far_of(router, purpose, base.as_slice(), far))
+    for base in router.two_hops.as_slice() {
+        if is_far_of(router, purpose, base.as_slice(), far) {
+            return true;
+        }
+    }
+    false
 }
 
 // Whether the entry is that of a 2-hop tuple that counts.
@@ -325,14 +368,24 @@ fn is_some_far(router: &Router, purpose: Purpose, far: Far) -> bool
 fn are_far(router: &Router, purpose: Purpose, far: &[Far]) -> bool
     ensures { result ≡ are_far router.now purpose far.now }
 {
-    far.iter().all(|entry| is_some_far(router, purpose, *entry))
+    for entry in far {
+        if !is_some_far(router, purpose, *entry) {
+            return false;
+        }
+    }
+    true
 }
 
 // Whether the list has that entry.
 fn has_far(far: &[Far], via: Addr4, addr: Addr4, cost: u32) -> bool
     ensures { result ≡ has_far far.now via addr cost }
 {
-    far.iter().any(|entry| entry.via.0 == via.0 && entry.addr.0 == addr.0 && entry.cost == cost)
+    for entry in far {
+        if entry.via.0 == via.0 && entry.addr.0 == addr.0 && entry.cost == cost {
+            return true;
+        }
+    }
+    false
 }
 
 // Whether the list has that entry, if the metric is known.
@@ -356,12 +409,14 @@ fn has_far_by(
 ) -> bool
     ensures { result ≡ has_far_by router.now purpose far.now key two_hop }
 {
-    router.neighbours.as_slice().iter().all(|entry| !is_via(
-        router,
-        purpose,
-        &entry.1.0,
-        key.link.addr,
-    ) || has_known_far(far, entry.0, key.addr, hop_metric(purpose, two_hop)))
+    for entry in router.neighbours.as_slice() {
+        if is_via(router, purpose, &entry.1.0, key.link.addr)
+            && !has_known_far(far, entry.0, key.addr, hop_metric(purpose, two_hop))
+        {
+            return false;
+        }
+    }
+    true
 }
 
 // Whether the list has the entries of the 2-hop tuples of the base.
@@ -373,18 +428,24 @@ fn has_far_of(
 ) -> bool
     ensures { result ≡ has_far_of router.now purpose far.now two_hops.now }
 {
-    two_hops.iter().all(|entry| has_far_by(router, purpose, far, entry.0, entry.1.0))
+    for entry in two_hops {
+        if !has_far_by(router, purpose, far, entry.0, entry.1.0) {
+            return false;
+        }
+    }
+    true
 }
 
 // Whether the list has the entries of the 2-hop tuples of all interfaces.
 fn has_far_of_each(router: &Router, purpose: Purpose, far: &[Far]) -> bool
     ensures { result ≡ has_far_of_each router.now purpose far.now }
 {
-    router
-        .two_hops
-        .as_slice()
-        .iter()
-        .all(|base| has_far_of(router, purpose, far, base.as_slice()))
+    for base in router.two_hops.as_slice() {
+        if !has_far_of(router, purpose, far, base.as_slice()) {
+            return false;
+        }
+    }
+    true
 }
 
 // Whether the list has the entries of the 2-hop tuples that count.

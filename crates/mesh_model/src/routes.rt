@@ -35,11 +35,12 @@ fn is_own_address(settings: &RouterSettings, node: NetAddr) -> bool
 fn is_own_network(settings: &RouterSettings, node: NetAddr) -> bool
     ensures { result ≡ is_own_network settings.now node }
 {
-    settings
-        .attached
-        .as_slice()
-        .iter()
-        .any(|attached| same_net(attached.net, node))
+    for attached in settings.attached.as_slice() {
+        if same_net(attached.net, node) {
+            return true;
+        }
+    }
+    false
 }
 
 /// Whether the node is neither an own address nor an own attached network.
@@ -62,21 +63,36 @@ fn is_row_of(route: &Route, row: &PathRow) -> bool
 fn has_row(rows: &[PathRow], route: &Route) -> bool
     ensures { result ≡ has_row rows.now route.now }
 {
-    rows.iter().any(|row| is_row_of(route, row))
+    for row in rows {
+        if is_row_of(route, row) {
+            return true;
+        }
+    }
+    false
 }
 
 /// Whether a route leads to the node.
 fn has_route(routes: &[Route], node: NetAddr) -> bool
     ensures { result ≡ has_route routes.now node }
 {
-    routes.iter().any(|route| same_net(route.dest, node))
+    for route in routes {
+        if same_net(route.dest, node) {
+            return true;
+        }
+    }
+    false
 }
 
 /// Whether each node outside that has a row has a route.
 fn are_reached(settings: &RouterSettings, routes: &[Route], rows: &[PathRow]) -> bool
     ensures { result ≡ are_reached settings.now routes.now rows.now }
 {
-    rows.iter().all(|row| !is_outside(settings, row.node) || has_route(routes, row.node))
+    for row in rows {
+        if is_outside(settings, row.node) && !has_route(routes, row.node) {
+            return false;
+        }
+    }
+    true
 }
 
 /// Whether the route's destination is the lesser.
@@ -124,9 +140,12 @@ fn are_all_routes(
 ) -> bool
     ensures { result ≡ are_all_routes router.now now rows.now from routes.now }
 {
-    routes
-        .iter()
-        .all(|route| is_route(router, now, rows, from, route))
+    for route in routes {
+        if !is_route(router, now, rows, from, route) {
+            return false;
+        }
+    }
+    true
 }
 
 /// Whether each route is one, and each node outside that has a row has one.

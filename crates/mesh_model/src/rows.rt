@@ -43,9 +43,12 @@ fn gives(originator: Addr4, neighbour: &Neighbour, addr: Addr4, metric: Metric) 
 fn is_given(neighbours: &[(Addr4, (Neighbour, u64))], addr: Addr4, metric: Metric) -> bool
     ensures { result ≡ is_given neighbours.now addr metric }
 {
-    neighbours
-        .iter()
-        .any(|entry| gives(entry.0, &entry.1.0, addr, metric))
+    for entry in neighbours {
+        if gives(entry.0, &entry.1.0, addr, metric) {
+            return true;
+        }
+    }
+    false
 }
 
 /// Whether the metric is no greater than the other, if there is another.
@@ -62,8 +65,12 @@ fn is_no_less(other: Option<Metric>, metric: Metric) -> bool
 fn is_least(neighbours: &[(Addr4, (Neighbour, u64))], addr: Addr4, metric: Metric) -> bool
     ensures { result ≡ is_least neighbours.now addr metric }
 {
-    neighbours.iter().all(|entry| !gives_address(entry.0, &entry.1.0, addr)
-        || is_no_less(entry.1.0.metric_out, metric))
+    for entry in neighbours {
+        if gives_address(entry.0, &entry.1.0, addr) && !is_no_less(entry.1.0.metric_out, metric) {
+            return false;
+        }
+    }
+    true
 }
 
 /// Whether there is a row of the address at that metric.
@@ -77,9 +84,12 @@ fn advertises(neighbours: &[(Addr4, (Neighbour, u64))], addr: Addr4, metric: Met
 fn advertises_originator(neighbours: &[(Addr4, (Neighbour, u64))], addr: Addr4) -> bool
     ensures { result ≡ advertises_originator neighbours.now addr }
 {
-    neighbours.iter().any(|entry| entry.0.0 == addr.0
-        && is_selector(&entry.1.0)
-        && entry.1.0.metric_out.is_some())
+    for entry in neighbours {
+        if entry.0.0 == addr.0 && is_selector(&entry.1.0) && entry.1.0.metric_out.is_some() {
+            return true;
+        }
+    }
+    false
 }
 
 /// Whether there is a row of the address at that metric, if it is one.
@@ -96,18 +106,24 @@ fn is_row_at(neighbours: &[(Addr4, (Neighbour, u64))], addr: Addr4, metric: Opti
 fn has_row(neighbours: &[(Addr4, (Neighbour, u64))], addr: Addr4) -> bool
     ensures { result ≡ has_row neighbours.now addr }
 {
-    neighbours
-        .iter()
-        .any(|entry| is_row_at(neighbours, addr, entry.1.0.metric_out))
+    for entry in neighbours {
+        if is_row_at(neighbours, addr, entry.1.0.metric_out) {
+            return true;
+        }
+    }
+    false
 }
 
 /// Whether the network is attached at that distance and metric.
 fn is_attached(attached: &[Attached4], net: NetAddr, distance: u8, metric: Metric) -> bool
     ensures { result ≡ is_attached attached.now net distance metric }
 {
-    attached.iter().any(|one| same_net(one.net, net)
-        && one.distance == distance
-        && one.metric.code == metric.code)
+    for one in attached {
+        if same_net(one.net, net) && one.distance == distance && one.metric.code == metric.code {
+            return true;
+        }
+    }
+    false
 }
 
 /// Whether there is a row of the attached network.

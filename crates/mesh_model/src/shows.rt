@@ -45,7 +45,12 @@ pub(crate) fn is_least(settings: &RouterSettings, i: usize, addr: Addr4) -> bool
 fn is_lower(addr: Addr4, addrs: &[Addr4]) -> bool
     ensures { result ≡ is_lower addr addrs.now }
 {
-    addrs.iter().all(|other| addr.0 <= other.0)
+    for other in addrs {
+        if addr.0 > other.0 {
+            return false;
+        }
+    }
+    true
 }
 
 /// Whether it is a SYMMETRIC link to that address.
@@ -59,9 +64,12 @@ fn is_symmetric_to(link: &Link, addr: Addr4, now: u64) -> bool
 fn shows_link(router: &Router, i: usize, addr: Addr4, now: u64) -> bool
     ensures { result ≡ shows_link router.now i addr now }
 {
-    items_of(&router.links, i)
-        .iter()
-        .any(|entry| is_symmetric_to(&entry.1.0, addr, now))
+    for entry in items_of(&router.links, i) {
+        if is_symmetric_to(&entry.1.0, addr, now) {
+            return true;
+        }
+    }
+    false
 }
 
 /// Whether the address is shown SYMMETRIC, as a link's or as a neighbour's.
@@ -75,33 +83,52 @@ pub(crate) fn shows_symmetric(router: &Router, i: usize, addr: Addr4, now: u64) 
 fn meets(neighbour: &Neighbour, addrs: &[Addr4]) -> bool
     ensures { result ≡ meets neighbour.now addrs.now }
 {
-    addrs.iter().any(|addr| is_neighbour_at(neighbour, *addr))
+    for addr in addrs {
+        if is_neighbour_at(neighbour, *addr) {
+            return true;
+        }
+    }
+    false
 }
 
 /// Whether the link is to a flooding relay of the interface.
 fn is_flooding_link(router: &Router, i: usize, link: &Link) -> bool
     ensures { result ≡ is_flooding_link router.now i link.now }
 {
-    router.neighbours.as_slice().iter().any(|entry| contains(
-        items_of(&router.relays.flooding, i),
-        entry.0,
-    ) && meets(&entry.1.0, link.addrs.as_slice()))
+    for entry in router.neighbours.as_slice() {
+        if contains(items_of(&router.relays.flooding, i), entry.0)
+            && meets(&entry.1.0, link.addrs.as_slice())
+        {
+            return true;
+        }
+    }
+    false
 }
 
 /// Whether the address is shown as a flooding relay's.
 pub(crate) fn shows_flooding(router: &Router, i: usize, addr: Addr4, now: u64) -> bool
     ensures { result ≡ shows_flooding router.now i addr now }
 {
-    items_of(&router.links, i).iter().any(|entry| is_symmetric_to(&entry.1.0, addr, now)
-        && is_flooding_link(router, i, &entry.1.0))
+    for entry in items_of(&router.links, i) {
+        if is_symmetric_to(&entry.1.0, addr, now) && is_flooding_link(router, i, &entry.1.0) {
+            return true;
+        }
+    }
+    false
 }
 
 /// Whether the address is shown as a routing relay's.
 pub(crate) fn shows_routing(router: &Router, addr: Addr4) -> bool
     ensures { result ≡ shows_routing router.now addr }
 {
-    router.neighbours.as_slice().iter().any(|entry| is_neighbour_at(&entry.1.0, addr)
-        && contains(router.relays.routing.as_slice(), entry.0))
+    for entry in router.neighbours.as_slice() {
+        if is_neighbour_at(&entry.1.0, addr)
+            && contains(router.relays.routing.as_slice(), entry.0)
+        {
+            return true;
+        }
+    }
+    false
 }
 
 /// The neighbour's metric of that side.
@@ -140,16 +167,24 @@ pub(crate) fn link_metric(link: &Link, now: u64, side: Side) -> Option<Metric>
 fn shows_near(router: &Router, addr: Addr4, side: Side, metric: Metric) -> bool
     ensures { result ≡ shows_near router.now addr side metric }
 {
-    router.neighbours.as_slice().iter().any(|entry| is_neighbour_at(&entry.1.0, addr)
-        && is_metric(near_metric(&entry.1.0, side), metric))
+    for entry in router.neighbours.as_slice() {
+        if is_neighbour_at(&entry.1.0, addr) && is_metric(near_metric(&entry.1.0, side), metric) {
+            return true;
+        }
+    }
+    false
 }
 
 /// Whether the address is shown with a metric of a neighbour.
 fn has_near(router: &Router, addr: Addr4, side: Side) -> bool
     ensures { result ≡ has_near router.now addr side }
 {
-    router.neighbours.as_slice().iter().any(|entry| is_neighbour_at(&entry.1.0, addr)
-        && near_metric(&entry.1.0, side).is_some())
+    for entry in router.neighbours.as_slice() {
+        if is_neighbour_at(&entry.1.0, addr) && near_metric(&entry.1.0, side).is_some() {
+            return true;
+        }
+    }
+    false
 }
 
 /// Whether the address is shown with that metric of a link.
@@ -163,16 +198,28 @@ fn shows_link_metric(
 ) -> bool
     ensures { result ≡ shows_link_metric router.now i addr now side metric }
 {
-    items_of(&router.links, i).iter().any(|entry| contains(entry.1.0.addrs.as_slice(), addr)
-        && is_metric(link_metric(&entry.1.0, now, side), metric))
+    for entry in items_of(&router.links, i) {
+        if contains(entry.1.0.addrs.as_slice(), addr)
+            && is_metric(link_metric(&entry.1.0, now, side), metric)
+        {
+            return true;
+        }
+    }
+    false
 }
 
 /// Whether the address is shown with a metric of a link.
 fn has_link_metric(router: &Router, i: usize, addr: Addr4, now: u64, side: Side) -> bool
     ensures { result ≡ has_link_metric router.now i addr now side }
 {
-    items_of(&router.links, i).iter().any(|entry| contains(entry.1.0.addrs.as_slice(), addr)
-        && link_metric(&entry.1.0, now, side).is_some())
+    for entry in items_of(&router.links, i) {
+        if contains(entry.1.0.addrs.as_slice(), addr)
+            && link_metric(&entry.1.0, now, side).is_some()
+        {
+            return true;
+        }
+    }
+    false
 }
 
 /// Whether a receiver takes that metric, or none, for the address: a neighbour's where one is shown, else a link's.

@@ -16,7 +16,10 @@ pub(crate) fn is_neighbour_at(neighbour: &Neighbour, addr: Addr4) -> bool
 pub(crate) fn has_neighbour_at(neighbours: &[(Addr4, (Neighbour, u64))], addr: Addr4) -> bool
     ensures { result ≡ has_neighbour_at neighbours.now addr }
 {
-    neighbours
-        .iter()
-        .any(|entry| is_neighbour_at(&entry.1.0, addr))
+    for entry in neighbours {
+        if is_neighbour_at(&entry.1.0, addr) {
+            return true;
+        }
+    }
+    false
 }

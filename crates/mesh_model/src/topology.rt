@@ -22,10 +22,16 @@ fn has_router(
 ) -> bool
     ensures { result ≡ has_router routers.now key tuple }
 {
-    routers.iter().any(|entry| entry.0.from.0 == key.from.0
-        && entry.0.to.0 == key.to.0
-        && entry.1.0.ansn == tuple.ansn
-        && entry.1.0.metric.code == tuple.metric.code)
+    for entry in routers {
+        if entry.0.from.0 == key.from.0
+            && entry.0.to.0 == key.to.0
+            && entry.1.0.ansn == tuple.ansn
+            && entry.1.0.metric.code == tuple.metric.code
+        {
+            return true;
+        }
+    }
+    false
 }
 
 /// Whether the base has the tuple of that address.
@@ -36,10 +42,16 @@ fn has_address(
 ) -> bool
     ensures { result ≡ has_address addresses.now key tuple }
 {
-    addresses.iter().any(|entry| entry.0.from.0 == key.from.0
-        && entry.0.addr.0 == key.addr.0
-        && entry.1.0.ansn == tuple.ansn
-        && entry.1.0.metric.code == tuple.metric.code)
+    for entry in addresses {
+        if entry.0.from.0 == key.from.0
+            && entry.0.addr.0 == key.addr.0
+            && entry.1.0.ansn == tuple.ansn
+            && entry.1.0.metric.code == tuple.metric.code
+        {
+            return true;
+        }
+    }
+    false
 }
 
 /// Whether the base has the tuple of that network.
@@ -50,11 +62,17 @@ fn has_network(
 ) -> bool
     ensures { result ≡ has_network networks.now key tuple }
 {
-    networks.iter().any(|entry| entry.0.from.0 == key.from.0
-        && same_net(entry.0.net, key.net)
-        && entry.1.0.ansn == tuple.ansn
-        && entry.1.0.distance == tuple.distance
-        && entry.1.0.metric.code == tuple.metric.code)
+    for entry in networks {
+        if entry.0.from.0 == key.from.0
+            && same_net(entry.0.net, key.net)
+            && entry.1.0.ansn == tuple.ansn
+            && entry.1.0.distance == tuple.distance
+            && entry.1.0.metric.code == tuple.metric.code
+        {
+            return true;
+        }
+    }
+    false
 }
 
 /// Whether the router holds the tuple.
@@ -95,9 +113,12 @@ fn keeps_rows_of(
 ) -> bool
     ensures { result ≡ keeps_rows_of router.now other.now from addrs.now metric }
 {
-    addrs
-        .iter()
-        .all(|addr| keeps_row(router, other, from, *addr, metric))
+    for addr in addrs {
+        if !keeps_row(router, other, from, *addr, metric) {
+            return false;
+        }
+    }
+    true
 }
 
 /// Whether the router holds what rows of the other's neighbour in its TC give.
@@ -123,9 +144,12 @@ fn keeps_rows_at(
 fn keeps_rows(router: &Router, other: &Router, from: Addr4) -> bool
     ensures { result ≡ keeps_rows router.now other.now from }
 {
-    other.neighbours.as_slice().iter().all(|entry| keeps_rows_at(
-        router, other, from, entry.0, &entry.1.0,
-    ))
+    for entry in other.neighbours.as_slice() {
+        if !keeps_rows_at(router, other, from, entry.0, &entry.1.0) {
+            return false;
+        }
+    }
+    true
 }
 
 /// Whether the router holds what the row of that network in the other's TC gives.
@@ -148,12 +172,12 @@ fn keeps_network(router: &Router, other: &Router, from: Addr4, attached: Attache
 fn keeps_networks(router: &Router, other: &Router, from: Addr4) -> bool
     ensures { result ≡ keeps_networks router.now other.now from }
 {
-    other
-        .settings
-        .attached
-        .as_slice()
-        .iter()
-        .all(|attached| keeps_network(router, other, from, *attached))
+    for attached in other.settings.attached.as_slice() {
+        if !keeps_network(router, other, from, *attached) {
+            return false;
+        }
+    }
+    true
 }
 
 /// Whether the router holds all that the other's TC gives.
@@ -256,13 +280,18 @@ fn are_routers_known(
 ) -> bool
     ensures { result ≡ are_routers_known scenario.now parts.now routers.now x tuples.now }
 {
-    tuples.iter().all(|entry| is_known(
-        scenario,
-        parts,
-        routers,
-        x,
-        Told::ToRouter(entry.0, entry.1.0),
-    ))
+    for entry in tuples {
+        if !is_known(
+            scenario,
+            parts,
+            routers,
+            x,
+            Told::ToRouter(entry.0, entry.1.0),
+        ) {
+            return false;
+        }
+    }
+    true
 }
 
 /// Whether each tuple to an address is known.
@@ -275,13 +304,18 @@ fn are_addresses_known(
 ) -> bool
     ensures { result ≡ are_addresses_known scenario.now parts.now routers.now x tuples.now }
 {
-    tuples.iter().all(|entry| is_known(
-        scenario,
-        parts,
-        routers,
-        x,
-        Told::ToAddress(entry.0, entry.1.0),
-    ))
+    for entry in tuples {
+        if !is_known(
+            scenario,
+            parts,
+            routers,
+            x,
+            Told::ToAddress(entry.0, entry.1.0),
+        ) {
+            return false;
+        }
+    }
+    true
 }
 
 /// Whether each tuple to a network is known.
@@ -294,13 +328,18 @@ fn are_networks_known(
 ) -> bool
     ensures { result ≡ are_networks_known scenario.now parts.now routers.now x tuples.now }
 {
-    tuples.iter().all(|entry| is_known(
-        scenario,
-        parts,
-        routers,
-        x,
-        Told::ToNetwork(entry.0, entry.1.0),
-    ))
+    for entry in tuples {
+        if !is_known(
+            scenario,
+            parts,
+            routers,
+            x,
+            Told::ToNetwork(entry.0, entry.1.0),
+        ) {
+            return false;
+        }
+    }
+    true
 }
 
 /// Whether each tuple of topology that router x holds is known.

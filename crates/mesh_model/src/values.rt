@@ -9,7 +9,12 @@ use mesh_atoms::{Addr4, Metric, NetAddr};
 pub(crate) fn contains(addrs: &[Addr4], addr: Addr4) -> bool
     ensures { result ≡ contains addrs.now addr }
 {
-    addrs.iter().any(|other| other.0 == addr.0)
+    for other in addrs {
+        if other.0 == addr.0 {
+            return true;
+        }
+    }
+    false
 }
 
 /// Whether the networks are the same.
@@ -60,7 +65,12 @@ pub(crate) fn same_metrics(given: Option<Metric>, other: Option<Metric>) -> bool
 pub(crate) fn are_within(addrs: &[Addr4], others: &[Addr4]) -> bool
     ensures { result ≡ are_within addrs.now others.now }
 {
-    addrs.iter().all(|addr| contains(others, *addr))
+    for addr in addrs {
+        if !contains(others, *addr) {
+            return false;
+        }
+    }
+    true
 }
 
 /// Whether both lists have the same addresses.
