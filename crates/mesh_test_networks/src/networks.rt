@@ -296,38 +296,55 @@ fn chosen(alloc: Global, router: &Router, over: Option<usize>) -> Result<Seq<Add
     choose(alloc, &graph)
 }
 
+/// A router with its neighbourhood, but without relays, topology and routes.
+fn neighbourhood(
+    alloc: Global,
+    air: Air,
+    before: &[Router],
+    at: usize,
+    settings: &RouterSettings,
+) -> Result<Router, AllocError> {
+    let own = originator(settings);
+    let mut links = Seq::new(alloc);
+    let mut two_hops = Seq::new(alloc);
+    for iface in 0..settings.interfaces.len() {
+        links.push(links_of(alloc, air, before, (at, iface), own)?)?;
+        two_hops.push(two_hops_of(alloc, air, (at, iface))?)?;
+    }
+    let neighbours = neighbours_of(alloc, air, before, at, own)?;
+    Ok(Router {
+        settings: settings.copy()?,
+        links,
+        two_hops,
+        neighbours,
+        routers: Seq::new(alloc),
+        addresses: Seq::new(alloc),
+        networks: Seq::new(alloc),
+        relays: Relays {
+            flooding: Seq::new(alloc),
+            routing: Seq::new(alloc),
+        },
+        routes: Seq::new(alloc),
+        ansn: u16::try_from(at).unwrap_or(0).wrapping_add(65_530),
+    })
+}
+
+/// The relays that the router chooses by its neighbourhood.
+fn relays_of(alloc: Global, router: &Router) -> Result<Relays, AllocError> {
+    let mut flooding = Seq::new(alloc);
+    for iface in 0..router.settings.interfaces.len() {
+        flooding.push(chosen(alloc, router, Some(iface))?)?;
+    }
+    let routing = chosen(alloc, router, None)?;
+    Ok(Relays { flooding, routing })
+}
+
 /// The routers with their neighbourhoods and relays, but without topology and routes.
 fn neighbourhoods(alloc: Global, air: Air, before: &[Router]) -> Result<Vec<Router>, AllocError> {
     let mut routers = Vec::new(alloc);
     for (at, settings) in air.routers.iter().enumerate() {
-        let own = originator(settings);
-        let mut links = Seq::new(alloc);
-        let mut two_hops = Seq::new(alloc);
-        for iface in 0..settings.interfaces.len() {
-            links.push(links_of(alloc, air, before, (at, iface), own)?)?;
-            two_hops.push(two_hops_of(alloc, air, (at, iface))?)?;
-        }
-        let mut router = Router {
-            settings: settings.copy()?,
-            links,
-            two_hops,
-            neighbours: neighbours_of(alloc, air, before, at, own)?,
-            routers: Seq::new(alloc),
-            addresses: Seq::new(alloc),
-            networks: Seq::new(alloc),
-            relays: Relays {
-                flooding: Seq::new(alloc),
-                routing: Seq::new(alloc),
-            },
-            routes: Seq::new(alloc),
-            ansn: u16::try_from(at).unwrap_or(0).wrapping_add(65_530),
-        };
-        let mut flooding = Seq::new(alloc);
-        for iface in 0..settings.interfaces.len() {
-            flooding.push(chosen(alloc, &router, Some(iface))?)?;
-        }
-        let routing = chosen(alloc, &router, None)?;
-        router.relays = Relays { flooding, routing };
+        let mut router = neighbourhood(alloc, air, before, at, settings)?;
+        router.relays = relays_of(alloc, &router)?;
         routers.push(router)?;
     }
     Ok(routers)

@@ -5,6 +5,7 @@ ghost use Rattle.mesh_paths.specs.Paths.{HasCosts};
 use mesh_atoms::{Addr4, NetAddr, Seq};
 use mesh_paths::{Arc4, Certificate, Graph, PathRow, check, search, search_by_rounds};
 use std::alloc::{AllocError, Global};
+use std::process::Abort;
 use std::test::Fail;
 
 // A number below 100 stands for a router's address, and 100 more for the network of that number and prefix 31.
@@ -54,93 +55,109 @@ fn certificate_of(alloc: Global, rows: &[(u32, u64, u32)]) -> Result<Certificate
     Ok(Certificate { rows: list })
 }
 
-// Certificates from node 1. Each right one is also what both searches find.
+// A name, arcs as from, to and metric, a certificate as node, metric and parent, and whether it is right.
+type Case = (
+    &'static str,
+    &'static [(u32, u32, u32)],
+    &'static [(u32, u64, u32)],
+    bool,
+);
+
+// Certificates from node 1.
+const CERTIFICATES: [Case; 15] = [
+    (
+        "right",
+        &[(1, 2, 1), (1, 3, 1), (2, 4, 10), (3, 4, 2)],
+        &[(1, 0, 1), (2, 1, 1), (3, 1, 1), (4, 3, 3)],
+        true,
+    ),
+    (
+        "wrong parent",
+        &[(1, 2, 1), (1, 3, 1), (2, 4, 10), (3, 4, 2)],
+        &[(1, 0, 1), (2, 1, 1), (3, 1, 1), (4, 3, 2)],
+        false,
+    ),
+    (
+        "too dear",
+        &[(1, 2, 1), (1, 3, 1), (2, 4, 10), (3, 4, 2)],
+        &[(1, 0, 1), (2, 1, 1), (3, 1, 1), (4, 4, 3)],
+        false,
+    ),
+    (
+        "missing row",
+        &[(1, 2, 1), (1, 3, 1), (2, 4, 10), (3, 4, 2)],
+        &[(1, 0, 1), (2, 1, 1), (3, 1, 1)],
+        false,
+    ),
+    (
+        "row of a node that no arc leads to",
+        &[(1, 2, 1), (1, 3, 1)],
+        &[(1, 0, 1), (2, 1, 1), (3, 1, 1), (4, 3, 3)],
+        false,
+    ),
+    (
+        "lesser parent of two",
+        &[(1, 2, 1), (1, 3, 1), (3, 4, 2), (2, 4, 2)],
+        &[(1, 0, 1), (2, 1, 1), (3, 1, 1), (4, 3, 2)],
+        true,
+    ),
+    (
+        "greater parent of two",
+        &[(1, 2, 1), (1, 3, 1), (3, 4, 2), (2, 4, 2)],
+        &[(1, 0, 1), (2, 1, 1), (3, 1, 1), (4, 3, 3)],
+        false,
+    ),
+    ("no arc from the start", &[(2, 3, 1)], &[(1, 0, 1)], true),
+    ("no row of the start", &[], &[], false),
+    ("start at a metric", &[], &[(1, 1, 1)], false),
+    ("unsorted", &[(1, 2, 1)], &[(2, 1, 1), (1, 0, 1)], false),
+    (
+        "duplicate row",
+        &[(1, 2, 1)],
+        &[(1, 0, 1), (2, 1, 1), (2, 1, 1)],
+        false,
+    ),
+    (
+        "cycles",
+        &[(1, 2, 1), (2, 3, 1), (3, 1, 1), (3, 2, 1), (2, 2, 1)],
+        &[(1, 0, 1), (2, 1, 1), (3, 2, 2)],
+        true,
+    ),
+    (
+        "parallel arcs",
+        &[(1, 2, 5), (1, 2, 3), (1, 2, 3), (1, 2, 4)],
+        &[(1, 0, 1), (2, 3, 1)],
+        true,
+    ),
+    (
+        "network beside its gateway's address",
+        &[(2, 102, 4), (1, 2, 1)],
+        &[(1, 0, 1), (102, 5, 2), (2, 1, 1)],
+        true,
+    ),
+];
+
+// The certificate is right or not, and a right one is what both searches find.
+fn expect_answer(rt: &impl Abort, alloc: Global, case: &Case) -> Result<(), AllocError> {
+    let (name, arcs, rows, is_right) = *case;
+    assert!(rt; arcs.len() < 100);
+    let graph = graph_of(alloc, arcs)?;
+    let certificate = certificate_of(alloc, rows)?;
+    assert_eq!(rt; check(&graph, node(1), &certificate), is_right, "{name}");
+    if is_right {
+        let found = search(alloc, &graph, node(1))?;
+        let plain = search_by_rounds(alloc, &graph, node(1))?;
+        let rows = certificate.rows.as_slice();
+        assert_eq!(rt; found.rows.as_slice(), rows, "{name}");
+        assert_eq!(rt; plain.rows.as_slice(), rows, "{name}");
+    }
+    Ok(())
+}
+
 #[test]
 fn answers_certificates(rt: HostRuntime) -> Result<(), Fail> {
-    let cases: [(&str, &[(u32, u32, u32)], &[(u32, u64, u32)], bool); 15] = [
-        (
-            "right",
-            &[(1, 2, 1), (1, 3, 1), (2, 4, 10), (3, 4, 2)],
-            &[(1, 0, 1), (2, 1, 1), (3, 1, 1), (4, 3, 3)],
-            true,
-        ),
-        (
-            "wrong parent",
-            &[(1, 2, 1), (1, 3, 1), (2, 4, 10), (3, 4, 2)],
-            &[(1, 0, 1), (2, 1, 1), (3, 1, 1), (4, 3, 2)],
-            false,
-        ),
-        (
-            "too dear",
-            &[(1, 2, 1), (1, 3, 1), (2, 4, 10), (3, 4, 2)],
-            &[(1, 0, 1), (2, 1, 1), (3, 1, 1), (4, 4, 3)],
-            false,
-        ),
-        (
-            "missing row",
-            &[(1, 2, 1), (1, 3, 1), (2, 4, 10), (3, 4, 2)],
-            &[(1, 0, 1), (2, 1, 1), (3, 1, 1)],
-            false,
-        ),
-        (
-            "row of a node that no arc leads to",
-            &[(1, 2, 1), (1, 3, 1)],
-            &[(1, 0, 1), (2, 1, 1), (3, 1, 1), (4, 3, 3)],
-            false,
-        ),
-        (
-            "lesser parent of two",
-            &[(1, 2, 1), (1, 3, 1), (3, 4, 2), (2, 4, 2)],
-            &[(1, 0, 1), (2, 1, 1), (3, 1, 1), (4, 3, 2)],
-            true,
-        ),
-        (
-            "greater parent of two",
-            &[(1, 2, 1), (1, 3, 1), (3, 4, 2), (2, 4, 2)],
-            &[(1, 0, 1), (2, 1, 1), (3, 1, 1), (4, 3, 3)],
-            false,
-        ),
-        ("no arc from the start", &[(2, 3, 1)], &[(1, 0, 1)], true),
-        ("no row of the start", &[], &[], false),
-        ("start at a metric", &[], &[(1, 1, 1)], false),
-        ("unsorted", &[(1, 2, 1)], &[(2, 1, 1), (1, 0, 1)], false),
-        (
-            "duplicate row",
-            &[(1, 2, 1)],
-            &[(1, 0, 1), (2, 1, 1), (2, 1, 1)],
-            false,
-        ),
-        (
-            "cycles",
-            &[(1, 2, 1), (2, 3, 1), (3, 1, 1), (3, 2, 1), (2, 2, 1)],
-            &[(1, 0, 1), (2, 1, 1), (3, 2, 2)],
-            true,
-        ),
-        (
-            "parallel arcs",
-            &[(1, 2, 5), (1, 2, 3), (1, 2, 3), (1, 2, 4)],
-            &[(1, 0, 1), (2, 3, 1)],
-            true,
-        ),
-        (
-            "network beside its gateway's address",
-            &[(2, 102, 4), (1, 2, 1)],
-            &[(1, 0, 1), (102, 5, 2), (2, 1, 1)],
-            true,
-        ),
-    ];
-    for (name, arcs, rows, is_right) in cases {
-        assert!(rt; arcs.len() < 100);
-        let graph = graph_of(rt.alloc(), arcs)?;
-        let certificate = certificate_of(rt.alloc(), rows)?;
-        assert_eq!(rt; check(&graph, node(1), &certificate), is_right, "{name}");
-        if is_right {
-            let found = search(rt.alloc(), &graph, node(1))?;
-            let plain = search_by_rounds(rt.alloc(), &graph, node(1))?;
-            let rows = certificate.rows.as_slice();
-            assert_eq!(rt; found.rows.as_slice(), rows, "{name}");
-            assert_eq!(rt; plain.rows.as_slice(), rows, "{name}");
-        }
+    for case in &CERTIFICATES {
+        expect_answer(&rt, rt.alloc(), case)?;
     }
     Ok(())
 }

@@ -236,6 +236,24 @@ const STEPS: [([u64; 9], Option<u64>); 9] = [
     ([4, 3, 2, 3, 2, 1, 2, 1, 0], None),
 ];
 
+/// The router has routes to the other routers at those steps, and to the attached network at that metric.
+fn expect_steps(rt: &impl Abort, router: &Router, steps: &[u64], net: Option<u64>, at: usize) {
+    let mut number = 0u32;
+    for want in steps {
+        number = number.wrapping_add(1);
+        let metric = metric_to(router, host(addr_of(number)));
+        if *want == 0 {
+            assert_eq!(rt; metric, None, "router {at}");
+        } else {
+            assert_eq!(rt; metric, Some(*want), "from router {at} to {number}");
+        }
+    }
+    let attached = metric_to(router, NetAddr::of(Addr4(0xc0a8_0000), 24));
+    assert_eq!(rt; attached, net, "router {at}");
+    let count = if net.is_some() { 9 } else { 8 };
+    assert_eq!(rt; router.routes.len(), count, "router {at}");
+}
+
 #[test]
 fn a_grid(rt: HostRuntime) -> Result<(), Fail> {
     let alloc = rt.alloc();
@@ -244,20 +262,7 @@ fn a_grid(rt: HostRuntime) -> Result<(), Fail> {
     let routers = settled_routers(alloc, &scenario, &graph)?;
     expect_right(&rt, alloc, &scenario, &graph, &routers)?;
     for (at, (router, (steps, net))) in routers.iter().zip(&STEPS).enumerate() {
-        let mut number = 0u32;
-        for want in steps {
-            number = number.wrapping_add(1);
-            let metric = metric_to(router, host(addr_of(number)));
-            if *want == 0 {
-                assert_eq!(rt; metric, None, "router {at}");
-            } else {
-                assert_eq!(rt; metric, Some(*want), "from router {at} to {number}");
-            }
-        }
-        let attached = metric_to(router, NetAddr::of(Addr4(0xc0a8_0000), 24));
-        assert_eq!(rt; attached, *net, "router {at}");
-        let count = if net.is_some() { 9 } else { 8 };
-        assert_eq!(rt; router.routes.len(), count, "router {at}");
+        expect_steps(&rt, router, steps, *net, at);
     }
     Ok(())
 }
