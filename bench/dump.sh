@@ -1,29 +1,52 @@
 #!/usr/bin/env bash
-# Counts what `mesh dump` costs: instructions a packet (valgrind's callgrind), and the greatest memory that it holds.
-# The input is made by packets.py: HELLOs and TCs of 35 to 441 octets (239 in the mean), 20,000 of them, or the number given.
-# Further words go to `dump`, as in `bench/dump.sh 20000 --recode`. The program must be built: `./mesh dump </dev/null`.
+# bench/dump.sh [PACKETS [WORD..]]: what `mesh dump` costs, on HELLOs and TCs of 35 to 441 octets (239 in the mean), 20,000
+# of them or the number given, as packets.py makes them. Further words go to `dump`, as in `bench/dump.sh 20000 --recode`.
+#
+# It tells the machine; the octets of input and text; of `dump`, of `wc` and of `xxd -r -p` on the same input the least
+# processor time and the least time on the clock of five runs; the greatest memory of `dump`; and, by callgrind, the
+# instructions that it takes for a packet, its start with them.
+#
+# It needs the program (`./mesh dump </dev/null` builds it) and python3. Without xxd or valgrind their lines are left out.
+# Times vary with what else the machine does, by a tenth or more; instructions don't.
 set -euo pipefail
-top=$(dirname "$(dirname "$(readlink -f "${BASH_SOURCE[0]}")")")
-program=$top/crates/mesh_cmd/out/mesh_cmd
+bench=$(dirname "$(readlink -f "${BASH_SOURCE[0]}")")
+program=$bench/../crates/mesh_cmd/out/mesh_cmd
 count=${1:-20000}
 shift || true
-[ -x "$program" ] || { echo "bench: no $program; run ./mesh dump </dev/null" >&2; exit 1; }
-
+[ -x "$program" ] || { echo "bench: no $program; ./mesh dump </dev/null builds it" >&2; exit 1; }
 folder=$(mktemp -d)
 trap 'rm -rf "$folder"' EXIT
-python3 "$top/bench/packets.py" "$count" > "$folder/input"
 
-valgrind --tool=callgrind --callgrind-out-file="$folder/profile" \
-    "$program" dump "$@" < "$folder/input" > "$folder/text" 2> "$folder/log"
-instructions=$(awk '/Collected/ { print $NF }' "$folder/log")
-tail -n 1 "$folder/text"
-echo "octets of input $(stat -c %s "$folder/input"), of text $(stat -c %s "$folder/text")"
-echo "instructions a packet $((instructions / count))"
+python3 "$bench/packets.py" "$count" > "$folder/input"
+"$program" dump "$@" < "$folder/input" > "$folder/text"
+echo "machine $(uname -sm), $(sed -n 's/^model name[^:]*: //p' /proc/cpuinfo | head -n 1), $(nproc) processors, load $(cut -d ' ' -f 1 /proc/loadavg)"
+echo "packets $count, octets of input $(stat -c %s "$folder/input"), of text $(stat -c %s "$folder/text")"
 
-python3 - "$program" "$folder/input" dump "$@" <<'PY'
-import resource, subprocess, sys
-program, path, *words = sys.argv[1:]
-with open(path, "rb") as given:
-    subprocess.run([program, *words], stdin=given, stdout=subprocess.DEVNULL, check=True)
-print("peak memory", resource.getrusage(resource.RUSAGE_CHILDREN).ru_maxrss, "KiB")
+# measure NAME COMMAND..: runs a command on the input five times.
+measure() {
+    python3 - "$folder/input" "$@" <<'PY'
+import os, subprocess, sys, time
+
+path, name, *command = sys.argv[1:]
+runs = []
+for _ in range(5):
+    begun = time.monotonic()
+    with open(path, "rb") as given:
+        child = subprocess.Popen(command, stdin=given, stdout=subprocess.DEVNULL)
+        _, status, used = os.wait4(child.pid, 0)
+    assert status == 0, f"{name} failed"
+    runs.append((used.ru_utime + used.ru_stime, time.monotonic() - begun, used.ru_maxrss))
+processor, clock, memory = min(r[0] for r in runs), min(r[1] for r in runs), max(r[2] for r in runs)
+print(f"{name}: processor {processor:.3f} s, clock {clock:.3f} s" + (f", memory {memory} KiB" if name.startswith("mesh") else ""))
 PY
+}
+measure "mesh dump${*:+ $*}" "$program" dump "$@"
+measure wc wc
+if command -v xxd >/dev/null; then measure 'xxd -r -p' xxd -r -p; fi
+
+if command -v valgrind >/dev/null; then
+    valgrind --tool=callgrind --callgrind-out-file="$folder/profile" "$program" dump "$@" \
+        < "$folder/input" > "$folder/again" 2> "$folder/log"
+    cmp -s "$folder/text" "$folder/again" || { echo "bench: another text under callgrind" >&2; exit 1; }
+    echo "instructions a packet $(($(awk '/Collected/ { print $NF }' "$folder/log") / count))"
+fi
