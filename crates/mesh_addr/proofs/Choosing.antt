@@ -6,7 +6,7 @@ use Rattle.mesh_addr.specs.declared.choices.Choice.{Choice}
 use Rattle.mesh_addr.specs.declared.choices.Limits.{Limits}
 use Rattle.mesh_addr.specs.declared.choices.TailForm.{TailForm}
 use Rattle.mesh_addr.specs.declared.choices.TailForm.TheVariants as tails
-use Rattle.mesh_addr.specs.Spelling.{tail_len, tail_rank, choice_rank, cost, weight, cheaper, IsWithin, IsBestOf, HasHead}
+use Rattle.mesh_addr.specs.Spelling.{tail_len, tail_rank, choice_rank, cost, weight, cheaper, IsWithinLimits, IsBestOf, HasHead}
 
 rank_most : (t : TailForm) → tail_rank t ≤ 2
 rank_most tails.Absent = omega arith
@@ -103,7 +103,7 @@ module _ (w count head : ℕ) (limits : Limits) (zeros full : ℕ) (small : w �
   all_least : (weight w count least ≤ weight w count first) × (weight w count least ≤ weight w count three)
   all_least = cheaper_least w count first three small first_is.0.1.fits full_fit first_is.1
 
-  least_tail : (t : TailForm) → IsWithin w limits (record { head = head; tail = t }) → weight w count least ≤ weight w count (record { head = head; tail = t })
+  least_tail : (t : TailForm) → IsWithinLimits w limits (record { head = head; tail = t }) → weight w count least ≤ weight w count (record { head = head; tail = t })
   least_tail tails.Absent h = omega (arith, all_least.0, first_least.0)
   least_tail (tails.Zeros n) h =
       let lighter = zeros_lighter w count head n zeros some (zeros_most n h.tail h.fits) (omega (arith, zeros_fit)) zeros_fit in
@@ -121,5 +121,5 @@ module _ (w count head : ℕ) (limits : Limits) (zeros full : ℕ) (small : w �
   pub best_of_head : IsBestOf w count (HasHead w limits head) least
   best_of_head = record {
     among = cheaper_either (HasHead w limits head) w count first three first_is.0 (refl, record { fits = full_fit; head = within; tail = full_low });
-    least = λ other h. subst (λ (x : ℕ). IsWithin w limits (record { head = x; tail = other.tail }) → weight w count least ≤ weight w count (record { head = x; tail = other.tail })) (sym h.0) (least_tail other.tail) h.1;
+    least = λ other h. subst (λ (x : ℕ). IsWithinLimits w limits (record { head = x; tail = other.tail }) → weight w count least ≤ weight w count (record { head = x; tail = other.tail })) (sym h.0) (least_tail other.tail) h.1;
   }

@@ -1,11 +1,11 @@
 -- The cheapest choice is spelled, and no spelling has fewer octets.
-use Rattle.std.proofs.Common.{◌≡◌, ℕ, zero, suc, ◌+◌, ◌-◌, ◌*◌, ◌%◌, ◌<◌, ◌≤◌, Bool, true, false, cond, eqb, List, [], ◌∷◌, ◌++◌, length, take, Ok, refl, sym, ap, subst, ◌∙◌, arith, append_assoc, length-append}
+use Rattle.std.proofs.Common.{◌≡◌, ℕ, zero, suc, ◌+◌, ◌-◌, ◌*◌, ◌<◌, ◌≤◌, Bool, true, false, cond, eqb, List, [], ◌∷◌, ◌++◌, length, take, refl, sym, ap, subst, ◌∙◌, arith, append_assoc, length-append}
 use Rattle.std.specs.Prelude.{slice_range, replicate, not, ◌&&◌}
 use Rattle.std.proofs.lemmas.Bool.{eq-eqb, eqb-true, ne_eqb}
-use Rattle.std.proofs.lemmas.List.{take_at, drop_at, length-replicate, length-take, length-take-le, nil_from_length, append-nil}
+use Rattle.std.proofs.lemmas.List.{take_at, drop_at, length-replicate, length-take, length-take-le, nil_from_length}
 use Rattle.std.proofs.lemmas.Slice.{between_from_start}
 use Rattle.mesh_atoms.specs.Reading.{has}
-use Rattle.mesh_atoms.proofs.Reading.{range_length, Stands}
+use Rattle.mesh_atoms.proofs.Reading.{range_length}
 use Rattle.mesh_addr.specs.declared.records.RawAddr.{RawAddr}
 use Rattle.mesh_addr.proofs.Padding.{split_at}
 use Rattle.mesh_addr.proofs.Choosing.{rank_below}
@@ -15,9 +15,9 @@ use Rattle.mesh_addr.specs.declared.choices.TailForm.TheVariants as tails
 use Rattle.mesh_addr.specs.declared.choices.PrefixForm.{PrefixForm}
 use Rattle.mesh_addr.specs.declared.choices.PrefixForm.TheVariants as forms
 use Rattle.mesh_addr.specs.Grammar.{padded, SpellsHead, SpellsTail, SpellsMids, SpellsPrefixes, AreAll, AreAtMost, prefixes, SpellsBlock, AreRaw, IsWritable}
-use Rattle.mesh_addr.specs.Spelling.{tail_len, last_octets, ShareHead, ShareTail, TailFits, IsPossible, head_cost, tail_cost, cost, tail_rank, choice_rank, weight, IsBestOf, all_have, form_of, head_flag, tail_flag, form_flag, flags_of, head_text, tail_text, mids_text, prefixes_text, text_of}
-use Rattle.mesh_addr.specs.Least.{IsLeast, rank, IsFirst, WroteLeast, IsReadBack}
-use Rattle.mesh_addr.proofs.ReadAgain.{mids_long, first_all, block_again}
+use Rattle.mesh_addr.specs.Spelling.{tail_len, last_octets, ShareHead, ShareTail, TailFits, IsPossible, head_cost, tail_cost, cost, tail_rank, choice_rank, weight, IsBestOf, all_have, form_of, tail_flag, form_flag, flags_of, head_text, tail_text, mids_text, prefixes_text, text_of}
+use Rattle.mesh_addr.specs.Least.{IsLeast, known_flags, rank, IsFirst}
+use Rattle.mesh_addr.proofs.ReadAgain.{mids_long, first_all}
 
 both_true : (a b : Bool) → a ≡ true → b ≡ true → a && b ≡ true
 both_true a b h k = rw (h, k) refl
@@ -39,7 +39,7 @@ ends_are head mid tail w octets long is =
     )
 
 module _ (w : ℕ) (head tail : List ℕ) (fits : length head + length tail ≤ w) where
-  one_ends : (a : RawAddr) (mid : List ℕ) → length mid ≡ w - (length head + length tail) → a.octets ≡ padded (head ++ (mid ++ tail)) → (take (length head) a.octets ≡ head) × (slice_range a.octets (w - length tail) w ≡ tail)
+  pub one_ends : (a : RawAddr) (mid : List ℕ) → length mid ≡ w - (length head + length tail) → a.octets ≡ padded (head ++ (mid ++ tail)) → (take (length head) a.octets ≡ head) × (slice_range a.octets (w - length tail) w ≡ tail)
   one_ends a mid long is = ends_are head mid tail w a.octets (omega arith) is
 
   shared_so : (first : RawAddr) → take (length head) first.octets ≡ head → last_octets w (length tail) first ≡ tail → (addrs : List RawAddr) (text : List ℕ) → SpellsMids head tail (w - (length head + length tail)) addrs text → ShareHead first addrs (length head) × ShareTail w first addrs (length tail)
@@ -351,29 +351,30 @@ module _ (w : ℕ) (first : RawAddr) (more : List RawAddr) (choice : Choice) (sm
       rw (text_rank w first more choice small raw best.among) (omega (arith, ranked, form, spelled_choice.ranked))
 
 -- no reserved flag is written
-unreserved_head : (n : ℕ) → head_flag n % 8 ≡ 0
-unreserved_head n = by (eqb n 0) where
-  by : (b : Bool) → cond b 0 128 % 8 ≡ 0
-  by true = refl
-  by false = refl
+flag_of_head : (none : Bool) → cond (not none) 128 0 ≡ head_bit none
+flag_of_head true = refl
+flag_of_head false = refl
 
-unreserved_tail : (t : TailForm) → tail_flag t % 8 ≡ 0
-unreserved_tail tails.Absent = refl
-unreserved_tail (tails.Zeros n) = refl
-unreserved_tail (tails.Full n) = refl
+flags_of_tail : (t : TailForm) → cond (is_full t) 64 0 + cond (is_zeros t) 32 0 ≡ tail_flag t
+flags_of_tail tails.Absent = refl
+flags_of_tail (tails.Zeros n) = refl
+flags_of_tail (tails.Full n) = refl
 
-unreserved_form : (f : PrefixForm) → form_flag f % 8 ≡ 0
-unreserved_form forms.Absent = refl
-unreserved_form forms.One = refl
-unreserved_form forms.Each = refl
+flags_of_form : (f : PrefixForm) → cond (is_one f) 16 0 + cond (is_each f) 8 0 ≡ form_flag f
+flags_of_form forms.Absent = refl
+flags_of_form forms.One = refl
+flags_of_form forms.Each = refl
 
-unreserved_flags : (choice : Choice) (form : PrefixForm) → flags_of choice form % 8 ≡ 0
-unreserved_flags choice form = omega (arith, unreserved_head choice.head, unreserved_tail choice.tail, unreserved_form form)
+unreserved_flags : (choice : Choice) (form : PrefixForm) → flags_of choice form ≡ known_flags (flags_of choice form)
+unreserved_flags choice form =
+    let are = bits_are (eqb choice.head 0) choice.tail form in
+    rw (are.0, are.1, are.2, are.3, are.4) (omega (arith, flag_of_head (eqb choice.head 0), flags_of_tail choice.tail, flags_of_form form))
 
 least_text : (w : ℕ) (first : RawAddr) (more : List RawAddr) (choice : Choice) → w ≤ 16 → AreRaw w (first ∷ more) → IsBestOf w (length (first ∷ more)) (IsPossible w first (first ∷ more)) choice → IsLeast w (first ∷ more) (text_of w first (first ∷ more) choice (form_of w first (first ∷ more)))
 unfolding form_of text_spelled
 least_text w first more choice small raw best = record {
   spelled = text_spelled w first more choice small raw best.among;
+  narrow = small;
   unreserved = unreserved_flags choice (form_for (all_have (8 * w) (first ∷ more)) (all_have first.prefix (first ∷ more)));
   least = not_longer w first more choice small raw best;
   preferred = not_later w first more choice small raw best;
@@ -383,14 +384,3 @@ pub least_of_first : (w : ℕ) (first : RawAddr) (addrs : List RawAddr) (choice 
 least_of_first w first [] choice is h best = absurd is
 least_of_first w first (a ∷ addrs) choice is h best =
     subst (λ (b : RawAddr). IsLeast w (a ∷ addrs) (text_of w b (a ∷ addrs) choice (form_of w b (a ∷ addrs)))) (sym is) (least_text w a addrs choice h.narrow h.raw (subst (λ (b : RawAddr). IsBestOf w (length (a ∷ addrs)) (IsPossible w b (a ∷ addrs)) choice) is best))
-
-pub read_back : (w : ℕ) (addrs : List RawAddr) (old new : List ℕ) → WroteLeast w addrs old new → IsReadBack w addrs old new
-read_back w addrs old new h rest =
-    let text : List ℕ = h.0 in
-    let long : length new ≡ length old + length text = ap length h.1 ∙ length-append old text in
-    let size : length text ≡ length new - length old = omega arith in
-    let whole : new ++ rest ≡ old ++ (text ++ rest) = ap (λ (l : List ℕ). l ++ rest) h.1 ∙ append_assoc old text rest in
-    let parts : slice_range (new ++ rest) (length old) (length new) ≡ text ++ [] =
-    ap (λ (l : List ℕ). slice_range l (length old) (length new)) whole ∙ ap (take (length new - length old)) (drop_at old (text ++ rest) (length old) refl) ∙ take_at text rest (length new - length old) size ∙ sym (append-nil text) in
-    let stands : Stands (new ++ rest) (length old) text [] (length new) = record { parts = parts; at_end = omega arith; fits = omega (arith, length-append new rest) } in
-    block_again (new ++ rest) (length old) w addrs text [] (length new) h.2.spelled stands ∙ ap (λ (n : ℕ). Ok (addrs, n)) (sym long)

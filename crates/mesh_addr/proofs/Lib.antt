@@ -3,6 +3,7 @@ pub mod Choosing
 pub mod Fewest
 pub mod Limits
 pub mod Loops
+pub mod OneLeast
 pub mod Outcomes
 pub mod Padding
 pub mod ReadAgain

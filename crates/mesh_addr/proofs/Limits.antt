@@ -9,7 +9,7 @@ use Rattle.mesh_addr.specs.declared.choices.Choice.{Choice}
 use Rattle.mesh_addr.specs.declared.choices.Limits.{Limits}
 use Rattle.mesh_addr.specs.declared.choices.TailForm.{TailForm}
 use Rattle.mesh_addr.specs.declared.choices.TailForm.TheVariants as tails
-use Rattle.mesh_addr.specs.Spelling.{tail_len, ShareTail, EndsInZeros, TailFits, IsPossible, IsLimit, AreLimits, IsTailWithin, IsWithin}
+use Rattle.mesh_addr.specs.Spelling.{tail_len, ShareTail, EndsInZeros, TailFits, IsPossible, IsLimit, AreLimits, IsTailWithin, IsWithinLimits}
 use Rattle.mesh_addr.proofs.Padding.{zeros}
 
 -- what a test for a difference told
@@ -55,7 +55,7 @@ pub zeros_less : (a : RawAddr) (w n m : ℕ) → n ≤ m → m ≤ w → EndsInZ
 zeros_less a w n m le le' e = last_less a.octets w n m le le' ∙ ap (drop (m - n)) e ∙ drop-replicate {X = ℕ} (m - n) m 0 ∙ ap zeros (omega arith)
 
 -- what is within the limits is possible
-pub within_possible : (w : ℕ) (first : RawAddr) (addrs : List RawAddr) (limits : Limits) → AreLimits w first addrs limits → (choice : Choice) → IsWithin w limits choice → IsPossible w first addrs choice
+pub within_possible : (w : ℕ) (first : RawAddr) (addrs : List RawAddr) (limits : Limits) → AreLimits w first addrs limits → (choice : Choice) → IsWithinLimits w limits choice → IsPossible w first addrs choice
 within_possible w first addrs limits h choice k = record { fits = k.fits; heads = h.heads.below choice.head k.head; tails = shared choice.tail k.tail; zeros = fit choice.tail k.tail } where
   shared : (t : TailForm) → IsTailWithin limits t → ShareTail w first addrs (tail_len t)
   shared tails.Absent le = h.tails.below 0 (omega arith)
@@ -68,7 +68,7 @@ within_possible w first addrs limits h choice k = record { fits = k.fits; heads 
   fit (tails.Full n) le = tt
 
 -- what is possible is within the limits
-pub possible_within : (w : ℕ) (first : RawAddr) (addrs : List RawAddr) (limits : Limits) → AreLimits w first addrs limits → (choice : Choice) → IsPossible w first addrs choice → IsWithin w limits choice
+pub possible_within : (w : ℕ) (first : RawAddr) (addrs : List RawAddr) (limits : Limits) → AreLimits w first addrs limits → (choice : Choice) → IsPossible w first addrs choice → IsWithinLimits w limits choice
 possible_within w first addrs limits h choice k = record { fits = k.fits; head = h.heads.greatest choice.head (omega (arith, k.fits)) k.heads; tail = small choice.tail k.fits k.tails k.zeros } where
   small : (t : TailForm) → choice.head + tail_len t ≤ w → ShareTail w first addrs (tail_len t) → TailFits w first t → IsTailWithin limits t
   small tails.Absent le shared fit = tt

@@ -5,7 +5,7 @@ use Rattle.std.proofs.lemmas.Bool.{le-ltb, lt-ltb}
 use Rattle.std.proofs.Math.Nat.{suc-mul}
 use Rattle.mesh_atoms.specs.Reading.{◌>>=◌, refuse, has}
 use Rattle.mesh_atoms.proofs.Reading.{Stands, behind, stands_first, stands_next, octet_again, octet_cut, piece_cut}
-use Rattle.mesh_addr.specs.Grammar.{AreAtMost, CountedFault, ZerosFault, PrefixFault, Begins, Shaped, BlockFault, prefix_count}
+use Rattle.mesh_addr.specs.Grammar.{AreAtMost, CountedFault, ZerosFault, PrefixFault, BeginsBlock, Shaped, BlockFault, prefix_count}
 use Rattle.mesh_addr.specs.Grammar as fault
 use Rattle.mesh_addr.specs.Reading.{count_at, flags_at, number_at, counted_at, head_at, tail_at, parts_end, prefix_at, common_at, addrs_at, block_at}
 use Rattle.mesh_addr.proofs.ReadAgain.{count_again, flags_again, number_again, head_again, tail_again, parts_again, prefix_again}
@@ -80,7 +80,7 @@ module _ (s : List ℕ) (end : ℕ) (fits : end ≤ length s) where
     rest_is : slice_range s (at + 1 + 1) end ≡ rest
     within : at + 1 + 1 ≤ end
 
-  begun : (at count flags : ℕ) (rest : List ℕ) → at ≤ end → Begins (slice_range s at end) count flags rest → Begun at count flags rest
+  begun : (at count flags : ℕ) (rest : List ℕ) → at ≤ end → BeginsBlock (slice_range s at end) count flags rest → Begun at count flags rest
   begun at count flags rest le h =
       let both = stands at (count ∷ (flags ∷ [])) rest le h.parts in
       let second : Stands s (at + 1) (flags ∷ []) rest end = stands_next s at (count ∷ []) (flags ∷ []) rest end both in

@@ -9,7 +9,7 @@ use Rattle.mesh_atoms.specs.Reading.{has, octet_at, piece_at}
 use Rattle.mesh_atoms.proofs.Reading.{meets_bind, meets_if, range_length, Takes, takes_none, takes_both, Faulty, octet_takes, piece_takes}
 use Rattle.mesh_addr.specs.declared.records.RawAddr.{RawAddr}
 use Rattle.mesh_addr.proofs.Padding.{split_at}
-use Rattle.mesh_addr.specs.Grammar.{padded, SpellsHead, SpellsTail, SpellsMids, SpellsPrefixes, AreAll, AreAtMost, prefixes, SpellsBlock, CountedFault, ZerosFault, PrefixFault, Begins, Shaped, BlockFault, prefix_count}
+use Rattle.mesh_addr.specs.Grammar.{padded, SpellsHead, SpellsTail, SpellsMids, SpellsPrefixes, AreAll, AreAtMost, prefixes, SpellsBlock, CountedFault, ZerosFault, PrefixFault, BeginsBlock, Shaped, BlockFault, prefix_count}
 use Rattle.mesh_addr.specs.Grammar as fault
 use Rattle.mesh_addr.specs.Reading.{Shape, mid_of, clashes, count_at, flags_at, number_at, counted_at, head_at, tail_at, parts_end, prefix_at, common_at, own_at, addrs_at, block_at}
 use Rattle.mesh_addr.proofs.Loops.{next_part}
@@ -293,7 +293,7 @@ block_takes width s at end fits =
     meets_bind (head_at s f.0 f.1 end width) _ (Took s f.1 end Head) P (λ e. (has f.0 128 ≡ true) × CountedAt s f.1 end width e) Q (head_takes s f.0 f.1 end width t1.2.within fits)
     (λ e h. moved width s at end f.1 (2 + h.1.0) h.1.0 h.1.1 e (fault.BlockFault.head n.0 f.0 h.1.0 h.1.1 (slice_range s f.1 end) (record { some = t0.0; tails = t1.0; prefixes = t1.1; parts = begins }) h.0 h.1.2) h.1.3 (omega arith))
     (λ head t2.
-    let begun : Begins (slice_range s at end) n.0 f.0 (t2.0 ++ slice_range s head.1 end) = record { some = t0.0; tails = t1.0; prefixes = t1.1; parts = begins ∙ ap (λ (l : List ℕ). n.0 ∷ (f.0 ∷ l)) t2.2.parts } in
+    let begun : BeginsBlock (slice_range s at end) n.0 f.0 (t2.0 ++ slice_range s head.1 end) = record { some = t0.0; tails = t1.0; prefixes = t1.1; parts = begins ∙ ap (λ (l : List ℕ). n.0 ∷ (f.0 ∷ l)) t2.2.parts } in
     let room : ℕ = width - length head.0 in
     let Tail = IsTail (has f.0 64) (has f.0 32) room in
     meets_bind (tail_at s f.0 head.1 end room) _ (Took s head.1 end Tail) P (TailFault s f.0 head.1 end room) Q (tail_takes s f.0 head.1 end room t2.2.within fits t1.0)
@@ -358,6 +358,6 @@ block_takes width s at end fits =
       k0,
     ))))))))
   where
-    tail_fault : (n flags : ℕ) (head text : List ℕ) (start after : ℕ) → start ≡ at + 2 → after ≡ start + length text → Begins (slice_range s at end) n flags (text ++ slice_range s after end) → length head ≤ width → SpellsHead (has flags 128) head text → (e : Refusal) → TailFault s flags after end (width - length head) e → IsFault width s at end e
+    tail_fault : (n flags : ℕ) (head text : List ℕ) (start after : ℕ) → start ≡ at + 2 → after ≡ start + length text → BeginsBlock (slice_range s at end) n flags (text ++ slice_range s after end) → length head ≤ width → SpellsHead (has flags 128) head text → (e : Refusal) → TailFault s flags after end (width - length head) e → IsFault width s at end e
     tail_fault n flags head text start after two len begun le is e (inl h) = moved width s at end after (2 + length text + h.1.0) h.1.0 h.1.1 e (fault.BlockFault.full_tail n flags h.1.0 h.1.1 head text (slice_range s after end) begun le is h.0 h.1.2) h.1.3 (omega arith)
     tail_fault n flags head text start after two len begun le is e (inr h) = moved width s at end after (2 + length text) h.1.0 h.1.1 e (fault.BlockFault.zero_tail n flags h.1.1 head text (slice_range s after end) begun le is h.0 h.1.2.1) h.1.3 (omega (arith, h.1.2.0))

@@ -23,7 +23,8 @@ SpellsTail true true tail text = ⊥
 abbrev pub SpellsMids : List ℕ → List ℕ → ℕ → List RawAddr → List ℕ → Type 0
 SpellsMids head tail size [] text = text ≡ []
 SpellsMids head tail size (a ∷ addrs) text =
-    (mid : List ℕ) × (rest : List ℕ) × (length mid ≡ size) × (a.octets ≡ padded (head ++ (mid ++ tail))) × SpellsMids head tail size addrs rest × (text ≡ mid ++ rest)
+    (mid : List ℕ) × (rest : List ℕ) × (length mid ≡ size) × (a.octets ≡ padded (head ++ (mid ++ tail))) × SpellsMids head tail size addrs rest
+    × (text ≡ mid ++ rest)
 
 -- none is above the greatest
 abbrev pub AreAtMost : ℕ → List ℕ → Type 0
@@ -81,7 +82,7 @@ pub data PrefixFault (most : ℕ) (s : List ℕ) : ℕ → ℕ → Type 0 where
   prefix_above : (before : List ℕ) (p : ℕ) (rest : List ℕ) → s ≡ before ++ p ∷ rest → AreAtMost most before → most < p → PrefixFault most s (length before) 11
 
 -- a number of addresses and flags that are sound
-pub record Begins (s : List ℕ) (count flags : ℕ) (rest : List ℕ) : Type 0 where
+pub record BeginsBlock (s : List ℕ) (count flags : ℕ) (rest : List ℕ) : Type 0 where
   pub some : 0 < count
   pub tails : has flags 64 && has flags 32 ≡ false
   pub prefixes : has flags 16 && has flags 8 ≡ false
@@ -91,7 +92,7 @@ pub record Begins (s : List ℕ) (count flags : ℕ) (rest : List ℕ) : Type 0 
 pub record Shaped (width : ℕ) (s : List ℕ) (count flags : ℕ) (head tail text rest : List ℕ) : Type 0 where
   pub head_text : List ℕ
   pub tail_text : List ℕ
-  pub begins : Begins s count flags (text ++ rest)
+  pub begins : BeginsBlock s count flags (text ++ rest)
   pub fits : length head + length tail ≤ width
   pub head_is : SpellsHead (has flags 128) head head_text
   pub tail_is : SpellsTail (has flags 64) (has flags 32) tail tail_text
@@ -108,11 +109,20 @@ pub data BlockFault (width : ℕ) (s : List ℕ) : ℕ → ℕ → Type 0 where
   no_flags : (count : ℕ) → s ≡ count ∷ [] → 0 < count → BlockFault width s 1 1
   two_tails : (count flags : ℕ) (rest : List ℕ) → s ≡ count ∷ (flags ∷ rest) → 0 < count → has flags 64 && has flags 32 ≡ true → BlockFault width s 1 9
   two_prefixes : (count flags : ℕ) (rest : List ℕ) → s ≡ count ∷ (flags ∷ rest) → 0 < count → has flags 16 && has flags 8 ≡ true → BlockFault width s 1 9
-  head : (count flags place reason : ℕ) (rest : List ℕ) → Begins s count flags rest → has flags 128 ≡ true → CountedFault width rest place reason → BlockFault width s (2 + place) reason
-  full_tail : (count flags place reason : ℕ) (head text rest : List ℕ) → Begins s count flags (text ++ rest) → length head ≤ width → SpellsHead (has flags 128) head text → has flags 64 ≡ true → CountedFault (width - length head) rest place reason → BlockFault width s (2 + length text + place) reason
-  zero_tail : (count flags reason : ℕ) (head text rest : List ℕ) → Begins s count flags (text ++ rest) → length head ≤ width → SpellsHead (has flags 128) head text → has flags 32 ≡ true → ZerosFault (width - length head) rest reason → BlockFault width s (2 + length text) reason
-  middle : (count flags i : ℕ) (head tail text rest : List ℕ) → Shaped width s count flags head tail text rest → i < count → i * (width - (length head + length tail)) ≤ length rest → length rest < (i + 1) * (width - (length head + length tail)) → BlockFault width s (2 + length text + i * (width - (length head + length tail))) 1
-  prefix : (count flags place reason : ℕ) (head tail text mids rest : List ℕ) → Shaped width s count flags head tail text (mids ++ rest) → length mids ≡ count * (width - (length head + length tail)) → place < prefix_count flags count → PrefixFault (8 * width) rest place reason → BlockFault width s (2 + length text + length mids + place) reason
+  head : (count flags place reason : ℕ) (rest : List ℕ) → BeginsBlock s count flags rest → has flags 128 ≡ true → CountedFault width rest place reason
+      → BlockFault width s (2 + place) reason
+  full_tail : (count flags place reason : ℕ) (head text rest : List ℕ) → BeginsBlock s count flags (text ++ rest) → length head ≤ width
+      → SpellsHead (has flags 128) head text → has flags 64 ≡ true → CountedFault (width - length head) rest place reason
+      → BlockFault width s (2 + length text + place) reason
+  zero_tail : (count flags reason : ℕ) (head text rest : List ℕ) → BeginsBlock s count flags (text ++ rest) → length head ≤ width
+      → SpellsHead (has flags 128) head text → has flags 32 ≡ true → ZerosFault (width - length head) rest reason
+      → BlockFault width s (2 + length text) reason
+  middle : (count flags i : ℕ) (head tail text rest : List ℕ) → Shaped width s count flags head tail text rest → i < count
+      → i * (width - (length head + length tail)) ≤ length rest → length rest < (i + 1) * (width - (length head + length tail))
+      → BlockFault width s (2 + length text + i * (width - (length head + length tail))) 1
+  prefix : (count flags place reason : ℕ) (head tail text mids rest : List ℕ) → Shaped width s count flags head tail text (mids ++ rest)
+      → length mids ≡ count * (width - (length head + length tail)) → place < prefix_count flags count → PrefixFault (8 * width) rest place reason
+      → BlockFault width s (2 + length text + length mids + place) reason
 
 -- addresses with zeros after their octets, and prefix lengths that fit
 abbrev pub AreRaw : ℕ → List RawAddr → Type 0

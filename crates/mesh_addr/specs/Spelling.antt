@@ -67,7 +67,7 @@ IsTailWithin limits (tails.Zeros n) = n ≤ limits.zeros
 IsTailWithin limits (tails.Full n) = n ≤ limits.tail
 
 -- a choice within the limits
-pub record IsWithin (width : ℕ) (limits : Limits) (choice : Choice) : Type 0 where
+pub record IsWithinLimits (width : ℕ) (limits : Limits) (choice : Choice) : Type 0 where
   pub fits : choice.head + tail_len choice.tail ≤ width
   pub head : choice.head ≤ limits.head
   pub tail : IsTailWithin limits choice.tail
@@ -112,11 +112,11 @@ pub record IsBestOf (width count : ℕ) (Among : Choice → Type 0) (best : Choi
 
 -- a choice within the limits that has this head
 abbrev pub HasHead : ℕ → Limits → ℕ → Choice → Type 0
-HasHead width limits head choice = (choice.head ≡ head) × IsWithin width limits choice
+HasHead width limits head choice = (choice.head ≡ head) × IsWithinLimits width limits choice
 
 -- a choice within the limits that has a head below this one
 abbrev pub HasHeadBelow : ℕ → Limits → ℕ → Choice → Type 0
-HasHeadBelow width limits head choice = (choice.head + 1 ≤ head) × IsWithin width limits choice
+HasHeadBelow width limits head choice = (choice.head + 1 ≤ head) × IsWithinLimits width limits choice
 
 -- ---- prefix lengths
 
@@ -174,4 +174,5 @@ prefixes_text forms.Each first addrs = prefixes addrs
 -- the whole block
 unfoldable pub text_of : ℕ → RawAddr → List RawAddr → Choice → PrefixForm → List ℕ
 text_of width first addrs choice form =
-    length addrs ∷ (flags_of choice form ∷ (head_text choice.head first ++ (tail_text choice.tail width first ++ (mids_text choice.head (width - tail_len choice.tail) addrs ++ prefixes_text form first addrs))))
+    length addrs ∷ (flags_of choice form ∷ (head_text choice.head first
+    ++ (tail_text choice.tail width first ++ (mids_text choice.head (width - tail_len choice.tail) addrs ++ prefixes_text form first addrs))))

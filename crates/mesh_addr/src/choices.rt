@@ -3,7 +3,7 @@
 //! cheaper.
 ghost use Rattle.std.specs.Prelude.{◌≡◌, ◌≤◌, ◌<◌, ◌+◌, length, take};
 ghost use Rattle.mesh_addr.specs.Spelling as spelling;
-ghost use Rattle.mesh_addr.specs.Spelling.{tail_len, last_octets, ShareHead, ShareTail, EndsInZeros, IsLimit, AreLimits, IsWithin, IsBestOf, HasHead};
+ghost use Rattle.mesh_addr.specs.Spelling.{tail_len, last_octets, ShareHead, ShareTail, EndsInZeros, IsLimit, AreLimits, IsWithinLimits, IsBestOf, HasHead};
 
 use crate::records::RawAddr;
 
@@ -188,7 +188,7 @@ pub fn best(width: usize, count: usize, limits: Limits) -> Choice
     requires some { 0 < count }
     requires count { count ≤ 255 }
     requires head { limits.head ≤ width }
-    ensures { IsBestOf width count (IsWithin width limits) result }
+    ensures { IsBestOf width count (IsWithinLimits width limits) result }
 {
     let mut best = best_with_head(width, count, limits, 0);
     for head in 1..limits.head + 1 {

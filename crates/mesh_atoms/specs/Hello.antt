@@ -18,7 +18,8 @@ use Rattle.mesh_atoms.specs.declared.tuples.Neighbour.{Neighbour}
 use Rattle.mesh_atoms.specs.Base.{Has, host}
 use Rattle.mesh_atoms.specs.Codes.{time_value, IsSentCode}
 use Rattle.mesh_atoms.specs.Nodes.{IsBefore}
-use Rattle.mesh_atoms.specs.State.{State, LinkState, Is_lost, Is_symmetric, Is_heard, state_of, HasLink, HasSymmetricWith, HasAddressOn, IsOriginator}
+use Rattle.mesh_atoms.specs.State.{State, LinkState, Is_pending, Is_lost, Is_symmetric, Is_heard, state_of, HasLink, HasSymmetricWith, HasAddressOn, IsOriginator}
+use Rattle.mesh_atoms.specs.Words.{IsValue}
 
 -- What a HELLO says of an address, by parts
 
@@ -43,47 +44,42 @@ abbrev pub HasLinkTo : State → ℕ → ℕ → Addr4 → LinkState → Link �
 HasLinkTo s i now a state link = (key : LinkKey) × HasLink s i key link × Contains link.addrs a × (state_of link now ≡ state)
 
 -- the address is shown with that LINK_STATUS
-abbrev pub ShowsLink : State → ℕ → ℕ → Addr4 → LinkState → Type 0
-ShowsLink s i now a state = (link : Link) × HasLinkTo s i now a state link
+abbrev pub SaysLink : State → ℕ → ℕ → Addr4 → LinkState → Type 0
+SaysLink s i now a state = (link : Link) × HasLinkTo s i now a state link
 
 -- the HELLO of interface i at now says this of the address (RFC 6130, section 11, and RFC 7181, section 15.1): own addresses;
 -- the status and metrics of i's links, but of PENDING ones; OTHER_NEIGHB and metrics of symmetric neighbours; lost addresses;
 -- and which addresses are of relays
-abbrev pub Shows : State → ℕ → ℕ → Addr4 → Part → Type 0
-Shows s i now a This_if = HasAddressOn s.settings i a
-Shows s i now a Other_if = (j : ℕ) × (j ≢ i) × HasAddressOn s.settings j a
-Shows s i now a Link_lost = ShowsLink s i now a Is_lost
-Shows s i now a Link_symmetric = ShowsLink s i now a Is_symmetric
-Shows s i now a Link_heard = ShowsLink s i now a Is_heard
-Shows s i now a Other_lost = (lost : Lost) × Has s.bases.neighbourhood.losts a lost
-Shows s i now a Other_symmetric =
-    ((o : Addr4) × (n : Neighbour) × HasSymmetricWith s a o n) × (ShowsLink s i now a Is_symmetric → ⊥)
-Shows s i now a (Link_in m) =
+abbrev pub Says : State → ℕ → ℕ → Addr4 → Part → Type 0
+Says s i now a This_if = HasAddressOn s.settings i a
+Says s i now a Other_if = (j : ℕ) × (j ≢ i) × HasAddressOn s.settings j a
+Says s i now a Link_lost = SaysLink s i now a Is_lost
+Says s i now a Link_symmetric = SaysLink s i now a Is_symmetric
+Says s i now a Link_heard = SaysLink s i now a Is_heard
+Says s i now a Other_lost = (lost : Lost) × Has s.bases.neighbourhood.losts a lost
+Says s i now a Other_symmetric =
+    ((o : Addr4) × (n : Neighbour) × HasSymmetricWith s a o n) × (SaysLink s i now a Is_symmetric → ⊥)
+Says s i now a (Link_in m) =
     (link : Link) × (HasLinkTo s i now a Is_heard link ⊎ HasLinkTo s i now a Is_symmetric link) × (link.link_in ≡ m)
-Shows s i now a (Link_out m) = (link : Link) × HasLinkTo s i now a Is_symmetric link × (link.link_out ≡ Some m)
-Shows s i now a (Near_in m) = (o : Addr4) × (n : Neighbour) × HasSymmetricWith s a o n × (n.metric_in ≡ Some m)
-Shows s i now a (Near_out m) = (o : Addr4) × (n : Neighbour) × HasSymmetricWith s a o n × (n.metric_out ≡ Some m)
-Shows s i now a Flooding =
+Says s i now a (Link_out m) = (link : Link) × HasLinkTo s i now a Is_symmetric link × (link.link_out ≡ Some m)
+Says s i now a (Near_in m) = (o : Addr4) × (n : Neighbour) × HasSymmetricWith s a o n × (n.metric_in ≡ Some m)
+Says s i now a (Near_out m) = (o : Addr4) × (n : Neighbour) × HasSymmetricWith s a o n × (n.metric_out ≡ Some m)
+Says s i now a Flooding =
     (link : Link) × HasLinkTo s i now a Is_symmetric link
     × (o : Addr4) × (n : Neighbour) × (b : Addr4) × Contains link.addrs b × HasSymmetricWith s b o n
     × (relays : List Addr4) × (slice_get s.relays.flooding i ≡ Some relays) × Contains relays o
-Shows s i now a Routing = (o : Addr4) × (n : Neighbour) × HasSymmetricWith s a o n × Contains s.relays.routing o
+Says s i now a Routing = (o : Addr4) × (n : Neighbour) × HasSymmetricWith s a o n × Contains s.relays.routing o
 
 -- the address is shown SYMMETRIC by LINK_STATUS or OTHER_NEIGHB
-abbrev pub ShowsSymmetric : State → ℕ → ℕ → Addr4 → Type 0
-ShowsSymmetric s i now a = Shows s i now a Link_symmetric ⊎ Shows s i now a Other_symmetric
+abbrev pub SaysSymmetric : State → ℕ → ℕ → Addr4 → Type 0
+SaysSymmetric s i now a = Says s i now a Link_symmetric ⊎ Says s i now a Other_symmetric
 
 -- of the two metrics that may be shown, the neighbour's; else the link's; else none
-abbrev pub IsShown : (Metric → Type 0) → (Metric → Type 0) → Option Metric → Type 0
-IsShown near link None = ((m : Metric) → near m → ⊥) × ((m : Metric) → link m → ⊥)
-IsShown near link (Some m) = near m ⊎ (((n : Metric) → near n → ⊥) × link m)
+abbrev pub IsSaid : (Metric → Type 0) → (Metric → Type 0) → Option Metric → Type 0
+IsSaid near link None = ((m : Metric) → near m → ⊥) × ((m : Metric) → link m → ⊥)
+IsSaid near link (Some m) = near m ⊎ (((n : Metric) → near n → ⊥) × link m)
 
 -- The HELLO as a typed value
-
--- the value with the property, or none where no value has it
-abbrev pub IsValue : {A : Type 0} → (A → Type 0) → Option A → Type 0
-IsValue {A} P None = (a : A) → P a → ⊥
-IsValue {A} P (Some a) = P a
 
 -- the part that a LOCAL_IF is
 abbrev pub local_part : LocalIf → Part
@@ -96,6 +92,13 @@ link_part Down = Link_lost
 link_part Symmetric = Link_symmetric
 link_part Heard = Link_heard
 
+-- the LINK_STATUS that is said of a link in that state; none where it is PENDING
+abbrev pub status_said : LinkState → Option LinkStatus
+status_said Is_pending = None
+status_said Is_lost = Some Down
+status_said Is_symmetric = Some Symmetric
+status_said Is_heard = Some Heard
+
 -- the part that an OTHER_NEIGHB is
 abbrev pub other_part : OtherStatus → Part
 other_part No_more = Other_lost
@@ -104,16 +107,16 @@ other_part Still = Other_symmetric
 -- the row says of its address exactly what the HELLO of interface i says of it, and that is something
 pub record IsHelloRow (s : State) (i now : ℕ) (row : HelloRow) (a : Addr4) : Type 0 where
   pub addr : row.addr ≡ host a
-  pub some : (part : Part) × Shows s i now a part
-  pub local : IsValue (λ v. Shows s i now a (local_part v)) row.local
-  pub link : IsValue (λ v. Shows s i now a (link_part v)) row.link
-  pub other : IsValue (λ v. Shows s i now a (other_part v)) row.other
-  pub link_in : IsValue (λ m. Shows s i now a (Link_in m)) row.metrics.link_in
-  pub link_out : IsValue (λ m. Shows s i now a (Link_out m)) row.metrics.link_out
-  pub near_in : IsValue (λ m. Shows s i now a (Near_in m)) row.metrics.near_in
-  pub near_out : IsValue (λ m. Shows s i now a (Near_out m)) row.metrics.near_out
-  pub flooding : IsTrue row.mpr.flooding ↔ Shows s i now a Flooding
-  pub routing : IsTrue row.mpr.routing ↔ Shows s i now a Routing
+  pub some : (part : Part) × Says s i now a part
+  pub local : IsValue (λ v. Says s i now a (local_part v)) row.local
+  pub link : IsValue (λ v. Says s i now a (link_part v)) row.link
+  pub other : IsValue (λ v. Says s i now a (other_part v)) row.other
+  pub link_in : IsValue (λ m. Says s i now a (Link_in m)) row.metrics.link_in
+  pub link_out : IsValue (λ m. Says s i now a (Link_out m)) row.metrics.link_out
+  pub near_in : IsValue (λ m. Says s i now a (Near_in m)) row.metrics.near_in
+  pub near_out : IsValue (λ m. Says s i now a (Near_out m)) row.metrics.near_out
+  pub flooding : IsTrue row.mpr.flooding ↔ Says s i now a Flooding
+  pub routing : IsTrue row.mpr.routing ↔ Says s i now a Routing
 
 -- ticks rounded up to a time code that is sent: the least that is no shorter (RFC 5497, section 5)
 pub record IsRoundedUp (ticks time : ℕ) : Type 0 where
@@ -131,5 +134,5 @@ pub record IsHelloNow (s : State) (i now : ℕ) (hello : Hello) : Type 0 where
   pub interval : (time : ℕ) × (hello.interval ≡ Some time) × IsRoundedUp s.settings.times.hello time
   pub willing : hello.willing ≡ s.settings.willing
   pub rows : (row : HelloRow) → Contains hello.rows row → (a : Addr4) × IsHelloRow s i now row a
-  pub all : (a : Addr4) (part : Part) → Shows s i now a part → (row : HelloRow) × Contains hello.rows row × (row.addr ≡ host a)
+  pub all : (a : Addr4) (part : Part) → Says s i now a part → (row : HelloRow) × Contains hello.rows row × (row.addr ≡ host a)
   pub ordered : AllPairs (λ r t. IsBefore r.addr t.addr) hello.rows

@@ -18,9 +18,8 @@ use Rattle.mesh_atoms.specs.declared.settings.Interface.{Interface}
 use Rattle.mesh_atoms.specs.declared.settings.RouterSettings.{RouterSettings}
 use Rattle.mesh_atoms.specs.declared.settings.SenderMetric.{SenderMetric}
 use Rattle.mesh_atoms.specs.Base.{host}
-use Rattle.mesh_atoms.specs.Live.{IsLeastMetric}
-use Rattle.mesh_atoms.specs.Relays.{IsAscending}
 use Rattle.mesh_atoms.specs.State.{HasAddress, HasAddressOn}
+use Rattle.mesh_atoms.specs.Words.{Lists, IsLeastMetric}
 
 -- Rows
 
@@ -29,34 +28,30 @@ abbrev pub HasRowOf : Hello → Addr4 → HelloRow → Type 0
 HasRowOf hello a row = Contains hello.rows row × (row.addr ≡ host a)
 
 -- the address is shown as one of the sender's
-abbrev pub ShowsLocal : Hello → Addr4 → LocalIf → Type 0
-ShowsLocal hello a local = (row : HelloRow) × HasRowOf hello a row × (row.local ≡ Some local)
+abbrev pub TellsLocal : Hello → Addr4 → LocalIf → Type 0
+TellsLocal hello a local = (row : HelloRow) × HasRowOf hello a row × (row.local ≡ Some local)
 
 -- an address of the receiver's interface i is shown with that LINK_STATUS
-abbrev pub ShowsMe : RouterSettings → ℕ → Hello → LinkStatus → Type 0
-ShowsMe settings i hello status = (a : Addr4) × (row : HelloRow) × HasAddressOn settings i a × HasRowOf hello a row × (row.link ≡ Some status)
+abbrev pub TellsMe : RouterSettings → ℕ → Hello → LinkStatus → Type 0
+TellsMe settings i hello status = (a : Addr4) × (row : HelloRow) × HasAddressOn settings i a × HasRowOf hello a row × (row.link ≡ Some status)
 
 -- Addresses of the sender (RFC 6130, section 12.2)
 
 -- the sending list: the THIS_IF addresses, or the sender where there are none
 abbrev pub IsSending : Hello → Addr4 → Addr4 → Type 0
-IsSending hello sender a = ShowsLocal hello a This ⊎ ((a ≡ sender) × ((b : Addr4) → ShowsLocal hello b This → ⊥))
+IsSending hello sender a = TellsLocal hello a This ⊎ ((a ≡ sender) × ((b : Addr4) → TellsLocal hello b This → ⊥))
 
 -- the neighbour address list: the sending list and the OTHER_IF addresses
 abbrev pub IsListed : Hello → Addr4 → Addr4 → Type 0
-IsListed hello sender a = IsSending hello sender a ⊎ ShowsLocal hello a Other
-
--- the addresses with the property, in ascending order, each once
-abbrev pub Lists : List Addr4 → (Addr4 → Type 0) → Type 0
-Lists list P = IsAscending list × ((a : Addr4) → Contains list a ↔ P a)
+IsListed hello sender a = IsSending hello sender a ⊎ TellsLocal hello a Other
 
 -- What it says of the receiver
 
 -- what the HELLO says of the link with interface i: HEARD or SYMMETRIC before LOST (RFC 6130, section 12.5)
 abbrev pub IsMyStatus : RouterSettings → ℕ → Hello → Option LinkStatus → Type 0
-IsMyStatus settings i hello None = (status : LinkStatus) → ShowsMe settings i hello status → ⊥
-IsMyStatus settings i hello (Some Down) = ShowsMe settings i hello Down × (ShowsMe settings i hello Heard → ⊥) × (ShowsMe settings i hello Symmetric → ⊥)
-IsMyStatus settings i hello (Some status) = ShowsMe settings i hello status
+IsMyStatus settings i hello None = (status : LinkStatus) → TellsMe settings i hello status → ⊥
+IsMyStatus settings i hello (Some Down) = TellsMe settings i hello Down × (TellsMe settings i hello Heard → ⊥) × (TellsMe settings i hello Symmetric → ⊥)
+IsMyStatus settings i hello (Some status) = TellsMe settings i hello status
 
 -- the metric handed in for a sender: that of its own entry, else the interface's
 abbrev pub IsHandedIn : Interface → Addr4 → Metric → Type 0
@@ -98,10 +93,10 @@ pub record LooksAt (settings : RouterSettings) (told : Told) (hello : Hello) (a 
   pub shown : IsSome row.link ⊎ IsSome row.other
 
 -- whether one of them is SYMMETRIC
-abbrev pub says_symmetric : Option LinkStatus → Option OtherStatus → Bool
-says_symmetric (Some Symmetric) other = true
-says_symmetric link (Some Still) = true
-says_symmetric link other = false
+abbrev pub tells_symmetric : Option LinkStatus → Option OtherStatus → Bool
+tells_symmetric (Some Symmetric) other = true
+tells_symmetric link (Some Still) = true
+tells_symmetric link other = false
 
 -- the neighbour metric where there is one, else the link metric
 abbrev pub or_else : Option Metric → Option Metric → Option Metric

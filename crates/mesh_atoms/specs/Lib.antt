@@ -2,12 +2,15 @@ pub mod Advertised
 pub mod AfterHello
 pub mod AfterTc
 pub mod Agreement
+pub mod Ascends
 pub mod Base
 pub mod Codes
 pub mod Grammar
 pub mod Hello
 pub mod HelloTold
+pub mod Literals
 pub mod Live
+pub mod NextHop
 pub mod Nodes
 pub mod Radio
 pub mod Reading
@@ -20,3 +23,5 @@ pub mod Sound
 pub mod State
 pub mod TakesHello
 pub mod Walk
+pub mod Words
+pub mod Writable

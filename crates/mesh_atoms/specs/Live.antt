@@ -1,7 +1,6 @@
 -- What expiry leaves of the bases at a moment, and how neighbours, lost addresses and 2-hop tuples follow the links.
 use Rattle.std.specs.Prelude.{◌≡◌, ℕ, ◌+◌, ◌≤◌, ◌↔◌, ◌&&◌, List, Contains, Option, Some, None, length, IsTrue, Bool, true, false, cond}
 use Rattle.mesh_atoms.specs.declared.addr.Addr4.{Addr4}
-use Rattle.mesh_atoms.specs.declared.metric.Metric.{Metric}
 use Rattle.mesh_atoms.specs.declared.tuples.LinkKey.{LinkKey}
 use Rattle.mesh_atoms.specs.declared.tuples.TwoHopKey.{TwoHopKey}
 use Rattle.mesh_atoms.specs.declared.tuples.Link.{Link}
@@ -9,8 +8,8 @@ use Rattle.mesh_atoms.specs.declared.tuples.Neighbour.{Neighbour}
 use Rattle.mesh_atoms.specs.declared.tuples.Lost.{Lost}
 use Rattle.mesh_atoms.specs.declared.settings.RouterSettings.{RouterSettings}
 use Rattle.mesh_atoms.specs.Base.{HasDistinctKeys, if_live, Expires, base_of, link_eq, two_hop_eq, addr_eq, router_eq, address_eq, network_eq, flood_eq}
-use Rattle.mesh_atoms.specs.Codes.{metric_value}
 use Rattle.mesh_atoms.specs.State.{Neighbourhood, Topology, NotedMessages, Bases, is_symmetric, link_at, two_hop_at, neighbour_at, lost_at}
+use Rattle.mesh_atoms.specs.Words.{IsLeastMetric}
 
 -- Links
 
@@ -42,11 +41,6 @@ HasLinkOf near addrs i key e = Contains addrs key.addr × (link_at near i key �
 abbrev pub HasSymmetricOf : Neighbourhood → ℕ → List Addr4 → Link → Type 0
 HasSymmetricOf near now addrs link =
     (i : ℕ) × (key : LinkKey) × (until : ℕ) × HasLinkOf near addrs i key (link, until) × (is_symmetric link now ≡ true)
-
--- the least of the metrics with the property, or none where no metric has it
-abbrev pub IsLeastMetric : (Metric → Type 0) → Option Metric → Type 0
-IsLeastMetric P None = (m : Metric) → P m → ⊥
-IsLeastMetric P (Some m) = P m × ((n : Metric) → P n → metric_value m ≤ metric_value n)
 
 -- the neighbour's moment is the latest of its links'; it is symmetric where one of them is SYMMETRIC, and has the least
 -- metrics of those

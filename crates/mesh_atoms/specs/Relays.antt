@@ -1,5 +1,5 @@
 -- Which sets of neighbours serve as relays (MPRs; RFC 7181, section 18).
-use Rattle.std.specs.Prelude.{◌≡◌, ℕ, ◌+◌, ◌≤◌, ◌<◌, ◌⊎◌, ◌≢◌, ◌↔◌, List, Contains, AllPairs, Option, Some, None}
+use Rattle.std.specs.Prelude.{◌≡◌, ℕ, ◌+◌, ◌≤◌, ◌<◌, ◌⊎◌, ◌≢◌, ◌↔◌, List, Contains, Option, Some, None}
 use Rattle.mesh_atoms.specs.declared.addr.Addr4.{Addr4}
 use Rattle.mesh_atoms.specs.declared.graphs.Near.{Near}
 use Rattle.mesh_atoms.specs.declared.graphs.Direct.{Direct}
@@ -51,10 +51,6 @@ IsMissed g relays id = (f : Far) × Contains g.far f × (HasSameDistance g (IsOt
 -- each relay that is a willing neighbour of willingness below 15 is missed where it alone is left out (the project's own rule)
 pub record Needed (g : NeighbourGraph) (relays : List Addr4) : Type 0 where
   pub missed : (n : Near) → Contains g.near n → Contains relays n.id → IsWilling n → n.will < 15 → IsMissed g relays n.id
-
--- ids in ascending order, each once
-abbrev pub IsAscending : List Addr4 → Type 0
-IsAscending ids = AllPairs (λ a b. a.0 < b.0) ids
 
 -- an id stands for one neighbour
 abbrev pub HasDistinctIds : NeighbourGraph → Type 0

@@ -17,7 +17,7 @@ use Rattle.mesh_atoms.specs.declared.settings.RouterSettings.{RouterSettings}
 use Rattle.mesh_atoms.specs.declared.settings.Scenario.{Scenario}
 use Rattle.mesh_atoms.specs.Base.{Has}
 use Rattle.mesh_atoms.specs.State.{State, Is_symmetric, state_of, HasLink, HasTwoHop, HasSymmetric, HasAddress, HasAddressOn, IsOriginator}
-use Rattle.mesh_atoms.specs.Hello.{Shows, ShowsSymmetric, IsShown, Flooding, Routing, Near_in, Near_out, Link_in, Link_out}
+use Rattle.mesh_atoms.specs.Hello.{Says, SaysSymmetric, IsSaid, Flooding, Routing, Near_in, Near_out, Link_in, Link_out}
 use Rattle.mesh_atoms.specs.Advertised.{Advertises, AdvertisesOriginator, AdvertisesNetwork}
 use Rattle.mesh_atoms.specs.Radio.{Joins, Adjacent, IsMetric, Joined, Router, AddressOf}
 
@@ -37,7 +37,7 @@ pub record IsLinkTo (p q : State) (i j now : ℕ) (there back : Metric) (key : L
   pub addresses : (a : Addr4) → Contains link.addrs a ↔ HasAddressOn q.settings j a
   pub link_in : link.link_in ≡ back
   pub link_out : link.link_out ≡ Some there
-  pub selector : IsTrue link.selector ↔ ((a : Addr4) × HasAddressOn p.settings i a × Shows q j now a Flooding)
+  pub selector : IsTrue link.selector ↔ ((a : Addr4) × HasAddressOn p.settings i a × Says q j now a Flooding)
 
 -- the neighbour tuple. j is any of q's interfaces, since each of its HELLOs shows the same routing relays
 pub record IsNeighbourOf (p q : State) (now : ℕ) (there back : Metric) (originator : Addr4) (n : Neighbour) : Type 0 where
@@ -46,16 +46,16 @@ pub record IsNeighbourOf (p q : State) (now : ℕ) (there back : Metric) (origin
   pub willing : n.willing ≡ q.settings.willing
   pub metric_in : n.metric_in ≡ Some back
   pub metric_out : n.metric_out ≡ Some there
-  pub selector : (j : ℕ) → IsTrue n.selector ↔ ((a : Addr4) × HasAddress p.settings a × Shows q j now a Routing)
+  pub selector : (j : ℕ) → IsTrue n.selector ↔ ((a : Addr4) × HasAddress p.settings a × Says q j now a Routing)
 
 -- a 2-hop tuple by the HELLO of q's interface j: of an address that it shows SYMMETRIC, and that is neither p's nor q's
 pub record IsTwoHopBy (p q : State) (j now : ℕ) (key : TwoHopKey) (t : TwoHop) : Type 0 where
   pub link : IsLeastAddress q.settings j key.link.addr
-  pub shown : ShowsSymmetric q j now key.addr
+  pub shown : SaysSymmetric q j now key.addr
   pub not_mine : HasAddress p.settings key.addr → ⊥
   pub not_theirs : HasAddress q.settings key.addr → ⊥
-  pub metric_in : IsShown (λ m. Shows q j now key.addr (Near_in m)) (λ m. Shows q j now key.addr (Link_in m)) t.metric_in
-  pub metric_out : IsShown (λ m. Shows q j now key.addr (Near_out m)) (λ m. Shows q j now key.addr (Link_out m)) t.metric_out
+  pub metric_in : IsSaid (λ m. Says q j now key.addr (Near_in m)) (λ m. Says q j now key.addr (Link_in m)) t.metric_in
+  pub metric_out : IsSaid (λ m. Says q j now key.addr (Near_out m)) (λ m. Says q j now key.addr (Link_out m)) t.metric_out
 
 -- What the TC of a router in state q gives
 

@@ -14,8 +14,8 @@ use Rattle.mesh_atoms.specs.declared.settings.RouterSettings.{RouterSettings}
 use Rattle.mesh_atoms.specs.Base.{Base, find, base_of, HasDistinctKeys, IsFresh, addr_eq, link_eq, two_hop_eq, router_eq, address_eq, network_eq, flood_eq}
 use Rattle.mesh_atoms.specs.State.{Neighbourhood, Topology, NotedMessages, State, is_symmetric, link_at, two_hop_at, neighbour_at, lost_at, HasAddress, IsOriginator}
 use Rattle.mesh_atoms.specs.Live.{IsByLinks, IsSymmetricAddress, is_symmetric_at}
-use Rattle.mesh_atoms.specs.Relays.{IsAscending}
-use Rattle.mesh_atoms.specs.TakesHello.{AreMoreThan, IsHeld}
+use Rattle.mesh_atoms.specs.Words.{IsAscending, AreMoreThan}
+use Rattle.mesh_atoms.specs.TakesHello.{IsHeld}
 use Rattle.mesh_atoms.specs.RelayGraphs.{AreRelays}
 use Rattle.mesh_atoms.specs.Routes.{AreRoutes}
 use Rattle.mesh_atoms.specs.Advertised.{AreTcRows}

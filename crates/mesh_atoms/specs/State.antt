@@ -1,6 +1,8 @@
 -- What a router holds, and what a router is at a moment.
 use Rattle.std.specs.Prelude.{◌≡◌, ℕ, List, Contains, Option, Some, slice_get, IsTrue, cond, nat_lt, Bool, false, not, ◌&&◌}
 use Rattle.mesh_atoms.specs.declared.addr.Addr4.{Addr4}
+use Rattle.mesh_atoms.specs.declared.hello.LinkStatus.{LinkStatus}
+use Rattle.mesh_atoms.specs.declared.hello.LinkStatus.TheVariants.{Lost as Down, Symmetric, Heard}
 use Rattle.mesh_atoms.specs.declared.tuples.LinkKey.{LinkKey}
 use Rattle.mesh_atoms.specs.declared.tuples.TwoHopKey.{TwoHopKey}
 use Rattle.mesh_atoms.specs.declared.tuples.RouterKey.{RouterKey}
@@ -89,6 +91,16 @@ is_symmetric link now = cond link.pending false (cond link.lost false (nat_lt no
 -- whether the status is HEARD
 abbrev pub is_heard : Link → ℕ → Bool
 is_heard link now = not link.pending && (not link.lost && (not (nat_lt now link.sym) && nat_lt now link.heard))
+
+-- what a HELLO shows of a link that isn't PENDING
+abbrev pub status_of : Link → ℕ → LinkStatus
+status_of link now = cond (is_symmetric link now) Symmetric (cond (is_heard link now) Heard Down)
+
+-- the status that a HELLO shows so
+abbrev pub link_state : LinkStatus → LinkState
+link_state Down = Is_lost
+link_state Symmetric = Is_symmetric
+link_state Heard = Is_heard
 
 -- A tuple and its moment, by look-up
 

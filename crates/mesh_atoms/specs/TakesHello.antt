@@ -11,32 +11,33 @@ use Rattle.mesh_atoms.specs.declared.tuples.Lost.{Lost}
 use Rattle.mesh_atoms.specs.declared.settings.RouterSettings.{RouterSettings}
 use Rattle.mesh_atoms.specs.Base.{base_of, addr_eq}
 use Rattle.mesh_atoms.specs.State.{Neighbourhood, neighbour_at, lost_at, HasAddress}
-use Rattle.mesh_atoms.specs.HelloTold.{Told, Tells, ShowsLocal, IsListed, LooksAt, says_symmetric}
+use Rattle.mesh_atoms.specs.HelloTold.{Told, Tells, TellsLocal, IsListed, LooksAt, tells_symmetric}
 use Rattle.mesh_atoms.specs.AfterHello.{AfterHello}
+use Rattle.mesh_atoms.specs.Words.{AreMoreThan}
 
 -- Refused by its receiver (RFC 6130, section 12.1)
 
--- the HELLO names addresses of the receiver as the sender's
-pub data IsOwn (settings : RouterSettings) (sender : Addr4) (hello : Hello) : Type 0 where
-  Local : (a : Addr4) (local : LocalIf) → HasAddress settings a → ShowsLocal hello a local → IsOwn settings sender hello
-  Originator : (a : Addr4) → HasAddress settings a → hello.originator ≡ Some a → IsOwn settings sender hello
-  Sender : HasAddress settings sender → ((a : Addr4) → ShowsLocal hello a This → ⊥) → IsOwn settings sender hello
+-- the HELLO names addresses of the receiver, which are those with the property, as the sender's
+pub data IsOwn (Mine : Addr4 → Type 0) (sender : Addr4) (hello : Hello) : Type 0 where
+  Local : (a : Addr4) (local : LocalIf) → Mine a → TellsLocal hello a local → IsOwn Mine sender hello
+  Originator : (a : Addr4) → Mine a → hello.originator ≡ Some a → IsOwn Mine sender hello
+  Sender : Mine sender → ((a : Addr4) → TellsLocal hello a This → ⊥) → IsOwn Mine sender hello
 
 -- there is no originator, and several listed addresses
 abbrev pub IsNameless : Addr4 → Hello → Type 0
 IsNameless sender hello = (hello.originator ≡ None) × ((a b : Addr4) × IsListed hello sender a × IsListed hello sender b × (a ≢ b))
 
--- the number of the first of these two rules that is broken
+-- the number of the first of these two rules that is broken at a receiver whose addresses are those with the property
+abbrev pub IsFaultAt : (Addr4 → Type 0) → Addr4 → Hello → Option ℕ → Type 0
+IsFaultAt Mine sender hello None = (IsOwn Mine sender hello → ⊥) × (IsNameless sender hello → ⊥)
+IsFaultAt Mine sender hello (Some number) =
+    ((number ≡ 30) × IsOwn Mine sender hello) ⊎ ((number ≡ 31) × (IsOwn Mine sender hello → ⊥) × IsNameless sender hello)
+
+-- the same at a router
 abbrev pub IsFault : RouterSettings → Addr4 → Hello → Option ℕ → Type 0
-IsFault settings sender hello None = (IsOwn settings sender hello → ⊥) × (IsNameless sender hello → ⊥)
-IsFault settings sender hello (Some number) =
-    ((number ≡ 30) × IsOwn settings sender hello) ⊎ ((number ≡ 31) × (IsOwn settings sender hello → ⊥) × IsNameless sender hello)
+IsFault settings sender hello number = IsFaultAt (HasAddress settings) sender hello number
 
 -- Too much for the receiver's limits
-
--- more than so many distinct addresses have the property
-abbrev pub AreMoreThan : ℕ → (Addr4 → Type 0) → Type 0
-AreMoreThan most P = (some : List Addr4) × IsDistinct addr_eq some × ((a : Addr4) → Contains some a → P a) × (most < length some)
 
 -- an address or originator of a neighbour, or a lost address
 abbrev pub IsHeld : Neighbourhood → Addr4 → Type 0
@@ -53,7 +54,7 @@ IsFullOfAddresses near told = AreMoreThan 1024 (λ a. IsHeld near a ⊎ (Contain
 abbrev pub AreTwoHopRows : RouterSettings → Told → Hello → ℕ → Type 0
 AreTwoHopRows settings told hello count =
     (some : List Addr4) × IsDistinct addr_eq some × (length some ≡ count)
-    × ((a : Addr4) → Contains some a ↔ ((row : HelloRow) × LooksAt settings told hello a row × IsTrue (says_symmetric row.link row.other)))
+    × ((a : Addr4) → Contains some a ↔ ((row : HelloRow) × LooksAt settings told hello a row × IsTrue (tells_symmetric row.link row.other)))
 
 -- with the 2-hop tuples of interface i these are more than 16,384
 abbrev pub IsFullOfTwoHops : RouterSettings → ℕ → Neighbourhood → Told → Hello → Type 0

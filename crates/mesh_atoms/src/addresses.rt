@@ -1,6 +1,6 @@
 //! Tests on lists of addresses.
 ghost use Rattle.std.specs.Prelude.{◌↔◌, Contains, IsTrue};
-ghost use Rattle.mesh_atoms.specs.AfterHello.{Meets};
+ghost use Rattle.mesh_atoms.specs.Words.{Meets};
 
 use crate::Addr4;
 

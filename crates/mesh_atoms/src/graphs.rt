@@ -2,7 +2,7 @@
 use crate::{Addr4, Metric, NetAddr, Seq};
 
 /// A neighbour in the choice of relays: the cost of its link, and its willingness up to 15 (RFC 7181, section 18.2).
-#[derive(Clone, Copy, Debug, PartialEq, Eq)]
+#[derive(Clone, Copy, PartialEq, Eq)]
 pub struct Near {
     pub id: Addr4,
     pub cost: u32,
@@ -10,14 +10,14 @@ pub struct Near {
 }
 
 /// An address that is reached with no relay.
-#[derive(Clone, Copy, Debug, PartialEq, Eq)]
+#[derive(Clone, Copy, PartialEq, Eq)]
 pub struct Direct {
     pub addr: Addr4,
     pub cost: u32,
 }
 
 /// An address that a neighbour leads to, and what that neighbour adds to its own cost.
-#[derive(Clone, Copy, Debug, PartialEq, Eq)]
+#[derive(Clone, Copy, PartialEq, Eq)]
 pub struct Far {
     pub via: Addr4,
     pub addr: Addr4,
@@ -25,7 +25,7 @@ pub struct Far {
 }
 
 /// What relays are chosen from (RFC 7181, section 18.2).
-#[derive(Debug, Drop)]
+#[derive(Drop)]
 pub struct NeighbourGraph {
     pub near: Seq<Near>,
     pub direct: Seq<Direct>,
@@ -33,7 +33,7 @@ pub struct NeighbourGraph {
 }
 
 /// An arc from one node to another, at a cost.
-#[derive(Clone, Copy, Debug, PartialEq, Eq, PartialOrd, Ord)]
+#[derive(Clone, Copy, PartialEq, Eq, PartialOrd, Ord)]
 pub struct Arc4 {
     pub from: NetAddr,
     pub to: NetAddr,
@@ -41,7 +41,7 @@ pub struct Arc4 {
 }
 
 /// What routes are found in (RFC 7181, section 19.1).
-#[derive(Debug, Drop)]
+#[derive(Drop)]
 pub struct Graph {
     pub arcs: Seq<Arc4>,
 }
@@ -56,7 +56,7 @@ pub struct PathRow {
 
 /// The nodes that are reached from one node, in ascending order. The row of that node itself has cost 0 and is its own
 /// parent.
-#[derive(Debug, Drop)]
+#[derive(Drop)]
 pub struct Certificate {
     pub rows: Seq<PathRow>,
 }
@@ -73,7 +73,7 @@ pub struct Route {
 }
 
 /// Two interfaces of two routers that hear each other, and the metric from the first to the second.
-#[derive(Clone, Copy, Debug, PartialEq, Eq)]
+#[derive(Clone, Copy, PartialEq, Eq)]
 pub struct Pair {
     pub from: usize,
     pub from_iface: usize,
@@ -84,7 +84,7 @@ pub struct Pair {
 
 /// The interfaces of a scenario that hear each other, one pair for each direction, and for each router the least number
 /// among its own and those of the routers that chains of such interfaces join it with.
-#[derive(Debug, Drop)]
+#[derive(Drop)]
 pub struct RadioGraph {
     pub pairs: Seq<Pair>,
     pub parts: Seq<usize>,

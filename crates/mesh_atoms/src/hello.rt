@@ -1,5 +1,7 @@
 //! HELLO messages as typed values.
-ghost use Rattle.std.specs.Prelude.{◌≤◌};
+ghost use Rattle.std.specs.Prelude.{◌≤◌, AllPairs};
+ghost use Rattle.mesh_atoms.specs.Nodes.{IsBefore};
+ghost use Rattle.mesh_atoms.specs.Ascends.{ascends_prop};
 
 use crate::{Addr4, Metric, NetAddr, Seq};
 
@@ -68,18 +70,19 @@ pub struct HelloRow {
 
 /// A HELLO (RFC 6130, section 10, and RFC 7181, section 15). Times are in ticks of 1/8192 s; rows are in ascending order
 /// of address, each address once.
-#[derive(Debug, Drop)]
+#[derive(Drop)]
 pub struct Hello {
     pub originator: Option<Addr4>,
     pub validity: u64,
     pub interval: Option<u64>,
     pub willing: Willing,
     pub rows: Seq<HelloRow>,
+    pub ghost ascending: { AllPairs (λ r t. IsBefore r.addr t.addr) rows } by { ascends_prop (λ r. r.addr) rows },
 }
 
 /// What a HELLO shows of the link that it came over (RFC 6130, section 12.5, and RFC 7181, section 15.3). The validity is in
 /// ticks of 1/8192 s.
-#[derive(Debug, Drop)]
+#[derive(Drop)]
 pub struct Shown {
     /// The sending list: the addresses of the interface that sent it, ascending, each once.
     pub sending: Seq<Addr4>,

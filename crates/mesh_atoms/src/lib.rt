@@ -9,28 +9,41 @@ mod bytes;
 mod codes;
 mod graphs;
 mod hello;
+pub mod hello_rule;
+mod hosts;
+mod least;
+mod literals;
 mod metric;
 mod octets;
+mod originator;
 pub mod reason;
 mod refusal;
+mod same;
 mod seq;
 mod settings;
+mod status;
 mod tc;
+pub mod tc_rule;
 mod text;
+pub mod tlv_type;
 mod tuples;
 
 pub use addr::{Addr4, Endpoint, NetAddr};
 pub use addresses::{contains, meets};
 pub use agreement::definitions_agree;
 pub use bytes::Bytes;
-pub use codes::{seq_newer, time_at, time_code_at_least, time_of};
+pub use codes::{seq_newer, time_at, time_at_least, time_code_at_least, time_of};
 pub use graphs::{
     Arc4, Certificate, Direct, Far, Graph, Near, NeighbourGraph, Pair, PathRow, RadioGraph, Route,
 };
 pub use hello::{Hello, HelloRow, LinkStatus, LocalIf, Metrics, Mpr, OtherStatus, Shown, Willing};
+pub use hosts::host;
+pub use least::least_metric;
+pub use literals::{address_of, endpoint_of, name_of, net_of, number_of, place_of};
 pub use metric::Metric;
 pub use octets::{read_octet, read_short, refuse};
 pub use refusal::{DecodeFault, Refusal};
+pub use same::same_rows;
 pub use seq::Seq;
 pub use settings::{
     Attached4, DEFAULT_TIMES, Interface, Port, RadioArc, RouterSettings, RunSetup, Scenario,

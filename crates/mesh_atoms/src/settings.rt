@@ -2,14 +2,15 @@
 ghost use Rattle.std.specs.Prelude.{◌≡◌, ◌≤◌, ◌<◌, ◌^◌, length, map, IsTrue, IfOk};
 ghost use Rattle.std.specs.Option.{ForSome};
 ghost use Rattle.std.specs.List.{flat_map, list_all};
-ghost use Rattle.mesh_atoms.specs.Settings.{one_millisecond, one_hour, longest_delay, IsTimes, IsEnd, IsInterface, IsRouter, are_senders, AreRouters, AreArcs};
+ghost use Rattle.mesh_atoms.specs.Base.{addr_eq};
+ghost use Rattle.mesh_atoms.specs.Settings.{are_distinct, one_millisecond, one_hour, longest_delay, IsTimes, IsEnd, IsInterface, IsRouter, are_senders, AreRouters, AreArcs};
 
 use crate::{Addr4, Bytes, Endpoint, Metric, NetAddr, Seq, Willing};
 use std::alloc::AllocError;
 
 /// The intervals and hold times of a router, in ticks of 1/8192 s, each from 820 (100 ms) to 29,491,200 (an hour)
 /// (RFC 7181, section 5, and RFC 6130, section 5), and the hop limit of its TCs, at least 1.
-#[derive(Clone, Copy, Debug, PartialEq, Eq)]
+#[derive(Clone, Copy, PartialEq, Eq)]
 pub struct Times {
     /// Between two HELLOs.
     pub hello: u64,
@@ -49,7 +50,7 @@ pub const DEFAULT_TIMES: Times = Times {
 };
 
 /// The metric of what is received from a sender other than 0.0.0.0.
-#[derive(Clone, Copy, Debug, PartialEq, Eq)]
+#[derive(Clone, Copy, PartialEq, Eq)]
 pub struct SenderMetric {
     pub sender: Addr4,
     pub metric: Metric,
@@ -57,8 +58,8 @@ pub struct SenderMetric {
 }
 
 /// An interface of a router: its name of 1 to 16 lower case letters and digits, its 1 to 4 addresses other than 0.0.0.0,
-/// and the metric of what it receives: that of the sender where there is one, else its own.
-#[derive(Debug, Drop)]
+/// and the metric of what it receives: that of the sender where there is one, else its own. No sender stands twice.
+#[derive(Drop)]
 pub struct Interface {
     pub name: Bytes,
     pub addrs: Seq<Addr4>,
@@ -66,6 +67,7 @@ pub struct Interface {
     pub senders: Seq<SenderMetric>,
     pub ghost sound: { IsInterface name addrs },
     pub ghost few_senders: { length senders ≤ 4096 },
+    pub ghost distinct_senders: { IsTrue (are_distinct addr_eq (map (λ s. s.sender) senders)) },
 }
 
 impl Interface {
@@ -93,7 +95,7 @@ pub struct Attached4 {
 /// The settings of a router: its name, its 1 to 8 interfaces, whose names and addresses are distinct, and at most 64
 /// distinct networks that it attaches, none of them one of its addresses. The moments of its first HELLO and its first
 /// TC are in ticks of 1/8192 s, up to 29,491,200 (an hour).
-#[derive(Debug, Drop)]
+#[derive(Drop)]
 pub struct RouterSettings {
     pub name: Bytes,
     pub willing: Willing,
@@ -136,7 +138,7 @@ fn copy_interfaces(interfaces: &Seq<Interface>) -> Result<Seq<Interface>, AllocE
 }
 
 /// Where an interface of a running router receives, and where it sends to: at most 64 peers.
-#[derive(Debug, Drop)]
+#[derive(Drop)]
 pub struct Port {
     pub local: Endpoint,
     pub peers: Seq<Endpoint>,
@@ -145,7 +147,7 @@ pub struct Port {
 
 /// A router that runs up to a moment from 9 (1 ms) to 29,491,200 (an hour), in ticks of 1/8192 s, with one port for each
 /// interface. Each interface has metrics of at most 1,024 senders, which are distinct.
-#[derive(Debug, Drop)]
+#[derive(Drop)]
 pub struct RunSetup {
     pub end: u64,
     pub router: RouterSettings,
@@ -157,7 +159,7 @@ pub struct RunSetup {
 
 /// A radio arc from one interface to another, routers and interfaces being numbered from 0: its metric, the frames that
 /// are lost on it among a thousand, and its delay from 9 (1 ms) to 8192 (1 s) in ticks of 1/8192 s.
-#[derive(Clone, Copy, Debug, PartialEq, Eq)]
+#[derive(Clone, Copy, PartialEq, Eq)]
 pub struct RadioArc {
     pub from: usize,
     pub from_iface: usize,
@@ -175,7 +177,7 @@ pub struct RadioArc {
 /// address, and of at most 4,096 radio arcs between interfaces of two different routers, no pair of which is joined
 /// twice. Its moments are in ticks of 1/8192 s: the end from 9 (1 ms) to 29,491,200 (an hour), and that before which
 /// frames may be lost, up to 29,491,200. The seed is below 2^63.
-#[derive(Debug, Drop)]
+#[derive(Drop)]
 pub struct Scenario {
     pub end: u64,
     pub seed: u64,

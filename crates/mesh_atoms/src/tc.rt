@@ -1,4 +1,8 @@
 //! TC messages as typed values.
+ghost use Rattle.std.specs.Prelude.{AllPairs};
+ghost use Rattle.mesh_atoms.specs.Nodes.{IsBefore};
+ghost use Rattle.mesh_atoms.specs.Ascends.{ascends_prop};
+
 use crate::{Addr4, Metric, NetAddr, Seq};
 
 /// All that a TC says of one address or network (RFC 7181, section 16).
@@ -17,7 +21,7 @@ pub struct TcRow {
 
 /// A TC (RFC 7181, sections 13 and 16). Times are in ticks of 1/8192 s; rows are in ascending order of address, each
 /// address once.
-#[derive(Debug, Drop)]
+#[derive(Drop)]
 pub struct Tc {
     pub originator: Addr4,
     /// The message's own sequence number.
@@ -29,4 +33,5 @@ pub struct Tc {
     pub validity: u64,
     pub interval: Option<u64>,
     pub rows: Seq<TcRow>,
+    pub ghost ascending: { AllPairs (λ r t. IsBefore r.dest t.dest) rows } by { ascends_prop (λ r. r.dest) rows },
 }

@@ -19,28 +19,28 @@ pub struct TwoHopKey {
 }
 
 /// From a router's originator to another router's.
-#[derive(Clone, Copy, Debug, PartialEq, Eq, PartialOrd, Ord, Hash)]
+#[derive(Clone, Copy, PartialEq, Eq, PartialOrd, Ord, Hash)]
 pub struct RouterKey {
     pub from: Addr4,
     pub to: Addr4,
 }
 
 /// From a router's originator to a routable address.
-#[derive(Clone, Copy, Debug, PartialEq, Eq, PartialOrd, Ord, Hash)]
+#[derive(Clone, Copy, PartialEq, Eq, PartialOrd, Ord, Hash)]
 pub struct AddressKey {
     pub from: Addr4,
     pub addr: Addr4,
 }
 
 /// From a router's originator to a network that it attaches.
-#[derive(Clone, Copy, Debug, PartialEq, Eq, PartialOrd, Ord, Hash)]
+#[derive(Clone, Copy, PartialEq, Eq, PartialOrd, Ord, Hash)]
 pub struct NetworkKey {
     pub from: Addr4,
     pub net: NetAddr,
 }
 
 /// A flooded message: its type, originator and sequence number.
-#[derive(Clone, Copy, Debug, PartialEq, Eq, PartialOrd, Ord, Hash)]
+#[derive(Clone, Copy, PartialEq, Eq, PartialOrd, Ord, Hash)]
 pub struct FloodKey {
     pub kind: u8,
     pub originator: Addr4,
@@ -48,7 +48,7 @@ pub struct FloodKey {
 }
 
 /// A link tuple (RFC 6130, section 7.1, and RFC 7181, section 8.1).
-#[derive(Debug, Drop)]
+#[derive(Drop)]
 pub struct Link {
     /// The addresses of the neighbour's interface, ascending.
     pub addrs: Seq<Addr4>,
@@ -94,7 +94,7 @@ pub struct TwoHop {
 }
 
 /// A neighbour tuple (RFC 6130, section 8.1, and RFC 7181, section 9), keyed by the neighbour's originator.
-#[derive(Debug, Drop)]
+#[derive(Drop)]
 pub struct Neighbour {
     /// The addresses of all its interfaces, ascending.
     pub addrs: Seq<Addr4>,
@@ -110,31 +110,31 @@ pub struct Neighbour {
 }
 
 /// A lost neighbour tuple (RFC 6130, section 8.2), keyed by an address that was a symmetric neighbour's.
-#[derive(Clone, Copy, Debug, PartialEq, Eq)]
+#[derive(Clone, Copy, PartialEq, Eq)]
 pub struct Lost {}
 
 /// An advertising remote router tuple (RFC 7181, section 10.1), keyed by the router's originator.
-#[derive(Clone, Copy, Debug, PartialEq, Eq)]
+#[derive(Clone, Copy, PartialEq, Eq)]
 pub struct Advertiser {
     pub ansn: u16,
 }
 
 /// A router topology tuple (RFC 7181, section 10.2).
-#[derive(Clone, Copy, Debug, PartialEq, Eq)]
+#[derive(Clone, Copy, PartialEq, Eq)]
 pub struct RouterTuple {
     pub ansn: u16,
     pub metric: Metric,
 }
 
 /// A routable address topology tuple (RFC 7181, section 10.3).
-#[derive(Clone, Copy, Debug, PartialEq, Eq)]
+#[derive(Clone, Copy, PartialEq, Eq)]
 pub struct AddressTuple {
     pub ansn: u16,
     pub metric: Metric,
 }
 
 /// An attached network tuple (RFC 7181, section 10.4), with the network's distance behind the router, in hops.
-#[derive(Clone, Copy, Debug, PartialEq, Eq)]
+#[derive(Clone, Copy, PartialEq, Eq)]
 pub struct NetworkTuple {
     pub ansn: u16,
     pub distance: u8,
@@ -142,7 +142,7 @@ pub struct NetworkTuple {
 }
 
 /// A received, processed or forwarded tuple (RFC 7181, section 11).
-#[derive(Clone, Copy, Debug, PartialEq, Eq)]
+#[derive(Clone, Copy, PartialEq, Eq)]
 pub struct Noted {}
 
 /// A base that may be full.
@@ -161,7 +161,7 @@ pub enum Base {
 
 /// The relays that a router has chosen (RFC 7181, section 18), each by its originator, in ascending order: for flooding
 /// on each interface, and for routing.
-#[derive(Debug, Drop)]
+#[derive(Drop)]
 pub struct Relays {
     pub flooding: Seq<Seq<Addr4>>,
     pub routing: Seq<Addr4>,

@@ -1,8 +1,49 @@
-//! Sources and sinks over std's readers and writers, with a count of the errors.
-ghost use Rattle.std.specs.Prelude.{◌≡◌, ◌≤◌, ◌<◌, ◌+◌, length};
+//! Sources and sinks over std's readers and writers, with a count of the errors. A call that the system interrupted is no
+//! error: it is made again.
+ghost use Rattle.std.specs.Prelude.{◌≡◌, ◌≤◌, ◌<◌, ◌+◌, length, IsTrue, IsErr};
+ghost use Rattle.std.specs.Io.{ReadsAtMost, WritesAtMost};
+ghost use Rattle.std.specs.Io.KnownBytes.{ReadConsumes, WriteAppends};
 
 use mesh_io::{Put, Sink, Source, Took};
-use std::io::{Read, Write};
+use std::io::{self, ErrorKind, Read, Write};
+
+// Whether the system interrupted a call before it read or wrote anything.
+fn is_interrupted(answer: &io::Result<usize>) -> bool
+    ensures { IsTrue result → IsErr answer.now }
+{
+    match answer {
+        Ok(_) => false,
+        Err(e) => e.kind() == ErrorKind::Interrupted,
+    }
+}
+
+// Reads once, and again where the system interrupted that, 2^64 - 1 times at most.
+fn read_again<R: Read>(reader: &mut R, buf: &mut [u8]) -> io::Result<usize>
+    ensures bound { ReadsAtMost result buf.new }
+    ensures bytes { ReadConsumes (R.remaining reader.old) (R.remaining reader.new) result buf.new }
+{
+    for _ in 1..u64::MAX {
+        let answer = reader.read(buf);
+        if !is_interrupted(&answer) {
+            return answer;
+        }
+    }
+    reader.read(buf)
+}
+
+// Writes once, and again where the system interrupted that, 2^64 - 1 times at most.
+fn write_again<W: Write>(writer: &mut W, bytes: &[u8]) -> io::Result<usize>
+    ensures bound { WritesAtMost result bytes.now }
+    ensures content { WriteAppends (W.contents writer.old) (W.contents writer.new) result bytes.now }
+{
+    for _ in 1..u64::MAX {
+        let answer = writer.write(bytes);
+        if !is_interrupted(&answer) {
+            return answer;
+        }
+    }
+    writer.write(bytes)
+}
 
 /// A source over a reader. It reads 2^64 - 1 octets at most, and counts a fault where more are asked of it.
 #[derive(Drop)]
@@ -37,7 +78,7 @@ impl<R: Read> Source for Reading<R> {
             self.faults = self.faults.saturating_add(1);
             return Took::Failed;
         }
-        match self.inner.read(buf) {
+        match read_again(&mut self.inner, buf) {
             Ok(0) => Took::End,
             Ok(count) => {
                 self.taken += count as u64;
@@ -73,7 +114,7 @@ impl<W: Write> Sink for Writing<W> {
         if bytes.is_empty() {
             return Put::Took(0);
         }
-        match self.inner.write(bytes) {
+        match write_again(&mut self.inner, bytes) {
             Ok(count) => {
                 if count > 0 {
                     return Put::Took(count);

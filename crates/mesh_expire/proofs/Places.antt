@@ -1,6 +1,7 @@
 -- A base that is changed by the place of a key.
-use Rattle.std.proofs.Common.{◌≡◌, ℕ, zero, suc, ◌<◌, Bool, true, false, cond, List, [], ◌∷◌, ◌++◌, length, get_or, Option, Some, None, is_some, refl, sym, ap, ◌∙◌, arith}
+use Rattle.std.proofs.Common.{◌≡◌, ℕ, zero, suc, ◌+◌, ◌<◌, ◌≤◌, inl, inr, subst, Bool, true, false, cond, List, [], ◌∷◌, ◌++◌, length, get_or, Option, Some, None, is_some, refl, sym, ap, ◌∙◌, arith}
 use Rattle.std.specs.Prelude.{remove, insert, slice_get, slice_set, option_map, IsSome, nat_lt}
+use Rattle.std.proofs.lemmas.Bool.{cases_order, lt-ltb}
 use Rattle.std.specs.List.{IsDistinct, AllByRecursion, list_any, filter}
 use Rattle.std.specs.Cmp.{IsEquivalence}
 use Rattle.std.specs.Map.{lookup, remove_entry, keys_of}
@@ -10,9 +11,9 @@ use Rattle.std.proofs.lemmas.Map.Keys.{IsDistinct-push, IsDistinct-tail}
 use Rattle.std.proofs.lemmas.Map.Entries.{lookup-filter-values, lookup_from_place, option_filter}
 use Rattle.std.proofs.lemmas.List.{map_push, take_all, drop_all}
 use Rattle.std.proofs.lemmas.Option.{slice_get_within, get_or_from_slice_get}
-use Rattle.mesh_atoms.specs.Base.{Base, find, HasDistinctKeys, SetsOnly, if_live}
-use Rattle.mesh_expire.proofs.Laws.{find_same, apart_before, changed_at-place, sets-changed_at, distinct-changed_at, length-changed_at}
-use Rattle.mesh_expire.specs.Table.{changed_at}
+use Rattle.mesh_atoms.specs.Base.{Base, find, HasDistinctKeys, SetsOnly, IsFresh, if_live}
+use Rattle.mesh_expire.proofs.Laws.{find_same, walked, apart_before, changed_at-place, sets-changed_at, distinct-changed_at, length-changed_at}
+use Rattle.mesh_expire.specs.Table.{changed_at, TakesExpired}
 
 -- what stands at the place of a key
 pub there : {K X : Type 0} (es : List (K × X)) (i : ℕ) (key : K) → option_map (λ (e : K × X). e.0) (slice_get es i) ≡ Some key → (x : X) × (slice_get es i ≡ Some (key, x))
@@ -104,3 +105,31 @@ if_live-filter now (Some e) = refl
 -- after the expired entries are gone
 pub lives : {K V : Type 0} {eq : K → K → Bool} (laws : IsEquivalence eq) (now : ℕ) (q : K) (es : Base K V) → HasDistinctKeys eq es → find eq (filter (λ (e : K × (V × ℕ)). is_live now e.1) es) q ≡ if_live now (find eq es q)
 lives {K} {V} {eq} laws now q es distinct = lookup-filter-values laws (is_live now) q es distinct ∙ if_live-filter now (lookup (eq q) es)
+
+-- what holds of the moments up to a place holds with one more
+pub more_live : {E : Type 0} (moment : E → ℕ) (now : ℕ) (xs : List E) (i : ℕ) (x : E) → slice_get xs i ≡ Some x → now < moment x
+    → ((k : ℕ) (e : E) → k < i → slice_get xs k ≡ Some e → now < moment e) → (k : ℕ) (e : E) → k < i + 1 → slice_get xs k ≡ Some e → now < moment e
+more_live {E} moment now xs i x at is before k e within here = elim (cases_order k i) [
+  | inl same ↦
+      let both : Some e ≡ Some x = sym here ∙ ap (λ (n : ℕ). slice_get xs n) same ∙ at in
+      let found : e ≡ x = cc in
+      subst (λ (y : E). now < moment y) (sym found) is
+  | inr (inl below) ↦ before k e below here
+  | inr (inr above) ↦ absurd (omega (arith, within, above))
+]
+
+-- where no entry is expired, nothing that is found is
+pub all_fresh : {K V : Type 0} {eq : K → K → Bool} (exact : (a b : K) → eq a b ≡ true → a ≡ b) (now : ℕ) (es : Base K V)
+    → ((i : ℕ) (e : K × (V × ℕ)) → slice_get es i ≡ Some e → now < e.1.1) → IsFresh eq now es
+all_fresh exact now es each q value until found = walked exact es (λ e. nat_lt now e.1.1 ≡ true) (λ i e _ at. lt-ltb now e.1.1 (each i e at)) q (value, until) found
+
+-- the expired entry of a place, `x`, is taken out
+pub takes : {K V : Type 0} {eq : K → K → Bool} (laws : IsEquivalence eq) (now : ℕ) (es : Base K V) (i : ℕ) (x : K × (V × ℕ)) → x ≡ get_or es i x
+    → (e : K × (V × ℕ)) × (slice_get es i ≡ Some e) × (e.1.1 ≤ now) → HasDistinctKeys eq es → HasDistinctKeys eq (remove es i) × TakesExpired eq now x.0 x.1.0 es (remove es i)
+takes {K} {V} {eq} laws now es i x read (e, at, late) distinct =
+    let is : x ≡ e = read ∙ get_or_from_slice_get es i e x at in
+    let (apart, gone, _) = removed laws e.0 es i (ap (option_map (λ (y : K × (V × ℕ)). y.0)) at) distinct in
+    subst (λ (y : K × (V × ℕ)). HasDistinctKeys eq (remove es i) × TakesExpired eq now y.0 y.1.0 es (remove es i)) (sym is) (
+      apart,
+      record { until = e.1.1; stood = lookup_from_place laws es i e.0 e.1 distinct at; late = late; gone = gone },
+    )

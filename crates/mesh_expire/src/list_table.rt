@@ -1,7 +1,7 @@
 //! A table that is a list.
-ghost use Rattle.std.specs.Prelude.{◌≡◌, ◌+◌, length, false, if◌then◌else◌, is_some, IfOk, OnOk, OnErr, IfSome, IfNone, IsTrue, IsSome, ◌↔◌, slice_get, option_map, Some, None};
-ghost use Rattle.mesh_atoms.specs.Base.{HasDistinctKeys, find, SetsOnly, Expires};
-ghost use Rattle.mesh_expire.specs.Table.{changed_at};
+ghost use Rattle.std.specs.Prelude.{◌≡◌, ◌+◌, ◌<◌, ◌≤◌, ℕ, length, false, if◌then◌else◌, is_some, IfOk, OnOk, OnErr, IfSome, IfNone, IsTrue, IsSome, ◌↔◌, slice_get, option_map, Some, None};
+ghost use Rattle.mesh_atoms.specs.Base.{HasDistinctKeys, find, SetsOnly, Expires, IsFresh};
+ghost use Rattle.mesh_expire.specs.Table.{changed_at, TakesExpired};
 
 use crate::table::{Key, Table};
 use std::alloc::{AllocError, Global};
@@ -88,6 +88,34 @@ fn drop_expired<K: Key + Drop, V: Drop>(entries: &mut Vec<(K, (V, u64))>, now: u
     before - entries.len()
 }
 
+// Where an entry stands whose moment is at or below now.
+fn expired_place<K: Key, V>(entries: &Vec<(K, (V, u64))>, now: u64) -> Option<usize>
+    ensures some { IfSome result (λ i. (e : K × (V × ℕ)) × (slice_get entries.now.items i ≡ Some e) × (e.1.1 ≤ now)) }
+    ensures none { IfNone result ((i : ℕ) (e : K × (V × ℕ)) → slice_get entries.now.items i ≡ Some e → now < e.1.1) }
+{
+    for i in 0..entries.len() {
+        if entries[i].1.1 <= now {
+            return Some(i);
+        }
+    }
+    None
+}
+
+fn take_next<K: Key + Drop, V: Drop>(entries: &mut Vec<(K, (V, u64))>, now: u64) -> Option<(K, V)>
+    requires { HasDistinctKeys K.eq entries.old.items }
+    ensures distinct { HasDistinctKeys K.eq entries.new.items }
+    ensures some { IfSome result (λ e. TakesExpired K.eq now e.0 e.1 entries.old.items entries.new.items) }
+    ensures none { IfNone result (entries.new.items ≡ entries.old.items) }
+    ensures fresh { IfNone result (IsFresh K.eq now entries.old.items) }
+    ensures count { length entries.new.items + (if is_some result then 1 else 0) ≡ length entries.old.items }
+{
+    let Some(i) = expired_place(entries, now) else {
+        return None;
+    };
+    let (key, entry) = entries.remove(i);
+    Some((key, entry.0))
+}
+
 fn set_until_in<K: Key, V>(entries: &mut Vec<(K, (V, u64))>, key: &K, until: u64) -> bool
     requires { HasDistinctKeys K.eq entries.old.items }
     ensures distinct { HasDistinctKeys K.eq entries.new.items }
@@ -140,6 +168,10 @@ impl<K: Key + Drop, V: Drop> Table<K, V> for ListTable<K, V> {
 
     fn expire(&mut self, now: u64) -> usize {
         drop_expired(&mut self.entries, now)
+    }
+
+    fn expire_next(&mut self, now: u64) -> Option<(K, V)> {
+        take_next(&mut self.entries, now)
     }
 
     fn value_mut(&mut self, key: &K) -> Option<&mut V> {

@@ -40,6 +40,10 @@ impl<K: Key, V: Drop> Table<K, V> for NoTable {
         0
     }
 
+    fn expire_next(&mut self, _now: u64) -> Option<(K, V)> {
+        None
+    }
+
     fn value_mut(&mut self, _key: &K) -> Option<&mut V> {
         None
     }

@@ -1,9 +1,9 @@
 //! What a table is.
-ghost use Rattle.std.specs.Prelude.{◌≡◌, ◌+◌, [], length, true, false, if◌then◌else◌, is_some, IfOk, OnOk, OnErr, IsTrue, IsSome, ◌↔◌, slice_get, option_map, Some, None};
+ghost use Rattle.std.specs.Prelude.{◌≡◌, ◌+◌, [], length, true, false, if◌then◌else◌, is_some, IfOk, OnOk, OnErr, IfSome, IfNone, IsTrue, IsSome, ◌↔◌, slice_get, option_map, Some, None};
 ghost use Rattle.std.specs.Option.{option_copied_mut};
 ghost use Rattle.std.specs.Borrow.{sem};
-ghost use Rattle.mesh_atoms.specs.Base.{Base, HasDistinctKeys, find, SetsOnly, Expires};
-ghost use Rattle.mesh_expire.specs.Table.{entry_of, value_of, changed_at, LendsValue};
+ghost use Rattle.mesh_atoms.specs.Base.{Base, HasDistinctKeys, find, SetsOnly, Expires, IsFresh};
+ghost use Rattle.mesh_expire.specs.Table.{entry_of, value_of, changed_at, TakesExpired, LendsValue};
 
 use std::alloc::{AllocError, Global};
 
@@ -56,6 +56,15 @@ pub trait Table<K: Key, V>: Sized + Drop {
     fn expire(&mut self, now: u64) -> usize
         ensures kept { Expires K.eq now (content self.old) (content self.new) }
         ensures count { result + length (content self.new) ≡ length (content self.old) }
+        ensures distinct { HasDistinctKeys K.eq (content self.new) };
+
+    /// Takes out one entry whose moment is at or below now, and gives its key and its record; `None`, changing nothing,
+    /// where there is none. Takes no memory.
+    fn expire_next(&mut self, now: u64) -> Option<(K, V)>
+        ensures some { IfSome result (λ e. TakesExpired K.eq now e.0 e.1 (content self.old) (content self.new)) }
+        ensures none { IfNone result (content self.new ≡ content self.old) }
+        ensures fresh { IfNone result (IsFresh K.eq now (content self.old)) }
+        ensures count { length (content self.new) + (if is_some result then 1 else 0) ≡ length (content self.old) }
         ensures distinct { HasDistinctKeys K.eq (content self.new) };
 
     /// The record of a key, to be written; `None` where the key isn't there. No entry comes to another place. Takes no

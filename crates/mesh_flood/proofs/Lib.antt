@@ -1,2 +1,2 @@
-mod Room
+pub mod Room
 pub mod Soundness

@@ -2,7 +2,9 @@
 ghost use Rattle.std.specs.Prelude.{◌≡◌, ◌≢◌, ◌<◌, ◌≤◌, ◌^◌, ℕ, Bool, Option, [], length, IfOk, OnOk, IsTrue};
 ghost use Rattle.mesh_atoms.specs.declared.addr.Addr4.{Addr4};
 ghost use Rattle.mesh_atoms.specs.Base.{base_of, Expires, HasDistinctKeys, flood_eq};
+ghost use Rattle.mesh_atoms.specs.declared.settings.RouterSettings.{RouterSettings};
 ghost use Rattle.mesh_atoms.specs.Live.{LiveNoted};
+ghost use Rattle.mesh_atoms.specs.Sound.{SoundNoted};
 ghost use Rattle.mesh_flood.specs.Verdict.{process_of, forward_of, forward_by};
 ghost use Rattle.mesh_flood.specs.Noting.{AfterNote, AreWithin};
 
@@ -41,6 +43,7 @@ impl<B: Bases> Flood<B> {
         ensures received { IfOk result (λ flood. (i : ℕ) → base_of flood.noted.received i ≡ []) }
         ensures processed { IfOk result (λ flood. flood.noted.processed ≡ []) }
         ensures forwarded { IfOk result (λ flood. flood.noted.forwarded ≡ []) }
+        ensures sound { IfOk result (λ flood. (now : ℕ) → SoundNoted settings.now now flood.noted) }
     {
         Ok(Flood {
             times: settings.times,
@@ -82,6 +85,8 @@ impl<B: Bases> Flood<B> {
         ensures ok { OnOk result (AfterNote self.old.times now iface heading.now processed verdict.now.forward self.old.noted self.new.noted) }
         ensures times { self.new.times ≡ self.old.times }
         ensures within { OnOk result (AreWithin self.old.noted → AreWithin self.new.noted) }
+        // What is noted keeps what holds of the sets after every event.
+        ensures sound { OnOk result ((settings : RouterSettings) → SoundNoted settings now self.old.noted → SoundNoted settings now self.new.noted) }
     {
         let key = heading.key();
         let times = self.times;
@@ -105,6 +110,7 @@ impl<B: Bases> Flood<B> {
         ensures live { LiveNoted now self.old.noted self.new.noted }
         ensures times { self.new.times ≡ self.old.times }
         ensures within { AreWithin self.old.noted → AreWithin self.new.noted }
+        ensures sound { (settings : RouterSettings) (before : ℕ) → SoundNoted settings before self.old.noted → SoundNoted settings now self.new.noted }
     {
         expire_all(&mut self.received, now);
         self.processed.expire(now);

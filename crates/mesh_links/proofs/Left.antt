@@ -1,15 +1,12 @@
 -- What is left where some links are taken out.
-use Rattle.std.proofs.Common.{◌≡◌, ◌⊎◌, ℕ, inl, inr, refl, sym, subst, ◌∙◌, Bool, true, false, Option, Some, None}
+use Rattle.std.proofs.Common.{◌≡◌, ℕ, inl, inr, refl, sym, subst, ◌∙◌, Bool, true, false, Option, Some, None}
 use Rattle.mesh_atoms.specs.declared.tuples.Link.{Link}
 use Rattle.mesh_atoms.specs.declared.tuples.LinkKey.{LinkKey}
 use Rattle.mesh_atoms.specs.Base.{Base, find, link_eq, SetsOnly}
-use Rattle.mesh_atoms.specs.AfterHello.{IsKept}
+use Rattle.mesh_atoms.specs.Words.{IsKept}
 use Rattle.mesh_atoms.proofs.Lookups.{link_equiv}
 use Rattle.mesh_expire.proofs.Laws.{find_same}
-
--- what stood at a key stands there, or had the property and is gone
-abbrev pub IsLeft : {A : Type 0} → (A → Type 0) → Option A → Option A → Type 0
-IsLeft {A} Goes old new = (new ≡ old) ⊎ ((e : A) × (old ≡ Some e) × Goes e × (new ≡ None))
+use Rattle.mesh_links.specs.Owners.{IsLeft}
 
 -- one more is taken out
 pub left_without : (Goes : Link × ℕ → Type 0) (first before after : Base LinkKey Link) (gone : LinkKey) (e : Link × ℕ)
@@ -34,3 +31,10 @@ left_kept Stays (Some e) new left all = elim left [
   | inl same ↦ inl (all e same, same)
   | inr gone ↦ let is : gone.0 ≡ e = let both = gone.1 in cc in inr ((λ stays. gone.2 (subst Stays (sym is) stays)), gone.3)
 ]
+
+-- taken out in two steps
+pub left_twice : {A : Type 0} (Goes : A → Type 0) (old mid new : Option A) → IsLeft Goes old mid → IsLeft Goes mid new → IsLeft Goes old new
+left_twice Goes old mid new (inl one) (inl two) = inl (two ∙ one)
+left_twice Goes old mid new (inl one) (inr gone) = inr (gone.0, sym one ∙ gone.1, gone.2, gone.3)
+left_twice Goes old mid new (inr gone) (inl two) = inr (gone.0, gone.1, gone.2, two ∙ gone.3)
+left_twice Goes old mid new (inr gone) (inr more) = let both : None ≡ Some more.0 = sym gone.3 ∙ more.1 in absurd cc

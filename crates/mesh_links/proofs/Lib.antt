@@ -2,3 +2,4 @@ mod Left
 mod Renewed
 mod Room
 mod Tables
+mod Tied

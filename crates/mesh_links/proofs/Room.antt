@@ -6,7 +6,7 @@ use Rattle.mesh_atoms.specs.declared.tuples.LinkKey.{LinkKey}
 use Rattle.mesh_atoms.specs.Base.{Base, find, if_live, link_eq, SetsOnly}
 use Rattle.mesh_atoms.specs.State.{is_symmetric}
 use Rattle.mesh_atoms.specs.Live.{trim, trimmed}
-use Rattle.mesh_atoms.specs.AfterHello.{IsKept}
+use Rattle.mesh_atoms.specs.Words.{IsKept}
 use Rattle.mesh_atoms.proofs.Lookups.{link_equiv}
 use Rattle.mesh_expire.specs.Table.{changed_at}
 use Rattle.mesh_expire.proofs.Laws.{find-changed_at}

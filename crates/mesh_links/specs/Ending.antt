@@ -1,6 +1,7 @@
 -- Which links stay where some end.
 use Rattle.mesh_atoms.specs.declared.tuples.Link.{Link}
-use Rattle.mesh_atoms.specs.AfterHello.{Meets, IsBeyond, IsApart}
+use Rattle.mesh_atoms.specs.AfterHello.{IsApart}
+use Rattle.mesh_atoms.specs.Words.{Meets, IsBeyond}
 use Rattle.mesh_links.specs.declared.ending.Ending.{Ending}
 use Rattle.mesh_links.specs.declared.ending.Ending.TheVariants.{Outside, Beside}
 

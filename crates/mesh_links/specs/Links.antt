@@ -9,7 +9,8 @@ use Rattle.mesh_atoms.specs.declared.tuples.Link.{Link}
 use Rattle.mesh_atoms.specs.Base.{Base, find, if_live, link_eq}
 use Rattle.mesh_atoms.specs.State.{is_symmetric, is_heard}
 use Rattle.mesh_atoms.specs.Live.{trim}
-use Rattle.mesh_atoms.specs.AfterHello.{Meets, IsBeyond, IsKept, IsApart, Begins, renewed}
+use Rattle.mesh_atoms.specs.AfterHello.{IsApart, Begins, renewed}
+use Rattle.mesh_atoms.specs.Words.{Meets, IsBeyond, IsKept}
 
 -- What is told of links
 

@@ -1,6 +1,6 @@
 //! Tests on lists of addresses.
 ghost use Rattle.std.specs.Prelude.{◌≡◌, ◌↔◌, ◌⊎◌, IsTrue};
-ghost use Rattle.mesh_atoms.specs.AfterHello.{Meets, IsBeyond};
+ghost use Rattle.mesh_atoms.specs.Words.{Meets, IsBeyond};
 
 use mesh_atoms::{Addr4, contains, meets};
 

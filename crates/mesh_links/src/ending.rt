@@ -1,12 +1,14 @@
 //! Links that end.
-ghost use Rattle.std.specs.Prelude.{◌≡◌, ◌+◌, ◌↔◌, ℕ, IsTrue, IfSome, IfNone, Some, length};
+ghost use Rattle.std.specs.Prelude.{◌≡◌, ◌+◌, ◌≤◌, ◌↔◌, ℕ, IsTrue, IfSome, IfNone, Some, Contains, length};
 ghost use Rattle.mesh_atoms.specs.declared.tuples.LinkKey.{LinkKey};
 ghost use Rattle.mesh_atoms.specs.declared.tuples.Link.{Link};
 ghost use Rattle.mesh_atoms.specs.Base.{HasDistinctKeys, find, link_eq};
-ghost use Rattle.mesh_atoms.specs.AfterHello.{IsKept};
+ghost use Rattle.mesh_atoms.specs.Words.{IsKept, Meets};
 ghost use Rattle.mesh_links.specs.Ending.{Spares};
+ghost use Rattle.mesh_links.specs.Owners.{Owned, owner_of, IsLeft};
 
 use crate::addresses::{is_apart, leaves};
+use indexmap::IndexMap;
 use mesh_atoms::{Addr4, Link, LinkKey};
 use mesh_expire::Table;
 
@@ -30,31 +32,68 @@ fn spares(which: Ending, link: &Link) -> bool
     }
 }
 
-/// The key of a link that ends.
-fn first_ended<T: Table<LinkKey, Link>>(table: &T, which: Ending) -> Option<LinkKey>
+/// The key of the link that has the address, where it ends.
+fn ended_at<T: Table<LinkKey, Link>>(
+    table: &T,
+    owners: &IndexMap<Addr4, LinkKey>,
+    addr: Addr4,
+    which: Ending,
+) -> Option<LinkKey>
+    requires { Owned owners.now.entries (T.content table.now) }
     ensures some { IfSome result (λ key. (e : Link × ℕ) × (find link_eq (T.content table.now) key ≡ Some e) × (Spares which.entry e.0 → ⊥)) }
-    ensures none { IfNone result ((key : LinkKey) (e : Link × ℕ) → find link_eq (T.content table.now) key ≡ Some e → Spares which.entry e.0) }
+    ensures owner { IfSome result (λ key. owner_of owners.now.entries addr ≡ Some key) }
+    ensures none { IfNone result ((key : LinkKey) (e : Link × ℕ) → find link_eq (T.content table.now) key ≡ Some e → Contains e.0.addrs addr → Spares which.entry e.0) }
 {
-    for place in 0..table.len() {
-        if let Some((key, link, _)) = table.at(place) {
-            if !spares(which, link) {
-                return Some(*key);
-            }
-        }
+    let Some(key) = owners.get(&addr) else {
+        return None;
+    };
+    let Some((link, _until)) = table.get(key) else {
+        return None;
+    };
+    if spares(which, link) {
+        None
+    } else {
+        Some(*key)
     }
-    None
 }
 
-/// Takes out the links that end, and gives their number. Goes over the links once more for each one that ends, so in time
-/// that is quadratic at worst. Takes no memory.
-pub fn end_all<T: Table<LinkKey, Link>>(table: &mut T, which: Ending) -> usize
+/// Takes out the link that has the address, where it ends.
+fn end_at<T: Table<LinkKey, Link>>(
+    table: &mut T,
+    owners: &IndexMap<Addr4, LinkKey>,
+    addr: Addr4,
+    which: Ending,
+)
+    requires owned { Owned owners.now.entries (T.content table.old) }
+    requires distinct { HasDistinctKeys link_eq (T.content table.old) }
+    ensures left { (key : LinkKey) → IsLeft (λ e. Spares which.entry e.0 → ⊥) (find link_eq (T.content table.old) key) (find link_eq (T.content table.new) key) }
+    ensures done { (key : LinkKey) (e : Link × ℕ) → find link_eq (T.content table.new) key ≡ Some e → Contains e.0.addrs addr → Spares which.entry e.0 }
+    ensures distinct { HasDistinctKeys link_eq (T.content table.new) }
+    ensures within { length (T.content table.new) ≤ length (T.content table.old) }
+{
+    if let Some(key) = ended_at(table, owners, addr, which) {
+        table.remove(&key);
+    }
+}
+
+/// Takes out the links that end, each of which has one of the addresses, and gives their number. Looks each address up once.
+/// Takes no memory.
+pub fn end_all<T: Table<LinkKey, Link>>(
+    table: &mut T,
+    owners: &IndexMap<Addr4, LinkKey>,
+    addrs: &[Addr4],
+    which: Ending,
+) -> usize
+    requires owned { Owned owners.now.entries (T.content table.old) }
+    requires others { (link : Link) → (Meets link.addrs addrs.now → ⊥) → Spares which link }
     ensures kept { (key : LinkKey) → IsKept (λ e. Spares which.entry e.0) (find link_eq (T.content table.old) key) (find link_eq (T.content table.new) key) }
     ensures count { result + length (T.content table.new) ≡ length (T.content table.old) }
     ensures distinct { HasDistinctKeys link_eq (T.content table.new) }
+    ensures owned { Owned owners.now.entries (T.content table.new) }
 {
     let before = table.len();
-    while let Some(key) = first_ended(table, which) {
-        table.remove(&key);
+    for addr in addrs {
+        end_at(table, owners, *addr, which);
     }
     before - table.len()
 }

@@ -32,13 +32,15 @@ fn trim_all<T: Table<LinkKey, Link>>(table: &mut T, now: u64)
     }
 }
 
-/// Takes out the links that are expired, and link_out and the selector flag of those that aren't SYMMETRIC. Takes no memory.
-pub fn expire_all<T: Table<LinkKey, Link>>(table: &mut T, now: u64)
+/// Takes out the links that are expired, and link_out and the selector flag of those that aren't SYMMETRIC. The number of
+/// those that it takes out. Takes no memory.
+pub fn expire_all<T: Table<LinkKey, Link>>(table: &mut T, now: u64) -> usize
     requires room { HasRoom (T.content table.old) }
     ensures expired { ExpiresLinks now (T.content table.old) (T.content table.new) }
     ensures room { HasRoom (T.content table.new) }
     ensures distinct { HasDistinctKeys link_eq (T.content table.new) }
 {
-    table.expire(now);
+    let expired = table.expire(now);
     trim_all(table, now);
+    expired
 }

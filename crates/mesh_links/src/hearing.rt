@@ -1,14 +1,17 @@
 //! What a HELLO makes of the links of the interface that hears it.
-ghost use Rattle.std.specs.Prelude.{◌≡◌, ◌≢◌, ◌<◌, ◌^◌, ℕ, OnOk, IfSome, IfNone, Some, length, slice_get};
+ghost use Rattle.std.specs.Prelude.{◌≡◌, ◌≢◌, ◌<◌, ◌^◌, ℕ, OnOk, OnErr, IfSome, IfNone, Some, length, slice_get};
 ghost use Rattle.mesh_atoms.specs.declared.tuples.Link.{Link};
 ghost use Rattle.mesh_atoms.specs.declared.tuples.LinkKey.{LinkKey};
 ghost use Rattle.mesh_atoms.specs.Base.{HasDistinctKeys, SetsOnly, find, link_eq};
 ghost use Rattle.mesh_atoms.specs.AfterHello.{Begins, made, renewed};
 ghost use Rattle.mesh_links.specs.Links.{HasRoom, HearsOn};
+ghost use Rattle.mesh_links.specs.Owners.{Owned, OwnsAll, IsFewer};
 
 use crate::addresses::are_same;
 use crate::ending::{Ending, end_all};
+use crate::owners::own_all;
 use crate::renewal::{make, renew};
+use indexmap::IndexMap;
 use mesh_atoms::{Addr4, Link, LinkKey, Shown};
 use mesh_expire::Table;
 use std::alloc::AllocError;
@@ -43,6 +46,7 @@ fn renew_value<T: Table<LinkKey, Link>>(
         → (after : Link) × ((after, result) ≡ renewed shown.now hold now (link, until)) × SetsOnly link_eq (T.content table.old) (T.content table.new) key.now (Some (after, until)) }
     ensures room { HasRoom (T.content table.new) }
     ensures distinct { HasDistinctKeys link_eq (T.content table.new) }
+    ensures fewer { IsFewer (T.content table.old) (T.content table.new) }
 {
     match table.value_mut(key) {
         Some(link) => renew(link, until, now, hold, shown),
@@ -67,6 +71,7 @@ fn renew_standing<T: Table<LinkKey, Link>>(
         → OnOk result (SetsOnly link_eq (T.content table.old) (T.content table.new) key (Some (renewed shown.now hold now (link, until)))) }
     ensures room { HasRoom (T.content table.new) }
     ensures distinct { HasDistinctKeys link_eq (T.content table.new) }
+    ensures fewer { IsFewer (T.content table.old) (T.content table.new) }
 {
     let until = renew_value(table, &key, until, now, hold, shown);
     table.set_until(&key, until)?;
@@ -89,6 +94,7 @@ fn put_made<T: Table<LinkKey, Link>>(
     ensures ok { OnOk result (SetsOnly link_eq (T.content table.old) (T.content table.new) key (Some (renewed shown.now hold now (made shown.now now)))) }
     ensures room { HasRoom (T.content table.new) }
     ensures distinct { HasDistinctKeys link_eq (T.content table.new) }
+    ensures err { OnErr result (T.content table.new ≡ T.content table.old) }
 {
     let mut link = make(shown)?;
     let until = renew(&mut link, now + shown.validity, now, hold, shown);
@@ -96,9 +102,10 @@ fn put_made<T: Table<LinkKey, Link>>(
     Ok(())
 }
 
-/// Renews the link with that key where it has the sending list, else makes it.
+/// Renews the link with that key where it has the sending list, else makes it. The key is noted for each of its addresses.
 fn renew_at<T: Table<LinkKey, Link>>(
     table: &mut T,
+    owners: &IndexMap<Addr4, LinkKey>,
     key: LinkKey,
     now: u64,
     hold: u64,
@@ -109,9 +116,13 @@ fn renew_at<T: Table<LinkKey, Link>>(
     requires validity { shown.now.validity < 2 ^ 62 }
     requires room { HasRoom (T.content table.old) }
     requires distinct { HasDistinctKeys link_eq (T.content table.old) }
+    requires owned { Owned owners.now.entries (T.content table.old) }
+    requires mine { OwnsAll owners.now.entries shown.now.sending key }
+    requires first { slice_get shown.now.sending 0 ≡ Some key.addr }
     ensures ok { OnOk result ((start : Link × ℕ) × Begins shown.now now (find link_eq (T.content table.old) key) start × SetsOnly link_eq (T.content table.old) (T.content table.new) key (Some (renewed shown.now hold now start))) }
     ensures room { HasRoom (T.content table.new) }
     ensures distinct { HasDistinctKeys link_eq (T.content table.new) }
+    ensures owned { Owned owners.now.entries (T.content table.new) }
 {
     match standing(table, key, shown.sending.as_slice()) {
         Some(until) => renew_standing(table, key, until, now, hold, shown),
@@ -119,9 +130,10 @@ fn renew_at<T: Table<LinkKey, Link>>(
     }
 }
 
-/// The links after a HELLO.
+/// The links after a HELLO, with the map from addresses to them.
 pub fn hear_on<T: Table<LinkKey, Link>>(
     table: &mut T,
+    owners: &mut IndexMap<Addr4, LinkKey>,
     now: u64,
     hold: u64,
     shown: &Shown,
@@ -132,14 +144,19 @@ pub fn hear_on<T: Table<LinkKey, Link>>(
     requires some { 0 < length shown.now.sending }
     requires room { HasRoom (T.content table.old) }
     requires distinct { HasDistinctKeys link_eq (T.content table.old) }
+    requires owned { Owned owners.old.entries (T.content table.old) }
     ensures ok { OnOk result ((least : LinkKey) → slice_get shown.now.sending 0 ≡ Some least.addr → HearsOn shown.now least hold now (T.content table.old) (T.content table.new)) }
     ensures room { HasRoom (T.content table.new) }
     ensures distinct { HasDistinctKeys link_eq (T.content table.new) }
+    ensures owned { Owned owners.new.entries (T.content table.new) }
 {
     match shown.sending.get(0) {
         Some(addr) => {
-            renew_at(table, LinkKey { addr: *addr }, now, hold, shown)?;
-            end_all(table, Ending::Beside(shown.sending.as_slice()));
+            let key = LinkKey { addr: *addr };
+            let sending = shown.sending.as_slice();
+            end_all(table, owners, sending, Ending::Beside(sending));
+            own_all(owners, sending, key)?;
+            renew_at(table, owners, key, now, hold, shown)?;
             Ok(())
         }
         None => Ok(()),

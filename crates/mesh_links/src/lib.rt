@@ -6,6 +6,7 @@ mod ending;
 mod expiry;
 mod hearing;
 mod links;
+mod owners;
 mod renewal;
 mod status;
 

@@ -1,14 +1,16 @@
 //! The set of the links of one interface.
 ghost use Rattle.std.specs.Prelude.{◌≡◌, ◌+◌, ◌<◌, ◌^◌, [], length, slice_get, IfOk, OnOk, Some};
 ghost use Rattle.mesh_atoms.specs.Base.{Base, HasDistinctKeys, find, link_eq};
-ghost use Rattle.mesh_atoms.specs.Relays.{IsAscending};
+ghost use Rattle.mesh_atoms.specs.Words.{IsAscending};
 ghost use Rattle.mesh_atoms.specs.declared.tuples.LinkKey.{LinkKey};
 ghost use Rattle.mesh_links.specs.Links.{status_at, SelectorOf, ExpiresLinks, EndsOutside, HearsOn};
 
 use crate::ending::{Ending, end_all};
 use crate::expiry::expire_all;
 use crate::hearing::hear_on;
+use crate::owners::purge_after;
 use crate::status::{selector_of, status_of};
+use indexmap::IndexMap;
 use mesh_atoms::{Addr4, Link, LinkKey, LinkStatus, Shown};
 use mesh_expire::Table;
 use std::alloc::{AllocError, Global};
@@ -18,11 +20,13 @@ use std::marker::Model;
 #[derive(Drop)]
 pub struct LinkSet<T: Table<LinkKey, Link>> {
     table: T,
+    owners: IndexMap<Addr4, LinkKey>,
 }
 
 impl<T: Table<LinkKey, Link>> Model for LinkSet<T> {
     ghost use Rattle.mesh_atoms.specs.Base.{Base, HasDistinctKeys, link_eq};
     ghost use Rattle.mesh_links.specs.Links.{HasRoom};
+    ghost use Rattle.mesh_links.specs.Owners.{Owned};
     ghost use Rattle.mesh_atoms.specs.declared.tuples.LinkKey.{LinkKey};
     ghost use Rattle.mesh_atoms.specs.declared.tuples.Link.{Link};
 
@@ -30,7 +34,7 @@ impl<T: Table<LinkKey, Link>> Model for LinkSet<T> {
 
     ghost view = { λ s. T.content s.table };
 
-    ghost invariant = { λ s. HasDistinctKeys link_eq (T.content s.table) × HasRoom (T.content s.table) };
+    ghost invariant = { λ s. HasDistinctKeys link_eq (T.content s.table) × HasRoom (T.content s.table) × Owned s.owners.entries (T.content s.table) };
 }
 
 impl<T: Table<LinkKey, Link>> LinkSet<T> {
@@ -40,12 +44,14 @@ impl<T: Table<LinkKey, Link>> LinkSet<T> {
     {
         Ok(LinkSet {
             table: T::new(alloc)?,
+            owners: IndexMap::new(alloc),
         })
     }
 
     /// The links as a table. Takes no memory.
     pub fn table(&self) -> &T
-        ensures { T.content result.now ≡ self.now }
+        ensures content { T.content result.now ≡ self.now }
+        ensures distinct { HasDistinctKeys link_eq self.now }
     {
         &self.table
     }
@@ -63,13 +69,13 @@ impl<T: Table<LinkKey, Link>> LinkSet<T> {
     pub fn symmetric_of(&self, sender: Addr4, now: u64) -> Option<bool>
         ensures { SelectorOf self.now now sender result }
     {
-        selector_of(&self.table, sender, now)
+        selector_of(&self.table, &self.owners, sender, now)
     }
 
     /// Takes in what a HELLO shows of its link: the link with the sending list is renewed or made, and each other link that
     /// has an address of that list ends (RFC 6130, section 12.5, and RFC 7181, section 15.3). The moment, the hold time and
-    /// the validity are below 2^62. Copies the sending list where it makes a link, and nothing else; goes over the links once
-    /// more for each one that ends. After want of memory the set may only be dropped.
+    /// the validity are below 2^62. Copies the sending list where it makes a link, and takes memory for its addresses;
+    /// looks each of them up once. After want of memory the set may only be dropped.
     pub fn hear(&mut self, now: u64, hold: u64, shown: &Shown) -> Result<(), AllocError>
         requires now { now < 2 ^ 62 }
         requires hold { hold < 2 ^ 62 }
@@ -80,17 +86,22 @@ impl<T: Table<LinkKey, Link>> LinkSet<T> {
         ensures ok { OnOk result ((least : LinkKey) → slice_get shown.now.sending 0 ≡ Some least.addr → HearsOn shown.now least hold now self.old self.new) }
         ensures distinct { HasDistinctKeys link_eq self.new }
     {
-        hear_on(&mut self.table, now, hold, shown)
+        hear_on(&mut self.table, &mut self.owners, now, hold, shown)
     }
 
     /// Ends each link that has an address among the old ones and one outside the new ones, and gives their number
-    /// (RFC 6130, section 12.3). Goes over the links once more for each one that ends. Takes no memory.
+    /// (RFC 6130, section 12.3). Looks each of the old ones up once. Takes no memory.
     pub fn end_outside(&mut self, old: &[Addr4], new: &[Addr4]) -> usize
         ensures ended { EndsOutside old.now new.now self.old self.new }
         ensures count { result + length self.new ≡ length self.old }
         ensures distinct { HasDistinctKeys link_eq self.new }
     {
-        end_all(&mut self.table, Ending::Outside(old, new))
+        end_all(
+            &mut self.table,
+            &self.owners,
+            old,
+            Ending::Outside(old, new),
+        )
     }
 
     /// Takes out the links that are expired, and link_out and the selector flag of those that aren't SYMMETRIC (RFC 6130,
@@ -99,6 +110,7 @@ impl<T: Table<LinkKey, Link>> LinkSet<T> {
         ensures expired { ExpiresLinks now self.old self.new }
         ensures distinct { HasDistinctKeys link_eq self.new }
     {
-        expire_all(&mut self.table, now);
+        let gone = expire_all(&mut self.table, now);
+        purge_after(&mut self.owners, &self.table, gone);
     }
 }

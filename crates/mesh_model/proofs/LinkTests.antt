@@ -7,7 +7,7 @@ use Rattle.mesh_atoms.specs.declared.tuples.Link.{Link}
 use Rattle.mesh_atoms.specs.declared.tuples.LinkKey.{LinkKey}
 use Rattle.mesh_atoms.specs.declared.settings.RadioArc.{RadioArc}
 use Rattle.mesh_atoms.specs.declared.settings.Scenario.{Scenario}
-use Rattle.mesh_atoms.specs.Hello.{Shows, Flooding}
+use Rattle.mesh_atoms.specs.Hello.{Says, Flooding}
 use Rattle.mesh_atoms.specs.Radio.{Joins}
 use Rattle.mesh_atoms.specs.Settled.{At, IsLeastAddress, IsLinkTo}
 use Rattle.mesh_atoms.specs.State.{State, Is_symmetric, state_of, HasLink, HasAddressOn, is_symmetric}
@@ -30,11 +30,11 @@ use Rattle.mesh_model.proofs.ValueTests.{Decides-same, Decides-metric, Decides-i
 
 -- an address of the interface is shown as a flooding relay's
 abbrev IsFloodingFor : Meeting → Type 0
-IsFloodingFor h = (a : Addr4) × HasAddressOn h.p.settings h.i a × Shows (held h.q) h.j h.now a Flooding
+IsFloodingFor h = (a : Addr4) × HasAddressOn h.p.settings h.i a × Says (held h.q) h.j h.now a Flooding
 
 Decides-flooding_for : (h : Meeting) → Decides (is_flooding_for h) (IsFloodingFor h)
 Decides-flooding_for h =
-    Decides-as (Decides-some (λ a. shows_flooding h.q h.j a h.now) (λ a. Shows (held h.q) h.j h.now a Flooding)
+    Decides-as (Decides-some (λ a. shows_flooding h.q h.j a h.now) (λ a. Says (held h.q) h.j h.now a Flooding)
     (λ a. Decides-shows_flooding h.q h.j a h.now) (addrs_of h.p.settings h.i))
     (λ w. (w.0, (on_interface h.p.settings h.i w.0).0 w.1, w.2))
     (λ w. (w.0, (on_interface h.p.settings h.i w.0).1 w.1, w.2))

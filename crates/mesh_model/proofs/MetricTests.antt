@@ -7,7 +7,7 @@ use Rattle.mesh_atoms.specs.declared.tuples.Link.{Link}
 use Rattle.mesh_atoms.specs.declared.tuples.LinkKey.{LinkKey}
 use Rattle.mesh_atoms.specs.declared.tuples.Neighbour.{Neighbour}
 use Rattle.mesh_atoms.specs.State.{is_heard, HasLink, HasSymmetricWith, is_symmetric}
-use Rattle.mesh_atoms.specs.Hello.{Part, Shows, IsShown, Near_in, Near_out, Link_in, Link_out}
+use Rattle.mesh_atoms.specs.Hello.{Part, Says, IsSaid, Near_in, Near_out, Link_in, Link_out}
 use Rattle.mesh_atoms.proofs.Deciding.{Decides-and, Decides-or, Decides-not}
 use Rattle.mesh_atoms.proofs.Lookups.{tests_heard}
 use Rattle.mesh_model.specs.declared.router.Router.{Router}
@@ -38,14 +38,14 @@ NearBy q a side m = (o : Addr4) × (n : Neighbour) × HasSymmetricWith (held q) 
 abbrev LinkBy : Router → ℕ → Addr4 → ℕ → Side → Metric → Type 0
 LinkBy q j a now side m = (key : LinkKey) × (link : Link) × HasLink (held q) j key link × (Contains link.addrs a × (link_metric link now side ≡ Some m))
 
-near_by : (q : Router) (j : ℕ) (a : Addr4) (now : ℕ) (side : Side) (m : Metric) → NearBy q a side m ↔ Shows (held q) j now a (near_part side m)
+near_by : (q : Router) (j : ℕ) (a : Addr4) (now : ℕ) (side : Side) (m : Metric) → NearBy q a side m ↔ Says (held q) j now a (near_part side m)
 near_by q j a now In m = (λ w. w, λ w. w)
 near_by q j a now Out m = (λ w. w, λ w. w)
 
 same_value : {X : Type 0} (x y : X) → Some x ≡ Some y → x ≡ y
 same_value x y e = cc
 
-link_by : (q : Router) (j : ℕ) (a : Addr4) (now : ℕ) (side : Side) (m : Metric) → LinkBy q j a now side m ↔ Shows (held q) j now a (link_part side m)
+link_by : (q : Router) (j : ℕ) (a : Addr4) (now : ℕ) (side : Side) (m : Metric) → LinkBy q j a now side m ↔ Says (held q) j now a (link_part side m)
 link_by q j a now In m = (
   λ w.
       let link = w.1 in
@@ -68,7 +68,7 @@ link_by q j a now Out m = (
   λ w. (w.1.0, w.0, w.1.1, (w.1.2, where_some _ _ _ ((Decides-symmetric_link w.0 now).1 w.1.3) w.2)),
 )
 
-Decides-shows_near : (q : Router) (j : ℕ) (a : Addr4) (now : ℕ) (side : Side) (m : Metric) → Decides (shows_near q a side m) (Shows (held q) j now a (near_part side m))
+Decides-shows_near : (q : Router) (j : ℕ) (a : Addr4) (now : ℕ) (side : Side) (m : Metric) → Decides (shows_near q a side m) (Says (held q) j now a (near_part side m))
 Decides-shows_near q j a now side m =
     let by = near_by q j a now side m in
     Decides-as (Decides-some_in (λ (e : Addr4 × (Neighbour × ℕ)). is_neighbour_at e.1.0 a && is_metric (near_metric e.1.0 side) m)
@@ -77,7 +77,7 @@ Decides-shows_near q j a now side m =
     (λ w. by.0 (w.0, w.1, ((w.2, w.3.0.0), w.3.0.1), w.3.1))
     (λ s. let w = by.1 s in (w.0, w.1, w.2.0.0, ((w.2.0.1, w.2.1), w.3)))
 
-Decides-has_near : (q : Router) (j : ℕ) (a : Addr4) (now : ℕ) (side : Side) → Decides (has_near q a side) ((m : Metric) × Shows (held q) j now a (near_part side m))
+Decides-has_near : (q : Router) (j : ℕ) (a : Addr4) (now : ℕ) (side : Side) → Decides (has_near q a side) ((m : Metric) × Says (held q) j now a (near_part side m))
 Decides-has_near q j a now side =
     Decides-as (Decides-some_in (λ (e : Addr4 × (Neighbour × ℕ)). is_neighbour_at e.1.0 a && is_some (near_metric e.1.0 side))
     (λ o n. IsNeighbourAt n a × ((m : Metric) × (near_metric n side ≡ Some m)))
@@ -86,7 +86,7 @@ Decides-has_near q j a now side =
     (λ s. let w = (near_by q j a now side s.0).1 s.1 in (w.0, w.1, w.2.0.0, ((w.2.0.1, w.2.1), (s.0, w.3))))
 
 Decides-shows_link_metric : (q : Router) (j : ℕ) (a : Addr4) (now : ℕ) (side : Side) (m : Metric) →
-    Decides (shows_link_metric q j a now side m) (Shows (held q) j now a (link_part side m))
+    Decides (shows_link_metric q j a now side m) (Says (held q) j now a (link_part side m))
 Decides-shows_link_metric q j a now side m =
     let by = link_by q j a now side m in
     Decides-as (Decides-some_at (λ (e : LinkKey × (Link × ℕ)). contains e.1.0.addrs a && is_metric (link_metric e.1.0 now side) m)
@@ -95,7 +95,7 @@ Decides-shows_link_metric q j a now side m =
     (λ w. by.0 w) (λ s. by.1 s)
 
 Decides-has_link_metric : (q : Router) (j : ℕ) (a : Addr4) (now : ℕ) (side : Side) →
-    Decides (has_link_metric q j a now side) ((m : Metric) × Shows (held q) j now a (link_part side m))
+    Decides (has_link_metric q j a now side) ((m : Metric) × Says (held q) j now a (link_part side m))
 Decides-has_link_metric q j a now side =
     Decides-as (Decides-some_at (λ (e : LinkKey × (Link × ℕ)). contains e.1.0.addrs a && is_some (link_metric e.1.0 now side))
     (λ key link. Contains link.addrs a × ((m : Metric) × (link_metric link now side ≡ Some m)))
@@ -105,7 +105,7 @@ Decides-has_link_metric q j a now side =
 
 -- the metric of that side, or none, that a receiver takes of what interface j of q shows of the address
 abbrev pub IsShownAt : Router → ℕ → Addr4 → ℕ → Side → Option Metric → Type 0
-IsShownAt q j a now side m = IsShown (λ n. Shows (held q) j now a (near_part side n)) (λ n. Shows (held q) j now a (link_part side n)) m
+IsShownAt q j a now side m = IsSaid (λ n. Says (held q) j now a (near_part side n)) (λ n. Says (held q) j now a (link_part side n)) m
 
 pub Decides-shown : (q : Router) (j : ℕ) (a : Addr4) (now : ℕ) (side : Side) (m : Option Metric) → Decides (is_shown q j a now side m) (IsShownAt q j a now side m)
 Decides-shown q j a now side None =

@@ -14,7 +14,7 @@ use Rattle.mesh_atoms.specs.declared.settings.RadioArc.{RadioArc}
 use Rattle.mesh_atoms.specs.declared.settings.RouterSettings.{RouterSettings}
 use Rattle.mesh_atoms.specs.declared.settings.Scenario.{Scenario}
 use Rattle.mesh_atoms.specs.Codes.{metric_value}
-use Rattle.mesh_atoms.specs.Hello.{Shows, Routing}
+use Rattle.mesh_atoms.specs.Hello.{Says, Routing}
 use Rattle.mesh_atoms.specs.Radio.{Joins, Adjacent, IsMetric}
 use Rattle.mesh_atoms.specs.Settled.{At, IsNeighbourOf}
 use Rattle.mesh_atoms.specs.State.{State, HasSymmetric, HasAddress, IsOriginator}
@@ -47,12 +47,12 @@ Decides-addresses addrs r =
 
 -- an address of p is shown by q as a routing relay's
 abbrev IsRoutingFor : Router → Router → ℕ → ℕ → Type 0
-IsRoutingFor p q j now = (a : Addr4) × HasAddress p.settings a × Shows (held q) j now a Routing
+IsRoutingFor p q j now = (a : Addr4) × HasAddress p.settings a × Says (held q) j now a Routing
 
 Decides-routing_for : (p q : Router) (j now : ℕ) → Decides (is_routing_for p q) (IsRoutingFor p q j now)
 Decides-routing_for p q j now =
-    Decides-as (Decides-some (λ (f : Interface). is_any_routing q f.addrs) (λ f. (a : Addr4) × Contains f.addrs a × Shows (held q) j now a Routing)
-    (λ f. Decides-some (λ a. shows_routing q a) (λ a. Shows (held q) j now a Routing) (λ a. Decides-shows_routing q j a now) f.addrs) p.settings.interfaces)
+    Decides-as (Decides-some (λ (f : Interface). is_any_routing q f.addrs) (λ f. (a : Addr4) × Contains f.addrs a × Says (held q) j now a Routing)
+    (λ f. Decides-some (λ a. shows_routing q a) (λ a. Says (held q) j now a Routing) (λ a. Decides-shows_routing q j a now) f.addrs) p.settings.interfaces)
     (λ w. let k = place_of p.settings.interfaces w.0 w.1 in (w.2.0, (k.0, (w.0, k.1, w.2.1)), w.2.2))
     (λ w. (w.1.1.0, at_place p.settings.interfaces w.1.0 w.1.1.0 w.1.1.1, (w.0, w.1.1.2, w.2)))
 

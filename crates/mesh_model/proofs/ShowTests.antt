@@ -10,7 +10,7 @@ use Rattle.mesh_atoms.specs.declared.settings.RouterSettings.{RouterSettings}
 use Rattle.mesh_atoms.specs.Base.{Has}
 use Rattle.mesh_atoms.specs.State.{Is_symmetric, state_of, HasAddressOn}
 use Rattle.mesh_atoms.specs.Settled.{IsLeastAddress}
-use Rattle.mesh_atoms.specs.Hello.{Shows, ShowsLink, ShowsSymmetric, Flooding, Routing}
+use Rattle.mesh_atoms.specs.Hello.{Says, SaysLink, SaysSymmetric, Flooding, Routing}
 use Rattle.mesh_atoms.proofs.Deciding.{Decides-and, Decides-leb, Decides-some, Decides-each}
 use Rattle.mesh_model.specs.declared.router.Router.{Router}
 use Rattle.mesh_model.specs.Router.{held}
@@ -45,14 +45,14 @@ Decides-least r i a =
 Decides-symmetric_to : (link : Link) (a : Addr4) (now : ℕ) → Decides (is_symmetric_to link a now) ((state_of link now ≡ Is_symmetric) × Contains link.addrs a)
 Decides-symmetric_to link a now = Decides-and _ _ (Decides-symmetric_link link now) (Decides-contains link.addrs a)
 
-pub Decides-shows_link : (q : Router) (j : ℕ) (a : Addr4) (now : ℕ) → Decides (shows_link q j a now) (ShowsLink (held q) j now a Is_symmetric)
+pub Decides-shows_link : (q : Router) (j : ℕ) (a : Addr4) (now : ℕ) → Decides (shows_link q j a now) (SaysLink (held q) j now a Is_symmetric)
 Decides-shows_link q j a now =
     Decides-as (Decides-some_at (λ (e : LinkKey × (Link × ℕ)). is_symmetric_to e.1.0 a now)
     (λ key link. (state_of link now ≡ Is_symmetric) × Contains link.addrs a) (λ e. Decides-symmetric_to e.1.0 a now) q.links j)
     (λ w. (w.1, (w.0, w.2, w.3.1, w.3.0)))
     (λ w. (w.1.0, w.0, w.1.1, (w.1.3, w.1.2)))
 
-pub Decides-shows_symmetric : (q : Router) (j : ℕ) (a : Addr4) (now : ℕ) → Decides (shows_symmetric q j a now) (ShowsSymmetric (held q) j now a)
+pub Decides-shows_symmetric : (q : Router) (j : ℕ) (a : Addr4) (now : ℕ) → Decides (shows_symmetric q j a now) (SaysSymmetric (held q) j now a)
 Decides-shows_symmetric q j a now =
     Decides-else _ _ (Decides-shows_link q j a now)
     (Decides-as (Decides-neighbour_with q.neighbours a) (λ w. (w.0, w.1, (w.2, w.3))) (λ w. (w.0, w.1, w.2.0, w.2.1)))
@@ -73,7 +73,7 @@ Decides-flooding_link q j link =
     (λ o n. Contains (items_of q.relays.flooding j) o × ((b : Addr4) × Contains link.addrs b × IsNeighbourAt n b))
     (λ e. Decides-and _ _ (Decides-contains (items_of q.relays.flooding j) e.0) (Decides-meets e.1.0 link.addrs)) q.neighbours
 
-pub Decides-shows_flooding : (q : Router) (j : ℕ) (a : Addr4) (now : ℕ) → Decides (shows_flooding q j a now) (Shows (held q) j now a Flooding)
+pub Decides-shows_flooding : (q : Router) (j : ℕ) (a : Addr4) (now : ℕ) → Decides (shows_flooding q j a now) (Says (held q) j now a Flooding)
 Decides-shows_flooding q j a now =
     Decides-as (Decides-some_at (λ (e : LinkKey × (Link × ℕ)). is_symmetric_to e.1.0 a now && is_flooding_link q j e.1.0)
     (λ key link. ((state_of link now ≡ Is_symmetric) × Contains link.addrs a) × IsFloodingLink q j link)
@@ -93,7 +93,7 @@ Decides-shows_flooding q j a now =
       ),
     ))
 
-pub Decides-shows_routing : (q : Router) (j : ℕ) (a : Addr4) (now : ℕ) → Decides (shows_routing q a) (Shows (held q) j now a Routing)
+pub Decides-shows_routing : (q : Router) (j : ℕ) (a : Addr4) (now : ℕ) → Decides (shows_routing q a) (Says (held q) j now a Routing)
 Decides-shows_routing q j a now =
     Decides-as (Decides-some_in (λ (e : Addr4 × (Neighbour × ℕ)). is_neighbour_at e.1.0 a && contains q.relays.routing e.0)
     (λ o n. IsNeighbourAt n a × Contains q.relays.routing o)

@@ -10,7 +10,7 @@ use Rattle.mesh_atoms.specs.declared.tuples.TwoHop.{TwoHop}
 use Rattle.mesh_atoms.specs.declared.tuples.TwoHopKey.{TwoHopKey}
 use Rattle.mesh_atoms.specs.declared.settings.RadioArc.{RadioArc}
 use Rattle.mesh_atoms.specs.declared.settings.Scenario.{Scenario}
-use Rattle.mesh_atoms.specs.Hello.{ShowsSymmetric}
+use Rattle.mesh_atoms.specs.Hello.{SaysSymmetric}
 use Rattle.mesh_atoms.specs.Radio.{Joins}
 use Rattle.mesh_atoms.specs.Settled.{At, IsLeastAddress, IsTwoHopBy}
 use Rattle.mesh_atoms.specs.State.{State, HasTwoHop, HasAddress}
@@ -35,7 +35,7 @@ use Rattle.mesh_model.proofs.ValueTests.{Decides-same_metrics}
 
 -- the address is shown SYMMETRIC, and it is neither router's
 abbrev IsFar : Meeting → Addr4 → Type 0
-IsFar h a = (ShowsSymmetric (held h.q) h.j h.now a × (HasAddress h.p.settings a → ⊥)) × (HasAddress h.q.settings a → ⊥)
+IsFar h a = (SaysSymmetric (held h.q) h.j h.now a × (HasAddress h.p.settings a → ⊥)) × (HasAddress h.q.settings a → ⊥)
 
 Decides-far : (h : Meeting) (a : Addr4) → Decides (is_far h a) (IsFar h a)
 Decides-far h a =

@@ -2,7 +2,7 @@
 use Rattle.std.proofs.Common.{◌≡◌, ℕ, Bool, true, false, Option, Some, None, ◌⊎◌, inl, inr, refl, sym, subst, ◌∙◌}
 use Rattle.std.specs.Prelude.{IfNone}
 use Rattle.mesh_atoms.specs.Base.{Base, find, SetsOnly}
-use Rattle.mesh_atoms.specs.AfterHello.{IsKept}
+use Rattle.mesh_atoms.specs.Words.{IsKept}
 
 -- what follows where nothing is given
 pub if_none_so : {A P Q : Type 0} (o : Option A) → (P → Q) → IfNone o P → IfNone o Q

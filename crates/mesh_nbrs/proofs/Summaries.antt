@@ -1,15 +1,12 @@
--- What notes tell together, note by note.
-use Rattle.std.proofs.Common.{◌≡◌, ℕ, ◌+◌, ◌<◌, ◌≤◌, ◌⊎◌, inl, inr, max, Bool, true, false, List, [], ◌∷◌, ◌++◌, length, take, get_or, Contains, Option, Some, None, refl, sym, subst, ap, ◌∙◌, arith}
+-- What notes tell together.
+use Rattle.std.proofs.Common.{◌≡◌, ℕ, ◌≤◌, ◌⊎◌, inl, inr, max, Bool, true, false, List, get_or, Contains, Option, Some, None, refl, sym, subst, ◌∙◌, arith}
 use Rattle.std.specs.Prelude.{IsTrue, ◌||◌}
 use Rattle.std.proofs.lemmas.Bool.{cases_lt}
-use Rattle.std.proofs.lemmas.List.{take_more}
-use Rattle.std.proofs.lemmas.List.Elements.{Contains-append_left, Contains-push, Contains-push_cases}
 use Rattle.mesh_atoms.specs.declared.addr.Addr4.{Addr4}
 use Rattle.mesh_atoms.specs.declared.metric.Metric.{Metric}
 use Rattle.mesh_atoms.specs.declared.tuples.Neighbour.{Neighbour}
 use Rattle.mesh_atoms.specs.Base.{addr_eq}
-use Rattle.mesh_atoms.specs.AfterHello.{IsKept}
-use Rattle.mesh_atoms.specs.Live.{IsLeastMetric}
+use Rattle.mesh_atoms.specs.Words.{IsKept, IsLeastMetric}
 use Rattle.mesh_atoms.proofs.Lookups.{addr_equiv, same_addr}
 use Rattle.mesh_nbrs.proofs.Listed.{contains_of, listed_of, found_of}
 use Rattle.std.specs.List.{list_any}
@@ -65,69 +62,95 @@ true_second false b h = h
 greater : (a b : ℕ) → (max a b ≡ a) ⊎ (max a b ≡ b)
 greater a b = elim (cases_lt a b) [ inl less ↦ inr (omega arith) | inr more ↦ inl (omega arith) ]
 
-module _ (P : LinkNote → Type 0) (x : LinkNote) where
-  abbrev With : LinkNote → Type 0
-  With n = P n ⊎ (n ≡ x)
+-- of some metrics and others, from the least of each
+pub least_both : (P Q : Metric → Type 0) (o u best : Option Metric) → IsLeastMetric P o → IsLeastMetric Q u → IsLeastMetric (λ m. (o ≡ Some m) ⊎ (u ≡ Some m)) best → IsLeastMetric (λ m. P m ⊎ Q m) best
+least_both P Q o u best h k j =
+    let first : IsLeastMetric (λ m. P m ⊎ (u ≡ Some m)) best = least_joined P (λ m. u ≡ Some m) o best h j in
+    let turned : IsLeastMetric (λ m. (u ≡ Some m) ⊎ P m) best = least_same best (λ m e. turn e) (λ m e. turn e) first in
+    least_same best (λ m e. turn e) (λ m e. turn e) (least_joined Q P u best k turned)
+  where
+    turn : {A B : Type 0} → A ⊎ B → B ⊎ A
+    turn (inl a) = inr a
+    turn (inr b) = inl b
 
-  -- the metrics that one more note adds
-  least_with : (shows : LinkNote → Metric → Type 0) (o best : Option Metric) → IsLeastMetric (λ m. (note : LinkNote) × (P note × IsTrue note.symmetric) × shows note m) o
-      → IsLeastMetric (λ m. (o ≡ Some m) ⊎ (IsTrue x.symmetric × shows x m)) best → IsLeastMetric (λ m. (note : LinkNote) × (With note × IsTrue note.symmetric) × shows note m) best
-  least_with shows o best h k = least_same best to from (least_joined (λ m. (note : LinkNote) × (P note × IsTrue note.symmetric) × shows note m) (λ m. IsTrue x.symmetric × shows x m) o best h k) where
-    to : (m : Metric) → ((note : LinkNote) × (P note × IsTrue note.symmetric) × shows note m) ⊎ (IsTrue x.symmetric × shows x m) → (note : LinkNote) × (With note × IsTrue note.symmetric) × shows note m
-    to m (inl p) = (p.0, (inl p.1.0, p.1.1), p.2)
-    to m (inr n) = (x, (inr refl, n.0), n.1)
+-- two summaries together
+module _ (P Q : LinkNote → Type 0) where
+  abbrev Both : LinkNote → Type 0
+  Both n = P n ⊎ Q n
 
-    from : (m : Metric) → (note : LinkNote) × (With note × IsTrue note.symmetric) × shows note m → ((note : LinkNote) × (P note × IsTrue note.symmetric) × shows note m) ⊎ (IsTrue x.symmetric × shows x m)
-    from m q = elim q.1.0 [
-      | inl p ↦ inl (q.0, (p, q.1.1), q.2)
-      | inr is ↦ inr (subst (λ (n : LinkNote). IsTrue n.symmetric) is q.1.1, subst (λ (n : LinkNote). shows n m) is q.2)
-    ]
+  shown_both : (shows : LinkNote → Metric → Type 0) (o u best : Option Metric) → IsLeastMetric (λ m. (note : LinkNote) × (P note × IsTrue note.symmetric) × shows note m) o
+      → IsLeastMetric (λ m. (note : LinkNote) × (Q note × IsTrue note.symmetric) × shows note m) u → IsLeastMetric (λ m. (o ≡ Some m) ⊎ (u ≡ Some m)) best
+      → IsLeastMetric (λ m. (note : LinkNote) × (Both note × IsTrue note.symmetric) × shows note m) best
+  shown_both shows o u best h k j =
+      least_same best to from (least_both (λ m. (note : LinkNote) × (P note × IsTrue note.symmetric) × shows note m) (λ m. (note : LinkNote) × (Q note × IsTrue note.symmetric) × shows note m) o u best h k j)
+    where
+      to : (m : Metric) → ((note : LinkNote) × (P note × IsTrue note.symmetric) × shows note m) ⊎ ((note : LinkNote) × (Q note × IsTrue note.symmetric) × shows note m) → (note : LinkNote) × (Both note × IsTrue note.symmetric) × shows note m
+      to m (inl p) = (p.0, (inl p.1.0, p.1.1), p.2)
+      to m (inr q) = (q.0, (inr q.1.0, q.1.1), q.2)
 
-  -- one more note
-  pub summary_with : (s t : Summary) → IsSummary P s → t.symmetric ≡ (s.symmetric || x.symmetric) → IsLeastMetric (λ m. (s.metric_in ≡ Some m) ⊎ (IsTrue x.symmetric × (x.link_in ≡ m))) t.metric_in
-      → IsLeastMetric (λ m. (s.metric_out ≡ Some m) ⊎ (IsTrue x.symmetric × (x.link_out ≡ Some m))) t.metric_out → t.until ≡ max s.until x.until → IsSummary With t
-  summary_with s t h symmetric metric_in metric_out until = record {
-    latest = elim (greater s.until x.until) [
+      from : (m : Metric) → (note : LinkNote) × (Both note × IsTrue note.symmetric) × shows note m → ((note : LinkNote) × (P note × IsTrue note.symmetric) × shows note m) ⊎ ((note : LinkNote) × (Q note × IsTrue note.symmetric) × shows note m)
+      from m b = elim b.1.0 [ inl p ↦ inl (b.0, (p, b.1.1), b.2) | inr q ↦ inr (b.0, (q, b.1.1), b.2) ]
+
+  pub summary_both : (s t r : Summary) → IsSummary P s → IsSummary Q t → r.symmetric ≡ (s.symmetric || t.symmetric) → IsLeastMetric (λ m. (s.metric_in ≡ Some m) ⊎ (t.metric_in ≡ Some m)) r.metric_in
+      → IsLeastMetric (λ m. (s.metric_out ≡ Some m) ⊎ (t.metric_out ≡ Some m)) r.metric_out → r.until ≡ max s.until t.until → IsSummary Both r
+  summary_both s t r h k symmetric metric_in metric_out until = record {
+    latest = elim (greater s.until t.until) [
       | inl first ↦ elim h.latest [ inl z ↦ inl (until ∙ first ∙ z) | inr p ↦ inr (p.0, inl p.1, p.2 ∙ sym (until ∙ first)) ]
-      | inr second ↦ inr (x, inr refl, sym (until ∙ second))
+      | inr second ↦ elim k.latest [ inl z ↦ inl (until ∙ second ∙ z) | inr q ↦ inr (q.0, inr q.1, q.2 ∙ sym (until ∙ second)) ]
     ];
-    no_later = λ n with. elim with [ inl p ↦ omega (arith, h.no_later n p, until) | inr is ↦ rw is (omega (arith, until)) ];
+    no_later = λ n both. elim both [ inl p ↦ omega (arith, h.no_later n p, until) | inr q ↦ omega (arith, k.no_later n q, until) ];
     symmetric = (
-      (λ yes. elim (either_true s.symmetric x.symmetric (sym symmetric ∙ yes)) [
+      (λ yes. elim (either_true s.symmetric t.symmetric (sym symmetric ∙ yes)) [
         | inl a ↦ let p = h.symmetric.0 a in (p.0, (inl p.1.0, p.1.1))
-        | inr b ↦ (x, (inr refl, b))
+        | inr b ↦ let q = k.symmetric.0 b in (q.0, (inr q.1.0, q.1.1))
       ]),
-      (λ q. symmetric ∙ elim q.1.0 [
-        | inl p ↦ true_first s.symmetric x.symmetric (h.symmetric.1 (q.0, (p, q.1.1)))
-        | inr is ↦ true_second s.symmetric x.symmetric (subst (λ (n : LinkNote). IsTrue n.symmetric) is q.1.1)
+      (λ b. symmetric ∙ elim b.1.0 [
+        | inl p ↦ true_first s.symmetric t.symmetric (h.symmetric.1 (b.0, (p, b.1.1)))
+        | inr q ↦ true_second s.symmetric t.symmetric (k.symmetric.1 (b.0, (q, b.1.1)))
       ]),
     );
-    metric_in = least_with (λ n m. n.link_in ≡ m) s.metric_in t.metric_in h.metric_in metric_in;
-    metric_out = least_with (λ n m. n.link_out ≡ Some m) s.metric_out t.metric_out h.metric_out metric_out;
+    metric_in = shown_both (λ n m. n.link_in ≡ m) s.metric_in t.metric_in r.metric_in h.metric_in k.metric_in metric_in;
+    metric_out = shown_both (λ n m. n.link_out ≡ Some m) s.metric_out t.metric_out r.metric_out h.metric_out k.metric_out metric_out;
   }
 
--- ---- one note more of a list
+-- ---- one note alone
 
-module _ (notes : List LinkNote) (addrs : List Addr4) (i : ℕ) (x : LinkNote) (lt : i < length notes) (is : x ≡ get_or notes i x) where
-  one_more : take (i + 1) notes ≡ take i notes ++ x ∷ []
-  one_more = take_more notes i x lt ∙ ap (λ (n : LinkNote). take i notes ++ n ∷ []) (sym is)
+module _ (x : LinkNote) where
+  abbrev This : LinkNote → Type 0
+  This n = n ≡ x
 
-  has_before : (n : LinkNote) → HasNote (take i notes) addrs n → HasNote (take (i + 1) notes) addrs n
-  has_before n has = (rw one_more (Contains-append_left (take i notes) (x ∷ []) n has.0), has.1)
+  is_symmetric_note : (n : LinkNote) → This n → IsTrue n.symmetric → IsTrue x.symmetric
+  is_symmetric_note n is so = subst (λ (m : LinkNote). IsTrue m.symmetric) is so
 
-  has_this : Contains addrs x.key.addr → HasNote (take (i + 1) notes) addrs x
-  has_this theirs = (rw one_more (Contains-push (take i notes) x), theirs)
+  pub of_symmetric : x.symmetric ≡ true → IsSummary (λ n. n ≡ x) (record { symmetric = true; metric_in = Some x.link_in; metric_out = x.link_out; until = x.until })
+  of_symmetric so = record {
+    latest = inr (x, refl, refl);
+    no_later = λ n is. rw is (omega arith);
+    symmetric = ((λ h. (x, (refl, so))), (λ q. refl));
+    metric_in = ((x, (refl, so), refl), λ m q. let same : x.link_in ≡ m = subst (λ (n : LinkNote). n.link_in ≡ m) q.1.0 q.2 in rw (← same) (omega arith));
+    metric_out = by_out x.link_out refl;
+  } where
+    by_out : (o : Option Metric) → x.link_out ≡ o → IsLeastMetric (λ m. (n : LinkNote) × (This n × IsTrue n.symmetric) × (n.link_out ≡ Some m)) o
+    by_out None none = λ m q. let there : x.link_out ≡ Some m = subst (λ (n : LinkNote). n.link_out ≡ Some m) q.1.0 q.2 in let clash : None ≡ Some m = sym none ∙ there in absurd cc
+    by_out (Some o) some = (
+      (x, (refl, so), some),
+      λ m q.
+          let there : x.link_out ≡ Some m = subst (λ (n : LinkNote). n.link_out ≡ Some m) q.1.0 q.2 in
+          let both : Some o ≡ Some m = sym some ∙ there in
+          let same : o ≡ m = cc in
+          rw same (omega arith),
+    )
 
-  pub has_more : (n : LinkNote) → HasNote (take (i + 1) notes) addrs n → HasNote (take i notes) addrs n ⊎ (n ≡ x)
-  has_more n has = elim (Contains-push_cases (take i notes) x n (rw one_more at has.0)) [ inl before ↦ inl (before, has.1) | inr this ↦ inr (sym this) ]
-
-  -- a note of another neighbour's link tells nothing
-  pub summary_past : (s : Summary) → (Contains addrs x.key.addr → ⊥) → IsSummary (HasNote (take i notes) addrs) s → IsSummary (HasNote (take (i + 1) notes) addrs) s
-  summary_past s other h = summary_same s has_before (λ n has. elim (has_more n has) [ inl before ↦ before | inr this ↦ absurd (other (subst (λ (y : LinkNote). Contains addrs y.key.addr) this has.1)) ]) h
-
-  -- a note of the neighbour's own link
-  pub summary_more : (t : Summary) → Contains addrs x.key.addr → IsSummary (λ n. HasNote (take i notes) addrs n ⊎ (n ≡ x)) t → IsSummary (HasNote (take (i + 1) notes) addrs) t
-  summary_more t theirs h = summary_same t (λ n either. elim either [ inl before ↦ has_before n before | inr this ↦ rw this (has_this theirs) ]) has_more h
+  pub of_other : x.symmetric ≡ false → IsSummary (λ n. n ≡ x) (record { symmetric = false; metric_in = None; metric_out = None; until = x.until })
+  of_other not_so = record {
+    latest = inr (x, refl, refl);
+    no_later = λ n is. rw is (omega arith);
+    symmetric = ((λ h. absurd cc), (λ q. absurd (never q.0 q.1.0 q.1.1)));
+    metric_in = λ m q. never q.0 q.1.0 q.1.1;
+    metric_out = λ m q. never q.0 q.1.0 q.1.1;
+  } where
+    never : (n : LinkNote) → This n → IsTrue n.symmetric → ⊥
+    never n is so = let clash : false ≡ true = sym not_so ∙ is_symmetric_note n is so in absurd cc
 
 -- ---- neighbours
 

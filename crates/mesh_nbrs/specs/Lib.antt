@@ -1,3 +1,5 @@
+pub mod Keyed
 pub mod Losts
 pub mod Neighbours
+pub mod Parts
 pub mod TwoHops

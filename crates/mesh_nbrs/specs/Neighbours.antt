@@ -4,13 +4,14 @@ use Rattle.mesh_atoms.specs.declared.addr.Addr4.{Addr4}
 use Rattle.mesh_atoms.specs.declared.hello.Willing.{Willing}
 use Rattle.mesh_atoms.specs.declared.tuples.Neighbour.{Neighbour}
 use Rattle.mesh_atoms.specs.Base.{Base, find, addr_eq}
-use Rattle.mesh_atoms.specs.Live.{IsLeastMetric}
-use Rattle.mesh_atoms.specs.AfterHello.{IsKept, Matches, announced}
+use Rattle.mesh_atoms.specs.Words.{IsLeastMetric, IsKept}
+use Rattle.mesh_atoms.specs.AfterHello.{Matches, announced}
 use Rattle.mesh_nbrs.specs.declared.neighbours.LinkNote.{LinkNote}
 use Rattle.mesh_nbrs.specs.declared.summary.Summary.{Summary}
 
 -- all tuples that match by originator or address become the one that the HELLO tells of (RFC 6130, section 12.3)
-pub record Replaces (originator : Addr4) (listed : List Addr4) (willing : Willing) (selector : Bool) (until : ℕ) (old new : Base Addr4 Neighbour) : Type 0 where
+pub record Replaces (originator : Addr4) (listed : List Addr4) (willing : Willing) (selector : Bool) (until : ℕ)
+    (old new : Base Addr4 Neighbour) : Type 0 where
   pub one : find addr_eq new originator ≡ Some (announced listed willing selector, until)
   pub others : (o : Addr4) → o ≢ originator → IsKept (λ e. Matches originator listed o e.0 → ⊥) (find addr_eq old o) (find addr_eq new o)
 

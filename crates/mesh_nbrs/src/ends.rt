@@ -1,7 +1,7 @@
 //! Taking tuples out of a table by what they are.
 ghost use Rattle.std.specs.Prelude.{◌≡◌, ◌+◌, ◌<◌, ◌≤◌, ◌↔◌, IsTrue, IfSome, IfNone, ℕ, length, slice_get, Some};
 ghost use Rattle.mesh_atoms.specs.Base.{find, HasDistinctKeys};
-ghost use Rattle.mesh_atoms.specs.AfterHello.{IsKept};
+ghost use Rattle.mesh_atoms.specs.Words.{IsKept};
 
 use mesh_expire::{Key, Table};
 
@@ -21,10 +21,10 @@ fn next_in<K: Key, V, T: Table<K, V>, E: Ending<K, V>>(
     start: usize,
     end: usize,
 ) -> Option<(usize, K)>
+    requires { HasDistinctKeys K.eq (T.content table.now) }
     ensures some { IfSome result (λ next. (e : _) × (find K.eq (T.content table.now) next.1 ≡ Some e) × E.ends ending.now next.1 e.0) }
     ensures none { IfNone result ((place : ℕ) (e : _) → start ≤ place → place < end → slice_get (T.content table.now) place ≡ Some e → E.ends ending.now e.0 e.1.0 → ⊥) }
 {
-    let _count = table.len();
     for place in start..end {
         if let Some((key, value, _)) = table.at(place) {
             if ending.ends(key, value) {
@@ -41,6 +41,7 @@ fn next_from<K: Key, V, T: Table<K, V>, E: Ending<K, V>>(
     ending: &E,
     start: usize,
 ) -> Option<(usize, K)>
+    requires { HasDistinctKeys K.eq (T.content table.now) }
     ensures some { IfSome result (λ next. (e : _) × (find K.eq (T.content table.now) next.1 ≡ Some e) × E.ends ending.now next.1 e.0) }
     ensures none { IfNone result ((q : _) (e : _) → find K.eq (T.content table.now) q ≡ Some e → E.ends ending.now q e.0 → ⊥) }
 {
@@ -53,17 +54,16 @@ fn next_from<K: Key, V, T: Table<K, V>, E: Ending<K, V>>(
 /// Takes out each tuple that ends, and gives their number. Takes no memory. The search for the next tuple goes on at the
 /// place of the one before.
 pub fn end_all<K: Key, V, T: Table<K, V>, E: Ending<K, V>>(table: &mut T, ending: &E) -> usize
+    requires { HasDistinctKeys K.eq (T.content table.old) }
     ensures kept { (q : _) → IsKept (λ e. E.ends ending.now q e.0 → ⊥) (find K.eq (T.content table.old) q) (find K.eq (T.content table.new) q) }
     ensures count { result + length (T.content table.new) ≡ length (T.content table.old) }
     ensures distinct { HasDistinctKeys K.eq (T.content table.new) }
 {
-    let _most = table.len();
-    let mut ended = 0;
+    let before = table.len();
     let mut start = 0;
     while let Some(next) = next_from(table, ending, start) {
         table.remove(&next.1);
-        ended += 1;
         start = next.0;
     }
-    ended
+    before - table.len()
 }

@@ -2,10 +2,13 @@
 #![tactic(auto)]
 
 mod ends;
+mod keyed;
 mod losts;
 mod near;
 mod neighbours;
+mod parts;
 mod summary;
+mod two_hop_order;
 mod two_hops;
 
 pub use losts::LostSet;

@@ -1,9 +1,11 @@
 //! The set of lost addresses.
 ghost use Rattle.std.specs.Prelude.{◌≡◌, ◌≤◌, ◌&&◌, [], length, not, IfOk, OnOk, None, Some, cond};
 ghost use Rattle.std.specs.List.{list_any};
+ghost use Rattle.indexmap.specs.IndexSet.{contains};
 ghost use Rattle.mesh_atoms.specs.Base.{Base, HasDistinctKeys, find, Expires, addr_eq};
 ghost use Rattle.mesh_nbrs.specs.Losts.{SettlesAll};
 
+use indexmap::IndexSet;
 use mesh_atoms::{Addr4, Lost};
 use mesh_expire::Table;
 use std::alloc::{AllocError, Global};
@@ -13,16 +15,20 @@ use std::marker::Model;
 #[derive(Drop)]
 pub struct LostSet<T: Table<Addr4, Lost>> {
     table: T,
+    alloc: Global,
 }
 
 impl<T: Table<Addr4, Lost>> Model for LostSet<T> {
     ghost use Rattle.mesh_atoms.specs.Base.{Base};
     ghost use Rattle.mesh_atoms.specs.declared.addr.Addr4.{Addr4};
     ghost use Rattle.mesh_atoms.specs.declared.tuples.Lost.{Lost};
+    ghost use Rattle.mesh_atoms.specs.Base.{HasDistinctKeys, addr_eq};
 
     ghost Value = { Base Addr4 Lost };
 
     ghost view = { λ s. T.content s.table };
+
+    ghost invariant = { λ s. HasDistinctKeys addr_eq (T.content s.table) };
 }
 
 impl<T: Table<Addr4, Lost>> LostSet<T> {
@@ -32,19 +38,22 @@ impl<T: Table<Addr4, Lost>> LostSet<T> {
     {
         Ok(LostSet {
             table: T::new(alloc)?,
+            alloc,
         })
     }
 
     /// The lost addresses as a table. Takes no memory.
     pub fn table(&self) -> &T
-        ensures { T.content result.now ≡ self.now }
+        ensures content { T.content result.now ≡ self.now }
+        ensures distinct { HasDistinctKeys addr_eq self.now }
     {
         &self.table
     }
 
     /// Settles which addresses are lost, from the addresses of symmetric neighbours before an event and after it
     /// (RFC 6130, sections 8.2 and 12.4): those of after are not lost, those of before alone are lost until that moment, and
-    /// all others stay as they are. Takes memory for the newly lost ones. Each address of before is looked for in after.
+    /// all others stay as they are. Takes memory for the addresses of after and for the newly lost ones. Looks each address of
+    /// either list up once.
     pub fn settle_lost(
         &mut self,
         before: &[Addr4],
@@ -54,8 +63,9 @@ impl<T: Table<Addr4, Lost>> LostSet<T> {
         ensures ok { OnOk result (SettlesAll before.now after.now until self.old self.new) }
         ensures distinct { HasDistinctKeys addr_eq self.new }
     {
+        let back = set_of(self.alloc, after)?;
         take_back(&mut self.table, after);
-        put_gone(&mut self.table, before, after, until)
+        put_gone(&mut self.table, before, &back, until)
     }
 
     /// Takes out the lost addresses whose moment is at or below now (RFC 6130, section 13). Takes no memory.
@@ -68,13 +78,24 @@ impl<T: Table<Addr4, Lost>> LostSet<T> {
     }
 }
 
+// The addresses as a set.
+fn set_of(alloc: Global, addrs: &[Addr4]) -> Result<IndexSet<Addr4>, AllocError>
+    ensures { IfOk result (λ set. (a : _) → contains addr_eq set a ≡ list_any (λ x. addr_eq x a) addrs.now) }
+{
+    let mut set = IndexSet::new(alloc);
+    for addr in addrs {
+        set.insert(*addr)?;
+    }
+    Ok(set)
+}
+
 // Takes out the addresses that are a symmetric neighbour's.
 fn take_back<T: Table<Addr4, Lost>>(table: &mut T, after: &[Addr4])
+    requires { HasDistinctKeys addr_eq (T.content table.old) }
     ensures back { (a : _) → find addr_eq (T.content table.new) a
         ≡ cond (list_any (λ x. addr_eq x a) after.now) None (find addr_eq (T.content table.old) a) }
     ensures distinct { HasDistinctKeys addr_eq (T.content table.new) }
 {
-    let _count = table.len();
     for addr in after {
         table.remove(addr);
     }
@@ -84,16 +105,16 @@ fn take_back<T: Table<Addr4, Lost>>(table: &mut T, after: &[Addr4])
 fn put_gone<T: Table<Addr4, Lost>>(
     table: &mut T,
     before: &[Addr4],
-    after: &[Addr4],
+    back: &IndexSet<Addr4>,
     until: u64,
 ) -> Result<(), AllocError>
+    requires { HasDistinctKeys addr_eq (T.content table.old) }
     ensures gone { OnOk result ((a : _) → find addr_eq (T.content table.new) a
-        ≡ cond (list_any (λ x. addr_eq x a && not (list_any (λ y. addr_eq y x) after.now)) before.now) (Some (record {}, until)) (find addr_eq (T.content table.old) a)) }
+        ≡ cond (list_any (λ x. addr_eq x a && not (contains addr_eq back.now x)) before.now) (Some (record {}, until)) (find addr_eq (T.content table.old) a)) }
     ensures distinct { HasDistinctKeys addr_eq (T.content table.new) }
 {
-    let _count = table.len();
     for addr in before {
-        if after.contains(addr) {
+        if back.contains(addr) {
             continue;
         }
         table.put(*addr, Lost {}, until)?;

@@ -1,13 +1,17 @@
 //! The set of neighbours.
-ghost use Rattle.std.specs.Prelude.{◌≡◌, ◌+◌, ◌<◌, ◌↔◌, [], length, IfOk, OnOk, IsTrue};
+ghost use Rattle.std.specs.Prelude.{◌≡◌, ◌+◌, ◌<◌, [], List, length, IfOk, OnOk};
 ghost use Rattle.mesh_atoms.specs.Base.{Base, HasDistinctKeys, find, addr_eq};
-ghost use Rattle.mesh_atoms.specs.Relays.{IsAscending};
+ghost use Rattle.mesh_atoms.specs.Words.{IsAscending};
 ghost use Rattle.mesh_atoms.specs.AfterHello.{Matches, announced};
 ghost use Rattle.mesh_expire.specs.Table.{changed_at};
-ghost use Rattle.mesh_nbrs.specs.Neighbours.{Replaces, RestoresBy, HasNoNote, HasSummary, by_summary};
+ghost use Rattle.mesh_nbrs.specs.declared.neighbours.LinkNote.{LinkNote};
+ghost use Rattle.mesh_nbrs.specs.Neighbours.{Replaces, RestoresBy, HasSummary, by_summary};
+ghost use Rattle.mesh_nbrs.specs.Parts.{AreParts, HasPart};
 
 use crate::ends::{Ending, end_all};
-use crate::summary::{Summary, summary_of};
+use crate::parts::{has_part, parts_of, together};
+use crate::summary::Summary;
+use indexmap::IndexMap;
 use mesh_atoms::{Addr4, LinkKey, Metric, Neighbour, Seq, Willing, meets};
 use mesh_expire::Table;
 use std::alloc::{AllocError, Global};
@@ -34,10 +38,13 @@ impl<T: Table<Addr4, Neighbour>> Model for NeighbourSet<T> {
     ghost use Rattle.mesh_atoms.specs.Base.{Base};
     ghost use Rattle.mesh_atoms.specs.declared.addr.Addr4.{Addr4};
     ghost use Rattle.mesh_atoms.specs.declared.tuples.Neighbour.{Neighbour};
+    ghost use Rattle.mesh_atoms.specs.Base.{HasDistinctKeys, addr_eq};
 
     ghost Value = { Base Addr4 Neighbour };
 
     ghost view = { λ s. T.content s.table };
+
+    ghost invariant = { λ s. HasDistinctKeys addr_eq (T.content s.table) };
 }
 
 impl<T: Table<Addr4, Neighbour>> NeighbourSet<T> {
@@ -53,7 +60,8 @@ impl<T: Table<Addr4, Neighbour>> NeighbourSet<T> {
 
     /// The neighbours as a table. Takes no memory.
     pub fn table(&self) -> &T
-        ensures { T.content result.now ≡ self.now }
+        ensures content { T.content result.now ≡ self.now }
+        ensures distinct { HasDistinctKeys addr_eq self.now }
     {
         &self.table
     }
@@ -95,49 +103,41 @@ impl<T: Table<Addr4, Neighbour>> NeighbourSet<T> {
         ensures ok { OnOk result ((o : Addr4) → RestoresBy notes.now (find addr_eq self.old o) (find addr_eq self.new o)) }
         ensures distinct { HasDistinctKeys addr_eq self.new }
     {
-        end_all(&mut self.table, &Unnoted { notes });
-        renew_all(&mut self.table, notes)
+        let parts = parts_of(self.alloc, notes)?;
+        end_all(&mut self.table, &Unnoted { parts: &parts });
+        renew_all(&mut self.table, &parts)
     }
 }
 
 // The neighbours that no note is of.
 #[derive(Clone, Copy)]
 struct Unnoted<'a> {
-    notes: &'a [LinkNote],
+    parts: &'a IndexMap<Addr4, Summary>,
 }
 
 impl<'a> Ending<Addr4, Neighbour> for Unnoted<'a> {
-    ghost ends = { λ u _ neighbour. HasNoNote u.notes.now neighbour.addrs };
+    ghost ends = { λ u _ neighbour. HasPart u.parts.now.entries neighbour.addrs → ⊥ };
 
     fn ends(&self, _originator: &Addr4, neighbour: &Neighbour) -> bool {
-        is_unnoted(self.notes, neighbour.addrs.as_slice())
+        !has_part(self.parts, neighbour.addrs.as_slice())
     }
-}
-
-fn is_unnoted(notes: &[LinkNote], addrs: &[Addr4]) -> bool
-    ensures { IsTrue result ↔ HasNoNote notes.now addrs.now }
-{
-    for note in notes {
-        if addrs.contains(&note.key.addr) {
-            return false;
-        }
-    }
-    true
 }
 
 // Sets what the notes tell of each neighbour.
 fn renew_all<T: Table<Addr4, Neighbour>>(
     table: &mut T,
-    notes: &[LinkNote],
+    parts: &IndexMap<Addr4, Summary>,
 ) -> Result<(), AllocError>
-    ensures ok { OnOk result ((o : Addr4) → HasSummary notes.now (find addr_eq (T.content table.old) o) (find addr_eq (T.content table.new) o)) }
+    requires { HasDistinctKeys addr_eq (T.content table.old) }
+    ensures ok { OnOk result ((notes : List LinkNote) → AreParts notes parts.now.entries
+        → (o : Addr4) → HasSummary notes (find addr_eq (T.content table.old) o) (find addr_eq (T.content table.new) o)) }
     ensures distinct { HasDistinctKeys addr_eq (T.content table.new) }
 {
     for place in 0..table.len() {
         let (originator, summary) = match table.at(place) {
             Some((originator, neighbour, _)) => (
                 *originator,
-                summary_of(notes, neighbour.addrs.as_slice()),
+                together(parts, neighbour.addrs.as_slice()),
             ),
             None => return Ok(()),
         };

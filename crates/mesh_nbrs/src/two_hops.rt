@@ -3,16 +3,19 @@ ghost use Rattle.std.specs.Prelude.{◌≡◌, ◌+◌, ◌≤◌, ◌↔◌, []
 ghost use Rattle.mesh_atoms.specs.Base.{Base, HasDistinctKeys, find, SetsOnly, Expires, two_hop_eq, link_eq};
 ghost use Rattle.mesh_nbrs.specs.TwoHops.{DropsLink};
 
-use crate::ends::{Ending, end_all};
+use crate::keyed::{purge_after, put_keyed, remove_keyed};
+use crate::two_hop_order::drop_all;
 use mesh_atoms::{Addr4, LinkKey, Metric, TwoHop, TwoHopKey};
 use mesh_expire::Table;
 use std::alloc::{AllocError, Global};
+use std::collections::BTreeSet;
 use std::marker::Model;
 
 /// The 2-hop tuples of one interface. After want of memory the set may only be dropped.
 #[derive(Drop)]
 pub struct TwoHopSet<T: Table<TwoHopKey, TwoHop>> {
     table: T,
+    keys: BTreeSet<TwoHopKey>,
 }
 
 impl<T: Table<TwoHopKey, TwoHop>> Model for TwoHopSet<T> {
@@ -22,7 +25,12 @@ impl<T: Table<TwoHopKey, TwoHop>> Model for TwoHopSet<T> {
 
     ghost Value = { Base TwoHopKey TwoHop };
 
+    ghost use Rattle.mesh_atoms.specs.Base.{HasDistinctKeys, two_hop_eq};
+    ghost use Rattle.mesh_nbrs.specs.Keyed.{Knows};
+
     ghost view = { λ s. T.content s.table };
+
+    ghost invariant = { λ s. HasDistinctKeys two_hop_eq (T.content s.table) × Knows two_hop_eq ⟦<TwoHopKey as Ord>⟧.cmp s.keys (T.content s.table) };
 }
 
 impl<T: Table<TwoHopKey, TwoHop>> TwoHopSet<T> {
@@ -32,12 +40,14 @@ impl<T: Table<TwoHopKey, TwoHop>> TwoHopSet<T> {
     {
         Ok(TwoHopSet {
             table: T::new(alloc)?,
+            keys: BTreeSet::new(alloc),
         })
     }
 
     /// The tuples as a table. Takes no memory.
     pub fn table(&self) -> &T
-        ensures { T.content result.now ≡ self.now }
+        ensures content { T.content result.now ≡ self.now }
+        ensures distinct { HasDistinctKeys two_hop_eq self.now }
     {
         &self.table
     }
@@ -59,7 +69,9 @@ impl<T: Table<TwoHopKey, TwoHop>> TwoHopSet<T> {
         ensures err { OnErr result (self.new ≡ self.old) }
         ensures distinct { HasDistinctKeys two_hop_eq self.new }
     {
-        self.table.put(
+        put_keyed(
+            &mut self.table,
+            &mut self.keys,
             TwoHopKey { link, addr },
             TwoHop {
                 metric_in,
@@ -78,39 +90,27 @@ impl<T: Table<TwoHopKey, TwoHop>> TwoHopSet<T> {
         ensures unchanged { result ≡ false → self.new ≡ self.old }
         ensures distinct { HasDistinctKeys two_hop_eq self.new }
     {
-        self.table.remove(&TwoHopKey { link, addr })
+        remove_keyed(&mut self.table, &mut self.keys, &TwoHopKey { link, addr })
     }
 
-    /// Takes out all tuples of a link (RFC 6130, section 13), and gives their number. Takes no memory. The tuples that go each
-    /// cost a removal, and all tuples are looked at.
+    /// Takes out all tuples of a link (RFC 6130, section 13), and gives their number. Takes no memory. Looks at no other link's
+    /// tuples.
     pub fn drop_link(&mut self, link: LinkKey) -> usize
         ensures dropped { DropsLink link self.old self.new }
         ensures count { result + length self.new ≡ length self.old }
         ensures distinct { HasDistinctKeys two_hop_eq self.new }
     {
-        end_all(&mut self.table, &OfLink { link })
+        drop_all(&mut self.table, &mut self.keys, link)
     }
 
-    /// Takes out the tuples whose moment is at or below now (RFC 6130, section 13). Takes no memory.
+    /// Takes out the tuples whose moment is at or below now (RFC 6130, section 13). Takes no memory. Where some go, all keys
+    /// are looked at.
     pub fn expire(&mut self, now: u64)
         ensures expired { Expires two_hop_eq now self.old self.new }
         ensures count { length self.new ≤ length self.old }
         ensures distinct { HasDistinctKeys two_hop_eq self.new }
     {
-        self.table.expire(now);
-    }
-}
-
-// The tuples of a link.
-#[derive(Clone, Copy)]
-struct OfLink {
-    link: LinkKey,
-}
-
-impl Ending<TwoHopKey, TwoHop> for OfLink {
-    ghost ends = { λ s key _. IsTrue (link_eq key.link s.link) };
-
-    fn ends(&self, key: &TwoHopKey, _tuple: &TwoHop) -> bool {
-        key.link == self.link
+        let gone = self.table.expire(now);
+        purge_after(&mut self.keys, &self.table, gone);
     }
 }

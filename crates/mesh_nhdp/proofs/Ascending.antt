@@ -11,7 +11,7 @@ use Rattle.std.proofs.lemmas.List.Kept.{IsStrictlySortedBy-dedup}
 use Rattle.std.proofs.lemmas.Map.Keys.{Less-from_sorted, IsDistinct-from_apart}
 use Rattle.mesh_atoms.specs.declared.addr.Addr4.{Addr4}
 use Rattle.mesh_atoms.specs.Base.{addr_eq}
-use Rattle.mesh_atoms.specs.Relays.{IsAscending}
+use Rattle.mesh_atoms.specs.Words.{IsAscending}
 
 abbrev pub addr_cmp : Addr4 → Addr4 → Ordering
 addr_cmp a b = nat_cmp a.0 b.0

@@ -9,7 +9,7 @@ use Rattle.std.proofs.lemmas.List.Elements.{Contains-append_cases, Contains-appe
 use Rattle.std.proofs.lemmas.Option.{slice_get_within, get_or_from_slice_get, slice_get_cases, none-some}
 use Rattle.std.proofs.lemmas.Map.Entries.{place_from_lookup, lookup_from_place}
 use Rattle.mesh_atoms.specs.Base.{Base, find, HasDistinctKeys}
-use Rattle.mesh_nhdp.specs.Gathers.{Adds}
+use Rattle.mesh_nhdp.specs.Gathers.{Gathers}
 
 -- some element below a place has the property
 abbrev pub SomeBelow : {E : Type 0} → List E → ℕ → (E → Type 0) → Type 0
@@ -42,7 +42,7 @@ module _ {E : Type 0} (xs : List E) (P : E → Type 0) where
 
 -- a step that adds what the element at the place gives
 pub gathers_more : {E A : Type 0} (xs : List E) (P : E → A → Type 0) (n : ℕ) (e : E) (old new : List A) → slice_get xs n ≡ Some e →
-    ((a : A) → Contains old a ↔ SomeBelow xs n (λ x. P x a)) → Adds old new (P e) → (a : A) → Contains new a ↔ SomeBelow xs (n + 1) (λ x. P x a)
+    ((a : A) → Contains old a ↔ SomeBelow xs n (λ x. P x a)) → Gathers old new (P e) → (a : A) → Contains new a ↔ SomeBelow xs (n + 1) (λ x. P x a)
 gathers_more xs P n e old new at so_far adds a = (
   λ c. elim ((adds a).0 c) [ inl h ↦ below_later xs (λ x. P x a) n ((so_far a).0 h) | inr h ↦ below_here xs (λ x. P x a) n e at h ],
   λ s. (adds a).1 (elim (below_cases xs (λ x. P x a) n e at s) [ inl h ↦ inl ((so_far a).1 h) | inr h ↦ inr h ]),
@@ -92,18 +92,18 @@ keys_all base k past = ap (λ es. keys_of es) (take_all k base past)
 -- Lists that grow
 
 -- what is put at the end is added, where the condition holds
-pub adds_where : {A Q : Type 0} (old new more : List A) → new ≡ old ++ more → Q → Adds old new (λ a. Q × Contains more a)
+pub adds_where : {A Q : Type 0} (old new more : List A) → new ≡ old ++ more → Q → Gathers old new (λ a. Q × Contains more a)
 adds_where old new more is q a = (
   λ c. elim (Contains-append_cases old more a (subst (λ xs. Contains xs a) is c)) [ inl h ↦ inl h | inr h ↦ inr (q, h) ],
   λ h. subst (λ xs. Contains xs a) (sym is) (elim h [ inl c ↦ Contains-append_left old more a c | inr c ↦ Contains-append_right old more a c.1 ]),
 )
 
 -- nothing is added where nothing has the property
-pub adds_nothing : {A : Type 0} (old new : List A) (P : A → Type 0) → new ≡ old → ((a : A) → P a → ⊥) → Adds old new P
+pub adds_nothing : {A : Type 0} (old new : List A) (P : A → Type 0) → new ≡ old → ((a : A) → P a → ⊥) → Gathers old new P
 adds_nothing old new P is none a = (λ c. inl (subst (λ xs. Contains xs a) is c), λ h. elim h [ inl c ↦ subst (λ xs. Contains xs a) (sym is) c | inr p ↦ absurd (none a p) ])
 
 -- one element is added
-pub adds_one : {A : Type 0} (old new : List A) (P : A → Type 0) (x : A) → new ≡ old ++ x ∷ [] → P x → ((a : A) → P a → x ≡ a) → Adds old new P
+pub adds_one : {A : Type 0} (old new : List A) (P : A → Type 0) (x : A) → new ≡ old ++ x ∷ [] → P x → ((a : A) → P a → x ≡ a) → Gathers old new P
 adds_one old new P x is has only a = (
   λ c. elim (Contains-push_cases old x a (subst (λ xs. Contains xs a) is c)) [ inl h ↦ inl h | inr same ↦ inr (subst P same has) ],
   λ h. subst (λ xs. Contains xs a) (sym is) (elim h [
@@ -114,7 +114,7 @@ adds_one old new P x is has only a = (
 
 -- a step of a walk that adds to what stood before it
 pub adds_more : {E A : Type 0} (xs : List E) (P : E → A → Type 0) (n : ℕ) (e : E) (first old new : List A) → slice_get xs n ≡ Some e →
-    Adds first old (λ a. SomeBelow xs n (λ x. P x a)) → Adds old new (P e) → Adds first new (λ a. SomeBelow xs (n + 1) (λ x. P x a))
+    Gathers first old (λ a. SomeBelow xs n (λ x. P x a)) → Gathers old new (P e) → Gathers first new (λ a. SomeBelow xs (n + 1) (λ x. P x a))
 adds_more xs P n e first old new at so_far adds a = (
   λ c. elim ((adds a).0 c) [
     | inl h ↦ elim ((so_far a).0 h) [ inl f ↦ inl f | inr s ↦ inr (below_later xs (λ x. P x a) n s) ]
@@ -127,11 +127,11 @@ adds_more xs P n e first old new at so_far adds a = (
 )
 
 -- a walk that has taken no step
-pub adds_none : {E A : Type 0} (xs : List E) (P : E → A → Type 0) (list : List A) → Adds list list (λ a. SomeBelow xs 0 (λ x. P x a))
+pub adds_none : {E A : Type 0} (xs : List E) (P : E → A → Type 0) (list : List A) → Gathers list list (λ a. SomeBelow xs 0 (λ x. P x a))
 adds_none xs P list a = (λ c. inl c, λ h. elim h [ inl c ↦ c | inr s ↦ absurd (omega (arith, s.2)) ])
 
 -- what is added, said otherwise
-pub adds_so : {A : Type 0} (old new : List A) (P Q : A → Type 0) → ((a : A) → P a ↔ Q a) → Adds old new P → Adds old new Q
+pub adds_so : {A : Type 0} (old new : List A) (P Q : A → Type 0) → ((a : A) → P a ↔ Q a) → Gathers old new P → Gathers old new Q
 adds_so old new P Q iff adds a = (
   λ c. elim ((adds a).0 c) [ inl h ↦ inl h | inr p ↦ inr ((iff a).0 p) ],
   λ h. (adds a).1 (elim h [ inl c ↦ inl c | inr q ↦ inr ((iff a).1 q) ]),
@@ -160,7 +160,7 @@ pub iff_on : {A B C : Type 0} → (A ↔ B) → (B ↔ C) → A ↔ C
 iff_on f g = ((λ a. g.0 (f.0 a)), (λ c. f.1 (g.1 c)))
 
 -- all of a list is added
-pub adds_all : {A : Type 0} (old new more : List A) → new ≡ old ++ more → Adds old new (λ a. Contains more a)
+pub adds_all : {A : Type 0} (old new more : List A) → new ≡ old ++ more → Gathers old new (λ a. Contains more a)
 adds_all old new more is a = (
   λ c. Contains-append_cases old more a (subst (λ xs. Contains xs a) is c),
   λ h. subst (λ xs. Contains xs a) (sym is) (elim h [ inl c ↦ Contains-append_left old more a c | inr c ↦ Contains-append_right old more a c ]),

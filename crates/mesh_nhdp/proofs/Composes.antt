@@ -10,9 +10,10 @@ use Rattle.mesh_atoms.specs.declared.tuples.Neighbour.{Neighbour}
 use Rattle.mesh_atoms.specs.declared.tuples.Lost.{Lost}
 use Rattle.mesh_atoms.specs.Base.{Base, find, link_eq, addr_eq}
 use Rattle.mesh_atoms.specs.State.{Neighbourhood, is_symmetric}
-use Rattle.mesh_atoms.specs.Live.{IsLeastMetric, HasLinkOf, HasSymmetricOf, IsByLinks, Restores, SettlesLost, Back, Gone, Stays}
+use Rattle.mesh_atoms.specs.Live.{HasLinkOf, HasSymmetricOf, IsByLinks, Restores, SettlesLost, Back, Gone, Stays}
+use Rattle.mesh_atoms.specs.Words.{IsLeastMetric, IsKept, IsBeyond, Meets}
 use Rattle.mesh_atoms.specs.HelloTold.{Told}
-use Rattle.mesh_atoms.specs.AfterHello.{IsKept, GoesOn, IsApart, IsBeyond, IsTheirs, Meets, Begins, Stood, Made, renewed, Matches, announced, BecomesOther, Joins, Remains}
+use Rattle.mesh_atoms.specs.AfterHello.{GoesOn, IsApart, IsTheirs, Begins, Stood, Made, renewed, Matches, announced, BecomesOther, Joins, Remains}
 use Rattle.mesh_links.specs.Links.{EndsOutside, HearsOn}
 use Rattle.mesh_nbrs.specs.Neighbours.{HasNote, HasSymmetricNote, IsByNotes, RestoresBy, Replaces}
 use Rattle.mesh_nhdp.specs.Calls.{note_of, TellsLinks}

@@ -11,9 +11,10 @@ use Rattle.mesh_atoms.specs.declared.tuples.TwoHopKey.{TwoHopKey}
 use Rattle.mesh_atoms.specs.declared.tuples.TwoHop.{TwoHop}
 use Rattle.mesh_atoms.specs.Base.{Base, base_of, find, HasDistinctKeys, link_eq, two_hop_eq}
 use Rattle.mesh_atoms.specs.State.{Neighbourhood}
-use Rattle.mesh_atoms.specs.TakesHello.{IsHeld, AreMoreThan}
+use Rattle.mesh_atoms.specs.TakesHello.{IsHeld}
+use Rattle.mesh_atoms.specs.Words.{AreMoreThan}
 use Rattle.mesh_atoms.specs.Sound.{SoundNeighbourhood}
-use Rattle.mesh_nhdp.specs.Held.{empty_near}
+use Rattle.mesh_nhdp.specs.NhdpState.{empty_near}
 
 empty_base : {K V : Type 0} (count i : ℕ) → slice_index_or (replicate count (let none : Base K V = [] in none)) i [] ≡ []
 empty_base {K} {V} count i = elim (cases_lt i count) [

@@ -8,8 +8,7 @@ use Rattle.std.proofs.lemmas.Map.Steps.{length-le_from_keys}
 use Rattle.std.proofs.lemmas.Map.Views.{list_any-from_Contains}
 use Rattle.mesh_atoms.specs.declared.addr.Addr4.{Addr4}
 use Rattle.mesh_atoms.specs.Base.{addr_eq}
-use Rattle.mesh_atoms.specs.Relays.{IsAscending}
-use Rattle.mesh_atoms.specs.TakesHello.{AreMoreThan}
+use Rattle.mesh_atoms.specs.Words.{IsAscending, AreMoreThan}
 use Rattle.mesh_atoms.proofs.Lookups.{addr_equiv, same_addr}
 use Rattle.mesh_nhdp.proofs.Ascending.{distinct_ascending}
 
@@ -27,7 +26,7 @@ either true c h = inl refl
 either false c h = inr h
 
 -- a test of equality finds an element
-any_contains : (addrs : List Addr4) (a : Addr4) → list_any (addr_eq a) addrs ≡ true → Contains addrs a
+pub any_contains : (addrs : List Addr4) (a : Addr4) → list_any (addr_eq a) addrs ≡ true → Contains addrs a
 any_contains [] a h = absurd (false≢true h)
 any_contains (x ∷ xs) a h = elim (either (addr_eq a x) (list_any (addr_eq a) xs) h) [
   | inl same ↦ (0, omega arith, sym (same_addr a x same))

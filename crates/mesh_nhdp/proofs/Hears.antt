@@ -15,7 +15,8 @@ use Rattle.mesh_atoms.specs.declared.settings.RouterSettings.{RouterSettings}
 use Rattle.mesh_atoms.specs.Base.{Base, HasDistinctKeys, find, base_of, link_eq, two_hop_eq}
 use Rattle.mesh_atoms.specs.State.{Neighbourhood}
 use Rattle.mesh_atoms.specs.HelloTold.{Told, Tells}
-use Rattle.mesh_atoms.specs.AfterHello.{AfterHello, IsKept}
+use Rattle.mesh_atoms.specs.AfterHello.{AfterHello}
+use Rattle.mesh_atoms.specs.Words.{IsKept}
 use Rattle.mesh_atoms.specs.TakesHello.{IsFault, IsFullOfAddresses, FitsTwoHops}
 use Rattle.mesh_atoms.specs.Sound.{SoundNeighbourhood}
 use Rattle.mesh_links.specs.Links.{EndsOutside}

@@ -19,9 +19,9 @@ use Rattle.mesh_atoms.specs.declared.settings.RouterSettings.{RouterSettings}
 use Rattle.mesh_atoms.specs.Base.{Base, find, base_of, two_hop_eq}
 use Rattle.mesh_atoms.specs.State.{Neighbourhood, is_symmetric, is_heard, link_at, two_hop_at, neighbour_at, lost_at, HasAddress}
 use Rattle.mesh_atoms.specs.Live.{trimmed, Renews, is_symmetric_at}
-use Rattle.mesh_atoms.specs.Relays.{IsAscending}
-use Rattle.mesh_atoms.specs.HelloTold.{Told, Tells, IsListed, LooksAt, says_symmetric, two_hop_of}
-use Rattle.mesh_atoms.specs.AfterHello.{AfterHello, Begins, Stood, Made, renewed, by_status, by_hearing, GoesOn, IsKept, Matches, announced, BecomesOther, Joins, Remains, StoodOn, Same_link, New_link, TellsTwoHop, By_row, By_none}
+use Rattle.mesh_atoms.specs.Words.{IsAscending, IsKept}
+use Rattle.mesh_atoms.specs.HelloTold.{Told, Tells, IsListed, LooksAt, tells_symmetric, two_hop_of}
+use Rattle.mesh_atoms.specs.AfterHello.{AfterHello, Begins, Stood, Made, renewed, by_status, by_hearing, GoesOn, Matches, announced, BecomesOther, Joins, Remains, StoodOn, Same_link, New_link, TellsTwoHop, By_row, By_none}
 use Rattle.mesh_atoms.specs.TakesHello.{IsHeld, IsFault, Local, Originator, Sender, IsFullOfAddresses, FitsTwoHops}
 use Rattle.mesh_atoms.specs.Sound.{SoundNeighbourhood, IsSoundLink, IsSoundNeighbour}
 use Rattle.mesh_atoms.proofs.Lookups.{two_hop_equiv}
@@ -340,7 +340,7 @@ module _ (settings : RouterSettings) (now i : ℕ) (sender : Addr4) (hello : Hel
     where
       by_row : (stood : Option (TwoHop × ℕ)) → StoodOn old i told a stood →
           TellsTwoHop settings told hello (now + told.shown.validity) a stood (two_hop_at new i (record { link = told.least; addr = a })) → nat_lt now t.1 ≡ true
-      by_row stood on (By_row row looks makes) = row_later (says_symmetric row.link row.other) (two_hop_of row) t (sym makes ∙ is)
+      by_row stood on (By_row row looks makes) = row_later (tells_symmetric row.link row.other) (two_hop_of row) t (sym makes ∙ is)
       by_row stood on (By_none none same) = stood_later a stood t on (sym same ∙ is)
 
       by_case : (b : Bool) → is_symmetric_at new now i told.least ≡ b → IsTwoHop i (record { link = told.least; addr = a }) t
@@ -379,7 +379,7 @@ module _ (settings : RouterSettings) (now i : ℕ) (sender : Addr4) (hello : Hel
   nothing : TwoHop
   nothing = record { metric_in = None; metric_out = None }
 
-  module _ (some : List Addr4) (are : (a : Addr4) → Contains some a ↔ ((row : HelloRow) × LooksAt settings told hello a row × IsTrue (says_symmetric row.link row.other))) where
+  module _ (some : List Addr4) (are : (a : Addr4) → Contains some a ↔ ((row : HelloRow) × LooksAt settings told hello a row × IsTrue (tells_symmetric row.link row.other))) where
     room : Base TwoHopKey TwoHop
     room = base_of old.two_hops i ++ entries_at told.least nothing some
 
@@ -407,7 +407,7 @@ module _ (settings : RouterSettings) (now i : ℕ) (sender : Addr4) (hello : Hel
             TellsTwoHop settings told hello (now + told.shown.validity) a stood (two_hop_at new i (record { link = told.least; addr = a })) → two_hop_at new i (record { link = told.least; addr = a }) ≡ Some t →
             (f : TwoHop × ℕ) × (find two_hop_eq (base_of old.two_hops i ++ entries_at told.least nothing some) (record { link = told.least; addr = a }) ≡ Some f)
         by_row a stood on (By_row row looks makes) is =
-            let (e, at) = found_entry told.least nothing some a ((are a).1 (row, looks, row_says (says_symmetric row.link row.other) (two_hop_of row) t (sym makes ∙ is))) in
+            let (e, at) = found_entry told.least nothing some a ((are a).1 (row, looks, row_says (tells_symmetric row.link row.other) (two_hop_of row) t (sym makes ∙ is))) in
             found_right (two_hop_eq (record { link = told.least; addr = a })) (base_of old.two_hops i) (entries_at told.least nothing some) e at
         by_row a stood on (By_none none same) is = stood_there a stood on (sym same ∙ is)
 

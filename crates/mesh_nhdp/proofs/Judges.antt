@@ -8,7 +8,8 @@ use Rattle.mesh_atoms.specs.declared.settings.RouterSettings.{RouterSettings}
 use Rattle.mesh_atoms.specs.Base.{base_of}
 use Rattle.mesh_atoms.specs.State.{Neighbourhood, HasAddress}
 use Rattle.mesh_atoms.specs.HelloTold.{Told, Tells}
-use Rattle.mesh_atoms.specs.TakesHello.{IsFault, IsFullOfAddresses, IsFullOfTwoHops, FitsTwoHops, AreTwoHopRows, AreMoreThan, IsHeld, HelloAnswer, TakesHello, Full_of_addresses, Full_of_two_hops, Overfull, Overfull_two_hops}
+use Rattle.mesh_atoms.specs.TakesHello.{IsFault, IsFullOfAddresses, IsFullOfTwoHops, FitsTwoHops, AreTwoHopRows, IsHeld, HelloAnswer, TakesHello, Full_of_addresses, Full_of_two_hops, Overfull, Overfull_two_hops}
+use Rattle.mesh_atoms.specs.Words.{AreMoreThan}
 use Rattle.mesh_atoms.specs.declared.tuples.Base.{Base}
 use Rattle.mesh_atoms.specs.declared.tuples.Base.TheVariants.{Neighbours, TwoHops}
 use Rattle.mesh_atoms.specs.AfterHello.{AfterHello}
@@ -21,9 +22,6 @@ use Rattle.mesh_nhdp.proofs.HelloSound.{hello_sound}
 -- the router's addresses, said of equal settings and of an equal list
 pub own_at : (s r : RouterSettings) (xs ys : List Addr4) → s ≡ r → ys ≡ xs → ((a : Addr4) → Contains xs a ↔ HasAddress s a) → (a : Addr4) → Contains ys a ↔ HasAddress r a
 own_at s r xs ys same is own = subst (λ (t : RouterSettings). (a : Addr4) → Contains ys a ↔ HasAddress t a) same (subst (λ (zs : List Addr4). (a : Addr4) → Contains zs a ↔ HasAddress s a) (sym is) own)
-
-pub flipped : (s : RouterSettings) (xs : List Addr4) → ((a : Addr4) → Contains xs a ↔ HasAddress s a) → (a : Addr4) → HasAddress s a ↔ Contains xs a
-flipped s xs own a = ((own a).1, (own a).0)
 
 module _ (near : Neighbourhood) (told : Told) (listed : List Addr4) (is : listed ≡ told.listed) (full : Bool)
     (says : IsTrue full ↔ AreMoreThan 1024 (λ a. IsHeld near a ⊎ (Contains listed a ⊎ (a ≡ told.originator)))) where

@@ -1,8 +1,8 @@
 mod AllHears
 mod AllNotes
-mod Empty
+pub mod Empty
 mod Expiry
-mod Fits
+pub mod Fits
 mod Hears
 mod HeldAddresses
 mod LinkKeys
@@ -15,7 +15,7 @@ mod Places
 mod Receipt
 mod RowWalks
 mod Senders
-mod Somewhere
+pub mod Somewhere
 pub mod Ascending
 pub mod Bases
 pub mod Collect
@@ -28,3 +28,6 @@ pub mod Lookups
 pub mod TwoHops
 pub mod Whole
 mod Judges
+pub mod RowCounts
+pub mod TcCounts
+pub mod OwnRows

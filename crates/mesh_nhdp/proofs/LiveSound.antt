@@ -13,7 +13,7 @@ use Rattle.mesh_atoms.specs.declared.settings.RouterSettings.{RouterSettings}
 use Rattle.mesh_atoms.specs.Base.{base_of, if_live}
 use Rattle.mesh_atoms.specs.State.{Neighbourhood, is_symmetric, link_at, two_hop_at, neighbour_at, lost_at, HasAddress}
 use Rattle.mesh_atoms.specs.Live.{LiveNeighbourhood, trimmed, trim, HasLinkOf, Renews, Restores, SettlesLost, Back, Gone, Stays, is_symmetric_at}
-use Rattle.mesh_atoms.specs.Relays.{IsAscending}
+use Rattle.mesh_atoms.specs.Words.{IsAscending}
 use Rattle.mesh_atoms.specs.TakesHello.{IsHeld}
 use Rattle.mesh_atoms.specs.Sound.{SoundNeighbourhood, IsSoundLink, IsSoundNeighbour}
 use Rattle.mesh_atoms.proofs.Lookups.{two_hop_equiv}

@@ -17,21 +17,21 @@ use Rattle.mesh_atoms.specs.declared.tuples.Relays.{Relays}
 use Rattle.mesh_atoms.specs.Base.{Base, base_of, find, host, addr_eq, link_eq}
 use Rattle.mesh_atoms.specs.Hello.{IsHelloNow, IsRoundedUp}
 use Rattle.mesh_atoms.specs.Nodes.{IsBefore}
-use Rattle.mesh_atoms.specs.Relays.{IsAscending}
+use Rattle.mesh_atoms.specs.Words.{IsAscending}
 use Rattle.mesh_atoms.specs.Sound.{SoundNeighbourhood}
 use Rattle.mesh_atoms.specs.State.{State, Neighbourhood, IsOriginator}
 use Rattle.mesh_atoms.proofs.Lookups.{has_found, addr_equiv, same_addr, link_equiv, same_link}
 use Rattle.mesh_atoms.specs.declared.settings.Interface.{Interface}
 use Rattle.mesh_links.specs.Links.{SelectorOf, Unlinked}
-use Rattle.mesh_nhdp.specs.Held.{Held}
-use Rattle.mesh_nhdp.specs.Shown.{AreApart, IsSeen, IsRowOf, told_addresses}
+use Rattle.mesh_nhdp.specs.NhdpState.{NhdpState}
+use Rattle.mesh_nhdp.specs.Said.{AreDisjoint, IsSeen, IsRowOf, said_addresses}
 use Rattle.mesh_nhdp.proofs.Lookups.{some_same}
 use Rattle.mesh_nhdp.proofs.Somewhere.{told_all}
 
 -- what the HELLO is made of: the addresses of which something is said, and a row for each, in their order
 pub record IsHelloOf (settings : RouterSettings) (links : Base LinkKey Link) (neighbours : Base Addr4 Neighbour) (losts : Base Addr4 Lost) (relays : Relays) (i now : ℕ) (list : List Addr4) (hello : Hello) : Type 0 where
   pub ascending : IsAscending list
-  pub same : (a : Addr4) → Contains list a ↔ Contains (told_addresses settings links neighbours losts) a
+  pub same : (a : Addr4) → Contains list a ↔ Contains (said_addresses settings links neighbours losts) a
   pub addrs : map (λ (row : HelloRow). row.addr) hello.rows ≡ map host list
   pub says : (row : HelloRow) → Contains hello.rows row → (a : Addr4) × IsRowOf settings links neighbours losts relays i now row a
   pub originator : (o : Addr4) × IsOriginator settings o × (hello.originator ≡ Some o)
@@ -49,7 +49,7 @@ map_given f [] y (k, lt, is) = absurd (omega arith)
 map_given f (x ∷ xs) y (zero, lt, is) = (x, (0, omega arith, refl), is)
 map_given f (x ∷ xs) y (suc k, lt, is) = let (z, (j, within, at), e) = map_given f xs y (k, omega arith, is) in (z, (suc j, omega arith, at), e)
 
-rows_before : (rows : List HelloRow) (list : List Addr4) → map (λ (row : HelloRow). row.addr) rows ≡ map host list → IsAscending list → AllPairs (λ (r t : HelloRow). IsBefore r.addr t.addr) rows
+pub rows_before : (rows : List HelloRow) (list : List Addr4) → map (λ (row : HelloRow). row.addr) rows ≡ map host list → IsAscending list → AllPairs (λ (r t : HelloRow). IsBefore r.addr t.addr) rows
 rows_before rows list same up i j d lt within =
     let addr = λ (row : HelloRow). row.addr in
     let sizes : length rows ≡ length list = sym (length-map rows addr) ∙ (ap length same ∙ length-map list host) in
@@ -67,7 +67,7 @@ hello_is settings links neighbours losts relays i now list hello made s seen = r
   willing = rw seen.settings_are made.willing;
   rows = λ row has. let (a, row_is) = made.says row has in (a, row_is.says s seen);
   all = λ a part shows.
-      let told : Contains (told_addresses settings links neighbours losts) a =
+      let told : Contains (said_addresses settings links neighbours losts) a =
       rw (← seen.settings_are, ← seen.neighbours_are, ← seen.losts_are) (told_all s i now a links seen.links_are part shows) in
       let there : Contains (map (λ (row : HelloRow). row.addr) hello.rows) (host a) = rw made.addrs (map_gives host list a ((made.same a).1 told)) in
       map_given (λ (row : HelloRow). row.addr) hello.rows (host a) there;
@@ -76,7 +76,7 @@ hello_is settings links neighbours losts relays i now list hello made s seen = r
 
 -- Sound tuples
 
-pub apart_by : (settings : RouterSettings) (now : ℕ) (near : Neighbourhood) (i : ℕ) → SoundNeighbourhood settings now near → AreApart (base_of near.links i) near.neighbours near.losts
+pub apart_by : (settings : RouterSettings) (now : ℕ) (near : Neighbourhood) (i : ℕ) → SoundNeighbourhood settings now near → AreDisjoint (base_of near.links i) near.neighbours near.losts
 apart_by settings now near i sound =
     let links = base_of near.links i in
     let link_found = λ (key : LinkKey) (link : Link). has_found link_equiv same_link links key link (sound.distinct_links i) in
@@ -105,25 +105,25 @@ apart_by settings now near i sound =
 stands_at : {A : Type 0} (xs : List A) (i : ℕ) (x d : A) → x ≡ get_or xs i x → i < length xs → get_or xs i d ≡ x
 stands_at xs i x d is lt = get_or_default xs i d x lt ∙ sym is
 
-pub apart_held : (held inside : Held) (now i : ℕ) (links l : Base LinkKey Link) (neighbours : Base Addr4 Neighbour) (losts : Base Addr4 Lost) → inside ≡ held →
+pub apart_held : (held inside : NhdpState) (now i : ℕ) (links l : Base LinkKey Link) (neighbours : Base Addr4 Neighbour) (losts : Base Addr4 Lost) → inside ≡ held →
     SoundNeighbourhood held.settings now held.near → i < length held.settings.interfaces → links ≡ l → l ≡ get_or inside.near.links i l → neighbours ≡ inside.near.neighbours → losts ≡ inside.near.losts →
-    AreApart links neighbours losts
+    AreDisjoint links neighbours losts
 apart_held held inside now i links l neighbours losts is sound lt e f g h =
     let lt' : i < length held.near.links = omega (arith, lt, sound.interfaces) in
-    let there : l ≡ get_or held.near.links i l = f ∙ ap (λ (x : Held). get_or x.near.links i l) is in
+    let there : l ≡ get_or held.near.links i l = f ∙ ap (λ (x : NhdpState). get_or x.near.links i l) is in
     rw (e, ← stands_at held.near.links i l [] there lt', g, h, is) (apart_by held.settings now held.near i sound)
 
-pub seen_held : (held inside : Held) (now i : ℕ) (links l : Base LinkKey Link) (neighbours : Base Addr4 Neighbour) (losts : Base Addr4 Lost) → inside ≡ held →
+pub seen_held : (held inside : NhdpState) (now i : ℕ) (links l : Base LinkKey Link) (neighbours : Base Addr4 Neighbour) (losts : Base Addr4 Lost) → inside ≡ held →
     SoundNeighbourhood held.settings now held.near → i < length held.settings.interfaces → links ≡ l → l ≡ get_or inside.near.links i l → neighbours ≡ inside.near.neighbours → losts ≡ inside.near.losts →
     (relays : Relays) (s : State) → s.settings ≡ held.settings → s.bases.neighbourhood ≡ held.near → s.relays ≡ relays → IsSeen s inside.settings links neighbours losts relays i
 seen_held held inside now i links l neighbours losts is sound lt e f g h relays s own near chosen =
     let lt' : i < length held.near.links = omega (arith, lt, sound.interfaces) in
-    let there : l ≡ get_or held.near.links i l = f ∙ ap (λ (x : Held). get_or x.near.links i l) is in
+    let there : l ≡ get_or held.near.links i l = f ∙ ap (λ (x : NhdpState). get_or x.near.links i l) is in
     record {
-      settings_are = own ∙ ap (λ (x : Held). x.settings) (sym is);
+      settings_are = own ∙ ap (λ (x : NhdpState). x.settings) (sym is);
       links_are = ap (λ (n : Neighbourhood). slice_get n.links i) near ∙ (slice_get-get_or held.near.links i l lt' ∙ ap (λ (x : Base LinkKey Link). Some x) (sym there ∙ sym e));
-      neighbours_are = ap (λ (n : Neighbourhood). n.neighbours) near ∙ (ap (λ (x : Held). x.near.neighbours) (sym is) ∙ sym g);
-      losts_are = ap (λ (n : Neighbourhood). n.losts) near ∙ (ap (λ (x : Held). x.near.losts) (sym is) ∙ sym h);
+      neighbours_are = ap (λ (n : Neighbourhood). n.neighbours) near ∙ (ap (λ (x : NhdpState). x.near.neighbours) (sym is) ∙ sym g);
+      losts_are = ap (λ (n : Neighbourhood). n.losts) near ∙ (ap (λ (x : NhdpState). x.near.losts) (sym is) ∙ sym h);
       relays_are = chosen;
     }
 

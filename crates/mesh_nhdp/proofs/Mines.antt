@@ -10,16 +10,16 @@ use Rattle.mesh_atoms.specs.declared.hello.LinkStatus.TheVariants.{Lost as Down,
 use Rattle.mesh_atoms.specs.declared.settings.Interface.{Interface}
 use Rattle.mesh_atoms.specs.declared.settings.RouterSettings.{RouterSettings}
 use Rattle.mesh_atoms.specs.Base.{host}
-use Rattle.mesh_atoms.specs.HelloTold.{HasRowOf, ShowsMe, IsMyStatus}
+use Rattle.mesh_atoms.specs.HelloTold.{HasRowOf, TellsMe, IsMyStatus}
 use Rattle.mesh_atoms.specs.State.{HasAddress, HasAddressOn}
 use Rattle.mesh_atoms.proofs.Nets.{same_net}
 use Rattle.mesh_nhdp.specs.declared.mine.Sign.TheVariants.{Status}
-use Rattle.mesh_nhdp.specs.Mine.{IsRowOf, Shows}
+use Rattle.mesh_nhdp.specs.Mine.{IsMyRow, TellsMine}
 use Rattle.mesh_nhdp.proofs.Collect.{SomeBelow}
 
 -- a row of one of the addresses, and of the address
 pub row_of : (hello : Hello) (own : List Addr4) (Q : HelloRow → Type 0) (P : Addr4 → Type 0) → ((a : Addr4) → Contains own a ↔ P a) →
-    ((row : HelloRow) × Contains hello.rows row × IsRowOf own row × Q row) ↔ ((a : Addr4) × (row : HelloRow) × P a × HasRowOf hello a row × Q row)
+    ((row : HelloRow) × Contains hello.rows row × IsMyRow own row × Q row) ↔ ((a : Addr4) × (row : HelloRow) × P a × HasRowOf hello a row × Q row)
 row_of hello own Q P own_is = (
   λ h. let (row, c, of, q) = h in (row.addr.addr, row, (own_is row.addr.addr).0 of.1, (c, same_net row.addr (host row.addr.addr) refl of.0), q),
   λ h. let (a, row, p, of, q) = h in
@@ -53,13 +53,13 @@ more_some (x ∷ xs) list lt within = let c = within x (0, omega arith, refl) in
 
 -- the status, by what is shown
 module _ (settings : RouterSettings) (i : ℕ) (hello : Hello) (own : List Addr4) (own_is : (a : Addr4) → Contains own a ↔ HasAddressOn settings i a) where
-  pub shows_me : (status : LinkStatus) → Shows hello own (Status status) ↔ ShowsMe settings i hello status
-  shows_me status = row_of hello own (λ row. row.link ≡ Some status) (HasAddressOn settings i) own_is
+  pub tells_me : (status : LinkStatus) → TellsMine hello own (Status status) ↔ TellsMe settings i hello status
+  tells_me status = row_of hello own (λ row. row.link ≡ Some status) (HasAddressOn settings i) own_is
 
-  pub is_lost : Shows hello own (Status Down) → (Shows hello own (Status Heard) → ⊥) → (Shows hello own (Status Symmetric) → ⊥) → IsMyStatus settings i hello (Some Down)
-  is_lost down not_heard not_symmetric = ((shows_me Down).0 down, (λ h. not_heard ((shows_me Heard).1 h)), (λ h. not_symmetric ((shows_me Symmetric).1 h)))
+  pub is_lost : TellsMine hello own (Status Down) → (TellsMine hello own (Status Heard) → ⊥) → (TellsMine hello own (Status Symmetric) → ⊥) → IsMyStatus settings i hello (Some Down)
+  is_lost down not_heard not_symmetric = ((tells_me Down).0 down, (λ h. not_heard ((tells_me Heard).1 h)), (λ h. not_symmetric ((tells_me Symmetric).1 h)))
 
-  pub is_unknown : (Shows hello own (Status Down) → ⊥) → (Shows hello own (Status Heard) → ⊥) → (Shows hello own (Status Symmetric) → ⊥) → IsMyStatus settings i hello None
-  is_unknown not_down not_heard not_symmetric Down h = not_down ((shows_me Down).1 h)
-  is_unknown not_down not_heard not_symmetric Heard h = not_heard ((shows_me Heard).1 h)
-  is_unknown not_down not_heard not_symmetric Symmetric h = not_symmetric ((shows_me Symmetric).1 h)
+  pub is_unknown : (TellsMine hello own (Status Down) → ⊥) → (TellsMine hello own (Status Heard) → ⊥) → (TellsMine hello own (Status Symmetric) → ⊥) → IsMyStatus settings i hello None
+  is_unknown not_down not_heard not_symmetric Down h = not_down ((tells_me Down).1 h)
+  is_unknown not_down not_heard not_symmetric Heard h = not_heard ((tells_me Heard).1 h)
+  is_unknown not_down not_heard not_symmetric Symmetric h = not_symmetric ((tells_me Symmetric).1 h)

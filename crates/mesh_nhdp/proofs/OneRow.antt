@@ -13,9 +13,10 @@ use Rattle.mesh_atoms.specs.Base.{Base, Has, HasDistinctKeys, addr_eq, find, hos
 use Rattle.mesh_expire.specs.Table.{entry_of, value_of}
 use Rattle.std.specs.Borrow.{Bor}
 use Rattle.mesh_atoms.proofs.Lookups.{has_found, addr_equiv, same_addr}
-use Rattle.mesh_atoms.specs.Hello.{IsHelloRow, IsValue}
+use Rattle.mesh_atoms.specs.Hello.{IsHelloRow}
+use Rattle.mesh_atoms.specs.Words.{IsValue}
 use Rattle.mesh_atoms.specs.State.{State}
-use Rattle.mesh_nhdp.specs.Shown.{IsLinkWith, IsNeighbourWith, AreApart, IsLocalOn, IsRelayOf, IsFloodingRelay, IsRowOf, told_addresses, status_shown, other_shown, link_in_shown, link_out_shown, near_in_shown, near_out_shown}
+use Rattle.mesh_nhdp.specs.Said.{IsLinkWith, IsNeighbourWith, AreDisjoint, IsLocalOn, IsRelayOf, IsFloodingRelay, IsRowOf, said_addresses, link_status_said, other_said, link_in_said, link_out_said, near_in_said, near_out_said}
 use Rattle.mesh_nhdp.proofs.Parts.{IsStatus, is_status, is_only, local_told, link_told, other_told, link_in_told, link_out_told, near_in_told, near_out_told, flooding_told, routing_told}
 use Rattle.mesh_nhdp.proofs.Somewhere.{told_some}
 
@@ -31,12 +32,12 @@ pub record IsMadeOf (settings : RouterSettings) (links : Base LinkKey Link) (nei
   pub is_lost_so : IsTrue is_lost ↔ ((l : Lost) × Has losts a l)
   pub addr : row.addr ≡ host a
   pub local : IsValue (IsLocalOn settings i a) row.local
-  pub link : row.link ≡ status_shown linked now
-  pub other : row.other ≡ other_shown row.link is_near is_lost
-  pub link_in : row.metrics.link_in ≡ link_in_shown row.link linked
-  pub link_out : row.metrics.link_out ≡ link_out_shown row.link linked
-  pub near_in : row.metrics.near_in ≡ near_in_shown near
-  pub near_out : row.metrics.near_out ≡ near_out_shown near
+  pub link : row.link ≡ link_status_said linked now
+  pub other : row.other ≡ other_said row.link is_near is_lost
+  pub link_in : row.metrics.link_in ≡ link_in_said row.link linked
+  pub link_out : row.metrics.link_out ≡ link_out_said row.link linked
+  pub near_in : row.metrics.near_in ≡ near_in_said near
+  pub near_out : row.metrics.near_out ≡ near_out_said near
   pub flooding : IsTrue row.mpr.flooding ↔ IsFloodingRelay relays.flooding i row.link near
   pub routing : IsTrue row.mpr.routing ↔ IsRelayOf relays.routing near
 
@@ -44,8 +45,8 @@ both_ways : {P Q R : Type 0} → (P ↔ Q) → (Q ↔ R) → P ↔ R
 both_ways p q = ((λ h. q.0 (p.0 h)), (λ h. p.1 (q.1 h)))
 
 row_here : (s : State) (links : Base LinkKey Link) (i now : ℕ) (row : HelloRow) (a : Addr4) → slice_get s.bases.neighbourhood.links i ≡ Some links →
-    AreApart links s.bases.neighbourhood.neighbours s.bases.neighbourhood.losts →
-    Contains (told_addresses s.settings links s.bases.neighbourhood.neighbours s.bases.neighbourhood.losts) a →
+    AreDisjoint links s.bases.neighbourhood.neighbours s.bases.neighbourhood.losts →
+    Contains (said_addresses s.settings links s.bases.neighbourhood.neighbours s.bases.neighbourhood.losts) a →
     IsMadeOf s.settings links s.bases.neighbourhood.neighbours s.bases.neighbourhood.losts s.relays i now row a → IsHelloRow s i now row a
 row_here s links i now row a at apart told made =
     let link = made.linked in
@@ -68,7 +69,7 @@ row_here s links i now row a at apart told made =
 
 -- in each state that has these settings, tuples and relays
 pub row_of : (settings : RouterSettings) (links : Base LinkKey Link) (neighbours : Base Addr4 Neighbour) (losts : Base Addr4 Lost) (relays : Relays) (i now : ℕ) (row : HelloRow) (a : Addr4) →
-    AreApart links neighbours losts → Contains (told_addresses settings links neighbours losts) a → IsMadeOf settings links neighbours losts relays i now row a →
+    AreDisjoint links neighbours losts → Contains (said_addresses settings links neighbours losts) a → IsMadeOf settings links neighbours losts relays i now row a →
     IsRowOf settings links neighbours losts relays i now row a
 row_of settings links neighbours losts relays i now row a apart told made = record {
   says = λ s seen. row_here s links i now row a seen.links_are

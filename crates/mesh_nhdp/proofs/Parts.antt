@@ -16,11 +16,12 @@ use Rattle.mesh_atoms.specs.declared.tuples.Link.{Link}
 use Rattle.mesh_atoms.specs.declared.tuples.Lost.{Lost}
 use Rattle.mesh_atoms.specs.declared.tuples.Neighbour.{Neighbour}
 use Rattle.mesh_atoms.specs.Base.{Base, Has}
-use Rattle.mesh_atoms.specs.Hello.{Shows, ShowsLink, HasLinkTo, Link_in, Link_out, Near_in, Near_out, Flooding, Routing, IsValue, link_part, local_part, other_part}
+use Rattle.mesh_atoms.specs.Hello.{status_said, Says, SaysLink, HasLinkTo, Link_in, Link_out, Near_in, Near_out, Flooding, Routing, link_part, local_part, other_part}
+use Rattle.mesh_atoms.specs.Words.{IsValue}
 use Rattle.mesh_atoms.specs.State.{State, LinkState, Is_pending, Is_lost, Is_symmetric, Is_heard, state_of, HasLink, HasSymmetricWith, HasAddressOn}
 use Rattle.mesh_expire.specs.Table.{entry_of}
 use Rattle.mesh_nhdp.proofs.Lookups.{some_same}
-use Rattle.mesh_nhdp.specs.Shown.{IsLinkWith, IsNeighbourWith, AreApart, IsLocalOn, IsRelayOf, IsFloodingRelay, status_by, status_shown, other_shown, link_in_shown, link_out_shown, near_in_shown, near_out_shown}
+use Rattle.mesh_nhdp.specs.Said.{IsLinkWith, IsNeighbourWith, AreDisjoint, IsLocalOn, IsRelayOf, IsFloodingRelay, link_status_said, other_said, link_in_said, link_out_said, near_in_said, near_out_said}
 
 pub lent : {K V : Type 0} (o : Option (Bor K × Bor V × ℕ)) (e : Bor K × Bor V × ℕ) → o ≡ Some e → entry_of o ≡ Some (e.0.now, (e.1.now, e.2))
 lent o e is = ap entry_of is
@@ -45,12 +46,12 @@ state_for Down = Is_lost
 state_for Symmetric = Is_symmetric
 state_for Heard = Is_heard
 
-status_for : (status : LinkStatus) → status_by (state_for status) ≡ Some status
+status_for : (status : LinkStatus) → status_said (state_for status) ≡ Some status
 status_for Down = refl
 status_for Symmetric = refl
 status_for Heard = refl
 
-state_told : (state : LinkState) (status : LinkStatus) → status_by state ≡ Some status → state ≡ state_for status
+state_told : (state : LinkState) (status : LinkStatus) → status_said state ≡ Some status → state ≡ state_for status
 state_told Is_pending status h = absurd cc
 state_told Is_lost Down h = refl
 state_told Is_lost Symmetric h = absurd cc
@@ -62,12 +63,12 @@ state_told Is_heard Down h = absurd cc
 state_told Is_heard Symmetric h = absurd cc
 state_told Is_heard Heard h = refl
 
-shows_part : (s : State) (i now : ℕ) (a : Addr4) (status : LinkStatus) → ShowsLink s i now a (state_for status) → Shows s i now a (link_part status)
+shows_part : (s : State) (i now : ℕ) (a : Addr4) (status : LinkStatus) → SaysLink s i now a (state_for status) → Says s i now a (link_part status)
 shows_part s i now a Down h = h
 shows_part s i now a Symmetric h = h
 shows_part s i now a Heard h = h
 
-part_shows : (s : State) (i now : ℕ) (a : Addr4) (status : LinkStatus) → Shows s i now a (link_part status) → ShowsLink s i now a (state_for status)
+part_shows : (s : State) (i now : ℕ) (a : Addr4) (status : LinkStatus) → Says s i now a (link_part status) → SaysLink s i now a (state_for status)
 part_shows s i now a Down h = h
 part_shows s i now a Symmetric h = h
 part_shows s i now a Heard h = h
@@ -87,11 +88,11 @@ pub record IsOnlyNeighbour (s : State) (a : Addr4) (neighbour : Option (Addr4 ×
   pub all : (o : Addr4) (n : Neighbour) → HasSymmetricWith s a o n → (e : Addr4 × (Neighbour × ℕ)) × (neighbour ≡ Some e) × (o ≡ e.0) × (n ≡ e.1.0)
 
 module _ (s : State) (i now : ℕ) (a : Addr4) (links : Base LinkKey Link) (at : slice_get s.bases.neighbourhood.links i ≡ Some links)
-    (apart : AreApart links s.bases.neighbourhood.neighbours s.bases.neighbourhood.losts) where
+    (apart : AreDisjoint links s.bases.neighbourhood.neighbours s.bases.neighbourhood.losts) where
   in_links : (key : LinkKey) (l : Link) → HasLink s i key l → Has links key l
   in_links key l (base, there, has) = let P : Base LinkKey Link → Type 0 = λ b. Has b key l in subst P (some_same there at) has
 
-  pub is_status : (link : Option (LinkKey × (Link × ℕ))) → IsValue (IsLinkWith links a) link → IsStatus s i now a link (status_shown link now)
+  pub is_status : (link : Option (LinkKey × (Link × ℕ))) → IsValue (IsLinkWith links a) link → IsStatus s i now a link (link_status_said link now)
   is_status None none = record {
     told = λ v h. absurd cc;
     all = λ v l w. let (key, has, in', is) = w in let (until, stands) = in_links key l has in absurd (none (key, (l, until)) (stands, in'));
@@ -102,7 +103,7 @@ module _ (s : State) (i now : ℕ) (a : Addr4) (links : Base LinkKey Link) (at :
         let (key, has, in', is) = w in
         let same' : l ≡ e.1.0 = apart.one_link a key e.0 l e.1.0 (in_links key l has) (e.1.1, with'.0) in' with'.1 in
         let P : Link → Type 0 = λ x. state_of x now ≡ state_for v in
-        (ap status_by (subst P same' is) ∙ status_for v, (e, refl, same'));
+        (ap status_said (subst P same' is) ∙ status_for v, (e, refl, same'));
   }
 
   pub is_only : (neighbour : Option (Addr4 × (Neighbour × ℕ))) → IsValue (IsNeighbourWith s.bases.neighbourhood.neighbours a) neighbour → IsOnlyNeighbour s a neighbour
@@ -118,7 +119,7 @@ module _ (s : State) (i now : ℕ) (a : Addr4) (links : Base LinkKey Link) (at :
   -- Of the link
 
   module _ (link : Option (LinkKey × (Link × ℕ))) (status : Option LinkStatus) (is : IsStatus s i now a link status) where
-    pub shows_not : (v : LinkStatus) → (status ≡ Some v → ⊥) → ShowsLink s i now a (state_for v) → ⊥
+    pub shows_not : (v : LinkStatus) → (status ≡ Some v → ⊥) → SaysLink s i now a (state_for v) → ⊥
     shows_not v not w = not ((is.all v w.0 w.1).0)
 
     link_at : (e : LinkKey × (Link × ℕ)) (v : LinkStatus) → link ≡ Some e → status ≡ Some v → HasLinkTo s i now a (state_for v) e.1.0
@@ -126,16 +127,16 @@ module _ (s : State) (i now : ℕ) (a : Addr4) (links : Base LinkKey Link) (at :
         let (f, there', to) = is.told v h in
         subst (λ (x : LinkKey × (Link × ℕ)). IsLinkTo s i now a (state_for v) x) (some_same there' there) to
 
-  pub link_told : (link : Option (LinkKey × (Link × ℕ))) (status : Option LinkStatus) → IsStatus s i now a link status → IsValue (λ v. Shows s i now a (link_part v)) status
+  pub link_told : (link : Option (LinkKey × (Link × ℕ))) (status : Option LinkStatus) → IsStatus s i now a link status → IsValue (λ v. Says s i now a (link_part v)) status
   link_told link None is = λ v w. shows_not link None is v (λ h. cc) (part_shows s i now a v w)
   link_told link (Some v) is = let (e, _, to) = is.told v refl in shows_part s i now a v (e.1.0, to)
 
   no_link_in : (link : Option (LinkKey × (Link × ℕ))) (status : Option LinkStatus) → IsStatus s i now a link status → (status ≡ Some Heard → ⊥) → (status ≡ Some Symmetric → ⊥) →
-      (m : Metric) → Shows s i now a (Link_in m) → ⊥
+      (m : Metric) → Says s i now a (Link_in m) → ⊥
   no_link_in link status is not_heard not_symmetric m (l, inl h, _) = shows_not link status is Heard not_heard (l, h)
   no_link_in link status is not_heard not_symmetric m (l, inr h, _) = shows_not link status is Symmetric not_symmetric (l, h)
 
-  pub link_in_told : (link : Option (LinkKey × (Link × ℕ))) (status : Option LinkStatus) → IsStatus s i now a link status → IsValue (λ m. Shows s i now a (Link_in m)) (link_in_shown status link)
+  pub link_in_told : (link : Option (LinkKey × (Link × ℕ))) (status : Option LinkStatus) → IsStatus s i now a link status → IsValue (λ m. Says s i now a (Link_in m)) (link_in_said status link)
   link_in_told link None is = no_link_in link None is (λ h. cc) (λ h. cc)
   link_in_told link (Some Down) is = no_link_in link (Some Down) is (λ h. cc) (λ h. cc)
   link_in_told None (Some Symmetric) is = let (e, there, _) = is.told Symmetric refl in absurd cc
@@ -143,7 +144,7 @@ module _ (s : State) (i now : ℕ) (a : Addr4) (links : Base LinkKey Link) (at :
   link_in_told (Some e) (Some Symmetric) is = (e.1.0, inr (link_at (Some e) (Some Symmetric) is e Symmetric refl refl), refl)
   link_in_told (Some e) (Some Heard) is = (e.1.0, inl (link_at (Some e) (Some Heard) is e Heard refl refl), refl)
 
-  link_out_of : (e : LinkKey × (Link × ℕ)) (out : Option Metric) → e.1.0.link_out ≡ out → IsStatus s i now a (Some e) (Some Symmetric) → IsValue (λ m. Shows s i now a (Link_out m)) out
+  link_out_of : (e : LinkKey × (Link × ℕ)) (out : Option Metric) → e.1.0.link_out ≡ out → IsStatus s i now a (Some e) (Some Symmetric) → IsValue (λ m. Says s i now a (Link_out m)) out
   link_out_of e None none is = λ m w.
       let (f, there, same') = ((is.all Symmetric w.0 w.1).1) in
       let one : e ≡ f = some_same refl there in
@@ -152,7 +153,7 @@ module _ (s : State) (i now : ℕ) (a : Addr4) (links : Base LinkKey Link) (at :
       cc (out, w.2)
   link_out_of e (Some m) some is = (e.1.0, link_at (Some e) (Some Symmetric) is e Symmetric refl refl, some)
 
-  pub link_out_told : (link : Option (LinkKey × (Link × ℕ))) (status : Option LinkStatus) → IsStatus s i now a link status → IsValue (λ m. Shows s i now a (Link_out m)) (link_out_shown status link)
+  pub link_out_told : (link : Option (LinkKey × (Link × ℕ))) (status : Option LinkStatus) → IsStatus s i now a link status → IsValue (λ m. Says s i now a (Link_out m)) (link_out_said status link)
   link_out_told link None is = λ m w. shows_not link None is Symmetric (λ h. cc) (w.0, w.1)
   link_out_told link (Some Down) is = λ m w. shows_not link (Some Down) is Symmetric (λ h. cc) (w.0, w.1)
   link_out_told link (Some Heard) is = λ m w. shows_not link (Some Heard) is Symmetric (λ h. cc) (w.0, w.1)
@@ -161,10 +162,10 @@ module _ (s : State) (i now : ℕ) (a : Addr4) (links : Base LinkKey Link) (at :
 
   -- Of the neighbour
 
-  pub near_in_told : (neighbour : Option (Addr4 × (Neighbour × ℕ))) → IsOnlyNeighbour s a neighbour → IsValue (λ m. Shows s i now a (Near_in m)) (near_in_shown neighbour)
+  pub near_in_told : (neighbour : Option (Addr4 × (Neighbour × ℕ))) → IsOnlyNeighbour s a neighbour → IsValue (λ m. Says s i now a (Near_in m)) (near_in_said neighbour)
   near_in_told None is = λ m w. let (e, there, _, _) = is.all w.0 w.1 w.2 in cc
   near_in_told (Some e) is = by_metric e.1.0.metric_in refl where
-    by_metric : (shown : Option Metric) → e.1.0.metric_in ≡ shown → IsValue (λ m. Shows s i now a (Near_in m)) shown
+    by_metric : (shown : Option Metric) → e.1.0.metric_in ≡ shown → IsValue (λ m. Says s i now a (Near_in m)) shown
     by_metric None none = λ m w.
         let (f, there, _, same') = is.all w.0 w.1 w.2 in
         let one : e ≡ f = some_same refl there in
@@ -172,10 +173,10 @@ module _ (s : State) (i now : ℕ) (a : Addr4) (links : Base LinkKey Link) (at :
         cc (out, w.3)
     by_metric (Some m) some = (e.0, e.1.0, is.told e refl, some)
 
-  pub near_out_told : (neighbour : Option (Addr4 × (Neighbour × ℕ))) → IsOnlyNeighbour s a neighbour → IsValue (λ m. Shows s i now a (Near_out m)) (near_out_shown neighbour)
+  pub near_out_told : (neighbour : Option (Addr4 × (Neighbour × ℕ))) → IsOnlyNeighbour s a neighbour → IsValue (λ m. Says s i now a (Near_out m)) (near_out_said neighbour)
   near_out_told None is = λ m w. let (e, there, _, _) = is.all w.0 w.1 w.2 in cc
   near_out_told (Some e) is = by_metric e.1.0.metric_out refl where
-    by_metric : (shown : Option Metric) → e.1.0.metric_out ≡ shown → IsValue (λ m. Shows s i now a (Near_out m)) shown
+    by_metric : (shown : Option Metric) → e.1.0.metric_out ≡ shown → IsValue (λ m. Says s i now a (Near_out m)) shown
     by_metric None none = λ m w.
         let (f, there, _, same') = is.all w.0 w.1 w.2 in
         let one : e ≡ f = some_same refl there in
@@ -186,18 +187,18 @@ module _ (s : State) (i now : ℕ) (a : Addr4) (links : Base LinkKey Link) (at :
   -- Of the neighbour and the link
 
   module _ (link : Option (LinkKey × (Link × ℕ))) where
-    still : (e : Addr4 × (Neighbour × ℕ)) (status : Option LinkStatus) → IsOnlyNeighbour s a (Some e) → IsStatus s i now a link status → (status ≡ Some Symmetric → ⊥) → Shows s i now a (other_part Still)
+    still : (e : Addr4 × (Neighbour × ℕ)) (status : Option LinkStatus) → IsOnlyNeighbour s a (Some e) → IsStatus s i now a link status → (status ≡ Some Symmetric → ⊥) → Says s i now a (other_part Still)
     still e status only is not = ((e.0, e.1.0, only.told e refl), λ w. shows_not link status is Symmetric not w)
 
     pub other_told : (status : Option LinkStatus) (neighbour : Option (Addr4 × (Neighbour × ℕ))) (lost : Bool) → IsStatus s i now a link status → IsOnlyNeighbour s a neighbour →
-        (IsTrue lost ↔ ((l : Lost) × Has s.bases.neighbourhood.losts a l)) → IsValue (λ v. Shows s i now a (other_part v)) (other_shown status (is_some neighbour) lost)
+        (IsTrue lost ↔ ((l : Lost) × Has s.bases.neighbourhood.losts a l)) → IsValue (λ v. Says s i now a (other_part v)) (other_said status (is_some neighbour) lost)
     other_told status neighbour true is only tells = tells.0 refl
     other_told status None false is only tells = not_shown where
-      not_shown : (v : _) → Shows s i now a (other_part v) → ⊥
+      not_shown : (v : _) → Says s i now a (other_part v) → ⊥
       not_shown No_more w = let h = tells.1 w in cc
       not_shown Still w = let (e, there, _, _) = only.all w.0.0 w.0.1 w.0.2 in cc
     other_told (Some Symmetric) (Some e) false is only tells = not_shown where
-      not_shown : (v : _) → Shows s i now a (other_part v) → ⊥
+      not_shown : (v : _) → Says s i now a (other_part v) → ⊥
       not_shown No_more w = let h = tells.1 w in cc
       not_shown Still w = let (f, _, to) = is.told Symmetric refl in w.1 (f.1.0, to)
     other_told None (Some e) false is only tells = still e None only is (λ h. cc)
@@ -205,7 +206,7 @@ module _ (s : State) (i now : ℕ) (a : Addr4) (links : Base LinkKey Link) (at :
     other_told (Some Heard) (Some e) false is only tells = still e (Some Heard) only is (λ h. cc)
 
     pub flooding_told : (status : Option LinkStatus) (neighbour : Option (Addr4 × (Neighbour × ℕ))) → IsStatus s i now a link status → IsOnlyNeighbour s a neighbour →
-        IsFloodingRelay s.relays.flooding i status neighbour ↔ Shows s i now a Flooding
+        IsFloodingRelay s.relays.flooding i status neighbour ↔ Says s i now a Flooding
     flooding_told status neighbour is only = (
       (λ w.
           let (e, _, to) = is.told Symmetric w.symmetric in
@@ -228,15 +229,15 @@ module _ (s : State) (i now : ℕ) (a : Addr4) (links : Base LinkKey Link) (at :
           }),
     )
 
-  pub routing_told : (neighbour : Option (Addr4 × (Neighbour × ℕ))) → IsOnlyNeighbour s a neighbour → IsRelayOf s.relays.routing neighbour ↔ Shows s i now a Routing
+  pub routing_told : (neighbour : Option (Addr4 × (Neighbour × ℕ))) → IsOnlyNeighbour s a neighbour → IsRelayOf s.relays.routing neighbour ↔ Says s i now a Routing
   routing_told neighbour only = (
     (λ w. let f = w.entry in (f.0, f.1.0, only.told f w.is, w.has)),
     (λ w. let (o, n, with', has) = w in let (f, is, one, _) = only.all o n with' in record { entry = f; is = is; has = subst (Contains s.relays.routing) one has }),
   )
 
-  pub local_told : (local : Option LocalIf) → IsValue (IsLocalOn s.settings i a) local → IsValue (λ v. Shows s i now a (local_part v)) local
+  pub local_told : (local : Option LocalIf) → IsValue (IsLocalOn s.settings i a) local → IsValue (λ v. Says s i now a (local_part v)) local
   local_told None none = λ v w. not_shown v w where
-    not_shown : (v : LocalIf) → Shows s i now a (local_part v) → ⊥
+    not_shown : (v : LocalIf) → Says s i now a (local_part v) → ⊥
     not_shown This w = none This w
     not_shown Other w = none Other w
   local_told (Some This) w = w

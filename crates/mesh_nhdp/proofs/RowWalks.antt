@@ -11,7 +11,7 @@ use Rattle.mesh_atoms.specs.declared.tuples.TwoHop.{TwoHop}
 use Rattle.mesh_atoms.specs.declared.settings.RouterSettings.{RouterSettings}
 use Rattle.mesh_atoms.specs.Base.{Base, find, host, two_hop_eq}
 use Rattle.mesh_atoms.specs.State.{HasAddress}
-use Rattle.mesh_atoms.specs.HelloTold.{Told, LooksAt, says_symmetric}
+use Rattle.mesh_atoms.specs.HelloTold.{Told, LooksAt, tells_symmetric}
 use Rattle.mesh_atoms.specs.AfterHello.{TellsTwoHop, By_row, By_none, row_makes}
 use Rattle.mesh_atoms.proofs.Lookups.{two_hop_equiv, same_two_hop}
 use Rattle.mesh_atoms.proofs.Nets.{same_net}
@@ -94,7 +94,7 @@ module _ (settings : RouterSettings) (told : Told) (hello : Hello) (own listed :
 
   -- so are the rows that say SYMMETRIC
   pub symmetric_rows : (a : Addr4) → SomeBelow hello.rows (length hello.rows) (λ row. TellsSymmetric own listed row a)
-      ↔ ((row : HelloRow) × LooksAt settings told hello a row × IsTrue (says_symmetric row.link row.other))
+      ↔ ((row : HelloRow) × LooksAt settings told hello a row × IsTrue (tells_symmetric row.link row.other))
   symmetric_rows a = (
     λ s. let (row, c, tells) = (below_contains hello.rows (λ row. TellsSymmetric own listed row a)).0 s in (row, looks_at row a c tells.0 tells.2, tells.1),
     λ h. let (row, looks, says) = h in

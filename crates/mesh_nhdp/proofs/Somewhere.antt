@@ -14,16 +14,16 @@ use Rattle.mesh_atoms.specs.declared.tuples.Link.{Link}
 use Rattle.mesh_atoms.specs.declared.tuples.Lost.{Lost}
 use Rattle.mesh_atoms.specs.declared.tuples.Neighbour.{Neighbour}
 use Rattle.mesh_atoms.specs.Base.{Base, Has}
-use Rattle.mesh_atoms.specs.Hello.{Part, This_if, Other_if, Link_lost, Link_symmetric, Link_heard, Other_lost, Other_symmetric, Link_in, Link_out, Near_in, Near_out, Flooding, Routing, Shows, HasLinkTo}
+use Rattle.mesh_atoms.specs.Hello.{Part, This_if, Other_if, Link_lost, Link_symmetric, Link_heard, Other_lost, Other_symmetric, Link_in, Link_out, Near_in, Near_out, Flooding, Routing, Says, HasLinkTo}
 use Rattle.mesh_atoms.specs.State.{State, LinkState, Is_pending, Is_lost, Is_symmetric, Is_heard, state_of, HasSymmetricWith, HasAddressOn}
-use Rattle.mesh_nhdp.specs.Shown.{linked_addresses, symmetric_addresses, told_addresses}
+use Rattle.mesh_nhdp.specs.Said.{linked_addresses, symmetric_addresses, said_addresses}
 use Rattle.mesh_nhdp.proofs.Lookups.{some_same, Contains_at}
 use Rattle.mesh_nhdp.proofs.Places.{place_of}
 use Rattle.mesh_nhdp.proofs.Parts.{IsStatus}
 
 -- Lists in general
 
-cons_cases : {X : Type 0} (x a : X) (xs : List X) → Contains (x ∷ xs) a → (x ≡ a) ⊎ Contains xs a
+pub cons_cases : {X : Type 0} (x a : X) (xs : List X) → Contains (x ∷ xs) a → (x ≡ a) ⊎ Contains xs a
 cons_cases x a xs (zero, lt, at) = inl at
 cons_cases x a xs (suc k, lt, at) = inr (k, omega arith, at)
 
@@ -106,7 +106,7 @@ module _ (s : State) (i now : ℕ) (a : Addr4) (links : Base LinkKey Link) (at :
   gone = keys_of s.bases.neighbourhood.losts
 
   abbrev told : List Addr4
-  told = told_addresses s.settings links s.bases.neighbourhood.neighbours s.bases.neighbourhood.losts
+  told = said_addresses s.settings links s.bases.neighbourhood.neighbours s.bases.neighbourhood.losts
 
   -- What is said is of an address of the list
 
@@ -136,7 +136,7 @@ module _ (s : State) (i now : ℕ) (a : Addr4) (links : Base LinkKey Link) (at :
   gone_in lost (until, stands) =
       Contains-append_left gone (mine ++ (linked ++ near)) a (key_gives s.bases.neighbourhood.losts a (lost, until) stands)
 
-  pub told_all : (part : Part) → Shows s i now a part → Contains told a
+  pub told_all : (part : Part) → Says s i now a part → Contains told a
   told_all This_if w = own_in i w
   told_all Other_if w = own_in w.0 w.2
   told_all Link_lost w = link_in Is_lost w.0 (λ h. cc) w.1
@@ -155,7 +155,7 @@ module _ (s : State) (i now : ℕ) (a : Addr4) (links : Base LinkKey Link) (at :
   -- Of an address of the list something is said
 
   abbrev Somewhat : Type 0
-  Somewhat = (part : Part) × Shows s i now a part
+  Somewhat = (part : Part) × Says s i now a part
 
   own_said : Contains mine a → Somewhat
   own_said w =

@@ -15,7 +15,8 @@ use Rattle.mesh_atoms.specs.Base.{Base, find, base_of, if_live, Expires, Same, a
 use Rattle.mesh_atoms.specs.State.{Neighbourhood, link_at, two_hop_at, neighbour_at, lost_at}
 use Rattle.mesh_atoms.specs.Live.{LiveNeighbourhood, IsSymmetricAddress, SettlesLost, is_symmetric_at, is_symmetric_entry, HasTables}
 use Rattle.mesh_atoms.specs.HelloTold.{Told}
-use Rattle.mesh_atoms.specs.AfterHello.{AfterHello, IsKept, GoesOn, IsTheirs, Begins, renewed, StoodOn, Same_link, New_link}
+use Rattle.mesh_atoms.specs.AfterHello.{AfterHello, GoesOn, IsTheirs, Begins, renewed, StoodOn, Same_link, New_link}
+use Rattle.mesh_atoms.specs.Words.{IsKept}
 use Rattle.mesh_atoms.specs.Sound.{SoundNeighbourhood}
 use Rattle.mesh_links.specs.Links.{ExpiresLinks, EndsOutside, HearsOn}
 use Rattle.mesh_nbrs.specs.declared.neighbours.LinkNote.{LinkNote}

@@ -11,7 +11,8 @@ use Rattle.mesh_atoms.specs.Base.{Base, find, base_of, link_eq, two_hop_eq}
 use Rattle.mesh_atoms.specs.State.{is_symmetric}
 use Rattle.mesh_atoms.specs.Live.{is_symmetric_entry}
 use Rattle.mesh_atoms.specs.HelloTold.{Told}
-use Rattle.mesh_atoms.specs.AfterHello.{IsKept, TellsTwoHop}
+use Rattle.mesh_atoms.specs.AfterHello.{TellsTwoHop}
+use Rattle.mesh_atoms.specs.Words.{IsKept}
 use Rattle.mesh_nbrs.specs.declared.neighbours.LinkNote.{LinkNote}
 
 -- Links
@@ -26,7 +27,8 @@ IsNoteIn links now note = (key : LinkKey) × (e : Link × ℕ) × (find link_eq 
 
 -- the notes tell every link of every interface
 pub record TellsLinks (links : List (Base LinkKey Link)) (now : ℕ) (notes : List LinkNote) : Type 0 where
-  pub told : (note : LinkNote) → Contains notes note → (i : ℕ) × (e : Link × ℕ) × (find link_eq (base_of links i) note.key ≡ Some e) × (note ≡ note_of now note.key e)
+  pub told : (note : LinkNote) → Contains notes note →
+      (i : ℕ) × (e : Link × ℕ) × (find link_eq (base_of links i) note.key ≡ Some e) × (note ≡ note_of now note.key e)
   pub all : (i : ℕ) (key : LinkKey) (e : Link × ℕ) → find link_eq (base_of links i) key ≡ Some e → Contains notes (note_of now key e)
 
 -- the keys of all links, and no others
@@ -47,5 +49,6 @@ DropsEnded keys links now old new = (key : TwoHopKey) →
 
 -- the tuples of the link are as the rows of the HELLO make them, and those of other links stay
 pub record TellsTwoHops (settings : RouterSettings) (told : Told) (hello : Hello) (link : LinkKey) (until : ℕ) (old new : Base TwoHopKey TwoHop) : Type 0 where
-  pub one : (a : Addr4) → TellsTwoHop settings told hello until a (find two_hop_eq old (record { link = link; addr = a })) (find two_hop_eq new (record { link = link; addr = a }))
+  pub one : (a : Addr4) →
+      let key : TwoHopKey = record { link = link; addr = a } in TellsTwoHop settings told hello until a (find two_hop_eq old key) (find two_hop_eq new key)
   pub others : (key : TwoHopKey) → key.link ≢ link → find two_hop_eq new key ≡ find two_hop_eq old key

@@ -15,7 +15,8 @@ use Rattle.mesh_nhdp.specs.Wanted.{IsWantedAddress}
 
 -- neighbours are as the links have them, and an address that was a symmetric neighbour's, and is none's now, is lost
 -- (RFC 6130, sections 12.4 and 13)
-pub record FollowsLinks (links : List (Base LinkKey Link)) (now : ℕ) (before : List Addr4) (until : ℕ) (old new : Base Addr4 Neighbour) (lost is_lost : Base Addr4 Lost) : Type 0 where
+pub record FollowsLinks (links : List (Base LinkKey Link)) (now : ℕ) (before : List Addr4) (until : ℕ)
+    (old new : Base Addr4 Neighbour) (lost is_lost : Base Addr4 Lost) : Type 0 where
   pub distinct : HasDistinctKeys addr_eq new
   pub distinct_losts : HasDistinctKeys addr_eq is_lost
   pub notes : List LinkNote

@@ -17,21 +17,26 @@ use Rattle.mesh_nhdp.specs.Interfaces.{HearsAt}
 
 -- the tuples of the link that the HELLO came over: none where it is a made one, and then as the rows tell where it is SYMMETRIC
 -- (RFC 6130, section 12.6)
-pub record UpdatesTwoHops (stood symmetric : Bool) (own listed : List Addr4) (hello : Hello) (link : LinkKey) (until : ℕ) (old new : Base TwoHopKey TwoHop) : Type 0 where
+pub record UpdatesTwoHops (stood symmetric : Bool) (own listed : List Addr4) (hello : Hello) (link : LinkKey) (until : ℕ)
+    (old new : Base TwoHopKey TwoHop) : Type 0 where
   pub distinct : HasDistinctKeys two_hop_eq new
   pub started : Base TwoHopKey TwoHop
   pub goes_on : stood ≡ true → started ≡ old
   pub anew : stood ≡ false → DropsLink link old started
-  pub rows : symmetric ≡ true → (settings : RouterSettings) (told : Told) → ((a : Addr4) → Contains own a ↔ HasAddress settings a) → told.listed ≡ listed → TellsTwoHops settings told hello link until started new
+  pub rows : symmetric ≡ true → (settings : RouterSettings) (told : Told) → ((a : Addr4) → Contains own a ↔ HasAddress settings a) → told.listed ≡ listed →
+      TellsTwoHops settings told hello link until started new
   pub no_rows : symmetric ≡ false → new ≡ started
 
 -- each interface hears the HELLO, and then the tuples of its link are brought up to date
-pub record HearsInterfaces (shown : Shown) (least : LinkKey) (theirs listed own : List Addr4) (hold now i : ℕ) (hello : Hello) (old new : List (Base LinkKey Link)) (before after : List (Base TwoHopKey TwoHop)) : Type 0 where
+pub record HearsInterfaces (shown : Shown) (least : LinkKey) (theirs listed own : List Addr4) (hold now i : ℕ) (hello : Hello)
+    (old new : List (Base LinkKey Link)) (before after : List (Base TwoHopKey TwoHop)) : Type 0 where
   pub mids : List (Base TwoHopKey TwoHop)
   pub same_mids : length mids ≡ length before
   pub same : length after ≡ length mids
-  pub each : (j : ℕ) → j < length old → HearsAt shown least theirs listed hold now (nat_eq j i) (base_of old j) (base_of new j) (base_of before j) (base_of mids j)
+  pub each : (j : ℕ) → j < length old →
+      HearsAt shown least theirs listed hold now (nat_eq j i) (base_of old j) (base_of new j) (base_of before j) (base_of mids j)
   pub elsewhere : (j : ℕ) → j ≢ i → base_of after j ≡ base_of mids j
   pub stood : Bool
   pub stood_is : IsTrue stood ↔ ((e : Link × ℕ) × (find link_eq (base_of old i) least ≡ Some e) × (e.0.addrs ≡ shown.sending))
-  pub updates : UpdatesTwoHops stood (is_symmetric_in (base_of new i) now least) own listed hello least (now + shown.validity) (base_of mids i) (base_of after i)
+  pub updates : UpdatesTwoHops stood (is_symmetric_in (base_of new i) now least) own listed hello least (now + shown.validity)
+      (base_of mids i) (base_of after i)

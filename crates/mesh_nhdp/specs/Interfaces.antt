@@ -1,6 +1,6 @@
 -- What expiry and a HELLO make of the links and the 2-hop tuples of one interface.
 use Rattle.std.specs.Prelude.{◌≡◌, ℕ, ◌<◌, ◌^◌, List, length, Bool, true, false}
-use Rattle.mesh_atoms.specs.Relays.{IsAscending}
+use Rattle.mesh_atoms.specs.Words.{IsAscending}
 use Rattle.mesh_atoms.specs.declared.addr.Addr4.{Addr4}
 use Rattle.mesh_atoms.specs.declared.hello.Shown.{Shown}
 use Rattle.mesh_atoms.specs.declared.tuples.LinkKey.{LinkKey}
@@ -16,11 +16,13 @@ pub record ExpiresOn (now : ℕ) (old new : Base LinkKey Link) (before after : B
   pub distinct_links : HasDistinctKeys link_eq new
   pub distinct_two_hops : HasDistinctKeys two_hop_eq after
   pub links : ExpiresLinks now old new
-  pub two_hops : (mid : Base TwoHopKey TwoHop) × (keys : List LinkKey) × Expires two_hop_eq now before mid × TellsKeys old keys × DropsEnded keys new now mid after
+  pub two_hops : (mid : Base TwoHopKey TwoHop) × (keys : List LinkKey) × Expires two_hop_eq now before mid
+      × TellsKeys old keys × DropsEnded keys new now mid after
 
 -- a HELLO: links of the neighbours that it speaks of end outside its addresses, the link that it came over is heard where
 -- this is the interface that it came over, and the tuples of links that aren't SYMMETRIC go (RFC 6130, section 12)
-pub record HearsAt (shown : Shown) (least : LinkKey) (theirs listed : List Addr4) (hold now : ℕ) (here : Bool) (old new : Base LinkKey Link) (before after : Base TwoHopKey TwoHop) : Type 0 where
+pub record HearsAt (shown : Shown) (least : LinkKey) (theirs listed : List Addr4) (hold now : ℕ) (here : Bool)
+    (old new : Base LinkKey Link) (before after : Base TwoHopKey TwoHop) : Type 0 where
   pub distinct_links : HasDistinctKeys link_eq new
   pub distinct_two_hops : HasDistinctKeys two_hop_eq after
   pub elsewhere : here ≡ false → EndsOutside theirs listed old new

@@ -6,7 +6,8 @@ use Rattle.mesh_atoms.specs.declared.tuples.Base.TheVariants.{Neighbours, TwoHop
 use Rattle.mesh_atoms.specs.declared.settings.RouterSettings.{RouterSettings}
 use Rattle.mesh_atoms.specs.State.{Neighbourhood, HasAddress}
 use Rattle.mesh_atoms.specs.HelloTold.{Told, Tells}
-use Rattle.mesh_atoms.specs.TakesHello.{IsFault, IsFullOfAddresses, IsFullOfTwoHops, FitsTwoHops, HelloAnswer, Taken, Broken_at, Full_of_addresses, Full_of_two_hops}
+use Rattle.mesh_atoms.specs.TakesHello.{IsFault, IsFullOfAddresses, IsFullOfTwoHops, FitsTwoHops}
+use Rattle.mesh_atoms.specs.TakesHello.{HelloAnswer, Taken, Broken_at, Full_of_addresses, Full_of_two_hops}
 use Rattle.mesh_nhdp.specs.declared.judge.Judgement.{Judgement}
 use Rattle.mesh_nhdp.specs.declared.judge.Judgement.TheVariants.{Breaks, Overfills, Fits}
 use Rattle.mesh_nhdp.specs.declared.take.HelloTaken.{HelloTaken}
@@ -16,11 +17,14 @@ use Rattle.mesh_nhdp.specs.Telling.{told_of}
 -- the HELLO breaks a rule, is too much for a limit, or can be taken
 abbrev pub Judges : RouterSettings → ℕ → Addr4 → Hello → Neighbourhood → Judgement → Type 0
 Judges settings i sender hello near (Breaks number) = IsFault settings sender hello (Some number)
-Judges settings i sender hello near (Overfills Neighbours) = (told : Told) × IsFault settings sender hello None × Tells settings i sender hello told × IsFullOfAddresses near told
-Judges settings i sender hello near (Overfills TwoHops) = (told : Told) × IsFault settings sender hello None × Tells settings i sender hello told × (IsFullOfAddresses near told → ⊥) × IsFullOfTwoHops settings i near told hello
+Judges settings i sender hello near (Overfills Neighbours) =
+    (told : Told) × IsFault settings sender hello None × Tells settings i sender hello told × IsFullOfAddresses near told
+Judges settings i sender hello near (Overfills TwoHops) =
+    (told : Told) × IsFault settings sender hello None × Tells settings i sender hello told × (IsFullOfAddresses near told → ⊥) × IsFullOfTwoHops settings i near told hello
 Judges settings i sender hello near (Overfills base) = ⊥
 Judges settings i sender hello near (Fits own telling) =
-    IsFault settings sender hello None × Tells settings i sender hello (told_of telling) × (IsFullOfAddresses near (told_of telling) → ⊥) × FitsTwoHops settings i near (told_of telling) hello
+    IsFault settings sender hello None × Tells settings i sender hello (told_of telling) × (IsFullOfAddresses near (told_of telling) → ⊥)
+    × FitsTwoHops settings i near (told_of telling) hello
     × ((a : Addr4) → Contains own a ↔ HasAddress settings a)
 
 -- the answer, as the definitions of the taking of a HELLO have it

@@ -7,8 +7,8 @@ use Rattle.mesh_nhdp.specs.declared.mine.Sign.{Sign}
 use Rattle.mesh_nhdp.specs.declared.mine.Sign.TheVariants.{Status, Flooding, Routing}
 
 -- the row of one of these addresses
-abbrev pub IsRowOf : List Addr4 → HelloRow → Type 0
-IsRowOf own row = (row.addr.prefix ≡ 32) × Contains own row.addr.addr
+abbrev pub IsMyRow : List Addr4 → HelloRow → Type 0
+IsMyRow own row = (row.addr.prefix ≡ 32) × Contains own row.addr.addr
 
 -- the row says that of its address
 abbrev pub Bears : Sign → HelloRow → Type 0
@@ -17,5 +17,5 @@ Bears Flooding row = IsTrue row.mpr.flooding
 Bears Routing row = IsTrue row.mpr.routing
 
 -- a row says that of one of these addresses
-abbrev pub Shows : Hello → List Addr4 → Sign → Type 0
-Shows hello own sign = (row : HelloRow) × Contains hello.rows row × IsRowOf own row × Bears sign row
+abbrev pub TellsMine : Hello → List Addr4 → Sign → Type 0
+TellsMine hello own sign = (row : HelloRow) × Contains hello.rows row × IsMyRow own row × Bears sign row

@@ -15,4 +15,5 @@ IsWanted (Matching originator listed) o n = Matches originator listed.now o n
 
 -- an address of a neighbour that is wanted
 abbrev pub IsWantedAddress : Base Addr4 Neighbour → Wanted → Addr4 → Type 0
-IsWantedAddress neighbours wanted a = (o : Addr4) × (n : Neighbour) × (until : ℕ) × (find addr_eq neighbours o ≡ Some (n, until)) × IsWanted wanted o n × Contains n.addrs a
+IsWantedAddress neighbours wanted a =
+    (o : Addr4) × (n : Neighbour) × (until : ℕ) × (find addr_eq neighbours o ≡ Some (n, until)) × IsWanted wanted o n × Contains n.addrs a

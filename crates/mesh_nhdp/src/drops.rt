@@ -32,8 +32,7 @@ fn drop_if_ended<L: Table<LinkKey, Link>, H: Table<TwoHopKey, TwoHop>>(
     }
 }
 
-/// Takes out the tuples of those of these links that aren't SYMMETRIC. Takes no memory. All tuples are looked at for each
-/// link that ended.
+/// Takes out the tuples of those of these links that aren't SYMMETRIC. Takes no memory.
 pub fn drop_ended<L: Table<LinkKey, Link>, H: Table<TwoHopKey, TwoHop>>(
     links: &LinkSet<L>,
     two_hops: &mut TwoHopSet<H>,

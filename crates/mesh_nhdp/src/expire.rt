@@ -13,8 +13,8 @@ use std::alloc::AllocError;
 impl<B: Bases> Nhdp<B> {
     /// Takes out what is expired at a moment below 2^62: links, their 2-hop tuples where they aren't SYMMETRIC, and lost
     /// addresses; neighbours follow their links (RFC 6130, section 13, and RFC 7181, section 17). After want of memory the
-    /// neighbourhood may only be dropped. Each neighbour looks at each link, and each link that isn't SYMMETRIC at each 2-hop
-    /// tuple of its interface.
+    /// neighbourhood may only be dropped. Beside what its tables' expiry costs, each link and each address of a neighbour is
+    /// looked up.
     pub fn expire(&mut self, now: u64) -> Result<(), AllocError>
         requires now { now < 2 ^ 62 }
         requires sound { (moment : ℕ) × SoundNeighbourhood self.old.settings moment self.old.near }

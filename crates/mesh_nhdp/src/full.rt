@@ -1,7 +1,8 @@
 //! Whether the addresses are too many.
 ghost use Rattle.std.specs.Prelude.{◌≡◌, ◌↔◌, ◌⊎◌, Contains, IsTrue, IfOk};
 ghost use Rattle.mesh_atoms.specs.State.{Neighbourhood};
-ghost use Rattle.mesh_atoms.specs.TakesHello.{AreMoreThan, IsHeld};
+ghost use Rattle.mesh_atoms.specs.TakesHello.{IsHeld};
+ghost use Rattle.mesh_atoms.specs.Words.{AreMoreThan};
 
 use crate::lists::{ascending, keys};
 use crate::near_addresses::{Wanted, wanted_addresses};

@@ -25,7 +25,6 @@ fn link_keys<L: Table<LinkKey, Link>>(
     ensures { IfOk result (λ keys. TellsKeys links.now keys.items) }
 {
     let table = links.table();
-    let _count = table.len();
     let found = keys(alloc, table)?;
     Ok(found)
 }
@@ -94,12 +93,12 @@ fn hear_here<L: Table<LinkKey, Link>>(
     here: bool,
 ) -> Result<(), AllocError>
     requires ready { CanHear hearing.now.moment hearing.now.hold hearing.now.shown.now }
+    requires distinct { HasDistinctKeys link_eq links.old }
     ensures elsewhere { OnOk result (here ≡ false → links.new ≡ links.old) }
     ensures here { OnOk result (here ≡ true → (least : LinkKey) → slice_get hearing.now.shown.now.sending 0 ≡ Some least.addr
         → HearsOn hearing.now.shown.now least hearing.now.hold hearing.now.moment links.old links.new) }
     ensures distinct { HasDistinctKeys link_eq links.new }
 {
-    let _count = links.table().len();
     if here {
         links.hear(hearing.moment, hearing.hold, hearing.shown)
     } else {

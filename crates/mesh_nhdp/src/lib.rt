@@ -2,6 +2,7 @@
 //! and RFC 7181, sections 8, 9 and 15).
 #![tactic(auto)]
 
+mod by_key;
 mod drops;
 mod expire;
 mod follow;
@@ -17,13 +18,13 @@ mod nhdp;
 mod notes;
 mod receive;
 mod rows;
+mod said_addresses;
+mod said_of;
 mod say;
 mod sender;
 mod sending_link;
-mod shown;
 mod take;
-mod tell;
-mod told;
+mod telling;
 mod two_hop_rows;
 
 pub use nhdp::Nhdp;

@@ -1,7 +1,7 @@
 //! Lists of addresses, and the keys of tables.
 ghost use Rattle.std.specs.Prelude.{◌≡◌, ◌↔◌, Contains, IfOk};
 ghost use Rattle.std.specs.Map.{keys_of};
-ghost use Rattle.mesh_atoms.specs.Relays.{IsAscending};
+ghost use Rattle.mesh_atoms.specs.Words.{IsAscending};
 
 use mesh_atoms::{Addr4, Seq};
 use mesh_expire::{Key, Table};

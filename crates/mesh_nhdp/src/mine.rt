@@ -1,15 +1,15 @@
-//! What a HELLO says of the receiver (RFC 6130, section 12.5, and RFC 7181, section 15.3).
+//! What a HELLO tells of the receiver (RFC 6130, section 12.5, and RFC 7181, section 15.3).
 ghost use Rattle.std.specs.Prelude.{◌≡◌, ◌↔◌, ◌⊎◌, ℕ, Contains, Some, IsTrue};
 ghost use Rattle.mesh_atoms.specs.HelloTold.{HasRowOf, IsHandedIn, IsMyStatus};
-ghost use Rattle.mesh_atoms.specs.Live.{IsLeastMetric};
+ghost use Rattle.mesh_atoms.specs.Words.{IsLeastMetric};
 ghost use Rattle.mesh_atoms.specs.State.{HasAddressOn};
 ghost use Rattle.mesh_atoms.specs.declared.hello.HelloRow.{HelloRow};
 ghost use Rattle.mesh_atoms.specs.declared.settings.RouterSettings.{RouterSettings};
-ghost use Rattle.mesh_nhdp.specs.Mine.{Bears, IsRowOf, Shows};
+ghost use Rattle.mesh_nhdp.specs.Mine.{Bears, IsMyRow, TellsMine};
 
-use mesh_atoms::{Addr4, Hello, HelloRow, Interface, LinkStatus, Metric, contains};
+use mesh_atoms::{Addr4, Hello, HelloRow, Interface, LinkStatus, Metric, contains, least_metric};
 
-/// What a row may say of its address: the link's status, or that its router is a relay for flooding or for routing.
+/// What a row may tell of its address: the link's status, or that its router is a relay for flooding or for routing.
 #[derive(Clone, Copy)]
 pub enum Sign {
     Status(LinkStatus),
@@ -39,14 +39,14 @@ fn bears(row: &HelloRow, sign: Sign) -> bool
 }
 
 fn is_row_of(row: &HelloRow, own: &[Addr4]) -> bool
-    ensures { IsTrue result ↔ IsRowOf own.now row.now }
+    ensures { IsTrue result ↔ IsMyRow own.now row.now }
 {
     row.addr.prefix == 32 && contains(own, row.addr.addr)
 }
 
-/// Whether a row says that of one of these addresses.
-pub fn shows(hello: &Hello, own: &[Addr4], sign: Sign) -> bool
-    ensures { IsTrue result ↔ Shows hello.now own.now sign }
+/// Whether a row tells that of one of these addresses.
+pub fn tells_mine(hello: &Hello, own: &[Addr4], sign: Sign) -> bool
+    ensures { IsTrue result ↔ TellsMine hello.now own.now sign }
 {
     for row in hello.rows.as_slice() {
         if is_row_of(row, own) && bears(row, sign) {
@@ -56,17 +56,17 @@ pub fn shows(hello: &Hello, own: &[Addr4], sign: Sign) -> bool
     false
 }
 
-/// What the HELLO says of the link with the interface of these addresses: HEARD or SYMMETRIC before LOST.
+/// What the HELLO tells of the link with the interface of these addresses: HEARD or SYMMETRIC before LOST.
 pub fn status_of_mine(hello: &Hello, own: &[Addr4]) -> Option<LinkStatus>
     ensures { (settings : RouterSettings) (i : ℕ) → ((a : Addr4) → Contains own.now a ↔ HasAddressOn settings i a) → IsMyStatus settings i hello.now result }
 {
-    if shows(hello, own, Sign::Status(LinkStatus::Heard)) {
+    if tells_mine(hello, own, Sign::Status(LinkStatus::Heard)) {
         return Some(LinkStatus::Heard);
     }
-    if shows(hello, own, Sign::Status(LinkStatus::Symmetric)) {
+    if tells_mine(hello, own, Sign::Status(LinkStatus::Symmetric)) {
         return Some(LinkStatus::Symmetric);
     }
-    if shows(hello, own, Sign::Status(LinkStatus::Lost)) {
+    if tells_mine(hello, own, Sign::Status(LinkStatus::Lost)) {
         return Some(LinkStatus::Lost);
     }
     None
@@ -84,28 +84,18 @@ pub fn metric_from(face: &Interface, sender: Addr4) -> Metric
     face.metric
 }
 
-fn lesser(a: Option<Metric>, b: Option<Metric>) -> Option<Metric>
-    ensures { IsLeastMetric (λ m. (a ≡ Some m) ⊎ (b ≡ Some m)) result }
-{
-    match (a, b) {
-        (Some(x), Some(y)) => { if x.value() <= y.value() { a } else { b } }
-        (None, _) => b,
-        _ => a,
-    }
-}
-
 /// The least of a metric and the incoming one of the row, where it is a row of one of these addresses.
 fn least_with(least: Option<Metric>, row: &HelloRow, own: &[Addr4]) -> Option<Metric>
-    ensures { IsLeastMetric (λ m. (least ≡ Some m) ⊎ (IsRowOf own.now row.now × (row.now.metrics.link_in ≡ Some m))) result }
+    ensures { IsLeastMetric (λ m. (least ≡ Some m) ⊎ (IsMyRow own.now row.now × (row.now.metrics.link_in ≡ Some m))) result }
 {
     if is_row_of(row, own) {
-        lesser(least, row.metrics.link_in)
+        least_metric(least, row.metrics.link_in)
     } else {
         least
     }
 }
 
-/// The least incoming metric that the HELLO shows of these addresses.
+/// The least incoming metric that the HELLO tells of these addresses.
 pub fn metric_to(hello: &Hello, own: &[Addr4]) -> Option<Metric>
     ensures { (settings : RouterSettings) (i : ℕ) → ((a : Addr4) → Contains own.now a ↔ HasAddressOn settings i a)
         → IsLeastMetric (λ m. (a : Addr4) × (row : HelloRow) × HasAddressOn settings i a × HasRowOf hello.now a row × (row.metrics.link_in ≡ Some m)) result }

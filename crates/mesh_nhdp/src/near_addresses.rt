@@ -1,6 +1,6 @@
 //! Addresses of neighbours.
 ghost use Rattle.std.specs.Prelude.{◌↔◌, Contains, IsTrue, IfOk, OnOk};
-ghost use Rattle.mesh_nhdp.specs.Gathers.{Adds};
+ghost use Rattle.mesh_nhdp.specs.Gathers.{Gathers};
 ghost use Rattle.mesh_nhdp.specs.Wanted.{IsWanted, IsWantedAddress};
 
 use mesh_atoms::{Addr4, Neighbour, meets};
@@ -35,7 +35,7 @@ fn add_wanted(
     originator: Addr4,
     neighbour: &Neighbour,
 ) -> Result<(), AllocError>
-    ensures { OnOk result (Adds addrs.old.items addrs.new.items (λ a. IsWanted wanted.entry originator neighbour.now × Contains neighbour.now.addrs a)) }
+    ensures { OnOk result (Gathers addrs.old.items addrs.new.items (λ a. IsWanted wanted.entry originator neighbour.now × Contains neighbour.now.addrs a)) }
 {
     if is_wanted(wanted, originator, neighbour) {
         addrs.extend_from_slice(neighbour.addrs.as_slice())?;

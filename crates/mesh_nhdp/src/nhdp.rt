@@ -1,7 +1,7 @@
 //! The neighbourhood of a router, and what it is made of.
 ghost use Rattle.std.specs.Prelude.{◌≡◌, ℕ, [], length, replicate, IfOk};
 ghost use Rattle.mesh_atoms.specs.Sound.{SoundNeighbourhood};
-ghost use Rattle.mesh_nhdp.specs.Held.{Held, empty_near};
+ghost use Rattle.mesh_nhdp.specs.NhdpState.{NhdpState, empty_near};
 
 use mesh_atoms::{Link, LinkKey, RouterSettings, TwoHop, TwoHopKey};
 use mesh_expire::{Bases, Table};
@@ -22,9 +22,9 @@ pub struct Nhdp<B: Bases> {
 }
 
 impl<B: Bases> Model for Nhdp<B> {
-    ghost use Rattle.mesh_nhdp.specs.Held.{Held};
+    ghost use Rattle.mesh_nhdp.specs.NhdpState.{NhdpState};
 
-    ghost Value = { Held };
+    ghost Value = { NhdpState };
 
     ghost view = { λ n. record { settings = n.settings; near = record { links = n.links.items; two_hops = n.two_hops.items; neighbours = n.neighbours; losts = n.losts } } };
 }

@@ -1,7 +1,7 @@
 //! What neighbours are to know of the links of all interfaces.
 ghost use Rattle.std.specs.Prelude.{◌≡◌, IfOk, OnOk, Some};
 ghost use Rattle.mesh_nhdp.specs.Calls.{note_of, IsNoteIn, TellsLinks};
-ghost use Rattle.mesh_nhdp.specs.Gathers.{Adds};
+ghost use Rattle.mesh_nhdp.specs.Gathers.{Gathers};
 
 use mesh_atoms::{Link, LinkKey};
 use mesh_expire::Table;
@@ -28,7 +28,7 @@ fn add_notes<T: Table<LinkKey, Link>>(
     table: &T,
     now: u64,
 ) -> Result<(), AllocError>
-    ensures { OnOk result (Adds notes.old.items notes.new.items (IsNoteIn (T.content table.now) now)) }
+    ensures { OnOk result (Gathers notes.old.items notes.new.items (IsNoteIn (T.content table.now) now)) }
 {
     for place in 0..table.len() {
         match table.at(place) {

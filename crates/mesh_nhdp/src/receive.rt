@@ -1,14 +1,13 @@
 //! Which HELLOs their receiver refuses.
-ghost use Rattle.std.specs.Prelude.{◌≢◌, ◌↔◌, IsTrue, IfSome, IfNone, Contains, Any, Some, None};
-ghost use Rattle.mesh_atoms.specs.Hello.{IsValue};
-ghost use Rattle.mesh_atoms.specs.HelloTold.{ShowsLocal};
-ghost use Rattle.mesh_atoms.specs.State.{HasAddress};
-ghost use Rattle.mesh_atoms.specs.TakesHello.{IsNameless, IsFault};
+ghost use Rattle.std.specs.Prelude.{◌≢◌, ◌↔◌, IsTrue, IfSome, IfNone, Contains, Any, Some};
+ghost use Rattle.mesh_atoms.specs.Words.{IsValue};
+ghost use Rattle.mesh_atoms.specs.HelloTold.{TellsLocal};
+ghost use Rattle.mesh_atoms.specs.TakesHello.{IsNameless, IsFaultAt};
 ghost use Rattle.mesh_nhdp.specs.Receive.{IsLocalRow, IsLocalWith, HasOriginatorOf, IsBareSender, NamesAsSender};
 
 use mesh_atoms::{Addr4, Hello, HelloRow, LocalIf, contains};
 
-/// The address that a row shows as one of the sender's; `None` where it shows none.
+/// The address that a row tells as one of the sender's; `None` where it tells none.
 fn local_host(row: &HelloRow) -> Option<Addr4>
     ensures some { IfSome result (λ a. (local : _) × IsLocalRow row.now a local) }
     ensures none { IfNone result ((a : _) (local : _) → IsLocalRow row.now a local → ⊥) }
@@ -20,7 +19,7 @@ fn local_host(row: &HelloRow) -> Option<Addr4>
     }
 }
 
-/// Whether a row shows one of those addresses as the sender's.
+/// Whether a row tells one of those addresses as the sender's.
 fn is_local_of(row: &HelloRow, own: &[Addr4]) -> bool
     ensures { IsTrue result ↔ IsLocalWith (Contains own.now) row.now }
 {
@@ -30,7 +29,7 @@ fn is_local_of(row: &HelloRow, own: &[Addr4]) -> bool
     }
 }
 
-/// Whether a row shows another address than that one as the sender's.
+/// Whether a row tells another address than that one as the sender's.
 fn is_local_beyond(row: &HelloRow, first: Addr4) -> bool
     ensures { IsTrue result ↔ IsLocalWith (λ a. a ≢ first) row.now }
 {
@@ -40,7 +39,7 @@ fn is_local_beyond(row: &HelloRow, first: Addr4) -> bool
     }
 }
 
-/// The address that a row shows as one of the interface that sent the HELLO; `None` where it shows none.
+/// The address that a row tells as one of the interface that sent the HELLO; `None` where it tells none.
 fn this_host(row: &HelloRow) -> Option<Addr4>
     ensures { IsValue (λ a. IsLocalRow row.now a LocalIf.This) result }
 {
@@ -50,9 +49,9 @@ fn this_host(row: &HelloRow) -> Option<Addr4>
     }
 }
 
-/// An address of the interface that sent the HELLO; `None` where it shows none.
+/// An address of the interface that sent the HELLO; `None` where it tells none.
 fn sending(hello: &Hello) -> Option<Addr4>
-    ensures { IsValue (λ a. ShowsLocal hello.now a LocalIf.This) result }
+    ensures { IsValue (λ a. TellsLocal hello.now a LocalIf.This) result }
 {
     for row in hello.rows.as_slice() {
         if let Some(addr) = this_host(row) {
@@ -62,7 +61,7 @@ fn sending(hello: &Hello) -> Option<Addr4>
     None
 }
 
-/// Whether a row shows one of those addresses as the sender's.
+/// Whether a row tells one of those addresses as the sender's.
 fn has_local_of(hello: &Hello, own: &[Addr4]) -> bool
     ensures { IsTrue result ↔ Any (IsLocalWith (Contains own.now)) hello.now.rows }
 {
@@ -74,7 +73,7 @@ fn has_local_of(hello: &Hello, own: &[Addr4]) -> bool
     false
 }
 
-/// Whether a row shows another address than that one as the sender's.
+/// Whether a row tells another address than that one as the sender's.
 fn has_local_beyond(hello: &Hello, first: Addr4) -> bool
     ensures { IsTrue result ↔ Any (IsLocalWith (λ a. a ≢ first)) hello.now.rows }
 {
@@ -96,7 +95,7 @@ fn has_originator_of(hello: &Hello, own: &[Addr4]) -> bool
     }
 }
 
-/// Whether the HELLO shows no address of the interface that sent it, and its sender is one of those addresses.
+/// Whether the HELLO tells no address of the interface that sent it, and its sender is one of those addresses.
 fn is_bare_sender(hello: &Hello, sender: Addr4, own: &[Addr4]) -> bool
     ensures { IsTrue result ↔ IsBareSender own.now sender hello.now }
 {
@@ -110,7 +109,7 @@ fn is_own(hello: &Hello, sender: Addr4, own: &[Addr4]) -> bool
     has_local_of(hello, own) || has_originator_of(hello, own) || is_bare_sender(hello, sender, own)
 }
 
-/// Whether there is no originator, and several addresses are shown as the sender's.
+/// Whether there is no originator, and several addresses are told as the sender's.
 fn is_nameless(hello: &Hello, sender: Addr4) -> bool
     ensures { IsTrue result ↔ IsNameless sender hello.now }
 {
@@ -122,7 +121,7 @@ fn is_nameless(hello: &Hello, sender: Addr4) -> bool
 /// sender's, else 31 where it has no originator and several addresses of its sender; `None` where it breaks neither
 /// (RFC 6130, section 12.1). Takes no memory.
 pub fn receive_fault(hello: &Hello, sender: Addr4, own: &[Addr4]) -> Option<u8>
-    ensures { (settings : _) → ((a : Addr4) → HasAddress settings a ↔ Contains own.now a) → IsFault settings sender hello.now result }
+    ensures { IsFaultAt (Contains own.now) sender hello.now result }
 {
     if is_own(hello, sender, own) {
         Some(30)

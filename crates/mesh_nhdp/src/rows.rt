@@ -1,14 +1,15 @@
 //! The rows of a HELLO.
 ghost use Rattle.std.specs.Prelude.{◌≡◌, ◌↔◌, IsTrue, Contains, IfOk, map};
 ghost use Rattle.mesh_atoms.specs.Base.{Has, HasDistinctKeys, addr_eq, host};
-ghost use Rattle.mesh_nhdp.specs.Shown.{AreApart, IsRowOf, told_addresses};
+ghost use Rattle.mesh_nhdp.specs.Said.{AreDisjoint, IsRowOf, said_addresses};
 
-use crate::shown::{
-    host, is_flooding_relay, is_relay, link_in_shown, link_out_shown, link_with, local_of,
-    near_in_shown, near_out_shown, neighbour_with, other_shown, status_shown,
+use crate::said_of::{
+    is_flooding_relay, is_relay, link_in_said, link_out_said, link_status_said, link_with,
+    local_of, near_in_said, near_out_said, neighbour_with, other_said,
 };
 use mesh_atoms::{
     Addr4, HelloRow, Link, LinkKey, Lost, Metrics, Mpr, Neighbour, Relays, RouterSettings, Seq,
+    host,
 };
 use mesh_expire::Table;
 use std::alloc::{AllocError, Global};
@@ -32,24 +33,24 @@ fn row_of<L: Table<LinkKey, Link>, N: Table<Addr4, Neighbour>, O: Table<Addr4, L
     now: u64,
     addr: Addr4,
 ) -> HelloRow
-    requires apart { AreApart (L.content links.now) (N.content neighbours.now) (O.content losts.now) }
-    requires told { Contains (told_addresses settings.now (L.content links.now) (N.content neighbours.now) (O.content losts.now)) addr }
+    requires apart { AreDisjoint (L.content links.now) (N.content neighbours.now) (O.content losts.now) }
+    requires said { Contains (said_addresses settings.now (L.content links.now) (N.content neighbours.now) (O.content losts.now)) addr }
     ensures addr { result.addr ≡ host addr }
     ensures says { IsRowOf settings.now (L.content links.now) (N.content neighbours.now) (O.content losts.now) relays.now iface now result addr }
 {
     let link = link_with(links, addr);
     let neighbour = neighbour_with(neighbours, addr);
-    let status = status_shown(link, now);
+    let status = link_status_said(link, now);
     HelloRow {
         addr: host(addr),
         local: local_of(settings, iface, addr),
         link: status,
-        other: other_shown(status, neighbour.is_some(), is_lost(losts, addr)),
+        other: other_said(status, neighbour.is_some(), is_lost(losts, addr)),
         metrics: Metrics {
-            link_in: link_in_shown(status, link),
-            link_out: link_out_shown(status, link),
-            near_in: near_in_shown(neighbour),
-            near_out: near_out_shown(neighbour),
+            link_in: link_in_said(status, link),
+            link_out: link_out_said(status, link),
+            near_in: near_in_said(neighbour),
+            near_out: near_out_said(neighbour),
         },
         mpr: Mpr {
             flooding: is_flooding_relay(&relays.flooding, iface, status, neighbour),
@@ -70,8 +71,8 @@ pub fn rows_of<L: Table<LinkKey, Link>, N: Table<Addr4, Neighbour>, O: Table<Add
     now: u64,
     addrs: &[Addr4],
 ) -> Result<Seq<HelloRow>, AllocError>
-    requires apart { AreApart (L.content links.now) (N.content neighbours.now) (O.content losts.now) }
-    requires told { (a : Addr4) → Contains addrs.now a → Contains (told_addresses settings.now (L.content links.now) (N.content neighbours.now) (O.content losts.now)) a }
+    requires apart { AreDisjoint (L.content links.now) (N.content neighbours.now) (O.content losts.now) }
+    requires said { (a : Addr4) → Contains addrs.now a → Contains (said_addresses settings.now (L.content links.now) (N.content neighbours.now) (O.content losts.now)) a }
     ensures addrs { IfOk result (λ rows. map (λ row. row.addr) rows ≡ map host addrs.now) }
     ensures says { IfOk result (λ rows. (row : HelloRow) → Contains rows row → (a : Addr4) ×
         IsRowOf settings.now (L.content links.now) (N.content neighbours.now) (O.content losts.now) relays.now iface now row a) }

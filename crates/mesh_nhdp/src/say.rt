@@ -1,43 +1,21 @@
 //! The HELLO that a router sends.
-ghost use Rattle.std.specs.Prelude.{◌≡◌, ◌<◌, ◌≤◌, length, IfOk, Some};
-ghost use Rattle.mesh_atoms.specs.Hello.{IsHelloNow, IsRoundedUp};
-ghost use Rattle.mesh_atoms.specs.Settings.{one_hour};
+ghost use Rattle.std.specs.Prelude.{◌≡◌, ◌<◌, ◌≤◌, length, IfOk};
+ghost use Rattle.mesh_atoms.specs.Hello.{IsHelloNow};
 ghost use Rattle.mesh_atoms.specs.Sound.{SoundNeighbourhood};
-ghost use Rattle.mesh_atoms.specs.State.{State, IsOriginator};
+ghost use Rattle.mesh_atoms.specs.State.{State};
+ghost use Rattle.mesh_atoms.specs.Writable.{HaveSenderAlone};
 ghost use Rattle.mesh_links.specs.Links.{SelectorOf};
-ghost use Rattle.mesh_nhdp.specs.Shown.{AreApart, IsSeen};
+ghost use Rattle.mesh_nhdp.specs.Said.{AreDisjoint, IsSeen};
 ghost use Rattle.mesh_atoms.specs.Base.{base_of};
 
 use crate::nhdp::Nhdp;
 use crate::rows::rows_of;
-use crate::told::told_addresses;
+use crate::said_addresses::said_addresses;
 use mesh_atoms::{
-    Addr4, Hello, Link, LinkKey, Lost, Neighbour, Relays, RouterSettings, time_code_at_least,
-    time_of,
+    Addr4, Hello, Link, LinkKey, Lost, Neighbour, Relays, RouterSettings, time_at_least,
 };
 use mesh_expire::{Bases, Table};
 use std::alloc::{AllocError, Global};
-
-/// The router's originator address.
-fn originator_of(settings: &RouterSettings) -> Option<Addr4>
-    ensures { (o : Addr4) × IsOriginator settings.now o × (result ≡ Some o) }
-{
-    match settings.interfaces.get(0) {
-        Some(face) => face.addrs.get(0).copied(),
-        None => None,
-    }
-}
-
-/// Ticks rounded up to a time code that is sent.
-fn rounded_up(ticks: u64) -> u64
-    requires { ticks ≤ one_hour }
-    ensures { IsRoundedUp ticks result }
-{
-    match time_code_at_least(ticks) {
-        Some(code) => time_of(code),
-        None => 0,
-    }
-}
 
 /// The HELLO of an interface, out of its links, the neighbours and the lost addresses.
 fn hello_of<L: Table<LinkKey, Link>, N: Table<Addr4, Neighbour>, O: Table<Addr4, Lost>>(
@@ -50,11 +28,11 @@ fn hello_of<L: Table<LinkKey, Link>, N: Table<Addr4, Neighbour>, O: Table<Addr4,
     iface: usize,
     now: u64,
 ) -> Result<Hello, AllocError>
-    requires { AreApart (L.content links.now) (N.content neighbours.now) (O.content losts.now) }
+    requires { AreDisjoint (L.content links.now) (N.content neighbours.now) (O.content losts.now) }
     ensures { IfOk result (λ hello. (s : State) →
         IsSeen s settings.now (L.content links.now) (N.content neighbours.now) (O.content losts.now) relays.now iface → IsHelloNow s iface now hello) }
 {
-    let addrs = told_addresses(alloc, settings, links, neighbours, losts)?;
+    let addrs = said_addresses(alloc, settings, links, neighbours, losts)?;
     let rows = rows_of(
         alloc,
         settings,
@@ -67,9 +45,9 @@ fn hello_of<L: Table<LinkKey, Link>, N: Table<Addr4, Neighbour>, O: Table<Addr4,
         addrs.as_slice(),
     )?;
     Ok(Hello {
-        originator: originator_of(settings),
-        validity: rounded_up(settings.times.hold),
-        interval: Some(rounded_up(settings.times.hello)),
+        originator: Some(settings.originator()),
+        validity: time_at_least(settings.times.hold),
+        interval: Some(time_at_least(settings.times.hello)),
         willing: settings.willing,
         rows,
     })
@@ -92,6 +70,10 @@ impl<B: Bases> Nhdp<B> {
         requires sound { SoundNeighbourhood self.now.settings now self.now.near }
         ensures ok { IfOk result (λ hello. (s : State) → s.settings ≡ self.now.settings →
             s.bases.neighbourhood ≡ self.now.near → s.relays ≡ relays.now → IsHelloNow s iface now hello) }
+        // 32 addresses of its own, and 1,024 of others.
+        ensures few { IfOk result (λ hello. length hello.rows ≤ 1056) }
+        // An address of its own has no status, no metric and no relay.
+        ensures own { IfOk result (λ hello. HaveSenderAlone hello.rows) }
     {
         hello_of(
             alloc,

@@ -1,14 +1,15 @@
-//! The addresses that a HELLO shows as its sender's (RFC 6130, section 12.2).
+//! The addresses that a HELLO tells as its sender's (RFC 6130, section 12.2).
 ghost use Rattle.std.specs.Prelude.{◌≡◌, ◌↔◌, Some, Contains, IsTrue, IfOk, OnOk};
-ghost use Rattle.mesh_atoms.specs.HelloTold.{ShowsLocal, IsSending, IsListed, Lists};
-ghost use Rattle.mesh_nhdp.specs.Gathers.{Adds};
+ghost use Rattle.mesh_atoms.specs.HelloTold.{TellsLocal, IsSending, IsListed};
+ghost use Rattle.mesh_atoms.specs.Words.{Lists};
+ghost use Rattle.mesh_nhdp.specs.Gathers.{Gathers};
 ghost use Rattle.mesh_nhdp.specs.Sender.{IsLocalAddress, IsOrSender};
 
 use crate::lists::ascending;
 use mesh_atoms::{Addr4, Hello, HelloRow, LocalIf, Seq};
 use std::alloc::{AllocError, Global};
 
-/// Whether the row shows an address of the sender's interface of that kind.
+/// Whether the row tells an address of the sender's interface of that kind.
 fn is_local(row: &HelloRow, local: LocalIf) -> bool
     ensures { IsTrue result ↔ (row.now.local ≡ Some local) }
 {
@@ -19,9 +20,9 @@ fn is_local(row: &HelloRow, local: LocalIf) -> bool
     }
 }
 
-/// Adds the row's address, where the row shows it as one of the sender's interface of that kind.
+/// Adds the row's address, where the row tells it as one of the sender's interface of that kind.
 fn add_local(addrs: &mut Vec<Addr4>, row: &HelloRow, local: LocalIf) -> Result<(), AllocError>
-    ensures { OnOk result (Adds addrs.old.items addrs.new.items (IsLocalAddress row.now local)) }
+    ensures { OnOk result (Gathers addrs.old.items addrs.new.items (IsLocalAddress row.now local)) }
 {
     if row.addr.prefix == 32 && is_local(row, local) {
         addrs.push(row.addr.addr)?;
@@ -31,7 +32,7 @@ fn add_local(addrs: &mut Vec<Addr4>, row: &HelloRow, local: LocalIf) -> Result<(
 
 /// The addresses of the sender's interface of that kind.
 fn local_addresses(alloc: Global, hello: &Hello, local: LocalIf) -> Result<Vec<Addr4>, AllocError>
-    ensures { IfOk result (λ addrs. (a : Addr4) → Contains addrs.items a ↔ ShowsLocal hello.now a local) }
+    ensures { IfOk result (λ addrs. (a : Addr4) → Contains addrs.items a ↔ TellsLocal hello.now a local) }
 {
     let mut addrs = Vec::new(alloc);
     for row in hello.rows.as_slice() {
@@ -60,7 +61,7 @@ fn sending_addresses(alloc: Global, hello: &Hello, sender: Addr4) -> Result<Vec<
     Ok(addrs)
 }
 
-/// The addresses of the interface that sent the HELLO: those that it shows as such, or the sender's where it shows none.
+/// The addresses of the interface that sent the HELLO: those that it tells as such, or the sender's where it tells none.
 pub fn sending_list(alloc: Global, hello: &Hello, sender: Addr4) -> Result<Seq<Addr4>, AllocError>
     ensures { IfOk result (λ list. Lists list (IsSending hello.now sender)) }
 {
@@ -68,7 +69,7 @@ pub fn sending_list(alloc: Global, hello: &Hello, sender: Addr4) -> Result<Seq<A
     Ok(ascending(addrs))
 }
 
-/// All addresses that the HELLO shows as its sender's.
+/// All addresses that the HELLO tells as its sender's.
 pub fn listed_list(alloc: Global, hello: &Hello, sender: Addr4) -> Result<Seq<Addr4>, AllocError>
     ensures { IfOk result (λ list. Lists list (IsListed hello.now sender)) }
 {

@@ -14,7 +14,7 @@ use crate::interfaces::Hearing;
 use crate::judge::Judgement;
 use crate::near_addresses::{Wanted, wanted_addresses};
 use crate::nhdp::Nhdp;
-use crate::tell::Telling;
+use crate::telling::Telling;
 use mesh_atoms::{Addr4, Base, Hello};
 use mesh_expire::Bases;
 use std::alloc::AllocError;

@@ -2,12 +2,12 @@
 ghost use Rattle.std.specs.Prelude.{◌≡◌, ◌↔◌, Contains, IsTrue, IfOk, OnOk};
 ghost use Rattle.mesh_atoms.specs.Base.{SetsOnly, two_hop_eq};
 ghost use Rattle.mesh_atoms.specs.State.{HasAddress};
-ghost use Rattle.mesh_atoms.specs.HelloTold.{Told, says_symmetric, or_else};
+ghost use Rattle.mesh_atoms.specs.HelloTold.{Told, tells_symmetric, or_else};
 ghost use Rattle.mesh_atoms.specs.AfterHello.{row_makes};
 ghost use Rattle.mesh_atoms.specs.TakesHello.{AreTwoHopRows};
 ghost use Rattle.mesh_atoms.specs.declared.settings.RouterSettings.{RouterSettings};
 ghost use Rattle.mesh_nhdp.specs.Calls.{TellsTwoHops};
-ghost use Rattle.mesh_nhdp.specs.Gathers.{Adds};
+ghost use Rattle.mesh_nhdp.specs.Gathers.{Gathers};
 ghost use Rattle.mesh_nhdp.specs.Rows.{LooksOn, RowTells, TellsSymmetric};
 
 use crate::lists::ascending;
@@ -29,8 +29,8 @@ fn is_looked_at(row: &HelloRow, own: &[Addr4], listed: &[Addr4]) -> bool
 }
 
 /// Whether the row says that it is a SYMMETRIC neighbour.
-fn says_symmetric(row: &HelloRow) -> bool
-    ensures { result ≡ says_symmetric row.now.link row.now.other }
+fn tells_symmetric(row: &HelloRow) -> bool
+    ensures { result ≡ tells_symmetric row.now.link row.now.other }
 {
     match row.link {
         Some(LinkStatus::Symmetric) => true,
@@ -60,7 +60,7 @@ fn tell_row<H: Table<TwoHopKey, TwoHop>>(
 ) -> Result<(), AllocError>
     ensures { OnOk result (SetsOnly two_hop_eq two_hops.old two_hops.new (record { link = link; addr = row.now.addr.addr }) (row_makes until row.now)) }
 {
-    if says_symmetric(row) {
+    if tells_symmetric(row) {
         let metric_in = or_else(row.metrics.near_in, row.metrics.link_in);
         let metric_out = or_else(row.metrics.near_out, row.metrics.link_out);
         two_hops.renew(link, row.addr.addr, metric_in, metric_out, until)
@@ -113,9 +113,9 @@ fn add_symmetric(
     own: &[Addr4],
     listed: &[Addr4],
 ) -> Result<(), AllocError>
-    ensures { OnOk result (Adds addrs.old.items addrs.new.items (TellsSymmetric own.now listed.now row.now)) }
+    ensures { OnOk result (Gathers addrs.old.items addrs.new.items (TellsSymmetric own.now listed.now row.now)) }
 {
-    if is_looked_at(row, own, listed) && says_symmetric(row) {
+    if is_looked_at(row, own, listed) && tells_symmetric(row) {
         addrs.push(row.addr.addr)?;
     }
     Ok(())

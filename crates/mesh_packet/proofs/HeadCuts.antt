@@ -6,12 +6,12 @@ use Rattle.mesh_atoms.specs.Reading.{Reading, refuse, has}
 use Rattle.mesh_atoms.proofs.Reading.{Stands, behind, range_length}
 use Rattle.mesh_addr.specs.declared.records.RawAddr.{RawAddr}
 use Rattle.mesh_packet.specs.declared.read.Opening.{Opening}
-use Rattle.mesh_packet.specs.Grammar.{SpellsHead, HeadCut, originator_cut, limit_cut, count_cut, sequence_cut, width_of, originator_size, limit_size, count_size, head_size}
+use Rattle.mesh_packet.specs.Grammar.{SpellsMessageHead, HeadCut, originator_cut, limit_cut, count_cut, sequence_cut, width_of, originator_size, limit_size, count_size, head_size}
 use Rattle.mesh_packet.specs.Reading.{head_at}
 use Rattle.mesh_packet.proofs.Fields.{IsField, octet_field, number_field, originator_field}
 
 -- octets of the head's size are a head
-pub head_some : (flags : ℕ) (text : List ℕ) → length text ≡ head_size flags → (o : Option RawAddr) × (l : Option ℕ) × (c : Option ℕ) × (q : Option ℕ) × SpellsHead flags o l c q text
+pub head_some : (flags : ℕ) (text : List ℕ) → length text ≡ head_size flags → (o : Option RawAddr) × (l : Option ℕ) × (c : Option ℕ) × (q : Option ℕ) × SpellsMessageHead flags o l c q text
 head_some flags text size =
     let n1 : ℕ = originator_size flags in
     let n2 : ℕ = limit_size flags in

@@ -7,12 +7,12 @@ use Rattle.mesh_atoms.specs.Reading.{has}
 use Rattle.mesh_atoms.proofs.Reading.{meets_bind, Takes, takes_both, Stands, stands_first, stands_next}
 use Rattle.mesh_addr.specs.declared.records.RawAddr.{RawAddr}
 use Rattle.mesh_packet.specs.declared.read.Opening.{Opening}
-use Rattle.mesh_packet.specs.Grammar.{SpellsHead, HeadCut, originator_cut, limit_cut, count_cut, sequence_cut, width_of, originator_size, limit_size, count_size, sequence_size, head_size}
+use Rattle.mesh_packet.specs.Grammar.{SpellsMessageHead, HeadCut, originator_cut, limit_cut, count_cut, sequence_cut, width_of, originator_size, limit_size, count_size, sequence_size, head_size}
 use Rattle.mesh_packet.specs.Reading.{octet_if, short_if, originator_if, head_at}
 use Rattle.mesh_packet.proofs.Fields.{Took, octet_field, number_field, originator_field}
 
 abbrev pub SpellsOpening : ℕ → Opening → List ℕ → Type 0
-SpellsOpening flags h text = SpellsHead flags h.originator h.limit h.count h.sequence text
+SpellsOpening flags h text = SpellsMessageHead flags h.originator h.limit h.count h.sequence text
 
 -- a part of the head is cut off at that distance
 abbrev pub IsHeadCut : ℕ → List ℕ → ℕ → ℕ → Refusal → Type 0
@@ -77,7 +77,7 @@ head_takes flags s at end le fits =
       takes_both s at ((t1.0 ++ t2.0) ++ t3.0) c.1 t4.0 q.1 end taken3 t4.2,
     )))))
 
-pub head_long : (flags : ℕ) (o : Option RawAddr) (l c q : Option ℕ) (text : List ℕ) → SpellsHead flags o l c q text → length text ≡ head_size flags
+pub head_long : (flags : ℕ) (o : Option RawAddr) (l c q : Option ℕ) (text : List ℕ) → SpellsMessageHead flags o l c q text → length text ≡ head_size flags
 head_long flags o l c q text h =
     omega (
       arith,
@@ -91,7 +91,7 @@ head_long flags o l c q text h =
       (number_field (has flags 16)).long q h.sequence_text h.sequence_is,
     )
 
-pub head_again : (flags : ℕ) (s : List ℕ) (at : ℕ) (o : Option RawAddr) (l c q : Option ℕ) (text rest : List ℕ) (end : ℕ) → Stands s at text rest end → SpellsHead flags o l c q text → head_at flags s at end ≡ Ok (record { originator = o; limit = l; count = c; sequence = q }, at + length text)
+pub head_again : (flags : ℕ) (s : List ℕ) (at : ℕ) (o : Option RawAddr) (l c q : Option ℕ) (text rest : List ℕ) (end : ℕ) → Stands s at text rest end → SpellsMessageHead flags o l c q text → head_at flags s at end ≡ Ok (record { originator = o; limit = l; count = c; sequence = q }, at + length text)
 unfolding head_at
 head_again flags s at o l c q text rest end stands h =
     let more1 : List ℕ = h.limit_text ++ (h.count_text ++ h.sequence_text) in

@@ -6,19 +6,11 @@ use Rattle.std.proofs.Math.Seq.{take-suc}
 use Rattle.std.proofs.lemmas.List.{map_push}
 use Rattle.mesh_tlv.specs.Items.{SpellsItems}
 use Rattle.mesh_packet.specs.Least.{Passes, Wrote}
+use Rattle.mesh_packet.proofs.OneForm.{HasOneText, items_once}
 
 items_push : {B : Type 0} (Says : B → List ℕ → Type 0) (ys : List B) (front : List ℕ) (y : B) (text : List ℕ) → SpellsItems Says ys front → Says y text → SpellsItems Says (ys ++ y ∷ []) (front ++ text)
 items_push Says [] front y text h s = (text, [], s, refl, ap (λ (l : List ℕ). l ++ text) h ∙ sym (append-nil text))
 items_push Says (x ∷ ys) front y text h s = (h.0, h.1 ++ text, h.2, items_push Says ys h.1 y text h.3 s, ap (λ (l : List ℕ). l ++ text) h.4 ∙ append_assoc h.0 h.1 text)
-
--- two texts of one item are of the same length
-abbrev pub AreSameLength : {B : Type 0} → (B → List ℕ → Type 0) → Type 0
-AreSameLength {B} Says = (x : B) (a b : List ℕ) → Says x a → Says x b → length a ≡ length b
-
-pub items_same : {B : Type 0} (Says : B → List ℕ → Type 0) → AreSameLength Says → AreSameLength (SpellsItems Says)
-items_same Says same [] a b h k = ap length h ∙ sym (ap length k)
-items_same Says same (x ∷ xs) a b h k =
-    omega (arith, ap length h.4, ap length k.4, length-append h.0 h.1, length-append k.0 k.1, same x h.0 k.0 h.2 k.2, items_same Says same xs h.1 k.1 h.3 k.3)
 
 module _ {A B : Type 0} (view : A → B) (Says : B → List ℕ → Type 0) where
   -- the items before one, that one, and those behind it
@@ -61,10 +53,10 @@ module _ {A B : Type 0} (view : A → B) (Says : B → List ℕ → Type 0) wher
   wrote_all xs i old new le h = subst (λ (l : List A). Wrote (SpellsItems Says (map view l)) old new) (take_all i xs le) h
 
   -- behind what was written, the next item passes the limit, and so do all items together
-  pub items_pass : AreSameLength Says → (xs : List A) (i : ℕ) (x : A) (old mid : List ℕ) → i < length xs → x ≡ get_or xs i x → Wrote (SpellsItems Says (map view (take i xs))) old mid → Passes (Says (view x)) (length mid) → Passes (SpellsItems Says (map view xs)) (length old)
-  items_pass same xs i x old mid lt is h k = λ text t.
+  pub items_pass : HasOneText Says → (xs : List A) (i : ℕ) (x : A) (old mid : List ℕ) → i < length xs → x ≡ get_or xs i x → Wrote (SpellsItems Says (map view (take i xs))) old mid → Passes (Says (view x)) (length mid) → Passes (SpellsItems Says (map view xs)) (length old)
+  items_pass once xs i x old mid lt is h k = λ text t.
       let p = parted xs i x text lt t in
-      omega (arith, ap length p.whole, length-append p.front (p.one ++ p.rest), length-append p.one p.rest, ap length h.1, length-append old h.0, items_same Says same (map view (take i xs)) h.0 p.front h.2 p.before, k p.one (subst (λ (y : A). Says (view y) p.one) (sym is) p.is_one))
+      omega (arith, ap length p.whole, length-append p.front (p.one ++ p.rest), length-append p.one p.rest, ap length h.1, length-append old h.0, ap length (items_once Says once (map view (take i xs)) h.0 p.front h.2 p.before), k p.one (subst (λ (y : A). Says (view y) p.one) (sym is) p.is_one))
 
   pub item_passes : (xs : List A) (i : ℕ) (x : A) → i < length xs → x ≡ get_or xs i x → Passes (Says (view x)) 0 → Passes (SpellsItems Says (map view xs)) 0
   item_passes xs i x lt is k = λ text t.

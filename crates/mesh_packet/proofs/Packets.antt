@@ -16,7 +16,7 @@ use Rattle.mesh_tlv.proofs.Tlvs.{tlv_reader}
 use Rattle.mesh_packet.specs.declared.packet.Span.{Span}
 use Rattle.mesh_packet.specs.Fields.{MessageFields, PacketFields}
 use Rattle.mesh_packet.specs.Grammar as grammar
-use Rattle.mesh_packet.specs.Grammar.{SpellsNumber, SpellsMessage, SpellsMessages, SpellsHeaderTlvs, Spells, MessageFault, Begins, no_octet, version, number_cut, in_header_tlvs, in_message, size_if}
+use Rattle.mesh_packet.specs.Grammar.{SpellsNumber, SpellsMessage, SpellsMessages, SpellsHeaderTlvs, Spells, MessageFault, BeginsPacket, no_octet, version, number_cut, in_header_tlvs, in_message, size_if}
 use Rattle.mesh_packet.specs.Reading.{short_if, message_at, sized_at, spans_from, messages_at, flags_at, header_tlvs_at, packet_of}
 use Rattle.mesh_packet.proofs.Fields.{Took, IsCut, number_field}
 use Rattle.mesh_packet.proofs.Messages.{message_reader}
@@ -132,7 +132,7 @@ packet_takes s =
     (λ e h. let place : Refusal = record { place = flags.1; reason = 1 } in
     subst (λ (r : Refusal). grammar.FirstFault s r.place r.reason) (sym h.0) (subst (λ (n : ℕ). grammar.FirstFault s n 1) (sym one) (cut flags.0 (has flags.0 8) (slice_range s flags.1 end) refl begun t0.0 h.1)))
     (λ number t1.
-    let begins : Begins s flags.0 t1.0 (slice_range s number.1 end) = record { version = t0.0; number = number.0; number_is = t1.1; parts = begun ∙ ap (λ (l : List ℕ). flags.0 ∷ l) t1.2.parts } in
+    let begins : BeginsPacket s flags.0 t1.0 (slice_range s number.1 end) = record { version = t0.0; number = number.0; number_is = t1.1; parts = begun ∙ ap (λ (l : List ℕ). flags.0 ∷ l) t1.2.parts } in
     meets_bind (header_tlvs_at (has flags.0 4) s number.1 end) _ (HeaderTook s number.1 (has flags.0 4)) P (λ e. (has flags.0 4 ≡ true) × FirstFault TlvBlockFault s number.1 end e) Q (header_takes (has flags.0 4) s number.1 t1.2.within)
     (λ e h. subst (λ (n : ℕ). grammar.FirstFault s n e.reason) (omega (arith, h.1.1, t1.2.len, one)) (in_header_tlvs flags.0 t1.0 (slice_range s number.1 end) h.1.0 e.reason begins h.0 h.1.2))
     (λ tlvs t2.
@@ -140,7 +140,7 @@ packet_takes s =
     let rest : List ℕ = slice_range s tlvs.1 end in
     let stop : number.1 + (tlvs.1 - number.1) ≡ tlvs.1 = omega (arith, t2.0) in
     let taken : Takes s number.1 text tlvs.1 end = subst (λ (k : ℕ). Takes s number.1 (slice_range s number.1 k) k end) stop (takes_range s number.1 (tlvs.1 - number.1) end (omega (arith, stop, t2.1)) (omega arith)) in
-    let begun2 : Begins s flags.0 t1.0 (text ++ rest) = subst (λ (l : List ℕ). Begins s flags.0 t1.0 l) taken.parts begins in
+    let begun2 : BeginsPacket s flags.0 t1.0 (text ++ rest) = subst (λ (l : List ℕ). BeginsPacket s flags.0 t1.0 l) taken.parts begins in
     let spot : tlvs.1 ≡ 1 + length t1.0 + length text = omega (arith, one, t1.2.len, taken.len) in
     meets_bind (items_at (sized_at s) (end - tlvs.1) tlvs.1 end >>= λ x. Ok ((map (λ m. m.0) x.0, spans_from tlvs.1 (map (λ m. m.1) x.0)), x.1)) _ (λ (x : (List MessageFields × List Span) × ℕ). SpellsMessages tlvs.1 x.0.0 x.0.1 rest) P Q Q
     (meets_bind (items_at (sized_at s) (end - tlvs.1) tlvs.1 end) _ (ItemsTook s tlvs.1 end SpellsSized) (λ (x : (List MessageFields × List Span) × ℕ). SpellsMessages tlvs.1 x.0.0 x.0.1 rest) (FirstFault (ItemsFault SpellsSized MessageFault) s tlvs.1 end) Q (items_take sized_at SpellsSized MessageFault sized_reader (end - tlvs.1) s tlvs.1 end t2.1 (omega arith) (omega arith))
@@ -179,7 +179,7 @@ header_again true s at tlvs text rest stands h = block_again tlv_at SpellsTlv (T
 header_again false s at tlvs text rest stands h = let z : at ≡ at + length text = omega (arith, ap length h.1) in rw (h.0) (ap (λ (k : ℕ). Ok ([], k)) z)
 
 -- what stands behind the octet with the flags, up to the end
-first_stands : (s : List ℕ) (flags : ℕ) (sequence rest : List ℕ) → s ≡ flags ∷ (sequence ++ rest) → Stands s 1 sequence rest (length s)
+pub first_stands : (s : List ℕ) (flags : ℕ) (sequence rest : List ℕ) → s ≡ flags ∷ (sequence ++ rest) → Stands s 1 sequence rest (length s)
 first_stands s flags sequence rest e =
     let all : Stands s 0 ((flags ∷ []) ++ sequence) rest (length s) = record { parts = whole_frame s ∙ e; at_end = omega arith; fits = omega arith } in
     stands_next s 0 (flags ∷ []) sequence rest (length s) all

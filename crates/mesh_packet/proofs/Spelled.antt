@@ -14,7 +14,7 @@ use Rattle.mesh_tlv.specs.Least.{least_short, least_tlv, least_addr_tlv, least_b
 use Rattle.mesh_tlv.proofs.Spelled.{tlv_block_spelled, addr_tlv_block_spelled}
 use Rattle.mesh_packet.specs.declared.packet.Span.{Span}
 use Rattle.mesh_packet.specs.Fields.{BlockFields, MessageFields, PacketFields}
-use Rattle.mesh_packet.specs.Grammar.{SpellsOctet, SpellsNumber, SpellsOriginator, SpellsPair, SpellsHead, SpellsBody, SpellsMessage, SpellsMessages, SpellsHeaderTlvs, Spells, width_of}
+use Rattle.mesh_packet.specs.Grammar.{SpellsOctet, SpellsNumber, SpellsOriginator, SpellsPair, SpellsMessageHead, SpellsBody, SpellsMessage, SpellsMessages, SpellsHeaderTlvs, Spells, width_of}
 use Rattle.mesh_packet.specs.Least.{IsOriginator, IsEncodableBlock, IsEncodableMessage, IsEncodable, least_octet, least_number, least_originator, least_head, message_flags, LeastPair, LeastBody, LeastMessage, has_tlvs, least_header_tlvs, packet_flags, LeastForm}
 use Rattle.mesh_packet.proofs.FlagSums.{tells_128, tells_64, tells_32, tells_16, tells_width, tells_8, tells_4, version_none}
 
@@ -77,7 +77,7 @@ module _ (m : MessageFields) (fit : IsEncodableMessage m) where
   unfolding message_flags
   width_told = omega (arith, tells_width a b c d (m.width - 1) small, fit.wide)
 
-  head_spelled : SpellsHead (message_flags m) m.originator m.limit m.count m.sequence (least_head m)
+  head_spelled : SpellsMessageHead (message_flags m) m.originator m.limit m.count m.sequence (least_head m)
   unfolding message_flags least_head
   head_spelled = record {
     originator_text = least_originator m.width m.originator;

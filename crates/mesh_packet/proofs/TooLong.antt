@@ -1,58 +1,39 @@
--- The least texts of a value are of one length, and what makes one too long.
+-- What makes the least text of a value too long.
 use Rattle.std.proofs.Common.{◌≡◌, ℕ, ◌+◌, ◌<◌, ◌≤◌, List, [], ◌∷◌, ◌++◌, length, map, ap, arith}
 use Rattle.std.specs.List.{flat_map}
 use Rattle.std.proofs.lemmas.List.{length-append}
-use Rattle.mesh_tlv.specs.Least.{least_tlv, least_addr_tlv, least_block, least_short, IsTooLong}
+use Rattle.mesh_tlv.specs.Least.{least_tlv, least_addr_tlv, least_block, least_short, AreTooLong}
 use Rattle.mesh_tlv.specs.declared.tlv.Tlv.{Tlv}
 use Rattle.mesh_tlv.specs.Fields.{fields}
 use Rattle.mesh_tlv.proofs.Lengths.{tlv_longer, addr_tlv_longer, block_longer}
-use Rattle.mesh_packet.specs.Fields.{BlockFields, MessageFields, PacketFields}
-use Rattle.mesh_packet.specs.Least.{LeastPair, LeastBody, LeastMessage, LeastForm, least_head, least_number, least_header_tlvs, Passes}
-use Rattle.mesh_packet.proofs.Items.{AreSameLength, items_same}
-
-pub pair_same : AreSameLength LeastPair
-pair_same b x y h k =
-    let tlvs : List ℕ = least_block (least_addr_tlv (length b.addrs)) b.tlvs in
-    omega (arith, ap length h.whole, ap length k.whole, length-append h.addrs tlvs, length-append k.addrs tlvs, h.addrs_is.least k.addrs k.addrs_is.spelled, k.addrs_is.least h.addrs h.addrs_is.spelled)
+use Rattle.mesh_packet.specs.Fields.{BlockFields, MessageFields}
+use Rattle.mesh_packet.specs.Least.{LeastPair, LeastBody, LeastMessage, least_head, least_header_tlvs, Passes}
+use Rattle.mesh_packet.proofs.OneForm.{body_once}
 
 body_long : (m : MessageFields) (x : List ℕ) (h : LeastBody m x) → length x ≡ length (least_head m) + (length (least_block least_tlv m.tlvs) + length h.blocks)
 body_long m x h =
     let tlvs : List ℕ = least_block least_tlv m.tlvs in
     omega (arith, ap length h.whole, length-append (least_head m) (tlvs ++ h.blocks), length-append tlvs h.blocks)
 
-pub body_same : AreSameLength LeastBody
-body_same m x y h k = omega (arith, body_long m x h, body_long m y k, items_same LeastPair pair_same m.blocks h.blocks k.blocks h.blocks_is k.blocks_is)
-
 message_long : (m : MessageFields) (x : List ℕ) (h : LeastMessage m x) → length x ≡ 4 + length h.body
 message_long m x h = omega (arith, ap length h.whole, length-append (least_short (4 + length h.body)) h.body)
-
-pub message_same : AreSameLength LeastMessage
-message_same m x y h k = omega (arith, message_long m x h, message_long m y k, body_same m h.body k.body h.body_is k.body_is)
-
-form_long : (p : PacketFields) (x : List ℕ) (h : LeastForm p x) → length x ≡ 1 + (length (least_number p.sequence) + (length (least_header_tlvs p.tlvs) + length h.messages))
-form_long p x h =
-    let tlvs : List ℕ = least_header_tlvs p.tlvs in
-    omega (arith, ap length h.whole, length-append (least_number p.sequence) (tlvs ++ h.messages), length-append tlvs h.messages)
-
-pub form_same : AreSameLength LeastForm
-form_same p x y h k = omega (arith, form_long p x h, form_long p y k, items_same LeastMessage message_same p.messages h.messages k.messages h.messages_is k.messages_is)
 
 -- ---- what passes the limit
 
 block_passes : {A : Type 0} (least : A → List ℕ) (tlvs : List A) → 65535 < length (flat_map least tlvs) → 65535 < length (least_block least tlvs)
 block_passes least tlvs lt = omega (arith, lt, length-append (least_short (length (flat_map least tlvs))) (flat_map least tlvs))
 
-pub pair_passes : (b : BlockFields) → IsTooLong (least_addr_tlv (length b.addrs)) (λ tlv. tlv.value) b.tlvs → Passes (LeastPair b) 0
+pub pair_passes : (b : BlockFields) → AreTooLong (least_addr_tlv (length b.addrs)) (λ tlv. tlv.value) b.tlvs → Passes (LeastPair b) 0
 pair_passes b long = λ text h.
     let least = least_addr_tlv (length b.addrs) in
     omega (arith, ap length h.whole, length-append h.addrs (least_block least b.tlvs), block_passes least b.tlvs (block_longer least (λ tlv. tlv.value) (addr_tlv_longer (length b.addrs)) b.tlvs long))
 
-pub body_tlvs_pass : (m : MessageFields) → IsTooLong least_tlv (λ tlv. tlv.value) m.tlvs → Passes (LeastBody m) 0
+pub body_tlvs_pass : (m : MessageFields) → AreTooLong least_tlv (λ tlv. tlv.value) m.tlvs → Passes (LeastBody m) 0
 body_tlvs_pass m long = λ text h. omega (arith, body_long m text h, block_passes least_tlv m.tlvs (block_longer least_tlv (λ tlv. tlv.value) tlv_longer m.tlvs long))
 
 pub message_passes_by_length : (m : MessageFields) (before : ℕ) (body : List ℕ) → LeastBody m body → 65507 < before + (4 + length body) → Passes (LeastMessage m) before
-message_passes_by_length m before body b lt = λ text h. omega (arith, message_long m text h, body_same m body h.body b h.body_is)
+message_passes_by_length m before body b lt = λ text h. omega (arith, message_long m text h, ap length (body_once m body h.body b h.body_is))
 
-pub header_tlvs_pass : (tlvs : List Tlv) → 1 ≤ length tlvs → IsTooLong least_tlv (λ tlv. tlv.value) (map fields tlvs) → 65507 < length (least_header_tlvs (map fields tlvs))
+pub header_tlvs_pass : (tlvs : List Tlv) → 1 ≤ length tlvs → AreTooLong least_tlv (λ tlv. tlv.value) (map fields tlvs) → 65507 < length (least_header_tlvs (map fields tlvs))
 header_tlvs_pass [] some long = absurd (omega (arith, some))
 header_tlvs_pass (t ∷ ts) some long = omega (arith, block_passes least_tlv (map fields (t ∷ ts)) (block_longer least_tlv (λ tlv. tlv.value) tlv_longer (map fields (t ∷ ts)) long))

@@ -46,7 +46,7 @@ abbrev pub width_of : ℕ → ℕ
 width_of flags = flags % 16 + 1
 
 -- what a message has before its TLVs, each part where it is flagged
-pub record SpellsHead (flags : ℕ) (originator : Option RawAddr) (limit count sequence : Option ℕ) (bytes : List ℕ) : Type 0 where
+pub record SpellsMessageHead (flags : ℕ) (originator : Option RawAddr) (limit count sequence : Option ℕ) (bytes : List ℕ) : Type 0 where
   pub originator_text : List ℕ
   pub limit_text : List ℕ
   pub count_text : List ℕ
@@ -63,7 +63,7 @@ pub record SpellsBody (flags : ℕ) (message : MessageFields) (bytes : List ℕ)
   pub tlvs : List ℕ
   pub blocks : List ℕ
   pub width_is : message.width ≡ width_of flags
-  pub head_is : SpellsHead flags message.originator message.limit message.count message.sequence head
+  pub head_is : SpellsMessageHead flags message.originator message.limit message.count message.sequence head
   pub tlvs_is : SpellsTlvBlock message.tlvs tlvs
   pub blocks_is : SpellsItems (SpellsPair (width_of flags)) message.blocks blocks
   pub whole : bytes ≡ head ++ (tlvs ++ blocks)
@@ -81,7 +81,8 @@ pub record SpellsMessage (message : MessageFields) (bytes : List ℕ) : Type 0 w
 abbrev pub SpellsMessages : ℕ → List MessageFields → List Span → List ℕ → Type 0
 SpellsMessages at [] [] bytes = bytes ≡ []
 SpellsMessages at (m ∷ ms) (s ∷ ss) bytes =
-    (text : List ℕ) × (rest : List ℕ) × SpellsMessage m text × (s ≡ record { start = at; len = length text }) × SpellsMessages (at + length text) ms ss rest × (bytes ≡ text ++ rest)
+    (text : List ℕ) × (rest : List ℕ) × SpellsMessage m text × (s ≡ record { start = at; len = length text }) × SpellsMessages (at + length text) ms ss rest
+    × (bytes ≡ text ++ rest)
 SpellsMessages at [] (s ∷ ss) bytes = ⊥
 SpellsMessages at (m ∷ ms) [] bytes = ⊥
 
@@ -107,7 +108,8 @@ pub record Spells (packet : PacketFields) (spans : List Span) (bytes : List ℕ)
 -- of an address block and its TLV block, at the front of what is left of the message
 pub data PairFault (width : ℕ) (bytes : List ℕ) : ℕ → ℕ → Type 0 where
   in_addrs : (place reason : ℕ) → addresses.BlockFault width bytes place reason → PairFault width bytes place reason
-  in_addr_tlvs : (addrs : List RawAddr) (text rest : List ℕ) (place reason : ℕ) → addresses.SpellsBlock width addrs text → bytes ≡ text ++ rest → AddrTlvBlockFault (length addrs) rest place reason → PairFault width bytes (length text + place) reason
+  in_addr_tlvs : (addrs : List RawAddr) (text rest : List ℕ) (place reason : ℕ) → addresses.SpellsBlock width addrs text → bytes ≡ text ++ rest
+      → AddrTlvBlockFault (length addrs) rest place reason → PairFault width bytes (length text + place) reason
 
 -- how many octets a flagged field has
 abbrev pub size_if : Bool → ℕ → ℕ
@@ -132,24 +134,31 @@ head_size flags = originator_size flags + limit_size flags + count_size flags + 
 pub data HeadCut (flags : ℕ) (bytes : List ℕ) : ℕ → Type 0 where
   originator_cut : length bytes < originator_size flags → HeadCut flags bytes 0
   limit_cut : originator_size flags ≤ length bytes → length bytes < originator_size flags + limit_size flags → HeadCut flags bytes (originator_size flags)
-  count_cut : originator_size flags + limit_size flags ≤ length bytes → length bytes < originator_size flags + limit_size flags + count_size flags → HeadCut flags bytes (originator_size flags + limit_size flags)
-  sequence_cut : originator_size flags + limit_size flags + count_size flags ≤ length bytes → length bytes < head_size flags → HeadCut flags bytes (originator_size flags + limit_size flags + count_size flags)
+  count_cut : originator_size flags + limit_size flags ≤ length bytes → length bytes < originator_size flags + limit_size flags + count_size flags
+      → HeadCut flags bytes (originator_size flags + limit_size flags)
+  sequence_cut : originator_size flags + limit_size flags + count_size flags ≤ length bytes → length bytes < head_size flags
+      → HeadCut flags bytes (originator_size flags + limit_size flags + count_size flags)
 
 -- of what stands in a message behind its size, up to the message's end
 pub data BodyFault (flags : ℕ) (bytes : List ℕ) : ℕ → ℕ → Type 0 where
   in_head : (place : ℕ) → HeadCut flags bytes place → BodyFault flags bytes place 1
-  in_tlvs : (head rest : List ℕ) (place reason : ℕ) → length head ≡ head_size flags → bytes ≡ head ++ rest → TlvBlockFault rest place reason → BodyFault flags bytes (length head + place) reason
-  in_blocks : (tlvs : List TlvFields) (head text rest : List ℕ) (place reason : ℕ) → length head ≡ head_size flags → SpellsTlvBlock tlvs text → bytes ≡ head ++ (text ++ rest) → ItemsFault (SpellsPair (width_of flags)) (PairFault (width_of flags)) rest place reason → BodyFault flags bytes (length head + length text + place) reason
+  in_tlvs : (head rest : List ℕ) (place reason : ℕ) → length head ≡ head_size flags → bytes ≡ head ++ rest → TlvBlockFault rest place reason
+      → BodyFault flags bytes (length head + place) reason
+  in_blocks : (tlvs : List TlvFields) (head text rest : List ℕ) (place reason : ℕ) → length head ≡ head_size flags → SpellsTlvBlock tlvs text
+      → bytes ≡ head ++ (text ++ rest) → ItemsFault (SpellsPair (width_of flags)) (PairFault (width_of flags)) rest place reason
+      → BodyFault flags bytes (length head + length text + place) reason
 
 -- of a message, at the front of what is left of the frame
 pub data MessageFault (bytes : List ℕ) : ℕ → ℕ → Type 0 where
   flags_cut : (kind : ℕ) → bytes ≡ kind ∷ [] → MessageFault bytes 1 1
   size_cut : (kind flags : ℕ) (rest : List ℕ) → bytes ≡ kind ∷ (flags ∷ rest) → length rest < 2 → MessageFault bytes 2 1
-  size_wrong : (kind flags n : ℕ) (size rest : List ℕ) → SpellsShort n size → bytes ≡ kind ∷ (flags ∷ (size ++ rest)) → (n < 4) ⊎ (4 + length rest < n) → MessageFault bytes 2 3
-  in_body : (kind flags : ℕ) (size body rest : List ℕ) (place reason : ℕ) → SpellsShort (4 + length body) size → bytes ≡ kind ∷ (flags ∷ (size ++ (body ++ rest))) → BodyFault flags body place reason → MessageFault bytes (4 + place) reason
+  size_wrong : (kind flags n : ℕ) (size rest : List ℕ) → SpellsShort n size → bytes ≡ kind ∷ (flags ∷ (size ++ rest)) → (n < 4) ⊎ (4 + length rest < n)
+      → MessageFault bytes 2 3
+  in_body : (kind flags : ℕ) (size body rest : List ℕ) (place reason : ℕ) → SpellsShort (4 + length body) size
+      → bytes ≡ kind ∷ (flags ∷ (size ++ (body ++ rest))) → BodyFault flags body place reason → MessageFault bytes (4 + place) reason
 
 -- the first octet is sound, and the sequence number behind it
-pub record Begins (s : List ℕ) (flags : ℕ) (sequence rest : List ℕ) : Type 0 where
+pub record BeginsPacket (s : List ℕ) (flags : ℕ) (sequence rest : List ℕ) : Type 0 where
   pub version : flags < 16
   pub number : Option ℕ
   pub number_is : SpellsNumber (has flags 8) number sequence
@@ -160,5 +169,8 @@ pub data FirstFault (s : List ℕ) : ℕ → ℕ → Type 0 where
   no_octet : s ≡ [] → FirstFault s 0 1
   version : (flags : ℕ) (rest : List ℕ) → s ≡ flags ∷ rest → 16 ≤ flags → FirstFault s 0 2
   number_cut : (flags : ℕ) (rest : List ℕ) → s ≡ flags ∷ rest → flags < 16 → has flags 8 ≡ true → length rest < 2 → FirstFault s 1 1
-  in_header_tlvs : (flags : ℕ) (sequence rest : List ℕ) (place reason : ℕ) → Begins s flags sequence rest → has flags 4 ≡ true → TlvBlockFault rest place reason → FirstFault s (1 + length sequence + place) reason
-  in_message : (flags : ℕ) (tlvs : List TlvFields) (sequence text rest : List ℕ) (place reason : ℕ) → Begins s flags sequence (text ++ rest) → SpellsHeaderTlvs (has flags 4) tlvs text → ItemsFault SpellsMessage MessageFault rest place reason → FirstFault s (1 + length sequence + length text + place) reason
+  in_header_tlvs : (flags : ℕ) (sequence rest : List ℕ) (place reason : ℕ) → BeginsPacket s flags sequence rest → has flags 4 ≡ true
+      → TlvBlockFault rest place reason → FirstFault s (1 + length sequence + place) reason
+  in_message : (flags : ℕ) (tlvs : List TlvFields) (sequence text rest : List ℕ) (place reason : ℕ) → BeginsPacket s flags sequence (text ++ rest)
+      → SpellsHeaderTlvs (has flags 4) tlvs text → ItemsFault SpellsMessage MessageFault rest place reason
+      → FirstFault s (1 + length sequence + length text + place) reason

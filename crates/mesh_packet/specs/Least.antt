@@ -105,7 +105,7 @@ pub record LeastForm (packet : PacketFields) (bytes : List ℕ) : Type 0 where
   pub whole : bytes ≡ packet_flags packet ∷ (least_number packet.sequence ++ (least_header_tlvs packet.tlvs ++ messages))
 
 -- The packet has a least form of more than 65,507 octets, the most that a datagram of UDP over IPv4 takes. So it is where a
--- message, a TLV block or a value has more than 65,535. All least forms of a packet are of one length.
+-- message, a TLV block or a value has more than 65,535. A packet has one least form.
 abbrev pub IsTooLong : PacketFields → Type 0
 IsTooLong packet = (bytes : List ℕ) × LeastForm packet bytes × (65507 < length bytes)
 

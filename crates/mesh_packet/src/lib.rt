@@ -2,10 +2,12 @@
 #![tactic(auto)]
 
 mod flags;
+mod laws;
 mod packet;
 mod read;
 mod write;
 
+pub use laws::one_reading;
 pub use mesh_atoms::DecodeFault;
 pub use packet::{Block, Decoded, EncodeFault, Message, Packet, Span};
 pub use read::decode;

@@ -7,6 +7,7 @@ ghost use Rattle.mesh_addr.specs.Grammar.{padded};
 ghost use Rattle.mesh_tlv.specs.Items.{items_at};
 ghost use Rattle.mesh_tlv.specs.Reading.{block_at, tlv_at};
 ghost use Rattle.mesh_tlv.specs.Fields.{fields, block_fields};
+ghost use Rattle.mesh_packet.specs.Placed.{ArePlaced};
 ghost use Rattle.mesh_packet.specs.Fields.{PacketFields, fields_of_packet, pair_read, pairs_read, message_read, messages_read, fields_of_decoded};
 ghost use Rattle.mesh_packet.specs.Grammar.{Spells, FirstFault, width_of};
 ghost use Rattle.mesh_packet.specs.Least.{IsEncodable};
@@ -337,11 +338,11 @@ pub fn decode<'a>(alloc: Global, frame: &'a [u8]) -> Result<Decoded<'a>, DecodeF
     // What has its first fault there is refused so.
     ensures first { (place reason : ℕ) → FirstFault frame.now place reason → Gives fields_of_decoded result (refuse place reason) }
 
+    // Each message is spelled at its span.
+    ensures placed { IfOk result (λ decoded. ArePlaced (fields_of_packet decoded.packet).messages decoded.spans frame.now) }
+
     // What is read can be encoded.
     ensures encodable { IfOk result (λ decoded. IsEncodable (fields_of_packet decoded.packet)) }
-
-    // How it is read.
-    ensures exact { Gives fields_of_decoded result (packet_of frame.now) }
 {
     whole(alloc, frame)
 }

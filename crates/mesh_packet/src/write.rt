@@ -3,19 +3,18 @@ ghost use Rattle.std.specs.Prelude.{◌≡◌, ◌≤◌, ◌<◌, ◌+◌, ◌+
 ghost use Rattle.mesh_addr.specs.Grammar.{IsWritable};
 ghost use Rattle.mesh_tlv.specs.Fields.{fields};
 ghost use Rattle.mesh_tlv.specs.Items.{SpellsItems};
-ghost use Rattle.mesh_tlv.specs.Least.{flag, least_short};
+ghost use Rattle.mesh_tlv.specs.Least.{least_short};
 ghost use Rattle.mesh_packet.specs.declared.packet.EncodeFault.TheVariants as EncodeFault;
 ghost use Rattle.mesh_packet.specs.declared.packet.Span.{Span};
 ghost use Rattle.mesh_packet.specs.Fields.{fields_of_block, fields_of_message, fields_of_packet};
 ghost use Rattle.mesh_packet.specs.Grammar.{Spells};
 ghost use Rattle.mesh_packet.specs.Least.{IsEncodableBlock, IsEncodableMessage, IsEncodable, IsOriginator, least_octet, least_number, least_originator, least_head, message_flags, LeastPair, LeastBody, LeastMessage, least_header_tlvs, packet_flags, LeastForm, Passes, IsTooLong, Wrote};
-ghost use Rattle.mesh_packet.specs.Reading.{packet_of};
 
 use crate::flags::{COUNT, LIMIT, ORIGINATOR, PACKET_SEQUENCE, PACKET_TLVS, SEQUENCE};
 use crate::packet::{Block, EncodeFault, Message, Packet};
 use mesh_addr::{RawAddr, write_least};
 use mesh_atoms::Bytes;
-use mesh_tlv::{Tlv, write_addr_tlvs, write_tlvs};
+use mesh_tlv::{Tlv, flag, put_short, write_addr_tlvs, write_tlvs};
 use std::alloc::{AllocError, Global};
 
 /// The most octets of a packet, which a datagram of UDP over IPv4 takes.
@@ -23,13 +22,6 @@ const LONGEST: usize = 65507;
 
 /// The octets of a message before its body: type, flags and size.
 const FRONT: usize = 4;
-
-/// Appends a number of 16 bits, its high octet first.
-fn put_short(n: u16, out: &mut Bytes) -> Result<(), AllocError>
-    ensures { OnOk result (out.new ≡ out.old ++ least_short n) }
-{
-    out.append(&n.to_be_bytes())
-}
 
 /// Appends an octet, where it is there.
 fn put_octet(octet: Option<u8>, out: &mut Bytes) -> Result<(), AllocError>
@@ -72,14 +64,6 @@ fn put_head(message: &Message, out: &mut Bytes) -> Result<(), AllocError>
     put_octet(message.limit, out)?;
     put_octet(message.count, out)?;
     put_number(message.sequence, out)
-}
-
-/// The bit of a flag, where it is set.
-fn flag(set: bool, bit: u8) -> u8
-    ensures exact { result ≡ flag set bit }
-    ensures most { result ≤ bit }
-{
-    if set { bit } else { 0 }
 }
 
 /// The flags of a message, with its width.
@@ -237,9 +221,6 @@ pub fn encode(alloc: Global, packet: &Packet) -> Result<Bytes, EncodeFault>
 
     // It spells the packet.
     ensures spelled { IfOk result (λ bytes. (spans : List Span) × Spells (fields_of_packet packet.now) spans bytes) }
-
-    // It is read back as the same packet.
-    ensures read_back { IfOk result (λ bytes. (spans : List Span) × (packet_of bytes ≡ Ok (fields_of_packet packet.now, spans))) }
 
     // What is refused as too long is so, and what is too long isn't encoded.
     ensures too_long { result ≡ Err EncodeFault.TooLong → IsTooLong (fields_of_packet packet.now) }

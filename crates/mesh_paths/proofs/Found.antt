@@ -16,7 +16,7 @@ use Rattle.mesh_atoms.specs.declared.graphs.PathRow.{PathRow}
 use Rattle.mesh_atoms.proofs.NetOrder.{net_total, net_exact, net_less, is_equal}
 use Rattle.mesh_paths.specs.Paths.{HasCosts, IsAscending, IsCertificate}
 use Rattle.mesh_paths.specs.Tree.{OffersBy, Offers, MeetsBy, Meets, IsTree}
-use Rattle.mesh_paths.specs.Search.{Waits, IsFound, IsIndex, Settled, IsKeyed}
+use Rattle.mesh_paths.specs.Search.{Waits, IsFound, IsIndex, IsSettledRow, IsKeyed}
 use Rattle.mesh_paths.proofs.Rows.{move_offer}
 use Rattle.mesh_paths.proofs.SearchLaw.{in_tail, head_or_tail, offers_more, meets_more}
 use Rattle.mesh_paths.proofs.TreeLaw.{certificate_of_tree}
@@ -50,10 +50,10 @@ ascending_of (e ∷ f ∷ es) up keyed (suc k) d l =
     rw next later
 
 module _ (m : BTreeMap NetAddr PathRow) (keyed : IsKeyed m) (ordered : tree.IsOrdered net_cmp m) where
-  listed : (r : PathRow) → Settled m r → Contains (values_of m.entries) r
+  listed : (r : PathRow) → IsSettledRow m r → Contains (values_of m.entries) r
   listed r has = value_in m.entries r.node r (Contains-from_lookup {eq = eq_by_cmp net_cmp} (λ x y e. net_exact x y (is_equal (net_cmp x y) e)) r.node r m.entries has)
 
-  settled : (r : PathRow) → Contains (values_of m.entries) r → Settled m r
+  settled : (r : PathRow) → Contains (values_of m.entries) r → IsSettledRow m r
   settled r has =
       let (q, found) = key_of m.entries r has in
       let at : tree.get net_cmp m q ≡ Some r = lookup-from_Contains {eq = eq_by_cmp net_cmp} (eq_by_cmp_equiv net_total) q r m.entries (IsDistinct-from_sorted net_cmp (keys_of m.entries) ordered) found in
@@ -65,9 +65,9 @@ module _ (m : BTreeMap NetAddr PathRow) (keyed : IsKeyed m) (ordered : tree.IsOr
       keyed e.0 e.1 at)
 
   -- rows that meet what the start and the arcs from them offer, and are offered, are a tree
-  module _ (arcs : List Arc4) (from : NetAddr) (start : MeetsBy (Settled m) from 0 from)
-      (met : (r : PathRow) (a : Arc4) → Settled m r → Contains arcs a → a.from ≡ r.node → MeetsBy (Settled m) a.to (r.metric + a.metric) r.node)
-      (offered : (r : PathRow) → Settled m r → OffersBy (Settled m) arcs from r.node r.metric r.parent) where
+  module _ (arcs : List Arc4) (from : NetAddr) (start : MeetsBy (IsSettledRow m) from 0 from)
+      (met : (r : PathRow) (a : Arc4) → IsSettledRow m r → Contains arcs a → a.from ≡ r.node → MeetsBy (IsSettledRow m) a.to (r.metric + a.metric) r.node)
+      (offered : (r : PathRow) → IsSettledRow m r → OffersBy (IsSettledRow m) arcs from r.node r.metric r.parent) where
     closed : (node : NetAddr) (metric : ℕ) (parent : NetAddr) → Offers arcs from (values_of m.entries) node metric parent → Meets (values_of m.entries) node metric parent
     closed node metric parent offer = elim offer [
       | inl (n, c, p) ↦ move_offer (values_of m.entries) from node 0 metric from parent n c p (meets_more from 0 from listed start)
@@ -99,7 +99,7 @@ arcs_of_index arcs index from node metric parent same offer = elim offer [
   | inr (p, a, has, there, begins, ends, sum, at) ↦ inr (p, a, has, same.of_it a there, begins, ends, sum, at)
 ]
 
-pub certificate_found : (g : Graph) (from : NetAddr) → HasCosts g → (m : BTreeMap NetAddr PathRow) → IsKeyed m → tree.IsOrdered net_cmp m → (arcs index : List Arc4) → arcs ≡ g.arcs → IsIndex arcs index → IsFound (Settled m) index from →
+pub certificate_found : (g : Graph) (from : NetAddr) → HasCosts g → (m : BTreeMap NetAddr PathRow) → IsKeyed m → tree.IsOrdered net_cmp m → (arcs index : List Arc4) → arcs ≡ g.arcs → IsIndex arcs index → IsFound (IsSettledRow m) index from →
     (rows : List PathRow) → rows ≡ values_of m.entries → IsCertificate g from (record { rows = rows })
 certificate_found g from costs m keyed ordered arcs index is same (rest, now) rows e =
     let found : IsTree arcs from (values_of m.entries) =

@@ -7,25 +7,13 @@ pub mod Scenarios
 pub mod SearchLaw
 pub mod Sets
 mod SettledArcs
-mod SettledDecisions
+pub mod SettledDecisions
 mod SettledHops
 mod SettledLaw
 mod SettledLeast
 mod SettledNeighbours
 mod SettledRelays
 mod SettledWalks
-mod ShortLists
+pub mod ShortLists
 pub mod TreeLaw
-mod TwoRouters
-mod TwoRoutersInRange
-mod TwoRoutersRelays
-mod TwoRoutersRoutes
-mod TwoRoutersSettled
-mod TwoRoutersSound
 pub mod Unique
-mod Witness
-mod WorkedExpiry
-mod WorkedHello
-mod WorkedLoss
-mod WorkedNeighbourhood
-mod WrongStates

@@ -16,7 +16,7 @@ use Rattle.mesh_atoms.specs.Nodes.{IsBefore, IsAtMost, net_cmp}
 use Rattle.mesh_atoms.proofs.NetOrder.{net_total, net_exact, is_equal}
 use Rattle.mesh_paths.specs.Paths.{HasCosts, IsCertificate}
 use Rattle.mesh_paths.specs.Tree.{OffersBy, IsAsGood}
-use Rattle.mesh_paths.specs.Search.{Settled, IsKeyed, Settles}
+use Rattle.mesh_paths.specs.Search.{IsSettledRow, IsKeyed, Settles}
 use Rattle.mesh_paths.specs.Rounds.{RowMap, missing_of, weight_of, missing_in, weight_in, IsMetIn, Betters, IsOfferBy, HasAsGood, IsInRange, Tries, IsLedTo, IsRounds, Goes}
 use Rattle.mesh_paths.proofs.Order.{same_node}
 use Rattle.mesh_paths.proofs.Rows.{of_each, item_in}
@@ -44,7 +44,7 @@ sums_short f (x ∷ xs) each = omega (arith, sum_by-cons f x xs, each x, sums_sh
 
 -- Rows at their nodes
 
-pub settled_at : (map : RowMap) (node : NetAddr) (row : PathRow) → IsKeyed map → tree.get net_cmp map node ≡ Some row → Settled map row
+pub settled_at : (map : RowMap) (node : NetAddr) (row : PathRow) → IsKeyed map → tree.get net_cmp map node ≡ Some row → IsSettledRow map row
 settled_at map node row keyed at = subst (λ (n : NetAddr). tree.get net_cmp map n ≡ Some row) (sym (keyed node row at)) at
 
 -- A row that gets better
@@ -85,7 +85,7 @@ module _ (old new : RowMap) (arc : Arc4) (row : PathRow) (betters : Betters old 
   ]
 
   -- each node keeps a row, no dearer
-  lower : (r : PathRow) → Settled old r → (p : PathRow) × Settled new p × (p.node ≡ r.node) × (p.metric ≤ r.metric)
+  lower : (r : PathRow) → IsSettledRow old r → (p : PathRow) × IsSettledRow new p × (p.node ≡ r.node) × (p.metric ≤ r.metric)
   lower r has = elim (at r.node) [
     | inl (same, is) ↦ (row, betters.has, sym same, elim (betters.better r (subst (λ (n : NetAddr). tree.get net_cmp old n ≡ Some r) same has)) [ inl less ↦ omega arith | inr (e, _) ↦ omega arith ])
     | inr is ↦ (r, is ∙ has, refl, omega arith)
@@ -110,7 +110,7 @@ module _ (old new : RowMap) (arc : Arc4) (row : PathRow) (betters : Betters old 
         let before : missing_of (tree.get net_cmp old arc.to) ≡ 1 = ap missing_of (subst (λ (n : NetAddr). tree.get net_cmp old n ≡ None) (sym ends) none) in
         sums_less (λ (a : Arc4). missing_of (tree.get net_cmp new a.to)) (λ (a : Arc4). missing_of (tree.get net_cmp old a.to)) arcs arc (λ a _. no_more a.to) there (omega arith)
 
-    is_row : (r : PathRow) → tree.get net_cmp new r.node ≡ Some row → Settled new r → row ≡ r
+    is_row : (r : PathRow) → tree.get net_cmp new r.node ≡ Some row → IsSettledRow new r → row ≡ r
     is_row r is has = let h : Some row ≡ Some r = sym is ∙ has in (cc)
 
     keyed_new : IsKeyed new
@@ -122,7 +122,7 @@ module _ (old new : RowMap) (arc : Arc4) (row : PathRow) (betters : Betters old 
       | inr is ↦ now.keyed node r (sym is ∙ has)
     ]
 
-    start_new : Settled new (record { node = from; metric = 0; parent = from })
+    start_new : IsSettledRow new (record { node = from; metric = 0; parent = from })
     start_new = elim (same_node from row.node) [
       | inl same ↦ elim (betters.better (record { node = from; metric = 0; parent = from }) (subst (λ (n : NetAddr). tree.get net_cmp old n ≡ Some (record { node = from; metric = 0; parent = from })) same now.start)) [
         | inl less ↦ absurd (omega arith)
@@ -137,7 +137,7 @@ module _ (old new : RowMap) (arc : Arc4) (row : PathRow) (betters : Betters old 
         let (p, has_p, same, low) = lower first has in
         inr (p, arc, has_p, there, sym begins ∙ sym same, ends, omega arith, same ∙ parent)
 
-    led_new : (r : PathRow) → Settled new r → IsLedTo new arcs from r
+    led_new : (r : PathRow) → IsSettledRow new r → IsLedTo new arcs from r
     led_new r has = elim (at r.node) [
       | inl (_, is) ↦ subst (λ (x : PathRow). IsLedTo new arcs from x) (is_row r is has) led_row
       | inr is ↦ elim (now.led r (sym is ∙ has)) [
@@ -151,13 +151,13 @@ module _ (old new : RowMap) (arc : Arc4) (row : PathRow) (betters : Betters old 
     small_row : (before : Option PathRow) → tree.get net_cmp old row.node ≡ before → row.metric + 4294967295 * missing_in new arcs ≤ 4294967295 * length arcs
     small_row None e = let (first, has, _, _, _, sum) = offer in omega (arith, fewer_in e, now.small first has)
     small_row (Some b) e =
-        let has : Settled old b = settled_at old row.node b now.keyed e in
+        let has : IsSettledRow old b = settled_at old row.node b now.keyed e in
         elim (betters.better b e) [
           | inl less ↦ omega (arith, no_more_in, now.small b has)
           | inr (same, _) ↦ omega (arith, no_more_in, now.small b has)
         ]
 
-    small_new : (r : PathRow) → Settled new r → r.metric + 4294967295 * missing_in new arcs ≤ 4294967295 * length arcs
+    small_new : (r : PathRow) → IsSettledRow new r → r.metric + 4294967295 * missing_in new arcs ≤ 4294967295 * length arcs
     small_new r has = elim (at r.node) [
       | inl (_, is) ↦ subst (λ (x : PathRow). x.metric + 4294967295 * missing_in new arcs ≤ 4294967295 * length arcs) (is_row r is has) (small_row (tree.get net_cmp old row.node) refl)
       | inr is ↦ omega (arith, no_more_in, now.small r (sym is ∙ has))
@@ -271,12 +271,12 @@ tried map new arc first row b keyed found node metric parent fits test not updat
 -- The rounds begin
 
 -- an empty map has no row
-pub none_settled : (map : RowMap) → map.entries ≡ [] → (r : PathRow) → Settled map r → ⊥
+pub none_settled : (map : RowMap) → map.entries ≡ [] → (r : PathRow) → IsSettledRow map r → ⊥
 none_settled map empty r has =
     let none : tree.get net_cmp map r.node ≡ None = ap (λ (entries : List (NetAddr × PathRow)). lookup (λ k. is_eq (net_cmp r.node k)) entries) empty in
     (cc)
 
-pub rounds_start : (old new : RowMap) (arcs : List Arc4) (from : NetAddr) → ((r : PathRow) → Settled old r → ⊥) → Settles (Settled old) (record { node = from; metric = 0; parent = from }) (Settled new) → IsKeyed new → IsRounds new arcs from
+pub rounds_start : (old new : RowMap) (arcs : List Arc4) (from : NetAddr) → ((r : PathRow) → IsSettledRow old r → ⊥) → Settles (IsSettledRow old) (record { node = from; metric = 0; parent = from }) (IsSettledRow new) → IsKeyed new → IsRounds new arcs from
 rounds_start old new arcs from none settles keyed = record {
   keyed = keyed;
   start = settles.new;
@@ -299,7 +299,7 @@ rounds_start old new arcs from none settles keyed = record {
 
 -- The rounds end
 module _ (m : RowMap) (arcs : List Arc4) (from : NetAddr) (now : IsRounds m arcs from) (met : (arc : Arc4) → Contains arcs arc → IsMetIn m arc) where
-  offered : (r : PathRow) → Settled m r → OffersBy (Settled m) arcs from r.node r.metric r.parent
+  offered : (r : PathRow) → IsSettledRow m r → OffersBy (IsSettledRow m) arcs from r.node r.metric r.parent
   offered r has = elim (now.led r has) [
     | inl start ↦ inl start
     | inr (f, a, has_f, there, begins, ends, low, parent) ↦

@@ -5,7 +5,7 @@ use Rattle.mesh_atoms.specs.declared.graphs.Arc4.{Arc4}
 use Rattle.mesh_atoms.specs.declared.graphs.PathRow.{PathRow}
 use Rattle.mesh_paths.specs.declared.frontier.Step.{Step}
 use Rattle.mesh_paths.specs.Tree.{OffersBy, MeetsBy, IsAsGood}
-use Rattle.mesh_paths.specs.Search.{Waits, IsSpent, Takes, Puts, Offering, Settles, IsNoLater, IsSmall, IsSearch}
+use Rattle.mesh_paths.specs.Search.{Waits, IsSpent, TakesOut, Puts, Offering, Settles, IsNoLater, IsSmall, IsSearch}
 use Rattle.mesh_paths.proofs.Order.{same_node, at_most_itself}
 
 -- Elements of a list with a head
@@ -186,7 +186,7 @@ offering_none steps left node metric = record {
 
 pub offering_more : (steps : List Step) (left : List Arc4) (node : NetAddr) (metric : ℕ) (steps1 : List Step) (left1 : List Arc4) (arc : Arc4) (left2 : List Arc4) (step : Step) (steps2 : List Step) →
     step.metric ≡ metric + arc.metric → step.node ≡ arc.to → step.parent ≡ node → arc.metric ≤ 4294967295 →
-    Offering steps left node metric steps1 left1 → Takes left1 node arc left2 → Puts steps1 step steps2 → Offering steps left node metric steps2 left2
+    Offering steps left node metric steps1 left1 → TakesOut left1 node arc left2 → Puts steps1 step steps2 → Offering steps left node metric steps2 left2
 offering_more steps left node metric steps1 left1 arc left2 step steps2 is_metric is_node is_parent short before takes puts = record {
   kept = λ x h. puts.kept x (before.kept x h);
   new = λ a still begins. elim (before.new a still begins) [

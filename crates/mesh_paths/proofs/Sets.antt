@@ -21,7 +21,7 @@ use Rattle.mesh_atoms.specs.declared.graphs.Arc4.{Arc4}
 use Rattle.mesh_atoms.specs.declared.graphs.PathRow.{PathRow}
 use Rattle.mesh_atoms.proofs.NetOrder.{net_total, net_exact, net_less, then_equal, then_less, is_equal}
 use Rattle.mesh_paths.specs.declared.frontier.Step.{Step}
-use Rattle.mesh_paths.specs.Search.{arc_cmp, step_cmp, Takes, IsSpent, Puts, Settled, IsKeyed, Settles, IsNoLater, row_of}
+use Rattle.mesh_paths.specs.Search.{arc_cmp, step_cmp, TakesOut, IsSpent, Puts, IsSettledRow, IsKeyed, Settles, IsNoLater, row_of}
 use Rattle.mesh_paths.proofs.Order.{at_most_itself, at_most_both, not_before_itself}
 use Rattle.mesh_paths.proofs.Rows.{item_in}
 
@@ -165,7 +165,7 @@ puts_of s n step at more = record {
   more = more;
 }
 
-pub takes_of : (s n : BTreeSet Arc4) (node : NetAddr) (arc : Arc4) → Contains s.keys arc → arc.from ≡ node → ((q : Arc4) → sorted.contains arc_cmp n q ≡ cond (is_eq (arc_cmp arc q)) false (sorted.contains arc_cmp s q)) → length n.keys + 1 ≡ length s.keys → Takes s.keys node arc n.keys
+pub takes_of : (s n : BTreeSet Arc4) (node : NetAddr) (arc : Arc4) → Contains s.keys arc → arc.from ≡ node → ((q : Arc4) → sorted.contains arc_cmp n q ≡ cond (is_eq (arc_cmp arc q)) false (sorted.contains arc_cmp s q)) → length n.keys + 1 ≡ length s.keys → TakesOut s.keys node arc n.keys
 takes_of s n node arc has leaves at fewer = record {
   has = has;
   leaves = leaves;
@@ -229,14 +229,14 @@ module _ (s : BTreeSet Arc4) (lo : Arc4) (node : NetAddr) (r : List Arc4) (part 
 -- Rows
 
 -- a node that is found has its row
-pub row_found : (m : BTreeMap NetAddr PathRow) (node : NetAddr) → IsKeyed m → is_some (tree.get net_cmp m node) ≡ true → (r : PathRow) × Settled m r × (r.node ≡ node)
+pub row_found : (m : BTreeMap NetAddr PathRow) (node : NetAddr) → IsKeyed m → is_some (tree.get net_cmp m node) ≡ true → (r : PathRow) × IsSettledRow m r × (r.node ≡ node)
 row_found m node keyed there = by_value m node keyed (tree.get net_cmp m node) refl there
   where
-    by_value : (m : BTreeMap NetAddr PathRow) (node : NetAddr) → IsKeyed m → (o : Option PathRow) → tree.get net_cmp m node ≡ o → is_some o ≡ true → (r : PathRow) × Settled m r × (r.node ≡ node)
+    by_value : (m : BTreeMap NetAddr PathRow) (node : NetAddr) → IsKeyed m → (o : Option PathRow) → tree.get net_cmp m node ≡ o → is_some o ≡ true → (r : PathRow) × IsSettledRow m r × (r.node ≡ node)
     by_value m node keyed None e t = absurd (cc)
     by_value m node keyed (Some r) e t = let at : r.node ≡ node = keyed node r e in (r, subst (λ (q : NetAddr). tree.get net_cmp m q ≡ Some r) (sym at) e, at)
 
-pub no_row : (m : BTreeMap NetAddr PathRow) (node : NetAddr) → is_some (tree.get net_cmp m node) ≡ false → (r : PathRow) → Settled m r → r.node ≢ node
+pub no_row : (m : BTreeMap NetAddr PathRow) (node : NetAddr) → is_some (tree.get net_cmp m node) ≡ false → (r : PathRow) → IsSettledRow m r → r.node ≢ node
 no_row m node none r has at =
     let h : tree.get net_cmp m node ≡ Some r = subst (λ (q : NetAddr). tree.get net_cmp m q ≡ Some r) at has in
     let t : is_some (tree.get net_cmp m node) ≡ true = ap is_some h in
@@ -249,7 +249,7 @@ module _ (m n : BTreeMap NetAddr PathRow) (step : Step) (at : (q : NetAddr) → 
   there : (q : NetAddr) → is_eq (net_cmp step.node q) ≡ false → tree.get net_cmp n q ≡ tree.get net_cmp m q
   there q e = at q ∙ ap (λ (b : Bool). cond b (Some (row_of step)) (tree.get net_cmp m q)) e
 
-  kept_at : tree.get net_cmp m step.node ≡ None → (r : PathRow) → Settled m r → Settled n r
+  kept_at : tree.get net_cmp m step.node ≡ None → (r : PathRow) → IsSettledRow m r → IsSettledRow n r
   kept_at fresh r has = elim (cases_Bool (is_eq (net_cmp step.node r.node))) [
     | inl e ↦
         let same : step.node ≡ r.node = net_exact step.node r.node (is_equal (net_cmp step.node r.node) e) in
@@ -258,13 +258,13 @@ module _ (m n : BTreeMap NetAddr PathRow) (step : Step) (at : (q : NetAddr) → 
     | inr e ↦ there r.node e ∙ has
   ]
 
-  cases_at : (r : PathRow) → Settled n r → (row_of step ≡ r) ⊎ Settled m r
+  cases_at : (r : PathRow) → IsSettledRow n r → (row_of step ≡ r) ⊎ IsSettledRow m r
   cases_at r has = elim (cases_Bool (is_eq (net_cmp step.node r.node))) [
     | inl e ↦ let h : Some (row_of step) ≡ Some r = sym (here r.node e) ∙ has in inl (cc)
     | inr e ↦ inr (sym (there r.node e) ∙ has)
   ]
 
-  pub settles_of : tree.get net_cmp m step.node ≡ None → Settles (Settled m) (row_of step) (Settled n)
+  pub settles_of : tree.get net_cmp m step.node ≡ None → Settles (IsSettledRow m) (row_of step) (IsSettledRow n)
   settles_of fresh = record {
     new = here step.node (ap is_eq (tied_itself net_total step.node));
     kept = kept_at fresh;

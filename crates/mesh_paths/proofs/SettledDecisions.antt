@@ -9,7 +9,7 @@ use Rattle.mesh_atoms.specs.declared.tuples.LinkKey.{LinkKey}
 use Rattle.mesh_atoms.specs.declared.settings.Attached4.{Attached4}
 use Rattle.mesh_atoms.specs.Base.{Base}
 use Rattle.mesh_atoms.specs.Codes.{metric_value}
-use Rattle.mesh_atoms.specs.Hello.{ShowsLink}
+use Rattle.mesh_atoms.specs.Hello.{SaysLink}
 use Rattle.mesh_atoms.specs.Radio.{Attaches}
 use Rattle.mesh_atoms.specs.State.{State, LinkState, Is_pending, Is_lost, Is_symmetric, Is_heard, state_of}
 use Rattle.mesh_atoms.specs.declared.settings.Scenario.{Scenario}
@@ -69,7 +69,7 @@ fit a now t =
     ]
 
 -- a HELLO shows the address on a symmetric link, or it doesn't
-pub shows_link : (s : State) (i now : ℕ) (a : Addr4) → ShowsLink s i now a Is_symmetric ⊎ (ShowsLink s i now a Is_symmetric → ⊥)
+pub shows_link : (s : State) (i now : ℕ) (a : Addr4) → SaysLink s i now a Is_symmetric ⊎ (SaysLink s i now a Is_symmetric → ⊥)
 unfolding Fit
 shows_link s i now a = elim ((slice_get_cases s.bases.neighbourhood.links i).1) [
   | inl there ↦
@@ -82,7 +82,7 @@ shows_link s i now a = elim ((slice_get_cases s.bases.neighbourhood.links i).1) 
 ]
   where
     none_in : (base : Base LinkKey Link) → slice_get s.bases.neighbourhood.links i ≡ Some base → ((t : LinkKey × (Link × ℕ)) → Contains base t → Fit a now t → ⊥) →
-        ShowsLink s i now a Is_symmetric → ⊥
+        SaysLink s i now a Is_symmetric → ⊥
     none_in base is none shows =
         let (link, (key, (other, at, (until, stands)), has, state)) = shows in
         let same : other ≡ base = cc in

@@ -3,7 +3,7 @@ use Rattle.std.proofs.Common.{◌≡◌, ℕ, ◌+◌, ◌≤◌, ◌⊎◌, inl
 use Rattle.std.proofs.lemmas.Bool.{cases_eq}
 use Rattle.mesh_atoms.specs.Walk.{Walk, Stay, Onward, Least, Fits, FirstNode, AtSelf, Through, Here, Direct, Further, LeastToNet}
 use Rattle.mesh_paths.proofs.SettledWalks.{View, Radio, by_own, shadow_joined, sound, sound_net}
-use Rattle.mesh_paths.proofs.SettledLeast.{LeastRadio, walk_of, net_walk}
+use Rattle.mesh_paths.proofs.SettledLeast.{LeastRadio, walk_of, net_walk, row_least}
 
 module _ (Node : Type 0) (V : View Node) where
   open V use {x, Hop, Willing, Joined, AddressOf, Origin, self, Attaches, Relay, Arc}
@@ -17,6 +17,7 @@ module _ (Node : Type 0) (V : View Node) where
     pub arc : Arc self first near
     pub on : Walk Arc first node rest
     pub total : near + rest ≡ r
+    pub best : Least Arc self first near
 
   pub same_least : {s a : Node} {c d : ℕ} → Least Arc s a c → Least Arc s a d → c ≡ d
   same_least {c = c} {d = d} p q = omega (arith, p.least d q.reached, q.least c p.reached)
@@ -25,7 +26,8 @@ module _ (Node : Type 0) (V : View Node) where
   split r (AtSelf {node} fits) least =
       let none : fits.before ≤ 0 = fits.to_parent.least 0 Stay in
       let eq : fits.before + fits.metric ≡ r = same_least fits.to_node least in
-      record { near = fits.metric; rest = 0; arc = fits.arc; on = Stay; total = omega arith }
+      let P : ℕ → Type 0 = λ c. Least Arc self node c in
+      record { near = fits.metric; rest = 0; arc = fits.arc; on = Stay; total = omega arith; best = subst P (let e : fits.before + fits.metric ≡ fits.metric = omega arith in e) fits.to_node }
   split r (Through {p} {node} {first} fits off more) least =
       let before = split fits.before more fits.to_parent in
       let eq : fits.before + fits.metric ≡ r = same_least fits.to_node least in
@@ -36,6 +38,7 @@ module _ (Node : Type 0) (V : View Node) where
         arc = before.arc;
         on = Onward before.on fits.arc;
         total = omega arith;
+        best = before.best;
       }
 
   -- an arc from self leads to a neighbour, at the metric to it
@@ -76,6 +79,7 @@ module _ (Node : Type 0) (V : View Node) where
   -- the next hop leads to the router z at x's metric
   pub record LeadsTo (n z r near : ℕ) : Type 0 where
     pub hop : Hop x n near
+    pub best : LeastRadio Node V x n near
     pub leads : ((z ≡ n) × (r ≡ near)) ⊎ ((z ≡ n → ⊥) × (s : ℕ) × LeastRadio Node V n z s × (r ≡ near + s))
 
   pub one_hop : (z : ℕ) (a : Node) (r near : ℕ) → AddressOf z a → Hop x z near → Least Arc self a r → (rest : ℕ) → near + rest ≡ r → r ≡ near
@@ -115,6 +119,7 @@ module _ (Node : Type 0) (V : View Node) where
         here,
         record {
           hop = h;
+          best = row_least Node V n first parts.near here (λ e. (let P : ℕ → Type 0 = λ b. Hop x b parts.near in V.apart x parts.near (subst P e h))) parts.best;
           leads = elim (cases_eq z n) [
             | inl e ↦
                 let P : ℕ → Type 0 = λ b. Hop x b parts.near in
@@ -127,6 +132,7 @@ module _ (Node : Type 0) (V : View Node) where
   -- the next hop leads to the network at x's metric, or delivers there
   pub record LeadsToNet (n : ℕ) (a : Node) (r near : ℕ) : Type 0 where
     pub hop : Hop x n near
+    pub best : LeastRadio Node V x n near
     pub leads : ((k : ℕ) × Attaches n a k × (r ≤ near + k))
         ⊎ (((k : ℕ) → Attaches n a k → ⊥) × (s : ℕ) × LeastToNet Hop Willing Attaches n a s × (r ≡ near + s))
 
@@ -176,6 +182,7 @@ module _ (Node : Type 0) (V : View Node) where
         here,
         record {
           hop = h;
+          best = row_least Node V n first parts.near here other parts.best;
           leads = elim (V.attaches_or n a) [
             | inl mine' ↦
                 let (k, att) = mine' in

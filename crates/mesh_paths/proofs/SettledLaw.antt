@@ -7,12 +7,12 @@ use Rattle.mesh_atoms.specs.declared.settings.Scenario.{Scenario}
 use Rattle.mesh_atoms.specs.declared.settings.RouterSettings.{RouterSettings}
 use Rattle.mesh_atoms.specs.Base.{host}
 use Rattle.mesh_atoms.specs.Codes.{metric_value}
-use Rattle.mesh_atoms.specs.Radio.{Hop, Joins, AddressOf, Attaches, RadioLeast, To_router, To_network}
+use Rattle.mesh_atoms.specs.Radio.{Hop, Willing, Joins, AddressOf, Attaches, RadioLeast, To_router, To_network}
 use Rattle.mesh_atoms.specs.Routes.{RouteArc, IsOutside, IsParent, IsNextHop}
 use Rattle.mesh_atoms.specs.Settled.{At}
 use Rattle.mesh_atoms.specs.State.{State}
-use Rattle.mesh_atoms.specs.Walk.{Least, Fits, FirstNode, AtSelf, Through}
-use Rattle.mesh_paths.specs.SettledRoutes.{IsSettledNetwork, HasRow, RowsAreLeast, NextHopsLead, LeadsOn, Arrives, Goes_on, Delivers, HopsTo, Has_it, Attaches_it, Next, Ends, TripsEnd}
+use Rattle.mesh_atoms.specs.Walk.{Least, LeastWilling, Fits, FirstNode, AtSelf, Through}
+use Rattle.mesh_paths.specs.SettledRoutes.{IsSettledNetwork, HasRow, RowsAreLeast, NextHopsLead, LeadsOn, Arrives, Goes_on, At_gateway, HopsTo, Has_it, Attaches_it, Next, TripEnds, TripsEnd}
 use Rattle.mesh_paths.proofs.SettledWalks.{View}
 use Rattle.mesh_paths.proofs.SettledLeast.{row_least, least_row, row_least_net, least_row_net}
 use Rattle.mesh_paths.proofs.SettledHops.{ends_at, same_least, next_hop, next_hop_net, LeadsTo, LeadsToNet}
@@ -136,7 +136,7 @@ module _ (s : Scenario) (states : List State) (now : ℕ) (S : IsSettledNetwork 
   leads_net : (x : ℕ) (p : State) (at : At states x p) (dest : NetAddr) (n near : ℕ) (c : ℕ) → Hop s x n near →
       LeadsToNet NetAddr (V s states now S x p at) n dest c near → LeadsOn s states dest n near c
   leads_net x p at dest n near c hop way = elim way.leads [
-    | inl here ↦ Delivers here.0 here.1 here.2
+    | inl here ↦ At_gateway here.0 here.1 here.2
     | inr on ↦
         let (off, rest, least, sum) = on in
         let (q, q_at) = state_there s states now S (near_of s states now S hop) in
@@ -144,7 +144,7 @@ module _ (s : Scenario) (states : List State) (now : ℕ) (S : IsSettledNetwork 
   ]
 
   next_hops_lead : (x : ℕ) (p : State) (at : At states x p) (row : Route) → Contains p.routes row →
-      (n near : ℕ) × Hop s x n near × HopsTo s states x row.iface n row.next near × LeadsOn s states row.dest n near row.metric
+      (n near : ℕ) × Hop s x n near × LeastWilling (Hop s) (Willing s) x n near × HopsTo s states x row.iface n row.next near × LeadsOn s states row.dest n near row.metric
   next_hops_lead x p at row stands =
       let routes = (held s states now S x p at).routes in
       let h = routes.next_hop row stands in
@@ -165,6 +165,7 @@ module _ (s : Scenario) (states : List State) (now : ℕ) (S : IsSettledNetwork 
               n,
               near,
               way.hop,
+              way.best,
               hop_by_link x p at row h n near way.hop (subst P (sym (same_host h.first b f)) is_n),
               subst Q (sym e) (leads_router x z p at a n near row.metric is way.hop way),
             )
@@ -177,6 +178,7 @@ module _ (s : Scenario) (states : List State) (now : ℕ) (S : IsSettledNetwork 
               n,
               near,
               way.hop,
+              way.best,
               hop_by_link x p at row h n near way.hop (subst P (sym (same_host h.first b f)) is_n),
               leads_net x p at row.dest n near row.metric way.hop way,
             )
@@ -188,7 +190,7 @@ settled_next_hops s states now x p S at row stands = next_hops_lead s states now
 module _ (s : Scenario) (states : List State) (now : ℕ) (S : IsSettledNetwork s states now) where
   -- one hop before a trip that ends
   hop_on : (x n near rest : ℕ) (p : State) (row : Route) → At states x p → Contains p.routes row → HopsTo s states x row.iface n row.next near →
-      Ends s states n row.dest rest → row.metric ≡ near + rest → Ends s states x row.dest row.metric
+      TripEnds s states n row.dest rest → row.metric ≡ near + rest → TripEnds s states x row.dest row.metric
   hop_on x n near rest p row at stands hop more sum = record {
     total = near + more.total;
     trip = Next p row at stands refl hop more.trip;
@@ -198,10 +200,10 @@ module _ (s : Scenario) (states : List State) (now : ℕ) (S : IsSettledNetwork 
 
   -- a trip ends, if each one from a row of lesser metric does
   step : (x : ℕ) (p : State) → At states x p → (row : Route) → Contains p.routes row →
-      ((n rest : ℕ) (q : State) → At states n q → rest < row.metric → HasRow q row.dest rest → Ends s states n row.dest rest) →
-      Ends s states x row.dest row.metric
+      ((n rest : ℕ) (q : State) → At states n q → rest < row.metric → HasRow q row.dest rest → TripEnds s states n row.dest rest) →
+      TripEnds s states x row.dest row.metric
   step x p at row stands further =
-      let (n, near, hop, way, leads) = settled_next_hops s states now x p S at row stands in
+      let (n, near, hop, best, way, leads) = settled_next_hops s states now x p S at row stands in
       let value : metric_value hop.0 ≡ near = hop.2 in
       let pos : 1 ≤ metric_value hop.0 = metric_above_zero hop.0 in
       elim leads [
@@ -209,7 +211,7 @@ module _ (s : Scenario) (states : List State) (now : ℕ) (S : IsSettledNetwork 
             hop_on x n near 0 p row at stands way
             (record { total = 0; trip = Has_it e is; no_less = omega arith; exact = λ y b f was. refl }) (omega arith)
         | Goes_on q rest q_at has sum ↦ hop_on x n near rest p row at stands way (further n rest q q_at (omega arith) has) sum
-        | Delivers own att low ↦ record {
+        | At_gateway own att low ↦ record {
           total = near + own;
           trip = Next p row at stands refl way (Attaches_it att);
           no_less = low;
@@ -217,14 +219,14 @@ module _ (s : Scenario) (states : List State) (now : ℕ) (S : IsSettledNetwork 
         }
       ]
 
-  trips_end : (fuel x : ℕ) (p : State) → At states x p → (row : Route) → Contains p.routes row → row.metric ≤ fuel → Ends s states x row.dest row.metric
+  trips_end : (fuel x : ℕ) (p : State) → At states x p → (row : Route) → Contains p.routes row → row.metric ≤ fuel → TripEnds s states x row.dest row.metric
   trips_end zero x p at row stands le = step x p at row stands (λ n rest q q_at less has. absurd (omega arith))
   trips_end (suc fuel) x p at row stands le = step x p at row stands (λ n rest q q_at less has.
       (let (next, next_stands, e, f) = has in
       let low : next.metric ≤ fuel = omega arith in
       let more = trips_end fuel n q q_at next next_stands low in
-      let P : NetAddr → Type 0 = λ b. Ends s states n b next.metric in
-      let Q : ℕ → Type 0 = λ b. Ends s states n row.dest b in
+      let P : NetAddr → Type 0 = λ b. TripEnds s states n b next.metric in
+      let Q : ℕ → Type 0 = λ b. TripEnds s states n row.dest b in
       subst Q f (subst P e more)))
 
 pub settled_trips : TripsEnd

@@ -11,7 +11,7 @@ use Rattle.mesh_atoms.specs.declared.settings.RouterSettings.{RouterSettings}
 use Rattle.mesh_atoms.specs.declared.settings.Scenario.{Scenario}
 use Rattle.mesh_atoms.specs.Base.{host}
 use Rattle.mesh_atoms.specs.Codes.{metric_value}
-use Rattle.mesh_atoms.specs.Hello.{Shows, ShowsSymmetric, Near_in, Near_out, Link_in, Link_out, IsShown}
+use Rattle.mesh_atoms.specs.Hello.{Says, SaysSymmetric, Near_in, Near_out, Link_in, Link_out, IsSaid}
 use Rattle.mesh_atoms.specs.Radio.{Adjacent, IsMetric, Hop, Router, AddressOf}
 use Rattle.mesh_atoms.specs.RelayGraphs.{IsRoutingGraph}
 use Rattle.mesh_atoms.specs.Relays.{Covers}
@@ -171,19 +171,19 @@ module _ (s : Scenario) (states : List State) (now : ℕ) (S : IsSettledNetwork 
 
   -- What a HELLO shows of an address of router u
 
-  pub near_in_is : {w : ℕ} {q : State} (j u : ℕ) (a : Addr4) (m : Metric) → At states w q → AddressOf s u a → Shows q j now a (Near_in m) → Hop s u w (metric_value m)
+  pub near_in_is : {w : ℕ} {q : State} (j u : ℕ) (a : Addr4) (m : Metric) → At states w q → AddressOf s u a → Says q j now a (Near_in m) → Hop s u w (metric_value m)
   near_in_is j u a m at is shows =
       let (o, n, has, e) = shows in
       let k = known_by a o n u at has is in
       hop_of k.home m k.metric_back (some_one k.home m n.metric_in k.is.metric_in e)
 
-  pub near_out_is : {w : ℕ} {q : State} (j u : ℕ) (a : Addr4) (m : Metric) → At states w q → AddressOf s u a → Shows q j now a (Near_out m) → Hop s w u (metric_value m)
+  pub near_out_is : {w : ℕ} {q : State} (j u : ℕ) (a : Addr4) (m : Metric) → At states w q → AddressOf s u a → Says q j now a (Near_out m) → Hop s w u (metric_value m)
   near_out_is j u a m at is shows =
       let (o, n, has, e) = shows in
       let k = known_by a o n u at has is in
       hop_of k.there m k.metric (some_one k.there m n.metric_out k.is.metric_out e)
 
-  pub shown_near : {w : ℕ} {q : State} (j : ℕ) (a : Addr4) → At states w q → ShowsSymmetric q j now a → (u : ℕ) × AddressOf s u a × Adjacent s w u
+  pub shown_near : {w : ℕ} {q : State} (j : ℕ) (a : Addr4) → At states w q → SaysSymmetric q j now a → (u : ℕ) × AddressOf s u a × Adjacent s w u
   shown_near {w} {q} j a at shows = elim shows [
     | inl by_link ↦
         let (link, (key, stands, has, symmetric)) = by_link in
@@ -195,10 +195,10 @@ module _ (s : Scenario) (states : List State) (now : ℕ) (S : IsSettledNetwork 
         (u, known_address k a has.1, adjacent k.metric)
   ]
 
-  pub shown_in : {w : ℕ} {q : State} (j u : ℕ) (a : Addr4) (m : Metric) (shown : Option Metric) → At states w q → AddressOf s u a → ShowsSymmetric q j now a →
-      shown ≡ Some m → IsShown (λ i. Shows q j now a (Near_in i)) (λ i. Shows q j now a (Link_in i)) shown → Hop s u w (metric_value m)
+  pub shown_in : {w : ℕ} {q : State} (j u : ℕ) (a : Addr4) (m : Metric) (shown : Option Metric) → At states w q → AddressOf s u a → SaysSymmetric q j now a →
+      shown ≡ Some m → IsSaid (λ i. Says q j now a (Near_in i)) (λ i. Says q j now a (Link_in i)) shown → Hop s u w (metric_value m)
   shown_in {w} {q} j u a m shown at is shows e given =
-      let P : Option Metric → Type 0 = λ b. IsShown (λ i. Shows q j now a (Near_in i)) (λ i. Shows q j now a (Link_in i)) b in
+      let P : Option Metric → Type 0 = λ b. IsSaid (λ i. Says q j now a (Near_in i)) (λ i. Says q j now a (Link_in i)) b in
       let here : P (Some m) = subst P e given in
       elim here [
         | inl near ↦ near_in_is j u a m at is near
@@ -208,10 +208,10 @@ module _ (s : Scenario) (states : List State) (now : ℕ) (S : IsSettledNetwork 
             absurd (link.0 b.k.home (b.o, b.n, has_with b a is_v, b.k.is.metric_in))
       ]
 
-  pub shown_out : {w : ℕ} {q : State} (j u : ℕ) (a : Addr4) (m : Metric) (shown : Option Metric) → At states w q → AddressOf s u a → ShowsSymmetric q j now a →
-      shown ≡ Some m → IsShown (λ i. Shows q j now a (Near_out i)) (λ i. Shows q j now a (Link_out i)) shown → Hop s w u (metric_value m)
+  pub shown_out : {w : ℕ} {q : State} (j u : ℕ) (a : Addr4) (m : Metric) (shown : Option Metric) → At states w q → AddressOf s u a → SaysSymmetric q j now a →
+      shown ≡ Some m → IsSaid (λ i. Says q j now a (Near_out i)) (λ i. Says q j now a (Link_out i)) shown → Hop s w u (metric_value m)
   shown_out {w} {q} j u a m shown at is shows e given =
-      let P : Option Metric → Type 0 = λ b. IsShown (λ i. Shows q j now a (Near_out i)) (λ i. Shows q j now a (Link_out i)) b in
+      let P : Option Metric → Type 0 = λ b. IsSaid (λ i. Says q j now a (Near_out i)) (λ i. Says q j now a (Link_out i)) b in
       let here : P (Some m) = subst P e given in
       elim here [
         | inl near ↦ near_out_is j u a m at is near
@@ -222,7 +222,7 @@ module _ (s : Scenario) (states : List State) (now : ℕ) (S : IsSettledNetwork 
       ]
 
   -- each neighbour's address is shown SYMMETRIC
-  pub shows_neighbour : {w u : ℕ} {q : State} (j : ℕ) (a : Addr4) → Neighbouring w q u → AddressOf s u a → ShowsSymmetric q j now a
+  pub shows_neighbour : {w u : ℕ} {q : State} (j : ℕ) (a : Addr4) → Neighbouring w q u → AddressOf s u a → SaysSymmetric q j now a
   shows_neighbour {q = q} j a b is = elim (shows_link q j now a) [
     | inl by_link ↦ inl by_link
     | inr none ↦ inr ((b.o, b.n, has_with b a is), none)

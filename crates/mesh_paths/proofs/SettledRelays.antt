@@ -13,7 +13,7 @@ use Rattle.mesh_atoms.specs.declared.settings.Scenario.{Scenario}
 use Rattle.mesh_atoms.specs.declared.hello.Willing.{Willing as Wills}
 use Rattle.mesh_atoms.specs.Advertised.{Gives, Advertises}
 use Rattle.mesh_atoms.specs.Codes.{metric_value}
-use Rattle.mesh_atoms.specs.Hello.{Shows, Routing}
+use Rattle.mesh_atoms.specs.Hello.{Says, Routing}
 use Rattle.mesh_atoms.specs.Radio.{Adjacent, IsMetric, Hop, Willing, AddressOf}
 use Rattle.mesh_atoms.specs.Relays.{Offers, IsWilling, IsRelay}
 use Rattle.mesh_atoms.specs.Settled.{At, IsTwoHopBy}
@@ -175,9 +175,9 @@ module _ (s : Scenario) (states : List State) (now : ℕ) (S : IsSettledNetwork 
   pub selects : {w z : ℕ} {q : State} (o : Addr4) (n : Neighbour) → At states w q → (k : Known s states now S w q z o n) → IsRelayOf z w → IsTrue n.selector
   selects {w} {z} {q} o n at k r =
       let same : r.q ≡ k.to = same_state s states now S r.at k.at in
-      let P : State → Type 0 = λ b. Shows b 0 now r.o Routing in
+      let P : State → Type 0 = λ b. Says b 0 now r.o Routing in
       let mine : AddressOf s w r.o = known_originator s states now S r.k in
-      let shows : Shows r.q 0 now r.o Routing = (r.o, r.n, (r.has, (r.k.is.addresses r.o).1 (has_address s states now S r.o r.k.at mine)), r.chosen) in
+      let shows : Says r.q 0 now r.o Routing = (r.o, r.n, (r.has, (r.k.is.addresses r.o).1 (has_address s states now S r.o r.k.at mine)), r.chosen) in
       (k.is.selector 0).1 (r.o, has_address s states now S r.o at mine, subst P same shows)
 
   -- a selector's addresses are advertised at the metric to it

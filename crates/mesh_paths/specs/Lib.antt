@@ -4,5 +4,3 @@ pub mod Rounds
 pub mod Search
 pub mod SettledRoutes
 pub mod Tree
-pub mod WorkedHello
-pub mod WrongStates

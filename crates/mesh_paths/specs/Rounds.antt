@@ -7,7 +7,7 @@ use Rattle.mesh_atoms.specs.declared.graphs.Arc4.{Arc4}
 use Rattle.mesh_atoms.specs.declared.graphs.PathRow.{PathRow}
 use Rattle.mesh_atoms.specs.Nodes.{IsBefore, net_cmp}
 use Rattle.mesh_paths.specs.Tree.{IsStart, IsAsGood, MeetsBy}
-use Rattle.mesh_paths.specs.Search.{Settled, IsKeyed}
+use Rattle.mesh_paths.specs.Search.{IsSettledRow, IsKeyed}
 
 -- a map from nodes to their rows
 abbrev pub RowMap : Type 0
@@ -33,7 +33,7 @@ weight_in map arcs = sum_by (λ arc. weight_of (tree.get net_cmp map arc.to)) ar
 
 -- what the arc offers is met by a row of the map
 abbrev pub IsMetIn : RowMap → Arc4 → Type 0
-IsMetIn map arc = (row : PathRow) → Settled map row → row.node ≡ arc.from → MeetsBy (Settled map) arc.to (row.metric + arc.metric) row.node
+IsMetIn map arc = (row : PathRow) → IsSettledRow map row → row.node ≡ arc.from → MeetsBy (IsSettledRow map) arc.to (row.metric + arc.metric) row.node
 
 -- the row goes into the map at its node, where no row is as good
 pub record Betters (old : RowMap) (row : PathRow) (new : RowMap) : Type 0 where
@@ -43,7 +43,7 @@ pub record Betters (old : RowMap) (row : PathRow) (new : RowMap) : Type 0 where
 
 -- the row is what the arc offers from a row of the map
 abbrev pub IsOfferBy : RowMap → Arc4 → PathRow → Type 0
-IsOfferBy map arc row = (first : PathRow) × Settled map first × (first.node ≡ arc.from) × (first.node ≡ row.parent) × (arc.to ≡ row.node) × (first.metric + arc.metric ≡ row.metric)
+IsOfferBy map arc row = (first : PathRow) × IsSettledRow map first × (first.node ≡ arc.from) × (first.node ≡ row.parent) × (arc.to ≡ row.node) × (first.metric + arc.metric ≡ row.metric)
 
 -- a row of the node is as good as this
 abbrev pub HasAsGood : RowMap → NetAddr → ℕ → NetAddr → Type 0
@@ -62,15 +62,15 @@ Tries false old arc new = (new ≡ old) × IsMetIn new arc
 abbrev pub IsLedTo : RowMap → List Arc4 → NetAddr → PathRow → Type 0
 IsLedTo map arcs from row =
     IsStart from row.node row.metric row.parent
-    ⊎ ((first : PathRow) × (arc : Arc4) × Settled map first × Contains arcs arc × (arc.from ≡ first.node)
+    ⊎ ((first : PathRow) × (arc : Arc4) × IsSettledRow map first × Contains arcs arc × (arc.from ≡ first.node)
     × (arc.to ≡ row.node) × (first.metric + arc.metric ≤ row.metric) × (first.node ≡ row.parent))
 
 -- each row stands at its node and is led to, the start's is the best, and no metric is large
 pub record IsRounds (map : RowMap) (arcs : List Arc4) (from : NetAddr) : Type 0 where
   pub keyed : IsKeyed map
-  pub start : Settled map (record { node = from; metric = 0; parent = from })
-  pub led : (row : PathRow) → Settled map row → IsLedTo map arcs from row
-  pub small : (row : PathRow) → Settled map row → row.metric + 4294967295 * missing_in map arcs ≤ 4294967295 * length arcs
+  pub start : IsSettledRow map (record { node = from; metric = 0; parent = from })
+  pub led : (row : PathRow) → IsSettledRow map row → IsLedTo map arcs from row
+  pub small : (row : PathRow) → IsSettledRow map row → row.metric + 4294967295 * missing_in map arcs ≤ 4294967295 * length arcs
 
 -- the first arcs of a round are tried: some row got better, or none changed and what they offer is met
 abbrev pub Goes : Bool → RowMap → List Arc4 → ℕ → RowMap → Type 0

@@ -19,7 +19,7 @@ abbrev pub IsSpent : List Arc4 → NetAddr → Type 0
 IsSpent left node = (arc : Arc4) → Contains left arc → arc.from ≢ node
 
 -- an arc of the node is taken out, and nothing else
-pub record Takes (left : List Arc4) (node : NetAddr) (arc : Arc4) (rest : List Arc4) : Type 0 where
+pub record TakesOut (left : List Arc4) (node : NetAddr) (arc : Arc4) (rest : List Arc4) : Type 0 where
   pub has : Contains left arc
   pub leaves : arc.from ≡ node
   pub others : (a : Arc4) → Contains left a → (a ≡ arc) ⊎ Contains rest a
@@ -81,8 +81,8 @@ abbrev pub step_cmp : Step → Step → Ordering
 step_cmp a b = ordering_then (nat_cmp a.metric b.metric) (ordering_then (net_cmp a.node b.node) (net_cmp a.parent b.parent))
 
 -- a settled row is found at its node
-abbrev pub Settled : tree.BTreeMap NetAddr PathRow → PathRow → Type 0
-Settled map row = tree.get net_cmp map row.node ≡ Some row
+abbrev pub IsSettledRow : tree.BTreeMap NetAddr PathRow → PathRow → Type 0
+IsSettledRow map row = tree.get net_cmp map row.node ≡ Some row
 
 -- each row is found at its own node alone
 abbrev pub IsKeyed : tree.BTreeMap NetAddr PathRow → Type 0

@@ -1,5 +1,5 @@
 -- The law of settled routes: in a settled network each router's rows are those of the radio graph, and next hops lead there.
-use Rattle.std.specs.Prelude.{◌≡◌, ℕ, ◌+◌, ◌≤◌, ◌↔◌, List, Contains, length}
+use Rattle.std.specs.Prelude.{◌≡◌, ℕ, ◌+◌, ◌≤◌, ◌↔◌, List, Contains}
 use Rattle.mesh_atoms.specs.declared.addr.Addr4.{Addr4}
 use Rattle.mesh_atoms.specs.declared.addr.NetAddr.{NetAddr}
 use Rattle.mesh_atoms.specs.declared.metric.Metric.{Metric}
@@ -7,10 +7,11 @@ use Rattle.mesh_atoms.specs.declared.graphs.Route.{Route}
 use Rattle.mesh_atoms.specs.declared.settings.Scenario.{Scenario}
 use Rattle.mesh_atoms.specs.Base.{host}
 use Rattle.mesh_atoms.specs.Codes.{metric_value}
-use Rattle.mesh_atoms.specs.Radio.{Joins, Adjacent, Hop, AddressOf, Attaches, RadioLeast, IsSoundScenario}
+use Rattle.mesh_atoms.specs.Radio.{Joins, Hop, Willing, AddressOf, Attaches, RadioLeast, IsSoundScenario}
 use Rattle.mesh_atoms.specs.Settled.{At, AreStates, Settled}
 use Rattle.mesh_atoms.specs.Sound.{Sound}
 use Rattle.mesh_atoms.specs.State.{State, HasAddressOn}
+use Rattle.mesh_atoms.specs.Walk.{LeastWilling}
 
 -- The premises
 
@@ -46,7 +47,7 @@ RowsAreLeast =
 pub data LeadsOn (s : Scenario) (states : List State) (dest : NetAddr) (n near c : ℕ) : Type 0 where
   Arrives : {a : Addr4} → dest ≡ host a → AddressOf s n a → c ≡ near → LeadsOn s states dest n near c
   Goes_on : (q : State) (rest : ℕ) → At states n q → HasRow q dest rest → c ≡ near + rest → LeadsOn s states dest n near c
-  Delivers : (own : ℕ) → Attaches s n dest own → c ≤ near + own → LeadsOn s states dest n near c
+  At_gateway : (own : ℕ) → Attaches s n dest own → c ≤ near + own → LeadsOn s states dest n near c
 
 -- interface i of router x is joined with the interface of router n that has the address, by an arc of that cost
 pub record HopsTo (s : Scenario) (states : List State) (x i n : ℕ) (a : Addr4) (near : ℕ) : Type 0 where
@@ -59,13 +60,14 @@ pub record HopsTo (s : Scenario) (states : List State) (x i n : ℕ) (a : Addr4)
   pub on : HasAddressOn q.settings j a
   pub value : metric_value there ≡ near
 
--- a row's next hop is an adjacent router: its interface and address name joined interfaces whose arc costs exactly the metric to
--- that router, and that router leads on at the row's metric
+-- a row's next hop is an adjacent router, to which no way is cheaper: its interface and address name joined interfaces whose arc
+-- costs exactly the metric to that router, and that router leads on at the row's metric
 abbrev pub NextHopsLead : Type 0
 NextHopsLead =
     (s : Scenario) (states : List State) (now x : ℕ) (p : State) → IsSettledNetwork s states now → At states x p →
     (row : Route) → Contains p.routes row →
-    (n near : ℕ) × Hop s x n near × HopsTo s states x row.iface n row.next near × LeadsOn s states row.dest n near row.metric
+    (n near : ℕ) × Hop s x n near × LeastWilling (Hop s) (Willing s) x n near × HopsTo s states x row.iface n row.next near
+    × LeadsOn s states row.dest n near row.metric
 
 -- Trips
 
@@ -77,7 +79,7 @@ pub data Trip (s : Scenario) (states : List State) (dest : NetAddr) : ℕ → �
       HopsTo s states x row.iface n row.next near → Trip s states dest n c → Trip s states dest x (near + c)
 
 -- a trip from router x ends, at no less than the metric; to a router's address at exactly the metric
-pub record Ends (s : Scenario) (states : List State) (x : ℕ) (dest : NetAddr) (metric : ℕ) : Type 0 where
+pub record TripEnds (s : Scenario) (states : List State) (x : ℕ) (dest : NetAddr) (metric : ℕ) : Type 0 where
   pub total : ℕ
   pub trip : Trip s states dest x total
   pub no_less : metric ≤ total
@@ -87,12 +89,4 @@ pub record Ends (s : Scenario) (states : List State) (x : ℕ) (dest : NetAddr) 
 abbrev pub TripsEnd : Type 0
 TripsEnd =
     (s : Scenario) (states : List State) (now x : ℕ) (p : State) → IsSettledNetwork s states now → At states x p →
-    (row : Route) → Contains p.routes row → Ends s states x row.dest row.metric
-
--- That the premises can be met
-
--- two routers that hear each other are a settled network, in which each has a row of the other
-abbrev pub TwoRoutersSettle : Type 0
-TwoRoutersSettle = (s : Scenario) × (states : List State) × (now : ℕ) × IsSettledNetwork s states now
-    × (length s.routers ≡ 2) × Adjacent s 0 1
-    × ((x : ℕ) (p : State) → At states x p → (y : ℕ) (a : Addr4) → AddressOf s y a → (x ≡ y → ⊥) → (c : ℕ) × HasRow p (host a) c)
+    (row : Route) → Contains p.routes row → TripEnds s states x row.dest row.metric

@@ -5,7 +5,7 @@ ghost use Rattle.mesh_atoms.specs.declared.graphs.Arc4.{Arc4};
 ghost use Rattle.std.specs.BTreeMap.{get, values, IsOrdered};
 ghost use Rattle.mesh_paths.specs.Paths.{HasCosts, IsCertificate};
 ghost use Rattle.mesh_atoms.specs.Nodes.{net_cmp};
-ghost use Rattle.mesh_paths.specs.Search.{Takes, Puts, Offering, IsSpent, IsSmall, IsIndex, IsFound, Settled, IsKeyed, Settles, row_of};
+ghost use Rattle.mesh_paths.specs.Search.{TakesOut, Puts, Offering, IsSpent, IsSmall, IsIndex, IsFound, IsSettledRow, IsKeyed, Settles, row_of};
 
 use crate::certificate::is_from;
 use mesh_atoms::{Addr4, Arc4, Certificate, Graph, NetAddr, PathRow, Seq};
@@ -21,7 +21,7 @@ pub(crate) struct Step {
 }
 
 /// Finds the least walks from that node (RFC 7181, section 19), as the certificate of the graph: a row for each node that
-/// is reached, in ascending order. No arc may be free, and they are fewer than 2^32, so that each metric fits. Takes time
+/// is reached, in ascending order. No arc may be free, and they are fewer than 2^32, so that each metric fits. TakesOut time
 /// near n log n in the number n of arcs. Refuses for want of memory alone.
 pub fn search(alloc: Global, graph: &Graph, from: NetAddr) -> Result<Certificate, AllocError>
     requires costs { HasCosts graph.now }
@@ -53,7 +53,7 @@ fn settle_all(
 ) -> Result<BTreeMap<NetAddr, PathRow>, AllocError>
     requires costs { (arc : Arc4) → Contains left.keys arc → 1 ≤ arc.metric }
     requires few { length left.keys < 2 ^ 32 }
-    ensures found { IfOk result (λ settled. IsFound (Settled settled) left.keys from) }
+    ensures found { IfOk result (λ settled. IsFound (IsSettledRow settled) left.keys from) }
     ensures keyed { IfOk result (λ settled. IsKeyed settled) }
 {
     let mut settled = BTreeMap::new(alloc);
@@ -80,7 +80,7 @@ fn settle_all(
 pub(crate) fn settle(settled: &mut BTreeMap<NetAddr, PathRow>, step: Step) -> Result<(), AllocError>
     requires fresh { get net_cmp settled.old step.node ≡ None }
     requires keyed { IsKeyed settled.old }
-    ensures settled { OnOk result (Settles (Settled settled.old) (row_of step) (Settled settled.new)) }
+    ensures settled { OnOk result (Settles (IsSettledRow settled.old) (row_of step) (IsSettledRow settled.new)) }
     ensures keyed { OnOk result (IsKeyed settled.new) }
 {
     let Step {
@@ -114,7 +114,7 @@ pub(crate) fn rows_in_order(
     Ok(rows)
 }
 
-// Takes out all arcs that leave the node, and puts their steps into the frontier.
+// TakesOut out all arcs that leave the node, and puts their steps into the frontier.
 fn offer_arcs(
     frontier: &mut BTreeSet<Step>,
     left: &mut BTreeSet<Arc4>,
@@ -144,9 +144,9 @@ fn put_step(frontier: &mut BTreeSet<Step>, step: Step) -> Result<(), AllocError>
     Ok(())
 }
 
-// Takes out an arc that leaves the node.
+// TakesOut out an arc that leaves the node.
 fn take_arc(left: &mut BTreeSet<Arc4>, node: NetAddr) -> Option<Arc4>
-    ensures taken { IfSome result (λ arc. Takes left.old.keys node arc left.new.keys) }
+    ensures taken { IfSome result (λ arc. TakesOut left.old.keys node arc left.new.keys) }
     ensures spent { IfNone result (IsSpent left.new.keys node) }
     ensures kept { IfNone result (left.new.keys ≡ left.old.keys) }
 {

@@ -13,7 +13,4 @@ pub use frontier::search;
 pub use mesh_atoms::{Arc4, Certificate, Graph, Pair, PathRow, RadioGraph};
 pub use radio::radio_graph;
 pub use rounds::search_by_rounds;
-pub use settled::{
-    scenarios_are_sound, settled_routes, two_routers_settle, worked_hellos_are_taken,
-    wrong_states_refused,
-};
+pub use settled::{scenarios_are_sound, settled_routes};

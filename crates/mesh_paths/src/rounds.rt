@@ -5,7 +5,7 @@ ghost use Rattle.mesh_atoms.specs.declared.graphs.PathRow.{PathRow};
 ghost use Rattle.mesh_atoms.specs.declared.graphs.Arc4.{Arc4};
 ghost use Rattle.mesh_paths.specs.Paths.{HasCosts, IsCertificate};
 ghost use Rattle.mesh_atoms.specs.Nodes.{net_cmp};
-ghost use Rattle.mesh_paths.specs.Search.{Settled, IsKeyed};
+ghost use Rattle.mesh_paths.specs.Search.{IsSettledRow, IsKeyed};
 ghost use Rattle.mesh_paths.specs.Rounds.{HasAsGood, IsMetIn, Tries, IsRounds, Goes};
 
 use crate::certificate::is_as_good;
@@ -15,7 +15,7 @@ use std::alloc::{AllocError, Global};
 use std::collections::BTreeMap;
 
 /// Finds the same certificate as `search`, under the same conditions, by rounds over all arcs until one changes nothing.
-/// There are at most two rounds more than a least walk has arcs. Takes time in proportion to rounds times arcs. Refuses
+/// There are at most two rounds more than a least walk has arcs. TakesOut time in proportion to rounds times arcs. Refuses
 /// for want of memory alone.
 pub fn search_by_rounds(
     alloc: Global,
@@ -81,7 +81,7 @@ fn go_round(
 // Puts what the arc offers into the map, if no row is as good, and says whether it did.
 fn try_arc(reached: &mut BTreeMap<NetAddr, PathRow>, arc: Arc4) -> Result<bool, AllocError>
     requires keyed { IsKeyed reached.old }
-    requires small { (row : PathRow) → Settled reached.old row → row.metric + 2 ^ 32 ≤ 2 ^ 64 }
+    requires small { (row : PathRow) → IsSettledRow reached.old row → row.metric + 2 ^ 32 ≤ 2 ^ 64 }
     ensures tried { IfOk result (λ changed. Tries changed reached.old arc reached.new) }
 {
     let Some(first) = row_at(reached, arc.from) else {

@@ -5,6 +5,7 @@ use Rattle.mesh_atoms.specs.declared.addr.Addr4.{Addr4}
 use Rattle.mesh_atoms.specs.declared.graphs.Near.{Near}
 use Rattle.mesh_atoms.specs.declared.graphs.Far.{Far}
 use Rattle.mesh_atoms.specs.declared.graphs.NeighbourGraph.{NeighbourGraph}
+use Rattle.mesh_relay.specs.Laws.{KeepsDistances}
 use Rattle.mesh_atoms.specs.Relays.{IsDistance, IsAsCheap, HasSameDistance, IsWilling, IsRelay, Covers, HasDistinctIds}
 
 no_some : (m : ℕ) → None ≡ Some m → ⊥
@@ -55,3 +56,13 @@ pub covering_keeps : (g : NeighbourGraph) (relays : List Addr4) (f : Far) (a b :
     IsDistance g (IsRelay relays) f.addr a → IsDistance g IsWilling f.addr b → a ≡ b
 covering_keeps g relays f a b distinct covers far here there =
     (tells g (IsRelay relays) IsWilling f.addr a b here there).0 (λ c o. covers.as_cheap f c far o, willing_as_cheap g relays f.addr distinct covers)
+
+pub covering_same : (g : NeighbourGraph) (relays : List Addr4) → HasDistinctIds g → Covers g relays ↔ KeepsDistances g relays
+covering_same g relays distinct = (
+  λ covers. record {
+    always = covers.always;
+    willing = covers.willing;
+    same = λ f far. (λ c o. covers.as_cheap f c far o, willing_as_cheap g relays f.addr distinct covers);
+  },
+  λ keeps. record { always = keeps.always; willing = keeps.willing; as_cheap = λ f c far o. (keeps.same f far).0 c o },
+)

@@ -8,7 +8,8 @@ use Rattle.mesh_atoms.specs.declared.addr.Addr4.{Addr4}
 use Rattle.mesh_atoms.specs.declared.graphs.Near.{Near}
 use Rattle.mesh_atoms.specs.declared.graphs.Far.{Far}
 use Rattle.mesh_atoms.specs.declared.graphs.NeighbourGraph.{NeighbourGraph}
-use Rattle.mesh_atoms.specs.Relays.{Offers, IsWilling, IsRelay, IsAsCheap, Covers, IsAscending, HasDistinctIds}
+use Rattle.mesh_atoms.specs.Relays.{Offers, IsWilling, IsRelay, IsAsCheap, Covers, HasDistinctIds}
+use Rattle.mesh_atoms.specs.Words.{IsAscending}
 use Rattle.mesh_relay.specs.declared.ways.Way.{Way}
 use Rattle.mesh_relay.specs.Ways.{AreWilling, IsAt, IsCheapest, AreWays}
 use Rattle.mesh_relay.specs.Taken.{ids_of, IsTaken, reaches}

@@ -60,7 +60,7 @@ is_willing_id g id = list_any (λ n. addr_eq n.id id && not (nat_eq n.will 0)) g
 abbrev pub are_willing : NeighbourGraph → List Addr4 → Bool
 are_willing g relays = list_all (λ id. is_willing_id g id) relays
 
--- by way of both sets the address costs the addr_eq
+-- by way of both sets the address costs the same
 abbrev pub has_same_distance : NeighbourGraph → Among → Among → Addr4 → Bool
 has_same_distance g among other y = is_as_cheap g among other y && is_as_cheap g other among y
 

@@ -1,6 +1,7 @@
 //! The choice of relays (RFC 7181, section 18.6).
 ghost use Rattle.std.specs.Prelude.{◌≡◌, IfOk, length, map, true};
-ghost use Rattle.mesh_atoms.specs.Relays.{Covers, Needed, IsAscending, HasDistinctIds};
+ghost use Rattle.mesh_atoms.specs.Relays.{Covers, Needed, HasDistinctIds};
+ghost use Rattle.mesh_atoms.specs.Words.{IsAscending};
 ghost use Rattle.mesh_relay.specs.Ways.{AreWilling, AreWays};
 ghost use Rattle.mesh_relay.specs.Taken.{ids_of};
 

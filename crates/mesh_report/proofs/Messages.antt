@@ -1,15 +1,14 @@
 -- Messages and their spans, one after the other.
 use Rattle.std.proofs.Common.{◌≡◌, ℕ, ◌+◌, ◌<◌, List, [], ◌∷◌, ◌++◌, length, map, drop, get_or, refl, arith, add-one, drop-cons}
-use Rattle.std.specs.Prelude.{min}
 use Rattle.mesh_packet.specs.Fields.{MessageFields}
 use Rattle.mesh_packet.specs.declared.packet.Span.{Span}
 use Rattle.mesh_report.specs.Packets.{IsMessageText, IsMessagesText}
 
--- where no message or no span is left, nothing is to come
-pub none_left : (messages : List MessageFields) (spans : List Span) → min (length messages) (length spans) ≡ 0 → IsMessagesText messages spans []
-none_left [] spans e = refl
-none_left (m ∷ messages) [] e = refl
-none_left (m ∷ messages) (s ∷ spans) e = absurd (omega (arith, e))
+-- where no message and no span is left, nothing is to come
+pub none_left : (messages : List MessageFields) (spans : List Span) → length messages ≡ 0 → length spans ≡ 0 → IsMessagesText messages spans []
+none_left [] [] e e' = refl
+none_left [] (s ∷ spans) e e' = absurd (omega (arith, e'))
+none_left (m ∷ messages) spans e e' = absurd (omega (arith, e))
 
 -- the text of the next message, and then that of those behind it
 pub next_first : {X : Type 0} (f : X → MessageFields) (messages : List X) (spans : List Span) (i : ℕ) (message : X) (span : Span) (first rest : List ℕ)

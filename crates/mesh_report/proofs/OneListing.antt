@@ -1,5 +1,5 @@
 -- A message reads in one way, and a line has one listing.
-use Rattle.std.proofs.Common.{◌≡◌, ℕ, zero, suc, List, [], ◌∷◌, ◌++◌, Option, Result, Ok, Err, false, inl, inr, sym, ap, ◌∙◌, arith, refl}
+use Rattle.std.proofs.Common.{◌≡◌, ℕ, zero, suc, List, [], ◌∷◌, ◌++◌, length, Option, Result, Ok, Err, Bool, true, false, inl, inr, sym, ap, ◌∙◌, arith, refl}
 use Rattle.mesh_atoms.specs.declared.addr.NetAddr.{NetAddr}
 use Rattle.mesh_atoms.specs.declared.refusal.Refusal.{Refusal}
 use Rattle.mesh_packet.specs.Fields.{MessageFields, PacketFields}
@@ -12,7 +12,8 @@ use Rattle.mesh_wire.specs.TcRules.{BreaksTc}
 use Rattle.mesh_wire.proofs.OneHello.{one_hello}
 use Rattle.mesh_wire.proofs.OneTc.{one_tc}
 use Rattle.mesh_wire.proofs.Single.{one_broken}
-use Rattle.mesh_report.specs.Packets.{message_text, IsMessagesText, IsListed, IsLineText}
+use Rattle.mesh_packet.proofs.OneForm.{form_once}
+use Rattle.mesh_report.specs.Packets.{message_text, IsMessagesText, IsListed, recode_line, IsRecodeLine, IsRecode, IsLineText}
 use Rattle.mesh_report.specs.Readings.{hello_line, tc_line, broken_line, Reads, IsReading}
 
 -- two texts that are each of two parts, and the parts are the same
@@ -35,14 +36,26 @@ one_way message a b h k = by message.kind refl where
   by (suc (suc n)) e = h.other (λ z. omega (arith, z, e)) (λ z. omega (arith, z, e)) ∙ sym (k.other (λ z. omega (arith, z, e)) (λ z. omega (arith, z, e)))
 
 one_messages : (messages : List MessageFields) (spans : List Span) (a b : List ℕ) → IsMessagesText messages spans a → IsMessagesText messages spans b → a ≡ b
-one_messages [] spans a b e e' = e ∙ sym e'
-one_messages (m ∷ messages) [] a b e e' = e ∙ sym e'
+one_messages [] [] a b e e' = e ∙ sym e'
+one_messages [] (s ∷ spans) a b e e' = absurd e
+one_messages (m ∷ messages) [] a b e e' = absurd e
 one_messages (m ∷ messages) (s ∷ spans) a b (x, y, (r, reads, is), more, e) (x', y', (r', reads', is'), more', e') =
     same_both e e' (is ∙ ap (λ (l : List ℕ). message_text s.len m ++ l) (one_way m r r' reads reads') ∙ sym is') (one_messages messages spans y y' more more')
 
 one_packet : (number : ℕ) (packet : PacketFields) (spans : List Span) (a b : List ℕ) → IsListed number packet spans a → IsListed number packet spans b → a ≡ b
 one_packet number packet spans a b (x, is, e) (x', is', e') = same_both e e' refl (one_messages packet.messages spans x x' is is')
 
-pub one_listing : (number : ℕ) (read : Result (PacketFields × List Span) Refusal) (a b : List ℕ) → IsLineText false number read a → IsLineText false number read b → a ≡ b
-one_listing number (Ok read) a b (x, y, is, none, e) (x', y', is', none', e') = same_both e e' (one_packet number read.0 read.1 x x' is is') (none ∙ sym none')
-one_listing number (Err refusal) a b e e' = e ∙ sym e'
+-- a packet has one least form, which is too long or isn't
+one_recode_line : (packet : PacketFields) (a b : List ℕ) → IsRecodeLine packet a → IsRecodeLine packet b → a ≡ b
+one_recode_line packet a b (inl (x, least, fits, e)) (inl (y, least', fits', e')) = e ∙ ap recode_line (form_once packet x y least least') ∙ sym e'
+one_recode_line packet a b (inl (x, least, fits, e)) (inr ((y, least', long), e')) = absurd (omega (arith, fits, long, ap length (form_once packet x y least least')))
+one_recode_line packet a b (inr ((x, least, long), e)) (inl (y, least', fits, e')) = absurd (omega (arith, fits, long, ap length (form_once packet x y least least')))
+one_recode_line packet a b (inr (long, e)) (inr (long', e')) = e ∙ sym e'
+
+one_recode : (recode : Bool) (packet : PacketFields) (a b : List ℕ) → IsRecode recode packet a → IsRecode recode packet b → a ≡ b
+one_recode false packet a b h k = h ∙ sym k
+one_recode true packet a b h k = one_recode_line packet a b h k
+
+pub one_listing : (recode : Bool) (number : ℕ) (read : Result (PacketFields × List Span) Refusal) (a b : List ℕ) → IsLineText recode number read a → IsLineText recode number read b → a ≡ b
+one_listing recode number (Ok read) a b (x, y, is, last, e) (x', y', is', last', e') = same_both e e' (one_packet number read.0 read.1 x x' is is') (one_recode recode read.0 y y' last last')
+one_listing recode number (Err refusal) a b e e' = e ∙ sym e'

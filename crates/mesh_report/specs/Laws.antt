@@ -1,5 +1,5 @@
 -- That the definitions of a listing leave no choice.
-use Rattle.std.specs.Prelude.{◌≡◌, ℕ, List, Result, false}
+use Rattle.std.specs.Prelude.{◌≡◌, ℕ, List, Result, Bool}
 use Rattle.mesh_atoms.specs.declared.refusal.Refusal.{Refusal}
 use Rattle.mesh_packet.specs.Fields.{MessageFields, PacketFields}
 use Rattle.mesh_packet.specs.declared.packet.Span.{Span}
@@ -10,6 +10,7 @@ use Rattle.mesh_report.specs.Readings.{IsReading}
 abbrev pub ReadsInOneWay : Type 0
 ReadsInOneWay = (message : MessageFields) (a b : List ℕ) → IsReading message a → IsReading message b → a ≡ b
 
--- a line has one listing, where its packet isn't written again
+-- a line has one listing, with its packet written again or without
 abbrev pub HasOneListing : Type 0
-HasOneListing = (number : ℕ) (read : Result (PacketFields × List Span) Refusal) (a b : List ℕ) → IsLineText false number read a → IsLineText false number read b → a ≡ b
+HasOneListing = (recode : Bool) (number : ℕ) (read : Result (PacketFields × List Span) Refusal) (a b : List ℕ) → IsLineText recode number read a
+    → IsLineText recode number read b → a ≡ b

@@ -19,8 +19,10 @@ tlv_line tlv = numbered (codes "  tlv ") tlv.kind ++ numbered (codes " extension
 -- a message that takes so many octets of its frame
 unfoldable pub message_line : ℕ → MessageFields → List ℕ
 message_line size message =
-    (numbered (codes " message type ") message.kind ++ numbered (codes " width ") message.width ++ numbered (codes " size ") size ++ addressed_or_none (codes " originator ") message.width message.originator)
-    ++ (numbered_or_none (codes " limit ") message.limit ++ numbered_or_none (codes " count ") message.count ++ numbered_or_none (codes " sequence ") message.sequence)
+    (numbered (codes " message type ") message.kind ++ numbered (codes " width ") message.width ++ numbered (codes " size ") size
+    ++ addressed_or_none (codes " originator ") message.width message.originator)
+    ++ (numbered_or_none (codes " limit ") message.limit ++ numbered_or_none (codes " count ") message.count
+    ++ numbered_or_none (codes " sequence ") message.sequence)
     ++ (numbered (codes " tlvs ") (length message.tlvs) ++ numbered (codes " blocks ") (length message.blocks) ++ codes "\n")
 
 -- an address block

@@ -25,10 +25,11 @@ IsMessageText size message text = (reading : List ℕ) × IsReading message read
 
 -- messages, each by the span in which it stands
 abbrev pub IsMessagesText : List MessageFields → List Span → List ℕ → Type 0
+IsMessagesText [] [] text = text ≡ []
 IsMessagesText (message ∷ messages) (span ∷ spans) text =
     (first : List ℕ) × (rest : List ℕ) × IsMessageText span.len message first × IsMessagesText messages spans rest × (text ≡ first ++ rest)
-IsMessagesText [] spans text = text ≡ []
-IsMessagesText (message ∷ messages) [] text = text ≡ []
+IsMessagesText [] (span ∷ spans) text = ⊥
+IsMessagesText (message ∷ messages) [] text = ⊥
 
 -- a packet with its TLVs and its messages
 abbrev pub IsListed : ℕ → PacketFields → List Span → List ℕ → Type 0
@@ -51,10 +52,10 @@ abbrev pub IsRecodeLine : PacketFields → List ℕ → Type 0
 IsRecodeLine packet line =
     ((octets : List ℕ) × LeastForm packet octets × (length octets ≤ 65507) × (line ≡ recode_line octets)) ⊎ (IsTooLong packet × (line ≡ codes " recode none\n"))
 
--- a packet that was read can be written again
-abbrev pub CanRecode : Result (PacketFields × List Span) Refusal → Type 0
-CanRecode (Ok read) = IsEncodable read.0
-CanRecode (Err refusal) = Unit {0}
+-- what can be listed: a packet that has a place for each message and can be written again, or a refusal
+abbrev pub CanList : Result (PacketFields × List Span) Refusal → Type 0
+CanList (Ok read) = (length read.0.messages ≡ length read.1) × IsEncodable read.0
+CanList (Err refusal) = Unit {0}
 
 -- what stands behind a packet: its least form where that is asked for
 abbrev pub IsRecode : Bool → PacketFields → List ℕ → Type 0

@@ -1,7 +1,7 @@
 //! Laws of the definitions.
 ghost use Rattle.mesh_report.specs.Laws.{ReadsInOneWay, HasOneListing};
 
-/// A message reads in one way, and a line has one listing where its packet isn't written again.
+/// A message reads in one way, and a line has one listing.
 pub fn one_listing()
     ensures reading { ReadsInOneWay }
     ensures listing { HasOneListing }

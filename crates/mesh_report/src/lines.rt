@@ -8,8 +8,8 @@ ghost use Rattle.mesh_report.specs.Pieces.{numbered, numbered_or_none, addressed
 ghost use Rattle.mesh_report.specs.Lines.{packet_line, tlv_line, message_line, block_line, address_line, addr_tlv_line, refused_line};
 
 use crate::pieces::{
-    put, put_address, put_address_or_none, put_choice, put_name, put_numbered, put_octet,
-    put_octet_or_none, put_short_or_none, put_value,
+    put, put_address, put_address_or_none, put_choice, put_name, put_number_or_none, put_numbered,
+    put_value, wide_octet, wide_short,
 };
 use mesh_addr::RawAddr;
 use mesh_atoms::{Bytes, Refusal};
@@ -24,7 +24,7 @@ pub fn put_packet_line(out: &mut Bytes, number: u64, packet: &Packet) -> Result<
     ensures kept { Grows out.old out.new }
 {
     put_numbered(out, b"line ", number)?;
-    put_short_or_none(out, b" packet sequence ", packet.sequence)?;
+    put_number_or_none(out, b" packet sequence ", wide_short(packet.sequence))?;
     put_counts(
         out,
         b" tlvs ",
@@ -49,8 +49,8 @@ pub fn put_tlv_line(out: &mut Bytes, tlv: Tlv) -> Result<(), AllocError>
     ensures ok { OnOk result (out.new ≡ out.old ++ tlv_line (fields tlv.entry)) }
     ensures kept { Grows out.old out.new }
 {
-    put_octet(out, b"  tlv ", tlv.kind)?;
-    put_octet(out, b" extension ", tlv.ext)?;
+    put_numbered(out, b"  tlv ", u64::from(tlv.kind))?;
+    put_numbered(out, b" extension ", u64::from(tlv.ext))?;
     put_value_end(out, tlv.value)
 }
 
@@ -59,8 +59,8 @@ fn put_opening(out: &mut Bytes, size: usize, message: &Message) -> Result<(), Al
     ensures ok { OnOk result (out.new ≡ out.old ++ (numbered (codes " message type ") message.now.kind ++ numbered (codes " width ") message.now.width ++ numbered (codes " size ") size ++ addressed_or_none (codes " originator ") message.now.width message.now.originator)) }
     ensures kept { Grows out.old out.new }
 {
-    put_octet(out, b" message type ", message.kind)?;
-    put_octet(out, b" width ", message.width)?;
+    put_numbered(out, b" message type ", u64::from(message.kind))?;
+    put_numbered(out, b" width ", u64::from(message.width))?;
     put_numbered(out, b" size ", size as u64)?;
     put_address_or_none(out, b" originator ", message.width, message.originator)
 }
@@ -70,9 +70,9 @@ fn put_numbers(out: &mut Bytes, message: &Message) -> Result<(), AllocError>
     ensures ok { OnOk result (out.new ≡ out.old ++ (numbered_or_none (codes " limit ") message.now.limit ++ numbered_or_none (codes " count ") message.now.count ++ numbered_or_none (codes " sequence ") message.now.sequence)) }
     ensures kept { Grows out.old out.new }
 {
-    put_octet_or_none(out, b" limit ", message.limit)?;
-    put_octet_or_none(out, b" count ", message.count)?;
-    put_short_or_none(out, b" sequence ", message.sequence)
+    put_number_or_none(out, b" limit ", wide_octet(message.limit))?;
+    put_number_or_none(out, b" count ", wide_octet(message.count))?;
+    put_number_or_none(out, b" sequence ", wide_short(message.sequence))
 }
 
 // Puts two counts, and ends the line.
@@ -130,7 +130,7 @@ pub fn put_address_line(out: &mut Bytes, width: u8, addr: RawAddr) -> Result<(),
     ensures kept { Grows out.old out.new }
 {
     put_address(out, b"   address ", width, addr)?;
-    put_octet(out, b"/", addr.prefix)?;
+    put_numbered(out, b"/", u64::from(addr.prefix))?;
     put(out, b"\n")
 }
 
@@ -139,8 +139,8 @@ fn put_cover(out: &mut Bytes, first: u8, last: u8, multi: bool) -> Result<(), Al
     ensures ok { OnOk result (out.new ≡ out.old ++ (numbered (codes " first ") first ++ numbered (codes " last ") last ++ chosen (codes " multi ") multi)) }
     ensures kept { Grows out.old out.new }
 {
-    put_octet(out, b" first ", first)?;
-    put_octet(out, b" last ", last)?;
+    put_numbered(out, b" first ", u64::from(first))?;
+    put_numbered(out, b" last ", u64::from(last))?;
     put_choice(out, b" multi ", multi)
 }
 
@@ -150,8 +150,8 @@ pub fn put_addr_tlv_line(out: &mut Bytes, tlv: AddrTlv) -> Result<(), AllocError
     ensures ok { OnOk result (out.new ≡ out.old ++ addr_tlv_line (addr_fields tlv.entry)) }
     ensures kept { Grows out.old out.new }
 {
-    put_octet(out, b"   tlv ", tlv.kind)?;
-    put_octet(out, b" extension ", tlv.ext)?;
+    put_numbered(out, b"   tlv ", u64::from(tlv.kind))?;
+    put_numbered(out, b" extension ", u64::from(tlv.ext))?;
     put_cover(out, tlv.first, tlv.last, tlv.multi)?;
     put_value_end(out, tlv.value)
 }
@@ -161,7 +161,7 @@ pub fn put_rule(out: &mut Bytes, label: &[u8], reason: u8) -> Result<(), AllocEr
     ensures ok { OnOk result (out.new ≡ out.old ++ (numbered label.now reason ++ named (codes " ") reason ++ codes "\n")) }
     ensures kept { Grows out.old out.new }
 {
-    put_octet(out, label, reason)?;
+    put_numbered(out, label, u64::from(reason))?;
     put_name(out, b" ", reason)?;
     put(out, b"\n")
 }

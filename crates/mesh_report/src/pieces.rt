@@ -35,26 +35,6 @@ pub fn put_numbered(out: &mut Bytes, label: &[u8], number: u64) -> Result<(), Al
     put_number(out, number)
 }
 
-/// Puts a label, and a number of 8 bits in decimal digits.
-#[tactic(auto, unfolding(crate::specs::Pieces::numbered))]
-pub fn put_octet(out: &mut Bytes, label: &[u8], number: u8) -> Result<(), AllocError>
-    ensures ok { OnOk result (out.new ≡ out.old ++ numbered label.now number) }
-    ensures kept { Grows out.old out.new }
-{
-    put(out, label)?;
-    put_number(out, u64::from(number))
-}
-
-/// Puts a label, and a number of 16 bits in decimal digits.
-#[tactic(auto, unfolding(crate::specs::Pieces::numbered))]
-pub fn put_short(out: &mut Bytes, label: &[u8], number: u16) -> Result<(), AllocError>
-    ensures ok { OnOk result (out.new ≡ out.old ++ numbered label.now number) }
-    ensures kept { Grows out.old out.new }
-{
-    put(out, label)?;
-    put_number(out, u64::from(number))
-}
-
 /// Puts a label, and a number that may be absent.
 #[tactic(auto, unfolding(crate::specs::Pieces::numbered_or_none))]
 pub fn put_number_or_none(
@@ -72,34 +52,18 @@ pub fn put_number_or_none(
     }
 }
 
-/// Puts a label, and a number of 16 bits that may be absent.
-pub fn put_short_or_none(
-    out: &mut Bytes,
-    label: &[u8],
-    number: Option<u16>,
-) -> Result<(), AllocError>
-    ensures ok { OnOk result (out.new ≡ out.old ++ numbered_or_none label.now number) }
-    ensures kept { Grows out.old out.new }
+/// A number of 8 bits that may be absent, as one of 64.
+pub fn wide_octet(number: Option<u8>) -> Option<u64>
+    ensures { result ≡ number }
 {
-    match number {
-        Some(number) => put_number_or_none(out, label, Some(u64::from(number))),
-        None => put_number_or_none(out, label, None),
-    }
+    number.map(u64::from)
 }
 
-/// Puts a label, and a number of 8 bits that may be absent.
-pub fn put_octet_or_none(
-    out: &mut Bytes,
-    label: &[u8],
-    number: Option<u8>,
-) -> Result<(), AllocError>
-    ensures ok { OnOk result (out.new ≡ out.old ++ numbered_or_none label.now number) }
-    ensures kept { Grows out.old out.new }
+/// A number of 16 bits that may be absent, as one of 64.
+pub fn wide_short(number: Option<u16>) -> Option<u64>
+    ensures { result ≡ number }
 {
-    match number {
-        Some(number) => put_number_or_none(out, label, Some(u64::from(number))),
-        None => put_number_or_none(out, label, None),
-    }
+    number.map(u64::from)
 }
 
 /// Puts up to 64 octets in lower-case hexadecimal digits.
@@ -110,6 +74,7 @@ fn put_piece(out: &mut Bytes, octets: &[u8]) -> Result<(), AllocError>
 {
     let mut text = [0; 128];
     let text = &mut text[..2 * octets.len()];
+    // It can't fail: the text has two digits for each octet.
     let _ = hex::encode_to_slice(octets, text);
     put(out, text)
 }

@@ -11,9 +11,7 @@ ghost use Rattle.mesh_report.specs.Pieces.{numbered, numbered_or_none, addressed
 ghost use Rattle.mesh_report.specs.Readings.{hello_line, tc_line, broken_line, Reads, IsReading};
 
 use crate::lines::put_rule;
-use crate::pieces::{
-    put, put_choice, put_number_or_none, put_numbered, put_octet, put_router, put_short,
-};
+use crate::pieces::{put, put_choice, put_number_or_none, put_numbered, put_router};
 use mesh_atoms::{Bytes, Hello, Tc, Willing};
 use mesh_packet::Message;
 use mesh_wire::{WireFault, hello_of, tc_of};
@@ -38,8 +36,8 @@ fn put_willing(out: &mut Bytes, willing: Willing) -> Result<(), AllocError>
     ensures ok { OnOk result (out.new ≡ out.old ++ (numbered (codes " flooding ") willing.flooding ++ numbered (codes " routing ") willing.routing)) }
     ensures kept { Grows out.old out.new }
 {
-    put_octet(out, b" flooding ", willing.flooding)?;
-    put_octet(out, b" routing ", willing.routing)
+    put_numbered(out, b" flooding ", u64::from(willing.flooding))?;
+    put_numbered(out, b" routing ", u64::from(willing.routing))
 }
 
 // Puts the number of rows, and ends the line.
@@ -72,8 +70,8 @@ fn put_content(out: &mut Bytes, tc: &Tc) -> Result<(), AllocError>
     ensures kept { Grows out.old out.new }
 {
     put_router(out, b" reading tc originator ", tc.originator)?;
-    put_short(out, b" sequence ", tc.sequence)?;
-    put_short(out, b" ansn ", tc.ansn)?;
+    put_numbered(out, b" sequence ", u64::from(tc.sequence))?;
+    put_numbered(out, b" ansn ", u64::from(tc.ansn))?;
     put_choice(out, b" complete ", tc.complete)
 }
 

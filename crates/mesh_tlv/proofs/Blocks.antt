@@ -1,43 +1,43 @@
 -- Blocks, which are a length of 16 bits and items that fill it: read, spelled and refused as their items are.
-use Rattle.std.proofs.Common.{◌≡◌, ℕ, ◌+◌, ◌-◌, ◌≤◌, ltb, List, [], ◌++◌, length, take, drop, Ok, Err, refl, sym, ap, subst, ◌∙◌, arith, append_assoc}
+use Rattle.std.proofs.Common.{◌≡◌, ℕ, ◌+◌, ◌-◌, ◌≤◌, ltb, List, ◌++◌, length, Ok, Err, refl, sym, ap, subst, ◌∙◌, arith, append_assoc}
 use Rattle.std.specs.Prelude.{MatchResult, slice_range}
 use Rattle.std.proofs.lemmas.Bool.{ltb-false, ltb-true, le-ltb, lt-ltb}
-use Rattle.std.proofs.lemmas.List.{length-append, append-nil, take_all, drop_at}
+use Rattle.std.proofs.lemmas.List.{length-append}
 use Rattle.mesh_atoms.specs.declared.refusal.Refusal.{Refusal}
 use Rattle.mesh_atoms.specs.Grammar.{SpellsShort}
 use Rattle.mesh_atoms.specs.Reading.{Reading, refuse, short_at}
 use Rattle.mesh_atoms.proofs.Reading.{meets_bind, meets_if, Takes, takes_both, takes_range, range_length, text_is, short_takes, short_again, short_cut, two_long}
 use Rattle.mesh_tlv.specs.Items.{SpellsItems, ItemsFault, FirstFault, items_at}
 use Rattle.mesh_tlv.specs.Reading.{range_at, block_at}
-use Rattle.mesh_tlv.specs.Grammar.{SpellsBlock, BlockFault, block_cut, block_long, in_block}
+use Rattle.mesh_tlv.specs.Grammar.{SpellsTlvs, TlvsFault, block_cut, block_long, in_block}
 use Rattle.mesh_tlv.proofs.Items.{IsReader, ItemsTook, items_take, items_again, items_fault, meets_weaker}
 
 -- a block that was read stands between the places
 abbrev pub BlockTook : {A : Type 0} → List ℕ → ℕ → ℕ → (A → List ℕ → Type 0) → List A × ℕ → Type 0
-BlockTook s at end Spells x = (at ≤ x.1) × (x.1 ≤ end) × SpellsBlock Spells x.0 (slice_range s at x.1)
+BlockTook s at end Spells x = (at ≤ x.1) × (x.1 ≤ end) × SpellsTlvs Spells x.0 (slice_range s at x.1)
 
 module _ {A : Type 0} (one : List ℕ → ℕ → ℕ → Reading A) (Spells : A → List ℕ → Type 0) (Fault : List ℕ → ℕ → ℕ → Type 0) (reader : IsReader one Spells Fault) where
   -- ---- what is read is spelled so, and what is refused has its first fault there
 
-  range_takes : (s : List ℕ) (at end : ℕ) → at ≤ end → end ≤ length s → MatchResult (range_at s at end) (λ x. (len : List ℕ) × SpellsShort (x.1 - x.0) len × Takes s at len x.0 end × (x.0 ≤ x.1) × (x.1 ≤ end)) (FirstFault (BlockFault Spells Fault) s at end)
+  range_takes : (s : List ℕ) (at end : ℕ) → at ≤ end → end ≤ length s → MatchResult (range_at s at end) (λ x. (len : List ℕ) × SpellsShort (x.1 - x.0) len × Takes s at len x.0 end × (x.0 ≤ x.1) × (x.1 ≤ end)) (FirstFault (TlvsFault Spells Fault) s at end)
   unfolding range_at
   range_takes s at end le fits =
       let P = λ (x : ℕ × ℕ). (len : List ℕ) × SpellsShort (x.1 - x.0) len × Takes s at len x.0 end × (x.0 ≤ x.1) × (x.1 ≤ end) in
-      let Q = FirstFault (BlockFault Spells Fault) s at end in
+      let Q = FirstFault (TlvsFault Spells Fault) s at end in
       let here : at ≡ at + 0 = omega arith in
       meets_bind (short_at 1 s at end) _ _ P _ Q (short_takes 1 s at end fits)
-      (λ e h. (0, ap (λ (r : Refusal). r.place) h.0 ∙ here, subst (λ (n : ℕ). BlockFault Spells Fault (slice_range s at end) 0 n) (sym (ap (λ (r : Refusal). r.reason) h.0)) (block_cut h.1)))
+      (λ e h. (0, ap (λ (r : Refusal). r.place) h.0 ∙ here, subst (λ (n : ℕ). TlvsFault Spells Fault (slice_range s at end) 0 n) (sym (ap (λ (r : Refusal). r.reason) h.0)) (block_cut h.1)))
       (λ x t. meets_if (ltb (end - x.1) x.0) _ _ P Q
       (λ p. (0, here, block_long x.0 t.0 (slice_range s x.1 end) t.1 t.2.parts (omega (arith, ltb-true _ _ p, range_length s x.1 end fits))))
       (λ p.
       let n : x.0 ≡ x.1 + x.0 - x.1 = omega arith in
       (t.0, subst (λ (k : ℕ). SpellsShort k t.0) n t.1, t.2, omega arith, omega (arith, ltb-false _ _ p, t.2.within))))
 
-  pub block_takes : (s : List ℕ) (at end : ℕ) → at ≤ end → end ≤ length s → MatchResult (block_at one s at end) (BlockTook s at end Spells) (FirstFault (BlockFault Spells Fault) s at end)
+  pub block_takes : (s : List ℕ) (at end : ℕ) → at ≤ end → end ≤ length s → MatchResult (block_at one s at end) (BlockTook s at end Spells) (FirstFault (TlvsFault Spells Fault) s at end)
   unfolding block_at
   block_takes s at end le fits =
       let P = BlockTook s at end Spells in
-      let Q = FirstFault (BlockFault Spells Fault) s at end in
+      let Q = FirstFault (TlvsFault Spells Fault) s at end in
       meets_bind (range_at s at end) _ _ P Q Q (range_takes s at end le fits) (λ e h. h)
       (λ range t.
       let start : ℕ = range.0 in
@@ -82,7 +82,7 @@ module _ {A : Type 0} (one : List ℕ → ℕ → ℕ → Reading A) (Spells : A
       let inside = text_is s (at + 2) end text rest (omega (arith, behind.0, two)) fits after in
       (inside.0, inside.1)
 
-  pub block_again : (s : List ℕ) (at end : ℕ) (xs : List A) (bytes rest : List ℕ) → at ≤ end → end ≤ length s → SpellsBlock Spells xs bytes → slice_range s at end ≡ bytes ++ rest → block_at one s at end ≡ Ok (xs, at + length bytes)
+  pub block_again : (s : List ℕ) (at end : ℕ) (xs : List A) (bytes rest : List ℕ) → at ≤ end → end ≤ length s → SpellsTlvs Spells xs bytes → slice_range s at end ≡ bytes ++ rest → block_at one s at end ≡ Ok (xs, at + length bytes)
   unfolding block_at
   block_again s at end xs bytes rest le fits h e =
       let n : ℕ = length h.1 in
@@ -97,17 +97,9 @@ module _ {A : Type 0} (one : List ℕ → ℕ → ℕ → Reading A) (Spells : A
       ) refl
 
   -- a block that was put behind other octets
-  pub read_back : (old new : List ℕ) (xs : List A) (bytes : List ℕ) → SpellsBlock Spells xs bytes → new ≡ old ++ bytes → block_at one new (length old) (length new) ≡ Ok (xs, length new)
-  read_back old new xs bytes h e =
-      let size : length new ≡ length old + length bytes = ap length e ∙ length-append old bytes in
-      let behind : drop (length old) new ≡ bytes = ap (λ (l : List ℕ). drop (length old) l) e ∙ drop_at old bytes (length old) refl in
-      let there : slice_range new (length old) (length new) ≡ bytes ++ [] = ap (λ (l : List ℕ). take (length new - length old) l) behind ∙ take_all (length new - length old) bytes (omega arith) ∙ sym (append-nil bytes) in
-      block_again new (length old) (length new) xs bytes [] (omega arith) (omega arith) h there
-      ∙ ap (λ (n : ℕ). Ok (xs, n)) (sym size)
-
   -- ---- a first fault is the one that is answered
 
-  block_fault : (s : List ℕ) (at end distance reason : ℕ) → at ≤ end → end ≤ length s → BlockFault Spells Fault (slice_range s at end) distance reason → block_at one s at end ≡ refuse (at + distance) reason
+  block_fault : (s : List ℕ) (at end distance reason : ℕ) → at ≤ end → end ≤ length s → TlvsFault Spells Fault (slice_range s at end) distance reason → block_at one s at end ≡ refuse (at + distance) reason
   unfolding block_at range_at
   block_fault s at end distance reason le fits (block_cut cut) = let here : at ≡ at + 0 = omega arith in rw (short_cut 1 s at end fits cut) (ap (λ (k : ℕ). refuse {A = List A × ℕ} k 1) here)
   block_fault s at end distance reason le fits (block_long n len rest h e lt) =
@@ -124,7 +116,7 @@ module _ {A : Type 0} (one : List ℕ → ℕ → ℕ → Reading A) (Spells : A
         sum,
       ) refl
 
-  pub block_refuses : (s : List ℕ) (at end : ℕ) (refusal : Refusal) → at ≤ end → end ≤ length s → FirstFault (BlockFault Spells Fault) s at end refusal → block_at one s at end ≡ Err refusal
+  pub block_refuses : (s : List ℕ) (at end : ℕ) (refusal : Refusal) → at ≤ end → end ≤ length s → FirstFault (TlvsFault Spells Fault) s at end refusal → block_at one s at end ≡ Err refusal
   block_refuses s at end refusal le fits h =
       block_fault s at end h.0 refusal.reason le fits h.2
       ∙ ap (λ (place : ℕ). refuse {A = List A × ℕ} place refusal.reason) (sym h.1)

@@ -5,7 +5,7 @@ use Rattle.std.proofs.lemmas.Bool.{lt-ltb}
 use Rattle.std.proofs.lemmas.List.{length-append}
 use Rattle.std.proofs.lemmas.List.Folds.{length-flat_map-take, flat_map-map}
 use Rattle.mesh_tlv.specs.Fields.{TlvFields, AddrTlvFields, indexed}
-use Rattle.mesh_tlv.specs.Least.{length_within, least_length, least_value, least_head, least_addr_tlv, least_tlv, IsLong, HasLongValue, IsTooLong}
+use Rattle.mesh_tlv.specs.Least.{length_within, least_length, least_value, least_head, least_addr_tlv, least_tlv, IsLong, HasLongValue, AreTooLong}
 
 module _ {A B : Type 0} (view : A → B) (least : B → List ℕ) (xs : List A) (i : ℕ) (d : A) where
   item_fits : i < length xs → length (flat_map least (map view (take i xs))) + length (least (view (get_or xs i d))) ≤ length (flat_map least (map view xs))
@@ -29,7 +29,7 @@ addr_tlv_longer count tlv h = omega (arith, value_longer tlv.value h, length-app
 pub tlv_longer : (tlv : TlvFields) → HasLongValue tlv.value → IsLong (least_tlv tlv)
 tlv_longer tlv h = addr_tlv_longer 1 (indexed tlv) h
 
-pub block_longer : {A : Type 0} (least : A → List ℕ) (value : A → Option (List ℕ)) → ((tlv : A) → HasLongValue (value tlv) → IsLong (least tlv)) → (tlvs : List A) → IsTooLong least value tlvs → IsLong (flat_map least tlvs)
+pub block_longer : {A : Type 0} (least : A → List ℕ) (value : A → Option (List ℕ)) → ((tlv : A) → HasLongValue (value tlv) → IsLong (least tlv)) → (tlvs : List A) → AreTooLong least value tlvs → IsLong (flat_map least tlvs)
 block_longer least value longer tlvs (inl long) = long
 block_longer least value longer tlvs (inr any) =
     omega (arith, length-flat_map-take least tlvs any.0 any.1 any.2, ap (λ tlv. length (least tlv)) any.3, longer any.1 any.4)

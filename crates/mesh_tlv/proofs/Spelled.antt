@@ -10,7 +10,7 @@ use Rattle.mesh_atoms.specs.Grammar.{SpellsShort}
 use Rattle.mesh_atoms.specs.Reading.{has}
 use Rattle.mesh_tlv.specs.Fields.{TlvFields, AddrTlvFields, indexed}
 use Rattle.mesh_tlv.specs.Items.{SpellsItems}
-use Rattle.mesh_tlv.specs.Grammar.{SpellsExtension, SpellsIndex, SpellsLength, SpellsValue, HasEqualParts, SpellsTlvOf, SpellsTlv, SpellsAddrTlv, SpellsBlock, SpellsTlvBlock, SpellsAddrTlvBlock}
+use Rattle.mesh_tlv.specs.Grammar.{SpellsExtension, SpellsIndex, SpellsLength, SpellsValue, HasEqualParts, SpellsTlvOf, SpellsTlv, SpellsAddrTlv, SpellsTlvs, SpellsTlvBlock, SpellsAddrTlvBlock}
 use Rattle.mesh_tlv.specs.Least.{IsFit, flag, octet_if, is_single, is_several, has_value, is_wide, least_flags, least_index, least_head, least_short, least_length, least_value, least_addr_tlv, least_tlv, least_block}
 
 -- ---- each flag is told from the sum of the flags, by trying all sums
@@ -142,7 +142,7 @@ pub items_spelled : {A : Type 0} (Spells : A → List ℕ → Type 0) (least : A
 items_spelled Spells least [] h = refl
 items_spelled Spells least (x ∷ xs) h = (least x, flat_map least xs, All-head (λ y. Spells y (least y)) x xs h, items_spelled Spells least xs (All-tail (λ y. Spells y (least y)) x xs h), flat_map-cons least x xs)
 
-pub block_spelled : {A : Type 0} (Spells : A → List ℕ → Type 0) (least : A → List ℕ) (xs : List A) → All (λ x. Spells x (least x)) xs → SpellsBlock Spells xs (least_block least xs)
+pub block_spelled : {A : Type 0} (Spells : A → List ℕ → Type 0) (least : A → List ℕ) (xs : List A) → All (λ x. Spells x (least x)) xs → SpellsTlvs Spells xs (least_block least xs)
 block_spelled Spells least xs h = (least_short (length (flat_map least xs)), flat_map least xs, short_spelled (length (flat_map least xs)), items_spelled Spells least xs h, refl)
 
 pub tlv_block_spelled : (tlvs : List TlvFields) → SpellsTlvBlock tlvs (least_block least_tlv tlvs)

@@ -69,16 +69,16 @@ abbrev pub SpellsTlv : TlvFields → List ℕ → Type 0
 SpellsTlv tlv bytes = SpellsTlvOf 100 1 (indexed tlv) bytes
 
 -- a length of 16 bits, and items that fill exactly so many octets
-abbrev pub SpellsBlock : {A : Type 0} → (A → List ℕ → Type 0) → List A → List ℕ → Type 0
-SpellsBlock Spells xs bytes = (len : List ℕ) × (text : List ℕ) × SpellsShort (length text) len × SpellsItems Spells xs text × (bytes ≡ len ++ text)
+abbrev pub SpellsTlvs : {A : Type 0} → (A → List ℕ → Type 0) → List A → List ℕ → Type 0
+SpellsTlvs Spells xs bytes = (len : List ℕ) × (text : List ℕ) × SpellsShort (length text) len × SpellsItems Spells xs text × (bytes ≡ len ++ text)
 
 -- a block of packet or message TLVs
 abbrev pub SpellsTlvBlock : List TlvFields → List ℕ → Type 0
-SpellsTlvBlock = SpellsBlock SpellsTlv
+SpellsTlvBlock = SpellsTlvs SpellsTlv
 
 -- a block of address TLVs, behind a block of `count` addresses
 abbrev pub SpellsAddrTlvBlock : ℕ → List AddrTlvFields → List ℕ → Type 0
-SpellsAddrTlvBlock count = SpellsBlock (SpellsAddrTlv count)
+SpellsAddrTlvBlock count = SpellsTlvs (SpellsAddrTlv count)
 
 -- ---- first faults: how many octets on, and the reason
 
@@ -120,24 +120,32 @@ pub data TlvFault (barred count : ℕ) (bytes : List ℕ) : ℕ → ℕ → Type
   flags_cut : (kind : ℕ) → bytes ≡ kind ∷ [] → TlvFault barred count bytes 1 4
   flags_broken : (kind flags : ℕ) (rest : List ℕ) → bytes ≡ kind ∷ (flags ∷ rest) → IsBroken barred flags → TlvFault barred count bytes 1 5
   ext_cut : (flags : ℕ) → Opens barred bytes flags [] → has flags 128 ≡ true → TlvFault barred count bytes 2 4
-  start_cut : (flags : ℕ) (ext : List ℕ) → Extends barred bytes flags ext [] → (has flags 64 ≡ true) ⊎ (has flags 32 ≡ true) → TlvFault barred count bytes (2 + length ext) 4
-  start_high : (flags start : ℕ) (ext rest : List ℕ) → Extends barred bytes flags ext (start ∷ rest) → (has flags 64 ≡ true) ⊎ (has flags 32 ≡ true) → count ≤ start → TlvFault barred count bytes (2 + length ext) 6
-  stop_cut : (flags start : ℕ) (ext : List ℕ) → Extends barred bytes flags ext (start ∷ []) → has flags 32 ≡ true → start < count → TlvFault barred count bytes (3 + length ext) 4
-  stop_wrong : (flags start stop : ℕ) (ext rest : List ℕ) → Extends barred bytes flags ext (start ∷ (stop ∷ rest)) → has flags 32 ≡ true → start < count → (stop < start) ⊎ (count ≤ stop) → TlvFault barred count bytes (3 + length ext) 6
-  length_cut : (flags first last : ℕ) (head rest : List ℕ) → Indexes barred count bytes flags first last head rest → has flags 16 ≡ true → IsCut (has flags 8) rest → TlvFault barred count bytes (2 + length head) 4
-  length_uneven : (flags first last n : ℕ) (head len rest : List ℕ) → Indexes barred count bytes flags first last head (len ++ rest) → has flags 16 ≡ true → SpellsLength (has flags 8) n len → (Divides (has flags 4) first last n → ⊥) → TlvFault barred count bytes (2 + length head) 7
-  value_cut : (flags first last n : ℕ) (head len rest : List ℕ) → Indexes barred count bytes flags first last head (len ++ rest) → has flags 16 ≡ true → SpellsLength (has flags 8) n len → Divides (has flags 4) first last n → length rest < n → TlvFault barred count bytes (2 + length head + length len) 4
+  start_cut : (flags : ℕ) (ext : List ℕ) → Extends barred bytes flags ext [] → (has flags 64 ≡ true) ⊎ (has flags 32 ≡ true)
+      → TlvFault barred count bytes (2 + length ext) 4
+  start_high : (flags start : ℕ) (ext rest : List ℕ) → Extends barred bytes flags ext (start ∷ rest) → (has flags 64 ≡ true) ⊎ (has flags 32 ≡ true)
+      → count ≤ start → TlvFault barred count bytes (2 + length ext) 6
+  stop_cut : (flags start : ℕ) (ext : List ℕ) → Extends barred bytes flags ext (start ∷ []) → has flags 32 ≡ true → start < count
+      → TlvFault barred count bytes (3 + length ext) 4
+  stop_wrong : (flags start stop : ℕ) (ext rest : List ℕ) → Extends barred bytes flags ext (start ∷ (stop ∷ rest)) → has flags 32 ≡ true → start < count
+      → (stop < start) ⊎ (count ≤ stop) → TlvFault barred count bytes (3 + length ext) 6
+  length_cut : (flags first last : ℕ) (head rest : List ℕ) → Indexes barred count bytes flags first last head rest → has flags 16 ≡ true
+      → IsCut (has flags 8) rest → TlvFault barred count bytes (2 + length head) 4
+  length_uneven : (flags first last n : ℕ) (head len rest : List ℕ) → Indexes barred count bytes flags first last head (len ++ rest) → has flags 16 ≡ true
+      → SpellsLength (has flags 8) n len → (Divides (has flags 4) first last n → ⊥) → TlvFault barred count bytes (2 + length head) 7
+  value_cut : (flags first last n : ℕ) (head len rest : List ℕ) → Indexes barred count bytes flags first last head (len ++ rest) → has flags 16 ≡ true
+      → SpellsLength (has flags 8) n len → Divides (has flags 4) first last n → length rest < n → TlvFault barred count bytes (2 + length head + length len) 4
 
 -- the same of a block at the front of what is left of its frame or message: its length field, or an item of it
-pub data BlockFault {A : Type 0} (Spells : A → List ℕ → Type 0) (Fault : List ℕ → ℕ → ℕ → Type 0) (bytes : List ℕ) : ℕ → ℕ → Type 0 where
-  block_cut : length bytes < 2 → BlockFault Spells Fault bytes 0 1
-  block_long : (n : ℕ) (len rest : List ℕ) → SpellsShort n len → bytes ≡ len ++ rest → length rest < n → BlockFault Spells Fault bytes 0 4
-  in_block : (distance reason : ℕ) (len text rest : List ℕ) → SpellsShort (length text) len → ItemsFault Spells Fault text distance reason → bytes ≡ len ++ (text ++ rest) → BlockFault Spells Fault bytes (2 + distance) reason
+pub data TlvsFault {A : Type 0} (Spells : A → List ℕ → Type 0) (Fault : List ℕ → ℕ → ℕ → Type 0) (bytes : List ℕ) : ℕ → ℕ → Type 0 where
+  block_cut : length bytes < 2 → TlvsFault Spells Fault bytes 0 1
+  block_long : (n : ℕ) (len rest : List ℕ) → SpellsShort n len → bytes ≡ len ++ rest → length rest < n → TlvsFault Spells Fault bytes 0 4
+  in_block : (distance reason : ℕ) (len text rest : List ℕ) → SpellsShort (length text) len → ItemsFault Spells Fault text distance reason
+      → bytes ≡ len ++ (text ++ rest) → TlvsFault Spells Fault bytes (2 + distance) reason
 
 -- the first fault of a block of packet or message TLVs
 abbrev pub TlvBlockFault : List ℕ → ℕ → ℕ → Type 0
-TlvBlockFault = BlockFault SpellsTlv (TlvFault 100 1)
+TlvBlockFault = TlvsFault SpellsTlv (TlvFault 100 1)
 
 -- the first fault of a block of address TLVs, behind a block of `count` addresses
 abbrev pub AddrTlvBlockFault : ℕ → List ℕ → ℕ → ℕ → Type 0
-AddrTlvBlockFault count = BlockFault (SpellsAddrTlv count) (TlvFault 0 count)
+AddrTlvBlockFault count = TlvsFault (SpellsAddrTlv count) (TlvFault 0 count)

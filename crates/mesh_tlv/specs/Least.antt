@@ -41,7 +41,8 @@ is_wide (Some text) = nat_lt 255 (length text)
 -- the flags
 unfoldable pub least_flags : ℕ → AddrTlvFields → ℕ
 least_flags count tlv =
-    flag (not (tlv.ext == 0)) 128 + flag (is_single count tlv.first tlv.last) 64 + flag (is_several count tlv.first tlv.last) 32 + flag (has_value tlv.value) 16 + flag (is_wide tlv.value) 8 + flag tlv.multi 4
+    flag (not (tlv.ext == 0)) 128 + flag (is_single count tlv.first tlv.last) 64 + flag (is_several count tlv.first tlv.last) 32
+    + flag (has_value tlv.value) 16 + flag (is_wide tlv.value) 8 + flag tlv.multi 4
 
 -- the indexes
 abbrev pub least_index : ℕ → ℕ → ℕ → List ℕ
@@ -88,8 +89,8 @@ HasLongValue None = ⊥
 HasLongValue (Some text) = IsLong text
 
 -- a block whose TLVs are so long together, or one value of them alone
-abbrev pub IsTooLong : {A : Type 0} → (A → List ℕ) → (A → Option (List ℕ)) → List A → Type 0
-IsTooLong least value tlvs = IsLong (flat_map least tlvs) ⊎ Any (λ tlv. HasLongValue (value tlv)) tlvs
+abbrev pub AreTooLong : {A : Type 0} → (A → List ℕ) → (A → Option (List ℕ)) → List A → Type 0
+AreTooLong least value tlvs = IsLong (flat_map least tlvs) ⊎ Any (λ tlv. HasLongValue (value tlv)) tlvs
 
 -- a length that a block can have
 abbrev pub length_within : ℕ → Option ℕ

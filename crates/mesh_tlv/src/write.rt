@@ -1,11 +1,10 @@
 //! Writing TLV blocks in their least form.
-ghost use Rattle.std.specs.Prelude.{◌≡◌, ◌≤◌, ◌<◌, ◌+◌, ◌++◌, length, map, Err, ◌↔◌, All, OnOk, Ok};
+ghost use Rattle.std.specs.Prelude.{◌≡◌, ◌≤◌, ◌<◌, ◌+◌, ◌++◌, length, map, Err, ◌↔◌, All, OnOk};
 ghost use Rattle.std.specs.List.{flat_map};
 ghost use Rattle.mesh_tlv.specs.Fields.{fields, addr_fields};
 ghost use Rattle.mesh_tlv.specs.declared.tlv.WriteTlv.TheVariants as WriteTlv;
-ghost use Rattle.mesh_tlv.specs.Reading.{addr_tlv_at, tlv_at, block_at};
 ghost use Rattle.mesh_tlv.specs.Grammar.{SpellsTlvBlock, SpellsAddrTlvBlock};
-ghost use Rattle.mesh_tlv.specs.Least.{IsFit, least_addr_tlv, least_tlv, least_block, length_within, IsTooLong, Grows};
+ghost use Rattle.mesh_tlv.specs.Least.{IsFit, least_addr_tlv, least_tlv, least_block, length_within, AreTooLong, Grows};
 
 use crate::put::{addr_tlv_length, put_addr_tlv, put_short, put_tlv, tlv_length};
 use crate::tlv::{AddrTlv, Tlv, WriteTlv};
@@ -137,11 +136,8 @@ pub fn write_tlvs(tlvs: &[Tlv], out: &mut Bytes) -> Result<(), WriteTlv>
     // It spells these TLVs.
     ensures spelled { OnOk result (SpellsTlvBlock (map fields tlvs.now) (least_block least_tlv (map fields tlvs.now))) }
 
-    // It is read back as these TLVs.
-    ensures read_back { OnOk result (block_at tlv_at out.new (length out.old) (length out.new) ≡ Ok (map fields tlvs.now, length out.new)) }
-
     // It is refused exactly where the block, or one value, is too long.
-    ensures too_long { (result ≡ Err WriteTlv.TooLong) ↔ IsTooLong least_tlv (λ tlv. tlv.value) (map fields tlvs.now) }
+    ensures too_long { (result ≡ Err WriteTlv.TooLong) ↔ AreTooLong least_tlv (λ tlv. tlv.value) (map fields tlvs.now) }
     ensures unchanged { result ≡ Err WriteTlv.TooLong → out.new ≡ out.old }
 
     // Also after want of memory the old octets stand in front.
@@ -165,11 +161,8 @@ pub fn write_addr_tlvs(tlvs: &[AddrTlv], count: u8, out: &mut Bytes) -> Result<(
     // It spells these TLVs.
     ensures spelled { OnOk result (SpellsAddrTlvBlock count (map addr_fields tlvs.now) (least_block (least_addr_tlv count) (map addr_fields tlvs.now))) }
 
-    // It is read back as these TLVs.
-    ensures read_back { OnOk result (block_at (addr_tlv_at count) out.new (length out.old) (length out.new) ≡ Ok (map addr_fields tlvs.now, length out.new)) }
-
     // It is refused exactly where the block, or one value, is too long.
-    ensures too_long { (result ≡ Err WriteTlv.TooLong) ↔ IsTooLong (least_addr_tlv count) (λ tlv. tlv.value) (map addr_fields tlvs.now) }
+    ensures too_long { (result ≡ Err WriteTlv.TooLong) ↔ AreTooLong (least_addr_tlv count) (λ tlv. tlv.value) (map addr_fields tlvs.now) }
     ensures unchanged { result ≡ Err WriteTlv.TooLong → out.new ≡ out.old }
 
     // Also after want of memory the old octets stand in front.

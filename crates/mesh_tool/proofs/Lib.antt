@@ -1,3 +1,4 @@
 mod FirstLine
+mod Hex
 mod OneText
 mod Pieces

@@ -1,21 +1,26 @@
 -- The listing of `dump`.
-use Rattle.std.specs.Prelude.{◌≡◌, ℕ, ◌+◌, List, [], ◌∷◌, ◌++◌, length, Bool, codes, decimal}
+use Rattle.std.specs.Prelude.{◌≡◌, ℕ, ◌+◌, List, [], ◌∷◌, ◌++◌, length, Result, Bool, codes, decimal}
 use Rattle.std.specs.Str.Lines.{lines}
+use Rattle.mesh_atoms.specs.declared.refusal.Refusal.{Refusal}
+use Rattle.mesh_packet.specs.declared.packet.Span.{Span}
+use Rattle.mesh_packet.specs.Fields.{PacketFields}
 use Rattle.mesh_report.specs.Packets.{IsLineText}
-use Rattle.mesh_tool.specs.Lines.{packet_of_line, refused_count}
+use Rattle.mesh_tool.specs.Lines.{ReadsAs, refusals}
 
--- what is listed of lines, of which the first has this number: the text of each, in order
-abbrev pub IsLinesText : Bool → ℕ → List (List ℕ) → List ℕ → Type 0
-IsLinesText recode number [] text = text ≡ []
-IsLinesText recode number (line ∷ more) text =
-    (first : List ℕ) × (rest : List ℕ) × IsLineText recode number (packet_of_line line) first × IsLinesText recode (number + 1) more rest × (text ≡ first ++ rest)
+-- what is listed of lines, of which the first has this number and so many are refused: the text of each, in order
+abbrev pub IsLinesText : Bool → ℕ → List (List ℕ) → ℕ → List ℕ → Type 0
+IsLinesText recode number [] refused text = (refused ≡ 0) × (text ≡ [])
+IsLinesText recode number (line ∷ more) refused text =
+    (read : Result (PacketFields × List Span) Refusal) × (first : List ℕ) × (others : ℕ) × (rest : List ℕ)
+    × ReadsAs line read × IsLineText recode number read first × IsLinesText recode (number + 1) more others rest
+    × (refused ≡ refusals read + others) × (text ≡ first ++ rest)
 
 -- what is listed last: the number of lines, and of those that were refused
 unfoldable pub total_text : ℕ → ℕ → List ℕ
 total_text count refused = codes "lines " ++ decimal count ++ codes " refused " ++ decimal refused ++ codes "\n"
 
--- the listing of the input, with each packet written again or without. Lines end at line feeds, and lose one carriage
--- return directly before it; a last line without a line feed counts where it isn't empty
-abbrev pub IsDumpText : List ℕ → Bool → List ℕ → Type 0
-IsDumpText input recode text =
-    (listing : List ℕ) × IsLinesText recode 1 (lines input) listing × (text ≡ listing ++ total_text (length (lines input)) (refused_count (lines input)))
+-- the listing of the input, of which so many lines are refused, with each packet written again or without. Lines end at line
+-- feeds, and lose one carriage return directly before it; a last line without a line feed counts where it isn't empty
+abbrev pub IsDumpText : List ℕ → Bool → ℕ → List ℕ → Type 0
+IsDumpText input recode refused text =
+    (listing : List ℕ) × IsLinesText recode 1 (lines input) refused listing × (text ≡ listing ++ total_text (length (lines input)) refused)

@@ -1,35 +1,36 @@
 -- What a line of hexadecimal text says.
-use Rattle.std.specs.Prelude.{ℕ, List, length, Result, Ok, Err, Bool, not, is_ok, count_by}
-use Rattle.hex.specs.Hex.{decode_of}
-use Rattle.hex.specs.declared.error.FromHexError.{FromHexError}
-use Rattle.hex.specs.declared.error.FromHexError.TheVariants.{InvalidHexCharacter, OddLength, InvalidStringLength, OutOfMemory}
+use Rattle.std.specs.Prelude.{◌≡◌, ◌⊎◌, ◌<◌, ◌%◌, ℕ, List, length, take, slice_index, Result, Ok, Err, false}
+use Rattle.std.specs.List.{AllPass}
+use Rattle.hex.specs.Hex.{decode_of, is_hex_digit}
 use Rattle.mesh_atoms.specs.declared.refusal.Refusal.{Refusal}
-use Rattle.mesh_atoms.specs.Reading.{◌>>=◌}
 use Rattle.mesh_packet.specs.declared.packet.Span.{Span}
 use Rattle.mesh_packet.specs.Fields.{PacketFields}
-use Rattle.mesh_packet.specs.Reading.{packet_of}
+use Rattle.mesh_packet.specs.Grammar.{Spells, FirstFault}
 
--- why a text of so many octets is no hexadecimal text: 12, at the first octet that is no digit, or 13, an odd number of
--- octets, at that number
-abbrev pub not_hex : ℕ → FromHexError → Refusal
-not_hex len (InvalidHexCharacter octet place) = record { place = place; reason = 12 }
-not_hex len OddLength = record { place = len; reason = 13 }
-not_hex len InvalidStringLength = record { place = len; reason = 13 }
-not_hex len OutOfMemory = record { place = len; reason = 13 }
+-- at this place stands the first octet of a text that is no hexadecimal digit
+pub record IsFirstOther (text : List ℕ) (place : ℕ) : Type 0 where
+  pub within : place < length text
+  pub other : is_hex_digit (slice_index text place) ≡ false
+  pub before : AllPass is_hex_digit (take place text)
 
--- the octets that a text writes, or why it is no hexadecimal text
-abbrev pub written : ℕ → Result (List ℕ) FromHexError → Result (List ℕ) Refusal
-written len (Ok octets) = Ok octets
-written len (Err e) = Err (not_hex len e)
+-- Why a text is no hexadecimal text: it has an odd number of octets (13, at that number), else an octet that is no digit (12,
+-- at the first one).
+abbrev pub IsNotHex : List ℕ → Refusal → Type 0
+IsNotHex text refusal =
+    ((length text % 2 ≡ 1) × (refusal ≡ record { place = length text; reason = 13 }))
+    ⊎ ((length text % 2 ≡ 0) × IsFirstOther text refusal.place × (refusal.reason ≡ 12))
 
--- the packet that a line writes, and where its messages stand in it, or the line's first fault
-abbrev pub packet_of_line : List ℕ → Result (PacketFields × List Span) Refusal
-packet_of_line line = written (length line) (decode_of line) >>= packet_of
+-- what a frame says: the packet that it spells and where its messages stand, or its first fault
+abbrev pub FrameSays : List ℕ → Result (PacketFields × List Span) Refusal → Type 0
+FrameSays frame (Ok read) = Spells read.0 read.1 frame
+FrameSays frame (Err refusal) = FirstFault frame refusal.place refusal.reason
 
--- whether a line has a fault
-abbrev pub is_refused : List ℕ → Bool
-is_refused line = not (is_ok (packet_of_line line))
+-- what a line says: what the octets say that it writes in hexadecimal, or why it is no hexadecimal text
+abbrev pub ReadsAs : List ℕ → Result (PacketFields × List Span) Refusal → Type 0
+ReadsAs line read =
+    ((octets : List ℕ) × (decode_of line ≡ Ok octets) × FrameSays octets read) ⊎ ((refusal : Refusal) × IsNotHex line refusal × (read ≡ Err refusal))
 
--- how many lines have one
-abbrev pub refused_count : List (List ℕ) → ℕ
-refused_count lines = count_by is_refused lines
+-- 1 where a line is refused, else 0
+abbrev pub refusals : Result (PacketFields × List Span) Refusal → ℕ
+refusals (Ok read) = 0
+refusals (Err refusal) = 1

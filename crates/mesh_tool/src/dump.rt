@@ -3,8 +3,7 @@ ghost use Rattle.std.specs.Prelude.{◌≡◌, ◌++◌, ◌≤◌, length, OnOk
 ghost use Rattle.std.specs.Str.Lines.{lines};
 ghost use Rattle.mesh_packet.specs.Least.{Wrote};
 ghost use Rattle.mesh_tool.specs.Dump.{IsLinesText, total_text};
-ghost use Rattle.mesh_tool.specs.Lines.{refused_count};
-ghost use Rattle.mesh_tool.specs.Parts.{Lists};
+ghost use Rattle.mesh_tool.specs.Parts.{ListsOctets};
 
 use crate::Status;
 use crate::lines::{first_line, put_line};
@@ -30,16 +29,15 @@ fn put_total(out: &mut Bytes, counts: Counts) -> Result<(), AllocError>
     out.append(b"\n")
 }
 
-// Lists each line of the input.
+// ListsOctets each line of the input.
 fn put_lines(
     alloc: Global,
     out: &mut Bytes,
     input: &[u8],
     recode: bool,
 ) -> Result<Counts, AllocError>
-    ensures text { OnOk result (Wrote (IsLinesText recode 1 (lines input.now)) out.old out.new) }
+    ensures text { IfOk result (λ counts. Wrote (IsLinesText recode 1 (lines input.now) counts.refused) out.old out.new) }
     ensures lines { IfOk result (λ counts. counts.lines ≡ length (lines input.now)) }
-    ensures refused { IfOk result (λ counts. counts.refused ≡ refused_count (lines input.now)) }
 {
     let mut at = 0;
     let mut number = 0;
@@ -56,9 +54,9 @@ fn put_lines(
     })
 }
 
-// Lists the input on `out`, with each packet written again or without. Nothing is written before the whole text is there.
+// ListsOctets the input on `out`, with each packet written again or without. Nothing is written before the whole text is there.
 pub fn dump<O: Sink>(alloc: Global, input: &[u8], out: &mut O, recode: bool) -> Status
-    ensures lists { Lists (O.content out.old) (O.content out.new) (O.faults out.old) (O.faults out.new) input.now recode result }
+    ensures lists { ListsOctets (O.content out.old) (O.content out.new) (O.faults out.old) (O.faults out.new) input.now recode result }
     ensures later { O.faults out.old ≤ O.faults out.new }
 {
     let mut text = Bytes::new(alloc);

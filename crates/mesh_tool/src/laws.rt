@@ -1,7 +1,9 @@
-//! A law of the definitions.
-ghost use Rattle.mesh_tool.specs.Laws.{HasOneText};
+//! Laws of the definitions.
+ghost use Rattle.mesh_tool.specs.Laws.{AlwaysReads, ReadsAsOne, HasOneText};
 
-/// The listing of an input is one text, where its packets aren't written again.
+/// Each line says one thing, and the listing of an input is one text, with its packets written again or without.
 pub fn one_text()
-    ensures { HasOneText }
+    ensures always { AlwaysReads }
+    ensures line { ReadsAsOne }
+    ensures text { HasOneText }
 {}

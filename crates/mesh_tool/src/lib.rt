@@ -6,8 +6,6 @@ mod laws;
 mod lines;
 mod say;
 mod status;
-#[cfg(test)]
-mod tests;
 mod top;
 mod words;
 

@@ -1,12 +1,13 @@
 //! Lines of hexadecimal text.
-ghost use Rattle.std.specs.Prelude.{◌≡◌, ◌∷◌, ◌<◌, ◌≤◌, ◌==◌, length, drop, position, is_ok, if◌then◌else◌, OnOk, IfOk};
+ghost use Rattle.std.specs.Prelude.{◌≡◌, ◌⊎◌, ◌∷◌, ◌<◌, ◌≤◌, ◌==◌, length, drop, position, Ok, Err, OnOk, IfOk, IfErr};
 ghost use Rattle.std.specs.Str.Lines.{lines, strip_carriage_return};
 ghost use Rattle.hex.specs.Hex.{decode_of};
-ghost use Rattle.mesh_atoms.specs.Reading.{Gives};
-ghost use Rattle.mesh_packet.specs.Reading.{packet_of};
+ghost use Rattle.hex.specs.declared.error.FromHexError.TheVariants.{OutOfMemory};
+ghost use Rattle.mesh_atoms.specs.Reading.{IfRefused};
 ghost use Rattle.mesh_packet.specs.Least.{Wrote};
-ghost use Rattle.mesh_report.specs.Packets.{line_read, CanRecode, IsLineText};
-ghost use Rattle.mesh_tool.specs.Lines.{written, packet_of_line, is_refused};
+ghost use Rattle.mesh_report.specs.Packets.{line_read, CanList, IsLineText};
+ghost use Rattle.mesh_tool.specs.Lines.{IsNotHex, FrameSays, refusals};
+ghost use Rattle.mesh_tool.specs.Parts.{PutsLine};
 
 use hex::FromHexError;
 use mesh_atoms::{Bytes, DecodeFault, refuse};
@@ -51,24 +52,37 @@ pub fn first_line(text: &[u8]) -> (&[u8], usize)
     }
 }
 
+// Why decoding a text gave no octets.
+fn fault_of(text: &[u8], fault: FromHexError) -> DecodeFault
+    requires { (fault ≡ OutOfMemory) ⊎ (decode_of text.now ≡ Err fault) }
+    ensures { IfRefused (IsNotHex text.now) result }
+{
+    match fault {
+        FromHexError::InvalidHexCharacter { index, .. } => {
+            DecodeFault::Refused(refuse(index, NOT_HEX))
+        }
+        FromHexError::OddLength => DecodeFault::Refused(refuse(text.len(), ODD_DIGITS)),
+        // Only decoding into a slice gives this.
+        FromHexError::InvalidStringLength => unreachable!(),
+        FromHexError::OutOfMemory => DecodeFault::Memory(AllocError),
+    }
+}
+
 // The octets that a line writes.
 fn octets_of(alloc: Global, line: &[u8]) -> Result<Bytes, DecodeFault>
-    ensures { Gives (λ octets. octets) result (written (length line.now) (decode_of line.now)) }
+    ensures octets { IfOk result (λ octets. decode_of line.now ≡ Ok octets) }
+    ensures refused { IfErr result (IfRefused (IsNotHex line.now)) }
 {
     match hex::decode(alloc, line) {
         Ok(octets) => Ok(Bytes::from_vec(octets)),
-        Err(FromHexError::InvalidHexCharacter { index, .. }) => {
-            Err(DecodeFault::Refused(refuse(index, NOT_HEX)))
-        }
-        Err(FromHexError::OddLength) => Err(DecodeFault::Refused(refuse(line.len(), ODD_DIGITS))),
-        Err(_) => Err(DecodeFault::Memory(AllocError)),
+        Err(fault) => Err(fault_of(line, fault)),
     }
 }
 
 // What a frame says.
 fn read_frame<'a>(alloc: Global, frame: &'a [u8]) -> Result<LineRead<'a>, AllocError>
-    ensures read { IfOk result (λ read. line_read read ≡ packet_of frame.now) }
-    ensures recode { IfOk result (λ read. CanRecode (line_read read)) }
+    ensures read { IfOk result (λ read. FrameSays frame.now (line_read read)) }
+    ensures list { IfOk result (λ read. CanList (line_read read)) }
 {
     match decode(alloc, frame) {
         Ok(decoded) => Ok(LineRead::Read(decoded)),
@@ -79,7 +93,7 @@ fn read_frame<'a>(alloc: Global, frame: &'a [u8]) -> Result<LineRead<'a>, AllocE
 
 // 1 where a line is refused, else 0.
 fn refusals(read: &LineRead) -> u64
-    ensures { result ≡ (if is_ok (line_read read.now) then 0 else 1) }
+    ensures { result ≡ refusals (line_read read.now) }
 {
     match read {
         LineRead::Read(_) => 0,
@@ -95,9 +109,9 @@ fn put_read(
     read: &LineRead,
     recode: bool,
 ) -> Result<u64, AllocError>
-    requires { CanRecode (line_read read.now) }
+    requires { CanList (line_read read.now) }
     ensures text { OnOk result (Wrote (IsLineText recode number (line_read read.now)) out.old out.new) }
-    ensures refused { IfOk result (λ count. count ≡ (if is_ok (line_read read.now) then 0 else 1)) }
+    ensures refused { IfOk result (λ count. count ≡ refusals (line_read read.now)) }
 {
     put_packet_text(alloc, out, number, read, recode)?;
     Ok(refusals(read))
@@ -111,8 +125,7 @@ pub fn put_line(
     line: &[u8],
     recode: bool,
 ) -> Result<u64, AllocError>
-    ensures text { OnOk result (Wrote (IsLineText recode number (packet_of_line line.now)) out.old out.new) }
-    ensures refused { IfOk result (λ count. count ≡ (if is_refused line.now then 1 else 0)) }
+    ensures { IfOk result (λ count. PutsLine recode number line.now count out.old out.new) }
 {
     match octets_of(alloc, line) {
         Ok(octets) => {

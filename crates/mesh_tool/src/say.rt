@@ -2,7 +2,7 @@
 ghost use Rattle.std.specs.Prelude.{◌≡◌, ℕ, ◌≤◌, [], ◌++◌, take, OnOk, OnErr};
 ghost use Rattle.std.specs.Io.KnownBytes.{Appends};
 ghost use Rattle.mesh_io.specs.Faults.{Rose};
-ghost use Rattle.mesh_tool.specs.Parts.{Tells};
+ghost use Rattle.mesh_tool.specs.Parts.{TellsLine};
 ghost use Rattle.mesh_tool.specs.Top.{fault_text, IsTold};
 ghost use Rattle.mesh_tool.specs.Words.{texts, word_at_fault};
 
@@ -55,7 +55,7 @@ fn faulty_word(words: &[String]) -> &[u8]
 }
 
 fn tell_line<E: Sink>(err: &mut E, line: &[u8], status: Status) -> Status
-    ensures tells { Tells (E.content err.old) (E.content err.new) (E.faults err.old) (E.faults err.new) line.now status result }
+    ensures tells { TellsLine (E.content err.old) (E.content err.new) (E.faults err.old) (E.faults err.new) line.now status result }
     ensures later { E.faults err.old ≤ E.faults err.new }
 {
     match write_all(err, line) {
@@ -65,7 +65,7 @@ fn tell_line<E: Sink>(err: &mut E, line: &[u8], status: Status) -> Status
 }
 
 fn tell_words<E: Sink>(err: &mut E, words: &[String]) -> Status
-    ensures tells { Tells (E.content err.old) (E.content err.new) (E.faults err.old) (E.faults err.new) (fault_text (texts words.now) Status.Words) Status.Words result }
+    ensures tells { TellsLine (E.content err.old) (E.content err.new) (E.faults err.old) (E.faults err.new) (fault_text (texts words.now) Status.Words) Status.Words result }
     ensures later { E.faults err.old ≤ E.faults err.new }
 {
     match write_three(err, b"mesh: words ", faulty_word(words), b"\n") {
@@ -74,9 +74,9 @@ fn tell_words<E: Sink>(err: &mut E, words: &[String]) -> Status
     }
 }
 
-// Tells a fault on `err`, and answers the status, or that of a failed write.
+// TellsLine a fault on `err`, and answers the status, or that of a failed write.
 pub fn tell<E: Sink>(err: &mut E, words: &[String], status: Status) -> Status
-    ensures tells { Tells (E.content err.old) (E.content err.new) (E.faults err.old) (E.faults err.new) (fault_text (texts words.now) status) status result }
+    ensures tells { TellsLine (E.content err.old) (E.content err.new) (E.faults err.old) (E.faults err.new) (fault_text (texts words.now) status) status result }
     ensures silent { (IsTold status → ⊥) → result ≡ status }
     ensures kept { (IsTold status → ⊥) → Appends (E.content err.old) (E.content err.new) [] }
     ensures later { E.faults err.old ≤ E.faults err.new }

@@ -1,11 +1,9 @@
 //! The top call.
 ghost use Rattle.std.specs.Prelude.{◌≡◌, ◌≢◌, ◌⊎◌, ℕ, ◌+◌, ◌<◌, ◌≤◌, [], List, length, take, Option, Some, IsOk, IsErr};
 ghost use Rattle.std.specs.Io.KnownBytes.{Appends, Consumes, Keeps};
-ghost use Rattle.std.specs.Str.Lines.{lines};
 ghost use Rattle.mesh_io.specs.Faults.{Rose};
-ghost use Rattle.mesh_tool.specs.Lines.{refused_count};
 ghost use Rattle.mesh_tool.specs.Parts.{Does};
-ghost use Rattle.mesh_tool.specs.Top.{IsInput, IsAskedText, IsTold, fault_text};
+ghost use Rattle.mesh_tool.specs.Top.{IsListing, IsDue, IsTold, fault_text};
 ghost use Rattle.mesh_tool.specs.Words.{words_of, texts};
 ghost use Rattle.mesh_tool.specs.declared.status.Status.{Status};
 
@@ -47,8 +45,9 @@ pub fn mesh_top<S: Source, O: Sink, E: Sink>(
     err: &mut E,
 ) -> Status
     // The whole input was read, none of its lines is refused, and its listing stands on `out`.
-    ensures done { result ≡ Status.Done → (octets : List ℕ) × IsInput (S.left input.old) (S.left input.new) (S.taken input.old) (S.taken input.new) octets
-        × (refused_count (lines octets) ≡ 0) × (text : List ℕ) × IsAskedText (words_of (texts words.now)) octets text × Appends (O.content out.old) (O.content out.new) text }
+    ensures done { result ≡ Status.Done → (text : List ℕ)
+        × IsListing (texts words.now) (S.left input.old) (S.left input.new) (S.taken input.old) (S.taken input.new) 0 text
+        × Appends (O.content out.old) (O.content out.new) text }
 
     // The words are no command line; then nothing is read.
     ensures words { result ≡ Status.Words → IsErr (words_of (texts words.now)) }
@@ -58,12 +57,16 @@ pub fn mesh_top<S: Source, O: Sink, E: Sink>(
     // The source counted a fault.
     ensures read { result ≡ Status.Read → Rose (S.faults input.old) (S.faults input.new) }
 
-    // A sink counted a fault: a front of the listing stands on `out`, or a front of a fault's line on `err`.
+    // A sink counted a fault: a front of the listing stands on `out` and nothing on `err`, or nothing on `out` and on `err` a
+    // front of the line of the fault that was due.
     ensures write { result ≡ Status.Write → Rose (O.faults out.old) (O.faults out.new) ⊎ Rose (E.faults err.old) (E.faults err.new) }
     ensures part { result ≡ Status.Write →
-        ((octets : List ℕ) × IsInput (S.left input.old) (S.left input.new) (S.taken input.old) (S.taken input.new) octets
-        × (text : List ℕ) × IsAskedText (words_of (texts words.now)) octets text × (n : ℕ) × Appends (O.content out.old) (O.content out.new) (take n text) × Appends (E.content err.old) (E.content err.new) [])
-        ⊎ ((fault : Status) × (n : ℕ) × Appends (E.content err.old) (E.content err.new) (take n (fault_text (texts words.now) fault)) × Keeps (O.content out.old) (O.content out.new)) }
+        (Rose (O.faults out.old) (O.faults out.new) × (refused : ℕ) × (text : List ℕ)
+        × IsListing (texts words.now) (S.left input.old) (S.left input.new) (S.taken input.old) (S.taken input.new) refused text
+        × (n : ℕ) × Appends (O.content out.old) (O.content out.new) (take n text) × Appends (E.content err.old) (E.content err.new) [])
+        ⊎ (Rose (E.faults err.old) (E.faults err.new) × (fault : Status)
+        × IsDue (texts words.now) (S.taken input.old) (S.taken input.new) (S.faults input.old) (S.faults input.new) fault
+        × (n : ℕ) × Appends (E.content err.old) (E.content err.new) (take n (fault_text (texts words.now) fault)) × Keeps (O.content out.old) (O.content out.new)) }
 
     // The input has more than 67,108,864 octets; one more than these was taken.
     ensures refused { result ≡ Status.Refused → (S.taken input.new ≡ S.taken input.old + 67108865)
@@ -71,8 +74,9 @@ pub fn mesh_top<S: Source, O: Sink, E: Sink>(
     ensures too_long { IsOk (words_of (texts words.now)) → S.taken input.new ≡ S.taken input.old + 67108865 → (result ≡ Status.Refused) ⊎ (result ≡ Status.Write) }
 
     // The whole input was read, a line of it is refused, and its listing stands on `out`.
-    ensures packets { result ≡ Status.Packets → (octets : List ℕ) × IsInput (S.left input.old) (S.left input.new) (S.taken input.old) (S.taken input.new) octets
-        × (0 < refused_count (lines octets)) × (text : List ℕ) × IsAskedText (words_of (texts words.now)) octets text × Appends (O.content out.old) (O.content out.new) text }
+    ensures packets { result ≡ Status.Packets → (refused : ℕ) × (0 < refused) × (text : List ℕ)
+        × IsListing (texts words.now) (S.left input.old) (S.left input.new) (S.taken input.old) (S.taken input.new) refused text
+        × Appends (O.content out.old) (O.content out.new) text }
 
     // A fault's line stands on `err` and nothing on `out`; nothing stands on `err` where no fault is told.
     ensures told { result ≢ Status.Write → Appends (E.content err.old) (E.content err.new) (fault_text (texts words.now) result) }

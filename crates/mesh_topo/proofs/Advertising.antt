@@ -13,18 +13,18 @@ use Rattle.mesh_atoms.specs.declared.addr.NetAddr.{NetAddr}
 use Rattle.mesh_atoms.specs.declared.metric.Metric.{Metric}
 use Rattle.mesh_atoms.specs.declared.settings.Attached4.{Attached4}
 use Rattle.mesh_atoms.specs.declared.tc.TcRow.{TcRow}
-use Rattle.mesh_atoms.specs.Advertised.{Gives, Advertises, AdvertisesOriginator, IsTcRow, Of_address, Of_network, AreTcRows}
+use Rattle.mesh_atoms.specs.Advertised.{Gives, AdvertisesBy, AdvertisesOriginatorBy, AdvertisesNetworkBy, IsRowBy, Of_address, Of_network, AreRowsBy, AreTcRows}
 use Rattle.mesh_atoms.specs.Base.{host, net_eq}
 use Rattle.mesh_atoms.specs.Codes.{metric_value}
 use Rattle.mesh_atoms.specs.Settings.{are_distinct}
-use Rattle.mesh_atoms.specs.State.{State}
+use Rattle.mesh_atoms.specs.State.{State, HasSymmetric}
 use Rattle.mesh_atoms.proofs.Kept.{both}
 use Rattle.mesh_atoms.proofs.CodeLaws.{cost-injective}
 use Rattle.mesh_topo.specs.declared.rows.Offer.{Offer}
 use Rattle.mesh_topo.specs.declared.rows.Selector.{Selector}
 use Rattle.mesh_atoms.specs.Nodes.{net_cmp}
 use Rattle.mesh_topo.specs.Offers.{put_offer, offered, of_address, of_selector, of_network, row_of}
-use Rattle.mesh_topo.specs.Selectors.{AreSelectors}
+use Rattle.mesh_topo.specs.Selectors.{AreSelectors, SelectorGives}
 use Rattle.mesh_topo.proofs.Best.{Best, SumsUp, sums_as, sums_all}
 use Rattle.mesh_topo.proofs.Members.{at_head, in_tail, head_or_tail, none_in, in_map, from_map, in_each, from_each}
 use Rattle.mesh_atoms.proofs.NetOrder.{net_total, net_exact, same_at, at_same}
@@ -80,22 +80,12 @@ pub same_host : (a b : Addr4) → host a ≡ host b → a ≡ b
 same_host a b e = ap (λ (n : NetAddr). n.addr) e
 
 -- what a selector gives
-gives_of : (s : State) (selectors : List Selector) → AreSelectors s selectors → (x : Selector) → Contains selectors x → (a : Addr4) → HasAddr x a → Gives s a x.originator x.metric
-gives_of s selectors are x there a has =
-    let (neighbour, (symmetric, selects, metric), (o, m, addrs)) = are.each x there in
-    record {
-      neighbour = neighbour;
-      symmetric = symmetric;
-      selects = selects;
-      metric = metric;
-      address = elim has [ inl among ↦ inl ((addrs a).0 among) | inr same ↦ inr same ];
-    }
+gives_of : (selectors : List Selector) (x : Selector) → Contains selectors x → (a : Addr4) → HasAddr x a → SelectorGives selectors a x.originator x.metric
+gives_of selectors x there a has = record { selector = x; stands = there; originator = refl; metric = refl; address = has }
 
 -- the selector that gives something
-selector_of : (s : State) (selectors : List Selector) → AreSelectors s selectors → (a o : Addr4) (m : Metric) → Gives s a o m → (x : Selector) × Contains selectors x × (x.originator ≡ o) × (x.metric ≡ m) × HasAddr x a
-selector_of s selectors are a o m g =
-    let (x, there, (by, metric, addrs)) = are.all o g.neighbour m (g.symmetric, g.selects, g.metric) in
-    (x, there, by, metric, elim g.address [ inl among ↦ inl ((addrs a).1 among) | inr same ↦ inr (same ∙ sym by) ])
+selector_of : (selectors : List Selector) (a o : Addr4) (m : Metric) → SelectorGives selectors a o m → (x : Selector) × Contains selectors x × (x.originator ≡ o) × (x.metric ≡ m) × HasAddr x a
+selector_of selectors a o m g = (g.selector, g.stands, g.originator, g.metric, elim g.address [ inl among ↦ inl among | inr same ↦ inr (same ∙ sym g.originator) ])
 
 -- ---- attached networks
 
@@ -172,14 +162,14 @@ row_is row o origin routable gateway metric =
     ∙ ap (λ (m : Option Metric). let r : TcRow = record { dest = row.dest; origin = row.origin; routable = row.routable; gateway = row.gateway; metric = m } in r) (sym metric)
 
 -- what is advertised of a node
-record Advertised (s : State) (net : NetAddr) (o : Offer) : Type 0 where
+record OfNode (selectors : List Selector) (net : NetAddr) (o : Offer) : Type 0 where
   pub addr : Addr4
   pub node : net ≡ host addr
-  pub metric : Advertises s addr o.metric
-  pub origin : IsTrue o.origin ↔ AdvertisesOriginator s addr
+  pub metric : AdvertisesBy (SelectorGives selectors) addr o.metric
+  pub origin : IsTrue o.origin ↔ AdvertisesOriginatorBy (SelectorGives selectors) addr
   pub gateway : o.gateway ≡ None
 
-module _ (s : State) (selectors : List Selector) (are : AreSelectors s selectors) where
+module _ (selectors : List Selector) where
   abbrev Of : NetAddr → Offer → Type 0
   Of net e = Contains (flat_map of_selector selectors) (net, e)
 
@@ -191,13 +181,13 @@ module _ (s : State) (selectors : List Selector) (are : AreSelectors s selectors
       (sums_all net (flat_map of_selector selectors) (λ _. ⊥) None no_gateway (λ e never. never))
 
   -- what is given is offered
-  offers : (net : NetAddr) (a o : Addr4) (m : Metric) → net ≡ host a → Gives s a o m → (e : Offer) × Of net e × (e.metric ≡ m)
+  offers : (net : NetAddr) (a o : Addr4) (m : Metric) → net ≡ host a → SelectorGives selectors a o m → (e : Offer) × Of net e × (e.metric ≡ m)
   offers net a o m node g =
-      let (x, there, by, metric, has) = selector_of s selectors are a o m g in
+      let (x, there, by, metric, has) = selector_of selectors a o m g in
       let (e, inside, same) = of_addr x a has in
       (e, subst (λ (n : NetAddr). Of n e) (sym node) (in_each of_selector selectors x (host a, e) there inside), same ∙ metric)
 
-  advertised : (net : NetAddr) (o : Offer) → Best (Of net) o → Advertised s net o
+  advertised : (net : NetAddr) (o : Offer) → Best (Of net) o → OfNode selectors net o
   advertised net o best =
       let (e, has, metric) = best.from in
       let (x, there, inside) = from_each of_selector selectors (net, e) has in
@@ -207,7 +197,7 @@ module _ (s : State) (selectors : List Selector) (are : AreSelectors s selectors
         node = b.node;
         metric = record {
           giver = x.originator;
-          given = subst (λ (m : Metric). Gives s b.addr x.originator m) (sym b.metric ∙ metric) (gives_of s selectors are x there b.addr b.has);
+          given = subst (λ (m : Metric). SelectorGives selectors b.addr x.originator m) (sym b.metric ∙ metric) (gives_of selectors x there b.addr b.has);
           least = λ p n g.
               let (f, among, same) = offers net b.addr p n b.node g in
               subst (λ (m : Metric). metric_value o.metric ≤ metric_value m) same (best.least f among);
@@ -219,9 +209,9 @@ module _ (s : State) (selectors : List Selector) (are : AreSelectors s selectors
               let d : OfferedBy y net f = by_selector y net f within in
               let same : d.addr ≡ b.addr = same_host d.addr b.addr (sym d.node ∙ b.node) in
               let own : y.originator ≡ b.addr = sym (d.origin is) ∙ same in
-              (y.metric, subst (λ (p : Addr4). Gives s b.addr p y.metric) own (gives_of s selectors are y stands b.addr (inr (sym own))))),
+              (y.metric, subst (λ (p : Addr4). SelectorGives selectors b.addr p y.metric) own (gives_of selectors y stands b.addr (inr (sym own))))),
           λ (m, g).
-              (let (y, stands, by, metric, has) = selector_of s selectors are b.addr b.addr m g in
+              (let (y, stands, by, metric, has) = selector_of selectors b.addr b.addr m g in
               let own : Offer = record { origin = true; gateway = None; metric = y.metric } in
               let at : host y.originator ≡ net = ap host by ∙ sym b.node in
               best.origin.1 (own, subst (λ (n : NetAddr). Of n own) at (in_each of_selector selectors y (host y.originator, own) stands (at_head _ _)), refl)),
@@ -234,26 +224,26 @@ module _ (s : State) (selectors : List Selector) (are : AreSelectors s selectors
   by_selectors net p e = subst (SumsUp (Of net)) e (sums net)
 
   -- an address without an offer is not advertised
-  not_advertised : (net : NetAddr) (a : Addr4) (m : Metric) → offered net (flat_map of_selector selectors) None ≡ None → net ≡ host a → Advertises s a m → ⊥
+  not_advertised : (net : NetAddr) (a : Addr4) (m : Metric) → offered net (flat_map of_selector selectors) None ≡ None → net ≡ host a → AdvertisesBy (SelectorGives selectors) a m → ⊥
   not_advertised net a m none node adv = let (e, among, _) = offers net a adv.giver m node adv.given in by_selectors net None none e among
 
-  module _ (attached : List Attached4) (attaches : s.settings.attached ≡ attached) (distinct : IsTrue (are_distinct net_eq (map (λ a. a.net) attached))) where
+  module _ (attached : List Attached4) (distinct : IsTrue (are_distinct net_eq (map (λ a. a.net) attached))) where
     abbrev at_node : NetAddr → Option Offer
     at_node net = offered net (map of_network attached) (offered net (flat_map of_selector selectors) None)
 
     -- a row of a node that something is offered of
-    is_row : (net : NetAddr) (o : Offer) → at_node net ≡ Some o → IsTcRow s (row_of (net, o))
+    is_row : (net : NetAddr) (o : Offer) → at_node net ≡ Some o → IsRowBy (SelectorGives selectors) attached (row_of (net, o))
     is_row net o e = by_case (offered net (flat_map of_selector selectors) None) refl e where
-      by_case : (p : Option Offer) → offered net (flat_map of_selector selectors) None ≡ p → offered net (map of_network attached) p ≡ Some o → IsTcRow s (row_of (net, o))
+      by_case : (p : Option Offer) → offered net (flat_map of_selector selectors) None ≡ p → offered net (map of_network attached) p ≡ Some o → IsRowBy (SelectorGives selectors) attached (row_of (net, o))
       by_case (Some f) is e =
           let both_are : Some f ≡ Some o = sym (gives_way net attached f) ∙ e in
-          let adv : Advertised s net o = advertised net o (by_selectors net (Some o) (is ∙ both_are)) in
+          let adv : OfNode selectors net o = advertised net o (by_selectors net (Some o) (is ∙ both_are)) in
           Of_address adv.addr o.metric adv.node adv.origin (ap is_none adv.gateway) adv.gateway refl adv.metric
       by_case None is e =
           let (a, there, at, same) = by_network net attached o e in
           Of_network a.distance a.metric (ap (λ (f : Offer). f.origin) same) (ap (λ (f : Offer). is_none f.gateway) same) (ap (λ (f : Offer). f.gateway) same) (ap (λ (f : Offer). Some f.metric) same) (record {
             attached = a;
-            stands = subst (λ (l : List Attached4). Contains l a) (sym attaches) there;
+            stands = there;
             at_net = at;
             at_distance = refl;
             at_metric = refl;
@@ -261,26 +251,26 @@ module _ (s : State) (selectors : List Selector) (are : AreSelectors s selectors
           })
 
     -- what is offered of the node of a row
-    of_row : (row : TcRow) → IsTcRow s row → (o : Offer) × (at_node row.dest ≡ Some o) × (row_of (row.dest, o) ≡ row)
+    of_row : (row : TcRow) → IsRowBy (SelectorGives selectors) attached row → (o : Offer) × (at_node row.dest ≡ Some o) × (row_of (row.dest, o) ≡ row)
     of_row row (Of_address a m dest origin routable gateway metric adv) = by_case (offered row.dest (flat_map of_selector selectors) None) refl where
       by_case : (p : Option Offer) → offered row.dest (flat_map of_selector selectors) None ≡ p → (o : Offer) × (at_node row.dest ≡ Some o) × (row_of (row.dest, o) ≡ row)
       by_case None is = absurd (not_advertised row.dest a m is dest adv)
       by_case (Some o) is =
-          let found : Advertised s row.dest o = advertised row.dest o (by_selectors row.dest (Some o) is) in
+          let found : OfNode selectors row.dest o = advertised row.dest o (by_selectors row.dest (Some o) is) in
           let same : found.addr ≡ a = same_host found.addr a (sym found.node ∙ dest) in
-          let here : Advertises s a o.metric = subst (λ (b : Addr4). Advertises s b o.metric) same found.metric in
+          let here : AdvertisesBy (SelectorGives selectors) a o.metric = subst (λ (b : Addr4). AdvertisesBy (SelectorGives selectors) b o.metric) same found.metric in
           let cost : m ≡ o.metric = same_cost m o.metric (adv.least here.giver o.metric here.given) (here.least adv.giver m adv.given) in
-          let own : IsTrue o.origin ↔ AdvertisesOriginator s a = subst (λ (b : Addr4). IsTrue o.origin ↔ AdvertisesOriginator s b) same found.origin in (
+          let own : IsTrue o.origin ↔ AdvertisesOriginatorBy (SelectorGives selectors) a = subst (λ (b : Addr4). IsTrue o.origin ↔ AdvertisesOriginatorBy (SelectorGives selectors) b) same found.origin in (
             o,
             ap (λ (p : Option Offer). offered row.dest (map of_network attached) p) is ∙ gives_way row.dest attached o,
             row_is row o (same_test row.origin o.origin (λ t. own.1 (origin.0 t), λ t. origin.1 (own.0 t))) (routable ∙ sym (ap is_none found.gateway)) (gateway ∙ sym found.gateway) (metric ∙ ap Some cost),
           )
     of_row row (Of_network distance m origin routable gateway metric adv) = by_case (offered row.dest (flat_map of_selector selectors) None) refl where
       by_case : (p : Option Offer) → offered row.dest (flat_map of_selector selectors) None ≡ p → (o : Offer) × (at_node row.dest ≡ Some o) × (row_of (row.dest, o) ≡ row)
-      by_case (Some o) is = absurd (let found : Advertised s row.dest o = advertised row.dest o (by_selectors row.dest (Some o) is) in adv.no_address found.addr o.metric found.metric found.node)
+      by_case (Some o) is = absurd (let found : OfNode selectors row.dest o = advertised row.dest o (by_selectors row.dest (Some o) is) in adv.no_address found.addr o.metric found.metric found.node)
       by_case None is =
           let a : Attached4 = adv.attached in
-          let there : Contains attached a = subst (λ (l : List Attached4). Contains l a) attaches adv.stands in
+          let there : Contains attached a = adv.stands in
           let o : Offer = (of_network a).1 in (
             o,
             ap (λ (p : Option Offer). offered row.dest (map of_network attached) p) is ∙ subst (λ (n : NetAddr). offered n (map of_network attached) None ≡ Some o) adv.at_net (of_its_net attached a distinct there),
@@ -288,15 +278,69 @@ module _ (s : State) (selectors : List Selector) (are : AreSelectors s selectors
           )
 
     -- the rows of a map that has what is offered
-    pub are_rows : (m : BTreeMap NetAddr Offer) (rows : List TcRow) → IsOrdered net_cmp m → ((net : NetAddr) → get net_cmp m net ≡ at_node net) → rows ≡ map row_of m.entries → AreTcRows s rows
-    are_rows m rows ordered has all = subst (AreTcRows s) (sym all) (record {
+    pub are_rows : (m : BTreeMap NetAddr Offer) (rows : List TcRow) → IsOrdered net_cmp m → ((net : NetAddr) → get net_cmp m net ≡ at_node net) → rows ≡ map row_of m.entries → AreRowsBy (SelectorGives selectors) attached rows
+    are_rows m rows ordered has all = subst (AreRowsBy (SelectorGives selectors) attached) (sym all) (record {
       exactly = λ row. (
         λ among.
             (let (e, inside, is) = from_map row_of m.entries row among in
-            subst (IsTcRow s) is (is_row e.0 e.1 (sym (has e.0) ∙ (btree_map_get_iff net_total net_exact m ordered e.0 e.1).1 inside))),
+            subst (IsRowBy (SelectorGives selectors) attached) is (is_row e.0 e.1 (sym (has e.0) ∙ (btree_map_get_iff net_total net_exact m ordered e.0 e.1).1 inside))),
         λ row_is.
             (let (o, at, is) = of_row row row_is in
             subst (λ (r : TcRow). Contains (map row_of m.entries) r) is (in_map row_of m.entries (row.dest, o) ((btree_map_get_iff net_total net_exact m ordered row.dest o).0 (has row.dest ∙ at)))),
       );
       ordered = ascending_rows m.entries ordered;
     })
+
+-- ---- a router's rows
+
+module _ (gives gives' : Addr4 → Addr4 → Metric → Type 0) (same : (a o : Addr4) (m : Metric) → gives a o m ↔ gives' a o m) where
+  same_advertised : (a : Addr4) (m : Metric) → AdvertisesBy gives a m → AdvertisesBy gives' a m
+  same_advertised a m adv = record { giver = adv.giver; given = (same a adv.giver m).0 adv.given; least = λ o n g. adv.least o n ((same a o n).1 g) }
+
+  same_origin : (a : Addr4) → AdvertisesOriginatorBy gives a → AdvertisesOriginatorBy gives' a
+  same_origin a (m, g) = (m, (same a a m).0 g)
+
+-- the rows are those by the same that is given
+module _ (gives gives' : Addr4 → Addr4 → Metric → Type 0) (same : (a o : Addr4) (m : Metric) → gives a o m ↔ gives' a o m) (networks : List Attached4) where
+  back : (a o : Addr4) (m : Metric) → gives' a o m ↔ gives a o m
+  back a o m = ((same a o m).1, (same a o m).0)
+
+  same_row : (row : TcRow) → IsRowBy gives networks row → IsRowBy gives' networks row
+  same_row row (Of_address a m dest origin routable gateway metric adv) =
+      Of_address a m dest (λ t. same_origin gives gives' same a (origin.0 t), λ o. origin.1 (same_origin gives' gives back a o)) routable gateway metric (same_advertised gives gives' same a m adv)
+  same_row row (Of_network distance m origin routable gateway metric adv) = Of_network distance m origin routable gateway metric (record {
+    attached = adv.attached;
+    stands = adv.stands;
+    at_net = adv.at_net;
+    at_distance = adv.at_distance;
+    at_metric = adv.at_metric;
+    no_address = λ a n b. adv.no_address a n (same_advertised gives' gives back a n b);
+  })
+
+-- what a router's neighbours give is what its selectors give
+router_gives : (s : State) (selectors : List Selector) → AreSelectors s selectors → (a o : Addr4) (m : Metric) → SelectorGives selectors a o m ↔ Gives s a o m
+router_gives s selectors are a o m = (
+  λ g.
+      (let (neighbour, (symmetric, selects, metric), (_, _, addrs)) = are.each g.selector g.stands in
+      record {
+        neighbour = neighbour;
+        symmetric = subst (λ (p : Addr4). HasSymmetric s p neighbour) g.originator symmetric;
+        selects = selects;
+        metric = metric ∙ ap Some g.metric;
+        address = elim g.address [ inl among ↦ inl ((addrs a).0 among) | inr is ↦ inr is ];
+      }),
+  λ g.
+      (let (x, there, (by, metric, addrs)) = are.all o g.neighbour m (g.symmetric, g.selects, g.metric) in
+      record { selector = x; stands = there; originator = by; metric = metric; address = elim g.address [ inl among ↦ inl ((addrs a).1 among) | inr is ↦ inr is ] }),
+)
+
+-- the rows by a router's selectors and its networks are the rows that it advertises
+pub router_rows : (s : State) (selectors : List Selector) (attached : List Attached4) (rows : List TcRow) → AreRowsBy (SelectorGives selectors) attached rows →
+    AreSelectors s selectors → s.settings.attached ≡ attached → AreTcRows s rows
+router_rows s selectors attached rows are_by are attaches = subst (λ (l : List Attached4). AreRowsBy (Gives s) l rows) (sym attaches) (record {
+  exactly = λ row. (
+    λ among. same_row (SelectorGives selectors) (Gives s) (router_gives s selectors are) attached row ((are_by.exactly row).0 among),
+    λ is. (are_by.exactly row).1 (same_row (Gives s) (SelectorGives selectors) (back (SelectorGives selectors) (Gives s) (router_gives s selectors are) attached) attached row is),
+  );
+  ordered = are_by.ordered;
+})

@@ -1,5 +1,5 @@
 -- What expiry and TCs keep of a topology.
-use Rattle.std.proofs.Common.{◌≡◌, ℕ, ◌+◌, ◌<◌, ◌⊎◌, inl, inr, Bool, true, false, cond, not, ◌&&◌, Option, Some, None, Result, Ok, Err, refl, sym, ap, subst, ◌∙◌, arith}
+use Rattle.std.proofs.Common.{◌≡◌, ℕ, ◌+◌, ◌<◌, ◌⊎◌, inl, inr, Bool, true, false, cond, not, ◌&&◌, [], Option, Some, None, Result, Ok, Err, refl, sym, ap, subst, ◌∙◌, arith}
 use Rattle.std.specs.Prelude.{nat_lt, nat_eq, IfOk, OnOk}
 use Rattle.std.specs.declared.alloc.AllocError.{AllocError}
 use Rattle.std.proofs.lemmas.Bool.{lt-ltb}
@@ -10,7 +10,8 @@ use Rattle.mesh_atoms.specs.declared.tuples.Advertiser.{Advertiser}
 use Rattle.mesh_atoms.specs.AfterTc.{if_not_dropped, Becomes, BecomesSet, Given, Left, AfterTc, TcAnswer, TakesTc, Is_old, Overfull, Takes}
 use Rattle.mesh_atoms.specs.Base.{Base, find, if_live, Expires, IsFresh, SetsOnly, addr_eq, router_eq, address_eq, network_eq}
 use Rattle.mesh_atoms.specs.Live.{LiveTopology}
-use Rattle.mesh_atoms.specs.Sound.{SoundTopology}
+use Rattle.mesh_atoms.specs.Sound.{IsWithin, SoundTopology}
+use Rattle.mesh_expire.proofs.Laws.{distinct_none}
 use Rattle.mesh_atoms.specs.State.{Topology, IsOriginator}
 use Rattle.mesh_atoms.proofs.Nets.{addr_exact}
 use Rattle.mesh_topo.specs.declared.topology.TcTaken.{TcTaken}
@@ -58,6 +59,27 @@ live_sound now old new live within settings before sound =
       not_my_address = λ key mine. none_left address_eq now old.addresses new.addresses key live.addresses (sound.not_my_address key mine);
       not_my_network = λ key mine. none_left network_eq now old.networks new.networks key live.networks (sound.not_my_network key mine);
     }
+
+-- ---- no tuples
+
+none_within : {K V : Type 0} (eq : K → K → Bool) (now : ℕ) (base : Base K V) → base ≡ [] → IsWithin eq now 16384 base
+none_within eq now base none = rw none (record { distinct = distinct_none eq; limit = omega arith; fresh = λ q value until e. absurd cc })
+
+none_at : {K V : Type 0} (eq : K → K → Bool) (base : Base K V) (q : K) → base ≡ [] → find eq base q ≡ None
+none_at eq base q none = rw none refl
+
+pub none_sound : (topology : Topology) → topology.advertisers ≡ [] → topology.routers ≡ [] → topology.addresses ≡ [] → topology.networks ≡ [] →
+    (settings : RouterSettings) (now : ℕ) → SoundTopology settings now topology
+none_sound topology a r d n settings now = record {
+  advertisers = none_within addr_eq now topology.advertisers a;
+  routers = none_within router_eq now topology.routers r;
+  addresses = none_within address_eq now topology.addresses d;
+  networks = none_within network_eq now topology.networks n;
+  not_my_advertiser = λ o mine. none_at addr_eq topology.advertisers o a;
+  not_my_router = λ key mine. none_at router_eq topology.routers key r;
+  not_my_address = λ key mine. none_at address_eq topology.addresses key d;
+  not_my_network = λ key mine. none_at network_eq topology.networks key n;
+}
 
 -- ---- a TC
 

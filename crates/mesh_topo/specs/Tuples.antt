@@ -1,5 +1,5 @@
 -- The tuples that the rows of a TC give.
-use Rattle.std.specs.Prelude.{◌≡◌, ℕ, ◌⊎◌, Contains, Option, Some, None, cond, IsTrue, option_map}
+use Rattle.std.specs.Prelude.{◌≡◌, ℕ, Option, Some, None, cond, option_map}
 use Rattle.mesh_atoms.specs.declared.addr.Addr4.{Addr4}
 use Rattle.mesh_atoms.specs.declared.addr.NetAddr.{NetAddr}
 use Rattle.mesh_atoms.specs.declared.metric.Metric.{Metric}
@@ -11,6 +11,7 @@ use Rattle.mesh_atoms.specs.declared.tuples.AddressKey.{AddressKey}
 use Rattle.mesh_atoms.specs.declared.tuples.AddressTuple.{AddressTuple}
 use Rattle.mesh_atoms.specs.declared.tuples.NetworkKey.{NetworkKey}
 use Rattle.mesh_atoms.specs.declared.tuples.NetworkTuple.{NetworkTuple}
+use Rattle.mesh_atoms.specs.Writable.{HaveTypeWhole}
 
 -- what an ORIGINATOR row with a metric gives in a TC of that originator and number
 abbrev pub router_of : Addr4 → ℕ → TcRow → Option (RouterKey × RouterTuple)
@@ -28,10 +29,6 @@ network_with from ansn net distance metric = None
 abbrev pub network_of : Addr4 → ℕ → TcRow → Option (NetworkKey × NetworkTuple)
 network_of from ansn row = network_with from ansn row.dest row.gateway row.metric
 
--- a row of an originator or of a routable address is of a single address
-abbrev pub IsHost : TcRow → Type 0
-IsHost row = IsTrue row.origin ⊎ IsTrue row.routable → row.dest.prefix ≡ 32
-
--- all rows of a TC are so
+-- what is an address of a router in a TC is a single address
 abbrev pub HasHosts : Tc → Type 0
-HasHosts tc = (row : TcRow) → Contains tc.rows row → IsHost row
+HasHosts tc = HaveTypeWhole tc.rows

@@ -1,13 +1,13 @@
 //! The rows that a router's own TCs tell (RFC 7181, section 16.1).
 ghost use Rattle.std.specs.Prelude.{◌≡◌, ◌∷◌, [], map, flat_map, Some, false, true, IfOk, OnOk, IsTrue};
 ghost use Rattle.std.specs.BTreeMap.{get, IsOrdered};
-ghost use Rattle.mesh_atoms.specs.Advertised.{AreTcRows};
+ghost use Rattle.mesh_atoms.specs.Advertised.{AreRowsBy, AreTcRows};
 ghost use Rattle.mesh_atoms.specs.Base.{host, net_eq};
 ghost use Rattle.mesh_atoms.specs.Settings.{are_distinct};
 ghost use Rattle.mesh_atoms.specs.State.{State};
 ghost use Rattle.mesh_atoms.specs.Nodes.{net_cmp};
 ghost use Rattle.mesh_topo.specs.Offers.{lesser, put_offer, of_selector, of_network, of_address, row_of, Keeps};
-ghost use Rattle.mesh_topo.specs.Selectors.{AreSelectors};
+ghost use Rattle.mesh_topo.specs.Selectors.{AreSelectors, SelectorGives};
 
 use mesh_atoms::{Addr4, Attached4, Metric, NetAddr, Seq, TcRow};
 use std::alloc::{AllocError, Global};
@@ -30,9 +30,9 @@ pub(crate) struct Offer {
     pub metric: Metric,
 }
 
-/// The rows that a router advertises which has these selectors, and attaches these networks, which must be distinct: each
-/// address and originator of a selector, at the least metric of the selectors that have it; and each network that is no
-/// such address, with its distance and metric. Rows are in ascending order. Refuses for want of memory alone. Takes time
+/// The rows by these selectors and attached networks, which must be distinct: each address and originator of a selector,
+/// at the least metric of the selectors that have it; and each network that is no such address, with its distance and
+/// metric. Rows are in ascending order. Refuses for want of memory alone. Takes time
 /// n log n for n addresses and networks.
 pub fn tc_rows(
     alloc: Global,
@@ -40,6 +40,8 @@ pub fn tc_rows(
     attached: &[Attached4],
 ) -> Result<Seq<TcRow>, AllocError>
     requires { IsTrue (are_distinct net_eq (map (λ a. a.net) attached.now)) }
+    ensures exact { IfOk result (AreRowsBy (SelectorGives selectors.now) attached.now) }
+    // They are what a router advertises that has these selectors and attaches these networks.
     ensures rows { IfOk result (λ rows. (s : State) → AreSelectors s selectors.now → s.settings.attached ≡ attached.now → AreTcRows s rows) }
 {
     let mut offers = BTreeMap::new(alloc);

@@ -55,6 +55,7 @@ impl<B: Bases> Topology<B> {
         ensures routers { IfOk result (λ topology. topology.routers ≡ []) }
         ensures addresses { IfOk result (λ topology. topology.addresses ≡ []) }
         ensures networks { IfOk result (λ topology. topology.networks ≡ []) }
+        ensures sound { IfOk result (λ topology. (settings : RouterSettings) (now : ℕ) → SoundTopology settings now topology) }
     {
         Ok(Topology {
             advertisers: B::Advertisers::new(alloc)?,

@@ -5,7 +5,7 @@ use Rattle.std.proofs.lemmas.Bool.{cases_Bool}
 use Rattle.mesh_atoms.specs.declared.addr.NetAddr.{NetAddr}
 use Rattle.mesh_wire.specs.declared.parts.RowParts.{RowParts}
 use Rattle.mesh_wire.specs.Entries.{Entry, is_of, put_said, collected}
-use Rattle.mesh_wire.specs.Told.{no_parts}
+use Rattle.mesh_wire.specs.KeptParts.{no_parts}
 use Rattle.mesh_wire.proofs.Slots.{IsMore, RowIs, row_more, row_same, row_none}
 
 -- one of the entries is so

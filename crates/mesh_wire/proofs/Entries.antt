@@ -1,5 +1,5 @@
 -- The entries of a message say what the message does.
-use Rattle.std.proofs.Common.{◌≡◌, ℕ, zero, suc, ◌+◌, ◌-◌, ◌<◌, ◌≤◌, inl, inr, refl, sym, ◌∙◌, ap, subst, arith, List, [], ◌∷◌, Contains, slice_range, take}
+use Rattle.std.proofs.Common.{◌≡◌, ℕ, zero, suc, ◌+◌, ◌-◌, ◌<◌, ◌≤◌, inl, inr, refl, sym, ◌∙◌, ap, subst, arith, List, [], ◌∷◌, Contains, slice_range}
 use Rattle.std.specs.Prelude.{Some, None, slice_get, drop, ◌==◌}
 use Rattle.std.proofs.lemmas.Bool.{cases_Bool, eq-eqb, eqb-true}
 use Rattle.mesh_atoms.specs.declared.addr.NetAddr.{NetAddr}
@@ -8,32 +8,11 @@ use Rattle.mesh_tlv.specs.Fields.{TlvFields, AddrTlvFields}
 use Rattle.mesh_packet.specs.Fields.{BlockFields, MessageFields}
 use Rattle.mesh_wire.specs.Entries.{Entry, standing, tellings, of_tlv, of_tlvs, of_block, of_blocks}
 use Rattle.mesh_wire.specs.Parts.{IsIn, octets_of, value_at}
-use Rattle.mesh_wire.specs.Rows.{HasAddress, Says}
+use Rattle.mesh_wire.specs.Rows.{HoldsAddress, HasValue}
 use Rattle.mesh_wire.proofs.Ascending.{at_head, in_tail, head_or_tail, none_in}
 use Rattle.mesh_wire.proofs.Collected.{AnyOf, StandsOf, SaysOf, any_front, any_back, any_either}
 use Rattle.mesh_wire.proofs.Collecting.{of_one, one_of}
-
--- ---- places of lists
-
-pub get_drop : {X : Type 0} (n : ℕ) (xs : List X) (i : ℕ) → slice_get (drop n xs) i ≡ slice_get xs (n + i)
-get_drop zero xs i = let e : i ≡ zero + i = omega arith in ap (slice_get xs) e
-get_drop (suc n) [] i = none i (suc n + i)
-  where
-    none : {X : Type 0} (i j : ℕ) → slice_get {X = X} [] i ≡ slice_get {X = X} [] j
-    none i j = refl
-get_drop (suc n) (x ∷ xs) i = let e : suc n + i ≡ suc (n + i) = omega arith in rw e (get_drop n xs i)
-
-pub get_take : {X : Type 0} (n : ℕ) (xs : List X) (i : ℕ) → i < n → slice_get (take n xs) i ≡ slice_get xs i
-get_take zero xs i lt = absurd (omega arith)
-get_take (suc n) [] i lt = refl
-get_take (suc n) (x ∷ xs) zero lt = refl
-get_take (suc n) (x ∷ xs) (suc i) lt = get_take n xs i (omega arith)
-
-pub taken : {X : Type 0} (n : ℕ) (xs : List X) (i : ℕ) (x : X) → slice_get (take n xs) i ≡ Some x → i < n
-taken zero xs i x e = cc
-taken (suc n) [] i x e = cc
-taken (suc n) (y ∷ ys) zero x e = omega arith
-taken (suc n) (y ∷ ys) (suc i) x e = let l = taken n ys i x e in omega arith
+use Rattle.mesh_wire.proofs.Standing.{get_drop, get_take, covered}
 
 -- ---- addresses
 
@@ -84,12 +63,6 @@ told_stands : (tlv : AddrTlvFields) (net : NetAddr) (from : ℕ) (addrs : List R
 told_stands tlv net from [] h = absurd h
 told_stands tlv net from (a ∷ addrs) (inl h) = (zero, a, refl, of_one a (Some (tlv.kind, octets_of (value_at tlv from))) net h)
 told_stands tlv net from (a ∷ addrs) (inr h) = let (i, b, at, is_in) = told_stands tlv net (from + 1) addrs h in (suc i, b, at, is_in)
-
--- the address at a place of the covered ones
-covered : (addrs : List RawAddr) (first end i : ℕ) (a : RawAddr) → slice_get (slice_range addrs first end) i ≡ Some a → (i < end - first) × (slice_get addrs (first + i) ≡ Some a)
-covered addrs first end i a at =
-    let lt = taken (end - first) (drop first addrs) i a at in
-    (lt, sym (get_drop first addrs i) ∙ sym (get_take (end - first) (drop first addrs) i lt) ∙ at)
 
 uncovered : (addrs : List RawAddr) (first end place : ℕ) (a : RawAddr) → first ≤ place → place < end → slice_get addrs place ≡ Some a → slice_get (slice_range addrs first end) (place - first) ≡ Some a
 uncovered addrs first end place a low high at =
@@ -170,7 +143,7 @@ blocks_in P (b ∷ blocks) block has h = elim (head_or_tail b blocks block has) 
 
 -- ---- the whole
 
-pub says_of : (m : MessageFields) (net : NetAddr) (k : ℕ) (x : List ℕ) → AnyOf (SaysOf net k x) (of_blocks m.blocks) → Says m net k x
+pub says_of : (m : MessageFields) (net : NetAddr) (k : ℕ) (x : List ℕ) → AnyOf (SaysOf net k x) (of_blocks m.blocks) → HasValue m net k x
 says_of m net k x h =
     let (b, in_message, g) = in_blocks (SaysOf net k x) m.blocks h in
     elim (any_either (SaysOf net k x) (standing b.addrs) (of_tlvs b.addrs b.tlvs) g) [
@@ -193,7 +166,7 @@ says_of m net k x h =
           )
     ]
 
-pub of_says : (m : MessageFields) (net : NetAddr) (k : ℕ) (x : List ℕ) → Says m net k x → AnyOf (SaysOf net k x) (of_blocks m.blocks)
+pub of_says : (m : MessageFields) (net : NetAddr) (k : ℕ) (x : List ℕ) → HasValue m net k x → AnyOf (SaysOf net k x) (of_blocks m.blocks)
 of_says m net k x (value, part, is) =
     let b = part.block in
     let s : SaysAt b.addrs part.tlv net k x = record {
@@ -210,7 +183,7 @@ of_says m net k x (value, part, is) =
     blocks_in (SaysOf net k x) m.blocks b part.address.in_message
     (any_back (SaysOf net k x) (standing b.addrs) (of_tlvs b.addrs b.tlvs) (tlvs_in (SaysOf net k x) b.addrs b.tlvs part.tlv part.in_block (says_tlv b.addrs part.tlv net k x s)))
 
-pub has_of : (m : MessageFields) (net : NetAddr) → AnyOf (StandsOf net) (of_blocks m.blocks) → HasAddress m net
+pub has_of : (m : MessageFields) (net : NetAddr) → AnyOf (StandsOf net) (of_blocks m.blocks) → HoldsAddress m net
 has_of m net h =
     let (b, in_message, g) = in_blocks (StandsOf net) m.blocks h in
     elim (any_either (StandsOf net) (standing b.addrs) (of_tlvs b.addrs b.tlvs) g) [
@@ -221,6 +194,6 @@ has_of m net h =
           (b, place, record { address = a; in_message = in_message; in_block = at; is_in = is_in })
     ]
 
-pub of_has : (m : MessageFields) (net : NetAddr) → HasAddress m net → AnyOf (StandsOf net) (of_blocks m.blocks)
+pub of_has : (m : MessageFields) (net : NetAddr) → HoldsAddress m net → AnyOf (StandsOf net) (of_blocks m.blocks)
 of_has m net (b, place, at) =
     blocks_in (StandsOf net) m.blocks b at.in_message (any_front (StandsOf net) (standing b.addrs) (of_tlvs b.addrs b.tlvs) (there_stands net b.addrs place at.address at.in_block at.is_in))

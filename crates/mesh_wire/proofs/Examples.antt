@@ -3,14 +3,14 @@ use Rattle.std.proofs.Common.{◌≡◌, ℕ, zero, suc, ◌≤◌, inl, inr, Li
 use Rattle.std.specs.Prelude.{Contains, Option, Some, None, slice_get}
 use Rattle.mesh_atoms.specs.declared.addr.NetAddr.{NetAddr}
 use Rattle.mesh_atoms.specs.declared.hello.HelloRow.{HelloRow}
-use Rattle.mesh_wire.specs.Hello.{HelloIs, IsHelloRow}
+use Rattle.mesh_wire.specs.Hello.{HelloIs, IsReadHelloRow}
 use Rattle.mesh_wire.specs.Kinds.{local_if, link_status, link_metric, IsStatusBelow}
 use Rattle.mesh_addr.specs.declared.records.RawAddr.{RawAddr}
 use Rattle.mesh_tlv.specs.Fields.{TlvFields, AddrTlvFields}
 use Rattle.mesh_packet.specs.Fields.{BlockFields}
 use Rattle.mesh_wire.specs.Parts.{IsIn, part_at, octets_of}
-use Rattle.mesh_wire.specs.Rows.{HasAddressAt, HasAddress, Says}
-use Rattle.mesh_wire.specs.HelloRules.{BreaksHello, AddressWidth, HopLimit, HopCount, Validity, Interval, Willing, Undefined, TwoValues, Prefix, Metric}
+use Rattle.mesh_wire.specs.Rows.{HoldsAddressAt, HoldsAddress, HasValue}
+use Rattle.mesh_wire.specs.HelloRules.{BreaksHello, AddressWidth, HopLimit, HopCount, NoValidity, WrongInterval, WrongWilling, Undefined, TwoValues, ShortPrefix, WrongMetric}
 use Rattle.mesh_wire.specs.Rules.{FirstBroken, IsOctet, Keeps}
 use Rattle.mesh_wire.specs.Examples.{own, own_net, local, own_block, lone, own_row, lone_hello, bare, near, near_net, states, two_near}
 use Rattle.mesh_atoms.proofs.Nets.{same_net}
@@ -27,10 +27,10 @@ first_only x y (suc k) e = cc
 
 -- ---- the HELLO of a router that hears nobody: its own address, on the interface that sends
 
-own_at : HasAddressAt lone own_block 0 own_net
+own_at : HoldsAddressAt lone own_block 0 own_net
 own_at = record { address = own; in_message = (0, lit< tt, refl); in_block = refl; is_in = record { prefix = refl; number = refl } }
 
-own_local : Says lone own_net local_if (0 ∷ [])
+own_local : HasValue lone own_net local_if (0 ∷ [])
 own_local = (
   Some (0 ∷ []),
   record {
@@ -46,7 +46,7 @@ own_local = (
   refl,
 )
 
-own_row_is : IsHelloRow lone own_row
+own_row_is : IsReadHelloRow lone own_row
 own_row_is = record {
   local = own_local;
   of_other = λ none. cc;
@@ -54,7 +54,7 @@ own_row_is = record {
 }
 
 -- no other address is in it
-only_own : (net : NetAddr) → HasAddress lone net → own_net ≡ net
+only_own : (net : NetAddr) → HoldsAddress lone net → own_net ≡ net
 only_own net (block, place, at) =
     let same_block : own_block ≡ block = only own_block block at.in_message in
     let in_block : slice_get own_block.addrs place ≡ Some at.address = subst (λ (b : BlockFields). slice_get b.addrs place ≡ Some at.address) (sym same_block) at.in_block in
@@ -70,13 +70,13 @@ lone_is = record {
   willing = (119, inr refl, refl, refl);
   rows = record {
     ascending = λ i j d lt less. absurd (omega arith);
-    each = λ row holds. subst (λ (r : HelloRow). HasAddress lone r.addr × IsHelloRow lone r) (only own_row row holds) ((own_block, 0, own_at), own_row_is);
+    each = λ row holds. subst (λ (r : HelloRow). HoldsAddress lone r.addr × IsReadHelloRow lone r) (only own_row row holds) ((own_block, 0, own_at), own_row_is);
     all = λ net has. (own_row, (0, lit< tt, refl), only_own net has);
   };
 }
 
 -- it says LOCAL_IF of its address, and nothing else
-says_only : (net : NetAddr) (kind : ℕ) (octets : List ℕ) → Says lone net kind octets → (kind ≡ 2) × (octets ≡ 0 ∷ []) × (own_net ≡ net)
+says_only : (net : NetAddr) (kind : ℕ) (octets : List ℕ) → HasValue lone net kind octets → (kind ≡ 2) × (octets ≡ 0 ∷ []) × (own_net ≡ net)
 says_only net kind octets (value, h, is) =
     let block : own_block ≡ h.block = only own_block h.block h.address.in_message in
     let in_block : Contains own_block.tlvs h.tlv = subst (λ (b : BlockFields). Contains b.tlvs h.tlv) (sym block) h.in_block in
@@ -84,7 +84,7 @@ says_only net kind octets (value, h, is) =
     let part : record { kind = kind; ext = 0; value = value } ≡ part_at local h.place = h.part_is ∙ ap (λ (t : AddrTlvFields). part_at t h.place) (sym tlv) in
     (ap (λ (p : TlvFields). p.kind) part, is ∙ ap (λ (p : TlvFields). octets_of p.value) part, only_own net (h.block, h.place, h.address))
 
-no_metric : (net : NetAddr) (octets : List ℕ) → Says lone net link_metric octets → ⊥
+no_metric : (net : NetAddr) (octets : List ℕ) → HasValue lone net link_metric octets → ⊥
 no_metric net octets said = (let e : ◌≡◌ {A = ℕ} 7 2 = (says_only net link_metric octets said).0 in omega arith)
 
 defined : (kind bound : ℕ) → kind ≡ 2 → IsStatusBelow kind bound → IsOctet 0 bound (0 ∷ [])
@@ -96,18 +96,18 @@ pub lone_keeps : Keeps (BreaksHello lone)
 lone_keeps n a (AddressWidth not_four) = not_four refl
 lone_keeps n a (HopLimit limit is not_one) = cc
 lone_keeps n a (HopCount count is not_zero) = cc
-lone_keeps n a (Validity none) = none 49152 lone_is.validity
-lone_keeps n a (Interval none) = none (Some 16384) lone_is.interval
-lone_keeps n a (Willing none) = none 119 (inr refl)
+lone_keeps n a (NoValidity none) = none 49152 lone_is.validity
+lone_keeps n a (WrongInterval none) = none (Some 16384) lone_is.interval
+lone_keeps n a (WrongWilling none) = none 119 (inr refl)
 lone_keeps n a (Undefined net kind bound status (octets, said, wrong)) =
     let is = says_only net kind octets said in
     wrong (subst (IsOctet 0 bound) (sym is.1) (defined kind bound is.0 status))
 lone_keeps n a (TwoValues net kind bound status (x, y, said_x, said_y, other)) = other ((says_only net kind x said_x).1 ∙ sym (says_only net kind y said_y).1)
-lone_keeps n a (Prefix net kind bound status (octets, said) short) =
+lone_keeps n a (ShortPrefix net kind bound status (octets, said) short) =
     let e : 32 ≡ net.prefix = ap (λ (m : NetAddr). m.prefix) (says_only net kind octets said).2 in
     omega arith
-lone_keeps n a (Metric net (inl (octets, said, other))) = no_metric net octets said
-lone_keeps n a (Metric net (inr (kind, x, y, (high, low, said, flag, code), shows_y, other))) = no_metric net (high ∷ low ∷ []) said
+lone_keeps n a (WrongMetric net (inl (octets, said, other))) = no_metric net octets said
+lone_keeps n a (WrongMetric net (inr (kind, x, y, (high, low, said, flag, code), shows_y, other))) = no_metric net (high ∷ low ∷ []) said
 
 -- ---- a message of nothing but its header breaks rule 23 first
 
@@ -115,24 +115,24 @@ first_is : (n : ℕ) (a : Option NetAddr) → BreaksHello bare n a → 23 ≤ n
 first_is n a (AddressWidth not_four) = absurd (not_four refl)
 first_is n a (HopLimit limit is not_one) = cc
 first_is n a (HopCount count is not_zero) = cc
-first_is n a (Validity none) = lit≤ tt
-first_is n a (Interval none) = lit≤ tt
-first_is n a (Willing none) = lit≤ tt
+first_is n a (NoValidity none) = lit≤ tt
+first_is n a (WrongInterval none) = lit≤ tt
+first_is n a (WrongWilling none) = lit≤ tt
 first_is n a (Undefined net kind bound status at) = lit≤ tt
 first_is n a (TwoValues net kind bound status at) = lit≤ tt
-first_is n a (Prefix net kind bound status at short) = lit≤ tt
-first_is n a (Metric net wrong) = lit≤ tt
+first_is n a (ShortPrefix net kind bound status at short) = lit≤ tt
+first_is n a (WrongMetric net wrong) = lit≤ tt
 
 pub bare_broken : FirstBroken (BreaksHello bare) 23 None
 bare_broken = record {
-  broken = Validity (λ ticks is. (let e : [] ≡ is.0.0 ∷ [] = is.0.1 in cc));
+  broken = NoValidity (λ ticks is. (let e : [] ≡ is.0.0 ∷ [] = is.0.1 in cc));
   first = first_is;
   least = λ a breaks. tt;
 }
 
 -- ---- a multivalue gives each address of its range one part
 
-pub heard_of_last : Says two_near near_net link_status (2 ∷ [])
+pub heard_of_last : HasValue two_near near_net link_status (2 ∷ [])
 heard_of_last = (
   Some (2 ∷ []),
   record {

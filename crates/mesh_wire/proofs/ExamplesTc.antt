@@ -7,16 +7,16 @@ use Rattle.mesh_wire.specs.Kinds.{nbr_addr_type}
 use Rattle.mesh_addr.specs.declared.records.RawAddr.{RawAddr}
 use Rattle.mesh_packet.specs.Fields.{BlockFields}
 use Rattle.mesh_wire.specs.Parts.{IsIn}
-use Rattle.mesh_wire.specs.Rows.{HasAddressAt, HasAddress, Says}
+use Rattle.mesh_wire.specs.Rows.{HoldsAddressAt, HoldsAddress, HasValue}
 use Rattle.mesh_wire.specs.Rules.{FirstBroken, IsLow, IsOctet}
-use Rattle.mesh_wire.specs.TcRules.{BreaksTc, AddressWidth, NoOriginator, NoSequence, Validity, Interval, Content, AddrType, TwoAddrTypes, Prefix, GatewayOctet, TwoGateways, Beside, Metric}
+use Rattle.mesh_wire.specs.TcRules.{BreaksTc, AddressWidth, NoOriginator, NoSequence, NoValidity, WrongInterval, Content, AddrType, TwoAddrTypes, ShortPrefix, GatewayOctet, TwoGateways, Beside, WrongMetric}
 use Rattle.mesh_wire.specs.Examples.{own, own_net, near, unknown, pair, odd_types}
 use Rattle.mesh_wire.proofs.Examples.{only}
 
-own_at : HasAddressAt odd_types pair 1 own_net
+own_at : HoldsAddressAt odd_types pair 1 own_net
 own_at = record { address = own; in_message = (0, lit< tt, refl); in_block = refl; is_in = record { prefix = refl; number = refl } }
 
-own_unknown : Says odd_types own_net nbr_addr_type (4 ∷ [])
+own_unknown : HasValue odd_types own_net nbr_addr_type (4 ∷ [])
 own_unknown = (
   Some (4 ∷ []),
   record {
@@ -50,13 +50,13 @@ not_below net address (inr e) is =
     let i : IsIn own net = subst (λ (a : RawAddr). IsIn a net) (sym e) is in
     inr (sym i.number, omega (arith, i.prefix))
 
-at_most : (net : NetAddr) → HasAddress odd_types net → IsAtMost own_net net
+at_most : (net : NetAddr) → HoldsAddress odd_types net → IsAtMost own_net net
 at_most net (block, place, at) =
     let same : pair ≡ block = only pair block at.in_message in
     let there : slice_get pair.addrs place ≡ Some at.address = subst (λ (b : BlockFields). slice_get b.addrs place ≡ Some at.address) (sym same) at.in_block in
     not_below net at.address (one_of_two place at.address there) at.is_in
 
-said_of : (net : NetAddr) (kind : ℕ) (octets : List ℕ) → Says odd_types net kind octets → IsAtMost own_net net
+said_of : (net : NetAddr) (kind : ℕ) (octets : List ℕ) → HasValue odd_types net kind octets → IsAtMost own_net net
 said_of net kind octets (value, h, is) = at_most net (h.block, h.place, h.address)
 
 -- ---- the first rule that is broken
@@ -66,21 +66,21 @@ first_is n a (AddressWidth not_four) = absurd (not_four refl)
 first_is n a (NoOriginator none) = cc
 first_is n a (NoSequence none) = cc
 -- at three hops the second time counts
-first_is n a (Validity none) = absurd (none 49152 ((88 ∷ (2 ∷ (100 ∷ [])), refl, refl, refl), lit< tt))
-first_is n a (Interval none) = absurd (none None refl)
+first_is n a (NoValidity none) = absurd (none 49152 ((88 ∷ (2 ∷ (100 ∷ [])), refl, refl, refl), lit< tt))
+first_is n a (WrongInterval none) = absurd (none None refl)
 first_is n a (Content none) = absurd (none 7 false (record { kind = 8; ext = 1; value = Some (0 ∷ (7 ∷ [])) }, 0, 7, refl, refl, refl, refl))
 first_is n a (AddrType net wrong) = lit≤ tt
 first_is n a (TwoAddrTypes net values) = lit≤ tt
-first_is n a (Prefix net has short) = lit≤ tt
+first_is n a (ShortPrefix net has short) = lit≤ tt
 first_is n a (GatewayOctet net wrong) = lit≤ tt
 first_is n a (TwoGateways net values) = lit≤ tt
 first_is n a (Beside net has beside) = lit≤ tt
-first_is n a (Metric net wrong) = lit≤ tt
+first_is n a (WrongMetric net wrong) = lit≤ tt
 
 low : (n : ℕ) (a : Option NetAddr) → BreaksTc odd_types n a → 37 ≤ n → n ≤ 37 → IsLow (Some own_net) a
 low n a (AddrType net (octets, said, wrong)) up down = said_of net nbr_addr_type octets said
 low n a (TwoAddrTypes net (x, y, said, said_y, other)) up down = said_of net nbr_addr_type x said
-low n a (Prefix net (octets, said) short) up down = said_of net nbr_addr_type octets said
+low n a (ShortPrefix net (octets, said) short) up down = said_of net nbr_addr_type octets said
 low n a other up down = absurd (omega arith)
 
 pub types_broken : FirstBroken (BreaksTc odd_types) 37 (Some own_net)

@@ -14,7 +14,7 @@ use Rattle.mesh_wire.specs.Tc.{ContentIs}
 use Rattle.mesh_wire.specs.TcHeading.{contents_in}
 use Rattle.mesh_wire.specs.Times.{ValidityIs, IntervalIs}
 use Rattle.mesh_wire.specs.Values.{values_in}
-use Rattle.mesh_wire.specs.Writes.{IsReadOfHello, IsReadOfTc}
+use Rattle.mesh_wire.specs.Writes.{HasTimes, IsReadOfHello, IsReadOfTc}
 use Rattle.mesh_wire.proofs.Ascending.{head_or_tail, none_in}
 
 above_zero : (ticks code : ℕ) → IsCodeOf ticks code → 0 < ticks
@@ -57,6 +57,18 @@ module _ (v i : ℕ) (rest : List ℕ) (ext : ℕ) where
 pub validity_is : (v i : ℕ) (rest : List ℕ) (ext : ℕ) (m : MessageFields) (kind : ℕ) → IsThird kind → (distance : ℕ) (b : Bool) (ticks : ℕ) → m.tlvs ≡ heading_of (v ∷ (i ∷ rest)) b kind ext → IsCodeOf ticks v → ValidityIs m distance ticks
 unfolding heading
 validity_is v i rest ext m kind third distance b ticks e code = validity_there v i rest ext m kind third distance b ticks e code
+
+-- both are one code each
+pub times_are : (v i : ℕ) (rest : List ℕ) (ext : ℕ) (m : MessageFields) (kind : ℕ) → IsThird kind → (validity : ℕ) (interval : Option ℕ) → m.tlvs ≡ heading_of (v ∷ (i ∷ rest)) (is_some interval) kind ext → IsCodeOf validity v → IsCodeIfSome interval i → HasTimes m validity interval
+unfolding heading
+times_are v i rest ext m kind third validity None e sent code = record {
+  validity_is = (v, ap (values_in validity_time) e ∙ validity_said v i rest ext false kind third, sent.1);
+  interval_is = λ ticks same. cc;
+}
+times_are v i rest ext m kind third validity (Some interval) e sent code = record {
+  validity_is = (v, ap (values_in validity_time) e ∙ validity_said v i rest ext true kind third, sent.1);
+  interval_is = λ ticks same. let is : interval ≡ ticks = cc in (i, ap (values_in interval_time) e ∙ interval_said v i rest ext kind third, code.1 ∙ is);
+}
 
 pub interval_is : (v i : ℕ) (rest : List ℕ) (ext : ℕ) (m : MessageFields) (kind : ℕ) → IsThird kind → (distance : ℕ) (ticks : Option ℕ) → m.tlvs ≡ heading_of (v ∷ (i ∷ rest)) (is_some ticks) kind ext → IsCodeIfSome ticks i → IntervalIs m distance ticks
 unfolding heading

@@ -6,7 +6,7 @@ use Rattle.mesh_atoms.specs.declared.addr.NetAddr.{NetAddr}
 use Rattle.mesh_packet.specs.Fields.{MessageFields}
 use Rattle.mesh_wire.specs.Hello.{HasWilling}
 use Rattle.mesh_wire.specs.HelloHeading.{IsOther}
-use Rattle.mesh_wire.specs.HelloRules.{BreaksHello, AddressWidth, HopLimit, HopCount, Validity, Interval, Willing, Undefined, TwoValues, Prefix, Metric}
+use Rattle.mesh_wire.specs.HelloRules.{BreaksHello, AddressWidth, HopLimit, HopCount, NoValidity, WrongInterval, WrongWilling, Undefined, TwoValues, ShortPrefix, WrongMetric}
 use Rattle.mesh_wire.specs.Rules.{FirstBroken}
 use Rattle.mesh_wire.specs.Times.{ValidityIs, IntervalIs}
 
@@ -28,13 +28,13 @@ pub up_from : (m : MessageFields) (n : ℕ) → KeptBelow m n → (k : ℕ) (a :
 up_from m n b k a (AddressWidth h) = not_below n k (λ lt. h (b.width lt))
 up_from m n b k a (HopLimit limit is other) = not_below n k (λ lt. b.limit lt (limit, is, other))
 up_from m n b k a (HopCount count is other) = not_below n k (λ lt. b.count lt (count, is, other))
-up_from m n b k a (Validity none) = not_below n k (λ lt. let v = b.validity lt in none v.0 v.1)
-up_from m n b k a (Interval none) = not_below n k (λ lt. let v = b.interval lt in none v.0 v.1)
-up_from m n b k a (Willing none) = not_below n k (λ lt. let v = b.willing lt in none v.0 v.1)
+up_from m n b k a (NoValidity none) = not_below n k (λ lt. let v = b.validity lt in none v.0 v.1)
+up_from m n b k a (WrongInterval none) = not_below n k (λ lt. let v = b.interval lt in none v.0 v.1)
+up_from m n b k a (WrongWilling none) = not_below n k (λ lt. let v = b.willing lt in none v.0 v.1)
 up_from m n b k a (Undefined net kind bound status at) = b.within
 up_from m n b k a (TwoValues net kind bound status at) = omega (arith, b.within)
-up_from m n b k a (Prefix net kind bound status at short) = omega (arith, b.within)
-up_from m n b k a (Metric net wrong) = omega (arith, b.within)
+up_from m n b k a (ShortPrefix net kind bound status at short) = omega (arith, b.within)
+up_from m n b k a (WrongMetric net wrong) = omega (arith, b.within)
 
 pub first_at : (m : MessageFields) (n : ℕ) → KeptBelow m n → BreaksHello m n None → FirstBroken (BreaksHello m) n None
 first_at m n b h = record { broken = h; first = up_from m n b; least = λ a g. tt }

@@ -1,22 +1,27 @@
 -- What the reading of a HELLO answers.
-use Rattle.std.proofs.Common.{◌≡◌, ℕ, ◌≤◌, Result, Ok, Err, List, sym, subst, lit≤, Contains}
-use Rattle.std.specs.Prelude.{Option, Some, None, IfOk, IfErr}
+use Rattle.std.proofs.Common.{◌≡◌, ℕ, ◌≤◌, Result, Ok, Err, List, sym, subst, lit≤}
+use Rattle.std.specs.Prelude.{Option, IfOk, IfErr}
 use Rattle.mesh_atoms.specs.declared.addr.NetAddr.{NetAddr}
+use Rattle.mesh_atoms.specs.declared.hello.HelloRow.{HelloRow}
 use Rattle.mesh_packet.specs.Fields.{MessageFields}
-use Rattle.mesh_wire.specs.declared.collect.Told.{Told}
 use Rattle.mesh_wire.specs.declared.fault.WireFault.{WireFault}
 use Rattle.mesh_wire.specs.declared.fault.WireFault.TheVariants as faults
 use Rattle.mesh_wire.specs.declared.hello.Heading.{Heading}
 use Rattle.mesh_wire.specs.Answers.{IfBroken, Gives, Refuses}
-use Rattle.mesh_wire.specs.Collects.{AreCollected}
 use Rattle.mesh_wire.specs.Entries.{of_blocks}
-use Rattle.mesh_wire.specs.FirstNet.{hello_rule}
+use Rattle.mesh_wire.specs.Hello.{IsReadHelloRow}
 use Rattle.mesh_wire.specs.HelloHeading.{HeadingIs}
+use Rattle.mesh_wire.specs.HelloRows.{HelloRowFrom}
 use Rattle.mesh_wire.specs.HelloRules.{BreaksHello}
+use Rattle.mesh_wire.specs.Made.{HasRows, HasBroken}
+use Rattle.mesh_wire.specs.RowRules.{hello_rule}
+use Rattle.mesh_wire.specs.Rows.{AreRows}
 use Rattle.mesh_wire.specs.Rules.{FirstBroken, Keeps}
 use Rattle.mesh_wire.proofs.HelloHeading.{up_from}
-use Rattle.mesh_wire.proofs.HelloRuled.{Ruled, Sound, hello_ruled}
-use Rattle.mesh_wire.proofs.Kept.{AreTold, are_told}
+use Rattle.mesh_wire.proofs.HelloRows.{rows_are}
+use Rattle.mesh_wire.proofs.HelloRuled.{sound_of, hello_decides}
+use Rattle.mesh_wire.proofs.Kept.{are_told}
+use Rattle.mesh_wire.proofs.Ruled.{rule_first, rule_none}
 use Rattle.mesh_wire.proofs.Single.{one_broken}
 
 -- a message whose heading is read breaks no rule on it
@@ -31,18 +36,24 @@ up_of m heading h = up_from m 26 (record {
   willing = λ lt. (heading.willing, h.willing);
 })
 
-module _ (m : MessageFields) (heading : Heading) (h : HeadingIs m heading) (told slice : List Told) (c : AreCollected (of_blocks m.blocks) told) (same : slice ≡ told) where
-  pub kept : AreTold m slice
-  kept = subst (AreTold m) (sym same) (are_told m told c)
+module _ (m : MessageFields) (heading : Heading) (h : HeadingIs m heading) where
+  -- the rule that rows break is the first
+  pub rule_found : (number : ℕ) (addr : Option NetAddr) → HasBroken hello_rule (of_blocks m.blocks) number addr → FirstBroken (BreaksHello m) number addr
+  rule_found number addr f =
+      let are = are_told m f.told f.collected in
+      subst (λ (a : Option NetAddr). FirstBroken (BreaksHello m) number a) (sym f.at) (rule_first (BreaksHello m) hello_rule f.told 26 (hello_decides m f.told are) are.ascending (up_of m heading h) number f.net f.found)
 
-  by_rule : (rule : Option (ℕ × NetAddr)) → rule ≡ hello_rule slice → Ruled m slice kept rule
-  by_rule rule e = subst (Ruled m slice kept) (sym e) (hello_ruled m slice kept (up_of m heading h))
+  -- rows that break none are those of the HELLO
+  pub rows_found : (rows : List HelloRow) → HasRows HelloRowFrom hello_rule (of_blocks m.blocks) rows → Keeps (BreaksHello m) × AreRows m (λ (row : HelloRow). row.addr) (IsReadHelloRow m) rows
+  rows_found rows f =
+      let are = are_told m f.told f.collected in
+      let (keeps, none) = rule_none (BreaksHello m) hello_rule f.told 26 (hello_decides m f.told are) are.ascending (up_of m heading h) f.clean in
+      (keeps, rows_are m f.told are rows (λ t has. sound_of t (none t has)) f.made)
 
-  pub rule_found : (n : ℕ) (net : NetAddr) → Some (n, net) ≡ hello_rule slice → FirstBroken (BreaksHello m) n (Some net)
-  rule_found n net e = by_rule (Some (n, net)) e
-
-  pub none_found : None ≡ hello_rule slice → Keeps (BreaksHello m) × ((t : Told) → Contains slice t → Sound m slice kept t)
-  none_found e = by_rule None e
+-- the same of a result
+pub if_broken : (P Q : ℕ → Option NetAddr → Type 0) (fault : WireFault) → ((n : ℕ) (a : Option NetAddr) → P n a → Q n a) → IfBroken P fault → IfBroken Q fault
+if_broken P Q (faults.Memory e) to h = tt
+if_broken P Q (faults.Broken n a) to h = to n a h
 
 -- ---- the other directions
 

@@ -1,38 +1,37 @@
 -- Rows that are made of what is kept are the rows of the HELLO.
-use Rattle.std.proofs.Common.{◌≡◌, ℕ, zero, suc, ◌*◌, ◌/◌, ◌<◌, inl, inr, refl, sym, ◌∙◌, ap, subst, arith, Bool, false, List, [], ◌∷◌, length, Contains, slice_index_or}
-use Rattle.std.specs.Prelude.{◌||◌, ◌↔◌, AllPairs, Option, Some, None, IsTrue}
+use Rattle.std.proofs.Common.{◌≡◌, ℕ, zero, suc, ◌*◌, ◌/◌, ◌<◌, refl, sym, ◌∙◌, ap, subst, arith, Bool, false, List, Contains}
+use Rattle.std.specs.Prelude.{◌||◌, ◌↔◌, Option, Some, None, IsTrue}
 use Rattle.std.specs.Option.{option_map}
 use Rattle.mesh_atoms.specs.declared.addr.NetAddr.{NetAddr}
 use Rattle.mesh_atoms.specs.declared.metric.Metric.{Metric}
 use Rattle.mesh_atoms.specs.declared.hello.HelloRow.{HelloRow}
-use Rattle.mesh_atoms.specs.Nodes.{IsBefore}
 use Rattle.mesh_packet.specs.Fields.{MessageFields}
-use Rattle.mesh_wire.specs.declared.collect.Told.{Told}
+use Rattle.mesh_wire.specs.declared.collect.AddressParts.{AddressParts}
 use Rattle.mesh_wire.specs.declared.parts.One.{One}
 use Rattle.mesh_wire.specs.declared.parts.One.TheVariants.{Unsaid, Said, Several}
 use Rattle.mesh_wire.specs.declared.parts.Octets.{Octets}
-use Rattle.mesh_wire.specs.FirstNet.{is_several}
-use Rattle.mesh_wire.specs.Hello.{local_value, link_value, other_value, IsHelloRow}
-use Rattle.mesh_wire.specs.HelloRows.{number_from, local_from, link_from, other_from, MetricFrom, HelloRowFrom, HelloRowsFrom}
+use Rattle.mesh_wire.specs.RowRules.{is_several}
+use Rattle.mesh_wire.specs.Hello.{local_value, link_value, other_value, IsReadHelloRow}
+use Rattle.mesh_wire.specs.HelloRows.{number_from, local_from, link_from, other_from, MetricFrom, HelloRowFrom}
 use Rattle.mesh_wire.specs.Kinds.{local_if, link_status, other_neighb, link_metric, mpr}
+use Rattle.mesh_wire.specs.Made.{AreMade}
 use Rattle.mesh_wire.specs.Metrics.{MetricKind, Link_in, Link_out, Near_in, Near_out, flag_of, ShowsMetric, MetricIs}
-use Rattle.mesh_wire.specs.Rows.{HasAddress, Says, OctetIs, SaysFlag, AreRows}
+use Rattle.mesh_wire.specs.Rows.{HoldsAddress, HasValue, OctetIs, SaysFlag, AreRows}
 use Rattle.mesh_wire.specs.Rules.{IsOctet}
-use Rattle.mesh_wire.specs.Told.{no_parts}
-use Rattle.mesh_wire.proofs.Ascending.{at_head, in_tail, head_or_tail, none_in}
 use Rattle.mesh_wire.proofs.HelloRuled.{code_of, of_code, neither_of, Sound}
 use Rattle.mesh_wire.proofs.Kept.{AreTold, right_octet, in_range}
+use Rattle.mesh_wire.proofs.Made.{made_from, made_of, ascending_made}
 use Rattle.mesh_wire.proofs.Slots.{OneIs, InRange, OctetsAre, Shows, RowIs}
 
 -- ---- one octet
 
-octet_of : (m : MessageFields) (net : NetAddr) (kind low bound : ℕ) (one : One) → OneIs (InRange (Says m net kind) low bound) one → ((x : List ℕ) → Says m net kind x → IsOctet low bound x) → is_several one ≡ false → OctetIs m net kind (number_from one)
-octet_of m net kind low bound Unsaid h right e = λ x said. (let i = right x said in h i.0 (in_range (Says m net kind) low bound x said i))
+octet_of : (m : MessageFields) (net : NetAddr) (kind low bound : ℕ) (one : One) → OneIs (InRange (HasValue m net kind) low bound) one → ((x : List ℕ) → HasValue m net kind x → IsOctet low bound x) → is_several one ≡ false → OctetIs m net kind (number_from one)
+octet_of m net kind low bound Unsaid h right e = λ x said. (let i = right x said in h i.0 (in_range (HasValue m net kind) low bound x said i))
 octet_of m net kind low bound (Said n) h right e = h.0.0
 octet_of m net kind low bound Several h right e = absurd (cc)
 
-pub octet_is : (m : MessageFields) (net : NetAddr) (kind low bound : ℕ) (o : Octets) → OctetsAre (Says m net kind) low bound o → o.wrong ≡ false → is_several o.one ≡ false → OctetIs m net kind (number_from o.one)
-octet_is m net kind low bound o h wrong one = octet_of m net kind low bound o.one h.one (right_octet (Says m net kind) low bound o h wrong) one
+pub octet_is : (m : MessageFields) (net : NetAddr) (kind low bound : ℕ) (o : Octets) → OctetsAre (HasValue m net kind) low bound o → o.wrong ≡ false → is_several o.one ≡ false → OctetIs m net kind (number_from o.one)
+octet_is m net kind low bound o h wrong one = octet_of m net kind low bound o.one h.one (right_octet (HasValue m net kind) low bound o h wrong) one
 
 -- a number that is there is below the bound
 abbrev Below : ℕ → Option ℕ → Type 0
@@ -69,7 +68,7 @@ other_back (suc (suc n)) h = absurd (omega arith)
 sixteenth : (n code : ℕ) → n ≡ 16 * code → n / 16 ≡ code
 sixteenth n code e = omega (arith, e)
 
-pub metric_is : (m : MessageFields) (net : NetAddr) (kind : MetricKind) (one : One) (metric : Option Metric) → OneIs (Shows (Says m net link_metric) (flag_of kind)) one → is_several one ≡ false → MetricFrom one metric → MetricIs m net kind metric
+pub metric_is : (m : MessageFields) (net : NetAddr) (kind : MetricKind) (one : One) (metric : Option Metric) → OneIs (Shows (HasValue m net link_metric) (flag_of kind)) one → is_several one ≡ false → MetricFrom one metric → MetricIs m net kind metric
 metric_is m net kind Unsaid None h e f = λ code shows. h (16 * code) (of_code m net kind code shows)
 metric_is m net kind Unsaid (Some metric) h e f = absurd (cc)
 metric_is m net kind (Said n) None h e f = absurd (cc)
@@ -84,22 +83,22 @@ metric_is m net kind Several metric h e f = absurd (cc)
 pub flag_is : (P : Type 0) (a b : Bool) → a ≡ b → (IsTrue b ↔ P) → IsTrue a ↔ P
 flag_is P a b e h = subst (λ (x : Bool). IsTrue x ↔ P) (sym e) h
 
-module _ (m : MessageFields) (t : Told) (r : HelloRow) (kept : RowIs (Says m t.net) t.parts) (made : HelloRowFrom t r)
+module _ (m : MessageFields) (t : AddressParts) (r : HelloRow) (kept : RowIs (HasValue m t.net) t.parts) (made : HelloRowFrom t r)
     (wrong : (t.parts.local.wrong ≡ false) × (t.parts.link.wrong ≡ false) × (t.parts.other.wrong ≡ false))
     (one : (is_several t.parts.local.one ≡ false) × (is_several t.parts.link.one ≡ false) × (is_several t.parts.other.one ≡ false))
     (links : (is_several t.parts.link_in ≡ false) × (is_several t.parts.link_out ≡ false) × (is_several t.parts.near_in ≡ false) × (is_several t.parts.near_out ≡ false)) where
-  here : RowIs (Says m r.addr) t.parts
-  here = subst (λ (n : NetAddr). RowIs (Says m n) t.parts) (sym made.addr) kept
+  here : RowIs (HasValue m r.addr) t.parts
+  here = subst (λ (n : NetAddr). RowIs (HasValue m n) t.parts) (sym made.addr) kept
 
-  pub row_is : IsHelloRow m r
+  pub row_is : IsReadHelloRow m r
   row_is = record {
     local =
-        let back : option_map local_value r.local ≡ number_from t.parts.local.one = ap (option_map local_value) made.local ∙ back_again local_value local_from 2 (number_from t.parts.local.one) local_back (below_of (Says m r.addr 2) 0 2 t.parts.local.one here.local.one) in
+        let back : option_map local_value r.local ≡ number_from t.parts.local.one = ap (option_map local_value) made.local ∙ back_again local_value local_from 2 (number_from t.parts.local.one) local_back (below_of (HasValue m r.addr 2) 0 2 t.parts.local.one here.local.one) in
         subst (OctetIs m r.addr local_if) (sym back) (octet_is m r.addr 2 0 2 t.parts.local here.local wrong.0 one.0);
     of_other = λ none.
         let k = made.of_other none in
-        let link : option_map link_value r.link ≡ number_from t.parts.link.one = ap (option_map link_value) k.link ∙ back_again link_value link_from 3 (number_from t.parts.link.one) link_back (below_of (Says m r.addr 3) 0 3 t.parts.link.one here.link.one) in
-        let other : option_map other_value r.other ≡ number_from t.parts.other.one = ap (option_map other_value) k.other ∙ back_again other_value other_from 2 (number_from t.parts.other.one) other_back (below_of (Says m r.addr 4) 0 2 t.parts.other.one here.other.one) in
+        let link : option_map link_value r.link ≡ number_from t.parts.link.one = ap (option_map link_value) k.link ∙ back_again link_value link_from 3 (number_from t.parts.link.one) link_back (below_of (HasValue m r.addr 3) 0 3 t.parts.link.one here.link.one) in
+        let other : option_map other_value r.other ≡ number_from t.parts.other.one = ap (option_map other_value) k.other ∙ back_again other_value other_from 2 (number_from t.parts.other.one) other_back (below_of (HasValue m r.addr 4) 0 2 t.parts.other.one here.other.one) in
         record {
           link = subst (OctetIs m r.addr link_status) (sym link) (octet_is m r.addr 3 0 3 t.parts.link here.link wrong.1 one.1);
           other = subst (OctetIs m r.addr other_neighb) (sym other) (octet_is m r.addr 4 0 2 t.parts.other here.other wrong.2 one.2);
@@ -115,38 +114,6 @@ module _ (m : MessageFields) (t : Told) (r : HelloRow) (kept : RowIs (Says m t.n
 
 -- ---- all rows
 
-made_from : (told : List Told) (rows : List HelloRow) → HelloRowsFrom told rows → (r : HelloRow) → Contains rows r → (t : Told) × Contains told t × HelloRowFrom t r
-made_from [] [] h r has = absurd (none_in r has)
-made_from (t ∷ told) (q ∷ rows) h r has = elim (head_or_tail q rows r has) [
-  | inl e ↦ (t, at_head t told, subst (HelloRowFrom t) e h.0)
-  | inr later ↦ let (s, there, is) = made_from told rows h.1 r later in (s, in_tail t told s there, is)
-]
-made_from [] (q ∷ rows) h r has = absurd h
-made_from (t ∷ told) [] h r has = absurd h
-
-made_of : (told : List Told) (rows : List HelloRow) → HelloRowsFrom told rows → (t : Told) → Contains told t → (r : HelloRow) × Contains rows r × HelloRowFrom t r
-made_of [] [] h t has = absurd (none_in t has)
-made_of (s ∷ told) (r ∷ rows) h t has = elim (head_or_tail s told t has) [
-  | inl e ↦ (r, at_head r rows, subst (λ (x : Told). HelloRowFrom x r) e h.0)
-  | inr later ↦ let (q, there, is) = made_of told rows h.1 t later in (q, in_tail r rows q there, is)
-]
-made_of [] (q ∷ rows) h t has = absurd h
-made_of (s ∷ told) [] h t has = absurd h
-
-made_at : (told : List Told) (rows : List HelloRow) → HelloRowsFrom told rows → (i : ℕ) (d : HelloRow) (e : Told) → i < length rows → (i < length told) × ((slice_index_or rows i d).addr ≡ (slice_index_or told i e).net)
-made_at [] [] h i d e lt = absurd (omega arith)
-made_at (t ∷ told) (r ∷ rows) h zero d e lt = (omega arith, h.0.addr)
-made_at (t ∷ told) (r ∷ rows) h (suc i) d e lt = let g = made_at told rows h.1 i d e (omega arith) in (omega (arith, g.0), g.1)
-made_at [] (q ∷ rows) h i d e lt = absurd h
-made_at (t ∷ told) [] h i d e lt = absurd h
-
-ascending_made : (told : List Told) (rows : List HelloRow) → HelloRowsFrom told rows → AllPairs (λ (a b : Told). IsBefore a.net b.net) told → AllPairs (λ (a b : HelloRow). IsBefore a.addr b.addr) rows
-ascending_made told rows h up i j d lt less =
-    let e : Told = record { net = d.addr; parts = no_parts } in
-    let (first, is_first) = made_at told rows h i d e (omega (arith, less)) in
-    let (second, is_second) = made_at told rows h j d e less in
-    subst (λ (n : NetAddr). IsBefore n (slice_index_or rows j d).addr) (sym is_first) (subst (λ (n : NetAddr). IsBefore (slice_index_or told i e).net n) (sym is_second) (up i j e lt second))
-
 parts_of : (a b c : Bool) → (a || (b || c)) ≡ false → (a ≡ false) × (b ≡ false) × (c ≡ false)
 parts_of a b c e = let p = neither_of a (b || c) e in let q = neither_of b c p.1 in (p.0, q.0, q.1)
 
@@ -157,19 +124,19 @@ codes_of w a b c d e =
     let r = neither_of c d p.1 in
     (q.0, q.1, r.0, r.1)
 
-pub rows_are : (m : MessageFields) (told : List Told) (are : AreTold m told) (rows : List HelloRow) → ((t : Told) → Contains told t → Sound m told are t) → HelloRowsFrom told rows → AreRows m (λ (row : HelloRow). row.addr) (IsHelloRow m) rows
+pub rows_are : (m : MessageFields) (told : List AddressParts) (are : AreTold m told) (rows : List HelloRow) → ((t : AddressParts) → Contains told t → Sound t) → AreMade HelloRowFrom told rows → AreRows m (λ (row : HelloRow). row.addr) (IsReadHelloRow m) rows
 rows_are m told are rows sound h = record {
-  ascending = ascending_made told rows h are.ascending;
+  ascending = ascending_made HelloRowFrom (λ (row : HelloRow). row.addr) (λ t r g. g.addr) told rows h are.ascending;
   each = λ r has.
-      let (t, there, made) = made_from told rows h r has in
+      let (t, there, made) = made_from HelloRowFrom told rows h r has in
       let s = sound t there in
       let k = are.each t there in (
-        subst (HasAddress m) (sym made.addr) k.0,
+        subst (HoldsAddress m) (sym made.addr) k.0,
         row_is m t r k.1 made (parts_of t.parts.local.wrong t.parts.link.wrong t.parts.other.wrong s.defined) (parts_of (is_several t.parts.local.one) (is_several t.parts.link.one) (is_several t.parts.other.one) s.one)
             (codes_of t.parts.wrong_metric (is_several t.parts.link_in) (is_several t.parts.link_out) (is_several t.parts.near_in) (is_several t.parts.near_out) s.metric),
       );
   all = λ net has.
       let (t, there, is) = are.all net has in
-      let (r, listed, made) = made_of told rows h t there in
+      let (r, listed, made) = made_of HelloRowFrom told rows h t there in
       (r, listed, made.addr ∙ is);
 }

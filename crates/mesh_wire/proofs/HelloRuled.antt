@@ -1,21 +1,21 @@
 -- The rules on the addresses of a HELLO, by tests of what is kept.
-use Rattle.std.proofs.Common.{◌≡◌, ℕ, ◌+◌, ◌*◌, ◌%◌, ◌≤◌, ◌⊎◌, inl, inr, refl, sym, ◌∙◌, ap, subst, arith, Bool, true, false, List, [], ◌∷◌, Contains, lit≤}
+use Rattle.std.proofs.Common.{◌≡◌, ℕ, ◌+◌, ◌*◌, ◌%◌, ◌≤◌, ◌⊎◌, inl, inr, refl, sym, ◌∙◌, ap, subst, arith, Bool, true, false, cond, List, [], ◌∷◌, Contains, lit≤}
 use Rattle.std.specs.Prelude.{◌||◌, ◌&&◌, ◌≢◌, Option, Some, None, nat_lt}
 use Rattle.std.proofs.lemmas.Bool.{cases_Bool, ltb-true, lt-ltb}
 use Rattle.mesh_atoms.specs.declared.addr.NetAddr.{NetAddr}
 use Rattle.mesh_atoms.proofs.Kept.{both}
 use Rattle.mesh_packet.specs.Fields.{MessageFields}
-use Rattle.mesh_wire.specs.declared.collect.Told.{Told}
+use Rattle.mesh_wire.specs.declared.collect.AddressParts.{AddressParts}
 use Rattle.mesh_wire.specs.declared.parts.One.{One}
 use Rattle.mesh_wire.specs.declared.parts.Octets.{Octets}
 use Rattle.mesh_wire.specs.declared.parts.RowParts.{RowParts}
-use Rattle.mesh_wire.specs.FirstNet.{is_several, is_said, is_undefined, has_two, has_status, has_wrong_metric, row_breaks, first_net, or_rule, hello_rule}
-use Rattle.mesh_wire.specs.HelloRules.{BreaksHello, AddressWidth, HopLimit, HopCount, Validity, Interval, Willing, Undefined, TwoValues, Prefix, Metric}
+use Rattle.mesh_wire.specs.RowRules.{is_several, is_said, is_undefined, has_two, has_status, has_wrong_metric, hello_rule}
+use Rattle.mesh_wire.specs.HelloRules.{BreaksHello, AddressWidth, HopLimit, HopCount, NoValidity, WrongInterval, WrongWilling, Undefined, TwoValues, ShortPrefix, WrongMetric}
 use Rattle.mesh_wire.specs.Kinds.{IsStatusBelow, link_metric}
 use Rattle.mesh_wire.specs.Metrics.{MetricKind, Link_in, Link_out, Near_in, Near_out, flag_of, ShowsMetric, HasWrongMetric}
-use Rattle.mesh_wire.specs.Rows.{HasAddress, Says}
-use Rattle.mesh_wire.specs.Rules.{FirstBroken, Keeps}
-use Rattle.mesh_wire.proofs.Kept.{AreTold, told_of, says_has, Decides, rule_first, rule_kept, no_row, right_octet, in_range, differ_several, several_differ, one_said, said_one}
+use Rattle.mesh_wire.specs.Rows.{HoldsAddress, HasValue}
+use Rattle.mesh_wire.proofs.Kept.{AreTold, told_of, says_has, right_octet, in_range, differ_several, several_differ, one_said, said_one}
+use Rattle.mesh_wire.proofs.Ruled.{Decides, Reaches}
 use Rattle.mesh_wire.proofs.Slots.{OneIs, InRange, OctetsAre, Shows, RowIs, or_cases, or_left, or_right, and_both}
 
 -- ---- the three types together
@@ -60,23 +60,23 @@ three_none test r kind bound status e = elim (cases_Bool (test (kept_of status r
 -- ---- codes
 
 -- what shows 16 times a code shows the code
-pub code_of : (m : MessageFields) (net : NetAddr) (kind : MetricKind) (n : ℕ) → Shows (Says m net link_metric) (flag_of kind) n → (code : ℕ) × ShowsMetric m net kind code × (n ≡ 16 * code)
+pub code_of : (m : MessageFields) (net : NetAddr) (kind : MetricKind) (n : ℕ) → Shows (HasValue m net link_metric) (flag_of kind) n → (code : ℕ) × ShowsMetric m net kind code × (n ≡ 16 * code)
 code_of m net kind n (high, low, said, on, is) = (256 * (high % 16) + low, (high, low, said, on, refl), is)
 
-pub of_code : (m : MessageFields) (net : NetAddr) (kind : MetricKind) (code : ℕ) → ShowsMetric m net kind code → Shows (Says m net link_metric) (flag_of kind) (16 * code)
+pub of_code : (m : MessageFields) (net : NetAddr) (kind : MetricKind) (code : ℕ) → ShowsMetric m net kind code → Shows (HasValue m net link_metric) (flag_of kind) (16 * code)
 of_code m net kind code (high, low, said, on, is) = (high, low, said, on, ap (λ (k : ℕ). 16 * k) is)
 
-two_codes : (m : MessageFields) (net : NetAddr) (kind : MetricKind) (one : One) → OneIs (Shows (Says m net link_metric) (flag_of kind)) one → is_several one ≡ true → HasWrongMetric m net
+two_codes : (m : MessageFields) (net : NetAddr) (kind : MetricKind) (one : One) → OneIs (Shows (HasValue m net link_metric) (flag_of kind)) one → is_several one ≡ true → HasWrongMetric m net
 two_codes m net kind one h e =
-    let (a, b, x, y, d) = several_differ (Shows (Says m net link_metric) (flag_of kind)) one h e in
+    let (a, b, x, y, d) = several_differ (Shows (HasValue m net link_metric) (flag_of kind)) one h e in
     let (c, s, f) = code_of m net kind a x in
     let (k, t, g) = code_of m net kind b y in
     inr (kind, c, k, s, t, λ same. d (f ∙ ap (λ (j : ℕ). 16 * j) same ∙ sym g))
 
-codes_two : (m : MessageFields) (net : NetAddr) (kind : MetricKind) (one : One) (a b : ℕ) → OneIs (Shows (Says m net link_metric) (flag_of kind)) one → ShowsMetric m net kind a → ShowsMetric m net kind b → a ≢ b → is_several one ≡ true
-codes_two m net kind one a b h x y d = differ_several (Shows (Says m net link_metric) (flag_of kind)) one (16 * a) (16 * b) h (of_code m net kind a x) (of_code m net kind b y) (λ e. d (omega (arith, e)))
+codes_two : (m : MessageFields) (net : NetAddr) (kind : MetricKind) (one : One) (a b : ℕ) → OneIs (Shows (HasValue m net link_metric) (flag_of kind)) one → ShowsMetric m net kind a → ShowsMetric m net kind b → a ≢ b → is_several one ≡ true
+codes_two m net kind one a b h x y d = differ_several (Shows (HasValue m net link_metric) (flag_of kind)) one (16 * a) (16 * b) h (of_code m net kind a x) (of_code m net kind b y) (λ e. d (omega (arith, e)))
 
-pub wrong_metric : (m : MessageFields) (net : NetAddr) (r : RowParts) → RowIs (Says m net) r → has_wrong_metric r ≡ true → HasWrongMetric m net
+pub wrong_metric : (m : MessageFields) (net : NetAddr) (r : RowParts) → RowIs (HasValue m net) r → has_wrong_metric r ≡ true → HasWrongMetric m net
 wrong_metric m net r h e = elim (or_cases r.wrong_metric ((is_several r.link_in || is_several r.link_out) || (is_several r.near_in || is_several r.near_out)) e) [
   | inl w ↦ inl (h.wrong_metric.0 w)
   | inr some ↦ elim (or_cases (is_several r.link_in || is_several r.link_out) (is_several r.near_in || is_several r.near_out) some) [
@@ -98,186 +98,151 @@ module _ (r : RowParts) where
   of_near : nears ≡ true → has_wrong_metric r ≡ true
   of_near e = or_right r.wrong_metric (links || nears) (or_right links nears e)
 
-pub metric_wrong : (m : MessageFields) (net : NetAddr) (r : RowParts) → RowIs (Says m net) r → HasWrongMetric m net → has_wrong_metric r ≡ true
+pub metric_wrong : (m : MessageFields) (net : NetAddr) (r : RowParts) → RowIs (HasValue m net) r → HasWrongMetric m net → has_wrong_metric r ≡ true
 metric_wrong m net r h (inl w) = or_left r.wrong_metric (links r || nears r) (h.wrong_metric.1 w)
 metric_wrong m net r h (inr (Link_in, a, b, x, y, d)) = of_link r (or_left (is_several r.link_in) (is_several r.link_out) (codes_two m net Link_in r.link_in a b h.link_in x y d))
 metric_wrong m net r h (inr (Link_out, a, b, x, y, d)) = of_link r (or_right (is_several r.link_in) (is_several r.link_out) (codes_two m net Link_out r.link_out a b h.link_out x y d))
 metric_wrong m net r h (inr (Near_in, a, b, x, y, d)) = of_near r (or_left (is_several r.near_in) (is_several r.near_out) (codes_two m net Near_in r.near_in a b h.near_in x y d))
 metric_wrong m net r h (inr (Near_out, a, b, x, y, d)) = of_near r (or_right (is_several r.near_in) (is_several r.near_out) (codes_two m net Near_out r.near_out a b h.near_out x y d))
 
-pub wrong_metric_has : (m : MessageFields) (net : NetAddr) → HasWrongMetric m net → HasAddress m net
+pub wrong_metric_has : (m : MessageFields) (net : NetAddr) → HasWrongMetric m net → HoldsAddress m net
 wrong_metric_has m net (inl (x, said, other)) = says_has m net 7 x said
 wrong_metric_has m net (inr (kind, a, b, (high, low, said, on, is), y, d)) = says_has m net 7 (high ∷ low ∷ []) said
 
+-- ---- the first of four tests that is passed
+
+abbrev chosen : Bool → Bool → Bool → Bool → Option ℕ
+chosen a b c d = cond a (Some 26) (cond b (Some 27) (cond c (Some 28) (cond d (Some 29) None)))
+
+-- a rule of that number or of a lower one
+abbrev AtMost : Option ℕ → ℕ → Type 0
+AtMost o k = (n : ℕ) × (o ≡ Some n) × (n ≤ k)
+
+first_passed : (a b c d : Bool) → a ≡ true → AtMost (chosen a b c d) 26
+first_passed true b c d e = (26, refl, lit≤ tt)
+first_passed false b c d e = absurd (cc)
+
+second_passed : (a b c d : Bool) → b ≡ true → AtMost (chosen a b c d) 27
+second_passed true b c d e = (26, refl, lit≤ tt)
+second_passed false true c d e = (27, refl, lit≤ tt)
+second_passed false false c d e = absurd (cc)
+
+third_passed : (a b c d : Bool) → c ≡ true → AtMost (chosen a b c d) 28
+third_passed true b c d e = (26, refl, lit≤ tt)
+third_passed false true c d e = (27, refl, lit≤ tt)
+third_passed false false true d e = (28, refl, lit≤ tt)
+third_passed false false false d e = absurd (cc)
+
+fourth_passed : (a b c d : Bool) → d ≡ true → AtMost (chosen a b c d) 29
+fourth_passed true b c d e = (26, refl, lit≤ tt)
+fourth_passed false true c d e = (27, refl, lit≤ tt)
+fourth_passed false false true d e = (28, refl, lit≤ tt)
+fourth_passed false false false true e = (29, refl, lit≤ tt)
+fourth_passed false false false false e = absurd (cc)
+
+passed : (P : ℕ → Type 0) (a b c d : Bool) (n : ℕ) → chosen a b c d ≡ Some n → (a ≡ true → P 26) → (b ≡ true → P 27) → (c ≡ true → P 28) → (d ≡ true → P 29) → P n
+passed P true b c d n e f g h k = subst P (let s : 26 ≡ n = cc in s) (f refl)
+passed P false true c d n e f g h k = subst P (let s : 27 ≡ n = cc in s) (g refl)
+passed P false false true d n e f g h k = subst P (let s : 28 ≡ n = cc in s) (h refl)
+passed P false false false true n e f g h k = subst P (let s : 29 ≡ n = cc in s) (k refl)
+passed P false false false false n e f g h k = absurd (cc)
+
+none_passed : (a b c d : Bool) → chosen a b c d ≡ None → (a ≡ false) × (b ≡ false) × (d ≡ false)
+none_passed true b c d e = cc
+none_passed false true c d e = cc
+none_passed false false true d e = cc
+none_passed false false false true e = cc
+none_passed false false false false e = (refl, refl, refl)
+
+-- a row that breaks no rule
+pub record Sound (t : AddressParts) : Type 0 where
+  pub defined : is_undefined t.parts ≡ false
+  pub one : has_two t.parts ≡ false
+  pub metric : has_wrong_metric t.parts ≡ false
+
+abbrev is_short : AddressParts → Bool
+is_short t = nat_lt t.net.prefix 32 && has_status t.parts
+
+pub sound_of : (t : AddressParts) → hello_rule t ≡ None → Sound t
+sound_of t e = let (defined, one, metric) = none_passed (is_undefined t.parts) (has_two t.parts) (is_short t) (has_wrong_metric t.parts) e in record { defined = defined; one = one; metric = metric }
+
 -- ---- the rules
 
-module _ (m : MessageFields) (rows : List Told) (are : AreTold m rows) where
-  -- no row has an undefined value
-  abbrev Defined : Type 0
-  Defined = (t : Told) → Contains rows t → is_undefined t.parts ≡ false
+module _ (m : MessageFields) (rows : List AddressParts) (are : AreTold m rows) where
+  head_of : (a b : ℕ) → ◌≡◌ {A = List ℕ} (a ∷ []) (b ∷ []) → a ≡ b
+  head_of a b e = cc
 
-  undefined_decides : Decides (BreaksHello m) rows 26 (row_breaks 26)
-  undefined_decides = record {
-    breaks = λ t has e.
-        let (kind, bound, status, w) = three_one (λ (o : Octets). o.wrong) t.parts e in
-        let k = kept_is (Says m t.net) t.parts kind bound status (are.each t has).1 in
-        Undefined t.net kind bound status (k.wrong.0 w);
-    tells = tells;
-  }
-    where
-      tells : (k : ℕ) (a : Option NetAddr) → BreaksHello m k a → k ≡ 26 → (t : Told) × Contains rows t × (a ≡ Some t.net) × (is_undefined t.parts ≡ true)
-      tells k a (AddressWidth h) e = absurd (omega (arith, e))
-      tells k a (HopLimit limit is other) e = absurd (omega (arith, e))
-      tells k a (HopCount count is other) e = absurd (omega (arith, e))
-      tells k a (Validity none) e = absurd (omega (arith, e))
-      tells k a (Interval none) e = absurd (omega (arith, e))
-      tells k a (Willing none) e = absurd (omega (arith, e))
-      tells k a (TwoValues net kind bound status two) e = absurd (omega (arith, e))
-      tells k a (Prefix net kind bound status h short) e = absurd (omega (arith, e))
-      tells k a (Metric net wrong) e = absurd (omega (arith, e))
-      tells k a (Undefined net kind bound status (x, said, bad)) e =
-          let (t, has, is, h) = told_of m rows are net (says_has m net kind x said) in
-          let o = kept_is (Says m net) t.parts kind bound status h in
-          (t, has, ap Some (sym is), one_of_three (λ (q : Octets). q.wrong) t.parts kind bound status (o.wrong.1 (x, said, bad)))
+  undefined : (t : AddressParts) → Contains rows t → is_undefined t.parts ≡ true → BreaksHello m 26 (Some t.net)
+  undefined t has e =
+      let (kind, bound, status, w) = three_one (λ (o : Octets). o.wrong) t.parts e in
+      let k = kept_is (HasValue m t.net) t.parts kind bound status (are.each t has).1 in
+      Undefined t.net kind bound status (k.wrong.0 w)
 
-  two_decides : Defined → Decides (BreaksHello m) rows 27 (row_breaks 27)
-  two_decides defined = record {
-    breaks = λ t has e.
-        let (kind, bound, status, w) = three_one (λ (o : Octets). is_several o.one) t.parts e in
-        let k = kept_is (Says m t.net) t.parts kind bound status (are.each t has).1 in
-        let (a, b, x, y, d) = several_differ (InRange (Says m t.net kind) 0 bound) (kept_of status t.parts).one k.one w in
-        TwoValues t.net kind bound status (a ∷ [], b ∷ [], x.0, y.0, λ same. d (head_of a b same));
-    tells = tells;
-  }
-    where
-      head_of : (a b : ℕ) → ◌≡◌ {A = List ℕ} (a ∷ []) (b ∷ []) → a ≡ b
-      head_of a b e = cc
+  two : (t : AddressParts) → Contains rows t → has_two t.parts ≡ true → BreaksHello m 27 (Some t.net)
+  two t has e =
+      let (kind, bound, status, w) = three_one (λ (o : Octets). is_several o.one) t.parts e in
+      let k = kept_is (HasValue m t.net) t.parts kind bound status (are.each t has).1 in
+      let (a, b, x, y, d) = several_differ (InRange (HasValue m t.net kind) 0 bound) (kept_of status t.parts).one k.one w in
+      TwoValues t.net kind bound status (a ∷ [], b ∷ [], x.0, y.0, λ same. d (head_of a b same))
 
-      tells : (k : ℕ) (a : Option NetAddr) → BreaksHello m k a → k ≡ 27 → (t : Told) × Contains rows t × (a ≡ Some t.net) × (has_two t.parts ≡ true)
-      tells k a (AddressWidth h) e = absurd (omega (arith, e))
-      tells k a (HopLimit limit is other) e = absurd (omega (arith, e))
-      tells k a (HopCount count is other) e = absurd (omega (arith, e))
-      tells k a (Validity none) e = absurd (omega (arith, e))
-      tells k a (Interval none) e = absurd (omega (arith, e))
-      tells k a (Willing none) e = absurd (omega (arith, e))
-      tells k a (Undefined net kind bound status bad) e = absurd (omega (arith, e))
-      tells k a (Prefix net kind bound status h short) e = absurd (omega (arith, e))
-      tells k a (Metric net wrong) e = absurd (omega (arith, e))
-      tells k a (TwoValues net kind bound status (x, y, said_x, said_y, d)) e =
-          let (t, has, is, h) = told_of m rows are net (says_has m net kind x said_x) in
-          let o = kept_is (Says m net) t.parts kind bound status h in
-          let right = three_none (λ (q : Octets). q.wrong) t.parts kind bound status (defined t has) in
-          let i = right_octet (Says m net kind) 0 bound (kept_of status t.parts) o right x said_x in
-          let j = right_octet (Says m net kind) 0 bound (kept_of status t.parts) o right y said_y in (
-            t,
-            has,
-            ap Some (sym is),
-            one_of_three (λ (q : Octets). is_several q.one) t.parts kind bound status
-                (differ_several (InRange (Says m net kind) 0 bound) (kept_of status t.parts).one i.0 j.0 o.one (in_range (Says m net kind) 0 bound x said_x i) (in_range (Says m net kind) 0 bound y said_y j)
-                (λ same. d (i.1 ∙ ap (λ (n : ℕ). n ∷ []) same ∙ sym j.1))),
-          )
+  short : (t : AddressParts) → Contains rows t → is_short t ≡ true → BreaksHello m 28 (Some t.net)
+  short t has e =
+      let p = both (nat_lt t.net.prefix 32) (has_status t.parts) e in
+      let (kind, bound, status, w) = three_one (λ (o : Octets). is_said o.one) t.parts p.1 in
+      let k = kept_is (HasValue m t.net) t.parts kind bound status (are.each t has).1 in
+      let (a, x) = said_one (InRange (HasValue m t.net kind) 0 bound) (kept_of status t.parts).one k.one w in
+      ShortPrefix t.net kind bound status (a ∷ [], x.0) (ltb-true t.net.prefix 32 p.0)
 
-  prefix_decides : Defined → Decides (BreaksHello m) rows 28 (row_breaks 28)
-  prefix_decides defined = record {
-    breaks = λ t has e.
-        let p = both (nat_lt t.net.prefix 32) (has_status t.parts) e in
-        let (kind, bound, status, w) = three_one (λ (o : Octets). is_said o.one) t.parts p.1 in
-        let k = kept_is (Says m t.net) t.parts kind bound status (are.each t has).1 in
-        let (a, x) = said_one (InRange (Says m t.net kind) 0 bound) (kept_of status t.parts).one k.one w in
-        Prefix t.net kind bound status (a ∷ [], x.0) (ltb-true t.net.prefix 32 p.0);
-    tells = tells;
-  }
-    where
-      tells : (k : ℕ) (a : Option NetAddr) → BreaksHello m k a → k ≡ 28 → (t : Told) × Contains rows t × (a ≡ Some t.net) × ((nat_lt t.net.prefix 32 && has_status t.parts) ≡ true)
-      tells k a (AddressWidth h) e = absurd (omega (arith, e))
-      tells k a (HopLimit limit is other) e = absurd (omega (arith, e))
-      tells k a (HopCount count is other) e = absurd (omega (arith, e))
-      tells k a (Validity none) e = absurd (omega (arith, e))
-      tells k a (Interval none) e = absurd (omega (arith, e))
-      tells k a (Willing none) e = absurd (omega (arith, e))
-      tells k a (Undefined net kind bound status bad) e = absurd (omega (arith, e))
-      tells k a (TwoValues net kind bound status two) e = absurd (omega (arith, e))
-      tells k a (Metric net wrong) e = absurd (omega (arith, e))
-      tells k a (Prefix net kind bound status (x, said) short) e =
-          let (t, has, is, h) = told_of m rows are net (says_has m net kind x said) in
-          let o = kept_is (Says m net) t.parts kind bound status h in
-          let right = three_none (λ (q : Octets). q.wrong) t.parts kind bound status (defined t has) in
-          let i = right_octet (Says m net kind) 0 bound (kept_of status t.parts) o right x said in
-          let same : t.net.prefix ≡ net.prefix = ap (λ (n : NetAddr). n.prefix) is in (
-            t,
-            has,
-            ap Some (sym is),
-            and_both (nat_lt t.net.prefix 32) (has_status t.parts) (lt-ltb t.net.prefix 32 (omega arith))
-                (one_of_three (λ (q : Octets). is_said q.one) t.parts kind bound status (one_said (InRange (Says m net kind) 0 bound) (kept_of status t.parts).one i.0 o.one (in_range (Says m net kind) 0 bound x said i))),
-          )
+  breaks : (t : AddressParts) (n : ℕ) → Contains rows t → hello_rule t ≡ Some n → BreaksHello m n (Some t.net)
+  breaks t n has e = passed (λ (k : ℕ). BreaksHello m k (Some t.net)) (is_undefined t.parts) (has_two t.parts) (is_short t) (has_wrong_metric t.parts) n e
+      (undefined t has) (two t has) (short t has) (λ w. WrongMetric t.net (wrong_metric m t.net t.parts (are.each t has).1 w))
 
-  metric_decides : Decides (BreaksHello m) rows 29 (row_breaks 29)
-  metric_decides = record {
-    breaks = λ t has e. Metric t.net (wrong_metric m t.net t.parts (are.each t has).1 e);
-    tells = tells;
-  }
-    where
-      tells : (k : ℕ) (a : Option NetAddr) → BreaksHello m k a → k ≡ 29 → (t : Told) × Contains rows t × (a ≡ Some t.net) × (has_wrong_metric t.parts ≡ true)
-      tells k a (AddressWidth h) e = absurd (omega (arith, e))
-      tells k a (HopLimit limit is other) e = absurd (omega (arith, e))
-      tells k a (HopCount count is other) e = absurd (omega (arith, e))
-      tells k a (Validity none) e = absurd (omega (arith, e))
-      tells k a (Interval none) e = absurd (omega (arith, e))
-      tells k a (Willing none) e = absurd (omega (arith, e))
-      tells k a (Undefined net kind bound status bad) e = absurd (omega (arith, e))
-      tells k a (TwoValues net kind bound status two) e = absurd (omega (arith, e))
-      tells k a (Prefix net kind bound status h short) e = absurd (omega (arith, e))
-      tells k a (Metric net wrong) e =
-          let (t, has, is, h) = told_of m rows are net (wrong_metric_has m net wrong) in
-          (t, has, ap Some (sym is), metric_wrong m net t.parts h wrong)
+  reached : (t : AddressParts) (k : ℕ) (a : Option NetAddr) → Contains rows t → a ≡ Some t.net → AtMost (hello_rule t) k → Reaches hello_rule rows k a
+  reached t k a has is (n, e, le) = record { told = t; there = has; is = is; number = n; broken = e; most = le }
 
-  -- ---- the first of them
+  -- a row has an undefined value, or the rule holds of it where it has none
+  defined_or : (t : AddressParts) (k : ℕ) → 26 ≤ k → (is_undefined t.parts ≡ false → AtMost (hello_rule t) k) → AtMost (hello_rule t) k
+  defined_or t k up rest = elim (cases_Bool (is_undefined t.parts)) [
+    | inl y ↦ let (n, e, le) = first_passed (is_undefined t.parts) (has_two t.parts) (is_short t) (has_wrong_metric t.parts) y in (n, e, omega (arith, le, up))
+    | inr f ↦ rest f
+  ]
 
-  -- a row that breaks no rule
-  pub record Sound (t : Told) : Type 0 where
-    pub defined : is_undefined t.parts ≡ false
-    pub one : has_two t.parts ≡ false
-    pub metric : has_wrong_metric t.parts ≡ false
+  reaches : (k : ℕ) (a : Option NetAddr) → BreaksHello m k a → 26 ≤ k → Reaches hello_rule rows k a
+  reaches k a (AddressWidth h) e = absurd (omega (arith, e))
+  reaches k a (HopLimit limit is other) e = absurd (omega (arith, e))
+  reaches k a (HopCount count is other) e = absurd (omega (arith, e))
+  reaches k a (NoValidity none) e = absurd (omega (arith, e))
+  reaches k a (WrongInterval none) e = absurd (omega (arith, e))
+  reaches k a (WrongWilling none) e = absurd (omega (arith, e))
+  reaches k a (Undefined net kind bound status (x, said, bad)) e =
+      let (t, has, is, h) = told_of m rows are net (says_has m net kind x said) in
+      let o = kept_is (HasValue m net) t.parts kind bound status h in
+      reached t 26 (Some net) has (ap Some (sym is))
+      (first_passed (is_undefined t.parts) (has_two t.parts) (is_short t) (has_wrong_metric t.parts) (one_of_three (λ (q : Octets). q.wrong) t.parts kind bound status (o.wrong.1 (x, said, bad))))
+  reaches k a (TwoValues net kind bound status (x, y, said_x, said_y, d)) e =
+      let (t, has, is, h) = told_of m rows are net (says_has m net kind x said_x) in
+      let o = kept_is (HasValue m net) t.parts kind bound status h in
+      reached t 27 (Some net) has (ap Some (sym is)) (defined_or t 27 (lit≤ tt) (λ defined.
+      let right = three_none (λ (q : Octets). q.wrong) t.parts kind bound status defined in
+      let i = right_octet (HasValue m net kind) 0 bound (kept_of status t.parts) o right x said_x in
+      let j = right_octet (HasValue m net kind) 0 bound (kept_of status t.parts) o right y said_y in
+      second_passed (is_undefined t.parts) (has_two t.parts) (is_short t) (has_wrong_metric t.parts)
+      (one_of_three (λ (q : Octets). is_several q.one) t.parts kind bound status
+      (differ_several (InRange (HasValue m net kind) 0 bound) (kept_of status t.parts).one i.0 j.0 o.one (in_range (HasValue m net kind) 0 bound x said_x i) (in_range (HasValue m net kind) 0 bound y said_y j)
+      (λ same. d (i.1 ∙ ap (λ (n : ℕ). n ∷ []) same ∙ sym j.1))))))
+  reaches k a (ShortPrefix net kind bound status (x, said) low) e =
+      let (t, has, is, h) = told_of m rows are net (says_has m net kind x said) in
+      let o = kept_is (HasValue m net) t.parts kind bound status h in
+      let same : t.net.prefix ≡ net.prefix = ap (λ (n : NetAddr). n.prefix) is in
+      reached t 28 (Some net) has (ap Some (sym is)) (defined_or t 28 (lit≤ tt) (λ defined.
+      let right = three_none (λ (q : Octets). q.wrong) t.parts kind bound status defined in
+      let i = right_octet (HasValue m net kind) 0 bound (kept_of status t.parts) o right x said in
+      third_passed (is_undefined t.parts) (has_two t.parts) (is_short t) (has_wrong_metric t.parts)
+      (and_both (nat_lt t.net.prefix 32) (has_status t.parts) (lt-ltb t.net.prefix 32 (omega arith))
+      (one_of_three (λ (q : Octets). is_said q.one) t.parts kind bound status (one_said (InRange (HasValue m net kind) 0 bound) (kept_of status t.parts).one i.0 o.one (in_range (HasValue m net kind) 0 bound x said i))))))
+  reaches k a (WrongMetric net wrong) e =
+      let (t, has, is, h) = told_of m rows are net (wrong_metric_has m net wrong) in
+      reached t 29 (Some net) has (ap Some (sym is)) (fourth_passed (is_undefined t.parts) (has_two t.parts) (is_short t) (has_wrong_metric t.parts) (metric_wrong m net t.parts h wrong))
 
-  last_number : (k : ℕ) (a : Option NetAddr) → BreaksHello m k a → k ≤ 29
-  last_number k a (AddressWidth h) = lit≤ tt
-  last_number k a (HopLimit limit is other) = lit≤ tt
-  last_number k a (HopCount count is other) = lit≤ tt
-  last_number k a (Validity none) = lit≤ tt
-  last_number k a (Interval none) = lit≤ tt
-  last_number k a (Willing none) = lit≤ tt
-  last_number k a (Undefined net kind bound status bad) = lit≤ tt
-  last_number k a (TwoValues net kind bound status two) = lit≤ tt
-  last_number k a (Prefix net kind bound status h short) = lit≤ tt
-  last_number k a (Metric net wrong) = lit≤ tt
-
-  -- what the first rule that is broken is, or that none is
-  abbrev pub Ruled : Option (ℕ × NetAddr) → Type 0
-  Ruled (Some (n, net)) = FirstBroken (BreaksHello m) n (Some net)
-  Ruled None = Keeps (BreaksHello m) × ((t : Told) → Contains rows t → Sound t)
-
-  module _ (up : (k : ℕ) (a : Option NetAddr) → BreaksHello m k a → 26 ≤ k) where
-    ruled : (a b c d : Option NetAddr) → first_net (row_breaks 26) rows ≡ a → first_net (row_breaks 27) rows ≡ b → first_net (row_breaks 28) rows ≡ c → first_net (row_breaks 29) rows ≡ d →
-        Ruled (or_rule 26 a (or_rule 27 b (or_rule 28 c (or_rule 29 d None))))
-    ruled (Some net) b c d ea eb ec ed = rule_first (BreaksHello m) rows 26 (row_breaks 26) net are.ascending undefined_decides up ea
-    ruled None b c d ea eb ec ed =
-        let defined : Defined = no_row (row_breaks 26) rows ea in
-        let up_27 = rule_kept (BreaksHello m) rows 26 (row_breaks 26) undefined_decides up ea in
-        after_26 b c d defined up_27 eb ec ed
-      where
-        after_28 : (d : Option NetAddr) → Defined → ((t : Told) → Contains rows t → has_two t.parts ≡ false) → ((k : ℕ) (a : Option NetAddr) → BreaksHello m k a → 29 ≤ k) → first_net (row_breaks 29) rows ≡ d → Ruled (or_rule 29 d None)
-        after_28 (Some net) defined one up_29 e = rule_first (BreaksHello m) rows 29 (row_breaks 29) net are.ascending metric_decides up_29 e
-        after_28 None defined one up_29 e =
-            let up_30 = rule_kept (BreaksHello m) rows 29 (row_breaks 29) metric_decides up_29 e in
-            (λ k a h. omega (arith, up_30 k a h, last_number k a h), λ t has. record { defined = defined t has; one = one t has; metric = no_row (row_breaks 29) rows e t has })
-
-        after_27 : (c d : Option NetAddr) → Defined → ((t : Told) → Contains rows t → has_two t.parts ≡ false) → ((k : ℕ) (a : Option NetAddr) → BreaksHello m k a → 28 ≤ k) → first_net (row_breaks 28) rows ≡ c → first_net (row_breaks 29) rows ≡ d → Ruled (or_rule 28 c (or_rule 29 d None))
-        after_27 (Some net) d defined one up_28 ec ed = rule_first (BreaksHello m) rows 28 (row_breaks 28) net are.ascending (prefix_decides defined) up_28 ec
-        after_27 None d defined one up_28 ec ed = after_28 d defined one (rule_kept (BreaksHello m) rows 28 (row_breaks 28) (prefix_decides defined) up_28 ec) ed
-
-        after_26 : (b c d : Option NetAddr) → Defined → ((k : ℕ) (a : Option NetAddr) → BreaksHello m k a → 27 ≤ k) → first_net (row_breaks 27) rows ≡ b → first_net (row_breaks 28) rows ≡ c → first_net (row_breaks 29) rows ≡ d → Ruled (or_rule 27 b (or_rule 28 c (or_rule 29 d None)))
-        after_26 (Some net) c d defined up_27 eb ec ed = rule_first (BreaksHello m) rows 27 (row_breaks 27) net are.ascending (two_decides defined) up_27 eb
-        after_26 None c d defined up_27 eb ec ed = after_27 c d defined (no_row (row_breaks 27) rows eb) (rule_kept (BreaksHello m) rows 27 (row_breaks 27) (two_decides defined) up_27 eb) ec ed
-
-    pub hello_ruled : Ruled (hello_rule rows)
-    hello_ruled = ruled (first_net (row_breaks 26) rows) (first_net (row_breaks 27) rows) (first_net (row_breaks 28) rows) (first_net (row_breaks 29) rows) refl refl refl refl
+  pub hello_decides : Decides (BreaksHello m) hello_rule rows 26
+  hello_decides = record { breaks = breaks; reaches = reaches }

@@ -18,6 +18,7 @@ use Rattle.mesh_atoms.specs.declared.hello.Mpr.{Mpr as MprFlags}
 use Rattle.mesh_atoms.specs.declared.metric.Metric.{Metric}
 use Rattle.mesh_atoms.specs.Nodes.{IsBefore}
 use Rattle.mesh_addr.specs.declared.records.RawAddr.{RawAddr}
+use Rattle.mesh_atoms.specs.Writable.{HaveSenderAlone, HaveStatusWhole, IsAlone}
 use Rattle.mesh_packet.specs.Fields.{MessageFields, PacketFields}
 use Rattle.mesh_packet.specs.declared.packet.Span.{Span}
 use Rattle.mesh_packet.specs.Grammar.{Spells}
@@ -27,18 +28,18 @@ use Rattle.mesh_wire.specs.declared.lines.Column.{Column}
 use Rattle.mesh_wire.specs.declared.lines.Column.TheVariants.{Local, Link, Other, Mpr, AddrType, Gateway, LinkIn, LinkOut, NearIn, NearOut}
 use Rattle.mesh_wire.specs.declared.lines.Line.{Line}
 use Rattle.mesh_wire.specs.Drafts.{octet_of, whole, HasHelloValues, heading_of, IsHelloMessage, FitsAlone}
-use Rattle.mesh_wire.specs.Hello.{local_value, link_value, other_value, OriginatorIs, TellsOther, TellsNoOther, IsHelloRow, HelloIs}
-use Rattle.mesh_wire.specs.HelloRules.{BreaksHello, AddressWidth, HopLimit, HopCount, Validity, Interval, Willing, Undefined, TwoValues, Prefix, Metric as MetricRule}
+use Rattle.mesh_wire.specs.Hello.{local_value, link_value, other_value, OriginatorIs, TellsOther, IsReadHelloRow, HelloIs}
+use Rattle.mesh_wire.specs.HelloRules.{BreaksHello, AddressWidth, HopLimit, HopCount, NoValidity, WrongInterval, WrongWilling, Undefined, TwoValues, ShortPrefix, WrongMetric}
 use Rattle.mesh_wire.specs.Kinds.{local_if, link_metric, mpr_willing, IsStatusBelow}
 use Rattle.mesh_wire.specs.Lines.{kind_of, number, value_of, hello_line, high, flags_number}
 use Rattle.mesh_wire.specs.Metrics.{MetricKind, Link_in, Link_out, Near_in, Near_out, flag_of, ShowsMetric}
 use Rattle.mesh_wire.specs.Parts.{octets_of}
-use Rattle.mesh_wire.specs.Rows.{Has, HasPart, Says, AreRows}
+use Rattle.mesh_wire.specs.Rows.{HasType, HasPart, HasValue, AreRows}
 use Rattle.mesh_wire.specs.Rules.{IsOctet, Keeps}
 use Rattle.mesh_wire.specs.Runs.{has_part}
-use Rattle.mesh_wire.specs.Writes.{SayNoOtherOfSender, HaveStatusWhole, IsAlone, HasFlag, IsReadOfOther, IsReadOfHelloAddress, WritesHello, ReadsBackHello}
+use Rattle.mesh_wire.specs.Writes.{IsSoleMessage, HasFlag, IsReadOfOther, IsReadOfHelloAddress, WritesHello, ReadsBackHello}
 use Rattle.mesh_wire.proofs.Fits.{message_fits, HasFewParts, fits_alone}
-use Rattle.mesh_wire.proofs.Headings.{validity_is, interval_is, willing_is, read_of_hello}
+use Rattle.mesh_wire.proofs.Headings.{validity_is, interval_is, times_are, willing_is, read_of_hello}
 use Rattle.mesh_wire.proofs.Laid.{whole_number}
 use Rattle.mesh_wire.proofs.LinesSay.{octet_value, octet_is, flags_are, metric_is, two_octets, metric_octets, has_flag, metric_value, column_of, metric_of}
 use Rattle.mesh_wire.proofs.OneHello.{one_hello}
@@ -54,7 +55,7 @@ bit_most false = omega arith
 pub none_there : (c : Column) (l : Line) → number c l ≡ None → ◌≡◌ {A = ℕ} (cond (has_part c l) 1 0) 0
 none_there c l e = ap (λ (o : Option ℕ). cond (is_some o) 1 0) e
 
-few_of : (row : HelloRow) (local : Option LocalIf) → row.local ≡ local → (IsSome row.local → TellsNoOther row) → HasFewParts (hello_line row)
+few_of : (row : HelloRow) (local : Option LocalIf) → row.local ≡ local → (IsSome row.local → IsAlone row) → HasFewParts (hello_line row)
 few_of row None e sender =
     let l = hello_line row in
     omega (arith, none_there Local l (ap (λ (o : Option LocalIf). high (option_map local_value o)) e), bit_most (has_part Link l), bit_most (has_part Other l), bit_most (has_part Mpr l), bit_most (has_part LinkIn l), bit_most (has_part LinkOut l), bit_most (has_part NearIn l), bit_most (has_part NearOut l))
@@ -117,7 +118,7 @@ other_read row kind octets LinkOut e v none = metric_read row Link_out kind octe
 other_read row kind octets NearIn e v none = metric_read row Near_in kind octets e v
 other_read row kind octets NearOut e v none = metric_read row Near_out kind octets e v
 
-no_metric : (row : HelloRow) (k : MetricKind) (octets : List ℕ) → TellsNoOther row → value_of (column_of k) (hello_line row) ≡ Some octets → ⊥
+no_metric : (row : HelloRow) (k : MetricKind) (octets : List ℕ) → IsAlone row → value_of (column_of k) (hello_line row) ≡ Some octets → ⊥
 no_metric row k octets t v = none_said octets (option_map (metric_octets k) (metric_of k row.metrics)) (ap (λ (x : Metrics). option_map (metric_octets k) (metric_of k x)) t.metrics ∙ nothing k) (sym (metric_value k (hello_line row)) ∙ v)
   where
     nothing : (k : MetricKind) → option_map (metric_octets k) (metric_of k (record { link_in = None; link_out = None; near_in = None; near_out = None })) ≡ None
@@ -126,7 +127,7 @@ no_metric row k octets t v = none_said octets (option_map (metric_octets k) (met
     nothing Near_in = refl
     nothing Near_out = refl
 
-only_local : (row : HelloRow) (kind : ℕ) (octets : List ℕ) (c : Column) → kind ≡ kind_of c → value_of c (hello_line row) ≡ Some octets → TellsNoOther row → kind ≡ local_if
+only_local : (row : HelloRow) (kind : ℕ) (octets : List ℕ) (c : Column) → kind ≡ kind_of c → value_of c (hello_line row) ≡ Some octets → IsAlone row → kind ≡ local_if
 only_local row kind octets Local e v t = e
 only_local row kind octets Link e v t = absurd (none_said octets (option_map (λ (n : ℕ). n ∷ []) (option_map link_value row.link)) (ap (λ (o : Option LinkStatus). option_map (λ (n : ℕ). n ∷ []) (option_map link_value o)) t.link) (sym (octet_value (hello_line row).link) ∙ v))
 only_local row kind octets Other e v t = absurd (none_said octets (option_map (λ (n : ℕ). n ∷ []) (option_map other_value row.other)) (ap (λ (o : Option OtherStatus). option_map (λ (n : ℕ). n ∷ []) (option_map other_value o)) t.other) (sym (octet_value (hello_line row).other) ∙ v))
@@ -141,7 +142,7 @@ only_local row kind octets NearOut e v t = absurd (no_metric row Near_out octets
 -- ---- the rows
 
 module _ (hello : Hello) (values : List ℕ) (m : MessageFields) (h : IsHelloMessage hello (map hello_line hello.rows) values m) (has : HasHelloValues hello (map hello_line hello.rows) values)
-    (up : AllPairs (λ (a b : HelloRow). IsBefore a.addr b.addr) hello.rows) (sender : SayNoOtherOfSender hello.rows) (is_whole : HaveStatusWhole hello.rows) where
+    (up : AllPairs (λ (a b : HelloRow). IsBefore a.addr b.addr) hello.rows) (sender : HaveSenderAlone hello.rows) (is_whole : HaveStatusWhole hello.rows) where
   other_is : (row : HelloRow) → Contains hello.rows row → TellsOther m row
   other_is row there =
       let l = hello_line row in
@@ -156,14 +157,14 @@ module _ (hello : Hello) (values : List ℕ) (m : MessageFields) (h : IsHelloMes
         routing = flags.1;
       }
 
-  row_is : (row : HelloRow) → Contains hello.rows row → IsHelloRow m row
+  row_is : (row : HelloRow) → Contains hello.rows row → IsReadHelloRow m row
   row_is row there = record {
     local = octet_is m (map hello_line hello.rows) h.blocks (unique hello_line hello.rows m h.blocks up) (hello_line row) (among hello_line hello.rows m h.blocks up row there) Local refl (option_map local_value row.local) (octet_value (hello_line row).local);
     of_other = λ none. other_is row there;
     of_sender = sender row there;
   }
 
-  rows_are : AreRows m (λ (row : HelloRow). row.addr) (IsHelloRow m) hello.rows
+  rows_are : AreRows m (λ (row : HelloRow). row.addr) (IsReadHelloRow m) hello.rows
   rows_are = record {
     ascending = up;
     each = λ row there. (row_stands hello_line hello.rows m h.blocks up row there, row_is row there);
@@ -196,7 +197,7 @@ module _ (hello : Hello) (values : List ℕ) (m : MessageFields) (h : IsHelloMes
     below : octet < bound
     shown_is : IsSome row.local ⊎ (IsSome row.link ⊎ IsSome row.other)
 
-  status_is : (row : HelloRow) → Contains hello.rows row → (kind bound : ℕ) → IsStatusBelow kind bound → (octets : List ℕ) → Says m row.addr kind octets → StatusIs row bound octets
+  status_is : (row : HelloRow) → Contains hello.rows row → (kind bound : ℕ) → IsStatusBelow kind bound → (octets : List ℕ) → HasValue m row.addr kind octets → StatusIs row bound octets
   status_is row there kind bound (inl (k, b)) octets s =
       let v = said_of hello_line hello.rows m h.blocks up row there Local refl kind k octets s in
       let (n, is, below, some) = of_value local_value 2 local_below row.local octets (sym (octet_value (hello_line row).local) ∙ v) in
@@ -210,7 +211,7 @@ module _ (hello : Hello) (values : List ℕ) (m : MessageFields) (h : IsHelloMes
       let (n, is, below, some) = of_value other_value 2 other_below row.other octets (sym (octet_value (hello_line row).other) ∙ v) in
       record { column = Other; value = v; octet = n; is = is; below = omega (arith, below, b); shown_is = inr (inr some) }
 
-  status_once : (row : HelloRow) → Contains hello.rows row → (kind bound : ℕ) → IsStatusBelow kind bound → (x y : List ℕ) → Says m row.addr kind x → Says m row.addr kind y → x ≡ y
+  status_once : (row : HelloRow) → Contains hello.rows row → (kind bound : ℕ) → IsStatusBelow kind bound → (x y : List ℕ) → HasValue m row.addr kind x → HasValue m row.addr kind y → x ≡ y
   status_once row there kind bound (inl (k, b)) x y s t = once hello_line hello.rows m h.blocks up row there Local refl kind k x y s t
   status_once row there kind bound (inr (inl (k, b))) x y s t = once hello_line hello.rows m h.blocks up row there Link refl kind k x y s t
   status_once row there kind bound (inr (inr (k, b))) x y s t = once hello_line hello.rows m h.blocks up row there Other refl kind k x y s t
@@ -219,9 +220,9 @@ module _ (hello : Hello) (values : List ℕ) (m : MessageFields) (h : IsHelloMes
   keeps n a (AddressWidth wide) = wide h.width
   keeps n a (HopLimit limit is other) = let e = h.limit in cc
   keeps n a (HopCount count is other) = let e = h.count in cc
-  keeps n a (Validity none) = none hello.validity hello_is.validity
-  keeps n a (Interval none) = none hello.interval hello_is.interval
-  keeps n a (Willing none) = let (octet, is, f, r) = hello_is.willing in none octet is
+  keeps n a (NoValidity none) = none hello.validity hello_is.validity
+  keeps n a (WrongInterval none) = none hello.interval hello_is.interval
+  keeps n a (WrongWilling none) = let (octet, is, f, r) = hello_is.willing in none octet is
   keeps n a (Undefined net kind bound status (octets, s, wrong)) =
       let (row, there, of) = row_there hello_line hello.rows m h.blocks up net kind octets s in
       let st = status_is row there kind bound status octets (at_row hello_line hello.rows m h.blocks up row net of kind octets s) in
@@ -229,22 +230,22 @@ module _ (hello : Hello) (values : List ℕ) (m : MessageFields) (h : IsHelloMes
   keeps n a (TwoValues net kind bound status (x, y, s, t, other)) =
       let (row, there, of) = row_there hello_line hello.rows m h.blocks up net kind x s in
       other (status_once row there kind bound status x y (at_row hello_line hello.rows m h.blocks up row net of kind x s) (at_row hello_line hello.rows m h.blocks up row net of kind y t))
-  keeps n a (Prefix net kind bound status (octets, s) short) =
+  keeps n a (ShortPrefix net kind bound status (octets, s) short) =
       let (row, there, of) = row_there hello_line hello.rows m h.blocks up net kind octets s in
       let st = status_is row there kind bound status octets (at_row hello_line hello.rows m h.blocks up row net of kind octets s) in
       omega (arith, short, is_whole row there st.shown_is, ap (λ (x : NetAddr). x.prefix) of)
-  keeps n a (MetricRule net (inl (octets, s, other))) =
+  keeps n a (WrongMetric net (inl (octets, s, other))) =
       let (row, there, of) = row_there hello_line hello.rows m h.blocks up net link_metric octets s in
       let (x, y, is) = two_octets m (map hello_line hello.rows) h.blocks (unique hello_line hello.rows m h.blocks up) (hello_line row) (among hello_line hello.rows m h.blocks up row there) octets (at_row hello_line hello.rows m h.blocks up row net of link_metric octets s) in
       other (ap length is)
-  keeps n a (MetricRule net (inr (k, x, y, s, t, other))) =
+  keeps n a (WrongMetric net (inr (k, x, y, s, t, other))) =
       let (high, low, is, flag, code) = s in
       let (row, there, of) = row_there hello_line hello.rows m h.blocks up net link_metric (high ∷ (low ∷ [])) is in
       other (one_code hello_line hello.rows m h.blocks up row there k x y (subst (λ (p : NetAddr). ShowsMetric m p k x) (sym of) s) (subst (λ (p : NetAddr). ShowsMetric m p k y) (sym of) t))
 
   -- ---- nothing is ignored
 
-  no_local : (row : HelloRow) → Contains hello.rows row → row.local ≡ None → (net : NetAddr) → row.addr ≡ net → Has m net local_if → ⊥
+  no_local : (row : HelloRow) → Contains hello.rows row → row.local ≡ None → (net : NetAddr) → row.addr ≡ net → HasType m net local_if → ⊥
   no_local row there e net of (octets, s) =
       let v = said_of hello_line hello.rows m h.blocks up row there Local refl local_if refl octets (at_row hello_line hello.rows m h.blocks up row net of local_if octets s) in
       none_said octets (option_map (λ (n : ℕ). n ∷ []) (option_map local_value row.local)) (ap (λ (o : Option LocalIf). option_map (λ (n : ℕ). n ∷ []) (option_map local_value o)) e) (sym (octet_value (hello_line row).local) ∙ v)
@@ -271,7 +272,7 @@ module _ (hello : Hello) (values : List ℕ) (m : MessageFields) (h : IsHelloMes
   pub encodable : IsEncodableMessage m
   encodable = message_fits m (map hello_line hello.rows) hello.originator h.width h.originator h.blocks
 
-  pub written : (bytes : List ℕ) → IsAlone m bytes → WritesHello hello bytes
+  pub written : (bytes : List ℕ) → IsSoleMessage m bytes → WritesHello hello bytes
   written bytes is = record {
     message = m;
     packet = is;
@@ -280,12 +281,13 @@ module _ (hello : Hello) (values : List ℕ) (m : MessageFields) (h : IsHelloMes
     count = h.count;
     sequence = h.sequence;
     reads = hello_is;
+    times = times_are has.0 has.1 (octet_of hello.willing ∷ []) 0 m mpr_willing (inl refl) hello.validity hello.interval heading has.2 has.3;
     keeps = keeps;
     tlvs = read_of_hello m (take 3 values) (is_some hello.interval) h.tlvs;
     parts = part_read;
   }
 
-  pub back : (bytes : List ℕ) → IsAlone m bytes → (packet : PacketFields) (spans : List Span) → Spells packet spans bytes → ReadsBackHello hello packet
+  pub back : (bytes : List ℕ) → IsSoleMessage m bytes → (packet : PacketFields) (spans : List Span) → Spells packet spans bytes → ReadsBackHello hello packet
   back bytes is packet spans spelled = record {
     message = m;
     one = ap (λ (p : PacketFields). p.messages) (alone_again m bytes is packet spans spelled);

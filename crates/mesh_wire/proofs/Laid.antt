@@ -20,7 +20,7 @@ use Rattle.mesh_wire.specs.declared.lines.Column.TheVariants.{Local, Link, Other
 use Rattle.mesh_wire.specs.declared.lines.Line.{Line}
 use Rattle.mesh_wire.specs.Lines.{kind_of, value_of, columns}
 use Rattle.mesh_wire.specs.Parts.{octets_of, number_of, IsIn, value_at}
-use Rattle.mesh_wire.specs.Rows.{HasAddressAt, HasAddress, HasPart, Says}
+use Rattle.mesh_wire.specs.Rows.{HoldsAddressAt, HoldsAddress, HasPart, HasValue}
 use Rattle.mesh_wire.specs.Runs.{host_octets, raw_of, present, IsRun, LaysAll, IsBlock, AreBlocks}
 use Rattle.mesh_wire.proofs.Ascending.{at_head, in_tail, head_or_tail, none_in}
 use Rattle.mesh_wire.proofs.Same.{same_addr}
@@ -170,7 +170,7 @@ module _ (m : MessageFields) (lines : List Line) (are : AreBlocks lines m.blocks
         ap (value_of c) (sym same) ∙ value ∙ ap Some (sym e),
       )
 
-  address_at : (front : List Line) (b : BlockFields) → IsBlock front b → Contains m.blocks b → (place : ℕ) (line : Line) → slice_get front place ≡ Some line → HasAddressAt m b place line.net
+  address_at : (front : List Line) (b : BlockFields) → IsBlock front b → Contains m.blocks b → (place : ℕ) (line : Line) → slice_get front place ≡ Some line → HoldsAddressAt m b place line.net
   address_at front b is among place line at = record {
     address = raw_of line.net;
     in_message = among;
@@ -179,7 +179,7 @@ module _ (m : MessageFields) (lines : List Line) (are : AreBlocks lines m.blocks
   }
 
   -- and what the line says is said
-  pub says : (line : Line) (c : Column) (octets : List ℕ) → Contains lines line → value_of c line ≡ Some octets → Says m line.net (kind_of c) octets
+  pub says : (line : Line) (c : Column) (octets : List ℕ) → Contains lines line → value_of c line ≡ Some octets → HasValue m line.net (kind_of c) octets
   says line c octets has value =
       let (b, front, among, is, here) = line_there lines m.blocks are line has in
       let (place, lt, at) = place_of front line here in
@@ -201,13 +201,13 @@ module _ (m : MessageFields) (lines : List Line) (are : AreBlocks lines m.blocks
         refl,
       )
 
-  pub stands : (line : Line) → Contains lines line → HasAddress m line.net
+  pub stands : (line : Line) → Contains lines line → HoldsAddress m line.net
   stands line has =
       let (b, front, among, is, here) = line_there lines m.blocks are line has in
       let (place, lt, at) = place_of front line here in
       (b, place, address_at front b is among place line at)
 
-  pub standing_line : (net : NetAddr) → HasAddress m net → (line : Line) × Contains lines line × (line.net ≡ net)
+  pub standing_line : (net : NetAddr) → HoldsAddress m net → (line : Line) × Contains lines line × (line.net ≡ net)
   standing_line net (b, place, h) =
       let (front, is, up) = block_there lines m.blocks are b h.in_message in
       let (line, at, of) = line_at front b is place h.address net h.in_block h.is_in in

@@ -14,7 +14,7 @@ use Rattle.mesh_wire.specs.declared.lines.Line.{Line}
 use Rattle.mesh_wire.specs.Kinds.{link_metric}
 use Rattle.mesh_wire.specs.Lines.{kind_of, is_wide, high, value_of, flags_number}
 use Rattle.mesh_wire.specs.Metrics.{MetricKind, Link_in, Link_out, Near_in, Near_out, flag_of, ShowsMetric, MetricIs}
-use Rattle.mesh_wire.specs.Rows.{Says, OctetIs, SaysFlag}
+use Rattle.mesh_wire.specs.Rows.{HasValue, OctetIs, SaysFlag}
 use Rattle.mesh_wire.specs.Runs.{AreBlocks}
 use Rattle.mesh_wire.proofs.Laid.{said, says}
 
@@ -177,14 +177,14 @@ same_one a b e = cc
 -- ---- what is said of the address of a line
 
 module _ (m : MessageFields) (lines : List Line) (are : AreBlocks lines m.blocks) (unique : (a b : Line) → Contains lines a → Contains lines b → a.net ≡ b.net → a ≡ b) (line : Line) (among : Contains lines line) where
-  pub line_says : (kind : ℕ) (octets : List ℕ) → Says m line.net kind octets → (c : Column) × (kind ≡ kind_of c) × (value_of c line ≡ Some octets)
+  pub line_says : (kind : ℕ) (octets : List ℕ) → HasValue m line.net kind octets → (c : Column) × (kind ≡ kind_of c) × (value_of c line ≡ Some octets)
   line_says kind octets (value, part, is) =
       let (other, c, there, of, k, ext, v) = said m lines are line.net (record { kind = kind; ext = 0; value = value }) part in
       let same : other ≡ line = unique other line there among of in
       (c, k, ap (value_of c) (sym same) ∙ v ∙ ap Some (sym is))
 
   -- of a type whose values are octets
-  pub says_only : (c : Column) → is_wide c ≡ false → (octets : List ℕ) → Says m line.net (kind_of c) octets → value_of c line ≡ Some octets
+  pub says_only : (c : Column) → is_wide c ≡ false → (octets : List ℕ) → HasValue m line.net (kind_of c) octets → value_of c line ≡ Some octets
   says_only c narrow octets s =
       let (d, k, v) = line_says (kind_of c) octets s in
       subst (λ (x : Column). value_of x line ≡ Some octets) (only c d narrow k) v
@@ -238,7 +238,7 @@ module _ (m : MessageFields) (lines : List Line) (are : AreBlocks lines m.blocks
       let value : value_of (column_of k) line ≡ Some (metric_octets k metric) = metric_value k line ∙ ap (option_map (metric_octets k)) e in (
         (256 * flag_of k + metric.code) / 256,
         (256 * flag_of k + metric.code) % 256,
-        subst (λ (kind : ℕ). Says m line.net kind (metric_octets k metric)) (column_kind k) (says m lines are line (column_of k) (metric_octets k metric) among value),
+        subst (λ (kind : ℕ). HasValue m line.net kind (metric_octets k metric)) (column_kind k) (says m lines are line (column_of k) (metric_octets k metric) among value),
         has_flag k metric,
         code_again k metric,
       )
@@ -247,7 +247,7 @@ module _ (m : MessageFields) (lines : List Line) (are : AreBlocks lines m.blocks
   metric_is k = metric_from k (metric_of k line.metrics) refl
 
   -- each metric that is said has two octets
-  pub two_octets : (octets : List ℕ) → Says m line.net link_metric octets → (x : ℕ) × (y : ℕ) × (octets ≡ x ∷ (y ∷ []))
+  pub two_octets : (octets : List ℕ) → HasValue m line.net link_metric octets → (x : ℕ) × (y : ℕ) × (octets ≡ x ∷ (y ∷ []))
   two_octets octets s =
       let (c, kind, v) = line_says link_metric octets s in
       let (k, same) = metric_column c kind in

@@ -1,8 +1,10 @@
 -- A message that keeps the rules of a HELLO reads as one HELLO.
 use Rattle.std.proofs.Common.{◌≡◌, ℕ, zero, suc, ◌/◌, ◌%◌, inl, inr, List, Bool, refl, sym, ap, subst, ◌∙◌}
-use Rattle.std.specs.Prelude.{Option, Some, None, IsSome}
+use Rattle.std.specs.Prelude.{AllPairs, Option, Some, None, IsSome}
 use Rattle.mesh_atoms.specs.declared.addr.Addr4.{Addr4}
 use Rattle.mesh_atoms.specs.declared.addr.NetAddr.{NetAddr}
+use Rattle.mesh_atoms.specs.Nodes.{IsBefore}
+use Rattle.mesh_atoms.specs.Ascends.{ascends_prop}
 use Rattle.mesh_atoms.specs.declared.hello.LocalIf.{LocalIf}
 use Rattle.mesh_atoms.specs.declared.hello.LocalIf.TheVariants.{This, Other}
 use Rattle.mesh_atoms.specs.declared.hello.LinkStatus.{LinkStatus}
@@ -15,8 +17,9 @@ use Rattle.mesh_atoms.specs.declared.hello.Willing.{Willing}
 use Rattle.mesh_atoms.specs.declared.hello.HelloRow.{HelloRow}
 use Rattle.mesh_atoms.specs.declared.hello.Hello.{Hello}
 use Rattle.mesh_atoms.specs.declared.metric.Metric.{Metric}
-use Rattle.mesh_wire.specs.Hello.{local_value, link_value, other_value, HasWilling, WillingIs, TellsOther, TellsNoOther, IsHelloRow, HelloIs}
-use Rattle.mesh_wire.specs.HelloRules.{BreaksHello, TwoValues, Metric as MetricRule}
+use Rattle.mesh_atoms.specs.Writable.{IsAlone}
+use Rattle.mesh_wire.specs.Hello.{local_value, link_value, other_value, HasWilling, WillingIs, TellsOther, IsReadHelloRow, HelloIs}
+use Rattle.mesh_wire.specs.HelloRules.{BreaksHello, TwoValues, WrongMetric}
 use Rattle.mesh_wire.specs.Kinds.{local_if, link_status, other_neighb, IsStatusBelow}
 use Rattle.mesh_packet.specs.Fields.{MessageFields}
 use Rattle.mesh_wire.specs.Metrics.{Link_in, Link_out, Near_in, Near_out, HasTwoMetrics}
@@ -100,7 +103,7 @@ module _ (message : MessageFields) (keeps : Keeps (BreaksHello message)) where
   not_two net kind bound status values = keeps 27 (Some net) (TwoValues net kind bound status values)
 
   not_two_metrics : (net : NetAddr) → HasTwoMetrics message net → ⊥
-  not_two_metrics net metrics = keeps 29 (Some net) (MetricRule net (inr metrics))
+  not_two_metrics net metrics = keeps 29 (Some net) (WrongMetric net (inr metrics))
 
   others_alike : (r : HelloRow) (l : Option LocalIf) (k : Option LinkStatus) (o : Option OtherStatus) (m : Metrics) (p : Mpr) →
       TellsOther message r → TellsOther message (row_of r.addr l k o m p) → Alike r (row_of r.addr l k o m p)
@@ -115,7 +118,7 @@ module _ (message : MessageFields) (keeps : Keeps (BreaksHello message)) where
     mpr = same_mpr r.mpr p (one_flag r.mpr.flooding p.flooding _ h.flooding g.flooding) (one_flag r.mpr.routing p.routing _ h.routing g.routing);
   }
 
-  senders_alike : (r s : HelloRow) → TellsNoOther r → TellsNoOther s → Alike r s
+  senders_alike : (r s : HelloRow) → IsAlone r → IsAlone s → Alike r s
   senders_alike r s h g = record {
     link = h.link ∙ sym g.link;
     other = h.other ∙ sym g.other;
@@ -124,21 +127,21 @@ module _ (message : MessageFields) (keeps : Keeps (BreaksHello message)) where
   }
 
   alike : (r : HelloRow) (l : Option LocalIf) (k : Option LinkStatus) (o : Option OtherStatus) (m : Metrics) (p : Mpr) (q : Option LocalIf) → r.local ≡ q → l ≡ q →
-      IsHelloRow message r → IsHelloRow message (row_of r.addr l k o m p) → Alike r (row_of r.addr l k o m p)
+      IsReadHelloRow message r → IsReadHelloRow message (row_of r.addr l k o m p) → Alike r (row_of r.addr l k o m p)
   alike r l k o m p None e f h g = others_alike r l k o m p (h.of_other e) (g.of_other f)
   alike r l k o m p (Some x) e f h g = senders_alike r (row_of r.addr l k o m p) (h.of_sender (subst IsSome (sym e) refl)) (g.of_sender (subst IsSome (sym f) refl))
 
   told_here : (r : HelloRow) (l : Option LocalIf) (k : Option LinkStatus) (o : Option OtherStatus) (m : Metrics) (p : Mpr) →
-      IsHelloRow message r → IsHelloRow message (row_of r.addr l k o m p) → r ≡ row_of r.addr l k o m p
+      IsReadHelloRow message r → IsReadHelloRow message (row_of r.addr l k o m p) → r ≡ row_of r.addr l k o m p
   told_here r l k o m p h g =
       let local : r.local ≡ l = told_by local_value local_of local_again r.local l (one_octet message r.addr local_if _ _ (not_two r.addr local_if 2 (inl (refl, refl))) h.local g.local) in
       same_row r (row_of r.addr l k o m p) refl local (alike r l k o m p l local refl h g)
 
   -- a row is told by its address
-  told : (r s : HelloRow) → r.addr ≡ s.addr → IsHelloRow message r → IsHelloRow message s → r ≡ s
+  told : (r s : HelloRow) → r.addr ≡ s.addr → IsReadHelloRow message r → IsReadHelloRow message s → r ≡ s
   told r s a h g =
-      let here : IsHelloRow message (row_of r.addr s.local s.link s.other s.metrics s.mpr) =
-      subst (λ (net : NetAddr). IsHelloRow message (row_of net s.local s.link s.other s.metrics s.mpr)) (sym a) g in
+      let here : IsReadHelloRow message (row_of r.addr s.local s.link s.other s.metrics s.mpr) =
+      subst (λ (net : NetAddr). IsReadHelloRow message (row_of net s.local s.link s.other s.metrics s.mpr)) (sym a) g in
       told_here r s.local s.link s.other s.metrics s.mpr h here ∙ ap (λ (net : NetAddr). row_of net s.local s.link s.other s.metrics s.mpr) a
 
 -- ---- the whole
@@ -154,14 +157,22 @@ one_willing message a b (x, is_x, flooding_x, routing_x) (y, is_y, flooding_y, r
     let same : x ≡ y = one_octet_of_willing message x y is_x is_y in
     same_willing a b (flooding_x ∙ ap (λ (n : ℕ). n / 16) same ∙ sym flooding_y) (routing_x ∙ ap (λ (n : ℕ). n % 16) same ∙ sym routing_y)
 
-abbrev hello_from : Option Addr4 → ℕ → Option ℕ → Willing → List HelloRow → Hello
-hello_from o v i w r = record { originator = o; validity = v; interval = i; willing = w; rows = r }
+abbrev Up : List HelloRow → Type 0
+Up rows = AllPairs (λ (r t : HelloRow). IsBefore r.addr t.addr) rows
+
+abbrev hello_from : Option Addr4 → ℕ → Option ℕ → Willing → (rows : List HelloRow) → Up rows → Hello
+hello_from o v i w r up = record { originator = o; validity = v; interval = i; willing = w; rows = r; ascending = up }
+
+from_rows : (o : Option Addr4) (v : ℕ) (i : Option ℕ) (w : Willing) (r t : List HelloRow) (up : Up r) (up' : Up t) → r ≡ t → hello_from o v i w r up ≡ hello_from o v i w t up'
+from_rows o v i w r t up up' e =
+    subst (λ (x : List HelloRow). (h : Up x) → hello_from o v i w r up ≡ hello_from o v i w x h) e
+    (λ h. ap (hello_from o v i w r) (ascends_prop (λ (row : HelloRow). row.addr) r up h)) up'
 
 pub one_hello : (message : MessageFields) → Keeps (BreaksHello message) → (a b : Hello) → HelloIs message a → HelloIs message b → a ≡ b
 one_hello message keeps a b h g =
-    ap (λ (x : Option Addr4). hello_from x a.validity a.interval a.willing a.rows) (one_originator message.originator a.originator b.originator h.originator g.originator)
-    ∙ ap (λ (x : ℕ). hello_from b.originator x a.interval a.willing a.rows) (one_time message 1 1 a.validity b.validity h.validity.0 g.validity.0)
-    ∙ ap (λ (x : Option ℕ). hello_from b.originator b.validity x a.willing a.rows) (one_interval message 1 a.interval b.interval h.interval g.interval)
-    ∙ ap (λ (x : Willing). hello_from b.originator b.validity b.interval x a.rows) (one_willing message a.willing b.willing h.willing g.willing)
-    ∙ ap (λ (x : List HelloRow). hello_from b.originator b.validity b.interval b.willing x)
-    (one_rows message (λ (row : HelloRow). row.addr) (IsHelloRow message) (told message keeps) a.rows b.rows h.rows g.rows)
+    ap (λ (x : Option Addr4). hello_from x a.validity a.interval a.willing a.rows a.ascending) (one_originator message.originator a.originator b.originator h.originator g.originator)
+    ∙ ap (λ (x : ℕ). hello_from b.originator x a.interval a.willing a.rows a.ascending) (one_time message 1 1 a.validity b.validity h.validity.0 g.validity.0)
+    ∙ ap (λ (x : Option ℕ). hello_from b.originator b.validity x a.willing a.rows a.ascending) (one_interval message 1 a.interval b.interval h.interval g.interval)
+    ∙ ap (λ (x : Willing). hello_from b.originator b.validity b.interval x a.rows a.ascending) (one_willing message a.willing b.willing h.willing g.willing)
+    ∙ from_rows b.originator b.validity b.interval b.willing a.rows b.rows a.ascending b.ascending
+    (one_rows message (λ (row : HelloRow). row.addr) (IsReadHelloRow message) (told message keeps) a.rows b.rows h.rows g.rows)

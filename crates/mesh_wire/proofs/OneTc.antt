@@ -1,8 +1,10 @@
 -- A message that keeps the rules of a TC reads as one TC.
 use Rattle.std.proofs.Common.{◌≡◌, ℕ, ◌+◌, ◌*◌, inr, List, [], ◌∷◌, Bool, refl, sym, ap, subst, ◌∙◌}
-use Rattle.std.specs.Prelude.{Option, Some, ◌==◌}
+use Rattle.std.specs.Prelude.{AllPairs, Option, Some, ◌==◌}
 use Rattle.mesh_atoms.specs.declared.addr.Addr4.{Addr4}
 use Rattle.mesh_atoms.specs.declared.addr.NetAddr.{NetAddr}
+use Rattle.mesh_atoms.specs.Nodes.{IsBefore}
+use Rattle.mesh_atoms.specs.Ascends.{ascends_prop}
 use Rattle.mesh_atoms.specs.declared.metric.Metric.{Metric}
 use Rattle.mesh_atoms.specs.declared.tc.TcRow.{TcRow}
 use Rattle.mesh_atoms.specs.declared.tc.Tc.{Tc}
@@ -12,8 +14,8 @@ use Rattle.mesh_packet.specs.Fields.{MessageFields}
 use Rattle.mesh_wire.specs.Parts.{octets_of}
 use Rattle.mesh_wire.specs.Metrics.{Near_out}
 use Rattle.mesh_wire.specs.Rules.{Keeps}
-use Rattle.mesh_wire.specs.Tc.{ContentIs, IsTcRow, TcIs}
-use Rattle.mesh_wire.specs.TcRules.{BreaksTc, TwoGateways, Metric as MetricRule}
+use Rattle.mesh_wire.specs.Tc.{ContentIs, IsReadTcRow, TcIs}
+use Rattle.mesh_wire.specs.TcRules.{BreaksTc, TwoGateways, WrongMetric}
 use Rattle.mesh_wire.specs.Times.{distance_of}
 use Rattle.mesh_wire.proofs.Single.{one_time, one_interval, one_originator, one_octet, one_metric, one_flag, one_rows}
 
@@ -23,18 +25,18 @@ abbrev row_of : NetAddr → Bool → Bool → Option ℕ → Option Metric → T
 row_of d o r g m = record { dest = d; origin = o; routable = r; gateway = g; metric = m }
 
 module _ (message : MessageFields) (keeps : Keeps (BreaksTc message)) where
-  told_here : (r : TcRow) (o q : Bool) (g : Option ℕ) (m : Option Metric) → IsTcRow message r → IsTcRow message (row_of r.dest o q g m) → r ≡ row_of r.dest o q g m
+  told_here : (r : TcRow) (o q : Bool) (g : Option ℕ) (m : Option Metric) → IsReadTcRow message r → IsReadTcRow message (row_of r.dest o q g m) → r ≡ row_of r.dest o q g m
   told_here r o q g m h k =
       ap (λ (x : Bool). row_of r.dest x r.routable r.gateway r.metric) (one_flag r.origin o _ h.origin k.origin)
       ∙ ap (λ (x : Bool). row_of r.dest o x r.gateway r.metric) (one_flag r.routable q _ h.routable k.routable)
       ∙ ap (λ (x : Option ℕ). row_of r.dest o q x r.metric) (one_octet message r.dest gateway r.gateway g (λ values. keeps 38 (Some r.dest) (TwoGateways r.dest values)) h.gateway_is k.gateway_is)
-      ∙ ap (λ (x : Option Metric). row_of r.dest o q g x) (one_metric message r.dest Near_out r.metric m (λ metrics. keeps 39 (Some r.dest) (MetricRule r.dest (inr metrics))) h.metric k.metric)
+      ∙ ap (λ (x : Option Metric). row_of r.dest o q g x) (one_metric message r.dest Near_out r.metric m (λ metrics. keeps 39 (Some r.dest) (WrongMetric r.dest (inr metrics))) h.metric k.metric)
 
   -- a row is told by its address
-  told : (r s : TcRow) → r.dest ≡ s.dest → IsTcRow message r → IsTcRow message s → r ≡ s
+  told : (r s : TcRow) → r.dest ≡ s.dest → IsReadTcRow message r → IsReadTcRow message s → r ≡ s
   told r s d h k =
-      let here : IsTcRow message (row_of r.dest s.origin s.routable s.gateway s.metric) =
-      subst (λ (net : NetAddr). IsTcRow message (row_of net s.origin s.routable s.gateway s.metric)) (sym d) k in
+      let here : IsReadTcRow message (row_of r.dest s.origin s.routable s.gateway s.metric) =
+      subst (λ (net : NetAddr). IsReadTcRow message (row_of net s.origin s.routable s.gateway s.metric)) (sym d) k in
       told_here r s.origin s.routable s.gateway s.metric h here ∙ ap (λ (net : NetAddr). row_of net s.origin s.routable s.gateway s.metric) d
 
 -- ---- the whole
@@ -54,8 +56,16 @@ one_content message a b x y (p, high, low, is_p, octets_p, ansn_p, complete_p) (
     let octets : octets_of p.value ≡ high' ∷ low' ∷ [] = ap (λ (r : TlvFields). octets_of r.value) same ∙ octets_q in
     (ansn_p ∙ one_short high low high' low' _ octets_p octets ∙ sym ansn_q, complete_p ∙ ap (λ (r : TlvFields). r.ext == 0) same ∙ sym complete_q)
 
-abbrev tc_from : Addr4 → ℕ → ℕ → Bool → ℕ → Option ℕ → List TcRow → Tc
-tc_from o s n c v i r = record { originator = o; sequence = s; ansn = n; complete = c; validity = v; interval = i; rows = r }
+abbrev Up : List TcRow → Type 0
+Up rows = AllPairs (λ (r t : TcRow). IsBefore r.dest t.dest) rows
+
+abbrev tc_from : Addr4 → ℕ → ℕ → Bool → ℕ → Option ℕ → (rows : List TcRow) → Up rows → Tc
+tc_from o s n c v i r up = record { originator = o; sequence = s; ansn = n; complete = c; validity = v; interval = i; rows = r; ascending = up }
+
+from_rows : (o : Addr4) (s n : ℕ) (c : Bool) (v : ℕ) (i : Option ℕ) (r t : List TcRow) (up : Up r) (up' : Up t) → r ≡ t → tc_from o s n c v i r up ≡ tc_from o s n c v i t up'
+from_rows o s n c v i r t up up' e =
+    subst (λ (x : List TcRow). (h : Up x) → tc_from o s n c v i r up ≡ tc_from o s n c v i x h) e
+    (λ h. ap (tc_from o s n c v i r) (ascends_prop (λ (row : TcRow). row.dest) r up h)) up'
 
 some_same : {X : Type 0} (a b : X) (o : Option X) → o ≡ Some a → o ≡ Some b → a ≡ b
 some_same a b o e f = cc
@@ -65,11 +75,11 @@ one_tc message keeps a b h g =
     let distance : ℕ = distance_of message.count in
     let originator : Some a.originator ≡ Some b.originator = one_originator message.originator (Some a.originator) (Some b.originator) h.originator g.originator in
     let content = one_content message a.ansn b.ansn a.complete b.complete h.content g.content in
-    ap (λ (x : Addr4). tc_from x a.sequence a.ansn a.complete a.validity a.interval a.rows) (some_same a.originator b.originator (Some b.originator) (sym originator) refl)
-    ∙ ap (λ (x : ℕ). tc_from b.originator x a.ansn a.complete a.validity a.interval a.rows) (some_same a.sequence b.sequence message.sequence h.sequence g.sequence)
-    ∙ ap (λ (x : ℕ). tc_from b.originator b.sequence x a.complete a.validity a.interval a.rows) content.0
-    ∙ ap (λ (x : Bool). tc_from b.originator b.sequence b.ansn x a.validity a.interval a.rows) content.1
-    ∙ ap (λ (x : ℕ). tc_from b.originator b.sequence b.ansn b.complete x a.interval a.rows) (one_time message 1 distance a.validity b.validity h.validity.0 g.validity.0)
-    ∙ ap (λ (x : Option ℕ). tc_from b.originator b.sequence b.ansn b.complete b.validity x a.rows) (one_interval message distance a.interval b.interval h.interval g.interval)
-    ∙ ap (λ (x : List TcRow). tc_from b.originator b.sequence b.ansn b.complete b.validity b.interval x)
-    (one_rows message (λ (row : TcRow). row.dest) (IsTcRow message) (told message keeps) a.rows b.rows h.rows g.rows)
+    ap (λ (x : Addr4). tc_from x a.sequence a.ansn a.complete a.validity a.interval a.rows a.ascending) (some_same a.originator b.originator (Some b.originator) (sym originator) refl)
+    ∙ ap (λ (x : ℕ). tc_from b.originator x a.ansn a.complete a.validity a.interval a.rows a.ascending) (some_same a.sequence b.sequence message.sequence h.sequence g.sequence)
+    ∙ ap (λ (x : ℕ). tc_from b.originator b.sequence x a.complete a.validity a.interval a.rows a.ascending) content.0
+    ∙ ap (λ (x : Bool). tc_from b.originator b.sequence b.ansn x a.validity a.interval a.rows a.ascending) content.1
+    ∙ ap (λ (x : ℕ). tc_from b.originator b.sequence b.ansn b.complete x a.interval a.rows a.ascending) (one_time message 1 distance a.validity b.validity h.validity.0 g.validity.0)
+    ∙ ap (λ (x : Option ℕ). tc_from b.originator b.sequence b.ansn b.complete b.validity x a.rows a.ascending) (one_interval message distance a.interval b.interval h.interval g.interval)
+    ∙ from_rows b.originator b.sequence b.ansn b.complete b.validity b.interval a.rows b.rows a.ascending b.ascending
+    (one_rows message (λ (row : TcRow). row.dest) (IsReadTcRow message) (told message keeps) a.rows b.rows h.rows g.rows)

@@ -10,7 +10,7 @@ use Rattle.mesh_packet.specs.Grammar.{Spells}
 use Rattle.mesh_packet.specs.Reading.{packet_of}
 use Rattle.mesh_packet.proofs.Packets.{packet_again}
 use Rattle.mesh_wire.specs.declared.lines.Line.{Line}
-use Rattle.mesh_wire.specs.Writes.{IsAlone, alone}
+use Rattle.mesh_wire.specs.Writes.{IsSoleMessage, alone}
 use Rattle.mesh_wire.proofs.Ascending.{at_head, in_tail, head_or_tail, none_in, head_below, tail_pairs}
 
 not_itself : (a b : NetAddr) → a ≡ b → IsBefore a b → ⊥
@@ -67,6 +67,6 @@ ok_same : {A E : Type 0} (x y : A) (r : Result A E) → r ≡ Ok x → r ≡ Ok 
 ok_same x y r e f = cc
 
 -- what the octets of a message alone spell is a packet of that message alone
-pub alone_again : (m : MessageFields) (bytes : List ℕ) → IsAlone m bytes → (packet : PacketFields) (spans : List Span) → Spells packet spans bytes → packet ≡ alone m
+pub alone_again : (m : MessageFields) (bytes : List ℕ) → IsSoleMessage m bytes → (packet : PacketFields) (spans : List Span) → Spells packet spans bytes → packet ≡ alone m
 alone_again m bytes is packet spans spelled =
     ap (λ (x : PacketFields × List Span). x.0) (ok_same (packet, spans) (alone m, is.spans) (packet_of bytes) (packet_again bytes packet spans spelled) (packet_again bytes (alone m) is.spans is.spelled))

@@ -11,7 +11,7 @@ use Rattle.mesh_wire.specs.declared.lines.Line.{Line}
 use Rattle.mesh_wire.specs.Lines.{kind_of, is_wide, value_of}
 use Rattle.mesh_wire.specs.Metrics.{MetricKind, ShowsMetric}
 use Rattle.mesh_wire.specs.Parts.{octets_of}
-use Rattle.mesh_wire.specs.Rows.{HasAddress, HasPart, Says}
+use Rattle.mesh_wire.specs.Rows.{HoldsAddress, HasPart, HasValue}
 use Rattle.mesh_wire.specs.Runs.{AreBlocks}
 use Rattle.mesh_wire.proofs.Laid.{said, stands, standing_line}
 use Rattle.mesh_wire.proofs.LinesSay.{says_only, shown}
@@ -24,10 +24,10 @@ module _ {Row : Type 0} (line_of : Row → Line) (rows : List Row) (m : MessageF
   pub among : (row : Row) → Contains rows row → Contains (map line_of rows) (line_of row)
   among row there = mapped line_of rows row there
 
-  pub row_stands : (row : Row) → Contains rows row → HasAddress m (line_of row).net
+  pub row_stands : (row : Row) → Contains rows row → HoldsAddress m (line_of row).net
   row_stands row there = stands m (map line_of rows) are (line_of row) (among row there)
 
-  pub row_at : (net : NetAddr) → HasAddress m net → (row : Row) × Contains rows row × ((line_of row).net ≡ net)
+  pub row_at : (net : NetAddr) → HoldsAddress m net → (row : Row) × Contains rows row × ((line_of row).net ≡ net)
   row_at net at =
       let (line, on, of) = standing_line m (map line_of rows) are net at in
       let (row, there, is) = unmapped line_of rows line on in
@@ -40,22 +40,22 @@ module _ {Row : Type 0} (line_of : Row → Line) (rows : List Row) (m : MessageF
       let (row, there, same) = unmapped line_of rows line on in
       (row, c, there, ap (λ (l : Line). l.net) same ∙ of, k, ext, ap (value_of c) same ∙ v)
 
-  pub row_there : (net : NetAddr) (kind : ℕ) (octets : List ℕ) → Says m net kind octets → (row : Row) × Contains rows row × ((line_of row).net ≡ net)
+  pub row_there : (net : NetAddr) (kind : ℕ) (octets : List ℕ) → HasValue m net kind octets → (row : Row) × Contains rows row × ((line_of row).net ≡ net)
   row_there net kind octets (value, part, is) = let (row, c, there, of, k, ext, v) = part_there net (record { kind = kind; ext = 0; value = value }) part in (row, there, of)
 
-  pub said_of : (row : Row) → Contains rows row → (c : Column) → is_wide c ≡ false → (kind : ℕ) → kind ≡ kind_of c → (octets : List ℕ) → Says m (line_of row).net kind octets → value_of c (line_of row) ≡ Some octets
+  pub said_of : (row : Row) → Contains rows row → (c : Column) → is_wide c ≡ false → (kind : ℕ) → kind ≡ kind_of c → (octets : List ℕ) → HasValue m (line_of row).net kind octets → value_of c (line_of row) ≡ Some octets
   said_of row there c narrow kind e octets s =
-      says_only m (map line_of rows) are unique (line_of row) (among row there) c narrow octets (subst (λ (k : ℕ). Says m (line_of row).net k octets) e s)
+      says_only m (map line_of rows) are unique (line_of row) (among row there) c narrow octets (subst (λ (k : ℕ). HasValue m (line_of row).net k octets) e s)
 
   same_value : (x y : List ℕ) (o : Option (List ℕ)) → o ≡ Some x → o ≡ Some y → x ≡ y
   same_value x y o e f = cc
 
   -- one value of a type whose values are octets
-  pub once : (row : Row) → Contains rows row → (c : Column) → is_wide c ≡ false → (kind : ℕ) → kind ≡ kind_of c → (x y : List ℕ) → Says m (line_of row).net kind x → Says m (line_of row).net kind y → x ≡ y
+  pub once : (row : Row) → Contains rows row → (c : Column) → is_wide c ≡ false → (kind : ℕ) → kind ≡ kind_of c → (x y : List ℕ) → HasValue m (line_of row).net kind x → HasValue m (line_of row).net kind y → x ≡ y
   once row there c narrow kind k x y s t = same_value x y (value_of c (line_of row)) (said_of row there c narrow kind k x s) (said_of row there c narrow kind k y t)
 
-  pub at_row : (row : Row) (net : NetAddr) → (line_of row).net ≡ net → (kind : ℕ) (octets : List ℕ) → Says m net kind octets → Says m (line_of row).net kind octets
-  at_row row net e kind octets s = subst (λ (n : NetAddr). Says m n kind octets) (sym e) s
+  pub at_row : (row : Row) (net : NetAddr) → (line_of row).net ≡ net → (kind : ℕ) (octets : List ℕ) → HasValue m net kind octets → HasValue m (line_of row).net kind octets
+  at_row row net e kind octets s = subst (λ (n : NetAddr). HasValue m n kind octets) (sym e) s
 
   code_same : (x y : Metric) (o : Option Metric) → o ≡ Some x → o ≡ Some y → x.code ≡ y.code
   code_same x y o e f = let same : x ≡ y = cc in ap (λ (n : Metric). n.code) same

@@ -20,7 +20,7 @@ use Rattle.mesh_packet.specs.Fields.{BlockFields, fields_of_block}
 use Rattle.std.proofs.lemmas.List.Elements.{Contains-push, Contains-append_left, Contains-push_cases}
 use Rattle.std.proofs.lemmas.Grind.{flat_map-append}
 use Rattle.mesh_atoms.proofs.Kept.{both}
-use Rattle.mesh_wire.proofs.Entries.{get_drop, get_take, taken}
+use Rattle.mesh_wire.proofs.Standing.{get_drop, get_take, taken}
 use Rattle.mesh_wire.proofs.Texts.{take_more, between, column_wide, column_narrow}
 
 -- ---- shares of a text

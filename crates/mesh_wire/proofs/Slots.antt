@@ -9,7 +9,7 @@ use Rattle.mesh_wire.specs.declared.parts.One.TheVariants.{Unsaid, Said, Several
 use Rattle.mesh_wire.specs.declared.parts.Octets.{Octets}
 use Rattle.mesh_wire.specs.declared.parts.RowParts.{RowParts}
 use Rattle.mesh_wire.specs.Rules.{IsOctet}
-use Rattle.mesh_wire.specs.Told.{also, code_also, is_octet_in, says_flag, octets_also, octet_also, has_other_length, no_parts, take_part}
+use Rattle.mesh_wire.specs.KeptParts.{also, code_also, is_octet_in, says_flag, octets_also, octet_also, has_other_length, no_parts, take_part}
 
 -- ---- booleans
 

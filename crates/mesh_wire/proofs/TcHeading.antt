@@ -14,7 +14,7 @@ use Rattle.mesh_wire.specs.Parts.{octets_of}
 use Rattle.mesh_wire.specs.Rules.{FirstBroken}
 use Rattle.mesh_wire.specs.Tc.{ContentIs}
 use Rattle.mesh_wire.specs.TcHeading.{contents_in}
-use Rattle.mesh_wire.specs.TcRules.{BreaksTc, AddressWidth, NoOriginator, NoSequence, Validity, Interval, Content, AddrType, TwoAddrTypes, Prefix, GatewayOctet, TwoGateways, Beside, Metric}
+use Rattle.mesh_wire.specs.TcRules.{BreaksTc, AddressWidth, NoOriginator, NoSequence, NoValidity, WrongInterval, Content, AddrType, TwoAddrTypes, ShortPrefix, GatewayOctet, TwoGateways, Beside, WrongMetric}
 use Rattle.mesh_wire.specs.Times.{distance_of, ValidityIs, IntervalIs}
 
 -- what is known where the rules below a number are kept
@@ -34,16 +34,16 @@ pub up_from : (m : MessageFields) (n : ℕ) → TcKeptBelow m n → (k : ℕ) (a
 up_from m n b k a (AddressWidth h) = not_below n k (λ lt. h (b.width lt))
 up_from m n b k a (NoOriginator none) = not_below n k (λ lt. b.originator lt none)
 up_from m n b k a (NoSequence none) = not_below n k (λ lt. b.sequence lt none)
-up_from m n b k a (Validity none) = not_below n k (λ lt. let v = b.validity lt in none v.0 v.1)
-up_from m n b k a (Interval none) = not_below n k (λ lt. let v = b.interval lt in none v.0 v.1)
+up_from m n b k a (NoValidity none) = not_below n k (λ lt. let v = b.validity lt in none v.0 v.1)
+up_from m n b k a (WrongInterval none) = not_below n k (λ lt. let v = b.interval lt in none v.0 v.1)
 up_from m n b k a (Content none) = not_below n k (λ lt. let (ansn, complete, is) = b.content lt in none ansn complete is)
 up_from m n b k a (AddrType net bad) = b.within
 up_from m n b k a (TwoAddrTypes net two) = b.within
-up_from m n b k a (Prefix net h short) = b.within
+up_from m n b k a (ShortPrefix net h short) = b.within
 up_from m n b k a (GatewayOctet net bad) = omega (arith, b.within)
 up_from m n b k a (TwoGateways net two) = omega (arith, b.within)
 up_from m n b k a (Beside net h g) = omega (arith, b.within)
-up_from m n b k a (Metric net wrong) = omega (arith, b.within)
+up_from m n b k a (WrongMetric net wrong) = omega (arith, b.within)
 
 pub first_at : (m : MessageFields) (n : ℕ) → TcKeptBelow m n → BreaksTc m n None → FirstBroken (BreaksTc m) n None
 first_at m n b h = record { broken = h; first = up_from m n b; least = λ a g. tt }

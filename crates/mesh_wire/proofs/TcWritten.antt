@@ -7,6 +7,7 @@ use Rattle.mesh_atoms.specs.declared.addr.NetAddr.{NetAddr}
 use Rattle.mesh_atoms.specs.declared.tc.TcRow.{TcRow}
 use Rattle.mesh_atoms.specs.declared.tc.Tc.{Tc}
 use Rattle.mesh_atoms.specs.Nodes.{IsBefore}
+use Rattle.mesh_atoms.specs.Writable.{AreOneType, HaveTypeWhole}
 use Rattle.mesh_packet.specs.declared.packet.Span.{Span}
 use Rattle.mesh_packet.specs.Fields.{MessageFields, PacketFields}
 use Rattle.mesh_packet.specs.Grammar.{Spells}
@@ -20,15 +21,15 @@ use Rattle.mesh_wire.specs.Kinds.{nbr_addr_type, gateway, link_metric, cont_seq_
 use Rattle.mesh_wire.specs.Lines.{kind_of, value_of, flags_number, tc_line}
 use Rattle.mesh_wire.specs.Metrics.{Near_out, ShowsMetric}
 use Rattle.mesh_wire.specs.Parts.{octets_of}
-use Rattle.mesh_wire.specs.Rows.{HasPart, Says, AreRows}
+use Rattle.mesh_wire.specs.Rows.{HasPart, HasValue, AreRows}
 use Rattle.mesh_wire.specs.Rules.{Keeps}
 use Rattle.mesh_wire.specs.Runs.{has_part}
-use Rattle.mesh_wire.specs.Tc.{IsTcRow, TcIs}
-use Rattle.mesh_wire.specs.TcRules.{BreaksTc, AddressWidth, NoOriginator, NoSequence, Validity, Interval, Content, AddrType as AddrTypeRule, TwoAddrTypes, Prefix, GatewayOctet, TwoGateways, Beside, Metric as MetricRule}
+use Rattle.mesh_wire.specs.Tc.{IsReadTcRow, TcIs}
+use Rattle.mesh_wire.specs.TcRules.{BreaksTc, AddressWidth, NoOriginator, NoSequence, NoValidity, WrongInterval, Content, AddrType as AddrTypeRule, TwoAddrTypes, ShortPrefix, GatewayOctet, TwoGateways, Beside, WrongMetric}
 use Rattle.mesh_wire.specs.Times.{distance_of}
-use Rattle.mesh_wire.specs.Writes.{AreOneType, HaveTypeWhole, IsAlone, HasFlag, IsReadOfTcAddress, WritesTc, ReadsBackTc}
+use Rattle.mesh_wire.specs.Writes.{IsSoleMessage, HasFlag, IsReadOfTcAddress, WritesTc, ReadsBackTc}
 use Rattle.mesh_wire.proofs.Fits.{message_fits, HasFewParts, fits_alone}
-use Rattle.mesh_wire.proofs.Headings.{validity_is, interval_is, content_is, read_of_tc}
+use Rattle.mesh_wire.proofs.Headings.{validity_is, interval_is, times_are, content_is, read_of_tc}
 use Rattle.mesh_wire.proofs.HelloWritten.{bit_most, originator_is, none_said, flags_octet, metric_flagged}
 use Rattle.mesh_wire.proofs.LinesSay.{octet_value, octet_is, flags_are, metric_is, two_octets, metric_value}
 use Rattle.mesh_wire.proofs.OneTc.{one_tc}
@@ -63,7 +64,7 @@ part_of row kind octets NearOut e v = inr (inr (e, metric_flagged Near_out row.m
 
 module _ (tc : Tc) (hop_limit : ℕ) (values : List ℕ) (m : MessageFields) (h : IsTcMessage tc hop_limit (map tc_line tc.rows) values m) (has : HasTcValues tc (map tc_line tc.rows) values)
     (up : AllPairs (λ (a b : TcRow). IsBefore a.dest b.dest) tc.rows) (one_type : AreOneType tc.rows) (is_whole : HaveTypeWhole tc.rows) where
-  row_is : (row : TcRow) → Contains tc.rows row → IsTcRow m row
+  row_is : (row : TcRow) → Contains tc.rows row → IsReadTcRow m row
   row_is row there =
       let l = tc_line row in
       let flags = flags_are m (map tc_line tc.rows) h.blocks (unique tc_line tc.rows m h.blocks up) l (among tc_line tc.rows m h.blocks up row there) AddrType refl row.origin row.routable (octet_value l.addr_type) in record {
@@ -73,7 +74,7 @@ module _ (tc : Tc) (hop_limit : ℕ) (values : List ℕ) (m : MessageFields) (h 
         metric = metric_is m (map tc_line tc.rows) h.blocks (unique tc_line tc.rows m h.blocks up) l (among tc_line tc.rows m h.blocks up row there) Near_out;
       }
 
-  rows_are : AreRows m (λ (row : TcRow). row.dest) (IsTcRow m) tc.rows
+  rows_are : AreRows m (λ (row : TcRow). row.dest) (IsReadTcRow m) tc.rows
   rows_are = record {
     ascending = up;
     each = λ row there. (row_stands tc_line tc.rows m h.blocks up row there, row_is row there);
@@ -98,18 +99,18 @@ module _ (tc : Tc) (hop_limit : ℕ) (values : List ℕ) (m : MessageFields) (h 
 
   -- ---- rules
 
-  type_of : (row : TcRow) → Contains tc.rows row → (octets : List ℕ) → Says m row.dest nbr_addr_type octets → option_map (λ (n : ℕ). n ∷ []) (flags_number row.origin row.routable) ≡ Some octets
+  type_of : (row : TcRow) → Contains tc.rows row → (octets : List ℕ) → HasValue m row.dest nbr_addr_type octets → option_map (λ (n : ℕ). n ∷ []) (flags_number row.origin row.routable) ≡ Some octets
   type_of row there octets s = sym (octet_value (tc_line row).addr_type) ∙ said_of tc_line tc.rows m h.blocks up row there AddrType refl nbr_addr_type refl octets s
 
-  gateway_of : (row : TcRow) → Contains tc.rows row → (octets : List ℕ) → Says m row.dest gateway octets → option_map (λ (n : ℕ). n ∷ []) row.gateway ≡ Some octets
+  gateway_of : (row : TcRow) → Contains tc.rows row → (octets : List ℕ) → HasValue m row.dest gateway octets → option_map (λ (n : ℕ). n ∷ []) row.gateway ≡ Some octets
   gateway_of row there octets s = sym (octet_value (tc_line row).gateway) ∙ said_of tc_line tc.rows m h.blocks up row there Gateway refl gateway refl octets s
 
   keeps : Keeps (BreaksTc m)
   keeps n a (AddressWidth wide) = wide h.width
   keeps n a (NoOriginator none) = let e = h.originator in cc
   keeps n a (NoSequence none) = let e = h.sequence in cc
-  keeps n a (Validity none) = none tc.validity tc_is.validity
-  keeps n a (Interval none) = none tc.interval tc_is.interval
+  keeps n a (NoValidity none) = none tc.validity tc_is.validity
+  keeps n a (WrongInterval none) = none tc.interval tc_is.interval
   keeps n a (Content none) = none tc.ansn tc.complete tc_is.content
   keeps n a (AddrTypeRule net (octets, s, wrong)) =
       let (row, there, of) = row_there tc_line tc.rows m h.blocks up net nbr_addr_type octets s in
@@ -117,7 +118,7 @@ module _ (tc : Tc) (hop_limit : ℕ) (values : List ℕ) (m : MessageFields) (h 
   keeps n a (TwoAddrTypes net (x, y, s, t, other)) =
       let (row, there, of) = row_there tc_line tc.rows m h.blocks up net nbr_addr_type x s in
       other (once tc_line tc.rows m h.blocks up row there AddrType refl nbr_addr_type refl x y (at_row tc_line tc.rows m h.blocks up row net of nbr_addr_type x s) (at_row tc_line tc.rows m h.blocks up row net of nbr_addr_type y t))
-  keeps n a (Prefix net (octets, s) short) =
+  keeps n a (ShortPrefix net (octets, s) short) =
       let (row, there, of) = row_there tc_line tc.rows m h.blocks up net nbr_addr_type octets s in
       omega (arith, short, is_whole row there (set_of row.origin row.routable octets (type_of row there octets (at_row tc_line tc.rows m h.blocks up row net of nbr_addr_type octets s))), ap (λ (x : NetAddr). x.prefix) of)
   keeps n a (GatewayOctet net (octets, s, other)) =
@@ -130,11 +131,11 @@ module _ (tc : Tc) (hop_limit : ℕ) (values : List ℕ) (m : MessageFields) (h 
       let (row, there, of) = row_there tc_line tc.rows m h.blocks up net gateway octets s in
       let none : row.gateway ≡ None = one_type row there (set_of row.origin row.routable x (type_of row there x (at_row tc_line tc.rows m h.blocks up row net of nbr_addr_type x t))) in
       none_said octets (option_map (λ (n : ℕ). n ∷ []) row.gateway) (ap (option_map (λ (n : ℕ). n ∷ [])) none) (gateway_of row there octets (at_row tc_line tc.rows m h.blocks up row net of gateway octets s))
-  keeps n a (MetricRule net (inl (octets, s, other))) =
+  keeps n a (WrongMetric net (inl (octets, s, other))) =
       let (row, there, of) = row_there tc_line tc.rows m h.blocks up net link_metric octets s in
       let (x, y, is) = two_octets m (map tc_line tc.rows) h.blocks (unique tc_line tc.rows m h.blocks up) (tc_line row) (among tc_line tc.rows m h.blocks up row there) octets (at_row tc_line tc.rows m h.blocks up row net of link_metric octets s) in
       other (ap length is)
-  keeps n a (MetricRule net (inr (k, x, y, s, t, other))) =
+  keeps n a (WrongMetric net (inr (k, x, y, s, t, other))) =
       let (high, low, is, flag, code) = s in
       let (row, there, of) = row_there tc_line tc.rows m h.blocks up net link_metric (high ∷ (low ∷ [])) is in
       other (one_code tc_line tc.rows m h.blocks up row there k x y (subst (λ (p : NetAddr). ShowsMetric m p k x) (sym of) s) (subst (λ (p : NetAddr). ShowsMetric m p k y) (sym of) t))
@@ -155,7 +156,7 @@ module _ (tc : Tc) (hop_limit : ℕ) (values : List ℕ) (m : MessageFields) (h 
   pub encodable : IsEncodableMessage m
   encodable = message_fits m (map tc_line tc.rows) (Some tc.originator) h.width h.originator h.blocks
 
-  pub written : (bytes : List ℕ) → IsAlone m bytes → WritesTc tc hop_limit bytes
+  pub written : (bytes : List ℕ) → IsSoleMessage m bytes → WritesTc tc hop_limit bytes
   written bytes is = record {
     message = m;
     packet = is;
@@ -163,12 +164,13 @@ module _ (tc : Tc) (hop_limit : ℕ) (values : List ℕ) (m : MessageFields) (h 
     limit = h.limit;
     count = h.count;
     reads = tc_is;
+    times = times_are has.0 has.1 (tc.ansn / 256 ∷ (tc.ansn % 256 ∷ [])) (cond tc.complete 0 1) m cont_seq_num (inr refl) tc.validity tc.interval heading has.2 has.3;
     keeps = keeps;
     tlvs = read_of_tc m (take 4 values) (is_some tc.interval) tc.complete h.tlvs;
     parts = part_read;
   }
 
-  pub back : (bytes : List ℕ) → IsAlone m bytes → (packet : PacketFields) (spans : List Span) → Spells packet spans bytes → ReadsBackTc tc packet
+  pub back : (bytes : List ℕ) → IsSoleMessage m bytes → (packet : PacketFields) (spans : List Span) → Spells packet spans bytes → ReadsBackTc tc packet
   back bytes is packet spans spelled = record {
     message = m;
     one = ap (λ (p : PacketFields). p.messages) (alone_again m bytes is packet spans spelled);

@@ -6,7 +6,7 @@ use Rattle.mesh_tlv.specs.Fields.{AddrTlvFields}
 use Rattle.mesh_packet.specs.Fields.{BlockFields}
 use Rattle.mesh_wire.specs.declared.parts.RowParts.{RowParts}
 use Rattle.mesh_wire.specs.Parts.{number_of, octets_of, value_at}
-use Rattle.mesh_wire.specs.Told.{no_parts, take_part}
+use Rattle.mesh_wire.specs.KeptParts.{no_parts, take_part}
 
 -- a network, and a type with a value that is said of it, or that it stands in the message
 pub record Entry : Type 0 where

@@ -2,6 +2,7 @@
 use Rattle.std.proofs.Common.{lit≤, refl}
 use Rattle.std.specs.Prelude.{ℕ, List, [], ◌∷◌, Some, None, true, false}
 use Rattle.mesh_atoms.specs.declared.addr.NetAddr.{NetAddr}
+use Rattle.mesh_atoms.specs.Ascends.{one_ascends}
 use Rattle.mesh_atoms.specs.declared.hello.LocalIf.TheVariants.{This}
 use Rattle.mesh_atoms.specs.declared.hello.HelloRow.{HelloRow}
 use Rattle.mesh_atoms.specs.declared.hello.Hello.{Hello}
@@ -61,6 +62,7 @@ lone_hello = record {
   interval = Some 16384;
   willing = record { flooding = 7; routing = 7; flooding_within = lit≤ tt; routing_within = lit≤ tt };
   rows = own_row ∷ [];
+  ascending = one_ascends (λ (row : HelloRow). row.addr) own_row;
 }
 
 -- a message of nothing but its header

@@ -1,5 +1,5 @@
 -- The HELLO that a message reads as (RFC 6130, section 10; RFC 7181, section 15).
-use Rattle.std.specs.Prelude.{◌≡◌, ℕ, ◌/◌, ◌%◌, ◌⊎◌, ◌↔◌, [], ◌∷◌, Option, Some, None, false, IsTrue, IsSome}
+use Rattle.std.specs.Prelude.{◌≡◌, ℕ, ◌/◌, ◌%◌, ◌⊎◌, ◌↔◌, [], ◌∷◌, Option, Some, None, IsTrue, IsSome}
 use Rattle.std.specs.Option.{option_map}
 use Rattle.mesh_atoms.specs.declared.addr.Addr4.{Addr4}
 use Rattle.mesh_atoms.specs.declared.hello.LocalIf.{LocalIf}
@@ -11,6 +11,7 @@ use Rattle.mesh_atoms.specs.declared.hello.OtherStatus.TheVariants as other
 use Rattle.mesh_atoms.specs.declared.hello.Willing.{Willing}
 use Rattle.mesh_atoms.specs.declared.hello.HelloRow.{HelloRow}
 use Rattle.mesh_atoms.specs.declared.hello.Hello.{Hello}
+use Rattle.mesh_atoms.specs.Writable.{IsAlone}
 use Rattle.mesh_wire.specs.Kinds.{mpr_willing, local_if, link_status, other_neighb, mpr}
 use Rattle.mesh_addr.specs.declared.records.RawAddr.{RawAddr}
 use Rattle.mesh_packet.specs.Fields.{MessageFields}
@@ -62,18 +63,11 @@ pub record TellsOther (message : MessageFields) (row : HelloRow) : Type 0 where
   pub flooding : IsTrue row.mpr.flooding ↔ SaysFlag message row.addr mpr 1
   pub routing : IsTrue row.mpr.routing ↔ SaysFlag message row.addr mpr 2
 
--- no status, no metric and no relay
-pub record TellsNoOther (row : HelloRow) : Type 0 where
-  pub link : row.link ≡ None
-  pub other : row.other ≡ None
-  pub metrics : row.metrics ≡ record { link_in = None; link_out = None; near_in = None; near_out = None }
-  pub mpr : row.mpr ≡ record { flooding = false; routing = false }
-
 -- the row says of its address what the message does; of an address of the sender's it says no more than that
-pub record IsHelloRow (message : MessageFields) (row : HelloRow) : Type 0 where
+pub record IsReadHelloRow (message : MessageFields) (row : HelloRow) : Type 0 where
   pub local : OctetIs message row.addr local_if (option_map local_value row.local)
   pub of_other : row.local ≡ None → TellsOther message row
-  pub of_sender : IsSome row.local → TellsNoOther row
+  pub of_sender : IsSome row.local → IsAlone row
 
 -- the message reads as the HELLO
 pub record HelloIs (message : MessageFields) (hello : Hello) : Type 0 where
@@ -81,4 +75,4 @@ pub record HelloIs (message : MessageFields) (hello : Hello) : Type 0 where
   pub validity : ValidityIs message 1 hello.validity
   pub interval : IntervalIs message 1 hello.interval
   pub willing : WillingIs message hello.willing
-  pub rows : AreRows message (λ (row : HelloRow). row.addr) (IsHelloRow message) hello.rows
+  pub rows : AreRows message (λ (row : HelloRow). row.addr) (IsReadHelloRow message) hello.rows

@@ -1,6 +1,6 @@
 -- How the row of a HELLO is made of what is kept of its address.
 use Rattle.std.proofs.Common.{zero, suc}
-use Rattle.std.specs.Prelude.{◌≡◌, ℕ, ◌/◌, List, [], ◌∷◌, Option, Some, None, IsSome}
+use Rattle.std.specs.Prelude.{◌≡◌, ℕ, ◌/◌, Option, Some, None, IsSome}
 use Rattle.std.specs.Option.{option_map}
 use Rattle.mesh_atoms.specs.declared.metric.Metric.{Metric}
 use Rattle.mesh_atoms.specs.declared.hello.LocalIf.{LocalIf}
@@ -10,10 +10,10 @@ use Rattle.mesh_atoms.specs.declared.hello.LinkStatus.TheVariants as link
 use Rattle.mesh_atoms.specs.declared.hello.OtherStatus.{OtherStatus}
 use Rattle.mesh_atoms.specs.declared.hello.OtherStatus.TheVariants as other
 use Rattle.mesh_atoms.specs.declared.hello.HelloRow.{HelloRow}
-use Rattle.mesh_wire.specs.declared.collect.Told.{Told}
+use Rattle.mesh_atoms.specs.Writable.{IsAlone}
+use Rattle.mesh_wire.specs.declared.collect.AddressParts.{AddressParts}
 use Rattle.mesh_wire.specs.declared.parts.One.{One}
 use Rattle.mesh_wire.specs.declared.parts.One.TheVariants.{Unsaid, Said, Several}
-use Rattle.mesh_wire.specs.Hello.{TellsNoOther}
 
 -- the one number
 abbrev pub number_from : One → Option ℕ
@@ -42,7 +42,7 @@ abbrev pub MetricFrom : One → Option Metric → Type 0
 MetricFrom one metric = option_map (λ (m : Metric). m.code) metric ≡ option_map (λ (n : ℕ). n / 16) (number_from one)
 
 -- status, metrics and relays as they are kept
-pub record TellsKept (told : Told) (row : HelloRow) : Type 0 where
+pub record TellsKept (told : AddressParts) (row : HelloRow) : Type 0 where
   pub link : row.link ≡ option_map link_from (number_from told.parts.link.one)
   pub other : row.other ≡ option_map other_from (number_from told.parts.other.one)
   pub link_in : MetricFrom told.parts.link_in row.metrics.link_in
@@ -53,15 +53,8 @@ pub record TellsKept (told : Told) (row : HelloRow) : Type 0 where
   pub routing : row.mpr.routing ≡ told.parts.routing
 
 -- the row of what is kept of an address
-pub record HelloRowFrom (told : Told) (row : HelloRow) : Type 0 where
+pub record HelloRowFrom (told : AddressParts) (row : HelloRow) : Type 0 where
   pub addr : row.addr ≡ told.net
   pub local : row.local ≡ option_map local_from (number_from told.parts.local.one)
   pub of_other : row.local ≡ None → TellsKept told row
-  pub of_sender : IsSome row.local → TellsNoOther row
-
--- rows one by one
-abbrev pub HelloRowsFrom : List Told → List HelloRow → Type 0
-HelloRowsFrom [] [] = Unit {0}
-HelloRowsFrom (t ∷ told) (r ∷ rows) = HelloRowFrom t r × HelloRowsFrom told rows
-HelloRowsFrom [] (r ∷ rows) = ⊥
-HelloRowsFrom (t ∷ told) [] = ⊥
+  pub of_sender : IsSome row.local → IsAlone row

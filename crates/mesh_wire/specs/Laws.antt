@@ -1,11 +1,14 @@
--- That the definitions of a reading leave no choice.
-use Rattle.std.specs.Prelude.{◌≡◌, ℕ, Option}
+-- That the definitions of a reading leave no choice and no message out.
+use Rattle.std.specs.Prelude.{◌≡◌, ℕ, ◌<◌, ◌⊎◌, List, Contains, Option}
 use Rattle.mesh_atoms.specs.declared.addr.NetAddr.{NetAddr}
 use Rattle.mesh_atoms.specs.declared.hello.Hello.{Hello}
 use Rattle.mesh_atoms.specs.declared.tc.Tc.{Tc}
 use Rattle.mesh_packet.specs.Fields.{MessageFields}
+use Rattle.mesh_tlv.specs.Fields.{TlvFields}
 use Rattle.mesh_wire.specs.Hello.{HelloIs}
 use Rattle.mesh_wire.specs.HelloRules.{BreaksHello}
+use Rattle.mesh_wire.specs.Parts.{octets_of}
+use Rattle.mesh_wire.specs.Rows.{HasPart}
 use Rattle.mesh_wire.specs.Rules.{Keeps, FirstBroken}
 use Rattle.mesh_wire.specs.Tc.{TcIs}
 use Rattle.mesh_wire.specs.TcRules.{BreaksTc}
@@ -25,3 +28,26 @@ BreaksOneHelloRule = (message : MessageFields) (n m : ℕ) (a b : Option NetAddr
 -- of the rules of a TC one at most is the first that is broken, at one address
 abbrev pub BreaksOneTcRule : Type 0
 BreaksOneTcRule = (message : MessageFields) (n m : ℕ) (a b : Option NetAddr) → FirstBroken (BreaksTc message) n a → FirstBroken (BreaksTc message) m b → (n ≡ m) × (a ≡ b)
+
+-- a value is of octets
+abbrev pub AreOctets : Option (List ℕ) → Type 0
+AreOctets value = (n : ℕ) → Contains (octets_of value) n → n < 256
+
+-- so are all values that the message has
+pub record HasOctets (message : MessageFields) : Type 0 where
+  pub tlvs : (tlv : TlvFields) → Contains message.tlvs tlv → AreOctets tlv.value
+  pub parts : (net : NetAddr) (part : TlvFields) → HasPart message net part → AreOctets part.value
+
+-- a value of which that holds and no rule that is broken, or a first rule that is broken, and not both
+abbrev pub ReadsOrBreaks : {Value : Type 0} → (Value → Type 0) → (ℕ → Option NetAddr → Type 0) → Type 0
+ReadsOrBreaks {Value} Is Breaks =
+    (((value : Value) × Is value × Keeps Breaks) ⊎ ((number : ℕ) × (addr : Option NetAddr) × FirstBroken Breaks number addr))
+    × (Keeps Breaks → (number : ℕ) (addr : Option NetAddr) → FirstBroken Breaks number addr → ⊥)
+
+-- each message reads as a HELLO that keeps the rules, or breaks a first rule
+abbrev pub ReadsAsHelloOrNot : Type 0
+ReadsAsHelloOrNot = (message : MessageFields) → HasOctets message → ReadsOrBreaks (HelloIs message) (BreaksHello message)
+
+-- each message reads as a TC that keeps the rules, or breaks a first rule
+abbrev pub ReadsAsTcOrNot : Type 0
+ReadsAsTcOrNot = (message : MessageFields) → HasOctets message → ReadsOrBreaks (TcIs message) (BreaksTc message)

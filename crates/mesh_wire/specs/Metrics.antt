@@ -5,7 +5,7 @@ use Rattle.mesh_atoms.specs.declared.metric.Metric.{Metric}
 use Rattle.mesh_atoms.specs.Reading.{has}
 use Rattle.mesh_wire.specs.Kinds.{link_metric}
 use Rattle.mesh_packet.specs.Fields.{MessageFields}
-use Rattle.mesh_wire.specs.Rows.{Says, HasOtherLength}
+use Rattle.mesh_wire.specs.Rows.{HasValue, HasOtherLength}
 
 -- kinds of metric: of the link or of the neighbour, to the sender or from it
 pub data MetricKind : Type 0 where
@@ -24,7 +24,7 @@ flag_of Near_out = 16
 -- a LINK_METRIC shows the address with that code: of two octets, four flags for its kinds and 12 bits
 abbrev pub ShowsMetric : MessageFields → NetAddr → MetricKind → ℕ → Type 0
 ShowsMetric message net kind code =
-    (high : ℕ) × (low : ℕ) × Says message net link_metric (high ∷ low ∷ []) × (has high (flag_of kind) ≡ true) × (code ≡ 256 * (high % 16) + low)
+    (high : ℕ) × (low : ℕ) × HasValue message net link_metric (high ∷ low ∷ []) × (has high (flag_of kind) ≡ true) × (code ≡ 256 * (high % 16) + low)
 
 -- the metric of that kind that is shown of the address, or that none is
 abbrev pub MetricIs : MessageFields → NetAddr → MetricKind → Option Metric → Type 0

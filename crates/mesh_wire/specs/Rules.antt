@@ -3,7 +3,7 @@ use Rattle.std.specs.Prelude.{◌≡◌, ℕ, ◌<◌, ◌≤◌, List, [], ◌�
 use Rattle.mesh_atoms.specs.declared.addr.NetAddr.{NetAddr}
 use Rattle.mesh_atoms.specs.Nodes.{IsAtMost}
 use Rattle.mesh_packet.specs.Fields.{MessageFields}
-use Rattle.mesh_wire.specs.Rows.{Says}
+use Rattle.mesh_wire.specs.Rows.{HasValue}
 
 -- one octet, in a range
 abbrev pub IsOctet : ℕ → ℕ → List ℕ → Type 0
@@ -11,7 +11,7 @@ IsOctet low bound octets = (octet : ℕ) × (octets ≡ octet ∷ []) × (low �
 
 -- the type has a value on the address that isn't one octet in the range
 abbrev pub HasUndefined : MessageFields → NetAddr → ℕ → ℕ → ℕ → Type 0
-HasUndefined message net kind low bound = (octets : List ℕ) × Says message net kind octets × (IsOctet low bound octets → ⊥)
+HasUndefined message net kind low bound = (octets : List ℕ) × HasValue message net kind octets × (IsOctet low bound octets → ⊥)
 
 -- no rule is broken
 abbrev pub Keeps : (ℕ → Option NetAddr → Type 0) → Type 0

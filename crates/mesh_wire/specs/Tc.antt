@@ -22,7 +22,7 @@ ContentIs message ansn complete =
     × (ansn ≡ 256 * high + low) × (complete ≡ (part.ext == 0))
 
 -- the row says of its address what the message does; its metric is the outgoing one of the neighbour
-pub record IsTcRow (message : MessageFields) (row : TcRow) : Type 0 where
+pub record IsReadTcRow (message : MessageFields) (row : TcRow) : Type 0 where
   pub origin : IsTrue row.origin ↔ SaysFlag message row.dest nbr_addr_type 1
   pub routable : IsTrue row.routable ↔ SaysFlag message row.dest nbr_addr_type 2
   pub gateway_is : OctetIs message row.dest gateway row.gateway
@@ -35,4 +35,4 @@ pub record TcIs (message : MessageFields) (tc : Tc) : Type 0 where
   pub content : ContentIs message tc.ansn tc.complete
   pub validity : ValidityIs message (distance_of message.count) tc.validity
   pub interval : IntervalIs message (distance_of message.count) tc.interval
-  pub rows : AreRows message (λ (row : TcRow). row.dest) (IsTcRow message) tc.rows
+  pub rows : AreRows message (λ (row : TcRow). row.dest) (IsReadTcRow message) tc.rows

@@ -4,7 +4,7 @@ use Rattle.std.specs.Option.{option_map}
 use Rattle.mesh_atoms.specs.declared.tc.TcRow.{TcRow}
 use Rattle.mesh_tlv.specs.Fields.{TlvFields, fields}
 use Rattle.mesh_packet.specs.Fields.{MessageFields}
-use Rattle.mesh_wire.specs.declared.collect.Told.{Told}
+use Rattle.mesh_wire.specs.declared.collect.AddressParts.{AddressParts}
 use Rattle.mesh_wire.specs.declared.tc.Contents.{Contents}
 use Rattle.mesh_wire.specs.declared.tc.Contents.TheVariants.{Nothing, Single, More}
 use Rattle.mesh_wire.specs.declared.tc.Heading.{Heading}
@@ -34,16 +34,9 @@ pub record TcHeadingIs (message : MessageFields) (heading : Heading) : Type 0 wh
   pub content : ContentIs message heading.ansn heading.complete
 
 -- the row of what is kept of an address
-pub record TcRowFrom (told : Told) (row : TcRow) : Type 0 where
+pub record TcRowFrom (told : AddressParts) (row : TcRow) : Type 0 where
   pub dest : row.dest ≡ told.net
   pub origin : row.origin ≡ told.parts.origin
   pub routable : row.routable ≡ told.parts.routable
   pub gateway : row.gateway ≡ option_map (λ (n : ℕ). n / 256) (number_from told.parts.gateway)
   pub metric : MetricFrom told.parts.near_out row.metric
-
--- rows one by one
-abbrev pub TcRowsFrom : List Told → List TcRow → Type 0
-TcRowsFrom [] [] = Unit {0}
-TcRowsFrom (t ∷ told) (r ∷ rows) = TcRowFrom t r × TcRowsFrom told rows
-TcRowsFrom [] (r ∷ rows) = ⊥
-TcRowsFrom (t ∷ told) [] = ⊥

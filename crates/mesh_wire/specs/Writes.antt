@@ -1,53 +1,24 @@
--- What is written for a HELLO and for a TC, and which of them can be written.
-use Rattle.std.specs.Prelude.{◌≡◌, ℕ, ◌≤◌, ◌⊎◌, List, [], ◌∷◌, Contains, Option, Some, None, IsSome, IsTrue, true}
+-- What is written for a HELLO and for a TC.
+use Rattle.std.specs.Prelude.{◌≡◌, ℕ, ◌≤◌, ◌⊎◌, List, [], ◌∷◌, Contains, Option, Some, None, true}
 use Rattle.mesh_atoms.specs.declared.addr.NetAddr.{NetAddr}
-use Rattle.mesh_atoms.specs.declared.hello.HelloRow.{HelloRow}
 use Rattle.mesh_atoms.specs.declared.hello.Hello.{Hello}
-use Rattle.mesh_atoms.specs.declared.tc.TcRow.{TcRow}
 use Rattle.mesh_atoms.specs.declared.tc.Tc.{Tc}
-use Rattle.mesh_atoms.specs.Codes.{time_value, IsSentCode}
+use Rattle.mesh_atoms.specs.Codes.{time_value}
 use Rattle.mesh_atoms.specs.Reading.{has}
 use Rattle.mesh_packet.specs.declared.packet.Span.{Span}
 use Rattle.mesh_packet.specs.Fields.{MessageFields, PacketFields}
 use Rattle.mesh_packet.specs.Grammar.{Spells}
 use Rattle.mesh_packet.specs.Least.{LeastForm}
 use Rattle.mesh_tlv.specs.Fields.{TlvFields}
-use Rattle.mesh_wire.specs.Hello.{HelloIs, TellsNoOther}
+use Rattle.mesh_wire.specs.Hello.{HelloIs}
 use Rattle.mesh_wire.specs.HelloRules.{BreaksHello}
 use Rattle.mesh_wire.specs.Kinds.{interval_time, validity_time, mpr_willing, cont_seq_num, local_if, link_status, other_neighb, link_metric, mpr, nbr_addr_type, gateway}
 use Rattle.mesh_wire.specs.Metrics.{MetricKind, Near_out, flag_of}
-use Rattle.mesh_wire.specs.Parts.{octets_of}
-use Rattle.mesh_wire.specs.Rows.{Has, HasPart}
+use Rattle.mesh_wire.specs.Parts.{octets_of, values_of}
+use Rattle.mesh_wire.specs.Rows.{HasType, HasPart}
 use Rattle.mesh_wire.specs.Rules.{IsOctet, Keeps}
 use Rattle.mesh_wire.specs.Tc.{TcIs}
 use Rattle.mesh_wire.specs.TcRules.{BreaksTc}
-
--- ---- what can be written
-
--- the time of a code that is sent (RFC 5497, section 5)
-abbrev pub IsSentTime : ℕ → Type 0
-IsSentTime ticks = (code : ℕ) × IsSentCode code × (time_value code ≡ ticks)
-
--- such a time, where there is one
-abbrev pub IsSentIfSome : Option ℕ → Type 0
-IsSentIfSome None = Unit {0}
-IsSentIfSome (Some ticks) = IsSentTime ticks
-
--- an address of the sender has no status, no metric and no relay
-abbrev pub SayNoOtherOfSender : List HelloRow → Type 0
-SayNoOtherOfSender rows = (row : HelloRow) → Contains rows row → IsSome row.local → TellsNoOther row
-
--- what is an address of the sender or has a status is a whole address
-abbrev pub HaveStatusWhole : List HelloRow → Type 0
-HaveStatusWhole rows = (row : HelloRow) → Contains rows row → IsSome row.local ⊎ (IsSome row.link ⊎ IsSome row.other) → row.addr.prefix ≡ 32
-
--- an address of a router is no attached network
-abbrev pub AreOneType : List TcRow → Type 0
-AreOneType rows = (row : TcRow) → Contains rows row → IsTrue row.origin ⊎ IsTrue row.routable → row.gateway ≡ None
-
--- an address of a router is a whole address
-abbrev pub HaveTypeWhole : List TcRow → Type 0
-HaveTypeWhole rows = (row : TcRow) → Contains rows row → IsTrue row.origin ⊎ IsTrue row.routable → row.dest.prefix ≡ 32
 
 -- ---- what is written
 
@@ -56,10 +27,19 @@ abbrev pub alone : MessageFields → PacketFields
 alone message = record { sequence = None; tlvs = []; messages = message ∷ [] }
 
 -- the octets spell that message alone, in the least form: each address block in the fewest octets
-pub record IsAlone (message : MessageFields) (bytes : List ℕ) : Type 0 where
+pub record IsSoleMessage (message : MessageFields) (bytes : List ℕ) : Type 0 where
   pub spans : List Span
   pub spelled : Spells (alone message) spans bytes
   pub least : LeastForm (alone message) bytes
+
+-- the message has one TLV of that type, which is no more than the code of that time: it tells the time at every distance
+abbrev pub HasCode : MessageFields → ℕ → ℕ → Type 0
+HasCode message kind ticks = (code : ℕ) × (values_of kind message ≡ (code ∷ []) ∷ []) × (time_value code ≡ ticks)
+
+-- such TLVs of the validity, and of the interval where there is one
+pub record HasTimes (message : MessageFields) (validity : ℕ) (interval : Option ℕ) : Type 0 where
+  pub validity_is : HasCode message validity_time validity
+  pub interval_is : (ticks : ℕ) → interval ≡ Some ticks → HasCode message interval_time ticks
 
 -- a reading of a HELLO looks at the message TLV
 pub record IsReadOfHello (tlv : TlvFields) : Type 0 where
@@ -77,19 +57,20 @@ IsReadOfOther kind octets =
 
 -- a reading of a HELLO looks at what an address TLV says of an address; of an address of the sender's only at LOCAL_IF
 pub record IsReadOfHelloAddress (message : MessageFields) (net : NetAddr) (part : TlvFields) : Type 0 where
-  pub kind : (part.kind ≡ local_if) ⊎ ((Has message net local_if → ⊥) × IsReadOfOther part.kind (octets_of part.value))
+  pub kind : (part.kind ≡ local_if) ⊎ ((HasType message net local_if → ⊥) × IsReadOfOther part.kind (octets_of part.value))
   pub ext : part.ext ≡ 0
 
 -- The octets are a packet of one message alone, which reads as the HELLO, breaks no rule, and has nothing that the reading
 -- ignores (RFC 6130, section 10, and RFC 7181, section 15).
 pub record WritesHello (hello : Hello) (bytes : List ℕ) : Type 0 where
   pub message : MessageFields
-  pub packet : IsAlone message bytes
+  pub packet : IsSoleMessage message bytes
   pub kind : message.kind ≡ 0
   pub limit : message.limit ≡ None
   pub count : message.count ≡ None
   pub sequence : message.sequence ≡ None
   pub reads : HelloIs message hello
+  pub times : HasTimes message hello.validity hello.interval
   pub keeps : Keeps (BreaksHello message)
   pub tlvs : (tlv : TlvFields) → Contains message.tlvs tlv → IsReadOfHello tlv
   pub parts : (net : NetAddr) (part : TlvFields) → HasPart message net part → IsReadOfHelloAddress message net part
@@ -108,11 +89,12 @@ pub record IsReadOfTcAddress (part : TlvFields) : Type 0 where
 -- and has nothing that the reading ignores (RFC 7181, section 16).
 pub record WritesTc (tc : Tc) (hop_limit : ℕ) (bytes : List ℕ) : Type 0 where
   pub message : MessageFields
-  pub packet : IsAlone message bytes
+  pub packet : IsSoleMessage message bytes
   pub kind : message.kind ≡ 1
   pub limit : message.limit ≡ Some hop_limit
   pub count : message.count ≡ Some 0
   pub reads : TcIs message tc
+  pub times : HasTimes message tc.validity tc.interval
   pub keeps : Keeps (BreaksTc message)
   pub tlvs : (tlv : TlvFields) → Contains message.tlvs tlv → IsReadOfTc tlv
   pub parts : (net : NetAddr) (part : TlvFields) → HasPart message net part → IsReadOfTcAddress part

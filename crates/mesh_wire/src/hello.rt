@@ -1,27 +1,27 @@
 //! HELLO messages read as typed values.
-ghost use Rattle.std.specs.Prelude.{◌≡◌, ◌↔◌, ℕ, Option, map, IsTrue, IfOk, IfErr, Some, None};
+ghost use Rattle.std.specs.Prelude.{◌≡◌, ◌↔◌, ◌<◌, ◌^◌, ℕ, Option, map, IsTrue, IfOk, IfErr, Some, None};
 ghost use Rattle.std.specs.Option.{option_map};
 ghost use Rattle.mesh_atoms.specs.declared.addr.NetAddr.{NetAddr};
 ghost use Rattle.mesh_atoms.specs.declared.hello.Hello.{Hello};
 ghost use Rattle.mesh_packet.specs.Fields.{fields_of_message};
 ghost use Rattle.mesh_wire.specs.Answers.{IfBroken, Gives, Refuses};
-ghost use Rattle.mesh_wire.specs.FirstNet.{hello_rule};
 ghost use Rattle.mesh_wire.specs.Hello.{OriginatorIs, HelloIs};
 ghost use Rattle.mesh_wire.specs.HelloHeading.{IsOther, HeadingIs};
-ghost use Rattle.mesh_wire.specs.HelloRows.{number_from, local_from, link_from, other_from, HelloRowFrom, HelloRowsFrom};
+ghost use Rattle.mesh_wire.specs.HelloRows.{number_from, local_from, link_from, other_from};
 ghost use Rattle.mesh_wire.specs.HelloRules.{BreaksHello};
 ghost use Rattle.mesh_wire.specs.Rules.{Keeps, FirstBroken};
 
-use crate::collect::{Told, collect, number_of};
+use crate::collect::{AddressParts, number_of};
 use crate::fault::WireFault;
 use crate::parts::One;
-use crate::rules::first_breaking;
+use crate::rows::{Row, rows_in};
 use crate::times;
 use mesh_atoms::{
-    Addr4, Hello, HelloRow, LinkStatus, LocalIf, Metrics, Mpr, NetAddr, OtherStatus, Seq, Willing,
+    Addr4, Hello, HelloRow, LinkStatus, LocalIf, Metrics, Mpr, OtherStatus, Seq, Willing,
+    hello_rule,
 };
 use mesh_packet::Message;
-use std::alloc::{AllocError, Global};
+use std::alloc::Global;
 
 /// What a HELLO says before its rows.
 #[derive(Clone, Copy)]
@@ -44,50 +44,32 @@ fn is_other(value: Option<u8>, wanted: u8) -> bool
 // What the message says before its rows, or the first rule on it that is broken.
 fn heading_of(message: &Message) -> Result<Heading, u8>
     ensures heading { IfOk result (HeadingIs (fields_of_message message.now)) }
+    ensures bounded { IfOk result (λ heading. heading.validity < 2 ^ 35) }
     ensures broken { IfErr result (λ number. FirstBroken (BreaksHello (fields_of_message message.now)) number None) }
 {
     if message.width != 4 {
-        return Err(20);
+        return Err(hello_rule::ADDRESS_WIDTH);
     }
     if is_other(message.limit, 1) {
-        return Err(21);
+        return Err(hello_rule::HOP_LIMIT);
     }
     if is_other(message.count, 0) {
-        return Err(22);
+        return Err(hello_rule::HOP_COUNT);
     }
     let Some(validity) = times::validity(message, 1) else {
-        return Err(23);
+        return Err(hello_rule::VALIDITY);
     };
     let Some(interval) = times::interval(message, 1) else {
-        return Err(24);
+        return Err(hello_rule::INTERVAL);
     };
     let Some(willing) = times::willing(message) else {
-        return Err(25);
+        return Err(hello_rule::WILLING);
     };
     Ok(Heading {
         validity,
         interval,
         willing,
     })
-}
-
-// The first rule on rows that is broken, and the first row that breaks it.
-fn broken_rule(rows: &[Told]) -> Option<(u8, NetAddr)>
-    ensures { result ≡ hello_rule rows.now }
-{
-    if let Some(net) = first_breaking(rows, 26) {
-        return Some((26, net));
-    }
-    if let Some(net) = first_breaking(rows, 27) {
-        return Some((27, net));
-    }
-    if let Some(net) = first_breaking(rows, 28) {
-        return Some((28, net));
-    }
-    if let Some(net) = first_breaking(rows, 29) {
-        return Some((29, net));
-    }
-    None
 }
 
 fn local_from(one: One) -> Option<LocalIf>
@@ -121,60 +103,61 @@ fn other_from(one: One) -> Option<OtherStatus>
     }
 }
 
-// The row of what is kept of an address.
-fn row_from(told: &Told) -> HelloRow
-    ensures { HelloRowFrom told.now result }
-{
-    let local = local_from(told.parts.local.one);
-    if local.is_some() {
-        return HelloRow {
+impl Row for HelloRow {
+    ghost use Rattle.mesh_wire.specs.HelloRows.{HelloRowFrom};
+    ghost use Rattle.mesh_wire.specs.RowRules.{hello_rule};
+
+    ghost is_from = { HelloRowFrom };
+
+    ghost rule = { hello_rule };
+
+    // The row of what is kept of an address.
+    fn of_told(told: &AddressParts) -> HelloRow {
+        let local = local_from(told.parts.local.one);
+        if local.is_some() {
+            return HelloRow {
+                addr: told.net,
+                local,
+                link: None,
+                other: None,
+                metrics: Metrics {
+                    link_in: None,
+                    link_out: None,
+                    near_in: None,
+                    near_out: None,
+                },
+                mpr: Mpr {
+                    flooding: false,
+                    routing: false,
+                },
+            };
+        }
+        HelloRow {
             addr: told.net,
             local,
-            link: None,
-            other: None,
+            link: link_from(told.parts.link.one),
+            other: other_from(told.parts.other.one),
             metrics: Metrics {
-                link_in: None,
-                link_out: None,
-                near_in: None,
-                near_out: None,
+                link_in: told.parts.link_in.metric(),
+                link_out: told.parts.link_out.metric(),
+                near_in: told.parts.near_in.metric(),
+                near_out: told.parts.near_out.metric(),
             },
             mpr: Mpr {
-                flooding: false,
-                routing: false,
+                flooding: told.parts.flooding,
+                routing: told.parts.routing,
             },
-        };
+        }
     }
-    HelloRow {
-        addr: told.net,
-        local,
-        link: link_from(told.parts.link.one),
-        other: other_from(told.parts.other.one),
-        metrics: Metrics {
-            link_in: told.parts.link_in.metric(),
-            link_out: told.parts.link_out.metric(),
-            near_in: told.parts.near_in.metric(),
-            near_out: told.parts.near_out.metric(),
-        },
-        mpr: Mpr {
-            flooding: told.parts.flooding,
-            routing: told.parts.routing,
-        },
+
+    fn rule_of(told: &AddressParts) -> Option<u8> {
+        told.hello_rule()
     }
 }
 
-// The rows, in the same order.
-fn rows_from(alloc: Global, told: &[Told]) -> Result<Seq<HelloRow>, AllocError>
-    ensures { IfOk result (HelloRowsFrom told.now) }
-{
-    let mut rows = Seq::new(alloc);
-    for i in 0..told.len() {
-        rows.push(row_from(&told[i]))?;
-    }
-    Ok(rows)
-}
-
-// The originator of the header.
-pub(crate) fn originator_of(message: &Message) -> Option<Addr4>
+/// The originator of a message's header by its first four octets, of a message of any type; `None` where it has none. The
+/// message's addresses are of IPv4.
+pub fn originator_of(message: &Message) -> Option<Addr4>
     ensures { OriginatorIs message.now.originator result }
 {
     match message.originator {
@@ -187,6 +170,7 @@ pub(crate) fn originator_of(message: &Message) -> Option<Addr4>
 fn read_hello(alloc: Global, message: &Message) -> Result<Hello, WireFault>
     ensures reads { IfOk result (HelloIs (fields_of_message message.now)) }
     ensures keeps { IfOk result (λ hello. Keeps (BreaksHello (fields_of_message message.now))) }
+    ensures bounded { IfOk result (λ hello. hello.validity < 2 ^ 35) }
     ensures broken { IfErr result (IfBroken (FirstBroken (BreaksHello (fields_of_message message.now)))) }
 {
     let heading = match heading_of(message) {
@@ -195,14 +179,12 @@ fn read_hello(alloc: Global, message: &Message) -> Result<Hello, WireFault>
             return Err(WireFault::Broken { number, addr: None });
         }
     };
-    let told = collect(alloc, message)?;
-    if let Some((number, net)) = broken_rule(told.as_slice()) {
-        return Err(WireFault::Broken {
-            number,
-            addr: Some(net),
-        });
-    }
-    let rows = rows_from(alloc, told.as_slice())?;
+    let rows = match rows_in(alloc, message) {
+        Ok(rows) => rows,
+        Err(fault) => {
+            return Err(fault);
+        }
+    };
     Ok(Hello {
         originator: originator_of(message),
         validity: heading.validity,
@@ -225,6 +207,7 @@ pub fn hello_of(alloc: Global, message: &Message) -> Result<Hello, WireFault>
     ensures reads { IfOk result (HelloIs (fields_of_message message.now)) }
     // It breaks no rule.
     ensures keeps { IfOk result (λ hello. Keeps (BreaksHello (fields_of_message message.now))) }
+    ensures bounded { IfOk result (λ hello. hello.validity < 2 ^ 35) }
     // Else the fault is the first rule that is broken, at the least address.
     ensures broken { IfErr result (IfBroken (FirstBroken (BreaksHello (fields_of_message message.now)))) }
 

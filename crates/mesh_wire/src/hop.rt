@@ -17,6 +17,8 @@ pub fn rehop(message: &[u8], out: &mut [u8])
     requires room { length out.old ≡ length message.now }
     // `out` spells what the message spells, one hop further.
     ensures spelled { (fields : MessageFields) → SpellsMessage fields message.now → SpellsMessage (one_hop_on fields) out.new }
+    // `out` is the message with the two octets changed.
+    ensures exact { out.new ≡ hopped message.now }
     // Octet by octet.
     ensures limit { slice_index out.new (limit_place (flags_of message.now)) + 1 ≡ slice_index message.now (limit_place (flags_of message.now)) }
     ensures count { IsTrue (has_count message.now) → slice_index out.new (count_place (flags_of message.now)) ≡ slice_index message.now (count_place (flags_of message.now)) + 1 }

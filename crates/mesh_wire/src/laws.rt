@@ -1,11 +1,11 @@
 //! Laws of the definitions, and small messages that they are tried on.
 ghost use Rattle.std.specs.Prelude.{◌∷◌, [], None, Some};
-ghost use Rattle.mesh_wire.specs.Laws.{ReadsAsOneHello, ReadsAsOneTc, BreaksOneHelloRule, BreaksOneTcRule};
+ghost use Rattle.mesh_wire.specs.Laws.{ReadsAsOneHello, ReadsAsOneTc, BreaksOneHelloRule, BreaksOneTcRule, ReadsAsHelloOrNot, ReadsAsTcOrNot};
 ghost use Rattle.mesh_wire.specs.Examples.{lone, lone_hello, bare, two_near, near_net, odd_types, own_net};
 ghost use Rattle.mesh_wire.specs.Hello.{HelloIs};
 ghost use Rattle.mesh_wire.specs.HelloRules.{BreaksHello};
 ghost use Rattle.mesh_wire.specs.Kinds.{link_status};
-ghost use Rattle.mesh_wire.specs.Rows.{Says};
+ghost use Rattle.mesh_wire.specs.Rows.{HasValue};
 ghost use Rattle.mesh_wire.specs.Rules.{Keeps, FirstBroken};
 ghost use Rattle.mesh_wire.specs.TcRules.{BreaksTc};
 
@@ -17,12 +17,19 @@ pub fn one_reading()
     ensures tc_broken { BreaksOneTcRule }
 {}
 
+/// Each message whose values are of octets reads as a HELLO and breaks none of its rules, or breaks one of them first, and not
+/// both; the same of a TC.
+pub fn each_is_read_or_refused()
+    ensures hello { ReadsAsHelloOrNot }
+    ensures tc { ReadsAsTcOrNot }
+{}
+
 /// The HELLO of a router that hears nobody is read so, and breaks no rule. A message of nothing but its header wants its
 /// validity first. A multivalue gives each address its own part. Of addresses that break a rule the least is told.
 pub fn worked_readings()
     ensures lone { HelloIs lone lone_hello }
     ensures lone_keeps { Keeps (BreaksHello lone) }
     ensures bare { FirstBroken (BreaksHello bare) 23 None }
-    ensures multivalue { Says two_near near_net link_status (2 ∷ []) }
+    ensures multivalue { HasValue two_near near_net link_status (2 ∷ []) }
     ensures least { FirstBroken (BreaksTc odd_types) 37 (Some own_net) }
 {}

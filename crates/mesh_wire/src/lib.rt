@@ -9,6 +9,7 @@ mod laws;
 mod lay;
 mod lines;
 mod parts;
+mod rows;
 mod rules;
 mod runs;
 mod tc;
@@ -16,8 +17,8 @@ mod times;
 mod write;
 
 pub use fault::WireFault;
-pub use hello::hello_of;
+pub use hello::{hello_of, originator_of};
 pub use hop::rehop;
-pub use laws::{one_reading, worked_readings};
+pub use laws::{each_is_read_or_refused, one_reading, worked_readings};
 pub use tc::tc_of;
 pub use write::{write_hello, write_tc};

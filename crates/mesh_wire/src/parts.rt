@@ -1,6 +1,10 @@
 //! What is kept of all that the TLVs of a message say of one address.
 ghost use Rattle.std.specs.Prelude.{◌≡◌, true, ◌<◌, ◌||◌};
-ghost use Rattle.mesh_wire.specs.Told.{also, is_octet_in, octets_also, octet_also, code_also, has_other_length, says_flag, take_part, no_parts};
+ghost use Rattle.mesh_wire.specs.KeptParts.{also, is_octet_in, octets_also, octet_also, code_also, has_other_length, says_flag, take_part, no_parts};
+
+use mesh_atoms::tlv_type::{
+    GATEWAY, LINK_METRIC, LINK_STATUS, LOCAL_IF, MPR, NBR_ADDR_TYPE, OTHER_NEIGHB,
+};
 
 /// Of several numbers: none, one, though it may have come more than once, or different ones.
 #[derive(Clone, Copy, Debug, PartialEq, Eq)]
@@ -166,7 +170,7 @@ impl RowParts {
 
     // One value more of the type of metrics.
     fn take_metric(&mut self, octets: &[u8])
-        ensures { self.new ≡ take_part 7 octets.now self.old }
+        ensures { self.new ≡ take_part LINK_METRIC octets.now self.old }
     {
         self.wrong_metric = or(self.wrong_metric, has_other_length(octets, 2));
         self.link_in = self.link_in.also_code(128, octets);
@@ -177,7 +181,7 @@ impl RowParts {
 
     // One value more of the type of addresses of routers.
     fn take_type(&mut self, octets: &[u8])
-        ensures { self.new ≡ take_part 9 octets.now self.old }
+        ensures { self.new ≡ take_part NBR_ADDR_TYPE octets.now self.old }
     {
         self.addr_type = self.addr_type.also(1, 4, octets);
         self.origin = or(self.origin, says_flag(octets, 1));
@@ -188,20 +192,20 @@ impl RowParts {
     pub(crate) fn take(&mut self, kind: u8, octets: &[u8])
         ensures { self.new ≡ take_part kind octets.now self.old }
     {
-        if kind == 2 {
+        if kind == LOCAL_IF {
             self.local = self.local.also(0, 2, octets);
-        } else if kind == 3 {
+        } else if kind == LINK_STATUS {
             self.link = self.link.also(0, 3, octets);
-        } else if kind == 4 {
+        } else if kind == OTHER_NEIGHB {
             self.other = self.other.also(0, 2, octets);
-        } else if kind == 7 {
+        } else if kind == LINK_METRIC {
             self.take_metric(octets);
-        } else if kind == 8 {
+        } else if kind == MPR {
             self.flooding = or(self.flooding, says_flag(octets, 1));
             self.routing = or(self.routing, says_flag(octets, 2));
-        } else if kind == 9 {
+        } else if kind == NBR_ADDR_TYPE {
             self.take_type(octets);
-        } else if kind == 10 {
+        } else if kind == GATEWAY {
             self.wrong_gateway = or(self.wrong_gateway, has_other_length(octets, 1));
             self.gateway = self.gateway.also_octet(octets);
         }

@@ -1,11 +1,11 @@
 //! The rules on the addresses of a message, by what is kept of each.
 ghost use Rattle.std.specs.Prelude.{◌≡◌};
-ghost use Rattle.mesh_wire.specs.FirstNet.{is_several, is_said, is_undefined, has_two, has_status, has_wrong_type, has_wrong_gateway, has_wrong_metric, row_breaks, first_net};
+ghost use Rattle.mesh_wire.specs.RowRules.{is_several, is_said, is_undefined, has_two, has_status, has_wrong_type, has_wrong_gateway, has_wrong_metric, hello_rule, tc_rule};
 ghost use Rattle.mesh_wire.specs.HelloRows.{number_from, MetricFrom};
 
-use crate::collect::Told;
+use crate::collect::AddressParts;
 use crate::parts::{One, RowParts};
-use mesh_atoms::{Metric, NetAddr};
+use mesh_atoms::{Metric, hello_rule, tc_rule};
 
 impl One {
     fn is_several(self) -> bool
@@ -90,33 +90,36 @@ impl RowParts {
     }
 }
 
-// Whether the row breaks the rule of that number, where it keeps those before.
-fn breaks(told: &Told, number: u8) -> bool
-    ensures { result ≡ row_breaks number told.now }
-{
-    if number == 26 {
-        told.parts.is_undefined()
-    } else if number == 27 {
-        told.parts.has_two()
-    } else if number == 28 {
-        told.net.prefix < 32 && told.parts.has_status()
-    } else if number == 37 {
-        told.parts.has_wrong_type(told.net.prefix)
-    } else if number == 38 {
-        told.parts.has_wrong_gateway()
-    } else {
-        told.parts.has_wrong_metric()
-    }
-}
-
-// The first row that breaks the rule of that number.
-pub(crate) fn first_breaking(rows: &[Told], number: u8) -> Option<NetAddr>
-    ensures { result ≡ first_net (row_breaks number) rows.now }
-{
-    for i in 0..rows.len() {
-        if breaks(&rows[i], number) {
-            return Some(rows[i].net);
+impl AddressParts {
+    /// The first rule on the addresses of a HELLO that the row breaks.
+    pub(crate) fn hello_rule(&self) -> Option<u8>
+        ensures { result ≡ hello_rule self.now }
+    {
+        if self.parts.is_undefined() {
+            Some(hello_rule::UNDEFINED)
+        } else if self.parts.has_two() {
+            Some(hello_rule::TWO_VALUES)
+        } else if self.net.prefix < 32 && self.parts.has_status() {
+            Some(hello_rule::PREFIX)
+        } else if self.parts.has_wrong_metric() {
+            Some(hello_rule::METRIC)
+        } else {
+            None
         }
     }
-    None
+
+    /// The first rule on the addresses of a TC that the row breaks.
+    pub(crate) fn tc_rule(&self) -> Option<u8>
+        ensures { result ≡ tc_rule self.now }
+    {
+        if self.parts.has_wrong_type(self.net.prefix) {
+            Some(tc_rule::ADDR_TYPE)
+        } else if self.parts.has_wrong_gateway() {
+            Some(tc_rule::GATEWAY)
+        } else if self.parts.has_wrong_metric() {
+            Some(tc_rule::METRIC)
+        } else {
+            None
+        }
+    }
 }

@@ -1,29 +1,30 @@
 //! TC messages read as typed values.
-ghost use Rattle.std.specs.Prelude.{◌≡◌, ◌/◌, ℕ, Bool, Option, map, IfSome, IfNone, IfOk, IfErr, Some, None};
+ghost use Rattle.std.specs.Prelude.{◌≡◌, ◌/◌, ◌<◌, ◌^◌, ℕ, Bool, Option, map, IfSome, IfNone, IfOk, IfErr, Some, None};
 ghost use Rattle.std.specs.Option.{option_map};
 ghost use Rattle.mesh_atoms.specs.declared.addr.NetAddr.{NetAddr};
 ghost use Rattle.mesh_atoms.specs.declared.tc.Tc.{Tc};
 ghost use Rattle.mesh_tlv.specs.Fields.{fields};
+ghost use Rattle.mesh_atoms.specs.Writable.{HaveTypeWhole};
 ghost use Rattle.mesh_packet.specs.Fields.{fields_of_message};
 ghost use Rattle.mesh_wire.specs.Answers.{IfBroken, Gives, Refuses};
-ghost use Rattle.mesh_wire.specs.FirstNet.{tc_rule};
 ghost use Rattle.mesh_wire.specs.HelloRows.{number_from};
 ghost use Rattle.mesh_wire.specs.Rules.{Keeps, FirstBroken};
 ghost use Rattle.mesh_wire.specs.Tc.{ContentIs, TcIs};
-ghost use Rattle.mesh_wire.specs.TcHeading.{contents_in, ContentsAre, TcHeadingIs, TcRowFrom, TcRowsFrom};
+ghost use Rattle.mesh_wire.specs.TcHeading.{contents_in, ContentsAre, TcHeadingIs};
 ghost use Rattle.mesh_wire.specs.TcRules.{BreaksTc};
 ghost use Rattle.mesh_wire.specs.Times.{distance_of};
 
-use crate::collect::{Told, collect};
+use crate::collect::AddressParts;
 use crate::fault::WireFault;
 use crate::hello::originator_of;
 use crate::parts::One;
-use crate::rules::first_breaking;
+use crate::rows::{Row, rows_in};
 use crate::times;
-use mesh_atoms::{Addr4, NetAddr, Seq, Tc, TcRow};
+use mesh_atoms::tlv_type::CONT_SEQ_NUM;
+use mesh_atoms::{Addr4, Seq, Tc, TcRow, tc_rule};
 use mesh_packet::Message;
 use mesh_tlv::Tlv;
-use std::alloc::{AllocError, Global};
+use std::alloc::Global;
 
 /// What a TC says before its rows.
 #[derive(Clone, Copy)]
@@ -61,7 +62,7 @@ fn contents_of<'a>(tlvs: &[Tlv<'a>]) -> Contents<'a>
     let mut found = None;
     for i in 0..tlvs.len() {
         let tlv = tlvs[i];
-        if tlv.kind == 8 && tlv.ext < 2 {
+        if tlv.kind == CONT_SEQ_NUM && tlv.ext < 2 {
             if found.is_some() {
                 return Contents::More;
             }
@@ -91,26 +92,27 @@ fn content_of(message: &Message) -> Option<(u16, bool)>
 // What the message says before its rows, or the first rule on it that is broken.
 fn heading_of(message: &Message) -> Result<Heading, u8>
     ensures heading { IfOk result (TcHeadingIs (fields_of_message message.now)) }
+    ensures bounded { IfOk result (λ heading. heading.validity < 2 ^ 35) }
     ensures broken { IfErr result (λ number. FirstBroken (BreaksTc (fields_of_message message.now)) number None) }
 {
     if message.width != 4 {
-        return Err(32);
+        return Err(tc_rule::ADDRESS_WIDTH);
     }
     let Some(originator) = originator_of(message) else {
-        return Err(33);
+        return Err(tc_rule::HEADING);
     };
     let Some(sequence) = message.sequence else {
-        return Err(33);
+        return Err(tc_rule::HEADING);
     };
     let distance = distance_of(message.count);
     let Some(validity) = times::validity(message, distance) else {
-        return Err(34);
+        return Err(tc_rule::VALIDITY);
     };
     let Some(interval) = times::interval(message, distance) else {
-        return Err(35);
+        return Err(tc_rule::INTERVAL);
     };
     let Some((ansn, complete)) = content_of(message) else {
-        return Err(36);
+        return Err(tc_rule::CONTENT);
     };
     Ok(Heading {
         originator,
@@ -120,22 +122,6 @@ fn heading_of(message: &Message) -> Result<Heading, u8>
         validity,
         interval,
     })
-}
-
-// The first rule on rows that is broken, and the first row that breaks it.
-fn broken_rule(rows: &[Told]) -> Option<(u8, NetAddr)>
-    ensures { result ≡ tc_rule rows.now }
-{
-    if let Some(net) = first_breaking(rows, 37) {
-        return Some((37, net));
-    }
-    if let Some(net) = first_breaking(rows, 38) {
-        return Some((38, net));
-    }
-    if let Some(net) = first_breaking(rows, 39) {
-        return Some((39, net));
-    }
-    None
 }
 
 // The octet that is kept 256 times.
@@ -148,34 +134,35 @@ fn octet_from(one: One) -> Option<u8>
     }
 }
 
-// The row of what is kept of an address.
-fn row_from(told: &Told) -> TcRow
-    ensures { TcRowFrom told.now result }
-{
-    TcRow {
-        dest: told.net,
-        origin: told.parts.origin,
-        routable: told.parts.routable,
-        gateway: octet_from(told.parts.gateway),
-        metric: told.parts.near_out.metric(),
-    }
-}
+impl Row for TcRow {
+    ghost use Rattle.mesh_wire.specs.RowRules.{tc_rule};
+    ghost use Rattle.mesh_wire.specs.TcHeading.{TcRowFrom};
 
-// The rows, in the same order.
-fn rows_from(alloc: Global, told: &[Told]) -> Result<Seq<TcRow>, AllocError>
-    ensures { IfOk result (TcRowsFrom told.now) }
-{
-    let mut rows = Seq::new(alloc);
-    for i in 0..told.len() {
-        rows.push(row_from(&told[i]))?;
+    ghost is_from = { TcRowFrom };
+
+    ghost rule = { tc_rule };
+
+    // The row of what is kept of an address.
+    fn of_told(told: &AddressParts) -> TcRow {
+        TcRow {
+            dest: told.net,
+            origin: told.parts.origin,
+            routable: told.parts.routable,
+            gateway: octet_from(told.parts.gateway),
+            metric: told.parts.near_out.metric(),
+        }
     }
-    Ok(rows)
+
+    fn rule_of(told: &AddressParts) -> Option<u8> {
+        told.tc_rule()
+    }
 }
 
 // The TC, or the first rule that is broken.
 fn read_tc(alloc: Global, message: &Message) -> Result<Tc, WireFault>
     ensures reads { IfOk result (TcIs (fields_of_message message.now)) }
     ensures keeps { IfOk result (λ tc. Keeps (BreaksTc (fields_of_message message.now))) }
+    ensures bounded { IfOk result (λ tc. tc.validity < 2 ^ 35) }
     ensures broken { IfErr result (IfBroken (FirstBroken (BreaksTc (fields_of_message message.now)))) }
 {
     let heading = match heading_of(message) {
@@ -184,14 +171,12 @@ fn read_tc(alloc: Global, message: &Message) -> Result<Tc, WireFault>
             return Err(WireFault::Broken { number, addr: None });
         }
     };
-    let told = collect(alloc, message)?;
-    if let Some((number, net)) = broken_rule(told.as_slice()) {
-        return Err(WireFault::Broken {
-            number,
-            addr: Some(net),
-        });
-    }
-    let rows = rows_from(alloc, told.as_slice())?;
+    let rows = match rows_in(alloc, message) {
+        Ok(rows) => rows,
+        Err(fault) => {
+            return Err(fault);
+        }
+    };
     Ok(Tc {
         originator: heading.originator,
         sequence: heading.sequence,
@@ -213,6 +198,9 @@ pub fn tc_of(alloc: Global, message: &Message) -> Result<Tc, WireFault>
     ensures reads { IfOk result (TcIs (fields_of_message message.now)) }
     // It breaks no rule.
     ensures keeps { IfOk result (λ tc. Keeps (BreaksTc (fields_of_message message.now))) }
+    ensures bounded { IfOk result (λ tc. tc.validity < 2 ^ 35) }
+    // What says that it is a router's address is a whole address.
+    ensures whole { IfOk result (λ tc. HaveTypeWhole tc.rows) }
     // Else the fault is the first rule that is broken, at the least address.
     ensures broken { IfErr result (IfBroken (FirstBroken (BreaksTc (fields_of_message message.now)))) }
 

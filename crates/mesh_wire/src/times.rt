@@ -1,5 +1,5 @@
 //! What the TLVs of a message's header say: its times and how willing its sender is to be a relay.
-ghost use Rattle.std.specs.Prelude.{◌≡◌, ◌≤◌, ◌<◌, ℕ, Option, map, IfSome, IfNone};
+ghost use Rattle.std.specs.Prelude.{◌≡◌, ◌≤◌, ◌<◌, ◌^◌, ℕ, Option, map, IfSome, IfNone};
 ghost use Rattle.mesh_tlv.specs.Fields.{fields};
 ghost use Rattle.mesh_packet.specs.Fields.{fields_of_message};
 ghost use Rattle.mesh_wire.specs.Hello.{HasWilling};
@@ -8,6 +8,7 @@ ghost use Rattle.mesh_wire.specs.Times.{ValidityIs, IntervalIs};
 ghost use Rattle.mesh_wire.specs.Values.{values_in, ValuesAre};
 
 use mesh_atoms::time_at;
+use mesh_atoms::tlv_type::{INTERVAL_TIME, MPR_WILLING, VALIDITY_TIME};
 use mesh_packet::Message;
 use mesh_tlv::Tlv;
 
@@ -53,8 +54,9 @@ fn values_of<'a>(tlvs: &[Tlv<'a>], kind: u8) -> Values<'a>
 pub(crate) fn validity(message: &Message, distance: u16) -> Option<u64>
     ensures some { IfSome result (ValidityIs (fields_of_message message.now) distance) }
     ensures none { IfNone result ((ticks : ℕ) → ValidityIs (fields_of_message message.now) distance ticks → ⊥) }
+    ensures bounded { IfSome result (λ ticks. ticks < 2 ^ 35) }
 {
-    match values_of(message.tlvs.as_slice(), 1) {
+    match values_of(message.tlvs.as_slice(), VALIDITY_TIME) {
         Values::Single(value) => match time_at(value, distance) {
             Some(ticks) => { if ticks > 0 { Some(ticks) } else { None } }
             None => None,
@@ -68,7 +70,7 @@ pub(crate) fn interval(message: &Message, distance: u16) -> Option<Option<u64>>
     ensures some { IfSome result (IntervalIs (fields_of_message message.now) distance) }
     ensures none { IfNone result ((ticks : Option ℕ) → IntervalIs (fields_of_message message.now) distance ticks → ⊥) }
 {
-    match values_of(message.tlvs.as_slice(), 0) {
+    match values_of(message.tlvs.as_slice(), INTERVAL_TIME) {
         Values::Nothing => Some(None),
         Values::Single(value) => match time_at(value, distance) {
             Some(ticks) => Some(Some(ticks)),
@@ -83,7 +85,7 @@ pub(crate) fn willing(message: &Message) -> Option<u8>
     ensures some { IfSome result (HasWilling (fields_of_message message.now)) }
     ensures none { IfNone result ((octet : ℕ) → HasWilling (fields_of_message message.now) octet → ⊥) }
 {
-    match values_of(message.tlvs.as_slice(), 7) {
+    match values_of(message.tlvs.as_slice(), MPR_WILLING) {
         Values::Nothing => Some(119),
         Values::Single(value) => match value {
             [octet] => Some(*octet),

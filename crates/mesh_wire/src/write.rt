@@ -1,20 +1,21 @@
 //! Writing HELLO and TC messages, each as a packet of its own.
-ghost use Rattle.std.specs.Prelude.{◌≡◌, ◌≤◌, length, map, List, IfOk, AllPairs};
+ghost use Rattle.std.specs.Prelude.{◌≡◌, ◌≤◌, length, map, List, IfOk};
 ghost use Rattle.std.specs.Option.{option_map};
-ghost use Rattle.mesh_atoms.specs.Nodes.{IsBefore};
 ghost use Rattle.mesh_tlv.specs.Fields.{fields};
+ghost use Rattle.mesh_atoms.specs.Writable.{IsSentTime, IsSentIfSome, HaveSenderAlone, HaveStatusWhole, AreOneType, HaveTypeWhole};
 ghost use Rattle.mesh_packet.specs.declared.packet.Span.{Span};
 ghost use Rattle.mesh_packet.specs.Fields.{fields_of_message, PacketFields};
 ghost use Rattle.mesh_packet.specs.Grammar.{Spells};
 ghost use Rattle.mesh_packet.specs.Least.{IsEncodableMessage};
 ghost use Rattle.mesh_wire.specs.Drafts.{IsCodeOf, IsCodeIfSome, octet_of, whole, HasHelloValues, HasTcValues, saying, heading_of, DraftsHello, DraftsTc, FitsAlone};
 ghost use Rattle.mesh_wire.specs.Lines.{hello_line, tc_line};
-ghost use Rattle.mesh_wire.specs.Writes.{IsSentTime, IsSentIfSome, SayNoOtherOfSender, HaveStatusWhole, AreOneType, HaveTypeWhole, IsAlone, WritesHello, WritesTc, ReadsBackHello, ReadsBackTc};
+ghost use Rattle.mesh_wire.specs.Writes.{IsSoleMessage, WritesHello, WritesTc, ReadsBackHello, ReadsBackTc};
 
 use crate::lay::lay;
 use crate::lines::{Line, hello_lines, tc_lines};
 use crate::runs::{blocks_of, raw_of};
 use mesh_addr::RawAddr;
+use mesh_atoms::tlv_type::{CONT_SEQ_NUM, INTERVAL_TIME, MPR_WILLING, VALIDITY_TIME};
 use mesh_atoms::{Addr4, Bytes, Hello, Seq, Tc, Willing, time_code_at_least};
 use mesh_packet::{EncodeFault, Message, Packet, encode};
 use mesh_tlv::Tlv;
@@ -89,9 +90,9 @@ fn heading_of<'a>(
     ensures { IfOk result (λ tlvs. map fields tlvs ≡ heading_of values.now has_interval kind ext) }
 {
     let mut tlvs = Seq::new(alloc);
-    tlvs.push(saying(1, 0, &values[..1]))?;
+    tlvs.push(saying(VALIDITY_TIME, 0, &values[..1]))?;
     if has_interval {
-        tlvs.push(saying(0, 0, &values[1..2]))?;
+        tlvs.push(saying(INTERVAL_TIME, 0, &values[1..2]))?;
     }
     tlvs.push(saying(kind, ext, &values[2..]))?;
     Ok(tlvs)
@@ -101,7 +102,7 @@ fn heading_of<'a>(
 fn alone(alloc: Global, message: Message) -> Result<Bytes, AllocError>
     requires encodable { IsEncodableMessage (fields_of_message message) }
     requires fits { FitsAlone (fields_of_message message) }
-    ensures { IfOk result (λ bytes. IsAlone (fields_of_message message.entry) bytes) }
+    ensures { IfOk result (λ bytes. IsSoleMessage (fields_of_message message.entry) bytes) }
 {
     let mut messages = Seq::new(alloc);
     messages.push(message)?;
@@ -142,7 +143,13 @@ fn hello_message<'a>(
     requires values { HasHelloValues hello.now lines.now values.now }
     ensures { IfOk result (λ message. DraftsHello hello.now (fields_of_message message)) }
 {
-    let tlvs = heading_of(alloc, &values[..3], hello.interval.is_some(), 7, 0)?;
+    let tlvs = heading_of(
+        alloc,
+        &values[..3],
+        hello.interval.is_some(),
+        MPR_WILLING,
+        0,
+    )?;
     let blocks = blocks_of(alloc, lines, &values[3..])?;
     Ok(Message {
         kind: 0,
@@ -184,7 +191,13 @@ fn tc_message<'a>(
     ensures { IfOk result (λ message. DraftsTc tc.now hop_limit (fields_of_message message)) }
 {
     let ext = if tc.complete { 0 } else { 1 };
-    let tlvs = heading_of(alloc, &values[..4], tc.interval.is_some(), 8, ext)?;
+    let tlvs = heading_of(
+        alloc,
+        &values[..4],
+        tc.interval.is_some(),
+        CONT_SEQ_NUM,
+        ext,
+    )?;
     let blocks = blocks_of(alloc, lines, &values[4..])?;
     Ok(Message {
         kind: 1,
@@ -199,15 +212,14 @@ fn tc_message<'a>(
 }
 
 /// Writes a HELLO as a packet of its own, in the least form (RFC 6130, section 10, and RFC 7181, section 15). It takes at most
-/// 1,100 rows, in ascending order of address, each address once. Its times are those of codes from 1 to 254. A row with
-/// `local` has no status, no metric and no relay; one with `local`, `link` or `other` is of a whole address. The message has no
-/// hop limit, hop count or sequence number. Want of memory is the only fault.
+/// 1,100 rows. Its times are those of codes from 1 to 254. A row with `local` has no status, no metric and no relay; one with
+/// `local`, `link` or `other` is of a whole address. The message has no hop limit, hop count or sequence number. Want of memory
+/// is the only fault.
 pub fn write_hello(alloc: Global, hello: &Hello) -> Result<Bytes, AllocError>
     requires few { length hello.now.rows ≤ 1100 }
-    requires ascending { AllPairs (λ a b. IsBefore a.addr b.addr) hello.now.rows }
     requires validity { IsSentTime hello.now.validity }
     requires interval { IsSentIfSome hello.now.interval }
-    requires sender { SayNoOtherOfSender hello.now.rows }
+    requires sender { HaveSenderAlone hello.now.rows }
     requires whole { HaveStatusWhole hello.now.rows }
     // What is written.
     ensures writes { IfOk result (WritesHello hello.now) }
@@ -221,11 +233,10 @@ pub fn write_hello(alloc: Global, hello: &Hello) -> Result<Bytes, AllocError>
 }
 
 /// Writes a TC as a packet of its own with that hop limit and hop count 0, in the least form (RFC 7181, section 16). It takes at
-/// most 1,100 rows, in ascending order of address, each address once. Its times are those of codes from 1 to 254. A row with
-/// `origin` or `routable` has no gateway, and is of a whole address. Want of memory is the only fault.
+/// most 1,100 rows. Its times are those of codes from 1 to 254. A row with `origin` or `routable` has no gateway, and is of a
+/// whole address. Want of memory is the only fault.
 pub fn write_tc(alloc: Global, tc: &Tc, hop_limit: u8) -> Result<Bytes, AllocError>
     requires few { length tc.now.rows ≤ 1100 }
-    requires ascending { AllPairs (λ a b. IsBefore a.dest b.dest) tc.now.rows }
     requires validity { IsSentTime tc.now.validity }
     requires interval { IsSentIfSome tc.now.interval }
     requires kinds { AreOneType tc.now.rows }

@@ -1,18 +1,20 @@
-use Rattle.std.proofs.Common.{◌≤◌, length}
+use Rattle.std.proofs.Common.{◌≡◌, ◌≤◌, ℕ, length}
+use Rattle.std.specs.Prelude.{Some, Contains}
+use Rattle.std.specs.List.{AllWithin}
+use Rattle.mesh_atoms.specs.declared.tuples.Link.{Link}
 use Rattle.mesh_atoms.specs.declared.tuples.LinkKey.{LinkKey}
-use Rattle.mesh_atoms.specs.Base.{link_eq, find}
+use Rattle.mesh_atoms.specs.Base.{link_eq, find, HasDistinctKeys}
 use Rattle.mesh_links.specs.Ending.{Spares}
-use Rattle.mesh_links.proofs.Left.{IsLeft}
+use Rattle.mesh_links.specs.Owners.{IsLeft}
 use Rattle.mesh_links.proofs.ending.end_all.Given as goal
 
-abbrev pub invariant-loop-key : goal.invariant-loop-key
-invariant-loop-key g l =
+abbrev pub invariant-loop-addr : goal.invariant-loop-addr
+invariant-loop-addr g l =
     let before = g.T.Table.content l.initial.table in
     let now = g.T.Table.content l.table in
     record {
       within : length now ≤ length before;
+      distinct : HasDistinctKeys link_eq now;
       left : (key : LinkKey) → IsLeft (λ e. Spares l.fn.which e.0 → ⊥) (find link_eq before key) (find link_eq now key);
+      done : AllWithin (λ a. (key : LinkKey) (e : Link × ℕ) → find link_eq now key ≡ Some e → Contains e.0.addrs a → Spares l.fn.which e.0) l.addrs 0 l.addr-index;
     }
-
-abbrev pub decreases-loop-key : goal.decreases-loop-key
-decreases-loop-key g l = length (g.T.Table.content l.table)

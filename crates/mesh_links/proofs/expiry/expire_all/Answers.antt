@@ -21,7 +21,7 @@ expires_links now old mid new expired trimmed_all key =
     ∙ ap (trim now) (expired key)
 
 pub returns-clause-expired : goal.returns-clause-expired
-returns-clause-expired g c = expires_links c.args.now (g.T.Table.content c.args.table.now) (g.T.Table.content c.expire.new.self) (g.T.Table.content c.trim_all.new.table) c.expire.ensures.kept c.trim_all.ensures.trimmed
+returns-clause-expired g c = expires_links c.args.now (g.T.Table.content c.args.table.now) (g.T.Table.content c.expire-expired.new.self) (g.T.Table.content c.trim_all.new.table) c.expire-expired.ensures.kept c.trim_all.ensures.trimmed
 
 pub returns-clause-room : goal.returns-clause-room
-returns-clause-room g c = room_expired c.args.now (g.T.Table.content c.args.table.now) (g.T.Table.content c.trim_all.new.table) c.requires.room (expires_links c.args.now (g.T.Table.content c.args.table.now) (g.T.Table.content c.expire.new.self) (g.T.Table.content c.trim_all.new.table) c.expire.ensures.kept c.trim_all.ensures.trimmed)
+returns-clause-room g c = room_expired c.args.now (g.T.Table.content c.args.table.now) (g.T.Table.content c.trim_all.new.table) c.requires.room (expires_links c.args.now (g.T.Table.content c.args.table.now) (g.T.Table.content c.expire-expired.new.self) (g.T.Table.content c.trim_all.new.table) c.expire-expired.ensures.kept c.trim_all.ensures.trimmed)

@@ -1,18 +1,41 @@
-use Rattle.std.proofs.Common.{◌≡◌, ap, subst, ◌∙◌, Some}
+use Rattle.std.proofs.Common.{◌≡◌, sym, ap, subst, ◌∙◌, Some}
 use Rattle.mesh_atoms.specs.declared.addr.Addr4.{Addr4}
 use Rattle.mesh_atoms.specs.declared.tuples.LinkKey.{LinkKey}
+use Rattle.mesh_atoms.specs.Base.{find, link_eq}
+use Rattle.mesh_atoms.specs.AfterHello.{IsApart}
 use Rattle.mesh_links.specs.Links.{HearsOn}
-use Rattle.mesh_links.proofs.Renewed.{hears_on}
+use Rattle.mesh_links.proofs.Tied.{hears_after, owned_more, stays_there}
 use Rattle.mesh_links.proofs.hearing.hear_on.Goals as goal
+
+pub returns-in_err-own_all-in-Some-clause-owned : goal.returns-in_err-own_all-in-Some-clause-owned
+returns-in_err-own_all-in-Some-clause-owned g c =
+    let old = g.T.Table.content c.args.table.now in
+    let mid = g.T.Table.content c.end_all.new.table in
+    let key : LinkKey = record { addr = c.in-Some.addr.now } in
+    let sending = c.args.shown.now.sending in
+    owned_more c.args.owners.now.entries c.own_all.new.owners.entries mid sending key c.end_all.ensures.owned (sym c.in-Some.ensures)
+    (λ q e found. (stays_there (λ x. IsApart sending x.0) (find link_eq old q) (find link_eq mid q) e (rw c.as_slice-sending.ensures at c.end_all.ensures.kept q) found).0)
+    (rw c.as_slice-sending.ensures at c.own_all.ensures.more)
+
+pub renew_at-requires-clause-owned : goal.renew_at-requires-clause-owned
+renew_at-requires-clause-owned g c =
+    let old = g.T.Table.content c.args.table.now in
+    let mid = g.T.Table.content c.end_all.new.table in
+    let key : LinkKey = record { addr = c.in-Some.addr.now } in
+    let sending = c.args.shown.now.sending in
+    owned_more c.args.owners.now.entries c.own_all.new.owners.entries mid sending key c.end_all.ensures.owned (sym c.in-Some.ensures)
+    (λ q e found. (stays_there (λ x. IsApart sending x.0) (find link_eq old q) (find link_eq mid q) e (rw c.as_slice-sending.ensures at c.end_all.ensures.kept q) found).0)
+    (rw c.as_slice-sending.ensures at c.own_all.ensures.more)
 
 pub returns-in_ok-renew_at-in-Some-clause-ok : goal.returns-in_ok-renew_at-in-Some-clause-ok
 returns-in_ok-renew_at-in-Some-clause-ok g c least at =
     let old = g.T.Table.content c.args.table.now in
-    let new = g.T.Table.content c.end_all.new.table in
+    let mid = g.T.Table.content c.end_all.new.table in
+    let new = g.T.Table.content c.renew_at.new.table in
     let key : LinkKey = record { addr = c.in-Some.addr.now } in
     let both : Some c.in-Some.addr.now ≡ Some least.addr = c.in-Some.ensures ∙ at in
     let addr : c.in-Some.addr.now ≡ least.addr = cc in
     let same : key ≡ least = ap (λ (a : Addr4). let k : LinkKey = record { addr = a } in k) addr in
     let (start, begins, sets) = c.in_ok-renew_at-in-Some.ensures.ok in
     subst (λ (k : LinkKey). HearsOn c.args.shown.now k c.args.hold c.args.now old new) same
-    (hears_on c.args.shown.now key c.args.hold c.args.now old (g.T.Table.content c.renew_at.new.table) new start begins sets (rw c.as_slice.ensures at c.end_all.ensures.kept))
+    (hears_after c.args.shown.now key c.args.hold c.args.now old mid new start (rw c.as_slice-sending.ensures at c.end_all.ensures.kept) begins sets)

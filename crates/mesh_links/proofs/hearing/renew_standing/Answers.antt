@@ -1,4 +1,5 @@
-use Rattle.std.proofs.Common.{subst, Some, ℕ}
+use Rattle.std.proofs.Common.{subst, refl, Some, ℕ}
+use Rattle.mesh_links.proofs.Tied.{fewer_changed, fewer_same, fewer_twice}
 use Rattle.mesh_atoms.specs.declared.tuples.Link.{Link}
 use Rattle.mesh_atoms.specs.Base.{SetsOnly, link_eq}
 use Rattle.mesh_atoms.proofs.Lookups.{link_equiv}
@@ -20,3 +21,13 @@ returns-clause-ok g c link found =
 
 pub returns-clause-room : goal.returns-clause-room
 returns-clause-room g c = rw c.in_ok-set_until.ensures.ok (room_changed (g.T.Table.content c.renew_value-until.new.table) c.args.key (λ e. (e.0, c.renew_value-until.result)) c.renew_value-until.ensures.room (λ e low. low))
+
+pub returns-in_err-set_until-clause-fewer : goal.returns-in_err-set_until-clause-fewer
+returns-in_err-set_until-clause-fewer g c =
+    fewer_twice (g.T.Table.content c.args.table.now) (g.T.Table.content c.renew_value-until.new.table) (g.T.Table.content c.set_until.new.self) c.renew_value-until.ensures.fewer
+    (fewer_same (g.T.Table.content c.renew_value-until.new.table) (g.T.Table.content c.set_until.new.self) c.in_err-set_until.ensures.err)
+
+pub returns-clause-fewer : goal.returns-clause-fewer
+returns-clause-fewer g c =
+    fewer_twice (g.T.Table.content c.args.table.now) (g.T.Table.content c.renew_value-until.new.table) (g.T.Table.content c.set_until.new.self) c.renew_value-until.ensures.fewer
+    (fewer_changed (g.T.Table.content c.renew_value-until.new.table) (g.T.Table.content c.set_until.new.self) c.args.key (λ e. (e.0, c.renew_value-until.result)) (λ f found. refl) c.in_ok-set_until.ensures.ok)

@@ -1,4 +1,6 @@
-use Rattle.std.proofs.Common.{◌≡◌, ap, ◌∙◌, ℕ}
+use Rattle.std.proofs.Common.{◌≡◌, ap, sym, ◌∙◌, ℕ}
+use Rattle.mesh_links.proofs.Renewed.{addrs-renewed}
+use Rattle.mesh_links.proofs.Tied.{fewer_changed, fewer_same}
 use Rattle.mesh_atoms.specs.declared.tuples.Link.{Link}
 use Rattle.mesh_atoms.specs.Base.{link_eq, find}
 use Rattle.mesh_atoms.specs.AfterHello.{renewed}
@@ -26,3 +28,12 @@ returns-in-Some-clause-room g c = rw (c.value_mut.follows.holds _) (room_changed
 
 pub returns-in-Some-clause-distinct : goal.returns-in-Some-clause-distinct
 returns-in-Some-clause-distinct g c = rw (c.value_mut.follows.holds _) (distinct-changed_at link_eq c.args.key.now (λ e. (c.renew.new.link, e.1)) (g.T.Table.content c.args.table.now) c.value_mut.ensures.distinct)
+
+pub returns-in-Some-clause-fewer : goal.returns-in-Some-clause-fewer
+returns-in-Some-clause-fewer g c =
+    fewer_changed (g.T.Table.content c.args.table.now) (g.T.Table.content (c.value_mut.follows.lender c.renew.new.link)) c.args.key.now (λ e. (c.renew.new.link, e.1))
+    (λ f found. ap (λ (l : Link). l.addrs) (sym (found_some _ _ _ _ c.in-Some.ensures.value found)) ∙ sym (ap (λ (e : Link × ℕ). e.0.addrs) c.renew.ensures.renewed ∙ addrs-renewed c.args.shown.now c.args.hold c.args.now (c.in-Some.link.now, c.args.until)))
+    (c.value_mut.follows.holds c.renew.new.link)
+
+pub returns-in-None-clause-fewer : goal.returns-in-None-clause-fewer
+returns-in-None-clause-fewer g c = fewer_same (g.T.Table.content c.args.table.now) (g.T.Table.content c.value_mut.follows.lender-at-none) c.value_mut.follows.holds-at-none

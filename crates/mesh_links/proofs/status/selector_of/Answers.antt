@@ -1,24 +1,29 @@
-use Rattle.std.proofs.Common.{◌≡◌, sym, arith, true}
-use Rattle.std.specs.Prelude.{Contains}
-use Rattle.std.proofs.lemmas.Map.Entries.{lookup_from_place}
-use Rattle.mesh_atoms.specs.State.{is_symmetric}
-use Rattle.mesh_atoms.proofs.Lookups.{link_equiv, same_link}
-use Rattle.mesh_expire.proofs.Laws.{walked}
+use Rattle.std.proofs.Common.{◌≡◌, ℕ, sym, ap}
+use Rattle.mesh_atoms.specs.declared.tuples.Link.{Link}
 use Rattle.mesh_links.specs.Links.{Linked, Unlinked}
+use Rattle.mesh_links.proofs.Tied.{sole, unowned, unlinked, same_of}
 use Rattle.mesh_links.proofs.status.selector_of.Goals as goal
+
+pub returns-in_default : goal.returns-in_default
+returns-in_default g c =
+    Unlinked (λ link with. (let (key, until, found, has, symmetric) = with in unowned c.args.owners.now.entries (g.T.Table.content c.args.table.now) key (link, until) c.args.addr c.requires found has c.in_default.ensures.value))
+
+pub returns-in_default-get : goal.returns-in_default-get
+returns-in_default-get g c =
+    Unlinked (λ link with. (
+    let (key, until, found, has, symmetric) = with in
+    unlinked c.args.owners.now.entries (g.T.Table.content c.args.table.now) key (link, until) c.args.addr c.in-Some.key.now c.requires found has (sym c.in-Some.ensures.value) c.in_default-get.ensures))
 
 pub returns-then-is_symmetric_with : goal.returns-then-is_symmetric_with
 returns-then-is_symmetric_with g c =
     let (has, symmetric) = c.is_symmetric_with.ensures.0 c.if-is_symmetric_with.true in
-    Linked c.in-Some.link.now (
-      c.in-Some.field-0-0.now,
-      c.in-Some.field-0-2,
-      lookup_from_place link_equiv (g.T.Table.content c.args.table.now) c.loop-place.place c.in-Some.field-0-0.now (c.in-Some.link.now, c.in-Some.field-0-2) c.len-place-end.ensures.distinct (sym c.in-Some.ensures),
-      has,
-      symmetric,
-    )
+    Linked c.in-Some-get.link.now (c.in-Some.key.now, c.in-Some-get._until, sym c.in-Some-get.ensures, has, symmetric)
 
-pub returns : goal.returns
-returns g c = Unlinked (λ link with. (
+pub returns-else-is_symmetric_with : goal.returns-else-is_symmetric_with
+returns-else-is_symmetric_with g c =
+    Unlinked (λ link with. (
     let (key, until, found, has, symmetric) = with in
-    walked same_link (g.T.Table.content c.args.table.now) (λ entry. Contains entry.1.0.addrs c.args.addr → is_symmetric entry.1.0 c.args.now ≡ true → ⊥) (λ i entry lt at. c.loop-place.invariant i entry (omega arith) at) key (link, until) found has symmetric))
+    let one = (sole c.args.owners.now.entries (g.T.Table.content c.args.table.now) key (link, until) c.args.addr c.in-Some.key.now c.requires found has (sym c.in-Some.ensures.value)).1 in
+    let same : c.in-Some-get.link.now ≡ link = ap (λ (x : Link × ℕ). x.0) (same_of _ (c.in-Some-get.link.now, c.in-Some-get._until) (link, until) c.in-Some-get.ensures one) in
+    let yes = c.is_symmetric_with.ensures.1 (rw same (has, symmetric)) in
+    absurd cc))

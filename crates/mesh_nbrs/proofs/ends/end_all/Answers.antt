@@ -8,8 +8,7 @@ loop-next-preserved g c =
     let found : c.remove.result ≡ true = c.remove.ensures.found.1 (ap is_some next.1) in
     record {
       kept = ended_more g.K.PartialEq.eq g.met.K.Key.exact (g.E.Ending.ends c.args.ending.now) (g.T.Table.content c.args.table.now) (g.T.Table.content c.loop-next.table) (g.T.Table.content c.remove.new.self) c.in-Some.next.1 next.0 c.loop-next.invariant.kept next.1 next.2 c.remove.ensures.removed;
-      count = omega (arith, c.loop-next.invariant.count, rw found at c.remove.ensures.count);
-      most = c.loop-next.invariant.most;
+      within = omega (arith, c.loop-next.invariant.within, rw found at c.remove.ensures.count);
       distinct = c.remove.ensures.distinct;
     }
 

@@ -5,26 +5,33 @@ use Rattle.mesh_atoms.specs.declared.addr.Addr4.{Addr4}
 use Rattle.mesh_atoms.specs.declared.tuples.Neighbour.{Neighbour}
 use Rattle.mesh_atoms.specs.Base.{Base, find, addr_eq}
 use Rattle.mesh_nbrs.specs.declared.neighbours.LinkNote.{LinkNote}
+use Rattle.mesh_nbrs.specs.declared.summary.Summary.{Summary}
 use Rattle.mesh_nbrs.specs.Neighbours.{by_summary, HasSummary}
+use Rattle.mesh_nbrs.specs.Parts.{AreParts}
 use Rattle.mesh_nbrs.proofs.Walks.{IsWalked, walk_begins, walk_on, walk_ends}
 use Rattle.mesh_nbrs.proofs.neighbours.renew_all.Goals as goal
 
--- after a walk over all places
-all_walked : (notes : List LinkNote) (before now : Base Addr4 Neighbour) (place : ℕ) → length now ≤ place → IsWalked addr_eq (λ old new. HasSummary notes (Some old) (Some new)) before now place
-    → (o : Addr4) → HasSummary notes (find addr_eq before o) (find addr_eq now o)
-all_walked notes before now place all h o = by_case (find addr_eq now o) refl where
-  by_case : (new : Option (Neighbour × ℕ)) → find addr_eq now o ≡ new → HasSummary notes (find addr_eq before o) new
-  by_case None is = rw (h.none o is) refl
-  by_case (Some e) is = let was = walk_ends (λ old new. HasSummary notes (Some old) (Some new)) before now place same_addr all h o e is in rw (was.1) was.2
+module _ (parts : List (Addr4 × Summary)) where
+  -- what becomes of a neighbour, whatever the notes that the parts are of
+  abbrev May : Neighbour × ℕ → Neighbour × ℕ → Type 0
+  May old new = (notes : List LinkNote) → AreParts notes parts → HasSummary notes (Some old) (Some new)
+
+  -- after a walk over all places
+  all_walked : (before now : Base Addr4 Neighbour) (place : ℕ) → length now ≤ place → IsWalked addr_eq May before now place
+      → (notes : List LinkNote) → AreParts notes parts → (o : Addr4) → HasSummary notes (find addr_eq before o) (find addr_eq now o)
+  all_walked before now place all h notes are o = by_case (find addr_eq now o) refl where
+    by_case : (new : Option (Neighbour × ℕ)) → find addr_eq now o ≡ new → HasSummary notes (find addr_eq before o) new
+    by_case None is = rw (h.none o is) refl
+    by_case (Some e) is = let was = walk_ends May before now place same_addr all h o e is in rw (was.1) (was.2 notes are)
 
 pub loop-place-init : goal.loop-place-init
-loop-place-init g c = walk_begins _ _ addr_equiv c.len-place-end.ensures.distinct
+loop-place-init g c = walk_begins _ _ addr_equiv c.requires
 
 pub loop-place-preserved : goal.loop-place-preserved
 loop-place-preserved g c =
-    walk_on _ (g.T.Table.content c.args.table.now) (g.T.Table.content c.loop-place.table) c.loop-place.place addr_equiv (g.T.Table.content c.renew.new.table) c.in-Some.originator.now
-    (c.in-Some.neighbour.now, c.in-Some.field-0-2) (λ e. (by_summary c.summary_of.result e.0, c.summary_of.result.until)) (sym c.in-Some.ensures)
-    (c.summary_of.result, rw c.as_slice.ensures at c.summary_of.ensures, refl) c.in_ok-renew.ensures.ok c.loop-place.invariant
+    walk_on (May c.args.parts.now.entries) (g.T.Table.content c.args.table.now) (g.T.Table.content c.loop-place.table) c.loop-place.place addr_equiv (g.T.Table.content c.renew.new.table) c.in-Some.originator.now
+    (c.in-Some.neighbour.now, c.in-Some.field-0-2) (λ e. (by_summary c.together.result e.0, c.together.result.until)) (sym c.in-Some.ensures)
+    (λ notes are. (c.together.result, rw c.as_slice.ensures at (c.together.ensures notes are), refl)) c.in_ok-renew.ensures.ok c.loop-place.invariant
 
 pub returns-in-None-clause-ok : goal.returns-in-None-clause-ok
 returns-in-None-clause-ok g c = elim ((slice_get_cases (g.T.Table.content c.loop-place.table) c.loop-place.place).1) [

@@ -17,6 +17,6 @@ returns g c = record {
   notes_are = c.in_ok-notes.ensures;
   neighbours = λ o. subst (λ (notes : List LinkNote). RestoresBy notes (find addr_eq c.args.neighbours.now o) (find addr_eq c.expire.new.self o)) c.deref.ensures.value (c.in_ok-expire.ensures.ok o);
   after = c.in_ok-after.after.items;
-  after_is = λ a. subst (λ (b : Base Addr4 Neighbour). Contains c.in_ok-after.after.items a ↔ IsWantedAddress b Symmetric a) c.table.ensures (c.in_ok-after.ensures a);
+  after_is = λ a. subst (λ (b : Base Addr4 Neighbour). Contains c.in_ok-after.after.items a ↔ IsWantedAddress b Symmetric a) c.table.ensures.content (c.in_ok-after.ensures a);
   losts = subst (λ (after : List Addr4). SettlesAll c.args.before.now after c.args.until c.args.losts.now c.settle_lost.new.self) c.deref-2.ensures.value c.in_ok-settle_lost.ensures.ok;
 }

@@ -18,9 +18,9 @@ returns-clause-hears g c =
       elsewhere = λ j other. written_other c.change_all.new.two_hops c.args.hearing.now.iface j c.update_two_hops.new.two_hops other;
       stood = c.stands-stood.result;
       stood_is = stood_at c.stands-stood.result c.args.links.now c.args.hearing.now.iface (g.L.Table.content c.table.result.now) c.args.least c.args.hearing.now.shown.now.sending c.as_slice.result.now
-          (is_base c.args.links.now c.args.hearing.now.iface c.index-links-hearing.result c.requires.iface c.index-links-hearing.is ∙ (c.index-links-hearing.is ∙ sym c.table.ensures)) c.as_slice.ensures c.stands-stood.ensures;
+          (is_base c.args.links.now c.args.hearing.now.iface c.index-links-hearing.result c.requires.iface c.index-links-hearing.is ∙ (c.index-links-hearing.is ∙ sym c.table.ensures.content)) c.as_slice.ensures c.stands-stood.ensures;
       updates = updates_at c.stands-stood.result c.has_symmetric-symmetric.result c.args.own.now c.args.hearing.now.listed.now c.args.hello.now c.args.least c.args.hearing.now.moment _ c.args.hearing.now.iface
           c.change_all.new.links (g.L.Table.content c.table-2.result.now) c.change_all.new.two_hops _ c.update_two_hops.new.two_hops
-          (is_base c.change_all.new.links c.args.hearing.now.iface c.index-links-hearing-2.result within c.index-links-hearing-2.is ∙ (c.index-links-hearing-2.is ∙ sym c.table-2.ensures)) c.has_symmetric-symmetric.ensures
+          (is_base c.change_all.new.links c.args.hearing.now.iface c.index-links-hearing-2.result within c.index-links-hearing-2.is ∙ (c.index-links-hearing-2.is ∙ sym c.table-2.ensures.content)) c.has_symmetric-symmetric.ensures
           (is_base c.change_all.new.two_hops c.args.hearing.now.iface c.index-two_hops-hearing.result within_too c.index-two_hops-hearing.is ∙ c.index-two_hops-hearing.is) within_too U;
     }) c.update_two_hops.ensures

@@ -8,4 +8,4 @@ use Rattle.mesh_nhdp.proofs.judge.count_on.Goals as goal
 pub returns : goal.returns
 returns g c =
     c.len.ensures.value ∙ ap (λ (b : Base TwoHopKey TwoHop). length b)
-    (c.table.ensures ∙ sym (is_base c.args.sets.now c.args.iface c.index-sets-iface.result c.requires c.index-sets-iface.is))
+    (c.table.ensures.content ∙ sym (is_base c.args.sets.now c.args.iface c.index-sets-iface.result c.requires c.index-sets-iface.is))

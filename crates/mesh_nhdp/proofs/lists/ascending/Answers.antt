@@ -5,7 +5,7 @@ use Rattle.std.proofs.Common.{◌∙◌, subst, sym, List}
 use Rattle.std.specs.Prelude.{Contains}
 use Rattle.mesh_atoms.specs.declared.addr.Addr4.{Addr4}
 use Rattle.mesh_atoms.specs.Base.{addr_eq}
-use Rattle.mesh_atoms.specs.Relays.{IsAscending}
+use Rattle.mesh_atoms.specs.Words.{IsAscending}
 use Rattle.mesh_atoms.proofs.Lookups.{addr_equiv, same_addr}
 use Rattle.mesh_nhdp.proofs.Ascending.{ascending_dedup}
 use Rattle.mesh_nhdp.proofs.lists.ascending.Goals as goal

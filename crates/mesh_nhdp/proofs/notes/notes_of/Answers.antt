@@ -4,7 +4,7 @@ use Rattle.mesh_atoms.specs.declared.tuples.Link.{Link}
 use Rattle.mesh_atoms.specs.Base.{Base}
 use Rattle.mesh_nbrs.specs.declared.neighbours.LinkNote.{LinkNote}
 use Rattle.mesh_nhdp.specs.Calls.{IsNoteIn}
-use Rattle.mesh_nhdp.specs.Gathers.{Adds}
+use Rattle.mesh_nhdp.specs.Gathers.{Gathers}
 use Rattle.mesh_nhdp.proofs.Collect.{SomeBelow, gathers_more, item_at}
 use Rattle.mesh_nhdp.proofs.AllNotes.{tells_links}
 use Rattle.mesh_nhdp.proofs.notes.notes_of.Goals as goal
@@ -13,7 +13,7 @@ pub loop-set-preserved : goal.loop-set-preserved
 loop-set-preserved g c =
     gathers_more c.args.sets.now (λ (base : Base LinkKey Link) (note : LinkNote). IsNoteIn base c.args.now note) c.loop-set.set-index c.set-item.result _ _
     (item_at c.args.sets.now c.loop-set.set-index c.set-item.result (omega arith) c.set-item.is) c.loop-set.invariant
-    (subst (λ (b : Base LinkKey Link). Adds c.loop-set.notes.items c.add_notes.new.notes.items (IsNoteIn b c.args.now)) c.table.ensures c.in_ok-add_notes.ensures)
+    (subst (λ (b : Base LinkKey Link). Gathers c.loop-set.notes.items c.add_notes.new.notes.items (IsNoteIn b c.args.now)) c.table.ensures.content c.in_ok-add_notes.ensures)
 
 pub returns : goal.returns
 returns g c =

@@ -6,7 +6,7 @@ use Rattle.mesh_nhdp.proofs.rows.row_of.Goals as goal
 pub returns-clause-says : goal.returns-clause-says
 returns-clause-says g c =
     row_of c.args.settings.now (g.L.Table.content c.args.links.now) (g.N.Table.content c.args.neighbours.now) (g.O.Table.content c.args.losts.now) c.args.relays.now c.args.iface c.args.now _ c.args.addr
-    c.requires.apart c.requires.told
+    c.requires.apart c.requires.said
     (record {
       linked = entry_of c.link_with-link.result;
       near = entry_of c.neighbour_with-neighbour.result;
@@ -18,12 +18,12 @@ returns-clause-says g c =
       is_lost_so = c.is_lost.ensures;
       addr = c.host.ensures;
       local = c.local_of.ensures;
-      link = c.status_shown-status.ensures;
-      other = c.other_shown.ensures;
-      link_in = c.link_in_shown.ensures;
-      link_out = c.link_out_shown.ensures;
-      near_in = c.near_in_shown.ensures;
-      near_out = c.near_out_shown.ensures;
+      link = c.link_status_said-status.ensures;
+      other = c.other_said.ensures;
+      link_in = c.link_in_said.ensures;
+      link_out = c.link_out_said.ensures;
+      near_in = c.near_in_said.ensures;
+      near_out = c.near_out_said.ensures;
       flooding = c.is_flooding_relay.ensures;
       routing = rw (← c.as_slice.ensures) c.is_relay.ensures;
     })

@@ -3,7 +3,7 @@ use Rattle.std.specs.Prelude.{Contains}
 use Rattle.mesh_atoms.specs.declared.addr.Addr4.{Addr4}
 use Rattle.mesh_atoms.specs.declared.hello.HelloRow.{HelloRow}
 use Rattle.mesh_atoms.specs.Base.{host}
-use Rattle.mesh_nhdp.specs.Shown.{IsRowOf}
+use Rattle.mesh_nhdp.specs.Said.{IsRowOf}
 use Rattle.mesh_nhdp.proofs.rows.rows_of.Given as goal
 
 abbrev pub invariant-loop-addr : goal.invariant-loop-addr

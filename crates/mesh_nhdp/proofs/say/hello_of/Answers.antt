@@ -1,9 +1,9 @@
 use Rattle.std.proofs.Common.{refl}
-use Rattle.mesh_nhdp.proofs.Message.{hello_is}
+use Rattle.mesh_nhdp.proofs.Message.{hello_is, rows_before}
 use Rattle.mesh_nhdp.proofs.say.hello_of.Goals as goal
 
-pub rows_of-requires-clause-told : goal.rows_of-requires-clause-told
-rows_of-requires-clause-told g c = λ a. rw c.as_slice.ensures ((c.in_ok-addrs.ensures.same a).0)
+pub rows_of-requires-clause-said : goal.rows_of-requires-clause-said
+rows_of-requires-clause-said g c = λ a. rw c.as_slice.ensures ((c.in_ok-addrs.ensures.same a).0)
 
 pub returns : goal.returns
 returns g c =
@@ -13,8 +13,13 @@ returns g c =
       same = c.in_ok-addrs.ensures.same;
       addrs = rw (← c.as_slice.ensures) c.in_ok-rows.ensures.addrs;
       says = c.in_ok-rows.ensures.says;
-      originator = c.originator_of.ensures;
-      validity = c.rounded_up.ensures;
-      interval = (_, refl, c.rounded_up-2.ensures);
+      originator = (_, c.originator.ensures.is, refl);
+      validity = c.time_at_least.ensures;
+      interval = (_, refl, c.time_at_least-2.ensures);
       willing = refl;
     })
+
+pub invariant_of-result : goal.invariant_of-result
+invariant_of-result g c = record {
+  ascending = rows_before c.in_ok-rows.rows c.in_ok-addrs.addrs (rw (← c.as_slice.ensures) c.in_ok-rows.ensures.addrs) c.in_ok-addrs.ensures.ascending;
+}

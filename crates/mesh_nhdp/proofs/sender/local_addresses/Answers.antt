@@ -3,7 +3,7 @@ use Rattle.mesh_atoms.specs.declared.addr.Addr4.{Addr4}
 use Rattle.mesh_atoms.specs.declared.hello.HelloRow.{HelloRow}
 use Rattle.mesh_nhdp.specs.Sender.{IsLocalAddress}
 use Rattle.mesh_nhdp.proofs.Collect.{SomeBelow, gathers_more, item_at}
-use Rattle.mesh_nhdp.proofs.Senders.{shows_local}
+use Rattle.mesh_nhdp.proofs.Senders.{tells_local}
 use Rattle.mesh_nhdp.proofs.sender.local_addresses.Goals as goal
 
 pub loop-row-preserved : goal.loop-row-preserved
@@ -19,5 +19,5 @@ returns c a =
     let all : c.loop-row.row-index ≡ length c.args.hello.now.rows = omega (arith, same) in
     let gathered : Contains c.loop-row.addrs.items a ↔ SomeBelow c.args.hello.now.rows (length c.args.hello.now.rows) (λ row. IsLocalAddress row c.args.local a) =
     subst (λ n. Contains c.loop-row.addrs.items a ↔ SomeBelow c.args.hello.now.rows n (λ row. IsLocalAddress row c.args.local a)) all (c.loop-row.invariant a) in
-    let shows = shows_local c.args.hello.now c.args.local a in
+    let shows = tells_local c.args.hello.now c.args.local a in
     ((λ h. shows.0 (gathered.0 h)), (λ h. gathered.1 (shows.1 h)))

@@ -5,7 +5,15 @@ use Rattle.mesh_packet.specs.Fields.{fields_of_packet, fields_of_decoded}
 use Rattle.mesh_packet.specs.Least.{IsEncodable}
 use Rattle.mesh_packet.proofs.Encodable.{packet_encodable}
 use Rattle.mesh_packet.proofs.Packets.{IsFault, IsSpelled, packet_takes, packet_again, packet_fault}
+use Rattle.mesh_packet.specs.Placed.{ArePlaced}
+use Rattle.mesh_packet.proofs.Placed.{spells_placed}
 use Rattle.mesh_packet.proofs.read.decode.Goals as goal
+
+pub returns-clause-placed : goal.returns-clause-placed
+returns-clause-placed c =
+    if_ok c.whole.result _ (λ decoded. ArePlaced (fields_of_packet decoded.packet).messages decoded.spans c.args.frame.now)
+    (λ decoded h. spells_placed (fields_of_packet decoded.packet) decoded.spans c.args.frame.now h)
+    (given fields_of_decoded (IsSpelled c.args.frame.now) (IsFault c.args.frame.now) c.whole.result _ c.whole.ensures (packet_takes c.args.frame.now)).0
 
 pub returns-clause-value : goal.returns-clause-value
 returns-clause-value c = (given fields_of_decoded (IsSpelled c.args.frame.now) (IsFault c.args.frame.now) c.whole.result _ c.whole.ensures (packet_takes c.args.frame.now)).0

@@ -1,21 +1,15 @@
-use Rattle.std.proofs.Common.{◌≡◌, List, Ok, arith}
+use Rattle.std.proofs.Common.{List, length, ap, arith}
 use Rattle.mesh_addr.proofs.Writable.{if_ok}
 use Rattle.mesh_packet.specs.declared.packet.Span.{Span}
 use Rattle.mesh_packet.specs.Fields.{fields_of_packet}
 use Rattle.mesh_packet.specs.Grammar.{Spells}
-use Rattle.mesh_packet.specs.Reading.{packet_of}
-use Rattle.mesh_packet.proofs.Packets.{packet_again}
 use Rattle.mesh_packet.proofs.Existing.{form_exists}
 use Rattle.mesh_packet.proofs.Spelled.{form_spelled}
-use Rattle.mesh_packet.proofs.TooLong.{form_same}
+use Rattle.mesh_packet.proofs.OneForm.{form_once}
 use Rattle.mesh_packet.proofs.write.encode.Goals as goal
 
 pub returns-clause-spelled : goal.returns-clause-spelled
 returns-clause-spelled c = if_ok c.least_form.result _ (λ bytes. (spans : List Span) × Spells (fields_of_packet c.args.packet.now) spans bytes) (λ bytes h. form_spelled (fields_of_packet c.args.packet.now) bytes c.requires h.0) c.least_form.ensures.ok
-
-pub returns-clause-read_back : goal.returns-clause-read_back
-returns-clause-read_back c = if_ok c.least_form.result _ (λ bytes. (spans : List Span) × (packet_of bytes ≡ Ok (fields_of_packet c.args.packet.now, spans)))
-    (λ bytes h. let spelled = form_spelled (fields_of_packet c.args.packet.now) bytes c.requires h.0 in (spelled.0, packet_again bytes (fields_of_packet c.args.packet.now) spelled.0 spelled.1)) c.least_form.ensures.ok
 
 pub returns-clause-too_long : goal.returns-clause-too_long
 returns-clause-too_long c = λ e.
@@ -24,4 +18,4 @@ returns-clause-too_long c = λ e.
 
 pub returns-clause-long : goal.returns-clause-long
 returns-clause-long c = λ long.
-    if_ok c.least_form.result _ (λ bytes. ⊥) (λ bytes h. absurd (omega (arith, h.1, long.2, form_same (fields_of_packet c.args.packet.now) bytes long.0 h.0 long.1))) c.least_form.ensures.ok
+    if_ok c.least_form.result _ (λ bytes. ⊥) (λ bytes h. absurd (omega (arith, h.1, long.2, ap length (form_once (fields_of_packet c.args.packet.now) bytes long.0 h.0 long.1)))) c.least_form.ensures.ok

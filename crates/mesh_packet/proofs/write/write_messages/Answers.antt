@@ -2,7 +2,7 @@ use Rattle.std.proofs.Common.{arith}
 use Rattle.mesh_packet.specs.Fields.{fields_of_message}
 use Rattle.mesh_packet.specs.Least.{IsEncodableMessage, LeastMessage}
 use Rattle.mesh_packet.proofs.Items.{wrote_none, wrote_next, wrote_all, items_pass, all_at}
-use Rattle.mesh_packet.proofs.TooLong.{message_same}
+use Rattle.mesh_packet.proofs.OneForm.{message_once}
 use Rattle.mesh_packet.proofs.Writing.{handed_on}
 use Rattle.mesh_packet.proofs.write.write_messages.Goals as goal
 
@@ -17,7 +17,7 @@ write_message-requires-clause-room c = c.loop-message.invariant.room
 
 pub returns-in_err-write_message-clause-too_long : goal.returns-in_err-write_message-clause-too_long
 returns-in_err-write_message-clause-too_long c = λ e.
-    items_pass fields_of_message LeastMessage message_same c.args.messages.now c.loop-message.message-index c.message-item.result c.args.out.now c.loop-message.out c.loop-message-test.true c.message-item.is c.loop-message.invariant.wrote (c.write_message.ensures.too_long (handed_on c.from_residual.result c.write_message.result c.in_err-write_message.field-0.0 c.in_err-write_message.was c.from_residual.ensures.1 e))
+    items_pass fields_of_message LeastMessage message_once c.args.messages.now c.loop-message.message-index c.message-item.result c.args.out.now c.loop-message.out c.loop-message-test.true c.message-item.is c.loop-message.invariant.wrote (c.write_message.ensures.too_long (handed_on c.from_residual.result c.write_message.result c.in_err-write_message.field-0.0 c.in_err-write_message.was c.from_residual.ensures.1 e))
 
 pub loop-message-preserved : goal.loop-message-preserved
 loop-message-preserved c = record {

@@ -11,6 +11,6 @@ pub returns-clause-ok : goal.returns-clause-ok
 unfolding packet_line
 returns-clause-ok c = on_ok c.put_counts.result (λ last.
     let packet = c.args.packet.now in
-    let counts : c.put_counts.new.out ≡ c.put_short_or_none.new.out ++ (numbered (codes " tlvs ") (length (map fields packet.tlvs)) ++ numbered (codes " messages ") (length (map fields_of_message packet.messages)) ++ codes "\n")
+    let counts : c.put_counts.new.out ≡ c.put_number_or_none.new.out ++ (numbered (codes " tlvs ") (length (map fields packet.tlvs)) ++ numbered (codes " messages ") (length (map fields_of_message packet.messages)) ++ codes "\n")
     = rw (length-map packet.tlvs fields, length-map packet.messages fields_of_message, ← c.len.ensures, ← c.len-2.ensures) last in
-    three c.args.out.now _ _ _ c.in_ok-put_numbered.ensures.ok c.in_ok-put_short_or_none.ensures.ok counts) c.put_counts.ensures.ok
+    three c.args.out.now _ _ _ c.in_ok-put_numbered.ensures.ok (rw c.wide_short.ensures at c.in_ok-put_number_or_none.ensures.ok) counts) c.put_counts.ensures.ok

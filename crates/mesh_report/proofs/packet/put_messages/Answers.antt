@@ -1,5 +1,4 @@
 use Rattle.std.proofs.Common.{◌≡◌, ℕ, ◌+◌, ◌<◌, List, [], ◌++◌, length, map, drop, get_or, arith, append_assoc, length-drop}
-use Rattle.std.specs.Prelude.{min}
 use Rattle.std.proofs.lemmas.List.{append-nil, length-map}
 use Rattle.mesh_tlv.proofs.Grows.{grows_on}
 use Rattle.mesh_packet.specs.Fields.{MessageFields, fields_of_message}
@@ -35,5 +34,6 @@ returns-clause-ok c =
     let spans = c.args.spans.now in
     let at : ℕ = c.loop-at.at in
     let left : List MessageFields = map fields_of_message (drop at messages) in
-    let none : min (length left) (length (drop at spans)) ≡ 0 = omega (arith, length-map (drop at messages) fields_of_message, length-drop at messages, length-drop at spans) in
-    rw append-nil at (c.loop-at.invariant.text [] (none_left left (drop at spans) none))
+    let none : length left ≡ 0 = omega (arith, length-map (drop at messages) fields_of_message, length-drop at messages) in
+    let nowhere : length (drop at spans) ≡ 0 = omega (arith, length-drop at spans) in
+    rw append-nil at (c.loop-at.invariant.text [] (none_left left (drop at spans) none nowhere))

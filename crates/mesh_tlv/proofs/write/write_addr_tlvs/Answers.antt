@@ -1,20 +1,13 @@
 use Rattle.std.proofs.Common.{map, inl}
 use Rattle.mesh_tlv.specs.Fields.{addr_fields}
-use Rattle.mesh_tlv.specs.Reading.{addr_tlv_at}
-use Rattle.mesh_tlv.specs.Grammar.{SpellsAddrTlv, TlvFault}
-use Rattle.mesh_tlv.specs.Least.{least_addr_tlv, least_block}
-use Rattle.mesh_tlv.proofs.Blocks.{read_back}
+use Rattle.mesh_tlv.specs.Least.{least_addr_tlv}
 use Rattle.mesh_tlv.proofs.Outcomes.{on_ok}
 use Rattle.mesh_tlv.proofs.Lengths.{addr_tlv_longer, block_longer}
 use Rattle.mesh_tlv.proofs.Spelled.{addr_tlv_block_spelled}
-use Rattle.mesh_tlv.proofs.Tlvs.{addr_tlv_reader}
 use Rattle.mesh_tlv.proofs.write.write_addr_tlvs.Goals as goal
 
 pub returns-clause-spelled : goal.returns-clause-spelled
 returns-clause-spelled c = on_ok c.write_addr_block.result _ _ c.write_addr_block.ensures.ok (λ h. addr_tlv_block_spelled c.args.count (map addr_fields c.args.tlvs.now) c.requires.fit)
-
-pub returns-clause-read_back : goal.returns-clause-read_back
-returns-clause-read_back c = on_ok c.write_addr_block.result _ _ c.write_addr_block.ensures.ok (λ h. read_back (addr_tlv_at c.args.count) (SpellsAddrTlv c.args.count) (TlvFault 0 c.args.count) (addr_tlv_reader c.args.count c.requires.count) c.args.out.now c.write_addr_block.new.out (map addr_fields c.args.tlvs.now) (least_block (least_addr_tlv c.args.count) (map addr_fields c.args.tlvs.now)) (addr_tlv_block_spelled c.args.count (map addr_fields c.args.tlvs.now) c.requires.fit) h)
 
 pub returns-clause-too_long : goal.returns-clause-too_long
 returns-clause-too_long c = (λ e. inl (c.write_addr_block.ensures.too_long e).0, λ h. c.write_addr_block.ensures.long (block_longer (least_addr_tlv c.args.count) (λ tlv. tlv.value) (addr_tlv_longer c.args.count) (map addr_fields c.args.tlvs.now) h))

@@ -2,7 +2,6 @@ use Rattle.std.proofs.Common.{◌≡◌, ℕ, ◌+◌, ◌-◌, ◌≤◌, List,
 use Rattle.std.specs.Str.Lines.{lines}
 use Rattle.mesh_packet.specs.Least.{Wrote}
 use Rattle.mesh_tool.specs.Dump.{IsLinesText}
-use Rattle.mesh_tool.specs.Lines.{refused_count}
 use Rattle.mesh_tool.proofs.dump.put_lines.Given as goal
 
 -- what stands, with what is still to come, is the whole
@@ -11,9 +10,9 @@ invariant-lines l = record {
   within : l.at ≤ length l.input;
   few : l.number ≤ l.at;
   fewer : l.refused ≤ l.number;
-  text : (rest : List ℕ) → IsLinesText l.recode (l.number + 1) (lines (drop l.at l.input)) rest → Wrote (IsLinesText l.recode 1 (lines l.input)) l.fn.out (l.out ++ rest);
+  text : (others : ℕ) (rest : List ℕ) → IsLinesText l.recode (l.number + 1) (lines (drop l.at l.input)) others rest
+      → Wrote (IsLinesText l.recode 1 (lines l.input) (l.refused + others)) l.fn.out (l.out ++ rest);
   count : l.number + length (lines (drop l.at l.input)) ≡ length (lines l.input);
-  refusals : l.refused + refused_count (lines (drop l.at l.input)) ≡ refused_count (lines l.input);
 }
 
 abbrev pub decreases-lines : goal.decreases-lines

@@ -1,7 +1,7 @@
 use Rattle.std.proofs.Common.{arith, lit≤}
 use Rattle.mesh_packet.specs.Fields.{fields_of_message}
 use Rattle.mesh_wire.specs.HelloHeading.{IsOther}
-use Rattle.mesh_wire.specs.HelloRules.{AddressWidth, HopLimit, HopCount, Validity, Interval, Willing}
+use Rattle.mesh_wire.specs.HelloRules.{AddressWidth, HopLimit, HopCount, NoValidity, WrongInterval, WrongWilling}
 use Rattle.mesh_wire.proofs.HelloHeading.{first_at, said_no}
 use Rattle.mesh_wire.proofs.hello.heading_of.Goals as goal
 
@@ -47,7 +47,7 @@ returns-in_default-clause-broken c = first_at (fields_of_message c.args.message.
   validity = λ lt. absurd (omega arith);
   interval = λ lt. absurd (omega arith);
   willing = λ lt. absurd (omega arith);
-}) (Validity c.in_default.ensures.none)
+}) (NoValidity c.in_default.ensures.none)
 
 pub returns-in_default-interval-clause-broken : goal.returns-in_default-interval-clause-broken
 returns-in_default-interval-clause-broken c = first_at (fields_of_message c.args.message.now) 24 (record {
@@ -58,7 +58,7 @@ returns-in_default-interval-clause-broken c = first_at (fields_of_message c.args
   validity = λ lt. (c.in-Some.validity, c.in-Some.ensures.some);
   interval = λ lt. absurd (omega arith);
   willing = λ lt. absurd (omega arith);
-}) (Interval c.in_default-interval.ensures.none)
+}) (WrongInterval c.in_default-interval.ensures.none)
 
 pub returns-in_default-willing-clause-broken : goal.returns-in_default-willing-clause-broken
 returns-in_default-willing-clause-broken c = first_at (fields_of_message c.args.message.now) 25 (record {
@@ -69,4 +69,4 @@ returns-in_default-willing-clause-broken c = first_at (fields_of_message c.args.
   validity = λ lt. (c.in-Some.validity, c.in-Some.ensures.some);
   interval = λ lt. (c.in-Some-interval.interval, c.in-Some-interval.ensures.some);
   willing = λ lt. absurd (omega arith);
-}) (Willing c.in_default-willing.ensures.none)
+}) (WrongWilling c.in_default-willing.ensures.none)

@@ -1,7 +1,7 @@
 use Rattle.std.proofs.Common.{ℕ, arith, lit≤, subst}
 use Rattle.std.specs.Prelude.{Option}
 use Rattle.mesh_packet.specs.Fields.{fields_of_message}
-use Rattle.mesh_wire.specs.TcRules.{AddressWidth, NoOriginator, NoSequence, Validity, Interval, Content}
+use Rattle.mesh_wire.specs.TcRules.{AddressWidth, NoOriginator, NoSequence, NoValidity, WrongInterval, Content}
 use Rattle.mesh_wire.specs.Times.{ValidityIs, IntervalIs}
 use Rattle.mesh_wire.proofs.TcHeading.{first_at, no_originator, an_originator, a_sequence}
 use Rattle.mesh_wire.proofs.tc.heading_of.Goals as goal
@@ -48,7 +48,7 @@ returns-in_default-validity-clause-broken c = first_at (fields_of_message c.args
   validity = λ lt. absurd (omega arith);
   interval = λ lt. absurd (omega arith);
   content = λ lt. absurd (omega arith);
-}) (Validity (subst (λ (d : ℕ). (ticks : ℕ) → ValidityIs (fields_of_message c.args.message.now) d ticks → ⊥) c.distance_of-distance.ensures c.in_default-validity.ensures.none))
+}) (NoValidity (subst (λ (d : ℕ). (ticks : ℕ) → ValidityIs (fields_of_message c.args.message.now) d ticks → ⊥) c.distance_of-distance.ensures c.in_default-validity.ensures.none))
 
 pub returns-in_default-interval-clause-broken : goal.returns-in_default-interval-clause-broken
 returns-in_default-interval-clause-broken c = first_at (fields_of_message c.args.message.now) 35 (record {
@@ -59,7 +59,7 @@ returns-in_default-interval-clause-broken c = first_at (fields_of_message c.args
   validity = λ lt. (c.in-Some-validity.validity, subst (λ (d : ℕ). ValidityIs (fields_of_message c.args.message.now) d c.in-Some-validity.validity) c.distance_of-distance.ensures c.in-Some-validity.ensures.some);
   interval = λ lt. absurd (omega arith);
   content = λ lt. absurd (omega arith);
-}) (Interval (subst (λ (d : ℕ). (ticks : Option ℕ) → IntervalIs (fields_of_message c.args.message.now) d ticks → ⊥) c.distance_of-distance.ensures c.in_default-interval.ensures.none))
+}) (WrongInterval (subst (λ (d : ℕ). (ticks : Option ℕ) → IntervalIs (fields_of_message c.args.message.now) d ticks → ⊥) c.distance_of-distance.ensures c.in_default-interval.ensures.none))
 
 pub returns-in_default-content_of-clause-broken : goal.returns-in_default-content_of-clause-broken
 returns-in_default-content_of-clause-broken c = first_at (fields_of_message c.args.message.now) 36 (record {

@@ -1,33 +1,34 @@
-use Rattle.std.proofs.Common.{sym, subst, ◌≡◌, ◌∙◌}
-use Rattle.std.specs.Prelude.{List}
 use Rattle.mesh_packet.specs.Fields.{fields_of_message}
-use Rattle.mesh_wire.specs.declared.collect.Told.{Told}
-use Rattle.mesh_wire.specs.TcHeading.{TcRowsFrom}
-use Rattle.mesh_wire.proofs.TcRead.{kept, rule_found, none_found}
-use Rattle.mesh_wire.proofs.TcRows.{rows_are}
+use Rattle.mesh_wire.specs.Entries.{of_blocks}
+use Rattle.mesh_wire.specs.Made.{HasBroken}
+use Rattle.mesh_wire.specs.RowRules.{tc_rule}
+use Rattle.mesh_wire.specs.Rules.{FirstBroken}
+use Rattle.mesh_wire.specs.TcRules.{BreaksTc}
+use Rattle.mesh_wire.proofs.HelloRead.{if_broken}
+use Rattle.mesh_wire.proofs.TcRead.{rule_found, rows_found}
 use Rattle.mesh_wire.proofs.tc.read_tc.Goals as goal
 
-pub returns-in-Some-clause-broken : goal.returns-in-Some-clause-broken
-returns-in-Some-clause-broken c =
-    rule_found (fields_of_message c.args.message.now) c.in-Ok.heading c.in-Ok.ensures.heading c.in_ok-told.told.items c.as_slice.result.now c.in_ok-told.ensures c.as_slice.ensures.value c.in-Some.number c.in-Some.net c.in-Some.ensures
+pub returns-in-Err-rows_in-clause-broken : goal.returns-in-Err-rows_in-clause-broken
+returns-in-Err-rows_in-clause-broken c =
+    let m = fields_of_message c.args.message.now in
+    if_broken (HasBroken tc_rule (of_blocks m.blocks)) (FirstBroken (BreaksTc m)) c.in-Err-rows_in.fault (rule_found m c.in-Ok.heading c.in-Ok.ensures.heading) c.in-Err-rows_in.ensures.broken
 
 pub returns-clause-keeps : goal.returns-clause-keeps
-returns-clause-keeps c =
-    (none_found (fields_of_message c.args.message.now) c.in-Ok.heading c.in-Ok.ensures.heading c.in_ok-told.told.items c.as_slice.result.now c.in_ok-told.ensures c.as_slice.ensures.value c.in_default.ensures).0
+returns-clause-keeps c = (rows_found (fields_of_message c.args.message.now) c.in-Ok.heading c.in-Ok.ensures.heading c.in-Ok-rows_in.rows c.in-Ok-rows_in.ensures.rows).0
 
 pub returns-clause-reads : goal.returns-clause-reads
 returns-clause-reads c =
-    let m = fields_of_message c.args.message.now in
-    let slice = c.as_slice.result.now in
-    let is = c.as_slice.ensures.value in
     let h = c.in-Ok.ensures.heading in
-    let sound = (none_found m c.in-Ok.heading h c.in_ok-told.told.items slice c.in_ok-told.ensures is c.in_default.ensures).1 in
-    let same : c.as_slice-2.result.now ≡ slice = c.as_slice-2.ensures.value ∙ sym is in
     record {
       originator = h.originator;
       sequence = h.sequence;
       content = h.content;
       validity = h.validity;
       interval = h.interval;
-      rows = rows_are m slice (kept m c.in-Ok.heading h c.in_ok-told.told.items slice c.in_ok-told.ensures is) c.in_ok-rows.rows sound (subst (λ (ts : List Told). TcRowsFrom ts c.in_ok-rows.rows) same c.in_ok-rows.ensures);
+      rows = (rows_found (fields_of_message c.args.message.now) c.in-Ok.heading h c.in-Ok-rows_in.rows c.in-Ok-rows_in.ensures.rows).1;
     }
+
+pub invariant_of-result : goal.invariant_of-result
+invariant_of-result c =
+    let found = rows_found (fields_of_message c.args.message.now) c.in-Ok.heading c.in-Ok.ensures.heading c.in-Ok-rows_in.rows c.in-Ok-rows_in.ensures.rows in
+    record { ascending = found.1.ascending }

@@ -3,7 +3,11 @@ use Rattle.mesh_wire.specs.Tc.{TcIs}
 use Rattle.mesh_wire.specs.TcRules.{BreaksTc}
 use Rattle.mesh_wire.proofs.HelloRead.{gives_of, refuses_of}
 use Rattle.mesh_wire.proofs.OneTc.{one_tc}
+use Rattle.mesh_wire.proofs.TcWhole.{types_whole}
 use Rattle.mesh_wire.proofs.tc.tc_of.Goals as goal
+
+pub returns-clause-whole : goal.returns-clause-whole
+returns-clause-whole c = types_whole (fields_of_message c.args.message.now) c.read_tc.result c.read_tc.ensures.reads c.read_tc.ensures.keeps
 
 pub returns-clause-only : goal.returns-clause-only
 returns-clause-only c = λ tc keeps is.

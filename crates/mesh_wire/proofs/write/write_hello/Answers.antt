@@ -1,23 +1,23 @@
 use Rattle.mesh_addr.proofs.Writable.{if_ok}
 use Rattle.mesh_packet.specs.Fields.{fields_of_message}
-use Rattle.mesh_wire.specs.Writes.{IsAlone, WritesHello}
+use Rattle.mesh_wire.specs.Writes.{IsSoleMessage, WritesHello}
 use Rattle.mesh_wire.proofs.HelloWritten.{fits, encodable, written, back}
 use Rattle.mesh_wire.proofs.write.write_hello.Goals as goal
 
 pub alone-requires-clause-encodable : goal.alone-requires-clause-encodable
-alone-requires-clause-encodable c = let (values, has, h) = c.in_ok-message.ensures in encodable c.args.hello.now values (fields_of_message c.in_ok-message.message) h has c.requires.ascending c.requires.sender c.requires.whole
+alone-requires-clause-encodable c = let (values, has, h) = c.in_ok-message.ensures in encodable c.args.hello.now values (fields_of_message c.in_ok-message.message) h has c.args.hello.now.ascending c.requires.sender c.requires.whole
 
 pub alone-requires-clause-fits : goal.alone-requires-clause-fits
-alone-requires-clause-fits c = let (values, has, h) = c.in_ok-message.ensures in fits c.args.hello.now values (fields_of_message c.in_ok-message.message) h has c.requires.ascending c.requires.sender c.requires.whole c.requires.few
+alone-requires-clause-fits c = let (values, has, h) = c.in_ok-message.ensures in fits c.args.hello.now values (fields_of_message c.in_ok-message.message) h has c.args.hello.now.ascending c.requires.sender c.requires.whole c.requires.few
 
 pub returns-clause-writes : goal.returns-clause-writes
 returns-clause-writes c =
     let (values, has, h) = c.in_ok-message.ensures in
     let m = fields_of_message c.in_ok-message.message in
-    if_ok c.alone.result (IsAlone m) (WritesHello c.args.hello.now) (written c.args.hello.now values m h has c.requires.ascending c.requires.sender c.requires.whole) c.alone.ensures
+    if_ok c.alone.result (IsSoleMessage m) (WritesHello c.args.hello.now) (written c.args.hello.now values m h has c.args.hello.now.ascending c.requires.sender c.requires.whole) c.alone.ensures
 
 pub returns-clause-back : goal.returns-clause-back
 returns-clause-back c =
     let (values, has, h) = c.in_ok-message.ensures in
     let m = fields_of_message c.in_ok-message.message in
-    if_ok c.alone.result (IsAlone m) _ (back c.args.hello.now values m h has c.requires.ascending c.requires.sender c.requires.whole) c.alone.ensures
+    if_ok c.alone.result (IsSoleMessage m) _ (back c.args.hello.now values m h has c.args.hello.now.ascending c.requires.sender c.requires.whole) c.alone.ensures

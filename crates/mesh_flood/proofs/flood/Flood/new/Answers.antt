@@ -1,5 +1,7 @@
+use Rattle.std.proofs.Common.{◌∙◌}
 use Rattle.mesh_expire.proofs.Laws.{distinct_none}
 use Rattle.mesh_atoms.specs.Base.{flood_eq}
+use Rattle.mesh_flood.proofs.Soundness.{none_sound}
 use Rattle.mesh_flood.proofs.flood.Flood.new.Goals as goal
 
 pub invariant_of-result : goal.invariant_of-result
@@ -8,3 +10,6 @@ invariant_of-result g c = record {
   processed = rw c.in_ok-new.ensures (distinct_none flood_eq);
   forwarded = rw c.in_ok-new-2.ensures (distinct_none flood_eq);
 }
+
+pub returns-clause-sound : goal.returns-clause-sound
+returns-clause-sound g c = λ now. none_sound c.args.settings.now now _ (c.in_ok-empty_sets.ensures.count ∙ c.len.ensures) c.in_ok-empty_sets.ensures.empty c.in_ok-new.ensures c.in_ok-new-2.ensures

@@ -10,7 +10,7 @@ use Rattle.mesh_nhdp.proofs.interfaces.ExpiryChange.change.Goals as goal
 pub returns : goal.returns
 returns g c = record {
   distinct_links = c.expire.ensures.distinct;
-  distinct_two_hops = subst (λ (b : Base TwoHopKey TwoHop). HasDistinctKeys two_hop_eq b) c.table.ensures c.len-count.ensures.distinct;
+  distinct_two_hops = subst (λ (b : Base TwoHopKey TwoHop). HasDistinctKeys two_hop_eq b) c.table.ensures.content c.len-count.ensures.distinct;
   links = c.expire.ensures.expired;
   two_hops = (
     c.expire-2.new.self,

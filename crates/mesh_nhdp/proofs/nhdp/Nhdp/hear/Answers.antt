@@ -1,8 +1,8 @@
 use Rattle.std.proofs.Common.{◌+◌, ◌<◌, List, length, ap, sym, subst, inl, arith}
 use Rattle.mesh_atoms.specs.declared.addr.Addr4.{Addr4}
 use Rattle.mesh_atoms.specs.declared.hello.LocalIf.TheVariants.{This}
-use Rattle.mesh_atoms.specs.HelloTold.{ShowsLocal}
-use Rattle.mesh_nhdp.specs.Held.{Held}
+use Rattle.mesh_atoms.specs.HelloTold.{TellsLocal}
+use Rattle.mesh_nhdp.specs.NhdpState.{NhdpState}
 use Rattle.mesh_nhdp.specs.Telling.{told_of}
 use Rattle.mesh_nhdp.proofs.Expiry.{on_ok}
 use Rattle.mesh_nhdp.proofs.Mines.{sending_some, more_some}
@@ -13,7 +13,7 @@ pub replace-requires-clause-some : goal.replace-requires-clause-some
 replace-requires-clause-some g c =
     let (sender, told, fault) = c.requires.told in
     subst (λ (xs : List Addr4). 0 < length xs) (sym c.as_slice-listed.ensures)
-    (more_some c.args.telling.now.shown.sending c.args.telling.now.listed (sending_some c.args.telling.now.shown.sending (λ b. ShowsLocal c.args.hello.now b This) sender told.sending.1)
+    (more_some c.args.telling.now.shown.sending c.args.telling.now.listed (sending_some c.args.telling.now.shown.sending (λ b. TellsLocal c.args.hello.now b This) sender told.sending.1)
     (λ a has. (told.listed.1 a).1 (inl ((told.sending.1 a).0 has))))
 
 pub returns-clause-after : goal.returns-clause-after
@@ -22,7 +22,7 @@ returns-clause-after g c =
     on_ok c.follow_links.result (λ F. receipt_runs c.args.self.now.settings c.args.now c.args.iface sender (told_of c.args.telling.now) c.args.hello.now c.args.self.now.near c.deref_mut.result.now c.self.inside.links.items
     c.hear_interfaces.new.links c.deref-2.result.now c.deref_mut-2.result.now c.self.inside.two_hops.items c.hear_interfaces.new.two_hops c.self.inside.neighbours _ _ c.replace.new.self c.follow_links.new.neighbours c.self.inside.losts
     c.follow_links.new.losts c.in_ok-theirs.theirs.items c.deref.result.now c.args.own.now c.in_ok-before.before.items c.deref-3.result.now c.as_slice-listed.result.now c.self.inside.links.len c.self.inside.two_hops.len
-    c.self.inside.settings.times.link_hold _ c.args.now told fault (subst (λ n. 0 < n) (sym told.validity) c.requires.lasts) c.requires.sound c.requires.iface (ap (λ (h : Held). h.near) (sym c.self.view_is))
-    (ap (λ (h : Held). c.args.now + h.settings.times.neighbour_hold) c.self.view_is) (ap (λ (h : Held). h.settings.times.link_hold) c.self.view_is) c.deref_mut.ensures.value c.deref_mut-2.ensures.value
-    (omega (arith, c.deref_mut.ensures.len)) (omega (arith, c.deref_mut-2.ensures.len)) c.in_ok-hear_interfaces.ensures.links c.requires.own c.table.ensures c.in_ok-before.ensures c.table-2.ensures c.in_ok-theirs.ensures
+    c.self.inside.settings.times.link_hold _ c.args.now told fault (subst (λ n. 0 < n) (sym told.validity) c.requires.lasts) c.requires.sound c.requires.iface (ap (λ (h : NhdpState). h.near) (sym c.self.view_is))
+    (ap (λ (h : NhdpState). c.args.now + h.settings.times.neighbour_hold) c.self.view_is) (ap (λ (h : NhdpState). h.settings.times.link_hold) c.self.view_is) c.deref_mut.ensures.value c.deref_mut-2.ensures.value
+    (omega (arith, c.deref_mut.ensures.len)) (omega (arith, c.deref_mut-2.ensures.len)) c.in_ok-hear_interfaces.ensures.links c.requires.own c.table.ensures.content c.in_ok-before.ensures c.table-2.ensures.content c.in_ok-theirs.ensures
     c.as_slice-listed.ensures c.deref.ensures.value c.in_ok-hear_interfaces.ensures.hears c.in_ok-replace.ensures.ok c.deref-2.ensures.value c.deref-3.ensures.value F) c.follow_links.ensures

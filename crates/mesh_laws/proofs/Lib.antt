@@ -1,0 +1,13 @@
+mod Spoiled
+mod TwoRouters
+mod TwoRoutersInRange
+mod TwoRoutersRelays
+mod TwoRoutersRoutes
+mod TwoRoutersSettled
+mod TwoRoutersSound
+mod Witness
+mod WorkedExpiry
+mod WorkedHello
+mod WorkedLoss
+mod WorkedNeighbourhood
+mod WrongStates

@@ -1,0 +1,142 @@
+-- Two routers that hear each other are a settled network: the premises of the law of settled routes can be met.
+use Rattle.std.proofs.Common.{◌≡◌, ℕ, zero, suc, ◌⊎◌, inl, inr, refl, sym, ◌∙◌, ap, subst, arith, [], Contains, slice_get, Some, None}
+use Rattle.mesh_atoms.specs.declared.addr.Addr4.{Addr4}
+use Rattle.mesh_atoms.specs.declared.metric.Metric.{Metric}
+use Rattle.mesh_atoms.specs.declared.settings.RouterSettings.{RouterSettings}
+use Rattle.mesh_atoms.specs.declared.settings.RadioArc.{RadioArc}
+use Rattle.mesh_atoms.specs.Base.{host}
+use Rattle.mesh_atoms.specs.Radio.{Leads, IsSoundScenario}
+use Rattle.mesh_atoms.specs.Settled.{At}
+use Rattle.mesh_atoms.specs.State.{State, HasAddressOn, IsOriginator}
+use Rattle.mesh_laws.proofs.TwoRouters.{one, addr, face, settings, arc, scenario, route, state, states, address_on}
+use Rattle.mesh_paths.proofs.ShortLists.{none_of, two, here}
+use Rattle.mesh_laws.proofs.TwoRoutersSettled.{Side, settled_at, turned, routers_of}
+use Rattle.mesh_atoms.specs.Sound.{Sound}
+use Rattle.mesh_atoms.specs.Radio.{AddressOf}
+use Rattle.mesh_paths.specs.SettledRoutes.{IsSettledNetwork, HasRow}
+use Rattle.mesh_laws.specs.Witnesses.{TwoRoutersSettle}
+use Rattle.mesh_laws.proofs.TwoRoutersSettled.{joins}
+use Rattle.mesh_laws.proofs.TwoRoutersSound.{sound}
+
+zero_one : ◌≡◌ {A = ℕ} 0 1 → ⊥
+zero_one e = absurd (omega arith)
+
+leads : (x i y j : ℕ) (m : Metric) → Leads scenario x i y j m → (i ≡ 0) × (j ≡ 0) × (m ≡ one) × (((x ≡ 0) × (y ≡ 1)) ⊎ ((x ≡ 1) × (y ≡ 0)))
+leads x i y j m way =
+    let (a, stands, from, from_iface, to, to_iface, m_is) = way in
+    elim (two (arc 0 1) (arc 1 0) a stands) [
+      | inl e ↦ (
+        sym from_iface ∙ ap (λ (b : RadioArc). b.from_iface) e,
+        sym to_iface ∙ ap (λ (b : RadioArc). b.to_iface) e,
+        sym m_is ∙ ap (λ (b : RadioArc). b.metric) e,
+        inl (sym from ∙ ap (λ (b : RadioArc). b.from) e, sym to ∙ ap (λ (b : RadioArc). b.to) e),
+      )
+      | inr e ↦ (
+        sym from_iface ∙ ap (λ (b : RadioArc). b.from_iface) e,
+        sym to_iface ∙ ap (λ (b : RadioArc). b.to_iface) e,
+        sym m_is ∙ ap (λ (b : RadioArc). b.metric) e,
+        inr (sym from ∙ ap (λ (b : RadioArc). b.from) e, sym to ∙ ap (λ (b : RadioArc). b.to) e),
+      )
+    ]
+
+state_at : (x : ℕ) (p : State) → slice_get states x ≡ Some p → ((x ≡ 0) × (p ≡ state 0 1)) ⊎ ((x ≡ 1) × (p ≡ state 1 0))
+state_at zero p e = inl (refl, (cc))
+state_at (suc zero) p e = inr (refl, (cc))
+state_at (suc (suc x)) p e = absurd (let no : None ≡ Some p = e in cc)
+
+router_at : (x : ℕ) (r : RouterSettings) → slice_get scenario.routers x ≡ Some r → ((x ≡ 0) × (r ≡ settings 0)) ⊎ ((x ≡ 1) × (r ≡ settings 1))
+router_at zero r e = inl (refl, (cc))
+router_at (suc zero) r e = inr (refl, (cc))
+router_at (suc (suc x)) r e = absurd (let no : None ≡ Some r = e in cc)
+
+settings_are : (x : ℕ) (r : RouterSettings) → slice_get scenario.routers x ≡ Some r → r ≡ settings x
+settings_are x r at = elim (router_at x r at) [
+  | inl e ↦ (let P : ℕ → Type 0 = λ b. r ≡ settings b in subst P (sym e.0) e.1)
+  | inr e ↦ (let P : ℕ → Type 0 = λ b. r ≡ settings b in subst P (sym e.0) e.1)
+]
+
+side : Side 0 1
+side = record {
+  sx = record { is = refl };
+  sy = record { is = refl };
+  rx = refl;
+  ry = refl;
+  out = (arc 0 1, (0, omega arith, refl), refl, refl, refl, refl, refl);
+  home = (arc 1 0, (1, omega arith, refl), refl, refl, refl, refl, refl);
+  ne = zero_one;
+  from_x = λ i z j m way. (let (a, b, c, d) = leads 0 i z j m way in
+      (a, elim d [ inl e ↦ e.1 | inr e ↦ absurd (zero_one e.0) ], b, c));
+  from_y = λ i z j m way. (let (a, b, c, d) = leads 1 i z j m way in
+      (a, elim d [ inl e ↦ absurd (zero_one (sym e.0)) | inr e ↦ e.1 ], b, c));
+  at_y = λ q at. elim (state_at 1 q at.is) [ inl e ↦ absurd (zero_one (sym e.0)) | inr e ↦ e.1 ];
+  at_x = λ q at. elim (state_at 0 q at.is) [ inl e ↦ e.1 | inr e ↦ absurd (zero_one e.0) ];
+  routers = λ w r is. elim (router_at w r is) [ inl e ↦ inl e.0 | inr e ↦ inr e.0 ];
+}
+
+scenario_sound : IsSoundScenario scenario
+scenario_sound = record {
+  addresses = λ x y i j r q a at to on from.
+      (let P : RouterSettings → Type 0 = λ b. HasAddressOn b i a in
+      let Q : RouterSettings → Type 0 = λ b. HasAddressOn b j a in
+      let (e, f) = address_on x i a (subst P (settings_are x r at) on) in
+      let (g, h) = address_on y j a (subst Q (settings_are y q to) from) in
+      let same : suc x ≡ suc y = ap (λ (b : Addr4). b.0) (sym f ∙ h) in
+      (omega arith, e ∙ sym g));
+  networks = λ x y c net a att is e.
+      (let (r, at, t, stands, _, _) = att in
+      let P : RouterSettings → Type 0 = λ b. Contains b.attached t in
+      none_of t (subst P (settings_are x r at) stands));
+  originators = λ x r at.
+      (let P : RouterSettings → Type 0 = λ b. IsOriginator b (addr x) in
+      (addr x, subst P (sym (settings_are x r at)) (face x, refl, refl)));
+  ends = λ x i y j m way. elim ((leads x i y j m way).3) [
+    | inl e ↦ rw (e.0, e.1) (zero_one, (settings 0, refl), (settings 1, refl))
+    | inr e ↦ rw (e.0, e.1) ((λ f. zero_one (sym f)), (settings 1, refl), (settings 0, refl))
+  ];
+  arcs = λ x i y j m n way other. (let a : m ≡ one = (leads x i y j m way).2 in let b : n ≡ one = (leads x i y j n other).2 in a ∙ sym b);
+}
+
+pub settled_pair : IsSettledNetwork scenario states 5
+settled_pair = record {
+  scenario = scenario_sound;
+  routers = record {
+    settings = routers_of;
+    all = λ x r at. elim (router_at x r at) [
+      | inl e ↦ (state 0 1, record { is = (let P : ℕ → Type 0 = λ b. slice_get states b ≡ Some (state 0 1) in subst P (sym e.0) refl) })
+      | inr e ↦ (state 1 0, record { is = (let P : ℕ → Type 0 = λ b. slice_get states b ≡ Some (state 1 0) in subst P (sym e.0) refl) })
+    ];
+  };
+  sound = λ x p at. (let P : State → Type 0 = λ b. Sound b in elim (state_at x p at.is) [
+    | inl e ↦ subst P (sym e.1) (sound 0 1 zero_one)
+    | inr e ↦ subst P (sym e.1) (sound 1 0 (λ f. zero_one (sym f)))
+  ]);
+  moment = λ x p at. (let P : State → Type 0 = λ b. b.last ≡ 5 in elim (state_at x p at.is) [
+    | inl e ↦ subst P (sym e.1) refl
+    | inr e ↦ subst P (sym e.1) refl
+  ]);
+  settled = λ x p at. elim (state_at x p at.is) [
+    | inl e ↦ rw (e.0, e.1) (settled_at side)
+    | inr e ↦ rw (e.0, e.1) (settled_at (turned side))
+  ];
+}
+
+-- each has a row of the other's address
+row_of_other : (x : ℕ) (p : State) → At states x p → (y : ℕ) (a : Addr4) → AddressOf scenario y a → (x ≡ y → ⊥) → (c : ℕ) × HasRow p (host a) c
+row_of_other x p at y a of_y ne =
+    let (r, is, (j, on)) = of_y in
+    let P : RouterSettings → Type 0 = λ b. HasAddressOn b j a in
+    let (_, same) = address_on y j a (subst P (settings_are y r is) on) in
+    let Q : Addr4 → Type 0 = λ b. (c : ℕ) × HasRow p (host b) c in
+    subst Q (sym same) (elim (state_at x p at.is) [
+      | inl e ↦ elim (router_at y r is) [
+        | inl f ↦ absurd (ne (e.0 ∙ sym f.0))
+        | inr f ↦ rw (e.1, f.0) (1, (route 0 1, here _ [], refl, refl))
+      ]
+      | inr e ↦ elim (router_at y r is) [
+        | inl f ↦ rw (e.1, f.0) (1, (route 1 0, here _ [], refl, refl))
+        | inr f ↦ absurd (ne (e.0 ∙ sym f.0))
+      ]
+    ])
+
+pub two_settle : TwoRoutersSettle
+two_settle = (scenario, states, 5, settled_pair, refl, (0, 0, one, one, joins side), row_of_other)

@@ -1,0 +1,88 @@
+-- Between the worked HELLOs nothing is expired.
+use Rattle.std.proofs.Common.{◌≡◌, ℕ, zero, suc, ◌+◌, inl, inr, refl, sym, ap, subst, [], Contains, Some, None}
+use Rattle.std.specs.Prelude.{Bool, true, false, cond, ◌&&◌}
+use Rattle.mesh_atoms.specs.declared.addr.Addr4.{Addr4}
+use Rattle.mesh_atoms.specs.declared.tuples.LinkKey.{LinkKey}
+use Rattle.mesh_atoms.specs.declared.tuples.TwoHopKey.{TwoHopKey}
+use Rattle.mesh_atoms.specs.declared.tuples.Link.{Link}
+use Rattle.mesh_atoms.specs.declared.tuples.TwoHop.{TwoHop}
+use Rattle.mesh_atoms.specs.declared.tuples.Neighbour.{Neighbour}
+use Rattle.mesh_atoms.specs.declared.tuples.Lost.{Lost}
+use Rattle.mesh_atoms.specs.declared.settings.RouterSettings.{RouterSettings}
+use Rattle.mesh_atoms.specs.Base.{HasDistinctKeys, base_of, addr_eq, link_eq, two_hop_eq}
+use Rattle.mesh_atoms.specs.Live.{IsSymmetricAddress, SettlesLost, Back, Stays, is_symmetric_at}
+use Rattle.mesh_atoms.specs.State.{link_at, two_hop_at, neighbour_at}
+use Rattle.mesh_laws.specs.WorkedHello.{peer, third, five, link, neighbour, after}
+use Rattle.mesh_paths.proofs.SettledDecisions.{same_address}
+use Rattle.mesh_paths.proofs.ShortLists.{only, here, single_distinct, empty_distinct}
+use Rattle.mesh_atoms.specs.Live.{LiveNeighbourhood, Restores, trim, is_symmetric_entry}
+use Rattle.mesh_atoms.specs.Base.{if_live}
+use Rattle.mesh_laws.proofs.WorkedNeighbourhood.{neighbour_found, by_links}
+
+abbrev beyond : TwoHop
+beyond = record { metric_in = Some five; metric_out = None }
+
+pub was_symmetric_address : (a : Addr4) → IsSymmetricAddress after a → a ≡ peer
+was_symmetric_address a is =
+    let (o, n, until, at, _, has) = is in
+    let same : n ≡ neighbour = ap (λ (e : Neighbour × ℕ). e.0) (neighbour_found o (n, until) at).1 in
+    let P : Neighbour → Type 0 = λ b. Contains b.addrs a in
+    only peer a (subst P same has)
+
+pub peer_symmetric : IsSymmetricAddress after peer
+peer_symmetric = (peer, neighbour, 98504, refl, refl, here peer [])
+
+pub live : (settings : RouterSettings) → LiveNeighbourhood settings 300 after after
+live settings = record {
+  tables = record {
+    links = links;
+    two_hops = two_hops;
+    neighbours = single_distinct addr_eq peer (neighbour, 98504);
+    losts = empty_distinct Lost addr_eq;
+  };
+  interfaces = refl;
+  two_hop_interfaces = refl;
+  links = live_links;
+  two_hops = live_two_hops;
+  neighbours = live_neighbours;
+  losts = live_losts;
+}
+  where
+    links : (i : ℕ) → HasDistinctKeys link_eq (base_of after.links i)
+    links zero = single_distinct link_eq (record { addr = peer }) (link, 98504)
+    links (suc i) = empty_distinct Link link_eq
+
+    two_hops : (i : ℕ) → HasDistinctKeys two_hop_eq (base_of after.two_hops i)
+    two_hops zero = single_distinct {V = TwoHop} two_hop_eq (record { link = record { addr = peer }; addr = third }) (beyond, 49352)
+    two_hops (suc i) = empty_distinct TwoHop two_hop_eq
+
+    live_links : (i : ℕ) (key : LinkKey) → link_at after i key ≡ trim 300 (if_live 300 (link_at after i key))
+    live_links zero key = by_case (addr_eq key.addr peer)
+      where
+        by_case : (b : Bool) → cond b (Some (link, 98504)) None ≡ trim 300 (if_live 300 (cond b (Some (link, 98504)) None))
+        by_case true = refl
+        by_case false = refl
+    live_links (suc i) key = refl
+
+    live_two_hops : (i : ℕ) (key : TwoHopKey) → two_hop_at after i key ≡ cond (is_symmetric_at after 300 i key.link) (if_live 300 (two_hop_at after i key)) None
+    live_two_hops zero key = by_case (addr_eq key.link.addr peer) (addr_eq key.addr third)
+      where
+        by_case : (b c : Bool) → cond (b && c) (Some (beyond, 49352)) None
+            ≡ cond (is_symmetric_entry 300 (cond b (Some (link, 98504)) None)) (if_live 300 (cond (b && c) (Some (beyond, 49352)) None)) None
+        by_case true true = refl
+        by_case true false = refl
+        by_case false c = refl
+    live_two_hops (suc i) key = refl
+
+    live_neighbours : (o : Addr4) → Restores after 300 (neighbour_at after o) (neighbour_at after o)
+    live_neighbours o = by_case (addr_eq o peer)
+      where
+        by_case : (b : Bool) → Restores after 300 (cond b (Some (neighbour, 98504)) None) (cond b (Some (neighbour, 98504)) None)
+        by_case true = record { addrs = refl; willing = refl; selector = refl; by_links = by_links 300 refl }
+        by_case false = refl
+
+    live_losts : (a : Addr4) → SettlesLost (IsSymmetricAddress after a) (IsSymmetricAddress after a) (300 + settings.times.neighbour_hold) None None
+    live_losts a = elim (same_address a peer) [
+      | inl e ↦ Back (let P : Addr4 → Type 0 = λ b. IsSymmetricAddress after b in subst P (sym e) peer_symmetric) refl
+      | inr other ↦ Stays (λ was. other (was_symmetric_address a was)) (λ is. other (was_symmetric_address a is)) refl
+    ]

@@ -1,0 +1,257 @@
+-- The second worked HELLO is taken.
+use Rattle.std.proofs.Common.{◌≡◌, ◌≢◌, ℕ, zero, suc, ◌+◌, ◌<◌, ◌⊎◌, inl, inr, refl, sym, ◌∙◌, ap, subst, arith, List, [], ◌∷◌, Contains, slice_index_or, length, Some, None, IsTrue}
+use Rattle.std.specs.Prelude.{true, false}
+use Rattle.std.specs.List.{IsDistinct}
+use Rattle.mesh_atoms.specs.declared.addr.Addr4.{Addr4}
+use Rattle.mesh_atoms.specs.declared.addr.NetAddr.{NetAddr}
+use Rattle.mesh_atoms.specs.declared.metric.Metric.{Metric}
+use Rattle.mesh_atoms.specs.declared.hello.LocalIf.{LocalIf}
+use Rattle.mesh_atoms.specs.declared.hello.LocalIf.TheVariants.{This, Other}
+use Rattle.mesh_atoms.specs.declared.hello.LinkStatus.TheVariants.{Heard}
+use Rattle.mesh_atoms.specs.declared.hello.HelloRow.{HelloRow}
+use Rattle.mesh_atoms.specs.declared.tuples.LinkKey.{LinkKey}
+use Rattle.mesh_atoms.specs.declared.tuples.TwoHopKey.{TwoHopKey}
+use Rattle.mesh_atoms.specs.declared.tuples.Link.{Link}
+use Rattle.mesh_atoms.specs.declared.tuples.TwoHop.{TwoHop}
+use Rattle.mesh_atoms.specs.declared.tuples.Neighbour.{Neighbour}
+use Rattle.mesh_atoms.specs.declared.tuples.Lost.{Lost}
+use Rattle.mesh_atoms.specs.declared.settings.Interface.{Interface}
+use Rattle.mesh_atoms.specs.declared.settings.SenderMetric.{SenderMetric}
+use Rattle.mesh_atoms.specs.declared.settings.RouterSettings.{RouterSettings}
+use Rattle.mesh_atoms.specs.AfterHello.{AfterHello, renewed, Remains}
+use Rattle.mesh_atoms.specs.Base.{HasDistinctKeys, base_of, addr_eq, link_eq, two_hop_eq}
+use Rattle.mesh_atoms.specs.HelloTold.{Told, Tells, HasRowOf, TellsLocal, IsSending, IsListed, IsHandedIn, LooksAt}
+use Rattle.mesh_atoms.specs.Live.{HasSymmetricOf, IsByLinks, IsSymmetricAddress, SettlesLost, Stays}
+use Rattle.mesh_atoms.specs.State.{link_at, two_hop_at, neighbour_at, lost_at, is_symmetric, HasAddress, HasAddressOn}
+use Rattle.mesh_atoms.specs.TakesHello.{IsOwn, Local, Originator, Sender, IsFault, IsHeld, IsFullOfAddresses, FitsTwoHops, Takes}
+use Rattle.mesh_atoms.proofs.Lookups.{same_addr}
+use Rattle.mesh_laws.specs.WorkedHello.{peer, me, one, own_row, IsReceiver, link, neighbour, after}
+use Rattle.mesh_paths.proofs.SettledDecisions.{same_address}
+use Rattle.mesh_paths.proofs.ShortLists.{none_of, only, here, found_one, none_some, single_distinct, empty_distinct, few_of_one}
+use Rattle.mesh_atoms.specs.Live.{Gone, Restores}
+use Rattle.mesh_atoms.specs.AfterHello.{Stood}
+use Rattle.mesh_atoms.specs.declared.hello.LinkStatus.{LinkStatus}
+use Rattle.mesh_atoms.specs.declared.hello.LinkStatus.TheVariants.{Lost as Down, Symmetric}
+use Rattle.mesh_atoms.specs.HelloTold.{TellsMe}
+use Rattle.mesh_laws.specs.WorkedHello.{lost_row, later_hello, heard_link, heard_neighbour, later, SecondHelloIsTaken}
+use Rattle.mesh_laws.proofs.WorkedHello.{told, peer_not_me, face_is, mine_is, mine}
+use Rattle.mesh_laws.proofs.WorkedNeighbourhood.{same_peer, no_link, no_neighbour, no_two_hop, kept_none, either_none, neighbour_found}
+use Rattle.mesh_laws.proofs.WorkedExpiry.{was_symmetric_address, peer_symmetric, live}
+
+abbrev told_loss : Told
+told_loss = record told { shown = record told.shown { status = Some Down; link_out = None } }
+
+-- Rows
+
+later_row : (a : Addr4) (row : HelloRow) → HasRowOf later_hello a row → ((row ≡ own_row) × (a ≡ peer)) ⊎ ((row ≡ lost_row) × (a ≡ me))
+later_row a row has = at has.0.0 has.0.1 has.0.2
+  where
+    address : {other : HelloRow} → row ≡ other → a ≡ other.addr.addr
+    address e = ap (λ (n : NetAddr). n.addr) (sym has.1 ∙ ap (λ (r : HelloRow). r.addr) e)
+
+    at : (k : ℕ) → k < length later_hello.rows → slice_index_or later_hello.rows k row ≡ row → ((row ≡ own_row) × (a ≡ peer)) ⊎ ((row ≡ lost_row) × (a ≡ me))
+    at zero l e = inl (sym e, address (sym e))
+    at (suc zero) l e = inr (sym e, address (sym e))
+    at (suc (suc k)) l e = absurd (omega (arith, l))
+
+shows_local : (a : Addr4) (local : LocalIf) → TellsLocal later_hello a local → (a ≡ peer) × (local ≡ This)
+shows_local a local shows = elim (later_row a shows.0 shows.1) [
+  | inl own ↦ (own.1, (let g : Some This ≡ Some local = sym (ap (λ (r : HelloRow). r.local) own.0) ∙ shows.2 in (cc)))
+  | inr lost ↦ none_some local (sym (ap (λ (r : HelloRow). r.local) lost.0) ∙ shows.2)
+]
+
+no_flooding : (a : Addr4) (row : HelloRow) → HasRowOf later_hello a row → IsTrue row.mpr.flooding → ⊥
+no_flooding a row has chosen = elim (later_row a row has) [
+  | inl own ↦ absurd (let f : false ≡ true = sym (ap (λ (r : HelloRow). r.mpr.flooding) own.0) ∙ chosen in cc)
+  | inr lost ↦ absurd (let f : false ≡ true = sym (ap (λ (r : HelloRow). r.mpr.flooding) lost.0) ∙ chosen in cc)
+]
+
+no_routing : (a : Addr4) (row : HelloRow) → HasRowOf later_hello a row → IsTrue row.mpr.routing → ⊥
+no_routing a row has chosen = elim (later_row a row has) [
+  | inl own ↦ absurd (let f : false ≡ true = sym (ap (λ (r : HelloRow). r.mpr.routing) own.0) ∙ chosen in cc)
+  | inr lost ↦ absurd (let f : false ≡ true = sym (ap (λ (r : HelloRow). r.mpr.routing) lost.0) ∙ chosen in cc)
+]
+
+no_metric : (a : Addr4) (row : HelloRow) (m : Metric) → HasRowOf later_hello a row → row.metrics.link_in ≡ Some m → ⊥
+no_metric a row m has f = elim (later_row a row has) [
+  | inl own ↦ none_some m (sym (ap (λ (r : HelloRow). r.metrics.link_in) own.0) ∙ f)
+  | inr lost ↦ none_some m (sym (ap (λ (r : HelloRow). r.metrics.link_in) lost.0) ∙ f)
+]
+
+-- The neighbourhood
+
+later_link : (i : ℕ) (key : LinkKey) (e : Link × ℕ) → link_at later i key ≡ Some e → (i ≡ 0) × (key.addr ≡ peer) × (e ≡ (heard_link, 98604))
+later_link zero key e h = let (same, is) = found_one link_eq (record { addr = peer }) key (heard_link, 98604) e h in (refl, same_addr key.addr peer same, is)
+later_link (suc i) key e h = none_some e h
+
+no_later_link : (j : ℕ) (key : LinkKey) → ((j ≢ 0) ⊎ (key ≢ record { addr = peer })) → link_at later j key ≡ None
+no_later_link zero key other = elim other [
+  | inl ne ↦ absurd (ne refl)
+  | inr ne ↦
+      let off : addr_eq key.addr peer ≡ false = same_peer key.addr (λ e. ne (ap (λ (a : Addr4). let k : LinkKey = record { addr = a } in k) e)) in
+      rw off refl
+]
+no_later_link (suc j) key other = refl
+
+none_symmetric : (l : Link) → HasSymmetricOf later 300 (peer ∷ []) l → ⊥
+none_symmetric l has =
+    let (i, key, until, (_, at), late) = has in
+    let same : l ≡ heard_link = ap (λ (e : Link × ℕ). e.0) (later_link i key (l, until) at).2 in
+    let P : Link → Type 0 = λ b. is_symmetric b 300 ≡ true in
+    let no : false ≡ true = subst P same late in
+    absurd (cc)
+
+by_heard_links : IsByLinks later 300 heard_neighbour 98604
+by_heard_links = record {
+  latest = (0, record { addr = peer }, heard_link, (here peer [], refl));
+  no_later = λ i key l u has. (let same : u ≡ 98604 = ap (λ (e : Link × ℕ). e.1) (later_link i key (l, u) has.1).2 in omega arith);
+  symmetric = ((λ e. absurd (cc)), (λ given. absurd (none_symmetric given.0 given.1)));
+  metric_in = λ m given. none_symmetric given.0 given.1;
+  metric_out = λ m given. none_symmetric given.0 given.1;
+}
+
+no_later_two_hop : (j : ℕ) (key : TwoHopKey) → two_hop_at later j key ≡ None
+no_later_two_hop zero key = refl
+no_later_two_hop (suc j) key = refl
+
+later_peer : (o : Addr4) (e : Neighbour × ℕ) → neighbour_at later o ≡ Some e → e ≡ (heard_neighbour, 98604)
+later_peer o e h = (found_one addr_eq peer o (heard_neighbour, 98604) e h).1
+
+-- no address is a symmetric neighbour's
+no_symmetric_address : (a : Addr4) → IsSymmetricAddress later a → ⊥
+no_symmetric_address a is =
+    let (o, n, until, at, late, _) = is in
+    let same : n ≡ heard_neighbour = ap (λ (e : Neighbour × ℕ). e.0) (later_peer o (n, until) at) in
+    let P : Neighbour → Type 0 = λ b. IsTrue b.symmetric in
+    let no : false ≡ true = subst P same late in
+    absurd (cc)
+
+module _ (settings : RouterSettings) (r : IsReceiver settings) where
+  my_row_is : (status : LinkStatus) → TellsMe settings 0 later_hello status → status ≡ Down
+  my_row_is status shows =
+      let (a, row, on, has, f) = shows in
+      elim (later_row a row has) [
+        | inl own ↦ absurd (peer_not_me (sym own.1 ∙ mine_is settings r 0 a on))
+        | inr lost ↦ (let g : Some Down ≡ Some status = sym (ap (λ (b : HelloRow). b.link) lost.0) ∙ f in (cc))
+      ]
+
+  tells_loss : Tells settings 0 peer later_hello told_loss
+  tells_loss = record {
+    sending = (
+      (λ i j d less within. absurd (omega (arith, less, within))),
+      (λ a. (
+        (λ c. (let e = only peer a c in let P : Addr4 → Type 0 = λ b. IsSending later_hello peer b in subst P (sym e) (inl (own_row, ((0, omega arith, refl), refl), refl)))),
+        (λ is. elim is [
+          | inl shows ↦ (let P : Addr4 → Type 0 = λ b. Contains (peer ∷ []) b in subst P (sym (shows_local a This shows).0) (here peer []))
+          | inr other ↦ (let P : Addr4 → Type 0 = λ b. Contains (peer ∷ []) b in subst P (sym other.0) (here peer []))
+        ]),
+      )),
+    );
+    least = refl;
+    listed = (
+      (λ i j d less within. absurd (omega (arith, less, within))),
+      (λ a. (
+        (λ c. (let e = only peer a c in let P : Addr4 → Type 0 = λ b. IsListed later_hello peer b in subst P (sym e) (inl (inl (own_row, ((0, omega arith, refl), refl), refl))))),
+        (λ is. elim is [
+          | inl (inl shows) ↦ (let P : Addr4 → Type 0 = λ b. Contains (peer ∷ []) b in subst P (sym (shows_local a This shows).0) (here peer []))
+          | inl (inr other) ↦ (let P : Addr4 → Type 0 = λ b. Contains (peer ∷ []) b in subst P (sym other.0) (here peer []))
+          | inr shows ↦ (let P : Addr4 → Type 0 = λ b. Contains (peer ∷ []) b in subst P (sym (shows_local a Other shows).0) (here peer []))
+        ]),
+      )),
+    );
+    originator = inl refl;
+    willing = refl;
+    validity = refl;
+    status = (
+      (me, lost_row, mine settings r, ((1, omega arith, refl), refl), refl),
+      (λ shows. absurd (let e : Heard ≡ Down = my_row_is Heard shows in cc)),
+      (λ shows. absurd (let e : Symmetric ≡ Down = my_row_is Symmetric shows in cc)),
+    );
+    link_in = λ face at.
+        (let P : Interface → Type 0 = λ b. IsHandedIn b peer one in
+        subst P (sym (face_is settings r 0 face at).1) (inr (
+          (λ entry stands. absurd (let P : List SenderMetric → Type 0 = λ b. Contains b entry in none_of entry (subst P r.senders stands))),
+          sym r.metric,
+        )));
+    link_out = λ m given. no_metric given.0 given.1 m given.3 given.4;
+    flooding = ((λ e. absurd (cc)), (λ given. absurd (no_flooding given.0 given.1 given.3 given.4)));
+    routing = ((λ e. absurd (cc)), (λ given. absurd (no_routing given.0 given.1 given.3 given.4)));
+  }
+
+  no_fault : IsFault settings peer later_hello None
+  no_fault = (not_own, (λ nameless. absurd (let f : Some peer ≡ None = nameless.0 in cc)))
+    where
+      not_own : IsOwn (HasAddress settings) peer later_hello → ⊥
+      not_own (Local a local has shows) = peer_not_me (sym (shows_local a local shows).0 ∙ mine_is settings r has.0 a has.1)
+      not_own (Originator a has e) = peer_not_me ((let same : peer ≡ a = cc in same) ∙ mine_is settings r has.0 a has.1)
+      not_own (Sender has none) = peer_not_me (mine_is settings r has.0 peer has.1)
+
+  not_full : IsFullOfAddresses after told_loss → ⊥
+  not_full many =
+      let (some, distinct, held, more) = many in
+      few_of_one peer some distinct (λ a c. is_peer a (held a c)) more
+    where
+      is_peer : (a : Addr4) → (IsHeld after a ⊎ (Contains told_loss.listed a ⊎ (a ≡ told_loss.originator))) → a ≡ peer
+      is_peer a held = elim held [
+        | inl (inl originator) ↦ (neighbour_found a originator.0 originator.1).0
+        | inl (inr (inl one_of)) ↦
+            let (o, n, until, at, has) = one_of in
+            let same : n ≡ neighbour = ap (λ (e : Neighbour × ℕ). e.0) (neighbour_found o (n, until) at).1 in
+            let P : Neighbour → Type 0 = λ b. Contains b.addrs a in
+            only peer a (subst P same has)
+        | inl (inr (inr lost)) ↦ none_some lost.0 lost.1
+        | inr (inl listed) ↦ only peer a listed
+        | inr (inr e) ↦ e
+      ]
+
+  none_looked_at : (a : Addr4) (row : HelloRow) → LooksAt settings told_loss later_hello a row → ⊥
+  none_looked_at a row looks = elim (later_row a row looks.stands) [
+    | inl own ↦ looks.not_theirs (let P : Addr4 → Type 0 = λ b. Contains (peer ∷ []) b in subst P (sym own.1) (here peer []))
+    | inr lost ↦ looks.not_mine (0, (let P : Addr4 → Type 0 = λ b. HasAddressOn settings 0 b in subst P (sym lost.1) (mine settings r)))
+  ]
+
+  fits : FitsTwoHops settings 0 after told_loss later_hello
+  unfolding IsDistinct
+  fits = (0, ([], tt, refl, (λ a. ((λ c. absurd (none_of a c)), (λ given. absurd (none_looked_at a given.0 given.1))))), omega arith)
+
+  lost_settled : (a : Addr4) → SettlesLost (IsSymmetricAddress after a) (IsSymmetricAddress later a) (300 + settings.times.neighbour_hold) (lost_at after a) (lost_at later a)
+  lost_settled a = elim (same_address a peer) [
+    | inl e ↦
+        let P : Addr4 → Type 0 = λ b. SettlesLost (IsSymmetricAddress after b) (IsSymmetricAddress later b) (300 + settings.times.neighbour_hold) (lost_at after b) (lost_at later b) in
+        subst P (sym e) (Gone peer_symmetric (no_symmetric_address peer) (let Q : ℕ → Type 0 = λ hold. lost_at later peer ≡ Some (record {}, 300 + hold) in subst Q (sym r.neighbour_hold) refl))
+    | inr other ↦ Stays (λ was. other (was_symmetric_address a was)) (no_symmetric_address a) (let off : addr_eq a peer ≡ false = same_peer a other in rw off refl)
+  ]
+
+  after_loss : AfterHello settings 300 0 told_loss later_hello after later
+  after_loss = record {
+    tables = record {
+      links = links;
+      two_hops = two_hops;
+      neighbours = single_distinct addr_eq peer (heard_neighbour, 98604);
+      losts = single_distinct {V = Lost} addr_eq peer (record {}, 49452);
+    };
+    interfaces = refl;
+    two_hop_interfaces = refl;
+    link = ((link, 98504), Stood (link, 98504) refl refl, (let P : ℕ → Type 0 = λ hold. link_at later 0 (record { addr = peer }) ≡ Some (renewed told_loss.shown hold 300 (link, 98504)) in subst P (sym r.link_hold) refl));
+    other_links = λ j key other. kept_none _ _ _ (no_link j key other) (no_later_link j key other);
+    neighbour = record { addrs = refl; willing = refl; selector = refl; by_links = by_heard_links };
+    other_neighbours = λ o other. Remains (λ e h m. none_some e (sym (no_neighbour o other) ∙ h)) (restored o other);
+    two_hops = λ is a. absurd (let f : false ≡ true = is in cc);
+    no_two_hops = λ off a. refl;
+    other_two_hops = λ j key other. no_later_two_hop j key ∙ sym (either_none _ _ (no_two_hop j key other));
+    losts = lost_settled;
+  }
+    where
+      links : (i : ℕ) → HasDistinctKeys link_eq (base_of later.links i)
+      links zero = single_distinct link_eq (record { addr = peer }) (heard_link, 98604)
+      links (suc i) = empty_distinct Link link_eq
+
+      two_hops : (i : ℕ) → HasDistinctKeys two_hop_eq (base_of later.two_hops i)
+      two_hops zero = empty_distinct TwoHop two_hop_eq
+      two_hops (suc i) = empty_distinct TwoHop two_hop_eq
+
+      restored : (o : Addr4) → (o ≡ peer → ⊥) → Restores later 300 (neighbour_at after o) (neighbour_at later o)
+      restored o other = let off : addr_eq o peer ≡ false = same_peer o other in rw off refl
+
+pub second_hello : SecondHelloIsTaken
+second_hello settings r = (live settings, Takes told_loss (no_fault settings r) (tells_loss settings r) (not_full settings r) (fits settings r) (after_loss settings r))

@@ -1,0 +1,160 @@
+-- The neighbourhood after the worked HELLO.
+use Rattle.std.proofs.Common.{◌≡◌, ◌≢◌, ℕ, zero, suc, ◌+◌, ◌≤◌, ◌⊎◌, inl, inr, refl, sym, ◌∙◌, ap, subst, arith, [], ◌∷◌, Contains, Option, Some, None}
+use Rattle.std.specs.Prelude.{Bool, true, false, cond}
+use Rattle.mesh_atoms.specs.declared.addr.Addr4.{Addr4}
+use Rattle.mesh_atoms.specs.declared.metric.Metric.{Metric}
+use Rattle.mesh_atoms.specs.declared.tuples.LinkKey.{LinkKey}
+use Rattle.mesh_atoms.specs.declared.tuples.TwoHopKey.{TwoHopKey}
+use Rattle.mesh_atoms.specs.declared.tuples.Link.{Link}
+use Rattle.mesh_atoms.specs.declared.tuples.TwoHop.{TwoHop}
+use Rattle.mesh_atoms.specs.declared.tuples.Neighbour.{Neighbour}
+use Rattle.mesh_atoms.specs.declared.tuples.Lost.{Lost}
+use Rattle.mesh_atoms.specs.declared.settings.RouterSettings.{RouterSettings}
+use Rattle.mesh_atoms.specs.AfterHello.{AfterHello, Made, made, renewed, Remains, New_link, TellsTwoHop, By_row, By_none}
+use Rattle.mesh_atoms.specs.Words.{IsKept}
+use Rattle.mesh_atoms.specs.Base.{HasDistinctKeys, base_of, addr_eq, link_eq, two_hop_eq}
+use Rattle.mesh_atoms.specs.Codes.{metric_value}
+use Rattle.mesh_atoms.specs.Live.{HasSymmetricOf, IsByLinks, IsSymmetricAddress, SettlesLost, Back, Stays}
+use Rattle.mesh_atoms.specs.State.{link_at, two_hop_at, neighbour_at, is_symmetric}
+use Rattle.mesh_atoms.specs.TakesHello.{Takes}
+use Rattle.mesh_atoms.proofs.Lookups.{same_addr}
+use Rattle.mesh_laws.specs.WorkedHello.{peer, third, one, three, five, third_row, hello, IsReceiver, nothing, link, neighbour, after, FirstHelloIsTaken}
+use Rattle.mesh_paths.proofs.SettledDecisions.{same_address}
+use Rattle.mesh_paths.proofs.ShortLists.{only, here, found_one, none_some, single_distinct, empty_distinct}
+use Rattle.mesh_laws.proofs.WorkedHello.{told, looks_at, looked_at, tells, no_fault, not_full, fits}
+
+pub same_peer : (a : Addr4) → (a ≡ peer → ⊥) → addr_eq a peer ≡ false
+same_peer a other = by_case (addr_eq a peer) refl
+  where
+    by_case : (b : Bool) → addr_eq a peer ≡ b → b ≡ false
+    by_case true h = absurd (other (same_addr a peer h))
+    by_case false h = refl
+
+pub link_found : (i : ℕ) (key : LinkKey) (e : Link × ℕ) → link_at after i key ≡ Some e → (i ≡ 0) × (key.addr ≡ peer) × (e ≡ (link, 98504))
+link_found zero key e h = let (same, is) = found_one link_eq (record { addr = peer }) key (link, 98504) e h in (refl, same_addr key.addr peer same, is)
+link_found (suc i) key e h = none_some e h
+
+pub no_link : (j : ℕ) (key : LinkKey) → ((j ≢ 0) ⊎ (key ≢ record { addr = peer })) → link_at after j key ≡ None
+no_link zero key other = elim other [
+  | inl ne ↦ absurd (ne refl)
+  | inr ne ↦
+      let off : addr_eq key.addr peer ≡ false = same_peer key.addr (λ e. ne (ap (λ (a : Addr4). let k : LinkKey = record { addr = a } in k) e)) in
+      rw off refl
+]
+no_link (suc j) key other = refl
+
+pub stood_nothing : (j : ℕ) (key : LinkKey) → link_at nothing j key ≡ None
+stood_nothing zero key = refl
+stood_nothing (suc j) key = refl
+
+pub stood_no_two_hop : (j : ℕ) (key : TwoHopKey) → two_hop_at nothing j key ≡ None
+stood_no_two_hop zero key = refl
+stood_no_two_hop (suc j) key = refl
+
+pub no_neighbour : (o : Addr4) → (o ≡ peer → ⊥) → neighbour_at after o ≡ None
+no_neighbour o other = let off : addr_eq o peer ≡ false = same_peer o other in rw off refl
+
+pub no_two_hop : (j : ℕ) (key : TwoHopKey) → ((j ≢ 0) ⊎ (key.link ≢ record { addr = peer })) → two_hop_at after j key ≡ None
+no_two_hop zero key other = elim other [
+  | inl ne ↦ absurd (ne refl)
+  | inr ne ↦
+      let off : addr_eq key.link.addr peer ≡ false = same_peer key.link.addr (λ e. ne (ap (λ (a : Addr4). let k : LinkKey = record { addr = a } in k) e)) in
+      rw off refl
+]
+no_two_hop (suc j) key other = refl
+
+pub no_two_hop_of : (a : Addr4) → (a ≡ third → ⊥) → two_hop_at after 0 (record { link = record { addr = peer }; addr = a }) ≡ None
+no_two_hop_of a other = by_case (addr_eq a third) refl
+  where
+    by_case : (b : Bool) → addr_eq a third ≡ b → two_hop_at after 0 (record { link = record { addr = peer }; addr = a }) ≡ None
+    by_case true h = absurd (other (same_addr a third h))
+    by_case false h = rw h refl
+
+pub neighbour_found : (o : Addr4) (e : Neighbour × ℕ) → neighbour_at after o ≡ Some e → (o ≡ peer) × (e ≡ (neighbour, 98504))
+neighbour_found o e h = let (same, is) = found_one addr_eq peer o (neighbour, 98504) e h in (same_addr o peer same, is)
+
+pub symmetric_link : (now : ℕ) (l : Link) → HasSymmetricOf after now (peer ∷ []) l → l ≡ link
+symmetric_link now l has =
+    let (i, key, until, (_, at), _) = has in
+    ap (λ (e : Link × ℕ). e.0) (link_found i key (l, until) at).2
+
+pub link_symmetric : (now : ℕ) → is_symmetric link now ≡ true → HasSymmetricOf after now (peer ∷ []) link
+link_symmetric now late = (0, record { addr = peer }, 98504, (here peer [], refl), late)
+
+pub by_links : (now : ℕ) → is_symmetric link now ≡ true → IsByLinks after now neighbour 98504
+by_links now late = record {
+  latest = (0, record { addr = peer }, link, (here peer [], refl));
+  no_later = λ i key l u has. (let same : u ≡ 98504 = ap (λ (e : Link × ℕ). e.1) (link_found i key (l, u) has.1).2 in omega arith);
+  symmetric = ((λ _. (link, link_symmetric now late)), (λ _. refl));
+  metric_in = ((link, link_symmetric now late, refl), (λ m given. in_is m (ap (λ (l : Link). l.link_in) (symmetric_link now given.0 given.1)) given.2));
+  metric_out = ((link, link_symmetric now late, refl), (λ m given. out_is m (ap (λ (l : Link). l.link_out) (symmetric_link now given.0 given.1)) given.2));
+}
+  where
+    in_is : (m : Metric) {k : Metric} → k ≡ one → k ≡ m → metric_value one ≤ metric_value m
+    in_is m e f = let same : metric_value m ≡ metric_value one = ap metric_value (sym f ∙ e) in omega (arith, same)
+
+    out_is : (m : Metric) {o : Option Metric} → o ≡ Some three → o ≡ Some m → metric_value three ≤ metric_value m
+    out_is m e f = let k : three ≡ m = cc in let same : metric_value three ≡ metric_value m = ap metric_value k in omega (arith, same)
+
+pub kept_none : {A : Type 0} (P : A → Type 0) (old new : Option A) → old ≡ None → new ≡ None → IsKept P old new
+kept_none P None new e f = f
+kept_none P (Some a) new e f = none_some a (sym e)
+
+pub either_none : {A : Type 0} (b : Bool) (o : Option A) → o ≡ None → cond b o None ≡ None
+either_none true o e = e
+either_none false o e = refl
+
+module _ (settings : RouterSettings) (r : IsReceiver settings) where
+  pub two_hop_told : (a : Addr4) → TellsTwoHop settings told hello 49352 a None (two_hop_at after 0 (record { link = record { addr = peer }; addr = a }))
+  two_hop_told a = elim (same_address a third) [
+    | inl e ↦
+        let P : Addr4 → Type 0 = λ b. TellsTwoHop settings told hello 49352 b None (two_hop_at after 0 (record { link = record { addr = peer }; addr = b })) in
+        subst P (sym e) (By_row third_row (looks_at settings r) refl)
+    | inr other ↦ By_none (λ row looks. other (looked_at settings r a row looks)) (no_two_hop_of a other)
+  ]
+
+  pub lost_settled : (a : Addr4) → SettlesLost (IsSymmetricAddress nothing a) (IsSymmetricAddress after a) (200 + settings.times.neighbour_hold) None None
+  lost_settled a = elim (same_address a peer) [
+    | inl e ↦
+        let P : Addr4 → Type 0 = λ b. Contains (peer ∷ []) b in
+        Back (peer, neighbour, 98504, refl, refl, subst P (sym e) (here peer [])) refl
+    | inr other ↦ Stays (λ was. none_some (was.1, was.2) was.3) (λ is. other (of_peer is)) refl
+  ]
+    where
+      of_peer : IsSymmetricAddress after a → a ≡ peer
+      of_peer is =
+          let (o, n, until, at, _, has) = is in
+          let (_, same) = found_one addr_eq peer o (neighbour, 98504) (n, until) at in
+          let P : Neighbour → Type 0 = λ b. Contains b.addrs a in
+          only peer a (subst P (ap (λ (e : Neighbour × ℕ). e.0) same) has)
+
+  pub after_hello : AfterHello settings 200 0 told hello nothing after
+  after_hello = record {
+    tables = record {
+      links = links;
+      two_hops = two_hops;
+      neighbours = single_distinct addr_eq peer (neighbour, 98504);
+      losts = empty_distinct Lost addr_eq;
+    };
+    interfaces = refl;
+    two_hop_interfaces = refl;
+    link = (made told.shown 200, Made (λ e h. none_some e h), (let P : ℕ → Type 0 = λ hold. link_at after 0 (record { addr = peer }) ≡ Some (renewed told.shown hold 200 (made told.shown 200)) in subst P (sym r.link_hold) refl));
+    other_links = λ j key other. kept_none _ _ _ (stood_nothing j key) (no_link j key other);
+    neighbour = record { addrs = refl; willing = refl; selector = refl; by_links = by_links 200 refl };
+    other_neighbours = λ o other. Remains (λ e h m. none_some e h) (no_neighbour o other);
+    two_hops = λ is a. (None, New_link (λ e h. none_some e h), two_hop_told a);
+    no_two_hops = λ off. absurd (let f : true ≡ false = off in cc);
+    other_two_hops = λ j key other. no_two_hop j key other ∙ sym (either_none _ _ (stood_no_two_hop j key));
+    losts = lost_settled;
+  }
+    where
+      links : (i : ℕ) → HasDistinctKeys link_eq (base_of after.links i)
+      links zero = single_distinct link_eq (record { addr = peer }) (link, 98504)
+      links (suc i) = empty_distinct Link link_eq
+
+      two_hops : (i : ℕ) → HasDistinctKeys two_hop_eq (base_of after.two_hops i)
+      two_hops zero = single_distinct {V = TwoHop} two_hop_eq (record { link = record { addr = peer }; addr = third }) (record { metric_in = Some five; metric_out = None }, 49352)
+      two_hops (suc i) = empty_distinct TwoHop two_hop_eq
+
+pub first_hello : FirstHelloIsTaken
+first_hello settings r = Takes told (no_fault settings r) (tells settings r) (not_full settings r) (fits settings r) (after_hello settings r)

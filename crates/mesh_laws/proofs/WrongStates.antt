@@ -1,0 +1,169 @@
+-- The definitions of a router refuse wrong states.
+use Rattle.std.proofs.Common.{◌≡◌, ℕ, ◌+◌, ◌<◌, ◌⊎◌, inl, inr, refl, sym, ◌∙◌, ap, subst, arith, slice_index_or, length, Option, Some, None, IsTrue}
+use Rattle.std.specs.Prelude.{Bool, true, false, cond, nat_eq, nat_lt, not, ◌&&◌}
+use Rattle.std.proofs.lemmas.Bool.{eqb-true, eq-eqb, ltb-true}
+use Rattle.std.proofs.lemmas.Option.{slice_get_within, get_or_from_slice_get}
+use Rattle.mesh_atoms.specs.declared.addr.Addr4.{Addr4}
+use Rattle.mesh_atoms.specs.declared.addr.NetAddr.{NetAddr}
+use Rattle.mesh_atoms.specs.declared.hello.Hello.{Hello}
+use Rattle.mesh_atoms.specs.declared.tc.TcRow.{TcRow}
+use Rattle.mesh_atoms.specs.declared.tuples.Link.{Link}
+use Rattle.mesh_atoms.specs.declared.tuples.TwoHop.{TwoHop}
+use Rattle.mesh_atoms.specs.declared.tuples.AddressTuple.{AddressTuple}
+use Rattle.mesh_atoms.specs.declared.graphs.Route.{Route}
+use Rattle.mesh_atoms.specs.declared.settings.RouterSettings.{RouterSettings}
+use Rattle.mesh_atoms.specs.Advertised.{Gives, IsTcRow, Of_address, Of_network}
+use Rattle.mesh_atoms.specs.AfterHello.{AfterHello, StoodOn, Same_link, New_link, TellsTwoHop, By_row, By_none}
+use Rattle.mesh_atoms.specs.AfterTc.{Becomes, Given, Left, GivesAddress, if_not_dropped}
+use Rattle.mesh_atoms.specs.Base.{find, host, addr_eq, address_eq}
+use Rattle.mesh_atoms.specs.Hello.{Link_symmetric, Other_symmetric}
+use Rattle.mesh_atoms.specs.HelloTold.{Told}
+use Rattle.mesh_atoms.specs.Live.{is_symmetric_at}
+use Rattle.mesh_atoms.specs.Nodes.{IsBefore, IsAtMost}
+use Rattle.mesh_atoms.specs.State.{Neighbourhood, two_hop_at}
+use Rattle.mesh_laws.specs.WrongStates.{RefusesExpiredLink, RefusesOwnTwoHop, RefusesTwoHopOfEndedLink, RefusesTupleOfOldNumber, RefusesHiddenNeighbour, RefusesRowOfNoSelector, RefusesTwoHopOnHeardLink, RefusesNeighbourWithoutLink, RefusesDearerRelays, RefusesGreaterParent, RefusesRouteTwice, RefusesTupleTooMany}
+use Rattle.mesh_paths.proofs.SettledDecisions.{shows_link}
+
+some_none : {A B : Type 0} {o : Option A} {a : A} → o ≡ Some a → o ≡ None → B
+some_none e f = absurd (cc)
+
+true_false : {A : Type 0} {b : Bool} → b ≡ true → b ≡ false → A
+true_false e f = absurd (cc)
+
+-- a test that decides
+tested : (b : Bool) → (b ≡ true) ⊎ (b ≡ false)
+tested true = inl refl
+tested false = inr refl
+
+-- Expiry, HELLOs and TCs
+
+pub expired_link : RefusesExpiredLink
+expired_link settings now old new i key link until e stood late stands live =
+    let gone : nat_lt now until ≡ false = elim (tested (nat_lt now until)) [
+      | inl h ↦ absurd (omega (arith, late, ltb-true now until h))
+      | inr h ↦ h
+    ] in
+    some_none stands (live.links i key ∙ (rw (stood, gone) refl))
+
+-- the tuple of an address of the sending link
+after : {settings : RouterSettings} {now i : ℕ} {told : Told} {hello : Hello} {old new : Neighbourhood} (a : Addr4) (t : TwoHop × ℕ) →
+    two_hop_at new i (record { link = told.least; addr = a }) ≡ Some t → AfterHello settings now i told hello old new →
+    (stood : Option (TwoHop × ℕ)) × StoodOn old i told a stood
+    × TellsTwoHop settings told hello (now + told.shown.validity) a stood (two_hop_at new i (record { link = told.least; addr = a }))
+after {now = now} {i = i} {told = told} {new = new} a t stands hello = elim (tested (is_symmetric_at new now i told.least)) [
+  | inl h ↦ hello.two_hops h a
+  | inr h ↦ some_none stands (hello.no_two_hops h a)
+]
+
+pub own_two_hop : RefusesOwnTwoHop
+own_two_hop settings now i told hello old new a t mine none stands after_hello =
+    let (stood, from, tells) = after a t stands after_hello in
+    told_of tells (none_stood from)
+  where
+    none_stood : {stood : Option (TwoHop × ℕ)} → StoodOn old i told a stood → stood ≡ None
+    none_stood (Same_link e at same) = none
+    none_stood (New_link ended) = refl
+
+    told_of : {stood : Option (TwoHop × ℕ)} → TellsTwoHop settings told hello (now + told.shown.validity) a stood (two_hop_at new i (record { link = told.least; addr = a })) → stood ≡ None → ⊥
+    told_of (By_row row looks makes) f = looks.not_mine mine
+    told_of (By_none quiet same) f = some_none stands (same ∙ f)
+
+pub two_hop_of_ended_link : RefusesTwoHopOfEndedLink
+two_hop_of_ended_link settings now i told hello old new e a t at other quiet stands after_hello =
+    let (stood, from, tells) = after a t stands after_hello in
+    told_of tells (none_stood from)
+  where
+    none_stood : {stood : Option (TwoHop × ℕ)} → StoodOn old i told a stood → stood ≡ None
+    none_stood (Same_link f to same) = absurd (let is : e ≡ f = cc in other (ap (λ (g : Link × ℕ). g.0.addrs) is ∙ same))
+    none_stood (New_link ended) = refl
+
+    told_of : {stood : Option (TwoHop × ℕ)} → TellsTwoHop settings told hello (now + told.shown.validity) a stood (two_hop_at new i (record { link = told.least; addr = a })) → stood ≡ None → ⊥
+    told_of (By_row row looks makes) f = quiet row looks
+    told_of (By_none no_row same) f = some_none stands (same ∙ f)
+
+-- a complete TC leaves of its originator's tuples those of its number
+left_by : {A : Type 0} (mine complete same : Bool) (e f : A) → mine ≡ true → complete ≡ true → cond (mine && (complete && not same)) None (Some e) ≡ Some f → (same ≡ true) × (e ≡ f)
+left_by true true true e f m c h = (refl, (cc))
+left_by true true false e f m c h = some_none h refl
+left_by true false same e f m c h = true_false c refl
+left_by false complete same e f m c h = true_false m refl
+
+pub tuple_of_old_number : RefusesTupleOfOldNumber
+tuple_of_old_number now tc old new key t until complete from stands other after_tc = by_case (after_tc.addresses.at key)
+  where
+    same_value : {e f : AddressTuple × ℕ} {o : Option (AddressTuple × ℕ)} → o ≡ Some e → o ≡ Some f → e ≡ f
+    same_value g h = cc
+
+    dropped : (stood : Option (AddressTuple × ℕ)) → if_not_dropped tc key.from (λ v. v.ansn) stood ≡ Some (t, until) → ⊥
+    dropped None h = some_none h refl
+    dropped (Some e) h =
+        let mine : addr_eq key.from tc.originator ≡ true = eq-eqb _ _ (ap (λ (a : Addr4). a.0) from) in
+        let (same, is) = left_by (addr_eq key.from tc.originator) tc.complete (nat_eq e.0.ansn tc.ansn) e (t, until) mine complete h in
+        other (sym (ap (λ (v : AddressTuple × ℕ). v.0.ansn) is) ∙ eqb-true e.0.ansn tc.ansn same)
+
+    by_case : Becomes tc (now + tc.validity) (λ k. k.from) (λ v. v.ansn) (λ k v. GivesAddress tc k v.metric × (v.ansn ≡ tc.ansn)) key (find address_eq old.addresses key) (find address_eq new.addresses key) → ⊥
+    by_case (Given value given is) = other (ap (λ (v : AddressTuple × ℕ). v.0.ansn) (same_value stands is) ∙ given.1)
+    by_case (Left none is) = dropped (find address_eq old.addresses key) (sym is ∙ stands)
+
+pub hidden_neighbour : RefusesHiddenNeighbour
+hidden_neighbour s i now hello a o n has hidden is = elim (shows_link s i now a) [
+  | inl by_link ↦ (let (row, stands, same) = is.all a Link_symmetric by_link in hidden row stands same)
+  | inr none ↦ (let (row, stands, same) = is.all a Other_symmetric ((o, n, has), none) in hidden row stands same)
+]
+
+pub row_of_no_selector : RefusesRowOfNoSelector
+row_of_no_selector s rows row a stands dest routable none are = by_case ((are.exactly row).0 stands) dest routable
+  where
+    by_case : {row : TcRow} → IsTcRow s row → row.dest ≡ host a → IsTrue row.routable → ⊥
+    by_case (Of_address b m to origin on gateway metric is) dest routable =
+        let same : b ≡ a = ap (λ (n : NetAddr). n.addr) (sym to ∙ dest) in
+        let P : Addr4 → Type 0 = λ c. Gives s c is.giver m in
+        none is.giver m (subst P same is.given)
+    by_case (Of_network distance m origin off gateway metric is) dest routable = true_false routable off
+
+-- Sound routers
+
+pub two_hop_on_heard_link : RefusesTwoHopOnHeardLink
+two_hop_on_heard_link settings now near i key t stands heard sound = true_false (sound.two_hop i key t stands) heard
+
+pub neighbour_without_link : RefusesNeighbourWithoutLink
+neighbour_without_link settings now near o n until stands none sound =
+    let (i, key, link, has) = (sound.neighbour o n until stands).by_links.latest in
+    none i key (link, until) has
+
+pub dearer_relays : RefusesDearerRelays
+dearer_relays g relays f c stands offered dearer covers =
+    let (e, by_relays, low) = covers.as_cheap f c stands offered in
+    absurd (omega (arith, low, dearer e by_relays))
+
+not_after : (p q : NetAddr) → IsBefore p q → IsAtMost q p → ⊥
+not_after p q before at_most = elim before [
+  | inl x ↦ elim at_most [ inl y ↦ absurd (omega arith) | inr y ↦ absurd (let e : q.addr.0 ≡ p.addr.0 = y.0 in omega arith) ]
+  | inr x ↦ elim at_most [
+    | inl y ↦ absurd (let e : p.addr.0 ≡ q.addr.0 = x.0 in omega arith)
+    | inr y ↦ absurd (omega (arith, x.1, y.1))
+  ]
+]
+
+pub greater_parent : RefusesGreaterParent
+greater_parent s now self row p stands fits before routes = not_after p row.parent before ((routes.parent row stands).least p fits)
+
+pub route_twice : RefusesRouteTwice
+route_twice s now self k l r t less first second same routes =
+    let within : l < length s.routes = slice_get_within s.routes l t second in
+    let order : IsBefore (slice_index_or s.routes k r).dest (slice_index_or s.routes l r).dest = routes.ordered k l r less within in
+    let is_r : slice_index_or s.routes k r ≡ r = get_or_from_slice_get s.routes k r r first in
+    let is_t : slice_index_or s.routes l r ≡ t = get_or_from_slice_get s.routes l t r second in
+    let P : Route → Type 0 = λ b. IsBefore b.dest (slice_index_or s.routes l r).dest in
+    let Q : Route → Type 0 = λ b. IsBefore r.dest b.dest in
+    let R : NetAddr → Type 0 = λ b. IsBefore b t.dest in
+    let itself : IsBefore t.dest t.dest = subst R same (subst Q is_t (subst P is_r order)) in
+    elim itself [ inl x ↦ absurd (omega arith) | inr x ↦ absurd (omega (arith, x.1)) ]
+
+-- Settled networks
+
+pub tuple_too_many : RefusesTupleTooMany
+tuple_too_many s states now x p q key t settled lacks has near also = elim (also.address_from key t has) [
+  | inl stray ↦ near stray
+  | inr given ↦ (let (w, r, peer, by) = given in lacks (settled.address_to w r key t peer by))
+]

@@ -1,0 +1,77 @@
+use Rattle.mesh_laws.proofs.Spoiled as spoiled
+use Rattle.mesh_laws.proofs.spoiled_states_are_refused.Goals as goal
+
+pub returns-clause-neighbour_out_of_nothing : goal.returns-clause-neighbour_out_of_nothing
+returns-clause-neighbour_out_of_nothing c = spoiled.neighbour_out_of_nothing
+
+pub returns-clause-neighbour_gone : goal.returns-clause-neighbour_gone
+returns-clause-neighbour_gone c = spoiled.neighbour_gone
+
+pub returns-clause-selector_kept : goal.returns-clause-selector_kept
+returns-clause-selector_kept c = spoiled.selector_kept
+
+pub returns-clause-neighbour_too_short : goal.returns-clause-neighbour_too_short
+returns-clause-neighbour_too_short c = spoiled.neighbour_too_short
+
+pub returns-clause-lost_though_back : goal.returns-clause-lost_though_back
+returns-clause-lost_though_back c = spoiled.lost_though_back
+
+pub returns-clause-loss_untold : goal.returns-clause-loss_untold
+returns-clause-loss_untold c = spoiled.loss_untold
+
+pub returns-clause-lost_out_of_nothing : goal.returns-clause-lost_out_of_nothing
+returns-clause-lost_out_of_nothing c = spoiled.lost_out_of_nothing
+
+pub returns-clause-lost_at_another_moment : goal.returns-clause-lost_at_another_moment
+returns-clause-lost_at_another_moment c = spoiled.lost_at_another_moment
+
+pub returns-clause-lost_symmetric : goal.returns-clause-lost_symmetric
+returns-clause-lost_symmetric c = spoiled.lost_symmetric
+
+pub returns-clause-own_lost : goal.returns-clause-own_lost
+returns-clause-own_lost c = spoiled.own_lost
+
+pub returns-clause-links_together : goal.returns-clause-links_together
+returns-clause-links_together c = spoiled.links_together
+
+pub returns-clause-link_of_unlisted : goal.returns-clause-link_of_unlisted
+returns-clause-link_of_unlisted c = spoiled.link_of_unlisted
+
+pub returns-clause-link_of_shared_address : goal.returns-clause-link_of_shared_address
+returns-clause-link_of_shared_address c = spoiled.link_of_shared_address
+
+pub returns-clause-link_gone : goal.returns-clause-link_gone
+returns-clause-link_gone c = spoiled.link_gone
+
+pub returns-clause-full_of_one : goal.returns-clause-full_of_one
+returns-clause-full_of_one c = spoiled.full_of_one
+
+pub returns-clause-taken_though_full : goal.returns-clause-taken_though_full
+returns-clause-taken_though_full c = spoiled.taken_though_full
+
+pub returns-clause-taken_though_many_rows : goal.returns-clause-taken_though_many_rows
+returns-clause-taken_though_many_rows c = spoiled.taken_though_many_rows
+
+pub returns-clause-full_though_fits : goal.returns-clause-full_though_fits
+returns-clause-full_though_fits c = spoiled.full_though_fits
+
+pub returns-clause-link_metric_first : goal.returns-clause-link_metric_first
+returns-clause-link_metric_first c = spoiled.link_metric_first
+
+pub returns-clause-metric_unsaid : goal.returns-clause-metric_unsaid
+returns-clause-metric_unsaid c = spoiled.metric_unsaid
+
+pub returns-clause-row_by_link_metric : goal.returns-clause-row_by_link_metric
+returns-clause-row_by_link_metric c = spoiled.row_by_link_metric
+
+pub returns-clause-row_without_metric : goal.returns-clause-row_without_metric
+returns-clause-row_without_metric c = spoiled.row_without_metric
+
+pub returns-clause-number_unnoted : goal.returns-clause-number_unnoted
+returns-clause-number_unnoted c = spoiled.number_unnoted
+
+pub returns-clause-tuple_gone_by_part : goal.returns-clause-tuple_gone_by_part
+returns-clause-tuple_gone_by_part c = spoiled.tuple_gone_by_part
+
+pub returns-clause-tuple_gone_of_another : goal.returns-clause-tuple_gone_of_another
+returns-clause-tuple_gone_of_another c = spoiled.tuple_gone_of_another

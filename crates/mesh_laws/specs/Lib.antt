@@ -1,0 +1,4 @@
+pub mod Spoiled
+pub mod Witnesses
+pub mod WorkedHello
+pub mod WrongStates

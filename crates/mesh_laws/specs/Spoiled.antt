@@ -1,0 +1,187 @@
+-- States and answers with one thing spoiled, which one clause of a definition alone refuses.
+use Rattle.std.specs.Prelude.{◌≡◌, ◌≢◌, ℕ, ◌+◌, ◌<◌, ◌≤◌, Contains, Some, None, length, true, false}
+use Rattle.mesh_atoms.specs.declared.addr.Addr4.{Addr4}
+use Rattle.mesh_atoms.specs.declared.metric.Metric.{Metric}
+use Rattle.mesh_atoms.specs.declared.hello.Hello.{Hello}
+use Rattle.mesh_atoms.specs.declared.hello.HelloRow.{HelloRow}
+use Rattle.mesh_atoms.specs.declared.tc.Tc.{Tc}
+use Rattle.mesh_atoms.specs.declared.tuples.LinkKey.{LinkKey}
+use Rattle.mesh_atoms.specs.declared.tuples.AddressKey.{AddressKey}
+use Rattle.mesh_atoms.specs.declared.tuples.Advertiser.{Advertiser}
+use Rattle.mesh_atoms.specs.declared.tuples.AddressTuple.{AddressTuple}
+use Rattle.mesh_atoms.specs.declared.tuples.TwoHopKey.{TwoHopKey}
+use Rattle.mesh_atoms.specs.declared.tuples.Link.{Link}
+use Rattle.mesh_atoms.specs.declared.tuples.TwoHop.{TwoHop}
+use Rattle.mesh_atoms.specs.declared.tuples.Neighbour.{Neighbour}
+use Rattle.mesh_atoms.specs.declared.tuples.Lost.{Lost}
+use Rattle.mesh_atoms.specs.declared.settings.RouterSettings.{RouterSettings}
+use Rattle.mesh_atoms.specs.AfterHello.{AfterHello, IsTheirs, IsApart, GoesOn}
+use Rattle.mesh_atoms.specs.AfterTc.{AfterTc}
+use Rattle.mesh_atoms.specs.Base.{find, base_of, addr_eq, address_eq}
+use Rattle.mesh_atoms.specs.Hello.{Says, Near_in, Link_out}
+use Rattle.mesh_atoms.specs.HelloTold.{Told, Tells, two_hop_of}
+use Rattle.mesh_atoms.specs.Live.{HasLinkOf, Restores, IsSymmetricAddress, LiveNeighbourhood}
+use Rattle.mesh_atoms.specs.Settled.{IsTwoHopBy}
+use Rattle.mesh_atoms.specs.Sound.{SoundNeighbourhood}
+use Rattle.mesh_atoms.specs.State.{State, Neighbourhood, Topology, link_at, lost_at, HasAddress}
+use Rattle.mesh_atoms.specs.TakesHello.{TakesHello, Taken, Full_of_two_hops, IsHeld, IsFullOfAddresses, AreTwoHopRows}
+use Rattle.mesh_atoms.specs.Words.{IsBeyond}
+
+-- Neighbours as their links have them
+
+-- a neighbour out of nothing
+abbrev pub RefusesNeighbourOutOfNothing : Type 0
+RefusesNeighbourOutOfNothing = (near : Neighbourhood) (now : ℕ) (e : Neighbour × ℕ) → Restores near now None (Some e) → ⊥
+
+-- a neighbour that goes though it has a link
+abbrev pub RefusesNeighbourGone : Type 0
+RefusesNeighbourGone =
+    (near : Neighbourhood) (now i : ℕ) (e : Neighbour × ℕ) (key : LinkKey) (f : Link × ℕ) → HasLinkOf near e.0.addrs i key f → Restores near now (Some e) None → ⊥
+
+-- a selector flag that stays though the neighbour is symmetric no more
+abbrev pub RefusesSelectorKept : Type 0
+RefusesSelectorKept =
+    (near : Neighbourhood) (now : ℕ) (e f : Neighbour × ℕ) → f.0.symmetric ≡ false → f.0.selector ≡ true → Restores near now (Some e) (Some f) → ⊥
+
+-- a neighbour whose moment is before that of one of its links
+abbrev pub RefusesNeighbourTooShort : Type 0
+RefusesNeighbourTooShort =
+    (near : Neighbourhood) (now i : ℕ) (e f : Neighbour × ℕ) (key : LinkKey) (link : Link) (until : ℕ) →
+    HasLinkOf near f.0.addrs i key (link, until) → f.1 < until → Restores near now (Some e) (Some f) → ⊥
+
+-- Lost addresses
+
+-- after expiry, an address that is told as lost though it is a symmetric neighbour's
+abbrev pub RefusesLostThoughBack : Type 0
+RefusesLostThoughBack =
+    (settings : RouterSettings) (now : ℕ) (old new : Neighbourhood) (a : Addr4) (e : Lost × ℕ) →
+    lost_at new a ≡ Some e → IsSymmetricAddress new a → LiveNeighbourhood settings now old new → ⊥
+
+-- an address that was a symmetric neighbour's and is none's, and is not told as lost
+abbrev pub RefusesLossUntold : Type 0
+RefusesLossUntold =
+    (settings : RouterSettings) (now : ℕ) (old new : Neighbourhood) (a : Addr4) →
+    IsSymmetricAddress old a → (IsSymmetricAddress new a → ⊥) → lost_at new a ≡ None → LiveNeighbourhood settings now old new → ⊥
+
+-- an address that was no symmetric neighbour's, and is told as lost out of nothing
+abbrev pub RefusesLostOutOfNothing : Type 0
+RefusesLostOutOfNothing =
+    (settings : RouterSettings) (now : ℕ) (old new : Neighbourhood) (a : Addr4) (e : Lost × ℕ) →
+    (IsSymmetricAddress old a → ⊥) → lost_at old a ≡ None → lost_at new a ≡ Some e → LiveNeighbourhood settings now old new → ⊥
+
+-- a new lost tuple that ends at another moment than the hold time says
+abbrev pub RefusesLostAtAnotherMoment : Type 0
+RefusesLostAtAnotherMoment =
+    (settings : RouterSettings) (now : ℕ) (old new : Neighbourhood) (a : Addr4) (e : Lost × ℕ) →
+    IsSymmetricAddress old a → lost_at new a ≡ Some e → e.1 ≢ now + settings.times.neighbour_hold → LiveNeighbourhood settings now old new → ⊥
+
+-- in a sound neighbourhood, a lost address of a symmetric neighbour
+abbrev pub RefusesLostSymmetric : Type 0
+RefusesLostSymmetric =
+    (settings : RouterSettings) (now : ℕ) (near : Neighbourhood) (a : Addr4) (e : Lost × ℕ) →
+    lost_at near a ≡ Some e → IsSymmetricAddress near a → SoundNeighbourhood settings now near → ⊥
+
+-- and one of the router's own
+abbrev pub RefusesOwnLost : Type 0
+RefusesOwnLost =
+    (settings : RouterSettings) (now : ℕ) (near : Neighbourhood) (a : Addr4) (e : Lost × ℕ) →
+    lost_at near a ≡ Some e → HasAddress settings a → SoundNeighbourhood settings now near → ⊥
+
+-- Links
+
+-- in a sound neighbourhood, two links of an interface that have an address in common
+abbrev pub RefusesLinksTogether : Type 0
+RefusesLinksTogether =
+    (settings : RouterSettings) (now i : ℕ) (near : Neighbourhood) (k l : LinkKey) (e f : Link × ℕ) (a : Addr4) →
+    link_at near i k ≡ Some e → link_at near i l ≡ Some f → Contains e.0.addrs a → Contains f.0.addrs a → k ≢ l → SoundNeighbourhood settings now near → ⊥
+
+-- after a HELLO, a link of another interface that stays, of a neighbour that the HELLO speaks of, with an address that isn't listed
+abbrev pub RefusesLinkOfUnlisted : Type 0
+RefusesLinkOfUnlisted =
+    (settings : RouterSettings) (now i j : ℕ) (told : Told) (hello : Hello) (old new : Neighbourhood) (key : LinkKey) (e f : Link × ℕ) (a : Addr4) →
+    j ≢ i → link_at old j key ≡ Some e → link_at new j key ≡ Some f → Contains e.0.addrs a → IsTheirs old told a → IsBeyond e.0.addrs told.listed →
+    AfterHello settings now i told hello old new → ⊥
+
+-- after a HELLO, another link of its interface that stays, though it has some of the sending list's addresses
+abbrev pub RefusesLinkOfSharedAddress : Type 0
+RefusesLinkOfSharedAddress =
+    (settings : RouterSettings) (now i : ℕ) (told : Told) (hello : Hello) (old new : Neighbourhood) (key : LinkKey) (e f : Link × ℕ) →
+    key ≢ told.least → link_at old i key ≡ Some e → link_at new i key ≡ Some f → (IsApart told.shown.sending e.0 → ⊥) →
+    AfterHello settings now i told hello old new → ⊥
+
+-- after a HELLO, a link that is gone though it goes on
+abbrev pub RefusesLinkGone : Type 0
+RefusesLinkGone =
+    (settings : RouterSettings) (now i j : ℕ) (told : Told) (hello : Hello) (old new : Neighbourhood) (key : LinkKey) (e : Link × ℕ) →
+    j ≢ i → link_at old j key ≡ Some e → link_at new j key ≡ None → GoesOn old told i j e.0 → AfterHello settings now i told hello old new → ⊥
+
+-- Limits
+
+-- too many addresses where there is one
+abbrev pub RefusesFullOfOne : Type 0
+RefusesFullOfOne =
+    (near : Neighbourhood) (told : Told) → ((a : Addr4) → IsHeld near a → ⊥) → ((a : Addr4) → Contains told.listed a → a ≡ told.originator) →
+    IsFullOfAddresses near told → ⊥
+
+-- a HELLO that is taken though its addresses are too many
+abbrev pub RefusesTakenThoughFull : Type 0
+RefusesTakenThoughFull =
+    (settings : RouterSettings) (now i : ℕ) (sender : Addr4) (hello : Hello) (old new : Neighbourhood) →
+    ((told : Told) → Tells settings i sender hello told → IsFullOfAddresses old told) → TakesHello settings now i sender hello old new Taken → ⊥
+
+-- a HELLO that is taken though with its rows the 2-hop tuples are more than 16,384
+abbrev pub RefusesTakenThoughManyRows : Type 0
+RefusesTakenThoughManyRows =
+    (settings : RouterSettings) (now i : ℕ) (sender : Addr4) (hello : Hello) (old new : Neighbourhood) →
+    ((told : Told) (count : ℕ) → AreTwoHopRows settings told hello count → 16384 < length (base_of old.two_hops i) + count) →
+    TakesHello settings now i sender hello old new Taken → ⊥
+
+-- a HELLO that is refused for its rows though they are no more
+abbrev pub RefusesFullThoughFits : Type 0
+RefusesFullThoughFits =
+    (settings : RouterSettings) (now i : ℕ) (sender : Addr4) (hello : Hello) (old new : Neighbourhood) →
+    ((told : Told) (count : ℕ) → AreTwoHopRows settings told hello count → length (base_of old.two_hops i) + count ≤ 16384) →
+    TakesHello settings now i sender hello old new Full_of_two_hops → ⊥
+
+-- Metrics of 2-hop tuples
+
+-- in a settled network, the link's metric though there is the neighbour's
+abbrev pub RefusesLinkMetricFirst : Type 0
+RefusesLinkMetricFirst =
+    (p q : State) (j now : ℕ) (key : TwoHopKey) (t : TwoHop) (m n : Metric) →
+    Says q j now key.addr (Near_in m) → ((k : Metric) → Says q j now key.addr (Near_in k) → k ≡ m) → t.metric_in ≡ Some n → n ≢ m →
+    IsTwoHopBy p q j now key t → ⊥
+
+-- no metric though there is the link's
+abbrev pub RefusesMetricUnsaid : Type 0
+RefusesMetricUnsaid =
+    (p q : State) (j now : ℕ) (key : TwoHopKey) (t : TwoHop) (m : Metric) →
+    Says q j now key.addr (Link_out m) → t.metric_out ≡ None → IsTwoHopBy p q j now key t → ⊥
+
+-- of a row with both metrics, a tuple with the link's
+abbrev pub RefusesRowByLinkMetric : Type 0
+RefusesRowByLinkMetric = (row : HelloRow) (m n : Metric) → row.metrics.near_in ≡ Some m → n ≢ m → (two_hop_of row).metric_in ≡ Some n → ⊥
+
+-- of a row with the link's metric, a tuple without
+abbrev pub RefusesRowWithoutMetric : Type 0
+RefusesRowWithoutMetric = (row : HelloRow) (m : Metric) → row.metrics.link_out ≡ Some m → (two_hop_of row).metric_out ≡ None → ⊥
+
+-- TCs
+
+-- after a TC, another number of its originator
+abbrev pub RefusesNumberUnnoted : Type 0
+RefusesNumberUnnoted =
+    (now : ℕ) (tc : Tc) (old new : Topology) (t : Advertiser × ℕ) →
+    find addr_eq new.advertisers tc.originator ≡ Some t → t.0.ansn ≢ tc.ansn → AfterTc now tc old new → ⊥
+
+-- after a TC that isn't complete, a tuple gone
+abbrev pub RefusesTupleGoneByPart : Type 0
+RefusesTupleGoneByPart =
+    (now : ℕ) (tc : Tc) (old new : Topology) (key : AddressKey) (t : AddressTuple × ℕ) →
+    tc.complete ≡ false → find address_eq old.addresses key ≡ Some t → find address_eq new.addresses key ≡ None → AfterTc now tc old new → ⊥
+
+-- after a TC, a tuple of another originator gone
+abbrev pub RefusesTupleGoneOfAnother : Type 0
+RefusesTupleGoneOfAnother =
+    (now : ℕ) (tc : Tc) (old new : Topology) (key : AddressKey) (t : AddressTuple × ℕ) →
+    key.from ≢ tc.originator → find address_eq old.addresses key ≡ Some t → find address_eq new.addresses key ≡ None → AfterTc now tc old new → ⊥

@@ -1,0 +1,66 @@
+//! Laws over the definitions of a router that a proof computes: networks that meet the premises of the law of settled routes,
+//! and worked and wrong states.
+#![tactic(auto)]
+
+ghost use Rattle.mesh_laws.specs.Spoiled.{RefusesNeighbourOutOfNothing, RefusesNeighbourGone, RefusesSelectorKept, RefusesNeighbourTooShort, RefusesLostThoughBack, RefusesLossUntold, RefusesLostOutOfNothing, RefusesLostAtAnotherMoment, RefusesLostSymmetric, RefusesOwnLost, RefusesLinksTogether, RefusesLinkOfUnlisted, RefusesLinkOfSharedAddress, RefusesLinkGone, RefusesFullOfOne, RefusesTakenThoughFull, RefusesTakenThoughManyRows, RefusesFullThoughFits, RefusesLinkMetricFirst, RefusesMetricUnsaid, RefusesRowByLinkMetric, RefusesRowWithoutMetric, RefusesNumberUnnoted, RefusesTupleGoneByPart, RefusesTupleGoneOfAnother};
+ghost use Rattle.mesh_laws.specs.WrongStates.{RefusesExpiredLink, RefusesOwnTwoHop, RefusesTwoHopOfEndedLink, RefusesTupleOfOldNumber, RefusesHiddenNeighbour, RefusesRowOfNoSelector, RefusesTwoHopOnHeardLink, RefusesNeighbourWithoutLink, RefusesDearerRelays, RefusesGreaterParent, RefusesRouteTwice, RefusesTupleTooMany};
+ghost use Rattle.mesh_laws.specs.WorkedHello.{FirstHelloIsTaken, SecondHelloIsTaken};
+ghost use Rattle.mesh_laws.specs.Witnesses.{TwoRoutersSettle};
+
+/// The premises of the law can be met: two routers that hear each other are a settled network, in which each has a row of
+/// the other. It does nothing.
+pub fn two_routers_settle()
+    ensures { TwoRoutersSettle }
+{}
+
+/// The definitions take two worked HELLOs, with the tuples and moments that are expected. It does nothing.
+pub fn worked_hellos_are_taken()
+    ensures first { FirstHelloIsTaken }
+    ensures second { SecondHelloIsTaken }
+{}
+
+/// The definitions of a router refuse wrong states, each clause named by what is wrong. It does nothing.
+pub fn wrong_states_refused()
+    ensures expired_link { RefusesExpiredLink }
+    ensures own_two_hop { RefusesOwnTwoHop }
+    ensures two_hop_of_ended_link { RefusesTwoHopOfEndedLink }
+    ensures tuple_of_old_number { RefusesTupleOfOldNumber }
+    ensures hidden_neighbour { RefusesHiddenNeighbour }
+    ensures row_of_no_selector { RefusesRowOfNoSelector }
+    ensures two_hop_on_heard_link { RefusesTwoHopOnHeardLink }
+    ensures neighbour_without_link { RefusesNeighbourWithoutLink }
+    ensures dearer_relays { RefusesDearerRelays }
+    ensures greater_parent { RefusesGreaterParent }
+    ensures route_twice { RefusesRouteTwice }
+    ensures tuple_too_many { RefusesTupleTooMany }
+{}
+
+/// Each clause of a definition that alone refuses some state does refuse it: states and answers with one thing spoiled, each clause
+/// named by what is spoiled. It does nothing.
+pub fn spoiled_states_are_refused()
+    ensures neighbour_out_of_nothing { RefusesNeighbourOutOfNothing }
+    ensures neighbour_gone { RefusesNeighbourGone }
+    ensures selector_kept { RefusesSelectorKept }
+    ensures neighbour_too_short { RefusesNeighbourTooShort }
+    ensures lost_though_back { RefusesLostThoughBack }
+    ensures loss_untold { RefusesLossUntold }
+    ensures lost_out_of_nothing { RefusesLostOutOfNothing }
+    ensures lost_at_another_moment { RefusesLostAtAnotherMoment }
+    ensures lost_symmetric { RefusesLostSymmetric }
+    ensures own_lost { RefusesOwnLost }
+    ensures links_together { RefusesLinksTogether }
+    ensures link_of_unlisted { RefusesLinkOfUnlisted }
+    ensures link_of_shared_address { RefusesLinkOfSharedAddress }
+    ensures link_gone { RefusesLinkGone }
+    ensures full_of_one { RefusesFullOfOne }
+    ensures taken_though_full { RefusesTakenThoughFull }
+    ensures taken_though_many_rows { RefusesTakenThoughManyRows }
+    ensures full_though_fits { RefusesFullThoughFits }
+    ensures link_metric_first { RefusesLinkMetricFirst }
+    ensures metric_unsaid { RefusesMetricUnsaid }
+    ensures row_by_link_metric { RefusesRowByLinkMetric }
+    ensures row_without_metric { RefusesRowWithoutMetric }
+    ensures number_unnoted { RefusesNumberUnnoted }
+    ensures tuple_gone_by_part { RefusesTupleGoneByPart }
+    ensures tuple_gone_of_another { RefusesTupleGoneOfAnother }
+{}

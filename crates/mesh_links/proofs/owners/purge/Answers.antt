@@ -1,0 +1,16 @@
+use Rattle.std.proofs.Common.{◌≡◌, Bool, is_some, rules, refl, ap, ◌∙◌}
+use Rattle.mesh_atoms.specs.declared.tuples.LinkKey.{LinkKey}
+use Rattle.std.specs.List.{filter}
+use Rattle.std.proofs.lemmas.Map.Entries.{lookup-filter-values}
+use Rattle.indexmap.proofs.CallerLemmas.{filter-RetainsPairs}
+use Rattle.mesh_atoms.specs.Base.{find, link_eq}
+use Rattle.mesh_atoms.proofs.Lookups.{addr_equiv}
+use Rattle.mesh_links.specs.Owners.{owner_of}
+use Rattle.mesh_links.proofs.owners.purge.Goals as goal
+
+pub returns : goal.returns
+returns g c a key there noted =
+    let test : LinkKey → Bool = λ k. is_some (find link_eq (g.T.Table.content c.args.table.now) k) in
+    let e : c.retain.new.self.entries ≡ filter (λ p. test p.1) c.args.owners.now.entries =
+    filter-RetainsPairs _ _ _ (λ k v b w f call. search rules) _ _ c.retain.ensures.filtered in
+    ap (λ l. owner_of l a) e ∙ lookup-filter-values addr_equiv test a c.args.owners.now.entries c.len-count.ensures.unique ∙ rw (noted, there) refl

@@ -1,0 +1,6 @@
+use Rattle.mesh_atoms.specs.Base.{addr_eq}
+use Rattle.mesh_expire.proofs.Laws.{distinct_none}
+use Rattle.mesh_nbrs.proofs.neighbours.NeighbourSet.new.Goals as goal
+
+pub invariant_of-result : goal.invariant_of-result
+invariant_of-result g c = rw c.in_ok-new.ensures (distinct_none addr_eq)

@@ -1,0 +1,154 @@
+-- How many rows a router advertises.
+use Rattle.std.proofs.Common.{◌≡◌, ℕ, zero, suc, ◌<◌, ◌≤◌, ◌⊎◌, inl, inr, refl, sym, ◌∙◌, ap, subst, arith, List, [], ◌∷◌, length, map, Contains, Bool, true, false, cond, get_or}
+use Rattle.std.specs.Prelude.{not, Some, AllPairs, is_some, IsSome, ◌||◌}
+use Rattle.std.specs.Cmp.{IsEquivalence}
+use Rattle.std.specs.List.{IsDistinct, filter, list_any}
+use Rattle.std.specs.Map.{lookup}
+use Rattle.std.proofs.lemmas.Bool.{false≢true}
+use Rattle.std.proofs.lemmas.Cmp.{nat_eq_equiv, on_equiv, and_equiv}
+use Rattle.std.proofs.lemmas.List.{length-map, get_or-map}
+use Rattle.std.proofs.lemmas.List.Elements.{All-filter, All-contains, All-contains_itself, filter_passes}
+use Rattle.std.proofs.lemmas.List.Filters.{length-filter_both}
+use Rattle.std.proofs.lemmas.List.Kept.{AllPairs-filter}
+use Rattle.std.proofs.lemmas.Map.Keys.{IsDistinct-from_apart}
+use Rattle.std.proofs.lemmas.Map.Steps.{length-le_from_keys}
+use Rattle.std.proofs.lemmas.Map.Views.{list_any-from_Contains}
+use Rattle.mesh_atoms.specs.declared.addr.Addr4.{Addr4}
+use Rattle.mesh_atoms.specs.declared.addr.NetAddr.{NetAddr}
+use Rattle.mesh_atoms.specs.declared.metric.Metric.{Metric}
+use Rattle.mesh_atoms.specs.declared.settings.Attached4.{Attached4}
+use Rattle.mesh_atoms.specs.declared.tc.TcRow.{TcRow}
+use Rattle.mesh_atoms.specs.Advertised.{AreTcRows, IsTcRow, Of_address, Of_network, Gives}
+use Rattle.mesh_atoms.specs.Base.{net_eq}
+use Rattle.mesh_atoms.specs.Nodes.{IsBefore}
+use Rattle.mesh_atoms.specs.Sound.{SoundNeighbourhood}
+use Rattle.mesh_atoms.specs.State.{State}
+use Rattle.mesh_atoms.specs.TakesHello.{IsHeld}
+use Rattle.mesh_atoms.proofs.Lookups.{looks_up_neighbours}
+use Rattle.mesh_atoms.proofs.Nets.{net_exact}
+use Rattle.mesh_nhdp.proofs.RowCounts.{counted, rows_ascend, neighbour_held}
+
+-- Lists
+
+net_equiv : IsEquivalence net_eq
+net_equiv = and_equiv (on_equiv (λ (a : NetAddr). a.addr.0) nat_eq_equiv) (on_equiv (λ (a : NetAddr). a.prefix) nat_eq_equiv)
+
+in_filter : {A : Type 0} (p : A → Bool) (xs : List A) (a : A) → Contains (filter p xs) a → Contains xs a × (p a ≡ true)
+in_filter {A} p xs a has = (All-contains (Contains xs) (filter p xs) a (All-filter p (Contains xs) xs (All-contains_itself xs)) has, All-contains (λ (x : A). p x ≡ true) (filter p xs) a (filter_passes p xs) has)
+
+map_given : {A B : Type 0} (f : A → B) (xs : List A) (y : B) → Contains (map f xs) y → (x : A) × Contains xs x × (f x ≡ y)
+map_given f [] y (k, lt, is) = absurd (omega (arith, lt))
+map_given f (x ∷ xs) y (zero, lt, is) = (x, (0, omega arith, refl), is)
+map_given f (x ∷ xs) y (suc k, lt, is) = let (z, (j, within, at), e) = map_given f xs y (k, omega (arith, lt), is) in (z, (suc j, omega (arith, within), at), e)
+
+map_gives : {A B : Type 0} (f : A → B) (xs : List A) (x : A) → Contains xs x → Contains (map f xs) (f x)
+map_gives f xs x (k, lt, is) = (k, (let e : length (map f xs) ≡ length xs = length-map xs f in omega (arith, lt, e)), get_or-map f xs k x (f x) lt ∙ ap f is)
+
+entries : List NetAddr → List (NetAddr × NetAddr)
+entries [] = []
+entries (a ∷ rest) = (a, a) ∷ entries rest
+
+length_entries : (nets : List NetAddr) → length (entries nets) ≡ length nets
+unfolding entries
+length_entries [] = refl
+length_entries (a ∷ rest) = ap suc (length_entries rest)
+
+either : (b c : Bool) → (b || c) ≡ true → (b ≡ true) ⊎ (c ≡ true)
+either true c h = inl refl
+either false c h = inr h
+
+any_contains : (nets : List NetAddr) (a : NetAddr) → list_any (net_eq a) nets ≡ true → Contains nets a
+any_contains [] a h = absurd (false≢true h)
+any_contains (x ∷ xs) a h = elim (either (net_eq a x) (list_any (net_eq a) xs) h) [
+  | inl same ↦ (0, omega arith, sym (net_exact a x same))
+  | inr later ↦ let c = any_contains xs a later in (suc c.0, omega (arith, c.1), c.2)
+]
+
+found : (nets : List NetAddr) (a : NetAddr) → list_any (net_eq a) nets ≡ true → IsSome (lookup (net_eq a) (entries nets))
+unfolding entries
+found [] a h = absurd (false≢true h)
+found (x ∷ xs) a h = step (net_eq a x) (λ k. found xs a k) h
+  where
+    step : (b : Bool) → (list_any (net_eq a) xs ≡ true → IsSome (lookup (net_eq a) (entries xs))) → (b || list_any (net_eq a) xs) ≡ true → IsSome (cond b (Some x) (lookup (net_eq a) (entries xs)))
+    step true more h = refl
+    step false more h = more h
+
+nets_fit : (some nets : List NetAddr) → IsDistinct net_eq some → ((a : NetAddr) → Contains some a → Contains nets a) → length some ≤ length nets
+nets_fit some nets distinct within =
+    let fits = length-le_from_keys net_equiv some (entries nets) distinct (λ a h. found nets a (list_any-from_Contains net_equiv a nets (within a (any_contains some a h)))) in
+    omega (arith, fits, length_entries nets)
+
+before_apart : (x y : NetAddr) → IsBefore x y → net_eq x y ≡ false
+before_apart x y before = by_test (net_eq x y) refl where
+  by_test : (b : Bool) → net_eq x y ≡ b → b ≡ false
+  by_test true is = absurd (by_order (net_exact x y is) before) where
+    by_order : x ≡ y → IsBefore x y → ⊥
+    by_order e (inl lt) = let f : x.addr.0 ≡ y.addr.0 = ap (λ (n : NetAddr). n.addr.0) e in absurd (omega (arith, f, lt))
+    by_order e (inr both) = let f : x.prefix ≡ y.prefix = ap (λ (n : NetAddr). n.prefix) e in absurd (omega (arith, f, both.1))
+  by_test false is = refl
+
+nets_apart : (rows : List TcRow) → AllPairs (λ (r t : TcRow). IsBefore r.dest t.dest) rows → IsDistinct net_eq (map (λ (r : TcRow). r.dest) rows)
+nets_apart rows up = IsDistinct-from_apart net_eq (map (λ (r : TcRow). r.dest) rows) (apart rows up) where
+  apart : (rows : List TcRow) → AllPairs (λ (r t : TcRow). IsBefore r.dest t.dest) rows → (i j : ℕ) (d : NetAddr) → i < j → j < length (map (λ (r : TcRow). r.dest) rows) →
+      net_eq (get_or (map (λ (r : TcRow). r.dest) rows) i d) (get_or (map (λ (r : TcRow). r.dest) rows) j d) ≡ false
+  apart [] up i j d lt within = absurd (omega (arith, within))
+  apart (r ∷ rs) up i j d lt within =
+      let rows : List TcRow = r ∷ rs in
+      let dest = λ (x : TcRow). x.dest in
+      let size : length (map dest rows) ≡ length rows = length-map rows dest in
+      let second : j < length rows = omega (arith, size, within) in
+      let first : i < length rows = omega (arith, lt, second) in
+      rw (get_or-map dest rows i r d first, get_or-map dest rows j r d second) (before_apart (get_or rows i r).dest (get_or rows j r).dest (up i j r lt second))
+
+-- Rows
+
+abbrev of_network : TcRow → Bool
+of_network row = is_some row.gateway
+
+abbrev of_address : TcRow → Bool
+of_address row = not (is_some row.gateway)
+
+host_row : (s : State) (r : TcRow) → IsTcRow s r → of_address r ≡ true → r.dest.prefix ≡ 32
+host_row s r (Of_address a m e origin routable gateway metric given) is = ap (λ (n : NetAddr). n.prefix) e
+host_row s r (Of_network distance m origin routable gateway metric given) is = absurd (false≢true (sym (ap (λ g. not (is_some g)) gateway) ∙ is))
+
+giver_held : (s : State) (m : ℕ) → SoundNeighbourhood s.settings m s.bases.neighbourhood → (a o : Addr4) (c : Metric) → Gives s a o c → IsHeld s.bases.neighbourhood a
+giver_held s m sound a o c gives = by_address gives.address where
+  by_address : Contains gives.neighbour.addrs a ⊎ (a ≡ o) → IsHeld s.bases.neighbourhood a
+  by_address (inl in') = neighbour_held s m sound a o gives.neighbour (gives.symmetric, in')
+  by_address (inr e) =
+      let (until, at) = (looks_up_neighbours s o gives.neighbour sound.distinct_neighbours).0 gives.symmetric.0 in
+      subst (λ (x : Addr4). IsHeld s.bases.neighbourhood x) (sym e) (inl ((gives.neighbour, until), at))
+
+row_held : (s : State) (m : ℕ) → SoundNeighbourhood s.settings m s.bases.neighbourhood → (r : TcRow) → IsTcRow s r → of_address r ≡ true → IsHeld s.bases.neighbourhood r.dest.addr
+row_held s m sound r (Of_address a c e origin routable gateway metric given) is =
+    subst (λ (n : NetAddr). IsHeld s.bases.neighbourhood n.addr) (sym e) (giver_held s m sound a given.giver c given.given)
+row_held s m sound r (Of_network distance c origin routable gateway metric given) is = absurd (false≢true (sym (ap (λ g. not (is_some g)) gateway) ∙ is))
+
+row_attached : (s : State) (r : TcRow) → IsTcRow s r → of_network r ≡ true → Contains (map (λ (a : Attached4). a.net) s.settings.attached) r.dest
+row_attached s r (Of_address a c e origin routable gateway metric given) is = absurd (false≢true (sym (ap (λ g. is_some g) gateway) ∙ is))
+row_attached s r (Of_network distance c origin routable gateway metric given) is =
+    subst (λ (n : NetAddr). Contains (map (λ (a : Attached4). a.net) s.settings.attached) n) given.at_net (map_gives (λ (a : Attached4). a.net) s.settings.attached given.attached given.stands)
+
+-- a sound router advertises at most 1,088 rows: of 1,024 addresses and 64 networks
+pub tc_rows_few : (s : State) (m : ℕ) (rows : List TcRow) → SoundNeighbourhood s.settings m s.bases.neighbourhood → AreTcRows s rows → length rows ≤ 1088
+tc_rows_few s m rows sound are =
+    let hosts : List TcRow = filter of_address rows in
+    let nets : List TcRow = filter of_network rows in
+    let both = length-filter_both of_network of_address (λ x. refl) rows in
+    let addrs : List Addr4 = map (λ (r : TcRow). r.dest.addr) hosts in
+    let whole = λ (r : TcRow) (has : Contains hosts r). let (in', is) = in_filter of_address rows r has in host_row s r ((are.exactly r).0 in') is in
+    let up = rows_ascend (λ (r : TcRow). r.dest) hosts whole (AllPairs-filter (λ (r t : TcRow). IsBefore r.dest t.dest) of_address rows are.ordered) in
+    let held = λ (a : Addr4) (has : Contains addrs a).
+    let (r, in', e) = map_given (λ (r : TcRow). r.dest.addr) hosts a has in
+    let (there, is) = in_filter of_address rows r in' in
+    subst (λ (x : Addr4). IsHeld s.bases.neighbourhood x) e (row_held s m sound r ((are.exactly r).0 there) is) in
+    let few = counted [] addrs (IsHeld s.bases.neighbourhood) 1024 up sound.limit (λ a has. inr (held a has)) in
+    let dests : List NetAddr = map (λ (r : TcRow). r.dest) nets in
+    let apart = nets_apart nets (AllPairs-filter (λ (r t : TcRow). IsBefore r.dest t.dest) of_network rows are.ordered) in
+    let attached = λ (n : NetAddr) (has : Contains dests n).
+    let (r, in', e) = map_given (λ (r : TcRow). r.dest) nets n has in
+    let (there, is) = in_filter of_network rows r in' in
+    subst (λ (x : NetAddr). Contains (map (λ (a : Attached4). a.net) s.settings.attached) x) e (row_attached s r ((are.exactly r).0 there) is) in
+    let fit = nets_fit dests (map (λ (a : Attached4). a.net) s.settings.attached) apart attached in
+    omega (arith, both, few, fit, length-map hosts (λ (r : TcRow). r.dest.addr), length-map nets (λ (r : TcRow). r.dest), s.settings.sound.attached)

@@ -1,0 +1,16 @@
+use Rattle.std.proofs.Common.{ℕ, sym, arith}
+use Rattle.mesh_atoms.specs.declared.addr.Addr4.{Addr4}
+use Rattle.mesh_atoms.specs.declared.tuples.Neighbour.{Neighbour}
+use Rattle.mesh_nhdp.specs.Said.{symmetric_addresses}
+use Rattle.mesh_nhdp.proofs.Collect.{none_within}
+use Rattle.mesh_nhdp.proofs.Places.{put_next}
+use Rattle.mesh_nhdp.proofs.said_addresses.put_symmetric.Goals as goal
+use Rattle.mesh_nhdp.proofs.said_addresses.put_symmetric.Goals.{in-Some+in_ok-extend_from_slice, in_default}
+
+pub loop-place-preserved : goal.loop-place-preserved
+loop-place-preserved g c = elim c.match-at.branch [
+  | in-Some+in_ok-extend_from_slice w ↦ rw (w.list-is, w.in_ok-extend_from_slice.ensures.items, w.symmetric_addresses.ensures)
+      (put_next (λ (e : Addr4 × (Neighbour × ℕ)). symmetric_addresses e.1.0) (g.T.Table.content c.args.neighbours.now) c.loop-place.place
+      (w.in-Some.field-0-0.now, (w.in-Some.neighbour.now, w.in-Some.field-0-2)) _ _ (sym w.in-Some.ensures) c.loop-place.invariant)
+  | in_default w ↦ none_within (g.T.Table.content c.args.neighbours.now) c.loop-place.place (omega (arith, c.loop-place-test.true, c.len-place-end.ensures.value)) (sym w.in_default.ensures)
+]

@@ -1,0 +1,41 @@
+-- Octets spell one packet or have one first fault, since each is what the reading of the octets gives.
+use Rattle.std.proofs.Common.{◌≡◌, ℕ, ◌⊎◌, inl, inr, List, Result, Ok, Err, ap}
+use Rattle.std.specs.Prelude.{MatchResult}
+use Rattle.mesh_atoms.specs.declared.refusal.Refusal.{Refusal}
+use Rattle.mesh_packet.specs.declared.packet.Span.{Span}
+use Rattle.mesh_packet.specs.Fields.{PacketFields}
+use Rattle.mesh_packet.specs.Grammar.{Spells, FirstFault}
+use Rattle.mesh_packet.specs.Reading.{packet_of}
+use Rattle.mesh_packet.proofs.Packets.{IsFault, IsSpelled, packet_takes, packet_again, packet_fault}
+
+-- what a reading of the octets gives
+abbrev Read : Type 0
+Read = Result (PacketFields × List Span) Refusal
+
+ok_same : (r : Read) (x y : PacketFields × List Span) → r ≡ Ok x → r ≡ Ok y → x ≡ y
+ok_same r x y h k = cc
+
+err_same : (r : Read) (x y : Refusal) → r ≡ Err x → r ≡ Err y → x ≡ y
+err_same r x y h k = cc
+
+ok_err : (r : Read) (x : PacketFields × List Span) (y : Refusal) → r ≡ Ok x → r ≡ Err y → ⊥
+ok_err r x y h k = absurd cc
+
+pub one_packet : (frame : List ℕ) (p q : PacketFields) (here there : List Span) → Spells p here frame → Spells q there frame → (p ≡ q) × (here ≡ there)
+one_packet frame p q here there h k =
+    let e = ok_same (packet_of frame) (p, here) (q, there) (packet_again frame p here h) (packet_again frame q there k) in
+    (ap (λ (x : PacketFields × List Span). x.0) e, ap (λ (x : PacketFields × List Span). x.1) e)
+
+pub one_fault : (frame : List ℕ) (place reason other why : ℕ) → FirstFault frame place reason → FirstFault frame other why → (place ≡ other) × (reason ≡ why)
+one_fault frame place reason other why h k =
+    let e = err_same (packet_of frame) (record { place = place; reason = reason }) (record { place = other; reason = why }) (packet_fault frame place reason h) (packet_fault frame other why k) in
+    (ap (λ (r : Refusal). r.place) e, ap (λ (r : Refusal). r.reason) e)
+
+pub spells_or_faults : (frame : List ℕ) → ((packet : PacketFields) × (spans : List Span) × Spells packet spans frame) ⊎ ((place : ℕ) × (reason : ℕ) × FirstFault frame place reason)
+spells_or_faults frame = by (packet_of frame) (packet_takes frame) where
+  by : (r : Result (PacketFields × List Span) Refusal) → MatchResult r (IsSpelled frame) (IsFault frame) → ((packet : PacketFields) × (spans : List Span) × Spells packet spans frame) ⊎ ((place : ℕ) × (reason : ℕ) × FirstFault frame place reason)
+  by (Ok x) h = inl (x.0, x.1, h)
+  by (Err e) h = inr (e.place, e.reason, h)
+
+pub not_both : (frame : List ℕ) (packet : PacketFields) (spans : List Span) (place reason : ℕ) → Spells packet spans frame → FirstFault frame place reason → ⊥
+not_both frame packet spans place reason h k = ok_err (packet_of frame) (packet, spans) (record { place = place; reason = reason }) (packet_again frame packet spans h) (packet_fault frame place reason k)

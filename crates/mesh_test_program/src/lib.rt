@@ -1,0 +1,16 @@
+//! Tests of what no text of the program shows: codes, messages that are written, rows and addresses of a reading, blocks that no
+//! packet holds, and failing streams.
+#![tactic(auto)]
+
+#[cfg(test)]
+mod blocks;
+#[cfg(test)]
+mod codes;
+#[cfg(test)]
+mod hop;
+#[cfg(test)]
+mod reading;
+#[cfg(test)]
+mod streams;
+#[cfg(test)]
+mod writing;

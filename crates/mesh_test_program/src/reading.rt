@@ -1,0 +1,225 @@
+//! The address of a broken rule and the rows of a HELLO, which no text tells.
+use mesh_atoms::{Addr4, Hello, HelloRow, LocalIf, NetAddr};
+use mesh_packet::{Message, decode};
+use mesh_wire::{WireFault, hello_of, tc_of};
+use std::alloc::Global;
+
+/// Packets of one message, each with the first rule that its message breaks, and the least address that breaks it, by its
+/// number and its prefix.
+const BROKEN: [(&[u8], u8, Option<(u32, u8)>); 18] = [
+    (b"\x00\x00\x0f\x00\x06\x00\x00", 20, None),
+    (b"\x00\x00\x43\x00\x07\x02\x00\x00", 21, None),
+    (
+        b"\x00\x00\xa3\x00\x13\x0a\x00\x01\x04\x02\x00\x08\x01\x10\x01\x6f\x00\x10\x01\x01",
+        22,
+        None,
+    ),
+    (
+        b"\x00\x00\xc3\x00\x13\x0a\x00\x00\x02\x01\x00\x08\x07\x10\x01\xdb\x01\x10\x01\x00",
+        23,
+        None,
+    ),
+    (
+        b"\x00\x00\x83\x00\x16\x0a\x00\x01\x05\x00\x0c\x00\x10\x01\x6f\x00\x10\x01\x64\x01\x10\x01\x58",
+        24,
+        None,
+    ),
+    (
+        b"\x00\x00\x83\x00\x1a\x0a\x00\x00\x04\x00\x10\x07\x10\x01\x77\x00\x10\x01\x64\x01\x10\x01\x64\x07\x10\x01\x10",
+        25,
+        None,
+    ),
+    // LINK_STATUS of 3 on 10.0.0.6 and 10.0.0.4.
+    (
+        b"\x00\x00\x03\x00\x1a\x00\x04\x01\x10\x01\x64\x02\x00\x0a\x00\x00\x06\x0a\x00\x00\x04\x00\x04\x03\x10\x01\x03",
+        26,
+        Some((0x0a000004, 32)),
+    ),
+    // LINK_STATUS of 1 and of 2 on 10.0.0.5, in two blocks.
+    (
+        b"\x00\x00\x03\x00\x22\x00\x04\x01\x10\x01\x64\x01\x00\x0a\x00\x00\x05\x00\x04\x03\x10\x01\x01\x01\x00\x0a\x00\x00\x05\x00\x04\x03\x10\x01\x02",
+        27,
+        Some((0x0a000005, 32)),
+    ),
+    // LINK_STATUS on 10.0.0.4/24, which is in 10.0.0.0/24.
+    (
+        b"\x00\x00\x03\x00\x1f\x00\x0c\x00\x10\x01\x00\x07\x10\x01\xa4\x01\x10\x01\x64\x01\x10\x0a\x00\x00\x04\x18\x00\x04\x03\x10\x01\x00",
+        28,
+        Some((0x0a000000, 24)),
+    ),
+    // LINK_METRIC of three octets on 10.0.0.4.
+    (
+        b"\x00\x00\x83\x00\x24\x0a\x00\x00\x06\x00\x08\x00\x10\x01\x64\x01\x10\x01\x01\x01\x00\x0a\x00\x00\x04\x00\x0a\x07\x10\x03\x40\x02\x00\x03\x14\x01\x01",
+        29,
+        Some((0x0a000004, 32)),
+    ),
+    (b"\x00\x01\x0f\x00\x06\x00\x00", 32, None),
+    (b"\x00\x01\x03\x00\x06\x00\x00", 33, None),
+    (
+        b"\x00\x01\xf3\x00\x17\x0a\x00\x00\x03\xff\xff\xd7\x08\x00\x09\x08\x10\x02\x85\x7f\x00\x10\x01\x00",
+        34,
+        None,
+    ),
+    (
+        b"\x00\x01\xf3\x00\x1a\x0a\x00\x01\x01\xff\xff\xea\x7d\x00\x0c\x00\x10\x00\x01\x10\x01\x58\x08\x10\x02\xa9\xa5",
+        35,
+        None,
+    ),
+    (
+        b"\x00\x01\xf3\x00\x16\x0a\x00\x00\x06\xff\x02\xd7\x10\x00\x08\x01\x10\x01\x64\x00\x10\x01\x01",
+        36,
+        None,
+    ),
+    // NBR_ADDR_TYPE of 0 on 10.0.0.4.
+    (
+        b"\x00\x01\xf3\x00\x29\x0a\x00\x00\x04\x01\x00\x53\x5d\x00\x0a\x08\x90\x01\x02\xc1\x04\x01\x10\x01\x6f\x01\x00\x0a\x00\x00\x04\x00\x09\x09\x14\x01\x00\x07\x10\x02\x40\x01",
+        37,
+        Some((0x0a000004, 32)),
+    ),
+    // GATEWAY beside NBR_ADDR_TYPE on 10.0.0.4 and 10.0.0.3.
+    (
+        b"\x00\x01\xf3\x00\x2b\x0a\x00\x00\x02\xff\x00\x00\x05\x00\x09\x01\x10\x01\x6f\x08\x10\x02\x00\x07\x02\x00\x0a\x00\x00\x04\x0a\x00\x00\x03\x00\x08\x0a\x10\x01\x01\x09\x10\x01\x03",
+        38,
+        Some((0x0a000003, 32)),
+    ),
+    // Two codes of the outgoing neighbour metric of 10.0.0.4.
+    (
+        b"\x00\x01\xf3\x00\x29\x0a\x00\x00\x02\xff\x00\x00\x05\x00\x09\x01\x10\x01\x6f\x08\x10\x02\x00\x07\x01\x00\x0a\x00\x00\x04\x00\x0a\x07\x10\x02\x10\x01\x07\x10\x02\x30\x02",
+        39,
+        Some((0x0a000004, 32)),
+    ),
+];
+
+/// The rule and the address of a fault; none of want of memory.
+fn shown(fault: &WireFault) -> Option<(u8, Option<(u32, u8)>)> {
+    match fault {
+        WireFault::Broken { number, addr } => match addr {
+            Some(net) => Some((*number, Some((net.addr.0, net.prefix)))),
+            None => Some((*number, None)),
+        },
+        WireFault::Memory(_) => None,
+    }
+}
+
+/// Why a message isn't read, where it isn't.
+fn fault_of(alloc: Global, message: &Message) -> Option<WireFault> {
+    if message.kind == 0 {
+        hello_of(alloc, message).err()
+    } else if message.kind == 1 {
+        tc_of(alloc, message).err()
+    } else {
+        None
+    }
+}
+
+/// Whether that rule is the first that a message breaks, at that address.
+fn breaks(alloc: Global, message: &Message, rule: u8, addr: Option<(u32, u8)>) -> bool {
+    match fault_of(alloc, message) {
+        Some(fault) => shown(&fault) == Some((rule, addr)),
+        None => false,
+    }
+}
+
+/// The same of the only message of a packet.
+fn packet_breaks(alloc: Global, frame: &[u8], rule: u8, addr: Option<(u32, u8)>) -> bool {
+    match decode(alloc, frame) {
+        Ok(decoded) => match decoded.packet.messages.as_slice() {
+            [message] => breaks(alloc, message, rule, addr),
+            _ => false,
+        },
+        Err(_) => false,
+    }
+}
+
+fn each_breaks_its_rule(alloc: Global) -> bool {
+    for (frame, rule, addr) in BROKEN {
+        if !packet_breaks(alloc, frame, rule, addr) {
+            return false;
+        }
+    }
+    true
+}
+
+#[test]
+fn tell_the_first_broken_rule(rt: HostRuntime) {
+    assert!(rt; each_breaks_its_rule(rt.alloc()));
+}
+
+/// The HELLO that a message is read as.
+fn read(alloc: Global, message: &Message) -> Option<Hello> {
+    if message.kind == 0 {
+        hello_of(alloc, message).ok()
+    } else {
+        None
+    }
+}
+
+/// The same of the only message of a packet.
+fn hello_in(alloc: Global, frame: &[u8]) -> Option<Hello> {
+    match decode(alloc, frame) {
+        Ok(decoded) => match decoded.packet.messages.as_slice() {
+            [message] => read(alloc, message),
+            _ => None,
+        },
+        Err(_) => None,
+    }
+}
+
+/// The HELLO of a router 10.0.0.1 that hears nobody.
+const LONE: &[u8] =
+    b"\x00\x00\x83\x00\x22\x0a\x00\x00\x01\x00\x0c\x01\x10\x01\x64\x00\x10\x01\x58\x07\x10\x01\x77\x01\x00\x0a\x00\x00\x01\x00\x04\x02\x10\x01\x00";
+
+const OWN: Addr4 = Addr4(0x0a000001);
+
+fn is_lone(hello: &Hello) -> bool {
+    let own = NetAddr::of(OWN, 32);
+    match hello.rows.as_slice() {
+        [row] => {
+            hello.originator == Some(OWN) && row.addr == own && row.local == Some(LocalIf::This)
+        }
+        _ => false,
+    }
+}
+
+fn a_lone_hello_is_read(alloc: Global) -> bool {
+    match hello_in(alloc, LONE) {
+        Some(hello) => is_lone(&hello),
+        None => false,
+    }
+}
+
+/// A HELLO without originator, interval and willingness: LOCAL_IF on 10.0.0.1, metrics of all kinds with code 5 on all three
+/// addresses, and MPR of 0 on 10.0.0.2 and of 4 on 10.0.0.3.
+const IGNORED: &[u8] =
+    b"\x00\x00\x03\x00\x2b\x00\x04\x01\x10\x01\x64\x03\x00\x0a\x00\x00\x01\x0a\x00\x00\x02\x0a\x00\x00\x03\x00\x11\x02\x50\x00\x01\x00\x07\x10\x02\xf0\x05\x08\x34\x01\x02\x02\x00\x04";
+
+/// Whether LOCAL_IF stands on 10.0.0.1 alone, and metrics on the others alone, without MPR.
+fn is_plain(row: &HelloRow) -> bool {
+    let own = row.addr.addr == OWN;
+    let local = if own { Some(LocalIf::This) } else { None };
+    row.local == local
+        && row.metrics.link_in.is_none() == own
+        && row.metrics.near_out.is_none() == own
+        && !row.mpr.flooding
+        && !row.mpr.routing
+}
+
+fn are_plain(rows: &[HelloRow]) -> bool {
+    match rows {
+        [first, second, third] => is_plain(first) && is_plain(second) && is_plain(third),
+        _ => false,
+    }
+}
+
+fn what_does_not_count_is_ignored(alloc: Global) -> bool {
+    match hello_in(alloc, IGNORED) {
+        Some(hello) => hello.originator.is_none() && are_plain(hello.rows.as_slice()),
+        None => false,
+    }
+}
+
+#[test]
+fn have_rows(rt: HostRuntime) {
+    assert!(rt; a_lone_hello_is_read(rt.alloc()));
+    assert!(rt; what_does_not_count_is_ignored(rt.alloc()));
+}

@@ -1,0 +1,18 @@
+//! Tests of the topology and of the messages seen before, by worked runs over plain lists and over indexed tables; those that
+//! fill a set are over indexed tables alone. And of the settings that they are made of.
+#![tactic(auto)]
+
+#[cfg(test)]
+mod bases;
+#[cfg(test)]
+mod fixtures;
+#[cfg(test)]
+mod flooding;
+#[cfg(test)]
+mod sequence;
+#[cfg(test)]
+mod settings;
+#[cfg(test)]
+mod tcs;
+#[cfg(test)]
+mod topology;

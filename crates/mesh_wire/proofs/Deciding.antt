@@ -1,0 +1,151 @@
+-- What a message says before its rows is told, or it isn't there.
+use Rattle.std.proofs.Common.{◌≡◌, ℕ, ◌<◌, ◌%◌, ◌/◌, ◌*◌, ◌+◌, ◌⊎◌, inl, inr, refl, sym, ap, subst, ◌∙◌, arith, Bool, true, false, cond, List, [], ◌∷◌, map, filter, length}
+use Rattle.std.specs.Prelude.{◌==◌, ◌&&◌, Contains, Option, Some, None}
+use Rattle.std.proofs.lemmas.Bool.{cases_Bool, cases_lt, cases_eq}
+use Rattle.mesh_atoms.specs.declared.addr.NetAddr.{NetAddr}
+use Rattle.mesh_atoms.specs.declared.metric.Metric.{Metric}
+use Rattle.mesh_atoms.specs.Codes.{time_at_distance}
+use Rattle.mesh_packet.specs.Fields.{MessageFields}
+use Rattle.mesh_tlv.specs.Fields.{TlvFields}
+use Rattle.mesh_wire.specs.declared.collect.AddressParts.{AddressParts}
+use Rattle.mesh_wire.specs.declared.parts.One.{One}
+use Rattle.mesh_wire.specs.declared.parts.One.TheVariants.{Unsaid, Said, Several}
+use Rattle.mesh_wire.specs.Hello.{HasWilling}
+use Rattle.mesh_wire.specs.HelloHeading.{IsOther}
+use Rattle.mesh_wire.specs.HelloRows.{MetricFrom}
+use Rattle.mesh_wire.specs.Kinds.{interval_time, validity_time, mpr_willing, link_metric}
+use Rattle.mesh_wire.specs.Laws.{HasOctets}
+use Rattle.mesh_wire.specs.Made.{AreMade}
+use Rattle.mesh_wire.specs.Metrics.{MetricKind, flag_of}
+use Rattle.mesh_wire.specs.Parts.{octets_of, values_of}
+use Rattle.mesh_wire.specs.Rows.{HasValue}
+use Rattle.mesh_wire.specs.Tc.{ContentIs, contents_of}
+use Rattle.mesh_wire.specs.Times.{HasTime, ValidityIs, IntervalIs}
+use Rattle.mesh_wire.proofs.Ascending.{at_head, in_tail, head_or_tail, none_in}
+use Rattle.mesh_wire.proofs.Single.{one_time}
+use Rattle.mesh_wire.proofs.Slots.{OneIs, Shows}
+
+-- there is one, or there is none
+abbrev pub IsThere : (X : Type 0) → (X → Type 0) → Type 0
+IsThere X P = ((x : X) × P x) ⊎ ((x : X) → P x → ⊥)
+
+-- ---- header
+
+pub other_or : (n : ℕ) (o : Option ℕ) → IsOther n o ⊎ (IsOther n o → ⊥)
+other_or n None = inr (λ (m, e, d). cc)
+other_or n (Some k) = elim (cases_eq k n) [ inl e ↦ inr (λ (m, f, d). (let g : k ≡ m = cc in d (sym g ∙ e))) | inr d ↦ inl (k, refl, d) ]
+
+-- ---- times
+
+one_of_list : {X : Type 0} (x y : X) → ◌≡◌ {A = List X} (x ∷ []) (y ∷ []) → x ≡ y
+one_of_list x y e = cc
+
+time_or : (m : MessageFields) (kind distance : ℕ) (values : List (List ℕ)) → values_of kind m ≡ values → IsThere ℕ (HasTime m kind distance)
+time_or m kind distance [] e = inr (λ t (v, is, odd, at). cc)
+time_or m kind distance (v ∷ w ∷ rest) e = inr (λ t (u, is, odd, at). let f : v ∷ (w ∷ rest) ≡ u ∷ [] = sym e ∙ is in cc)
+time_or m kind distance (v ∷ []) e = elim (cases_eq (length v % 2) 1) [
+  | inl odd ↦ inl (time_at_distance distance v, (v, e, odd, refl))
+  | inr even ↦ inr (λ t (u, is, odd, at). even (ap (λ (x : List ℕ). length x % 2) (one_of_list v u (sym e ∙ is)) ∙ odd))
+]
+
+pub validity_or : (m : MessageFields) (distance : ℕ) → IsThere ℕ (ValidityIs m distance)
+validity_or m distance = elim (time_or m validity_time distance (values_of validity_time m) refl) [
+  | inl (t, h) ↦ elim (cases_lt 0 t) [ inl lt ↦ inl (t, (h, lt)) | inr zero ↦ inr (λ u (k, lt). omega (arith, zero, lt, one_time m validity_time distance t u h k)) ]
+  | inr none ↦ inr (λ u h. none u h.0)
+]
+
+pub interval_or : (m : MessageFields) (distance : ℕ) → IsThere (Option ℕ) (IntervalIs m distance)
+interval_or m distance = by (values_of interval_time m) refl
+  where
+    of_time : IsThere ℕ (HasTime m interval_time distance) → (values_of interval_time m ≡ [] → ⊥) → IsThere (Option ℕ) (IntervalIs m distance)
+    of_time (inl (t, h)) some = inl (Some t, h)
+    of_time (inr none) some = inr never
+      where
+        never : (o : Option ℕ) → IntervalIs m distance o → ⊥
+        never None h = some h
+        never (Some t) h = none t h
+
+    by : (values : List (List ℕ)) → values_of interval_time m ≡ values → IsThere (Option ℕ) (IntervalIs m distance)
+    by [] e = inl (None, e)
+    by (v ∷ rest) e = of_time (time_or m interval_time distance (v ∷ rest) e) (λ f. let g : v ∷ rest ≡ [] = sym e ∙ f in cc)
+
+-- ---- willingness
+
+pub willing_or : (m : MessageFields) → IsThere ℕ (HasWilling m)
+willing_or m = by (values_of mpr_willing m) refl
+  where
+    never : (v : List ℕ) (rest : List (List ℕ)) → values_of mpr_willing m ≡ v ∷ rest → ((n : ℕ) → v ∷ rest ≡ (n ∷ []) ∷ [] → ⊥) → (n : ℕ) → HasWilling m n → ⊥
+    never v rest e none n (inl (f, is)) = (let g : v ∷ rest ≡ [] = sym e ∙ f in cc)
+    never v rest e none n (inr f) = none n (sym e ∙ f)
+
+    by : (values : List (List ℕ)) → values_of mpr_willing m ≡ values → IsThere ℕ (HasWilling m)
+    by [] e = inl (119, inl (e, refl))
+    by ((n ∷ []) ∷ []) e = inl (n, inr e)
+    by ([] ∷ []) e = inr (never [] [] e (λ n f. cc))
+    by ((a ∷ b ∷ c) ∷ []) e = inr (never (a ∷ (b ∷ c)) [] e (λ n f. let g : a ∷ (b ∷ c) ≡ n ∷ [] = one_of_list (a ∷ (b ∷ c)) (n ∷ []) f in cc))
+    by (v ∷ w ∷ rest) e = inr (never v (w ∷ rest) e (λ n f. cc))
+
+-- a value is that of a TLV
+value_from : (kind : ℕ) (tlvs : List TlvFields) (v : List ℕ) → Contains (map (λ (p : TlvFields). octets_of p.value) (filter (λ (p : TlvFields). p.kind == kind && p.ext == 0) tlvs)) v →
+    (tlv : TlvFields) × Contains tlvs tlv × (octets_of tlv.value ≡ v)
+value_from kind [] v h = absurd (none_in v h)
+value_from kind (t ∷ tlvs) v h = elim (cases_Bool (t.kind == kind && t.ext == 0)) [
+  | inl y ↦ elim (head_or_tail (octets_of t.value) (values tlvs) v (subst (λ (b : Bool). Contains (cond b (octets_of t.value ∷ values tlvs) (values tlvs)) v) y (spread h))) [
+    | inl e ↦ (t, at_head t tlvs, e)
+    | inr later ↦ let (u, there, is) = value_from kind tlvs v later in (u, in_tail t tlvs u there, is)
+  ]
+  | inr n ↦ let (u, there, is) = value_from kind tlvs v (subst (λ (b : Bool). Contains (cond b (octets_of t.value ∷ values tlvs) (values tlvs)) v) n (spread h)) in (u, in_tail t tlvs u there, is)
+]
+  where
+    values : List TlvFields → List (List ℕ)
+    values ts = map (λ (p : TlvFields). octets_of p.value) (filter (λ (p : TlvFields). p.kind == kind && p.ext == 0) ts)
+
+    pushed : (b : Bool) → map (λ (p : TlvFields). octets_of p.value) (cond b (t ∷ filter (λ (p : TlvFields). p.kind == kind && p.ext == 0) tlvs) (filter (λ (p : TlvFields). p.kind == kind && p.ext == 0) tlvs)) ≡ cond b (octets_of t.value ∷ values tlvs) (values tlvs)
+    pushed true = refl
+    pushed false = refl
+
+    spread : Contains (map (λ (p : TlvFields). octets_of p.value) (filter (λ (p : TlvFields). p.kind == kind && p.ext == 0) (t ∷ tlvs))) v → Contains (cond (t.kind == kind && t.ext == 0) (octets_of t.value ∷ values tlvs) (values tlvs)) v
+    spread k = subst (λ (l : List (List ℕ)). Contains l v) (pushed (t.kind == kind && t.ext == 0)) k
+
+pub willing_octet : (m : MessageFields) → HasOctets m → (n : ℕ) → HasWilling m n → n < 256
+willing_octet m octets n (inl (e, is)) = omega (arith, is)
+willing_octet m octets n (inr e) =
+    let (tlv, there, is) = value_from mpr_willing m.tlvs (n ∷ []) (subst (λ (l : List (List ℕ)). Contains l (n ∷ [])) (sym e) (at_head (n ∷ []) [])) in
+    octets.tlvs tlv there n (subst (λ (l : List ℕ). Contains l n) (sym is) (at_head n []))
+
+-- ---- content
+
+abbrev pub Content : Type 0
+Content = ℕ × Bool
+
+pub content_or : (m : MessageFields) → IsThere Content (λ x. ContentIs m x.0 x.1)
+content_or m = by (contents_of m) refl
+  where
+    of_octets : (part : TlvFields) → contents_of m ≡ part ∷ [] → (octets : List ℕ) → octets_of part.value ≡ octets → IsThere Content (λ x. ContentIs m x.0 x.1)
+    of_octets part e (high ∷ low ∷ []) is = inl ((256 * high + low, part.ext == 0), (part, high, low, e, is, refl, refl))
+    of_octets part e [] is = inr (λ x (q, high, low, f, g, h, k). let s : part ≡ q = one_of_list part q (sym e ∙ f) in let t : [] ≡ high ∷ low ∷ [] = sym is ∙ ap (λ (p : TlvFields). octets_of p.value) s ∙ g in cc)
+    of_octets part e (a ∷ []) is = inr (λ x (q, high, low, f, g, h, k). let s : part ≡ q = one_of_list part q (sym e ∙ f) in let t : a ∷ [] ≡ high ∷ low ∷ [] = sym is ∙ ap (λ (p : TlvFields). octets_of p.value) s ∙ g in cc)
+    of_octets part e (a ∷ b ∷ c ∷ rest) is = inr (λ x (q, high, low, f, g, h, k). let s : part ≡ q = one_of_list part q (sym e ∙ f) in let t : a ∷ (b ∷ (c ∷ rest)) ≡ high ∷ low ∷ [] = sym is ∙ ap (λ (p : TlvFields). octets_of p.value) s ∙ g in cc)
+
+    by : (parts : List TlvFields) → contents_of m ≡ parts → IsThere Content (λ x. ContentIs m x.0 x.1)
+    by [] e = inr (λ x (q, high, low, f, g, h, k). let t : [] ≡ q ∷ [] = sym e ∙ f in cc)
+    by (p ∷ []) e = of_octets p e (octets_of p.value) refl
+    by (p ∷ q ∷ rest) e = inr (λ x (r, high, low, f, g, h, k). let t : p ∷ (q ∷ rest) ≡ r ∷ [] = sym e ∙ f in cc)
+
+-- ---- rows
+
+-- the metric of a code that is kept
+pub metric_of : (m : MessageFields) → HasOctets m → (net : NetAddr) (kind : MetricKind) (one : One) → OneIs (Shows (HasValue m net link_metric) (flag_of kind)) one → (metric : Option Metric) × MetricFrom one metric
+metric_of m octets net kind Unsaid h = (None, refl)
+metric_of m octets net kind Several h = (None, refl)
+metric_of m octets net kind (Said n) h =
+    let (high, low, (value, part, is), on, code) = h.0 in
+    let below : low < 256 = octets.parts net (record { kind = link_metric; ext = 0; value = value }) part low (subst (λ (l : List ℕ). Contains l low) is (in_tail high (low ∷ []) low (at_head low []))) in
+    (Some (record { code = n / 16; in_range = omega (arith, below, code) }), refl)
+
+pub made : {Row : Type 0} (From : AddressParts → Row → Type 0) (told : List AddressParts) → ((t : AddressParts) → Contains told t → (r : Row) × From t r) → (rows : List Row) × AreMade From told rows
+made From [] make = ([], tt)
+made From (t ∷ told) make =
+    let (r, is) = make t (at_head t told) in
+    let (rows, are) = made From told (λ u h. make u (in_tail t told u h)) in
+    (r ∷ rows, (is, are))

@@ -1,0 +1,6 @@
+use Rattle.std.specs.Prelude.{◌≡◌, None, drop}
+use Rattle.mesh_wire.specs.RowRules.{first_rule}
+use Rattle.mesh_wire.proofs.rows.first_rule.Given as goal
+
+abbrev pub invariant-loop-i : goal.invariant-loop-i
+invariant-loop-i g l = first_rule g.R.Row.rule l.found (drop l.i l.told) ≡ first_rule g.R.Row.rule None l.told

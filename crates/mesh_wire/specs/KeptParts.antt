@@ -1,0 +1,88 @@
+-- What is kept of the values that are said of one address, value by value.
+use Rattle.std.specs.Prelude.{ℕ, ◌+◌, ◌*◌, ◌%◌, List, [], ◌∷◌, length, Bool, true, false, not, ◌&&◌, ◌||◌, ◌==◌, nat_lt, nat_le, if◌then◌else◌}
+use Rattle.mesh_atoms.specs.Reading.{has}
+use Rattle.mesh_wire.specs.Kinds.{local_if, link_status, other_neighb, link_metric, mpr, nbr_addr_type, gateway}
+use Rattle.mesh_wire.specs.declared.parts.One.{One}
+use Rattle.mesh_wire.specs.declared.parts.One.TheVariants.{Unsaid, Said, Several}
+use Rattle.mesh_wire.specs.declared.parts.Octets.{Octets}
+use Rattle.mesh_wire.specs.declared.parts.RowParts.{RowParts}
+
+-- one number more
+abbrev pub also : One → ℕ → One
+also Unsaid n = Said n
+also (Said m) n = if m == n then Said m else Several
+also Several n = Several
+
+-- one metric more, where it is of that kind, as 16 times its code
+abbrev pub code_also : Bool → ℕ → List ℕ → One → One
+code_also on flag (high ∷ low ∷ []) one = if on && has high flag then also one (16 * (256 * (high % 16) + low)) else one
+code_also on flag [] one = one
+code_also on flag (a ∷ []) one = one
+code_also on flag (a ∷ b ∷ c ∷ rest) one = one
+
+-- one octet more, where it is of that type, as 256 times the octet
+abbrev pub octet_also : Bool → List ℕ → One → One
+octet_also on (n ∷ []) one = if on then also one (256 * n) else one
+octet_also on [] one = one
+octet_also on (a ∷ b ∷ rest) one = one
+
+-- whether a value is one octet in the range
+abbrev pub is_octet_in : ℕ → ℕ → List ℕ → Bool
+is_octet_in low bound (n ∷ []) = nat_le low n && nat_lt n bound
+is_octet_in low bound [] = false
+is_octet_in low bound (a ∷ b ∷ rest) = false
+
+-- whether a value sets the flag, by itself or beside the other one
+abbrev pub says_flag : ℕ → List ℕ → Bool
+says_flag flag octets = is_octet_in flag (flag + 1) octets || is_octet_in 3 4 octets
+
+-- one value more, where it is of that type
+abbrev pub octets_also : Bool → ℕ → ℕ → List ℕ → Octets → Octets
+octets_also false low bound octets o = o
+octets_also true low bound (n ∷ []) o = if nat_le low n && nat_lt n bound then record { wrong = o.wrong; one = also o.one n } else record { wrong = true; one = o.one }
+octets_also true low bound [] o = record { wrong = true; one = o.one }
+octets_also true low bound (a ∷ b ∷ rest) o = record { wrong = true; one = o.one }
+
+-- whether a value is not of so many octets
+abbrev pub has_other_length : ℕ → List ℕ → Bool
+has_other_length n octets = not (length octets == n)
+
+-- nothing is said
+abbrev pub no_parts : RowParts
+no_parts = record {
+  local = record { wrong = false; one = Unsaid };
+  link = record { wrong = false; one = Unsaid };
+  other = record { wrong = false; one = Unsaid };
+  addr_type = record { wrong = false; one = Unsaid };
+  wrong_gateway = false;
+  gateway = Unsaid;
+  wrong_metric = false;
+  link_in = Unsaid;
+  link_out = Unsaid;
+  near_in = Unsaid;
+  near_out = Unsaid;
+  flooding = false;
+  routing = false;
+  origin = false;
+  routable = false;
+}
+
+-- one value more, of a type without extension
+abbrev pub take_part : ℕ → List ℕ → RowParts → RowParts
+take_part kind octets r = record {
+  local = octets_also (kind == local_if) 0 2 octets r.local;
+  link = octets_also (kind == link_status) 0 3 octets r.link;
+  other = octets_also (kind == other_neighb) 0 2 octets r.other;
+  addr_type = octets_also (kind == nbr_addr_type) 1 4 octets r.addr_type;
+  wrong_gateway = r.wrong_gateway || (kind == gateway && has_other_length 1 octets);
+  gateway = octet_also (kind == gateway) octets r.gateway;
+  wrong_metric = r.wrong_metric || (kind == link_metric && has_other_length 2 octets);
+  link_in = code_also (kind == link_metric) 128 octets r.link_in;
+  link_out = code_also (kind == link_metric) 64 octets r.link_out;
+  near_in = code_also (kind == link_metric) 32 octets r.near_in;
+  near_out = code_also (kind == link_metric) 16 octets r.near_out;
+  flooding = r.flooding || (kind == mpr && says_flag 1 octets);
+  routing = r.routing || (kind == mpr && says_flag 2 octets);
+  origin = r.origin || (kind == nbr_addr_type && says_flag 1 octets);
+  routable = r.routable || (kind == nbr_addr_type && says_flag 2 octets);
+}
