@@ -1,0 +1,156 @@
+//! The arcs of a router's own graph (RFC 7181, section 19.1).
+ghost use Rattle.std.specs.Prelude.{◌≡◌, ◌+◌, ◌++◌, ◌≤◌, length, IfOk, OnOk, Some};
+ghost use Rattle.std.specs.List.{filter_map, cons_option};
+ghost use Rattle.std.specs.Prelude.{[]};
+ghost use Rattle.mesh_atoms.specs.declared.graphs.Arc4.{Arc4};
+ghost use Rattle.mesh_atoms.specs.Base.{base_of};
+ghost use Rattle.mesh_routes.specs.Arcs.{known_arc, own_arc, two_hop_arc};
+ghost use Rattle.mesh_routes.specs.Owners.{addr_cmp};
+ghost use Rattle.std.specs.BTreeMap.{IsOrdered};
+ghost use Rattle.mesh_routes.specs.Passes.{Adds, GivenBy};
+
+use crate::owners::{Owner, owner_at};
+use mesh_atoms::{
+    Addr4, AddressKey, AddressTuple, Arc4, Metric, NetAddr, NetworkKey, NetworkTuple, RouterKey,
+    RouterTuple, Seq, TwoHop, TwoHopKey, host,
+};
+use mesh_expire::{Key, Table};
+use mesh_nbrs::Near4;
+use std::alloc::AllocError;
+use std::collections::BTreeMap;
+
+// The arc at a metric, if it is known.
+fn known_arc(from: NetAddr, to: NetAddr, metric: Option<Metric>) -> Option<Arc4>
+    ensures { result ≡ known_arc from to metric }
+{
+    let metric = metric?;
+    Some(Arc4 {
+        from,
+        to,
+        metric: metric.value(),
+    })
+}
+
+// Puts an arc at the end, if there is one.
+fn put_arc(arcs: &mut Seq<Arc4>, arc: Option<Arc4>) -> Result<(), AllocError>
+    ensures { OnOk result (arcs.new ≡ arcs.old ++ cons_option arc []) }
+{
+    match arc {
+        Some(arc) => arcs.push(arc),
+        None => Ok(()),
+    }
+}
+
+/// Puts the arcs from the router itself to its neighbours' addresses. Takes one pass over the owners.
+pub(crate) fn put_own_arcs(
+    arcs: &mut Seq<Arc4>,
+    from: NetAddr,
+    owners: &BTreeMap<Addr4, Owner>,
+) -> Result<(), AllocError>
+    ensures arcs { OnOk result (arcs.new ≡ arcs.old ++ filter_map (own_arc from) owners.now.entries) }
+    ensures ordered { IsOrdered addr_cmp owners.now }
+{
+    for (addr, owner) in owners.iter() {
+        put_arc(arcs, known_arc(from, host(*addr), owner.metric_out))?;
+    }
+    Ok(())
+}
+
+// The arc of a 2-hop tuple, if its neighbour is willing to route and its metric is known.
+fn two_hop_arc(owners: &BTreeMap<Addr4, Owner>, key: &TwoHopKey, two_hop: &TwoHop) -> Option<Arc4>
+    ensures { (until : _) → result ≡ two_hop_arc owners.now (key.now, (two_hop.now, until)) }
+{
+    let owner = owner_at(owners, key.link.addr)?;
+    if owner.willing.routing == 0 {
+        return None;
+    }
+    known_arc(host(owner.originator), host(key.addr), two_hop.metric_out)
+}
+
+/// Puts the arcs from neighbours to the 2-hop addresses of an interface. Takes a look-up for each 2-hop tuple.
+pub(crate) fn put_two_hop_arcs<N: Near4>(
+    arcs: &mut Seq<Arc4>,
+    near: &N,
+    iface: usize,
+    owners: &BTreeMap<Addr4, Owner>,
+) -> Result<(), AllocError>
+    ensures adds { OnOk result (Adds (GivenBy (λ e arc. two_hop_arc owners.now e ≡ Some arc) (base_of (N.near near.now).two_hops iface)) arcs.old arcs.new) }
+    ensures few { OnOk result (length arcs.new ≤ length arcs.old + length (base_of (N.near near.now).two_hops iface)) }
+{
+    for place in 0..near.two_hops(iface) {
+        if let Some((key, two_hop, _)) = near.two_hop(iface, place) {
+            put_arc(arcs, two_hop_arc(owners, key, two_hop))?;
+        }
+    }
+    Ok(())
+}
+
+/// A topology tuple that leads from the router that told of it to what it told.
+pub(crate) trait Leads<K>: Sized {
+    ghost leads: { K → Self → Arc4 };
+
+    /// The arc of the tuple with that key.
+    fn arc_by(&self, key: &K) -> Arc4
+        ensures { result ≡ leads key.now self.now };
+}
+
+impl Leads<RouterKey> for RouterTuple {
+    ghost use Rattle.mesh_atoms.specs.Base.{host};
+    ghost use Rattle.mesh_routes.specs.Arcs.{arc_at};
+
+    ghost leads = { λ key tuple. arc_at (host key.from) (host key.to) tuple.metric };
+
+    fn arc_by(&self, key: &RouterKey) -> Arc4 {
+        Arc4 {
+            from: host(key.from),
+            to: host(key.to),
+            metric: self.metric.value(),
+        }
+    }
+}
+
+impl Leads<AddressKey> for AddressTuple {
+    ghost use Rattle.mesh_atoms.specs.Base.{host};
+    ghost use Rattle.mesh_routes.specs.Arcs.{arc_at};
+
+    ghost leads = { λ key tuple. arc_at (host key.from) (host key.addr) tuple.metric };
+
+    fn arc_by(&self, key: &AddressKey) -> Arc4 {
+        Arc4 {
+            from: host(key.from),
+            to: host(key.addr),
+            metric: self.metric.value(),
+        }
+    }
+}
+
+impl Leads<NetworkKey> for NetworkTuple {
+    ghost use Rattle.mesh_atoms.specs.Base.{host};
+    ghost use Rattle.mesh_routes.specs.Arcs.{arc_at};
+
+    ghost leads = { λ key tuple. arc_at (host key.from) key.net tuple.metric };
+
+    fn arc_by(&self, key: &NetworkKey) -> Arc4 {
+        Arc4 {
+            from: host(key.from),
+            to: key.net,
+            metric: self.metric.value(),
+        }
+    }
+}
+
+/// Puts the arcs of the tuples of a topology set. Takes one pass over it.
+pub(crate) fn put_topology_arcs<K: Key, V: Leads<K>, T: Table<K, V>>(
+    arcs: &mut Seq<Arc4>,
+    table: &T,
+) -> Result<(), AllocError>
+    ensures adds { OnOk result (Adds (GivenBy (λ e arc. V.leads e.0 e.1.0 ≡ arc) (T.content table.now)) arcs.old arcs.new) }
+    ensures few { OnOk result (length arcs.new ≤ length arcs.old + length (T.content table.now)) }
+{
+    for place in 0..table.len() {
+        if let Some((key, tuple, _)) = table.at(place) {
+            arcs.push(tuple.arc_by(key))?;
+        }
+    }
+    Ok(())
+}

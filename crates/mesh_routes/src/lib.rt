@@ -1,0 +1,20 @@
+//! The routes of a router (RFC 7181, section 19): from its information bases, the least walks over the graph that they give,
+//! and the next hop of each.
+#![tactic(auto)]
+
+mod arcs;
+mod bases;
+mod choice;
+mod costs;
+mod firsts;
+mod own;
+mod owners;
+mod routes;
+mod rows;
+mod set;
+mod ways;
+
+pub use choice::graph_of;
+pub use mesh_atoms::Route;
+pub use routes::routes_of;
+pub use set::RoutingSet;
