@@ -1,0 +1,65 @@
+-- What follows of a step for its callers.
+use Rattle.std.proofs.Common.{◌≡◌, ℕ, ◌≤◌, ◌<◌, sym, ap, subst, ◌∙◌, arith, List, [], ◌++◌, length, drop, Result, Ok, Err}
+use Rattle.std.specs.Prelude.{IfOk, OnOk, OnErr, min}
+use Rattle.std.proofs.lemmas.List.{append-nil}
+use Rattle.std.proofs.Math.Seq.{drop-append_seam}
+use Rattle.mesh_atoms.specs.State.{State}
+use Rattle.mesh_machine.specs.declared.arrival.Arrival.{Arrival}
+use Rattle.mesh_machine.specs.declared.fate.Heard.{Heard}
+use Rattle.mesh_machine.specs.declared.fate.Heard.TheVariants as heard
+use Rattle.mesh_machine.specs.declared.frame.Frame.{Frame}
+use Rattle.mesh_machine.specs.Sending.{SendsHellos, Hellos_early, Hellos_due, SendsTc, Tc_early, Tc_silent, Tc_due}
+use Rattle.mesh_machine.specs.Machine.{Hears, TicksAt, due}
+use Rattle.mesh_machine.specs.Frames.{sent_since}
+
+-- what an outbox has got
+pub since_is : (old new sent : List Frame) → new ≡ old ++ sent → sent_since old new ≡ sent
+since_is old new sent is = ap (λ (frames : List Frame). drop (length old) frames) is ∙ drop-append_seam old sent
+
+pub since_appends : (old new sent : List Frame) → new ≡ old ++ sent → new ≡ old ++ sent_since old new
+since_appends old new sent is = is ∙ ap (λ (frames : List Frame). old ++ frames) (sym (since_is old new sent is))
+
+pub since_same : (old new : List Frame) → new ≡ old → new ≡ old ++ sent_since old new
+since_same old new same = since_appends old new [] (same ∙ sym (append-nil old))
+
+pub appends : {A E : Type 0} (Q : A → List Frame → Type 0) (r : Result A E) (old new : List Frame) → IfOk r (λ (x : A). (sent : List Frame) × (new ≡ old ++ sent) × Q x sent) → OnErr r (new ≡ old) → new ≡ old ++ sent_since old new
+appends Q (Ok x) old new ok err = since_appends old new ok.0 ok.1
+appends Q (Err e) old new ok err = since_same old new err
+
+pub appends_on : {A E : Type 0} (Q : List Frame → Type 0) (r : Result A E) (old new : List Frame) → OnOk r ((sent : List Frame) × (new ≡ old ++ sent) × Q sent) → OnErr r (new ≡ old) → new ≡ old ++ sent_since old new
+appends_on Q (Ok x) old new ok err = since_appends old new ok.0 ok.1
+appends_on Q (Err e) old new ok err = since_same old new err
+
+-- what is so of what is sent is so of what the outbox has got
+pub since : (Q : List Frame → Type 0) (old new sent : List Frame) → new ≡ old ++ sent → Q sent → Q (sent_since old new)
+since Q old new sent is q = subst Q (sym (since_is old new sent is)) q
+
+-- a frame that is heard
+pub hears_settings : (old : State) (arrival : Arrival) (bytes : List ℕ) (answer : Heard) (sent : List Frame) (new : State) → Hears old arrival bytes answer sent new → new.settings ≡ old.settings
+hears_settings old arrival bytes (heard.Refused refusal) sent new hears = ap (λ (s : State). s.settings) hears.2
+hears_settings old arrival bytes (heard.Taken fates) sent new hears = hears.renews.settings
+
+pub hears_last : (old : State) (arrival : Arrival) (bytes : List ℕ) (answer : Heard) (sent : List Frame) (new : State) → old.last ≤ arrival.now → Hears old arrival bytes answer sent new → new.last ≤ arrival.now
+hears_last old arrival bytes (heard.Refused refusal) sent new later hears = let same = ap (λ (s : State). s.last) hears.2 in omega (arith, later, same)
+hears_last old arrival bytes (heard.Taken fates) sent new later hears = let is = hears.renews.last in omega (arith, is)
+
+pub hears_due : (old : State) (arrival : Arrival) (bytes : List ℕ) (answer : Heard) (sent : List Frame) (new : State) → Hears old arrival bytes answer sent new → due new ≡ due old
+hears_due old arrival bytes (heard.Refused refusal) sent new hears = ap (λ (s : State). due s) hears.2
+hears_due old arrival bytes (heard.Taken fates) sent new hears = ap (λ (n : ℕ). min n new.next_tc) hears.next_hello ∙ ap (λ (n : ℕ). min old.next_hello n) hears.next_tc
+
+-- a tick
+hello_later : (old new : State) (sent : List Frame) → SendsHellos old new sent → new.last < new.next_hello
+hello_later old new sent (Hellos_early early same) = omega (arith, early, same)
+hello_later old new sent (Hellos_due late next frames) = next.later
+
+tc_later : (old new : State) (sent : List Frame) → SendsTc old new sent → new.last < new.next_tc
+tc_later old new sent (Tc_early early same number) = omega (arith, early, same)
+tc_later old new sent (Tc_silent late next none number) = next.later
+tc_later old new sent (Tc_due late next tells number tc is bytes written) = next.later
+
+pub ticks_due : (old : State) (now : ℕ) (sent : List Frame) (new : State) → TicksAt old now sent new → now < due new
+ticks_due old now sent new ticks =
+    let a = hello_later old new ticks.hellos ticks.sends_hellos in
+    let b = tc_later old new ticks.tcs ticks.sends_tc in
+    let is = ticks.renews.last in
+    omega (arith, a, b, is)

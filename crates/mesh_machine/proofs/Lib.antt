@@ -1,0 +1,10 @@
+pub mod Effects
+pub mod Given
+pub mod Hops
+pub mod Opening
+pub mod Originators
+pub mod Saying
+pub mod Sendables
+pub mod Soundness
+pub mod Tables
+pub mod Takes

@@ -1,0 +1,199 @@
+-- The opening state of a router is sound.
+use Rattle.std.proofs.Common.{◌≡◌, ℕ, zero, suc, inl, inr, refl, sym, ◌∙◌, ap, subst, arith, List, [], ◌∷◌, length, replicate, Contains, Some, None, Bool}
+use Rattle.std.specs.Prelude.{slice_get, slice_index_or}
+use Rattle.std.specs.List.{IsDistinct}
+use Rattle.std.proofs.lemmas.List.{get_or-replicate, get_or_past, length-replicate}
+use Rattle.std.proofs.lemmas.Bool.{cases_lt}
+use Rattle.std.proofs.lemmas.Option.{none-some}
+use Rattle.mesh_atoms.specs.declared.addr.Addr4.{Addr4}
+use Rattle.mesh_atoms.specs.declared.addr.NetAddr.{NetAddr}
+use Rattle.mesh_atoms.specs.declared.settings.RouterSettings.{RouterSettings}
+use Rattle.mesh_atoms.specs.declared.tuples.Neighbour.{Neighbour}
+use Rattle.mesh_atoms.specs.declared.tuples.Relays.{Relays}
+use Rattle.mesh_atoms.specs.Base.{Base, Has, base_of, host}
+use Rattle.mesh_atoms.specs.RelayGraphs.{AreRelays, AreRelaysOf, IsFloodingGraph, IsRoutingGraph}
+use Rattle.mesh_atoms.specs.Routes.{AreRoutes, RouteArc, To_neighbour, To_two_hop, By_router, By_address, By_network}
+use Rattle.mesh_atoms.specs.Sound.{Sound, SoundNeighbourhood, SoundTopology, SoundNoted, IsWithin}
+use Rattle.mesh_atoms.specs.State.{State, Bases, Topology, NotedMessages}
+use Rattle.mesh_atoms.specs.Walk.{Walk, Stay, Onward}
+use Rattle.mesh_atoms.specs.Advertised.{AreTcRows}
+use Rattle.mesh_nhdp.specs.NhdpState.{empty_near}
+use Rattle.mesh_nhdp.proofs.Empty.{empty_parts}
+use Rattle.mesh_nhdp.proofs.Lookups.{Contains_at}
+use Rattle.mesh_machine.specs.declared.frame.Frame.{Frame}
+use Rattle.mesh_machine.specs.Machine.{no_bases, no_relays, IsOpening, Event, Steps, No_events, First_event, Run}
+use Rattle.mesh_machine.proofs.Originators.{some_originator}
+use Rattle.mesh_machine.proofs.Soundness.{step_sound}
+
+none_among : {X B : Type 0} (xs : List X) (x : X) → xs ≡ [] → Contains xs x → B
+none_among xs x empty has = let l = has.1 in let e = ap length empty in absurd (omega (arith, l, e))
+
+none_has : {K V B : Type 0} (base : Base K V) (key : K) (v : V) → base ≡ [] → Has base key v → B
+none_has base key v empty has = none_among base (key, (v, has.0)) empty has.1
+
+in_replicate : {X : Type 0} (n i : ℕ) (x y : X) → slice_get (replicate n x) i ≡ Some y → y ≡ x
+in_replicate zero i x y at = absurd (none-some y at)
+in_replicate (suc n) zero x y at = let both : Some x ≡ Some y = at in cc
+in_replicate (suc n) (suc i) x y at = in_replicate n i x y at
+
+-- sets that are all empty
+pub all_empty : {K V : Type 0} (sets : List (Base K V)) (n : ℕ) → length sets ≡ n → ((i : ℕ) → base_of sets i ≡ []) → sets ≡ replicate n []
+all_empty [] zero count none = refl
+all_empty [] (suc n) count none = absurd (omega (arith, count))
+all_empty (set ∷ sets) zero count none = absurd (omega (arith, count))
+all_empty {K} {V} (set ∷ sets) (suc n) count none =
+    let first : set ≡ [] = none 0 in
+    let others : sets ≡ replicate n [] = all_empty sets n (omega (arith, count)) (λ i. none (suc i)) in
+    ap (λ (s : Base K V). s ∷ sets) first ∙ ap (λ (ss : List (Base K V)). [] ∷ ss) others
+
+empty_base : {K V : Type 0} (count i : ℕ) → slice_index_or (replicate count (let none : Base K V = [] in none)) i [] ≡ []
+empty_base {K} {V} count i = elim (cases_lt i count) [
+  | inl lt ↦ get_or-replicate count i [] [] lt
+  | inr past ↦ get_or_past (replicate count (let none : Base K V = [] in none)) i [] (let e : length (replicate count (let none : Base K V = [] in none)) ≡ count = length-replicate count [] in omega (arith, e, past))
+]
+
+within_none : {K V : Type 0} (eq : K → K → Bool) (now most : ℕ) (base : Base K V) → base ≡ [] → IsWithin eq now most base
+unfolding IsDistinct
+within_none {K} {V} eq now most base empty = subst (λ (b : Base K V). IsWithin eq now most b) (sym empty) (record {
+  distinct = tt;
+  limit = omega arith;
+  fresh = λ key v until at. absurd (none-some (v, until) at);
+})
+
+module _ (s : State) (n : ℕ) (bases : s.bases ≡ no_bases n) where
+  no_neighbour : {B : Type 0} (o : Addr4) (m : Neighbour) → Has s.bases.neighbourhood.neighbours o m → B
+  no_neighbour o m has = none_has s.bases.neighbourhood.neighbours o m (ap (λ (b : Bases). b.neighbourhood.neighbours) bases) has
+
+  no_arc : (a b : NetAddr) (c : ℕ) → RouteArc s a b c → ⊥
+  no_arc a b c (To_neighbour o m is has out) = no_neighbour o m has.0.0
+  no_arc a b c (To_two_hop i link t m stands with will out) = no_neighbour _ m with.0.0
+  no_arc a b c (By_router t has) = none_has s.bases.topology.routers _ t (ap (λ (b : Bases). b.topology.routers) bases) has
+  no_arc a b c (By_address t has) = none_has s.bases.topology.addresses _ t (ap (λ (b : Bases). b.topology.addresses) bases) has
+  no_arc a b c (By_network t has) = none_has s.bases.topology.networks _ t (ap (λ (b : Bases). b.topology.networks) bases) has
+
+  stays : (a b : NetAddr) (c : ℕ) → Walk (RouteArc s) a b c → b ≡ a
+  stays a b c Stay = refl
+  stays a b c (Onward walk arc) = absurd (no_arc _ _ _ arc)
+
+  no_routes : (now : ℕ) → s.routes ≡ [] → (self : Addr4) × AreRoutes s now self
+  no_routes now none =
+      let (self, is) = some_originator s.settings in
+      let (face, at_face, at) = is in (
+        self,
+        record {
+          is_self = is;
+          reached = λ node c walk outside. absurd (outside.no_address self (0, (face, at_face, Contains_at face.addrs 0 self at)) (stays (host self) node c walk));
+          outside = λ row has. none_among s.routes row none has;
+          least = λ row has. none_among s.routes row none has;
+          parent = λ row has. none_among s.routes row none has;
+          next_hop = λ row has. none_among s.routes row none has;
+          ordered = λ i j d below within. let e = ap length none in absurd (omega (arith, below, within, e));
+        },
+      )
+
+  empty_flooding : (now i : ℕ) → IsFloodingGraph s now i (record { near = []; direct = []; far = [] })
+  empty_flooding now i = record {
+    near = λ e. (λ has. none_among [] e refl has, λ given. no_neighbour e.id given.0 given.2.0);
+    direct = λ e. (λ has. none_among [] e refl has, λ given. no_neighbour given.0 given.1 given.3.0.0);
+    far = λ e. (λ has. none_among [] e refl has, λ given. no_neighbour e.via given.2 given.6.0.0);
+  }
+
+  empty_routing : IsRoutingGraph s (record { near = []; direct = []; far = [] })
+  empty_routing = record {
+    near = λ e. (λ has. none_among [] e refl has, λ given. no_neighbour e.id given.0 given.2.0);
+    direct = λ e. (λ has. none_among [] e refl has, λ given. no_neighbour given.0 given.1 given.3.0.0);
+    far = λ e. (λ has. none_among [] e refl has, λ given. no_neighbour e.via given.3 given.7.0.0);
+  }
+
+  none_of : AreRelaysOf (record { near = []; direct = []; far = [] }) []
+  none_of = record {
+    covers = record {
+      always = λ e has will. none_among [] e refl has;
+      willing = λ id has. none_among [] id refl has;
+      as_cheap = λ f c has offers. none_among [] f refl has;
+    };
+    needed = record { missed = λ e has chosen willing below. none_among [] e refl has };
+    ascending = λ i j d below within. absurd (omega (arith, below, within));
+  }
+
+  no_relays_needed : (now : ℕ) → s.relays ≡ no_relays n → n ≡ length s.settings.interfaces → AreRelays s now
+  no_relays_needed now none count = record {
+    interfaces = ap (λ (r : Relays). length r.flooding) none ∙ (length-replicate n [] ∙ count);
+    flooding = λ i relays at.
+        let same : relays ≡ [] = in_replicate n i [] relays (subst (λ (r : Relays). slice_get r.flooding i ≡ Some relays) none at) in
+        (record { near = []; direct = []; far = [] }, empty_flooding now i, subst (λ (r : List Addr4). AreRelaysOf (record { near = []; direct = []; far = [] }) r) (sym same) none_of);
+    routing = (record { near = []; direct = []; far = [] }, empty_routing, subst (λ (r : Relays). AreRelaysOf (record { near = []; direct = []; far = [] }) r.routing) (sym none) none_of);
+  }
+
+-- a router before its first event is sound
+pub opening_sound : (settings : RouterSettings) (s : State) → IsOpening settings s → Sound s
+opening_sound settings s is =
+    let n : ℕ = length settings.interfaces in
+    let count : n ≡ length s.settings.interfaces = ap (λ (r : RouterSettings). length r.interfaces) (sym is.settings_are) in
+    let (self, routes) = no_routes s n is.bases s.last is.routes in
+    record {
+      neighbourhood = subst (λ (b : Bases). SoundNeighbourhood s.settings s.last b.neighbourhood) (sym is.bases) (empty_parts s.settings s.last n (no_bases n).neighbourhood count refl refl refl refl);
+      topology = subst (λ (b : Bases). SoundTopology s.settings s.last b.topology) (sym is.bases) (record {
+        advertisers = within_none _ _ _ _ refl;
+        routers = within_none _ _ _ _ refl;
+        addresses = within_none _ _ _ _ refl;
+        networks = within_none _ _ _ _ refl;
+        not_my_advertiser = λ o mine. refl;
+        not_my_router = λ key mine. refl;
+        not_my_address = λ key mine. refl;
+        not_my_network = λ key mine. refl;
+      });
+      noted = subst (λ (b : Bases). SoundNoted s.settings s.last b.noted) (sym is.bases) (record {
+        interfaces = length-replicate n [] ∙ count;
+        received = λ i. within_none _ _ _ _ (empty_base n i);
+        processed = within_none _ _ _ _ refl;
+        forwarded = within_none _ _ _ _ refl;
+      });
+      relays = no_relays_needed s n is.bases s.last is.relays count;
+      self = self;
+      routes = routes;
+      rows = is.rows;
+    }
+
+-- a state is the opening one by its parts
+pub opens : (settings : RouterSettings) (s : State) → s.settings ≡ settings → s.bases.neighbourhood ≡ empty_near (length settings.interfaces) →
+    s.bases.topology.advertisers ≡ [] → s.bases.topology.routers ≡ [] → s.bases.topology.addresses ≡ [] → s.bases.topology.networks ≡ [] →
+    length s.bases.noted.received ≡ length settings.interfaces → ((i : ℕ) → base_of s.bases.noted.received i ≡ []) → s.bases.noted.processed ≡ [] → s.bases.noted.forwarded ≡ [] →
+    (count : ℕ) → count ≡ length settings.interfaces → s.relays ≡ no_relays count → s.routes ≡ [] →
+    ((t : State) → t.settings ≡ settings → t.bases.neighbourhood ≡ s.bases.neighbourhood → AreTcRows t s.rows) →
+    s.ansn ≡ 0 → s.emptied ≡ None → s.sequence ≡ 0 → s.next_hello ≡ settings.hello_at → s.next_tc ≡ settings.tc_at → s.last ≡ 0 → IsOpening settings s
+opens settings s of near advertisers routers addresses networks counts received processed forwarded count counted relays routes rows ansn emptied sequence next_hello next_tc last =
+    let n : ℕ = length settings.interfaces in
+    let topology : s.bases.topology ≡ (no_bases n).topology =
+    ap (λ x. let t : Topology = record s.bases.topology { advertisers = x } in t) advertisers
+    ∙ ap (λ x. let t : Topology = record s.bases.topology { advertisers = []; routers = x } in t) routers
+    ∙ ap (λ x. let t : Topology = record s.bases.topology { advertisers = []; routers = []; addresses = x } in t) addresses
+    ∙ ap (λ x. let t : Topology = record { advertisers = []; routers = []; addresses = []; networks = x } in t) networks in
+    let noted : s.bases.noted ≡ (no_bases n).noted =
+    ap (λ x. let t : NotedMessages = record s.bases.noted { received = x } in t) (all_empty s.bases.noted.received n counts received)
+    ∙ ap (λ x. let t : NotedMessages = record s.bases.noted { received = replicate n []; processed = x } in t) processed
+    ∙ ap (λ x. let t : NotedMessages = record { received = replicate n []; processed = []; forwarded = x } in t) forwarded in
+    record {
+      settings_are = of;
+      bases =
+          ap (λ x. let b : Bases = record s.bases { neighbourhood = x } in b) near
+          ∙ ap (λ x. let b : Bases = record s.bases { neighbourhood = empty_near n; topology = x } in b) topology
+          ∙ ap (λ x. let b : Bases = record { neighbourhood = empty_near n; topology = (no_bases n).topology; noted = x } in b) noted;
+      relays = relays ∙ ap (λ (k : ℕ). no_relays k) counted;
+      routes = routes;
+      rows = rows s of refl;
+      ansn = ansn;
+      emptied = emptied;
+      sequence = sequence;
+      next_hello = next_hello;
+      next_tc = next_tc;
+      last = last;
+    }
+
+-- and so is every router after it
+steps_sound : (old : State) (events : List Event) (sent : List (List Frame)) (new : State) → Sound old → Steps old events sent new → Sound new
+steps_sound old events sent new sound No_events = sound
+steps_sound old events sent new sound (First_event {mid = mid} {event = event} {events = others} {sent = frames} {more = more} step steps) = steps_sound mid others more new (step_sound old event frames mid sound step) steps
+
+pub runs_sound : (settings : RouterSettings) (events : List Event) (sent : List (List Frame)) (new : State) → Run settings events sent new → Sound new
+runs_sound settings events sent new (opening, is, steps) = steps_sound opening events sent new (opening_sound settings opening is) steps

@@ -1,0 +1,101 @@
+-- Messages one after the other, and where they stand.
+use Rattle.std.proofs.Common.{◌≡◌, ℕ, ◌+◌, ◌-◌, ◌≤◌, ◌<◌, zero, suc, arith, List, [], ◌∷◌, ◌++◌, length, take, Option, Some, refl, sym, ap, subst, ◌∙◌}
+use Rattle.std.specs.Prelude.{slice_get, slice_range}
+use Rattle.std.proofs.lemmas.Option.{none-some}
+use Rattle.std.proofs.Common.{map, get_or}
+use Rattle.std.specs.Prelude.{option_map}
+use Rattle.std.proofs.lemmas.Option.{slice_get-map, slice_get-get_or, slice_get_within}
+use Rattle.std.proofs.lemmas.List.{length-map}
+use Rattle.mesh_packet.specs.declared.packet.Message.{Message}
+use Rattle.mesh_nhdp.proofs.Collect.{taken_more}
+use Rattle.mesh_packet.specs.Fields.{fields_of_message}
+use Rattle.mesh_atoms.specs.declared.addr.Addr4.{Addr4}
+use Rattle.mesh_atoms.specs.declared.settings.RouterSettings.{RouterSettings}
+use Rattle.mesh_atoms.specs.State.{Bases}
+use Rattle.mesh_packet.specs.declared.packet.Span.{Span}
+use Rattle.mesh_packet.specs.Fields.{MessageFields, PacketFields}
+use Rattle.mesh_packet.specs.Grammar.{Spells, SpellsMessage, SpellsMessages}
+use Rattle.mesh_machine.specs.declared.arrival.Arrival.{Arrival}
+use Rattle.mesh_machine.specs.declared.fate.Fate.{Fate}
+use Rattle.mesh_machine.specs.declared.frame.Frame.{Frame}
+use Rattle.mesh_machine.specs.Frames.{octets_at}
+use Rattle.mesh_machine.specs.Messages.{TakesMessage, TakesMessages, No_messages, First_message, AreSpelled}
+use Rattle.std.proofs.lemmas.List.{append_assoc, append-nil, length-append}
+use Rattle.std.proofs.Math.Seq.{drop-append_seam, take-append_seam}
+
+-- ---- one message more
+
+pub takes_snoc : {settings : RouterSettings} {own : Addr4} {arrival : Arrival} {bytes : List ℕ} {old mid new : Bases} {messages : List MessageFields} {spans : List Span} {sent more : List Frame} {fates : List Fate}
+    {message : MessageFields} (span : Span) {fate : Fate} →
+    TakesMessages settings own arrival bytes old messages spans mid sent fates → TakesMessage settings own arrival mid message (octets_at bytes span) new more fate →
+    TakesMessages settings own arrival bytes old (messages ++ message ∷ []) (spans ++ span ∷ []) new (sent ++ more) (fates ++ fate ∷ [])
+takes_snoc {settings} {own} {arrival} {bytes} {old} {new = new} {more = more} {message = message} span {fate = fate} No_messages last =
+    subst (λ (s : List Frame). TakesMessages settings own arrival bytes old (message ∷ []) (span ∷ []) new s (fate ∷ [])) (append-nil more) (First_message last No_messages)
+takes_snoc {settings} {own} {arrival} {bytes} {old} {new = new} {more = more} {message = message} span {fate = fate} (First_message {message = first} {messages = messages} {span = place} {spans = spans} {sent = sent} {more = rest} {fate = its} {fates = fates} one others) last =
+    subst (λ (s : List Frame). TakesMessages settings own arrival bytes old (first ∷ (messages ++ message ∷ [])) (place ∷ (spans ++ span ∷ [])) new s (its ∷ (fates ++ fate ∷ []))) (sym (append_assoc sent rest more)) (First_message one (takes_snoc span others last))
+
+-- ---- where messages stand
+
+-- the part behind another one
+part_at : (front text rest : List ℕ) → slice_range (front ++ (text ++ rest)) (length front) (length front + length text) ≡ text
+part_at front text rest =
+    let size : (length front + length text) - length front ≡ length text = omega arith in
+    rw (size, drop-append_seam front (text ++ rest)) (take-append_seam text rest)
+
+each_cons : (bytes : List ℕ) (message : MessageFields) (span : Span) (messages : List MessageFields) (spans : List Span) → (span.start + span.len ≤ length bytes) × SpellsMessage message (octets_at bytes span) →
+    AreSpelled bytes messages spans → AreSpelled bytes (message ∷ messages) (span ∷ spans)
+each_cons bytes message span messages spans here others = record {
+  count = let h = others.count in omega (arith, h);
+  each = each;
+}
+  where
+    each : (i : ℕ) (m : MessageFields) (s : Span) → slice_get (message ∷ messages) i ≡ Some m → slice_get (span ∷ spans) i ≡ Some s → (s.start + s.len ≤ length bytes) × SpellsMessage m (octets_at bytes s)
+    each zero m s is at =
+        let one : message ≡ m = cc in
+        let two : span ≡ s = cc in
+        subst (λ (t : Span). (t.start + t.len ≤ length bytes) × SpellsMessage m (octets_at bytes t)) two (subst (λ (n : MessageFields). (span.start + span.len ≤ length bytes) × SpellsMessage n (octets_at bytes span)) one here)
+    each (suc i) m s is at = others.each i m s is at
+
+each_spelled : (front : List ℕ) (messages : List MessageFields) (spans : List Span) (bytes : List ℕ) → SpellsMessages (length front) messages spans bytes → AreSpelled (front ++ bytes) messages spans
+each_spelled front [] [] bytes is = record { count = refl; each = λ i m s at. absurd (none-some m at) }
+each_spelled front [] (s ∷ spans) bytes is = absurd is
+each_spelled front (m ∷ messages) [] bytes is = absurd is
+each_spelled front (m ∷ messages) (s ∷ spans) bytes is =
+    let (text, rest, spells, stands, others, parts) = is in
+    let front_length : length (front ++ text) ≡ length front + length text = length-append front text in
+    let tail : AreSpelled ((front ++ text) ++ rest) messages spans = each_spelled (front ++ text) messages spans rest (subst (λ (n : ℕ). SpellsMessages n messages spans rest) (sym front_length) others) in
+    let whole : (front ++ text) ++ rest ≡ front ++ bytes = append_assoc front text rest ∙ ap (λ (b : List ℕ). front ++ b) (sym parts) in
+    let there : (length front + length text ≤ length (front ++ bytes)) × SpellsMessage m (octets_at (front ++ bytes) (record { start = length front; len = length text })) = (
+      let h = length-append front bytes in let k = ap (λ (b : List ℕ). length b) parts in let l = length-append text rest in omega (arith, h, k, l),
+      subst (λ (b : List ℕ). SpellsMessage m (slice_range (front ++ b) (length front) (length front + length text))) (sym parts) (subst (λ (t : List ℕ). SpellsMessage m t) (sym (part_at front text rest)) spells),
+    ) in
+    each_cons (front ++ bytes) m s messages spans
+    (subst (λ (t : Span). (t.start + t.len ≤ length (front ++ bytes)) × SpellsMessage m (octets_at (front ++ bytes) t)) (sym stands) there)
+    (subst (λ (b : List ℕ). AreSpelled b messages spans) whole tail)
+
+-- the messages of a frame that spells a packet are spelled at their places
+pub packet_spelled : (bytes : List ℕ) (packet : PacketFields) (spans : List Span) → Spells packet spans bytes → AreSpelled bytes packet.messages spans
+packet_spelled bytes packet spans is =
+    let front : List ℕ = is.flags ∷ (is.sequence ++ is.tlvs) in
+    let size : length front ≡ 1 + length is.sequence + length is.tlvs = let h = length-append is.sequence is.tlvs in omega (arith, h) in
+    let whole : front ++ is.messages ≡ bytes = ap (λ (b : List ℕ). is.flags ∷ b) (append_assoc is.sequence is.tlvs is.messages) ∙ sym is.whole in
+    subst (λ (b : List ℕ). AreSpelled b packet.messages spans) whole
+    (each_spelled front packet.messages spans is.messages (subst (λ (n : ℕ). SpellsMessages n packet.messages spans is.messages) (sym size) is.messages_is))
+
+-- the message at a place, as the code reads it
+pub spelled_at : (bytes : List ℕ) (messages : List Message) (spans : List Span) (i : ℕ) (m : Message) (d : Span) → AreSpelled bytes (map fields_of_message messages) spans → slice_get messages i ≡ Some m →
+    ((get_or spans i d).start + (get_or spans i d).len ≤ length bytes) × SpellsMessage (fields_of_message m) (octets_at bytes (get_or spans i d))
+spelled_at bytes messages spans i m d are at =
+    let mapped : slice_get (map fields_of_message messages) i ≡ Some (fields_of_message m) = slice_get-map fields_of_message messages i ∙ ap (λ (o : Option Message). option_map fields_of_message o) at in
+    let within : i < length spans = let h = slice_get_within messages i m at in let k = are.count in let l = length-map messages fields_of_message in omega (arith, h, k, l) in
+    are.each i (fields_of_message m) (get_or spans i d) mapped (slice_get-get_or spans i d within)
+
+-- the messages up to a place, and the one there
+pub takes_more : (settings : RouterSettings) (own : Addr4) (arrival : Arrival) (bytes : List ℕ) (messages : List Message) (spans : List Span) (i : ℕ) (m : Message) (d : Span) (old mid new : Bases)
+    (sent more : List Frame) (fates : List Fate) (fate : Fate) → slice_get messages i ≡ Some m → i < length spans →
+    TakesMessages settings own arrival bytes old (take i (map fields_of_message messages)) (take i spans) mid sent fates →
+    TakesMessage settings own arrival mid (fields_of_message m) (octets_at bytes (get_or spans i d)) new more fate →
+    TakesMessages settings own arrival bytes old (take (i + 1) (map fields_of_message messages)) (take (i + 1) spans) new (sent ++ more) (fates ++ fate ∷ [])
+takes_more settings own arrival bytes messages spans i m d old mid new sent more fates fate at within takes one =
+    let mapped : slice_get (map fields_of_message messages) i ≡ Some (fields_of_message m) = slice_get-map fields_of_message messages i ∙ ap (λ (o : Option Message). option_map fields_of_message o) at in
+    rw (taken_more (map fields_of_message messages) i (fields_of_message m) mapped, taken_more spans i (get_or spans i d) (slice_get-get_or spans i d within)) (takes_snoc (get_or spans i d) takes one)

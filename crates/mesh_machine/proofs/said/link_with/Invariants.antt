@@ -1,0 +1,7 @@
+use Rattle.std.proofs.Common.{◌≡◌, ℕ, ◌<◌}
+use Rattle.std.specs.Prelude.{Some, slice_get, Contains}
+use Rattle.mesh_atoms.specs.Base.{base_of}
+use Rattle.mesh_machine.proofs.said.link_with.Given as goal
+
+abbrev pub invariant-loop-place : goal.invariant-loop-place
+invariant-loop-place g l = (k : ℕ) (e : _) → k < l.place → slice_get (base_of (g.N.Near4.near l.near).links l.iface) k ≡ Some e → Contains e.1.0.addrs l.addr → ⊥

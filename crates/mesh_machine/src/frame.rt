@@ -1,0 +1,9 @@
+//! The frames that a router sends.
+use mesh_atoms::Bytes;
+
+/// A frame, and the interface on which it is sent.
+#[derive(Drop)]
+pub struct Frame {
+    pub iface: usize,
+    pub bytes: Bytes,
+}
