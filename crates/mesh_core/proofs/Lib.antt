@@ -1,0 +1,5 @@
+pub mod Derivations
+pub mod Fates
+pub mod Pushed
+pub mod Selectors
+pub mod Written

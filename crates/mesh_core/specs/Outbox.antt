@@ -1,0 +1,9 @@
+-- What an outbox lends.
+use Rattle.std.specs.Prelude.{ℕ, List, Option, Some, None}
+use Rattle.std.specs.Borrow.{Bor}
+use Rattle.mesh_machine.specs.declared.frame.Frame.{Frame}
+
+-- a frame that is lent
+abbrev pub frame_of : Option (ℕ × Bor (List ℕ)) → Option Frame
+frame_of None = None
+frame_of (Some e) = Some (record { iface = e.0; bytes = e.1.now })

@@ -1,0 +1,123 @@
+//! What a router does with a frame.
+ghost use Rattle.std.specs.Prelude.{◌≡◌, ◌<◌, ◌≤◌, ◌^◌, ◌++◌, ℕ, List, length, is_err, All, IfOk, OnOk, OnErr, false, true};
+ghost use Rattle.mesh_atoms.specs.Sound.{Sound};
+ghost use Rattle.mesh_machine.specs.declared.frame.Frame.{Frame};
+ghost use Rattle.mesh_machine.specs.Frames.{sent_since};
+ghost use Rattle.mesh_machine.specs.Machine.{Event, Step, Hears, HearsPacket, due};
+ghost use Rattle.mesh_machine.specs.Sendable.{IsSendable};
+ghost use Rattle.mesh_packet.specs.Fields.{fields_of_packet};
+ghost use Rattle.mesh_packet.specs.Grammar.{FirstFault, Spells};
+
+use crate::outbox::Outbox;
+use crate::renewal::renew;
+use crate::router::Core;
+use mesh_atoms::{Addr4, DecodeFault, Seq};
+use mesh_expire::Bases;
+use mesh_machine::{Arrival, Fate, Heard};
+use mesh_packet::{Decoded, decode};
+use std::alloc::{AllocError, Global};
+
+impl<B: Bases> Core<B> {
+    /// Hears a frame on an interface from that sender, at a moment below 2^62 that isn't before the last event (RFC 5444, RFC 6130 and
+    /// RFC 7181). A frame with a fault changes nothing, not even by expiry. What is sent is put at the end of `out`. Want of memory
+    /// leaves `out` as it was, and the router spent: it then answers want of memory to each event.
+    pub fn hear(
+        &mut self,
+        now: u64,
+        iface: usize,
+        sender: Addr4,
+        bytes: &[u8],
+        out: &mut Outbox,
+    ) -> Result<Heard, AllocError>
+        requires now { now < 2 ^ 62 }
+        requires later { self.old.state.last ≤ now }
+        requires iface { iface < length self.old.state.settings.interfaces }
+        // One step of the router.
+        ensures step { IfOk result (λ answer. Step self.old.state (Event.Hear (record { now = now; iface = iface; sender = sender }) bytes.now) (sent_since out.old out.new) self.new.state) }
+        // What is answered.
+        ensures answer { IfOk result (λ answer. Hears self.old.state (record { now = now; iface = iface; sender = sender }) bytes.now answer (sent_since out.old out.new) self.new.state) }
+        ensures refused { (place reason : ℕ) → FirstFault bytes.now place reason → IfOk result (λ answer. answer ≡ Heard.Refused (record { place = place; reason = reason })) }
+        ensures appended { out.new ≡ out.old ++ sent_since out.old out.new }
+        // Each frame that is sent is a packet, on an interface.
+        ensures sendable { OnOk result (All (IsSendable self.old.state.settings) (sent_since out.old out.new)) }
+        ensures settings { OnOk result (self.new.state.settings ≡ self.old.state.settings) }
+        ensures last { OnOk result (self.new.state.last ≤ now) }
+        ensures due { OnOk result (due self.new.state ≡ due self.old.state) }
+        ensures sound { OnOk result (Sound self.new.state) }
+        ensures spent { self.new.is_spent ≡ is_err result }
+        ensures wanting { OnErr result (out.new ≡ out.old) }
+    {
+        if self.spent {
+            return Err(AllocError);
+        }
+        self.hear_frame(Arrival { now, iface, sender }, bytes, out)
+    }
+
+    // Hears a frame.
+    fn hear_frame(
+        &mut self,
+        arrival: Arrival,
+        bytes: &[u8],
+        out: &mut Outbox,
+    ) -> Result<Heard, AllocError>
+        requires now { arrival.now < 2 ^ 62 }
+        requires iface { arrival.iface < length self.old.state.settings.interfaces }
+        requires sound { Sound self.old.state }
+        requires whole { self.old.is_spent ≡ false }
+        ensures hears { IfOk result (λ answer. (sent : List Frame) × (out.new ≡ out.old ++ sent) × Hears self.old.state arrival bytes.now answer sent self.new.state) }
+        ensures refused { (place reason : ℕ) → FirstFault bytes.now place reason → IfOk result (λ answer. answer ≡ Heard.Refused (record { place = place; reason = reason })) }
+        ensures sound { OnOk result (Sound self.new.state) }
+        ensures spent { self.new.is_spent ≡ is_err result }
+        ensures wanting { OnErr result (out.new ≡ out.old) }
+    {
+        let alloc = self.holding.nhdp.settings().interfaces.allocator();
+        match decode(alloc, bytes) {
+            Ok(decoded) => {
+                self.spent = true;
+                let mut sent = Outbox::new(alloc);
+                let fates = self.hear_packet(alloc, arrival, bytes, &decoded, &mut sent)?;
+                out.put_all(sent)?;
+                self.spent = false;
+                Ok(Heard::Taken(fates))
+            }
+            Err(DecodeFault::Refused(refusal)) => Ok(Heard::Refused(refusal)),
+            Err(DecodeFault::Memory(e)) => {
+                self.spent = true;
+                Err(e)
+            }
+        }
+    }
+
+    // Hears a frame that spells a packet.
+    fn hear_packet(
+        &mut self,
+        alloc: Global,
+        arrival: Arrival,
+        bytes: &[u8],
+        decoded: &Decoded,
+        out: &mut Outbox,
+    ) -> Result<Seq<Fate>, AllocError>
+        requires now { arrival.now < 2 ^ 62 }
+        requires iface { arrival.iface < length self.old.state.settings.interfaces }
+        requires sound { Sound self.old.state }
+        requires busy { self.old.is_spent ≡ true }
+        requires spelled { Spells (fields_of_packet decoded.now.packet) decoded.now.spans bytes.now }
+        ensures hears { IfOk result (λ fates. (sent : List Frame) × (out.new ≡ out.old ++ sent) × HearsPacket self.old.state arrival bytes.now fates sent self.new.state) }
+        ensures sound { OnOk result (Sound self.new.state) }
+        ensures spent { self.new.is_spent ≡ self.old.is_spent }
+    {
+        let own = self.holding.nhdp.settings().originator();
+        self.holding.expire(arrival.now)?;
+        let fates = self.holding.take_messages(
+            alloc,
+            arrival,
+            own,
+            bytes,
+            decoded.packet.messages.as_slice(),
+            decoded.spans.as_slice(),
+            out,
+        )?;
+        renew(alloc, &self.holding, &mut self.derived, arrival.now)?;
+        Ok(fates)
+    }
+}

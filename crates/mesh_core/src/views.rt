@@ -1,0 +1,191 @@
+//! What a router shows.
+ghost use Rattle.std.specs.Prelude.{◌≡◌};
+
+use crate::router::Core;
+use mesh_atoms::{
+    Addr4, AddressKey, AddressTuple, Link, LinkKey, Neighbour, NetworkKey, NetworkTuple, Relays,
+    Route, RouterKey, RouterSettings, RouterTuple, TcRow, TwoHop, TwoHopKey,
+};
+use mesh_expire::{Bases, Table};
+use mesh_flood::Flood;
+use mesh_machine::{RouterView, Said, said_of, two_hops_of};
+use mesh_nbrs::Near4;
+use mesh_nhdp::Nhdp;
+use mesh_routes::RoutingSet;
+use mesh_topo::Topology;
+
+impl<B: Bases> Core<B> {
+    /// The moment of the last event, in ticks of 1/8192 s.
+    pub fn last(&self) -> u64
+        ensures { result ≡ self.now.state.last }
+    {
+        self.derived.last
+    }
+
+    /// The settings.
+    pub fn settings(&self) -> &RouterSettings
+        ensures { result.now ≡ self.now.state.settings }
+    {
+        self.holding.nhdp.settings()
+    }
+
+    /// The relays.
+    pub fn relays(&self) -> &Relays
+        ensures { result.now ≡ self.now.state.relays }
+    {
+        &self.derived.relays
+    }
+
+    /// The routes.
+    pub fn routes(&self) -> &RoutingSet
+        ensures { result.now ≡ self.now.state.routes }
+    {
+        &self.derived.routes
+    }
+
+    /// The neighbourhood.
+    pub fn nhdp(&self) -> &Nhdp<B>
+        ensures near { result.now.near ≡ self.now.state.bases.neighbourhood }
+        ensures settings { result.now.settings ≡ self.now.state.settings }
+    {
+        &self.holding.nhdp
+    }
+
+    /// The topology.
+    pub fn topology(&self) -> &Topology<B>
+        ensures { result.now ≡ self.now.state.bases.topology }
+    {
+        &self.holding.topology
+    }
+
+    /// The messages seen before.
+    pub fn flood(&self) -> &Flood<B>
+        ensures { result.now.noted ≡ self.now.state.bases.noted }
+    {
+        &self.holding.flood
+    }
+
+    /// The advertised rows, and their ANSN.
+    pub fn advertised(&self) -> (&[TcRow], u16)
+        ensures rows { result.0.now ≡ self.now.state.rows }
+        ensures ansn { result.1 ≡ self.now.state.ansn }
+    {
+        (self.derived.rows.as_slice(), self.derived.ansn)
+    }
+}
+
+impl<B: Bases> RouterView for Core<B> {
+    ghost state = { λ c. c.state };
+
+    fn settings(&self) -> &RouterSettings {
+        self.holding.nhdp.settings()
+    }
+
+    fn last(&self) -> u64 {
+        self.derived.last
+    }
+
+    fn links(&self, iface: usize) -> usize {
+        self.holding.nhdp.links(iface)
+    }
+
+    fn link(&self, iface: usize, place: usize) -> Option<(&LinkKey, &Link, u64)> {
+        self.holding.nhdp.link(iface, place)
+    }
+
+    fn link_of(&self, iface: usize, key: &LinkKey) -> Option<(&Link, u64)> {
+        self.holding.nhdp.link_of(iface, key)
+    }
+
+    fn two_hops(&self, iface: usize) -> usize {
+        self.holding.nhdp.two_hops(iface)
+    }
+
+    fn two_hop(&self, iface: usize, place: usize) -> Option<(&TwoHopKey, &TwoHop, u64)> {
+        self.holding.nhdp.two_hop(iface, place)
+    }
+
+    fn two_hop_of(&self, iface: usize, key: &TwoHopKey) -> Option<(&TwoHop, u64)> {
+        self.holding.nhdp.two_hop_of(iface, key)
+    }
+
+    fn all_two_hops(&self) -> usize {
+        two_hops_of(&self.holding.nhdp, self.holding.nhdp.settings())
+    }
+
+    fn neighbours(&self) -> usize {
+        self.holding.nhdp.neighbours()
+    }
+
+    fn neighbour(&self, place: usize) -> Option<(&Addr4, &Neighbour, u64)> {
+        self.holding.nhdp.neighbour(place)
+    }
+
+    fn neighbour_of(&self, originator: &Addr4) -> Option<(&Neighbour, u64)> {
+        self.holding.nhdp.neighbour_of(originator)
+    }
+
+    fn losts(&self) -> usize {
+        self.holding.nhdp.lost()
+    }
+
+    fn routers(&self) -> usize {
+        self.holding.topology.routers().len()
+    }
+
+    fn router(&self, place: usize) -> Option<(&RouterKey, &RouterTuple, u64)> {
+        self.holding.topology.routers().at(place)
+    }
+
+    fn router_of(&self, key: &RouterKey) -> Option<(&RouterTuple, u64)> {
+        self.holding.topology.routers().get(key)
+    }
+
+    fn addresses(&self) -> usize {
+        self.holding.topology.addresses().len()
+    }
+
+    fn address(&self, place: usize) -> Option<(&AddressKey, &AddressTuple, u64)> {
+        self.holding.topology.addresses().at(place)
+    }
+
+    fn address_of(&self, key: &AddressKey) -> Option<(&AddressTuple, u64)> {
+        self.holding.topology.addresses().get(key)
+    }
+
+    fn networks(&self) -> usize {
+        self.holding.topology.networks().len()
+    }
+
+    fn network(&self, place: usize) -> Option<(&NetworkKey, &NetworkTuple, u64)> {
+        self.holding.topology.networks().at(place)
+    }
+
+    fn network_of(&self, key: &NetworkKey) -> Option<(&NetworkTuple, u64)> {
+        self.holding.topology.networks().get(key)
+    }
+
+    fn relays(&self) -> &Relays {
+        &self.derived.relays
+    }
+
+    fn routes(&self) -> &[Route] {
+        self.derived.routes.rows()
+    }
+
+    fn next_hop(&self, dest: Addr4) -> Option<&Route> {
+        self.derived.routes.next_hop(dest)
+    }
+
+    fn rows(&self) -> &[TcRow] {
+        self.derived.rows.as_slice()
+    }
+
+    fn ansn(&self) -> u16 {
+        self.derived.ansn
+    }
+
+    fn said(&self, iface: usize, now: u64, addr: Addr4) -> Said {
+        said_of(&self.holding.nhdp, &self.derived.relays, iface, now, addr)
+    }
+}
