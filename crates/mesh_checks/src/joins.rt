@@ -1,0 +1,126 @@
+//! The arcs, whose ends are looked up by name.
+ghost use Rattle.std.specs.Prelude.{◌≡◌, [], length, map, position, IfOk};
+ghost use Rattle.std.specs.List.{list_any};
+ghost use Rattle.mesh_atoms.specs.Settings.{name_eq, ends_eq};
+ghost use Rattle.mesh_toml.specs.Faults.{Gives};
+ghost use Rattle.mesh_checks.specs.Checks.{find_place, known_place, ends, new_ends, joined, joins};
+ghost use Rattle.mesh_checks.specs.Compared.{draft_identifiers, arc_places, ends_of, draft_place};
+ghost use Rattle.mesh_drafts.specs.Scenario.{arc_draft_fields};
+ghost use Rattle.mesh_checks.specs.Compared.{arc_fields};
+
+use mesh_atoms::{RadioArc, Seq};
+use mesh_drafts::{ArcDraft, InterfaceDraft, Place, RouterDraft};
+use mesh_toml::refusal::{BAD_VALUE, DUPLICATE, UNKNOWN_NAME};
+use mesh_toml::{ConfigFault, refused};
+use std::alloc::Global;
+
+fn router_named(routers: &[RouterDraft], name: &[u8]) -> Option<usize>
+    ensures { result ≡ position (λ r. name_eq name.now r.head.name) routers.now }
+{
+    routers
+        .iter()
+        .position(|router| name == router.head.name.as_slice())
+}
+
+fn iface_named(interfaces: &[InterfaceDraft], name: &[u8]) -> Option<usize>
+    ensures { result ≡ position (λ i. name_eq name.now i.name) interfaces.now }
+{
+    interfaces
+        .iter()
+        .position(|iface| name == iface.name.as_slice())
+}
+
+fn draft_place(routers: &[RouterDraft], place: &Place) -> Option<(usize, usize)>
+    ensures { result ≡ draft_place routers.now (place.now.router, place.now.iface) }
+{
+    let at = router_named(routers, place.router.as_slice())?;
+    let router = routers.get(at)?;
+    let iface = iface_named(router.interfaces.as_slice(), place.iface.as_slice())?;
+    Some((at, iface))
+}
+
+// The numbers of a router and of one of its interfaces.
+fn find_place(routers: &[RouterDraft], place: &Place) -> Option<(usize, usize)>
+    ensures { result ≡ find_place (map draft_identifiers routers.now) (place.now.router, place.now.iface) }
+{
+    draft_place(routers, place)
+}
+
+fn known_place(
+    alloc: Global,
+    routers: &[RouterDraft],
+    place: &Place,
+    key: &str,
+) -> Result<(usize, usize), ConfigFault>
+    ensures { Gives (λ p. p) result (known_place key.now (find_place (map draft_identifiers routers.now) (place.now.router, place.now.iface))) }
+{
+    match find_place(routers, place) {
+        Some(found) => Ok(found),
+        None => Err(refused(alloc, UNKNOWN_NAME, key)),
+    }
+}
+
+fn is_joined(arcs: &[RadioArc], from: (usize, usize), to: (usize, usize)) -> bool
+    ensures { result ≡ list_any (ends_eq (ends from to)) (map ends_of arcs.now) }
+{
+    for arc in arcs {
+        if from.0 == arc.from
+            && from.1 == arc.from_iface
+            && to.0 == arc.to
+            && to.1 == arc.to_iface
+        {
+            return true;
+        }
+    }
+    false
+}
+
+fn joined(
+    alloc: Global,
+    routers: &[RouterDraft],
+    earlier: &[RadioArc],
+    arc: &ArcDraft,
+) -> Result<RadioArc, ConfigFault>
+    ensures read { Gives ends_of result (joined (map draft_identifiers routers.now) (map ends_of earlier.now) (arc_places arc.now)) }
+    ensures says { IfOk result (λ a. arc_fields a ≡ arc_draft_fields arc.now) }
+{
+    let from = known_place(alloc, routers, &arc.from, "from")?;
+    let to = known_place(alloc, routers, &arc.to, "to")?;
+    if from.0 == to.0 {
+        return Err(refused(alloc, BAD_VALUE, "to"));
+    }
+    if is_joined(earlier, from, to) {
+        return Err(refused(alloc, DUPLICATE, "arc"));
+    }
+    Ok(RadioArc {
+        from: from.0,
+        from_iface: from.1,
+        to: to.0,
+        to_iface: to.1,
+        metric: arc.metric,
+        loss: arc.loss,
+        delay: arc.delay,
+    })
+}
+
+/// The arcs, by the numbers of routers and interfaces. Of the first arc that is at fault, `from` or `to` is refused with
+/// UNKNOWN_NAME where nothing has that name, `to` with BAD_VALUE where both ends are of one router, or `arc` with DUPLICATE where an
+/// earlier arc joins the same interfaces.
+pub fn all_joined(
+    alloc: Global,
+    routers: &[RouterDraft],
+    arcs: &[ArcDraft],
+) -> Result<Seq<RadioArc>, ConfigFault>
+    ensures read { Gives (map ends_of) result (joins (map draft_identifiers routers.now) [] (map arc_places arcs.now)) }
+    ensures says { IfOk result (λ all. map arc_fields all ≡ map arc_draft_fields arcs.now) }
+    ensures size { IfOk result (λ all. length all ≡ length arcs.now) }
+{
+    let mut all = Seq::new(alloc);
+    for arc in arcs {
+        match joined(alloc, routers, all.as_slice(), arc) {
+            Ok(one) => all.push(one)?,
+            Err(e) => return Err(e),
+        }
+    }
+    Ok(all)
+}

@@ -1,0 +1,209 @@
+-- No sender of an interface stands twice: two arcs that lead to it come from two interfaces, whose addresses differ.
+use Rattle.std.proofs.Common.{◌≡◌, ℕ, zero, suc, List, [], ◌∷◌, ◌++◌, map, Bool, true, false, not, ◌&&◌, ◌||◌, cond, nat_eq, Option, Some, None, refl, sym, ap, ◌∙◌, subst, arith}
+use Rattle.std.specs.List.{list_any, flat_map, slice_get}
+use Rattle.std.proofs.lemmas.Bool.{and_parts, eqb-true, eq-eqb}
+use Rattle.std.proofs.lemmas.List.{map-append}
+use Rattle.std.proofs.lemmas.List.Folds.{list_any-append, flat_map-map}
+use Rattle.mesh_atoms.specs.declared.addr.Addr4.{Addr4}
+use Rattle.mesh_atoms.specs.declared.metric.Metric.{Metric}
+use Rattle.mesh_atoms.specs.declared.settings.RadioArc.{RadioArc}
+use Rattle.mesh_atoms.specs.declared.settings.SenderMetric.{SenderMetric}
+use Rattle.mesh_atoms.specs.Base.{addr_eq}
+use Rattle.mesh_atoms.specs.Literals.{◌>>=◌}
+use Rattle.mesh_atoms.specs.Settings.{are_distinct, ends_eq}
+use Rattle.mesh_atoms.proofs.Lookups.{same_addr}
+use Rattle.mesh_drafts.specs.declared.drafts.InterfaceDraft.{InterfaceDraft}
+use Rattle.mesh_drafts.specs.declared.drafts.RouterDraft.{RouterDraft}
+use Rattle.mesh_checks.specs.Compared.{all_addrs, draft_lists, ends_of}
+use Rattle.mesh_config.specs.Senders.{AreApart, Lists, first_addr, with_metric, sender_by, sender_pair, senders_to}
+use Rattle.mesh_config.proofs.Builds.{distinct_front, distinct_back, map-then}
+
+-- ---- an address among lists, no address of which stands twice
+any_back : {A : Type 0} (p : A → Bool) (xs ys : List A) → list_any p ys ≡ true → list_any p (xs ++ ys) ≡ true
+any_back p xs ys h = grind (arith, list_any-append p xs ys, h)
+
+any_front : {A : Type 0} (p : A → Bool) (xs ys : List A) → list_any p xs ≡ true → list_any p (xs ++ ys) ≡ true
+any_front p xs ys h = grind (arith, list_any-append p xs ys, h)
+
+no_both : (b : Bool) → b ≡ true → not b ≡ true → ⊥
+no_both true h n = let bad : ⊥ = cc in bad
+no_both false h n = let bad : ⊥ = cc in bad
+
+again : (a x : Addr4) (xs ys : List Addr4) → addr_eq a x ≡ true → list_any (addr_eq a) ys ≡ true → not (list_any (addr_eq x) (xs ++ ys)) ≡ true → ⊥
+again a x xs ys e there none =
+    no_both (list_any (addr_eq x) (xs ++ ys)) (subst (λ (z : Addr4). list_any (addr_eq z) (xs ++ ys) ≡ true) (same_addr a x e) (any_back (addr_eq a) xs ys there)) none
+
+either : (b c : Bool) → (b || c) ≡ true → (b ≡ true → ⊥) → (c ≡ true → ⊥) → ⊥
+either true c h first second = first refl
+either false c h first second = second h
+
+crosses : (a : Addr4) (xs ys : List Addr4) → list_any (addr_eq a) xs ≡ true → list_any (addr_eq a) ys ≡ true → are_distinct addr_eq (xs ++ ys) ≡ true → ⊥
+crosses a [] ys here there h = let bad : ⊥ = cc in bad
+crosses a (x ∷ xs) ys here there h =
+    let parts = and_parts (not (list_any (addr_eq x) (xs ++ ys))) (are_distinct addr_eq (xs ++ ys)) h in
+    either (addr_eq a x) (list_any (addr_eq a) xs) here (λ e. again a x xs ys e there parts.0) (λ rest. crosses a xs ys rest there parts.1)
+
+among : {A : Type 0} (f : A → List Addr4) (xs : List A) (i : ℕ) (x : A) (a : Addr4) → slice_get xs i ≡ Some x → list_any (addr_eq a) (f x) ≡ true → list_any (addr_eq a) (flat_map f xs) ≡ true
+among f [] i x a at h = let bad : ⊥ = cc in absurd bad
+among f (y ∷ ys) zero x a at h = let same : y ≡ x = cc in any_front (addr_eq a) (f y) (flat_map f ys) (rw same h)
+among f (y ∷ ys) (suc i) x a at h = any_back (addr_eq a) (f y) (flat_map f ys) (among f ys i x a at h)
+
+-- the list that has an address is one
+one_list : {A : Type 0} (f : A → List Addr4) (xs : List A) (i j : ℕ) (x y : A) (a : Addr4) → are_distinct addr_eq (flat_map f xs) ≡ true
+    → slice_get xs i ≡ Some x → slice_get xs j ≡ Some y → list_any (addr_eq a) (f x) ≡ true → list_any (addr_eq a) (f y) ≡ true → i ≡ j
+one_list f [] i j x y a apart at bt h k = let bad : ⊥ = cc in absurd bad
+one_list f (z ∷ zs) zero zero x y a apart at bt h k = refl
+one_list f (z ∷ zs) zero (suc j) x y a apart at bt h k =
+    let same : z ≡ x = cc in absurd (crosses a (f z) (flat_map f zs) (rw same h) (among f zs j y a bt k) apart)
+one_list f (z ∷ zs) (suc i) zero x y a apart at bt h k =
+    let same : z ≡ y = cc in absurd (crosses a (f z) (flat_map f zs) (rw same k) (among f zs i x a at h) apart)
+one_list f (z ∷ zs) (suc i) (suc j) x y a apart at bt h k = ap suc (one_list f zs i j x y a (distinct_back addr_eq (f z) (flat_map f zs) apart) at bt h k)
+
+part_apart : {A : Type 0} (f : A → List Addr4) (xs : List A) (i : ℕ) (x : A) → are_distinct addr_eq (flat_map f xs) ≡ true → slice_get xs i ≡ Some x → are_distinct addr_eq (f x) ≡ true
+part_apart f [] i x apart at = let bad : ⊥ = cc in absurd bad
+part_apart f (z ∷ zs) zero x apart at = let same : z ≡ x = cc in rw (← same) (distinct_front addr_eq (f z) (flat_map f zs) apart)
+part_apart f (z ∷ zs) (suc i) x apart at = part_apart f zs i x (distinct_back addr_eq (f z) (flat_map f zs) apart) at
+
+-- ---- the interface that an address is the first of
+abbrev whole : List Addr4 → List Addr4
+whole addrs = addrs
+
+abbrev of_faces : List (List Addr4) → List Addr4
+of_faces faces = flat_map whole faces
+
+bind_some : {A B : Type 0} (o : Option A) (f : A → Option B) (y : B) → (o >>= f) ≡ Some y → (x : A) × ((o ≡ Some x) × (f x ≡ Some y))
+bind_some None f y h = let bad : ⊥ = cc in absurd bad
+bind_some (Some x) f y h = (x, (refl, h))
+
+self_eq : (a : Addr4) → addr_eq a a ≡ true
+self_eq a = eq-eqb a.0 a.0 refl
+
+first_among : (a : Addr4) (xs : List Addr4) → slice_get xs 0 ≡ Some a → list_any (addr_eq a) xs ≡ true
+first_among a [] h = let bad : ⊥ = cc in absurd bad
+first_among a (x ∷ xs) h = let same : x ≡ a = cc in rw (same, self_eq a) refl
+
+pub record Found (lists : Lists) (router iface : ℕ) (a : Addr4) : Type 0 where
+  pub faces : List (List Addr4)
+  pub at_router : slice_get lists router ≡ Some faces
+  pub addrs : List Addr4
+  pub at_iface : slice_get faces iface ≡ Some addrs
+  pub of_iface : list_any (addr_eq a) addrs ≡ true
+  pub of_router : list_any (addr_eq a) (of_faces faces) ≡ true
+
+found : (lists : Lists) (router iface : ℕ) (a : Addr4) → first_addr lists router iface ≡ Some a → Found lists router iface a
+found lists router iface a h =
+    let one = bind_some (slice_get lists router) (λ faces. slice_get faces iface >>= λ addrs. slice_get addrs 0) a h in
+    let two = bind_some (slice_get one.0 iface) (λ addrs. slice_get addrs 0) a one.1.1 in
+    let first = first_among a two.0 two.1.1 in
+    record {
+      faces = one.0;
+      at_router = one.1.0;
+      addrs = two.0;
+      at_iface = two.1.0;
+      of_iface = first;
+      of_router = among whole one.0 iface two.0 a two.1.0 first;
+    }
+
+one_some : {A : Type 0} (o : Option A) (x y : A) → o ≡ Some x → o ≡ Some y → y ≡ x
+one_some None x y h k = let bad : ⊥ = cc in absurd bad
+one_some (Some z) x y h k = let left : z ≡ x = cc in let right : z ≡ y = cc in sym right ∙ left
+
+one_interface : (lists : Lists) (r i s j : ℕ) (a : Addr4) → are_distinct addr_eq (flat_map of_faces lists) ≡ true → first_addr lists r i ≡ Some a → first_addr lists s j ≡ Some a → (r ≡ s) × (i ≡ j)
+one_interface lists r i s j a apart h k =
+    let x = found lists r i a h in let y = found lists s j a k in
+    let routers : r ≡ s = one_list of_faces lists r s x.faces y.faces a apart x.at_router y.at_router x.of_router y.of_router in
+    let there : slice_get lists r ≡ Some y.faces = ap (slice_get lists) routers ∙ y.at_router in
+    let same : y.faces ≡ x.faces = one_some (slice_get lists r) x.faces y.faces x.at_router there in
+    let near : slice_get x.faces j ≡ Some y.addrs = ap (λ (faces : List (List Addr4)). slice_get faces j) (sym same) ∙ y.at_iface in
+    (routers, one_list whole x.faces i j x.addrs y.addrs a (part_apart of_faces lists r x.faces apart x.at_router) x.at_iface near x.of_iface y.of_iface)
+
+-- ---- the senders that one arc gives, and those of the arcs after it
+abbrev addr_of : Addr4 × Metric → Addr4
+addr_of s = s.0
+
+abbrev given : Metric → Bool → Option Addr4 → List Addr4
+given metric leads first = map addr_of (cond leads (with_metric metric first) [])
+
+none_given : (a : Addr4) (metric : Metric) (leads : Bool) (first : Option Addr4) → ((c : Addr4) → leads ≡ true → first ≡ Some c → addr_eq a c ≡ false) → list_any (addr_eq a) (given metric leads first) ≡ false
+none_given a metric false first h = refl
+none_given a metric true None h = refl
+none_given a metric true (Some c) h = rw (h c refl refl) refl
+
+apart_given : (metric : Metric) (leads : Bool) (first : Option Addr4) (rest : List Addr4) → ((c : Addr4) → leads ≡ true → first ≡ Some c → list_any (addr_eq c) rest ≡ false)
+    → are_distinct addr_eq rest ≡ true → are_distinct addr_eq (given metric leads first ++ rest) ≡ true
+apart_given metric false first rest h apart = apart
+apart_given metric true None rest h apart = apart
+apart_given metric true (Some c) rest h apart = rw (h c refl refl, apart) refl
+
+abbrev leads_to : ℕ → ℕ → RadioArc → Bool
+leads_to router iface arc = nat_eq arc.to router && nat_eq arc.to_iface iface
+
+abbrev addrs_to : Lists → List RadioArc → ℕ → ℕ → List Addr4
+addrs_to lists arcs router iface = map addr_of (senders_to lists arcs router iface)
+
+addrs_more : (lists : Lists) (arc : RadioArc) (arcs : List RadioArc) (router iface : ℕ)
+    → addrs_to lists (arc ∷ arcs) router iface ≡ given arc.metric (leads_to router iface arc) (first_addr lists arc.from arc.from_iface) ++ addrs_to lists arcs router iface
+addrs_more lists arc arcs router iface = map-append addr_of (sender_by lists router iface arc) (senders_to lists arcs router iface)
+
+ends_same : (x y : RadioArc) (router iface : ℕ) → x.from ≡ y.from → x.from_iface ≡ y.from_iface → leads_to router iface x ≡ true → leads_to router iface y ≡ true → ends_eq (ends_of x) (ends_of y) ≡ true
+ends_same x y router iface from from_iface at bt =
+    let p = and_parts (nat_eq x.to router) (nat_eq x.to_iface iface) at in let q = and_parts (nat_eq y.to router) (nat_eq y.to_iface iface) bt in
+    let to : x.to ≡ y.to = eqb-true x.to router p.0 ∙ sym (eqb-true y.to router q.0) in
+    let to_iface : x.to_iface ≡ y.to_iface = eqb-true x.to_iface iface p.1 ∙ sym (eqb-true y.to_iface iface q.1) in
+    rw (eq-eqb x.from y.from from, eq-eqb x.from_iface y.from_iface from_iface, eq-eqb x.to y.to to, eq-eqb x.to_iface y.to_iface to_iface) refl
+
+or_parts : (a b : Bool) → (a || b) ≡ false → (a ≡ false) × (b ≡ false)
+or_parts false b h = (refl, h)
+or_parts true b h = let bad : ⊥ = cc in absurd bad
+
+unless_true : (b : Bool) → (b ≡ true → ⊥) → b ≡ false
+unless_true false h = refl
+unless_true true h = absurd (h refl)
+
+-- an arc's sender is none of those that arcs between other interfaces give
+none_again : (lists : Lists) (arc : RadioArc) (arcs : List RadioArc) (router iface : ℕ) (a : Addr4) → are_distinct addr_eq (flat_map of_faces lists) ≡ true
+    → leads_to router iface arc ≡ true → first_addr lists arc.from arc.from_iface ≡ Some a → list_any (ends_eq (ends_of arc)) (map ends_of arcs) ≡ false → list_any (addr_eq a) (addrs_to lists arcs router iface) ≡ false
+none_again lists arc [] router iface a apart leads is alone = refl
+none_again lists arc (b ∷ bs) router iface a apart leads is alone =
+    rw (addrs_more lists b bs router iface, list_any-append (addr_eq a) (given b.metric (leads_to router iface b) (first_addr lists b.from b.from_iface)) (addrs_to lists bs router iface), none_given a b.metric (leads_to router iface b) (first_addr lists b.from b.from_iface) other)
+    (none_again lists arc bs router iface a apart leads is parts.1) where
+      parts : (ends_eq (ends_of arc) (ends_of b) ≡ false) × (list_any (ends_eq (ends_of arc)) (map ends_of bs) ≡ false)
+      parts = or_parts (ends_eq (ends_of arc) (ends_of b)) (list_any (ends_eq (ends_of arc)) (map ends_of bs)) alone
+
+      meets : (c : Addr4) → leads_to router iface b ≡ true → first_addr lists b.from b.from_iface ≡ Some c → addr_eq a c ≡ true → ⊥
+      meets c here at e =
+          let both = one_interface lists arc.from arc.from_iface b.from b.from_iface a apart is (at ∙ ap (λ (x : Addr4). Some x) (sym (same_addr a c e))) in
+          let same = ends_same arc b router iface both.0 both.1 leads here in
+          let bad : ⊥ = cc in bad
+
+      other : (c : Addr4) → leads_to router iface b ≡ true → first_addr lists b.from b.from_iface ≡ Some c → addr_eq a c ≡ false
+      other c here at = unless_true (addr_eq a c) (meets c here at)
+
+addrs_apart : (lists : Lists) (arcs : List RadioArc) (router iface : ℕ) → are_distinct addr_eq (flat_map of_faces lists) ≡ true → are_distinct ends_eq (map ends_of arcs) ≡ true
+    → are_distinct addr_eq (addrs_to lists arcs router iface) ≡ true
+addrs_apart lists [] router iface apart h = refl
+addrs_apart lists (arc ∷ arcs) router iface apart h =
+    rw (addrs_more lists arc arcs router iface)
+    (apart_given arc.metric (leads_to router iface arc) (first_addr lists arc.from arc.from_iface) (addrs_to lists arcs router iface) alone (addrs_apart lists arcs router iface apart parts.1)) where
+      parts : (not (list_any (ends_eq (ends_of arc)) (map ends_of arcs)) ≡ true) × (are_distinct ends_eq (map ends_of arcs) ≡ true)
+      parts = and_parts (not (list_any (ends_eq (ends_of arc)) (map ends_of arcs))) (are_distinct ends_eq (map ends_of arcs)) h
+
+      none : list_any (ends_eq (ends_of arc)) (map ends_of arcs) ≡ false
+      none = unless_true (list_any (ends_eq (ends_of arc)) (map ends_of arcs)) (λ e. no_both (list_any (ends_eq (ends_of arc)) (map ends_of arcs)) e parts.0)
+
+      alone : (c : Addr4) → leads_to router iface arc ≡ true → first_addr lists arc.from arc.from_iface ≡ Some c → list_any (addr_eq c) (addrs_to lists arcs router iface) ≡ false
+      alone c leads is = none_again lists arc arcs router iface c apart leads is none
+
+-- ---- of the drafts
+faces_same : (faces : List InterfaceDraft) → of_faces (map (λ i. i.addrs) faces) ≡ flat_map (λ i. i.addrs) faces
+faces_same faces = flat_map-map whole (λ (i : InterfaceDraft). i.addrs) faces
+
+flat_same : (rs : List RouterDraft) → flat_map of_faces (draft_lists rs) ≡ all_addrs rs
+flat_same [] = refl
+flat_same (r ∷ rs) = rw (faces_same r.interfaces, flat_same rs) refl
+
+pub senders_apart : (routers : List RouterDraft) (arcs : List RadioArc) (router iface : ℕ) (senders : List SenderMetric) → AreApart routers arcs → map sender_pair senders ≡ senders_to (draft_lists routers) arcs router iface
+    → are_distinct addr_eq (map (λ s. s.sender) senders) ≡ true
+senders_apart routers arcs router iface senders apart met =
+    let pairs : map (λ (s : SenderMetric). s.sender) senders ≡ addrs_to (draft_lists routers) arcs router iface = sym (map-then addr_of sender_pair senders) ∙ ap (map addr_of) met in
+    rw pairs (addrs_apart (draft_lists routers) arcs router iface (ap (are_distinct addr_eq) (flat_same routers) ∙ apart.distinct_addrs) apart.distinct_arcs)

@@ -1,0 +1,150 @@
+-- Settings out of drafts.
+use Rattle.std.proofs.Common.{◌≡◌, ℕ, ◌+◌, ◌<◌, suc, List, [], ◌∷◌, ◌++◌, map, length, get_or, take, codes, zero, Bool, true, false, not, None, refl, sym, ap, ◌∙◌, subst, arith}
+use Rattle.std.specs.List.{list_all, list_any, flat_map}
+use Rattle.std.proofs.lemmas.List.Folds.{list_all-map, list_any-append, flat_map-map}
+use Rattle.std.proofs.lemmas.Bool.{and_parts}
+use Rattle.std.proofs.lemmas.List.{take_more, map-append, length-map}
+use Rattle.mesh_atoms.specs.declared.settings.Attached4.{Attached4}
+use Rattle.mesh_atoms.specs.declared.settings.Interface.{Interface}
+use Rattle.mesh_atoms.specs.declared.settings.RadioArc.{RadioArc}
+use Rattle.mesh_atoms.specs.declared.settings.RouterSettings.{RouterSettings}
+use Rattle.mesh_atoms.specs.Base.{addr_eq, net_eq}
+use Rattle.mesh_atoms.specs.Settings.{are_distinct, is_host, name_eq, IsRouter}
+use Rattle.mesh_drafts.specs.declared.drafts.RouterDraft.{RouterDraft}
+use Rattle.mesh_drafts.specs.declared.drafts.InterfaceDraft.{InterfaceDraft}
+use Rattle.mesh_toml.specs.Faults.{first}
+use Rattle.mesh_checks.specs.Checks.{duplicate_unless}
+use Rattle.mesh_checks.specs.Compared.{same_router, same_interface, same_attached, router_addrs, all_addrs, attaches_no_host, draft_duplicates}
+use Rattle.mesh_config.specs.Fields.{interface_fields, IsClear}
+use Rattle.mesh_drafts.specs.Router.{InterfaceFields, interface_draft_fields}
+use Rattle.mesh_config.specs.Senders.{Lists, senders_to, sender_pair, HaveSenders, HaveAllSenders}
+use Rattle.mesh_checks.proofs.Links.{are_distinct-map}
+
+-- one more interface, one more router
+pub senders_more : (lists : Lists) (arcs : List RadioArc) (router i n : ℕ) (xs : List Interface) (x : Interface) → HaveSenders lists arcs router i xs → i + length xs ≡ n
+    → map sender_pair x.senders ≡ senders_to lists arcs router n → x.metric.code ≡ 0 → HaveSenders lists arcs router i (xs ++ x ∷ [])
+senders_more lists arcs router i n [] x all here met own =
+    let at : i ≡ n = omega arith in
+    ((met ∙ ap (λ (k : ℕ). senders_to lists arcs router k) (sym at), own), tt)
+senders_more lists arcs router i n (y ∷ ys) x all here met own =
+    let at : (i + 1) + length ys ≡ n = omega arith in
+    (all.0, senders_more lists arcs router (i + 1) n ys x all.1 at met own)
+
+pub all_senders_more : (lists : Lists) (arcs : List RadioArc) (i n : ℕ) (xs : List RouterSettings) (x : RouterSettings) → HaveAllSenders lists arcs i xs → i + length xs ≡ n
+    → HaveSenders lists arcs n 0 x.interfaces → HaveAllSenders lists arcs i (xs ++ x ∷ [])
+all_senders_more lists arcs i n [] x all here met =
+    let at : i ≡ n = omega arith in
+    let says : ℕ → Type 0 = λ k. HaveSenders lists arcs k 0 x.interfaces in
+    (subst says (sym at) met, tt)
+all_senders_more lists arcs i n (y ∷ ys) x all here met =
+    let at : (i + 1) + length ys ≡ n = omega arith in
+    (all.0, all_senders_more lists arcs (i + 1) n ys x all.1 at met)
+
+-- ---- what holds of all holds of a part
+none_front : {A : Type 0} (p : A → Bool) (xs ys : List A) → not (list_any p (xs ++ ys)) ≡ true → not (list_any p xs) ≡ true
+none_front p xs ys h = grind (arith, list_any-append p xs ys, h)
+
+none_back : {A : Type 0} (p : A → Bool) (xs ys : List A) → not (list_any p (xs ++ ys)) ≡ true → not (list_any p ys) ≡ true
+none_back p xs ys h = grind (arith, list_any-append p xs ys, h)
+
+pub distinct_front : {A : Type 0} (eq : A → A → Bool) (xs ys : List A) → are_distinct eq (xs ++ ys) ≡ true → are_distinct eq xs ≡ true
+distinct_front eq [] ys h = refl
+distinct_front eq (x ∷ xs) ys h =
+    let parts = and_parts (not (list_any (eq x) (xs ++ ys))) (are_distinct eq (xs ++ ys)) h in
+    rw (none_front (eq x) xs ys parts.0, distinct_front eq xs ys parts.1)
+
+pub distinct_back : {A : Type 0} (eq : A → A → Bool) (xs ys : List A) → are_distinct eq (xs ++ ys) ≡ true → are_distinct eq ys ≡ true
+distinct_back eq [] ys h = h
+distinct_back eq (x ∷ xs) ys h = distinct_back eq xs ys (and_parts (not (list_any (eq x) (xs ++ ys))) (are_distinct eq (xs ++ ys)) h).1
+
+distinct_part : {A B : Type 0} (eq : B → B → Bool) (f : A → List B) (xs : List A) (i : ℕ) (d : A) → i < length xs → are_distinct eq (flat_map f xs) ≡ true → are_distinct eq (f (get_or xs i d)) ≡ true
+distinct_part eq f [] i d within h = absurd (omega arith)
+distinct_part eq f (x ∷ xs) zero d within h = distinct_front eq (f x) (flat_map f xs) h
+distinct_part eq f (x ∷ xs) (suc i) d within h = distinct_part eq f xs i d (omega arith) (distinct_back eq (f x) (flat_map f xs) h)
+
+none_part : {A B : Type 0} (p : B → Bool) (f : A → List B) (xs : List A) (i : ℕ) (d : A) → i < length xs → not (list_any p (flat_map f xs)) ≡ true → not (list_any p (f (get_or xs i d))) ≡ true
+none_part p f [] i d within h = absurd (omega arith)
+none_part p f (x ∷ xs) zero d within h = none_front p (f x) (flat_map f xs) h
+none_part p f (x ∷ xs) (suc i) d within h = none_part p f xs i d (omega arith) (none_back p (f x) (flat_map f xs) h)
+
+pub all_at : {A : Type 0} (p : A → Bool) (xs : List A) (i : ℕ) (d : A) → i < length xs → list_all p xs ≡ true → p (get_or xs i d) ≡ true
+all_at p [] i d within h = absurd (omega arith)
+all_at p (x ∷ xs) zero d within h = (and_parts (p x) (list_all p xs) h).0
+all_at p (x ∷ xs) (suc i) d within h = all_at p xs i d (omega arith) (and_parts (p x) (list_all p xs) h).1
+
+all_weaker : {A : Type 0} (p q : A → Bool) → ((x : A) → p x ≡ true → q x ≡ true) → (xs : List A) → list_all p xs ≡ true → list_all q xs ≡ true
+all_weaker p q h [] all = refl
+all_weaker p q h (x ∷ xs) all =
+    let parts = and_parts (p x) (list_all p xs) all in
+    rw (h x parts.0, all_weaker p q h xs parts.1)
+
+-- ---- no fault among the checks
+pub record Passed (a b c d e : Bool) : Type 0 where
+  pub in_first : a ≡ true
+  pub in_second : b ≡ true
+  pub in_third : c ≡ true
+  pub in_fourth : d ≡ true
+  pub in_fifth : e ≡ true
+
+pub all_passed : (a b c d e : Bool) → first (duplicate_unless a (codes "name") ∷ duplicate_unless b (codes "name") ∷ duplicate_unless c (codes "addresses") ∷ duplicate_unless d (codes "net") ∷ duplicate_unless e (codes "net") ∷ []) ≡ None → Passed a b c d e
+all_passed true true true true true h = record { in_first = refl; in_second = refl; in_third = refl; in_fourth = refl; in_fifth = refl }
+all_passed true true true true false h = let bad : ⊥ = cc in absurd bad
+all_passed true true true false e h = let bad : ⊥ = cc in absurd bad
+all_passed true true false d e h = let bad : ⊥ = cc in absurd bad
+all_passed true false c d e h = let bad : ⊥ = cc in absurd bad
+all_passed false b c d e h = let bad : ⊥ = cc in absurd bad
+
+pub drafts_passed : (rs : List RouterDraft) → first (draft_duplicates rs) ≡ None
+    → Passed (are_distinct same_router rs) (list_all (λ r. are_distinct same_interface r.interfaces) rs) (are_distinct addr_eq (all_addrs rs)) (list_all (λ r. are_distinct same_attached r.attached) rs) (list_all (attaches_no_host (all_addrs rs)) rs)
+drafts_passed rs h =
+    all_passed (are_distinct same_router rs) (list_all (λ r. are_distinct same_interface r.interfaces) rs) (are_distinct addr_eq (all_addrs rs)) (list_all (λ r. are_distinct same_attached r.attached) rs) (list_all (attaches_no_host (all_addrs rs)) rs) h
+
+pub clear_at : (rs : List RouterDraft) (i : ℕ) (d : RouterDraft) → i < length rs → first (draft_duplicates rs) ≡ None → IsClear (get_or rs i d)
+clear_at rs i d within none =
+    let p = drafts_passed rs none in
+    record {
+      names = all_at (λ (r : RouterDraft). are_distinct same_interface r.interfaces) rs i d within p.in_second;
+      addrs = distinct_part addr_eq router_addrs rs i d within p.in_third;
+      nets = all_at (λ (r : RouterDraft). are_distinct same_attached r.attached) rs i d within p.in_fourth;
+      hosts =
+          all_weaker (λ (a : Attached4). not (list_any (is_host a.net) (all_addrs rs))) (λ (a : Attached4). not (list_any (is_host a.net) (router_addrs (get_or rs i d))))
+          (λ (a : Attached4). none_part (is_host a.net) router_addrs rs i d within) (get_or rs i d).attached (all_at (attaches_no_host (all_addrs rs)) rs i d within p.in_fifth);
+    }
+
+-- ---- one more of two lists that agree
+pub maps_more : {A B C : Type 0} (f : A → C) (g : B → C) (xs : List A) (ys : List B) (i : ℕ) (x : A) (y : B) → y ≡ get_or ys i y → i < length ys
+    → map f xs ≡ map g (take i ys) → f x ≡ g y → map f (xs ++ x ∷ []) ≡ map g (take (i + 1) ys)
+maps_more {A} {B} {C} f g xs ys i x y here within all one =
+    let at : map g (take (i + 1) ys) ≡ map g (take i ys) ++ g y ∷ [] =
+    ap (map g) (take_more ys i y within ∙ ap (λ (w : B). take i ys ++ w ∷ []) (sym here)) ∙ map-append g (take i ys) (y ∷ []) in
+    map-append f xs (x ∷ []) ∙ (rw (all, one) (sym at))
+
+-- ---- what a router keeps
+pub map-then : {A B C : Type 0} (g : B → C) (f : A → B) (xs : List A) → map g (map f xs) ≡ map (λ x. g (f x)) xs
+map-then g f [] = refl
+map-then g f (x ∷ xs) = ap (λ (ys : List _). g (f x) ∷ ys) (map-then g f xs)
+
+pub names_same : (xs : List Interface) (ys : List InterfaceDraft) → map interface_fields xs ≡ map interface_draft_fields ys → map (λ i. i.name) xs ≡ map (λ i. i.name) ys
+names_same xs ys h = sym (map-then (λ (f : InterfaceFields). f.interface_name) interface_fields xs) ∙ (ap (map (λ (f : InterfaceFields). f.interface_name)) h ∙ map-then (λ (f : InterfaceFields). f.interface_name) interface_draft_fields ys)
+
+pub addrs_same : (xs : List Interface) (ys : List InterfaceDraft) → map interface_fields xs ≡ map interface_draft_fields ys → map (λ i. i.addrs) xs ≡ map (λ i. i.addrs) ys
+addrs_same xs ys h = sym (map-then (λ (f : InterfaceFields). f.addrs) interface_fields xs) ∙ (ap (map (λ (f : InterfaceFields). f.addrs)) h ∙ map-then (λ (f : InterfaceFields). f.addrs) interface_draft_fields ys)
+
+pub flat_same : (xs : List Interface) (ys : List InterfaceDraft) → map interface_fields xs ≡ map interface_draft_fields ys → flat_map (λ i. i.addrs) xs ≡ flat_map (λ i. i.addrs) ys
+flat_same xs ys h = sym (flat_map-map (λ (f : InterfaceFields). f.addrs) interface_fields xs) ∙ (ap (flat_map (λ (f : InterfaceFields). f.addrs)) h ∙ flat_map-map (λ (f : InterfaceFields). f.addrs) interface_draft_fields ys)
+
+pub sound_router : (d : RouterDraft) (faces : List Interface) (name : List ℕ) (attached : List Attached4) → IsClear d → map interface_fields faces ≡ map interface_draft_fields d.interfaces → name ≡ d.head.name → attached ≡ d.attached
+    → IsRouter name d.head.hello_at d.head.tc_at (map (λ i. i.name) faces) (flat_map (λ i. i.addrs) faces) (map (λ a. a.net) attached)
+sound_router d faces name attached clear same called nets =
+    let names = names_same faces d.interfaces same in let addrs = flat_same faces d.interfaces same in
+    rw (names, addrs, called, nets) (record {
+      named = d.head.named;
+      hello_range = d.head.hello_range;
+      tc_range = d.head.tc_range;
+      interfaces = rw length-map d.few_interfaces;
+      attached = rw length-map d.few_attached;
+      distinct_names = are_distinct-map name_eq (λ (i : InterfaceDraft). i.name) d.interfaces ∙ clear.names;
+      distinct_addrs = clear.addrs;
+      distinct_nets = are_distinct-map net_eq (λ (a : Attached4). a.net) d.attached ∙ clear.nets;
+      no_hosts = list_all-map (λ net. not (list_any (is_host net) (router_addrs d))) (λ (a : Attached4). a.net) d.attached ∙ clear.hosts;
+    })

@@ -1,0 +1,135 @@
+-- What arcs that are joined by name keep.
+use Rattle.std.proofs.Common.{◌≡◌, ℕ, zero, suc, List, [], ◌∷◌, ◌++◌, map, length, position, Bool, true, false, cond, codes, nat_eq, nat_lt, slice_index, Option, Some, None, Ok, Err, refl, sym, ◌∙◌, subst, arith}
+use Rattle.std.specs.List.{list_all, list_any, slice_get, position_or_len}
+use Rattle.std.proofs.lemmas.Bool.Decides.{nat_tests}
+use Rattle.std.proofs.lemmas.List.Folds.{list_any-append}
+use Rattle.mesh_atoms.specs.Settings.{name_eq, are_distinct, Ends, ends_eq, is_interface, joins_routers}
+use Rattle.mesh_toml.specs.declared.refusal.TheConstants.{DUPLICATE}
+use Rattle.mesh_toml.specs.Faults.{Fault, Read, fault, bad_value}
+use Rattle.mesh_atoms.specs.Literals.{◌>>=◌}
+use Rattle.mesh_checks.specs.Checks.{Identifiers, Place, find_place, known_place, ends, new_ends, joined, joins, ◌>>?◌}
+
+abbrev counts : List Identifiers → List ℕ
+counts routers = map (λ (n : Identifiers). length n.interface_names) routers
+
+position_within : {A : Type 0} (p : A → Bool) (xs : List A) (i : ℕ) → position p xs ≡ Some i → nat_lt i (length xs) ≡ true
+position_within p xs i h = within (position_or_len p xs) (length xs) (nat_lt (position_or_len p xs) (length xs)) i refl h where
+  within : (k n : ℕ) (b : Bool) (i : ℕ) → nat_lt k n ≡ b → cond b (Some k) None ≡ Some i → nat_lt i n ≡ true
+  within k n true i e h = let same : k ≡ i = cc in rw (← same) e
+  within k n false i e h = let bad : ⊥ = cc in absurd bad
+
+count_at : (routers : List Identifiers) (i : ℕ) (r : Identifiers) → slice_get routers i ≡ Some r → slice_index (counts routers) i ≡ length r.interface_names
+count_at [] i r h = let bad : ⊥ = cc in absurd bad
+count_at (x ∷ xs) zero r h = let same : x ≡ r = cc in rw same
+count_at (x ∷ xs) (suc i) r h = count_at xs i r h
+
+abbrev both : ℕ → ℕ → Option (ℕ × ℕ)
+both a b = Some (a, b)
+
+third : (routers : List Identifiers) (router : ℕ) (n : List ℕ) (r : Identifiers) (found : Option ℕ) (a : ℕ × ℕ) → position (name_eq n) r.interface_names ≡ found → slice_get routers router ≡ Some r
+    → (found >>= λ iface. both router iface) ≡ Some a → is_interface (counts routers) a.0 a.1 ≡ true
+third routers router n r None a there here h = let bad : ⊥ = cc in absurd bad
+third routers router n r (Some iface) a there here h =
+    let pair : ℕ × ℕ = (router, iface) in
+    let same : pair ≡ a = cc in
+    let says : ℕ × ℕ → Type 0 = λ x. is_interface (counts routers) x.0 x.1 ≡ true in
+    subst says same (rw (count_at routers router r here) (position_within (name_eq n) r.interface_names iface there))
+
+second : (routers : List Identifiers) (router : ℕ) (n : List ℕ) (found : Option Identifiers) (a : ℕ × ℕ) → slice_get routers router ≡ found
+    → (found >>= λ r. position (name_eq n) r.interface_names >>= λ iface. both router iface) ≡ Some a → is_interface (counts routers) a.0 a.1 ≡ true
+second routers router n None a here h = let bad : ⊥ = cc in absurd bad
+second routers router n (Some r) a here h = third routers router n r (position (name_eq n) r.interface_names) a refl here h
+
+place_of : (routers : List Identifiers) (n : List ℕ) (found : Option ℕ) (a : ℕ × ℕ)
+    → (found >>= λ router. slice_get routers router >>= λ r. position (name_eq n) r.interface_names >>= λ iface. both router iface) ≡ Some a → is_interface (counts routers) a.0 a.1 ≡ true
+place_of routers n None a h = let bad : ⊥ = cc in absurd bad
+place_of routers n (Some router) a h = second routers router n (slice_get routers router) a refl h
+
+place_within : (routers : List Identifiers) (p : Place) (a : ℕ × ℕ) → find_place routers p ≡ Some a → is_interface (counts routers) a.0 a.1 ≡ true
+place_within routers p a h = place_of routers p.1 (position (λ r. name_eq p.0 r.router_name) routers) a h
+
+-- ---- what was read one after the other
+bind_ok : {A B : Type 0} (r : Read A) (f : A → Read B) (y : B) → (r >>? f) ≡ Ok y → (x : A) × ((r ≡ Ok x) × (f x ≡ Ok y))
+bind_ok (Ok x) f y h = (x, (refl, h))
+bind_ok (Err e) f y h = let bad : ⊥ = cc in absurd bad
+
+known_ok : (key : List ℕ) (found : Option (ℕ × ℕ)) (a : ℕ × ℕ) → known_place key found ≡ Ok a → found ≡ Some a
+known_ok key None a h = let bad : ⊥ = cc in absurd bad
+known_ok key (Some x) a h = cc
+
+new_of : (p q : Bool) (f g : Fault) (x e : Ends) → cond p (Err f) (cond q (Err g) (Ok x)) ≡ Ok e → (p ≡ false) × ((q ≡ false) × (e ≡ x))
+new_of true q f g x e h = let bad : ⊥ = cc in absurd bad
+new_of false true f g x e h = let bad : ⊥ = cc in absurd bad
+new_of false false f g x e h = let same : e ≡ x = cc in (refl, (refl, same))
+
+pub record Joins (routers : List Identifiers) (earlier : List Ends) (e : Ends) : Type 0 where
+  pub in_range : joins_routers (counts routers) e ≡ true
+  pub new : list_any (ends_eq e) earlier ≡ false
+
+joined_ok : (routers : List Identifiers) (earlier : List Ends) (arc : Place × Place) (e : Ends) → joined routers earlier arc ≡ Ok e → Joins routers earlier e
+joined_ok routers earlier arc e h =
+    let one = bind_ok (known_place (codes "from") (find_place routers arc.0)) (λ a. known_place (codes "to") (find_place routers arc.1) >>? λ b. new_ends earlier a b) e h in
+    let two = bind_ok (known_place (codes "to") (find_place routers arc.1)) (λ b. new_ends earlier one.0 b) e one.1.1 in
+    let a = one.0 in let b = two.0 in
+    let from = place_within routers arc.0 a (known_ok (codes "from") (find_place routers arc.0) a one.1.0) in
+    let to = place_within routers arc.1 b (known_ok (codes "to") (find_place routers arc.1) b two.1.0) in
+    let made = new_of (nat_eq a.0 b.0) (list_any (ends_eq (ends a b)) earlier) (bad_value (codes "to")) (fault DUPLICATE (codes "arc")) (ends a b) e two.1.1 in
+    let says : Ends → Type 0 = λ x. Joins routers earlier x in
+    subst says (sym made.1.1) (record { in_range = rw (from, to, made.0); new = made.1.0 })
+
+abbrev whole_list : List Ends → Read (List Ends)
+whole_list xs = Ok xs
+
+joins_more : (routers : List Identifiers) (earlier : List Ends) (arc : Place × Place) (arcs : List (Place × Place)) (es : List Ends) → joins routers earlier (arc ∷ arcs) ≡ Ok es
+    → (e : Ends) × ((xs : List Ends) × ((joined routers earlier arc ≡ Ok e) × ((joins routers (earlier ++ e ∷ []) arcs ≡ Ok xs) × (es ≡ e ∷ xs))))
+joins_more routers earlier arc arcs es h =
+    let one = bind_ok (joined routers earlier arc) (λ e. joins routers (earlier ++ e ∷ []) arcs >>? λ xs. Ok (e ∷ xs)) es h in
+    let e = one.0 in
+    let two = bind_ok (joins routers (earlier ++ e ∷ []) arcs) (λ xs. Ok (e ∷ xs)) es one.1.1 in
+    let last : whole_list (e ∷ two.0) ≡ Ok es = two.1.1 in
+    let same : es ≡ e ∷ two.0 = cc in
+    (e, (two.0, (one.1.0, (two.1.0, same))))
+
+-- ---- two arcs join the same interfaces in either order of asking
+eq-sym : (a b : ℕ) → nat_eq a b ≡ nat_eq b a
+eq-sym a b = grind (arith, nat_tests)
+
+ends_eq-sym : (a b : Ends) → ends_eq a b ≡ ends_eq b a
+ends_eq-sym a b = rw (eq-sym a.from b.from, eq-sym a.from_iface b.from_iface, eq-sym a.to b.to, eq-sym a.to_iface b.to_iface)
+
+any_front : {A : Type 0} (p : A → Bool) (xs ys : List A) → list_any p (xs ++ ys) ≡ false → list_any p xs ≡ false
+any_front p xs ys h = grind (arith, list_any-append p xs ys, h)
+
+any_last : {A : Type 0} (p : A → Bool) (xs : List A) (x : A) → list_any p (xs ++ x ∷ []) ≡ false → p x ≡ false
+any_last p xs x h = grind (arith, list_any-append p xs (x ∷ []), h)
+
+none_of : (es : List Ends) → whole_list [] ≡ Ok es → [] ≡ es
+none_of es h = cc
+
+pub joins_range : (routers : List Identifiers) (earlier : List Ends) (arcs : List (Place × Place)) (es : List Ends) → joins routers earlier arcs ≡ Ok es
+    → list_all (joins_routers (map (λ (n : Identifiers). length n.interface_names) routers)) es ≡ true
+joins_range routers earlier [] es h = rw (← none_of es h)
+joins_range routers earlier (arc ∷ arcs) es h =
+    let parts = joins_more routers earlier arc arcs es h in
+    let e = parts.0 in let xs = parts.1.0 in
+    rw (parts.1.1.1.1, (joined_ok routers earlier arc e parts.1.1.0).in_range, joins_range routers (earlier ++ e ∷ []) arcs xs parts.1.1.1.0)
+
+joins_fresh : (routers : List Identifiers) (earlier : List Ends) (arcs : List (Place × Place)) (es : List Ends) (x : Ends) → ((y : Ends) → list_any (ends_eq y) earlier ≡ false → ends_eq y x ≡ false)
+    → joins routers earlier arcs ≡ Ok es → list_any (ends_eq x) es ≡ false
+joins_fresh routers earlier [] es x apart h = rw (← none_of es h)
+joins_fresh routers earlier (arc ∷ arcs) es x apart h =
+    let parts = joins_more routers earlier arc arcs es h in
+    let e = parts.0 in let xs = parts.1.0 in
+    let here : ends_eq x e ≡ false = ends_eq-sym x e ∙ apart e (joined_ok routers earlier arc e parts.1.1.0).new in
+    rw (parts.1.1.1.1, here, joins_fresh routers (earlier ++ e ∷ []) arcs xs x (λ y none. apart y (any_front (ends_eq y) earlier (e ∷ []) none)) parts.1.1.1.0)
+
+distinct_from : (routers : List Identifiers) (earlier : List Ends) (arcs : List (Place × Place)) (es : List Ends) → joins routers earlier arcs ≡ Ok es → are_distinct ends_eq es ≡ true
+distinct_from routers earlier [] es h = rw (← none_of es h)
+distinct_from routers earlier (arc ∷ arcs) es h =
+    let parts = joins_more routers earlier arc arcs es h in
+    let e = parts.0 in let xs = parts.1.0 in
+    let alone : list_any (ends_eq e) xs ≡ false = joins_fresh routers (earlier ++ e ∷ []) arcs xs e (λ y none. any_last (ends_eq y) earlier e none) parts.1.1.1.0 in
+    rw (parts.1.1.1.1, alone, distinct_from routers (earlier ++ e ∷ []) arcs xs parts.1.1.1.0)
+
+pub joins_distinct : (routers : List Identifiers) (arcs : List (Place × Place)) (es : List Ends) → joins routers [] arcs ≡ Ok es → are_distinct ends_eq es ≡ true
+joins_distinct routers arcs es h = distinct_from routers [] arcs es h

@@ -1,0 +1,7 @@
+use Rattle.mesh_config.proofs.Builds.{sound_router}
+use Rattle.mesh_config.proofs.running.router_from.Goals as goal
+
+pub invariant_of-result : goal.invariant_of-result
+invariant_of-result c = record {
+  sound = sound_router c.args.outline.now c.args.interfaces c.in_ok-name.name c.in_ok-attached.attached c.requires.clear c.requires.interfaces c.in_ok-name.ensures c.in_ok-attached.ensures;
+}

@@ -1,0 +1,48 @@
+-- Drafts and settings, part by part.
+use Rattle.std.specs.Prelude.{◌≡◌, List, map, true}
+use Rattle.mesh_atoms.specs.declared.settings.Attached4.{Attached4}
+use Rattle.mesh_atoms.specs.declared.settings.Interface.{Interface}
+use Rattle.mesh_atoms.specs.declared.settings.RouterSettings.{RouterSettings}
+use Rattle.mesh_atoms.specs.declared.settings.Times.{Times}
+use Rattle.mesh_atoms.specs.Base.{addr_eq}
+use Rattle.mesh_atoms.specs.Settings.{are_distinct}
+use Rattle.mesh_drafts.specs.declared.drafts.RouterDraft.{RouterDraft}
+use Rattle.mesh_drafts.specs.Router.{InterfaceFields, interface_draft_fields, RouterFields, head_fields}
+use Rattle.mesh_checks.specs.Compared.{same_interface, same_attached, router_addrs, attaches_no_host}
+
+-- what the table of an interface or of a router says, as the settings have it
+abbrev pub interface_fields : Interface → InterfaceFields
+interface_fields i = record { interface_name = i.name; addrs = i.addrs }
+
+abbrev pub router_fields : RouterSettings → RouterFields
+router_fields r = record { router_name = r.name; willing = r.willing; hello_at = r.hello_at; tc_at = r.tc_at }
+
+-- the parts of a router, but for the senders of its interfaces
+pub record RouterParts : Type 0 where
+  pub fields : RouterFields
+  pub times : Times
+  pub interfaces : List InterfaceFields
+  pub attached : List Attached4
+
+abbrev pub draft_parts : Times → RouterDraft → RouterParts
+draft_parts times d = record {
+  fields = head_fields d.head;
+  times = times;
+  interfaces = map interface_draft_fields d.interfaces;
+  attached = d.attached;
+}
+
+abbrev pub settings_parts : RouterSettings → RouterParts
+settings_parts r = record {
+  fields = router_fields r;
+  times = r.times;
+  interfaces = map interface_fields r.interfaces;
+  attached = r.attached;
+}
+
+-- nothing stands twice within the router
+pub record IsClear (d : RouterDraft) : Type 0 where
+  pub names : are_distinct same_interface d.interfaces ≡ true
+  pub addrs : are_distinct addr_eq (router_addrs d) ≡ true
+  pub nets : are_distinct same_attached d.attached ≡ true
+  pub hosts : attaches_no_host (router_addrs d) d ≡ true

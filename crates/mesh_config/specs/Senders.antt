@@ -1,0 +1,57 @@
+-- The senders of the interfaces of a scenario.
+use Rattle.std.specs.Prelude.{◌≡◌, ℕ, ◌+◌, List, [], ◌∷◌, map, true, nat_eq, ◌&&◌, Option, Some, None, if◌then◌else◌}
+use Rattle.std.specs.List.{flat_map, slice_get}
+use Rattle.mesh_atoms.specs.declared.addr.Addr4.{Addr4}
+use Rattle.mesh_atoms.specs.declared.metric.Metric.{Metric}
+use Rattle.mesh_atoms.specs.declared.settings.Interface.{Interface}
+use Rattle.mesh_atoms.specs.declared.settings.RadioArc.{RadioArc}
+use Rattle.mesh_atoms.specs.declared.settings.RouterSettings.{RouterSettings}
+use Rattle.mesh_atoms.specs.declared.settings.SenderMetric.{SenderMetric}
+use Rattle.mesh_atoms.specs.Base.{addr_eq}
+use Rattle.mesh_atoms.specs.Literals.{◌>>=◌}
+use Rattle.mesh_atoms.specs.Settings.{are_distinct, ends_eq}
+use Rattle.mesh_drafts.specs.declared.drafts.RouterDraft.{RouterDraft}
+use Rattle.mesh_checks.specs.Compared.{all_addrs, ends_of}
+
+-- the addresses of each interface of each router
+abbrev pub Lists : Type 0
+Lists = List (List (List Addr4))
+
+abbrev pub addr_lists : List RouterSettings → Lists
+addr_lists routers = map (λ r. map (λ i. i.addrs) r.interfaces) routers
+
+-- the first address of an interface
+abbrev pub first_addr : Lists → ℕ → ℕ → Option Addr4
+first_addr lists router iface = slice_get lists router >>= λ ifaces. slice_get ifaces iface >>= λ addrs. slice_get addrs 0
+
+abbrev pub with_metric : Metric → Option Addr4 → List (Addr4 × Metric)
+with_metric metric None = []
+with_metric metric (Some addr) = (addr, metric) ∷ []
+
+-- an arc that leads to the interface gives the first address of the sending interface, with its metric
+abbrev pub sender_by : Lists → ℕ → ℕ → RadioArc → List (Addr4 × Metric)
+sender_by lists router iface arc =
+    if nat_eq arc.to router && nat_eq arc.to_iface iface then with_metric arc.metric (first_addr lists arc.from arc.from_iface) else []
+
+-- the senders of an interface, in order of the arcs
+abbrev pub senders_to : Lists → List RadioArc → ℕ → ℕ → List (Addr4 × Metric)
+senders_to lists arcs router iface = flat_map (sender_by lists router iface) arcs
+
+abbrev pub sender_pair : SenderMetric → Addr4 × Metric
+sender_pair s = (s.sender, s.metric)
+
+-- the interfaces of a router from number `iface` on: their senders, and the metric 1 of their own
+abbrev pub HaveSenders : Lists → List RadioArc → ℕ → ℕ → List Interface → Type 0
+HaveSenders lists arcs router iface [] = Unit {0}
+HaveSenders lists arcs router iface (x ∷ xs) =
+    ((map sender_pair x.senders ≡ senders_to lists arcs router iface) × (x.metric.code ≡ 0)) × HaveSenders lists arcs router (iface + 1) xs
+
+-- the routers from number `router` on
+abbrev pub HaveAllSenders : Lists → List RadioArc → ℕ → List RouterSettings → Type 0
+HaveAllSenders lists arcs router [] = Unit {0}
+HaveAllSenders lists arcs router (r ∷ rs) = HaveSenders lists arcs router 0 r.interfaces × HaveAllSenders lists arcs (router + 1) rs
+
+-- no address stands twice among the routers, and no two arcs join the same interfaces
+pub record AreApart (routers : List RouterDraft) (arcs : List RadioArc) : Type 0 where
+  pub distinct_addrs : are_distinct addr_eq (all_addrs routers) ≡ true
+  pub distinct_arcs : are_distinct ends_eq (map ends_of arcs) ≡ true

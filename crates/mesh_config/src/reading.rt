@@ -1,0 +1,56 @@
+//! A scenario out of its text.
+ghost use Rattle.std.specs.Prelude.{◌≡◌, None, IfOk, IfErr};
+ghost use Rattle.toml.specs.View.{table_view};
+ghost use Rattle.mesh_toml.specs.Faults.{Answers, first, IfRefused};
+ghost use Rattle.mesh_checks.specs.Checks.{scenario_visits};
+ghost use Rattle.mesh_config.specs.Built.{draft_visits, BuiltFrom};
+ghost use Rattle.mesh_config.specs.Settings.{ScenarioSays, SettingsIs, refusals, FirstRefusal};
+
+use crate::build::make_routers;
+use mesh_atoms::Scenario;
+use mesh_checks::{all_joined, no_duplicates};
+use mesh_drafts::{ScenarioDraft, scenario_draft};
+use mesh_toml::{ConfigFault, document};
+use std::alloc::Global;
+use toml::Table;
+
+// The checks after the walk, and the scenario where they hold.
+fn checked(alloc: Global, draft: &ScenarioDraft) -> Result<Scenario, ConfigFault>
+    ensures { Answers (BuiltFrom draft.now) (first (draft_visits draft.now)) result }
+{
+    let drafts = draft.routers.as_slice();
+    no_duplicates(alloc, drafts)?;
+    let arcs = all_joined(alloc, drafts, draft.arcs.as_slice())?;
+    let routers = make_routers(alloc, drafts, arcs.as_slice(), draft.times)?;
+    Ok(Scenario {
+        end: draft.end,
+        seed: draft.seed,
+        loss_until: draft.loss_until,
+        routers,
+        arcs,
+    })
+}
+
+fn scenario_in(alloc: Global, table: &Table) -> Result<Scenario, ConfigFault>
+    ensures { Answers (ScenarioSays (table_view table.now)) (first (scenario_visits (table_view table.now))) result }
+{
+    let draft = scenario_draft(alloc, table)?;
+    checked(alloc, &draft)
+}
+
+fn scenario_read(alloc: Global, text: &[u8]) -> Result<Scenario, ConfigFault>
+    ensures { Answers (SettingsIs text.now) (first (refusals text.now)) result }
+{
+    let table = document(alloc, text)?;
+    scenario_in(alloc, &table)
+}
+
+/// The scenario that the text says, or the first refusal: the number of the fault and the key that it is printed with.
+/// Text of more than 1,048,576 octets is refused before it is read.
+pub fn scenario_of(alloc: Global, text: &[u8]) -> Result<Scenario, ConfigFault>
+    ensures says { IfOk result (SettingsIs text.now) }
+    ensures clear { IfOk result (λ _. first (refusals text.now) ≡ None) }
+    ensures refused { IfErr result (IfRefused (FirstRefusal text.now)) }
+{
+    scenario_read(alloc, text)
+}

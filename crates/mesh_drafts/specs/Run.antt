@@ -1,0 +1,94 @@
+-- The tables of `run`: neighbours, interfaces with their ports, the router, and the top.
+use Rattle.std.specs.Prelude.{◌≡◌, ℕ, List, [], ◌∷◌, codes, map, Ok}
+use Rattle.toml.specs.Data.{Data, Members, as_table}
+use Rattle.mesh_atoms.specs.declared.addr.Addr4.{Addr4}
+use Rattle.mesh_atoms.specs.declared.settings.SenderMetric.{SenderMetric}
+use Rattle.mesh_drafts.specs.declared.drafts.RunInterfaceDraft.{RunInterfaceDraft}
+use Rattle.mesh_drafts.specs.declared.drafts.RunRouterDraft.{RunRouterDraft}
+use Rattle.mesh_drafts.specs.declared.drafts.RunDraft.{RunDraft}
+use Rattle.mesh_toml.specs.Faults.{Read, Visits, visit, first, listed}
+use Rattle.mesh_toml.specs.Values.{optional, required, whole, text, array_or_none, each_turned, unknown, is_one_of}
+use Rattle.mesh_atoms.specs.Literals.{address_of, endpoint_of}
+use Rattle.mesh_toml.specs.Ports.{port_of}
+use Rattle.mesh_drafts.specs.Tables.{tables_visits, Each}
+use Rattle.mesh_drafts.specs.Times.{TimesIs}
+use Rattle.mesh_drafts.specs.Router.{name, addresses, metric_asked, IsMetric, head_visits, HeadIs, interfaces, networks_visits, attached, AttachedIs}
+use Rattle.mesh_drafts.specs.Scenario.{end_moment, times_part, sub_times}
+use Rattle.mesh_toml.specs.Values.{table_read}
+
+-- ---- a neighbour
+abbrev pub address : Members → Read Addr4
+address = required (text address_of) (codes "address")
+
+abbrev pub neighbour_keys : List (List ℕ)
+neighbour_keys = codes "address" ∷ codes "metric" ∷ []
+
+abbrev pub neighbour_visits : Members → Visits
+neighbour_visits table = unknown (is_one_of neighbour_keys) table ∷ visit (address table) ∷ visit (metric_asked table) ∷ []
+
+pub record NeighbourIs (table : Members) (sender : SenderMetric) : Type 0 where
+  pub is_sender : address table ≡ Ok sender.sender
+  pub is_metric : IsMetric (metric_asked table) sender.metric
+
+-- ---- an interface with its port
+abbrev pub local : Members → Read (Addr4 × ℕ)
+local = required (text endpoint_of) (codes "local")
+
+abbrev pub peers : Members → Read (List (Addr4 × ℕ))
+peers table = each_turned (text endpoint_of) (codes "peers") (array_or_none 64 (codes "peers") table)
+
+abbrev pub own_metric_asked : Members → Read ℕ
+own_metric_asked = optional 1 (whole 1 16776960) (codes "metric")
+
+abbrev pub neighbours : Members → Read (List Data)
+neighbours = array_or_none 1024 (codes "neighbour")
+
+abbrev pub run_interface_keys : List (List ℕ)
+run_interface_keys =
+    codes "name" ∷ codes "addresses" ∷ codes "local" ∷ codes "peers" ∷ codes "metric" ∷ codes "neighbour" ∷ []
+
+abbrev pub neighbours_visits : Members → Visits
+neighbours_visits table = visit (neighbours table) ∷ tables_visits neighbour_visits (codes "neighbour") (listed (neighbours table))
+
+abbrev pub run_interface_visits : Members → Visits
+run_interface_visits table =
+    unknown (is_one_of run_interface_keys) table ∷ visit (name table) ∷ visit (addresses table) ∷ visit (local table) ∷ visit (peers table)
+    ∷ visit (own_metric_asked table) ∷ first (neighbours_visits table) ∷ []
+
+pub record RunInterfaceIs (table : Members) (interface : RunInterfaceDraft) : Type 0 where
+  pub is_name : name table ≡ Ok interface.name
+  pub is_addrs : addresses table ≡ Ok interface.addrs
+  pub is_local : local table ≡ Ok (port_of interface.local)
+  pub are_peers : peers table ≡ Ok (map port_of interface.peers)
+  pub is_metric : IsMetric (own_metric_asked table) interface.metric
+  pub are_senders : Each NeighbourIs (listed (neighbours table)) interface.senders
+
+-- ---- the router and the top
+abbrev pub run_interfaces_visits : Members → Visits
+run_interfaces_visits table = visit (interfaces table) ∷ tables_visits run_interface_visits (codes "interface") (listed (interfaces table))
+
+abbrev pub run_router_visits : Members → Visits
+run_router_visits table = first (head_visits table) ∷ first (run_interfaces_visits table) ∷ first (networks_visits table) ∷ []
+
+pub record RunRouterIs (table : Members) (router : RunRouterDraft) : Type 0 where
+  pub is_head : HeadIs table router.head
+  pub are_interfaces : Each RunInterfaceIs (listed (interfaces table)) router.interfaces
+  pub are_attached : Each AttachedIs (listed (attached table)) router.attached
+
+abbrev pub router_table : Members → Read Members
+router_table = required as_table (codes "router")
+
+abbrev pub router_part : Members → Visits
+router_part table = visit (router_table table) ∷ first (run_router_visits (table_read (router_table table))) ∷ []
+
+abbrev pub run_keys : List (List ℕ)
+run_keys = codes "end_ms" ∷ codes "times" ∷ codes "router" ∷ []
+
+abbrev pub run_table_visits : Members → Visits
+run_table_visits table =
+    unknown (is_one_of run_keys) table ∷ visit (end_moment table) ∷ first (times_part table) ∷ first (router_part table) ∷ []
+
+pub record RunDraftIs (table : Members) (run : RunDraft) : Type 0 where
+  pub is_end : end_moment table ≡ Ok run.end
+  pub are_times : TimesIs (sub_times table) run.times
+  pub is_router : RunRouterIs (table_read (router_table table)) run.router

@@ -1,0 +1,99 @@
+-- The tables of a scenario: arcs, and the top.
+use Rattle.std.specs.Prelude.{◌≡◌, ℕ, List, [], ◌∷◌, codes, Option, Some, None, Ok, option_map}
+use Rattle.toml.specs.Data.{Data, Members, no_members, as_table}
+use Rattle.mesh_drafts.specs.declared.drafts.ArcDraft.{ArcDraft}
+use Rattle.mesh_drafts.specs.declared.drafts.ScenarioDraft.{ScenarioDraft}
+use Rattle.mesh_atoms.specs.declared.metric.Metric.{Metric}
+use Rattle.mesh_toml.specs.Faults.{Read, Visits, visit, first, listed, then_turned}
+use Rattle.mesh_toml.specs.Values.{optional, required, whole, text, array, array_or_none, unknown, is_one_of, ticks, table_read}
+use Rattle.mesh_atoms.specs.Literals.{place_of}
+use Rattle.mesh_drafts.specs.Tables.{tables_visits, Each}
+use Rattle.mesh_drafts.specs.Times.{times_visits, TimesIs}
+use Rattle.mesh_drafts.specs.Router.{metric_asked, IsMetric, router_visits, RouterIs}
+
+-- ---- an arc
+abbrev pub place : List ℕ → Members → Read (List ℕ × List ℕ)
+place = required (text place_of)
+
+abbrev pub loss : Members → Read ℕ
+loss = optional 0 (whole 0 1000) (codes "loss")
+
+abbrev pub delay : Members → Read ℕ
+delay table = then_turned ticks (optional 1 (whole 1 1000) (codes "delay_ms") table)
+
+abbrev pub arc_keys : List (List ℕ)
+arc_keys = codes "from" ∷ codes "to" ∷ codes "metric" ∷ codes "loss" ∷ codes "delay_ms" ∷ []
+
+abbrev pub arc_visits : Members → Visits
+arc_visits table =
+    unknown (is_one_of arc_keys) table ∷ visit (place (codes "from") table) ∷ visit (place (codes "to") table) ∷ visit (metric_asked table)
+    ∷ visit (loss table) ∷ visit (delay table) ∷ []
+
+-- what the table of an arc says besides its ends
+pub record ArcFields : Type 0 where
+  pub metric : Metric
+  pub loss : ℕ
+  pub delay : ℕ
+
+pub record AreArcFields (table : Members) (fields : ArcFields) : Type 0 where
+  pub is_metric : IsMetric (metric_asked table) fields.metric
+  pub is_loss : loss table ≡ Ok fields.loss
+  pub is_delay : delay table ≡ Ok fields.delay
+
+abbrev pub arc_draft_fields : ArcDraft → ArcFields
+arc_draft_fields arc = record { metric = arc.metric; loss = arc.loss; delay = arc.delay }
+
+pub record ArcIs (table : Members) (arc : ArcDraft) : Type 0 where
+  pub is_from : place (codes "from") table ≡ Ok (arc.from.router, arc.from.iface)
+  pub is_to : place (codes "to") table ≡ Ok (arc.to.router, arc.to.iface)
+  pub are_fields : AreArcFields table (arc_draft_fields arc)
+
+-- ---- the top
+abbrev pub end_moment : Members → Read ℕ
+end_moment table = then_turned ticks (required (whole 1 3600000) (codes "end_ms") table)
+
+abbrev pub seed : Members → Read ℕ
+seed = optional 0 (whole 0 9223372036854775807) (codes "seed")
+
+abbrev pub some_whole : ℕ → ℕ → Data → Option (Option ℕ)
+some_whole low high d = option_map Some (whole low high d)
+
+abbrev pub loss_until : Members → Read (Option ℕ)
+loss_until table = then_turned (option_map ticks) (optional None (some_whole 0 3600000) (codes "loss_until_ms") table)
+
+abbrev pub times_table : Members → Read Members
+times_table = optional no_members as_table (codes "times")
+
+abbrev pub sub_times : Members → Members
+sub_times table = table_read (times_table table)
+
+abbrev pub routers : Members → Read (List Data)
+routers = array 1 64 (codes "router")
+
+abbrev pub arcs : Members → Read (List Data)
+arcs = array_or_none 4096 (codes "arc")
+
+abbrev pub scenario_keys : List (List ℕ)
+scenario_keys = codes "end_ms" ∷ codes "seed" ∷ codes "loss_until_ms" ∷ codes "times" ∷ codes "router" ∷ codes "arc" ∷ []
+
+abbrev pub routers_visits : Members → Visits
+routers_visits table = visit (routers table) ∷ tables_visits router_visits (codes "router") (listed (routers table))
+
+abbrev pub arcs_visits : Members → Visits
+arcs_visits table = visit (arcs table) ∷ tables_visits arc_visits (codes "arc") (listed (arcs table))
+
+abbrev pub times_part : Members → Visits
+times_part table = visit (times_table table) ∷ first (times_visits (sub_times table)) ∷ []
+
+abbrev pub scenario_table_visits : Members → Visits
+scenario_table_visits table =
+    unknown (is_one_of scenario_keys) table ∷ visit (end_moment table) ∷ visit (seed table) ∷ visit (loss_until table)
+    ∷ first (times_part table) ∷ first (routers_visits table) ∷ first (arcs_visits table) ∷ []
+
+pub record ScenarioDraftIs (table : Members) (scenario : ScenarioDraft) : Type 0 where
+  pub is_end : end_moment table ≡ Ok scenario.end
+  pub is_seed : seed table ≡ Ok scenario.seed
+  pub is_loss_until : loss_until table ≡ Ok scenario.loss_until
+  pub are_times : TimesIs (sub_times table) scenario.times
+  pub are_routers : Each RouterIs (listed (routers table)) scenario.routers
+  pub are_arcs : Each ArcIs (listed (arcs table)) scenario.arcs

@@ -1,0 +1,154 @@
+//! The tables of a scenario: arcs, and the top.
+ghost use Rattle.std.specs.Prelude.{◌≤◌, ◌≡◌, length, map, option_map, IfOk};
+ghost use Rattle.std.specs.Option.{ForSome};
+ghost use Rattle.toml.specs.Data.{no_members};
+ghost use Rattle.toml.specs.View.{table_view, view};
+ghost use Rattle.mesh_atoms.specs.Settings.{IsCount, IsEnd, one_hour, one_millisecond, longest_delay};
+ghost use Rattle.mesh_toml.specs.Faults.{Gives, Answers, first, listed};
+ghost use Rattle.mesh_toml.specs.Values.{optional};
+ghost use Rattle.mesh_drafts.specs.Times.{TimesIs};
+ghost use Rattle.mesh_drafts.specs.Router.{RouterIs};
+ghost use Rattle.mesh_drafts.specs.Scenario.{place, delay, end_moment, loss_until, sub_times, times_part, routers, routers_visits, arcs, arcs_visits, ArcIs, scenario_table_visits, ScenarioDraftIs};
+ghost use Rattle.mesh_drafts.specs.Tables.{Each};
+
+use crate::drafts::{ArcDraft, Place, RouterDraft, ScenarioDraft};
+use crate::router::metric_at;
+use crate::tables::{FromTable, all_tables};
+use crate::times::times_in;
+use mesh_atoms::{Bytes, Seq, Times, place_of};
+use mesh_toml::refusal::{BAD_VALUE, MISSING};
+use mesh_toml::{
+    ConfigFault, array_at, array_or_none, found, known_keys, refused, string_in, table_or, ticks,
+    whole_at, whole_or,
+};
+use std::alloc::Global;
+use toml::Table;
+
+// An end of an arc, which must stand.
+fn place_at(alloc: Global, table: &Table, key: &str) -> Result<Place, ConfigFault>
+    ensures { Gives (λ p. (p.router, p.iface)) result (place key.now (table_view table.now)) }
+{
+    match found(table, key) {
+        None => Err(refused(alloc, MISSING, key)),
+        Some(value) => match string_in(value) {
+            None => Err(refused(alloc, BAD_VALUE, key)),
+            Some(text) => match place_of(text) {
+                None => Err(refused(alloc, BAD_VALUE, key)),
+                Some((router_name, iface_name)) => {
+                    let mut router = Bytes::new(alloc);
+                    router.append(router_name)?;
+                    let mut iface = Bytes::new(alloc);
+                    iface.append(iface_name)?;
+                    Ok(Place { router, iface })
+                }
+            },
+        },
+    }
+}
+
+// The delay of an arc, in ticks.
+fn delay(alloc: Global, table: &Table) -> Result<u64, ConfigFault>
+    ensures read { Gives (λ n. n) result (delay (table_view table.now)) }
+    ensures least { IfOk result (λ n. one_millisecond ≤ n) }
+    ensures most { IfOk result (λ n. n ≤ longest_delay) }
+{
+    let ms = whole_or(alloc, table, "delay_ms", 1, 1000, 1)?;
+    Ok(ticks(ms))
+}
+
+impl FromTable for ArcDraft {
+    ghost use Rattle.mesh_drafts.specs.Scenario.{arc_visits, ArcIs};
+
+    ghost visits = { arc_visits };
+
+    ghost says = { ArcIs };
+
+    fn from_table(alloc: Global, table: &Table) -> Result<ArcDraft, ConfigFault> {
+        known_keys(alloc, table, &["from", "to", "metric", "loss", "delay_ms"])?;
+        let from = place_at(alloc, table, "from")?;
+        let to = place_at(alloc, table, "to")?;
+        let metric = metric_at(alloc, table)?;
+        let loss = whole_or(alloc, table, "loss", 0, 1000, 0)? as u16;
+        let delay = delay(alloc, table)?;
+        Ok(ArcDraft {
+            from,
+            to,
+            metric,
+            loss,
+            delay,
+        })
+    }
+}
+
+// The end of the run, in ticks, which must stand.
+pub fn end_moment(alloc: Global, table: &Table) -> Result<u64, ConfigFault>
+    ensures read { Gives (λ n. n) result (end_moment (table_view table.now)) }
+    ensures range { IfOk result IsEnd }
+{
+    let ms = whole_at(alloc, table, "end_ms", 1, 3_600_000)?;
+    Ok(ticks(ms))
+}
+
+// The moment before which frames may be lost, in ticks, where there is one.
+fn loss_until(alloc: Global, table: &Table) -> Result<Option<u64>, ConfigFault>
+    ensures read { Gives (λ n. n) result (loss_until (table_view table.now)) }
+    ensures range { IfOk result (λ n. ForSome n (λ moment. moment ≤ one_hour)) }
+{
+    match found(table, "loss_until_ms") {
+        None => Ok(None),
+        Some(_) => {
+            let ms = whole_at(alloc, table, "loss_until_ms", 0, 3_600_000)?;
+            Ok(Some(ticks(ms)))
+        }
+    }
+}
+
+// The times of the table, or those that stand where it is absent.
+pub fn times_of(alloc: Global, table: &Table) -> Result<Times, ConfigFault>
+    ensures { Answers (TimesIs (sub_times (table_view table.now))) (first (times_part (table_view table.now))) result }
+{
+    let empty = Table::new(alloc);
+    let inner = table_or(alloc, table, "times", &empty)?;
+    times_in(alloc, inner)
+}
+
+fn routers_of(alloc: Global, table: &Table) -> Result<Seq<RouterDraft>, ConfigFault>
+    ensures answer { Answers (Each RouterIs (listed (routers (table_view table.now)))) (first (routers_visits (table_view table.now))) result }
+    ensures size { IfOk result (λ xs. IsCount 1 64 (length xs)) }
+{
+    let values = array_at(alloc, table, "router", 1, 64)?;
+    all_tables(alloc, "router", values)
+}
+
+fn arcs_of(alloc: Global, table: &Table) -> Result<Seq<ArcDraft>, ConfigFault>
+    ensures answer { Answers (Each ArcIs (listed (arcs (table_view table.now)))) (first (arcs_visits (table_view table.now))) result }
+    ensures size { IfOk result (λ xs. length xs ≤ 4096) }
+{
+    let values = array_or_none(alloc, table, "arc", 4096)?;
+    all_tables(alloc, "arc", values)
+}
+
+/// What the tables of a scenario say, or the first fault of their visits.
+pub fn scenario_draft(alloc: Global, table: &Table) -> Result<ScenarioDraft, ConfigFault>
+    ensures { Answers (ScenarioDraftIs (table_view table.now)) (first (scenario_table_visits (table_view table.now))) result }
+{
+    known_keys(
+        alloc,
+        table,
+        &["end_ms", "seed", "loss_until_ms", "times", "router", "arc"],
+    )?;
+    let end = end_moment(alloc, table)?;
+    let seed = whole_or(alloc, table, "seed", 0, 9_223_372_036_854_775_807, 0)?;
+    let loss_until = loss_until(alloc, table)?;
+    let times = times_of(alloc, table)?;
+    let routers = routers_of(alloc, table)?;
+    let arcs = arcs_of(alloc, table)?;
+    Ok(ScenarioDraft {
+        end,
+        seed,
+        loss_until,
+        times,
+        routers,
+        arcs,
+    })
+}

@@ -1,0 +1,4 @@
+pub mod Document
+pub mod Faults
+pub mod Ports
+pub mod Values
