@@ -1,4 +1,15 @@
+mod Members
+mod PlainRouters
 mod Spoiled
+mod ThreeRouters
+mod ThreeRoutersInRange
+mod ThreeRoutersRadio
+mod ThreeRoutersRelays
+mod ThreeRoutersRoutes
+mod ThreeRoutersSay
+mod ThreeRoutersSettled
+mod ThreeRoutersSound
+mod ThreeRoutersWitness
 mod TwoRouters
 mod TwoRoutersInRange
 mod TwoRoutersRelays

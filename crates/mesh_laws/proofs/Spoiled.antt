@@ -10,16 +10,20 @@ use Rattle.mesh_atoms.specs.declared.tuples.Advertiser.{Advertiser}
 use Rattle.mesh_atoms.specs.declared.tuples.AddressTuple.{AddressTuple}
 use Rattle.mesh_atoms.specs.declared.tuples.Link.{Link}
 use Rattle.mesh_atoms.specs.declared.tuples.Lost.{Lost}
+use Rattle.mesh_atoms.specs.declared.tuples.Noted.{Noted}
+use Rattle.mesh_atoms.specs.declared.tuples.FloodKey.{FloodKey}
 use Rattle.mesh_atoms.specs.AfterHello.{GoesOn}
 use Rattle.mesh_atoms.specs.AfterTc.{Becomes, Given, Left, GivesAddress, if_not_dropped}
-use Rattle.mesh_atoms.specs.Base.{if_live, addr_eq}
+use Rattle.mesh_atoms.specs.Base.{Base, find, if_live, addr_eq, flood_eq}
 use Rattle.mesh_atoms.specs.Hello.{Says, IsSaid, Near_in, Near_out, Link_in, Link_out}
 use Rattle.mesh_atoms.specs.HelloTold.{or_else}
 use Rattle.mesh_atoms.specs.Live.{SettlesLost, Back, Gone, Stays}
 use Rattle.mesh_atoms.specs.TakesHello.{IsHeld, Takes, Overfull_two_hops}
 use Rattle.mesh_atoms.specs.Words.{IsKept}
+use Rattle.mesh_flood.specs.Noting.{Notes}
+use Rattle.mesh_flood.specs.Verdict.{key_of, is_forwarded}
 use Rattle.mesh_paths.proofs.ShortLists.{few_of_one}
-use Rattle.mesh_laws.specs.Spoiled.{RefusesNeighbourOutOfNothing, RefusesNeighbourGone, RefusesSelectorKept, RefusesNeighbourTooShort, RefusesLostThoughBack, RefusesLossUntold, RefusesLostOutOfNothing, RefusesLostAtAnotherMoment, RefusesLostSymmetric, RefusesOwnLost, RefusesLinksTogether, RefusesLinkOfUnlisted, RefusesLinkOfSharedAddress, RefusesLinkGone, RefusesFullOfOne, RefusesTakenThoughFull, RefusesTakenThoughManyRows, RefusesFullThoughFits, RefusesLinkMetricFirst, RefusesMetricUnsaid, RefusesRowByLinkMetric, RefusesRowWithoutMetric, RefusesNumberUnnoted, RefusesTupleGoneByPart, RefusesTupleGoneOfAnother}
+use Rattle.mesh_laws.specs.Spoiled.{RefusesNeighbourOutOfNothing, RefusesNeighbourGone, RefusesSelectorKept, RefusesNeighbourTooShort, RefusesLostThoughBack, RefusesLossUntold, RefusesLostOutOfNothing, RefusesLostAtAnotherMoment, RefusesLostSymmetric, RefusesOwnLost, RefusesLinksTogether, RefusesLinkOfUnlisted, RefusesLinkOfSharedAddress, RefusesLinkGone, RefusesFullOfOne, RefusesTakenThoughFull, RefusesTakenThoughManyRows, RefusesFullThoughFits, RefusesLinkMetricFirst, RefusesMetricUnsaid, RefusesRowByLinkMetric, RefusesRowWithoutMetric, RefusesNumberUnnoted, RefusesTupleGoneByPart, RefusesTupleGoneOfAnother, RefusesProcessedUnnoted, RefusesReceivedElsewhere, RefusesForwardedUnsent, RefusesForwardedAtAnotherMoment}
 
 some_none : {A B : Type 0} {o : Option A} {a : A} → o ≡ Some a → o ≡ None → B
 some_none e f = absurd (cc)
@@ -219,3 +223,39 @@ pub tuple_gone_of_another : RefusesTupleGoneOfAnother
 tuple_gone_of_another now tc old new key t other stood gone after =
     let (mine, _) = gone_of now tc key _ _ t (after.addresses.at key) stood gone in
     other (ap (λ (n : ℕ). let r : Addr4 = record { 0 = n } in r) (eqb-true key.from.0 tc.originator.0 mine))
+
+-- Messages
+
+flood_itself : (k : FloodKey) → flood_eq k k ≡ true
+flood_itself k =
+    let kind : nat_eq k.kind k.kind ≡ true = eq-eqb k.kind k.kind refl in
+    let originator : addr_eq k.originator k.originator ≡ true = eq-eqb k.originator.0 k.originator.0 refl in
+    let sequence : nat_eq k.sequence k.sequence ≡ true = eq-eqb k.sequence k.sequence refl in
+    rw (kind, originator, sequence) refl
+
+-- what is noted of a key, by whether it is noted
+noted_at : (k : FloodKey) (until : ℕ) (old new : Base FloodKey Noted) → Notes true k until old new → find flood_eq new k ≡ Some (record {}, until)
+noted_at k until old new notes = notes k ∙ at_itself (flood_eq k k) (Some (record {}, until)) (find flood_eq old k) (flood_itself k)
+
+by_answer : (b c : Bool) (k : FloodKey) (until : ℕ) (old new : Base FloodKey Noted) → b ≡ c → Notes b k until old new → Notes c k until old new
+by_answer b c k until old new e = subst (λ a. Notes a k until old new) e
+
+pub processed_unnoted : RefusesProcessedUnnoted
+processed_unnoted times now i heading answer old new none after =
+    some_none (noted_at (key_of heading) (now + times.processed_hold) old.processed new.processed after.processed) none
+
+pub received_elsewhere : RefusesReceivedElsewhere
+received_elsewhere times now i j heading is_processed answer old new e other none some after =
+    some_none some (after.others j other (key_of heading) ∙ none)
+
+pub forwarded_unsent : RefusesForwardedUnsent
+forwarded_unsent times now i heading is_processed answer old new e not_sent none some after =
+    let k = key_of heading in
+    some_none some (by_answer (is_forwarded answer) false k (now + times.forwarded_hold) old.forwarded new.forwarded not_sent after.forwarded k ∙ none)
+
+pub forwarded_at_another_moment : RefusesForwardedAtAnotherMoment
+forwarded_at_another_moment times now i heading is_processed answer old new e sent some other after =
+    let k = key_of heading in
+    let until = now + times.forwarded_hold in
+    let noted = noted_at k until old.forwarded new.forwarded (by_answer (is_forwarded answer) true k until old.forwarded new.forwarded sent after.forwarded) in
+    other (ap (λ (t : Noted × ℕ). t.1) (same_some some noted))

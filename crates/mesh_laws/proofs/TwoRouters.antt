@@ -1,8 +1,6 @@
 -- Two routers that hear each other: their settings, their scenario and their states.
-use Rattle.std.proofs.Common.{◌≡◌, ℕ, suc, ◌≢◌, refl, ap, subst, arith, List, [], ◌∷◌, Contains, Some, None, true, false}
+use Rattle.std.proofs.Common.{◌≡◌, ℕ, suc, ◌≢◌, refl, ap, subst, arith, List, [], ◌∷◌, Contains, None, false}
 use Rattle.mesh_atoms.specs.declared.addr.Addr4.{Addr4}
-use Rattle.mesh_atoms.specs.declared.metric.Metric.{Metric}
-use Rattle.mesh_atoms.specs.declared.hello.Willing.{Willing as Wills}
 use Rattle.mesh_atoms.specs.declared.tuples.LinkKey.{LinkKey}
 use Rattle.mesh_atoms.specs.declared.tuples.Link.{Link}
 use Rattle.mesh_atoms.specs.declared.tuples.TwoHopKey.{TwoHopKey}
@@ -10,56 +8,22 @@ use Rattle.mesh_atoms.specs.declared.tuples.TwoHop.{TwoHop}
 use Rattle.mesh_atoms.specs.declared.tuples.Neighbour.{Neighbour}
 use Rattle.mesh_atoms.specs.declared.settings.Interface.{Interface}
 use Rattle.mesh_atoms.specs.declared.settings.RouterSettings.{RouterSettings}
-use Rattle.mesh_atoms.specs.declared.settings.RadioArc.{RadioArc}
 use Rattle.mesh_atoms.specs.declared.settings.Scenario.{Scenario}
 use Rattle.mesh_atoms.specs.declared.graphs.Route.{Route}
 use Rattle.mesh_atoms.specs.Base.{host}
 use Rattle.mesh_atoms.specs.Codes.{metric_value}
 use Rattle.mesh_atoms.specs.State.{State, HasLink, HasTwoHop, HasSymmetric, HasAddressOn}
-use Rattle.mesh_atoms.specs.declared.settings.Times.{Times}
 use Rattle.mesh_paths.proofs.ShortLists.{none_of, only, here, first_of}
 pub use Rattle.mesh_laws.proofs.TwoRoutersInRange.{addr}
-use Rattle.mesh_laws.proofs.TwoRoutersInRange.{code_fits, seven_within, letter, is_interface, no_senders, are_times, is_router, none_lost, some_delay, short_delay, is_end, small_seed, no_loss, are_routers, are_arcs}
-
-abbrev pub one : Metric
-one = record { code = 0; in_range = code_fits }
-
-abbrev pub seven : Wills
-seven = record { flooding = 7; routing = 7; flooding_within = seven_within; routing_within = seven_within }
+pub use Rattle.mesh_laws.proofs.PlainRouters.{one, arc}
+use Rattle.mesh_laws.proofs.PlainRouters.{face_of, settings_of, link_of, neighbour_of}
+use Rattle.mesh_laws.proofs.TwoRoutersInRange.{letter, is_interface, is_router, is_end, small_seed, no_loss, are_routers, are_arcs}
 
 abbrev pub face : ℕ → Interface
-face x = record { name = letter x ∷ []; addrs = addr x ∷ []; metric = one; senders = []; sound = is_interface x; few_senders = no_senders; distinct_senders = refl }
-
-abbrev pub times : Times
-times = record {
-  hello = 16384;
-  hold = 49152;
-  link_hold = 49152;
-  neighbour_hold = 49152;
-  tc = 40960;
-  topology_hold = 122880;
-  advertised_hold = 122880;
-  received_hold = 245760;
-  processed_hold = 245760;
-  forwarded_hold = 245760;
-  tc_hop_limit = 255;
-  sound = are_times;
-}
+face x = face_of (letter x ∷ []) (addr x) (is_interface x)
 
 abbrev pub settings : ℕ → RouterSettings
-settings x = record {
-  name = letter x ∷ [];
-  willing = seven;
-  hello_at = 0;
-  tc_at = 0;
-  times = times;
-  interfaces = face x ∷ [];
-  attached = [];
-  sound = is_router x;
-}
-
-abbrev pub arc : ℕ → ℕ → RadioArc
-arc x y = record { from = x; from_iface = 0; to = y; to_iface = 0; metric = one; loss = 0; delay = 9; lost_of_thousand = none_lost; delayed = some_delay; delayed_up_to = short_delay }
+settings x = settings_of (letter x ∷ []) (addr x) [] (is_interface x) (is_router x)
 
 abbrev pub scenario : Scenario
 scenario = record {
@@ -76,10 +40,10 @@ scenario = record {
 }
 
 abbrev pub link : ℕ → Link
-link y = record { addrs = addr y ∷ []; heard = 9; sym = 9; quality = 0; pending = false; lost = false; link_in = one; link_out = Some one; selector = false }
+link y = link_of (addr y) false
 
 abbrev pub neighbour : ℕ → Neighbour
-neighbour y = record { addrs = addr y ∷ []; symmetric = true; metric_in = Some one; metric_out = Some one; willing = seven; selector = false }
+neighbour y = neighbour_of (addr y) false
 
 abbrev pub route : ℕ → ℕ → Route
 route x y = record { dest = host (addr y); next = addr y; iface = 0; metric = 1; parent = host (addr x) }

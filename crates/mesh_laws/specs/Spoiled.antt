@@ -1,5 +1,5 @@
 -- States and answers with one thing spoiled, which one clause of a definition alone refuses.
-use Rattle.std.specs.Prelude.{◌≡◌, ◌≢◌, ℕ, ◌+◌, ◌<◌, ◌≤◌, Contains, Some, None, length, true, false}
+use Rattle.std.specs.Prelude.{◌≡◌, ◌≢◌, ℕ, ◌+◌, ◌<◌, ◌≤◌, Contains, Some, None, length, Bool, true, false}
 use Rattle.mesh_atoms.specs.declared.addr.Addr4.{Addr4}
 use Rattle.mesh_atoms.specs.declared.metric.Metric.{Metric}
 use Rattle.mesh_atoms.specs.declared.hello.Hello.{Hello}
@@ -14,18 +14,24 @@ use Rattle.mesh_atoms.specs.declared.tuples.Link.{Link}
 use Rattle.mesh_atoms.specs.declared.tuples.TwoHop.{TwoHop}
 use Rattle.mesh_atoms.specs.declared.tuples.Neighbour.{Neighbour}
 use Rattle.mesh_atoms.specs.declared.tuples.Lost.{Lost}
+use Rattle.mesh_atoms.specs.declared.tuples.Noted.{Noted}
+use Rattle.mesh_atoms.specs.declared.settings.Times.{Times}
 use Rattle.mesh_atoms.specs.declared.settings.RouterSettings.{RouterSettings}
 use Rattle.mesh_atoms.specs.AfterHello.{AfterHello, IsTheirs, IsApart, GoesOn}
 use Rattle.mesh_atoms.specs.AfterTc.{AfterTc}
-use Rattle.mesh_atoms.specs.Base.{find, base_of, addr_eq, address_eq}
+use Rattle.mesh_atoms.specs.Base.{find, base_of, addr_eq, address_eq, flood_eq}
 use Rattle.mesh_atoms.specs.Hello.{Says, Near_in, Link_out}
 use Rattle.mesh_atoms.specs.HelloTold.{Told, Tells, two_hop_of}
 use Rattle.mesh_atoms.specs.Live.{HasLinkOf, Restores, IsSymmetricAddress, LiveNeighbourhood}
 use Rattle.mesh_atoms.specs.Settled.{IsTwoHopBy}
 use Rattle.mesh_atoms.specs.Sound.{SoundNeighbourhood}
-use Rattle.mesh_atoms.specs.State.{State, Neighbourhood, Topology, link_at, lost_at, HasAddress}
+use Rattle.mesh_atoms.specs.State.{State, Neighbourhood, Topology, NotedMessages, link_at, lost_at, HasAddress}
 use Rattle.mesh_atoms.specs.TakesHello.{TakesHello, Taken, Full_of_two_hops, IsHeld, IsFullOfAddresses, AreTwoHopRows}
 use Rattle.mesh_atoms.specs.Words.{IsBeyond}
+use Rattle.mesh_flood.specs.declared.verdict.Heading.{Heading}
+use Rattle.mesh_flood.specs.declared.verdict.Forward.{Forward}
+use Rattle.mesh_flood.specs.Noting.{AfterNote}
+use Rattle.mesh_flood.specs.Verdict.{key_of, is_forwarded}
 
 -- Neighbours as their links have them
 
@@ -185,3 +191,32 @@ abbrev pub RefusesTupleGoneOfAnother : Type 0
 RefusesTupleGoneOfAnother =
     (now : ℕ) (tc : Tc) (old new : Topology) (key : AddressKey) (t : AddressTuple × ℕ) →
     key.from ≢ tc.originator → find address_eq old.addresses key ≡ Some t → find address_eq new.addresses key ≡ None → AfterTc now tc old new → ⊥
+
+-- Messages
+
+-- of a message that is processed, nothing is noted as processed
+abbrev pub RefusesProcessedUnnoted : Type 0
+RefusesProcessedUnnoted =
+    (times : Times) (now i : ℕ) (heading : Heading) (answer : Forward) (old new : NotedMessages) →
+    find flood_eq new.processed (key_of heading) ≡ None → AfterNote times now i heading true answer old new → ⊥
+
+-- a message that is noted as received over an interface that it didn't come by
+abbrev pub RefusesReceivedElsewhere : Type 0
+RefusesReceivedElsewhere =
+    (times : Times) (now i j : ℕ) (heading : Heading) (is_processed : Bool) (answer : Forward) (old new : NotedMessages) (e : Noted × ℕ) →
+    j ≢ i → find flood_eq (base_of old.received j) (key_of heading) ≡ None → find flood_eq (base_of new.received j) (key_of heading) ≡ Some e →
+    AfterNote times now i heading is_processed answer old new → ⊥
+
+-- a message that isn't forwarded, and is noted as forwarded
+abbrev pub RefusesForwardedUnsent : Type 0
+RefusesForwardedUnsent =
+    (times : Times) (now i : ℕ) (heading : Heading) (is_processed : Bool) (answer : Forward) (old new : NotedMessages) (e : Noted × ℕ) →
+    is_forwarded answer ≡ false → find flood_eq old.forwarded (key_of heading) ≡ None → find flood_eq new.forwarded (key_of heading) ≡ Some e →
+    AfterNote times now i heading is_processed answer old new → ⊥
+
+-- a message that is forwarded, and noted so until another moment than the hold time says
+abbrev pub RefusesForwardedAtAnotherMoment : Type 0
+RefusesForwardedAtAnotherMoment =
+    (times : Times) (now i : ℕ) (heading : Heading) (is_processed : Bool) (answer : Forward) (old new : NotedMessages) (e : Noted × ℕ) →
+    is_forwarded answer ≡ true → find flood_eq new.forwarded (key_of heading) ≡ Some e → e.1 ≢ now + times.forwarded_hold →
+    AfterNote times now i heading is_processed answer old new → ⊥

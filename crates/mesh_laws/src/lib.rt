@@ -2,15 +2,22 @@
 //! and worked and wrong states.
 #![tactic(auto)]
 
-ghost use Rattle.mesh_laws.specs.Spoiled.{RefusesNeighbourOutOfNothing, RefusesNeighbourGone, RefusesSelectorKept, RefusesNeighbourTooShort, RefusesLostThoughBack, RefusesLossUntold, RefusesLostOutOfNothing, RefusesLostAtAnotherMoment, RefusesLostSymmetric, RefusesOwnLost, RefusesLinksTogether, RefusesLinkOfUnlisted, RefusesLinkOfSharedAddress, RefusesLinkGone, RefusesFullOfOne, RefusesTakenThoughFull, RefusesTakenThoughManyRows, RefusesFullThoughFits, RefusesLinkMetricFirst, RefusesMetricUnsaid, RefusesRowByLinkMetric, RefusesRowWithoutMetric, RefusesNumberUnnoted, RefusesTupleGoneByPart, RefusesTupleGoneOfAnother};
+ghost use Rattle.mesh_laws.specs.Spoiled.{RefusesNeighbourOutOfNothing, RefusesNeighbourGone, RefusesSelectorKept, RefusesNeighbourTooShort, RefusesLostThoughBack, RefusesLossUntold, RefusesLostOutOfNothing, RefusesLostAtAnotherMoment, RefusesLostSymmetric, RefusesOwnLost, RefusesLinksTogether, RefusesLinkOfUnlisted, RefusesLinkOfSharedAddress, RefusesLinkGone, RefusesFullOfOne, RefusesTakenThoughFull, RefusesTakenThoughManyRows, RefusesFullThoughFits, RefusesLinkMetricFirst, RefusesMetricUnsaid, RefusesRowByLinkMetric, RefusesRowWithoutMetric, RefusesNumberUnnoted, RefusesTupleGoneByPart, RefusesTupleGoneOfAnother, RefusesProcessedUnnoted, RefusesReceivedElsewhere, RefusesForwardedUnsent, RefusesForwardedAtAnotherMoment};
 ghost use Rattle.mesh_laws.specs.WrongStates.{RefusesExpiredLink, RefusesOwnTwoHop, RefusesTwoHopOfEndedLink, RefusesTupleOfOldNumber, RefusesHiddenNeighbour, RefusesRowOfNoSelector, RefusesTwoHopOnHeardLink, RefusesNeighbourWithoutLink, RefusesDearerRelays, RefusesGreaterParent, RefusesRouteTwice, RefusesTupleTooMany};
 ghost use Rattle.mesh_laws.specs.WorkedHello.{FirstHelloIsTaken, SecondHelloIsTaken};
-ghost use Rattle.mesh_laws.specs.Witnesses.{TwoRoutersSettle};
+ghost use Rattle.mesh_laws.specs.Witnesses.{TwoRoutersSettle, ThreeRoutersSettle};
 
 /// The premises of the law can be met: two routers that hear each other are a settled network, in which each has a row of
 /// the other. It does nothing.
 pub fn two_routers_settle()
     ensures { TwoRoutersSettle }
+{}
+
+/// The same with a relay: of three routers in a row the outer two choose the middle one, have 2-hop tuples of each other and
+/// take the rows that it advertises, and the last one is the gateway of a network. Their routes are worked out by hand. It does
+/// nothing.
+pub fn three_routers_settle()
+    ensures { ThreeRoutersSettle }
 {}
 
 /// The definitions take two worked HELLOs, with the tuples and moments that are expected. It does nothing.
@@ -63,4 +70,8 @@ pub fn spoiled_states_are_refused()
     ensures number_unnoted { RefusesNumberUnnoted }
     ensures tuple_gone_by_part { RefusesTupleGoneByPart }
     ensures tuple_gone_of_another { RefusesTupleGoneOfAnother }
+    ensures processed_unnoted { RefusesProcessedUnnoted }
+    ensures received_elsewhere { RefusesReceivedElsewhere }
+    ensures forwarded_unsent { RefusesForwardedUnsent }
+    ensures forwarded_at_another_moment { RefusesForwardedAtAnotherMoment }
 {}

@@ -9,9 +9,9 @@ pub mod Sets
 mod SettledArcs
 pub mod SettledDecisions
 mod SettledHops
-mod SettledLaw
+pub mod SettledLaw
 mod SettledLeast
-mod SettledNeighbours
+pub mod SettledNeighbours
 mod SettledRelays
 mod SettledWalks
 pub mod ShortLists

@@ -1,10 +1,9 @@
 -- Each message reads as a HELLO or breaks a first rule of one.
-use Rattle.std.proofs.Common.{◌≡◌, ℕ, ◌/◌, ◌%◌, ◌⊎◌, inl, inr, refl, sym, ap, arith, List, lit≤}
+use Rattle.std.proofs.Common.{◌≡◌, ℕ, ◌<◌, ◌/◌, ◌%◌, inl, inr, refl, sym, ap, arith, List}
 use Rattle.std.specs.Prelude.{Option, Some, None, false}
 use Rattle.std.specs.Option.{option_map}
 use Rattle.std.proofs.lemmas.Bool.{cases_eq}
 use Rattle.mesh_atoms.specs.declared.addr.Addr4.{Addr4}
-use Rattle.mesh_atoms.specs.declared.addr.NetAddr.{NetAddr}
 use Rattle.mesh_atoms.specs.declared.hello.Hello.{Hello}
 use Rattle.mesh_atoms.specs.declared.hello.HelloRow.{HelloRow}
 use Rattle.mesh_addr.specs.declared.records.RawAddr.{RawAddr}
@@ -13,20 +12,20 @@ use Rattle.mesh_wire.specs.declared.collect.AddressParts.{AddressParts}
 use Rattle.mesh_wire.specs.declared.hello.Heading.{Heading}
 use Rattle.mesh_wire.specs.Entries.{of_blocks}
 use Rattle.mesh_wire.specs.Hello.{OriginatorIs, HelloIs}
-use Rattle.mesh_wire.specs.HelloHeading.{IsOther, HeadingIs}
+use Rattle.mesh_wire.specs.HelloHeading.{HeadingIs}
 use Rattle.mesh_wire.specs.HelloRows.{number_from, local_from, link_from, other_from, HelloRowFrom}
 use Rattle.mesh_wire.specs.HelloRules.{BreaksHello, AddressWidth, HopLimit, HopCount, NoValidity, WrongInterval, WrongWilling}
 use Rattle.mesh_wire.specs.Laws.{HasOctets, ReadsOrBreaks}
+use Rattle.mesh_wire.specs.Made.{HasRows}
 use Rattle.mesh_wire.specs.Metrics.{Link_in, Link_out, Near_in, Near_out}
 use Rattle.mesh_wire.specs.Parts.{number_of}
-use Rattle.mesh_wire.specs.RowRules.{first_rule, hello_rule}
+use Rattle.mesh_wire.specs.RowRules.{hello_rule}
 use Rattle.mesh_wire.specs.Rows.{HasValue}
-use Rattle.mesh_wire.specs.Rules.{FirstBroken, Keeps}
-use Rattle.mesh_wire.proofs.Deciding.{other_or, validity_or, interval_or, willing_or, willing_octet, metric_of, made}
-use Rattle.mesh_wire.proofs.Gathering.{gathered}
-use Rattle.mesh_wire.proofs.HelloHeading.{first_at}
+use Rattle.mesh_wire.specs.Rules.{Keeps}
+use Rattle.mesh_wire.proofs.Deciding.{other_or, validity_or, interval_or, willing_or, willing_octet, metric_of}
+use Rattle.mesh_wire.proofs.HelloHeading.{first_number, width_kept, limit_kept, count_kept, validity_kept, interval_kept, willing_kept}
 use Rattle.mesh_wire.proofs.HelloRead.{rule_found, rows_found}
-use Rattle.mesh_wire.proofs.Kept.{AreTold, are_told}
+use Rattle.mesh_wire.proofs.InOrder.{NoneBelow, Decided, Outcome, first_or_none, of_either, of_rows}
 use Rattle.mesh_wire.proofs.Slots.{RowIs}
 
 -- ---- a row of what is kept
@@ -76,26 +75,14 @@ originator_of (Some address) = (Some (record { 0 = number_of address.octets }), 
 -- ---- the rules in order
 
 module _ (m : MessageFields) (octets : HasOctets m) where
-  abbrev Outcome : Type 0
-  Outcome = ((hello : Hello) × HelloIs m hello × Keeps (BreaksHello m)) ⊎ ((number : ℕ) × (addr : Option NetAddr) × FirstBroken (BreaksHello m) number addr)
-
-  after_heading : (heading : Heading) → HeadingIs m heading → Outcome
-  after_heading heading h = by (first_rule hello_rule None told) refl
+  of_heading : (heading : Heading) → HeadingIs m heading → Outcome (HelloIs m) (BreaksHello m)
+  of_heading heading h = of_rows m HelloRowFrom hello_rule (HelloIs m) (BreaksHello m) (λ t is. row_by m octets t is (number_from t.parts.local.one) refl) (rule_found m heading h) value
     where
-      told : List AddressParts
-      told = (gathered (of_blocks m.blocks)).0
-
-      are : AreTold m told
-      are = are_told m told (gathered (of_blocks m.blocks)).1
-
-      by : (o : Option (ℕ × NetAddr)) → first_rule hello_rule None told ≡ o → Outcome
-      by (Some (number, net)) e = inr (number, Some net, rule_found m heading h number (Some net) (record { told = told; collected = (gathered (of_blocks m.blocks)).1; net = net; found = e; at = refl }))
-      by None e =
-          let (rows, of) = made HelloRowFrom told (λ t has. row_by m octets t (are.each t has).1 (number_from t.parts.local.one) refl) in
-          let (keeps, true_rows) = rows_found m heading h rows (record { told = told; collected = (gathered (of_blocks m.blocks)).1; clean = e; made = of }) in
+      value : (rows : List HelloRow) → HasRows HelloRowFrom hello_rule (of_blocks m.blocks) rows → (hello : Hello) × HelloIs m hello × Keeps (BreaksHello m)
+      value rows has =
+          let (keeps, true_rows) = rows_found m heading h rows has in
           let o = originator_of m.originator in
-          let octet = willing_octet m octets heading.willing h.willing in
-          inl (
+          let octet = willing_octet m octets heading.willing h.willing in (
             record {
               originator = o.0;
               validity = heading.validity;
@@ -108,102 +95,46 @@ module _ (m : MessageFields) (octets : HasOctets m) where
             keeps,
           )
 
-  module _ (width : m.width ≡ 4) (limit : IsOther 1 m.limit → ⊥) (count : IsOther 0 m.count → ⊥) where
-    after_count : Outcome
-    after_count = elim (validity_or m 1) [
-      | inr none ↦ inr (
-        23,
-        None,
-        first_at m 23 (record {
-          within = lit≤ tt;
-          width = λ lt. width;
-          limit = λ lt. limit;
-          count = λ lt. count;
-          validity = λ lt. absurd (omega arith);
-          interval = λ lt. absurd (omega arith);
-          willing = λ lt. absurd (omega arith);
-        }) (NoValidity none),
-      )
-      | inl v ↦ elim (interval_or m 1) [
-        | inr none ↦ inr (
-          24,
-          None,
-          first_at m 24 (record {
-            within = lit≤ tt;
-            width = λ lt. width;
-            limit = λ lt. limit;
-            count = λ lt. count;
-            validity = λ lt. v;
-            interval = λ lt. absurd (omega arith);
-            willing = λ lt. absurd (omega arith);
-          }) (WrongInterval none),
-        )
-        | inl i ↦ elim (willing_or m) [
-          | inr none ↦ inr (
-            25,
-            None,
-            first_at m 25 (record {
-              within = lit≤ tt;
-              width = λ lt. width;
-              limit = λ lt. limit;
-              count = λ lt. count;
-              validity = λ lt. v;
-              interval = λ lt. i;
-              willing = λ lt. absurd (omega arith);
-            }) (WrongWilling none),
-          )
-          | inl w ↦ after_heading (record { validity = v.0; interval = i.0; willing = w.0 }) (record { width = width; limit = limit; count = count; validity = v.1; interval = i.1; willing = w.1 })
-        ]
-      ]
-    ]
+  -- each rule on the heading is broken or kept
+  decided : Decided (BreaksHello m) 20 6
+  decided = (
+    elim (cases_eq m.width 4) [ inl w ↦ inr (width_kept m w) | inr other ↦ inl (AddressWidth other) ],
+    (
+      elim (other_or 1 m.limit) [ inl (limit, is, other) ↦ inl (HopLimit limit is other) | inr none ↦ inr (limit_kept m none) ],
+      (
+        elim (other_or 0 m.count) [ inl (count, is, other) ↦ inl (HopCount count is other) | inr none ↦ inr (count_kept m none) ],
+        (
+          elim (validity_or m 1) [ inl v ↦ inr (validity_kept m v.0 v.1) | inr none ↦ inl (NoValidity none) ],
+          (
+            elim (interval_or m 1) [ inl i ↦ inr (interval_kept m i.0 i.1) | inr none ↦ inl (WrongInterval none) ],
+            (elim (willing_or m) [ inl w ↦ inr (willing_kept m w.0 w.1) | inr none ↦ inl (WrongWilling none) ], tt),
+          ),
+        ),
+      ),
+    ),
+  )
 
-  outcome : Outcome
-  outcome = elim (cases_eq m.width 4) [
-    | inr other ↦ inr (
-      20,
-      None,
-      first_at m 20 (record {
-        within = lit≤ tt;
-        width = λ lt. absurd (omega arith);
-        limit = λ lt. absurd (omega arith);
-        count = λ lt. absurd (omega arith);
-        validity = λ lt. absurd (omega arith);
-        interval = λ lt. absurd (omega arith);
-        willing = λ lt. absurd (omega arith);
-      }) (AddressWidth other),
-    )
-    | inl width ↦ elim (other_or 1 m.limit) [
-      | inl (limit, is, other) ↦ inr (
-        21,
-        None,
-        first_at m 21 (record {
-          within = lit≤ tt;
-          width = λ lt. width;
-          limit = λ lt. absurd (omega arith);
-          count = λ lt. absurd (omega arith);
-          validity = λ lt. absurd (omega arith);
-          interval = λ lt. absurd (omega arith);
-          willing = λ lt. absurd (omega arith);
-        }) (HopLimit limit is other),
-      )
-      | inr limit ↦ elim (other_or 0 m.count) [
-        | inl (count, is, other) ↦ inr (
-          22,
-          None,
-          first_at m 22 (record {
-            within = lit≤ tt;
-            width = λ lt. width;
-            limit = λ lt. limit;
-            count = λ lt. absurd (omega arith);
-            validity = λ lt. absurd (omega arith);
-            interval = λ lt. absurd (omega arith);
-            willing = λ lt. absurd (omega arith);
-          }) (HopCount count is other),
-        )
-        | inr count ↦ after_count width limit count
-      ]
-    ]
-  ]
+  -- where each is kept, there is a heading
+  of_kept : NoneBelow (BreaksHello m) 26 → Outcome (HelloIs m) (BreaksHello m)
+  of_kept kept =
+      let width : m.width ≡ 4 = elim (cases_eq m.width 4) [ inl w ↦ w | inr other ↦ absurd (never 20 (AddressWidth other) (omega arith)) ] in
+      let v = of_either (never 23) (omega arith) (validity_or m 1) NoValidity in
+      let i = of_either (never 24) (omega arith) (interval_or m 1) WrongInterval in
+      let w = of_either (never 25) (omega arith) (willing_or m) WrongWilling in
+      of_heading (record { validity = v.0; interval = i.0; willing = w.0 }) (record {
+        width = width;
+        limit = λ (limit, is, other). never 21 (HopLimit limit is other) (omega arith);
+        count = λ (count, is, other). never 22 (HopCount count is other) (omega arith);
+        validity = v.1;
+        interval = i.1;
+        willing = w.1;
+      })
+    where
+      never : (k : ℕ) → BreaksHello m k None → k < 26 → ⊥
+      never k h less = let least = kept k None h in omega (arith, least, less)
+
+  outcome : Outcome (HelloIs m) (BreaksHello m)
+  outcome = elim (first_or_none (BreaksHello m) 20 6 (first_number m) decided) [ inl (k, first) ↦ inr (k, None, first) | inr kept ↦ of_kept kept ]
 
   pub hello_or_not : ReadsOrBreaks (HelloIs m) (BreaksHello m)
   hello_or_not = (outcome, λ keeps n a f. keeps n a f.broken)

@@ -1,10 +1,9 @@
 -- Each message reads as a TC or breaks a first rule of one.
-use Rattle.std.proofs.Common.{◌≡◌, ℕ, ◌/◌, ◌⊎◌, inl, inr, refl, arith, List, lit≤}
+use Rattle.std.proofs.Common.{◌≡◌, ℕ, ◌<◌, ◌/◌, ◌⊎◌, inl, inr, refl, arith, List}
 use Rattle.std.specs.Prelude.{Option, Some, None}
 use Rattle.std.specs.Option.{option_map}
 use Rattle.std.proofs.lemmas.Bool.{cases_eq}
 use Rattle.mesh_atoms.specs.declared.addr.Addr4.{Addr4}
-use Rattle.mesh_atoms.specs.declared.addr.NetAddr.{NetAddr}
 use Rattle.mesh_atoms.specs.declared.tc.Tc.{Tc}
 use Rattle.mesh_atoms.specs.declared.tc.TcRow.{TcRow}
 use Rattle.mesh_addr.specs.declared.records.RawAddr.{RawAddr}
@@ -15,20 +14,20 @@ use Rattle.mesh_wire.specs.Entries.{of_blocks}
 use Rattle.mesh_wire.specs.Hello.{OriginatorIs}
 use Rattle.mesh_wire.specs.HelloRows.{number_from}
 use Rattle.mesh_wire.specs.Laws.{HasOctets, ReadsOrBreaks}
+use Rattle.mesh_wire.specs.Made.{HasRows}
 use Rattle.mesh_wire.specs.Metrics.{Near_out}
 use Rattle.mesh_wire.specs.Parts.{number_of}
-use Rattle.mesh_wire.specs.RowRules.{first_rule, tc_rule}
+use Rattle.mesh_wire.specs.RowRules.{tc_rule}
 use Rattle.mesh_wire.specs.Rows.{HasValue}
-use Rattle.mesh_wire.specs.Rules.{FirstBroken, Keeps}
+use Rattle.mesh_wire.specs.Rules.{Keeps}
 use Rattle.mesh_wire.specs.Tc.{TcIs}
 use Rattle.mesh_wire.specs.TcHeading.{TcHeadingIs, TcRowFrom}
 use Rattle.mesh_wire.specs.TcRules.{BreaksTc, AddressWidth, NoOriginator, NoSequence, NoValidity, WrongInterval, Content}
 use Rattle.mesh_wire.specs.Times.{distance_of}
-use Rattle.mesh_wire.proofs.Deciding.{validity_or, interval_or, content_or, metric_of, made}
-use Rattle.mesh_wire.proofs.Gathering.{gathered}
-use Rattle.mesh_wire.proofs.Kept.{AreTold, are_told}
+use Rattle.mesh_wire.proofs.Deciding.{validity_or, interval_or, content_or, metric_of}
+use Rattle.mesh_wire.proofs.InOrder.{NoneBelow, Decided, Outcome, first_or_none, of_either, of_rows}
 use Rattle.mesh_wire.proofs.Slots.{RowIs}
-use Rattle.mesh_wire.proofs.TcHeading.{first_at}
+use Rattle.mesh_wire.proofs.TcHeading.{first_number, width_kept, header_kept, validity_kept, interval_kept, content_kept, an_originator, a_sequence}
 use Rattle.mesh_wire.proofs.TcRead.{rule_found, rows_found}
 
 row_of : (m : MessageFields) → HasOctets m → (t : AddressParts) → RowIs (HasValue m t.net) t.parts → (r : TcRow) × TcRowFrom t r
@@ -38,143 +37,74 @@ row_of m octets t h =
       record { dest = refl; origin = refl; routable = refl; gateway = refl; metric = a.1 },
     )
 
+self_of : RawAddr → Addr4
+self_of address = record { 0 = number_of address.octets }
+
+self_is : (address : RawAddr) (o : Option RawAddr) → o ≡ Some address → OriginatorIs o (Some (self_of address))
+unfolding self_of
+self_is address None e = cc
+self_is address (Some a) e = let same : a ≡ address = cc in rw same refl
+
+there_or : {A : Type 0} (o : Option A) → ((a : A) × (o ≡ Some a)) ⊎ (o ≡ None)
+there_or None = inr refl
+there_or (Some a) = inl (a, refl)
+
 module _ (m : MessageFields) (octets : HasOctets m) where
-  abbrev Outcome : Type 0
-  Outcome = ((tc : Tc) × TcIs m tc × Keeps (BreaksTc m)) ⊎ ((number : ℕ) × (addr : Option NetAddr) × FirstBroken (BreaksTc m) number addr)
-
-  after_heading : (heading : Heading) → TcHeadingIs m heading → Outcome
-  after_heading heading h = by (first_rule tc_rule None told) refl
+  of_heading : (heading : Heading) → TcHeadingIs m heading → Outcome (TcIs m) (BreaksTc m)
+  of_heading heading h = of_rows m TcRowFrom tc_rule (TcIs m) (BreaksTc m) (row_of m octets) (rule_found m heading h) value
     where
-      told : List AddressParts
-      told = (gathered (of_blocks m.blocks)).0
-
-      are : AreTold m told
-      are = are_told m told (gathered (of_blocks m.blocks)).1
-
-      by : (o : Option (ℕ × NetAddr)) → first_rule tc_rule None told ≡ o → Outcome
-      by (Some (number, net)) e = inr (number, Some net, rule_found m heading h number (Some net) (record { told = told; collected = (gathered (of_blocks m.blocks)).1; net = net; found = e; at = refl }))
-      by None e =
-          let (rows, of) = made TcRowFrom told (λ t has. row_of m octets t (are.each t has).1) in
-          let (keeps, true_rows) = rows_found m heading h rows (record { told = told; collected = (gathered (of_blocks m.blocks)).1; clean = e; made = of }) in
-          inl (
-            record {
-              originator = heading.originator;
-              sequence = heading.sequence;
-              ansn = heading.ansn;
-              complete = heading.complete;
-              validity = heading.validity;
-              interval = heading.interval;
-              rows = rows;
-              ascending = true_rows.ascending;
-            },
-            record { originator = h.originator; sequence = h.sequence; content = h.content; validity = h.validity; interval = h.interval; rows = true_rows },
-            keeps,
-          )
-
-  module _ (width : m.width ≡ 4) (address : RawAddr) (at : m.originator ≡ Some address) (sequence : ℕ) (is : m.sequence ≡ Some sequence) where
-    self : Addr4
-    self = record { 0 = number_of address.octets }
-
-    self_is : (o : Option RawAddr) → o ≡ Some address → OriginatorIs o (Some self)
-    unfolding self
-    self_is None e = cc
-    self_is (Some a) e = let same : a ≡ address = cc in rw same refl
-
-    after_header : Outcome
-    after_header = elim (validity_or m (distance_of m.count)) [
-      | inr none ↦ inr (
-        34,
-        None,
-        first_at m 34 (record {
-          within = lit≤ tt;
-          width = λ lt. width;
-          originator = λ lt e. cc;
-          sequence = λ lt e. cc;
-          validity = λ lt. absurd (omega arith);
-          interval = λ lt. absurd (omega arith);
-          content = λ lt. absurd (omega arith);
-        }) (NoValidity none),
+      value : (rows : List TcRow) → HasRows TcRowFrom tc_rule (of_blocks m.blocks) rows → (tc : Tc) × TcIs m tc × Keeps (BreaksTc m)
+      value rows has = let (keeps, true_rows) = rows_found m heading h rows has in (
+        record {
+          originator = heading.originator;
+          sequence = heading.sequence;
+          ansn = heading.ansn;
+          complete = heading.complete;
+          validity = heading.validity;
+          interval = heading.interval;
+          rows = rows;
+          ascending = true_rows.ascending;
+        },
+        record { originator = h.originator; sequence = h.sequence; content = h.content; validity = h.validity; interval = h.interval; rows = true_rows },
+        keeps,
       )
-      | inl v ↦ elim (interval_or m (distance_of m.count)) [
-        | inr none ↦ inr (
-          35,
-          None,
-          first_at m 35 (record {
-            within = lit≤ tt;
-            width = λ lt. width;
-            originator = λ lt e. cc;
-            sequence = λ lt e. cc;
-            validity = λ lt. v;
-            interval = λ lt. absurd (omega arith);
-            content = λ lt. absurd (omega arith);
-          }) (WrongInterval none),
-        )
-        | inl i ↦ elim (content_or m) [
-          | inr none ↦ inr (
-            36,
-            None,
-            first_at m 36 (record {
-              within = lit≤ tt;
-              width = λ lt. width;
-              originator = λ lt e. cc;
-              sequence = λ lt e. cc;
-              validity = λ lt. v;
-              interval = λ lt. i;
-              content = λ lt. absurd (omega arith);
-            }) (Content (λ ansn complete. none (ansn, complete))),
-          )
-          | inl c ↦ after_heading (record { originator = self; sequence = sequence; ansn = c.0.0; complete = c.0.1; validity = v.0; interval = i.0 })
-              (record { width = width; originator = self_is m.originator at; sequence = is; validity = v.1; interval = i.1; content = c.1 })
-        ]
-      ]
-    ]
 
-  after_width : m.width ≡ 4 → (o : Option RawAddr) → m.originator ≡ o → (s : Option ℕ) → m.sequence ≡ s → Outcome
-  after_width width (Some address) at (Some sequence) is = after_header width address at sequence is
-  after_width width None at s is = inr (
-    33,
-    None,
-    first_at m 33 (record {
-      within = lit≤ tt;
-      width = λ lt. width;
-      originator = λ lt. absurd (omega arith);
-      sequence = λ lt. absurd (omega arith);
-      validity = λ lt. absurd (omega arith);
-      interval = λ lt. absurd (omega arith);
-      content = λ lt. absurd (omega arith);
-    }) (NoOriginator at),
-  )
-  after_width width (Some address) at None is = inr (
-    33,
-    None,
-    first_at m 33 (record {
-      within = lit≤ tt;
-      width = λ lt. width;
-      originator = λ lt. absurd (omega arith);
-      sequence = λ lt. absurd (omega arith);
-      validity = λ lt. absurd (omega arith);
-      interval = λ lt. absurd (omega arith);
-      content = λ lt. absurd (omega arith);
-    }) (NoSequence is),
+  -- each rule on the heading is broken or kept
+  decided : Decided (BreaksTc m) 32 5
+  decided = (
+    elim (cases_eq m.width 4) [ inl w ↦ inr (width_kept m w) | inr other ↦ inl (AddressWidth other) ],
+    (
+      elim (there_or m.originator) [
+        | inr none ↦ inl (NoOriginator none)
+        | inl o ↦ elim (there_or m.sequence) [ inr none ↦ inl (NoSequence none) | inl s ↦ inr (header_kept m (an_originator m.originator (self_of o.0) (self_is o.0 m.originator o.1)) (a_sequence m.sequence s.0 s.1)) ]
+      ],
+      (
+        elim (validity_or m (distance_of m.count)) [ inl v ↦ inr (validity_kept m v.0 v.1) | inr none ↦ inl (NoValidity none) ],
+        (
+          elim (interval_or m (distance_of m.count)) [ inl i ↦ inr (interval_kept m i.0 i.1) | inr none ↦ inl (WrongInterval none) ],
+          (elim (content_or m) [ inl c ↦ inr (content_kept m c.0.0 c.0.1 c.1) | inr none ↦ inl (Content (λ ansn complete. none (ansn, complete))) ], tt),
+        ),
+      ),
+    ),
   )
 
-  outcome : Outcome
-  outcome = elim (cases_eq m.width 4) [
-    | inr other ↦ inr (
-      32,
-      None,
-      first_at m 32 (record {
-        within = lit≤ tt;
-        width = λ lt. absurd (omega arith);
-        originator = λ lt. absurd (omega arith);
-        sequence = λ lt. absurd (omega arith);
-        validity = λ lt. absurd (omega arith);
-        interval = λ lt. absurd (omega arith);
-        content = λ lt. absurd (omega arith);
-      }) (AddressWidth other),
-    )
-    | inl width ↦ after_width width m.originator refl m.sequence refl
-  ]
+  -- where each is kept, there is a heading
+  of_kept : NoneBelow (BreaksTc m) 37 → Outcome (TcIs m) (BreaksTc m)
+  of_kept kept =
+      let width : m.width ≡ 4 = elim (cases_eq m.width 4) [ inl w ↦ w | inr other ↦ absurd (never 32 (AddressWidth other) (omega arith)) ] in
+      let o : (a : RawAddr) × (m.originator ≡ Some a) = elim (there_or m.originator) [ inl there ↦ there | inr none ↦ absurd (never 33 (NoOriginator none) (omega arith)) ] in
+      let s : (n : ℕ) × (m.sequence ≡ Some n) = elim (there_or m.sequence) [ inl there ↦ there | inr none ↦ absurd (never 33 (NoSequence none) (omega arith)) ] in
+      let v = of_either (never 34) (omega arith) (validity_or m (distance_of m.count)) NoValidity in
+      let i = of_either (never 35) (omega arith) (interval_or m (distance_of m.count)) WrongInterval in
+      let c = of_either (never 36) (omega arith) (content_or m) (λ none. Content (λ ansn complete. none (ansn, complete))) in
+      of_heading (record { originator = self_of o.0; sequence = s.0; ansn = c.0.0; complete = c.0.1; validity = v.0; interval = i.0 })
+      (record { width = width; originator = self_is o.0 m.originator o.1; sequence = s.1; validity = v.1; interval = i.1; content = c.1 })
+    where
+      never : (k : ℕ) → BreaksTc m k None → k < 37 → ⊥
+      never k h less = let least = kept k None h in omega (arith, least, less)
+
+  outcome : Outcome (TcIs m) (BreaksTc m)
+  outcome = elim (first_or_none (BreaksTc m) 32 5 (first_number m) decided) [ inl (k, first) ↦ inr (k, None, first) | inr kept ↦ of_kept kept ]
 
   pub tc_or_not : ReadsOrBreaks (TcIs m) (BreaksTc m)
   tc_or_not = (outcome, λ keeps n a f. keeps n a f.broken)

@@ -1,43 +1,85 @@
--- The first rule on what a HELLO says before its rows.
-use Rattle.std.proofs.Common.{◌≡◌, ℕ, ◌<◌, ◌≤◌, inl, inr, arith, Bool, true, false}
-use Rattle.std.specs.Prelude.{◌↔◌, Option, None, IsTrue}
-use Rattle.std.proofs.lemmas.Bool.{cases_lt}
+-- The rules on what a HELLO says before its rows, one by one.
+use Rattle.std.proofs.Common.{◌≡◌, ℕ, arith, true, false, Bool}
+use Rattle.std.specs.Prelude.{◌↔◌, ◌≢◌, ◌==◌, Option, IsTrue, cond}
 use Rattle.mesh_atoms.specs.declared.addr.NetAddr.{NetAddr}
 use Rattle.mesh_packet.specs.Fields.{MessageFields}
 use Rattle.mesh_wire.specs.Hello.{HasWilling}
 use Rattle.mesh_wire.specs.HelloHeading.{IsOther}
 use Rattle.mesh_wire.specs.HelloRules.{BreaksHello, AddressWidth, HopLimit, HopCount, NoValidity, WrongInterval, WrongWilling, Undefined, TwoValues, ShortPrefix, WrongMetric}
-use Rattle.mesh_wire.specs.Rules.{FirstBroken}
 use Rattle.mesh_wire.specs.Times.{ValidityIs, IntervalIs}
+use Rattle.mesh_wire.proofs.InOrder.{NoneBelow, one_further}
 
--- what is known where the rules below a number are kept
-pub record KeptBelow (m : MessageFields) (n : ℕ) : Type 0 where
-  pub within : n ≤ 26
-  pub width : 20 < n → m.width ≡ 4
-  pub limit : 21 < n → IsOther 1 m.limit → ⊥
-  pub count : 22 < n → IsOther 0 m.count → ⊥
-  pub validity : 23 < n → (ticks : ℕ) × ValidityIs m 1 ticks
-  pub interval : 24 < n → (ticks : Option ℕ) × IntervalIs m 1 ticks
-  pub willing : 25 < n → (octet : ℕ) × HasWilling m octet
+-- what is wrong where the rule of a number is broken
+abbrev Wrong : MessageFields → ℕ → Type 0
+Wrong m k =
+    cond (k == 20) (m.width ≢ 4)
+    (cond (k == 21) (IsOther 1 m.limit)
+    (cond (k == 22) (IsOther 0 m.count)
+    (cond (k == 23) ((ticks : ℕ) → ValidityIs m 1 ticks → ⊥)
+    (cond (k == 24) ((ticks : Option ℕ) → IntervalIs m 1 ticks → ⊥)
+    (cond (k == 25) ((octet : ℕ) → HasWilling m octet → ⊥) (Unit {0}))))))
 
--- a rule is at a number, where it would be broken otherwise
-not_below : (n k : ℕ) → (k < n → ⊥) → n ≤ k
-not_below n k never = elim (cases_lt k n) [ inl lt ↦ absurd (never lt) | inr le ↦ le ]
+wrong : (m : MessageFields) (k : ℕ) (a : Option NetAddr) → BreaksHello m k a → Wrong m k
+wrong m k a (AddressWidth h) = h
+wrong m k a (HopLimit limit is other) = (limit, is, other)
+wrong m k a (HopCount count is other) = (count, is, other)
+wrong m k a (NoValidity none) = none
+wrong m k a (WrongInterval none) = none
+wrong m k a (WrongWilling none) = none
+wrong m k a (Undefined net kind bound status at) = tt
+wrong m k a (TwoValues net kind bound status at) = tt
+wrong m k a (ShortPrefix net kind bound status at short) = tt
+wrong m k a (WrongMetric net at) = tt
 
-pub up_from : (m : MessageFields) (n : ℕ) → KeptBelow m n → (k : ℕ) (a : Option NetAddr) → BreaksHello m k a → n ≤ k
-up_from m n b k a (AddressWidth h) = not_below n k (λ lt. h (b.width lt))
-up_from m n b k a (HopLimit limit is other) = not_below n k (λ lt. b.limit lt (limit, is, other))
-up_from m n b k a (HopCount count is other) = not_below n k (λ lt. b.count lt (count, is, other))
-up_from m n b k a (NoValidity none) = not_below n k (λ lt. let v = b.validity lt in none v.0 v.1)
-up_from m n b k a (WrongInterval none) = not_below n k (λ lt. let v = b.interval lt in none v.0 v.1)
-up_from m n b k a (WrongWilling none) = not_below n k (λ lt. let v = b.willing lt in none v.0 v.1)
-up_from m n b k a (Undefined net kind bound status at) = b.within
-up_from m n b k a (TwoValues net kind bound status at) = omega (arith, b.within)
-up_from m n b k a (ShortPrefix net kind bound status at short) = omega (arith, b.within)
-up_from m n b k a (WrongMetric net wrong) = omega (arith, b.within)
+pub first_number : (m : MessageFields) → NoneBelow (BreaksHello m) 20
+first_number m k a (AddressWidth h) = omega arith
+first_number m k a (HopLimit limit is other) = omega arith
+first_number m k a (HopCount count is other) = omega arith
+first_number m k a (NoValidity none) = omega arith
+first_number m k a (WrongInterval none) = omega arith
+first_number m k a (WrongWilling none) = omega arith
+first_number m k a (Undefined net kind bound status at) = omega arith
+first_number m k a (TwoValues net kind bound status at) = omega arith
+first_number m k a (ShortPrefix net kind bound status at short) = omega arith
+first_number m k a (WrongMetric net at) = omega arith
 
-pub first_at : (m : MessageFields) (n : ℕ) → KeptBelow m n → BreaksHello m n None → FirstBroken (BreaksHello m) n None
-first_at m n b h = record { broken = h; first = up_from m n b; least = λ a g. tt }
+module _ (m : MessageFields) where
+  pub width_kept : m.width ≡ 4 → (a : Option NetAddr) → BreaksHello m 20 a → ⊥
+  width_kept w a h = wrong m 20 a h w
+
+  pub limit_kept : (IsOther 1 m.limit → ⊥) → (a : Option NetAddr) → BreaksHello m 21 a → ⊥
+  limit_kept none a h = none (wrong m 21 a h)
+
+  pub count_kept : (IsOther 0 m.count → ⊥) → (a : Option NetAddr) → BreaksHello m 22 a → ⊥
+  count_kept none a h = none (wrong m 22 a h)
+
+  pub validity_kept : (ticks : ℕ) → ValidityIs m 1 ticks → (a : Option NetAddr) → BreaksHello m 23 a → ⊥
+  validity_kept ticks is a h = wrong m 23 a h ticks is
+
+  pub interval_kept : (ticks : Option ℕ) → IntervalIs m 1 ticks → (a : Option NetAddr) → BreaksHello m 24 a → ⊥
+  interval_kept ticks is a h = wrong m 24 a h ticks is
+
+  pub willing_kept : (octet : ℕ) → HasWilling m octet → (a : Option NetAddr) → BreaksHello m 25 a → ⊥
+  willing_kept octet is a h = wrong m 25 a h octet is
+
+  -- no rule on the width is broken; none on the header either; none on the times either
+  pub past_width : m.width ≡ 4 → NoneBelow (BreaksHello m) 21
+  past_width w = one_further (BreaksHello m) 20 (first_number m) (width_kept w)
+
+  pub past_limit : m.width ≡ 4 → (IsOther 1 m.limit → ⊥) → NoneBelow (BreaksHello m) 22
+  past_limit w limit = one_further (BreaksHello m) 21 (past_width w) (limit_kept limit)
+
+  pub past_count : m.width ≡ 4 → (IsOther 1 m.limit → ⊥) → (IsOther 0 m.count → ⊥) → NoneBelow (BreaksHello m) 23
+  past_count w limit count = one_further (BreaksHello m) 22 (past_limit w limit) (count_kept count)
+
+  pub past_validity : NoneBelow (BreaksHello m) 23 → (ticks : ℕ) → ValidityIs m 1 ticks → NoneBelow (BreaksHello m) 24
+  past_validity below ticks is = one_further (BreaksHello m) 23 below (validity_kept ticks is)
+
+  pub past_interval : NoneBelow (BreaksHello m) 24 → (ticks : Option ℕ) → IntervalIs m 1 ticks → NoneBelow (BreaksHello m) 25
+  past_interval below ticks is = one_further (BreaksHello m) 24 below (interval_kept ticks is)
+
+  pub past_willing : NoneBelow (BreaksHello m) 25 → (octet : ℕ) → HasWilling m octet → NoneBelow (BreaksHello m) 26
+  past_willing below octet is = one_further (BreaksHello m) 25 below (willing_kept octet is)
 
 -- the answer of a test
 pub said_no : (P : Type 0) (b : Bool) → (IsTrue b ↔ P) → b ≡ false → P → ⊥

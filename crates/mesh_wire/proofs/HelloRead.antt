@@ -1,5 +1,5 @@
 -- What the reading of a HELLO answers.
-use Rattle.std.proofs.Common.{◌≡◌, ℕ, ◌≤◌, Result, Ok, Err, List, sym, subst, lit≤}
+use Rattle.std.proofs.Common.{◌≡◌, ℕ, Result, Ok, Err, List, sym, subst}
 use Rattle.std.specs.Prelude.{Option, IfOk, IfErr}
 use Rattle.mesh_atoms.specs.declared.addr.NetAddr.{NetAddr}
 use Rattle.mesh_atoms.specs.declared.hello.HelloRow.{HelloRow}
@@ -17,38 +17,28 @@ use Rattle.mesh_wire.specs.Made.{HasRows, HasBroken}
 use Rattle.mesh_wire.specs.RowRules.{hello_rule}
 use Rattle.mesh_wire.specs.Rows.{AreRows}
 use Rattle.mesh_wire.specs.Rules.{FirstBroken, Keeps}
-use Rattle.mesh_wire.proofs.HelloHeading.{up_from}
+use Rattle.mesh_wire.proofs.HelloHeading.{past_count, past_validity, past_interval, past_willing}
 use Rattle.mesh_wire.proofs.HelloRows.{rows_are}
 use Rattle.mesh_wire.proofs.HelloRuled.{sound_of, hello_decides}
+use Rattle.mesh_wire.proofs.InOrder.{NoneBelow, rule_broken, none_broken}
 use Rattle.mesh_wire.proofs.Kept.{are_told}
-use Rattle.mesh_wire.proofs.Ruled.{rule_first, rule_none}
 use Rattle.mesh_wire.proofs.Single.{one_broken}
 
 -- a message whose heading is read breaks no rule on it
-up_of : (m : MessageFields) (heading : Heading) → HeadingIs m heading → (k : ℕ) (a : Option NetAddr) → BreaksHello m k a → 26 ≤ k
-up_of m heading h = up_from m 26 (record {
-  within = lit≤ tt;
-  width = λ lt. h.width;
-  limit = λ lt. h.limit;
-  count = λ lt. h.count;
-  validity = λ lt. (heading.validity, h.validity);
-  interval = λ lt. (heading.interval, h.interval);
-  willing = λ lt. (heading.willing, h.willing);
-})
+up_of : (m : MessageFields) (heading : Heading) → HeadingIs m heading → NoneBelow (BreaksHello m) 26
+up_of m heading h =
+    past_willing m (past_interval m (past_validity m (past_count m h.width h.limit h.count) heading.validity h.validity) heading.interval h.interval) heading.willing h.willing
 
 module _ (m : MessageFields) (heading : Heading) (h : HeadingIs m heading) where
   -- the rule that rows break is the first
   pub rule_found : (number : ℕ) (addr : Option NetAddr) → HasBroken hello_rule (of_blocks m.blocks) number addr → FirstBroken (BreaksHello m) number addr
-  rule_found number addr f =
-      let are = are_told m f.told f.collected in
-      subst (λ (a : Option NetAddr). FirstBroken (BreaksHello m) number a) (sym f.at) (rule_first (BreaksHello m) hello_rule f.told 26 (hello_decides m f.told are) are.ascending (up_of m heading h) number f.net f.found)
+  rule_found = rule_broken m (BreaksHello m) hello_rule 26 (hello_decides m) (up_of m heading h)
 
   -- rows that break none are those of the HELLO
   pub rows_found : (rows : List HelloRow) → HasRows HelloRowFrom hello_rule (of_blocks m.blocks) rows → Keeps (BreaksHello m) × AreRows m (λ (row : HelloRow). row.addr) (IsReadHelloRow m) rows
   rows_found rows f =
-      let are = are_told m f.told f.collected in
-      let (keeps, none) = rule_none (BreaksHello m) hello_rule f.told 26 (hello_decides m f.told are) are.ascending (up_of m heading h) f.clean in
-      (keeps, rows_are m f.told are rows (λ t has. sound_of t (none t has)) f.made)
+      let (keeps, none) = none_broken m (BreaksHello m) hello_rule 26 (hello_decides m) (up_of m heading h) HelloRowFrom rows f in
+      (keeps, rows_are m f.told (are_told m f.told f.collected) rows (λ t has. sound_of t (none t has)) f.made)
 
 -- the same of a result
 pub if_broken : (P Q : ℕ → Option NetAddr → Type 0) (fault : WireFault) → ((n : ℕ) (a : Option NetAddr) → P n a → Q n a) → IfBroken P fault → IfBroken Q fault

@@ -18,6 +18,7 @@ pub mod HelloRows
 pub mod HelloRuled
 pub mod HelloWritten
 pub mod Hops
+pub mod InOrder
 pub mod Kept
 pub mod Laid
 pub mod LinesSay

@@ -1,8 +1,7 @@
--- The first rule on what a TC says before its rows.
-use Rattle.std.proofs.Common.{◌≡◌, ℕ, ◌+◌, ◌*◌, ◌<◌, ◌≤◌, inl, inr, refl, sym, ◌∙◌, ap, subst, arith, Bool, List, [], ◌∷◌, length, map, slice_index_or}
-use Rattle.std.specs.Prelude.{Option, Some, None, ◌==◌}
+-- The rules on what a TC says before its rows, one by one.
+use Rattle.std.proofs.Common.{◌≡◌, ℕ, ◌+◌, ◌*◌, ◌<◌, ◌≤◌, ◌⊎◌, inl, inr, refl, sym, ◌∙◌, ap, subst, arith, Bool, List, [], ◌∷◌, length, map, slice_index_or}
+use Rattle.std.specs.Prelude.{◌≢◌, Option, Some, None, ◌==◌, cond}
 use Rattle.std.specs.Option.{option_copied}
-use Rattle.std.proofs.lemmas.Bool.{cases_lt}
 use Rattle.mesh_atoms.specs.declared.addr.Addr4.{Addr4}
 use Rattle.mesh_atoms.specs.declared.addr.NetAddr.{NetAddr}
 use Rattle.mesh_addr.specs.declared.records.RawAddr.{RawAddr}
@@ -11,42 +10,81 @@ use Rattle.mesh_tlv.specs.Fields.{TlvFields, fields}
 use Rattle.mesh_packet.specs.Fields.{MessageFields}
 use Rattle.mesh_wire.specs.Hello.{OriginatorIs}
 use Rattle.mesh_wire.specs.Parts.{octets_of}
-use Rattle.mesh_wire.specs.Rules.{FirstBroken}
 use Rattle.mesh_wire.specs.Tc.{ContentIs}
 use Rattle.mesh_wire.specs.TcHeading.{contents_in}
 use Rattle.mesh_wire.specs.TcRules.{BreaksTc, AddressWidth, NoOriginator, NoSequence, NoValidity, WrongInterval, Content, AddrType, TwoAddrTypes, ShortPrefix, GatewayOctet, TwoGateways, Beside, WrongMetric}
 use Rattle.mesh_wire.specs.Times.{distance_of, ValidityIs, IntervalIs}
+use Rattle.mesh_wire.proofs.InOrder.{NoneBelow, one_further}
 
--- what is known where the rules below a number are kept
-pub record TcKeptBelow (m : MessageFields) (n : ℕ) : Type 0 where
-  pub within : n ≤ 37
-  pub width : 32 < n → m.width ≡ 4
-  pub originator : 33 < n → m.originator ≡ None → ⊥
-  pub sequence : 33 < n → m.sequence ≡ None → ⊥
-  pub validity : 34 < n → (ticks : ℕ) × ValidityIs m (distance_of m.count) ticks
-  pub interval : 35 < n → (ticks : Option ℕ) × IntervalIs m (distance_of m.count) ticks
-  pub content : 36 < n → (ansn : ℕ) × (complete : Bool) × ContentIs m ansn complete
+-- what is wrong where the rule of a number is broken
+abbrev Wrong : MessageFields → ℕ → Type 0
+Wrong m k =
+    cond (k == 32) (m.width ≢ 4)
+    (cond (k == 33) ((m.originator ≡ None) ⊎ (m.sequence ≡ None))
+    (cond (k == 34) ((ticks : ℕ) → ValidityIs m (distance_of m.count) ticks → ⊥)
+    (cond (k == 35) ((ticks : Option ℕ) → IntervalIs m (distance_of m.count) ticks → ⊥)
+    (cond (k == 36) ((ansn : ℕ) (complete : Bool) → ContentIs m ansn complete → ⊥) (Unit {0})))))
 
-not_below : (n k : ℕ) → (k < n → ⊥) → n ≤ k
-not_below n k never = elim (cases_lt k n) [ inl lt ↦ absurd (never lt) | inr le ↦ le ]
+wrong : (m : MessageFields) (k : ℕ) (a : Option NetAddr) → BreaksTc m k a → Wrong m k
+wrong m k a (AddressWidth h) = h
+wrong m k a (NoOriginator none) = inl none
+wrong m k a (NoSequence none) = inr none
+wrong m k a (NoValidity none) = none
+wrong m k a (WrongInterval none) = none
+wrong m k a (Content none) = none
+wrong m k a (AddrType net bad) = tt
+wrong m k a (TwoAddrTypes net two) = tt
+wrong m k a (ShortPrefix net h short) = tt
+wrong m k a (GatewayOctet net bad) = tt
+wrong m k a (TwoGateways net two) = tt
+wrong m k a (Beside net h g) = tt
+wrong m k a (WrongMetric net bad) = tt
 
-pub up_from : (m : MessageFields) (n : ℕ) → TcKeptBelow m n → (k : ℕ) (a : Option NetAddr) → BreaksTc m k a → n ≤ k
-up_from m n b k a (AddressWidth h) = not_below n k (λ lt. h (b.width lt))
-up_from m n b k a (NoOriginator none) = not_below n k (λ lt. b.originator lt none)
-up_from m n b k a (NoSequence none) = not_below n k (λ lt. b.sequence lt none)
-up_from m n b k a (NoValidity none) = not_below n k (λ lt. let v = b.validity lt in none v.0 v.1)
-up_from m n b k a (WrongInterval none) = not_below n k (λ lt. let v = b.interval lt in none v.0 v.1)
-up_from m n b k a (Content none) = not_below n k (λ lt. let (ansn, complete, is) = b.content lt in none ansn complete is)
-up_from m n b k a (AddrType net bad) = b.within
-up_from m n b k a (TwoAddrTypes net two) = b.within
-up_from m n b k a (ShortPrefix net h short) = b.within
-up_from m n b k a (GatewayOctet net bad) = omega (arith, b.within)
-up_from m n b k a (TwoGateways net two) = omega (arith, b.within)
-up_from m n b k a (Beside net h g) = omega (arith, b.within)
-up_from m n b k a (WrongMetric net wrong) = omega (arith, b.within)
+pub first_number : (m : MessageFields) → NoneBelow (BreaksTc m) 32
+first_number m k a (AddressWidth h) = omega arith
+first_number m k a (NoOriginator none) = omega arith
+first_number m k a (NoSequence none) = omega arith
+first_number m k a (NoValidity none) = omega arith
+first_number m k a (WrongInterval none) = omega arith
+first_number m k a (Content none) = omega arith
+first_number m k a (AddrType net bad) = omega arith
+first_number m k a (TwoAddrTypes net two) = omega arith
+first_number m k a (ShortPrefix net h short) = omega arith
+first_number m k a (GatewayOctet net bad) = omega arith
+first_number m k a (TwoGateways net two) = omega arith
+first_number m k a (Beside net h g) = omega arith
+first_number m k a (WrongMetric net bad) = omega arith
 
-pub first_at : (m : MessageFields) (n : ℕ) → TcKeptBelow m n → BreaksTc m n None → FirstBroken (BreaksTc m) n None
-first_at m n b h = record { broken = h; first = up_from m n b; least = λ a g. tt }
+module _ (m : MessageFields) where
+  pub width_kept : m.width ≡ 4 → (a : Option NetAddr) → BreaksTc m 32 a → ⊥
+  width_kept w a h = wrong m 32 a h w
+
+  pub header_kept : (m.originator ≡ None → ⊥) → (m.sequence ≡ None → ⊥) → (a : Option NetAddr) → BreaksTc m 33 a → ⊥
+  header_kept originator sequence a h = elim (wrong m 33 a h) [ inl none ↦ originator none | inr none ↦ sequence none ]
+
+  pub validity_kept : (ticks : ℕ) → ValidityIs m (distance_of m.count) ticks → (a : Option NetAddr) → BreaksTc m 34 a → ⊥
+  validity_kept ticks is a h = wrong m 34 a h ticks is
+
+  pub interval_kept : (ticks : Option ℕ) → IntervalIs m (distance_of m.count) ticks → (a : Option NetAddr) → BreaksTc m 35 a → ⊥
+  interval_kept ticks is a h = wrong m 35 a h ticks is
+
+  pub content_kept : (ansn : ℕ) (complete : Bool) → ContentIs m ansn complete → (a : Option NetAddr) → BreaksTc m 36 a → ⊥
+  content_kept ansn complete is a h = wrong m 36 a h ansn complete is
+
+  pub past_width : m.width ≡ 4 → NoneBelow (BreaksTc m) 33
+  past_width w = one_further (BreaksTc m) 32 (first_number m) (width_kept w)
+
+  pub past_header : m.width ≡ 4 → (m.originator ≡ None → ⊥) → (m.sequence ≡ None → ⊥) → NoneBelow (BreaksTc m) 34
+  past_header w originator sequence = one_further (BreaksTc m) 33 (past_width w) (header_kept originator sequence)
+
+  pub past_validity : NoneBelow (BreaksTc m) 34 → (ticks : ℕ) → ValidityIs m (distance_of m.count) ticks → NoneBelow (BreaksTc m) 35
+  past_validity below ticks is = one_further (BreaksTc m) 34 below (validity_kept ticks is)
+
+  pub past_interval : NoneBelow (BreaksTc m) 35 → (ticks : Option ℕ) → IntervalIs m (distance_of m.count) ticks → NoneBelow (BreaksTc m) 36
+  past_interval below ticks is = one_further (BreaksTc m) 35 below (interval_kept ticks is)
+
+  pub past_content : NoneBelow (BreaksTc m) 36 → (ansn : ℕ) (complete : Bool) → ContentIs m ansn complete → NoneBelow (BreaksTc m) 37
+  past_content below ansn complete is = one_further (BreaksTc m) 36 below (content_kept ansn complete is)
 
 pub no_originator : (o : Option RawAddr) → OriginatorIs o None → o ≡ None
 no_originator None h = refl

@@ -75,3 +75,15 @@ returns-clause-tuple_gone_by_part c = spoiled.tuple_gone_by_part
 
 pub returns-clause-tuple_gone_of_another : goal.returns-clause-tuple_gone_of_another
 returns-clause-tuple_gone_of_another c = spoiled.tuple_gone_of_another
+
+pub returns-clause-processed_unnoted : goal.returns-clause-processed_unnoted
+returns-clause-processed_unnoted c = spoiled.processed_unnoted
+
+pub returns-clause-received_elsewhere : goal.returns-clause-received_elsewhere
+returns-clause-received_elsewhere c = spoiled.received_elsewhere
+
+pub returns-clause-forwarded_unsent : goal.returns-clause-forwarded_unsent
+returns-clause-forwarded_unsent c = spoiled.forwarded_unsent
+
+pub returns-clause-forwarded_at_another_moment : goal.returns-clause-forwarded_at_another_moment
+returns-clause-forwarded_at_another_moment c = spoiled.forwarded_at_another_moment

@@ -1,0 +1,39 @@
+-- Items of short lists, and of lists that are made of others.
+use Rattle.std.proofs.Common.{◌≡◌, suc, inl, inr, ap, subst, sym, ◌∙◌, arith, List, [], ◌∷◌, map, Contains, Some}
+use Rattle.mesh_atoms.specs.Base.{Base, Has}
+use Rattle.mesh_paths.proofs.Scenarios.{contains_cases}
+use Rattle.mesh_paths.proofs.ShortLists.{none_of, here}
+
+-- each item of a list has the property
+abbrev pub Each : {A : Type 0} → (A → Type 0) → List A → Type 0
+Each P [] = Unit {0}
+Each P (x ∷ xs) = P x × Each P xs
+
+pub each : {A : Type 0} (P : A → Type 0) (xs : List A) → Each P xs → (a : A) → Contains xs a → P a
+each P [] all a c = absurd (none_of a c)
+each P (x ∷ xs) all a c = elim (contains_cases x xs a c) [
+  | inl e ↦ subst P e all.0
+  | inr more ↦ each P xs all.1 a more
+]
+
+pub there : {A : Type 0} (x : A) (xs : List A) (a : A) → Contains xs a → Contains (x ∷ xs) a
+there x xs a c = (suc c.0, omega (arith, c.1), c.2)
+
+-- what stands in a list that is made of another
+pub unmapped : {A B : Type 0} (f : A → B) (xs : List A) (b : B) → Contains (map f xs) b → (a : A) × Contains xs a × (b ≡ f a)
+unmapped f [] b c = absurd (none_of b c)
+unmapped f (x ∷ xs) b c = elim (contains_cases (f x) (map f xs) b c) [
+  | inl e ↦ (x, here x xs, sym e)
+  | inr more ↦ let (a, stands, is) = unmapped f xs b more in (a, there x xs a stands, is)
+]
+
+pub some_is : {A : Type 0} {a b : A} → Some a ≡ Some b → a ≡ b
+some_is e = cc
+
+-- the same of both parts gives the same
+pub both_same : {A B C : Type 0} (f : A → B → C) (a b : A) (c d : B) → a ≡ b → c ≡ d → f a c ≡ f b d
+both_same f a b c d e g = ap (λ x. f x c) e ∙ ap (λ y. f b y) g
+
+-- a tuple by the same key and the same record
+pub has_same : {K V : Type 0} (base : Base K V) (k l : K) (v w : V) → k ≡ l → v ≡ w → Has base k v → Has base l w
+has_same base k l v w e f has = subst (λ b. Has base l b) f (subst (λ b. Has base b v) e has)

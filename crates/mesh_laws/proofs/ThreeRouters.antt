@@ -1,0 +1,328 @@
+-- Three routers in a row: the middle one relays for the other two, and the last one attaches a network. Their settings, their scenario
+-- and their states.
+use Rattle.std.proofs.Common.{◌≡◌, ℕ, zero, suc, refl, ap, subst, arith, List, [], ◌∷◌, map, Contains, Some, None, Bool, true, false, IsTrue}
+use Rattle.mesh_atoms.specs.declared.addr.Addr4.{Addr4}
+use Rattle.mesh_atoms.specs.declared.addr.NetAddr.{NetAddr}
+use Rattle.mesh_atoms.specs.declared.tc.TcRow.{TcRow}
+use Rattle.mesh_atoms.specs.declared.tuples.LinkKey.{LinkKey}
+use Rattle.mesh_atoms.specs.declared.tuples.Link.{Link}
+use Rattle.mesh_atoms.specs.declared.tuples.TwoHopKey.{TwoHopKey}
+use Rattle.mesh_atoms.specs.declared.tuples.TwoHop.{TwoHop}
+use Rattle.mesh_atoms.specs.declared.tuples.Neighbour.{Neighbour}
+use Rattle.mesh_atoms.specs.declared.tuples.Advertiser.{Advertiser}
+use Rattle.mesh_atoms.specs.declared.tuples.RouterKey.{RouterKey}
+use Rattle.mesh_atoms.specs.declared.tuples.RouterTuple.{RouterTuple}
+use Rattle.mesh_atoms.specs.declared.tuples.AddressKey.{AddressKey}
+use Rattle.mesh_atoms.specs.declared.tuples.AddressTuple.{AddressTuple}
+use Rattle.mesh_atoms.specs.declared.tuples.NetworkKey.{NetworkKey}
+use Rattle.mesh_atoms.specs.declared.tuples.NetworkTuple.{NetworkTuple}
+use Rattle.mesh_atoms.specs.declared.settings.Interface.{Interface}
+use Rattle.mesh_atoms.specs.declared.settings.RouterSettings.{RouterSettings}
+use Rattle.mesh_atoms.specs.declared.settings.Scenario.{Scenario}
+use Rattle.mesh_atoms.specs.declared.graphs.Route.{Route}
+use Rattle.mesh_atoms.specs.Base.{host}
+use Rattle.mesh_atoms.specs.State.{State, HasLink, HasTwoHop, HasSymmetric, HasAddressOn}
+use Rattle.mesh_paths.proofs.Scenarios.{contains_map}
+use Rattle.mesh_paths.proofs.ShortLists.{none_of, only, here, first_of}
+pub use Rattle.mesh_laws.proofs.TwoRoutersInRange.{addr}
+pub use Rattle.mesh_laws.proofs.PlainRouters.{one, arc}
+use Rattle.mesh_laws.proofs.PlainRouters.{face_of, settings_of, link_of, neighbour_of}
+use Rattle.mesh_laws.proofs.TwoRoutersInRange.{is_end, small_seed, no_loss}
+use Rattle.mesh_laws.proofs.Members.{each, unmapped}
+use Rattle.mesh_laws.proofs.ThreeRoutersInRange.{letter, is_interface, is_router, are_routers, are_arcs}
+pub use Rattle.mesh_laws.proofs.ThreeRoutersInRange.{net, attached, given}
+
+-- Who knows whom
+
+-- the routers that router x hears
+abbrev pub peers : ℕ → List ℕ
+peers zero = 1 ∷ []
+peers (suc zero) = 0 ∷ 2 ∷ []
+peers (suc (suc zero)) = 1 ∷ []
+peers (suc (suc (suc x))) = []
+
+-- those behind the middle one
+abbrev pub beyond : ℕ → List ℕ
+beyond zero = 2 ∷ []
+beyond (suc zero) = []
+beyond (suc (suc zero)) = 0 ∷ []
+beyond (suc (suc (suc x))) = []
+
+-- the relays that it has chosen
+abbrev pub relays : ℕ → List ℕ
+relays zero = 1 ∷ []
+relays (suc zero) = []
+relays (suc (suc zero)) = 1 ∷ []
+relays (suc (suc (suc x))) = []
+
+-- whether it is chosen as a relay by those that it hears
+abbrev pub is_middle : ℕ → Bool
+is_middle zero = false
+is_middle (suc zero) = true
+is_middle (suc (suc x)) = false
+
+-- the routers that the middle one advertises to it
+abbrev pub told : ℕ → List ℕ
+told zero = 0 ∷ 2 ∷ []
+told (suc zero) = []
+told (suc (suc zero)) = 0 ∷ 2 ∷ []
+told (suc (suc (suc x))) = []
+
+-- the gateways that advertise the network to it
+abbrev pub gateways : ℕ → List ℕ
+gateways zero = 2 ∷ []
+gateways (suc zero) = 2 ∷ []
+gateways (suc (suc x)) = []
+
+-- the routers whose TCs it has taken
+abbrev pub advertisers : ℕ → List ℕ
+advertisers zero = 1 ∷ 2 ∷ []
+advertisers (suc zero) = 2 ∷ []
+advertisers (suc (suc zero)) = 1 ∷ []
+advertisers (suc (suc (suc x))) = []
+
+-- Settings
+
+abbrev pub face : ℕ → Interface
+face x = face_of (letter x ∷ []) (addr x) (is_interface x)
+
+abbrev pub settings : ℕ → RouterSettings
+settings x = settings_of (letter x ∷ []) (addr x) (attached x) (is_interface x) (is_router x)
+
+abbrev pub scenario : Scenario
+scenario = record {
+  end = 16384;
+  seed = 0;
+  loss_until = None;
+  routers = settings 0 ∷ settings 1 ∷ settings 2 ∷ [];
+  arcs = arc 0 1 ∷ arc 1 0 ∷ arc 1 2 ∷ arc 2 1 ∷ [];
+  end_in_range = is_end;
+  seed_in_range = small_seed;
+  loss_in_range = no_loss;
+  sound_routers = are_routers;
+  sound_arcs = are_arcs;
+}
+
+-- States
+
+abbrev pub key : ℕ → LinkKey
+key y = record { addr = addr y }
+
+abbrev pub link : ℕ → ℕ → Link
+link x y = link_of (addr y) (is_middle x)
+
+abbrev pub link_entry : ℕ → ℕ → LinkKey × (Link × ℕ)
+link_entry x y = (key y, (link x y, 9))
+
+abbrev pub neighbour : ℕ → ℕ → Neighbour
+neighbour x y = neighbour_of (addr y) (is_middle x)
+
+abbrev pub neighbour_entry : ℕ → ℕ → Addr4 × (Neighbour × ℕ)
+neighbour_entry x y = (addr y, (neighbour x y, 9))
+
+-- by way of the middle router
+abbrev pub two_hop_key : ℕ → TwoHopKey
+two_hop_key z = record { link = key 1; addr = addr z }
+
+abbrev pub far : TwoHop
+far = record { metric_in = Some one; metric_out = Some one }
+
+abbrev pub two_hop_entry : ℕ → TwoHopKey × (TwoHop × ℕ)
+two_hop_entry z = (two_hop_key z, (far, 9))
+
+abbrev pub advertiser_entry : ℕ → Addr4 × (Advertiser × ℕ)
+advertiser_entry w = (addr w, (record { ansn = 0 }, 9))
+
+abbrev pub router_key : ℕ → RouterKey
+router_key z = record { from = addr 1; to = addr z }
+
+abbrev pub router_tuple : RouterTuple
+router_tuple = record { ansn = 0; metric = one }
+
+abbrev pub router_entry : ℕ → RouterKey × (RouterTuple × ℕ)
+router_entry z = (router_key z, (router_tuple, 9))
+
+abbrev pub address_key : ℕ → AddressKey
+address_key z = record { from = addr 1; addr = addr z }
+
+abbrev pub address_tuple : AddressTuple
+address_tuple = record { ansn = 0; metric = one }
+
+abbrev pub address_entry : ℕ → AddressKey × (AddressTuple × ℕ)
+address_entry z = (address_key z, (address_tuple, 9))
+
+abbrev pub network_key : ℕ → NetworkKey
+network_key g = record { from = addr g; net = net }
+
+abbrev pub network_tuple : NetworkTuple
+network_tuple = record { ansn = 0; distance = 1; metric = one }
+
+abbrev pub network_entry : ℕ → NetworkKey × (NetworkTuple × ℕ)
+network_entry g = (network_key g, (network_tuple, 9))
+
+-- the advertised row of a router
+abbrev pub host_row : ℕ → TcRow
+host_row z = record { dest = host (addr z); origin = true; routable = true; gateway = None; metric = Some one }
+
+-- that of the network
+abbrev pub net_row : TcRow
+net_row = record { dest = net; origin = false; routable = false; gateway = Some 1; metric = Some one }
+
+abbrev pub rows : ℕ → List TcRow
+rows zero = []
+rows (suc zero) = host_row 0 ∷ host_row 2 ∷ []
+rows (suc (suc zero)) = net_row ∷ []
+rows (suc (suc (suc x))) = []
+
+-- a route by way of a peer
+abbrev pub route : NetAddr → ℕ → ℕ → NetAddr → Route
+route dest y cost parent = record { dest = dest; next = addr y; iface = 0; metric = cost; parent = parent }
+
+-- worked out by hand: each step costs 1, and the network 1 from its gateway
+abbrev pub first_to_second : Route
+first_to_second = route (host (addr 1)) 1 1 (host (addr 0))
+
+abbrev pub first_to_third : Route
+first_to_third = route (host (addr 2)) 1 2 (host (addr 1))
+
+abbrev pub first_to_net : Route
+first_to_net = route net 1 3 (host (addr 2))
+
+abbrev pub second_to_first : Route
+second_to_first = route (host (addr 0)) 0 1 (host (addr 1))
+
+abbrev pub second_to_third : Route
+second_to_third = route (host (addr 2)) 2 1 (host (addr 1))
+
+abbrev pub second_to_net : Route
+second_to_net = route net 2 2 (host (addr 2))
+
+abbrev pub third_to_first : Route
+third_to_first = route (host (addr 0)) 1 2 (host (addr 1))
+
+abbrev pub third_to_second : Route
+third_to_second = route (host (addr 1)) 1 1 (host (addr 2))
+
+abbrev pub routes : ℕ → List Route
+routes zero = first_to_second ∷ first_to_third ∷ first_to_net ∷ []
+routes (suc zero) = second_to_first ∷ second_to_third ∷ second_to_net ∷ []
+routes (suc (suc zero)) = third_to_first ∷ third_to_second ∷ []
+routes (suc (suc (suc x))) = []
+
+abbrev pub state : ℕ → State
+state x = record {
+  settings = settings x;
+  bases = record {
+    neighbourhood = record {
+      links = map (link_entry x) (peers x) ∷ [];
+      two_hops = map two_hop_entry (beyond x) ∷ [];
+      neighbours = map (neighbour_entry x) (peers x);
+      losts = [];
+    };
+    topology = record {
+      advertisers = map advertiser_entry (advertisers x);
+      routers = map router_entry (told x);
+      addresses = map address_entry (told x);
+      networks = map network_entry (gateways x);
+    };
+    noted = record { received = [] ∷ []; processed = []; forwarded = [] };
+  };
+  relays = record { flooding = map addr (relays x) ∷ []; routing = map addr (relays x) };
+  routes = routes x;
+  rows = rows x;
+  ansn = 0;
+  emptied = None;
+  sequence = 0;
+  next_hello = 6;
+  next_tc = 6;
+  last = 5;
+}
+
+abbrev pub states : List State
+states = state 0 ∷ state 1 ∷ state 2 ∷ []
+
+-- Who knows whom, case by case
+
+pub each_pair : (P : ℕ → ℕ → Type 0) → P 0 1 → P 1 0 → P 1 2 → P 2 1 → (x y : ℕ) → Contains (peers x) y → P x y
+each_pair P a b c d zero y h = each (P 0) (1 ∷ []) (a, tt) y h
+each_pair P a b c d (suc zero) y h = each (P 1) (0 ∷ 2 ∷ []) (b, (c, tt)) y h
+each_pair P a b c d (suc (suc zero)) y h = each (P 2) (1 ∷ []) (d, tt) y h
+each_pair P a b c d (suc (suc (suc x))) y h = absurd (none_of y h)
+
+pub each_beyond : (P : ℕ → ℕ → Type 0) → P 0 2 → P 2 0 → (x z : ℕ) → Contains (beyond x) z → P x z
+each_beyond P a b zero z h = each (P 0) (2 ∷ []) (a, tt) z h
+each_beyond P a b (suc zero) z h = absurd (none_of z h)
+each_beyond P a b (suc (suc zero)) z h = each (P 2) (0 ∷ []) (b, tt) z h
+each_beyond P a b (suc (suc (suc x))) z h = absurd (none_of z h)
+
+pub each_told : (P : ℕ → ℕ → Type 0) → P 0 0 → P 0 2 → P 2 0 → P 2 2 → (x z : ℕ) → Contains (told x) z → P x z
+each_told P a b c d zero z h = each (P 0) (0 ∷ 2 ∷ []) (a, (b, tt)) z h
+each_told P a b c d (suc zero) z h = absurd (none_of z h)
+each_told P a b c d (suc (suc zero)) z h = each (P 2) (0 ∷ 2 ∷ []) (c, (d, tt)) z h
+each_told P a b c d (suc (suc (suc x))) z h = absurd (none_of z h)
+
+pub each_gateway : (P : ℕ → ℕ → Type 0) → P 0 2 → P 1 2 → (x g : ℕ) → Contains (gateways x) g → P x g
+each_gateway P a b zero g h = each (P 0) (2 ∷ []) (a, tt) g h
+each_gateway P a b (suc zero) g h = each (P 1) (2 ∷ []) (b, tt) g h
+each_gateway P a b (suc (suc x)) g h = absurd (none_of g h)
+
+pub each_relay : (P : ℕ → ℕ → Type 0) → P 0 1 → P 2 1 → (x y : ℕ) → Contains (relays x) y → P x y
+each_relay P a b zero y h = each (P 0) (1 ∷ []) (a, tt) y h
+each_relay P a b (suc zero) y h = absurd (none_of y h)
+each_relay P a b (suc (suc zero)) y h = each (P 2) (1 ∷ []) (b, tt) y h
+each_relay P a b (suc (suc (suc x))) y h = absurd (none_of y h)
+
+pub middle_is : (x : ℕ) → IsTrue (is_middle x) → x ≡ 1
+middle_is zero h = absurd (let no : false ≡ true = h in cc)
+middle_is (suc zero) h = refl
+middle_is (suc (suc x)) h = absurd (let no : false ≡ true = h in cc)
+
+pub peers_back : (x y : ℕ) → Contains (peers x) y → Contains (peers y) x
+peers_back = each_pair (λ x y. Contains (peers y) x) (here 0 (2 ∷ [])) (here 1 []) (here 1 []) (1, omega arith, refl)
+
+-- Addresses, and what a state holds
+
+pub same_number : (x y : ℕ) → addr x ≡ addr y → x ≡ y
+same_number x y e = let f : suc x ≡ suc y = ap (λ (a : Addr4). a.0) e in omega arith
+
+-- an address of the router with these settings is its one
+pub address_on : (y j : ℕ) (a : Addr4) → HasAddressOn (settings y) j a → (j ≡ 0) × (a ≡ addr y)
+address_on y j a on =
+    let (f, at, has) = on in
+    let (e, same) = first_of (face y) f j at in
+    let P : Interface → Type 0 = λ b. Contains b.addrs a in
+    (e, only (addr y) a (subst P same has))
+
+pub has_own : (y : ℕ) → HasAddressOn (settings y) 0 (addr y)
+has_own y = (face y, refl, here (addr y) [])
+
+pub link_is : (x i : ℕ) (k : LinkKey) (l : Link) → HasLink (state x) i k l → (i ≡ 0) × (y : ℕ) × Contains (peers x) y × (k ≡ key y) × (l ≡ link x y)
+link_is x i k l has =
+    let (base, at, (until, stands)) = has in
+    let (e, same) = first_of (map (link_entry x) (peers x)) base i at in
+    let P : List (LinkKey × (Link × ℕ)) → Type 0 = λ b. Contains b (k, (l, until)) in
+    let (y, c, is) = unmapped (link_entry x) (peers x) (k, (l, until)) (subst P same stands) in
+    (e, y, c, ap (λ (t : LinkKey × (Link × ℕ)). t.0) is, ap (λ (t : LinkKey × (Link × ℕ)). t.1.0) is)
+
+pub link_has : (x y : ℕ) → Contains (peers x) y → HasLink (state x) 0 (key y) (link x y)
+link_has x y c = (map (link_entry x) (peers x), refl, (9, contains_map (link_entry x) (peers x) y c))
+
+pub symmetric_is : (x : ℕ) (o : Addr4) (n : Neighbour) → HasSymmetric (state x) o n → (y : ℕ) × Contains (peers x) y × (o ≡ addr y) × (n ≡ neighbour x y)
+symmetric_is x o n has =
+    let ((until, stands), _) = has in
+    let (y, c, is) = unmapped (neighbour_entry x) (peers x) (o, (n, until)) stands in
+    (y, c, ap (λ (t : Addr4 × (Neighbour × ℕ)). t.0) is, ap (λ (t : Addr4 × (Neighbour × ℕ)). t.1.0) is)
+
+pub symmetric_has : (x y : ℕ) → Contains (peers x) y → HasSymmetric (state x) (addr y) (neighbour x y)
+symmetric_has x y c = ((9, contains_map (neighbour_entry x) (peers x) y c), refl)
+
+pub two_hop_is : (x i : ℕ) (k : TwoHopKey) (t : TwoHop) → HasTwoHop (state x) i k t → (i ≡ 0) × (z : ℕ) × Contains (beyond x) z × (k ≡ two_hop_key z) × (t ≡ far)
+two_hop_is x i k t has =
+    let (base, at, (until, stands)) = has in
+    let (e, same) = first_of (map two_hop_entry (beyond x)) base i at in
+    let P : List (TwoHopKey × (TwoHop × ℕ)) → Type 0 = λ b. Contains b (k, (t, until)) in
+    let (z, c, is) = unmapped two_hop_entry (beyond x) (k, (t, until)) (subst P same stands) in
+    (e, z, c, ap (λ (u : TwoHopKey × (TwoHop × ℕ)). u.0) is, ap (λ (u : TwoHopKey × (TwoHop × ℕ)). u.1.0) is)
+
+pub two_hop_has : (x z : ℕ) → Contains (beyond x) z → HasTwoHop (state x) 0 (two_hop_key z) far
+two_hop_has x z c = (map two_hop_entry (beyond x), refl, (9, contains_map two_hop_entry (beyond x) z c))

@@ -1,0 +1,91 @@
+-- Rules that are looked at in the order of their numbers, up to the first that is broken.
+use Rattle.std.proofs.Common.{◌≡◌, ℕ, zero, suc, ◌+◌, ◌≤◌, ◌⊎◌, inl, inr, refl, sym, subst, arith, List, Contains}
+use Rattle.std.specs.Prelude.{Option, Some, None}
+use Rattle.std.proofs.lemmas.Bool.{cases_eq}
+use Rattle.mesh_atoms.specs.declared.addr.NetAddr.{NetAddr}
+use Rattle.mesh_packet.specs.Fields.{MessageFields}
+use Rattle.mesh_wire.specs.declared.collect.AddressParts.{AddressParts}
+use Rattle.mesh_wire.specs.Entries.{of_blocks}
+use Rattle.mesh_wire.specs.Made.{HasRows, HasBroken}
+use Rattle.mesh_wire.specs.RowRules.{first_rule}
+use Rattle.mesh_wire.specs.Rows.{HasValue}
+use Rattle.mesh_wire.specs.Rules.{FirstBroken, Keeps}
+use Rattle.mesh_wire.proofs.Deciding.{made}
+use Rattle.mesh_wire.proofs.Gathering.{gathered}
+use Rattle.mesh_wire.proofs.Kept.{AreTold, are_told}
+use Rattle.mesh_wire.proofs.Ruled.{Decides, rule_first, rule_none}
+use Rattle.mesh_wire.proofs.Slots.{RowIs}
+
+-- no rule of a lower number is broken
+abbrev pub NoneBelow : (ℕ → Option NetAddr → Type 0) → ℕ → Type 0
+NoneBelow Breaks n = (k : ℕ) (a : Option NetAddr) → Breaks k a → n ≤ k
+
+-- the rule of that number isn't broken
+abbrev pub Unbroken : (ℕ → Option NetAddr → Type 0) → ℕ → Type 0
+Unbroken Breaks n = (a : Option NetAddr) → Breaks n a → ⊥
+
+-- so many rules from a number on are broken or not, one by one
+abbrev pub Decided : (ℕ → Option NetAddr → Type 0) → ℕ → ℕ → Type 0
+Decided Breaks n zero = Unit {0}
+Decided Breaks n (suc count) = (Breaks n None ⊎ Unbroken Breaks n) × Decided Breaks (n + 1) count
+
+module _ (Breaks : ℕ → Option NetAddr → Type 0) where
+  pub first_at : (n : ℕ) → NoneBelow Breaks n → Breaks n None → FirstBroken Breaks n None
+  first_at n below h = record { broken = h; first = below; least = λ a g. tt }
+
+  pub one_further : (n : ℕ) → NoneBelow Breaks n → Unbroken Breaks n → NoneBelow Breaks (n + 1)
+  one_further n below kept k a h = elim (cases_eq k n) [
+    | inl e ↦ absurd (kept a (subst (λ j. Breaks j a) e h))
+    | inr other ↦ (let least = below k a h in omega (arith, least, other))
+  ]
+
+  pub first_or_none : (n count : ℕ) → NoneBelow Breaks n → Decided Breaks n count → ((k : ℕ) × FirstBroken Breaks k None) ⊎ NoneBelow Breaks (n + count)
+  first_or_none n zero below decided = inr (λ k a h. let least = below k a h in omega (arith, least))
+  first_or_none n (suc count) below (inl h, rest) = inl (n, first_at n below h)
+  first_or_none n (suc count) below (inr kept, rest) = elim (first_or_none (n + 1) count (one_further n below kept) rest) [
+    | inl found ↦ inl found
+    | inr none ↦ inr (λ k a h. let least = none k a h in omega (arith, least))
+  ]
+
+-- what is there where the rule that wants it is kept
+pub of_either : {X : Type 0} {P : X → Type 0} {Broken In : Type 0} → (Broken → In → ⊥) → In → ((x : X) × P x) ⊎ ((x : X) → P x → ⊥) → (((x : X) → P x → ⊥) → Broken) → (x : X) × P x
+of_either never in_range (inl there) broken = there
+of_either never in_range (inr none) broken = absurd (never (broken none) in_range)
+
+-- what a message reads as, or the first rule that it breaks
+abbrev pub Outcome : {Value : Type 0} → (Value → Type 0) → (ℕ → Option NetAddr → Type 0) → Type 0
+Outcome {Value} Is Breaks = ((value : Value) × Is value × Keeps Breaks) ⊎ ((number : ℕ) × (addr : Option NetAddr) × FirstBroken Breaks number addr)
+
+-- the same of rows, where a value is made of rows that break no rule
+module _ {Row Value : Type 0} (m : MessageFields) (From : AddressParts → Row → Type 0) (rule : AddressParts → Option ℕ) (Is : Value → Type 0) (Breaks : ℕ → Option NetAddr → Type 0)
+    (row : (t : AddressParts) → RowIs (HasValue m t.net) t.parts → (r : Row) × From t r)
+    (broken : (number : ℕ) (addr : Option NetAddr) → HasBroken rule (of_blocks m.blocks) number addr → FirstBroken Breaks number addr)
+    (value : (rows : List Row) → HasRows From rule (of_blocks m.blocks) rows → (v : Value) × Is v × Keeps Breaks) where
+  abbrev told : List AddressParts
+  told = (gathered (of_blocks m.blocks)).0
+
+  by : (o : Option (ℕ × NetAddr)) → first_rule rule None told ≡ o → Outcome Is Breaks
+  by (Some (number, net)) e = inr (number, Some net, broken number (Some net) (record { told = told; collected = (gathered (of_blocks m.blocks)).1; net = net; found = e; at = refl }))
+  by None e =
+      let are = are_told m told (gathered (of_blocks m.blocks)).1 in
+      let (rows, of) = made From told (λ t has. row t (are.each t has).1) in
+      inl (value rows (record { told = told; collected = (gathered (of_blocks m.blocks)).1; clean = e; made = of }))
+
+  pub of_rows : Outcome Is Breaks
+  of_rows = by (first_rule rule None told) refl
+
+-- rules on addresses, behind those on the heading, none of which is broken
+module _ (m : MessageFields) (Breaks : ℕ → Option NetAddr → Type 0) (rule : AddressParts → Option ℕ) (start : ℕ)
+    (decides : (told : List AddressParts) → AreTold m told → Decides Breaks rule told start) (below : NoneBelow Breaks start) where
+  -- the rule that rows break is the first
+  pub rule_broken : (number : ℕ) (addr : Option NetAddr) → HasBroken rule (of_blocks m.blocks) number addr → FirstBroken Breaks number addr
+  rule_broken number addr f =
+      let are = are_told m f.told f.collected in
+      subst (λ (a : Option NetAddr). FirstBroken Breaks number a) (sym f.at) (rule_first Breaks rule f.told start (decides f.told are) are.ascending below number f.net f.found)
+
+  -- or no rule is broken
+  pub none_broken : {Row : Type 0} (From : AddressParts → Row → Type 0) (rows : List Row) (f : HasRows From rule (of_blocks m.blocks) rows) →
+      Keeps Breaks × ((t : AddressParts) → Contains f.told t → rule t ≡ None)
+  none_broken From rows f =
+      let are = are_told m f.told f.collected in
+      rule_none Breaks rule f.told start (decides f.told are) are.ascending below f.clean
