@@ -1,4 +1,4 @@
--- What the drafts have is what the checks look at.
+-- What the tables state is what the checks look at.
 use Rattle.std.proofs.Common.{◌≡◌, ℕ, ◌+◌, List, [], ◌∷◌, map, position, Bool, not, codes, Option, Some, None, option_map, refl, sym, ap, ◌∙◌}
 use Rattle.std.specs.List.{list_all, list_any, flat_map, slice_get, position_from}
 use Rattle.std.proofs.lemmas.List.Folds.{list_all-map, flat_map-map}
@@ -6,13 +6,13 @@ use Rattle.std.proofs.lemmas.Option.{slice_get-map}
 use Rattle.std.proofs.lemmas.Iterator.Adapters.{position_from-zero}
 use Rattle.mesh_atoms.specs.Base.{addr_eq}
 use Rattle.mesh_atoms.specs.Settings.{name_eq, are_distinct}
-use Rattle.mesh_drafts.specs.declared.drafts.RouterDraft.{RouterDraft}
-use Rattle.mesh_drafts.specs.declared.drafts.InterfaceDraft.{InterfaceDraft}
+use Rattle.mesh_stated.specs.declared.stated.StatedRouter.{StatedRouter}
+use Rattle.mesh_stated.specs.declared.stated.StatedInterface.{StatedInterface}
 use Rattle.mesh_toml.specs.Faults.{Fault}
 use Rattle.mesh_atoms.specs.Literals.{◌>>=◌}
 use Rattle.mesh_checks.specs.Checks as checks
 use Rattle.mesh_checks.specs.Checks.{Identifiers, Place, duplicates, duplicate_unless, find_place}
-use Rattle.mesh_checks.specs.Compared.{same_interface, same_attached, all_addrs, attaches_no_host, draft_duplicates, draft_identifiers, draft_place}
+use Rattle.mesh_checks.specs.Compared.{same_interface, same_attached, all_addrs, attaches_no_host, stated_duplicates, stated_identifiers, stated_place}
 
 list_any-map : {A B : Type 0} (p : B → Bool) (f : A → B) (xs : List A) → list_any p (map f xs) ≡ list_any (λ x. p (f x)) xs
 list_any-map p f [] = refl
@@ -40,43 +40,43 @@ list_of a b c d e = duplicate_unless a (codes "name") ∷ duplicate_unless b (co
 list_same : (a b c d e a' b' c' d' e' : Bool) → a ≡ a' → b ≡ b' → c ≡ c' → d ≡ d' → e ≡ e' → list_of a b c d e ≡ list_of a' b' c' d' e'
 list_same a b c d e a' b' c' d' e' p q r s t = rw (p, q, r, s, t)
 
-ifaces_same : (rs : List RouterDraft) → list_all (λ (r : Identifiers). are_distinct name_eq r.interface_names) (map draft_identifiers rs) ≡ list_all (λ r. are_distinct same_interface r.interfaces) rs
+ifaces_same : (rs : List StatedRouter) → list_all (λ (r : Identifiers). are_distinct name_eq r.interface_names) (map stated_identifiers rs) ≡ list_all (λ r. are_distinct same_interface r.interfaces) rs
 ifaces_same rs =
-    list_all-map (λ (r : Identifiers). are_distinct name_eq r.interface_names) draft_identifiers rs
-    ∙ all_same _ (λ r. are_distinct same_interface r.interfaces) (λ r. are_distinct-map name_eq (λ (i : InterfaceDraft). i.name) r.interfaces) rs
+    list_all-map (λ (r : Identifiers). are_distinct name_eq r.interface_names) stated_identifiers rs
+    ∙ all_same _ (λ r. are_distinct same_interface r.interfaces) (λ r. are_distinct-map name_eq (λ (i : StatedInterface). i.name) r.interfaces) rs
 
-nets_same : (rs : List RouterDraft) → list_all (λ (r : Identifiers). are_distinct checks.same_net r.nets) (map draft_identifiers rs) ≡ list_all (λ r. are_distinct same_attached r.attached) rs
+nets_same : (rs : List StatedRouter) → list_all (λ (r : Identifiers). are_distinct checks.same_net r.nets) (map stated_identifiers rs) ≡ list_all (λ r. are_distinct same_attached r.attached) rs
 nets_same rs =
-    list_all-map (λ (r : Identifiers). are_distinct checks.same_net r.nets) draft_identifiers rs
+    list_all-map (λ (r : Identifiers). are_distinct checks.same_net r.nets) stated_identifiers rs
     ∙ all_same _ (λ r. are_distinct same_attached r.attached) (λ r. are_distinct-map checks.same_net _ r.attached) rs
 
-addrs_same : (rs : List RouterDraft) → flat_map (λ (r : Identifiers). r.addrs) (map draft_identifiers rs) ≡ all_addrs rs
-addrs_same rs = flat_map-map (λ (r : Identifiers). r.addrs) draft_identifiers rs
+addrs_same : (rs : List StatedRouter) → flat_map (λ (r : Identifiers). r.addrs) (map stated_identifiers rs) ≡ all_addrs rs
+addrs_same rs = flat_map-map (λ (r : Identifiers). r.addrs) stated_identifiers rs
 
-hosts_same : (rs : List RouterDraft) → list_all (checks.attaches_none (flat_map (λ (r : Identifiers). r.addrs) (map draft_identifiers rs))) (map draft_identifiers rs) ≡ list_all (attaches_no_host (all_addrs rs)) rs
+hosts_same : (rs : List StatedRouter) → list_all (checks.attaches_none (flat_map (λ (r : Identifiers). r.addrs) (map stated_identifiers rs))) (map stated_identifiers rs) ≡ list_all (attaches_no_host (all_addrs rs)) rs
 hosts_same rs =
-    rw (addrs_same rs) (list_all-map (checks.attaches_none (all_addrs rs)) draft_identifiers rs
+    rw (addrs_same rs) (list_all-map (checks.attaches_none (all_addrs rs)) stated_identifiers rs
     ∙ all_same _ (attaches_no_host (all_addrs rs)) (λ r. list_all-map (λ n. not (list_any (checks.is_address n) (all_addrs rs))) _ r.attached) rs)
 
-pub duplicates_same : (rs : List RouterDraft) → duplicates (map draft_identifiers rs) ≡ draft_duplicates rs
+pub duplicates_same : (rs : List StatedRouter) → duplicates (map stated_identifiers rs) ≡ stated_duplicates rs
 duplicates_same rs =
-    list_same _ _ _ _ _ _ _ _ _ _ (are_distinct-map checks.same_name draft_identifiers rs) (ifaces_same rs) (ap (are_distinct addr_eq) (addrs_same rs)) (nets_same rs) (hosts_same rs)
+    list_same _ _ _ _ _ _ _ _ _ _ (are_distinct-map checks.same_name stated_identifiers rs) (ifaces_same rs) (ap (are_distinct addr_eq) (addrs_same rs)) (nets_same rs) (hosts_same rs)
 
 -- a place looked up
 abbrev both : ℕ → ℕ → Option (ℕ × ℕ)
 both a b = Some (a, b)
 
-iface_same : (p : Place) (router : ℕ) (found : Option RouterDraft)
-    → (option_map draft_identifiers found >>= λ r. position (name_eq p.1) r.interface_names >>= λ iface. both router iface)
+iface_same : (p : Place) (router : ℕ) (found : Option StatedRouter)
+    → (option_map stated_identifiers found >>= λ r. position (name_eq p.1) r.interface_names >>= λ iface. both router iface)
     ≡ (found >>= λ r. position (λ i. name_eq p.1 i.name) r.interfaces >>= λ iface. both router iface)
 iface_same p router None = refl
-iface_same p router (Some r) = rw (position-map (name_eq p.1) (λ (i : InterfaceDraft). i.name) r.interfaces)
+iface_same p router (Some r) = rw (position-map (name_eq p.1) (λ (i : StatedInterface). i.name) r.interfaces)
 
-router_same : (rs : List RouterDraft) (p : Place) (found : Option ℕ)
-    → (found >>= λ router. slice_get (map draft_identifiers rs) router >>= λ r. position (name_eq p.1) r.interface_names >>= λ iface. both router iface)
+router_same : (rs : List StatedRouter) (p : Place) (found : Option ℕ)
+    → (found >>= λ router. slice_get (map stated_identifiers rs) router >>= λ r. position (name_eq p.1) r.interface_names >>= λ iface. both router iface)
     ≡ (found >>= λ router. slice_get rs router >>= λ r. position (λ i. name_eq p.1 i.name) r.interfaces >>= λ iface. both router iface)
 router_same rs p None = refl
-router_same rs p (Some router) = rw (slice_get-map draft_identifiers rs router) (iface_same p router (slice_get rs router))
+router_same rs p (Some router) = rw (slice_get-map stated_identifiers rs router) (iface_same p router (slice_get rs router))
 
-pub place_same : (rs : List RouterDraft) (p : Place) → find_place (map draft_identifiers rs) p ≡ draft_place rs p
-place_same rs p = rw (position-map (λ (r : Identifiers). name_eq p.0 r.router_name) draft_identifiers rs) (router_same rs p (position (λ r. name_eq p.0 r.head.name) rs))
+pub place_same : (rs : List StatedRouter) (p : Place) → find_place (map stated_identifiers rs) p ≡ stated_place rs p
+place_same rs p = rw (position-map (λ (r : Identifiers). name_eq p.0 r.router_name) stated_identifiers rs) (router_same rs p (position (λ r. name_eq p.0 r.head.name) rs))

@@ -7,10 +7,10 @@ use Rattle.mesh_atoms.specs.Base.{addr_eq}
 use Rattle.mesh_atoms.specs.Settings.{name_eq, are_distinct, Ends, ends_eq}
 use Rattle.mesh_toml.specs.Faults.{Fault, Read, Visits, fault, visit, first, listed, bad_value}
 use Rattle.mesh_toml.specs.declared.refusal.TheConstants.{DUPLICATE, UNKNOWN_NAME}
-use Rattle.mesh_drafts.specs.Tables.{table_of}
+use Rattle.mesh_stated.specs.Tables.{table_of}
 use Rattle.mesh_atoms.specs.Literals.{◌>>=◌}
-use Rattle.mesh_drafts.specs.Router.{name, addresses, interfaces, attached, net}
-use Rattle.mesh_drafts.specs.Scenario.{place, routers, arcs, scenario_table_visits}
+use Rattle.mesh_stated.specs.Router.{name, addresses, interfaces, attached, net}
+use Rattle.mesh_stated.specs.Scenario.{place, routers, arcs, scenario_table_visits}
 
 -- what of a router must not stand twice: its name, the names of its interfaces, its addresses and its networks
 pub record Identifiers : Type 0 where

@@ -5,12 +5,12 @@ ghost use Rattle.mesh_atoms.specs.Base.{addr_eq};
 ghost use Rattle.mesh_atoms.specs.Settings.{are_distinct, is_host};
 ghost use Rattle.mesh_toml.specs.Faults.{Answers, first};
 ghost use Rattle.mesh_toml.specs.Values.{SaysNothing};
-ghost use Rattle.mesh_checks.specs.Compared.{same_interface, same_attached, router_addrs, all_addrs, attaches_no_host, draft_duplicates, draft_identifiers};
+ghost use Rattle.mesh_checks.specs.Compared.{same_interface, same_attached, router_addrs, all_addrs, attaches_no_host, stated_duplicates, stated_identifiers};
 ghost use Rattle.mesh_checks.specs.Checks.{duplicate_unless, duplicates};
 
 use crate::distinct::are_distinct;
 use mesh_atoms::{Addr4, Attached4, Seq};
-use mesh_drafts::RouterDraft;
+use mesh_stated::StatedRouter;
 use mesh_toml::refusal::DUPLICATE;
 use mesh_toml::{ConfigFault, refused};
 use std::alloc::{AllocError, Global};
@@ -26,7 +26,7 @@ pub fn refuse_duplicates(alloc: Global, distinct: bool, key: &str) -> Result<(),
     }
 }
 
-fn interfaces_distinct(routers: &[RouterDraft]) -> bool
+fn interfaces_distinct(routers: &[StatedRouter]) -> bool
     ensures { result ≡ list_all (λ r. are_distinct same_interface r.interfaces) routers.now }
 {
     for router in routers {
@@ -37,7 +37,7 @@ fn interfaces_distinct(routers: &[RouterDraft]) -> bool
     true
 }
 
-fn nets_distinct(routers: &[RouterDraft]) -> bool
+fn nets_distinct(routers: &[StatedRouter]) -> bool
     ensures { result ≡ list_all (λ r. are_distinct same_attached r.attached) routers.now }
 {
     for router in routers {
@@ -57,7 +57,7 @@ fn put_addrs(out: &mut Seq<Addr4>, addrs: &[Addr4]) -> Result<(), AllocError>
     Ok(())
 }
 
-fn put_router_addrs(out: &mut Seq<Addr4>, router: &RouterDraft) -> Result<(), AllocError>
+fn put_router_addrs(out: &mut Seq<Addr4>, router: &StatedRouter) -> Result<(), AllocError>
     ensures { OnOk result (out.new ≡ out.old ++ router_addrs router.now) }
 {
     for interface in router.interfaces.as_slice() {
@@ -67,7 +67,7 @@ fn put_router_addrs(out: &mut Seq<Addr4>, router: &RouterDraft) -> Result<(), Al
 }
 
 // The addresses of all routers.
-fn all_addrs(alloc: Global, routers: &[RouterDraft]) -> Result<Seq<Addr4>, AllocError>
+fn all_addrs(alloc: Global, routers: &[StatedRouter]) -> Result<Seq<Addr4>, AllocError>
     ensures { IfOk result (λ addrs. addrs ≡ all_addrs routers.now) }
 {
     let mut addrs = Seq::new(alloc);
@@ -94,7 +94,7 @@ fn is_host_among(attached: &Attached4, addrs: &[Addr4]) -> bool
     false
 }
 
-fn attaches_none(addrs: &[Addr4], router: &RouterDraft) -> bool
+fn attaches_none(addrs: &[Addr4], router: &StatedRouter) -> bool
     ensures { result ≡ attaches_no_host addrs.now router.now }
 {
     for attached in router.attached.as_slice() {
@@ -105,7 +105,7 @@ fn attaches_none(addrs: &[Addr4], router: &RouterDraft) -> bool
     true
 }
 
-fn none_attached(addrs: &[Addr4], routers: &[RouterDraft]) -> bool
+fn none_attached(addrs: &[Addr4], routers: &[StatedRouter]) -> bool
     ensures { result ≡ list_all (attaches_no_host addrs.now) routers.now }
 {
     for router in routers {
@@ -117,8 +117,8 @@ fn none_attached(addrs: &[Addr4], routers: &[RouterDraft]) -> bool
 }
 
 // Nothing stands twice among the routers.
-fn distinct_drafts(alloc: Global, routers: &[RouterDraft]) -> Result<(), ConfigFault>
-    ensures { Answers SaysNothing (first (draft_duplicates routers.now)) result }
+fn distinct_stated(alloc: Global, routers: &[StatedRouter]) -> Result<(), ConfigFault>
+    ensures { Answers SaysNothing (first (stated_duplicates routers.now)) result }
 {
     refuse_duplicates(alloc, are_distinct(routers), "name")?;
     refuse_duplicates(alloc, interfaces_distinct(routers), "name")?;
@@ -130,8 +130,8 @@ fn distinct_drafts(alloc: Global, routers: &[RouterDraft]) -> Result<(), ConfigF
 
 /// Refuses with DUPLICATE what stands twice among the routers: a router's name, an interface's within its router, an address, a
 /// network within its router, or a network that is a router's address; the first in this order.
-pub fn no_duplicates(alloc: Global, routers: &[RouterDraft]) -> Result<(), ConfigFault>
-    ensures { Answers SaysNothing (first (duplicates (map draft_identifiers routers.now))) result }
+pub fn no_duplicates(alloc: Global, routers: &[StatedRouter]) -> Result<(), ConfigFault>
+    ensures { Answers SaysNothing (first (duplicates (map stated_identifiers routers.now))) result }
 {
-    distinct_drafts(alloc, routers)
+    distinct_stated(alloc, routers)
 }

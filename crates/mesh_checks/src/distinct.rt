@@ -4,7 +4,7 @@ ghost use Rattle.std.specs.List.{list_any};
 ghost use Rattle.mesh_atoms.specs.Settings.{are_distinct, name_eq};
 
 use mesh_atoms::{Addr4, Attached4, Bytes, SenderMetric};
-use mesh_drafts::{InterfaceDraft, RouterDraft};
+use mesh_stated::{StatedInterface, StatedRouter};
 
 /// A value that may be the same as another one by some part of it.
 pub trait Compared {
@@ -45,22 +45,22 @@ fn is_same_name(a: &Bytes, b: &Bytes) -> bool
     a.as_slice() == b.as_slice()
 }
 
-impl Compared for RouterDraft {
+impl Compared for StatedRouter {
     ghost use Rattle.mesh_checks.specs.Compared.{same_router};
 
     ghost same = { same_router };
 
-    fn is_same(&self, other: &RouterDraft) -> bool {
+    fn is_same(&self, other: &StatedRouter) -> bool {
         is_same_name(&self.head.name, &other.head.name)
     }
 }
 
-impl Compared for InterfaceDraft {
+impl Compared for StatedInterface {
     ghost use Rattle.mesh_checks.specs.Compared.{same_interface};
 
     ghost same = { same_interface };
 
-    fn is_same(&self, other: &InterfaceDraft) -> bool {
+    fn is_same(&self, other: &StatedInterface) -> bool {
         is_same_name(&self.name, &other.name)
     }
 }

@@ -4,17 +4,17 @@ ghost use Rattle.std.specs.List.{list_any};
 ghost use Rattle.mesh_atoms.specs.Settings.{name_eq, ends_eq};
 ghost use Rattle.mesh_toml.specs.Faults.{Gives};
 ghost use Rattle.mesh_checks.specs.Checks.{find_place, known_place, ends, new_ends, joined, joins};
-ghost use Rattle.mesh_checks.specs.Compared.{draft_identifiers, arc_places, ends_of, draft_place};
-ghost use Rattle.mesh_drafts.specs.Scenario.{arc_draft_fields};
+ghost use Rattle.mesh_checks.specs.Compared.{stated_identifiers, arc_places, ends_of, stated_place};
+ghost use Rattle.mesh_stated.specs.Scenario.{stated_arc_fields};
 ghost use Rattle.mesh_checks.specs.Compared.{arc_fields};
 
 use mesh_atoms::{RadioArc, Seq};
-use mesh_drafts::{ArcDraft, InterfaceDraft, Place, RouterDraft};
+use mesh_stated::{Place, StatedArc, StatedInterface, StatedRouter};
 use mesh_toml::refusal::{BAD_VALUE, DUPLICATE, UNKNOWN_NAME};
 use mesh_toml::{ConfigFault, refused};
 use std::alloc::Global;
 
-fn router_named(routers: &[RouterDraft], name: &[u8]) -> Option<usize>
+fn router_named(routers: &[StatedRouter], name: &[u8]) -> Option<usize>
     ensures { result ≡ position (λ r. name_eq name.now r.head.name) routers.now }
 {
     routers
@@ -22,7 +22,7 @@ fn router_named(routers: &[RouterDraft], name: &[u8]) -> Option<usize>
         .position(|router| name == router.head.name.as_slice())
 }
 
-fn iface_named(interfaces: &[InterfaceDraft], name: &[u8]) -> Option<usize>
+fn iface_named(interfaces: &[StatedInterface], name: &[u8]) -> Option<usize>
     ensures { result ≡ position (λ i. name_eq name.now i.name) interfaces.now }
 {
     interfaces
@@ -30,8 +30,8 @@ fn iface_named(interfaces: &[InterfaceDraft], name: &[u8]) -> Option<usize>
         .position(|iface| name == iface.name.as_slice())
 }
 
-fn draft_place(routers: &[RouterDraft], place: &Place) -> Option<(usize, usize)>
-    ensures { result ≡ draft_place routers.now (place.now.router, place.now.iface) }
+fn stated_place(routers: &[StatedRouter], place: &Place) -> Option<(usize, usize)>
+    ensures { result ≡ stated_place routers.now (place.now.router, place.now.iface) }
 {
     let at = router_named(routers, place.router.as_slice())?;
     let router = routers.get(at)?;
@@ -40,19 +40,19 @@ fn draft_place(routers: &[RouterDraft], place: &Place) -> Option<(usize, usize)>
 }
 
 // The numbers of a router and of one of its interfaces.
-fn find_place(routers: &[RouterDraft], place: &Place) -> Option<(usize, usize)>
-    ensures { result ≡ find_place (map draft_identifiers routers.now) (place.now.router, place.now.iface) }
+fn find_place(routers: &[StatedRouter], place: &Place) -> Option<(usize, usize)>
+    ensures { result ≡ find_place (map stated_identifiers routers.now) (place.now.router, place.now.iface) }
 {
-    draft_place(routers, place)
+    stated_place(routers, place)
 }
 
 fn known_place(
     alloc: Global,
-    routers: &[RouterDraft],
+    routers: &[StatedRouter],
     place: &Place,
     key: &str,
 ) -> Result<(usize, usize), ConfigFault>
-    ensures { Gives (λ p. p) result (known_place key.now (find_place (map draft_identifiers routers.now) (place.now.router, place.now.iface))) }
+    ensures { Gives (λ p. p) result (known_place key.now (find_place (map stated_identifiers routers.now) (place.now.router, place.now.iface))) }
 {
     match find_place(routers, place) {
         Some(found) => Ok(found),
@@ -77,12 +77,12 @@ fn is_joined(arcs: &[RadioArc], from: (usize, usize), to: (usize, usize)) -> boo
 
 fn joined(
     alloc: Global,
-    routers: &[RouterDraft],
+    routers: &[StatedRouter],
     earlier: &[RadioArc],
-    arc: &ArcDraft,
+    arc: &StatedArc,
 ) -> Result<RadioArc, ConfigFault>
-    ensures read { Gives ends_of result (joined (map draft_identifiers routers.now) (map ends_of earlier.now) (arc_places arc.now)) }
-    ensures says { IfOk result (λ a. arc_fields a ≡ arc_draft_fields arc.now) }
+    ensures read { Gives ends_of result (joined (map stated_identifiers routers.now) (map ends_of earlier.now) (arc_places arc.now)) }
+    ensures says { IfOk result (λ a. arc_fields a ≡ stated_arc_fields arc.now) }
 {
     let from = known_place(alloc, routers, &arc.from, "from")?;
     let to = known_place(alloc, routers, &arc.to, "to")?;
@@ -108,11 +108,11 @@ fn joined(
 /// earlier arc joins the same interfaces.
 pub fn all_joined(
     alloc: Global,
-    routers: &[RouterDraft],
-    arcs: &[ArcDraft],
+    routers: &[StatedRouter],
+    arcs: &[StatedArc],
 ) -> Result<Seq<RadioArc>, ConfigFault>
-    ensures read { Gives (map ends_of) result (joins (map draft_identifiers routers.now) [] (map arc_places arcs.now)) }
-    ensures says { IfOk result (λ all. map arc_fields all ≡ map arc_draft_fields arcs.now) }
+    ensures read { Gives (map ends_of) result (joins (map stated_identifiers routers.now) [] (map arc_places arcs.now)) }
+    ensures says { IfOk result (λ all. map arc_fields all ≡ map stated_arc_fields arcs.now) }
     ensures size { IfOk result (λ all. length all ≡ length arcs.now) }
 {
     let mut all = Seq::new(alloc);

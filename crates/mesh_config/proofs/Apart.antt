@@ -12,9 +12,9 @@ use Rattle.mesh_atoms.specs.Base.{addr_eq}
 use Rattle.mesh_atoms.specs.Literals.{◌>>=◌}
 use Rattle.mesh_atoms.specs.Settings.{are_distinct, ends_eq}
 use Rattle.mesh_atoms.proofs.Lookups.{same_addr}
-use Rattle.mesh_drafts.specs.declared.drafts.InterfaceDraft.{InterfaceDraft}
-use Rattle.mesh_drafts.specs.declared.drafts.RouterDraft.{RouterDraft}
-use Rattle.mesh_checks.specs.Compared.{all_addrs, draft_lists, ends_of}
+use Rattle.mesh_stated.specs.declared.stated.StatedInterface.{StatedInterface}
+use Rattle.mesh_stated.specs.declared.stated.StatedRouter.{StatedRouter}
+use Rattle.mesh_checks.specs.Compared.{all_addrs, stated_lists, ends_of}
 use Rattle.mesh_config.specs.Senders.{AreApart, Lists, first_addr, with_metric, sender_by, sender_pair, senders_to}
 use Rattle.mesh_config.proofs.Builds.{distinct_front, distinct_back, map-then}
 
@@ -194,16 +194,16 @@ addrs_apart lists (arc ∷ arcs) router iface apart h =
       alone : (c : Addr4) → leads_to router iface arc ≡ true → first_addr lists arc.from arc.from_iface ≡ Some c → list_any (addr_eq c) (addrs_to lists arcs router iface) ≡ false
       alone c leads is = none_again lists arc arcs router iface c apart leads is none
 
--- ---- of the drafts
-faces_same : (faces : List InterfaceDraft) → of_faces (map (λ i. i.addrs) faces) ≡ flat_map (λ i. i.addrs) faces
-faces_same faces = flat_map-map whole (λ (i : InterfaceDraft). i.addrs) faces
+-- ---- of stated routers
+faces_same : (faces : List StatedInterface) → of_faces (map (λ i. i.addrs) faces) ≡ flat_map (λ i. i.addrs) faces
+faces_same faces = flat_map-map whole (λ (i : StatedInterface). i.addrs) faces
 
-flat_same : (rs : List RouterDraft) → flat_map of_faces (draft_lists rs) ≡ all_addrs rs
+flat_same : (rs : List StatedRouter) → flat_map of_faces (stated_lists rs) ≡ all_addrs rs
 flat_same [] = refl
 flat_same (r ∷ rs) = rw (faces_same r.interfaces, flat_same rs) refl
 
-pub senders_apart : (routers : List RouterDraft) (arcs : List RadioArc) (router iface : ℕ) (senders : List SenderMetric) → AreApart routers arcs → map sender_pair senders ≡ senders_to (draft_lists routers) arcs router iface
+pub senders_apart : (routers : List StatedRouter) (arcs : List RadioArc) (router iface : ℕ) (senders : List SenderMetric) → AreApart routers arcs → map sender_pair senders ≡ senders_to (stated_lists routers) arcs router iface
     → are_distinct addr_eq (map (λ s. s.sender) senders) ≡ true
 senders_apart routers arcs router iface senders apart met =
-    let pairs : map (λ (s : SenderMetric). s.sender) senders ≡ addrs_to (draft_lists routers) arcs router iface = sym (map-then addr_of sender_pair senders) ∙ ap (map addr_of) met in
-    rw pairs (addrs_apart (draft_lists routers) arcs router iface (ap (are_distinct addr_eq) (flat_same routers) ∙ apart.distinct_addrs) apart.distinct_arcs)
+    let pairs : map (λ (s : SenderMetric). s.sender) senders ≡ addrs_to (stated_lists routers) arcs router iface = sym (map-then addr_of sender_pair senders) ∙ ap (map addr_of) met in
+    rw pairs (addrs_apart (stated_lists routers) arcs router iface (ap (are_distinct addr_eq) (flat_same routers) ∙ apart.distinct_addrs) apart.distinct_arcs)

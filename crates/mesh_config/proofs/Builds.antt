@@ -1,4 +1,4 @@
--- Settings out of drafts.
+-- Settings out of what their tables state.
 use Rattle.std.proofs.Common.{◌≡◌, ℕ, ◌+◌, ◌<◌, suc, List, [], ◌∷◌, ◌++◌, map, length, get_or, take, codes, zero, Bool, true, false, not, None, refl, sym, ap, ◌∙◌, subst, arith}
 use Rattle.std.specs.List.{list_all, list_any, flat_map}
 use Rattle.std.proofs.lemmas.List.Folds.{list_all-map, list_any-append, flat_map-map}
@@ -10,13 +10,13 @@ use Rattle.mesh_atoms.specs.declared.settings.RadioArc.{RadioArc}
 use Rattle.mesh_atoms.specs.declared.settings.RouterSettings.{RouterSettings}
 use Rattle.mesh_atoms.specs.Base.{addr_eq, net_eq}
 use Rattle.mesh_atoms.specs.Settings.{are_distinct, is_host, name_eq, IsRouter}
-use Rattle.mesh_drafts.specs.declared.drafts.RouterDraft.{RouterDraft}
-use Rattle.mesh_drafts.specs.declared.drafts.InterfaceDraft.{InterfaceDraft}
+use Rattle.mesh_stated.specs.declared.stated.StatedRouter.{StatedRouter}
+use Rattle.mesh_stated.specs.declared.stated.StatedInterface.{StatedInterface}
 use Rattle.mesh_toml.specs.Faults.{first}
 use Rattle.mesh_checks.specs.Checks.{duplicate_unless}
-use Rattle.mesh_checks.specs.Compared.{same_router, same_interface, same_attached, router_addrs, all_addrs, attaches_no_host, draft_duplicates}
+use Rattle.mesh_checks.specs.Compared.{same_router, same_interface, same_attached, router_addrs, all_addrs, attaches_no_host, stated_duplicates}
 use Rattle.mesh_config.specs.Fields.{interface_fields, IsClear}
-use Rattle.mesh_drafts.specs.Router.{InterfaceFields, interface_draft_fields}
+use Rattle.mesh_stated.specs.Router.{InterfaceFields, stated_interface_fields}
 use Rattle.mesh_config.specs.Senders.{Lists, senders_to, sender_pair, HaveSenders, HaveAllSenders}
 use Rattle.mesh_checks.proofs.Links.{are_distinct-map}
 
@@ -94,18 +94,18 @@ all_passed true true false d e h = let bad : ⊥ = cc in absurd bad
 all_passed true false c d e h = let bad : ⊥ = cc in absurd bad
 all_passed false b c d e h = let bad : ⊥ = cc in absurd bad
 
-pub drafts_passed : (rs : List RouterDraft) → first (draft_duplicates rs) ≡ None
+pub stated_passed : (rs : List StatedRouter) → first (stated_duplicates rs) ≡ None
     → Passed (are_distinct same_router rs) (list_all (λ r. are_distinct same_interface r.interfaces) rs) (are_distinct addr_eq (all_addrs rs)) (list_all (λ r. are_distinct same_attached r.attached) rs) (list_all (attaches_no_host (all_addrs rs)) rs)
-drafts_passed rs h =
+stated_passed rs h =
     all_passed (are_distinct same_router rs) (list_all (λ r. are_distinct same_interface r.interfaces) rs) (are_distinct addr_eq (all_addrs rs)) (list_all (λ r. are_distinct same_attached r.attached) rs) (list_all (attaches_no_host (all_addrs rs)) rs) h
 
-pub clear_at : (rs : List RouterDraft) (i : ℕ) (d : RouterDraft) → i < length rs → first (draft_duplicates rs) ≡ None → IsClear (get_or rs i d)
+pub clear_at : (rs : List StatedRouter) (i : ℕ) (d : StatedRouter) → i < length rs → first (stated_duplicates rs) ≡ None → IsClear (get_or rs i d)
 clear_at rs i d within none =
-    let p = drafts_passed rs none in
+    let p = stated_passed rs none in
     record {
-      names = all_at (λ (r : RouterDraft). are_distinct same_interface r.interfaces) rs i d within p.in_second;
+      names = all_at (λ (r : StatedRouter). are_distinct same_interface r.interfaces) rs i d within p.in_second;
       addrs = distinct_part addr_eq router_addrs rs i d within p.in_third;
-      nets = all_at (λ (r : RouterDraft). are_distinct same_attached r.attached) rs i d within p.in_fourth;
+      nets = all_at (λ (r : StatedRouter). are_distinct same_attached r.attached) rs i d within p.in_fourth;
       hosts =
           all_weaker (λ (a : Attached4). not (list_any (is_host a.net) (all_addrs rs))) (λ (a : Attached4). not (list_any (is_host a.net) (router_addrs (get_or rs i d))))
           (λ (a : Attached4). none_part (is_host a.net) router_addrs rs i d within) (get_or rs i d).attached (all_at (attaches_no_host (all_addrs rs)) rs i d within p.in_fifth);
@@ -124,16 +124,16 @@ pub map-then : {A B C : Type 0} (g : B → C) (f : A → B) (xs : List A) → ma
 map-then g f [] = refl
 map-then g f (x ∷ xs) = ap (λ (ys : List _). g (f x) ∷ ys) (map-then g f xs)
 
-pub names_same : (xs : List Interface) (ys : List InterfaceDraft) → map interface_fields xs ≡ map interface_draft_fields ys → map (λ i. i.name) xs ≡ map (λ i. i.name) ys
-names_same xs ys h = sym (map-then (λ (f : InterfaceFields). f.interface_name) interface_fields xs) ∙ (ap (map (λ (f : InterfaceFields). f.interface_name)) h ∙ map-then (λ (f : InterfaceFields). f.interface_name) interface_draft_fields ys)
+pub names_same : (xs : List Interface) (ys : List StatedInterface) → map interface_fields xs ≡ map stated_interface_fields ys → map (λ i. i.name) xs ≡ map (λ i. i.name) ys
+names_same xs ys h = sym (map-then (λ (f : InterfaceFields). f.interface_name) interface_fields xs) ∙ (ap (map (λ (f : InterfaceFields). f.interface_name)) h ∙ map-then (λ (f : InterfaceFields). f.interface_name) stated_interface_fields ys)
 
-pub addrs_same : (xs : List Interface) (ys : List InterfaceDraft) → map interface_fields xs ≡ map interface_draft_fields ys → map (λ i. i.addrs) xs ≡ map (λ i. i.addrs) ys
-addrs_same xs ys h = sym (map-then (λ (f : InterfaceFields). f.addrs) interface_fields xs) ∙ (ap (map (λ (f : InterfaceFields). f.addrs)) h ∙ map-then (λ (f : InterfaceFields). f.addrs) interface_draft_fields ys)
+pub addrs_same : (xs : List Interface) (ys : List StatedInterface) → map interface_fields xs ≡ map stated_interface_fields ys → map (λ i. i.addrs) xs ≡ map (λ i. i.addrs) ys
+addrs_same xs ys h = sym (map-then (λ (f : InterfaceFields). f.addrs) interface_fields xs) ∙ (ap (map (λ (f : InterfaceFields). f.addrs)) h ∙ map-then (λ (f : InterfaceFields). f.addrs) stated_interface_fields ys)
 
-pub flat_same : (xs : List Interface) (ys : List InterfaceDraft) → map interface_fields xs ≡ map interface_draft_fields ys → flat_map (λ i. i.addrs) xs ≡ flat_map (λ i. i.addrs) ys
-flat_same xs ys h = sym (flat_map-map (λ (f : InterfaceFields). f.addrs) interface_fields xs) ∙ (ap (flat_map (λ (f : InterfaceFields). f.addrs)) h ∙ flat_map-map (λ (f : InterfaceFields). f.addrs) interface_draft_fields ys)
+pub flat_same : (xs : List Interface) (ys : List StatedInterface) → map interface_fields xs ≡ map stated_interface_fields ys → flat_map (λ i. i.addrs) xs ≡ flat_map (λ i. i.addrs) ys
+flat_same xs ys h = sym (flat_map-map (λ (f : InterfaceFields). f.addrs) interface_fields xs) ∙ (ap (flat_map (λ (f : InterfaceFields). f.addrs)) h ∙ flat_map-map (λ (f : InterfaceFields). f.addrs) stated_interface_fields ys)
 
-pub sound_router : (d : RouterDraft) (faces : List Interface) (name : List ℕ) (attached : List Attached4) → IsClear d → map interface_fields faces ≡ map interface_draft_fields d.interfaces → name ≡ d.head.name → attached ≡ d.attached
+pub sound_router : (d : StatedRouter) (faces : List Interface) (name : List ℕ) (attached : List Attached4) → IsClear d → map interface_fields faces ≡ map stated_interface_fields d.interfaces → name ≡ d.head.name → attached ≡ d.attached
     → IsRouter name d.head.hello_at d.head.tc_at (map (λ i. i.name) faces) (flat_map (λ i. i.addrs) faces) (map (λ a. a.net) attached)
 sound_router d faces name attached clear same called nets =
     let names = names_same faces d.interfaces same in let addrs = flat_same faces d.interfaces same in
@@ -143,7 +143,7 @@ sound_router d faces name attached clear same called nets =
       tc_range = d.head.tc_range;
       interfaces = rw length-map d.few_interfaces;
       attached = rw length-map d.few_attached;
-      distinct_names = are_distinct-map name_eq (λ (i : InterfaceDraft). i.name) d.interfaces ∙ clear.names;
+      distinct_names = are_distinct-map name_eq (λ (i : StatedInterface). i.name) d.interfaces ∙ clear.names;
       distinct_addrs = clear.addrs;
       distinct_nets = are_distinct-map net_eq (λ (a : Attached4). a.net) d.attached ∙ clear.nets;
       no_hosts = list_all-map (λ net. not (list_any (is_host net) (router_addrs d))) (λ (a : Attached4). a.net) d.attached ∙ clear.hosts;

@@ -1,18 +1,18 @@
--- The whole scenario: from what the tables say of drafts to what they say of settings.
+-- The whole scenario: from what the tables state to what they say of settings.
 use Rattle.std.proofs.Common.{◌≡◌, ℕ, List, [], ◌∷◌, map, refl}
 use Rattle.std.specs.List.{flat_map}
 use Rattle.toml.specs.Data.{Data, Members}
 use Rattle.mesh_atoms.specs.declared.addr.Addr4.{Addr4}
 use Rattle.mesh_atoms.specs.declared.settings.Attached4.{Attached4}
-use Rattle.mesh_drafts.specs.declared.drafts.RouterDraft.{RouterDraft}
-use Rattle.mesh_drafts.specs.declared.drafts.InterfaceDraft.{InterfaceDraft}
-use Rattle.mesh_drafts.specs.declared.drafts.ArcDraft.{ArcDraft}
+use Rattle.mesh_stated.specs.declared.stated.StatedRouter.{StatedRouter}
+use Rattle.mesh_stated.specs.declared.stated.StatedInterface.{StatedInterface}
+use Rattle.mesh_stated.specs.declared.stated.StatedArc.{StatedArc}
 use Rattle.mesh_toml.specs.Faults.{listed}
-use Rattle.mesh_drafts.specs.Tables.{Each, table_of}
-use Rattle.mesh_drafts.specs.Router.{name, addresses, interfaces, attached, net, InterfaceIs, AttachedIs, RouterIs}
-use Rattle.mesh_drafts.specs.Scenario.{ArcIs}
+use Rattle.mesh_stated.specs.Tables.{Each, table_of}
+use Rattle.mesh_stated.specs.Router.{name, addresses, interfaces, attached, net, InterfaceIs, AttachedIs, RouterIs}
+use Rattle.mesh_stated.specs.Scenario.{ArcIs}
 use Rattle.mesh_checks.specs.Checks.{Identifiers, table_identifiers, net_in, tables_in, places_table}
-use Rattle.mesh_checks.specs.Compared.{draft_identifiers, router_addrs, arc_places}
+use Rattle.mesh_checks.specs.Compared.{stated_identifiers, router_addrs, arc_places}
 
 -- what each table says, of all of them
 pub map_said : {X B : Type 0} (Is : Members → X → Type 0) (F : Members → B) (G : X → B) → ((t : Members) (x : X) → Is t x → F t ≡ G x) → (ds : List Data) (xs : List X) → Each Is ds xs
@@ -45,20 +45,20 @@ pub named_of : (a a' : List ℕ) (b b' : List (List ℕ)) (c c' : List Addr4) (d
     → (let x : Identifiers = record { router_name = a; interface_names = b; addrs = c; nets = d } in x) ≡ (let y : Identifiers = record { router_name = a'; interface_names = b'; addrs = c'; nets = d' } in y)
 named_of a a' b b' c c' d d' p q r s = rw (p, q, r, s)
 
--- what must not stand twice of a router's table is that of its draft
-pub named_same : (t : Members) (d : RouterDraft) → RouterIs t d → table_identifiers t ≡ draft_identifiers d
+-- what must not stand twice of a router's table is that of the stated router
+pub named_same : (t : Members) (d : StatedRouter) → RouterIs t d → table_identifiers t ≡ stated_identifiers d
 named_same t d is =
     let called : listed (name t) ≡ d.head.name = rw is.is_head.is_name in
     let ifaces : map (λ i. listed (name i)) (tables_in (interfaces t)) ≡ map (λ i. i.name) d.interfaces =
-    map_said InterfaceIs (λ i. listed (name i)) (λ (i : InterfaceDraft). i.name) (λ i x h. rw h.is_name) (listed (interfaces t)) d.interfaces is.are_interfaces in
+    map_said InterfaceIs (λ i. listed (name i)) (λ (i : StatedInterface). i.name) (λ i x h. rw h.is_name) (listed (interfaces t)) d.interfaces is.are_interfaces in
     let addrs : flat_map (λ i. listed (addresses i)) (tables_in (interfaces t)) ≡ router_addrs d =
-    flat_said InterfaceIs (λ i. listed (addresses i)) (λ (i : InterfaceDraft). i.addrs) (λ i x h. rw h.is_addrs) (listed (interfaces t)) d.interfaces is.are_interfaces in
+    flat_said InterfaceIs (λ i. listed (addresses i)) (λ (i : StatedInterface). i.addrs) (λ i x h. rw h.is_addrs) (listed (interfaces t)) d.interfaces is.are_interfaces in
     let nets : map (λ a. net_in (net a)) (tables_in (attached t)) ≡ map (λ a. (a.net.addr, a.net.prefix)) d.attached =
     map_said AttachedIs (λ a. net_in (net a)) (λ (a : Attached4). (a.net.addr, a.net.prefix)) (λ a x h. rw h.is_net) (listed (attached t)) d.attached is.are_attached in
     named_of (listed (name t)) d.head.name _ (map (λ i. i.name) d.interfaces) _ (router_addrs d) _ (map (λ a. (a.net.addr, a.net.prefix)) d.attached) called ifaces addrs nets
 
-pub all_named_same : (ds : List Data) (rs : List RouterDraft) → Each RouterIs ds rs → map table_identifiers (map table_of ds) ≡ map draft_identifiers rs
-all_named_same ds rs all = map_said RouterIs table_identifiers draft_identifiers named_same ds rs all
+pub all_named_same : (ds : List Data) (rs : List StatedRouter) → Each RouterIs ds rs → map table_identifiers (map table_of ds) ≡ map stated_identifiers rs
+all_named_same ds rs all = map_said RouterIs table_identifiers stated_identifiers named_same ds rs all
 
-pub places_same : (ds : List Data) (arcs : List ArcDraft) → Each ArcIs ds arcs → map places_table (map table_of ds) ≡ map arc_places arcs
-places_same ds arcs all = map_said ArcIs places_table arc_places (λ t x h. rw (h.is_from, h.is_to)) ds arcs all
+pub places_same : (ds : List Data) (arcs : List StatedArc) → Each ArcIs ds arcs → map places_table (map table_of ds) ≡ map arc_places arcs
+places_same ds arcs all = map_said ArcIs places_table arc_places (λ t x h. rw (h.are_ends.is_from, h.are_ends.is_to)) ds arcs all

@@ -1,4 +1,4 @@
--- Drafts and settings, part by part.
+-- Stated routers and settings, part by part.
 use Rattle.std.specs.Prelude.{◌≡◌, List, map, true}
 use Rattle.mesh_atoms.specs.declared.settings.Attached4.{Attached4}
 use Rattle.mesh_atoms.specs.declared.settings.Interface.{Interface}
@@ -6,8 +6,8 @@ use Rattle.mesh_atoms.specs.declared.settings.RouterSettings.{RouterSettings}
 use Rattle.mesh_atoms.specs.declared.settings.Times.{Times}
 use Rattle.mesh_atoms.specs.Base.{addr_eq}
 use Rattle.mesh_atoms.specs.Settings.{are_distinct}
-use Rattle.mesh_drafts.specs.declared.drafts.RouterDraft.{RouterDraft}
-use Rattle.mesh_drafts.specs.Router.{InterfaceFields, interface_draft_fields, RouterFields, head_fields}
+use Rattle.mesh_stated.specs.declared.stated.StatedRouter.{StatedRouter}
+use Rattle.mesh_stated.specs.Router.{InterfaceFields, stated_interface_fields, RouterFields, head_fields}
 use Rattle.mesh_checks.specs.Compared.{same_interface, same_attached, router_addrs, attaches_no_host}
 
 -- what the table of an interface or of a router says, as the settings have it
@@ -24,11 +24,11 @@ pub record RouterParts : Type 0 where
   pub interfaces : List InterfaceFields
   pub attached : List Attached4
 
-abbrev pub draft_parts : Times → RouterDraft → RouterParts
-draft_parts times d = record {
+abbrev pub stated_parts : Times → StatedRouter → RouterParts
+stated_parts times d = record {
   fields = head_fields d.head;
   times = times;
-  interfaces = map interface_draft_fields d.interfaces;
+  interfaces = map stated_interface_fields d.interfaces;
   attached = d.attached;
 }
 
@@ -41,7 +41,7 @@ settings_parts r = record {
 }
 
 -- nothing stands twice within the router
-pub record IsClear (d : RouterDraft) : Type 0 where
+pub record IsClear (d : StatedRouter) : Type 0 where
   pub names : are_distinct same_interface d.interfaces ≡ true
   pub addrs : are_distinct addr_eq (router_addrs d) ≡ true
   pub nets : are_distinct same_attached d.attached ≡ true

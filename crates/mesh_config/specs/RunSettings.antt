@@ -12,19 +12,18 @@ use Rattle.mesh_atoms.specs.declared.settings.RunSetup.{RunSetup}
 use Rattle.mesh_atoms.specs.declared.settings.SenderMetric.{SenderMetric}
 use Rattle.mesh_atoms.specs.Base.{addr_eq}
 use Rattle.mesh_atoms.specs.Settings.{are_distinct}
-use Rattle.mesh_drafts.specs.declared.drafts.RouterDraft.{RouterDraft}
-use Rattle.mesh_drafts.specs.declared.drafts.RunDraft.{RunDraft}
-use Rattle.mesh_drafts.specs.declared.drafts.RunInterfaceDraft.{RunInterfaceDraft}
-use Rattle.mesh_drafts.specs.declared.drafts.RunRouterDraft.{RunRouterDraft}
+use Rattle.mesh_stated.specs.declared.stated.StatedRouter.{StatedRouter}
+use Rattle.mesh_stated.specs.declared.stated.StatedRun.{StatedRun}
+use Rattle.mesh_stated.specs.declared.stated.StatedRunInterface.{StatedRunInterface}
+use Rattle.mesh_stated.specs.declared.stated.StatedRunRouter.{StatedRunRouter}
 use Rattle.mesh_toml.specs.Faults.{Read, Visits, fault, visit, first, listed}
-use Rattle.mesh_drafts.specs.Tables.{Each}
+use Rattle.mesh_stated.specs.Tables.{Each}
 use Rattle.mesh_toml.specs.Document.{document}
-use Rattle.mesh_drafts.specs.Times.{TimesIs}
-use Rattle.mesh_drafts.specs.Router.{InterfaceFields, interface_draft_fields, AreRouterFields, head_fields, name, addresses, interfaces, attached, AttachedIs, IsMetric}
-use Rattle.mesh_drafts.specs.Scenario.{end_moment, sub_times}
+use Rattle.mesh_stated.specs.Times.{TimesIs}
+use Rattle.mesh_stated.specs.Router.{InterfaceFields, stated_interface_fields, AreRouterFields, head_fields, name, addresses, interfaces, attached, AttachedIs}
+use Rattle.mesh_stated.specs.Scenario.{end_moment, sub_times}
 use Rattle.mesh_toml.specs.Values.{table_read}
-use Rattle.mesh_toml.specs.Ports.{port_of}
-use Rattle.mesh_drafts.specs.Run.{address, local, peers, own_metric_asked, neighbours, NeighbourIs, router_table, run_table_visits}
+use Rattle.mesh_stated.specs.Run.{address, PortSays, AreCosts, neighbours, router_table, run_table_visits}
 use Rattle.mesh_checks.specs.Checks.{Identifiers, table_identifiers, tables_in, duplicate_unless, duplicates}
 use Rattle.mesh_checks.specs.Compared.{same_sender}
 use Rattle.mesh_config.specs.Fields.{interface_fields, router_fields}
@@ -33,12 +32,7 @@ use Rattle.mesh_config.specs.Fields.{interface_fields, router_fields}
 pub record RunInterfaceSays (table : Members) (interface : Interface) : Type 0 where
   pub is_name : name table ≡ Ok interface.name
   pub is_addrs : addresses table ≡ Ok interface.addrs
-  pub is_metric : IsMetric (own_metric_asked table) interface.metric
-  pub are_senders : Each NeighbourIs (listed (neighbours table)) interface.senders
-
-pub record PortSays (table : Members) (port : Port) : Type 0 where
-  pub is_local : local table ≡ Ok (port_of port.local)
-  pub are_peers : peers table ≡ Ok (map port_of port.peers)
+  pub are_costs : AreCosts table interface.metric interface.senders
 
 pub record RunRouterSays (times table : Members) (router : RouterSettings) : Type 0 where
   pub are_fields : AreRouterFields table (router_fields router)
@@ -80,43 +74,43 @@ run_refusals text = visit (document text) ∷ first (setup_visits (table_read (d
 abbrev pub FirstRunRefusal : List ℕ → ℕ → List ℕ → Type 0
 FirstRunRefusal text number key = first (run_refusals text) ≡ Some (fault number key)
 
--- ---- drafts, field by field
-abbrev pub outline_fields : RunInterfaceDraft → InterfaceFields
+-- ---- what the tables state, field by field
+abbrev pub outline_fields : StatedRunInterface → InterfaceFields
 outline_fields i = record { interface_name = i.name; addrs = i.addrs }
 
 abbrev pub RunInterfaceFields : Type 0
 RunInterfaceFields = InterfaceFields × (Metric × List SenderMetric)
 
-abbrev pub run_interface_draft_fields : RunInterfaceDraft → RunInterfaceFields
-run_interface_draft_fields i = (outline_fields i, (i.metric, i.senders))
+abbrev pub stated_run_interface_fields : StatedRunInterface → RunInterfaceFields
+stated_run_interface_fields i = (outline_fields i, (i.metric, i.senders))
 
 abbrev pub run_interface_fields : Interface → RunInterfaceFields
 run_interface_fields i = (interface_fields i, (i.metric, i.senders))
 
-abbrev pub port_draft : RunInterfaceDraft → Endpoint × List Endpoint
-port_draft i = (i.local, i.peers)
+abbrev pub stated_port : StatedRunInterface → Endpoint × List Endpoint
+stated_port i = (i.local, i.peers)
 
 abbrev pub port_pair : Port → Endpoint × List Endpoint
 port_pair p = (p.local, p.peers)
 
 -- the router without what only `run` has
-pub record OutlineOf (draft : RunRouterDraft) (router : RouterDraft) : Type 0 where
-  pub same_fields : head_fields router.head ≡ head_fields draft.head
-  pub same_interfaces : map interface_draft_fields router.interfaces ≡ map outline_fields draft.interfaces
-  pub same_attached : router.attached ≡ draft.attached
+pub record OutlineOf (stated : StatedRunRouter) (router : StatedRouter) : Type 0 where
+  pub same_fields : head_fields router.head ≡ head_fields stated.head
+  pub same_interfaces : map stated_interface_fields router.interfaces ≡ map outline_fields stated.interfaces
+  pub same_attached : router.attached ≡ stated.attached
 
-abbrev pub senders_checked : RunRouterDraft → Bool
-senders_checked draft = list_all (λ i. are_distinct same_sender i.senders) draft.interfaces
+abbrev pub senders_checked : StatedRunRouter → Bool
+senders_checked stated = list_all (λ i. are_distinct same_sender i.senders) stated.interfaces
 
-pub record SetupFrom (d : RunDraft) (s : RunSetup) : Type 0 where
+pub record SetupFrom (d : StatedRun) (s : RunSetup) : Type 0 where
   pub same_end : s.end ≡ d.end
   pub same_fields : router_fields s.router ≡ head_fields d.router.head
   pub same_times : s.router.times ≡ d.times
-  pub same_interfaces : map run_interface_fields s.router.interfaces ≡ map run_interface_draft_fields d.router.interfaces
+  pub same_interfaces : map run_interface_fields s.router.interfaces ≡ map stated_run_interface_fields d.router.interfaces
   pub same_attached : s.router.attached ≡ d.router.attached
-  pub same_ports : map port_pair s.ports ≡ map port_draft d.router.interfaces
+  pub same_ports : map port_pair s.ports ≡ map stated_port d.router.interfaces
 
-abbrev pub run_identifiers : RunRouterDraft → Identifiers
+abbrev pub run_identifiers : StatedRunRouter → Identifiers
 run_identifiers router = record {
   router_name = router.head.name;
   interface_names = map (λ i. i.name) router.interfaces;
@@ -124,5 +118,5 @@ run_identifiers router = record {
   nets = map (λ a. (a.net.addr, a.net.prefix)) router.attached;
 }
 
-abbrev pub run_draft_checks : RunRouterDraft → Visits
-run_draft_checks router = first (duplicates (run_identifiers router ∷ [])) ∷ duplicate_unless (senders_checked router) (codes "address") ∷ []
+abbrev pub stated_run_checks : StatedRunRouter → Visits
+stated_run_checks router = first (duplicates (run_identifiers router ∷ [])) ∷ duplicate_unless (senders_checked router) (codes "address") ∷ []

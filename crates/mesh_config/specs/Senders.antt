@@ -10,7 +10,7 @@ use Rattle.mesh_atoms.specs.declared.settings.SenderMetric.{SenderMetric}
 use Rattle.mesh_atoms.specs.Base.{addr_eq}
 use Rattle.mesh_atoms.specs.Literals.{◌>>=◌}
 use Rattle.mesh_atoms.specs.Settings.{are_distinct, ends_eq}
-use Rattle.mesh_drafts.specs.declared.drafts.RouterDraft.{RouterDraft}
+use Rattle.mesh_stated.specs.declared.stated.StatedRouter.{StatedRouter}
 use Rattle.mesh_checks.specs.Compared.{all_addrs, ends_of}
 
 -- the addresses of each interface of each router
@@ -52,6 +52,6 @@ HaveAllSenders lists arcs router [] = Unit {0}
 HaveAllSenders lists arcs router (r ∷ rs) = HaveSenders lists arcs router 0 r.interfaces × HaveAllSenders lists arcs (router + 1) rs
 
 -- no address stands twice among the routers, and no two arcs join the same interfaces
-pub record AreApart (routers : List RouterDraft) (arcs : List RadioArc) : Type 0 where
+pub record AreApart (routers : List StatedRouter) (arcs : List RadioArc) : Type 0 where
   pub distinct_addrs : are_distinct addr_eq (all_addrs routers) ≡ true
   pub distinct_arcs : are_distinct ends_eq (map ends_of arcs) ≡ true

@@ -6,11 +6,11 @@ use Rattle.mesh_atoms.specs.declared.settings.RadioArc.{RadioArc}
 use Rattle.mesh_atoms.specs.declared.settings.RouterSettings.{RouterSettings}
 use Rattle.mesh_atoms.specs.declared.settings.Scenario.{Scenario}
 use Rattle.mesh_toml.specs.Faults.{Visits, fault, visit, first, listed}
-use Rattle.mesh_drafts.specs.Tables.{Each}
+use Rattle.mesh_stated.specs.Tables.{Each}
 use Rattle.mesh_toml.specs.Document.{document}
-use Rattle.mesh_drafts.specs.Times.{TimesIs}
-use Rattle.mesh_drafts.specs.Router.{AreInterfaceFields, AreRouterFields, interfaces, attached, AttachedIs}
-use Rattle.mesh_drafts.specs.Scenario.{end_moment, seed, loss_until, sub_times, routers, arcs, AreArcFields}
+use Rattle.mesh_stated.specs.Times.{TimesIs}
+use Rattle.mesh_stated.specs.Router.{AreInterfaceFields, AreRouterFields, interfaces, attached, AttachedIs}
+use Rattle.mesh_stated.specs.Scenario.{end_moment, seed, loss_until, sub_times, routers, arcs, AreArcFields}
 use Rattle.mesh_toml.specs.Values.{table_read}
 use Rattle.mesh_checks.specs.Checks.{arc_ends, scenario_visits}
 use Rattle.mesh_checks.specs.Compared.{ends_of}

@@ -3,29 +3,29 @@ ghost use Rattle.std.specs.Prelude.{◌≡◌, None, IfOk, IfErr};
 ghost use Rattle.toml.specs.View.{table_view};
 ghost use Rattle.mesh_toml.specs.Faults.{Answers, first, IfRefused};
 ghost use Rattle.mesh_checks.specs.Checks.{scenario_visits};
-ghost use Rattle.mesh_config.specs.Built.{draft_visits, BuiltFrom};
+ghost use Rattle.mesh_config.specs.Built.{stated_visits, BuiltFrom};
 ghost use Rattle.mesh_config.specs.Settings.{ScenarioSays, SettingsIs, refusals, FirstRefusal};
 
 use crate::build::make_routers;
 use mesh_atoms::Scenario;
 use mesh_checks::{all_joined, no_duplicates};
-use mesh_drafts::{ScenarioDraft, scenario_draft};
+use mesh_stated::{StatedScenario, stated_scenario};
 use mesh_toml::{ConfigFault, document};
 use std::alloc::Global;
 use toml::Table;
 
 // The checks after the walk, and the scenario where they hold.
-fn checked(alloc: Global, draft: &ScenarioDraft) -> Result<Scenario, ConfigFault>
-    ensures { Answers (BuiltFrom draft.now) (first (draft_visits draft.now)) result }
+fn checked(alloc: Global, stated: &StatedScenario) -> Result<Scenario, ConfigFault>
+    ensures { Answers (BuiltFrom stated.now) (first (stated_visits stated.now)) result }
 {
-    let drafts = draft.routers.as_slice();
-    no_duplicates(alloc, drafts)?;
-    let arcs = all_joined(alloc, drafts, draft.arcs.as_slice())?;
-    let routers = make_routers(alloc, drafts, arcs.as_slice(), draft.times)?;
+    let all = stated.routers.as_slice();
+    no_duplicates(alloc, all)?;
+    let arcs = all_joined(alloc, all, stated.arcs.as_slice())?;
+    let routers = make_routers(alloc, all, arcs.as_slice(), stated.times)?;
     Ok(Scenario {
-        end: draft.end,
-        seed: draft.seed,
-        loss_until: draft.loss_until,
+        end: stated.end,
+        seed: stated.seed,
+        loss_until: stated.loss_until,
         routers,
         arcs,
     })
@@ -34,8 +34,8 @@ fn checked(alloc: Global, draft: &ScenarioDraft) -> Result<Scenario, ConfigFault
 fn scenario_in(alloc: Global, table: &Table) -> Result<Scenario, ConfigFault>
     ensures { Answers (ScenarioSays (table_view table.now)) (first (scenario_visits (table_view table.now))) result }
 {
-    let draft = scenario_draft(alloc, table)?;
-    checked(alloc, &draft)
+    let stated = stated_scenario(alloc, table)?;
+    checked(alloc, &stated)
 }
 
 fn scenario_read(alloc: Global, text: &[u8]) -> Result<Scenario, ConfigFault>

@@ -4,37 +4,37 @@ ghost use Rattle.toml.specs.View.{table_view};
 ghost use Rattle.mesh_toml.specs.Faults.{Answers, first, IfRefused};
 ghost use Rattle.mesh_checks.specs.Checks.{duplicates};
 ghost use Rattle.mesh_config.specs.Fields.{interface_fields, router_fields, IsClear};
-ghost use Rattle.mesh_drafts.specs.Router.{interface_draft_fields, head_fields};
-ghost use Rattle.mesh_config.specs.RunSettings.{OutlineOf, run_identifiers, run_draft_checks, SetupFrom, SetupSays, setup_visits, SetupIs, run_refusals, FirstRunRefusal};
+ghost use Rattle.mesh_stated.specs.Router.{stated_interface_fields, head_fields};
+ghost use Rattle.mesh_config.specs.RunSettings.{OutlineOf, run_identifiers, stated_run_checks, SetupFrom, SetupSays, setup_visits, SetupIs, run_refusals, FirstRunRefusal};
 
 use crate::setup::{outline, run_interfaces, run_ports, senders_distinct};
 use mesh_atoms::{Interface, RouterSettings, RunSetup, Seq, Times};
 use mesh_checks::{no_duplicates, refuse_duplicates};
-use mesh_drafts::{RouterDraft, RunDraft, RunRouterDraft, run_draft};
+use mesh_stated::{StatedRouter, StatedRun, StatedRunRouter, stated_run};
 use mesh_toml::{ConfigFault, document};
 use std::alloc::{AllocError, Global};
 use toml::Table;
 
 // Nothing stands twice; what the router is without what only `run` has.
-fn clear_outline(alloc: Global, draft: &RunRouterDraft) -> Result<RouterDraft, ConfigFault>
-    ensures answer { Answers (OutlineOf draft.now) (first (duplicates (run_identifiers draft.now ∷ []))) result }
+fn clear_outline(alloc: Global, stated: &StatedRunRouter) -> Result<StatedRouter, ConfigFault>
+    ensures answer { Answers (OutlineOf stated.now) (first (duplicates (run_identifiers stated.now ∷ []))) result }
     ensures clear { IfOk result IsClear }
 {
     let mut one = Seq::new(alloc);
-    one.push(outline(alloc, draft)?)?;
+    one.push(outline(alloc, stated)?)?;
     match no_duplicates(alloc, one.as_slice()) {
-        Ok(()) => Ok(outline(alloc, draft)?),
+        Ok(()) => Ok(outline(alloc, stated)?),
         Err(e) => Err(e),
     }
 }
 
 fn router_from(
-    outline: &RouterDraft,
+    outline: &StatedRouter,
     times: Times,
     interfaces: Seq<Interface>,
 ) -> Result<RouterSettings, AllocError>
     requires clear { IsClear outline.now }
-    requires interfaces { map interface_fields interfaces ≡ map interface_draft_fields outline.now.interfaces }
+    requires interfaces { map interface_fields interfaces ≡ map stated_interface_fields outline.now.interfaces }
     ensures fields { IfOk result (λ r. router_fields r ≡ head_fields outline.now.head) }
     ensures times { IfOk result (λ r. r.times ≡ times) }
     ensures interfaces { IfOk result (λ r. r.interfaces ≡ interfaces) }
@@ -54,17 +54,17 @@ fn router_from(
 }
 
 // The checks after the walk, and the setup where they hold.
-fn checked_run(alloc: Global, draft: &RunDraft) -> Result<RunSetup, ConfigFault>
-    ensures { Answers (SetupFrom draft.now) (first (run_draft_checks draft.now.router)) result }
+fn checked_run(alloc: Global, stated: &StatedRun) -> Result<RunSetup, ConfigFault>
+    ensures { Answers (SetupFrom stated.now) (first (stated_run_checks stated.now.router)) result }
 {
-    let outline = clear_outline(alloc, &draft.router)?;
-    let drafts = draft.router.interfaces.as_slice();
-    refuse_duplicates(alloc, senders_distinct(drafts), "address")?;
-    let interfaces = run_interfaces(alloc, drafts)?;
-    let ports = run_ports(alloc, drafts)?;
-    let router = router_from(&outline, draft.times, interfaces)?;
+    let outline = clear_outline(alloc, &stated.router)?;
+    let all = stated.router.interfaces.as_slice();
+    refuse_duplicates(alloc, senders_distinct(all), "address")?;
+    let interfaces = run_interfaces(alloc, all)?;
+    let ports = run_ports(alloc, all)?;
+    let router = router_from(&outline, stated.times, interfaces)?;
     Ok(RunSetup {
-        end: draft.end,
+        end: stated.end,
         router,
         ports,
     })
@@ -73,8 +73,8 @@ fn checked_run(alloc: Global, draft: &RunDraft) -> Result<RunSetup, ConfigFault>
 fn setup_in(alloc: Global, table: &Table) -> Result<RunSetup, ConfigFault>
     ensures { Answers (SetupSays (table_view table.now)) (first (setup_visits (table_view table.now))) result }
 {
-    let draft = run_draft(alloc, table)?;
-    checked_run(alloc, &draft)
+    let stated = stated_run(alloc, table)?;
+    checked_run(alloc, &stated)
 }
 
 fn setup_read(alloc: Global, text: &[u8]) -> Result<RunSetup, ConfigFault>

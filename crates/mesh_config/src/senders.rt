@@ -1,14 +1,14 @@
 //! The senders of the interfaces of a scenario.
 ghost use Rattle.std.specs.Prelude.{◌≡◌, ◌≤◌, ◌<◌, length, map, IfOk, IfSome};
 ghost use Rattle.std.specs.List.{slice_get};
-ghost use Rattle.mesh_checks.specs.Compared.{draft_lists};
+ghost use Rattle.mesh_checks.specs.Compared.{stated_lists};
 ghost use Rattle.mesh_config.specs.Senders.{first_addr, senders_to, sender_pair};
 
 use mesh_atoms::{Addr4, RadioArc, SenderMetric, Seq};
-use mesh_drafts::{InterfaceDraft, RouterDraft};
+use mesh_stated::{StatedInterface, StatedRouter};
 use std::alloc::{AllocError, Global};
 
-fn first_of(interface: &InterfaceDraft) -> Option<Addr4>
+fn first_of(interface: &StatedInterface) -> Option<Addr4>
     ensures exact { result ≡ slice_get interface.now.addrs 0 }
     ensures addressed { IfSome result (λ addr. 0 < addr.0) }
 {
@@ -16,8 +16,8 @@ fn first_of(interface: &InterfaceDraft) -> Option<Addr4>
 }
 
 // The first address of an interface.
-fn first_addr(routers: &[RouterDraft], router: usize, iface: usize) -> Option<Addr4>
-    ensures exact { result ≡ first_addr (draft_lists routers.now) router iface }
+fn first_addr(routers: &[StatedRouter], router: usize, iface: usize) -> Option<Addr4>
+    ensures exact { result ≡ first_addr (stated_lists routers.now) router iface }
     ensures addressed { IfSome result (λ addr. 0 < addr.0) }
 {
     let router = routers.get(router)?;
@@ -28,12 +28,12 @@ fn first_addr(routers: &[RouterDraft], router: usize, iface: usize) -> Option<Ad
 // The senders of an interface.
 pub fn senders_to(
     alloc: Global,
-    routers: &[RouterDraft],
+    routers: &[StatedRouter],
     arcs: &[RadioArc],
     router: usize,
     iface: usize,
 ) -> Result<Seq<SenderMetric>, AllocError>
-    ensures exact { IfOk result (λ senders. map sender_pair senders ≡ senders_to (draft_lists routers.now) arcs.now router iface) }
+    ensures exact { IfOk result (λ senders. map sender_pair senders ≡ senders_to (stated_lists routers.now) arcs.now router iface) }
     ensures few { IfOk result (λ senders. length senders ≤ length arcs.now) }
 {
     let mut senders = Seq::new(alloc);

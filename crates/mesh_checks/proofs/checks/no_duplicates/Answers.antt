@@ -6,5 +6,5 @@ use Rattle.mesh_checks.proofs.checks.no_duplicates.Goals as goal
 
 pub returns : goal.returns
 returns c =
-    let says : Option Fault → Type 0 = λ found. Answers SaysNothing found c.distinct_drafts.result in
-    subst says (ap first (sym (duplicates_same c.args.routers.now))) c.distinct_drafts.ensures
+    let says : Option Fault → Type 0 = λ found. Answers SaysNothing found c.distinct_stated.result in
+    subst says (ap first (sym (duplicates_same c.args.routers.now))) c.distinct_stated.ensures

@@ -1,9 +1,9 @@
 use Rattle.std.proofs.Common.{◌≡◌, ◌+◌, length, arith}
-use Rattle.mesh_checks.specs.Compared.{draft_lists}
+use Rattle.mesh_checks.specs.Compared.{stated_lists}
 use Rattle.mesh_config.specs.Fields.{interface_fields}
-use Rattle.mesh_drafts.specs.Router.{interface_draft_fields}
+use Rattle.mesh_stated.specs.Router.{stated_interface_fields}
 use Rattle.mesh_config.proofs.Builds.{senders_more, maps_more}
-use Rattle.mesh_drafts.proofs.Elements.{one_longer}
+use Rattle.mesh_stated.proofs.Elements.{one_longer}
 use Rattle.mesh_config.proofs.build.make_interfaces.Goals as goal
 
 pub loop-iface-preserved : goal.loop-iface-preserved
@@ -11,7 +11,7 @@ loop-iface-preserved c =
     let all = c.loop-iface.all in let i = c.loop-iface.iface in let x = c.in_ok-make_interface.field-0 in let made = c.in_ok-make_interface.ensures in
     let size : 0 + length all ≡ i = omega (arith, c.loop-iface.invariant.size) in
     rw c.in_ok-push.ensures.ok (record {
-      interfaces = maps_more interface_fields interface_draft_fields all c.args.drafts.now i x c.index-drafts-iface.result c.index-drafts-iface.is c.loop-iface-test.true c.loop-iface.invariant.interfaces made.fields;
-      senders = senders_more (draft_lists c.args.routers.now) c.args.arcs.now c.args.router 0 i all x c.loop-iface.invariant.senders size made.senders made.own;
+      interfaces = maps_more interface_fields stated_interface_fields all c.args.interfaces.now i x c.index-interfaces-iface.result c.index-interfaces-iface.is c.loop-iface-test.true c.loop-iface.invariant.interfaces made.fields;
+      senders = senders_more (stated_lists c.args.routers.now) c.args.arcs.now c.args.router 0 i all x c.loop-iface.invariant.senders size made.senders made.own;
       size = one_longer all x i c.loop-iface.invariant.size;
     })

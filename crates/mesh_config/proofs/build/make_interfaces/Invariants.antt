@@ -1,13 +1,13 @@
 use Rattle.std.proofs.Common.{◌≡◌, take, map, length}
-use Rattle.mesh_checks.specs.Compared.{draft_lists}
+use Rattle.mesh_checks.specs.Compared.{stated_lists}
 use Rattle.mesh_config.specs.Fields.{interface_fields}
-use Rattle.mesh_drafts.specs.Router.{interface_draft_fields}
+use Rattle.mesh_stated.specs.Router.{stated_interface_fields}
 use Rattle.mesh_config.specs.Senders.{HaveSenders}
 use Rattle.mesh_config.proofs.build.make_interfaces.Given as goal
 
 abbrev pub invariant-loop-iface : goal.invariant-loop-iface
 invariant-loop-iface l = record {
-  interfaces : map interface_fields l.all ≡ map interface_draft_fields (take l.iface l.drafts);
-  senders : HaveSenders (draft_lists l.routers) l.arcs l.router 0 l.all;
+  interfaces : map interface_fields l.all ≡ map stated_interface_fields (take l.iface l.interfaces);
+  senders : HaveSenders (stated_lists l.routers) l.arcs l.router 0 l.all;
   size : length l.all ≡ l.iface;
 }

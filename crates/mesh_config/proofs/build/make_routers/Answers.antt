@@ -1,8 +1,8 @@
 use Rattle.std.proofs.Common.{◌≡◌, ◌+◌, length, arith, sym, subst}
-use Rattle.mesh_checks.specs.Compared.{draft_lists}
-use Rattle.mesh_config.specs.Fields.{settings_parts, draft_parts, IsClear}
+use Rattle.mesh_checks.specs.Compared.{stated_lists}
+use Rattle.mesh_config.specs.Fields.{settings_parts, stated_parts, IsClear}
 use Rattle.mesh_config.proofs.Builds.{all_senders_more, maps_more, clear_at}
-use Rattle.mesh_drafts.proofs.Elements.{one_longer}
+use Rattle.mesh_stated.proofs.Elements.{one_longer}
 use Rattle.mesh_config.proofs.build.make_routers.Goals as goal
 
 pub make_router-requires-clause-clear : goal.make_router-requires-clause-clear
@@ -14,7 +14,7 @@ loop-at-preserved c =
     let all = c.loop-at.all in let i = c.loop-at.at in let x = c.in_ok-make_router.field-0 in let made = c.in_ok-make_router.ensures in
     let size : 0 + length all ≡ i = omega (arith, c.loop-at.invariant.size) in
     rw c.in_ok-push.ensures.ok (record {
-      fields = maps_more settings_parts (draft_parts c.args.times) all c.args.routers.now i x c.index-routers-at.result c.index-routers-at.is c.loop-at-test.true c.loop-at.invariant.fields made.parts;
-      senders = all_senders_more (draft_lists c.args.routers.now) c.args.arcs.now 0 i all x c.loop-at.invariant.senders size made.senders;
+      fields = maps_more settings_parts (stated_parts c.args.times) all c.args.routers.now i x c.index-routers-at.result c.index-routers-at.is c.loop-at-test.true c.loop-at.invariant.fields made.parts;
+      senders = all_senders_more (stated_lists c.args.routers.now) c.args.arcs.now 0 i all x c.loop-at.invariant.senders size made.senders;
       size = one_longer all x i c.loop-at.invariant.size;
     })

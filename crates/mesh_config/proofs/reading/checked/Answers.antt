@@ -1,49 +1,49 @@
 use Rattle.std.proofs.Common.{◌≡◌, List, [], map, length, true, None, Ok, refl, sym, ap, ◌∙◌, subst}
 use Rattle.mesh_atoms.specs.declared.settings.RadioArc.{RadioArc}
 use Rattle.mesh_atoms.specs.Settings.{are_distinct, ends_eq}
-use Rattle.mesh_drafts.specs.declared.drafts.RouterDraft.{RouterDraft}
-use Rattle.mesh_drafts.specs.declared.drafts.ArcDraft.{ArcDraft}
+use Rattle.mesh_stated.specs.declared.stated.StatedRouter.{StatedRouter}
+use Rattle.mesh_stated.specs.declared.stated.StatedArc.{StatedArc}
 use Rattle.mesh_toml.specs.Faults.{first}
-use Rattle.mesh_config.specs.Built.{draft_visits}
+use Rattle.mesh_config.specs.Built.{stated_visits}
 use Rattle.mesh_checks.specs.Checks.{duplicates, joins}
-use Rattle.mesh_checks.specs.Compared.{draft_duplicates, draft_identifiers, arc_places, ends_of, draft_lists}
-use Rattle.mesh_drafts.specs.Scenario.{arc_draft_fields}
-use Rattle.mesh_config.specs.Fields.{settings_parts, draft_parts}
+use Rattle.mesh_checks.specs.Compared.{stated_duplicates, stated_identifiers, arc_places, ends_of, stated_lists}
+use Rattle.mesh_stated.specs.Scenario.{stated_arc_fields}
+use Rattle.mesh_config.specs.Fields.{settings_parts, stated_parts}
 use Rattle.mesh_config.specs.Senders.{HaveAllSenders, Lists, addr_lists}
 use Rattle.mesh_checks.proofs.Links.{duplicates_same}
-use Rattle.mesh_config.proofs.Builds.{drafts_passed}
+use Rattle.mesh_config.proofs.Builds.{stated_passed}
 use Rattle.mesh_config.proofs.JoinFacts.{joins_distinct}
 use Rattle.mesh_config.proofs.Sounds.{sound_routers, sound_arcs, lists_same}
 use Rattle.mesh_config.proofs.reading.checked.Goals as goal
 
 pub make_routers-requires-clause-clear : goal.make_routers-requires-clause-clear
-make_routers-requires-clause-clear c = ap first (sym (duplicates_same c.as_slice-drafts.result.now)) ∙ c.in_ok-no_duplicates.ensures.0
+make_routers-requires-clause-clear c = ap first (sym (duplicates_same c.as_slice-all.result.now)) ∙ c.in_ok-no_duplicates.ensures.0
 
 pub make_routers-requires-clause-few : goal.make_routers-requires-clause-few
 make_routers-requires-clause-few c =
-    let met : length c.as_slice-2.result.now ≡ length c.args.draft.now.arcs =
-    ap (λ (xs : List RadioArc). length xs) c.as_slice-2.ensures ∙ (c.in_ok-arcs.ensures.size ∙ ap (λ (xs : List ArcDraft). length xs) c.as_slice.ensures) in
-    rw met c.args.draft.now.few_arcs
+    let met : length c.as_slice-2.result.now ≡ length c.args.stated.now.arcs =
+    ap (λ (xs : List RadioArc). length xs) c.as_slice-2.ensures ∙ (c.in_ok-arcs.ensures.size ∙ ap (λ (xs : List StatedArc). length xs) c.as_slice.ensures) in
+    rw met c.args.stated.now.few_arcs
 
 pub make_routers-requires-clause-apart : goal.make_routers-requires-clause-apart
 make_routers-requires-clause-apart c =
-    let drafts = c.as_slice-drafts.result.now in let arcs = c.in_ok-arcs.arcs in
-    let none : first (draft_duplicates drafts) ≡ None = ap first (sym (duplicates_same drafts)) ∙ c.in_ok-no_duplicates.ensures.0 in
-    let apart : are_distinct ends_eq (map ends_of arcs) ≡ true = joins_distinct (map draft_identifiers drafts) (map arc_places c.as_slice.result.now) (map ends_of arcs) c.in_ok-arcs.ensures.read in
+    let all = c.as_slice-all.result.now in let arcs = c.in_ok-arcs.arcs in
+    let none : first (stated_duplicates all) ≡ None = ap first (sym (duplicates_same all)) ∙ c.in_ok-no_duplicates.ensures.0 in
+    let apart : are_distinct ends_eq (map ends_of arcs) ≡ true = joins_distinct (map stated_identifiers all) (map arc_places c.as_slice.result.now) (map ends_of arcs) c.in_ok-arcs.ensures.read in
     record {
-      distinct_addrs = (drafts_passed drafts none).in_third;
+      distinct_addrs = (stated_passed all none).in_third;
       distinct_arcs = rw c.as_slice-2.ensures apart;
     }
 
 pub invariant_of-result : goal.invariant_of-result
 invariant_of-result c =
-    let d = c.args.draft.now in let ss = c.in_ok-routers.routers in let arcs = c.in_ok-arcs.arcs in
-    let same : map settings_parts ss ≡ map (draft_parts d.times) d.routers = c.in_ok-routers.ensures.parts ∙ ap (map (draft_parts d.times)) c.as_slice-drafts.ensures in
-    let clear : first (draft_duplicates d.routers) ≡ None =
-    ap first (sym (duplicates_same d.routers)) ∙ (sym (ap (λ (rs : List RouterDraft). first (duplicates (map draft_identifiers rs))) c.as_slice-drafts.ensures) ∙ c.in_ok-no_duplicates.ensures.0) in
-    let joined : joins (map draft_identifiers d.routers) [] (map arc_places d.arcs) ≡ Ok (map ends_of arcs) =
-    rw (← c.as_slice-drafts.ensures, ← c.as_slice.ensures) c.in_ok-arcs.ensures.read in
-    let few : length arcs ≡ length d.arcs = c.in_ok-arcs.ensures.size ∙ ap (λ (xs : List ArcDraft). length xs) c.as_slice.ensures in
+    let d = c.args.stated.now in let ss = c.in_ok-routers.routers in let arcs = c.in_ok-arcs.arcs in
+    let same : map settings_parts ss ≡ map (stated_parts d.times) d.routers = c.in_ok-routers.ensures.parts ∙ ap (map (stated_parts d.times)) c.as_slice-all.ensures in
+    let clear : first (stated_duplicates d.routers) ≡ None =
+    ap first (sym (duplicates_same d.routers)) ∙ (sym (ap (λ (rs : List StatedRouter). first (duplicates (map stated_identifiers rs))) c.as_slice-all.ensures) ∙ c.in_ok-no_duplicates.ensures.0) in
+    let joined : joins (map stated_identifiers d.routers) [] (map arc_places d.arcs) ≡ Ok (map ends_of arcs) =
+    rw (← c.as_slice-all.ensures, ← c.as_slice.ensures) c.in_ok-arcs.ensures.read in
+    let few : length arcs ≡ length d.arcs = c.in_ok-arcs.ensures.size ∙ ap (λ (xs : List StatedArc). length xs) c.as_slice.ensures in
     record {
       end_in_range = d.end_in_range;
       seed_in_range = d.seed_in_range;
@@ -54,14 +54,14 @@ invariant_of-result c =
 
 pub returns : goal.returns
 returns c =
-    let d = c.args.draft.now in let ss = c.in_ok-routers.routers in let arcs = c.in_ok-arcs.arcs in
-    let same : map settings_parts ss ≡ map (draft_parts d.times) d.routers = c.in_ok-routers.ensures.parts ∙ ap (map (draft_parts d.times)) c.as_slice-drafts.ensures in
-    let dups : first (duplicates (map draft_identifiers d.routers)) ≡ None =
-    sym (ap (λ (rs : List RouterDraft). first (duplicates (map draft_identifiers rs))) c.as_slice-drafts.ensures) ∙ c.in_ok-no_duplicates.ensures.0 in
-    let joined : joins (map draft_identifiers d.routers) [] (map arc_places d.arcs) ≡ Ok (map ends_of arcs) =
-    rw (← c.as_slice-drafts.ensures, ← c.as_slice.ensures) c.in_ok-arcs.ensures.read in
-    let found : first (draft_visits d) ≡ None = rw (dups, joined) in
-    let lists : draft_lists c.as_slice-drafts.result.now ≡ addr_lists ss = ap draft_lists c.as_slice-drafts.ensures ∙ sym (lists_same d.times ss d.routers same) in
+    let d = c.args.stated.now in let ss = c.in_ok-routers.routers in let arcs = c.in_ok-arcs.arcs in
+    let same : map settings_parts ss ≡ map (stated_parts d.times) d.routers = c.in_ok-routers.ensures.parts ∙ ap (map (stated_parts d.times)) c.as_slice-all.ensures in
+    let dups : first (duplicates (map stated_identifiers d.routers)) ≡ None =
+    sym (ap (λ (rs : List StatedRouter). first (duplicates (map stated_identifiers rs))) c.as_slice-all.ensures) ∙ c.in_ok-no_duplicates.ensures.0 in
+    let joined : joins (map stated_identifiers d.routers) [] (map arc_places d.arcs) ≡ Ok (map ends_of arcs) =
+    rw (← c.as_slice-all.ensures, ← c.as_slice.ensures) c.in_ok-arcs.ensures.read in
+    let found : first (stated_visits d) ≡ None = rw (dups, joined) in
+    let lists : stated_lists c.as_slice-all.result.now ≡ addr_lists ss = ap stated_lists c.as_slice-all.ensures ∙ sym (lists_same d.times ss d.routers same) in
     let says : Lists → List RadioArc → Type 0 = λ ls xs. HaveAllSenders ls xs 0 ss in
     let senders : HaveAllSenders (addr_lists ss) arcs 0 ss =
     subst (says (addr_lists ss)) c.as_slice-2.ensures (subst (λ (ls : Lists). says ls c.as_slice-2.result.now) lists c.in_ok-routers.ensures.senders) in (
@@ -72,7 +72,7 @@ returns c =
         same_loss_until = refl;
         same_routers = same;
         are_joined = joined;
-        same_arcs = c.in_ok-arcs.ensures.says ∙ ap (map arc_draft_fields) c.as_slice.ensures;
+        same_arcs = c.in_ok-arcs.ensures.says ∙ ap (map stated_arc_fields) c.as_slice.ensures;
         are_senders = senders;
       },
     )

@@ -5,4 +5,4 @@ use Rattle.mesh_checks.proofs.Links.{are_distinct-map}
 use Rattle.mesh_config.proofs.setup.run_interface.Goals as goal
 
 pub invariant_of-result-clause-distinct_senders : goal.invariant_of-result-clause-distinct_senders
-invariant_of-result-clause-distinct_senders c = rw c.in_ok-senders.ensures (are_distinct-map addr_eq (λ (s : SenderMetric). s.sender) c.args.draft.now.senders ∙ c.requires)
+invariant_of-result-clause-distinct_senders c = rw c.in_ok-senders.ensures (are_distinct-map addr_eq (λ (s : SenderMetric). s.sender) c.args.stated.now.senders ∙ c.requires)

@@ -1,15 +1,17 @@
 -- The tables of a scenario: arcs, and the top.
 use Rattle.std.specs.Prelude.{◌≡◌, ℕ, List, [], ◌∷◌, codes, Option, Some, None, Ok, option_map}
 use Rattle.toml.specs.Data.{Data, Members, no_members, as_table}
-use Rattle.mesh_drafts.specs.declared.drafts.ArcDraft.{ArcDraft}
-use Rattle.mesh_drafts.specs.declared.drafts.ScenarioDraft.{ScenarioDraft}
+use Rattle.mesh_stated.specs.declared.stated.ArcNumbers.{ArcNumbers}
+use Rattle.mesh_stated.specs.declared.stated.Place.{Place}
+use Rattle.mesh_stated.specs.declared.stated.StatedArc.{StatedArc}
+use Rattle.mesh_stated.specs.declared.stated.StatedScenario.{StatedScenario}
 use Rattle.mesh_atoms.specs.declared.metric.Metric.{Metric}
 use Rattle.mesh_toml.specs.Faults.{Read, Visits, visit, first, listed, then_turned}
 use Rattle.mesh_toml.specs.Values.{optional, required, whole, text, array, array_or_none, unknown, is_one_of, ticks, table_read}
 use Rattle.mesh_atoms.specs.Literals.{place_of}
-use Rattle.mesh_drafts.specs.Tables.{tables_visits, Each}
-use Rattle.mesh_drafts.specs.Times.{times_visits, TimesIs}
-use Rattle.mesh_drafts.specs.Router.{metric_asked, IsMetric, router_visits, RouterIs}
+use Rattle.mesh_stated.specs.Tables.{tables_visits, Each}
+use Rattle.mesh_stated.specs.Times.{times_visits, TimesIs}
+use Rattle.mesh_stated.specs.Router.{metric_asked, IsMetric, router_visits, RouterIs}
 
 -- ---- an arc
 abbrev pub place : List ℕ → Members → Read (List ℕ × List ℕ)
@@ -24,10 +26,16 @@ delay table = then_turned ticks (optional 1 (whole 1 1000) (codes "delay_ms") ta
 abbrev pub arc_keys : List (List ℕ)
 arc_keys = codes "from" ∷ codes "to" ∷ codes "metric" ∷ codes "loss" ∷ codes "delay_ms" ∷ []
 
+abbrev pub end_visits : Members → Visits
+end_visits table = visit (place (codes "from") table) ∷ visit (place (codes "to") table) ∷ []
+
+-- the keys of an arc behind its ends
+abbrev pub arc_number_visits : Members → Visits
+arc_number_visits table = visit (metric_asked table) ∷ visit (loss table) ∷ visit (delay table) ∷ []
+
 abbrev pub arc_visits : Members → Visits
 arc_visits table =
-    unknown (is_one_of arc_keys) table ∷ visit (place (codes "from") table) ∷ visit (place (codes "to") table) ∷ visit (metric_asked table)
-    ∷ visit (loss table) ∷ visit (delay table) ∷ []
+    unknown (is_one_of arc_keys) table ∷ first (end_visits table) ∷ first (arc_number_visits table) ∷ []
 
 -- what the table of an arc says besides its ends
 pub record ArcFields : Type 0 where
@@ -40,13 +48,19 @@ pub record AreArcFields (table : Members) (fields : ArcFields) : Type 0 where
   pub is_loss : loss table ≡ Ok fields.loss
   pub is_delay : delay table ≡ Ok fields.delay
 
-abbrev pub arc_draft_fields : ArcDraft → ArcFields
-arc_draft_fields arc = record { metric = arc.metric; loss = arc.loss; delay = arc.delay }
+abbrev pub arc_number_fields : ArcNumbers → ArcFields
+arc_number_fields numbers = record { metric = numbers.metric; loss = numbers.loss; delay = numbers.delay }
 
-pub record ArcIs (table : Members) (arc : ArcDraft) : Type 0 where
-  pub is_from : place (codes "from") table ≡ Ok (arc.from.router, arc.from.iface)
-  pub is_to : place (codes "to") table ≡ Ok (arc.to.router, arc.to.iface)
-  pub are_fields : AreArcFields table (arc_draft_fields arc)
+abbrev pub stated_arc_fields : StatedArc → ArcFields
+stated_arc_fields arc = record { metric = arc.metric; loss = arc.loss; delay = arc.delay }
+
+pub record AreEnds (table : Members) (from to : Place) : Type 0 where
+  pub is_from : place (codes "from") table ≡ Ok (from.router, from.iface)
+  pub is_to : place (codes "to") table ≡ Ok (to.router, to.iface)
+
+pub record ArcIs (table : Members) (arc : StatedArc) : Type 0 where
+  pub are_ends : AreEnds table arc.from arc.to
+  pub are_fields : AreArcFields table (stated_arc_fields arc)
 
 -- ---- the top
 abbrev pub end_moment : Members → Read ℕ
@@ -85,15 +99,22 @@ arcs_visits table = visit (arcs table) ∷ tables_visits arc_visits (codes "arc"
 abbrev pub times_part : Members → Visits
 times_part table = visit (times_table table) ∷ first (times_visits (sub_times table)) ∷ []
 
+-- the numbers at the top
+abbrev pub top_visits : Members → Visits
+top_visits table = visit (end_moment table) ∷ visit (seed table) ∷ visit (loss_until table) ∷ []
+
+pub record AreTopNumbers (table : Members) (end_read seed_read : ℕ) (loss_until_read : Option ℕ) : Type 0 where
+  pub is_end : end_moment table ≡ Ok end_read
+  pub is_seed : seed table ≡ Ok seed_read
+  pub is_loss_until : loss_until table ≡ Ok loss_until_read
+
 abbrev pub scenario_table_visits : Members → Visits
 scenario_table_visits table =
-    unknown (is_one_of scenario_keys) table ∷ visit (end_moment table) ∷ visit (seed table) ∷ visit (loss_until table)
+    unknown (is_one_of scenario_keys) table ∷ first (top_visits table)
     ∷ first (times_part table) ∷ first (routers_visits table) ∷ first (arcs_visits table) ∷ []
 
-pub record ScenarioDraftIs (table : Members) (scenario : ScenarioDraft) : Type 0 where
-  pub is_end : end_moment table ≡ Ok scenario.end
-  pub is_seed : seed table ≡ Ok scenario.seed
-  pub is_loss_until : loss_until table ≡ Ok scenario.loss_until
+pub record ScenarioIs (table : Members) (scenario : StatedScenario) : Type 0 where
+  pub are_numbers : AreTopNumbers table scenario.end scenario.seed scenario.loss_until
   pub are_times : TimesIs (sub_times table) scenario.times
   pub are_routers : Each RouterIs (listed (routers table)) scenario.routers
   pub are_arcs : Each ArcIs (listed (arcs table)) scenario.arcs

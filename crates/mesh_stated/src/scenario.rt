@@ -6,13 +6,15 @@ ghost use Rattle.toml.specs.View.{table_view, view};
 ghost use Rattle.mesh_atoms.specs.Settings.{IsCount, IsEnd, one_hour, one_millisecond, longest_delay};
 ghost use Rattle.mesh_toml.specs.Faults.{Gives, Answers, first, listed};
 ghost use Rattle.mesh_toml.specs.Values.{optional};
-ghost use Rattle.mesh_drafts.specs.Times.{TimesIs};
-ghost use Rattle.mesh_drafts.specs.Router.{RouterIs};
-ghost use Rattle.mesh_drafts.specs.Scenario.{place, delay, end_moment, loss_until, sub_times, times_part, routers, routers_visits, arcs, arcs_visits, ArcIs, scenario_table_visits, ScenarioDraftIs};
-ghost use Rattle.mesh_drafts.specs.Tables.{Each};
+ghost use Rattle.mesh_stated.specs.Times.{TimesIs};
+ghost use Rattle.mesh_stated.specs.Router.{RouterIs};
+ghost use Rattle.mesh_stated.specs.Scenario.{place, AreEnds, end_visits, delay, end_moment, loss_until, sub_times, times_part, routers, routers_visits, arcs, arcs_visits, ArcIs, AreArcFields, arc_number_fields, arc_number_visits, AreTopNumbers, top_visits, scenario_table_visits, ScenarioIs};
+ghost use Rattle.mesh_stated.specs.Tables.{Each};
 
-use crate::drafts::{ArcDraft, Place, RouterDraft, ScenarioDraft};
 use crate::router::metric_at;
+use crate::stated::{
+    ArcNumbers, Ends, Place, ScenarioNumbers, StatedArc, StatedRouter, StatedScenario,
+};
 use crate::tables::{FromTable, all_tables};
 use crate::times::times_in;
 use mesh_atoms::{Bytes, Seq, Times, place_of};
@@ -21,8 +23,18 @@ use mesh_toml::{
     ConfigFault, array_at, array_or_none, found, known_keys, refused, string_in, table_or, ticks,
     whole_at, whole_or,
 };
-use std::alloc::Global;
+use std::alloc::{AllocError, Global};
 use toml::Table;
+
+fn copied(alloc: Global, router_name: &[u8], iface_name: &[u8]) -> Result<Place, AllocError>
+    ensures { IfOk result (λ p. (p.router ≡ router_name.now) × (p.iface ≡ iface_name.now)) }
+{
+    let mut router = Bytes::new(alloc);
+    router.append(router_name)?;
+    let mut iface = Bytes::new(alloc);
+    iface.append(iface_name)?;
+    Ok(Place { router, iface })
+}
 
 // An end of an arc, which must stand.
 fn place_at(alloc: Global, table: &Table, key: &str) -> Result<Place, ConfigFault>
@@ -34,15 +46,19 @@ fn place_at(alloc: Global, table: &Table, key: &str) -> Result<Place, ConfigFaul
             None => Err(refused(alloc, BAD_VALUE, key)),
             Some(text) => match place_of(text) {
                 None => Err(refused(alloc, BAD_VALUE, key)),
-                Some((router_name, iface_name)) => {
-                    let mut router = Bytes::new(alloc);
-                    router.append(router_name)?;
-                    let mut iface = Bytes::new(alloc);
-                    iface.append(iface_name)?;
-                    Ok(Place { router, iface })
-                }
+                Some((router, iface)) => Ok(copied(alloc, router, iface)?),
             },
         },
+    }
+}
+
+fn ends(alloc: Global, table: &Table) -> Result<Ends, ConfigFault>
+    ensures { Answers (λ e. AreEnds (table_view table.now) e.from e.to) (first (end_visits (table_view table.now))) result }
+{
+    let from = place_at(alloc, table, "from")?;
+    match place_at(alloc, table, "to") {
+        Ok(to) => Ok(Ends { from, to }),
+        Err(e) => Err(e),
     }
 }
 
@@ -56,27 +72,39 @@ fn delay(alloc: Global, table: &Table) -> Result<u64, ConfigFault>
     Ok(ticks(ms))
 }
 
-impl FromTable for ArcDraft {
-    ghost use Rattle.mesh_drafts.specs.Scenario.{arc_visits, ArcIs};
+fn arc_numbers(alloc: Global, table: &Table) -> Result<ArcNumbers, ConfigFault>
+    ensures { Answers (λ n. AreArcFields (table_view table.now) (arc_number_fields n)) (first (arc_number_visits (table_view table.now))) result }
+{
+    let metric = metric_at(alloc, table)?;
+    let loss = whole_or(alloc, table, "loss", 0, 1000, 0)? as u16;
+    let delay = delay(alloc, table)?;
+    Ok(ArcNumbers {
+        metric,
+        loss,
+        delay,
+    })
+}
+
+impl FromTable for StatedArc {
+    ghost use Rattle.mesh_stated.specs.Scenario.{arc_visits, ArcIs};
 
     ghost visits = { arc_visits };
 
     ghost says = { ArcIs };
 
-    fn from_table(alloc: Global, table: &Table) -> Result<ArcDraft, ConfigFault> {
+    fn from_table(alloc: Global, table: &Table) -> Result<StatedArc, ConfigFault> {
         known_keys(alloc, table, &["from", "to", "metric", "loss", "delay_ms"])?;
-        let from = place_at(alloc, table, "from")?;
-        let to = place_at(alloc, table, "to")?;
-        let metric = metric_at(alloc, table)?;
-        let loss = whole_or(alloc, table, "loss", 0, 1000, 0)? as u16;
-        let delay = delay(alloc, table)?;
-        Ok(ArcDraft {
-            from,
-            to,
-            metric,
-            loss,
-            delay,
-        })
+        let ends = ends(alloc, table)?;
+        match arc_numbers(alloc, table) {
+            Ok(numbers) => Ok(StatedArc {
+                from: ends.from,
+                to: ends.to,
+                metric: numbers.metric,
+                loss: numbers.loss,
+                delay: numbers.delay,
+            }),
+            Err(e) => Err(e),
+        }
     }
 }
 
@@ -112,7 +140,7 @@ pub fn times_of(alloc: Global, table: &Table) -> Result<Times, ConfigFault>
     times_in(alloc, inner)
 }
 
-fn routers_of(alloc: Global, table: &Table) -> Result<Seq<RouterDraft>, ConfigFault>
+fn routers_of(alloc: Global, table: &Table) -> Result<Seq<StatedRouter>, ConfigFault>
     ensures answer { Answers (Each RouterIs (listed (routers (table_view table.now)))) (first (routers_visits (table_view table.now))) result }
     ensures size { IfOk result (λ xs. IsCount 1 64 (length xs)) }
 {
@@ -120,7 +148,7 @@ fn routers_of(alloc: Global, table: &Table) -> Result<Seq<RouterDraft>, ConfigFa
     all_tables(alloc, "router", values)
 }
 
-fn arcs_of(alloc: Global, table: &Table) -> Result<Seq<ArcDraft>, ConfigFault>
+fn arcs_of(alloc: Global, table: &Table) -> Result<Seq<StatedArc>, ConfigFault>
     ensures answer { Answers (Each ArcIs (listed (arcs (table_view table.now)))) (first (arcs_visits (table_view table.now))) result }
     ensures size { IfOk result (λ xs. length xs ≤ 4096) }
 {
@@ -128,27 +156,40 @@ fn arcs_of(alloc: Global, table: &Table) -> Result<Seq<ArcDraft>, ConfigFault>
     all_tables(alloc, "arc", values)
 }
 
+fn top_numbers(alloc: Global, table: &Table) -> Result<ScenarioNumbers, ConfigFault>
+    ensures { Answers (λ n. AreTopNumbers (table_view table.now) n.end n.seed n.loss_until) (first (top_visits (table_view table.now))) result }
+{
+    let end = end_moment(alloc, table)?;
+    let seed = whole_or(alloc, table, "seed", 0, 9_223_372_036_854_775_807, 0)?;
+    let loss_until = loss_until(alloc, table)?;
+    Ok(ScenarioNumbers {
+        end,
+        seed,
+        loss_until,
+    })
+}
+
 /// What the tables of a scenario say, or the first fault of their visits.
-pub fn scenario_draft(alloc: Global, table: &Table) -> Result<ScenarioDraft, ConfigFault>
-    ensures { Answers (ScenarioDraftIs (table_view table.now)) (first (scenario_table_visits (table_view table.now))) result }
+pub fn stated_scenario(alloc: Global, table: &Table) -> Result<StatedScenario, ConfigFault>
+    ensures { Answers (ScenarioIs (table_view table.now)) (first (scenario_table_visits (table_view table.now))) result }
 {
     known_keys(
         alloc,
         table,
         &["end_ms", "seed", "loss_until_ms", "times", "router", "arc"],
     )?;
-    let end = end_moment(alloc, table)?;
-    let seed = whole_or(alloc, table, "seed", 0, 9_223_372_036_854_775_807, 0)?;
-    let loss_until = loss_until(alloc, table)?;
+    let numbers = top_numbers(alloc, table)?;
     let times = times_of(alloc, table)?;
     let routers = routers_of(alloc, table)?;
-    let arcs = arcs_of(alloc, table)?;
-    Ok(ScenarioDraft {
-        end,
-        seed,
-        loss_until,
-        times,
-        routers,
-        arcs,
-    })
+    match arcs_of(alloc, table) {
+        Ok(arcs) => Ok(StatedScenario {
+            end: numbers.end,
+            seed: numbers.seed,
+            loss_until: numbers.loss_until,
+            times,
+            routers,
+            arcs,
+        }),
+        Err(e) => Err(e),
+    }
 }

@@ -2,7 +2,7 @@
 ghost use Rattle.std.specs.Prelude.{◌≡◌, map, IfOk, length};
 ghost use Rattle.toml.specs.View.{table_view, view};
 ghost use Rattle.mesh_toml.specs.Faults.{Answers, first};
-ghost use Rattle.mesh_drafts.specs.Tables.{tables_visits, element_visits, table_of, Each};
+ghost use Rattle.mesh_stated.specs.Tables.{tables_visits, element_visits, table_of, Each};
 
 use mesh_atoms::Seq;
 use mesh_toml::refusal::BAD_VALUE;

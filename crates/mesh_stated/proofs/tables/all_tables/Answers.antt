@@ -1,6 +1,6 @@
-use Rattle.mesh_drafts.proofs.Elements.{tables_fail, tables_pass, tables_said, one_longer}
+use Rattle.mesh_stated.proofs.Elements.{tables_fail, tables_pass, tables_said, one_longer}
 use Rattle.std.proofs.Common.{◌∙◌}
-use Rattle.mesh_drafts.proofs.tables.all_tables.Goals as goal
+use Rattle.mesh_stated.proofs.tables.all_tables.Goals as goal
 
 pub returns-in-Err-clause-answer : goal.returns-in-Err-clause-answer
 returns-in-Err-clause-answer g c =

@@ -1,8 +1,8 @@
 use Rattle.std.proofs.Common.{◌≡◌, length, drop, take, map}
 use Rattle.toml.specs.View.{view}
 use Rattle.mesh_toml.specs.Faults.{first}
-use Rattle.mesh_drafts.specs.Tables.{tables_visits, Each}
-use Rattle.mesh_drafts.proofs.tables.all_tables.Given as goal
+use Rattle.mesh_stated.specs.Tables.{tables_visits, Each}
+use Rattle.mesh_stated.proofs.tables.all_tables.Given as goal
 
 abbrev pub invariant-loop-value : goal.invariant-loop-value
 invariant-loop-value g l = record {

@@ -7,12 +7,12 @@ use Rattle.mesh_atoms.specs.declared.metric.Metric.{Metric}
 use Rattle.mesh_atoms.specs.declared.settings.Attached4.{Attached4}
 use Rattle.mesh_atoms.specs.Codes.{metric_value}
 use Rattle.mesh_atoms.specs.Literals.{name_of, address_of, net_of}
-use Rattle.mesh_drafts.specs.declared.drafts.RouterDraft.{RouterDraft}
-use Rattle.mesh_drafts.specs.declared.drafts.RouterHead.{RouterHead}
-use Rattle.mesh_drafts.specs.declared.drafts.InterfaceDraft.{InterfaceDraft}
+use Rattle.mesh_stated.specs.declared.stated.StatedRouter.{StatedRouter}
+use Rattle.mesh_stated.specs.declared.stated.RouterHead.{RouterHead}
+use Rattle.mesh_stated.specs.declared.stated.StatedInterface.{StatedInterface}
 use Rattle.mesh_toml.specs.Faults.{Read, Visits, visit, first, listed, then_turned}
 use Rattle.mesh_toml.specs.Values.{optional, required, whole, text, array, array_or_none, each_turned, unknown, is_one_of, ticks}
-use Rattle.mesh_drafts.specs.Tables.{tables_visits, Each}
+use Rattle.mesh_stated.specs.Tables.{tables_visits, Each}
 
 -- a moment up to an hour, in ticks; 0 where it is absent
 abbrev pub moment : List ℕ → Members → Read ℕ
@@ -42,8 +42,11 @@ addresses table = each_turned (text address_of) (codes "addresses") (array 1 4 (
 abbrev pub interface_keys : List (List ℕ)
 interface_keys = codes "name" ∷ codes "addresses" ∷ []
 
+abbrev pub named_visits : Members → Visits
+named_visits table = visit (name table) ∷ visit (addresses table) ∷ []
+
 abbrev pub interface_visits : Members → Visits
-interface_visits table = unknown (is_one_of interface_keys) table ∷ visit (name table) ∷ visit (addresses table) ∷ []
+interface_visits table = unknown (is_one_of interface_keys) table ∷ named_visits table
 
 -- what the table of an interface says
 pub record InterfaceFields : Type 0 where
@@ -54,11 +57,11 @@ pub record AreInterfaceFields (table : Members) (fields : InterfaceFields) : Typ
   pub is_name : name table ≡ Ok fields.interface_name
   pub is_addrs : addresses table ≡ Ok fields.addrs
 
-abbrev pub interface_draft_fields : InterfaceDraft → InterfaceFields
-interface_draft_fields draft = record { interface_name = draft.name; addrs = draft.addrs }
+abbrev pub stated_interface_fields : StatedInterface → InterfaceFields
+stated_interface_fields stated = record { interface_name = stated.name; addrs = stated.addrs }
 
-abbrev pub InterfaceIs : Members → InterfaceDraft → Type 0
-InterfaceIs table draft = AreInterfaceFields table (interface_draft_fields draft)
+abbrev pub InterfaceIs : Members → StatedInterface → Type 0
+InterfaceIs table stated = AreInterfaceFields table (stated_interface_fields stated)
 
 -- ---- an attached network
 abbrev pub net : Members → Read (Addr4 × ℕ)
@@ -103,10 +106,11 @@ router_keys =
     codes "name" ∷ codes "flooding" ∷ codes "routing" ∷ codes "hello_at_ms" ∷ codes "tc_at_ms" ∷ codes "interface" ∷ codes "attached" ∷ []
 
 -- the keys of a router before its interfaces
+abbrev pub number_visits : Members → Visits
+number_visits table = visit (flooding table) ∷ visit (routing table) ∷ visit (hello_at table) ∷ visit (tc_at table) ∷ []
+
 abbrev pub head_visits : Members → Visits
-head_visits table =
-    unknown (is_one_of router_keys) table ∷ visit (name table) ∷ visit (flooding table) ∷ visit (routing table)
-    ∷ visit (hello_at table) ∷ visit (tc_at table) ∷ []
+head_visits table = unknown (is_one_of router_keys) table ∷ visit (name table) ∷ number_visits table
 
 abbrev pub interfaces_visits : Members → Visits
 interfaces_visits table = visit (interfaces table) ∷ tables_visits interface_visits (codes "interface") (listed (interfaces table))
@@ -124,12 +128,15 @@ pub record RouterFields : Type 0 where
   pub hello_at : ℕ
   pub tc_at : ℕ
 
+pub record AreRouterNumbers (table : Members) (willing : Willing) (hello_at_read tc_at_read : ℕ) : Type 0 where
+  pub is_flooding : flooding table ≡ Ok willing.flooding
+  pub is_routing : routing table ≡ Ok willing.routing
+  pub is_hello_at : hello_at table ≡ Ok hello_at_read
+  pub is_tc_at : tc_at table ≡ Ok tc_at_read
+
 pub record AreRouterFields (table : Members) (fields : RouterFields) : Type 0 where
   pub is_name : name table ≡ Ok fields.router_name
-  pub is_flooding : flooding table ≡ Ok fields.willing.flooding
-  pub is_routing : routing table ≡ Ok fields.willing.routing
-  pub is_hello_at : hello_at table ≡ Ok fields.hello_at
-  pub is_tc_at : tc_at table ≡ Ok fields.tc_at
+  pub are_numbers : AreRouterNumbers table fields.willing fields.hello_at fields.tc_at
 
 abbrev pub head_fields : RouterHead → RouterFields
 head_fields head = record { router_name = head.name; willing = head.willing; hello_at = head.hello_at; tc_at = head.tc_at }
@@ -137,7 +144,7 @@ head_fields head = record { router_name = head.name; willing = head.willing; hel
 abbrev pub HeadIs : Members → RouterHead → Type 0
 HeadIs table head = AreRouterFields table (head_fields head)
 
-pub record RouterIs (table : Members) (router : RouterDraft) : Type 0 where
+pub record RouterIs (table : Members) (router : StatedRouter) : Type 0 where
   pub is_head : AreRouterFields table (head_fields router.head)
   pub are_interfaces : Each InterfaceIs (listed (interfaces table)) router.interfaces
   pub are_attached : Each AttachedIs (listed (attached table)) router.attached

@@ -2,18 +2,20 @@
 use Rattle.std.specs.Prelude.{◌≡◌, ℕ, List, [], ◌∷◌, codes, map, Ok}
 use Rattle.toml.specs.Data.{Data, Members, as_table}
 use Rattle.mesh_atoms.specs.declared.addr.Addr4.{Addr4}
+use Rattle.mesh_atoms.specs.declared.metric.Metric.{Metric}
+use Rattle.mesh_atoms.specs.declared.settings.Port.{Port}
 use Rattle.mesh_atoms.specs.declared.settings.SenderMetric.{SenderMetric}
-use Rattle.mesh_drafts.specs.declared.drafts.RunInterfaceDraft.{RunInterfaceDraft}
-use Rattle.mesh_drafts.specs.declared.drafts.RunRouterDraft.{RunRouterDraft}
-use Rattle.mesh_drafts.specs.declared.drafts.RunDraft.{RunDraft}
+use Rattle.mesh_stated.specs.declared.stated.StatedRunInterface.{StatedRunInterface}
+use Rattle.mesh_stated.specs.declared.stated.StatedRunRouter.{StatedRunRouter}
+use Rattle.mesh_stated.specs.declared.stated.StatedRun.{StatedRun}
 use Rattle.mesh_toml.specs.Faults.{Read, Visits, visit, first, listed}
 use Rattle.mesh_toml.specs.Values.{optional, required, whole, text, array_or_none, each_turned, unknown, is_one_of}
 use Rattle.mesh_atoms.specs.Literals.{address_of, endpoint_of}
 use Rattle.mesh_toml.specs.Ports.{port_of}
-use Rattle.mesh_drafts.specs.Tables.{tables_visits, Each}
-use Rattle.mesh_drafts.specs.Times.{TimesIs}
-use Rattle.mesh_drafts.specs.Router.{name, addresses, metric_asked, IsMetric, head_visits, HeadIs, interfaces, networks_visits, attached, AttachedIs}
-use Rattle.mesh_drafts.specs.Scenario.{end_moment, times_part, sub_times}
+use Rattle.mesh_stated.specs.Tables.{tables_visits, Each}
+use Rattle.mesh_stated.specs.Times.{TimesIs}
+use Rattle.mesh_stated.specs.Router.{name, addresses, named_visits, metric_asked, IsMetric, head_visits, HeadIs, interfaces, networks_visits, attached, AttachedIs}
+use Rattle.mesh_stated.specs.Scenario.{end_moment, times_part, sub_times}
 use Rattle.mesh_toml.specs.Values.{table_read}
 
 -- ---- a neighbour
@@ -50,18 +52,32 @@ run_interface_keys =
 abbrev pub neighbours_visits : Members → Visits
 neighbours_visits table = visit (neighbours table) ∷ tables_visits neighbour_visits (codes "neighbour") (listed (neighbours table))
 
+abbrev pub port_visits : Members → Visits
+port_visits table = visit (local table) ∷ visit (peers table) ∷ []
+
+abbrev pub cost_visits : Members → Visits
+cost_visits table = visit (own_metric_asked table) ∷ first (neighbours_visits table) ∷ []
+
 abbrev pub run_interface_visits : Members → Visits
 run_interface_visits table =
-    unknown (is_one_of run_interface_keys) table ∷ visit (name table) ∷ visit (addresses table) ∷ visit (local table) ∷ visit (peers table)
-    ∷ visit (own_metric_asked table) ∷ first (neighbours_visits table) ∷ []
+    unknown (is_one_of run_interface_keys) table ∷ first (named_visits table) ∷ first (port_visits table) ∷ first (cost_visits table) ∷ []
 
-pub record RunInterfaceIs (table : Members) (interface : RunInterfaceDraft) : Type 0 where
+-- where an interface receives, and where it sends to
+pub record PortSays (table : Members) (port : Port) : Type 0 where
+  pub is_local : local table ≡ Ok (port_of port.local)
+  pub are_peers : peers table ≡ Ok (map port_of port.peers)
+
+-- the metrics of what an interface receives: its own, and those of its neighbours
+pub record AreCosts (table : Members) (metric : Metric) (senders : List SenderMetric) : Type 0 where
+  pub is_metric : IsMetric (own_metric_asked table) metric
+  pub are_senders : Each NeighbourIs (listed (neighbours table)) senders
+
+pub record RunInterfaceIs (table : Members) (interface : StatedRunInterface) : Type 0 where
   pub is_name : name table ≡ Ok interface.name
   pub is_addrs : addresses table ≡ Ok interface.addrs
   pub is_local : local table ≡ Ok (port_of interface.local)
   pub are_peers : peers table ≡ Ok (map port_of interface.peers)
-  pub is_metric : IsMetric (own_metric_asked table) interface.metric
-  pub are_senders : Each NeighbourIs (listed (neighbours table)) interface.senders
+  pub are_costs : AreCosts table interface.metric interface.senders
 
 -- ---- the router and the top
 abbrev pub run_interfaces_visits : Members → Visits
@@ -70,7 +86,7 @@ run_interfaces_visits table = visit (interfaces table) ∷ tables_visits run_int
 abbrev pub run_router_visits : Members → Visits
 run_router_visits table = first (head_visits table) ∷ first (run_interfaces_visits table) ∷ first (networks_visits table) ∷ []
 
-pub record RunRouterIs (table : Members) (router : RunRouterDraft) : Type 0 where
+pub record RunRouterIs (table : Members) (router : StatedRunRouter) : Type 0 where
   pub is_head : HeadIs table router.head
   pub are_interfaces : Each RunInterfaceIs (listed (interfaces table)) router.interfaces
   pub are_attached : Each AttachedIs (listed (attached table)) router.attached
@@ -88,7 +104,7 @@ abbrev pub run_table_visits : Members → Visits
 run_table_visits table =
     unknown (is_one_of run_keys) table ∷ visit (end_moment table) ∷ first (times_part table) ∷ first (router_part table) ∷ []
 
-pub record RunDraftIs (table : Members) (run : RunDraft) : Type 0 where
+pub record RunIs (table : Members) (run : StatedRun) : Type 0 where
   pub is_end : end_moment table ≡ Ok run.end
   pub are_times : TimesIs (sub_times table) run.times
   pub is_router : RunRouterIs (table_read (router_table table)) run.router

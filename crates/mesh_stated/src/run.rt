@@ -3,26 +3,26 @@ ghost use Rattle.std.specs.Prelude.{◌≤◌, ◌≡◌, length, map, IfOk};
 ghost use Rattle.toml.specs.View.{table_view, view};
 ghost use Rattle.mesh_atoms.specs.Settings.{IsCount};
 ghost use Rattle.mesh_toml.specs.Faults.{Gives, Answers, first, visit, listed};
-ghost use Rattle.mesh_drafts.specs.Router.{IsMetric, interfaces};
+ghost use Rattle.mesh_stated.specs.Router.{IsMetric, interfaces};
 ghost use Rattle.mesh_toml.specs.Values.{table_read};
-ghost use Rattle.mesh_drafts.specs.Run.{own_metric_asked, neighbours, neighbours_visits, NeighbourIs, run_interfaces_visits, RunInterfaceIs, run_router_visits, RunRouterIs, router_table, router_part, run_table_visits, RunDraftIs};
-ghost use Rattle.mesh_drafts.specs.Tables.{Each};
+ghost use Rattle.mesh_stated.specs.Run.{own_metric_asked, neighbours, neighbours_visits, NeighbourIs, PortSays, port_visits, AreCosts, cost_visits, run_interfaces_visits, RunInterfaceIs, run_router_visits, RunRouterIs, router_table, router_part, run_table_visits, RunIs};
+ghost use Rattle.mesh_stated.specs.Tables.{Each};
 
-use crate::drafts::{RunDraft, RunInterfaceDraft, RunRouterDraft};
-use crate::router::{attached_of, head, metric_at};
+use crate::router::{attached_of, head, interface_said, metric_at};
 use crate::scenario::{end_moment, times_of};
+use crate::stated::{Costs, StatedRun, StatedRunInterface, StatedRunRouter};
 use crate::tables::{FromTable, all_tables};
-use mesh_atoms::{Metric, SenderMetric, Seq};
+use mesh_atoms::{Metric, Port, SenderMetric, Seq};
 use mesh_toml::refusal::BAD_VALUE;
 use mesh_toml::{
-    ConfigFault, address_at, addresses_at, array_at, array_or_none, endpoint_at, endpoints_at,
-    known_keys, name_at, refused, table_at, whole_or,
+    ConfigFault, address_at, array_at, array_or_none, endpoint_at, endpoints_at, known_keys,
+    refused, table_at, whole_or,
 };
 use std::alloc::Global;
 use toml::Table;
 
 impl FromTable for SenderMetric {
-    ghost use Rattle.mesh_drafts.specs.Run.{neighbour_visits, NeighbourIs};
+    ghost use Rattle.mesh_stated.specs.Run.{neighbour_visits, NeighbourIs};
 
     ghost visits = { neighbour_visits };
 
@@ -55,37 +55,57 @@ fn neighbours_of(alloc: Global, table: &Table) -> Result<Seq<SenderMetric>, Conf
     all_tables(alloc, "neighbour", values)
 }
 
-impl FromTable for RunInterfaceDraft {
-    ghost use Rattle.mesh_drafts.specs.Run.{run_interface_visits, RunInterfaceIs};
+// Where the table of an interface says that it receives, and where it sends to.
+fn port_said(alloc: Global, table: &Table) -> Result<Port, ConfigFault>
+    ensures { Answers (PortSays (table_view table.now)) (first (port_visits (table_view table.now))) result }
+{
+    let local = endpoint_at(alloc, table, "local")?;
+    match endpoints_at(alloc, table, "peers", 64) {
+        Ok(peers) => Ok(Port { local, peers }),
+        Err(e) => Err(e),
+    }
+}
+
+fn costs_said(alloc: Global, table: &Table) -> Result<Costs, ConfigFault>
+    ensures { Answers (λ c. AreCosts (table_view table.now) c.metric c.senders) (first (cost_visits (table_view table.now))) result }
+{
+    let metric = own_metric(alloc, table)?;
+    match neighbours_of(alloc, table) {
+        Ok(senders) => Ok(Costs { metric, senders }),
+        Err(e) => Err(e),
+    }
+}
+
+impl FromTable for StatedRunInterface {
+    ghost use Rattle.mesh_stated.specs.Run.{run_interface_visits, RunInterfaceIs};
 
     ghost visits = { run_interface_visits };
 
     ghost says = { RunInterfaceIs };
 
-    fn from_table(alloc: Global, table: &Table) -> Result<RunInterfaceDraft, ConfigFault> {
+    fn from_table(alloc: Global, table: &Table) -> Result<StatedRunInterface, ConfigFault> {
         known_keys(
             alloc,
             table,
             &["name", "addresses", "local", "peers", "metric", "neighbour"],
         )?;
-        let name = name_at(alloc, table, "name")?;
-        let addrs = addresses_at(alloc, table, "addresses")?;
-        let local = endpoint_at(alloc, table, "local")?;
-        let peers = endpoints_at(alloc, table, "peers", 64)?;
-        let metric = own_metric(alloc, table)?;
-        let senders = neighbours_of(alloc, table)?;
-        Ok(RunInterfaceDraft {
-            name,
-            addrs,
-            local,
-            peers,
-            metric,
-            senders,
-        })
+        let interface = interface_said(alloc, table)?;
+        let port = port_said(alloc, table)?;
+        match costs_said(alloc, table) {
+            Ok(costs) => Ok(StatedRunInterface {
+                name: interface.name,
+                addrs: interface.addrs,
+                local: port.local,
+                peers: port.peers,
+                metric: costs.metric,
+                senders: costs.senders,
+            }),
+            Err(e) => Err(e),
+        }
     }
 }
 
-fn run_interfaces_of(alloc: Global, table: &Table) -> Result<Seq<RunInterfaceDraft>, ConfigFault>
+fn run_interfaces_of(alloc: Global, table: &Table) -> Result<Seq<StatedRunInterface>, ConfigFault>
     ensures answer { Answers (Each RunInterfaceIs (listed (interfaces (table_view table.now)))) (first (run_interfaces_visits (table_view table.now))) result }
     ensures size { IfOk result (λ xs. IsCount 1 8 (length xs)) }
 {
@@ -93,34 +113,37 @@ fn run_interfaces_of(alloc: Global, table: &Table) -> Result<Seq<RunInterfaceDra
     all_tables(alloc, "interface", values)
 }
 
-fn run_router(alloc: Global, table: &Table) -> Result<RunRouterDraft, ConfigFault>
+fn run_router(alloc: Global, table: &Table) -> Result<StatedRunRouter, ConfigFault>
     ensures { Answers (RunRouterIs (table_view table.now)) (first (run_router_visits (table_view table.now))) result }
 {
     let head = head(alloc, table)?;
     let interfaces = run_interfaces_of(alloc, table)?;
-    let attached = attached_of(alloc, table)?;
-    Ok(RunRouterDraft {
-        head,
-        interfaces,
-        attached,
-    })
+    match attached_of(alloc, table) {
+        Ok(attached) => Ok(StatedRunRouter {
+            head,
+            interfaces,
+            attached,
+        }),
+        Err(e) => Err(e),
+    }
 }
 
-fn router_at(alloc: Global, table: &Table) -> Result<RunRouterDraft, ConfigFault>
+fn router_at(alloc: Global, table: &Table) -> Result<StatedRunRouter, ConfigFault>
     ensures { Answers (RunRouterIs (table_read (router_table (table_view table.now)))) (first (router_part (table_view table.now))) result }
 {
     let inner = table_at(alloc, table, "router")?;
-    let router = run_router(alloc, inner)?;
-    Ok(router)
+    run_router(alloc, inner)
 }
 
 /// What the tables of `run` say, or the first fault of their visits.
-pub fn run_draft(alloc: Global, table: &Table) -> Result<RunDraft, ConfigFault>
-    ensures { Answers (RunDraftIs (table_view table.now)) (first (run_table_visits (table_view table.now))) result }
+pub fn stated_run(alloc: Global, table: &Table) -> Result<StatedRun, ConfigFault>
+    ensures { Answers (RunIs (table_view table.now)) (first (run_table_visits (table_view table.now))) result }
 {
     known_keys(alloc, table, &["end_ms", "times", "router"])?;
     let end = end_moment(alloc, table)?;
     let times = times_of(alloc, table)?;
-    let router = router_at(alloc, table)?;
-    Ok(RunDraft { end, times, router })
+    match router_at(alloc, table) {
+        Ok(router) => Ok(StatedRun { end, times, router }),
+        Err(e) => Err(e),
+    }
 }

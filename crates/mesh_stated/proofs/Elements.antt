@@ -8,7 +8,7 @@ use Rattle.toml.specs.declared.value.Value.{Value}
 use Rattle.mesh_toml.specs.declared.fault.ConfigFault.{ConfigFault}
 use Rattle.mesh_toml.specs.declared.fault.ConfigFault.TheVariants as faults
 use Rattle.mesh_toml.specs.Faults.{Fault, first, FailsAt}
-use Rattle.mesh_drafts.specs.Tables.{Each, table_of, element_visits, tables_visits}
+use Rattle.mesh_stated.specs.Tables.{Each, table_of, element_visits, tables_visits}
 
 -- the first of two lists
 pub first_passes : (a b : List (Option Fault)) → first a ≡ None → first (a ++ b) ≡ first b

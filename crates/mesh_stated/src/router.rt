@@ -3,10 +3,11 @@ ghost use Rattle.std.specs.Prelude.{◌≤◌, length, IfOk, IsTrue, map};
 ghost use Rattle.toml.specs.View.{table_view, view};
 ghost use Rattle.mesh_atoms.specs.Settings.{IsCount, one_hour};
 ghost use Rattle.mesh_toml.specs.Faults.{Gives, Answers, first, visit, listed};
-ghost use Rattle.mesh_drafts.specs.Router.{moment, net, metric_asked, IsMetric, interface_visits, InterfaceIs, attached_visits, AttachedIs, head_visits, HeadIs, interfaces_visits, interfaces, networks_visits, attached, router_visits, RouterIs};
-ghost use Rattle.mesh_drafts.specs.Tables.{Each};
+ghost use Rattle.mesh_toml.specs.Values.{SaysNothing, unknown, is_one_of};
+ghost use Rattle.mesh_stated.specs.Router.{moment, net, metric_asked, IsMetric, named_visits, router_keys, number_visits, AreRouterNumbers, interface_visits, InterfaceIs, attached_visits, AttachedIs, head_visits, HeadIs, interfaces_visits, interfaces, networks_visits, attached, router_visits, RouterIs};
+ghost use Rattle.mesh_stated.specs.Tables.{Each};
 
-use crate::drafts::{InterfaceDraft, RouterDraft, RouterHead};
+use crate::stated::{RouterHead, RouterNumbers, StatedInterface, StatedRouter};
 use crate::tables::{FromTable, all_tables};
 use mesh_atoms::{Attached4, Metric, NetAddr, Seq, Willing, net_of};
 use mesh_toml::refusal::{BAD_VALUE, MISSING};
@@ -53,23 +54,32 @@ fn net_at(alloc: Global, table: &Table) -> Result<NetAddr, ConfigFault>
     }
 }
 
-impl FromTable for InterfaceDraft {
-    ghost use Rattle.mesh_drafts.specs.Router.{interface_visits, InterfaceIs};
+// What the table of an interface says of its name and its addresses.
+pub fn interface_said(alloc: Global, table: &Table) -> Result<StatedInterface, ConfigFault>
+    ensures { Answers (InterfaceIs (table_view table.now)) (first (named_visits (table_view table.now))) result }
+{
+    let name = name_at(alloc, table, "name")?;
+    match addresses_at(alloc, table, "addresses") {
+        Ok(addrs) => Ok(StatedInterface { name, addrs }),
+        Err(e) => Err(e),
+    }
+}
+
+impl FromTable for StatedInterface {
+    ghost use Rattle.mesh_stated.specs.Router.{interface_visits, InterfaceIs};
 
     ghost visits = { interface_visits };
 
     ghost says = { InterfaceIs };
 
-    fn from_table(alloc: Global, table: &Table) -> Result<InterfaceDraft, ConfigFault> {
+    fn from_table(alloc: Global, table: &Table) -> Result<StatedInterface, ConfigFault> {
         known_keys(alloc, table, &["name", "addresses"])?;
-        let name = name_at(alloc, table, "name")?;
-        let addrs = addresses_at(alloc, table, "addresses")?;
-        Ok(InterfaceDraft { name, addrs })
+        interface_said(alloc, table)
     }
 }
 
 impl FromTable for Attached4 {
-    ghost use Rattle.mesh_drafts.specs.Router.{attached_visits, AttachedIs};
+    ghost use Rattle.mesh_stated.specs.Router.{attached_visits, AttachedIs};
 
     ghost visits = { attached_visits };
 
@@ -88,9 +98,22 @@ impl FromTable for Attached4 {
     }
 }
 
-// What the table of a router says of itself.
-pub fn head(alloc: Global, table: &Table) -> Result<RouterHead, ConfigFault>
-    ensures { Answers (HeadIs (table_view table.now)) (first (head_visits (table_view table.now))) result }
+fn router_numbers(alloc: Global, table: &Table) -> Result<RouterNumbers, ConfigFault>
+    ensures { Answers (λ n. AreRouterNumbers (table_view table.now) n.willing n.hello_at n.tc_at) (first (number_visits (table_view table.now))) result }
+{
+    let flooding = whole_or(alloc, table, "flooding", 0, 15, 7)? as u8;
+    let routing = whole_or(alloc, table, "routing", 0, 15, 7)? as u8;
+    let hello_at = moment(alloc, table, "hello_at_ms")?;
+    let tc_at = moment(alloc, table, "tc_at_ms")?;
+    Ok(RouterNumbers {
+        willing: Willing { flooding, routing },
+        hello_at,
+        tc_at,
+    })
+}
+
+fn known_to_routers(alloc: Global, table: &Table) -> Result<(), ConfigFault>
+    ensures { Answers SaysNothing (unknown (is_one_of router_keys) (table_view table.now)) result }
 {
     known_keys(
         alloc,
@@ -104,21 +127,27 @@ pub fn head(alloc: Global, table: &Table) -> Result<RouterHead, ConfigFault>
             "interface",
             "attached",
         ],
-    )?;
-    let name = name_at(alloc, table, "name")?;
-    let flooding = whole_or(alloc, table, "flooding", 0, 15, 7)? as u8;
-    let routing = whole_or(alloc, table, "routing", 0, 15, 7)? as u8;
-    let hello_at = moment(alloc, table, "hello_at_ms")?;
-    let tc_at = moment(alloc, table, "tc_at_ms")?;
-    Ok(RouterHead {
-        name,
-        willing: Willing { flooding, routing },
-        hello_at,
-        tc_at,
-    })
+    )
 }
 
-fn interfaces_of(alloc: Global, table: &Table) -> Result<Seq<InterfaceDraft>, ConfigFault>
+// What the table of a router says of itself.
+pub fn head(alloc: Global, table: &Table) -> Result<RouterHead, ConfigFault>
+    ensures { Answers (HeadIs (table_view table.now)) (first (head_visits (table_view table.now))) result }
+{
+    known_to_routers(alloc, table)?;
+    let name = name_at(alloc, table, "name")?;
+    match router_numbers(alloc, table) {
+        Ok(numbers) => Ok(RouterHead {
+            name,
+            willing: numbers.willing,
+            hello_at: numbers.hello_at,
+            tc_at: numbers.tc_at,
+        }),
+        Err(e) => Err(e),
+    }
+}
+
+fn interfaces_of(alloc: Global, table: &Table) -> Result<Seq<StatedInterface>, ConfigFault>
     ensures answer { Answers (Each InterfaceIs (listed (interfaces (table_view table.now)))) (first (interfaces_visits (table_view table.now))) result }
     ensures size { IfOk result (λ xs. IsCount 1 8 (length xs)) }
 {
@@ -134,21 +163,23 @@ pub fn attached_of(alloc: Global, table: &Table) -> Result<Seq<Attached4>, Confi
     all_tables(alloc, "attached", values)
 }
 
-impl FromTable for RouterDraft {
-    ghost use Rattle.mesh_drafts.specs.Router.{router_visits, RouterIs};
+impl FromTable for StatedRouter {
+    ghost use Rattle.mesh_stated.specs.Router.{router_visits, RouterIs};
 
     ghost visits = { router_visits };
 
     ghost says = { RouterIs };
 
-    fn from_table(alloc: Global, table: &Table) -> Result<RouterDraft, ConfigFault> {
+    fn from_table(alloc: Global, table: &Table) -> Result<StatedRouter, ConfigFault> {
         let head = head(alloc, table)?;
         let interfaces = interfaces_of(alloc, table)?;
-        let attached = attached_of(alloc, table)?;
-        Ok(RouterDraft {
-            head,
-            interfaces,
-            attached,
-        })
+        match attached_of(alloc, table) {
+            Ok(attached) => Ok(StatedRouter {
+                head,
+                interfaces,
+                attached,
+            }),
+            Err(e) => Err(e),
+        }
     }
 }
