@@ -1,0 +1,66 @@
+-- The hops of a trip, one after another.
+use Rattle.std.proofs.Common.{◌≡◌, ℕ, ◌+◌, ◌<◌, ◌≤◌, inl, inr, refl, sym, ◌∙◌, subst, arith, List, [], ◌∷◌, ◌++◌, length, length-append}
+use Rattle.std.specs.Prelude.{map}
+use Rattle.std.specs.List.{sum_by}
+use Rattle.std.specs.Prelude.{Result, IfOk}
+use Rattle.std.proofs.lemmas.List.{length-map}
+use Rattle.std.proofs.lemmas.Result.{IfOk-weaker}
+use Rattle.std.proofs.lemmas.List.Elements.{Contains-append_cases}
+use Rattle.std.proofs.lemmas.List.Sums.{sum_by-append}
+use Rattle.std.proofs.lemmas.Option.{slice_get_within}
+use Rattle.mesh_atoms.specs.declared.addr.Addr4.{Addr4}
+use Rattle.mesh_atoms.specs.declared.settings.RouterSettings.{RouterSettings}
+use Rattle.mesh_atoms.specs.declared.settings.Scenario.{Scenario}
+use Rattle.mesh_atoms.specs.State.{State}
+use Rattle.mesh_paths.proofs.ShortLists.{none_of, only}
+use Rattle.mesh_data.specs.declared.trip.End.{End}
+use Rattle.mesh_data.specs.declared.trip.Hop.{Hop}
+use Rattle.mesh_data.specs.declared.trip.Trip.{Trip}
+use Rattle.mesh_data.specs.Laws.{OfEachTrip}
+use Rattle.mesh_data.specs.Trips.{IsHop, AreChained, EndsWith, IsTrip}
+use Rattle.mesh_data.specs.Decisions.{IsOnTheWay}
+
+chain_on : (hops : List Hop) (from x : ℕ) (hop : Hop) → AreChained from hops x → hop.from ≡ x → AreChained from (hops ++ hop ∷ []) hop.to
+chain_on [] from x hop e at = (at ∙ sym e, refl)
+chain_on (h ∷ hs) from x hop (first, more) at = (first, chain_on hs h.to x hop more at)
+
+-- a scenario has at most 64 routers
+pub few_routers : (s : Scenario) → length s.routers ≤ 64
+few_routers s = let l : length (map (λ r. r.name) s.routers) ≤ 64 = s.sound_routers.routers.at_most in subst (λ (n : ℕ). n ≤ 64) (length-map s.routers (λ (r : RouterSettings). r.name)) l
+
+module _ (s : Scenario) (states : List State) (a : Addr4) (from : ℕ) where
+  pub starts : from < length s.routers → IsOnTheWay s states a from from [] 0 0
+  starts l = record { chain = refl; each = λ hop has. absurd (none_of hop has); count = refl; sum = refl; small = omega arith; within = l }
+
+  pub goes : (x : ℕ) (hops : List Hop) (metric made : ℕ) (hop : Hop) → IsOnTheWay s states a from x hops metric made → IsHop s states a hop → hop.from ≡ x → hop.metric ≤ 16776960 →
+      IsOnTheWay s states a from hop.to (hops ++ hop ∷ []) (metric + hop.metric) (made + 1)
+  goes x hops metric made hop w is at low =
+      let total : sum_by (λ (h : Hop). h.metric) (hops ++ hop ∷ []) ≡ sum_by (λ (h : Hop). h.metric) hops + (0 + hop.metric) = sum_by-append (λ (h : Hop). h.metric) hops (hop ∷ []) in
+      let sum : metric ≡ sum_by (λ (h : Hop). h.metric) hops = w.sum in
+      record {
+        chain = chain_on hops from x hop w.chain at;
+        each = λ other has. elim (Contains-append_cases hops (hop ∷ []) other has) [
+          | inl before ↦ w.each other before
+          | inr now ↦ subst (λ (h : Hop). IsHop s states a h) (sym (only hop other now)) is
+        ];
+        count = (let e : length (hops ++ hop ∷ []) ≡ length hops + 1 = length-append hops (hop ∷ []) in omega (arith, w.count));
+        sum = omega arith;
+        small = omega (arith, w.small);
+        within = slice_get_within s.routers hop.to is.reaches.settings is.reaches.router;
+      }
+
+  pub ends : (x : ℕ) (hops : List Hop) (metric made : ℕ) (end : End) (k : ℕ) → IsOnTheWay s states a from x hops metric made → made ≤ length s.routers → EndsWith s states a x made end k →
+      IsTrip s states from a (record { hops = hops; last = x; end = end; metric = metric + k })
+  ends x hops metric made end k w low is = record {
+    chain = w.chain;
+    each = w.each;
+    few = omega (arith, w.count);
+    added = k;
+    ends = subst (λ (n : ℕ). EndsWith s states a x n end k) (sym w.count) is;
+    metric = (let sum : metric ≡ sum_by (λ (h : Hop). h.metric) hops = w.sum in omega arith);
+  }
+
+-- what holds of each trip holds of one that is made
+pub of_made : (P : Scenario → List State → ℕ → Addr4 → Trip → Type 0) → OfEachTrip P → {E : Type 0} (s : Scenario) (states : List State) (from : ℕ) (a : Addr4) (made : Result Trip E) →
+    IfOk made (λ t. IsTrip s states from a t) → IfOk made (λ t. P s states from a t)
+of_made P law s states from a made is = IfOk-weaker made (λ (t : Trip). IsTrip s states from a t) (λ (t : Trip). P s states from a t) (law s states from a) is

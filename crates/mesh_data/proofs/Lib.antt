@@ -1,0 +1,9 @@
+mod Attached
+mod Costs
+mod Deciding
+mod Falling
+mod Hopping
+mod Longest
+mod NetworkTrips
+mod OneTrip
+mod RouterTrips

@@ -1,0 +1,7 @@
+use Rattle.std.specs.List.{AllWithin}
+use Rattle.mesh_atoms.specs.declared.settings.RadioArc.{RadioArc}
+use Rattle.mesh_data.specs.Decisions.{IsArcOf}
+use Rattle.mesh_data.proofs.decisions.arc_of.Given as goal
+
+abbrev pub invariant-loop-arc : goal.invariant-loop-arc
+invariant-loop-arc l = AllWithin (λ (arc : RadioArc). IsArcOf l.fn.scenario l.x l.fn.row arc → ⊥) l.arcs 0 l.arc-index

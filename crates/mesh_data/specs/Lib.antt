@@ -1,0 +1,5 @@
+pub mod Decisions
+pub mod Dotted
+pub mod Laws
+pub mod Text
+pub mod Trips

@@ -1,0 +1,12 @@
+mod Carried
+mod Covers
+mod Floods
+mod Heard
+mod Links
+mod Noted
+mod Once
+mod OneValidity
+mod Relaying
+mod Seen
+mod Simulate
+mod Wave

@@ -1,0 +1,174 @@
+-- What is noted of a message, and what is answered to it.
+use Rattle.std.proofs.Common.{◌≡◌, ℕ, ◌+◌, ◌<◌, ◌≤◌, inl, inr, refl, sym, ◌∙◌, ap, subst, arith, List, [], length, Option, Some, None}
+use Rattle.std.specs.Prelude.{Bool, true, false, cond, nat_lt, is_some, if◌then◌else◌}
+use Rattle.std.specs.Cmp.{IsEquivalence}
+use Rattle.std.specs.Map.{keys_of}
+use Rattle.std.proofs.lemmas.Bool.{lt-ltb, cases_eq}
+use Rattle.std.proofs.lemmas.Cmp.{nat_eq_equiv, on_equiv, and_equiv}
+use Rattle.std.proofs.lemmas.Map.Entries.{length-keys_of}
+use Rattle.std.proofs.lemmas.Map.Made.{is_some-lookup}
+use Rattle.std.proofs.lemmas.Map.Steps.{length-le_from_keys}
+use Rattle.mesh_atoms.specs.declared.addr.Addr4.{Addr4}
+use Rattle.mesh_atoms.specs.declared.settings.Times.{Times}
+use Rattle.mesh_atoms.specs.declared.tuples.FloodKey.{FloodKey}
+use Rattle.mesh_atoms.specs.declared.tuples.Noted.{Noted}
+use Rattle.mesh_atoms.specs.Base.{Base, HasDistinctKeys, find, base_of, if_live, Expires, Same, addr_eq, flood_eq}
+use Rattle.mesh_atoms.specs.Live.{LiveNoted}
+use Rattle.mesh_atoms.specs.State.{NotedMessages}
+use Rattle.mesh_flood.specs.declared.verdict.Heading.{Heading}
+use Rattle.mesh_flood.specs.declared.verdict.Forward.{Forward}
+use Rattle.mesh_flood.specs.declared.verdict.Forward.TheVariants as forward
+use Rattle.mesh_atoms.specs.declared.tuples.Base.TheVariants.{Received}
+use Rattle.mesh_flood.specs.Noting.{AfterNote, Notes}
+use Rattle.mesh_flood.specs.Verdict.{key_of, if_noted, is_full, has_no_hops, forward_by, is_received, is_forwarded}
+use Rattle.mesh_machine.specs.Messages.{forwarding}
+use Rattle.mesh_probe.specs.Laws.{IsUnknown}
+
+-- Verdicts
+
+pub does : (own : Addr4) (heading : Heading) (received forwarded : Base FloodKey Noted) → addr_eq heading.originator own ≡ false → has_no_hops heading ≡ false →
+    find flood_eq received (key_of heading) ≡ None → is_full received ≡ false → find flood_eq forwarded (key_of heading) ≡ None → is_full forwarded ≡ false →
+    forward_by own heading (Some true) received forwarded ≡ forward.Do
+does own heading received forwarded a b c d e f = rw (a, b, c, d, e, f) refl
+
+pub never_own : (own : Addr4) (heading : Heading) (link : Option Bool) (received forwarded : Base FloodKey Noted) → addr_eq heading.originator own ≡ true →
+    is_forwarded (forward_by own heading link received forwarded) ≡ false
+never_own own heading link received forwarded a = rw a refl
+
+pub not_twice : (own : Addr4) (heading : Heading) (link : Option Bool) (received forwarded : Base FloodKey Noted) (e : Noted × ℕ) → find flood_eq forwarded (key_of heading) ≡ Some e →
+    is_forwarded (forward_by own heading link received forwarded) ≡ false
+not_twice own heading None received forwarded e found = by_own (addr_eq heading.originator own)
+  where
+    by_own : (a : Bool) → is_forwarded (if a then forward.Own else forward.NoSender) ≡ false
+    by_own true = refl
+    by_own false = refl
+not_twice own heading (Some flag) received forwarded e found =
+    rw found (pick (addr_eq heading.originator own) (has_no_hops heading) (find flood_eq received (key_of heading)) (is_full received))
+  where
+    pick : (a b : Bool) (r : Option (Noted × ℕ)) (full : Bool) →
+        is_forwarded (if a then forward.Own else (if b then forward.NoHops else if_noted r (λ until. forward.Seen until) (if full then forward.Full Received else forward.Done e.1))) ≡ false
+    pick true b r full = refl
+    pick false true r full = refl
+    pick false false (Some f) full = refl
+    pick false false None true = refl
+    pick false false None false = refl
+
+pub deaf : (own : Addr4) (heading : Heading) (received forwarded : Base FloodKey Noted) →
+    (is_received (forward_by own heading None received forwarded) ≡ false) × (is_forwarded (forward_by own heading None received forwarded) ≡ false)
+deaf own heading received forwarded = by_own (addr_eq heading.originator own)
+  where
+    by_own : (a : Bool) → (is_received (if a then forward.Own else forward.NoSender) ≡ false) × (is_forwarded (if a then forward.Own else forward.NoSender) ≡ false)
+    by_own true = (refl, refl)
+    by_own false = (refl, refl)
+
+pub sends_nothing : (count : ℕ) (octets : List ℕ) (answer : Forward) → is_forwarded answer ≡ false → forwarding count octets answer ≡ []
+sends_nothing count octets forward.Do e = absurd (let f : true ≡ false = e in cc)
+sends_nothing count octets forward.Own e = refl
+sends_nothing count octets forward.NotFlooded e = refl
+sends_nothing count octets forward.NoSender e = refl
+sends_nothing count octets forward.NoHops e = refl
+sends_nothing count octets (forward.Seen until) e = refl
+sends_nothing count octets (forward.Done until) e = refl
+sends_nothing count octets forward.NotSelector e = refl
+sends_nothing count octets (forward.Full base) e = refl
+
+pub is_do : (answer : Forward) → is_forwarded answer ≡ true → answer ≡ forward.Do
+is_do forward.Do e = refl
+is_do forward.Own e = absurd (let f : false ≡ true = e in cc)
+is_do forward.NotFlooded e = absurd (let f : false ≡ true = e in cc)
+is_do forward.NoSender e = absurd (let f : false ≡ true = e in cc)
+is_do forward.NoHops e = absurd (let f : false ≡ true = e in cc)
+is_do (forward.Seen until) e = absurd (let f : false ≡ true = e in cc)
+is_do (forward.Done until) e = absurd (let f : false ≡ true = e in cc)
+is_do forward.NotSelector e = absurd (let f : false ≡ true = e in cc)
+is_do (forward.Full base) e = absurd (let f : false ≡ true = e in cc)
+
+-- Sets
+
+pub flood_equiv : IsEquivalence flood_eq
+flood_equiv = and_equiv (on_equiv (λ (k : FloodKey). k.kind) nat_eq_equiv) (and_equiv (on_equiv (λ (k : FloodKey). k.originator.0) nat_eq_equiv) (on_equiv (λ (k : FloodKey). k.sequence) nat_eq_equiv))
+
+some_is : {A : Type 0} (o : Option A) → is_some o ≡ true → (a : A) × (o ≡ Some a)
+some_is None e = absurd (let f : false ≡ true = e in cc)
+some_is (Some a) e = (a, refl)
+
+-- a base of no more keys is no longer
+pub fewer : (old new : Base FloodKey Noted) → HasDistinctKeys flood_eq new → ((q : FloodKey) (e : Noted × ℕ) → find flood_eq new q ≡ Some e → (f : Noted × ℕ) × (find flood_eq old q ≡ Some f)) →
+    length new ≤ length old
+fewer old new distinct to =
+    let l = length-le_from_keys flood_equiv (keys_of new) old distinct (λ q any.
+    (let (e, found) = some_is (find flood_eq new q) (is_some-lookup (flood_eq q) new ∙ any) in
+    let (f, there) = to q e found in
+    subst (λ (o : Option (Noted × ℕ)). is_some o ≡ true) (sym there) refl)) in
+    let e = length-keys_of new in
+    omega (arith, l, e)
+
+live_was : (now : ℕ) (o : Option (Noted × ℕ)) (e : Noted × ℕ) → if_live now o ≡ Some e → o ≡ Some e
+live_was now None e h = absurd (let f : None ≡ Some e = h in cc)
+live_was now (Some f) e h = by_case (nat_lt now f.1) h
+  where
+    by_case : (b : Bool) → cond b (Some f) None ≡ Some e → Some f ≡ Some e
+    by_case true h = h
+    by_case false h = absurd (let g : None ≡ Some e = h in cc)
+
+fewer_live : (now : ℕ) (old new : Base FloodKey Noted) → HasDistinctKeys flood_eq new → Expires flood_eq now old new → length new ≤ length old
+fewer_live now old new distinct expires = fewer old new distinct (λ q e found. (e, live_was now (find flood_eq old q) e (sym (expires q) ∙ found)))
+
+fewer_same : (old new : Base FloodKey Noted) → HasDistinctKeys flood_eq new → Same flood_eq old new → length new ≤ length old
+fewer_same old new distinct same = fewer old new distinct (λ q e found. (e, sym (same q) ∙ found))
+
+pub unknown_live : (key : FloodKey) (now : ℕ) (old new : NotedMessages) → IsUnknown key old → LiveNoted now old new → IsUnknown key new
+unknown_live key now old new u live = record {
+  received = λ j. live.received j key ∙ ap (if_live now) (u.received j);
+  forwarded = live.forwarded key ∙ ap (if_live now) u.forwarded;
+  room_received = λ j. (let a = fewer_live now (base_of old.received j) (base_of new.received j) (live.distinct_received j) (live.received j) in let b = u.room_received j in omega (arith, a, b));
+  room_forwarded = (let a = fewer_live now old.forwarded new.forwarded live.distinct_forwarded live.forwarded in let b = u.room_forwarded in omega (arith, a, b));
+}
+
+-- nothing is noted but that the message was processed
+pub unknown_deaf : (key : FloodKey) (times : Times) (now i : ℕ) (heading : Heading) (is_done : Bool) (answer : Forward) (old new : NotedMessages) → IsUnknown key old →
+    AfterNote times now i heading is_done answer old new → is_received answer ≡ false → is_forwarded answer ≡ false → IsUnknown key new
+unknown_deaf key times now i heading is_done answer old new u notes not_received not_forwarded =
+    let at_i : Same flood_eq (base_of old.received i) (base_of new.received i) =
+    subst (λ (b : Bool). Notes b (key_of heading) (now + times.received_hold) (base_of old.received i) (base_of new.received i)) not_received notes.received in
+    let received : (j : ℕ) → Same flood_eq (base_of old.received j) (base_of new.received j) = λ j. elim (cases_eq j i) [
+      | inl e ↦ subst (λ (k : ℕ). Same flood_eq (base_of old.received k) (base_of new.received k)) (sym e) at_i
+      | inr other ↦ notes.others j other
+    ] in
+    let forwarded : Same flood_eq old.forwarded new.forwarded =
+    subst (λ (b : Bool). Notes b (key_of heading) (now + times.forwarded_hold) old.forwarded new.forwarded) not_forwarded notes.forwarded in
+    record {
+      received = λ j. received j key ∙ u.received j;
+      forwarded = forwarded key ∙ u.forwarded;
+      room_received = λ j. (let a = fewer_same (base_of old.received j) (base_of new.received j) (notes.tables.received j) (received j) in let b = u.room_received j in omega (arith, a, b));
+      room_forwarded = (let a = fewer_same old.forwarded new.forwarded notes.tables.forwarded forwarded in let b = u.room_forwarded in omega (arith, a, b));
+    }
+
+-- a forwarded tuple that isn't expired
+pub record Stands (key : FloodKey) (now : ℕ) (base : Base FloodKey Noted) : Type 0 where
+  pub e : Noted × ℕ
+  pub found : find flood_eq base key ≡ Some e
+  pub later : now < e.1
+
+pub stands_live : (key : FloodKey) (now : ℕ) (old new : Base FloodKey Noted) → Stands key now old → Expires flood_eq now old new → Stands key now new
+stands_live key now old new s expires = record {
+  e = s.e;
+  found = (let is : nat_lt now s.e.1 ≡ true = lt-ltb now s.e.1 s.later in
+      expires key ∙ ap (if_live now) s.found ∙ ap (λ (b : Bool). cond b (Some s.e) None) is);
+  later = s.later;
+}
+
+pub stands_noted : (key other : FloodKey) (now hold : ℕ) (wanted : Bool) (old new : Base FloodKey Noted) → 0 < hold → Stands key now old → Notes wanted other (now + hold) old new → Stands key now new
+stands_noted key other now hold false old new some s same = record { e = s.e; found = same key ∙ s.found; later = s.later }
+stands_noted key other now hold true old new some s sets = by_case (flood_eq other key) (sets key)
+  where
+    by_case : (b : Bool) → find flood_eq new key ≡ cond b (Some (record {}, now + hold)) (find flood_eq old key) → Stands key now new
+    by_case true h = record { e = (record {}, now + hold); found = h; later = omega (arith, some) }
+    by_case false h = record { e = s.e; found = h ∙ s.found; later = s.later }
+
+pub stands_new : (key : FloodKey) (now hold : ℕ) (old new : Base FloodKey Noted) → 0 < hold → Notes true key (now + hold) old new → Stands key now new
+stands_new key now hold old new some sets = record {
+  e = (record {}, now + hold);
+  found = sets key ∙ ap (λ (b : Bool). cond b (Some (record {}, now + hold)) (find flood_eq old key)) (flood_equiv.refl key);
+  later = omega (arith, some);
+}
