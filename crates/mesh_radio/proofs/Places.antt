@@ -1,0 +1,81 @@
+-- Places of a list that grows at its end, of which one item is replaced, or whose items are turned.
+use Rattle.std.proofs.Common.{◌≡◌, ℕ, ◌<◌, ◌≤◌, ◌⊎◌, inl, inr, List, [], ◌∷◌, ◌++◌, refl, sym, ◌∙◌, ap, zero, suc, length, arith, Some, None, All, map}
+use Rattle.std.specs.Prelude.{slice_get, slice_set, ◌≢◌}
+use Rattle.std.proofs.lemmas.List.Elements.{All-nil, All-cons, All-head, All-tail}
+use Rattle.std.proofs.lemmas.Option.{slice_get_cases, get_or_from_slice_get}
+
+pub push_at : {A : Type 0} (xs : List A) (x : A) (i : ℕ) (y : A) → slice_get (xs ++ x ∷ []) i ≡ Some y → (slice_get xs i ≡ Some y) ⊎ ((i ≡ length xs) × (x ≡ y))
+push_at [] x zero y h = inr (refl, cc)
+push_at [] x (suc i) y h = absurd (cc)
+push_at (z ∷ xs) x zero y h = inl h
+push_at (z ∷ xs) x (suc i) y h = elim (push_at xs x i y h) [ inl e ↦ inl e | inr (a, b) ↦ inr (ap suc a, b) ]
+
+-- what holds at each place holds with one more item
+pub each_more : {A : Type 0} (P : ℕ → A → Type 0) (xs : List A) (x : A) → ((i : ℕ) (y : A) → slice_get xs i ≡ Some y → P i y) → P (length xs) x → (i : ℕ) (y : A) → slice_get (xs ++ x ∷ []) i ≡ Some y → P i y
+each_more P xs x h p i y at = elim (push_at xs x i y at) [
+  | inl e ↦ h i y e
+  | inr (a, b) ↦ rw (a, ← b) p
+]
+
+-- something stands at each place below the length
+pub stands : {A : Type 0} (xs : List A) (i : ℕ) → i < length xs → (x : A) × (slice_get xs i ≡ Some x)
+stands xs i lt = elim (slice_get_cases xs i).1 [
+  | inl (x, below, e, g) ↦ (x, e)
+  | inr (le, e) ↦ absurd (let no : length xs ≤ i = le in omega (arith, no, lt))
+]
+
+-- nothing stands from the length on
+pub none_past : {A : Type 0} (xs : List A) (i : ℕ) → slice_get xs i ≡ None → length xs ≤ i
+none_past xs i h = elim (slice_get_cases xs i).1 [
+  | inl (x, lt, e, g) ↦ absurd (let no : None ≡ Some x = sym h ∙ e in cc)
+  | inr (le, e) ↦ le
+]
+
+-- one thing stands at a place
+pub same_at : {A : Type 0} (xs : List A) (i : ℕ) (x y : A) → slice_get xs i ≡ Some x → slice_get xs i ≡ Some y → x ≡ y
+same_at xs i x y a b = sym (get_or_from_slice_get xs i x x a) ∙ get_or_from_slice_get xs i y x b
+
+-- One item is replaced
+
+-- the item that replaces another, and the others
+pub set_at : {A : Type 0} (xs : List A) (i : ℕ) (x : A) (j : ℕ) (y : A) → slice_get (slice_set xs i x) j ≡ Some y → ((j ≡ i) × (y ≡ x)) ⊎ ((j ≢ i) × (slice_get xs j ≡ Some y))
+set_at [] i x j y h = absurd (cc)
+set_at (z ∷ xs) zero x zero y h = inl (refl, cc)
+set_at (z ∷ xs) zero x (suc j) y h = inr ((λ e. omega (arith, e)), h)
+set_at (z ∷ xs) (suc i) x zero y h = inr ((λ e. omega (arith, e)), h)
+set_at (z ∷ xs) (suc i) x (suc j) y h = elim (set_at xs i x j y h) [
+  | inl (a, b) ↦ inl (ap suc a, b)
+  | inr (a, b) ↦ inr ((λ e. a (omega (arith, e))), b)
+]
+
+-- it stands in the other's place
+pub set_here : {A : Type 0} (xs : List A) (i : ℕ) (x y : A) → slice_get xs i ≡ Some y → slice_get (slice_set xs i x) i ≡ Some x
+set_here [] i x y h = absurd (cc)
+set_here (z ∷ xs) zero x y h = refl
+set_here (z ∷ xs) (suc i) x y h = set_here xs i x y h
+
+-- and the others stay
+pub set_there : {A : Type 0} (xs : List A) (i : ℕ) (x : A) (j : ℕ) (y : A) → j ≢ i → slice_get xs j ≡ Some y → slice_get (slice_set xs i x) j ≡ Some y
+set_there [] i x j y other h = absurd (cc)
+set_there (z ∷ xs) zero x zero y other h = absurd (other refl)
+set_there (z ∷ xs) zero x (suc j) y other h = h
+set_there (z ∷ xs) (suc i) x zero y other h = h
+set_there (z ∷ xs) (suc i) x (suc j) y other h = set_there xs i x j y (λ e. other (ap suc e)) h
+
+-- All items are turned
+
+pub mapped_at : {A B : Type 0} (f : A → B) (xs : List A) (i : ℕ) (x : A) → slice_get xs i ≡ Some x → slice_get (map f xs) i ≡ Some (f x)
+mapped_at f [] i x at = absurd (cc)
+mapped_at f (y ∷ xs) zero x at = let e : y ≡ x = cc in ap (λ z. Some (f z)) e
+mapped_at f (y ∷ xs) (suc i) x at = mapped_at f xs i x at
+
+-- what stands there is what was turned
+pub turned_at : {A B : Type 0} (f : A → B) (xs : List A) (i : ℕ) (y : B) → slice_get (map f xs) i ≡ Some y → (x : A) × (slice_get xs i ≡ Some x) × (f x ≡ y)
+turned_at f [] i y at = absurd (cc)
+turned_at f (x ∷ xs) zero y at = (x, refl, cc)
+turned_at f (x ∷ xs) (suc i) y at = turned_at f xs i y at
+
+-- what holds of all that are turned
+pub all_turned : {A B : Type 0} (P : B → Type 0) (f : A → B) (xs : List A) → All P (map f xs) → All (λ x. P (f x)) xs
+all_turned P f [] h = All-nil (λ x. P (f x))
+all_turned P f (x ∷ xs) h = All-cons (λ x. P (f x)) x xs (All-head P (f x) (map f xs) h) (all_turned P f xs (All-tail P (f x) (map f xs) h))

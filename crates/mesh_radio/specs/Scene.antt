@@ -1,0 +1,88 @@
+-- An emulated network as it is kept, and what is true of it between events.
+use Rattle.std.specs.Prelude.{◌≡◌, ℕ, ◌<◌, ◌≤◌, List, Some, None, All, slice_get, slice_set, length}
+use Rattle.mesh_atoms.specs.declared.settings.Scenario.{Scenario}
+use Rattle.mesh_atoms.specs.declared.addr.Addr4.{Addr4}
+use Rattle.mesh_atoms.specs.declared.settings.RadioArc.{RadioArc}
+use Rattle.mesh_atoms.specs.declared.settings.RouterSettings.{RouterSettings}
+use Rattle.mesh_atoms.specs.State.{State}
+use Rattle.mesh_core.specs.Holding.{CoreValue}
+use Rattle.mesh_machine.specs.declared.frame.Frame.{Frame}
+use Rattle.mesh_machine.specs.Machine.{Event, Step, due}
+use Rattle.mesh_machine.specs.Sendable.{IsPacket, IsSendable}
+use Rattle.mesh_radio.specs.declared.event.NetEvent.{NetEvent}
+use Rattle.mesh_radio.specs.declared.scene.Scene.{Scene}
+use Rattle.mesh_radio.specs.Net.{Net, Delivery, Traffic, IsFirstDue, IsSender, SendsAll, with_heard, event_of, frames_of}
+use Rattle.mesh_radio.specs.Run.{states_of}
+use Rattle.mesh_radio.specs.Traffic.{traffic_of}
+use Rattle.mesh_radio.specs.Ways.{AreWays}
+
+-- the network that is meant
+abbrev pub net_of : List CoreValue → Scene → Net
+net_of cores s = record { scenario = s.scenario; routers = states_of cores; traffic = traffic_of s.traffic; last_ticks = s.last_ticks }
+
+-- a frame that is heard no earlier than now, by an arc of the scenario, and spells a packet
+pub record IsFlying (scenario : Scenario) (now : ℕ) (d : Delivery) : Type 0 where
+  pub later : now ≤ d.moment
+  pub arc : d.arc < length scenario.arcs
+  pub packet : IsPacket d.frame
+
+-- the routers of a scenario, none of which had an event after now
+pub record AreRouters (scenario : Scenario) (now : ℕ) (routers : List State) : Type 0 where
+  pub count : length routers ≡ length scenario.routers
+  pub settings : (x : ℕ) (s : State) → slice_get routers x ≡ Some s → slice_get scenario.routers x ≡ Some s.settings
+  pub lasts : (x : ℕ) (s : State) → slice_get routers x ≡ Some s → s.last ≤ now
+
+-- what is true between events
+pub record IsSound (routers : List State) (s : Scene) : Type 0 where
+  pub ways : AreWays s.scenario.arcs s.scenario.routers (length s.scenario.routers) s.ways
+  pub are_routers : AreRouters s.scenario s.now routers
+  pub seed : s.traffic.draws.seed ≡ s.scenario.seed
+  pub flying : All (IsFlying s.scenario s.now) s.traffic.air
+  pub due : IsFirstDue routers s.due.router s.due.moment
+  pub due_later : s.now ≤ s.due.moment
+  pub in_time : s.now ≤ s.scenario.end
+  pub few : s.last_ticks ≤ length routers
+
+-- router x alone took a step, and sent these frames; how its due moment changed
+pub record Stepped (old new : List State) (x now : ℕ) (event : Event) (frames : List Frame) (change : ℕ → ℕ → Type 0) : Type 0 where
+  pub was : State
+  pub is : State
+  pub stood : slice_get old x ≡ Some was
+  pub routers : new ≡ slice_set old x is
+  pub step : Step was event frames is
+  pub sendable : All (IsSendable was.settings) frames
+  pub settings : is.settings ≡ was.settings
+  pub last : is.last ≤ now
+  pub due_is : change (due was) (due is)
+
+-- an arc leaves an interface of a router
+pub record IsFrom (routers : List RouterSettings) (arc : RadioArc) : Type 0 where
+  pub router : RouterSettings
+  pub stands : slice_get routers arc.from ≡ Some router
+  pub iface : arc.from_iface < length router.interfaces
+
+-- an arc leads to an interface of a router
+pub record IsTo (routers : List RouterSettings) (arc : RadioArc) : Type 0 where
+  pub router : RouterSettings
+  pub stands : slice_get routers arc.to ≡ Some router
+  pub iface : arc.to_iface < length router.interfaces
+
+-- what a frame that was in the air does, where the traffic is what is left
+pub record Lands (s : Scenario) (old new : List State) (d : Delivery) (event : NetEvent) (before after : Traffic) : Type 0 where
+  pub arc : RadioArc
+  pub sender : Addr4
+  pub arc_is : slice_get s.arcs d.arc ≡ Some arc
+  pub sender_is : IsSender s.routers arc sender
+  pub moment : event.moment ≡ d.moment
+  pub router : event.router ≡ arc.to
+  pub heard : event.heard ≡ Some (arc.to_iface, sender, d.frame)
+  pub stepped : Stepped old new arc.to d.moment (event_of event) (frames_of event) (λ was is. is ≡ was)
+  pub sends : SendsAll s d.moment arc.to event.sent (with_heard before before.air) after
+
+-- what the tick of router x does
+pub record TicksOne (s : Scenario) (old new : List State) (x now : ℕ) (event : NetEvent) (before after : Traffic) : Type 0 where
+  pub moment : event.moment ≡ now
+  pub router : event.router ≡ x
+  pub heard : event.heard ≡ None
+  pub stepped : Stepped old new x now (event_of event) (frames_of event) (λ was is. now < is)
+  pub sends : SendsAll s now x event.sent before after

@@ -1,0 +1,168 @@
+//! The emulated network.
+ghost use Rattle.std.specs.Prelude.{◌≡◌, List, IfOk, OnOk, MatchOption, IfSome};
+ghost use Rattle.mesh_radio.specs.declared.event.NetEvent.{NetEvent};
+ghost use Rattle.mesh_radio.specs.Net.{NetStep};
+ghost use Rattle.mesh_radio.specs.Opening.{AreOpening};
+ghost use Rattle.mesh_radio.specs.Run.{IsOpeningNet, IsOver, IsOfScenario, IsOfPackets, NetRun, states_of};
+
+use crate::air::Air;
+use crate::draws::Draws;
+use crate::event::{Counts, NetEvent};
+use crate::routers::first_due;
+use crate::scene::Scene;
+use crate::step::next_event;
+use crate::traffic::Traffic;
+use crate::ways::ways_of;
+use mesh_atoms::{RouterSettings, Scenario, Seq};
+use mesh_core::{Core, Outbox};
+use mesh_expire::Bases;
+use std::alloc::{AllocError, Global};
+use std::marker::Model;
+
+/// An emulated network: the routers of a scenario, over these bases, and the frames in the air between them. Moments are in
+/// ticks of 1/8192 s. After want of memory every further event is refused for want of memory too.
+#[derive(Drop)]
+pub struct Net<B: Bases> {
+    alloc: Global,
+    cores: Vec<Core<B>>,
+    scene: Scene,
+    spent: bool,
+}
+
+impl<B: Bases> Model for Net<B> {
+    ghost use Rattle.std.specs.Prelude.{◌≡◌, false};
+    ghost use Rattle.mesh_radio.specs.Net.{Net};
+    ghost use Rattle.mesh_radio.specs.Run.{states_of};
+    ghost use Rattle.mesh_radio.specs.Scene.{IsSound, net_of};
+
+    ghost Value = { Net };
+
+    ghost view = { λ n. net_of n.cores.items n.scene };
+
+    ghost invariant = { λ n. n.spent ≡ false → IsSound (states_of n.cores.items) n.scene };
+}
+
+impl<B: Bases> Net<B> {
+    /// The network of a scenario before its first event.
+    pub fn new(alloc: Global, scenario: &Scenario) -> Result<Net<B>, AllocError>
+        ensures { IfOk result (IsOpeningNet scenario.now) }
+    {
+        let cores = cores_of(alloc, scenario)?;
+        let ways = ways_of(alloc, scenario.routers.as_slice(), scenario.arcs.as_slice())?;
+        let scenario = copy_of(alloc, scenario)?;
+        let draws = Draws::new(scenario.seed);
+        let due = first_due(&cores);
+        Ok(Net {
+            alloc,
+            cores,
+            scene: Scene {
+                scenario,
+                ways,
+                outbox: Outbox::new(alloc),
+                traffic: Traffic {
+                    air: Air::new(alloc),
+                    counts: Counts {
+                        sent: 0,
+                        delivered: 0,
+                        lost: 0,
+                    },
+                    draws,
+                },
+                due,
+                last_ticks: 0,
+                now: 0,
+            },
+            spent: false,
+        })
+    }
+
+    /// Does the next event, and tells it; `None` where none is left.
+    pub fn step(&mut self) -> Result<Option<NetEvent>, AllocError>
+        // The next event; none exactly where the run is over, and then nothing changes.
+        ensures step { IfOk result (λ e. MatchOption e (IsOver self.old × (self.new ≡ self.old)) (λ event. NetStep self.old event self.new)) }
+        // Its router, interfaces and lost arcs are the scenario's.
+        ensures named { IfOk result (λ e. IfSome e (IsOfScenario self.old.scenario)) }
+        // What is heard and sent spells packets.
+        ensures packets { IfOk result (λ e. IfSome e IsOfPackets) }
+    {
+        if self.spent {
+            return Err(AllocError);
+        }
+        self.spent = true;
+        let event = next_event(self.alloc, &mut self.cores, &mut self.scene)?;
+        self.spent = false;
+        Ok(event)
+    }
+
+    /// Does all events that are left. After 2^64 - 1 events it gives up as for want of memory.
+    pub fn run_until_end(&mut self) -> Result<(), AllocError>
+        ensures { OnOk result ((events : List NetEvent) × NetRun self.old events self.new × IsOver self.new) }
+    {
+        for _ in 0..u64::MAX {
+            let Some(_event) = self.step()? else {
+                return Ok(());
+            };
+        }
+        Err(AllocError)
+    }
+
+    /// The routers, in the order of the scenario.
+    pub fn cores(&self) -> &[Core<B>]
+        ensures { states_of result.now ≡ self.now.routers }
+    {
+        self.cores.as_slice()
+    }
+
+    /// The routers, in the order of the scenario. Takes no memory.
+    pub fn into_cores(self) -> Vec<Core<B>>
+        ensures { states_of result.items ≡ self.routers }
+    {
+        self.cores
+    }
+
+    /// What was counted so far.
+    pub fn counts(&self) -> Counts
+        ensures { result ≡ self.now.traffic.counts }
+    {
+        self.scene.traffic.counts
+    }
+}
+
+/// The routers of a scenario before their first events.
+fn cores_of<B: Bases>(alloc: Global, scenario: &Scenario) -> Result<Vec<Core<B>>, AllocError>
+    ensures { IfOk result (λ cores. AreOpening scenario.now.routers (states_of cores.items)) }
+{
+    let mut cores = Vec::new(alloc);
+    for router in scenario.routers.as_slice() {
+        cores.push(Core::new(alloc, router.copy()?)?)?;
+    }
+    Ok(cores)
+}
+
+/// An equal scenario.
+fn copy_of(alloc: Global, scenario: &Scenario) -> Result<Scenario, AllocError>
+    ensures { IfOk result (λ copy. copy ≡ scenario.now) }
+{
+    let routers = copy_routers(alloc, &scenario.routers)?;
+    let arcs = scenario.arcs.copy()?;
+    Ok(Scenario {
+        end: scenario.end,
+        seed: scenario.seed,
+        loss_until: scenario.loss_until,
+        routers,
+        arcs,
+    })
+}
+
+fn copy_routers(
+    alloc: Global,
+    routers: &Seq<RouterSettings>,
+) -> Result<Seq<RouterSettings>, AllocError>
+    ensures { IfOk result (λ copy. copy ≡ routers.now) }
+{
+    let mut copies = Seq::new(alloc);
+    for router in routers.as_slice() {
+        copies.push(router.copy()?)?;
+    }
+    Ok(copies)
+}

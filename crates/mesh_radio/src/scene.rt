@@ -1,0 +1,28 @@
+//! What an emulated network has besides its routers.
+use crate::traffic::Traffic;
+use crate::ways::Ways;
+use mesh_atoms::{Scenario, Seq};
+use mesh_core::Outbox;
+
+/// The router that ticks first, and when.
+#[derive(Clone, Copy)]
+pub(crate) struct Due {
+    pub(crate) router: usize,
+    pub(crate) moment: u64,
+}
+
+/// What an emulated network has besides its routers.
+#[derive(Drop)]
+pub(crate) struct Scene {
+    pub(crate) scenario: Scenario,
+    /// The arcs by the interfaces that they leave.
+    pub(crate) ways: Seq<Seq<Ways>>,
+    /// What a router sends at an event.
+    pub(crate) outbox: Outbox,
+    pub(crate) traffic: Traffic,
+    pub(crate) due: Due,
+    /// How many routers had their tick at the end.
+    pub(crate) last_ticks: usize,
+    /// The moment of the last event.
+    pub(crate) now: u64,
+}
