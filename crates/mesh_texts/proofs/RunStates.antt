@@ -1,0 +1,72 @@
+-- The states at the end of a run of a network are those of its scenario's routers, in order.
+use Rattle.std.proofs.Common.{◌≡◌, ℕ, List, [], ◌∷◌, length, map, Some, inl, inr, refl, sym, ap, ◌∙◌, subst, arith, length-set}
+use Rattle.std.specs.Prelude.{slice_get}
+use Rattle.std.proofs.lemmas.Option.{slice_get_within, slice_get_cases}
+use Rattle.mesh_atoms.specs.declared.settings.RouterSettings.{RouterSettings}
+use Rattle.mesh_atoms.specs.declared.settings.Scenario.{Scenario}
+use Rattle.mesh_atoms.specs.Radio.{Router}
+use Rattle.mesh_atoms.specs.Settled.{At, AreStates}
+use Rattle.mesh_atoms.specs.State.{State}
+use Rattle.mesh_machine.specs.declared.frame.Frame.{Frame}
+use Rattle.mesh_machine.specs.Machine.{Event, Step, Heard_frame, Ticked, Steps, No_events, First_event, Run}
+use Rattle.mesh_machine.proofs.Effects.{hears_settings}
+use Rattle.mesh_radio.specs.declared.event.NetEvent.{NetEvent}
+use Rattle.mesh_radio.specs.Net.{Net, Traffic, NetStep, By_delivery, By_tick, By_last_tick, Moves, event_of, frames_of, with_heard}
+use Rattle.mesh_radio.specs.Run.{NetRun, events_at}
+use Rattle.mesh_radio.proofs.Through.{are_machines}
+use Rattle.mesh_texts.specs.Runs.{WholeRun}
+
+-- Settings stay
+
+step_settings : (old : State) (event : Event) (sent : List Frame) (new : State) → Step old event sent new → new.settings ≡ old.settings
+step_settings old event sent new (Heard_frame {arrival} {bytes} answer hears) = hears_settings old arrival bytes answer sent new hears
+step_settings old event sent new (Ticked ticks) = ticks.renews.settings
+
+steps_settings : (old : State) (events : List Event) (sent : List (List Frame)) (new : State) → Steps old events sent new →
+    new.settings ≡ old.settings
+steps_settings old events sent new No_events = refl
+steps_settings old (event ∷ events) (frames ∷ sent) new (First_event {mid = mid} step steps) =
+    steps_settings mid events sent new steps ∙ step_settings old event frames mid step
+
+run_settings : (settings : RouterSettings) (events : List Event) (sent : List (List Frame)) (new : State) → Run settings events sent new →
+    new.settings ≡ settings
+run_settings settings events sent new (opening, is, steps) = steps_settings opening events sent new steps ∙ is.settings_are
+
+-- No router comes or goes
+
+moved_count : (old new : Net) (event : NetEvent) (before : Traffic) → Moves old event before new → length new.routers ≡ length old.routers
+moved_count old new event before moves = ap length moves.routers ∙ length-set old.routers event.router moves.is
+
+step_count : (old new : Net) (event : NetEvent) → NetStep old event new → length new.routers ≡ length old.routers
+step_count old new event (By_delivery d) = moved_count old new event (with_heard old.traffic d.others) d.moves
+step_count old new event (By_tick t) = moved_count old new event old.traffic t.moves
+step_count old new event (By_last_tick t) = moved_count old new event old.traffic t.moves
+
+run_count : (old : Net) (events : List NetEvent) (new : Net) → NetRun old events new → length new.routers ≡ length old.routers
+run_count old [] new is = ap (λ (n : Net). length n.routers) is
+run_count old (event ∷ events) new (mid, step, run) = run_count mid events new run ∙ step_count old mid event step
+
+-- The end of a run
+
+one_state : (states : List State) (x : ℕ) (a b : State) → slice_get states x ≡ Some a → slice_get states x ≡ Some b → a ≡ b
+one_state states x a b e f = cc
+
+pub run_states : (s : Scenario) (run : WholeRun s) → AreStates s run.final.routers
+run_states s run = record { settings = settings; all = all } where
+  all : (x : ℕ) (r : RouterSettings) → Router s x r → (p : State) × At run.final.routers x p
+  all x r is = let end = are_machines s run.opening run.events run.final run.is_opening run.runs x r is in (end.0, record { is = end.1 })
+
+  settings : (x : ℕ) (p : State) → At run.final.routers x p → Router s x p.settings
+  settings x p at = elim ((slice_get_cases s.routers x).1) [
+    | inl there ↦
+        let (r, _, is, _) = there in
+        let end = are_machines s run.opening run.events run.final run.is_opening run.runs x r is in
+        let same = one_state run.final.routers x end.0 p end.1 at.is in
+        subst (λ (q : RouterSettings). Router s x q) (sym (run_settings r (map event_of (events_at x run.events)) (map frames_of (events_at x run.events)) end.0 end.2) ∙ ap (λ (q : State). q.settings) same) is
+    | inr past ↦ absurd (
+        let within = slice_get_within run.final.routers x p at.is in
+        let count = run_count run.opening run.events run.final run.runs in
+        let opening = run.is_opening.count in
+        let beyond = past.0 in
+        omega (arith, within, count, opening, beyond))
+  ]

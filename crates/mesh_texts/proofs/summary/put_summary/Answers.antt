@@ -1,0 +1,16 @@
+use Rattle.std.proofs.Common.{◌++◌, refl}
+use Rattle.mesh_texts.specs.Network.{counts_line, settled_text}
+use Rattle.mesh_texts.proofs.Joined.{on_ok, three}
+use Rattle.mesh_texts.proofs.summary.put_summary.Goals as goal
+
+pub returns-clause-ok : goal.returns-clause-ok
+returns-clause-ok g c =
+    let s = c.args.scenario.now in
+    let first = counts_line s c.args.counts in
+    let last = settled_text s c.args.gap in
+    let sections = c.in_ok-put_sections.ensures.ok in
+    on_ok c.put_settled.result (λ put. (
+      first ++ sections.0 ++ last,
+      three c.args.out.now first sections.0 last c.in_ok-put_counts_line.ensures.ok sections.1 put,
+      record { sections = sections.0; are_sections = sections.2; whole = refl },
+    )) c.put_settled.ensures.ok

@@ -1,0 +1,65 @@
+-- The texts of whole runs of an emulated network.
+use Rattle.std.specs.Prelude.{◌≡◌, ℕ, List, [], ◌∷◌, ◌++◌, Option, Some, Bool, true, false, slice_get}
+use Rattle.mesh_atoms.specs.declared.settings.Scenario.{Scenario}
+use Rattle.mesh_atoms.specs.State.{State}
+use Rattle.mesh_radio.specs.declared.event.NetEvent.{NetEvent}
+use Rattle.mesh_radio.specs.Net.{Net, NetStep}
+use Rattle.mesh_radio.specs.Run.{IsOpeningNet, IsOver, NetRun}
+use Rattle.mesh_settled.specs.declared.gap.Gap.{Gap}
+use Rattle.mesh_texts.specs.Events.{IsEventText}
+use Rattle.mesh_texts.specs.Network.{IsGapOf, IsSummary}
+
+-- The trace
+
+-- the text of an event after which the network is this
+abbrev pub IsTraced : Net → NetEvent → List ℕ → Type 0
+IsTraced net event text =
+    (after : State) × (slice_get net.routers event.router ≡ Some after) × IsEventText net.scenario event after text
+
+-- a run of a network, and its trace: the text of each event, in order
+abbrev pub Traces : Net → List NetEvent → Net → List ℕ → Type 0
+Traces old [] new text = (new ≡ old) × (text ≡ [])
+Traces old (event ∷ events) new text =
+    (mid : Net) × NetStep old event mid × (first : List ℕ) × (rest : List ℕ) × IsTraced mid event first
+    × Traces mid events new rest × (text ≡ first ++ rest)
+
+-- A whole run
+
+-- a run of the network of a scenario from its opening to its end, the last ticks included
+pub record WholeRun (s : Scenario) : Type 0 where
+  pub opening : Net
+  pub events : List NetEvent
+  pub final : Net
+  pub is_opening : IsOpeningNet s opening
+  pub runs : NetRun opening events final
+  pub over : IsOver final
+
+-- the trace of a run where it is asked for, and nothing where it isn't
+abbrev pub IsTrace : Bool → {s : Scenario} → WholeRun s → List ℕ → Type 0
+IsTrace false run text = text ≡ []
+IsTrace true run text = Traces run.opening run.events run.final text
+
+-- the text of a run: its trace where that is asked for, then the summary of the network at its end
+pub record IsRunText (s : Scenario) (trace : Bool) (run : WholeRun s) (text : List ℕ) : Type 0 where
+  pub traced : List ℕ
+  pub is_trace : IsTrace trace run traced
+  pub gap : Option Gap
+  pub is_gap : IsGapOf s run.final.routers s.end gap
+  pub summary : List ℕ
+  pub is_summary : IsSummary s run.final.routers run.final.traffic.counts gap summary
+  pub whole : text ≡ traced ++ summary
+
+-- A run that stopped
+
+-- some first events of the network of a scenario, from its opening on, none left out
+pub record FirstEvents (s : Scenario) : Type 0 where
+  pub opening : Net
+  pub events : List NetEvent
+  pub stopped : Net
+  pub is_opening : IsOpeningNet s opening
+  pub runs : NetRun opening events stopped
+
+-- what is told before the run is over: the trace of its first events where it is asked for, and nothing where it isn't
+abbrev pub IsFirstTrace : Bool → {s : Scenario} → FirstEvents s → List ℕ → Type 0
+IsFirstTrace false first text = text ≡ []
+IsFirstTrace true first text = Traces first.opening first.events first.stopped text

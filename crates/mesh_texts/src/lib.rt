@@ -1,0 +1,16 @@
+//! The texts of routers and of an emulated network: a router's section, the trace of an event, and the summary of a network.
+#![tactic(auto)]
+
+mod events;
+mod laws;
+mod lines;
+mod names;
+mod order;
+mod pieces;
+mod section;
+mod summary;
+
+pub use events::put_event;
+pub use laws::texts_read_back;
+pub use section::put_section;
+pub use summary::put_summary;

@@ -1,0 +1,38 @@
+//! The names of routers and of their interfaces.
+ghost use Rattle.std.specs.Prelude.{◌≡◌};
+ghost use Rattle.mesh_texts.specs.Marks.{face_name, router_name, faces_of};
+
+use mesh_atoms::{Interface, RouterSettings};
+
+/// The name of the interface of that number; nothing where there is none.
+#[tactic(auto, unfolding(crate::specs::Marks::face_name))]
+pub fn face_name(faces: &[Interface], iface: usize) -> &[u8]
+    ensures { result.now ≡ face_name faces.now iface }
+{
+    match faces.get(iface) {
+        Some(face) => face.name.as_slice(),
+        None => b"",
+    }
+}
+
+/// The name of the router of that number; nothing where there is none.
+#[tactic(auto, unfolding(crate::specs::Marks::router_name))]
+pub fn router_name(routers: &[RouterSettings], router: usize) -> &[u8]
+    ensures { result.now ≡ router_name routers.now router }
+{
+    match routers.get(router) {
+        Some(settings) => settings.name.as_slice(),
+        None => b"",
+    }
+}
+
+/// The interfaces of the router of that number; none where there is none.
+#[tactic(auto, unfolding(crate::specs::Marks::faces_of))]
+pub fn faces_of(routers: &[RouterSettings], router: usize) -> &[Interface]
+    ensures { result.now ≡ faces_of routers.now router }
+{
+    match routers.get(router) {
+        Some(settings) => settings.interfaces.as_slice(),
+        None => &[],
+    }
+}
