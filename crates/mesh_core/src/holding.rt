@@ -345,7 +345,7 @@ fn tc_read(taken: TcTaken, given: u16) -> Read
     ensures { (tc : TcValue) → tc.ansn ≡ given → result ≡ tc_read tc (answer_of taken) }
 {
     match taken {
-        TcTaken::Done => Read::Topology,
+        TcTaken::Done { .. } => Read::Topology,
         TcTaken::Old { kept } => Read::Old { kept, given },
         TcTaken::Full(base) => Read::Full(base),
     }

@@ -1,8 +1,8 @@
 //! A table with the ordered set of its keys, by which those that stand together are found.
-ghost use Rattle.std.specs.Prelude.{◌≡◌, ◌+◌, ◌<◌, ◌≤◌, length, false, if◌then◌else◌, is_some, OnOk, OnErr, IsTrue, IsSome, ◌↔◌, Some, None};
+ghost use Rattle.std.specs.Prelude.{◌≡◌, ◌+◌, ◌<◌, length, false, if◌then◌else◌, is_some, OnOk, OnErr, IsTrue, IsSome, ◌↔◌, Some, None};
 ghost use Rattle.mesh_atoms.specs.Base.{HasDistinctKeys, find, SetsOnly, Expires};
 ghost use Rattle.std.specs.BTreeSet.{contains, btree_set_len};
-ghost use Rattle.mesh_expire.specs.Keyed.{Knows};
+ghost use Rattle.mesh_expire.specs.Keyed.{AreKeys};
 
 use crate::table::{Key, Table};
 use std::alloc::AllocError;
@@ -16,8 +16,8 @@ pub fn put_keyed<K: Key + Ord + Drop, V: Drop, T: Table<K, V>>(
     value: V,
     until: u64,
 ) -> Result<(), AllocError>
-    requires { Knows K.eq K.cmp keys.old (T.content table.old) }
-    ensures knows { Knows K.eq K.cmp keys.new (T.content table.new) }
+    requires { AreKeys K.eq K.cmp keys.old (T.content table.old) }
+    ensures keys { AreKeys K.eq K.cmp keys.new (T.content table.new) }
     ensures ok { OnOk result (SetsOnly K.eq (T.content table.old) (T.content table.new) key (Some (value, until))) }
     ensures count { OnOk result (length (T.content table.new)
         ≡ length (T.content table.old) + (if is_some (find K.eq (T.content table.old) key) then 0 else 1)) }
@@ -25,9 +25,14 @@ pub fn put_keyed<K: Key + Ord + Drop, V: Drop, T: Table<K, V>>(
     ensures distinct { HasDistinctKeys K.eq (T.content table.new) }
 {
     let _count = table.len();
-    keys.insert(key)?;
-    table.put(key, value, until)?;
-    Ok(())
+    let is_new = keys.insert(key)?;
+    let Err(_) = table.put(key, value, until) else {
+        return Ok(());
+    };
+    if is_new {
+        keys.remove(&key);
+    }
+    Err(AllocError)
 }
 
 /// Takes out the tuple of a key, and its key from the set; false, leaving the table unchanged, where it isn't there. Takes
@@ -37,8 +42,8 @@ pub fn remove_keyed<K: Key + Ord + Drop, V, T: Table<K, V>>(
     keys: &mut BTreeSet<K>,
     key: &K,
 ) -> bool
-    requires { Knows K.eq K.cmp keys.old (T.content table.old) }
-    ensures knows { Knows K.eq K.cmp keys.new (T.content table.new) }
+    requires { AreKeys K.eq K.cmp keys.old (T.content table.old) }
+    ensures keys { AreKeys K.eq K.cmp keys.new (T.content table.new) }
     ensures found { IsTrue result ↔ IsSome (find K.eq (T.content table.old) key.now) }
     ensures fewer { IsTrue (contains K.cmp keys.old key.now) → btree_set_len keys.new < btree_set_len keys.old }
     ensures removed { SetsOnly K.eq (T.content table.old) (T.content table.new) key.now None }
@@ -50,19 +55,22 @@ pub fn remove_keyed<K: Key + Ord + Drop, V, T: Table<K, V>>(
     table.remove(key)
 }
 
-/// Takes out each tuple whose moment is at or below now, and its key from the set. Takes no memory.
+/// Takes out each tuple whose moment is at or below now, and its key from the set, and gives their number. Takes no memory.
 pub fn expire_keyed<K: Key + Ord + Drop, V: Drop, T: Table<K, V>>(
     table: &mut T,
     keys: &mut BTreeSet<K>,
     now: u64,
-)
-    requires { Knows K.eq K.cmp keys.old (T.content table.old) }
-    ensures knows { Knows K.eq K.cmp keys.new (T.content table.new) }
+) -> usize
+    requires { AreKeys K.eq K.cmp keys.old (T.content table.old) }
+    ensures keys { AreKeys K.eq K.cmp keys.new (T.content table.new) }
     ensures kept { Expires K.eq now (T.content table.old) (T.content table.new) }
-    ensures count { length (T.content table.new) ≤ length (T.content table.old) }
+    ensures count { result + length (T.content table.new) ≡ length (T.content table.old) }
+    ensures none { result ≡ 0 → T.content table.new ≡ T.content table.old }
     ensures distinct { HasDistinctKeys K.eq (T.content table.new) }
 {
+    let before = table.len();
     while let Some(gone) = table.expire_next(now) {
         keys.remove(&gone.0);
     }
+    before - table.len()
 }

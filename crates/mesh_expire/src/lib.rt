@@ -2,6 +2,7 @@
 #![tactic(auto)]
 
 mod bases;
+mod expiring;
 mod index_table;
 mod keyed;
 mod keys;
@@ -10,6 +11,7 @@ mod no_table;
 mod table;
 
 pub use bases::{Bases, IndexedBases, NoBases, PlainBases};
+pub use expiring::expire_each;
 pub use index_table::IndexTable;
 pub use keyed::{expire_keyed, put_keyed, remove_keyed};
 pub use list_table::ListTable;

@@ -161,7 +161,7 @@ fn tcs_of_one_originator(rt: HostRuntime) -> Result<(), Fail> {
         ansn: 65535,
         to: 1,
         process: Process::Do,
-        taken: Some(TcTaken::Done),
+        taken: Some(TcTaken::Done { changed: true }),
         number: 65535,
         row: 1,
     };

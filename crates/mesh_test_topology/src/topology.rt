@@ -104,14 +104,23 @@ pub(crate) fn fills<B: Bases>(
     is_taken(alloc, &mut topology, taking, count)
 }
 
+/// A TC that changes what is advertised.
 fn done(ansn: u16, complete: bool, row: TcRow, counts: [usize; 4], number: Option<u16>) -> Taking {
     Taking {
         ansn,
         complete,
         row,
-        taken: TcTaken::Done,
+        taken: TcTaken::Done { changed: true },
         counts,
         number,
+    }
+}
+
+/// A TC that says again what is advertised.
+fn again(taking: Taking) -> Taking {
+    Taking {
+        taken: TcTaken::Done { changed: false },
+        ..taking
     }
 }
 
@@ -122,6 +131,7 @@ fn tcs_are_taken_in_turn(rt: HostRuntime) -> Result<(), Fail> {
         // an incomplete one leaves older tuples
         done(32769, false, router(5), [1, 2, 0, 0], Some(32769)),
         done(32769, false, address(5), [1, 2, 1, 0], Some(32769)),
+        again(done(32769, false, address(5), [1, 2, 1, 0], Some(32769))),
         done(32770, true, network(6, 2), [1, 0, 0, 1], None),
         // a row without metric gives nothing
         done(32771, true, bare(router(7)), [1, 0, 0, 0], None),
@@ -154,7 +164,7 @@ fn the_first_full_set_is_named(rt: HostRuntime) -> Result<(), Fail> {
     let routers = full(all, Base::Routers);
     let addresses = full(two, Base::Addresses);
     let networks = full(network(2, 1), Base::Networks);
-    let nothing = done(1, true, bare(all), [1, 0, 0, 0], None);
+    let nothing = again(done(1, true, bare(all), [1, 0, 0, 0], None));
     assert!(rt; over_indexed(rt.alloc(), Run::Fills(&most, 16384))?);
     assert!(rt; over_indexed(rt.alloc(), Run::Fills(&routers, 16385))?);
     assert!(rt; over_indexed(rt.alloc(), Run::Fills(&addresses, 16385))?);

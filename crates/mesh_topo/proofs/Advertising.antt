@@ -13,7 +13,7 @@ use Rattle.mesh_atoms.specs.declared.addr.NetAddr.{NetAddr}
 use Rattle.mesh_atoms.specs.declared.metric.Metric.{Metric}
 use Rattle.mesh_atoms.specs.declared.settings.Attached4.{Attached4}
 use Rattle.mesh_atoms.specs.declared.tc.TcRow.{TcRow}
-use Rattle.mesh_atoms.specs.Advertised.{Gives, AdvertisesBy, AdvertisesOriginatorBy, AdvertisesNetworkBy, IsRowBy, Of_address, Of_network, AreRowsBy, AreTcRows}
+use Rattle.mesh_atoms.specs.Advertised.{Gives, AdvertisesBy, AdvertisesOriginatorBy, IsRowBy, Of_address, Of_network, AreRowsBy, AreTcRows}
 use Rattle.mesh_atoms.specs.Base.{host, net_eq}
 use Rattle.mesh_atoms.specs.Codes.{metric_value}
 use Rattle.mesh_atoms.specs.Settings.{are_distinct}

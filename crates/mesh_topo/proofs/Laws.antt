@@ -1,23 +1,17 @@
 -- What a TC does to one set of tuples.
-use Rattle.std.proofs.Common.{◌≡◌, ℕ, zero, suc, ◌+◌, ◌<◌, ◌≤◌, ◌⊎◌, inl, inr, Bool, true, false, cond, not, ◌&&◌, List, [], ◌∷◌, ◌++◌, length, take, add-one, Option, Some, None, slice_index_or, refl, sym, ap, subst, ◌∙◌, arith}
-use Rattle.std.specs.Prelude.{slice_get, nat_eq, is_some, count_by}
-use Rattle.std.specs.List.{list_any, cons_option}
-use Rattle.std.specs.Map.{keys_of}
-use Rattle.std.proofs.Math.Seq.{take-suc}
-use Rattle.std.proofs.lemmas.Map.{lookup-none}
-use Rattle.std.proofs.lemmas.Map.Entries.{none_past_head}
-use Rattle.std.proofs.lemmas.List.{append-nil}
-use Rattle.std.proofs.lemmas.List.Elements.{filter_map-append}
+use Rattle.std.proofs.Common.{◌≡◌, ℕ, ◌+◌, ◌<◌, ◌≤◌, ◌⊎◌, inl, inr, Bool, true, false, cond, not, ◌&&◌, ◌||◌, List, length, take, Option, Some, None, slice_index_or, refl, sym, ap, subst, ◌∙◌, arith, eq-eqb}
+use Rattle.std.specs.Prelude.{option_map, slice_get, nat_eq, is_some, count_by}
 use Rattle.std.specs.Cmp.{IsEquivalence}
 use Rattle.std.proofs.lemmas.Bool.{cases_lt, cases_Bool}
 use Rattle.std.proofs.lemmas.List.Sums.{count_by_more_yes, count_by_more_no}
-use Rattle.std.proofs.lemmas.Map.Keys.{IsDistinct-tail}
 use Rattle.std.proofs.lemmas.Option.{slice_get-get_or, slice_get_within, get_or_from_slice_get}
 use Rattle.mesh_atoms.specs.declared.addr.Addr4.{Addr4}
+use Rattle.mesh_atoms.specs.declared.metric.Metric.{Metric}
 use Rattle.mesh_atoms.specs.declared.tc.Tc.{Tc}
-use Rattle.mesh_atoms.specs.Base.{Base, find, HasDistinctKeys, addr_eq}
+use Rattle.mesh_atoms.specs.Base.{Base, find, SetsOnly, addr_eq}
 use Rattle.mesh_atoms.specs.AfterTc.{if_not_dropped, Becomes, BecomesSet, Given, Left}
-use Rattle.mesh_topo.specs.Sets.{GivenBy, GivenBefore, PutsGiven, PutsRows, Put, Stood, is_outdated, outdated_in}
+use Rattle.mesh_topo.specs.Same.{SaysSame}
+use Rattle.mesh_topo.specs.Sets.{GivenBy, GivenBefore, PutsGiven, PutsRows, Put, Stood, has_other_number, is_outdated}
 
 -- ---- rows that are put one after the other
 
@@ -73,12 +67,6 @@ module _ {R K V : Type 0} {eq : K → K → Bool} (laws : IsEquivalence eq) (exa
 pub at_place : {R : Type 0} (xs rows : List R) (i : ℕ) (row : R) → xs ≡ rows → i < length xs → row ≡ slice_index_or xs i row → slice_get rows i ≡ Some row
 at_place xs rows i row same lt is = subst (λ (ys : List _). slice_get ys i ≡ Some row) same (slice_get-get_or xs i row lt ∙ ap Some (sym is))
 
--- something stands at each place of a list
-pub nothing_there : {R : Type 0} (xs : List R) (i : ℕ) → i < length xs → None ≡ slice_get xs i → ⊥
-nothing_there [] i lt none = omega arith
-nothing_there (x ∷ xs) zero lt none = absurd cc
-nothing_there (x ∷ xs) (suc i) lt none = nothing_there xs i (omega arith) none
-
 -- one more may be put where the row gives something
 pub count_more : {R A : Type 0} (given : R → Option A) (rows : List R) (i : ℕ) (row : R) (gives : Option A) (before now after : ℕ) → slice_get rows i ≡ Some row → gives ≡ given row →
     now ≤ before + count_by (λ r. is_some (given r)) (take i rows) → after ≤ now + cond (is_some gives) 1 0 → after ≤ before + count_by (λ r. is_some (given r)) (take (i + 1) rows)
@@ -93,13 +81,23 @@ count_more given rows i row gives before now after here is so_far puts =
 
 -- ---- tuples that are taken out
 
+cond_same : {A : Type 0} (b : Bool) (x : A) → cond b x x ≡ x
+cond_same true x = refl
+cond_same false x = refl
+
 -- what is left of a tuple
-left_of : {V : Type 0} (tc : Tc) (from : Addr4) (number : V → ℕ) → tc.complete ≡ true → (e : V × ℕ) → if_not_dropped tc from number (Some e) ≡ cond (is_outdated tc.originator tc.ansn from (number e.0)) None (Some e)
-left_of tc from number complete e = by_case (addr_eq from tc.originator) (nat_eq (number e.0) tc.ansn) tc.complete complete where
-  by_case : (a n b : Bool) → b ≡ true → cond (a && (b && not n)) None (Some e) ≡ cond (a && not n) None (Some e)
+left_of : {V : Type 0} (tc : Tc) (from : Addr4) (number : V → ℕ) → tc.complete ≡ true → (o : Option (V × ℕ)) → cond (addr_eq from tc.originator && has_other_number tc.ansn number o) None o ≡ if_not_dropped tc from number o
+left_of tc from number complete None = cond_same (addr_eq from tc.originator && false) None
+left_of tc from number complete (Some e) = by_case (addr_eq from tc.originator) (nat_eq (number e.0) tc.ansn) tc.complete complete where
+  by_case : (a n b : Bool) → b ≡ true → cond (a && not n) None (Some e) ≡ cond (a && (b && not n)) None (Some e)
   by_case true n true h = refl
   by_case false n b h = refl
   by_case true n false h = absurd cc
+
+-- what is left at a key, where those that are outdated go
+pub left_at : {K V : Type 0} (eq : K → K → Bool) (tc : Tc) (from : K → Addr4) (number : V → ℕ) → tc.complete ≡ true → (base : Base K V) (q : K) →
+    cond (is_outdated eq tc.originator tc.ansn from number base q) None (find eq base q) ≡ if_not_dropped tc (from q) number (find eq base q)
+left_at eq tc from number complete base q = left_of tc (from q) number complete (find eq base q)
 
 -- an incomplete TC leaves all
 pub left_all : {V : Type 0} (tc : Tc) (from : Addr4) (number : V → ℕ) (o : Option (V × ℕ)) → tc.complete ≡ false → if_not_dropped tc from number o ≡ o
@@ -110,67 +108,36 @@ left_all tc from number (Some e) incomplete = by_case (addr_eq from tc.originato
   by_case true false h = refl
   by_case true true h = absurd cc
 
-module _ {K V : Type 0} (originator : Addr4) (ansn : ℕ) (from : K → Addr4) (number : V → ℕ) where
-  abbrev Out : Base K V → List K
-  Out base = outdated_in originator ansn from number base
+-- what has the TC's number stays
+kept_numbered : {V : Type 0} (tc : Tc) (from : Addr4) (number : V → ℕ) (value : V) (until : ℕ) → number value ≡ tc.ansn → if_not_dropped tc from number (Some (value, until)) ≡ Some (value, until)
+kept_numbered {V} tc from number value until is = ap (λ (n : Bool). cond {A = Option (V × ℕ)} (addr_eq from tc.originator && (tc.complete && not n)) None (Some (value, until))) same ∙ by_case (addr_eq from tc.originator) tc.complete where
+  same : nat_eq (number value) tc.ansn ≡ true
+  same = eq-eqb (number value) tc.ansn is
 
-  -- one entry more
-  out_last : (base : Base K V) (place : ℕ) (e : K × (V × ℕ)) → slice_get base place ≡ Some e →
-      Out (take (place + 1) base) ≡ Out (take place base) ++ cons_option (cond (is_outdated originator ansn (from e.0) (number e.1.0)) (Some e.0) None) []
-  out_last base place e at =
-      let last : take (place + 1) base ≡ take place base ++ e ∷ [] = ap (λ (n : ℕ). take n base) (add-one place) ∙ take-suc base place e (slice_get_within base place e at) ∙ ap (λ (x : K × (V × ℕ)). take place base ++ x ∷ []) (get_or_from_slice_get base place e e at) in
-      ap Out last ∙ filter_map-append _ (take place base) (e ∷ [])
+  by_case : (a b : Bool) → cond {A = Option (V × ℕ)} (a && (b && not true)) None (Some (value, until)) ≡ Some (value, until)
+  by_case true true = refl
+  by_case true false = refl
+  by_case false b = refl
 
-  pub out_more : (base : Base K V) (place : ℕ) (e : K × (V × ℕ)) → slice_get base place ≡ Some e → is_outdated originator ansn (from e.0) (number e.1.0) ≡ true → Out (take (place + 1) base) ≡ Out (take place base) ++ e.0 ∷ []
-  out_more base place e at is = out_last base place e at ∙ ap (λ (b : Bool). Out (take place base) ++ cons_option (cond b (Some e.0) None) []) is
+-- ---- what is said
 
-  pub out_same : (base : Base K V) (place : ℕ) (e : K × (V × ℕ)) → slice_get base place ≡ Some e → is_outdated originator ansn (from e.0) (number e.1.0) ≡ false → Out (take (place + 1) base) ≡ Out (take place base)
-  out_same base place e at is = out_last base place e at ∙ ap (λ (b : Bool). Out (take place base) ++ cons_option (cond b (Some e.0) None) []) is ∙ append-nil (Out (take place base))
+pub neither : (a b : Bool) → (a || b) ≡ false → (a ≡ false) × (b ≡ false)
+neither false b h = (refl, h)
+neither true b h = absurd cc
 
--- what a key that is another's adds to a search
-any_other : {K : Type 0} (test : K → Bool) (b : Bool) (key : K) (rest : List K) → test key ≡ false → list_any test (cons_option (cond b (Some key) None) rest) ≡ list_any test rest
-any_other test true key rest apart = rw apart refl
-any_other test false key rest apart = refl
+module _ {K V : Type 0} (eq : K → K → Bool) (says : V → Option ℕ × Metric) where
+  pub same_after : (old mid new : Base K V) → SaysSame eq says old mid → SaysSame eq says mid new → SaysSame eq says old new
+  same_after old mid new h k q = k q ∙ h q
 
-module _ {K V : Type 0} {eq : K → K → Bool} (laws : IsEquivalence eq) (exact : (a b : K) → eq a b ≡ true → a ≡ b) (tc : Tc) (from : K → Addr4) (number : V → ℕ) where
-  abbrev OutOf : Base K V → List K
-  OutOf base = outdated_in tc.originator tc.ansn from number base
+  pub same_equal : (old new : Base K V) → new ≡ old → SaysSame eq says old new
+  same_equal old new is q = ap (λ (b : Base K V). option_map (λ e. says e.0) (find eq b q)) is
 
-  -- a key that isn't there isn't taken out
-  none_out : (q : K) (base : Base K V) → find eq base q ≡ None → list_any (eq q) (OutOf base) ≡ false
-  none_out q [] none = refl
-  none_out q (e ∷ es) none = by_key (eq q e.0) refl (none_out q es) where
-    by_key : (b : Bool) → eq q e.0 ≡ b → (find eq es q ≡ None → list_any (eq q) (OutOf es) ≡ false) → list_any (eq q) (OutOf (e ∷ es)) ≡ false
-    by_key true is others = absurd (let some : find eq (e ∷ es) q ≡ Some e.1 = rw is refl in cc)
-    by_key false is others =
-        let behind : find eq (e ∷ es) q ≡ find eq es q = rw is refl in
-        any_other (eq q) _ e.0 (OutOf es) is ∙ others (sym behind ∙ none)
-
-  -- what is left at a key
-  pub left_at : tc.complete ≡ true → (q : K) (base : Base K V) → HasDistinctKeys eq base → cond (list_any (eq q) (OutOf base)) None (find eq base q) ≡ if_not_dropped tc (from q) number (find eq base q)
-  left_at complete q [] distinct = refl
-  left_at complete q (e ∷ es) distinct = by_key (eq q e.0) refl (left_at complete q es (IsDistinct-tail eq e.0 (keys_of es) distinct)) where
-    by_out : (b : Bool) → eq q e.0 ≡ true → list_any (eq q) (OutOf es) ≡ false → cond (list_any (eq q) (cons_option (cond b (Some e.0) None) (OutOf es))) None (Some e.1) ≡ cond b None (Some e.1)
-    by_out true is none = rw is refl
-    by_out false is none = rw none refl
-
-    by_key : (b : Bool) → eq q e.0 ≡ b → cond (list_any (eq q) (OutOf es)) None (find eq es q) ≡ if_not_dropped tc (from q) number (find eq es q) →
-        cond (list_any (eq q) (OutOf (e ∷ es))) None (find eq (e ∷ es) q) ≡ if_not_dropped tc (from q) number (find eq (e ∷ es) q)
-    by_key true is others =
-        let here : find eq (e ∷ es) q ≡ Some e.1 = rw is refl in
-        let none : find eq es q ≡ None = lookup-none (eq q) es (none_past_head laws q e es distinct is) in
-        let key_is : e.0 ≡ q = sym (exact q e.0 is) in
-        ap (λ (o : Option (V × ℕ)). cond (list_any (eq q) (OutOf (e ∷ es))) None o) here
-        ∙ by_out (is_outdated tc.originator tc.ansn (from e.0) (number e.1.0)) is (none_out q es none)
-        ∙ ap (λ (k : K). cond (is_outdated tc.originator tc.ansn (from k) (number e.1.0)) None (Some e.1)) key_is
-        ∙ sym (left_of tc (from q) number complete e.1)
-        ∙ ap (λ (o : Option (V × ℕ)). if_not_dropped tc (from q) number o) (sym here)
-    by_key false is others =
-        let behind : find eq (e ∷ es) q ≡ find eq es q = rw is refl in
-        ap (λ (o : Option (V × ℕ)). cond (list_any (eq q) (OutOf (e ∷ es))) None o) behind
-        ∙ ap (λ (b : Bool). cond b None (find eq es q)) (any_other (eq q) _ e.0 (OutOf es) is)
-        ∙ others
-        ∙ ap (λ (o : Option (V × ℕ)). if_not_dropped tc (from q) number o) (sym behind)
+  -- a tuple in place of one that says the same
+  pub same_put : (exact : (a b : K) → eq a b ≡ true → a ≡ b) (key : K) (value : V) (until : ℕ) (old new : Base K V) → option_map (λ e. says e.0) (find eq old key) ≡ Some (says value) → SetsOnly eq old new key (Some (value, until)) → SaysSame eq says old new
+  same_put exact key value until old new stood sets q = ap (option_map (λ e. says e.0)) (sets q) ∙ by_key (eq key q) refl where
+    by_key : (b : Bool) → eq key q ≡ b → option_map (λ e. says e.0) (cond b (Some (value, until)) (find eq old q)) ≡ option_map (λ e. says e.0) (find eq old q)
+    by_key false is = refl
+    by_key true is = sym (subst (λ (k : K). option_map (λ e. says e.0) (find eq old k) ≡ Some (says value)) (exact key q is) stood)
 
 -- ---- all of it
 
@@ -181,11 +148,13 @@ given_all given tc key value (row, (k, lt, at), is) = (k, row, lt, slice_get-get
 pub all_given : {K V : Type 0} (given : Addr4 → ℕ → _ → Option (K × V)) (tc : Tc) (key : K) (value : V) → GivenBefore (given tc.originator tc.ansn) tc.rows (length tc.rows) key value → GivenBy given tc key value
 all_given given tc key value (k, row, lt, at, is) = (row, (k, lt, get_or_from_slice_get tc.rows k row row at), is)
 
--- what is left, and then what the rows give
-pub becomes : {K V : Type 0} (given : Addr4 → ℕ → _ → Option (K × V)) (tc : Tc) (until : ℕ) (from : K → Addr4) (number : V → ℕ) (key : K) (old mid new : Option (V × ℕ)) →
-    mid ≡ if_not_dropped tc (from key) number old → PutsRows (given tc.originator tc.ansn) until tc.rows (length tc.rows) key mid new → Becomes tc until from number (GivenBy given tc) key old new
-becomes given tc until from number key old mid new left (Put value before is) = Given value (all_given given tc key value before) is
-becomes given tc until from number key old mid new left (Stood not is) = Left (λ value gives. not value (given_all given tc key value gives)) (is ∙ left)
+-- what the rows give, and then what is left
+pub becomes : {K V : Type 0} (given : Addr4 → ℕ → _ → Option (K × V)) (tc : Tc) (until : ℕ) (from : K → Addr4) (number : V → ℕ) (key : K) (old mid new : Option (V × ℕ)) → ((value : V) → GivenBy given tc key value → number value ≡ tc.ansn) →
+    PutsRows (given tc.originator tc.ansn) until tc.rows (length tc.rows) key old mid → new ≡ if_not_dropped tc (from key) number mid → Becomes tc until from number (GivenBy given tc) key old new
+becomes given tc until from number key old mid new numbered (Put value before is) left =
+    let gives : GivenBy given tc key value = all_given given tc key value before in
+    Given value gives (left ∙ ap (if_not_dropped tc (from key) number) is ∙ kept_numbered tc (from key) number value until (numbered value gives))
+becomes given tc until from number key old mid new numbered (Stood not is) left = Left (λ value gives. not value (given_all given tc key value gives)) (left ∙ ap (if_not_dropped tc (from key) number) is)
 
 -- what gives a tuple, in other words
 becomes_by : {K V : Type 0} (tc : Tc) (until : ℕ) (from : K → Addr4) (number : V → ℕ) (G G' : K → V → Type 0) (key : K) (old new : Option (V × ℕ)) → ((value : V) → G key value → G' key value) → ((value : V) → G' key value → G key value) →

@@ -1,4 +1,5 @@
 pub mod Full
+pub mod Originators
 pub mod RowKinds
 pub mod RowOrder
 pub mod Soundness

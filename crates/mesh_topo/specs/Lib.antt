@@ -1,5 +1,7 @@
 pub mod Answers
+pub mod Given
 pub mod Offers
+pub mod Same
 pub mod Selectors
 pub mod Sets
 pub mod Tuples

@@ -1,5 +1,5 @@
 -- One set of tuples, and what a TC does to it.
-use Rattle.std.specs.Prelude.{◌≡◌, ℕ, ◌<◌, ◌≤◌, List, Contains, Option, Some, None, Bool, cond, not, nat_eq, ◌&&◌, slice_get, length, filter_map}
+use Rattle.std.specs.Prelude.{◌≡◌, ℕ, ◌<◌, ◌≤◌, List, Contains, Option, Some, None, Bool, not, nat_eq, ◌&&◌, false, slice_get, length}
 use Rattle.mesh_atoms.specs.declared.addr.Addr4.{Addr4}
 use Rattle.mesh_atoms.specs.declared.tc.Tc.{Tc}
 use Rattle.mesh_atoms.specs.declared.tc.TcRow.{TcRow}
@@ -32,13 +32,14 @@ abbrev pub PutsGiven : {K V : Type 0} → (K → K → Bool) → Option (K × V)
 PutsGiven eq None until old new = Same eq old new
 PutsGiven eq (Some e) until old new = SetsOnly eq old new e.0 (Some (e.1, until))
 
--- whether a tuple is of that originator, with another number
-abbrev pub is_outdated : Addr4 → ℕ → Addr4 → ℕ → Bool
-is_outdated originator ansn from number = addr_eq from originator && not (nat_eq number ansn)
+-- whether a tuple stands that has another number
+abbrev pub has_other_number : {V : Type 0} → ℕ → (V → ℕ) → Option (V × ℕ) → Bool
+has_other_number ansn number None = false
+has_other_number ansn number (Some e) = not (nat_eq (number e.0) ansn)
 
--- the keys of such tuples
-abbrev pub outdated_in : {K V : Type 0} → Addr4 → ℕ → (K → Addr4) → (V → ℕ) → Base K V → List K
-outdated_in originator ansn from number base = filter_map (λ e. cond (is_outdated originator ansn (from e.0) (number e.1.0)) (Some e.0) None) base
+-- whether a tuple of that originator with another number stands at a key
+abbrev pub is_outdated : {K V : Type 0} → (K → K → Bool) → Addr4 → ℕ → (K → Addr4) → (V → ℕ) → Base K V → K → Bool
+is_outdated eq originator ansn from number base key = addr_eq (from key) originator && has_other_number ansn number (find eq base key)
 
 -- each of the four sets has at most 16,384 tuples
 pub record AreFew (topology : Topology) : Type 0 where

@@ -1,5 +1,5 @@
 -- The tuples that the rows of a TC give.
-use Rattle.std.specs.Prelude.{◌≡◌, ℕ, Option, Some, None, cond, option_map}
+use Rattle.std.specs.Prelude.{ℕ, Option, Some, None, cond, option_map}
 use Rattle.mesh_atoms.specs.declared.addr.Addr4.{Addr4}
 use Rattle.mesh_atoms.specs.declared.addr.NetAddr.{NetAddr}
 use Rattle.mesh_atoms.specs.declared.metric.Metric.{Metric}
@@ -28,6 +28,16 @@ network_with from ansn net distance metric = None
 
 abbrev pub network_of : Addr4 → ℕ → TcRow → Option (NetworkKey × NetworkTuple)
 network_of from ansn row = network_with from ansn row.dest row.gateway row.metric
+
+-- what a tuple says beside its number: the distance of a network, and the metric
+abbrev pub router_says : RouterTuple → Option ℕ × Metric
+router_says t = (None, t.metric)
+
+abbrev pub address_says : AddressTuple → Option ℕ × Metric
+address_says t = (None, t.metric)
+
+abbrev pub network_says : NetworkTuple → Option ℕ × Metric
+network_says t = (Some t.distance, t.metric)
 
 -- what is an address of a router in a TC is a single address
 abbrev pub HasHosts : Tc → Type 0

@@ -1,6 +1,8 @@
 //! The topology that TCs tell (RFC 7181, section 10), and the rows that a router's own TCs tell (section 16.1).
 #![tactic(auto)]
 
+mod keyed_set;
+mod outdated;
 mod rows;
 mod set;
 mod take;

@@ -1,13 +1,15 @@
 //! The taking of a TC (RFC 7181, section 16.3.3).
-ghost use Rattle.std.specs.Prelude.{◌≡◌, ◌+◌, ◌<◌, ◌≤◌, ◌^◌, ℕ, length, nat_lt, IfSome, IfNone, IfOk, OnOk};
-ghost use Rattle.mesh_atoms.specs.Base.{HasDistinctKeys, find, addr_eq, router_eq, address_eq, network_eq};
+ghost use Rattle.std.specs.Prelude.{◌≡◌, ◌+◌, ◌<◌, ◌≤◌, ◌^◌, ℕ, length, nat_lt, false, IfSome, IfNone, IfOk, OnOk};
+ghost use Rattle.mesh_atoms.specs.Base.{find, addr_eq};
 ghost use Rattle.mesh_atoms.specs.Codes.{Newer};
 ghost use Rattle.mesh_atoms.specs.AfterTc.{TakesTc, first_overfull};
-ghost use Rattle.mesh_topo.specs.Answers.{answer_of};
+ghost use Rattle.mesh_topo.specs.Answers.{answer_of, changes};
+ghost use Rattle.mesh_topo.specs.Same.{SameAdvertised};
 ghost use Rattle.mesh_topo.specs.Sets.{AreFew, KeepsNewer, sets_of};
 ghost use Rattle.mesh_topo.specs.Tuples.{HasHosts};
 
-use crate::set::{count_given, take_rows};
+use crate::keyed_set::KeyedSet;
+use crate::set::count_given;
 use crate::topology::TcTaken;
 use mesh_atoms::{
     Addr4, AddressKey, AddressTuple, Advertiser, Base, NetworkKey, NetworkTuple, RouterKey,
@@ -24,9 +26,9 @@ pub(crate) fn take<
     N: Table<NetworkKey, NetworkTuple>,
 >(
     advertisers: &mut A,
-    routers: &mut R,
-    addresses: &mut D,
-    networks: &mut N,
+    routers: &mut KeyedSet<RouterKey, RouterTuple, R>,
+    addresses: &mut KeyedSet<AddressKey, AddressTuple, D>,
+    networks: &mut KeyedSet<NetworkKey, NetworkTuple, N>,
     now: u64,
     tc: &Tc,
 ) -> Result<TcTaken, AllocError>
@@ -34,11 +36,14 @@ pub(crate) fn take<
     requires validity { tc.now.validity < 2 ^ 62 }
     requires hosts { HasHosts tc.now }
     ensures ok { IfOk result (λ taken. TakesTc now tc.now
-        (sets_of (A.content advertisers.old) (R.content routers.old) (D.content addresses.old) (N.content networks.old))
-        (sets_of (A.content advertisers.new) (R.content routers.new) (D.content addresses.new) (N.content networks.new))
+        (sets_of (A.content advertisers.old) routers.old addresses.old networks.old)
+        (sets_of (A.content advertisers.new) routers.new addresses.new networks.new)
         (answer_of taken)) }
-    ensures within { OnOk result (AreFew (sets_of (A.content advertisers.old) (R.content routers.old) (D.content addresses.old) (N.content networks.old))
-        → AreFew (sets_of (A.content advertisers.new) (R.content routers.new) (D.content addresses.new) (N.content networks.new))) }
+    ensures same { IfOk result (λ taken. changes taken ≡ false → SameAdvertised
+        (sets_of (A.content advertisers.old) routers.old addresses.old networks.old)
+        (sets_of (A.content advertisers.new) routers.new addresses.new networks.new)) }
+    ensures within { OnOk result (AreFew (sets_of (A.content advertisers.old) routers.old addresses.old networks.old)
+        → AreFew (sets_of (A.content advertisers.new) routers.new addresses.new networks.new)) }
 {
     if let Some(kept) = newer_kept(advertisers, tc) {
         return Ok(TcTaken::Old { kept });
@@ -48,10 +53,10 @@ pub(crate) fn take<
     }
     let until = now + tc.validity;
     advertisers.put(tc.originator, Advertiser { ansn: tc.ansn }, until)?;
-    take_rows(routers, tc, until)?;
-    take_rows(addresses, tc, until)?;
-    take_rows(networks, tc, until)?;
-    Ok(TcTaken::Done)
+    let mut changed = routers.take_rows(tc, until)?;
+    changed |= addresses.take_rows(tc, until)?;
+    changed |= networks.take_rows(tc, until)?;
+    Ok(TcTaken::Done { changed })
 }
 
 // The number that is kept of the TC's originator, if it is newer than the TC's.
@@ -80,12 +85,15 @@ fn first_full<
     R: Table<RouterKey, RouterTuple>,
     D: Table<AddressKey, AddressTuple>,
     N: Table<NetworkKey, NetworkTuple>,
->(advertisers: &A, routers: &R, addresses: &D, networks: &N, tc: &Tc) -> Option<Base>
-    ensures first { result ≡ first_overfull
-        (sets_of (A.content advertisers.now) (R.content routers.now) (D.content addresses.now) (N.content networks.now)) tc.now }
-    ensures distinct_routers { IfNone result (HasDistinctKeys router_eq (R.content routers.now)) }
-    ensures distinct_addresses { IfNone result (HasDistinctKeys address_eq (D.content addresses.now)) }
-    ensures distinct_networks { IfNone result (HasDistinctKeys network_eq (N.content networks.now)) }
+>(
+    advertisers: &A,
+    routers: &KeyedSet<RouterKey, RouterTuple, R>,
+    addresses: &KeyedSet<AddressKey, AddressTuple, D>,
+    networks: &KeyedSet<NetworkKey, NetworkTuple, N>,
+    tc: &Tc,
+) -> Option<Base>
+    ensures { result ≡ first_overfull
+        (sets_of (A.content advertisers.now) routers.now addresses.now networks.now) tc.now }
 {
     if is_overfull(advertisers.len(), 1) {
         return Some(Base::Advertisers);

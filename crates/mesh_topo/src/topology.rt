@@ -1,16 +1,20 @@
 //! The topology bases of a router.
-ghost use Rattle.std.specs.Prelude.{◌≡◌, [], ℕ, ◌<◌, ◌^◌, IfOk, OnOk};
+ghost use Rattle.std.specs.Prelude.{◌≡◌, [], ℕ, ◌<◌, ◌^◌, false, IfOk, OnOk};
 ghost use Rattle.mesh_atoms.specs.declared.settings.RouterSettings.{RouterSettings};
 ghost use Rattle.mesh_atoms.specs.AfterTc.{TakesTc};
 ghost use Rattle.mesh_atoms.specs.Live.{LiveTopology};
 ghost use Rattle.mesh_atoms.specs.Sound.{SoundTopology};
 ghost use Rattle.mesh_atoms.specs.State.{IsOriginator};
-ghost use Rattle.mesh_topo.specs.Answers.{answer_of};
+ghost use Rattle.mesh_topo.specs.Answers.{answer_of, changes};
+ghost use Rattle.mesh_topo.specs.Same.{SameAdvertised};
 ghost use Rattle.mesh_topo.specs.Sets.{AreFew, AreFresh};
 ghost use Rattle.mesh_topo.specs.Tuples.{HasHosts};
 
+use crate::keyed_set::KeyedSet;
 use crate::take::take;
-use mesh_atoms::{Base, Tc};
+use mesh_atoms::{
+    AddressKey, AddressTuple, Base, NetworkKey, NetworkTuple, RouterKey, RouterTuple, Tc,
+};
 use mesh_expire::{Bases, Table};
 use std::alloc::{AllocError, Global};
 use std::marker::Model;
@@ -18,8 +22,9 @@ use std::marker::Model;
 /// What came of a TC.
 #[derive(Clone, Copy, Debug, PartialEq, Eq)]
 pub enum TcTaken {
-    /// It is taken.
-    Done,
+    /// It is taken. Where nothing changed, the same routers, addresses and networks are advertised at the same metrics and
+    /// distances as before.
+    Done { changed: bool },
     /// Nothing changed, since a newer number of its originator is kept.
     Old { kept: u16 },
     /// Nothing changed, since this set would have more than 16,384 tuples.
@@ -30,9 +35,9 @@ pub enum TcTaken {
 #[derive(Drop)]
 pub struct Topology<B: Bases> {
     advertisers: B::Advertisers,
-    routers: B::Routers,
-    addresses: B::Addresses,
-    networks: B::Networks,
+    routers: KeyedSet<RouterKey, RouterTuple, B::Routers>,
+    addresses: KeyedSet<AddressKey, AddressTuple, B::Addresses>,
+    networks: KeyedSet<NetworkKey, NetworkTuple, B::Networks>,
 }
 
 impl<B: Bases> Model for Topology<B> {
@@ -42,9 +47,9 @@ impl<B: Bases> Model for Topology<B> {
 
     ghost view = { λ t. record {
       advertisers = B.Advertisers.content t.advertisers;
-      routers = B.Routers.content t.routers;
-      addresses = B.Addresses.content t.addresses;
-      networks = B.Networks.content t.networks;
+      routers = t.routers;
+      addresses = t.addresses;
+      networks = t.networks;
     } };
 }
 
@@ -59,9 +64,9 @@ impl<B: Bases> Topology<B> {
     {
         Ok(Topology {
             advertisers: B::Advertisers::new(alloc)?,
-            routers: B::Routers::new(alloc)?,
-            addresses: B::Addresses::new(alloc)?,
-            networks: B::Networks::new(alloc)?,
+            routers: KeyedSet::new(alloc)?,
+            addresses: KeyedSet::new(alloc)?,
+            networks: KeyedSet::new(alloc)?,
         })
     }
 
@@ -69,12 +74,13 @@ impl<B: Bases> Topology<B> {
     /// kept of its originator is newer than its own, and then `Full` where a set has more than 16,384 tuples with the
     /// rows that the TC has for it (one for the advertisers), the first such set. Rows without a metric count for
     /// nothing. Rows of originators and of routable addresses must have the prefix 32. After want of memory the value
-    /// may only be dropped. Takes one pass over each set, and a `put` for each row.
+    /// may only be dropped. Looks at the tuples of its originator alone, and takes memory for their keys.
     pub fn take_tc(&mut self, now: u64, tc: &Tc) -> Result<TcTaken, AllocError>
         requires now { now < 2 ^ 62 }
         requires validity { tc.now.validity < 2 ^ 62 }
         requires hosts { HasHosts tc.now }
         ensures ok { IfOk result (λ taken. TakesTc now tc.now self.old self.new (answer_of taken)) }
+        ensures same { IfOk result (λ taken. changes taken ≡ false → SameAdvertised self.old self.new) }
         ensures within { OnOk result (AreFew self.old → AreFew self.new) }
         ensures fresh { OnOk result (0 < tc.now.validity → AreFresh now self.old → AreFresh now self.new) }
         // A TC of another router keeps what holds of the topology after every event.
@@ -91,17 +97,20 @@ impl<B: Bases> Topology<B> {
         )
     }
 
-    /// Takes out what is expired at that moment (RFC 7181, section 10). Takes no memory.
-    pub fn expire(&mut self, now: u64)
+    /// Takes out what is expired at that moment (RFC 7181, section 10), and tells whether a router, an address or a network
+    /// went. Takes no memory.
+    pub fn expire(&mut self, now: u64) -> bool
         ensures live { LiveTopology now self.old self.new }
+        ensures same { result ≡ false → SameAdvertised self.old self.new }
         ensures within { AreFew self.old → AreFew self.new }
         ensures fresh { AreFresh now self.new }
         ensures sound { (settings : RouterSettings) (before : ℕ) → SoundTopology settings before self.old → SoundTopology settings now self.new }
     {
         self.advertisers.expire(now);
-        self.routers.expire(now);
-        self.addresses.expire(now);
-        self.networks.expire(now);
+        let mut changed = self.routers.expire(now);
+        changed |= self.addresses.expire(now);
+        changed |= self.networks.expire(now);
+        changed
     }
 
     /// Who advertises.
@@ -115,20 +124,20 @@ impl<B: Bases> Topology<B> {
     pub fn routers(&self) -> &B::Routers
         ensures { B.Routers.content result.now ≡ self.now.routers }
     {
-        &self.routers
+        self.routers.table()
     }
 
     /// Which routable addresses are advertised.
     pub fn addresses(&self) -> &B::Addresses
         ensures { B.Addresses.content result.now ≡ self.now.addresses }
     {
-        &self.addresses
+        self.addresses.table()
     }
 
     /// Which attached networks are advertised.
     pub fn networks(&self) -> &B::Networks
         ensures { B.Networks.content result.now ≡ self.now.networks }
     {
-        &self.networks
+        self.networks.table()
     }
 }

@@ -1,17 +1,22 @@
 //! The tuples that the rows of a TC give (RFC 7181, section 16.3.3).
-ghost use Rattle.std.specs.Prelude.{◌≡◌, ℕ, Option};
+ghost use Rattle.std.specs.Prelude.{◌≡◌, ◌≤◌, ℕ, Option, Some, IsTrue, false};
+ghost use Rattle.std.specs.Ordering.{is_gt};
 ghost use Rattle.mesh_atoms.specs.declared.addr.Addr4.{Addr4};
+ghost use Rattle.mesh_atoms.specs.declared.metric.Metric.{Metric};
 ghost use Rattle.mesh_atoms.specs.declared.tc.TcRow.{TcRow};
 
 use mesh_atoms::{
-    Addr4, AddressKey, AddressTuple, NetworkKey, NetworkTuple, RouterKey, RouterTuple, TcRow,
+    Addr4, AddressKey, AddressTuple, NetAddr, NetworkKey, NetworkTuple, RouterKey, RouterTuple,
+    TcRow,
 };
 
 /// A kind of tuple that a row of a TC may give.
-pub(crate) trait Tuple<K>: Sized {
+pub(crate) trait Tuple<K: Ord>: Sized {
     ghost origin: { K → Addr4 };
 
     ghost number: { Self → ℕ };
+
+    ghost says: { Self → Option ℕ × Metric };
 
     ghost given: { Addr4 → ℕ → TcRow → Option (K × Self) };
 
@@ -23,17 +28,35 @@ pub(crate) trait Tuple<K>: Sized {
     fn number_of(&self) -> u16
         ensures { result ≡ number self.now };
 
+    /// Whether two tuples say the same, whatever their numbers.
+    fn says_as(&self, other: &Self) -> bool
+        ensures { IsTrue result → says self.now ≡ says other.now };
+
+    /// No key of the originator is before this one.
+    fn first_key(originator: Addr4) -> K
+        ensures of { origin result ≡ originator }
+        ensures first { (q : K) → origin q ≡ originator → is_gt (K.cmp result q) ≡ false };
+
     /// What a row gives in a TC of that originator and number.
     fn given_by(originator: Addr4, ansn: u16, row: &TcRow) -> Option<(K, Self)>
         ensures { result ≡ given originator ansn row.now };
+
+    ghost numbered: { (from : Addr4) (ansn : ℕ) (row : TcRow) (key : K) (tuple : Self) → given from ansn row ≡ Some (key, tuple) → number tuple ≡ ansn };
+
+    ghost by_origin: { (a b : K) → is_gt (K.cmp a b) ≡ false → (origin a).0 ≤ (origin b).0 };
 }
 
 impl Tuple<RouterKey> for RouterTuple {
-    ghost use Rattle.mesh_topo.specs.Tuples.{router_of};
+    ghost use Rattle.mesh_topo.specs.Tuples.{router_of, router_says};
+    ghost use Rattle.std.specs.Prelude.{refl};
+    ghost use Rattle.mesh_expire.proofs.Moments.{no_later};
+    ghost use Rattle.mesh_topo.specs.Given.{router_numbered};
 
     ghost origin = { λ key. key.from };
 
     ghost number = { λ tuple. tuple.ansn };
+
+    ghost says = { router_says };
 
     ghost given = { router_of };
 
@@ -44,6 +67,21 @@ impl Tuple<RouterKey> for RouterTuple {
     fn number_of(&self) -> u16 {
         self.ansn
     }
+
+    fn says_as(&self, other: &RouterTuple) -> bool {
+        self.metric == other.metric
+    }
+
+    fn first_key(originator: Addr4) -> RouterKey {
+        RouterKey {
+            from: originator,
+            to: Addr4(0),
+        }
+    }
+
+    ghost numbered = { router_numbered };
+
+    ghost by_origin = { λ a b h. no_later a.from.0 b.from.0 _ _ refl h };
 
     fn given_by(originator: Addr4, ansn: u16, row: &TcRow) -> Option<(RouterKey, RouterTuple)> {
         if !row.origin {
@@ -59,11 +97,16 @@ impl Tuple<RouterKey> for RouterTuple {
 }
 
 impl Tuple<AddressKey> for AddressTuple {
-    ghost use Rattle.mesh_topo.specs.Tuples.{address_of};
+    ghost use Rattle.mesh_topo.specs.Tuples.{address_of, address_says};
+    ghost use Rattle.std.specs.Prelude.{refl};
+    ghost use Rattle.mesh_expire.proofs.Moments.{no_later};
+    ghost use Rattle.mesh_topo.specs.Given.{address_numbered};
 
     ghost origin = { λ key. key.from };
 
     ghost number = { λ tuple. tuple.ansn };
+
+    ghost says = { address_says };
 
     ghost given = { address_of };
 
@@ -74,6 +117,21 @@ impl Tuple<AddressKey> for AddressTuple {
     fn number_of(&self) -> u16 {
         self.ansn
     }
+
+    fn says_as(&self, other: &AddressTuple) -> bool {
+        self.metric == other.metric
+    }
+
+    fn first_key(originator: Addr4) -> AddressKey {
+        AddressKey {
+            from: originator,
+            addr: Addr4(0),
+        }
+    }
+
+    ghost numbered = { address_numbered };
+
+    ghost by_origin = { λ a b h. no_later a.from.0 b.from.0 _ _ refl h };
 
     fn given_by(originator: Addr4, ansn: u16, row: &TcRow) -> Option<(AddressKey, AddressTuple)> {
         if !row.routable {
@@ -89,11 +147,16 @@ impl Tuple<AddressKey> for AddressTuple {
 }
 
 impl Tuple<NetworkKey> for NetworkTuple {
-    ghost use Rattle.mesh_topo.specs.Tuples.{network_of};
+    ghost use Rattle.mesh_topo.specs.Tuples.{network_of, network_says};
+    ghost use Rattle.std.specs.Prelude.{refl};
+    ghost use Rattle.mesh_expire.proofs.Moments.{no_later};
+    ghost use Rattle.mesh_topo.specs.Given.{network_numbered};
 
     ghost origin = { λ key. key.from };
 
     ghost number = { λ tuple. tuple.ansn };
+
+    ghost says = { network_says };
 
     ghost given = { network_of };
 
@@ -104,6 +167,24 @@ impl Tuple<NetworkKey> for NetworkTuple {
     fn number_of(&self) -> u16 {
         self.ansn
     }
+
+    fn says_as(&self, other: &NetworkTuple) -> bool {
+        self.metric == other.metric && self.distance == other.distance
+    }
+
+    fn first_key(originator: Addr4) -> NetworkKey {
+        NetworkKey {
+            from: originator,
+            net: NetAddr {
+                addr: Addr4(0),
+                prefix: 0,
+            },
+        }
+    }
+
+    ghost numbered = { network_numbered };
+
+    ghost by_origin = { λ a b h. no_later a.from.0 b.from.0 _ _ refl h };
 
     fn given_by(originator: Addr4, ansn: u16, row: &TcRow) -> Option<(NetworkKey, NetworkTuple)> {
         let distance = row.gateway?;

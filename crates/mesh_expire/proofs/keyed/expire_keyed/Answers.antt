@@ -1,5 +1,5 @@
 use Rattle.std.proofs.Common.{arith}
-use Rattle.mesh_expire.proofs.Expiring.{live_without, known_without, all_expired}
+use Rattle.mesh_expire.proofs.Gone.{live_without, keys_without, all_expired}
 use Rattle.mesh_expire.proofs.keyed.expire_keyed.Goals as goal
 
 pub loop-gone-preserved : goal.loop-gone-preserved
@@ -7,9 +7,10 @@ loop-gone-preserved g c =
     let eq = g.K.PartialEq.eq in
     let takes = c.in-Some.ensures.some in
     record {
-      knows = known_without eq g.K.Ord.cmp g.met.K.Ord.matches_eq c.in-Some.gone.0 _ _ _ _ takes.gone c.remove.ensures.updates c.loop-gone.invariant.knows;
+      keys = keys_without eq g.K.Ord.cmp g.met.K.Ord.matches_eq c.in-Some.gone.0 _ _ _ _ takes.gone c.remove.ensures.updates c.loop-gone.invariant.keys;
       live = live_without eq g.met.K.Eq.laws c.args.now c.in-Some.gone.0 _ _ _ _ takes c.loop-gone.invariant.live;
       few = omega (arith, c.expire_next.ensures.count, c.loop-gone.invariant.few);
+      all = λ e. absurd (omega (arith, e, c.in-Some.ensures.count, c.loop-gone.invariant.few));
     }
 
 pub returns-clause-kept : goal.returns-clause-kept

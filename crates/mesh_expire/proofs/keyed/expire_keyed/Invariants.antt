@@ -1,6 +1,6 @@
 use Rattle.std.proofs.Common.{◌≡◌, ◌≤◌, length}
 use Rattle.mesh_atoms.specs.Base.{find, if_live}
-use Rattle.mesh_expire.specs.Keyed.{Knows}
+use Rattle.mesh_expire.specs.Keyed.{AreKeys}
 use Rattle.mesh_expire.proofs.keyed.expire_keyed.Given as goal
 
 abbrev pub invariant-loop-gone : goal.invariant-loop-gone
@@ -9,9 +9,10 @@ invariant-loop-gone g l =
     let base = g.T.Table.content l.table in
     let old = g.T.Table.content l.initial.table in
     record {
-      knows : Knows eq g.K.Ord.cmp l.keys base;
+      keys : AreKeys eq g.K.Ord.cmp l.keys base;
       live : (q : g.row.K.Denot) → if_live l.now (find eq base q) ≡ if_live l.now (find eq old q);
       few : length base ≤ length old;
+      all : length base ≡ length old → base ≡ old;
     }
 
 abbrev pub decreases-loop-gone : goal.decreases-loop-gone

@@ -10,5 +10,6 @@ returns-clause-dropped g c =
     let eq = g.K.PartialEq.eq in
     let before = g.T.Table.content c.args.table.now in
     λ q. c.remove_all.ensures.removed q
-    ∙ ap (λ keys. cond (list_any (eq q) keys) None (find eq before q)) (c.as_slice.ensures ∙ c.in_ok-keys.ensures)
-    ∙ left_at g.met.K.Eq.laws g.met.K.Key.exact c.args.tc.now g.V.Tuple.origin g.V.Tuple.number c.if-not-tc.false q before c.requires
+    ∙ ap (λ keys. cond (list_any (eq q) keys) None (find eq before q)) c.as_slice.ensures
+    ∙ ap (λ out. cond out None (find eq before q)) (c.in_ok-found.ensures q)
+    ∙ left_at eq c.args.tc.now g.V.Tuple.origin g.V.Tuple.number c.if-not-tc.false before q

@@ -1,7 +1,7 @@
 use Rattle.std.proofs.Common.{◌≡◌, ℕ, length, ap, subst, arith}
 use Rattle.mesh_atoms.specs.Base.{find}
 use Rattle.mesh_topo.specs.Sets.{PutsRows}
-use Rattle.mesh_topo.proofs.Laws.{puts_more, count_more, at_place}
+use Rattle.mesh_topo.proofs.Laws.{puts_more, count_more, at_place, neither, same_after}
 use Rattle.mesh_topo.proofs.set.put_rows.Goals as goal
 
 pub loop-row-preserved : goal.loop-row-preserved
@@ -10,10 +10,13 @@ loop-row-preserved g c =
     let given = g.V.Tuple.given c.args.tc.now.originator c.args.tc.now.ansn in
     let here = at_place c.as_slice-row-items.result.now rows c.loop-row.row-index c.row-item.result c.as_slice-row-items.ensures c.loop-row-test.true c.row-item.is in
     record {
-      distinct = c.in_ok-put_given.ensures.distinct;
+      keys = c.in_ok-changed.ensures.keys;
+      distinct = c.in_ok-changed.ensures.distinct;
+      same = λ e. let (was, stays) = neither c.loop-row.changed c.in_ok-changed.field-0 e in
+          same_after g.K.PartialEq.eq g.V.Tuple.says _ _ _ (c.loop-row.invariant.same was) (c.in_ok-changed.ensures.same stays);
       put = puts_more g.met.K.Eq.laws g.met.K.Key.exact given c.args.until rows c.loop-row.row-index c.row-item.result c.given_by.result (g.T.Table.content c.args.table.now) (g.T.Table.content c.loop-row.table) (g.T.Table.content c.put_given.new.table)
-          here c.given_by.ensures c.loop-row.invariant.put c.in_ok-put_given.ensures.put;
-      count = count_more given rows c.loop-row.row-index c.row-item.result c.given_by.result _ _ _ here c.given_by.ensures c.loop-row.invariant.count c.in_ok-put_given.ensures.count;
+          here c.given_by.ensures c.loop-row.invariant.put c.in_ok-changed.ensures.put;
+      count = count_more given rows c.loop-row.row-index c.row-item.result c.given_by.result _ _ _ here c.given_by.ensures c.loop-row.invariant.count c.in_ok-changed.ensures.count;
     }
 
 pub returns-clause-put : goal.returns-clause-put

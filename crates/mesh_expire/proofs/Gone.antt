@@ -1,13 +1,14 @@
 -- Expired tuples go one by one.
-use Rattle.std.proofs.Common.{◌≡◌, ℕ, ◌≤◌, Bool, true, false, cond, Option, Some, None, refl, sym, ap, ◌∙◌}
-use Rattle.std.specs.Prelude.{nat_lt, IsTrue}
+use Rattle.std.proofs.Common.{◌≡◌, ℕ, Bool, true, false, cond, Option, Some, None, refl, sym, ap, ◌∙◌}
+use Rattle.std.specs.Prelude.{is_some}
 use Rattle.std.proofs.lemmas.Bool.{le-ltb}
 use Rattle.std.specs.Cmp.{IsEquivalence}
 use Rattle.std.specs.Ordering.{is_eq}
 use Rattle.std.specs.declared.cmp.Ordering.{Ordering}
+use Rattle.std.specs.BTreeMap.{is_at}
 use Rattle.std.specs.BTreeSet.{BTreeSet, contains, Updates}
 use Rattle.mesh_atoms.specs.Base.{Base, find, if_live, Expires, IsFresh, SetsOnly}
-use Rattle.mesh_expire.specs.Keyed.{Knows}
+use Rattle.mesh_expire.specs.Keyed.{AreKeys}
 use Rattle.mesh_expire.specs.Table.{TakesExpired}
 use Rattle.mesh_expire.proofs.Laws.{find_same}
 
@@ -34,10 +35,14 @@ module _ {K V : Type 0} (eq : K → K → Bool) where
   pub all_expired : (now : ℕ) (old base new : Base K V) → new ≡ base → IsFresh eq now base → ((q : K) → if_live now (find eq base q) ≡ if_live now (find eq old q)) → Expires eq now old new
   all_expired now old base new same fresh live q = ap (λ (b : Base K V). find eq b q) same ∙ fresh_live now base fresh q ∙ live q
 
-  -- the keys of what is left, once one goes from both
-  pub known_without : (cmp : K → K → Ordering) (agree : (x y : K) → eq x y ≡ is_eq (cmp x y)) (key : K) (keys keys' : BTreeSet K) (base base' : Base K V) → SetsOnly eq base base' key None
-      → Updates cmp keys keys' key false → Knows eq cmp keys base → Knows eq cmp keys' base'
-  known_without cmp agree key keys keys' base base' gone updates knows q e found = by_key (eq key q) refl (sym (gone q) ∙ found) where
-    by_key : (b : Bool) → eq key q ≡ b → cond b None (find eq base q) ≡ Some e → IsTrue (contains cmp keys' q)
-    by_key true is h = absurd cc
-    by_key false is h = updates.0 q ∙ ap (λ (b : Bool). cond b false (contains cmp keys q)) (sym (agree key q) ∙ is) ∙ knows q e h
+  -- the keys of a base in which one entry is set, once that key is put or goes
+  pub keys_set : (cmp : K → K → Ordering) (agree : (x y : K) → eq x y ≡ is_eq (cmp x y)) (key : K) (entry : Option (V × ℕ)) (keys keys' : BTreeSet K) (base base' : Base K V) → SetsOnly eq base base' key entry
+      → Updates cmp keys keys' key (is_some entry) → AreKeys eq cmp keys base → AreKeys eq cmp keys' base'
+  keys_set cmp agree key entry keys keys' base base' sets updates are q = updates.0 q ∙ by_key (eq key q) refl ∙ ap is_some (sym (sets q)) where
+    by_key : (b : Bool) → eq key q ≡ b → cond (is_at (cmp key) q) (is_some entry) (contains cmp keys q) ≡ is_some (cond b entry (find eq base q))
+    by_key true is = ap (λ (b : Bool). cond b (is_some entry) (contains cmp keys q)) (sym (agree key q) ∙ is)
+    by_key false is = ap (λ (b : Bool). cond b (is_some entry) (contains cmp keys q)) (sym (agree key q) ∙ is) ∙ are q
+
+  pub keys_without : (cmp : K → K → Ordering) (agree : (x y : K) → eq x y ≡ is_eq (cmp x y)) (key : K) (keys keys' : BTreeSet K) (base base' : Base K V) → SetsOnly eq base base' key None
+      → Updates cmp keys keys' key false → AreKeys eq cmp keys base → AreKeys eq cmp keys' base'
+  keys_without cmp agree key keys keys' base base' sets updates are = keys_set cmp agree key None keys keys' base base' sets updates are

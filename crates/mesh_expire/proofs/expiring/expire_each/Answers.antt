@@ -1,0 +1,16 @@
+use Rattle.std.proofs.Common.{arith}
+use Rattle.mesh_expire.proofs.Gone.{live_without, all_expired}
+use Rattle.mesh_expire.proofs.expiring.expire_each.Goals as goal
+
+pub loop-gone-preserved : goal.loop-gone-preserved
+loop-gone-preserved g c =
+    let eq = g.K.PartialEq.eq in
+    let takes = c.in-Some.ensures.some in
+    record {
+      live = live_without eq g.met.K.Eq.laws c.args.now c.in-Some._gone.0 _ _ _ _ takes c.loop-gone.invariant.live;
+      few = omega (arith, c.expire_next.ensures.count, c.loop-gone.invariant.few);
+      all = λ e. absurd (omega (arith, e, c.in-Some.ensures.count, c.loop-gone.invariant.few));
+    }
+
+pub returns-clause-kept : goal.returns-clause-kept
+returns-clause-kept g c = all_expired g.K.PartialEq.eq c.args.now _ _ _ c.in_default.ensures.none c.in_default.ensures.fresh c.loop-gone.invariant.live
