@@ -1,0 +1,13 @@
+use Rattle.std.proofs.Common.{◌≡◌, ℕ, ◌+◌, List, [], length, Option, refl, sym, ap, ◌∙◌, arith}
+use Rattle.std.proofs.lemmas.List.{append-nil, length-append}
+use Rattle.mesh_io.specs.MemAir.{LogState, told_ear, ear_at}
+use Rattle.mesh_io.proofs.Stores.{told_on, grew_nothing, log_with, roomy_on}
+use Rattle.mesh_io.proofs.air_log.AirLog.hear.Goals as goal
+
+pub invariant_of-self : goal.invariant_of-self
+invariant_of-self c =
+    let s = c.self.inside in
+    let v = c.self.invariant in
+    let ears_now : s.left.ears ≡ c.args.self.now.left.ears = ap (λ (l : LogState). l.left.ears) c.self.view_is in
+    roomy_on s.entries.items c.put_entry.new.entries.items _ _ _ _ _ _ _ _ _ _ _ _ _ s.left _ v c.put_entry.ensures.items c.put_entry.ensures.capacity (omega arith) (omega arith) tt
+    (omega (arith, ears_now, c.requires.ears)) (omega (arith, v.peers_fit)) (omega (arith, v.octets_fit)) v.attached_fit
