@@ -84,7 +84,7 @@ fn make_router(
     })
 }
 
-// The settings of all routers.
+/// The settings of all routers.
 pub fn make_routers(
     alloc: Global,
     routers: &[StatedRouter],

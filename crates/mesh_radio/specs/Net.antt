@@ -1,8 +1,6 @@
 -- An emulated network: routers, and frames in the air between them. Which event comes next, and what it does.
-use Rattle.std.specs.Prelude.{◌≡◌, ℕ, ◌+◌, ◌%◌, ◌^◌, ◌<◌, ◌≤◌, ◌++◌, ◌∷◌, [], List, Option, Some, None, All, slice_get, slice_set, length, map, replicate, IfSome, Bool, nat_eq, ◌&&◌}
+use Rattle.std.specs.Prelude.{◌≡◌, ℕ, ◌+◌, ◌%◌, ◌^◌, ◌<◌, ◌≤◌, ◌++◌, ◌∷◌, [], List, Option, Some, None, All, slice_get, slice_set, length, map, IfSome, Bool, nat_eq, ◌&&◌}
 use Rattle.std.specs.List.{filter, enumerate_from}
-use Rattle.std.specs.Int.{w64, to_le_bytes}
-use Rattle.rand_chacha.specs.ChaCha.{word_at, key_of}
 use Rattle.mesh_atoms.specs.declared.addr.Addr4.{Addr4}
 use Rattle.mesh_atoms.specs.declared.settings.Interface.{Interface}
 use Rattle.mesh_atoms.specs.declared.settings.RadioArc.{RadioArc}
@@ -11,6 +9,7 @@ use Rattle.mesh_atoms.specs.declared.settings.Scenario.{Scenario}
 use Rattle.mesh_atoms.specs.State.{State}
 use Rattle.mesh_machine.specs.declared.frame.Frame.{Frame}
 use Rattle.mesh_machine.specs.Machine.{Event, Hear, Tick, Step, due}
+use Rattle.mesh_radio.specs.Draws.{word_of}
 use Rattle.mesh_radio.specs.declared.event.Counts.{Counts}
 use Rattle.mesh_radio.specs.declared.event.Emission.{Emission}
 use Rattle.mesh_radio.specs.declared.event.NetEvent.{NetEvent}
@@ -67,9 +66,9 @@ leaves x i arc = nat_eq arc.from x && nat_eq arc.from_iface i
 abbrev pub leaving : List RadioArc → ℕ → ℕ → List (ℕ × RadioArc)
 leaving arcs x i = filter (λ a. leaves x i a.1) (enumerate_from 0 arcs)
 
--- draw k is word k of the ChaCha20 stream whose key is the seed in 8 octets, the least first, and 24 zeros
+-- draw k is word k of the seed's stream 0
 abbrev pub draw : ℕ → ℕ → ℕ
-draw seed k = word_at 10 (key_of (to_le_bytes w64 seed ++ replicate 24 0)) 0 k
+draw seed k = word_of seed 0 k
 
 -- frames may be lost: always, or before that moment
 abbrev pub IsLossy : Option ℕ → ℕ → Type 0

@@ -1,7 +1,6 @@
 //! The draws of an emulated network.
-ghost use Rattle.std.specs.Prelude.{◌≡◌, ◌+◌, ◌%◌, ◌^◌, ◌++◌, replicate};
-ghost use Rattle.std.specs.Int.{w64, to_le_bytes};
-ghost use Rattle.rand_chacha.specs.ChaCha.{word_at, key_of};
+ghost use Rattle.std.specs.Prelude.{◌≡◌};
+ghost use Rattle.mesh_radio.specs.Draws.{key_by};
 ghost use Rattle.mesh_radio.specs.Net.{draw, next_count};
 
 use rand_chacha::ChaCha20Rng;
@@ -9,7 +8,21 @@ use rand_core::SeedableRng;
 use rand_core::utils::NextWord;
 use std::marker::Model;
 
-/// The words of a seed's stream in order, and how many were drawn, wrapping at 2^64.
+/// The words of a stream of a seed, from the first on.
+pub fn words_of(seed: u64, stream: u64) -> ChaCha20Rng
+    ensures { result ≡ record { key = key_by seed; stream = stream; word_pos = 0 } }
+{
+    let low = seed.to_le_bytes();
+    let key = [
+        low[0], low[1], low[2], low[3], low[4], low[5], low[6], low[7], 0, 0, 0, 0, 0, 0, 0, 0, 0,
+        0, 0, 0, 0, 0, 0, 0, 0, 0, 0, 0, 0, 0, 0, 0,
+    ];
+    let mut words = ChaCha20Rng::from_seed(key);
+    words.set_stream(stream);
+    words
+}
+
+/// The words of a seed's stream 0 in order, and how many were drawn, wrapping at 2^64.
 #[derive(Drop)]
 pub(crate) struct Draws {
     seed: u64,
@@ -18,16 +31,14 @@ pub(crate) struct Draws {
 }
 
 impl Model for Draws {
-    ghost use Rattle.std.specs.Prelude.{◌≡◌, ◌++◌, replicate};
-    ghost use Rattle.std.specs.Int.{w64, to_le_bytes};
-    ghost use Rattle.rand_chacha.specs.ChaCha.{key_of};
-    ghost use Rattle.mesh_radio.specs.Draws.{Drawing};
+    ghost use Rattle.std.specs.Prelude.{◌≡◌};
+    ghost use Rattle.mesh_radio.specs.Draws.{Drawing, key_by};
 
     ghost Value = { Drawing };
 
     ghost view = { λ d. record { seed = d.seed; drawn = d.drawn } };
 
-    ghost invariant = { λ d. d.stream ≡ record { key = key_of (to_le_bytes w64 d.seed ++ replicate 24 0); stream = 0; word_pos = d.drawn } };
+    ghost invariant = { λ d. d.stream ≡ record { key = key_by d.seed; stream = 0; word_pos = d.drawn } };
 }
 
 impl Draws {
@@ -35,15 +46,10 @@ impl Draws {
     pub(crate) fn new(seed: u64) -> Draws
         ensures { result ≡ record { seed = seed; drawn = 0 } }
     {
-        let low = seed.to_le_bytes();
-        let key = [
-            low[0], low[1], low[2], low[3], low[4], low[5], low[6], low[7], 0, 0, 0, 0, 0, 0, 0, 0,
-            0, 0, 0, 0, 0, 0, 0, 0, 0, 0, 0, 0, 0, 0, 0, 0,
-        ];
         Draws {
             seed,
             drawn: 0,
-            stream: ChaCha20Rng::from_seed(key),
+            stream: words_of(seed, 0),
         }
     }
 

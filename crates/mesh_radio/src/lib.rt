@@ -14,6 +14,7 @@ mod step;
 mod traffic;
 mod ways;
 
+pub use draws::words_of;
 pub use event::{Counts, Emission, NetEvent};
 pub use laws::{machines, routers_end_together};
 pub use net::Net;

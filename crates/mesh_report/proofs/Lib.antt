@@ -1,3 +1,4 @@
+mod Decimals
 mod Digits
 pub mod Joined
 mod Messages

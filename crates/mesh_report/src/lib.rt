@@ -4,6 +4,7 @@
 mod laws;
 mod lines;
 mod packet;
+mod piece;
 mod pieces;
 mod reading;
 

@@ -1,15 +1,16 @@
-//! The pieces that lines are made of, put behind other octets.
-ghost use Rattle.std.specs.Prelude.{◌≡◌, ◌++◌, ◌≤◌, length, take, decimal, OnOk};
+//! The pieces that lines are made of.
+ghost use Rattle.std.specs.Prelude.{◌≡◌, ◌++◌, ◌+◌, ◌≤◌, ◌==◌, if◌then◌else◌, length, codes, take, OnOk};
 ghost use Rattle.std.specs.Option.{option_copied};
 ghost use Rattle.hex.specs.Hex.{encode_lower};
 ghost use Rattle.mesh_tlv.specs.Least.{Grows};
 ghost use Rattle.mesh_report.specs.Pieces.{numbered, numbered_or_none, addressed, addressed_or_none, addressed_by_number, valued, chosen, named, reason_name};
 
+use crate::piece::Piece;
 use mesh_addr::RawAddr;
-use mesh_atoms::{Addr4, Bytes, put_decimal};
+use mesh_atoms::{Addr4, Bytes};
 use std::alloc::AllocError;
 
-/// Puts octets.
+/// Puts octets behind others.
 pub fn put(out: &mut Bytes, octets: &[u8]) -> Result<(), AllocError>
     ensures ok { OnOk result (out.new ≡ out.old ++ octets.now) }
     ensures kept { Grows out.old out.new }
@@ -17,38 +18,28 @@ pub fn put(out: &mut Bytes, octets: &[u8]) -> Result<(), AllocError>
     out.append(octets)
 }
 
-/// Puts a number in decimal digits.
-pub fn put_number(out: &mut Bytes, number: u64) -> Result<(), AllocError>
-    ensures ok { OnOk result (out.new ≡ out.old ++ decimal number) }
-    ensures kept { Grows out.old out.new }
-{
-    put_decimal(out, number)
-}
-
 /// Puts a label, and a number in decimal digits.
 #[tactic(auto, unfolding(crate::specs::Pieces::numbered))]
-pub fn put_numbered(out: &mut Bytes, label: &[u8], number: u64) -> Result<(), AllocError>
-    ensures ok { OnOk result (out.new ≡ out.old ++ numbered label.now number) }
-    ensures kept { Grows out.old out.new }
+pub fn put_numbered(line: &mut Piece, label: &[u8], number: u64)
+    requires { length line.old + (length label.now + 20) ≤ 320 }
+    ensures text { line.new ≡ line.old ++ numbered label.now number }
+    ensures len { length line.new ≤ length line.old + (length label.now + 20) }
 {
-    put(out, label)?;
-    put_number(out, number)
+    line.put(label);
+    line.put_number(number);
 }
 
 /// Puts a label, and a number that may be absent.
 #[tactic(auto, unfolding(crate::specs::Pieces::numbered_or_none))]
-pub fn put_number_or_none(
-    out: &mut Bytes,
-    label: &[u8],
-    number: Option<u64>,
-) -> Result<(), AllocError>
-    ensures ok { OnOk result (out.new ≡ out.old ++ numbered_or_none label.now number) }
-    ensures kept { Grows out.old out.new }
+pub fn put_number_or_none(line: &mut Piece, label: &[u8], number: Option<u64>)
+    requires { length line.old + (length label.now + 20) ≤ 320 }
+    ensures text { line.new ≡ line.old ++ numbered_or_none label.now number }
+    ensures len { length line.new ≤ length line.old + (length label.now + 20) }
 {
-    put(out, label)?;
+    line.put(label);
     match number {
-        Some(number) => put_number(out, number),
-        None => put(out, b"none"),
+        Some(number) => line.put_number(number),
+        None => line.put(b"none"),
     }
 }
 
@@ -66,27 +57,25 @@ pub fn wide_short(number: Option<u16>) -> Option<u64>
     number.map(u64::from)
 }
 
-/// Puts up to 64 octets in lower-case hexadecimal digits.
+/// Puts up to 128 octets in lower-case hexadecimal digits behind others.
 fn put_piece(out: &mut Bytes, octets: &[u8]) -> Result<(), AllocError>
-    requires { length octets.now ≤ 64 }
+    requires { length octets.now ≤ 128 }
     ensures ok { OnOk result (out.new ≡ out.old ++ encode_lower octets.now) }
     ensures kept { Grows out.old out.new }
 {
-    let mut text = [0; 128];
-    let text = &mut text[..2 * octets.len()];
-    // It can't fail: the text has two digits for each octet.
-    let _ = hex::encode_to_slice(octets, text);
-    put(out, text)
+    let mut text = Piece::new();
+    text.put_hex(octets);
+    put(out, text.as_slice())
 }
 
-/// Puts octets in lower-case hexadecimal digits.
+/// Puts octets in lower-case hexadecimal digits behind others.
 pub fn put_hex(out: &mut Bytes, octets: &[u8]) -> Result<(), AllocError>
     ensures ok { OnOk result (out.new ≡ out.old ++ encode_lower octets.now) }
     ensures kept { Grows out.old out.new }
 {
     let mut at = 0;
     while at < octets.len() {
-        let size = usize::min(64, octets.len() - at);
+        let size = usize::min(128, octets.len() - at);
         put_piece(out, &octets[at..at + size])?;
         at += size;
     }
@@ -95,86 +84,104 @@ pub fn put_hex(out: &mut Bytes, octets: &[u8]) -> Result<(), AllocError>
 
 /// Puts a label, and the octets of an address of that width.
 #[tactic(auto, unfolding(crate::specs::Pieces::addressed))]
-pub fn put_address(
-    out: &mut Bytes,
-    label: &[u8],
-    width: u8,
-    addr: RawAddr,
-) -> Result<(), AllocError>
-    ensures ok { OnOk result (out.new ≡ out.old ++ addressed label.now width addr) }
-    ensures kept { Grows out.old out.new }
+pub fn put_address(line: &mut Piece, label: &[u8], width: u8, addr: RawAddr)
+    requires { length line.old + (length label.now + 32) ≤ 320 }
+    ensures text { line.new ≡ line.old ++ addressed label.now width addr }
+    ensures len { length line.new ≤ length line.old + (length label.now + 32) }
 {
-    put(out, label)?;
-    put_piece(out, &addr.octets[..usize::min(16, usize::from(width))])
+    line.put(label);
+    line.put_hex(&addr.octets[..usize::min(16, usize::from(width))]);
 }
 
 /// Puts a label, and an address of that width that may be absent.
 #[tactic(auto, unfolding(crate::specs::Pieces::addressed_or_none))]
-pub fn put_address_or_none(
-    out: &mut Bytes,
-    label: &[u8],
-    width: u8,
-    addr: Option<RawAddr>,
-) -> Result<(), AllocError>
-    ensures ok { OnOk result (out.new ≡ out.old ++ addressed_or_none label.now width addr) }
-    ensures kept { Grows out.old out.new }
+pub fn put_address_or_none(line: &mut Piece, label: &[u8], width: u8, addr: Option<RawAddr>)
+    requires { length line.old + (length label.now + 32) ≤ 320 }
+    ensures text { line.new ≡ line.old ++ addressed_or_none label.now width addr }
+    ensures len { length line.new ≤ length line.old + (length label.now + 32) }
 {
     match addr {
-        Some(addr) => put_address(out, label, width, addr),
+        Some(addr) => put_address(line, label, width, addr),
         None => {
-            put(out, label)?;
-            put(out, b"none")
+            line.put(label);
+            line.put(b"none");
         }
     }
 }
 
 /// Puts a label, and the four octets of a router's address.
 #[tactic(auto, unfolding(crate::specs::Pieces::addressed_by_number))]
-pub fn put_router(out: &mut Bytes, label: &[u8], addr: Addr4) -> Result<(), AllocError>
-    ensures ok { OnOk result (out.new ≡ out.old ++ addressed_by_number label.now addr) }
-    ensures kept { Grows out.old out.new }
+pub fn put_router(line: &mut Piece, label: &[u8], addr: Addr4)
+    requires { length line.old + (length label.now + 8) ≤ 320 }
+    ensures text { line.new ≡ line.old ++ addressed_by_number label.now addr }
+    ensures len { length line.new ≤ length line.old + (length label.now + 8) }
 {
-    put(out, label)?;
-    put_piece(out, &addr.0.to_be_bytes())
+    line.put(label);
+    line.put_hex(&addr.0.to_be_bytes());
 }
 
-/// Puts a label, and the value of a TLV.
-#[tactic(auto, unfolding(crate::specs::Pieces::valued))]
-pub fn put_value(out: &mut Bytes, label: &[u8], value: Option<&[u8]>) -> Result<(), AllocError>
-    ensures ok { OnOk result (out.new ≡ out.old ++ valued label.now (option_copied value.entry)) }
+/// Puts a line and the octets of a TLV's value, and ends the line.
+fn put_octets_end(out: &mut Bytes, line: &mut Piece, octets: &[u8]) -> Result<(), AllocError>
+    requires { length line.old ≤ 160 }
+    ensures ok { OnOk result (out.new ≡ out.old ++ (line.old ++ ((if length octets.now == 0 then codes "empty" else encode_lower octets.now) ++ codes "\n"))) }
     ensures kept { Grows out.old out.new }
 {
-    put(out, label)?;
+    if octets.len() > 64 {
+        put(out, line.as_slice())?;
+        put_hex(out, octets)?;
+        return put(out, b"\n");
+    }
+    if octets.is_empty() {
+        line.put(b"empty");
+    } else {
+        line.put_hex(octets);
+    }
+    line.put(b"\n");
+    put(out, line.as_slice())
+}
+
+/// Puts a line, a label and the value of a TLV, and ends the line.
+#[tactic(auto, unfolding(crate::specs::Pieces::valued))]
+pub fn put_value_end(
+    out: &mut Bytes,
+    line: &mut Piece,
+    value: Option<&[u8]>,
+) -> Result<(), AllocError>
+    requires { length line.old ≤ 150 }
+    ensures ok { OnOk result (out.new ≡ out.old ++ (line.old ++ (valued (codes " value ") (option_copied value.entry) ++ codes "\n"))) }
+    ensures kept { Grows out.old out.new }
+{
+    line.put(b" value ");
     match value {
-        Some(octets) => {
-            if octets.is_empty() {
-                put(out, b"empty")
-            } else {
-                put_hex(out, octets)
-            }
+        Some(octets) => put_octets_end(out, line, octets),
+        None => {
+            line.put(b"none");
+            line.put(b"\n");
+            put(out, line.as_slice())
         }
-        None => put(out, b"none"),
     }
 }
 
 /// Puts a label, and a choice.
 #[tactic(auto, unfolding(crate::specs::Pieces::chosen))]
-pub fn put_choice(out: &mut Bytes, label: &[u8], choice: bool) -> Result<(), AllocError>
-    ensures ok { OnOk result (out.new ≡ out.old ++ chosen label.now choice) }
-    ensures kept { Grows out.old out.new }
+pub fn put_choice(line: &mut Piece, label: &[u8], choice: bool)
+    requires { length line.old + (length label.now + 3) ≤ 320 }
+    ensures text { line.new ≡ line.old ++ chosen label.now choice }
+    ensures len { length line.new ≤ length line.old + (length label.now + 3) }
 {
-    put(out, label)?;
+    line.put(label);
     if choice {
-        put(out, b"yes")
+        line.put(b"yes");
     } else {
-        put(out, b"no")
+        line.put(b"no");
     }
 }
 
 // The name of the rule of this number.
 #[tactic(auto, unfolding(crate::specs::Pieces::reason_name))]
 fn reason_name(reason: u8) -> &'static [u8]
-    ensures { result.now ≡ reason_name reason }
+    ensures name { result.now ≡ reason_name reason }
+    ensures len { length result.now ≤ 20 }
 {
     match reason {
         1 => b"Short",
@@ -210,10 +217,11 @@ fn reason_name(reason: u8) -> &'static [u8]
 
 /// Puts a label, and the name of a rule.
 #[tactic(auto, unfolding(crate::specs::Pieces::named))]
-pub fn put_name(out: &mut Bytes, label: &[u8], reason: u8) -> Result<(), AllocError>
-    ensures ok { OnOk result (out.new ≡ out.old ++ named label.now reason) }
-    ensures kept { Grows out.old out.new }
+pub fn put_name(line: &mut Piece, label: &[u8], reason: u8)
+    requires { length line.old + (length label.now + 20) ≤ 320 }
+    ensures text { line.new ≡ line.old ++ named label.now reason }
+    ensures len { length line.new ≤ length line.old + (length label.now + 20) }
 {
-    put(out, label)?;
-    put(out, reason_name(reason))
+    line.put(label);
+    line.put(reason_name(reason));
 }

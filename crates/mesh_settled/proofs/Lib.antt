@@ -1,5 +1,5 @@
 mod Apart
-mod FaceLemmas
+pub mod FaceLemmas
 mod GapLaw
 mod JoinedLemmas
 mod JointLemmas

@@ -1,10 +1,10 @@
 mod Cuts
 mod Digits
-mod Joined
+pub mod Joined
 mod LineLists
-mod LineTexts
+pub mod LineTexts
 mod Marked
-mod ReadBack
+pub mod ReadBack
 mod RouteLines
 pub mod RunStates
 mod Sections

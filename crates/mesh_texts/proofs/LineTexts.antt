@@ -53,7 +53,7 @@ pub record IsPlain (l : List ℕ) : Type 0 where
 address : (a : Addr4) → lacks 10 (dotted a) ≡ true
 address a = dotted_lacks 10 (omega arith) refl a
 
-number : (n : ℕ) → lacks 10 (decimal n) ≡ true
+pub number : (n : ℕ) → lacks 10 (decimal n) ≡ true
 number n = decimal_lacks 10 (omega arith) n
 
 face : (faces : List Interface) (i : ℕ) → lacks 10 (face_name faces i) ≡ true

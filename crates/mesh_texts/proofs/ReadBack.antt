@@ -41,7 +41,7 @@ ends (l ∷ (m ∷ lines)) a some =
     let rest = ends (m ∷ lines) a.1 (omega arith) in
     (l ++ rest.0, ap (λ (t : List ℕ). l ++ t) rest.1 ∙ sym (append_assoc l rest.0 (codes "\n")))
 
-says_settled : (s : Scenario) (gap : Option Gap) (before text : List ℕ) → text ≡ before ++ settled_text s gap →
+pub says_settled : (s : Scenario) (gap : Option Gap) (before text : List ℕ) → text ≡ before ++ settled_text s gap →
     SaysSettled text → gap ≡ None
 unfolding settled_text
 says_settled s None before text e says = refl

@@ -1,10 +1,11 @@
--- The states at the end of a run of a network are those of its scenario's routers, in order.
+-- The states at the end of a run of a network are those of its scenario's routers, in order, and they are a network's at one moment.
 use Rattle.std.proofs.Common.{◌≡◌, ℕ, List, [], ◌∷◌, length, map, Some, inl, inr, refl, sym, ap, ◌∙◌, subst, arith, length-set}
 use Rattle.std.specs.Prelude.{slice_get}
 use Rattle.std.proofs.lemmas.Option.{slice_get_within, slice_get_cases}
+use Rattle.mesh_atoms.specs.declared.graphs.RadioGraph.{RadioGraph}
 use Rattle.mesh_atoms.specs.declared.settings.RouterSettings.{RouterSettings}
 use Rattle.mesh_atoms.specs.declared.settings.Scenario.{Scenario}
-use Rattle.mesh_atoms.specs.Radio.{Router}
+use Rattle.mesh_atoms.specs.Radio.{Router, IsRadioGraph}
 use Rattle.mesh_atoms.specs.Settled.{At, AreStates}
 use Rattle.mesh_atoms.specs.State.{State}
 use Rattle.mesh_machine.specs.declared.frame.Frame.{Frame}
@@ -13,7 +14,8 @@ use Rattle.mesh_machine.proofs.Effects.{hears_settings}
 use Rattle.mesh_radio.specs.declared.event.NetEvent.{NetEvent}
 use Rattle.mesh_radio.specs.Net.{Net, Traffic, NetStep, By_delivery, By_tick, By_last_tick, Moves, event_of, frames_of, with_heard}
 use Rattle.mesh_radio.specs.Run.{NetRun, events_at}
-use Rattle.mesh_radio.proofs.Through.{are_machines}
+use Rattle.mesh_radio.proofs.Through.{are_machines, end_together}
+use Rattle.mesh_settled.specs.Network.{IsNetwork}
 use Rattle.mesh_texts.specs.Runs.{WholeRun}
 
 -- Settings stay
@@ -70,3 +72,15 @@ run_states s run = record { settings = settings; all = all } where
         let beyond = past.0 in
         omega (arith, within, count, opening, beyond))
   ]
+
+pub final_count : (s : Scenario) (run : WholeRun s) → length run.final.routers ≡ length s.routers
+final_count s run = run_count run.opening run.events run.final run.runs ∙ run.is_opening.count
+
+-- each is sound at the end, which is the moment of its last event
+pub end_is_network : (s : Scenario) (g : RadioGraph) (run : WholeRun s) → IsRadioGraph s g → IsNetwork s g run.final.routers s.end
+end_is_network s g run graph = record {
+  graph = graph;
+  routers = run_states s run;
+  sound = λ x p at. (end_together s run.opening run.events run.final run.is_opening run.runs run.over x p at.is).0;
+  moment = λ x p at. (end_together s run.opening run.events run.final run.is_opening run.runs run.over x p at.is).1;
+}

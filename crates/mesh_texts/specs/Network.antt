@@ -51,7 +51,7 @@ pub record IsSummary (s : Scenario) (states : List State) (counts : Counts) (gap
   pub are_sections : AreSections states sections
   pub whole : text ≡ counts_line s counts ++ sections ++ settled_text s gap
 
--- the first gap at a moment, or none where the network is settled
+-- the first gap at a moment, where the network isn't settled; or none where it is
 abbrev pub IsGapOf : Scenario → List State → ℕ → Option Gap → Type 0
 IsGapOf s states now None = Settled s states now
-IsGapOf s states now (Some gap) = IsFirstGap s states now gap
+IsGapOf s states now (Some gap) = (Settled s states now → ⊥) × IsFirstGap s states now gap

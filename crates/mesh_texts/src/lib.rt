@@ -12,5 +12,6 @@ mod summary;
 
 pub use events::put_event;
 pub use laws::texts_read_back;
+pub use pieces::{Piece, put_line};
 pub use section::put_section;
-pub use summary::put_summary;
+pub use summary::{put_counts_line, put_settled, put_summary};

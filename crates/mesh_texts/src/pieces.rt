@@ -213,7 +213,7 @@ pub fn put_all(out: &mut Bytes, pieces: &[Piece]) -> Result<(), AllocError>
     Ok(())
 }
 
-/// Puts a line of these pieces.
+/// Puts a line of these pieces. Want of memory leaves a part of it behind what was there.
 pub fn put_line(out: &mut Bytes, pieces: &[Piece]) -> Result<(), AllocError>
     ensures ok { OnOk result (out.new ≡ out.old ++ line_of (map piece_text pieces.now)) }
     ensures kept { Grows out.old out.new }

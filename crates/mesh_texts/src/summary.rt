@@ -18,9 +18,13 @@ use mesh_radio::Counts;
 use mesh_settled::{Gap, GapKey};
 use std::alloc::AllocError;
 
-// Puts how large a network is, when it ended, and what was counted.
+/// Puts how large a network is, when it ended, and what was counted. Want of memory leaves a part of it behind what was there.
 #[tactic(auto, unfolding(crate::specs::Network::counts_line))]
-fn put_counts_line(out: &mut Bytes, scenario: &Scenario, counts: Counts) -> Result<(), AllocError>
+pub fn put_counts_line(
+    out: &mut Bytes,
+    scenario: &Scenario,
+    counts: Counts,
+) -> Result<(), AllocError>
     ensures ok { OnOk result (out.new ≡ out.old ++ counts_line scenario.now counts) }
     ensures kept { Grows out.old out.new }
 {
@@ -187,9 +191,9 @@ fn put_unsettled(out: &mut Bytes, scenario: &Scenario, gap: Gap) -> Result<(), A
     put_gap_line(out, scenario, gap)
 }
 
-// Puts whether a network is settled, and else its first gap.
+/// Puts whether a network is settled, and else its gap. Want of memory leaves a part of it behind what was there.
 #[tactic(auto, unfolding(crate::specs::Network::settled_text))]
-fn put_settled(out: &mut Bytes, scenario: &Scenario, gap: Option<Gap>) -> Result<(), AllocError>
+pub fn put_settled(out: &mut Bytes, scenario: &Scenario, gap: Option<Gap>) -> Result<(), AllocError>
     ensures ok { OnOk result (out.new ≡ out.old ++ settled_text scenario.now gap) }
     ensures kept { Grows out.old out.new }
 {

@@ -1,5 +1,6 @@
-use Rattle.mesh_report.proofs.Joined.{on_ok, four}
+use Rattle.mesh_report.proofs.Joined.{four}
 use Rattle.mesh_report.proofs.lines.put_opening.Goals as goal
 
-pub returns-clause-ok : goal.returns-clause-ok
-returns-clause-ok c = on_ok c.put_address_or_none.result (four c.args.out.now _ _ _ _ (rw c.from.ensures at c.in_ok-put_numbered.ensures.ok) (rw c.from-2.ensures at c.in_ok-put_numbered-2.ensures.ok) c.in_ok-put_numbered-3.ensures.ok) c.put_address_or_none.ensures.ok
+pub returns-clause-text : goal.returns-clause-text
+returns-clause-text c =
+    four c.args.line.now _ _ _ _ (rw c.from.ensures at c.put_numbered.ensures.text) (rw c.from-2.ensures at c.put_numbered-2.ensures.text) c.put_numbered-3.ensures.text c.put_address_or_none.ensures.text

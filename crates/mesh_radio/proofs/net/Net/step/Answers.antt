@@ -1,5 +1,8 @@
 use Rattle.mesh_radio.proofs.net.Net.step.Goals as goal
 
+pub next_event-requires : goal.next_event-requires
+next_event-requires g c = record { sound = c.self.invariant c.if-self.false }
+
 pub returns-clause-step : goal.returns-clause-step
 returns-clause-step g c = rw (← c.self.view_is) c.in_ok-event.ensures.step
 
