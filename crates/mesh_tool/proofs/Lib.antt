@@ -1,4 +1,2 @@
-mod FirstLine
-mod Hex
-mod OneText
-mod Pieces
+mod Answering
+mod Refusal

@@ -1,6 +1,5 @@
-pub mod Dump
-pub mod Laws
+pub mod Answers
+pub mod Calls
+pub mod Endings
 pub mod Lines
-pub mod Parts
-pub mod Top
-pub mod Words
+pub mod Status

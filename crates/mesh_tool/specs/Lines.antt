@@ -1,36 +1,29 @@
--- What a line of hexadecimal text says.
-use Rattle.std.specs.Prelude.{◌≡◌, ◌⊎◌, ◌<◌, ◌%◌, ℕ, List, length, take, slice_index, Result, Ok, Err, false}
-use Rattle.std.specs.List.{AllPass}
-use Rattle.hex.specs.Hex.{decode_of, is_hex_digit}
-use Rattle.mesh_atoms.specs.declared.refusal.Refusal.{Refusal}
-use Rattle.mesh_packet.specs.declared.packet.Span.{Span}
-use Rattle.mesh_packet.specs.Fields.{PacketFields}
-use Rattle.mesh_packet.specs.Grammar.{Spells, FirstFault}
+-- The lines that tell a fault on err.
+use Rattle.std.specs.Prelude.{ℕ, List, ◌++◌, codes, decimal, ◌==◌, if◌then◌else◌}
+use Rattle.mesh_words.specs.Words.{word_at_fault}
 
--- at this place stands the first octet of a text that is no hexadecimal digit
-pub record IsFirstOther (text : List ℕ) (place : ℕ) : Type 0 where
-  pub within : place < length text
-  pub other : is_hex_digit (slice_index text place) ≡ false
-  pub before : AllPass is_hex_digit (take place text)
+-- the name of a refusal
+unfoldable pub refusal_name : ℕ → List ℕ
+refusal_name number =
+    if number == 40 then codes "NotToml"
+    else if number == 41 then codes "Missing"
+    else if number == 42 then codes "BadValue"
+    else if number == 43 then codes "Duplicate"
+    else if number == 44 then codes "TooMany"
+    else if number == 45 then codes "UnknownName"
+    else if number == 46 then codes "UnknownKey"
+    else codes "TooLong"
 
--- Why a text is no hexadecimal text: it has an odd number of octets (13, at that number), else an octet that is no digit (12,
--- at the first one).
-abbrev pub IsNotHex : List ℕ → Refusal → Type 0
-IsNotHex text refusal =
-    ((length text % 2 ≡ 1) × (refusal ≡ record { place = length text; reason = 13 }))
-    ⊎ ((length text % 2 ≡ 0) × IsFirstOther text refusal.place × (refusal.reason ≡ 12))
+-- the words are no command line: the first word at fault
+abbrev pub words_line : List (List ℕ) → List ℕ
+words_line words = codes "mesh: words " ++ word_at_fault words ++ codes "\n"
 
--- what a frame says: the packet that it spells and where its messages stand, or its first fault
-abbrev pub FrameSays : List ℕ → Result (PacketFields × List Span) Refusal → Type 0
-FrameSays frame (Ok read) = Spells read.0 read.1 frame
-FrameSays frame (Err refusal) = FirstFault frame refusal.place refusal.reason
+abbrev pub read_line : List ℕ
+read_line = codes "mesh: read fault\n"
 
--- what a line says: what the octets say that it writes in hexadecimal, or why it is no hexadecimal text
-abbrev pub ReadsAs : List ℕ → Result (PacketFields × List Span) Refusal → Type 0
-ReadsAs line read =
-    ((octets : List ℕ) × (decode_of line ≡ Ok octets) × FrameSays octets read) ⊎ ((refusal : Refusal) × IsNotHex line refusal × (read ≡ Err refusal))
+-- the input is refused, with that number and key
+unfoldable pub refused_line : ℕ → List ℕ → List ℕ
+refused_line number key = codes "mesh: refused " ++ decimal number ++ codes " " ++ refusal_name number ++ codes " " ++ key ++ codes "\n"
 
--- 1 where a line is refused, else 0
-abbrev pub refusals : Result (PacketFields × List Span) Refusal → ℕ
-refusals (Ok read) = 0
-refusals (Err refusal) = 1
+abbrev pub memory_line : List ℕ
+memory_line = codes "mesh: memory\n"

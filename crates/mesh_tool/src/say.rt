@@ -1,16 +1,19 @@
 //! Writes in pieces, and the lines that tell a fault.
-ghost use Rattle.std.specs.Prelude.{◌≡◌, ℕ, ◌≤◌, [], ◌++◌, take, OnOk, OnErr};
+ghost use Rattle.std.specs.Prelude.{◌≡◌, ℕ, ◌≤◌, [], ◌++◌, codes, decimal, slice_range, take, OnOk, OnErr};
 ghost use Rattle.std.specs.Io.KnownBytes.{Appends};
 ghost use Rattle.mesh_io.specs.Faults.{Rose};
-ghost use Rattle.mesh_tool.specs.Parts.{TellsLine};
-ghost use Rattle.mesh_tool.specs.Top.{fault_text, IsTold};
-ghost use Rattle.mesh_tool.specs.Words.{texts, word_at_fault};
+ghost use Rattle.mesh_tool.specs.Endings.{TellsLine, TellsEnding};
+ghost use Rattle.mesh_tool.specs.Lines.{words_line, refused_line, refusal_name};
+ghost use Rattle.mesh_words.specs.Words.{texts, word_at_fault};
 
-use crate::{Status, read_words};
+use crate::Status;
+use crate::ending::Ending;
+use mesh_config::refusal;
 use mesh_io::{Sink, WriteFault, write_all};
+use mesh_words::read_words;
 
 // Writes the first octets, and then the second ones.
-pub fn write_both<O: Sink>(out: &mut O, first: &[u8], second: &[u8]) -> Result<(), WriteFault>
+fn write_both<O: Sink>(out: &mut O, first: &[u8], second: &[u8]) -> Result<(), WriteFault>
     ensures whole { OnOk result (Appends (O.content out.old) (O.content out.new) (first.now ++ second.now)) }
     ensures part { OnErr result ((n : ℕ) × Appends (O.content out.old) (O.content out.new) (take n (first.now ++ second.now))) }
     ensures failed { OnErr result (Rose (O.faults out.old) (O.faults out.new)) }
@@ -30,7 +33,8 @@ fn write_three<O: Sink>(
     third: &[u8],
 ) -> Result<(), WriteFault>
     ensures whole { OnOk result (Appends (O.content out.old) (O.content out.new) (first.now ++ (second.now ++ third.now))) }
-    ensures part { OnErr result ((n : ℕ) × Appends (O.content out.old) (O.content out.new) (take n (first.now ++ (second.now ++ third.now)))) }
+    ensures part { OnErr result ((n : ℕ)
+        × Appends (O.content out.old) (O.content out.new) (take n (first.now ++ (second.now ++ third.now)))) }
     ensures failed { OnErr result (Rose (O.faults out.old) (O.faults out.new)) }
     ensures later { O.faults out.old ≤ O.faults out.new }
 {
@@ -54,18 +58,56 @@ fn faulty_word(words: &[String]) -> &[u8]
     }
 }
 
-fn tell_line<E: Sink>(err: &mut E, line: &[u8], status: Status) -> Status
-    ensures tells { TellsLine (E.content err.old) (E.content err.new) (E.faults err.old) (E.faults err.new) line.now status result }
+// The decimal digits of a number, at the end of three octets, and where they begin.
+fn digits(number: u8) -> ([u8; 3], usize)
+    ensures digits { slice_range result.0 result.1 3 ≡ decimal number }
+    ensures some { result.1 ≤ 3 }
+{
+    let all = [
+        b'0' + number / 100,
+        b'0' + number / 10 % 10,
+        b'0' + number % 10,
+    ];
+    let first = if number > 99 {
+        0
+    } else if number > 9 {
+        1
+    } else {
+        2
+    };
+    (all, first)
+}
+
+// The name of a refusal, between blanks.
+#[tactic(auto, unfolding(crate::specs::Lines::refusal_name))]
+fn name(number: u8) -> &'static [u8]
+    ensures { result.now ≡ codes " " ++ refusal_name number ++ codes " " }
+{
+    match number {
+        refusal::NOT_TOML => b" NotToml ",
+        refusal::MISSING => b" Missing ",
+        refusal::BAD_VALUE => b" BadValue ",
+        refusal::DUPLICATE => b" Duplicate ",
+        refusal::TOO_MANY => b" TooMany ",
+        refusal::UNKNOWN_NAME => b" UnknownName ",
+        refusal::UNKNOWN_KEY => b" UnknownKey ",
+        _ => b" TooLong ",
+    }
+}
+
+fn tell_line<E: Sink>(err: &mut E, line: &[u8], due: Status) -> Status
+    ensures tells { TellsLine (E.content err.old) (E.content err.new) (E.faults err.old) (E.faults err.new) line.now due result }
     ensures later { E.faults err.old ≤ E.faults err.new }
 {
     match write_all(err, line) {
-        Ok(()) => status,
+        Ok(()) => due,
         Err(_) => Status::Write,
     }
 }
 
 fn tell_words<E: Sink>(err: &mut E, words: &[String]) -> Status
-    ensures tells { TellsLine (E.content err.old) (E.content err.new) (E.faults err.old) (E.faults err.new) (fault_text (texts words.now) Status.Words) Status.Words result }
+    ensures tells { TellsLine (E.content err.old) (E.content err.new) (E.faults err.old) (E.faults err.new)
+        (words_line (texts words.now)) Status.Words result }
     ensures later { E.faults err.old ≤ E.faults err.new }
 {
     match write_three(err, b"mesh: words ", faulty_word(words), b"\n") {
@@ -74,18 +116,45 @@ fn tell_words<E: Sink>(err: &mut E, words: &[String]) -> Status
     }
 }
 
-// TellsLine a fault on `err`, and answers the status, or that of a failed write.
-pub fn tell<E: Sink>(err: &mut E, words: &[String], status: Status) -> Status
-    ensures tells { TellsLine (E.content err.old) (E.content err.new) (E.faults err.old) (E.faults err.new) (fault_text (texts words.now) status) status result }
-    ensures silent { (IsTold status → ⊥) → result ≡ status }
-    ensures kept { (IsTold status → ⊥) → Appends (E.content err.old) (E.content err.new) [] }
+// Writes the line of a refusal.
+fn write_refusal<E: Sink>(err: &mut E, number: u8, key: &[u8]) -> Result<(), WriteFault>
+    ensures whole { OnOk result (Appends (E.content err.old) (E.content err.new) (refused_line number key.now)) }
+    ensures part { OnErr result ((n : ℕ) × Appends (E.content err.old) (E.content err.new) (take n (refused_line number key.now))) }
+    ensures failed { OnErr result (Rose (E.faults err.old) (E.faults err.new)) }
     ensures later { E.faults err.old ≤ E.faults err.new }
 {
-    match status {
-        Status::Words => tell_words(err, words),
-        Status::Read => tell_line(err, b"mesh: read fault\n", Status::Read),
-        Status::Refused => tell_line(err, b"mesh: refused 47 TooLong input\n", Status::Refused),
-        Status::Memory => tell_line(err, b"mesh: memory\n", Status::Memory),
-        Status::Done | Status::Packets | Status::Write => status,
+    let (digits, first) = digits(number);
+    match write_both(err, b"mesh: refused ", &digits[first..]) {
+        Ok(()) => write_three(err, name(number), key, b"\n"),
+        Err(e) => Err(e),
+    }
+}
+
+fn tell_refusal<E: Sink>(err: &mut E, number: u8, key: &[u8]) -> Status
+    ensures tells { TellsLine (E.content err.old) (E.content err.new) (E.faults err.old) (E.faults err.new)
+        (refused_line number key.now) Status.Refused result }
+    ensures later { E.faults err.old ≤ E.faults err.new }
+{
+    match write_refusal(err, number, key) {
+        Ok(()) => Status::Refused,
+        Err(_) => Status::Write,
+    }
+}
+
+// Tells a fault on `err`, and answers its status, or that of a failed write. Takes no memory.
+pub fn tell<E: Sink>(err: &mut E, words: &[String], how: &Ending) -> Status
+    ensures tells { TellsEnding (texts words.now)
+        (E.content err.old) (E.content err.new) (E.faults err.old) (E.faults err.new) how.now result }
+    ensures later { E.faults err.old ≤ E.faults err.new }
+{
+    match how {
+        Ending::Done => Status::Done,
+        Ending::Packets => Status::Packets,
+        Ending::Words => tell_words(err, words),
+        Ending::Read => tell_line(err, b"mesh: read fault\n", Status::Read),
+        Ending::TooLong => tell_refusal(err, refusal::TOO_LONG, b"input"),
+        Ending::Refused { number, key } => tell_refusal(err, *number, key.as_slice()),
+        Ending::Write => Status::Write,
+        Ending::Memory => tell_line(err, b"mesh: memory\n", Status::Memory),
     }
 }

@@ -1,6 +1,6 @@
 //! How the program ended.
 ghost use Rattle.std.specs.Prelude.{◌≡◌};
-ghost use Rattle.mesh_tool.specs.Top.{code_of};
+ghost use Rattle.mesh_tool.specs.Status.{code_of};
 
 /// How the program ended: the whole text was written; the words are no command line; a read or a write failed; the input
 /// was refused; the whole listing was written, and a line of it says a refusal; want of memory.

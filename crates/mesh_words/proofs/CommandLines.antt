@@ -12,7 +12,7 @@ use Rattle.mesh_words.specs.declared.asked.Asked.TheVariants as asked
 use Rattle.mesh_words.specs.declared.asked.MakeOptions.{MakeOptions}
 use Rattle.mesh_words.specs.declared.asked.MakeValue.{MakeValue}
 use Rattle.mesh_words.specs.declared.asked.MakeValue.TheVariants as value
-use Rattle.mesh_words.specs.Words.{is_word, turns_of, kind_of, routers_of, seed_of, make_option, make_job, emulate_option, command_word, takes, or_at, read_on, words_of}
+use Rattle.mesh_words.specs.Words.{is_word, kind_of, routers_of, seed_of, make_option, make_job, emulate_option, command_word, takes, or_at, read_on, words_of}
 use Rattle.mesh_words.specs.CommandLines.{InAnyOrder, OptionWords, make_options, AskFor}
 
 -- ---- the orders of three
@@ -64,7 +64,6 @@ made k n s kind routers seed options is_kind are_routers is_seed any =
 pub asked_is_read : (words : List (List ℕ)) (j : Job) → AskFor words j → words_of words ≡ Ok j
 asked_is_read words (job.Dump false) asks = ap words_of (asks.whole ∙ ap (behind (codes "dump")) asks.are)
 asked_is_read words (job.Dump true) asks = ap words_of (asks.whole ∙ ap (behind (codes "dump")) asks.are)
-asked_is_read words (job.Run turns) asks = ap words_of (asks.whole ∙ ap (behind (codes "run")) asks.are.2) ∙ rw asks.are.1 refl
 asked_is_read words (job.Emulate false) asks = ap words_of (asks.whole ∙ ap (behind (codes "emulate")) asks.are)
 asked_is_read words (job.Emulate true) asks = ap words_of (asks.whole ∙ ap (behind (codes "emulate")) asks.are)
 asked_is_read words (job.Make kind routers seed) asks =
@@ -119,25 +118,6 @@ dump_asked word (w ∷ words) j is h =
     let s = only_stands w (codes "--recode") true (asked.Dump true) step.0 step.1 in
     let end = none_more (asked.Dump true) (job.Dump true) 2 words j (λ v next k. never v (codes "--recode") (asked.Dump true) next k) refl (subst (λ (next : Asked). read_on next 2 words ≡ Ok j) s.2 step.2) in
     subst (AskFor (word ∷ w ∷ words)) (sym end.1) (record { options = (codes "--recode" ∷ []) ∷ []; are = refl; whole = rw (is, s.0, end.0) refl })
-
-turns_read : (place : ℕ) (read : Option ℕ) (f : Asked → Result Job ℕ) (j : Job) → or_at place (option_map (λ turns. asked.Run (Some turns)) read) f ≡ Ok j
-    → (turns : ℕ) × (read ≡ Some turns) × (f (asked.Run (Some turns)) ≡ Ok j)
-turns_read place (Some turns) f j h = (turns, refl, h)
-turns_read place None f j h = let bad : ⊥ = cc in absurd bad
-
-turns_asked : (word w : List ℕ) (words : List (List ℕ)) (j : Job) → word ≡ codes "run" → w ≡ codes "--turns" → read_on asked.Turns 2 words ≡ Ok j → AskFor (word ∷ w ∷ words) j
-turns_asked word w [] j is its h = let bad : ⊥ = cc in absurd bad
-turns_asked word w (n ∷ words) j is its h =
-    let step = turns_read 2 (turns_of n) (λ next. read_on next 3 words) j h in
-    let end = none_more (asked.Run (Some step.0)) (job.Run step.0) 3 words j (λ v next k. never v (codes "--turns") asked.Turns next k) refl step.2 in
-    subst (AskFor (word ∷ w ∷ n ∷ words)) (sym end.1) (record { options = (codes "--turns" ∷ n ∷ []) ∷ []; are = (n, step.1, refl); whole = rw (is, its, end.0) refl })
-
-run_asked : (word : List ℕ) (words : List (List ℕ)) (j : Job) → word ≡ codes "run" → read_on (asked.Run None) 1 words ≡ Ok j → AskFor (word ∷ words) j
-run_asked word [] j is h = let bad : ⊥ = cc in absurd bad
-run_asked word (w ∷ words) j is h =
-    let step = or_at_ok 1 (takes (asked.Run None) w) (λ next. read_on next 2 words) j h in
-    let s = only_stands w (codes "--turns") true asked.Turns step.0 step.1 in
-    turns_asked word w words j is s.0 (subst (λ (next : Asked). read_on next 2 words ≡ Ok j) s.2 step.2)
 
 -- ---- the options of a made scenario, where some stood before
 
@@ -321,11 +301,8 @@ read_is_asked (word ∷ words) j h =
     let step = or_at_ok 0 (command_word word) (λ next. read_on next 1 words) j h in
     elim (if_some (is_word word (codes "dump")) (asked.Dump false) _ step.0 step.1) [
       | inl (test, e) ↦ dump_asked word words j ((bytes_decides word (codes "dump")).0 test) (subst (λ (next : Asked). read_on next 1 words ≡ Ok j) e step.2)
-      | inr (other, rest) ↦ elim (if_some (is_word word (codes "run")) (asked.Run None) _ step.0 rest) [
-        | inl (test, e) ↦ run_asked word words j ((bytes_decides word (codes "run")).0 test) (subst (λ (next : Asked). read_on next 1 words ≡ Ok j) e step.2)
-        | inr (other', rest') ↦ elim (if_some (is_word word (codes "emulate")) (asked.Emulate (record { trace = false })) None step.0 rest') [
-          | inl (test, e) ↦ emulate_asked word words j ((bytes_decides word (codes "emulate")).0 test) (subst (λ (next : Asked). read_on next 1 words ≡ Ok j) e step.2)
-          | inr (other'', none) ↦ let bad : ⊥ = cc in absurd bad
-        ]
+      | inr (other, rest) ↦ elim (if_some (is_word word (codes "emulate")) (asked.Emulate (record { trace = false })) None step.0 rest) [
+        | inl (test, e) ↦ emulate_asked word words j ((bytes_decides word (codes "emulate")).0 test) (subst (λ (next : Asked). read_on next 1 words ≡ Ok j) e step.2)
+        | inr (other', none) ↦ let bad : ⊥ = cc in absurd bad
       ]
     ]

@@ -35,9 +35,6 @@ kind_missing None routers seed place =
 completes : (asked : Asked) (place : ℕ) → Completes asked place
 completes asked.Nothing place = (codes "dump" ∷ [], refl)
 completes (asked.Dump recode) place = ([], refl)
-completes (asked.Run (Some turns)) place = ([], refl)
-completes (asked.Run None) place = (codes "--turns" ∷ codes "1" ∷ [], refl)
-completes asked.Turns place = (codes "1" ∷ [], refl)
 completes (asked.Emulate o) place = ([], refl)
 completes (asked.Make o) place = kind_missing o.kind o.routers o.seed place
 completes (asked.MakeAwaits o value.Kind) place =

@@ -4,7 +4,7 @@ use Rattle.std.specs.List.{flat_map}
 use Rattle.mesh_atoms.specs.Settings.{IsCount}
 use Rattle.mesh_words.specs.declared.job.Job.{Job}
 use Rattle.mesh_words.specs.declared.job.Job.TheVariants as job
-use Rattle.mesh_words.specs.Words.{words_of, turns_of, kind_of, routers_of, seed_of}
+use Rattle.mesh_words.specs.Words.{words_of, kind_of, routers_of, seed_of}
 
 -- these, each once, in any order
 abbrev pub InAnyOrder : {A : Type 0} → List A → List A → Type 0
@@ -24,7 +24,6 @@ make_options kind routers seed =
 abbrev pub AreOptions : Job → List OptionWords → Type 0
 AreOptions (job.Dump false) options = options ≡ []
 AreOptions (job.Dump true) options = options ≡ (codes "--recode" ∷ []) ∷ []
-AreOptions (job.Run turns) options = (n : List ℕ) × (turns_of n ≡ Some turns) × (options ≡ (codes "--turns" ∷ n ∷ []) ∷ [])
 AreOptions (job.Emulate false) options = options ≡ []
 AreOptions (job.Emulate true) options = options ≡ (codes "--trace" ∷ []) ∷ []
 AreOptions (job.Make kind routers seed) options =
@@ -34,7 +33,6 @@ AreOptions (job.Make kind routers seed) options =
 -- the first word
 abbrev pub command_of : Job → List ℕ
 command_of (job.Dump recode) = codes "dump"
-command_of (job.Run turns) = codes "run"
 command_of (job.Emulate trace) = codes "emulate"
 command_of (job.Make kind routers seed) = codes "emulate"
 
@@ -44,10 +42,9 @@ pub record AskFor (words : List (List ℕ)) (job : Job) : Type 0 where
   pub are : AreOptions job options
   pub whole : words ≡ command_of job ∷ flat_map (λ option. option) options
 
--- so many turns, so many routers, and such a seed, as command lines ask for
+-- so many routers, and such a seed, as command lines ask for
 abbrev pub IsInRange : Job → Type 0
 IsInRange (job.Dump recode) = Unit {0}
-IsInRange (job.Run turns) = 1 ≤ turns
 IsInRange (job.Emulate trace) = Unit {0}
 IsInRange (job.Make kind routers seed) = IsCount 2 64 routers × (seed ≤ 4294967295)
 

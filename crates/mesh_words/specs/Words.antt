@@ -28,9 +28,6 @@ is_word word other = pointwise nat_eq word other
 abbrev pub number_from : ℕ → ℕ → List ℕ → Option ℕ
 number_from least most word = number_of most word >>= λ n. only_if (nat_le least n) n
 
-abbrev pub turns_of : List ℕ → Option ℕ
-turns_of = number_from 1 4294967295
-
 abbrev pub routers_of : List ℕ → Option ℕ
 routers_of = number_from 2 64
 
@@ -78,15 +75,12 @@ emulate_option o word =
 abbrev pub command_word : List ℕ → Option Asked
 command_word word =
     if is_word word (codes "dump") then Some (asked.Dump false)
-    else if is_word word (codes "run") then Some (asked.Run None)
     else only_if (is_word word (codes "emulate")) (asked.Emulate (record { trace = false }))
 
 -- what is asked for after one more word, where it begins a command line with the words before it
 abbrev pub takes : Asked → List ℕ → Option Asked
 takes asked.Nothing word = command_word word
 takes (asked.Dump recode) word = only_if (is_word word (codes "--recode") && not recode) (asked.Dump true)
-takes (asked.Run turns) word = only_if (is_word word (codes "--turns") && is_none turns) asked.Turns
-takes asked.Turns word = option_map (λ turns. asked.Run (Some turns)) (turns_of word)
 takes (asked.Emulate o) word = emulate_option o word
 takes (asked.Make o) word = make_option o word
 takes (asked.MakeAwaits o value) word = option_map asked.Make (make_value o value word)
@@ -95,8 +89,6 @@ takes (asked.MakeAwaits o value) word = option_map asked.Make (make_value o valu
 abbrev pub job_of : Asked → Option Job
 job_of asked.Nothing = None
 job_of (asked.Dump recode) = Some (job.Dump recode)
-job_of (asked.Run turns) = option_map job.Run turns
-job_of asked.Turns = None
 job_of (asked.Emulate o) = Some (job.Emulate o.trace)
 job_of (asked.Make o) = make_job o
 job_of (asked.MakeAwaits o value) = None

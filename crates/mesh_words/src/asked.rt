@@ -1,6 +1,6 @@
 //! What a command line asks for as far as its words were read, and what one more word makes of it.
 ghost use Rattle.std.specs.Prelude.{◌≡◌, ◌≤◌, ◌&&◌, IfSome};
-ghost use Rattle.mesh_words.specs.Words.{number_from, turns_of, kind_of, make_option, make_value, make_job, emulate_option, command_word, takes, job_of, is_word};
+ghost use Rattle.mesh_words.specs.Words.{number_from, kind_of, make_option, make_value, make_job, emulate_option, command_word, takes, job_of, is_word};
 ghost use Rattle.mesh_atoms.specs.Literals.{only_if};
 
 use crate::{Job, Kind};
@@ -28,13 +28,11 @@ pub enum MakeValue {
     Seed,
 }
 
-/// What is asked for as far as the words were read; with `Turns` and `MakeAwaits` a value comes next.
+/// What is asked for as far as the words were read; with `MakeAwaits` a value comes next.
 #[derive(Clone, Copy)]
 pub enum Asked {
     Nothing,
     Dump { recode: bool },
-    Run { turns: Option<u32> },
-    Turns,
     Emulate(EmulateOptions),
     Make(MakeOptions),
     MakeAwaits(MakeOptions, MakeValue),
@@ -54,13 +52,6 @@ fn number_from(word: &str, least: u64, most: u64) -> Option<u64>
 {
     let n = number_of(word.as_bytes(), most)?;
     if least <= n { Some(n) } else { None }
-}
-
-fn turns_of(word: &str) -> Option<u32>
-    ensures { result ≡ turns_of word.now }
-{
-    let turns = number_from(word, 1, 4_294_967_295)?;
-    Some(turns as u32)
 }
 
 fn kind_of(word: &str) -> Option<Kind>
@@ -155,8 +146,6 @@ fn command_word(word: &str) -> Option<Asked>
 {
     if word == "dump" {
         Some(Asked::Dump { recode: false })
-    } else if word == "run" {
-        Some(Asked::Run { turns: None })
     } else if word == "emulate" {
         Some(Asked::Emulate(EmulateOptions { trace: false }))
     } else {
@@ -187,11 +176,6 @@ pub fn takes(asked: Asked, word: &str) -> Option<Asked>
             !recode,
             Asked::Dump { recode: true },
         ),
-        Asked::Run { turns } => only_option(word, "--turns", turns.is_none(), Asked::Turns),
-        Asked::Turns => match turns_of(word) {
-            Some(turns) => Some(Asked::Run { turns: Some(turns) }),
-            None => None,
-        },
         Asked::Emulate(options) => options.option(word),
         Asked::Make(options) => options.option(word),
         Asked::MakeAwaits(options, value) => match options.value(value, word) {
@@ -207,14 +191,10 @@ pub fn job_of(asked: Asked) -> Option<Job>
 {
     match asked {
         Asked::Dump { recode } => Some(Job::Dump { recode }),
-        Asked::Run { turns } => match turns {
-            Some(turns) => Some(Job::Run { turns }),
-            None => None,
-        },
         Asked::Emulate(options) => Some(Job::Emulate {
             trace: options.trace,
         }),
         Asked::Make(options) => options.job(),
-        Asked::Nothing | Asked::Turns | Asked::MakeAwaits(_, _) => None,
+        Asked::Nothing | Asked::MakeAwaits(_, _) => None,
     }
 }

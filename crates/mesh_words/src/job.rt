@@ -9,15 +9,12 @@ pub enum Kind {
 }
 
 /// What a command line asks for: to list lines of hexadecimal text as packets, with `recode` each one written again in its
-/// least form; to run a router for at most so many turns, at least 1; to emulate the network of a scenario, with `trace`
-/// telling each event; or to emulate the network of a scenario that is made of 2 to 64 routers by a seed below 2^32.
+/// least form; to emulate the network of a scenario, with `trace` telling each event; or to emulate the network of a scenario
+/// that is made of 2 to 64 routers by a seed below 2^32.
 #[derive(Clone, Copy, PartialEq, Eq)]
 pub enum Job {
     Dump {
         recode: bool,
-    },
-    Run {
-        turns: u32,
     },
     Emulate {
         trace: bool,

@@ -1,0 +1,5 @@
+mod FirstLine
+mod Hex
+mod OneText
+mod Stops
+mod Written

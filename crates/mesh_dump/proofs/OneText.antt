@@ -1,0 +1,57 @@
+-- Each line says one thing, and the listing of an input is one text.
+use Rattle.std.proofs.Common.{◌≡◌, ℕ, ◌+◌, inl, inr, List, [], ◌∷◌, length, Result, Ok, Err, Bool, refl, sym, ap, subst, ◌∙◌}
+use Rattle.std.specs.Str.Lines.{lines}
+use Rattle.hex.proofs.HexLemmas.{decode_of-same}
+use Rattle.mesh_atoms.specs.declared.refusal.Refusal.{Refusal}
+use Rattle.mesh_packet.specs.declared.packet.Span.{Span}
+use Rattle.mesh_packet.specs.Fields.{PacketFields}
+use Rattle.mesh_packet.proofs.OneReading.{one_packet, one_fault, spells_or_faults, not_both}
+use Rattle.mesh_report.specs.Packets.{IsLineText}
+use Rattle.mesh_report.proofs.OneListing.{same_both, one_listing}
+use Rattle.mesh_dump.specs.Dump.{IsLinesText, IsDumpText, total_text}
+use Rattle.mesh_dump.specs.Lines.{FrameSays, ReadsAs, refusals}
+use Rattle.mesh_dump.proofs.Hex.{written_or_not, not_hex_once, not_hex_too}
+
+-- what a line says
+abbrev Read : Type 0
+Read = Result (PacketFields × List Span) Refusal
+
+frame_once : (frame : List ℕ) (a b : Read) → FrameSays frame a → FrameSays frame b → a ≡ b
+frame_once frame (Ok x) (Ok y) h k =
+    let e = one_packet frame x.0 y.0 x.1 y.1 h k in
+    ap (λ (p : PacketFields). Ok (p, x.1)) e.0 ∙ ap (λ (s : List Span). Ok (y.0, s)) e.1
+frame_once frame (Ok x) (Err f) h k = absurd (not_both frame x.0 x.1 f.place f.reason h k)
+frame_once frame (Err e) (Ok y) h k = absurd (not_both frame y.0 y.1 e.place e.reason k h)
+frame_once frame (Err e) (Err f) h k =
+    let s = one_fault frame e.place e.reason f.place f.reason h k in
+    ap (λ (n : ℕ). Err (record { place = n; reason = e.reason })) s.0 ∙ ap (λ (n : ℕ). Err (record { place = f.place; reason = n })) s.1
+
+pub reads_once : (line : List ℕ) (a b : Read) → ReadsAs line a → ReadsAs line b → a ≡ b
+reads_once line a b (inl (octets, e, says)) (inl (octets', e', says')) =
+    let same : octets ≡ octets' = decode_of-same line octets octets' e e' in
+    frame_once octets' a b (subst (λ (l : List ℕ). FrameSays l a) same says) says'
+reads_once line a b (inl (octets, e, says)) (inr (refusal, not, is)) = absurd (not_hex_too line octets refusal e not)
+reads_once line a b (inr (refusal, not, is)) (inl (octets, e, says)) = absurd (not_hex_too line octets refusal e not)
+reads_once line a b (inr (refusal, not, is)) (inr (refusal', not', is')) = is ∙ ap (λ (r : Refusal). Err r) (not_hex_once line refusal refusal' not not') ∙ sym is'
+
+pub always_reads : (line : List ℕ) → (read : Read) × ReadsAs line read
+always_reads line = elim (written_or_not line) [
+  | inl (octets, e) ↦ elim (spells_or_faults octets) [
+    | inl (packet, spans, spelled) ↦ (Ok (packet, spans), inl (octets, e, spelled))
+    | inr (place, reason, fault) ↦ (Err (record { place = place; reason = reason }), inl (octets, e, fault))
+  ]
+  | inr (refusal, not) ↦ (Err refusal, inr (refusal, not, refl))
+]
+
+one_lines : (recode : Bool) (number : ℕ) (lines : List (List ℕ)) (m n : ℕ) (a b : List ℕ) → IsLinesText recode number lines m a → IsLinesText recode number lines n b → (m ≡ n) × (a ≡ b)
+one_lines recode number [] m n a b h k = (h.0 ∙ sym k.0, h.1 ∙ sym k.1)
+one_lines recode number (line ∷ lines) m n a b (r, x, i, y, reads, is, more, count, e) (s, x', j, y', reads', is', more', count', e') =
+    let same : r ≡ s = reads_once line r s reads reads' in
+    let others = one_lines recode (number + 1) lines i j y y' more more' in
+    let first : x ≡ x' = one_listing recode number s x x' (subst (λ (t : Read). IsLineText recode number t x) same is) is' in
+    (count ∙ ap (λ (t : Read). refusals t + i) same ∙ ap (λ (k : ℕ). refusals s + k) others.0 ∙ sym count', same_both e e' first others.1)
+
+pub one_text : (input : List ℕ) (recode : Bool) (m n : ℕ) (a b : List ℕ) → IsDumpText input recode m a → IsDumpText input recode n b → (m ≡ n) × (a ≡ b)
+one_text input recode m n a b (x, is, e) (x', is', e') =
+    let same = one_lines recode 1 (lines input) m n x x' is is' in
+    (same.0, same_both e e' same.1 (ap (λ (k : ℕ). total_text (length (lines input)) k) same.0))

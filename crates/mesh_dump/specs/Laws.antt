@@ -1,0 +1,19 @@
+-- That the definition of a listing leaves no choice.
+use Rattle.std.specs.Prelude.{◌≡◌, ℕ, List, Result, Bool}
+use Rattle.mesh_atoms.specs.declared.refusal.Refusal.{Refusal}
+use Rattle.mesh_packet.specs.declared.packet.Span.{Span}
+use Rattle.mesh_packet.specs.Fields.{PacketFields}
+use Rattle.mesh_dump.specs.Dump.{IsDumpText}
+use Rattle.mesh_dump.specs.Lines.{ReadsAs}
+
+-- each line says something
+abbrev pub AlwaysReads : Type 0
+AlwaysReads = (line : List ℕ) → (read : Result (PacketFields × List Span) Refusal) × ReadsAs line read
+
+-- a line says one thing
+abbrev pub ReadsAsOne : Type 0
+ReadsAsOne = (line : List ℕ) (a b : Result (PacketFields × List Span) Refusal) → ReadsAs line a → ReadsAs line b → a ≡ b
+
+-- the listing of an input is one text, with its packets written again or without, and so many of its lines are refused
+abbrev pub HasOneText : Type 0
+HasOneText = (input : List ℕ) (recode : Bool) (m n : ℕ) (a b : List ℕ) → IsDumpText input recode m a → IsDumpText input recode n b → (m ≡ n) × (a ≡ b)

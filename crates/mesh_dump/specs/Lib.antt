@@ -1,0 +1,4 @@
+pub mod Dump
+pub mod Laws
+pub mod Lines
+pub mod Writes

@@ -1,0 +1,9 @@
+//! The listing of lines of hexadecimal text as packets, written line by line.
+#![tactic(auto)]
+
+mod laws;
+mod lines;
+mod listing;
+
+pub use laws::one_text;
+pub use listing::dump;

@@ -1,0 +1,112 @@
+//! The listing of lines of hexadecimal text as packets.
+ghost use Rattle.std.specs.Prelude.{◌≡◌, ◌++◌, ◌≤◌, ℕ, List, [], Err, length, take, IfOk, OnOk};
+ghost use Rattle.std.specs.Io.KnownBytes.{Appends};
+ghost use Rattle.std.specs.Str.Lines.{lines};
+ghost use Rattle.mesh_io.specs.Faults.{Rose};
+ghost use Rattle.mesh_dump.specs.Dump.{IsLinesText, IsDumpText, IsDumpFront, IsFirstLinesText, total_text};
+ghost use Rattle.mesh_dump.specs.Lines.{IsListing};
+ghost use Rattle.mesh_dump.specs.Writes.{Writes};
+
+use crate::lines::{first_line, put_line};
+use mesh_atoms::{Bytes, put_decimal};
+use mesh_io::{Sink, Stop, write_all};
+use std::alloc::{AllocError, Global};
+
+// How many lines there are, and how many of them are refused.
+#[derive(Clone, Copy)]
+struct Counts {
+    lines: u64,
+    refused: u64,
+}
+
+fn put_total(out: &mut Bytes, counts: Counts) -> Result<(), AllocError>
+    ensures { OnOk result (out.new ≡ out.old ++ total_text counts.lines counts.refused) }
+{
+    out.append(b"lines ")?;
+    put_decimal(out, counts.lines)?;
+    out.append(b" refused ")?;
+    put_decimal(out, counts.refused)?;
+    out.append(b"\n")
+}
+
+// Writes the line that counts, by one write. What `part` holds is lost.
+fn write_total<O: Sink>(part: &mut Bytes, counts: Counts, out: &mut O) -> Result<(), Stop>
+    ensures text { Writes (λ _ text. text ≡ total_text counts.lines counts.refused) (λ text. text ≡ total_text counts.lines counts.refused)
+        (λ text. text ≡ []) (O.content out.old) (O.content out.new) (O.faults out.old) (O.faults out.new) result }
+    ensures later { O.faults out.old ≤ O.faults out.new }
+{
+    part.clear();
+    put_total(part, counts)?;
+    write_all(out, part.as_slice())?;
+    Ok(())
+}
+
+// Writes the listing of the line of this number, by one write, and gives 1 where the line is refused, else 0. What `part` holds
+// is lost.
+fn write_line<O: Sink>(
+    alloc: Global,
+    part: &mut Bytes,
+    number: u64,
+    line: &[u8],
+    recode: bool,
+    out: &mut O,
+) -> Result<u64, Stop>
+    ensures text { Writes (IsListing recode number line.now) (λ text. (count : ℕ) × IsListing recode number line.now count text)
+        (λ text. text ≡ []) (O.content out.old) (O.content out.new) (O.faults out.old) (O.faults out.new) result }
+    ensures later { O.faults out.old ≤ O.faults out.new }
+{
+    part.clear();
+    let refused = put_line(alloc, part, number, line, recode)?;
+    write_all(out, part.as_slice())?;
+    Ok(refused)
+}
+
+// Writes the listing of each line of the input, and counts. What `part` holds is lost.
+fn write_lines<O: Sink>(
+    alloc: Global,
+    part: &mut Bytes,
+    input: &[u8],
+    recode: bool,
+    out: &mut O,
+) -> Result<Counts, Stop>
+    ensures lines { IfOk result (λ counts. counts.lines ≡ length (lines input.now)) }
+    ensures text { Writes (λ counts. IsLinesText recode 1 (lines input.now) counts.refused) (IsFirstLinesText input.now recode)
+        (IsFirstLinesText input.now recode) (O.content out.old) (O.content out.new) (O.faults out.old) (O.faults out.new) result }
+    ensures later { O.faults out.old ≤ O.faults out.new }
+{
+    let mut at = 0;
+    let mut number = 0;
+    let mut refused = 0;
+    'lines: while at < input.len() {
+        let (line, used) = first_line(&input[at..]);
+        number += 1;
+        refused += write_line(alloc, part, number, line, recode, out)?;
+        at += used;
+    }
+    Ok(Counts {
+        lines: number,
+        refused,
+    })
+}
+
+/// Lists the input on `out`, with each packet written again where `recode` says so: each line's listing by one write, then the
+/// last line, which counts. Gives how many lines are refused.
+pub fn dump<O: Sink>(alloc: Global, input: &[u8], recode: bool, out: &mut O) -> Result<u64, Stop>
+    // The whole listing, of which so many lines are refused, was put on `out`.
+    ensures whole { IfOk result (λ refused. (text : List ℕ) × IsDumpText input.now recode refused text
+        × Appends (O.content out.old) (O.content out.new) text) }
+
+    // The sink counted a fault; a front of the listing, or of that of some first lines, stands on `out`.
+    ensures write { result ≡ Err Stop.Write → Rose (O.faults out.old) (O.faults out.new)
+        × (text : List ℕ) × IsDumpFront input.now recode text × (n : ℕ) × Appends (O.content out.old) (O.content out.new) (take n text) }
+
+    // The listing of some first lines stands on `out`.
+    ensures memory { result ≡ Err Stop.Memory → (text : List ℕ) × IsFirstLinesText input.now recode text
+        × Appends (O.content out.old) (O.content out.new) text }
+    ensures later { O.faults out.old ≤ O.faults out.new }
+{
+    let mut part = Bytes::new(alloc);
+    let counts = write_lines(alloc, &mut part, input, recode, out)?;
+    write_total(&mut part, counts, out)?;
+    Ok(counts.refused)
+}

@@ -1,0 +1,6 @@
+mod Emulations
+mod Ends
+mod Leaving
+mod Parts
+mod ToldRoutes
+mod TraceFacts

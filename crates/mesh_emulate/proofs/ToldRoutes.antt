@@ -1,0 +1,141 @@
+-- What the text of an emulation tells: each router a run of the machine, whether the network is settled, and then its routes.
+use Rattle.std.proofs.Common.{◌≡◌, ℕ, ◌<◌, ◌^◌, ◌↔◌, Bool, List, Option, Some, None, refl, sym, ap, subst, arith}
+use Rattle.std.specs.Prelude.{slice_get, Contains}
+use Rattle.mesh_atoms.specs.declared.addr.Addr4.{Addr4}
+use Rattle.mesh_atoms.specs.declared.addr.NetAddr.{NetAddr}
+use Rattle.mesh_atoms.specs.declared.graphs.Route.{Route}
+use Rattle.mesh_atoms.specs.declared.settings.Interface.{Interface}
+use Rattle.mesh_atoms.specs.declared.settings.RouterSettings.{RouterSettings}
+use Rattle.mesh_atoms.specs.declared.settings.Scenario.{Scenario}
+use Rattle.mesh_atoms.specs.Radio.{Router, RadioLeast}
+use Rattle.mesh_atoms.specs.Settled.{At, Settled}
+use Rattle.mesh_atoms.specs.State.{State}
+use Rattle.mesh_paths.specs.SettledRoutes.{IsSettledNetwork, HasRow, LeadsOn}
+use Rattle.mesh_paths.specs.SettledRoutes as rows
+use Rattle.mesh_paths.proofs.Scenarios.{sound_scenario}
+use Rattle.mesh_paths.proofs.SettledLaw.{settled_rows, settled_next_hops}
+use Rattle.mesh_radio.proofs.Through.{are_machines}
+use Rattle.mesh_settled.specs.declared.gap.Gap.{Gap}
+use Rattle.mesh_settled.proofs.FaceLemmas.{end_has_least}
+use Rattle.mesh_texts.specs.Marks.{face_name, name_of_face}
+use Rattle.mesh_texts.specs.Network.{IsGapOf}
+use Rattle.mesh_texts.specs.Printed.{SaysSettled, Prints, PrintsBy, LeadsOnwards, Arrives, Goes_on, At_gateway, LeadsThere}
+use Rattle.mesh_texts.proofs.ReadBack.{ends_settled, prints_rows, prints_rows_by}
+use Rattle.mesh_texts.proofs.RunStates.{run_states}
+use Rattle.mesh_emulate.specs.Emulation.{Emulation}
+use Rattle.mesh_emulate.proofs.Ends.{at_end}
+use Rattle.mesh_emulate.specs.Laws.{RunsMachines, TellsSettled, PrintsLeastRoutes, PrintsNextHops}
+
+pub runs_machines : RunsMachines
+runs_machines input trace e x settings is =
+    are_machines e.scenario e.run.opening e.run.events e.run.final e.run.is_opening e.run.runs x settings is
+
+-- Whether it is settled
+
+no_gap : (s : Scenario) (states : List State) (now : ℕ) (gap : Option Gap) → IsGapOf s states now gap →
+    (gap ≡ None) ↔ Settled s states now
+no_gap s states now None is = (λ e. is, λ settled. refl)
+no_gap s states now (Some gap) is = (λ e. absurd cc, λ settled. absurd (is.0 settled))
+
+pub tells_settled : TellsSettled
+tells_settled input trace e =
+    let says = ends_settled e.scenario trace e.run e.text e.is_text in
+    let none = no_gap e.scenario e.run.final.routers e.scenario.end e.is_text.gap e.is_text.is_gap in
+    (λ h. none.0 (says.0 h), λ settled. says.1 (none.1 settled))
+
+-- Routes
+
+module _ (input : List ℕ) (trace : Bool) (e : Emulation input trace) (says : SaysSettled e.text) where
+  -- the routers at the end are a settled network
+  network : IsSettledNetwork e.scenario e.run.final.routers e.scenario.end
+  network = record {
+    scenario = sound_scenario e.scenario;
+    routers = run_states e.scenario e.run;
+    sound = λ x p at. (at_end e.scenario e.run x p at).0;
+    moment = λ x p at. (at_end e.scenario e.run x p at).1;
+    settled = (tells_settled input trace e).0 says;
+  }
+
+  -- the state of a router of the scenario, which has the router's settings
+  state_of : (x : ℕ) (router : RouterSettings) → Router e.scenario x router →
+      (p : State) × At e.run.final.routers x p × (p.settings ≡ router)
+  state_of x router is =
+      let (p, at) = (run_states e.scenario e.run).all x router is in
+      (p, at, one_router (p.settings) router ((run_states e.scenario e.run).settings x p at) is)
+    where
+      one_router : (a b : RouterSettings) → Router e.scenario x a → Router e.scenario x b → a ≡ b
+      one_router a b p q = cc
+
+  least_routes : (x : ℕ) (router : RouterSettings) → Router e.scenario x router → (dest : NetAddr) (metric : ℕ) →
+      dest.addr.0 < 2 ^ 32 → metric < 2 ^ 64 → Prints e.text router.name dest metric ↔ RadioLeast e.scenario x dest metric
+  least_routes x router is dest metric d m =
+      let (p, at, same) = state_of x router is in
+      let told = prints_rows e.scenario trace e.run e.text e.is_text x p at dest metric d m in
+      let least = settled_rows e.scenario e.run.final.routers e.scenario.end x p network at dest metric in
+      let named = ap (λ (r : RouterSettings). r.name) same in (
+        λ prints. least.0 (told.0 (subst (λ (name : List ℕ). Prints e.text name dest metric) (sym named) prints)),
+        λ radio. subst (λ (name : List ℕ). Prints e.text name dest metric) named (told.1 (least.1 radio)),
+      )
+
+  -- where the router that a row leads to leads on
+  onwards : (dest : NetAddr) (n near metric : ℕ) → dest.addr.0 < 2 ^ 32 → metric < 2 ^ 64 →
+      LeadsOn e.scenario e.run.final.routers dest n near metric → LeadsOnwards e.scenario e.text dest n near metric
+  onwards dest n near metric d m (rows.Arrives host own same) = Arrives host own same
+  onwards dest n near metric d m (rows.Goes_on q rest at has same) =
+      Goes_on rest ((run_states e.scenario e.run).settings n q at)
+      ((prints_rows e.scenario trace e.run e.text e.is_text n q at dest rest d (omega (arith, m, same))).1 has) same
+  onwards dest n near metric d m (rows.At_gateway own attached le) = At_gateway own attached le
+
+  named : (faces : List Interface) (i : ℕ) (face : Interface) → slice_get faces i ≡ Some face → face.name ≡ face_name faces i
+  unfolding face_name
+  named faces i face at = sym (ap name_of_face at)
+
+  -- where a row of a router leads
+  leads : (x : ℕ) (p : State) → At e.run.final.routers x p → (row : Route) → Contains p.routes row → row.dest.addr.0 < 2 ^ 32 →
+      row.metric < 2 ^ 64 → LeadsThere e.scenario e.text x row.dest row.metric row.next (face_name p.settings.interfaces row.iface)
+  leads x p at row stands d m =
+      let (n, near, hop, willing, to, on) = settled_next_hops e.scenario e.run.final.routers e.scenario.end x p network at row stands in
+      let here = (run_states e.scenario e.run).settings x p at in
+      let (a, ((face, is_face, has), least)) = end_has_least e.scenario n to.j x row.iface to.back p.settings to.joins.home here in
+      record {
+        n = n;
+        near = near;
+        hop = record {
+          i = row.iface;
+          j = to.j;
+          router = p.settings;
+          is_router = here;
+          interface = face;
+          is_interface = is_face;
+          named = named p.settings.interfaces row.iface face is_face;
+          owner = to.q.settings;
+          is_owner = (run_states e.scenario e.run).settings n to.q to.at;
+          has = to.on;
+          there = to.there;
+          back = to.back;
+          joins = to.joins;
+          value = to.value;
+          least = hop;
+        };
+        onward = onwards row.dest n near row.metric d m on;
+      }
+
+  next_hops : (x : ℕ) (router : RouterSettings) → Router e.scenario x router → (dest : NetAddr) (metric : ℕ) (next : Addr4)
+      (face : List ℕ) → dest.addr.0 < 2 ^ 32 → metric < 2 ^ 64 → next.0 < 2 ^ 32 →
+      PrintsBy e.text router.name dest metric next face → LeadsThere e.scenario e.text x dest metric next face
+  next_hops x router is dest metric next face d m a by =
+      let (p, at, same) = state_of x router is in
+      let named = ap (λ (r : RouterSettings). r.name) same in
+      let (row, stands, to, at_metric, by_next, on_face) = (prints_rows_by e.scenario trace e.run e.text e.is_text x p at dest metric next face d m a).0
+      (subst (λ (name : List ℕ). PrintsBy e.text name dest metric next face) (sym named) by) in
+      subst (λ (f : List ℕ). LeadsThere e.scenario e.text x dest metric next f) on_face
+      (subst (λ (b : Addr4). LeadsThere e.scenario e.text x dest metric b (face_name p.settings.interfaces row.iface)) by_next
+      (subst (λ (c : ℕ). LeadsThere e.scenario e.text x dest c row.next (face_name p.settings.interfaces row.iface)) at_metric
+      (subst (λ (t : NetAddr). LeadsThere e.scenario e.text x t row.metric row.next (face_name p.settings.interfaces row.iface)) to
+      (leads x p at row stands (subst (λ (t : NetAddr). t.addr.0 < 2 ^ 32) (sym to) d) (subst (λ (c : ℕ). c < 2 ^ 64) (sym at_metric) m)))))
+
+pub prints_least_routes : PrintsLeastRoutes
+prints_least_routes input trace e says x router is dest metric d m = least_routes input trace e says x router is dest metric d m
+
+pub prints_next_hops : PrintsNextHops
+prints_next_hops input trace e says x router is dest metric next face d m a by = next_hops input trace e says x router is dest metric next face d m a by

@@ -1,0 +1,71 @@
+-- What is left on out by what is told of a network.
+use Rattle.std.specs.Prelude.{◌≡◌, ◌⊎◌, ◌<◌, ℕ, List, [], Option, Result, Ok, Err, Bool, true, false, take, length, IfSome}
+use Rattle.std.specs.Io.KnownBytes.{Appends}
+use Rattle.mesh_atoms.specs.declared.settings.Scenario.{Scenario}
+use Rattle.mesh_io.specs.Faults.{Rose}
+use Rattle.mesh_io.specs.declared.stop.Stop.{Stop}
+use Rattle.mesh_io.specs.declared.stop.Stop.TheVariants as stop
+use Rattle.mesh_machine.specs.Sendable.{IsPacket}
+use Rattle.mesh_radio.specs.declared.event.NetEvent.{NetEvent}
+use Rattle.mesh_radio.specs.Net.{Net}
+use Rattle.mesh_radio.specs.Run.{IsOver, NetRun}
+use Rattle.mesh_settled.specs.declared.gap.Gap.{Gap}
+use Rattle.mesh_texts.specs.Network.{IsGapOf, IsSummary}
+use Rattle.mesh_texts.specs.Runs.{Traces, WholeRun, IsRunText, FirstEvents, IsFirstTrace}
+
+-- a text was put there; where a write failed, a front of a text, and the count rose; and at want of memory the text of what was done
+abbrev pub Leaves : (List ℕ → Type 0) → (List ℕ → Type 0) → (List ℕ → Type 0) → Option (List ℕ) → Option (List ℕ) → ℕ → ℕ
+    → Result (Unit {0}) Stop → Type 0
+Leaves Whole Front Part content content' faults faults' (Ok u) = (text : List ℕ) × Whole text × Appends content content' text
+Leaves Whole Front Part content content' faults faults' (Err stop.Write) =
+    Rose faults faults' × (text : List ℕ) × Front text × (n : ℕ) × Appends content content' (take n text)
+Leaves Whole Front Part content content' faults faults' (Err stop.Memory) =
+    (text : List ℕ) × Part text × Appends content content' text
+
+-- no text
+abbrev pub IsNothing : List ℕ → Type 0
+IsNothing text = text ≡ []
+
+-- an event of the scenario's network, after which the network is this: its router is one of them, and what it heard spells a packet
+pub record IsLastEvent (s : Scenario) (net : Net) (event : NetEvent) : Type 0 where
+  pub scenario : net.scenario ≡ s
+  pub router : event.router < length net.routers
+  pub packet : IfSome event.heard (λ h. IsPacket h.2)
+
+-- the text of a run: its trace where it is asked for, and nothing where it isn't
+abbrev pub IsTold : Bool → Net → List NetEvent → Net → List ℕ → Type 0
+IsTold false old events new text = text ≡ []
+IsTold true old events new text = Traces old events new text
+
+-- a run from a network on, and its text
+pub record Told (trace : Bool) (old new : Net) (text : List ℕ) : Type 0 where
+  pub events : List NetEvent
+  pub runs : NetRun old events new
+  pub is_told : IsTold trace old events new text
+
+-- the same, up to the run's end; or up to wherever it stopped
+abbrev pub ToldToEnd : Bool → Net → Net → List ℕ → Type 0
+ToldToEnd trace old new text = Told trace old new text × IsOver new
+
+abbrev pub ToldSoFar : Bool → Net → List ℕ → Type 0
+ToldSoFar trace old text = (stopped : Net) × Told trace old stopped text
+
+-- the summary of a network at the end of its run
+abbrev pub IsEnd : Scenario → Net → List ℕ → Type 0
+IsEnd s net text = (gap : Option Gap) × IsGapOf s net.routers s.end gap × IsSummary s net.routers net.traffic.counts gap text
+
+-- the text of a whole run of a scenario's network
+abbrev pub IsWholeText : Scenario → Bool → List ℕ → Type 0
+IsWholeText s trace text = (run : WholeRun s) × IsRunText s trace run text
+
+-- the text of some first events
+abbrev pub IsFirstText : Scenario → Bool → List ℕ → Type 0
+IsFirstText s trace text = (first : FirstEvents s) × IsFirstTrace trace first text
+
+-- the one or the other
+abbrev pub IsFrontText : Scenario → Bool → List ℕ → Type 0
+IsFrontText s trace text = IsFirstText s trace text ⊎ IsWholeText s trace text
+
+-- the text of some first events, or nothing
+abbrev pub IsPartText : Scenario → Bool → List ℕ → Type 0
+IsPartText s trace text = (text ≡ []) ⊎ IsFirstText s trace text

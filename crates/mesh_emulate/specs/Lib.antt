@@ -1,0 +1,3 @@
+pub mod Emulation
+pub mod Laws
+pub mod Left

@@ -1,0 +1,17 @@
+//! Texts, written whole.
+ghost use Rattle.std.specs.Prelude.{◌≡◌, ◌≤◌};
+ghost use Rattle.mesh_emulate.specs.Left.{Leaves, IsNothing};
+
+use mesh_io::{Sink, Stop, write_all};
+
+// Writes a text.
+pub fn write_text<O: Sink>(text: &[u8], out: &mut O) -> Result<(), Stop>
+    ensures leaves { Leaves (λ t. t ≡ text.now) (λ t. t ≡ text.now) IsNothing
+        (O.content out.old) (O.content out.new) (O.faults out.old) (O.faults out.new) result }
+    ensures later { O.faults out.old ≤ O.faults out.new }
+{
+    match write_all(out, text) {
+        Ok(()) => Ok(()),
+        Err(_) => Err(Stop::Write),
+    }
+}

@@ -1,0 +1,10 @@
+mod Apart
+mod ArcEnds
+mod Greatest
+mod Growing
+mod MadeOnes
+mod Reaching
+mod Rows
+mod StatedOnes
+mod Telling
+mod Tells

@@ -1,0 +1,70 @@
+-- What is told of a run of a made network.
+use Rattle.std.proofs.Common.{◌≡◌, ℕ, ◌≤◌, true, false, List, [], ◌++◌, length, Option, None, Some, refl, sym, ap, ◌∙◌, subst, arith}
+use Rattle.std.specs.Prelude.{IsNone, IfSome, ◌↔◌}
+use Rattle.std.proofs.lemmas.List.{length-map}
+use Rattle.mesh_atoms.specs.declared.graphs.RadioGraph.{RadioGraph}
+use Rattle.mesh_atoms.specs.declared.settings.Scenario.{Scenario}
+use Rattle.mesh_atoms.specs.Radio.{IsRadioGraph}
+use Rattle.mesh_atoms.specs.Settled.{Settled}
+use Rattle.mesh_atoms.specs.State.{State}
+use Rattle.mesh_made.specs.Lines.{made_line, TellsRoutes}
+use Rattle.mesh_made.specs.Made.{IsMadeText, MadeEmulation}
+use Rattle.mesh_made.specs.Routes.{metrics_of}
+use Rattle.mesh_made.specs.Scenario.{IsMade}
+use Rattle.mesh_radio.specs.declared.event.Counts.{Counts}
+use Rattle.mesh_radio.specs.declared.event.NetEvent.{NetEvent}
+use Rattle.mesh_radio.specs.Net.{Net}
+use Rattle.mesh_radio.specs.Run.{IsOpeningNet, IsOver, NetRun}
+use Rattle.mesh_settled.specs.declared.gap.Gap.{Gap}
+use Rattle.mesh_settled.specs.Gaps.{IsFirstGap}
+use Rattle.mesh_settled.specs.Network.{IsNetwork}
+use Rattle.mesh_texts.proofs.RunStates.{end_is_network, final_count}
+use Rattle.mesh_texts.specs.Network.{IsGapOf, counts_line, settled_text}
+use Rattle.mesh_texts.specs.Runs.{WholeRun}
+use Rattle.mesh_words.specs.declared.job.Kind.{Kind}
+
+-- a run of the network of a scenario that ends with this one
+abbrev pub EndsWith : Scenario → Net → Type 0
+EndsWith s net = (run : WholeRun s) × (run.final ≡ net)
+
+pub ends_with : (s : Scenario) (opening net : Net) → IsOpeningNet s opening →
+    (events : List NetEvent) × NetRun opening events net × IsOver net → EndsWith s net
+ends_with s opening net opens (events, runs, over) =
+    (record { opening = opening; events = events; final = net; is_opening = opens; runs = runs; over = over }, refl)
+
+module _ (s : Scenario) (net : Net) (ends : EndsWith s net) (states : List State) (same : states ≡ net.routers) where
+  its_states : ends.0.final.routers ≡ states
+  its_states = ap (λ (n : Net). n.routers) ends.1 ∙ sym same
+
+  pub at_end : (g : RadioGraph) → IsRadioGraph s g → IsNetwork s g states s.end
+  at_end g graph = subst (λ (l : List State). IsNetwork s g l s.end) its_states (end_is_network s g ends.0 graph)
+
+  pub few_states : length states ≤ 64
+  few_states =
+      let count : length ends.0.final.routers ≡ length states = ap (λ (l : List State). length l) its_states in
+      omega (arith, count, final_count s ends.0, length-map s.routers (λ r. r.name), s.sound_routers.routers.at_most)
+
+  pub made_text_is : (k : Kind) (counts : Counts) (gap : Option Gap) (old new : List ℕ) → counts ≡ net.traffic.counts → old ≡ [] →
+      IsGapOf s states s.end gap →
+      (routes : List ℕ) × TellsRoutes (metrics_of states) routes × (new ≡ old ++ (made_line k s ++ (counts_line s counts ++ (routes ++ settled_text s gap)))) →
+      (run : WholeRun s) × IsMadeText k s run new
+  made_text_is k counts gap old new are none is_gap (routes, tells, whole) = (
+    ends.0,
+    record {
+      routes = routes;
+      tells_routes = subst (λ (l : List State). TellsRoutes (metrics_of l) routes) (sym its_states) tells;
+      gap = gap;
+      is_gap = subst (λ (l : List State). IsGapOf s l s.end gap) (sym its_states) is_gap;
+      whole = whole ∙ ap (λ (l : List ℕ). l ++ (made_line k s ++ (counts_line s counts ++ (routes ++ settled_text s gap)))) none
+          ∙ ap (λ (c : Counts). made_line k s ++ (counts_line s c ++ (routes ++ settled_text s gap))) (are ∙ ap (λ (n : Net). n.traffic.counts) (sym ends.1));
+    },
+  )
+
+pub gap_is : (s : Scenario) (states : List State) (now : ℕ) (gap : Option Gap) → (IsNone gap ↔ Settled s states now) →
+    IfSome gap (IsFirstGap s states now) → IsGapOf s states now gap
+gap_is s states now None none first = none.0 refl
+gap_is s states now (Some gap) none first = (λ settled. (let e : true ≡ false = none.1 settled in absurd cc), first)
+
+pub emulated : (k : Kind) (n seed : ℕ) (s : Scenario) → IsMade k n seed s → (text : List ℕ) → (run : WholeRun s) × IsMadeText k s run text →
+    (m : MadeEmulation k n seed) × (m.text ≡ text)
+emulated k n seed s made text (run, is) = (record { scenario = s; is_made = made; run = run; text = text; is_text = is }, refl)

@@ -1,0 +1,120 @@
+-- What the text of a made network tells where its network is settled.
+use Rattle.std.proofs.Common.{◌≡◌, ℕ, ◌+◌, List, ◌++◌, length, map, Option, None, Some, refl, sym, ap, ◌∙◌, subst, arith, append_assoc, codes, decimal}
+use Rattle.std.specs.Prelude.{Contains, slice_get}
+use Rattle.std.proofs.lemmas.List.{length-map}
+use Rattle.mesh_atoms.specs.declared.addr.NetAddr.{NetAddr}
+use Rattle.mesh_atoms.specs.declared.settings.RouterSettings.{RouterSettings}
+use Rattle.mesh_atoms.specs.declared.settings.Scenario.{Scenario}
+use Rattle.mesh_atoms.specs.Radio.{Router, RadioLeast}
+use Rattle.mesh_atoms.specs.Settled.{At, Settled}
+use Rattle.mesh_atoms.specs.State.{State}
+use Rattle.mesh_made.specs.Lines.{kind_text, made_line, routes_line}
+use Rattle.mesh_made.specs.Made.{Reached, AreLeastRoutes, TellsLeastRoutes}
+use Rattle.mesh_made.specs.Routes.{metrics_of, IsGreatest}
+use Rattle.mesh_made.proofs.Reaching.{all_reached, metrics_same, where_from, is_there, all_apart}
+use Rattle.mesh_paths.proofs.Scenarios.{sound_scenario}
+use Rattle.mesh_paths.proofs.SettledLaw.{settled_rows}
+use Rattle.mesh_paths.specs.SettledRoutes.{IsSettledNetwork}
+use Rattle.mesh_radio.proofs.Through.{end_together}
+use Rattle.mesh_settled.specs.declared.gap.Gap.{Gap}
+use Rattle.mesh_texts.proofs.LineTexts.{line_after, line_end, number, counts_plain}
+use Rattle.mesh_texts.proofs.ReadBack.{says_settled}
+use Rattle.mesh_texts.proofs.RunStates.{run_states}
+use Rattle.mesh_texts.specs.Network.{IsGapOf, counts_line, settled_text}
+use Rattle.mesh_texts.specs.Printed.{IsLine}
+use Rattle.mesh_texts.specs.Runs.{WholeRun}
+use Rattle.mesh_words.specs.declared.job.Kind.{Kind}
+use Rattle.mesh_words.specs.declared.job.Kind.TheVariants as kind
+
+-- Lines
+
+kind_line : (k : Kind) (l : List ℕ) → IsLine l → IsLine (kind_text k ++ l)
+kind_line kind.Grid l is = line_after (codes "grid") l refl is
+kind_line kind.Ring l is = line_after (codes "ring") l refl is
+kind_line kind.Random l is = line_after (codes "random") l refl is
+
+made_is_line : (k : Kind) (s : Scenario) → IsLine (made_line k s)
+unfolding made_line
+made_is_line k s =
+    line_after (codes "made ") _ refl (kind_line k _
+    (line_after (codes " routers ") _ refl (line_after (decimal (length s.routers)) _ (number (length s.routers))
+    (line_after (codes " arcs ") _ refl (line_after (decimal (length s.arcs)) _ (number (length s.arcs))
+    (line_after (codes " seed ") _ refl (line_after (decimal s.seed) _ (number s.seed) line_end)))))))
+
+-- Settled
+
+settled_gap : (s : Scenario) (states : List State) (now : ℕ) (gap : Option Gap) → gap ≡ None → IsGapOf s states now gap →
+    Settled s states now
+settled_gap s states now None e is = is
+settled_gap s states now (Some gap) e is = absurd cc
+
+module _ (s : Scenario) (run : WholeRun s) (settled : Settled s run.final.routers s.end) where
+  network : IsSettledNetwork s run.final.routers s.end
+  network = record {
+    scenario = sound_scenario s;
+    routers = run_states s run;
+    sound = λ x p at. (end_together s run.opening run.events run.final run.is_opening run.runs run.over x p at.is).0;
+    moment = λ x p at. (end_together s run.opening run.events run.final run.is_opening run.runs run.over x p at.is).1;
+    settled = settled;
+  }
+
+  least_there : (x : ℕ) (dest : NetAddr) (metric : ℕ) →
+      Contains (all_reached 0 run.final.routers) (record { router = x; dest = dest; metric = metric }) →
+      ((r : RouterSettings) × Router s x r) × RadioLeast s x dest metric
+  least_there x dest metric within =
+      let ps = run.final.routers in
+      let found = where_from 0 ps (record { router = x; dest = dest; metric = metric }) within in
+      let number : 0 + found.j ≡ x = ap (λ (q : Reached). q.router) found.is in
+      let place : found.j ≡ x = omega (arith, number) in
+      let at : At ps x found.p = record { is = subst (λ (k : ℕ). slice_get ps k ≡ Some found.p) place found.at } in (
+        (found.p.settings, (run_states s run).settings x found.p at),
+        (settled_rows s ps s.end x found.p network at dest metric).0
+            (found.r, found.within, ap (λ (q : Reached). q.dest) found.is, ap (λ (q : Reached). q.metric) found.is),
+      )
+
+  least_back : (x : ℕ) (dest : NetAddr) (metric : ℕ) → ((r : RouterSettings) × Router s x r) × RadioLeast s x dest metric →
+      Contains (all_reached 0 run.final.routers) (record { router = x; dest = dest; metric = metric })
+  least_back x dest metric ((r, is), least) =
+      let ps = run.final.routers in
+      let (p, at) = (run_states s run).all x r is in
+      let (row, within, to, cost) = (settled_rows s ps s.end x p network at dest metric).1 least in
+      let at_dest : NetAddr → Reached = λ d. record { router = x; dest = d; metric = row.metric } in
+      let at_metric : ℕ → Reached = λ c. record { router = x; dest = dest; metric = c } in
+      subst (Contains (all_reached 0 ps)) (ap at_dest to ∙ ap at_metric cost) (is_there 0 x ps x p row (omega arith) at.is within)
+
+  pub least_routes : AreLeastRoutes s (all_reached 0 run.final.routers)
+  least_routes = record {
+    each = λ x dest metric. (least_there x dest metric, least_back x dest metric);
+    once = all_apart 0 run.final.routers (λ j p at. (network.sound j p (record { is = at })).routes.ordered);
+  }
+
+pub tells_least_routes : TellsLeastRoutes
+tells_least_routes k n seed m says =
+    let s = m.scenario in
+    let t = m.is_text in
+    let ps = m.run.final.routers in
+    let first = made_line k s in
+    let second = counts_line s m.run.final.traffic.counts in
+    let last = settled_text s t.gap in
+    let before = first ++ (second ++ t.routes) in
+    let cut : m.text ≡ before ++ last =
+    t.whole ∙ ap (λ (l : List ℕ). first ++ l) (sym (append_assoc second t.routes last)) ∙ sym (append_assoc first (second ++ t.routes) last) in
+    let none : t.gap ≡ None = says_settled s t.gap before m.text cut says in
+    let settled : Settled s ps s.end = settled_gap s ps s.end t.gap none t.is_gap in
+    let same : map (λ r. r.metric) (all_reached 0 ps) ≡ metrics_of ps = metrics_same 0 ps in
+    let greatest = t.tells_routes.greatest in
+    let count : length (metrics_of ps) ≡ length (all_reached 0 ps) =
+    ap (λ (l : List ℕ). length l) (sym same) ∙ length-map (all_reached 0 ps) (λ r. r.metric) in (
+      all_reached 0 ps,
+      least_routes s m.run settled,
+      greatest,
+      subst (λ (l : List ℕ). IsGreatest l greatest) (sym same) t.tells_routes.is_greatest,
+      (
+        first,
+        second,
+        last,
+        made_is_line k s,
+        (counts_plain s m.run.final.traffic.counts).line,
+        t.whole ∙ ap (λ (l : List ℕ). first ++ (second ++ (l ++ last))) (t.tells_routes.whole ∙ ap (λ (c : ℕ). routes_line c greatest) count),
+      ),
+    )

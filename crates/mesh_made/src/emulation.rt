@@ -1,0 +1,82 @@
+//! The emulation of a made network.
+ghost use Rattle.std.specs.Prelude.{◌≡◌, ◌≤◌, ◌<◌, ◌^◌, ℕ, List, Err, IfOk, OnOk, take};
+ghost use Rattle.std.specs.Io.KnownBytes.{Appends, Keeps};
+ghost use Rattle.mesh_atoms.specs.Settings.{IsCount};
+ghost use Rattle.mesh_io.specs.Faults.{Rose};
+ghost use Rattle.mesh_made.specs.Made.{IsMadeText, MadeEmulation};
+ghost use Rattle.mesh_texts.specs.Runs.{WholeRun};
+
+use crate::scenario::made;
+use crate::text::put_made;
+use mesh_atoms::{Bytes, Scenario};
+use mesh_expire::Bases;
+use mesh_io::{Sink, Stop, write_all};
+use mesh_paths::radio_graph;
+use mesh_radio::Net;
+use mesh_settled::settled;
+use mesh_words::Kind;
+use std::alloc::{AllocError, Global};
+
+// The network of a scenario at the end of its run.
+fn run_of<B: Bases>(alloc: Global, scenario: &Scenario) -> Result<Net<B>, AllocError>
+    ensures { IfOk result (λ net. (run : WholeRun scenario.now) × (run.final ≡ net)) }
+{
+    let mut net = Net::new(alloc, scenario)?;
+    net.run_until_end()?;
+    Ok(net)
+}
+
+// The text of a run of the network of a made scenario.
+fn text_of<B: Bases>(alloc: Global, kind: Kind, scenario: &Scenario) -> Result<Bytes, AllocError>
+    ensures { IfOk result (λ text. (run : WholeRun scenario.now) × IsMadeText kind scenario.now run text) }
+{
+    let graph = radio_graph(alloc, scenario)?;
+    let net = run_of::<B>(alloc, scenario)?;
+    let gap = settled(net.cores(), scenario, &graph, scenario.end);
+    let mut text = Bytes::new(alloc);
+    put_made(&mut text, kind, scenario, net.cores(), net.counts(), gap)?;
+    Ok(text)
+}
+
+// The text of a run of the network of the made scenario.
+fn made_text<B: Bases>(
+    alloc: Global,
+    kind: Kind,
+    routers: usize,
+    seed: u64,
+) -> Result<Bytes, AllocError>
+    requires count { IsCount 2 64 routers }
+    requires seed { seed < 2 ^ 63 }
+    ensures { IfOk result (λ text. (m : MadeEmulation kind routers seed) × (m.text ≡ text)) }
+{
+    let scenario = made(alloc, kind, routers, seed)?;
+    text_of::<B>(alloc, kind, &scenario)
+}
+
+/// Emulates the network of the made scenario of 2 to 64 routers, with routers over these bases, from its opening to its end, and
+/// tells on `out`, by one write, how large it is, what was counted, its routes in number and whether it is settled.
+pub fn make<B: Bases, O: Sink>(
+    alloc: Global,
+    kind: Kind,
+    routers: usize,
+    seed: u64,
+    out: &mut O,
+) -> Result<(), Stop>
+    requires count { IsCount 2 64 routers }
+    requires seed { seed < 2 ^ 63 }
+    ensures done { OnOk result ((m : MadeEmulation kind routers seed) × Appends (O.content out.old) (O.content out.new) m.text) }
+
+    // The sink counted a fault; a front of the text stands on `out`.
+    ensures write { result ≡ Err Stop.Write → Rose (O.faults out.old) (O.faults out.new)
+        × (m : MadeEmulation kind routers seed) × (n : ℕ) × Appends (O.content out.old) (O.content out.new) (take n m.text) }
+    ensures memory { result ≡ Err Stop.Memory → Keeps (O.content out.old) (O.content out.new) }
+    ensures later { O.faults out.old ≤ O.faults out.new }
+{
+    match made_text::<B>(alloc, kind, routers, seed) {
+        Ok(text) => match write_all(out, text.as_slice()) {
+            Ok(()) => Ok(()),
+            Err(_) => Err(Stop::Write),
+        },
+        Err(_) => Err(Stop::Memory),
+    }
+}
