@@ -1,8 +1,0 @@
-use Rattle.std.proofs.Common.{◌≡◌, drop}
-use Rattle.std.specs.Prelude.{◌||◌, not}
-use Rattle.std.specs.List.{list_all}
-use Rattle.mesh_model.specs.RelayGraphTests.{has_all_direct, has_direct_to_all, metric_of}
-use Rattle.mesh_model.proofs.relay_graph.has_all_direct.Given as goal
-
-abbrev pub invariant-loop-entry : goal.invariant-loop-entry
-invariant-loop-entry l = list_all (λ e. not e.1.0.symmetric || has_direct_to_all l.direct e.1.0.addrs (metric_of l.router l.purpose e.1.0)) (drop l.entry-index l.router.neighbours) ≡ has_all_direct l.router l.purpose l.direct

@@ -1,0 +1,136 @@
+//! The radio graphs of worked networks of ten routers, which have two interfaces each.
+ghost use Rattle.std.specs.Prelude.{replicate};
+ghost use Rattle.mesh_atoms.specs.Settings.{AreArcs};
+ghost use Rattle.mesh_test_graphs.specs.Scenarios.{ends_of};
+
+use crate::builders::{Joint, arcs_of, doubles_of, metric_of, scenario_of};
+use mesh_atoms::{Addr4, Pair, Seq};
+use mesh_paths::radio_graph;
+use std::alloc::{AllocError, Global};
+use std::test::Fail;
+
+// The ten routers, as name and addresses.
+const TEN: [(u8, Addr4, Addr4); 10] = [
+    (b'0', Addr4(1), Addr4(11)),
+    (b'1', Addr4(2), Addr4(12)),
+    (b'2', Addr4(3), Addr4(13)),
+    (b'3', Addr4(4), Addr4(14)),
+    (b'4', Addr4(5), Addr4(15)),
+    (b'5', Addr4(6), Addr4(16)),
+    (b'6', Addr4(7), Addr4(17)),
+    (b'7', Addr4(8), Addr4(18)),
+    (b'8', Addr4(9), Addr4(19)),
+    (b'9', Addr4(10), Addr4(20)),
+];
+
+// Whether the radio graph of these arcs has exactly these pairs, in that order, and these parts.
+fn has_graph(
+    alloc: Global,
+    ends: &[Joint],
+    pairs: &[Joint],
+    parts: &[usize],
+) -> Result<bool, AllocError>
+    requires { AreArcs (replicate 10 2) (ends_of ends.now) }
+{
+    let scenario = scenario_of(doubles_of(alloc, &TEN)?, arcs_of(alloc, ends)?);
+    let graph = radio_graph(alloc, &scenario)?;
+    let mut wanted = Seq::new(alloc);
+    for &(from, from_iface, to, to_iface, cost) in pairs {
+        wanted.push(Pair {
+            from,
+            from_iface,
+            to,
+            to_iface,
+            metric: metric_of(cost),
+        })?;
+    }
+    Ok(graph.pairs.as_slice() == wanted.as_slice() && graph.parts.as_slice() == parts)
+}
+
+#[test]
+fn finds_radio_graphs(rt: HostRuntime) -> Result<(), Fail> {
+    let alone = [0, 1, 2, 3, 4, 5, 6, 7, 8, 9];
+    assert!(rt; has_graph(rt.alloc(), &[], &[], &alone)?, "no arcs");
+    let one_way = [(0, 0, 1, 0, 5)];
+    assert!(rt;
+        has_graph(rt.alloc(), &one_way, &[], &alone)?,
+        "a one-way arc"
+    );
+    let apart = [(0, 0, 1, 0, 5), (1, 1, 0, 0, 5), (1, 0, 0, 1, 5)];
+    assert!(rt;
+        has_graph(rt.alloc(), &apart, &[], &alone)?,
+        "back between other interfaces"
+    );
+    let joined = [(0, 0, 1, 0, 5), (1, 0, 0, 0, 7)];
+    assert!(rt;
+        has_graph(
+            rt.alloc(),
+            &joined,
+            &joined,
+            &[0, 0, 2, 3, 4, 5, 6, 7, 8, 9]
+        )?,
+        "two joined routers"
+    );
+    let beside = [
+        (0, 0, 1, 0, 1),
+        (1, 0, 0, 0, 2),
+        (0, 1, 1, 1, 3),
+        (1, 1, 0, 1, 4),
+    ];
+    assert!(rt;
+        has_graph(
+            rt.alloc(),
+            &beside,
+            &beside,
+            &[0, 0, 2, 3, 4, 5, 6, 7, 8, 9]
+        )?,
+        "two interfaces to one neighbour"
+    );
+    let three = [
+        (0, 0, 3, 0, 1),
+        (3, 0, 0, 0, 1),
+        (3, 1, 6, 0, 1),
+        (6, 0, 3, 1, 1),
+        (1, 0, 4, 0, 1),
+        (4, 0, 1, 0, 1),
+        (7, 0, 4, 0, 1),
+        (4, 0, 7, 0, 1),
+        (2, 0, 5, 0, 1),
+        (5, 0, 2, 0, 1),
+        (8, 0, 5, 1, 1),
+        (5, 1, 8, 0, 1),
+        (8, 1, 9, 0, 1),
+        (9, 0, 8, 1, 1),
+    ];
+    assert!(rt;
+        has_graph(rt.alloc(), &three, &three, &[0, 1, 2, 0, 1, 2, 0, 1, 2, 2])?,
+        "three parts"
+    );
+    let against = [
+        (5, 1, 3, 0, 2),
+        (3, 0, 5, 1, 2),
+        (1, 1, 5, 0, 2),
+        (5, 0, 1, 1, 2),
+        (9, 0, 1, 0, 2),
+        (1, 0, 9, 0, 2),
+        (3, 0, 0, 0, 2),
+    ];
+    let chain = [
+        (5, 1, 3, 0, 2),
+        (3, 0, 5, 1, 2),
+        (1, 1, 5, 0, 2),
+        (5, 0, 1, 1, 2),
+        (9, 0, 1, 0, 2),
+        (1, 0, 9, 0, 2),
+    ];
+    assert!(rt;
+        has_graph(
+            rt.alloc(),
+            &against,
+            &chain,
+            &[0, 1, 2, 1, 4, 1, 6, 7, 8, 1]
+        )?,
+        "a chain against the order of numbers"
+    );
+    Ok(())
+}
