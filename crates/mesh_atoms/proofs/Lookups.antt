@@ -19,7 +19,9 @@ use Rattle.mesh_atoms.specs.declared.tuples.NetworkKey.{NetworkKey}
 use Rattle.mesh_atoms.specs.Agreement.{TestsSymmetric, TestsHeard, LooksUpLinks, LooksUpTwoHops, LooksUpNeighbours, LooksUpLosts, LooksUpAdvertisers, LooksUpRouters, LooksUpAddresses, LooksUpNetworks, ShowsStatus}
 use Rattle.mesh_atoms.specs.Base.{Base, Has, find, base_of, HasDistinctKeys, addr_eq, net_eq, link_eq, two_hop_eq, router_eq, address_eq, network_eq}
 use Rattle.mesh_atoms.proofs.Nets.{same_net as same_parts}
-use Rattle.mesh_atoms.specs.State.{LinkState, Is_pending, Is_lost, Is_symmetric, Is_heard, link_state}
+use Rattle.mesh_atoms.specs.declared.tuples.LinkState.{LinkState}
+use Rattle.mesh_atoms.specs.declared.tuples.LinkState.TheVariants.{Pending as Is_pending, Lost as Is_lost, Symmetric as Is_symmetric, Heard as Is_heard}
+use Rattle.mesh_atoms.specs.State.{link_state}
 
 -- The status of a link
 

@@ -1,6 +1,6 @@
 -- The rows that a router advertises in its TCs.
-use Rattle.std.specs.Prelude.{◌≡◌, ℕ, ◌≤◌, ◌⊎◌, ◌≢◌, ◌↔◌, List, Contains, Some, None, IsTrue, IsFalse}
-use Rattle.std.specs.List.{AllPairs}
+use Rattle.std.specs.Prelude.{◌≡◌, ℕ, ◌+◌, ◌-◌, ◌<◌, ◌≤◌, ◌⊎◌, ◌≢◌, ◌↔◌, List, [], Contains, Some, None, IsTrue, IsFalse, length, slice_get}
+use Rattle.std.specs.List.{AllPairs, flat_map}
 use Rattle.mesh_atoms.specs.declared.addr.Addr4.{Addr4}
 use Rattle.mesh_atoms.specs.declared.addr.NetAddr.{NetAddr}
 use Rattle.mesh_atoms.specs.declared.metric.Metric.{Metric}
@@ -75,3 +75,14 @@ IsTcRow s = IsRowBy (Gives s) s.settings.attached
 -- the rows that it advertises now, in ascending order
 abbrev pub AreTcRows : State → List TcRow → Type 0
 AreTcRows s = AreRowsBy (Gives s) s.settings.attached
+
+-- TCs in parts
+
+-- the rows cut into parts, in their order: each has so many, but for the last one, which may have fewer; where there are no rows, one
+-- part without rows (RFC 7181, section 16.1)
+pub record AreParts (most : ℕ) (rows : List TcRow) (parts : List (List TcRow)) : Type 0 where
+  pub some : 0 < length parts
+  pub whole : flat_map (λ part. part) parts ≡ rows
+  pub full : (i : ℕ) (part : List TcRow) → slice_get parts i ≡ Some part → i + 1 < length parts → length part ≡ most
+  pub last : (part : List TcRow) → slice_get parts (length parts - 1) ≡ Some part → length part ≤ most
+  pub no_more : (part : List TcRow) → slice_get parts (length parts - 1) ≡ Some part → part ≡ [] → rows ≡ []

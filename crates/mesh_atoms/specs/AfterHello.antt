@@ -1,5 +1,5 @@
 -- The neighbourhood after a HELLO that interface i hears, from the neighbourhood that expiry has left.
-use Rattle.std.specs.Prelude.{◌≡◌, ℕ, ◌+◌, ◌⊎◌, ◌≢◌, max, List, Contains, Option, Some, None, length, Bool, true, false, cond}
+use Rattle.std.specs.Prelude.{◌≡◌, ℕ, ◌+◌, ◌⊎◌, ◌≢◌, max, List, Contains, Option, Some, None, length, Bool, true, false, cond, nat_lt}
 use Rattle.mesh_atoms.specs.declared.addr.Addr4.{Addr4}
 use Rattle.mesh_atoms.specs.declared.hello.LinkStatus.{LinkStatus}
 use Rattle.mesh_atoms.specs.declared.hello.LinkStatus.TheVariants.{Lost as Down}
@@ -13,22 +13,24 @@ use Rattle.mesh_atoms.specs.declared.tuples.Link.{Link}
 use Rattle.mesh_atoms.specs.declared.tuples.TwoHop.{TwoHop}
 use Rattle.mesh_atoms.specs.declared.tuples.Neighbour.{Neighbour}
 use Rattle.mesh_atoms.specs.declared.settings.RouterSettings.{RouterSettings}
+use Rattle.mesh_atoms.specs.declared.admit.Admit.{Admit}
 use Rattle.mesh_atoms.specs.State.{Neighbourhood, is_symmetric, is_heard, link_at, two_hop_at, neighbour_at, lost_at}
 use Rattle.mesh_atoms.specs.Live.{trimmed, Restores, IsSymmetricAddress, SettlesLost, is_symmetric_at, HasTables}
+use Rattle.mesh_atoms.specs.Quality.{quality_at, rule_of}
 use Rattle.mesh_atoms.specs.HelloTold.{Told, LooksAt, tells_symmetric, two_hop_of}
 use Rattle.mesh_atoms.specs.Words.{Meets, IsBeyond, IsKept}
 
 -- The link of interface i with the sending list (RFC 6130, section 12.5)
 
--- the link that is made where none has the sending list
-abbrev pub made : Shown → ℕ → Link × ℕ
-made shown now = (
+-- the link that is made where none has the sending list: PENDING where its quality isn't accepted (RFC 6130, section 14)
+abbrev pub made : Admit → Shown → ℕ → Link × ℕ
+made rule shown now = (
   record {
     addrs = shown.sending;
     heard = 0;
     sym = 0;
-    quality = 0;
-    pending = false;
+    quality = quality_at rule shown.sending now;
+    pending = nat_lt (quality_at rule shown.sending now) rule.accept;
     lost = false;
     link_in = shown.link_in;
     link_out = None;
@@ -38,9 +40,9 @@ made shown now = (
 )
 
 -- the link that the HELLO renews: the one with the sending list, else a made one
-pub data Begins (shown : Shown) (now : ℕ) (old : Option (Link × ℕ)) : Link × ℕ → Type 0 where
-  Stood : (e : Link × ℕ) → old ≡ Some e → e.0.addrs ≡ shown.sending → Begins shown now old e
-  Made : ((e : Link × ℕ) → old ≡ Some e → e.0.addrs ≢ shown.sending) → Begins shown now old (made shown now)
+pub data Begins (rule : Admit) (shown : Shown) (now : ℕ) (old : Option (Link × ℕ)) : Link × ℕ → Type 0 where
+  Stood : (e : Link × ℕ) → old ≡ Some e → e.0.addrs ≡ shown.sending → Begins rule shown now old e
+  Made : ((e : Link × ℕ) → old ≡ Some e → e.0.addrs ≢ shown.sending) → Begins rule shown now old (made rule shown now)
 
 -- what the HELLO says of the link: HEARD or SYMMETRIC makes it symmetric, LOST ends that, and it may say nothing of it
 abbrev pub by_status : Shown → ℕ → ℕ → Option LinkStatus → Link × ℕ → Link × ℕ
@@ -121,7 +123,7 @@ pub record AfterHello (settings : RouterSettings) (now i : ℕ) (told : Told) (h
   pub tables : HasTables new
   pub interfaces : length new.links ≡ length old.links
   pub two_hop_interfaces : length new.two_hops ≡ length old.two_hops
-  pub link : (start : Link × ℕ) × Begins told.shown now (link_at old i told.least) start
+  pub link : (start : Link × ℕ) × Begins (rule_of settings i) told.shown now (link_at old i told.least) start
       × (link_at new i told.least ≡ Some (renewed told.shown settings.times.link_hold now start))
   pub other_links : (j : ℕ) (key : LinkKey) → ((j ≢ i) ⊎ (key ≢ told.least)) → IsKept (λ e. GoesOn old told i j e.0) (link_at old j key) (link_at new j key)
   pub neighbour : Restores new now (Some (announced told.listed told.willing told.routing, 0)) (neighbour_at new told.originator)

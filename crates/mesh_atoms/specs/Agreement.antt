@@ -15,7 +15,8 @@ use Rattle.mesh_atoms.specs.declared.tuples.RouterTuple.{RouterTuple}
 use Rattle.mesh_atoms.specs.declared.tuples.AddressTuple.{AddressTuple}
 use Rattle.mesh_atoms.specs.declared.tuples.NetworkTuple.{NetworkTuple}
 use Rattle.mesh_atoms.specs.Base.{Has, HasDistinctKeys, find, base_of, addr_eq, link_eq, two_hop_eq, router_eq, address_eq, network_eq}
-use Rattle.mesh_atoms.specs.State.{State, Is_pending, Is_symmetric, Is_heard, state_of, is_symmetric, is_heard, link_at, two_hop_at, neighbour_at, lost_at, HasLink, HasTwoHop, status_of, link_state}
+use Rattle.mesh_atoms.specs.declared.tuples.LinkState.TheVariants.{Pending as Is_pending, Symmetric as Is_symmetric, Heard as Is_heard}
+use Rattle.mesh_atoms.specs.State.{State, state_of, is_symmetric, is_heard, link_at, two_hop_at, neighbour_at, lost_at, HasLink, HasTwoHop, status_of, link_state}
 
 -- the test is whether the status is SYMMETRIC
 abbrev pub TestsSymmetric : Type 0

@@ -18,7 +18,9 @@ use Rattle.mesh_atoms.specs.declared.tuples.Neighbour.{Neighbour}
 use Rattle.mesh_atoms.specs.Base.{Has, host}
 use Rattle.mesh_atoms.specs.Codes.{time_value, IsSentCode}
 use Rattle.mesh_atoms.specs.Nodes.{IsBefore}
-use Rattle.mesh_atoms.specs.State.{State, LinkState, Is_pending, Is_lost, Is_symmetric, Is_heard, state_of, HasLink, HasSymmetricWith, HasAddressOn, IsOriginator}
+use Rattle.mesh_atoms.specs.declared.tuples.LinkState.{LinkState}
+use Rattle.mesh_atoms.specs.declared.tuples.LinkState.TheVariants.{Pending as Is_pending, Lost as Is_lost, Symmetric as Is_symmetric, Heard as Is_heard}
+use Rattle.mesh_atoms.specs.State.{State, state_of, HasLink, HasSymmetricWith, HasAddressOn, IsOriginator}
 use Rattle.mesh_atoms.specs.Words.{IsValue}
 
 -- What a HELLO says of an address, by parts

@@ -12,6 +12,7 @@ pub mod Literals
 pub mod Live
 pub mod NextHop
 pub mod Nodes
+pub mod Quality
 pub mod Radio
 pub mod Reading
 pub mod RelayGraphs
@@ -22,6 +23,7 @@ pub mod Settled
 pub mod Sound
 pub mod State
 pub mod TakesHello
+pub mod Validity
 pub mod Walk
 pub mod Words
 pub mod Writable

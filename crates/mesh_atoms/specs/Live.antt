@@ -8,6 +8,7 @@ use Rattle.mesh_atoms.specs.declared.tuples.Neighbour.{Neighbour}
 use Rattle.mesh_atoms.specs.declared.tuples.Lost.{Lost}
 use Rattle.mesh_atoms.specs.declared.settings.RouterSettings.{RouterSettings}
 use Rattle.mesh_atoms.specs.Base.{HasDistinctKeys, if_live, Expires, base_of, link_eq, two_hop_eq, addr_eq, router_eq, address_eq, network_eq, flood_eq}
+use Rattle.mesh_atoms.specs.Quality.{admit_on}
 use Rattle.mesh_atoms.specs.State.{Neighbourhood, Topology, NotedMessages, Bases, is_symmetric, link_at, two_hop_at, neighbour_at, lost_at}
 use Rattle.mesh_atoms.specs.Words.{IsLeastMetric}
 
@@ -85,13 +86,13 @@ pub record HasTables (near : Neighbourhood) : Type 0 where
   pub neighbours : HasDistinctKeys addr_eq near.neighbours
   pub losts : HasDistinctKeys addr_eq near.losts
 
--- links that aren't expired, their neighbours, and their 2-hop tuples that aren't expired where they are SYMMETRIC
--- (RFC 6130, section 13, and RFC 7181, section 17)
+-- links as their qualities have them, that aren't expired then; their neighbours, and their 2-hop tuples that aren't expired where
+-- they are SYMMETRIC (RFC 6130, sections 13 and 14, and RFC 7181, section 17)
 pub record LiveNeighbourhood (settings : RouterSettings) (now : ℕ) (old new : Neighbourhood) : Type 0 where
   pub tables : HasTables new
   pub interfaces : length new.links ≡ length old.links
   pub two_hop_interfaces : length new.two_hops ≡ length old.two_hops
-  pub links : (i : ℕ) (key : LinkKey) → link_at new i key ≡ trim now (if_live now (link_at old i key))
+  pub links : (i : ℕ) (key : LinkKey) → link_at new i key ≡ trim now (if_live now (admit_on settings i now (link_at old i key)))
   pub two_hops : (i : ℕ) (key : TwoHopKey) →
       two_hop_at new i key ≡ cond (is_symmetric_at new now i key.link) (if_live now (two_hop_at old i key)) None
   pub neighbours : (o : Addr4) → Restores new now (neighbour_at old o) (neighbour_at new o)

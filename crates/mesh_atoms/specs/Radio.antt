@@ -4,6 +4,7 @@ use Rattle.mesh_atoms.specs.declared.addr.Addr4.{Addr4}
 use Rattle.mesh_atoms.specs.declared.addr.NetAddr.{NetAddr}
 use Rattle.mesh_atoms.specs.declared.metric.Metric.{Metric}
 use Rattle.mesh_atoms.specs.declared.settings.RadioArc.{RadioArc}
+use Rattle.mesh_atoms.specs.declared.settings.Interface.{Interface}
 use Rattle.mesh_atoms.specs.declared.settings.RouterSettings.{RouterSettings}
 use Rattle.mesh_atoms.specs.declared.settings.Attached4.{Attached4}
 use Rattle.mesh_atoms.specs.declared.settings.Scenario.{Scenario}
@@ -11,6 +12,7 @@ use Rattle.mesh_atoms.specs.declared.graphs.Pair.{Pair}
 use Rattle.mesh_atoms.specs.declared.graphs.RadioGraph.{RadioGraph}
 use Rattle.mesh_atoms.specs.Base.{host}
 use Rattle.mesh_atoms.specs.Codes.{metric_value}
+use Rattle.mesh_atoms.specs.Quality.{quality_at}
 use Rattle.mesh_atoms.specs.State.{HasAddress, HasAddressOn, IsOriginator}
 use Rattle.mesh_atoms.specs.Walk.{LeastWilling, LeastToNet}
 
@@ -21,10 +23,25 @@ abbrev pub Leads : Scenario → ℕ → ℕ → ℕ → ℕ → Metric → Type 
 Leads s x i y j m =
     (arc : RadioArc) × Contains s.arcs arc × (arc.from ≡ x) × (arc.from_iface ≡ i) × (arc.to ≡ y) × (arc.to_iface ≡ j) × (arc.metric ≡ m)
 
--- two interfaces are joined: an arc leads each way; there and back are the metrics
+-- what interface i of router x sends is admitted on interface j of router y at the end of the scenario: its quality there is
+-- accepted (RFC 6130, section 14)
+pub record IsAdmitted (s : Scenario) (x i y j : ℕ) : Type 0 where
+  pub sender : RouterSettings
+  pub sends : slice_get s.routers x ≡ Some sender
+  pub from : Interface
+  pub is_from : slice_get sender.interfaces i ≡ Some from
+  pub receiver : RouterSettings
+  pub receives : slice_get s.routers y ≡ Some receiver
+  pub to : Interface
+  pub is_to : slice_get receiver.interfaces j ≡ Some to
+  pub accepted : to.admit.accept ≤ quality_at to.admit from.addrs s.end
+
+-- two interfaces are joined: an arc that is admitted leads each way; there and back are the metrics
 pub record Joins (s : Scenario) (x i y j : ℕ) (there back : Metric) : Type 0 where
   pub out : Leads s x i y j there
   pub home : Leads s y j x i back
+  pub out_admitted : IsAdmitted s x i y j
+  pub home_admitted : IsAdmitted s y j x i
 
 -- two routers have interfaces that are joined
 abbrev pub Adjacent : Scenario → ℕ → ℕ → Type 0

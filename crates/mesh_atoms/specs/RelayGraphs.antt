@@ -14,7 +14,8 @@ use Rattle.mesh_atoms.specs.declared.graphs.NeighbourGraph.{NeighbourGraph}
 use Rattle.mesh_atoms.specs.Codes.{metric_value}
 use Rattle.mesh_atoms.specs.Words.{IsLeastMetric, IsAscending}
 use Rattle.mesh_atoms.specs.Relays.{Covers, Needed}
-use Rattle.mesh_atoms.specs.State.{State, Is_symmetric, state_of, HasLink, HasTwoHop, HasSymmetric, HasSymmetricWith}
+use Rattle.mesh_atoms.specs.declared.tuples.LinkState.TheVariants.{Symmetric as Is_symmetric}
+use Rattle.mesh_atoms.specs.State.{State, state_of, HasLink, HasTwoHop, HasSymmetric, HasSymmetricWith}
 
 -- the graph for routing relays (RFC 7181, section 18.5): neighbours by their metrics to the router, and each 2-hop tuple by its
 -- metric to the neighbour

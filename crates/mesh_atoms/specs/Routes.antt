@@ -16,7 +16,8 @@ use Rattle.mesh_atoms.specs.declared.graphs.Route.{Route}
 use Rattle.mesh_atoms.specs.Base.{Has, host}
 use Rattle.mesh_atoms.specs.Codes.{metric_value}
 use Rattle.mesh_atoms.specs.Nodes.{IsBefore, IsAtMost}
-use Rattle.mesh_atoms.specs.State.{State, Is_symmetric, state_of, HasLink, HasTwoHop, HasSymmetricWith, HasAddress, IsOriginator}
+use Rattle.mesh_atoms.specs.declared.tuples.LinkState.TheVariants.{Symmetric as Is_symmetric}
+use Rattle.mesh_atoms.specs.State.{State, state_of, HasLink, HasTwoHop, HasSymmetricWith, HasAddress, IsOriginator}
 use Rattle.mesh_atoms.specs.Walk.{Walk, Least, Fits, FirstNode}
 
 -- the arcs of a router's own graph (RFC 7181, section 19.1): from itself to its symmetric neighbours' addresses; from a neighbour

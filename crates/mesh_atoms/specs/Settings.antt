@@ -101,6 +101,24 @@ pub record IsRouter (name : List ℕ) (hello_at tc_at : ℕ) (names : List (List
   pub distinct_nets : IsTrue (are_distinct net_eq nets)
   pub no_hosts : IsTrue (are_no_hosts nets addrs)
 
+-- the numbers stand in ascending order, none twice
+abbrev pub are_ascending : List ℕ → Bool
+are_ascending [] = true
+are_ascending (n ∷ ns) = list_all (nat_lt n) ns && are_ascending ns
+
+-- a quality from a moment up to an hour on
+abbrev pub is_step : ℕ → ℕ → Bool
+is_step at quality = nat_le at one_hour && nat_le quality 100
+
+-- the thresholds by which links are admitted
+abbrev pub are_thresholds : ℕ → ℕ → Bool
+are_thresholds accept reject = nat_le reject accept && nat_le accept 100
+
+-- up to so many hops, from 1 to 254, a TC is valid for such a hold time
+pub record IsNearHold (hops hold : ℕ) : Type 0 where
+  pub hops_range : IsCount 1 254 hops
+  pub hold_range : IsInterval hold
+
 -- the senders that a running router has metrics of on one interface: at most 1,024, none twice
 abbrev pub are_senders : List Addr4 → Bool
 are_senders addrs = nat_le (length addrs) 1024 && are_distinct addr_eq addrs

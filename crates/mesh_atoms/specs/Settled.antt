@@ -16,7 +16,8 @@ use Rattle.mesh_atoms.specs.declared.tuples.NetworkTuple.{NetworkTuple}
 use Rattle.mesh_atoms.specs.declared.settings.RouterSettings.{RouterSettings}
 use Rattle.mesh_atoms.specs.declared.settings.Scenario.{Scenario}
 use Rattle.mesh_atoms.specs.Base.{Has}
-use Rattle.mesh_atoms.specs.State.{State, Is_symmetric, state_of, HasLink, HasTwoHop, HasSymmetric, HasAddress, HasAddressOn, IsOriginator}
+use Rattle.mesh_atoms.specs.declared.tuples.LinkState.TheVariants.{Symmetric as Is_symmetric}
+use Rattle.mesh_atoms.specs.State.{State, state_of, HasLink, HasTwoHop, HasSymmetric, HasAddress, HasAddressOn, IsOriginator}
 use Rattle.mesh_atoms.specs.Hello.{Says, SaysSymmetric, IsSaid, Flooding, Routing, Near_in, Near_out, Link_in, Link_out}
 use Rattle.mesh_atoms.specs.Advertised.{Advertises, AdvertisesOriginator, AdvertisesNetwork}
 use Rattle.mesh_atoms.specs.Radio.{Joins, Adjacent, IsMetric, Joined, Router, AddressOf}

@@ -13,6 +13,7 @@ use Rattle.mesh_atoms.specs.declared.tuples.Lost.{Lost}
 use Rattle.mesh_atoms.specs.declared.settings.RouterSettings.{RouterSettings}
 use Rattle.mesh_atoms.specs.Base.{Base, find, base_of, HasDistinctKeys, IsFresh, addr_eq, link_eq, two_hop_eq, router_eq, address_eq, network_eq, flood_eq}
 use Rattle.mesh_atoms.specs.State.{Neighbourhood, Topology, NotedMessages, State, is_symmetric, link_at, two_hop_at, neighbour_at, lost_at, HasAddress, IsOriginator}
+use Rattle.mesh_atoms.specs.Quality.{admit_on}
 use Rattle.mesh_atoms.specs.Live.{IsByLinks, IsSymmetricAddress, is_symmetric_at}
 use Rattle.mesh_atoms.specs.Words.{IsAscending, AreMoreThan}
 use Rattle.mesh_atoms.specs.TakesHello.{IsHeld}
@@ -41,7 +42,7 @@ pub record IsSoundNeighbour (settings : RouterSettings) (near : Neighbourhood) (
   pub not_mine : HasAddress settings originator → ⊥
   pub none_mine : (a : Addr4) → Contains n.addrs a → HasAddress settings a → ⊥
 
--- a sound neighbourhood: links of one interface have disjoint addresses, which are all among one neighbour's; neighbours have
+-- a sound neighbourhood: links are as their qualities have them; links of one interface have disjoint addresses, which are all among one neighbour's; neighbours have
 -- disjoint addresses; 2-hop tuples have a SYMMETRIC link; lost addresses are no symmetric neighbour's
 pub record SoundNeighbourhood (settings : RouterSettings) (now : ℕ) (near : Neighbourhood) : Type 0 where
   pub interfaces : length near.links ≡ length settings.interfaces
@@ -55,6 +56,7 @@ pub record SoundNeighbourhood (settings : RouterSettings) (now : ℕ) (near : Ne
   pub two_hops : (i : ℕ) → IsWithin two_hop_eq now 16384 (base_of near.two_hops i)
   pub limit : AreMoreThan 1024 (IsHeld near) → ⊥
   pub link : (i : ℕ) (key : LinkKey) (link : Link) (until : ℕ) → link_at near i key ≡ Some (link, until) → IsSoundLink now key link
+  pub by_quality : (i : ℕ) (key : LinkKey) → admit_on settings i now (link_at near i key) ≡ link_at near i key
   pub links_apart : (i : ℕ) (k l : LinkKey) (e f : Link × ℕ) (a : Addr4) → link_at near i k ≡ Some e → link_at near i l ≡ Some f →
       Contains e.0.addrs a → Contains f.0.addrs a → k ≡ l
   pub owner : (i : ℕ) (key : LinkKey) (link : Link) (until : ℕ) → link_at near i key ≡ Some (link, until) →

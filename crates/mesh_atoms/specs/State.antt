@@ -4,6 +4,8 @@ use Rattle.mesh_atoms.specs.declared.addr.Addr4.{Addr4}
 use Rattle.mesh_atoms.specs.declared.hello.LinkStatus.{LinkStatus}
 use Rattle.mesh_atoms.specs.declared.hello.LinkStatus.TheVariants.{Lost as Down, Symmetric, Heard}
 use Rattle.mesh_atoms.specs.declared.tuples.LinkKey.{LinkKey}
+use Rattle.mesh_atoms.specs.declared.tuples.LinkState.{LinkState}
+use Rattle.mesh_atoms.specs.declared.tuples.LinkState.TheVariants.{Pending as Is_pending, Lost as Is_lost, Symmetric as Is_symmetric, Heard as Is_heard}
 use Rattle.mesh_atoms.specs.declared.tuples.TwoHopKey.{TwoHopKey}
 use Rattle.mesh_atoms.specs.declared.tuples.RouterKey.{RouterKey}
 use Rattle.mesh_atoms.specs.declared.tuples.AddressKey.{AddressKey}
@@ -68,13 +70,6 @@ pub record State : Type 0 where
   pub last : ℕ  -- the moment of the last event
 
 -- What a link is at a moment
-
--- the status of a link (RFC 6130, section 7.1)
-pub data LinkState : Type 0 where
-  Is_pending : LinkState
-  Is_lost : LinkState
-  Is_symmetric : LinkState
-  Is_heard : LinkState
 
 -- PENDING and lost come before what is heard; a moment counts where it is later than now (RFC 6130, section 7.1)
 abbrev pub state_of : Link → ℕ → LinkState

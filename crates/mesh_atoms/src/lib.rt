@@ -4,6 +4,7 @@
 
 mod addr;
 mod addresses;
+mod admit;
 mod agreement;
 mod bytes;
 mod codes;
@@ -16,6 +17,7 @@ mod literals;
 mod metric;
 mod octets;
 mod originator;
+mod quality;
 pub mod reason;
 mod refusal;
 mod same;
@@ -27,9 +29,11 @@ pub mod tc_rule;
 mod text;
 pub mod tlv_type;
 mod tuples;
+mod validity;
 
 pub use addr::{Addr4, Endpoint, NetAddr};
 pub use addresses::{contains, meets};
+pub use admit::{Admit, QualityStep, SenderQuality};
 pub use agreement::definitions_agree;
 pub use bytes::Bytes;
 pub use codes::{seq_newer, time_at, time_at_least, time_code_at_least, time_of};
@@ -42,16 +46,17 @@ pub use least::least_metric;
 pub use literals::{address_of, endpoint_of, name_of, net_of, number_of, place_of};
 pub use metric::Metric;
 pub use octets::{read_octet, read_short, refuse};
+pub use quality::quality_at;
 pub use refusal::{DecodeFault, Refusal};
 pub use same::same_rows;
 pub use seq::Seq;
 pub use settings::{
-    Attached4, DEFAULT_TIMES, Interface, Port, RadioArc, RouterSettings, RunSetup, Scenario,
-    SenderMetric, Times,
+    Attached4, DEFAULT_TC_ROWS, DEFAULT_TIMES, Interface, NearHold, Port, RadioArc, RouterSettings,
+    RunSetup, Scenario, SenderMetric, Times,
 };
 pub use tc::{Tc, TcRow};
 pub use text::put_decimal;
 pub use tuples::{
-    AddressKey, AddressTuple, Advertiser, Base, FloodKey, Link, LinkKey, Lost, Neighbour,
-    NetworkKey, NetworkTuple, Noted, Relays, RouterKey, RouterTuple, TwoHop, TwoHopKey,
+    AddressKey, AddressTuple, Advertiser, Base, FloodKey, Link, LinkKey, LinkState, Lost,
+    Neighbour, NetworkKey, NetworkTuple, Noted, Relays, RouterKey, RouterTuple, TwoHop, TwoHopKey,
 };

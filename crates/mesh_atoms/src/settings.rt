@@ -3,9 +3,9 @@ ghost use Rattle.std.specs.Prelude.{◌≡◌, ◌≤◌, ◌<◌, ◌^◌, leng
 ghost use Rattle.std.specs.Option.{ForSome};
 ghost use Rattle.std.specs.List.{flat_map, list_all};
 ghost use Rattle.mesh_atoms.specs.Base.{addr_eq};
-ghost use Rattle.mesh_atoms.specs.Settings.{are_distinct, one_millisecond, one_hour, longest_delay, IsTimes, IsEnd, IsInterface, IsRouter, are_senders, AreRouters, AreArcs};
+ghost use Rattle.mesh_atoms.specs.Settings.{are_distinct, are_ascending, one_millisecond, one_hour, longest_delay, IsTimes, IsEnd, IsInterface, IsRouter, IsCount, IsNearHold, are_senders, AreRouters, AreArcs};
 
-use crate::{Addr4, Bytes, Endpoint, Metric, NetAddr, Seq, Willing};
+use crate::{Addr4, Admit, Bytes, Endpoint, Metric, NetAddr, Seq, Willing};
 use std::alloc::AllocError;
 
 /// The intervals and hold times of a router, in ticks of 1/8192 s, each from 820 (100 ms) to 29,491,200 (an hour)
@@ -49,6 +49,9 @@ pub const DEFAULT_TIMES: Times = Times {
     tc_hop_limit: 255,
 };
 
+/// The most rows of a TC where a setting says no other number: all that a router advertises.
+pub const DEFAULT_TC_ROWS: usize = 1088;
+
 /// The metric of what is received from a sender other than 0.0.0.0.
 #[derive(Clone, Copy, PartialEq, Eq)]
 pub struct SenderMetric {
@@ -58,16 +61,19 @@ pub struct SenderMetric {
 }
 
 /// An interface of a router: its name of 1 to 16 lower case letters and digits, its 1 to 4 addresses other than 0.0.0.0,
-/// and the metric of what it receives: that of the sender where there is one, else its own. No sender stands twice.
+/// the metric of what it receives: that of the sender where there is one, else its own; and which of its links are admitted, by
+/// the qualities of the same senders. No sender stands twice.
 #[derive(Drop)]
 pub struct Interface {
     pub name: Bytes,
     pub addrs: Seq<Addr4>,
     pub metric: Metric,
     pub senders: Seq<SenderMetric>,
+    pub admit: Admit,
     pub ghost sound: { IsInterface name addrs },
     pub ghost few_senders: { length senders ≤ 4096 },
     pub ghost distinct_senders: { IsTrue (are_distinct addr_eq (map (λ s. s.sender) senders)) },
+    pub ghost same_senders: { map (λ s. s.sender) admit.senders ≡ map (λ s. s.sender) senders },
 }
 
 impl Interface {
@@ -80,6 +86,7 @@ impl Interface {
             addrs: self.addrs.copy()?,
             metric: self.metric,
             senders: self.senders.copy()?,
+            admit: self.admit.copy()?,
         })
     }
 }
@@ -92,9 +99,19 @@ pub struct Attached4 {
     pub distance: u8,
 }
 
+/// Routers up to so many hops away, from 1 to 254, are to hold what a TC says for this time, in ticks of 1/8192 s from 820
+/// (100 ms) to 29,491,200 (an hour) (RFC 5497, section 6).
+#[derive(Clone, Copy, PartialEq, Eq)]
+pub struct NearHold {
+    pub hops: u8,
+    pub hold: u64,
+    pub ghost in_range: { IsNearHold hops hold },
+}
+
 /// The settings of a router: its name, its 1 to 8 interfaces, whose names and addresses are distinct, and at most 64
 /// distinct networks that it attaches, none of them one of its addresses. The moments of its first HELLO and its first
-/// TC are in ticks of 1/8192 s, up to 29,491,200 (an hour).
+/// TC are in ticks of 1/8192 s, up to 29,491,200 (an hour). A TC of it has at most `tc_rows` rows, from 1 to 1,088, and near
+/// routers hold it for other times than far ones: at most 8 near holds, in order of their hops, no two at one number.
 #[derive(Drop)]
 pub struct RouterSettings {
     pub name: Bytes,
@@ -104,7 +121,12 @@ pub struct RouterSettings {
     pub times: Times,
     pub interfaces: Seq<Interface>,
     pub attached: Seq<Attached4>,
+    pub tc_rows: usize,
+    pub near_hold: Seq<NearHold>,
     pub ghost sound: { IsRouter name hello_at tc_at (map (λ i. i.name) interfaces) (flat_map (λ i. i.addrs) interfaces) (map (λ a. a.net) attached) },
+    pub ghost rows_in_range: { IsCount 1 1088 tc_rows },
+    pub ghost few_near_holds: { length near_hold ≤ 8 },
+    pub ghost near_holds_in_order: { IsTrue (are_ascending (map (λ n. n.hops) near_hold)) },
 }
 
 impl RouterSettings {
@@ -115,6 +137,7 @@ impl RouterSettings {
         let name = self.name.copy()?;
         let interfaces = copy_interfaces(&self.interfaces)?;
         let attached = self.attached.copy()?;
+        let near_hold = self.near_hold.copy()?;
         Ok(RouterSettings {
             name,
             willing: self.willing,
@@ -123,6 +146,8 @@ impl RouterSettings {
             times: self.times,
             interfaces,
             attached,
+            tc_rows: self.tc_rows,
+            near_hold,
         })
     }
 }

@@ -47,6 +47,15 @@ pub struct FloodKey {
     pub sequence: u16,
 }
 
+/// The status of a link (RFC 6130, section 7.1): not yet admitted, not to be used, heard both ways, or heard one way.
+#[derive(Clone, Copy, PartialEq, Eq)]
+pub enum LinkState {
+    Pending,
+    Lost,
+    Symmetric,
+    Heard,
+}
+
 /// A link tuple (RFC 6130, section 7.1, and RFC 7181, section 8.1).
 #[derive(Drop)]
 pub struct Link {
@@ -56,7 +65,7 @@ pub struct Link {
     pub heard: u64,
     /// The moment up to which the neighbour is known to hear this interface.
     pub sym: u64,
-    /// The quality of the link, 0 where qualities are not looked at.
+    /// The quality of the link at the last event, up to 100.
     pub quality: u8,
     /// Whether the link is not yet admitted.
     pub pending: bool,

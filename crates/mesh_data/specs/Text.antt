@@ -5,20 +5,14 @@ use Rattle.mesh_atoms.specs.declared.addr.Addr4.{Addr4}
 use Rattle.mesh_atoms.specs.declared.settings.Interface.{Interface}
 use Rattle.mesh_atoms.specs.declared.settings.RouterSettings.{RouterSettings}
 use Rattle.mesh_atoms.specs.declared.settings.Scenario.{Scenario}
+use Rattle.mesh_machine.specs.Names.{router_name}
 use Rattle.mesh_data.specs.declared.trip.End.{End}
 use Rattle.mesh_data.specs.declared.trip.End.TheVariants.{Arrived, NoRoute, NoArc, TooFar}
 use Rattle.mesh_data.specs.declared.trip.Hop.{Hop}
 use Rattle.mesh_data.specs.declared.trip.Trip.{Trip}
 use Rattle.mesh_data.specs.Dotted.{dotted}
 
--- the name of router x, and that of its interface i; nothing where there is none
-abbrev pub name_in : Option RouterSettings → List ℕ
-name_in None = []
-name_in (Some r) = r.name
-
-abbrev pub router_name : Scenario → ℕ → List ℕ
-router_name s x = name_in (slice_get s.routers x)
-
+-- the name of an interface; nothing where there is none
 abbrev pub interface_name : Option Interface → List ℕ
 interface_name None = []
 interface_name (Some i) = i.name
@@ -36,21 +30,21 @@ end_name TooFar = codes "toofar"
 
 -- the line of a hop: from which interface of which router, to which router, at which metric
 abbrev pub hop_start : Scenario → Hop → List ℕ
-hop_start s hop = codes " hop " ++ router_name s hop.from ++ codes " " ++ interface_in (slice_get s.routers hop.from) hop.iface
+hop_start s hop = codes " hop " ++ router_name s.routers hop.from ++ codes " " ++ interface_in (slice_get s.routers hop.from) hop.iface
 
 abbrev pub hop_end : Scenario → Hop → List ℕ
-hop_end s hop = codes " to " ++ router_name s hop.to ++ codes " metric " ++ decimal hop.metric ++ codes "\n"
+hop_end s hop = codes " to " ++ router_name s.routers hop.to ++ codes " metric " ++ decimal hop.metric ++ codes "\n"
 
 abbrev pub hop_line : Scenario → Hop → List ℕ
 hop_line s hop = hop_start s hop ++ hop_end s hop
 
 -- the first line: from which router to which address; how the trip ends, at which router, what it cost, and how many hops it took
 abbrev pub trip_start : Scenario → ℕ → Addr4 → List ℕ
-trip_start s from a = codes "send " ++ router_name s from ++ codes " " ++ dotted a
+trip_start s from a = codes "send " ++ router_name s.routers from ++ codes " " ++ dotted a
 
 abbrev pub trip_end : Scenario → Trip → List ℕ
 trip_end s trip =
-    codes " end " ++ end_name trip.end ++ codes " at " ++ router_name s trip.last ++ codes " metric " ++ decimal trip.metric
+    codes " end " ++ end_name trip.end ++ codes " at " ++ router_name s.routers trip.last ++ codes " metric " ++ decimal trip.metric
     ++ codes " hops " ++ decimal (length trip.hops) ++ codes "\n"
 
 -- and a line for each hop

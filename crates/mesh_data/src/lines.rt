@@ -1,22 +1,21 @@
 //! The text of a trip.
 ghost use Rattle.std.specs.Prelude.{◌≡◌, ◌++◌, slice_get, IfOk, OnOk};
 ghost use Rattle.std.specs.List.{flat_map};
-ghost use Rattle.mesh_data.specs.Text.{router_name, interface_name, interface_in, end_name, hop_start, hop_end, hop_line};
+ghost use Rattle.mesh_machine.specs.Names.{router_name};
+ghost use Rattle.mesh_data.specs.Text.{interface_name, interface_in, end_name, hop_start, hop_end, hop_line};
 ghost use Rattle.mesh_data.specs.Text.{trip_start, trip_end, text_of};
 
 use crate::dotted::put_address;
 use crate::{End, Hop, Trip};
 use mesh_atoms::{Addr4, Bytes, RouterSettings, Scenario, put_decimal};
+use mesh_machine::router_name;
 use std::alloc::{AllocError, Global};
 
 // Puts the name of router x; nothing where there is none.
 fn put_router(out: &mut Bytes, scenario: &Scenario, x: usize) -> Result<(), AllocError>
-    ensures { OnOk result (out.new ≡ out.old ++ router_name scenario.now x) }
+    ensures { OnOk result (out.new ≡ out.old ++ router_name scenario.now.routers x) }
 {
-    match scenario.routers.get(x) {
-        Some(settings) => out.append(settings.name.as_slice()),
-        None => Ok(()),
-    }
+    out.append(router_name(scenario.routers.as_slice(), x))
 }
 
 // Puts the name of interface i; nothing where there is none.

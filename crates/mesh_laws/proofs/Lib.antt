@@ -1,5 +1,6 @@
 mod Members
 mod PlainRouters
+mod Qualities
 mod Spoiled
 mod ThreeRouters
 mod ThreeRoutersInRange
@@ -21,4 +22,5 @@ mod WorkedExpiry
 mod WorkedHello
 mod WorkedLoss
 mod WorkedNeighbourhood
+mod WorkedQuality
 mod WrongStates

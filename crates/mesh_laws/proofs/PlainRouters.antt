@@ -1,4 +1,4 @@
--- Routers of one interface with one address, and what is held of a neighbour whose HELLOs are heard.
+-- Routers of one interface with one address, which admits whatever it hears, and what is held of a neighbour whose HELLOs are heard.
 use Rattle.std.proofs.Common.{ℕ, refl, List, [], ◌∷◌, map, Some, true, false, Bool}
 use Rattle.mesh_atoms.specs.declared.addr.Addr4.{Addr4}
 use Rattle.mesh_atoms.specs.declared.metric.Metric.{Metric}
@@ -10,8 +10,9 @@ use Rattle.mesh_atoms.specs.declared.settings.Interface.{Interface}
 use Rattle.mesh_atoms.specs.declared.settings.RouterSettings.{RouterSettings}
 use Rattle.mesh_atoms.specs.declared.settings.RadioArc.{RadioArc}
 use Rattle.mesh_atoms.specs.declared.settings.Times.{Times}
+use Rattle.mesh_atoms.specs.Quality.{admits_all}
 use Rattle.mesh_atoms.specs.Settings.{IsInterface, IsRouter}
-use Rattle.mesh_laws.proofs.TwoRoutersInRange.{code_fits, seven_within, no_senders, are_times, none_lost, some_delay, short_delay}
+use Rattle.mesh_laws.proofs.TwoRoutersInRange.{code_fits, seven_within, no_senders, no_near_holds, all_rows, are_times, none_lost, some_delay, short_delay}
 
 abbrev pub one : Metric
 one = record { code = 0; in_range = code_fits }
@@ -20,7 +21,7 @@ abbrev pub seven : Wills
 seven = record { flooding = 7; routing = 7; flooding_within = seven_within; routing_within = seven_within }
 
 abbrev pub face_of : (name : List ℕ) (addr : Addr4) → IsInterface name (addr ∷ []) → Interface
-face_of name addr sound = record { name = name; addrs = addr ∷ []; metric = one; senders = []; sound = sound; few_senders = no_senders; distinct_senders = refl }
+face_of name addr sound = record { name = name; addrs = addr ∷ []; metric = one; senders = []; admit = admits_all; sound = sound; few_senders = no_senders; distinct_senders = refl; same_senders = refl }
 
 abbrev pub times : Times
 times = record {
@@ -48,7 +49,12 @@ settings_of name addr attached face sound = record {
   times = times;
   interfaces = face_of name addr face ∷ [];
   attached = attached;
+  tc_rows = 1088;
+  near_hold = [];
   sound = sound;
+  rows_in_range = all_rows;
+  few_near_holds = no_near_holds;
+  near_holds_in_order = refl;
 }
 
 abbrev pub arc : ℕ → ℕ → RadioArc
@@ -56,7 +62,7 @@ arc x y = record { from = x; from_iface = 0; to = y; to_iface = 0; metric = one;
 
 -- the link with that address, and whether it is a selector's
 abbrev pub link_of : Addr4 → Bool → Link
-link_of a selector = record { addrs = a ∷ []; heard = 9; sym = 9; quality = 0; pending = false; lost = false; link_in = one; link_out = Some one; selector = selector }
+link_of a selector = record { addrs = a ∷ []; heard = 9; sym = 9; quality = 100; pending = false; lost = false; link_in = one; link_out = Some one; selector = selector }
 
 -- the neighbour with that address, and whether it is a selector
 abbrev pub neighbour_of : Addr4 → Bool → Neighbour

@@ -1,9 +1,12 @@
 -- The definitions refuse each of the spoiled states.
-use Rattle.std.proofs.Common.{◌≡◌, ℕ, ◌+◌, ◌⊎◌, inl, inr, refl, sym, ◌∙◌, ap, subst, arith, Option, Some, None}
-use Rattle.std.specs.Prelude.{Contains, Bool, true, false, cond, nat_eq, not, ◌&&◌}
-use Rattle.std.proofs.lemmas.Bool.{eqb-true, eq-eqb}
+use Rattle.std.proofs.Common.{◌≡◌, ℕ, ◌+◌, ◌≤◌, ◌⊎◌, inl, inr, refl, sym, ◌∙◌, ap, subst, arith, Option, Some, None}
+use Rattle.std.specs.Prelude.{Contains, Bool, true, false, cond, nat_eq, nat_lt, not, ◌&&◌}
+use Rattle.std.proofs.lemmas.Bool.{eqb-true, eq-eqb, lt-ltb}
 use Rattle.mesh_atoms.specs.declared.addr.Addr4.{Addr4}
 use Rattle.mesh_atoms.specs.declared.metric.Metric.{Metric}
+use Rattle.mesh_atoms.specs.declared.hello.LinkStatus.{LinkStatus}
+use Rattle.mesh_atoms.specs.declared.hello.LinkStatus.TheVariants.{Lost as Down, Symmetric, Heard}
+use Rattle.mesh_atoms.specs.declared.hello.Shown.{Shown}
 use Rattle.mesh_atoms.specs.declared.tc.Tc.{Tc}
 use Rattle.mesh_atoms.specs.declared.tuples.AddressKey.{AddressKey}
 use Rattle.mesh_atoms.specs.declared.tuples.Advertiser.{Advertiser}
@@ -12,18 +15,22 @@ use Rattle.mesh_atoms.specs.declared.tuples.Link.{Link}
 use Rattle.mesh_atoms.specs.declared.tuples.Lost.{Lost}
 use Rattle.mesh_atoms.specs.declared.tuples.Noted.{Noted}
 use Rattle.mesh_atoms.specs.declared.tuples.FloodKey.{FloodKey}
-use Rattle.mesh_atoms.specs.AfterHello.{GoesOn}
+use Rattle.mesh_atoms.specs.AfterHello.{GoesOn, Begins, Stood, Made, by_status, renewed}
 use Rattle.mesh_atoms.specs.AfterTc.{Becomes, Given, Left, GivesAddress, if_not_dropped}
 use Rattle.mesh_atoms.specs.Base.{Base, find, if_live, addr_eq, flood_eq}
 use Rattle.mesh_atoms.specs.Hello.{Says, IsSaid, Near_in, Near_out, Link_in, Link_out}
 use Rattle.mesh_atoms.specs.HelloTold.{or_else}
-use Rattle.mesh_atoms.specs.Live.{SettlesLost, Back, Gone, Stays}
+use Rattle.mesh_atoms.specs.Live.{SettlesLost, Back, Gone, Stays, trim, trimmed}
+use Rattle.mesh_atoms.specs.Quality.{quality_at, rule_of, admitted, admit_on}
+use Rattle.mesh_atoms.specs.State.{link_at, is_symmetric}
 use Rattle.mesh_atoms.specs.TakesHello.{IsHeld, Takes, Overfull_two_hops}
 use Rattle.mesh_atoms.specs.Words.{IsKept}
 use Rattle.mesh_flood.specs.Noting.{Notes}
 use Rattle.mesh_flood.specs.Verdict.{key_of, is_forwarded}
 use Rattle.mesh_paths.proofs.ShortLists.{few_of_one}
-use Rattle.mesh_laws.specs.Spoiled.{RefusesNeighbourOutOfNothing, RefusesNeighbourGone, RefusesSelectorKept, RefusesNeighbourTooShort, RefusesLostThoughBack, RefusesLossUntold, RefusesLostOutOfNothing, RefusesLostAtAnotherMoment, RefusesLostSymmetric, RefusesOwnLost, RefusesLinksTogether, RefusesLinkOfUnlisted, RefusesLinkOfSharedAddress, RefusesLinkGone, RefusesFullOfOne, RefusesTakenThoughFull, RefusesTakenThoughManyRows, RefusesFullThoughFits, RefusesLinkMetricFirst, RefusesMetricUnsaid, RefusesRowByLinkMetric, RefusesRowWithoutMetric, RefusesNumberUnnoted, RefusesTupleGoneByPart, RefusesTupleGoneOfAnother, RefusesProcessedUnnoted, RefusesReceivedElsewhere, RefusesForwardedUnsent, RefusesForwardedAtAnotherMoment}
+use Rattle.mesh_laws.proofs.Members.{some_is}
+use Rattle.mesh_laws.proofs.Qualities.{quality_by, cut}
+use Rattle.mesh_laws.specs.Spoiled.{RefusesNeighbourOutOfNothing, RefusesNeighbourGone, RefusesSelectorKept, RefusesNeighbourTooShort, RefusesLostThoughBack, RefusesLossUntold, RefusesLostOutOfNothing, RefusesLostAtAnotherMoment, RefusesLostSymmetric, RefusesOwnLost, RefusesLinksTogether, RefusesLinkOfUnlisted, RefusesLinkOfSharedAddress, RefusesLinkGone, RefusesOtherQuality, RefusesLostLinkKept, RefusesMadeUnadmitted, RefusesFullOfOne, RefusesTakenThoughFull, RefusesTakenThoughManyRows, RefusesFullThoughFits, RefusesLinkMetricFirst, RefusesMetricUnsaid, RefusesRowByLinkMetric, RefusesRowWithoutMetric, RefusesNumberUnnoted, RefusesTupleGoneByPart, RefusesTupleGoneOfAnother, RefusesProcessedUnnoted, RefusesReceivedElsewhere, RefusesForwardedUnsent, RefusesForwardedAtAnotherMoment}
 
 some_none : {A B : Type 0} {o : Option A} {a : A} → o ≡ Some a → o ≡ None → B
 some_none e f = absurd (cc)
@@ -133,6 +140,63 @@ link_of_shared_address settings now i told hello old new key e f other stood sta
 pub link_gone : RefusesLinkGone
 link_gone settings now i j told hello old new key e other stood gone goes after =
     gone_not (λ t. GoesOn old told i j t.0) e (after.other_links j key (inl other)) stood gone goes
+
+-- Qualities
+
+pub other_quality : RefusesOtherQuality
+other_quality settings now i near key e at other sound =
+    let rule = rule_of settings i in
+    let stands : Some (admitted rule settings.times.link_hold now e) ≡ Some e = ap (admit_on settings i now) (sym at) ∙ (sound.by_quality i key ∙ at) in
+    other (ap (λ (t : Link × ℕ). t.0.quality) (sym (some_is stands)) ∙ quality_by rule settings.times.link_hold now (quality_at rule e.0.addrs now) e)
+
+-- expiry leaves the moment of a link that stays
+left_moment : (now : ℕ) (o : Option (Link × ℕ)) (g f : Link × ℕ) → o ≡ Some g → trim now (if_live now o) ≡ Some f → f.1 ≡ g.1
+left_moment now o g f is left = by_case (nat_lt now g.1) (ap (λ (t : Option (Link × ℕ)). trim now (if_live now t)) (sym is) ∙ left)
+  where
+    of_trimmed : (b : Bool) → (cond b g (record g.0 { link_out = None; selector = false }, g.1)).1 ≡ g.1
+    of_trimmed true = refl
+    of_trimmed false = refl
+
+    by_case : (b : Bool) → trim now (cond b (Some g) None) ≡ Some f → f.1 ≡ g.1
+    by_case true e = ap (λ (t : Link × ℕ). t.1) (sym (some_is e)) ∙ of_trimmed (is_symmetric g.0 now)
+    by_case false e = none_is_some e
+
+pub lost_link_kept : RefusesLostLinkKept
+lost_link_kept settings now i old new key e f stood ready kept low stands late live =
+    let rule = rule_of settings i in
+    let hold = settings.times.link_hold in
+    let at : admit_on settings i now (link_at old i key) ≡ Some (admitted rule hold now e) = ap (admit_on settings i now) stood in
+    let moment : f.1 ≡ (admitted rule hold now e).1 = left_moment now _ (admitted rule hold now e) f at (sym (live.links i key) ∙ stands) in
+    let most : (admitted rule hold now e).1 ≤ now + hold = cut rule hold now (quality_at rule e.0.addrs now) e ready kept low in
+    omega (arith, moment, most, late)
+
+pending_by_status : (shown : Shown) (hold now : ℕ) (status : Option LinkStatus) (e : Link × ℕ) → (by_status shown hold now status e).0.pending ≡ e.0.pending
+pending_by_status shown hold now None e = refl
+pending_by_status shown hold now (Some Down) e = refl
+pending_by_status shown hold now (Some Symmetric) e = refl
+pending_by_status shown hold now (Some Heard) e = refl
+
+pending_trimmed : (now : ℕ) (e : Link × ℕ) → (trimmed now e).0.pending ≡ e.0.pending
+pending_trimmed now e = by_case (is_symmetric e.0 now)
+  where
+    by_case : (b : Bool) → (cond b e (record e.0 { link_out = None; selector = false }, e.1)).0.pending ≡ e.0.pending
+    by_case true = refl
+    by_case false = refl
+
+-- a HELLO leaves whether a link is PENDING
+pending_renewed : (shown : Shown) (hold now : ℕ) (e : Link × ℕ) → (renewed shown hold now e).0.pending ≡ e.0.pending
+pending_renewed shown hold now e = pending_trimmed now (by_status shown hold now shown.status e) ∙ pending_by_status shown hold now shown.status e
+
+pub made_unadmitted : RefusesMadeUnadmitted
+made_unadmitted settings now i told hello old new e none low stands admitted after =
+    let (start, begins, at) = after.link in
+    let same : e ≡ renewed told.shown settings.times.link_hold now start = same_some stands at in
+    let pending : e.0.pending ≡ true = ap (λ (t : Link × ℕ). t.0.pending) same ∙ (pending_renewed told.shown settings.times.link_hold now start ∙ is_pending start begins) in
+    absurd (cc)
+  where
+    is_pending : (start : Link × ℕ) → Begins (rule_of settings i) told.shown now (link_at old i told.least) start → start.0.pending ≡ true
+    is_pending start (Stood _ stood same) = some_none stood none
+    is_pending start (Made new_one) = lt-ltb (quality_at (rule_of settings i) told.shown.sending now) (rule_of settings i).accept low
 
 -- Limits
 

@@ -4,12 +4,12 @@ use Rattle.mesh_atoms.specs.declared.metric.Metric.{Metric}
 use Rattle.mesh_atoms.specs.declared.settings.RadioArc.{RadioArc}
 use Rattle.mesh_atoms.specs.declared.settings.RouterSettings.{RouterSettings}
 use Rattle.mesh_atoms.specs.Codes.{metric_value}
-use Rattle.mesh_atoms.specs.Radio.{Leads, Joins, Adjacent, IsMetric, Itself, By, Router}
+use Rattle.mesh_atoms.specs.Radio.{Leads, IsAdmitted, Joins, Adjacent, IsMetric, Itself, By, Router}
 use Rattle.mesh_atoms.specs.Settled.{At, IsPeer, AreStates}
 use Rattle.mesh_atoms.specs.State.{State}
 use Rattle.mesh_paths.proofs.ShortLists.{here}
 use Rattle.mesh_laws.proofs.Members.{each, Each, some_is}
-use Rattle.mesh_laws.proofs.ThreeRouters.{one, arc, peers, each_pair, peers_back, scenario, state, states}
+use Rattle.mesh_laws.proofs.ThreeRouters.{one, arc, peers, each_pair, peers_back, face, settings, scenario, state, states}
 
 -- Arcs
 
@@ -48,8 +48,30 @@ leads_out = each_pair (λ x y. Leads scenario x 0 y 0 one)
     (arc 1 2, (2, omega arith, refl), refl, refl, refl, refl, refl)
     (arc 2 1, (3, omega arith, refl), refl, refl, refl, refl, refl)
 
+-- each admits whatever it hears
+admitted : (x y : ℕ) → Contains (peers x) y → IsAdmitted scenario x 0 y 0
+admitted = each_pair (λ x y. IsAdmitted scenario x 0 y 0) (between 0 1 refl refl) (between 1 0 refl refl) (between 1 2 refl refl) (between 2 1 refl refl)
+  where
+    between : (x y : ℕ) → Router scenario x (settings x) → Router scenario y (settings y) → IsAdmitted scenario x 0 y 0
+    between x y from to = record {
+      sender = settings x;
+      sends = from;
+      from = face x;
+      is_from = refl;
+      receiver = settings y;
+      receives = to;
+      to = face y;
+      is_to = refl;
+      accepted = omega arith;
+    }
+
 pub joins : (x y : ℕ) → Contains (peers x) y → Joins scenario x 0 y 0 one one
-joins x y c = record { out = leads_out x y c; home = leads_out y x (peers_back x y c) }
+joins x y c = record {
+  out = leads_out x y c;
+  home = leads_out y x (peers_back x y c);
+  out_admitted = admitted x y c;
+  home_admitted = admitted y x (peers_back x y c);
+}
 
 pub adjacent : (x y : ℕ) → Contains (peers x) y → Adjacent scenario x y
 adjacent x y c = (0, 0, one, one, joins x y c)

@@ -14,7 +14,8 @@ use Rattle.mesh_atoms.specs.declared.graphs.NeighbourGraph.{NeighbourGraph}
 use Rattle.mesh_atoms.specs.Codes.{metric_value}
 use Rattle.mesh_atoms.specs.RelayGraphs.{IsRoutingGraph, IsFloodingGraph, IsMetricOver, AreRelays, AreRelaysOf}
 use Rattle.mesh_atoms.specs.Relays.{Offers, IsWilling, IsRelay, IsOtherRelay}
-use Rattle.mesh_atoms.specs.State.{HasLink, HasTwoHop, HasSymmetric, HasSymmetricWith, Is_symmetric, state_of}
+use Rattle.mesh_atoms.specs.declared.tuples.LinkState.TheVariants.{Symmetric as Is_symmetric}
+use Rattle.mesh_atoms.specs.State.{HasLink, HasTwoHop, HasSymmetric, HasSymmetricWith, state_of}
 use Rattle.mesh_atoms.specs.Words.{IsAscending}
 use Rattle.mesh_paths.proofs.Scenarios.{contains_map}
 use Rattle.mesh_paths.proofs.ShortLists.{here, only, first_of}

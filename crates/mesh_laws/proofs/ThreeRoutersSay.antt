@@ -7,7 +7,9 @@ use Rattle.mesh_atoms.specs.declared.tuples.Neighbour.{Neighbour}
 use Rattle.mesh_atoms.specs.Advertised.{Gives, Advertises, AdvertisesOriginator, AdvertisesNetwork}
 use Rattle.mesh_atoms.specs.Codes.{metric_value}
 use Rattle.mesh_atoms.specs.Hello.{Says, SaysSymmetric, HasLinkTo, Link_symmetric, Flooding, Routing, Near_in, Near_out}
-use Rattle.mesh_atoms.specs.State.{LinkState, Is_symmetric, HasSymmetricWith}
+use Rattle.mesh_atoms.specs.declared.tuples.LinkState.{LinkState}
+use Rattle.mesh_atoms.specs.declared.tuples.LinkState.TheVariants.{Symmetric as Is_symmetric}
+use Rattle.mesh_atoms.specs.State.{HasSymmetricWith}
 use Rattle.mesh_paths.proofs.Scenarios.{contains_map}
 use Rattle.mesh_paths.proofs.ShortLists.{only, here, first_of}
 use Rattle.mesh_laws.proofs.Members.{unmapped, some_is}

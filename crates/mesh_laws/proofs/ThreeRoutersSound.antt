@@ -20,6 +20,7 @@ use Rattle.mesh_atoms.specs.Ascends.{more_ascend, one_ascends, none_ascend}
 use Rattle.mesh_atoms.specs.Base.{find, base_of, host, IsFresh, HasDistinctKeys, addr_eq, link_eq, two_hop_eq, router_eq, address_eq, network_eq}
 use Rattle.mesh_atoms.specs.Codes.{metric_value}
 use Rattle.mesh_atoms.specs.Live.{HasSymmetricOf, IsByLinks, is_symmetric_at, is_symmetric_entry}
+use Rattle.mesh_atoms.specs.Quality.{admit_on}
 use Rattle.mesh_atoms.specs.Routes.{AreRoutes}
 use Rattle.mesh_atoms.specs.Sound.{IsWithin, IsSoundLink, IsSoundNeighbour, SoundNeighbourhood, SoundTopology, Sound}
 use Rattle.mesh_atoms.specs.State.{Neighbourhood, link_at, two_hop_at, neighbour_at}
@@ -186,6 +187,13 @@ link_is_sound x y k l k_is l_is = rw (k_is, l_is) record {
 sound_link : (x i : ℕ) (k : LinkKey) (l : Link) (until : ℕ) → link_at (near x) i k ≡ Some (l, until) → IsSoundLink 5 k l
 sound_link x i k l until h = let (_, y, _, k_is, e) = link_found x i k (l, until) h in link_is_sound x y k l k_is (ap (λ (f : Link × ℕ). f.0) e)
 
+link_admitted : (x i : ℕ) (k : LinkKey) → admit_on (settings x) i 5 (link_at (near x) i k) ≡ link_at (near x) i k
+link_admitted x i k = by_entry (link_at (near x) i k) refl
+  where
+    by_entry : (o : Option (Link × ℕ)) → link_at (near x) i k ≡ o → admit_on (settings x) i 5 o ≡ o
+    by_entry None at = refl
+    by_entry (Some e) at = let (first, y, _, _, is) = link_found x i k e at in rw (first, is) refl
+
 -- no router is its own peer
 not_itself : (x y : ℕ) → Contains (peers x) y → addr y ≢ addr x
 not_itself = each_pair (λ x y. addr y ≢ addr x) (apart 1 0 (λ e. absurd (omega (arith, e)))) (apart 0 1 (λ e. absurd (omega (arith, e)))) (apart 2 1 (λ e. absurd (omega (arith, e)))) (apart 1 2 (λ e. absurd (omega (arith, e))))
@@ -242,6 +250,7 @@ sound_neighbourhood x = record {
   two_hops = within;
   limit = within_limit x;
   link = sound_link x;
+  by_quality = link_admitted x;
   links_apart = λ i k l e f a at to on from.
       (let (_, y, _, k_is, e_is) = link_found x i k e at in
       let (_, z, _, l_is, f_is) = link_found x i l f to in

@@ -4,7 +4,7 @@ use Rattle.std.specs.Prelude.{nat_lt, true}
 use Rattle.std.specs.List.{list_all}
 use Rattle.std.proofs.lemmas.Bool.{lt-ltb}
 use Rattle.mesh_atoms.specs.declared.addr.Addr4.{Addr4}
-use Rattle.mesh_atoms.specs.Settings.{one_millisecond, one_hour, longest_delay, IsInterval, IsTimes, IsEnd, IsName, is_name_octet, IsInterface, IsRouter, AreRouters, AreArcs}
+use Rattle.mesh_atoms.specs.Settings.{one_millisecond, one_hour, longest_delay, IsInterval, IsTimes, IsEnd, IsCount, IsName, is_name_octet, IsInterface, IsRouter, AreRouters, AreArcs}
 
 -- router x has one address and one interface
 abbrev pub addr : ℕ → Addr4
@@ -23,6 +23,12 @@ seven_within = omega arith
 
 pub no_senders : 0 ≤ 4096
 no_senders = omega arith
+
+pub no_near_holds : 0 ≤ 8
+no_near_holds = omega arith
+
+pub all_rows : IsCount 1 1088 1088
+all_rows = record { at_least = omega arith; at_most = omega arith }
 
 pub none_lost : 0 ≤ 1000
 none_lost = omega arith

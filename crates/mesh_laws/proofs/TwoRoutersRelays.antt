@@ -10,7 +10,8 @@ use Rattle.mesh_atoms.specs.declared.graphs.Direct.{Direct}
 use Rattle.mesh_atoms.specs.declared.graphs.NeighbourGraph.{NeighbourGraph}
 use Rattle.mesh_atoms.specs.Codes.{metric_value}
 use Rattle.mesh_atoms.specs.RelayGraphs.{IsRoutingGraph, IsFloodingGraph, IsMetricOver, AreRelays, AreRelaysOf}
-use Rattle.mesh_atoms.specs.State.{HasLink, HasSymmetric, HasSymmetricWith, Is_symmetric, state_of}
+use Rattle.mesh_atoms.specs.declared.tuples.LinkState.TheVariants.{Symmetric as Is_symmetric}
+use Rattle.mesh_atoms.specs.State.{HasLink, HasSymmetric, HasSymmetricWith, state_of}
 use Rattle.mesh_laws.proofs.TwoRouters.{one, addr, link, neighbour, state, symmetric_is, symmetric, link_is, no_two_hop}
 use Rattle.mesh_paths.proofs.ShortLists.{none_of, only, here, first_of}
 

@@ -8,7 +8,7 @@ use Rattle.mesh_atoms.specs.declared.settings.RouterSettings.{RouterSettings}
 use Rattle.mesh_atoms.specs.Advertised.{Gives, Advertises}
 use Rattle.mesh_atoms.specs.Codes.{metric_value}
 use Rattle.mesh_atoms.specs.Hello.{SaysSymmetric}
-use Rattle.mesh_atoms.specs.Radio.{Leads, Joins, IsMetric, Router}
+use Rattle.mesh_atoms.specs.Radio.{Leads, IsAdmitted, Joins, IsMetric, Router}
 use Rattle.mesh_atoms.specs.Settled.{At, IsSettledAt, IsLinkTo, IsNeighbourOf, IsPeer}
 use Rattle.mesh_atoms.specs.State.{State, HasAddress}
 use Rattle.mesh_atoms.specs.declared.settings.Attached4.{Attached4}
@@ -30,8 +30,22 @@ pub record Side (x y : ℕ) : Type 0 where
   pub at_x : (q : State) → At states x q → q ≡ state x y
   pub routers : (w : ℕ) (r : RouterSettings) → Router scenario w r → (w ≡ x) ⊎ (w ≡ y)
 
+-- each admits whatever it hears
+admitted : {x y : ℕ} → Router scenario x (settings x) → Router scenario y (settings y) → IsAdmitted scenario x 0 y 0
+admitted {x} {y} from to = record {
+  sender = settings x;
+  sends = from;
+  from = face x;
+  is_from = refl;
+  receiver = settings y;
+  receives = to;
+  to = face y;
+  is_to = refl;
+  accepted = omega arith;
+}
+
 pub joins : {x y : ℕ} → Side x y → Joins scenario x 0 y 0 one one
-joins f = record { out = f.out; home = f.home }
+joins f = record { out = f.out; home = f.home; out_admitted = admitted f.rx f.ry; home_admitted = admitted f.ry f.rx }
 
 pub metric : {x y : ℕ} → Side x y → IsMetric scenario x y one
 metric {x} {y} f = record {

@@ -1,5 +1,5 @@
 -- Two routers that hear each other are sound.
-use Rattle.std.proofs.Common.{◌≡◌, ℕ, zero, suc, ◌≤◌, ◌≢◌, inl, inr, refl, sym, ◌∙◌, ap, subst, arith, [], ◌∷◌, Contains, Option, Some}
+use Rattle.std.proofs.Common.{◌≡◌, ℕ, zero, suc, ◌≤◌, ◌≢◌, inl, inr, refl, sym, ◌∙◌, ap, subst, arith, [], ◌∷◌, Contains, Option, Some, None}
 use Rattle.std.specs.Prelude.{true, false, nat_eq}
 use Rattle.std.proofs.lemmas.Bool.{eqb-true}
 use Rattle.mesh_atoms.specs.declared.addr.Addr4.{Addr4}
@@ -15,6 +15,7 @@ use Rattle.mesh_atoms.specs.Advertised.{AreTcRows, IsTcRow, Of_address, Of_netwo
 use Rattle.mesh_atoms.specs.Base.{base_of, IsFresh, HasDistinctKeys, addr_eq, link_eq}
 use Rattle.mesh_atoms.specs.Codes.{metric_value}
 use Rattle.mesh_atoms.specs.Live.{HasSymmetricOf, IsByLinks}
+use Rattle.mesh_atoms.specs.Quality.{admit_on}
 use Rattle.mesh_atoms.specs.Sound.{IsSoundLink, IsSoundNeighbour, SoundNeighbourhood, Sound}
 use Rattle.mesh_atoms.specs.State.{Neighbourhood, link_at, two_hop_at, neighbour_at}
 use Rattle.mesh_atoms.specs.TakesHello.{IsHeld}
@@ -105,6 +106,13 @@ sound_link x y i key l until h =
       selector = λ off. refl;
     }
 
+link_admitted : (x y i : ℕ) (key : LinkKey) → admit_on (settings x) i 5 (link_at (near x y) i key) ≡ link_at (near x y) i key
+link_admitted x y i key = by_entry (link_at (near x y) i key) refl
+  where
+    by_entry : (o : Option (Link × ℕ)) → link_at (near x y) i key ≡ o → admit_on (settings x) i 5 o ≡ o
+    by_entry None at = refl
+    by_entry (Some e) at = let (first, _, is) = link_found x y i key e at in rw (first, is) refl
+
 sound_neighbour : (x y : ℕ) → x ≢ y → IsSoundNeighbour (settings x) (near x y) 5 (addr y) (neighbour y) 9
 sound_neighbour x y ne = record {
   ascending = λ i j d less within. absurd (omega (arith, less, within));
@@ -127,6 +135,7 @@ sound_neighbourhood x y ne = record {
   two_hops = λ i. empties_within _ 5 i;
   limit = within_limit x y;
   link = sound_link x y;
+  by_quality = link_admitted x y;
   links_apart = λ i k l e f a at to on from.
       (let first = (link_found x y i k e at).1 in
       let second = (link_found x y i l f to).1 in

@@ -1,5 +1,5 @@
 -- Between the worked HELLOs nothing is expired.
-use Rattle.std.proofs.Common.{◌≡◌, ℕ, zero, suc, ◌+◌, inl, inr, refl, sym, ap, subst, [], Contains, Some, None}
+use Rattle.std.proofs.Common.{◌≡◌, ℕ, zero, suc, ◌+◌, inl, inr, refl, sym, ap, subst, [], Contains, Option, Some, None}
 use Rattle.std.specs.Prelude.{Bool, true, false, cond, ◌&&◌}
 use Rattle.mesh_atoms.specs.declared.addr.Addr4.{Addr4}
 use Rattle.mesh_atoms.specs.declared.tuples.LinkKey.{LinkKey}
@@ -12,12 +12,14 @@ use Rattle.mesh_atoms.specs.declared.settings.RouterSettings.{RouterSettings}
 use Rattle.mesh_atoms.specs.Base.{HasDistinctKeys, base_of, addr_eq, link_eq, two_hop_eq}
 use Rattle.mesh_atoms.specs.Live.{IsSymmetricAddress, SettlesLost, Back, Stays, is_symmetric_at}
 use Rattle.mesh_atoms.specs.State.{link_at, two_hop_at, neighbour_at}
-use Rattle.mesh_laws.specs.WorkedHello.{peer, third, five, link, neighbour, after}
+use Rattle.mesh_laws.specs.WorkedHello.{peer, third, five, link, neighbour, after, IsReceiver}
 use Rattle.mesh_paths.proofs.SettledDecisions.{same_address}
 use Rattle.mesh_paths.proofs.ShortLists.{only, here, single_distinct, empty_distinct}
 use Rattle.mesh_atoms.specs.Live.{LiveNeighbourhood, Restores, trim, is_symmetric_entry}
 use Rattle.mesh_atoms.specs.Base.{if_live}
+use Rattle.mesh_atoms.specs.Quality.{admit_on}
 use Rattle.mesh_laws.proofs.WorkedNeighbourhood.{neighbour_found, by_links}
+use Rattle.mesh_laws.proofs.WorkedQuality.{link_admitted}
 
 abbrev beyond : TwoHop
 beyond = record { metric_in = Some five; metric_out = None }
@@ -32,8 +34,8 @@ was_symmetric_address a is =
 pub peer_symmetric : IsSymmetricAddress after peer
 peer_symmetric = (peer, neighbour, 98504, refl, refl, here peer [])
 
-pub live : (settings : RouterSettings) → LiveNeighbourhood settings 300 after after
-live settings = record {
+pub live : (settings : RouterSettings) → IsReceiver settings → LiveNeighbourhood settings 300 after after
+live settings r = record {
   tables = record {
     links = links;
     two_hops = two_hops;
@@ -56,11 +58,11 @@ live settings = record {
     two_hops zero = single_distinct {V = TwoHop} two_hop_eq (record { link = record { addr = peer }; addr = third }) (beyond, 49352)
     two_hops (suc i) = empty_distinct TwoHop two_hop_eq
 
-    live_links : (i : ℕ) (key : LinkKey) → link_at after i key ≡ trim 300 (if_live 300 (link_at after i key))
+    live_links : (i : ℕ) (key : LinkKey) → link_at after i key ≡ trim 300 (if_live 300 (admit_on settings i 300 (link_at after i key)))
     live_links zero key = by_case (addr_eq key.addr peer)
       where
-        by_case : (b : Bool) → cond b (Some (link, 98504)) None ≡ trim 300 (if_live 300 (cond b (Some (link, 98504)) None))
-        by_case true = refl
+        by_case : (b : Bool) → cond b (Some (link, 98504)) None ≡ trim 300 (if_live 300 (admit_on settings 0 300 (cond b (Some (link, 98504)) None)))
+        by_case true = ap (λ (o : Option (Link × ℕ)). trim 300 (if_live 300 o)) (sym (link_admitted settings r))
         by_case false = refl
     live_links (suc i) key = refl
 

@@ -254,4 +254,4 @@ module _ (settings : RouterSettings) (r : IsReceiver settings) where
       restored o other = let off : addr_eq o peer ≡ false = same_peer o other in rw off refl
 
 pub second_hello : SecondHelloIsTaken
-second_hello settings r = (live settings, Takes told_loss (no_fault settings r) (tells_loss settings r) (not_full settings r) (fits settings r) (after_loss settings r))
+second_hello settings r = (live settings r, Takes told_loss (no_fault settings r) (tells_loss settings r) (not_full settings r) (fits settings r) (after_loss settings r))

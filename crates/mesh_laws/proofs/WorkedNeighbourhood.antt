@@ -16,11 +16,13 @@ use Rattle.mesh_atoms.specs.Base.{HasDistinctKeys, base_of, addr_eq, link_eq, tw
 use Rattle.mesh_atoms.specs.Codes.{metric_value}
 use Rattle.mesh_atoms.specs.Live.{HasSymmetricOf, IsByLinks, IsSymmetricAddress, SettlesLost, Back, Stays}
 use Rattle.mesh_atoms.specs.State.{link_at, two_hop_at, neighbour_at, is_symmetric}
+use Rattle.mesh_atoms.specs.Quality.{rule_of}
 use Rattle.mesh_atoms.specs.TakesHello.{Takes}
 use Rattle.mesh_atoms.proofs.Lookups.{same_addr}
 use Rattle.mesh_laws.specs.WorkedHello.{peer, third, one, three, five, third_row, hello, IsReceiver, nothing, link, neighbour, after, FirstHelloIsTaken}
 use Rattle.mesh_paths.proofs.SettledDecisions.{same_address}
 use Rattle.mesh_paths.proofs.ShortLists.{only, here, found_one, none_some, single_distinct, empty_distinct}
+use Rattle.mesh_laws.proofs.WorkedQuality.{begun, made_is}
 use Rattle.mesh_laws.proofs.WorkedHello.{told, looks_at, looked_at, tells, no_fault, not_full, fits}
 
 pub same_peer : (a : Addr4) → (a ≡ peer → ⊥) → addr_eq a peer ≡ false
@@ -128,6 +130,12 @@ module _ (settings : RouterSettings) (r : IsReceiver settings) where
           let P : Neighbour → Type 0 = λ b. Contains b.addrs a in
           only peer a (subst P (ap (λ (e : Neighbour × ℕ). e.0) same) has)
 
+  renewed_link : link_at after 0 (record { addr = peer }) ≡ Some (renewed told.shown settings.times.link_hold 200 (made (rule_of settings 0) told.shown 200))
+  renewed_link =
+      let P : ℕ → Type 0 = λ hold. link_at after 0 (record { addr = peer }) ≡ Some (renewed told.shown hold 200 (begun 100 false)) in
+      let Q : Link × ℕ → Type 0 = λ e. link_at after 0 (record { addr = peer }) ≡ Some (renewed told.shown settings.times.link_hold 200 e) in
+      subst Q (sym (made_is settings r)) (subst P (sym r.link_hold) refl)
+
   pub after_hello : AfterHello settings 200 0 told hello nothing after
   after_hello = record {
     tables = record {
@@ -138,7 +146,7 @@ module _ (settings : RouterSettings) (r : IsReceiver settings) where
     };
     interfaces = refl;
     two_hop_interfaces = refl;
-    link = (made told.shown 200, Made (λ e h. none_some e h), (let P : ℕ → Type 0 = λ hold. link_at after 0 (record { addr = peer }) ≡ Some (renewed told.shown hold 200 (made told.shown 200)) in subst P (sym r.link_hold) refl));
+    link = (made (rule_of settings 0) told.shown 200, Made (λ e h. none_some e h), renewed_link);
     other_links = λ j key other. kept_none _ _ _ (stood_nothing j key) (no_link j key other);
     neighbour = record { addrs = refl; willing = refl; selector = refl; by_links = by_links 200 refl };
     other_neighbours = λ o other. Remains (λ e h m. none_some e h) (no_neighbour o other);

@@ -1,12 +1,16 @@
 -- The definitions of a router refuse wrong states.
-use Rattle.std.proofs.Common.{◌≡◌, ℕ, ◌+◌, ◌<◌, ◌⊎◌, inl, inr, refl, sym, ◌∙◌, ap, subst, arith, slice_index_or, length, Option, Some, None, IsTrue}
-use Rattle.std.specs.Prelude.{Bool, true, false, cond, nat_eq, nat_lt, not, ◌&&◌}
-use Rattle.std.proofs.lemmas.Bool.{eqb-true, eq-eqb, ltb-true}
+use Rattle.std.proofs.Common.{◌≡◌, ℕ, ◌+◌, ◌<◌, ◌≤◌, ◌⊎◌, inl, inr, refl, sym, ◌∙◌, ap, subst, arith, slice_index_or, length, Option, Some, None, IsTrue}
+use Rattle.std.specs.Prelude.{Bool, true, false, cond, nat_eq, nat_lt, not, ◌&&◌, Contains}
+use Rattle.std.proofs.lemmas.Bool.{eqb-true, eq-eqb, le-ltb}
 use Rattle.std.proofs.lemmas.Option.{slice_get_within, get_or_from_slice_get}
 use Rattle.mesh_atoms.specs.declared.addr.Addr4.{Addr4}
 use Rattle.mesh_atoms.specs.declared.addr.NetAddr.{NetAddr}
 use Rattle.mesh_atoms.specs.declared.hello.Hello.{Hello}
+use Rattle.mesh_atoms.specs.declared.hello.LinkStatus.{LinkStatus}
+use Rattle.mesh_atoms.specs.declared.hello.LinkStatus.TheVariants.{Lost as Down, Symmetric, Heard}
 use Rattle.mesh_atoms.specs.declared.tc.TcRow.{TcRow}
+use Rattle.mesh_atoms.specs.declared.tuples.LinkKey.{LinkKey}
+use Rattle.mesh_atoms.specs.declared.tuples.LinkState.TheVariants.{Pending as Is_pending, Lost as Is_lost, Symmetric as Is_symmetric, Heard as Is_heard}
 use Rattle.mesh_atoms.specs.declared.tuples.Link.{Link}
 use Rattle.mesh_atoms.specs.declared.tuples.TwoHop.{TwoHop}
 use Rattle.mesh_atoms.specs.declared.tuples.AddressTuple.{AddressTuple}
@@ -15,13 +19,16 @@ use Rattle.mesh_atoms.specs.declared.settings.RouterSettings.{RouterSettings}
 use Rattle.mesh_atoms.specs.Advertised.{Gives, IsTcRow, Of_address, Of_network}
 use Rattle.mesh_atoms.specs.AfterHello.{AfterHello, StoodOn, Same_link, New_link, TellsTwoHop, By_row, By_none}
 use Rattle.mesh_atoms.specs.AfterTc.{Becomes, Given, Left, GivesAddress, if_not_dropped}
-use Rattle.mesh_atoms.specs.Base.{find, host, addr_eq, address_eq}
-use Rattle.mesh_atoms.specs.Hello.{Link_symmetric, Other_symmetric}
+use Rattle.mesh_atoms.specs.Base.{find, host, if_live, addr_eq, address_eq}
+use Rattle.mesh_atoms.specs.Hello.{Says, Link_symmetric, Other_symmetric, link_part}
 use Rattle.mesh_atoms.specs.HelloTold.{Told}
-use Rattle.mesh_atoms.specs.Live.{is_symmetric_at}
+use Rattle.mesh_atoms.specs.Live.{trim, is_symmetric_at}
 use Rattle.mesh_atoms.specs.Nodes.{IsBefore, IsAtMost}
-use Rattle.mesh_atoms.specs.State.{Neighbourhood, two_hop_at}
-use Rattle.mesh_laws.specs.WrongStates.{RefusesExpiredLink, RefusesOwnTwoHop, RefusesTwoHopOfEndedLink, RefusesTupleOfOldNumber, RefusesHiddenNeighbour, RefusesRowOfNoSelector, RefusesTwoHopOnHeardLink, RefusesNeighbourWithoutLink, RefusesDearerRelays, RefusesGreaterParent, RefusesRouteTwice, RefusesTupleTooMany}
+use Rattle.mesh_atoms.specs.Quality.{quality_at, rule_of, admitted, admit_on}
+use Rattle.mesh_atoms.specs.State.{State, Neighbourhood, link_at, two_hop_at, state_of, HasLink}
+use Rattle.mesh_atoms.specs.Words.{IsValue}
+use Rattle.mesh_laws.proofs.Qualities.{no_later}
+use Rattle.mesh_laws.specs.WrongStates.{RefusesExpiredLink, RefusesOwnTwoHop, RefusesTwoHopOfEndedLink, RefusesTupleOfOldNumber, RefusesHiddenNeighbour, RefusesPendingTold, RefusesRowOfNoSelector, RefusesTwoHopOnHeardLink, RefusesNeighbourWithoutLink, RefusesDearerRelays, RefusesGreaterParent, RefusesRouteTwice, RefusesTupleTooMany, RefusesStaleTuple}
 use Rattle.mesh_paths.proofs.SettledDecisions.{shows_link}
 
 some_none : {A B : Type 0} {o : Option A} {a : A} → o ≡ Some a → o ≡ None → B
@@ -39,11 +46,13 @@ tested false = inr refl
 
 pub expired_link : RefusesExpiredLink
 expired_link settings now old new i key link until e stood late stands live =
-    let gone : nat_lt now until ≡ false = elim (tested (nat_lt now until)) [
-      | inl h ↦ absurd (omega (arith, late, ltb-true now until h))
-      | inr h ↦ h
-    ] in
-    some_none stands (live.links i key ∙ (rw (stood, gone) refl))
+    let left : Link × ℕ = admitted (rule_of settings i) settings.times.link_hold now (link, until) in
+    let at : admit_on settings i now (link_at old i key) ≡ Some left = ap (admit_on settings i now) stood in
+    let sooner : left.1 ≤ until = no_later (rule_of settings i) settings.times.link_hold now (quality_at (rule_of settings i) link.addrs now) (link, until) in
+    let gone : nat_lt now left.1 ≡ false = le-ltb now left.1 (omega (arith, late, sooner)) in
+    some_none stands (live.links i key
+    ∙ (ap (λ (o : Option (Link × ℕ)). trim now (if_live now o)) at
+    ∙ ap (λ (b : Bool). trim now (cond b (Some left) None)) gone))
 
 -- the tuple of an address of the sending link
 after : {settings : RouterSettings} {now i : ℕ} {told : Told} {hello : Hello} {old new : Neighbourhood} (a : Addr4) (t : TwoHop × ℕ) →
@@ -111,6 +120,20 @@ hidden_neighbour s i now hello a o n has hidden is = elim (shows_link s i now a)
   | inr none ↦ (let (row, stands, same) = is.all a Other_symmetric ((o, n, has), none) in hidden row stands same)
 ]
 
+-- no LINK_STATUS is said of an address whose links are PENDING
+none_said : (s : State) (i now : ℕ) (a : Addr4) → ((key : LinkKey) (link : Link) → HasLink s i key link → Contains link.addrs a → state_of link now ≡ Is_pending) →
+    (status : LinkStatus) → Says s i now a (link_part status) → ⊥
+none_said s i now a pending Down (link, (key, has, on, is)) = absurd (let same : Is_lost ≡ Is_pending = sym is ∙ pending key link has on in cc)
+none_said s i now a pending Symmetric (link, (key, has, on, is)) = absurd (let same : Is_symmetric ≡ Is_pending = sym is ∙ pending key link has on in cc)
+none_said s i now a pending Heard (link, (key, has, on, is)) = absurd (let same : Is_heard ≡ Is_pending = sym is ∙ pending key link has on in cc)
+
+pub pending_told : RefusesPendingTold
+pending_told s i now hello row a status pending stands addr told is =
+    let (b, says) = is.rows row stands in
+    let same : b ≡ a = ap (λ (n : NetAddr). n.addr) (sym says.addr ∙ addr) in
+    let said : IsValue (λ v. Says s i now a (link_part v)) row.link = subst (λ (c : Addr4). IsValue (λ v. Says s i now c (link_part v)) row.link) same says.link in
+    none_said s i now a pending status (subst (λ (o : Option LinkStatus). IsValue (λ v. Says s i now a (link_part v)) o) told said)
+
 pub row_of_no_selector : RefusesRowOfNoSelector
 row_of_no_selector s rows row a stands dest routable none are = by_case ((are.exactly row).0 stands) dest routable
   where
@@ -166,4 +189,10 @@ pub tuple_too_many : RefusesTupleTooMany
 tuple_too_many s states now x p q key t settled lacks has near also = elim (also.address_from key t has) [
   | inl stray ↦ near stray
   | inr given ↦ (let (w, r, peer, by) = given in lacks (settled.address_to w r key t peer by))
+]
+
+pub stale_tuple : RefusesStaleTuple
+stale_tuple s states now x p key t has near none settled = elim (settled.address_from key t has) [
+  | inl stray ↦ near stray
+  | inr given ↦ (let (w, q, peer, by) = given in none w q t.metric peer by.from by.metric)
 ]

@@ -23,6 +23,7 @@ use Rattle.mesh_atoms.specs.Base.{find, base_of, addr_eq, address_eq, flood_eq}
 use Rattle.mesh_atoms.specs.Hello.{Says, Near_in, Link_out}
 use Rattle.mesh_atoms.specs.HelloTold.{Told, Tells, two_hop_of}
 use Rattle.mesh_atoms.specs.Live.{HasLinkOf, Restores, IsSymmetricAddress, LiveNeighbourhood}
+use Rattle.mesh_atoms.specs.Quality.{quality_at, rule_of}
 use Rattle.mesh_atoms.specs.Settled.{IsTwoHopBy}
 use Rattle.mesh_atoms.specs.Sound.{SoundNeighbourhood}
 use Rattle.mesh_atoms.specs.State.{State, Neighbourhood, Topology, NotedMessages, link_at, lost_at, HasAddress}
@@ -120,6 +121,28 @@ abbrev pub RefusesLinkGone : Type 0
 RefusesLinkGone =
     (settings : RouterSettings) (now i j : ℕ) (told : Told) (hello : Hello) (old new : Neighbourhood) (key : LinkKey) (e : Link × ℕ) →
     j ≢ i → link_at old j key ≡ Some e → link_at new j key ≡ None → GoesOn old told i j e.0 → AfterHello settings now i told hello old new → ⊥
+
+-- Qualities
+
+-- in a sound neighbourhood, a link whose quality isn't that of the moment
+abbrev pub RefusesOtherQuality : Type 0
+RefusesOtherQuality =
+    (settings : RouterSettings) (now i : ℕ) (near : Neighbourhood) (key : LinkKey) (e : Link × ℕ) →
+    link_at near i key ≡ Some e → e.0.quality ≢ quality_at (rule_of settings i) e.0.addrs now → SoundNeighbourhood settings now near → ⊥
+
+-- after expiry, a link that its quality has made lost, and that stays longer than the hold time
+abbrev pub RefusesLostLinkKept : Type 0
+RefusesLostLinkKept =
+    (settings : RouterSettings) (now i : ℕ) (old new : Neighbourhood) (key : LinkKey) (e f : Link × ℕ) →
+    link_at old i key ≡ Some e → e.0.pending ≡ false → e.0.lost ≡ false → quality_at (rule_of settings i) e.0.addrs now < (rule_of settings i).reject →
+    link_at new i key ≡ Some f → now + settings.times.link_hold < f.1 → LiveNeighbourhood settings now old new → ⊥
+
+-- after a HELLO, a link that is made though its quality isn't accepted, and isn't PENDING
+abbrev pub RefusesMadeUnadmitted : Type 0
+RefusesMadeUnadmitted =
+    (settings : RouterSettings) (now i : ℕ) (told : Told) (hello : Hello) (old new : Neighbourhood) (e : Link × ℕ) →
+    link_at old i told.least ≡ None → quality_at (rule_of settings i) told.shown.sending now < (rule_of settings i).accept →
+    link_at new i told.least ≡ Some e → e.0.pending ≡ false → AfterHello settings now i told hello old new → ⊥
 
 -- Limits
 

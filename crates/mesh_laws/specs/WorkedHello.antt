@@ -87,7 +87,7 @@ nothing = record { links = [] ∷ []; two_hops = [] ∷ []; neighbours = []; los
 
 -- the link is SYMMETRIC, at the metrics 1 and 3
 abbrev pub link : Link
-link = record { addrs = peer ∷ []; heard = 49352; sym = 49352; quality = 0; pending = false; lost = false; link_in = one; link_out = Some three; selector = false }
+link = record { addrs = peer ∷ []; heard = 49352; sym = 49352; quality = 100; pending = false; lost = false; link_in = one; link_out = Some three; selector = false }
 
 abbrev pub neighbour : Neighbour
 neighbour = record { addrs = peer ∷ []; symmetric = true; metric_in = Some one; metric_out = Some three; willing = seven; selector = false }
@@ -118,7 +118,7 @@ later_hello = record { originator = Some peer; validity = 49152; interval = Some
 
 -- the link is HEARD
 abbrev pub heard_link : Link
-heard_link = record { addrs = peer ∷ []; heard = 49452; sym = 0; quality = 0; pending = false; lost = false; link_in = one; link_out = None; selector = false }
+heard_link = record { addrs = peer ∷ []; heard = 49452; sym = 0; quality = 100; pending = false; lost = false; link_in = one; link_out = None; selector = false }
 
 abbrev pub heard_neighbour : Neighbour
 heard_neighbour = record { addrs = peer ∷ []; symmetric = false; metric_in = None; metric_out = None; willing = seven; selector = false }

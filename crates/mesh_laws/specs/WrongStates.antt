@@ -5,9 +5,11 @@ use Rattle.mesh_atoms.specs.declared.addr.NetAddr.{NetAddr}
 use Rattle.mesh_atoms.specs.declared.metric.Metric.{Metric}
 use Rattle.mesh_atoms.specs.declared.hello.Hello.{Hello}
 use Rattle.mesh_atoms.specs.declared.hello.HelloRow.{HelloRow}
+use Rattle.mesh_atoms.specs.declared.hello.LinkStatus.{LinkStatus}
 use Rattle.mesh_atoms.specs.declared.tc.Tc.{Tc}
 use Rattle.mesh_atoms.specs.declared.tc.TcRow.{TcRow}
 use Rattle.mesh_atoms.specs.declared.tuples.LinkKey.{LinkKey}
+use Rattle.mesh_atoms.specs.declared.tuples.LinkState.TheVariants.{Pending as Is_pending}
 use Rattle.mesh_atoms.specs.declared.tuples.TwoHopKey.{TwoHopKey}
 use Rattle.mesh_atoms.specs.declared.tuples.AddressKey.{AddressKey}
 use Rattle.mesh_atoms.specs.declared.tuples.Link.{Link}
@@ -19,7 +21,7 @@ use Rattle.mesh_atoms.specs.declared.graphs.NeighbourGraph.{NeighbourGraph}
 use Rattle.mesh_atoms.specs.declared.graphs.Route.{Route}
 use Rattle.mesh_atoms.specs.declared.settings.RouterSettings.{RouterSettings}
 use Rattle.mesh_atoms.specs.declared.settings.Scenario.{Scenario}
-use Rattle.mesh_atoms.specs.Advertised.{Gives, AreTcRows}
+use Rattle.mesh_atoms.specs.Advertised.{Gives, Advertises, AreTcRows}
 use Rattle.mesh_atoms.specs.AfterHello.{AfterHello}
 use Rattle.mesh_atoms.specs.AfterTc.{AfterTc}
 use Rattle.mesh_atoms.specs.Base.{Has, find, host, address_eq}
@@ -29,9 +31,9 @@ use Rattle.mesh_atoms.specs.Live.{HasLinkOf, is_symmetric_at, LiveNeighbourhood}
 use Rattle.mesh_atoms.specs.Nodes.{IsBefore}
 use Rattle.mesh_atoms.specs.Relays.{Offers, IsWilling, IsRelay, Covers}
 use Rattle.mesh_atoms.specs.Routes.{RouteArc, AreRoutes}
-use Rattle.mesh_atoms.specs.Settled.{IsStray, IsSettledAt}
+use Rattle.mesh_atoms.specs.Settled.{IsPeer, IsStray, IsSettledAt}
 use Rattle.mesh_atoms.specs.Sound.{SoundNeighbourhood}
-use Rattle.mesh_atoms.specs.State.{State, Neighbourhood, Topology, link_at, two_hop_at, neighbour_at, HasSymmetricWith, HasAddress}
+use Rattle.mesh_atoms.specs.State.{State, Neighbourhood, Topology, state_of, link_at, two_hop_at, neighbour_at, HasLink, HasSymmetricWith, HasAddress, IsOriginator}
 use Rattle.mesh_atoms.specs.Walk.{Fits}
 
 -- Expiry, HELLOs and TCs
@@ -74,6 +76,13 @@ RefusesRowOfNoSelector =
     (s : State) (rows : List TcRow) (row : TcRow) (a : Addr4) →
     Contains rows row → row.dest ≡ host a → IsTrue row.routable → ((o : Addr4) (m : Metric) → Gives s a o m → ⊥) → AreTcRows s rows → ⊥
 
+-- a HELLO that tells a link status of an address whose links on its interface are all PENDING
+abbrev pub RefusesPendingTold : Type 0
+RefusesPendingTold =
+    (s : State) (i now : ℕ) (hello : Hello) (row : HelloRow) (a : Addr4) (status : LinkStatus) →
+    ((key : LinkKey) (link : Link) → HasLink s i key link → Contains link.addrs a → state_of link now ≡ Is_pending) →
+    Contains hello.rows row → row.addr ≡ host a → row.link ≡ Some status → IsHelloNow s i now hello → ⊥
+
 -- Sound routers
 
 -- a 2-hop tuple on a link that isn't SYMMETRIC
@@ -115,3 +124,11 @@ RefusesTupleTooMany =
     (s : Scenario) (states : List State) (now x : ℕ) (p q : State) (key : AddressKey) (t : AddressTuple) →
     IsSettledAt s states now x p → (Has p.bases.topology.addresses key t → ⊥) → Has q.bases.topology.addresses key t → (IsStray s x key.from → ⊥) →
     IsSettledAt s states now x q → ⊥
+
+-- a stale topology tuple, as TCs in parts leave it: no router that is joined and has its originator advertises its address at present
+abbrev pub RefusesStaleTuple : Type 0
+RefusesStaleTuple =
+    (s : Scenario) (states : List State) (now x : ℕ) (p : State) (key : AddressKey) (t : AddressTuple) →
+    Has p.bases.topology.addresses key t → (IsStray s x key.from → ⊥) →
+    ((w : ℕ) (q : State) (m : Metric) → IsPeer s states x w q → IsOriginator q.settings key.from → Advertises q key.addr m → ⊥) →
+    IsSettledAt s states now x p → ⊥

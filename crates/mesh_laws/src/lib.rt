@@ -2,8 +2,8 @@
 //! and worked and wrong states.
 #![tactic(auto)]
 
-ghost use Rattle.mesh_laws.specs.Spoiled.{RefusesNeighbourOutOfNothing, RefusesNeighbourGone, RefusesSelectorKept, RefusesNeighbourTooShort, RefusesLostThoughBack, RefusesLossUntold, RefusesLostOutOfNothing, RefusesLostAtAnotherMoment, RefusesLostSymmetric, RefusesOwnLost, RefusesLinksTogether, RefusesLinkOfUnlisted, RefusesLinkOfSharedAddress, RefusesLinkGone, RefusesFullOfOne, RefusesTakenThoughFull, RefusesTakenThoughManyRows, RefusesFullThoughFits, RefusesLinkMetricFirst, RefusesMetricUnsaid, RefusesRowByLinkMetric, RefusesRowWithoutMetric, RefusesNumberUnnoted, RefusesTupleGoneByPart, RefusesTupleGoneOfAnother, RefusesProcessedUnnoted, RefusesReceivedElsewhere, RefusesForwardedUnsent, RefusesForwardedAtAnotherMoment};
-ghost use Rattle.mesh_laws.specs.WrongStates.{RefusesExpiredLink, RefusesOwnTwoHop, RefusesTwoHopOfEndedLink, RefusesTupleOfOldNumber, RefusesHiddenNeighbour, RefusesRowOfNoSelector, RefusesTwoHopOnHeardLink, RefusesNeighbourWithoutLink, RefusesDearerRelays, RefusesGreaterParent, RefusesRouteTwice, RefusesTupleTooMany};
+ghost use Rattle.mesh_laws.specs.Spoiled.{RefusesNeighbourOutOfNothing, RefusesNeighbourGone, RefusesSelectorKept, RefusesNeighbourTooShort, RefusesLostThoughBack, RefusesLossUntold, RefusesLostOutOfNothing, RefusesLostAtAnotherMoment, RefusesLostSymmetric, RefusesOwnLost, RefusesLinksTogether, RefusesLinkOfUnlisted, RefusesLinkOfSharedAddress, RefusesLinkGone, RefusesOtherQuality, RefusesLostLinkKept, RefusesMadeUnadmitted, RefusesFullOfOne, RefusesTakenThoughFull, RefusesTakenThoughManyRows, RefusesFullThoughFits, RefusesLinkMetricFirst, RefusesMetricUnsaid, RefusesRowByLinkMetric, RefusesRowWithoutMetric, RefusesNumberUnnoted, RefusesTupleGoneByPart, RefusesTupleGoneOfAnother, RefusesProcessedUnnoted, RefusesReceivedElsewhere, RefusesForwardedUnsent, RefusesForwardedAtAnotherMoment};
+ghost use Rattle.mesh_laws.specs.WrongStates.{RefusesExpiredLink, RefusesOwnTwoHop, RefusesTwoHopOfEndedLink, RefusesTupleOfOldNumber, RefusesHiddenNeighbour, RefusesPendingTold, RefusesRowOfNoSelector, RefusesTwoHopOnHeardLink, RefusesNeighbourWithoutLink, RefusesDearerRelays, RefusesGreaterParent, RefusesRouteTwice, RefusesTupleTooMany, RefusesStaleTuple};
 ghost use Rattle.mesh_laws.specs.WorkedHello.{FirstHelloIsTaken, SecondHelloIsTaken};
 ghost use Rattle.mesh_laws.specs.Witnesses.{TwoRoutersSettle, ThreeRoutersSettle};
 
@@ -33,6 +33,7 @@ pub fn wrong_states_refused()
     ensures two_hop_of_ended_link { RefusesTwoHopOfEndedLink }
     ensures tuple_of_old_number { RefusesTupleOfOldNumber }
     ensures hidden_neighbour { RefusesHiddenNeighbour }
+    ensures pending_told { RefusesPendingTold }
     ensures row_of_no_selector { RefusesRowOfNoSelector }
     ensures two_hop_on_heard_link { RefusesTwoHopOnHeardLink }
     ensures neighbour_without_link { RefusesNeighbourWithoutLink }
@@ -40,6 +41,7 @@ pub fn wrong_states_refused()
     ensures greater_parent { RefusesGreaterParent }
     ensures route_twice { RefusesRouteTwice }
     ensures tuple_too_many { RefusesTupleTooMany }
+    ensures stale_tuple { RefusesStaleTuple }
 {}
 
 /// Each clause of a definition that alone refuses some state does refuse it: states and answers with one thing spoiled, each clause
@@ -59,6 +61,9 @@ pub fn spoiled_states_are_refused()
     ensures link_of_unlisted { RefusesLinkOfUnlisted }
     ensures link_of_shared_address { RefusesLinkOfSharedAddress }
     ensures link_gone { RefusesLinkGone }
+    ensures other_quality { RefusesOtherQuality }
+    ensures lost_link_kept { RefusesLostLinkKept }
+    ensures made_unadmitted { RefusesMadeUnadmitted }
     ensures full_of_one { RefusesFullOfOne }
     ensures taken_though_full { RefusesTakenThoughFull }
     ensures taken_though_many_rows { RefusesTakenThoughManyRows }

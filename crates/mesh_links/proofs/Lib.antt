@@ -1,3 +1,4 @@
+mod Admitted
 mod Left
 mod Renewed
 mod Room

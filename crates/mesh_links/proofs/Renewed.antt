@@ -1,4 +1,4 @@
--- What the HELLO's steps on one link and on the others say together.
+-- What the steps of a HELLO leave of a link.
 use Rattle.std.proofs.Common.{◌≡◌, ℕ, refl, ◌∙◌, Bool, true, false, cond, Option, Some, None}
 use Rattle.mesh_atoms.specs.declared.hello.LinkStatus.{LinkStatus}
 use Rattle.mesh_atoms.specs.declared.hello.LinkStatus.TheVariants.{Lost, Heard, Symmetric}
@@ -6,7 +6,7 @@ use Rattle.mesh_atoms.specs.declared.hello.Shown.{Shown}
 use Rattle.mesh_atoms.specs.declared.tuples.Link.{Link}
 use Rattle.mesh_atoms.specs.State.{is_symmetric}
 use Rattle.mesh_atoms.specs.Live.{trimmed}
-use Rattle.mesh_atoms.specs.AfterHello.{Begins, Stood, Made, by_status, renewed}
+use Rattle.mesh_atoms.specs.AfterHello.{by_status, renewed}
 
 -- A link that is renewed keeps its addresses
 
@@ -24,7 +24,3 @@ addrs-by_status shown hold now (Some Symmetric) e = refl
 
 pub addrs-renewed : (shown : Shown) (hold now : ℕ) (e : Link × ℕ) → (renewed shown hold now e).0.addrs ≡ e.0.addrs
 addrs-renewed shown hold now e = addrs-trimmed now (by_status shown hold now shown.status e) ∙ addrs-by_status shown hold now shown.status e
-
-pub addrs-start : (shown : Shown) (now : ℕ) (old : Option (Link × ℕ)) (start : Link × ℕ) → Begins shown now old start → start.0.addrs ≡ shown.sending
-addrs-start shown now old start (Stood e at same) = same
-addrs-start shown now old start (Made none) = refl

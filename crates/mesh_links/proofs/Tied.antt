@@ -3,6 +3,7 @@ use Rattle.std.proofs.Common.{◌≡◌, ◌≢◌, ◌⊎◌, ℕ, inl, inr, re
 use Rattle.std.specs.Prelude.{Contains, slice_get, nat_lt, option_map, OnOk, OnErr, Result, Ok, Err, IsSome}
 use Rattle.std.proofs.lemmas.List.Elements.{All-contains}
 use Rattle.mesh_atoms.specs.declared.addr.Addr4.{Addr4}
+use Rattle.mesh_atoms.specs.declared.admit.Admit.{Admit}
 use Rattle.mesh_atoms.specs.declared.tuples.Link.{Link}
 use Rattle.mesh_atoms.specs.declared.tuples.LinkKey.{LinkKey}
 use Rattle.mesh_atoms.specs.Base.{Base, find, if_live, link_eq, addr_eq, SetsOnly}
@@ -101,9 +102,9 @@ pub fewer_kept : (Stays : Link × ℕ → Type 0) (old new : Base LinkKey Link) 
 fewer_kept Stays old new kept key e found = (e, (stays_there Stays (find link_eq old key) (find link_eq new key) e (kept key) found).1, refl)
 
 -- the links from which a HELLO begins
-pub begins_before : (shown : Shown) (now : ℕ) (o mid : Option (Link × ℕ)) (start : Link × ℕ) → IsKept (λ e. IsApart shown.sending e.0) o mid → Begins shown now mid start → Begins shown now o start
-begins_before shown now o mid start kept (Stood e at same) = Stood e (stays_there (λ x. IsApart shown.sending x.0) o mid e kept at).1 same
-begins_before shown now o mid start kept (Made none) = Made (λ e at same. by_kept o kept e at same) where
+pub begins_before : (rule : Admit) (shown : Shown) (now : ℕ) (o mid : Option (Link × ℕ)) (start : Link × ℕ) → IsKept (λ e. IsApart shown.sending e.0) o mid → Begins rule shown now mid start → Begins rule shown now o start
+begins_before rule shown now o mid start kept (Stood e at same) = Stood e (stays_there (λ x. IsApart shown.sending x.0) o mid e kept at).1 same
+begins_before rule shown now o mid start kept (Made none) = Made (λ e at same. by_kept o kept e at same) where
   by_kept : (p : Option (Link × ℕ)) → IsKept (λ x. IsApart shown.sending x.0) p mid → (e : Link × ℕ) → p ≡ Some e → e.0.addrs ≡ shown.sending → ⊥
   by_kept None k e at same = absurd cc
   by_kept (Some f) k e at same = let is : f ≡ e = cc in elim k [
@@ -118,12 +119,12 @@ other_link least key other = by_case (link_eq least key) refl where
   by_case true is = absurd (other (sym (same_link least key is)))
 
 -- the others end, and then the one is renewed or made
-pub hears_after : (shown : Shown) (least : LinkKey) (hold now : ℕ) (old mid new : Base LinkKey Link) (start : Link × ℕ)
+pub hears_after : (rule : Admit) (shown : Shown) (least : LinkKey) (hold now : ℕ) (old mid new : Base LinkKey Link) (start : Link × ℕ)
     → ((key : LinkKey) → IsKept (λ e. IsApart shown.sending e.0) (find link_eq old key) (find link_eq mid key))
-    → Begins shown now (find link_eq mid least) start → SetsOnly link_eq mid new least (Some (renewed shown hold now start))
-    → HearsOn shown least hold now old new
-hears_after shown least hold now old mid new start kept begins sets = record {
-  one = (start, begins_before shown now (find link_eq old least) (find link_eq mid least) start (kept least) begins, sets least ∙ rw (link_equiv.refl least) refl);
+    → Begins rule shown now (find link_eq mid least) start → SetsOnly link_eq mid new least (Some (renewed shown hold now start))
+    → HearsOn rule shown least hold now old new
+hears_after rule shown least hold now old mid new start kept begins sets = record {
+  one = (start, begins_before rule shown now (find link_eq old least) (find link_eq mid least) start (kept least) begins, sets least ∙ rw (link_equiv.refl least) refl);
   others = λ key other. (let at : find link_eq new key ≡ find link_eq mid key = sets key ∙ rw (other_link least key other) refl in rw at (kept key));
 }
 

@@ -1,3 +1,4 @@
 pub mod Ending
 pub mod Links
 pub mod Owners
+pub mod Rulings

@@ -12,7 +12,7 @@ use crate::ending::{Ending, end_all};
 use crate::owners::own_all;
 use crate::renewal::{make, renew};
 use indexmap::IndexMap;
-use mesh_atoms::{Addr4, Link, LinkKey, Shown};
+use mesh_atoms::{Addr4, Admit, Link, LinkKey, Shown};
 use mesh_expire::Table;
 use std::alloc::AllocError;
 
@@ -85,18 +85,19 @@ fn put_made<T: Table<LinkKey, Link>>(
     now: u64,
     hold: u64,
     shown: &Shown,
+    rule: &Admit,
 ) -> Result<(), AllocError>
     requires now { now < 2 ^ 62 }
     requires hold { hold < 2 ^ 62 }
     requires validity { shown.now.validity < 2 ^ 62 }
     requires room { HasRoom (T.content table.old) }
     requires distinct { HasDistinctKeys link_eq (T.content table.old) }
-    ensures ok { OnOk result (SetsOnly link_eq (T.content table.old) (T.content table.new) key (Some (renewed shown.now hold now (made shown.now now)))) }
+    ensures ok { OnOk result (SetsOnly link_eq (T.content table.old) (T.content table.new) key (Some (renewed shown.now hold now (made rule.now shown.now now)))) }
     ensures room { HasRoom (T.content table.new) }
     ensures distinct { HasDistinctKeys link_eq (T.content table.new) }
     ensures err { OnErr result (T.content table.new ≡ T.content table.old) }
 {
-    let mut link = make(shown)?;
+    let mut link = make(shown, rule, now)?;
     let until = renew(&mut link, now + shown.validity, now, hold, shown);
     table.put(key, link, until)?;
     Ok(())
@@ -110,6 +111,7 @@ fn renew_at<T: Table<LinkKey, Link>>(
     now: u64,
     hold: u64,
     shown: &Shown,
+    rule: &Admit,
 ) -> Result<(), AllocError>
     requires now { now < 2 ^ 62 }
     requires hold { hold < 2 ^ 62 }
@@ -119,14 +121,14 @@ fn renew_at<T: Table<LinkKey, Link>>(
     requires owned { Owned owners.now.entries (T.content table.old) }
     requires mine { OwnsAll owners.now.entries shown.now.sending key }
     requires first { slice_get shown.now.sending 0 ≡ Some key.addr }
-    ensures ok { OnOk result ((start : Link × ℕ) × Begins shown.now now (find link_eq (T.content table.old) key) start × SetsOnly link_eq (T.content table.old) (T.content table.new) key (Some (renewed shown.now hold now start))) }
+    ensures ok { OnOk result ((start : Link × ℕ) × Begins rule.now shown.now now (find link_eq (T.content table.old) key) start × SetsOnly link_eq (T.content table.old) (T.content table.new) key (Some (renewed shown.now hold now start))) }
     ensures room { HasRoom (T.content table.new) }
     ensures distinct { HasDistinctKeys link_eq (T.content table.new) }
     ensures owned { Owned owners.now.entries (T.content table.new) }
 {
     match standing(table, key, shown.sending.as_slice()) {
         Some(until) => renew_standing(table, key, until, now, hold, shown),
-        None => put_made(table, key, now, hold, shown),
+        None => put_made(table, key, now, hold, shown, rule),
     }
 }
 
@@ -137,6 +139,7 @@ pub fn hear_on<T: Table<LinkKey, Link>>(
     now: u64,
     hold: u64,
     shown: &Shown,
+    rule: &Admit,
 ) -> Result<(), AllocError>
     requires now { now < 2 ^ 62 }
     requires hold { hold < 2 ^ 62 }
@@ -145,7 +148,7 @@ pub fn hear_on<T: Table<LinkKey, Link>>(
     requires room { HasRoom (T.content table.old) }
     requires distinct { HasDistinctKeys link_eq (T.content table.old) }
     requires owned { Owned owners.old.entries (T.content table.old) }
-    ensures ok { OnOk result ((least : LinkKey) → slice_get shown.now.sending 0 ≡ Some least.addr → HearsOn shown.now least hold now (T.content table.old) (T.content table.new)) }
+    ensures ok { OnOk result ((least : LinkKey) → slice_get shown.now.sending 0 ≡ Some least.addr → HearsOn rule.now shown.now least hold now (T.content table.old) (T.content table.new)) }
     ensures room { HasRoom (T.content table.new) }
     ensures distinct { HasDistinctKeys link_eq (T.content table.new) }
     ensures owned { Owned owners.new.entries (T.content table.new) }
@@ -156,7 +159,7 @@ pub fn hear_on<T: Table<LinkKey, Link>>(
             let sending = shown.sending.as_slice();
             end_all(table, owners, sending, Ending::Beside(sending));
             own_all(owners, sending, key)?;
-            renew_at(table, owners, key, now, hold, shown)?;
+            renew_at(table, owners, key, now, hold, shown, rule)?;
             Ok(())
         }
         None => Ok(()),

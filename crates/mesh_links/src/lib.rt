@@ -2,6 +2,7 @@
 #![tactic(auto)]
 
 mod addresses;
+mod admittance;
 mod ending;
 mod expiry;
 mod hearing;
@@ -9,6 +10,7 @@ mod links;
 mod owners;
 mod renewal;
 mod status;
+mod staying;
 
 pub use links::LinkSet;
 pub use mesh_atoms::Shown;

@@ -1,17 +1,19 @@
 //! The set of the links of one interface.
-ghost use Rattle.std.specs.Prelude.{◌≡◌, ◌+◌, ◌<◌, ◌^◌, [], length, slice_get, IfOk, OnOk, Some};
+ghost use Rattle.std.specs.Prelude.{◌≡◌, ◌+◌, ◌<◌, ◌^◌, ◌↔◌, [], length, slice_get, IsTrue, IfOk, OnOk, Some};
 ghost use Rattle.mesh_atoms.specs.Base.{Base, HasDistinctKeys, find, link_eq};
 ghost use Rattle.mesh_atoms.specs.Words.{IsAscending};
 ghost use Rattle.mesh_atoms.specs.declared.tuples.LinkKey.{LinkKey};
-ghost use Rattle.mesh_links.specs.Links.{status_at, SelectorOf, ExpiresLinks, EndsOutside, HearsOn};
+ghost use Rattle.mesh_links.specs.Links.{status_at, SelectorOf, AllStay, AdmitsLinks, ExpiresLinks, EndsOutside, HearsOn};
 
+use crate::admittance::admit_all;
 use crate::ending::{Ending, end_all};
 use crate::expiry::expire_all;
 use crate::hearing::hear_on;
 use crate::owners::purge_after;
-use crate::status::{selector_of, status_of};
+use crate::status::selector_of;
+use crate::staying::all_stay;
 use indexmap::IndexMap;
-use mesh_atoms::{Addr4, Link, LinkKey, LinkStatus, Shown};
+use mesh_atoms::{Addr4, Admit, Link, LinkKey, LinkState, Shown};
 use mesh_expire::Table;
 use std::alloc::{AllocError, Global};
 use std::marker::Model;
@@ -57,11 +59,11 @@ impl<T: Table<LinkKey, Link>> LinkSet<T> {
     }
 
     /// The status of the link with a key; `None` exactly where no link has it (RFC 6130, section 7.1). Takes no memory.
-    pub fn status(&self, key: LinkKey, now: u64) -> Option<LinkStatus>
+    pub fn status(&self, key: LinkKey, now: u64) -> Option<LinkState>
         ensures { result ≡ status_at (find link_eq self.now key) now }
     {
         let (link, _until) = self.table.get(&key)?;
-        Some(status_of(link, now))
+        Some(link.state(now))
     }
 
     /// The selector flag of a SYMMETRIC link that has the sender's address; `None` exactly where there is no such link
@@ -72,21 +74,38 @@ impl<T: Table<LinkKey, Link>> LinkSet<T> {
         selector_of(&self.table, &self.owners, sender, now)
     }
 
-    /// Takes in what a HELLO shows of its link: the link with the sending list is renewed or made, and each other link that
-    /// has an address of that list ends (RFC 6130, section 12.5, and RFC 7181, section 15.3). The moment, the hold time and
-    /// the validity are below 2^62. Copies the sending list where it makes a link, and takes memory for its addresses;
-    /// looks each of them up once. After want of memory the set may only be dropped.
-    pub fn hear(&mut self, now: u64, hold: u64, shown: &Shown) -> Result<(), AllocError>
+    /// Whether nothing becomes of any link at a moment: each is as its quality has it, none is expired, and each is SYMMETRIC
+    /// where it was so at the last moment. The moment and the hold time are below 2^62. Looks at each link once. Takes no memory.
+    pub fn stay(&self, last: u64, now: u64, hold: u64, rule: &Admit) -> bool
+        requires now { now < 2 ^ 62 }
+        requires hold { hold < 2 ^ 62 }
+        ensures { IsTrue result ↔ AllStay rule.now hold last now self.now }
+    {
+        all_stay(&self.table, last, now, hold, rule)
+    }
+
+    /// Takes in what a HELLO shows of its link: the link with the sending list is renewed or made, PENDING where the rule
+    /// doesn't accept its quality, and each other link that has an address of that list ends (RFC 6130, sections 12.5 and 14,
+    /// and RFC 7181, section 15.3). The moment, the hold time and the validity are below 2^62. Copies the sending list where
+    /// it makes a link, and takes memory for its addresses; looks each of them up once. After want of memory the set may only
+    /// be dropped.
+    pub fn hear(
+        &mut self,
+        now: u64,
+        hold: u64,
+        shown: &Shown,
+        rule: &Admit,
+    ) -> Result<(), AllocError>
         requires now { now < 2 ^ 62 }
         requires hold { hold < 2 ^ 62 }
         requires validity { 0 < shown.now.validity }
         requires validity_bound { shown.now.validity < 2 ^ 62 }
         requires ascending { IsAscending shown.now.sending }
         requires some { 0 < length shown.now.sending }
-        ensures ok { OnOk result ((least : LinkKey) → slice_get shown.now.sending 0 ≡ Some least.addr → HearsOn shown.now least hold now self.old self.new) }
+        ensures ok { OnOk result ((least : LinkKey) → slice_get shown.now.sending 0 ≡ Some least.addr → HearsOn rule.now shown.now least hold now self.old self.new) }
         ensures distinct { HasDistinctKeys link_eq self.new }
     {
-        hear_on(&mut self.table, &mut self.owners, now, hold, shown)
+        hear_on(&mut self.table, &mut self.owners, now, hold, shown, rule)
     }
 
     /// Ends each link that has an address among the old ones and one outside the new ones, and gives their number
@@ -102,6 +121,19 @@ impl<T: Table<LinkKey, Link>> LinkSet<T> {
             old,
             Ending::Outside(old, new),
         )
+    }
+
+    /// Brings each link in line with its quality: it is admitted where that is accepted, lost where it is rejected, and else as
+    /// it was. One that becomes lost stays for the hold time at most (RFC 6130, section 14). The moment and the hold time are
+    /// below 2^62. Looks at each link once, and takes memory where one becomes lost. After want of memory the set may only be
+    /// dropped.
+    pub fn admit(&mut self, now: u64, hold: u64, rule: &Admit) -> Result<(), AllocError>
+        requires now { now < 2 ^ 62 }
+        requires hold { hold < 2 ^ 62 }
+        ensures ok { OnOk result (AdmitsLinks rule.now hold now self.old self.new) }
+        ensures distinct { HasDistinctKeys link_eq self.new }
+    {
+        admit_all(&mut self.table, now, hold, rule)
     }
 
     /// Takes out the links that are expired, and link_out and the selector flag of those that aren't SYMMETRIC (RFC 6130,

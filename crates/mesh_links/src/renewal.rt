@@ -1,9 +1,10 @@
-//! What a HELLO makes of the link with its sending list (RFC 6130, section 12.5, and RFC 7181, section 15.3).
+//! What a HELLO makes of the link with its sending list (RFC 6130, sections 12.5 and 14, and RFC 7181, section
+//! 15.3).
 ghost use Rattle.std.specs.Prelude.{◌≡◌, ◌<◌, ◌+◌, ◌^◌, ℕ, IfOk};
 ghost use Rattle.mesh_atoms.specs.Live.{trimmed};
 ghost use Rattle.mesh_atoms.specs.AfterHello.{by_status, by_hearing, made, renewed};
 
-use mesh_atoms::{Link, LinkStatus, Shown};
+use mesh_atoms::{Admit, Link, LinkStatus, Shown, quality_at};
 use std::alloc::AllocError;
 
 /// Takes link_out and the selector flag from a link that isn't SYMMETRIC (RFC 7181, section 8.1).
@@ -77,16 +78,17 @@ pub fn renew(link: &mut Link, until: u64, now: u64, hold: u64, shown: &Shown) ->
     hold_on(link, until, now, hold, shown)
 }
 
-/// The link that is made where none has the sending list.
-pub fn make(shown: &Shown) -> Result<Link, AllocError>
-    ensures { IfOk result (λ link. (now : ℕ) → (link, now + shown.now.validity) ≡ made shown.now now) }
+/// The link that is made where none has the sending list: PENDING where the rule doesn't accept its quality.
+pub fn make(shown: &Shown, rule: &Admit, now: u64) -> Result<Link, AllocError>
+    ensures { IfOk result (λ link. (link, now + shown.now.validity) ≡ made rule.now shown.now now) }
 {
+    let quality = quality_at(rule, shown.sending.as_slice(), now);
     Ok(Link {
         addrs: shown.sending.copy()?,
         heard: 0,
         sym: 0,
-        quality: 0,
-        pending: false,
+        quality,
+        pending: quality < rule.accept,
         lost: false,
         link_in: shown.link_in,
         link_out: None,

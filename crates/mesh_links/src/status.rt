@@ -1,25 +1,12 @@
 //! What a link is at a moment (RFC 6130, section 7.1).
 ghost use Rattle.std.specs.Prelude.{◌≡◌, ◌↔◌, IsTrue, Contains, true};
 ghost use Rattle.mesh_atoms.specs.State.{is_symmetric};
-ghost use Rattle.mesh_links.specs.Links.{status_of, SelectorOf};
+ghost use Rattle.mesh_links.specs.Links.{SelectorOf};
 ghost use Rattle.mesh_links.specs.Owners.{Owned};
 
 use indexmap::IndexMap;
-use mesh_atoms::{Addr4, Link, LinkKey, LinkStatus, contains};
+use mesh_atoms::{Addr4, Link, LinkKey, contains};
 use mesh_expire::Table;
-
-/// The status of a link.
-pub fn status_of(link: &Link, now: u64) -> LinkStatus
-    ensures { result ≡ status_of link.now now }
-{
-    if link.is_symmetric(now) {
-        LinkStatus::Symmetric
-    } else if link.is_heard(now) {
-        LinkStatus::Heard
-    } else {
-        LinkStatus::Lost
-    }
-}
 
 /// Whether the link is SYMMETRIC and has the address.
 fn is_symmetric_with(link: &Link, addr: Addr4, now: u64) -> bool

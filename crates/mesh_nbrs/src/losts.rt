@@ -1,5 +1,5 @@
 //! The set of lost addresses.
-ghost use Rattle.std.specs.Prelude.{◌≡◌, ◌≤◌, ◌&&◌, [], length, not, IfOk, OnOk, None, Some, cond};
+ghost use Rattle.std.specs.Prelude.{◌≡◌, ◌+◌, ◌&&◌, [], length, not, IfOk, OnOk, None, Some, cond};
 ghost use Rattle.std.specs.List.{list_any};
 ghost use Rattle.indexmap.specs.IndexSet.{contains};
 ghost use Rattle.mesh_atoms.specs.Base.{Base, HasDistinctKeys, find, Expires, addr_eq};
@@ -7,7 +7,7 @@ ghost use Rattle.mesh_nbrs.specs.Losts.{SettlesAll};
 
 use indexmap::IndexSet;
 use mesh_atoms::{Addr4, Lost};
-use mesh_expire::Table;
+use mesh_expire::{Table, expire_each};
 use std::alloc::{AllocError, Global};
 use std::marker::Model;
 
@@ -68,13 +68,15 @@ impl<T: Table<Addr4, Lost>> LostSet<T> {
         put_gone(&mut self.table, before, &back, until)
     }
 
-    /// Takes out the lost addresses whose moment is at or below now (RFC 6130, section 13). Takes no memory.
-    pub fn expire(&mut self, now: u64)
+    /// Takes out the lost addresses whose moment is at or below now (RFC 6130, section 13), and gives their number. Takes no
+    /// memory.
+    pub fn expire(&mut self, now: u64) -> usize
         ensures expired { Expires addr_eq now self.old self.new }
-        ensures count { length self.new ≤ length self.old }
+        ensures count { result + length self.new ≡ length self.old }
+        ensures none { result ≡ 0 → self.new ≡ self.old }
         ensures distinct { HasDistinctKeys addr_eq self.new }
     {
-        self.table.expire(now);
+        expire_each(&mut self.table, now)
     }
 }
 

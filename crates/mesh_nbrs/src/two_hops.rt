@@ -1,12 +1,12 @@
 //! The set of the 2-hop tuples of one interface.
-ghost use Rattle.std.specs.Prelude.{◌≡◌, ◌+◌, ◌≤◌, ◌↔◌, [], length, false, if◌then◌else◌, is_some, IfOk, OnOk, OnErr, IsTrue, IsSome, Some, None};
+ghost use Rattle.std.specs.Prelude.{◌≡◌, ◌+◌, ◌↔◌, [], length, false, if◌then◌else◌, is_some, IfOk, OnOk, OnErr, IsTrue, IsSome, Some, None};
 ghost use Rattle.mesh_atoms.specs.Base.{Base, HasDistinctKeys, find, SetsOnly, Expires, two_hop_eq, link_eq};
 ghost use Rattle.mesh_nbrs.specs.TwoHops.{DropsLink};
 
 use crate::keyed::{purge_after, put_keyed, remove_keyed};
 use crate::two_hop_order::drop_all;
 use mesh_atoms::{Addr4, LinkKey, Metric, TwoHop, TwoHopKey};
-use mesh_expire::Table;
+use mesh_expire::{Table, expire_each};
 use std::alloc::{AllocError, Global};
 use std::collections::BTreeSet;
 use std::marker::Model;
@@ -103,14 +103,16 @@ impl<T: Table<TwoHopKey, TwoHop>> TwoHopSet<T> {
         drop_all(&mut self.table, &mut self.keys, link)
     }
 
-    /// Takes out the tuples whose moment is at or below now (RFC 6130, section 13). Takes no memory. Where some go, all keys
-    /// are looked at.
-    pub fn expire(&mut self, now: u64)
+    /// Takes out the tuples whose moment is at or below now (RFC 6130, section 13), and gives their number. Takes no memory.
+    /// Where some go, all keys are looked at.
+    pub fn expire(&mut self, now: u64) -> usize
         ensures expired { Expires two_hop_eq now self.old self.new }
-        ensures count { length self.new ≤ length self.old }
+        ensures count { result + length self.new ≡ length self.old }
+        ensures none { result ≡ 0 → self.new ≡ self.old }
         ensures distinct { HasDistinctKeys two_hop_eq self.new }
     {
-        let gone = self.table.expire(now);
+        let gone = expire_each(&mut self.table, now);
         purge_after(&mut self.keys, &self.table, gone);
+        gone
     }
 }

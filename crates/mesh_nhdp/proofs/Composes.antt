@@ -2,6 +2,7 @@
 use Rattle.std.proofs.Common.{◌≡◌, ℕ, zero, suc, ◌<◌, ◌≢◌, ◌⊎◌, ◌↔◌, inl, inr, refl, sym, ◌∙◌, ap, subst, arith, List, [], ◌∷◌, length, Contains, slice_index_or, Option, Some, None}
 use Rattle.std.specs.Prelude.{true}
 use Rattle.mesh_atoms.specs.declared.addr.Addr4.{Addr4}
+use Rattle.mesh_atoms.specs.declared.admit.Admit.{Admit}
 use Rattle.mesh_atoms.specs.declared.metric.Metric.{Metric}
 use Rattle.mesh_atoms.specs.declared.tuples.LinkKey.{LinkKey}
 use Rattle.mesh_nbrs.specs.declared.neighbours.LinkNote.{LinkNote}
@@ -22,7 +23,7 @@ use Rattle.mesh_nhdp.proofs.HelloSound.{kept_from}
 
 -- Neighbours: by the notes of all links is by the links
 
-least_metric_iff : (P Q : Metric → Type 0) → ((m : Metric) → P m → Q m) → ((m : Metric) → Q m → P m) → (o : Option Metric) → IsLeastMetric P o → IsLeastMetric Q o
+pub least_metric_iff : (P Q : Metric → Type 0) → ((m : Metric) → P m → Q m) → ((m : Metric) → Q m → P m) → (o : Option Metric) → IsLeastMetric P o → IsLeastMetric Q o
 least_metric_iff P Q to from None none = λ m q. none m (from m q)
 least_metric_iff P Q to from (Some m) least = (to m least.0, λ n q. least.1 n (from n q))
 
@@ -122,19 +123,19 @@ module _ (near : Neighbourhood) (told : Told) (theirs : List Addr4) (is_theirs :
       (find link_eq old key) (find link_eq new key) (ends key)
 
   -- on the interface that hears it
-  pub goes_on_here : (hold now i : ℕ) (old mid new : Base LinkKey Link) (key : LinkKey) → key ≢ told.least → EndsOutside theirs told.listed old mid →
-      HearsOn told.shown told.least hold now mid new → IsKept (λ e. GoesOn near told i i e.0) (find link_eq old key) (find link_eq new key)
-  goes_on_here hold now i old mid new key other ends hears = kept_iff (λ e. ((Meets e.0.addrs theirs × IsBeyond e.0.addrs told.listed) → ⊥) × IsApart told.shown.sending e.0) (λ e. GoesOn near told i i e.0)
+  pub goes_on_here : (rule : Admit) (hold now i : ℕ) (old mid new : Base LinkKey Link) (key : LinkKey) → key ≢ told.least → EndsOutside theirs told.listed old mid →
+      HearsOn rule told.shown told.least hold now mid new → IsKept (λ e. GoesOn near told i i e.0) (find link_eq old key) (find link_eq new key)
+  goes_on_here rule hold now i old mid new key other ends hears = kept_iff (λ e. ((Meets e.0.addrs theirs × IsBeyond e.0.addrs told.listed) → ⊥) × IsApart told.shown.sending e.0) (λ e. GoesOn near told i i e.0)
       (λ e p. record { listed = λ has beyond. p.0 (theirs_meet e.0 has, beyond); apart = λ same. p.1 })
       (λ e g. (λ both. g.listed (meets_theirs e.0 both.0) both.1, g.apart refl))
       (find link_eq old key) (find link_eq new key)
       (kept_twice (λ e. (Meets e.0.addrs theirs × IsBeyond e.0.addrs told.listed) → ⊥) (λ e. IsApart told.shown.sending e.0) (find link_eq old key) (find link_eq mid key) (find link_eq new key) (ends key) (hears.others key other))
 
   -- the link that is renewed stood before where it stands after `end_outside`
-  begins_before : (now : ℕ) (old mid : Option (Link × ℕ)) (start : Link × ℕ) →
-      IsKept (λ e. (Meets e.0.addrs theirs × IsBeyond e.0.addrs told.listed) → ⊥) old mid → Begins told.shown now mid start → Begins told.shown now old start
-  begins_before now old mid start k (Stood e at same) = Stood e (kept_from (λ e. (Meets e.0.addrs theirs × IsBeyond e.0.addrs told.listed) → ⊥) old mid e k at).1 same
-  begins_before now old mid start k (Made none) = Made (λ e at same. still old k e at same)
+  begins_before : (rule : Admit) (now : ℕ) (old mid : Option (Link × ℕ)) (start : Link × ℕ) →
+      IsKept (λ e. (Meets e.0.addrs theirs × IsBeyond e.0.addrs told.listed) → ⊥) old mid → Begins rule told.shown now mid start → Begins rule told.shown now old start
+  begins_before rule now old mid start k (Stood e at same) = Stood e (kept_from (λ e. (Meets e.0.addrs theirs × IsBeyond e.0.addrs told.listed) → ⊥) old mid e k at).1 same
+  begins_before rule now old mid start k (Made none) = Made (λ e at same. still old k e at same)
     where
       not_beyond : (e : Link × ℕ) → e.0.addrs ≡ told.shown.sending → IsBeyond e.0.addrs told.listed → ⊥
       not_beyond e same beyond = let (a, has, not_in) = beyond in not_in (within a (subst (λ (xs : List Addr4). Contains xs a) same has))
@@ -144,11 +145,11 @@ module _ (near : Neighbourhood) (told : Told) (theirs : List Addr4) (is_theirs :
       still (Some f) (inl k) e at same = none f k.1 (ap (λ (x : Link × ℕ). x.0.addrs) (some_same refl at) ∙ same)
       still (Some f) (inr k) e at same = k.0 (λ both. not_beyond f (ap (λ (x : Link × ℕ). x.0.addrs) (some_same refl at) ∙ same) both.1)
 
-  pub hears_link : (hold now : ℕ) (old mid new : Base LinkKey Link) → EndsOutside theirs told.listed old mid → HearsOn told.shown told.least hold now mid new →
-      (start : Link × ℕ) × Begins told.shown now (find link_eq old told.least) start × (find link_eq new told.least ≡ Some (renewed told.shown hold now start))
-  hears_link hold now old mid new ends hears =
+  pub hears_link : (rule : Admit) (hold now : ℕ) (old mid new : Base LinkKey Link) → EndsOutside theirs told.listed old mid → HearsOn rule told.shown told.least hold now mid new →
+      (start : Link × ℕ) × Begins rule told.shown now (find link_eq old told.least) start × (find link_eq new told.least ≡ Some (renewed told.shown hold now start))
+  hears_link rule hold now old mid new ends hears =
       let (start, begins, stands) = hears.one in
-      (start, begins_before now (find link_eq old told.least) (find link_eq mid told.least) start (ends told.least) begins, stands)
+      (start, begins_before rule now (find link_eq old told.least) (find link_eq mid told.least) start (ends told.least) begins, stands)
 
 -- Neighbours: `replace`, and then `expire` by the notes of the new links
 

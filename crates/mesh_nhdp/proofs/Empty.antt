@@ -10,6 +10,9 @@ use Rattle.mesh_atoms.specs.declared.settings.RouterSettings.{RouterSettings}
 use Rattle.mesh_atoms.specs.declared.tuples.TwoHopKey.{TwoHopKey}
 use Rattle.mesh_atoms.specs.declared.tuples.TwoHop.{TwoHop}
 use Rattle.mesh_atoms.specs.Base.{Base, base_of, find, HasDistinctKeys, link_eq, two_hop_eq}
+use Rattle.mesh_atoms.specs.declared.tuples.LinkKey.{LinkKey}
+use Rattle.mesh_atoms.specs.declared.tuples.Link.{Link}
+use Rattle.mesh_atoms.specs.Quality.{admit_on}
 use Rattle.mesh_atoms.specs.State.{Neighbourhood}
 use Rattle.mesh_atoms.specs.TakesHello.{IsHeld}
 use Rattle.mesh_atoms.specs.Words.{AreMoreThan}
@@ -61,6 +64,7 @@ empty_sound settings moment count near counts is = subst (λ (n : Neighbourhood)
   };
   limit = no_addresses count;
   link = λ i key link until at. none_in link_eq (base_of (replicate count []) i) key (link, until) (empty_base count i) at;
+  by_quality = λ i key. subst (λ (base : Base LinkKey Link). admit_on settings i moment (find link_eq base key) ≡ find link_eq base key) (sym (empty_base count i)) refl;
   links_apart = λ i k l e f a at to has as_well. none_in link_eq (base_of (replicate count []) i) k e (empty_base count i) at;
   owner = λ i key link until at. none_in link_eq (base_of (replicate count []) i) key (link, until) (empty_base count i) at;
   neighbour = λ o n until at. not_there at;

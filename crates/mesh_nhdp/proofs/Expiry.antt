@@ -1,6 +1,7 @@
 -- The parts of expiry, interface by interface.
-use Rattle.std.proofs.Common.{◌≡◌, ℕ, ◌+◌, ◌<◌, ◌≤◌, ◌↔◌, inl, inr, refl, sym, ◌∙◌, ap, subst, arith, List, [], ◌∷◌, ◌++◌, length, take, drop, Contains, Result, Ok, Err}
-use Rattle.std.specs.Prelude.{OnOk}
+use Rattle.std.proofs.Common.{◌≡◌, ℕ, ◌+◌, ◌<◌, ◌≤◌, ◌↔◌, inl, inr, refl, sym, ◌∙◌, ap, subst, arith, List, [], ◌∷◌, ◌++◌, length, take, drop, get_or, Contains, Result, Ok, Err}
+use Rattle.std.specs.Prelude.{OnOk, Some, slice_get}
+use Rattle.std.proofs.lemmas.Option.{slice_get_cases}
 use Rattle.std.specs.List.{IsDistinct}
 use Rattle.std.proofs.lemmas.List.{take_all, length-drop}
 use Rattle.mesh_atoms.specs.declared.addr.Addr4.{Addr4}
@@ -10,9 +11,12 @@ use Rattle.mesh_atoms.specs.declared.tuples.TwoHopKey.{TwoHopKey}
 use Rattle.mesh_atoms.specs.declared.tuples.TwoHop.{TwoHop}
 use Rattle.mesh_atoms.specs.declared.tuples.Neighbour.{Neighbour}
 use Rattle.mesh_atoms.specs.declared.tuples.Lost.{Lost}
+use Rattle.mesh_atoms.specs.declared.admit.Admit.{Admit}
+use Rattle.mesh_atoms.specs.declared.settings.Interface.{Interface}
 use Rattle.mesh_atoms.specs.declared.settings.RouterSettings.{RouterSettings}
 use Rattle.mesh_atoms.specs.Base.{Base, Expires, base_of, addr_eq}
 use Rattle.mesh_atoms.specs.State.{Neighbourhood}
+use Rattle.mesh_atoms.specs.Quality.{rule_in, rule_of}
 use Rattle.mesh_atoms.specs.Live.{LiveNeighbourhood}
 use Rattle.mesh_atoms.specs.Sound.{SoundNeighbourhood}
 use Rattle.mesh_nhdp.specs.declared.near_addresses.Wanted.TheVariants.{Symmetric}
@@ -20,6 +24,7 @@ use Rattle.mesh_nhdp.specs.Follows.{FollowsLinks}
 use Rattle.mesh_nhdp.specs.Interfaces.{ExpiresOn}
 use Rattle.mesh_nhdp.specs.Wanted.{IsWantedAddress}
 use Rattle.mesh_nhdp.proofs.Bases.{base_cases}
+use Rattle.mesh_nhdp.proofs.Collect.{item_at}
 use Rattle.mesh_nhdp.proofs.Whole.{live_by_calls}
 use Rattle.mesh_nhdp.proofs.LiveSound.{live_sound}
 
@@ -27,6 +32,13 @@ use Rattle.mesh_nhdp.proofs.LiveSound.{live_sound}
 pub on_ok : {T E : Type 0} {P Q : Type 0} (r : Result T E) → (P → Q) → OnOk r P → OnOk r Q
 on_ok (Ok x) to h = to h
 on_ok (Err e) to h = tt
+
+-- the rule of the interface at a place
+pub face_rule : (settings r : RouterSettings) (i : ℕ) (faces : List Interface) (face : Interface) → faces ≡ settings.interfaces → settings ≡ r → i < length r.interfaces → face ≡ get_or faces i face → face.admit ≡ rule_of r i
+face_rule settings r i faces face faces_are same lt is =
+    let here : faces ≡ r.interfaces = faces_are ∙ ap (λ (s : RouterSettings). s.interfaces) same in
+    let at : slice_get faces i ≡ Some face = item_at faces i face (subst (λ (fs : List Interface). i < length fs) (sym here) lt) is in
+    sym (ap rule_in at) ∙ ap (λ (fs : List Interface). rule_in (slice_get fs i)) here
 
 -- a slice of the whole of a vector is written back whole
 pub written_back : {A : Type 0} (len : ℕ) (new items : List A) → length new ≡ length items → len ≡ length items → take len (new ++ drop (length new) items) ≡ new
@@ -42,34 +54,40 @@ written_back len new items same all =
     append_none (x ∷ xs) = ap (λ rest. x ∷ rest) (append_none xs)
 
 -- where there is no interface
-expires_on_none : (now : ℕ) → ExpiresOn now [] [] [] []
+expires_on_none : (rule : Admit) (hold now : ℕ) → ExpiresOn rule hold now [] [] [] []
 unfolding IsDistinct
-expires_on_none now = record {
+expires_on_none rule hold now = record {
   distinct_links = tt;
   distinct_two_hops = tt;
-  links = λ key. refl;
+  links = ([], (λ key. refl), (λ key. refl));
   two_hops = ([], [], (λ key. refl), record { told = λ key c. absurd (omega (arith, c.1)); all = λ key e is. absurd cc }, (λ key. refl));
 }
 
 module _ (settings : RouterSettings) (moment now : ℕ) (old : Neighbourhood) (S : SoundNeighbourhood settings moment old)
     (links : List (Base LinkKey Link)) (two_hops : List (Base TwoHopKey TwoHop)) (neighbours : Base Addr4 Neighbour) (losts live_losts : Base Addr4 Lost) (before : List Addr4)
     (before_is : (a : Addr4) → Contains before a ↔ IsWantedAddress old.neighbours Symmetric a) (same : length links ≡ length old.links) (same_two_hops : length two_hops ≡ length old.two_hops)
-    (each : (i : ℕ) → i < length old.links → ExpiresOn now (base_of old.links i) (base_of links i) (base_of old.two_hops i) (base_of two_hops i)) (expires : Expires addr_eq now old.losts live_losts)
+    (each : (i : ℕ) → i < length old.links → (face : Interface) → slice_get settings.interfaces i ≡ Some face → ExpiresOn face.admit settings.times.link_hold now (base_of old.links i) (base_of links i) (base_of old.two_hops i) (base_of two_hops i)) (expires : Expires addr_eq now old.losts live_losts)
     (F : FollowsLinks links now before (now + settings.times.neighbour_hold) old.neighbours neighbours live_losts losts) where
   empty_past : {K V : Type 0} (bases : List (Base K V)) (i : ℕ) → length bases ≤ i → base_of bases i ≡ []
   empty_past bases i past = elim (base_cases bases i) [ inl there ↦ absurd (omega (arith, there.0, past)) | inr none ↦ none.1 ]
 
-  on : (i : ℕ) → ExpiresOn now (base_of old.links i) (base_of links i) (base_of old.two_hops i) (base_of two_hops i)
+  on : (i : ℕ) → ExpiresOn (rule_of settings i) settings.times.link_hold now (base_of old.links i) (base_of links i) (base_of old.two_hops i) (base_of two_hops i)
   on i = elim (base_cases old.links i) [
-    | inl there ↦ each i there.0
+    | inl there ↦ by_face there.0
     | inr past ↦
         let counts = S.interfaces in
         let counts_too = S.two_hop_interfaces in
-        subst (λ b. ExpiresOn now b (base_of links i) (base_of old.two_hops i) (base_of two_hops i)) (sym past.1)
-        (subst (λ b. ExpiresOn now [] b (base_of old.two_hops i) (base_of two_hops i)) (sym (empty_past links i (omega (arith, past.0, same))))
-        (subst (λ b. ExpiresOn now [] [] b (base_of two_hops i)) (sym (empty_past old.two_hops i (omega (arith, past.0, counts, counts_too))))
-        (subst (λ b. ExpiresOn now [] [] [] b) (sym (empty_past two_hops i (omega (arith, past.0, same_two_hops, counts, counts_too)))) (expires_on_none now))))
+        subst (λ b. ExpiresOn (rule_of settings i) settings.times.link_hold now b (base_of links i) (base_of old.two_hops i) (base_of two_hops i)) (sym past.1)
+        (subst (λ b. ExpiresOn (rule_of settings i) settings.times.link_hold now [] b (base_of old.two_hops i) (base_of two_hops i)) (sym (empty_past links i (omega (arith, past.0, same))))
+        (subst (λ b. ExpiresOn (rule_of settings i) settings.times.link_hold now [] [] b (base_of two_hops i)) (sym (empty_past old.two_hops i (omega (arith, past.0, counts, counts_too))))
+        (subst (λ b. ExpiresOn (rule_of settings i) settings.times.link_hold now [] [] [] b) (sym (empty_past two_hops i (omega (arith, past.0, same_two_hops, counts, counts_too)))) (expires_on_none (rule_of settings i) settings.times.link_hold now))))
   ]
+    where
+      by_face : i < length old.links → ExpiresOn (rule_of settings i) settings.times.link_hold now (base_of old.links i) (base_of links i) (base_of old.two_hops i) (base_of two_hops i)
+      by_face within = elim ((slice_get_cases settings.interfaces i).1) [
+        | inl there ↦ subst (λ (rule : Admit). ExpiresOn rule settings.times.link_hold now (base_of old.links i) (base_of links i) (base_of old.two_hops i) (base_of two_hops i)) (sym (ap rule_in there.2)) (each i within there.0 there.2)
+        | inr past ↦ let counts = S.interfaces in absurd (omega (arith, within, counts, past.0))
+      ]
 
   pub expiry_is : LiveNeighbourhood settings now old (record { links = links; two_hops = two_hops; neighbours = neighbours; losts = losts })
   expiry_is = live_by_calls settings moment now old (record { links = links; two_hops = two_hops; neighbours = neighbours; losts = losts }) S (record {
@@ -95,12 +113,12 @@ module _ (settings : RouterSettings) (moment now : ℕ) (old : Neighbourhood) (S
       (let least = settings.times.sound.neighbour_hold_range.least in omega (arith, least))
 
 -- expiry, as the calls on the fields of a neighbourhood leave them
-pub expiry_runs : (settings : RouterSettings) (moment now until : ℕ) (old : Neighbourhood) (old_links items links seen : List (Base LinkKey Link)) (old_two_hops items_two_hops two_hops : List (Base TwoHopKey TwoHop))
+pub expiry_runs : (settings : RouterSettings) (faces : List Interface) (moment now hold until : ℕ) (old : Neighbourhood) (old_links items links seen : List (Base LinkKey Link)) (old_two_hops items_two_hops two_hops : List (Base TwoHopKey TwoHop))
     (old_neighbours neighbours seen_neighbours : Base Addr4 Neighbour) (old_losts losts live_losts : Base Addr4 Lost) (before seen_before : List Addr4) (len len_two_hops : ℕ) →
-    SoundNeighbourhood settings moment old → old ≡ record { links = items; two_hops = items_two_hops; neighbours = old_neighbours; losts = old_losts } → until ≡ now + settings.times.neighbour_hold →
+    faces ≡ settings.interfaces → hold ≡ settings.times.link_hold → SoundNeighbourhood settings moment old → old ≡ record { links = items; two_hops = items_two_hops; neighbours = old_neighbours; losts = old_losts } → until ≡ now + settings.times.neighbour_hold →
     old_links ≡ items → old_two_hops ≡ items_two_hops → len ≡ length old_links → len_two_hops ≡ length old_two_hops → length links ≡ length old_links → length two_hops ≡ length old_two_hops →
     seen_neighbours ≡ old_neighbours → ((a : Addr4) → Contains before a ↔ IsWantedAddress seen_neighbours Symmetric a) →
-    ((i : ℕ) → i < length old_links → ExpiresOn now (base_of old_links i) (base_of links i) (base_of old_two_hops i) (base_of two_hops i)) → Expires addr_eq now old_losts live_losts →
+    ((i : ℕ) → i < length old_links → (face : Interface) → slice_get faces i ≡ Some face → ExpiresOn face.admit hold now (base_of old_links i) (base_of links i) (base_of old_two_hops i) (base_of two_hops i)) → Expires addr_eq now old_losts live_losts →
     seen ≡ take len (links ++ drop (length links) items) → seen_before ≡ before → FollowsLinks seen now seen_before until old_neighbours neighbours live_losts losts →
     (LiveNeighbourhood settings now old (record {
       links = take len (links ++ drop (length links) items);
@@ -113,8 +131,8 @@ pub expiry_runs : (settings : RouterSettings) (moment now until : ℕ) (old : Ne
       neighbours = neighbours;
       losts = losts;
     }))
-expiry_runs settings moment now until old old_links items links seen old_two_hops items_two_hops two_hops old_neighbours neighbours seen_neighbours old_losts losts live_losts before seen_before len len_two_hops
-    S from_items until_is is_items is_items_two_hops all all_two_hops same same_two_hops sees before_is each expires seen_is seen_before_is F =
+expiry_runs settings faces moment now hold until old old_links items links seen old_two_hops items_two_hops two_hops old_neighbours neighbours seen_neighbours old_losts losts live_losts before seen_before len len_two_hops
+    faces_are hold_is S from_items until_is is_items is_items_two_hops all all_two_hops same same_two_hops sees before_is each expires seen_is seen_before_is F =
     let whole : take len (links ++ drop (length links) items) ≡ links = written_back len links items (same ∙ ap length is_items) (all ∙ ap length is_items) in
     let whole_two_hops : take len_two_hops (two_hops ++ drop (length two_hops) items_two_hops) ≡ two_hops = written_back len_two_hops two_hops items_two_hops (same_two_hops ∙ ap length is_items_two_hops) (all_two_hops ∙ ap length is_items_two_hops) in
     let O : Neighbourhood = record { links = old_links; two_hops = old_two_hops; neighbours = old_neighbours; losts = old_losts } in
@@ -127,8 +145,11 @@ expiry_runs settings moment now until old old_links items links seen old_two_hop
     (subst (λ (b : List Addr4). FollowsLinks seen now b (now + settings.times.neighbour_hold) old_neighbours neighbours live_losts losts) seen_before_is
     (subst (λ (u : ℕ). FollowsLinks seen now seen_before u old_neighbours neighbours live_losts losts) until_is F)) in
     let wanted : (a : Addr4) → Contains before a ↔ IsWantedAddress old_neighbours Symmetric a = subst (λ (b : Base Addr4 Neighbour). (a : Addr4) → Contains before a ↔ IsWantedAddress b Symmetric a) sees before_is in
-    let live = expiry_is settings moment now O begins links two_hops neighbours losts live_losts before wanted same same_two_hops each expires follows in
-    let sound = expiry_sound settings moment now O begins links two_hops neighbours losts live_losts before wanted same same_two_hops each expires follows in (
+    let each_by : (i : ℕ) → i < length old_links → (face : Interface) → slice_get settings.interfaces i ≡ Some face → ExpiresOn face.admit settings.times.link_hold now (base_of old_links i) (base_of links i) (base_of old_two_hops i) (base_of two_hops i) =
+    subst (λ (h : ℕ). (i : ℕ) → i < length old_links → (face : Interface) → slice_get settings.interfaces i ≡ Some face → ExpiresOn face.admit h now (base_of old_links i) (base_of links i) (base_of old_two_hops i) (base_of two_hops i)) hold_is
+    (subst (λ (fs : List Interface). (i : ℕ) → i < length old_links → (face : Interface) → slice_get fs i ≡ Some face → ExpiresOn face.admit hold now (base_of old_links i) (base_of links i) (base_of old_two_hops i) (base_of two_hops i)) faces_are each) in
+    let live = expiry_is settings moment now O begins links two_hops neighbours losts live_losts before wanted same same_two_hops each_by expires follows in
+    let sound = expiry_sound settings moment now O begins links two_hops neighbours losts live_losts before wanted same same_two_hops each_by expires follows in (
       subst (λ (o : Neighbourhood). LiveNeighbourhood settings now o (record { links = take len (links ++ drop (length links) items); two_hops = take len_two_hops (two_hops ++ drop (length two_hops) items_two_hops); neighbours = neighbours; losts = losts })) (sym is)
           (subst (λ (ls : List (Base LinkKey Link)). LiveNeighbourhood settings now O (record { links = ls; two_hops = take len_two_hops (two_hops ++ drop (length two_hops) items_two_hops); neighbours = neighbours; losts = losts })) (sym whole)
           (subst (λ (hs : List (Base TwoHopKey TwoHop)). LiveNeighbourhood settings now O (record { links = links; two_hops = hs; neighbours = neighbours; losts = losts })) (sym whole_two_hops) live)),

@@ -14,6 +14,7 @@ use Rattle.mesh_atoms.specs.declared.tuples.Lost.{Lost}
 use Rattle.mesh_atoms.specs.declared.settings.RouterSettings.{RouterSettings}
 use Rattle.mesh_atoms.specs.Base.{Base, HasDistinctKeys, find, base_of, link_eq, two_hop_eq}
 use Rattle.mesh_atoms.specs.State.{Neighbourhood}
+use Rattle.mesh_atoms.specs.Quality.{rule_of}
 use Rattle.mesh_atoms.specs.HelloTold.{Told, Tells}
 use Rattle.mesh_atoms.specs.AfterHello.{AfterHello}
 use Rattle.mesh_atoms.specs.Words.{IsKept}
@@ -41,7 +42,7 @@ module _ (settings : RouterSettings) (now i : ℕ) (sender : Addr4) (told : Told
     (links : List (Base LinkKey Link)) (mids two_hops : List (Base TwoHopKey TwoHop)) (replaced neighbours : Base Addr4 Neighbour) (losts : Base Addr4 Lost) (started : Base TwoHopKey TwoHop)
     (theirs before : List Addr4) (until : ℕ) (theirs_are : (a : Addr4) → Contains theirs a ↔ IsTheirs old told a) (before_is : (a : Addr4) → Contains before a ↔ IsWantedAddress old.neighbours Symmetric a)
     (same : length links ≡ length old.links) (same_mids : length mids ≡ length old.two_hops) (same_two_hops : length two_hops ≡ length mids)
-    (each : (j : ℕ) → j < length old.links → HearsAt told.shown told.least theirs told.listed settings.times.link_hold now (nat_eq j i) (base_of old.links j) (base_of links j) (base_of old.two_hops j) (base_of mids j))
+    (each : (j : ℕ) → j < length old.links → HearsAt (rule_of settings i) told.shown told.least theirs told.listed settings.times.link_hold now (nat_eq j i) (base_of old.links j) (base_of links j) (base_of old.two_hops j) (base_of mids j))
     (elsewhere : (j : ℕ) → j ≢ i → base_of two_hops j ≡ base_of mids j) (distinct_here : HasDistinctKeys two_hop_eq (base_of two_hops i))
     (starts : Starts old i told (base_of mids i) started)
     (rows : is_symmetric_in (base_of links i) now told.least ≡ true → TellsTwoHops settings told hello told.least (now + told.shown.validity) started (base_of two_hops i))

@@ -25,6 +25,9 @@ use Rattle.mesh_atoms.specs.AfterHello.{AfterHello, Begins, Stood, Made, renewed
 use Rattle.mesh_atoms.specs.TakesHello.{IsHeld, IsFault, Local, Originator, Sender, IsFullOfAddresses, FitsTwoHops}
 use Rattle.mesh_atoms.specs.Sound.{SoundNeighbourhood, IsSoundLink, IsSoundNeighbour}
 use Rattle.mesh_atoms.proofs.Lookups.{two_hop_equiv}
+use Rattle.mesh_atoms.specs.declared.admit.Admit.{Admit}
+use Rattle.mesh_atoms.specs.Quality.{admit_on, rule_of}
+use Rattle.mesh_nhdp.proofs.Admitted.{FollowsQuality, IsAlike, made_follows, follows_alike, follows_if_stays, admit_stays, renewed_alike}
 use Rattle.mesh_nhdp.proofs.Limits.{no_more, found_left, found_right, entries_at, length_entries, found_entry}
 use Rattle.mesh_nhdp.proofs.Lookups.{Contains_at, some_same, none_not, cond_from, same_address, same_key, contains_or_not}
 use Rattle.mesh_nhdp.proofs.LiveSound.{is_trimmed, restores_from, restores_to, settles_back, settles_from}
@@ -57,7 +60,7 @@ hearing_later shown hold now e later =
 
 -- what the renewed link is
 record IsRenewed (shown : Shown) (now : ℕ) (e r : Link × ℕ) : Type 0 where
-  pub addrs : r.0.addrs ≡ e.0.addrs
+  pub alike : IsAlike e.0 r.0
   pub later : now < e.1 → now < r.1
   pub link_out : is_symmetric r.0 now ≡ false → r.0.link_out ≡ None
   pub selector : is_symmetric r.0 now ≡ false → r.0.selector ≡ false
@@ -67,13 +70,13 @@ is_renewed shown hold now e holds =
     let f : Link × ℕ = by_status shown hold now shown.status e in
     let t = is_trimmed now f in
     record {
-      addrs = t.addrs ∙ status_addrs shown hold now shown.status e;
+      alike = renewed_alike shown hold now e;
       later = λ h. hearing_later shown hold now (trimmed now f) (subst (λ (n : ℕ). now < n) (sym t.until) (status_later shown hold now shown.status e holds h));
       link_out = t.link_out;
       selector = t.selector;
     }
 
-begins_addrs : {shown : Shown} {now : ℕ} {old : Option (Link × ℕ)} {start : Link × ℕ} → Begins shown now old start → start.0.addrs ≡ shown.sending
+begins_addrs : {rule : Admit} {shown : Shown} {now : ℕ} {old : Option (Link × ℕ)} {start : Link × ℕ} → Begins rule shown now old start → start.0.addrs ≡ shown.sending
 begins_addrs (Stood e at same) = same
 begins_addrs (Made none) = refl
 
@@ -89,7 +92,7 @@ module _ (settings : RouterSettings) (now i : ℕ) (sender : Addr4) (hello : Hel
   -- a link after the HELLO: the one that it renews, or one that goes on
   pub data IsLink (j : ℕ) (key : LinkKey) (e : Link × ℕ) : Type 0 where
     One : j ≡ i → key ≡ told.least → e.0.addrs ≡ told.shown.sending → now < e.1 → (is_symmetric e.0 now ≡ false → e.0.link_out ≡ None) →
-        (is_symmetric e.0 now ≡ false → e.0.selector ≡ false) → IsLink j key e
+        (is_symmetric e.0 now ≡ false → e.0.selector ≡ false) → FollowsQuality (rule_of settings j) now e.0 → IsLink j key e
     Goes : ((j ≢ i) ⊎ (key ≢ told.least)) → GoesOn old told i j e.0 → link_at old j key ≡ Some e → IsLink j key e
 
   the_link : (e : Link × ℕ) → link_at new i told.least ≡ Some e → IsLink i told.least e
@@ -98,9 +101,14 @@ module _ (settings : RouterSettings) (now i : ℕ) (sender : Addr4) (hello : Hel
       let r = is_renewed told.shown settings.times.link_hold now start holds in
       let same : renewed told.shown settings.times.link_hold now start ≡ e = some_same stands is in
       subst (λ (x : Link × ℕ). IsLink i told.least x) same
-      (One refl refl (r.addrs ∙ begins_addrs begins) (r.later (begins_later begins)) r.link_out r.selector)
+      (One refl refl (r.alike.addrs ∙ begins_addrs begins) (r.later (begins_later begins)) r.link_out r.selector
+      (follows_alike (rule_of settings i) now start.0 (renewed told.shown settings.times.link_hold now start).0 r.alike (begins_follows begins)))
     where
-      begins_later : {start : Link × ℕ} → Begins told.shown now (link_at old i told.least) start → now < start.1
+      begins_follows : {start : Link × ℕ} → Begins (rule_of settings i) told.shown now (link_at old i told.least) start → FollowsQuality (rule_of settings i) now start.0
+      begins_follows (Stood e at same) = follows_if_stays settings i now (link_at old i told.least) e (S.by_quality i told.least) at
+      begins_follows (Made none) = made_follows (rule_of settings i) told.shown now
+
+      begins_later : {start : Link × ℕ} → Begins (rule_of settings i) told.shown now (link_at old i told.least) start → now < start.1
       begins_later (Stood e at same) = ltb-true now e.1 (S.fresh_links i told.least e.0 e.1 at)
       begins_later (Made none) = omega (arith, lasts)
 
@@ -127,7 +135,7 @@ module _ (settings : RouterSettings) (now i : ℕ) (sender : Addr4) (hello : Hel
   sound_link j key link until is = by_case (link_is j key (link, until) is)
     where
       by_case : IsLink j key (link, until) → IsSoundLink now key link
-      by_case (One same at addrs later out selector) = record {
+      by_case (One same at addrs later out selector follows) = record {
         least = subst (λ (xs : List Addr4). slice_get xs 0 ≡ Some key.addr) (sym addrs) (subst (λ (k : LinkKey). slice_get told.shown.sending 0 ≡ Some k.addr) (sym at) T.least);
         ascending = subst (λ (xs : List Addr4). IsAscending xs) (sym addrs) T.sending.0;
         link_out = out;
@@ -139,8 +147,15 @@ module _ (settings : RouterSettings) (now i : ℕ) (sender : Addr4) (hello : Hel
   fresh_link j key link until is = by_case (link_is j key (link, until) is)
     where
       by_case : IsLink j key (link, until) → nat_lt now until ≡ true
-      by_case (One same at addrs later out selector) = lt-ltb now until later
+      by_case (One same at addrs later out selector follows) = lt-ltb now until later
       by_case (Goes other goes was) = S.fresh_links j key link until was
+
+  by_quality : (j : ℕ) (key : LinkKey) → admit_on settings j now (link_at new j key) ≡ link_at new j key
+  by_quality j key = admit_stays settings j now (link_at new j key) (λ e is. by_case e (link_is j key e is))
+    where
+      by_case : (e : Link × ℕ) → IsLink j key e → FollowsQuality (rule_of settings j) now e.0
+      by_case e (One same at addrs later out selector follows) = follows
+      by_case e (Goes other goes was) = follows_if_stays settings j now (link_at old j key) e (S.by_quality j key) was
 
   -- a link that goes on and shares an address with the sending list is the one
   meets_one : (key : LinkKey) (e : Link × ℕ) (a : Addr4) → GoesOn old told i i e.0 → link_at old i key ≡ Some e → Contains e.0.addrs a → Contains told.shown.sending a → key ≡ told.least
@@ -157,11 +172,11 @@ module _ (settings : RouterSettings) (now i : ℕ) (sender : Addr4) (hello : Hel
   links_apart j k l e f a at to has as_well = by_case (link_is j k e at) (link_is j l f to)
     where
       by_case : IsLink j k e → IsLink j l f → k ≡ l
-      by_case (One same one addrs _ _ _) (One _ one_too _ _ _ _) = one ∙ sym one_too
-      by_case (One same one addrs _ _ _) (Goes other goes was) =
+      by_case (One same one addrs _ _ _ _) (One _ one_too _ _ _ _ _) = one ∙ sym one_too
+      by_case (One same one addrs _ _ _ _) (Goes other goes was) =
           one ∙ sym (meets_one l f a (subst (λ (n : ℕ). GoesOn old told i n f.0) same goes) (subst (λ (n : ℕ). link_at old n l ≡ Some f) same was) as_well
           (subst (λ (xs : List Addr4). Contains xs a) addrs has))
-      by_case (Goes other goes was) (One same one addrs _ _ _) =
+      by_case (Goes other goes was) (One same one addrs _ _ _ _) =
           meets_one k e a (subst (λ (n : ℕ). GoesOn old told i n e.0) same goes) (subst (λ (n : ℕ). link_at old n k ≡ Some e) same was) has
           (subst (λ (xs : List Addr4). Contains xs a) addrs as_well) ∙ sym one
       by_case (Goes _ _ was) (Goes _ _ was_too) = S.links_apart j k l e f a was was_too has as_well
@@ -277,7 +292,7 @@ module _ (settings : RouterSettings) (now i : ℕ) (sender : Addr4) (hello : Hel
           (o, g.0, g.1, stands, λ a has. subst (λ (xs : List Addr4). Contains xs a) (sym renews.addrs) (within a has))
 
       by_case : IsLink j key (link, until) → IsOwned link
-      by_case (One same one addrs later out selector) =
+      by_case (One same one addrs later out selector follows) =
           owned_by_announced j key (link, until) is has_least (λ a has. listed_if_sending a (subst (λ (xs : List Addr4). Contains xs a) addrs has))
       by_case (Goes other goes was) =
           let (o, n, u, at, within) = S.owner j key link until was in
@@ -456,6 +471,7 @@ module _ (settings : RouterSettings) (now i : ℕ) (sender : Addr4) (hello : Hel
     };
     limit = λ more. let (some, distinct, all, many) = more in fits (some, distinct, λ a has. held_is a (all a has), many);
     link = sound_link;
+    by_quality = by_quality;
     links_apart = links_apart;
     owner = owner;
     neighbour = sound_neighbour;

@@ -1,5 +1,7 @@
+pub mod Admitted
 mod AllHears
 mod AllNotes
+mod BesideWalk
 pub mod Empty
 mod Expiry
 pub mod Fits
@@ -16,6 +18,7 @@ mod Receipt
 mod RowWalks
 mod Senders
 pub mod Somewhere
+mod Unchanged
 pub mod Ascending
 pub mod Bases
 pub mod Collect

@@ -17,6 +17,8 @@ use Rattle.mesh_atoms.specs.Words.{IsAscending}
 use Rattle.mesh_atoms.specs.TakesHello.{IsHeld}
 use Rattle.mesh_atoms.specs.Sound.{SoundNeighbourhood, IsSoundLink, IsSoundNeighbour}
 use Rattle.mesh_atoms.proofs.Lookups.{two_hop_equiv}
+use Rattle.mesh_atoms.specs.Quality.{admit_on, rule_of}
+use Rattle.mesh_nhdp.proofs.Admitted.{FollowsQuality, IsAlike, admitted_follows, admitted_addrs, follows_alike, admit_from, admit_stays}
 use Rattle.mesh_nhdp.proofs.Limits.{no_more}
 use Rattle.mesh_nhdp.proofs.Lookups.{Contains_at, some_same, none_not, live_from, cond_from}
 
@@ -24,7 +26,7 @@ use Rattle.mesh_nhdp.proofs.Lookups.{Contains_at, some_same, none_not, live_from
 
 -- what trimming leaves
 pub record IsTrimmed (now : ℕ) (e t : Link × ℕ) : Type 0 where
-  pub addrs : t.0.addrs ≡ e.0.addrs
+  pub alike : IsAlike e.0 t.0
   pub until : t.1 ≡ e.1
   pub link_out : is_symmetric t.0 now ≡ false → t.0.link_out ≡ None
   pub selector : is_symmetric t.0 now ≡ false → t.0.selector ≡ false
@@ -33,33 +35,38 @@ pub is_trimmed : (now : ℕ) (e : Link × ℕ) → IsTrimmed now e (trimmed now 
 is_trimmed now e = by_case (is_symmetric e.0 now) refl
   where
     by_case : (b : Bool) → is_symmetric e.0 now ≡ b → IsTrimmed now e (cond b e (record e.0 { link_out = None; selector = false }, e.1))
-    by_case true is = record { addrs = refl; until = refl; link_out = λ h. absurd (false≢true (sym h ∙ is)); selector = λ h. absurd (false≢true (sym h ∙ is)) }
-    by_case false is = record { addrs = refl; until = refl; link_out = λ h. refl; selector = λ h. refl }
+    by_case true is = record { alike = record { addrs = refl; quality = refl; pending = refl; lost = refl }; until = refl; link_out = λ h. absurd (false≢true (sym h ∙ is)); selector = λ h. absurd (false≢true (sym h ∙ is)) }
+    by_case false is = record { alike = record { addrs = refl; quality = refl; pending = refl; lost = refl }; until = refl; link_out = λ h. refl; selector = λ h. refl }
 
 -- where a link that is left comes from
-pub record ComesFrom (now : ℕ) (old : Option (Link × ℕ)) (e : Link × ℕ) : Type 0 where
+pub record ComesFrom (settings : RouterSettings) (i now : ℕ) (old : Option (Link × ℕ)) (e : Link × ℕ) : Type 0 where
   pub was : Link × ℕ
   pub stood : old ≡ Some was
   pub addrs : e.0.addrs ≡ was.0.addrs
   pub live : nat_lt now e.1 ≡ true
   pub link_out : is_symmetric e.0 now ≡ false → e.0.link_out ≡ None
   pub selector : is_symmetric e.0 now ≡ false → e.0.selector ≡ false
+  pub follows : FollowsQuality (rule_of settings i) now e.0
 
 pub trim_from : (now : ℕ) (o : Option (Link × ℕ)) (e : Link × ℕ) → trim now o ≡ Some e → (f : Link × ℕ) × (o ≡ Some f) × IsTrimmed now f e
 trim_from now None e h = none_not refl h
 trim_from now (Some f) e h = (f, refl, subst (λ (g : Link × ℕ). IsTrimmed now f g) (some_same refl h) (is_trimmed now f))
 
-pub link_from : (now : ℕ) (old new : Option (Link × ℕ)) (e : Link × ℕ) → new ≡ trim now (if_live now old) → new ≡ Some e → ComesFrom now old e
-link_from now old new e is at =
-    let (g, live, t) = trim_from now (if_live now old) e (sym is ∙ at) in
-    let (stood, later) = live_from now old g live in
+pub link_from : (settings : RouterSettings) (i now : ℕ) (old new : Option (Link × ℕ)) (e : Link × ℕ) → new ≡ trim now (if_live now (admit_on settings i now old)) → new ≡ Some e → ComesFrom settings i now old e
+link_from settings i now old new e is at =
+    let rule = rule_of settings i in
+    let hold = settings.times.link_hold in
+    let (h, live, t) = trim_from now (if_live now (admit_on settings i now old)) e (sym is ∙ at) in
+    let (admits, later) = live_from now (admit_on settings i now old) h live in
+    let (g, stood, same) = admit_from settings i now old h admits in
     record {
       was = g;
       stood = stood;
-      addrs = t.addrs;
+      addrs = t.alike.addrs ∙ (ap (λ (x : Link × ℕ). x.0.addrs) same ∙ admitted_addrs rule hold now g);
       live = subst (λ (n : ℕ). nat_lt now n ≡ true) (sym t.until) later;
       link_out = t.link_out;
       selector = t.selector;
+      follows = follows_alike rule now h.0 e.0 t.alike (subst (λ (x : Link × ℕ). FollowsQuality rule now x.0) (sym same) (admitted_follows rule hold now g));
     }
 
 -- Neighbours
@@ -92,8 +99,8 @@ settles_from {e = e} (Gone w not_is set) stands = inl (w, ap (λ (x : Lost × �
 settles_from (Stays not_was not_is same) stands = inr (sym same ∙ stands)
 
 module _ (settings : RouterSettings) (before now : ℕ) (old new : Neighbourhood) (S : SoundNeighbourhood settings before old) (L : LiveNeighbourhood settings now old new) where
-  pub link_was : (i : ℕ) (key : LinkKey) (e : Link × ℕ) → link_at new i key ≡ Some e → ComesFrom now (link_at old i key) e
-  link_was i key e is = link_from now (link_at old i key) (link_at new i key) e (L.links i key) is
+  pub link_was : (i : ℕ) (key : LinkKey) (e : Link × ℕ) → link_at new i key ≡ Some e → ComesFrom settings i now (link_at old i key) e
+  link_was i key e is = link_from settings i now (link_at old i key) (link_at new i key) e (L.links i key) is
 
   pub neighbour_was : (o : Addr4) (f : Neighbour × ℕ) → neighbour_at new o ≡ Some f → (e : Neighbour × ℕ) × (neighbour_at old o ≡ Some e) × Renews new now e.0 f.0 f.1
   neighbour_was o f is = restores_from new now (neighbour_at old o) (neighbour_at new o) f (L.neighbours o) is
@@ -108,6 +115,9 @@ module _ (settings : RouterSettings) (before now : ℕ) (old new : Neighbourhood
         link_out = c.link_out;
         selector = c.selector;
       }
+
+  new_by_quality : (i : ℕ) (key : LinkKey) → admit_on settings i now (link_at new i key) ≡ link_at new i key
+  new_by_quality i key = admit_stays settings i now (link_at new i key) (λ e is. (link_was i key e is).follows)
 
   new_apart : (i : ℕ) (k l : LinkKey) (e f : Link × ℕ) (a : Addr4) → link_at new i k ≡ Some e → link_at new i l ≡ Some f →
       Contains e.0.addrs a → Contains f.0.addrs a → k ≡ l
@@ -207,6 +217,7 @@ module _ (settings : RouterSettings) (before now : ℕ) (old new : Neighbourhood
     };
     limit = λ more. let (some, distinct, all, many) = more in S.limit (some, distinct, λ a has. held_was a (all a has), many);
     link = new_link;
+    by_quality = new_by_quality;
     links_apart = new_apart;
     owner = new_owner;
     neighbour = new_neighbour;

@@ -18,7 +18,9 @@ use Rattle.mesh_atoms.specs.declared.tuples.Neighbour.{Neighbour}
 use Rattle.mesh_atoms.specs.Base.{Base, Has}
 use Rattle.mesh_atoms.specs.Hello.{status_said, Says, SaysLink, HasLinkTo, Link_in, Link_out, Near_in, Near_out, Flooding, Routing, link_part, local_part, other_part}
 use Rattle.mesh_atoms.specs.Words.{IsValue}
-use Rattle.mesh_atoms.specs.State.{State, LinkState, Is_pending, Is_lost, Is_symmetric, Is_heard, state_of, HasLink, HasSymmetricWith, HasAddressOn}
+use Rattle.mesh_atoms.specs.declared.tuples.LinkState.{LinkState}
+use Rattle.mesh_atoms.specs.declared.tuples.LinkState.TheVariants.{Pending as Is_pending, Lost as Is_lost, Symmetric as Is_symmetric, Heard as Is_heard}
+use Rattle.mesh_atoms.specs.State.{State, state_of, HasLink, HasSymmetricWith, HasAddressOn}
 use Rattle.mesh_expire.specs.Table.{entry_of}
 use Rattle.mesh_nhdp.proofs.Lookups.{some_same}
 use Rattle.mesh_nhdp.specs.Said.{IsLinkWith, IsNeighbourWith, AreDisjoint, IsLocalOn, IsRelayOf, IsFloodingRelay, link_status_said, other_said, link_in_said, link_out_said, near_in_said, near_out_said}

@@ -10,9 +10,11 @@ use Rattle.mesh_atoms.specs.declared.tuples.TwoHopKey.{TwoHopKey}
 use Rattle.mesh_atoms.specs.declared.tuples.TwoHop.{TwoHop}
 use Rattle.mesh_atoms.specs.declared.tuples.Neighbour.{Neighbour}
 use Rattle.mesh_atoms.specs.declared.tuples.Lost.{Lost}
+use Rattle.mesh_atoms.specs.declared.admit.Admit.{Admit}
 use Rattle.mesh_atoms.specs.declared.settings.RouterSettings.{RouterSettings}
 use Rattle.mesh_atoms.specs.Base.{Base, addr_eq, base_of, find, two_hop_eq}
 use Rattle.mesh_atoms.specs.State.{Neighbourhood, HasAddress}
+use Rattle.mesh_atoms.specs.Quality.{rule_of}
 use Rattle.mesh_atoms.specs.HelloTold.{Told, Tells}
 use Rattle.mesh_atoms.specs.AfterHello.{AfterHello, IsTheirs, Matches}
 use Rattle.mesh_atoms.specs.TakesHello.{IsFault}
@@ -27,9 +29,9 @@ use Rattle.mesh_nhdp.proofs.Hears.{hears_is}
 use Rattle.mesh_nhdp.proofs.Whole.{Starts, Goes_on, Anew}
 
 -- the tuples of the link start as the link does
-starts_by : (old : Neighbourhood) (i : ℕ) (told : Told) (theirs own : List Addr4) (hold now : ℕ) (hello : Hello) (links : List (Base LinkKey Link)) (two_hops : List (Base TwoHopKey TwoHop)) →
-    (H : HearsInterfaces told.shown told.least theirs told.listed own hold now i hello old.links links old.two_hops two_hops) → Starts old i told (base_of H.mids i) H.updates.started
-starts_by old i told theirs own hold now hello links two_hops H = by_case H.stood refl
+starts_by : (rule : Admit) (old : Neighbourhood) (i : ℕ) (told : Told) (theirs own : List Addr4) (hold now : ℕ) (hello : Hello) (links : List (Base LinkKey Link)) (two_hops : List (Base TwoHopKey TwoHop)) →
+    (H : HearsInterfaces rule told.shown told.least theirs told.listed own hold now i hello old.links links old.two_hops two_hops) → Starts old i told (base_of H.mids i) H.updates.started
+starts_by rule old i told theirs own hold now hello links two_hops H = by_case H.stood refl
   where
     by_case : (b : Bool) → H.stood ≡ b → Starts old i told (base_of H.mids i) H.updates.started
     by_case true is = let (e, at, same) = H.stood_is.0 is in Goes_on e at same (λ key. ap (λ (b : Base TwoHopKey TwoHop). find two_hop_eq b key) (H.updates.goes_on is))
@@ -39,22 +41,22 @@ pub receipt_is : (settings : RouterSettings) (now i : ℕ) (sender : Addr4) (tol
     0 < told.shown.validity → SoundNeighbourhood settings now old → i < length settings.interfaces → (theirs own before : List Addr4) (until : ℕ) (links : List (Base LinkKey Link)) (two_hops : List (Base TwoHopKey TwoHop))
     (replaced neighbours : Base Addr4 Neighbour) (losts : Base Addr4 Lost) → ((a : Addr4) → Contains own a ↔ HasAddress settings a) → ((a : Addr4) → Contains theirs a ↔ IsTheirs old told a) →
     ((a : Addr4) → Contains before a ↔ IsWantedAddress old.neighbours Symmetric a) → length links ≡ length old.links →
-    HearsInterfaces told.shown told.least theirs told.listed own settings.times.link_hold now i hello old.links links old.two_hops two_hops →
+    HearsInterfaces (rule_of settings i) told.shown told.least theirs told.listed own settings.times.link_hold now i hello old.links links old.two_hops two_hops →
     Replaces told.originator told.listed told.willing told.routing until old.neighbours replaced →
     FollowsLinks links now before (now + settings.times.neighbour_hold) replaced neighbours old.losts losts →
     AfterHello settings now i told hello old (record { links = links; two_hops = two_hops; neighbours = neighbours; losts = losts })
 receipt_is settings now i sender told hello old T fault lasts S is_interface theirs own before until links two_hops replaced neighbours losts own_is theirs_are before_is same H replaces F =
     hears_is settings now i sender told hello old T fault lasts S is_interface links H.mids two_hops replaced neighbours losts H.updates.started theirs before until theirs_are before_is same H.same_mids H.same
-    H.each H.elsewhere H.updates.distinct (starts_by old i told theirs own settings.times.link_hold now hello links two_hops H) (λ symmetric. H.updates.rows symmetric settings told own_is refl) H.updates.no_rows replaces F
+    H.each H.elsewhere H.updates.distinct (starts_by (rule_of settings i) old i told theirs own settings.times.link_hold now hello links two_hops H) (λ symmetric. H.updates.rows symmetric settings told own_is refl) H.updates.no_rows replaces F
 
-pub receipt_runs : (settings : RouterSettings) (now i : ℕ) (sender : Addr4) (told : Told) (hello : Hello) (old : Neighbourhood) (old_links items links seen : List (Base LinkKey Link)) (old_two_hops items_two_hops two_hops : List (Base TwoHopKey TwoHop))
+pub receipt_runs : (settings : RouterSettings) (rule : Admit) (now i : ℕ) (sender : Addr4) (told : Told) (hello : Hello) (old : Neighbourhood) (old_links items links seen : List (Base LinkKey Link)) (old_two_hops items_two_hops two_hops : List (Base TwoHopKey TwoHop))
     (old_neighbours seen_neighbours looked_at replaced neighbours : Base Addr4 Neighbour) (old_losts losts : Base Addr4 Lost) (theirs seen_theirs own before seen_before listed : List Addr4) (len len_two_hops hold until replaced_until : ℕ) →
     Tells settings i sender hello told → IsFault settings sender hello None → 0 < told.shown.validity → SoundNeighbourhood settings now old → i < length settings.interfaces →
-    old ≡ record { links = items; two_hops = items_two_hops; neighbours = old_neighbours; losts = old_losts } → until ≡ now + settings.times.neighbour_hold → hold ≡ settings.times.link_hold →
+    old ≡ record { links = items; two_hops = items_two_hops; neighbours = old_neighbours; losts = old_losts } → until ≡ now + settings.times.neighbour_hold → hold ≡ settings.times.link_hold → rule ≡ rule_of settings i →
     old_links ≡ items → old_two_hops ≡ items_two_hops → len ≡ length old_links → len_two_hops ≡ length old_two_hops → length links ≡ length old_links →
     ((a : Addr4) → Contains own a ↔ HasAddress settings a) → seen_neighbours ≡ old_neighbours → ((a : Addr4) → Contains before a ↔ IsWantedAddress seen_neighbours Symmetric a) → looked_at ≡ old_neighbours →
     ((a : Addr4) → Contains theirs a ↔ ((o : Addr4) × (n : Neighbour) × (u : ℕ) × (find addr_eq looked_at o ≡ Some (n, u)) × Matches told.originator listed o n × Contains n.addrs a)) →
-    listed ≡ told.listed → seen_theirs ≡ theirs → HearsInterfaces told.shown told.least seen_theirs listed own hold now i hello old_links links old_two_hops two_hops →
+    listed ≡ told.listed → seen_theirs ≡ theirs → HearsInterfaces rule told.shown told.least seen_theirs listed own hold now i hello old_links links old_two_hops two_hops →
     Replaces told.originator listed told.willing told.routing replaced_until old_neighbours replaced → seen ≡ take len (links ++ drop (length links) items) → seen_before ≡ before →
     FollowsLinks seen now seen_before until replaced neighbours old_losts losts →
     AfterHello settings now i told hello old (record {
@@ -63,8 +65,8 @@ pub receipt_runs : (settings : RouterSettings) (now i : ℕ) (sender : Addr4) (t
       neighbours = neighbours;
       losts = losts;
     })
-receipt_runs settings now i sender told hello old old_links items links seen old_two_hops items_two_hops two_hops old_neighbours seen_neighbours looked_at replaced neighbours old_losts losts theirs seen_theirs own before seen_before listed len len_two_hops
-    hold until replaced_until T fault lasts S is_interface from_items until_is hold_is is_items is_items_two_hops all all_two_hops same own_is sees before_is looks theirs_are listed_is theirs_is H replaces seen_is seen_before_is F =
+receipt_runs settings rule now i sender told hello old old_links items links seen old_two_hops items_two_hops two_hops old_neighbours seen_neighbours looked_at replaced neighbours old_losts losts theirs seen_theirs own before seen_before listed len len_two_hops
+    hold until replaced_until T fault lasts S is_interface from_items until_is hold_is rule_is is_items is_items_two_hops all all_two_hops same own_is sees before_is looks theirs_are listed_is theirs_is H replaces seen_is seen_before_is F =
     let whole : take len (links ++ drop (length links) items) ≡ links = written_back len links items (same ∙ ap length is_items) (all ∙ ap length is_items) in
     let same_two_hops : length two_hops ≡ length old_two_hops = H.same ∙ H.same_mids in
     let whole_two_hops : take len_two_hops (two_hops ++ drop (length two_hops) items_two_hops) ≡ two_hops = written_back len_two_hops two_hops items_two_hops (same_two_hops ∙ ap length is_items_two_hops) (all_two_hops ∙ ap length is_items_two_hops) in
@@ -81,10 +83,11 @@ receipt_runs settings now i sender told hello old old_links items links seen old
     let are : (a : Addr4) → Contains theirs a ↔ IsTheirs O told a =
     subst (λ (xs : List Addr4). (a : Addr4) → Contains theirs a ↔ ((o : Addr4) × (n : Neighbour) × (u : ℕ) × (find addr_eq old_neighbours o ≡ Some (n, u)) × Matches told.originator xs o n × Contains n.addrs a)) listed_is
     (subst (λ (b : Base Addr4 Neighbour). (a : Addr4) → Contains theirs a ↔ ((o : Addr4) × (n : Neighbour) × (u : ℕ) × (find addr_eq b o ≡ Some (n, u)) × Matches told.originator listed o n × Contains n.addrs a)) looks theirs_are) in
-    let hears : HearsInterfaces told.shown told.least theirs told.listed own settings.times.link_hold now i hello old_links links old_two_hops two_hops =
-    subst (λ (xs : List Addr4). HearsInterfaces told.shown told.least theirs xs own settings.times.link_hold now i hello old_links links old_two_hops two_hops) listed_is
-    (subst (λ (xs : List Addr4). HearsInterfaces told.shown told.least xs listed own settings.times.link_hold now i hello old_links links old_two_hops two_hops) theirs_is
-    (subst (λ (h : ℕ). HearsInterfaces told.shown told.least seen_theirs listed own h now i hello old_links links old_two_hops two_hops) hold_is H)) in
+    let hears : HearsInterfaces (rule_of settings i) told.shown told.least theirs told.listed own settings.times.link_hold now i hello old_links links old_two_hops two_hops =
+    subst (λ (xs : List Addr4). HearsInterfaces (rule_of settings i) told.shown told.least theirs xs own settings.times.link_hold now i hello old_links links old_two_hops two_hops) listed_is
+    (subst (λ (xs : List Addr4). HearsInterfaces (rule_of settings i) told.shown told.least xs listed own settings.times.link_hold now i hello old_links links old_two_hops two_hops) theirs_is
+    (subst (λ (h : ℕ). HearsInterfaces (rule_of settings i) told.shown told.least seen_theirs listed own h now i hello old_links links old_two_hops two_hops) hold_is
+    (subst (λ (r : Admit). HearsInterfaces r told.shown told.least seen_theirs listed own hold now i hello old_links links old_two_hops two_hops) rule_is H))) in
     let becomes : Replaces told.originator told.listed told.willing told.routing replaced_until old_neighbours replaced =
     subst (λ (xs : List Addr4). Replaces told.originator xs told.willing told.routing replaced_until old_neighbours replaced) listed_is replaces in
     subst (λ (o : Neighbourhood). AfterHello settings now i told hello o (record { links = take len (links ++ drop (length links) items); two_hops = take len_two_hops (two_hops ++ drop (length two_hops) items_two_hops); neighbours = neighbours; losts = losts })) (sym is)

@@ -15,7 +15,9 @@ use Rattle.mesh_atoms.specs.declared.tuples.Lost.{Lost}
 use Rattle.mesh_atoms.specs.declared.tuples.Neighbour.{Neighbour}
 use Rattle.mesh_atoms.specs.Base.{Base, Has}
 use Rattle.mesh_atoms.specs.Hello.{Part, This_if, Other_if, Link_lost, Link_symmetric, Link_heard, Other_lost, Other_symmetric, Link_in, Link_out, Near_in, Near_out, Flooding, Routing, Says, HasLinkTo}
-use Rattle.mesh_atoms.specs.State.{State, LinkState, Is_pending, Is_lost, Is_symmetric, Is_heard, state_of, HasSymmetricWith, HasAddressOn}
+use Rattle.mesh_atoms.specs.declared.tuples.LinkState.{LinkState}
+use Rattle.mesh_atoms.specs.declared.tuples.LinkState.TheVariants.{Pending as Is_pending, Lost as Is_lost, Symmetric as Is_symmetric, Heard as Is_heard}
+use Rattle.mesh_atoms.specs.State.{State, state_of, HasSymmetricWith, HasAddressOn}
 use Rattle.mesh_nhdp.specs.Said.{linked_addresses, symmetric_addresses, said_addresses}
 use Rattle.mesh_nhdp.proofs.Lookups.{some_same, Contains_at}
 use Rattle.mesh_nhdp.proofs.Places.{place_of}

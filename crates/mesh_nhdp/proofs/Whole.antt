@@ -1,6 +1,6 @@
 -- Expiry and the taking of a HELLO as runs of the sets' calls.
 use Rattle.std.proofs.Common.{◌≡◌, ℕ, ◌+◌, ◌≢◌, ◌⊎◌, ◌↔◌, inl, inr, refl, sym, ◌∙◌, ap, subst, List, length, Contains, Option, Some, None}
-use Rattle.std.specs.Prelude.{true, false, cond}
+use Rattle.std.specs.Prelude.{true, false, cond, option_map}
 use Rattle.std.proofs.lemmas.Bool.{false≢true, cases_eq}
 use Rattle.mesh_atoms.specs.declared.addr.Addr4.{Addr4}
 use Rattle.mesh_atoms.specs.declared.tuples.LinkKey.{LinkKey}
@@ -13,12 +13,13 @@ use Rattle.mesh_atoms.specs.declared.hello.Hello.{Hello}
 use Rattle.mesh_atoms.specs.declared.settings.RouterSettings.{RouterSettings}
 use Rattle.mesh_atoms.specs.Base.{Base, find, base_of, if_live, Expires, Same, addr_eq, two_hop_eq}
 use Rattle.mesh_atoms.specs.State.{Neighbourhood, link_at, two_hop_at, neighbour_at, lost_at}
-use Rattle.mesh_atoms.specs.Live.{LiveNeighbourhood, IsSymmetricAddress, SettlesLost, is_symmetric_at, is_symmetric_entry, HasTables}
+use Rattle.mesh_atoms.specs.Live.{LiveNeighbourhood, IsSymmetricAddress, SettlesLost, is_symmetric_at, is_symmetric_entry, trim, HasTables}
+use Rattle.mesh_atoms.specs.Quality.{admitted, admit_on, rule_of}
 use Rattle.mesh_atoms.specs.HelloTold.{Told}
 use Rattle.mesh_atoms.specs.AfterHello.{AfterHello, GoesOn, IsTheirs, Begins, renewed, StoodOn, Same_link, New_link}
 use Rattle.mesh_atoms.specs.Words.{IsKept}
 use Rattle.mesh_atoms.specs.Sound.{SoundNeighbourhood}
-use Rattle.mesh_links.specs.Links.{ExpiresLinks, EndsOutside, HearsOn}
+use Rattle.mesh_links.specs.Links.{AdmitsLinks, ExpiresLinks, EndsOutside, HearsOn}
 use Rattle.mesh_nbrs.specs.declared.neighbours.LinkNote.{LinkNote}
 use Rattle.mesh_nbrs.specs.Neighbours.{Replaces, RestoresBy}
 use Rattle.mesh_nbrs.specs.Losts.{SettlesAll}
@@ -39,7 +40,7 @@ pub record RunsExpiry (settings : RouterSettings) (now : ℕ) (old new : Neighbo
   pub tables : HasTables new
   pub interfaces : length new.links ≡ length old.links
   pub two_hop_interfaces : length new.two_hops ≡ length old.two_hops
-  pub links : (i : ℕ) → ExpiresLinks now (base_of old.links i) (base_of new.links i)
+  pub links : (i : ℕ) → (mid : Base LinkKey Link) × AdmitsLinks (rule_of settings i) settings.times.link_hold now (base_of old.links i) mid × ExpiresLinks now mid (base_of new.links i)
   pub two_hops : (i : ℕ) → (mid : Base TwoHopKey TwoHop) × (keys : List LinkKey) × Expires two_hop_eq now (base_of old.two_hops i) mid
       × TellsKeys (base_of old.links i) keys × DropsEnded keys (base_of new.links i) now mid (base_of new.two_hops i)
   pub notes : List LinkNote
@@ -53,13 +54,17 @@ pub record RunsExpiry (settings : RouterSettings) (now : ℕ) (old new : Neighbo
   pub expires_losts : Expires addr_eq now old.losts live_losts
   pub losts : SettlesAll before after (now + settings.times.neighbour_hold) live_losts new.losts
 
+admit_is : (settings : RouterSettings) (i now : ℕ) (o : Option (Link × ℕ)) → option_map (admitted (rule_of settings i) settings.times.link_hold now) o ≡ admit_on settings i now o
+admit_is settings i now None = refl
+admit_is settings i now (Some e) = refl
+
 -- they are expiry
 pub live_by_calls : (settings : RouterSettings) (before now : ℕ) (old new : Neighbourhood) → SoundNeighbourhood settings before old → RunsExpiry settings now old new → LiveNeighbourhood settings now old new
 live_by_calls settings before now old new S R = record {
   tables = R.tables;
   interfaces = R.interfaces;
   two_hop_interfaces = R.two_hop_interfaces;
-  links = λ i key. R.links i key;
+  links = λ i key. let (mid, admits, expires) = R.links i in expires key ∙ ap (λ (o : Option (Link × ℕ)). trim now (if_live now o)) (admits key ∙ admit_is settings i now (link_at old i key));
   two_hops = two_hops;
   neighbours = λ o. restores_by new now R.notes R.notes_are (neighbour_at old o) (neighbour_at new o) (R.neighbours o);
   losts = λ a. subst (λ (x : Option (Lost × ℕ)). SettlesLost (IsSymmetricAddress old a) (IsSymmetricAddress new a) (now + settings.times.neighbour_hold) x (lost_at new a)) (R.expires_losts a)
@@ -88,7 +93,7 @@ pub record RunsHello (settings : RouterSettings) (now i : ℕ) (told : Told) (he
   pub theirs : List Addr4
   pub theirs_are : (a : Addr4) → Contains theirs a ↔ IsTheirs old told a
   pub ends : (j : ℕ) → j ≢ i → EndsOutside theirs told.listed (base_of old.links j) (base_of new.links j)
-  pub hears : (mid : Base LinkKey Link) × EndsOutside theirs told.listed (base_of old.links i) mid × HearsOn told.shown told.least settings.times.link_hold now mid (base_of new.links i)
+  pub hears : (mid : Base LinkKey Link) × EndsOutside theirs told.listed (base_of old.links i) mid × HearsOn (rule_of settings i) told.shown told.least settings.times.link_hold now mid (base_of new.links i)
   pub mids : ℕ → Base TwoHopKey TwoHop
   pub drops : (j : ℕ) → (keys : List LinkKey) × TellsKeys (base_of old.links j) keys × DropsEnded keys (base_of new.links j) now (base_of old.two_hops j) (mids j)
   pub elsewhere : (j : ℕ) → j ≢ i → Same two_hop_eq (mids j) (base_of new.two_hops j)
@@ -120,15 +125,15 @@ module _ (settings : RouterSettings) (now i : ℕ) (told : Told) (hello : Hello)
       | inr apart ↦
           let (mid, ends, hears) = R.hears in
           subst (λ (n : ℕ). IsKept (λ e. GoesOn old told i n e.0) (link_at old n key) (link_at new n key)) (sym same)
-          (goes_on_here old told R.theirs R.theirs_are within settings.times.link_hold now i (base_of old.links i) mid (base_of new.links i) key apart ends hears)
+          (goes_on_here old told R.theirs R.theirs_are within (rule_of settings i) settings.times.link_hold now i (base_of old.links i) mid (base_of new.links i) key apart ends hears)
     ]
     | inr apart ↦ goes_on_elsewhere old told R.theirs R.theirs_are within i j (base_of old.links j) (base_of new.links j) key apart (R.ends j apart)
   ]
 
-  the_link : (start : Link × ℕ) × Begins told.shown now (link_at old i told.least) start × (link_at new i told.least ≡ Some (renewed told.shown settings.times.link_hold now start))
+  the_link : (start : Link × ℕ) × Begins (rule_of settings i) told.shown now (link_at old i told.least) start × (link_at new i told.least ≡ Some (renewed told.shown settings.times.link_hold now start))
   the_link =
       let (mid, ends, hears) = R.hears in
-      hears_link old told R.theirs R.theirs_are within settings.times.link_hold now (base_of old.links i) mid (base_of new.links i) ends hears
+      hears_link old told R.theirs R.theirs_are within (rule_of settings i) settings.times.link_hold now (base_of old.links i) mid (base_of new.links i) ends hears
 
   -- after the drops, the tuples of SYMMETRIC links are left
   left : (j : ℕ) (key : TwoHopKey) → find two_hop_eq (R.mids j) key ≡ cond (is_symmetric_at new now j key.link) (two_hop_at old j key) None

@@ -2,31 +2,33 @@
 use Rattle.std.specs.Prelude.{◌≡◌, ℕ, ◌<◌, ◌^◌, List, length, Bool, true, false}
 use Rattle.mesh_atoms.specs.Words.{IsAscending}
 use Rattle.mesh_atoms.specs.declared.addr.Addr4.{Addr4}
+use Rattle.mesh_atoms.specs.declared.admit.Admit.{Admit}
 use Rattle.mesh_atoms.specs.declared.hello.Shown.{Shown}
 use Rattle.mesh_atoms.specs.declared.tuples.LinkKey.{LinkKey}
 use Rattle.mesh_atoms.specs.declared.tuples.TwoHopKey.{TwoHopKey}
 use Rattle.mesh_atoms.specs.declared.tuples.Link.{Link}
 use Rattle.mesh_atoms.specs.declared.tuples.TwoHop.{TwoHop}
 use Rattle.mesh_atoms.specs.Base.{Base, HasDistinctKeys, Expires, link_eq, two_hop_eq}
-use Rattle.mesh_links.specs.Links.{ExpiresLinks, EndsOutside, HearsOn}
+use Rattle.mesh_links.specs.Links.{AdmitsLinks, ExpiresLinks, EndsOutside, HearsOn}
 use Rattle.mesh_nhdp.specs.Calls.{TellsKeys, DropsEnded}
 
--- expiry: of the links, of the tuples, and the tuples of links that aren't SYMMETRIC go (RFC 6130, section 13)
-pub record ExpiresOn (now : ℕ) (old new : Base LinkKey Link) (before after : Base TwoHopKey TwoHop) : Type 0 where
+-- expiry: links are as their qualities have them, then those that are expired go, and tuples that are expired, or whose link
+-- isn't SYMMETRIC (RFC 6130, sections 13 and 14)
+pub record ExpiresOn (rule : Admit) (hold now : ℕ) (old new : Base LinkKey Link) (before after : Base TwoHopKey TwoHop) : Type 0 where
   pub distinct_links : HasDistinctKeys link_eq new
   pub distinct_two_hops : HasDistinctKeys two_hop_eq after
-  pub links : ExpiresLinks now old new
+  pub links : (mid : Base LinkKey Link) × AdmitsLinks rule hold now old mid × ExpiresLinks now mid new
   pub two_hops : (mid : Base TwoHopKey TwoHop) × (keys : List LinkKey) × Expires two_hop_eq now before mid
       × TellsKeys old keys × DropsEnded keys new now mid after
 
 -- a HELLO: links of the neighbours that it speaks of end outside its addresses, the link that it came over is heard where
 -- this is the interface that it came over, and the tuples of links that aren't SYMMETRIC go (RFC 6130, section 12)
-pub record HearsAt (shown : Shown) (least : LinkKey) (theirs listed : List Addr4) (hold now : ℕ) (here : Bool)
+pub record HearsAt (rule : Admit) (shown : Shown) (least : LinkKey) (theirs listed : List Addr4) (hold now : ℕ) (here : Bool)
     (old new : Base LinkKey Link) (before after : Base TwoHopKey TwoHop) : Type 0 where
   pub distinct_links : HasDistinctKeys link_eq new
   pub distinct_two_hops : HasDistinctKeys two_hop_eq after
   pub elsewhere : here ≡ false → EndsOutside theirs listed old new
-  pub hears : here ≡ true → (mid : Base LinkKey Link) × EndsOutside theirs listed old mid × HearsOn shown least hold now mid new
+  pub hears : here ≡ true → (mid : Base LinkKey Link) × EndsOutside theirs listed old mid × HearsOn rule shown least hold now mid new
   pub two_hops : (keys : List LinkKey) × TellsKeys old keys × DropsEnded keys new now before after
 
 -- moments and times are in range, and the sending list is an ascending list of one address at least

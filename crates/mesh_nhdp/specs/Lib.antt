@@ -10,5 +10,6 @@ pub mod Receive
 pub mod Rows
 pub mod Said
 pub mod Sender
+pub mod Staying
 pub mod Telling
 pub mod Wanted

@@ -1,17 +1,18 @@
 //! What expiry and a HELLO make of the links and the 2-hop tuples, interface by interface.
-ghost use Rattle.std.specs.Prelude.{◌≡◌, ◌<◌, ℕ, true, false, nat_eq, Some, length, slice_get, IfOk, OnOk};
+ghost use Rattle.std.specs.Prelude.{◌≡◌, ◌<◌, ◌^◌, ℕ, true, false, nat_eq, Some, length, slice_get, IfOk, OnOk};
 ghost use Rattle.mesh_atoms.specs.Base.{Base, HasDistinctKeys, base_of, link_eq};
 ghost use Rattle.mesh_atoms.specs.declared.tuples.LinkKey.{LinkKey};
 ghost use Rattle.mesh_atoms.specs.declared.tuples.Link.{Link};
 ghost use Rattle.mesh_atoms.specs.declared.tuples.TwoHopKey.{TwoHopKey};
 ghost use Rattle.mesh_atoms.specs.declared.tuples.TwoHop.{TwoHop};
-ghost use Rattle.mesh_links.specs.Links.{HearsOn};
+ghost use Rattle.mesh_atoms.specs.declared.settings.Interface.{Interface};
+ghost use Rattle.mesh_links.specs.Links.{AdmitsLinks, HearsOn};
 ghost use Rattle.mesh_nhdp.specs.Calls.{TellsKeys};
 ghost use Rattle.mesh_nhdp.specs.Interfaces.{ExpiresOn, HearsAt, CanHear};
 
 use crate::drops::drop_ended;
 use crate::lists::keys;
-use mesh_atoms::{Addr4, Link, LinkKey, Shown, TwoHop, TwoHopKey};
+use mesh_atoms::{Addr4, Admit, Interface, Link, LinkKey, Shown, TwoHop, TwoHopKey};
 use mesh_expire::Table;
 use mesh_links::LinkSet;
 use mesh_nbrs::TwoHopSet;
@@ -47,25 +48,48 @@ pub trait Change<L: Table<LinkKey, Link>, H: Table<TwoHopKey, TwoHop>> {
         ensures { OnOk result (makes self.now iface links.old links.new two_hops.old two_hops.new) };
 }
 
-/// Expiry at a moment in ticks of 1/8192 s.
+/// Expiry at a moment in ticks of 1/8192 s, with the hold time of links, and the interfaces, whose rules say which links are
+/// admitted.
 #[derive(Clone, Copy)]
-pub struct Expiry {
+pub struct Expiry<'a> {
     pub now: u64,
+    pub hold: u64,
+    pub faces: &'a [Interface],
 }
 
-impl<L: Table<LinkKey, Link>, H: Table<TwoHopKey, TwoHop>> Change<L, H> for Expiry {
-    ghost is_ready = { λ s. Unit {0} };
+/// Brings the links of the interface of that number in line with their qualities.
+fn admit_on<L: Table<LinkKey, Link>>(
+    links: &mut LinkSet<L>,
+    faces: &[Interface],
+    iface: usize,
+    now: u64,
+    hold: u64,
+) -> Result<(), AllocError>
+    requires now { now < 2 ^ 62 }
+    requires hold { hold < 2 ^ 62 }
+    ensures { OnOk result ((face : Interface) → slice_get faces.now iface ≡ Some face → AdmitsLinks face.admit hold now links.old links.new) }
+{
+    match faces.get(iface) {
+        Some(face) => links.admit(now, hold, &face.admit),
+        None => Ok(()),
+    }
+}
 
-    ghost makes = { λ s i old new before after. ExpiresOn s.now old new before after };
+impl<'a, L: Table<LinkKey, Link>, H: Table<TwoHopKey, TwoHop>> Change<L, H> for Expiry<'a> {
+    ghost is_ready = { λ s. (s.now < 2 ^ 62) × (s.hold < 2 ^ 62) };
+
+    ghost makes = { λ s i old new before after. (face : Interface) → slice_get s.faces.now i ≡ Some face
+        → ExpiresOn face.admit s.hold s.now old new before after };
 
     fn change(
         &self,
         alloc: Global,
-        _iface: usize,
+        iface: usize,
         links: &mut LinkSet<L>,
         two_hops: &mut TwoHopSet<H>,
     ) -> Result<(), AllocError> {
         let before = link_keys(alloc, links)?;
+        admit_on(links, self.faces, iface, self.now, self.hold)?;
         links.expire(self.now);
         two_hops.expire(self.now);
         drop_ended(links, two_hops, &before, self.now);
@@ -74,13 +98,14 @@ impl<L: Table<LinkKey, Link>, H: Table<TwoHopKey, TwoHop>> Change<L, H> for Expi
     }
 }
 
-/// The taking of a HELLO on an interface: the moment, the hold time of links, what it shows of its link, the addresses of the
-/// neighbours that it speaks of, and those that it tells of.
+/// The taking of a HELLO on an interface: the moment, the hold time of links, which links the interface admits, what the HELLO
+/// shows of its link, the addresses of the neighbours that it speaks of, and those that it tells of.
 #[derive(Clone, Copy)]
 pub struct Hearing<'a> {
     pub moment: u64,
     pub hold: u64,
     pub iface: usize,
+    pub rule: &'a Admit,
     pub shown: &'a Shown,
     pub theirs: &'a [Addr4],
     pub listed: &'a [Addr4],
@@ -96,11 +121,11 @@ fn hear_here<L: Table<LinkKey, Link>>(
     requires distinct { HasDistinctKeys link_eq links.old }
     ensures elsewhere { OnOk result (here ≡ false → links.new ≡ links.old) }
     ensures here { OnOk result (here ≡ true → (least : LinkKey) → slice_get hearing.now.shown.now.sending 0 ≡ Some least.addr
-        → HearsOn hearing.now.shown.now least hearing.now.hold hearing.now.moment links.old links.new) }
+        → HearsOn hearing.now.rule.now hearing.now.shown.now least hearing.now.hold hearing.now.moment links.old links.new) }
     ensures distinct { HasDistinctKeys link_eq links.new }
 {
     if here {
-        links.hear(hearing.moment, hearing.hold, hearing.shown)
+        links.hear(hearing.moment, hearing.hold, hearing.shown, hearing.rule)
     } else {
         Ok(())
     }
@@ -110,7 +135,7 @@ impl<'a, L: Table<LinkKey, Link>, H: Table<TwoHopKey, TwoHop>> Change<L, H> for 
     ghost is_ready = { λ s. CanHear s.moment s.hold s.shown.now };
 
     ghost makes = { λ s i old new before after. (least : LinkKey) → slice_get s.shown.now.sending 0 ≡ Some least.addr
-        → HearsAt s.shown.now least s.theirs.now s.listed.now s.hold s.moment (nat_eq i s.iface) old new before after };
+        → HearsAt s.rule.now s.shown.now least s.theirs.now s.listed.now s.hold s.moment (nat_eq i s.iface) old new before after };
 
     fn change(
         &self,

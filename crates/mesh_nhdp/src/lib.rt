@@ -23,6 +23,7 @@ mod said_of;
 mod say;
 mod sender;
 mod sending_link;
+mod staying;
 mod take;
 mod telling;
 mod two_hop_rows;

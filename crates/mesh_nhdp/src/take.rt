@@ -78,8 +78,10 @@ impl<B: Bases> Nhdp<B> {
         ensures after { OnOk result (AfterHello self.old.settings now iface (told_of telling.now) hello.now self.old.near self.new.near) }
         ensures settings { self.new.settings ≡ self.old.settings }
     {
-        let alloc = self.settings.interfaces.allocator();
-        let until = now + self.settings.times.neighbour_hold;
+        let settings = &self.settings;
+        let alloc = settings.interfaces.allocator();
+        let until = now + settings.times.neighbour_hold;
+        let face = &settings.interfaces.as_slice()[iface];
         let listed = telling.listed.as_slice();
         let before = wanted_addresses(alloc, self.neighbours.table(), Wanted::Symmetric)?;
         let theirs = wanted_addresses(
@@ -89,8 +91,9 @@ impl<B: Bases> Nhdp<B> {
         )?;
         let hearing = Hearing {
             moment: now,
-            hold: self.settings.times.link_hold,
+            hold: settings.times.link_hold,
             iface,
+            rule: &face.admit,
             shown: &telling.shown,
             theirs: &theirs,
             listed,

@@ -1,4 +1,7 @@
+pub mod Admitted
 pub mod Found
+mod JoinedParts
+pub mod LinksStay
 pub mod Order
 pub mod RadioLaw
 pub mod RoundsLaw

@@ -11,12 +11,14 @@ use Rattle.std.proofs.lemmas.Option.{slice_get_within, get_or_from_slice_get}
 use Rattle.mesh_atoms.specs.declared.graphs.Pair.{Pair}
 use Rattle.mesh_atoms.specs.declared.metric.Metric.{Metric}
 use Rattle.mesh_atoms.specs.declared.settings.RadioArc.{RadioArc}
+use Rattle.mesh_atoms.specs.declared.settings.RouterSettings.{RouterSettings}
 use Rattle.mesh_atoms.specs.declared.settings.Scenario.{Scenario}
 use Rattle.mesh_atoms.specs.Radio.{Joins, Adjacent, Joined, IsRadioGraph}
 use Rattle.mesh_atoms.specs.Radio.Joined.{Itself, By}
 use Rattle.mesh_atoms.specs.Settings.{are_distinct, ends_eq}
 use Rattle.mesh_atoms.proofs.Deciding.{Decides-and, Decides-eqb, Decides-some}
-use Rattle.mesh_paths.specs.Parts.{pair_of, leads_back, is_met, Chain, IsInside, IsLevel, IsParts, Lowers, Goes}
+use Rattle.mesh_paths.proofs.Admitted.{joins_back, admitted_arc, admits_arc}
+use Rattle.mesh_paths.specs.Parts.{pair_of, is_admitted, leads_back, leads_home, is_met, is_joined, Chain, IsInside, IsLevel, IsParts, Lowers, Goes}
 use Rattle.mesh_paths.specs.Parts.Chain.{Start, On}
 use Rattle.mesh_paths.proofs.Rows.{item_in}
 use Rattle.mesh_paths.proofs.Scenarios.{both_true, not_both, contains_cases, any_of, contains_map, ends_of, same_ends, sound_scenario}
@@ -26,7 +28,7 @@ use Rattle.mesh_paths.proofs.ShortLists.{none_of, none_some}
 -- Joined routers
 
 pub adjacent_back : (s : Scenario) (x y : ℕ) → Adjacent s x y → Adjacent s y x
-adjacent_back s x y (i, j, there, back, joins) = (j, i, back, there, record { out = joins.home; home = joins.out })
+adjacent_back s x y (i, j, there, back, joins) = (j, i, back, there, joins_back joins)
 
 pub joined_first : (s : Scenario) (x y z : ℕ) → Adjacent s x y → Joined s y z → Joined s x z
 joined_first s x y z first Itself = By Itself first
@@ -92,33 +94,64 @@ LeadsBack arc back = (((back.from ≡ arc.to) × (back.from_iface ≡ arc.to_ifa
 Decides-leads_back : (arc back : RadioArc) → Decides (leads_back arc back) (LeadsBack arc back)
 Decides-leads_back arc back = Decides-and _ _ (Decides-and _ _ (Decides-and _ _ (Decides-eqb back.from arc.to) (Decides-eqb back.from_iface arc.to_iface)) (Decides-eqb back.to arc.from)) (Decides-eqb back.to_iface arc.from_iface)
 
-Decides-is_met : (arcs : List RadioArc) (arc : RadioArc) → Decides (is_met arcs arc) ((back : RadioArc) × Contains arcs back × LeadsBack arc back)
-Decides-is_met arcs arc = Decides-some (leads_back arc) (LeadsBack arc) (Decides-leads_back arc) arcs
+-- the same, and it is admitted
+abbrev LeadsHome : Scenario → RadioArc → RadioArc → Type 0
+LeadsHome s arc back = LeadsBack arc back × (is_admitted s.routers s.end back ≡ true)
+
+Decides-leads_home : (s : Scenario) (arc back : RadioArc) → Decides (leads_home s.routers s.end arc back) (LeadsHome s arc back)
+Decides-leads_home s arc back = Decides-and _ _ (Decides-leads_back arc back) (λ e. e, λ e. e)
+
+Decides-is_met : (s : Scenario) (arc : RadioArc) → Decides (is_met s.routers s.end s.arcs arc) ((back : RadioArc) × Contains s.arcs back × LeadsHome s arc back)
+Decides-is_met s arc = Decides-some (leads_home s.routers s.end arc) (LeadsHome s arc) (Decides-leads_home s arc) s.arcs
 
 same_pair : (arc : RadioArc) (p : Pair) → arc.from ≡ p.from → arc.from_iface ≡ p.from_iface → arc.to ≡ p.to → arc.to_iface ≡ p.to_iface → arc.metric ≡ p.metric → pair_of arc ≡ p
 same_pair arc p from from_iface to to_iface metric = λ i. record { from = from i; from_iface = from_iface i; to = to i; to_iface = to_iface i; metric = metric i }
 
--- one pair for each arc between whose interfaces another leads back
-abbrev pub pairs_in : List RadioArc → List Pair
-pairs_in arcs = map pair_of (filter (is_met arcs) arcs)
+-- the arc joins its interfaces
+abbrev is_joint : Scenario → RadioArc → Bool
+is_joint s arc = is_joined s.routers s.end s.arcs arc
+
+-- one pair for each arc that joins its interfaces
+abbrev pub pairs_in : Scenario → List Pair
+pairs_in s = map pair_of (filter (is_joint s) s.arcs)
+
+-- the same of the routers and arcs that a scenario has
+pub pairs_from : (s : Scenario) (routers : List RouterSettings) (arcs : List RadioArc) → routers ≡ s.routers → arcs ≡ s.arcs →
+    map pair_of (filter (is_joined routers s.end arcs) arcs) ≡ pairs_in s
+pairs_from s routers arcs of_routers of_arcs =
+    ap (λ (rs : List RouterSettings). map pair_of (filter (is_joined rs s.end arcs) arcs)) of_routers
+    ∙ ap (λ (xs : List RadioArc). map pair_of (filter (is_joined s.routers s.end xs) xs)) of_arcs
 
 -- the two interfaces that the pair has are joined, and that is its metric
 abbrev pub IsPairOf : Scenario → Pair → Type 0
 IsPairOf s p = (back : Metric) × Joins s p.from p.from_iface p.to p.to_iface p.metric back
 
-pair_joins : (s : Scenario) (p : Pair) → Contains (pairs_in s.arcs) p → IsPairOf s p
+pair_joins : (s : Scenario) (p : Pair) → Contains (pairs_in s) p → IsPairOf s p
 pair_joins s p c =
-    let (arc, there, met, e) = picked_from pair_of (is_met s.arcs) s.arcs p c in
-    let (back, stands, (((from, from_iface), to), to_iface)) = (Decides-is_met s.arcs arc).0 met in
-    subst (λ (x : Pair). IsPairOf s x) e (back.metric, record { out = (arc, there, refl, refl, refl, refl, refl); home = (back, stands, from, from_iface, to, to_iface, refl) })
+    let (arc, there, joined, e) = picked_from pair_of (is_joint s) s.arcs p c in
+    let (admitted, met) = both_true (is_admitted s.routers s.end arc) (is_met s.routers s.end s.arcs arc) joined in
+    let (back, stands, ((((from, from_iface), to), to_iface), home)) = (Decides-is_met s arc).0 met in
+    subst (λ (x : Pair). IsPairOf s x) e (
+      back.metric,
+      record {
+        out = (arc, there, refl, refl, refl, refl, refl);
+        home = (back, stands, from, from_iface, to, to_iface, refl);
+        out_admitted = admitted_arc s arc.from arc.from_iface arc.to arc.to_iface arc refl refl refl refl admitted;
+        home_admitted = admitted_arc s arc.to arc.to_iface arc.from arc.from_iface back from from_iface to to_iface home;
+      },
+    )
 
-joins_pair : (s : Scenario) (p : Pair) → IsPairOf s p → Contains (pairs_in s.arcs) p
+joins_pair : (s : Scenario) (p : Pair) → IsPairOf s p → Contains (pairs_in s) p
 joins_pair s p (_, joins) =
     let (arc, there, from, from_iface, to, to_iface, metric) = joins.out in
     let (back, stands, b_from, b_from_iface, b_to, b_to_iface, _) = joins.home in
-    let met : is_met s.arcs arc ≡ true = (Decides-is_met s.arcs arc).1 (back, stands, (((b_from ∙ sym to, b_from_iface ∙ sym to_iface), b_to ∙ sym from), b_to_iface ∙ sym from_iface)) in
-    subst (λ (x : Pair). Contains (pairs_in s.arcs) x) (same_pair arc p from from_iface to to_iface metric)
-    (contains_map pair_of (filter (is_met s.arcs) s.arcs) arc (picked (is_met s.arcs) s.arcs arc there met))
+    let home : is_admitted s.routers s.end back ≡ true = admits_arc s p.to p.to_iface p.from p.from_iface back b_from b_from_iface b_to b_to_iface joins.home_admitted in
+    let admitted : is_admitted s.routers s.end arc ≡ true = admits_arc s p.from p.from_iface p.to p.to_iface arc from from_iface to to_iface joins.out_admitted in
+    let met : is_met s.routers s.end s.arcs arc ≡ true =
+    (Decides-is_met s arc).1 (back, stands, ((((b_from ∙ sym to, b_from_iface ∙ sym to_iface), b_to ∙ sym from), b_to_iface ∙ sym from_iface), home)) in
+    let joint : is_joint s arc ≡ true = rw (admitted, met) refl in
+    subst (λ (x : Pair). Contains (pairs_in s) x) (same_pair arc p from from_iface to to_iface metric)
+    (contains_map pair_of (filter (is_joint s) s.arcs) arc (picked (is_joint s) s.arcs arc there joint))
 
 pairs_once_by : (b : Bool) (arc : RadioArc) (rest : List RadioArc) → (Contains (map pair_of rest) (pair_of arc) → ⊥) → Once (map pair_of rest) → Once (map pair_of (cond b (arc ∷ rest) rest))
 pairs_once_by true arc rest new once = once_more (pair_of arc) (map pair_of rest) new once
@@ -137,7 +170,7 @@ pairs_once q (arc ∷ arcs) h =
         not_both (list_any (ends_eq (ends_of arc)) (map ends_of arcs)) (any_of (ends_eq (ends_of arc)) (map ends_of arcs) (ends_of other) same (contains_map ends_of arcs other there)) new
 
 -- the pairs of a scenario join its routers
-pub pair_inside : (s : Scenario) (p : Pair) → Contains (pairs_in s.arcs) p → IsInside (length s.routers) p
+pub pair_inside : (s : Scenario) (p : Pair) → Contains (pairs_in s) p → IsInside (length s.routers) p
 pair_inside s p c =
     let (back, joins) = pair_joins s p c in
     let (_, (r, at), (q, to)) = (sound_scenario s).ends p.from p.from_iface p.to p.to_iface p.metric joins.out in
@@ -209,16 +242,16 @@ goes_on changed after false old before new pairs i p is l inside parts gone (sam
 
 -- The radio graph
 
-module _ (s : Scenario) (parts : List ℕ) (count : length parts ≡ length s.routers) (are : IsParts (pairs_in s.arcs) parts) (level : (p : Pair) → Contains (pairs_in s.arcs) p → IsLevel parts p) where
+module _ (s : Scenario) (parts : List ℕ) (count : length parts ≡ length s.routers) (are : IsParts (pairs_in s) parts) (level : (p : Pair) → Contains (pairs_in s) p → IsLevel parts p) where
   adjacent_level : (v w : ℕ) → Adjacent s v w → slice_index parts v ≤ slice_index parts w
   adjacent_level v w (i, j, there, back, joins) =
-      level (record { from = w; from_iface = j; to = v; to_iface = i; metric = back }) (joins_pair s (record { from = w; from_iface = j; to = v; to_iface = i; metric = back }) (there, record { out = joins.home; home = joins.out }))
+      level (record { from = w; from_iface = j; to = v; to_iface = i; metric = back }) (joins_pair s (record { from = w; from_iface = j; to = v; to_iface = i; metric = back }) (there, joins_back joins))
 
   joined_level : (x y : ℕ) → Joined s x y → slice_index parts x ≤ slice_index parts y
   joined_level x y Itself = omega arith
   joined_level x y (By {v = v} chain last) = omega (arith, joined_level x v chain, adjacent_level v y last)
 
-  chain_joined : (x y : ℕ) → Chain (pairs_in s.arcs) x y → Joined s x y
+  chain_joined : (x y : ℕ) → Chain (pairs_in s) x y → Joined s x y
   chain_joined x y Start = Itself
   chain_joined x y (On {y = v} p chain there from to) =
       let (back, joins) = pair_joins s p there in
@@ -230,14 +263,14 @@ module _ (s : Scenario) (parts : List ℕ) (count : length parts ≡ length s.ro
   part_of x part at =
       let l : x < length parts = slice_get_within parts x part at in
       let is : slice_index parts x ≡ part = get_or_from_slice_get parts x part 0 at in (
-        joined_back s part x (chain_joined part x (subst (λ (n : ℕ). Chain (pairs_in s.arcs) n x) is (are.chained x l))),
+        joined_back s part x (chain_joined part x (subst (λ (n : ℕ). Chain (pairs_in s) n x) is (are.chained x l))),
         λ y joined. let in_y : y < length parts = subst (λ (n : ℕ). y < n) (sym count) (joined_inside s x y (subst (λ (n : ℕ). x < n) count l) joined) in omega (arith, joined_level x y joined, are.least y in_y),
       )
 
-  pub radio_graph_of : (pairs : List Pair) → pairs ≡ pairs_in s.arcs → IsRadioGraph s (record { pairs = pairs; parts = parts })
+  pub radio_graph_of : (pairs : List Pair) → pairs ≡ pairs_in s → IsRadioGraph s (record { pairs = pairs; parts = parts })
   radio_graph_of pairs e = subst (λ (ps : List Pair). IsRadioGraph s (record { pairs = ps; parts = parts })) (sym e) (record {
     pairs = λ p. (pair_joins s p, joins_pair s p);
-    once = pairs_once (is_met s.arcs) s.arcs s.sound_arcs.distinct;
+    once = pairs_once (is_joint s) s.arcs s.sound_arcs.distinct;
     routers = count;
     parts = part_of;
   })

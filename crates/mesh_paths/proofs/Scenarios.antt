@@ -132,9 +132,9 @@ mapped_length f [] h = h
 mapped_length f (x ∷ xs) h = omega arith
 
 -- a number that counts says that there is one
-counted : {A : Type 0} (count : A → ℕ) (xs : List A) (k n : ℕ) → nat_lt n (slice_index (map count xs) k) ≡ true → (x : A) × (slice_get xs k ≡ Some x)
+counted : {A : Type 0} (count : A → ℕ) (xs : List A) (k n : ℕ) → nat_lt n (slice_index (map count xs) k) ≡ true → (x : A) × (slice_get xs k ≡ Some x) × (n < count x)
 counted count [] k n h = absurd (let below : n < 0 = ltb-true n 0 h in omega arith)
-counted count (x ∷ xs) zero n h = (x, refl)
+counted count (x ∷ xs) zero n h = (x, refl, ltb-true n (count x) h)
 counted count (x ∷ xs) (suc k) n h = counted count xs k n h
 
 -- The scenario
@@ -212,6 +212,15 @@ arc_ends s x i y j m leads =
       (out.0, subst (λ b. slice_get s.routers b ≡ Some out.0) from out.1),
       (home.0, subst (λ b. slice_get s.routers b ≡ Some home.0) to home.1),
     )
+
+-- an arc leads to an interface of a router
+pub arc_leads_to : (s : Scenario) (arc : RadioArc) → Contains s.arcs arc → (q : RouterSettings) × Router s arc.to q × (arc.to_iface < length q.interfaces)
+arc_leads_to s arc stands =
+    let counts : List ℕ = map (λ (r : RouterSettings). length r.interfaces) s.routers in
+    let joins = all_of _ (map ends_of s.arcs) (ends_of arc) s.sound_arcs.join_routers (contains_map ends_of s.arcs arc stands) in
+    let (first, rest) = both_true (is_interface counts arc.from arc.from_iface) _ joins in
+    let (second, other) = both_true (is_interface counts arc.to arc.to_iface) (not (nat_eq arc.from arc.to)) rest in
+    counted (λ (r : RouterSettings). length r.interfaces) s.routers arc.to arc.to_iface second
 
 one_metric : (s : Scenario) (x i y j : ℕ) (m n : Metric) → Leads s x i y j m → Leads s x i y j n → m ≡ n
 one_metric s x i y j m n first second =

@@ -1,8 +1,11 @@
 -- The pairs of a radio graph, and its parts while they are found: each gets lower along the pairs until none can.
-use Rattle.std.specs.Prelude.{◌≡◌, ℕ, ◌<◌, ◌≤◌, Bool, true, false, List, Contains, nat_eq, ◌&&◌, slice_index, slice_set, EachIndex}
+use Rattle.std.specs.Prelude.{◌≡◌, ℕ, ◌<◌, ◌≤◌, Bool, true, false, List, Contains, Option, Some, None, nat_eq, nat_le, ◌&&◌, slice_get, slice_index, slice_set, EachIndex}
 use Rattle.std.specs.List.{list_any, sum, AllWithin}
 use Rattle.mesh_atoms.specs.declared.graphs.Pair.{Pair}
+use Rattle.mesh_atoms.specs.declared.settings.Interface.{Interface}
 use Rattle.mesh_atoms.specs.declared.settings.RadioArc.{RadioArc}
+use Rattle.mesh_atoms.specs.declared.settings.RouterSettings.{RouterSettings}
+use Rattle.mesh_atoms.specs.Quality.{quality_at}
 
 -- the interfaces that the arc joins, and its metric
 abbrev pub pair_of : RadioArc → Pair
@@ -12,9 +15,35 @@ pair_of arc = record { from = arc.from; from_iface = arc.from_iface; to = arc.to
 abbrev pub leads_back : RadioArc → RadioArc → Bool
 leads_back arc back = nat_eq back.from arc.to && nat_eq back.from_iface arc.to_iface && nat_eq back.to arc.from && nat_eq back.to_iface arc.from_iface
 
--- some arc leads back between the interfaces of this
-abbrev pub is_met : List RadioArc → RadioArc → Bool
-is_met arcs arc = list_any (leads_back arc) arcs
+-- the interface of the router, where there is one
+abbrev pub face_in : Option RouterSettings → ℕ → Option Interface
+face_in None i = None
+face_in (Some router) i = slice_get router.interfaces i
+
+abbrev pub face_of : List RouterSettings → ℕ → ℕ → Option Interface
+face_of routers x i = face_in (slice_get routers x) i
+
+-- the first interface accepts the quality of what the second sends
+abbrev pub accepts : ℕ → Option Interface → Option Interface → Bool
+accepts end None from = false
+accepts end (Some to) None = false
+accepts end (Some to) (Some from) = nat_le to.admit.accept (quality_at to.admit from.addrs end)
+
+-- what the arc brings is admitted where it leads to
+abbrev pub is_admitted : List RouterSettings → ℕ → RadioArc → Bool
+is_admitted routers end arc = accepts end (face_of routers arc.to arc.to_iface) (face_of routers arc.from arc.from_iface)
+
+-- the second arc leads back between the interfaces of the first, and is admitted
+abbrev pub leads_home : List RouterSettings → ℕ → RadioArc → RadioArc → Bool
+leads_home routers end arc back = leads_back arc back && is_admitted routers end back
+
+-- some admitted arc leads back between the interfaces of this
+abbrev pub is_met : List RouterSettings → ℕ → List RadioArc → RadioArc → Bool
+is_met routers end arcs arc = list_any (leads_home routers end arc) arcs
+
+-- the arc joins its interfaces: it and one that leads back are admitted
+abbrev pub is_joined : List RouterSettings → ℕ → List RadioArc → RadioArc → Bool
+is_joined routers end arcs arc = is_admitted routers end arc && is_met routers end arcs arc
 
 -- a chain of pairs leads from router x to the router
 pub data Chain (pairs : List Pair) (x : ℕ) : ℕ → Type 0 where

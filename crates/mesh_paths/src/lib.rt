@@ -4,12 +4,14 @@
 
 mod certificate;
 mod frontier;
+mod joined;
 mod radio;
 mod rounds;
 mod settled;
 
 pub use certificate::{check, one_certificate};
 pub use frontier::search;
+pub use joined::is_joined;
 pub use mesh_atoms::{Arc4, Certificate, Graph, Pair, PathRow, RadioGraph};
 pub use radio::radio_graph;
 pub use rounds::search_by_rounds;

@@ -1,33 +1,43 @@
-//! The radio graph of a scenario: which interfaces hear each other, and which routers are joined.
+//! The radio graph of a scenario: which interfaces hear and admit each other, and which routers are joined.
 ghost use Rattle.std.specs.Prelude.{IfOk, Contains, ◌≡◌, ◌<◌, length, map, filter};
+ghost use Rattle.std.specs.Option.{option_copied};
 ghost use Rattle.std.specs.List.{range_with_len};
 ghost use Rattle.mesh_atoms.specs.declared.graphs.Pair.{Pair};
 ghost use Rattle.mesh_atoms.specs.Radio.{IsRadioGraph};
-ghost use Rattle.mesh_paths.specs.Parts.{pair_of, leads_back, is_met, IsInside, IsLevel, IsParts, Lowers, Goes};
+ghost use Rattle.mesh_paths.specs.Parts.{pair_of, face_of, accepts, is_admitted, leads_back, leads_home, is_met, is_joined, IsInside, IsLevel, IsParts, Lowers, Goes};
 
-use mesh_atoms::{Pair, RadioArc, RadioGraph, Scenario, Seq};
+use mesh_atoms::{
+    Interface, Pair, RadioArc, RadioGraph, RouterSettings, Scenario, Seq, quality_at,
+};
 use std::alloc::{AllocError, Global};
 
 /// The radio graph of a scenario: one pair for each direction of two joined interfaces, and for each router the least
-/// number among its own and those of the routers that chains of joined interfaces join it with. Takes time in proportion
-/// to arcs times arcs and routers together. Refuses for want of memory alone.
+/// number among its own and those of the routers that chains of joined interfaces join it with. Interfaces are joined by
+/// arcs both ways whose quality at the scenario's end is accepted where they lead to (RFC 6130, section 14). Takes time in
+/// proportion to arcs times arcs and routers together. Refuses for want of memory alone.
 pub fn radio_graph(alloc: Global, scenario: &Scenario) -> Result<RadioGraph, AllocError>
     ensures graph { IfOk result (λ graph. IsRadioGraph scenario.now graph) }
 {
-    let pairs = pairs_of(alloc, scenario.arcs.as_slice())?;
-    let parts = parts_of(alloc, scenario.routers.len(), pairs.as_slice())?;
+    let routers = scenario.routers.as_slice();
+    let pairs = pairs_of(alloc, routers, scenario.end, scenario.arcs.as_slice())?;
+    let parts = parts_of(alloc, routers.len(), pairs.as_slice())?;
     Ok(RadioGraph {
         pairs: Seq::from_vec(pairs),
         parts: Seq::from_vec(parts),
     })
 }
 
-// One pair for each arc between whose interfaces another leads back.
-fn pairs_of(alloc: Global, arcs: &[RadioArc]) -> Result<Vec<Pair>, AllocError>
-    ensures { IfOk result (λ pairs. pairs.items ≡ map pair_of (filter (is_met arcs.now) arcs.now)) }
+// One pair for each admitted arc between whose interfaces another leads back.
+fn pairs_of(
+    alloc: Global,
+    routers: &[RouterSettings],
+    end: u64,
+    arcs: &[RadioArc],
+) -> Result<Vec<Pair>, AllocError>
+    ensures { IfOk result (λ pairs. pairs.items ≡ map pair_of (filter (is_joined routers.now end arcs.now) arcs.now)) }
 {
     arcs.iter()
-        .filter(|arc| is_met(arcs, arc))
+        .filter(|arc| is_joined(routers, end, arcs, arc))
         .map(pair_of)
         .collect(alloc)
 }
@@ -45,11 +55,58 @@ fn pair_of(arc: &RadioArc) -> Pair
     }
 }
 
-// Whether some arc leads back between the interfaces of this.
-fn is_met(arcs: &[RadioArc], arc: &RadioArc) -> bool
-    ensures { result ≡ is_met arcs.now arc.now }
+// Whether the arc joins its interfaces: it and one that leads back are admitted.
+fn is_joined(routers: &[RouterSettings], end: u64, arcs: &[RadioArc], arc: &RadioArc) -> bool
+    ensures { result ≡ is_joined routers.now end arcs.now arc.now }
 {
-    arcs.iter().any(|back| leads_back(arc, back))
+    is_admitted(routers, end, arc) && is_met(routers, end, arcs, arc)
+}
+
+// Whether what the arc brings is admitted where it leads to.
+fn is_admitted(routers: &[RouterSettings], end: u64, arc: &RadioArc) -> bool
+    ensures { result ≡ is_admitted routers.now end arc.now }
+{
+    accepts(
+        end,
+        face_of(routers, arc.to, arc.to_iface),
+        face_of(routers, arc.from, arc.from_iface),
+    )
+}
+
+// The interface of a router, both numbered from 0, where there is one.
+fn face_of(routers: &[RouterSettings], router: usize, iface: usize) -> Option<&Interface>
+    ensures { option_copied result ≡ face_of routers.now router iface }
+{
+    match routers.get(router) {
+        Some(settings) => settings.interfaces.get(iface),
+        None => None,
+    }
+}
+
+// Whether the first interface accepts the quality of what the second sends, at that moment.
+fn accepts(end: u64, to: Option<&Interface>, from: Option<&Interface>) -> bool
+    ensures { result ≡ accepts end (option_copied to.entry) (option_copied from.entry) }
+{
+    match (to, from) {
+        (Some(to), Some(from)) => {
+            to.admit.accept <= quality_at(&to.admit, from.addrs.as_slice(), end)
+        }
+        _ => false,
+    }
+}
+
+// Whether some admitted arc leads back between the interfaces of this.
+fn is_met(routers: &[RouterSettings], end: u64, arcs: &[RadioArc], arc: &RadioArc) -> bool
+    ensures { result ≡ is_met routers.now end arcs.now arc.now }
+{
+    arcs.iter().any(|back| leads_home(routers, end, arc, back))
+}
+
+// Whether the second arc leads back between the interfaces of the first, and is admitted.
+fn leads_home(routers: &[RouterSettings], end: u64, arc: &RadioArc, back: &RadioArc) -> bool
+    ensures { result ≡ leads_home routers.now end arc.now back.now }
+{
+    leads_back(arc, back) && is_admitted(routers, end, back)
 }
 
 // Whether the second arc leads back between the interfaces of the first.

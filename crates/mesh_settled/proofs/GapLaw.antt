@@ -30,9 +30,11 @@ use Rattle.mesh_atoms.specs.Codes.{metric_value}
 use Rattle.mesh_atoms.specs.Hello.{Says, Flooding, Routing}
 use Rattle.mesh_atoms.specs.Radio.{Joins, Adjacent, IsMetric}
 use Rattle.mesh_atoms.specs.Settled.{At, IsLeastAddress, IsLinkTo, IsNeighbourOf, IsTwoHopBy, IsPeer, IsStray, IsRouterBy, IsAddressBy, IsNetworkBy, IsSettledAt}
-use Rattle.mesh_atoms.specs.State.{State, Is_symmetric, state_of, HasLink, HasTwoHop, HasSymmetric, HasAddress, IsOriginator}
+use Rattle.mesh_atoms.specs.declared.tuples.LinkState.TheVariants.{Symmetric as Is_symmetric}
+use Rattle.mesh_atoms.specs.State.{State, state_of, HasLink, HasTwoHop, HasSymmetric, HasAddress, IsOriginator}
 use Rattle.mesh_atoms.proofs.CodeLaws.{cost-injective}
 use Rattle.mesh_atoms.proofs.Deciding.{Decides-some}
+use Rattle.mesh_paths.proofs.Admitted.{joins_back}
 use Rattle.mesh_paths.proofs.Scenarios.{sound_scenario}
 use Rattle.mesh_settled.specs.declared.gap.GapKey.TheVariants.{Link, Neighbour, TwoHop, Router, Address, Network}
 use Rattle.mesh_settled.specs.Fields.{Field, AllSame, link_fields, neighbour_fields, two_hop_fields, router_fields, address_fields, network_fields, known_cost}
@@ -300,7 +302,7 @@ module _ (s : Scenario) (graph : RadioGraph) (states : List State) (now x : ℕ)
         (o : Addr4) × (n : NeighbourTuple) × (there back : Metric) × HasSymmetric p o n × IsMetric s x y there × IsMetric s y x back × IsNeighbourOf p q now there back o n
     neighbour_to y q at_y (i, j, m, n, joins) =
         let (there, there_is) = has_metric s graph net.graph x y i j m n joins in
-        let (back, back_is) = has_metric s graph net.graph y x j i n m (record { out = joins.home; home = joins.out }) in
+        let (back, back_is) = has_metric s graph net.graph y x j i n m (joins_back joins) in
         let (o, is_o) = (sound_scenario s).originators y q.settings (net.routers.settings y q at_y) in
         let mine = all_addresses p.settings.interfaces in
         let theirs = all_addresses q.settings.interfaces in

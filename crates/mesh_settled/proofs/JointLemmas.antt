@@ -18,6 +18,7 @@ use Rattle.mesh_atoms.specs.State.{State, HasAddressOn, HasAddress}
 use Rattle.mesh_settled.specs.declared.joints.Joint.{Joint}
 use Rattle.mesh_settled.specs.Found.{IsLeastMissing}
 use Rattle.mesh_settled.specs.Joints.{IsBack, IsLeastOf, IsJointBy, IsJointWith, IsOfSome}
+use Rattle.mesh_paths.proofs.Admitted.{joins_back}
 use Rattle.mesh_paths.proofs.SettledDecisions.{Contains_at}
 use Rattle.mesh_settled.proofs.Apart.{some_same, place_in}
 
@@ -79,7 +80,10 @@ module _ (s : Scenario) (g : RadioGraph) (is : IsRadioGraph s g) (states : List 
   pair_of joint = record { from = x; from_iface = i; to = joint.to; to_iface = joint.iface; metric = joint.there }
 
   pub joins_by : (pair : Pair) (m : Metric) → Contains g.pairs pair → IsBack g.pairs pair m → Joins s pair.from pair.from_iface pair.to pair.to_iface pair.metric m
-  joins_by pair m there back = record { out = ((is.pairs pair).0 there).1.out; home = ((is.pairs _).0 back).1.out }
+  joins_by pair m there back =
+      let first = ((is.pairs pair).0 there).1 in
+      let second = ((is.pairs _).0 back).1 in
+      record { out = first.out; home = second.out; out_admitted = first.out_admitted; home_admitted = second.out_admitted }
 
   joint_there : (pair : Pair) (joint : Joint) → Contains g.pairs pair → IsJointBy states g.pairs x i a pair joint → IsJointWith s states x i a joint
   joint_there pair joint there by =
@@ -89,7 +93,7 @@ module _ (s : Scenario) (g : RadioGraph) (is : IsRadioGraph s g) (states : List 
   of_joint : (joint : Joint) → IsJointWith s states x i a joint → IsOfSome (IsJointBy states g.pairs x i a) g.pairs joint
   of_joint joint with =
       let there = (is.pairs (pair_of joint)).1 (joint.back, with.0) in
-      let back = (is.pairs (record { from = joint.to; from_iface = joint.iface; to = x; to_iface = i; metric = joint.back })).1 (joint.there, record { out = with.0.home; home = with.0.out }) in
+      let back = (is.pairs (record { from = joint.to; from_iface = joint.iface; to = x; to_iface = i; metric = joint.back })).1 (joint.there, joins_back with.0) in
       (pair_of joint, there, record { from = refl; from_iface = refl; to = refl; iface = refl; there = refl; back = back; least = with.1 })
 
   pub joint_found : (o : Option Joint) → IsValue (IsOfSome (IsJointBy states g.pairs x i a) g.pairs) o → IsValue (IsJointWith s states x i a) o

@@ -1,7 +1,6 @@
 mod Apart
 pub mod FaceLemmas
 mod GapLaw
-mod JoinedLemmas
 mod JointLemmas
 mod KindLemmas
 mod Leasts

@@ -18,7 +18,8 @@ use Rattle.mesh_atoms.specs.Settled.{At, IsLinkTo, IsLeastAddress}
 use Rattle.mesh_atoms.specs.declared.tuples.LinkKey.{LinkKey}
 use Rattle.mesh_atoms.specs.declared.tuples.Link.{Link}
 use Rattle.mesh_atoms.specs.Base.{HasDistinctKeys, find, base_of, link_eq}
-use Rattle.mesh_atoms.specs.State.{State, is_symmetric, state_of, Is_symmetric, HasAddressOn}
+use Rattle.mesh_atoms.specs.declared.tuples.LinkState.TheVariants.{Symmetric as Is_symmetric}
+use Rattle.mesh_atoms.specs.State.{State, is_symmetric, state_of, HasAddressOn}
 use Rattle.mesh_atoms.proofs.Lookups.{looks_up_links, tests_symmetric}
 use Rattle.mesh_paths.proofs.Scenarios.{sound_scenario}
 use Rattle.mesh_settled.specs.declared.compare.Difference.{Difference}

@@ -9,27 +9,26 @@ use Rattle.mesh_atoms.specs.declared.graphs.RadioGraph.{RadioGraph}
 use Rattle.mesh_atoms.specs.declared.settings.Interface.{Interface}
 use Rattle.mesh_atoms.specs.declared.settings.RouterSettings.{RouterSettings}
 use Rattle.mesh_atoms.specs.declared.settings.Scenario.{Scenario}
+use Rattle.mesh_atoms.specs.Radio.{Joined}
 use Rattle.mesh_atoms.specs.Settled.{At, IsStray}
 use Rattle.mesh_atoms.specs.State.{State, HasAddress, IsOriginator}
-use Rattle.mesh_settled.specs.Joints.{is_joined}
 use Rattle.mesh_settled.specs.Network.{IsNetwork}
 use Rattle.mesh_settled.specs.Peers.{IsSender, IsStrayAt}
 use Rattle.mesh_settled.proofs.Apart.{some_same}
 use Rattle.mesh_settled.proofs.JointLemmas.{same_state, denied}
-use Rattle.mesh_settled.proofs.JoinedLemmas.{joined_test}
 
 pub addr_is : (a b : Addr4) → a.0 ≡ b.0 → a ≡ b
 addr_is a b e = ap (λ (n : ℕ). let r : Addr4 = record { 0 = n } in r) e
 
 module _ (s : Scenario) (graph : RadioGraph) (states : List State) (now x : ℕ) (net : IsNetwork s graph states now) where
-  pub not_sender : (from : Addr4) (w : ℕ) (b : Bool) → b ≡ is_joined graph.parts x w → b ≡ false → IsTrue false ↔ IsSender s states x from w
-  not_sender from w b test no_join = (λ e. absurd (false≢true e), λ h. let p = h.1 in absurd (false≢true (sym no_join ∙ (test ∙ (joined_test s graph net.graph x w).1 (p.other, p.joined)))))
+  pub not_sender : (from : Addr4) (w : ℕ) (b : Bool) → IsTrue b ↔ ((w ≢ x) × Joined s x w) → b ≡ false → IsTrue false ↔ IsSender s states x from w
+  not_sender from w b test no_join = (λ e. absurd (false≢true e), λ h. let p = h.1 in absurd (false≢true (sym no_join ∙ test.1 (p.other, p.joined))))
 
-  pub is_sender : (from own : Addr4) (w : ℕ) (b : Bool) (q : State) → b ≡ is_joined graph.parts x w → b ≡ true → At states w q → (settings : RouterSettings) → settings ≡ q.settings → IsOriginator settings own →
+  pub is_sender : (from own : Addr4) (w : ℕ) (b : Bool) (q : State) → IsTrue b ↔ ((w ≢ x) × Joined s x w) → b ≡ true → At states w q → (settings : RouterSettings) → settings ≡ q.settings → IsOriginator settings own →
       IsTrue (nat_eq own.0 from.0) ↔ IsSender s states x from w
   is_sender from own w b q test joins at settings same origin =
       let mine : IsOriginator q.settings own = subst (λ (r : RouterSettings). IsOriginator r own) same origin in
-      let j = (joined_test s graph net.graph x w).0 (sym test ∙ joins) in (
+      let j = test.0 joins in (
         λ e. (q, record { other = j.0; joined = j.1; at = at }, subst (IsOriginator q.settings) (addr_is own from (eqb-true own.0 from.0 e)) mine),
         λ h.
             let theirs : IsOriginator q.settings from = subst (λ (r : State). IsOriginator r.settings from) (same_state h.1.at at) h.2 in
@@ -37,13 +36,13 @@ module _ (s : Scenario) (graph : RadioGraph) (states : List State) (now x : ℕ)
             eq-eqb own.0 from.0 (ap (λ (a : Addr4). a.0) (some_same face theirs.2)),
       )
 
-  pub no_stray_at : (a : Addr4) (v : ℕ) (b : Bool) → b ≡ is_joined graph.parts x v → b ≡ true → IsTrue false ↔ IsStrayAt s x a v
-  no_stray_at a v b test joins = (λ e. absurd (false≢true e), λ w. absurd (w.1 ((joined_test s graph net.graph x v).0 (sym test ∙ joins)).1))
+  pub no_stray_at : (a : Addr4) (v : ℕ) (b : Bool) → IsTrue b ↔ ((v ≢ x) × Joined s x v) → b ≡ true → IsTrue false ↔ IsStrayAt s x a v
+  no_stray_at a v b test joins = (λ e. absurd (false≢true e), λ w. absurd (w.1 (test.0 joins).1))
 
-  pub stray_at : (a : Addr4) (v : ℕ) (b c : Bool) (q : State) → b ≡ is_joined graph.parts x v → b ≡ false → v ≢ x → At states v q → (settings : RouterSettings) → settings ≡ q.settings →
+  pub stray_at : (a : Addr4) (v : ℕ) (b c : Bool) (q : State) → IsTrue b ↔ ((v ≢ x) × Joined s x v) → b ≡ false → v ≢ x → At states v q → (settings : RouterSettings) → settings ≡ q.settings →
       IsTrue c ↔ HasAddress settings a → IsTrue c ↔ IsStrayAt s x a v
   stray_at a v b c q test no_join other at settings same has = (
-    λ e. (other, λ j. false≢true (sym no_join ∙ (test ∙ (joined_test s graph net.graph x v).1 (other, j))), (q.settings, net.routers.settings v q at, subst (λ (r : RouterSettings). HasAddress r a) same (has.0 e))),
+    λ e. (other, λ j. false≢true (sym no_join ∙ test.1 (other, j)), (q.settings, net.routers.settings v q at, subst (λ (r : RouterSettings). HasAddress r a) same (has.0 e))),
     λ w.
         let (r, is, mine) = w.2 in
         has.1 (subst (λ (r' : RouterSettings). HasAddress r' a) (some_same is (net.routers.settings v q at) ∙ sym same) mine),

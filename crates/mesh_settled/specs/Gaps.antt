@@ -16,7 +16,8 @@ use Rattle.mesh_atoms.specs.declared.addr.Addr4.{Addr4}
 use Rattle.mesh_atoms.specs.declared.settings.Scenario.{Scenario}
 use Rattle.mesh_atoms.specs.Base.{Has}
 use Rattle.mesh_atoms.specs.Radio.{Joins, IsMetric}
-use Rattle.mesh_atoms.specs.State.{State, Is_symmetric, state_of, HasLink, HasTwoHop, HasSymmetric}
+use Rattle.mesh_atoms.specs.declared.tuples.LinkState.TheVariants.{Symmetric as Is_symmetric}
+use Rattle.mesh_atoms.specs.State.{State, state_of, HasLink, HasTwoHop, HasSymmetric}
 use Rattle.mesh_atoms.specs.Settled.{At, IsLinkTo, IsNeighbourOf, IsTwoHopBy, IsPeer, IsStray, IsRouterBy, IsAddressBy, IsNetworkBy}
 use Rattle.mesh_settled.specs.declared.gap.Gap.{Gap}
 use Rattle.mesh_settled.specs.declared.gap.GapValue.{GapValue}

@@ -1,5 +1,5 @@
 -- The interfaces that the interfaces of a router are joined with.
-use Rattle.std.specs.Prelude.{◌≡◌, ℕ, List, Contains, Bool, not, ◌&&◌, nat_eq, nat_lt, length, slice_index}
+use Rattle.std.specs.Prelude.{◌≡◌, ℕ, List, Contains}
 use Rattle.std.specs.List.{flat_map}
 use Rattle.mesh_atoms.specs.declared.addr.Addr4.{Addr4}
 use Rattle.mesh_atoms.specs.declared.graphs.Pair.{Pair}
@@ -10,12 +10,6 @@ use Rattle.mesh_atoms.specs.Radio.{Joins}
 use Rattle.mesh_atoms.specs.Settled.{At, IsLeastAddress}
 use Rattle.mesh_atoms.specs.State.{State}
 use Rattle.mesh_settled.specs.declared.joints.Joint.{Joint}
-
--- router w is another one, in the part of router x
-abbrev pub is_joined : List ℕ → ℕ → ℕ → Bool
-is_joined parts x w =
-    not (nat_eq w x) && (nat_lt x (length parts)
-    && (nat_lt w (length parts) && nat_eq (slice_index parts x) (slice_index parts w)))
 
 -- the addresses of all interfaces
 abbrev pub all_addresses : List Interface → List Addr4

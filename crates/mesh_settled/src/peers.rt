@@ -2,7 +2,6 @@
 ghost use Rattle.std.specs.Prelude.{◌≡◌, ◌↔◌, IsTrue};
 ghost use Rattle.mesh_atoms.specs.Words.{IsValue};
 ghost use Rattle.mesh_atoms.specs.Settled.{IsStray};
-ghost use Rattle.mesh_settled.specs.Joints.{is_joined};
 ghost use Rattle.mesh_settled.specs.Peers.{IsSender, IsStrayAt};
 ghost use Rattle.mesh_settled.specs.Site.{states, IsSite};
 
@@ -10,20 +9,14 @@ use crate::joints::{is_address_of, router_at};
 use crate::site::Site;
 use mesh_atoms::Addr4;
 use mesh_machine::RouterView;
-
-// Whether router w is another one, in the part of router x.
-fn is_joined(parts: &[usize], x: usize, w: usize) -> bool
-    ensures { result ≡ is_joined parts.now x w }
-{
-    w != x && x < parts.len() && w < parts.len() && parts[x] == parts[w]
-}
+use mesh_paths::is_joined;
 
 // Whether router w is another one that is joined with router x, and has that originator.
 fn is_sender<R: RouterView>(site: &Site<'_, R>, from: Addr4, w: usize) -> bool
     requires { IsSite R.state site.now }
     ensures { IsTrue result ↔ IsSender site.entry.now.scenario.now (states R.state site.entry.now) site.entry.now.x from w }
 {
-    if !is_joined(site.graph.parts.as_slice(), site.x, w) {
+    if !is_joined(site.graph, site.x, w) {
         return false;
     }
     match router_at(site.routers, w) {
@@ -40,7 +33,7 @@ fn is_stray_at<R: RouterView>(site: &Site<'_, R>, v: usize, addr: Addr4) -> bool
     if v == site.x {
         return false;
     }
-    if is_joined(site.graph.parts.as_slice(), site.x, v) {
+    if is_joined(site.graph, site.x, v) {
         return false;
     }
     match router_at(site.routers, v) {

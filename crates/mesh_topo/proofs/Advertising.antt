@@ -305,7 +305,7 @@ module _ (gives gives' : Addr4 → Addr4 → Metric → Type 0) (same : (a o : A
   back : (a o : Addr4) (m : Metric) → gives' a o m ↔ gives a o m
   back a o m = ((same a o m).1, (same a o m).0)
 
-  same_row : (row : TcRow) → IsRowBy gives networks row → IsRowBy gives' networks row
+  pub same_row : (row : TcRow) → IsRowBy gives networks row → IsRowBy gives' networks row
   same_row row (Of_address a m dest origin routable gateway metric adv) =
       Of_address a m dest (λ t. same_origin gives gives' same a (origin.0 t), λ o. origin.1 (same_origin gives' gives back a o)) routable gateway metric (same_advertised gives gives' same a m adv)
   same_row row (Of_network distance m origin routable gateway metric adv) = Of_network distance m origin routable gateway metric (record {

@@ -8,3 +8,4 @@ pub mod Best
 pub mod Laws
 pub mod Members
 pub mod Offering
+pub mod Cutting

@@ -4,4 +4,5 @@ pub mod Offers
 pub mod Same
 pub mod Selectors
 pub mod Sets
+pub mod Spans
 pub mod Tuples

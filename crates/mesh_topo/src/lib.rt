@@ -5,9 +5,11 @@ mod keyed_set;
 mod outdated;
 mod rows;
 mod set;
+mod spans;
 mod take;
 mod topology;
 mod tuple;
 
 pub use rows::{Selector, tc_rows};
+pub use spans::{PartSpan, parts};
 pub use topology::{TcTaken, Topology};

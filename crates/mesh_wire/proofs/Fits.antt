@@ -1,6 +1,6 @@
 -- Messages of at most 1,100 lines can be encoded, and fit a datagram.
 use Rattle.std.proofs.Common.{◌≡◌, ℕ, ◌+◌, ◌*◌, ◌<◌, ◌≤◌, List, [], ◌∷◌, ◌++◌, length, take, drop, map, refl, sym, ap, subst, ◌∙◌, arith, lit≤, lit<, length-append, length-take, length-drop}
-use Rattle.std.specs.Prelude.{slice_range, Contains, All, Option, Some, None, Bool, true, false}
+use Rattle.std.specs.Prelude.{Contains, All, Option, Some, None, Bool, true, false}
 use Rattle.std.specs.Option.{option_map}
 use Rattle.std.specs.List.{flat_map, AllByRecursion}
 use Rattle.std.proofs.lemmas.List.{length-map}
@@ -154,7 +154,7 @@ blocks_short lines (b ∷ blocks) text (front, rest, whole, some, h, k) few (fir
 
 -- ---- how long message TLVs are
 
-saying_short : (kind ext : ℕ) (octets : List ℕ) → length octets ≤ 2 → length (least_tlv (saying kind ext octets)) ≤ 8
+saying_short : (kind ext : ℕ) (octets : List ℕ) → length octets ≤ 17 → length (least_tlv (saying kind ext octets)) ≤ 6 + length octets
 saying_short kind ext octets le =
     omega (
       arith,
@@ -165,27 +165,34 @@ saying_short kind ext octets le =
       length-append (tlvs.least_head 1 (record { kind = kind; ext = ext; first = 0; last = 0; multi = false; value = Some octets })) (least_value (Some octets)),
     )
 
-heading_short : (values : List ℕ) (b : Bool) (kind ext : ℕ) → length values ≤ 4 → length (flat_map least_tlv (heading_of values b kind ext)) ≤ 24
-heading_short values true kind ext le =
-    let v = least_tlv (saying 1 0 (take 1 values)) in
-    let i = least_tlv (saying 0 0 (slice_range values 1 2)) in
-    let x = least_tlv (saying kind ext (drop 2 values)) in
+heading_short : (validity values : List ℕ) (b : Bool) (kind ext : ℕ) → length validity ≤ 17 → length values ≤ 3 → length (flat_map least_tlv (heading_of validity values b kind ext)) ≤ 39
+heading_short validity values true kind ext short le =
+    let v = least_tlv (saying 1 0 validity) in
+    let i = least_tlv (saying 0 0 (take 1 values)) in
+    let x = least_tlv (saying kind ext (drop 1 values)) in
     omega (
       arith,
-      saying_short 1 0 (take 1 values) (omega (arith, length-take 1 values)),
-      saying_short 0 0 (slice_range values 1 2) (omega (arith, length-take 1 (drop 1 values))),
-      saying_short kind ext (drop 2 values) (omega (arith, length-drop 2 values)),
+      short,
+      le,
+      saying_short 1 0 validity short,
+      saying_short 0 0 (take 1 values) (omega (arith, length-take 1 values)),
+      length-take 1 values,
+      saying_short kind ext (drop 1 values) (omega (arith, le, length-drop 1 values)),
+      length-drop 1 values,
       length-append v (i ++ (x ++ [])),
       length-append i (x ++ []),
       length-append x [],
     )
-heading_short values false kind ext le =
-    let v = least_tlv (saying 1 0 (take 1 values)) in
-    let x = least_tlv (saying kind ext (drop 2 values)) in
+heading_short validity values false kind ext short le =
+    let v = least_tlv (saying 1 0 validity) in
+    let x = least_tlv (saying kind ext (drop 1 values)) in
     omega (
       arith,
-      saying_short 1 0 (take 1 values) (omega (arith, length-take 1 values)),
-      saying_short kind ext (drop 2 values) (omega (arith, length-drop 2 values)),
+      short,
+      le,
+      saying_short 1 0 validity short,
+      saying_short kind ext (drop 1 values) (omega (arith, le, length-drop 1 values)),
+      length-drop 1 values,
       length-append v (x ++ []),
       length-append x [],
     )
@@ -219,12 +226,12 @@ head_short m width =
       length-append (least_octet m.count) (least_number m.sequence),
     )
 
-pub fits_alone : (m : MessageFields) (lines : List Line) (values : List ℕ) (b : Bool) (kind ext : ℕ) → m.width ≡ 4 → length values ≤ 4 → m.tlvs ≡ heading_of values b kind ext → AreBlocks lines m.blocks →
+pub fits_alone : (m : MessageFields) (lines : List Line) (validity values : List ℕ) (b : Bool) (kind ext : ℕ) → m.width ≡ 4 → length validity ≤ 17 → length values ≤ 3 → m.tlvs ≡ heading_of validity values b kind ext → AreBlocks lines m.blocks →
     length lines ≤ 1100 → ((line : Line) → Contains lines line → HasFewParts line) → FitsAlone m
-fits_alone m lines values b kind ext width short tlvs are most few bytes form =
+fits_alone m lines validity values b kind ext width few_octets short tlvs are most few bytes form =
     let (text, rest, message, none, joined) = form.messages_is in
     let body = message.body_is in
-    let heading : length (flat_map least_tlv m.tlvs) ≤ 24 = rw tlvs (heading_short values b kind ext short) in
+    let heading : length (flat_map least_tlv m.tlvs) ≤ 39 = rw tlvs (heading_short validity values b kind ext few_octets short) in
     omega (
       arith,
       most,

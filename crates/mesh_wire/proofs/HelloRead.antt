@@ -1,5 +1,5 @@
 -- What the reading of a HELLO answers.
-use Rattle.std.proofs.Common.{◌≡◌, ℕ, Result, Ok, Err, List, sym, subst}
+use Rattle.std.proofs.Common.{◌≡◌, ℕ, Result, Ok, Err, List}
 use Rattle.std.specs.Prelude.{Option, IfOk, IfErr}
 use Rattle.mesh_atoms.specs.declared.addr.NetAddr.{NetAddr}
 use Rattle.mesh_atoms.specs.declared.hello.HelloRow.{HelloRow}

@@ -1,6 +1,6 @@
 -- What is written of a HELLO reads as it, breaks no rule, and has nothing that is ignored.
 use Rattle.std.proofs.Common.{◌≡◌, ℕ, ◌+◌, ◌*◌, ◌/◌, ◌%◌, ◌<◌, ◌≤◌, ◌⊎◌, inl, inr, List, [], ◌∷◌, length, take, map, refl, sym, ap, subst, ◌∙◌, arith, length-take}
-use Rattle.std.specs.Prelude.{Contains, AllPairs, Option, Some, None, IsSome, Bool, true, false, cond}
+use Rattle.std.specs.Prelude.{slice_range, drop, Contains, AllPairs, Option, Some, None, IsSome, Bool, true, false, cond}
 use Rattle.std.specs.Option.{option_map, is_some}
 use Rattle.std.proofs.lemmas.List.{length-map}
 use Rattle.mesh_atoms.specs.declared.addr.Addr4.{Addr4}
@@ -30,16 +30,16 @@ use Rattle.mesh_wire.specs.declared.lines.Line.{Line}
 use Rattle.mesh_wire.specs.Drafts.{octet_of, whole, HasHelloValues, heading_of, IsHelloMessage, FitsAlone}
 use Rattle.mesh_wire.specs.Hello.{local_value, link_value, other_value, OriginatorIs, TellsOther, IsReadHelloRow, HelloIs}
 use Rattle.mesh_wire.specs.HelloRules.{BreaksHello, AddressWidth, HopLimit, HopCount, NoValidity, WrongInterval, WrongWilling, Undefined, TwoValues, ShortPrefix, WrongMetric}
-use Rattle.mesh_wire.specs.Kinds.{local_if, link_metric, mpr_willing, IsStatusBelow}
+use Rattle.mesh_wire.specs.Kinds.{validity_time, local_if, link_metric, mpr_willing, IsStatusBelow}
 use Rattle.mesh_wire.specs.Lines.{kind_of, number, value_of, hello_line, high, flags_number}
 use Rattle.mesh_wire.specs.Metrics.{MetricKind, Link_in, Link_out, Near_in, Near_out, flag_of, ShowsMetric}
-use Rattle.mesh_wire.specs.Parts.{octets_of}
+use Rattle.mesh_wire.specs.Parts.{octets_of, values_of}
 use Rattle.mesh_wire.specs.Rows.{HasType, HasPart, HasValue, AreRows}
 use Rattle.mesh_wire.specs.Rules.{IsOctet, Keeps}
 use Rattle.mesh_wire.specs.Runs.{has_part}
 use Rattle.mesh_wire.specs.Writes.{IsSoleMessage, HasFlag, IsReadOfOther, IsReadOfHelloAddress, WritesHello, ReadsBackHello}
 use Rattle.mesh_wire.proofs.Fits.{message_fits, HasFewParts, fits_alone}
-use Rattle.mesh_wire.proofs.Headings.{validity_is, interval_is, times_are, willing_is, read_of_hello}
+use Rattle.mesh_wire.proofs.Headings.{validity_told, one_validity, interval_is, interval_told, willing_is, read_of_hello}
 use Rattle.mesh_wire.proofs.Laid.{whole_number}
 use Rattle.mesh_wire.proofs.LinesSay.{octet_value, octet_is, flags_are, metric_is, two_octets, metric_octets, has_flag, metric_value, column_of, metric_of}
 use Rattle.mesh_wire.proofs.OneHello.{one_hello}
@@ -171,18 +171,24 @@ module _ (hello : Hello) (values : List ℕ) (m : MessageFields) (h : IsHelloMes
     all = λ net at. row_at hello_line hello.rows m h.blocks up net at;
   }
 
-  three : take 3 values ≡ has.0 ∷ (has.1 ∷ (octet_of hello.willing ∷ []))
-  three = let (v, i, is_v, is_i, is) = has in ap (take 3) is
+  first : take 1 values ≡ has.0 ∷ []
+  first = let (v, i, is_v, is_i, is) = has in ap (take 1) is
 
-  heading : m.tlvs ≡ heading_of (has.0 ∷ (has.1 ∷ (octet_of hello.willing ∷ []))) (is_some hello.interval) mpr_willing 0
-  heading = h.tlvs ∙ ap (λ (l : List ℕ). heading_of l (is_some hello.interval) mpr_willing 0) three
+  two : slice_range values 1 3 ≡ has.1 ∷ (octet_of hello.willing ∷ [])
+  two = let (v, i, is_v, is_i, is) = has in ap (λ (l : List ℕ). slice_range l 1 3) is
+
+  heading : m.tlvs ≡ heading_of (has.0 ∷ []) (has.1 ∷ (octet_of hello.willing ∷ [])) (is_some hello.interval) mpr_willing 0
+  heading = h.tlvs ∙ ap (λ (l : List ℕ). heading_of l (slice_range values 1 3) (is_some hello.interval) mpr_willing 0) first ∙ ap (λ (l : List ℕ). heading_of (has.0 ∷ []) l (is_some hello.interval) mpr_willing 0) two
+
+  validity_there : values_of validity_time m ≡ (has.0 ∷ []) ∷ []
+  validity_there = validity_told (has.0 ∷ []) has.1 (octet_of hello.willing ∷ []) 0 m mpr_willing (inl refl) (is_some hello.interval) heading
 
   hello_is : HelloIs m hello
   hello_is = record {
     originator = originator_is m.originator hello.originator h.originator;
-    validity = validity_is has.0 has.1 (octet_of hello.willing ∷ []) 0 m mpr_willing (inl refl) 1 (is_some hello.interval) hello.validity heading has.2;
-    interval = interval_is has.0 has.1 (octet_of hello.willing ∷ []) 0 m mpr_willing (inl refl) 1 hello.interval heading has.3;
-    willing = willing_is has.0 has.1 (is_some hello.interval) m hello.willing heading;
+    validity = one_validity has.0 m 1 hello.validity validity_there has.2;
+    interval = interval_is (has.0 ∷ []) has.1 (octet_of hello.willing ∷ []) 0 m mpr_willing (inl refl) 1 hello.interval heading has.3;
+    willing = willing_is (has.0 ∷ []) has.1 (is_some hello.interval) m hello.willing heading;
     rows = rows_are;
   }
 
@@ -267,7 +273,7 @@ module _ (hello : Hello) (values : List ℕ) (m : MessageFields) (h : IsHelloMes
   few line on = let (row, there, is) = unmapped hello_line hello.rows line on in subst HasFewParts is (few_of row row.local refl (sender row there))
 
   pub fits : length hello.rows ≤ 1100 → FitsAlone m
-  fits most = fits_alone m (map hello_line hello.rows) (take 3 values) (is_some hello.interval) mpr_willing 0 h.width (omega (arith, length-take 3 values)) h.tlvs h.blocks (omega (arith, most, length-map hello.rows hello_line)) few
+  fits most = fits_alone m (map hello_line hello.rows) (take 1 values) (slice_range values 1 3) (is_some hello.interval) mpr_willing 0 h.width (omega (arith, length-take 1 values)) (omega (arith, length-take 2 (drop 1 values))) h.tlvs h.blocks (omega (arith, most, length-map hello.rows hello_line)) few
 
   pub encodable : IsEncodableMessage m
   encodable = message_fits m (map hello_line hello.rows) hello.originator h.width h.originator h.blocks
@@ -281,9 +287,10 @@ module _ (hello : Hello) (values : List ℕ) (m : MessageFields) (h : IsHelloMes
     count = h.count;
     sequence = h.sequence;
     reads = hello_is;
-    times = times_are has.0 has.1 (octet_of hello.willing ∷ []) 0 m mpr_willing (inl refl) hello.validity hello.interval heading has.2 has.3;
+    validity_is = (has.0, validity_there, has.2.1);
+    interval_is = interval_told (has.0 ∷ []) has.1 (octet_of hello.willing ∷ []) 0 m mpr_willing (inl refl) hello.interval heading has.3;
     keeps = keeps;
-    tlvs = read_of_hello m (take 3 values) (is_some hello.interval) h.tlvs;
+    tlvs = read_of_hello m (take 1 values) (slice_range values 1 3) (is_some hello.interval) h.tlvs;
     parts = part_read;
   }
 

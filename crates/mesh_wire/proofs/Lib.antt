@@ -3,12 +3,14 @@ pub mod Ascending
 pub mod Collected
 pub mod Collecting
 pub mod Deciding
+pub mod EachDistance
 pub mod EachHello
 pub mod EachTc
 pub mod Entries
 pub mod Examples
 pub mod ExamplesTc
 pub mod Fits
+pub mod Further
 pub mod Gathered
 pub mod Gathering
 pub mod Headings
@@ -25,6 +27,7 @@ pub mod LinesSay
 pub mod Made
 pub mod OneHello
 pub mod OneTc
+pub mod Ranks
 pub mod RowLines
 pub mod RowsSay
 pub mod Ruled

@@ -7,6 +7,8 @@ use Rattle.mesh_atoms.specs.declared.addr.NetAddr.{NetAddr}
 use Rattle.mesh_atoms.specs.declared.tc.TcRow.{TcRow}
 use Rattle.mesh_atoms.specs.declared.tc.Tc.{Tc}
 use Rattle.mesh_atoms.specs.Nodes.{IsBefore}
+use Rattle.mesh_atoms.specs.Codes.{time_at_distance}
+use Rattle.mesh_atoms.specs.Validity.{IsTimeValue}
 use Rattle.mesh_atoms.specs.Writable.{AreOneType, HaveTypeWhole}
 use Rattle.mesh_packet.specs.declared.packet.Span.{Span}
 use Rattle.mesh_packet.specs.Fields.{MessageFields, PacketFields}
@@ -17,23 +19,24 @@ use Rattle.mesh_wire.specs.declared.lines.Column.{Column}
 use Rattle.mesh_wire.specs.declared.lines.Column.TheVariants.{Local, Link, Other, Mpr, AddrType, Gateway, LinkIn, LinkOut, NearIn, NearOut}
 use Rattle.mesh_wire.specs.declared.lines.Line.{Line}
 use Rattle.mesh_wire.specs.Drafts.{HasTcValues, heading_of, IsTcMessage, FitsAlone}
-use Rattle.mesh_wire.specs.Kinds.{nbr_addr_type, gateway, link_metric, cont_seq_num}
+use Rattle.mesh_wire.specs.Kinds.{validity_time, nbr_addr_type, gateway, link_metric, cont_seq_num}
 use Rattle.mesh_wire.specs.Lines.{kind_of, value_of, flags_number, tc_line}
 use Rattle.mesh_wire.specs.Metrics.{Near_out, ShowsMetric}
-use Rattle.mesh_wire.specs.Parts.{octets_of}
+use Rattle.mesh_wire.specs.Parts.{octets_of, values_of}
 use Rattle.mesh_wire.specs.Rows.{HasPart, HasValue, AreRows}
 use Rattle.mesh_wire.specs.Rules.{Keeps}
 use Rattle.mesh_wire.specs.Runs.{has_part}
 use Rattle.mesh_wire.specs.Tc.{IsReadTcRow, TcIs}
 use Rattle.mesh_wire.specs.TcRules.{BreaksTc, AddressWidth, NoOriginator, NoSequence, NoValidity, WrongInterval, Content, AddrType as AddrTypeRule, TwoAddrTypes, ShortPrefix, GatewayOctet, TwoGateways, Beside, WrongMetric}
-use Rattle.mesh_wire.specs.Times.{distance_of}
+use Rattle.mesh_wire.specs.Times.{distance_of, ValidityIs}
 use Rattle.mesh_wire.specs.Writes.{IsSoleMessage, HasFlag, IsReadOfTcAddress, WritesTc, ReadsBackTc}
 use Rattle.mesh_wire.proofs.Fits.{message_fits, HasFewParts, fits_alone}
-use Rattle.mesh_wire.proofs.Headings.{validity_is, interval_is, times_are, content_is, read_of_tc}
+use Rattle.mesh_wire.proofs.Headings.{validity_told, interval_is, interval_told, content_is, read_of_tc}
 use Rattle.mesh_wire.proofs.HelloWritten.{bit_most, originator_is, none_said, flags_octet, metric_flagged}
 use Rattle.mesh_wire.proofs.LinesSay.{octet_value, octet_is, flags_are, metric_is, two_octets, metric_value}
 use Rattle.mesh_wire.proofs.OneTc.{one_tc}
 use Rattle.mesh_wire.proofs.RowLines.{unmapped, alone_again}
+use Rattle.mesh_wire.proofs.Further.{further}
 use Rattle.mesh_wire.proofs.RowsSay.{unique, among, row_stands, row_at, row_there, part_there, said_of, once, at_row, one_code}
 
 few_of : (row : TcRow) → HasFewParts (tc_line row)
@@ -62,8 +65,9 @@ part_of row kind octets LinkOut e v = cc
 part_of row kind octets NearIn e v = cc
 part_of row kind octets NearOut e v = inr (inr (e, metric_flagged Near_out row.metric octets (sym (metric_value Near_out (tc_line row)) ∙ v)))
 
-module _ (tc : Tc) (hop_limit : ℕ) (values : List ℕ) (m : MessageFields) (h : IsTcMessage tc hop_limit (map tc_line tc.rows) values m) (has : HasTcValues tc (map tc_line tc.rows) values)
-    (up : AllPairs (λ (a b : TcRow). IsBefore a.dest b.dest) tc.rows) (one_type : AreOneType tc.rows) (is_whole : HaveTypeWhole tc.rows) where
+module _ (tc : Tc) (hop_limit : ℕ) (validity values : List ℕ) (m : MessageFields) (h : IsTcMessage tc hop_limit validity (map tc_line tc.rows) values m) (has : HasTcValues tc (map tc_line tc.rows) values)
+    (up : AllPairs (λ (a b : TcRow). IsBefore a.dest b.dest) tc.rows) (one_type : AreOneType tc.rows) (is_whole : HaveTypeWhole tc.rows)
+    (value : IsTimeValue validity) (near : time_at_distance 1 validity ≡ tc.validity) where
   row_is : (row : TcRow) → Contains tc.rows row → IsReadTcRow m row
   row_is row there =
       let l = tc_line row in
@@ -81,19 +85,28 @@ module _ (tc : Tc) (hop_limit : ℕ) (values : List ℕ) (m : MessageFields) (h 
     all = λ net at. row_at tc_line tc.rows m h.blocks up net at;
   }
 
-  four : take 4 values ≡ has.0 ∷ (has.1 ∷ (tc.ansn / 256 ∷ (tc.ansn % 256 ∷ [])))
-  four = let (v, i, is_v, is_i, is) = has in ap (take 4) is
+  three : take 3 values ≡ has.0 ∷ (tc.ansn / 256 ∷ (tc.ansn % 256 ∷ []))
+  three = let (i, is_i, is) = has in ap (take 3) is
 
-  heading : m.tlvs ≡ heading_of (has.0 ∷ (has.1 ∷ (tc.ansn / 256 ∷ (tc.ansn % 256 ∷ [])))) (is_some tc.interval) cont_seq_num (cond tc.complete 0 1)
-  heading = h.tlvs ∙ ap (λ (l : List ℕ). heading_of l (is_some tc.interval) cont_seq_num (cond tc.complete 0 1)) four
+  heading : m.tlvs ≡ heading_of validity (has.0 ∷ (tc.ansn / 256 ∷ (tc.ansn % 256 ∷ []))) (is_some tc.interval) cont_seq_num (cond tc.complete 0 1)
+  heading = h.tlvs ∙ ap (λ (l : List ℕ). heading_of validity l (is_some tc.interval) cont_seq_num (cond tc.complete 0 1)) three
+
+  validity_there : values_of validity_time m ≡ validity ∷ []
+  validity_there = validity_told validity has.0 (tc.ansn / 256 ∷ (tc.ansn % 256 ∷ [])) (cond tc.complete 0 1) m cont_seq_num (inr refl) (is_some tc.interval) heading
+
+  near_by : distance_of m.count ≡ 1
+  near_by = ap distance_of h.count
+
+  validity_read : ValidityIs m (distance_of m.count) tc.validity
+  validity_read = subst (ValidityIs m (distance_of m.count)) (ap (λ (d : ℕ). time_at_distance d validity) near_by ∙ near) (further m validity value validity_there (distance_of m.count))
 
   tc_is : TcIs m tc
   tc_is = record {
     originator = originator_is m.originator (Some tc.originator) h.originator;
     sequence = h.sequence;
-    content = content_is has.0 has.1 (is_some tc.interval) m tc.ansn tc.complete heading;
-    validity = validity_is has.0 has.1 (tc.ansn / 256 ∷ (tc.ansn % 256 ∷ [])) (cond tc.complete 0 1) m cont_seq_num (inr refl) (distance_of m.count) (is_some tc.interval) tc.validity heading has.2;
-    interval = interval_is has.0 has.1 (tc.ansn / 256 ∷ (tc.ansn % 256 ∷ [])) (cond tc.complete 0 1) m cont_seq_num (inr refl) (distance_of m.count) tc.interval heading has.3;
+    content = content_is validity has.0 (is_some tc.interval) m tc.ansn tc.complete heading;
+    validity = validity_read;
+    interval = interval_is validity has.0 (tc.ansn / 256 ∷ (tc.ansn % 256 ∷ [])) (cond tc.complete 0 1) m cont_seq_num (inr refl) (distance_of m.count) tc.interval heading has.1;
     rows = rows_are;
   }
 
@@ -150,13 +163,13 @@ module _ (tc : Tc) (hop_limit : ℕ) (values : List ℕ) (m : MessageFields) (h 
   few : (line : Line) → Contains (map tc_line tc.rows) line → HasFewParts line
   few line on = let (row, there, is) = unmapped tc_line tc.rows line on in subst HasFewParts is (few_of row)
 
-  pub fits : length tc.rows ≤ 1100 → FitsAlone m
-  fits most = fits_alone m (map tc_line tc.rows) (take 4 values) (is_some tc.interval) cont_seq_num (cond tc.complete 0 1) h.width (omega (arith, length-take 4 values)) h.tlvs h.blocks (omega (arith, most, length-map tc.rows tc_line)) few
+  pub fits : length tc.rows ≤ 1100 → length validity ≤ 17 → FitsAlone m
+  fits most short = fits_alone m (map tc_line tc.rows) validity (take 3 values) (is_some tc.interval) cont_seq_num (cond tc.complete 0 1) h.width short (omega (arith, length-take 3 values)) h.tlvs h.blocks (omega (arith, most, length-map tc.rows tc_line)) few
 
   pub encodable : IsEncodableMessage m
   encodable = message_fits m (map tc_line tc.rows) (Some tc.originator) h.width h.originator h.blocks
 
-  pub written : (bytes : List ℕ) → IsSoleMessage m bytes → WritesTc tc hop_limit bytes
+  pub written : (bytes : List ℕ) → IsSoleMessage m bytes → WritesTc tc hop_limit validity bytes
   written bytes is = record {
     message = m;
     packet = is;
@@ -164,9 +177,10 @@ module _ (tc : Tc) (hop_limit : ℕ) (values : List ℕ) (m : MessageFields) (h 
     limit = h.limit;
     count = h.count;
     reads = tc_is;
-    times = times_are has.0 has.1 (tc.ansn / 256 ∷ (tc.ansn % 256 ∷ [])) (cond tc.complete 0 1) m cont_seq_num (inr refl) tc.validity tc.interval heading has.2 has.3;
+    validity_is = validity_there;
+    interval_is = interval_told validity has.0 (tc.ansn / 256 ∷ (tc.ansn % 256 ∷ [])) (cond tc.complete 0 1) m cont_seq_num (inr refl) tc.interval heading has.1;
     keeps = keeps;
-    tlvs = read_of_tc m (take 4 values) (is_some tc.interval) tc.complete h.tlvs;
+    tlvs = read_of_tc m validity (take 3 values) (is_some tc.interval) tc.complete h.tlvs;
     parts = part_read;
   }
 

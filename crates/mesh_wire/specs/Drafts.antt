@@ -39,20 +39,19 @@ HasHelloValues hello lines values =
     (validity : ℕ) × (interval : ℕ) × IsCodeOf hello.validity validity × IsCodeIfSome hello.interval interval
     × (values ≡ validity ∷ (interval ∷ (octet_of hello.willing ∷ columns_text columns lines)))
 
--- the values of a TC: its times, the number of its content, and those of its lines
+-- the values of a TC behind its validity: its interval, the number of its content, and those of its lines
 abbrev pub HasTcValues : Tc → List Line → List ℕ → Type 0
 HasTcValues tc lines values =
-    (validity : ℕ) × (interval : ℕ) × IsCodeOf tc.validity validity × IsCodeIfSome tc.interval interval
-    × (values ≡ validity ∷ (interval ∷ (tc.ansn / 256 ∷ (tc.ansn % 256 ∷ columns_text columns lines))))
+    (interval : ℕ) × IsCodeIfSome tc.interval interval × (values ≡ interval ∷ (tc.ansn / 256 ∷ (tc.ansn % 256 ∷ columns_text columns lines)))
 
 -- a TLV with a value
 abbrev pub saying : ℕ → ℕ → List ℕ → TlvFields
 saying kind ext octets = record { kind = kind; ext = ext; value = Some octets }
 
--- the message TLVs: the first octet as validity, the second as interval where there is one, and the others
-abbrev pub heading_of : List ℕ → Bool → ℕ → ℕ → List TlvFields
-heading_of values has_interval kind ext =
-    saying validity_time 0 (take 1 values) ∷ ((if has_interval then saying interval_time 0 (slice_range values 1 2) ∷ [] else []) ++ saying kind ext (drop 2 values) ∷ [])
+-- the message TLVs: the validity, the first of the other octets as interval where there is one, and those behind it
+abbrev pub heading_of : List ℕ → List ℕ → Bool → ℕ → ℕ → List TlvFields
+heading_of validity values has_interval kind ext =
+    saying validity_time 0 validity ∷ ((if has_interval then saying interval_time 0 (take 1 values) ∷ [] else []) ++ saying kind ext (drop 1 values) ∷ [])
 
 -- the message of a HELLO
 pub record IsHelloMessage (hello : Hello) (lines : List Line) (values : List ℕ) (m : MessageFields) : Type 0 where
@@ -62,27 +61,27 @@ pub record IsHelloMessage (hello : Hello) (lines : List Line) (values : List ℕ
   pub limit : m.limit ≡ None
   pub count : m.count ≡ None
   pub sequence : m.sequence ≡ None
-  pub tlvs : m.tlvs ≡ heading_of (take 3 values) (is_some hello.interval) mpr_willing 0
+  pub tlvs : m.tlvs ≡ heading_of (take 1 values) (slice_range values 1 3) (is_some hello.interval) mpr_willing 0
   pub blocks : AreBlocks lines m.blocks
 
 -- the message of a TC
-pub record IsTcMessage (tc : Tc) (hop_limit : ℕ) (lines : List Line) (values : List ℕ) (m : MessageFields) : Type 0 where
+pub record IsTcMessage (tc : Tc) (hop_limit : ℕ) (validity : List ℕ) (lines : List Line) (values : List ℕ) (m : MessageFields) : Type 0 where
   pub kind : m.kind ≡ 1
   pub width : m.width ≡ 4
   pub originator : m.originator ≡ Some (whole tc.originator)
   pub limit : m.limit ≡ Some hop_limit
   pub count : m.count ≡ Some 0
   pub sequence : m.sequence ≡ Some tc.sequence
-  pub tlvs : m.tlvs ≡ heading_of (take 4 values) (is_some tc.interval) cont_seq_num (if tc.complete then 0 else 1)
+  pub tlvs : m.tlvs ≡ heading_of validity (take 3 values) (is_some tc.interval) cont_seq_num (if tc.complete then 0 else 1)
   pub blocks : AreBlocks lines m.blocks
 
 -- a message of the HELLO, with values that are laid for it
 abbrev pub DraftsHello : Hello → MessageFields → Type 0
 DraftsHello hello m = (values : List ℕ) × HasHelloValues hello (map hello_line hello.rows) values × IsHelloMessage hello (map hello_line hello.rows) values m
 
--- a message of the TC, with values that are laid for it
-abbrev pub DraftsTc : Tc → ℕ → MessageFields → Type 0
-DraftsTc tc hop_limit m = (values : List ℕ) × HasTcValues tc (map tc_line tc.rows) values × IsTcMessage tc hop_limit (map tc_line tc.rows) values m
+-- a message of the TC with that validity, with values that are laid for it
+abbrev pub DraftsTc : Tc → ℕ → List ℕ → MessageFields → Type 0
+DraftsTc tc hop_limit validity m = (values : List ℕ) × HasTcValues tc (map tc_line tc.rows) values × IsTcMessage tc hop_limit validity (map tc_line tc.rows) values m
 
 -- each least form of a packet of the message alone fits a datagram
 abbrev pub FitsAlone : MessageFields → Type 0

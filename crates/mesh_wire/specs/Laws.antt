@@ -1,17 +1,22 @@
 -- That the definitions of a reading leave no choice and no message out.
-use Rattle.std.specs.Prelude.{◌≡◌, ℕ, ◌<◌, ◌⊎◌, List, Contains, Option}
+use Rattle.std.specs.Prelude.{◌≡◌, ℕ, ◌+◌, ◌<◌, ◌⊎◌, List, Contains, Option}
 use Rattle.mesh_atoms.specs.declared.addr.NetAddr.{NetAddr}
 use Rattle.mesh_atoms.specs.declared.hello.Hello.{Hello}
 use Rattle.mesh_atoms.specs.declared.tc.Tc.{Tc}
+use Rattle.mesh_atoms.specs.Codes.{time_at_distance}
+use Rattle.mesh_atoms.specs.Validity.{IsTimeValue}
 use Rattle.mesh_packet.specs.Fields.{MessageFields}
 use Rattle.mesh_tlv.specs.Fields.{TlvFields}
 use Rattle.mesh_wire.specs.Hello.{HelloIs}
 use Rattle.mesh_wire.specs.HelloRules.{BreaksHello}
 use Rattle.mesh_wire.specs.Parts.{octets_of}
+use Rattle.mesh_wire.specs.Rehop.{after_hops}
 use Rattle.mesh_wire.specs.Rows.{HasPart}
 use Rattle.mesh_wire.specs.Rules.{Keeps, FirstBroken}
 use Rattle.mesh_wire.specs.Tc.{TcIs}
 use Rattle.mesh_wire.specs.TcRules.{BreaksTc}
+use Rattle.mesh_wire.specs.Times.{ValidityIs}
+use Rattle.mesh_wire.specs.Writes.{WritesTc}
 
 -- a message that keeps the rules of a HELLO reads as one HELLO at most
 abbrev pub ReadsAsOneHello : Type 0
@@ -51,3 +56,15 @@ ReadsAsHelloOrNot = (message : MessageFields) → HasOctets message → ReadsOrB
 -- each message reads as a TC that keeps the rules, or breaks a first rule
 abbrev pub ReadsAsTcOrNot : Type 0
 ReadsAsTcOrNot = (message : MessageFields) → HasOctets message → ReadsOrBreaks (TcIs message) (BreaksTc message)
+
+-- a TC that is written tells, after any number of hops, the validity that the value has at that distance
+abbrev pub TellsAtEachDistance : Type 0
+TellsAtEachDistance =
+    (tc : Tc) (hop_limit : ℕ) (validity bytes : List ℕ) → (written : WritesTc tc hop_limit validity bytes) → IsTimeValue validity → (hops : ℕ) →
+    ValidityIs (after_hops written.message hop_limit hops) (hops + 1) (time_at_distance (hops + 1) validity)
+
+-- and breaks no rule there
+abbrev pub KeepsAtEachDistance : Type 0
+KeepsAtEachDistance =
+    (tc : Tc) (hop_limit : ℕ) (validity bytes : List ℕ) → (written : WritesTc tc hop_limit validity bytes) → IsTimeValue validity → (hops : ℕ) →
+    Keeps (BreaksTc (after_hops written.message hop_limit hops))

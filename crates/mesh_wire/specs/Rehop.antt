@@ -15,6 +15,10 @@ pub record HasHop (message : MessageFields) : Type 0 where
 abbrev pub one_hop_on : MessageFields → MessageFields
 one_hop_on message = record message { limit = option_map (λ n. n - 1) message.limit; count = option_map (λ n. n + 1) message.count }
 
+-- the message after so many hops, sent with that hop limit and no hop count above 0
+abbrev pub after_hops : MessageFields → ℕ → ℕ → MessageFields
+after_hops message hop_limit hops = record message { limit = Some (hop_limit - hops); count = Some hops }
+
 -- where the hop limit of a message with these flags stands, behind type, flags, size and originator
 abbrev pub limit_place : ℕ → ℕ
 limit_place flags = 4 + originator_size flags

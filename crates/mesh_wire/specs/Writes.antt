@@ -36,10 +36,9 @@ pub record IsSoleMessage (message : MessageFields) (bytes : List ℕ) : Type 0 w
 abbrev pub HasCode : MessageFields → ℕ → ℕ → Type 0
 HasCode message kind ticks = (code : ℕ) × (values_of kind message ≡ (code ∷ []) ∷ []) × (time_value code ≡ ticks)
 
--- such TLVs of the validity, and of the interval where there is one
-pub record HasTimes (message : MessageFields) (validity : ℕ) (interval : Option ℕ) : Type 0 where
-  pub validity_is : HasCode message validity_time validity
-  pub interval_is : (ticks : ℕ) → interval ≡ Some ticks → HasCode message interval_time ticks
+-- such a TLV of the interval, where there is one
+abbrev pub HasInterval : MessageFields → Option ℕ → Type 0
+HasInterval message interval = (ticks : ℕ) → interval ≡ Some ticks → HasCode message interval_time ticks
 
 -- a reading of a HELLO looks at the message TLV
 pub record IsReadOfHello (tlv : TlvFields) : Type 0 where
@@ -70,7 +69,8 @@ pub record WritesHello (hello : Hello) (bytes : List ℕ) : Type 0 where
   pub count : message.count ≡ None
   pub sequence : message.sequence ≡ None
   pub reads : HelloIs message hello
-  pub times : HasTimes message hello.validity hello.interval
+  pub validity_is : HasCode message validity_time hello.validity
+  pub interval_is : HasInterval message hello.interval
   pub keeps : Keeps (BreaksHello message)
   pub tlvs : (tlv : TlvFields) → Contains message.tlvs tlv → IsReadOfHello tlv
   pub parts : (net : NetAddr) (part : TlvFields) → HasPart message net part → IsReadOfHelloAddress message net part
@@ -85,16 +85,17 @@ pub record IsReadOfTcAddress (part : TlvFields) : Type 0 where
   pub kind : (part.kind ≡ nbr_addr_type) ⊎ ((part.kind ≡ gateway) ⊎ ((part.kind ≡ link_metric) × HasFlag Near_out (octets_of part.value)))
   pub ext : part.ext ≡ 0
 
--- The octets are a packet of one message alone with that hop limit, which has come no hop, reads as the TC, breaks no rule,
--- and has nothing that the reading ignores (RFC 7181, section 16).
-pub record WritesTc (tc : Tc) (hop_limit : ℕ) (bytes : List ℕ) : Type 0 where
+-- The octets are a packet of one message alone with that hop limit and that value of VALIDITY_TIME, which has come no hop, reads as
+-- the TC, breaks no rule, and has nothing that the reading ignores (RFC 7181, section 16).
+pub record WritesTc (tc : Tc) (hop_limit : ℕ) (validity : List ℕ) (bytes : List ℕ) : Type 0 where
   pub message : MessageFields
   pub packet : IsSoleMessage message bytes
   pub kind : message.kind ≡ 1
   pub limit : message.limit ≡ Some hop_limit
   pub count : message.count ≡ Some 0
   pub reads : TcIs message tc
-  pub times : HasTimes message tc.validity tc.interval
+  pub validity_is : values_of validity_time message ≡ validity ∷ []
+  pub interval_is : HasInterval message tc.interval
   pub keeps : Keeps (BreaksTc message)
   pub tlvs : (tlv : TlvFields) → Contains message.tlvs tlv → IsReadOfTc tlv
   pub parts : (net : NetAddr) (part : TlvFields) → HasPart message net part → IsReadOfTcAddress part

@@ -1,6 +1,6 @@
 //! Laws of the definitions, and small messages that they are tried on.
 ghost use Rattle.std.specs.Prelude.{◌∷◌, [], None, Some};
-ghost use Rattle.mesh_wire.specs.Laws.{ReadsAsOneHello, ReadsAsOneTc, BreaksOneHelloRule, BreaksOneTcRule, ReadsAsHelloOrNot, ReadsAsTcOrNot};
+ghost use Rattle.mesh_wire.specs.Laws.{ReadsAsOneHello, ReadsAsOneTc, BreaksOneHelloRule, BreaksOneTcRule, ReadsAsHelloOrNot, ReadsAsTcOrNot, TellsAtEachDistance, KeepsAtEachDistance};
 ghost use Rattle.mesh_wire.specs.Examples.{lone, lone_hello, bare, two_near, near_net, odd_types, own_net};
 ghost use Rattle.mesh_wire.specs.Hello.{HelloIs};
 ghost use Rattle.mesh_wire.specs.HelloRules.{BreaksHello};
@@ -22,6 +22,13 @@ pub fn one_reading()
 pub fn each_is_read_or_refused()
     ensures hello { ReadsAsHelloOrNot }
     ensures tc { ReadsAsTcOrNot }
+{}
+
+/// A TC that is written, with a value of VALIDITY_TIME whose codes are from 1 to 254, tells after any number of hops the time that
+/// the value has at that distance, and breaks no rule there (RFC 5497, section 6).
+pub fn written_for_each_distance()
+    ensures tells { TellsAtEachDistance }
+    ensures keeps { KeepsAtEachDistance }
 {}
 
 /// The HELLO of a router that hears nobody is read so, and breaks no rule. A message of nothing but its header wants its

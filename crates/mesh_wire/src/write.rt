@@ -2,6 +2,8 @@
 ghost use Rattle.std.specs.Prelude.{◌≡◌, ◌≤◌, length, map, List, IfOk};
 ghost use Rattle.std.specs.Option.{option_map};
 ghost use Rattle.mesh_tlv.specs.Fields.{fields};
+ghost use Rattle.mesh_atoms.specs.Codes.{time_at_distance};
+ghost use Rattle.mesh_atoms.specs.Validity.{IsTimeValue};
 ghost use Rattle.mesh_atoms.specs.Writable.{IsSentTime, IsSentIfSome, HaveSenderAlone, HaveStatusWhole, AreOneType, HaveTypeWhole};
 ghost use Rattle.mesh_packet.specs.declared.packet.Span.{Span};
 ghost use Rattle.mesh_packet.specs.Fields.{fields_of_message, PacketFields};
@@ -81,20 +83,21 @@ fn saying<'a>(kind: u8, ext: u8, octets: &'a [u8]) -> Tlv<'a>
 // The message TLVs: validity, interval where there is one, and another.
 fn heading_of<'a>(
     alloc: Global,
+    validity: &'a [u8],
     values: &'a [u8],
     has_interval: bool,
     kind: u8,
     ext: u8,
 ) -> Result<Seq<Tlv<'a>>, AllocError>
-    requires { 2 ≤ length values.now }
-    ensures { IfOk result (λ tlvs. map fields tlvs ≡ heading_of values.now has_interval kind ext) }
+    requires { 1 ≤ length values.now }
+    ensures { IfOk result (λ tlvs. map fields tlvs ≡ heading_of validity.now values.now has_interval kind ext) }
 {
     let mut tlvs = Seq::new(alloc);
-    tlvs.push(saying(VALIDITY_TIME, 0, &values[..1]))?;
+    tlvs.push(saying(VALIDITY_TIME, 0, validity))?;
     if has_interval {
-        tlvs.push(saying(INTERVAL_TIME, 0, &values[1..2]))?;
+        tlvs.push(saying(INTERVAL_TIME, 0, &values[..1]))?;
     }
-    tlvs.push(saying(kind, ext, &values[2..]))?;
+    tlvs.push(saying(kind, ext, &values[1..]))?;
     Ok(tlvs)
 }
 
@@ -145,7 +148,8 @@ fn hello_message<'a>(
 {
     let tlvs = heading_of(
         alloc,
-        &values[..3],
+        &values[..1],
+        &values[1..3],
         hello.interval.is_some(),
         MPR_WILLING,
         0,
@@ -163,14 +167,12 @@ fn hello_message<'a>(
     })
 }
 
-// The values of all TLVs of a TC.
+// The values of all TLVs of a TC but its validity.
 fn tc_values(alloc: Global, tc: &Tc, lines: &[Line]) -> Result<Bytes, AllocError>
-    requires validity { IsSentTime tc.now.validity }
-    requires interval { IsSentIfSome tc.now.interval }
+    requires { IsSentIfSome tc.now.interval }
     ensures { IfOk result (HasTcValues tc.now lines.now) }
 {
     let mut values = Bytes::new(alloc);
-    values.push(code_of(tc.validity))?;
     values.push(code_if_some(tc.interval))?;
     values.push((tc.ansn / 256) as u8)?;
     values.push((tc.ansn % 256) as u8)?;
@@ -183,22 +185,24 @@ fn tc_message<'a>(
     alloc: Global,
     tc: &Tc,
     hop_limit: u8,
+    validity: &'a [u8],
     lines: &[Line],
     values: &'a [u8],
 ) -> Result<Message<'a>, AllocError>
     requires lines { lines.now ≡ map tc_line tc.now.rows }
     requires values { HasTcValues tc.now lines.now values.now }
-    ensures { IfOk result (λ message. DraftsTc tc.now hop_limit (fields_of_message message)) }
+    ensures { IfOk result (λ message. DraftsTc tc.now hop_limit validity.now (fields_of_message message)) }
 {
     let ext = if tc.complete { 0 } else { 1 };
     let tlvs = heading_of(
         alloc,
-        &values[..4],
+        validity,
+        &values[..3],
         tc.interval.is_some(),
         CONT_SEQ_NUM,
         ext,
     )?;
-    let blocks = blocks_of(alloc, lines, &values[4..])?;
+    let blocks = blocks_of(alloc, lines, &values[3..])?;
     Ok(Message {
         kind: 1,
         width: 4,
@@ -232,22 +236,32 @@ pub fn write_hello(alloc: Global, hello: &Hello) -> Result<Bytes, AllocError>
     alone(alloc, message)
 }
 
-/// Writes a TC as a packet of its own with that hop limit and hop count 0, in the least form (RFC 7181, section 16). It takes at
-/// most 1,100 rows. Its times are those of codes from 1 to 254. A row with `origin` or `routable` has no gateway, and is of a
-/// whole address. Want of memory is the only fault.
-pub fn write_tc(alloc: Global, tc: &Tc, hop_limit: u8) -> Result<Bytes, AllocError>
+/// Writes a TC as a packet of its own with that hop limit and hop count 0, in the least form (RFC 7181, section 16). The value of
+/// VALIDITY_TIME may tell more than one validity, by distance (RFC 5497, section 6): in at most 17 octets, all its codes from 1 to
+/// 254; the TC's validity is what it tells at distance 1. It takes at most 1,100 rows. Its interval is that of such a code. A row with
+/// `origin` or `routable` has no gateway, and is of a whole address. Want of memory is the only fault.
+pub fn write_tc(alloc: Global, tc: &Tc, hop_limit: u8, validity: &[u8]) -> Result<Bytes, AllocError>
     requires few { length tc.now.rows ≤ 1100 }
-    requires validity { IsSentTime tc.now.validity }
+    requires value { IsTimeValue validity.now }
+    requires short { length validity.now ≤ 17 }
+    requires near { time_at_distance 1 validity.now ≡ tc.now.validity }
     requires interval { IsSentIfSome tc.now.interval }
     requires kinds { AreOneType tc.now.rows }
     requires whole { HaveTypeWhole tc.now.rows }
     // What is written.
-    ensures writes { IfOk result (WritesTc tc.now hop_limit) }
+    ensures writes { IfOk result (WritesTc tc.now hop_limit validity.now) }
     // Whatever it is read as is that TC.
     ensures back { IfOk result (λ bytes. (packet : PacketFields) (spans : List Span) → Spells packet spans bytes → ReadsBackTc tc.now packet) }
 {
     let lines = tc_lines(alloc, tc.rows.as_slice())?;
     let values = tc_values(alloc, tc, lines.as_slice())?;
-    let message = tc_message(alloc, tc, hop_limit, lines.as_slice(), values.as_slice())?;
+    let message = tc_message(
+        alloc,
+        tc,
+        hop_limit,
+        validity,
+        lines.as_slice(),
+        values.as_slice(),
+    )?;
     alone(alloc, message)
 }

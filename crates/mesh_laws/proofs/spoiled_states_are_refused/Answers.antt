@@ -43,6 +43,15 @@ returns-clause-link_of_shared_address c = spoiled.link_of_shared_address
 pub returns-clause-link_gone : goal.returns-clause-link_gone
 returns-clause-link_gone c = spoiled.link_gone
 
+pub returns-clause-other_quality : goal.returns-clause-other_quality
+returns-clause-other_quality c = spoiled.other_quality
+
+pub returns-clause-lost_link_kept : goal.returns-clause-lost_link_kept
+returns-clause-lost_link_kept c = spoiled.lost_link_kept
+
+pub returns-clause-made_unadmitted : goal.returns-clause-made_unadmitted
+returns-clause-made_unadmitted c = spoiled.made_unadmitted
+
 pub returns-clause-full_of_one : goal.returns-clause-full_of_one
 returns-clause-full_of_one c = spoiled.full_of_one
 

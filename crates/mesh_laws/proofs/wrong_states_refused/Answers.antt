@@ -16,6 +16,9 @@ returns-clause-tuple_of_old_number c = wrong.tuple_of_old_number
 pub returns-clause-hidden_neighbour : goal.returns-clause-hidden_neighbour
 returns-clause-hidden_neighbour c = wrong.hidden_neighbour
 
+pub returns-clause-pending_told : goal.returns-clause-pending_told
+returns-clause-pending_told c = wrong.pending_told
+
 pub returns-clause-row_of_no_selector : goal.returns-clause-row_of_no_selector
 returns-clause-row_of_no_selector c = wrong.row_of_no_selector
 
@@ -36,3 +39,6 @@ returns-clause-route_twice c = wrong.route_twice
 
 pub returns-clause-tuple_too_many : goal.returns-clause-tuple_too_many
 returns-clause-tuple_too_many c = wrong.tuple_too_many
+
+pub returns-clause-stale_tuple : goal.returns-clause-stale_tuple
+returns-clause-stale_tuple c = wrong.stale_tuple

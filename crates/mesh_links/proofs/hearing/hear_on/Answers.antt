@@ -37,5 +37,5 @@ returns-in_ok-renew_at-in-Some-clause-ok g c least at =
     let addr : c.in-Some.addr.now ≡ least.addr = cc in
     let same : key ≡ least = ap (λ (a : Addr4). let k : LinkKey = record { addr = a } in k) addr in
     let (start, begins, sets) = c.in_ok-renew_at-in-Some.ensures.ok in
-    subst (λ (k : LinkKey). HearsOn c.args.shown.now k c.args.hold c.args.now old new) same
-    (hears_after c.args.shown.now key c.args.hold c.args.now old mid new start (rw c.as_slice-sending.ensures at c.end_all.ensures.kept) begins sets)
+    subst (λ (k : LinkKey). HearsOn c.args.rule.now c.args.shown.now k c.args.hold c.args.now old new) same
+    (hears_after c.args.rule.now c.args.shown.now key c.args.hold c.args.now old mid new start (rw c.as_slice-sending.ensures at c.end_all.ensures.kept) begins sets)

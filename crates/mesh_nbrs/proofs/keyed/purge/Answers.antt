@@ -1,4 +1,4 @@
-use Rattle.std.proofs.Common.{◌≡◌, Bool, is_some, rules}
+use Rattle.std.proofs.Common.{◌≡◌, is_some, rules}
 use Rattle.std.specs.List.{filter}
 use Rattle.std.proofs.lemmas.Fn.{filter_same}
 use Rattle.mesh_atoms.specs.Base.{find}

@@ -1,4 +1,3 @@
-use Rattle.mesh_nbrs.specs.Parts.{IsPart}
 use Rattle.mesh_nbrs.proofs.ByAddress.{parts_more}
 use Rattle.mesh_nbrs.proofs.parts.add_note.Goals as goal
 

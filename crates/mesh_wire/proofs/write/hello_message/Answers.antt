@@ -1,5 +1,5 @@
 use Rattle.std.proofs.Common.{refl, ap, subst, ◌∙◌, List, map, Bool}
-use Rattle.std.specs.Prelude.{take}
+use Rattle.std.specs.Prelude.{take, slice_range}
 use Rattle.mesh_packet.specs.Fields.{fields_of_block}
 use Rattle.mesh_wire.specs.declared.lines.Line.{Line}
 use Rattle.mesh_wire.specs.Drafts.{HasHelloValues, heading_of}
@@ -18,7 +18,7 @@ returns c =
         limit = refl;
         count = refl;
         sequence = refl;
-        tlvs = c.in_ok-tlvs.ensures ∙ ap (λ (b : Bool). heading_of (take 3 values) b 7 0) c.is_some.ensures;
+        tlvs = c.in_ok-tlvs.ensures ∙ ap (λ (b : Bool). heading_of (take 1 values) (slice_range values 1 3) b 7 0) c.is_some.ensures;
         blocks = subst (λ (lines : List Line). AreBlocks lines (map fields_of_block c.in_ok-blocks.blocks)) c.requires.lines c.in_ok-blocks.ensures;
       },
     )

@@ -25,7 +25,7 @@ returns c =
         limit = refl;
         count = refl;
         sequence = refl;
-        tlvs = c.in_ok-tlvs.ensures ∙ ap (λ (b : Bool). heading_of (take 4 values) b 8 c.if-tc.ext) c.is_some.ensures ∙ ap (λ (n : ℕ). heading_of (take 4 values) (is_some c.args.tc.now.interval) 8 n) ext;
+        tlvs = c.in_ok-tlvs.ensures ∙ ap (λ (b : Bool). heading_of c.args.validity.now (take 3 values) b 8 c.if-tc.ext) c.is_some.ensures ∙ ap (λ (n : ℕ). heading_of c.args.validity.now (take 3 values) (is_some c.args.tc.now.interval) 8 n) ext;
         blocks = subst (λ (lines : List Line). AreBlocks lines (map fields_of_block c.in_ok-blocks.blocks)) c.requires.lines c.in_ok-blocks.ensures;
       },
     )

@@ -8,10 +8,10 @@ use Rattle.mesh_nhdp.specs.Calls.{DropsEnded}
 use Rattle.mesh_nhdp.proofs.interfaces.ExpiryChange.change.Goals as goal
 
 pub returns : goal.returns
-returns g c = record {
+returns g c face at = record {
   distinct_links = c.expire.ensures.distinct;
   distinct_two_hops = subst (λ (b : Base TwoHopKey TwoHop). HasDistinctKeys two_hop_eq b) c.table.ensures.content c.len-count.ensures.distinct;
-  links = c.expire.ensures.expired;
+  links = (c.admit_on.new.links, c.in_ok-admit_on.ensures face at, c.expire.ensures.expired);
   two_hops = (
     c.expire-2.new.self,
     c.in_ok-before.before.items,

@@ -1,0 +1,148 @@
+-- What quality makes of links, one after the other.
+use Rattle.std.proofs.Common.{◌≡◌, ℕ, ◌<◌, ◌≤◌, ◌++◌, ◌+◌, take, drop, map, min, arith, inl, inr, refl, sym, ap, subst, ◌∙◌, Bool, true, false, cond, List, [], ◌∷◌, length, Some}
+use Rattle.std.specs.Prelude.{slice_get, nat_eq, nat_le, nat_lt, not, ◌&&◌, ◌||◌}
+use Rattle.std.specs.List.{fold, filter, list_all, list_any}
+use Rattle.std.proofs.lemmas.Bool.{eqb-true}
+use Rattle.std.proofs.lemmas.Map.Entries.{lookup_from_place}
+use Rattle.std.proofs.lemmas.Map.Made.{lookup-map_values}
+use Rattle.std.proofs.lemmas.Option.{slice_get_cases}
+use Rattle.std.proofs.lemmas.List.{take_all, length-drop}
+use Rattle.mesh_atoms.specs.declared.addr.Addr4.{Addr4}
+use Rattle.mesh_atoms.specs.declared.admit.Admit.{Admit}
+use Rattle.mesh_atoms.specs.declared.admit.QualityStep.{QualityStep}
+use Rattle.mesh_atoms.specs.declared.admit.SenderQuality.{SenderQuality}
+use Rattle.mesh_atoms.specs.declared.tuples.LinkKey.{LinkKey}
+use Rattle.mesh_atoms.specs.declared.tuples.Link.{Link}
+use Rattle.mesh_atoms.specs.Base.{Base, HasDistinctKeys, find, link_eq, addr_eq}
+use Rattle.mesh_atoms.specs.Quality.{quality_of, quality_at, by_quality, admitted}
+use Rattle.mesh_atoms.proofs.Lookups.{link_equiv}
+use Rattle.mesh_expire.specs.Table.{changed_at}
+use Rattle.mesh_expire.proofs.Laws.{changed_at-agrees, distinct-changed_at, walk_at, walk_changed}
+use Rattle.mesh_links.specs.Links.{AdmitsLinks, HasRoom}
+use Rattle.mesh_links.specs.Owners.{IsFewer}
+use Rattle.mesh_links.specs.Rulings.{is_steady, ruled}
+use Rattle.mesh_links.specs.declared.admittance.Ruling.{Ruling}
+use Rattle.mesh_links.proofs.Room.{room_changed}
+use Rattle.mesh_links.proofs.Tied.{fewer_changed, fewer_twice}
+
+-- A link keeps its addresses, and the moment up to which it is symmetric
+
+record StaysAlike (e f : Link × ℕ) : Type 0 where
+  pub addrs : f.0.addrs ≡ e.0.addrs
+  pub sym : f.0.sym ≡ e.0.sym
+
+alike : (rule : Admit) (hold now quality : ℕ) (e : Link × ℕ) → StaysAlike e (by_quality rule hold now quality e)
+alike rule hold now quality e = by_test (nat_le rule.accept quality) (nat_lt quality rule.reject && not (e.0.pending || e.0.lost)) where
+  by_test : (b c : Bool) → StaysAlike e (cond b (record e.0 { quality = quality; pending = false; lost = false }, e.1) (cond c (record e.0 { quality = quality; lost = true }, min e.1 (now + hold)) (record e.0 { quality = quality }, e.1)))
+  by_test true c = record { addrs = refl; sym = refl }
+  by_test false true = record { addrs = refl; sym = refl }
+  by_test false false = record { addrs = refl; sym = refl }
+
+addrs-admitted : (rule : Admit) (hold now : ℕ) (e : Link × ℕ) → (admitted rule hold now e).0.addrs ≡ e.0.addrs
+addrs-admitted rule hold now e = (alike rule hold now (quality_at rule e.0.addrs now) e).addrs
+
+sym-admitted : (rule : Admit) (hold now : ℕ) (e : Link × ℕ) → (admitted rule hold now e).0.sym ≡ e.0.sym
+sym-admitted rule hold now e = (alike rule hold now (quality_at rule e.0.addrs now) e).sym
+
+-- a change that changes nothing, and two changes of one entry
+on_one : (b : Bool) (k : LinkKey) (x : Link × ℕ) (es fs : Base LinkKey Link) → es ≡ fs → (k, cond b x x) ∷ es ≡ (k, x) ∷ fs
+on_one true k x es fs rest = ap (λ (l : Base LinkKey Link). (k, x) ∷ l) rest
+on_one false k x es fs rest = ap (λ (l : Base LinkKey Link). (k, x) ∷ l) rest
+
+changed_at-same : (key : LinkKey) (base : Base LinkKey Link) → changed_at link_eq base key (λ e. e) ≡ base
+changed_at-same key [] = refl
+changed_at-same key (e ∷ es) = on_one (link_eq key e.0) e.0 e.1 (changed_at link_eq es key (λ x. x)) es (changed_at-same key es)
+
+on_two : (b : Bool) (k : LinkKey) (first second : Link × ℕ → Link × ℕ) (x : Link × ℕ) (es fs : Base LinkKey Link) → es ≡ fs → (k, cond b (second (cond b (first x) x)) (cond b (first x) x)) ∷ es ≡ (k, cond b (second (first x)) x) ∷ fs
+on_two true k first second x es fs rest = ap (λ (l : Base LinkKey Link). (k, second (first x)) ∷ l) rest
+on_two false k first second x es fs rest = ap (λ (l : Base LinkKey Link). (k, x) ∷ l) rest
+
+pub changed_at-twice : (key : LinkKey) (first second : Link × ℕ → Link × ℕ) (base : Base LinkKey Link) → changed_at link_eq (changed_at link_eq base key first) key second ≡ changed_at link_eq base key (λ e. second (first e))
+changed_at-twice key first second [] = refl
+changed_at-twice key first second (e ∷ es) =
+    on_two (link_eq key e.0) e.0 first second e.1 (changed_at link_eq (changed_at link_eq es key first) key second) (changed_at link_eq es key (λ x. second (first x))) (changed_at-twice key first second es)
+
+-- a change that leaves what stands at the key
+pub changed_at-still : (key : LinkKey) (change : Link × ℕ → Link × ℕ) (base : Base LinkKey Link) → HasDistinctKeys link_eq base → ((entry : Link × ℕ) → find link_eq base key ≡ Some entry → change entry ≡ entry) → base ≡ changed_at link_eq base key change
+changed_at-still key change base distinct still = sym (changed_at-agrees link_equiv key change (λ e. e) base distinct still ∙ changed_at-same key base)
+
+-- what stands at a place stands at its key
+pub found_at : (key : LinkKey) (e : Link × ℕ) (base : Base LinkKey Link) (place : ℕ) → HasDistinctKeys link_eq base → slice_get base place ≡ Some (key, e) → find link_eq base key ≡ Some e
+found_at key e base place distinct at = lookup_from_place link_equiv base place key e distinct at
+
+same_key : (x y : LinkKey × (Link × ℕ)) → Some x ≡ Some y → x.0 ≡ y.0
+same_key x y h = let pair : x ≡ y = cc in ap (λ (p : LinkKey × (Link × ℕ)). p.0) pair
+
+-- by the ruling on the link at a place
+pub admitted_by : (rule : Admit) (hold now : ℕ) (old new : Base LinkKey Link) (place : ℕ) (key : LinkKey) (ruling : Ruling) (e : Link × ℕ) → HasDistinctKeys link_eq old → slice_get old place ≡ Some (key, e)
+    → ruled ruling e.0 ≡ admitted rule hold now e → new ≡ changed_at link_eq old key (λ f. ruled ruling f.0) → (q : LinkKey) (f : Link × ℕ) → slice_get old place ≡ Some (q, f) → new ≡ changed_at link_eq old q (admitted rule hold now)
+admitted_by rule hold now old new place key ruling e distinct at is set q f at_too =
+    let same : key ≡ q = same_key (key, e) (q, f) (sym at ∙ at_too) in
+    let there = found_at key e old place distinct at in
+    set ∙ changed_at-agrees link_equiv key (λ x. ruled ruling x.0) (admitted rule hold now) old distinct (λ entry found. (
+    let one : Some e ≡ Some entry = sym there ∙ found in
+    let entry_is : e ≡ entry = cc in
+    subst (λ (x : Link × ℕ). ruled ruling x.0 ≡ admitted rule hold now x) entry_is is))
+    ∙ ap (λ (k : LinkKey). changed_at link_eq old k (admitted rule hold now)) same
+
+-- where no sender has a step every quality is 100
+both_true : (a b : Bool) → (a && b) ≡ true → (a ≡ true) × (b ≡ true)
+both_true true b h = (refl, h)
+both_true false b h = absurd cc
+
+no_steps : (steps : List QualityStep) (now : ℕ) → nat_eq (length steps) 0 ≡ true → quality_of steps now ≡ 100
+no_steps [] now h = refl
+no_steps (s ∷ ss) now h = let none : length (s ∷ ss) ≡ 0 = eqb-true (length (s ∷ ss)) 0 h in absurd (omega (arith, none))
+
+one_more : (b : Bool) (s : SenderQuality) (ss : List SenderQuality) (now : ℕ) → quality_of s.steps now ≡ 100 → fold min 100 (map (λ x. quality_of x.steps now) ss) ≡ 100 → fold min 100 (map (λ x. quality_of x.steps now) (cond b (s ∷ ss) ss)) ≡ 100
+one_more true s ss now is rest = rw is rest
+one_more false s ss now is rest = rest
+
+qualities : (among : SenderQuality → Bool) (now : ℕ) (senders : List SenderQuality) → list_all (λ s. nat_eq (length s.steps) 0) senders ≡ true → fold min 100 (map (λ s. quality_of s.steps now) (filter among senders)) ≡ 100
+qualities among now [] none = refl
+qualities among now (s ∷ ss) none =
+    let both = both_true (nat_eq (length s.steps) 0) (list_all (λ x. nat_eq (length x.steps) 0) ss) none in
+    one_more (among s) s (filter among ss) now (no_steps s.steps now both.0) (qualities among now ss both.1)
+
+pub steady_quality : (rule : Admit) (addrs : List Addr4) (now : ℕ) → is_steady rule ≡ true → quality_at rule addrs now ≡ 100
+steady_quality rule addrs now steady = qualities (λ s. list_any (addr_eq s.sender) addrs) now rule.senders steady
+
+-- all links, one after the other
+append_none : {A : Type 0} (xs : List A) → xs ++ [] ≡ xs
+append_none [] = refl
+append_none (x ∷ xs) = ap (λ rest. x ∷ rest) (append_none xs)
+
+none_left : {A : Type 0} (xs : List A) → length xs ≡ 0 → xs ≡ []
+none_left [] h = refl
+none_left (x ∷ xs) h = absurd (omega (arith, h))
+
+pub admits_links : (rule : Admit) (hold now : ℕ) (old new : Base LinkKey Link) (place : ℕ) → length old ≤ place → new ≡ map (λ e. (e.0, admitted rule hold now e.1)) (take place old) ++ drop place old → AdmitsLinks rule hold now old new
+admits_links rule hold now old new place all so_far key =
+    let whole : take place old ≡ old = take_all place old all in
+    let rest : drop place old ≡ [] = none_left (drop place old) (let h = length-drop place old in omega (arith, h, all)) in
+    let is : new ≡ map (λ e. (e.0, admitted rule hold now e.1)) old = so_far ∙ ap (λ (l : Base LinkKey Link). map (λ e. (e.0, admitted rule hold now e.1)) (take place old) ++ l) rest
+    ∙ append_none (map (λ e. (e.0, admitted rule hold now e.1)) (take place old)) ∙ ap (λ (l : Base LinkKey Link). map (λ e. (e.0, admitted rule hold now e.1)) l) whole in
+    ap (λ (l : Base LinkKey Link). find link_eq l key) is ∙ lookup-map_values (admitted rule hold now) (link_eq key) old
+
+-- one more link
+pub record AdmitsUpTo (rule : Admit) (hold now : ℕ) (before new : Base LinkKey Link) (place : ℕ) : Type 0 where
+  pub content : new ≡ map (λ e. (e.0, admitted rule hold now e.1)) (take place before) ++ drop place before
+  pub distinct : HasDistinctKeys link_eq new
+  pub room : HasRoom new
+  pub fewer : IsFewer before new
+
+pub one_more_admitted : (rule : Admit) (hold now : ℕ) (before mid new : Base LinkKey Link) (place : ℕ) → place < length before → mid ≡ map (λ e. (e.0, admitted rule hold now e.1)) (take place before) ++ drop place before
+    → HasDistinctKeys link_eq mid → HasRoom mid → IsFewer before mid
+    → ((key : LinkKey) (e : Link × ℕ) → slice_get mid place ≡ Some (key, e) → new ≡ changed_at link_eq mid key (admitted rule hold now)) → AdmitsUpTo rule hold now before new (place + 1)
+one_more_admitted rule hold now before mid new place within so_far distinct room fewer set =
+    let there : (x : LinkKey × (Link × ℕ)) × (slice_get before place ≡ Some x) = elim ((slice_get_cases before place).1) [ inl in_list ↦ (in_list.0, in_list.2) | inr past ↦ absurd (omega (arith, within, past.0)) ] in
+    let F : LinkKey × (Link × ℕ) → LinkKey × (Link × ℕ) = λ e. (e.0, admitted rule hold now e.1) in
+    let (x, at) = there in
+    let stands : slice_get mid place ≡ Some x = ap (λ (l : Base LinkKey Link). slice_get l place) so_far ∙ walk_at F before place (omega (arith, within)) ∙ at in
+    let is = set x.0 x.1 stands in
+    record {
+      content = walk_changed link_equiv (admitted rule hold now) before mid new place x.0 x.1 so_far (omega (arith, within)) stands distinct is;
+      distinct = rw is (distinct-changed_at link_eq x.0 (admitted rule hold now) mid distinct);
+      room = rw is (room_changed mid x.0 (admitted rule hold now) room (λ e low. rw (sym-admitted rule hold now e) low));
+      fewer = fewer_twice before mid new fewer (fewer_changed mid new x.0 (admitted rule hold now) (λ f found. sym (addrs-admitted rule hold now f)) is);
+    }

@@ -1,0 +1,17 @@
+use Rattle.std.proofs.Common.{ap, sym, ◌∙◌}
+use Rattle.mesh_atoms.specs.declared.tuples.Link.{Link}
+use Rattle.mesh_atoms.specs.Base.{link_eq}
+use Rattle.mesh_atoms.proofs.Lookups.{link_equiv}
+use Rattle.mesh_expire.proofs.Laws.{changed_at-agrees, changed_at-absent, found_none, found_some}
+use Rattle.mesh_links.specs.Rulings.{ruled}
+use Rattle.mesh_links.proofs.admittance.write_ruling.Goals as goal
+
+pub returns-in-Some : goal.returns-in-Some
+returns-in-Some g c =
+    c.value_mut.follows.holds _
+    ∙ changed_at-agrees link_equiv c.args.key.now _ (λ e. ((ruled c.args.ruling e.0).0, e.1)) (g.T.Table.content c.args.table.now) c.value_mut.ensures.distinct (λ entry found. ap (λ (l : Link). ((ruled c.args.ruling l).0, entry.1)) (found_some _ _ _ _ c.in-Some.ensures.value found))
+
+pub returns-in_default : goal.returns-in_default
+returns-in_default g c =
+    c.value_mut.follows.holds-at-none
+    ∙ sym (changed_at-absent link_eq c.args.key.now (λ e. ((ruled c.args.ruling e.0).0, e.1)) (g.T.Table.content c.args.table.now) (found_none _ _ c.in_default.ensures.value))

@@ -1,0 +1,23 @@
+use Rattle.std.proofs.Common.{◌<◌, arith, refl, length}
+use Rattle.std.proofs.lemmas.Map.Entries.{lookup_from_place, place_from_lookup}
+use Rattle.std.proofs.lemmas.Option.{slice_get_within}
+use Rattle.mesh_atoms.specs.Base.{link_eq}
+use Rattle.mesh_atoms.proofs.Lookups.{link_equiv}
+use Rattle.mesh_links.proofs.staying.all_stay.Goals as goal
+
+pub returns-then-not-stays_at : goal.returns-then-not-stays_at
+returns-then-not-stays_at g c =
+    let links = g.T.Table.content c.args.table.now in (
+      λ h. absurd cc,
+      λ all. (let yes = c.stays_at.ensures.1 (λ x at. all x.0 x.1 (lookup_from_place link_equiv links c.loop-place.place x.0 x.1 c.len-place-end.ensures.distinct at)) in absurd cc),
+    )
+
+pub returns : goal.returns
+returns g c =
+    let links = g.T.Table.content c.args.table.now in (
+      λ h key e found. (
+          let (k, q, at, test) = place_from_lookup (link_eq key) links e found in
+          let within : k < length links = slice_get_within links k (q, e) at in
+          c.loop-place.invariant k (q, e) (omega (arith, within, c.len-place-end.ensures.value, c.loop-place-test.false)) at),
+      λ all. refl,
+    )

@@ -1,0 +1,153 @@
+-- A link that is as its quality has it stays so, whatever else of it changes.
+use Rattle.std.proofs.Common.{◌≡◌, ℕ, ◌+◌, min, arith, refl, sym, ◌∙◌, ap, subst, Option, Some, None}
+use Rattle.std.specs.Prelude.{Bool, true, false, cond, not, nat_le, nat_lt, ◌&&◌, ◌||◌}
+use Rattle.std.proofs.lemmas.Bool.{false≢true, lt-ltb, ltb-true, leb-true, leb-false}
+use Rattle.mesh_atoms.specs.declared.admit.Admit.{Admit}
+use Rattle.mesh_atoms.specs.declared.hello.Shown.{Shown}
+use Rattle.mesh_atoms.specs.declared.hello.LinkStatus.{LinkStatus}
+use Rattle.mesh_atoms.specs.declared.hello.LinkStatus.TheVariants.{Lost as Down, Symmetric, Heard}
+use Rattle.mesh_atoms.specs.declared.settings.RouterSettings.{RouterSettings}
+use Rattle.mesh_atoms.specs.declared.tuples.Link.{Link}
+use Rattle.mesh_atoms.specs.State.{is_symmetric}
+use Rattle.mesh_atoms.specs.Quality.{quality_at, admitted, rule_of, admit_on}
+use Rattle.mesh_atoms.specs.Live.{trimmed}
+use Rattle.mesh_atoms.specs.AfterHello.{made, by_status, renewed}
+use Rattle.mesh_nhdp.proofs.Lookups.{some_same, none_not}
+
+-- What quality asks of a link
+
+-- it has the quality, is admitted where that is accepted, and is PENDING or lost where that is rejected
+pub record HasQuality (rule : Admit) (quality : ℕ) (link : Link) : Type 0 where
+  pub quality_is : link.quality ≡ quality
+  pub accepted : nat_le rule.accept quality ≡ true → (link.pending ≡ false) × (link.lost ≡ false)
+  pub rejected : nat_le rule.accept quality ≡ false → nat_lt quality rule.reject ≡ true → (link.pending || link.lost) ≡ true
+
+abbrev pub FollowsQuality : Admit → ℕ → Link → Type 0
+FollowsQuality rule now link = HasQuality rule (quality_at rule link.addrs now) link
+
+or_true : (b : Bool) → (b || true) ≡ true
+or_true true = refl
+or_true false = refl
+
+not_rejected : (low out : Bool) → (low && not out) ≡ false → low ≡ true → out ≡ true
+not_rejected true true h k = refl
+not_rejected true false h k = absurd (false≢true (sym h))
+not_rejected false out h k = absurd (false≢true k)
+
+is_out : (low out : Bool) → (low && not out) ≡ true → (low ≡ true) × (out ≡ false)
+is_out true true h = absurd (false≢true h)
+is_out true false h = (refl, refl)
+is_out false out h = absurd (false≢true h)
+
+-- what quality makes of a link has what it asks
+pub admitted_follows : (rule : Admit) (hold now : ℕ) (e : Link × ℕ) → FollowsQuality rule now (admitted rule hold now e).0
+admitted_follows rule hold now e = by_case (quality_at rule e.0.addrs now) refl (nat_le rule.accept (quality_at rule e.0.addrs now)) (nat_lt (quality_at rule e.0.addrs now) rule.reject && not (e.0.pending || e.0.lost)) refl refl where
+  by_case : (q : ℕ) → quality_at rule e.0.addrs now ≡ q → (b c : Bool) → nat_le rule.accept q ≡ b → (nat_lt q rule.reject && not (e.0.pending || e.0.lost)) ≡ c
+      → FollowsQuality rule now (cond {A = Link × ℕ} b (record e.0 { quality = q; pending = false; lost = false }, e.1) (cond c (record e.0 { quality = q; lost = true }, min e.1 (now + hold)) (record e.0 { quality = q }, e.1))).0
+  by_case q at true c accept out = record { quality_is = sym at; accepted = λ h. (refl, refl); rejected = λ h k. absurd (false≢true (sym h ∙ (ap (λ (n : ℕ). nat_le rule.accept n) at ∙ accept))) }
+  by_case q at false true accept out = record {
+    quality_is = sym at;
+    accepted = λ h. absurd (false≢true (sym (ap (λ (n : ℕ). nat_le rule.accept n) at ∙ accept) ∙ h));
+    rejected = λ h k. or_true e.0.pending;
+  }
+  by_case q at false false accept out = record {
+    quality_is = sym at;
+    accepted = λ h. absurd (false≢true (sym (ap (λ (n : ℕ). nat_le rule.accept n) at ∙ accept) ∙ h));
+    rejected = λ h k. not_rejected (nat_lt q rule.reject) (e.0.pending || e.0.lost) out (sym (ap (λ (n : ℕ). nat_lt n rule.reject) at) ∙ k);
+  }
+
+not_below : (q accept : ℕ) → nat_le accept q ≡ true → nat_lt q accept ≡ false
+not_below q accept h = by_case (nat_lt q accept) refl where
+  by_case : (b : Bool) → nat_lt q accept ≡ b → b ≡ false
+  by_case true is = let low = ltb-true q accept is in let high = leb-true accept q h in absurd (omega (arith, low, high))
+  by_case false is = refl
+
+-- a made link has it too
+pub made_follows : (rule : Admit) (shown : Shown) (now : ℕ) → FollowsQuality rule now (made rule shown now).0
+made_follows rule shown now =
+    let quality = quality_at rule shown.sending now in
+    record {
+      quality_is = refl;
+      accepted = λ h. (not_below quality rule.accept h, refl);
+      rejected = λ h low. ap (λ (x : Bool). x || false) (lt-ltb quality rule.accept (leb-false rule.accept quality h));
+    }
+
+written : (link : Link) (q : ℕ) (p l : Bool) → link.quality ≡ q → link.pending ≡ p → link.lost ≡ l → record link { quality = q; pending = p; lost = l } ≡ link
+written link q p l is_q is_p is_l = rw (← is_q, ← is_p, ← is_l) refl
+
+-- of a link that has what it asks quality makes nothing else
+pub admitted_again : (rule : Admit) (hold now : ℕ) (e : Link × ℕ) → FollowsQuality rule now e.0 → admitted rule hold now e ≡ e
+admitted_again rule hold now e h = by_case (nat_le rule.accept (quality_at rule e.0.addrs now)) (nat_lt (quality_at rule e.0.addrs now) rule.reject && not (e.0.pending || e.0.lost)) refl refl where
+  by_case : (b c : Bool) → nat_le rule.accept (quality_at rule e.0.addrs now) ≡ b → (nat_lt (quality_at rule e.0.addrs now) rule.reject && not (e.0.pending || e.0.lost)) ≡ c
+      → cond b (record e.0 { quality = quality_at rule e.0.addrs now; pending = false; lost = false }, e.1) (cond c (record e.0 { quality = quality_at rule e.0.addrs now; lost = true }, min e.1 (now + hold)) (record e.0 { quality = quality_at rule e.0.addrs now }, e.1)) ≡ e
+  by_case true c accept out = let (p, l) = h.accepted accept in ap (λ (link : Link). (link, e.1)) (written e.0 (quality_at rule e.0.addrs now) false false h.quality_is p l)
+  by_case false true accept out = let (low, not_out) = is_out (nat_lt (quality_at rule e.0.addrs now) rule.reject) (e.0.pending || e.0.lost) out in absurd (false≢true (sym not_out ∙ h.rejected accept low))
+  by_case false false accept out = ap (λ (link : Link). (link, e.1)) (written e.0 (quality_at rule e.0.addrs now) e.0.pending e.0.lost h.quality_is refl refl)
+
+pub follows_same : (rule : Admit) (hold now : ℕ) (e : Link × ℕ) → admitted rule hold now e ≡ e → FollowsQuality rule now e.0
+follows_same rule hold now e is = subst (λ (x : Link × ℕ). FollowsQuality rule now x.0) is (admitted_follows rule hold now e)
+
+-- Changes that quality doesn't look at
+
+-- the link has the same addresses and quality, and is PENDING or lost as it was
+pub record IsAlike (a b : Link) : Type 0 where
+  pub addrs : b.addrs ≡ a.addrs
+  pub quality : b.quality ≡ a.quality
+  pub pending : b.pending ≡ a.pending
+  pub lost : b.lost ≡ a.lost
+
+pub alike_twice : (a b c : Link) → IsAlike a b → IsAlike b c → IsAlike a c
+alike_twice a b c p q = record { addrs = q.addrs ∙ p.addrs; quality = q.quality ∙ p.quality; pending = q.pending ∙ p.pending; lost = q.lost ∙ p.lost }
+
+pub trimmed_alike : (now : ℕ) (e : Link × ℕ) → IsAlike e.0 (trimmed now e).0
+trimmed_alike now e = by_case (is_symmetric e.0 now) where
+  by_case : (b : Bool) → IsAlike e.0 (cond b e (record e.0 { link_out = None; selector = false }, e.1)).0
+  by_case true = record { addrs = refl; quality = refl; pending = refl; lost = refl }
+  by_case false = record { addrs = refl; quality = refl; pending = refl; lost = refl }
+
+status_alike : (shown : Shown) (hold now : ℕ) (status : Option LinkStatus) (e : Link × ℕ) → IsAlike e.0 (by_status shown hold now status e).0
+status_alike shown hold now None e = record { addrs = refl; quality = refl; pending = refl; lost = refl }
+status_alike shown hold now (Some Down) e = record { addrs = refl; quality = refl; pending = refl; lost = refl }
+status_alike shown hold now (Some Symmetric) e = record { addrs = refl; quality = refl; pending = refl; lost = refl }
+status_alike shown hold now (Some Heard) e = record { addrs = refl; quality = refl; pending = refl; lost = refl }
+
+pub renewed_alike : (shown : Shown) (hold now : ℕ) (e : Link × ℕ) → IsAlike e.0 (renewed shown hold now e).0
+renewed_alike shown hold now e =
+    let f : Link × ℕ = by_status shown hold now shown.status e in
+    let both = alike_twice e.0 f.0 (trimmed now f).0 (status_alike shown hold now shown.status e) (trimmed_alike now f) in
+    record { addrs = both.addrs; quality = both.quality; pending = both.pending; lost = both.lost }
+
+pub follows_alike : (rule : Admit) (now : ℕ) (a b : Link) → IsAlike a b → FollowsQuality rule now a → FollowsQuality rule now b
+follows_alike rule now a b like h =
+    let same : quality_at rule b.addrs now ≡ quality_at rule a.addrs now = ap (λ l. quality_at rule l now) like.addrs in
+    record {
+      quality_is = like.quality ∙ (h.quality_is ∙ sym same);
+      accepted = λ k. let (p, l) = h.accepted (ap (λ (n : ℕ). nat_le rule.accept n) (sym same) ∙ k) in (like.pending ∙ p, like.lost ∙ l);
+      rejected = λ k low. ap (λ (x : Bool). x || b.lost) like.pending ∙ (ap (λ (x : Bool). a.pending || x) like.lost ∙ h.rejected (ap (λ (n : ℕ). nat_le rule.accept n) (sym same) ∙ k) (ap (λ (n : ℕ). nat_lt n rule.reject) (sym same) ∙ low));
+    }
+
+-- The links of an interface
+
+-- links that have what quality asks stay as they are
+pub admit_stays : (settings : RouterSettings) (i now : ℕ) (o : Option (Link × ℕ)) → ((e : Link × ℕ) → o ≡ Some e → FollowsQuality (rule_of settings i) now e.0) → admit_on settings i now o ≡ o
+admit_stays settings i now None follows = refl
+admit_stays settings i now (Some e) follows = ap (λ (x : Link × ℕ). Some x) (admitted_again (rule_of settings i) settings.times.link_hold now e (follows e refl))
+
+-- and those that stay have it
+pub follows_if_stays : (settings : RouterSettings) (i now : ℕ) (o : Option (Link × ℕ)) (e : Link × ℕ) → admit_on settings i now o ≡ o → o ≡ Some e → FollowsQuality (rule_of settings i) now e.0
+follows_if_stays settings i now None e stays at = none_not refl at
+follows_if_stays settings i now (Some f) e stays at =
+    let h : FollowsQuality (rule_of settings i) now f.0 = follows_same (rule_of settings i) settings.times.link_hold now f (sym (some_same stays refl)) in
+    subst (λ (x : Link × ℕ). FollowsQuality (rule_of settings i) now x.0) (some_same refl at) h
+
+-- what a link was before
+pub admit_from : (settings : RouterSettings) (i now : ℕ) (o : Option (Link × ℕ)) (e : Link × ℕ) → admit_on settings i now o ≡ Some e → (f : Link × ℕ) × (o ≡ Some f) × (e ≡ admitted (rule_of settings i) settings.times.link_hold now f)
+admit_from settings i now None e h = none_not refl h
+admit_from settings i now (Some f) e h = (f, refl, sym (some_same refl h))
+
+pub admitted_addrs : (rule : Admit) (hold now : ℕ) (e : Link × ℕ) → (admitted rule hold now e).0.addrs ≡ e.0.addrs
+admitted_addrs rule hold now e = by_case (nat_le rule.accept (quality_at rule e.0.addrs now)) (nat_lt (quality_at rule e.0.addrs now) rule.reject && not (e.0.pending || e.0.lost)) where
+  by_case : (b c : Bool) → (cond {A = Link × ℕ} b (record e.0 { quality = quality_at rule e.0.addrs now; pending = false; lost = false }, e.1) (cond c (record e.0 { quality = quality_at rule e.0.addrs now; lost = true }, min e.1 (now + hold)) (record e.0 { quality = quality_at rule e.0.addrs now }, e.1))).0.addrs ≡ e.0.addrs
+  by_case true c = refl
+  by_case false true = refl
+  by_case false false = refl

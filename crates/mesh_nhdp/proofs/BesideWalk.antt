@@ -1,0 +1,81 @@
+-- The 2-hop tuples that are expired go, interface by interface.
+use Rattle.std.proofs.Common.{◌≡◌, ℕ, zero, suc, ◌+◌, ◌<◌, ◌≤◌, inl, inr, refl, sym, ◌∙◌, ap, subst, arith, List, [], length}
+use Rattle.std.specs.Prelude.{Bool, true, false, nat_eq, slice_set, ◌&&◌}
+use Rattle.std.proofs.lemmas.Bool.{false≢true, cases_lt, eqb-true, eqb-false}
+use Rattle.std.proofs.lemmas.List.{length-set, set-get_or}
+use Rattle.mesh_atoms.specs.declared.tuples.TwoHopKey.{TwoHopKey}
+use Rattle.mesh_atoms.specs.declared.tuples.TwoHop.{TwoHop}
+use Rattle.mesh_atoms.specs.Base.{Base, HasDistinctKeys, Expires, base_of, two_hop_eq}
+use Rattle.mesh_nhdp.proofs.AllHears.{written_same, written_other}
+
+pub record GoesOver (now : ℕ) (first sets : List (Base TwoHopKey TwoHop)) (same : Bool) (i : ℕ) : Type 0 where
+  pub lengths : length sets ≡ length first
+  pub done : (k : ℕ) → k < i → Expires two_hop_eq now (base_of first k) (base_of sets k)
+  pub distinct : (k : ℕ) → k < i → HasDistinctKeys two_hop_eq (base_of sets k)
+  pub left : (k : ℕ) → i ≤ k → base_of sets k ≡ base_of first k
+  pub unchanged : same ≡ true → sets ≡ first
+  pub changed : same ≡ false → (k : ℕ) × (k < i) × (length (base_of sets k) < length (base_of first k))
+
+pub both_so : (a b : Bool) → (a && b) ≡ true → (a ≡ true) × (b ≡ true)
+both_so true b h = (refl, h)
+both_so false b h = absurd (false≢true h)
+
+some_of : (n : ℕ) → (n ≡ 0 → ⊥) → 0 < n
+some_of zero not = absurd (not refl)
+some_of (suc n) not = omega arith
+
+pub some_gone : (first same : Bool) (gone : ℕ) → same ≡ (first && nat_eq gone 0) → first ≡ true → same ≡ false → 0 < gone
+some_gone first same gone is at h =
+    let zero_not : nat_eq gone 0 ≡ false = ap (λ (x : Bool). x && nat_eq gone 0) (sym at) ∙ (sym is ∙ h) in
+    some_of gone (eqb-false gone 0 zero_not)
+
+module _ (now : ℕ) (first sets : List (Base TwoHopKey TwoHop)) (was after : Base TwoHopKey TwoHop) (same next : Bool) (gone i : ℕ) (G : GoesOver now first sets same i) (within : i < length sets) (here : base_of sets i ≡ was)
+    (expires : Expires two_hop_eq now was after) (distinct : HasDistinctKeys two_hop_eq after) (count : gone + length after ≡ length was) (none : gone ≡ 0 → after ≡ was) (is : next ≡ (same && nat_eq gone 0)) where
+  was_first : was ≡ base_of first i
+  was_first = sym here ∙ G.left i (omega arith)
+
+  one_more_done : (k : ℕ) → k < i + 1 → Expires two_hop_eq now (base_of first k) (base_of (slice_set sets i after) k)
+  one_more_done k lt = elim (cases_lt k i) [
+    | inl less ↦ subst (λ (b : Base TwoHopKey TwoHop). Expires two_hop_eq now (base_of first k) b) (sym (written_other sets i k after (λ e. omega (arith, e, less)))) (G.done k less)
+    | inr past ↦
+        let at : i ≡ k = omega (arith, past, lt) in
+        subst (λ (n : ℕ). Expires two_hop_eq now (base_of first n) (base_of (slice_set sets i after) n)) at
+        (subst (λ (b : Base TwoHopKey TwoHop). Expires two_hop_eq now (base_of first i) b) (sym (written_same sets i after within))
+        (subst (λ (b : Base TwoHopKey TwoHop). Expires two_hop_eq now b after) was_first expires))
+  ]
+
+  one_more_distinct : (k : ℕ) → k < i + 1 → HasDistinctKeys two_hop_eq (base_of (slice_set sets i after) k)
+  one_more_distinct k lt = elim (cases_lt k i) [
+    | inl less ↦ subst (λ (b : Base TwoHopKey TwoHop). HasDistinctKeys two_hop_eq b) (sym (written_other sets i k after (λ e. omega (arith, e, less)))) (G.distinct k less)
+    | inr past ↦
+        let at : i ≡ k = omega (arith, past, lt) in
+        subst (λ (n : ℕ). HasDistinctKeys two_hop_eq (base_of (slice_set sets i after) n)) at (subst (λ (b : Base TwoHopKey TwoHop). HasDistinctKeys two_hop_eq b) (sym (written_same sets i after within)) distinct)
+  ]
+
+  still_same : next ≡ true → slice_set sets i after ≡ first
+  still_same h =
+      let both = both_so same (nat_eq gone 0) (sym is ∙ h) in
+      let stands : after ≡ base_of sets i = none (eqb-true gone 0 both.1) ∙ sym here in
+      ap (λ (b : Base TwoHopKey TwoHop). slice_set sets i b) stands ∙ (set-get_or sets i [] ∙ G.unchanged both.0)
+
+  has_changed : (b : Bool) → same ≡ b → next ≡ false → (k : ℕ) × (k < i + 1) × (length (base_of (slice_set sets i after) k) < length (base_of first k))
+  has_changed false at h =
+      let (k, less, fewer) = G.changed at in
+      (k, omega (arith, less), subst (λ (b : Base TwoHopKey TwoHop). length b < length (base_of first k)) (sym (written_other sets i k after (λ e. omega (arith, e, less)))) fewer)
+  has_changed true at h =
+      let some = some_gone same next gone is at h in
+      let fewer : length after < length was = omega (arith, some, count) in (
+        i,
+        omega arith,
+        subst (λ (b : Base TwoHopKey TwoHop). length b < length (base_of first i)) (sym (written_same sets i after within)) (subst (λ (b : Base TwoHopKey TwoHop). length after < length b) was_first fewer),
+      )
+
+  pub goes_over_one : GoesOver now first (slice_set sets i after) next (i + 1)
+  goes_over_one = record {
+    lengths = length-set sets i after ∙ G.lengths;
+    done = one_more_done;
+    distinct = one_more_distinct;
+    left = λ k past. written_other sets i k after (λ e. omega (arith, e, past)) ∙ G.left k (omega (arith, past));
+    unchanged = still_same;
+    changed = has_changed same refl;
+  }

@@ -1,0 +1,263 @@
+-- Where nothing becomes of the links, nothing becomes of the neighbours.
+use Rattle.std.proofs.Common.{◌≡◌, ℕ, ◌+◌, ◌++◌, take, drop, ◌<◌, ◌≤◌, ◌⊎◌, ◌↔◌, inl, inr, refl, sym, ◌∙◌, ap, subst, arith, List, [], length, Contains, Option, Some, None, IsTrue, Decides}
+use Rattle.std.specs.Prelude.{Bool, true, false, cond, nat_lt, nat_eq, ◌&&◌}
+use Rattle.std.specs.List.{list_any, IsDistinct}
+use Rattle.std.specs.Cmp.{IsEquivalence}
+use Rattle.std.proofs.lemmas.Bool.{false≢true, cases_lt, eqb-true}
+use Rattle.std.proofs.lemmas.Map.Entries.{place_from_lookup}
+use Rattle.std.proofs.lemmas.Map.Views.{lookup-from_Contains}
+use Rattle.mesh_atoms.specs.declared.addr.Addr4.{Addr4}
+use Rattle.mesh_atoms.specs.declared.metric.Metric.{Metric}
+use Rattle.mesh_atoms.specs.declared.tuples.LinkKey.{LinkKey}
+use Rattle.mesh_atoms.specs.declared.tuples.TwoHopKey.{TwoHopKey}
+use Rattle.mesh_atoms.specs.declared.tuples.Link.{Link}
+use Rattle.mesh_atoms.specs.declared.tuples.TwoHop.{TwoHop}
+use Rattle.mesh_atoms.specs.declared.tuples.Neighbour.{Neighbour}
+use Rattle.mesh_atoms.specs.declared.tuples.Lost.{Lost}
+use Rattle.mesh_atoms.specs.declared.settings.RouterSettings.{RouterSettings}
+use Rattle.mesh_atoms.specs.Base.{Base, HasDistinctKeys, Expires, IsFresh, find, base_of, if_live, addr_eq, link_eq, two_hop_eq}
+use Rattle.mesh_atoms.specs.Quality.{admit_on, rule_of}
+use Rattle.mesh_atoms.specs.State.{Neighbourhood, is_symmetric, link_at, two_hop_at, neighbour_at, lost_at}
+use Rattle.mesh_atoms.specs.Live.{LiveNeighbourhood, trimmed, trim, is_symmetric_entry, is_symmetric_at, HasSymmetricOf, IsByLinks, Restores, IsSymmetricAddress, SettlesLost, Back, Stays as Still}
+use Rattle.mesh_atoms.specs.Sound.{SoundNeighbourhood}
+use Rattle.mesh_atoms.proofs.Deciding.{Decides-some, Decides-addr, Decides-and}
+use Rattle.mesh_atoms.proofs.Lookups.{addr_equiv, two_hop_equiv}
+use Rattle.mesh_links.specs.Links.{Stays, AllStay}
+use Rattle.mesh_nhdp.specs.Staying.{LinksStay, AllIsAsItWas, ExpiresBeside}
+use Rattle.mesh_nhdp.proofs.Bases.{base_cases}
+use Rattle.mesh_nhdp.proofs.BesideWalk.{both_so, some_gone}
+use Rattle.mesh_nhdp.proofs.Composes.{least_metric_iff}
+use Rattle.mesh_nhdp.proofs.Expiry.{written_back}
+use Rattle.mesh_nhdp.proofs.Limits.{no_more}
+use Rattle.mesh_nhdp.proofs.LiveSound.{live_sound}
+use Rattle.mesh_nhdp.proofs.Lookups.{Contains_at, none_not, live_from}
+
+-- A link of which nothing becomes
+
+written_out : (link : Link) (o : Option Metric) (s : Bool) → link.link_out ≡ o → link.selector ≡ s → record link { link_out = o; selector = s } ≡ link
+written_out link o s is_out is_selector = rw (← is_out, ← is_selector) refl
+
+trimmed_same : (now : ℕ) (e : Link × ℕ) → (is_symmetric e.0 now ≡ false → e.0.link_out ≡ None) → (is_symmetric e.0 now ≡ false → e.0.selector ≡ false) → trimmed now e ≡ e
+trimmed_same now e out selector = by_case (is_symmetric e.0 now) refl where
+  by_case : (b : Bool) → is_symmetric e.0 now ≡ b → cond {A = Link × ℕ} b e (record e.0 { link_out = None; selector = false }, e.1) ≡ e
+  by_case true is = refl
+  by_case false is = ap (λ (link : Link). (link, e.1)) (written_out e.0 None false (out is) (selector is))
+
+kept_live : {V : Type 0} (now : ℕ) (e : V × ℕ) → nat_lt now e.1 ≡ true → if_live now (Some e) ≡ Some e
+kept_live now e live = rw live refl
+
+still_there : (settings : RouterSettings) (i last now : ℕ) (o : Option (Link × ℕ)) → ((e : Link × ℕ) → o ≡ Some e → Stays (rule_of settings i) settings.times.link_hold last now e)
+    → ((e : Link × ℕ) → o ≡ Some e → trimmed now e ≡ e) → o ≡ trim now (if_live now (admit_on settings i now o))
+still_there settings i last now None stays same = refl
+still_there settings i last now (Some e) stays same =
+    let s = stays e refl in
+    let admits : admit_on settings i now (Some e) ≡ Some e = ap (λ (x : Link × ℕ). Some x) s.by_quality in
+    sym (ap (λ (o : Option (Link × ℕ)). trim now (if_live now o)) admits ∙ (ap (λ (o : Option (Link × ℕ)). trim now o) (kept_live now e s.live) ∙ ap (λ (x : Link × ℕ). Some x) (same e refl)))
+
+symmetric_entry : (last now : ℕ) (o : Option (Link × ℕ)) → ((e : Link × ℕ) → o ≡ Some e → is_symmetric e.0 now ≡ is_symmetric e.0 last) → is_symmetric_entry now o ≡ is_symmetric_entry last o
+symmetric_entry last now None same = refl
+symmetric_entry last now (Some e) same = same e refl
+
+two_hop_there : (now : ℕ) (b : Bool) (o new : Option (TwoHop × ℕ)) → new ≡ if_live now o → ((t : TwoHop × ℕ) → o ≡ Some t → b ≡ true) → new ≡ cond b (if_live now o) None
+two_hop_there now true o new is there = is
+two_hop_there now false None new is there = is
+two_hop_there now false (Some t) new is there = absurd (false≢true (there t refl))
+
+and_same : (a b : Bool) → (IsTrue a → IsTrue b) → a ≡ (a && b)
+and_same true b h = sym (h refl)
+and_same false b h = refl
+
+-- An address is a symmetric neighbour's, or it isn't
+
+module _ (near : Neighbourhood) (distinct : HasDistinctKeys addr_eq near.neighbours) (a : Addr4) where
+  IsOf : Addr4 × (Neighbour × ℕ) → Type 0
+  IsOf e = (e.1.0.symmetric ≡ true) × ((x : Addr4) × Contains e.1.0.addrs x × (a ≡ x))
+
+  is_of : Addr4 × (Neighbour × ℕ) → Bool
+  is_of e = e.1.0.symmetric && list_any (addr_eq a) e.1.0.addrs
+
+  decides : Decides (list_any is_of near.neighbours) ((e : Addr4 × (Neighbour × ℕ)) × Contains near.neighbours e × IsOf e)
+  unfolding is_of IsOf
+  decides = Decides-some is_of IsOf (λ e. Decides-and e.1.0.symmetric (list_any (addr_eq a) e.1.0.addrs) ((λ h. h), (λ h. h)) (Decides-some (addr_eq a) (λ x. a ≡ x) (λ x. Decides-addr a x) e.1.0.addrs)) near.neighbours
+
+  pub symmetric_or_not : IsSymmetricAddress near a ⊎ (IsSymmetricAddress near a → ⊥)
+  unfolding is_of IsOf
+  symmetric_or_not = by_test (list_any is_of near.neighbours) refl where
+    by_test : (b : Bool) → list_any is_of near.neighbours ≡ b → IsSymmetricAddress near a ⊎ (IsSymmetricAddress near a → ⊥)
+    by_test true is =
+        let (e, within, of) = decides.0 is in
+        inl (e.0, e.1.0, e.1.1, lookup-from_Contains addr_equiv e.0 e.1 near.neighbours distinct within, of.0, subst (λ (y : Addr4). Contains e.1.0.addrs y) (sym of.1.2) of.1.1)
+    by_test false is = inr (λ s. (
+        let (o, n, until, at, symmetric, has) = s in
+        let (k, q, there, test) = place_from_lookup (addr_eq o) near.neighbours (n, until) at in
+        false≢true (sym is ∙ decides.1 ((q, (n, until)), Contains_at near.neighbours k (q, (n, until)) there, (symmetric, (a, has, refl))))))
+
+lost_there : (now : ℕ) (was : Type 0) (until : ℕ) (o new : Option (Lost × ℕ)) → new ≡ if_live now o → ((e : Lost × ℕ) → o ≡ Some e → was → ⊥) → was ⊎ (was → ⊥) → SettlesLost was was until (if_live now o) new
+lost_there now was until None new is none (inl his) = Back his is
+lost_there now was until (Some e) new is none (inl his) = absurd (none e refl his)
+lost_there now was until o new is none (inr not_his) = Still not_his not_his is
+
+-- The whole
+
+module _ (settings : RouterSettings) (last now : ℕ) (old : Neighbourhood) (S : SoundNeighbourhood settings last old) (stay : LinksStay settings last now old.links) where
+  links_there : (i : ℕ) (key : LinkKey) → link_at old i key ≡ trim now (if_live now (admit_on settings i now (link_at old i key)))
+  links_there i key = still_there settings i last now (link_at old i key) (stay i key) (λ e is. (
+      let s = stay i key e is in
+      let sound = S.link i key e.0 e.1 is in
+      trimmed_same now e (λ not. sound.link_out (sym s.symmetric ∙ not)) (λ not. sound.selector (sym s.symmetric ∙ not))))
+
+  symmetric_so : (i : ℕ) (key : LinkKey) → is_symmetric_at old now i key ≡ is_symmetric_at old last i key
+  symmetric_so i key = symmetric_entry last now (link_at old i key) (λ e is. (stay i key e is).symmetric)
+
+  symmetric_of : (addrs : List Addr4) (link : Link) → HasSymmetricOf old last addrs link → HasSymmetricOf old now addrs link
+  symmetric_of addrs link (i, key, until, of, is) = (i, key, until, of, (stay i key (link, until) of.1).symmetric ∙ is)
+
+  symmetric_then : (addrs : List Addr4) (link : Link) → HasSymmetricOf old now addrs link → HasSymmetricOf old last addrs link
+  symmetric_then addrs link (i, key, until, of, is) = (i, key, until, of, sym (stay i key (link, until) of.1).symmetric ∙ is)
+
+  by_links_now : (two_hops : List (Base TwoHopKey TwoHop)) (losts : Base Addr4 Lost) (n : Neighbour) (until : ℕ) → IsByLinks old last n until
+      → IsByLinks (record { links = old.links; two_hops = two_hops; neighbours = old.neighbours; losts = losts }) now n until
+  by_links_now two_hops losts n until b = record {
+    latest = b.latest;
+    no_later = b.no_later;
+    symmetric = ((λ h. let (link, of) = b.symmetric.0 h in (link, symmetric_of n.addrs link of)), (λ h. b.symmetric.1 (h.0, symmetric_then n.addrs h.0 h.1)));
+    metric_in = least_metric_iff _ _ (λ m h. (h.0, symmetric_of n.addrs h.0 h.1, h.2)) (λ m h. (h.0, symmetric_then n.addrs h.0 h.1, h.2)) n.metric_in b.metric_in;
+    metric_out = least_metric_iff _ _ (λ m h. (h.0, symmetric_of n.addrs h.0 h.1, h.2)) (λ m h. (h.0, symmetric_then n.addrs h.0 h.1, h.2)) n.metric_out b.metric_out;
+  }
+
+  restores_there : (two_hops : List (Base TwoHopKey TwoHop)) (losts : Base Addr4 Lost) (o : Addr4) (e : Option (Neighbour × ℕ)) → neighbour_at old o ≡ e
+      → Restores (record { links = old.links; two_hops = two_hops; neighbours = old.neighbours; losts = losts }) now e e
+  restores_there two_hops losts o None is = refl
+  restores_there two_hops losts o (Some e) is =
+      let s = S.neighbour o e.0 e.1 is in
+      record { addrs = refl; willing = refl; selector = and_same e.0.selector e.0.symmetric s.selector; by_links = by_links_now two_hops losts e.0 e.1 s.by_links }
+
+  module _ (two_hops : List (Base TwoHopKey TwoHop)) (losts : Base Addr4 Lost) where
+    pub stays_live : length two_hops ≡ length old.two_hops → ((i : ℕ) → HasDistinctKeys two_hop_eq (base_of two_hops i)) → HasDistinctKeys addr_eq losts → ((i : ℕ) → Expires two_hop_eq now (base_of old.two_hops i) (base_of two_hops i)) →
+        Expires addr_eq now old.losts losts → LiveNeighbourhood settings now old (record { links = old.links; two_hops = two_hops; neighbours = old.neighbours; losts = losts })
+    stays_live same distinct distinct_losts expires expires_losts = record {
+      tables = record { links = S.distinct_links; two_hops = distinct; neighbours = S.distinct_neighbours; losts = distinct_losts };
+      interfaces = refl;
+      two_hop_interfaces = same;
+      links = links_there;
+      two_hops = λ i key. two_hop_there now (is_symmetric_at old now i key.link) (two_hop_at old i key) (find two_hop_eq (base_of two_hops i) key) (expires i key) (λ t is. symmetric_so i key.link ∙ S.two_hop i key t is);
+      neighbours = λ o. restores_there two_hops losts o (neighbour_at old o) refl;
+      losts = λ a. lost_there now (IsSymmetricAddress old a) (now + settings.times.neighbour_hold) (lost_at old a) (find addr_eq losts a) (expires_losts a) (λ e is. S.lost a e is) (symmetric_or_not old S.distinct_neighbours a);
+    }
+
+-- Interface by interface
+
+pub one_more : (P : ℕ → Type 0) (i : ℕ) → ((k : ℕ) → k < i → P k) → P i → (k : ℕ) → k < i + 1 → P k
+one_more P i before here k lt = elim (cases_lt k i) [
+  | inl less ↦ before k less
+  | inr past ↦ (let same : i ≡ k = omega (arith, past, lt) in subst P same here)
+]
+
+pub links_stay_all : (settings : RouterSettings) (last now : ℕ) (links : List (Base LinkKey Link)) (i : ℕ) → length links ≤ i
+    → ((k : ℕ) → k < i → AllStay (rule_of settings k) settings.times.link_hold last now (base_of links k)) → LinksStay settings last now links
+links_stay_all settings last now links i all stay k = elim (base_cases links k) [
+  | inl there ↦ stay k (let lt = there.0 in omega (arith, lt, all))
+  | inr past ↦ λ key e found. none_not (ap (λ (b : Base LinkKey Link). find link_eq b key) past.1) found
+]
+
+-- Which tuples go
+
+fresh_if_same : {K V : Type 0} (eq : K → K → Bool) (now : ℕ) (base : Base K V) → Expires eq now base base → IsFresh eq now base
+fresh_if_same eq now base expires q v until at = (live_from now (find eq base q) (v, until) (sym (expires q) ∙ at)).1
+
+none_goes : {K V : Type 0} {eq : K → K → Bool} → IsEquivalence eq → (now : ℕ) (old new : Base K V) → HasDistinctKeys eq old → IsFresh eq now old → Expires eq now old new → length old ≤ length new
+none_goes laws now old new distinct fresh expires = no_more laws old new distinct (λ key e at. (e, expires key ∙ (ap (λ o. if_live now o) at ∙ kept_live now e (fresh key e.0 e.1 at))))
+
+pub as_it_was : (settings : RouterSettings) (last now : ℕ) (same : Bool) (old new : Neighbourhood) → SoundNeighbourhood settings last old → LinksStay settings last now old.links → ExpiresBeside now same old new → IsTrue same ↔ AllIsAsItWas settings last now old
+as_it_was settings last now same old new S stay E = (to, from same refl)
+  where
+    to : IsTrue same → AllIsAsItWas settings last now old
+    to h =
+        let is : new ≡ old = E.unchanged h in
+        record {
+          links = stay;
+          two_hops = λ i. fresh_if_same two_hop_eq now (base_of old.two_hops i) (subst (λ (n : Neighbourhood). Expires two_hop_eq now (base_of old.two_hops i) (base_of n.two_hops i)) is (E.two_hops i));
+          losts = fresh_if_same addr_eq now old.losts (subst (λ (n : Neighbourhood). Expires addr_eq now old.losts n.losts) is E.losts);
+        }
+
+    from : (b : Bool) → same ≡ b → AllIsAsItWas settings last now old → IsTrue same
+    from true is all = is
+    from false is all = absurd (elim (E.changed is) [
+      | inl less ↦ (let h = none_goes two_hop_equiv now (base_of old.two_hops less.0) (base_of new.two_hops less.0) (S.two_hops less.0).distinct (all.two_hops less.0) (E.two_hops less.0) in omega (arith, h, less.1))
+      | inr less ↦ (let h = none_goes addr_equiv now old.losts new.losts S.distinct_losts all.losts E.losts in omega (arith, h, less))
+    ])
+
+-- the calls on the fields of a neighbourhood
+module _ (now : ℕ) (links : List (Base LinkKey Link)) (two_hops after : List (Base TwoHopKey TwoHop)) (neighbours : Base Addr4 Neighbour) (losts losts_after : Base Addr4 Lost) (first same : Bool) (gone : ℕ)
+    (lengths : length after ≡ length two_hops)
+    (each : (i : ℕ) → i < length two_hops → Expires two_hop_eq now (base_of two_hops i) (base_of after i)) (distinct : (i : ℕ) → i < length two_hops → HasDistinctKeys two_hop_eq (base_of after i))
+    (unchanged : first ≡ true → after ≡ two_hops) (changed : first ≡ false → (i : ℕ) × (length (base_of after i) < length (base_of two_hops i)))
+    (expires : Expires addr_eq now losts losts_after) (distinct_losts : HasDistinctKeys addr_eq losts_after) (count : gone + length losts_after ≡ length losts) (none : gone ≡ 0 → losts_after ≡ losts)
+    (is : same ≡ (first && nat_eq gone 0)) where
+  past_all : {K V : Type 0} (bases : List (Base K V)) (i : ℕ) → length bases ≤ i → base_of bases i ≡ []
+  past_all bases i past = elim (base_cases bases i) [ inl there ↦ absurd (omega (arith, there.0, past)) | inr none ↦ none.1 ]
+
+  all_distinct : (i : ℕ) → HasDistinctKeys two_hop_eq (base_of after i)
+  unfolding IsDistinct
+  all_distinct i = elim (base_cases after i) [
+    | inl there ↦ distinct i (let lt = there.0 in omega (arith, lt, lengths))
+    | inr past ↦ subst (λ (b : Base TwoHopKey TwoHop). HasDistinctKeys two_hop_eq b) (sym past.1) tt
+  ]
+
+  all_expire : (i : ℕ) → Expires two_hop_eq now (base_of two_hops i) (base_of after i)
+  all_expire i = elim (base_cases two_hops i) [
+    | inl there ↦ each i there.0
+    | inr past ↦ subst (λ (b : Base TwoHopKey TwoHop). Expires two_hop_eq now b (base_of after i)) (sym past.1)
+        (subst (λ (b : Base TwoHopKey TwoHop). Expires two_hop_eq now [] b) (sym (past_all after i (let beyond = past.0 in omega (arith, beyond, lengths)))) (λ q. refl))
+  ]
+
+  what_changed : (b : Bool) → first ≡ b → same ≡ false → ((i : ℕ) × (length (base_of after i) < length (base_of two_hops i))) ⊎ (length losts_after < length losts)
+  what_changed false at h = inl (changed at)
+  what_changed true at h =
+      let some = some_gone first same gone is at h in inr (omega (arith, count, some))
+
+  pub beside_is : ExpiresBeside now same (record { links = links; two_hops = two_hops; neighbours = neighbours; losts = losts }) (record { links = links; two_hops = after; neighbours = neighbours; losts = losts_after })
+  beside_is = record {
+    links = refl;
+    neighbours = refl;
+    interfaces = lengths;
+    distinct_two_hops = all_distinct;
+    distinct_losts = distinct_losts;
+    two_hops = all_expire;
+    losts = expires;
+    unchanged = λ h. (
+        let both = both_so first (nat_eq gone 0) (sym is ∙ h) in
+        ap (λ (hs : List (Base TwoHopKey TwoHop)). let n : Neighbourhood = record { links = links; two_hops = hs; neighbours = neighbours; losts = losts_after } in n) (unchanged both.0)
+        ∙ ap (λ (ls : Base Addr4 Lost). let n : Neighbourhood = record { links = links; two_hops = two_hops; neighbours = neighbours; losts = ls } in n) (none (eqb-true gone 0 both.1)));
+    changed = what_changed first refl;
+  }
+
+pub beside_runs : (now : ℕ) (old : Neighbourhood) (links : List (Base LinkKey Link)) (items two_hops after : List (Base TwoHopKey TwoHop)) (neighbours : Base Addr4 Neighbour) (losts losts_after : Base Addr4 Lost) (first same : Bool) (gone len : ℕ) →
+    old ≡ record { links = links; two_hops = items; neighbours = neighbours; losts = losts } → two_hops ≡ items → len ≡ length two_hops → length after ≡ length two_hops →
+    ((i : ℕ) → i < length two_hops → Expires two_hop_eq now (base_of two_hops i) (base_of after i)) → ((i : ℕ) → i < length two_hops → HasDistinctKeys two_hop_eq (base_of after i)) →
+    (first ≡ true → after ≡ two_hops) → (first ≡ false → (i : ℕ) × (length (base_of after i) < length (base_of two_hops i))) → Expires addr_eq now losts losts_after → HasDistinctKeys addr_eq losts_after →
+    gone + length losts_after ≡ length losts → (gone ≡ 0 → losts_after ≡ losts) → same ≡ (first && nat_eq gone 0) →
+    ExpiresBeside now same old (record { links = links; two_hops = take len (after ++ drop (length after) items); neighbours = neighbours; losts = losts_after })
+beside_runs now old links items two_hops after neighbours losts losts_after first same gone len from is_items all lengths each distinct unchanged changed expires distinct_losts count none is =
+    let whole : take len (after ++ drop (length after) items) ≡ after = written_back len after items (lengths ∙ ap length is_items) (all ∙ ap length is_items) in
+    let begins : old ≡ record { links = links; two_hops = two_hops; neighbours = neighbours; losts = losts } =
+    from ∙ ap (λ (hs : List (Base TwoHopKey TwoHop)). let n : Neighbourhood = record { links = links; two_hops = hs; neighbours = neighbours; losts = losts } in n) (sym is_items) in
+    subst (λ (o : Neighbourhood). ExpiresBeside now same o (record { links = links; two_hops = take len (after ++ drop (length after) items); neighbours = neighbours; losts = losts_after })) (sym begins)
+    (subst (λ (hs : List (Base TwoHopKey TwoHop)). ExpiresBeside now same (record { links = links; two_hops = two_hops; neighbours = neighbours; losts = losts }) (record { links = links; two_hops = hs; neighbours = neighbours; losts = losts_after })) (sym whole)
+    (beside_is now links two_hops after neighbours losts losts_after first same gone lengths each distinct unchanged changed expires distinct_losts count none is))
+
+-- the same said of equal settings and of equal links
+pub stay_at : (s r : RouterSettings) (last now : ℕ) (xs ys : List (Base LinkKey Link)) → s ≡ r → xs ≡ ys → LinksStay s last now xs → LinksStay r last now ys
+stay_at s r last now xs ys same is stay = subst (λ (t : RouterSettings). LinksStay t last now ys) same (subst (λ (ls : List (Base LinkKey Link)). LinksStay s last now ls) is stay)
+
+-- expiry, where nothing becomes of links
+pub beside_live : (settings : RouterSettings) (last now : ℕ) (same : Bool) (old new : Neighbourhood) → SoundNeighbourhood settings last old → LinksStay settings last now old.links → ExpiresBeside now same old new → LiveNeighbourhood settings now old new
+beside_live settings last now same old new S stay E =
+    let is : record { links = old.links; two_hops = new.two_hops; neighbours = old.neighbours; losts = new.losts } ≡ new =
+    ap (λ (ls : List (Base LinkKey Link)). let n : Neighbourhood = record { links = ls; two_hops = new.two_hops; neighbours = old.neighbours; losts = new.losts } in n) (sym E.links)
+    ∙ ap (λ (ns : Base Addr4 Neighbour). let n : Neighbourhood = record { links = new.links; two_hops = new.two_hops; neighbours = ns; losts = new.losts } in n) (sym E.neighbours) in
+    subst (λ (n : Neighbourhood). LiveNeighbourhood settings now old n) is (stays_live settings last now old S stay new.two_hops new.losts E.interfaces E.distinct_two_hops E.distinct_losts E.two_hops E.losts)
+
+pub beside_sound : (settings r : RouterSettings) (last now : ℕ) (same : Bool) (old new : Neighbourhood) → SoundNeighbourhood settings last old → LinksStay settings last now old.links → ExpiresBeside now same old new → r ≡ settings → SoundNeighbourhood r now new
+beside_sound settings r last now same old new S stay E is = subst (λ (s : RouterSettings). SoundNeighbourhood s now new) (sym is)
+    (live_sound settings last now old new S (beside_live settings last now same old new S stay E) (let least = settings.times.sound.neighbour_hold_range.least in omega (arith, least)))

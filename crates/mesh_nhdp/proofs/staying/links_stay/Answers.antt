@@ -1,0 +1,29 @@
+use Rattle.std.proofs.Common.{refl, sym, subst}
+use Rattle.mesh_atoms.specs.declared.tuples.LinkKey.{LinkKey}
+use Rattle.mesh_atoms.specs.declared.tuples.Link.{Link}
+use Rattle.mesh_atoms.specs.Base.{Base, base_of}
+use Rattle.mesh_atoms.specs.Quality.{rule_of}
+use Rattle.mesh_links.specs.Links.{AllStay}
+use Rattle.mesh_nhdp.proofs.AllHears.{is_base}
+use Rattle.mesh_nhdp.proofs.Unchanged.{links_stay_all, one_more}
+use Rattle.mesh_nhdp.proofs.staying.links_stay.Goals as goal
+
+pub returns-then-not-stay_on : goal.returns-then-not-stay_on
+returns-then-not-stay_on g c =
+    let settings = c.args.settings.now in (
+      λ h. absurd cc,
+      λ all. (
+          let here = is_base c.args.links.now c.loop-i.i c.index-links-i.result c.loop-i-test.true c.index-links-i.is in
+          let yes = c.stay_on.ensures.1 (subst (λ (b : Base LinkKey Link). AllStay (rule_of settings c.loop-i.i) settings.times.link_hold c.args.last c.args.now b) here (all c.loop-i.i)) in
+          absurd cc),
+    )
+
+pub loop-i-preserved : goal.loop-i-preserved
+loop-i-preserved g c =
+    let settings = c.args.settings.now in
+    let here = is_base c.args.links.now c.loop-i.i c.index-links-i.result c.loop-i-test.true c.index-links-i.is in
+    one_more (λ k. AllStay (rule_of settings k) settings.times.link_hold c.args.last c.args.now (base_of c.args.links.now k)) c.loop-i.i c.loop-i.invariant
+    (subst (λ (b : Base LinkKey Link). AllStay (rule_of settings c.loop-i.i) settings.times.link_hold c.args.last c.args.now b) (sym here) (c.stay_on.ensures.0 c.if-not-stay_on.false))
+
+pub returns : goal.returns
+returns g c = ((λ h. links_stay_all c.args.settings.now c.args.last c.args.now c.args.links.now c.loop-i.i c.loop-i-test.false c.loop-i.invariant), (λ all. refl))

@@ -1,0 +1,82 @@
+//! Expiry where nothing becomes of links.
+ghost use Rattle.std.specs.Prelude.{◌≡◌, ◌↔◌, ◌<◌, ◌^◌, ◌&&◌, ℕ, IsTrue, true, false, nat_eq, length};
+ghost use Rattle.mesh_atoms.specs.Base.{HasDistinctKeys, Expires, base_of, two_hop_eq};
+ghost use Rattle.mesh_atoms.specs.Quality.{rule_of};
+ghost use Rattle.mesh_links.specs.Links.{AllStay};
+ghost use Rattle.mesh_nhdp.specs.Staying.{LinksStay, ExpiresBeside};
+
+use crate::nhdp::Nhdp;
+use mesh_atoms::{Link, LinkKey, RouterSettings, TwoHop, TwoHopKey};
+use mesh_expire::{Bases, Table};
+use mesh_links::LinkSet;
+use mesh_nbrs::TwoHopSet;
+
+/// Whether nothing becomes of the links of the interface of that number.
+fn stay_on<L: Table<LinkKey, Link>>(
+    settings: &RouterSettings,
+    links: &LinkSet<L>,
+    iface: usize,
+    last: u64,
+    now: u64,
+) -> bool
+    requires now { now < 2 ^ 62 }
+    requires iface { iface < length settings.now.interfaces }
+    ensures { IsTrue result ↔ AllStay (rule_of settings.now iface) settings.now.times.link_hold last now links.now }
+{
+    let face = &settings.interfaces.as_slice()[iface];
+    links.stay(last, now, settings.times.link_hold, &face.admit)
+}
+
+/// Whether nothing becomes of the links of any interface. Looks at each link once. Takes no memory.
+pub fn links_stay<L: Table<LinkKey, Link>>(
+    settings: &RouterSettings,
+    links: &[LinkSet<L>],
+    last: u64,
+    now: u64,
+) -> bool
+    requires now { now < 2 ^ 62 }
+    requires same { length links.now ≡ length settings.now.interfaces }
+    ensures { IsTrue result ↔ LinksStay settings.now last now links.now }
+{
+    for i in 0..links.len() {
+        if !stay_on(settings, &links[i], i, last, now) {
+            return false;
+        }
+    }
+    true
+}
+
+/// Whether nothing went before, and nothing now.
+fn none_went(before: bool, gone: usize) -> bool
+    ensures { result ≡ (before && nat_eq gone 0) }
+{
+    before && gone == 0
+}
+
+/// Takes out the 2-hop tuples that are expired, interface by interface; whether none is. Takes no memory.
+fn expire_two_hops<H: Table<TwoHopKey, TwoHop>>(sets: &mut [TwoHopSet<H>], now: u64) -> bool
+    ensures length { length sets.new ≡ length sets.old }
+    ensures each { (i : ℕ) → i < length sets.old → Expires two_hop_eq now (base_of sets.old i) (base_of sets.new i) }
+    ensures distinct { (i : ℕ) → i < length sets.old → HasDistinctKeys two_hop_eq (base_of sets.new i) }
+    ensures same { result ≡ true → sets.new ≡ sets.old }
+    ensures changed { result ≡ false → (i : ℕ) × (length (base_of sets.new i) < length (base_of sets.old i)) }
+{
+    let mut same = true;
+    for i in 0..sets.len() {
+        let gone = sets[i].expire(now);
+        same = none_went(same, gone);
+    }
+    same
+}
+
+impl<B: Bases> Nhdp<B> {
+    /// Takes out the 2-hop tuples and the lost addresses that are expired; whether none is. Takes no memory.
+    pub(crate) fn expire_beside(&mut self, now: u64) -> bool
+        ensures beside { ExpiresBeside now result self.old.near self.new.near }
+        ensures settings { self.new.settings ≡ self.old.settings }
+    {
+        let same = expire_two_hops(&mut self.two_hops, now);
+        let gone = self.losts.expire(now);
+        none_went(same, gone)
+    }
+}

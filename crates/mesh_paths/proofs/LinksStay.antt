@@ -1,0 +1,47 @@
+-- At the moment of the last event neither the quality rule nor expiry changes a link, so that links stay as they are.
+use Rattle.std.proofs.Common.{◌≡◌, ℕ, refl, sym, ◌∙◌, ap, Option, Some, None}
+use Rattle.std.specs.Prelude.{Bool, true, false, cond, nat_lt}
+use Rattle.mesh_atoms.specs.declared.metric.Metric.{Metric}
+use Rattle.mesh_atoms.specs.declared.tuples.LinkKey.{LinkKey}
+use Rattle.mesh_atoms.specs.declared.tuples.Link.{Link}
+use Rattle.mesh_atoms.specs.declared.settings.RouterSettings.{RouterSettings}
+use Rattle.mesh_atoms.specs.Base.{if_live}
+use Rattle.mesh_atoms.specs.Live.{LiveNeighbourhood, trim, trimmed}
+use Rattle.mesh_atoms.specs.Quality.{admit_on}
+use Rattle.mesh_atoms.specs.Sound.{SoundNeighbourhood, IsSoundLink}
+use Rattle.mesh_atoms.specs.State.{Neighbourhood, link_at, is_symmetric}
+
+abbrev entry : Link → ℕ → Link × ℕ
+entry link until = (link, until)
+
+trimmed_sound : (now : ℕ) (key : LinkKey) (link : Link) (until : ℕ) → IsSoundLink now key link → trimmed now (entry link until) ≡ entry link until
+trimmed_sound now key link until sound = by_case (is_symmetric link now) refl
+  where
+    by_case : (b : Bool) → is_symmetric link now ≡ b → cond b (entry link until) (entry (record link { link_out = None; selector = false }) until) ≡ entry link until
+    by_case true e = refl
+    by_case false e =
+        ap (λ (o : Option Metric). entry (record link { link_out = o; selector = false }) until) (sym (sound.link_out e))
+        ∙ ap (λ (b : Bool). entry (record link { selector = b }) until) (sym (sound.selector e))
+
+-- what isn't expired stays
+live_link : (settings : RouterSettings) (now : ℕ) (near : Neighbourhood) → SoundNeighbourhood settings now near → (i : ℕ) (key : LinkKey) →
+    trim now (if_live now (link_at near i key)) ≡ link_at near i key
+live_link settings now near sound i key = by_entry (link_at near i key) refl
+  where
+    by_entry : (o : Option (Link × ℕ)) → link_at near i key ≡ o → trim now (if_live now o) ≡ o
+    by_entry None e = refl
+    by_entry (Some (link, until)) e =
+        let fresh : nat_lt now until ≡ true = sound.fresh_links i key link until e in
+        let live : if_live now (Some (link, until)) ≡ Some (link, until) = ap (λ (b : Bool). cond b (Some (link, until)) None) fresh in
+        ap (trim now) live ∙ ap (λ (x : Link × ℕ). Some x) (trimmed_sound now key link until (sound.link i key link until e))
+
+-- the quality rule and expiry leave each link of a sound neighbourhood
+pub link_stays : (settings : RouterSettings) (now : ℕ) (near : Neighbourhood) → SoundNeighbourhood settings now near → (i : ℕ) (key : LinkKey) →
+    trim now (if_live now (admit_on settings i now (link_at near i key))) ≡ link_at near i key
+link_stays settings now near sound i key =
+    ap (λ (o : Option (Link × ℕ)). trim now (if_live now o)) (sound.by_quality i key) ∙ live_link settings now near sound i key
+
+-- so what expiry leaves at that moment has the same links
+pub links_stay : (settings : RouterSettings) (now : ℕ) (old new : Neighbourhood) → SoundNeighbourhood settings now old → LiveNeighbourhood settings now old new →
+    (i : ℕ) (key : LinkKey) → link_at new i key ≡ link_at old i key
+links_stay settings now old new sound live i key = live.links i key ∙ link_stays settings now old sound i key

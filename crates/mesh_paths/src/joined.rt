@@ -1,0 +1,22 @@
+//! Which routers are joined.
+ghost use Rattle.std.specs.Prelude.{◌≡◌, ◌≢◌, ◌↔◌, IsTrue};
+ghost use Rattle.mesh_atoms.specs.declared.settings.Scenario.{Scenario};
+ghost use Rattle.mesh_atoms.specs.Radio.{IsRadioGraph, Joined};
+ghost use Rattle.mesh_paths.specs.Joined.{is_joined};
+
+use mesh_atoms::RadioGraph;
+
+// Whether router w is another one, in the part of router x.
+fn is_in_part(parts: &[usize], x: usize, w: usize) -> bool
+    ensures { result ≡ is_joined parts.now x w }
+{
+    w != x && x < parts.len() && w < parts.len() && parts[x] == parts[w]
+}
+
+/// Whether router w is another one that a chain of joined interfaces leads to from router x, in the scenario of which that is the
+/// radio graph. Takes no memory.
+pub fn is_joined(graph: &RadioGraph, x: usize, w: usize) -> bool
+    ensures { (s : Scenario) → IsRadioGraph s graph.now → IsTrue result ↔ ((w ≢ x) × Joined s x w) }
+{
+    is_in_part(graph.parts.as_slice(), x, w)
+}

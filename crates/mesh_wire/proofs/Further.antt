@@ -1,0 +1,30 @@
+-- The validity that a value of times tells, at each distance.
+use Rattle.std.proofs.Common.{◌≡◌, ℕ, ◌%◌, ◌<◌, List, [], ◌∷◌, length, refl, arith}
+use Rattle.std.specs.Prelude.{Bool, true, false, cond, nat_lt}
+use Rattle.mesh_atoms.specs.Codes.{time_value, IsSentCode, time_at_distance}
+use Rattle.mesh_atoms.specs.Validity.{IsTimeValue, Everywhere, Up_to}
+use Rattle.mesh_atoms.proofs.CodeLaws.{time-less}
+use Rattle.mesh_packet.specs.Fields.{MessageFields}
+use Rattle.mesh_wire.specs.Kinds.{validity_time}
+use Rattle.mesh_wire.specs.Parts.{values_of}
+use Rattle.mesh_wire.specs.Times.{ValidityIs}
+
+pub code_above : (code : ℕ) → IsSentCode code → 0 < time_value code
+code_above code sent = let less : time_value 0 < time_value code = time-less 0 code (omega (arith, sent.0)) in omega (arith, less)
+
+pub odd : (value : List ℕ) → IsTimeValue value → length value % 2 ≡ 1
+odd value (Everywhere {code} sent) = refl
+odd value (Up_to {code} {value = rest} hops sent times) = omega (arith, odd rest times)
+
+either : (b : Bool) (x y : ℕ) → 0 < x → 0 < y → 0 < cond b x y
+either true x y p q = p
+either false x y p q = q
+
+pub above : (distance : ℕ) (value : List ℕ) → IsTimeValue value → 0 < time_at_distance distance value
+above distance value (Everywhere {code} sent) = code_above code sent
+above distance value (Up_to {code} {value = rest} hops sent times) =
+    either (nat_lt hops distance) (time_at_distance distance rest) (time_value code) (above distance rest times) (code_above code sent)
+
+-- whatever the distance, the time that the value has there is a validity
+pub further : (m : MessageFields) (value : List ℕ) → IsTimeValue value → values_of validity_time m ≡ value ∷ [] → (distance : ℕ) → ValidityIs m distance (time_at_distance distance value)
+further m value times told distance = ((value, told, odd value times, refl), above distance value times)
