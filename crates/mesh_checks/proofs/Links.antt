@@ -80,3 +80,16 @@ router_same rs p (Some router) = rw (slice_get-map stated_identifiers rs router)
 
 pub place_same : (rs : List StatedRouter) (p : Place) → find_place (map stated_identifiers rs) p ≡ stated_place rs p
 place_same rs p = rw (position-map (λ (r : Identifiers). name_eq p.0 r.router_name) stated_identifiers rs) (router_same rs p (position (λ r. name_eq p.0 r.head.name) rs))
+
+-- a place that was looked up step by step
+abbrev iface_in : List ℕ → ℕ → StatedRouter → Option (ℕ × ℕ)
+iface_in name router r = position (λ i. name_eq name i.name) r.interfaces >>= λ iface. both router iface
+
+abbrev router_in : List StatedRouter → List ℕ → ℕ → Option (ℕ × ℕ)
+router_in rs name router = slice_get rs router >>= iface_in name router
+
+pub place_found : (rs : List StatedRouter) (called name : List ℕ) (at iface : ℕ) (r : StatedRouter) → Some at ≡ position (λ r. name_eq called r.head.name) rs → Some r ≡ slice_get rs at
+    → Some iface ≡ position (λ i. name_eq name i.name) r.interfaces → Some (at, iface) ≡ stated_place rs (called, name)
+place_found rs called name at iface r here is there =
+    ap (λ (o : Option ℕ). o >>= λ iface. both at iface) there
+    ∙ (ap (λ (o : Option StatedRouter). o >>= iface_in name at) is ∙ ap (λ (o : Option ℕ). o >>= router_in rs name) here)

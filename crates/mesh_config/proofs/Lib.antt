@@ -1,6 +1,7 @@
 pub mod Apart
 pub mod Builds
 pub mod JoinFacts
+pub mod Qualities
 pub mod RunLaws
 pub mod Said
 pub mod Sounds

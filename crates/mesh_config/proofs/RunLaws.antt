@@ -17,12 +17,12 @@ use Rattle.mesh_atoms.specs.Base.{addr_eq}
 use Rattle.mesh_atoms.specs.Settings.{are_distinct, are_senders}
 use Rattle.mesh_toml.specs.declared.fault.ConfigFault.{ConfigFault}
 use Rattle.mesh_stated.specs.declared.stated.StatedRouter.{StatedRouter}
-use Rattle.mesh_stated.specs.declared.stated.StatedRun.{StatedRun}
-use Rattle.mesh_stated.specs.declared.stated.StatedRunInterface.{StatedRunInterface}
-use Rattle.mesh_stated.specs.declared.stated.StatedRunRouter.{StatedRunRouter}
+use Rattle.mesh_stated_run.specs.declared.stated.StatedRun.{StatedRun}
+use Rattle.mesh_stated_run.specs.declared.stated.StatedRunInterface.{StatedRunInterface}
+use Rattle.mesh_stated_run.specs.declared.stated.StatedRunRouter.{StatedRunRouter}
 use Rattle.mesh_toml.specs.Faults.{first, listed, Answers}
 use Rattle.mesh_stated.specs.Router.{InterfaceFields, RouterFields, AreRouterFields, stated_interface_fields, name, addresses, interfaces, attached, net, AttachedIs}
-use Rattle.mesh_stated.specs.Run.{PortSays, run_table_visits, address, neighbours, NeighbourIs, RunInterfaceIs, RunRouterIs, RunIs}
+use Rattle.mesh_stated_run.specs.Run.{PortSays, run_table_visits, address, neighbours, NeighbourIs, RunInterfaceIs, RunRouterIs, RunIs}
 use Rattle.mesh_checks.specs.Checks.{Identifiers, table_identifiers, net_in, tables_in, duplicates, duplicate_unless}
 use Rattle.mesh_checks.specs.Compared.{stated_identifiers, same_sender}
 use Rattle.mesh_config.specs.Fields.{interface_fields, IsClear}
@@ -30,7 +30,8 @@ use Rattle.mesh_config.specs.RunSettings.{OutlineOf, run_identifiers, stated_run
 use Rattle.mesh_checks.proofs.Links.{duplicates_same, are_distinct-map}
 use Rattle.mesh_config.proofs.Builds.{clear_at, map-then}
 use Rattle.mesh_toml.proofs.Parts.{first_one}
-use Rattle.mesh_config.proofs.Said.{named_of, map_said, flat_said, Each-along}
+use Rattle.mesh_config.proofs.Said.{named_of, map_said, flat_said, thresholds_say}
+use Rattle.mesh_stated.proofs.Elements.{Each-along}
 use Rattle.mesh_config.proofs.Told.{answers_along}
 
 pub outline_named : (d : StatedRunRouter) (o : StatedRouter) → OutlineOf d o → stated_identifiers o ≡ run_identifiers d
@@ -63,7 +64,7 @@ senders_right (d ∷ ds) h =
 pub sound_senders : (xs : List Interface) (ds : List StatedRunInterface) → map run_interface_fields xs ≡ map stated_run_interface_fields ds → list_all (λ i. are_distinct same_sender i.senders) ds ≡ true
     → list_all are_senders (map (λ i. map (λ s. s.sender) i.senders) xs) ≡ true
 sound_senders xs ds same h =
-    let F : RunInterfaceFields → List Addr4 = λ f. map (λ s. s.sender) f.1.1 in
+    let F : RunInterfaceFields → List Addr4 = λ f. map (λ s. s.sender) f.1.1.0 in
     let lists : map (λ (i : Interface). map (λ s. s.sender) i.senders) xs ≡ map (λ (i : StatedRunInterface). map (λ s. s.sender) i.senders) ds =
     sym (map-then F run_interface_fields xs) ∙ (ap (map F) same ∙ map-then F stated_run_interface_fields ds) in
     rw lists (list_all-map are_senders (λ (i : StatedRunInterface). map (λ s. s.sender) i.senders) ds ∙ senders_right ds h)
@@ -71,7 +72,7 @@ sound_senders xs ds same h =
 -- ---- what the tables say
 run_named_same : (t : Members) (d : StatedRunRouter) → RunRouterIs t d → table_identifiers t ≡ run_identifiers d
 run_named_same t d is =
-    let called : listed (name t) ≡ d.head.name = rw is.is_head.is_name in
+    let called : listed (name t) ≡ d.head.name = rw is.is_head.are_fields.is_name in
     let ifaces : map (λ i. listed (name i)) (tables_in (interfaces t)) ≡ map (λ i. i.name) d.interfaces =
     map_said RunInterfaceIs (λ i. listed (name i)) (λ (i : StatedRunInterface). i.name) (λ i x h. rw h.is_name) (listed (interfaces t)) d.interfaces is.are_interfaces in
     let addrs : flat_map (λ i. listed (addresses i)) (tables_in (interfaces t)) ≡ flat_map (λ i. i.addrs) d.interfaces =
@@ -103,7 +104,8 @@ interface_says table x y same is = record {
   is_addrs = is.is_addrs ∙ ap Ok (sym (ap (λ (f : RunInterfaceFields). f.0.addrs) same));
   are_costs = record {
     is_metric = rw (ap (λ (f : RunInterfaceFields). f.1.0) same) is.are_costs.is_metric;
-    are_senders = rw (ap (λ (f : RunInterfaceFields). f.1.1) same) is.are_costs.are_senders;
+    are_senders = rw (ap (λ (f : RunInterfaceFields). f.1.1.0) same) is.are_costs.are_senders;
+    are_qualities = rw (ap (λ (f : RunInterfaceFields). f.1.1.1) same) is.are_costs.are_qualities;
   };
 }
 
@@ -117,9 +119,10 @@ setup_says : (t : Members) (d : StatedRun) (s : RunSetup) → RunIs t d → Setu
 setup_says t d s is from = record {
   is_end = is.is_end ∙ ap Ok (sym from.same_end);
   is_router = record {
-    are_fields = subst (AreRouterFields (the_router t)) (sym from.same_fields) is.is_router.is_head;
+    are_fields = subst (AreRouterFields (the_router t)) (sym from.same_fields) is.is_router.is_head.are_fields;
     are_times = rw from.same_times is.are_times;
     are_interfaces = Each-along RunInterfaceIs RunInterfaceSays stated_run_interface_fields run_interface_fields (λ table x y same h. interface_says table x y same h) (listed (interfaces (the_router t))) d.router.interfaces s.router.interfaces from.same_interfaces is.is_router.are_interfaces;
+    admits = thresholds_say (the_router t) d.router.head.thresholds s.router.interfaces d.router.interfaces from.same_thresholds is.is_router.is_head.are_thresholds;
     are_attached = rw from.same_attached is.is_router.are_attached;
   };
   are_ports = Each-along RunInterfaceIs PortSays stated_port port_pair (λ table x y same h. port_says table x y same h) (listed (interfaces (the_router t))) d.router.interfaces s.ports from.same_ports is.is_router.are_interfaces;

@@ -1,10 +1,16 @@
 -- The whole scenario: from what the tables state to what they say of settings.
-use Rattle.std.proofs.Common.{◌≡◌, ℕ, List, [], ◌∷◌, map, refl}
+use Rattle.std.proofs.Common.{◌≡◌, ℕ, List, [], ◌∷◌, map, refl, sym, subst}
+use Rattle.std.proofs.lemmas.List.Elements.{All-nil, All-cons}
 use Rattle.std.specs.List.{flat_map}
 use Rattle.toml.specs.Data.{Data, Members}
 use Rattle.mesh_atoms.specs.declared.addr.Addr4.{Addr4}
 use Rattle.mesh_atoms.specs.declared.settings.Attached4.{Attached4}
+use Rattle.mesh_atoms.specs.declared.settings.Interface.{Interface}
 use Rattle.mesh_stated.specs.declared.stated.StatedRouter.{StatedRouter}
+use Rattle.mesh_stated.specs.declared.stated.Thresholds.{Thresholds}
+use Rattle.mesh_stated.specs.Rules.{AreThresholds}
+use Rattle.mesh_config.specs.Fields.{thresholds_of, threshold_pair}
+use Rattle.mesh_config.specs.Settings.{Admits}
 use Rattle.mesh_stated.specs.declared.stated.StatedInterface.{StatedInterface}
 use Rattle.mesh_stated.specs.declared.stated.StatedArc.{StatedArc}
 use Rattle.mesh_toml.specs.Faults.{listed}
@@ -29,17 +35,16 @@ flat_said Is F G h (d ∷ ds) (x ∷ xs) all = rw (h (table_of d) x all.0, flat_
 flat_said Is F G h [] (x ∷ xs) all = absurd all
 flat_said Is F G h (d ∷ ds) [] all = absurd all
 
--- from one kind of values to another that agrees with it
-pub Each-along : {X Y C : Type 0} (Is : Members → X → Type 0) (Says : Members → Y → Type 0) (f : X → C) (g : Y → C) → ((t : Members) (x : X) (y : Y) → g y ≡ f x → Is t x → Says t y)
-    → (ds : List Data) (xs : List X) (ys : List Y) → map g ys ≡ map f xs → Each Is ds xs → Each Says ds ys
-Each-along Is Says f g h [] [] [] same all = tt
-Each-along Is Says f g h (d ∷ ds) (x ∷ xs) (y ∷ ys) same all =
-    let here : g y ≡ f x = cc in let there : map g ys ≡ map f xs = cc in
-    (h (table_of d) x y here all.0, Each-along Is Says f g h ds xs ys there all.1)
-Each-along Is Says f g h [] [] (y ∷ ys) same all = let bad : ⊥ = cc in absurd bad
-Each-along Is Says f g h (d ∷ ds) (x ∷ xs) [] same all = let bad : ⊥ = cc in absurd bad
-Each-along Is Says f g h [] (x ∷ xs) ys same all = absurd all
-Each-along Is Says f g h (d ∷ ds) [] ys same all = absurd all
+-- the thresholds of each interface, where they are those of the router
+pub thresholds_say : {Y : Type 0} (t : Members) (thresholds : Thresholds) (xs : List Interface) (ys : List Y) → map thresholds_of xs ≡ map (λ y. threshold_pair thresholds) ys
+    → AreThresholds t thresholds.accept thresholds.reject → Admits t xs
+thresholds_say t thresholds [] ys same is = All-nil (λ (i : Interface). AreThresholds t i.admit.accept i.admit.reject)
+thresholds_say t thresholds (x ∷ xs) [] same is = absurd cc
+thresholds_say t thresholds (x ∷ xs) (y ∷ ys) same is =
+    let here : thresholds_of x ≡ threshold_pair thresholds = cc in
+    let rest : map thresholds_of xs ≡ map (λ y. threshold_pair thresholds) ys = cc in
+    All-cons (λ (i : Interface). AreThresholds t i.admit.accept i.admit.reject) x xs
+    (subst (λ (p : ℕ × ℕ). AreThresholds t p.0 p.1) (sym here) is) (thresholds_say t thresholds xs ys rest is)
 
 pub named_of : (a a' : List ℕ) (b b' : List (List ℕ)) (c c' : List Addr4) (d d' : List (Addr4 × ℕ)) → a ≡ a' → b ≡ b' → c ≡ c' → d ≡ d'
     → (let x : Identifiers = record { router_name = a; interface_names = b; addrs = c; nets = d } in x) ≡ (let y : Identifiers = record { router_name = a'; interface_names = b'; addrs = c'; nets = d' } in y)
@@ -48,7 +53,7 @@ named_of a a' b b' c c' d d' p q r s = rw (p, q, r, s)
 -- what must not stand twice of a router's table is that of the stated router
 pub named_same : (t : Members) (d : StatedRouter) → RouterIs t d → table_identifiers t ≡ stated_identifiers d
 named_same t d is =
-    let called : listed (name t) ≡ d.head.name = rw is.is_head.is_name in
+    let called : listed (name t) ≡ d.head.name = rw is.is_head.are_fields.is_name in
     let ifaces : map (λ i. listed (name i)) (tables_in (interfaces t)) ≡ map (λ i. i.name) d.interfaces =
     map_said InterfaceIs (λ i. listed (name i)) (λ (i : StatedInterface). i.name) (λ i x h. rw h.is_name) (listed (interfaces t)) d.interfaces is.are_interfaces in
     let addrs : flat_map (λ i. listed (addresses i)) (tables_in (interfaces t)) ≡ router_addrs d =

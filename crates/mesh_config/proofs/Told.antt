@@ -14,6 +14,7 @@ use Rattle.mesh_toml.specs.declared.fault.ConfigFault.{ConfigFault}
 use Rattle.mesh_toml.specs.Faults.{Fault, first, listed, Answers}
 use Rattle.mesh_stated.specs.Tables.{Each}
 use Rattle.mesh_toml.specs.Document.{document}
+use Rattle.mesh_stated.specs.Steps.{StepsAre}
 use Rattle.mesh_stated.specs.Times.{TimesIs}
 use Rattle.mesh_stated.specs.Router.{interfaces, InterfaceIs, RouterIs, AreInterfaceFields, AreRouterFields, stated_interface_fields}
 use Rattle.mesh_stated.specs.Scenario.{ArcIs, AreArcFields, ScenarioIs, scenario_table_visits, routers, arcs, sub_times}
@@ -23,9 +24,11 @@ use Rattle.mesh_stated.specs.Scenario.{stated_arc_fields}
 use Rattle.mesh_checks.specs.Compared.{arc_fields}
 use Rattle.mesh_config.specs.Fields.{interface_fields, RouterParts, settings_parts, stated_parts}
 use Rattle.mesh_config.specs.Built.{stated_visits, BuiltFrom}
+use Rattle.mesh_config.specs.Senders.{stated_steps}
 use Rattle.mesh_config.specs.Settings.{InterfaceSays, RouterSays, ArcSays, ScenarioSays, SettingsIs, refusals}
 use Rattle.mesh_toml.proofs.Parts.{first_one}
-use Rattle.mesh_config.proofs.Said.{Each-along, all_named_same, places_same}
+use Rattle.mesh_config.proofs.Said.{all_named_same, places_same, thresholds_say}
+use Rattle.mesh_stated.proofs.Elements.{Each-along, Each-map}
 
 pub answers_along : {X : Type 0} (Is Says : X → Type 0) (found found' : Option Fault) (r : Result X ConfigFault) → found' ≡ found → ((x : X) → Is x → Says x) → Answers Is found r → Answers Says found' r
 answers_along Is Says found found' (Ok x) same h met = (same ∙ met.0, h x met.1)
@@ -45,9 +48,10 @@ interfaces_say ds xs ys same all =
 
 router_says : (t : Members) (times : Times) (table : Members) (d : StatedRouter) (r : RouterSettings) → TimesIs t times → settings_parts r ≡ stated_parts times d → RouterIs table d → RouterSays t table r
 router_says t times table d r timed same is = record {
-  are_fields = subst (AreRouterFields table) (sym (ap (λ (p : RouterParts). p.fields) same)) is.is_head;
+  are_fields = subst (AreRouterFields table) (sym (ap (λ (p : RouterParts). p.fields) same)) is.is_head.are_fields;
   are_times = subst (TimesIs t) (sym (ap (λ (p : RouterParts). p.times) same)) timed;
   are_interfaces = interfaces_say (listed (interfaces table)) d.interfaces r.interfaces (ap (λ (p : RouterParts). p.interfaces) same) is.are_interfaces;
+  admits = thresholds_say table d.head.thresholds r.interfaces d.interfaces (ap (λ (p : RouterParts). p.thresholds) same) is.is_head.are_thresholds;
   are_attached = rw (ap (λ (p : RouterParts). p.attached) same) is.are_attached;
 }
 
@@ -63,6 +67,9 @@ built_says t d s is joined built = record {
   are_joined = joined ∙ built.are_joined;
   are_arcs = Each-along ArcIs ArcSays stated_arc_fields arc_fields (λ table x y same h. arc_says table x y same h) (listed (arcs t)) d.arcs s.arcs built.same_arcs is.are_arcs;
   are_senders = built.are_senders;
+  steps = stated_steps d.arcs;
+  are_steps = Each-map ArcIs StepsAre (λ (a : StatedArc). a.steps) (λ table a h. h.are_steps) (listed (arcs t)) d.arcs is.are_arcs;
+  are_qualities = built.are_qualities;
 }
 
 -- the tables, and the checks after the walk

@@ -8,7 +8,7 @@ use Rattle.mesh_checks.specs.Compared.{stated_identifiers, arc_places, ends_of}
 use Rattle.mesh_checks.specs.Compared.{arc_fields}
 use Rattle.mesh_config.specs.Fields.{settings_parts, stated_parts}
 use Rattle.mesh_stated.specs.Scenario.{stated_arc_fields}
-use Rattle.mesh_config.specs.Senders.{addr_lists, HaveAllSenders}
+use Rattle.mesh_config.specs.Senders.{addr_lists, HaveAllSenders, with_steps, HaveAllQualities, stated_steps}
 
 abbrev pub stated_visits : StatedScenario → Visits
 stated_visits d =
@@ -22,3 +22,4 @@ pub record BuiltFrom (d : StatedScenario) (s : Scenario) : Type 0 where
   pub are_joined : joins (map stated_identifiers d.routers) [] (map arc_places d.arcs) ≡ Ok (map ends_of s.arcs)
   pub same_arcs : map arc_fields s.arcs ≡ map stated_arc_fields d.arcs
   pub are_senders : HaveAllSenders (addr_lists s.routers) s.arcs 0 s.routers
+  pub are_qualities : HaveAllQualities (addr_lists s.routers) (with_steps s.arcs (stated_steps d.arcs)) 0 s.routers

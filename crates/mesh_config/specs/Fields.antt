@@ -1,5 +1,5 @@
 -- Stated routers and settings, part by part.
-use Rattle.std.specs.Prelude.{◌≡◌, List, map, true}
+use Rattle.std.specs.Prelude.{◌≡◌, ℕ, List, map, true}
 use Rattle.mesh_atoms.specs.declared.settings.Attached4.{Attached4}
 use Rattle.mesh_atoms.specs.declared.settings.Interface.{Interface}
 use Rattle.mesh_atoms.specs.declared.settings.RouterSettings.{RouterSettings}
@@ -7,6 +7,7 @@ use Rattle.mesh_atoms.specs.declared.settings.Times.{Times}
 use Rattle.mesh_atoms.specs.Base.{addr_eq}
 use Rattle.mesh_atoms.specs.Settings.{are_distinct}
 use Rattle.mesh_stated.specs.declared.stated.StatedRouter.{StatedRouter}
+use Rattle.mesh_stated.specs.declared.stated.Thresholds.{Thresholds}
 use Rattle.mesh_stated.specs.Router.{InterfaceFields, stated_interface_fields, RouterFields, head_fields}
 use Rattle.mesh_checks.specs.Compared.{same_interface, same_attached, router_addrs, attaches_no_host}
 
@@ -15,11 +16,26 @@ abbrev pub interface_fields : Interface → InterfaceFields
 interface_fields i = record { interface_name = i.name; addrs = i.addrs }
 
 abbrev pub router_fields : RouterSettings → RouterFields
-router_fields r = record { router_name = r.name; willing = r.willing; hello_at = r.hello_at; tc_at = r.tc_at }
+router_fields r = record {
+  router_name = r.name;
+  willing = r.willing;
+  tc_rows = r.tc_rows;
+  near_hold = r.near_hold;
+  hello_at = r.hello_at;
+  tc_at = r.tc_at;
+}
+
+-- the thresholds of an interface, and those that are stated for each interface of a router
+abbrev pub thresholds_of : Interface → ℕ × ℕ
+thresholds_of i = (i.admit.accept, i.admit.reject)
+
+abbrev pub threshold_pair : Thresholds → ℕ × ℕ
+threshold_pair t = (t.accept, t.reject)
 
 -- the parts of a router, but for the senders of its interfaces
 pub record RouterParts : Type 0 where
   pub fields : RouterFields
+  pub thresholds : List (ℕ × ℕ)
   pub times : Times
   pub interfaces : List InterfaceFields
   pub attached : List Attached4
@@ -27,6 +43,7 @@ pub record RouterParts : Type 0 where
 abbrev pub stated_parts : Times → StatedRouter → RouterParts
 stated_parts times d = record {
   fields = head_fields d.head;
+  thresholds = map (λ i. threshold_pair d.head.thresholds) d.interfaces;
   times = times;
   interfaces = map stated_interface_fields d.interfaces;
   attached = d.attached;
@@ -35,6 +52,7 @@ stated_parts times d = record {
 abbrev pub settings_parts : RouterSettings → RouterParts
 settings_parts r = record {
   fields = router_fields r;
+  thresholds = map thresholds_of r.interfaces;
   times = r.times;
   interfaces = map interface_fields r.interfaces;
   attached = r.attached;

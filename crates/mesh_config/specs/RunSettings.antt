@@ -10,12 +10,13 @@ use Rattle.mesh_atoms.specs.declared.settings.Port.{Port}
 use Rattle.mesh_atoms.specs.declared.settings.RouterSettings.{RouterSettings}
 use Rattle.mesh_atoms.specs.declared.settings.RunSetup.{RunSetup}
 use Rattle.mesh_atoms.specs.declared.settings.SenderMetric.{SenderMetric}
+use Rattle.mesh_atoms.specs.declared.admit.SenderQuality.{SenderQuality}
 use Rattle.mesh_atoms.specs.Base.{addr_eq}
 use Rattle.mesh_atoms.specs.Settings.{are_distinct}
 use Rattle.mesh_stated.specs.declared.stated.StatedRouter.{StatedRouter}
-use Rattle.mesh_stated.specs.declared.stated.StatedRun.{StatedRun}
-use Rattle.mesh_stated.specs.declared.stated.StatedRunInterface.{StatedRunInterface}
-use Rattle.mesh_stated.specs.declared.stated.StatedRunRouter.{StatedRunRouter}
+use Rattle.mesh_stated_run.specs.declared.stated.StatedRun.{StatedRun}
+use Rattle.mesh_stated_run.specs.declared.stated.StatedRunInterface.{StatedRunInterface}
+use Rattle.mesh_stated_run.specs.declared.stated.StatedRunRouter.{StatedRunRouter}
 use Rattle.mesh_toml.specs.Faults.{Read, Visits, fault, visit, first, listed}
 use Rattle.mesh_stated.specs.Tables.{Each}
 use Rattle.mesh_toml.specs.Document.{document}
@@ -23,21 +24,23 @@ use Rattle.mesh_stated.specs.Times.{TimesIs}
 use Rattle.mesh_stated.specs.Router.{InterfaceFields, stated_interface_fields, AreRouterFields, head_fields, name, addresses, interfaces, attached, AttachedIs}
 use Rattle.mesh_stated.specs.Scenario.{end_moment, sub_times}
 use Rattle.mesh_toml.specs.Values.{table_read}
-use Rattle.mesh_stated.specs.Run.{address, PortSays, AreCosts, neighbours, router_table, run_table_visits}
+use Rattle.mesh_stated_run.specs.Run.{address, PortSays, AreCosts, neighbours, router_table, run_table_visits}
 use Rattle.mesh_checks.specs.Checks.{Identifiers, table_identifiers, tables_in, duplicate_unless, duplicates}
 use Rattle.mesh_checks.specs.Compared.{same_sender}
-use Rattle.mesh_config.specs.Fields.{interface_fields, router_fields}
+use Rattle.mesh_config.specs.Fields.{interface_fields, router_fields, thresholds_of, threshold_pair}
+use Rattle.mesh_config.specs.Settings.{Admits}
 
 -- ---- what the tables say
 pub record RunInterfaceSays (table : Members) (interface : Interface) : Type 0 where
   pub is_name : name table ≡ Ok interface.name
   pub is_addrs : addresses table ≡ Ok interface.addrs
-  pub are_costs : AreCosts table interface.metric interface.senders
+  pub are_costs : AreCosts table interface.metric interface.senders interface.admit.senders
 
 pub record RunRouterSays (times table : Members) (router : RouterSettings) : Type 0 where
   pub are_fields : AreRouterFields table (router_fields router)
   pub are_times : TimesIs times router.times
   pub are_interfaces : Each RunInterfaceSays (listed (interfaces table)) router.interfaces
+  pub admits : Admits table router.interfaces
   pub are_attached : Each AttachedIs (listed (attached table)) router.attached
 
 abbrev pub the_router : Members → Members
@@ -79,13 +82,13 @@ abbrev pub outline_fields : StatedRunInterface → InterfaceFields
 outline_fields i = record { interface_name = i.name; addrs = i.addrs }
 
 abbrev pub RunInterfaceFields : Type 0
-RunInterfaceFields = InterfaceFields × (Metric × List SenderMetric)
+RunInterfaceFields = InterfaceFields × (Metric × (List SenderMetric × List SenderQuality))
 
 abbrev pub stated_run_interface_fields : StatedRunInterface → RunInterfaceFields
-stated_run_interface_fields i = (outline_fields i, (i.metric, i.senders))
+stated_run_interface_fields i = (outline_fields i, (i.metric, (i.senders, i.qualities)))
 
 abbrev pub run_interface_fields : Interface → RunInterfaceFields
-run_interface_fields i = (interface_fields i, (i.metric, i.senders))
+run_interface_fields i = (interface_fields i, (i.metric, (i.senders, i.admit.senders)))
 
 abbrev pub stated_port : StatedRunInterface → Endpoint × List Endpoint
 stated_port i = (i.local, i.peers)
@@ -107,6 +110,7 @@ pub record SetupFrom (d : StatedRun) (s : RunSetup) : Type 0 where
   pub same_fields : router_fields s.router ≡ head_fields d.router.head
   pub same_times : s.router.times ≡ d.times
   pub same_interfaces : map run_interface_fields s.router.interfaces ≡ map stated_run_interface_fields d.router.interfaces
+  pub same_thresholds : map thresholds_of s.router.interfaces ≡ map (λ i. threshold_pair d.router.head.thresholds) d.router.interfaces
   pub same_attached : s.router.attached ≡ d.router.attached
   pub same_ports : map port_pair s.ports ≡ map stated_port d.router.interfaces
 

@@ -1,7 +1,8 @@
 -- The senders of the interfaces of a scenario.
-use Rattle.std.specs.Prelude.{◌≡◌, ℕ, ◌+◌, List, [], ◌∷◌, map, true, nat_eq, ◌&&◌, Option, Some, None, if◌then◌else◌}
+use Rattle.std.specs.Prelude.{◌≡◌, ℕ, zero, suc, ◌+◌, List, [], ◌∷◌, map, true, nat_eq, ◌&&◌, Option, Some, None, if◌then◌else◌}
 use Rattle.std.specs.List.{flat_map, slice_get}
 use Rattle.mesh_atoms.specs.declared.addr.Addr4.{Addr4}
+use Rattle.mesh_atoms.specs.declared.admit.QualityStep.{QualityStep}
 use Rattle.mesh_atoms.specs.declared.metric.Metric.{Metric}
 use Rattle.mesh_atoms.specs.declared.settings.Interface.{Interface}
 use Rattle.mesh_atoms.specs.declared.settings.RadioArc.{RadioArc}
@@ -10,7 +11,9 @@ use Rattle.mesh_atoms.specs.declared.settings.SenderMetric.{SenderMetric}
 use Rattle.mesh_atoms.specs.Base.{addr_eq}
 use Rattle.mesh_atoms.specs.Literals.{◌>>=◌}
 use Rattle.mesh_atoms.specs.Settings.{are_distinct, ends_eq}
+use Rattle.mesh_stated.specs.declared.stated.StatedArc.{StatedArc}
 use Rattle.mesh_stated.specs.declared.stated.StatedRouter.{StatedRouter}
+use Rattle.mesh_stated.specs.Steps.{quality_pair}
 use Rattle.mesh_checks.specs.Compared.{all_addrs, ends_of}
 
 -- the addresses of each interface of each router
@@ -50,6 +53,48 @@ HaveSenders lists arcs router iface (x ∷ xs) =
 abbrev pub HaveAllSenders : Lists → List RadioArc → ℕ → List RouterSettings → Type 0
 HaveAllSenders lists arcs router [] = Unit {0}
 HaveAllSenders lists arcs router (r ∷ rs) = HaveSenders lists arcs router 0 r.interfaces × HaveAllSenders lists arcs (router + 1) rs
+
+-- ---- the qualities of senders
+
+-- each arc with its steps; with none where there are no more
+abbrev pub with_steps : List RadioArc → List (List QualityStep) → List (RadioArc × List QualityStep)
+with_steps [] steps = []
+with_steps (arc ∷ arcs) [] = (arc, []) ∷ with_steps arcs []
+with_steps (arc ∷ arcs) (one ∷ steps) = (arc, one) ∷ with_steps arcs steps
+
+abbrev pub with_quality : List QualityStep → Option Addr4 → List (Addr4 × List QualityStep)
+with_quality steps None = []
+with_quality steps (Some addr) = (addr, steps) ∷ []
+
+-- an arc that leads to the interface gives the first address of the sending interface, with its steps
+abbrev pub quality_by : Lists → ℕ → ℕ → RadioArc × List QualityStep → List (Addr4 × List QualityStep)
+quality_by lists router iface e =
+    if nat_eq e.0.to router && nat_eq e.0.to_iface iface then with_quality e.1 (first_addr lists e.0.from e.0.from_iface) else []
+
+-- the qualities of the senders of an interface, in order of the arcs
+abbrev pub qualities_to : Lists → List (RadioArc × List QualityStep) → ℕ → ℕ → List (Addr4 × List QualityStep)
+qualities_to lists arcs router iface = flat_map (quality_by lists router iface) arcs
+
+-- the interfaces of a router from number `iface` on: the qualities of their senders
+abbrev pub HaveQualities : Lists → List (RadioArc × List QualityStep) → ℕ → ℕ → List Interface → Type 0
+HaveQualities lists arcs router iface [] = Unit {0}
+HaveQualities lists arcs router iface (x ∷ xs) =
+    (map quality_pair x.admit.senders ≡ qualities_to lists arcs router iface) × HaveQualities lists arcs router (iface + 1) xs
+
+-- the routers from number `router` on
+abbrev pub HaveAllQualities : Lists → List (RadioArc × List QualityStep) → ℕ → List RouterSettings → Type 0
+HaveAllQualities lists arcs router [] = Unit {0}
+HaveAllQualities lists arcs router (r ∷ rs) = HaveQualities lists arcs router 0 r.interfaces × HaveAllQualities lists arcs (router + 1) rs
+
+-- the steps of stated arcs
+abbrev pub stated_steps : List StatedArc → List (List QualityStep)
+stated_steps arcs = map (λ a. a.steps) arcs
+
+-- the steps of the arc of that number; none where there are no more
+abbrev pub steps_at : List (List QualityStep) → ℕ → List QualityStep
+steps_at [] number = []
+steps_at (one ∷ steps) zero = one
+steps_at (one ∷ steps) (suc number) = steps_at steps number
 
 -- no address stands twice among the routers, and no two arcs join the same interfaces
 pub record AreApart (routers : List StatedRouter) (arcs : List RadioArc) : Type 0 where

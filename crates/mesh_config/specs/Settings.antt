@@ -1,6 +1,7 @@
 -- What the text says of a scenario, and its first refusal.
-use Rattle.std.specs.Prelude.{◌≡◌, ℕ, List, [], ◌∷◌, map, Some, Ok}
+use Rattle.std.specs.Prelude.{◌≡◌, ℕ, List, [], ◌∷◌, map, All, Some, Ok}
 use Rattle.toml.specs.Data.{Members}
+use Rattle.mesh_atoms.specs.declared.admit.QualityStep.{QualityStep}
 use Rattle.mesh_atoms.specs.declared.settings.Interface.{Interface}
 use Rattle.mesh_atoms.specs.declared.settings.RadioArc.{RadioArc}
 use Rattle.mesh_atoms.specs.declared.settings.RouterSettings.{RouterSettings}
@@ -9,6 +10,8 @@ use Rattle.mesh_toml.specs.Faults.{Visits, fault, visit, first, listed}
 use Rattle.mesh_stated.specs.Tables.{Each}
 use Rattle.mesh_toml.specs.Document.{document}
 use Rattle.mesh_stated.specs.Times.{TimesIs}
+use Rattle.mesh_stated.specs.Rules.{AreThresholds}
+use Rattle.mesh_stated.specs.Steps.{StepsAre}
 use Rattle.mesh_stated.specs.Router.{AreInterfaceFields, AreRouterFields, interfaces, attached, AttachedIs}
 use Rattle.mesh_stated.specs.Scenario.{end_moment, seed, loss_until, sub_times, routers, arcs, AreArcFields}
 use Rattle.mesh_toml.specs.Values.{table_read}
@@ -16,17 +19,22 @@ use Rattle.mesh_checks.specs.Checks.{arc_ends, scenario_visits}
 use Rattle.mesh_checks.specs.Compared.{ends_of}
 use Rattle.mesh_checks.specs.Compared.{arc_fields}
 use Rattle.mesh_config.specs.Fields.{interface_fields, router_fields}
-use Rattle.mesh_config.specs.Senders.{addr_lists, HaveAllSenders}
+use Rattle.mesh_config.specs.Senders.{addr_lists, HaveAllSenders, with_steps, HaveAllQualities}
 
 -- an interface, whatever its senders
 abbrev pub InterfaceSays : Members → Interface → Type 0
 InterfaceSays table interface = AreInterfaceFields table (interface_fields interface)
+
+-- each interface has the thresholds of the router's table
+abbrev pub Admits : Members → List Interface → Type 0
+Admits table interfaces = All (λ i. AreThresholds table i.admit.accept i.admit.reject) interfaces
 
 -- a router, where `times` is the table of times at the top
 pub record RouterSays (times table : Members) (router : RouterSettings) : Type 0 where
   pub are_fields : AreRouterFields table (router_fields router)
   pub are_times : TimesIs times router.times
   pub are_interfaces : Each InterfaceSays (listed (interfaces table)) router.interfaces
+  pub admits : Admits table router.interfaces
   pub are_attached : Each AttachedIs (listed (attached table)) router.attached
 
 -- an arc, whatever it joins
@@ -41,6 +49,9 @@ pub record ScenarioSays (table : Members) (scenario : Scenario) : Type 0 where
   pub are_joined : arc_ends table ≡ Ok (map ends_of scenario.arcs)
   pub are_arcs : Each ArcSays (listed (arcs table)) scenario.arcs
   pub are_senders : HaveAllSenders (addr_lists scenario.routers) scenario.arcs 0 scenario.routers
+  pub steps : List (List QualityStep)
+  pub are_steps : Each StepsAre (listed (arcs table)) steps
+  pub are_qualities : HaveAllQualities (addr_lists scenario.routers) (with_steps scenario.arcs steps) 0 scenario.routers
 
 -- the scenario is what the text says
 abbrev pub SettingsIs : List ℕ → Scenario → Type 0

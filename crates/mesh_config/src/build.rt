@@ -2,13 +2,14 @@
 ghost use Rattle.std.specs.Prelude.{◌≡◌, ◌≤◌, ◌<◌, None, length, map, IfOk};
 ghost use Rattle.mesh_toml.specs.Faults.{first};
 ghost use Rattle.mesh_checks.specs.Compared.{stated_lists, stated_duplicates};
-ghost use Rattle.mesh_config.specs.Fields.{interface_fields, settings_parts, stated_parts, IsClear};
+ghost use Rattle.mesh_config.specs.Fields.{interface_fields, thresholds_of, threshold_pair, settings_parts, stated_parts, IsClear};
 ghost use Rattle.mesh_stated.specs.Router.{stated_interface_fields};
-ghost use Rattle.mesh_config.specs.Senders.{AreApart, senders_to, sender_pair, HaveSenders, HaveAllSenders};
+ghost use Rattle.mesh_config.specs.Senders.{AreApart, senders_to, sender_pair, HaveSenders, HaveAllSenders, stated_steps, with_steps, qualities_to, HaveQualities, HaveAllQualities};
+ghost use Rattle.mesh_stated.specs.Steps.{quality_pair};
 
-use crate::senders::senders_to;
-use mesh_atoms::{Interface, Metric, RadioArc, RouterSettings, Seq, Times};
-use mesh_stated::{StatedInterface, StatedRouter};
+use crate::senders::{qualities_to, senders_to};
+use mesh_atoms::{Admit, Interface, Metric, RadioArc, RouterSettings, Seq, Times};
+use mesh_stated::{StatedArc, StatedInterface, StatedRouter, Thresholds};
 use std::alloc::{AllocError, Global};
 
 // An interface, with its senders; its own metric is 1.
@@ -16,6 +17,8 @@ fn make_interface(
     alloc: Global,
     routers: &[StatedRouter],
     arcs: &[RadioArc],
+    stated_arcs: &[StatedArc],
+    thresholds: Thresholds,
     router: usize,
     iface: usize,
     stated: &StatedInterface,
@@ -23,10 +26,13 @@ fn make_interface(
     requires few { length arcs.now ≤ 4096 }
     requires apart { AreApart routers.now arcs.now }
     ensures fields { IfOk result (λ i. interface_fields i ≡ stated_interface_fields stated.now) }
+    ensures thresholds { IfOk result (λ i. thresholds_of i ≡ threshold_pair thresholds) }
     ensures senders { IfOk result (λ i. map sender_pair i.senders ≡ senders_to (stated_lists routers.now) arcs.now router iface) }
+    ensures qualities { IfOk result (λ i. map quality_pair i.admit.senders ≡ qualities_to (stated_lists routers.now) (with_steps arcs.now (stated_steps stated_arcs.now)) router iface) }
     ensures own { IfOk result (λ i. i.metric.code ≡ 0) }
 {
     let senders = senders_to(alloc, routers, arcs, router, iface)?;
+    let qualities = qualities_to(alloc, routers, arcs, stated_arcs, router, iface)?;
     let name = stated.name.copy()?;
     let addrs = stated.addrs.copy()?;
     Ok(Interface {
@@ -34,6 +40,11 @@ fn make_interface(
         addrs,
         metric: Metric { code: 0 },
         senders,
+        admit: Admit {
+            accept: thresholds.accept,
+            reject: thresholds.reject,
+            senders: qualities,
+        },
     })
 }
 
@@ -41,17 +52,30 @@ fn make_interfaces(
     alloc: Global,
     routers: &[StatedRouter],
     arcs: &[RadioArc],
+    stated_arcs: &[StatedArc],
+    thresholds: Thresholds,
     router: usize,
     interfaces: &[StatedInterface],
 ) -> Result<Seq<Interface>, AllocError>
     requires few { length arcs.now ≤ 4096 }
     requires apart { AreApart routers.now arcs.now }
     ensures interfaces { IfOk result (λ all. map interface_fields all ≡ map stated_interface_fields interfaces.now) }
+    ensures thresholds { IfOk result (λ all. map thresholds_of all ≡ map (λ i. threshold_pair thresholds) interfaces.now) }
     ensures senders { IfOk result (λ all. HaveSenders (stated_lists routers.now) arcs.now router 0 all) }
+    ensures qualities { IfOk result (λ all. HaveQualities (stated_lists routers.now) (with_steps arcs.now (stated_steps stated_arcs.now)) router 0 all) }
 {
     let mut all = Seq::new(alloc);
     for (iface, stated) in interfaces.iter().enumerate() {
-        all.push(make_interface(alloc, routers, arcs, router, iface, stated)?)?;
+        all.push(make_interface(
+            alloc,
+            routers,
+            arcs,
+            stated_arcs,
+            thresholds,
+            router,
+            iface,
+            stated,
+        )?)?;
     }
     Ok(all)
 }
@@ -60,6 +84,7 @@ fn make_router(
     alloc: Global,
     routers: &[StatedRouter],
     arcs: &[RadioArc],
+    stated_arcs: &[StatedArc],
     times: Times,
     router: usize,
     stated: &StatedRouter,
@@ -69,10 +94,20 @@ fn make_router(
     requires clear { IsClear stated.now }
     ensures parts { IfOk result (λ r. settings_parts r ≡ stated_parts times stated.now) }
     ensures senders { IfOk result (λ r. HaveSenders (stated_lists routers.now) arcs.now router 0 r.interfaces) }
+    ensures qualities { IfOk result (λ r. HaveQualities (stated_lists routers.now) (with_steps arcs.now (stated_steps stated_arcs.now)) router 0 r.interfaces) }
 {
-    let interfaces = make_interfaces(alloc, routers, arcs, router, stated.interfaces.as_slice())?;
+    let interfaces = make_interfaces(
+        alloc,
+        routers,
+        arcs,
+        stated_arcs,
+        stated.head.thresholds,
+        router,
+        stated.interfaces.as_slice(),
+    )?;
     let name = stated.head.name.copy()?;
     let attached = stated.attached.copy()?;
+    let near_hold = stated.head.near_hold.copy()?;
     Ok(RouterSettings {
         name,
         willing: stated.head.willing,
@@ -81,14 +116,18 @@ fn make_router(
         times,
         interfaces,
         attached,
+        tc_rows: stated.head.tc_rows,
+        near_hold,
     })
 }
 
-/// The settings of all routers.
+/// The settings of all routers, where this is stated of the arcs, one by one; an arc of which nothing is stated any more has no
+/// step of its quality.
 pub fn make_routers(
     alloc: Global,
     routers: &[StatedRouter],
     arcs: &[RadioArc],
+    stated_arcs: &[StatedArc],
     times: Times,
 ) -> Result<Seq<RouterSettings>, AllocError>
     requires few { length arcs.now ≤ 4096 }
@@ -96,10 +135,11 @@ pub fn make_routers(
     requires clear { first (stated_duplicates routers.now) ≡ None }
     ensures parts { IfOk result (λ all. map settings_parts all ≡ map (stated_parts times) routers.now) }
     ensures senders { IfOk result (λ all. HaveAllSenders (stated_lists routers.now) arcs.now 0 all) }
+    ensures qualities { IfOk result (λ all. HaveAllQualities (stated_lists routers.now) (with_steps arcs.now (stated_steps stated_arcs.now)) 0 all) }
 {
     let mut all = Seq::new(alloc);
     for (at, stated) in routers.iter().enumerate() {
-        all.push(make_router(alloc, routers, arcs, times, at, stated)?)?;
+        all.push(make_router(alloc, routers, arcs, stated_arcs, times, at, stated)?)?;
     }
     Ok(all)
 }

@@ -20,8 +20,9 @@ fn checked(alloc: Global, stated: &StatedScenario) -> Result<Scenario, ConfigFau
 {
     let all = stated.routers.as_slice();
     no_duplicates(alloc, all)?;
-    let arcs = all_joined(alloc, all, stated.arcs.as_slice())?;
-    let routers = make_routers(alloc, all, arcs.as_slice(), stated.times)?;
+    let stated_arcs = stated.arcs.as_slice();
+    let arcs = all_joined(alloc, all, stated_arcs)?;
+    let routers = make_routers(alloc, all, arcs.as_slice(), stated_arcs, stated.times)?;
     Ok(Scenario {
         end: stated.end,
         seed: stated.seed,

@@ -10,7 +10,8 @@ ghost use Rattle.mesh_config.specs.RunSettings.{OutlineOf, run_identifiers, stat
 use crate::setup::{outline, run_interfaces, run_ports, senders_distinct};
 use mesh_atoms::{Interface, RouterSettings, RunSetup, Seq, Times};
 use mesh_checks::{no_duplicates, refuse_duplicates};
-use mesh_stated::{StatedRouter, StatedRun, StatedRunRouter, stated_run};
+use mesh_stated::StatedRouter;
+use mesh_stated_run::{StatedRun, StatedRunRouter, stated_run};
 use mesh_toml::{ConfigFault, document};
 use std::alloc::{AllocError, Global};
 use toml::Table;
@@ -42,6 +43,7 @@ fn router_from(
 {
     let name = outline.head.name.copy()?;
     let attached = outline.attached.copy()?;
+    let near_hold = outline.head.near_hold.copy()?;
     Ok(RouterSettings {
         name,
         willing: outline.head.willing,
@@ -50,6 +52,8 @@ fn router_from(
         times,
         interfaces,
         attached,
+        tc_rows: outline.head.tc_rows,
+        near_hold,
     })
 }
 
@@ -60,7 +64,7 @@ fn checked_run(alloc: Global, stated: &StatedRun) -> Result<RunSetup, ConfigFaul
     let outline = clear_outline(alloc, &stated.router)?;
     let all = stated.router.interfaces.as_slice();
     refuse_duplicates(alloc, senders_distinct(all), "address")?;
-    let interfaces = run_interfaces(alloc, all)?;
+    let interfaces = run_interfaces(alloc, all, stated.router.head.thresholds)?;
     let ports = run_ports(alloc, all)?;
     let router = router_from(&outline, stated.times, interfaces)?;
     Ok(RunSetup {

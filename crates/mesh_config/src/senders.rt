@@ -1,11 +1,12 @@
 //! The senders of the interfaces of a scenario.
-ghost use Rattle.std.specs.Prelude.{◌≡◌, ◌≤◌, ◌<◌, length, map, IfOk, IfSome};
+ghost use Rattle.std.specs.Prelude.{◌≡◌, ◌≤◌, ◌<◌, ◌++◌, length, map, IfOk, IfSome, OnOk};
 ghost use Rattle.std.specs.List.{slice_get};
 ghost use Rattle.mesh_checks.specs.Compared.{stated_lists};
-ghost use Rattle.mesh_config.specs.Senders.{first_addr, senders_to, sender_pair};
+ghost use Rattle.mesh_config.specs.Senders.{first_addr, senders_to, sender_pair, stated_steps, steps_at, with_steps, quality_by, qualities_to};
+ghost use Rattle.mesh_stated.specs.Steps.{quality_pair};
 
-use mesh_atoms::{Addr4, RadioArc, SenderMetric, Seq};
-use mesh_stated::{StatedInterface, StatedRouter};
+use mesh_atoms::{Addr4, RadioArc, SenderMetric, SenderQuality, Seq};
+use mesh_stated::{StatedArc, StatedInterface, StatedRouter};
 use std::alloc::{AllocError, Global};
 
 fn first_of(interface: &StatedInterface) -> Option<Addr4>
@@ -48,4 +49,64 @@ pub fn senders_to(
         }
     }
     Ok(senders)
+}
+
+// What a sender sends over the arc of that number; it has no step where nothing is stated of the arc.
+fn quality_of(
+    alloc: Global,
+    stated: &[StatedArc],
+    number: usize,
+    sender: Addr4,
+) -> Result<SenderQuality, AllocError>
+    ensures { IfOk result (λ quality. quality_pair quality ≡ (sender, steps_at (stated_steps stated.now) number)) }
+{
+    match stated.get(number) {
+        Some(arc) => Ok(SenderQuality {
+            sender,
+            steps: arc.steps.copy()?,
+        }),
+        None => Ok(SenderQuality {
+            sender,
+            steps: Seq::new(alloc),
+        }),
+    }
+}
+
+// The quality of the sender that the arc of that number gives, where it leads to the interface.
+fn put_quality(
+    out: &mut Seq<SenderQuality>,
+    routers: &[StatedRouter],
+    arc: &RadioArc,
+    stated: &[StatedArc],
+    number: usize,
+    router: usize,
+    iface: usize,
+) -> Result<(), AllocError>
+    ensures { OnOk result (map quality_pair out.new ≡ map quality_pair out.old ++ quality_by (stated_lists routers.now) router iface (arc.now, steps_at (stated_steps stated.now) number)) }
+{
+    if arc.to == router && arc.to_iface == iface {
+        if let Some(sender) = first_addr(routers, arc.from, arc.from_iface) {
+            let quality = quality_of(out.allocator(), stated, number, sender)?;
+            out.push(quality)?;
+        }
+    }
+    Ok(())
+}
+
+// The qualities of the senders of an interface, where this is stated of the arcs.
+pub fn qualities_to(
+    alloc: Global,
+    routers: &[StatedRouter],
+    arcs: &[RadioArc],
+    stated: &[StatedArc],
+    router: usize,
+    iface: usize,
+) -> Result<Seq<SenderQuality>, AllocError>
+    ensures { IfOk result (λ qualities. map quality_pair qualities ≡ qualities_to (stated_lists routers.now) (with_steps arcs.now (stated_steps stated.now)) router iface) }
+{
+    let mut qualities = Seq::new(alloc);
+    for (number, arc) in arcs.iter().enumerate() {
+        put_quality(&mut qualities, routers, arc, stated, number, router, iface)?;
+    }
+    Ok(qualities)
 }

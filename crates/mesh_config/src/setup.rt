@@ -4,11 +4,13 @@ ghost use Rattle.std.specs.List.{list_all};
 ghost use Rattle.mesh_atoms.specs.Settings.{are_distinct};
 ghost use Rattle.mesh_checks.specs.Compared.{same_sender};
 ghost use Rattle.mesh_stated.specs.Router.{stated_interface_fields};
+ghost use Rattle.mesh_config.specs.Fields.{thresholds_of, threshold_pair};
 ghost use Rattle.mesh_config.specs.RunSettings.{run_interface_fields, stated_run_interface_fields, port_pair, stated_port, outline_fields, OutlineOf};
 
-use mesh_atoms::{Interface, Port, Seq};
+use mesh_atoms::{Admit, Interface, Port, SenderQuality, Seq};
 use mesh_checks::are_distinct;
-use mesh_stated::{RouterHead, StatedInterface, StatedRouter, StatedRunInterface, StatedRunRouter};
+use mesh_stated::{RouterHead, StatedInterface, StatedRouter, Thresholds};
+use mesh_stated_run::{StatedRunInterface, StatedRunRouter};
 use std::alloc::{AllocError, Global};
 
 fn outline_interfaces(
@@ -34,10 +36,14 @@ pub fn outline(alloc: Global, stated: &StatedRunRouter) -> Result<StatedRouter, 
     let interfaces = outline_interfaces(alloc, stated.interfaces.as_slice())?;
     let name = stated.head.name.copy()?;
     let attached = stated.attached.copy()?;
+    let near_hold = stated.head.near_hold.copy()?;
     Ok(StatedRouter {
         head: RouterHead {
             name,
             willing: stated.head.willing,
+            thresholds: stated.head.thresholds,
+            tc_rows: stated.head.tc_rows,
+            near_hold,
             hello_at: stated.head.hello_at,
             tc_at: stated.head.tc_at,
         },
@@ -57,31 +63,54 @@ pub fn senders_distinct(interfaces: &[StatedRunInterface]) -> bool
     true
 }
 
-fn run_interface(stated: &StatedRunInterface) -> Result<Interface, AllocError>
+// The same qualities.
+fn copied(qualities: &Seq<SenderQuality>) -> Result<Seq<SenderQuality>, AllocError>
+    ensures { IfOk result (λ copy. copy ≡ qualities.now) }
+{
+    let mut copies = Seq::new(qualities.allocator());
+    for quality in qualities.as_slice() {
+        copies.push(quality.copy()?)?;
+    }
+    Ok(copies)
+}
+
+fn run_interface(
+    stated: &StatedRunInterface,
+    thresholds: Thresholds,
+) -> Result<Interface, AllocError>
     requires { are_distinct same_sender stated.now.senders ≡ true }
-    ensures { IfOk result (λ i. run_interface_fields i ≡ stated_run_interface_fields stated.now) }
+    ensures fields { IfOk result (λ i. run_interface_fields i ≡ stated_run_interface_fields stated.now) }
+    ensures thresholds { IfOk result (λ i. thresholds_of i ≡ threshold_pair thresholds) }
 {
     let name = stated.name.copy()?;
     let addrs = stated.addrs.copy()?;
     let senders = stated.senders.copy()?;
+    let qualities = copied(&stated.qualities)?;
     Ok(Interface {
         name,
         addrs,
         metric: stated.metric,
         senders,
+        admit: Admit {
+            accept: thresholds.accept,
+            reject: thresholds.reject,
+            senders: qualities,
+        },
     })
 }
 
 pub fn run_interfaces(
     alloc: Global,
     interfaces: &[StatedRunInterface],
+    thresholds: Thresholds,
 ) -> Result<Seq<Interface>, AllocError>
     requires { list_all (λ i. are_distinct same_sender i.senders) interfaces.now ≡ true }
-    ensures { IfOk result (λ all. map run_interface_fields all ≡ map stated_run_interface_fields interfaces.now) }
+    ensures fields { IfOk result (λ all. map run_interface_fields all ≡ map stated_run_interface_fields interfaces.now) }
+    ensures thresholds { IfOk result (λ all. map thresholds_of all ≡ map (λ i. threshold_pair thresholds) interfaces.now) }
 {
     let mut all = Seq::new(alloc);
     for stated in interfaces {
-        all.push(run_interface(stated)?)?;
+        all.push(run_interface(stated, thresholds)?)?;
     }
     Ok(all)
 }

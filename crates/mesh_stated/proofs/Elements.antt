@@ -55,3 +55,23 @@ tables_said Is vs i v xs x here within all one =
 
 pub one_longer : {X : Type 0} (xs : List X) (x : X) (i : ℕ) → length xs ≡ i → length (xs ++ x ∷ []) ≡ i + 1
 one_longer xs x i h = length-append xs (x ∷ []) ∙ rw h
+
+-- from one kind of values to another that agrees with it
+pub Each-along : {X Y C : Type 0} (Is : Members → X → Type 0) (Says : Members → Y → Type 0) (f : X → C) (g : Y → C) → ((t : Members) (x : X) (y : Y) → g y ≡ f x → Is t x → Says t y)
+    → (ds : List Data) (xs : List X) (ys : List Y) → map g ys ≡ map f xs → Each Is ds xs → Each Says ds ys
+Each-along Is Says f g h [] [] [] same all = tt
+Each-along Is Says f g h (d ∷ ds) (x ∷ xs) (y ∷ ys) same all =
+    let here : g y ≡ f x = cc in let there : map g ys ≡ map f xs = cc in
+    (h (table_of d) x y here all.0, Each-along Is Says f g h ds xs ys there all.1)
+Each-along Is Says f g h [] [] (y ∷ ys) same all = let bad : ⊥ = cc in absurd bad
+Each-along Is Says f g h (d ∷ ds) (x ∷ xs) [] same all = let bad : ⊥ = cc in absurd bad
+Each-along Is Says f g h [] (x ∷ xs) ys same all = absurd all
+Each-along Is Says f g h (d ∷ ds) [] ys same all = absurd all
+
+-- from values to what is made of each
+pub Each-map : {X Y : Type 0} (Is : Members → X → Type 0) (Says : Members → Y → Type 0) (f : X → Y) → ((t : Members) (x : X) → Is t x → Says t (f x))
+    → (ds : List Data) (xs : List X) → Each Is ds xs → Each Says ds (map f xs)
+Each-map Is Says f h [] [] all = tt
+Each-map Is Says f h (d ∷ ds) (x ∷ xs) all = (h (table_of d) x all.0, Each-map Is Says f h ds xs all.1)
+Each-map Is Says f h [] (x ∷ xs) all = absurd all
+Each-map Is Says f h (d ∷ ds) [] all = absurd all

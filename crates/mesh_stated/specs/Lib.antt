@@ -1,5 +1,6 @@
 pub mod Router
-pub mod Run
+pub mod Rules
 pub mod Scenario
+pub mod Steps
 pub mod Tables
 pub mod Times

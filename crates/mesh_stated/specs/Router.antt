@@ -5,14 +5,17 @@ use Rattle.mesh_atoms.specs.declared.addr.Addr4.{Addr4}
 use Rattle.mesh_atoms.specs.declared.hello.Willing.{Willing}
 use Rattle.mesh_atoms.specs.declared.metric.Metric.{Metric}
 use Rattle.mesh_atoms.specs.declared.settings.Attached4.{Attached4}
+use Rattle.mesh_atoms.specs.declared.settings.NearHold.{NearHold}
 use Rattle.mesh_atoms.specs.Codes.{metric_value}
 use Rattle.mesh_atoms.specs.Literals.{name_of, address_of, net_of}
 use Rattle.mesh_stated.specs.declared.stated.StatedRouter.{StatedRouter}
 use Rattle.mesh_stated.specs.declared.stated.RouterHead.{RouterHead}
+use Rattle.mesh_stated.specs.declared.stated.RouterRules.{RouterRules}
 use Rattle.mesh_stated.specs.declared.stated.StatedInterface.{StatedInterface}
 use Rattle.mesh_toml.specs.Faults.{Read, Visits, visit, first, listed, then_turned}
 use Rattle.mesh_toml.specs.Values.{optional, required, whole, text, array, array_or_none, each_turned, unknown, is_one_of, ticks}
 use Rattle.mesh_stated.specs.Tables.{tables_visits, Each}
+use Rattle.mesh_stated.specs.Rules.{threshold_visits, AreThresholds, tc_visits, AreTcs}
 
 -- a moment up to an hour, in ticks; 0 where it is absent
 abbrev pub moment : List ℕ → Members → Read ℕ
@@ -103,14 +106,22 @@ attached = array_or_none 64 (codes "attached")
 
 abbrev pub router_keys : List (List ℕ)
 router_keys =
-    codes "name" ∷ codes "flooding" ∷ codes "routing" ∷ codes "hello_at_ms" ∷ codes "tc_at_ms" ∷ codes "interface" ∷ codes "attached" ∷ []
+    codes "name" ∷ codes "flooding" ∷ codes "routing" ∷ codes "hyst_accept" ∷ codes "hyst_reject" ∷ codes "tc_rows" ∷ codes "near_hold"
+    ∷ codes "hello_at_ms" ∷ codes "tc_at_ms" ∷ codes "interface" ∷ codes "attached" ∷ []
 
--- the keys of a router before its interfaces
-abbrev pub number_visits : Members → Visits
-number_visits table = visit (flooding table) ∷ visit (routing table) ∷ visit (hello_at table) ∷ visit (tc_at table) ∷ []
+abbrev pub willing_visits : Members → Visits
+willing_visits table = visit (flooding table) ∷ visit (routing table) ∷ []
+
+abbrev pub start_visits : Members → Visits
+start_visits table = visit (hello_at table) ∷ visit (tc_at table) ∷ []
+
+-- the keys of a router between its name and its interfaces
+abbrev pub rule_visits : Members → Visits
+rule_visits table =
+    first (willing_visits table) ∷ first (threshold_visits table) ∷ first (tc_visits table) ∷ first (start_visits table) ∷ []
 
 abbrev pub head_visits : Members → Visits
-head_visits table = unknown (is_one_of router_keys) table ∷ visit (name table) ∷ number_visits table
+head_visits table = unknown (is_one_of router_keys) table ∷ visit (name table) ∷ first (rule_visits table) ∷ []
 
 abbrev pub interfaces_visits : Members → Visits
 interfaces_visits table = visit (interfaces table) ∷ tables_visits interface_visits (codes "interface") (listed (interfaces table))
@@ -121,30 +132,52 @@ networks_visits table = visit (attached table) ∷ tables_visits attached_visits
 abbrev pub router_visits : Members → Visits
 router_visits table = first (head_visits table) ∷ first (interfaces_visits table) ∷ first (networks_visits table) ∷ []
 
--- what the table of a router says of the router itself
+-- what the table of a router says of the router itself, but for the thresholds of its links
 pub record RouterFields : Type 0 where
   pub router_name : List ℕ
   pub willing : Willing
+  pub tc_rows : ℕ
+  pub near_hold : List NearHold
   pub hello_at : ℕ
   pub tc_at : ℕ
 
-pub record AreRouterNumbers (table : Members) (willing : Willing) (hello_at_read tc_at_read : ℕ) : Type 0 where
+pub record IsWilling (table : Members) (willing : Willing) : Type 0 where
   pub is_flooding : flooding table ≡ Ok willing.flooding
   pub is_routing : routing table ≡ Ok willing.routing
+
+-- the moments of the first HELLO and of the first TC
+pub record AreStarts (table : Members) (hello_at_read tc_at_read : ℕ) : Type 0 where
   pub is_hello_at : hello_at table ≡ Ok hello_at_read
   pub is_tc_at : tc_at table ≡ Ok tc_at_read
 
 pub record AreRouterFields (table : Members) (fields : RouterFields) : Type 0 where
   pub is_name : name table ≡ Ok fields.router_name
-  pub are_numbers : AreRouterNumbers table fields.willing fields.hello_at fields.tc_at
+  pub is_willing : IsWilling table fields.willing
+  pub are_tcs : AreTcs table fields.tc_rows fields.near_hold
+  pub are_starts : AreStarts table fields.hello_at fields.tc_at
 
 abbrev pub head_fields : RouterHead → RouterFields
-head_fields head = record { router_name = head.name; willing = head.willing; hello_at = head.hello_at; tc_at = head.tc_at }
+head_fields head = record {
+  router_name = head.name;
+  willing = head.willing;
+  tc_rows = head.tc_rows;
+  near_hold = head.near_hold;
+  hello_at = head.hello_at;
+  tc_at = head.tc_at;
+}
 
-abbrev pub HeadIs : Members → RouterHead → Type 0
-HeadIs table head = AreRouterFields table (head_fields head)
+-- what the table says besides the name
+pub record RulesAre (table : Members) (rules : RouterRules) : Type 0 where
+  pub is_willing : IsWilling table rules.willing
+  pub are_thresholds : AreThresholds table rules.thresholds.accept rules.thresholds.reject
+  pub are_tcs : AreTcs table rules.tc_rows rules.near_hold
+  pub are_starts : AreStarts table rules.hello_at rules.tc_at
+
+pub record HeadIs (table : Members) (head : RouterHead) : Type 0 where
+  pub are_fields : AreRouterFields table (head_fields head)
+  pub are_thresholds : AreThresholds table head.thresholds.accept head.thresholds.reject
 
 pub record RouterIs (table : Members) (router : StatedRouter) : Type 0 where
-  pub is_head : AreRouterFields table (head_fields router.head)
+  pub is_head : HeadIs table router.head
   pub are_interfaces : Each InterfaceIs (listed (interfaces table)) router.interfaces
   pub are_attached : Each AttachedIs (listed (attached table)) router.attached

@@ -10,6 +10,7 @@ use Rattle.mesh_toml.specs.Faults.{Read, Visits, visit, first, listed, then_turn
 use Rattle.mesh_toml.specs.Values.{optional, required, whole, text, array, array_or_none, unknown, is_one_of, ticks, table_read}
 use Rattle.mesh_atoms.specs.Literals.{place_of}
 use Rattle.mesh_stated.specs.Tables.{tables_visits, Each}
+use Rattle.mesh_stated.specs.Steps.{steps_visits, StepsAre}
 use Rattle.mesh_stated.specs.Times.{times_visits, TimesIs}
 use Rattle.mesh_stated.specs.Router.{metric_asked, IsMetric, router_visits, RouterIs}
 
@@ -24,7 +25,7 @@ abbrev pub delay : Members → Read ℕ
 delay table = then_turned ticks (optional 1 (whole 1 1000) (codes "delay_ms") table)
 
 abbrev pub arc_keys : List (List ℕ)
-arc_keys = codes "from" ∷ codes "to" ∷ codes "metric" ∷ codes "loss" ∷ codes "delay_ms" ∷ []
+arc_keys = codes "from" ∷ codes "to" ∷ codes "metric" ∷ codes "loss" ∷ codes "delay_ms" ∷ codes "quality" ∷ []
 
 abbrev pub end_visits : Members → Visits
 end_visits table = visit (place (codes "from") table) ∷ visit (place (codes "to") table) ∷ []
@@ -35,9 +36,9 @@ arc_number_visits table = visit (metric_asked table) ∷ visit (loss table) ∷ 
 
 abbrev pub arc_visits : Members → Visits
 arc_visits table =
-    unknown (is_one_of arc_keys) table ∷ first (end_visits table) ∷ first (arc_number_visits table) ∷ []
+    unknown (is_one_of arc_keys) table ∷ first (end_visits table) ∷ first (arc_number_visits table) ∷ first (steps_visits table) ∷ []
 
--- what the table of an arc says besides its ends
+-- what the table of an arc says besides its ends and its qualities
 pub record ArcFields : Type 0 where
   pub metric : Metric
   pub loss : ℕ
@@ -61,6 +62,7 @@ pub record AreEnds (table : Members) (from to : Place) : Type 0 where
 pub record ArcIs (table : Members) (arc : StatedArc) : Type 0 where
   pub are_ends : AreEnds table arc.from arc.to
   pub are_fields : AreArcFields table (stated_arc_fields arc)
+  pub are_steps : StepsAre table arc.steps
 
 -- ---- the top
 abbrev pub end_moment : Members → Read ℕ

@@ -4,10 +4,11 @@ ghost use Rattle.toml.specs.View.{table_view, view};
 ghost use Rattle.mesh_atoms.specs.Settings.{IsCount, one_hour};
 ghost use Rattle.mesh_toml.specs.Faults.{Gives, Answers, first, visit, listed};
 ghost use Rattle.mesh_toml.specs.Values.{SaysNothing, unknown, is_one_of};
-ghost use Rattle.mesh_stated.specs.Router.{moment, net, metric_asked, IsMetric, named_visits, router_keys, number_visits, AreRouterNumbers, interface_visits, InterfaceIs, attached_visits, AttachedIs, head_visits, HeadIs, interfaces_visits, interfaces, networks_visits, attached, router_visits, RouterIs};
+ghost use Rattle.mesh_stated.specs.Router.{moment, net, metric_asked, IsMetric, named_visits, router_keys, willing_visits, IsWilling, start_visits, AreStarts, rule_visits, RulesAre, interface_visits, InterfaceIs, attached_visits, AttachedIs, head_visits, HeadIs, interfaces_visits, interfaces, networks_visits, attached, router_visits, RouterIs};
 ghost use Rattle.mesh_stated.specs.Tables.{Each};
 
-use crate::stated::{RouterHead, RouterNumbers, StatedInterface, StatedRouter};
+use crate::rules::{tc_rules, thresholds};
+use crate::stated::{RouterHead, RouterRules, Starts, StatedInterface, StatedRouter};
 use crate::tables::{FromTable, all_tables};
 use mesh_atoms::{Attached4, Metric, NetAddr, Seq, Willing, net_of};
 use mesh_toml::refusal::{BAD_VALUE, MISSING};
@@ -98,18 +99,40 @@ impl FromTable for Attached4 {
     }
 }
 
-fn router_numbers(alloc: Global, table: &Table) -> Result<RouterNumbers, ConfigFault>
-    ensures { Answers (λ n. AreRouterNumbers (table_view table.now) n.willing n.hello_at n.tc_at) (first (number_visits (table_view table.now))) result }
+fn willing(alloc: Global, table: &Table) -> Result<Willing, ConfigFault>
+    ensures { Answers (IsWilling (table_view table.now)) (first (willing_visits (table_view table.now))) result }
 {
     let flooding = whole_or(alloc, table, "flooding", 0, 15, 7)? as u8;
     let routing = whole_or(alloc, table, "routing", 0, 15, 7)? as u8;
+    Ok(Willing { flooding, routing })
+}
+
+fn starts(alloc: Global, table: &Table) -> Result<Starts, ConfigFault>
+    ensures { Answers (λ s. AreStarts (table_view table.now) s.hello_at s.tc_at) (first (start_visits (table_view table.now))) result }
+{
     let hello_at = moment(alloc, table, "hello_at_ms")?;
     let tc_at = moment(alloc, table, "tc_at_ms")?;
-    Ok(RouterNumbers {
-        willing: Willing { flooding, routing },
-        hello_at,
-        tc_at,
-    })
+    Ok(Starts { hello_at, tc_at })
+}
+
+// What the table of a router says of itself besides its name.
+fn rules(alloc: Global, table: &Table) -> Result<RouterRules, ConfigFault>
+    ensures { Answers (RulesAre (table_view table.now)) (first (rule_visits (table_view table.now))) result }
+{
+    let willing = willing(alloc, table)?;
+    let thresholds = thresholds(alloc, table)?;
+    let tcs = tc_rules(alloc, table)?;
+    match starts(alloc, table) {
+        Ok(starts) => Ok(RouterRules {
+            willing,
+            thresholds,
+            tc_rows: tcs.rows,
+            near_hold: tcs.near_hold,
+            hello_at: starts.hello_at,
+            tc_at: starts.tc_at,
+        }),
+        Err(e) => Err(e),
+    }
 }
 
 fn known_to_routers(alloc: Global, table: &Table) -> Result<(), ConfigFault>
@@ -122,6 +145,10 @@ fn known_to_routers(alloc: Global, table: &Table) -> Result<(), ConfigFault>
             "name",
             "flooding",
             "routing",
+            "hyst_accept",
+            "hyst_reject",
+            "tc_rows",
+            "near_hold",
             "hello_at_ms",
             "tc_at_ms",
             "interface",
@@ -136,12 +163,15 @@ pub fn head(alloc: Global, table: &Table) -> Result<RouterHead, ConfigFault>
 {
     known_to_routers(alloc, table)?;
     let name = name_at(alloc, table, "name")?;
-    match router_numbers(alloc, table) {
-        Ok(numbers) => Ok(RouterHead {
+    match rules(alloc, table) {
+        Ok(rules) => Ok(RouterHead {
             name,
-            willing: numbers.willing,
-            hello_at: numbers.hello_at,
-            tc_at: numbers.tc_at,
+            willing: rules.willing,
+            thresholds: rules.thresholds,
+            tc_rows: rules.tc_rows,
+            near_hold: rules.near_hold,
+            hello_at: rules.hello_at,
+            tc_at: rules.tc_at,
         }),
         Err(e) => Err(e),
     }

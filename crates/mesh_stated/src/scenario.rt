@@ -15,6 +15,7 @@ use crate::router::metric_at;
 use crate::stated::{
     ArcNumbers, Ends, Place, ScenarioNumbers, StatedArc, StatedRouter, StatedScenario,
 };
+use crate::steps::steps_of;
 use crate::tables::{FromTable, all_tables};
 use crate::times::times_in;
 use mesh_atoms::{Bytes, Seq, Times, place_of};
@@ -93,15 +94,21 @@ impl FromTable for StatedArc {
     ghost says = { ArcIs };
 
     fn from_table(alloc: Global, table: &Table) -> Result<StatedArc, ConfigFault> {
-        known_keys(alloc, table, &["from", "to", "metric", "loss", "delay_ms"])?;
+        known_keys(
+            alloc,
+            table,
+            &["from", "to", "metric", "loss", "delay_ms", "quality"],
+        )?;
         let ends = ends(alloc, table)?;
-        match arc_numbers(alloc, table) {
-            Ok(numbers) => Ok(StatedArc {
+        let numbers = arc_numbers(alloc, table)?;
+        match steps_of(alloc, table) {
+            Ok(steps) => Ok(StatedArc {
                 from: ends.from,
                 to: ends.to,
                 metric: numbers.metric,
                 loss: numbers.loss,
                 delay: numbers.delay,
+                steps,
             }),
             Err(e) => Err(e),
         }

@@ -1,6 +1,13 @@
+use Rattle.mesh_checks.specs.Compared.{stated_lists}
+use Rattle.mesh_config.specs.Senders.{stated_steps}
 use Rattle.mesh_config.proofs.Apart.{senders_apart}
+use Rattle.mesh_config.proofs.Qualities.{senders_same}
 use Rattle.mesh_config.proofs.build.make_interface.Goals as goal
 
-pub invariant_of-result-2-clause-distinct_senders : goal.invariant_of-result-2-clause-distinct_senders
-invariant_of-result-2-clause-distinct_senders c =
+pub invariant_of-result-3-clause-distinct_senders : goal.invariant_of-result-3-clause-distinct_senders
+invariant_of-result-3-clause-distinct_senders c =
     senders_apart c.args.routers.now c.args.arcs.now c.args.router c.args.iface c.in_ok-senders.senders c.requires.apart c.in_ok-senders.ensures.exact
+
+pub invariant_of-result-3-clause-same_senders : goal.invariant_of-result-3-clause-same_senders
+invariant_of-result-3-clause-same_senders c =
+    senders_same (stated_lists c.args.routers.now) c.args.arcs.now (stated_steps c.args.stated_arcs.now) c.args.router c.args.iface c.in_ok-senders.senders c.in_ok-qualities.qualities c.in_ok-senders.ensures.exact c.in_ok-qualities.ensures

@@ -1,6 +1,9 @@
 use Rattle.std.proofs.Common.{◌≡◌, ◌+◌, length, arith}
 use Rattle.mesh_checks.specs.Compared.{stated_lists}
-use Rattle.mesh_config.specs.Fields.{interface_fields}
+use Rattle.mesh_config.specs.Fields.{interface_fields, thresholds_of, threshold_pair}
+use Rattle.mesh_config.specs.Senders.{with_steps, stated_steps}
+use Rattle.mesh_stated.specs.declared.stated.StatedInterface.{StatedInterface}
+use Rattle.mesh_config.proofs.Qualities.{have_more}
 use Rattle.mesh_stated.specs.Router.{stated_interface_fields}
 use Rattle.mesh_config.proofs.Builds.{senders_more, maps_more}
 use Rattle.mesh_stated.proofs.Elements.{one_longer}
@@ -12,6 +15,8 @@ loop-iface-preserved c =
     let size : 0 + length all ≡ i = omega (arith, c.loop-iface.invariant.size) in
     rw c.in_ok-push.ensures.ok (record {
       interfaces = maps_more interface_fields stated_interface_fields all c.args.interfaces.now i x c.index-interfaces-iface.result c.index-interfaces-iface.is c.loop-iface-test.true c.loop-iface.invariant.interfaces made.fields;
+      thresholds = maps_more thresholds_of (λ (d : StatedInterface). threshold_pair c.args.thresholds) all c.args.interfaces.now i x c.index-interfaces-iface.result c.index-interfaces-iface.is c.loop-iface-test.true c.loop-iface.invariant.thresholds made.thresholds;
+      qualities = have_more (stated_lists c.args.routers.now) (with_steps c.args.arcs.now (stated_steps c.args.stated_arcs.now)) c.args.router 0 i all x c.loop-iface.invariant.qualities size made.qualities;
       senders = senders_more (stated_lists c.args.routers.now) c.args.arcs.now c.args.router 0 i all x c.loop-iface.invariant.senders size made.senders made.own;
       size = one_longer all x i c.loop-iface.invariant.size;
     })

@@ -1,13 +1,16 @@
 use Rattle.std.proofs.Common.{◌≡◌, take, map, length}
 use Rattle.mesh_checks.specs.Compared.{stated_lists}
-use Rattle.mesh_config.specs.Fields.{interface_fields}
+use Rattle.mesh_config.specs.Fields.{interface_fields, thresholds_of, threshold_pair}
+use Rattle.mesh_stated.specs.declared.stated.StatedInterface.{StatedInterface}
 use Rattle.mesh_stated.specs.Router.{stated_interface_fields}
-use Rattle.mesh_config.specs.Senders.{HaveSenders}
+use Rattle.mesh_config.specs.Senders.{HaveSenders, with_steps, stated_steps, HaveQualities}
 use Rattle.mesh_config.proofs.build.make_interfaces.Given as goal
 
 abbrev pub invariant-loop-iface : goal.invariant-loop-iface
 invariant-loop-iface l = record {
   interfaces : map interface_fields l.all ≡ map stated_interface_fields (take l.iface l.interfaces);
+  thresholds : map thresholds_of l.all ≡ map (λ (d : StatedInterface). threshold_pair l.thresholds) (take l.iface l.interfaces);
+  qualities : HaveQualities (stated_lists l.routers) (with_steps l.arcs (stated_steps l.stated_arcs)) l.router 0 l.all;
   senders : HaveSenders (stated_lists l.routers) l.arcs l.router 0 l.all;
   size : length l.all ≡ l.iface;
 }

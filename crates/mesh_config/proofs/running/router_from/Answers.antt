@@ -4,4 +4,7 @@ use Rattle.mesh_config.proofs.running.router_from.Goals as goal
 pub invariant_of-result : goal.invariant_of-result
 invariant_of-result c = record {
   sound = sound_router c.args.outline.now c.args.interfaces c.in_ok-name.name c.in_ok-attached.attached c.requires.clear c.requires.interfaces c.in_ok-name.ensures c.in_ok-attached.ensures;
+  rows_in_range = c.args.outline.now.head.rows_in_range;
+  few_near_holds = rw c.in_ok-near_hold.ensures c.args.outline.now.head.few_near_holds;
+  near_holds_in_order = rw c.in_ok-near_hold.ensures c.args.outline.now.head.near_holds_in_order;
 }

@@ -1,6 +1,6 @@
 use Rattle.std.proofs.Common.{ap, ◌∙◌, Bool}
 use Rattle.mesh_atoms.specs.Settings.{are_distinct}
-use Rattle.mesh_stated.specs.declared.stated.StatedRunInterface.{StatedRunInterface}
+use Rattle.mesh_stated_run.specs.declared.stated.StatedRunInterface.{StatedRunInterface}
 use Rattle.mesh_checks.specs.Compared.{same_sender}
 use Rattle.mesh_config.proofs.Builds.{all_at}
 use Rattle.mesh_config.proofs.setup.run_interfaces.Goals as goal

@@ -5,14 +5,17 @@ use Rattle.mesh_atoms.specs.declared.addr.Addr4.{Addr4}
 use Rattle.mesh_atoms.specs.declared.metric.Metric.{Metric}
 use Rattle.mesh_atoms.specs.declared.settings.Port.{Port}
 use Rattle.mesh_atoms.specs.declared.settings.SenderMetric.{SenderMetric}
-use Rattle.mesh_stated.specs.declared.stated.StatedRunInterface.{StatedRunInterface}
-use Rattle.mesh_stated.specs.declared.stated.StatedRunRouter.{StatedRunRouter}
-use Rattle.mesh_stated.specs.declared.stated.StatedRun.{StatedRun}
+use Rattle.mesh_atoms.specs.declared.admit.SenderQuality.{SenderQuality}
+use Rattle.mesh_stated_run.specs.declared.stated.StatedNeighbour.{StatedNeighbour}
+use Rattle.mesh_stated_run.specs.declared.stated.StatedRunInterface.{StatedRunInterface}
+use Rattle.mesh_stated_run.specs.declared.stated.StatedRunRouter.{StatedRunRouter}
+use Rattle.mesh_stated_run.specs.declared.stated.StatedRun.{StatedRun}
 use Rattle.mesh_toml.specs.Faults.{Read, Visits, visit, first, listed}
 use Rattle.mesh_toml.specs.Values.{optional, required, whole, text, array_or_none, each_turned, unknown, is_one_of}
 use Rattle.mesh_atoms.specs.Literals.{address_of, endpoint_of}
 use Rattle.mesh_toml.specs.Ports.{port_of}
 use Rattle.mesh_stated.specs.Tables.{tables_visits, Each}
+use Rattle.mesh_stated.specs.Steps.{steps_visits, StepsAre}
 use Rattle.mesh_stated.specs.Times.{TimesIs}
 use Rattle.mesh_stated.specs.Router.{name, addresses, named_visits, metric_asked, IsMetric, head_visits, HeadIs, interfaces, networks_visits, attached, AttachedIs}
 use Rattle.mesh_stated.specs.Scenario.{end_moment, times_part, sub_times}
@@ -23,14 +26,25 @@ abbrev pub address : Members → Read Addr4
 address = required (text address_of) (codes "address")
 
 abbrev pub neighbour_keys : List (List ℕ)
-neighbour_keys = codes "address" ∷ codes "metric" ∷ []
+neighbour_keys = codes "address" ∷ codes "metric" ∷ codes "quality" ∷ []
 
 abbrev pub neighbour_visits : Members → Visits
-neighbour_visits table = unknown (is_one_of neighbour_keys) table ∷ visit (address table) ∷ visit (metric_asked table) ∷ []
+neighbour_visits table =
+    unknown (is_one_of neighbour_keys) table ∷ visit (address table) ∷ visit (metric_asked table) ∷ first (steps_visits table) ∷ []
 
+-- the metric of what the neighbour sends
 pub record NeighbourIs (table : Members) (sender : SenderMetric) : Type 0 where
   pub is_sender : address table ≡ Ok sender.sender
   pub is_metric : IsMetric (metric_asked table) sender.metric
+
+-- the qualities of what the neighbour sends
+pub record QualityIs (table : Members) (quality : SenderQuality) : Type 0 where
+  pub is_sender : address table ≡ Ok quality.sender
+  pub are_steps : StepsAre table quality.steps
+
+pub record StatedNeighbourIs (table : Members) (neighbour : StatedNeighbour) : Type 0 where
+  pub is_sender : NeighbourIs table neighbour.cost
+  pub are_steps : StepsAre table neighbour.steps
 
 -- ---- an interface with its port
 abbrev pub local : Members → Read (Addr4 × ℕ)
@@ -67,17 +81,18 @@ pub record PortSays (table : Members) (port : Port) : Type 0 where
   pub is_local : local table ≡ Ok (port_of port.local)
   pub are_peers : peers table ≡ Ok (map port_of port.peers)
 
--- the metrics of what an interface receives: its own, and those of its neighbours
-pub record AreCosts (table : Members) (metric : Metric) (senders : List SenderMetric) : Type 0 where
+-- the metrics of what an interface receives: its own, and those of its neighbours; and the qualities of these
+pub record AreCosts (table : Members) (metric : Metric) (senders : List SenderMetric) (qualities : List SenderQuality) : Type 0 where
   pub is_metric : IsMetric (own_metric_asked table) metric
   pub are_senders : Each NeighbourIs (listed (neighbours table)) senders
+  pub are_qualities : Each QualityIs (listed (neighbours table)) qualities
 
 pub record RunInterfaceIs (table : Members) (interface : StatedRunInterface) : Type 0 where
   pub is_name : name table ≡ Ok interface.name
   pub is_addrs : addresses table ≡ Ok interface.addrs
   pub is_local : local table ≡ Ok (port_of interface.local)
   pub are_peers : peers table ≡ Ok (map port_of interface.peers)
-  pub are_costs : AreCosts table interface.metric interface.senders
+  pub are_costs : AreCosts table interface.metric interface.senders interface.qualities
 
 -- ---- the router and the top
 abbrev pub run_interfaces_visits : Members → Visits

@@ -1,40 +1,23 @@
-//! The tables of `run`: neighbours, interfaces with their ports, the router, and the top.
+//! The tables of `run`: interfaces with their ports, the router, and the top.
 ghost use Rattle.std.specs.Prelude.{◌≤◌, ◌≡◌, length, map, IfOk};
 ghost use Rattle.toml.specs.View.{table_view, view};
 ghost use Rattle.mesh_atoms.specs.Settings.{IsCount};
 ghost use Rattle.mesh_toml.specs.Faults.{Gives, Answers, first, visit, listed};
 ghost use Rattle.mesh_stated.specs.Router.{IsMetric, interfaces};
 ghost use Rattle.mesh_toml.specs.Values.{table_read};
-ghost use Rattle.mesh_stated.specs.Run.{own_metric_asked, neighbours, neighbours_visits, NeighbourIs, PortSays, port_visits, AreCosts, cost_visits, run_interfaces_visits, RunInterfaceIs, run_router_visits, RunRouterIs, router_table, router_part, run_table_visits, RunIs};
+ghost use Rattle.mesh_stated_run.specs.Run.{own_metric_asked, PortSays, port_visits, AreCosts, cost_visits, run_interfaces_visits, RunInterfaceIs, run_router_visits, RunRouterIs, router_table, router_part, run_table_visits, RunIs};
 ghost use Rattle.mesh_stated.specs.Tables.{Each};
 
-use crate::router::{attached_of, head, interface_said, metric_at};
-use crate::scenario::{end_moment, times_of};
+use crate::neighbours::{neighbours_of, qualities_of, senders_of};
 use crate::stated::{Costs, StatedRun, StatedRunInterface, StatedRunRouter};
-use crate::tables::{FromTable, all_tables};
-use mesh_atoms::{Metric, Port, SenderMetric, Seq};
+use mesh_atoms::{Metric, Port, Seq};
+use mesh_stated::{FromTable, all_tables, attached_of, end_moment, head, interface_said, times_of};
 use mesh_toml::refusal::BAD_VALUE;
 use mesh_toml::{
-    ConfigFault, address_at, array_at, array_or_none, endpoint_at, endpoints_at, known_keys,
-    refused, table_at, whole_or,
+    ConfigFault, array_at, endpoint_at, endpoints_at, known_keys, refused, table_at, whole_or,
 };
 use std::alloc::Global;
 use toml::Table;
-
-impl FromTable for SenderMetric {
-    ghost use Rattle.mesh_stated.specs.Run.{neighbour_visits, NeighbourIs};
-
-    ghost visits = { neighbour_visits };
-
-    ghost says = { NeighbourIs };
-
-    fn from_table(alloc: Global, table: &Table) -> Result<SenderMetric, ConfigFault> {
-        known_keys(alloc, table, &["address", "metric"])?;
-        let sender = address_at(alloc, table, "address")?;
-        let metric = metric_at(alloc, table)?;
-        Ok(SenderMetric { sender, metric })
-    }
-}
 
 // The least metric that is at least the whole number at `metric`, or 1.
 fn own_metric(alloc: Global, table: &Table) -> Result<Metric, ConfigFault>
@@ -45,14 +28,6 @@ fn own_metric(alloc: Global, table: &Table) -> Result<Metric, ConfigFault>
         Some(metric) => Ok(metric),
         None => Err(refused(alloc, BAD_VALUE, "metric")),
     }
-}
-
-fn neighbours_of(alloc: Global, table: &Table) -> Result<Seq<SenderMetric>, ConfigFault>
-    ensures answer { Answers (Each NeighbourIs (listed (neighbours (table_view table.now)))) (first (neighbours_visits (table_view table.now))) result }
-    ensures size { IfOk result (λ xs. length xs ≤ 1024) }
-{
-    let values = array_or_none(alloc, table, "neighbour", 1024)?;
-    all_tables(alloc, "neighbour", values)
 }
 
 // Where the table of an interface says that it receives, and where it sends to.
@@ -67,17 +42,21 @@ fn port_said(alloc: Global, table: &Table) -> Result<Port, ConfigFault>
 }
 
 fn costs_said(alloc: Global, table: &Table) -> Result<Costs, ConfigFault>
-    ensures { Answers (λ c. AreCosts (table_view table.now) c.metric c.senders) (first (cost_visits (table_view table.now))) result }
+    ensures { Answers (λ c. AreCosts (table_view table.now) c.metric c.senders c.qualities) (first (cost_visits (table_view table.now))) result }
 {
     let metric = own_metric(alloc, table)?;
-    match neighbours_of(alloc, table) {
-        Ok(senders) => Ok(Costs { metric, senders }),
-        Err(e) => Err(e),
-    }
+    let neighbours = neighbours_of(alloc, table)?;
+    let senders = senders_of(alloc, neighbours.as_slice())?;
+    let qualities = qualities_of(alloc, neighbours.as_slice())?;
+    Ok(Costs {
+        metric,
+        senders,
+        qualities,
+    })
 }
 
 impl FromTable for StatedRunInterface {
-    ghost use Rattle.mesh_stated.specs.Run.{run_interface_visits, RunInterfaceIs};
+    ghost use Rattle.mesh_stated_run.specs.Run.{run_interface_visits, RunInterfaceIs};
 
     ghost visits = { run_interface_visits };
 
@@ -99,6 +78,7 @@ impl FromTable for StatedRunInterface {
                 peers: port.peers,
                 metric: costs.metric,
                 senders: costs.senders,
+                qualities: costs.qualities,
             }),
             Err(e) => Err(e),
         }

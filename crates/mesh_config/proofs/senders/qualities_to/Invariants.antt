@@ -1,0 +1,8 @@
+use Rattle.std.proofs.Common.{◌≡◌, take, map}
+use Rattle.mesh_checks.specs.Compared.{stated_lists}
+use Rattle.mesh_stated.specs.Steps.{quality_pair}
+use Rattle.mesh_config.specs.Senders.{with_steps, qualities_to, stated_steps}
+use Rattle.mesh_config.proofs.senders.qualities_to.Given as goal
+
+abbrev pub invariant-loop-number : goal.invariant-loop-number
+invariant-loop-number l = map quality_pair l.qualities ≡ qualities_to (stated_lists l.routers) (with_steps (take l.number l.arcs) (stated_steps l.stated)) l.router l.iface
