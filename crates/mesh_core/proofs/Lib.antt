@@ -1,5 +1,3 @@
-pub mod Derivations
-pub mod Fates
-pub mod Pushed
-pub mod Selectors
+mod Derivations
+mod PartRows
 pub mod Written

@@ -1,6 +1,6 @@
 -- What a router sends can be written.
 use Rattle.mesh_atoms.specs.Writable.{IsSentTime, IsSentIfSome, IsAlone, HaveSenderAlone, HaveStatusWhole, AreOneType, HaveTypeWhole}
-use Rattle.std.proofs.Common.{◌≡◌, ℕ, ◌⊎◌, inl, inr, sym, ap, subst, ◌∙◌, List, [], ◌∷◌, ◌++◌, length, Option, Some, None, Contains, IsTrue, Result, Ok, Err}
+use Rattle.std.proofs.Common.{◌≡◌, ℕ, ◌%◌, ◌⊎◌, refl, arith, inl, inr, sym, ap, subst, ◌∙◌, List, [], ◌∷◌, ◌++◌, length, Option, Some, None, Contains, IsTrue, Result, Ok, Err}
 use Rattle.std.specs.Prelude.{slice_get, IsSome, OnOk, IfOk}
 use Rattle.mesh_atoms.specs.declared.addr.NetAddr.{NetAddr}
 use Rattle.mesh_atoms.specs.declared.hello.Hello.{Hello}
@@ -8,10 +8,30 @@ use Rattle.mesh_atoms.specs.declared.hello.HelloRow.{HelloRow}
 use Rattle.mesh_atoms.specs.declared.tc.TcRow.{TcRow}
 use Rattle.mesh_atoms.specs.Advertised.{AreTcRows, IsTcRow, Of_address, Of_network}
 use Rattle.mesh_atoms.specs.Hello.{IsHelloNow, IsRoundedUp}
-use Rattle.mesh_atoms.specs.State.{State}
+use Rattle.mesh_atoms.specs.declared.settings.RouterSettings.{RouterSettings}
+use Rattle.mesh_atoms.specs.declared.tuples.Relays.{Relays}
+use Rattle.mesh_atoms.specs.State.{Neighbourhood, State}
+use Rattle.mesh_machine.specs.Machine.{no_bases}
+use Rattle.mesh_atoms.specs.Validity.{IsTimeValue, Everywhere, Up_to}
 use Rattle.mesh_machine.specs.declared.frame.Frame.{Frame}
 use Rattle.mesh_machine.specs.Sending.{IsHelloFrame}
-use Rattle.mesh_core.proofs.Pushed.{at_pushed}
+use Rattle.mesh_renewal.proofs.Pushed.{at_pushed}
+
+-- a state with these settings, this neighbourhood and these relays
+abbrev pub state_with : RouterSettings → Neighbourhood → Relays → State
+state_with settings near relays = record {
+  settings = settings;
+  bases = record (no_bases 0) { neighbourhood = near };
+  relays = relays;
+  routes = [];
+  rows = [];
+  ansn = 0;
+  emptied = None;
+  sequence = 0;
+  next_hello = 0;
+  next_tc = 0;
+  last = 0;
+}
 
 pub sent_time : (ticks time : ℕ) → IsRoundedUp ticks time → IsSentTime time
 sent_time ticks time is = (is.code, is.sent, is.is)
@@ -53,3 +73,8 @@ on_ok_more (Err e) to h = tt
 pub on_ok_of : {A E : Type 0} {P : A → Type 0} {Q : Type 0} (r : Result A E) → ((x : A) → P x → Q) → IfOk r P → OnOk r Q
 on_ok_of (Ok x) to h = to x h
 on_ok_of (Err e) to h = tt
+
+-- a value of times by distance has an odd number of octets
+pub odd_time : (value : List ℕ) → IsTimeValue value → length value % 2 ≡ 1
+odd_time value (Everywhere sent) = refl
+odd_time value (Up_to {value = rest} hops sent others) = let odd = odd_time rest others in omega (arith, odd)

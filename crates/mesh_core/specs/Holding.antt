@@ -1,16 +1,15 @@
--- What the core holds, and what holds of it after every event.
-use Rattle.std.specs.Prelude.{◌≡◌, ℕ, List, Bool}
+-- What the core holds, and what it sends.
+use Rattle.std.specs.Prelude.{◌≡◌, ℕ, ◌+◌, ◌%◌, List, Bool, length, nat_eq}
 use Rattle.mesh_atoms.specs.declared.settings.RouterSettings.{RouterSettings}
-use Rattle.mesh_core.specs.declared.derived.Derived.{Derived}
+use Rattle.mesh_atoms.specs.declared.tc.TcRow.{TcRow}
+use Rattle.mesh_atoms.specs.Advertised.{AreParts}
+use Rattle.mesh_atoms.specs.Validity.{IsValidity}
+use Rattle.mesh_atoms.specs.State.{Neighbourhood, State}
+use Rattle.mesh_holding.specs.Held.{Held}
+use Rattle.mesh_renewal.specs.declared.derived.Derived.{Derived}
+use Rattle.mesh_renewal.specs.Renewed.{HasDerived}
 use Rattle.mesh_machine.specs.declared.frame.Frame.{Frame}
-use Rattle.mesh_machine.specs.Renewal.{Renews}
-use Rattle.mesh_machine.specs.Sending.{SendsHellos, SendsTc}
-use Rattle.mesh_atoms.specs.State.{Bases, State}
-
--- the settings of a router, and its bases
-pub record Held : Type 0 where
-  pub settings : RouterSettings
-  pub bases : Bases
+use Rattle.mesh_machine.specs.Sending.{SendsHellos, SendsParts, SendsTcs}
 
 -- the state of a router
 abbrev pub state_of : Held → Derived → State
@@ -33,29 +32,27 @@ pub record CoreValue : Type 0 where
   pub state : State
   pub is_spent : Bool
 
--- the HELLOs that a tick sends, whatever becomes of the next TC
-abbrev pub HellosAreSent : Held → Derived → Derived → List Frame → Type 0
-HellosAreSent held old new sent =
-    (before s : State) → before.next_hello ≡ old.next_hello → s.settings ≡ held.settings → s.bases ≡ held.bases →
-    s.relays ≡ old.relays → s.last ≡ old.last → s.next_hello ≡ new.next_hello → SendsHellos before s sent
+-- the HELLOs that a tick sends with this neighbourhood, whatever becomes of the next TC
+abbrev pub HellosAreSent : RouterSettings → Neighbourhood → Derived → Derived → List Frame → Type 0
+HellosAreSent settings near old new sent =
+    (before s : State) → before.next_hello ≡ old.next_hello → s.settings ≡ settings → s.bases.neighbourhood ≡ near →
+    s.relays ≡ new.relays → s.last ≡ new.last → s.next_hello ≡ new.next_hello → SendsHellos before s sent
 
--- the TC that a tick sends, whatever the state before it was but for the number and the moment of the next TC
-abbrev pub TcIsSent : Held → Derived → Derived → List Frame → Type 0
-TcIsSent held old new sent =
-    (s : State) → s.sequence ≡ old.sequence → s.next_tc ≡ old.next_tc → SendsTc s (state_of held new) sent
+-- the TCs that a tick sends, whatever the bases are
+abbrev pub TcsAreSent : RouterSettings → Derived → Derived → List Frame → Type 0
+TcsAreSent settings old new sent =
+    (before s : State) → before.sequence ≡ old.sequence → before.next_tc ≡ old.next_tc → s.settings ≡ settings → HasDerived s new →
+    s.sequence ≡ new.sequence → s.next_tc ≡ new.next_tc → SendsTcs before s sent
 
--- the state has these settings and bases, and these relays, routes, rows, ANSN and moments
-pub record Agrees (s : State) (held : Held) (derived : Derived) : Type 0 where
-  pub settings : s.settings ≡ held.settings
-  pub bases : s.bases ≡ held.bases
-  pub relays : s.relays ≡ derived.relays
-  pub routes : s.routes ≡ derived.routes
-  pub rows : s.rows ≡ derived.rows
-  pub ansn : s.ansn ≡ derived.ansn
-  pub emptied : s.emptied ≡ derived.emptied
-  pub last : s.last ≡ derived.last
+-- a TC is sent for each part of the rows
+pub record SendsAll (s : State) (old new : ℕ) (sent : List Frame) : Type 0 where
+  pub parts : List (List TcRow)
+  pub cut : AreParts s.settings.tc_rows s.rows parts
+  pub validity : List ℕ
+  pub is : IsValidity s.settings.times.topology_hold s.settings.near_hold validity
+  pub number : new ≡ (old + length parts) % 65536
+  pub sends : SendsParts s validity (nat_eq (length parts) 1) old parts sent
 
--- the event ends in each state that agrees, whatever was held before it
-abbrev pub RenewsTo : Held → Derived → ℕ → Derived → Type 0
-RenewsTo held old now new =
-    (before : Bases) (s : State) → Agrees s held new → Renews (state_of (record held { bases = before }) old) now held.bases s
+-- the same, whatever the bases are
+abbrev pub PartsAreSent : RouterSettings → Derived → Derived → List Frame → Type 0
+PartsAreSent settings old new sent = (s : State) → s.settings ≡ settings → HasDerived s new → SendsAll s old.sequence new.sequence sent

@@ -1,6 +1,8 @@
 //! What a router does with a frame.
-ghost use Rattle.std.specs.Prelude.{◌≡◌, ◌<◌, ◌≤◌, ◌^◌, ◌++◌, ℕ, List, length, is_err, All, IfOk, OnOk, OnErr, false, true};
+ghost use Rattle.std.specs.Prelude.{◌≡◌, ◌<◌, ◌≤◌, ◌^◌, ◌++◌, ℕ, List, length, is_err, All, IfOk, OnOk, OnErr, false};
 ghost use Rattle.mesh_atoms.specs.Sound.{Sound};
+ghost use Rattle.mesh_core.specs.Holding.{state_of};
+ghost use Rattle.mesh_machine.specs.declared.fate.Fate.{Fate as FateValue};
 ghost use Rattle.mesh_machine.specs.declared.frame.Frame.{Frame};
 ghost use Rattle.mesh_machine.specs.Frames.{sent_since};
 ghost use Rattle.mesh_machine.specs.Machine.{Event, Step, Hears, HearsPacket, due};
@@ -8,13 +10,14 @@ ghost use Rattle.mesh_machine.specs.Sendable.{IsSendable};
 ghost use Rattle.mesh_packet.specs.Fields.{fields_of_packet};
 ghost use Rattle.mesh_packet.specs.Grammar.{FirstFault, Spells};
 
-use crate::outbox::Outbox;
-use crate::renewal::renew;
+use crate::ending::end_event;
 use crate::router::Core;
 use mesh_atoms::{Addr4, DecodeFault, Seq};
 use mesh_expire::Bases;
+use mesh_holding::{Holding, Outbox};
 use mesh_machine::{Arrival, Fate, Heard};
 use mesh_packet::{Decoded, decode};
+use mesh_renewal::Derived;
 use std::alloc::{AllocError, Global};
 
 impl<B: Bases> Core<B> {
@@ -70,16 +73,9 @@ impl<B: Bases> Core<B> {
         ensures spent { self.new.is_spent ≡ is_err result }
         ensures wanting { OnErr result (out.new ≡ out.old) }
     {
-        let alloc = self.holding.nhdp.settings().interfaces.allocator();
+        let alloc = self.holding.settings().interfaces.allocator();
         match decode(alloc, bytes) {
-            Ok(decoded) => {
-                self.spent = true;
-                let mut sent = Outbox::new(alloc);
-                let fates = self.hear_packet(alloc, arrival, bytes, &decoded, &mut sent)?;
-                out.put_all(sent)?;
-                self.spent = false;
-                Ok(Heard::Taken(fates))
-            }
+            Ok(decoded) => self.hear_packet(alloc, arrival, bytes, &decoded, out),
             Err(DecodeFault::Refused(refusal)) => Ok(Heard::Refused(refusal)),
             Err(DecodeFault::Memory(e)) => {
                 self.spent = true;
@@ -96,28 +92,87 @@ impl<B: Bases> Core<B> {
         bytes: &[u8],
         decoded: &Decoded,
         out: &mut Outbox,
-    ) -> Result<Seq<Fate>, AllocError>
+    ) -> Result<Heard, AllocError>
         requires now { arrival.now < 2 ^ 62 }
         requires iface { arrival.iface < length self.old.state.settings.interfaces }
         requires sound { Sound self.old.state }
-        requires busy { self.old.is_spent ≡ true }
         requires spelled { Spells (fields_of_packet decoded.now.packet) decoded.now.spans bytes.now }
-        ensures hears { IfOk result (λ fates. (sent : List Frame) × (out.new ≡ out.old ++ sent) × HearsPacket self.old.state arrival bytes.now fates sent self.new.state) }
+        ensures hears { IfOk result (λ answer. (sent : List Frame) × (out.new ≡ out.old ++ sent) × Hears self.old.state arrival bytes.now answer sent self.new.state) }
         ensures sound { OnOk result (Sound self.new.state) }
-        ensures spent { self.new.is_spent ≡ self.old.is_spent }
+        ensures spent { self.new.is_spent ≡ is_err result }
+        ensures wanting { OnErr result (out.new ≡ out.old) }
     {
-        let own = self.holding.nhdp.settings().originator();
-        self.holding.expire(arrival.now)?;
-        let fates = self.holding.take_messages(
+        self.spent = true;
+        let fates = take_packet(
             alloc,
+            &mut self.holding,
+            &mut self.derived,
             arrival,
-            own,
             bytes,
-            decoded.packet.messages.as_slice(),
-            decoded.spans.as_slice(),
+            decoded,
             out,
         )?;
-        renew(alloc, &self.holding, &mut self.derived, arrival.now)?;
-        Ok(fates)
+        self.spent = false;
+        Ok(Heard::Taken(fates))
     }
+}
+
+// Takes a packet: what is sent is put at the end of `out` where memory suffices.
+fn take_packet<B: Bases>(
+    alloc: Global,
+    holding: &mut Holding<B>,
+    derived: &mut Derived,
+    arrival: Arrival,
+    bytes: &[u8],
+    decoded: &Decoded,
+    out: &mut Outbox,
+) -> Result<Seq<Fate>, AllocError>
+    requires now { arrival.now < 2 ^ 62 }
+    requires iface { arrival.iface < length holding.old.settings.interfaces }
+    requires sound { Sound (state_of holding.old derived.old) }
+    requires spelled { Spells (fields_of_packet decoded.now.packet) decoded.now.spans bytes.now }
+    ensures hears { IfOk result (λ fates. (sent : List Frame) × (out.new ≡ out.old ++ sent) × HearsPacket (state_of holding.old derived.old) arrival bytes.now fates sent (state_of holding.new derived.new)) }
+    ensures wanting { OnErr result (out.new ≡ out.old) }
+{
+    let mut fates = Seq::new(alloc);
+    let mut sent = Outbox::new(alloc);
+    take_messages(
+        alloc, holding, derived, arrival, bytes, decoded, &mut fates, &mut sent,
+    )?;
+    out.put_all(sent)?;
+    Ok(fates)
+}
+
+// What is expired goes, the messages of a packet are taken, and what follows from the bases is renewed.
+fn take_messages<B: Bases>(
+    alloc: Global,
+    holding: &mut Holding<B>,
+    derived: &mut Derived,
+    arrival: Arrival,
+    bytes: &[u8],
+    decoded: &Decoded,
+    fates: &mut Seq<Fate>,
+    out: &mut Outbox,
+) -> Result<(), AllocError>
+    requires now { arrival.now < 2 ^ 62 }
+    requires iface { arrival.iface < length holding.old.settings.interfaces }
+    requires sound { Sound (state_of holding.old derived.old) }
+    requires spelled { Spells (fields_of_packet decoded.now.packet) decoded.now.spans bytes.now }
+    ensures hears { OnOk result ((given : List FateValue) × (sent : List Frame) × (fates.new ≡ fates.old ++ given) × (out.new ≡ out.old ++ sent)
+        × HearsPacket (state_of holding.old derived.old) arrival bytes.now given sent (state_of holding.new derived.new)) }
+{
+    let own = holding.settings().originator();
+    holding.expire(arrival.now)?;
+    holding.take_messages(
+        alloc,
+        arrival,
+        own,
+        bytes,
+        decoded.packet.messages.as_slice(),
+        decoded.spans.as_slice(),
+        fates,
+        out,
+    )?;
+    end_event(alloc, holding, arrival.now, derived)?;
+    Ok(())
 }

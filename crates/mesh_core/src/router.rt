@@ -1,17 +1,12 @@
 //! The router core: a router with its bases, and what follows from them.
 ghost use Rattle.std.specs.Prelude.{◌≡◌, IfOk, false};
 ghost use Rattle.mesh_atoms.specs.Sound.{Sound};
-ghost use Rattle.mesh_machine.specs.Machine.{no_relays, IsOpening, due};
+ghost use Rattle.mesh_machine.specs.Machine.{IsOpening, due};
 
-use crate::advertise::advertised_rows;
-use crate::derived::Derived;
-use crate::holding::Holding;
-use mesh_atoms::{Relays, RouterSettings, Seq};
+use mesh_atoms::RouterSettings;
 use mesh_expire::Bases;
-use mesh_flood::Flood;
-use mesh_nhdp::Nhdp;
-use mesh_routes::RoutingSet;
-use mesh_topo::Topology;
+use mesh_holding::Holding;
+use mesh_renewal::{Derived, opening};
 use std::alloc::{AllocError, Global};
 use std::marker::Model;
 
@@ -43,27 +38,10 @@ impl<B: Bases> Core<B> {
         ensures sound { IfOk result (λ core. Sound core.state) }
         ensures whole { IfOk result (λ core. core.is_spent ≡ false) }
     {
-        let nhdp = Nhdp::new(alloc, &settings)?;
-        let rows = advertised_rows(alloc, &nhdp, &settings)?;
-        let derived = Derived {
-            relays: no_relays(alloc, settings.interfaces.len())?,
-            routes: RoutingSet::new(alloc),
-            rows,
-            ansn: 0,
-            emptied: None,
-            sequence: 0,
-            next_hello: settings.hello_at,
-            next_tc: settings.tc_at,
-            last: 0,
-        };
-        let topology = Topology::new(alloc)?;
-        let flood = Flood::new(alloc, &settings)?;
+        let derived = opening(alloc, &settings)?;
+        let holding = Holding::new(alloc, &settings)?;
         Ok(Core {
-            holding: Holding {
-                nhdp,
-                topology,
-                flood,
-            },
+            holding,
             derived,
             spent: false,
         })
@@ -82,18 +60,4 @@ impl<B: Bases> Core<B> {
     {
         self.spent
     }
-}
-
-// No relays on so many interfaces.
-fn no_relays(alloc: Global, count: usize) -> Result<Relays, AllocError>
-    ensures { IfOk result (λ relays. relays ≡ no_relays count) }
-{
-    let mut flooding = Seq::new(alloc);
-    for _ in 0..count {
-        flooding.push(Seq::new(alloc))?;
-    }
-    Ok(Relays {
-        flooding,
-        routing: Seq::new(alloc),
-    })
 }

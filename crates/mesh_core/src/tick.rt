@@ -1,16 +1,19 @@
 //! What a router does when its clock ticks.
-ghost use Rattle.std.specs.Prelude.{◌≡◌, ◌<◌, ◌≤◌, ◌^◌, ◌++◌, List, is_err, All, OnOk, OnErr, false, true};
+ghost use Rattle.std.specs.Prelude.{◌≡◌, ◌<◌, ◌≤◌, ◌^◌, ◌++◌, List, is_err, All, OnOk, OnErr};
 ghost use Rattle.mesh_atoms.specs.Sound.{Sound};
+ghost use Rattle.mesh_core.specs.Holding.{state_of};
 ghost use Rattle.mesh_machine.specs.declared.frame.Frame.{Frame};
 ghost use Rattle.mesh_machine.specs.Frames.{sent_since};
 ghost use Rattle.mesh_machine.specs.Machine.{Event, Step, TicksAt, due};
 ghost use Rattle.mesh_machine.specs.Sendable.{IsSendable};
 
-use crate::outbox::Outbox;
-use crate::renewal::renew;
+use crate::ending::end_event;
+use crate::hellos::send_hellos;
 use crate::router::Core;
-use crate::sending::{send_hellos, send_tc};
+use crate::tcs::send_tcs;
 use mesh_expire::Bases;
+use mesh_holding::{Holding, Outbox};
+use mesh_renewal::Derived;
 use std::alloc::{AllocError, Global};
 
 impl<B: Bases> Core<B> {
@@ -41,34 +44,51 @@ impl<B: Bases> Core<B> {
     fn send_due(&mut self, now: u64, out: &mut Outbox) -> Result<(), AllocError>
         requires now { now < 2 ^ 62 }
         requires sound { Sound self.old.state }
-        requires whole { self.old.is_spent ≡ false }
         ensures ticks { OnOk result ((sent : List Frame) × (out.new ≡ out.old ++ sent) × TicksAt self.old.state now sent self.new.state) }
         ensures sound { OnOk result (Sound self.new.state) }
         ensures spent { self.new.is_spent ≡ is_err result }
         ensures wanting { OnErr result (out.new ≡ out.old) }
     {
-        let alloc = self.holding.nhdp.settings().interfaces.allocator();
         self.spent = true;
-        let mut sent = Outbox::new(alloc);
-        self.do_tick(alloc, now, &mut sent)?;
-        out.put_all(sent)?;
+        send_due(&mut self.holding, &mut self.derived, now, out)?;
         self.spent = false;
         Ok(())
     }
+}
 
-    // What a tick does.
-    fn do_tick(&mut self, alloc: Global, now: u64, out: &mut Outbox) -> Result<(), AllocError>
-        requires now { now < 2 ^ 62 }
-        requires sound { Sound self.old.state }
-        requires busy { self.old.is_spent ≡ true }
-        ensures ticks { OnOk result ((sent : List Frame) × (out.new ≡ out.old ++ sent) × TicksAt self.old.state now sent self.new.state) }
-        ensures sound { OnOk result (Sound self.new.state) }
-        ensures spent { self.new.is_spent ≡ self.old.is_spent }
-    {
-        self.holding.expire(now)?;
-        renew(alloc, &self.holding, &mut self.derived, now)?;
-        send_hellos(alloc, &self.holding, &mut self.derived, out)?;
-        send_tc(alloc, &self.holding, &mut self.derived, out)?;
-        Ok(())
-    }
+// Does what a tick does: what is sent is put at the end of `out` where memory suffices.
+fn send_due<B: Bases>(
+    holding: &mut Holding<B>,
+    derived: &mut Derived,
+    now: u64,
+    out: &mut Outbox,
+) -> Result<(), AllocError>
+    requires now { now < 2 ^ 62 }
+    requires sound { Sound (state_of holding.old derived.old) }
+    ensures ticks { OnOk result ((sent : List Frame) × (out.new ≡ out.old ++ sent) × TicksAt (state_of holding.old derived.old) now sent (state_of holding.new derived.new)) }
+    ensures wanting { OnErr result (out.new ≡ out.old) }
+{
+    let alloc = holding.settings().interfaces.allocator();
+    let mut sent = Outbox::new(alloc);
+    do_tick(alloc, holding, derived, now, &mut sent)?;
+    out.put_all(sent)
+}
+
+// What is expired goes, what follows from the bases is renewed, and what is due is sent.
+fn do_tick<B: Bases>(
+    alloc: Global,
+    holding: &mut Holding<B>,
+    derived: &mut Derived,
+    now: u64,
+    out: &mut Outbox,
+) -> Result<(), AllocError>
+    requires now { now < 2 ^ 62 }
+    requires sound { Sound (state_of holding.old derived.old) }
+    ensures ticks { OnOk result ((sent : List Frame) × (out.new ≡ out.old ++ sent) × TicksAt (state_of holding.old derived.old) now sent (state_of holding.new derived.new)) }
+{
+    holding.expire(now)?;
+    end_event(alloc, holding, now, derived)?;
+    send_hellos(alloc, holding.nhdp(), derived, out)?;
+    send_tcs(alloc, holding.settings(), derived, out)?;
+    Ok(())
 }

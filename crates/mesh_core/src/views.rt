@@ -7,7 +7,7 @@ use mesh_atoms::{
     Route, RouterKey, RouterSettings, RouterTuple, TcRow, TwoHop, TwoHopKey,
 };
 use mesh_expire::{Bases, Table};
-use mesh_flood::Flood;
+use mesh_flood::{Flood, Heading};
 use mesh_machine::{RouterView, Said, said_of, two_hops_of};
 use mesh_nbrs::Near4;
 use mesh_nhdp::Nhdp;
@@ -26,7 +26,7 @@ impl<B: Bases> Core<B> {
     pub fn settings(&self) -> &RouterSettings
         ensures { result.now ≡ self.now.state.settings }
     {
-        self.holding.nhdp.settings()
+        self.holding.settings()
     }
 
     /// The relays.
@@ -48,21 +48,21 @@ impl<B: Bases> Core<B> {
         ensures near { result.now.near ≡ self.now.state.bases.neighbourhood }
         ensures settings { result.now.settings ≡ self.now.state.settings }
     {
-        &self.holding.nhdp
+        self.holding.nhdp()
     }
 
     /// The topology.
     pub fn topology(&self) -> &Topology<B>
         ensures { result.now ≡ self.now.state.bases.topology }
     {
-        &self.holding.topology
+        self.holding.topology()
     }
 
     /// The messages seen before.
     pub fn flood(&self) -> &Flood<B>
         ensures { result.now.noted ≡ self.now.state.bases.noted }
     {
-        &self.holding.flood
+        self.holding.flood()
     }
 
     /// The advertised rows, and their ANSN.
@@ -78,7 +78,7 @@ impl<B: Bases> RouterView for Core<B> {
     ghost state = { λ c. c.state };
 
     fn settings(&self) -> &RouterSettings {
-        self.holding.nhdp.settings()
+        self.holding.settings()
     }
 
     fn last(&self) -> u64 {
@@ -86,83 +86,91 @@ impl<B: Bases> RouterView for Core<B> {
     }
 
     fn links(&self, iface: usize) -> usize {
-        self.holding.nhdp.links(iface)
+        self.holding.nhdp().links(iface)
     }
 
     fn link(&self, iface: usize, place: usize) -> Option<(&LinkKey, &Link, u64)> {
-        self.holding.nhdp.link(iface, place)
+        self.holding.nhdp().link(iface, place)
     }
 
     fn link_of(&self, iface: usize, key: &LinkKey) -> Option<(&Link, u64)> {
-        self.holding.nhdp.link_of(iface, key)
+        self.holding.nhdp().link_of(iface, key)
     }
 
     fn two_hops(&self, iface: usize) -> usize {
-        self.holding.nhdp.two_hops(iface)
+        self.holding.nhdp().two_hops(iface)
     }
 
     fn two_hop(&self, iface: usize, place: usize) -> Option<(&TwoHopKey, &TwoHop, u64)> {
-        self.holding.nhdp.two_hop(iface, place)
+        self.holding.nhdp().two_hop(iface, place)
     }
 
     fn two_hop_of(&self, iface: usize, key: &TwoHopKey) -> Option<(&TwoHop, u64)> {
-        self.holding.nhdp.two_hop_of(iface, key)
+        self.holding.nhdp().two_hop_of(iface, key)
     }
 
     fn all_two_hops(&self) -> usize {
-        two_hops_of(&self.holding.nhdp, self.holding.nhdp.settings())
+        two_hops_of(self.holding.nhdp(), self.holding.settings())
     }
 
     fn neighbours(&self) -> usize {
-        self.holding.nhdp.neighbours()
+        self.holding.nhdp().neighbours()
     }
 
     fn neighbour(&self, place: usize) -> Option<(&Addr4, &Neighbour, u64)> {
-        self.holding.nhdp.neighbour(place)
+        self.holding.nhdp().neighbour(place)
     }
 
     fn neighbour_of(&self, originator: &Addr4) -> Option<(&Neighbour, u64)> {
-        self.holding.nhdp.neighbour_of(originator)
+        self.holding.nhdp().neighbour_of(originator)
     }
 
     fn losts(&self) -> usize {
-        self.holding.nhdp.lost()
+        self.holding.nhdp().lost()
     }
 
     fn routers(&self) -> usize {
-        self.holding.topology.routers().len()
+        self.holding.topology().routers().len()
     }
 
     fn router(&self, place: usize) -> Option<(&RouterKey, &RouterTuple, u64)> {
-        self.holding.topology.routers().at(place)
+        self.holding.topology().routers().at(place)
     }
 
     fn router_of(&self, key: &RouterKey) -> Option<(&RouterTuple, u64)> {
-        self.holding.topology.routers().get(key)
+        self.holding.topology().routers().get(key)
     }
 
     fn addresses(&self) -> usize {
-        self.holding.topology.addresses().len()
+        self.holding.topology().addresses().len()
     }
 
     fn address(&self, place: usize) -> Option<(&AddressKey, &AddressTuple, u64)> {
-        self.holding.topology.addresses().at(place)
+        self.holding.topology().addresses().at(place)
     }
 
     fn address_of(&self, key: &AddressKey) -> Option<(&AddressTuple, u64)> {
-        self.holding.topology.addresses().get(key)
+        self.holding.topology().addresses().get(key)
     }
 
     fn networks(&self) -> usize {
-        self.holding.topology.networks().len()
+        self.holding.topology().networks().len()
     }
 
     fn network(&self, place: usize) -> Option<(&NetworkKey, &NetworkTuple, u64)> {
-        self.holding.topology.networks().at(place)
+        self.holding.topology().networks().at(place)
     }
 
     fn network_of(&self, key: &NetworkKey) -> Option<(&NetworkTuple, u64)> {
-        self.holding.topology.networks().get(key)
+        self.holding.topology().networks().get(key)
+    }
+
+    fn has_noted(&self, heading: &Heading) -> bool {
+        self.holding.flood().stands(heading)
+    }
+
+    fn has_full_set(&self) -> bool {
+        self.holding.flood().full()
     }
 
     fn relays(&self) -> &Relays {
@@ -186,6 +194,6 @@ impl<B: Bases> RouterView for Core<B> {
     }
 
     fn said(&self, iface: usize, now: u64, addr: Addr4) -> Said {
-        said_of(&self.holding.nhdp, &self.derived.relays, iface, now, addr)
+        said_of(self.holding.nhdp(), &self.derived.relays, iface, now, addr)
     }
 }

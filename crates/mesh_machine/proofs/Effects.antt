@@ -8,7 +8,7 @@ use Rattle.mesh_machine.specs.declared.arrival.Arrival.{Arrival}
 use Rattle.mesh_machine.specs.declared.fate.Heard.{Heard}
 use Rattle.mesh_machine.specs.declared.fate.Heard.TheVariants as heard
 use Rattle.mesh_machine.specs.declared.frame.Frame.{Frame}
-use Rattle.mesh_machine.specs.Sending.{SendsHellos, Hellos_early, Hellos_due, SendsTc, Tc_early, Tc_silent, Tc_due}
+use Rattle.mesh_machine.specs.Sending.{SendsHellos, Hellos_early, Hellos_due, SendsTcs, Tcs_early, Tcs_silent, Tcs_due}
 use Rattle.mesh_machine.specs.Machine.{Hears, TicksAt, due}
 use Rattle.mesh_machine.specs.Frames.{sent_since}
 
@@ -52,14 +52,14 @@ hello_later : (old new : State) (sent : List Frame) → SendsHellos old new sent
 hello_later old new sent (Hellos_early early same) = omega (arith, early, same)
 hello_later old new sent (Hellos_due late next frames) = next.later
 
-tc_later : (old new : State) (sent : List Frame) → SendsTc old new sent → new.last < new.next_tc
-tc_later old new sent (Tc_early early same number) = omega (arith, early, same)
-tc_later old new sent (Tc_silent late next none number) = next.later
-tc_later old new sent (Tc_due late next tells number tc is bytes written) = next.later
+tcs_later : (old new : State) (sent : List Frame) → SendsTcs old new sent → new.last < new.next_tc
+tcs_later old new sent (Tcs_early early same number) = omega (arith, early, same)
+tcs_later old new sent (Tcs_silent late next none number) = next.later
+tcs_later old new sent (Tcs_due late next tells parts cut validity is number sends) = next.later
 
 pub ticks_due : (old : State) (now : ℕ) (sent : List Frame) (new : State) → TicksAt old now sent new → now < due new
 ticks_due old now sent new ticks =
     let a = hello_later old new ticks.hellos ticks.sends_hellos in
-    let b = tc_later old new ticks.tcs ticks.sends_tc in
+    let b = tcs_later old new ticks.tcs ticks.sends_tcs in
     let is = ticks.renews.last in
     omega (arith, a, b, is)

@@ -1,5 +1,5 @@
 -- The opening state of a router is sound.
-use Rattle.std.proofs.Common.{◌≡◌, ℕ, zero, suc, inl, inr, refl, sym, ◌∙◌, ap, subst, arith, List, [], ◌∷◌, length, replicate, Contains, Some, None, Bool}
+use Rattle.std.proofs.Common.{◌≡◌, ℕ, zero, suc, inl, inr, refl, sym, ◌∙◌, ap, subst, arith, List, [], ◌∷◌, length, replicate, Contains, Some, Bool}
 use Rattle.std.specs.Prelude.{slice_get, slice_index_or}
 use Rattle.std.specs.List.{IsDistinct}
 use Rattle.std.proofs.lemmas.List.{get_or-replicate, get_or_past, length-replicate}
@@ -16,7 +16,6 @@ use Rattle.mesh_atoms.specs.Routes.{AreRoutes, RouteArc, To_neighbour, To_two_ho
 use Rattle.mesh_atoms.specs.Sound.{Sound, SoundNeighbourhood, SoundTopology, SoundNoted, IsWithin}
 use Rattle.mesh_atoms.specs.State.{State, Bases, Topology, NotedMessages}
 use Rattle.mesh_atoms.specs.Walk.{Walk, Stay, Onward}
-use Rattle.mesh_atoms.specs.Advertised.{AreTcRows}
 use Rattle.mesh_nhdp.specs.NhdpState.{empty_near}
 use Rattle.mesh_nhdp.proofs.Empty.{empty_parts}
 use Rattle.mesh_nhdp.proofs.Lookups.{Contains_at}
@@ -155,40 +154,23 @@ opening_sound settings s is =
       rows = is.rows;
     }
 
--- a state is the opening one by its parts
-pub opens : (settings : RouterSettings) (s : State) → s.settings ≡ settings → s.bases.neighbourhood ≡ empty_near (length settings.interfaces) →
-    s.bases.topology.advertisers ≡ [] → s.bases.topology.routers ≡ [] → s.bases.topology.addresses ≡ [] → s.bases.topology.networks ≡ [] →
-    length s.bases.noted.received ≡ length settings.interfaces → ((i : ℕ) → base_of s.bases.noted.received i ≡ []) → s.bases.noted.processed ≡ [] → s.bases.noted.forwarded ≡ [] →
-    (count : ℕ) → count ≡ length settings.interfaces → s.relays ≡ no_relays count → s.routes ≡ [] →
-    ((t : State) → t.settings ≡ settings → t.bases.neighbourhood ≡ s.bases.neighbourhood → AreTcRows t s.rows) →
-    s.ansn ≡ 0 → s.emptied ≡ None → s.sequence ≡ 0 → s.next_hello ≡ settings.hello_at → s.next_tc ≡ settings.tc_at → s.last ≡ 0 → IsOpening settings s
-opens settings s of near advertisers routers addresses networks counts received processed forwarded count counted relays routes rows ansn emptied sequence next_hello next_tc last =
-    let n : ℕ = length settings.interfaces in
-    let topology : s.bases.topology ≡ (no_bases n).topology =
-    ap (λ x. let t : Topology = record s.bases.topology { advertisers = x } in t) advertisers
-    ∙ ap (λ x. let t : Topology = record s.bases.topology { advertisers = []; routers = x } in t) routers
-    ∙ ap (λ x. let t : Topology = record s.bases.topology { advertisers = []; routers = []; addresses = x } in t) addresses
+-- bases are those of the opening state by their parts
+pub empties : (n : ℕ) (bases : Bases) → bases.neighbourhood ≡ empty_near n →
+    bases.topology.advertisers ≡ [] → bases.topology.routers ≡ [] → bases.topology.addresses ≡ [] → bases.topology.networks ≡ [] →
+    length bases.noted.received ≡ n → ((i : ℕ) → base_of bases.noted.received i ≡ []) → bases.noted.processed ≡ [] → bases.noted.forwarded ≡ [] → bases ≡ no_bases n
+empties n bases near advertisers routers addresses networks counts received processed forwarded =
+    let topology : bases.topology ≡ (no_bases n).topology =
+    ap (λ x. let t : Topology = record bases.topology { advertisers = x } in t) advertisers
+    ∙ ap (λ x. let t : Topology = record bases.topology { advertisers = []; routers = x } in t) routers
+    ∙ ap (λ x. let t : Topology = record bases.topology { advertisers = []; routers = []; addresses = x } in t) addresses
     ∙ ap (λ x. let t : Topology = record { advertisers = []; routers = []; addresses = []; networks = x } in t) networks in
-    let noted : s.bases.noted ≡ (no_bases n).noted =
-    ap (λ x. let t : NotedMessages = record s.bases.noted { received = x } in t) (all_empty s.bases.noted.received n counts received)
-    ∙ ap (λ x. let t : NotedMessages = record s.bases.noted { received = replicate n []; processed = x } in t) processed
+    let noted : bases.noted ≡ (no_bases n).noted =
+    ap (λ x. let t : NotedMessages = record bases.noted { received = x } in t) (all_empty bases.noted.received n counts received)
+    ∙ ap (λ x. let t : NotedMessages = record bases.noted { received = replicate n []; processed = x } in t) processed
     ∙ ap (λ x. let t : NotedMessages = record { received = replicate n []; processed = []; forwarded = x } in t) forwarded in
-    record {
-      settings_are = of;
-      bases =
-          ap (λ x. let b : Bases = record s.bases { neighbourhood = x } in b) near
-          ∙ ap (λ x. let b : Bases = record s.bases { neighbourhood = empty_near n; topology = x } in b) topology
-          ∙ ap (λ x. let b : Bases = record { neighbourhood = empty_near n; topology = (no_bases n).topology; noted = x } in b) noted;
-      relays = relays ∙ ap (λ (k : ℕ). no_relays k) counted;
-      routes = routes;
-      rows = rows s of refl;
-      ansn = ansn;
-      emptied = emptied;
-      sequence = sequence;
-      next_hello = next_hello;
-      next_tc = next_tc;
-      last = last;
-    }
+    ap (λ x. let b : Bases = record bases { neighbourhood = x } in b) near
+    ∙ ap (λ x. let b : Bases = record bases { neighbourhood = empty_near n; topology = x } in b) topology
+    ∙ ap (λ x. let b : Bases = record { neighbourhood = empty_near n; topology = (no_bases n).topology; noted = x } in b) noted
 
 -- and so is every router after it
 steps_sound : (old : State) (events : List Event) (sent : List (List Frame)) (new : State) → Sound old → Steps old events sent new → Sound new

@@ -12,7 +12,9 @@ use Rattle.mesh_atoms.specs.declared.tuples.Neighbour.{Neighbour}
 use Rattle.mesh_atoms.specs.Base.{base_of}
 use Rattle.mesh_atoms.specs.Hello.{Says, SaysLink, HasLinkTo, IsSaid, Near_in, Near_out, Link_in, Link_out, Flooding, Routing}
 use Rattle.mesh_atoms.specs.Sound.{SoundNeighbourhood}
-use Rattle.mesh_atoms.specs.State.{State, LinkState, Is_pending, Is_lost, Is_symmetric, Is_heard, state_of, is_symmetric, is_heard, HasSymmetricWith, link_at, neighbour_at}
+use Rattle.mesh_atoms.specs.declared.tuples.LinkState.{LinkState}
+use Rattle.mesh_atoms.specs.declared.tuples.LinkState.TheVariants.{Pending as Is_pending, Lost as Is_lost, Symmetric as Is_symmetric, Heard as Is_heard}
+use Rattle.mesh_atoms.specs.State.{State, state_of, is_symmetric, is_heard, HasSymmetricWith, link_at, neighbour_at}
 use Rattle.mesh_atoms.specs.Words.{IsValue}
 use Rattle.mesh_atoms.proofs.Lookups.{has_found, link_equiv, same_link, looks_up_links, looks_up_neighbours}
 use Rattle.mesh_expire.specs.Table.{entry_of}

@@ -1,5 +1,5 @@
 -- What a step of a router sends can be sent.
-use Rattle.std.proofs.Common.{◌≡◌, ℕ, zero, suc, ◌≤◌, ◌<◌, refl, sym, subst, ◌∙◌, arith, List, [], ◌∷◌, length, take, drop, None, Bool, get_or}
+use Rattle.std.proofs.Common.{◌≡◌, ℕ, zero, suc, ◌+◌, ◌%◌, ◌≤◌, ◌<◌, refl, sym, subst, ◌∙◌, arith, List, [], ◌∷◌, length, take, drop, None, Bool, get_or}
 use Rattle.std.specs.Prelude.{All}
 use Rattle.std.proofs.lemmas.List.{append-nil}
 use Rattle.std.proofs.lemmas.List.Elements.{All-nil, All-push, All-append, All-from_get_or}
@@ -7,6 +7,7 @@ use Rattle.std.proofs.lemmas.Option.{slice_get-get_or}
 use Rattle.mesh_atoms.specs.declared.addr.Addr4.{Addr4}
 use Rattle.mesh_atoms.specs.declared.settings.RouterSettings.{RouterSettings}
 use Rattle.mesh_atoms.specs.declared.tc.Tc.{Tc}
+use Rattle.mesh_atoms.specs.declared.tc.TcRow.{TcRow}
 use Rattle.mesh_atoms.specs.Base.{base_of}
 use Rattle.mesh_atoms.specs.State.{Bases, NotedMessages, State}
 use Rattle.mesh_packet.specs.declared.packet.Span.{Span}
@@ -22,7 +23,7 @@ use Rattle.mesh_machine.specs.declared.fate.Fate.{Fate}
 use Rattle.mesh_machine.specs.declared.fate.Heard.{Heard}
 use Rattle.mesh_machine.specs.declared.fate.Heard.TheVariants as heard
 use Rattle.mesh_machine.specs.declared.frame.Frame.{Frame}
-use Rattle.mesh_machine.specs.Sending.{SendsHellos, Hellos_early, Hellos_due, SendsTc, Tc_early, Tc_silent, Tc_due}
+use Rattle.mesh_machine.specs.Sending.{SendsHellos, Hellos_early, Hellos_due, SendsParts, No_part, First_part, SendsTcs, Tcs_early, Tcs_silent, Tcs_due}
 use Rattle.mesh_machine.specs.Frames.{octets_at, on_each}
 use Rattle.mesh_machine.specs.Machine.{Event, Hears, TicksAt, Step, Heard_frame, Ticked}
 use Rattle.mesh_machine.specs.Messages.{IsHeading, ConsidersForwarding, ProcessesTc, Tc_taken, Tc_passed, TakesMessage, Hello_read, Hello_broken, Tc_read, Tc_broken, Other_passed, Other_left, TakesMessages, No_messages, First_message, AreSpelled, forwarding, is_processed}
@@ -133,18 +134,24 @@ hellos_sendable old new sent (Hellos_due late next frames) =
     let count = frames.count in
     record { iface = omega (arith, below, place, count); packet = (_, is.written.packet.spans, is.written.packet.spelled) })
 
-tc_sendable : (old new : State) (sent : List Frame) → SendsTc old new sent → All (IsSendable new.settings) sent
-tc_sendable old new sent (Tc_early early same number) = All-nil (IsSendable new.settings)
-tc_sendable old new sent (Tc_silent late next none number) = All-nil (IsSendable new.settings)
-tc_sendable old new sent (Tc_due late next tells number tc is bytes written) =
-    each_sendable new.settings (length new.settings.interfaces) bytes (omega arith) (_, written.packet.spans, written.packet.spelled)
+parts_sendable : (s : State) (validity : List ℕ) (complete : Bool) (sequence : ℕ) (parts : List (List TcRow)) (sent : List Frame) → SendsParts s validity complete sequence parts sent → All (IsSendable s.settings) sent
+parts_sendable s validity complete sequence parts sent No_part = All-nil (IsSendable s.settings)
+parts_sendable s validity complete sequence parts sent (First_part {parts = others} {more = more} tc bytes is written sends) =
+    All-append (IsSendable s.settings) (on_each (length s.settings.interfaces) bytes) more
+    (each_sendable s.settings (length s.settings.interfaces) bytes (omega arith) (_, written.packet.spans, written.packet.spelled))
+    (parts_sendable s validity complete ((sequence + 1) % 65536) others more sends)
+
+tcs_sendable : (old new : State) (sent : List Frame) → SendsTcs old new sent → All (IsSendable new.settings) sent
+tcs_sendable old new sent (Tcs_early early same number) = All-nil (IsSendable new.settings)
+tcs_sendable old new sent (Tcs_silent late next none number) = All-nil (IsSendable new.settings)
+tcs_sendable old new sent (Tcs_due late next tells parts cut validity is number sends) = parts_sendable new validity _ old.sequence parts sent sends
 
 -- what is sent at a tick
 pub ticks_sendable : (old : State) (now : ℕ) (sent : List Frame) (new : State) → TicksAt old now sent new → All (IsSendable old.settings) sent
 ticks_sendable old now sent new ticks =
     subst (λ (r : RouterSettings). All (IsSendable r) sent) ticks.renews.settings
     (subst (λ (frames : List Frame). All (IsSendable new.settings) frames) (sym ticks.sends)
-    (All-append (IsSendable new.settings) ticks.hellos ticks.tcs (hellos_sendable old new ticks.hellos ticks.sends_hellos) (tc_sendable old new ticks.tcs ticks.sends_tc)))
+    (All-append (IsSendable new.settings) ticks.hellos ticks.tcs (hellos_sendable old new ticks.hellos ticks.sends_hellos) (tcs_sendable old new ticks.tcs ticks.sends_tcs)))
 
 -- what a step sends
 pub step_sends_packets : (old : State) (event : Event) (sent : List Frame) (new : State) → IsOfOctets event → Step old event sent new → All (IsSendable old.settings) sent

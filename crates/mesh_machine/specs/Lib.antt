@@ -2,6 +2,7 @@ pub mod Frames
 pub mod Laws
 pub mod Machine
 pub mod Messages
+pub mod Names
 pub mod Renewal
 pub mod Said
 pub mod Sendable

@@ -15,7 +15,7 @@ use Rattle.mesh_machine.specs.declared.fate.Heard.{Heard}
 use Rattle.mesh_machine.specs.declared.fate.Heard.TheVariants as heard
 use Rattle.mesh_machine.specs.declared.frame.Frame.{Frame}
 use Rattle.mesh_machine.specs.Renewal.{Renews}
-use Rattle.mesh_machine.specs.Sending.{SendsHellos, SendsTc}
+use Rattle.mesh_machine.specs.Sending.{SendsHellos, SendsTcs}
 use Rattle.mesh_machine.specs.Messages.{TakesMessages}
 
 -- The opening state
@@ -83,7 +83,7 @@ pub record TicksAt (old : State) (now : ℕ) (sent : List Frame) (new : State) :
   pub hellos : List Frame
   pub sends_hellos : SendsHellos old new hellos
   pub tcs : List Frame
-  pub sends_tc : SendsTc old new tcs
+  pub sends_tcs : SendsTcs old new tcs
   pub sends : sent ≡ hellos ++ tcs
 
 -- what is answered to a frame, what is sent, and the state after it. A frame with a fault changes nothing, not even by expiry

@@ -1,9 +1,13 @@
 -- What a router sends when its clock ticks.
-use Rattle.std.specs.Prelude.{◌≡◌, ◌≢◌, ℕ, ◌+◌, ◌*◌, ◌%◌, ◌<◌, ◌≤◌, ◌⊎◌, [], List, Some, slice_get, length, true}
+use Rattle.std.specs.Prelude.{◌≡◌, ◌≢◌, ℕ, ◌+◌, ◌*◌, ◌%◌, ◌<◌, ◌≤◌, ◌⊎◌, ◌++◌, ◌∷◌, [], List, Bool, Some, slice_get, length, nat_eq}
 use Rattle.mesh_atoms.specs.declared.hello.Hello.{Hello}
 use Rattle.mesh_atoms.specs.declared.tc.Tc.{Tc}
+use Rattle.mesh_atoms.specs.declared.tc.TcRow.{TcRow}
+use Rattle.mesh_atoms.specs.Advertised.{AreParts}
+use Rattle.mesh_atoms.specs.Codes.{time_at_distance}
 use Rattle.mesh_atoms.specs.Hello.{IsHelloNow, IsRoundedUp}
 use Rattle.mesh_atoms.specs.State.{State, IsOriginator}
+use Rattle.mesh_atoms.specs.Validity.{IsValidity}
 use Rattle.mesh_wire.specs.Writes.{WritesHello, WritesTc}
 use Rattle.mesh_machine.specs.declared.frame.Frame.{Frame}
 use Rattle.mesh_machine.specs.Frames.{on_each}
@@ -39,28 +43,39 @@ pub data SendsHellos (old new : State) : List Frame → Type 0 where
 
 -- TCs
 
--- the TC of a router with that sequence number: complete, with all advertised rows (RFC 7181, section 16.1)
-pub record IsTcNow (s : State) (sequence : ℕ) (tc : Tc) : Type 0 where
+-- a TC of the router with that sequence number and these of its rows, complete where these are all (RFC 7181, section 16.1)
+pub record IsTcOfRows (s : State) (validity : List ℕ) (complete : Bool) (sequence : ℕ) (rows : List TcRow) (tc : Tc) : Type 0 where
   pub originator : IsOriginator s.settings tc.originator
   pub sequence_is : tc.sequence ≡ sequence
   pub ansn : tc.ansn ≡ s.ansn
-  pub complete : tc.complete ≡ true
-  pub validity : IsRoundedUp s.settings.times.topology_hold tc.validity
+  pub complete_is : tc.complete ≡ complete
+  pub validity_is : tc.validity ≡ time_at_distance 1 validity
   pub interval : (time : ℕ) × (tc.interval ≡ Some time) × IsRoundedUp s.settings.times.tc time
-  pub rows : tc.rows ≡ s.rows
+  pub rows_are : tc.rows ≡ rows
 
--- a TC is sent while there are rows, and for the hold time after they became empty (RFC 7181, section 16.2)
+-- a TC for each part of the rows, in order, each in the same octets on each interface. Each takes the next sequence number, which
+-- goes round
+pub data SendsParts (s : State) (validity : List ℕ) (complete : Bool) : ℕ → List (List TcRow) → List Frame → Type 0 where
+  No_part : {sequence : ℕ} → SendsParts s validity complete sequence [] []
+  First_part : {sequence : ℕ} {rows : List TcRow} {parts : List (List TcRow)} {more : List Frame} (tc : Tc) (bytes : List ℕ) →
+      IsTcOfRows s validity complete sequence rows tc → WritesTc tc s.settings.times.tc_hop_limit validity bytes →
+      SendsParts s validity complete ((sequence + 1) % 65536) parts more →
+      SendsParts s validity complete sequence (rows ∷ parts) (on_each (length s.settings.interfaces) bytes ++ more)
+
+-- TCs are sent while there are rows, and for the hold time after they became empty (RFC 7181, section 16.2)
 abbrev pub HasToAdvertise : State → Type 0
 HasToAdvertise s =
     (s.rows ≢ []) ⊎ ((moment : ℕ) × (s.emptied ≡ Some moment) × (s.last < moment + s.settings.times.advertised_hold))
 
--- the TC of a tick, in the same octets on each interface: none before it is due, or where there is nothing to advertise. Each TC
--- that is sent takes the next sequence number, which goes round
-pub data SendsTc (old new : State) : List Frame → Type 0 where
-  Tc_early : new.last < old.next_tc → new.next_tc ≡ old.next_tc → new.sequence ≡ old.sequence → SendsTc old new []
-  Tc_silent : old.next_tc ≤ new.last → IsNextMoment new.settings.tc_at new.settings.times.tc new.last new.next_tc →
-      (HasToAdvertise new → ⊥) → new.sequence ≡ old.sequence → SendsTc old new []
-  Tc_due : old.next_tc ≤ new.last → IsNextMoment new.settings.tc_at new.settings.times.tc new.last new.next_tc →
-      HasToAdvertise new → new.sequence ≡ (old.sequence + 1) % 65536 → (tc : Tc) → IsTcNow new old.sequence tc →
-      (bytes : List ℕ) → WritesTc tc new.settings.times.tc_hop_limit bytes →
-      SendsTc old new (on_each (length new.settings.interfaces) bytes)
+-- the TCs of a tick: none before they are due, or where there is nothing to advertise; else one for each part of the rows. They are
+-- complete where that is one
+pub data SendsTcs (old new : State) : List Frame → Type 0 where
+  Tcs_early : new.last < old.next_tc → new.next_tc ≡ old.next_tc → new.sequence ≡ old.sequence → SendsTcs old new []
+  Tcs_silent : old.next_tc ≤ new.last → IsNextMoment new.settings.tc_at new.settings.times.tc new.last new.next_tc →
+      (HasToAdvertise new → ⊥) → new.sequence ≡ old.sequence → SendsTcs old new []
+  Tcs_due : {sent : List Frame} → old.next_tc ≤ new.last →
+      IsNextMoment new.settings.tc_at new.settings.times.tc new.last new.next_tc → HasToAdvertise new →
+      (parts : List (List TcRow)) → AreParts new.settings.tc_rows new.rows parts →
+      (validity : List ℕ) → IsValidity new.settings.times.topology_hold new.settings.near_hold validity →
+      new.sequence ≡ (old.sequence + length parts) % 65536 →
+      SendsParts new validity (nat_eq (length parts) 1) old.sequence parts sent → SendsTcs old new sent

@@ -7,6 +7,7 @@ mod count;
 mod fate;
 mod frame;
 mod laws;
+mod names;
 mod said;
 mod view;
 
@@ -15,5 +16,6 @@ pub use count::two_hops_of;
 pub use fate::{Fate, Heard, Read};
 pub use frame::Frame;
 pub use laws::{runs_are_sound, steps_keep_sound, steps_send_packets};
+pub use names::router_name;
 pub use said::{Said, said_of};
 pub use view::RouterView;

@@ -1,5 +1,5 @@
 //! What a router shows.
-ghost use Rattle.std.specs.Prelude.{◌≡◌, length, map, slice_get, IfSome, IfNone};
+ghost use Rattle.std.specs.Prelude.{◌≡◌, ◌↔◌, length, map, slice_get, IsTrue, IfSome, IfNone};
 ghost use Rattle.std.specs.List.{AllPairs, sum};
 ghost use Rattle.mesh_atoms.specs.Base.{base_of, find, link_eq, two_hop_eq, addr_eq, router_eq, address_eq, network_eq};
 ghost use Rattle.mesh_atoms.specs.Nodes.{IsBefore};
@@ -7,6 +7,8 @@ ghost use Rattle.mesh_atoms.specs.NextHop.{IsLongest, HasNoRouteTo};
 ghost use Rattle.mesh_atoms.specs.Sound.{Sound};
 ghost use Rattle.mesh_atoms.specs.State.{State};
 ghost use Rattle.mesh_expire.specs.Table.{entry_of, value_of};
+ghost use Rattle.mesh_flood.specs.Standing.{HasNoted, HasFullSet};
+ghost use Rattle.mesh_flood.specs.Verdict.{key_of};
 ghost use Rattle.mesh_machine.specs.Said.{IsSaidOf};
 
 use crate::said::Said;
@@ -14,6 +16,7 @@ use mesh_atoms::{
     Addr4, AddressKey, AddressTuple, Link, LinkKey, Neighbour, NetworkKey, NetworkTuple, Relays,
     Route, RouterKey, RouterSettings, RouterTuple, TcRow, TwoHop, TwoHopKey,
 };
+use mesh_flood::Heading;
 
 /// A router at a moment, of which contracts see the state. The tuples of a kind stand at the places from 0 up, each at one of them,
 /// as many as the kind's count says; a further place gives `None`, and so does a key that no tuple has. An interface that isn't
@@ -109,6 +112,15 @@ pub trait RouterView {
     /// The attached network tuple with that key.
     fn network_of(&self, key: &NetworkKey) -> Option<(&NetworkTuple, u64)>
         ensures { value_of result ≡ find network_eq (state self.now).bases.topology.networks key.now };
+
+    /// Whether a received tuple of some interface, a processed or a forwarded tuple has the message's type, originator and
+    /// sequence number (RFC 7181, section 11).
+    fn has_noted(&self, heading: &Heading) -> bool
+        ensures { IsTrue result ↔ HasNoted (state self.now).bases.noted (key_of heading.now) };
+
+    /// Whether the received set of some interface, the processed or the forwarded set has 16,384 tuples.
+    fn has_full_set(&self) -> bool
+        ensures { IsTrue result ↔ HasFullSet (state self.now).bases.noted };
 
     /// The relays.
     fn relays(&self) -> &Relays

@@ -1,0 +1,56 @@
+use Rattle.std.proofs.Common.{◌<◌, ℕ, sym, subst, refl, [], ◌∷◌, ◌++◌, List, length, arith, ap, ◌∙◌}
+use Rattle.std.proofs.lemmas.List.{append-nil, append_assoc, length-map}
+use Rattle.mesh_atoms.specs.declared.settings.RouterSettings.{RouterSettings}
+use Rattle.mesh_nhdp.proofs.Collect.{item_at}
+use Rattle.mesh_packet.specs.declared.packet.Span.{Span}
+use Rattle.mesh_packet.specs.Fields.{fields_of_message}
+use Rattle.mesh_machine.specs.declared.fate.Fate.{Fate}
+use Rattle.mesh_machine.specs.declared.frame.Frame.{Frame}
+use Rattle.mesh_machine.specs.Laws.{SoundBases}
+use Rattle.mesh_machine.specs.Messages.{TakesMessage, No_messages}
+use Rattle.mesh_machine.proofs.Soundness.{messages_sound}
+use Rattle.mesh_machine.proofs.Takes.{spelled_at, takes_more}
+use Rattle.mesh_holding.proofs.holding.Holding.take_messages.Goals as goal
+
+pub loop-i-init : goal.loop-i-init
+loop-i-init g c = record { taken = ([], [], sym (append-nil _), sym (append-nil _), No_messages); settings = refl }
+
+pub octets_of-octets-requires : goal.octets_of-octets-requires
+octets_of-octets-requires g c = (spelled_at c.args.bytes.now c.args.messages.now c.args.spans.now c.loop-i.i c.index-messages-i.result (record { start = 0; len = 0 }) c.requires.spelled
+    (item_at c.args.messages.now c.loop-i.i c.index-messages-i.result c.loop-i-test.true c.index-messages-i.is)).0
+
+pub take_message-requires-clause-sound : goal.take_message-requires-clause-sound
+take_message-requires-clause-sound g c =
+    let (given, sent, fates, out, takes) = c.loop-i.invariant.taken in
+    subst (λ (r : RouterSettings). SoundBases r c.args.arrival.now c.loop-i.self.bases) (sym c.loop-i.invariant.settings)
+    (messages_sound c.args.self.now.settings c.args.own c.args.arrival c.args.bytes.now c.args.self.now.bases _ _ c.loop-i.self.bases sent given c.requires.own c.requires.sound takes)
+
+pub take_message-requires-clause-spelled : goal.take_message-requires-clause-spelled
+take_message-requires-clause-spelled g c = rw c.octets_of-octets.ensures
+    ((spelled_at c.args.bytes.now c.args.messages.now c.args.spans.now c.loop-i.i c.index-messages-i.result (record { start = 0; len = 0 }) c.requires.spelled
+    (item_at c.args.messages.now c.loop-i.i c.index-messages-i.result c.loop-i-test.true c.index-messages-i.is)).1)
+
+pub loop-i-preserved : goal.loop-i-preserved
+loop-i-preserved g c =
+    let d : Span = record { start = 0; len = 0 } in
+    let m = c.index-messages-i.result in
+    let within : c.loop-i.i < length c.args.spans.now =
+    let h = c.requires.spelled.count in let k = length-map c.args.messages.now fields_of_message in let l = c.loop-i-test.true in omega (arith, h, k, l) in
+    let (given, sent, fates, out, takes) = c.loop-i.invariant.taken in
+    let (more, out_more, one) = c.in_ok-fate.ensures.taken in
+    let of_settings : TakesMessage c.args.self.now.settings c.args.own c.args.arrival c.loop-i.self.bases (fields_of_message m) c.octets_of-octets.result.now c.take_message.new.self.bases more c.in_ok-fate.fate =
+    subst (λ (r : RouterSettings). TakesMessage r c.args.own c.args.arrival c.loop-i.self.bases (fields_of_message m) c.octets_of-octets.result.now c.take_message.new.self.bases more c.in_ok-fate.fate)
+    c.loop-i.invariant.settings one in
+    let there = subst (λ (o : List ℕ). TakesMessage c.args.self.now.settings c.args.own c.args.arrival c.loop-i.self.bases (fields_of_message m) o c.take_message.new.self.bases more c.in_ok-fate.fate)
+    c.octets_of-octets.ensures of_settings in
+    record {
+      taken = (
+        given ++ c.in_ok-fate.fate ∷ [],
+        sent ++ more,
+        c.in_ok-push.ensures.ok ∙ (ap (λ (f : List Fate). f ++ c.in_ok-fate.fate ∷ []) fates ∙ append_assoc c.args.fates.now given (c.in_ok-fate.fate ∷ [])),
+        out_more ∙ (ap (λ (f : List Frame). f ++ more) out ∙ append_assoc c.args.out.now sent more),
+        takes_more c.args.self.now.settings c.args.own c.args.arrival c.args.bytes.now c.args.messages.now c.args.spans.now c.loop-i.i m d c.args.self.now.bases c.loop-i.self.bases c.take_message.new.self.bases
+            sent more given c.in_ok-fate.fate (item_at c.args.messages.now c.loop-i.i m c.loop-i-test.true c.index-messages-i.is) within takes there,
+      );
+      settings = c.take_message.ensures.settings ∙ c.loop-i.invariant.settings;
+    }

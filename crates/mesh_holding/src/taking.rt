@@ -1,0 +1,259 @@
+//! What a message does to the bases of a router.
+ghost use Rattle.std.specs.Prelude.{◌≡◌, ◌≢◌, ◌<◌, ◌≤◌, ◌+◌, ◌^◌, ◌++◌, ℕ, [], map, List, length, IfOk, OnOk};
+ghost use Rattle.mesh_atoms.specs.declared.addr.Addr4.{Addr4};
+ghost use Rattle.mesh_atoms.specs.State.{IsOriginator};
+ghost use Rattle.mesh_topo.specs.Tuples.{HasHosts};
+ghost use Rattle.mesh_packet.specs.Fields.{MessageFields, fields_of_message};
+ghost use Rattle.mesh_packet.specs.Grammar.{SpellsMessage};
+ghost use Rattle.mesh_holding.specs.Reading.{ReadsTc};
+ghost use Rattle.mesh_machine.specs.declared.fate.Fate.{Fate as FateValue};
+ghost use Rattle.mesh_machine.specs.declared.frame.Frame.{Frame};
+ghost use Rattle.mesh_machine.specs.Frames.{octets_at};
+ghost use Rattle.mesh_machine.specs.Laws.{SoundBases};
+ghost use Rattle.mesh_machine.specs.Messages.{TakesMessage, TakesMessages, ProcessesTc, IsHeading, AreSpelled};
+
+use crate::answers::{broken_fate, hello_read, is_processed, other_read, tc_read};
+use crate::heading::{heading_of, heading_of_tc};
+use crate::holding::Holding;
+use crate::onward::{judge, pass_on};
+use crate::outbox::Outbox;
+use mesh_atoms::{Addr4, Seq, Tc};
+use mesh_expire::Bases;
+use mesh_flood::{Flood, Forward, Heading, Process};
+use mesh_machine::{Arrival, Fate, Read};
+use mesh_nhdp::Nhdp;
+use mesh_packet::{Message, Span};
+use mesh_topo::Topology;
+use mesh_wire::{hello_of, tc_of};
+use std::alloc::{AllocError, Global};
+
+// Takes a TC into the topology where it is to be processed: what is made of it, and whether it counts as processed.
+fn read_tc<B: Bases>(
+    topology: &mut Topology<B>,
+    now: u64,
+    tc: &Tc,
+    process: Process,
+) -> Result<(Read, bool), AllocError>
+    requires now { now < 2 ^ 62 }
+    requires validity { tc.now.validity < 2 ^ 62 }
+    requires hosts { HasHosts tc.now }
+    ensures { IfOk result (λ made. ReadsTc now tc.now process topology.old topology.new made.0 made.1) }
+{
+    match process {
+        Process::Do => {
+            let taken = topology.take_tc(now, tc)?;
+            Ok((tc_read(taken, tc.ansn), is_processed(taken)))
+        }
+        answer => Ok((Read::Passed(answer), false)),
+    }
+}
+
+// Takes a TC that breaks no rule.
+fn process_tc<B: Bases>(
+    alloc: Global,
+    nhdp: &Nhdp<B>,
+    topology: &mut Topology<B>,
+    flood: &mut Flood<B>,
+    arrival: Arrival,
+    own: Addr4,
+    tc: &Tc,
+    heading: &Heading,
+    octets: &[u8],
+    out: &mut Outbox,
+) -> Result<Fate, AllocError>
+    requires now { arrival.now < 2 ^ 62 }
+    requires iface { arrival.iface < length flood.old.noted.received }
+    requires times { flood.old.times ≡ nhdp.now.settings.times }
+    requires message { (message : MessageFields) × SpellsMessage message octets.now × IsHeading message heading.now }
+    requires validity { tc.now.validity < 2 ^ 62 }
+    requires hosts { HasHosts tc.now }
+    ensures taken { IfOk result (λ fate. (sent : List Frame) × (out.new ≡ out.old ++ sent) × ProcessesTc nhdp.now.settings own arrival
+        (record { neighbourhood = nhdp.now.near; topology = topology.old; noted = flood.old.noted }) tc.now heading.now octets.now
+        (record { neighbourhood = nhdp.now.near; topology = topology.new; noted = flood.new.noted }) sent fate) }
+    ensures times { flood.new.times ≡ flood.old.times }
+{
+    let count = nhdp.settings().interfaces.len();
+    let verdict = judge(nhdp, flood, arrival, own, heading);
+    let (read, processed) = read_tc(topology, arrival.now, tc, verdict.process)?;
+    pass_on(
+        alloc, flood, count, arrival, heading, octets, &verdict, processed, out,
+    )?;
+    Ok(Fate {
+        read,
+        forward: verdict.forward,
+    })
+}
+
+impl<B: Bases> Holding<B> {
+    // Takes a HELLO.
+    fn take_hello(
+        &mut self,
+        alloc: Global,
+        arrival: Arrival,
+        message: &Message,
+    ) -> Result<Fate, AllocError>
+        requires kind { message.now.kind ≡ 0 }
+        requires now { arrival.now < 2 ^ 62 }
+        requires iface { arrival.iface < length self.old.settings.interfaces }
+        requires sound { SoundBases self.old.settings arrival.now self.old.bases }
+        ensures taken { IfOk result (λ fate. (own : Addr4) (octets : List ℕ) → TakesMessage self.old.settings own arrival self.old.bases (fields_of_message message.now) octets self.new.bases [] fate) }
+        ensures settings { self.new.settings ≡ self.old.settings }
+    {
+        match hello_of(alloc, message) {
+            Ok(hello) => {
+                let taken = self
+                    .nhdp
+                    .take_hello(arrival.now, arrival.iface, arrival.sender, &hello)?;
+                Ok(Fate {
+                    read: hello_read(taken),
+                    forward: Forward::NotFlooded,
+                })
+            }
+            Err(fault) => broken_fate(fault),
+        }
+    }
+
+    // Takes a TC.
+    fn take_tc(
+        &mut self,
+        alloc: Global,
+        arrival: Arrival,
+        own: Addr4,
+        message: &Message,
+        octets: &[u8],
+        out: &mut Outbox,
+    ) -> Result<Fate, AllocError>
+        requires kind { message.now.kind ≡ 1 }
+        requires now { arrival.now < 2 ^ 62 }
+        requires iface { arrival.iface < length self.old.bases.noted.received }
+        requires spelled { SpellsMessage (fields_of_message message.now) octets.now }
+        ensures taken { IfOk result (λ fate. (sent : List Frame) × (out.new ≡ out.old ++ sent) × TakesMessage self.old.settings own arrival self.old.bases (fields_of_message message.now) octets.now self.new.bases sent fate) }
+        ensures settings { self.new.settings ≡ self.old.settings }
+    {
+        match tc_of(alloc, message) {
+            Ok(tc) => {
+                let heading = heading_of_tc(message, &tc);
+                process_tc(
+                    alloc,
+                    &self.nhdp,
+                    &mut self.topology,
+                    &mut self.flood,
+                    arrival,
+                    own,
+                    &tc,
+                    &heading,
+                    octets,
+                    out,
+                )
+            }
+            Err(fault) => broken_fate(fault),
+        }
+    }
+
+    // Takes a message of another type.
+    fn take_other(
+        &mut self,
+        alloc: Global,
+        arrival: Arrival,
+        own: Addr4,
+        message: &Message,
+        octets: &[u8],
+        out: &mut Outbox,
+    ) -> Result<Fate, AllocError>
+        requires no_hello { message.now.kind ≢ 0 }
+        requires no_tc { message.now.kind ≢ 1 }
+        requires now { arrival.now < 2 ^ 62 }
+        requires iface { arrival.iface < length self.old.bases.noted.received }
+        requires spelled { SpellsMessage (fields_of_message message.now) octets.now }
+        ensures taken { IfOk result (λ fate. (sent : List Frame) × (out.new ≡ out.old ++ sent) × TakesMessage self.old.settings own arrival self.old.bases (fields_of_message message.now) octets.now self.new.bases sent fate) }
+        ensures settings { self.new.settings ≡ self.old.settings }
+    {
+        let Some(heading) = heading_of(message) else {
+            return Ok(Fate {
+                read: Read::Other,
+                forward: Forward::NotFlooded,
+            });
+        };
+        let count = self.nhdp.settings().interfaces.len();
+        let verdict = judge(&self.nhdp, &self.flood, arrival, own, &heading);
+        pass_on(
+            alloc,
+            &mut self.flood,
+            count,
+            arrival,
+            &heading,
+            octets,
+            &verdict,
+            false,
+            out,
+        )?;
+        Ok(Fate {
+            read: other_read(verdict.process),
+            forward: verdict.forward,
+        })
+    }
+
+    // Takes a message.
+    fn take_message(
+        &mut self,
+        alloc: Global,
+        arrival: Arrival,
+        own: Addr4,
+        message: &Message,
+        octets: &[u8],
+        out: &mut Outbox,
+    ) -> Result<Fate, AllocError>
+        requires now { arrival.now < 2 ^ 62 }
+        requires iface { arrival.iface < length self.old.settings.interfaces }
+        requires sound { SoundBases self.old.settings arrival.now self.old.bases }
+        requires spelled { SpellsMessage (fields_of_message message.now) octets.now }
+        ensures taken { IfOk result (λ fate. (sent : List Frame) × (out.new ≡ out.old ++ sent) × TakesMessage self.old.settings own arrival self.old.bases (fields_of_message message.now) octets.now self.new.bases sent fate) }
+        ensures settings { self.new.settings ≡ self.old.settings }
+    {
+        match message.kind {
+            0 => self.take_hello(alloc, arrival, message),
+            1 => self.take_tc(alloc, arrival, own, message, octets, out),
+            _ => self.take_other(alloc, arrival, own, message, octets, out),
+        }
+    }
+
+    /// Takes the messages of a frame that is heard at a moment below 2^62 on one of the router's interfaces, in order; `own` is the
+    /// router's originator, and each message is spelled at its place in the octets. The fate of each message is put at the end of
+    /// `fates`, and what is sent at the end of `out` (RFC 7181, sections 14 to 16).
+    pub fn take_messages(
+        &mut self,
+        alloc: Global,
+        arrival: Arrival,
+        own: Addr4,
+        bytes: &[u8],
+        messages: &[Message],
+        spans: &[Span],
+        fates: &mut Seq<Fate>,
+        out: &mut Outbox,
+    ) -> Result<(), AllocError>
+        requires now { arrival.now < 2 ^ 62 }
+        requires iface { arrival.iface < length self.old.settings.interfaces }
+        requires own { IsOriginator self.old.settings own }
+        requires sound { SoundBases self.old.settings arrival.now self.old.bases }
+        requires spelled { AreSpelled bytes.now (map fields_of_message messages.now) spans.now }
+        ensures taken { OnOk result ((given : List FateValue) × (sent : List Frame) × (fates.new ≡ fates.old ++ given) × (out.new ≡ out.old ++ sent)
+            × TakesMessages self.old.settings own arrival bytes.now self.old.bases (map fields_of_message messages.now) spans.now self.new.bases sent given) }
+        ensures settings { self.new.settings ≡ self.old.settings }
+    {
+        for i in 0..messages.len() {
+            let message = &messages[i];
+            let octets = octets_of(bytes, spans[i]);
+            let fate = self.take_message(alloc, arrival, own, message, octets, out)?;
+            fates.push(fate)?;
+        }
+        Ok(())
+    }
+}
+
+// The octets of a message that stands there.
+fn octets_of(bytes: &[u8], span: Span) -> &[u8]
+    requires { span.start + span.len ≤ length bytes.now }
+    ensures { result.now ≡ octets_at bytes.now span }
+{
+    &bytes[span.start..span.start + span.len]
+}

@@ -1,0 +1,27 @@
+-- What follows from the bases of a router, and the states that have it.
+use Rattle.std.specs.Prelude.{◌≡◌, ℕ}
+use Rattle.mesh_atoms.specs.declared.settings.RouterSettings.{RouterSettings}
+use Rattle.mesh_atoms.specs.State.{Neighbourhood, Topology, State}
+use Rattle.mesh_machine.specs.Renewal.{Renews}
+use Rattle.mesh_renewal.specs.declared.derived.Derived.{Derived}
+
+-- the state has these relays, routes and advertised rows, their ANSN, and these moments
+pub record HasDerived (s : State) (derived : Derived) : Type 0 where
+  pub relays : s.relays ≡ derived.relays
+  pub routes : s.routes ≡ derived.routes
+  pub rows : s.rows ≡ derived.rows
+  pub ansn : s.ansn ≡ derived.ansn
+  pub emptied : s.emptied ≡ derived.emptied
+  pub last : s.last ≡ derived.last
+
+-- the state has this number of the next TC, and these moments of the next HELLO and TC
+pub record HasNext (s : State) (derived : Derived) : Type 0 where
+  pub sequence : s.sequence ≡ derived.sequence
+  pub next_hello : s.next_hello ≡ derived.next_hello
+  pub next_tc : s.next_tc ≡ derived.next_tc
+
+-- an event that begins with `old` and leaves this neighbourhood and this topology ends in each state that has `new`
+abbrev pub RenewsTo : RouterSettings → Neighbourhood → Topology → Derived → ℕ → Derived → Type 0
+RenewsTo settings near topology old now new =
+    (before s : State) → before.settings ≡ settings → before.rows ≡ old.rows → before.ansn ≡ old.ansn → before.emptied ≡ old.emptied →
+    s.settings ≡ settings → s.bases.neighbourhood ≡ near → s.bases.topology ≡ topology → HasDerived s new → Renews before now s.bases s
