@@ -14,8 +14,8 @@ use Rattle.mesh_radio.specs.Run.{IsOpeningNet, states_of}
 use Rattle.mesh_radio.specs.declared.scene.Scene.{Scene}
 use Rattle.mesh_radio.specs.Opening.{AreOpeningUpTo, AreOpening}
 use Rattle.mesh_radio.specs.Scene.{IsSound, IsFlying}
-use Rattle.mesh_radio.specs.Ways.{AreWays}
-use Rattle.mesh_radio.proofs.Places.{each_more, same_at}
+use Rattle.mesh_traffic.specs.Ways.{AreWays}
+use Rattle.mesh_traffic.proofs.Places.{each_more, same_at}
 
 pub none_opening : (settings : List RouterSettings) → AreOpeningUpTo settings 0 []
 none_opening settings = record { count_is = refl; each = λ x state at. absurd (let no : None ≡ Some state = at in cc) }

@@ -8,16 +8,17 @@ use Rattle.mesh_atoms.specs.declared.settings.Scenario.{Scenario}
 use Rattle.mesh_atoms.specs.State.{State}
 use Rattle.mesh_core.specs.Holding.{CoreValue}
 use Rattle.mesh_machine.specs.Sendable.{IsPacket, IsSendable}
-use Rattle.mesh_radio.specs.declared.event.Emission.{Emission}
+use Rattle.mesh_traffic.specs.declared.emission.Emission.{Emission}
 use Rattle.mesh_radio.specs.declared.event.NetEvent.{NetEvent}
-use Rattle.mesh_radio.specs.Net.{Net, Traffic, Delivery, IsHeardFirst, TicksNext, HasOnlyLastTicks, Moves, Delivers, TicksDue, TicksLast, SendsAll, with_heard, event_of, frame_of, frames_of}
+use Rattle.mesh_radio.specs.Net.{Net, TicksNext, HasOnlyLastTicks, Moves, Delivers, TicksDue, TicksLast, event_of, frames_of}
+use Rattle.mesh_traffic.specs.Sending.{Traffic, Delivery, IsHeardFirst, SendsAll, with_heard, frame_of}
 use Rattle.mesh_radio.specs.Run.{IsOver, IsOfScenario, IsOfPackets, states_of}
 use Rattle.mesh_radio.specs.declared.scene.Scene.{Scene}
 use Rattle.mesh_radio.specs.Scene.{IsSound, AreRouters, Lands, TicksOne, Stepped, net_of}
-use Rattle.mesh_radio.specs.Traffic.{traffic_of}
+use Rattle.mesh_traffic.specs.Traffic.{traffic_of}
 use Rattle.mesh_radio.proofs.Arcs.{arc_ends}
 use Rattle.mesh_radio.proofs.Flying.{sent_lost}
-use Rattle.mesh_radio.proofs.Places.{same_at, all_turned}
+use Rattle.mesh_traffic.proofs.Places.{same_at, all_turned}
 use Rattle.mesh_radio.proofs.Soundness.{all_due}
 
 pub min_left : (a b c : ℕ) → a ≤ min b c → a ≤ b

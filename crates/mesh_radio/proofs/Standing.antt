@@ -12,7 +12,7 @@ use Rattle.mesh_machine.specs.Machine.{Event}
 use Rattle.mesh_machine.specs.Sendable.{IsSendable}
 use Rattle.mesh_radio.specs.Run.{states_of}
 use Rattle.mesh_radio.specs.Scene.{AreRouters, Stepped, IsTo}
-use Rattle.mesh_radio.proofs.Places.{stands, same_at, mapped_at, turned_at}
+use Rattle.mesh_traffic.proofs.Places.{stands, same_at, mapped_at, turned_at}
 
 pub core_at : (s : Scenario) (now : ℕ) (cores : List CoreValue) (x : ℕ) → AreRouters s now (states_of cores) → x < length cores → (core : CoreValue) × (slice_get cores x ≡ Some core) × (core.state.last ≤ now)
 core_at s now cores x h lt = let there = stands cores x lt in (there.0, there.1, h.lasts x there.0.state (mapped_at (λ c. c.state) cores x there.0 there.1))

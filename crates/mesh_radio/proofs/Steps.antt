@@ -10,7 +10,7 @@ use Rattle.mesh_machine.specs.Machine.{Event, Step, due}
 use Rattle.mesh_machine.specs.Sendable.{IsSendable}
 use Rattle.mesh_radio.specs.Run.{states_of}
 use Rattle.mesh_radio.specs.Scene.{Stepped}
-use Rattle.mesh_radio.proofs.Places.{mapped_at}
+use Rattle.mesh_traffic.proofs.Places.{mapped_at}
 
 pub stepped : (old : List CoreValue) (x now : ℕ) (event : Event) (before sent : List Frame) (here was is : CoreValue) (change : ℕ → ℕ → Type 0) →
     slice_get old x ≡ Some here → was ≡ get_or old x was → before ≡ [] → Step was.state event (sent_since before sent) is.state → All (IsSendable was.state.settings) (sent_since before sent) →

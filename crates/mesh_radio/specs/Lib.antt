@@ -1,9 +1,4 @@
-pub mod Air
-pub mod Draws
-pub mod Flights
 pub mod Net
 pub mod Opening
 pub mod Run
 pub mod Scene
-pub mod Traffic
-pub mod Ways

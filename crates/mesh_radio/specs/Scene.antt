@@ -11,10 +11,11 @@ use Rattle.mesh_machine.specs.Machine.{Event, Step, due}
 use Rattle.mesh_machine.specs.Sendable.{IsPacket, IsSendable}
 use Rattle.mesh_radio.specs.declared.event.NetEvent.{NetEvent}
 use Rattle.mesh_radio.specs.declared.scene.Scene.{Scene}
-use Rattle.mesh_radio.specs.Net.{Net, Delivery, Traffic, IsFirstDue, IsSender, SendsAll, with_heard, event_of, frames_of}
+use Rattle.mesh_radio.specs.Net.{Net, IsFirstDue, IsSender, event_of, frames_of}
+use Rattle.mesh_traffic.specs.Sending.{Delivery, Traffic, SendsAll, with_heard}
 use Rattle.mesh_radio.specs.Run.{states_of}
-use Rattle.mesh_radio.specs.Traffic.{traffic_of}
-use Rattle.mesh_radio.specs.Ways.{AreWays}
+use Rattle.mesh_traffic.specs.Traffic.{traffic_of}
+use Rattle.mesh_traffic.specs.Ways.{AreWays}
 
 -- the network that is meant
 abbrev pub net_of : List CoreValue → Scene → Net

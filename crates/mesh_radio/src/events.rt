@@ -1,20 +1,18 @@
 //! The events of a network: a frame is heard, or a router ticks.
 ghost use Rattle.std.specs.Prelude.{◌≡◌, ◌<◌, ◌≤◌, length, IfOk, OnOk};
 ghost use Rattle.mesh_atoms.specs.Settings.{one_hour};
-ghost use Rattle.mesh_radio.specs.Air.{delivery_of};
+ghost use Rattle.mesh_traffic.specs.Air.{delivery_of};
 ghost use Rattle.mesh_radio.specs.Run.{states_of};
 ghost use Rattle.mesh_radio.specs.Scene.{AreRouters, Lands, TicksOne};
-ghost use Rattle.mesh_radio.specs.Traffic.{traffic_of};
-ghost use Rattle.mesh_radio.specs.Ways.{AreWays};
+ghost use Rattle.mesh_traffic.specs.Traffic.{traffic_of};
+ghost use Rattle.mesh_traffic.specs.Ways.{AreWays};
 
-use crate::air::Landed;
 use crate::event::NetEvent;
 use crate::routers::{hear, sender_of, tick};
-use crate::traffic::{Traffic, send_all};
-use crate::ways::Ways;
 use mesh_atoms::{Bytes, Scenario, Seq};
 use mesh_core::{Core, Outbox};
 use mesh_expire::Bases;
+use mesh_traffic::{Landed, Traffic, Ways, send_all};
 use std::alloc::{AllocError, Global};
 use std::rc::Rc;
 

@@ -2,8 +2,6 @@
 //! run of the machine.
 #![tactic(auto)]
 
-mod air;
-mod draws;
 mod event;
 mod events;
 mod laws;
@@ -11,10 +9,8 @@ mod net;
 mod routers;
 mod scene;
 mod step;
-mod traffic;
-mod ways;
 
-pub use draws::words_of;
-pub use event::{Counts, Emission, NetEvent};
+pub use event::NetEvent;
 pub use laws::{machines, routers_end_together};
+pub use mesh_traffic::{Counts, Emission};
 pub use net::Net;

@@ -5,17 +5,14 @@ ghost use Rattle.mesh_radio.specs.Net.{NetStep};
 ghost use Rattle.mesh_radio.specs.Opening.{AreOpening};
 ghost use Rattle.mesh_radio.specs.Run.{IsOpeningNet, IsOver, IsOfScenario, IsOfPackets, NetRun, states_of};
 
-use crate::air::Air;
-use crate::draws::Draws;
-use crate::event::{Counts, NetEvent};
+use crate::event::NetEvent;
 use crate::routers::first_due;
 use crate::scene::Scene;
 use crate::step::next_event;
-use crate::traffic::Traffic;
-use crate::ways::ways_of;
 use mesh_atoms::{RouterSettings, Scenario, Seq};
 use mesh_core::{Core, Outbox};
 use mesh_expire::Bases;
+use mesh_traffic::{Air, Counts, Draws, Traffic, ways_of};
 use std::alloc::{AllocError, Global};
 use std::marker::Model;
 

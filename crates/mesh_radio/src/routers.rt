@@ -6,11 +6,11 @@ ghost use Rattle.mesh_radio.specs.Net.{IsFirstDue, IsSender};
 ghost use Rattle.mesh_radio.specs.Run.{states_of};
 ghost use Rattle.mesh_radio.specs.Scene.{Stepped, IsFrom};
 
-use crate::air::Landed;
 use crate::scene::Due;
 use mesh_atoms::{Addr4, RadioArc, Scenario};
 use mesh_core::{Core, Outbox};
 use mesh_expire::Bases;
+use mesh_traffic::Landed;
 use std::alloc::AllocError;
 
 /// A router hears what comes by an arc. The outbox has what it then sends.

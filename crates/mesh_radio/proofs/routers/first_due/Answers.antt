@@ -6,7 +6,7 @@ use Rattle.mesh_atoms.specs.State.{State}
 use Rattle.mesh_core.specs.Holding.{CoreValue}
 use Rattle.mesh_radio.specs.Run.{states_of}
 use Rattle.mesh_radio.proofs.FirstDue.{very_first, is_earlier, is_no_earlier, first_of_all}
-use Rattle.mesh_radio.proofs.Places.{mapped_at}
+use Rattle.mesh_traffic.proofs.Places.{mapped_at}
 use Rattle.mesh_radio.proofs.routers.first_due.Goals as goal
 use Rattle.mesh_radio.proofs.routers.first_due.Goals.{then-moment-first, else-moment-first}
 

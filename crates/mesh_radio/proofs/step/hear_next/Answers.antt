@@ -1,10 +1,10 @@
 use Rattle.std.proofs.Common.{◌≤◌, ◌∙◌}
 use Rattle.std.specs.Prelude.{min}
-use Rattle.mesh_radio.specs.Air.{delivery_of}
-use Rattle.mesh_radio.specs.Net.{with_heard}
+use Rattle.mesh_traffic.specs.Air.{delivery_of}
+use Rattle.mesh_traffic.specs.Sending.{with_heard}
 use Rattle.mesh_radio.specs.Run.{states_of}
 use Rattle.mesh_radio.specs.Scene.{IsFlying}
-use Rattle.mesh_radio.specs.Traffic.{traffic_of}
+use Rattle.mesh_traffic.specs.Traffic.{traffic_of}
 use Rattle.mesh_radio.proofs.Happenings.{left_in_air, heard, landing_of_scenario, landing_of_packets, min_left, min_right}
 use Rattle.mesh_radio.proofs.Flying.{first_and_others, others_later, still_flying, sent_flying}
 use Rattle.mesh_radio.proofs.Soundness.{same_count, later_routers, routers_after, same_first}

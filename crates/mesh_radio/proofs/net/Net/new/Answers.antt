@@ -1,7 +1,7 @@
 use Rattle.std.proofs.Common.{refl, subst, sym, length}
 use Rattle.mesh_atoms.specs.declared.settings.Scenario.{Scenario}
 use Rattle.mesh_radio.specs.Run.{states_of}
-use Rattle.mesh_radio.specs.Ways.{AreWays}
+use Rattle.mesh_traffic.specs.Ways.{AreWays}
 use Rattle.mesh_radio.proofs.Beginning.{opening_sound, opening_net}
 use Rattle.mesh_radio.proofs.net.Net.new.Goals as goal
 

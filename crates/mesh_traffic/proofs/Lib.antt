@@ -1,0 +1,5 @@
+mod Flights
+mod Leaving
+pub mod Places
+mod Sending
+mod Spreading

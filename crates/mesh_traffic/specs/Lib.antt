@@ -1,0 +1,6 @@
+pub mod Air
+pub mod Draws
+pub mod Flights
+pub mod Sending
+pub mod Traffic
+pub mod Ways
