@@ -41,6 +41,26 @@ fn joined_octets(head: &[u8], mid: &[u8], tail: &[u8]) -> [u8; 16]
     octets
 }
 
+/// Head and tail of an address, with some octets for a middle part of that size.
+fn outline(shape: &Shape, size: usize) -> [u8; 16]
+    requires { length shape.now.head.now + (size + length shape.now.tail.now) ≤ 16 }
+    ensures { (gap : List ℕ) × (length gap ≡ size) × (result ≡ padded (shape.now.head.now ++ (gap ++ shape.now.tail.now))) }
+{
+    let zeros = [0; 16];
+    joined_octets(shape.head, &zeros[..size], shape.tail)
+}
+
+/// The octets of an address whose middle part is this one, by those of one with another of that length.
+fn with_middle(blank: [u8; 16], at: usize, mid: &[u8]) -> [u8; 16]
+    requires { at + length mid.now ≤ 16 }
+    ensures { (head gap tail : List ℕ) → at ≡ length head → length gap ≡ length mid.now → blank ≡ padded (head ++ (gap ++ tail))
+        → result ≡ padded (head ++ (mid.now ++ tail)) }
+{
+    let mut octets = blank;
+    octets[at..at + mid.len()].copy_from_slice(mid);
+    octets
+}
+
 /// So many addresses: middle parts from `mids` on, and prefix lengths from `at` on.
 fn addresses(
     alloc: Global,
@@ -58,13 +78,14 @@ fn addresses(
     requires mids { mids + count * mid_of (shape_of shape.now) ≤ end }
     ensures { Gives (λ x. (x.0, x.1)) result (addrs_at count frame.now (shape_of shape.now) mids at end) }
 {
-    let mut addrs = Seq::new(alloc);
+    let mut addrs = Seq::from_vec(Vec::with_capacity(alloc, usize::from(count))?);
     let size = shape.width as usize - (shape.head.len() + shape.tail.len());
+    let blank = outline(shape, size);
     let mut mid = mids;
     let mut place = at;
     for _ in 0..count {
         let (prefix, after) = fields::own_prefix(frame, shape.prefix, place, end, shape.width)?;
-        let octets = joined_octets(shape.head, &frame[mid..mid + size], shape.tail);
+        let octets = with_middle(blank, shape.head.len(), &frame[mid..mid + size]);
         addrs.push(RawAddr { octets, prefix })?;
         mid += size;
         place = after;

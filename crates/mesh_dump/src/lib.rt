@@ -1,6 +1,7 @@
 //! The listing of lines of hexadecimal text as packets, written line by line.
 #![tactic(auto)]
 
+mod digits;
 mod laws;
 mod lines;
 mod listing;

@@ -8,7 +8,9 @@ ghost use Rattle.mesh_packet.specs.Least.{Wrote};
 ghost use Rattle.mesh_report.specs.Packets.{line_read, CanList, IsLineText};
 ghost use Rattle.mesh_dump.specs.Lines.{IsNotHex, FrameSays, IsListing, refusals};
 
+use crate::digits::octets_in;
 use hex::FromHexError;
+use memchr::memchr;
 use mesh_atoms::{Bytes, DecodeFault, refuse};
 use mesh_packet::decode;
 use mesh_report::{LineRead, put_packet_text};
@@ -35,7 +37,7 @@ fn without_return(line: &[u8]) -> &[u8]
 fn line_feed(text: &[u8]) -> Option<usize>
     ensures { result ≡ position (λ octet. octet == 10) text.now }
 {
-    text.iter().position(|octet| *octet == b'\n')
+    memchr(b'\n', text)
 }
 
 // The first line, and how many octets it takes with its line feed.
@@ -72,6 +74,9 @@ fn octets_of(alloc: Global, line: &[u8]) -> Result<Bytes, DecodeFault>
     ensures octets { IfOk result (λ octets. decode_of line.now ≡ Ok octets) }
     ensures refused { IfErr result (IfRefused (IsNotHex line.now)) }
 {
+    if let Some(octets) = octets_in(alloc, line)? {
+        return Ok(octets);
+    }
     match hex::decode(alloc, line) {
         Ok(octets) => Ok(Bytes::from_vec(octets)),
         Err(fault) => Err(fault_of(line, fault)),

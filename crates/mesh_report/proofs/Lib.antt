@@ -3,3 +3,5 @@ mod Digits
 pub mod Joined
 mod Messages
 pub mod OneListing
+mod LaidHex
+pub mod Tables

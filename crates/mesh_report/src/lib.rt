@@ -1,6 +1,7 @@
 //! The texts that the program prints.
 #![tactic(auto)]
 
+mod hexadecimal;
 mod laws;
 mod lines;
 mod packet;

@@ -118,22 +118,43 @@ pub fn put_block_line(out: &mut Bytes, block: &Block) -> Result<(), AllocError>
     put(out, line.as_slice())
 }
 
-/// Puts the line of an address of that width. What `line` holds is lost.
+// Puts the line of an address of that width behind others.
 #[tactic(auto, unfolding(crate::specs::Lines::address_line))]
+fn put_address_end(line: &mut Piece, width: u8, addr: RawAddr)
+    requires { length line.old ≤ 240 }
+    ensures { line.new ≡ line.old ++ address_line width addr }
+{
+    put_address(line, b"   address ", width, addr);
+    put_numbered(line, b"/", u64::from(addr.prefix));
+    line.put(b"\n");
+}
+
+// Puts what `line` holds behind others, where it has room for less than 80 octets.
+fn put_full(out: &mut Bytes, line: &mut Piece) -> Result<(), AllocError>
+    ensures room { OnOk result (length line.new ≤ 240) }
+    ensures ok { OnOk result (out.new ++ line.new ≡ out.old ++ line.old) }
+    ensures kept { Grows out.old out.new }
+{
+    if line.len() > 240 {
+        put(out, line.as_slice())?;
+        line.clear();
+    }
+    Ok(())
+}
+
+/// Puts the line of an address of that width behind what `line` holds, which is put behind others first where it is long.
 pub fn put_address_line(
     out: &mut Bytes,
     line: &mut Piece,
     width: u8,
     addr: RawAddr,
 ) -> Result<(), AllocError>
-    ensures ok { OnOk result (out.new ≡ out.old ++ address_line width addr) }
+    ensures ok { OnOk result (out.new ++ line.new ≡ (out.old ++ line.old) ++ address_line width addr) }
     ensures kept { Grows out.old out.new }
 {
-    line.clear();
-    put_address(line, b"   address ", width, addr);
-    put_numbered(line, b"/", u64::from(addr.prefix));
-    line.put(b"\n");
-    put(out, line.as_slice())
+    put_full(out, line)?;
+    put_address_end(line, width, addr);
+    Ok(())
 }
 
 // Puts the addresses that a TLV covers, and whether its value is in parts.

@@ -2,6 +2,7 @@
 ghost use Rattle.std.specs.Prelude.{◌≡◌, ◌++◌, ◌+◌, ◌*◌, ◌≤◌, ◌<◌, [], ◌∷◌, length, decimal};
 ghost use Rattle.hex.specs.Hex.{encode_lower};
 
+use crate::hexadecimal::lay_hex;
 use std::marker::Model;
 
 /// A text of at most 320 octets. Contracts see it as the list.
@@ -39,6 +40,13 @@ impl Piece {
         &self.octets[..self.len]
     }
 
+    /// How many octets there are.
+    pub(crate) fn len(&self) -> usize
+        ensures { result ≡ length self.now }
+    {
+        self.len
+    }
+
     /// Takes all octets out.
     pub(crate) fn clear(&mut self)
         ensures { self.new ≡ [] }
@@ -64,8 +72,7 @@ impl Piece {
         ensures len { length self.new ≡ length self.old + 2 * length octets.now }
     {
         let end = self.len + 2 * octets.len();
-        // It can't fail: the place has two digits for each octet.
-        let _ = hex::encode_to_slice(octets, &mut self.octets[self.len..end]);
+        lay_hex(octets, &mut self.octets[self.len..end]);
         self.len = end;
     }
 
@@ -90,6 +97,17 @@ impl Piece {
         self.push(b'0' + (number % 10) as u8);
     }
 
+    // Puts a number of two digits.
+    fn put_two(&mut self, number: u8)
+        requires room { length self.old + 2 ≤ 320 }
+        requires least { 10 ≤ number }
+        requires most { number < 100 }
+        ensures { self.new ≡ self.old ++ decimal number }
+    {
+        self.push(b'0' + number / 10);
+        self.push(b'0' + number % 10);
+    }
+
     /// Puts a number in decimal digits.
     #[tactic(auto, using(crate::proofs::Decimals::decimals))]
     pub(crate) fn put_number(&mut self, number: u64)
@@ -97,6 +115,12 @@ impl Piece {
         ensures text { self.new ≡ self.old ++ decimal number }
         ensures len { length self.new ≤ length self.old + 20 }
     {
-        self.put_digits(number);
+        if number < 10 {
+            self.push(b'0' + number as u8);
+        } else if number < 100 {
+            self.put_two(number as u8);
+        } else {
+            self.put_digits(number);
+        }
     }
 }

@@ -1,7 +1,11 @@
 use Rattle.std.proofs.Common.{◌≡◌, ◌++◌, take}
 use Rattle.std.specs.List.{flat_map}
+use Rattle.mesh_tlv.specs.Least.{Grows}
 use Rattle.mesh_report.specs.Lines.{address_line}
 use Rattle.mesh_report.proofs.packet.put_each_address.Given as goal
 
 abbrev pub invariant-loop-addr : goal.invariant-loop-addr
-invariant-loop-addr l = record { wrote : l.out ≡ l.initial.out ++ flat_map (address_line l.width) (take l.addr-index l.addrs) }
+invariant-loop-addr l = record {
+  wrote : l.out ++ l.line ≡ (l.initial.out ++ l.initial.line) ++ flat_map (address_line l.width) (take l.addr-index l.addrs);
+  kept : Grows l.initial.out l.out;
+}

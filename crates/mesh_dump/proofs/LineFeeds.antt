@@ -1,0 +1,31 @@
+-- The first place of an octet that passes a test.
+use Rattle.std.proofs.Common.{◌≡◌, ℕ, zero, suc, ◌+◌, ◌<◌, inl, inr, List, [], ◌∷◌, length, refl, sym, ap, ◌∙◌, arith, Option, Some, None}
+use Rattle.std.specs.Prelude.{Bool, true, slice_index, position}
+use Rattle.std.specs.List.{position_from}
+use Rattle.std.proofs.lemmas.Bool.{cases_Bool}
+use Rattle.std.proofs.lemmas.Iterator.Adapters.{position_from-zero}
+use Rattle.memchr.specs.Find.{IsFirstByte}
+
+from_none : (test : ℕ → Bool) (at : ℕ) (xs : List ℕ) → ((k : ℕ) → k < length xs → test (slice_index xs k) ≡ true → ⊥) → position_from test at xs ≡ None
+from_none test at [] wrong = refl
+from_none test at (x ∷ xs) wrong = elim (cases_Bool (test x)) [
+  | inl right ↦ absurd (wrong 0 (omega arith) right)
+  | inr other ↦ rw other (from_none test (at + 1) xs (λ k lt is. wrong (suc k) (omega (arith, lt)) is))
+]
+
+from_some : (test : ℕ → Bool) (at : ℕ) (xs : List ℕ) (k : ℕ) → k < length xs → test (slice_index xs k) ≡ true → ((j : ℕ) → j < k → test (slice_index xs j) ≡ true → ⊥) → position_from test at xs ≡ Some (at + k)
+from_some test at [] k lt right wrong = absurd (omega (arith, lt))
+from_some test at (x ∷ xs) zero lt right wrong = let same : at + 0 ≡ at = omega arith in rw (right, same) refl
+from_some test at (x ∷ xs) (suc k) lt right wrong = elim (cases_Bool (test x)) [
+  | inl here ↦ absurd (wrong 0 (omega arith) here)
+  | inr other ↦
+      let same : (at + 1) + k ≡ at + suc k = omega arith in
+      rw other (from_some test (at + 1) xs k (omega (arith, lt)) right (λ j less is. wrong (suc j) (omega (arith, less)) is) ∙ ap Some same)
+]
+
+-- what a search of octets finds is that place
+pub first_passing : (test : ℕ → Bool) (xs : List ℕ) (r : Option ℕ) → IsFirstByte test xs r → r ≡ position test xs
+first_passing test xs None h = sym (position_from-zero test xs ∙ from_none test 0 xs (λ k lt is. h k (omega arith) lt is))
+first_passing test xs (Some k) h =
+    let same : 0 + k ≡ k = omega arith in
+    sym (position_from-zero test xs ∙ from_some test 0 xs k h.0.high h.1 (λ j less is. h.0.before j (omega arith) less is) ∙ ap Some same)

@@ -1,0 +1,69 @@
+-- Octets laid in hexadecimal digits, one by one.
+use Rattle.std.proofs.Common.{◌≡◌, ℕ, suc, ◌+◌, ◌*◌, ◌/◌, ◌%◌, ◌<◌, inl, inr, List, [], ◌∷◌, length, refl, sym, ap, subst, ◌∙◌, arith}
+use Rattle.std.specs.Prelude.{Bool, true, ◌&&◌, nat_eq, slice_index, slice_set}
+use Rattle.std.proofs.lemmas.Bool.{cases_eq, eqb-true}
+use Rattle.std.proofs.lemmas.List.{get_or-set_same, get_or-set_other, length-set}
+use Rattle.hex.specs.Hex.{lower_digits, encode_with}
+use Rattle.mesh_report.specs.declared.hexadecimal.TheConstants.{DIGITS}
+use Rattle.mesh_report.proofs.Tables.{all_below, both, below}
+
+digit : ℕ → ℕ
+digit n = slice_index lower_digits n
+
+is_pair : ℕ → Bool
+is_pair x = nat_eq (slice_index DIGITS x % 256) (digit (x / 16)) && nat_eq (slice_index DIGITS x / 256) (digit (x % 16))
+
+all_pairs : all_below is_pair 256 ≡ true
+unfolding is_pair digit
+all_pairs = refl
+
+pub first_is : (x : ℕ) → x < 256 → slice_index DIGITS x % 256 ≡ slice_index lower_digits (x / 16)
+unfolding is_pair digit
+first_is x fits = eqb-true _ _ (both _ _ (below is_pair 256 all_pairs x fits)).0
+
+pub second_is : (x : ℕ) → x < 256 → slice_index DIGITS x / 256 ≡ slice_index lower_digits (x % 16)
+unfolding is_pair digit
+second_is x fits = eqb-true _ _ (both _ _ (below is_pair 256 all_pairs x fits)).1
+
+-- the digits of an octet stand at two places
+abbrev pub HasDigits : ℕ → ℕ → ℕ → Type 0
+HasDigits octet first second = (first ≡ slice_index lower_digits (octet / 16)) × (second ≡ slice_index lower_digits (octet % 16))
+
+-- so do those of the octets before a place
+abbrev pub AreDigits : List ℕ → List ℕ → ℕ → Type 0
+AreDigits octets text end = (k : ℕ) → k < end → HasDigits (slice_index octets k) (slice_index text (2 * k)) (slice_index text (2 * k + 1))
+
+pub one_more : (octets text : List ℕ) (i a b : ℕ) → 2 * i + 1 < length text → AreDigits octets text i → HasDigits (slice_index octets i) a b → AreDigits octets (slice_set (slice_set text (2 * i) a) (2 * i + 1) b) (i + 1)
+one_more octets text i a b room before is k lt =
+    let one : List ℕ = slice_set text (2 * i) a in
+    let two : List ℕ = slice_set one (2 * i + 1) b in
+    let size : length one ≡ length text = length-set text (2 * i) a in
+    elim (cases_eq k i) [
+      | inl same ↦
+          let first : slice_index two (2 * i) ≡ a = get_or-set_other one (2 * i + 1) (2 * i) b 0 (λ e. omega (arith, e)) ∙ get_or-set_same text (2 * i) a 0 (omega (arith, room)) in
+          let second : slice_index two (2 * i + 1) ≡ b = get_or-set_same one (2 * i + 1) b 0 (omega (arith, room, size)) in
+          subst (λ (n : ℕ). HasDigits (slice_index octets n) (slice_index two (2 * n)) (slice_index two (2 * n + 1))) (sym same) (first ∙ is.0, second ∙ is.1)
+      | inr other ↦
+          let p = before k (omega (arith, lt, other)) in
+          let first : slice_index two (2 * k) ≡ slice_index text (2 * k) = get_or-set_other one (2 * i + 1) (2 * k) b 0 (λ e. omega (arith, e)) ∙ get_or-set_other text (2 * i) (2 * k) a 0 (λ e. other (omega (arith, e))) in
+          let second : slice_index two (2 * k + 1) ≡ slice_index text (2 * k + 1) = get_or-set_other one (2 * i + 1) (2 * k + 1) b 0 (λ e. other (omega (arith, e))) ∙ get_or-set_other text (2 * i) (2 * k + 1) a 0 (λ e. omega (arith, e)) in
+          (first ∙ p.0, second ∙ p.1)
+    ]
+
+pub digits_all : (octets text : List ℕ) → length text ≡ 2 * length octets → AreDigits octets text (length octets) → text ≡ encode_with lower_digits octets
+unfolding encode_with
+digits_all [] [] size are = refl
+digits_all [] (c ∷ text) size are = absurd (omega (arith, size))
+digits_all (o ∷ octets) [] size are = absurd (omega (arith, size))
+digits_all (o ∷ octets) (c ∷ []) size are = absurd (omega (arith, size))
+digits_all (o ∷ octets) (c ∷ d ∷ text) size are =
+    let p = are 0 (omega arith) in
+    let first : c ≡ slice_index lower_digits (o / 16) = p.0 in
+    let second : d ≡ slice_index lower_digits (o % 16) = p.1 in
+    let rest : AreDigits octets text (length octets) = λ k lt.
+    let one : 2 * suc k ≡ suc (suc (2 * k)) = omega arith in
+    let two : 2 * suc k + 1 ≡ suc (suc (2 * k + 1)) = omega arith in
+    subst (λ (n : ℕ). HasDigits (slice_index octets k) (slice_index text (2 * k)) (slice_index (c ∷ d ∷ text) n)) two
+    (subst (λ (n : ℕ). HasDigits (slice_index octets k) (slice_index (c ∷ d ∷ text) n) (slice_index (c ∷ d ∷ text) (2 * suc k + 1))) one (are (suc k) (omega (arith, lt)))) in
+    ap (λ (n : ℕ). n ∷ d ∷ text) first ∙ ap (λ (n : ℕ). slice_index lower_digits (o / 16) ∷ n ∷ text) second
+    ∙ ap (λ (l : List ℕ). slice_index lower_digits (o / 16) ∷ slice_index lower_digits (o % 16) ∷ l) (digits_all octets text (omega (arith, size)) rest)

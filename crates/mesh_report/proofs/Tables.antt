@@ -1,0 +1,20 @@
+-- Tables whose entries pass a test.
+use Rattle.std.proofs.Common.{◌≡◌, ℕ, zero, suc, ◌<◌, inl, inr, refl, sym, subst, arith}
+use Rattle.std.specs.Prelude.{Bool, true, false, ◌&&◌}
+use Rattle.std.proofs.lemmas.Bool.{cases_lt}
+
+abbrev pub all_below : (ℕ → Bool) → ℕ → Bool
+all_below p zero = true
+all_below p (suc n) = p n && all_below p n
+
+pub both : (a b : Bool) → (a && b) ≡ true → (a ≡ true) × (b ≡ true)
+both true true e = (refl, refl)
+both true false e = cc
+both false b e = cc
+
+pub below : (p : ℕ → Bool) (n : ℕ) → all_below p n ≡ true → (x : ℕ) → x < n → p x ≡ true
+below p zero all x lt = absurd (omega (arith, lt))
+below p (suc n) all x lt = elim (cases_lt x n) [
+  | inl less ↦ below p n (both (p n) (all_below p n) all).1 x less
+  | inr ge ↦ let same : x ≡ n = omega (arith, lt, ge) in subst (λ (k : ℕ). p k ≡ true) (sym same) (both (p n) (all_below p n) all).0
+]
