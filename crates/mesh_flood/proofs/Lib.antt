@@ -1,2 +1,3 @@
+mod Choices
 pub mod Room
 pub mod Soundness

@@ -1,12 +1,13 @@
 //! All sets of a router.
-ghost use Rattle.std.specs.Prelude.{◌≡◌, ◌≢◌, ◌<◌, ◌≤◌, ◌^◌, ℕ, Bool, Option, [], length, IfOk, OnOk, IsTrue};
+ghost use Rattle.std.specs.Prelude.{◌≡◌, ◌≢◌, ◌<◌, ◌≤◌, ◌^◌, ◌↔◌, ◌⊎◌, ℕ, Bool, Option, [], length, IfOk, OnOk, IsTrue};
 ghost use Rattle.mesh_atoms.specs.declared.addr.Addr4.{Addr4};
 ghost use Rattle.mesh_atoms.specs.Base.{base_of, Expires, HasDistinctKeys, flood_eq};
 ghost use Rattle.mesh_atoms.specs.declared.settings.RouterSettings.{RouterSettings};
 ghost use Rattle.mesh_atoms.specs.Live.{LiveNoted};
 ghost use Rattle.mesh_atoms.specs.Sound.{SoundNoted};
-ghost use Rattle.mesh_flood.specs.Verdict.{process_of, forward_of, forward_by};
+ghost use Rattle.mesh_flood.specs.Verdict.{process_of, forward_of, forward_by, is_full, key_of};
 ghost use Rattle.mesh_flood.specs.Noting.{AfterNote, AreWithin};
+ghost use Rattle.mesh_flood.specs.Standing.{HasKey, HasNoted, HasFullSet};
 
 use crate::set::FloodSet;
 use crate::verdict::{Forward, Heading, Process, Verdict};
@@ -66,6 +67,24 @@ impl<B: Bases> Flood<B> {
             process: process(&self.processed, own, heading),
             forward: forward(&self.received[iface], &self.forwarded, own, heading, link),
         }
+    }
+
+    /// Whether a received tuple of some interface, a processed or a forwarded tuple has the message's type, originator and
+    /// sequence number, also one that is expired. Takes no memory.
+    pub fn stands(&self, heading: &Heading) -> bool
+        ensures { IsTrue result ↔ HasNoted self.now.noted (key_of heading.now) }
+    {
+        let key = heading.key();
+        let received = has_one(&self.received, &key);
+        any_of(received, self.processed.has(&key), self.forwarded.has(&key))
+    }
+
+    /// Whether the received set of some interface, the processed or the forwarded set has 16,384 tuples. Takes no memory.
+    pub fn full(&self) -> bool
+        ensures { IsTrue result ↔ HasFullSet self.now.noted }
+    {
+        let received = has_full(&self.received);
+        any_of(received, self.processed.is_full(), self.forwarded.is_full())
     }
 
     /// Makes the tuples of a message on which that verdict was given: until now plus the hold time of the set. `processed`
@@ -131,6 +150,37 @@ fn empty_sets<T: Table<FloodKey, Noted>>(
         sets.push(FloodSet::new(alloc)?)?;
     }
     Ok(sets)
+}
+
+// Whether one of these is true.
+fn any_of(first: bool, second: bool, third: bool) -> bool
+    ensures { IsTrue result ↔ (IsTrue first ⊎ (IsTrue second ⊎ IsTrue third)) }
+{
+    first || second || third
+}
+
+// Whether some set has a tuple of the key.
+fn has_one<T: Table<FloodKey, Noted>>(sets: &[FloodSet<T>], key: &FloodKey) -> bool
+    ensures { IsTrue result ↔ ((i : ℕ) × HasKey (base_of sets.now i) key.now) }
+{
+    for set in sets {
+        if set.has(key) {
+            return true;
+        }
+    }
+    false
+}
+
+// Whether some set has 16,384 tuples.
+fn has_full<T: Table<FloodKey, Noted>>(sets: &[FloodSet<T>]) -> bool
+    ensures { IsTrue result ↔ ((i : ℕ) × IsTrue (is_full (base_of sets.now i))) }
+{
+    for set in sets {
+        if set.is_full() {
+            return true;
+        }
+    }
+    false
 }
 
 // Takes out what is expired in each set.

@@ -1,8 +1,9 @@
 //! One set of messages seen before.
-ghost use Rattle.std.specs.Prelude.{◌≡◌, ◌≤◌, ◌<◌, [], length, option_map, IfOk, OnOk, IsTrue, false};
+ghost use Rattle.std.specs.Prelude.{◌≡◌, ◌≤◌, ◌<◌, ◌↔◌, [], length, option_map, IfOk, OnOk, IsTrue, false};
 ghost use Rattle.mesh_atoms.specs.Base.{HasDistinctKeys, Expires, find, flood_eq};
 ghost use Rattle.mesh_flood.specs.Verdict.{is_full};
 ghost use Rattle.mesh_flood.specs.Noting.{Notes};
+ghost use Rattle.mesh_flood.specs.Standing.{HasKey};
 
 use mesh_atoms::{FloodKey, Noted};
 use mesh_expire::Table;
@@ -41,6 +42,16 @@ impl<T: Table<FloodKey, Noted>> FloodSet<T> {
         match self.table.get(key) {
             Some((_, until)) => Some(until),
             None => None,
+        }
+    }
+
+    /// Whether there is a tuple with that key.
+    pub fn has(&self, key: &FloodKey) -> bool
+        ensures { IsTrue result ↔ HasKey self.now key.now }
+    {
+        match self.table.get(key) {
+            Some(_) => true,
+            None => false,
         }
     }
 

@@ -33,11 +33,11 @@ has_cases w q ws h = elim (or_cases (nat_eq q w) (has ws q) h) [
   | inr e ↦ inr e
 ]
 
-none_distinct : IsDistinct nat_eq []
+pub none_distinct : IsDistinct nat_eq []
 unfolding IsDistinct
 none_distinct = tt
 
-none_equal : (w : ℕ) (ws : List ℕ) → has ws w ≡ false → AllByRecursion (λ y. nat_eq w y ≡ false) ws
+pub none_equal : (w : ℕ) (ws : List ℕ) → has ws w ≡ false → AllByRecursion (λ y. nat_eq w y ≡ false) ws
 none_equal w [] h = tt
 none_equal w (x ∷ ws) h = let (e, rest) = neither_of (nat_eq w x) (has ws w) h in (e, none_equal w ws rest)
 

@@ -102,7 +102,7 @@ module _ (n : Net) where
         ],
       )
 
-pairs : (fs : List Going) → Apart fs → AllPairs IsApart fs
+pub pairs : (fs : List Going) → Apart fs → AllPairs IsApart fs
 pairs [] None_there = λ i j d l m. absurd (omega arith)
 pairs (f ∷ fs) (Then first rest) = λ i j d l m. at_places f fs first (pairs fs rest) i j d l m
   where

@@ -1,7 +1,6 @@
 -- In a settled network the flooding relays cover: who hears a router has a relay of it beside each of its own neighbours.
 use Rattle.std.proofs.Common.{◌≡◌, ℕ, zero, suc, ◌+◌, ◌≤◌, ◌<◌, ◌⊎◌, inl, inr, refl, sym, ◌∙◌, ap, subst, arith, List, [], ◌∷◌, Contains, Some, None, Option, slice_get, length}
-use Rattle.std.specs.Prelude.{Bool, true, false, cond, nat_eq, ◌&&◌}
-use Rattle.std.proofs.lemmas.Bool.{eq-eqb}
+use Rattle.std.specs.Prelude.{Bool, true}
 use Rattle.std.proofs.lemmas.Option.{slice_get_cases, slice_get_within}
 use Rattle.mesh_atoms.specs.declared.addr.Addr4.{Addr4}
 use Rattle.mesh_atoms.specs.declared.metric.Metric.{Metric}
@@ -14,7 +13,6 @@ use Rattle.mesh_atoms.specs.declared.graphs.Near.{Near}
 use Rattle.mesh_atoms.specs.declared.graphs.Direct.{Direct}
 use Rattle.mesh_atoms.specs.declared.graphs.Far.{Far}
 use Rattle.mesh_atoms.specs.declared.graphs.NeighbourGraph.{NeighbourGraph}
-use Rattle.mesh_atoms.specs.declared.settings.RadioArc.{RadioArc}
 use Rattle.mesh_atoms.specs.declared.settings.RouterSettings.{RouterSettings}
 use Rattle.mesh_atoms.specs.declared.settings.Scenario.{Scenario}
 use Rattle.mesh_atoms.specs.Base.{Base, HasDistinctKeys, base_of, link_eq}
@@ -24,52 +22,22 @@ use Rattle.mesh_atoms.specs.Radio.{Joins, Adjacent, Router, AddressOf}
 use Rattle.mesh_atoms.specs.RelayGraphs.{IsFloodingGraph, IsMetricOver, AreRelays}
 use Rattle.mesh_atoms.specs.Relays.{Offers, IsWilling}
 use Rattle.mesh_atoms.specs.Settled.{At, IsTwoHopBy, IsLinkTo}
-use Rattle.mesh_atoms.specs.State.{State, Is_symmetric, state_of, is_symmetric, HasLink, HasTwoHop, HasSymmetric, HasSymmetricWith, HasAddressOn}
+use Rattle.mesh_atoms.specs.declared.tuples.LinkState.TheVariants.{Symmetric as Is_symmetric}
+use Rattle.mesh_atoms.specs.State.{State, state_of, is_symmetric, HasLink, HasTwoHop, HasSymmetric, HasSymmetricWith, HasAddressOn}
 use Rattle.mesh_atoms.proofs.Lookups.{tests_symmetric, looks_up_links}
 use Rattle.mesh_links.specs.Links.{SelectorOf, Linked, Unlinked, IsSymmetricWith}
 use Rattle.mesh_paths.specs.SettledRoutes.{IsSettledNetwork}
+use Rattle.mesh_paths.proofs.Admitted.{joins_back}
 use Rattle.mesh_paths.proofs.SettledNeighbours.{owner, same_state, same_settings, address_in, has_address, state_there, apart, known_address, known_originator, known_by, Known, neighbouring, has_with, shown_near, shows_neighbour}
 use Rattle.mesh_paths.proofs.SettledDecisions.{Contains_at, any_or_none, same_address}
 use Rattle.mesh_probe.proofs.Wave.{IsCovering, IsSelected}
-use Rattle.mesh_probe.specs.Flood.{leads_from, hearers_of, IsSender}
+use Rattle.mesh_probe.specs.Flood.{hearers_of, IsSender}
 use Rattle.mesh_probe.specs.Laws.{AllWillFlood}
 use Rattle.mesh_probe.proofs.Seen.{faces_in, HoldsFlag, AreJoined, net_of}
 use Rattle.std.proofs.lemmas.Bool.{cases_Bool}
 use Rattle.mesh_paths.proofs.SearchLaw.{in_tail, head_or_tail}
 use Rattle.mesh_probe.proofs.Covers.{not_both}
-
--- Hearers
-
-and_true : (b c : Bool) → b ≡ true → c ≡ true → (b && c) ≡ true
-and_true true c e f = f
-and_true false c e f = absurd (cc)
-
-hearer : (arcs : List RadioArc) (x i : ℕ) (arc : RadioArc) → Contains arcs arc → arc.from ≡ x → arc.from_iface ≡ i → Contains (hearers_of arcs x i) (arc.to, arc.to_iface)
-hearer [] x i arc c from at = absurd (omega (arith, c.1))
-hearer (first ∷ arcs) x i arc c from at = elim (head_or_tail first arcs arc c) [
-  | inl same ↦
-      let e : nat_eq first.from x ≡ true = eq-eqb first.from x (ap (λ (a : RadioArc). a.from) same ∙ from) in
-      let f : nat_eq first.from_iface i ≡ true = eq-eqb first.from_iface i (ap (λ (a : RadioArc). a.from_iface) same ∙ at) in
-      let g : leads_from first x i ≡ true = and_true (nat_eq first.from x) (nat_eq first.from_iface i) e f in
-      subst (λ (b : Bool). Contains (cond b ((first.to, first.to_iface) ∷ hearers_of arcs x i) (hearers_of arcs x i)) (arc.to, arc.to_iface)) (sym g)
-      (subst (λ (a : RadioArc). Contains ((first.to, first.to_iface) ∷ hearers_of arcs x i) (a.to, a.to_iface)) same (0, omega arith, refl))
-  | inr later ↦ further (leads_from first x i) (first.to, first.to_iface) (hearers_of arcs x i) (arc.to, arc.to_iface) (hearer arcs x i arc later from at)
-]
-  where
-    further : (b : Bool) (p : ℕ × ℕ) (ps : List (ℕ × ℕ)) (q : ℕ × ℕ) → Contains ps q → Contains (cond b (p ∷ ps) ps) q
-    further true p ps q c = in_tail p ps q c
-    further false p ps q c = c
-
-hearer_of : (arcs : List RadioArc) (x i w j : ℕ) → Contains (hearers_of arcs x i) (w, j) → (arc : RadioArc) × Contains arcs arc × (arc.to ≡ w)
-hearer_of [] x i w j c = absurd (omega (arith, c.1))
-hearer_of (first ∷ arcs) x i w j c = elim (which (leads_from first x i) (first.to, first.to_iface) (hearers_of arcs x i) (w, j) c) [
-  | inl same ↦ (first, (0, omega arith, refl), ap (λ (p : ℕ × ℕ). p.0) same)
-  | inr later ↦ let (arc, stands, to) = hearer_of arcs x i w j later in (arc, in_tail first arcs arc stands, to)
-]
-  where
-    which : (b : Bool) (p : ℕ × ℕ) (ps : List (ℕ × ℕ)) (q : ℕ × ℕ) → Contains (cond b (p ∷ ps) ps) q → (p ≡ q) ⊎ Contains ps q
-    which true p ps q c = head_or_tail p ps q c
-    which false p ps q c = inr c
+use Rattle.mesh_probe.proofs.Hearers.{hearer, hearer_of}
 
 -- The least of what has a property
 
@@ -141,7 +109,7 @@ unlinked_of _ (Unlinked none) e = none
 
 module _ (s : Scenario) (states : List State) (now : ℕ) (S : IsSettledNetwork s states now) (willing : AllWillFlood s) where
   joined_back : {x i w j : ℕ} → AreJoined s x i w j → AreJoined s w j x i
-  joined_back (there, home, joins) = (home, there, record { out = joins.home; home = joins.out })
+  joined_back (there, home, joins) = (home, there, joins_back joins)
 
   near_by : {x i w j : ℕ} → AreJoined s x i w j → Adjacent s x w
   near_by {i = i} {j = j} (there, home, joins) = (i, j, there, home, joins)
@@ -178,13 +146,13 @@ module _ (s : Scenario) (states : List State) (now : ℕ) (S : IsSettledNetwork 
   linked x i w j flag (q, a, at, sender, selector) =
       let (link, is, _) = linked_of (Some flag) selector flag refl in
       let l = link_of w j x i q a link at sender is in
-      (l.home, l.there, record { out = l.joins.home; home = l.joins.out })
+      (l.home, l.there, joins_back l.joins)
 
   deaf : (x i w j : ℕ) → HoldsFlag s states now x i w j None → AreJoined s x i w j → ⊥
   deaf x i w j (q, a, at, sender, selector) (there, home, joins) =
       let (r, router, on) = sender_on x i a sender in
       let (p, to) = S.routers.all x r router in
-      let (key, link, stands, symmetric, is) = (S.settled w q at).link_to j x i p home there to (record { out = joins.home; home = joins.out }) in
+      let (key, link, stands, symmetric, is) = (S.settled w q at).link_to j x i p home there to (joins_back joins) in
       let (until, found) = (looks_up_links q j key link (distinct_links at j)).0 stands in
       let P : RouterSettings → Type 0 = λ b. HasAddressOn b i a in
       let has : Contains link.addrs a = (is.addresses a).1 (subst P (same_settings s states now S r to router) on) in
@@ -198,7 +166,7 @@ module _ (s : Scenario) (states : List State) (now : ℕ) (S : IsSettledNetwork 
 
   routers : (x i w j : ℕ) → Contains (hearers_of s.arcs x i) (w, j) → w < length s.routers
   routers x i w j c =
-      let (arc, stands, to) = hearer_of s.arcs x i w j c in
+      let (arc, stands, _, _, to) = hearer_of s.arcs x i w j c in
       let (_, _, (r, is)) = S.scenario.ends arc.from arc.from_iface arc.to arc.to_iface arc.metric (arc, stands, refl, refl, refl, refl, refl) in
       subst (λ (n : ℕ). n < length s.routers) to (slice_get_within s.routers arc.to r is)
 
@@ -207,7 +175,7 @@ module _ (s : Scenario) (states : List State) (now : ℕ) (S : IsSettledNetwork 
   faces x i w j (there, home, joins) =
       let (p, to) = state_there s states now S (near_by (joined_back (there, home, joins))) in
       let (q, at) = state_there s states now S (near_by (there, home, joins)) in
-      let (key, link, stands, symmetric, is) = (S.settled w q at).link_to j x i p home there to (record { out = joins.home; home = joins.out }) in
+      let (key, link, stands, symmetric, is) = (S.settled w q at).link_to j x i p home there to (joins_back joins) in
       let (iface, on, _) = is.keyed.0 in
       let h : Router s x p.settings = S.routers.settings x p to in
       subst (λ (o : Option RouterSettings). i < faces_in o) (sym h) (slice_get_within p.settings.interfaces i iface on)
@@ -281,7 +249,7 @@ module _ (s : Scenario) (states : List State) (now : ℕ) (S : IsSettledNetwork 
   selected x i w p at o n relays has k got chosen j flag (q, a, to, sender, selector) =
       let (link, is, same) = linked_of (Some flag) selector flag refl in
       let l = link_of w j x i q a link to sender is in
-      let (key, own, stands, symmetric, given) = (S.settled x p at).link_to i w j q l.home l.there to (record { out = l.joins.home; home = l.joins.out }) in
+      let (key, own, stands, symmetric, given) = (S.settled x p at).link_to i w j q l.home l.there to (joins_back l.joins) in
       let b : Addr4 = key.addr in
       let on : HasAddressOn q.settings j b = given.keyed.0 in
       let in_link : Contains own.addrs b = (given.addresses b).1 on in

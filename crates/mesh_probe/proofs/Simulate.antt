@@ -13,6 +13,7 @@ use Rattle.mesh_atoms.specs.declared.tuples.Link.{Link}
 use Rattle.mesh_atoms.specs.declared.tuples.LinkKey.{LinkKey}
 use Rattle.mesh_atoms.specs.declared.tuples.Noted.{Noted}
 use Rattle.mesh_atoms.specs.Base.{Base, base_of, find, addr_eq, flood_eq, if_live}
+use Rattle.mesh_atoms.specs.Quality.{admit_on}
 use Rattle.mesh_atoms.specs.Live.{Live, trim}
 use Rattle.mesh_atoms.specs.Settled.{At, AreStates}
 use Rattle.mesh_atoms.specs.Sound.{SoundNeighbourhood}
@@ -37,13 +38,15 @@ use Rattle.mesh_machine.specs.Frames.{on_each}
 use Rattle.mesh_machine.specs.Machine.{Hear, Step}
 use Rattle.mesh_machine.specs.Messages.{forwarding}
 use Rattle.mesh_probe.proofs.Wave.{has, Spread, Going, frames_on, where_sent, Net, Takes, Deaf, Quiet, Sends, Hears, All_heard, One_hears, Wave, Ends, Goes}
-use Rattle.mesh_probe.specs.Flood.{hearers_of, IsSender, Transmission, sent_by, BecomesAt, AllHear, All_have_heard, Next_hears, Flood}
+use Rattle.mesh_probe.specs.declared.transmission.Transmission.{Transmission}
+use Rattle.mesh_probe.specs.Flood.{hearers_of, IsSender, sent_by, BecomesAt, AllHear, All_have_heard, Next_hears, Flood}
 use Rattle.mesh_probe.specs.Laws.{key_of_tc, IsUnknown, AreUnknown}
 use Rattle.mesh_probe.specs.Flood as flood
 use Rattle.mesh_probe.proofs.Carried.{Carries, at_hop, carried_on}
 use Rattle.mesh_probe.proofs.Seen.{faces_in, HoldsFlag, AreJoined}
 use Rattle.mesh_probe.proofs.Heard.{Hearing, hearing}
-use Rattle.mesh_probe.proofs.Links.{settled_link, same_selector}
+use Rattle.mesh_paths.proofs.LinksStay.{link_stays}
+use Rattle.mesh_probe.proofs.Links.{same_selector}
 use Rattle.mesh_probe.proofs.Noted.{does, never_own, not_twice, deaf, sends_nothing, is_do, unknown_live, unknown_deaf, Stands, stands_live, stands_noted, stands_new}
 use Rattle.std.proofs.lemmas.Bool.{cases_Bool}
 use Rattle.mesh_paths.proofs.SearchLaw.{in_tail, head_or_tail}
@@ -226,8 +229,10 @@ module _ {s : Scenario} {states : List State} {now origin : ℕ} {tc : Tc} {m : 
   live_links : (w j hops : ℕ) (q0 p q : State) (sent : List Frame) (flag : Option Bool) (st : Spread) → At states w q0 → IsLike w q0 p st → (f : Facts j hops p q sent flag) →
       Prem → (i : ℕ) (key : LinkKey) → link_at f.live.neighbourhood i key ≡ link_at q0.bases.neighbourhood i key
   live_links w j hops q0 p q sent flag st at like f prem i key =
-      f.is_live.neighbourhood.links i key ∙ ap (λ (o : Option (Link × ℕ)). trim now (if_live now o)) (like.links prem i key)
-      ∙ settled_link q0.settings now q0.bases.neighbourhood (sound_near prem w q0 at) i key
+      f.is_live.neighbourhood.links i key
+      ∙ ap (λ (o : Option (Link × ℕ)). trim now (if_live now (admit_on p.settings i now o))) (like.links prem i key)
+      ∙ ap (λ (r : RouterSettings). trim now (if_live now (admit_on r i now (link_at q0.bases.neighbourhood i key)))) like.settings
+      ∙ link_stays q0.settings now q0.bases.neighbourhood (sound_near prem w q0 at) i key
 
   hold_above : (p : State) → 0 < p.settings.times.forwarded_hold
   hold_above p = let l = p.settings.times.sound.forwarded_hold_range.least in omega (arith, l)

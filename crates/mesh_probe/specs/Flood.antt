@@ -10,6 +10,7 @@ use Rattle.mesh_atoms.specs.Settled.{At}
 use Rattle.mesh_atoms.specs.State.{State}
 use Rattle.mesh_machine.specs.declared.frame.Frame.{Frame}
 use Rattle.mesh_machine.specs.Machine.{Hear, Step}
+use Rattle.mesh_probe.specs.declared.transmission.Transmission.{Transmission}
 
 -- Who hears whom
 
@@ -28,11 +29,6 @@ abbrev pub IsSender : Scenario → ℕ → ℕ → Addr4 → Type 0
 IsSender s x i a =
     (r : RouterSettings) × Router s x r × (iface : Interface)
     × (slice_get r.interfaces i ≡ Some iface) × (slice_get iface.addrs 0 ≡ Some a)
-
--- a frame, and the router that sends it
-pub record Transmission : Type 0 where
-  pub router : ℕ
-  pub frame : Frame
 
 -- the frames that a router sends
 abbrev pub sent_by : ℕ → List Frame → List Transmission

@@ -1,2 +1,5 @@
 pub mod Flood
+pub mod Hearing
 pub mod Laws
+pub mod Probes
+pub mod Text

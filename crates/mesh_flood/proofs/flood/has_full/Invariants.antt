@@ -1,0 +1,8 @@
+use Rattle.std.proofs.Common.{ℕ, ◌<◌}
+use Rattle.std.specs.Prelude.{IsTrue}
+use Rattle.mesh_atoms.specs.Base.{base_of}
+use Rattle.mesh_flood.specs.Verdict.{is_full}
+use Rattle.mesh_flood.proofs.flood.has_full.Given as goal
+
+abbrev pub invariant-loop-set : goal.invariant-loop-set
+invariant-loop-set g l = (k : ℕ) → k < l.set-index → IsTrue (is_full (base_of l.sets k)) → ⊥

@@ -1,0 +1,74 @@
+-- Who hears a frame: the ends of the arcs of its interface.
+use Rattle.std.proofs.Common.{◌≡◌, ◌≢◌, ℕ, ◌<◌, ◌⊎◌, inl, inr, refl, sym, ◌∙◌, ap, subst, arith, List, [], ◌∷◌, Contains, length}
+use Rattle.std.specs.Prelude.{Bool, true, false, cond, nat_eq}
+use Rattle.std.proofs.lemmas.Bool.{eq-eqb, eqb-true}
+use Rattle.std.proofs.lemmas.Option.{slice_get_within}
+use Rattle.mesh_atoms.specs.declared.settings.RadioArc.{RadioArc}
+use Rattle.mesh_atoms.specs.declared.settings.Scenario.{Scenario}
+use Rattle.mesh_atoms.specs.Radio.{Joined, Itself, By}
+use Rattle.mesh_paths.proofs.Scenarios.{both_true, arc_leads_to}
+use Rattle.mesh_paths.proofs.SearchLaw.{in_tail, head_or_tail}
+use Rattle.mesh_probe.specs.declared.coverage.Sending.{Sending}
+use Rattle.mesh_probe.specs.Flood.{leads_from, hearers_of}
+use Rattle.mesh_probe.specs.Hearing.{BringsTo}
+use Rattle.mesh_probe.specs.Probes.{HearsOne}
+
+pub hearer : (arcs : List RadioArc) (x i : ℕ) (arc : RadioArc) → Contains arcs arc → arc.from ≡ x → arc.from_iface ≡ i → Contains (hearers_of arcs x i) (arc.to, arc.to_iface)
+hearer [] x i arc c from at = absurd (omega (arith, c.1))
+hearer (first ∷ arcs) x i arc c from at = elim (head_or_tail first arcs arc c) [
+  | inl same ↦
+      let e : nat_eq first.from x ≡ true = eq-eqb first.from x (ap (λ (a : RadioArc). a.from) same ∙ from) in
+      let f : nat_eq first.from_iface i ≡ true = eq-eqb first.from_iface i (ap (λ (a : RadioArc). a.from_iface) same ∙ at) in
+      let g : leads_from first x i ≡ true = rw (e, f) refl in
+      subst (λ (b : Bool). Contains (cond b ((first.to, first.to_iface) ∷ hearers_of arcs x i) (hearers_of arcs x i)) (arc.to, arc.to_iface)) (sym g)
+      (subst (λ (a : RadioArc). Contains ((first.to, first.to_iface) ∷ hearers_of arcs x i) (a.to, a.to_iface)) same (0, omega arith, refl))
+  | inr later ↦ further (leads_from first x i) (first.to, first.to_iface) (hearers_of arcs x i) (arc.to, arc.to_iface) (hearer arcs x i arc later from at)
+]
+  where
+    further : (b : Bool) (p : ℕ × ℕ) (ps : List (ℕ × ℕ)) (q : ℕ × ℕ) → Contains ps q → Contains (cond b (p ∷ ps) ps) q
+    further true p ps q c = in_tail p ps q c
+    further false p ps q c = c
+
+pub hearer_of : (arcs : List RadioArc) (x i w j : ℕ) → Contains (hearers_of arcs x i) (w, j) → (arc : RadioArc) × Contains arcs arc × (arc.from ≡ x) × (arc.from_iface ≡ i) × (arc.to ≡ w)
+hearer_of [] x i w j c = absurd (omega (arith, c.1))
+hearer_of (first ∷ arcs) x i w j c = elim (which (leads_from first x i) refl (first.to, first.to_iface) (hearers_of arcs x i) (w, j) c) [
+  | inl (leads, same) ↦
+      let (from, at) = both_true (nat_eq first.from x) (nat_eq first.from_iface i) leads in
+      (first, (0, omega arith, refl), eqb-true first.from x from, eqb-true first.from_iface i at, ap (λ (p : ℕ × ℕ). p.0) same)
+  | inr later ↦ let (arc, stands, from, at, to) = hearer_of arcs x i w j later in (arc, in_tail first arcs arc stands, from, at, to)
+]
+  where
+    which : (b : Bool) → leads_from first x i ≡ b → (p : ℕ × ℕ) (ps : List (ℕ × ℕ)) (q : ℕ × ℕ) → Contains (cond b (p ∷ ps) ps) q → ((leads_from first x i ≡ true) × (p ≡ q)) ⊎ Contains ps q
+    which true e p ps q c = elim (head_or_tail p ps q c) [ inl same ↦ inl (e, same) | inr later ↦ inr later ]
+    which false e p ps q c = inr c
+
+-- an arc from an interface that sends leads to who hears a frame
+pub brought : (s : Scenario) (sends : List Sending) (z : ℕ) (arc : RadioArc) → Contains s.arcs arc → BringsTo sends z arc → HearsOne s sends z
+brought s sends z arc stands b = (
+  record { router = arc.from; iface = arc.from_iface },
+  arc.to_iface,
+  b.sent,
+  subst (λ (w : ℕ). Contains (hearers_of s.arcs arc.from arc.from_iface) (w, arc.to_iface)) b.to (hearer s.arcs arc.from arc.from_iface arc stands refl refl),
+)
+
+pub brings : (s : Scenario) (sends : List Sending) (z : ℕ) → HearsOne s sends z → (arc : RadioArc) × Contains s.arcs arc × BringsTo sends z arc
+brings s sends z (f, j, sent, hears) =
+    let (arc, stands, from, at, to) = hearer_of s.arcs f.router f.iface z j hears in
+    let is : f ≡ record { router = arc.from; iface = arc.from_iface } =
+    ap (λ (x : ℕ). let t : Sending = record { router = x; iface = f.iface } in t) (sym from)
+    ∙ ap (λ (i : ℕ). let t : Sending = record { router = arc.from; iface = i } in t) (sym at) in
+    (arc, stands, record { to = to; sent = subst (λ (t : Sending). Contains sends t) is sent })
+
+-- who hears, or is joined with another, is a router of the scenario
+pub hears_inside : (s : Scenario) (sends : List Sending) (z : ℕ) → HearsOne s sends z → z < length s.routers
+hears_inside s sends z hears =
+    let (arc, stands, b) = brings s sends z hears in
+    let (q, is, less) = arc_leads_to s arc stands in
+    subst (λ (w : ℕ). w < length s.routers) b.to (slice_get_within s.routers arc.to q is)
+
+pub joined_inside : (s : Scenario) (x z : ℕ) → z ≢ x → Joined s x z → z < length s.routers
+joined_inside s x z other Itself = absurd (other refl)
+joined_inside s x z other (By way (i, j, there, back, joins)) =
+    let (arc, stands, _, _, to, _, _) = joins.out in
+    let (q, is, less) = arc_leads_to s arc stands in
+    subst (λ (w : ℕ). w < length s.routers) to (slice_get_within s.routers arc.to q is)

@@ -1,0 +1,54 @@
+-- The numbers with a property are listed, one after the other.
+use Rattle.std.proofs.Common.{ℕ, ◌+◌, ◌<◌, inl, inr, sym, subst, arith, List, [], ◌∷◌, ◌++◌, Contains, get_or}
+use Rattle.std.proofs.lemmas.Bool.{cases_eq}
+use Rattle.std.proofs.lemmas.List.Elements.{Contains-append_left, Contains-push, Contains-push_cases, Contains-get_or}
+use Rattle.std.proofs.lemmas.List.Quantifiers.{all_pairs_push}
+use Rattle.mesh_paths.proofs.ShortLists.{none_of}
+use Rattle.mesh_probe.specs.Probes.{Lists}
+
+module _ (P : ℕ → Type 0) where
+  -- those below a number
+  abbrev pub Below : ℕ → ℕ → Type 0
+  Below most n = (n < most) × P n
+
+  pub none_listed : Lists (Below 0) []
+  none_listed = record {
+    each = λ n. (λ c. absurd (none_of n c), λ h. absurd (let l = h.0 in omega (arith, l)));
+    ascending = λ i j d l m. absurd (omega (arith, m));
+  }
+
+  -- the next number has the property
+  pub one_listed : (n : ℕ) (list : List ℕ) → P n → Lists (Below n) list → Lists (Below (n + 1)) (list ++ (n ∷ []))
+  one_listed n list has l = record {
+    each = λ m. (
+      λ c. elim (Contains-push_cases list n m c) [
+        | inl before ↦ (let (less, holds) = (l.each m).0 before in (omega (arith, less), holds))
+        | inr same ↦ (omega (arith, same), subst P same has)
+      ],
+      λ h. elim (cases_eq m n) [
+        | inl same ↦ subst (λ (k : ℕ). Contains (list ++ (n ∷ [])) k) (sym same) (Contains-push list n)
+        | inr other ↦ Contains-append_left list (n ∷ []) m ((l.each m).1 (let less = h.0 in omega (arith, less, other), h.1))
+      ],
+    );
+    ascending = all_pairs_push (λ a b. a < b) list n l.ascending (λ k d less. ((l.each (get_or list k d)).0 (Contains-get_or list k d less)).0);
+  }
+
+  -- the next number hasn't
+  pub one_passed : (n : ℕ) (list : List ℕ) → (P n → ⊥) → Lists (Below n) list → Lists (Below (n + 1)) list
+  one_passed n list never l = record {
+    each = λ m. (
+      λ c. (let (less, holds) = (l.each m).0 c in (omega (arith, less), holds)),
+      λ h. elim (cases_eq m n) [
+        | inl same ↦ absurd (never (subst P same h.1))
+        | inr other ↦ (l.each m).1 (let less = h.0 in omega (arith, less, other), h.1)
+      ],
+    );
+    ascending = l.ascending;
+  }
+
+  -- none has it from there on
+  pub all_listed : (most : ℕ) (list : List ℕ) → ((n : ℕ) → P n → n < most) → Lists (Below most) list → Lists P list
+  all_listed most list within l = record {
+    each = λ m. (λ c. ((l.each m).0 c).1, λ h. (l.each m).1 (within m h, h));
+    ascending = l.ascending;
+  }

@@ -1,0 +1,74 @@
+-- A flood of a TC begins as the message of a wave.
+use Rattle.std.proofs.Common.{◌≡◌, ℕ, zero, suc, ◌-◌, ◌<◌, refl, sym, ◌∙◌, ap, subst, arith, List, length, Option, Some, slice_index_or, slice_get}
+use Rattle.std.specs.List.{AllPairs}
+use Rattle.mesh_atoms.specs.declared.settings.Scenario.{Scenario}
+use Rattle.mesh_atoms.specs.declared.tc.Tc.{Tc}
+use Rattle.mesh_atoms.specs.Settled.{At, AreStates}
+use Rattle.mesh_atoms.specs.State.{State}
+use Rattle.mesh_packet.specs.Fields.{MessageFields}
+use Rattle.mesh_wire.specs.Writes.{alone}
+use Rattle.mesh_wire.proofs.EachDistance.{kept_on}
+use Rattle.mesh_paths.specs.SettledRoutes.{IsSettledNetwork}
+use Rattle.mesh_machine.specs.Frames.{on_each}
+use Rattle.mesh_probe.specs.declared.transmission.Transmission.{Transmission}
+use Rattle.mesh_probe.specs.Flood.{sent_by}
+use Rattle.mesh_probe.specs.Laws.{IsTcOf, AreUnknown, AreSentApart}
+use Rattle.mesh_probe.proofs.Carried.{Carries, at_hop}
+use Rattle.mesh_probe.proofs.Seen.{faces_in}
+use Rattle.mesh_probe.proofs.Simulate.{IsFlooded, Matches, No_frames, A_frame, on_each_matches}
+use Rattle.mesh_probe.proofs.Wave.{Going, IsApart, frames_on}
+
+first_carried : (p : State) (tc : Tc) (limit : ℕ) (bytes : List ℕ) → (is : IsTcOf p tc limit bytes) → Carries (at_hop is.writes.message limit 0) bytes
+first_carried p tc limit bytes is =
+    let m : MessageFields = is.writes.message in
+    let e : limit ≡ limit - 0 = omega arith in
+    let same : m ≡ at_hop m limit 0 =
+    ap (λ (o : Option ℕ). let r : MessageFields = record m { limit = o } in r) (is.writes.limit ∙ ap (λ (n : ℕ). Some n) e)
+    ∙ ap (λ (o : Option ℕ). let r : MessageFields = record m { limit = Some (limit - 0); count = o } in r) is.writes.count in
+    subst (λ (x : MessageFields). Carries x bytes) same
+    (record { packet = alone m; spans = is.writes.packet.spans; spelled = is.writes.packet.spelled; one = refl })
+
+module _ (s : Scenario) (states : List State) (now origin : ℕ) (tc : Tc) (limit : ℕ) (Prem : Type 0) (routers : AreStates s states)
+    (settled : Prem → IsSettledNetwork s states now) (unknown : Prem → AreUnknown states tc) (p : State) (at : At states origin p) (bytes : List ℕ)
+    (is : IsTcOf p tc limit bytes) where
+  pub flooded : IsFlooded s states now origin tc is.writes.message limit Prem
+  flooded = record {
+    octet = is.octet;
+    kind = is.writes.kind;
+    originator = is.writes.reads.originator;
+    sequence = is.writes.reads.sequence;
+    keeps = kept_on tc limit is.validity bytes is.writes is.times;
+    routers = routers;
+    settled = settled;
+    unknown = unknown;
+    first = p;
+    at = at;
+    own = is.own;
+  }
+
+  -- the first frames
+  pub queue : Matches flooded (sent_by origin (on_each (length p.settings.interfaces) bytes)) (frames_on origin 0 (faces_in (slice_get s.routers origin)))
+  queue =
+      let count : length p.settings.interfaces ≡ faces_in (slice_get s.routers origin) = sym (ap faces_in (routers.settings origin p at)) in
+      let first = on_each_matches flooded origin 0 (length p.settings.interfaces) bytes (first_carried p tc limit bytes is) in
+      subst (λ (n : ℕ). Matches flooded (sent_by origin (on_each (length p.settings.interfaces) bytes)) (frames_on origin 0 n)) count first
+
+module _ {s : Scenario} {states : List State} {now origin : ℕ} {tc : Tc} {m : MessageFields} {limit : ℕ} {Prem : Type 0} (G : IsFlooded s states now origin tc m limit Prem) where
+  lengths : {fs : List Transmission} {gs : List Going} → Matches G fs gs → length gs ≡ length fs
+  lengths No_frames = refl
+  lengths (A_frame hops carries rest) = ap suc (lengths rest)
+
+  place : {fs : List Transmission} {gs : List Going} → Matches G fs gs → (k : ℕ) (d : Transmission) (e : Going) → k < length fs →
+      ((slice_index_or gs k e).from ≡ (slice_index_or fs k d).router) × ((slice_index_or gs k e).iface ≡ (slice_index_or fs k d).frame.iface)
+  place No_frames k d e l = absurd (omega arith)
+  place (A_frame hops carries rest) zero d e l = (refl, refl)
+  place (A_frame hops carries rest) (suc k) d e l = place rest k d e (omega arith)
+
+  -- frames are apart as those of the wave are
+  pub sent_apart : {fs : List Transmission} {gs : List Going} → Matches G fs gs → AllPairs IsApart gs → AllPairs AreSentApart fs
+  sent_apart frames apart i j d l n from at =
+      let e : Going = record { from = 0; iface = 0; hops = 0 } in
+      let a = place frames i d e (omega (arith, l, n)) in
+      let b = place frames j d e n in
+      let size = lengths frames in
+      apart i j e l (omega (arith, n, size)) (a.0 ∙ from ∙ sym b.0) (a.1 ∙ at ∙ sym b.1)

@@ -1,0 +1,7 @@
+use Rattle.std.proofs.Common.{◌≡◌}
+use Rattle.mesh_machine.specs.Frames.{on_each}
+use Rattle.mesh_probe.specs.Flood.{sent_by}
+use Rattle.mesh_probe.proofs.frames.first_frames.Given as goal
+
+abbrev pub invariant-loop-iface : goal.invariant-loop-iface
+invariant-loop-iface l = l.frames.items ≡ sent_by l.router (on_each l.iface l.octets)

@@ -1,0 +1,8 @@
+use Rattle.std.proofs.Common.{ℕ, ◌<◌}
+use Rattle.std.specs.Prelude.{map}
+use Rattle.mesh_probe.specs.Laws.{tc_key}
+use Rattle.mesh_probe.specs.Probes.{IsKnown}
+use Rattle.mesh_probe.proofs.numbers.free_number.Given as goal
+
+abbrev pub invariant-loop-number : goal.invariant-loop-number
+invariant-loop-number g l = (n : ℕ) → n < l.number → IsKnown (map g.R.RouterView.state l.routers) (tc_key l.originator n)

@@ -1,0 +1,6 @@
+use Rattle.std.proofs.Common.{◌≡◌, map, take}
+use Rattle.mesh_probe.specs.Probes.{sending_of}
+use Rattle.mesh_probe.proofs.probing.sends_of.Given as goal
+
+abbrev pub invariant-loop-frame : goal.invariant-loop-frame
+invariant-loop-frame l = l.sends ≡ map sending_of (take l.frame-index l.frames)
