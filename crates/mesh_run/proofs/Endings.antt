@@ -1,0 +1,179 @@
+-- What a run leaves by its answer, part by part.
+use Rattle.std.proofs.Common.{◌≡◌, ℕ, ◌^◌, ◌<◌, ◌≤◌, List, map, take, length, Option, None, Result, Ok, Err, refl, sym, ap, subst, arith, inl, inr}
+use Rattle.std.specs.Io.KnownBytes.{Appends}
+use Rattle.std.specs.Prelude.{OnOk}
+use Rattle.std.proofs.Math.Seq.{take-length}
+use Rattle.mesh_atoms.specs.declared.settings.Port.{Port}
+use Rattle.mesh_atoms.specs.declared.settings.RunSetup.{RunSetup}
+use Rattle.mesh_atoms.specs.Sound.{Sound}
+use Rattle.mesh_atoms.specs.State.{State}
+use Rattle.mesh_config.specs.RunSettings.{run_refusals}
+use Rattle.mesh_io.proofs.Fronts.{keeps_same}
+use Rattle.mesh_io.specs.Airs.{Report}
+use Rattle.mesh_io.specs.Faults.{Rose}
+use Rattle.mesh_io.specs.Told.{Tells}
+use Rattle.mesh_io.specs.declared.stop.Stop.{Stop}
+use Rattle.mesh_io.specs.declared.stop.Stop.TheVariants as stop
+use Rattle.mesh_run.specs.Ends.{Completes, LeavesText, Finishes, Spends, IsQuiet, RouterEnds, Ends}
+use Rattle.mesh_run.specs.Run.{States, Told, told, IsAttached, IsTold, WholeRun, SpendsTurns, RunsShort}
+use Rattle.mesh_run.specs.Run.RunsShort.{Before_turns, In_turns}
+use Rattle.mesh_run.specs.Text.{IsReport}
+use Rattle.mesh_run.specs.declared.fault.RunFault.{RunFault}
+use Rattle.mesh_run.specs.declared.fault.RunFault.TheVariants as fault
+use Rattle.mesh_run.proofs.Moments.{below_end, reaches_end}
+use Rattle.mesh_toml.specs.Faults.{first}
+use Rattle.mesh_turns.proofs.Runs.{keep_sound}
+use Rattle.mesh_turns.proofs.Tellings.{tells_more}
+use Rattle.mesh_turns.proofs.Whole.{stops_behind}
+use Rattle.mesh_turns.specs.Turns.{attached_report, moment_of, DoesTurns, StopsTurns}
+use Rattle.mesh_turns.specs.declared.tally.Ended.{Ended}
+
+-- Behind the attaches
+
+module _ (setup : RunSetup) (most : ℕ) (state : State) (ended : Ended) (k l : Option (List ℕ)) (a b : Option (List Report))
+    (does : DoesTurns setup state ended k l a b) where
+  early : setup.end < 2 ^ 62
+  early = omega (arith, setup.end_in_range.most)
+
+  some : 0 < setup.end
+  some = omega (arith, setup.end_in_range.least)
+
+  -- the router is sound
+  pub is_sound : Sound state
+  is_sound = keep_sound setup does.moments does.reports _ does.turns
+
+  -- its turns were done, and its text is put
+  finishes : ended.turns ≤ most → setup.end ≤ ended.greatest → (text : List ℕ) → IsReport setup.end ended state text →
+      Finishes setup most k l a b text
+  finishes within reached text report = record {
+    moments = does.moments;
+    reports = does.reports;
+    clock_tells = does.clock_tells;
+    air_tells = does.air_tells;
+    within = omega (arith, within, ap (λ (e : Ended). e.turns) does.ended_is);
+    is_text = record {
+      now = moment_of 0 ended.greatest;
+      state = state;
+      turns = does.turns;
+      ends = reaches_end setup.end (length setup.ports) early _ some does.moments does.reports _ does.turns.goes (omega (arith, early, reached));
+      report = subst (λ (e : Ended). IsReport setup.end e state text) does.ended_is report;
+    };
+  }
+
+  -- what is left by its report
+  pub report_left : ended.turns ≤ most → setup.end ≤ ended.greatest → (o o' : Option (List ℕ)) (f f' : ℕ) →
+      (text : List ℕ) × IsReport setup.end ended state text × Appends o o' text → RouterEnds setup most k l a b o o' f f' (Ok tt)
+  report_left within reached o o' f f' (text, report, stands) = (text, finishes within reached text report, stands)
+
+  pub report_stops : ended.turns ≤ most → setup.end ≤ ended.greatest → (o o' : Option (List ℕ)) (f f' : ℕ) (why : Stop) →
+      LeavesText (IsReport setup.end ended state) o o' f f' (Err why) → RouterEnds setup most k l a b o o' f f' (Err (fault.Stopped why))
+  report_stops within reached o o' f f' stop.Write (rose, text, report, n, stands) = (rose, text, finishes within reached text report, n, stands)
+  report_stops within reached o o' f f' stop.Memory keeps = (inr (stops_behind setup state ended k l a b does), keeps)
+
+  -- all its turns were done, below the end
+  pub spends : ended.greatest < setup.end → Spends setup ended.turns ended.greatest setup.end k l a b
+  spends below = record {
+    end_is = refl;
+    moments = does.moments;
+    reports = does.reports;
+    clock_tells = does.clock_tells;
+    air_tells = does.air_tells;
+    now = moment_of 0 ended.greatest;
+    state = state;
+    is_turns = does.turns;
+    count = sym (ap (λ (e : Ended). e.turns) does.ended_is);
+    below = below_end setup.end (length setup.ports) early _ some does.moments does.reports _ does.turns.goes (omega (arith, early, below));
+    greatest_is = ap (λ (e : Ended). e.greatest) does.ended_is;
+  }
+
+-- In all
+
+module _ (input : List ℕ) (setup : RunSetup) (stated : States input setup) (most : ℕ) (k l : Option (List ℕ)) (a b c : Option (List Report)) (n : ℕ)
+    (ports_told : Tells a b (map attached_report setup.ports)) (attached : n ≡ length setup.ports) where
+  -- the attaches, and then what was told in the turns
+  is_told : (moments : List ℕ) (reports : List Report) → Tells k l moments → Tells b c reports → IsTold setup moments reports (told k l a c n)
+  is_told moments reports clock air = record {
+    clock = clock;
+    air = tells_more a b c (map attached_report setup.ports) reports ports_told air;
+    attached = attached;
+  }
+
+  whole_run : (text : List ℕ) → Finishes setup most k l b c text → WholeRun input most (told k l a c n)
+  whole_run text f = record {
+    setup = setup;
+    stated = stated;
+    moments = f.moments;
+    reports = f.reports;
+    is_told = is_told f.moments f.reports f.clock_tells f.air_tells;
+    within = f.within;
+    text = text;
+    is_text = f.is_text;
+  }
+
+  spends_turns : (turns greatest end : ℕ) → Spends setup turns greatest end k l b c → SpendsTurns input turns greatest end (told k l a c n)
+  spends_turns turns greatest end s = record {
+    setup = setup;
+    stated = stated;
+    end_is = s.end_is;
+    moments = s.moments;
+    reports = s.reports;
+    is_told = is_told s.moments s.reports s.clock_tells s.air_tells;
+    now = s.now;
+    state = s.state;
+    is_turns = s.is_turns;
+    count = s.count;
+    below = s.below;
+    greatest_is = s.greatest_is;
+  }
+
+  attached_alone : IsQuiet k l b c → IsAttached setup (length setup.ports) (told k l a c n)
+  attached_alone (clock, air) = record {
+    moments = clock;
+    reports = subst (λ (ports : List Port). Tells a c (map attached_report ports)) (sym (take-length setup.ports))
+        (subst (λ (now : Option (List Report)). Tells a now (map attached_report setup.ports)) (sym air) ports_told);
+    attached = attached;
+  }
+
+  stops_short : StopsTurns setup k l b c → RunsShort input (told k l a c n)
+  stops_short s = In_turns setup s.moments s.reports stated (is_told s.moments s.reports s.clock_tells s.air_tells) s.stops
+
+  pub ends_behind : (o o' : Option (List ℕ)) (f f' af af' : ℕ) (r : Result (Unit {0}) RunFault) →
+      RouterEnds setup most k l b c o o' f f' r → Ends input most (told k l a c n) o o' f f' af af' r
+  unfolding whole_run
+  ends_behind o o' f f' af af' (Ok u) (text, finishes, stands) = (whole_run text finishes, stands)
+  ends_behind o o' f f' af af' (Err (fault.Refused number key)) h = absurd h
+  ends_behind o o' f f' af af' (Err (fault.Attach interface)) h = absurd h
+  ends_behind o o' f f' af af' (Err (fault.Turns turns greatest end)) (all, s, keeps) = (all, spends_turns turns greatest end s, keeps)
+  ends_behind o o' f f' af af' (Err (fault.Stopped stop.Write)) (rose, text, finishes, size, stands) = (rose, whole_run text finishes, size, stands)
+  ends_behind o o' f f' af af' (Err (fault.Stopped stop.Memory)) (inl quiet, keeps) = (Before_turns setup stated (attached_alone quiet), keeps)
+  ends_behind o o' f f' af af' (Err (fault.Stopped stop.Memory)) (inr s, keeps) = (stops_short s, keeps)
+
+-- an attach failed
+pub attach_left : (input : List ℕ) (setup : RunSetup) (most : ℕ) (k : Option (List ℕ)) (a b : Option (List Report)) (o : Option (List ℕ)) (n f af af' i : ℕ) →
+    States input setup → i < length setup.ports → n ≡ i → Tells a b (map attached_report (take i setup.ports)) → Rose af af' →
+    Ends input most (told k k a b n) o o f f af af' (Err (fault.Attach i))
+attach_left input setup most k a b o n f af af' i stated fewer number tells rose = (
+  record { setup = setup; stated = stated; fewer = fewer; is_attached = record { moments = refl; reports = tells; attached = number } },
+  rose,
+  keeps_same o,
+)
+
+-- By the answer
+
+module _ (input : List ℕ) (most : ℕ) (t : Told) (o o' : Option (List ℕ)) (f f' af af' : ℕ) where
+  pub done_left : (r : Result (Unit {0}) RunFault) → Ends input most t o o' f f' af af' r → OnOk r ((w : WholeRun input most t) × Appends o o' w.text)
+  done_left (Ok u) h = h
+  done_left (Err e) h = tt
+
+  pub by_answer : (r s : Result (Unit {0}) RunFault) → r ≡ s → Ends input most t o o' f f' af af' r → Ends input most t o o' f f' af af' s
+  by_answer r s e h = subst (λ (x : Result (Unit {0}) RunFault). Ends input most t o o' f f' af af' x) e h
+
+  pub completes : (r : Result (Unit {0}) RunFault) → Ends input most t o o' f f' af af' r → first (run_refusals input) ≡ None →
+      ((setup : RunSetup) → States input setup → t.attached' ≡ length setup.ports) → (Rose f f' → ⊥) → Completes r
+  completes (Ok u) h clear attached whole = tt
+  completes (Err (fault.Refused number key)) (refused, untold, keeps) clear attached whole = absurd cc
+  completes (Err (fault.Attach interface)) (fails, rose, keeps) clear attached whole =
+      absurd (omega (arith, fails.fewer, fails.is_attached.attached, attached fails.setup fails.stated))
+  completes (Err (fault.Turns turns greatest end)) h clear attached whole = tt
+  completes (Err (fault.Stopped stop.Write)) (rose, run, n, stands) clear attached whole = absurd (whole rose)
+  completes (Err (fault.Stopped stop.Memory)) h clear attached whole = tt

@@ -1,0 +1,10 @@
+//! A run of a router over a network: what its input states is attached, made, done turn by turn, and told.
+#![tactic(auto)]
+
+mod fault;
+mod job;
+mod report;
+mod router;
+
+pub use fault::RunFault;
+pub use job::run;

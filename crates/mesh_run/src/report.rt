@@ -1,0 +1,72 @@
+//! The report of a router at the end of its run.
+ghost use Rattle.std.specs.Prelude.{◌≡◌, ◌++◌, ◌≤◌, OnOk, IfOk};
+ghost use Rattle.mesh_atoms.specs.Sound.{Sound};
+ghost use Rattle.mesh_run.specs.Ends.{LeavesText};
+ghost use Rattle.mesh_run.specs.Text.{run_line, IsReport};
+
+use mesh_atoms::Bytes;
+use mesh_io::{Sink, Stop, write_all};
+use mesh_machine::RouterView;
+use mesh_texts::{Piece, put_line, put_section};
+use mesh_turns::Ended;
+use std::alloc::{AllocError, Global};
+
+// Puts when a run ended and what was counted. Want of memory leaves a part of it behind what was there.
+#[tactic(auto, unfolding(crate::specs::Text::run_line))]
+fn put_run_line(out: &mut Bytes, end: u64, ended: &Ended) -> Result<(), AllocError>
+    ensures { OnOk result (out.new ≡ out.old ++ run_line end ended.now) }
+{
+    put_line(
+        out,
+        &[
+            Piece::Text(b"run end "),
+            Piece::Number(end),
+            Piece::Text(b" turns "),
+            Piece::Number(u64::from(ended.turns)),
+            Piece::Text(b" heard "),
+            Piece::Number(ended.tally.heard),
+            Piece::Text(b" sent "),
+            Piece::Number(ended.tally.sent),
+            Piece::Text(b" air faults "),
+            Piece::Number(ended.tally.faults),
+        ],
+    )
+}
+
+// The report of a router.
+fn report_of<R: RouterView>(
+    alloc: Global,
+    router: &R,
+    end: u64,
+    ended: &Ended,
+) -> Result<Bytes, AllocError>
+    requires { Sound (R.state router.now) }
+    ensures { IfOk result (IsReport end ended.now (R.state router.now)) }
+{
+    let mut text = Bytes::new(alloc);
+    put_run_line(&mut text, end, ended)?;
+    put_section(&mut text, router)?;
+    Ok(text)
+}
+
+// Writes the report of a router, by one write.
+pub fn tell_report<R: RouterView, O: Sink>(
+    alloc: Global,
+    router: &R,
+    end: u64,
+    ended: &Ended,
+    out: &mut O,
+) -> Result<(), Stop>
+    requires { Sound (R.state router.now) }
+    ensures leaves { LeavesText (IsReport end ended.now (R.state router.now))
+        (O.content out.old) (O.content out.new) (O.faults out.old) (O.faults out.new) result }
+    ensures later { O.faults out.old ≤ O.faults out.new }
+{
+    match report_of(alloc, router, end, ended) {
+        Ok(text) => match write_all(out, text.as_slice()) {
+            Ok(()) => Ok(()),
+            Err(_) => Err(Stop::Write),
+        },
+        Err(_) => Err(Stop::Memory),
+    }
+}

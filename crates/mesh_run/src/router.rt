@@ -1,0 +1,99 @@
+//! The router of a run.
+ghost use Rattle.std.specs.Prelude.{◌≡◌, ◌≤◌, ℕ, List, length, IfOk};
+ghost use Rattle.mesh_machine.specs.Machine.{IsOpening};
+ghost use Rattle.mesh_run.specs.Ends.{RouterEnds, Ends};
+ghost use Rattle.mesh_run.specs.Run.{States, told};
+
+use crate::fault::RunFault;
+use crate::report::tell_report;
+use mesh_atoms::RunSetup;
+use mesh_io::{Air, Clock, Sink, Stop};
+use mesh_turns::{Machine, attach_all, do_turns};
+use std::alloc::{AllocError, Global};
+
+// Does the turns of a router that was made with the setup, and writes its report.
+fn run_router<M: Machine, O: Sink, A: Air, C: Clock>(
+    alloc: Global,
+    router: &mut M,
+    setup: &RunSetup,
+    turns: u32,
+    out: &mut O,
+    air: &mut A,
+    clock: &mut C,
+) -> Result<(), RunFault>
+    requires opening { IsOpening setup.now.router (M.state router.old) }
+    requires attached { A.attached air.old ≡ length setup.now.ports }
+    ensures ends { RouterEnds setup.now turns (C.moments clock.old) (C.moments clock.new) (A.reports air.old) (A.reports air.new)
+        (O.content out.old) (O.content out.new) (O.faults out.old) (O.faults out.new) result }
+    ensures attached { A.attached air.new ≡ A.attached air.old }
+    ensures later_out { O.faults out.old ≤ O.faults out.new }
+    ensures later_air { A.faults air.old ≤ A.faults air.new }
+{
+    let ended = match do_turns(alloc, router, setup, turns, air, clock) {
+        Ok(ended) => ended,
+        Err(_) => return Err(RunFault::Stopped(Stop::Memory)),
+    };
+    if ended.greatest < setup.end {
+        return Err(RunFault::Turns {
+            turns: ended.turns,
+            moment: ended.greatest,
+            end: setup.end,
+        });
+    }
+    match tell_report(alloc, &*router, setup.end, &ended, out) {
+        Ok(()) => Ok(()),
+        Err(stop) => Err(RunFault::Stopped(stop)),
+    }
+}
+
+// The router of a setup, before its first event.
+fn make_router<M: Machine>(alloc: Global, setup: &RunSetup) -> Result<M, AllocError>
+    ensures { IfOk result (λ router. IsOpening setup.now.router (M.state router)) }
+{
+    let settings = setup.router.copy()?;
+    M::make(alloc, settings)
+}
+
+// Makes the router of a setup, whose ports are attached, does its turns, and writes its report.
+fn start<M: Machine, O: Sink, A: Air, C: Clock>(
+    alloc: Global,
+    setup: &RunSetup,
+    turns: u32,
+    out: &mut O,
+    air: &mut A,
+    clock: &mut C,
+) -> Result<(), RunFault>
+    requires { A.attached air.old ≡ length setup.now.ports }
+    ensures ends { RouterEnds setup.now turns (C.moments clock.old) (C.moments clock.new) (A.reports air.old) (A.reports air.new)
+        (O.content out.old) (O.content out.new) (O.faults out.old) (O.faults out.new) result }
+    ensures attached { A.attached air.new ≡ A.attached air.old }
+    ensures later_out { O.faults out.old ≤ O.faults out.new }
+    ensures later_air { A.faults air.old ≤ A.faults air.new }
+{
+    match make_router::<M>(alloc, setup) {
+        Ok(mut router) => run_router(alloc, &mut router, setup, turns, out, air, clock),
+        Err(_) => Err(RunFault::Stopped(Stop::Memory)),
+    }
+}
+
+// Attaches the ports of a setup, makes its router, does its turns, and writes its report.
+pub fn run_setup<M: Machine, O: Sink, A: Air, C: Clock>(
+    alloc: Global,
+    setup: &RunSetup,
+    turns: u32,
+    out: &mut O,
+    air: &mut A,
+    clock: &mut C,
+) -> Result<(), RunFault>
+    requires { A.attached air.old ≡ 0 }
+    ensures ends { (input : List ℕ) → States input setup.now → Ends input turns
+        (told (C.moments clock.old) (C.moments clock.new) (A.reports air.old) (A.reports air.new) (A.attached air.new))
+        (O.content out.old) (O.content out.new) (O.faults out.old) (O.faults out.new) (A.faults air.old) (A.faults air.new) result }
+    ensures later_out { O.faults out.old ≤ O.faults out.new }
+    ensures later_air { A.faults air.old ≤ A.faults air.new }
+{
+    match attach_all(air, setup.ports.as_slice()) {
+        Ok(()) => start::<M, O, A, C>(alloc, setup, turns, out, air, clock),
+        Err(interface) => Err(RunFault::Attach { interface }),
+    }
+}

@@ -1,0 +1,4 @@
+pub mod Positions
+pub mod Runs
+pub mod Tellings
+pub mod Whole
