@@ -1,9 +1,10 @@
-//! The program `mesh`: the standard streams as source and sinks, and the top call over them.
+//! The program `mesh`: the standard streams as source and sinks, UDP sockets as the air, the system's clock, and the top call over them.
 #![tactic(auto)]
 
 mod adapters;
 
 use adapters::{Reading, Writing};
+use mesh_air::{SystemClock, UdpAir};
 use mesh_io::write_all;
 use mesh_tool::{Status, mesh_top};
 use std::env;
@@ -29,14 +30,32 @@ fn main(rt: HostRuntime) -> ExitCode {
     let mut input = Reading::new(rt.stdin());
     let mut out = Writing::new(rt.stdout());
     let mut err = Writing::new(rt.stderr());
+    let mut air = UdpAir::new(&rt, rt.alloc());
+    let mut clock = SystemClock::new(&rt);
     let status = match words(&rt) {
-        Ok(words) => mesh_top(rt.alloc(), words.as_slice(), &mut input, &mut out, &mut err),
+        Ok(words) => mesh_top(
+            rt.alloc(),
+            words.as_slice(),
+            &mut input,
+            &mut out,
+            &mut err,
+            &mut air,
+            &mut clock,
+        ),
         // Arguments that aren't text are no command line: the top call is given no words, and says `mesh: words none`.
         Err(e) => {
             if e.kind() == ErrorKind::OutOfMemory {
                 no_memory(&mut err)
             } else {
-                mesh_top(rt.alloc(), &[], &mut input, &mut out, &mut err)
+                mesh_top(
+                    rt.alloc(),
+                    &[],
+                    &mut input,
+                    &mut out,
+                    &mut err,
+                    &mut air,
+                    &mut clock,
+                )
             }
         }
     };

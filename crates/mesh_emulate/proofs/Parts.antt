@@ -1,13 +1,15 @@
 -- The text of a run, from its parts.
-use Rattle.std.proofs.Common.{ℕ, ◌≤◌, Bool, true, false, List, [], ◌++◌, Option, Result, Err, refl, sym, ap, ◌∙◌, subst, inl, inr}
+use Rattle.std.proofs.Common.{ℕ, ◌≤◌, Bool, true, false, List, [], ◌++◌, Option, Some, None, Result, Err, refl, sym, ap, ◌∙◌, subst, inl, inr, append_assoc}
 use Rattle.std.specs.Io.KnownBytes.{Appends}
 use Rattle.std.proofs.lemmas.List.{append-nil}
 use Rattle.mesh_atoms.specs.declared.settings.Scenario.{Scenario}
 use Rattle.mesh_io.specs.declared.stop.Stop.{Stop}
 use Rattle.mesh_radio.specs.Net.{Net}
 use Rattle.mesh_radio.specs.Run.{IsOpeningNet, IsOver}
-use Rattle.mesh_texts.specs.Runs.{WholeRun, IsTrace}
-use Rattle.mesh_emulate.specs.Left.{Leaves, IsNothing, Told, IsTold, ToldToEnd, ToldSoFar, IsEnd, IsWholeText, IsFirstText, IsFrontText, IsPartText}
+use Rattle.mesh_texts.specs.Runs.{WholeRun, IsTrace, IsRunText}
+use Rattle.mesh_emulate.specs.declared.wanted.Departure.{Departure}
+use Rattle.mesh_emulate.specs.declared.wanted.Errand.{Errand}
+use Rattle.mesh_emulate.specs.Left.{Leaves, IsNothing, Told, IsTold, ToldToEnd, ToldSoFar, IsEnd, IsTripTold, IsUntold, IsEndTold, IsEndAlone, IsEndFront, IsEndPart, IsWholeText, IsRunAlone, IsFirstText, IsFrontText, IsPartText}
 use Rattle.mesh_emulate.proofs.Leaving.{leaves_then, stops_as}
 
 -- a run from the opening that is over
@@ -22,12 +24,13 @@ is_trace s true run text told = told
 is_trace s false run text told = told
 
 -- its trace, and then the summary
-pub whole_text : (s : Scenario) (trace : Bool) (opening final : Net) (text end : List ℕ) → IsOpeningNet s opening →
-    Told trace opening final text → IsOver final → IsEnd s final end → IsWholeText s trace (text ++ end)
+pub run_text : (s : Scenario) (trace : Bool) (opening final : Net) (text end : List ℕ) → (opens : IsOpeningNet s opening) →
+    (told : Told trace opening final text) → (over : IsOver final) → IsEnd s final end →
+    IsRunText s trace (whole_run s trace opening final text opens told over) (text ++ end)
 unfolding whole_run
-whole_text s trace opening final text end opens told over (gap, is_gap, is_summary) =
+run_text s trace opening final text end opens told over (gap, is_gap, is_summary) =
     let run = whole_run s trace opening final text opens told over in
-    (run, record { traced = text; is_trace = is_trace s trace run text told.is_told; gap = gap; is_gap = is_gap; summary = end; is_summary = is_summary; whole = refl })
+    record { traced = text; is_trace = is_trace s trace run text told.is_told; gap = gap; is_gap = is_gap; summary = end; is_summary = is_summary; whole = refl }
 
 -- some first events
 pub first_text : (s : Scenario) (trace : Bool) (opening stopped : Net) (text : List ℕ) → IsOpeningNet s opening →
@@ -37,26 +40,79 @@ first_text s true opening stopped text opens told =
 first_text s false opening stopped text opens told =
     (record { opening = opening; events = told.events; stopped = stopped; is_opening = opens; runs = told.runs }, told.is_told)
 
+-- behind the text of the events: the end, or the summary alone
+module _ (s : Scenario) (e : Errand) (opening final : Net) (text : List ℕ) (opens : IsOpeningNet s opening) (told : Told e.trace opening final text) (over : IsOver final) where
+  whole_text : (more : List ℕ) → IsEndTold s e.send final more → IsWholeText s e (text ++ more)
+  unfolding whole_run
+  whole_text more (end, trip, is_end, is_trip, is) = (
+    whole_run s e.trace opening final text opens told over,
+    text ++ end,
+    trip,
+    run_text s e.trace opening final text end opens told over is_end,
+    is_trip,
+    ap (λ (l : List ℕ). text ++ l) is ∙ sym (append_assoc text end trip),
+  )
+
+  alone : (more : List ℕ) → IsEndAlone s e.send final more → IsRunAlone s e (text ++ more)
+  alone more (some, is_end) = (some, whole_run s e.trace opening final text opens told over, run_text s e.trace opening final text more opens told over is_end)
+
+  front : (more : List ℕ) → IsEndFront s e.send final more → IsFrontText s e (text ++ more)
+  front more (inl is) = inr (inl (alone more is))
+  front more (inr is) = inr (inr (whole_text more is))
+
+  part : (more : List ℕ) → IsEndPart s e.send final more → IsPartText s e (text ++ more)
+  part more (inl none) = inr (inl (subst (IsFirstText s e.trace) (sym (append-nil text) ∙ ap (λ (l : List ℕ). text ++ l) (sym none)) (first_text s e.trace opening final text opens told)))
+  part more (inr is) = inr (inr (alone more is))
+
+  pub behind_events : (a b c : Option (List ℕ)) (f g h : ℕ) (r : Result (Unit {0}) Stop) → Appends a b text → f ≤ g →
+      Leaves (IsEndTold s e.send final) (IsEndFront s e.send final) (IsEndPart s e.send final) b c g h r →
+      Leaves (IsWholeText s e) (IsFrontText s e) (IsPartText s e) a c f h r
+  behind_events a b c f g h r stands le left =
+      leaves_then (IsEndTold s e.send final) (IsEndFront s e.send final) (IsEndPart s e.send final) (IsWholeText s e) (IsFrontText s e) (IsPartText s e) a b c f g h text r stands le whole_text front part left
+
 -- what is left of the end, behind the text of the events
-pub end_left : (s : Scenario) (trace : Bool) (opening final : Net) (a b c : Option (List ℕ)) (f g h : ℕ) (r : Result (Unit {0}) Stop) →
-    IsOpeningNet s opening → (text : List ℕ) × ToldToEnd trace opening final text × Appends a b text → f ≤ g →
-    Leaves (IsEnd s final) (IsEnd s final) IsNothing b c g h r →
-    Leaves (IsWholeText s trace) (IsFrontText s trace) (IsPartText s trace) a c f h r
-end_left s trace opening final a b c f g h r opens (text, (told, over), stands) le left =
-    leaves_then (IsEnd s final) (IsEnd s final) IsNothing (IsWholeText s trace) (IsFrontText s trace) (IsPartText s trace) a b c f g h text r stands le
-    (λ t end. whole_text s trace opening final text t opens told over end)
-    (λ t end. inr (whole_text s trace opening final text t opens told over end))
-    (λ t none. inr (subst (IsFirstText s trace) (sym (append-nil text) ∙ ap (λ (l : List ℕ). text ++ l) (sym none)) (first_text s trace opening final text opens told)))
-    left
+pub end_left : (s : Scenario) (e : Errand) (opening final : Net) (a b c : Option (List ℕ)) (f g h : ℕ) (r : Result (Unit {0}) Stop) →
+    IsOpeningNet s opening → (text : List ℕ) × ToldToEnd e.trace opening final text × Appends a b text → f ≤ g →
+    Leaves (IsEndTold s e.send final) (IsEndFront s e.send final) (IsEndPart s e.send final) b c g h r →
+    Leaves (IsWholeText s e) (IsFrontText s e) (IsPartText s e) a c f h r
+end_left s e opening final a b c f g h r opens (text, (told, over), stands) le left = behind_events s e opening final text opens told over a b c f g h r stands le left
 
 -- what is left where the events stop
-pub events_left : (s : Scenario) (trace : Bool) (opening end : Net) (a b : Option (List ℕ)) (f g : ℕ) (why : Stop) →
-    IsOpeningNet s opening → Leaves (ToldToEnd trace opening end) (ToldSoFar trace opening) (ToldSoFar trace opening) a b f g (Err why) →
-    Leaves (IsWholeText s trace) (IsFrontText s trace) (IsPartText s trace) a b f g (Err why)
-events_left s trace opening end a b f g why opens left =
-    stops_as (ToldToEnd trace opening end) (ToldSoFar trace opening) (ToldSoFar trace opening) (IsWholeText s trace) (IsFrontText s trace) (IsPartText s trace) a b f g why
-    (λ t (stopped, told). inl (first_text s trace opening stopped t opens told))
-    (λ t (stopped, told). inr (first_text s trace opening stopped t opens told))
+pub events_left : (s : Scenario) (e : Errand) (opening end : Net) (a b : Option (List ℕ)) (f g : ℕ) (why : Stop) →
+    IsOpeningNet s opening → Leaves (ToldToEnd e.trace opening end) (ToldSoFar e.trace opening) (ToldSoFar e.trace opening) a b f g (Err why) →
+    Leaves (IsWholeText s e) (IsFrontText s e) (IsPartText s e) a b f g (Err why)
+events_left s e opening end a b f g why opens left =
+    stops_as (ToldToEnd e.trace opening end) (ToldSoFar e.trace opening) (ToldSoFar e.trace opening) (IsWholeText s e) (IsFrontText s e) (IsPartText s e) a b f g why
+    (λ t (stopped, told). inl (first_text s e.trace opening stopped t opens told))
+    (λ t (stopped, told). inr (inl (first_text s e.trace opening stopped t opens told)))
+    left
+
+-- The summary, and then the trip
+
+summary_front : (s : Scenario) (send : Option Departure) (net : Net) (text : List ℕ) → IsEnd s net text → IsEndFront s send net text
+summary_front s (Some departure) net text is = inl (refl, is)
+summary_front s None net text is = inr (text, [], is, refl, sym (append-nil text))
+
+-- what is left of the trip, behind the summary
+pub trip_left : (s : Scenario) (send : Option Departure) (net : Net) (a b c : Option (List ℕ)) (f g h : ℕ) (r : Result (Unit {0}) Stop) →
+    (end : List ℕ) × IsEnd s net end × Appends a b end → f ≤ g →
+    Leaves (IsTripTold s net.routers send) (IsTripTold s net.routers send) (IsUntold send) b c g h r →
+    Leaves (IsEndTold s send net) (IsEndFront s send net) (IsEndPart s send net) a c f h r
+trip_left s send net a b c f g h r (end, is, stands) le left =
+    leaves_then (IsTripTold s net.routers send) (IsTripTold s net.routers send) (IsUntold send) (IsEndTold s send net) (IsEndFront s send net) (IsEndPart s send net) a b c f g h end r stands le
+    (λ t told. (end, t, is, told, refl))
+    (λ t told. inr (end, t, is, told, refl))
+    (λ t (some, none). inr (some, subst (IsEnd s net) (sym (append-nil end) ∙ ap (λ (l : List ℕ). end ++ l) (sym none)) is))
+    left
+
+-- what is left where the summary stops
+pub summary_left : (s : Scenario) (send : Option Departure) (net : Net) (a b : Option (List ℕ)) (f g : ℕ) (why : Stop) →
+    Leaves (IsEnd s net) (IsEnd s net) IsNothing a b f g (Err why) →
+    Leaves (IsEndTold s send net) (IsEndFront s send net) (IsEndPart s send net) a b f g (Err why)
+summary_left s send net a b f g why left =
+    stops_as (IsEnd s net) (IsEnd s net) IsNothing (IsEndTold s send net) (IsEndFront s send net) (IsEndPart s send net) a b f g why
+    (λ t is. summary_front s send net t is)
+    (λ t none. inl none)
     left
 
 -- before the first event

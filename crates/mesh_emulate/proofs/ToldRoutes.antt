@@ -1,5 +1,5 @@
 -- What the text of an emulation tells: each router a run of the machine, whether the network is settled, and then its routes.
-use Rattle.std.proofs.Common.{◌≡◌, ℕ, ◌<◌, ◌^◌, ◌↔◌, Bool, List, Option, Some, None, refl, sym, ap, subst, arith}
+use Rattle.std.proofs.Common.{◌≡◌, ℕ, ◌<◌, ◌^◌, ◌↔◌, List, ◌++◌, Option, Some, None, refl, sym, ap, subst, arith}
 use Rattle.std.specs.Prelude.{slice_get, Contains}
 use Rattle.mesh_atoms.specs.declared.addr.Addr4.{Addr4}
 use Rattle.mesh_atoms.specs.declared.addr.NetAddr.{NetAddr}
@@ -10,6 +10,7 @@ use Rattle.mesh_atoms.specs.declared.settings.Scenario.{Scenario}
 use Rattle.mesh_atoms.specs.Radio.{Router, RadioLeast}
 use Rattle.mesh_atoms.specs.Settled.{At, Settled}
 use Rattle.mesh_atoms.specs.State.{State}
+use Rattle.mesh_data.specs.Laws.{OfEachTrip, IsOnly, ReachesRouter, ReachesNetwork, NeverStrays}
 use Rattle.mesh_paths.specs.SettledRoutes.{IsSettledNetwork, HasRow, LeadsOn}
 use Rattle.mesh_paths.specs.SettledRoutes as rows
 use Rattle.mesh_paths.proofs.Scenarios.{sound_scenario}
@@ -19,15 +20,17 @@ use Rattle.mesh_settled.specs.declared.gap.Gap.{Gap}
 use Rattle.mesh_settled.proofs.FaceLemmas.{end_has_least}
 use Rattle.mesh_texts.specs.Marks.{face_name, name_of_face}
 use Rattle.mesh_texts.specs.Network.{IsGapOf}
-use Rattle.mesh_texts.specs.Printed.{SaysSettled, Prints, PrintsBy, LeadsOnwards, Arrives, Goes_on, At_gateway, LeadsThere}
+use Rattle.mesh_texts.specs.Printed.{SaysSettled, ArePlain, Prints, PrintsBy, LeadsOnwards, Arrives, Goes_on, At_gateway, LeadsThere}
 use Rattle.mesh_texts.proofs.ReadBack.{ends_settled, prints_rows, prints_rows_by}
 use Rattle.mesh_texts.proofs.RunStates.{run_states}
 use Rattle.mesh_emulate.specs.Emulation.{Emulation}
+use Rattle.mesh_emulate.specs.Laws.{RunsMachines, TellsSettled, PrintsLeastRoutes, PrintsNextHops, sending, TripsAreOnly, TripsReachRouters, TripsReachNetworks, TripsNeverStray}
+use Rattle.mesh_emulate.specs.Wants.{Wants}
 use Rattle.mesh_emulate.proofs.Ends.{at_end}
-use Rattle.mesh_emulate.specs.Laws.{RunsMachines, TellsSettled, PrintsLeastRoutes, PrintsNextHops}
+use Rattle.mesh_emulate.proofs.TripLines.{trip_is_plain}
 
 pub runs_machines : RunsMachines
-runs_machines input trace e x settings is =
+runs_machines input wants e x settings is =
     are_machines e.scenario e.run.opening e.run.events e.run.final e.run.is_opening e.run.runs x settings is
 
 -- Whether it is settled
@@ -37,15 +40,22 @@ no_gap : (s : Scenario) (states : List State) (now : ℕ) (gap : Option Gap) →
 no_gap s states now None is = (λ e. is, λ settled. refl)
 no_gap s states now (Some gap) is = (λ e. absurd cc, λ settled. absurd (is.0 settled))
 
+-- what stands behind the text of the run
+plain : (input : List ℕ) (wants : Wants) (e : Emulation input wants) → ArePlain e.trip
+plain input wants e = trip_is_plain e.scenario e.run.final.routers wants.send e.trip e.is_trip
+
 pub tells_settled : TellsSettled
-tells_settled input trace e =
-    let says = ends_settled e.scenario trace e.run e.text e.is_text in
-    let none = no_gap e.scenario e.run.final.routers e.scenario.end e.is_text.gap e.is_text.is_gap in
-    (λ h. none.0 (says.0 h), λ settled. says.1 (none.1 settled))
+tells_settled input wants e =
+    let says = ends_settled e.scenario wants.trace e.run e.told e.trip e.is_told (plain input wants e) in
+    let none = no_gap e.scenario e.run.final.routers e.scenario.end e.is_told.gap e.is_told.is_gap in
+    (λ h. none.0 (says.0 (subst SaysSettled e.whole h)), λ settled. subst SaysSettled (sym e.whole) (says.1 (none.1 settled)))
 
 -- Routes
 
-module _ (input : List ℕ) (trace : Bool) (e : Emulation input trace) (says : SaysSettled e.text) where
+module _ (input : List ℕ) (wants : Wants) (e : Emulation input wants) (says : SaysSettled e.text) where
+  abbrev whole : List ℕ
+  whole = e.told ++ e.trip
+
   -- the routers at the end are a settled network
   network : IsSettledNetwork e.scenario e.run.final.routers e.scenario.end
   network = record {
@@ -53,7 +63,7 @@ module _ (input : List ℕ) (trace : Bool) (e : Emulation input trace) (says : S
     routers = run_states e.scenario e.run;
     sound = λ x p at. (at_end e.scenario e.run x p at).0;
     moment = λ x p at. (at_end e.scenario e.run x p at).1;
-    settled = (tells_settled input trace e).0 says;
+    settled = (tells_settled input wants e).0 says;
   }
 
   -- the state of a router of the scenario, which has the router's settings
@@ -70,11 +80,11 @@ module _ (input : List ℕ) (trace : Bool) (e : Emulation input trace) (says : S
       dest.addr.0 < 2 ^ 32 → metric < 2 ^ 64 → Prints e.text router.name dest metric ↔ RadioLeast e.scenario x dest metric
   least_routes x router is dest metric d m =
       let (p, at, same) = state_of x router is in
-      let told = prints_rows e.scenario trace e.run e.text e.is_text x p at dest metric d m in
+      let told = prints_rows e.scenario wants.trace e.run e.told e.trip e.is_told (plain input wants e) x p at dest metric d m in
       let least = settled_rows e.scenario e.run.final.routers e.scenario.end x p network at dest metric in
       let named = ap (λ (r : RouterSettings). r.name) same in (
-        λ prints. least.0 (told.0 (subst (λ (name : List ℕ). Prints e.text name dest metric) (sym named) prints)),
-        λ radio. subst (λ (name : List ℕ). Prints e.text name dest metric) named (told.1 (least.1 radio)),
+        λ prints. least.0 (told.0 (subst (λ (name : List ℕ). Prints whole name dest metric) (sym named) (subst (λ (t : List ℕ). Prints t router.name dest metric) e.whole prints))),
+        λ radio. subst (λ (t : List ℕ). Prints t router.name dest metric) (sym e.whole) (subst (λ (name : List ℕ). Prints whole name dest metric) named (told.1 (least.1 radio))),
       )
 
   -- where the router that a row leads to leads on
@@ -83,7 +93,8 @@ module _ (input : List ℕ) (trace : Bool) (e : Emulation input trace) (says : S
   onwards dest n near metric d m (rows.Arrives host own same) = Arrives host own same
   onwards dest n near metric d m (rows.Goes_on q rest at has same) =
       Goes_on rest ((run_states e.scenario e.run).settings n q at)
-      ((prints_rows e.scenario trace e.run e.text e.is_text n q at dest rest d (omega (arith, m, same))).1 has) same
+      (subst (λ (t : List ℕ). Prints t q.settings.name dest rest) (sym e.whole)
+      ((prints_rows e.scenario wants.trace e.run e.told e.trip e.is_told (plain input wants e) n q at dest rest d (omega (arith, m, same))).1 has)) same
   onwards dest n near metric d m (rows.At_gateway own attached le) = At_gateway own attached le
 
   named : (faces : List Interface) (i : ℕ) (face : Interface) → slice_get faces i ≡ Some face → face.name ≡ face_name faces i
@@ -126,8 +137,8 @@ module _ (input : List ℕ) (trace : Bool) (e : Emulation input trace) (says : S
   next_hops x router is dest metric next face d m a by =
       let (p, at, same) = state_of x router is in
       let named = ap (λ (r : RouterSettings). r.name) same in
-      let (row, stands, to, at_metric, by_next, on_face) = (prints_rows_by e.scenario trace e.run e.text e.is_text x p at dest metric next face d m a).0
-      (subst (λ (name : List ℕ). PrintsBy e.text name dest metric next face) (sym named) by) in
+      let (row, stands, to, at_metric, by_next, on_face) = (prints_rows_by e.scenario wants.trace e.run e.told e.trip e.is_told (plain input wants e) x p at dest metric next face d m a).0
+      (subst (λ (name : List ℕ). PrintsBy whole name dest metric next face) (sym named) (subst (λ (t : List ℕ). PrintsBy t router.name dest metric next face) e.whole by)) in
       subst (λ (f : List ℕ). LeadsThere e.scenario e.text x dest metric next f) on_face
       (subst (λ (b : Addr4). LeadsThere e.scenario e.text x dest metric b (face_name p.settings.interfaces row.iface)) by_next
       (subst (λ (c : ℕ). LeadsThere e.scenario e.text x dest c row.next (face_name p.settings.interfaces row.iface)) at_metric
@@ -135,7 +146,25 @@ module _ (input : List ℕ) (trace : Bool) (e : Emulation input trace) (says : S
       (leads x p at row stands (subst (λ (t : NetAddr). t.addr.0 < 2 ^ 32) (sym to) d) (subst (λ (c : ℕ). c < 2 ^ 64) (sym at_metric) m)))))
 
 pub prints_least_routes : PrintsLeastRoutes
-prints_least_routes input trace e says x router is dest metric d m = least_routes input trace e says x router is dest metric d m
+prints_least_routes input wants e says x router is dest metric d m = least_routes input wants e says x router is dest metric d m
 
 pub prints_next_hops : PrintsNextHops
-prints_next_hops input trace e says x router is dest metric next face d m a by = next_hops input trace e says x router is dest metric next face d m a by
+prints_next_hops input wants e says x router is dest metric next face d m a by = next_hops input wants e says x router is dest metric next face d m a by
+
+-- Trips
+
+pub trips_are_only : OfEachTrip IsOnly → TripsAreOnly
+trips_are_only law input trace packet e other is =
+    law e.scenario e.run.final.routers e.is_trip.from packet.dest e.is_trip.trip e.is_trip.is_trip (λ x p at. (at_end e.scenario e.run x p at).0) other is
+
+pub trips_reach_routers : OfEachTrip ReachesRouter → TripsReachRouters
+trips_reach_routers law input trace packet e says y c lies =
+    law e.scenario e.run.final.routers e.is_trip.from packet.dest e.is_trip.trip e.is_trip.is_trip e.scenario.end y c (network input (sending trace packet) e says) lies
+
+pub trips_reach_networks : OfEachTrip ReachesNetwork → TripsReachNetworks
+trips_reach_networks law input trace packet e says has =
+    law e.scenario e.run.final.routers e.is_trip.from packet.dest e.is_trip.trip e.is_trip.is_trip e.scenario.end (network input (sending trace packet) e says) has
+
+pub trips_never_stray : OfEachTrip NeverStrays → TripsNeverStray
+trips_never_stray law input trace packet e says near =
+    law e.scenario e.run.final.routers e.is_trip.from packet.dest e.is_trip.trip e.is_trip.is_trip e.scenario.end (network input (sending trace packet) e says) near

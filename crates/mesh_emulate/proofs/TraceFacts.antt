@@ -9,7 +9,8 @@ use Rattle.mesh_atoms.specs.State.{State}
 use Rattle.mesh_io.specs.declared.stop.Stop.{Stop}
 use Rattle.mesh_io.proofs.Steps.{appends_more}
 use Rattle.mesh_radio.specs.declared.event.NetEvent.{NetEvent}
-use Rattle.mesh_radio.specs.Net.{Net, Traffic, NetStep, By_delivery, By_tick, By_last_tick, Moves, with_heard}
+use Rattle.mesh_radio.specs.Net.{Net, NetStep, By_delivery, By_tick, By_last_tick, Moves}
+use Rattle.mesh_traffic.specs.Sending.{Traffic, with_heard}
 use Rattle.mesh_radio.specs.Run.{IsOfPackets}
 use Rattle.mesh_texts.proofs.TraceSteps.{traces_more, traces_run}
 use Rattle.mesh_texts.specs.Events.{event_text, Of_taken}

@@ -1,7 +1,13 @@
 -- What is left on out by what is told of a network.
-use Rattle.std.specs.Prelude.{◌≡◌, ◌⊎◌, ◌<◌, ℕ, List, [], Option, Result, Ok, Err, Bool, true, false, take, length, IfSome}
+use Rattle.std.specs.Prelude.{◌≡◌, ◌⊎◌, ◌<◌, ℕ, List, [], ◌++◌, Option, Some, None, Result, Ok, Err, Bool, true, false, take, length, IfSome, IsSome}
 use Rattle.std.specs.Io.KnownBytes.{Appends}
 use Rattle.mesh_atoms.specs.declared.settings.Scenario.{Scenario}
+use Rattle.mesh_atoms.specs.State.{State}
+use Rattle.mesh_data.specs.declared.trip.Trip.{Trip}
+use Rattle.mesh_data.specs.Text.{text_of}
+use Rattle.mesh_data.specs.Trips.{IsTrip}
+use Rattle.mesh_emulate.specs.declared.wanted.Departure.{Departure}
+use Rattle.mesh_emulate.specs.declared.wanted.Errand.{Errand}
 use Rattle.mesh_io.specs.Faults.{Rose}
 use Rattle.mesh_io.specs.declared.stop.Stop.{Stop}
 use Rattle.mesh_io.specs.declared.stop.Stop.TheVariants as stop
@@ -54,18 +60,58 @@ ToldSoFar trace old text = (stopped : Net) × Told trace old stopped text
 abbrev pub IsEnd : Scenario → Net → List ℕ → Type 0
 IsEnd s net text = (gap : Option Gap) × IsGapOf s net.routers s.end gap × IsSummary s net.routers net.traffic.counts gap text
 
--- the text of a whole run of a scenario's network
-abbrev pub IsWholeText : Scenario → Bool → List ℕ → Type 0
-IsWholeText s trace text = (run : WholeRun s) × IsRunText s trace run text
+-- The trip
+
+-- the trip of a packet over the routes of these routers, and its text
+abbrev pub IsTripText : Scenario → List State → Departure → List ℕ → Type 0
+IsTripText s states departure text =
+    (trip : Trip) × IsTrip s states departure.from departure.dest trip × (text ≡ text_of s departure.from departure.dest trip)
+
+-- the same where a packet is sent, and nothing where none is
+abbrev pub IsTripTold : Scenario → List State → Option Departure → List ℕ → Type 0
+IsTripTold s states None text = text ≡ []
+IsTripTold s states (Some departure) text = IsTripText s states departure text
+
+-- no text, where a packet is sent
+abbrev pub IsUntold : Option Departure → List ℕ → Type 0
+IsUntold send text = IsSome send × (text ≡ [])
+
+-- the summary of a network at the end of its run, and then the trip
+abbrev pub IsEndTold : Scenario → Option Departure → Net → List ℕ → Type 0
+IsEndTold s send net text =
+    (end : List ℕ) × (trip : List ℕ) × IsEnd s net end × IsTripTold s net.routers send trip × (text ≡ end ++ trip)
+
+-- the summary alone, where a packet is sent
+abbrev pub IsEndAlone : Scenario → Option Departure → Net → List ℕ → Type 0
+IsEndAlone s send net text = IsSome send × IsEnd s net text
+
+-- the summary alone, or with the trip; the summary alone, or nothing
+abbrev pub IsEndFront : Scenario → Option Departure → Net → List ℕ → Type 0
+IsEndFront s send net text = IsEndAlone s send net text ⊎ IsEndTold s send net text
+
+abbrev pub IsEndPart : Scenario → Option Departure → Net → List ℕ → Type 0
+IsEndPart s send net text = (text ≡ []) ⊎ IsEndAlone s send net text
+
+-- The whole
+
+-- the text of a whole run of a scenario's network, and then the trip
+abbrev pub IsWholeText : Scenario → Errand → List ℕ → Type 0
+IsWholeText s e text =
+    (run : WholeRun s) × (told : List ℕ) × (trip : List ℕ) × IsRunText s e.trace run told × IsTripTold s run.final.routers e.send trip
+    × (text ≡ told ++ trip)
+
+-- the text of a whole run alone, where a packet is sent
+abbrev pub IsRunAlone : Scenario → Errand → List ℕ → Type 0
+IsRunAlone s e text = IsSome e.send × (run : WholeRun s) × IsRunText s e.trace run text
 
 -- the text of some first events
 abbrev pub IsFirstText : Scenario → Bool → List ℕ → Type 0
 IsFirstText s trace text = (first : FirstEvents s) × IsFirstTrace trace first text
 
--- the one or the other
-abbrev pub IsFrontText : Scenario → Bool → List ℕ → Type 0
-IsFrontText s trace text = IsFirstText s trace text ⊎ IsWholeText s trace text
+-- one of these
+abbrev pub IsFrontText : Scenario → Errand → List ℕ → Type 0
+IsFrontText s e text = IsFirstText s e.trace text ⊎ (IsRunAlone s e text ⊎ IsWholeText s e text)
 
--- the text of some first events, or nothing
-abbrev pub IsPartText : Scenario → Bool → List ℕ → Type 0
-IsPartText s trace text = (text ≡ []) ⊎ IsFirstText s trace text
+-- the text of some first events, that of a whole run alone, or nothing
+abbrev pub IsPartText : Scenario → Errand → List ℕ → Type 0
+IsPartText s e text = (text ≡ []) ⊎ (IsFirstText s e.trace text ⊎ IsRunAlone s e text)

@@ -1,3 +1,5 @@
 pub mod Emulation
 pub mod Laws
 pub mod Left
+pub mod Prepared
+pub mod Wants

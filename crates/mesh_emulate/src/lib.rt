@@ -5,8 +5,12 @@ mod emulation;
 mod events;
 mod laws;
 mod network;
+mod prepared;
 mod summary;
+mod trip;
+mod wanted;
 mod writing;
 
 pub use emulation::{EmulateFault, emulate};
 pub use laws::emulations_tell;
+pub use wanted::{NamedPacket, Wanted};

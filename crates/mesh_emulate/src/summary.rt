@@ -1,17 +1,19 @@
 //! What is told of a network at the end of its run.
-ghost use Rattle.std.specs.Prelude.{◌≡◌, ◌≤◌, map, OnOk};
-ghost use Rattle.mesh_emulate.specs.Left.{Leaves, IsNothing, IsEnd};
+ghost use Rattle.std.specs.Prelude.{◌≡◌, ◌≤◌, ◌<◌, length, map, OnOk, IfSome};
+ghost use Rattle.mesh_emulate.specs.Left.{Leaves, IsNothing, IsEnd, IsEndTold, IsEndFront, IsEndPart};
 ghost use Rattle.mesh_settled.specs.Network.{IsNetwork};
 ghost use Rattle.mesh_texts.specs.Network.{IsGapOf};
 
 use crate::network::Network;
+use crate::trip::tell_trip;
+use crate::wanted::Departure;
 use crate::writing::write_text;
 use mesh_atoms::{Bytes, RadioGraph, Scenario};
 use mesh_io::{Sink, Stop};
 use mesh_machine::RouterView;
 use mesh_settled::{Gap, settled};
 use mesh_texts::put_summary;
-use std::alloc::AllocError;
+use std::alloc::{AllocError, Global};
 
 // The first gap of routers at the end; none where their network is settled.
 fn gap_at_end<R: RouterView>(routers: &[R], scenario: &Scenario, graph: &RadioGraph) -> Option<Gap>
@@ -36,8 +38,8 @@ fn put_end<N: Network>(
     put_summary(text, scenario, net.routers(), net.counts(), gap)
 }
 
-/// Writes the summary of a network at the end of its run.
-pub fn tell_end<N: Network, O: Sink>(
+// Writes the summary of a network at the end of its run.
+fn tell_summary<N: Network, O: Sink>(
     net: &N,
     scenario: &Scenario,
     graph: &RadioGraph,
@@ -52,5 +54,28 @@ pub fn tell_end<N: Network, O: Sink>(
     match put_end(net, scenario, graph, text) {
         Ok(()) => write_text(text.as_slice(), out),
         Err(_) => Err(Stop::Memory),
+    }
+}
+
+/// Writes the summary of a network at the end of its run, and then the trip of the packet that is sent.
+pub fn tell_end<N: Network, O: Sink>(
+    alloc: Global,
+    net: &N,
+    scenario: &Scenario,
+    graph: &RadioGraph,
+    send: Option<Departure>,
+    text: &mut Bytes,
+    out: &mut O,
+) -> Result<(), Stop>
+    requires network { IsNetwork scenario.now graph.now (N.net net.now).routers scenario.now.end }
+    requires from { IfSome send (λ departure. departure.from < length scenario.now.routers) }
+    ensures leaves { Leaves (IsEndTold scenario.now send (N.net net.now)) (IsEndFront scenario.now send (N.net net.now))
+        (IsEndPart scenario.now send (N.net net.now))
+        (O.content out.old) (O.content out.new) (O.faults out.old) (O.faults out.new) result }
+    ensures later { O.faults out.old ≤ O.faults out.new }
+{
+    match tell_summary(net, scenario, graph, text, out) {
+        Ok(()) => tell_trip(alloc, net.routers(), scenario, send, out),
+        Err(stop) => Err(stop),
     }
 }

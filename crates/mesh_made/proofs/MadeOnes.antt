@@ -1,14 +1,17 @@
 -- The settings of the routers of a made scenario.
-use Rattle.std.proofs.Common.{◌≡◌, ℕ, zero, suc, ◌+◌, ◌*◌, ◌≤◌, List, [], ◌∷◌, map, length, Some, sym, ap, ◌∙◌, subst, arith}
+use Rattle.std.proofs.Common.{◌≡◌, ℕ, zero, suc, ◌+◌, ◌*◌, ◌≤◌, List, [], ◌∷◌, map, length, All, Some, refl, sym, ap, ◌∙◌, subst, arith}
 use Rattle.std.specs.Prelude.{slice_get}
 use Rattle.std.proofs.lemmas.List.{length-map}
+use Rattle.std.proofs.lemmas.List.Elements.{All-nil, All-cons}
+use Rattle.mesh_atoms.specs.declared.admit.QualityStep.{QualityStep}
+use Rattle.mesh_atoms.specs.declared.settings.Interface.{Interface}
 use Rattle.mesh_atoms.specs.declared.settings.RadioArc.{RadioArc}
 use Rattle.mesh_atoms.specs.declared.settings.RouterSettings.{RouterSettings}
 use Rattle.mesh_atoms.specs.declared.settings.Times.{Times}
 use Rattle.mesh_atoms.specs.Settings.{AreArcs}
 use Rattle.mesh_checks.specs.Compared.{ends_of, stated_lists}
-use Rattle.mesh_config.specs.Fields.{RouterParts, settings_parts, stated_parts}
-use Rattle.mesh_config.specs.Senders.{Lists, HaveAllSenders, addr_lists}
+use Rattle.mesh_config.specs.Fields.{RouterParts, settings_parts, stated_parts, thresholds_of, threshold_pair}
+use Rattle.mesh_config.specs.Senders.{Lists, HaveAllSenders, HaveAllQualities, addr_lists}
 use Rattle.mesh_config.proofs.Sounds.{counts_same, lists_same}
 use Rattle.mesh_made.specs.declared.pairs.Pair.{Pair}
 use Rattle.mesh_made.specs.Scenario.{IsMadeRouter, AreMadeArcs}
@@ -21,6 +24,16 @@ use Rattle.mesh_stated.specs.Times.{TimesIs}
 use Rattle.mesh_words.specs.declared.job.Kind.{Kind}
 use Rattle.toml.specs.Data.{no_members}
 
+-- no link of an interface is rejected, where none is of the router
+none_rejected : {Y : Type 0} (thresholds : ℕ × ℕ) (xs : List Interface) (ys : List Y) → thresholds ≡ (0, 0) → map thresholds_of xs ≡ map (λ y. thresholds) ys →
+    All (λ f. thresholds_of f ≡ (0, 0)) xs
+none_rejected thresholds [] ys none same = All-nil (λ (f : Interface). thresholds_of f ≡ (0, 0))
+none_rejected thresholds (x ∷ xs) [] none same = absurd cc
+none_rejected thresholds (x ∷ xs) (y ∷ ys) none same =
+    let here : thresholds_of x ≡ thresholds = cc in
+    let rest : map thresholds_of xs ≡ map (λ y. thresholds) ys = cc in
+    All-cons (λ (f : Interface). thresholds_of f ≡ (0, 0)) x xs (here ∙ none) (none_rejected thresholds xs ys none rest)
+
 module _ (times : Times) (default : TimesIs no_members times) where
   one_made : (i : ℕ) (r : RouterSettings) (d : StatedRouter) → settings_parts r ≡ stated_parts times d → IsStated i d → IsMadeRouter i r
   one_made i r d same is = record {
@@ -30,7 +43,10 @@ module _ (times : Times) (default : TimesIs no_members times) where
     hello_at = ap (λ (p : RouterParts). p.fields.hello_at) same ∙ is.hello_at;
     tc_at = ap (λ (p : RouterParts). p.fields.tc_at) same ∙ is.tc_at;
     times = subst (TimesIs no_members) (sym (ap (λ (p : RouterParts). p.times) same)) default;
+    tc_rows = ap (λ (p : RouterParts). p.fields.tc_rows) same ∙ is.tc_rows;
+    near_hold = ap (λ (p : RouterParts). p.fields.near_hold) same ∙ is.near_hold;
     interfaces = ap (λ (p : RouterParts). p.interfaces) same ∙ is.interfaces;
+    thresholds = none_rejected (threshold_pair d.head.thresholds) r.interfaces d.interfaces (rw (is.accept, is.reject) refl) (ap (λ (p : RouterParts). p.thresholds) same);
     attached = ap (λ (p : RouterParts). p.attached) same ∙ is.attached;
   }
 
@@ -67,3 +83,6 @@ module _ (times : Times) (ss : List RouterSettings) (ds : List StatedRouter) (sa
 
   pub made_senders : (arcs : List RadioArc) → HaveAllSenders (stated_lists ds) arcs 0 ss → HaveAllSenders (addr_lists ss) arcs 0 ss
   made_senders arcs have = subst (λ (lists : Lists). HaveAllSenders lists arcs 0 ss) (sym (lists_same times ss ds same)) have
+
+  pub made_qualities : (arcs : List (RadioArc × List QualityStep)) → HaveAllQualities (stated_lists ds) arcs 0 ss → HaveAllQualities (addr_lists ss) arcs 0 ss
+  made_qualities arcs have = subst (λ (lists : Lists). HaveAllQualities lists arcs 0 ss) (sym (lists_same times ss ds same)) have

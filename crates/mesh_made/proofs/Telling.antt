@@ -11,7 +11,7 @@ use Rattle.mesh_made.specs.Lines.{made_line, TellsRoutes}
 use Rattle.mesh_made.specs.Made.{IsMadeText, MadeEmulation}
 use Rattle.mesh_made.specs.Routes.{metrics_of}
 use Rattle.mesh_made.specs.Scenario.{IsMade}
-use Rattle.mesh_radio.specs.declared.event.Counts.{Counts}
+use Rattle.mesh_traffic.specs.declared.emission.Counts.{Counts}
 use Rattle.mesh_radio.specs.declared.event.NetEvent.{NetEvent}
 use Rattle.mesh_radio.specs.Net.{Net}
 use Rattle.mesh_radio.specs.Run.{IsOpeningNet, IsOver, NetRun}

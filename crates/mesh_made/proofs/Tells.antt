@@ -1,14 +1,14 @@
 -- What the text of a made network tells where its network is settled.
-use Rattle.std.proofs.Common.{◌≡◌, ℕ, ◌+◌, List, ◌++◌, length, map, Option, None, Some, refl, sym, ap, ◌∙◌, subst, arith, append_assoc, codes, decimal}
+use Rattle.std.proofs.Common.{◌≡◌, ℕ, ◌+◌, List, [], ◌∷◌, ◌++◌, length, map, Option, None, Some, refl, sym, ap, ◌∙◌, subst, arith, append_assoc, codes, decimal}
 use Rattle.std.specs.Prelude.{Contains, slice_get}
-use Rattle.std.proofs.lemmas.List.{length-map}
+use Rattle.std.proofs.lemmas.List.{append-nil, length-map}
 use Rattle.mesh_atoms.specs.declared.addr.NetAddr.{NetAddr}
 use Rattle.mesh_atoms.specs.declared.settings.RouterSettings.{RouterSettings}
 use Rattle.mesh_atoms.specs.declared.settings.Scenario.{Scenario}
 use Rattle.mesh_atoms.specs.Radio.{Router, RadioLeast}
 use Rattle.mesh_atoms.specs.Settled.{At, Settled}
 use Rattle.mesh_atoms.specs.State.{State}
-use Rattle.mesh_made.specs.Lines.{kind_text, made_line, routes_line}
+use Rattle.mesh_made.specs.Lines.{kind_text, made_line, greatest_text, routes_line}
 use Rattle.mesh_made.specs.Made.{Reached, AreLeastRoutes, TellsLeastRoutes}
 use Rattle.mesh_made.specs.Routes.{metrics_of, IsGreatest}
 use Rattle.mesh_made.proofs.Reaching.{all_reached, metrics_same, where_from, is_there, all_apart}
@@ -17,11 +17,11 @@ use Rattle.mesh_paths.proofs.SettledLaw.{settled_rows}
 use Rattle.mesh_paths.specs.SettledRoutes.{IsSettledNetwork}
 use Rattle.mesh_radio.proofs.Through.{end_together}
 use Rattle.mesh_settled.specs.declared.gap.Gap.{Gap}
-use Rattle.mesh_texts.proofs.LineTexts.{line_after, line_end, number, counts_plain}
+use Rattle.mesh_texts.proofs.LineTexts.{line_after, line_end, begins_otherwise, number, counts_plain}
 use Rattle.mesh_texts.proofs.ReadBack.{says_settled}
 use Rattle.mesh_texts.proofs.RunStates.{run_states}
 use Rattle.mesh_texts.specs.Network.{IsGapOf, counts_line, settled_text}
-use Rattle.mesh_texts.specs.Printed.{IsLine}
+use Rattle.mesh_texts.specs.Printed.{IsLine, BeginsWith}
 use Rattle.mesh_texts.specs.Runs.{WholeRun}
 use Rattle.mesh_words.specs.declared.job.Kind.{Kind}
 use Rattle.mesh_words.specs.declared.job.Kind.TheVariants as kind
@@ -40,6 +40,31 @@ made_is_line k s =
     (line_after (codes " routers ") _ refl (line_after (decimal (length s.routers)) _ (number (length s.routers))
     (line_after (codes " arcs ") _ refl (line_after (decimal (length s.arcs)) _ (number (length s.arcs))
     (line_after (codes " seed ") _ refl (line_after (decimal s.seed) _ (number s.seed) line_end)))))))
+
+made_begins : (k : Kind) (s : Scenario) → BeginsWith (codes "settled yes\n") (made_line k s) → ⊥
+unfolding made_line
+made_begins k s b = begins_otherwise (codes "settled yes\n") (made_line k s) 0 refl refl b
+
+greatest_line : (greatest : Option ℕ) (l : List ℕ) → IsLine l → IsLine (greatest_text greatest ++ l)
+greatest_line None l is = line_after (codes "none") l refl is
+greatest_line (Some metric) l is = line_after (decimal metric) l (number metric) is
+
+routes_is_line : (count : ℕ) (greatest : Option ℕ) → IsLine (routes_line count greatest)
+unfolding routes_line
+routes_is_line count greatest =
+    line_after (codes "routes ") _ refl (line_after (decimal count) _ (number count) (line_after (codes " greatest ") _ refl (greatest_line greatest _ line_end)))
+
+routes_begins : (count : ℕ) (greatest : Option ℕ) → BeginsWith (codes "settled yes\n") (routes_line count greatest) → ⊥
+unfolding routes_line
+routes_begins count greatest b = begins_otherwise (codes "settled yes\n") (routes_line count greatest) 0 refl refl b
+
+-- three lines, and what stands behind them
+three : (a b c d : List ℕ) → a ++ (b ++ (c ++ d)) ≡ (a ++ (b ++ (c ++ []))) ++ (d ++ [])
+three a b c d =
+    let e = d ++ [] in
+    let f = c ++ [] in
+    ap (λ (l : List ℕ). a ++ (b ++ (c ++ l))) (sym (append-nil d)) ∙ ap (λ (l : List ℕ). a ++ (b ++ (l ++ e))) (sym (append-nil c))
+    ∙ ap (λ (l : List ℕ). a ++ l) (sym (append_assoc b f e)) ∙ sym (append_assoc a (b ++ f) e)
 
 -- Settled
 
@@ -96,10 +121,13 @@ tells_least_routes k n seed m says =
     let first = made_line k s in
     let second = counts_line s m.run.final.traffic.counts in
     let last = settled_text s t.gap in
-    let before = first ++ (second ++ t.routes) in
-    let cut : m.text ≡ before ++ last =
-    t.whole ∙ ap (λ (l : List ℕ). first ++ l) (sym (append_assoc second t.routes last)) ∙ sym (append_assoc first (second ++ t.routes) last) in
-    let none : t.gap ≡ None = says_settled s t.gap before m.text cut says in
+    let told = t.tells_routes in
+    let routes : routes_line (length (metrics_of ps)) told.greatest ≡ t.routes = sym told.whole in
+    let counts = counts_plain s m.run.final.traffic.counts in
+    let none : t.gap ≡ None = says_settled s t.gap (first ∷ second ∷ t.routes ∷ []) [] m.text
+    (made_is_line k s, (counts.line, (subst IsLine routes (routes_is_line (length (metrics_of ps)) told.greatest), tt)))
+    (made_begins k s, (counts.no_settled, (subst (λ (l : List ℕ). BeginsWith (codes "settled yes\n") l → ⊥) routes (routes_begins (length (metrics_of ps)) told.greatest), tt)))
+    tt (t.whole ∙ three first second t.routes last) says in
     let settled : Settled s ps s.end = settled_gap s ps s.end t.gap none t.is_gap in
     let same : map (λ r. r.metric) (all_reached 0 ps) ≡ metrics_of ps = metrics_same 0 ps in
     let greatest = t.tells_routes.greatest in

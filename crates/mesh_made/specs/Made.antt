@@ -30,7 +30,7 @@ pub record MadeEmulation (k : Kind) (n seed : ℕ) : Type 0 where
   pub text : List ℕ
   pub is_text : IsMadeText k scenario run text
 
--- What the text tells where its last line is `settled yes`
+-- What the text tells where a line is `settled yes`
 
 -- a router, and a destination that it reaches at no less than that metric
 pub record Reached : Type 0 where

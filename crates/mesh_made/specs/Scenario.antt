@@ -1,12 +1,12 @@
 -- Scenarios that are made.
-use Rattle.std.specs.Prelude.{◌≡◌, ℕ, ◌+◌, ◌-◌, ◌*◌, ◌%◌, List, [], ◌∷◌, ◌++◌, length, map, Some, codes, decimal, slice_get}
+use Rattle.std.specs.Prelude.{◌≡◌, ℕ, ◌+◌, ◌-◌, ◌*◌, ◌%◌, List, [], ◌∷◌, ◌++◌, length, map, All, Some, codes, decimal, slice_get}
 use Rattle.mesh_atoms.specs.Codes.{metric_value}
 use Rattle.mesh_atoms.specs.declared.addr.Addr4.{Addr4}
 use Rattle.mesh_atoms.specs.declared.settings.RadioArc.{RadioArc}
 use Rattle.mesh_atoms.specs.declared.settings.RouterSettings.{RouterSettings}
 use Rattle.mesh_atoms.specs.declared.settings.Scenario.{Scenario}
-use Rattle.mesh_config.specs.Fields.{interface_fields}
-use Rattle.mesh_config.specs.Senders.{HaveAllSenders, addr_lists}
+use Rattle.mesh_config.specs.Fields.{interface_fields, thresholds_of}
+use Rattle.mesh_config.specs.Senders.{HaveAllSenders, addr_lists, with_steps, HaveAllQualities}
 use Rattle.mesh_made.specs.declared.pairs.Pair.{Pair}
 use Rattle.mesh_made.specs.Pairs.{ArePairs, word}
 use Rattle.mesh_stated.specs.Router.{InterfaceFields}
@@ -66,8 +66,11 @@ pub record IsMadeRouter (i : ℕ) (r : RouterSettings) : Type 0 where
   pub routing : r.willing.routing ≡ 7
   pub hello_at : r.hello_at ≡ 0
   pub tc_at : r.tc_at ≡ 0
+  pub tc_rows : r.tc_rows ≡ 1088
+  pub near_hold : r.near_hold ≡ []
   pub times : TimesIs no_members r.times
   pub interfaces : map interface_fields r.interfaces ≡ face_of i ∷ []
+  pub thresholds : All (λ f. thresholds_of f ≡ (0, 0)) r.interfaces
   pub attached : r.attached ≡ []
 
 -- The scenario
@@ -80,6 +83,7 @@ pub record IsMade (k : Kind) (n seed : ℕ) (s : Scenario) : Type 0 where
   pub count : length s.routers ≡ n
   pub routers : (i : ℕ) (r : RouterSettings) → slice_get s.routers i ≡ Some r → IsMadeRouter i r
   pub senders : HaveAllSenders (addr_lists s.routers) s.arcs 0 s.routers
+  pub qualities : HaveAllQualities (addr_lists s.routers) (with_steps s.arcs []) 0 s.routers
   pub pairs : List Pair
   pub are_pairs : ArePairs k n seed pairs
   pub arcs : AreMadeArcs k n seed 0 pairs s.arcs

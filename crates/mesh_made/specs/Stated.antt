@@ -11,6 +11,10 @@ pub record IsStated (i : ℕ) (d : StatedRouter) : Type 0 where
   pub routing : d.head.willing.routing ≡ 7
   pub hello_at : d.head.hello_at ≡ 0
   pub tc_at : d.head.tc_at ≡ 0
+  pub accept : d.head.thresholds.accept ≡ 0
+  pub reject : d.head.thresholds.reject ≡ 0
+  pub tc_rows : d.head.tc_rows ≡ 1088
+  pub near_hold : d.head.near_hold ≡ []
   pub interfaces : map stated_interface_fields d.interfaces ≡ face_of i ∷ []
   pub attached : d.attached ≡ []
 

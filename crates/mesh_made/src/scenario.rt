@@ -20,7 +20,13 @@ pub fn made(alloc: Global, kind: Kind, routers: usize, seed: u64) -> Result<Scen
     let pairs = pairs_of(alloc, kind, routers, seed)?;
     let arcs = arcs_of(alloc, kind, routers, seed, pairs.as_slice())?;
     let stated = stated_routers(alloc, routers)?;
-    let routers = make_routers(alloc, stated.as_slice(), arcs.as_slice(), DEFAULT_TIMES)?;
+    let routers = make_routers(
+        alloc,
+        stated.as_slice(),
+        arcs.as_slice(),
+        &[],
+        DEFAULT_TIMES,
+    )?;
     Ok(Scenario {
         end: 491_520,
         seed,

@@ -5,8 +5,8 @@ ghost use Rattle.mesh_made.specs.Scenario.{name_of, addr_of, face_of};
 ghost use Rattle.mesh_made.specs.Stated.{IsStated, AreStated};
 ghost use Rattle.mesh_stated.specs.Router.{stated_interface_fields};
 
-use mesh_atoms::{Addr4, Bytes, Seq, Willing, put_decimal};
-use mesh_stated::{RouterHead, StatedInterface, StatedRouter};
+use mesh_atoms::{Addr4, Bytes, DEFAULT_TC_ROWS, Seq, Willing, put_decimal};
+use mesh_stated::{RouterHead, StatedInterface, StatedRouter, Thresholds};
 use std::alloc::{AllocError, Global};
 
 fn name_of(alloc: Global, i: usize) -> Result<Bytes, AllocError>
@@ -27,6 +27,10 @@ fn head_of(alloc: Global, i: usize) -> Result<RouterHead, AllocError>
     ensures routing { IfOk result (λ head. head.willing.routing ≡ 7) }
     ensures hello_at { IfOk result (λ head. head.hello_at ≡ 0) }
     ensures tc_at { IfOk result (λ head. head.tc_at ≡ 0) }
+    ensures accept { IfOk result (λ head. head.thresholds.accept ≡ 0) }
+    ensures reject { IfOk result (λ head. head.thresholds.reject ≡ 0) }
+    ensures tc_rows { IfOk result (λ head. head.tc_rows ≡ 1088) }
+    ensures near_hold { IfOk result (λ head. head.near_hold ≡ []) }
 {
     Ok(RouterHead {
         name: name_of(alloc, i)?,
@@ -34,6 +38,12 @@ fn head_of(alloc: Global, i: usize) -> Result<RouterHead, AllocError>
             flooding: 7,
             routing: 7,
         },
+        thresholds: Thresholds {
+            accept: 0,
+            reject: 0,
+        },
+        tc_rows: DEFAULT_TC_ROWS,
+        near_hold: Seq::new(alloc),
         hello_at: 0,
         tc_at: 0,
     })

@@ -1,9 +1,9 @@
-mod Cuts
+pub mod Cuts
 mod Digits
 pub mod Joined
 mod LineLists
 pub mod LineTexts
-mod Marked
+pub mod Marked
 pub mod ReadBack
 mod RouteLines
 pub mod RunStates

@@ -1,11 +1,13 @@
 -- Texts as lists of lines, and what stands under a heading there.
-use Rattle.std.proofs.Common.{◌≡◌, ℕ, zero, suc, List, [], ◌∷◌, ◌++◌, length, map, ◌⊎◌, inl, inr, refl, sym, ap, ◌∙◌, subst, arith, append_assoc, codes, length-append}
-use Rattle.std.specs.Prelude.{Contains}
+use Rattle.std.proofs.Common.{◌≡◌, ℕ, zero, suc, Bool, true, false, not, ◌&&◌, List, [], ◌∷◌, ◌++◌, length, map, ◌⊎◌, inl, inr, refl, sym, ap, ◌∙◌, subst, arith, append_assoc, codes, length-append}
+use Rattle.std.specs.Prelude.{Contains, nat_eq}
 use Rattle.std.specs.List.{AllByRecursion as Each, flat_map}
+use Rattle.std.proofs.lemmas.Bool.{eqb-true}
 use Rattle.std.proofs.lemmas.Grind.{flat_map-append}
+use Rattle.std.proofs.lemmas.List.{append-nil}
 use Rattle.mesh_texts.specs.Marks.{joined}
 use Rattle.mesh_texts.specs.Printed.{IsLine, BeginsWith}
-use Rattle.mesh_texts.proofs.Cuts.{first_cut, inside_lacks}
+use Rattle.mesh_texts.proofs.Cuts.{lacks, first_cut, inside_lacks}
 
 -- Lists
 
@@ -94,6 +96,38 @@ first_lines (x ∷ xs) (l ∷ lines) rest a b e =
     let more = first_lines xs lines rest a.1 b.1 cut.1 in
     let same : l ≡ x = b.0.whole ∙ ap (λ (i : List ℕ). i ++ codes "\n") cut.0 ∙ sym a.0.whole in
     (more.0, ap (λ (w : List ℕ). w ∷ lines) same ∙ ap (λ (t : List (List ℕ)). x ∷ t) more.1, more.2)
+
+-- what stands before the first line feed and behind it, where there is one
+abbrev HasFeed : List ℕ → Type 0
+HasFeed s = (a : List ℕ) × (b : List ℕ) × (s ≡ a ++ 10 ∷ b) × (lacks 10 a ≡ true)
+
+feed_after : (c : ℕ) (s : List ℕ) (here : Bool) → nat_eq c 10 ≡ here → (lacks 10 s ≡ true) ⊎ HasFeed s → (lacks 10 (c ∷ s) ≡ true) ⊎ HasFeed (c ∷ s)
+feed_after c s true e rest = inr ([], s, ap (λ (x : ℕ). x ∷ s) (eqb-true c 10 e), refl)
+feed_after c s false e (inl none) = inl (ap (λ (b : Bool). not b && lacks 10 s) e ∙ none)
+feed_after c s false e (inr (a, b, is, none)) = inr (c ∷ a, b, ap (λ (l : List ℕ). c ∷ l) is, ap (λ (t : Bool). not t && lacks 10 a) e ∙ none)
+
+first_feed : (s : List ℕ) → (lacks 10 s ≡ true) ⊎ HasFeed s
+first_feed [] = inl refl
+first_feed (c ∷ s) = feed_after c s (nat_eq c 10) refl (first_feed s)
+
+-- a line that stands in a text of lines, behind a line feed, is one of them
+pub line_among : (lines : List (List ℕ)) (front l rest : List ℕ) → Each IsLine lines → IsLine l → flat lines ≡ front ++ 10 ∷ (l ++ rest) →
+    Stands lines l
+line_among [] front l rest all is e = absurd (omega (arith, ap length e, length-append front (10 ∷ (l ++ rest))))
+line_among (x ∷ lines) front l rest all is e =
+    let first = sym (at_feed x (flat lines) all.0) ∙ e in
+    let inside = inside_lacks all.0.inside all.0.one in
+    elim (first_feed front) [
+      | inl none ↦
+          let cut = first_cut 10 all.0.inside front (flat lines) (l ++ rest) inside none first in
+          let more = first_lines (l ∷ []) lines rest (is, tt) all.1 (cut.1 ∙ ap (λ (t : List ℕ). t ++ rest) (sym (append-nil l))) in
+          record { before = x ∷ []; behind = more.0; whole = ap (λ (t : List (List ℕ)). x ∷ t) more.1 }
+      | inr (a, b, is_front, none) ↦
+          let cut = first_cut 10 all.0.inside a (flat lines) (b ++ 10 ∷ (l ++ rest)) inside none
+          (first ∙ ap (λ (t : List ℕ). t ++ 10 ∷ (l ++ rest)) is_front ∙ append_assoc a (10 ∷ b) (10 ∷ (l ++ rest))) in
+          let more = line_among lines b l rest all.1 is cut.1 in
+          record { before = x ∷ more.before; behind = more.behind; whole = ap (λ (t : List (List ℕ)). x ∷ t) more.whole }
+    ]
 
 -- Under a heading
 

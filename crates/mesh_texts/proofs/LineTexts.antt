@@ -15,15 +15,16 @@ use Rattle.mesh_atoms.specs.declared.tuples.Link.{Link}
 use Rattle.mesh_atoms.specs.declared.tuples.LinkKey.{LinkKey}
 use Rattle.mesh_atoms.specs.declared.tuples.Neighbour.{Neighbour}
 use Rattle.mesh_atoms.specs.State.{Bases, state_of}
-use Rattle.mesh_radio.specs.declared.event.Counts.{Counts}
+use Rattle.mesh_traffic.specs.declared.emission.Counts.{Counts}
 use Rattle.mesh_settled.specs.declared.gap.Gap.{Gap}
 use Rattle.mesh_settled.specs.declared.gap.GapKey.{GapKey}
 use Rattle.mesh_settled.specs.declared.gap.GapKey.TheVariants.{Link as Of_link, Neighbour as Of_neighbour, TwoHop as Of_two_hop, Router as Of_router, Address as Of_address, Network as Of_network}
-use Rattle.mesh_texts.specs.Marks.{joined, line_of, dotted, slashed, node_text, metric_text, choice_text, status_text, nearness_text, relays_text, face_name, router_name, faces_of}
+use Rattle.mesh_machine.specs.Names.{router_name}
+use Rattle.mesh_texts.specs.Marks.{joined, line_of, dotted, slashed, node_text, metric_text, choice_text, status_text, nearness_text, relays_text, face_name, faces_of}
 use Rattle.mesh_texts.specs.Lines.{router_line, link_line, neighbour_line, held_line, flooding_line, routing_line, route_line, row_line}
 use Rattle.mesh_texts.specs.Events.{tick_line, heard_line, flooding_relays_line, routing_relays_line, sent_line, loss_line}
 use Rattle.mesh_texts.specs.Network.{counts_line, key_text, gap_line}
-use Rattle.mesh_texts.specs.Printed.{IsLine, BeginsWith}
+use Rattle.mesh_texts.specs.Printed.{IsLine, BeginsWith, IsPlain}
 use Rattle.mesh_texts.proofs.Cuts.{lacks, lacks_both, each_lacks, has_front}
 use Rattle.mesh_texts.proofs.Marked.{decimal_lacks, dotted_lacks, slashed_lacks, node_lacks, metric_lacks, choice_lacks, status_lacks, nearness_lacks, relays_lack, face_name_lacks, own_name_lacks, router_name_lacks, hex_lacks, name_lacks}
 
@@ -45,10 +46,13 @@ pub begins_otherwise : (front l : List ℕ) (k : ℕ) → ltb k (length front) �
 begins_otherwise front l k within differs (rest, e) = let yes = eq-eqb (get_or l k 0) (get_or front k 0) (has_front front rest l k (ltb-true k (length front) within) e) in cc
 
 -- a line that is neither a heading nor a route
-pub record IsPlain (l : List ℕ) : Type 0 where
+pub record IsNeither (l : List ℕ) : Type 0 where
   pub line : IsLine l
   pub no_heading : BeginsWith (codes "router ") l → ⊥
   pub no_route : BeginsWith (codes " route ") l → ⊥
+
+pub plain_neither : (l : List ℕ) → IsPlain l → IsNeither l
+plain_neither l is = record { line = is.line; no_heading = is.no_heading; no_route = is.no_route }
 
 address : (a : Addr4) → lacks 10 (dotted a) ≡ true
 address a = dotted_lacks 10 (omega arith) refl a
@@ -66,6 +70,10 @@ unfolding router_line
 router_is_line r originator =
     line_after (codes "router ") _ refl (line_after r.name _ (own_name_lacks 10 (omega arith) r) (line_after (codes " ") _ refl (line_after (dotted originator) _ (address originator) line_end)))
 
+pub router_no_settled : (name : List ℕ) (originator : Addr4) → BeginsWith (codes "settled yes\n") (router_line name originator) → ⊥
+unfolding router_line
+router_no_settled name originator b = begins_otherwise (codes "settled yes\n") (router_line name originator) 0 refl refl b
+
 pub router_no_route : (name : List ℕ) (originator : Addr4) → BeginsWith (codes " route ") (router_line name originator) → ⊥
 unfolding router_line
 router_no_route name originator b = begins_otherwise (codes " route ") (router_line name originator) 0 refl refl b
@@ -82,6 +90,10 @@ row_is_line faces row =
 pub row_no_heading : (faces : List Interface) (row : Route) → BeginsWith (codes "router ") (row_line faces row) → ⊥
 unfolding route_line
 row_no_heading faces row b = begins_otherwise (codes "router ") (row_line faces row) 0 refl refl b
+
+pub row_no_settled : (faces : List Interface) (row : Route) → BeginsWith (codes "settled yes\n") (row_line faces row) → ⊥
+unfolding route_line
+row_no_settled faces row b = begins_otherwise (codes "settled yes\n") (row_line faces row) 0 refl refl b
 
 pub route_begins : (dest : NetAddr) (metric : ℕ) (next : Addr4) (face : List ℕ) (parent : NetAddr) →
     BeginsWith (codes " route ") (route_line dest metric next face parent)
@@ -101,6 +113,7 @@ link_plain now r t = record {
       (line_after (codes " selector ") _ refl (line_after (choice_text t.1.selector) _ (choice_lacks t.1.selector) line_end)))))))))));
   no_heading = begins_otherwise (codes "router ") (link_line now r.name t) 0 refl refl;
   no_route = begins_otherwise (codes " route ") (link_line now r.name t) 1 refl refl;
+  no_settled = begins_otherwise (codes "settled yes\n") (link_line now r.name t) 0 refl refl;
 }
 
 pub neighbour_plain : (t : Addr4 × Neighbour) → IsPlain (neighbour_line t)
@@ -115,6 +128,7 @@ neighbour_plain t = record {
       (line_after (codes " selector ") _ refl (line_after (choice_text t.1.selector) _ (choice_lacks t.1.selector) line_end)))))))))))));
   no_heading = begins_otherwise (codes "router ") (neighbour_line t) 0 refl refl;
   no_route = begins_otherwise (codes " route ") (neighbour_line t) 1 refl refl;
+  no_settled = begins_otherwise (codes "settled yes\n") (neighbour_line t) 0 refl refl;
 }
 
 pub held_plain : (b : Bases) → IsPlain (held_line b)
@@ -127,6 +141,7 @@ held_plain b = record {
       (line_after (codes " networks ") _ refl (line_after (decimal (length b.topology.networks)) _ (number (length b.topology.networks)) line_end)))))))));
   no_heading = begins_otherwise (codes "router ") (held_line b) 0 refl refl;
   no_route = begins_otherwise (codes " route ") (held_line b) 1 refl refl;
+  no_settled = begins_otherwise (codes "settled yes\n") (held_line b) 0 refl refl;
 }
 
 pub flooding_plain : (relays : List (List Addr4)) (f : ℕ × Interface) → IsPlain (flooding_line relays f)
@@ -136,6 +151,7 @@ flooding_plain relays f = record {
       (line_after (relays_text (slice_index_or relays f.0 [])) _ (relays_lack (slice_index_or relays f.0 [])) line_end));
   no_heading = begins_otherwise (codes "router ") (flooding_line relays f) 0 refl refl;
   no_route = begins_otherwise (codes " route ") (flooding_line relays f) 1 refl refl;
+  no_settled = begins_otherwise (codes "settled yes\n") (flooding_line relays f) 0 refl refl;
 }
 
 pub routing_plain : (relays : List Addr4) → IsPlain (routing_line relays)
@@ -144,6 +160,7 @@ routing_plain relays = record {
   line = line_after (codes " routing") _ refl (line_after (relays_text relays) _ (relays_lack relays) line_end);
   no_heading = begins_otherwise (codes "router ") (routing_line relays) 0 refl refl;
   no_route = begins_otherwise (codes " route ") (routing_line relays) 5 refl refl;
+  no_settled = begins_otherwise (codes "settled yes\n") (routing_line relays) 0 refl refl;
 }
 
 -- The lines of an event
@@ -155,6 +172,7 @@ tick_plain moment r = record {
       (line_after (codes " ") _ refl (line_after r.name _ (own_name_lacks 10 (omega arith) r) line_end)));
   no_heading = begins_otherwise (codes "router ") (tick_line moment r.name) 0 refl refl;
   no_route = begins_otherwise (codes " route ") (tick_line moment r.name) 0 refl refl;
+  no_settled = begins_otherwise (codes "settled yes\n") (tick_line moment r.name) 0 refl refl;
 }
 
 pub heard_plain : (moment : ℕ) (r : RouterSettings) (i : ℕ) (sender : Addr4) (frame : List ℕ) →
@@ -168,6 +186,7 @@ heard_plain moment r i sender frame = record {
       (line_after (codes " ") _ refl (line_after _ _ (hex_lacks frame) line_end)))))))));
   no_heading = begins_otherwise (codes "router ") (heard_line moment r.name (face_name r.interfaces i) sender frame) 0 refl refl;
   no_route = begins_otherwise (codes " route ") (heard_line moment r.name (face_name r.interfaces i) sender frame) 0 refl refl;
+  no_settled = begins_otherwise (codes "settled yes\n") (heard_line moment r.name (face_name r.interfaces i) sender frame) 0 refl refl;
 }
 
 pub flooding_relays_plain : (r : RouterSettings) (relays : List (List Addr4)) (f : ℕ × Interface) →
@@ -179,6 +198,7 @@ flooding_relays_plain r relays f = record {
       (line_after (relays_text (slice_index_or relays f.0 [])) _ (relays_lack (slice_index_or relays f.0 [])) line_end))));
   no_heading = begins_otherwise (codes "router ") (flooding_relays_line r.name relays f) 1 refl refl;
   no_route = begins_otherwise (codes " route ") (flooding_relays_line r.name relays f) 0 refl refl;
+  no_settled = begins_otherwise (codes "settled yes\n") (flooding_relays_line r.name relays f) 0 refl refl;
 }
 
 pub routing_relays_plain : (r : RouterSettings) (relays : List Addr4) → IsPlain (routing_relays_line r.name relays)
@@ -188,6 +208,7 @@ routing_relays_plain r relays = record {
       (line_after (codes " routing") _ refl (line_after (relays_text relays) _ (relays_lack relays) line_end)));
   no_heading = begins_otherwise (codes "router ") (routing_relays_line r.name relays) 1 refl refl;
   no_route = begins_otherwise (codes " route ") (routing_relays_line r.name relays) 0 refl refl;
+  no_settled = begins_otherwise (codes "settled yes\n") (routing_relays_line r.name relays) 0 refl refl;
 }
 
 pub sent_plain : (moment : ℕ) (r : RouterSettings) (i : ℕ) (frame : List ℕ) →
@@ -200,6 +221,7 @@ sent_plain moment r i frame = record {
       (line_after (codes " ") _ refl (line_after _ _ (hex_lacks frame) line_end)))))));
   no_heading = begins_otherwise (codes "router ") (sent_line moment r.name (face_name r.interfaces i) frame) 0 refl refl;
   no_route = begins_otherwise (codes " route ") (sent_line moment r.name (face_name r.interfaces i) frame) 0 refl refl;
+  no_settled = begins_otherwise (codes "settled yes\n") (sent_line moment r.name (face_name r.interfaces i) frame) 2 refl refl;
 }
 
 pub loss_plain : (moment : ℕ) (routers : List RouterSettings) (a : RadioArc) →
@@ -219,6 +241,7 @@ loss_plain moment routers a =
           (line_after (codes ".") _ refl (line_after to_face _ (face (faces_of routers a.to) a.to_iface) line_end)))))))));
       no_heading = begins_otherwise (codes "router ") (loss_line moment from from_face to to_face) 0 refl refl;
       no_route = begins_otherwise (codes " route ") (loss_line moment from from_face to to_face) 0 refl refl;
+      no_settled = begins_otherwise (codes "settled yes\n") (loss_line moment from from_face to to_face) 0 refl refl;
     }
 
 -- The lines of a network
@@ -234,6 +257,7 @@ counts_plain s counts = record {
       (line_after (codes " lost ") _ refl (line_after (decimal counts.lost) _ (number counts.lost) line_end)))))))))));
   no_heading = begins_otherwise (codes "router ") (counts_line s counts) 0 refl refl;
   no_route = begins_otherwise (codes " route ") (counts_line s counts) 0 refl refl;
+  no_settled = begins_otherwise (codes "settled yes\n") (counts_line s counts) 0 refl refl;
 }
 
 parts_lack : (parts : List (List ℕ)) → AllByRecursion (λ p. lacks 10 p ≡ true) parts → lacks 10 (joined parts) ≡ true
@@ -263,14 +287,11 @@ gap_plain s gap =
           (line_after (codes " present ") _ refl (line_after (choice_text (is_some gap.present)) _ (choice_lacks (is_some gap.present)) line_end))));
       no_heading = begins_otherwise (codes "router ") (gap_line s gap) 0 refl refl;
       no_route = begins_otherwise (codes " route ") (gap_line s gap) 0 refl refl;
+      no_settled = begins_otherwise (codes "settled yes\n") (gap_line s gap) 0 refl refl;
     }
 
-pub gap_begins : (s : Scenario) (gap : Gap) → get_or (gap_line s gap) 0 0 ≡ 103
-unfolding gap_line
-gap_begins s gap = refl
-
-pub settled_plain : IsPlain (codes "settled yes\n")
-settled_plain = record {
+pub settled_neither : IsNeither (codes "settled yes\n")
+settled_neither = record {
   line = line_after (codes "settled yes") (codes "\n") refl line_end;
   no_heading = begins_otherwise (codes "router ") (codes "settled yes\n") 0 refl refl;
   no_route = begins_otherwise (codes " route ") (codes "settled yes\n") 0 refl refl;
@@ -281,4 +302,5 @@ unsettled_plain = record {
   line = line_after (codes "settled no") (codes "\n") refl line_end;
   no_heading = begins_otherwise (codes "router ") (codes "settled no\n") 0 refl refl;
   no_route = begins_otherwise (codes " route ") (codes "settled no\n") 0 refl refl;
+  no_settled = begins_otherwise (codes "settled yes\n") (codes "settled no\n") 8 refl refl;
 }

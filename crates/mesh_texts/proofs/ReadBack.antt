@@ -18,17 +18,17 @@ use Rattle.mesh_atoms.proofs.Kept.{distinct_is}
 use Rattle.mesh_settled.specs.declared.gap.Gap.{Gap}
 use Rattle.mesh_texts.specs.Marks.{dotted, face_name}
 use Rattle.mesh_texts.specs.Lines.{router_line, row_line, route_line}
-use Rattle.mesh_texts.specs.Network.{settled_text, gap_line}
+use Rattle.mesh_texts.specs.Network.{settled_text}
 use Rattle.mesh_texts.specs.Runs.{WholeRun, IsRunText}
-use Rattle.mesh_texts.specs.Printed.{IsLine, BeginsWith, SaysSettled, StandsUnder, PrintsBy}
+use Rattle.mesh_texts.specs.Printed.{IsLine, BeginsWith, SaysSettled, IsPlain, ArePlain, StandsUnder, PrintsBy}
 use Rattle.mesh_texts.specs.Laws.{EndsSettled, PrintsRows, PrintsRowsBy}
-use Rattle.mesh_texts.proofs.Cuts.{first_cut, last_cut, same_front, same_end, inside_lacks}
+use Rattle.mesh_texts.proofs.Cuts.{first_cut, same_front}
 use Rattle.mesh_texts.proofs.Marked.{own_name_lacks}
-use Rattle.mesh_texts.proofs.LineLists.{heading_front, flat, flat_both, Heads, Stands, Under, each_both, each_front, each_back, each_weaker, first_lines, stands_contained, under_past, under_behind}
-use Rattle.mesh_texts.proofs.LineTexts.{IsPlain, gap_plain, gap_begins, route_begins}
+use Rattle.mesh_texts.proofs.LineLists.{heading_front, flat, flat_both, line_among, each_has, Heads, Stands, Under, each_both, each_front, each_back, each_weaker, first_lines, stands_contained, under_past, under_behind}
+use Rattle.mesh_texts.proofs.LineTexts.{IsNeither, plain_neither, settled_neither, route_begins}
 use Rattle.mesh_texts.proofs.RunStates.{run_states}
 use Rattle.mesh_texts.proofs.RouteLines.{SameParts, same_parts, same_slashed, same_decimal, same_dotted}
-use Rattle.mesh_texts.proofs.WholeTexts.{TextLines, text_lines, settled_is_plain, sections_are_lines}
+use Rattle.mesh_texts.proofs.WholeTexts.{Settles, TextLines, text_lines, plain_lines, gap_is_plain, settled_lines, sections_are_lines, sections_settle_none}
 use Rattle.mesh_texts.proofs.Sections.{rows_of, Names, in_sections, sections_have}
 
 -- Whether it is settled
@@ -41,37 +41,44 @@ ends (l ∷ (m ∷ lines)) a some =
     let rest = ends (m ∷ lines) a.1 (omega arith) in
     (l ++ rest.0, ap (λ (t : List ℕ). l ++ t) rest.1 ∙ sym (append_assoc l rest.0 (codes "\n")))
 
-pub says_settled : (s : Scenario) (gap : Option Gap) (before text : List ℕ) → text ≡ before ++ settled_text s gap →
-    SaysSettled text → gap ≡ None
-unfolding settled_text
-says_settled s None before text e says = refl
-says_settled s (Some gap) before text e (front, f) = absurd (
-    let line = (gap_plain s gap).line in
-    let told = before ++ codes "settled no" in
-    let read = front ++ codes "\nsettled yes" in
-    let left : text ≡ (told ++ 10 ∷ line.inside) ++ 10 ∷ [] = e ∙ ap (λ (t : List ℕ). before ++ (codes "settled no\n" ++ t)) line.whole
-    ∙ sym (append_assoc before (codes "settled no") (10 ∷ (line.inside ++ 10 ∷ []))) ∙ sym (append_assoc told (10 ∷ line.inside) (10 ∷ [])) in
-    let right : text ≡ read ++ 10 ∷ [] = f ∙ sym (append_assoc front (codes "\nsettled yes") (10 ∷ [])) in
-    let cut = last_cut 10 told front line.inside (codes "settled yes") (inside_lacks line.inside line.one) refl (same_end 10 (told ++ 10 ∷ line.inside) read (sym left ∙ right)) in
-    let other : gap_line s gap ≡ codes "settled yes\n" = line.whole ∙ ap (λ (t : List ℕ). t ++ 10 ∷ []) cut.1 in
-    let first : 103 ≡ 115 = sym (gap_begins s gap) ∙ ap (λ (t : List ℕ). get_or t 0 0) other in
-    omega (arith, first))
+-- where no line is `settled yes`, none is in the text
+says_none : (lines : List (List ℕ)) (text : List ℕ) → Each IsLine lines → Each (λ l. Settles l → ⊥) lines → text ≡ flat lines → SaysSettled text → ⊥
+says_none lines text all none is (front, behind, e) =
+    let yes = codes "settled yes\n" in
+    let stands = line_among lines front yes behind all settled_neither.line (sym is ∙ e) in
+    each_has (λ l. Settles l → ⊥) stands.before stands.behind yes (subst (Each (λ l. Settles l → ⊥)) stands.whole none) ([], sym (append-nil yes))
 
-told_settled : (s : Scenario) (gap : Option Gap) (front text : List ℕ) → text ≡ (front ++ codes "\n") ++ settled_text s gap →
+pub says_settled : (s : Scenario) (gap : Option Gap) (before behind : List (List ℕ)) (text : List ℕ) → Each IsLine before →
+    Each (λ l. Settles l → ⊥) before → Each IsPlain behind → text ≡ flat before ++ (settled_text s gap ++ flat behind) → SaysSettled text → gap ≡ None
+says_settled s None before behind text lines none plain e says = refl
+says_settled s (Some gap) before behind text lines none plain e says = absurd (
+    let Other : List ℕ → Type 0 = λ l. Settles l → ⊥ in
+    let told = gap_is_plain s gap in
+    let after = told.lines ++ behind in
+    let all = each_both IsPlain told.lines behind told.each plain in
+    says_none (before ++ after) text (each_both IsLine before after lines (each_weaker IsPlain IsLine (λ l is. is.line) after all))
+    (each_both Other before after none (each_weaker IsPlain Other (λ l is. is.no_settled) after all))
+    (e ∙ ap (λ (t : List ℕ). flat before ++ (t ++ flat behind)) told.whole ∙ ap (λ (t : List ℕ). flat before ++ t) (sym (flat_both told.lines behind)) ∙ sym (flat_both before after)) says)
+
+told_settled : (s : Scenario) (gap : Option Gap) (front behind text : List ℕ) → text ≡ (front ++ codes "\n") ++ (settled_text s gap ++ behind) →
     gap ≡ None → SaysSettled text
 unfolding settled_text
-told_settled s None front text e none = (front, e ∙ append_assoc front (codes "\n") (codes "settled yes\n"))
-told_settled s (Some gap) front text e none = absurd cc
+told_settled s None front behind text e none = (front, behind, e ∙ append_assoc front (codes "\n") (codes "settled yes\n" ++ behind))
+told_settled s (Some gap) front behind text e none = absurd cc
 
 pub ends_settled : EndsSettled
-ends_settled s trace run text told =
+ends_settled s trace run text behind told plain =
     let t = text_lines s trace run text told in
+    let after = plain_lines behind plain in
     let lines = t.front ++ t.sections in
-    let plain = each_weaker IsPlain IsLine (λ l is. is.line) t.front t.plain in
-    let all = each_both IsLine t.front t.sections plain (sections_are_lines run.final.routers t.sections t.are_sections) in
-    let end = ends lines all (omega (arith, t.some, length-append t.front t.sections)) in (
-      says_settled s told.gap (flat lines) text t.whole,
-      told_settled s told.gap end.0 text (t.whole ∙ ap (λ (l : List ℕ). l ++ settled_text s told.gap) end.1),
+    let Other : List ℕ → Type 0 = λ l. Settles l → ⊥ in
+    let all = each_both IsLine t.front t.sections (each_weaker IsPlain IsLine (λ l is. is.line) t.front t.plain) (sections_are_lines run.final.routers t.sections t.are_sections) in
+    let none = each_both Other t.front t.sections (each_weaker IsPlain Other (λ l is. is.no_settled) t.front t.plain) (sections_settle_none run.final.routers t.sections t.are_sections) in
+    let end = ends lines all (omega (arith, t.some, length-append t.front t.sections)) in
+    let last = settled_text s told.gap in
+    let whole : text ++ behind ≡ flat lines ++ (last ++ behind) = ap (λ (l : List ℕ). l ++ behind) t.whole ∙ append_assoc (flat lines) last behind in (
+      says_settled s told.gap lines after.lines (text ++ behind) all none after.each (whole ∙ ap (λ (l : List ℕ). flat lines ++ (last ++ l)) after.whole),
+      told_settled s told.gap end.0 behind (text ++ behind) (whole ∙ ap (λ (l : List ℕ). l ++ (last ++ behind)) end.1),
     )
 
 -- Lines of the text
@@ -196,44 +203,49 @@ row_stands {A} f xs x within =
     let here = stands_contained xs x within in
     record { before = map f here.before; behind = map f here.behind; whole = ap (map f) here.whole ∙ map-append f here.before (x ∷ here.behind) }
 
--- all lines of a text
-record AllLines (s : Scenario) (run : WholeRun s) (gap : Option Gap) (text : List ℕ) : Type 0 where
+-- all lines of a text, and of what follows it
+record AllLines (s : Scenario) (run : WholeRun s) (gap : Option Gap) (text behind : List ℕ) : Type 0 where
   t : TextLines s run.final.routers gap text
   last : List (List ℕ)
-  plain : Each IsPlain last
+  neither : Each IsNeither last
   lines : Each IsLine (t.front ++ (t.sections ++ last))
-  whole : text ≡ flat (t.front ++ (t.sections ++ last))
+  whole : text ++ behind ≡ flat (t.front ++ (t.sections ++ last))
 
-all_lines : (s : Scenario) (trace : Bool) (run : WholeRun s) (text : List ℕ) → (told : IsRunText s trace run text) →
-    AllLines s run told.gap text
-all_lines s trace run text told =
+all_lines : (s : Scenario) (trace : Bool) (run : WholeRun s) (text behind : List ℕ) → (told : IsRunText s trace run text) → ArePlain behind →
+    AllLines s run told.gap text behind
+all_lines s trace run text behind told plain =
     let t = text_lines s trace run text told in
-    let end = settled_is_plain s told.gap in
-    let line = each_weaker IsPlain IsLine (λ l is. is.line) in
+    let end = settled_lines s told.gap in
+    let after = plain_lines behind plain in
+    let front = flat (t.front ++ t.sections) in
+    let last = end.lines ++ after.lines in
+    let all = each_both IsNeither end.lines after.lines end.each (each_weaker IsPlain IsNeither plain_neither after.lines after.each) in
     record {
       t = t;
-      last = end.lines;
-      plain = end.each;
-      lines = each_both IsLine t.front (t.sections ++ end.lines) (line t.front t.plain)
-          (each_both IsLine t.sections end.lines (sections_are_lines run.final.routers t.sections t.are_sections) (line end.lines end.each));
-      whole = t.whole ∙ ap (λ (l : List ℕ). flat (t.front ++ t.sections) ++ l) end.whole ∙ sym (flat_both (t.front ++ t.sections) end.lines)
-          ∙ ap flat (append_assoc t.front t.sections end.lines);
+      last = last;
+      neither = all;
+      lines = each_both IsLine t.front (t.sections ++ last) (each_weaker IsPlain IsLine (λ l is. is.line) t.front t.plain)
+          (each_both IsLine t.sections last (sections_are_lines run.final.routers t.sections t.are_sections) (each_weaker IsNeither IsLine (λ l is. is.line) last all));
+      whole = ap (λ (l : List ℕ). l ++ behind) t.whole ∙ append_assoc front (settled_text s told.gap) behind
+          ∙ ap (λ (l : List ℕ). front ++ (l ++ behind)) end.whole ∙ ap (λ (l : List ℕ). front ++ (flat end.lines ++ l)) after.whole
+          ∙ ap (λ (l : List ℕ). front ++ l) (sym (flat_both end.lines after.lines)) ∙ sym (flat_both (t.front ++ t.sections) last)
+          ∙ ap flat (append_assoc t.front t.sections last);
     }
 
 -- a route that is printed is a row of the router
-printed_row : (s : Scenario) (trace : Bool) (run : WholeRun s) (text : List ℕ) → IsRunText s trace run text →
-    (x : ℕ) (p : State) → At run.final.routers x p → (dest : NetAddr) (metric : ℕ) (next : Addr4) (face : List ℕ) → PrintsBy text p.settings.name dest metric next face →
+printed_row : (s : Scenario) (trace : Bool) (run : WholeRun s) (text behind : List ℕ) → IsRunText s trace run text → ArePlain behind →
+    (x : ℕ) (p : State) → At run.final.routers x p → (dest : NetAddr) (metric : ℕ) (next : Addr4) (face : List ℕ) → PrintsBy (text ++ behind) p.settings.name dest metric next face →
     (row : Route) × Contains p.routes row × SameParts dest metric next face row.dest row.metric row.next (face_name p.settings.interfaces row.iface)
-printed_row s trace run text told x p at dest metric next face (parent, su) =
-    let all = all_lines s trace run text told in
+printed_row s trace run text behind told plain x p at dest metric next face (parent, su) =
+    let all = all_lines s trace run text behind told plain in
     let states = run_states s run in
     let line = route_line dest metric next face parent in
     let name = p.settings.name in
     let Kind : List ℕ → Type 0 = BeginsWith (heading_front name) in
     let lines = all.t.front ++ (all.t.sections ++ all.last) in
     let u = under_past Kind (heading_heads name) all.t.front (all.t.sections ++ all.last) line (each_weaker IsPlain (λ l. Heads l → ⊥) (λ l is. is.no_heading) all.t.front all.t.plain)
-    (stands_among text name line lines all.lines all.whole su) in
-    let found = in_sections Kind (heading_heads name) run.final.routers all.t.sections all.last line all.t.are_sections all.plain (route_begins dest metric next face parent) u in
+    (stands_among (text ++ behind) name line lines all.lines all.whole su) in
+    let found = in_sections Kind (heading_heads name) run.final.routers all.t.sections all.last line all.t.are_sections all.neither (route_begins dest metric next face parent) u in
     let named = named_so p.settings found.s.settings found.originator found.kind in
     let same_place : x ≡ found.x = one_router s x found.x p.settings found.s.settings (states.settings x p at) (states.settings found.x found.s (record { is = found.at })) named in
     let same : found.s ≡ p = same_element run.final.routers x found.x found.s p same_place found.at at.is in
@@ -244,44 +256,44 @@ printed_row s trace run text told x p at dest metric next face (parent, su) =
     same_element states x y a b e f g = cc
 
 -- a row of the router is printed
-row_printed : (s : Scenario) (trace : Bool) (run : WholeRun s) (text : List ℕ) → IsRunText s trace run text →
+row_printed : (s : Scenario) (trace : Bool) (run : WholeRun s) (text behind : List ℕ) → IsRunText s trace run text → ArePlain behind →
     (x : ℕ) (p : State) → At run.final.routers x p → (row : Route) → Contains p.routes row →
-    PrintsBy text p.settings.name row.dest row.metric row.next (face_name p.settings.interfaces row.iface)
-row_printed s trace run text told x p at row within =
-    let all = all_lines s trace run text told in
+    PrintsBy (text ++ behind) p.settings.name row.dest row.metric row.next (face_name p.settings.interfaces row.iface)
+row_printed s trace run text behind told plain x p at row within =
+    let all = all_lines s trace run text behind told plain in
     let line = row_line p.settings.interfaces row in
     let lines = all.t.front ++ (all.t.sections ++ all.last) in
     let name = p.settings.name in
     let u = under_behind (Names name) all.t.front (all.t.sections ++ all.last) line
     (sections_have run.final.routers all.t.sections all.last line all.t.are_sections x p at.is (row_stands (row_line p.settings.interfaces) p.routes row within)) in (
       row.parent,
-      among_stands text name line lines all.lines all.whole
+      among_stands (text ++ behind) name line lines all.lines all.whole
           (record { before = u.before; heading = u.heading; between = u.between; behind = u.behind; whole = u.whole; kind = begins_so name u.heading u.kind; no_other = u.no_other }),
     )
 
 pub prints_rows : PrintsRows
-prints_rows s trace run text told x p at dest metric d m = (
+prints_rows s trace run text behind told plain x p at dest metric d m = (
   λ (next, face, by).
-      let row = printed_row s trace run text told x p at dest metric next face by in
+      let row = printed_row s trace run text behind told plain x p at dest metric next face by in
       (row.0, row.1, sym (same_slashed dest row.0.dest d row.2.dests), sym (same_decimal metric row.0.metric m row.2.metrics)),
   λ (row, within, e, f).
-      let by = row_printed s trace run text told x p at row within in (
+      let by = row_printed s trace run text behind told plain x p at row within in (
         row.next,
         face_name p.settings.interfaces row.iface,
-        subst (λ (t : NetAddr). PrintsBy text p.settings.name t metric row.next (face_name p.settings.interfaces row.iface)) e
-            (subst (λ (c : ℕ). PrintsBy text p.settings.name row.dest c row.next (face_name p.settings.interfaces row.iface)) f by),
+        subst (λ (t : NetAddr). PrintsBy (text ++ behind) p.settings.name t metric row.next (face_name p.settings.interfaces row.iface)) e
+            (subst (λ (c : ℕ). PrintsBy (text ++ behind) p.settings.name row.dest c row.next (face_name p.settings.interfaces row.iface)) f by),
       ),
 )
 
 pub prints_rows_by : PrintsRowsBy
-prints_rows_by s trace run text told x p at dest metric next face d m n = (
+prints_rows_by s trace run text behind told plain x p at dest metric next face d m n = (
   λ by.
-      let row = printed_row s trace run text told x p at dest metric next face by in
+      let row = printed_row s trace run text behind told plain x p at dest metric next face by in
       (row.0, row.1, sym (same_slashed dest row.0.dest d row.2.dests), sym (same_decimal metric row.0.metric m row.2.metrics), sym (same_dotted next row.0.next n row.2.nexts), sym row.2.faces),
   λ (row, within, e, f, g, h).
-      let by = row_printed s trace run text told x p at row within in
-      subst (λ (l : List ℕ). PrintsBy text p.settings.name dest metric next l) h
-      (subst (λ (a : Addr4). PrintsBy text p.settings.name dest metric a (face_name p.settings.interfaces row.iface)) g
-      (subst (λ (t : NetAddr). PrintsBy text p.settings.name t metric row.next (face_name p.settings.interfaces row.iface)) e
-      (subst (λ (c : ℕ). PrintsBy text p.settings.name row.dest c row.next (face_name p.settings.interfaces row.iface)) f by))),
+      let by = row_printed s trace run text behind told plain x p at row within in
+      subst (λ (l : List ℕ). PrintsBy (text ++ behind) p.settings.name dest metric next l) h
+      (subst (λ (a : Addr4). PrintsBy (text ++ behind) p.settings.name dest metric a (face_name p.settings.interfaces row.iface)) g
+      (subst (λ (t : NetAddr). PrintsBy (text ++ behind) p.settings.name t metric row.next (face_name p.settings.interfaces row.iface)) e
+      (subst (λ (c : ℕ). PrintsBy (text ++ behind) p.settings.name row.dest c row.next (face_name p.settings.interfaces row.iface)) f by))),
 )

@@ -12,7 +12,8 @@ use Rattle.mesh_machine.specs.declared.frame.Frame.{Frame}
 use Rattle.mesh_machine.specs.Machine.{Event, Step, Heard_frame, Ticked, Steps, No_events, First_event, Run}
 use Rattle.mesh_machine.proofs.Effects.{hears_settings}
 use Rattle.mesh_radio.specs.declared.event.NetEvent.{NetEvent}
-use Rattle.mesh_radio.specs.Net.{Net, Traffic, NetStep, By_delivery, By_tick, By_last_tick, Moves, event_of, frames_of, with_heard}
+use Rattle.mesh_radio.specs.Net.{Net, NetStep, By_delivery, By_tick, By_last_tick, Moves, event_of, frames_of}
+use Rattle.mesh_traffic.specs.Sending.{Traffic, with_heard}
 use Rattle.mesh_radio.specs.Run.{NetRun, events_at}
 use Rattle.mesh_radio.proofs.Through.{are_machines, end_together}
 use Rattle.mesh_settled.specs.Network.{IsNetwork}

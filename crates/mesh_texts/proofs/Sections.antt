@@ -6,9 +6,9 @@ use Rattle.mesh_atoms.specs.declared.addr.Addr4.{Addr4}
 use Rattle.mesh_atoms.specs.State.{State}
 use Rattle.mesh_texts.specs.Marks.{line_of, dotted}
 use Rattle.mesh_texts.specs.Lines.{router_line, row_line}
-use Rattle.mesh_texts.specs.Printed.{BeginsWith}
+use Rattle.mesh_texts.specs.Printed.{BeginsWith, IsPlain}
 use Rattle.mesh_texts.proofs.LineLists.{Heads, Stands, Under, each_both, each_front, each_back, each_map, each_weaker, each_has, cons_heads, cons_tails, stands_in_two, under_past, under_behind}
-use Rattle.mesh_texts.proofs.LineTexts.{IsPlain, router_no_route, row_no_heading}
+use Rattle.mesh_texts.proofs.LineTexts.{IsNeither, plain_neither, router_no_route, row_no_heading}
 use Rattle.mesh_texts.proofs.WholeTexts.{AreSectionLines}
 
 -- a line that begins like a route
@@ -33,10 +33,10 @@ no_headings = each_weaker IsPlain (λ l. Heads l → ⊥) (λ l is. is.no_headin
 rows_no_headings : (s : State) → Each (λ l. Heads l → ⊥) (rows_of s)
 rows_no_headings s = each_map (λ l. Heads l → ⊥) (row_line s.settings.interfaces) (row_no_heading s.settings.interfaces) s.routes
 
--- a plain line is no route
-plain_no_route : (before behind : List (List ℕ)) (line : List ℕ) (lines : List (List ℕ)) → Each IsPlain lines →
+-- a line that is neither is no route
+neither_no_route : (before behind : List (List ℕ)) (line : List ℕ) (lines : List (List ℕ)) → Each IsNeither lines →
     lines ≡ before ++ line ∷ behind → Routes line → ⊥
-plain_no_route before behind line lines plain e route = (each_has IsPlain before behind line (subst (Each IsPlain) e plain)).no_route route
+neither_no_route before behind line lines all e route = (each_has IsNeither before behind line (subst (Each IsNeither) e all)).no_route route
 
 -- with further lines behind them
 with_back : (heading : List ℕ) (others rows rest back lines : List (List ℕ)) → lines ≡ heading ∷ (others ++ (rows ++ rest)) →
@@ -47,9 +47,9 @@ with_back heading others rows rest back lines e =
 
 -- before the first heading stands no route
 no_route_first : (states : List State) (lines back between behind : List (List ℕ)) (line : List ℕ) →
-    AreSectionLines states lines → Each IsPlain back →
+    AreSectionLines states lines → Each IsNeither back →
     lines ++ back ≡ between ++ line ∷ behind → Each (λ l. Heads l → ⊥) between → Routes line → ⊥
-no_route_first [] lines back between behind line are plain e clear route = plain_no_route between behind line back plain (ap (λ (l : List (List ℕ)). l ++ back) (sym are) ∙ e) route
+no_route_first [] lines back between behind line are plain e clear route = neither_no_route between behind line back plain (ap (λ (l : List (List ℕ)). l ++ back) (sym are) ∙ e) route
 no_route_first (s ∷ more) lines back between behind line (originator, others, rest, _, _, is) plain e clear route = by between (sym (with_back (heading_of s originator) others (rows_of s) rest back lines is) ∙ e) clear where
   by : (between : List (List ℕ)) → heading_of s originator ∷ (others ++ (rows_of s ++ (rest ++ back))) ≡ between ++ line ∷ behind → Each (λ l. Heads l → ⊥) between → ⊥
   by [] e clear = router_no_route s.settings.name originator (subst Routes (sym (cons_heads (heading_of s originator) line (others ++ (rows_of s ++ (rest ++ back))) behind e)) route)
@@ -67,10 +67,10 @@ pub record IsIn (states : List State) (Kind : List ℕ → Type 0) (line : List 
 -- a route that stands under a heading is among the routes of that section
 pub in_sections : (Kind : List ℕ → Type 0) → ((l : List ℕ) → Kind l → Heads l) →
     (states : List State) (lines back : List (List ℕ)) (line : List ℕ) → AreSectionLines states lines →
-    Each IsPlain back → Routes line → Under (lines ++ back) Kind line → IsIn states Kind line
+    Each IsNeither back → Routes line → Under (lines ++ back) Kind line → IsIn states Kind line
 in_sections Kind heads [] lines back line are plain route u =
     let whole : back ≡ u.before ++ u.heading ∷ (u.between ++ line ∷ u.behind) = ap (λ (l : List (List ℕ)). l ++ back) (sym are) ∙ u.whole in
-    absurd ((each_has IsPlain u.before (u.between ++ line ∷ u.behind) u.heading (subst (Each IsPlain) whole plain)).no_heading (heads u.heading u.kind))
+    absurd ((each_has IsNeither u.before (u.between ++ line ∷ u.behind) u.heading (subst (Each IsNeither) whole plain)).no_heading (heads u.heading u.kind))
 in_sections Kind heads (s ∷ more) lines back line (originator, others, rest, others_plain, are, is) plain route u =
     by (in_sections Kind heads more rest back line are plain route) u.before (sym (with_back (heading_of s originator) others (rows_of s) rest back lines is) ∙ u.whole) where
       by_rows : heading_of s originator ≡ u.heading → (between : List (List ℕ)) → rows_of s ++ (rest ++ back) ≡ between ++ line ∷ u.behind → u.between ≡ others ++ between → IsIn (s ∷ more) Kind line
@@ -85,7 +85,7 @@ in_sections Kind heads (s ∷ more) lines back line (originator, others, rest, o
 
       by : (Under (rest ++ back) Kind line → IsIn more Kind line) → (before : List (List ℕ)) → heading_of s originator ∷ (others ++ (rows_of s ++ (rest ++ back))) ≡ before ++ u.heading ∷ (u.between ++ line ∷ u.behind) → IsIn (s ∷ more) Kind line
       by again [] e = elim (stands_in_two others (rows_of s ++ (rest ++ back)) u.between u.behind line (cons_tails (heading_of s originator) u.heading (others ++ (rows_of s ++ (rest ++ back))) (u.between ++ line ∷ u.behind) e)) [
-        | inl here ↦ absurd (plain_no_route here.before here.behind line others others_plain here.whole route)
+        | inl here ↦ absurd (neither_no_route here.before here.behind line others (each_weaker IsPlain IsNeither plain_neither others others_plain) here.whole route)
         | inr there ↦ by_rows (cons_heads (heading_of s originator) u.heading (others ++ (rows_of s ++ (rest ++ back))) (u.between ++ line ∷ u.behind) e) there.0 there.1 there.2
       ]
       by again (b ∷ before) e = later (again

@@ -3,6 +3,7 @@ use Rattle.std.proofs.Common.{◌≡◌, ℕ, ◌+◌, ◌<◌, Bool, true, fals
 use Rattle.std.specs.Prelude.{slice_get}
 use Rattle.std.specs.List.{AllByRecursion as Each, flat_map, enumerate_from}
 use Rattle.std.proofs.lemmas.List.{append-nil}
+use Rattle.std.proofs.lemmas.List.Elements.{recursion_from_All}
 use Rattle.std.proofs.lemmas.List.Folds.{flat_map-map}
 use Rattle.mesh_atoms.specs.declared.addr.Addr4.{Addr4}
 use Rattle.mesh_atoms.specs.declared.settings.Interface.{Interface}
@@ -10,7 +11,7 @@ use Rattle.mesh_atoms.specs.declared.settings.RadioArc.{RadioArc}
 use Rattle.mesh_atoms.specs.declared.settings.RouterSettings.{RouterSettings}
 use Rattle.mesh_atoms.specs.declared.settings.Scenario.{Scenario}
 use Rattle.mesh_atoms.specs.State.{State}
-use Rattle.mesh_radio.specs.declared.event.Emission.{Emission}
+use Rattle.mesh_traffic.specs.declared.emission.Emission.{Emission}
 use Rattle.mesh_radio.specs.declared.event.NetEvent.{NetEvent}
 use Rattle.mesh_radio.specs.Net.{Net}
 use Rattle.mesh_settled.specs.declared.gap.Gap.{Gap}
@@ -20,13 +21,13 @@ use Rattle.mesh_texts.specs.Section.{AreAllLinkLines, ways_text, IsSection, AreS
 use Rattle.mesh_texts.specs.Events.{happened_line, event_line, flooding_relays_line, relays_lines, arc_line, lost_line, sent_line, sent_lines, event_text, IsEventText, Of_taken, Of_refused}
 use Rattle.mesh_texts.specs.Network.{counts_line, gap_line, settled_text}
 use Rattle.mesh_texts.specs.Runs.{Traces, WholeRun, IsTrace, IsRunText}
-use Rattle.mesh_texts.specs.Printed.{IsLine}
+use Rattle.mesh_texts.specs.Printed.{IsLine, BeginsWith, IsPlain, ArePlain}
 use Rattle.mesh_texts.proofs.LineLists.{flat, flat_both, each_both, each_map, each_weaker}
-use Rattle.mesh_texts.proofs.LineTexts.{IsPlain, link_plain, neighbour_plain, held_plain, flooding_plain, routing_plain, tick_plain, heard_plain, flooding_relays_plain, routing_relays_plain, sent_plain, loss_plain, counts_plain, gap_plain, settled_plain, unsettled_plain, router_is_line, row_is_line}
+use Rattle.mesh_texts.proofs.LineTexts.{IsNeither, plain_neither, router_no_settled, row_no_settled, link_plain, neighbour_plain, held_plain, flooding_plain, routing_plain, tick_plain, heard_plain, flooding_relays_plain, routing_relays_plain, sent_plain, loss_plain, counts_plain, gap_plain, settled_neither, unsettled_plain, router_is_line, row_is_line}
 
 -- Texts of plain lines
 
--- a text that is lines which are neither headings nor routes
+-- a text that is lines which are neither headings nor routes, nor `settled yes`
 pub record Plain (text : List ℕ) : Type 0 where
   pub lines : List (List ℕ)
   pub each : Each IsPlain lines
@@ -103,10 +104,21 @@ trace_plain false s run text e = plain_is text [] e plain_none
 trace_plain true s run text t = traces_plain run.opening run.events run.final text t
 
 -- what is said of the gap
-pub settled_is_plain : (s : Scenario) (gap : Option Gap) → Plain (settled_text s gap)
+pub record Neither (text : List ℕ) : Type 0 where
+  pub lines : List (List ℕ)
+  pub each : Each IsNeither lines
+  pub whole : text ≡ flat lines
+
+pub gap_is_plain : (s : Scenario) (gap : Gap) → Plain (settled_text s (Some gap))
 unfolding settled_text
-settled_is_plain s None = plain_one _ settled_plain
-settled_is_plain s (Some gap) = plain_both (codes "settled no\n") (gap_line s gap) (plain_one _ unsettled_plain) (plain_one _ (gap_plain s gap))
+gap_is_plain s gap = plain_both (codes "settled no\n") (gap_line s gap) (plain_one _ unsettled_plain) (plain_one _ (gap_plain s gap))
+
+pub settled_lines : (s : Scenario) (gap : Option Gap) → Neither (settled_text s gap)
+unfolding settled_text
+settled_lines s None = record { lines = codes "settled yes\n" ∷ []; each = (settled_neither, tt); whole = refl }
+settled_lines s (Some gap) =
+    let told = gap_is_plain s gap in
+    record { lines = told.lines; each = each_weaker IsPlain IsNeither plain_neither told.lines told.each; whole = told.whole }
 
 -- Sections
 
@@ -172,6 +184,21 @@ sections_lines (s ∷ more) text (first, rest, is, are, e) =
           ∙ ap (λ (t : List ℕ). heading ++ t) (ap (λ (t : List ℕ). flat here.others ++ t) (sym (flat_both rows there.0)) ∙ sym (flat_both here.others (rows ++ there.0))),
     )
 
+-- none of them is `settled yes`
+abbrev pub Settles : List ℕ → Type 0
+Settles l = BeginsWith (codes "settled yes\n") l
+
+pub sections_settle_none : (states : List State) (lines : List (List ℕ)) → AreSectionLines states lines → Each (λ l. Settles l → ⊥) lines
+sections_settle_none [] lines e = subst (Each (λ l. Settles l → ⊥)) (sym e) tt
+sections_settle_none (s ∷ more) lines (originator, others, rest, plain, are, e) =
+    let Other : List ℕ → Type 0 = λ l. Settles l → ⊥ in
+    let rows = map (row_line s.settings.interfaces) s.routes in
+    subst (Each Other) (sym e) (
+      router_no_settled s.settings.name originator,
+      each_both Other others (rows ++ rest) (each_weaker IsPlain Other (λ l is. is.no_settled) others plain)
+          (each_both Other rows rest (each_map Other (row_line s.settings.interfaces) (row_no_settled s.settings.interfaces) s.routes) (sections_settle_none more rest are)),
+    )
+
 -- each of them is a line
 pub sections_are_lines : (states : List State) (lines : List (List ℕ)) → AreSectionLines states lines → Each IsLine lines
 sections_are_lines [] lines e = subst (Each IsLine) (sym e) tt
@@ -184,6 +211,10 @@ sections_are_lines (s ∷ more) lines (originator, others, rest, plain, are, e) 
     )
 
 -- The whole
+
+-- plain lines that follow
+pub plain_lines : (text : List ℕ) → ArePlain text → Plain text
+plain_lines text are = record { lines = are.lines; each = recursion_from_All IsPlain are.lines are.each; whole = are.whole }
 
 -- the lines of a text: those before the first section, the sections, and what is said of the gap
 pub record TextLines (s : Scenario) (states : List State) (gap : Option Gap) (text : List ℕ) : Type 0 where

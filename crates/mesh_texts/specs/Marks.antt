@@ -7,7 +7,8 @@ use Rattle.mesh_atoms.specs.declared.metric.Metric.{Metric}
 use Rattle.mesh_atoms.specs.declared.settings.Interface.{Interface}
 use Rattle.mesh_atoms.specs.declared.settings.RouterSettings.{RouterSettings}
 use Rattle.mesh_atoms.specs.Codes.{metric_value}
-use Rattle.mesh_atoms.specs.State.{LinkState, Is_pending, Is_lost, Is_symmetric, Is_heard}
+use Rattle.mesh_atoms.specs.declared.tuples.LinkState.{LinkState}
+use Rattle.mesh_atoms.specs.declared.tuples.LinkState.TheVariants.{Pending as Is_pending, Lost as Is_lost, Symmetric as Is_symmetric, Heard as Is_heard}
 
 -- parts one behind the other
 abbrev pub joined : List (List ℕ) → List ℕ
@@ -70,18 +71,11 @@ name_of_face (Some face) = face.name
 unfoldable pub face_name : List Interface → ℕ → List ℕ
 face_name faces i = name_of_face (slice_get faces i)
 
--- the name of a router, and its interfaces; nothing where there is none
-abbrev pub name_of_router : Option RouterSettings → List ℕ
-name_of_router None = []
-name_of_router (Some r) = r.name
-
+-- the interfaces of a router; none where there is none
 abbrev pub faces_of_router : Option RouterSettings → List Interface
 faces_of_router None = []
 faces_of_router (Some r) = r.interfaces
 
--- the name and the interfaces of the router of that number
-unfoldable pub router_name : List RouterSettings → ℕ → List ℕ
-router_name routers x = name_of_router (slice_get routers x)
-
+-- the interfaces of the router of that number
 unfoldable pub faces_of : List RouterSettings → ℕ → List Interface
 faces_of routers x = faces_of_router (slice_get routers x)

@@ -26,9 +26,22 @@ pub record IsLine (line : List ℕ) : Type 0 where
 abbrev pub BeginsWith : List ℕ → List ℕ → Type 0
 BeginsWith front text = (rest : List ℕ) × (text ≡ front ++ rest)
 
--- the last line of the text, behind others, is `settled yes`
+-- a line of the text, behind others, is `settled yes`
 abbrev pub SaysSettled : List ℕ → Type 0
-SaysSettled text = (front : List ℕ) × (text ≡ front ++ codes "\nsettled yes\n")
+SaysSettled text = (front : List ℕ) × (behind : List ℕ) × (text ≡ front ++ (codes "\nsettled yes\n" ++ behind))
+
+-- a line that begins neither like a heading nor like a route, and isn't `settled yes`
+pub record IsPlain (l : List ℕ) : Type 0 where
+  pub line : IsLine l
+  pub no_heading : BeginsWith (codes "router ") l → ⊥
+  pub no_route : BeginsWith (codes " route ") l → ⊥
+  pub no_settled : BeginsWith (codes "settled yes\n") l → ⊥
+
+-- a text of such lines
+pub record ArePlain (text : List ℕ) : Type 0 where
+  pub lines : List (List ℕ)
+  pub each : All IsPlain lines
+  pub whole : text ≡ flat_map (λ l. l) lines
 
 -- the line stands under the heading of the router of that name, before any other heading
 pub record StandsUnder (text name line : List ℕ) : Type 0 where

@@ -9,7 +9,7 @@ ghost use Rattle.mesh_texts.specs.Lines.{router_line, link_line, neighbour_line,
 
 use crate::names::face_name;
 use crate::pieces::{Piece, put_line};
-use mesh_atoms::{Addr4, Bytes, Interface, Link, LinkKey, Neighbour, Route, Seq};
+use mesh_atoms::{Addr4, Bytes, Interface, Link, LinkKey, LinkState, Neighbour, Route, Seq};
 use mesh_machine::RouterView;
 use std::alloc::AllocError;
 
@@ -35,16 +35,11 @@ pub fn put_router_line(out: &mut Bytes, name: &[u8], originator: Addr4) -> Resul
 fn status_text(link: &Link, now: u64) -> &'static [u8]
     ensures { result.now ≡ status_text (state_of link.now now) }
 {
-    if link.pending {
-        b"pending"
-    } else if link.lost {
-        b"lost"
-    } else if now < link.sym {
-        b"symmetric"
-    } else if now < link.heard {
-        b"heard"
-    } else {
-        b"lost"
+    match link.state(now) {
+        LinkState::Pending => b"pending",
+        LinkState::Lost => b"lost",
+        LinkState::Symmetric => b"symmetric",
+        LinkState::Heard => b"heard",
     }
 }
 

@@ -1,6 +1,6 @@
-//! The names of routers and of their interfaces.
+//! The interfaces of routers, and their names.
 ghost use Rattle.std.specs.Prelude.{◌≡◌};
-ghost use Rattle.mesh_texts.specs.Marks.{face_name, router_name, faces_of};
+ghost use Rattle.mesh_texts.specs.Marks.{face_name, faces_of};
 
 use mesh_atoms::{Interface, RouterSettings};
 
@@ -11,17 +11,6 @@ pub fn face_name(faces: &[Interface], iface: usize) -> &[u8]
 {
     match faces.get(iface) {
         Some(face) => face.name.as_slice(),
-        None => b"",
-    }
-}
-
-/// The name of the router of that number; nothing where there is none.
-#[tactic(auto, unfolding(crate::specs::Marks::router_name))]
-pub fn router_name(routers: &[RouterSettings], router: usize) -> &[u8]
-    ensures { result.now ≡ router_name routers.now router }
-{
-    match routers.get(router) {
-        Some(settings) => settings.name.as_slice(),
         None => b"",
     }
 }

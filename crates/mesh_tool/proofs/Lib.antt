@@ -1,2 +1,4 @@
 mod Answering
 mod Refusal
+mod Running
+mod Spent

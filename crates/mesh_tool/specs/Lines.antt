@@ -25,5 +25,14 @@ read_line = codes "mesh: read fault\n"
 unfoldable pub refused_line : ℕ → List ℕ → List ℕ
 refused_line number key = codes "mesh: refused " ++ decimal number ++ codes " " ++ refusal_name number ++ codes " " ++ key ++ codes "\n"
 
+-- an interface, counted from 0, couldn't be attached
+unfoldable pub attach_line : ℕ → List ℕ
+attach_line interface = codes "mesh: attach " ++ (decimal interface ++ codes "\n")
+
+-- so many turns were done, the greatest moment told, and the end, which none came to
+unfoldable pub turns_line : ℕ → ℕ → ℕ → List ℕ
+turns_line turns moment end =
+    (codes "mesh: turns " ++ (decimal turns ++ codes " moment ")) ++ (decimal moment ++ (codes " below " ++ (decimal end ++ codes "\n")))
+
 abbrev pub memory_line : List ℕ
 memory_line = codes "mesh: memory\n"

@@ -11,4 +11,6 @@ code_of status.Read = 2
 code_of status.Write = 3
 code_of status.Refused = 4
 code_of status.Packets = 5
+code_of status.Attach = 6
+code_of status.Turns = 7
 code_of status.Memory = 8

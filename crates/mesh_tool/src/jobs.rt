@@ -1,20 +1,22 @@
 //! The jobs of command lines: what each reads and puts, before anything is told of a fault.
 ghost use Rattle.std.specs.Prelude.{◌≡◌, ◌≤◌, ℕ, List, [], IfOk, IfErr};
 ghost use Rattle.mesh_atoms.specs.Settings.{IsCount};
-ghost use Rattle.mesh_tool.specs.Calls.{Call, IsInput};
-ghost use Rattle.mesh_tool.specs.Endings.{with_source, with_out, StopsReading, Leaves, DoesJob, Does};
+ghost use Rattle.mesh_emulate.specs.Wants.{wants_of};
+ghost use Rattle.mesh_tool.specs.Calls.{Call, UsesNoAir, UsesAir, word_at, wants_in, IsInput};
+ghost use Rattle.mesh_tool.specs.Endings.{with_words, with_source, with_air, with_out, StopsReading, Leaves, DoesJob, Does};
 ghost use Rattle.mesh_words.specs.CommandLines.{IsInRange};
 ghost use Rattle.mesh_words.specs.Words.{texts};
 
 use crate::ending::Ending;
 use mesh_atoms::Bytes;
-use mesh_emulate::EmulateFault;
+use mesh_emulate::{EmulateFault, NamedPacket, Wanted};
 use mesh_expire::Bases;
-use mesh_io::{ReadFault, Sink, Source, Stop, read_all};
-use mesh_words::{Job, Kind, read_words};
+use mesh_io::{Air, Clock, ReadFault, Sink, Source, Stop, read_all};
+use mesh_run::RunFault;
+use mesh_words::{Job, Kind, PacketWords, read_words};
 use std::alloc::Global;
 
-// The most octets that an input may have: of `dump`, and of `emulate`.
+// The most octets that an input may have: of `dump`, and of `run` and `emulate`.
 const MOST_LISTED: usize = 67_108_864;
 
 const MOST_STATED: usize = 1_048_576;
@@ -37,7 +39,7 @@ fn read_input<S: Source>(alloc: Global, input: &mut S, most: usize) -> Result<By
 
 // Lists the lines of these octets.
 fn list<O: Sink>(alloc: Global, octets: &[u8], recode: bool, out: &mut O) -> Ending
-    ensures leaves { Leaves (Job.Dump recode) octets.now
+    ensures leaves { (call : Call) → Leaves call (Job.Dump recode) octets.now
         (O.content out.old) (O.content out.new) (O.faults out.old) (O.faults out.new) result }
     ensures later { O.faults out.old ≤ O.faults out.new }
 {
@@ -49,17 +51,78 @@ fn list<O: Sink>(alloc: Global, octets: &[u8], recode: bool, out: &mut O) -> End
     }
 }
 
+// The word at that place; empty where there is none.
+fn word_at(words: &[String], place: usize) -> &[u8]
+    ensures { result.now ≡ word_at (texts words.now) place }
+{
+    match words.get(place) {
+        Some(word) => word.as_bytes(),
+        None => b"",
+    }
+}
+
+// What `emulate` is asked for.
+fn wanted<'a>(words: &'a [String], trace: bool, send: Option<PacketWords>) -> Wanted<'a>
+    ensures { wants_of result ≡ wants_in (texts words.now) trace send }
+{
+    match send {
+        Some(packet) => Wanted {
+            trace,
+            send: Some(NamedPacket {
+                from: word_at(words, packet.from),
+                dest: packet.dest,
+            }),
+        },
+        None => Wanted { trace, send: None },
+    }
+}
+
 // Emulates the network that these octets state.
-fn emulate<B: Bases, O: Sink>(alloc: Global, octets: &[u8], trace: bool, out: &mut O) -> Ending
-    ensures leaves { Leaves (Job.Emulate trace) octets.now
+fn emulate<B: Bases, O: Sink>(
+    alloc: Global,
+    words: &[String],
+    octets: &[u8],
+    trace: bool,
+    send: Option<PacketWords>,
+    out: &mut O,
+) -> Ending
+    ensures leaves { (call : Call) → Leaves (with_words call (texts words.now)) (Job.Emulate trace send) octets.now
         (O.content out.old) (O.content out.new) (O.faults out.old) (O.faults out.new) result }
     ensures later { O.faults out.old ≤ O.faults out.new }
 {
-    match mesh_emulate::emulate::<B, O>(alloc, octets, trace, out) {
+    match mesh_emulate::emulate::<B, O>(alloc, octets, &wanted(words, trace, send), out) {
         Ok(()) => Ending::Done,
         Err(EmulateFault::Refused { number, key }) => Ending::Refused { number, key },
         Err(EmulateFault::Stopped(Stop::Write)) => Ending::Write,
         Err(EmulateFault::Stopped(Stop::Memory)) => Ending::Memory,
+    }
+}
+
+// Runs the router that these octets state.
+fn run<B: Bases, O: Sink, A: Air, C: Clock>(
+    alloc: Global,
+    octets: &[u8],
+    turns: u32,
+    out: &mut O,
+    air: &mut A,
+    clock: &mut C,
+) -> Ending
+    requires { A.attached air.old ≡ 0 }
+    ensures leaves { (call : Call) → Leaves (with_air call (C.moments clock.old) (C.moments clock.new) (A.reports air.old) (A.reports air.new)
+        (A.attached air.new) (A.faults air.old) (A.faults air.new)) (Job.Run turns) octets.now
+        (O.content out.old) (O.content out.new) (O.faults out.old) (O.faults out.new) result }
+    ensures uses { (call : Call) → UsesAir (with_air call (C.moments clock.old) (C.moments clock.new) (A.reports air.old) (A.reports air.new)
+        (A.attached air.new) (A.faults air.old) (A.faults air.new)) (Job.Run turns) octets.now }
+    ensures later { O.faults out.old ≤ O.faults out.new }
+    ensures later_air { A.faults air.old ≤ A.faults air.new }
+{
+    match mesh_run::run::<B, O, A, C>(alloc, octets, turns, out, air, clock) {
+        Ok(()) => Ending::Done,
+        Err(RunFault::Refused { number, key }) => Ending::Refused { number, key },
+        Err(RunFault::Attach { interface }) => Ending::Attach { interface },
+        Err(RunFault::Turns { turns, moment, end }) => Ending::Turns { turns, moment, end },
+        Err(RunFault::Stopped(Stop::Write)) => Ending::Write,
+        Err(RunFault::Stopped(Stop::Memory)) => Ending::Memory,
     }
 }
 
@@ -73,7 +136,7 @@ fn make<B: Bases, O: Sink>(
 ) -> Ending
     requires count { IsCount 2 64 routers }
     requires seed { seed ≤ 4294967295 }
-    ensures leaves { Leaves (Job.Make kind routers seed) []
+    ensures leaves { (call : Call) → Leaves call (Job.Make kind routers seed) []
         (O.content out.old) (O.content out.new) (O.faults out.old) (O.faults out.new) result }
     ensures later { O.faults out.old ≤ O.faults out.new }
 {
@@ -85,7 +148,7 @@ fn make<B: Bases, O: Sink>(
 }
 
 fn list_input<S: Source, O: Sink>(alloc: Global, recode: bool, input: &mut S, out: &mut O) -> Ending
-    ensures does { (call : Call) → DoesJob (Job.Dump recode) (with_out (with_source call
+    ensures does { (call : Call) → UsesNoAir call → DoesJob (Job.Dump recode) (with_out (with_source call
         (S.left input.old) (S.left input.new) (S.taken input.old) (S.taken input.new) (S.faults input.old) (S.faults input.new))
         (O.content out.old) (O.content out.new) (O.faults out.old) (O.faults out.new)) result }
     ensures later_input { S.faults input.old ≤ S.faults input.new }
@@ -99,38 +162,72 @@ fn list_input<S: Source, O: Sink>(alloc: Global, recode: bool, input: &mut S, ou
 
 fn emulate_input<B: Bases, S: Source, O: Sink>(
     alloc: Global,
+    words: &[String],
     trace: bool,
+    send: Option<PacketWords>,
     input: &mut S,
     out: &mut O,
 ) -> Ending
-    ensures does { (call : Call) → DoesJob (Job.Emulate trace) (with_out (with_source call
+    ensures does { (call : Call) → UsesNoAir call → DoesJob (Job.Emulate trace send) (with_out (with_source (with_words call (texts words.now))
         (S.left input.old) (S.left input.new) (S.taken input.old) (S.taken input.new) (S.faults input.old) (S.faults input.new))
         (O.content out.old) (O.content out.new) (O.faults out.old) (O.faults out.new)) result }
     ensures later_input { S.faults input.old ≤ S.faults input.new }
     ensures later_out { O.faults out.old ≤ O.faults out.new }
 {
     match read_input(alloc, input, MOST_STATED) {
-        Ok(octets) => emulate::<B, O>(alloc, octets.as_slice(), trace, out),
+        Ok(octets) => emulate::<B, O>(alloc, words, octets.as_slice(), trace, send, out),
         Err(how) => how,
     }
 }
 
-fn do_job<B: Bases, S: Source, O: Sink>(
+fn run_input<B: Bases, S: Source, O: Sink, A: Air, C: Clock>(
     alloc: Global,
-    job: Job,
+    turns: u32,
     input: &mut S,
     out: &mut O,
+    air: &mut A,
+    clock: &mut C,
 ) -> Ending
-    requires { IsInRange job }
-    ensures does { (call : Call) → DoesJob job (with_out (with_source call
+    requires { A.attached air.old ≡ 0 }
+    ensures does { (call : Call) → DoesJob (Job.Run turns) (with_out (with_source (with_air call (C.moments clock.old) (C.moments clock.new)
+        (A.reports air.old) (A.reports air.new) (A.attached air.new) (A.faults air.old) (A.faults air.new))
         (S.left input.old) (S.left input.new) (S.taken input.old) (S.taken input.new) (S.faults input.old) (S.faults input.new))
         (O.content out.old) (O.content out.new) (O.faults out.old) (O.faults out.new)) result }
     ensures later_input { S.faults input.old ≤ S.faults input.new }
     ensures later_out { O.faults out.old ≤ O.faults out.new }
+    ensures later_air { A.faults air.old ≤ A.faults air.new }
+{
+    match read_input(alloc, input, MOST_STATED) {
+        Ok(octets) => run::<B, O, A, C>(alloc, octets.as_slice(), turns, out, air, clock),
+        Err(how) => how,
+    }
+}
+
+fn do_job<B: Bases, S: Source, O: Sink, A: Air, C: Clock>(
+    alloc: Global,
+    words: &[String],
+    job: Job,
+    input: &mut S,
+    out: &mut O,
+    air: &mut A,
+    clock: &mut C,
+) -> Ending
+    requires range { IsInRange job }
+    requires attached { A.attached air.old ≡ 0 }
+    ensures does { (call : Call) → DoesJob job (with_out (with_source (with_air (with_words call (texts words.now))
+        (C.moments clock.old) (C.moments clock.new) (A.reports air.old) (A.reports air.new) (A.attached air.new) (A.faults air.old) (A.faults air.new))
+        (S.left input.old) (S.left input.new) (S.taken input.old) (S.taken input.new) (S.faults input.old) (S.faults input.new))
+        (O.content out.old) (O.content out.new) (O.faults out.old) (O.faults out.new)) result }
+    ensures later_input { S.faults input.old ≤ S.faults input.new }
+    ensures later_out { O.faults out.old ≤ O.faults out.new }
+    ensures later_air { A.faults air.old ≤ A.faults air.new }
 {
     match job {
         Job::Dump { recode } => list_input(alloc, recode, input, out),
-        Job::Emulate { trace } => emulate_input::<B, S, O>(alloc, trace, input, out),
+        Job::Run { turns } => run_input::<B, S, O, A, C>(alloc, turns, input, out, air, clock),
+        Job::Emulate { trace, send } => emulate_input::<B, S, O>(
+            alloc, words, trace, send, input, out,
+        ),
         Job::Make {
             kind,
             routers,
@@ -140,20 +237,25 @@ fn do_job<B: Bases, S: Source, O: Sink>(
 }
 
 // Does what the words ask for.
-pub fn do_asked<B: Bases, S: Source, O: Sink>(
+pub fn do_asked<B: Bases, S: Source, O: Sink, A: Air, C: Clock>(
     alloc: Global,
     words: &[String],
     input: &mut S,
     out: &mut O,
+    air: &mut A,
+    clock: &mut C,
 ) -> Ending
-    ensures does { (call : Call) → Does (with_out (with_source (record call { words = texts words.now })
+    requires { A.attached air.old ≡ 0 }
+    ensures does { (call : Call) → Does (with_out (with_source (with_air (with_words call (texts words.now))
+        (C.moments clock.old) (C.moments clock.new) (A.reports air.old) (A.reports air.new) (A.attached air.new) (A.faults air.old) (A.faults air.new))
         (S.left input.old) (S.left input.new) (S.taken input.old) (S.taken input.new) (S.faults input.old) (S.faults input.new))
         (O.content out.old) (O.content out.new) (O.faults out.old) (O.faults out.new)) result }
     ensures later_input { S.faults input.old ≤ S.faults input.new }
     ensures later_out { O.faults out.old ≤ O.faults out.new }
+    ensures later_air { A.faults air.old ≤ A.faults air.new }
 {
     match read_words(words) {
-        Ok(job) => do_job::<B, S, O>(alloc, job, input, out),
+        Ok(job) => do_job::<B, S, O, A, C>(alloc, words, job, input, out, air, clock),
         Err(_) => Ending::Words,
     }
 }

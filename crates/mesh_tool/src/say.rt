@@ -3,11 +3,12 @@ ghost use Rattle.std.specs.Prelude.{◌≡◌, ℕ, ◌≤◌, [], ◌++◌, cod
 ghost use Rattle.std.specs.Io.KnownBytes.{Appends};
 ghost use Rattle.mesh_io.specs.Faults.{Rose};
 ghost use Rattle.mesh_tool.specs.Endings.{TellsLine, TellsEnding};
-ghost use Rattle.mesh_tool.specs.Lines.{words_line, refused_line, refusal_name};
+ghost use Rattle.mesh_tool.specs.Lines.{words_line, refused_line, refusal_name, attach_line, turns_line};
 ghost use Rattle.mesh_words.specs.Words.{texts, word_at_fault};
 
 use crate::Status;
 use crate::ending::Ending;
+use itoa::Buffer;
 use mesh_config::refusal;
 use mesh_io::{Sink, WriteFault, write_all};
 use mesh_words::read_words;
@@ -141,6 +142,76 @@ fn tell_refusal<E: Sink>(err: &mut E, number: u8, key: &[u8]) -> Status
     }
 }
 
+// Writes the first octets, the number, and the second ones.
+fn write_number<O: Sink>(
+    out: &mut O,
+    first: &[u8],
+    number: u64,
+    second: &[u8],
+) -> Result<(), WriteFault>
+    ensures whole { OnOk result (Appends (O.content out.old) (O.content out.new) (first.now ++ (decimal number ++ second.now))) }
+    ensures part { OnErr result ((n : ℕ)
+        × Appends (O.content out.old) (O.content out.new) (take n (first.now ++ (decimal number ++ second.now)))) }
+    ensures failed { OnErr result (Rose (O.faults out.old) (O.faults out.new)) }
+    ensures later { O.faults out.old ≤ O.faults out.new }
+{
+    let mut buffer = Buffer::new();
+    write_three(out, first, buffer.format(number).as_bytes(), second)
+}
+
+// Writes the line of turns that were done below the end.
+#[tactic(auto, unfolding(crate::specs::Lines::turns_line))]
+fn write_turns<E: Sink>(err: &mut E, turns: u32, moment: u64, end: u64) -> Result<(), WriteFault>
+    ensures whole { OnOk result (Appends (E.content err.old) (E.content err.new) (turns_line turns moment end)) }
+    ensures part { OnErr result ((n : ℕ) × Appends (E.content err.old) (E.content err.new) (take n (turns_line turns moment end))) }
+    ensures failed { OnErr result (Rose (E.faults err.old) (E.faults err.new)) }
+    ensures later { E.faults err.old ≤ E.faults err.new }
+{
+    match write_number(err, b"mesh: turns ", u64::from(turns), b" moment ") {
+        Ok(()) => write_moments(err, moment, end),
+        Err(e) => Err(e),
+    }
+}
+
+// Writes the greatest moment and the end.
+fn write_moments<E: Sink>(err: &mut E, moment: u64, end: u64) -> Result<(), WriteFault>
+    ensures whole { OnOk result (Appends (E.content err.old) (E.content err.new)
+        (decimal moment ++ (codes " below " ++ (decimal end ++ codes "\n")))) }
+    ensures part { OnErr result ((n : ℕ) × Appends (E.content err.old) (E.content err.new)
+        (take n (decimal moment ++ (codes " below " ++ (decimal end ++ codes "\n"))))) }
+    ensures failed { OnErr result (Rose (E.faults err.old) (E.faults err.new)) }
+    ensures later { E.faults err.old ≤ E.faults err.new }
+{
+    let mut buffer = Buffer::new();
+    match write_all(err, buffer.format(moment).as_bytes()) {
+        Ok(()) => write_number(err, b" below ", end, b"\n"),
+        Err(e) => Err(e),
+    }
+}
+
+#[tactic(auto, unfolding(crate::specs::Lines::attach_line))]
+fn tell_attach<E: Sink>(err: &mut E, interface: usize) -> Status
+    ensures tells { TellsLine (E.content err.old) (E.content err.new) (E.faults err.old) (E.faults err.new)
+        (attach_line interface) Status.Attach result }
+    ensures later { E.faults err.old ≤ E.faults err.new }
+{
+    match write_number(err, b"mesh: attach ", interface as u64, b"\n") {
+        Ok(()) => Status::Attach,
+        Err(_) => Status::Write,
+    }
+}
+
+fn tell_turns<E: Sink>(err: &mut E, turns: u32, moment: u64, end: u64) -> Status
+    ensures tells { TellsLine (E.content err.old) (E.content err.new) (E.faults err.old) (E.faults err.new)
+        (turns_line turns moment end) Status.Turns result }
+    ensures later { E.faults err.old ≤ E.faults err.new }
+{
+    match write_turns(err, turns, moment, end) {
+        Ok(()) => Status::Turns,
+        Err(_) => Status::Write,
+    }
+}
+
 // Tells a fault on `err`, and answers its status, or that of a failed write. Takes no memory.
 pub fn tell<E: Sink>(err: &mut E, words: &[String], how: &Ending) -> Status
     ensures tells { TellsEnding (texts words.now)
@@ -154,6 +225,8 @@ pub fn tell<E: Sink>(err: &mut E, words: &[String], how: &Ending) -> Status
         Ending::Read => tell_line(err, b"mesh: read fault\n", Status::Read),
         Ending::TooLong => tell_refusal(err, refusal::TOO_LONG, b"input"),
         Ending::Refused { number, key } => tell_refusal(err, *number, key.as_slice()),
+        Ending::Attach { interface } => tell_attach(err, *interface),
+        Ending::Turns { turns, moment, end } => tell_turns(err, *turns, *moment, *end),
         Ending::Write => Status::Write,
         Ending::Memory => tell_line(err, b"mesh: memory\n", Status::Memory),
     }

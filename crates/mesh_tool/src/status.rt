@@ -3,7 +3,8 @@ ghost use Rattle.std.specs.Prelude.{◌≡◌};
 ghost use Rattle.mesh_tool.specs.Status.{code_of};
 
 /// How the program ended: the whole text was written; the words are no command line; a read or a write failed; the input
-/// was refused; the whole listing was written, and a line of it says a refusal; want of memory.
+/// was refused; the whole listing was written, and a line of it says a refusal; an interface couldn't be attached; all turns were
+/// done, and the end didn't come; want of memory.
 #[derive(Clone, Copy, Debug, PartialEq, Eq)]
 pub enum Status {
     Done,
@@ -12,6 +13,8 @@ pub enum Status {
     Write,
     Refused,
     Packets,
+    Attach,
+    Turns,
     Memory,
 }
 
@@ -27,6 +30,8 @@ impl Status {
             Status::Write => 3,
             Status::Refused => 4,
             Status::Packets => 5,
+            Status::Attach => 6,
+            Status::Turns => 7,
             Status::Memory => 8,
         }
     }

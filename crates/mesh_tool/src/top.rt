@@ -1,6 +1,9 @@
 //! The top call.
+ghost use Rattle.std.specs.Prelude.{◌≡◌};
 ghost use Rattle.mesh_emulate.specs.Laws.{RunsMachines, TellsSettled, PrintsLeastRoutes, PrintsNextHops};
+ghost use Rattle.mesh_emulate.specs.Laws.{TripsAreOnly, TripsReachRouters, TripsReachNetworks, TripsNeverStray};
 ghost use Rattle.mesh_made.specs.Made.{TellsLeastRoutes};
+ghost use Rattle.mesh_turns.specs.Laws.{TurnsAreRuns, TurnsKeepSound};
 ghost use Rattle.mesh_tool.specs.Answers.{Answers};
 ghost use Rattle.mesh_words.specs.Words.{texts};
 
@@ -9,20 +12,24 @@ use crate::jobs::do_asked;
 use crate::say::tell;
 use mesh_emulate::emulations_tell;
 use mesh_expire::{Bases, IndexedBases};
-use mesh_io::{Sink, Source};
+use mesh_io::{Air, Clock, Sink, Source};
 use mesh_made::made_networks_tell;
+use mesh_turns::turns_are_runs;
 use std::alloc::Global;
 
 /// All that the program does, with routers over these bases: it reads the words, then the input, and writes the text of the job on
-/// `out` and the line of a fault on `err`. Want of memory may be answered in place of each other status but that of wrong words and of
+/// `out` and the line of a fault on `err`; a router is run over the air, which has no interface yet, and the clock. Want of memory may be answered in place of each other status but that of wrong words and of
 /// an input that is too long, and a failed write of a fault's line in place of that fault's status.
-pub fn top_over<B: Bases, S: Source, O: Sink, E: Sink>(
+pub fn top_over<B: Bases, S: Source, O: Sink, E: Sink, A: Air, C: Clock>(
     alloc: Global,
     words: &[String],
     input: &mut S,
     out: &mut O,
     err: &mut E,
+    air: &mut A,
+    clock: &mut C,
 ) -> Status
+    requires { A.attached air.old ≡ 0 }
     ensures answers { Answers (record {
       words = texts words.now;
       left = S.left input.old;
@@ -39,20 +46,30 @@ pub fn top_over<B: Bases, S: Source, O: Sink, E: Sink>(
       err' = E.content err.new;
       err_faults = E.faults err.old;
       err_faults' = E.faults err.new;
+      moments = C.moments clock.old;
+      moments' = C.moments clock.new;
+      reports = A.reports air.old;
+      reports' = A.reports air.new;
+      attached' = A.attached air.new;
+      air_faults = A.faults air.old;
+      air_faults' = A.faults air.new;
     }) result }
 {
-    let how = do_asked::<B, S, O>(alloc, words, input, out);
+    let how = do_asked::<B, S, O, A, C>(alloc, words, input, out, air, clock);
     tell(err, words, &how)
 }
 
 /// The program: `top_over` over indexed tables.
-pub fn mesh_top<S: Source, O: Sink, E: Sink>(
+pub fn mesh_top<S: Source, O: Sink, E: Sink, A: Air, C: Clock>(
     alloc: Global,
     words: &[String],
     input: &mut S,
     out: &mut O,
     err: &mut E,
+    air: &mut A,
+    clock: &mut C,
 ) -> Status
+    requires { A.attached air.old ≡ 0 }
     // What is answered, and what then stands on `out` and `err`.
     ensures answers { Answers (record {
       words = texts words.now;
@@ -70,12 +87,19 @@ pub fn mesh_top<S: Source, O: Sink, E: Sink>(
       err' = E.content err.new;
       err_faults = E.faults err.old;
       err_faults' = E.faults err.new;
+      moments = C.moments clock.old;
+      moments' = C.moments clock.new;
+      reports = A.reports air.old;
+      reports' = A.reports air.new;
+      attached' = A.attached air.new;
+      air_faults = A.faults air.old;
+      air_faults' = A.faults air.new;
     }) result }
 
     // In every emulation each router is a run of the machine, over whatever frames, losses and moments.
     ensures machines { RunsMachines }
 
-    // The text of an emulation ends with `settled yes` exactly where its network is settled at its end.
+    // A line of the text of an emulation is `settled yes` exactly where its network is settled at its end.
     ensures settled { TellsSettled }
 
     // Then the routes under a router's name are exactly the least routes of the radio graph,
@@ -84,10 +108,29 @@ pub fn mesh_top<S: Source, O: Sink, E: Sink>(
     // and the next hop of each leads there.
     ensures next_hops { PrintsNextHops }
 
+    // The trip that is told is the only one over the routes of the network's routers.
+    ensures trips { TripsAreOnly }
+
+    // In a settled network a packet to another router's address arrives there, at the least metric,
+    ensures trips_reach_routers { TripsReachRouters }
+
+    // one to an attached network at a router that attaches the longest that has the address,
+    ensures trips_reach_networks { TripsReachNetworks }
+
+    // and none of these ends for want of an arc, or goes too far.
+    ensures trips_never_stray { TripsNeverStray }
+
+    // Wherever a router stands in its turns, it has come there by a run of its machine, over whatever an air tells,
+    ensures turns { TurnsAreRuns }
+
+    // and is sound.
+    ensures sound_turns { TurnsKeepSound }
+
     // What is told of a made network that is settled counts the least routes of its radio graph.
     ensures made_routes { TellsLeastRoutes }
 {
     emulations_tell();
     made_networks_tell();
-    top_over::<IndexedBases, S, O, E>(alloc, words, input, out, err)
+    turns_are_runs();
+    top_over::<IndexedBases, S, O, E, A, C>(alloc, words, input, out, err, air, clock)
 }

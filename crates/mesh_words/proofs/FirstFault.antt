@@ -9,6 +9,7 @@ use Rattle.mesh_words.specs.declared.job.Kind.{Kind}
 use Rattle.mesh_words.specs.declared.job.Kind.TheVariants as kind
 use Rattle.mesh_words.specs.declared.asked.Asked.{Asked}
 use Rattle.mesh_words.specs.declared.asked.Asked.TheVariants as asked
+use Rattle.mesh_words.specs.declared.asked.EmulateValue.TheVariants as emulates
 use Rattle.mesh_words.specs.declared.asked.MakeValue.TheVariants as value
 use Rattle.mesh_words.specs.Words.{read_on, takes, or_at, job_of, words_of}
 use Rattle.mesh_words.specs.FirstFault.{IsCommandLine, BeginACommandLine, IsFirstAtFault}
@@ -35,7 +36,12 @@ kind_missing None routers seed place =
 completes : (asked : Asked) (place : ℕ) → Completes asked place
 completes asked.Nothing place = (codes "dump" ∷ [], refl)
 completes (asked.Dump recode) place = ([], refl)
+completes (asked.Run (Some turns)) place = ([], refl)
+completes (asked.Run None) place = (codes "--turns" ∷ codes "1" ∷ [], refl)
+completes asked.Turns place = (codes "1" ∷ [], refl)
 completes (asked.Emulate o) place = ([], refl)
+completes (asked.EmulateAwaits o emulates.From) place = (codes "a" ∷ codes "1.1.1.1" ∷ [], refl)
+completes (asked.EmulateAwaits o (emulates.Dest from)) place = (codes "1.1.1.1" ∷ [], refl)
 completes (asked.Make o) place = kind_missing o.kind o.routers o.seed place
 completes (asked.MakeAwaits o value.Kind) place =
     let rest = kind_missing (Some kind.Grid) o.routers o.seed (place + 1) in (codes "grid" ∷ rest.0, rest.1)
@@ -60,10 +66,10 @@ record Stops (asked : Asked) (place : ℕ) (words : List (List ℕ)) (fault : �
   goes : (more : List (List ℕ)) × IsOk (read_on asked place (front ++ more))
   ends : Ends asked place front rest
 
-fails_on : (asked : Asked) (place : ℕ) (word : List ℕ) (more : List (List ℕ)) → takes asked word ≡ None → IsErr (read_on asked place (word ∷ more))
+fails_on : (asked : Asked) (place : ℕ) (word : List ℕ) (more : List (List ℕ)) → takes asked place word ≡ None → IsErr (read_on asked place (word ∷ more))
 fails_on asked place word more taken = rw taken refl
 
-ends_on : (asked next : Asked) (place : ℕ) (word : List ℕ) (front rest : List (List ℕ)) → takes asked word ≡ Some next → Ends next (place + 1) front rest → Ends asked place (word ∷ front) rest
+ends_on : (asked next : Asked) (place : ℕ) (word : List ℕ) (front rest : List (List ℕ)) → takes asked place word ≡ Some next → Ends next (place + 1) front rest → Ends asked place (word ∷ front) rest
 ends_on asked next place word front [] taken ends = tt
 ends_on asked next place word front (w ∷ rest) taken ends = λ more. rw taken (ends more)
 
@@ -74,7 +80,7 @@ missing_at : (place fault : ℕ) (job : Option Job) → or_at place job Ok ≡ E
 missing_at place fault None h = same_place place fault h
 missing_at place fault (Some j) h = let bad : ⊥ = cc in absurd bad
 
-stops_on : (asked : Asked) (place : ℕ) (word : List ℕ) (words : List (List ℕ)) (fault : ℕ) (next : Option Asked) → takes asked word ≡ next
+stops_on : (asked : Asked) (place : ℕ) (word : List ℕ) (words : List (List ℕ)) (fault : ℕ) (next : Option Asked) → takes asked place word ≡ next
     → or_at place next (λ n. read_on n (place + 1) words) ≡ Err fault
     → ((n : Asked) → read_on n (place + 1) words ≡ Err fault → Stops n (place + 1) words fault) → Stops asked place (word ∷ words) fault
 stops_on asked place word words fault None taken h on = record {
@@ -105,7 +111,7 @@ stops asked place [] fault h = record {
   goes = completes asked place;
   ends = tt;
 }
-stops asked place (word ∷ words) fault h = stops_on asked place word words fault (takes asked word) refl h (λ n k. stops n (place + 1) words fault k)
+stops asked place (word ∷ words) fault h = stops_on asked place word words fault (takes asked place word) refl h (λ n k. stops n (place + 1) words fault k)
 
 -- ---- words that are refused are refused at the first word at fault
 

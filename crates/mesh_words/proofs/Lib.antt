@@ -1,3 +1,7 @@
 pub mod CommandLines
+mod EmulateLines
 pub mod FirstFault
+mod MakeLines
+mod Orders
 mod Ranges
+mod Reading

@@ -1,10 +1,12 @@
 -- How command lines are written.
-use Rattle.std.specs.Prelude.{◌≡◌, ℕ, ◌≤◌, List, [], ◌∷◌, ◌++◌, true, false, Some, Ok, codes, ◌↔◌}
+use Rattle.std.specs.Prelude.{◌≡◌, ℕ, ◌+◌, ◌≤◌, List, [], ◌∷◌, ◌++◌, length, Bool, true, false, Option, Some, None, Ok, codes, ◌↔◌}
 use Rattle.std.specs.List.{flat_map}
+use Rattle.mesh_atoms.specs.Literals.{address_of}
 use Rattle.mesh_atoms.specs.Settings.{IsCount}
 use Rattle.mesh_words.specs.declared.job.Job.{Job}
 use Rattle.mesh_words.specs.declared.job.Job.TheVariants as job
-use Rattle.mesh_words.specs.Words.{words_of, kind_of, routers_of, seed_of}
+use Rattle.mesh_words.specs.declared.job.PacketWords.{PacketWords}
+use Rattle.mesh_words.specs.Words.{words_of, turns_of, kind_of, routers_of, seed_of}
 
 -- these, each once, in any order
 abbrev pub InAnyOrder : {A : Type 0} → List A → List A → Type 0
@@ -15,6 +17,39 @@ InAnyOrder {A = A} (x ∷ xs) ys = (front : List A) × (back : List A) × (ys �
 abbrev pub OptionWords : Type 0
 OptionWords = List (List ℕ)
 
+-- an option, and the place of its own word
+pub record PlacedOption : Type 0 where
+  pub place : ℕ
+  pub words : OptionWords
+
+abbrev pub at_place : ℕ → OptionWords → PlacedOption
+at_place place words = record { place = place; words = words }
+
+-- options one behind the other, of which the first has this place
+abbrev pub placed : ℕ → List OptionWords → List PlacedOption
+placed place [] = []
+placed place (option ∷ options) = at_place place option ∷ placed (place + length option) options
+
+-- `--trace`, where it is asked for
+abbrev pub IsTrace : Bool → List PlacedOption → Type 0
+IsTrace false options = options ≡ []
+IsTrace true options = (place : ℕ) × (options ≡ at_place place (codes "--trace" ∷ []) ∷ [])
+
+-- `--send` with FROM and DEST, where a packet is asked for: FROM has the packet's place, and DEST is its address
+abbrev pub IsSend : Option PacketWords → List PlacedOption → Type 0
+IsSend None options = options ≡ []
+IsSend (Some packet) options =
+    (place : ℕ) × (from : List ℕ) × (dest : List ℕ) × (packet.from ≡ place + 1) × (address_of dest ≡ Some packet.dest)
+    × (options ≡ at_place place (codes "--send" ∷ from ∷ dest ∷ []) ∷ [])
+
+-- the options of `emulate`, behind one word
+pub record AreEmulateOptions (trace : Bool) (send : Option PacketWords) (options : List OptionWords) : Type 0 where
+  pub traces : List PlacedOption
+  pub sends : List PlacedOption
+  pub is_trace : IsTrace trace traces
+  pub is_send : IsSend send sends
+  pub any : InAnyOrder (traces ++ sends) (placed 1 options)
+
 -- the options of `emulate --make`, with these words for values
 abbrev pub make_options : List ℕ → List ℕ → List ℕ → List OptionWords
 make_options kind routers seed =
@@ -24,8 +59,8 @@ make_options kind routers seed =
 abbrev pub AreOptions : Job → List OptionWords → Type 0
 AreOptions (job.Dump false) options = options ≡ []
 AreOptions (job.Dump true) options = options ≡ (codes "--recode" ∷ []) ∷ []
-AreOptions (job.Emulate false) options = options ≡ []
-AreOptions (job.Emulate true) options = options ≡ (codes "--trace" ∷ []) ∷ []
+AreOptions (job.Run turns) options = (n : List ℕ) × (turns_of n ≡ Some turns) × (options ≡ (codes "--turns" ∷ n ∷ []) ∷ [])
+AreOptions (job.Emulate trace send) options = AreEmulateOptions trace send options
 AreOptions (job.Make kind routers seed) options =
     (k : List ℕ) × (n : List ℕ) × (s : List ℕ) × (kind_of k ≡ Some kind) × (routers_of n ≡ Some routers) × (seed_of s ≡ Some seed)
     × InAnyOrder (make_options k n s) options
@@ -33,7 +68,8 @@ AreOptions (job.Make kind routers seed) options =
 -- the first word
 abbrev pub command_of : Job → List ℕ
 command_of (job.Dump recode) = codes "dump"
-command_of (job.Emulate trace) = codes "emulate"
+command_of (job.Run turns) = codes "run"
+command_of (job.Emulate trace send) = codes "emulate"
 command_of (job.Make kind routers seed) = codes "emulate"
 
 -- the words ask for this job: its command, and behind it its options
@@ -42,10 +78,11 @@ pub record AskFor (words : List (List ℕ)) (job : Job) : Type 0 where
   pub are : AreOptions job options
   pub whole : words ≡ command_of job ∷ flat_map (λ option. option) options
 
--- so many routers, and such a seed, as command lines ask for
+-- so many turns, so many routers, and such a seed, as command lines ask for
 abbrev pub IsInRange : Job → Type 0
 IsInRange (job.Dump recode) = Unit {0}
-IsInRange (job.Emulate trace) = Unit {0}
+IsInRange (job.Run turns) = 1 ≤ turns
+IsInRange (job.Emulate trace send) = Unit {0}
 IsInRange (job.Make kind routers seed) = IsCount 2 64 routers × (seed ≤ 4294967295)
 
 -- words are read as a job exactly where they ask for it

@@ -2,7 +2,7 @@
 use Rattle.std.specs.Prelude.{ℕ, ◌+◌, List, [], ◌∷◌, Result, Ok, Err, String, string_bytes, map, codes, if◌then◌else◌, nat_eq, nat_le, Bool, true, false, not, ◌&&◌, Option, Some, None, is_none, option_map, slice_get, unwrap_or}
 use Rattle.std.specs.Cmp.Lexicographic.{pointwise}
 use Rattle.std.specs.declared.alloc.Global.{Global}
-use Rattle.mesh_atoms.specs.Literals.{◌>>=◌, only_if, number_of}
+use Rattle.mesh_atoms.specs.Literals.{◌>>=◌, only_if, number_of, address_of}
 use Rattle.mesh_words.specs.declared.job.Job.{Job}
 use Rattle.mesh_words.specs.declared.job.Job.TheVariants as job
 use Rattle.mesh_words.specs.declared.job.Kind.{Kind}
@@ -10,6 +10,8 @@ use Rattle.mesh_words.specs.declared.job.Kind.TheVariants as kind
 use Rattle.mesh_words.specs.declared.asked.Asked.{Asked}
 use Rattle.mesh_words.specs.declared.asked.Asked.TheVariants as asked
 use Rattle.mesh_words.specs.declared.asked.EmulateOptions.{EmulateOptions}
+use Rattle.mesh_words.specs.declared.asked.EmulateValue.{EmulateValue}
+use Rattle.mesh_words.specs.declared.asked.EmulateValue.TheVariants as emulates
 use Rattle.mesh_words.specs.declared.asked.MakeOptions.{MakeOptions}
 use Rattle.mesh_words.specs.declared.asked.MakeValue.{MakeValue}
 use Rattle.mesh_words.specs.declared.asked.MakeValue.TheVariants as value
@@ -27,6 +29,9 @@ is_word word other = pointwise nat_eq word other
 -- a number from `least` to `most`, in decimal digits with no needless zero in front
 abbrev pub number_from : ℕ → ℕ → List ℕ → Option ℕ
 number_from least most word = number_of most word >>= λ n. only_if (nat_le least n) n
+
+abbrev pub turns_of : List ℕ → Option ℕ
+turns_of = number_from 1 4294967295
 
 abbrev pub routers_of : List ℕ → Option ℕ
 routers_of = number_from 2 64
@@ -62,34 +67,57 @@ make_value o value.Seed word = seed_of word >>= λ seed. Some (record { kind = o
 abbrev pub make_job : MakeOptions → Option Job
 make_job o = o.kind >>= λ kind. o.routers >>= λ routers. o.seed >>= λ seed. Some (job.Make kind routers seed)
 
--- ---- command lines
+-- ---- the options of `emulate` of a scenario that is read: each stands once at most, in any order, and beside none of a made one
 
--- an option behind `emulate`: those of a made scenario stand beside no other
+abbrev pub no_emulate_options : EmulateOptions
+no_emulate_options = record { trace = false; send = None }
+
+-- none stood
+abbrev pub is_without : EmulateOptions → Bool
+is_without o = not o.trace && is_none o.send
+
+-- an option's own word
 abbrev pub emulate_option : EmulateOptions → List ℕ → Option Asked
 emulate_option o word =
-    if o.trace then None
-    else if is_word word (codes "--trace") then Some (asked.Emulate (record { trace = true }))
-    else make_option no_make_options word
+    if is_word word (codes "--trace") && not o.trace then Some (asked.Emulate (record { trace = true; send = o.send }))
+    else if is_word word (codes "--send") && is_none o.send then Some (asked.EmulateAwaits o emulates.From)
+    else if is_without o then make_option no_make_options word
+    else None
+
+-- an option's value, which has that place: FROM is any word, and DEST is an address
+abbrev pub emulate_value : EmulateOptions → EmulateValue → ℕ → List ℕ → Option Asked
+emulate_value o emulates.From place word = Some (asked.EmulateAwaits o (emulates.Dest place))
+emulate_value o (emulates.Dest from) place word =
+    address_of word >>= λ dest. Some (asked.Emulate (record { trace = o.trace; send = Some (record { from = from; dest = dest }) }))
+
+-- ---- command lines
 
 -- the first word
 abbrev pub command_word : List ℕ → Option Asked
 command_word word =
     if is_word word (codes "dump") then Some (asked.Dump false)
-    else only_if (is_word word (codes "emulate")) (asked.Emulate (record { trace = false }))
+    else if is_word word (codes "run") then Some (asked.Run None)
+    else only_if (is_word word (codes "emulate")) (asked.Emulate no_emulate_options)
 
--- what is asked for after one more word, where it begins a command line with the words before it
-abbrev pub takes : Asked → List ℕ → Option Asked
-takes asked.Nothing word = command_word word
-takes (asked.Dump recode) word = only_if (is_word word (codes "--recode") && not recode) (asked.Dump true)
-takes (asked.Emulate o) word = emulate_option o word
-takes (asked.Make o) word = make_option o word
-takes (asked.MakeAwaits o value) word = option_map asked.Make (make_value o value word)
+-- what is asked for after one more word, which has that place, where it begins a command line with the words before it
+abbrev pub takes : Asked → ℕ → List ℕ → Option Asked
+takes asked.Nothing place word = command_word word
+takes (asked.Dump recode) place word = only_if (is_word word (codes "--recode") && not recode) (asked.Dump true)
+takes (asked.Run turns) place word = only_if (is_word word (codes "--turns") && is_none turns) asked.Turns
+takes asked.Turns place word = option_map (λ turns. asked.Run (Some turns)) (turns_of word)
+takes (asked.Emulate o) place word = emulate_option o word
+takes (asked.EmulateAwaits o value) place word = emulate_value o value place word
+takes (asked.Make o) place word = make_option o word
+takes (asked.MakeAwaits o value) place word = option_map asked.Make (make_value o value word)
 
 -- the job, where no word is missing
 abbrev pub job_of : Asked → Option Job
 job_of asked.Nothing = None
 job_of (asked.Dump recode) = Some (job.Dump recode)
-job_of (asked.Emulate o) = Some (job.Emulate o.trace)
+job_of (asked.Run turns) = option_map job.Run turns
+job_of asked.Turns = None
+job_of (asked.Emulate o) = Some (job.Emulate o.trace o.send)
+job_of (asked.EmulateAwaits o value) = None
 job_of (asked.Make o) = make_job o
 job_of (asked.MakeAwaits o value) = None
 
@@ -100,7 +128,7 @@ or_at place None f = Err place
 
 abbrev pub read_on : Asked → ℕ → List (List ℕ) → Result Job ℕ
 read_on asked place [] = or_at place (job_of asked) Ok
-read_on asked place (word ∷ more) = or_at place (takes asked word) (λ next. read_on next (place + 1) more)
+read_on asked place (word ∷ more) = or_at place (takes asked place word) (λ next. read_on next (place + 1) more)
 
 -- the job, or the place of the first word that, with all words before it, begins no command line; the number of words
 -- where one is missing

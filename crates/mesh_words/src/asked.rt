@@ -1,15 +1,24 @@
 //! What a command line asks for as far as its words were read, and what one more word makes of it.
 ghost use Rattle.std.specs.Prelude.{◌≡◌, ◌≤◌, ◌&&◌, IfSome};
-ghost use Rattle.mesh_words.specs.Words.{number_from, kind_of, make_option, make_value, make_job, emulate_option, command_word, takes, job_of, is_word};
+ghost use Rattle.mesh_words.specs.Words.{number_from, turns_of, kind_of, make_option, make_value, make_job};
+ghost use Rattle.mesh_words.specs.Words.{is_without, emulate_option, emulate_value, command_word, takes, job_of, is_word};
 ghost use Rattle.mesh_atoms.specs.Literals.{only_if};
 
-use crate::{Job, Kind};
-use mesh_atoms::number_of;
+use crate::{Job, Kind, PacketWords};
+use mesh_atoms::{address_of, number_of};
 
 /// The options of `emulate` of a scenario that is read.
 #[derive(Clone, Copy)]
 pub struct EmulateOptions {
     pub trace: bool,
+    pub send: Option<PacketWords>,
+}
+
+/// The value of an option of these: FROM and then DEST of `--send`, where FROM stands at that place.
+#[derive(Clone, Copy)]
+pub enum EmulateValue {
+    From,
+    Dest(usize),
 }
 
 /// The options of `emulate` of a scenario that is made.
@@ -28,15 +37,23 @@ pub enum MakeValue {
     Seed,
 }
 
-/// What is asked for as far as the words were read; with `MakeAwaits` a value comes next.
+/// What is asked for as far as the words were read; with `Turns`, `EmulateAwaits` and `MakeAwaits` a value comes next.
 #[derive(Clone, Copy)]
 pub enum Asked {
     Nothing,
     Dump { recode: bool },
+    Run { turns: Option<u32> },
+    Turns,
     Emulate(EmulateOptions),
+    EmulateAwaits(EmulateOptions, EmulateValue),
     Make(MakeOptions),
     MakeAwaits(MakeOptions, MakeValue),
 }
+
+const NO_EMULATE_OPTIONS: EmulateOptions = EmulateOptions {
+    trace: false,
+    send: None,
+};
 
 const NO_MAKE_OPTIONS: MakeOptions = MakeOptions {
     kind: None,
@@ -52,6 +69,13 @@ fn number_from(word: &str, least: u64, most: u64) -> Option<u64>
 {
     let n = number_of(word.as_bytes(), most)?;
     if least <= n { Some(n) } else { None }
+}
+
+fn turns_of(word: &str) -> Option<u32>
+    ensures { result ≡ turns_of word.now }
+{
+    let turns = number_from(word, 1, 4_294_967_295)?;
+    Some(turns as u32)
 }
 
 fn kind_of(word: &str) -> Option<Kind>
@@ -128,15 +152,44 @@ impl MakeOptions {
 }
 
 impl EmulateOptions {
+    // Whether no option stood.
+    fn is_without(self) -> bool
+        ensures { result ≡ is_without self }
+    {
+        !self.trace && self.send.is_none()
+    }
+
+    // An option's own word.
     fn option(self, word: &str) -> Option<Asked>
         ensures { result ≡ emulate_option self word.now }
     {
-        if self.trace {
-            None
-        } else if word == "--trace" {
-            Some(Asked::Emulate(EmulateOptions { trace: true }))
-        } else {
+        if word == "--trace" && !self.trace {
+            Some(Asked::Emulate(EmulateOptions {
+                trace: true,
+                ..self
+            }))
+        } else if word == "--send" && self.send.is_none() {
+            Some(Asked::EmulateAwaits(self, EmulateValue::From))
+        } else if self.is_without() {
             NO_MAKE_OPTIONS.option(word)
+        } else {
+            None
+        }
+    }
+
+    // An option's value, which is the word at that place.
+    fn value(self, value: EmulateValue, place: usize, word: &str) -> Option<Asked>
+        ensures { result ≡ emulate_value self value place word.now }
+    {
+        match value {
+            EmulateValue::From => Some(Asked::EmulateAwaits(self, EmulateValue::Dest(place))),
+            EmulateValue::Dest(from) => {
+                let dest = address_of(word.as_bytes())?;
+                Some(Asked::Emulate(EmulateOptions {
+                    send: Some(PacketWords { from, dest }),
+                    ..self
+                }))
+            }
         }
     }
 }
@@ -146,8 +199,10 @@ fn command_word(word: &str) -> Option<Asked>
 {
     if word == "dump" {
         Some(Asked::Dump { recode: false })
+    } else if word == "run" {
+        Some(Asked::Run { turns: None })
     } else if word == "emulate" {
-        Some(Asked::Emulate(EmulateOptions { trace: false }))
+        Some(Asked::Emulate(NO_EMULATE_OPTIONS))
     } else {
         None
     }
@@ -164,9 +219,9 @@ fn only_option(word: &str, name: &str, free: bool, next: Asked) -> Option<Asked>
     }
 }
 
-// What is asked for after one more word, where it begins a command line with the words before it.
-pub fn takes(asked: Asked, word: &str) -> Option<Asked>
-    ensures { result ≡ takes asked word.now }
+// What is asked for after one more word, which has that place, where it begins a command line with the words before it.
+pub fn takes(asked: Asked, place: usize, word: &str) -> Option<Asked>
+    ensures { result ≡ takes asked place word.now }
 {
     match asked {
         Asked::Nothing => command_word(word),
@@ -176,7 +231,13 @@ pub fn takes(asked: Asked, word: &str) -> Option<Asked>
             !recode,
             Asked::Dump { recode: true },
         ),
+        Asked::Run { turns } => only_option(word, "--turns", turns.is_none(), Asked::Turns),
+        Asked::Turns => match turns_of(word) {
+            Some(turns) => Some(Asked::Run { turns: Some(turns) }),
+            None => None,
+        },
         Asked::Emulate(options) => options.option(word),
+        Asked::EmulateAwaits(options, value) => options.value(value, place, word),
         Asked::Make(options) => options.option(word),
         Asked::MakeAwaits(options, value) => match options.value(value, word) {
             Some(options) => Some(Asked::Make(options)),
@@ -191,10 +252,16 @@ pub fn job_of(asked: Asked) -> Option<Job>
 {
     match asked {
         Asked::Dump { recode } => Some(Job::Dump { recode }),
+        Asked::Run { turns } => match turns {
+            Some(turns) => Some(Job::Run { turns }),
+            None => None,
+        },
         Asked::Emulate(options) => Some(Job::Emulate {
             trace: options.trace,
+            send: options.send,
         }),
         Asked::Make(options) => options.job(),
-        Asked::Nothing | Asked::MakeAwaits(_, _) => None,
+        Asked::Nothing | Asked::Turns | Asked::EmulateAwaits(_, _) | Asked::MakeAwaits(_, _) =>
+            None,
     }
 }

@@ -1,4 +1,5 @@
 //! What a command line asks for.
+use mesh_atoms::Addr4;
 
 /// A way to make a scenario: routers in rows and columns, in a ring, or joined by draws.
 #[derive(Clone, Copy, PartialEq, Eq)]
@@ -8,16 +9,28 @@ pub enum Kind {
     Random,
 }
 
+/// A data packet that is to be sent: the place of the word that names the router it starts from, counted from 0, and the address
+/// that it is for.
+#[derive(Clone, Copy, PartialEq, Eq)]
+pub struct PacketWords {
+    pub from: usize,
+    pub dest: Addr4,
+}
+
 /// What a command line asks for: to list lines of hexadecimal text as packets, with `recode` each one written again in its
-/// least form; to emulate the network of a scenario, with `trace` telling each event; or to emulate the network of a scenario
-/// that is made of 2 to 64 routers by a seed below 2^32.
+/// least form; to run a router for at most so many turns, at least 1; to emulate the network of a scenario, with `trace` telling
+/// each event, and with `send` the trip of a data packet at the end; or to emulate the network of a scenario that is made of 2 to 64 routers by a seed below 2^32.
 #[derive(Clone, Copy, PartialEq, Eq)]
 pub enum Job {
     Dump {
         recode: bool,
     },
+    Run {
+        turns: u32,
+    },
     Emulate {
         trace: bool,
+        send: Option<PacketWords>,
     },
     Make {
         kind: Kind,

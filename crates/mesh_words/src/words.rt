@@ -11,7 +11,7 @@ fn job_in(words: &[String]) -> Result<Job, usize>
 {
     let mut asked = Asked::Nothing;
     for place in 0..words.len() {
-        match takes(asked, words[place].as_str()) {
+        match takes(asked, place, words[place].as_str()) {
             Some(next) => asked = next,
             None => return Err(place),
         }

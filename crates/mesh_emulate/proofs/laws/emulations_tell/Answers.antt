@@ -1,4 +1,4 @@
-use Rattle.mesh_emulate.proofs.ToldRoutes.{runs_machines, tells_settled, prints_least_routes, prints_next_hops}
+use Rattle.mesh_emulate.proofs.ToldRoutes.{runs_machines, tells_settled, prints_least_routes, prints_next_hops, trips_are_only, trips_reach_routers, trips_reach_networks, trips_never_stray}
 use Rattle.mesh_emulate.proofs.laws.emulations_tell.Goals as goal
 
 pub returns-clause-machines : goal.returns-clause-machines
@@ -12,3 +12,15 @@ returns-clause-routes c = prints_least_routes
 
 pub returns-clause-next_hops : goal.returns-clause-next_hops
 returns-clause-next_hops c = prints_next_hops
+
+pub returns-clause-trips : goal.returns-clause-trips
+returns-clause-trips c = trips_are_only c.settled_trips.ensures.only
+
+pub returns-clause-trips_reach_routers : goal.returns-clause-trips_reach_routers
+returns-clause-trips_reach_routers c = trips_reach_routers c.settled_trips.ensures.routers
+
+pub returns-clause-trips_reach_networks : goal.returns-clause-trips_reach_networks
+returns-clause-trips_reach_networks c = trips_reach_networks c.settled_trips.ensures.networks
+
+pub returns-clause-trips_never_stray : goal.returns-clause-trips_never_stray
+returns-clause-trips_never_stray c = trips_never_stray c.settled_trips.ensures.never_strays

@@ -1,9 +1,10 @@
-use Rattle.std.proofs.Common.{◌≡◌, ◌≤◌, ◌∙◌, refl, ap, arith, length, List}
+use Rattle.std.proofs.Common.{◌≡◌, ◌≤◌, ◌∙◌, refl, ap, arith, length, List, []}
 use Rattle.mesh_checks.specs.Compared.{stated_duplicates}
 use Rattle.mesh_config.proofs.Sounds.{sound_routers}
+use Rattle.mesh_config.specs.Senders.{with_steps}
 use Rattle.mesh_made.proofs.Apart.{pairs_apart}
 use Rattle.mesh_made.proofs.ArcEnds.{arcs_few, arcs_distinct}
-use Rattle.mesh_made.proofs.MadeOnes.{made_routers, made_count, made_arcs, made_senders}
+use Rattle.mesh_made.proofs.MadeOnes.{made_routers, made_count, made_arcs, made_senders, made_qualities}
 use Rattle.mesh_made.proofs.StatedOnes.{stated_clear, stated_addrs}
 use Rattle.mesh_stated.specs.declared.stated.StatedRouter.{StatedRouter}
 use Rattle.mesh_toml.specs.Faults.{first}
@@ -59,6 +60,7 @@ returns c =
     let arcs = c.in_ok-arcs.arcs in
     let same = rw c.as_slice-2.ensures at c.in_ok-routers.ensures.parts in
     let have = rw (c.as_slice-2.ensures, c.as_slice-3.ensures) at c.in_ok-routers.ensures.senders in
+    let admit = rw (c.as_slice-2.ensures, c.as_slice-3.ensures) at c.in_ok-routers.ensures.qualities in
     record {
       end = refl;
       loss_until = refl;
@@ -70,6 +72,7 @@ returns c =
         are_message = record { is_received_hold = refl; is_processed_hold = refl; is_forwarded_hold = refl; is_hop_limit = refl };
       }) ss ds same c.in_ok-stated.ensures.stated;
       senders = made_senders _ ss ds same arcs have;
+      qualities = made_qualities _ ss ds same (with_steps arcs []) admit;
       pairs = c.in_ok-pairs.pairs;
       are_pairs = c.in_ok-pairs.ensures;
       arcs = rw c.as_slice.ensures at c.in_ok-arcs.ensures;

@@ -11,7 +11,7 @@ word_at words i d within is =
     drop-map string_bytes i words ∙ ap (map string_bytes) (drop_more words i d within) ∙ ap (λ (s : String Global). string_bytes s ∷ map string_bytes (drop (i + 1) words)) (sym is)
     ∙ ap (λ (l : List (List ℕ)). string_bytes d ∷ l) (sym (drop-map string_bytes (i + 1) words))
 
-one_on : (asked : Asked) (place : ℕ) (word : List ℕ) (more : List (List ℕ)) (next : Option Asked) → next ≡ takes asked word →
+one_on : (asked : Asked) (place : ℕ) (word : List ℕ) (more : List (List ℕ)) (next : Option Asked) → next ≡ takes asked place word →
     read_on asked place (word ∷ more) ≡ or_at place next (λ n. read_on n (place + 1) more)
 one_on asked place word more next is = ap (λ (o : Option Asked). or_at place o (λ n. read_on n (place + 1) more)) (sym is)
 
@@ -19,12 +19,12 @@ pub returns-in-None : goal.returns-in-None
 returns-in-None c =
     let word = c.index-words-place.result in
     let at = word_at c.args.words.now c.loop-place.place word (omega arith) c.index-words-place.is in
-    let taken : None ≡ takes c.loop-place.asked (string_bytes word) = sym c.in-None.is ∙ c.takes.ensures ∙ ap (takes c.loop-place.asked) c.as_str.ensures.value in
+    let taken : None ≡ takes c.loop-place.asked c.loop-place.place (string_bytes word) = sym c.in-None.is ∙ c.takes.ensures ∙ ap (takes c.loop-place.asked c.loop-place.place) c.as_str.ensures.value in
     sym (c.loop-place.invariant.left ∙ ap (read_on c.loop-place.asked c.loop-place.place) at ∙ one_on c.loop-place.asked c.loop-place.place (string_bytes word) _ None taken)
 
 pub loop-place-preserved : goal.loop-place-preserved
 loop-place-preserved c =
     let word = c.index-words-place.result in
     let at = word_at c.args.words.now c.loop-place.place word (omega arith) c.index-words-place.is in
-    let taken : Some c.in-Some.next ≡ takes c.loop-place.asked (string_bytes word) = sym c.in-Some.is ∙ c.takes.ensures ∙ ap (takes c.loop-place.asked) c.as_str.ensures.value in
+    let taken : Some c.in-Some.next ≡ takes c.loop-place.asked c.loop-place.place (string_bytes word) = sym c.in-Some.is ∙ c.takes.ensures ∙ ap (takes c.loop-place.asked c.loop-place.place) c.as_str.ensures.value in
     record { left = c.loop-place.invariant.left ∙ ap (read_on c.loop-place.asked c.loop-place.place) at ∙ one_on c.loop-place.asked c.loop-place.place (string_bytes word) _ (Some c.in-Some.next) taken }

@@ -1,0 +1,14 @@
+-- The first gap of a network at its end.
+use Rattle.std.proofs.Common.{◌≡◌, ℕ, refl, List, Option, Some, None, Bool, true, false}
+use Rattle.std.specs.Prelude.{IsNone, IfSome, ◌↔◌}
+use Rattle.mesh_atoms.specs.declared.settings.Scenario.{Scenario}
+use Rattle.mesh_atoms.specs.Settled.{Settled}
+use Rattle.mesh_atoms.specs.State.{State}
+use Rattle.mesh_settled.specs.declared.gap.Gap.{Gap}
+use Rattle.mesh_settled.specs.Gaps.{IsFirstGap}
+use Rattle.mesh_texts.specs.Network.{IsGapOf}
+
+pub gap_is : (s : Scenario) (states : List State) (now : ℕ) (gap : Option Gap) → IsNone gap ↔ Settled s states now →
+    IfSome gap (IsFirstGap s states now) → IsGapOf s states now gap
+gap_is s states now None none first = none.0 refl
+gap_is s states now (Some gap) none first = (λ settled. (let e : true ≡ false = none.1 settled in cc), first)

@@ -1,0 +1,123 @@
+-- The lines of a trip are neither headings nor routes, nor `settled yes`.
+use Rattle.std.proofs.Common.{◌≡◌, ℕ, ◌/◌, ◌%◌, true, List, [], ◌∷◌, ◌++◌, length, map, Option, Some, None, refl, sym, ap, ◌∙◌, subst, arith, append_assoc, codes, decimal}
+use Rattle.std.specs.Prelude.{slice_get}
+use Rattle.std.specs.List.{AllByRecursion as Each, flat_map}
+use Rattle.std.proofs.lemmas.List.Elements.{All-nil, All-from_recursion}
+use Rattle.std.proofs.lemmas.List.Folds.{flat_map-map}
+use Rattle.mesh_atoms.specs.declared.addr.Addr4.{Addr4}
+use Rattle.mesh_atoms.specs.declared.settings.Interface.{Interface}
+use Rattle.mesh_atoms.specs.declared.settings.RouterSettings.{RouterSettings}
+use Rattle.mesh_atoms.specs.declared.settings.Scenario.{Scenario}
+use Rattle.mesh_atoms.specs.State.{State}
+use Rattle.mesh_data.specs.declared.trip.End.{End}
+use Rattle.mesh_data.specs.declared.trip.End.TheVariants.{Arrived, NoRoute, NoArc, TooFar}
+use Rattle.mesh_data.specs.declared.trip.Hop.{Hop}
+use Rattle.mesh_data.specs.declared.trip.Trip.{Trip}
+use Rattle.mesh_data.specs.Dotted.{dotted}
+use Rattle.mesh_data.specs.Text.{interface_name, interface_in, end_name, hop_start, hop_end, hop_line, trip_start, trip_end, text_of}
+use Rattle.mesh_emulate.specs.Emulation.{TellsTrip}
+use Rattle.mesh_emulate.specs.Wants.{Packet}
+use Rattle.mesh_machine.specs.Names.{router_name}
+use Rattle.mesh_texts.specs.Printed.{IsLine, IsPlain, ArePlain}
+use Rattle.mesh_texts.proofs.Cuts.{lacks, lacks_both}
+use Rattle.mesh_texts.proofs.LineTexts.{line_end, line_after, begins_otherwise, number}
+use Rattle.mesh_texts.proofs.Marked.{name_lacks, router_name_lacks}
+
+-- Parts without a line feed
+
+router_lacks : (s : Scenario) (x : ℕ) → lacks 10 (router_name s.routers x) ≡ true
+router_lacks s x = router_name_lacks 10 (omega arith) s.routers x
+
+face_lacks : (i : Option Interface) → lacks 10 (interface_name i) ≡ true
+face_lacks None = refl
+face_lacks (Some i) = name_lacks 10 (omega arith) i.name i.sound.named
+
+interface_lacks : (r : Option RouterSettings) (i : ℕ) → lacks 10 (interface_in r i) ≡ true
+interface_lacks None i = refl
+interface_lacks (Some r) i = face_lacks (slice_get r.interfaces i)
+
+end_lacks : (end : End) → lacks 10 (end_name end) ≡ true
+end_lacks Arrived = refl
+end_lacks NoRoute = refl
+end_lacks NoArc = refl
+end_lacks TooFar = refl
+
+-- parts one behind the other, as texts of trips have them
+abbrev behind : List ℕ → List (List ℕ) → List ℕ
+behind first [] = first
+behind first (part ∷ parts) = behind (first ++ part) parts
+
+behind_lacks : (first : List ℕ) (parts : List (List ℕ)) → lacks 10 first ≡ true → Each (λ p. lacks 10 p ≡ true) parts → lacks 10 (behind first parts) ≡ true
+behind_lacks first [] is all = is
+behind_lacks first (part ∷ parts) is all = behind_lacks (first ++ part) parts (lacks_both 10 first part is all.0) all.1
+
+dotted_lacks : (a : Addr4) → lacks 10 (dotted a) ≡ true
+unfolding dotted
+dotted_lacks a =
+    let second = a.0 / 65536 % 256 in
+    let third = a.0 / 256 % 256 in
+    behind_lacks (decimal (a.0 / 16777216)) (codes "." ∷ decimal second ∷ codes "." ∷ decimal third ∷ codes "." ∷ decimal (a.0 % 256) ∷ [])
+    (number (a.0 / 16777216)) (refl, (number second, (refl, (number third, (refl, (number (a.0 % 256), tt))))))
+
+-- Lines
+
+start_lacks : (s : Scenario) (from : ℕ) (a : Addr4) → lacks 10 (trip_start s from a) ≡ true
+start_lacks s from a =
+    behind_lacks (codes "send ") (router_name s.routers from ∷ codes " " ∷ dotted a ∷ []) refl (router_lacks s from, (refl, (dotted_lacks a, tt)))
+
+end_is_line : (s : Scenario) (trip : Trip) → IsLine (trip_end s trip)
+end_is_line s trip =
+    let parts = end_name trip.end ∷ codes " at " ∷ router_name s.routers trip.last ∷ codes " metric " ∷ decimal trip.metric ∷ codes " hops " ∷ decimal (length trip.hops) ∷ [] in
+    line_after (behind (codes " end ") parts) (codes "\n")
+    (behind_lacks (codes " end ") parts refl (end_lacks trip.end, (refl, (router_lacks s trip.last, (refl, (number trip.metric, (refl, (number (length trip.hops), tt))))))))
+    line_end
+
+trip_plain : (s : Scenario) (from : ℕ) (a : Addr4) (trip : Trip) → IsPlain (trip_start s from a ++ trip_end s trip)
+trip_plain s from a trip =
+    let line = trip_start s from a ++ trip_end s trip in
+    record {
+      line = line_after (trip_start s from a) (trip_end s trip) (start_lacks s from a) (end_is_line s trip);
+      no_heading = begins_otherwise (codes "router ") line 0 refl refl;
+      no_route = begins_otherwise (codes " route ") line 0 refl refl;
+      no_settled = begins_otherwise (codes "settled yes\n") line 2 refl refl;
+    }
+
+hop_lacks : (s : Scenario) (hop : Hop) → lacks 10 (hop_start s hop) ≡ true
+hop_lacks s hop =
+    let face = interface_in (slice_get s.routers hop.from) hop.iface in
+    behind_lacks (codes " hop ") (router_name s.routers hop.from ∷ codes " " ∷ face ∷ []) refl
+    (router_lacks s hop.from, (refl, (interface_lacks (slice_get s.routers hop.from) hop.iface, tt)))
+
+hop_is_line : (s : Scenario) (hop : Hop) → IsLine (hop_end s hop)
+hop_is_line s hop =
+    let parts = router_name s.routers hop.to ∷ codes " metric " ∷ decimal hop.metric ∷ [] in
+    line_after (behind (codes " to ") parts) (codes "\n")
+    (behind_lacks (codes " to ") parts refl (router_lacks s hop.to, (refl, (number hop.metric, tt)))) line_end
+
+hop_plain : (s : Scenario) (hop : Hop) → IsPlain (hop_line s hop)
+hop_plain s hop =
+    let line = hop_start s hop ++ hop_end s hop in
+    record {
+      line = line_after (hop_start s hop) (hop_end s hop) (hop_lacks s hop) (hop_is_line s hop);
+      no_heading = begins_otherwise (codes "router ") line 0 refl refl;
+      no_route = begins_otherwise (codes " route ") line 1 refl refl;
+      no_settled = begins_otherwise (codes "settled yes\n") line 0 refl refl;
+    }
+
+each_hop : (s : Scenario) (hops : List Hop) → Each IsPlain (map (hop_line s) hops)
+each_hop s [] = tt
+each_hop s (hop ∷ hops) = (hop_plain s hop, each_hop s hops)
+
+text_is_plain : (s : Scenario) (from : ℕ) (a : Addr4) (trip : Trip) → ArePlain (text_of s from a trip)
+text_is_plain s from a trip =
+    let first = trip_start s from a ++ trip_end s trip in
+    let lines = first ∷ map (hop_line s) trip.hops in
+    record {
+      lines = lines;
+      each = All-from_recursion IsPlain lines (trip_plain s from a trip, each_hop s trip.hops);
+      whole = ap (λ (l : List ℕ). first ++ l) (sym (flat_map-map (λ (l : List ℕ). l) (hop_line s) trip.hops));
+    }
+
+pub trip_is_plain : (s : Scenario) (states : List State) (send : Option Packet) (text : List ℕ) → TellsTrip s states send text → ArePlain text
+trip_is_plain s states None text none = record { lines = []; each = All-nil IsPlain; whole = none }
+trip_is_plain s states (Some packet) text sent = subst ArePlain (sym sent.is_text) (text_is_plain s sent.from packet.dest sent.trip)
