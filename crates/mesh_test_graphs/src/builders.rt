@@ -1,12 +1,12 @@
 //! Interfaces, routers, arcs and scenarios for worked networks.
 ghost use Rattle.std.specs.Prelude.{◌≡◌, ◌<◌, [], ◌∷◌, length, map, cond, IfOk, IsTrue};
 ghost use Rattle.std.specs.List.{flat_map, list_all};
-ghost use Rattle.mesh_atoms.specs.Settings.{IsName, IsRouter, AreRouters, AreArcs};
+ghost use Rattle.mesh_atoms.specs.Settings.{is_step, IsName, IsRouter, AreRouters, AreArcs};
 ghost use Rattle.mesh_test_graphs.specs.Scenarios.{ends_told, ends_of, is_row, is_double_row};
 
 use mesh_atoms::{
-    Addr4, Attached4, Bytes, DEFAULT_TIMES, Interface, Metric, NetAddr, RadioArc, RouterSettings,
-    Scenario, Seq, Willing,
+    Addr4, Admit, Attached4, Bytes, DEFAULT_TC_ROWS, DEFAULT_TIMES, Interface, Metric, NetAddr,
+    QualityStep, RadioArc, RouterSettings, Scenario, SenderMetric, SenderQuality, Seq, Willing,
 };
 use std::alloc::{AllocError, Global};
 
@@ -20,11 +20,59 @@ fn interface_of(alloc: Global, name: &[u8], addr: Addr4) -> Result<Interface, Al
     ensures name { IfOk result (λ i. i.name ≡ name.now) }
     ensures addrs { IfOk result (λ i. i.addrs ≡ addr ∷ []) }
 {
+    let senders = Seq::new(alloc);
+    let admit = Admit::all(&senders)?;
     Ok(Interface {
         name: Bytes::from_vec(Vec::from_slice(alloc, name)?),
         addrs: Seq::from_vec(Vec::from_slice(alloc, &[addr])?),
         metric: Metric { code: 0 },
-        senders: Seq::new(alloc),
+        senders,
+        admit,
+    })
+}
+
+/// A rule that accepts qualities from 60 on and rejects those below 40: of what one sender sends the quality is this one from a
+/// moment on.
+fn rule_of(alloc: Global, sender: Addr4, at: u64, quality: u8) -> Result<Admit, AllocError>
+    requires { IsTrue (is_step at quality) }
+    ensures { IfOk result (λ rule. map (λ s. s.sender) rule.senders ≡ sender ∷ []) }
+{
+    let mut steps = Seq::new(alloc);
+    steps.push(QualityStep { at, quality })?;
+    let mut senders = Seq::new(alloc);
+    senders.push(SenderQuality { sender, steps })?;
+    Ok(Admit {
+        accept: 60,
+        reject: 40,
+        senders,
+    })
+}
+
+/// An interface of one address with that rule.
+fn judging_interface(
+    alloc: Global,
+    addr: Addr4,
+    sender: Addr4,
+    at: u64,
+    quality: u8,
+) -> Result<Interface, AllocError>
+    requires addr { 0 < addr.0 }
+    requires sender { 0 < sender.0 }
+    requires step { IsTrue (is_step at quality) }
+    ensures addrs { IfOk result (λ i. i.addrs ≡ addr ∷ []) }
+{
+    let mut senders = Seq::new(alloc);
+    senders.push(SenderMetric {
+        sender,
+        metric: Metric { code: 0 },
+    })?;
+    let admit = rule_of(alloc, sender, at, quality)?;
+    Ok(Interface {
+        name: Bytes::from_vec(Vec::from_slice(alloc, b"w0")?),
+        addrs: Seq::from_vec(Vec::from_slice(alloc, &[addr])?),
+        metric: Metric { code: 0 },
+        senders,
+        admit,
     })
 }
 
@@ -51,7 +99,33 @@ fn router_of(
         times: DEFAULT_TIMES,
         interfaces,
         attached,
+        tc_rows: DEFAULT_TC_ROWS,
+        near_hold: Seq::new(alloc),
     })
+}
+
+/// A router of one interface that judges what a sender sends by its quality, which is this one from a moment on: it accepts 60 and
+/// more.
+pub(crate) fn judge(
+    alloc: Global,
+    name: &[u8],
+    addr: Addr4,
+    sender: Addr4,
+    at: u64,
+    quality: u8,
+) -> Result<RouterSettings, AllocError>
+    requires name { IsName name.now }
+    requires addr { 0 < addr.0 }
+    requires sender { 0 < sender.0 }
+    requires step { IsTrue (is_step at quality) }
+    ensures name { IfOk result (λ r. r.name ≡ name.now) }
+    ensures interfaces { IfOk result (λ r. length r.interfaces ≡ 1) }
+    ensures addrs { IfOk result (λ r. flat_map (λ i. i.addrs) r.interfaces ≡ addr ∷ []) }
+    ensures nets { IfOk result (λ r. map (λ a. a.net) r.attached ≡ []) }
+{
+    let mut interfaces = Seq::new(alloc);
+    interfaces.push(judging_interface(alloc, addr, sender, at, quality)?)?;
+    router_of(alloc, name, interfaces, Seq::new(alloc))
 }
 
 /// A router of one interface.

@@ -1,9 +1,9 @@
-//! The radio graphs of worked networks of ten routers, which have two interfaces each.
-ghost use Rattle.std.specs.Prelude.{replicate};
-ghost use Rattle.mesh_atoms.specs.Settings.{AreArcs};
+//! The radio graphs of worked networks: of ten routers, which have two interfaces each, and of two by the qualities of their arcs.
+ghost use Rattle.std.specs.Prelude.{replicate, IsTrue};
+ghost use Rattle.mesh_atoms.specs.Settings.{is_step, AreArcs};
 ghost use Rattle.mesh_test_graphs.specs.Scenarios.{ends_of};
 
-use crate::builders::{Joint, arcs_of, doubles_of, metric_of, scenario_of};
+use crate::builders::{Joint, arcs_of, doubles_of, judge, metric_of, plain, scenario_of};
 use mesh_atoms::{Addr4, Pair, Seq};
 use mesh_paths::radio_graph;
 use std::alloc::{AllocError, Global};
@@ -45,6 +45,41 @@ fn has_graph(
         })?;
     }
     Ok(graph.pairs.as_slice() == wanted.as_slice() && graph.parts.as_slice() == parts)
+}
+
+// Whether two routers with arcs both ways have a radio graph of so many pairs and these parts, where the quality of what the second
+// sends to the first is this one from a moment on. The first accepts 60 and more; the network ends at 819,200.
+fn has_parts(
+    alloc: Global,
+    at: u64,
+    quality: u8,
+    pairs: usize,
+    parts: &[usize],
+) -> Result<bool, AllocError>
+    requires { IsTrue (is_step at quality) }
+{
+    let mut routers = Seq::new(alloc);
+    routers.push(judge(alloc, b"x", Addr4(1), Addr4(2), at, quality)?)?;
+    routers.push(plain(alloc, b"y", Addr4(2))?)?;
+    let arcs = arcs_of(alloc, &[(0, 0, 1, 0, 5), (1, 0, 0, 0, 7)])?;
+    let scenario = scenario_of(routers, arcs);
+    let graph = radio_graph(alloc, &scenario)?;
+    Ok(graph.pairs.len() == pairs && graph.parts.as_slice() == parts)
+}
+
+#[test]
+fn joins_what_is_admitted_at_the_end(rt: HostRuntime) -> Result<(), Fail> {
+    assert!(rt; has_parts(rt.alloc(), 0, 59, 0, &[0, 1])?, "below accept");
+    assert!(rt; has_parts(rt.alloc(), 0, 60, 2, &[0, 0])?, "at accept");
+    assert!(rt;
+        has_parts(rt.alloc(), 819_200, 59, 0, &[0, 1])?,
+        "a step at the end"
+    );
+    assert!(rt;
+        has_parts(rt.alloc(), 819_201, 59, 2, &[0, 0])?,
+        "a step behind the end"
+    );
+    Ok(())
 }
 
 #[test]

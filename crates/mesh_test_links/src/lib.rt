@@ -10,4 +10,6 @@ mod losts;
 #[cfg(test)]
 mod neighbours;
 #[cfg(test)]
+mod rules;
+#[cfg(test)]
 mod two_hops;

@@ -1,6 +1,8 @@
 //! What is tried over any bases, and the bases that it is tried over.
 use crate::exchange::{Event, a_lone_router_is_told, two_routers};
-use crate::neighbourhood::{a_close_router_is_told, neighbourhood};
+use crate::neighbourhood::{
+    a_close_router_is_told, a_neighbourhood_stays, admitted, neighbourhood,
+};
 use crate::worked::Step;
 use mesh_expire::{Bases, IndexedBases, NoBases};
 use std::alloc::{AllocError, Global};
@@ -9,6 +11,8 @@ use std::alloc::{AllocError, Global};
 #[derive(Clone, Copy)]
 pub(crate) enum Run<'a> {
     Neighbourhood(&'a [Step]),
+    Admitted(&'a [Step]),
+    Stays,
     CloseRouter,
     TwoRouters(&'a [Event]),
     LoneRouter,
@@ -18,6 +22,8 @@ pub(crate) enum Run<'a> {
 fn goes_right<B: Bases>(alloc: Global, run: Run) -> Result<bool, AllocError> {
     match run {
         Run::Neighbourhood(steps) => neighbourhood::<B>(alloc, steps),
+        Run::Admitted(steps) => admitted::<B>(alloc, steps),
+        Run::Stays => a_neighbourhood_stays::<B>(alloc),
         Run::CloseRouter => a_close_router_is_told::<B>(alloc),
         Run::TwoRouters(events) => two_routers::<B>(alloc, events),
         Run::LoneRouter => a_lone_router_is_told::<B>(alloc),

@@ -7,7 +7,7 @@ use crate::fixtures::{metric, one_interface};
 use crate::worked::{
     LinkHas, NOTHING, NeighbourHas, ONE, ONE_LINK, ONE_LOST, Step, is_right, link, tell, this,
 };
-use mesh_atoms::{Addr4, Hello, HelloRow, LinkStatus, Metrics, OtherStatus, Willing};
+use mesh_atoms::{Addr4, Hello, HelloRow, LinkState, LinkStatus, Metrics, OtherStatus, Willing};
 use mesh_expire::Bases;
 use mesh_nhdp::{HelloTaken, Nhdp};
 use std::alloc::{AllocError, Global};
@@ -175,19 +175,19 @@ fn two_routers_find_each_other(rt: HostRuntime) -> Result<(), Fail> {
         Event::First(Step::Row(0, TWO, None)),
         Event::FirstSends(0),
         Event::Second(Step::Link(0, ONE, Some(heard))),
-        Event::Second(Step::Status(0, ONE, 0, Some(LinkStatus::Heard))),
+        Event::Second(Step::Status(0, ONE, 0, Some(LinkState::Heard))),
         Event::Second(Step::Neighbour(ONE, Some(neighbour(None)))),
         // which learns so, and what it costs
         Event::Second(Step::Row(8192, ONE, Some(at_four))),
         Event::SecondSends(8192),
         Event::First(Step::Link(0, TWO, Some(there))),
-        Event::First(Step::Status(0, TWO, 8192, Some(LinkStatus::Symmetric))),
+        Event::First(Step::Status(0, TWO, 8192, Some(LinkState::Symmetric))),
         Event::First(Step::Neighbour(TWO, Some(neighbour(Some((1, 4)))))),
         // and says it in turn
         Event::First(Step::Row(16384, TWO, Some(close(TWO, 1, 4)))),
         Event::FirstSends(16384),
         Event::Second(Step::Link(0, ONE, Some(back))),
-        Event::Second(Step::Status(0, ONE, 16384, Some(LinkStatus::Symmetric))),
+        Event::Second(Step::Status(0, ONE, 16384, Some(LinkState::Symmetric))),
         Event::Second(Step::Neighbour(ONE, Some(neighbour(Some((4, 1)))))),
     ];
     assert!(rt; goes_right(rt.alloc(), Run::TwoRouters(&events))?);
@@ -203,10 +203,10 @@ fn two_routers_lose_each_other(rt: HostRuntime) -> Result<(), Fail> {
         // the last HELLO that the first one heard was sent at 8192
         Event::First(Step::Expire(57343)),
         Event::First(Step::Counts(ONE_LINK)),
-        Event::First(Step::Status(0, TWO, 57343, Some(LinkStatus::Symmetric))),
+        Event::First(Step::Status(0, TWO, 57343, Some(LinkState::Symmetric))),
         Event::First(Step::Expire(57344)),
         Event::First(Step::Counts(ONE_LOST)),
-        Event::First(Step::Status(0, TWO, 57344, Some(LinkStatus::Lost))),
+        Event::First(Step::Status(0, TWO, 57344, Some(LinkState::Lost))),
         Event::First(Step::Neighbour(TWO, Some(neighbour(None)))),
         Event::First(Step::Row(57344, TWO, Some(lost(TWO)))),
         Event::First(Step::Expire(106495)),
@@ -216,10 +216,10 @@ fn two_routers_lose_each_other(rt: HostRuntime) -> Result<(), Fail> {
         // and the second one the one of 16384
         Event::Second(Step::Expire(65535)),
         Event::Second(Step::Counts(ONE_LINK)),
-        Event::Second(Step::Status(0, ONE, 65535, Some(LinkStatus::Symmetric))),
+        Event::Second(Step::Status(0, ONE, 65535, Some(LinkState::Symmetric))),
         Event::Second(Step::Expire(65536)),
         Event::Second(Step::Counts(ONE_LOST)),
-        Event::Second(Step::Status(0, ONE, 65536, Some(LinkStatus::Lost))),
+        Event::Second(Step::Status(0, ONE, 65536, Some(LinkState::Lost))),
         Event::Second(Step::Neighbour(ONE, Some(neighbour(None)))),
         Event::Second(Step::Row(65536, ONE, Some(lost(ONE)))),
         Event::Second(Step::Expire(114687)),

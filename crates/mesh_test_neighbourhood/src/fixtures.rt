@@ -5,7 +5,8 @@ ghost use Rattle.mesh_atoms.specs.Base.{addr_eq};
 ghost use Rattle.mesh_atoms.specs.Settings.{IsName, IsRouter, is_addressed, are_distinct};
 
 use mesh_atoms::{
-    Addr4, Bytes, DEFAULT_TIMES, Interface, Metric, RouterSettings, Seq, Times, Willing,
+    Addr4, Admit, Bytes, DEFAULT_TC_ROWS, DEFAULT_TIMES, Interface, Metric, QualityStep,
+    RouterSettings, SenderMetric, SenderQuality, Seq, Times, Willing,
 };
 use std::alloc::{AllocError, Global};
 
@@ -49,11 +50,65 @@ fn interface(
     ensures name { IfOk result (λ interface. interface.name ≡ name.now) }
     ensures addrs { IfOk result (λ interface. interface.addrs ≡ addr ∷ []) }
 {
+    let senders = Seq::new(alloc);
+    let admit = Admit::all(&senders)?;
     Ok(Interface {
         name: text(alloc, name)?,
         addrs: list_of(alloc, &[addr])?,
         metric,
-        senders: Seq::new(alloc),
+        senders,
+        admit,
+    })
+}
+
+/// Accepts links from a quality of 60 on, and rejects them below 40: of what the sender sends it is 50 from 1000 on, 20 from 2000
+/// on and 60 from 3000 on.
+fn sixty_forty(alloc: Global, sender: Addr4) -> Result<Admit, AllocError>
+    ensures { IfOk result (λ admit. map (λ s. s.sender) admit.senders ≡ sender ∷ []) }
+{
+    let steps = [
+        QualityStep {
+            at: 1000,
+            quality: 50,
+        },
+        QualityStep {
+            at: 2000,
+            quality: 20,
+        },
+        QualityStep {
+            at: 3000,
+            quality: 60,
+        },
+    ];
+    let mut senders = Seq::new(alloc);
+    senders.push(SenderQuality {
+        sender,
+        steps: list_of(alloc, &steps)?,
+    })?;
+    Ok(Admit {
+        accept: 60,
+        reject: 40,
+        senders,
+    })
+}
+
+/// An interface of one address, which receives at cost 1, and admits what that sender sends by its quality.
+fn admitting_interface(alloc: Global, addr: Addr4, sender: Addr4) -> Result<Interface, AllocError>
+    requires addressed { 0 < addr.0 }
+    requires sends { 0 < sender.0 }
+    ensures name { IfOk result (λ interface. interface.name ≡ 119 ∷ 48 ∷ []) }
+    ensures addrs { IfOk result (λ interface. interface.addrs ≡ addr ∷ []) }
+{
+    let first = SenderMetric {
+        sender,
+        metric: metric(1),
+    };
+    Ok(Interface {
+        name: text(alloc, b"w0")?,
+        addrs: list_of(alloc, &[addr])?,
+        metric: metric(1),
+        senders: list_of(alloc, &[first])?,
+        admit: sixty_forty(alloc, sender)?,
     })
 }
 
@@ -77,6 +132,8 @@ fn router(
         times,
         interfaces,
         attached: Seq::new(alloc),
+        tc_rows: DEFAULT_TC_ROWS,
+        near_hold: Seq::new(alloc),
     })
 }
 
@@ -91,6 +148,21 @@ pub(crate) fn one_interface(
 {
     let mut interfaces = Seq::new(alloc);
     interfaces.push(interface(alloc, b"w0", addr, metric)?)?;
+    router(alloc, interfaces, DEFAULT_TIMES)
+}
+
+/// A router of one interface, which receives at cost 1, and admits what that sender sends by its quality.
+pub(crate) fn admitting(
+    alloc: Global,
+    addr: Addr4,
+    sender: Addr4,
+) -> Result<RouterSettings, AllocError>
+    requires addressed { 0 < addr.0 }
+    requires sends { 0 < sender.0 }
+    ensures { IfOk result (λ settings. length settings.interfaces ≡ 1) }
+{
+    let mut interfaces = Seq::new(alloc);
+    interfaces.push(admitting_interface(alloc, addr, sender)?)?;
     router(alloc, interfaces, DEFAULT_TIMES)
 }
 

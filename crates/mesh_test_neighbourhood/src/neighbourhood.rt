@@ -6,9 +6,10 @@ use crate::bases::{Run, has_no_room, is_right};
 use crate::fixtures::metric;
 use crate::worked::{
     Counts, FIVE, LinkHas, NOTHING, NeighbourHas, ONE, ONE_LINK, ONE_LOST, OWN, OWN_TOO, Rows,
-    Step, THREE, TwoHopHas, WITH_TWO_HOP, are_right, hear, link, only, other, start, tell, this,
+    Step, THREE, TwoHopHas, WITH_TWO_HOP, are_right, hear, link, only, other, start,
+    start_admitting, tell, this,
 };
-use mesh_atoms::{Addr4, Base, Hello, HelloRow, LinkStatus, Metrics};
+use mesh_atoms::{Addr4, Base, Hello, HelloRow, LinkState, LinkStatus, Metrics, OtherStatus};
 use mesh_expire::Bases;
 use mesh_nhdp::{HelloTaken, Nhdp};
 use std::alloc::{AllocError, Global};
@@ -17,6 +18,13 @@ use std::test::Fail;
 /// Whether each step of a new router of two interfaces is right.
 pub(crate) fn neighbourhood<B: Bases>(alloc: Global, steps: &[Step]) -> Result<bool, AllocError> {
     let mut nhdp = start::<B>(alloc)?;
+    are_right(alloc, &mut nhdp, steps)
+}
+
+/// The same of a router of one interface, which admits what 10.0.0.1 sends from a quality of 60 on, and rejects it below 40; that
+/// quality is 50 from 1000 on, 20 from 2000 on and 60 from 3000 on.
+pub(crate) fn admitted<B: Bases>(alloc: Global, steps: &[Step]) -> Result<bool, AllocError> {
+    let mut nhdp = start_admitting::<B>(alloc)?;
     are_right(alloc, &mut nhdp, steps)
 }
 
@@ -40,11 +48,11 @@ fn a_neighbour_is_heard_and_goes(rt: HostRuntime) -> Result<(), Fail> {
         Step::Hear(100, 0, Some(ONE), only(this(ONE)), HelloTaken::Done),
         Step::Counts(ONE_LINK),
         Step::Link(0, ONE, Some(heard)),
-        Step::Status(0, ONE, 100, Some(LinkStatus::Heard)),
+        Step::Status(0, ONE, 100, Some(LinkState::Heard)),
         Step::Neighbour(ONE, Some(asymmetric)),
         Step::Expire(49252),
         Step::Link(0, ONE, Some(heard)),
-        Step::Status(0, ONE, 49252, Some(LinkStatus::Lost)),
+        Step::Status(0, ONE, 49252, Some(LinkState::Lost)),
         Step::Expire(98403),
         Step::Counts(ONE_LINK),
         Step::Expire(98404),
@@ -103,13 +111,13 @@ fn a_neighbour_is_symmetric_and_lost(rt: HostRuntime) -> Result<(), Fail> {
         Step::Hear(200, 0, Some(ONE), shown, HelloTaken::Done),
         Step::Counts(WITH_TWO_HOP),
         Step::Link(0, ONE, Some(symmetric)),
-        Step::Status(0, ONE, 200, Some(LinkStatus::Symmetric)),
+        Step::Status(0, ONE, 200, Some(LinkState::Symmetric)),
         Step::TwoHop(0, ONE, THREE, Some(reached)),
         Step::Neighbour(ONE, Some(close)),
         Step::Hear(300, 0, Some(ONE), gone, HelloTaken::Done),
         Step::Counts(ONE_LOST),
         Step::Link(0, ONE, Some(heard)),
-        Step::Status(0, ONE, 300, Some(LinkStatus::Heard)),
+        Step::Status(0, ONE, 300, Some(LinkState::Heard)),
         Step::TwoHop(0, ONE, THREE, None),
         Step::Neighbour(ONE, Some(far)),
         // the lost address goes, and the link stays, LOST
@@ -117,7 +125,7 @@ fn a_neighbour_is_symmetric_and_lost(rt: HostRuntime) -> Result<(), Fail> {
         Step::Counts(ONE_LOST),
         Step::Expire(49452),
         Step::Counts(ONE_LINK),
-        Step::Status(0, ONE, 49452, Some(LinkStatus::Lost)),
+        Step::Status(0, ONE, 49452, Some(LinkState::Lost)),
     ];
     assert!(rt; is_right(rt.alloc(), Run::Neighbourhood(&steps))?);
     Ok(())
@@ -163,7 +171,7 @@ fn a_lost_neighbour_is_symmetric_again(rt: HostRuntime) -> Result<(), Fail> {
         Step::Hear(400, 0, Some(ONE), shown, HelloTaken::Done),
         Step::Counts(WITH_TWO_HOP),
         Step::Link(0, ONE, Some(again)),
-        Step::Status(0, ONE, 400, Some(LinkStatus::Symmetric)),
+        Step::Status(0, ONE, 400, Some(LinkState::Symmetric)),
         Step::TwoHop(0, ONE, THREE, Some(reached)),
         Step::Neighbour(ONE, Some(close)),
     ];
@@ -235,7 +243,7 @@ fn another_sending_list_is_another_link(rt: HostRuntime) -> Result<(), Fail> {
         // the address that isn't the neighbour's any more is lost
         Step::Counts(ONE_LOST),
         Step::Link(0, ONE, Some(again)),
-        Step::Status(0, ONE, 200, Some(LinkStatus::Symmetric)),
+        Step::Status(0, ONE, 200, Some(LinkState::Symmetric)),
     ];
     assert!(rt; is_right(rt.alloc(), Run::Neighbourhood(&steps))?);
     Ok(())
@@ -399,5 +407,92 @@ fn a_hello_tells_of_a_symmetric_neighbour(rt: HostRuntime) -> Result<(), Fail> {
     ];
     assert!(rt; is_right(rt.alloc(), Run::Neighbourhood(&steps))?);
     assert!(rt; is_right(rt.alloc(), Run::CloseRouter)?);
+    Ok(())
+}
+
+#[test]
+fn a_neighbour_is_admitted_by_its_quality(rt: HostRuntime) -> Result<(), Fail> {
+    let shown = Rows::Few([
+        Some(this(ONE)),
+        Some(link(OWN, LinkStatus::Heard, 3)),
+        None,
+        None,
+    ]);
+    let close = NeighbourHas {
+        symmetric: true,
+        addrs: 1,
+        metric_in: Some(1),
+        metric_out: Some(3),
+    };
+    let far = NeighbourHas {
+        symmetric: false,
+        addrs: 1,
+        metric_in: None,
+        metric_out: None,
+    };
+    // its metric comes with its next HELLO
+    let again = NeighbourHas {
+        metric_out: None,
+        ..close
+    };
+    let gone = HelloRow {
+        other: Some(OtherStatus::Lost),
+        ..link(ONE, LinkStatus::Lost, 0)
+    };
+    let kept = [
+        Step::Hear(500, 0, Some(ONE), shown, HelloTaken::Done),
+        Step::Neighbour(ONE, Some(close)),
+        Step::Expire(1000),
+        Step::Status(0, ONE, 1000, Some(LinkState::Symmetric)),
+        Step::Neighbour(ONE, Some(close)),
+        Step::Expire(2000),
+        Step::Status(0, ONE, 2000, Some(LinkState::Lost)),
+        Step::Neighbour(ONE, Some(far)),
+        Step::Counts(ONE_LOST),
+        Step::Row(2000, ONE, Some(gone)),
+        Step::Expire(3000),
+        Step::Status(0, ONE, 3000, Some(LinkState::Symmetric)),
+        Step::Neighbour(ONE, Some(again)),
+        Step::Counts(ONE_LINK),
+    ];
+    assert!(rt; is_right(rt.alloc(), Run::Admitted(&kept))?);
+    // nothing is said of a PENDING link
+    let pending = [
+        Step::Hear(1500, 0, Some(ONE), shown, HelloTaken::Done),
+        Step::Status(0, ONE, 1500, Some(LinkState::Pending)),
+        Step::Neighbour(ONE, Some(far)),
+        Step::Counts(ONE_LINK),
+        Step::Row(1500, ONE, None),
+    ];
+    assert!(rt; is_right(rt.alloc(), Run::Admitted(&pending))?);
+    Ok(())
+}
+
+/// Hears a neighbour, and then whether expiry finds the neighbourhood as it was up to the moment at which the link is SYMMETRIC
+/// no more.
+fn stays_a_while<B: Bases>(alloc: Global, nhdp: &mut Nhdp<B>) -> Result<bool, AllocError>
+    requires two { length nhdp.old.settings.interfaces ≡ 2 }
+    requires sound { (moment : ℕ) × SoundNeighbourhood nhdp.old.settings moment nhdp.old.near }
+{
+    let shown = Rows::Few([
+        Some(this(ONE)),
+        Some(link(OWN, LinkStatus::Heard, 3)),
+        None,
+        None,
+    ]);
+    hear(alloc, nhdp, 200, 0, Some(Addr4(ONE)), &shown)?;
+    let same = nhdp.expire_since(200, 49351)?;
+    let over = nhdp.expire_since(49351, 49352)?;
+    Ok(same && !over)
+}
+
+pub(crate) fn a_neighbourhood_stays<B: Bases>(alloc: Global) -> Result<bool, AllocError> {
+    let mut nhdp = start::<B>(alloc)?;
+    stays_a_while(alloc, &mut nhdp)
+}
+
+#[test]
+fn a_neighbourhood_is_as_it_was(rt: HostRuntime) -> Result<(), Fail> {
+    assert!(rt; is_right(rt.alloc(), Run::Stays)?);
     Ok(())
 }

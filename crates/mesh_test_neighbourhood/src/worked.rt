@@ -3,10 +3,10 @@ ghost use Rattle.std.specs.Prelude.{◌≡◌, ◌<◌, ◌^◌, ℕ, length, Al
 ghost use Rattle.mesh_atoms.specs.Nodes.{IsBefore};
 ghost use Rattle.mesh_atoms.specs.Sound.{SoundNeighbourhood};
 
-use crate::fixtures::{cost, list_of, metric, two_interfaces};
+use crate::fixtures::{admitting, cost, list_of, metric, two_interfaces};
 use crate::near_callers::symmetric_neighbours;
 use mesh_atoms::{
-    Addr4, DEFAULT_TIMES, Hello, HelloRow, Link, LinkStatus, LocalIf, Metrics, Mpr, NetAddr,
+    Addr4, DEFAULT_TIMES, Hello, HelloRow, LinkState, LinkStatus, LocalIf, Metrics, Mpr, NetAddr,
     Relays, Seq, Willing,
 };
 use mesh_expire::Bases;
@@ -33,6 +33,17 @@ pub(crate) fn start<B: Bases>(alloc: Global) -> Result<Nhdp<B>, AllocError>
     let first = (Addr4(OWN), metric(1));
     let second = (Addr4(OWN_TOO), metric(4));
     let settings = two_interfaces(alloc, first, second, DEFAULT_TIMES)?;
+    let nhdp = Nhdp::new(alloc, &settings)?;
+    Ok(nhdp)
+}
+
+/// The empty neighbourhood of a router of one interface, which receives at cost 1, and admits what 10.0.0.1 sends by its
+/// quality.
+pub(crate) fn start_admitting<B: Bases>(alloc: Global) -> Result<Nhdp<B>, AllocError>
+    ensures some { IfOk result (λ nhdp. 0 < length nhdp.settings.interfaces) }
+    ensures sound { IfOk result (λ nhdp. SoundNeighbourhood nhdp.settings 0 nhdp.near) }
+{
+    let settings = admitting(alloc, Addr4(OWN), Addr4(ONE))?;
     let nhdp = Nhdp::new(alloc, &settings)?;
     Ok(nhdp)
 }
@@ -319,22 +330,11 @@ fn counts_of<N: Near4>(near: &N) -> Counts {
     }
 }
 
-/// The status of a link that isn't pending.
-fn status(link: &Link, now: u64) -> LinkStatus {
-    if link.is_symmetric(now) {
-        LinkStatus::Symmetric
-    } else if link.is_heard(now) {
-        LinkStatus::Heard
-    } else {
-        LinkStatus::Lost
-    }
-}
-
-fn status_of<N: Near4>(near: &N, iface: usize, addr: u32, now: u32) -> Option<LinkStatus> {
+fn status_of<N: Near4>(near: &N, iface: usize, addr: u32, now: u32) -> Option<LinkState> {
     for place in 0..near.links(iface) {
         if let Some((key, link, _)) = near.link(iface, place) {
             if key.addr == Addr4(addr) {
-                return Some(status(link, u64::from(now)));
+                return Some(link.state(u64::from(now)));
             }
         }
     }
@@ -352,7 +352,7 @@ pub(crate) enum Step {
     // interface and least address; the link
     Link(usize, u32, Option<LinkHas>),
     // interface, least address and moment; the link's status
-    Status(usize, u32, u32, Option<LinkStatus>),
+    Status(usize, u32, u32, Option<LinkState>),
     // interface, least address of the link, address; the tuple
     TwoHop(usize, u32, u32, Option<TwoHopHas>),
     // the originator; the neighbour

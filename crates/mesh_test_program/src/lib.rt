@@ -1,5 +1,5 @@
 //! Tests of what no text of the program shows: codes, messages that are written, rows and addresses of a reading, blocks that no
-//! packet holds, and failing streams.
+//! packet holds, failing streams, and runs over an air and a clock in memory.
 #![tactic(auto)]
 
 #[cfg(test)]
@@ -10,6 +10,8 @@ mod codes;
 mod hop;
 #[cfg(test)]
 mod reading;
+#[cfg(test)]
+mod runs;
 #[cfg(test)]
 mod streams;
 #[cfg(test)]

@@ -1,6 +1,8 @@
 //! The top call over streams that fail where no shell can make them.
+
+use crate::runs::air;
 use mesh_atoms::{Bytes, Seq};
-use mesh_io::{MemSink, MemSource};
+use mesh_io::{MemClock, MemSink, MemSource};
 use mesh_tool::mesh_top;
 use std::alloc::{AllocError, Global};
 use std::test::Fail;
@@ -36,7 +38,18 @@ fn dumps(
 ) -> Result<u8, AllocError> {
     let mut words = Vec::new(alloc);
     words.push(String::from_str(alloc, "dump")?)?;
-    Ok(mesh_top(alloc, words.as_slice(), input, out, err).code())
+    let mut air = air(alloc)?;
+    let mut clock = MemClock::new(Seq::new(alloc));
+    let status = mesh_top(
+        alloc,
+        words.as_slice(),
+        input,
+        out,
+        err,
+        &mut air,
+        &mut clock,
+    );
+    Ok(status.code())
 }
 
 /// Whether `dump` of the shortest packet comes to that.

@@ -1,6 +1,7 @@
 //! Settings that are taken, with the values that they have.
 use mesh_atoms::{
-    Addr4, Attached4, Endpoint, Interface, Port, RadioArc, RouterSettings, SenderMetric, Times,
+    Addr4, Attached4, Endpoint, Interface, NearHold, Port, QualityStep, RadioArc, RouterSettings,
+    SenderMetric, SenderQuality, Times,
 };
 use mesh_config::{router_of, scenario_of};
 use std::alloc::Global;
@@ -61,6 +62,10 @@ const PAIR: &str = "end_ms=1
 name='0123456789abcdef'
 flooding=0
 routing=15
+hyst_accept=100
+hyst_reject=100
+tc_rows=1
+near_hold=[{hops=1, hold_ms=100}, {hops=2, hold_ms=3600000}, {hops=254, hold_ms=101}]
 hello_at_ms=3600000
 tc_at_ms=1
 [[router.interface]]
@@ -78,6 +83,8 @@ metric=257
 distance=255
 [[router]]
 name='b'
+tc_rows=1088
+hyst_accept=60
 [[router.interface]]
 name='w0'
 addresses=['10.0.0.2']
@@ -91,6 +98,7 @@ to='0123456789abcdef.w1'
 metric=257
 loss=1000
 delay_ms=1000
+quality=[{at_ms=0, value=100}, {at_ms=1, value=0}, {at_ms=2, value=1}, {at_ms=3600000, value=50}]
 [[arc]]
 from='0123456789abcdef.w1'
 to='b.w0'
@@ -109,13 +117,16 @@ times={hello_ms=1000}
 [router]
 name='r'
 routing=0
+hyst_accept=60
+hyst_reject=40
+near_hold=[{hops=254, hold_ms=100}]
 [[router.interface]]
 name='w0'
 addresses=['10.0.0.1', '10.0.0.2']
 local='127.0.0.1:1'
 peers=['127.0.0.2:65535', '127.0.0.1:1', '127.0.0.2:65535']
 metric=257
-neighbour=[{address='10.0.0.9', metric=16776960}, {address='10.0.0.8', metric=2}]
+neighbour=[{address='10.0.0.9', metric=16776960}, {address='10.0.0.8', metric=2, quality=[{at_ms=0, value=7}, {at_ms=30000, value=8}]}]
 [[router.interface]]
 name='w1'
 addresses=['10.0.1.1']
@@ -217,6 +228,47 @@ fn are_senders(senders: &[SenderMetric], want: &[(u32, u16)]) -> bool {
     senders.len() == want.len()
 }
 
+fn are_steps(steps: &[QualityStep], want: &[(u64, u8)]) -> bool {
+    for (at, step) in steps.iter().enumerate() {
+        if want.get(at).copied() != Some((step.at, step.quality)) {
+            return false;
+        }
+    }
+    steps.len() == want.len()
+}
+
+fn is_quality(quality: &SenderQuality, sender: u32, steps: &[(u64, u8)]) -> bool {
+    quality.sender.0 == sender && are_steps(quality.steps.as_slice(), steps)
+}
+
+// The thresholds of an interface, and how many senders it has qualities of.
+fn admits(interface: &Interface, thresholds: [u8; 2], senders: usize) -> bool {
+    [interface.admit.accept, interface.admit.reject] == thresholds
+        && interface.admit.senders.len() == senders
+}
+
+// The quality of a sender of an interface, by its place among them.
+fn has_quality(interface: &Interface, place: usize, sender: u32, steps: &[(u64, u8)]) -> bool {
+    match interface.admit.senders.get(place) {
+        Some(quality) => is_quality(quality, sender, steps),
+        None => false,
+    }
+}
+
+// The near holds of a router, in hops and ticks, and the most rows of its TCs.
+fn has_tcs(router: &RouterSettings, rows: usize, nears: &[(u8, u64)]) -> bool {
+    router.tc_rows == rows && are_nears(router.near_hold.as_slice(), nears)
+}
+
+fn are_nears(nears: &[NearHold], want: &[(u8, u64)]) -> bool {
+    for (at, near) in nears.iter().enumerate() {
+        if want.get(at).copied() != Some((near.hops, near.hold)) {
+            return false;
+        }
+    }
+    nears.len() == want.len()
+}
+
 // An interface: its name, its addresses, its metric, and its senders with theirs.
 fn is_interface(
     interface: &Interface,
@@ -245,6 +297,31 @@ fn is_router(router: &RouterSettings, name: &str, willing: [u8; 2], first: [u64;
         && [router.hello_at, router.tc_at] == first
 }
 
+fn first_admits(one: &Interface, two: &Interface) -> bool {
+    admits(one, [100, 100], 1)
+        && has_quality(one, 0, 0x0a000002, &[])
+        && admits(two, [100, 100], 1)
+        && has_quality(
+            two,
+            0,
+            0x0a000002,
+            &[(0, 100), (9, 0), (17, 1), (29_491_200, 50)],
+        )
+}
+
+fn second_admits(one: &Interface) -> bool {
+    admits(one, [60, 0], 2)
+        && has_quality(one, 0, 0x0a000004, &[])
+        && has_quality(one, 1, 0x0a000101, &[])
+}
+
+fn running_admits(one: &Interface, two: &Interface) -> bool {
+    admits(one, [60, 40], 2)
+        && has_quality(one, 0, 0x0a000009, &[])
+        && has_quality(one, 1, 0x0a000008, &[(0, 7), (245_760, 8)])
+        && admits(two, [60, 40], 0)
+}
+
 fn is_first(router: &RouterSettings) -> bool {
     let interfaces = match router.interfaces.as_slice() {
         [one, two] => {
@@ -255,6 +332,7 @@ fn is_first(router: &RouterSettings) -> bool {
                 0,
                 &[(0x0a000002, 0xff)],
             ) && is_interface(two, "w1", &[0x0a000101], 0, &[(0x0a000002, 0x100)])
+                && first_admits(one, two)
         }
         _ => false,
     };
@@ -264,21 +342,29 @@ fn is_first(router: &RouterSettings) -> bool {
         }
         _ => false,
     };
-    interfaces && attached && is_router(router, "0123456789abcdef", [0, 15], [29_491_200, 9])
+    interfaces
+        && attached
+        && is_router(router, "0123456789abcdef", [0, 15], [29_491_200, 9])
+        && has_tcs(router, 1, &[(1, 820), (2, 29_491_200), (254, 828)])
 }
 
 fn is_second(router: &RouterSettings) -> bool {
     let interfaces = match router.interfaces.as_slice() {
-        [one] => is_interface(
-            one,
-            "w0",
-            &[0x0a000002],
-            0,
-            &[(0x0a000004, 0), (0x0a000101, 0xfff)],
-        ),
+        [one] => {
+            is_interface(
+                one,
+                "w0",
+                &[0x0a000002],
+                0,
+                &[(0x0a000004, 0), (0x0a000101, 0xfff)],
+            ) && second_admits(one)
+        }
         _ => false,
     };
-    interfaces && router.attached.len() == 0 && is_router(router, "b", [7, 7], [0, 0])
+    interfaces
+        && router.attached.len() == 0
+        && is_router(router, "b", [7, 7], [0, 0])
+        && has_tcs(router, 1088, &[])
 }
 
 fn is_pair(alloc: Global) -> bool {
@@ -327,6 +413,7 @@ fn is_running(router: &RouterSettings) -> bool {
                 0x100,
                 &[(0x0a000009, 0xfff), (0x0a000008, 1)],
             ) && is_interface(two, "w1", &[0x0a000101], 0, &[])
+                && running_admits(one, two)
         }
         _ => false,
     };
@@ -337,6 +424,7 @@ fn is_running(router: &RouterSettings) -> bool {
     interfaces
         && attached
         && is_router(router, "r", [7, 0], [0, 0])
+        && has_tcs(router, 1088, &[(254, 820)])
         && router.times.hello == 8192
         && router.times.hold == 49_152
 }

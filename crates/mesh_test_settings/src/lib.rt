@@ -1,4 +1,5 @@
-//! Tests of settings read from TOML.
+//! Tests of settings read from TOML: the values of those that are taken, and the refusals of a running router's, which no text of
+//! the program shows.
 #![tactic(auto)]
 
 #[cfg(test)]
@@ -7,5 +8,3 @@ mod accepted;
 mod refused;
 #[cfg(test)]
 mod run_rows;
-#[cfg(test)]
-mod scenario_rows;

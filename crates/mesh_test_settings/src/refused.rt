@@ -1,15 +1,7 @@
-//! Settings that are refused.
-use crate::run_rows::{RUN_INTERFACE, RUN_MANY, RUN_TOP};
-use crate::scenario_rows::{ARC, ATTACHED, INTERFACE, MANY, ROUTER, TOP, WHOLE};
-use mesh_config::{ConfigFault, router_of, scenario_of};
+//! Settings of a running router that are refused.
+use crate::run_rows::{RUN_INTERFACE, RUN_MANY, RUN_NEIGHBOUR, RUN_ROUTER, RUN_TOP};
+use mesh_config::{ConfigFault, router_of};
 use std::alloc::{AllocError, Global};
-
-// Which call reads the text.
-#[derive(Clone, Copy)]
-enum Kind {
-    Scenario,
-    Run,
-}
 
 fn is_refusal(fault: &ConfigFault, number: u8, key: &str) -> bool {
     match fault {
@@ -21,23 +13,16 @@ fn is_refusal(fault: &ConfigFault, number: u8, key: &str) -> bool {
     }
 }
 
-fn refuses(alloc: Global, kind: Kind, text: &str, number: u8, key: &str) -> bool {
-    match kind {
-        Kind::Scenario => match scenario_of(alloc, text.as_bytes()) {
-            Ok(_) => false,
-            Err(fault) => is_refusal(&fault, number, key),
-        },
-        Kind::Run => match router_of(alloc, text.as_bytes()) {
-            Ok(_) => false,
-            Err(fault) => is_refusal(&fault, number, key),
-        },
+fn refuses(alloc: Global, text: &str, number: u8, key: &str) -> bool {
+    match router_of(alloc, text.as_bytes()) {
+        Ok(_) => false,
+        Err(fault) => is_refusal(&fault, number, key),
     }
 }
 
 // Each row's piece, between the two, is refused with its number and key.
 fn all_refused(
     alloc: Global,
-    kind: Kind,
     before: &str,
     rows: &[(&str, u8, &str)],
     after: &str,
@@ -46,7 +31,7 @@ fn all_refused(
         let mut text = String::from_str(alloc, before)?;
         text.push_str(piece)?;
         text.push_str(after)?;
-        if !refuses(alloc, kind, text.as_str(), *number, key) {
+        if !refuses(alloc, text.as_str(), *number, key) {
             return Ok(false);
         }
     }
@@ -56,7 +41,6 @@ fn all_refused(
 // The same of rows with a piece that stands many times.
 fn many_refused(
     alloc: Global,
-    kind: Kind,
     rows: &[(&str, &str, usize, &str, u8, &str)],
 ) -> Result<bool, AllocError> {
     for (before, piece, count, after, number, key) in rows {
@@ -65,86 +49,29 @@ fn many_refused(
             text.push_str(piece)?;
         }
         text.push_str(after)?;
-        if !refuses(alloc, kind, text.as_str(), *number, key) {
+        if !refuses(alloc, text.as_str(), *number, key) {
             return Ok(false);
         }
     }
     Ok(true)
 }
 
-// What every table of a scenario is refused for, each at its first fault.
-fn scenarios_refused(alloc: Global) -> Result<bool, AllocError> {
-    let one = "\n[[router]]\nname='a'\n[[router.interface]]\nname='w'\naddresses=['10.0.0.1']\n";
-    let of_router = "\n[[router.interface]]\nname='w'\naddresses=['10.0.0.1']\n";
-    Ok(
-        all_refused(alloc, Kind::Scenario, "", &TOP, one)?
-            && all_refused(
-                alloc,
-                Kind::Scenario,
-                "end_ms=1\n[[router]]\n",
-                &ROUTER,
-                of_router,
-            )?
-            && all_refused(
-                alloc,
-                Kind::Scenario,
-                "end_ms=1\n[[router]]\nname='a'\n[[router.interface]]\n",
-                &INTERFACE,
-                "\n",
-            )?,
-    )
-}
-
-fn networks_refused(alloc: Global) -> Result<bool, AllocError> {
-    Ok(
-        all_refused(
-            alloc,
-            Kind::Scenario,
-            "end_ms=1\n[[router]]\nname='a'\n[[router.interface]]\nname='w'\naddresses=['10.0.0.1']\n[[router.attached]]\n",
-            &ATTACHED,
-            "\n",
-        )? && all_refused(
-            alloc,
-            Kind::Scenario,
-            "end_ms=1\n[[router]]\nname='a'\n[[router.interface]]\nname='w'\naddresses=['10.0.0.1']\n[[router]]\nname='b'\n[[router.interface]]\nname='v'\naddresses=['10.0.0.2']\n[[arc]]\n",
-            &ARC,
-            "\n",
-        )? && all_refused(alloc, Kind::Scenario, "", &WHOLE, "")?
-            && many_refused(alloc, Kind::Scenario, &MANY)?,
-    )
-}
-
 fn runs_refused(alloc: Global) -> Result<bool, AllocError> {
+    let interface = "end_ms=1\n[router]\nname='a'\n[[router.interface]]\n";
+    let neighbour =
+        "end_ms=1\n[router]\nname='a'\n[[router.interface]]\nname='w'\naddresses=['10.0.0.1']\nlocal='127.0.0.1:9'\nneighbour=[{address='10.0.0.2', metric=1}, {";
+    let router = "\n[[router.interface]]\nname='w'\naddresses=['10.0.0.1']\nlocal='127.0.0.1:9'\n";
     Ok(
-        all_refused(alloc, Kind::Run, "", &RUN_TOP, "")?
-            && all_refused(
-                alloc,
-                Kind::Run,
-                "end_ms=1\n[router]\nname='a'\n[[router.interface]]\n",
-                &RUN_INTERFACE,
-                "\n",
-            )?
-            && many_refused(alloc, Kind::Run, &RUN_MANY)?,
+        all_refused(alloc, "", &RUN_TOP, "")?
+            && all_refused(alloc, "end_ms=1\n[router]\nname='a'\n", &RUN_ROUTER, router)?
+            && all_refused(alloc, interface, &RUN_INTERFACE, "\n")?
+            && all_refused(alloc, neighbour, &RUN_NEIGHBOUR, "}]\n")?
+            && many_refused(alloc, &RUN_MANY)?,
     )
-}
-
-#[test]
-fn scenarios(rt: HostRuntime) -> Result<(), AllocError> {
-    assert!(rt; scenarios_refused(rt.alloc())?);
-    assert!(rt; networks_refused(rt.alloc())?);
-    Ok(())
 }
 
 #[test]
 fn runs(rt: HostRuntime) -> Result<(), AllocError> {
     assert!(rt; runs_refused(rt.alloc())?);
     Ok(())
-}
-
-#[test]
-fn octets_that_are_no_text(rt: HostRuntime) {
-    match scenario_of(rt.alloc(), b"end_ms=1\nx='\xff'") {
-        Ok(_) => assert!(rt; false),
-        Err(fault) => assert!(rt; is_refusal(&fault, 40, "input")),
-    }
 }

@@ -5,7 +5,8 @@ ghost use Rattle.mesh_atoms.specs.Base.{addr_eq};
 ghost use Rattle.mesh_atoms.specs.Settings.{IsName, IsRouter, is_addressed, are_distinct};
 
 use mesh_atoms::{
-    Addr4, Bytes, DEFAULT_TIMES, Interface, Metric, RouterSettings, Seq, Times, Willing,
+    Addr4, Admit, Bytes, DEFAULT_TC_ROWS, DEFAULT_TIMES, Interface, Metric, RouterSettings, Seq,
+    Times, Willing,
 };
 use std::alloc::{AllocError, Global};
 
@@ -42,11 +43,14 @@ fn interface(
     ensures name { IfOk result (λ interface. interface.name ≡ name.now) }
     ensures addrs { IfOk result (λ interface. interface.addrs ≡ addr ∷ []) }
 {
+    let senders = Seq::new(alloc);
+    let admit = Admit::all(&senders)?;
     Ok(Interface {
         name: text(alloc, name)?,
         addrs: list_of(alloc, &[addr])?,
         metric,
-        senders: Seq::new(alloc),
+        senders,
+        admit,
     })
 }
 
@@ -70,6 +74,8 @@ fn router(
         times,
         interfaces,
         attached: Seq::new(alloc),
+        tc_rows: DEFAULT_TC_ROWS,
+        near_hold: Seq::new(alloc),
     })
 }
 

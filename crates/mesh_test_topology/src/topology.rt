@@ -141,6 +141,21 @@ fn tcs_are_taken_in_turn(rt: HostRuntime) -> Result<(), Fail> {
     Ok(())
 }
 
+#[test]
+fn parts_of_a_content_stand_side_by_side(rt: HostRuntime) -> Result<(), Fail> {
+    let takings = [
+        done(5, false, router(4), [1, 1, 0, 0], Some(5)),
+        done(5, false, router(5), [1, 2, 0, 0], Some(5)),
+        // an incomplete one that lacks rows takes nothing out, with a newer number either
+        done(6, false, router(6), [1, 3, 0, 0], Some(6)),
+        again(done(7, false, bare(router(8)), [1, 3, 0, 0], None)),
+        // a complete one takes out each tuple that it lacks, unless it has its number
+        done(7, true, router(5), [1, 1, 0, 0], Some(7)),
+    ];
+    assert!(rt; is_right(rt.alloc(), Run::Tcs(&takings))?);
+    Ok(())
+}
+
 /// A TC that a set has no room for.
 fn full(row: TcRow, base: Base) -> Taking {
     Taking {

@@ -1,0 +1,1 @@
+s/^(mesh: turns 1 moment )[0-9]+/\1M/
