@@ -18,7 +18,7 @@ use Rattle.mesh_atoms.specs.State.{State, Bases, Topology, NotedMessages}
 use Rattle.mesh_atoms.specs.Walk.{Walk, Stay, Onward}
 use Rattle.mesh_nhdp.specs.NhdpState.{empty_near}
 use Rattle.mesh_nhdp.proofs.Empty.{empty_parts}
-use Rattle.mesh_nhdp.proofs.Lookups.{Contains_at}
+use Rattle.mesh_hello.proofs.Lookups.{Contains_at}
 use Rattle.mesh_machine.specs.declared.frame.Frame.{Frame}
 use Rattle.mesh_machine.specs.Machine.{no_bases, no_relays, IsOpening, Event, Steps, No_events, First_event, Run}
 use Rattle.mesh_machine.proofs.Originators.{some_originator}

@@ -7,7 +7,7 @@ use Rattle.std.specs.Prelude.{option_map}
 use Rattle.std.proofs.lemmas.Option.{slice_get-map, slice_get-get_or, slice_get_within}
 use Rattle.std.proofs.lemmas.List.{length-map}
 use Rattle.mesh_packet.specs.declared.packet.Message.{Message}
-use Rattle.mesh_nhdp.proofs.Collect.{taken_more}
+use Rattle.mesh_hello.proofs.Collect.{taken_more}
 use Rattle.mesh_packet.specs.Fields.{fields_of_message}
 use Rattle.mesh_atoms.specs.declared.addr.Addr4.{Addr4}
 use Rattle.mesh_atoms.specs.declared.settings.RouterSettings.{RouterSettings}

@@ -12,7 +12,7 @@ use Rattle.mesh_atoms.specs.State.{is_symmetric}
 use Rattle.mesh_atoms.specs.Quality.{quality_at, admitted, rule_of, admit_on}
 use Rattle.mesh_atoms.specs.Live.{trimmed}
 use Rattle.mesh_atoms.specs.AfterHello.{made, by_status, renewed}
-use Rattle.mesh_nhdp.proofs.Lookups.{some_same, none_not}
+use Rattle.mesh_hello.proofs.Lookups.{some_same, none_not}
 
 -- What quality asks of a link
 

@@ -11,7 +11,7 @@ use Rattle.mesh_atoms.specs.Base.{Base, find, base_of, link_eq}
 use Rattle.mesh_nhdp.specs.Calls.{is_symmetric_in}
 use Rattle.mesh_nhdp.specs.Hearings.{UpdatesTwoHops}
 use Rattle.mesh_nhdp.proofs.Bases.{base_at}
-use Rattle.mesh_nhdp.proofs.Collect.{item_at}
+use Rattle.mesh_hello.proofs.Collect.{item_at}
 
 -- an item is the base of its interface
 pub is_base : {K V : Type 0} (bases : List (Base K V)) (i : ℕ) (x : Base K V) → i < length bases → x ≡ get_or bases i x → base_of bases i ≡ x

@@ -7,7 +7,7 @@ use Rattle.mesh_atoms.specs.declared.tuples.Link.{Link}
 use Rattle.mesh_atoms.specs.Base.{Base, base_of, find, link_eq}
 use Rattle.mesh_nbrs.specs.declared.neighbours.LinkNote.{LinkNote}
 use Rattle.mesh_nhdp.specs.Calls.{note_of, IsNoteIn, TellsLinks}
-use Rattle.mesh_nhdp.proofs.Collect.{SomeBelow}
+use Rattle.mesh_hello.proofs.Collect.{SomeBelow}
 use Rattle.mesh_nhdp.proofs.Bases.{base_at, within_bases}
 
 pub tells_links : (sets : List (Base LinkKey Link)) (now : ℕ) (notes : List LinkNote) →

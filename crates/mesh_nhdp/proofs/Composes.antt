@@ -18,7 +18,7 @@ use Rattle.mesh_atoms.specs.AfterHello.{GoesOn, IsApart, IsTheirs, Begins, Stood
 use Rattle.mesh_links.specs.Links.{EndsOutside, HearsOn}
 use Rattle.mesh_nbrs.specs.Neighbours.{HasNote, HasSymmetricNote, IsByNotes, RestoresBy, Replaces}
 use Rattle.mesh_nhdp.specs.Calls.{note_of, TellsLinks}
-use Rattle.mesh_nhdp.proofs.Lookups.{some_same, none_not, contains_or_not}
+use Rattle.mesh_hello.proofs.Lookups.{some_same, none_not, contains_or_not}
 use Rattle.mesh_nhdp.proofs.HelloSound.{kept_from}
 
 -- Neighbours: by the notes of all links is by the links

@@ -7,7 +7,7 @@ use Rattle.mesh_atoms.specs.declared.tuples.TwoHop.{TwoHop}
 use Rattle.mesh_atoms.specs.Base.{link_eq}
 use Rattle.mesh_atoms.specs.Words.{IsKept}
 use Rattle.mesh_atoms.proofs.Lookups.{same_link}
-use Rattle.mesh_nhdp.proofs.Collect.{SomeBelow, below_here, below_later, below_cases, below_contains}
+use Rattle.mesh_hello.proofs.Collect.{SomeBelow, below_here, below_later, below_cases, below_contains}
 use Rattle.mesh_nhdp.proofs.Composes.{kept_iff}
 use Rattle.mesh_nhdp.proofs.TwoHops.{link_eq_same}
 

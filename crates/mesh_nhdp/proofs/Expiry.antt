@@ -24,7 +24,7 @@ use Rattle.mesh_nhdp.specs.Follows.{FollowsLinks}
 use Rattle.mesh_nhdp.specs.Interfaces.{ExpiresOn}
 use Rattle.mesh_nhdp.specs.Wanted.{IsWantedAddress}
 use Rattle.mesh_nhdp.proofs.Bases.{base_cases}
-use Rattle.mesh_nhdp.proofs.Collect.{item_at}
+use Rattle.mesh_hello.proofs.Collect.{item_at}
 use Rattle.mesh_nhdp.proofs.Whole.{live_by_calls}
 use Rattle.mesh_nhdp.proofs.LiveSound.{live_sound}
 

@@ -10,7 +10,7 @@ use Rattle.mesh_atoms.specs.declared.addr.Addr4.{Addr4}
 use Rattle.mesh_atoms.specs.Base.{addr_eq}
 use Rattle.mesh_atoms.specs.Words.{IsAscending, AreMoreThan}
 use Rattle.mesh_atoms.proofs.Lookups.{addr_equiv, same_addr}
-use Rattle.mesh_nhdp.proofs.Ascending.{distinct_ascending}
+use Rattle.mesh_hello.proofs.Sorted.{distinct_ascending}
 
 entries : List Addr4 → List (Addr4 × Addr4)
 entries [] = []

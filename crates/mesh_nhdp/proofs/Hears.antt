@@ -30,7 +30,7 @@ use Rattle.mesh_nhdp.specs.Wanted.{IsWantedAddress}
 use Rattle.mesh_atoms.specs.AfterHello.{IsTheirs}
 use Rattle.mesh_nhdp.proofs.Bases.{base_cases}
 use Rattle.mesh_nhdp.proofs.HelloSound.{hello_sound}
-use Rattle.mesh_nhdp.proofs.Lookups.{none_not}
+use Rattle.mesh_hello.proofs.Lookups.{none_not}
 use Rattle.mesh_nhdp.proofs.Whole.{Starts, hello_by_calls}
 
 -- where there is no interface, nothing ends and nothing is dropped

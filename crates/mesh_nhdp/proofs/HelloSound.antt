@@ -29,7 +29,7 @@ use Rattle.mesh_atoms.specs.declared.admit.Admit.{Admit}
 use Rattle.mesh_atoms.specs.Quality.{admit_on, rule_of}
 use Rattle.mesh_nhdp.proofs.Admitted.{FollowsQuality, IsAlike, made_follows, follows_alike, follows_if_stays, admit_stays, renewed_alike}
 use Rattle.mesh_nhdp.proofs.Limits.{no_more, found_left, found_right, entries_at, length_entries, found_entry}
-use Rattle.mesh_nhdp.proofs.Lookups.{Contains_at, some_same, none_not, cond_from, same_address, same_key, contains_or_not}
+use Rattle.mesh_hello.proofs.Lookups.{Contains_at, some_same, none_not, cond_from, same_address, same_key, contains_or_not}
 use Rattle.mesh_nhdp.proofs.LiveSound.{is_trimmed, restores_from, restores_to, settles_back, settles_from}
 
 -- The link that the HELLO renews

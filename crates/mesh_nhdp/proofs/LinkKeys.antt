@@ -9,7 +9,7 @@ use Rattle.mesh_atoms.specs.declared.tuples.Link.{Link}
 use Rattle.mesh_atoms.specs.Base.{Base, find, HasDistinctKeys, link_eq}
 use Rattle.mesh_atoms.proofs.Lookups.{link_equiv, same_link}
 use Rattle.mesh_nhdp.specs.Calls.{TellsKeys}
-use Rattle.mesh_nhdp.proofs.Lookups.{Contains_at}
+use Rattle.mesh_hello.proofs.Lookups.{Contains_at}
 
 key_at : (base : Base LinkKey Link) (k : ℕ) (key : LinkKey) (e : Link × ℕ) → slice_get base k ≡ Some (key, e) → slice_get (keys_of base) k ≡ Some key
 key_at base k key e at = slice_get-map (λ (x : LinkKey × (Link × ℕ)). x.0) base k ∙ ap (option_map (λ (x : LinkKey × (Link × ℕ)). x.0)) at

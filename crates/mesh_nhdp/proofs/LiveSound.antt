@@ -20,7 +20,7 @@ use Rattle.mesh_atoms.proofs.Lookups.{two_hop_equiv}
 use Rattle.mesh_atoms.specs.Quality.{admit_on, rule_of}
 use Rattle.mesh_nhdp.proofs.Admitted.{FollowsQuality, IsAlike, admitted_follows, admitted_addrs, follows_alike, admit_from, admit_stays}
 use Rattle.mesh_nhdp.proofs.Limits.{no_more}
-use Rattle.mesh_nhdp.proofs.Lookups.{Contains_at, some_same, none_not, live_from, cond_from}
+use Rattle.mesh_hello.proofs.Lookups.{Contains_at, some_same, none_not, live_from, cond_from}
 
 -- Links
 

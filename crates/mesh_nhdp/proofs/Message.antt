@@ -25,7 +25,7 @@ use Rattle.mesh_atoms.specs.declared.settings.Interface.{Interface}
 use Rattle.mesh_links.specs.Links.{SelectorOf, Unlinked}
 use Rattle.mesh_nhdp.specs.NhdpState.{NhdpState}
 use Rattle.mesh_nhdp.specs.Said.{AreDisjoint, IsSeen, IsRowOf, said_addresses}
-use Rattle.mesh_nhdp.proofs.Lookups.{some_same}
+use Rattle.mesh_hello.proofs.Lookups.{some_same}
 use Rattle.mesh_nhdp.proofs.Somewhere.{told_all}
 
 -- what the HELLO is made of: the addresses of which something is said, and a row for each, in their order

@@ -26,9 +26,9 @@ use Rattle.mesh_atoms.specs.TakesHello.{IsHeld}
 use Rattle.mesh_atoms.proofs.Lookups.{addr_equiv, same_addr, has_found, looks_up_links, looks_up_neighbours}
 use Rattle.mesh_atoms.specs.declared.tuples.Relays.{Relays}
 use Rattle.mesh_nhdp.specs.NhdpState.{NhdpState}
-use Rattle.mesh_nhdp.proofs.Ascending.{distinct_ascending}
+use Rattle.mesh_hello.proofs.Sorted.{distinct_ascending}
 use Rattle.mesh_nhdp.proofs.Fits.{any_contains, distinct_fits}
-use Rattle.mesh_nhdp.proofs.Lookups.{Contains_at}
+use Rattle.mesh_hello.proofs.Lookups.{Contains_at}
 use Rattle.mesh_nhdp.proofs.Somewhere.{cons_cases, flat_gives}
 
 -- Lists

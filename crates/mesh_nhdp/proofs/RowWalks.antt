@@ -16,8 +16,8 @@ use Rattle.mesh_atoms.specs.AfterHello.{TellsTwoHop, By_row, By_none, row_makes}
 use Rattle.mesh_atoms.proofs.Lookups.{two_hop_equiv, same_two_hop}
 use Rattle.mesh_atoms.proofs.Nets.{same_net}
 use Rattle.mesh_nhdp.specs.Rows.{LooksOn, RowTells, Looked, Passed, TellsSymmetric}
-use Rattle.mesh_nhdp.proofs.Collect.{SomeBelow, below_here, below_later, below_cases, below_contains}
-use Rattle.mesh_nhdp.proofs.Lookups.{same_address}
+use Rattle.mesh_hello.proofs.Collect.{SomeBelow, below_here, below_later, below_cases, below_contains}
+use Rattle.mesh_hello.proofs.Lookups.{same_address}
 use Rattle.mesh_nhdp.proofs.TwoHops.{on_true, on_false}
 
 -- what the rows below a place tell of an address

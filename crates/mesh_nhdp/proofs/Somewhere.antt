@@ -19,7 +19,7 @@ use Rattle.mesh_atoms.specs.declared.tuples.LinkState.{LinkState}
 use Rattle.mesh_atoms.specs.declared.tuples.LinkState.TheVariants.{Pending as Is_pending, Lost as Is_lost, Symmetric as Is_symmetric, Heard as Is_heard}
 use Rattle.mesh_atoms.specs.State.{State, state_of, HasSymmetricWith, HasAddressOn}
 use Rattle.mesh_nhdp.specs.Said.{linked_addresses, symmetric_addresses, said_addresses}
-use Rattle.mesh_nhdp.proofs.Lookups.{some_same, Contains_at}
+use Rattle.mesh_hello.proofs.Lookups.{some_same, Contains_at}
 use Rattle.mesh_nhdp.proofs.Places.{place_of}
 use Rattle.mesh_nhdp.proofs.Parts.{IsStatus}
 

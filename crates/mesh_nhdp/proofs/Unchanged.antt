@@ -30,7 +30,7 @@ use Rattle.mesh_nhdp.proofs.Composes.{least_metric_iff}
 use Rattle.mesh_nhdp.proofs.Expiry.{written_back}
 use Rattle.mesh_nhdp.proofs.Limits.{no_more}
 use Rattle.mesh_nhdp.proofs.LiveSound.{live_sound}
-use Rattle.mesh_nhdp.proofs.Lookups.{Contains_at, none_not, live_from}
+use Rattle.mesh_hello.proofs.Lookups.{Contains_at, none_not, live_from}
 
 -- A link of which nothing becomes
 

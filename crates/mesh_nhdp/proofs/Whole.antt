@@ -25,7 +25,7 @@ use Rattle.mesh_nbrs.specs.Neighbours.{Replaces, RestoresBy}
 use Rattle.mesh_nbrs.specs.Losts.{SettlesAll}
 use Rattle.mesh_nbrs.specs.TwoHops.{DropsLink}
 use Rattle.mesh_nhdp.specs.Calls.{TellsLinks, TellsKeys, DropsEnded, TellsTwoHops}
-use Rattle.mesh_nhdp.proofs.Lookups.{live_from}
+use Rattle.mesh_hello.proofs.Lookups.{live_from}
 use Rattle.mesh_nhdp.proofs.Composes.{restores_by, settles_by, goes_on_elsewhere, goes_on_here, hears_link, replaced_one, replaced_other}
 use Rattle.mesh_nhdp.proofs.TwoHops.{dropped_here, dropped_elsewhere, left_by_ends, on_true, on_false}
 

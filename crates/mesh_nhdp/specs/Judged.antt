@@ -12,7 +12,7 @@ use Rattle.mesh_nhdp.specs.declared.judge.Judgement.{Judgement}
 use Rattle.mesh_nhdp.specs.declared.judge.Judgement.TheVariants.{Breaks, Overfills, Fits}
 use Rattle.mesh_nhdp.specs.declared.take.HelloTaken.{HelloTaken}
 use Rattle.mesh_nhdp.specs.declared.take.HelloTaken.TheVariants.{Done, Broken, Full}
-use Rattle.mesh_nhdp.specs.Telling.{told_of}
+use Rattle.mesh_hello.specs.Telling.{told_of}
 
 -- the HELLO breaks a rule, is too much for a limit, or can be taken
 abbrev pub Judges : RouterSettings → ℕ → Addr4 → Hello → Neighbourhood → Judgement → Type 0

@@ -1,15 +1,10 @@
 pub mod Calls
 pub mod Follows
-pub mod Gathers
 pub mod Hearings
 pub mod Interfaces
 pub mod Judged
-pub mod Mine
 pub mod NhdpState
-pub mod Receive
 pub mod Rows
 pub mod Said
-pub mod Sender
 pub mod Staying
-pub mod Telling
 pub mod Wanted

@@ -4,10 +4,11 @@ ghost use Rattle.mesh_atoms.specs.State.{Neighbourhood};
 ghost use Rattle.mesh_atoms.specs.TakesHello.{IsHeld};
 ghost use Rattle.mesh_atoms.specs.Words.{AreMoreThan};
 
-use crate::lists::{ascending, keys};
+use crate::keys::keys;
 use crate::near_addresses::{Wanted, wanted_addresses};
 use mesh_atoms::{Addr4, Lost, Neighbour};
 use mesh_expire::Table;
+use mesh_hello::ascending;
 use mesh_nbrs::{LostSet, NeighbourSet};
 use std::alloc::{AllocError, Global};
 

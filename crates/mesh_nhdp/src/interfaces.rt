@@ -11,7 +11,7 @@ ghost use Rattle.mesh_nhdp.specs.Calls.{TellsKeys};
 ghost use Rattle.mesh_nhdp.specs.Interfaces.{ExpiresOn, HearsAt, CanHear};
 
 use crate::drops::drop_ended;
-use crate::lists::keys;
+use crate::keys::keys;
 use mesh_atoms::{Addr4, Admit, Interface, Link, LinkKey, Shown, TwoHop, TwoHopKey};
 use mesh_expire::Table;
 use mesh_links::LinkSet;

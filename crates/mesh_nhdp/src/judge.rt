@@ -6,11 +6,10 @@ ghost use Rattle.mesh_nhdp.specs.Judged.{Judges};
 
 use crate::full::is_full_of_addresses;
 use crate::nhdp::Nhdp;
-use crate::receive::receive_fault;
-use crate::telling::{Telling, own_addresses, tell};
 use crate::two_hop_rows::count_symmetric;
 use mesh_atoms::{Addr4, Base, Hello, Seq, TwoHop, TwoHopKey};
 use mesh_expire::{Bases, Table};
+use mesh_hello::{Telling, own_addresses, receive_fault, tell};
 use mesh_nbrs::TwoHopSet;
 use std::alloc::AllocError;
 

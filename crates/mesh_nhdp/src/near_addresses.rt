@@ -1,6 +1,6 @@
 //! Addresses of neighbours.
 ghost use Rattle.std.specs.Prelude.{◌↔◌, Contains, IsTrue, IfOk, OnOk};
-ghost use Rattle.mesh_nhdp.specs.Gathers.{Gathers};
+ghost use Rattle.mesh_hello.specs.Gathers.{Gathers};
 ghost use Rattle.mesh_nhdp.specs.Wanted.{IsWanted, IsWantedAddress};
 
 use mesh_atoms::{Addr4, Neighbour, meets};

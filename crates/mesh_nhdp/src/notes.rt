@@ -1,7 +1,7 @@
 //! What neighbours are to know of the links of all interfaces.
 ghost use Rattle.std.specs.Prelude.{◌≡◌, IfOk, OnOk, Some};
 ghost use Rattle.mesh_nhdp.specs.Calls.{note_of, IsNoteIn, TellsLinks};
-ghost use Rattle.mesh_nhdp.specs.Gathers.{Gathers};
+ghost use Rattle.mesh_hello.specs.Gathers.{Gathers};
 
 use mesh_atoms::{Link, LinkKey};
 use mesh_expire::Table;

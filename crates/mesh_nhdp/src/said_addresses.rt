@@ -4,9 +4,10 @@ ghost use Rattle.std.specs.List.{flat_map};
 ghost use Rattle.mesh_atoms.specs.Words.{IsAscending};
 ghost use Rattle.mesh_nhdp.specs.Said.{linked_addresses, symmetric_addresses, said_addresses};
 
-use crate::lists::{ascending, keys};
+use crate::keys::keys;
 use mesh_atoms::{Addr4, Link, LinkKey, Lost, Neighbour, RouterSettings, Seq};
 use mesh_expire::Table;
+use mesh_hello::ascending;
 use std::alloc::{AllocError, Global};
 
 /// Puts the router's own addresses at the end of a list.

@@ -6,7 +6,7 @@ ghost use Rattle.mesh_atoms.specs.AfterHello.{AfterHello};
 ghost use Rattle.mesh_atoms.specs.TakesHello.{HelloAnswer, IsFault, TakesHello};
 ghost use Rattle.mesh_atoms.specs.Sound.{SoundNeighbourhood};
 ghost use Rattle.mesh_nhdp.specs.Judged.{IsAnswer};
-ghost use Rattle.mesh_nhdp.specs.Telling.{told_of};
+ghost use Rattle.mesh_hello.specs.Telling.{told_of};
 
 use crate::follow::follow_links;
 use crate::hearing::hear_interfaces;
@@ -14,9 +14,9 @@ use crate::interfaces::Hearing;
 use crate::judge::Judgement;
 use crate::near_addresses::{Wanted, wanted_addresses};
 use crate::nhdp::Nhdp;
-use crate::telling::Telling;
 use mesh_atoms::{Addr4, Base, Hello};
 use mesh_expire::Bases;
+use mesh_hello::Telling;
 use std::alloc::AllocError;
 
 /// What became of a HELLO: it was taken, it broke the rule of that number (RFC 6130, section 12.1), or a base would have been

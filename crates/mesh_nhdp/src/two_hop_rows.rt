@@ -7,14 +7,14 @@ ghost use Rattle.mesh_atoms.specs.AfterHello.{row_makes};
 ghost use Rattle.mesh_atoms.specs.TakesHello.{AreTwoHopRows};
 ghost use Rattle.mesh_atoms.specs.declared.settings.RouterSettings.{RouterSettings};
 ghost use Rattle.mesh_nhdp.specs.Calls.{TellsTwoHops};
-ghost use Rattle.mesh_nhdp.specs.Gathers.{Gathers};
+ghost use Rattle.mesh_hello.specs.Gathers.{Gathers};
 ghost use Rattle.mesh_nhdp.specs.Rows.{LooksOn, RowTells, TellsSymmetric};
 
-use crate::lists::ascending;
 use mesh_atoms::{
     Addr4, Hello, HelloRow, LinkKey, LinkStatus, Metric, OtherStatus, TwoHop, TwoHopKey, contains,
 };
 use mesh_expire::Table;
+use mesh_hello::ascending;
 use mesh_nbrs::TwoHopSet;
 use std::alloc::{AllocError, Global};
 

@@ -2,7 +2,7 @@ use Rattle.std.proofs.Common.{◌≡◌, length, subst, arith}
 use Rattle.mesh_atoms.specs.Base.{find, two_hop_eq}
 use Rattle.mesh_atoms.specs.Words.{IsKept}
 use Rattle.mesh_nhdp.specs.Calls.{is_symmetric_in}
-use Rattle.mesh_nhdp.proofs.Collect.{copied_at}
+use Rattle.mesh_hello.proofs.Collect.{copied_at}
 use Rattle.mesh_nhdp.proofs.Ends.{IsEndedBelow, ended_more, ended_none, ended_all}
 use Rattle.mesh_nhdp.proofs.drops.drop_ended.Goals as goal
 

@@ -9,7 +9,7 @@ use Rattle.mesh_atoms.specs.TakesHello.{IsHeld}
 use Rattle.mesh_atoms.specs.Words.{AreMoreThan}
 use Rattle.mesh_nhdp.specs.declared.near_addresses.Wanted.TheVariants.{Each}
 use Rattle.mesh_nhdp.specs.Wanted.{IsWantedAddress}
-use Rattle.mesh_nhdp.proofs.Collect.{iff_on}
+use Rattle.mesh_hello.proofs.Collect.{iff_on}
 use Rattle.mesh_nhdp.proofs.Fits.{are_more}
 use Rattle.mesh_nhdp.proofs.HeldAddresses.{held_addresses}
 use Rattle.mesh_nhdp.proofs.full.is_full_of_addresses.Goals as goal

@@ -3,7 +3,7 @@ use Rattle.mesh_atoms.specs.declared.addr.Addr4.{Addr4}
 use Rattle.mesh_atoms.specs.declared.tuples.Neighbour.{Neighbour}
 use Rattle.mesh_atoms.proofs.Lookups.{addr_equiv, same_addr}
 use Rattle.mesh_nhdp.specs.Wanted.{IsWanted}
-use Rattle.mesh_nhdp.proofs.Collect.{gathers_more, found_below, below_found, SomeBelow}
+use Rattle.mesh_hello.proofs.Collect.{gathers_more, found_below, below_found, SomeBelow}
 use Rattle.mesh_nhdp.proofs.near_addresses.wanted_addresses.Goals as goal
 
 pub loop-place-preserved : goal.loop-place-preserved

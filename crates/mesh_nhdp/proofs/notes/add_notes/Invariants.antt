@@ -1,7 +1,7 @@
 use Rattle.std.proofs.Common.{◌≡◌}
 use Rattle.mesh_nhdp.specs.Calls.{note_of}
-use Rattle.mesh_nhdp.specs.Gathers.{Gathers}
-use Rattle.mesh_nhdp.proofs.Collect.{SomeBelow}
+use Rattle.mesh_hello.specs.Gathers.{Gathers}
+use Rattle.mesh_hello.proofs.Collect.{SomeBelow}
 use Rattle.mesh_nhdp.proofs.notes.add_notes.Given as goal
 
 abbrev pub invariant-loop-place : goal.invariant-loop-place

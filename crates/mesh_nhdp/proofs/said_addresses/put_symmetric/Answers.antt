@@ -2,7 +2,7 @@ use Rattle.std.proofs.Common.{ℕ, sym, arith}
 use Rattle.mesh_atoms.specs.declared.addr.Addr4.{Addr4}
 use Rattle.mesh_atoms.specs.declared.tuples.Neighbour.{Neighbour}
 use Rattle.mesh_nhdp.specs.Said.{symmetric_addresses}
-use Rattle.mesh_nhdp.proofs.Collect.{none_within}
+use Rattle.mesh_hello.proofs.Collect.{none_within}
 use Rattle.mesh_nhdp.proofs.Places.{put_next}
 use Rattle.mesh_nhdp.proofs.said_addresses.put_symmetric.Goals as goal
 use Rattle.mesh_nhdp.proofs.said_addresses.put_symmetric.Goals.{in-Some+in_ok-extend_from_slice, in_default}

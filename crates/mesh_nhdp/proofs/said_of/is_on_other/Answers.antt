@@ -1,6 +1,6 @@
 use Rattle.std.proofs.Common.{refl, arith, below_more}
 use Rattle.std.proofs.lemmas.Option.{slice_get_within}
-use Rattle.mesh_nhdp.proofs.Local.{fails_so}
+use Rattle.mesh_hello.proofs.Local.{fails_so}
 use Rattle.mesh_nhdp.proofs.said_of.is_on_other.Goals as goal
 use Rattle.mesh_nhdp.proofs.said_of.is_on_other.Goals.{else-place-iface-via-then-place-iface+else-is_on, else-place-iface-via-else-place-iface}
 

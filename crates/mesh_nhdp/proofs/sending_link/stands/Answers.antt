@@ -5,7 +5,7 @@ use Rattle.mesh_atoms.specs.declared.addr.Addr4.{Addr4}
 use Rattle.mesh_atoms.specs.declared.tuples.Link.{Link}
 use Rattle.mesh_atoms.specs.Base.{addr_eq}
 use Rattle.mesh_atoms.proofs.Lookups.{addr_equiv, same_addr}
-use Rattle.mesh_nhdp.proofs.Lookups.{some_same}
+use Rattle.mesh_hello.proofs.Lookups.{some_same}
 use Rattle.mesh_nhdp.proofs.sending_link.stands.Goals as goal
 
 addr_decides : (a b : Addr4) → Decides (addr_eq a b) (a ≡ b)

@@ -1,6 +1,6 @@
 use Rattle.std.proofs.Common.{◌≡◌, length, slice_get, Some, ap, ◌∙◌, subst, refl, arith}
 use Rattle.mesh_atoms.specs.Base.{find, two_hop_eq}
-use Rattle.mesh_nhdp.proofs.Collect.{item_at}
+use Rattle.mesh_hello.proofs.Collect.{item_at}
 use Rattle.mesh_nhdp.proofs.RowWalks.{RowsTell, one_more, others_more, rows_none, rows_all}
 use Rattle.mesh_nhdp.proofs.two_hop_rows.tell_two_hops.Goals as goal
 

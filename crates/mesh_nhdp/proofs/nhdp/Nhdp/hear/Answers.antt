@@ -3,9 +3,9 @@ use Rattle.mesh_atoms.specs.declared.addr.Addr4.{Addr4}
 use Rattle.mesh_atoms.specs.declared.hello.LocalIf.TheVariants.{This}
 use Rattle.mesh_atoms.specs.HelloTold.{TellsLocal}
 use Rattle.mesh_nhdp.specs.NhdpState.{NhdpState}
-use Rattle.mesh_nhdp.specs.Telling.{told_of}
+use Rattle.mesh_hello.specs.Telling.{told_of}
 use Rattle.mesh_nhdp.proofs.Expiry.{on_ok, face_rule}
-use Rattle.mesh_nhdp.proofs.Mines.{sending_some, more_some}
+use Rattle.mesh_hello.proofs.Mines.{sending_some, more_some}
 use Rattle.mesh_nhdp.proofs.Receipt.{receipt_runs}
 use Rattle.mesh_nhdp.proofs.nhdp.Nhdp.hear.Goals as goal
 

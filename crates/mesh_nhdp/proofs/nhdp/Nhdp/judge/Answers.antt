@@ -5,8 +5,8 @@ use Rattle.mesh_atoms.specs.declared.tuples.TwoHop.{TwoHop}
 use Rattle.mesh_atoms.specs.Base.{Base, base_of}
 use Rattle.mesh_atoms.specs.HelloTold.{Tells}
 use Rattle.mesh_nhdp.specs.NhdpState.{NhdpState}
-use Rattle.mesh_nhdp.specs.Telling.{told_of}
-use Rattle.mesh_nhdp.proofs.Local.{fault_at}
+use Rattle.mesh_hello.specs.Telling.{told_of}
+use Rattle.mesh_hello.proofs.Local.{fault_at}
 use Rattle.mesh_nhdp.proofs.Judges.{own_at, is_full, is_not_full, overfills, fits}
 use Rattle.mesh_nhdp.proofs.nhdp.Nhdp.judge.Goals as goal
 

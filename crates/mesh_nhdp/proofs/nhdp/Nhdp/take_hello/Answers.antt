@@ -2,7 +2,7 @@ use Rattle.std.proofs.Common.{refl, subst}
 use Rattle.mesh_atoms.specs.TakesHello.{Taken, Broken_at, Breaks, Takes}
 use Rattle.mesh_nhdp.specs.declared.judge.Judgement.{Judgement}
 use Rattle.mesh_nhdp.specs.Judged.{Judges}
-use Rattle.mesh_nhdp.specs.Telling.{told_of}
+use Rattle.mesh_hello.specs.Telling.{told_of}
 use Rattle.mesh_nhdp.proofs.Judges.{own_at, overfull, taken_sound}
 use Rattle.mesh_nhdp.proofs.nhdp.Nhdp.take_hello.Goals as goal
 

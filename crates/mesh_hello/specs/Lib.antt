@@ -1,0 +1,5 @@
+pub mod Gathers
+pub mod Mine
+pub mod Receive
+pub mod Sender
+pub mod Telling
