@@ -1,5 +1,5 @@
 -- The rows of a part.
-use Rattle.std.proofs.Common.{◌≡◌, ℕ, ◌+◌, ◌-◌, ◌*◌, ◌%◌, ◌≤◌, ◌<◌, arith, inl, inr, refl, sym, ap, subst, ◌∙◌, List, ◌∷◌, length, take, drop, get_or, map, Contains, Some}
+use Rattle.std.proofs.Common.{◌≡◌, ℕ, ◌+◌, ◌-◌, ◌*◌, ◌%◌, ◌≤◌, ◌<◌, arith, inl, inr, sym, ap, subst, ◌∙◌, List, ◌∷◌, length, take, drop, get_or, map, Contains, Some}
 use Rattle.std.specs.Prelude.{slice_get, slice_range, min}
 use Rattle.std.specs.List.{AllPairs}
 use Rattle.std.proofs.lemmas.List.{get_or-take, get_or-drop, get_or-map, length-take-le, length-drop, length-map, take-append-drop, drop_more}
@@ -7,7 +7,6 @@ use Rattle.std.proofs.Math.Nat.{min-le_right, mul-le-mul_right}
 use Rattle.std.proofs.lemmas.Bool.{cases_lt}
 use Rattle.std.proofs.lemmas.Option.{slice_get_within}
 use Rattle.std.proofs.lemmas.List.Elements.{Contains-append_left, Contains-append_right}
-use Rattle.mesh_atoms.specs.declared.settings.RouterSettings.{RouterSettings}
 use Rattle.mesh_atoms.specs.declared.tc.TcRow.{TcRow}
 use Rattle.mesh_atoms.specs.State.{State}
 use Rattle.mesh_atoms.specs.Writable.{AreOneType, HaveTypeWhole}

@@ -3,11 +3,13 @@ use Rattle.std.specs.Prelude.{◌≡◌, ℕ, ◌+◌, ◌%◌, List, Bool, leng
 use Rattle.mesh_atoms.specs.declared.settings.RouterSettings.{RouterSettings}
 use Rattle.mesh_atoms.specs.declared.tc.TcRow.{TcRow}
 use Rattle.mesh_atoms.specs.Advertised.{AreParts}
+use Rattle.mesh_atoms.specs.Sound.{Sound}
 use Rattle.mesh_atoms.specs.Validity.{IsValidity}
 use Rattle.mesh_atoms.specs.State.{Neighbourhood, State}
 use Rattle.mesh_holding.specs.Held.{Held}
 use Rattle.mesh_renewal.specs.declared.derived.Derived.{Derived}
 use Rattle.mesh_renewal.specs.Renewed.{HasDerived}
+use Rattle.mesh_renewal.specs.Staying.{StaysAt}
 use Rattle.mesh_machine.specs.declared.frame.Frame.{Frame}
 use Rattle.mesh_machine.specs.Sending.{SendsHellos, SendsParts, SendsTcs}
 
@@ -31,6 +33,15 @@ state_of held derived = record {
 pub record CoreValue : Type 0 where
   pub state : State
   pub is_spent : Bool
+
+-- an event at now leaves these bases, and since the one before, which ended with these relays, rows and routes, nothing has changed that
+-- they depend on
+pub record EndsQuietly (held : Held) (now : ℕ) (derived : Derived) : Type 0 where
+  pub before : State
+  pub sound : Sound before
+  pub has : HasDerived before derived
+  pub settings : before.settings ≡ held.settings
+  pub stays : StaysAt before now held.bases
 
 -- the HELLOs that a tick sends with this neighbourhood, whatever becomes of the next TC
 abbrev pub HellosAreSent : RouterSettings → Neighbourhood → Derived → Derived → List Frame → Type 0

@@ -1,5 +1,5 @@
 //! What a router does with a frame.
-ghost use Rattle.std.specs.Prelude.{◌≡◌, ◌<◌, ◌≤◌, ◌^◌, ◌++◌, ℕ, List, length, is_err, All, IfOk, OnOk, OnErr, false};
+ghost use Rattle.std.specs.Prelude.{◌≡◌, ◌<◌, ◌≤◌, ◌^◌, ◌++◌, ℕ, List, length, is_err, All, IfOk, OnOk, OnErr, IsErr, IsTrue, false};
 ghost use Rattle.mesh_atoms.specs.Sound.{Sound};
 ghost use Rattle.mesh_core.specs.Holding.{state_of};
 ghost use Rattle.mesh_machine.specs.declared.fate.Fate.{Fate as FateValue};
@@ -48,6 +48,7 @@ impl<B: Bases> Core<B> {
         ensures due { OnOk result (due self.new.state ≡ due self.old.state) }
         ensures sound { OnOk result (Sound self.new.state) }
         ensures spent { self.new.is_spent ≡ is_err result }
+        ensures stays { IsTrue self.old.is_spent → IsErr result }
         ensures wanting { OnErr result (out.new ≡ out.old) }
     {
         if self.spent {
@@ -143,7 +144,7 @@ fn take_packet<B: Bases>(
     Ok(fates)
 }
 
-// What is expired goes, the messages of a packet are taken, and what follows from the bases is renewed.
+// What is expired goes, the messages of a packet are taken, and what follows from the bases is renewed where they changed it.
 fn take_messages<B: Bases>(
     alloc: Global,
     holding: &mut Holding<B>,
@@ -162,8 +163,8 @@ fn take_messages<B: Bases>(
         × HearsPacket (state_of holding.old derived.old) arrival bytes.now given sent (state_of holding.new derived.new)) }
 {
     let own = holding.settings().originator();
-    holding.expire(arrival.now)?;
-    holding.take_messages(
+    let idle = holding.expire(derived.last, arrival.now)?;
+    let quiet = holding.take_messages(
         alloc,
         arrival,
         own,
@@ -173,6 +174,6 @@ fn take_messages<B: Bases>(
         fates,
         out,
     )?;
-    end_event(alloc, holding, arrival.now, derived)?;
+    end_event(alloc, holding, arrival.now, idle & quiet, derived)?;
     Ok(())
 }

@@ -53,7 +53,7 @@ pub(crate) fn send_hellos<B: Bases>(
     let settings = nhdp.settings();
     derived.next_hello = next_moment(settings.hello_at, settings.times.hello, now);
     for iface in 0..settings.interfaces.len() {
-        let bytes = hello_bytes(alloc, nhdp, iface, now, &derived.relays)?;
+        let bytes = hello_bytes(alloc, nhdp, iface, now, derived.relays.get())?;
         out.send(iface, bytes)?;
     }
     Ok(())

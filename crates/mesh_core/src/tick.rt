@@ -1,5 +1,5 @@
 //! What a router does when its clock ticks.
-ghost use Rattle.std.specs.Prelude.{◌≡◌, ◌<◌, ◌≤◌, ◌^◌, ◌++◌, List, is_err, All, OnOk, OnErr};
+ghost use Rattle.std.specs.Prelude.{◌≡◌, ◌<◌, ◌≤◌, ◌^◌, ◌++◌, List, is_err, All, OnOk, OnErr, IsErr, IsTrue};
 ghost use Rattle.mesh_atoms.specs.Sound.{Sound};
 ghost use Rattle.mesh_core.specs.Holding.{state_of};
 ghost use Rattle.mesh_machine.specs.declared.frame.Frame.{Frame};
@@ -32,6 +32,7 @@ impl<B: Bases> Core<B> {
         ensures due { OnOk result (now < due self.new.state) }
         ensures sound { OnOk result (Sound self.new.state) }
         ensures spent { self.new.is_spent ≡ is_err result }
+        ensures stays { IsTrue self.old.is_spent → IsErr result }
         ensures wanting { OnErr result (out.new ≡ out.old) }
     {
         if self.spent {
@@ -86,8 +87,8 @@ fn do_tick<B: Bases>(
     requires sound { Sound (state_of holding.old derived.old) }
     ensures ticks { OnOk result ((sent : List Frame) × (out.new ≡ out.old ++ sent) × TicksAt (state_of holding.old derived.old) now sent (state_of holding.new derived.new)) }
 {
-    holding.expire(now)?;
-    end_event(alloc, holding, now, derived)?;
+    let quiet = holding.expire(derived.last, now)?;
+    end_event(alloc, holding, now, quiet, derived)?;
     send_hellos(alloc, holding.nhdp(), derived, out)?;
     send_tcs(alloc, holding.settings(), derived, out)?;
     Ok(())

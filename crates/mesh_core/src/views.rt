@@ -33,14 +33,14 @@ impl<B: Bases> Core<B> {
     pub fn relays(&self) -> &Relays
         ensures { result.now ≡ self.now.state.relays }
     {
-        &self.derived.relays
+        self.derived.relays.get()
     }
 
     /// The routes.
     pub fn routes(&self) -> &RoutingSet
         ensures { result.now ≡ self.now.state.routes }
     {
-        &self.derived.routes
+        self.derived.routes.get()
     }
 
     /// The neighbourhood.
@@ -174,15 +174,15 @@ impl<B: Bases> RouterView for Core<B> {
     }
 
     fn relays(&self) -> &Relays {
-        &self.derived.relays
+        self.derived.relays.get()
     }
 
     fn routes(&self) -> &[Route] {
-        self.derived.routes.rows()
+        self.derived.routes.get().rows()
     }
 
     fn next_hop(&self, dest: Addr4) -> Option<&Route> {
-        self.derived.routes.next_hop(dest)
+        self.derived.routes.get().next_hop(dest)
     }
 
     fn rows(&self) -> &[TcRow] {
@@ -194,6 +194,12 @@ impl<B: Bases> RouterView for Core<B> {
     }
 
     fn said(&self, iface: usize, now: u64, addr: Addr4) -> Said {
-        said_of(self.holding.nhdp(), &self.derived.relays, iface, now, addr)
+        said_of(
+            self.holding.nhdp(),
+            self.derived.relays.get(),
+            iface,
+            now,
+            addr,
+        )
     }
 }

@@ -1,1 +1,2 @@
 mod Fates
+pub mod Quiet

@@ -1,10 +1,10 @@
 //! What becomes of a message, by what the bases answered.
-ghost use Rattle.std.specs.Prelude.{◌≡◌, ℕ, Option, IfOk};
+ghost use Rattle.std.specs.Prelude.{◌≡◌, ◌≢◌, ◌↔◌, ℕ, Option, IfOk, IsTrue, not};
 ghost use Rattle.mesh_atoms.specs.declared.tc.Tc.{Tc as TcValue};
 ghost use Rattle.mesh_atoms.specs.declared.addr.NetAddr.{NetAddr as NetValue};
-ghost use Rattle.mesh_atoms.specs.TakesHello.{HelloAnswer};
+ghost use Rattle.mesh_atoms.specs.TakesHello.{HelloAnswer, Taken};
 ghost use Rattle.mesh_nhdp.specs.Judged.{IsAnswer};
-ghost use Rattle.mesh_topo.specs.Answers.{answer_of};
+ghost use Rattle.mesh_topo.specs.Answers.{answer_of, changes};
 ghost use Rattle.mesh_machine.specs.Messages.{only, hello_read, tc_read, is_processed, other_read};
 
 use mesh_flood::{Forward, Process};
@@ -38,6 +38,13 @@ pub(crate) fn hello_read(taken: HelloTaken) -> Read
     }
 }
 
+/// Whether a HELLO left the neighbourhood as it was.
+pub(crate) fn is_quiet_hello(taken: HelloTaken) -> bool
+    ensures { (answer : HelloAnswer) → IsAnswer taken answer → IsTrue result ↔ (answer ≢ Taken) }
+{
+    !matches!(taken, HelloTaken::Done)
+}
+
 /// What is made of a TC that is processed.
 pub(crate) fn tc_read(taken: TcTaken, given: u16) -> Read
     ensures { (tc : TcValue) → tc.ansn ≡ given → result ≡ tc_read tc (answer_of taken) }
@@ -54,6 +61,13 @@ pub(crate) fn is_processed(taken: TcTaken) -> bool
     ensures { result ≡ is_processed (answer_of taken) }
 {
     !matches!(taken, TcTaken::Full(_))
+}
+
+/// Whether others advertise the same after a TC as before.
+pub(crate) fn is_quiet_tc(taken: TcTaken) -> bool
+    ensures { result ≡ not (changes taken) }
+{
+    !matches!(taken, TcTaken::Done { changed: true })
 }
 
 /// What is made of a message of another type.

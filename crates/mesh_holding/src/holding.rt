@@ -1,8 +1,10 @@
 //! The bases of a router, with its settings.
-ghost use Rattle.std.specs.Prelude.{◌≡◌, ◌<◌, ◌^◌, ℕ, length, IfOk, OnOk};
+ghost use Rattle.std.specs.Prelude.{◌≡◌, ◌<◌, ◌^◌, length, IfOk, OnOk, IsTrue};
 ghost use Rattle.mesh_atoms.specs.Live.{Live};
+ghost use Rattle.mesh_holding.specs.Quiet.{IsQuiet};
 ghost use Rattle.mesh_machine.specs.Laws.{SoundBases};
 ghost use Rattle.mesh_machine.specs.Machine.{no_bases};
+ghost use Rattle.mesh_nhdp.specs.Staying.{AllIsAsItWas};
 
 use mesh_atoms::RouterSettings;
 use mesh_expire::Bases;
@@ -77,16 +79,19 @@ impl<B: Bases> Holding<B> {
         &self.flood
     }
 
-    /// Takes out what is expired at a moment below 2^62 (RFC 6130, section 13, and RFC 7181, sections 10 and 14).
-    pub fn expire(&mut self, now: u64) -> Result<(), AllocError>
+    /// Takes out what is expired at a moment below 2^62, where the last event was at `last` (RFC 6130, section 13, and RFC 7181,
+    /// sections 10 and 14). True only where the neighbourhood is just as it was then, and others advertise the same.
+    pub fn expire(&mut self, last: u64, now: u64) -> Result<bool, AllocError>
         requires now { now < 2 ^ 62 }
-        requires sound { (before : ℕ) × SoundBases self.old.settings before self.old.bases }
+        requires sound { SoundBases self.old.settings last self.old.bases }
         ensures live { OnOk result (Live self.old.settings now self.old.bases self.new.bases) }
         ensures settings { self.new.settings ≡ self.old.settings }
+        ensures quiet { IfOk result (λ quiet. IsTrue quiet → IsQuiet self.old.bases self.new.bases) }
+        ensures links { IfOk result (λ quiet. IsTrue quiet → AllIsAsItWas self.old.settings last now self.old.bases.neighbourhood) }
     {
-        self.nhdp.expire(now)?;
-        self.topology.expire(now);
+        let same = self.nhdp.expire_since(last, now)?;
+        let changed = self.topology.expire(now);
         self.flood.expire(now);
-        Ok(())
+        Ok(same & !changed)
     }
 }

@@ -1,10 +1,12 @@
 //! What a message does to the bases of a router.
-ghost use Rattle.std.specs.Prelude.{◌≡◌, ◌≢◌, ◌<◌, ◌≤◌, ◌+◌, ◌^◌, ◌++◌, ℕ, [], map, List, length, IfOk, OnOk};
+ghost use Rattle.std.specs.Prelude.{◌≡◌, ◌≢◌, ◌<◌, ◌≤◌, ◌+◌, ◌^◌, ◌++◌, ℕ, [], map, List, length, IfOk, OnOk, IsTrue};
 ghost use Rattle.mesh_atoms.specs.declared.addr.Addr4.{Addr4};
 ghost use Rattle.mesh_atoms.specs.State.{IsOriginator};
+ghost use Rattle.mesh_topo.specs.Same.{SameAdvertised};
 ghost use Rattle.mesh_topo.specs.Tuples.{HasHosts};
 ghost use Rattle.mesh_packet.specs.Fields.{MessageFields, fields_of_message};
 ghost use Rattle.mesh_packet.specs.Grammar.{SpellsMessage};
+ghost use Rattle.mesh_holding.specs.Quiet.{IsQuiet};
 ghost use Rattle.mesh_holding.specs.Reading.{ReadsTc};
 ghost use Rattle.mesh_machine.specs.declared.fate.Fate.{Fate as FateValue};
 ghost use Rattle.mesh_machine.specs.declared.frame.Frame.{Frame};
@@ -12,7 +14,9 @@ ghost use Rattle.mesh_machine.specs.Frames.{octets_at};
 ghost use Rattle.mesh_machine.specs.Laws.{SoundBases};
 ghost use Rattle.mesh_machine.specs.Messages.{TakesMessage, TakesMessages, ProcessesTc, IsHeading, AreSpelled};
 
-use crate::answers::{broken_fate, hello_read, is_processed, other_read, tc_read};
+use crate::answers::{
+    broken_fate, hello_read, is_processed, is_quiet_hello, is_quiet_tc, other_read, tc_read,
+};
 use crate::heading::{heading_of, heading_of_tc};
 use crate::holding::Holding;
 use crate::onward::{judge, pass_on};
@@ -27,28 +31,34 @@ use mesh_topo::Topology;
 use mesh_wire::{hello_of, tc_of};
 use std::alloc::{AllocError, Global};
 
-// Takes a TC into the topology where it is to be processed: what is made of it, and whether it counts as processed.
+// Takes a TC into the topology where it is to be processed: what is made of it, whether it counts as processed, and whether others
+// advertise the same.
 fn read_tc<B: Bases>(
     topology: &mut Topology<B>,
     now: u64,
     tc: &Tc,
     process: Process,
-) -> Result<(Read, bool), AllocError>
+) -> Result<(Read, bool, bool), AllocError>
     requires now { now < 2 ^ 62 }
     requires validity { tc.now.validity < 2 ^ 62 }
     requires hosts { HasHosts tc.now }
-    ensures { IfOk result (λ made. ReadsTc now tc.now process topology.old topology.new made.0 made.1) }
+    ensures reads { IfOk result (λ made. ReadsTc now tc.now process topology.old topology.new made.0 made.1) }
+    ensures quiet { IfOk result (λ made. IsTrue made.2 → SameAdvertised topology.old topology.new) }
 {
     match process {
         Process::Do => {
             let taken = topology.take_tc(now, tc)?;
-            Ok((tc_read(taken, tc.ansn), is_processed(taken)))
+            Ok((
+                tc_read(taken, tc.ansn),
+                is_processed(taken),
+                is_quiet_tc(taken),
+            ))
         }
-        answer => Ok((Read::Passed(answer), false)),
+        answer => Ok((Read::Passed(answer), false, true)),
     }
 }
 
-// Takes a TC that breaks no rule.
+// Takes a TC that breaks no rule: its fate, and whether others advertise the same.
 fn process_tc<B: Bases>(
     alloc: Global,
     nhdp: &Nhdp<B>,
@@ -60,43 +70,46 @@ fn process_tc<B: Bases>(
     heading: &Heading,
     octets: &[u8],
     out: &mut Outbox,
-) -> Result<Fate, AllocError>
+) -> Result<(Fate, bool), AllocError>
     requires now { arrival.now < 2 ^ 62 }
     requires iface { arrival.iface < length flood.old.noted.received }
     requires times { flood.old.times ≡ nhdp.now.settings.times }
     requires message { (message : MessageFields) × SpellsMessage message octets.now × IsHeading message heading.now }
     requires validity { tc.now.validity < 2 ^ 62 }
     requires hosts { HasHosts tc.now }
-    ensures taken { IfOk result (λ fate. (sent : List Frame) × (out.new ≡ out.old ++ sent) × ProcessesTc nhdp.now.settings own arrival
+    ensures taken { IfOk result (λ made. (sent : List Frame) × (out.new ≡ out.old ++ sent) × ProcessesTc nhdp.now.settings own arrival
         (record { neighbourhood = nhdp.now.near; topology = topology.old; noted = flood.old.noted }) tc.now heading.now octets.now
-        (record { neighbourhood = nhdp.now.near; topology = topology.new; noted = flood.new.noted }) sent fate) }
+        (record { neighbourhood = nhdp.now.near; topology = topology.new; noted = flood.new.noted }) sent made.0) }
+    ensures quiet { IfOk result (λ made. IsTrue made.1 → SameAdvertised topology.old topology.new) }
     ensures times { flood.new.times ≡ flood.old.times }
 {
     let count = nhdp.settings().interfaces.len();
     let verdict = judge(nhdp, flood, arrival, own, heading);
-    let (read, processed) = read_tc(topology, arrival.now, tc, verdict.process)?;
+    let (read, processed, quiet) = read_tc(topology, arrival.now, tc, verdict.process)?;
     pass_on(
         alloc, flood, count, arrival, heading, octets, &verdict, processed, out,
     )?;
-    Ok(Fate {
+    let fate = Fate {
         read,
         forward: verdict.forward,
-    })
+    };
+    Ok((fate, quiet))
 }
 
 impl<B: Bases> Holding<B> {
-    // Takes a HELLO.
+    // Takes a HELLO: its fate, and whether it was quiet.
     fn take_hello(
         &mut self,
         alloc: Global,
         arrival: Arrival,
         message: &Message,
-    ) -> Result<Fate, AllocError>
+    ) -> Result<(Fate, bool), AllocError>
         requires kind { message.now.kind ≡ 0 }
         requires now { arrival.now < 2 ^ 62 }
         requires iface { arrival.iface < length self.old.settings.interfaces }
         requires sound { SoundBases self.old.settings arrival.now self.old.bases }
-        ensures taken { IfOk result (λ fate. (own : Addr4) (octets : List ℕ) → TakesMessage self.old.settings own arrival self.old.bases (fields_of_message message.now) octets self.new.bases [] fate) }
+        ensures taken { IfOk result (λ made. (own : Addr4) (octets : List ℕ) → TakesMessage self.old.settings own arrival self.old.bases (fields_of_message message.now) octets self.new.bases [] made.0) }
+        ensures quiet { IfOk result (λ made. IsTrue made.1 → IsQuiet self.old.bases self.new.bases) }
         ensures settings { self.new.settings ≡ self.old.settings }
     {
         match hello_of(alloc, message) {
@@ -104,16 +117,20 @@ impl<B: Bases> Holding<B> {
                 let taken = self
                     .nhdp
                     .take_hello(arrival.now, arrival.iface, arrival.sender, &hello)?;
-                Ok(Fate {
+                let fate = Fate {
                     read: hello_read(taken),
                     forward: Forward::NotFlooded,
-                })
+                };
+                Ok((fate, is_quiet_hello(taken)))
             }
-            Err(fault) => broken_fate(fault),
+            Err(fault) => {
+                let fate = broken_fate(fault)?;
+                Ok((fate, true))
+            }
         }
     }
 
-    // Takes a TC.
+    // Takes a TC: its fate, and whether it was quiet.
     fn take_tc(
         &mut self,
         alloc: Global,
@@ -122,12 +139,13 @@ impl<B: Bases> Holding<B> {
         message: &Message,
         octets: &[u8],
         out: &mut Outbox,
-    ) -> Result<Fate, AllocError>
+    ) -> Result<(Fate, bool), AllocError>
         requires kind { message.now.kind ≡ 1 }
         requires now { arrival.now < 2 ^ 62 }
         requires iface { arrival.iface < length self.old.bases.noted.received }
         requires spelled { SpellsMessage (fields_of_message message.now) octets.now }
-        ensures taken { IfOk result (λ fate. (sent : List Frame) × (out.new ≡ out.old ++ sent) × TakesMessage self.old.settings own arrival self.old.bases (fields_of_message message.now) octets.now self.new.bases sent fate) }
+        ensures taken { IfOk result (λ made. (sent : List Frame) × (out.new ≡ out.old ++ sent) × TakesMessage self.old.settings own arrival self.old.bases (fields_of_message message.now) octets.now self.new.bases sent made.0) }
+        ensures quiet { IfOk result (λ made. IsTrue made.1 → IsQuiet self.old.bases self.new.bases) }
         ensures settings { self.new.settings ≡ self.old.settings }
     {
         match tc_of(alloc, message) {
@@ -146,11 +164,14 @@ impl<B: Bases> Holding<B> {
                     out,
                 )
             }
-            Err(fault) => broken_fate(fault),
+            Err(fault) => {
+                let fate = broken_fate(fault)?;
+                Ok((fate, true))
+            }
         }
     }
 
-    // Takes a message of another type.
+    // Takes a message of another type, which is always quiet.
     fn take_other(
         &mut self,
         alloc: Global,
@@ -166,6 +187,7 @@ impl<B: Bases> Holding<B> {
         requires iface { arrival.iface < length self.old.bases.noted.received }
         requires spelled { SpellsMessage (fields_of_message message.now) octets.now }
         ensures taken { IfOk result (λ fate. (sent : List Frame) × (out.new ≡ out.old ++ sent) × TakesMessage self.old.settings own arrival self.old.bases (fields_of_message message.now) octets.now self.new.bases sent fate) }
+        ensures quiet { OnOk result (IsQuiet self.old.bases self.new.bases) }
         ensures settings { self.new.settings ≡ self.old.settings }
     {
         let Some(heading) = heading_of(message) else {
@@ -193,7 +215,7 @@ impl<B: Bases> Holding<B> {
         })
     }
 
-    // Takes a message.
+    // Takes a message: its fate, and whether it was quiet.
     fn take_message(
         &mut self,
         alloc: Global,
@@ -202,24 +224,29 @@ impl<B: Bases> Holding<B> {
         message: &Message,
         octets: &[u8],
         out: &mut Outbox,
-    ) -> Result<Fate, AllocError>
+    ) -> Result<(Fate, bool), AllocError>
         requires now { arrival.now < 2 ^ 62 }
         requires iface { arrival.iface < length self.old.settings.interfaces }
         requires sound { SoundBases self.old.settings arrival.now self.old.bases }
         requires spelled { SpellsMessage (fields_of_message message.now) octets.now }
-        ensures taken { IfOk result (λ fate. (sent : List Frame) × (out.new ≡ out.old ++ sent) × TakesMessage self.old.settings own arrival self.old.bases (fields_of_message message.now) octets.now self.new.bases sent fate) }
+        ensures taken { IfOk result (λ made. (sent : List Frame) × (out.new ≡ out.old ++ sent) × TakesMessage self.old.settings own arrival self.old.bases (fields_of_message message.now) octets.now self.new.bases sent made.0) }
+        ensures quiet { IfOk result (λ made. IsTrue made.1 → IsQuiet self.old.bases self.new.bases) }
         ensures settings { self.new.settings ≡ self.old.settings }
     {
         match message.kind {
             0 => self.take_hello(alloc, arrival, message),
             1 => self.take_tc(alloc, arrival, own, message, octets, out),
-            _ => self.take_other(alloc, arrival, own, message, octets, out),
+            _ => {
+                let fate = self.take_other(alloc, arrival, own, message, octets, out)?;
+                Ok((fate, true))
+            }
         }
     }
 
     /// Takes the messages of a frame that is heard at a moment below 2^62 on one of the router's interfaces, in order; `own` is the
     /// router's originator, and each message is spelled at its place in the octets. The fate of each message is put at the end of
-    /// `fates`, and what is sent at the end of `out` (RFC 7181, sections 14 to 16).
+    /// `fates`, and what is sent at the end of `out` (RFC 7181, sections 14 to 16). True only where all of them were quiet: the
+    /// neighbourhood is as it was, and others advertise the same.
     pub fn take_messages(
         &mut self,
         alloc: Global,
@@ -230,7 +257,7 @@ impl<B: Bases> Holding<B> {
         spans: &[Span],
         fates: &mut Seq<Fate>,
         out: &mut Outbox,
-    ) -> Result<(), AllocError>
+    ) -> Result<bool, AllocError>
         requires now { arrival.now < 2 ^ 62 }
         requires iface { arrival.iface < length self.old.settings.interfaces }
         requires own { IsOriginator self.old.settings own }
@@ -239,14 +266,17 @@ impl<B: Bases> Holding<B> {
         ensures taken { OnOk result ((given : List FateValue) × (sent : List Frame) × (fates.new ≡ fates.old ++ given) × (out.new ≡ out.old ++ sent)
             × TakesMessages self.old.settings own arrival bytes.now self.old.bases (map fields_of_message messages.now) spans.now self.new.bases sent given) }
         ensures settings { self.new.settings ≡ self.old.settings }
+        ensures quiet { IfOk result (λ quiet. IsTrue quiet → IsQuiet self.old.bases self.new.bases) }
     {
+        let mut quiet = true;
         for i in 0..messages.len() {
             let message = &messages[i];
             let octets = octets_of(bytes, spans[i]);
-            let fate = self.take_message(alloc, arrival, own, message, octets, out)?;
+            let (fate, same) = self.take_message(alloc, arrival, own, message, octets, out)?;
             fates.push(fate)?;
+            quiet &= same;
         }
-        Ok(())
+        Ok(quiet)
     }
 }
 

@@ -1,2 +1,8 @@
+mod Deciding
+mod Lists
+mod Moments
 pub mod Pushed
+mod RouteMoments
+mod RowMoments
 mod Selectors
+mod StayingLaw

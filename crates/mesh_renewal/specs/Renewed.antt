@@ -1,5 +1,5 @@
 -- What follows from the bases of a router, and the states that have it.
-use Rattle.std.specs.Prelude.{◌≡◌, ℕ}
+use Rattle.std.specs.Prelude.{◌≡◌, ◌≢◌, ℕ, ◌+◌, ◌%◌, ◌⊎◌, [], Some}
 use Rattle.mesh_atoms.specs.declared.settings.RouterSettings.{RouterSettings}
 use Rattle.mesh_atoms.specs.State.{Neighbourhood, Topology, State}
 use Rattle.mesh_machine.specs.Renewal.{Renews}
@@ -19,6 +19,16 @@ pub record HasNext (s : State) (derived : Derived) : Type 0 where
   pub sequence : s.sequence ≡ derived.sequence
   pub next_hello : s.next_hello ≡ derived.next_hello
   pub next_tc : s.next_tc ≡ derived.next_tc
+
+-- the ANSN rises by one, and goes round, where the advertised rows change
+abbrev pub IsAnsnAfter : Derived → Derived → Type 0
+IsAnsnAfter old new = ((new.rows ≡ old.rows) × (new.ansn ≡ old.ansn)) ⊎ ((new.rows ≢ old.rows) × (new.ansn ≡ (old.ansn + 1) % 65536))
+
+-- the moment at which they last became empty is now, where they are empty and weren't before
+abbrev pub IsEmptiedAt : ℕ → Derived → Derived → Type 0
+IsEmptiedAt now old new =
+    ((new.rows ≡ []) × (old.rows ≢ []) × (new.emptied ≡ Some now))
+    ⊎ (((new.rows ≢ []) ⊎ (old.rows ≡ [])) × (new.emptied ≡ old.emptied))
 
 -- an event that begins with `old` and leaves this neighbourhood and this topology ends in each state that has `new`
 abbrev pub RenewsTo : RouterSettings → Neighbourhood → Topology → Derived → ℕ → Derived → Type 0

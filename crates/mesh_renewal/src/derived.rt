@@ -1,16 +1,23 @@
 //! What follows from the bases of a router at the end of each event, and what the router counts.
-ghost use Rattle.std.specs.Prelude.{◌≡◌, ◌≢◌, ◌+◌, ◌%◌, ◌⊎◌, [], Some};
+ghost use Rattle.std.specs.Prelude.{◌≡◌, OnOk};
+ghost use Rattle.mesh_atoms.specs.Advertised.{AreTcRows};
+ghost use Rattle.mesh_atoms.specs.State.{State};
+ghost use Rattle.mesh_renewal.specs.Renewed.{IsAnsnAfter, IsEmptiedAt};
 
-use mesh_atoms::{Relays, Seq, TcRow, same_rows};
-use mesh_routes::RoutingSet;
+use crate::relays::KeptRelays;
+use crate::routes::KeptRoutes;
+use crate::rows::KeptRows;
+use mesh_atoms::{RouterSettings, same_rows};
+use mesh_nbrs::Near4;
+use std::alloc::{AllocError, Global};
 
 /// Relays, routes, advertised rows with their ANSN and the moment at which they became empty; the sequence number of the next
 /// TC; the moments of the next HELLO and TC, and that of the last event. Moments are in ticks of 1/8192 s.
 #[derive(Drop)]
 pub struct Derived {
-    pub relays: Relays,
-    pub routes: RoutingSet,
-    pub rows: Seq<TcRow>,
+    pub relays: KeptRelays,
+    pub routes: KeptRoutes,
+    pub rows: KeptRows,
     pub ansn: u16,
     pub emptied: Option<u64>,
     pub sequence: u16,
@@ -21,12 +28,10 @@ pub struct Derived {
 
 impl Derived {
     // Takes the advertised rows at the end of an event. The ANSN rises where the rows change.
-    pub(crate) fn take_rows(&mut self, now: u64, rows: Seq<TcRow>)
+    fn take_rows(&mut self, now: u64, rows: KeptRows)
         ensures rows { self.new.rows ≡ rows }
-        ensures ansn { ((self.new.rows ≡ self.old.rows) × (self.new.ansn ≡ self.old.ansn))
-            ⊎ ((self.new.rows ≢ self.old.rows) × (self.new.ansn ≡ (self.old.ansn + 1) % 65536)) }
-        ensures emptied { ((self.new.rows ≡ []) × (self.old.rows ≢ []) × (self.new.emptied ≡ Some now))
-            ⊎ (((self.new.rows ≢ []) ⊎ (self.old.rows ≡ [])) × (self.new.emptied ≡ self.old.emptied)) }
+        ensures ansn { IsAnsnAfter self.old self.new }
+        ensures emptied { IsEmptiedAt now self.old self.new }
         ensures others { self.new ≡ record self.old { rows = self.new.rows; ansn = self.new.ansn; emptied = self.new.emptied } }
     {
         if !same_rows(rows.as_slice(), self.rows.as_slice()) {
@@ -36,5 +41,26 @@ impl Derived {
             self.emptied = Some(now);
         }
         self.rows = rows;
+    }
+
+    // Renews the advertised rows at the end of an event: they are made anew where other neighbours or networks give them.
+    pub(crate) fn renew_rows<N: Near4>(
+        &mut self,
+        alloc: Global,
+        near: &N,
+        settings: &RouterSettings,
+        now: u64,
+    ) -> Result<(), AllocError>
+        ensures rows { OnOk result ((s : State) → s.settings ≡ settings.now → s.bases.neighbourhood ≡ N.near near.now → AreTcRows s self.new.rows) }
+        ensures ansn { OnOk result (IsAnsnAfter self.old self.new) }
+        ensures emptied { OnOk result (IsEmptiedAt now self.old self.new) }
+        ensures others { self.new ≡ record self.old { rows = self.new.rows; ansn = self.new.ansn; emptied = self.new.emptied } }
+    {
+        if self.rows.stand(near, settings) {
+            return Ok(());
+        }
+        let rows = KeptRows::of(alloc, near, settings)?;
+        self.take_rows(now, rows);
+        Ok(())
     }
 }

@@ -2,9 +2,23 @@
 #![tactic(auto)]
 
 mod advertise;
+mod basis;
 mod derived;
+mod kind;
+mod near;
+mod own;
+mod reach;
 mod relays;
 mod renewal;
+mod routes;
+mod rows;
+mod same;
+mod staying;
+mod topology;
 
 pub use derived::Derived;
+pub use relays::KeptRelays;
 pub use renewal::{opening, renew};
+pub use routes::KeptRoutes;
+pub use rows::KeptRows;
+pub use staying::{stay, still_follows};

@@ -1,18 +1,38 @@
 //! The relays that a router chooses.
-ghost use Rattle.std.specs.Prelude.{◌≡◌, IfOk};
+ghost use Rattle.std.specs.Prelude.{◌≡◌, IfOk, OnOk};
 ghost use Rattle.mesh_atoms.specs.RelayGraphs.{AreRelays};
 ghost use Rattle.mesh_atoms.specs.Sound.{SoundNeighbourhood};
 ghost use Rattle.mesh_atoms.specs.State.{State};
 ghost use Rattle.mesh_machine.specs.Machine.{no_relays};
 
+use crate::near::NearImage;
 use mesh_atoms::{Relays, RouterSettings, Seq};
 use mesh_nbrs::Near4;
 use mesh_relay::choose;
 use mesh_routes::graph_of;
 use std::alloc::{AllocError, Global};
+use std::marker::Model;
 
-/// The relays of a router with this neighbourhood.
-pub(crate) fn relays_of<N: Near4>(
+/// The relays of a router, and what is kept of the neighbourhood from which they were chosen. Contracts see them as the relays.
+#[derive(Drop)]
+pub struct KeptRelays {
+    relays: Relays,
+    image: NearImage,
+}
+
+impl Model for KeptRelays {
+    ghost use Rattle.mesh_atoms.specs.declared.tuples.Relays.{Relays as Chosen};
+    ghost use Rattle.mesh_renewal.specs.Kept.{AreRelaysFor};
+
+    ghost Value = { Chosen };
+
+    ghost view = { λ k. k.relays };
+
+    ghost invariant = { λ k. AreRelaysFor k.image k.relays };
+}
+
+// The relays of a router with this neighbourhood.
+fn relays_of<N: Near4>(
     alloc: Global,
     near: &N,
     settings: &RouterSettings,
@@ -32,8 +52,8 @@ pub(crate) fn relays_of<N: Near4>(
     Ok(Relays { flooding, routing })
 }
 
-/// No relays on so many interfaces.
-pub(crate) fn no_relays(alloc: Global, count: usize) -> Result<Relays, AllocError>
+// No relays on so many interfaces.
+fn no_relays(alloc: Global, count: usize) -> Result<Relays, AllocError>
     ensures { IfOk result (λ relays. relays ≡ no_relays count) }
 {
     let mut flooding = Seq::new(alloc);
@@ -44,4 +64,44 @@ pub(crate) fn no_relays(alloc: Global, count: usize) -> Result<Relays, AllocErro
         flooding,
         routing: Seq::new(alloc),
     })
+}
+
+impl KeptRelays {
+    /// No relays on so many interfaces.
+    pub(crate) fn none(alloc: Global, count: usize) -> Result<KeptRelays, AllocError>
+        ensures { IfOk result (λ relays. relays ≡ no_relays count) }
+    {
+        Ok(KeptRelays {
+            relays: no_relays(alloc, count)?,
+            image: NearImage::nothing(alloc),
+        })
+    }
+
+    /// Makes them the relays of a router with this neighbourhood: they are chosen anew where it isn't the one from which they
+    /// were chosen, but for moments.
+    pub(crate) fn renew<N: Near4>(
+        &mut self,
+        alloc: Global,
+        near: &N,
+        settings: &RouterSettings,
+        now: u64,
+    ) -> Result<(), AllocError>
+        requires sound { SoundNeighbourhood settings.now now (N.near near.now) }
+        ensures { OnOk result ((s : State) → s.settings ≡ settings.now → s.bases.neighbourhood ≡ N.near near.now → s.relays ≡ self.new → AreRelays s now) }
+    {
+        if self.image.shows(near, settings) {
+            return Ok(());
+        }
+        let relays = relays_of(alloc, near, settings, now)?;
+        let image = NearImage::of(alloc, near, settings)?;
+        *self = KeptRelays { relays, image };
+        Ok(())
+    }
+
+    /// The relays.
+    pub fn get(&self) -> &Relays
+        ensures { result.now ≡ self.now }
+    {
+        &self.relays
+    }
 }

@@ -5,13 +5,13 @@ ghost use Rattle.mesh_atoms.specs.State.{State};
 ghost use Rattle.mesh_machine.specs.Machine.{IsOpening, no_bases};
 ghost use Rattle.mesh_renewal.specs.Renewed.{HasDerived, HasNext, RenewsTo};
 
-use crate::advertise::{advertised_rows, own_rows};
 use crate::derived::Derived;
-use crate::relays::{no_relays, relays_of};
+use crate::relays::KeptRelays;
+use crate::routes::KeptRoutes;
+use crate::rows::KeptRows;
 use mesh_atoms::RouterSettings;
 use mesh_expire::Bases;
 use mesh_nbrs::Near4;
-use mesh_routes::{RoutingSet, routes_of};
 use mesh_topo::Topology;
 use std::alloc::{AllocError, Global};
 
@@ -21,11 +21,11 @@ pub fn opening(alloc: Global, settings: &RouterSettings) -> Result<Derived, Allo
     ensures { IfOk result (λ derived. (s : State) → s.settings ≡ settings.now → s.bases ≡ no_bases (length settings.now.interfaces)
         → HasDerived s derived → HasNext s derived → IsOpening settings.now s) }
 {
-    let rows = own_rows(alloc, settings)?;
-    let relays = no_relays(alloc, settings.interfaces.len())?;
+    let rows = KeptRows::own(alloc, settings)?;
+    let relays = KeptRelays::none(alloc, settings.interfaces.len())?;
     Ok(Derived {
         relays,
-        routes: RoutingSet::new(alloc),
+        routes: KeptRoutes::none(alloc),
         rows,
         ansn: 0,
         emptied: None,
@@ -54,10 +54,9 @@ pub fn renew<N: Near4, B: Bases>(
     ensures next_hello { derived.new.next_hello ≡ derived.old.next_hello }
     ensures next_tc { derived.new.next_tc ≡ derived.old.next_tc }
 {
-    derived.relays = relays_of(alloc, near, settings, now)?;
-    let rows = advertised_rows(alloc, near, settings)?;
-    derived.take_rows(now, rows);
-    derived.routes = routes_of(alloc, near, topology, settings, now)?;
+    derived.relays.renew(alloc, near, settings, now)?;
+    derived.renew_rows(alloc, near, settings, now)?;
+    derived.routes.renew(alloc, near, topology, settings, now)?;
     derived.last = now;
     Ok(())
 }

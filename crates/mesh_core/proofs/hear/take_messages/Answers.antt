@@ -5,41 +5,46 @@ use Rattle.mesh_packet.specs.declared.packet.Span.{Span}
 use Rattle.mesh_packet.specs.declared.packet.Message.{Message}
 use Rattle.mesh_packet.specs.Fields.{fields_of_message, fields_of_packet}
 use Rattle.mesh_core.specs.Holding.{state_of}
+use Rattle.mesh_holding.proofs.Quiet.{both_true, quiet_after}
 use Rattle.mesh_machine.specs.Laws.{SoundBases}
 use Rattle.mesh_machine.specs.Messages.{TakesMessages}
 use Rattle.mesh_machine.proofs.Soundness.{bases_of, messages_sound}
 use Rattle.mesh_machine.proofs.Takes.{packet_spelled}
-use Rattle.mesh_core.proofs.Derivations.{has_own, live_held}
+use Rattle.mesh_core.proofs.Derivations.{ends_quietly, has_own, live_held}
 use Rattle.mesh_core.proofs.hear.take_messages.Goals as goal
 
 pub expire-requires-clause-sound : goal.expire-requires-clause-sound
-expire-requires-clause-sound g c = (c.args.derived.now.last, bases_of (state_of c.args.holding.now c.args.derived.now) c.requires.sound)
+expire-requires-clause-sound g c = bases_of (state_of c.args.holding.now c.args.derived.now) c.requires.sound
 
 pub take_messages-requires-clause-own : goal.take_messages-requires-clause-own
 take_messages-requires-clause-own g c =
-    subst (λ (r : RouterSettings). IsOriginator r c.originator-own.result) (c.settings.ensures ∙ sym c.in_ok-expire.ensures.settings) c.originator-own.ensures.is
+    subst (λ (r : RouterSettings). IsOriginator r c.originator-own.result) (c.settings.ensures ∙ sym c.in_ok-idle.ensures.settings) c.originator-own.ensures.is
 
 pub take_messages-requires-clause-sound : goal.take_messages-requires-clause-sound
-take_messages-requires-clause-sound g c = live_held c.args.holding.now c.expire.new.self c.args.derived.now c.args.arrival.now c.requires.sound c.in_ok-expire.ensures.live c.in_ok-expire.ensures.settings
+take_messages-requires-clause-sound g c = live_held c.args.holding.now c.expire.new.self c.args.derived.now c.args.arrival.now c.requires.sound c.in_ok-idle.ensures.live c.in_ok-idle.ensures.settings
 
 pub take_messages-requires-clause-spelled : goal.take_messages-requires-clause-spelled
 take_messages-requires-clause-spelled g c = rw (c.as_slice.ensures, c.as_slice-2.ensures) (packet_spelled c.args.bytes.now _ _ c.requires.spelled)
 
-pub end_event-requires : goal.end_event-requires
-end_event-requires g c =
-    let (given, sent, fates, out, takes) = c.in_ok-take_messages.ensures.taken in
-    record {
-      sound = subst (λ (r : RouterSettings). SoundBases r c.args.arrival.now c.take_messages.new.self.bases) (sym c.take_messages.ensures.settings)
-          (messages_sound c.expire.new.self.settings c.originator-own.result c.args.arrival c.args.bytes.now c.expire.new.self.bases _ _ c.take_messages.new.self.bases sent given
-          (subst (λ (r : RouterSettings). IsOriginator r c.originator-own.result) (c.settings.ensures ∙ sym c.in_ok-expire.ensures.settings) c.originator-own.ensures.is)
-          (live_held c.args.holding.now c.expire.new.self c.args.derived.now c.args.arrival.now c.requires.sound c.in_ok-expire.ensures.live c.in_ok-expire.ensures.settings) takes);
-    }
+pub end_event-requires-clause-sound : goal.end_event-requires-clause-sound
+end_event-requires-clause-sound g c =
+    let (given, sent, fates, out, takes) = c.in_ok-quiet.ensures.taken in
+    subst (λ (r : RouterSettings). SoundBases r c.args.arrival.now c.take_messages.new.self.bases) (sym c.take_messages.ensures.settings)
+    (messages_sound c.expire.new.self.settings c.originator-own.result c.args.arrival c.args.bytes.now c.expire.new.self.bases _ _ c.take_messages.new.self.bases sent given
+    (subst (λ (r : RouterSettings). IsOriginator r c.originator-own.result) (c.settings.ensures ∙ sym c.in_ok-idle.ensures.settings) c.originator-own.ensures.is)
+    (live_held c.args.holding.now c.expire.new.self c.args.derived.now c.args.arrival.now c.requires.sound c.in_ok-idle.ensures.live c.in_ok-idle.ensures.settings) takes)
+
+pub end_event-requires-clause-quiet : goal.end_event-requires-clause-quiet
+end_event-requires-clause-quiet g c = λ both.
+    let (idle, quiet) = both_true c.in_ok-idle.idle c.in_ok-quiet.quiet both in
+    ends_quietly c.args.holding.now c.take_messages.new.self c.args.derived.now c.args.arrival.now c.requires.sound (c.take_messages.ensures.settings ∙ c.in_ok-idle.ensures.settings)
+    (quiet_after c.args.holding.now.bases c.expire.new.self.bases c.take_messages.new.self.bases (c.in_ok-idle.ensures.quiet idle) (c.in_ok-quiet.ensures.quiet quiet)) (c.in_ok-idle.ensures.links idle)
 
 pub returns : goal.returns
 returns g c =
-    let (given, sent, fates, out, takes) = c.in_ok-take_messages.ensures.taken in
+    let (given, sent, fates, out, takes) = c.in_ok-quiet.ensures.taken in
     let before : State = state_of c.args.holding.now c.args.derived.now in
-    let same : c.expire.new.self.settings ≡ c.args.holding.now.settings = c.in_ok-expire.ensures.settings in
+    let same : c.expire.new.self.settings ≡ c.args.holding.now.settings = c.in_ok-idle.ensures.settings in
     let own = c.originator-own.result in
     let by_settings : TakesMessages before.settings own c.args.arrival c.args.bytes.now c.expire.new.self.bases (map fields_of_message c.as_slice.result.now) c.as_slice-2.result.now c.take_messages.new.self.bases sent given =
     subst (λ (r : RouterSettings). TakesMessages r own c.args.arrival c.args.bytes.now c.expire.new.self.bases (map fields_of_message c.as_slice.result.now) c.as_slice-2.result.now c.take_messages.new.self.bases sent given) same takes in
@@ -60,7 +65,7 @@ returns g c =
           own = own;
           is_own = subst (λ (r : RouterSettings). IsOriginator r own) c.settings.ensures c.originator-own.ensures.is;
           live = c.expire.new.self.bases;
-          is_live = c.in_ok-expire.ensures.live;
+          is_live = c.in_ok-idle.ensures.live;
           bases = c.take_messages.new.self.bases;
           takes = by_spans;
           renews = c.in_ok-end_event.ensures.renews before (state_of c.take_messages.new.self c.end_event.new.derived) (sym (c.take_messages.ensures.settings ∙ same)) refl refl refl refl refl refl (has_own c.take_messages.new.self c.end_event.new.derived);

@@ -1,13 +1,10 @@
-use Rattle.std.proofs.Common.{◌≡◌, ◌+◌, ◌%◌, ℕ, List, length, map, sym, ap, subst, ◌∙◌}
-use Rattle.std.specs.Prelude.{nat_eq}
+use Rattle.std.proofs.Common.{◌≡◌, ℕ, List, length, map, sym, subst}
 use Rattle.std.proofs.lemmas.List.{length-map}
-use Rattle.mesh_atoms.specs.declared.settings.RouterSettings.{RouterSettings}
 use Rattle.mesh_atoms.specs.declared.tc.TcRow.{TcRow}
 use Rattle.mesh_atoms.specs.Advertised.{AreParts}
-use Rattle.mesh_atoms.specs.Validity.{IsTimeValue, IsValidity}
+use Rattle.mesh_atoms.specs.Validity.{IsValidity}
 use Rattle.mesh_topo.specs.declared.spans.PartSpan.{PartSpan}
 use Rattle.mesh_topo.specs.Spans.{part_of}
-use Rattle.mesh_machine.specs.Sending.{SendsParts}
 use Rattle.mesh_core.proofs.PartRows.{runs_within, has_before}
 use Rattle.mesh_core.proofs.tcs.send_parts.Goals as goal
 

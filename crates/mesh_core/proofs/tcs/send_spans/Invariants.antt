@@ -1,4 +1,4 @@
-use Rattle.std.proofs.Common.{◌≡◌, ◌+◌, ◌%◌, ◌++◌, ℕ, List, length, map, drop}
+use Rattle.std.proofs.Common.{◌≡◌, ◌+◌, ◌%◌, ◌++◌, List, length, map, drop}
 use Rattle.std.specs.Prelude.{nat_eq}
 use Rattle.mesh_atoms.specs.State.{State}
 use Rattle.mesh_topo.specs.Spans.{part_of}

@@ -1,4 +1,3 @@
-use Rattle.std.proofs.Common.{refl}
 use Rattle.mesh_core.proofs.Written.{odd_time}
 use Rattle.mesh_core.proofs.tcs.time_nearby.Goals as goal
 

@@ -9,7 +9,7 @@ use Rattle.mesh_holding.proofs.Fates.{tc_processed, done_does}
 use Rattle.mesh_holding.proofs.taking.process_tc.Goals as goal
 
 pub pass_on-requires-clause-processed : goal.pass_on-requires-clause-processed
-pass_on-requires-clause-processed g c = done_does c.in_ok-read.ensures
+pass_on-requires-clause-processed g c = done_does c.in_ok-read.ensures.reads
 
 pub returns-clause-taken : goal.returns-clause-taken
 returns-clause-taken g c =
@@ -29,5 +29,5 @@ returns-clause-taken g c =
       sent,
       c.in_ok-pass_on.ensures.sent,
       tc_processed settings c.args.own c.args.arrival old c.args.tc.now c.args.heading.now c.args.octets.now c.read_tc.new.topology c.pass_on.new.flood.noted sent c.judge-verdict.result.forward
-          c.in_ok-read.read c.in_ok-read.processed c.judge-verdict.result.process c.judge-verdict.ensures.process c.in_ok-read.ensures considered,
+          c.in_ok-read.read c.in_ok-read.processed c.judge-verdict.result.process c.judge-verdict.ensures.process c.in_ok-read.ensures.reads considered,
     )

@@ -6,15 +6,15 @@ use Rattle.mesh_renewal.proofs.renewal.renew.Goals as goal
 
 pub returns-clause-renews : goal.returns-clause-renews
 returns-clause-renews g c = λ before s settings_before rows_before ansn_before emptied_before settings near topology has.
-    let (self, routes) = c.in_ok-derived-2.ensures s settings near topology has.routes in
+    let (self, routes) = c.in_ok-renew-2.ensures s settings near topology has.routes in
     record {
       settings = settings ∙ sym settings_before;
       bases_are = refl;
       last = has.last;
-      relays = c.in_ok-derived.ensures s settings near (has.relays ∙ ap (λ (d : Derived). d.relays) c.take_rows.ensures.others);
-      rows = subst (λ (rows : List TcRow). AreTcRows s rows) (sym (has.rows ∙ c.take_rows.ensures.rows)) (c.in_ok-rows.ensures s settings near);
-      ansn = rw (has.rows, has.ansn, rows_before, ansn_before) c.take_rows.ensures.ansn;
-      emptied = rw (has.rows, has.emptied, has.last, rows_before, emptied_before) c.take_rows.ensures.emptied;
+      relays = c.in_ok-renew.ensures s settings near (has.relays ∙ ap (λ (d : Derived). d.relays) c.renew_rows.ensures.others);
+      rows = subst (λ (rows : List TcRow). AreTcRows s rows) (sym has.rows) (c.in_ok-renew_rows.ensures.rows s settings near);
+      ansn = rw (has.rows, has.ansn, rows_before, ansn_before) c.in_ok-renew_rows.ensures.ansn;
+      emptied = rw (has.rows, has.emptied, has.last, rows_before, emptied_before) c.in_ok-renew_rows.ensures.emptied;
       self = self;
       routes = routes;
     }

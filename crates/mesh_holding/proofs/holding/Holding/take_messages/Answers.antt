@@ -10,10 +10,11 @@ use Rattle.mesh_machine.specs.Laws.{SoundBases}
 use Rattle.mesh_machine.specs.Messages.{TakesMessage, No_messages}
 use Rattle.mesh_machine.proofs.Soundness.{messages_sound}
 use Rattle.mesh_machine.proofs.Takes.{spelled_at, takes_more}
+use Rattle.mesh_holding.proofs.Quiet.{both_true, quiet_equal, quiet_after}
 use Rattle.mesh_holding.proofs.holding.Holding.take_messages.Goals as goal
 
 pub loop-i-init : goal.loop-i-init
-loop-i-init g c = record { taken = ([], [], sym (append-nil _), sym (append-nil _), No_messages); settings = refl }
+loop-i-init g c = record { taken = ([], [], sym (append-nil _), sym (append-nil _), No_messages); settings = refl; quiet = λ quiet. quiet_equal c.args.self.now.bases c.args.self.now.bases refl refl }
 
 pub octets_of-octets-requires : goal.octets_of-octets-requires
 octets_of-octets-requires g c = (spelled_at c.args.bytes.now c.args.messages.now c.args.spans.now c.loop-i.i c.index-messages-i.result (record { start = 0; len = 0 }) c.requires.spelled
@@ -53,4 +54,7 @@ loop-i-preserved g c =
             sent more given c.in_ok-fate.fate (item_at c.args.messages.now c.loop-i.i m c.loop-i-test.true c.index-messages-i.is) within takes there,
       );
       settings = c.take_message.ensures.settings ∙ c.loop-i.invariant.settings;
+      quiet = λ quiet.
+          let (before, here) = both_true c.loop-i.quiet c.in_ok-fate.same quiet in
+          quiet_after c.args.self.now.bases c.loop-i.self.bases c.take_message.new.self.bases (c.loop-i.invariant.quiet before) (c.in_ok-fate.ensures.quiet here);
     }

@@ -7,10 +7,19 @@ use Rattle.mesh_flood.specs.Noting.{AfterNote}
 use Rattle.mesh_machine.specs.declared.frame.Frame.{Frame}
 use Rattle.mesh_machine.specs.Messages.{ConsidersForwarding, forwarding, Other_left}
 use Rattle.mesh_holding.proofs.Fates.{other_taken}
+use Rattle.mesh_holding.proofs.Quiet.{quiet_equal}
 use Rattle.mesh_holding.proofs.holding.Holding.take_other.Goals as goal
 
 pub returns-in_default-clause-taken : goal.returns-in_default-clause-taken
 returns-in_default-clause-taken g c = ([], sym (append-nil _), Other_left c.requires.no_hello c.requires.no_tc (c.in_default.ensures.none refl))
+
+pub returns-in_default-clause-quiet : goal.returns-in_default-clause-quiet
+returns-in_default-clause-quiet g c = quiet_equal c.args.self.now.bases c.args.self.now.bases refl refl
+
+pub returns-clause-quiet : goal.returns-clause-quiet
+returns-clause-quiet g c =
+    let old : Bases = record { neighbourhood = c.self.inside.nhdp.near; topology = c.self.inside.topology; noted = c.self.inside.flood.noted } in
+    rw (← c.self.view_is) (quiet_equal old (record old { noted = c.pass_on.new.flood.noted }) refl refl)
 
 pub returns-clause-taken : goal.returns-clause-taken
 returns-clause-taken g c =

@@ -1,0 +1,77 @@
+//! The routes of a router.
+ghost use Rattle.std.specs.Prelude.{◌≡◌, [], OnOk};
+ghost use Rattle.mesh_atoms.specs.declared.addr.Addr4.{Addr4};
+ghost use Rattle.mesh_atoms.specs.Routes.{AreRoutes};
+ghost use Rattle.mesh_atoms.specs.Sound.{SoundNeighbourhood, SoundTopology};
+ghost use Rattle.mesh_atoms.specs.State.{State};
+
+use crate::basis::RouteBasis;
+use mesh_atoms::RouterSettings;
+use mesh_expire::Bases;
+use mesh_nbrs::Near4;
+use mesh_routes::{RoutingSet, routes_of};
+use mesh_topo::Topology;
+use std::alloc::{AllocError, Global};
+use std::marker::Model;
+
+/// The routes of a router, and what is kept of the bases and settings of which they were made. Contracts see them as the routes.
+#[derive(Drop)]
+pub struct KeptRoutes {
+    routes: RoutingSet,
+    basis: RouteBasis,
+}
+
+impl Model for KeptRoutes {
+    ghost use Rattle.std.specs.Prelude.{List};
+    ghost use Rattle.mesh_atoms.specs.declared.graphs.Route.{Route};
+    ghost use Rattle.mesh_renewal.specs.Routing.{AreRoutesFor};
+
+    ghost Value = { List Route };
+
+    ghost view = { λ k. k.routes };
+
+    ghost invariant = { λ k. AreRoutesFor k.basis k.routes };
+}
+
+impl KeptRoutes {
+    /// No routes. Takes no memory.
+    pub(crate) fn none(alloc: Global) -> KeptRoutes
+        ensures { result ≡ [] }
+    {
+        KeptRoutes {
+            routes: RoutingSet::new(alloc),
+            basis: RouteBasis::nothing(alloc),
+        }
+    }
+
+    /// Makes them the routes of a router with these bases and settings: they are made anew where these aren't those of which they
+    /// were made, but for moments.
+    pub(crate) fn renew<N: Near4, B: Bases>(
+        &mut self,
+        alloc: Global,
+        near: &N,
+        topology: &Topology<B>,
+        settings: &RouterSettings,
+        now: u64,
+    ) -> Result<(), AllocError>
+        requires near { SoundNeighbourhood settings.now now (N.near near.now) }
+        requires topology { SoundTopology settings.now now topology.now }
+        ensures { OnOk result ((s : State) → s.settings ≡ settings.now → s.bases.neighbourhood ≡ N.near near.now → s.bases.topology ≡ topology.now
+            → s.routes ≡ self.new → (self : Addr4) × AreRoutes s now self) }
+    {
+        if self.basis.shows(near, topology, settings) {
+            return Ok(());
+        }
+        let routes = routes_of(alloc, near, topology, settings, now)?;
+        let basis = RouteBasis::of(alloc, near, topology, settings)?;
+        *self = KeptRoutes { routes, basis };
+        Ok(())
+    }
+
+    /// The routes.
+    pub fn get(&self) -> &RoutingSet
+        ensures { result.now ≡ self.now }
+    {
+        &self.routes
+    }
+}

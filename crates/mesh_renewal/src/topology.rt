@@ -1,0 +1,189 @@
+//! What is kept of a topology.
+ghost use Rattle.std.specs.Prelude.{◌≡◌, IsTrue, IfOk};
+ghost use Rattle.mesh_renewal.specs.declared.reach.Reach.{Reach};
+ghost use Rattle.mesh_renewal.specs.Topologies.{ShowsTopology};
+
+use crate::kind::{Kind, are_same, items_of};
+use crate::reach::Reach;
+use crate::same::{same_cost, same_net};
+use mesh_atoms::{
+    AddressKey, AddressTuple, NetworkKey, NetworkTuple, RouterKey, RouterTuple, Seq, host,
+};
+use mesh_expire::{Bases, Key, Table};
+use mesh_topo::Topology;
+use std::alloc::{AllocError, Global};
+use std::marker::PhantomData;
+
+/// A topology without its numbers and moments.
+#[derive(Drop)]
+pub(crate) struct TopologyImage {
+    pub(crate) routers: Seq<Reach>,
+    pub(crate) addresses: Seq<Reach>,
+    pub(crate) networks: Seq<Reach>,
+}
+
+/// A topology tuple, by what it tells.
+pub(crate) trait Tells<K>: Sized {
+    ghost reach: { K → Self → Reach };
+
+    /// What the tuple with that key tells.
+    fn reach_by(&self, key: &K) -> Reach
+        ensures { result ≡ reach key.now self.now };
+}
+
+impl Tells<RouterKey> for RouterTuple {
+    ghost use Rattle.mesh_renewal.specs.Topologies.{reach_at};
+    ghost use Rattle.mesh_atoms.specs.Base.{host};
+
+    ghost reach = { λ key tuple. reach_at key.from (host key.to) tuple.metric };
+
+    fn reach_by(&self, key: &RouterKey) -> Reach {
+        Reach {
+            from: key.from,
+            to: host(key.to),
+            metric: self.metric,
+        }
+    }
+}
+
+impl Tells<AddressKey> for AddressTuple {
+    ghost use Rattle.mesh_renewal.specs.Topologies.{reach_at};
+    ghost use Rattle.mesh_atoms.specs.Base.{host};
+
+    ghost reach = { λ key tuple. reach_at key.from (host key.addr) tuple.metric };
+
+    fn reach_by(&self, key: &AddressKey) -> Reach {
+        Reach {
+            from: key.from,
+            to: host(key.addr),
+            metric: self.metric,
+        }
+    }
+}
+
+impl Tells<NetworkKey> for NetworkTuple {
+    ghost use Rattle.mesh_renewal.specs.Topologies.{reach_at};
+
+    ghost reach = { λ key tuple. reach_at key.from key.net tuple.metric };
+
+    fn reach_by(&self, key: &NetworkKey) -> Reach {
+        Reach {
+            from: key.from,
+            to: key.net,
+            metric: self.metric,
+        }
+    }
+}
+
+// The tuples of a set of the topology.
+#[derive(Drop)]
+struct Tuples<K, V> {
+    keys: PhantomData<K>,
+    values: PhantomData<V>,
+}
+
+// Whether two tuples tell the same.
+fn is_same_reach(reach: Reach, other: Reach) -> bool
+    ensures { IsTrue result → reach ≡ other }
+{
+    same_net(reach.to, other.to)
+        && same_cost(reach.metric, other.metric)
+        && reach.from == other.from
+}
+
+impl<K: Key, V: Tells<K>, T: Table<K, V>> Kind<T, Reach> for Tuples<K, V> {
+    ghost use Rattle.std.specs.Prelude.{map};
+
+    ghost items = { λ table _. map (λ e. V.reach e.0 e.1.0) (T.content table) };
+
+    fn count(table: &T, _iface: usize) -> usize {
+        table.len()
+    }
+
+    fn is_at(table: &T, _iface: usize, place: usize, item: &Reach) -> bool {
+        match table.at(place) {
+            Some((key, tuple, _)) => is_same_reach(tuple.reach_by(key), *item),
+            None => false,
+        }
+    }
+
+    fn item_at(table: &T, _iface: usize, place: usize) -> Result<Option<Reach>, AllocError> {
+        match table.at(place) {
+            Some((key, tuple, _)) => Ok(Some(tuple.reach_by(key))),
+            None => Ok(None),
+        }
+    }
+}
+
+// The tuples of a set whose keys and records are of these types.
+fn tuples_of<K: Key, V: Tells<K>>() -> Tuples<K, V> {
+    Tuples {
+        keys: PhantomData,
+        values: PhantomData,
+    }
+}
+
+impl TopologyImage {
+    /// Nothing.
+    pub(crate) fn nothing(alloc: Global) -> TopologyImage {
+        TopologyImage {
+            routers: Seq::new(alloc),
+            addresses: Seq::new(alloc),
+            networks: Seq::new(alloc),
+        }
+    }
+
+    /// What is kept of a topology.
+    pub(crate) fn of<B: Bases>(
+        alloc: Global,
+        topology: &Topology<B>,
+    ) -> Result<TopologyImage, AllocError>
+        ensures { IfOk result (λ image. ShowsTopology image topology.now) }
+    {
+        let routers = items_of(
+            alloc,
+            topology.routers(),
+            0,
+            &tuples_of::<RouterKey, RouterTuple>(),
+        )?;
+        let addresses = items_of(
+            alloc,
+            topology.addresses(),
+            0,
+            &tuples_of::<AddressKey, AddressTuple>(),
+        )?;
+        let networks = items_of(
+            alloc,
+            topology.networks(),
+            0,
+            &tuples_of::<NetworkKey, NetworkTuple>(),
+        )?;
+        Ok(TopologyImage {
+            routers,
+            addresses,
+            networks,
+        })
+    }
+
+    /// Whether that is kept of the topology. Takes no memory, and one pass over it.
+    pub(crate) fn shows<B: Bases>(&self, topology: &Topology<B>) -> bool
+        ensures { IsTrue result → ShowsTopology self.now topology.now }
+    {
+        are_same(
+            topology.routers(),
+            0,
+            &self.routers,
+            &tuples_of::<RouterKey, RouterTuple>(),
+        ) && are_same(
+            topology.addresses(),
+            0,
+            &self.addresses,
+            &tuples_of::<AddressKey, AddressTuple>(),
+        ) && are_same(
+            topology.networks(),
+            0,
+            &self.networks,
+            &tuples_of::<NetworkKey, NetworkTuple>(),
+        )
+    }
+}
