@@ -1,7 +1,9 @@
 mod FirstLine
 mod Hex
 mod LineFeeds
+mod Listed
 mod OneText
 mod Pairs
 mod Stops
+mod Wide
 mod Written

@@ -29,3 +29,7 @@ first_passing test xs None h = sym (position_from-zero test xs ∙ from_none tes
 first_passing test xs (Some k) h =
     let same : 0 + k ≡ k = omega arith in
     sym (position_from-zero test xs ∙ from_some test 0 xs k h.0.high h.1 (λ j less is. h.0.before j (omega arith) less is) ∙ ap Some same)
+
+-- where the first octet passes
+pub first_here : (test : ℕ → Bool) (xs : List ℕ) → 0 < length xs → test (slice_index xs 0) ≡ true → position test xs ≡ Some 0
+first_here test xs some is = position_from-zero test xs ∙ from_some test 0 xs 0 some is (λ j less wrong. absurd (omega (arith, less)))

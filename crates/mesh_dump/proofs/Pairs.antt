@@ -8,6 +8,7 @@ use Rattle.std.proofs.lemmas.Nat.{le_or_l, le_or_r}
 use Rattle.hex.specs.Hex.{hex_digit_value, decode_pairs, decode_of}
 use Rattle.hex.proofs.HexLemmas.{decode_of-even}
 use Rattle.mesh_dump.specs.declared.digits.TheConstants.{HIGH, LOW}
+use Rattle.mesh_dump.specs.Pairs.{IsPair, ArePairs}
 use Rattle.mesh_report.proofs.Tables.{all_below, both, below}
 
 -- ---- the tables
@@ -26,11 +27,11 @@ all_low : all_below is_low 256 ≡ true
 unfolding is_low
 all_low = refl
 
-one_of : (a b : Bool) → a ≡ false → (a || b) ≡ true → b ≡ true
+pub one_of : (a b : Bool) → a ≡ false → (a || b) ≡ true → b ≡ true
 one_of true b e h = cc
 one_of false b e h = h
 
-same_value : (o : Option ℕ) (n : ℕ) → option_eq nat_eq o (Some n) ≡ true → o ≡ Some n
+pub same_value : (o : Option ℕ) (n : ℕ) → option_eq nat_eq o (Some n) ≡ true → o ≡ Some n
 same_value None n e = cc
 same_value (Some m) n e = ap Some (eqb-true m n e)
 
@@ -51,18 +52,6 @@ unfolding is_low
 low_most x fits = leb-true _ _ (both _ _ (below is_low 256 all_low x fits)).0
 
 -- ---- pairs
-
--- an octet is that of two digits
-pub record IsPair (high low octet : ℕ) : Type 0 where
-  pub first : ℕ
-  pub second : ℕ
-  pub first_is : hex_digit_value high ≡ Some first
-  pub second_is : hex_digit_value low ≡ Some second
-  pub octet_is : octet ≡ first * 16 + second
-
--- so are those before a place
-abbrev pub ArePairs : List ℕ → List ℕ → ℕ → Type 0
-ArePairs text octets end = (k : ℕ) → k < end → IsPair (slice_index text (2 * k)) (slice_index text (2 * k + 1)) (slice_index octets k)
 
 pub pairs_decode : (at : ℕ) (text octets : List ℕ) → length text ≡ 2 * length octets → ArePairs text octets (length octets) → decode_pairs at text ≡ Ok octets
 unfolding decode_pairs

@@ -1,4 +1,6 @@
 pub mod Dump
 pub mod Laws
 pub mod Lines
+pub mod Pairs
+pub mod Values
 pub mod Writes

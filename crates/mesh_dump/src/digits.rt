@@ -1,9 +1,10 @@
 //! Hexadecimal digits, two for each octet.
-ghost use Rattle.std.specs.Prelude.{◌≡◌, ◌*◌, ◌<◌, ◌≤◌, length, Ok, Some, IfOk, IfSome};
+ghost use Rattle.std.specs.Prelude.{◌≡◌, ◌*◌, ◌<◌, ◌≤◌, ◌/◌, length, Ok, Some, IfOk, OnOk, IsTrue};
 ghost use Rattle.std.specs.Option.{option_map};
-ghost use Rattle.hex.specs.Hex.{hex_digit_value, decode_pairs, decode_of};
+ghost use Rattle.hex.specs.Hex.{hex_digit_value, decode_pairs};
+ghost use Rattle.mesh_dump.specs.Pairs.{ArePairs, AreFirst};
 
-use mesh_atoms::Bytes;
+use crate::lanes::put_wide;
 use std::alloc::{AllocError, Global};
 
 // 16 times the value of the digit that an octet is, or 4,096.
@@ -60,14 +61,14 @@ fn low_of(octet: u8) -> u16
     LOW[usize::from(octet)]
 }
 
-// Puts the octets that pairs of digits write. Gives a number below 256 where all of them are digits.
-fn put_pairs(text: &[u8], out: &mut [u8]) -> u16
+// Puts the octets that pairs of digits write, from a place on. Gives a number below 256 where all of these are digits.
+fn put_rest(text: &[u8], out: &mut [u8], from: usize) -> u16
     requires { length text.now ≡ 2 * length out.old }
     ensures len { length out.new ≡ length out.old }
-    ensures octets { result < 256 → decode_pairs 0 text.now ≡ Ok out.new }
+    ensures octets { result < 256 → ArePairs text.now out.old from → ArePairs text.now out.new (length out.old) }
 {
     let mut all = 0;
-    for i in 0..out.len() {
+    for i in from..out.len() {
         let pair = high_of(text[2 * i]) + low_of(text[2 * i + 1]);
         all |= pair;
         out[i] = (pair % 256) as u8;
@@ -75,17 +76,48 @@ fn put_pairs(text: &[u8], out: &mut [u8]) -> u16
     all
 }
 
-/// The octets that a line writes; none where it isn't of pairs of digits.
-pub fn octets_in(alloc: Global, line: &[u8]) -> Result<Option<Bytes>, AllocError>
-    ensures { IfOk result (λ octets. IfSome octets (λ octets. decode_of line.now ≡ Ok octets)) }
+// Puts the octets that pairs of digits write. Says yes only where all of them are digits.
+fn put_pairs(text: &[u8], out: &mut [u8]) -> bool
+    requires { length text.now ≡ 2 * length out.old }
+    ensures len { length out.new ≡ length out.old }
+    ensures octets { IsTrue result → decode_pairs 0 text.now ≡ Ok out.new }
+{
+    if put_wide(text, out) {
+        let from = 16 * (out.len() / 16);
+        put_rest(text, out, from) < 256
+    } else {
+        false
+    }
+}
+
+// Room for so many octets at least.
+fn make_room(alloc: Global, frame: &mut Vec<u8>, count: usize) -> Result<(), AllocError>
+    ensures { OnOk result (count ≤ length frame.new.items) }
+{
+    if frame.len() < count {
+        *frame = vec![in alloc; 0; count]?;
+    }
+    Ok(())
+}
+
+// Puts the octets that pairs of digits write over the first ones of `frame`. Says yes only where all of them are digits.
+fn put_first(line: &[u8], frame: &mut [u8]) -> bool
+    requires even { length line.now ≡ 2 * (length line.now / 2) }
+    requires room { length line.now / 2 ≤ length frame.old }
+    ensures len { length frame.new ≡ length frame.old }
+    ensures octets { IsTrue result → AreFirst (length line.now / 2) line.now frame.new }
+{
+    put_pairs(line, &mut frame[..line.len() / 2])
+}
+
+/// Puts the octets that a line writes over the first ones of `frame`. Says yes only where it is of pairs of digits.
+pub fn put_octets(alloc: Global, frame: &mut Vec<u8>, line: &[u8]) -> Result<bool, AllocError>
+    ensures { IfOk result (λ yes. IsTrue yes → AreFirst (length line.now / 2) line.now frame.new.items) }
 {
     let count = line.len() / 2;
     if line.len() != 2 * count {
-        return Ok(None);
+        return Ok(false);
     }
-    let mut octets = vec![in alloc; 0; count]?;
-    if put_pairs(line, octets.as_mut_slice()) > 255 {
-        return Ok(None);
-    }
-    Ok(Some(Bytes::from_vec(octets)))
+    make_room(alloc, frame, count)?;
+    Ok(put_first(line, frame.as_mut_slice()))
 }

@@ -2,6 +2,7 @@
 #![tactic(auto)]
 
 mod digits;
+mod lanes;
 mod laws;
 mod lines;
 mod listing;

@@ -7,13 +7,15 @@ ghost use Rattle.mesh_atoms.specs.Reading.{IfRefused};
 ghost use Rattle.mesh_packet.specs.Least.{Wrote};
 ghost use Rattle.mesh_report.specs.Packets.{line_read, CanList, IsLineText};
 ghost use Rattle.mesh_dump.specs.Lines.{IsNotHex, FrameSays, IsListing, refusals};
+ghost use Rattle.mesh_dump.specs.Pairs.{AreFirst};
 
-use crate::digits::octets_in;
+use crate::digits::put_octets;
 use hex::FromHexError;
 use memchr::memchr;
-use mesh_atoms::{Bytes, DecodeFault, refuse};
+use mesh_atoms::reason::SHORT;
+use mesh_atoms::{Bytes, DecodeFault, Refusal, refuse};
 use mesh_packet::decode;
-use mesh_report::{LineRead, put_packet_text};
+use mesh_report::{LineRead, Room, put_line_text};
 use std::alloc::{AllocError, Global};
 
 // The rules that a text can break before it is a frame.
@@ -47,6 +49,10 @@ pub fn first_line(text: &[u8]) -> (&[u8], usize)
     ensures some { 0 < result.1 }
     ensures within { result.1 ≤ length text.now }
 {
+    // Most line feeds are far; one that is the first octet is found without a search.
+    if text[0] == b'\n' {
+        return (&text[..0], 1);
+    }
     match line_feed(text) {
         Some(end) => (without_return(&text[..end]), end + 1),
         None => (text, text.len()),
@@ -69,16 +75,20 @@ fn fault_of(text: &[u8], fault: FromHexError) -> DecodeFault
     }
 }
 
-// The octets that a line writes.
-fn octets_of(alloc: Global, line: &[u8]) -> Result<Bytes, DecodeFault>
-    ensures octets { IfOk result (λ octets. decode_of line.now ≡ Ok octets) }
+// Puts the octets that a line writes over the first ones of `frame`, and gives how many they are.
+fn fill(alloc: Global, frame: &mut Vec<u8>, line: &[u8]) -> Result<usize, DecodeFault>
+    ensures octets { IfOk result (λ count. AreFirst count line.now frame.new.items) }
     ensures refused { IfErr result (IfRefused (IsNotHex line.now)) }
 {
-    if let Some(octets) = octets_in(alloc, line)? {
-        return Ok(octets);
+    if put_octets(alloc, frame, line)? {
+        return Ok(line.len() / 2);
     }
     match hex::decode(alloc, line) {
-        Ok(octets) => Ok(Bytes::from_vec(octets)),
+        Ok(octets) => {
+            let count = octets.len();
+            *frame = octets;
+            Ok(count)
+        }
         Err(fault) => Err(fault_of(line, fault)),
     }
 }
@@ -109,6 +119,7 @@ fn refusals(read: &LineRead) -> u64
 fn put_read(
     alloc: Global,
     out: &mut Bytes,
+    room: &mut Room,
     number: u64,
     read: &LineRead,
     recode: bool,
@@ -117,28 +128,91 @@ fn put_read(
     ensures text { OnOk result (Wrote (IsLineText recode number (line_read read.now)) out.old out.new) }
     ensures refused { IfOk result (λ count. count ≡ refusals (line_read read.now)) }
 {
-    put_packet_text(alloc, out, number, read, recode)?;
+    put_line_text(alloc, out, room, number, read, recode)?;
     Ok(refusals(read))
 }
 
-/// Puts the listing of the line of this number, and gives 1 where the line is refused, else 0.
-pub fn put_line(
+/// What one line after the other is listed in: room for its octets and for its lines, and its text.
+#[derive(Drop)]
+pub struct Desk {
+    frame: Vec<u8>,
+    room: Room,
+    pub text: Bytes,
+}
+
+impl Desk {
+    /// A desk without a text.
+    pub fn new(alloc: Global) -> Desk {
+        Desk {
+            frame: Vec::new(alloc),
+            room: Room::new(),
+            text: Bytes::new(alloc),
+        }
+    }
+}
+
+// Puts the listing of a refused line, the line of this number, and gives 1.
+fn put_refused(
     alloc: Global,
-    out: &mut Bytes,
+    desk: &mut Desk,
+    number: u64,
+    refusal: Refusal,
+    recode: bool,
+) -> Result<u64, AllocError>
+    ensures text { OnOk result (Wrote (IsLineText recode number (Err refusal)) desk.old.text desk.new.text) }
+    ensures refused { IfOk result (λ count. count ≡ 1) }
+{
+    let read = LineRead::Refused(refusal);
+    put_read(
+        alloc,
+        &mut desk.text,
+        &mut desk.room,
+        number,
+        &read,
+        recode,
+    )
+}
+
+// Puts the listing of a line that isn't empty.
+fn put_full_line(
+    alloc: Global,
+    desk: &mut Desk,
     number: u64,
     line: &[u8],
     recode: bool,
 ) -> Result<u64, AllocError>
-    ensures { IfOk result (λ count. Wrote (IsListing recode number line.now count) out.old out.new) }
+    ensures { IfOk result (λ count. Wrote (IsListing recode number line.now count) desk.old.text desk.new.text) }
 {
-    match octets_of(alloc, line) {
-        Ok(octets) => {
-            let read = read_frame(alloc, octets.as_slice())?;
-            put_read(alloc, out, number, &read, recode)
+    match fill(alloc, &mut desk.frame, line) {
+        Ok(count) => {
+            let read = read_frame(alloc, &desk.frame.as_slice()[..count])?;
+            put_read(
+                alloc,
+                &mut desk.text,
+                &mut desk.room,
+                number,
+                &read,
+                recode,
+            )
         }
-        Err(DecodeFault::Refused(refusal)) => {
-            put_read(alloc, out, number, &LineRead::Refused(refusal), recode)
-        }
+        Err(DecodeFault::Refused(refusal)) => put_refused(alloc, desk, number, refusal, recode),
         Err(DecodeFault::Memory(e)) => Err(e),
     }
+}
+
+/// Puts the listing of the line of this number, and gives 1 where the line is refused, else 0. An empty line is not read: no
+/// octet stands where a packet begins.
+pub fn put_line(
+    alloc: Global,
+    desk: &mut Desk,
+    number: u64,
+    line: &[u8],
+    recode: bool,
+) -> Result<u64, AllocError>
+    ensures { IfOk result (λ count. Wrote (IsListing recode number line.now count) desk.old.text desk.new.text) }
+{
+    if line.is_empty() {
+        return put_refused(alloc, desk, number, refuse(0, SHORT), recode);
+    }
+    put_full_line(alloc, desk, number, line, recode)
 }

@@ -7,7 +7,7 @@ ghost use Rattle.mesh_dump.specs.Dump.{IsLinesText, IsDumpText, IsDumpFront, IsF
 ghost use Rattle.mesh_dump.specs.Lines.{IsListing};
 ghost use Rattle.mesh_dump.specs.Writes.{Writes};
 
-use crate::lines::{first_line, put_line};
+use crate::lines::{Desk, first_line, put_line};
 use mesh_atoms::{Bytes, put_decimal};
 use mesh_io::{Sink, Stop, write_all};
 use std::alloc::{AllocError, Global};
@@ -41,11 +41,11 @@ fn write_total<O: Sink>(part: &mut Bytes, counts: Counts, out: &mut O) -> Result
     Ok(())
 }
 
-// Writes the listing of the line of this number, by one write, and gives 1 where the line is refused, else 0. What `part` holds
-// is lost.
+// Writes the listing of the line of this number, by one write, and gives 1 where the line is refused, else 0. The text of
+// `desk` is lost.
 fn write_line<O: Sink>(
     alloc: Global,
-    part: &mut Bytes,
+    desk: &mut Desk,
     number: u64,
     line: &[u8],
     recode: bool,
@@ -55,16 +55,16 @@ fn write_line<O: Sink>(
         (λ text. text ≡ []) (O.content out.old) (O.content out.new) (O.faults out.old) (O.faults out.new) result }
     ensures later { O.faults out.old ≤ O.faults out.new }
 {
-    part.clear();
-    let refused = put_line(alloc, part, number, line, recode)?;
-    write_all(out, part.as_slice())?;
+    desk.text.clear();
+    let refused = put_line(alloc, desk, number, line, recode)?;
+    write_all(out, desk.text.as_slice())?;
     Ok(refused)
 }
 
-// Writes the listing of each line of the input, and counts. What `part` holds is lost.
+// Writes the listing of each line of the input, and counts. The text of `desk` is lost.
 fn write_lines<O: Sink>(
     alloc: Global,
-    part: &mut Bytes,
+    desk: &mut Desk,
     input: &[u8],
     recode: bool,
     out: &mut O,
@@ -80,7 +80,7 @@ fn write_lines<O: Sink>(
     'lines: while at < input.len() {
         let (line, used) = first_line(&input[at..]);
         number += 1;
-        refused += write_line(alloc, part, number, line, recode, out)?;
+        refused += write_line(alloc, desk, number, line, recode, out)?;
         at += used;
     }
     Ok(Counts {
@@ -105,8 +105,8 @@ pub fn dump<O: Sink>(alloc: Global, input: &[u8], recode: bool, out: &mut O) -> 
         × Appends (O.content out.old) (O.content out.new) text }
     ensures later { O.faults out.old ≤ O.faults out.new }
 {
-    let mut part = Bytes::new(alloc);
-    let counts = write_lines(alloc, &mut part, input, recode, out)?;
-    write_total(&mut part, counts, out)?;
+    let mut desk = Desk::new(alloc);
+    let counts = write_lines(alloc, &mut desk, input, recode, out)?;
+    write_total(&mut desk.text, counts, out)?;
     Ok(counts.refused)
 }

@@ -10,12 +10,19 @@ pub ruleset decimals = room_u64
 pub one_digit : (n : ℕ) → n ≤ 9 → length (decimal n) ≡ 1
 one_digit n h = ap length (decimal_digit n (omega arith))
 
-pub one_digit_more : (n : ℕ) → 9 < n → n < 2 ^ 64 → length (decimal n) ≡ length (decimal (n / 10)) + 1
-one_digit_more n more fits = ap length (decimal_step n more fits) ∙ length-append (decimal (n / 10)) ((48 + n % 10) ∷ [])
-
 pub two_digits : (n : ℕ) → 10 ≤ n → n < 100 → decimal n ≡ (48 + n / 10) ∷ ((48 + n % 10) ∷ [])
 two_digits n least most = decimal_step n (omega (arith, least)) (omega (arith, most)) ∙ ap (λ (l : List ℕ). l ++ (48 + n % 10) ∷ []) (decimal_digit (n / 10) (omega (arith, most)))
 
-pub two_more : (n : ℕ) (front first both : List ℕ) → 10 ≤ n → n < 100 → first ≡ front ++ (48 + n / 10) ∷ [] → both ≡ first ++ (48 + n % 10) ∷ [] → both ≡ front ++ decimal n
-two_more n front first both least most one two =
-    two ∙ ap (λ (l : List ℕ). l ++ (48 + n % 10) ∷ []) one ∙ append_assoc front ((48 + n / 10) ∷ []) ((48 + n % 10) ∷ []) ∙ ap (λ (l : List ℕ). front ++ l) (sym (two_digits n least most))
+pub two_last : (n : ℕ) → 99 < n → n < 2 ^ 64 → decimal n ≡ decimal (n / 100) ++ ((48 + n % 100 / 10) ∷ ((48 + n % 100 % 10) ∷ []))
+two_last n more fits =
+    let step = decimal_step n (omega (arith, more)) fits in
+    let next = decimal_step (n / 10) (omega (arith, more)) (omega (arith, fits)) in
+    let front : n / 10 / 10 ≡ n / 100 = omega arith in
+    let first : n / 10 % 10 ≡ n % 100 / 10 = omega arith in
+    let second : n % 10 ≡ n % 100 % 10 = omega arith in
+    step ∙ ap (λ (l : List ℕ). l ++ (48 + n % 10) ∷ []) next ∙ append_assoc (decimal (n / 10 / 10)) ((48 + n / 10 % 10) ∷ []) ((48 + n % 10) ∷ [])
+    ∙ ap (λ (k : ℕ). decimal k ++ ((48 + n / 10 % 10) ∷ ((48 + n % 10) ∷ []))) front ∙ ap (λ (k : ℕ). decimal (n / 100) ++ ((48 + k) ∷ ((48 + n % 10) ∷ []))) first
+    ∙ ap (λ (k : ℕ). decimal (n / 100) ++ ((48 + n % 100 / 10) ∷ ((48 + k) ∷ []))) second
+
+pub two_longer : (n : ℕ) → 99 < n → n < 2 ^ 64 → length (decimal n) ≡ length (decimal (n / 100)) + 2
+two_longer n more fits = ap length (two_last n more fits) ∙ length-append (decimal (n / 100)) ((48 + n % 100 / 10) ∷ ((48 + n % 100 % 10) ∷ []))

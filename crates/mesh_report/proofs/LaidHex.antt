@@ -1,10 +1,13 @@
 -- Octets laid in hexadecimal digits, one by one.
-use Rattle.std.proofs.Common.{◌≡◌, ℕ, suc, ◌+◌, ◌*◌, ◌/◌, ◌%◌, ◌<◌, inl, inr, List, [], ◌∷◌, length, refl, sym, ap, subst, ◌∙◌, arith}
+use Rattle.std.proofs.Common.{◌≡◌, ℕ, suc, ◌+◌, ◌-◌, ◌*◌, ◌/◌, ◌%◌, ◌<◌, ◌≤◌, inl, inr, List, [], ◌∷◌, length, refl, sym, ap, subst, ◌∙◌, arith}
 use Rattle.std.specs.Prelude.{Bool, true, ◌&&◌, nat_eq, slice_index, slice_set}
-use Rattle.std.proofs.lemmas.Bool.{cases_eq, eqb-true}
+use Rattle.std.specs.Simd.Lanes.{put_chunk}
+use Rattle.std.proofs.lemmas.Bool.{cases_eq, cases_lt, eqb-true}
+use Rattle.std.proofs.lemmas.Simd.{get_or-put_chunk_below, get_or-put_chunk_at}
 use Rattle.std.proofs.lemmas.List.{get_or-set_same, get_or-set_other, length-set}
 use Rattle.hex.specs.Hex.{lower_digits, encode_with}
 use Rattle.mesh_report.specs.declared.hexadecimal.TheConstants.{DIGITS}
+use Rattle.mesh_report.specs.Digits.{HasDigits, AreDigits}
 use Rattle.mesh_report.proofs.Tables.{all_below, both, below}
 
 digit : ℕ → ℕ
@@ -24,14 +27,6 @@ first_is x fits = eqb-true _ _ (both _ _ (below is_pair 256 all_pairs x fits)).0
 pub second_is : (x : ℕ) → x < 256 → slice_index DIGITS x / 256 ≡ slice_index lower_digits (x % 16)
 unfolding is_pair digit
 second_is x fits = eqb-true _ _ (both _ _ (below is_pair 256 all_pairs x fits)).1
-
--- the digits of an octet stand at two places
-abbrev pub HasDigits : ℕ → ℕ → ℕ → Type 0
-HasDigits octet first second = (first ≡ slice_index lower_digits (octet / 16)) × (second ≡ slice_index lower_digits (octet % 16))
-
--- so do those of the octets before a place
-abbrev pub AreDigits : List ℕ → List ℕ → ℕ → Type 0
-AreDigits octets text end = (k : ℕ) → k < end → HasDigits (slice_index octets k) (slice_index text (2 * k)) (slice_index text (2 * k + 1))
 
 pub one_more : (octets text : List ℕ) (i a b : ℕ) → 2 * i + 1 < length text → AreDigits octets text i → HasDigits (slice_index octets i) a b → AreDigits octets (slice_set (slice_set text (2 * i) a) (2 * i + 1) b) (i + 1)
 one_more octets text i a b room before is k lt =
@@ -67,3 +62,28 @@ digits_all (o ∷ octets) (c ∷ d ∷ text) size are =
     (subst (λ (n : ℕ). HasDigits (slice_index octets k) (slice_index (c ∷ d ∷ text) n) (slice_index (c ∷ d ∷ text) (2 * suc k + 1))) one (are (suc k) (omega (arith, lt)))) in
     ap (λ (n : ℕ). n ∷ d ∷ text) first ∙ ap (λ (n : ℕ). slice_index lower_digits (o / 16) ∷ n ∷ text) second
     ∙ ap (λ (l : List ℕ). slice_index lower_digits (o / 16) ∷ slice_index lower_digits (o % 16) ∷ l) (digits_all octets text (omega (arith, size)) rest)
+
+-- 16 octets more
+pub sixteen_more : (octets text v digits : List ℕ) (i : ℕ) → 32 * i + 32 ≤ length text → length digits ≡ 32 → ((k : ℕ) → k < 16 → slice_index v k ≡ slice_index octets (16 * i + k))
+    → ((k : ℕ) → k < 16 → HasDigits (slice_index v k) (slice_index digits (2 * k)) (slice_index digits (2 * k + 1))) → AreDigits octets text (16 * i) → AreDigits octets (put_chunk (32 * i) text digits) (16 * (i + 1))
+sixteen_more octets text v digits i room len is are before j lt =
+    elim (cases_lt j (16 * i)) [
+      | inl less ↦
+          let p = before j less in
+          let first : slice_index (put_chunk (32 * i) text digits) (2 * j) ≡ slice_index text (2 * j) = get_or-put_chunk_below (32 * i) text digits (2 * j) 0 (omega (arith, less)) in
+          let second : slice_index (put_chunk (32 * i) text digits) (2 * j + 1) ≡ slice_index text (2 * j + 1) = get_or-put_chunk_below (32 * i) text digits (2 * j + 1) 0 (omega (arith, less)) in
+          (first ∙ p.0, second ∙ p.1)
+      | inr more ↦
+          let k : ℕ = j - 16 * i in
+          let small : k < 16 = omega (arith, more, lt) in
+          let here : 16 * i + k ≡ j = omega (arith, more) in
+          let at : 32 * i + 2 * k ≡ 2 * j = omega (arith, more) in
+          let next : 32 * i + (2 * k + 1) ≡ 2 * j + 1 = omega (arith, more) in
+          let p = are k small in
+          let first : slice_index (put_chunk (32 * i) text digits) (32 * i + 2 * k) ≡ slice_index digits (2 * k) = get_or-put_chunk_at (32 * i) text digits (2 * k) 0 (omega (arith, small, len)) (omega (arith, room, len)) in
+          let second : slice_index (put_chunk (32 * i) text digits) (32 * i + (2 * k + 1)) ≡ slice_index digits (2 * k + 1) = get_or-put_chunk_at (32 * i) text digits (2 * k + 1) 0 (omega (arith, small, len)) (omega (arith, room, len)) in
+          let octet : slice_index v k ≡ slice_index octets j = is k small ∙ ap (λ (n : ℕ). slice_index octets n) here in (
+            subst (λ (n : ℕ). slice_index (put_chunk (32 * i) text digits) n ≡ slice_index lower_digits (slice_index octets j / 16)) at (first ∙ p.0 ∙ ap (λ (o : ℕ). slice_index lower_digits (o / 16)) octet),
+            subst (λ (n : ℕ). slice_index (put_chunk (32 * i) text digits) n ≡ slice_index lower_digits (slice_index octets j % 16)) next (second ∙ p.1 ∙ ap (λ (o : ℕ). slice_index lower_digits (o % 16)) octet),
+          )
+    ]

@@ -5,3 +5,5 @@ mod Messages
 pub mod OneListing
 mod LaidHex
 pub mod Tables
+mod Turns
+pub mod Vectors

@@ -1,3 +1,5 @@
+pub mod Digits
+pub mod Lanes
 pub mod Laws
 pub mod Lines
 pub mod Packets

@@ -1,6 +1,9 @@
 //! Octets in hexadecimal digits, two for each.
 ghost use Rattle.std.specs.Prelude.{◌≡◌, ◌*◌, ◌/◌, ◌%◌, length, slice_index};
 ghost use Rattle.hex.specs.Hex.{lower_digits, encode_lower};
+ghost use Rattle.mesh_report.specs.Digits.{AreDigits};
+
+use crate::lanes::lay_wide;
 
 // The two digits of each octet, the second one 256 times.
 const DIGITS: [u16; 256] = [
@@ -27,6 +30,7 @@ const DIGITS: [u16; 256] = [
 ];
 
 // The two digits of an octet, the second one 256 times.
+#[inline(always)]
 fn digits_of(octet: u8) -> u16
     ensures first { result % 256 ≡ slice_index lower_digits (octet / 16) }
     ensures second { result / 256 ≡ slice_index lower_digits (octet % 16) }
@@ -34,14 +38,26 @@ fn digits_of(octet: u8) -> u16
     DIGITS[usize::from(octet)]
 }
 
-/// Lays octets in lower-case hexadecimal digits over a text of that length.
-pub(crate) fn lay_hex(octets: &[u8], out: &mut [u8])
+// Lays the digits of the octets from a place on over a text of that length.
+#[inline(always)]
+fn lay_rest(octets: &[u8], out: &mut [u8], from: usize)
     requires { length out.old ≡ 2 * length octets.now }
-    ensures { out.new ≡ encode_lower octets.now }
+    ensures len { length out.new ≡ length out.old }
+    ensures digits { AreDigits octets.now out.old from → AreDigits octets.now out.new (length octets.now) }
 {
-    for i in 0..octets.len() {
+    for i in from..octets.len() {
         let digits = digits_of(octets[i]);
         out[2 * i] = (digits % 256) as u8;
         out[2 * i + 1] = (digits / 256) as u8;
     }
+}
+
+/// Lays octets in lower-case hexadecimal digits over a text of that length.
+#[inline(always)]
+pub(crate) fn lay_hex(octets: &[u8], out: &mut [u8])
+    requires { length out.old ≡ 2 * length octets.now }
+    ensures { out.new ≡ encode_lower octets.now }
+{
+    lay_wide(octets, out);
+    lay_rest(octets, out, 16 * (octets.len() / 16));
 }

@@ -2,6 +2,7 @@
 #![tactic(auto)]
 
 mod hexadecimal;
+mod lanes;
 mod laws;
 mod lines;
 mod packet;
@@ -10,4 +11,4 @@ mod pieces;
 mod reading;
 
 pub use laws::one_listing;
-pub use packet::{LineRead, packet_text, put_packet_text};
+pub use packet::{LineRead, Room, packet_text, put_line_text, put_packet_text};

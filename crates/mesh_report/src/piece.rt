@@ -1,14 +1,14 @@
 //! A short text, made whole before it is put behind other octets.
-ghost use Rattle.std.specs.Prelude.{◌≡◌, ◌++◌, ◌+◌, ◌*◌, ◌≤◌, ◌<◌, [], ◌∷◌, length, decimal};
+ghost use Rattle.std.specs.Prelude.{◌≡◌, ◌++◌, ◌+◌, ◌*◌, ◌/◌, ◌%◌, ◌≤◌, ◌<◌, [], ◌∷◌, length, decimal};
 ghost use Rattle.hex.specs.Hex.{encode_lower};
 
 use crate::hexadecimal::lay_hex;
 use std::marker::Model;
 
-/// A text of at most 320 octets. Contracts see it as the list.
+/// A text of at most 4,096 octets. Contracts see it as the list.
 #[derive(Drop)]
 pub(crate) struct Piece {
-    octets: [u8; 320],
+    octets: [u8; 4096],
     len: usize,
 }
 
@@ -19,7 +19,7 @@ impl Model for Piece {
 
     ghost view = { λ p. take p.len p.octets };
 
-    ghost invariant = { λ p. p.len ≤ 320 };
+    ghost invariant = { λ p. p.len ≤ 4096 };
 }
 
 impl Piece {
@@ -28,7 +28,7 @@ impl Piece {
         ensures { result ≡ [] }
     {
         Piece {
-            octets: [0; 320],
+            octets: [0; 4096],
             len: 0,
         }
     }
@@ -41,6 +41,7 @@ impl Piece {
     }
 
     /// How many octets there are.
+    #[inline(always)]
     pub(crate) fn len(&self) -> usize
         ensures { result ≡ length self.now }
     {
@@ -55,8 +56,9 @@ impl Piece {
     }
 
     /// Puts octets.
+    #[inline(always)]
     pub(crate) fn put(&mut self, octets: &[u8])
-        requires { length self.old + length octets.now ≤ 320 }
+        requires { length self.old + length octets.now ≤ 4096 }
         ensures text { self.new ≡ self.old ++ octets.now }
         ensures len { length self.new ≡ length self.old + length octets.now }
     {
@@ -65,9 +67,20 @@ impl Piece {
         self.len = end;
     }
 
+    /// Puts a text of known length.
+    #[inline(always)]
+    pub(crate) fn put_text<const N: usize>(&mut self, text: [u8; N])
+        requires { length self.old + N ≤ 4096 }
+        ensures text { self.new ≡ self.old ++ text.entry }
+        ensures len { length self.new ≡ length self.old + N }
+    {
+        self.put(&text);
+    }
+
     /// Puts octets in lower-case hexadecimal digits.
+    #[inline(always)]
     pub(crate) fn put_hex(&mut self, octets: &[u8])
-        requires { length self.old + 2 * length octets.now ≤ 320 }
+        requires { length self.old + 2 * length octets.now ≤ 4096 }
         ensures text { self.new ≡ self.old ++ encode_lower octets.now }
         ensures len { length self.new ≡ length self.old + 2 * length octets.now }
     {
@@ -77,48 +90,81 @@ impl Piece {
     }
 
     // Puts an octet.
+    #[inline(always)]
     fn push(&mut self, octet: u8)
-        requires { length self.old < 320 }
+        requires { length self.old < 4096 }
         ensures { self.new ≡ self.old ++ octet ∷ [] }
     {
         self.octets[self.len] = octet;
         self.len += 1;
     }
 
-    // Puts a number in decimal digits.
-    fn put_digits(&mut self, number: u64)
-        requires { length self.old + length (decimal number) ≤ 320 }
-        ensures text { self.new ≡ self.old ++ decimal number }
-        ensures len { length self.new ≡ length self.old + length (decimal number) }
-    {
-        if number > 9 {
-            self.put_digits(number / 10);
-        }
-        self.push(b'0' + (number % 10) as u8);
-    }
-
-    // Puts a number of two digits.
-    fn put_two(&mut self, number: u8)
-        requires room { length self.old + 2 ≤ 320 }
-        requires least { 10 ≤ number }
+    // Puts the last two digits of a number, by the number that they write.
+    #[inline(always)]
+    fn put_pair(&mut self, number: u8)
+        requires room { length self.old + 2 ≤ 4096 }
         requires most { number < 100 }
-        ensures { self.new ≡ self.old ++ decimal number }
+        ensures { self.new ≡ self.old ++ ((48 + number / 10) ∷ ((48 + number % 10) ∷ [])) }
     {
         self.push(b'0' + number / 10);
         self.push(b'0' + number % 10);
     }
 
+    // Puts a number of one or two digits.
+    #[inline(always)]
+    fn put_small(&mut self, number: u8)
+        requires room { length self.old + length (decimal number) ≤ 4096 }
+        requires most { number < 100 }
+        ensures text { self.new ≡ self.old ++ decimal number }
+        ensures len { length self.new ≡ length self.old + length (decimal number) }
+    {
+        if number < 10 {
+            self.push(b'0' + number);
+        } else {
+            self.put_pair(number);
+        }
+    }
+
+    // Puts a number of four digits at most.
+    #[inline(always)]
+    fn put_few(&mut self, number: u64)
+        requires room { length self.old + length (decimal number) ≤ 4096 }
+        requires most { number < 10000 }
+        ensures text { self.new ≡ self.old ++ decimal number }
+        ensures len { length self.new ≡ length self.old + length (decimal number) }
+    {
+        if number > 99 {
+            self.put_small((number / 100) as u8);
+            self.put_pair((number % 100) as u8);
+        } else {
+            self.put_small(number as u8);
+        }
+    }
+
+    // Puts a number in decimal digits.
+    fn put_digits(&mut self, number: u64)
+        requires { length self.old + length (decimal number) ≤ 4096 }
+        ensures text { self.new ≡ self.old ++ decimal number }
+        ensures len { length self.new ≡ length self.old + length (decimal number) }
+    {
+        if number > 9999 {
+            self.put_digits(number / 100);
+            self.put_pair((number % 100) as u8);
+        } else {
+            self.put_few(number);
+        }
+    }
+
     /// Puts a number in decimal digits.
     #[tactic(auto, using(crate::proofs::Decimals::decimals))]
+    #[inline(always)]
     pub(crate) fn put_number(&mut self, number: u64)
-        requires { length self.old + 20 ≤ 320 }
+        requires { length self.old + 20 ≤ 4096 }
         ensures text { self.new ≡ self.old ++ decimal number }
         ensures len { length self.new ≤ length self.old + 20 }
     {
-        if number < 10 {
-            self.push(b'0' + number as u8);
-        } else if number < 100 {
-            self.put_two(number as u8);
+        if number < 100 {
+            self.put_small(number as u8);
         } else {
             self.put_digits(number);
         }

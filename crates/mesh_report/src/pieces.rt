@@ -1,5 +1,5 @@
 //! The pieces that lines are made of.
-ghost use Rattle.std.specs.Prelude.{◌≡◌, ◌++◌, ◌+◌, ◌≤◌, ◌==◌, if◌then◌else◌, length, codes, take, OnOk};
+ghost use Rattle.std.specs.Prelude.{◌≡◌, ◌++◌, [], ◌+◌, ◌≤◌, ◌==◌, if◌then◌else◌, length, codes, take, OnOk};
 ghost use Rattle.std.specs.Option.{option_copied};
 ghost use Rattle.hex.specs.Hex.{encode_lower};
 ghost use Rattle.mesh_tlv.specs.Least.{Grows};
@@ -10,36 +10,55 @@ use mesh_addr::RawAddr;
 use mesh_atoms::{Addr4, Bytes};
 use std::alloc::AllocError;
 
-/// Puts octets behind others.
-pub fn put(out: &mut Bytes, octets: &[u8]) -> Result<(), AllocError>
-    ensures ok { OnOk result (out.new ≡ out.old ++ octets.now) }
+/// Puts what `line` holds behind others.
+#[inline(never)]
+pub fn put_held(out: &mut Bytes, line: &mut Piece) -> Result<(), AllocError>
+    ensures ok { OnOk result (out.new ≡ out.old ++ line.old) }
+    ensures none { OnOk result (line.new ≡ []) }
     ensures kept { Grows out.old out.new }
 {
-    out.append(octets)
+    out.append(line.as_slice())?;
+    line.clear();
+    Ok(())
+}
+
+/// Puts what `line` holds behind others, where it has no room for 320 octets more.
+#[inline(always)]
+pub fn make_room(out: &mut Bytes, line: &mut Piece) -> Result<(), AllocError>
+    ensures room { OnOk result (length line.new ≤ 3776) }
+    ensures ok { OnOk result (out.new ++ line.new ≡ out.old ++ line.old) }
+    ensures kept { Grows out.old out.new }
+{
+    if line.len() > 3776 {
+        put_held(out, line)?;
+    }
+    Ok(())
 }
 
 /// Puts a label, and a number in decimal digits.
 #[tactic(auto, unfolding(crate::specs::Pieces::numbered))]
-pub fn put_numbered(line: &mut Piece, label: &[u8], number: u64)
-    requires { length line.old + (length label.now + 20) ≤ 320 }
-    ensures text { line.new ≡ line.old ++ numbered label.now number }
-    ensures len { length line.new ≤ length line.old + (length label.now + 20) }
+#[inline(always)]
+pub fn put_numbered<const N: usize>(line: &mut Piece, label: [u8; N], number: u64)
+    requires { length line.old + (N + 20) ≤ 4096 }
+    ensures text { line.new ≡ line.old ++ numbered label.entry number }
+    ensures len { length line.new ≤ length line.old + (N + 20) }
 {
-    line.put(label);
+    line.put_text(label);
     line.put_number(number);
 }
 
 /// Puts a label, and a number that may be absent.
 #[tactic(auto, unfolding(crate::specs::Pieces::numbered_or_none))]
-pub fn put_number_or_none(line: &mut Piece, label: &[u8], number: Option<u64>)
-    requires { length line.old + (length label.now + 20) ≤ 320 }
-    ensures text { line.new ≡ line.old ++ numbered_or_none label.now number }
-    ensures len { length line.new ≤ length line.old + (length label.now + 20) }
+#[inline(always)]
+pub fn put_number_or_none<const N: usize>(line: &mut Piece, label: [u8; N], number: Option<u64>)
+    requires { length line.old + (N + 20) ≤ 4096 }
+    ensures text { line.new ≡ line.old ++ numbered_or_none label.entry number }
+    ensures len { length line.new ≤ length line.old + (N + 20) }
 {
-    line.put(label);
+    line.put_text(label);
     match number {
         Some(number) => line.put_number(number),
-        None => line.put(b"none"),
+        None => line.put_text(*b"none"),
     }
 }
 
@@ -57,26 +76,29 @@ pub fn wide_short(number: Option<u16>) -> Option<u64>
     number.map(u64::from)
 }
 
-/// Puts up to 128 octets in lower-case hexadecimal digits behind others.
-fn put_piece(out: &mut Bytes, octets: &[u8]) -> Result<(), AllocError>
+// Puts up to 128 octets in lower-case hexadecimal digits behind what `line` holds.
+fn put_some_hex(out: &mut Bytes, line: &mut Piece, octets: &[u8]) -> Result<(), AllocError>
     requires { length octets.now ≤ 128 }
-    ensures ok { OnOk result (out.new ≡ out.old ++ encode_lower octets.now) }
+    ensures ok { OnOk result (out.new ++ line.new ≡ (out.old ++ line.old) ++ encode_lower octets.now) }
+    ensures len { OnOk result (length line.new ≤ 4032) }
     ensures kept { Grows out.old out.new }
 {
-    let mut text = Piece::new();
-    text.put_hex(octets);
-    put(out, text.as_slice())
+    make_room(out, line)?;
+    line.put_hex(octets);
+    Ok(())
 }
 
-/// Puts octets in lower-case hexadecimal digits behind others.
-pub fn put_hex(out: &mut Bytes, octets: &[u8]) -> Result<(), AllocError>
-    ensures ok { OnOk result (out.new ≡ out.old ++ encode_lower octets.now) }
+/// Puts octets in lower-case hexadecimal digits behind what `line` holds, which is put behind others where it is long.
+pub fn put_hex(out: &mut Bytes, line: &mut Piece, octets: &[u8]) -> Result<(), AllocError>
+    requires { length line.old ≤ 4032 }
+    ensures ok { OnOk result (out.new ++ line.new ≡ (out.old ++ line.old) ++ encode_lower octets.now) }
+    ensures len { OnOk result (length line.new ≤ 4032) }
     ensures kept { Grows out.old out.new }
 {
     let mut at = 0;
     while at < octets.len() {
         let size = usize::min(128, octets.len() - at);
-        put_piece(out, &octets[at..at + size])?;
+        put_some_hex(out, line, &octets[at..at + size])?;
         at += size;
     }
     Ok(())
@@ -84,96 +106,92 @@ pub fn put_hex(out: &mut Bytes, octets: &[u8]) -> Result<(), AllocError>
 
 /// Puts a label, and the octets of an address of that width.
 #[tactic(auto, unfolding(crate::specs::Pieces::addressed))]
-pub fn put_address(line: &mut Piece, label: &[u8], width: u8, addr: RawAddr)
-    requires { length line.old + (length label.now + 32) ≤ 320 }
-    ensures text { line.new ≡ line.old ++ addressed label.now width addr }
-    ensures len { length line.new ≤ length line.old + (length label.now + 32) }
+#[inline(always)]
+pub fn put_address<const N: usize>(line: &mut Piece, label: [u8; N], width: u8, addr: &RawAddr)
+    requires { length line.old + (N + 32) ≤ 4096 }
+    ensures text { line.new ≡ line.old ++ addressed label.entry width addr.now }
+    ensures len { length line.new ≤ length line.old + (N + 32) }
 {
-    line.put(label);
-    line.put_hex(&addr.octets[..usize::min(16, usize::from(width))]);
+    line.put_text(label);
+    // Four octets have a way of their own, which has no loop.
+    if width == 4 {
+        line.put_hex(&addr.octets[..4]);
+    } else {
+        line.put_hex(&addr.octets[..usize::min(16, usize::from(width))]);
+    }
 }
 
 /// Puts a label, and an address of that width that may be absent.
 #[tactic(auto, unfolding(crate::specs::Pieces::addressed_or_none))]
-pub fn put_address_or_none(line: &mut Piece, label: &[u8], width: u8, addr: Option<RawAddr>)
-    requires { length line.old + (length label.now + 32) ≤ 320 }
-    ensures text { line.new ≡ line.old ++ addressed_or_none label.now width addr }
-    ensures len { length line.new ≤ length line.old + (length label.now + 32) }
+pub fn put_address_or_none<const N: usize>(line: &mut Piece, label: [u8; N], width: u8, addr: Option<RawAddr>)
+    requires { length line.old + (N + 32) ≤ 4096 }
+    ensures text { line.new ≡ line.old ++ addressed_or_none label.entry width addr }
+    ensures len { length line.new ≤ length line.old + (N + 32) }
 {
     match addr {
-        Some(addr) => put_address(line, label, width, addr),
+        Some(addr) => put_address(line, label, width, &addr),
         None => {
-            line.put(label);
-            line.put(b"none");
+            line.put_text(label);
+            line.put_text(*b"none");
         }
     }
 }
 
 /// Puts a label, and the four octets of a router's address.
 #[tactic(auto, unfolding(crate::specs::Pieces::addressed_by_number))]
-pub fn put_router(line: &mut Piece, label: &[u8], addr: Addr4)
-    requires { length line.old + (length label.now + 8) ≤ 320 }
-    ensures text { line.new ≡ line.old ++ addressed_by_number label.now addr }
-    ensures len { length line.new ≤ length line.old + (length label.now + 8) }
+pub fn put_router<const N: usize>(line: &mut Piece, label: [u8; N], addr: Addr4)
+    requires { length line.old + (N + 8) ≤ 4096 }
+    ensures text { line.new ≡ line.old ++ addressed_by_number label.entry addr }
+    ensures len { length line.new ≤ length line.old + (N + 8) }
 {
-    line.put(label);
+    line.put_text(label);
     line.put_hex(&addr.0.to_be_bytes());
 }
 
-/// Puts a line and the octets of a TLV's value, and ends the line.
-fn put_octets_end(out: &mut Bytes, line: &mut Piece, octets: &[u8]) -> Result<(), AllocError>
-    requires { length line.old ≤ 160 }
-    ensures ok { OnOk result (out.new ≡ out.old ++ (line.old ++ ((if length octets.now == 0 then codes "empty" else encode_lower octets.now) ++ codes "\n"))) }
+// Puts the octets of a TLV's value.
+fn put_octets(out: &mut Bytes, line: &mut Piece, octets: &[u8]) -> Result<(), AllocError>
+    requires { length line.old ≤ 3972 }
+    ensures ok { OnOk result (out.new ++ line.new ≡ (out.old ++ line.old) ++ (if length octets.now == 0 then codes "empty" else encode_lower octets.now)) }
+    ensures len { OnOk result (length line.new ≤ 4032) }
     ensures kept { Grows out.old out.new }
 {
-    if octets.len() > 64 {
-        put(out, line.as_slice())?;
-        put_hex(out, octets)?;
-        return put(out, b"\n");
-    }
     if octets.is_empty() {
-        line.put(b"empty");
-    } else {
-        line.put_hex(octets);
+        line.put_text(*b"empty");
+        return Ok(());
     }
-    line.put(b"\n");
-    put(out, line.as_slice())
+    put_hex(out, line, octets)
 }
 
-/// Puts a line, a label and the value of a TLV, and ends the line.
+/// Puts a label and the value of a TLV.
 #[tactic(auto, unfolding(crate::specs::Pieces::valued))]
-pub fn put_value_end(
-    out: &mut Bytes,
-    line: &mut Piece,
-    value: Option<&[u8]>,
-) -> Result<(), AllocError>
-    requires { length line.old ≤ 150 }
-    ensures ok { OnOk result (out.new ≡ out.old ++ (line.old ++ (valued (codes " value ") (option_copied value.entry) ++ codes "\n"))) }
+pub fn put_value(out: &mut Bytes, line: &mut Piece, value: Option<&[u8]>) -> Result<(), AllocError>
+    requires { length line.old ≤ 3962 }
+    ensures ok { OnOk result (out.new ++ line.new ≡ (out.old ++ line.old) ++ valued (codes " value ") (option_copied value.entry)) }
+    ensures len { OnOk result (length line.new ≤ 4032) }
     ensures kept { Grows out.old out.new }
 {
-    line.put(b" value ");
+    line.put_text(*b" value ");
     match value {
-        Some(octets) => put_octets_end(out, line, octets),
+        Some(octets) => put_octets(out, line, octets),
         None => {
-            line.put(b"none");
-            line.put(b"\n");
-            put(out, line.as_slice())
+            line.put_text(*b"none");
+            Ok(())
         }
     }
 }
 
 /// Puts a label, and a choice.
 #[tactic(auto, unfolding(crate::specs::Pieces::chosen))]
-pub fn put_choice(line: &mut Piece, label: &[u8], choice: bool)
-    requires { length line.old + (length label.now + 3) ≤ 320 }
-    ensures text { line.new ≡ line.old ++ chosen label.now choice }
-    ensures len { length line.new ≤ length line.old + (length label.now + 3) }
+pub fn put_choice<const N: usize>(line: &mut Piece, label: [u8; N], choice: bool)
+    requires { length line.old + (N + 3) ≤ 4096 }
+    ensures text { line.new ≡ line.old ++ chosen label.entry choice }
+    ensures len { length line.new ≤ length line.old + (N + 3) }
 {
-    line.put(label);
+    line.put_text(label);
     if choice {
-        line.put(b"yes");
+        line.put_text(*b"yes");
     } else {
-        line.put(b"no");
+        line.put_text(*b"no");
     }
 }
 
@@ -217,11 +235,11 @@ fn reason_name(reason: u8) -> &'static [u8]
 
 /// Puts a label, and the name of a rule.
 #[tactic(auto, unfolding(crate::specs::Pieces::named))]
-pub fn put_name(line: &mut Piece, label: &[u8], reason: u8)
-    requires { length line.old + (length label.now + 20) ≤ 320 }
-    ensures text { line.new ≡ line.old ++ named label.now reason }
-    ensures len { length line.new ≤ length line.old + (length label.now + 20) }
+pub fn put_name<const N: usize>(line: &mut Piece, label: [u8; N], reason: u8)
+    requires { length line.old + (N + 20) ≤ 4096 }
+    ensures text { line.new ≡ line.old ++ named label.entry reason }
+    ensures len { length line.new ≤ length line.old + (N + 20) }
 {
-    line.put(label);
+    line.put_text(label);
     line.put(reason_name(reason));
 }

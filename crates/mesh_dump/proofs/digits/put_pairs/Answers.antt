@@ -1,16 +1,13 @@
-use Rattle.std.proofs.Common.{◌≡◌, length, subst, arith, ◌∙◌}
-use Rattle.std.proofs.lemmas.List.{length-set}
-use Rattle.mesh_dump.proofs.Pairs.{ArePairs, pairs_decode, one_more}
+use Rattle.std.proofs.Common.{◌≡◌, ◌*◌, length, subst, arith, ◌∙◌}
+use Rattle.std.proofs.lemmas.Bool.{ltb-true}
+use Rattle.mesh_dump.specs.Pairs.{ArePairs}
+use Rattle.mesh_dump.proofs.Pairs.{pairs_decode}
 use Rattle.mesh_dump.proofs.digits.put_pairs.Goals as goal
 
-pub loop-i-preserved : goal.loop-i-preserved
-loop-i-preserved c = record {
-  size = length-set c.loop-i.out c.loop-i.i _ ∙ c.loop-i.invariant.size;
-  pairs = one_more c.args.text.now c.loop-i.out c.loop-i.i c.loop-i.all c.high_of.result c.low_of.result (omega (arith, c.loop-i-test.true, c.loop-i.invariant.size)) c.loop-i.invariant.pairs c.high_of.ensures.value c.low_of.ensures.value;
-}
-
-pub returns-clause-octets : goal.returns-clause-octets
-returns-clause-octets c = λ few.
-    let end = c.loop-i.i in
-    let all : end ≡ length c.loop-i.out = omega (arith, c.loop-i-test.false, c.loop-i.invariant.size, c.loop-i.auto.i-end) in
-    pairs_decode 0 c.args.text.now c.loop-i.out (omega (arith, c.requires, c.loop-i.invariant.size)) (subst (ArePairs c.args.text.now c.loop-i.out) all (c.loop-i.invariant.pairs few))
+pub returns-then-put_wide-clause-octets : goal.returns-then-put_wide-clause-octets
+returns-then-put_wide-clause-octets c = λ few.
+    let text = c.args.text.now in
+    let wide = c.put_wide.ensures.octets c.if-put_wide.true in
+    let same : length c.put_wide.new.out ≡ length c.put_rest.new.out = omega (arith, c.put_rest.ensures.len) in
+    pairs_decode 0 text c.put_rest.new.out (omega (arith, c.requires, c.put_wide.ensures.len, c.put_rest.ensures.len))
+    (subst (ArePairs text c.put_rest.new.out) same (c.put_rest.ensures.octets (ltb-true _ _ few) (rw c.put_wide.ensures.len wide)))

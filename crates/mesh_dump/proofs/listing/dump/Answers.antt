@@ -7,7 +7,7 @@ use Rattle.mesh_dump.proofs.Stops.{answers, stops_behind}
 use Rattle.mesh_dump.proofs.Written.{all_lines}
 use Rattle.mesh_dump.proofs.listing.dump.Given.{Over}
 use Rattle.mesh_dump.proofs.listing.dump.Goals as goal
-use Rattle.mesh_dump.proofs.listing.dump.Goals.{After-drop-part-inside-in_err-write_total}
+use Rattle.mesh_dump.proofs.listing.dump.Goals.{After-drop-desk-in_err-write_total-2}
 
 -- the total behind the lines
 total : {number n : ℕ} {text : List ℕ} (m : ℕ) → number ≡ n → text ≡ total_text number m → text ≡ total_text n m
@@ -23,7 +23,7 @@ returns-clause-whole g c =
     )
 
 -- what stands where the last line wasn't written
-stopped : (g : Over) (c : After-drop-part-inside-in_err-write_total g)
+stopped : (g : Over) (c : After-drop-desk-in_err-write_total-2 g)
     → Writes (IsDumpText c.args.input.now c.args.recode) (IsDumpFront c.args.input.now c.args.recode) (IsFirstLinesText c.args.input.now c.args.recode)
     (g.O.Sink.content c.args.out.now) (g.O.Sink.content c.write_total.new.out) (g.O.Sink.faults c.args.out.now) (g.O.Sink.faults c.write_total.new.out) c.from_residual-in_err-write_total.result
 stopped g c =

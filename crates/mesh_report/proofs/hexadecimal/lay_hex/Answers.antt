@@ -1,18 +1,6 @@
-use Rattle.std.proofs.Common.{◌≡◌, ◌+◌, ◌*◌, ◌<◌, length, subst, arith, ◌∙◌}
-use Rattle.std.specs.Prelude.{slice_set}
-use Rattle.std.proofs.lemmas.List.{length-set}
-use Rattle.mesh_report.proofs.LaidHex.{AreDigits, one_more, digits_all}
+use Rattle.std.proofs.Common.{◌∙◌}
+use Rattle.mesh_report.proofs.LaidHex.{digits_all}
 use Rattle.mesh_report.proofs.hexadecimal.lay_hex.Goals as goal
 
-pub loop-i-preserved : goal.loop-i-preserved
-loop-i-preserved c =
-    let i = c.loop-i.i in
-    let room : 2 * i + 1 < length c.loop-i.out = omega (arith, c.loop-i-test.true, c.loop-i.invariant.size, c.requires) in record {
-      size = length-set (slice_set c.loop-i.out (2 * i) _) (2 * i + 1) _ ∙ length-set c.loop-i.out (2 * i) _ ∙ c.loop-i.invariant.size;
-      laid = one_more c.args.octets.now c.loop-i.out i _ _ room c.loop-i.invariant.laid (c.digits_of-digits.ensures.first, c.digits_of-digits.ensures.second);
-    }
-
 pub returns : goal.returns
-returns c =
-    let all : c.loop-i.i ≡ length c.args.octets.now = omega (arith, c.loop-i-test.false, c.loop-i.auto.i-end) in
-    digits_all c.args.octets.now c.loop-i.out (c.loop-i.invariant.size ∙ c.requires) (subst (AreDigits c.args.octets.now c.loop-i.out) all c.loop-i.invariant.laid)
+returns c = digits_all c.args.octets.now c.lay_rest.new.out (c.lay_rest.ensures.len ∙ c.lay_wide.ensures.len ∙ c.requires) (c.lay_rest.ensures.digits c.lay_wide.ensures.digits)

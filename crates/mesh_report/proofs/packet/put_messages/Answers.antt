@@ -1,4 +1,4 @@
-use Rattle.std.proofs.Common.{◌≡◌, ℕ, ◌+◌, ◌<◌, List, [], ◌++◌, length, map, drop, get_or, arith, append_assoc, length-drop}
+use Rattle.std.proofs.Common.{◌≡◌, ℕ, ◌+◌, ◌<◌, List, [], ◌++◌, length, map, drop, get_or, ap, ◌∙◌, arith, append_assoc, length-drop}
 use Rattle.std.proofs.lemmas.List.{append-nil, length-map}
 use Rattle.mesh_tlv.proofs.Grows.{grows_on}
 use Rattle.mesh_packet.specs.Fields.{MessageFields, fields_of_message}
@@ -20,9 +20,11 @@ loop-at-preserved c =
     let is : IsMessageText (get_or spans at none).len (fields_of_message (get_or messages at message)) text.0 = rw (← c.index-messages-at.is) text.2 in
     let next : (rest : List ℕ) → IsMessagesText (map fields_of_message (drop (at + 1) messages)) (drop (at + 1) spans) rest → IsMessagesText (map fields_of_message (drop at messages)) (drop at spans) (text.0 ++ rest)
     = λ rest h. next_first fields_of_message messages spans at message none text.0 rest in_messages in_spans is h in
+    let joined : (rest : List ℕ) → (c.put_message.new.out ++ c.put_message.new.room.line) ++ rest ≡ (c.loop-at.out ++ c.loop-at.room.line) ++ (text.0 ++ rest)
+    = λ rest. ap (λ (l : List ℕ). l ++ rest) text.1 ∙ append_assoc (c.loop-at.out ++ c.loop-at.room.line) text.0 rest in
     record {
       kept = grows_on c.loop-at.invariant.kept c.in_ok-put_message.ensures.kept;
-      text = λ rest h. rw (text.1, append_assoc) (c.loop-at.invariant.text (text.0 ++ rest) (next rest h));
+      text = λ rest h. rw (joined rest) (c.loop-at.invariant.text (text.0 ++ rest) (next rest h));
     }
 
 pub returns-in_err-put_message-clause-kept : goal.returns-in_err-put_message-clause-kept

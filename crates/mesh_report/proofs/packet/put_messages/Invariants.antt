@@ -10,5 +10,5 @@ abbrev pub invariant-loop-at : goal.invariant-loop-at
 invariant-loop-at l = record {
   kept : Grows l.fn.out l.out;
   text : (rest : List ℕ) → IsMessagesText (map fields_of_message (drop l.at l.messages)) (drop l.at l.spans) rest
-      → Wrote (IsMessagesText (map fields_of_message l.messages) l.spans) l.fn.out (l.out ++ rest);
+      → Wrote (IsMessagesText (map fields_of_message l.messages) l.spans) (l.fn.out ++ l.fn.room.line) ((l.out ++ l.room.line) ++ rest);
 }

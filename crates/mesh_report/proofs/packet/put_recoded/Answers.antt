@@ -5,4 +5,4 @@ use Rattle.mesh_report.proofs.packet.put_recoded.Goals as goal
 pub returns-clause-ok : goal.returns-clause-ok
 returns-clause-ok c = on_ok c.put_recode.result (λ (last, put, is).
     let listing = c.in_ok-put_decoded.ensures.ok in
-    (listing.0 ++ last, two c.args.out.now listing.0 last listing.1 put, (listing.0, last, listing.2, is, refl))) c.put_recode.ensures.ok
+    (listing.0 ++ last, two (c.args.out.now ++ c.args.room.now.line) listing.0 last listing.1 put, (listing.0, last, listing.2, is, refl))) c.put_recode.ensures.ok

@@ -1,10 +1,16 @@
-use Rattle.std.proofs.Common.{◌≡◌, ◌+◌, ◌-◌, ◌++◌, List, ℕ, take, drop, ap, ◌∙◌, arith, append_assoc, sym}
+use Rattle.std.proofs.Common.{◌≡◌, ◌+◌, ◌-◌, ◌++◌, List, ℕ, take, drop, refl, ap, ◌∙◌, arith, append_assoc, sym}
 use Rattle.hex.specs.Hex.{encode_lower}
+use Rattle.mesh_tlv.proofs.Grows.{grows_none, grows_on}
 use Rattle.mesh_report.proofs.Digits.{digits_none, digits_more}
 use Rattle.mesh_report.proofs.pieces.put_hex.Goals as goal
 
 pub loop-at-init : goal.loop-at-init
-loop-at-init c = record { within = omega arith; wrote = digits_none c.args.out.now c.args.octets.now }
+loop-at-init c = record {
+  within = omega arith;
+  room = c.requires;
+  kept = grows_none c.args.out.now c.args.out.now refl;
+  wrote = digits_none (c.args.out.now ++ c.args.line.now) c.args.octets.now;
+}
 
 pub loop-at-preserved : goal.loop-at-preserved
 loop-at-preserved c =
@@ -13,10 +19,14 @@ loop-at-preserved c =
     let at : ℕ = c.loop-at.at in
     let size : ℕ = c.min-size.result in
     let same : at + size - at ≡ size = omega arith in
-    let put : c.put_piece.new.out ≡ c.loop-at.out ++ encode_lower (take size (drop at octets)) = rw same at c.in_ok-put_piece.ensures.ok in
+    let more : List ℕ = encode_lower (take size (drop at octets)) in
+    let old : List ℕ = c.args.out.now ++ c.args.line.now in
+    let put : c.put_some_hex.new.out ++ c.put_some_hex.new.line ≡ (c.loop-at.out ++ c.loop-at.line) ++ more = rw same at c.in_ok-put_some_hex.ensures.ok in
     record {
       within = omega arith;
-      wrote = put ∙ ap (λ (l : List ℕ). l ++ encode_lower (take size (drop at octets))) i.wrote
-          ∙ append_assoc c.args.out.now (encode_lower (take at octets)) (encode_lower (take size (drop at octets)))
-          ∙ ap (λ (l : List ℕ). c.args.out.now ++ l) (sym (digits_more octets at size));
+      room = c.in_ok-put_some_hex.ensures.len;
+      kept = grows_on i.kept c.in_ok-put_some_hex.ensures.kept;
+      wrote = put ∙ ap (λ (l : List ℕ). l ++ more) i.wrote
+          ∙ append_assoc old (encode_lower (take at octets)) more
+          ∙ ap (λ (l : List ℕ). old ++ l) (sym (digits_more octets at size));
     }

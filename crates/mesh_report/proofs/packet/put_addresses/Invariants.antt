@@ -2,7 +2,7 @@ use Rattle.std.proofs.Common.{◌≡◌, ◌++◌, take}
 use Rattle.std.specs.List.{flat_map}
 use Rattle.mesh_tlv.specs.Least.{Grows}
 use Rattle.mesh_report.specs.Lines.{address_line}
-use Rattle.mesh_report.proofs.packet.put_each_address.Given as goal
+use Rattle.mesh_report.proofs.packet.put_addresses.Given as goal
 
 abbrev pub invariant-loop-addr : goal.invariant-loop-addr
 invariant-loop-addr l = record {

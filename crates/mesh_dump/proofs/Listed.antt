@@ -1,0 +1,20 @@
+-- A line that is refused, as it is listed.
+use Rattle.std.proofs.Common.{◌≡◌, ℕ, List, [], ◌∷◌, length, Result, Ok, Err, Bool, inl, refl, sym, subst, arith}
+use Rattle.std.specs.Prelude.{OnOk, IfOk}
+use Rattle.hex.specs.Hex.{decode_pairs}
+use Rattle.mesh_atoms.specs.declared.refusal.Refusal.{Refusal}
+use Rattle.mesh_packet.specs.Grammar.{FirstFault, no_octet}
+use Rattle.mesh_packet.specs.Least.{Wrote}
+use Rattle.mesh_report.specs.Packets.{IsLineText}
+use Rattle.mesh_dump.specs.Lines.{ReadsAs, IsListing}
+
+pub puts : {E : Type 0} (r : Result ℕ E) (recode : Bool) (number : ℕ) (line : List ℕ) (refusal : Refusal) (old new : List ℕ) → ReadsAs line (Err refusal)
+    → OnOk r (Wrote (IsLineText recode number (Err refusal)) old new) → IfOk r (λ count. count ≡ 1) → IfOk r (λ count. Wrote (IsListing recode number line count) old new)
+puts (Ok n) recode number line refusal old new reads wrote counted = (wrote.0, wrote.1, record { read = Err refusal; reads = reads; count_is = counted; is = wrote.2 })
+puts (Err e) recode number line refusal old new reads wrote counted = tt
+
+-- an empty line has no octet where a packet begins
+pub empty_reads : (line : List ℕ) (refusal : Refusal) → length line ≡ 0 → refusal ≡ record { place = 0; reason = 1 } → ReadsAs line (Err refusal)
+unfolding decode_pairs
+empty_reads [] refusal none is = inl ([], refl, subst (λ (r : Refusal). FirstFault [] r.place r.reason) (sym is) (no_octet refl))
+empty_reads (octet ∷ line) refusal none is = absurd (omega (arith, none))

@@ -1,9 +1,0 @@
-use Rattle.std.proofs.Common.{◌≡◌, ◌<◌, length}
-use Rattle.mesh_dump.proofs.Pairs.{ArePairs}
-use Rattle.mesh_dump.proofs.digits.put_pairs.Given as goal
-
-abbrev pub invariant-loop-i : goal.invariant-loop-i
-invariant-loop-i l = record {
-  size : length l.out ≡ length l.fn.out;
-  pairs : l.all < 256 → ArePairs l.text l.out l.i;
-}

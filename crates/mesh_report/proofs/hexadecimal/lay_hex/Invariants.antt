@@ -1,9 +1,0 @@
-use Rattle.std.proofs.Common.{◌≡◌, length}
-use Rattle.mesh_report.proofs.LaidHex.{AreDigits}
-use Rattle.mesh_report.proofs.hexadecimal.lay_hex.Given as goal
-
-abbrev pub invariant-loop-i : goal.invariant-loop-i
-invariant-loop-i l = record {
-  size : length l.out ≡ length l.fn.out;
-  laid : AreDigits l.octets l.out l.i;
-}

@@ -1,0 +1,16 @@
+use Rattle.std.proofs.Common.{ℕ, List, ◌++◌, codes, ap, ◌∙◌}
+use Rattle.mesh_tlv.specs.Fields.{fields}
+use Rattle.mesh_report.specs.Lines.{tlv_line}
+use Rattle.mesh_report.specs.Pieces.{numbered, valued}
+use Rattle.mesh_report.proofs.Joined.{behind, two}
+use Rattle.mesh_report.proofs.lines.put_tlv_line.Goals as goal
+
+pub returns-clause-ok : goal.returns-clause-ok
+unfolding tlv_line
+returns-clause-ok c =
+    let tlv = fields c.args.tlv in
+    let kind : List ℕ = numbered (codes "  tlv ") tlv.kind ++ numbered (codes " extension ") tlv.ext in
+    let value : List ℕ = valued (codes " value ") tlv.value in
+    let first = behind c.make_room.new.out c.make_room.new.line kind c.put_kind.ensures.text ∙ ap (λ (l : List ℕ). l ++ kind) c.in_ok-make_room.ensures.ok in
+    let last = two (c.make_room.new.out ++ c.put_kind.new.line) value (codes "\n") c.in_ok-put_value.ensures.ok (behind c.put_value.new.out c.put_value.new.line (codes "\n") c.put_text.ensures.text) in
+    two (c.args.out.now ++ c.args.line.now) kind (value ++ codes "\n") first last

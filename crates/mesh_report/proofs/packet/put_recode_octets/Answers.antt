@@ -1,0 +1,12 @@
+use Rattle.std.proofs.Common.{ℕ, List, ◌++◌, codes, ap, ◌∙◌}
+use Rattle.hex.specs.Hex.{encode_lower}
+use Rattle.mesh_report.specs.Packets.{recode_line}
+use Rattle.mesh_report.proofs.Joined.{behind, three}
+use Rattle.mesh_report.proofs.packet.put_recode_octets.Goals as goal
+
+pub returns-clause-ok : goal.returns-clause-ok
+unfolding recode_line
+returns-clause-ok c =
+    let old : List ℕ = c.args.out.now ++ c.args.line.now in
+    let first = behind c.make_room.new.out c.make_room.new.line (codes " recode ") c.put_text.ensures.text ∙ ap (λ (l : List ℕ). l ++ codes " recode ") c.in_ok-make_room.ensures.ok in
+    three old (codes " recode ") (encode_lower c.args.octets.now) (codes "\n") first c.in_ok-put_hex.ensures.ok (behind c.put_hex.new.out c.put_hex.new.line (codes "\n") c.put_text-2.ensures.text)
