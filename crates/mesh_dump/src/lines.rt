@@ -163,14 +163,7 @@ fn put_refused(
     ensures refused { IfOk result (λ count. count ≡ 1) }
 {
     let read = LineRead::Refused(refusal);
-    put_read(
-        alloc,
-        &mut desk.text,
-        &mut desk.room,
-        number,
-        &read,
-        recode,
-    )
+    put_read(alloc, &mut desk.text, &mut desk.room, number, &read, recode)
 }
 
 // Puts the listing of a line that isn't empty.
@@ -186,14 +179,7 @@ fn put_full_line(
     match fill(alloc, &mut desk.frame, line) {
         Ok(count) => {
             let read = read_frame(alloc, &desk.frame.as_slice()[..count])?;
-            put_read(
-                alloc,
-                &mut desk.text,
-                &mut desk.room,
-                number,
-                &read,
-                recode,
-            )
+            put_read(alloc, &mut desk.text, &mut desk.room, number, &read, recode)
         }
         Err(DecodeFault::Refused(refusal)) => put_refused(alloc, desk, number, refusal, recode),
         Err(DecodeFault::Memory(e)) => Err(e),

@@ -123,7 +123,12 @@ pub fn put_address<const N: usize>(line: &mut Piece, label: [u8; N], width: u8, 
 
 /// Puts a label, and an address of that width that may be absent.
 #[tactic(auto, unfolding(crate::specs::Pieces::addressed_or_none))]
-pub fn put_address_or_none<const N: usize>(line: &mut Piece, label: [u8; N], width: u8, addr: Option<RawAddr>)
+pub fn put_address_or_none<const N: usize>(
+    line: &mut Piece,
+    label: [u8; N],
+    width: u8,
+    addr: Option<RawAddr>,
+)
     requires { length line.old + (N + 32) ≤ 4096 }
     ensures text { line.new ≡ line.old ++ addressed_or_none label.entry width addr }
     ensures len { length line.new ≤ length line.old + (N + 32) }
