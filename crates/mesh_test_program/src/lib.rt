@@ -1,5 +1,5 @@
 //! Tests of what no text of the program shows: codes, messages that are written, rows and addresses of a reading, blocks that no
-//! packet holds, failing streams, and runs over an air and a clock in memory.
+//! packet holds, the values of settings, failing streams, and runs over an air and a clock in memory.
 #![tactic(auto)]
 
 #[cfg(test)]
@@ -12,6 +12,8 @@ mod hop;
 mod reading;
 #[cfg(test)]
 mod runs;
+#[cfg(test)]
+mod settings;
 #[cfg(test)]
 mod streams;
 #[cfg(test)]
