@@ -1,0 +1,1 @@
+/^(emulate|router| held|settled|gap)/!d

@@ -1,0 +1,1 @@
+/^(router| link|settled|gap)/!d

@@ -1,0 +1,1 @@
+/^(router| link| flooding|settled|gap)/!d

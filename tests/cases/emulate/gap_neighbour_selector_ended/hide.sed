@@ -1,0 +1,1 @@
+/^(router| neighbour| routing|settled|gap)/!d

@@ -1,0 +1,1 @@
+/^(router| neighbour| flooding| routing|settled|gap)/!d

@@ -1,0 +1,1 @@
+/^(emulate|router| link| held|settled|gap)/!d

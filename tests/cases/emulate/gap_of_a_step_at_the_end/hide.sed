@@ -1,0 +1,1 @@
+/^(router| link| held|settled|gap)/!d

@@ -1,0 +1,1 @@
+/^(router| held|settled|gap)/!d

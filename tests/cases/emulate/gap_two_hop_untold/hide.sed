@@ -1,0 +1,1 @@
+/^(router| neighbour 10.0.0.3| held|settled|gap)/!d
