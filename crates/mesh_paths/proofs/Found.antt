@@ -1,5 +1,5 @@
 -- Rows of a map that are a tree are a certificate, and those are that an ended search has settled.
-use Rattle.std.proofs.Common.{◌≡◌, ℕ, zero, suc, ◌+◌, ◌⊎◌, inl, inr, refl, sym, ap, subst, arith, List, [], ◌∷◌, Contains, slice_index_or, Some}
+use Rattle.std.proofs.Common.{◌≡◌, ℕ, zero, suc, ◌+◌, inl, inr, refl, sym, ap, subst, arith, List, [], ◌∷◌, Contains, slice_index_or, Some}
 use Rattle.std.specs.List.Sorted.{IsStrictlySortedBy}
 use Rattle.std.specs.Map.{keys_of, values_of}
 use Rattle.std.specs.Ordering.{eq_by_cmp}
@@ -16,7 +16,7 @@ use Rattle.mesh_atoms.specs.declared.graphs.PathRow.{PathRow}
 use Rattle.mesh_atoms.proofs.NetOrder.{net_total, net_exact, net_less, is_equal}
 use Rattle.mesh_paths.specs.Paths.{HasCosts, IsAscending, IsCertificate}
 use Rattle.mesh_paths.specs.Tree.{OffersBy, Offers, MeetsBy, Meets, IsTree}
-use Rattle.mesh_paths.specs.Search.{Waits, IsFound, IsIndex, IsSettledRow, IsKeyed}
+use Rattle.mesh_paths.specs.Search.{IsIndex, IsSettledRow, IsKeyed}
 use Rattle.mesh_paths.proofs.Rows.{move_offer}
 use Rattle.mesh_paths.proofs.SearchLaw.{in_tail, head_or_tail, offers_more, meets_more}
 use Rattle.mesh_paths.proofs.TreeLaw.{certificate_of_tree}
@@ -89,21 +89,9 @@ certificate_of_rows g from costs arcs tree is found rows e =
     let two : IsTree g.arcs from rows = subst (λ (x : List PathRow). IsTree g.arcs from x) (sym e) one in
     certificate_of_tree g from costs (record { rows = rows }) two
 
--- where no step waits, what is offered is met
-ended : {Has : PathRow → Type 0} (node : NetAddr) (metric : ℕ) (parent : NetAddr) → MeetsBy Has node metric parent ⊎ Waits [] node metric parent → MeetsBy Has node metric parent
-ended node metric parent state = elim state [ inl found ↦ found | inr waits ↦ absurd (omega (arith, waits.1)) ]
-
-arcs_of_index : {Has : PathRow → Type 0} (arcs index : List Arc4) (from node : NetAddr) (metric : ℕ) (parent : NetAddr) → IsIndex arcs index → OffersBy Has index from node metric parent → OffersBy Has arcs from node metric parent
+-- what arcs of an index offer
+pub arcs_of_index : {Has : PathRow → Type 0} (arcs index : List Arc4) (from node : NetAddr) (metric : ℕ) (parent : NetAddr) → IsIndex arcs index → OffersBy Has index from node metric parent → OffersBy Has arcs from node metric parent
 arcs_of_index arcs index from node metric parent same offer = elim offer [
   | inl start ↦ inl start
   | inr (p, a, has, there, begins, ends, sum, at) ↦ inr (p, a, has, same.of_it a there, begins, ends, sum, at)
 ]
-
-pub certificate_found : (g : Graph) (from : NetAddr) → HasCosts g → (m : BTreeMap NetAddr PathRow) → IsKeyed m → tree.IsOrdered net_cmp m → (arcs index : List Arc4) → arcs ≡ g.arcs → IsIndex arcs index → IsFound (IsSettledRow m) index from →
-    (rows : List PathRow) → rows ≡ values_of m.entries → IsCertificate g from (record { rows = rows })
-certificate_found g from costs m keyed ordered arcs index is same (rest, now) rows e =
-    let found : IsTree arcs from (values_of m.entries) =
-    tree_found m keyed ordered arcs from (ended from 0 from now.start)
-    (λ r a has there begins. ended a.to (r.metric + a.metric) r.node (now.of_arcs r a has (same.has a there) begins))
-    (λ r has. arcs_of_index arcs index from r.node r.metric r.parent same (now.of_rows r has)) in
-    certificate_of_rows g from costs arcs (values_of m.entries) is found rows e

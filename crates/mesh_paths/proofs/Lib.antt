@@ -1,5 +1,7 @@
 pub mod Admitted
 pub mod Found
+pub mod FrontierLaw
+pub mod Index
 mod JoinedParts
 pub mod LinksStay
 pub mod Order

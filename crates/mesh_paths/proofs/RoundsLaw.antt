@@ -16,12 +16,12 @@ use Rattle.mesh_atoms.specs.Nodes.{IsBefore, IsAtMost, net_cmp}
 use Rattle.mesh_atoms.proofs.NetOrder.{net_total, net_exact, is_equal}
 use Rattle.mesh_paths.specs.Paths.{HasCosts, IsCertificate}
 use Rattle.mesh_paths.specs.Tree.{OffersBy, IsAsGood}
-use Rattle.mesh_paths.specs.Search.{IsSettledRow, IsKeyed, Settles}
+use Rattle.mesh_paths.specs.Search.{IsIndex, IsSettledRow, IsKeyed, Settles}
 use Rattle.mesh_paths.specs.Rounds.{RowMap, missing_of, weight_of, missing_in, weight_in, IsMetIn, Betters, IsOfferBy, HasAsGood, IsInRange, Tries, IsLedTo, IsRounds, Goes}
 use Rattle.mesh_paths.proofs.Order.{same_node}
 use Rattle.mesh_paths.proofs.Rows.{of_each, item_in}
 use Rattle.mesh_paths.proofs.SearchLaw.{in_tail, head_or_tail}
-use Rattle.mesh_paths.proofs.Found.{tree_found, certificate_of_rows}
+use Rattle.mesh_paths.proofs.Found.{tree_found, arcs_of_index, certificate_of_rows}
 
 -- Sums over one list
 
@@ -247,26 +247,28 @@ better_of before metric parent not = elim (cases_lt metric before.metric) [
   ]
 ]
 
-pub tried : (map new : RowMap) (arc : Arc4) (first row : PathRow) (b : Bool) → IsKeyed map → tree.get net_cmp map arc.from ≡ Some first →
-    row.node ≡ arc.to → row.metric ≡ first.metric + arc.metric → row.parent ≡ arc.from → IsInRange arc row →
-    IsTrue b ↔ HasAsGood map row.node row.metric row.parent → b ≡ false →
-    ((q : NetAddr) → tree.get net_cmp new q ≡ cond (is_eq (net_cmp row.node q)) (Some row) (tree.get net_cmp map q)) → Tries true map arc new
-tried map new arc first row b keyed found node metric parent fits test not updates =
-    let at : first.node ≡ arc.from = keyed arc.from first found in (
-      row,
-      (first, settled_at map arc.from first keyed found, at, at ∙ sym parent, sym node, sym metric),
-      record { has = has; others = others; better = λ before is. better_of before row.metric row.parent (λ good. let t : b ≡ true = test.1 (before, is, good) in (cc)) },
-      fits,
-    )
+-- a row goes in where none is as good
+pub betters_by : (map new : RowMap) (row : PathRow) (b : Bool) → IsTrue b ↔ HasAsGood map row.node row.metric row.parent → b ≡ false →
+    ((q : NetAddr) → tree.get net_cmp new q ≡ cond (is_eq (net_cmp row.node q)) (Some row) (tree.get net_cmp map q)) → Betters map row new
+betters_by map new row b test not updates = record {
+  has = updates row.node ∙ ap (λ (x : Bool). cond x (Some row) (tree.get net_cmp map row.node)) (ap is_eq (tied_itself net_total row.node));
+  others = others;
+  better = λ before is. better_of before row.metric row.parent (λ good. let t : b ≡ true = test.1 (before, is, good) in (cc));
+}
   where
-    has : tree.get net_cmp new row.node ≡ Some row
-    has = updates row.node ∙ ap (λ (x : Bool). cond x (Some row) (tree.get net_cmp map row.node)) (ap is_eq (tied_itself net_total row.node))
-
     others : (q : NetAddr) → q ≢ row.node → tree.get net_cmp new q ≡ tree.get net_cmp map q
     others q off = elim (cases_Bool (is_eq (net_cmp row.node q))) [
       | inl e ↦ absurd (off (sym (net_exact row.node q (is_equal (net_cmp row.node q) e))))
       | inr e ↦ updates q ∙ ap (λ (x : Bool). cond x (Some row) (tree.get net_cmp map q)) e
     ]
+
+pub tried : (map new : RowMap) (arc : Arc4) (first row : PathRow) (b : Bool) → IsKeyed map → tree.get net_cmp map arc.from ≡ Some first →
+    row.node ≡ arc.to → row.metric ≡ first.metric + arc.metric → row.parent ≡ arc.from → IsInRange arc row →
+    IsTrue b ↔ HasAsGood map row.node row.metric row.parent → b ≡ false →
+    ((q : NetAddr) → tree.get net_cmp new q ≡ cond (is_eq (net_cmp row.node q)) (Some row) (tree.get net_cmp map q)) → Tries true map arc new
+tried map new arc first row b keyed found node metric parent fits test not updates =
+    let at : first.node ≡ arc.from = keyed arc.from first found in
+    (row, (first, settled_at map arc.from first keyed found, at, at ∙ sym parent, sym node, sym metric), betters_by map new row b test not updates, fits)
 
 -- The rounds begin
 
@@ -314,7 +316,11 @@ module _ (m : RowMap) (arcs : List Arc4) (from : NetAddr) (now : IsRounds m arcs
         ]
   ]
 
+  -- of all arcs, where the rounds went over an index of them
+  pub certificate_of_index : (g : Graph) → HasCosts g → (all : List Arc4) → all ≡ g.arcs → IsIndex all arcs → tree.IsOrdered net_cmp m → (rows : List PathRow) → rows ≡ values_of m.entries → IsCertificate g from (record { rows = rows })
+  certificate_of_index g costs all is same ordered rows e = certificate_of_rows g from costs all (values_of m.entries) is
+      (tree_found m now.keyed ordered all from (record { node = from; metric = 0; parent = from }, now.start, refl, inr (refl, inr (refl, omega arith)))
+      (λ r a has there begins. met a (same.has a there) r has (sym begins)) (λ r has. arcs_of_index all arcs from r.node r.metric r.parent same (offered r has))) rows e
+
   pub certificate_of_rounds : (g : Graph) → HasCosts g → arcs ≡ g.arcs → tree.IsOrdered net_cmp m → (rows : List PathRow) → rows ≡ values_of m.entries → IsCertificate g from (record { rows = rows })
-  certificate_of_rounds g costs is ordered rows e = certificate_of_rows g from costs arcs (values_of m.entries) is
-      (tree_found m now.keyed ordered arcs from (record { node = from; metric = 0; parent = from }, now.start, refl, inr (refl, inr (refl, omega arith)))
-      (λ r a has there begins. met a there r has (sym begins)) offered) rows e
+  certificate_of_rounds g costs is = certificate_of_index g costs arcs is (record { has = λ a h. h; of_it = λ a h. h; few = omega arith })

@@ -1,3 +1,4 @@
+pub mod Frontier
 pub mod Joined
 pub mod Parts
 pub mod Paths

@@ -1,14 +1,17 @@
-//! The search for least walks: a frontier ordered by metric, then node, of which the least step is settled at each turn.
-ghost use Rattle.std.specs.Prelude.{IsTrue, ◌↔◌, IfOk, IfSome, IfNone, OnOk, Contains, ◌≡◌, ◌<◌, ◌≤◌, ◌^◌, length, None};
+//! The search for least walks: a frontier ordered by metric, then node, of which the least step is taken at each turn.
+ghost use Rattle.std.specs.Prelude.{IsTrue, ◌↔◌, IfOk, IfSome, IfNone, OnOk, Contains, ◌≡◌, ◌≢◌, ◌+◌, ◌*◌, ◌<◌, ◌≤◌, ◌^◌, length, Some, None};
+ghost use Rattle.std.specs.List.Sorted.{IsNonDecreasingBy};
 ghost use Rattle.mesh_atoms.specs.declared.graphs.PathRow.{PathRow};
 ghost use Rattle.mesh_atoms.specs.declared.graphs.Arc4.{Arc4};
 ghost use Rattle.std.specs.BTreeMap.{get, values, IsOrdered};
 ghost use Rattle.mesh_paths.specs.Paths.{HasCosts, IsCertificate};
 ghost use Rattle.mesh_atoms.specs.Nodes.{net_cmp};
-ghost use Rattle.mesh_paths.specs.Search.{TakesOut, Puts, Offering, IsSpent, IsSmall, IsIndex, IsFound, IsSettledRow, IsKeyed, Settles, row_of};
+ghost use Rattle.mesh_paths.specs.Search.{number_of, number_from, IsIndex, IsRun, Puts, IsSettledRow, IsKeyed, Settles, row_of};
+ghost use Rattle.mesh_paths.specs.Rounds.{IsRounds, IsMetIn};
+ghost use Rattle.mesh_paths.specs.Frontier.{Offers, IsTaking, IsSearch, work_in};
 
-use crate::certificate::is_from;
-use mesh_atoms::{Addr4, Arc4, Certificate, Graph, NetAddr, PathRow, Seq};
+use crate::rounds::{has_as_good, row_at};
+use mesh_atoms::{Arc4, Certificate, Graph, NetAddr, PathRow, Seq};
 use std::alloc::{AllocError, Global};
 use std::collections::{BTreeMap, BTreeSet};
 
@@ -21,59 +24,91 @@ pub(crate) struct Step {
 }
 
 /// Finds the least walks from that node (RFC 7181, section 19), as the certificate of the graph: a row for each node that
-/// is reached, in ascending order. No arc may be free, and they are fewer than 2^32, so that each metric fits. TakesOut time
+/// is reached, in ascending order. No arc may be free, and they are fewer than 2^32, so that each metric fits. Takes time
 /// near n log n in the number n of arcs. Refuses for want of memory alone.
 pub fn search(alloc: Global, graph: &Graph, from: NetAddr) -> Result<Certificate, AllocError>
     requires costs { HasCosts graph.now }
     requires few { length graph.now.arcs < 2 ^ 32 }
     ensures certificate { IfOk result (λ certificate. IsCertificate graph.now from certificate) }
 {
-    let left = index_of(alloc, graph.arcs.as_slice())?;
-    let settled = settle_all(alloc, left, from)?;
-    let rows = rows_in_order(alloc, &settled)?;
+    let index = index_of(alloc, graph.arcs.as_slice())?;
+    let reached = reach_nearest(alloc, index.as_slice(), from)?;
+    let rows = rows_in_order(alloc, &reached)?;
     Ok(Certificate { rows })
 }
 
-// The arcs in order, so that those of a node stand together.
-fn index_of(alloc: Global, arcs: &[Arc4]) -> Result<BTreeSet<Arc4>, AllocError>
-    ensures { IfOk result (λ index. IsIndex arcs.now index.keys) }
+// The arcs in the order of the nodes that they leave, so that those of a node stand together.
+fn index_of(alloc: Global, arcs: &[Arc4]) -> Result<Vec<Arc4>, AllocError>
+    ensures same { IfOk result (λ index. IsIndex arcs.now index.items) }
+    ensures order { IfOk result (λ index. IsNonDecreasingBy number_from index.items) }
 {
-    let mut index = BTreeSet::new(alloc);
-    for arc in arcs {
-        index.insert(*arc)?;
-    }
+    let mut index = arcs.to_vec(alloc)?;
+    index.sort_unstable_by_key(|arc| number_of(arc.from));
     Ok(index)
 }
 
-// Settles the least step of the frontier, until none waits.
-fn settle_all(
+// A number for each node, in their order.
+fn number_of(node: NetAddr) -> u64
+    ensures { result ≡ number_of node }
+{
+    64 * u64::from(node.addr.0) + u64::from(node.prefix)
+}
+
+// Takes the least step of the frontier, until none waits. A step that a better one to its node has followed is passed over.
+fn reach_nearest(
     alloc: Global,
-    mut left: BTreeSet<Arc4>,
+    arcs: &[Arc4],
     from: NetAddr,
 ) -> Result<BTreeMap<NetAddr, PathRow>, AllocError>
-    requires costs { (arc : Arc4) → Contains left.keys arc → 1 ≤ arc.metric }
-    requires few { length left.keys < 2 ^ 32 }
-    ensures found { IfOk result (λ settled. IsFound (IsSettledRow settled) left.keys from) }
-    ensures keyed { IfOk result (λ settled. IsKeyed settled) }
+    requires costs { (arc : Arc4) → Contains arcs.now arc → 1 ≤ arc.metric }
+    requires few { length arcs.now < 2 ^ 32 }
+    requires order { IsNonDecreasingBy number_from arcs.now }
+    ensures rows { IfOk result (λ reached. IsRounds reached arcs.now from) }
+    ensures met { IfOk result (λ reached. (arc : Arc4) → Contains arcs.now arc → IsMetIn reached arc) }
 {
-    let mut settled = BTreeMap::new(alloc);
+    let mut reached = BTreeMap::new(alloc);
     let mut frontier = BTreeSet::new(alloc);
-    put_step(
-        &mut frontier,
-        Step {
-            metric: 0,
-            node: from,
-            parent: from,
-        },
-    )?;
+    let start = Step {
+        metric: 0,
+        node: from,
+        parent: from,
+    };
+    settle(&mut reached, start)?;
+    put_step(&mut frontier, start)?;
     while let Some(step) = frontier.pop_first() {
-        if settled.contains_key(&step.node) {
-            continue;
+        if let Some(first) = latest(&reached, step) {
+            offer_arcs(&mut reached, &mut frontier, arcs, from, first)?;
         }
-        settle(&mut settled, step)?;
-        offer_arcs(&mut frontier, &mut left, step.node, step.metric)?;
     }
-    Ok(settled)
+    Ok(reached)
+}
+
+// The row of the step's node, unless a better one has followed the step.
+fn latest(reached: &BTreeMap<NetAddr, PathRow>, step: Step) -> Option<PathRow>
+    ensures row { IfSome result (λ row. get net_cmp reached.now step.node ≡ Some row) }
+    ensures passed { IfNone result (get net_cmp reached.now step.node ≢ Some (row_of step)) }
+{
+    let Some(row) = row_at(reached, step.node) else {
+        return None;
+    };
+    if is_by(&row, step) {
+        return Some(row);
+    }
+    None
+}
+
+// Whether the row has the step's metric and parent.
+fn is_by(row: &PathRow, step: Step) -> bool
+    ensures { IsTrue result ↔ ((row.now.metric ≡ step.metric) × (row.now.parent ≡ step.parent)) }
+{
+    row.metric == step.metric && has_parent(row, step.parent)
+}
+
+// Whether the row's parent is that node.
+fn has_parent(row: &PathRow, node: NetAddr) -> bool
+    ensures { IsTrue result ↔ (row.now.parent ≡ node) }
+{
+    row.parent == node
 }
 
 // Settles the step as a row.
@@ -114,25 +149,66 @@ pub(crate) fn rows_in_order(
     Ok(rows)
 }
 
-// TakesOut out all arcs that leave the node, and puts their steps into the frontier.
+// Offers the arcs that leave the row's node.
 fn offer_arcs(
+    reached: &mut BTreeMap<NetAddr, PathRow>,
     frontier: &mut BTreeSet<Step>,
-    left: &mut BTreeSet<Arc4>,
-    node: NetAddr,
-    metric: u64,
+    arcs: &[Arc4],
+    from: NetAddr,
+    first: PathRow,
 ) -> Result<(), AllocError>
-    requires small { IsSmall metric left.old.keys }
-    ensures offered { OnOk result (Offering frontier.old.keys left.old.keys node metric frontier.new.keys left.new.keys) }
-    ensures spent { OnOk result (IsSpent left.new.keys node) }
+    requires costs { (arc : Arc4) → Contains arcs.now arc → 1 ≤ arc.metric }
+    requires few { length arcs.now < 2 ^ 32 }
+    requires order { IsNonDecreasingBy number_from arcs.now }
+    requires taking { IsTaking reached.old arcs.now from first frontier.old.keys }
+    ensures search { OnOk result (IsSearch reached.new arcs.now from frontier.new.keys) }
+    ensures work { OnOk result (work_in reached.new arcs.now frontier.new.keys ≤ work_in reached.old arcs.now frontier.old.keys) }
 {
-    while let Some(arc) = take_arc(left, node) {
-        let step = Step {
-            metric: metric + u64::from(arc.metric),
-            node: arc.to,
-            parent: node,
-        };
-        put_step(frontier, step)?;
+    let run = leaving(arcs, first.node);
+    for arc in run {
+        offer_arc(reached, frontier, first, *arc)?;
     }
+    Ok(())
+}
+
+// The arcs that leave the node. Takes time near log n in the number n of arcs.
+fn leaving(arcs: &[Arc4], node: NetAddr) -> &[Arc4]
+    requires { IsNonDecreasingBy number_from arcs.now }
+    ensures { IsRun arcs.now node result.now }
+{
+    let number = number_of(node);
+    let start = arcs.partition_point(|arc| number_of(arc.from) < number);
+    let rest = &arcs[start..];
+    let end = rest.partition_point(|arc| number_of(arc.from) <= number);
+    &rest[..end]
+}
+
+// Puts what the arc offers from the row into the map and its step into the frontier, unless a row is as good.
+fn offer_arc(
+    reached: &mut BTreeMap<NetAddr, PathRow>,
+    frontier: &mut BTreeSet<Step>,
+    first: PathRow,
+    arc: Arc4,
+) -> Result<(), AllocError>
+    requires small { first.metric + 2 ^ 32 ≤ 2 ^ 64 }
+    ensures { OnOk result (Offers reached.old frontier.old.keys first arc reached.new frontier.new.keys) }
+{
+    let _number = arc.from.addr.0;
+    let step = Step {
+        metric: first.metric + u64::from(arc.metric),
+        node: arc.to,
+        parent: arc.from,
+    };
+    let row = PathRow {
+        node: step.node,
+        metric: step.metric,
+        parent: step.parent,
+    };
+    if has_as_good(reached, &row) {
+        return Ok(());
+    }
+    reached.insert(row.node, row)?;
+    put_step(frontier, step)?;
     Ok(())
 }
 
@@ -142,49 +218,4 @@ fn put_step(frontier: &mut BTreeSet<Step>, step: Step) -> Result<(), AllocError>
 {
     frontier.insert(step)?;
     Ok(())
-}
-
-// TakesOut out an arc that leaves the node.
-fn take_arc(left: &mut BTreeSet<Arc4>, node: NetAddr) -> Option<Arc4>
-    ensures taken { IfSome result (λ arc. TakesOut left.old.keys node arc left.new.keys) }
-    ensures spent { IfNone result (IsSpent left.new.keys node) }
-    ensures kept { IfNone result (left.new.keys ≡ left.old.keys) }
-{
-    let Some(arc) = first_arc(left, node) else {
-        return None;
-    };
-    left.remove(&arc);
-    Some(arc)
-}
-
-// The first arc that leaves the node.
-fn first_arc(left: &BTreeSet<Arc4>, node: NetAddr) -> Option<Arc4>
-    ensures found { IfSome result (λ arc. Contains left.now.keys arc) }
-    ensures leaves { IfSome result (λ arc. arc.from ≡ node) }
-    ensures spent { IfNone result (IsSpent left.now.keys node) }
-{
-    let Some(&arc) = left.range(least_arc(node)..).next() else {
-        return None;
-    };
-    if is_from(&arc, node) {
-        return Some(arc);
-    }
-    None
-}
-
-// No arc that leaves the node is less.
-fn least_arc(node: NetAddr) -> Arc4
-    ensures from { result.from ≡ node }
-    ensures number { result.to.addr.0 ≡ 0 }
-    ensures prefix { result.to.prefix ≡ 0 }
-    ensures metric { result.metric ≡ 0 }
-{
-    Arc4 {
-        from: node,
-        to: NetAddr {
-            addr: Addr4(0),
-            prefix: 0,
-        },
-        metric: 0,
-    }
 }

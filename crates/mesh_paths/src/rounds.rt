@@ -15,7 +15,7 @@ use std::alloc::{AllocError, Global};
 use std::collections::BTreeMap;
 
 /// Finds the same certificate as `search`, under the same conditions, by rounds over all arcs until one changes nothing.
-/// There are at most two rounds more than a least walk has arcs. TakesOut time in proportion to rounds times arcs. Refuses
+/// There are at most two rounds more than a least walk has arcs. Takes time in proportion to rounds times arcs. Refuses
 /// for want of memory alone.
 pub fn search_by_rounds(
     alloc: Global,
@@ -101,14 +101,14 @@ fn try_arc(reached: &mut BTreeMap<NetAddr, PathRow>, arc: Arc4) -> Result<bool, 
 }
 
 // The row at a node.
-fn row_at(reached: &BTreeMap<NetAddr, PathRow>, node: NetAddr) -> Option<PathRow>
+pub(crate) fn row_at(reached: &BTreeMap<NetAddr, PathRow>, node: NetAddr) -> Option<PathRow>
     ensures { result ≡ get net_cmp reached.now node }
 {
     reached.get(&node).copied()
 }
 
 // Whether the row's node has one that is as good.
-fn has_as_good(reached: &BTreeMap<NetAddr, PathRow>, row: &PathRow) -> bool
+pub(crate) fn has_as_good(reached: &BTreeMap<NetAddr, PathRow>, row: &PathRow) -> bool
     ensures { IsTrue result ↔ HasAsGood reached.now row.now.node row.now.metric row.now.parent }
 {
     match row_at(reached, row.node) {

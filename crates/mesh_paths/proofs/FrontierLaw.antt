@@ -1,0 +1,168 @@
+-- A step that is taken keeps the state of a search by a frontier, and one that has ended has met what each arc offers.
+use Rattle.std.proofs.Common.{◌≡◌, ◌≢◌, ℕ, ◌+◌, ◌<◌, ◌≤◌, ◌⊎◌, inl, inr, refl, sym, ◌∙◌, ap, subst, arith, List, ◌∷◌, length, Contains, Some, slice_index_or}
+use Rattle.std.specs.List.{AllWithin}
+use Rattle.std.specs.BTreeMap as tree
+use Rattle.std.proofs.lemmas.List.Elements.{AllWithin-more, at_read}
+use Rattle.mesh_atoms.specs.declared.addr.NetAddr.{NetAddr}
+use Rattle.mesh_atoms.specs.declared.graphs.Arc4.{Arc4}
+use Rattle.mesh_atoms.specs.declared.graphs.PathRow.{PathRow}
+use Rattle.mesh_atoms.specs.Nodes.{IsBefore, IsAtMost, net_cmp}
+use Rattle.mesh_paths.specs.declared.frontier.Step.{Step}
+use Rattle.mesh_paths.specs.Tree.{IsAsGood, MeetsBy}
+use Rattle.mesh_paths.specs.Search.{IsRun, Puts, Settles, IsSettledRow, row_of, step_of}
+use Rattle.mesh_paths.specs.Rounds.{RowMap, IsMetIn, Betters, IsOfferBy, IsInRange, IsRounds}
+use Rattle.mesh_paths.specs.Frontier.{IsMetOrWaits, IsSearch, IsTaking, offered, Offers, work_in}
+use Rattle.mesh_paths.proofs.Order.{same_node, at_most_itself}
+use Rattle.mesh_paths.proofs.Rows.{of_each}
+use Rattle.mesh_paths.proofs.SearchLaw.{head_or_tail}
+use Rattle.mesh_paths.proofs.RoundsLaw.{settled_at, lighter_in, rounds_new, met_already}
+
+-- a node has one row
+one_row : (map : RowMap) (r t : PathRow) → IsSettledRow map r → IsSettledRow map t → r.node ≡ t.node → r ≡ t
+one_row map r t has_r has_t e =
+    let at : tree.get net_cmp map t.node ≡ Some r = subst (λ (n : NetAddr). tree.get net_cmp map n ≡ Some r) e has_r in
+    let h : Some r ≡ Some t = sym at ∙ has_t in
+    (cc)
+
+before_at_most : (a b c : NetAddr) → IsBefore a b → IsAtMost b c → IsAtMost a c
+before_at_most a b c f g = elim f [
+  | inl x ↦ elim g [
+    | inl y ↦ inl (omega arith)
+    | inr (e, y) ↦ inl (omega arith)
+  ]
+  | inr (d, x) ↦ elim g [
+    | inl y ↦ inl (omega arith)
+    | inr (e, y) ↦ inr (omega arith, omega arith)
+  ]
+]
+
+-- what is better than a row is as good as what that is as good as
+as_good_still : (row q : PathRow) (metric : ℕ) (parent : NetAddr) → (row.metric < q.metric) ⊎ ((row.metric ≡ q.metric) × IsBefore row.parent q.parent) → IsAsGood q metric parent → IsAsGood row metric parent
+as_good_still row q metric parent better good = elim better [
+  | inl less ↦ elim good [ inl l ↦ inl (omega arith) | inr (e, _) ↦ inl (omega arith) ]
+  | inr (same, before) ↦ elim good [ inl l ↦ inl (omega arith) | inr (e, upto) ↦ inr (omega arith, before_at_most row.parent q.parent parent before upto) ]
+]
+
+-- A row gets better, and its step waits
+module _ (old new : RowMap) (row : PathRow) (steps steps' : List Step) (betters : Betters old row new) (puts : Puts steps (step_of row) steps') where
+  met_still : (node : NetAddr) (metric : ℕ) (parent : NetAddr) → MeetsBy (IsSettledRow old) node metric parent → MeetsBy (IsSettledRow new) node metric parent
+  met_still node metric parent (q, has, is, good) = elim (same_node q.node row.node) [
+    | inl same ↦ (row, betters.has, sym same ∙ is, as_good_still row q metric parent (betters.better q (subst (λ (n : NetAddr). tree.get net_cmp old n ≡ Some q) same has)) good)
+    | inr off ↦ (q, betters.others q.node off ∙ has, is, good)
+  ]
+
+  carried : (a : Arc4) → IsMetOrWaits old steps a → IsMetOrWaits new steps' a
+  carried a state = elim (same_node a.from row.node) [
+    | inl same ↦ inr (row, betters.has, sym same, puts.has)
+    | inr off ↦ elim state [
+      | inl met ↦ inl (λ r has at. met_still a.to (r.metric + a.metric) r.node (met r (sym (betters.others r.node (λ e. off (sym at ∙ e))) ∙ has) at))
+      | inr (r, has, at, waits) ↦ inr (r, betters.others r.node (λ e. off (sym at ∙ e)) ∙ has, at, puts.kept (step_of r) waits)
+    ]
+  ]
+
+-- An arc of the row whose step is taken
+module _ (old new : RowMap) (arcs : List Arc4) (from : NetAddr) (first : PathRow) (arc : Arc4) (steps steps' : List Step) (cost : 1 ≤ arc.metric) (there : Contains arcs arc) (begins : arc.from ≡ first.node) (taking : IsTaking old arcs from first steps) where
+  offer : IsOfferBy old arc (offered first arc)
+  offer = (first, taking.found, sym begins, sym begins, refl, refl)
+
+  module _ (betters : Betters old (offered first arc) new) (fits : IsInRange arc (offered first arc)) (puts : Puts steps (step_of (offered first arc)) steps') where
+    -- no arc betters the row that it leaves
+    found_new : IsSettledRow new first
+    found_new = elim (same_node first.node arc.to) [
+      | inl same ↦ elim (betters.better first (subst (λ (n : NetAddr). tree.get net_cmp old n ≡ Some first) same taking.found)) [
+        | inl less ↦ absurd (omega arith)
+        | inr (e, _) ↦ absurd (omega arith)
+      ]
+      | inr off ↦ betters.others first.node off ∙ taking.found
+    ]
+
+    met_new : IsMetIn new arc
+    met_new r has at =
+        let same : first ≡ r = one_row new first r found_new has (sym begins ∙ sym at) in
+        let met : MeetsBy (IsSettledRow new) arc.to (first.metric + arc.metric) first.node = (offered first arc, betters.has, refl, inr (refl, at_most_itself arc.from first.node begins)) in
+        subst (λ (x : PathRow). MeetsBy (IsSettledRow new) arc.to (x.metric + arc.metric) x.node) same met
+
+    taking_new : IsTaking new arcs from first steps'
+    taking_new = record {
+      rounds = rounds_new old new arc (offered first arc) betters fits arcs from there cost offer taking.rounds;
+      found = found_new;
+      others = λ a in_arcs off. carried old new (offered first arc) steps steps' betters puts a (taking.others a in_arcs off);
+    }
+
+    work_less : work_in new arcs steps' ≤ work_in old arcs steps
+    work_less = omega (arith, lighter_in old new arc (offered first arc) betters fits arcs from there cost offer taking.rounds, puts.more)
+
+  -- is offered in its turn
+  pub offered_on : (run : List Arc4) (i : ℕ) → arc ≡ slice_index_or run i arc → i < length run → AllWithin (IsMetOrWaits old steps) run 0 i → Offers old steps first arc new steps' →
+      IsTaking new arcs from first steps' × AllWithin (IsMetOrWaits new steps') run 0 (i + 1) × (work_in new arcs steps' ≤ work_in old arcs steps)
+  offered_on run i is l done (inl (same, same_steps, good)) =
+      let has : tree.get net_cmp old arc.from ≡ Some first = subst (λ (n : NetAddr). tree.get net_cmp old n ≡ Some first) (sym begins) taking.found in
+      let met : IsMetIn old arc = met_already old arc first (first.metric + arc.metric) taking.rounds.keyed has refl good in
+      let Turn : RowMap → List Step → Type 0 = λ m s. IsTaking m arcs from first s × AllWithin (IsMetOrWaits m s) run 0 (i + 1) × (work_in m arcs s ≤ work_in old arcs steps) in
+      let now : Turn old steps = (taking, AllWithin-more (IsMetOrWaits old steps) run 0 i done (at_read run (IsMetOrWaits old steps) i arc l is (inl met)), omega arith) in
+      subst (λ (m : RowMap). Turn m steps') (sym same) (subst (λ (s : List Step). Turn old s) (sym same_steps) now)
+  offered_on run i is l done (inr (betters, fits, puts)) = (
+    taking_new betters fits puts,
+    AllWithin-more (IsMetOrWaits new steps') run 0 i (λ k e low high. carried old new (offered first arc) steps steps' betters puts (slice_index_or run k e) (done k e low high))
+        (at_read run (IsMetOrWaits new steps') i arc l is (inl (met_new betters fits puts))),
+    work_less betters fits puts,
+  )
+
+-- The steps
+
+-- the first step is put in
+pub begun : (old map : RowMap) (arcs : List Arc4) (from : NetAddr) (steps : List Step) → ((r : PathRow) → IsSettledRow old r → ⊥) → Settles (IsSettledRow old) (record { node = from; metric = 0; parent = from }) (IsSettledRow map) → IsRounds map arcs from →
+    Contains steps (record { metric = 0; node = from; parent = from }) → IsSearch map arcs from steps
+begun old map arcs from steps none settles rounds waits = record {
+  rounds = rounds;
+  each = λ a there. elim (same_node a.from from) [
+    | inl same ↦ inr (record { node = from; metric = 0; parent = from }, settles.new, sym same, waits)
+    | inr off ↦ inl (λ r has at. elim (settles.cases r has) [
+      | inl e ↦ absurd (off (sym at ∙ sym (ap (λ (x : PathRow). x.node) e)))
+      | inr before ↦ absurd (none r before)
+    ])
+  ];
+}
+
+-- the least step is taken
+pub taken : (map : RowMap) (arcs : List Arc4) (from : NetAddr) (all rest : List Step) (s : Step) (first : PathRow) → all ≡ s ∷ rest → tree.get net_cmp map s.node ≡ Some first → IsSearch map arcs from all → IsTaking map arcs from first rest
+taken map arcs from all rest s first popped found now = record { rounds = now.rounds; found = settled_at map s.node first now.rounds.keyed found; others = others }
+  where
+    others : (a : Arc4) → Contains arcs a → a.from ≢ first.node → IsMetOrWaits map rest a
+    others a there off = elim (now.each a there) [
+      | inl met ↦ inl met
+      | inr (r, has, at, waits) ↦ elim (head_or_tail s rest (step_of r) (subst (λ (x : List Step). Contains x (step_of r)) popped waits)) [
+        | inl same ↦ absurd (off (sym at ∙ sym (ap (λ (x : Step). x.node) same) ∙ sym (now.rounds.keyed s.node first found)))
+        | inr later ↦ inr (r, has, at, later)
+      ]
+    ]
+
+-- it is passed over, since a better one has followed it
+pub passed : (map : RowMap) (arcs : List Arc4) (from : NetAddr) (all rest : List Step) (s : Step) → all ≡ s ∷ rest → tree.get net_cmp map s.node ≢ Some (row_of s) → IsSearch map arcs from all → IsSearch map arcs from rest
+passed map arcs from all rest s popped stale now = record { rounds = now.rounds; each = each }
+  where
+    each : (a : Arc4) → Contains arcs a → IsMetOrWaits map rest a
+    each a there = elim (now.each a there) [
+      | inl met ↦ inl met
+      | inr (r, has, at, waits) ↦ elim (head_or_tail s rest (step_of r) (subst (λ (x : List Step). Contains x (step_of r)) popped waits)) [
+        | inl same ↦ absurd (stale (subst (λ (x : Step). tree.get net_cmp map x.node ≡ Some (row_of x)) (sym same) has))
+        | inr later ↦ inr (r, has, at, later)
+      ]
+    ]
+
+-- all arcs of its node are offered
+pub all_offered : (map : RowMap) (arcs : List Arc4) (from : NetAddr) (first : PathRow) (steps : List Step) (run : List Arc4) (i : ℕ) → IsTaking map arcs from first steps → IsRun arcs first.node run → length run ≤ i → AllWithin (IsMetOrWaits map steps) run 0 i → IsSearch map arcs from steps
+all_offered map arcs from first steps run i taking is end done = record {
+  rounds = taking.rounds;
+  each = λ a there. elim (same_node a.from first.node) [
+    | inl same ↦ of_each (IsMetOrWaits map steps) run i end done a (is.all a there same)
+    | inr off ↦ taking.others a there off
+  ];
+}
+
+-- no step waits
+pub all_met : (map : RowMap) (arcs : List Arc4) (from : NetAddr) (steps : List Step) → (0 < length steps → ⊥) → IsSearch map arcs from steps → (a : Arc4) → Contains arcs a → IsMetIn map a
+all_met map arcs from steps none now a there = elim (now.each a there) [
+  | inl met ↦ met
+  | inr (r, has, at, (k, l, e)) ↦ absurd (none (omega arith))
+]
