@@ -1,5 +1,5 @@
 -- The cheapest ways to the addresses that need a relay.
-use Rattle.std.specs.Prelude.{◌≡◌, ℕ, ◌+◌, ◌≤◌, ◌<◌, ◌⊎◌, Bool, true, ◌&&◌, ◌||◌, cond, nat_eq, nat_lt, List, [], ◌∷◌, Contains, AllPairs, ◌↔◌, Option, Some, None, length, slice_index_or}
+use Rattle.std.specs.Prelude.{◌≡◌, ℕ, ◌+◌, ◌≤◌, ◌<◌, ◌⊎◌, Bool, true, ◌&&◌, ◌||◌, cond, nat_eq, nat_lt, nat_le, List, [], ◌∷◌, Contains, AllPairs, ◌↔◌, Option, Some, None, length, slice_index_or}
 use Rattle.mesh_atoms.specs.declared.addr.Addr4.{Addr4}
 use Rattle.mesh_atoms.specs.declared.graphs.Near.{Near}
 use Rattle.mesh_atoms.specs.declared.graphs.Direct.{Direct}
@@ -8,6 +8,7 @@ use Rattle.mesh_atoms.specs.declared.graphs.NeighbourGraph.{NeighbourGraph}
 use Rattle.mesh_atoms.specs.Relays.{Offers, IsWilling}
 use Rattle.mesh_atoms.specs.Base.{addr_eq}
 use Rattle.mesh_relay.specs.declared.ways.Way.{Way}
+use Rattle.mesh_relay.specs.declared.seek.Seek.{Seek}
 use Rattle.mesh_relay.specs.Tests.{is_direct_within}
 
 -- the list has all willing neighbours, in ascending order of id
@@ -59,6 +60,19 @@ way_at g place n f =
 abbrev pub way_from : NeighbourGraph → ℕ → List Near → Far → Option Way
 way_from g place [] f = None
 way_from g place (n ∷ ns) f = cond (addr_eq n.id f.via) (way_at g place n f) (way_from g (place + 1) ns f)
+
+-- the first of the neighbours that has that id, and its place; they stand from that place on
+abbrev pub near_from : ℕ → List Near → Addr4 → Option (ℕ × Near)
+near_from place [] id = None
+near_from place (n ∷ ns) id = cond (addr_eq n.id id) (Some (place, n)) (near_from (place + 1) ns id)
+
+-- what was found is the neighbour of that id
+abbrev pub IsSought : List Near → Seek → Type 0
+IsSought willing s = s.found ≡ near_from 0 willing s.via
+
+-- the direct entry offers the address at no more than that
+abbrev pub is_offer : Addr4 → ℕ → Direct → Bool
+is_offer y most d = addr_eq d.addr y && nat_le d.cost most
 
 -- of ways in order, the next one is dearer than the last one to its address, or by the same neighbour
 abbrev pub adds_nothing : Way → Way → Bool

@@ -1,0 +1,10 @@
+use Rattle.std.proofs.Common.{◌≡◌, ◌++◌, drop}
+use Rattle.std.specs.Prelude.{filter_map}
+use Rattle.mesh_relay.specs.Ways.{way_from, IsSought}
+use Rattle.mesh_relay.proofs.ways.unsorted_ways.Given as goal
+
+abbrev pub invariant-loop-far : goal.invariant-loop-far
+invariant-loop-far l = record {
+  sought : IsSought l.willing l.seek;
+  ways : l.ways.items ++ filter_map (λ f. way_from l.graph 0 l.willing f) (drop l.far-index l.graph.far) ≡ filter_map (λ f. way_from l.graph 0 l.willing f) l.graph.far;
+}
