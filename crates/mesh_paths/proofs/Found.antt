@@ -16,7 +16,7 @@ use Rattle.mesh_atoms.specs.declared.graphs.PathRow.{PathRow}
 use Rattle.mesh_atoms.proofs.NetOrder.{net_total, net_exact, net_less, is_equal}
 use Rattle.mesh_paths.specs.Paths.{HasCosts, IsAscending, IsCertificate}
 use Rattle.mesh_paths.specs.Tree.{OffersBy, Offers, MeetsBy, Meets, IsTree}
-use Rattle.mesh_paths.specs.Search.{IsIndex, IsSettledRow, IsKeyed}
+use Rattle.mesh_paths.specs.Search.{IsSettledRow, IsKeyed}
 use Rattle.mesh_paths.proofs.Rows.{move_offer}
 use Rattle.mesh_paths.proofs.SearchLaw.{in_tail, head_or_tail, offers_more, meets_more}
 use Rattle.mesh_paths.proofs.TreeLaw.{certificate_of_tree}
@@ -88,10 +88,3 @@ certificate_of_rows g from costs arcs tree is found rows e =
     let one : IsTree g.arcs from tree = subst (λ (x : List Arc4). IsTree x from tree) is found in
     let two : IsTree g.arcs from rows = subst (λ (x : List PathRow). IsTree g.arcs from x) (sym e) one in
     certificate_of_tree g from costs (record { rows = rows }) two
-
--- what arcs of an index offer
-pub arcs_of_index : {Has : PathRow → Type 0} (arcs index : List Arc4) (from node : NetAddr) (metric : ℕ) (parent : NetAddr) → IsIndex arcs index → OffersBy Has index from node metric parent → OffersBy Has arcs from node metric parent
-arcs_of_index arcs index from node metric parent same offer = elim offer [
-  | inl start ↦ inl start
-  | inr (p, a, has, there, begins, ends, sum, at) ↦ inr (p, a, has, same.of_it a there, begins, ends, sum, at)
-]

@@ -1,18 +1,20 @@
 -- A step that is taken keeps the state of a search by a frontier, and one that has ended has met what each arc offers.
-use Rattle.std.proofs.Common.{◌≡◌, ◌≢◌, ℕ, ◌+◌, ◌<◌, ◌≤◌, ◌⊎◌, inl, inr, refl, sym, ◌∙◌, ap, subst, arith, List, ◌∷◌, length, Contains, Some, slice_index_or}
-use Rattle.std.specs.List.{AllWithin}
+use Rattle.std.proofs.Common.{◌≡◌, ◌≢◌, ℕ, ◌+◌, ◌<◌, ◌≤◌, ◌⊎◌, inl, inr, refl, sym, ◌∙◌, ap, subst, arith, List, [], ◌∷◌, length, Contains, Some, slice_index_or}
+use Rattle.std.specs.List.{AllWithin, slice_range}
 use Rattle.std.specs.BTreeMap as tree
 use Rattle.std.proofs.lemmas.List.Elements.{AllWithin-more, at_read}
 use Rattle.mesh_atoms.specs.declared.addr.NetAddr.{NetAddr}
 use Rattle.mesh_atoms.specs.declared.graphs.Arc4.{Arc4}
 use Rattle.mesh_atoms.specs.declared.graphs.PathRow.{PathRow}
 use Rattle.mesh_atoms.specs.Nodes.{IsBefore, IsAtMost, net_cmp}
+use Rattle.mesh_paths.specs.declared.frontier.Run.{Run}
 use Rattle.mesh_paths.specs.declared.frontier.Step.{Step}
 use Rattle.mesh_paths.specs.Tree.{IsAsGood, MeetsBy}
-use Rattle.mesh_paths.specs.Search.{IsRun, Puts, Settles, IsSettledRow, row_of, step_of}
+use Rattle.mesh_paths.specs.Search.{number_of, IsIndex, IsPart, Puts, Settles, IsSettledRow, row_of, step_of}
 use Rattle.mesh_paths.specs.Rounds.{RowMap, IsMetIn, Betters, IsOfferBy, IsInRange, IsRounds}
-use Rattle.mesh_paths.specs.Frontier.{IsMetOrWaits, IsSearch, IsTaking, offered, Offers, work_in}
+use Rattle.mesh_paths.specs.Frontier.{IsMetOrWaits, IsSearch, IsTaking, OffersAll, offered, Offers, work_in}
 use Rattle.mesh_paths.proofs.Order.{same_node, at_most_itself}
+use Rattle.mesh_paths.proofs.Index.{in_run}
 use Rattle.mesh_paths.proofs.Rows.{of_each}
 use Rattle.mesh_paths.proofs.SearchLaw.{head_or_tail}
 use Rattle.mesh_paths.proofs.RoundsLaw.{settled_at, lighter_in, rounds_new, met_already}
@@ -41,6 +43,12 @@ as_good_still : (row q : PathRow) (metric : ℕ) (parent : NetAddr) → (row.met
 as_good_still row q metric parent better good = elim better [
   | inl less ↦ elim good [ inl l ↦ inl (omega arith) | inr (e, _) ↦ inl (omega arith) ]
   | inr (same, before) ↦ elim good [ inl l ↦ inl (omega arith) | inr (e, upto) ↦ inr (omega arith, before_at_most row.parent q.parent parent before upto) ]
+]
+
+one_done : (arc : Arc4) (map : RowMap) (steps : List Step) → IsMetOrWaits map steps arc → (a : Arc4) → Contains (arc ∷ []) a → IsMetOrWaits map steps a
+one_done arc map steps state a has = elim (head_or_tail arc [] a has) [
+  | inl same ↦ subst (λ (x : Arc4). IsMetOrWaits map steps x) same state
+  | inr later ↦ absurd (omega (arith, later.1))
 ]
 
 -- A row gets better, and its step waits
@@ -93,20 +101,28 @@ module _ (old new : RowMap) (arcs : List Arc4) (from : NetAddr) (first : PathRow
     work_less = omega (arith, lighter_in old new arc (offered first arc) betters fits arcs from there cost offer taking.rounds, puts.more)
 
   -- is offered in its turn
-  pub offered_on : (run : List Arc4) (i : ℕ) → arc ≡ slice_index_or run i arc → i < length run → AllWithin (IsMetOrWaits old steps) run 0 i → Offers old steps first arc new steps' →
-      IsTaking new arcs from first steps' × AllWithin (IsMetOrWaits new steps') run 0 (i + 1) × (work_in new arcs steps' ≤ work_in old arcs steps)
-  offered_on run i is l done (inl (same, same_steps, good)) =
+  pub offered_next : Offers old steps first arc new steps' → OffersAll old steps arcs from first (arc ∷ []) new steps'
+  offered_next (inl (same, same_steps, good)) =
       let has : tree.get net_cmp old arc.from ≡ Some first = subst (λ (n : NetAddr). tree.get net_cmp old n ≡ Some first) (sym begins) taking.found in
       let met : IsMetIn old arc = met_already old arc first (first.metric + arc.metric) taking.rounds.keyed has refl good in
-      let Turn : RowMap → List Step → Type 0 = λ m s. IsTaking m arcs from first s × AllWithin (IsMetOrWaits m s) run 0 (i + 1) × (work_in m arcs s ≤ work_in old arcs steps) in
-      let now : Turn old steps = (taking, AllWithin-more (IsMetOrWaits old steps) run 0 i done (at_read run (IsMetOrWaits old steps) i arc l is (inl met)), omega arith) in
-      subst (λ (m : RowMap). Turn m steps') (sym same) (subst (λ (s : List Step). Turn old s) (sym same_steps) now)
-  offered_on run i is l done (inr (betters, fits, puts)) = (
-    taking_new betters fits puts,
-    AllWithin-more (IsMetOrWaits new steps') run 0 i (λ k e low high. carried old new (offered first arc) steps steps' betters puts (slice_index_or run k e) (done k e low high))
-        (at_read run (IsMetOrWaits new steps') i arc l is (inl (met_new betters fits puts))),
-    work_less betters fits puts,
-  )
+      let now : OffersAll old steps arcs from first (arc ∷ []) old steps = record { taking = taking; carried = λ a h. h; done = one_done arc old steps (inl met); work = omega arith } in
+      subst (λ (m : RowMap). OffersAll old steps arcs from first (arc ∷ []) m steps') (sym same) (subst (λ (s : List Step). OffersAll old steps arcs from first (arc ∷ []) old s) (sym same_steps) now)
+  offered_next (inr (betters, fits, puts)) = record {
+    taking = taking_new betters fits puts;
+    carried = carried old new (offered first arc) steps steps' betters puts;
+    done = one_done arc new steps' (inl (met_new betters fits puts));
+    work = work_less betters fits puts;
+  }
+
+-- a run is offered arc by arc
+pub offered_on : (old now new : RowMap) (steps waits steps' : List Step) (arcs : List Arc4) (from : NetAddr) (first : PathRow) (run : List Arc4) (i : ℕ) (arc : Arc4) → arc ≡ slice_index_or run i arc → i < length run →
+    ((a : Arc4) → IsMetOrWaits old steps a → IsMetOrWaits now waits a) → AllWithin (IsMetOrWaits now waits) run 0 i → work_in now arcs waits ≤ work_in old arcs steps → OffersAll now waits arcs from first (arc ∷ []) new steps' →
+    ((a : Arc4) → IsMetOrWaits old steps a → IsMetOrWaits new steps' a) × AllWithin (IsMetOrWaits new steps') run 0 (i + 1) × (work_in new arcs steps' ≤ work_in old arcs steps)
+offered_on old now new steps waits steps' arcs from first run i arc is l carried done work next = (
+  λ a h. next.carried a (carried a h),
+  AllWithin-more (IsMetOrWaits new steps') run 0 i (λ k e low high. next.carried (slice_index_or run k e) (done k e low high)) (at_read run (IsMetOrWaits new steps') i arc l is (next.done arc (0, omega arith, refl))),
+  omega (arith, next.work),
+)
 
 -- The steps
 
@@ -150,15 +166,20 @@ passed map arcs from all rest s popped stale now = record { rounds = now.rounds;
       ]
     ]
 
--- all arcs of its node are offered
-pub all_offered : (map : RowMap) (arcs : List Arc4) (from : NetAddr) (first : PathRow) (steps : List Step) (run : List Arc4) (i : ℕ) → IsTaking map arcs from first steps → IsRun arcs first.node run → length run ≤ i → AllWithin (IsMetOrWaits map steps) run 0 i → IsSearch map arcs from steps
-all_offered map arcs from first steps run i taking is end done = record {
-  rounds = taking.rounds;
-  each = λ a there. elim (same_node a.from first.node) [
-    | inl same ↦ of_each (IsMetOrWaits map steps) run i end done a (is.all a there same)
-    | inr off ↦ taking.others a there off
-  ];
-}
+-- all runs of its node are offered
+pub all_offered : (map : RowMap) (arcs : List Arc4) (runs part : List Run) (from : NetAddr) (first : PathRow) (steps : List Step) (number i : ℕ) → number ≡ number_of first.node → IsIndex arcs runs → IsPart runs number part → IsTaking map arcs from first steps → length part ≤ i →
+    AllWithin (λ (r : Run). (a : Arc4) → Contains (slice_range arcs r.start r.end) a → IsMetOrWaits map steps a) part 0 i → IsSearch map arcs from steps
+all_offered map arcs runs part from first steps number i is_number index is taking end done = record { rounds = taking.rounds; each = each }
+  where
+    each : (a : Arc4) → Contains arcs a → IsMetOrWaits map steps a
+    each a (k, l, e) = elim (same_node a.from first.node) [
+      | inl same ↦
+          let (r, has, low, high) = index.all k l in
+          let at : number_of a.from ≡ r.number = subst (λ (x : Arc4). number_of x.from ≡ r.number) e ((index.each r has).leaves k a low high) in
+          of_each (λ (r : Run). (a : Arc4) → Contains (slice_range arcs r.start r.end) a → IsMetOrWaits map steps a) part i end done r (is.all r has (sym at ∙ (ap number_of same ∙ sym is_number))) a
+          (in_run arcs r.start r.end k a low high (index.each r has).inside e)
+      | inr off ↦ taking.others a (k, l, e) off
+    ]
 
 -- no step waits
 pub all_met : (map : RowMap) (arcs : List Arc4) (from : NetAddr) (steps : List Step) → (0 < length steps → ⊥) → IsSearch map arcs from steps → (a : Arc4) → Contains arcs a → IsMetIn map a

@@ -1,24 +1,89 @@
--- Arcs in the order of the nodes that they leave.
-use Rattle.std.proofs.Common.{◌≡◌, ℕ, ◌+◌, ◌-◌, ◌<◌, ◌≤◌, inl, inr, sym, ◌∙◌, ap, subst, arith, true, false, List, length, Contains, slice_index_or, take, drop, leb, ltb, leb-true}
+-- Arcs as runs, in the order of the nodes that they leave.
+use Rattle.std.proofs.Common.{◌≡◌, ℕ, ◌+◌, ◌-◌, ◌<◌, ◌≤◌, ◌++◌, inl, inr, refl, sym, ◌∙◌, ap, subst, arith, true, false, List, [], ◌∷◌, length, Contains, slice_index_or, take, drop, leb, ltb, leb-true}
+use Rattle.std.specs.List.{slice_range}
 use Rattle.std.specs.List.Sorted.{IsPermutation, IsPartitionPoint}
 use Rattle.std.proofs.lemmas.Bool.{cases_lt, ltb-true, ltb-false, leb-false}
-use Rattle.std.proofs.lemmas.List.{get_or-take, get_or-drop, length-take, length-drop}
-use Rattle.std.proofs.lemmas.List.Sorted.{Contains-permutation, IsPermutation-sym, length_permutation}
+use Rattle.std.proofs.lemmas.List.{get_or_default, get_or-take, get_or-drop, length-take, length-drop}
+use Rattle.std.proofs.lemmas.List.Elements.{Contains-push_cases, Contains-append_left, Contains-append_right}
+use Rattle.std.proofs.lemmas.List.Sorted.{Contains-permutation, IsPermutation-sym}
 use Rattle.mesh_atoms.specs.declared.addr.Addr4.{Addr4}
 use Rattle.mesh_atoms.specs.declared.addr.NetAddr.{NetAddr}
 use Rattle.mesh_atoms.specs.declared.graphs.Arc4.{Arc4}
 use Rattle.mesh_atoms.proofs.Nets.{same_net}
-use Rattle.mesh_paths.specs.Search.{number_of, number_from, IsIndex, IsRun}
+use Rattle.mesh_paths.specs.declared.frontier.Run.{Run}
+use Rattle.mesh_paths.specs.Search.{number_of, number_from, IsRun, IsIndex, IsPart}
 
--- a permutation is an index
-pub index_of : (arcs copy index : List Arc4) → copy ≡ arcs → IsPermutation copy index → IsIndex arcs index
-index_of arcs copy index is moved =
-    let same : IsPermutation arcs index = subst (λ (x : List Arc4). IsPermutation x index) is moved in
-    record {
-      has = λ a h. Contains-permutation arcs index a same h;
-      of_it = λ a h. Contains-permutation index arcs a (IsPermutation-sym arcs index same) h;
-      few = omega (arith, length_permutation arcs index same);
-    }
+pub at_place : {X : Type 0} (xs : List X) (i : ℕ) (d : X) → i < length xs → slice_index_or xs i d ≡ slice_index_or xs i (slice_index_or xs i d)
+at_place xs i d l = get_or_default xs i d (slice_index_or xs i d) l
+
+-- A run grows
+
+abbrev pub IsLeft : List Arc4 → ℕ → ℕ → ℕ → Type 0
+IsLeft arcs number start end = (k : ℕ) (d : Arc4) → start ≤ k → k < end → number_from (slice_index_or arcs k d) ≡ number
+
+pub run_more : (arcs : List Arc4) (start place number found : ℕ) → IsLeft arcs number start place → ((d : Arc4) → number_from (slice_index_or arcs place d) ≡ found) → found ≡ number → IsLeft arcs number start (place + 1)
+run_more arcs start place number found before here same k d low high = elim (cases_lt k place) [
+  | inl less ↦ before k d low less
+  | inr upto ↦ let e : place ≡ k = omega arith in subst (λ (n : ℕ). number_from (slice_index_or arcs n d) ≡ number) e (here d ∙ same)
+]
+
+pub run_begun : (arcs : List Arc4) (start number : ℕ) → ((d : Arc4) → number_from (slice_index_or arcs start d) ≡ number) → IsLeft arcs number start (start + 1)
+run_begun arcs start number here = run_more arcs start start number number (λ k d low high. absurd (omega arith)) here refl
+
+-- The runs of all arcs
+
+-- the runs hold the arcs before a place
+pub record IsUpto (arcs : List Arc4) (runs : List Run) (place : ℕ) : Type 0 where
+  pub each : (r : Run) → Contains runs r → IsRun arcs r
+  pub all : (k : ℕ) → k < place → (r : Run) × Contains runs r × (r.start ≤ k) × (k < r.end)
+
+pub upto_none : (arcs : List Arc4) (runs : List Run) → runs ≡ [] → IsUpto arcs runs 0
+upto_none arcs runs none = record {
+  each = λ r has. absurd (let e : length runs ≡ 0 = ap (λ (x : List Run). length x) none in omega (arith, has.1));
+  all = λ k l. absurd (omega arith);
+}
+
+pub upto_more : (arcs : List Arc4) (runs runs' : List Run) (run : Run) (place : ℕ) → runs' ≡ runs ++ (run ∷ []) → IsRun arcs run → run.start ≡ place → IsUpto arcs runs place → IsUpto arcs runs' run.end
+upto_more arcs runs runs' run place pushed is begins before = subst (λ (x : List Run). IsUpto arcs x run.end) (sym pushed) (record { each = each; all = all })
+  where
+    each : (r : Run) → Contains (runs ++ (run ∷ [])) r → IsRun arcs r
+    each r has = elim (Contains-push_cases runs run r has) [
+      | inl old ↦ before.each r old
+      | inr same ↦ subst (λ (x : Run). IsRun arcs x) same is
+    ]
+
+    all : (k : ℕ) → k < run.end → (r : Run) × Contains (runs ++ (run ∷ [])) r × (r.start ≤ k) × (k < r.end)
+    all k l = elim (cases_lt k place) [
+      | inl less ↦ let (r, has, low, high) = before.all k less in (r, Contains-append_left runs (run ∷ []) r has, low, high)
+      | inr upto ↦ (run, Contains-append_right runs (run ∷ []) run (0, omega arith, refl), omega arith, l)
+    ]
+
+pub index_upto : (arcs : List Arc4) (runs : List Run) (place : ℕ) → length arcs ≤ place → IsUpto arcs runs place → IsIndex arcs runs
+index_upto arcs runs place end upto = record { each = upto.each; all = λ k l. upto.all k (omega arith) }
+
+pub index_moved : (arcs : List Arc4) (runs moved : List Run) → IsPermutation runs moved → IsIndex arcs runs → IsIndex arcs moved
+index_moved arcs runs moved same index = record {
+  each = λ r has. index.each r (Contains-permutation moved runs r (IsPermutation-sym runs moved same) has);
+  all = λ k l. let (r, has, low, high) = index.all k l in (r, Contains-permutation runs moved r same has, low, high);
+}
+
+-- The arcs of a run
+
+pub in_run : (arcs : List Arc4) (start end k : ℕ) (a : Arc4) → start ≤ k → k < end → end ≤ length arcs → slice_index_or arcs k a ≡ a → Contains (slice_range arcs start end) a
+in_run arcs start end k a low high inside e =
+    let place : start + (k - start) ≡ k = omega arith in (
+      k - start,
+      omega (arith, length-take (end - start) (drop start arcs), length-drop start arcs),
+      get_or-take (end - start) (drop start arcs) (k - start) a (omega arith) ∙ (get_or-drop start arcs (k - start) a ∙ (ap (λ (n : ℕ). slice_index_or arcs n a) place ∙ e)),
+    )
+
+place_in : (arcs : List Arc4) (start end : ℕ) (a : Arc4) → start ≤ end → end ≤ length arcs → Contains (slice_range arcs start end) a → (k : ℕ) × (start ≤ k) × (k < end) × (slice_index_or arcs k a ≡ a)
+place_in arcs start end a upto inside (k, l, e) =
+    let less : k < end - start = omega (arith, length-take (end - start) (drop start arcs), length-drop start arcs) in
+    (start + k, omega arith, omega arith, sym (get_or-drop start arcs k a) ∙ (sym (get_or-take (end - start) (drop start arcs) k a less) ∙ e))
+
+pub from_run : (arcs : List Arc4) (run : Run) (a : Arc4) → IsRun arcs run → Contains (slice_range arcs run.start run.end) a → Contains arcs a
+from_run arcs run a is has = let (k, low, high, e) = place_in arcs run.start run.end a is.upto is.inside has in (k, omega (arith, is.inside), e)
 
 -- nodes are known by their numbers
 node_by_number : (a b : NetAddr) → number_of a ≡ number_of b → a ≡ b
@@ -26,54 +91,54 @@ node_by_number a b e =
     let number : a.addr.0 ≡ b.addr.0 = omega (arith, a.within, b.within) in
     same_net a b (ap (λ (n : ℕ). let r : Addr4 = record { 0 = n } in r) number) (omega (arith, a.within, b.within))
 
--- The run of a node: from the first arc whose number is no less, as long as none is greater
-module _ (arcs rest run : List Arc4) (node : NetAddr) (number start end : ℕ)
-    (from_start : IsPartitionPoint (λ (a : Arc4). ltb (number_from a) number ≡ true) (λ (a : Arc4). ltb (number_from a) number ≡ false) arcs start)
-    (to_end : IsPartitionPoint (λ (a : Arc4). leb (number_from a) number ≡ true) (λ (a : Arc4). leb (number_from a) number ≡ false) rest end)
-    (bound : start ≤ length arcs) (bound_end : end ≤ length rest) (is_rest : rest ≡ drop start arcs) (is_run : run ≡ take end rest) (is_number : number ≡ number_of node) where
-  long_rest : length rest + start ≡ length arcs
-  long_rest = let e : length rest ≡ length (drop start arcs) = ap (λ (x : List Arc4). length x) is_rest in omega (arith, length-drop start arcs)
+pub leaves_node : (arcs : List Arc4) (run : Run) (node : NetAddr) (a : Arc4) → IsRun arcs run → run.number ≡ number_of node → Contains (slice_range arcs run.start run.end) a → a.from ≡ node
+leaves_node arcs run node a is number has =
+    let (k, low, high, e) = place_in arcs run.start run.end a is.upto is.inside has in
+    node_by_number a.from node (subst (λ (x : Arc4). number_of x.from ≡ run.number) e (is.leaves k a low high) ∙ number)
 
-  long_run : length run ≡ end
-  long_run = let e : length run ≡ length (take end rest) = ap (λ (x : List Arc4). length x) is_run in omega (arith, length-take end rest)
+-- The runs of a number: from the first whose number is no less, as long as none is greater
+module _ (runs rest part : List Run) (number start end : ℕ)
+    (from_start : IsPartitionPoint (λ (r : Run). ltb r.number number ≡ true) (λ (r : Run). ltb r.number number ≡ false) runs start)
+    (to_end : IsPartitionPoint (λ (r : Run). leb r.number number ≡ true) (λ (r : Run). leb r.number number ≡ false) rest end)
+    (bound : start ≤ length runs) (bound_end : end ≤ length rest) (is_rest : rest ≡ drop start runs) (is_part : part ≡ take end rest) where
+  long_rest : length rest + start ≡ length runs
+  long_rest = let e : length rest ≡ length (drop start runs) = ap (λ (x : List Run). length x) is_rest in omega (arith, length-drop start runs)
 
-  at_rest : (k : ℕ) (d : Arc4) → slice_index_or rest k d ≡ slice_index_or arcs (start + k) d
-  at_rest k d = ap (λ (x : List Arc4). slice_index_or x k d) is_rest ∙ get_or-drop start arcs k d
+  long_part : length part ≡ end
+  long_part = let e : length part ≡ length (take end rest) = ap (λ (x : List Run). length x) is_part in omega (arith, length-take end rest)
 
-  at_run : (k : ℕ) (d : Arc4) → k < end → slice_index_or run k d ≡ slice_index_or rest k d
-  at_run k d l = ap (λ (x : List Arc4). slice_index_or x k d) is_run ∙ get_or-take end rest k d l
+  at_rest : (k : ℕ) (d : Run) → slice_index_or rest k d ≡ slice_index_or runs (start + k) d
+  at_rest k d = ap (λ (x : List Run). slice_index_or x k d) is_rest ∙ get_or-drop start runs k d
 
-  in_rest : (a : Arc4) → Contains run a → Contains rest a
-  in_rest a (k, l, e) = (k, omega (arith, long_run), sym (at_run k a (omega (arith, long_run))) ∙ e)
+  at_part : (k : ℕ) (d : Run) → k < end → slice_index_or part k d ≡ slice_index_or rest k d
+  at_part k d l = ap (λ (x : List Run). slice_index_or x k d) is_part ∙ get_or-take end rest k d l
 
-  from_rest : (a : Arc4) → Contains rest a → Contains arcs a
-  from_rest a (k, l, e) = (start + k, omega (arith, long_rest), sym (at_rest k a) ∙ e)
+  has : (r : Run) → Contains part r → Contains runs r
+  has r (k, l, e) = (start + k, omega (arith, long_part, long_rest), sym (at_rest k r) ∙ (sym (at_part k r (omega (arith, long_part))) ∙ e))
 
-  leaves : (a : Arc4) → Contains run a → a.from ≡ node
-  leaves a (k, l, e) =
-      let here : slice_index_or rest k a ≡ a = sym (at_run k a (omega (arith, long_run))) ∙ e in
-      let there : slice_index_or arcs (start + k) a ≡ a = sym (at_rest k a) ∙ here in
-      let low : number ≤ number_from a = ltb-false (number_from a) number (subst (λ (x : Arc4). ltb (number_from x) number ≡ false) there (from_start.1 (start + k) a (omega arith) (omega (arith, long_rest, long_run)))) in
-      let high : number_from a ≤ number = leb-true (number_from a) number (subst (λ (x : Arc4). leb (number_from x) number ≡ true) here (to_end.0 k a (omega arith) (omega (arith, long_run)))) in
-      node_by_number a.from node (omega arith)
+  is : (r : Run) → Contains part r → r.number ≡ number
+  is r (k, l, e) =
+      let here : slice_index_or rest k r ≡ r = sym (at_part k r (omega (arith, long_part))) ∙ e in
+      let there : slice_index_or runs (start + k) r ≡ r = sym (at_rest k r) ∙ here in
+      let low : number ≤ r.number = ltb-false r.number number (subst (λ (x : Run). ltb x.number number ≡ false) there (from_start.1 (start + k) r (omega arith) (omega (arith, long_rest, long_part)))) in
+      let high : r.number ≤ number = leb-true r.number number (subst (λ (x : Run). leb x.number number ≡ true) here (to_end.0 k r (omega arith) (omega (arith, long_part)))) in
+      omega arith
 
-  all : (a : Arc4) → Contains arcs a → a.from ≡ node → Contains run a
-  all a (k, l, e) begins =
-      let same : number_from a ≡ number_of node = ap number_of begins in
-      elim (cases_lt k start) [
-        | inl before ↦
-            let less : number_from a < number = ltb-true (number_from a) number (subst (λ (x : Arc4). ltb (number_from x) number ≡ true) e (from_start.0 k a (omega arith) before)) in
-            absurd (omega arith)
-        | inr from ↦
-            let place : start + (k - start) ≡ k = omega arith in
-            let here : slice_index_or rest (k - start) a ≡ a = at_rest (k - start) a ∙ (ap (λ (n : ℕ). slice_index_or arcs n a) place ∙ e) in
-            elim (cases_lt (k - start) end) [
-              | inl inside ↦ (k - start, omega (arith, long_run), at_run (k - start) a inside ∙ here)
-              | inr after ↦
-                  let more : number < number_from a = leb-false (number_from a) number (subst (λ (x : Arc4). leb (number_from x) number ≡ false) here (to_end.1 (k - start) a after (omega (arith, long_rest)))) in
-                  absurd (omega arith)
-            ]
-      ]
+  all : (r : Run) → Contains runs r → r.number ≡ number → Contains part r
+  all r (k, l, e) same = elim (cases_lt k start) [
+    | inl before ↦
+        let less : r.number < number = ltb-true r.number number (subst (λ (x : Run). ltb x.number number ≡ true) e (from_start.0 k r (omega arith) before)) in
+        absurd (omega arith)
+    | inr from ↦
+        let place : start + (k - start) ≡ k = omega arith in
+        let here : slice_index_or rest (k - start) r ≡ r = at_rest (k - start) r ∙ (ap (λ (n : ℕ). slice_index_or runs n r) place ∙ e) in
+        elim (cases_lt (k - start) end) [
+          | inl inside ↦ (k - start, omega (arith, long_part), at_part (k - start) r inside ∙ here)
+          | inr after ↦
+              let more : number < r.number = leb-false r.number number (subst (λ (x : Run). leb x.number number ≡ false) here (to_end.1 (k - start) r after (omega (arith, long_rest)))) in
+              absurd (omega arith)
+        ]
+  ]
 
-  pub run_of : IsRun arcs node run
-  run_of = record { has = λ a h. from_rest a (in_rest a h); leaves = leaves; all = all }
+  pub part_of : IsPart runs number part
+  part_of = record { has = has; is = is; all = all }

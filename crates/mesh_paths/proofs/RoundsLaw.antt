@@ -16,12 +16,12 @@ use Rattle.mesh_atoms.specs.Nodes.{IsBefore, IsAtMost, net_cmp}
 use Rattle.mesh_atoms.proofs.NetOrder.{net_total, net_exact, is_equal}
 use Rattle.mesh_paths.specs.Paths.{HasCosts, IsCertificate}
 use Rattle.mesh_paths.specs.Tree.{OffersBy, IsAsGood}
-use Rattle.mesh_paths.specs.Search.{IsIndex, IsSettledRow, IsKeyed, Settles}
+use Rattle.mesh_paths.specs.Search.{IsSettledRow, IsKeyed, Settles}
 use Rattle.mesh_paths.specs.Rounds.{RowMap, missing_of, weight_of, missing_in, weight_in, IsMetIn, Betters, IsOfferBy, HasAsGood, IsInRange, Tries, IsLedTo, IsRounds, Goes}
 use Rattle.mesh_paths.proofs.Order.{same_node}
 use Rattle.mesh_paths.proofs.Rows.{of_each, item_in}
 use Rattle.mesh_paths.proofs.SearchLaw.{in_tail, head_or_tail}
-use Rattle.mesh_paths.proofs.Found.{tree_found, arcs_of_index, certificate_of_rows}
+use Rattle.mesh_paths.proofs.Found.{tree_found, certificate_of_rows}
 
 -- Sums over one list
 
@@ -316,11 +316,7 @@ module _ (m : RowMap) (arcs : List Arc4) (from : NetAddr) (now : IsRounds m arcs
         ]
   ]
 
-  -- of all arcs, where the rounds went over an index of them
-  pub certificate_of_index : (g : Graph) → HasCosts g → (all : List Arc4) → all ≡ g.arcs → IsIndex all arcs → tree.IsOrdered net_cmp m → (rows : List PathRow) → rows ≡ values_of m.entries → IsCertificate g from (record { rows = rows })
-  certificate_of_index g costs all is same ordered rows e = certificate_of_rows g from costs all (values_of m.entries) is
-      (tree_found m now.keyed ordered all from (record { node = from; metric = 0; parent = from }, now.start, refl, inr (refl, inr (refl, omega arith)))
-      (λ r a has there begins. met a (same.has a there) r has (sym begins)) (λ r has. arcs_of_index all arcs from r.node r.metric r.parent same (offered r has))) rows e
-
   pub certificate_of_rounds : (g : Graph) → HasCosts g → arcs ≡ g.arcs → tree.IsOrdered net_cmp m → (rows : List PathRow) → rows ≡ values_of m.entries → IsCertificate g from (record { rows = rows })
-  certificate_of_rounds g costs is = certificate_of_index g costs arcs is (record { has = λ a h. h; of_it = λ a h. h; few = omega arith })
+  certificate_of_rounds g costs is ordered rows e = certificate_of_rows g from costs arcs (values_of m.entries) is
+      (tree_found m now.keyed ordered arcs from (record { node = from; metric = 0; parent = from }, now.start, refl, inr (refl, inr (refl, omega arith)))
+      (λ r a has there begins. met a there r has (sym begins)) offered) rows e

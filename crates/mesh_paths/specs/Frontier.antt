@@ -1,5 +1,5 @@
 -- The state of a search by a frontier: rows that may yet get better, and steps that are yet to be taken.
-use Rattle.std.specs.Prelude.{◌≡◌, ◌≢◌, ℕ, ◌+◌, ◌*◌, ◌⊎◌, List, Contains, length}
+use Rattle.std.specs.Prelude.{◌≡◌, ◌≢◌, ℕ, ◌+◌, ◌*◌, ◌≤◌, ◌⊎◌, List, Contains, length}
 use Rattle.mesh_atoms.specs.declared.addr.NetAddr.{NetAddr}
 use Rattle.mesh_atoms.specs.declared.graphs.Arc4.{Arc4}
 use Rattle.mesh_atoms.specs.declared.graphs.PathRow.{PathRow}
@@ -35,3 +35,10 @@ Offers map steps first arc map' steps' =
 -- a number that falls with each step that is taken
 abbrev pub work_in : RowMap → List Arc4 → List Step → ℕ
 work_in map arcs steps = length steps + 2 * weight_in map arcs
+
+-- arcs are offered: what was met or waits still does so, and so does each of them
+pub record OffersAll (map : RowMap) (steps : List Step) (arcs : List Arc4) (from : NetAddr) (first : PathRow) (run : List Arc4) (map' : RowMap) (steps' : List Step) : Type 0 where
+  pub taking : IsTaking map' arcs from first steps'
+  pub carried : (a : Arc4) → IsMetOrWaits map steps a → IsMetOrWaits map' steps' a
+  pub done : (a : Arc4) → Contains run a → IsMetOrWaits map' steps' a
+  pub work : work_in map' arcs steps' ≤ work_in map arcs steps

@@ -1,5 +1,5 @@
 -- The arcs and steps of a search, and the rows that it has reached.
-use Rattle.std.specs.Prelude.{◌≡◌, ℕ, ◌+◌, ◌*◌, ◌≤◌, ◌⊎◌, List, Contains, length, Some}
+use Rattle.std.specs.Prelude.{◌≡◌, ℕ, ◌+◌, ◌*◌, ◌<◌, ◌≤◌, ◌⊎◌, List, Contains, length, slice_index_or, Some}
 use Rattle.std.specs.Ordering.{nat_cmp, ordering_then}
 use Rattle.std.specs.declared.cmp.Ordering.{Ordering}
 use Rattle.std.specs.BTreeMap as tree
@@ -7,6 +7,7 @@ use Rattle.mesh_atoms.specs.declared.addr.NetAddr.{NetAddr}
 use Rattle.mesh_atoms.specs.Nodes.{net_cmp}
 use Rattle.mesh_atoms.specs.declared.graphs.Arc4.{Arc4}
 use Rattle.mesh_atoms.specs.declared.graphs.PathRow.{PathRow}
+use Rattle.mesh_paths.specs.declared.frontier.Run.{Run}
 use Rattle.mesh_paths.specs.declared.frontier.Step.{Step}
 
 -- Arcs
@@ -19,17 +20,22 @@ number_of node = 64 * node.addr.0 + node.prefix
 abbrev pub number_from : Arc4 → ℕ
 number_from arc = number_of arc.from
 
--- the same arcs, no more of them
-pub record IsIndex (arcs : List Arc4) (index : List Arc4) : Type 0 where
-  pub has : (a : Arc4) → Contains arcs a → Contains index a
-  pub of_it : (a : Arc4) → Contains index a → Contains arcs a
-  pub few : length index ≤ length arcs
+-- arcs that stand together leave the node of that number
+pub record IsRun (arcs : List Arc4) (run : Run) : Type 0 where
+  pub upto : run.start ≤ run.end
+  pub inside : run.end ≤ length arcs
+  pub leaves : (k : ℕ) (d : Arc4) → run.start ≤ k → k < run.end → number_from (slice_index_or arcs k d) ≡ run.number
 
--- the arcs that leave the node
-pub record IsRun (arcs : List Arc4) (node : NetAddr) (run : List Arc4) : Type 0 where
-  pub has : (a : Arc4) → Contains run a → Contains arcs a
-  pub leaves : (a : Arc4) → Contains run a → a.from ≡ node
-  pub all : (a : Arc4) → Contains arcs a → a.from ≡ node → Contains run a
+-- runs that hold each arc
+pub record IsIndex (arcs : List Arc4) (runs : List Run) : Type 0 where
+  pub each : (r : Run) → Contains runs r → IsRun arcs r
+  pub all : (k : ℕ) → k < length arcs → (r : Run) × Contains runs r × (r.start ≤ k) × (k < r.end)
+
+-- the runs of that number
+pub record IsPart (runs : List Run) (number : ℕ) (part : List Run) : Type 0 where
+  pub has : (r : Run) → Contains part r → Contains runs r
+  pub is : (r : Run) → Contains part r → r.number ≡ number
+  pub all : (r : Run) → Contains runs r → r.number ≡ number → Contains part r
 
 -- Steps
 

@@ -1,19 +1,28 @@
 //! The search for least walks: a frontier ordered by metric, then node, of which the least step is taken at each turn.
-ghost use Rattle.std.specs.Prelude.{IsTrue, ◌↔◌, IfOk, IfSome, IfNone, OnOk, Contains, ◌≡◌, ◌≢◌, ◌+◌, ◌*◌, ◌<◌, ◌≤◌, ◌^◌, length, Some, None};
+ghost use Rattle.std.specs.Prelude.{IsTrue, ◌↔◌, IfOk, IfSome, IfNone, OnOk, Contains, ◌≡◌, ◌≢◌, ◌+◌, ◌*◌, ◌<◌, ◌≤◌, ◌^◌, length, slice_index_or, Some, None};
+ghost use Rattle.std.specs.List.{slice_range};
 ghost use Rattle.std.specs.List.Sorted.{IsNonDecreasingBy};
 ghost use Rattle.mesh_atoms.specs.declared.graphs.PathRow.{PathRow};
 ghost use Rattle.mesh_atoms.specs.declared.graphs.Arc4.{Arc4};
 ghost use Rattle.std.specs.BTreeMap.{get, values, IsOrdered};
 ghost use Rattle.mesh_paths.specs.Paths.{HasCosts, IsCertificate};
 ghost use Rattle.mesh_atoms.specs.Nodes.{net_cmp};
-ghost use Rattle.mesh_paths.specs.Search.{number_of, number_from, IsIndex, IsRun, Puts, IsSettledRow, IsKeyed, Settles, row_of};
+ghost use Rattle.mesh_paths.specs.Search.{number_of, number_from, IsRun, IsIndex, IsPart, Puts, IsSettledRow, IsKeyed, Settles, row_of};
 ghost use Rattle.mesh_paths.specs.Rounds.{IsRounds, IsMetIn};
-ghost use Rattle.mesh_paths.specs.Frontier.{Offers, IsTaking, IsSearch, work_in};
+ghost use Rattle.mesh_paths.specs.Frontier.{Offers, IsTaking, OffersAll, IsSearch, work_in};
 
 use crate::rounds::{has_as_good, row_at};
 use mesh_atoms::{Arc4, Certificate, Graph, NetAddr, PathRow, Seq};
 use std::alloc::{AllocError, Global};
 use std::collections::{BTreeMap, BTreeSet};
+
+// Arcs that stand together and leave one node: its number, their first place, and the place behind their last.
+#[derive(Clone, Copy)]
+pub(crate) struct Run {
+    pub(crate) number: u64,
+    pub(crate) start: usize,
+    pub(crate) end: usize,
+}
 
 // A step that may be taken: to a node, at a metric, by way of a parent.
 #[derive(Clone, Copy, PartialEq, Eq, PartialOrd, Ord)]
@@ -31,20 +40,67 @@ pub fn search(alloc: Global, graph: &Graph, from: NetAddr) -> Result<Certificate
     requires few { length graph.now.arcs < 2 ^ 32 }
     ensures certificate { IfOk result (λ certificate. IsCertificate graph.now from certificate) }
 {
-    let index = index_of(alloc, graph.arcs.as_slice())?;
-    let reached = reach_nearest(alloc, index.as_slice(), from)?;
+    let arcs = graph.arcs.as_slice();
+    let runs = index_of(alloc, arcs)?;
+    let reached = reach_nearest(alloc, arcs, runs.as_slice(), from)?;
     let rows = rows_in_order(alloc, &reached)?;
     Ok(Certificate { rows })
 }
 
-// The arcs in the order of the nodes that they leave, so that those of a node stand together.
-fn index_of(alloc: Global, arcs: &[Arc4]) -> Result<Vec<Arc4>, AllocError>
-    ensures same { IfOk result (λ index. IsIndex arcs.now index.items) }
-    ensures order { IfOk result (λ index. IsNonDecreasingBy number_from index.items) }
+// The arcs as runs, in the order of the nodes that they leave.
+fn index_of(alloc: Global, arcs: &[Arc4]) -> Result<Vec<Run>, AllocError>
+    ensures all { IfOk result (λ runs. IsIndex arcs.now runs.items) }
+    ensures order { IfOk result (λ runs. IsNonDecreasingBy (λ run. run.number) runs.items) }
 {
-    let mut index = arcs.to_vec(alloc)?;
-    index.sort_unstable_by_key(|arc| number_of(arc.from));
-    Ok(index)
+    let mut runs = runs_of(alloc, arcs)?;
+    runs.sort_unstable_by_key(|run| run.number);
+    Ok(runs)
+}
+
+// The arcs as runs, in their own order.
+fn runs_of(alloc: Global, arcs: &[Arc4]) -> Result<Vec<Run>, AllocError>
+    ensures { IfOk result (λ runs. IsIndex arcs.now runs.items) }
+{
+    let mut runs = Vec::new(alloc);
+    let mut start = 0;
+    while start < arcs.len() {
+        let run = run_at(arcs, start);
+        runs.push(run)?;
+        start = run.end;
+    }
+    Ok(runs)
+}
+
+// The arcs from a place on, as long as they leave one node.
+fn run_at(arcs: &[Arc4], start: usize) -> Run
+    requires { start < length arcs.now }
+    ensures run { IsRun arcs.now result }
+    ensures start { result.start ≡ start }
+    ensures more { start < result.end }
+{
+    let number = number_at(arcs, start);
+    for place in start + 1..arcs.len() {
+        if number_at(arcs, place) != number {
+            return Run {
+                number,
+                start,
+                end: place,
+            };
+        }
+    }
+    Run {
+        number,
+        start,
+        end: arcs.len(),
+    }
+}
+
+// The number of the node that the arc at a place leaves.
+fn number_at(arcs: &[Arc4], place: usize) -> u64
+    requires { place < length arcs.now }
+    ensures { (d : Arc4) → number_from (slice_index_or arcs.now place d) ≡ result }
+{
+    number_of(arcs[place].from)
 }
 
 // A number for each node, in their order.
@@ -58,11 +114,13 @@ fn number_of(node: NetAddr) -> u64
 fn reach_nearest(
     alloc: Global,
     arcs: &[Arc4],
+    runs: &[Run],
     from: NetAddr,
 ) -> Result<BTreeMap<NetAddr, PathRow>, AllocError>
     requires costs { (arc : Arc4) → Contains arcs.now arc → 1 ≤ arc.metric }
     requires few { length arcs.now < 2 ^ 32 }
-    requires order { IsNonDecreasingBy number_from arcs.now }
+    requires index { IsIndex arcs.now runs.now }
+    requires order { IsNonDecreasingBy (λ run. run.number) runs.now }
     ensures rows { IfOk result (λ reached. IsRounds reached arcs.now from) }
     ensures met { IfOk result (λ reached. (arc : Arc4) → Contains arcs.now arc → IsMetIn reached arc) }
 {
@@ -77,7 +135,7 @@ fn reach_nearest(
     put_step(&mut frontier, start)?;
     while let Some(step) = frontier.pop_first() {
         if let Some(first) = latest(&reached, step) {
-            offer_arcs(&mut reached, &mut frontier, arcs, from, first)?;
+            offer_arcs(&mut reached, &mut frontier, arcs, runs, from, first)?;
         }
     }
     Ok(reached)
@@ -154,33 +212,57 @@ fn offer_arcs(
     reached: &mut BTreeMap<NetAddr, PathRow>,
     frontier: &mut BTreeSet<Step>,
     arcs: &[Arc4],
+    runs: &[Run],
     from: NetAddr,
     first: PathRow,
 ) -> Result<(), AllocError>
     requires costs { (arc : Arc4) → Contains arcs.now arc → 1 ≤ arc.metric }
     requires few { length arcs.now < 2 ^ 32 }
-    requires order { IsNonDecreasingBy number_from arcs.now }
+    requires index { IsIndex arcs.now runs.now }
+    requires order { IsNonDecreasingBy (λ run. run.number) runs.now }
     requires taking { IsTaking reached.old arcs.now from first frontier.old.keys }
     ensures search { OnOk result (IsSearch reached.new arcs.now from frontier.new.keys) }
     ensures work { OnOk result (work_in reached.new arcs.now frontier.new.keys ≤ work_in reached.old arcs.now frontier.old.keys) }
 {
-    let run = leaving(arcs, first.node);
-    for arc in run {
-        offer_arc(reached, frontier, first, *arc)?;
+    let part = leaving(runs, number_of(first.node));
+    for run in part {
+        offer_run(reached, frontier, arcs, *run, from, first)?;
     }
     Ok(())
 }
 
-// The arcs that leave the node. Takes time near log n in the number n of arcs.
-fn leaving(arcs: &[Arc4], node: NetAddr) -> &[Arc4]
-    requires { IsNonDecreasingBy number_from arcs.now }
-    ensures { IsRun arcs.now node result.now }
+// The runs of that number. Takes time near log n in the number n of runs.
+fn leaving(runs: &[Run], number: u64) -> &[Run]
+    requires { IsNonDecreasingBy (λ run. run.number) runs.now }
+    ensures { IsPart runs.now number result.now }
 {
-    let number = number_of(node);
-    let start = arcs.partition_point(|arc| number_of(arc.from) < number);
-    let rest = &arcs[start..];
-    let end = rest.partition_point(|arc| number_of(arc.from) <= number);
+    let start = runs.partition_point(|run| run.number < number);
+    let rest = &runs[start..];
+    let end = rest.partition_point(|run| run.number <= number);
     &rest[..end]
+}
+
+// Offers the arcs of a run, which leave the row's node.
+fn offer_run(
+    reached: &mut BTreeMap<NetAddr, PathRow>,
+    frontier: &mut BTreeSet<Step>,
+    arcs: &[Arc4],
+    run: Run,
+    from: NetAddr,
+    first: PathRow,
+) -> Result<(), AllocError>
+    requires costs { (arc : Arc4) → Contains arcs.now arc → 1 ≤ arc.metric }
+    requires few { length arcs.now < 2 ^ 32 }
+    requires run { IsRun arcs.now run }
+    requires number { run.number ≡ number_of first.node }
+    requires taking { IsTaking reached.old arcs.now from first frontier.old.keys }
+    ensures { OnOk result (OffersAll reached.old frontier.old.keys arcs.now from first (slice_range arcs.now run.start run.end) reached.new frontier.new.keys) }
+{
+    let part = &arcs[run.start..run.end];
+    for arc in part {
+        offer_arc(reached, frontier, first, *arc)?;
+    }
+    Ok(())
 }
 
 // Puts what the arc offers from the row into the map and its step into the frontier, unless a row is as good.
