@@ -2,7 +2,7 @@
 //! error: it is made again.
 ghost use Rattle.std.specs.Prelude.{◌≡◌, ◌≤◌, ◌<◌, ◌+◌, length, IsTrue, IsErr};
 ghost use Rattle.std.specs.Io.{ReadsAtMost, WritesAtMost};
-ghost use Rattle.std.specs.Io.KnownBytes.{ReadConsumes, WriteAppends};
+ghost use Rattle.std.specs.Io.KnownBytes.{Keeps, ReadConsumes, WriteAppends};
 
 use mesh_io::{Put, Sink, Source, Took};
 use std::io::{self, ErrorKind, Read, Write};
@@ -102,6 +102,13 @@ pub struct Writing<W> {
 impl<W: Write> Writing<W> {
     pub fn new(inner: W) -> Writing<W> {
         Writing { inner, faults: 0 }
+    }
+
+    /// Hands over what the writer gathered, and tells whether that went well. What was put stays the same.
+    pub fn flush(&mut self) -> bool
+        ensures { Keeps (W.contents self.old.inner) (W.contents self.new.inner) }
+    {
+        self.inner.flush().is_ok()
     }
 }
 
