@@ -1,26 +1,24 @@
 -- What an emulation leaves on out, from what is left by what is told of its network.
-use Rattle.std.proofs.Common.{◌≡◌, ℕ, Bool, List, [], Option, Some, None, Result, Err, take, refl, inl, inr, sym, ap, ◌∙◌, subst}
+use Rattle.std.proofs.Common.{◌≡◌, ℕ, Bool, List, [], ◌++◌, Option, Some, None, Result, Err, take, refl, inl, inr, sym, ap, ◌∙◌, subst, append_assoc}
 use Rattle.std.specs.Io.KnownBytes.{Appends}
 use Rattle.std.specs.Prelude.{IsSome}
 use Rattle.std.proofs.lemmas.List.{append-nil}
 use Rattle.mesh_atoms.specs.declared.addr.Addr4.{Addr4}
-use Rattle.mesh_atoms.specs.declared.settings.Scenario.{Scenario}
 use Rattle.mesh_atoms.specs.State.{State}
-use Rattle.mesh_data.specs.declared.trip.Trip.{Trip}
 use Rattle.mesh_data.specs.Text.{text_of}
 use Rattle.mesh_data.specs.Trips.{IsTrip}
 use Rattle.mesh_io.specs.Faults.{Rose}
 use Rattle.mesh_io.specs.declared.stop.Stop.{Stop}
 use Rattle.mesh_io.specs.declared.stop.Stop.TheVariants as stop
-use Rattle.mesh_emulate.specs.Emulation.{States, TellsTrip, Emulation, StoppedEmulation, IsRefused, without_trip, IsFirstPart, Of_nothing, Of_first_events, Of_run, IsFront, Front_of_events, Front_of_run, Front_of_whole}
-use Rattle.mesh_emulate.specs.Left.{Leaves, IsTripTold, IsWholeText, IsRunAlone, IsFirstText, IsFrontText, IsPartText}
+use Rattle.mesh_emulate.specs.Emulation.{TellsTrip, TellsProbe, Emulation, StoppedEmulation, IsRefused, without_both, without_probe, IsAllBut, But_the_trip, But_the_probe, IsFirstPart, Of_nothing, Of_first_events, Of_run, IsFront, Front_of_events, Front_of_run, Front_of_whole}
+use Rattle.mesh_emulate.specs.Left.{Leaves, IsTripTold, IsProbeTold, IsWholeText, IsRunAlone, IsTripAlone, IsFirstText, IsFrontText, IsPartText}
 use Rattle.mesh_emulate.specs.Prepared.{IsPrepared, IsUnbegun}
-use Rattle.mesh_emulate.specs.Wants.{Packet, Wants, Departs}
+use Rattle.mesh_emulate.specs.Wants.{Packet, Wants, IsNamed, Agree, Departs}
 use Rattle.mesh_emulate.specs.declared.emulation.EmulateFault.{EmulateFault}
 use Rattle.mesh_emulate.specs.declared.emulation.EmulateFault.TheVariants.{Refused, Stopped}
 use Rattle.mesh_emulate.specs.declared.prepared.Prepared.{Prepared}
 use Rattle.mesh_emulate.specs.declared.wanted.Departure.{Departure}
-use Rattle.mesh_texts.specs.Runs.{IsRunText, IsFirstTrace}
+use Rattle.mesh_texts.specs.Runs.{WholeRun, IsRunText, IsFirstTrace}
 use Rattle.mesh_toml.specs.Faults.{IfRefused}
 use Rattle.mesh_toml.specs.declared.fault.ConfigFault.{ConfigFault}
 use Rattle.mesh_toml.specs.declared.fault.ConfigFault.TheVariants as faults
@@ -45,8 +43,14 @@ unbegun_written (faults.Memory a) ends is e = cc
 
 -- From numbers to names
 
+some_wanted : {A B : Type 0} (R : A → B → Type 0) (x : Option A) (y : Option B) → Agree R x y → IsSome y → IsSome x
+some_wanted R (Some a) (Some b) is some = refl
+some_wanted R None None is some = some
+some_wanted R None (Some b) is some = absurd is
+some_wanted R (Some a) None is some = absurd is
+
 module _ (input : List ℕ) (wants : Wants) (p : Prepared) (ready : IsPrepared input wants p) where
-  trip_named : (states : List State) (send : Option Packet) (departs : Option Departure) (text : List ℕ) → Departs p.scenario send departs →
+  trip_named : (states : List State) (send : Option Packet) (departs : Option Departure) (text : List ℕ) → Agree (Departs p.scenario) send departs →
       IsTripTold p.scenario states departs text → TellsTrip p.scenario states send text
   trip_named states None None text departs told = told
   trip_named states (Some packet) (Some departure) text departs (trip, is, text_is) = record {
@@ -59,49 +63,55 @@ module _ (input : List ℕ) (wants : Wants) (p : Prepared) (ready : IsPrepared i
   trip_named states None (Some departure) text departs told = absurd departs
   trip_named states (Some packet) None text departs told = absurd departs
 
-  some_wanted : (send : Option Packet) (departs : Option Departure) → Departs p.scenario send departs → IsSome departs → IsSome send
-  some_wanted (Some packet) departs is some = refl
-  some_wanted None None is some = some
-  some_wanted None (Some departure) is some = absurd is
+  probe_named : (states : List State) (probe : Option (List ℕ)) (origin : Option ℕ) (text : List ℕ) → Agree (IsNamed p.scenario) probe origin →
+      IsProbeTold p.scenario states origin text → TellsProbe p.scenario states probe text
+  probe_named states None None text is told = told
+  probe_named states (Some name) (Some origin) text is (probe, is_probe, text_is) =
+      record { origin = origin; named = is; probe = probe; is_probe = is_probe; is_text = text_is }
+  probe_named states None (Some origin) text is told = absurd is
+  probe_named states (Some name) None text is told = absurd is
 
-  whole : (text : List ℕ) → IsWholeText p.scenario p.errand text → (e : Emulation input wants) × (text ≡ e.text)
-  whole text (run, told, trip, is_told, trip_told, is) = (
+  -- an emulation of this run
+  emulation : (w : Wants) → wants.trace ≡ w.trace → (run : WholeRun p.scenario) (told trip probe text : List ℕ) → IsRunText p.scenario p.errand.trace run told →
+      TellsTrip p.scenario run.final.routers w.send trip → TellsProbe p.scenario run.final.routers w.probe probe → text ≡ told ++ (trip ++ probe) →
+      (e : Emulation input w) × (text ≡ e.text)
+  emulation w same run told trip probe text is_told is_trip is_probe is = (
     record {
       scenario = p.scenario;
       stated = ready.stated;
       run = run;
       told = told;
-      is_told = subst (λ (b : Bool). IsRunText p.scenario b run told) ready.trace is_told;
+      is_told = subst (λ (b : Bool). IsRunText p.scenario b run told) (ready.errand.trace ∙ same) is_told;
       trip = trip;
-      is_trip = trip_named run.final.routers wants.send p.errand.send trip ready.departs trip_told;
+      is_trip = is_trip;
+      probe = probe;
+      is_probe = is_probe;
       text = text;
       whole = is;
     },
     refl,
   )
 
-  run_alone : (text : List ℕ) → IsRunAlone p.scenario p.errand text → IsSome wants.send × ((e : Emulation input (without_trip wants)) × (text ≡ e.text))
-  run_alone text (some, run, is_told) = (
-    some_wanted wants.send p.errand.send ready.departs some,
-    (
-      record {
-        scenario = p.scenario;
-        stated = ready.stated;
-        run = run;
-        told = text;
-        is_told = subst (λ (b : Bool). IsRunText p.scenario b run text) ready.trace is_told;
-        trip = [];
-        is_trip = refl;
-        text = text;
-        whole = sym (append-nil text);
-      },
-      refl,
-    ),
-  )
+  whole : (text : List ℕ) → IsWholeText p.scenario p.errand text → (e : Emulation input wants) × (text ≡ e.text)
+  whole text (run, front, probe, (told, trip, is_told, trip_told, is_front), probe_told, is) =
+      emulation wants refl run told trip probe text is_told (trip_named run.final.routers wants.send p.errand.send trip ready.errand.departs trip_told)
+      (probe_named run.final.routers wants.probe p.errand.probe probe ready.errand.origin probe_told)
+      (is ∙ ap (λ (l : List ℕ). l ++ probe) is_front ∙ append_assoc told trip probe)
+
+  run_alone : (text : List ℕ) → IsRunAlone p.scenario p.errand text → IsAllBut input wants text
+  run_alone text (some, run, is_told) =
+      let e = emulation (without_both wants) refl run text [] [] text is_told refl refl (sym (append-nil text)) in
+      But_the_trip (some_wanted (Departs p.scenario) wants.send p.errand.send ready.errand.departs some) e.0 e.1
+
+  trip_alone : (text : List ℕ) → IsTripAlone p.scenario p.errand text → IsAllBut input wants text
+  trip_alone text (some, run, (told, trip, is_told, trip_told, is)) =
+      let e = emulation (without_probe wants) refl run told trip [] text is_told (trip_named run.final.routers wants.send p.errand.send trip ready.errand.departs trip_told) refl
+      (is ∙ ap (λ (l : List ℕ). told ++ l) (sym (append-nil trip))) in
+      But_the_probe (some_wanted (IsNamed p.scenario) wants.probe p.errand.probe ready.errand.origin some) e.0 e.1
 
   first_events : (text : List ℕ) → IsFirstText p.scenario p.errand.trace text → (e : StoppedEmulation input wants.trace) × (text ≡ e.text)
   first_events text (first, is) =
-      (record { scenario = p.scenario; stated = ready.stated; first_events = first; text = text; is_text = subst (λ (b : Bool). IsFirstTrace b first text) ready.trace is }, refl)
+      (record { scenario = p.scenario; stated = ready.stated; first_events = first; text = text; is_text = subst (λ (b : Bool). IsFirstTrace b first text) ready.errand.trace is }, refl)
 
   pub emulated : (a b : Option (List ℕ)) → (text : List ℕ) × IsWholeText p.scenario p.errand text × Appends a b text →
       (e : Emulation input wants) × Appends a b e.text
@@ -109,13 +119,15 @@ module _ (input : List ℕ) (wants : Wants) (p : Prepared) (ready : IsPrepared i
 
   is_front : (text : List ℕ) → IsFrontText p.scenario p.errand text → IsFront input wants text
   is_front text (inl first) = let e = first_events text first in Front_of_events e.0 e.1
-  is_front text (inr (inl alone)) = let e = run_alone text alone in Front_of_run e.0 e.1.0 e.1.1
-  is_front text (inr (inr all)) = let e = whole text all in Front_of_whole e.0 e.1
+  is_front text (inr (inl alone)) = Front_of_run (run_alone text alone)
+  is_front text (inr (inr (inl alone))) = Front_of_run (trip_alone text alone)
+  is_front text (inr (inr (inr all))) = let e = whole text all in Front_of_whole e.0 e.1
 
   is_part : (text : List ℕ) → IsPartText p.scenario p.errand text → IsFirstPart input wants text
   is_part text (inl none) = Of_nothing none
   is_part text (inr (inl first)) = let e = first_events text first in Of_first_events e.0 e.1
-  is_part text (inr (inr alone)) = let e = run_alone text alone in Of_run e.0 e.1.0 e.1.1
+  is_part text (inr (inr (inl alone))) = Of_run (run_alone text alone)
+  is_part text (inr (inr (inr alone))) = Of_run (trip_alone text alone)
 
   pub cut_short : (a b : Option (List ℕ)) (f g : ℕ) (why : Stop) → why ≡ stop.Write →
       Leaves (IsWholeText p.scenario p.errand) (IsFrontText p.scenario p.errand) (IsPartText p.scenario p.errand) a b f g (Err why) →

@@ -3,10 +3,10 @@ use Rattle.std.proofs.Common.{◌≡◌, ℕ, List, get_or, All}
 use Rattle.std.proofs.lemmas.Option.{slice_get-get_or}
 use Rattle.mesh_atoms.specs.declared.graphs.RadioGraph.{RadioGraph}
 use Rattle.mesh_atoms.specs.declared.settings.Scenario.{Scenario}
-use Rattle.mesh_atoms.specs.Radio.{IsRadioGraph}
 use Rattle.mesh_atoms.specs.Settled.{At}
 use Rattle.mesh_atoms.specs.Sound.{Sound}
 use Rattle.mesh_atoms.specs.State.{State}
+use Rattle.mesh_probe.specs.Probes.{AreRoutersAt}
 use Rattle.mesh_radio.proofs.Through.{end_together}
 use Rattle.mesh_settled.specs.Network.{IsNetwork}
 use Rattle.mesh_texts.proofs.RunStates.{run_states}
@@ -16,10 +16,9 @@ use Rattle.mesh_texts.specs.Runs.{WholeRun}
 pub at_end : (s : Scenario) (run : WholeRun s) (x : ℕ) (p : State) → At run.final.routers x p → Sound p × (p.last ≡ s.end)
 at_end s run x p at = end_together s run.opening run.events run.final run.is_opening run.runs run.over x p at.is
 
--- the routers of a run that is over are a network's, at the scenario's end
-pub end_is_network : (s : Scenario) (g : RadioGraph) (run : WholeRun s) → IsRadioGraph s g → IsNetwork s g run.final.routers s.end
-end_is_network s g run graph =
-    record { graph = graph; routers = run_states s run; sound = λ x p at. (at_end s run x p at).0; moment = λ x p at. (at_end s run x p at).1 }
+-- the routers of a run that is over are the scenario's, at its end
+pub end_routers : (s : Scenario) (run : WholeRun s) → AreRoutersAt s run.final.routers s.end
+end_routers s run = record { routers = run_states s run; sound = λ x p at. (at_end s run x p at).0; moment = λ x p at. (at_end s run x p at).1 }
 
 pub all_sound : (s : Scenario) (g : RadioGraph) (states : List State) (now : ℕ) → IsNetwork s g states now → All Sound states
 all_sound s g states now net k d lt = net.sound k (get_or states k d) (record { is = slice_get-get_or states k d lt })

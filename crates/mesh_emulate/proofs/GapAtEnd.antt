@@ -1,5 +1,5 @@
 -- The first gap of a network at its end.
-use Rattle.std.proofs.Common.{◌≡◌, ℕ, refl, List, Option, Some, None, Bool, true, false}
+use Rattle.std.proofs.Common.{◌≡◌, ℕ, refl, List, Option, Some, None, true, false}
 use Rattle.std.specs.Prelude.{IsNone, IfSome, ◌↔◌}
 use Rattle.mesh_atoms.specs.declared.settings.Scenario.{Scenario}
 use Rattle.mesh_atoms.specs.Settled.{Settled}

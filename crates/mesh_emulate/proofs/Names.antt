@@ -1,12 +1,12 @@
 -- The scenario that an input states has one list of names.
-use Rattle.std.proofs.Common.{◌≡◌, ℕ, zero, suc, List, [], ◌∷◌, Result, Ok, Some, refl, sym, ap, ◌∙◌, subst}
-use Rattle.std.specs.Prelude.{slice_get}
+use Rattle.std.proofs.Common.{◌≡◌, ℕ, zero, suc, List, [], ◌∷◌, Ok, refl, sym, ap, ◌∙◌, subst}
+use Rattle.std.specs.Prelude.{codes}
 use Rattle.toml.specs.Data.{Data, Members}
 use Rattle.mesh_atoms.specs.declared.settings.RouterSettings.{RouterSettings}
 use Rattle.mesh_atoms.specs.declared.settings.Scenario.{Scenario}
 use Rattle.mesh_config.specs.Settings.{RouterSays}
 use Rattle.mesh_emulate.specs.Emulation.{States}
-use Rattle.mesh_emulate.specs.Wants.{HasName, IsNamed}
+use Rattle.mesh_emulate.specs.Wants.{Wants, HasName, IsNamed, IsUnknown, FirstUnknown, Of_send, Of_probe}
 use Rattle.mesh_stated.specs.Router.{name}
 use Rattle.mesh_stated.specs.Scenario.{sub_times, routers}
 use Rattle.mesh_stated.specs.Tables.{Each, table_of}
@@ -38,3 +38,13 @@ named_as input s t is it wanted x named =
     let same : table ≡ table' = same_table (document input) table table' read read' in
     named_in_both (sub_times table) (sub_times table') (listed (routers table)) s.routers t.routers says.are_routers
     (subst (λ (m : Members). Each (RouterSays (sub_times table')) (listed (routers m)) t.routers) (sym same) says'.are_routers) wanted x named
+
+-- so a name that no router of the one has no router of the other has
+unknown_there : (input : List ℕ) (s t : Scenario) → States input s → States input t → (name option : List ℕ) (number : ℕ) (key : List ℕ) → IsUnknown s name option number key → IsUnknown t name option number key
+unknown_there input s t is it name option number key u =
+    record { none = λ x named. u.none x (named_as input t s it is name x named); is_number = u.is_number; is_key = u.is_key }
+
+pub unknown_as : (input : List ℕ) (s t : Scenario) → States input s → States input t → (wants : Wants) (number : ℕ) (key : List ℕ) → FirstUnknown s wants number key → FirstUnknown t wants number key
+unknown_as input s t is it wants number key (Of_send (name, wanted, u)) = Of_send (name, wanted, unknown_there input s t is it name (codes "send") number key u)
+unknown_as input s t is it wants number key (Of_probe known (name, wanted, u)) =
+    Of_probe (λ n e. let (x, named) = known n e in (x, named_as input s t is it n x named)) (name, wanted, unknown_there input s t is it name (codes "probe") number key u)

@@ -1,6 +1,6 @@
 -- What is known before the first event, from its parts.
-use Rattle.std.proofs.Common.{◌≡◌, ◌<◌, ℕ, true, false, List, length, get_or, Option, Some, None, refl, sym, ap, ◌∙◌}
-use Rattle.std.specs.Prelude.{IfSome, codes, slice_get}
+use Rattle.std.proofs.Common.{◌≡◌, ◌<◌, ℕ, true, false, List, length, get_or, Option, Some, None, sym, ap, ◌∙◌, subst}
+use Rattle.std.specs.Prelude.{IfSome, slice_get, codes}
 use Rattle.std.specs.Cmp.Lexicographic.{bytes_decides}
 use Rattle.std.proofs.lemmas.Option.{slice_get_within, slice_get-get_or}
 use Rattle.mesh_atoms.specs.declared.settings.RouterSettings.{RouterSettings}
@@ -8,43 +8,73 @@ use Rattle.mesh_atoms.specs.declared.settings.Scenario.{Scenario}
 use Rattle.mesh_atoms.specs.Settings.{name_eq}
 use Rattle.mesh_config.specs.Settings.{FirstRefusal}
 use Rattle.mesh_emulate.specs.declared.wanted.Departure.{Departure}
-use Rattle.mesh_emulate.specs.Emulation.{States, IsRefused, By_settings, By_start}
-use Rattle.mesh_emulate.specs.Wants.{Packet, Wants, HasName, IsNamed, Departs, StartsNowhere}
-use Rattle.mesh_emulate.proofs.Names.{named_as}
+use Rattle.mesh_emulate.specs.declared.wanted.Errand.{Errand}
+use Rattle.mesh_emulate.specs.Emulation.{States, IsRefused, By_settings, By_name}
+use Rattle.mesh_emulate.specs.Wants.{Packet, Wants, HasName, IsNamed, Agree, Departs, IsErrand, IsWithin, IsUnknown, NamesUnknown, NamesKnown, start_of, FirstUnknown, Of_send, Of_probe}
+use Rattle.mesh_emulate.proofs.Names.{unknown_as}
 use Rattle.mesh_toml.specs.Faults.{Fault, fault, FailsAt, IfRefused}
 use Rattle.mesh_toml.specs.declared.fault.ConfigFault.{ConfigFault}
 use Rattle.mesh_toml.specs.declared.fault.ConfigFault.TheVariants as faults
 
-pub departs_within : (s : Scenario) (send : Option Packet) (departs : Option Departure) → Departs s send departs →
-    IfSome departs (λ departure. departure.from < length s.routers)
-departs_within s (Some packet) (Some departure) ((r, at, is), dest) = slice_get_within s.routers departure.from r at
-departs_within s None None is = tt
-departs_within s None (Some departure) is = absurd is
-departs_within s (Some packet) None is = absurd is
+-- What is wanted, by numbers
 
-pub settings_refused : (input : List ℕ) (wants : Wants) (e : ConfigFault) → IfRefused (FirstRefusal input) e → IfRefused (IsRefused input wants) e
-settings_refused input wants (faults.Refused number key) is = By_settings is
-settings_refused input wants (faults.Memory a) is = tt
+agreed : {A B : Type 0} (R : A → B → Type 0) (P : B → Type 0) → ((a : A) (b : B) → R a b → P b) → (x : Option A) (y : Option B) → Agree R x y → IfSome y P
+agreed R P holds (Some a) (Some b) is = holds a b is
+agreed R P holds None None is = tt
+agreed R P holds None (Some b) is = absurd is
+agreed R P holds (Some a) None is = absurd is
 
-pub start_refused : (input : List ℕ) (wants : Wants) (s : Scenario) (e : ConfigFault) → States input s → IfRefused (StartsNowhere s wants.send) e →
-    IfRefused (IsRefused input wants) e
-start_refused input wants s (faults.Refused number key) stated is =
-    By_start s stated is.packet is.wanted (λ other it x named. is.none x (named_as input other s it stated is.packet.from x named)) is.is_number is.is_key
-start_refused input wants s (faults.Memory a) stated is = tt
+pub errand_within : (s : Scenario) (wants : Wants) (errand : Errand) → IsErrand s wants errand → IsWithin s errand
+errand_within s wants errand is = record {
+  from = agreed (Departs s) (λ departure. departure.from < length s.routers) (λ packet departure (named, dest). slice_get_within s.routers departure.from named.0 named.1) wants.send errand.send is.departs;
+  origin = agreed (IsNamed s) (λ origin. origin < length s.routers) (λ name origin named. slice_get_within s.routers origin named.0 named.1) wants.probe errand.probe is.origin;
+}
 
--- the refusal of a name that no router has
-pub starts_nowhere : (s : Scenario) (packet : Packet) (e : ConfigFault) → ((x : ℕ) → IsNamed s packet.from x → ⊥) → FailsAt e (Some (fault 45 (codes "send"))) →
-    IfRefused (StartsNowhere s (Some packet)) e
-starts_nowhere s packet (faults.Refused number key) none is = record {
-  packet = packet;
-  wanted = refl;
+-- where the packet's start is known
+pub start_known : (s : Scenario) (send : Option Packet) (departs : Option Departure) → Agree (Departs s) send departs → NamesKnown s (start_of send)
+start_known s (Some packet) (Some departure) is name e =
+    let same : packet.from ≡ name = cc in
+    (departure.from, subst (λ (n : List ℕ). IsNamed s n departure.from) same is.0)
+start_known s None None is name e = let bad : ⊥ = cc in absurd bad
+start_known s None (Some departure) is name e = absurd is
+start_known s (Some packet) None is name e = absurd is
+
+-- Refusals
+
+refused_by : (P Q : ℕ → List ℕ → Type 0) → ((number : ℕ) (key : List ℕ) → P number key → Q number key) → (e : ConfigFault) → IfRefused P e → IfRefused Q e
+refused_by P Q by (faults.Refused number key) is = by number key is
+refused_by P Q by (faults.Memory a) is = tt
+
+-- no router has the name
+pub is_unknown : (s : Scenario) (name option : List ℕ) (e : ConfigFault) → ((x : ℕ) → IsNamed s name x → ⊥) → FailsAt e (Some (fault 45 option)) →
+    IfRefused (IsUnknown s name option) e
+is_unknown s name option (faults.Refused number key) none is = record {
   none = none;
   is_number = ap (λ (f : Fault). f.number) same;
   is_key = ap (λ (f : Fault). f.key) same;
 } where
-  same : fault number key ≡ fault 45 (codes "send")
+  same : fault number key ≡ fault 45 option
   same = cc
-starts_nowhere s packet (faults.Memory a) none is = tt
+is_unknown s name option (faults.Memory a) none is = tt
+
+-- and it is wanted
+pub names_unknown : (s : Scenario) (wanted : Option (List ℕ)) (name option : List ℕ) (e : ConfigFault) → wanted ≡ Some name → IfRefused (IsUnknown s name option) e →
+    IfRefused (NamesUnknown s wanted option) e
+names_unknown s wanted name option e is unknown =
+    refused_by (IsUnknown s name option) (NamesUnknown s wanted option) (λ number key u. (name, is, u)) e unknown
+
+pub send_refused : (s : Scenario) (wants : Wants) (e : ConfigFault) → IfRefused (NamesUnknown s (start_of wants.send) (codes "send")) e → IfRefused (FirstUnknown s wants) e
+send_refused s wants e is = refused_by (NamesUnknown s (start_of wants.send) (codes "send")) (FirstUnknown s wants) (λ number key u. Of_send u) e is
+
+pub probe_refused : (s : Scenario) (wants : Wants) (e : ConfigFault) → NamesKnown s (start_of wants.send) → IfRefused (NamesUnknown s wants.probe (codes "probe")) e → IfRefused (FirstUnknown s wants) e
+probe_refused s wants e known is = refused_by (NamesUnknown s wants.probe (codes "probe")) (FirstUnknown s wants) (λ number key u. Of_probe known u) e is
+
+pub settings_refused : (input : List ℕ) (wants : Wants) (e : ConfigFault) → IfRefused (FirstRefusal input) e → IfRefused (IsRefused input wants) e
+settings_refused input wants e is = refused_by (FirstRefusal input) (IsRefused input wants) (λ number key r. By_settings r) e is
+
+pub name_refused : (input : List ℕ) (wants : Wants) (s : Scenario) (e : ConfigFault) → States input s → IfRefused (FirstUnknown s wants) e → IfRefused (IsRefused input wants) e
+name_refused input wants s e stated is =
+    refused_by (FirstUnknown s wants) (IsRefused input wants) (λ number key u. By_name s stated (λ other it. unknown_as input s other stated it wants number key u)) e is
 
 -- Names
 

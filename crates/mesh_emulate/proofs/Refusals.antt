@@ -3,20 +3,30 @@ use Rattle.std.proofs.Common.{◌≡◌, ℕ, List, Option, Some, None, subst}
 use Rattle.mesh_atoms.specs.declared.settings.Scenario.{Scenario}
 use Rattle.mesh_atoms.specs.State.{State}
 use Rattle.mesh_config.specs.Settings.{refusals}
-use Rattle.mesh_emulate.specs.Emulation.{IsSent, TellsTrip, Emulation, IsRefused, By_settings, By_start}
-use Rattle.mesh_emulate.specs.Wants.{Packet, Wants}
+use Rattle.mesh_emulate.specs.Emulation.{TellsTrip, TellsProbe, Emulation, IsRefused, By_settings, By_name}
+use Rattle.mesh_emulate.specs.Wants.{Packet, Wants, IsNamed, start_of, FirstUnknown, Of_send, Of_probe}
 use Rattle.mesh_toml.specs.Faults.{Fault, fault, first}
 
 no_fault : (found : Option Fault) (f : Fault) → found ≡ None → found ≡ Some f → ⊥
 no_fault found f none some = cc
 
-sent : (s : Scenario) (states : List State) (send : Option Packet) (packet : Packet) (text : List ℕ) → send ≡ Some packet → TellsTrip s states send text →
-    IsSent s states packet text
-sent s states (Some other) packet text is told = let same : other ≡ packet = cc in subst (λ (p : Packet). IsSent s states p text) same told
-sent s states None packet text is told = absurd cc
+-- what is told is of routers that have the names
+start_named : (s : Scenario) (states : List State) (send : Option Packet) (text name : List ℕ) → TellsTrip s states send text → start_of send ≡ Some name → (x : ℕ) × IsNamed s name x
+start_named s states (Some packet) text name told e =
+    let same : packet.from ≡ name = cc in (told.from, subst (λ (n : List ℕ). IsNamed s n told.from) same told.named)
+start_named s states None text name told e = let bad : ⊥ = cc in absurd bad
+
+origin_named : (s : Scenario) (states : List State) (probe : Option (List ℕ)) (text name : List ℕ) → TellsProbe s states probe text → probe ≡ Some name → (x : ℕ) × IsNamed s name x
+origin_named s states (Some other) text name told e =
+    let same : other ≡ name = cc in (told.origin, subst (λ (n : List ℕ). IsNamed s n told.origin) same told.named)
+origin_named s states None text name told e = let bad : ⊥ = cc in absurd bad
+
+not_unknown : (input : List ℕ) (wants : Wants) (e : Emulation input wants) (number : ℕ) (key : List ℕ) → FirstUnknown e.scenario wants number key → ⊥
+not_unknown input wants e number key (Of_send (name, wanted, u)) =
+    let (x, named) = start_named e.scenario e.run.final.routers wants.send e.trip name e.is_trip wanted in u.none x named
+not_unknown input wants e number key (Of_probe known (name, wanted, u)) =
+    let (x, named) = origin_named e.scenario e.run.final.routers wants.probe e.probe name e.is_probe wanted in u.none x named
 
 pub emulated_not_refused : (input : List ℕ) (wants : Wants) → Emulation input wants → (number : ℕ) (key : List ℕ) → IsRefused input wants number key → ⊥
 emulated_not_refused input wants e number key (By_settings refused) = no_fault (first (refusals input)) (fault number key) e.stated.clear refused
-emulated_not_refused input wants e number key (By_start scenario stated packet wanted none is_number is_key) =
-    let trip = sent e.scenario e.run.final.routers wants.send packet e.trip wanted e.is_trip in
-    none e.scenario e.stated trip.from trip.named
+emulated_not_refused input wants e number key (By_name scenario stated unknown) = not_unknown input wants e number key (unknown e.scenario e.stated)

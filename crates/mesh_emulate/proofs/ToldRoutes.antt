@@ -27,6 +27,8 @@ use Rattle.mesh_emulate.specs.Emulation.{Emulation}
 use Rattle.mesh_emulate.specs.Laws.{RunsMachines, TellsSettled, PrintsLeastRoutes, PrintsNextHops, sending, TripsAreOnly, TripsReachRouters, TripsReachNetworks, TripsNeverStray}
 use Rattle.mesh_emulate.specs.Wants.{Wants}
 use Rattle.mesh_emulate.proofs.Ends.{at_end}
+use Rattle.mesh_emulate.proofs.PlainLines.{both_plain}
+use Rattle.mesh_emulate.proofs.ProbeLines.{probe_is_plain}
 use Rattle.mesh_emulate.proofs.TripLines.{trip_is_plain}
 
 pub runs_machines : RunsMachines
@@ -41,12 +43,14 @@ no_gap s states now None is = (λ e. is, λ settled. refl)
 no_gap s states now (Some gap) is = (λ e. absurd cc, λ settled. absurd (is.0 settled))
 
 -- what stands behind the text of the run
-plain : (input : List ℕ) (wants : Wants) (e : Emulation input wants) → ArePlain e.trip
-plain input wants e = trip_is_plain e.scenario e.run.final.routers wants.send e.trip e.is_trip
+plain : (input : List ℕ) (wants : Wants) (e : Emulation input wants) → ArePlain (e.trip ++ e.probe)
+plain input wants e =
+    both_plain e.trip e.probe (trip_is_plain e.scenario e.run.final.routers wants.send e.trip e.is_trip)
+    (probe_is_plain e.scenario e.run.final.routers wants.probe e.probe e.is_probe)
 
 pub tells_settled : TellsSettled
 tells_settled input wants e =
-    let says = ends_settled e.scenario wants.trace e.run e.told e.trip e.is_told (plain input wants e) in
+    let says = ends_settled e.scenario wants.trace e.run e.told (e.trip ++ e.probe) e.is_told (plain input wants e) in
     let none = no_gap e.scenario e.run.final.routers e.scenario.end e.is_told.gap e.is_told.is_gap in
     (λ h. none.0 (says.0 (subst SaysSettled e.whole h)), λ settled. subst SaysSettled (sym e.whole) (says.1 (none.1 settled)))
 
@@ -54,10 +58,10 @@ tells_settled input wants e =
 
 module _ (input : List ℕ) (wants : Wants) (e : Emulation input wants) (says : SaysSettled e.text) where
   abbrev whole : List ℕ
-  whole = e.told ++ e.trip
+  whole = e.told ++ (e.trip ++ e.probe)
 
   -- the routers at the end are a settled network
-  network : IsSettledNetwork e.scenario e.run.final.routers e.scenario.end
+  pub network : IsSettledNetwork e.scenario e.run.final.routers e.scenario.end
   network = record {
     scenario = sound_scenario e.scenario;
     routers = run_states e.scenario e.run;
@@ -67,7 +71,7 @@ module _ (input : List ℕ) (wants : Wants) (e : Emulation input wants) (says : 
   }
 
   -- the state of a router of the scenario, which has the router's settings
-  state_of : (x : ℕ) (router : RouterSettings) → Router e.scenario x router →
+  pub state_of : (x : ℕ) (router : RouterSettings) → Router e.scenario x router →
       (p : State) × At e.run.final.routers x p × (p.settings ≡ router)
   state_of x router is =
       let (p, at) = (run_states e.scenario e.run).all x router is in
@@ -80,7 +84,7 @@ module _ (input : List ℕ) (wants : Wants) (e : Emulation input wants) (says : 
       dest.addr.0 < 2 ^ 32 → metric < 2 ^ 64 → Prints e.text router.name dest metric ↔ RadioLeast e.scenario x dest metric
   least_routes x router is dest metric d m =
       let (p, at, same) = state_of x router is in
-      let told = prints_rows e.scenario wants.trace e.run e.told e.trip e.is_told (plain input wants e) x p at dest metric d m in
+      let told = prints_rows e.scenario wants.trace e.run e.told (e.trip ++ e.probe) e.is_told (plain input wants e) x p at dest metric d m in
       let least = settled_rows e.scenario e.run.final.routers e.scenario.end x p network at dest metric in
       let named = ap (λ (r : RouterSettings). r.name) same in (
         λ prints. least.0 (told.0 (subst (λ (name : List ℕ). Prints whole name dest metric) (sym named) (subst (λ (t : List ℕ). Prints t router.name dest metric) e.whole prints))),
@@ -94,7 +98,7 @@ module _ (input : List ℕ) (wants : Wants) (e : Emulation input wants) (says : 
   onwards dest n near metric d m (rows.Goes_on q rest at has same) =
       Goes_on rest ((run_states e.scenario e.run).settings n q at)
       (subst (λ (t : List ℕ). Prints t q.settings.name dest rest) (sym e.whole)
-      ((prints_rows e.scenario wants.trace e.run e.told e.trip e.is_told (plain input wants e) n q at dest rest d (omega (arith, m, same))).1 has)) same
+      ((prints_rows e.scenario wants.trace e.run e.told (e.trip ++ e.probe) e.is_told (plain input wants e) n q at dest rest d (omega (arith, m, same))).1 has)) same
   onwards dest n near metric d m (rows.At_gateway own attached le) = At_gateway own attached le
 
   named : (faces : List Interface) (i : ℕ) (face : Interface) → slice_get faces i ≡ Some face → face.name ≡ face_name faces i
@@ -137,7 +141,7 @@ module _ (input : List ℕ) (wants : Wants) (e : Emulation input wants) (says : 
   next_hops x router is dest metric next face d m a by =
       let (p, at, same) = state_of x router is in
       let named = ap (λ (r : RouterSettings). r.name) same in
-      let (row, stands, to, at_metric, by_next, on_face) = (prints_rows_by e.scenario wants.trace e.run e.told e.trip e.is_told (plain input wants e) x p at dest metric next face d m a).0
+      let (row, stands, to, at_metric, by_next, on_face) = (prints_rows_by e.scenario wants.trace e.run e.told (e.trip ++ e.probe) e.is_told (plain input wants e) x p at dest metric next face d m a).0
       (subst (λ (name : List ℕ). PrintsBy whole name dest metric next face) (sym named) (subst (λ (t : List ℕ). PrintsBy t router.name dest metric next face) e.whole by)) in
       subst (λ (f : List ℕ). LeadsThere e.scenario e.text x dest metric next f) on_face
       (subst (λ (b : Addr4). LeadsThere e.scenario e.text x dest metric b (face_name p.settings.interfaces row.iface)) by_next
@@ -154,17 +158,17 @@ prints_next_hops input wants e says x router is dest metric next face d m a by =
 -- Trips
 
 pub trips_are_only : OfEachTrip IsOnly → TripsAreOnly
-trips_are_only law input trace packet e other is =
+trips_are_only law input trace packet probe e other is =
     law e.scenario e.run.final.routers e.is_trip.from packet.dest e.is_trip.trip e.is_trip.is_trip (λ x p at. (at_end e.scenario e.run x p at).0) other is
 
 pub trips_reach_routers : OfEachTrip ReachesRouter → TripsReachRouters
-trips_reach_routers law input trace packet e says y c lies =
-    law e.scenario e.run.final.routers e.is_trip.from packet.dest e.is_trip.trip e.is_trip.is_trip e.scenario.end y c (network input (sending trace packet) e says) lies
+trips_reach_routers law input trace packet probe e says y c lies =
+    law e.scenario e.run.final.routers e.is_trip.from packet.dest e.is_trip.trip e.is_trip.is_trip e.scenario.end y c (network input (sending trace packet probe) e says) lies
 
 pub trips_reach_networks : OfEachTrip ReachesNetwork → TripsReachNetworks
-trips_reach_networks law input trace packet e says has =
-    law e.scenario e.run.final.routers e.is_trip.from packet.dest e.is_trip.trip e.is_trip.is_trip e.scenario.end (network input (sending trace packet) e says) has
+trips_reach_networks law input trace packet probe e says has =
+    law e.scenario e.run.final.routers e.is_trip.from packet.dest e.is_trip.trip e.is_trip.is_trip e.scenario.end (network input (sending trace packet probe) e says) has
 
 pub trips_never_stray : OfEachTrip NeverStrays → TripsNeverStray
-trips_never_stray law input trace packet e says near =
-    law e.scenario e.run.final.routers e.is_trip.from packet.dest e.is_trip.trip e.is_trip.is_trip e.scenario.end (network input (sending trace packet) e says) near
+trips_never_stray law input trace packet probe e says near =
+    law e.scenario e.run.final.routers e.is_trip.from packet.dest e.is_trip.trip e.is_trip.is_trip e.scenario.end (network input (sending trace packet probe) e says) near

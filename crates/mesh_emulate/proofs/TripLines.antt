@@ -1,8 +1,8 @@
 -- The lines of a trip are neither headings nor routes, nor `settled yes`.
-use Rattle.std.proofs.Common.{◌≡◌, ℕ, ◌/◌, ◌%◌, true, List, [], ◌∷◌, ◌++◌, length, map, Option, Some, None, refl, sym, ap, ◌∙◌, subst, arith, append_assoc, codes, decimal}
+use Rattle.std.proofs.Common.{◌≡◌, ℕ, ◌/◌, ◌%◌, true, List, [], ◌∷◌, ◌++◌, length, map, Option, Some, None, refl, sym, ap, subst, arith, codes, decimal}
 use Rattle.std.specs.Prelude.{slice_get}
-use Rattle.std.specs.List.{AllByRecursion as Each, flat_map}
-use Rattle.std.proofs.lemmas.List.Elements.{All-nil, All-from_recursion}
+use Rattle.std.specs.List.{AllByRecursion as Each}
+use Rattle.std.proofs.lemmas.List.Elements.{All-from_recursion}
 use Rattle.std.proofs.lemmas.List.Folds.{flat_map-map}
 use Rattle.mesh_atoms.specs.declared.addr.Addr4.{Addr4}
 use Rattle.mesh_atoms.specs.declared.settings.Interface.{Interface}
@@ -19,14 +19,12 @@ use Rattle.mesh_emulate.specs.Emulation.{TellsTrip}
 use Rattle.mesh_emulate.specs.Wants.{Packet}
 use Rattle.mesh_machine.specs.Names.{router_name}
 use Rattle.mesh_texts.specs.Printed.{IsLine, IsPlain, ArePlain}
-use Rattle.mesh_texts.proofs.Cuts.{lacks, lacks_both}
+use Rattle.mesh_texts.proofs.Cuts.{lacks}
 use Rattle.mesh_texts.proofs.LineTexts.{line_end, line_after, begins_otherwise, number}
-use Rattle.mesh_texts.proofs.Marked.{name_lacks, router_name_lacks}
+use Rattle.mesh_texts.proofs.Marked.{name_lacks}
+use Rattle.mesh_emulate.proofs.PlainLines.{router_lacks, behind, behind_lacks, nothing_plain}
 
 -- Parts without a line feed
-
-router_lacks : (s : Scenario) (x : ℕ) → lacks 10 (router_name s.routers x) ≡ true
-router_lacks s x = router_name_lacks 10 (omega arith) s.routers x
 
 face_lacks : (i : Option Interface) → lacks 10 (interface_name i) ≡ true
 face_lacks None = refl
@@ -41,15 +39,6 @@ end_lacks Arrived = refl
 end_lacks NoRoute = refl
 end_lacks NoArc = refl
 end_lacks TooFar = refl
-
--- parts one behind the other, as texts of trips have them
-abbrev behind : List ℕ → List (List ℕ) → List ℕ
-behind first [] = first
-behind first (part ∷ parts) = behind (first ++ part) parts
-
-behind_lacks : (first : List ℕ) (parts : List (List ℕ)) → lacks 10 first ≡ true → Each (λ p. lacks 10 p ≡ true) parts → lacks 10 (behind first parts) ≡ true
-behind_lacks first [] is all = is
-behind_lacks first (part ∷ parts) is all = behind_lacks (first ++ part) parts (lacks_both 10 first part is all.0) all.1
 
 dotted_lacks : (a : Addr4) → lacks 10 (dotted a) ≡ true
 unfolding dotted
@@ -119,5 +108,5 @@ text_is_plain s from a trip =
     }
 
 pub trip_is_plain : (s : Scenario) (states : List State) (send : Option Packet) (text : List ℕ) → TellsTrip s states send text → ArePlain text
-trip_is_plain s states None text none = record { lines = []; each = All-nil IsPlain; whole = none }
+trip_is_plain s states None text none = nothing_plain text none
 trip_is_plain s states (Some packet) text sent = subst ArePlain (sym sent.is_text) (text_is_plain s sent.from packet.dest sent.trip)

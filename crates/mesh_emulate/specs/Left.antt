@@ -11,7 +11,10 @@ use Rattle.mesh_emulate.specs.declared.wanted.Errand.{Errand}
 use Rattle.mesh_io.specs.Faults.{Rose}
 use Rattle.mesh_io.specs.declared.stop.Stop.{Stop}
 use Rattle.mesh_io.specs.declared.stop.Stop.TheVariants as stop
+use Rattle.mesh_emulate.specs.Emulation.{IsProbeOf}
 use Rattle.mesh_machine.specs.Sendable.{IsPacket}
+use Rattle.mesh_probe.specs.declared.coverage.Probe.{Probe}
+use Rattle.mesh_probe.specs.Text.{IsProbeText}
 use Rattle.mesh_radio.specs.declared.event.NetEvent.{NetEvent}
 use Rattle.mesh_radio.specs.Net.{Net}
 use Rattle.mesh_radio.specs.Run.{IsOver, NetRun}
@@ -72,9 +75,9 @@ abbrev pub IsTripTold : Scenario → List State → Option Departure → List �
 IsTripTold s states None text = text ≡ []
 IsTripTold s states (Some departure) text = IsTripText s states departure text
 
--- no text, where a packet is sent
-abbrev pub IsUntold : Option Departure → List ℕ → Type 0
-IsUntold send text = IsSome send × (text ≡ [])
+-- no text, where some is wanted
+abbrev pub IsUntold : {A : Type 0} → Option A → List ℕ → Type 0
+IsUntold wanted text = IsSome wanted × (text ≡ [])
 
 -- the summary of a network at the end of its run, and then the trip
 abbrev pub IsEndTold : Scenario → Option Departure → Net → List ℕ → Type 0
@@ -92,13 +95,27 @@ IsEndFront s send net text = IsEndAlone s send net text ⊎ IsEndTold s send net
 abbrev pub IsEndPart : Scenario → Option Departure → Net → List ℕ → Type 0
 IsEndPart s send net text = (text ≡ []) ⊎ IsEndAlone s send net text
 
--- The whole
+-- The probe
 
--- the text of a whole run of a scenario's network, and then the trip
-abbrev pub IsWholeText : Scenario → Errand → List ℕ → Type 0
-IsWholeText s e text =
-    (run : WholeRun s) × (told : List ℕ) × (trip : List ℕ) × IsRunText s e.trace run told × IsTripTold s run.final.routers e.send trip
-    × (text ≡ told ++ trip)
+-- the probe by router origin of the network that these routers are, and its text
+abbrev pub IsProbedText : Scenario → List State → ℕ → List ℕ → Type 0
+IsProbedText s states origin text = (probe : Probe) × IsProbeOf s states origin probe × IsProbeText s origin probe text
+
+-- the same where a probe is wanted, and nothing where none is
+abbrev pub IsProbeTold : Scenario → List State → Option ℕ → List ℕ → Type 0
+IsProbeTold s states None text = text ≡ []
+IsProbeTold s states (Some origin) text = IsProbedText s states origin text
+
+-- All but the probe
+
+-- the text of a run, and then the trip
+abbrev pub IsTripped : (s : Scenario) → Errand → WholeRun s → List ℕ → Type 0
+IsTripped s e run text =
+    (told : List ℕ) × (trip : List ℕ) × IsRunText s e.trace run told × IsTripTold s run.final.routers e.send trip × (text ≡ told ++ trip)
+
+-- the same, of a run that ends at this network
+abbrev pub IsRunTold : Scenario → Errand → Net → List ℕ → Type 0
+IsRunTold s e final text = (run : WholeRun s) × (run.final ≡ final) × IsTripped s e run text
 
 -- the text of a whole run alone, where a packet is sent
 abbrev pub IsRunAlone : Scenario → Errand → List ℕ → Type 0
@@ -108,10 +125,29 @@ IsRunAlone s e text = IsSome e.send × (run : WholeRun s) × IsRunText s e.trace
 abbrev pub IsFirstText : Scenario → Bool → List ℕ → Type 0
 IsFirstText s trace text = (first : FirstEvents s) × IsFirstTrace trace first text
 
--- one of these
-abbrev pub IsFrontText : Scenario → Errand → List ℕ → Type 0
-IsFrontText s e text = IsFirstText s e.trace text ⊎ (IsRunAlone s e text ⊎ IsWholeText s e text)
+-- the text of some first events, that of a whole run alone, or with the trip; either of the first two, or nothing
+abbrev pub IsRunFront : Scenario → Errand → List ℕ → Type 0
+IsRunFront s e text = IsFirstText s e.trace text ⊎ (IsRunAlone s e text ⊎ ((run : WholeRun s) × IsTripped s e run text))
 
--- the text of some first events, that of a whole run alone, or nothing
+abbrev pub IsRunPart : Scenario → Errand → List ℕ → Type 0
+IsRunPart s e text = (text ≡ []) ⊎ (IsFirstText s e.trace text ⊎ IsRunAlone s e text)
+
+-- The whole
+
+-- the text of a whole run, the trip, and then the probe
+abbrev pub IsWholeText : Scenario → Errand → List ℕ → Type 0
+IsWholeText s e text =
+    (run : WholeRun s) × (front : List ℕ) × (probe : List ℕ) × IsTripped s e run front × IsProbeTold s run.final.routers e.probe probe
+    × (text ≡ front ++ probe)
+
+-- the run and the trip alone, where a probe is wanted
+abbrev pub IsTripAlone : Scenario → Errand → List ℕ → Type 0
+IsTripAlone s e text = IsSome e.probe × (run : WholeRun s) × IsTripped s e run text
+
+-- the text of some first events, that of a whole run alone, that of all but the probe, or the whole
+abbrev pub IsFrontText : Scenario → Errand → List ℕ → Type 0
+IsFrontText s e text = IsFirstText s e.trace text ⊎ (IsRunAlone s e text ⊎ (IsTripAlone s e text ⊎ IsWholeText s e text))
+
+-- the text of some first events, that of a whole run alone, that of all but the probe, or nothing
 abbrev pub IsPartText : Scenario → Errand → List ℕ → Type 0
-IsPartText s e text = (text ≡ []) ⊎ (IsFirstText s e.trace text ⊎ IsRunAlone s e text)
+IsPartText s e text = (text ≡ []) ⊎ (IsFirstText s e.trace text ⊎ (IsRunAlone s e text ⊎ IsTripAlone s e text))

@@ -3,16 +3,18 @@ ghost use Rattle.std.specs.Prelude.{◌≡◌, ◌≤◌, ◌<◌, ℕ, List, le
 ghost use Rattle.std.specs.Io.KnownBytes.{Appends, Keeps};
 ghost use Rattle.mesh_atoms.specs.Radio.{IsRadioGraph};
 ghost use Rattle.mesh_emulate.specs.Emulation.{Emulation, IsRefused, IsFirstPart, IsFront};
-ghost use Rattle.mesh_emulate.specs.Left.{Leaves, IsWholeText, IsFrontText, IsPartText};
+ghost use Rattle.mesh_emulate.specs.Left.{Leaves, IsProbeTold, IsUntold, IsRunTold, IsRunFront, IsRunPart, IsWholeText, IsFrontText, IsPartText};
 ghost use Rattle.mesh_emulate.specs.Prepared.{IsUnbegun};
-ghost use Rattle.mesh_emulate.specs.Wants.{wants_of};
+ghost use Rattle.mesh_emulate.specs.Wants.{wants_of, IsWithin};
 ghost use Rattle.mesh_emulate.specs.declared.emulation.EmulateFault.TheVariants.{Refused, Stopped};
 ghost use Rattle.mesh_io.specs.Faults.{Rose};
+ghost use Rattle.mesh_probe.specs.Probes.{AreRoutersAt};
 ghost use Rattle.mesh_radio.specs.Run.{IsOpeningNet};
 
 use crate::events::tell_events;
 use crate::network::Network;
 use crate::prepared::prepare;
+use crate::probe::tell_probe;
 use crate::summary::tell_end;
 use crate::wanted::{Errand, Wanted};
 use mesh_atoms::{Bytes, RadioGraph, Scenario};
@@ -42,14 +44,57 @@ fn tell_net<N: Network, O: Sink>(
 ) -> Result<(), Stop>
     requires opening { IsOpeningNet scenario.now (N.net net.old) }
     requires graph { IsRadioGraph scenario.now graph.now }
-    requires from { IfSome errand.send (λ departure. departure.from < length scenario.now.routers) }
-    ensures leaves { Leaves (IsWholeText scenario.now errand) (IsFrontText scenario.now errand) (IsPartText scenario.now errand)
+    requires within { IsWithin scenario.now errand }
+    ensures leaves { Leaves (IsRunTold scenario.now errand (N.net net.new)) (IsRunFront scenario.now errand) (IsRunPart scenario.now errand)
         (O.content out.old) (O.content out.new) (O.faults out.old) (O.faults out.new) result }
     ensures later { O.faults out.old ≤ O.faults out.new }
 {
     let mut text = Bytes::new(alloc);
     match tell_events(net, scenario, errand.trace, &mut text, out) {
         Ok(()) => tell_end(alloc, net, scenario, graph, errand.send, &mut text, out),
+        Err(stop) => Err(stop),
+    }
+}
+
+// Tells the probe of a network at the end of its run.
+fn probe_net<B: Bases, O: Sink>(
+    alloc: Global,
+    net: Net<B>,
+    scenario: &Scenario,
+    graph: &RadioGraph,
+    probe: Option<usize>,
+    out: &mut O,
+) -> Result<(), Stop>
+    requires routers { AreRoutersAt scenario.now net.routers scenario.now.end }
+    requires graph { IsRadioGraph scenario.now graph.now }
+    requires origin { IfSome probe (λ origin. origin < length scenario.now.routers) }
+    ensures leaves { Leaves (IsProbeTold scenario.now net.routers probe) (IsProbeTold scenario.now net.routers probe) (IsUntold probe)
+        (O.content out.old) (O.content out.new) (O.faults out.old) (O.faults out.new) result }
+    ensures later { O.faults out.old ≤ O.faults out.new }
+{
+    let mut cores = net.into_cores();
+    tell_probe(alloc, cores.as_mut_slice(), scenario, graph, probe, out)
+}
+
+// Tells a run of a network, the trip, and then the probe.
+fn tell_all<B: Bases, O: Sink>(
+    alloc: Global,
+    net: Net<B>,
+    scenario: &Scenario,
+    graph: &RadioGraph,
+    errand: Errand,
+    out: &mut O,
+) -> Result<(), Stop>
+    requires opening { IsOpeningNet scenario.now net }
+    requires graph { IsRadioGraph scenario.now graph.now }
+    requires within { IsWithin scenario.now errand }
+    ensures leaves { Leaves (IsWholeText scenario.now errand) (IsFrontText scenario.now errand) (IsPartText scenario.now errand)
+        (O.content out.old) (O.content out.new) (O.faults out.old) (O.faults out.new) result }
+    ensures later { O.faults out.old ≤ O.faults out.new }
+{
+    let mut net = net;
+    match tell_net(alloc, &mut net, scenario, graph, errand, out) {
+        Ok(()) => probe_net(alloc, net, scenario, graph, errand.probe, out),
         Err(stop) => Err(stop),
     }
 }
@@ -61,7 +106,7 @@ fn tell<B: Bases, O: Sink>(
     errand: Errand,
     out: &mut O,
 ) -> Result<(), Stop>
-    requires from { IfSome errand.send (λ departure. departure.from < length scenario.now.routers) }
+    requires within { IsWithin scenario.now errand }
     ensures leaves { Leaves (IsWholeText scenario.now errand) (IsFrontText scenario.now errand) (IsPartText scenario.now errand)
         (O.content out.old) (O.content out.new) (O.faults out.old) (O.faults out.new) result }
     ensures later { O.faults out.old ≤ O.faults out.new }
@@ -71,7 +116,7 @@ fn tell<B: Bases, O: Sink>(
         Err(_) => return Err(Stop::Memory),
     };
     match Net::<B>::new(alloc, scenario) {
-        Ok(mut net) => tell_net(alloc, &mut net, scenario, &graph, errand, out),
+        Ok(net) => tell_all(alloc, net, scenario, &graph, errand, out),
         Err(_) => Err(Stop::Memory),
     }
 }
@@ -87,18 +132,18 @@ fn unbegun(fault: ConfigFault) -> EmulateFault
 }
 
 /// Emulates the network of the scenario that the input states, with routers over these bases, from its opening to its end, and
-/// tells it on `out`: where the trace is wanted each event by one write as it is done, then the summary by one, and where a packet
-/// is to be sent its trip by one more.
+/// tells it on `out`: where the trace is wanted each event by one write as it is done, then the summary by one, where a packet is to be
+/// sent its trip by one more, and where a probe is wanted that by the last.
 pub fn emulate<B: Bases, O: Sink>(
     alloc: Global,
     input: &[u8],
     wanted: &Wanted,
     out: &mut O,
 ) -> Result<(), EmulateFault>
-    // The text of a run of the network was put on `out`, and then the trip.
+    // The text of a run of the network was put on `out`, then the trip, and then the probe.
     ensures done { OnOk result ((e : Emulation input.now (wants_of wanted.now)) × Appends (O.content out.old) (O.content out.new) e.text) }
 
-    // The input states no scenario, or none with a router of the name that is wanted; nothing was put on `out`.
+    // The input states no scenario, or none with routers of the names that are wanted; nothing was put on `out`.
     ensures refused { (number : ℕ) (key : List ℕ) → result ≡ Err (Refused number key)
         → IsRefused input.now (wants_of wanted.now) number key × Keeps (O.content out.old) (O.content out.new) }
 
@@ -106,7 +151,7 @@ pub fn emulate<B: Bases, O: Sink>(
     ensures write { result ≡ Err (Stopped Stop.Write) → Rose (O.faults out.old) (O.faults out.new)
         × (text : List ℕ) × IsFront input.now (wants_of wanted.now) text × (n : ℕ) × Appends (O.content out.old) (O.content out.new) (take n text) }
 
-    // The trace of some first events stands on `out`, or all but the trip, or nothing.
+    // The trace of some first events stands on `out`, or all but the trip and what follows it, or all but the probe, or nothing.
     ensures memory { result ≡ Err (Stopped Stop.Memory) → (text : List ℕ) × IsFirstPart input.now (wants_of wanted.now) text
         × Appends (O.content out.old) (O.content out.new) text }
     ensures later { O.faults out.old ≤ O.faults out.new }

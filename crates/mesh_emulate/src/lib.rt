@@ -6,6 +6,7 @@ mod events;
 mod laws;
 mod network;
 mod prepared;
+mod probe;
 mod summary;
 mod trip;
 mod wanted;

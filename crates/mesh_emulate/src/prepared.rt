@@ -6,7 +6,7 @@ ghost use Rattle.mesh_emulate.specs.Prepared.{IsPrepared};
 ghost use Rattle.mesh_emulate.specs.Wants.{wants_of};
 ghost use Rattle.mesh_toml.specs.Faults.{IfRefused};
 
-use crate::wanted::{Errand, Wanted, departure_of};
+use crate::wanted::{Errand, Wanted, errand_of};
 use mesh_atoms::Scenario;
 use mesh_config::scenario_of;
 use mesh_toml::ConfigFault;
@@ -36,14 +36,8 @@ pub fn prepare(alloc: Global, input: &[u8], wanted: &Wanted) -> Result<Prepared,
         Ok(scenario) => scenario,
         Err(fault) => return Err(fault),
     };
-    match departure_of(alloc, &scenario, &wanted.send) {
-        Ok(send) => Ok(Prepared {
-            scenario,
-            errand: Errand {
-                trace: wanted.trace,
-                send,
-            },
-        }),
+    match errand_of(alloc, &scenario, wanted) {
+        Ok(errand) => Ok(Prepared { scenario, errand }),
         Err(fault) => Err(fault),
     }
 }

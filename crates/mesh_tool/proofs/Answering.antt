@@ -46,7 +46,7 @@ whole_packets : (call : Call) (j : Job) (octets : List ℕ) (refused : ℕ) (tex
 whole_packets call (job.Dump recode) octets refused text asks works some is stands =
     Some_refused recode refused asks some (record { octets = octets; works_on = works; text = text; is_text = is; stands = stands })
 whole_packets call (job.Run turns) octets refused text asks works some is stands = absurd (omega (arith, some, is.0))
-whole_packets call (job.Emulate trace send) octets refused text asks works some is stands = absurd (omega (arith, some, is.0))
+whole_packets call (job.Emulate trace send probe) octets refused text asks works some is stands = absurd (omega (arith, some, is.0))
 whole_packets call (job.Make kind routers seed) octets refused text asks works some is stands = absurd (omega (arith, some, is.0))
 
 ends_unread : (call : Call) (j : Job) (how : Ending) (answer : Status) → Asks call j → StopsReading (most_octets j) call how → Keeps call.out call.out'
@@ -68,7 +68,7 @@ unattached : (call : Call) (j : Job) (octets : List ℕ) (interface : ℕ) (answ
 unattached call (job.Run turns) octets interface answer asks works (fails, rose) keeps tells =
     told call (attach_line interface) status.Attach answer (Attach_fault turns interface octets asks works fails rose keeps) tells
 unattached call (job.Dump recode) octets interface answer asks works is keeps tells = absurd is
-unattached call (job.Emulate trace send) octets interface answer asks works is keeps tells = absurd is
+unattached call (job.Emulate trace send probe) octets interface answer asks works is keeps tells = absurd is
 unattached call (job.Make kind routers seed) octets interface answer asks works is keeps tells = absurd is
 
 spent : (call : Call) (j : Job) (octets : List ℕ) (count greatest end : ℕ) (answer : Status) → Asks call j → WorksOn j call octets → IsSpent call j octets count greatest end → Keeps call.out call.out'
@@ -77,7 +77,7 @@ spent call (job.Run turns) octets count greatest end answer asks works (same, sp
     told call (turns_line count greatest end) status.Turns answer
     (subst (λ (n : ℕ). Due call status.Turns (turns_line n greatest end)) (sym same) (Turns_spent turns greatest end octets asks works (subst (λ (n : ℕ). SpendsTurns octets n greatest end (told_in call)) same spends) keeps)) tells
 spent call (job.Dump recode) octets count greatest end answer asks works is keeps tells = absurd is
-spent call (job.Emulate trace send) octets count greatest end answer asks works is keeps tells = absurd is
+spent call (job.Emulate trace send probe) octets count greatest end answer asks works is keeps tells = absurd is
 spent call (job.Make kind routers seed) octets count greatest end answer asks works is keeps tells = absurd is
 
 ends_worked : (call : Call) (j : Job) (octets : List ℕ) (how : Ending) (answer : Status) → Asks call j → WorksOn j call octets
@@ -131,9 +131,9 @@ ran : (call : Call) (turns : ℕ) → Finishes call (job.Run turns) 0
     → (octets : List ℕ) × IsInput 1048576 call octets × (r : WholeRun octets turns (told_in call)) × Appends call.out call.out' r.text
 ran call turns fin = (fin.octets, fin.works_on, fin.is_text.1, rw (← fin.is_text.2) fin.stands)
 
-emulated : (call : Call) (trace : Bool) (send : Option PacketWords) → Finishes call (job.Emulate trace send) 0
-    → (octets : List ℕ) × IsInput 1048576 call octets × (e : Emulation octets (wants_in call.words trace send)) × Appends call.out call.out' e.text
-emulated call trace send fin = (fin.octets, fin.works_on, fin.is_text.1, rw (← fin.is_text.2) fin.stands)
+emulated : (call : Call) (trace : Bool) (send : Option PacketWords) (probe : Option ℕ) → Finishes call (job.Emulate trace send probe) 0
+    → (octets : List ℕ) × IsInput 1048576 call octets × (e : Emulation octets (wants_in call.words trace send probe)) × Appends call.out call.out' e.text
+emulated call trace send probe fin = (fin.octets, fin.works_on, fin.is_text.1, rw (← fin.is_text.2) fin.stands)
 
 made : (call : Call) (kind : Kind) (routers seed : ℕ) → Finishes call (job.Make kind routers seed) 0
     → (m : MadeEmulation kind routers seed) × Appends call.out call.out' m.text × ReadsNothing call
@@ -173,7 +173,7 @@ unread call how (Did j asked did) kind routers seed asks =
 works_within : (call : Call) (j : Job) (octets : List ℕ) → WorksOn j call octets → call.taken' ≡ call.taken + (most_octets j + 1) → ⊥
 works_within call (job.Dump recode) octets works long = omega (arith, works.count, works.within, long)
 works_within call (job.Run turns) octets works long = omega (arith, works.count, works.within, long)
-works_within call (job.Emulate trace send) octets works long = omega (arith, works.count, works.within, long)
+works_within call (job.Emulate trace send probe) octets works long = omega (arith, works.count, works.within, long)
 works_within call (job.Make kind routers seed) octets works long = omega (arith, works.1.taken, long)
 
 told_or_failed : (err err' : Option (List ℕ)) (faults faults' : ℕ) (line : List ℕ) (due answer : Status) → TellsLine err err' faults faults' line due answer
@@ -234,9 +234,9 @@ not_refused : (call : Call) (j : Job) (refused : ℕ) (all : List ℕ) (number :
 not_refused call (job.Dump recode) refused all number key fin is refuses = refuses
 not_refused call (job.Run turns) refused all number key fin is refuses =
     clear_not_refused fin.octets all number key (whole_input all is fin.works_on) fin.is_text.1.stated.clear refuses
-not_refused call (job.Emulate trace send) refused all number key fin is refuses =
-    emulated_not_refused fin.octets (wants_in call.words trace send) fin.is_text.1 number key
-    (subst (λ (o : List ℕ). IsRefused o (wants_in call.words trace send) number key) (sym (whole_input all is fin.works_on)) refuses)
+not_refused call (job.Emulate trace send probe) refused all number key fin is refuses =
+    emulated_not_refused fin.octets (wants_in call.words trace send probe) fin.is_text.1 number key
+    (subst (λ (o : List ℕ). IsRefused o (wants_in call.words trace send probe) number key) (sym (whole_input all is fin.works_on)) refuses)
 not_refused call (job.Make kind routers seed) refused all number key fin is refuses = refuses
 
 whole_not_refused : {call : Call} {answer : Status} (j : Job) (all : List ℕ) (number : ℕ) (key : List ℕ) → Whole call answer → Asks call j → call.left ≡ Some all → RefusesOctets call.words j all number key → ⊥
@@ -280,9 +280,9 @@ takes_all call number key (job.Dump recode) silent takes (By_rule octets works r
 takes_all call number key (job.Run turns) silent (all, is, few, clear, attached) (Too_long long) = long_not_taken call 1048576 all is few long
 takes_all call number key (job.Run turns) silent (all, is, few, clear, attached) (By_rule octets works refused) =
     clear_not_refused all octets number key (sym (whole_input all is works)) clear refused
-takes_all call number key (job.Emulate trace send) silent (all, is, few, clear) (Too_long long) = long_not_taken call 1048576 all is few long
-takes_all call number key (job.Emulate trace send) silent (all, is, few, clear) (By_rule octets works refused) =
-    clear number key (subst (λ (o : List ℕ). IsRefused o (wants_in call.words trace send) number key) (whole_input all is works) refused)
+takes_all call number key (job.Emulate trace send probe) silent (all, is, few, clear) (Too_long long) = long_not_taken call 1048576 all is few long
+takes_all call number key (job.Emulate trace send probe) silent (all, is, few, clear) (By_rule octets works refused) =
+    clear number key (subst (λ (o : List ℕ). IsRefused o (wants_in call.words trace send probe) number key) (whole_input all is works) refused)
 takes_all call number key (job.Make kind routers seed) silent takes (Too_long long) = omega (arith, (silent kind routers seed refl).taken, long.count)
 takes_all call number key (job.Make kind routers seed) silent takes (By_rule octets works refused) = refused
 
@@ -332,7 +332,7 @@ airless_worked : (call : Call) (how : Ending) (j : Job) → DoesJob j call how �
 airless_worked call how j (Unread reads stops keeps air) other = air
 airless_worked call how (job.Dump recode) (Worked octets works leaves air) other = air
 airless_worked call how (job.Run turns) (Worked octets works leaves uses) other = absurd (other turns refl)
-airless_worked call how (job.Emulate trace send) (Worked octets works leaves air) other = air
+airless_worked call how (job.Emulate trace send probe) (Worked octets works leaves air) other = air
 airless_worked call how (job.Make kind routers seed) (Worked octets works leaves air) other = air
 
 airless : (call : Call) (how : Ending) → Does call how → (j : Job) → Asks call j → ((turns : ℕ) → j ≡ job.Run turns → ⊥) → UsesNoAir call
@@ -383,7 +383,7 @@ answers call how answer does tells later_input later_out later_err later_air =
       ran = λ turns same asks. ran call turns (finishes call answer (job.Run turns) e same asks);
       hands = λ turns asks. hands call how does turns asks;
       airless = λ j asks other. airless call how does j asks other;
-      emulated = λ trace send same asks. emulated call trace send (finishes call answer (job.Emulate trace send) e same asks);
+      emulated = λ trace send probe same asks. emulated call trace send probe (finishes call answer (job.Emulate trace send probe) e same asks);
       made = λ kind routers seed same asks. made call kind routers seed (finishes call answer (job.Make kind routers seed) e same asks);
       unread = λ kind routers seed asks. unread call how does kind routers seed asks;
       no_command = λ wrong. let w = no_command call answer e wrong in (w.0, w.1, no_words_airless call how does wrong);

@@ -73,9 +73,9 @@ pub record Answers (call : Call) (answer : Status) : Type 0 where
   -- no other command uses the clock or the air
   pub airless : (job : Job) → Asks call job → ((turns : ℕ) → job ≡ Run turns → ⊥) → UsesNoAir call
   -- 0 to `emulate`: the input states a scenario, and the text of a run of its network, from its opening to its end, stands on out,
-  -- and behind it the trip that the words ask for
-  pub emulated : (trace : Bool) (send : Option PacketWords) → answer ≡ status.Done → Asks call (Emulate trace send) →
-      (octets : List ℕ) × IsInput 1048576 call octets × (e : Emulation octets (wants_in call.words trace send))
+  -- and behind it the trip and the probe that the words ask for
+  pub emulated : (trace : Bool) (send : Option PacketWords) (probe : Option ℕ) → answer ≡ status.Done → Asks call (Emulate trace send probe) →
+      (octets : List ℕ) × IsInput 1048576 call octets × (e : Emulation octets (wants_in call.words trace send probe))
       × Appends call.out call.out' e.text
   -- 0 to `emulate --make`: what is told of a run of the made scenario stands on out, and nothing was read
   pub made : (kind : Kind) (routers seed : ℕ) → answer ≡ status.Done → Asks call (Make kind routers seed) →

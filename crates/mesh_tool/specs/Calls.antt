@@ -64,8 +64,9 @@ word_at words place = unwrap_or (slice_get words place) []
 abbrev pub packet_in : List (List ℕ) → PacketWords → Packet
 packet_in words packet = record { from = word_at words packet.from; dest = packet.dest }
 
-abbrev pub wants_in : List (List ℕ) → Bool → Option PacketWords → Wants
-wants_in words trace send = record { trace = trace; send = option_map (packet_in words) send }
+abbrev pub wants_in : List (List ℕ) → Bool → Option PacketWords → Option ℕ → Wants
+wants_in words trace send probe =
+    record { trace = trace; send = option_map (packet_in words) send; probe = option_map (word_at words) probe }
 
 -- What is read
 
@@ -73,7 +74,7 @@ wants_in words trace send = record { trace = trace; send = option_map (packet_in
 abbrev pub most_octets : Job → ℕ
 most_octets (job.Dump recode) = 67108864
 most_octets (job.Run turns) = 1048576
-most_octets (job.Emulate trace send) = 1048576
+most_octets (job.Emulate trace send probe) = 1048576
 most_octets (job.Make kind routers seed) = 0
 
 -- nothing was read
@@ -99,14 +100,14 @@ pub record IsTooLong (most : ℕ) (call : Call) : Type 0 where
 abbrev pub WorksOn : Job → Call → List ℕ → Type 0
 WorksOn (job.Dump recode) call octets = IsInput 67108864 call octets
 WorksOn (job.Run turns) call octets = IsInput 1048576 call octets
-WorksOn (job.Emulate trace send) call octets = IsInput 1048576 call octets
+WorksOn (job.Emulate trace send probe) call octets = IsInput 1048576 call octets
 WorksOn (job.Make kind routers seed) call octets = (octets ≡ []) × ReadsNothing call
 
 -- the job that the words ask for refuses its octets, with that number and key
 abbrev pub RefusesOctets : List (List ℕ) → Job → List ℕ → ℕ → List ℕ → Type 0
 RefusesOctets words (job.Dump recode) octets number key = ⊥
 RefusesOctets words (job.Run turns) octets number key = FirstRunRefusal octets number key
-RefusesOctets words (job.Emulate trace send) octets number key = IsRefused octets (wants_in words trace send) number key
+RefusesOctets words (job.Emulate trace send probe) octets number key = IsRefused octets (wants_in words trace send probe) number key
 RefusesOctets words (job.Make kind routers seed) octets number key = ⊥
 
 -- the input is longer than the job takes, or it was read whole and is refused
@@ -121,9 +122,9 @@ TakesInput (job.Dump recode) call = (octets : List ℕ) × (call.left ≡ Some o
 TakesInput (job.Run turns) call =
     (octets : List ℕ) × (call.left ≡ Some octets) × (length octets ≤ 1048576) × (first (run_refusals octets) ≡ None)
     × ((setup : RunSetup) → States octets setup → call.attached' ≡ length setup.ports)
-TakesInput (job.Emulate trace send) call =
+TakesInput (job.Emulate trace send probe) call =
     (octets : List ℕ) × (call.left ≡ Some octets) × (length octets ≤ 1048576)
-    × ((number : ℕ) (key : List ℕ) → IsRefused octets (wants_in call.words trace send) number key → ⊥)
+    × ((number : ℕ) (key : List ℕ) → IsRefused octets (wants_in call.words trace send probe) number key → ⊥)
 TakesInput (job.Make kind routers seed) call = Unit {0}
 
 -- What is written on out
@@ -132,23 +133,23 @@ TakesInput (job.Make kind routers seed) call = Unit {0}
 abbrev pub IsAskedText : Call → Job → List ℕ → ℕ → List ℕ → Type 0
 IsAskedText call (job.Dump recode) octets refused text = IsDumpText octets recode refused text
 IsAskedText call (job.Run turns) octets refused text = (refused ≡ 0) × (r : WholeRun octets turns (told_in call)) × (text ≡ r.text)
-IsAskedText call (job.Emulate trace send) octets refused text =
-    (refused ≡ 0) × (e : Emulation octets (wants_in call.words trace send)) × (text ≡ e.text)
+IsAskedText call (job.Emulate trace send probe) octets refused text =
+    (refused ≡ 0) × (e : Emulation octets (wants_in call.words trace send probe)) × (text ≡ e.text)
 IsAskedText call (job.Make kind routers seed) octets refused text = (refused ≡ 0) × (m : MadeEmulation kind routers seed) × (text ≡ m.text)
 
 -- the text of a job that memory stopped on the way: of some first lines of the input, or of some first events of the run, or of
--- the whole run alone; nothing of a router that is run, whose turns were the first of a run
+-- all of it but the trip or the probe; nothing of a router that is run, whose turns were the first of a run
 abbrev pub IsFirstText : Call → Job → List ℕ → List ℕ → Type 0
 IsFirstText call (job.Dump recode) octets text = IsFirstLinesText octets recode text
 IsFirstText call (job.Run turns) octets text = (text ≡ []) × RunsShort octets (told_in call)
-IsFirstText call (job.Emulate trace send) octets text = IsFirstPart octets (wants_in call.words trace send) text
+IsFirstText call (job.Emulate trace send probe) octets text = IsFirstPart octets (wants_in call.words trace send probe) text
 IsFirstText call (job.Make kind routers seed) octets text = text ≡ []
 
 -- a text of which a failed write left a front: of the whole job, or of a first part of it
 abbrev pub IsFrontOf : Call → Job → List ℕ → List ℕ → Type 0
 IsFrontOf call (job.Dump recode) octets text = IsDumpFront octets recode text
 IsFrontOf call (job.Run turns) octets text = (r : WholeRun octets turns (told_in call)) × (text ≡ r.text)
-IsFrontOf call (job.Emulate trace send) octets text = IsFront octets (wants_in call.words trace send) text
+IsFrontOf call (job.Emulate trace send probe) octets text = IsFront octets (wants_in call.words trace send probe) text
 IsFrontOf call (job.Make kind routers seed) octets text = (m : MadeEmulation kind routers seed) × (text ≡ m.text)
 
 -- the whole text of the job stands on out, and so many lines of it tell a refusal
@@ -187,5 +188,5 @@ RunsSoFar octets turns told =
 abbrev pub UsesAir : Call → Job → List ℕ → Type 0
 UsesAir call (job.Dump recode) octets = UsesNoAir call
 UsesAir call (job.Run turns) octets = UsesNoAir call ⊎ RunsSoFar octets turns (told_in call)
-UsesAir call (job.Emulate trace send) octets = UsesNoAir call
+UsesAir call (job.Emulate trace send probe) octets = UsesNoAir call
 UsesAir call (job.Make kind routers seed) octets = UsesNoAir call

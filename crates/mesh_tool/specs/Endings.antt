@@ -60,13 +60,13 @@ StopsReading most call ending.Write = ⊥
 abbrev pub IsUnattached : Call → Job → List ℕ → ℕ → Type 0
 IsUnattached call (job.Dump recode) octets interface = ⊥
 IsUnattached call (job.Run turns) octets interface = FailsToAttach octets interface (told_in call) × Rose call.air_faults call.air_faults'
-IsUnattached call (job.Emulate trace send) octets interface = ⊥
+IsUnattached call (job.Emulate trace send probe) octets interface = ⊥
 IsUnattached call (job.Make kind routers seed) octets interface = ⊥
 
 abbrev pub IsSpent : Call → Job → List ℕ → ℕ → ℕ → ℕ → Type 0
 IsSpent call (job.Dump recode) octets count greatest end = ⊥
 IsSpent call (job.Run turns) octets count greatest end = (count ≡ turns) × SpendsTurns octets count greatest end (told_in call)
-IsSpent call (job.Emulate trace send) octets count greatest end = ⊥
+IsSpent call (job.Emulate trace send probe) octets count greatest end = ⊥
 IsSpent call (job.Make kind routers seed) octets count greatest end = ⊥
 
 -- what the job that the words ask for leaves on out, by how it ended, where these are the octets that it works on
@@ -88,7 +88,7 @@ Leaves call job octets out out' faults faults' ending.TooLong = ⊥
 abbrev pub ReadsInput : Job → Type 0
 ReadsInput (job.Dump recode) = Unit {0}
 ReadsInput (job.Run turns) = Unit {0}
-ReadsInput (job.Emulate trace send) = Unit {0}
+ReadsInput (job.Emulate trace send probe) = Unit {0}
 ReadsInput (job.Make kind routers seed) = ⊥
 
 -- what was read and put for a job: its input wasn't read whole, and nothing was put; or it worked on its octets

@@ -1,8 +1,9 @@
 //! The jobs of command lines: what each reads and puts, before anything is told of a fault.
-ghost use Rattle.std.specs.Prelude.{◌≡◌, ◌≤◌, ℕ, List, [], IfOk, IfErr};
+ghost use Rattle.std.specs.Prelude.{◌≡◌, ◌≤◌, ℕ, List, [], option_map, IfOk, IfErr};
 ghost use Rattle.mesh_atoms.specs.Settings.{IsCount};
-ghost use Rattle.mesh_emulate.specs.Wants.{wants_of};
-ghost use Rattle.mesh_tool.specs.Calls.{Call, UsesNoAir, UsesAir, word_at, wants_in, IsInput};
+ghost use Rattle.std.specs.Option.{option_copied};
+ghost use Rattle.mesh_emulate.specs.Wants.{packet_of, wants_of};
+ghost use Rattle.mesh_tool.specs.Calls.{Call, UsesNoAir, UsesAir, word_at, packet_in, wants_in, IsInput};
 ghost use Rattle.mesh_tool.specs.Endings.{with_words, with_source, with_air, with_out, StopsReading, Leaves, DoesJob, Does};
 ghost use Rattle.mesh_words.specs.CommandLines.{IsInRange};
 ghost use Rattle.mesh_words.specs.Words.{texts};
@@ -61,19 +62,42 @@ fn word_at(words: &[String], place: usize) -> &[u8]
     }
 }
 
-// What `emulate` is asked for.
-fn wanted<'a>(words: &'a [String], trace: bool, send: Option<PacketWords>) -> Wanted<'a>
-    ensures { wants_of result ≡ wants_in (texts words.now) trace send }
+// The packet, from the router that the word at its place names.
+fn packet_in<'a>(words: &'a [String], send: Option<PacketWords>) -> Option<NamedPacket<'a>>
+    ensures { option_map packet_of result ≡ option_map (packet_in (texts words.now)) send }
 {
     match send {
-        Some(packet) => Wanted {
-            trace,
-            send: Some(NamedPacket {
-                from: word_at(words, packet.from),
-                dest: packet.dest,
-            }),
-        },
-        None => Wanted { trace, send: None },
+        Some(packet) => Some(NamedPacket {
+            from: word_at(words, packet.from),
+            dest: packet.dest,
+        }),
+        None => None,
+    }
+}
+
+// The name that is the word at that place.
+fn name_in<'a>(words: &'a [String], place: Option<usize>) -> Option<&'a [u8]>
+    ensures { option_copied result ≡ option_map (word_at (texts words.now)) place }
+{
+    match place {
+        Some(place) => Some(word_at(words, place)),
+        None => None,
+    }
+}
+
+// What `emulate` is asked for.
+fn wanted<'a>(
+    words: &'a [String],
+    trace: bool,
+    send: Option<PacketWords>,
+    probe: Option<usize>,
+) -> Wanted<'a>
+    ensures { wants_of result ≡ wants_in (texts words.now) trace send probe }
+{
+    Wanted {
+        trace,
+        send: packet_in(words, send),
+        probe: name_in(words, probe),
     }
 }
 
@@ -84,13 +108,14 @@ fn emulate<B: Bases, O: Sink>(
     octets: &[u8],
     trace: bool,
     send: Option<PacketWords>,
+    probe: Option<usize>,
     out: &mut O,
 ) -> Ending
-    ensures leaves { (call : Call) → Leaves (with_words call (texts words.now)) (Job.Emulate trace send) octets.now
+    ensures leaves { (call : Call) → Leaves (with_words call (texts words.now)) (Job.Emulate trace send probe) octets.now
         (O.content out.old) (O.content out.new) (O.faults out.old) (O.faults out.new) result }
     ensures later { O.faults out.old ≤ O.faults out.new }
 {
-    match mesh_emulate::emulate::<B, O>(alloc, octets, &wanted(words, trace, send), out) {
+    match mesh_emulate::emulate::<B, O>(alloc, octets, &wanted(words, trace, send, probe), out) {
         Ok(()) => Ending::Done,
         Err(EmulateFault::Refused { number, key }) => Ending::Refused { number, key },
         Err(EmulateFault::Stopped(Stop::Write)) => Ending::Write,
@@ -165,17 +190,18 @@ fn emulate_input<B: Bases, S: Source, O: Sink>(
     words: &[String],
     trace: bool,
     send: Option<PacketWords>,
+    probe: Option<usize>,
     input: &mut S,
     out: &mut O,
 ) -> Ending
-    ensures does { (call : Call) → UsesNoAir call → DoesJob (Job.Emulate trace send) (with_out (with_source (with_words call (texts words.now))
+    ensures does { (call : Call) → UsesNoAir call → DoesJob (Job.Emulate trace send probe) (with_out (with_source (with_words call (texts words.now))
         (S.left input.old) (S.left input.new) (S.taken input.old) (S.taken input.new) (S.faults input.old) (S.faults input.new))
         (O.content out.old) (O.content out.new) (O.faults out.old) (O.faults out.new)) result }
     ensures later_input { S.faults input.old ≤ S.faults input.new }
     ensures later_out { O.faults out.old ≤ O.faults out.new }
 {
     match read_input(alloc, input, MOST_STATED) {
-        Ok(octets) => emulate::<B, O>(alloc, words, octets.as_slice(), trace, send, out),
+        Ok(octets) => emulate::<B, O>(alloc, words, octets.as_slice(), trace, send, probe, out),
         Err(how) => how,
     }
 }
@@ -225,8 +251,8 @@ fn do_job<B: Bases, S: Source, O: Sink, A: Air, C: Clock>(
     match job {
         Job::Dump { recode } => list_input(alloc, recode, input, out),
         Job::Run { turns } => run_input::<B, S, O, A, C>(alloc, turns, input, out, air, clock),
-        Job::Emulate { trace, send } => emulate_input::<B, S, O>(
-            alloc, words, trace, send, input, out,
+        Job::Emulate { trace, send, probe } => emulate_input::<B, S, O>(
+            alloc, words, trace, send, probe, input, out,
         ),
         Job::Make {
             kind,

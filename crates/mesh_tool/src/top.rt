@@ -2,6 +2,7 @@
 ghost use Rattle.std.specs.Prelude.{◌≡◌};
 ghost use Rattle.mesh_emulate.specs.Laws.{RunsMachines, TellsSettled, PrintsLeastRoutes, PrintsNextHops};
 ghost use Rattle.mesh_emulate.specs.Laws.{TripsAreOnly, TripsReachRouters, TripsReachNetworks, TripsNeverStray};
+ghost use Rattle.mesh_emulate.specs.Laws.{ProbesReachJoined, ProbesTellAll, ProbesSendOnce};
 ghost use Rattle.mesh_made.specs.Made.{TellsLeastRoutes};
 ghost use Rattle.mesh_turns.specs.Laws.{TurnsAreRuns, TurnsKeepSound};
 ghost use Rattle.mesh_tool.specs.Answers.{Answers};
@@ -119,6 +120,16 @@ pub fn mesh_top<S: Source, O: Sink, E: Sink, A: Air, C: Clock>(
 
     // and none of these ends for want of an arc, or goes too far.
     ensures trips_never_stray { TripsNeverStray }
+
+    // In a settled network whose routers are all willing to flood and have room for messages, a probe whose hop limit suffices reaches
+    // each router that is joined with its own,
+    ensures probes_reach { ProbesReachJoined }
+
+    // and the text says so.
+    ensures probes_tell { ProbesTellAll }
+
+    // Whatever the network, no router sends twice on an interface in a probe.
+    ensures probes_once { ProbesSendOnce }
 
     // Wherever a router stands in its turns, it has come there by a run of its machine, over whatever an air tells,
     ensures turns { TurnsAreRuns }

@@ -29,16 +29,16 @@ made k n s kind routers seed options is_kind are_routers is_seed any =
     (rw (is_kind, are_routers, is_seed) refl) (rw (are_routers, is_kind, is_seed) refl) (rw (are_routers, is_seed, is_kind) refl)
     (rw (is_kind, is_seed, are_routers) refl) (rw (is_seed, is_kind, are_routers) refl) (rw (is_seed, are_routers, is_kind) refl) any
 
-emulated : (trace : Bool) (send : Option PacketWords) (options : List OptionWords) → AreEmulateOptions trace send options
-    → words_of (behind (codes "emulate") options) ≡ Ok (job.Emulate trace send)
-emulated trace send options are = comes_read options false None trace send 1
-    (record { traces = are.traces; sends = are.sends; is_trace = are.is_trace; is_send = are.is_send; any = are.any })
+emulated : (trace : Bool) (send : Option PacketWords) (probe : Option ℕ) (options : List OptionWords) → AreEmulateOptions trace send probe options
+    → words_of (behind (codes "emulate") options) ≡ Ok (job.Emulate trace send probe)
+emulated trace send probe options are = comes_read trace send probe options false None None 1
+    (record { traces = are.traces; sends = are.sends; probes = are.probes; is_trace = are.is_trace; is_send = are.is_send; is_probe = are.is_probe; any = are.any })
 
 pub asked_is_read : (words : List (List ℕ)) (j : Job) → AskFor words j → words_of words ≡ Ok j
 asked_is_read words (job.Dump false) asks = ap words_of (asks.whole ∙ ap (behind (codes "dump")) asks.are)
 asked_is_read words (job.Dump true) asks = ap words_of (asks.whole ∙ ap (behind (codes "dump")) asks.are)
 asked_is_read words (job.Run turns) asks = ap words_of (asks.whole ∙ ap (behind (codes "run")) asks.are.2) ∙ rw asks.are.1 refl
-asked_is_read words (job.Emulate trace send) asks = ap words_of asks.whole ∙ emulated trace send asks.options asks.are
+asked_is_read words (job.Emulate trace send probe) asks = ap words_of asks.whole ∙ emulated trace send probe asks.options asks.are
 asked_is_read words (job.Make kind routers seed) asks =
     let a = asks.are in
     ap words_of asks.whole ∙ made a.0 a.1 a.2 kind routers seed asks.options a.3 a.4 a.5 a.6
@@ -82,19 +82,19 @@ run_asked word (w ∷ words) j is h =
     let s = only_stands w (codes "--turns") true asked.Turns step.0 step.1 in
     turns_asked word w words j is s.0 (subst (λ (next : Asked). read_on next 2 words ≡ Ok j) s.2 step.2)
 
-read_asked : (word : List ℕ) (words : List (List ℕ)) (j : Job) → word ≡ codes "emulate" → ReadFrom false None 1 words j → AskFor (word ∷ words) j
+read_asked : (word : List ℕ) (words : List (List ℕ)) (j : Job) → word ≡ codes "emulate" → ReadFrom false None None 1 words j → AskFor (word ∷ words) j
 read_asked word words j is r =
     let c = r.comes in
     subst (AskFor (word ∷ words)) (sym r.is_job) (record {
       options = r.options;
-      are = record { traces = c.traces; sends = c.sends; is_trace = c.is_trace; is_send = c.is_send; any = c.any };
+      are = record { traces = c.traces; sends = c.sends; probes = c.probes; is_trace = c.is_trace; is_send = c.is_send; is_probe = c.is_probe; any = c.any };
       whole = ap (λ (w : List ℕ). w ∷ words) is ∙ ap (λ (l : List (List ℕ)). codes "emulate" ∷ l) r.whole;
     })
 
 emulate_asked : (word : List ℕ) (words : List (List ℕ)) (j : Job) → word ≡ codes "emulate" → read_on (asked.Emulate no_emulate_options) 1 words ≡ Ok j → AskFor (word ∷ words) j
-emulate_asked word [] j is h = read_asked word [] j is (all_read false None 1 j h)
+emulate_asked word [] j is h = read_asked word [] j is (all_read false None None 1 j h)
 emulate_asked word (w ∷ words) j is h =
-    elim (option_on (length words) j false None 1 w words (omega arith) h (reads_on (length words) j)) [
+    elim (option_on (length words) j false None None 1 w words (omega arith) h (reads_on (length words) j)) [
       | inl r ↦ read_asked word (w ∷ words) j is r
       | inr (without, (next, option, rest)) ↦ make_asked word (w ∷ words) j is (makes_from None None None 1 (w ∷ words) j (rw option rest))
     ]

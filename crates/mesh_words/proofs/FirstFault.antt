@@ -42,6 +42,7 @@ completes asked.Turns place = (codes "1" ∷ [], refl)
 completes (asked.Emulate o) place = ([], refl)
 completes (asked.EmulateAwaits o emulates.From) place = (codes "a" ∷ codes "1.1.1.1" ∷ [], refl)
 completes (asked.EmulateAwaits o (emulates.Dest from)) place = (codes "1.1.1.1" ∷ [], refl)
+completes (asked.EmulateAwaits o emulates.Name) place = (codes "a" ∷ [], refl)
 completes (asked.Make o) place = kind_missing o.kind o.routers o.seed place
 completes (asked.MakeAwaits o value.Kind) place =
     let rest = kind_missing (Some kind.Grid) o.routers o.seed (place + 1) in (codes "grid" ∷ rest.0, rest.1)

@@ -42,7 +42,7 @@ number_in_range least most word n h = from_within least most (number_of most wor
 in_range : (words : List (List ℕ)) (j : Job) → AskFor words j → IsInRange j
 in_range words (job.Dump recode) asks = tt
 in_range words (job.Run turns) asks = (number_in_range 1 4294967295 asks.are.0 turns asks.are.1).0
-in_range words (job.Emulate trace send) asks = tt
+in_range words (job.Emulate trace send probe) asks = tt
 in_range words (job.Make kind routers seed) asks =
     let n = number_in_range 2 64 asks.are.1 routers asks.are.4 in
     let s = number_in_range 0 4294967295 asks.are.2 seed asks.are.5 in

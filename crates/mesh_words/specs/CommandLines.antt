@@ -42,13 +42,21 @@ IsSend (Some packet) options =
     (place : ℕ) × (from : List ℕ) × (dest : List ℕ) × (packet.from ≡ place + 1) × (address_of dest ≡ Some packet.dest)
     × (options ≡ at_place place (codes "--send" ∷ from ∷ dest ∷ []) ∷ [])
 
+-- `--probe` with NAME, where a probe is asked for: NAME has that place
+abbrev pub IsProbe : Option ℕ → List PlacedOption → Type 0
+IsProbe None options = options ≡ []
+IsProbe (Some at) options =
+    (place : ℕ) × (name : List ℕ) × (at ≡ place + 1) × (options ≡ at_place place (codes "--probe" ∷ name ∷ []) ∷ [])
+
 -- the options of `emulate`, behind one word
-pub record AreEmulateOptions (trace : Bool) (send : Option PacketWords) (options : List OptionWords) : Type 0 where
+pub record AreEmulateOptions (trace : Bool) (send : Option PacketWords) (probe : Option ℕ) (options : List OptionWords) : Type 0 where
   pub traces : List PlacedOption
   pub sends : List PlacedOption
+  pub probes : List PlacedOption
   pub is_trace : IsTrace trace traces
   pub is_send : IsSend send sends
-  pub any : InAnyOrder (traces ++ sends) (placed 1 options)
+  pub is_probe : IsProbe probe probes
+  pub any : InAnyOrder (traces ++ (sends ++ probes)) (placed 1 options)
 
 -- the options of `emulate --make`, with these words for values
 abbrev pub make_options : List ℕ → List ℕ → List ℕ → List OptionWords
@@ -60,7 +68,7 @@ abbrev pub AreOptions : Job → List OptionWords → Type 0
 AreOptions (job.Dump false) options = options ≡ []
 AreOptions (job.Dump true) options = options ≡ (codes "--recode" ∷ []) ∷ []
 AreOptions (job.Run turns) options = (n : List ℕ) × (turns_of n ≡ Some turns) × (options ≡ (codes "--turns" ∷ n ∷ []) ∷ [])
-AreOptions (job.Emulate trace send) options = AreEmulateOptions trace send options
+AreOptions (job.Emulate trace send probe) options = AreEmulateOptions trace send probe options
 AreOptions (job.Make kind routers seed) options =
     (k : List ℕ) × (n : List ℕ) × (s : List ℕ) × (kind_of k ≡ Some kind) × (routers_of n ≡ Some routers) × (seed_of s ≡ Some seed)
     × InAnyOrder (make_options k n s) options
@@ -69,7 +77,7 @@ AreOptions (job.Make kind routers seed) options =
 abbrev pub command_of : Job → List ℕ
 command_of (job.Dump recode) = codes "dump"
 command_of (job.Run turns) = codes "run"
-command_of (job.Emulate trace send) = codes "emulate"
+command_of (job.Emulate trace send probe) = codes "emulate"
 command_of (job.Make kind routers seed) = codes "emulate"
 
 -- the words ask for this job: its command, and behind it its options
@@ -82,7 +90,7 @@ pub record AskFor (words : List (List ℕ)) (job : Job) : Type 0 where
 abbrev pub IsInRange : Job → Type 0
 IsInRange (job.Dump recode) = Unit {0}
 IsInRange (job.Run turns) = 1 ≤ turns
-IsInRange (job.Emulate trace send) = Unit {0}
+IsInRange (job.Emulate trace send probe) = Unit {0}
 IsInRange (job.Make kind routers seed) = IsCount 2 64 routers × (seed ≤ 4294967295)
 
 -- words are read as a job exactly where they ask for it

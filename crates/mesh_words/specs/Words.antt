@@ -70,25 +70,27 @@ make_job o = o.kind >>= λ kind. o.routers >>= λ routers. o.seed >>= λ seed. S
 -- ---- the options of `emulate` of a scenario that is read: each stands once at most, in any order, and beside none of a made one
 
 abbrev pub no_emulate_options : EmulateOptions
-no_emulate_options = record { trace = false; send = None }
+no_emulate_options = record { trace = false; send = None; probe = None }
 
 -- none stood
 abbrev pub is_without : EmulateOptions → Bool
-is_without o = not o.trace && is_none o.send
+is_without o = (not o.trace && is_none o.send) && is_none o.probe
 
 -- an option's own word
 abbrev pub emulate_option : EmulateOptions → List ℕ → Option Asked
 emulate_option o word =
-    if is_word word (codes "--trace") && not o.trace then Some (asked.Emulate (record { trace = true; send = o.send }))
+    if is_word word (codes "--trace") && not o.trace then Some (asked.Emulate (record { trace = true; send = o.send; probe = o.probe }))
     else if is_word word (codes "--send") && is_none o.send then Some (asked.EmulateAwaits o emulates.From)
+    else if is_word word (codes "--probe") && is_none o.probe then Some (asked.EmulateAwaits o emulates.Name)
     else if is_without o then make_option no_make_options word
     else None
 
--- an option's value, which has that place: FROM is any word, and DEST is an address
+-- an option's value, which has that place: FROM and NAME are any word, and DEST is an address
 abbrev pub emulate_value : EmulateOptions → EmulateValue → ℕ → List ℕ → Option Asked
 emulate_value o emulates.From place word = Some (asked.EmulateAwaits o (emulates.Dest place))
 emulate_value o (emulates.Dest from) place word =
-    address_of word >>= λ dest. Some (asked.Emulate (record { trace = o.trace; send = Some (record { from = from; dest = dest }) }))
+    address_of word >>= λ dest. Some (asked.Emulate (record { trace = o.trace; send = Some (record { from = from; dest = dest }); probe = o.probe }))
+emulate_value o emulates.Name place word = Some (asked.Emulate (record { trace = o.trace; send = o.send; probe = Some place }))
 
 -- ---- command lines
 
@@ -116,7 +118,7 @@ job_of asked.Nothing = None
 job_of (asked.Dump recode) = Some (job.Dump recode)
 job_of (asked.Run turns) = option_map job.Run turns
 job_of asked.Turns = None
-job_of (asked.Emulate o) = Some (job.Emulate o.trace o.send)
+job_of (asked.Emulate o) = Some (job.Emulate o.trace o.send o.probe)
 job_of (asked.EmulateAwaits o value) = None
 job_of (asked.Make o) = make_job o
 job_of (asked.MakeAwaits o value) = None

@@ -12,13 +12,15 @@ use mesh_atoms::{address_of, number_of};
 pub struct EmulateOptions {
     pub trace: bool,
     pub send: Option<PacketWords>,
+    pub probe: Option<usize>,
 }
 
-/// The value of an option of these: FROM and then DEST of `--send`, where FROM stands at that place.
+/// The value of an option of these: FROM and then DEST of `--send`, where FROM stands at that place; NAME of `--probe`.
 #[derive(Clone, Copy)]
 pub enum EmulateValue {
     From,
     Dest(usize),
+    Name,
 }
 
 /// The options of `emulate` of a scenario that is made.
@@ -53,6 +55,7 @@ pub enum Asked {
 const NO_EMULATE_OPTIONS: EmulateOptions = EmulateOptions {
     trace: false,
     send: None,
+    probe: None,
 };
 
 const NO_MAKE_OPTIONS: MakeOptions = MakeOptions {
@@ -156,7 +159,7 @@ impl EmulateOptions {
     fn is_without(self) -> bool
         ensures { result ≡ is_without self }
     {
-        !self.trace && self.send.is_none()
+        !self.trace && self.send.is_none() && self.probe.is_none()
     }
 
     // An option's own word.
@@ -170,6 +173,8 @@ impl EmulateOptions {
             }))
         } else if word == "--send" && self.send.is_none() {
             Some(Asked::EmulateAwaits(self, EmulateValue::From))
+        } else if word == "--probe" && self.probe.is_none() {
+            Some(Asked::EmulateAwaits(self, EmulateValue::Name))
         } else if self.is_without() {
             NO_MAKE_OPTIONS.option(word)
         } else {
@@ -190,6 +195,10 @@ impl EmulateOptions {
                     ..self
                 }))
             }
+            EmulateValue::Name => Some(Asked::Emulate(EmulateOptions {
+                probe: Some(place),
+                ..self
+            })),
         }
     }
 }
@@ -259,6 +268,7 @@ pub fn job_of(asked: Asked) -> Option<Job>
         Asked::Emulate(options) => Some(Job::Emulate {
             trace: options.trace,
             send: options.send,
+            probe: options.probe,
         }),
         Asked::Make(options) => options.job(),
         Asked::Nothing | Asked::Turns | Asked::EmulateAwaits(_, _) | Asked::MakeAwaits(_, _) =>

@@ -19,7 +19,8 @@ pub struct PacketWords {
 
 /// What a command line asks for: to list lines of hexadecimal text as packets, with `recode` each one written again in its
 /// least form; to run a router for at most so many turns, at least 1; to emulate the network of a scenario, with `trace` telling
-/// each event, and with `send` the trip of a data packet at the end; or to emulate the network of a scenario that is made of 2 to 64 routers by a seed below 2^32.
+/// each event, with `send` the trip of a data packet at the end, and with `probe`, the place of the word that names a router, the probe
+/// of the network by that router; or to emulate the network of a scenario that is made of 2 to 64 routers by a seed below 2^32.
 #[derive(Clone, Copy, PartialEq, Eq)]
 pub enum Job {
     Dump {
@@ -31,6 +32,7 @@ pub enum Job {
     Emulate {
         trace: bool,
         send: Option<PacketWords>,
+        probe: Option<usize>,
     },
     Make {
         kind: Kind,

@@ -1,5 +1,5 @@
-use Rattle.mesh_emulate.proofs.Ends.{end_is_network}
 use Rattle.mesh_emulate.proofs.Parts.{whole_run, end_left, events_left}
+use Rattle.mesh_texts.proofs.RunStates.{end_is_network}
 use Rattle.mesh_emulate.proofs.emulation.tell_net.Goals as goal
 
 pub tell_end-requires-clause-network : goal.tell_end-requires-clause-network

@@ -1,4 +1,5 @@
 use Rattle.mesh_emulate.proofs.ToldRoutes.{runs_machines, tells_settled, prints_least_routes, prints_next_hops, trips_are_only, trips_reach_routers, trips_reach_networks, trips_never_stray}
+use Rattle.mesh_emulate.proofs.ToldProbes.{probes_reach_joined, probes_tell_all, probes_send_once}
 use Rattle.mesh_emulate.proofs.laws.emulations_tell.Goals as goal
 
 pub returns-clause-machines : goal.returns-clause-machines
@@ -24,3 +25,12 @@ returns-clause-trips_reach_networks c = trips_reach_networks c.settled_trips.ens
 
 pub returns-clause-trips_never_stray : goal.returns-clause-trips_never_stray
 returns-clause-trips_never_stray c = trips_never_stray c.settled_trips.ensures.never_strays
+
+pub returns-clause-probes_reach : goal.returns-clause-probes_reach
+returns-clause-probes_reach c = probes_reach_joined c.probes_reach.ensures.reaches
+
+pub returns-clause-probes_tell : goal.returns-clause-probes_tell
+returns-clause-probes_tell c = probes_tell_all c.probes_reach.ensures.reaches
+
+pub returns-clause-probes_once : goal.returns-clause-probes_once
+returns-clause-probes_once c = probes_send_once c.probes_reach.ensures.once
