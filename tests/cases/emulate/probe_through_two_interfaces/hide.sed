@@ -1,0 +1,1 @@
+/^(settled|gap|probe|unreached) /!d

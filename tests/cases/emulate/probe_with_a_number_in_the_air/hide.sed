@@ -1,0 +1,1 @@
+/^(probe|unreached) /!d
