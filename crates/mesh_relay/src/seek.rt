@@ -60,6 +60,20 @@ fn offer_from(directs: &[Direct], place: usize, addr: Addr4, most: u64) -> Optio
     }
 }
 
+/// Whether a direct entry offers the address at no more than `most`. The one at `next` is looked at first, and the one after it
+/// is to be the next.
+pub fn is_direct(directs: &[Direct], next: &mut usize, addr: Addr4, most: u64) -> bool
+    ensures { result ≡ list_any (is_offer addr most) directs.now }
+{
+    match offer_from(directs, *next, addr, most) {
+        Some(place) => {
+            *next = place.saturating_add(1);
+            true
+        }
+        None => false,
+    }
+}
+
 /// The first of the neighbours that has the id, and its place.
 fn near_of(willing: &[Near], id: Addr4) -> Option<(usize, Near)>
     ensures { result ≡ near_from 0 willing.now id }
@@ -94,21 +108,6 @@ impl Seek {
         if self.via.0 != via.0 {
             self.found = near_of(willing, via);
             self.via = via;
-        }
-    }
-
-    /// Whether a direct entry offers the address at no more than `most`.
-    pub fn is_direct(&mut self, directs: &[Direct], addr: Addr4, most: u64) -> bool
-        ensures value { result ≡ list_any (is_offer addr most) directs.now }
-        ensures via { self.new.via ≡ self.old.via }
-        ensures found { self.new.found ≡ self.old.found }
-    {
-        match offer_from(directs, self.next, addr, most) {
-            Some(place) => {
-                self.next = place.saturating_add(1);
-                true
-            }
-            None => false,
         }
     }
 }

@@ -4,7 +4,7 @@ use Rattle.mesh_relay.proofs.ways.way_by.Goals as goal
 
 pub returns-in-Some-clause-way : goal.returns-in-Some-clause-way
 returns-in-Some-clause-way c =
-    c.way_at.ensures.way
+    c.way_at.ensures
     ∙ one_way c.args.graph.now c.args.willing.now c.args.far c.follow.new.self.found c.in-Some.place c.in-Some.near c.follow.ensures.found c.in-Some.is
 
 pub returns-in-None-clause-way : goal.returns-in-None-clause-way
