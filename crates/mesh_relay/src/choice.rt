@@ -86,7 +86,8 @@ pub fn choose_by_dropping(alloc: Global, graph: &NeighbourGraph) -> Result<Seq<A
 /// neighbours of willingness 15 are taken first, then again and again the one by which most addresses come to be reached
 /// at their least cost, the least id among equals; then those that the others make up for are left out, the greatest id
 /// first. The order of the graph's lists has no say. Takes about as many steps as there are neighbours times `far`
-/// entries. Ids must be distinct. Only want of memory refuses.
+/// entries, or as there are `far` entries where direct ones are as cheap and those by one neighbour stand side by side in
+/// ascending order of address. Ids must be distinct. Only want of memory refuses.
 pub fn choose(alloc: Global, graph: &NeighbourGraph) -> Result<Seq<Addr4>, AllocError>
     requires { HasDistinctIds graph.now }
     ensures covers { IfOk result (Covers graph.now) }

@@ -1,6 +1,6 @@
 //! Look-ups for one far entry after the other. Entries by one neighbour mostly stand side by side, in ascending order of
 //! address, so each look-up begins where the last one ended.
-ghost use Rattle.std.specs.Prelude.{◌≡◌, ◌≤◌, IfOk, is_some, IsPermutation};
+ghost use Rattle.std.specs.Prelude.{◌≡◌, IfOk, is_some, IsPermutation};
 ghost use Rattle.std.specs.List.{list_any};
 ghost use Rattle.mesh_relay.specs.Ways.{near_from, is_offer, IsSought};
 
@@ -87,7 +87,7 @@ fn near_of(willing: &[Near], id: Addr4) -> Option<(usize, Near)>
 }
 
 impl Seek {
-    /// Nothing is found yet.
+    /// What is found for the least id, and no direct entry.
     pub fn new(willing: &[Near]) -> Seek
         ensures { IsSought willing.now result }
     {
