@@ -84,14 +84,16 @@ impl<T: Table<Addr4, Neighbour>> NeighbourSet<T> {
         ensures count { IfOk result (λ taken_out. taken_out + length self.new ≡ length self.old + 1) }
         ensures distinct { HasDistinctKeys addr_eq self.new }
     {
-        let matching = Matching {
+        let before = self.table.len();
+        let others = Others {
             originator,
             listed: addrs,
         };
-        let taken_out = end_all(&mut self.table, &matching);
+        end_all(&mut self.table, &others);
         let neighbour = neighbour_with(self.alloc, addrs, willing, selector)?;
+        // One with that originator keeps its place.
         self.table.put(originator, neighbour, until)?;
-        Ok(taken_out)
+        Ok(before - (self.table.len() - 1))
     }
 
     /// Brings the neighbours in line with their links (RFC 6130, section 13, and RFC 7181, section 17.6), which the notes tell
@@ -173,18 +175,20 @@ fn write<T: Table<Addr4, Neighbour>>(table: &mut T, originator: &Addr4, summary:
     }
 }
 
-// The neighbours that a HELLO with this originator and these addresses speaks of.
+// The neighbours of other originators that a HELLO with this originator and these addresses speaks of.
 #[derive(Clone, Copy)]
-struct Matching<'a> {
+struct Others<'a> {
     originator: Addr4,
     listed: &'a [Addr4],
 }
 
-impl<'a> Ending<Addr4, Neighbour> for Matching<'a> {
-    ghost ends = { λ m originator neighbour. Matches m.originator m.listed.now originator neighbour };
+impl<'a> Ending<Addr4, Neighbour> for Others<'a> {
+    ghost use Rattle.std.specs.Prelude.{◌≢◌};
+
+    ghost ends = { λ m originator neighbour. (originator ≢ m.originator) × Matches m.originator m.listed.now originator neighbour };
 
     fn ends(&self, originator: &Addr4, neighbour: &Neighbour) -> bool {
-        *originator == self.originator || meets(neighbour.addrs.as_slice(), self.listed)
+        *originator != self.originator && meets(neighbour.addrs.as_slice(), self.listed)
     }
 }
 
