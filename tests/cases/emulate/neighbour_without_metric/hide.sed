@@ -1,0 +1,4 @@
+/^emulate/d
+/^router [yz]/,/^settled/{
+/^settled/!d
+}

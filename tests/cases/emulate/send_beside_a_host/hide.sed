@@ -1,0 +1,1 @@
+/^(settled|gap|send| hop) /!d
