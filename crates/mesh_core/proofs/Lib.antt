@@ -1,3 +1,1 @@
 mod Derivations
-mod PartRows
-pub mod Written

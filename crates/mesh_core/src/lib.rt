@@ -3,10 +3,7 @@
 
 mod ending;
 mod hear;
-mod hellos;
-mod moments;
 mod router;
-mod tcs;
 mod tick;
 mod views;
 

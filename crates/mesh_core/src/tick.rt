@@ -8,12 +8,11 @@ ghost use Rattle.mesh_machine.specs.Machine.{Event, Step, TicksAt, due};
 ghost use Rattle.mesh_machine.specs.Sendable.{IsSendable};
 
 use crate::ending::end_event;
-use crate::hellos::send_hellos;
 use crate::router::Core;
-use crate::tcs::send_tcs;
 use mesh_expire::Bases;
 use mesh_holding::{Holding, Outbox};
 use mesh_renewal::Derived;
+use mesh_sending::{send_hellos, send_tcs};
 use std::alloc::{AllocError, Global};
 
 impl<B: Bases> Core<B> {

@@ -1,6 +1,6 @@
 use Rattle.std.proofs.Common.{◌++◌, List, ap, ◌∙◌}
 use Rattle.mesh_machine.specs.declared.frame.Frame.{Frame}
-use Rattle.mesh_core.proofs.Written.{on_ok_more}
+use Rattle.mesh_sending.proofs.Written.{on_ok_more}
 use Rattle.mesh_core.proofs.tick.send_due.Goals as goal
 
 pub returns-clause-ticks : goal.returns-clause-ticks

@@ -7,7 +7,7 @@ use Rattle.mesh_machine.specs.Machine.{Hears, Heard_frame}
 use Rattle.mesh_machine.specs.Sendable.{IsSendable}
 use Rattle.mesh_machine.proofs.Effects.{since, appends, hears_settings, hears_last, hears_due}
 use Rattle.mesh_machine.proofs.Sendables.{hears_sendable}
-use Rattle.mesh_core.proofs.Written.{on_ok_of}
+use Rattle.mesh_sending.proofs.Written.{on_ok_of}
 use Rattle.mesh_core.proofs.router.Core.hear.Goals as goal
 
 pub returns-clause-step : goal.returns-clause-step

@@ -5,7 +5,7 @@ use Rattle.mesh_machine.specs.Machine.{TicksAt, Ticked}
 use Rattle.mesh_machine.specs.Sendable.{IsSendable}
 use Rattle.mesh_machine.proofs.Effects.{since, appends_on, ticks_due}
 use Rattle.mesh_machine.proofs.Sendables.{ticks_sendable}
-use Rattle.mesh_core.proofs.Written.{on_ok_more}
+use Rattle.mesh_sending.proofs.Written.{on_ok_more}
 use Rattle.mesh_core.proofs.router.Core.tick.Goals as goal
 
 pub returns-clause-step : goal.returns-clause-step

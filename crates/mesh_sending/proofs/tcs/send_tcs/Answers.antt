@@ -6,9 +6,9 @@ use Rattle.mesh_atoms.specs.declared.settings.RouterSettings.{RouterSettings}
 use Rattle.mesh_renewal.specs.declared.derived.Derived.{Derived}
 use Rattle.mesh_renewal.specs.Renewed.{HasDerived}
 use Rattle.mesh_machine.specs.Sending.{SendsParts, Tcs_early, Tcs_silent, Tcs_due}
-use Rattle.mesh_core.proofs.PartRows.{has_before}
-use Rattle.mesh_core.proofs.Written.{on_ok_more}
-use Rattle.mesh_core.proofs.tcs.send_tcs.Goals as goal
+use Rattle.mesh_sending.proofs.PartRows.{has_before}
+use Rattle.mesh_sending.proofs.Written.{on_ok_more}
+use Rattle.mesh_sending.proofs.tcs.send_tcs.Goals as goal
 
 pub returns-then-now-derived-clause-sent : goal.returns-then-now-derived-clause-sent
 returns-then-now-derived-clause-sent c = (

@@ -1,7 +1,7 @@
 use Rattle.std.proofs.Common.{arith, refl}
 use Rattle.mesh_routes.proofs.ChoiceLaw.{if_ok_more}
-use Rattle.mesh_core.proofs.Written.{state_with, sent_time, sent_if_some, no_other, status_whole}
-use Rattle.mesh_core.proofs.hellos.hello_bytes.Goals as goal
+use Rattle.mesh_sending.proofs.Written.{state_with, sent_time, sent_if_some, no_other, status_whole}
+use Rattle.mesh_sending.proofs.hellos.hello_bytes.Goals as goal
 
 pub write_hello-requires-clause-few : goal.write_hello-requires-clause-few
 write_hello-requires-clause-few g c = let h = c.in_ok-hello.ensures.few in omega (arith, h)

@@ -6,9 +6,9 @@ use Rattle.mesh_atoms.specs.Writable.{AreOneType, HaveTypeWhole}
 use Rattle.mesh_topo.specs.Spans.{part_of}
 use Rattle.mesh_routes.proofs.ChoiceLaw.{if_ok_more}
 use Rattle.mesh_machine.specs.Sending.{IsTcOfRows}
-use Rattle.mesh_core.proofs.PartRows.{part_length, part_ordered, part_one_type, part_whole}
-use Rattle.mesh_core.proofs.Written.{rows_one_type, rows_whole}
-use Rattle.mesh_core.proofs.tcs.part_bytes.Goals as goal
+use Rattle.mesh_sending.proofs.PartRows.{part_length, part_ordered, part_one_type, part_whole}
+use Rattle.mesh_sending.proofs.Written.{rows_one_type, rows_whole}
+use Rattle.mesh_sending.proofs.tcs.part_bytes.Goals as goal
 
 pub rows_of-rows-requires : goal.rows_of-rows-requires
 rows_of-rows-requires c = let within = c.requires.within in let same = ap (λ (rows : List TcRow). length rows) c.as_slice.ensures in omega (arith, within, same)

@@ -4,7 +4,7 @@ ghost use Rattle.mesh_atoms.specs.declared.hello.Hello.{Hello as HelloValue};
 ghost use Rattle.mesh_atoms.specs.Hello.{IsHelloNow};
 ghost use Rattle.mesh_atoms.specs.Sound.{SoundNeighbourhood};
 ghost use Rattle.mesh_atoms.specs.State.{State};
-ghost use Rattle.mesh_core.specs.Holding.{HellosAreSent};
+ghost use Rattle.mesh_sending.specs.Sent.{HellosAreSent};
 ghost use Rattle.mesh_machine.specs.declared.frame.Frame.{Frame};
 ghost use Rattle.mesh_wire.specs.Writes.{WritesHello};
 
@@ -35,7 +35,7 @@ fn hello_bytes<B: Bases>(
 }
 
 /// Sends the HELLO of each interface, where one is due.
-pub(crate) fn send_hellos<B: Bases>(
+pub fn send_hellos<B: Bases>(
     alloc: Global,
     nhdp: &Nhdp<B>,
     derived: &mut Derived,

@@ -4,8 +4,8 @@ use Rattle.mesh_atoms.specs.declared.settings.RouterSettings.{RouterSettings}
 use Rattle.mesh_atoms.specs.declared.tc.TcRow.{TcRow}
 use Rattle.mesh_atoms.specs.Nodes.{IsBefore}
 use Rattle.mesh_atoms.specs.State.{IsOriginator}
-use Rattle.mesh_core.proofs.Written.{sent_if_some}
-use Rattle.mesh_core.proofs.tcs.tc_of_rows.Goals as goal
+use Rattle.mesh_sending.proofs.Written.{sent_if_some}
+use Rattle.mesh_sending.proofs.tcs.tc_of_rows.Goals as goal
 
 pub returns-clause-is : goal.returns-clause-is
 returns-clause-is c = λ s is has. record {

@@ -3,7 +3,7 @@ use Rattle.std.specs.Prelude.{slice_get}
 use Rattle.mesh_atoms.specs.State.{State}
 use Rattle.mesh_machine.specs.declared.frame.Frame.{Frame}
 use Rattle.mesh_machine.specs.Sending.{IsHelloFrame}
-use Rattle.mesh_core.proofs.hellos.send_hellos.Given as goal
+use Rattle.mesh_sending.proofs.hellos.send_hellos.Given as goal
 
 abbrev pub invariant-loop-iface : goal.invariant-loop-iface
 invariant-loop-iface g l = record {

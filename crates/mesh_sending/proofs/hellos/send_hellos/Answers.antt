@@ -5,8 +5,8 @@ use Rattle.mesh_atoms.specs.declared.settings.RouterSettings.{RouterSettings}
 use Rattle.mesh_atoms.specs.Hello.{IsHelloNow}
 use Rattle.mesh_machine.specs.declared.frame.Frame.{Frame}
 use Rattle.mesh_machine.specs.Sending.{IsHelloFrame, Hellos_early, Hellos_due}
-use Rattle.mesh_core.proofs.Written.{one_frame_more}
-use Rattle.mesh_core.proofs.hellos.send_hellos.Goals as goal
+use Rattle.mesh_sending.proofs.Written.{one_frame_more}
+use Rattle.mesh_sending.proofs.hellos.send_hellos.Goals as goal
 
 pub returns-then-now-derived-clause-sent : goal.returns-then-now-derived-clause-sent
 returns-then-now-derived-clause-sent g c = (

@@ -11,8 +11,8 @@ use Rattle.mesh_renewal.specs.declared.derived.Derived.{Derived}
 use Rattle.mesh_machine.specs.declared.frame.Frame.{Frame}
 use Rattle.mesh_machine.specs.Frames.{on_each}
 use Rattle.mesh_machine.specs.Sending.{SendsParts, No_part, First_part}
-use Rattle.mesh_core.proofs.PartRows.{parts_behind, next_number}
-use Rattle.mesh_core.proofs.tcs.send_spans.Goals as goal
+use Rattle.mesh_sending.proofs.PartRows.{parts_behind, next_number}
+use Rattle.mesh_sending.proofs.tcs.send_spans.Goals as goal
 
 pub loop-i-init : goal.loop-i-init
 loop-i-init c = record {

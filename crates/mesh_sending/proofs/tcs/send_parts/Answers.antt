@@ -5,8 +5,8 @@ use Rattle.mesh_atoms.specs.Advertised.{AreParts}
 use Rattle.mesh_atoms.specs.Validity.{IsValidity}
 use Rattle.mesh_topo.specs.declared.spans.PartSpan.{PartSpan}
 use Rattle.mesh_topo.specs.Spans.{part_of}
-use Rattle.mesh_core.proofs.PartRows.{runs_within, has_before}
-use Rattle.mesh_core.proofs.tcs.send_parts.Goals as goal
+use Rattle.mesh_sending.proofs.PartRows.{runs_within, has_before}
+use Rattle.mesh_sending.proofs.tcs.send_parts.Goals as goal
 
 pub send_spans-requires-clause-value : goal.send_spans-requires-clause-value
 send_spans-requires-clause-value c = rw c.as_slice.ensures c.in_ok-validity.ensures.sent

@@ -10,7 +10,7 @@ ghost use Rattle.mesh_atoms.specs.Validity.{IsTimeValue};
 ghost use Rattle.mesh_atoms.specs.Writable.{IsSentIfSome};
 ghost use Rattle.mesh_topo.specs.declared.spans.PartSpan.{PartSpan as SpanValue};
 ghost use Rattle.mesh_topo.specs.Spans.{part_of};
-ghost use Rattle.mesh_core.specs.Holding.{TcsAreSent, PartsAreSent};
+ghost use Rattle.mesh_sending.specs.Sent.{TcsAreSent, PartsAreSent};
 ghost use Rattle.mesh_renewal.specs.Renewed.{HasDerived};
 ghost use Rattle.mesh_machine.specs.declared.frame.Frame.{Frame};
 ghost use Rattle.mesh_machine.specs.Sending.{HasToAdvertise, IsTcOfRows, SendsParts};
@@ -25,7 +25,7 @@ use mesh_wire::write_tc;
 use std::alloc::{AllocError, Global};
 
 /// Sends a TC for each part of the rows on each interface, where TCs are due and there is something to advertise.
-pub(crate) fn send_tcs(
+pub fn send_tcs(
     alloc: Global,
     settings: &RouterSettings,
     derived: &mut Derived,

@@ -5,7 +5,7 @@ use Rattle.mesh_topo.specs.Spans.{part_of}
 use Rattle.mesh_renewal.specs.Renewed.{HasDerived}
 use Rattle.mesh_machine.specs.declared.frame.Frame.{Frame}
 use Rattle.mesh_machine.specs.Sending.{SendsParts}
-use Rattle.mesh_core.proofs.tcs.send_spans.Given as goal
+use Rattle.mesh_sending.proofs.tcs.send_spans.Given as goal
 
 abbrev pub invariant-loop-i : goal.invariant-loop-i
 invariant-loop-i l = record {

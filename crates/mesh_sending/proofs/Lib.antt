@@ -1,0 +1,2 @@
+mod PartRows
+pub mod Written
