@@ -47,7 +47,7 @@ pub struct Graph {
 }
 
 /// A node that is reached, the least cost of a way to it, and the node before it.
-#[derive(Clone, Copy, Debug, PartialEq, Eq)]
+#[derive(Clone, Copy, PartialEq, Eq)]
 pub struct PathRow {
     pub node: NetAddr,
     pub metric: u64,
@@ -63,7 +63,7 @@ pub struct Certificate {
 
 /// A routing tuple (RFC 7181, section 10.5): by which address on which interface the destination is reached, at which
 /// cost, and the node before it on the way.
-#[derive(Clone, Copy, Debug, PartialEq, Eq)]
+#[derive(Clone, Copy, PartialEq, Eq)]
 pub struct Route {
     pub dest: NetAddr,
     pub next: Addr4,

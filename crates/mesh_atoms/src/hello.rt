@@ -7,7 +7,7 @@ use crate::{Addr4, Metric, NetAddr, Seq};
 
 /// How willing a router is to be a relay, from 0 (never) to 15 (always), for flooding and for routing
 /// (RFC 7181, section 13.3.1).
-#[derive(Clone, Copy, Debug, PartialEq, Eq)]
+#[derive(Clone, Copy, PartialEq, Eq)]
 pub struct Willing {
     pub flooding: u8,
     pub routing: u8,
@@ -16,7 +16,7 @@ pub struct Willing {
 }
 
 /// The metrics that a HELLO shows of an address, each from the sender's side (RFC 7181, section 13.3.2).
-#[derive(Clone, Copy, Debug, PartialEq, Eq)]
+#[derive(Clone, Copy, PartialEq, Eq)]
 pub struct Metrics {
     /// Of the link from that address to the sender.
     pub link_in: Option<Metric>,
@@ -29,21 +29,21 @@ pub struct Metrics {
 }
 
 /// Which kinds of relay the sender has chosen the address's router as (RFC 7181, section 13.3.2).
-#[derive(Clone, Copy, Debug, PartialEq, Eq)]
+#[derive(Clone, Copy, PartialEq, Eq)]
 pub struct Mpr {
     pub flooding: bool,
     pub routing: bool,
 }
 
 /// An address of the sender: of the interface that sent the HELLO, or of another one (RFC 6130, section 10).
-#[derive(Clone, Copy, Debug, PartialEq, Eq)]
+#[derive(Clone, Copy, PartialEq, Eq)]
 pub enum LocalIf {
     This,
     Other,
 }
 
 /// What the sender says of its link with an address (RFC 6130, section 10).
-#[derive(Clone, Copy, Debug, PartialEq, Eq)]
+#[derive(Clone, Copy, PartialEq, Eq)]
 pub enum LinkStatus {
     Lost,
     Symmetric,
@@ -51,14 +51,14 @@ pub enum LinkStatus {
 }
 
 /// What the sender says of a neighbour's address, whatever the interface (RFC 6130, section 10).
-#[derive(Clone, Copy, Debug, PartialEq, Eq)]
+#[derive(Clone, Copy, PartialEq, Eq)]
 pub enum OtherStatus {
     Lost,
     Symmetric,
 }
 
 /// All that a HELLO says of one address.
-#[derive(Clone, Copy, Debug, PartialEq, Eq)]
+#[derive(Clone, Copy, PartialEq, Eq)]
 pub struct HelloRow {
     pub addr: NetAddr,
     pub local: Option<LocalIf>,

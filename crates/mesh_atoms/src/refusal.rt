@@ -3,14 +3,14 @@ use std::alloc::AllocError;
 
 /// The first field of a frame that breaks a rule: the place of the field's first octet, counted from 0 at the frame's
 /// start, and the number of the rule.
-#[derive(Clone, Copy, Debug, PartialEq, Eq)]
+#[derive(Clone, Copy, PartialEq, Eq)]
 pub struct Refusal {
     pub place: usize,
     pub reason: u8,
 }
 
 /// Why octets aren't read: they have a first fault, or there is no memory for what they spell.
-#[derive(Debug, Drop)]
+#[derive(Drop)]
 pub enum DecodeFault {
     Refused(Refusal),
     Memory(AllocError),

@@ -92,7 +92,7 @@ impl Interface {
 }
 
 /// A network behind a router (RFC 7181, section 7.2), at this distance in hops.
-#[derive(Clone, Copy, Debug, PartialEq, Eq)]
+#[derive(Clone, Copy, PartialEq, Eq)]
 pub struct Attached4 {
     pub net: NetAddr,
     pub metric: Metric,

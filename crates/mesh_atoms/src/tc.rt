@@ -6,7 +6,7 @@ ghost use Rattle.mesh_atoms.specs.Ascends.{ascends_prop};
 use crate::{Addr4, Metric, NetAddr, Seq};
 
 /// All that a TC says of one address or network (RFC 7181, section 16).
-#[derive(Clone, Copy, Debug, PartialEq, Eq)]
+#[derive(Clone, Copy, PartialEq, Eq)]
 pub struct TcRow {
     pub dest: NetAddr,
     /// The address is a router's originator address.

@@ -6,13 +6,13 @@ ghost use Rattle.mesh_atoms.specs.State.{is_symmetric, is_heard};
 use crate::{Addr4, Metric, NetAddr, Seq, Willing};
 
 /// A link of an interface, by the least address of the neighbour's interface.
-#[derive(Clone, Copy, Debug, PartialEq, Eq, PartialOrd, Ord, Hash)]
+#[derive(Clone, Copy, PartialEq, Eq, PartialOrd, Ord, Hash)]
 pub struct LinkKey {
     pub addr: Addr4,
 }
 
 /// An address that the neighbour at the other end of a link reaches.
-#[derive(Clone, Copy, Debug, PartialEq, Eq, PartialOrd, Ord, Hash)]
+#[derive(Clone, Copy, PartialEq, Eq, PartialOrd, Ord, Hash)]
 pub struct TwoHopKey {
     pub link: LinkKey,
     pub addr: Addr4,
@@ -96,7 +96,7 @@ impl Link {
 }
 
 /// A 2-hop tuple (RFC 6130, section 7.2, and RFC 7181, section 8.2): the neighbour's metrics from and to the address.
-#[derive(Clone, Copy, Debug, PartialEq, Eq)]
+#[derive(Clone, Copy, PartialEq, Eq)]
 pub struct TwoHop {
     pub metric_in: Option<Metric>,
     pub metric_out: Option<Metric>,
@@ -155,7 +155,7 @@ pub struct NetworkTuple {
 pub struct Noted {}
 
 /// A base that may be full.
-#[derive(Clone, Copy, Debug, PartialEq, Eq)]
+#[derive(Clone, Copy, PartialEq, Eq)]
 pub enum Base {
     Neighbours,
     TwoHops,

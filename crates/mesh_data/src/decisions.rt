@@ -17,7 +17,7 @@ use mesh_machine::RouterView;
 
 /// What a router does with a packet: it has its address, delivers it to a network of its own at that metric, has nowhere to send
 /// it, or sends it on by a route.
-#[derive(Clone, Copy, Debug)]
+#[derive(Clone, Copy)]
 pub(crate) enum Decision {
     Here,
     Network(Metric),
@@ -26,7 +26,7 @@ pub(crate) enum Decision {
 }
 
 /// What happens next: the trip ends, with this much added to its metric, or a hop is made.
-#[derive(Clone, Copy, Debug)]
+#[derive(Clone, Copy)]
 pub(crate) enum Move {
     Stops(End, u32),
     Hops(Hop),

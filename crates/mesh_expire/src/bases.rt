@@ -41,7 +41,7 @@ pub trait Bases {
 }
 
 /// Bases of plain lists.
-#[derive(Debug, Drop)]
+#[derive(Drop)]
 pub struct PlainBases;
 
 impl Bases for PlainBases {
@@ -69,7 +69,7 @@ impl Bases for PlainBases {
 }
 
 /// Bases of indexed tables.
-#[derive(Debug, Drop)]
+#[derive(Drop)]
 pub struct IndexedBases;
 
 impl Bases for IndexedBases {
@@ -97,7 +97,7 @@ impl Bases for IndexedBases {
 }
 
 /// Bases that hold nothing, and answer want of memory to each tuple that is put in.
-#[derive(Debug, Drop)]
+#[derive(Drop)]
 pub struct NoBases;
 
 impl Bases for NoBases {

@@ -5,7 +5,7 @@ use crate::table::{Key, Table};
 use std::alloc::{AllocError, Global};
 
 /// A table that is always empty, and takes no memory.
-#[derive(Debug, Drop)]
+#[derive(Drop)]
 pub struct NoTable;
 
 #[tactic(auto, using(crate::proofs::Laws::distinct_none))]

@@ -6,7 +6,7 @@ use mesh_atoms::{Addr4, Base, FloodKey};
 
 /// What a message's header says: its type, originator, sequence number, and the hop limit and hop count where they are
 /// there (RFC 5444, section 5.2).
-#[derive(Clone, Copy, Debug, PartialEq, Eq)]
+#[derive(Clone, Copy, PartialEq, Eq)]
 pub struct Heading {
     pub kind: u8,
     pub originator: Addr4,
@@ -16,7 +16,7 @@ pub struct Heading {
 }
 
 /// Whether a message is processed (RFC 7181, section 14.2): `Do`, or the first reason why not.
-#[derive(Clone, Copy, Debug, PartialEq, Eq)]
+#[derive(Clone, Copy, PartialEq, Eq)]
 pub enum Process {
     Do,
     /// The message is the router's own.
@@ -28,7 +28,7 @@ pub enum Process {
 }
 
 /// Whether a message is forwarded (RFC 7181, section 14.3): `Do`, or the first reason why not.
-#[derive(Clone, Copy, Debug, PartialEq, Eq)]
+#[derive(Clone, Copy, PartialEq, Eq)]
 pub enum Forward {
     Do,
     /// The message is the router's own.
@@ -50,7 +50,7 @@ pub enum Forward {
 }
 
 /// Both answers on a message.
-#[derive(Clone, Copy, Debug, PartialEq, Eq)]
+#[derive(Clone, Copy, PartialEq, Eq)]
 pub struct Verdict {
     pub process: Process,
     pub forward: Forward,

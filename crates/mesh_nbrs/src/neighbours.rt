@@ -18,7 +18,7 @@ use std::alloc::{AllocError, Global};
 use std::marker::Model;
 
 /// What a neighbour is to know of a link: its key, whether it is SYMMETRIC, its metrics and its moment in ticks of 1/8192 s.
-#[derive(Clone, Copy, Debug, PartialEq, Eq)]
+#[derive(Clone, Copy, PartialEq, Eq)]
 pub struct LinkNote {
     pub key: LinkKey,
     pub symmetric: bool,

@@ -21,7 +21,7 @@ use std::alloc::AllocError;
 
 /// What became of a HELLO: it was taken, it broke the rule of that number (RFC 6130, section 12.1), or a base would have been
 /// full.
-#[derive(Clone, Copy, Debug, PartialEq, Eq)]
+#[derive(Clone, Copy, PartialEq, Eq)]
 pub enum HelloTaken {
     Done,
     Broken(u8),

@@ -96,7 +96,7 @@ fn originator_if(
 }
 
 /// What a message has before its TLVs.
-#[derive(Clone, Copy, Debug)]
+#[derive(Clone, Copy)]
 struct Opening {
     originator: Option<RawAddr>,
     limit: Option<u8>,

@@ -11,7 +11,7 @@ use std::alloc::Global;
 use std::marker::Model;
 
 /// The routes of a router, in ascending order of destination. Contracts see them as the list.
-#[derive(Debug, Drop)]
+#[derive(Drop)]
 pub struct RoutingSet {
     pub(crate) rows: Seq<Route>,
 }

@@ -143,13 +143,13 @@ fn expect_answer(rt: &impl Abort, alloc: Global, case: &Case) -> Result<(), Allo
     assert!(rt; arcs.len() < 100);
     let graph = graph_of(alloc, arcs)?;
     let certificate = certificate_of(alloc, rows)?;
-    assert_eq!(rt; check(&graph, node(1), &certificate), is_right, "{name}");
+    assert!(rt; check(&graph, node(1), &certificate) == is_right, "{name}");
     if is_right {
         let found = search(alloc, &graph, node(1))?;
         let plain = search_by_rounds(alloc, &graph, node(1))?;
         let rows = certificate.rows.as_slice();
-        assert_eq!(rt; found.rows.as_slice(), rows, "{name}");
-        assert_eq!(rt; plain.rows.as_slice(), rows, "{name}");
+        assert!(rt; found.rows.as_slice() == rows, "{name}");
+        assert!(rt; plain.rows.as_slice() == rows, "{name}");
     }
     Ok(())
 }
@@ -200,7 +200,7 @@ fn bodies_agree_on_random_graphs(rt: HostRuntime) -> Result<(), Fail> {
             let graph = graph_of(rt.alloc(), arcs.as_slice())?;
             let found = search(rt.alloc(), &graph, node(0))?;
             let plain = search_by_rounds(rt.alloc(), &graph, node(0))?;
-            assert_eq!(rt; found.rows.as_slice(), plain.rows.as_slice());
+            assert!(rt; found.rows.as_slice() == plain.rows.as_slice());
             assert!(rt; check(&graph, node(0), &found));
         }
     }

@@ -3,7 +3,7 @@ use std::alloc::AllocError;
 
 /// A TLV of a packet or a message (RFC 5444, section 5.4.1). `ext` is its type extension, 0 where none is written. A
 /// value of no octets is a value. The value is a slice of the frame that it was read from.
-#[derive(Clone, Copy, Debug, PartialEq, Eq)]
+#[derive(Clone, Copy, PartialEq, Eq)]
 pub struct Tlv<'a> {
     pub kind: u8,
     pub ext: u8,
@@ -14,7 +14,7 @@ pub struct Tlv<'a> {
 /// `multi` its value is in equal parts, one for each of them in order. What is read has `first` at most `last`, `last`
 /// below the number of addresses, and `multi` only with a value whose length the number of covered addresses divides;
 /// the writer asks for the same.
-#[derive(Clone, Copy, Debug, PartialEq, Eq)]
+#[derive(Clone, Copy, PartialEq, Eq)]
 pub struct AddrTlv<'a> {
     pub kind: u8,
     pub ext: u8,
@@ -25,7 +25,7 @@ pub struct AddrTlv<'a> {
 }
 
 /// Why a block isn't written: it or one of its values has more than 65,535 octets, or want of memory.
-#[derive(Debug, Drop)]
+#[derive(Drop)]
 pub enum WriteTlv {
     TooLong,
     Memory(AllocError),

@@ -6,7 +6,7 @@ use mesh_atoms::Bytes;
 use std::alloc::{AllocError, Global};
 
 /// Settings that are refused, with the number of what for, as `refusal` has them, and the key at fault; or want of memory.
-#[derive(Debug, Drop)]
+#[derive(Drop)]
 pub enum ConfigFault {
     Refused { number: u8, key: Bytes },
     Memory(AllocError),

@@ -14,7 +14,7 @@ use std::alloc::{AllocError, Global};
 use std::collections::BTreeMap;
 
 /// A symmetric neighbour that has chosen this router as a routing relay, with its addresses and the metric to it.
-#[derive(Debug, Drop)]
+#[derive(Drop)]
 pub struct Selector {
     pub originator: Addr4,
     pub addrs: Seq<Addr4>,
@@ -22,7 +22,7 @@ pub struct Selector {
 }
 
 /// What a row says beside its address.
-#[derive(Clone, Copy, Debug, PartialEq, Eq)]
+#[derive(Clone, Copy, PartialEq, Eq)]
 pub(crate) struct Offer {
     pub origin: bool,
     /// The distance of an attached network; none for an address.

@@ -8,7 +8,7 @@ use mesh_atoms::Seq;
 use std::alloc::{AllocError, Global};
 
 /// A run of rows: the place of its first, counted from 0, and how many there are.
-#[derive(Clone, Copy, Debug, PartialEq, Eq)]
+#[derive(Clone, Copy, PartialEq, Eq)]
 pub struct PartSpan {
     pub first: usize,
     pub len: usize,

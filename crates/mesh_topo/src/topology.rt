@@ -20,7 +20,7 @@ use std::alloc::{AllocError, Global};
 use std::marker::Model;
 
 /// What came of a TC.
-#[derive(Clone, Copy, Debug, PartialEq, Eq)]
+#[derive(Clone, Copy, PartialEq, Eq)]
 pub enum TcTaken {
     /// It is taken. Where nothing changed, the same routers, addresses and networks are advertised at the same metrics and
     /// distances as before.

@@ -3,7 +3,7 @@ use mesh_atoms::NetAddr;
 use std::alloc::AllocError;
 
 /// Why a message isn't read as a HELLO or a TC.
-#[derive(Debug, Drop)]
+#[derive(Drop)]
 pub enum WireFault {
     /// The rule of least number that is broken, and the least address that breaks it where the rule is about addresses.
     Broken { number: u8, addr: Option<NetAddr> },

@@ -7,7 +7,7 @@ use mesh_atoms::tlv_type::{
 };
 
 /// Of several numbers: none, one, though it may have come more than once, or different ones.
-#[derive(Clone, Copy, Debug, PartialEq, Eq)]
+#[derive(Clone, Copy, PartialEq, Eq)]
 pub(crate) enum One {
     Unsaid,
     Said(u16),
@@ -15,14 +15,14 @@ pub(crate) enum One {
 }
 
 /// The values of a type that has one octet in a range: whether one isn't such, and which octet the others are.
-#[derive(Clone, Copy, Debug, PartialEq, Eq)]
+#[derive(Clone, Copy, PartialEq, Eq)]
 pub(crate) struct Octets {
     pub wrong: bool,
     pub one: One,
 }
 
 /// What the TLVs say of one address.
-#[derive(Clone, Copy, Debug, PartialEq, Eq)]
+#[derive(Clone, Copy, PartialEq, Eq)]
 pub(crate) struct RowParts {
     pub local: Octets,
     pub link: Octets,
