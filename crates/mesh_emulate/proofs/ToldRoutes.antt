@@ -131,6 +131,7 @@ module _ (input : List ℕ) (wants : Wants) (e : Emulation input wants) (says : 
           joins = to.joins;
           value = to.value;
           least = hop;
+          cheapest = willing;
         };
         onward = onwards row.dest n near row.metric d m on;
       }

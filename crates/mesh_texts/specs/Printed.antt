@@ -9,8 +9,9 @@ use Rattle.mesh_atoms.specs.declared.settings.RouterSettings.{RouterSettings}
 use Rattle.mesh_atoms.specs.declared.settings.Interface.{Interface}
 use Rattle.mesh_atoms.specs.Base.{host}
 use Rattle.mesh_atoms.specs.Codes.{metric_value}
-use Rattle.mesh_atoms.specs.Radio.{Router, Joins, AddressOf, Attaches, Hop}
+use Rattle.mesh_atoms.specs.Radio.{Router, Joins, AddressOf, Attaches, Hop, Willing}
 use Rattle.mesh_atoms.specs.State.{HasAddressOn}
+use Rattle.mesh_atoms.specs.Walk.{LeastWilling}
 use Rattle.mesh_texts.specs.Lines.{route_line}
 use Rattle.mesh_texts.specs.Marks.{joined}
 
@@ -69,7 +70,8 @@ Prints text name dest metric = (next : Addr4) × (face : List ℕ) × PrintsBy t
 
 -- Where a printed route leads
 
--- the interface of that name of router x is joined with an interface of router n that has the address; to n the metric is `near`
+-- the interface of that name of router x is joined with an interface of router n that has the address, by an arc of metric `near`; no
+-- arc between the two is cheaper, and no way to n over routers that are willing to route
 pub record NamesHop (s : Scenario) (x : ℕ) (face : List ℕ) (next : Addr4) (n near : ℕ) : Type 0 where
   pub i : ℕ
   pub j : ℕ
@@ -86,6 +88,7 @@ pub record NamesHop (s : Scenario) (x : ℕ) (face : List ℕ) (next : Addr4) (n
   pub joins : Joins s x i n j there back
   pub value : metric_value there ≡ near
   pub least : Hop s x n near
+  pub cheapest : LeastWilling (Hop s) (Willing s) x n near
 
 -- at router n, to which the metric is `near`: the destination is its address, at a route of that metric; or it prints a route
 -- for what is left of the metric; or it attaches the network, and delivers there
