@@ -27,9 +27,11 @@ const HELLO: [u8; 35] = [
 
 const REFUSED: [u8; 1] = [0xff];
 
-/// What comes of a run: the status, and what stands on out and on err.
+/// What comes of a run, over an air on which nothing is heard and nothing sent or another one: the status, and what stands on out
+/// and on err.
 #[derive(Clone, Copy)]
 struct Case<'a> {
+    silent: bool,
     status: u8,
     out: &'a str,
     err: &'a str,
@@ -53,16 +55,21 @@ fn frames(alloc: Global) -> Result<Seq<MemEar>, AllocError> {
     Ok(frames)
 }
 
-/// An air whose first interface hears two frames, the second of which is refused, and whose third hearing and second sending fail.
-pub(crate) fn air(alloc: Global) -> Result<MemAir, AllocError>
+// An air whose first interface hears these frames, and at which the hearings and sendings of these numbers fail.
+fn air_of(
+    alloc: Global,
+    ears: Seq<MemEar>,
+    hear: &[u64],
+    send: &[u64],
+) -> Result<MemAir, AllocError>
     ensures { IfOk result (λ air. air.log.attached ≡ 0) }
 {
     let mut scripts = Seq::new(alloc);
-    scripts.push(frames(alloc)?)?;
+    scripts.push(ears)?;
     let fails = AirFails {
         attach: Seq::new(alloc),
-        hear: numbers(alloc, &[3])?,
-        send: numbers(alloc, &[2])?,
+        hear: numbers(alloc, hear)?,
+        send: numbers(alloc, send)?,
     };
     let room = AirRoom {
         attaches: 8,
@@ -72,6 +79,24 @@ pub(crate) fn air(alloc: Global) -> Result<MemAir, AllocError>
         octets: 10_000,
     };
     MemAir::new(alloc, scripts, fails, room)
+}
+
+/// An air whose first interface hears two frames, the second of which is refused, and whose third hearing and second sending fail.
+pub(crate) fn air(alloc: Global) -> Result<MemAir, AllocError>
+    ensures { IfOk result (λ air. air.log.attached ≡ 0) }
+{
+    air_of(alloc, frames(alloc)?, &[3], &[2])
+}
+
+// An air on which nothing is heard, or one on which two frames are. Nothing is sent on the first.
+fn air_for(alloc: Global, silent: bool) -> Result<MemAir, AllocError>
+    ensures { IfOk result (λ air. air.log.attached ≡ 0) }
+{
+    if silent {
+        air_of(alloc, Seq::new(alloc), &[], &[1, 2])
+    } else {
+        air(alloc)
+    }
 }
 
 fn words(alloc: Global) -> Result<Vec<String>, AllocError> {
@@ -85,12 +110,13 @@ fn words(alloc: Global) -> Result<Vec<String>, AllocError> {
 // A run of at most ten turns over a clock that tells four moments.
 fn runs<B: Bases>(
     alloc: Global,
+    silent: bool,
     input: &mut MemSource,
     out: &mut MemSink,
     err: &mut MemSink,
 ) -> Result<u8, AllocError> {
     let words = words(alloc)?;
-    let mut air = air(alloc)?;
+    let mut air = air_for(alloc, silent)?;
     let mut clock = MemClock::new(numbers(alloc, &[0, 4096, 8192, 16384])?);
     let status = top_over::<B, MemSource, MemSink, MemSink, MemAir, MemClock>(
         alloc,
@@ -109,7 +135,7 @@ fn comes_to<B: Bases>(alloc: Global, case: &Case) -> Result<bool, AllocError> {
     let mut input = MemSource::new(settings, Seq::new(alloc));
     let mut out = MemSink::new(alloc, 4096, Seq::new(alloc))?;
     let mut err = MemSink::new(alloc, 4096, Seq::new(alloc))?;
-    let status = runs::<B>(alloc, &mut input, &mut out, &mut err)?;
+    let status = runs::<B>(alloc, case.silent, &mut input, &mut out, &mut err)?;
     Ok(
         status == case.status
             && out.as_slice() == case.out.as_bytes()
@@ -130,6 +156,7 @@ fn is_right_over_none(alloc: Global, case: &Case) -> Result<bool, AllocError> {
 #[test]
 fn count_what_fails(rt: HostRuntime) -> Result<(), Fail> {
     let hears = Case {
+        silent: false,
         status: 0,
         out: "run end 16384 turns 4 heard 2 sent 1 air faults 2
 router r 127.0.0.1
@@ -141,12 +168,25 @@ router r 127.0.0.1
 ",
         err: "",
     };
+    let sends_nothing = Case {
+        silent: true,
+        status: 0,
+        out: "run end 16384 turns 4 heard 0 sent 0 air faults 2
+router r 127.0.0.1
+ held twohop 0 lost 0 topology 0 addresses 0 networks 0
+ flooding w0 none
+ routing none
+",
+        err: "",
+    };
     let no_room = Case {
+        silent: false,
         status: 8,
         out: "",
         err: "mesh: memory\n",
     };
     assert!(rt; is_right(rt.alloc(), &hears)?);
+    assert!(rt; is_right(rt.alloc(), &sends_nothing)?);
     assert!(rt; is_right_over_none(rt.alloc(), &no_room)?);
     Ok(())
 }
