@@ -2,14 +2,14 @@
 ghost use Rattle.std.specs.Prelude.{◌≡◌, ◌∷◌, [], map, flat_map, Some, false, true, IfOk, OnOk, IsTrue};
 ghost use Rattle.std.specs.BTreeMap.{get, IsOrdered};
 ghost use Rattle.mesh_atoms.specs.Advertised.{AreRowsBy, AreTcRows};
-ghost use Rattle.mesh_atoms.specs.Base.{host, net_eq};
+ghost use Rattle.mesh_atoms.specs.Base.{net_eq};
 ghost use Rattle.mesh_atoms.specs.Settings.{are_distinct};
 ghost use Rattle.mesh_atoms.specs.State.{State};
 ghost use Rattle.mesh_atoms.specs.Nodes.{net_cmp};
 ghost use Rattle.mesh_topo.specs.Offers.{lesser, put_offer, of_selector, of_network, of_address, row_of, Keeps};
 ghost use Rattle.mesh_topo.specs.Selectors.{AreSelectors, SelectorGives};
 
-use mesh_atoms::{Addr4, Attached4, Metric, NetAddr, Seq, TcRow};
+use mesh_atoms::{Addr4, Attached4, Metric, NetAddr, Seq, TcRow, host};
 use std::alloc::{AllocError, Global};
 use std::collections::BTreeMap;
 
@@ -49,13 +49,6 @@ pub fn tc_rows(
     put_networks(&mut offers, attached)?;
     let rows = in_order(alloc, &offers)?;
     Ok(rows)
-}
-
-// An address as a node.
-fn host(addr: Addr4) -> NetAddr
-    ensures { result ≡ host addr }
-{
-    NetAddr { addr, prefix: 32 }
 }
 
 // The metric of the lesser cost.
