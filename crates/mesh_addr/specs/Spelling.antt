@@ -74,6 +74,7 @@ pub record IsWithinLimits (width : ℕ) (limits : Limits) (choice : Choice) : Ty
 
 -- ---- what a choice costs
 
+-- octets of a head and its length; none where the head is empty
 abbrev pub head_cost : ℕ → ℕ
 head_cost head = if head == 0 then 0 else 1 + head
 
@@ -131,6 +132,7 @@ form_of width first addrs = if all_have (8 * width) addrs then forms.Absent else
 
 -- ---- what is written
 
+-- the flag of a head (ahashead of RFC 5444), where it isn't empty
 abbrev pub head_flag : ℕ → ℕ
 head_flag head = if head == 0 then 0 else 128
 

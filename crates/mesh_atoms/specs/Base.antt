@@ -54,28 +54,35 @@ IsFresh {K} {V} eq now base = (q : K) (value : V) (until : ℕ) → find eq base
 abbrev pub base_of : {K V : Type 0} → List (Base K V) → ℕ → Base K V
 base_of bases i = slice_index_or bases i []
 
--- when two keys are the same
+-- when two keys are the same: addresses by their number
 abbrev pub addr_eq : Addr4 → Addr4 → Bool
 addr_eq a b = nat_eq a.0 b.0
 
+-- networks by their address and prefix
 abbrev pub net_eq : NetAddr → NetAddr → Bool
 net_eq a b = addr_eq a.addr b.addr && nat_eq a.prefix b.prefix
 
+-- links of an interface by the least address of the neighbour's interface
 abbrev pub link_eq : LinkKey → LinkKey → Bool
 link_eq a b = addr_eq a.addr b.addr
 
+-- 2-hop tuples of an interface by the link and by the 2-hop address
 abbrev pub two_hop_eq : TwoHopKey → TwoHopKey → Bool
 two_hop_eq a b = link_eq a.link b.link && addr_eq a.addr b.addr
 
+-- router topology tuples by both originators (TR_from_orig_addr and TR_to_orig_addr of RFC 7181)
 abbrev pub router_eq : RouterKey → RouterKey → Bool
 router_eq a b = addr_eq a.from b.from && addr_eq a.to b.to
 
+-- routable address topology tuples by originator and address (TA_from_orig_addr and TA_dest_addr)
 abbrev pub address_eq : AddressKey → AddressKey → Bool
 address_eq a b = addr_eq a.from b.from && addr_eq a.addr b.addr
 
+-- attached network tuples by originator and network (AN_orig_addr and AN_net_addr)
 abbrev pub network_eq : NetworkKey → NetworkKey → Bool
 network_eq a b = addr_eq a.from b.from && net_eq a.net b.net
 
+-- messages seen before by their type, originator and sequence number
 abbrev pub flood_eq : FloodKey → FloodKey → Bool
 flood_eq a b = nat_eq a.kind b.kind && (addr_eq a.originator b.originator && nat_eq a.sequence b.sequence)
 

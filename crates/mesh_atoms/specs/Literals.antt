@@ -18,9 +18,11 @@ only_if b x = if b then Some x else None
 abbrev pub is_name : List ℕ → Bool
 is_name s = nat_le 1 (length s) && (nat_le (length s) 16 && list_all is_name_octet s)
 
+-- the octets, where they are a name
 abbrev pub name_of : List ℕ → Option (List ℕ)
 name_of s = only_if (is_name s) s
 
+-- an octet from `0` to `9`
 abbrev pub is_digit : ℕ → Bool
 is_digit c = nat_le 48 c && nat_le c 57
 
@@ -35,6 +37,7 @@ begins_right [] = false
 begins_right (c ∷ []) = true
 begins_right (c ∷ d ∷ cs) = not (c == 48)
 
+-- a decimal number up to `most`
 abbrev pub number_of : ℕ → List ℕ → Option ℕ
 number_of most s = if begins_right s then digits_of most 0 s else None
 
@@ -43,6 +46,7 @@ abbrev pub cut_at : List ℕ → Option ℕ → Option (List ℕ × List ℕ)
 cut_at s None = None
 cut_at s (Some i) = Some (take i s, slice_range s (i + 1) (length s))
 
+-- the same for the first octet that is the mark; nothing where there is none
 abbrev pub cut : ℕ → List ℕ → Option (List ℕ × List ℕ)
 cut mark s = cut_at s (position (λ octet. octet == mark) s)
 

@@ -27,6 +27,7 @@ abbrev pub rule_in : Option Interface → Admit
 rule_in None = admits_all
 rule_in (Some face) = face.admit
 
+-- the rule of the router's interface i; everything is admitted where there is no such interface
 abbrev pub rule_of : RouterSettings → ℕ → Admit
 rule_of settings i = rule_in (slice_get settings.interfaces i)
 
@@ -39,6 +40,7 @@ by_quality rule hold now quality e =
     (record e.0 { quality = quality; lost = true }, min e.1 (now + hold))
     (record e.0 { quality = quality }, e.1))
 
+-- the same by the quality of the link's addresses at now
 abbrev pub admitted : Admit → ℕ → ℕ → Link × ℕ → Link × ℕ
 admitted rule hold now e = by_quality rule hold now (quality_at rule e.0.addrs now) e
 

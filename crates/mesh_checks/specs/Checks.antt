@@ -23,6 +23,7 @@ pub record Identifiers : Type 0 where
 abbrev pub tables_in : Read (List Data) → List Members
 tables_in read = map table_of (listed read)
 
+-- a network that is read; 0.0.0.0/0 where a fault stands
 abbrev pub net_in : Read (Addr4 × ℕ) → Addr4 × ℕ
 net_in (Ok n) = n
 net_in (Err f) = (record { 0 = 0 }, 0)
@@ -36,9 +37,11 @@ table_identifiers table = record {
   nets = map (λ a. net_in (net a)) (tables_in (attached table));
 }
 
+-- routers of one name
 abbrev pub same_name : Identifiers → Identifiers → Bool
 same_name a b = name_eq a.router_name b.router_name
 
+-- networks of one address and one prefix
 abbrev pub same_net : Addr4 × ℕ → Addr4 × ℕ → Bool
 same_net a b = addr_eq a.0 b.0 && nat_eq a.1 b.1
 
@@ -46,6 +49,7 @@ same_net a b = addr_eq a.0 b.0 && nat_eq a.1 b.1
 abbrev pub is_address : Addr4 × ℕ → Addr4 → Bool
 is_address n addr = nat_eq n.1 32 && addr_eq n.0 addr
 
+-- no network of the router is one of these addresses alone
 abbrev pub attaches_none : List Addr4 → Identifiers → Bool
 attaches_none addrs router = list_all (λ n. not (list_any (is_address n) addrs)) router.nets
 
@@ -64,6 +68,8 @@ duplicates routers =
     ∷ []
 
 -- ---- arcs
+
+-- an end of an arc: the name of a router, and that of one of its interfaces
 abbrev pub Place : Type 0
 Place = List ℕ × List ℕ
 
@@ -79,10 +85,12 @@ abbrev pub ◌>>?◌ : {A B : Type 0} → Read A → (A → Read B) → Read B
 (Ok x) >>? f = f x
 (Err e) >>? f = Err e
 
+-- the numbers that are found by names; an unknown name at that key where there are none
 abbrev pub known_place : List ℕ → Option (ℕ × ℕ) → Read (ℕ × ℕ)
 known_place key None = Err (fault UNKNOWN_NAME key)
 known_place key (Some p) = Ok p
 
+-- what an arc joins: it leads from interface a.1 of router a.0 to interface b.1 of router b.0
 abbrev pub ends : ℕ × ℕ → ℕ × ℕ → Ends
 ends a b = record { from = a.0; from_iface = a.1; to = b.0; to_iface = b.1 }
 
@@ -92,6 +100,7 @@ new_ends earlier a b =
     if nat_eq a.0 b.0 then Err (bad_value (codes "to"))
     else (if list_any (ends_eq (ends a b)) earlier then Err (fault DUPLICATE (codes "arc")) else Ok (ends a b))
 
+-- what an arc joins, by the names of its ends, of which `from` is looked up first
 abbrev pub joined : List Identifiers → List Ends → Place × Place → Read Ends
 joined routers earlier arc =
     known_place (codes "from") (find_place routers arc.0) >>? λ a.
@@ -102,19 +111,25 @@ abbrev pub joins : List Identifiers → List Ends → List (Place × Place) → 
 joins routers earlier [] = Ok []
 joins routers earlier (arc ∷ arcs) = joined routers earlier arc >>? λ e. joins routers (earlier ++ e ∷ []) arcs >>? λ es. Ok (e ∷ es)
 
+-- a place that is read; empty names where a fault stands
 abbrev pub place_in : Read Place → Place
 place_in (Ok p) = p
 place_in (Err f) = ([], [])
 
+-- the places that the table of an arc names, from which and to which it leads
 abbrev pub places_table : Members → Place × Place
 places_table table = (place_in (place (codes "from") table), place_in (place (codes "to") table))
 
 -- ---- a scenario
+
+-- what must not stand twice, of each router
 abbrev pub all_identifiers : Members → List Identifiers
 all_identifiers table = map table_identifiers (tables_in (routers table))
 
+-- what the arcs of the top table join, or the first fault that stands there
 abbrev pub arc_ends : Members → Read (List Ends)
 arc_ends table = joins (all_identifiers table) [] (map places_table (tables_in (arcs table)))
 
+-- the walk from the top table comes first, then what stands twice, and then the arcs
 abbrev pub scenario_visits : Members → Visits
 scenario_visits table = first (scenario_table_visits table) ∷ first (duplicates (all_identifiers table)) ∷ visit (arc_ends table) ∷ []

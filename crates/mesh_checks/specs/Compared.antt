@@ -15,25 +15,31 @@ use Rattle.mesh_atoms.specs.declared.settings.RadioArc.{RadioArc}
 use Rattle.mesh_toml.specs.Faults.{Visits}
 use Rattle.mesh_checks.specs.Checks.{Identifiers, Place, duplicate_unless}
 
--- two of a kind are taken for the same
+-- two of a kind are taken for the same: routers by their names
 abbrev pub same_router : StatedRouter → StatedRouter → Bool
 same_router a b = name_eq a.head.name b.head.name
 
+-- interfaces by their names
 abbrev pub same_interface : StatedInterface → StatedInterface → Bool
 same_interface a b = name_eq a.name b.name
 
+-- attached networks by their address and prefix, whatever their metric and distance
 abbrev pub same_attached : Attached4 → Attached4 → Bool
 same_attached a b = net_eq a.net b.net
 
+-- senders by their address
 abbrev pub same_sender : SenderMetric → SenderMetric → Bool
 same_sender a b = addr_eq a.sender b.sender
 
+-- all addresses of a stated router, in order of its interfaces
 abbrev pub router_addrs : StatedRouter → List Addr4
 router_addrs router = flat_map (λ i. i.addrs) router.interfaces
 
+-- all addresses of all stated routers
 abbrev pub all_addrs : List StatedRouter → List Addr4
 all_addrs routers = flat_map router_addrs routers
 
+-- no network that the router attaches is one of these addresses alone
 abbrev pub attaches_no_host : List Addr4 → StatedRouter → Bool
 attaches_no_host addrs router = list_all (λ a. not (list_any (is_host a.net) addrs)) router.attached
 
@@ -56,9 +62,11 @@ stated_duplicates routers =
     ∷ duplicate_unless (list_all (attaches_no_host (all_addrs routers)) routers) (codes "net")
     ∷ []
 
+-- the places that a stated arc names, from which and to which it leads
 abbrev pub arc_places : StatedArc → Place × Place
 arc_places arc = ((arc.from.router, arc.from.iface), (arc.to.router, arc.to.iface))
 
+-- what an arc of a scenario joins
 abbrev pub ends_of : RadioArc → Ends
 ends_of arc = record { from = arc.from; from_iface = arc.from_iface; to = arc.to; to_iface = arc.to_iface }
 

@@ -54,6 +54,7 @@ pub struct Reading<R> {
 }
 
 impl<R: Read> Reading<R> {
+    /// A source over that reader, which has taken nothing and counted no fault.
     pub fn new(inner: R) -> Reading<R> {
         Reading {
             inner,
@@ -100,6 +101,7 @@ pub struct Writing<W> {
 }
 
 impl<W: Write> Writing<W> {
+    /// A sink over that writer, which has counted no fault.
     pub fn new(inner: W) -> Writing<W> {
         Writing { inner, faults: 0 }
     }

@@ -10,10 +10,12 @@ use Rattle.mesh_config.specs.Fields.{settings_parts, stated_parts}
 use Rattle.mesh_stated.specs.Scenario.{stated_arc_fields}
 use Rattle.mesh_config.specs.Senders.{addr_lists, HaveAllSenders, with_steps, HaveAllQualities, stated_steps}
 
+-- the checks of a stated scenario: what stands twice, and then what the arcs join
 abbrev pub stated_visits : StatedScenario → Visits
 stated_visits d =
     first (duplicates (map stated_identifiers d.routers)) ∷ visit (joins (map stated_identifiers d.routers) [] (map arc_places d.arcs)) ∷ []
 
+-- the scenario is built from what is stated: all of it as stated, the arcs by numbers, and each interface with its senders
 pub record BuiltFrom (d : StatedScenario) (s : Scenario) : Type 0 where
   pub same_end : s.end ≡ d.end
   pub same_seed : s.seed ≡ d.seed

@@ -11,10 +11,11 @@ use Rattle.mesh_stated.specs.declared.stated.Thresholds.{Thresholds}
 use Rattle.mesh_stated.specs.Router.{InterfaceFields, stated_interface_fields, RouterFields, head_fields}
 use Rattle.mesh_checks.specs.Compared.{same_interface, same_attached, router_addrs, attaches_no_host}
 
--- what the table of an interface or of a router says, as the settings have it
+-- what the table of an interface says, as the settings have it
 abbrev pub interface_fields : Interface → InterfaceFields
 interface_fields i = record { interface_name = i.name; addrs = i.addrs }
 
+-- what the table of a router says, as the settings have it
 abbrev pub router_fields : RouterSettings → RouterFields
 router_fields r = record {
   router_name = r.name;
@@ -25,10 +26,11 @@ router_fields r = record {
   tc_at = r.tc_at;
 }
 
--- the thresholds of an interface, and those that are stated for each interface of a router
+-- the thresholds of an interface: accepted from the first quality on, rejected below the second
 abbrev pub thresholds_of : Interface → ℕ × ℕ
 thresholds_of i = (i.admit.accept, i.admit.reject)
 
+-- those that are stated for each interface of a router
 abbrev pub threshold_pair : Thresholds → ℕ × ℕ
 threshold_pair t = (t.accept, t.reject)
 
@@ -40,6 +42,7 @@ pub record RouterParts : Type 0 where
   pub interfaces : List InterfaceFields
   pub attached : List Attached4
 
+-- these parts of a stated router, with the times that are stated at the top
 abbrev pub stated_parts : Times → StatedRouter → RouterParts
 stated_parts times d = record {
   fields = head_fields d.head;
@@ -49,6 +52,7 @@ stated_parts times d = record {
   attached = d.attached;
 }
 
+-- these parts of the settings of a router
 abbrev pub settings_parts : RouterSettings → RouterParts
 settings_parts r = record {
   fields = router_fields r;

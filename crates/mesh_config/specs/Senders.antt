@@ -20,6 +20,7 @@ use Rattle.mesh_checks.specs.Compared.{all_addrs, ends_of}
 abbrev pub Lists : Type 0
 Lists = List (List (List Addr4))
 
+-- these of the settings of routers
 abbrev pub addr_lists : List RouterSettings → Lists
 addr_lists routers = map (λ r. map (λ i. i.addrs) r.interfaces) routers
 
@@ -27,6 +28,7 @@ addr_lists routers = map (λ r. map (λ i. i.addrs) r.interfaces) routers
 abbrev pub first_addr : Lists → ℕ → ℕ → Option Addr4
 first_addr lists router iface = slice_get lists router >>= λ ifaces. slice_get ifaces iface >>= λ addrs. slice_get addrs 0
 
+-- a sender, where there is such an interface, with the metric of what it sends
 abbrev pub with_metric : Metric → Option Addr4 → List (Addr4 × Metric)
 with_metric metric None = []
 with_metric metric (Some addr) = (addr, metric) ∷ []
@@ -40,6 +42,7 @@ sender_by lists router iface arc =
 abbrev pub senders_to : Lists → List RadioArc → ℕ → ℕ → List (Addr4 × Metric)
 senders_to lists arcs router iface = flat_map (sender_by lists router iface) arcs
 
+-- a sender with the metric of what it sends
 abbrev pub sender_pair : SenderMetric → Addr4 × Metric
 sender_pair s = (s.sender, s.metric)
 
@@ -62,6 +65,7 @@ with_steps [] steps = []
 with_steps (arc ∷ arcs) [] = (arc, []) ∷ with_steps arcs []
 with_steps (arc ∷ arcs) (one ∷ steps) = (arc, one) ∷ with_steps arcs steps
 
+-- a sender, where there is such an interface, with the qualities of what it sends
 abbrev pub with_quality : List QualityStep → Option Addr4 → List (Addr4 × List QualityStep)
 with_quality steps None = []
 with_quality steps (Some addr) = (addr, steps) ∷ []

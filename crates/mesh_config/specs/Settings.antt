@@ -41,6 +41,7 @@ pub record RouterSays (times table : Members) (router : RouterSettings) : Type 0
 abbrev pub ArcSays : Members → RadioArc → Type 0
 ArcSays table arc = AreArcFields table (arc_fields arc)
 
+-- the scenario is what the top table says, where the steps of its arcs give the qualities of senders; moments are in ticks
 pub record ScenarioSays (table : Members) (scenario : Scenario) : Type 0 where
   pub is_end : end_moment table ≡ Ok scenario.end
   pub is_seed : seed table ≡ Ok scenario.seed
@@ -61,5 +62,6 @@ SettingsIs text scenario = (table : Members) × ((document text ≡ Ok table) ×
 abbrev pub refusals : List ℕ → Visits
 refusals text = visit (document text) ∷ first (scenario_visits (table_read (document text))) ∷ []
 
+-- the first fault of a text has that number and that key
 abbrev pub FirstRefusal : List ℕ → ℕ → List ℕ → Type 0
 FirstRefusal text number key = first (refusals text) ≡ Some (fault number key)

@@ -26,7 +26,8 @@ fn first_addr(routers: &[StatedRouter], router: usize, iface: usize) -> Option<A
     first_of(interface)
 }
 
-// The senders of an interface.
+/// The senders of an interface of a router, in order of the arcs that lead to it: the first address of the interface that sends,
+/// with the metric of the arc.
 pub fn senders_to(
     alloc: Global,
     routers: &[StatedRouter],
@@ -93,7 +94,8 @@ fn put_quality(
     Ok(())
 }
 
-// The qualities of the senders of an interface, where this is stated of the arcs.
+/// The qualities of the senders of an interface of a router, in order of the arcs that lead to it, where `stated` has the steps
+/// of each arc; a sender has no step where nothing is stated of its arc.
 pub fn qualities_to(
     alloc: Global,
     routers: &[StatedRouter],

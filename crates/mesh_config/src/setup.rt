@@ -29,7 +29,7 @@ fn outline_interfaces(
     Ok(all)
 }
 
-// The router without what only `run` has.
+/// The router without what only `run` has: ports, and metrics and qualities of neighbours.
 pub fn outline(alloc: Global, stated: &StatedRunRouter) -> Result<StatedRouter, AllocError>
     ensures { IfOk result (OutlineOf stated.now) }
 {
@@ -52,6 +52,7 @@ pub fn outline(alloc: Global, stated: &StatedRunRouter) -> Result<StatedRouter, 
     })
 }
 
+/// Whether no interface has two senders of one address.
 pub fn senders_distinct(interfaces: &[StatedRunInterface]) -> bool
     ensures { result ≡ list_all (λ i. are_distinct same_sender i.senders) interfaces.now }
 {
@@ -99,6 +100,7 @@ fn run_interface(
     })
 }
 
+/// The interfaces as they are stated, each with the thresholds. No interface may have two senders of one address.
 pub fn run_interfaces(
     alloc: Global,
     interfaces: &[StatedRunInterface],
@@ -125,6 +127,7 @@ fn run_port(stated: &StatedRunInterface) -> Result<Port, AllocError>
     })
 }
 
+/// The port of each interface, in order: where it receives, and where it sends to.
 pub fn run_ports(alloc: Global, interfaces: &[StatedRunInterface]) -> Result<Seq<Port>, AllocError>
     ensures ports { IfOk result (λ all. map port_pair all ≡ map stated_port interfaces.now) }
     ensures size { IfOk result (λ all. length all ≡ length interfaces.now) }

@@ -17,6 +17,7 @@ abbrev pub interface_name : Option Interface → List ℕ
 interface_name None = []
 interface_name (Some i) = i.name
 
+-- the name of the router's interface i; nothing where there is none
 abbrev pub interface_in : Option RouterSettings → ℕ → List ℕ
 interface_in None i = []
 interface_in (Some r) i = interface_name (slice_get r.interfaces i)
@@ -32,9 +33,11 @@ end_name TooFar = codes "toofar"
 abbrev pub hop_start : Scenario → Hop → List ℕ
 hop_start s hop = codes " hop " ++ router_name s.routers hop.from ++ codes " " ++ interface_in (slice_get s.routers hop.from) hop.iface
 
+-- the second half of the line
 abbrev pub hop_end : Scenario → Hop → List ℕ
 hop_end s hop = codes " to " ++ router_name s.routers hop.to ++ codes " metric " ++ decimal hop.metric ++ codes "\n"
 
+-- the whole line
 abbrev pub hop_line : Scenario → Hop → List ℕ
 hop_line s hop = hop_start s hop ++ hop_end s hop
 
@@ -42,6 +45,7 @@ hop_line s hop = hop_start s hop ++ hop_end s hop
 abbrev pub trip_start : Scenario → ℕ → Addr4 → List ℕ
 trip_start s from a = codes "send " ++ router_name s.routers from ++ codes " " ++ dotted a
 
+-- the second half of the first line
 abbrev pub trip_end : Scenario → Trip → List ℕ
 trip_end s trip =
     codes " end " ++ end_name trip.end ++ codes " at " ++ router_name s.routers trip.last ++ codes " metric " ++ decimal trip.metric

@@ -27,6 +27,7 @@ impl<T: Table<FloodKey, Noted>> Model for FloodSet<T> {
 }
 
 impl<T: Table<FloodKey, Noted>> FloodSet<T> {
+    /// An empty set.
     pub fn new(alloc: Global) -> Result<FloodSet<T>, AllocError>
         ensures { IfOk result (λ set. set ≡ []) }
     {

@@ -23,6 +23,7 @@ abbrev pub ear_in : Option (List MemEar) → ℕ → Option MemEar
 ear_in None place = None
 ear_in (Some script) place = slice_get script place
 
+-- the ear of an interface's script at a place
 abbrev pub ear_at : List (List MemEar) → ℕ → ℕ → Option MemEar
 ear_at scripts iface place = ear_in (slice_get scripts iface) place
 
@@ -47,22 +48,27 @@ told_more (Some reports) report = Some (reports ++ report ∷ [])
 
 -- For what there is room
 
+-- there is room for an attach with so many peers
 abbrev pub fits_attach : AirRoom → ℕ → Bool
 fits_attach left peers = nat_lt 0 left.attaches && nat_le peers left.peers
 
+-- there is room for an ear
 abbrev pub fits_ear : AirRoom → Bool
 fits_ear left = nat_lt 0 left.ears
 
+-- there is room for a frame of so many octets
 abbrev pub fits_frame : AirRoom → ℕ → Bool
 fits_frame left octets = nat_lt 0 left.frames && nat_le octets left.octets
 
--- the room that is left behind an attach, an ear and a frame
+-- the room that is left behind an attach with so many peers
 abbrev pub after_attach : AirRoom → ℕ → AirRoom
 after_attach left peers = record left { attaches = left.attaches - 1; peers = left.peers - peers }
 
+-- behind an ear
 abbrev pub after_ear : AirRoom → AirRoom
 after_ear left = record left { ears = left.ears - 1 }
 
+-- behind a frame of so many octets
 abbrev pub after_frame : AirRoom → ℕ → AirRoom
 after_frame left octets = record left { frames = left.frames - 1; octets = left.octets - octets }
 
@@ -86,6 +92,7 @@ Lies peers octets (entry.Heard iface place) = Unit {0}
 Lies peers octets (entry.Fault iface) = Unit {0}
 Lies peers octets (entry.Handed iface from count answer) = from + count ≤ octets
 
+-- the same of all entries
 abbrev pub AllLie : ℕ → ℕ → List Entry → Type 0
 AllLie peers octets [] = Unit {0}
 AllLie peers octets (e ∷ es) = Lies peers octets e × AllLie peers octets es
@@ -108,7 +115,7 @@ pub record LogState : Type 0 where
   pub places : List ℕ
   pub left : AirRoom
 
--- behind an attach, an ear and a frame that were told, and behind a call for which there was no room
+-- behind an attach that was told
 abbrev pub with_attach : LogState → Endpoint → List Endpoint → LogState
 with_attach log local peers = record log {
   attached = log.attached + 1;
@@ -116,15 +123,18 @@ with_attach log local peers = record log {
   left = after_attach log.left (length peers);
 }
 
+-- behind an ear that was told, where so many of each script were heard then
 abbrev pub with_ear : LogState → Report → List ℕ → LogState
 with_ear log report places = record log { told = told_more log.told report; places = places; left = after_ear log.left }
 
+-- behind a frame that was told, with the answer to it
 abbrev pub with_frame : LogState → ℕ → List ℕ → Sent → LogState
 with_frame log iface bytes answer = record log {
   told = told_more log.told (Handed iface bytes answer);
   left = after_frame log.left (length bytes);
 }
 
+-- behind a call for which there was no room
 abbrev pub with_nothing_told : LogState → LogState
 with_nothing_told log = record log { told = None }
 
@@ -143,6 +153,7 @@ pub record AirState : Type 0 where
 abbrev pub refuses_attach : AirState → ℕ → Bool
 refuses_attach a peers = fails_at a.fails.attach (one_more a.attaches) || not (fits_attach a.log.left peers)
 
+-- an attach is counted; where it isn't refused, it makes an interface and is told, and else it is a fault
 pub record IsAttached (old : AirState) (local : Endpoint) (peers : List Endpoint) (new : AirState) (answer : Attached) : Type 0 where
   pub answer_is : answer ≡ (if refuses_attach old (length peers) then attached.Failed else attached.Done)
   pub state : new ≡ (if refuses_attach old (length peers)

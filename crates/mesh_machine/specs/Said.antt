@@ -46,10 +46,12 @@ abbrev pub link_metric_out : Option (LinkKey × (Link × ℕ)) → ℕ → Optio
 link_metric_out None now = None
 link_metric_out (Some e) now = cond (is_symmetric e.1.0 now) e.1.0.link_out None
 
+-- the metric in of a neighbour (N_in_metric), where it is known
 abbrev pub near_metric_in : Option (Addr4 × (Neighbour × ℕ)) → Option Metric
 near_metric_in None = None
 near_metric_in (Some e) = e.1.0.metric_in
 
+-- its metric out (N_out_metric), where it is known
 abbrev pub near_metric_out : Option (Addr4 × (Neighbour × ℕ)) → Option Metric
 near_metric_out None = None
 near_metric_out (Some e) = e.1.0.metric_out

@@ -20,6 +20,7 @@ abbrev pub face_in : Option RouterSettings → ℕ → Option Interface
 face_in None i = None
 face_in (Some router) i = slice_get router.interfaces i
 
+-- interface i of router x, where there is one
 abbrev pub face_of : List RouterSettings → ℕ → ℕ → Option Interface
 face_of routers x i = face_in (slice_get routers x) i
 

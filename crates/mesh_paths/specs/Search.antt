@@ -47,6 +47,7 @@ step_cmp a b = ordering_then (nat_cmp a.metric b.metric) (ordering_then (net_cmp
 abbrev pub row_of : Step → PathRow
 row_of step = record { node = step.node; metric = step.metric; parent = step.parent }
 
+-- the row as a step
 abbrev pub step_of : PathRow → Step
 step_of row = record { metric = row.metric; node = row.node; parent = row.parent }
 

@@ -116,6 +116,7 @@ ProbesReach =
     (s : Scenario) (old new : List State) (now origin : ℕ) (probe : Probe) → HasLeastNumber s old origin probe →
     TellsFlood s old now origin new probe → IfDone (AreReached s origin) probe → IfDone (ReachesAll s old now origin) probe
 
+-- of whatever a probe is and tells, no router sends twice on an interface
 abbrev pub ProbesSendOnce : Type 0
 ProbesSendOnce =
     (s : Scenario) (old new : List State) (now origin : ℕ) (probe : Probe) → AreStates s old → TellsFlood s old now origin new probe →

@@ -47,6 +47,7 @@ pub record IsOfPackets (event : NetEvent) : Type 0 where
 
 -- The states of cores
 
+-- the state of each core, in order
 abbrev pub states_of : List CoreValue → List State
 states_of cores = map (λ c. c.state) cores
 

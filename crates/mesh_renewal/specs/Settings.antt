@@ -5,6 +5,7 @@ use Rattle.mesh_atoms.specs.declared.settings.Interface.{Interface}
 use Rattle.mesh_atoms.specs.declared.settings.RouterSettings.{RouterSettings}
 use Rattle.mesh_renewal.specs.declared.own.OwnImage.{OwnImage}
 
+-- what is kept of an interface: its addresses
 abbrev pub addrs_of : Interface → List Addr4
 addrs_of interface = interface.addrs
 

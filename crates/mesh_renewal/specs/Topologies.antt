@@ -22,9 +22,11 @@ reach_at from to metric = record { from = from; to = to; metric = metric }
 abbrev pub router_reach : RouterKey × (RouterTuple × ℕ) → Reach
 router_reach e = reach_at e.0.from (host e.0.to) e.1.0.metric
 
+-- the originator of a TC reaches an address at the metric of the tuple
 abbrev pub address_reach : AddressKey × (AddressTuple × ℕ) → Reach
 address_reach e = reach_at e.0.from (host e.0.addr) e.1.0.metric
 
+-- the originator of a TC reaches a network at the metric of the tuple
 abbrev pub network_reach : NetworkKey × (NetworkTuple × ℕ) → Reach
 network_reach e = reach_at e.0.from e.0.net e.1.0.metric
 

@@ -22,6 +22,7 @@ pub record Told : Type 0 where
   pub reports' : Option (List Report)
   pub attached' : ℕ
 
+-- what was told, put together; a prime marks what stands after the call
 abbrev pub told : Option (List ℕ) → Option (List ℕ) → Option (List Report) → Option (List Report) → ℕ → Told
 told moments moments' reports reports' attached' =
     record { moments = moments; moments' = moments'; reports = reports; reports' = reports'; attached' = attached' }

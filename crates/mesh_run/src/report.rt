@@ -49,7 +49,7 @@ fn report_of<R: RouterView>(
     Ok(text)
 }
 
-// Writes the report of a router, by one write.
+/// Writes the report of a router, by one write; or says that it couldn't be written, or for want of memory not be made.
 pub fn tell_report<R: RouterView, O: Sink>(
     alloc: Global,
     router: &R,

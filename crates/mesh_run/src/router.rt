@@ -76,7 +76,8 @@ fn start<M: Machine, O: Sink, A: Air, C: Clock>(
     }
 }
 
-// Attaches the ports of a setup, makes its router, does its turns, and writes its report.
+/// Attaches the ports of a setup, makes its router, does its turns, at most so many, and writes its report. Nothing is written
+/// where a port can't be attached, or where the turns don't come to the setup's end.
 pub fn run_setup<M: Machine, O: Sink, A: Air, C: Clock>(
     alloc: Global,
     setup: &RunSetup,

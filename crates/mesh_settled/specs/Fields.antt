@@ -20,22 +20,27 @@ abbrev pub known_cost : Option Metric → Option ℕ
 known_cost None = None
 known_cost (Some m) = Some (metric_value m)
 
+-- a metric as a field: the cost that it stands for
 abbrev pub cost_field : Metric → Field
 cost_field m = Number (Some (metric_value m))
 
+-- a flag as a field: 1 where it is set, else 0
 abbrev pub flag_field : Bool → Field
 flag_field b = Number (Some (cond b 1 0))
 
 -- The fields of a tuple, in the order in which they are counted
 
+-- of a link: its addresses, the metric in, the metric out where it is known, and whether it is of a flooding MPR selector
 abbrev pub link_fields : Link → List Field
 link_fields t = Addresses t.addrs ∷ cost_field t.link_in ∷ Number (known_cost t.link_out) ∷ flag_field t.selector ∷ []
 
+-- of a neighbour: its addresses, its willingness as MPR_WILLING has it, both metrics, and whether it is a routing MPR selector
 abbrev pub neighbour_fields : Neighbour → List Field
 neighbour_fields t =
     Addresses t.addrs ∷ Number (Some (16 * t.willing.flooding + t.willing.routing)) ∷ Number (known_cost t.metric_in)
     ∷ Number (known_cost t.metric_out) ∷ flag_field t.selector ∷ []
 
+-- of a 2-hop tuple: the metrics in and out, each where it is known
 abbrev pub two_hop_fields : TwoHop → List Field
 two_hop_fields t = Number (known_cost t.metric_in) ∷ Number (known_cost t.metric_out) ∷ []
 
@@ -43,12 +48,15 @@ two_hop_fields t = Number (known_cost t.metric_in) ∷ Number (known_cost t.metr
 abbrev pub topology_fields : ℕ → Metric → Option ℕ → List Field
 topology_fields ansn metric distance = Number (Some ansn) ∷ cost_field metric ∷ Number distance ∷ []
 
+-- of a router topology tuple
 abbrev pub router_fields : RouterTuple → List Field
 router_fields t = topology_fields t.ansn t.metric None
 
+-- of a routable address topology tuple
 abbrev pub address_fields : AddressTuple → List Field
 address_fields t = topology_fields t.ansn t.metric None
 
+-- of an attached network tuple, whose distance is in hops
 abbrev pub network_fields : NetworkTuple → List Field
 network_fields t = topology_fields t.ansn t.metric (Some t.distance)
 

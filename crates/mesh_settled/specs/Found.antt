@@ -9,15 +9,17 @@ use Rattle.mesh_settled.specs.declared.gap.GapKey.{GapKey}
 use Rattle.mesh_settled.specs.Fields.{Field, SaySame, AllSame, Differ, DifferFrom}
 use Rattle.mesh_settled.specs.Gaps.{Look, IsGapAt, AreSame, at_field, rank_of, ranks_before}
 
--- the test of a field, of all fields from one on, and of a key
+-- the test of a field: it finds both numbers where the two say something else
 abbrev pub IsFieldTest : Field → Field → Option Apart → Type 0
 IsFieldTest f g None = SaySame f g
 IsFieldTest f g (Some d) = Differ f g d.held d.present
 
+-- the test of all fields, the first of which is counted as `at`: it finds the first that differs
 abbrev pub IsTestFrom : ℕ → List Field → List Field → Option Difference → Type 0
 IsTestFrom at fs gs None = AllSame fs gs
 IsTestFrom at fs gs (Some d) = DifferFrom at fs gs d.field d.held d.present
 
+-- the test of a key: it finds a gap with both its values, or that there is none
 abbrev pub IsTest : Look → GapKey → Option Values → Type 0
 IsTest l key None = AreSame l key
 IsTest l key (Some v) = IsGapAt l key v.held v.present × (AreSame l key → ⊥)
@@ -42,6 +44,7 @@ abbrev pub unequal : Option Difference → Option Values
 unequal None = None
 unequal (Some d) = Some (record { held = Some (at_field d.field d.held); present = Some (at_field d.field d.present) })
 
+-- what the test of a key finds, where the flags say whether a tuple is held and whether there is one at present
 abbrev pub compared : Bool → Bool → Option Difference → Option Values
 compared true true difference = unequal difference
 compared true false difference = Some (record { held = Some (at_field 0 None); present = None })
@@ -69,6 +72,7 @@ lesser None g = g
 lesser (Some f) None = Some f
 lesser (Some f) (Some g) = cond (ranks_before (rank_of g.key) (rank_of f.key)) (Some g) (Some f)
 
+-- what is found at a key, where its test finds a gap
 abbrev pub found_at : GapKey → Option Values → Option Found
 found_at key None = None
 found_at key (Some v) = Some (record { key = key; held = v.held; present = v.present })

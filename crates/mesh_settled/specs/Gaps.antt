@@ -38,6 +38,7 @@ pub record Look : Type 0 where
   pub x : ℕ
   pub p : State
 
+-- such a router: the scenario, the states of its routers, the moment, and the router's number and state
 abbrev pub look : Scenario → List State → ℕ → ℕ → State → Look
 look s states now x p = record { s = s; states = states; now = now; x = x; p = p }
 
@@ -84,6 +85,7 @@ IsPresentRouter l key fs =
 abbrev pub IsHeldAddress : State → AddressKey → List Field → Type 0
 IsHeldAddress p key fs = (t : AddressTuple) × Has p.bases.topology.addresses key t × (fs ≡ address_fields t)
 
+-- of one that the TC of another router gives which is joined with it
 abbrev pub IsPresentAddress : Look → AddressKey → List Field → Type 0
 IsPresentAddress l key fs =
     (w : ℕ) × (q : State) × (t : AddressTuple) × IsPeer l.s l.states l.x w q × IsAddressBy q key t × (fs ≡ address_fields t)
@@ -92,6 +94,7 @@ IsPresentAddress l key fs =
 abbrev pub IsHeldNetwork : State → NetworkKey → List Field → Type 0
 IsHeldNetwork p key fs = (t : NetworkTuple) × Has p.bases.topology.networks key t × (fs ≡ network_fields t)
 
+-- of one that the TC of another router gives which is joined with it
 abbrev pub IsPresentNetwork : Look → NetworkKey → List Field → Type 0
 IsPresentNetwork l key fs =
     (w : ℕ) × (q : State) × (t : NetworkTuple) × IsPeer l.s l.states l.x w q × IsNetworkBy q key t × (fs ≡ network_fields t)
@@ -165,11 +168,13 @@ rank_of (Network from net) = record { kind = 5; iface = 0; first = from.0; secon
 abbrev pub precedes : ℕ → ℕ → Bool → Bool
 precedes m n next = nat_lt m n || nat_eq m n && next
 
+-- the first number in which the two ranks differ is less in the first
 abbrev pub ranks_before : Rank → Rank → Bool
 ranks_before k l =
     precedes k.kind l.kind (precedes k.iface l.iface
     (precedes k.first l.first (precedes k.second l.second (nat_lt k.prefix l.prefix))))
 
+-- the kind that a gap is told as: that of its key, where the three of topology are one
 abbrev pub gap_kind : GapKey → GapKind
 gap_kind (Link i key) = Of_link
 gap_kind (Neighbour o) = Of_neighbour

@@ -20,6 +20,7 @@ abbrev pub IsFirstFound : Look → Option Found → Type 0
 IsFirstFound l None = HasNoGap l
 IsFirstFound l (Some f) = IsGap l f × ((key : GapKey) → IsTrue (ranks_before (rank_of key) (rank_of f.key)) → AreSame l key)
 
+-- what is found at router x, as a gap of the network
 abbrev pub reported : ℕ → Option Found → Option Gap
 reported x None = None
 reported x (Some f) = Some (record { router = x; kind = gap_kind f.key; key = f.key; held = f.held; present = f.present })

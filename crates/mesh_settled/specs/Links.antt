@@ -15,6 +15,7 @@ use Rattle.mesh_settled.specs.declared.links.GivenLink.{GivenLink}
 use Rattle.mesh_settled.specs.Fields.{Field, Addresses, cost_field, flag_field, link_fields}
 use Rattle.mesh_settled.specs.Joints.{IsLeastOf}
 
+-- the fields of the link that the router holds, if it holds one
 abbrev pub held_fields : Option (Bor Link) → Option (List Field)
 held_fields None = None
 held_fields (Some link) = Some (link_fields link.now)
@@ -23,6 +24,7 @@ held_fields (Some link) = Some (link_fields link.now)
 abbrev pub given_link : GivenLink → List Field
 given_link g = Addresses g.addrs.now ∷ cost_field g.link_in ∷ cost_field g.link_out ∷ flag_field g.selector ∷ []
 
+-- its fields, if there is one
 abbrev pub given_fields : Option GivenLink → Option (List Field)
 given_fields None = None
 given_fields (Some g) = Some (given_link g)
@@ -51,9 +53,11 @@ IsHeldAt p i place k =
     (key : LinkKey) × (e : Link × ℕ) × (slice_get (base_of p.bases.neighbourhood.links i) place ≡ Some (key, e))
     × (k ≡ Of_link i key)
 
+-- the key of some link of interface i
 abbrev pub IsHeldOn : State → ℕ → GapKey → Type 0
 IsHeldOn p i k = (place : ℕ) × (place < length (base_of p.bases.neighbourhood.links i)) × IsHeldAt p i place k
 
+-- the key of some link of the router
 abbrev pub IsHeld : State → GapKey → Type 0
 IsHeld p k = (i : ℕ) × (i < length p.settings.interfaces) × IsHeldOn p i k
 
@@ -63,6 +67,7 @@ IsGivenAt states x pair k =
     (pair.from ≡ x) × (a : Addr4) × IsLeastOf states pair.to pair.to_iface a
     × (k ≡ Of_link pair.from_iface (record { addr = a }))
 
+-- the key that some pair from router x gives
 abbrev pub IsGiven : List State → ℕ → List Pair → GapKey → Type 0
 IsGiven states x pairs k =
     (place : ℕ) × (place < length pairs) × ((pair : Pair) × (slice_get pairs place ≡ Some pair) × IsGivenAt states x pair k)

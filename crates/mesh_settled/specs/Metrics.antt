@@ -4,6 +4,7 @@ use Rattle.mesh_atoms.specs.declared.graphs.Pair.{Pair}
 use Rattle.mesh_atoms.specs.declared.metric.Metric.{Metric}
 use Rattle.mesh_atoms.specs.Codes.{metric_value}
 
+-- the lesser of the two metrics; the second where there is no first
 abbrev pub less : Option Metric → Metric → Option Metric
 less None m = Some m
 less (Some b) m = cond (nat_lt (metric_value m) (metric_value b)) (Some m) (Some b)

@@ -15,6 +15,7 @@ use Rattle.mesh_settled.specs.Fields.{Field, neighbour_fields}
 use Rattle.mesh_settled.specs.Gaps.{Look}
 use Rattle.mesh_settled.specs.Joints.{all_addresses}
 
+-- the fields of the neighbour that the router holds, if it holds one
 abbrev pub held_fields : Option (Bor Neighbour) → Option (List Field)
 held_fields None = None
 held_fields (Some n) = Some (neighbour_fields n.now)
@@ -24,6 +25,7 @@ abbrev pub symmetric_fields : Option (Neighbour × ℕ) → Option (List Field)
 symmetric_fields None = None
 symmetric_fields (Some e) = cond e.0.symmetric (Some (neighbour_fields e.0)) None
 
+-- the neighbour that an adjacent router is: symmetric, with all its addresses and both metrics
 abbrev pub given_tuple : GivenNeighbour → Neighbour
 given_tuple g = record {
   addrs = all_addresses g.settings.now.interfaces;
@@ -34,6 +36,7 @@ given_tuple g = record {
   selector = g.selector;
 }
 
+-- its fields, if there is one
 abbrev pub given_fields : Option GivenNeighbour → Option (List Field)
 given_fields None = None
 given_fields (Some g) = Some (neighbour_fields (given_tuple g))
@@ -59,6 +62,7 @@ IsGivenAt l o y (Some g) = (q : State) × At l.states y q × IsOriginator q.sett
 
 -- Which keys are looked at
 
+-- a key of a neighbour
 abbrev pub IsNeighbourKey : GapKey → Type 0
 IsNeighbourKey k = (o : Addr4) × (k ≡ Of_neighbour o)
 
@@ -67,6 +71,7 @@ abbrev pub IsHeldAt : State → ℕ → GapKey → Type 0
 IsHeldAt p place k =
     (o : Addr4) × (e : Neighbour × ℕ) × (slice_get p.bases.neighbourhood.neighbours place ≡ Some (o, e)) × (k ≡ Of_neighbour o)
 
+-- the key of some neighbour of the router
 abbrev pub IsHeld : State → GapKey → Type 0
 IsHeld p k = (place : ℕ) × (place < length p.bases.neighbourhood.neighbours) × IsHeldAt p place k
 
@@ -74,5 +79,6 @@ IsHeld p k = (place : ℕ) × (place < length p.bases.neighbourhood.neighbours) 
 abbrev pub IsOriginatorOf : List State → ℕ → GapKey → Type 0
 IsOriginatorOf states y k = (q : State) × At states y q × (o : Addr4) × IsOriginator q.settings o × (k ≡ Of_neighbour o)
 
+-- the key with the originator of some router before router n
 abbrev pub IsOriginatorBelow : List State → ℕ → GapKey → Type 0
 IsOriginatorBelow states n k = (y : ℕ) × (y < n) × IsOriginatorOf states y k

@@ -8,9 +8,11 @@ use Rattle.mesh_settled.specs.Gaps.{Look, look}
 use Rattle.mesh_settled.specs.Network.{IsNetwork}
 use Rattle.mesh_settled.specs.TwoHops.{IsEnd}
 
+-- the states of all routers, in order of their numbers
 abbrev pub states : {R : Type 0} → (R → State) → Site R → List State
 states state site = map state site.routers.now
 
+-- the router of the site, as gaps are looked for
 abbrev pub seen : {R : Type 0} → (R → State) → Site R → Look
 seen state site = look site.scenario.now (states state site) site.moment site.x (state site.router.now)
 

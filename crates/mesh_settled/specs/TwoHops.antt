@@ -32,9 +32,11 @@ pub record IsEnd (s : Scenario) (states : List State) (x i y j : ℕ) (q : State
 
 -- Which keys are looked at
 
+-- a key of a 2-hop tuple
 abbrev pub IsTwoHopKey : GapKey → Type 0
 IsTwoHopKey k = (i : ℕ) × (key : TwoHopKey) × (k ≡ Of_two_hop i key)
 
+-- the key of interface i for the address `a`, by the link with the address `link`
 abbrev pub key_by : ℕ → Addr4 → Addr4 → GapKey
 key_by i link a = Of_two_hop i (record { link = record { addr = link }; addr = a })
 
@@ -54,6 +56,7 @@ IsTwoHopAt p i link place k =
     × (slice_get (base_of p.bases.neighbourhood.two_hops i) place ≡ Some (record { link = record { addr = link }; addr = a }, e))
     × (k ≡ key_by i link a)
 
+-- the key of some 2-hop tuple by that link which the router holds on interface i
 abbrev pub IsHeldBy : State → ℕ → Addr4 → GapKey → Type 0
 IsHeldBy p i link k = (place : ℕ) × (place < length (base_of p.bases.neighbourhood.two_hops i)) × IsTwoHopAt p i link place k
 
@@ -61,6 +64,7 @@ IsHeldBy p i link k = (place : ℕ) × (place < length (base_of p.bases.neighbou
 abbrev pub IsKeyIn : ℕ → Addr4 → List Addr4 → ℕ → GapKey → Type 0
 IsKeyIn i link addrs place k = (a : Addr4) × (slice_get addrs place ≡ Some a) × (k ≡ key_by i link a)
 
+-- the key of that link and some address of the list
 abbrev pub IsGivenIn : ℕ → Addr4 → List Addr4 → GapKey → Type 0
 IsGivenIn i link addrs k = (n : ℕ) × (n < length addrs) × IsKeyIn i link addrs n k
 
@@ -70,6 +74,7 @@ IsKeyNear i link q place k =
     (o : Addr4) × (e : Neighbour × ℕ) × (slice_get q.bases.neighbourhood.neighbours place ≡ Some (o, e))
     × IsGivenIn i link e.0.addrs k
 
+-- and some address of some neighbour of the router in state q
 abbrev pub IsGivenBy : ℕ → Addr4 → State → GapKey → Type 0
 IsGivenBy i link q k = (place : ℕ) × (place < length q.bases.neighbourhood.neighbours) × IsKeyNear i link q place k
 
@@ -77,5 +82,6 @@ IsGivenBy i link q k = (place : ℕ) × (place < length q.bases.neighbourhood.ne
 abbrev pub IsKeyOfAt : List State → ℕ → List Pair → ℕ → GapKey → Type 0
 IsKeyOfAt states x pairs place k = (pair : Pair) × (slice_get pairs place ≡ Some pair) × IsKeyOf states x pair k
 
+-- and by some pair
 abbrev pub IsKeyOfSome : List State → ℕ → List Pair → GapKey → Type 0
 IsKeyOfSome states x pairs k = (place : ℕ) × (place < length pairs) × IsKeyOfAt states x pairs place k

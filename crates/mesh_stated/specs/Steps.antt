@@ -12,9 +12,11 @@ use Rattle.mesh_stated.specs.Tables.{Each, no_less, rising_visits}
 abbrev pub at_ms : Members → Read ℕ
 at_ms = required (whole 0 3600000) (codes "at_ms")
 
+-- the quality from that moment on, from 0 to 100; it must stand
 abbrev pub quality_value : Members → Read ℕ
 quality_value = required (whole 0 100) (codes "value")
 
+-- the keys that the table of a step may have
 abbrev pub step_keys : List (List ℕ)
 step_keys = codes "at_ms" ∷ codes "value" ∷ []
 
@@ -23,6 +25,7 @@ abbrev pub step_visits : ℕ → Members → Visits
 step_visits least table =
     unknown (is_one_of step_keys) table ∷ visit (at_ms table) ∷ no_less least (codes "at_ms") (at_ms table) ∷ visit (quality_value table) ∷ []
 
+-- the step has the moment, in ticks, and the quality that its table says
 pub record StepIs (table : Members) (step : QualityStep) : Type 0 where
   pub is_at : then_turned ticks (at_ms table) ≡ Ok step.at
   pub is_quality : quality_value table ≡ Ok step.quality
@@ -31,6 +34,7 @@ pub record StepIs (table : Members) (step : QualityStep) : Type 0 where
 abbrev pub qualities : Members → Read (List Data)
 qualities = array_or_none 16 (codes "quality")
 
+-- the number of the steps is visited, and then the table of each, whose moment is to be later than that before
 abbrev pub steps_visits : Members → Visits
 steps_visits table = visit (qualities table) ∷ rising_visits step_visits at_ms (codes "quality") 0 (listed (qualities table))
 

@@ -9,6 +9,7 @@ abbrev pub element_visits : (Members → Visits) → List ℕ → Data → Visit
 element_visits visits key (table members) = visits members
 element_visits visits key _ = Some (bad_value key) ∷ []
 
+-- the visits of an array of tables, element by element; `key` is the one at fault where an element is no table
 abbrev pub tables_visits : (Members → Visits) → List ℕ → List Data → Visits
 tables_visits visits key ds = flat_map (element_visits visits key) ds
 

@@ -28,7 +28,7 @@ fn moment(alloc: Global, table: &Table, key: &str) -> Result<u64, ConfigFault>
     Ok(ticks(ms))
 }
 
-// The least metric that is at least the whole number at `metric`, which must stand.
+/// The least metric that is at least the whole number at `metric`, from 1 to 16,776,960, which must stand.
 pub fn metric_at(alloc: Global, table: &Table) -> Result<Metric, ConfigFault>
     ensures { Answers (IsMetric (metric_asked (table_view table.now))) (visit (metric_asked (table_view table.now))) result }
 {
@@ -55,7 +55,8 @@ fn net_at(alloc: Global, table: &Table) -> Result<NetAddr, ConfigFault>
     }
 }
 
-// What the table of an interface says of its name and its addresses.
+/// What the table of an interface says of its name and its 1 to 4 addresses, or the first fault of these. Other keys aren't
+/// looked at.
 pub fn interface_said(alloc: Global, table: &Table) -> Result<StatedInterface, ConfigFault>
     ensures { Answers (InterfaceIs (table_view table.now)) (first (named_visits (table_view table.now))) result }
 {
@@ -157,7 +158,8 @@ fn known_to_routers(alloc: Global, table: &Table) -> Result<(), ConfigFault>
     )
 }
 
-// What the table of a router says of itself.
+/// What the table of a router says of itself, with its first moments in ticks; or the first fault there: an unknown key comes
+/// before all others. What its interfaces and attached networks are isn't looked at.
 pub fn head(alloc: Global, table: &Table) -> Result<RouterHead, ConfigFault>
     ensures { Answers (HeadIs (table_view table.now)) (first (head_visits (table_view table.now))) result }
 {
@@ -185,6 +187,7 @@ fn interfaces_of(alloc: Global, table: &Table) -> Result<Seq<StatedInterface>, C
     all_tables(alloc, "interface", values)
 }
 
+/// The networks that a router attaches (RFC 7181, section 7.2), at most 64, in order of their tables, or the first fault there.
 pub fn attached_of(alloc: Global, table: &Table) -> Result<Seq<Attached4>, ConfigFault>
     ensures answer { Answers (Each AttachedIs (listed (attached (table_view table.now)))) (first (networks_visits (table_view table.now))) result }
     ensures size { IfOk result (λ xs. length xs ≤ 64) }

@@ -12,7 +12,8 @@ use mesh_toml::{ConfigFault, array_or_none, known_keys, ticks, whole_at, whole_o
 use std::alloc::Global;
 use toml::Table;
 
-// The thresholds of the links of a router.
+/// The thresholds of the links of a router (RFC 6130, section 14), up to 100 and 0 where they are absent. The one to reject
+/// below is refused where it is greater than the one to accept from.
 pub fn thresholds(alloc: Global, table: &Table) -> Result<Thresholds, ConfigFault>
     ensures { Answers (λ t. AreThresholds (table_view table.now) t.accept t.reject) (first (threshold_visits (table_view table.now))) result }
 {
@@ -69,7 +70,8 @@ fn near_holds_of(alloc: Global, table: &Table) -> Result<Seq<NearHold>, ConfigFa
     all_rising(alloc, "near_hold", values)
 }
 
-// The most rows of a TC, and how long near routers hold it.
+/// The most rows of a TC, from 1 to 1,088, and how long near routers hold it: at most 8 near holds, each of more hops than the
+/// one before; or the first fault there.
 pub fn tc_rules(alloc: Global, table: &Table) -> Result<TcRules, ConfigFault>
     ensures { Answers (λ t. AreTcs (table_view table.now) t.rows t.near_hold) (first (tc_visits (table_view table.now))) result }
 {

@@ -115,7 +115,7 @@ impl FromTable for StatedArc {
     }
 }
 
-// The end of the run, in ticks, which must stand.
+/// The end of the run, from 1 ms to an hour, in ticks, which must stand.
 pub fn end_moment(alloc: Global, table: &Table) -> Result<u64, ConfigFault>
     ensures read { Gives (λ n. n) result (end_moment (table_view table.now)) }
     ensures range { IfOk result IsEnd }
@@ -138,7 +138,7 @@ fn loss_until(alloc: Global, table: &Table) -> Result<Option<u64>, ConfigFault>
     }
 }
 
-// The times of the table, or those that stand where it is absent.
+/// The times of the table at `times`, in ticks, or those that stand where it is absent; or the first fault there.
 pub fn times_of(alloc: Global, table: &Table) -> Result<Times, ConfigFault>
     ensures { Answers (TimesIs (sub_times (table_view table.now))) (first (times_part (table_view table.now))) result }
 {

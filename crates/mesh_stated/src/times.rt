@@ -124,7 +124,8 @@ fn known_to_times(alloc: Global, table: &Table) -> Result<(), ConfigFault>
     )
 }
 
-// The times that the table says.
+/// The times that the table says, in ticks, each from 100 ms to an hour, and the hop limit of TCs; the default for each key that
+/// is absent (RFC 6130, section 5, and RFC 7181, section 5). An unknown key is refused before all others.
 pub fn times_in(alloc: Global, table: &Table) -> Result<Times, ConfigFault>
     ensures { Answers (TimesIs (table_view table.now)) (first (times_visits (table_view table.now))) result }
 {

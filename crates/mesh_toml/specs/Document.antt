@@ -11,6 +11,7 @@ use Rattle.mesh_toml.specs.Faults.{Read, fault}
 abbrev pub parsed : List ℕ → Option Members
 parsed octets = if is_utf8 octets then parse_document octets else None
 
+-- the table of a text; NOT_TOML where it spells none
 abbrev pub table_or_fault : Option Members → Read Members
 table_or_fault None = Err (fault NOT_TOML (codes "input"))
 table_or_fault (Some table) = Ok table

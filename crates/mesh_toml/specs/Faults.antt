@@ -17,18 +17,23 @@ Read A = Result A Fault
 abbrev pub Visits : Type 0
 Visits = List (Option Fault)
 
+-- the fault of that number at a key
 abbrev pub fault : ℕ → List ℕ → Fault
 fault number key = record { number = number; key = key }
 
+-- a key that must stand doesn't
 abbrev pub missing : List ℕ → Fault
 missing key = fault MISSING key
 
+-- what stands at the key is of another kind, out of its range or not of its form, or an array of too few elements
 abbrev pub bad_value : List ℕ → Fault
 bad_value key = fault BAD_VALUE key
 
+-- the array at the key has too many elements
 abbrev pub too_many : List ℕ → Fault
 too_many key = fault TOO_MANY key
 
+-- the table has a key that none of its kind has
 abbrev pub unknown_key : List ℕ → Fault
 unknown_key key = fault UNKNOWN_KEY key
 

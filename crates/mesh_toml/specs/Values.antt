@@ -20,6 +20,7 @@ abbrev pub at : {A : Type 0} → (Data → Option A) → List ℕ → Option Dat
 at turn key None = Err (missing key)
 at turn key (Some d) = turned key (turn d)
 
+-- the value at a key of the table, which must stand
 abbrev pub required : {A : Type 0} → (Data → Option A) → List ℕ → Members → Read A
 required turn key table = at turn key (get_member key table)
 
@@ -28,6 +29,7 @@ abbrev pub or_default : {A : Type 0} → A → (Data → Option A) → List ℕ 
 or_default default turn key None = Ok default
 or_default default turn key (Some d) = turned key (turn d)
 
+-- the value at a key of the table; the default where it is absent
 abbrev pub optional : {A : Type 0} → A → (Data → Option A) → List ℕ → Members → Read A
 optional default turn key table = or_default default turn key (get_member key table)
 
@@ -37,6 +39,7 @@ in_range low high (Some (pos n)) = if nat_le low n && nat_le n high then Some n 
 in_range low high (Some (negsuc n)) = None
 in_range low high None = None
 
+-- a value that is a whole number from `low` to `high`
 abbrev pub whole : ℕ → ℕ → Data → Option ℕ
 whole low high d = in_range low high (as_integer d)
 
@@ -49,6 +52,7 @@ abbrev pub items_list : Items → List Data
 items_list no_items = []
 items_list (item d ds) = d ∷ items_list ds
 
+-- the elements of a value, where it is an array
 abbrev pub elements : Data → Option (List Data)
 elements d = option_map items_list (as_array d)
 
@@ -58,10 +62,11 @@ counted low high key (Ok ds) =
     if nat_lt high (length ds) then Err (too_many key) else (if nat_lt (length ds) low then Err (bad_value key) else Ok ds)
 counted low high key (Err f) = Err f
 
--- an array that must stand, and one that may be absent
+-- an array of `low` to `high` elements, which must stand
 abbrev pub array : ℕ → ℕ → List ℕ → Members → Read (List Data)
 array low high key table = counted low high key (required elements key table)
 
+-- an array of at most `high` elements, which is empty where it is absent
 abbrev pub array_or_none : ℕ → List ℕ → Members → Read (List Data)
 array_or_none high key table = counted 0 high key (optional [] elements key table)
 
@@ -70,6 +75,7 @@ abbrev pub all_of : {A : Type 0} → (Data → Option A) → List Data → Optio
 all_of turn [] = Some []
 all_of turn (d ∷ ds) = turn d >>= λ x. all_of turn ds >>= λ xs. Some (x ∷ xs)
 
+-- the elements that are read at the key, each turned; a bad value where one can't be
 abbrev pub each_turned : {A : Type 0} → (Data → Option A) → List ℕ → Read (List Data) → Read (List A)
 each_turned turn key (Ok ds) = turned key (all_of turn ds)
 each_turned turn key (Err f) = Err f
@@ -83,6 +89,7 @@ abbrev pub first_unknown : (List ℕ → Bool) → Members → Option (List ℕ)
 first_unknown is_known no_members = None
 first_unknown is_known (member key d table) = if is_known key then first_unknown is_known table else Some key
 
+-- the visit for unknown keys: a fault at the least of them
 abbrev pub unknown : (List ℕ → Bool) → Members → Option Fault
 unknown is_known table = option_map unknown_key (first_unknown is_known table)
 

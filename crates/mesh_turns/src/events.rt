@@ -36,7 +36,8 @@ fn tick<M: Machine, A: Air>(
     Ok(())
 }
 
-// The clock of the router ticks: at the end, where the end has come; else at the moment, where the router is due.
+/// The clock of the router ticks: at the end, where the end has come; else at the moment, where the router is due. Moments are in
+/// ticks of 1/8192 s. What the router sends is handed over.
 pub fn tick_due<M: Machine, A: Air>(
     router: &mut M,
     end: u64,
@@ -64,7 +65,7 @@ pub fn tick_due<M: Machine, A: Air>(
     Ok(())
 }
 
-// The router hears a frame.
+/// The router hears a frame from that sender at a moment in ticks, and what it sends is handed over.
 pub fn hear<M: Machine, A: Air>(
     router: &mut M,
     now: u64,

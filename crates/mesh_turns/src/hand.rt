@@ -43,7 +43,7 @@ fn hand_at<A: Air>(air: &mut A, out: &Outbox, i: usize, tally: &mut Tally)
     }
 }
 
-// Hands the frames over in order. A send that fails is counted, and the next goes on.
+/// Hands the frames over in order. A send that fails is counted, and the next goes on.
 pub fn hand_over<A: Air>(air: &mut A, out: &Outbox, tally: &mut Tally)
     requires on { All (λ f. f.iface < A.attached air.old) out.now }
     requires sent { tally.old.sent + length out.now < 2 ^ 64 }
@@ -57,7 +57,7 @@ pub fn hand_over<A: Air>(air: &mut A, out: &Outbox, tally: &mut Tally)
     }
 }
 
-// Whether so many frames can still be counted; want of memory where they can't.
+/// Whether so many frames can still be counted; want of memory where they can't.
 pub fn has_room(tally: &Tally, count: usize) -> Result<(), AllocError>
     ensures sent { OnOk result (tally.now.sent + count < 2 ^ 64) }
     ensures faults { OnOk result (tally.now.faults + count < 2 ^ 64) }

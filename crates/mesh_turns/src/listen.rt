@@ -54,7 +54,7 @@ fn listen<M: Machine, A: Air>(
     }
 }
 
-// Hears each interface once, in order.
+/// Hears each interface once, in order of their numbers, at a moment in ticks; `buf` has room for the longest frame.
 pub fn listen_all<M: Machine, A: Air>(
     router: &mut M,
     now: u64,

@@ -14,8 +14,8 @@ use std::alloc::AllocError;
 // The greatest moment of a turn, 2^62 - 1.
 const LAST_MOMENT: u64 = 4_611_686_018_427_387_903;
 
-// One turn: the clock tells a moment, the router ticks where it is due, and each interface is heard once; at the end none is. The
-// answer is the greatest moment told.
+/// One turn: the clock tells a moment, the router ticks where it is due, and each interface is heard once; at the end none is.
+/// The answer is the greatest moment told, in ticks. `greatest` is that of the turns before, which is before the end.
 pub fn turn<M: Machine, A: Air, C: Clock>(
     router: &mut M,
     end: u64,

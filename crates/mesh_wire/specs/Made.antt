@@ -6,6 +6,7 @@ use Rattle.mesh_wire.specs.Collects.{AreCollected}
 use Rattle.mesh_wire.specs.Entries.{Entry}
 use Rattle.mesh_wire.specs.RowRules.{first_rule}
 
+-- each row is made of what is kept of the address at its place
 abbrev pub AreMade : {Row : Type 0} → (AddressParts → Row → Type 0) → List AddressParts → List Row → Type 0
 AreMade From [] [] = Unit {0}
 AreMade From (t ∷ told) (r ∷ rows) = From t r × AreMade From told rows

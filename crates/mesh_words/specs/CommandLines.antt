@@ -22,6 +22,7 @@ pub record PlacedOption : Type 0 where
   pub place : ℕ
   pub words : OptionWords
 
+-- an option whose own word has that place
 abbrev pub at_place : ℕ → OptionWords → PlacedOption
 at_place place words = record { place = place; words = words }
 

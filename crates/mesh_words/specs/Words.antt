@@ -30,12 +30,15 @@ is_word word other = pointwise nat_eq word other
 abbrev pub number_from : ℕ → ℕ → List ℕ → Option ℕ
 number_from least most word = number_of most word >>= λ n. only_if (nat_le least n) n
 
+-- a number of turns, from 1 to 4,294,967,295
 abbrev pub turns_of : List ℕ → Option ℕ
 turns_of = number_from 1 4294967295
 
+-- a number of routers, from 2 to 64
 abbrev pub routers_of : List ℕ → Option ℕ
 routers_of = number_from 2 64
 
+-- the seed of what is drawn, from 0 to 4,294,967,295
 abbrev pub seed_of : List ℕ → Option ℕ
 seed_of = number_from 0 4294967295
 
@@ -48,6 +51,7 @@ kind_of word =
 
 -- ---- the options of `emulate` of a made scenario: each stands once, in any order, and none may be missing
 
+-- none stood yet
 abbrev pub no_make_options : MakeOptions
 no_make_options = record { kind = None; routers = None; seed = None }
 
@@ -64,11 +68,13 @@ make_value o value.Kind word = kind_of word >>= λ kind. Some (record { kind = S
 make_value o value.Routers word = routers_of word >>= λ routers. Some (record { kind = o.kind; routers = Some routers; seed = o.seed })
 make_value o value.Seed word = seed_of word >>= λ seed. Some (record { kind = o.kind; routers = o.routers; seed = Some seed })
 
+-- the job, where all three stood
 abbrev pub make_job : MakeOptions → Option Job
 make_job o = o.kind >>= λ kind. o.routers >>= λ routers. o.seed >>= λ seed. Some (job.Make kind routers seed)
 
 -- ---- the options of `emulate` of a scenario that is read: each stands once at most, in any order, and beside none of a made one
 
+-- none stood yet
 abbrev pub no_emulate_options : EmulateOptions
 no_emulate_options = record { trace = false; send = None; probe = None }
 
@@ -128,6 +134,7 @@ abbrev pub or_at : {A B : Type 0} → ℕ → Option A → (A → Result B ℕ) 
 or_at place (Some x) f = f x
 or_at place None f = Err place
 
+-- the job of more words, behind others that ask for this; the next word has that place
 abbrev pub read_on : Asked → ℕ → List (List ℕ) → Result Job ℕ
 read_on asked place [] = or_at place (job_of asked) Ok
 read_on asked place (word ∷ more) = or_at place (takes asked place word) (λ next. read_on next (place + 1) more)

@@ -228,7 +228,7 @@ fn only_option(word: &str, name: &str, free: bool, next: Asked) -> Option<Asked>
     }
 }
 
-// What is asked for after one more word, which has that place, where it begins a command line with the words before it.
+/// What is asked for after one more word, which has that place, where it begins a command line with the words before it.
 pub fn takes(asked: Asked, place: usize, word: &str) -> Option<Asked>
     ensures { result ≡ takes asked place word.now }
 {
@@ -255,7 +255,7 @@ pub fn takes(asked: Asked, place: usize, word: &str) -> Option<Asked>
     }
 }
 
-// The job, where no word is missing.
+/// The job, where no word is missing.
 pub fn job_of(asked: Asked) -> Option<Job>
     ensures { result ≡ job_of asked }
 {
