@@ -79,7 +79,8 @@ pub data ZerosFault (room : ℕ) (s : List ℕ) : ℕ → Type 0 where
 -- one of so many prefix lengths, after sound ones
 pub data PrefixFault (most : ℕ) (s : List ℕ) : ℕ → ℕ → Type 0 where
   no_prefix : AreAtMost most s → PrefixFault most s (length s) 1
-  prefix_above : (before : List ℕ) (p : ℕ) (rest : List ℕ) → s ≡ before ++ p ∷ rest → AreAtMost most before → most < p → PrefixFault most s (length before) 11
+  prefix_above : (before : List ℕ) (p : ℕ) (rest : List ℕ) → s ≡ before ++ p ∷ rest → AreAtMost most before → most < p
+      → PrefixFault most s (length before) 11
 
 -- a number of addresses and flags that are sound
 pub record BeginsBlock (s : List ℕ) (count flags : ℕ) (rest : List ℕ) : Type 0 where
@@ -107,8 +108,10 @@ pub data BlockFault (width : ℕ) (s : List ℕ) : ℕ → ℕ → Type 0 where
   no_count : s ≡ [] → BlockFault width s 0 1
   no_addresses : (rest : List ℕ) → s ≡ 0 ∷ rest → BlockFault width s 0 8
   no_flags : (count : ℕ) → s ≡ count ∷ [] → 0 < count → BlockFault width s 1 1
-  two_tails : (count flags : ℕ) (rest : List ℕ) → s ≡ count ∷ (flags ∷ rest) → 0 < count → has flags 64 && has flags 32 ≡ true → BlockFault width s 1 9
-  two_prefixes : (count flags : ℕ) (rest : List ℕ) → s ≡ count ∷ (flags ∷ rest) → 0 < count → has flags 16 && has flags 8 ≡ true → BlockFault width s 1 9
+  two_tails : (count flags : ℕ) (rest : List ℕ) → s ≡ count ∷ (flags ∷ rest) → 0 < count → has flags 64 && has flags 32 ≡ true
+      → BlockFault width s 1 9
+  two_prefixes : (count flags : ℕ) (rest : List ℕ) → s ≡ count ∷ (flags ∷ rest) → 0 < count → has flags 16 && has flags 8 ≡ true
+      → BlockFault width s 1 9
   head : (count flags place reason : ℕ) (rest : List ℕ) → BeginsBlock s count flags rest → has flags 128 ≡ true → CountedFault width rest place reason
       → BlockFault width s (2 + place) reason
   full_tail : (count flags place reason : ℕ) (head text rest : List ℕ) → BeginsBlock s count flags (text ++ rest) → length head ≤ width

@@ -25,7 +25,8 @@ abbrev pub AdvertisesOriginatorBy : (Addr4 → Addr4 → Metric → Type 0) → 
 AdvertisesOriginatorBy gives a = (m : Metric) × gives a a m
 
 -- there is a row of the attached network, which is no address that has a row
-pub record AdvertisesNetworkBy (gives : Addr4 → Addr4 → Metric → Type 0) (networks : List Attached4) (net : NetAddr) (distance : ℕ) (m : Metric) : Type 0 where
+pub record AdvertisesNetworkBy (gives : Addr4 → Addr4 → Metric → Type 0) (networks : List Attached4) (net : NetAddr) (distance : ℕ)
+    (m : Metric) : Type 0 where
   pub attached : Attached4
   pub stands : Contains networks attached
   pub at_net : attached.net ≡ net
@@ -35,8 +36,8 @@ pub record AdvertisesNetworkBy (gives : Addr4 → Addr4 → Metric → Type 0) (
 
 -- a row: of an address, routable and maybe an originator's; or of an attached network, with its distance (RFC 7181, section 16.1)
 pub data IsRowBy (gives : Addr4 → Addr4 → Metric → Type 0) (networks : List Attached4) : TcRow → Type 0 where
-  Of_address : {row : TcRow} (a : Addr4) (m : Metric) → row.dest ≡ host a → (IsTrue row.origin ↔ AdvertisesOriginatorBy gives a) → IsTrue row.routable →
-      row.gateway ≡ None → row.metric ≡ Some m → AdvertisesBy gives a m → IsRowBy gives networks row
+  Of_address : {row : TcRow} (a : Addr4) (m : Metric) → row.dest ≡ host a → (IsTrue row.origin ↔ AdvertisesOriginatorBy gives a) →
+      IsTrue row.routable → row.gateway ≡ None → row.metric ≡ Some m → AdvertisesBy gives a m → IsRowBy gives networks row
   Of_network : {row : TcRow} (distance : ℕ) (m : Metric) → IsFalse row.origin → IsFalse row.routable →
       row.gateway ≡ Some distance → row.metric ≡ Some m → AdvertisesNetworkBy gives networks row.dest distance m → IsRowBy gives networks row
 

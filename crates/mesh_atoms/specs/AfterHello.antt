@@ -76,7 +76,9 @@ Matches originator listed o n = (o ≡ originator) ⊎ Meets n.addrs listed
 
 -- an address of a matching neighbour
 abbrev pub IsTheirs : Neighbourhood → Told → Addr4 → Type 0
-IsTheirs near told a = (o : Addr4) × (n : Neighbour) × (until : ℕ) × (neighbour_at near o ≡ Some (n, until)) × Matches told.originator told.listed o n × Contains n.addrs a
+IsTheirs near told a =
+    (o : Addr4) × (n : Neighbour) × (until : ℕ) × (neighbour_at near o ≡ Some (n, until)) × Matches told.originator told.listed o n
+    × Contains n.addrs a
 
 -- the link is the sending link, or has no address of the sending list
 abbrev pub IsApart : List Addr4 → Link → Type 0
@@ -92,12 +94,14 @@ pub record GoesOn (near : Neighbourhood) (told : Told) (i j : ℕ) (link : Link)
 
 -- the neighbour that the HELLO tells of, before its links are looked at
 abbrev pub announced : List Addr4 → Willing → Bool → Neighbour
-announced listed willing routing = record { addrs = listed; symmetric = false; metric_in = None; metric_out = None; willing = willing; selector = routing }
+announced listed willing routing =
+    record { addrs = listed; symmetric = false; metric_in = None; metric_out = None; willing = willing; selector = routing }
 
 -- a neighbour with another originator: it becomes one with the HELLO's where it matches, else it is as its links have it
 pub data BecomesOther (near : Neighbourhood) (now : ℕ) (told : Told) (o : Addr4) (old new : Option (Neighbour × ℕ)) : Type 0 where
   Joins : (e : Neighbour × ℕ) → old ≡ Some e → Matches told.originator told.listed o e.0 → new ≡ None → BecomesOther near now told o old new
-  Remains : ((e : Neighbour × ℕ) → old ≡ Some e → Matches told.originator told.listed o e.0 → ⊥) → Restores near now old new → BecomesOther near now told o old new
+  Remains : ((e : Neighbour × ℕ) → old ≡ Some e → Matches told.originator told.listed o e.0 → ⊥) → Restores near now old new →
+      BecomesOther near now told o old new
 
 -- 2-hop tuples of the link with the sending list (RFC 6130, section 12.6, and RFC 7181, section 15.3)
 
@@ -112,7 +116,8 @@ pub data StoodOn (near : Neighbourhood) (i : ℕ) (told : Told) (a : Addr4) : Op
   New_link : ((e : Link × ℕ) → link_at near i told.least ≡ Some e → e.0.addrs ≢ told.shown.sending) → StoodOn near i told a None
 
 -- the tuple of an address after the HELLO, where the link is SYMMETRIC: as a row that tells of it makes it, else as it stood
-pub data TellsTwoHop (settings : RouterSettings) (told : Told) (hello : Hello) (until : ℕ) (a : Addr4) (stood new : Option (TwoHop × ℕ)) : Type 0 where
+pub data TellsTwoHop (settings : RouterSettings) (told : Told) (hello : Hello) (until : ℕ) (a : Addr4)
+    (stood new : Option (TwoHop × ℕ)) : Type 0 where
   By_row : (row : HelloRow) → LooksAt settings told hello a row → new ≡ row_makes until row → TellsTwoHop settings told hello until a stood new
   By_none : ((row : HelloRow) → LooksAt settings told hello a row → ⊥) → new ≡ stood → TellsTwoHop settings told hello until a stood new
 
@@ -125,7 +130,8 @@ pub record AfterHello (settings : RouterSettings) (now i : ℕ) (told : Told) (h
   pub two_hop_interfaces : length new.two_hops ≡ length old.two_hops
   pub link : (start : Link × ℕ) × Begins (rule_of settings i) told.shown now (link_at old i told.least) start
       × (link_at new i told.least ≡ Some (renewed told.shown settings.times.link_hold now start))
-  pub other_links : (j : ℕ) (key : LinkKey) → ((j ≢ i) ⊎ (key ≢ told.least)) → IsKept (λ e. GoesOn old told i j e.0) (link_at old j key) (link_at new j key)
+  pub other_links : (j : ℕ) (key : LinkKey) → ((j ≢ i) ⊎ (key ≢ told.least)) →
+      IsKept (λ e. GoesOn old told i j e.0) (link_at old j key) (link_at new j key)
   pub neighbour : Restores new now (Some (announced told.listed told.willing told.routing, 0)) (neighbour_at new told.originator)
   pub other_neighbours : (o : Addr4) → o ≢ told.originator → BecomesOther new now told o (neighbour_at old o) (neighbour_at new o)
   pub two_hops : is_symmetric_at new now i told.least ≡ true → (a : Addr4) → (stood : Option (TwoHop × ℕ)) × StoodOn old i told a stood
@@ -133,4 +139,5 @@ pub record AfterHello (settings : RouterSettings) (now i : ℕ) (told : Told) (h
   pub no_two_hops : is_symmetric_at new now i told.least ≡ false → (a : Addr4) → two_hop_at new i (record { link = told.least; addr = a }) ≡ None
   pub other_two_hops : (j : ℕ) (key : TwoHopKey) → ((j ≢ i) ⊎ (key.link ≢ told.least)) →
       two_hop_at new j key ≡ cond (is_symmetric_at new now j key.link) (two_hop_at old j key) None
-  pub losts : (a : Addr4) → SettlesLost (IsSymmetricAddress old a) (IsSymmetricAddress new a) (now + settings.times.neighbour_hold) (lost_at old a) (lost_at new a)
+  pub losts : (a : Addr4) →
+      SettlesLost (IsSymmetricAddress old a) (IsSymmetricAddress new a) (now + settings.times.neighbour_hold) (lost_at old a) (lost_at new a)

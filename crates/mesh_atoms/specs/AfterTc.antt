@@ -18,15 +18,21 @@ use Rattle.mesh_atoms.specs.State.{Topology}
 
 -- a row with ORIGINATOR and a metric gives a router tuple
 abbrev pub GivesRouter : Tc → RouterKey → Metric → Type 0
-GivesRouter tc key m = (key.from ≡ tc.originator) × (row : TcRow) × Contains tc.rows row × (row.dest ≡ host key.to) × IsTrue row.origin × (row.metric ≡ Some m)
+GivesRouter tc key m =
+    (key.from ≡ tc.originator) × (row : TcRow) × Contains tc.rows row × (row.dest ≡ host key.to) × IsTrue row.origin
+    × (row.metric ≡ Some m)
 
 -- a row with ROUTABLE and a metric gives an address tuple
 abbrev pub GivesAddress : Tc → AddressKey → Metric → Type 0
-GivesAddress tc key m = (key.from ≡ tc.originator) × (row : TcRow) × Contains tc.rows row × (row.dest ≡ host key.addr) × IsTrue row.routable × (row.metric ≡ Some m)
+GivesAddress tc key m =
+    (key.from ≡ tc.originator) × (row : TcRow) × Contains tc.rows row × (row.dest ≡ host key.addr) × IsTrue row.routable
+    × (row.metric ≡ Some m)
 
 -- a row with GATEWAY and a metric gives a network tuple
 abbrev pub GivesNetwork : Tc → NetworkKey → ℕ → Metric → Type 0
-GivesNetwork tc key distance m = (key.from ≡ tc.originator) × (row : TcRow) × Contains tc.rows row × (row.dest ≡ key.net) × (row.gateway ≡ Some distance) × (row.metric ≡ Some m)
+GivesNetwork tc key distance m =
+    (key.from ≡ tc.originator) × (row : TcRow) × Contains tc.rows row × (row.dest ≡ key.net) × (row.gateway ≡ Some distance)
+    × (row.metric ≡ Some m)
 
 -- The sets of tuples after it
 
@@ -36,12 +42,14 @@ if_not_dropped tc from number None = None
 if_not_dropped tc from number (Some e) = cond (addr_eq from tc.originator && (tc.complete && not (nat_eq (number e.0) tc.ansn))) None (Some e)
 
 -- one tuple: as a row gives it until the moment, else as it stood, where it isn't dropped
-pub data Becomes {K V : Type 0} (tc : Tc) (until : ℕ) (from : K → Addr4) (number : V → ℕ) (Given_by : K → V → Type 0) (key : K) (old new : Option (V × ℕ)) : Type 0 where
+pub data Becomes {K V : Type 0} (tc : Tc) (until : ℕ) (from : K → Addr4) (number : V → ℕ) (Given_by : K → V → Type 0) (key : K)
+    (old new : Option (V × ℕ)) : Type 0 where
   Given : (value : V) → Given_by key value → new ≡ Some (value, until) → Becomes tc until from number Given_by key old new
   Left : ((value : V) → Given_by key value → ⊥) → new ≡ if_not_dropped tc (from key) number old → Becomes tc until from number Given_by key old new
 
 -- one set of tuples
-pub record BecomesSet {K V : Type 0} (eq : K → K → Bool) (tc : Tc) (until : ℕ) (from : K → Addr4) (number : V → ℕ) (Given_by : K → V → Type 0) (old new : Base K V) : Type 0 where
+pub record BecomesSet {K V : Type 0} (eq : K → K → Bool) (tc : Tc) (until : ℕ) (from : K → Addr4) (number : V → ℕ)
+    (Given_by : K → V → Type 0) (old new : Base K V) : Type 0 where
   pub distinct : HasDistinctKeys eq new
   pub at : (key : K) → Becomes tc until from number Given_by key (find eq old key) (find eq new key)
 
@@ -88,4 +96,5 @@ pub data TcAnswer : Type 0 where
 pub data TakesTc (now : ℕ) (tc : Tc) (old : Topology) : Topology → TcAnswer → Type 0 where
   Is_old : (kept : ℕ) → IsOld old tc kept → TakesTc now tc old old (Too_old kept)
   Overfull : (kind : Kind) → ((kept : ℕ) → IsOld old tc kept → ⊥) → first_overfull old tc ≡ Some kind → TakesTc now tc old old (Full_of kind)
-  Takes : {new : Topology} → ((kept : ℕ) → IsOld old tc kept → ⊥) → first_overfull old tc ≡ None → AfterTc now tc old new → TakesTc now tc old new Taken
+  Takes : {new : Topology} → ((kept : ℕ) → IsOld old tc kept → ⊥) → first_overfull old tc ≡ None → AfterTc now tc old new →
+      TakesTc now tc old new Taken

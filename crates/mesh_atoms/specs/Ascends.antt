@@ -39,8 +39,8 @@ before_trans a b c (inr x) (inl y) = inl (subst (λ (k : ℕ). k < c.addr.0) (sy
 before_trans a b c (inr x) (inr y) = inr (x.0 ∙ y.0, lt_trans x.1 y.1)
 
 -- with one row more, whose node stands before that of the first, they ascend still
-pub more_ascend : {X : Type 0} (node : X → NetAddr) (a b : X) (rest : List X) → IsBefore (node a) (node b) → AllPairs (λ r t. IsBefore (node r) (node t)) (b ∷ rest) →
-    AllPairs (λ r t. IsBefore (node r) (node t)) (a ∷ b ∷ rest)
+pub more_ascend : {X : Type 0} (node : X → NetAddr) (a b : X) (rest : List X) → IsBefore (node a) (node b) →
+    AllPairs (λ r t. IsBefore (node r) (node t)) (b ∷ rest) → AllPairs (λ r t. IsBefore (node r) (node t)) (a ∷ b ∷ rest)
 more_ascend node a b rest first up zero zero d before within = absurd (not-suc-le-zero before)
 more_ascend node a b rest first up (suc i) zero d before within = absurd (not-suc-le-zero before)
 more_ascend node a b rest first up zero (suc zero) d before within = first

@@ -50,7 +50,8 @@ IsListed hello sender a = IsSending hello sender a ⊎ TellsLocal hello a Other
 -- what the HELLO says of the link with interface i: HEARD or SYMMETRIC before LOST (RFC 6130, section 12.5)
 abbrev pub IsMyStatus : RouterSettings → ℕ → Hello → Option LinkStatus → Type 0
 IsMyStatus settings i hello None = (status : LinkStatus) → TellsMe settings i hello status → ⊥
-IsMyStatus settings i hello (Some Down) = TellsMe settings i hello Down × (TellsMe settings i hello Heard → ⊥) × (TellsMe settings i hello Symmetric → ⊥)
+IsMyStatus settings i hello (Some Down) =
+    TellsMe settings i hello Down × (TellsMe settings i hello Heard → ⊥) × (TellsMe settings i hello Symmetric → ⊥)
 IsMyStatus settings i hello (Some status) = TellsMe settings i hello status
 
 -- the metric handed in for a sender: that of its own entry, else the interface's
@@ -79,8 +80,10 @@ pub record Tells (settings : RouterSettings) (i : ℕ) (sender : Addr4) (hello :
   pub validity : told.shown.validity ≡ hello.validity
   pub status : IsMyStatus settings i hello told.shown.status
   pub link_in : (face : Interface) → slice_get settings.interfaces i ≡ Some face → IsHandedIn face sender told.shown.link_in
-  pub link_out : IsLeastMetric (λ m. (a : Addr4) × (row : HelloRow) × HasAddressOn settings i a × HasRowOf hello a row × (row.metrics.link_in ≡ Some m)) told.shown.link_out
-  pub flooding : IsTrue told.shown.selector ↔ ((a : Addr4) × (row : HelloRow) × HasAddressOn settings i a × HasRowOf hello a row × IsTrue row.mpr.flooding)
+  pub link_out : IsLeastMetric (λ m. (a : Addr4) × (row : HelloRow) × HasAddressOn settings i a × HasRowOf hello a row
+      × (row.metrics.link_in ≡ Some m)) told.shown.link_out
+  pub flooding : IsTrue told.shown.selector
+      ↔ ((a : Addr4) × (row : HelloRow) × HasAddressOn settings i a × HasRowOf hello a row × IsTrue row.mpr.flooding)
   pub routing : IsTrue told.routing ↔ ((a : Addr4) × (row : HelloRow) × HasAddress settings a × HasRowOf hello a row × IsTrue row.mpr.routing)
 
 -- What it says of others (RFC 6130, section 12.6, and RFC 7181, section 15.3)
@@ -105,4 +108,5 @@ or_else (Some m) link = Some m
 
 -- the metrics that the row shows
 abbrev pub two_hop_of : HelloRow → TwoHop
-two_hop_of row = record { metric_in = or_else row.metrics.near_in row.metrics.link_in; metric_out = or_else row.metrics.near_out row.metrics.link_out }
+two_hop_of row =
+    record { metric_in = or_else row.metrics.near_in row.metrics.link_in; metric_out = or_else row.metrics.near_out row.metrics.link_out }

@@ -69,7 +69,8 @@ Restores near now (Some e) (Some f) = Renews near now e.0 f.0 f.1
 
 -- an address of a symmetric neighbour
 abbrev pub IsSymmetricAddress : Neighbourhood → Addr4 → Type 0
-IsSymmetricAddress near a = (o : Addr4) × (n : Neighbour) × (until : ℕ) × (neighbour_at near o ≡ Some (n, until)) × IsTrue n.symmetric × Contains n.addrs a
+IsSymmetricAddress near a =
+    (o : Addr4) × (n : Neighbour) × (until : ℕ) × (neighbour_at near o ≡ Some (n, until)) × IsTrue n.symmetric × Contains n.addrs a
 
 -- the lost tuple of an address, by whether the address was and is a symmetric neighbour's; `stood` is the tuple before
 pub data SettlesLost (was is : Type 0) (until : ℕ) (stood new : Option (Lost × ℕ)) : Type 0 where
@@ -96,7 +97,9 @@ pub record LiveNeighbourhood (settings : RouterSettings) (now : ℕ) (old new : 
   pub two_hops : (i : ℕ) (key : TwoHopKey) →
       two_hop_at new i key ≡ cond (is_symmetric_at new now i key.link) (if_live now (two_hop_at old i key)) None
   pub neighbours : (o : Addr4) → Restores new now (neighbour_at old o) (neighbour_at new o)
-  pub losts : (a : Addr4) → SettlesLost (IsSymmetricAddress old a) (IsSymmetricAddress new a) (now + settings.times.neighbour_hold) (if_live now (lost_at old a)) (lost_at new a)
+  pub losts : (a : Addr4) →
+      SettlesLost (IsSymmetricAddress old a) (IsSymmetricAddress new a) (now + settings.times.neighbour_hold)
+      (if_live now (lost_at old a)) (lost_at new a)
 
 -- topology tuples that aren't expired
 pub record LiveTopology (now : ℕ) (old new : Topology) : Type 0 where

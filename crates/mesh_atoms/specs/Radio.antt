@@ -87,7 +87,8 @@ Attaches s x net c =
 -- what is true of each scenario that its reading accepts
 pub record IsSoundScenario (s : Scenario) : Type 0 where
   -- each address is one router's, on one interface
-  pub addresses : (x y i j : ℕ) (r q : RouterSettings) (a : Addr4) → Router s x r → Router s y q → HasAddressOn r i a → HasAddressOn q j a → (x ≡ y) × (i ≡ j)
+  pub addresses : (x y i j : ℕ) (r q : RouterSettings) (a : Addr4) → Router s x r → Router s y q → HasAddressOn r i a →
+      HasAddressOn q j a → (x ≡ y) × (i ≡ j)
   -- no attached network is a router's address
   pub networks : (x y c : ℕ) (net : NetAddr) (a : Addr4) → Attaches s x net c → AddressOf s y a → net ≢ host a
   -- each router has an originator
@@ -103,7 +104,8 @@ pub record IsSoundScenario (s : Scenario) : Type 0 where
 -- network that x doesn't attach, by way of a gateway
 pub data RadioLeast (s : Scenario) (x : ℕ) : NetAddr → ℕ → Type 0 where
   To_router : {y c : ℕ} {a : Addr4} → y ≢ x → AddressOf s y a → LeastWilling (Hop s) (Willing s) x y c → RadioLeast s x (host a) c
-  To_network : {net : NetAddr} {c : ℕ} → ((k : ℕ) → Attaches s x net k → ⊥) → LeastToNet (Hop s) (Willing s) (Attaches s) x net c → RadioLeast s x net c
+  To_network : {net : NetAddr} {c : ℕ} → ((k : ℕ) → Attaches s x net k → ⊥) → LeastToNet (Hop s) (Willing s) (Attaches s) x net c →
+      RadioLeast s x net c
 
 -- the radio graph as a value: one pair for each direction of two joined interfaces, and for each router the least number among
 -- those that it is joined with

@@ -32,7 +32,8 @@ pub record IsRoutingGraph (s : State) (g : NeighbourGraph) : Type 0 where
 -- the metric to a neighbour over interface i: the least known one of its SYMMETRIC links there
 abbrev pub IsMetricOver : State → ℕ → ℕ → Neighbour → Metric → Type 0
 IsMetricOver s now i n m =
-    IsLeastMetric (λ k. (key : LinkKey) × (link : Link) × HasLink s i key link × Contains n.addrs key.addr × (state_of link now ≡ Is_symmetric) × (link.link_out ≡ Some k)) (Some m)
+    IsLeastMetric (λ k. (key : LinkKey) × (link : Link) × HasLink s i key link × Contains n.addrs key.addr
+    × (state_of link now ≡ Is_symmetric) × (link.link_out ≡ Some k)) (Some m)
 
 -- the graph for the flooding relays of interface i (RFC 7181, section 18.4): neighbours by the metrics to them over i, and each
 -- 2-hop tuple of i by the neighbour's metric to it

@@ -71,7 +71,8 @@ pub record IsNextHop (s : State) (now : ℕ) (self : NetAddr) (row : Route) : Ty
 -- reaches, at the least cost, in ascending order of destination
 pub record AreRoutes (s : State) (now : ℕ) (self : Addr4) : Type 0 where
   pub is_self : IsOriginator s.settings self
-  pub reached : (node : NetAddr) (c : ℕ) → Walk (RouteArc s) (host self) node c → IsOutside s node → (row : Route) × Contains s.routes row × (row.dest ≡ node)
+  pub reached : (node : NetAddr) (c : ℕ) → Walk (RouteArc s) (host self) node c → IsOutside s node →
+      (row : Route) × Contains s.routes row × (row.dest ≡ node)
   pub outside : (row : Route) → Contains s.routes row → IsOutside s row.dest
   pub least : (row : Route) → Contains s.routes row → Least (RouteArc s) (host self) row.dest row.metric
   pub parent : (row : Route) → Contains s.routes row → IsParent s (host self) row.parent row.dest

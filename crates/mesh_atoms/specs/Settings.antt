@@ -29,7 +29,9 @@ pub record IsInterval (ticks : ℕ) : Type 0 where
   pub most : ticks ≤ one_hour
 
 -- the intervals and hold times of a router, and the hop limit of its TCs
-pub record IsTimes (hello hold link_hold neighbour_hold tc topology_hold advertised_hold received_hold processed_hold forwarded_hold tc_hop_limit : ℕ) : Type 0 where
+pub record IsTimes
+    (hello hold link_hold neighbour_hold tc topology_hold advertised_hold received_hold processed_hold forwarded_hold tc_hop_limit : ℕ) :
+    Type 0 where
   pub hello_range : IsInterval hello
   pub hold_range : IsInterval hold
   pub link_hold_range : IsInterval link_hold
@@ -140,7 +142,8 @@ is_interface counts router iface = nat_lt iface (slice_index counts router)
 
 -- an arc joins interfaces of two different routers
 abbrev pub joins_routers : List ℕ → Ends → Bool
-joins_routers counts ends = is_interface counts ends.from ends.from_iface && (is_interface counts ends.to ends.to_iface && not (nat_eq ends.from ends.to))
+joins_routers counts ends =
+    is_interface counts ends.from ends.from_iface && (is_interface counts ends.to ends.to_iface && not (nat_eq ends.from ends.to))
 
 -- a scenario's 1 to 64 routers: their names, and their addresses and networks over all routers
 pub record AreRouters (names : List (List ℕ)) (addrs : List Addr4) (nets : List NetAddr) : Type 0 where

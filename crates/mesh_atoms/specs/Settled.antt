@@ -99,22 +99,27 @@ pub record IsSettledAt (s : Scenario) (states : List State) (now x : ℕ) (p : S
   pub link_to : (i y j : ℕ) (q : State) (there back : Metric) → At states y q → Joins s x i y j there back →
       (key : LinkKey) × (link : Link) × HasLink p i key link × (state_of link now ≡ Is_symmetric) × IsLinkTo p q i j now there back key link
   pub neighbour_from : (o : Addr4) (n : Neighbour) → HasSymmetric p o n →
-      (y : ℕ) × (q : State) × (there back : Metric) × At states y q × IsMetric s x y there × IsMetric s y x back × IsNeighbourOf p q now there back o n
+      (y : ℕ) × (q : State) × (there back : Metric) × At states y q × IsMetric s x y there × IsMetric s y x back
+      × IsNeighbourOf p q now there back o n
   pub neighbour_to : (y : ℕ) (q : State) → At states y q → Adjacent s x y →
-      (o : Addr4) × (n : Neighbour) × (there back : Metric) × HasSymmetric p o n × IsMetric s x y there × IsMetric s y x back × IsNeighbourOf p q now there back o n
+      (o : Addr4) × (n : Neighbour) × (there back : Metric) × HasSymmetric p o n × IsMetric s x y there × IsMetric s y x back
+      × IsNeighbourOf p q now there back o n
   pub two_hop_from : (i : ℕ) (key : TwoHopKey) (t : TwoHop) → HasTwoHop p i key t →
       (y j : ℕ) × (q : State) × (there back : Metric) × At states y q × Joins s x i y j there back × IsTwoHopBy p q j now key t
   pub two_hop_to : (i y j : ℕ) (q : State) (there back : Metric) (key : TwoHopKey) (t : TwoHop) → At states y q → Joins s x i y j there back →
       IsTwoHopBy p q j now key t → HasTwoHop p i key t
   pub router_from : (key : RouterKey) (t : RouterTuple) → Has p.bases.topology.routers key t →
       IsStray s x key.from ⊎ ((w : ℕ) × (q : State) × IsPeer s states x w q × IsRouterBy q key t)
-  pub router_to : (w : ℕ) (q : State) (key : RouterKey) (t : RouterTuple) → IsPeer s states x w q → IsRouterBy q key t → Has p.bases.topology.routers key t
+  pub router_to : (w : ℕ) (q : State) (key : RouterKey) (t : RouterTuple) → IsPeer s states x w q → IsRouterBy q key t →
+      Has p.bases.topology.routers key t
   pub address_from : (key : AddressKey) (t : AddressTuple) → Has p.bases.topology.addresses key t →
       IsStray s x key.from ⊎ ((w : ℕ) × (q : State) × IsPeer s states x w q × IsAddressBy q key t)
-  pub address_to : (w : ℕ) (q : State) (key : AddressKey) (t : AddressTuple) → IsPeer s states x w q → IsAddressBy q key t → Has p.bases.topology.addresses key t
+  pub address_to : (w : ℕ) (q : State) (key : AddressKey) (t : AddressTuple) → IsPeer s states x w q → IsAddressBy q key t →
+      Has p.bases.topology.addresses key t
   pub network_from : (key : NetworkKey) (t : NetworkTuple) → Has p.bases.topology.networks key t →
       IsStray s x key.from ⊎ ((w : ℕ) × (q : State) × IsPeer s states x w q × IsNetworkBy q key t)
-  pub network_to : (w : ℕ) (q : State) (key : NetworkKey) (t : NetworkTuple) → IsPeer s states x w q → IsNetworkBy q key t → Has p.bases.topology.networks key t
+  pub network_to : (w : ℕ) (q : State) (key : NetworkKey) (t : NetworkTuple) → IsPeer s states x w q → IsNetworkBy q key t →
+      Has p.bases.topology.networks key t
 
 -- the states are those of the scenario's routers
 pub record AreStates (s : Scenario) (states : List State) : Type 0 where

@@ -35,15 +35,17 @@ pub record IsSoundLink (now : ℕ) (key : LinkKey) (link : Link) : Type 0 where
   pub selector : is_symmetric link now ≡ false → link.selector ≡ false
 
 -- a neighbour is as its links have it, a selector only where it is symmetric, and has none of the router's own addresses
-pub record IsSoundNeighbour (settings : RouterSettings) (near : Neighbourhood) (now : ℕ) (originator : Addr4) (n : Neighbour) (until : ℕ) : Type 0 where
+pub record IsSoundNeighbour (settings : RouterSettings) (near : Neighbourhood) (now : ℕ) (originator : Addr4) (n : Neighbour)
+    (until : ℕ) : Type 0 where
   pub ascending : IsAscending n.addrs
   pub by_links : IsByLinks near now n until
   pub selector : IsTrue n.selector → IsTrue n.symmetric
   pub not_mine : HasAddress settings originator → ⊥
   pub none_mine : (a : Addr4) → Contains n.addrs a → HasAddress settings a → ⊥
 
--- a sound neighbourhood: links are as their qualities have them; links of one interface have disjoint addresses, which are all among one neighbour's; neighbours have
--- disjoint addresses; 2-hop tuples have a SYMMETRIC link; lost addresses are no symmetric neighbour's
+-- a sound neighbourhood: links are as their qualities have them; links of one interface have disjoint addresses, which are all
+-- among one neighbour's; neighbours have disjoint addresses; 2-hop tuples have a SYMMETRIC link; lost addresses are no symmetric
+-- neighbour's
 pub record SoundNeighbourhood (settings : RouterSettings) (now : ℕ) (near : Neighbourhood) : Type 0 where
   pub interfaces : length near.links ≡ length settings.interfaces
   pub two_hop_interfaces : length near.two_hops ≡ length settings.interfaces

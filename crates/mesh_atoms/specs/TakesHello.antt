@@ -58,7 +58,8 @@ AreTwoHopRows settings told hello count =
 
 -- with the 2-hop tuples of interface i these are more than 16,384
 abbrev pub IsFullOfTwoHops : RouterSettings → ℕ → Neighbourhood → Told → Hello → Type 0
-IsFullOfTwoHops settings i near told hello = (count : ℕ) × AreTwoHopRows settings told hello count × (16384 < length (base_of near.two_hops i) + count)
+IsFullOfTwoHops settings i near told hello =
+    (count : ℕ) × AreTwoHopRows settings told hello count × (16384 < length (base_of near.two_hops i) + count)
 
 -- they are no more than that
 abbrev pub FitsTwoHops : RouterSettings → ℕ → Neighbourhood → Told → Hello → Type 0
@@ -74,11 +75,13 @@ pub data HelloAnswer : Type 0 where
   Full_of_two_hops : HelloAnswer
 
 -- the taking of a HELLO on interface i, with its answer; only a HELLO that is taken changes anything
-pub data TakesHello (settings : RouterSettings) (now i : ℕ) (sender : Addr4) (hello : Hello) (old : Neighbourhood) : Neighbourhood → HelloAnswer → Type 0 where
+pub data TakesHello (settings : RouterSettings) (now i : ℕ) (sender : Addr4) (hello : Hello) (old : Neighbourhood) :
+    Neighbourhood → HelloAnswer → Type 0 where
   Breaks : (number : ℕ) → IsFault settings sender hello (Some number) → TakesHello settings now i sender hello old old (Broken_at number)
   Overfull : (told : Told) → IsFault settings sender hello None → Tells settings i sender hello told → IsFullOfAddresses old told →
       TakesHello settings now i sender hello old old Full_of_addresses
   Overfull_two_hops : (told : Told) → IsFault settings sender hello None → Tells settings i sender hello told → (IsFullOfAddresses old told → ⊥) →
       IsFullOfTwoHops settings i old told hello → TakesHello settings now i sender hello old old Full_of_two_hops
-  Takes : {new : Neighbourhood} (told : Told) → IsFault settings sender hello None → Tells settings i sender hello told → (IsFullOfAddresses old told → ⊥) →
+  Takes : {new : Neighbourhood} (told : Told) → IsFault settings sender hello None → Tells settings i sender hello told →
+      (IsFullOfAddresses old told → ⊥) →
       FitsTwoHops settings i old told hello → AfterHello settings now i told hello old new → TakesHello settings now i sender hello old new Taken

@@ -132,7 +132,8 @@ fn take_packet<B: Bases>(
     requires iface { arrival.iface < length holding.old.settings.interfaces }
     requires sound { Sound (state_of holding.old derived.old) }
     requires spelled { Spells (fields_of_packet decoded.now.packet) decoded.now.spans bytes.now }
-    ensures hears { IfOk result (λ fates. (sent : List Frame) × (out.new ≡ out.old ++ sent) × HearsPacket (state_of holding.old derived.old) arrival bytes.now fates sent (state_of holding.new derived.new)) }
+    ensures hears { IfOk result (λ fates. (sent : List Frame) × (out.new ≡ out.old ++ sent)
+        × HearsPacket (state_of holding.old derived.old) arrival bytes.now fates sent (state_of holding.new derived.new)) }
     ensures wanting { OnErr result (out.new ≡ out.old) }
 {
     let mut fates = Seq::new(alloc);

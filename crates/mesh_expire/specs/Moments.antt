@@ -20,8 +20,11 @@ until_of entry = option_map (λ e. e.1) entry
 
 -- the set has exactly the pair of each entry
 abbrev pub Tells : {K V : Type 0} → (K → K → Bool) → (K → K → Ordering) → BTreeSet (ℕ × K) → Base K V → Type 0
-Tells {K} eq cmp moments base = (moment : ℕ) (key : K) → contains (moment_cmp cmp) moments (moment, key) ≡ is_moment (until_of (find eq base key)) moment
+Tells {K} eq cmp moments base =
+    (moment : ℕ) (key : K) → contains (moment_cmp cmp) moments (moment, key) ≡ is_moment (until_of (find eq base key)) moment
 
 -- the set has the keys' pairs as before, and at that key those moments
 abbrev pub SetsMoment : {K : Type 0} → (K → K → Bool) → (K → K → Ordering) → BTreeSet (ℕ × K) → BTreeSet (ℕ × K) → K → Option ℕ → Type 0
-SetsMoment {K} eq cmp old new key until = (moment : ℕ) (q : K) → contains (moment_cmp cmp) new (moment, q) ≡ cond (eq key q) (is_moment until moment) (contains (moment_cmp cmp) old (moment, q))
+SetsMoment {K} eq cmp old new key until =
+    (moment : ℕ) (q : K) →
+    contains (moment_cmp cmp) new (moment, q) ≡ cond (eq key q) (is_moment until moment) (contains (moment_cmp cmp) old (moment, q))

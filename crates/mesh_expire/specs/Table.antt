@@ -19,7 +19,8 @@ changed_at eq base key change = map (λ e. (e.0, cond (eq key e.0) (change e.1) 
 
 -- once the borrow r ends, the table has at that key the last record written through r, and where there is no such key
 -- it stays as it is
-abbrev pub LendsValue : (T V : RattleType) {K : Type 0} → (T.Denot → Base K V.Denot) → (K → K → Bool) → K → MutBor T.Denot → Option (MutBor V.Denot) → Fml
+abbrev pub LendsValue : (T V : RattleType) {K : Type 0} → (T.Denot → Base K V.Denot) → (K → K → Bool) → K → MutBor T.Denot →
+    Option (MutBor V.Denot) → Fml
 LendsValue T V content eq key table r =
     LendsSo T V table r (λ n w. content n ≡ changed_at eq (content table.now) key (λ e. (w, e.1))) (λ n. content n ≡ content table.now)
 

@@ -32,7 +32,8 @@ impl<K: Key + Ord + Hash, V> Model for IndexTable<K, V> {
 
 // Takes out the pair that ends first, where its moment is at or below now, and gives its key.
 fn take_expired<K: Key + Ord + Drop>(moments: &mut BTreeSet<(u64, K)>, now: u64) -> Option<K>
-    ensures some { IfSome result (λ key. (moment : ℕ) × (moment ≤ now) × IsTrue (contains (moment_cmp K.cmp) moments.old (moment, key)) × Updates (moment_cmp K.cmp) moments.old moments.new (moment, key) false) }
+    ensures some { IfSome result (λ key. (moment : ℕ) × (moment ≤ now) × IsTrue (contains (moment_cmp K.cmp) moments.old (moment, key))
+        × Updates (moment_cmp K.cmp) moments.old moments.new (moment, key) false) }
     ensures none { IfNone result (IsUnchanged moments.old moments.new) }
     ensures rest { IfNone result ((moment : ℕ) (key : K) → IsTrue (contains (moment_cmp K.cmp) moments.old (moment, key)) → now < moment) }
     ensures len { btree_set_len moments.new + (if is_some result then 1 else 0) ≡ btree_set_len moments.old }

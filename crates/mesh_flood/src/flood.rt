@@ -99,7 +99,8 @@ impl<B: Bases> Flood<B> {
     ) -> Result<(), AllocError>
         requires iface { iface < length self.old.noted.received }
         requires now { now < 2 ^ 62 }
-        requires judged { (own : Addr4) × (link : Option Bool) × (verdict.now.process ≡ process_of own heading.now self.old.noted) × (verdict.now.forward ≡ forward_of iface own heading.now link self.old.noted) }
+        requires judged { (own : Addr4) × (link : Option Bool) × (verdict.now.process ≡ process_of own heading.now self.old.noted)
+            × (verdict.now.forward ≡ forward_of iface own heading.now link self.old.noted) }
         requires processed { IsTrue processed → verdict.now.process ≡ Process.Do }
         ensures ok { OnOk result (AfterNote self.old.times now iface heading.now processed verdict.now.forward self.old.noted self.new.noted) }
         ensures times { self.new.times ≡ self.old.times }

@@ -108,7 +108,8 @@ impl<B: Bases> Holding<B> {
         requires now { arrival.now < 2 ^ 62 }
         requires iface { arrival.iface < length self.old.settings.interfaces }
         requires sound { SoundBases self.old.settings arrival.now self.old.bases }
-        ensures taken { IfOk result (λ made. (own : Addr4) (octets : List ℕ) → TakesMessage self.old.settings own arrival self.old.bases (fields_of_message message.now) octets self.new.bases [] made.0) }
+        ensures taken { IfOk result (λ made. (own : Addr4) (octets : List ℕ)
+            → TakesMessage self.old.settings own arrival self.old.bases (fields_of_message message.now) octets self.new.bases [] made.0) }
         ensures quiet { IfOk result (λ made. IsTrue made.1 → IsQuiet self.old.bases self.new.bases) }
         ensures settings { self.new.settings ≡ self.old.settings }
     {
@@ -144,7 +145,8 @@ impl<B: Bases> Holding<B> {
         requires now { arrival.now < 2 ^ 62 }
         requires iface { arrival.iface < length self.old.bases.noted.received }
         requires spelled { SpellsMessage (fields_of_message message.now) octets.now }
-        ensures taken { IfOk result (λ made. (sent : List Frame) × (out.new ≡ out.old ++ sent) × TakesMessage self.old.settings own arrival self.old.bases (fields_of_message message.now) octets.now self.new.bases sent made.0) }
+        ensures taken { IfOk result (λ made. (sent : List Frame) × (out.new ≡ out.old ++ sent)
+            × TakesMessage self.old.settings own arrival self.old.bases (fields_of_message message.now) octets.now self.new.bases sent made.0) }
         ensures quiet { IfOk result (λ made. IsTrue made.1 → IsQuiet self.old.bases self.new.bases) }
         ensures settings { self.new.settings ≡ self.old.settings }
     {
@@ -186,7 +188,8 @@ impl<B: Bases> Holding<B> {
         requires now { arrival.now < 2 ^ 62 }
         requires iface { arrival.iface < length self.old.bases.noted.received }
         requires spelled { SpellsMessage (fields_of_message message.now) octets.now }
-        ensures taken { IfOk result (λ fate. (sent : List Frame) × (out.new ≡ out.old ++ sent) × TakesMessage self.old.settings own arrival self.old.bases (fields_of_message message.now) octets.now self.new.bases sent fate) }
+        ensures taken { IfOk result (λ fate. (sent : List Frame) × (out.new ≡ out.old ++ sent)
+            × TakesMessage self.old.settings own arrival self.old.bases (fields_of_message message.now) octets.now self.new.bases sent fate) }
         ensures quiet { OnOk result (IsQuiet self.old.bases self.new.bases) }
         ensures settings { self.new.settings ≡ self.old.settings }
     {
@@ -229,7 +232,8 @@ impl<B: Bases> Holding<B> {
         requires iface { arrival.iface < length self.old.settings.interfaces }
         requires sound { SoundBases self.old.settings arrival.now self.old.bases }
         requires spelled { SpellsMessage (fields_of_message message.now) octets.now }
-        ensures taken { IfOk result (λ made. (sent : List Frame) × (out.new ≡ out.old ++ sent) × TakesMessage self.old.settings own arrival self.old.bases (fields_of_message message.now) octets.now self.new.bases sent made.0) }
+        ensures taken { IfOk result (λ made. (sent : List Frame) × (out.new ≡ out.old ++ sent)
+            × TakesMessage self.old.settings own arrival self.old.bases (fields_of_message message.now) octets.now self.new.bases sent made.0) }
         ensures quiet { IfOk result (λ made. IsTrue made.1 → IsQuiet self.old.bases self.new.bases) }
         ensures settings { self.new.settings ≡ self.old.settings }
     {

@@ -26,7 +26,9 @@ OwnsMore old new addrs key = (a : Addr4) → (owner_of new a ≡ owner_of old a)
 
 -- each link was there, with the same addresses
 abbrev pub IsFewer : Base LinkKey Link → Base LinkKey Link → Type 0
-IsFewer old new = (key : LinkKey) (e : Link × ℕ) → find link_eq new key ≡ Some e → (f : Link × ℕ) × (find link_eq old key ≡ Some f) × (f.0.addrs ≡ e.0.addrs)
+IsFewer old new =
+    (key : LinkKey) (e : Link × ℕ) → find link_eq new key ≡ Some e →
+    (f : Link × ℕ) × (find link_eq old key ≡ Some f) × (f.0.addrs ≡ e.0.addrs)
 
 -- what stood at a key stands there, or had the property and is gone
 abbrev pub IsLeft : {A : Type 0} → (A → Type 0) → Option A → Option A → Type 0

@@ -121,7 +121,8 @@ fn renew_at<T: Table<LinkKey, Link>>(
     requires owned { Owned owners.now.entries (T.content table.old) }
     requires mine { OwnsAll owners.now.entries shown.now.sending key }
     requires first { slice_get shown.now.sending 0 ≡ Some key.addr }
-    ensures ok { OnOk result ((start : Link × ℕ) × Begins rule.now shown.now now (find link_eq (T.content table.old) key) start × SetsOnly link_eq (T.content table.old) (T.content table.new) key (Some (renewed shown.now hold now start))) }
+    ensures ok { OnOk result ((start : Link × ℕ) × Begins rule.now shown.now now (find link_eq (T.content table.old) key) start
+        × SetsOnly link_eq (T.content table.old) (T.content table.new) key (Some (renewed shown.now hold now start))) }
     ensures room { HasRoom (T.content table.new) }
     ensures distinct { HasDistinctKeys link_eq (T.content table.new) }
     ensures owned { Owned owners.now.entries (T.content table.new) }

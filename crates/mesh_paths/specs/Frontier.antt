@@ -37,7 +37,8 @@ abbrev pub work_in : RowMap → List Arc4 → List Step → ℕ
 work_in map arcs steps = length steps + 2 * weight_in map arcs
 
 -- arcs are offered: what was met or waits still does so, and so does each of them
-pub record OffersAll (map : RowMap) (steps : List Step) (arcs : List Arc4) (from : NetAddr) (first : PathRow) (run : List Arc4) (map' : RowMap) (steps' : List Step) : Type 0 where
+pub record OffersAll (map : RowMap) (steps : List Step) (arcs : List Arc4) (from : NetAddr) (first : PathRow) (run : List Arc4)
+    (map' : RowMap) (steps' : List Step) : Type 0 where
   pub taking : IsTaking map' arcs from first steps'
   pub carried : (a : Arc4) → IsMetOrWaits map steps a → IsMetOrWaits map' steps' a
   pub done : (a : Arc4) → Contains run a → IsMetOrWaits map' steps' a

@@ -39,11 +39,14 @@ IsMetIn map arc = (row : PathRow) → IsSettledRow map row → row.node ≡ arc.
 pub record Betters (old : RowMap) (row : PathRow) (new : RowMap) : Type 0 where
   pub has : tree.get net_cmp new row.node ≡ Some row
   pub others : (node : NetAddr) → node ≢ row.node → tree.get net_cmp new node ≡ tree.get net_cmp old node
-  pub better : (before : PathRow) → tree.get net_cmp old row.node ≡ Some before → (row.metric < before.metric) ⊎ ((row.metric ≡ before.metric) × IsBefore row.parent before.parent)
+  pub better : (before : PathRow) → tree.get net_cmp old row.node ≡ Some before →
+      (row.metric < before.metric) ⊎ ((row.metric ≡ before.metric) × IsBefore row.parent before.parent)
 
 -- the row is what the arc offers from a row of the map
 abbrev pub IsOfferBy : RowMap → Arc4 → PathRow → Type 0
-IsOfferBy map arc row = (first : PathRow) × IsSettledRow map first × (first.node ≡ arc.from) × (first.node ≡ row.parent) × (arc.to ≡ row.node) × (first.metric + arc.metric ≡ row.metric)
+IsOfferBy map arc row =
+    (first : PathRow) × IsSettledRow map first × (first.node ≡ arc.from) × (first.node ≡ row.parent) × (arc.to ≡ row.node)
+    × (first.metric + arc.metric ≡ row.metric)
 
 -- a row of the node is as good as this
 abbrev pub HasAsGood : RowMap → NetAddr → ℕ → NetAddr → Type 0

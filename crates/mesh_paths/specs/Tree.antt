@@ -43,7 +43,9 @@ IsStep parent row arc = (arc.from ≡ parent.node) × (arc.to ≡ row.node) × (
 
 -- some arc from the row of its parent offers the row
 abbrev pub IsReached : List Arc4 → List PathRow → PathRow → Type 0
-IsReached arcs rows row = (parent : PathRow) × Contains rows parent × (parent.node ≡ row.parent) × ((arc : Arc4) × Contains arcs arc × IsStep parent row arc)
+IsReached arcs rows row =
+    (parent : PathRow) × Contains rows parent × (parent.node ≡ row.parent)
+    × ((arc : Arc4) × Contains arcs arc × IsStep parent row arc)
 
 -- the row is offered
 abbrev pub IsOffered : List Arc4 → NetAddr → List PathRow → PathRow → Type 0

@@ -64,7 +64,8 @@ fn hear_all<R: Hearer>(
 ) -> Result<Vec<Transmission>, AllocError>
     requires early { now < 2 ^ 62 }
     requires routers { CanHear scenario.now (map R.state routers.old) now }
-    ensures hear { IfOk result (λ sent. AllHear now sender frame.now.frame.bytes (hearers_of scenario.now.arcs frame.now.router frame.now.frame.iface) (map R.state routers.old) (map R.state routers.new) sent.items) }
+    ensures hear { IfOk result (λ sent. AllHear now sender frame.now.frame.bytes
+        (hearers_of scenario.now.arcs frame.now.router frame.now.frame.iface) (map R.state routers.old) (map R.state routers.new) sent.items) }
     ensures routers { OnOk result (CanHear scenario.now (map R.state routers.new) now) }
     ensures sent { IfOk result (λ sent. All (IsOfInterface scenario.now) sent.items) }
 {

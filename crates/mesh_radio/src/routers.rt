@@ -23,7 +23,9 @@ pub(crate) fn hear<B: Bases>(
 ) -> Result<(), AllocError>
     requires core { (core : CoreValue) × (slice_get cores.old.items arc.now.to ≡ Some core) × (core.state.last ≤ landed.now.moment) × (arc.now.to_iface < length core.state.settings.interfaces) }
     requires early { landed.now.moment < 2 ^ 62 }
-    ensures stepped { OnOk result (Stepped (states_of cores.old.items) (states_of cores.new.items) arc.now.to landed.now.moment (Hear (record { now = landed.now.moment; iface = arc.now.to_iface; sender = sender }) landed.now.frame.value) outbox.new (λ before after. after ≡ before)) }
+    ensures stepped { OnOk result (Stepped (states_of cores.old.items) (states_of cores.new.items) arc.now.to landed.now.moment
+        (Hear (record { now = landed.now.moment; iface = arc.now.to_iface; sender = sender }) landed.now.frame.value)
+        outbox.new (λ before after. after ≡ before)) }
 {
     outbox.clear();
     let core = &mut cores[arc.to];

@@ -19,7 +19,9 @@ pub(crate) fn next_event<B: Bases>(
     scene: &mut Scene,
 ) -> Result<Option<NetEvent>, AllocError>
     requires sound { IsSound (states_of cores.old.items) scene.old }
-    ensures step { IfOk result (λ e. MatchOption e (IsOver (net_of cores.old.items scene.old) × (net_of cores.new.items scene.new ≡ net_of cores.old.items scene.old)) (λ event. NetStep (net_of cores.old.items scene.old) event (net_of cores.new.items scene.new))) }
+    ensures step { IfOk result (λ e. MatchOption e (IsOver (net_of cores.old.items scene.old)
+        × (net_of cores.new.items scene.new ≡ net_of cores.old.items scene.old))
+        (λ event. NetStep (net_of cores.old.items scene.old) event (net_of cores.new.items scene.new))) }
     ensures named { IfOk result (λ e. IfSome e (IsOfScenario scene.old.scenario)) }
     ensures packets { IfOk result (λ e. IfSome e IsOfPackets) }
     ensures sound { OnOk result (IsSound (states_of cores.new.items) scene.new) }
@@ -43,7 +45,9 @@ fn hear_next<B: Bases>(
     scene: &mut Scene,
 ) -> Result<Option<NetEvent>, AllocError>
     requires sound { IsSound (states_of cores.old.items) scene.old }
-    ensures hears { IfOk result (λ e. MatchOption e ((cores.new.items ≡ cores.old.items) × (scene.new ≡ scene.old) × All (λ d. min scene.old.due.moment scene.old.scenario.end < d.moment) scene.old.traffic.air) (λ event. Delivers (net_of cores.old.items scene.old) event (net_of cores.new.items scene.new))) }
+    ensures hears { IfOk result (λ e. MatchOption e ((cores.new.items ≡ cores.old.items) × (scene.new ≡ scene.old)
+        × All (λ d. min scene.old.due.moment scene.old.scenario.end < d.moment) scene.old.traffic.air)
+        (λ event. Delivers (net_of cores.old.items scene.old) event (net_of cores.new.items scene.new))) }
     ensures named { IfOk result (λ e. IfSome e (IsOfScenario scene.old.scenario)) }
     ensures packets { IfOk result (λ e. IfSome e IsOfPackets) }
     ensures sound { OnOk result (IsSound (states_of cores.new.items) scene.new) }

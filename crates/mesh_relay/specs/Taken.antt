@@ -41,7 +41,8 @@ abbrev pub IsBest : List ℕ → List Bool → ℕ → Option ℕ → Type 0
 IsBest gains taken many None = (k : ℕ) → k < many → IsTaken taken k
 IsBest gains taken many (Some best) =
     (best < many) × (slice_index_or taken best false ≡ false)
-    × ((k : ℕ) → k < many → slice_index_or taken k false ≡ false → (slice_index gains k < slice_index gains best) ⊎ ((slice_index gains k ≡ slice_index gains best) × (best ≤ k)))
+    × ((k : ℕ) → k < many → slice_index_or taken k false ≡ false →
+    (slice_index gains k < slice_index gains best) ⊎ ((slice_index gains k ≡ slice_index gains best) × (best ≤ k)))
 
 -- each address has a way by a neighbour that is taken
 abbrev pub reaches : List Way → List Bool → Bool

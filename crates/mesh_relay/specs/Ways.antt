@@ -48,7 +48,8 @@ RisesFrom low (w ∷ ws) = (low ≤ w.addr.0) × RisesFrom w.addr.0 ws
 -- the ways are the cheapest ones, and each entry has one or a direct entry that is as cheap
 pub record AreWays (g : NeighbourGraph) (willing : List Near) (ways : List Way) : Type 0 where
   pub each : (w : Way) → Contains ways w → IsCheapest g willing w
-  pub rest : (n : Near) (f : Far) → Contains willing n → Contains g.far f → n.id ≡ f.via → IsDirect g f.addr (n.cost + f.cost) ⊎ HasWay willing ways n f
+  pub rest : (n : Near) (f : Far) → Contains willing n → Contains g.far f → n.id ≡ f.via →
+      IsDirect g f.addr (n.cost + f.cost) ⊎ HasWay willing ways n f
   pub order : RisesFrom 0 ways
 
 -- the way that the entry gives by the neighbour at that place, and none where a direct entry is as cheap
@@ -81,7 +82,8 @@ adds_nothing next last = addr_eq next.addr last.addr && (nat_lt last.cost next.c
 -- the address is reached, or one of the ways that go on to it passes the test; and each later address has a way that passes
 abbrev pub reached_on : (Way → Bool) → Addr4 → Bool → List Way → Bool
 reached_on test y reached [] = reached
-reached_on test y reached (w ∷ ws) = cond (addr_eq w.addr y) (reached_on test y (reached || test w) ws) (reached && reached_on test w.addr (test w) ws)
+reached_on test y reached (w ∷ ws) =
+    cond (addr_eq w.addr y) (reached_on test y (reached || test w) ws) (reached && reached_on test w.addr (test w) ws)
 
 -- each address has a way that passes the test
 abbrev pub reaches_all : (Way → Bool) → List Way → Bool

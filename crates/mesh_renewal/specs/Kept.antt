@@ -9,5 +9,6 @@ use Rattle.mesh_renewal.specs.Images.{ShowsNear}
 
 -- each router with that neighbourhood may have chosen these relays, at any moment
 abbrev pub AreRelaysFor : NearImage → Relays → Type 0
-AreRelaysFor image relays = (s : State) (now : ℕ) → ShowsNear image s.settings s.bases.neighbourhood → SoundNeighbourhood s.settings now s.bases.neighbourhood →
-    s.relays ≡ relays → AreRelays s now
+AreRelaysFor image relays =
+    (s : State) (now : ℕ) → ShowsNear image s.settings s.bases.neighbourhood →
+    SoundNeighbourhood s.settings now s.bases.neighbourhood → s.relays ≡ relays → AreRelays s now

@@ -19,5 +19,6 @@ pub record ShowsBasis (basis : RouteBasis) (settings : RouterSettings) (near : N
 
 -- each router with those bases and settings has these routes, at any moment
 abbrev pub AreRoutesFor : RouteBasis → List Route → Type 0
-AreRoutesFor basis routes = (s : State) (now : ℕ) → ShowsBasis basis s.settings s.bases.neighbourhood s.bases.topology → SoundNeighbourhood s.settings now s.bases.neighbourhood →
-    s.routes ≡ routes → (self : Addr4) × AreRoutes s now self
+AreRoutesFor basis routes =
+    (s : State) (now : ℕ) → ShowsBasis basis s.settings s.bases.neighbourhood s.bases.topology →
+    SoundNeighbourhood s.settings now s.bases.neighbourhood → s.routes ≡ routes → (self : Addr4) × AreRoutes s now self

@@ -34,7 +34,8 @@ IsMessagesText (message ∷ messages) [] text = ⊥
 -- a packet with its TLVs and its messages
 abbrev pub IsListed : ℕ → PacketFields → List Span → List ℕ → Type 0
 IsListed number packet spans text =
-    (messages : List ℕ) × IsMessagesText packet.messages spans messages × (text ≡ packet_line number packet ++ flat_map tlv_line packet.tlvs ++ messages)
+    (messages : List ℕ) × IsMessagesText packet.messages spans messages
+    × (text ≡ packet_line number packet ++ flat_map tlv_line packet.tlvs ++ messages)
 
 -- what a line says: a packet and where its messages stand, or the refusal
 abbrev pub line_read : LineRead → Result (PacketFields × List Span) Refusal
@@ -50,7 +51,8 @@ recode_line octets = codes " recode " ++ encode_lower octets ++ codes "\n"
 -- the last line of a packet: the packet in its least form, or `none` where that has more than 65,507 octets
 abbrev pub IsRecodeLine : PacketFields → List ℕ → Type 0
 IsRecodeLine packet line =
-    ((octets : List ℕ) × LeastForm packet octets × (length octets ≤ 65507) × (line ≡ recode_line octets)) ⊎ (IsTooLong packet × (line ≡ codes " recode none\n"))
+    ((octets : List ℕ) × LeastForm packet octets × (length octets ≤ 65507) × (line ≡ recode_line octets))
+    ⊎ (IsTooLong packet × (line ≡ codes " recode none\n"))
 
 -- what can be listed: a packet that has a place for each message and can be written again, or a refusal
 abbrev pub CanList : Result (PacketFields × List Span) Refusal → Type 0

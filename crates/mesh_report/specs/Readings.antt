@@ -21,8 +21,8 @@ hello_line hello =
 -- a TC; times are in ticks
 unfoldable pub tc_line : Tc → List ℕ
 tc_line tc =
-    (addressed_by_number (codes " reading tc originator ") tc.originator ++ numbered (codes " sequence ") tc.sequence ++ numbered (codes " ansn ") tc.ansn
-    ++ chosen (codes " complete ") tc.complete)
+    (addressed_by_number (codes " reading tc originator ") tc.originator ++ numbered (codes " sequence ") tc.sequence
+    ++ numbered (codes " ansn ") tc.ansn ++ chosen (codes " complete ") tc.complete)
     ++ (numbered (codes " validity ") tc.validity ++ numbered_or_none (codes " interval ") tc.interval)
     ++ (numbered (codes " rows ") (length tc.rows) ++ codes "\n")
 

@@ -93,7 +93,8 @@ pub fn put_tlv_line(out: &mut Bytes, line: &mut Piece, tlv: Tlv) -> Result<(), A
 // Puts what a message's line says up to its originator.
 fn put_opening(line: &mut Piece, size: usize, message: &Message)
     requires { length line.old ≤ 3776 }
-    ensures text { line.new ≡ line.old ++ (numbered (codes " message type ") message.now.kind ++ numbered (codes " width ") message.now.width ++ numbered (codes " size ") size ++ addressed_or_none (codes " originator ") message.now.width message.now.originator) }
+    ensures text { line.new ≡ line.old ++ (numbered (codes " message type ") message.now.kind ++ numbered (codes " width ") message.now.width
+        ++ numbered (codes " size ") size ++ addressed_or_none (codes " originator ") message.now.width message.now.originator) }
     ensures len { length line.new ≤ 3907 }
 {
     put_numbered(line, *b" message type ", u64::from(message.kind));
@@ -105,7 +106,8 @@ fn put_opening(line: &mut Piece, size: usize, message: &Message)
 // Puts the numbers of a message that may be absent.
 fn put_numbers(line: &mut Piece, message: &Message)
     requires { length line.old ≤ 3907 }
-    ensures text { line.new ≡ line.old ++ (numbered_or_none (codes " limit ") message.now.limit ++ numbered_or_none (codes " count ") message.now.count ++ numbered_or_none (codes " sequence ") message.now.sequence) }
+    ensures text { line.new ≡ line.old ++ (numbered_or_none (codes " limit ") message.now.limit
+        ++ numbered_or_none (codes " count ") message.now.count ++ numbered_or_none (codes " sequence ") message.now.sequence) }
     ensures len { length line.new ≤ 3992 }
 {
     put_number_or_none(line, *b" limit ", wide_octet(message.limit));

@@ -67,7 +67,8 @@ fn put_hello_line(line: &mut Piece, hello: &Hello)
 // Puts who sent a TC, by which numbers, and whether it tells all rows.
 fn put_content(line: &mut Piece, tc: &Tc)
     requires { length line.old ≤ 10 }
-    ensures text { line.new ≡ line.old ++ (addressed_by_number (codes " reading tc originator ") tc.now.originator ++ numbered (codes " sequence ") tc.now.sequence ++ numbered (codes " ansn ") tc.now.ansn ++ chosen (codes " complete ") tc.now.complete) }
+    ensures text { line.new ≡ line.old ++ (addressed_by_number (codes " reading tc originator ") tc.now.originator
+        ++ numbered (codes " sequence ") tc.now.sequence ++ numbered (codes " ansn ") tc.now.ansn ++ chosen (codes " complete ") tc.now.complete) }
     ensures len { length line.new ≤ 120 }
 {
     put_router(line, *b" reading tc originator ", tc.originator);

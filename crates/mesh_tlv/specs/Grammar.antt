@@ -126,14 +126,16 @@ pub data TlvFault (barred count : ℕ) (bytes : List ℕ) : ℕ → ℕ → Type
       → count ≤ start → TlvFault barred count bytes (2 + length ext) 6
   stop_cut : (flags start : ℕ) (ext : List ℕ) → Extends barred bytes flags ext (start ∷ []) → has flags 32 ≡ true → start < count
       → TlvFault barred count bytes (3 + length ext) 4
-  stop_wrong : (flags start stop : ℕ) (ext rest : List ℕ) → Extends barred bytes flags ext (start ∷ (stop ∷ rest)) → has flags 32 ≡ true → start < count
-      → (stop < start) ⊎ (count ≤ stop) → TlvFault barred count bytes (3 + length ext) 6
+  stop_wrong : (flags start stop : ℕ) (ext rest : List ℕ) → Extends barred bytes flags ext (start ∷ (stop ∷ rest))
+      → has flags 32 ≡ true → start < count → (stop < start) ⊎ (count ≤ stop) → TlvFault barred count bytes (3 + length ext) 6
   length_cut : (flags first last : ℕ) (head rest : List ℕ) → Indexes barred count bytes flags first last head rest → has flags 16 ≡ true
       → IsCut (has flags 8) rest → TlvFault barred count bytes (2 + length head) 4
-  length_uneven : (flags first last n : ℕ) (head len rest : List ℕ) → Indexes barred count bytes flags first last head (len ++ rest) → has flags 16 ≡ true
+  length_uneven : (flags first last n : ℕ) (head len rest : List ℕ) → Indexes barred count bytes flags first last head (len ++ rest)
+      → has flags 16 ≡ true
       → SpellsLength (has flags 8) n len → (Divides (has flags 4) first last n → ⊥) → TlvFault barred count bytes (2 + length head) 7
   value_cut : (flags first last n : ℕ) (head len rest : List ℕ) → Indexes barred count bytes flags first last head (len ++ rest) → has flags 16 ≡ true
-      → SpellsLength (has flags 8) n len → Divides (has flags 4) first last n → length rest < n → TlvFault barred count bytes (2 + length head + length len) 4
+      → SpellsLength (has flags 8) n len → Divides (has flags 4) first last n → length rest < n
+      → TlvFault barred count bytes (2 + length head + length len) 4
 
 -- the same of a block at the front of what is left of its frame or message: its length field, or an item of it
 pub data TlvsFault {A : Type 0} (Spells : A → List ℕ → Type 0) (Fault : List ℕ → ℕ → ℕ → Type 0) (bytes : List ℕ) : ℕ → ℕ → Type 0 where

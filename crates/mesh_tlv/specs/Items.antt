@@ -10,7 +10,8 @@ SpellsItems Spells (x ∷ xs) bytes = (text : List ℕ) × (rest : List ℕ) × 
 
 -- The first fault, so many octets on and for this reason: some items are spelled, and the one behind them has its first
 -- fault, counted from where it begins.
-pub record ItemsFault {A : Type 0} (Spells : A → List ℕ → Type 0) (Fault : List ℕ → ℕ → ℕ → Type 0) (bytes : List ℕ) (distance reason : ℕ) : Type 0 where
+pub record ItemsFault {A : Type 0} (Spells : A → List ℕ → Type 0) (Fault : List ℕ → ℕ → ℕ → Type 0) (bytes : List ℕ)
+    (distance reason : ℕ) : Type 0 where
   pub before : List A
   pub front : List ℕ
   pub rest : List ℕ

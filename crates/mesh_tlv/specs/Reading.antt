@@ -30,7 +30,8 @@ index_octet_at low count frame at end = do
 unfoldable pub indexes_at : ℕ → ℕ → List ℕ → ℕ → ℕ → Reading (ℕ × ℕ)
 indexes_at flags count frame at end =
     if has flags 64 then (index_octet_at 0 count frame at end >>= λ start. Ok ((start.0, start.0), start.1))
-    else if has flags 32 then (index_octet_at 0 count frame at end >>= λ start. index_octet_at start.0 count frame start.1 end >>= λ stop. Ok ((start.0, stop.0), stop.1))
+    else if has flags 32 then (index_octet_at 0 count frame at end >>= λ start.
+    index_octet_at start.0 count frame start.1 end >>= λ stop. Ok ((start.0, stop.0), stop.1))
     else Ok ((0, count - 1), at)
 
 -- the length of a value

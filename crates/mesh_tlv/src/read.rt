@@ -226,7 +226,9 @@ pub fn read_addr_tlvs<'a>(
     ensures fit { IfOk result (λ x. All (IsFit count) (map addr_fields x.0)) }
 
     // TLVs that the octets spell are read, whatever follows.
-    ensures only { (tlvs : List AddrTlvFields) (bytes rest : List ℕ) → SpellsAddrTlvBlock count tlvs bytes → slice_range frame.now at end ≡ bytes ++ rest → Gives addr_block_fields result (Ok (tlvs, at + length bytes)) }
+    ensures only { (tlvs : List AddrTlvFields) (bytes rest : List ℕ) → SpellsAddrTlvBlock count tlvs bytes
+        → slice_range frame.now at end ≡ bytes ++ rest
+        → Gives addr_block_fields result (Ok (tlvs, at + length bytes)) }
 
     // What is refused has its first fault there.
     ensures refused { IfErr result (IfRefused (FirstFault (AddrTlvBlockFault count) frame.now at end)) }

@@ -14,4 +14,5 @@ Key = NetAddr × ℕ
 pub record AreCollected (entries : List Entry) (rows : List AddressParts) : Type 0 where
   pub ascending : AllPairs (λ (a b : AddressParts). IsBefore a.net b.net) rows
   pub each : (told : AddressParts) → Contains rows told → collected told.net entries None ≡ Some told.parts
-  pub all : (net : NetAddr) (parts : RowParts) → collected net entries None ≡ Some parts → (told : AddressParts) × Contains rows told × (told.net ≡ net)
+  pub all : (net : NetAddr) (parts : RowParts) → collected net entries None ≡ Some parts →
+      (told : AddressParts) × Contains rows told × (told.net ≡ net)

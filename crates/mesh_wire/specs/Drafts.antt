@@ -51,7 +51,8 @@ saying kind ext octets = record { kind = kind; ext = ext; value = Some octets }
 -- the message TLVs: the validity, the first of the other octets as interval where there is one, and those behind it
 abbrev pub heading_of : List ℕ → List ℕ → Bool → ℕ → ℕ → List TlvFields
 heading_of validity values has_interval kind ext =
-    saying validity_time 0 validity ∷ ((if has_interval then saying interval_time 0 (take 1 values) ∷ [] else []) ++ saying kind ext (drop 1 values) ∷ [])
+    saying validity_time 0 validity
+    ∷ ((if has_interval then saying interval_time 0 (take 1 values) ∷ [] else []) ++ saying kind ext (drop 1 values) ∷ [])
 
 -- the message of a HELLO
 pub record IsHelloMessage (hello : Hello) (lines : List Line) (values : List ℕ) (m : MessageFields) : Type 0 where
@@ -77,11 +78,15 @@ pub record IsTcMessage (tc : Tc) (hop_limit : ℕ) (validity : List ℕ) (lines 
 
 -- a message of the HELLO, with values that are laid for it
 abbrev pub DraftsHello : Hello → MessageFields → Type 0
-DraftsHello hello m = (values : List ℕ) × HasHelloValues hello (map hello_line hello.rows) values × IsHelloMessage hello (map hello_line hello.rows) values m
+DraftsHello hello m =
+    (values : List ℕ) × HasHelloValues hello (map hello_line hello.rows) values
+    × IsHelloMessage hello (map hello_line hello.rows) values m
 
 -- a message of the TC with that validity, with values that are laid for it
 abbrev pub DraftsTc : Tc → ℕ → List ℕ → MessageFields → Type 0
-DraftsTc tc hop_limit validity m = (values : List ℕ) × HasTcValues tc (map tc_line tc.rows) values × IsTcMessage tc hop_limit validity (map tc_line tc.rows) values m
+DraftsTc tc hop_limit validity m =
+    (values : List ℕ) × HasTcValues tc (map tc_line tc.rows) values
+    × IsTcMessage tc hop_limit validity (map tc_line tc.rows) values m
 
 -- each least form of a packet of the message alone fits a datagram
 abbrev pub FitsAlone : MessageFields → Type 0

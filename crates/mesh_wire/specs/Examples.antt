@@ -39,7 +39,8 @@ lone = record {
   limit = None;
   count = None;
   sequence = None;
-  tlvs = (record { kind = 1; ext = 0; value = Some (100 ∷ []) }) ∷ ((record { kind = 0; ext = 0; value = Some (88 ∷ []) }) ∷ ((record { kind = 7; ext = 0; value = Some (119 ∷ []) }) ∷ []));
+  tlvs = (record { kind = 1; ext = 0; value = Some (100 ∷ []) })
+      ∷ ((record { kind = 0; ext = 0; value = Some (88 ∷ []) }) ∷ ((record { kind = 7; ext = 0; value = Some (119 ∷ []) }) ∷ []));
   blocks = own_block ∷ [];
 }
 

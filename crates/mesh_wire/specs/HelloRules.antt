@@ -23,8 +23,10 @@ pub data BreaksHello (message : MessageFields) : ℕ → Option NetAddr → Type
   -- one MPR_WILLING at most, of one octet
   WrongWilling : ((octet : ℕ) → HasWilling message octet → ⊥) → BreaksHello message rule.WILLING None
   -- LOCAL_IF, LINK_STATUS and OTHER_NEIGHB have a defined value, one on each address, on whole addresses
-  Undefined : (net : NetAddr) (kind bound : ℕ) → IsStatusBelow kind bound → HasUndefined message net kind 0 bound → BreaksHello message rule.UNDEFINED (Some net)
-  TwoValues : (net : NetAddr) (kind bound : ℕ) → IsStatusBelow kind bound → HasTwoValues message net kind → BreaksHello message rule.TWO_VALUES (Some net)
+  Undefined : (net : NetAddr) (kind bound : ℕ) → IsStatusBelow kind bound → HasUndefined message net kind 0 bound →
+      BreaksHello message rule.UNDEFINED (Some net)
+  TwoValues : (net : NetAddr) (kind bound : ℕ) → IsStatusBelow kind bound → HasTwoValues message net kind →
+      BreaksHello message rule.TWO_VALUES (Some net)
   ShortPrefix : (net : NetAddr) (kind bound : ℕ) → IsStatusBelow kind bound → HasType message net kind → net.prefix < 32 →
       BreaksHello message rule.PREFIX (Some net)
   -- metrics of two octets, with one code of each kind on an address

@@ -39,7 +39,8 @@ says_flag flag octets = is_octet_in flag (flag + 1) octets || is_octet_in 3 4 oc
 -- one value more, where it is of that type
 abbrev pub octets_also : Bool → ℕ → ℕ → List ℕ → Octets → Octets
 octets_also false low bound octets o = o
-octets_also true low bound (n ∷ []) o = if nat_le low n && nat_lt n bound then record { wrong = o.wrong; one = also o.one n } else record { wrong = true; one = o.one }
+octets_also true low bound (n ∷ []) o =
+    if nat_le low n && nat_lt n bound then record { wrong = o.wrong; one = also o.one n } else record { wrong = true; one = o.one }
 octets_also true low bound [] o = record { wrong = true; one = o.one }
 octets_also true low bound (a ∷ b ∷ rest) o = record { wrong = true; one = o.one }
 

@@ -28,11 +28,15 @@ ReadsAsOneTc = (message : MessageFields) → Keeps (BreaksTc message) → (a b :
 
 -- of the rules of a HELLO one at most is the first that is broken, at one address
 abbrev pub BreaksOneHelloRule : Type 0
-BreaksOneHelloRule = (message : MessageFields) (n m : ℕ) (a b : Option NetAddr) → FirstBroken (BreaksHello message) n a → FirstBroken (BreaksHello message) m b → (n ≡ m) × (a ≡ b)
+BreaksOneHelloRule =
+    (message : MessageFields) (n m : ℕ) (a b : Option NetAddr) → FirstBroken (BreaksHello message) n a →
+    FirstBroken (BreaksHello message) m b → (n ≡ m) × (a ≡ b)
 
 -- of the rules of a TC one at most is the first that is broken, at one address
 abbrev pub BreaksOneTcRule : Type 0
-BreaksOneTcRule = (message : MessageFields) (n m : ℕ) (a b : Option NetAddr) → FirstBroken (BreaksTc message) n a → FirstBroken (BreaksTc message) m b → (n ≡ m) × (a ≡ b)
+BreaksOneTcRule =
+    (message : MessageFields) (n m : ℕ) (a b : Option NetAddr) → FirstBroken (BreaksTc message) n a →
+    FirstBroken (BreaksTc message) m b → (n ≡ m) × (a ≡ b)
 
 -- a value is of octets
 abbrev pub AreOctets : Option (List ℕ) → Type 0

@@ -14,7 +14,8 @@ AreMade From [] (r ∷ rows) = ⊥
 AreMade From (t ∷ told) [] = ⊥
 
 -- the rows of what is kept of a message, which breaks no rule
-pub record HasRows {Row : Type 0} (From : AddressParts → Row → Type 0) (rule : AddressParts → Option ℕ) (entries : List Entry) (rows : List Row) : Type 0 where
+pub record HasRows {Row : Type 0} (From : AddressParts → Row → Type 0) (rule : AddressParts → Option ℕ) (entries : List Entry)
+    (rows : List Row) : Type 0 where
   pub told : List AddressParts
   pub collected : AreCollected entries told
   pub clean : first_rule rule None told ≡ None

@@ -14,7 +14,8 @@ use Rattle.mesh_wire.specs.Parts.{value_at}
 
 -- the octets of an IPv4 address, with zeros after them
 abbrev pub host_octets : ℕ → List ℕ
-host_octets n = n / 16777216 ∷ (n / 65536 % 256 ∷ (n / 256 % 256 ∷ (n % 256 ∷ (0 ∷ (0 ∷ (0 ∷ (0 ∷ (0 ∷ (0 ∷ (0 ∷ (0 ∷ (0 ∷ (0 ∷ (0 ∷ (0 ∷ [])))))))))))))))
+host_octets n =
+    n / 16777216 ∷ (n / 65536 % 256 ∷ (n / 256 % 256 ∷ (n % 256 ∷ (0 ∷ (0 ∷ (0 ∷ (0 ∷ (0 ∷ (0 ∷ (0 ∷ (0 ∷ (0 ∷ (0 ∷ (0 ∷ (0 ∷ [])))))))))))))))
 
 -- the address as it stands in a block
 abbrev pub raw_of : NetAddr → RawAddr
@@ -81,7 +82,9 @@ Lays c lines tlvs = LaysFirst c lines (length lines) tlvs
 -- the TLVs of several columns, one column after the other
 abbrev pub LaysAll : List Column → List Line → List AddrTlvFields → Type 0
 LaysAll [] lines tlvs = tlvs ≡ []
-LaysAll (c ∷ cs) lines tlvs = (first : List AddrTlvFields) × (others : List AddrTlvFields) × (tlvs ≡ first ++ others) × Lays c lines first × LaysAll cs lines others
+LaysAll (c ∷ cs) lines tlvs =
+    (first : List AddrTlvFields) × (others : List AddrTlvFields) × (tlvs ≡ first ++ others) × Lays c lines first
+    × LaysAll cs lines others
 
 -- the block of some lines, one address for each
 pub record IsBlock (lines : List Line) (block : BlockFields) : Type 0 where
@@ -93,4 +96,6 @@ pub record IsBlock (lines : List Line) (block : BlockFields) : Type 0 where
 -- blocks of 1 to 255 addresses that have the lines in their order
 abbrev pub AreBlocks : List Line → List BlockFields → Type 0
 AreBlocks lines [] = lines ≡ []
-AreBlocks lines (b ∷ blocks) = (front : List Line) × (rest : List Line) × (lines ≡ front ++ rest) × (0 < length front) × IsBlock front b × AreBlocks rest blocks
+AreBlocks lines (b ∷ blocks) =
+    (front : List Line) × (rest : List Line) × (lines ≡ front ++ rest) × (0 < length front) × IsBlock front b
+    × AreBlocks rest blocks

@@ -52,7 +52,8 @@ HasFlag kind octets = (high : ℕ) × (low : ℕ) × (octets ≡ high ∷ low �
 -- a reading of a HELLO looks at what is said of an address that isn't the sender's
 abbrev pub IsReadOfOther : ℕ → List ℕ → Type 0
 IsReadOfOther kind octets =
-    (kind ≡ link_status) ⊎ ((kind ≡ other_neighb) ⊎ (((kind ≡ mpr) × IsOctet 1 4 octets) ⊎ ((kind ≡ link_metric) × ((metric : MetricKind) × HasFlag metric octets))))
+    (kind ≡ link_status)
+    ⊎ ((kind ≡ other_neighb) ⊎ (((kind ≡ mpr) × IsOctet 1 4 octets) ⊎ ((kind ≡ link_metric) × ((metric : MetricKind) × HasFlag metric octets))))
 
 -- a reading of a HELLO looks at what an address TLV says of an address; of an address of the sender's only at LOCAL_IF
 pub record IsReadOfHelloAddress (message : MessageFields) (net : NetAddr) (part : TlvFields) : Type 0 where
