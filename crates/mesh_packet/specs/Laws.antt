@@ -1,8 +1,9 @@
--- That the definitions leave no choice: octets spell one packet or have one first fault, and a packet has one least form.
-use Rattle.std.specs.Prelude.{◌≡◌, ◌⊎◌, ℕ, List}
+-- That the definitions leave no choice: octets spell one packet or have one first fault, and a packet has one least form. And
+-- what is a packet of one message alone.
+use Rattle.std.specs.Prelude.{◌≡◌, ◌⊎◌, ◌↔◌, ℕ, List, [], ◌∷◌, length, None}
 use Rattle.mesh_packet.specs.declared.packet.Span.{Span}
-use Rattle.mesh_packet.specs.Fields.{PacketFields}
-use Rattle.mesh_packet.specs.Grammar.{Spells, FirstFault}
+use Rattle.mesh_packet.specs.Fields.{MessageFields, PacketFields}
+use Rattle.mesh_packet.specs.Grammar.{SpellsMessage, Spells, FirstFault}
 use Rattle.mesh_packet.specs.Least.{LeastForm}
 
 -- octets spell at most one packet, whose messages stand in one way
@@ -25,3 +26,13 @@ HasNoFaultToo = (frame : List ℕ) (packet : PacketFields) (spans : List Span) (
 -- a packet has at most one least form
 abbrev pub HasOneLeastForm : Type 0
 HasOneLeastForm = (packet : PacketFields) (a b : List ℕ) → LeastForm packet a → LeastForm packet b → a ≡ b
+
+-- the octets spell a packet of this message alone, with no sequence number and no TLVs, and the message stands there
+abbrev pub SpellsAlone : MessageFields → Span → List ℕ → Type 0
+SpellsAlone message span bytes = Spells (record { sequence = None; tlvs = []; messages = message ∷ [] }) (span ∷ []) bytes
+
+-- behind the octet 0, a packet's header without flags, octets spell a packet of a message alone, which stands there, exactly where
+-- they spell the message
+abbrev pub ZeroBeginsPackets : Type 0
+ZeroBeginsPackets = (message : MessageFields) (octets : List ℕ)
+    → SpellsMessage message octets ↔ SpellsAlone message (record { start = 1; len = length octets }) (0 ∷ octets)

@@ -7,7 +7,7 @@ mod packet;
 mod read;
 mod write;
 
-pub use laws::one_reading;
+pub use laws::{one_reading, zero_begins_packets};
 pub use mesh_atoms::DecodeFault;
 pub use packet::{Block, Decoded, EncodeFault, Message, Packet, Span};
 pub use read::decode;
