@@ -3,6 +3,7 @@ pub mod Follows
 pub mod Hearings
 pub mod Interfaces
 pub mod Judged
+pub mod Laws
 pub mod NhdpState
 pub mod Rows
 pub mod Said

@@ -11,6 +11,7 @@ mod hearing;
 mod interfaces;
 mod judge;
 mod keys;
+mod laws;
 mod near;
 mod near_addresses;
 mod nhdp;
@@ -24,6 +25,7 @@ mod staying;
 mod take;
 mod two_hop_rows;
 
+pub use laws::advertised_rows_are_few;
 pub use mesh_hello::receive_fault;
 pub use nhdp::Nhdp;
 pub use take::HelloTaken;
