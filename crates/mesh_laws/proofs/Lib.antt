@@ -1,7 +1,11 @@
 mod Members
+mod Options
 mod PlainRouters
 mod Qualities
 mod Spoiled
+mod SpoiledNeighbours
+mod SpoiledTables
+mod TcSets
 mod ThreeRouters
 mod ThreeRoutersInRange
 mod ThreeRoutersRadio
@@ -17,6 +21,7 @@ mod TwoRoutersRelays
 mod TwoRoutersRoutes
 mod TwoRoutersSettled
 mod TwoRoutersSound
+mod Unspoiled
 mod Witness
 mod WorkedExpiry
 mod WorkedHello

@@ -1,7 +1,7 @@
 -- The definitions of a router refuse wrong states.
 use Rattle.std.proofs.Common.{◌≡◌, ℕ, ◌+◌, ◌<◌, ◌≤◌, ◌⊎◌, inl, inr, refl, sym, ◌∙◌, ap, subst, arith, slice_index_or, length, Option, Some, None, IsTrue}
-use Rattle.std.specs.Prelude.{Bool, true, false, cond, nat_eq, nat_lt, not, ◌&&◌, Contains}
-use Rattle.std.proofs.lemmas.Bool.{eqb-true, eq-eqb, le-ltb}
+use Rattle.std.specs.Prelude.{Bool, true, false, cond, nat_lt, Contains}
+use Rattle.std.proofs.lemmas.Bool.{le-ltb}
 use Rattle.std.proofs.lemmas.Option.{slice_get_within, get_or_from_slice_get}
 use Rattle.mesh_atoms.specs.declared.addr.Addr4.{Addr4}
 use Rattle.mesh_atoms.specs.declared.addr.NetAddr.{NetAddr}
@@ -13,13 +13,11 @@ use Rattle.mesh_atoms.specs.declared.tuples.LinkKey.{LinkKey}
 use Rattle.mesh_atoms.specs.declared.tuples.LinkState.TheVariants.{Pending as Is_pending, Lost as Is_lost, Symmetric as Is_symmetric, Heard as Is_heard}
 use Rattle.mesh_atoms.specs.declared.tuples.Link.{Link}
 use Rattle.mesh_atoms.specs.declared.tuples.TwoHop.{TwoHop}
-use Rattle.mesh_atoms.specs.declared.tuples.AddressTuple.{AddressTuple}
 use Rattle.mesh_atoms.specs.declared.graphs.Route.{Route}
 use Rattle.mesh_atoms.specs.declared.settings.RouterSettings.{RouterSettings}
 use Rattle.mesh_atoms.specs.Advertised.{Gives, IsTcRow, Of_address, Of_network}
 use Rattle.mesh_atoms.specs.AfterHello.{AfterHello, StoodOn, Same_link, New_link, TellsTwoHop, By_row, By_none}
-use Rattle.mesh_atoms.specs.AfterTc.{Becomes, Given, Left, GivesAddress, if_not_dropped}
-use Rattle.mesh_atoms.specs.Base.{find, host, if_live, addr_eq, address_eq}
+use Rattle.mesh_atoms.specs.Base.{host, if_live}
 use Rattle.mesh_atoms.specs.Hello.{Says, Link_symmetric, Other_symmetric, link_part}
 use Rattle.mesh_atoms.specs.HelloTold.{Told}
 use Rattle.mesh_atoms.specs.Live.{trim, is_symmetric_at}
@@ -27,15 +25,11 @@ use Rattle.mesh_atoms.specs.Nodes.{IsBefore, IsAtMost}
 use Rattle.mesh_atoms.specs.Quality.{quality_at, rule_of, admitted, admit_on}
 use Rattle.mesh_atoms.specs.State.{State, Neighbourhood, link_at, two_hop_at, state_of, HasLink}
 use Rattle.mesh_atoms.specs.Words.{IsValue}
+use Rattle.mesh_laws.proofs.Options.{some_none, true_false}
 use Rattle.mesh_laws.proofs.Qualities.{no_later}
+use Rattle.mesh_laws.proofs.TcSets.{numbered_so}
 use Rattle.mesh_laws.specs.WrongStates.{RefusesExpiredLink, RefusesOwnTwoHop, RefusesTwoHopOfEndedLink, RefusesTupleOfOldNumber, RefusesHiddenNeighbour, RefusesPendingTold, RefusesRowOfNoSelector, RefusesTwoHopOnHeardLink, RefusesNeighbourWithoutLink, RefusesDearerRelays, RefusesGreaterParent, RefusesRouteTwice, RefusesTupleTooMany, RefusesStaleTuple}
 use Rattle.mesh_paths.proofs.SettledDecisions.{shows_link}
-
-some_none : {A B : Type 0} {o : Option A} {a : A} → o ≡ Some a → o ≡ None → B
-some_none e f = absurd (cc)
-
-true_false : {A : Type 0} {b : Bool} → b ≡ true → b ≡ false → A
-true_false e f = absurd (cc)
 
 -- a test that decides
 tested : (b : Bool) → (b ≡ true) ⊎ (b ≡ false)
@@ -90,29 +84,9 @@ two_hop_of_ended_link settings now i told hello old new e a t at other quiet sta
     told_of (By_row row looks makes) f = quiet row looks
     told_of (By_none no_row same) f = some_none stands (same ∙ f)
 
--- a complete TC leaves of its originator's tuples those of its number
-left_by : {A : Type 0} (mine complete same : Bool) (e f : A) → mine ≡ true → complete ≡ true → cond (mine && (complete && not same)) None (Some e) ≡ Some f → (same ≡ true) × (e ≡ f)
-left_by true true true e f m c h = (refl, (cc))
-left_by true true false e f m c h = some_none h refl
-left_by true false same e f m c h = true_false c refl
-left_by false complete same e f m c h = true_false m refl
-
 pub tuple_of_old_number : RefusesTupleOfOldNumber
-tuple_of_old_number now tc old new key t until complete from stands other after_tc = by_case (after_tc.addresses.at key)
-  where
-    same_value : {e f : AddressTuple × ℕ} {o : Option (AddressTuple × ℕ)} → o ≡ Some e → o ≡ Some f → e ≡ f
-    same_value g h = cc
-
-    dropped : (stood : Option (AddressTuple × ℕ)) → if_not_dropped tc key.from (λ v. v.ansn) stood ≡ Some (t, until) → ⊥
-    dropped None h = some_none h refl
-    dropped (Some e) h =
-        let mine : addr_eq key.from tc.originator ≡ true = eq-eqb _ _ (ap (λ (a : Addr4). a.0) from) in
-        let (same, is) = left_by (addr_eq key.from tc.originator) tc.complete (nat_eq e.0.ansn tc.ansn) e (t, until) mine complete h in
-        other (sym (ap (λ (v : AddressTuple × ℕ). v.0.ansn) is) ∙ eqb-true e.0.ansn tc.ansn same)
-
-    by_case : Becomes tc (now + tc.validity) (λ k. k.from) (λ v. v.ansn) (λ k v. GivesAddress tc k v.metric × (v.ansn ≡ tc.ansn)) key (find address_eq old.addresses key) (find address_eq new.addresses key) → ⊥
-    by_case (Given value given is) = other (ap (λ (v : AddressTuple × ℕ). v.0.ansn) (same_value stands is) ∙ given.1)
-    by_case (Left none is) = dropped (find address_eq old.addresses key) (sym is ∙ stands)
+tuple_of_old_number now tc old new key t until complete mine stands other after_tc =
+    other (numbered_so tc (now + tc.validity) _ _ _ key (t, until) (after_tc.addresses.at key) (λ w given. given.1) complete mine stands)
 
 pub hidden_neighbour : RefusesHiddenNeighbour
 hidden_neighbour s i now hello a o n has hidden is = elim (shows_link s i now a) [

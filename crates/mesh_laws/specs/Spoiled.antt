@@ -6,9 +6,13 @@ use Rattle.mesh_atoms.specs.declared.hello.Hello.{Hello}
 use Rattle.mesh_atoms.specs.declared.hello.HelloRow.{HelloRow}
 use Rattle.mesh_atoms.specs.declared.tc.Tc.{Tc}
 use Rattle.mesh_atoms.specs.declared.tuples.LinkKey.{LinkKey}
+use Rattle.mesh_atoms.specs.declared.tuples.RouterKey.{RouterKey}
 use Rattle.mesh_atoms.specs.declared.tuples.AddressKey.{AddressKey}
+use Rattle.mesh_atoms.specs.declared.tuples.NetworkKey.{NetworkKey}
 use Rattle.mesh_atoms.specs.declared.tuples.Advertiser.{Advertiser}
+use Rattle.mesh_atoms.specs.declared.tuples.RouterTuple.{RouterTuple}
 use Rattle.mesh_atoms.specs.declared.tuples.AddressTuple.{AddressTuple}
+use Rattle.mesh_atoms.specs.declared.tuples.NetworkTuple.{NetworkTuple}
 use Rattle.mesh_atoms.specs.declared.tuples.TwoHopKey.{TwoHopKey}
 use Rattle.mesh_atoms.specs.declared.tuples.Link.{Link}
 use Rattle.mesh_atoms.specs.declared.tuples.TwoHop.{TwoHop}
@@ -18,11 +22,12 @@ use Rattle.mesh_atoms.specs.declared.tuples.Noted.{Noted}
 use Rattle.mesh_atoms.specs.declared.settings.Times.{Times}
 use Rattle.mesh_atoms.specs.declared.settings.RouterSettings.{RouterSettings}
 use Rattle.mesh_atoms.specs.AfterHello.{AfterHello, IsTheirs, IsApart, GoesOn}
-use Rattle.mesh_atoms.specs.AfterTc.{AfterTc}
-use Rattle.mesh_atoms.specs.Base.{find, base_of, addr_eq, address_eq, flood_eq}
+use Rattle.mesh_atoms.specs.AfterTc.{AfterTc, GivesRouter, GivesAddress, GivesNetwork}
+use Rattle.mesh_atoms.specs.Base.{find, base_of, addr_eq, router_eq, address_eq, network_eq, flood_eq}
+use Rattle.mesh_atoms.specs.Codes.{metric_value}
 use Rattle.mesh_atoms.specs.Hello.{Says, Near_in, Link_out}
 use Rattle.mesh_atoms.specs.HelloTold.{Told, Tells, two_hop_of}
-use Rattle.mesh_atoms.specs.Live.{HasLinkOf, Restores, IsSymmetricAddress, LiveNeighbourhood}
+use Rattle.mesh_atoms.specs.Live.{HasLinkOf, HasSymmetricOf, Restores, IsSymmetricAddress, LiveNeighbourhood}
 use Rattle.mesh_atoms.specs.Quality.{quality_at, rule_of}
 use Rattle.mesh_atoms.specs.Settled.{IsTwoHopBy}
 use Rattle.mesh_atoms.specs.Sound.{SoundNeighbourhood}
@@ -32,7 +37,7 @@ use Rattle.mesh_atoms.specs.Words.{IsBeyond}
 use Rattle.mesh_flood.specs.declared.verdict.Heading.{Heading}
 use Rattle.mesh_flood.specs.declared.verdict.Forward.{Forward}
 use Rattle.mesh_flood.specs.Noting.{AfterNote}
-use Rattle.mesh_flood.specs.Verdict.{key_of, is_forwarded}
+use Rattle.mesh_flood.specs.Verdict.{key_of, is_received, is_forwarded}
 
 -- Neighbours as their links have them
 
@@ -55,6 +60,54 @@ abbrev pub RefusesNeighbourTooShort : Type 0
 RefusesNeighbourTooShort =
     (near : Neighbourhood) (now i : ℕ) (e f : Neighbour × ℕ) (key : LinkKey) (link : Link) (until : ℕ) →
     HasLinkOf near f.0.addrs i key (link, until) → f.1 < until → Restores near now (Some e) (Some f) → ⊥
+
+-- a neighbour whose moment is after those of all its links
+abbrev pub RefusesNeighbourTooLong : Type 0
+RefusesNeighbourTooLong =
+    (near : Neighbourhood) (now : ℕ) (e f : Neighbour × ℕ) →
+    ((i : ℕ) (key : LinkKey) (link : Link) (until : ℕ) → HasLinkOf near f.0.addrs i key (link, until) → until < f.1) →
+    Restores near now (Some e) (Some f) → ⊥
+
+-- a neighbour that stays, and has other addresses than before
+abbrev pub RefusesOtherAddresses : Type 0
+RefusesOtherAddresses = (near : Neighbourhood) (now : ℕ) (e f : Neighbour × ℕ) → f.0.addrs ≢ e.0.addrs → Restores near now (Some e) (Some f) → ⊥
+
+-- a neighbour that stays, and has another willingness than before
+abbrev pub RefusesOtherWillingness : Type 0
+RefusesOtherWillingness = (near : Neighbourhood) (now : ℕ) (e f : Neighbour × ℕ) → f.0.willing ≢ e.0.willing → Restores near now (Some e) (Some f) → ⊥
+
+-- a selector flag that is cleared though the neighbour stays symmetric
+abbrev pub RefusesSelectorCleared : Type 0
+RefusesSelectorCleared =
+    (near : Neighbourhood) (now : ℕ) (e f : Neighbour × ℕ) →
+    e.0.selector ≡ true → f.0.symmetric ≡ true → f.0.selector ≡ false → Restores near now (Some e) (Some f) → ⊥
+
+-- a neighbour that isn't symmetric though it has a SYMMETRIC link
+abbrev pub RefusesSymmetricUntold : Type 0
+RefusesSymmetricUntold =
+    (near : Neighbourhood) (now : ℕ) (e f : Neighbour × ℕ) (link : Link) →
+    HasSymmetricOf near now f.0.addrs link → f.0.symmetric ≡ false → Restores near now (Some e) (Some f) → ⊥
+
+-- a neighbour that is symmetric though it has no SYMMETRIC link
+abbrev pub RefusesSymmetricOutOfNothing : Type 0
+RefusesSymmetricOutOfNothing =
+    (near : Neighbourhood) (now : ℕ) (e f : Neighbour × ℕ) →
+    ((link : Link) → HasSymmetricOf near now f.0.addrs link → ⊥) → f.0.symmetric ≡ true → Restores near now (Some e) (Some f) → ⊥
+
+-- a neighbour that has not the least in-metric of its SYMMETRIC links
+abbrev pub RefusesOtherMetricIn : Type 0
+RefusesOtherMetricIn =
+    (near : Neighbourhood) (now : ℕ) (e f : Neighbour × ℕ) (link : Link) →
+    HasSymmetricOf near now f.0.addrs link → ((l : Link) → HasSymmetricOf near now f.0.addrs l → metric_value link.link_in ≤ metric_value l.link_in) →
+    ((m : Metric) → f.0.metric_in ≡ Some m → metric_value m ≢ metric_value link.link_in) → Restores near now (Some e) (Some f) → ⊥
+
+-- a neighbour that has not the least out-metric of its SYMMETRIC links
+abbrev pub RefusesOtherMetricOut : Type 0
+RefusesOtherMetricOut =
+    (near : Neighbourhood) (now : ℕ) (e f : Neighbour × ℕ) (link : Link) (least : Metric) →
+    HasSymmetricOf near now f.0.addrs link → link.link_out ≡ Some least →
+    ((l : Link) (m : Metric) → HasSymmetricOf near now f.0.addrs l → l.link_out ≡ Some m → metric_value least ≤ metric_value m) →
+    ((m : Metric) → f.0.metric_out ≡ Some m → metric_value m ≢ metric_value least) → Restores near now (Some e) (Some f) → ⊥
 
 -- Lost addresses
 
@@ -81,6 +134,20 @@ abbrev pub RefusesLostAtAnotherMoment : Type 0
 RefusesLostAtAnotherMoment =
     (settings : RouterSettings) (now : ℕ) (old new : Neighbourhood) (a : Addr4) (e : Lost × ℕ) →
     IsSymmetricAddress old a → lost_at new a ≡ Some e → e.1 ≢ now + settings.times.neighbour_hold → LiveNeighbourhood settings now old new → ⊥
+
+-- a lost tuple that is gone before its moment, though its address was and is no symmetric neighbour's
+abbrev pub RefusesLostGone : Type 0
+RefusesLostGone =
+    (settings : RouterSettings) (now : ℕ) (old new : Neighbourhood) (a : Addr4) (e : Lost × ℕ) →
+    (IsSymmetricAddress old a → ⊥) → (IsSymmetricAddress new a → ⊥) → lost_at old a ≡ Some e → now < e.1 → lost_at new a ≡ None →
+    LiveNeighbourhood settings now old new → ⊥
+
+-- a lost tuple that stays, and ends at another moment than before, though its address was and is no symmetric neighbour's
+abbrev pub RefusesLostMoved : Type 0
+RefusesLostMoved =
+    (settings : RouterSettings) (now : ℕ) (old new : Neighbourhood) (a : Addr4) (e f : Lost × ℕ) →
+    (IsSymmetricAddress old a → ⊥) → (IsSymmetricAddress new a → ⊥) → lost_at old a ≡ Some e → lost_at new a ≡ Some f → f.1 ≢ e.1 →
+    LiveNeighbourhood settings now old new → ⊥
 
 -- in a sound neighbourhood, a lost address of a symmetric neighbour
 abbrev pub RefusesLostSymmetric : Type 0
@@ -203,6 +270,52 @@ RefusesNumberUnnoted =
     (now : ℕ) (tc : Tc) (old new : Topology) (t : Advertiser × ℕ) →
     find addr_eq new.advertisers tc.originator ≡ Some t → t.0.ansn ≢ tc.ansn → AfterTc now tc old new → ⊥
 
+-- after a TC, the number of its originator noted until another moment than the validity says
+abbrev pub RefusesNumberAtAnotherMoment : Type 0
+RefusesNumberAtAnotherMoment =
+    (now : ℕ) (tc : Tc) (old new : Topology) (t : Advertiser × ℕ) →
+    find addr_eq new.advertisers tc.originator ≡ Some t → t.1 ≢ now + tc.validity → AfterTc now tc old new → ⊥
+
+-- after a TC, a tuple of an address that a row gives, with a metric or number that isn't the TC's
+abbrev pub RefusesGivenOtherwise : Type 0
+RefusesGivenOtherwise =
+    (now : ℕ) (tc : Tc) (old new : Topology) (key : AddressKey) (m : Metric) (t : AddressTuple × ℕ) →
+    GivesAddress tc key m → find address_eq new.addresses key ≡ Some t → (GivesAddress tc key t.0.metric × (t.0.ansn ≡ tc.ansn) → ⊥) →
+    AfterTc now tc old new → ⊥
+
+-- after a TC, a tuple of an address that a row gives, until another moment than the validity says
+abbrev pub RefusesGivenAtAnotherMoment : Type 0
+RefusesGivenAtAnotherMoment =
+    (now : ℕ) (tc : Tc) (old new : Topology) (key : AddressKey) (m : Metric) (t : AddressTuple × ℕ) →
+    GivesAddress tc key m → find address_eq new.addresses key ≡ Some t → t.1 ≢ now + tc.validity → AfterTc now tc old new → ⊥
+
+-- after a TC, no router tuple as a row gives it
+abbrev pub RefusesRouterUntaken : Type 0
+RefusesRouterUntaken =
+    (now : ℕ) (tc : Tc) (old new : Topology) (key : RouterKey) (m : Metric) →
+    GivesRouter tc key m → ((k : Metric) → GivesRouter tc key k → k ≡ m) →
+    find router_eq new.routers key ≢ Some (record { ansn = tc.ansn; metric = m }, now + tc.validity) → AfterTc now tc old new → ⊥
+
+-- after a TC, no network tuple as a row gives it
+abbrev pub RefusesNetworkUntaken : Type 0
+RefusesNetworkUntaken =
+    (now : ℕ) (tc : Tc) (old new : Topology) (key : NetworkKey) (distance : ℕ) (m : Metric) →
+    GivesNetwork tc key distance m → ((d : ℕ) (k : Metric) → GivesNetwork tc key d k → (d ≡ distance) × (k ≡ m)) →
+    find network_eq new.networks key ≢ Some (record { ansn = tc.ansn; distance = distance; metric = m }, now + tc.validity) →
+    AfterTc now tc old new → ⊥
+
+-- after a complete TC, a router tuple of its originator with another number
+abbrev pub RefusesRouterOfOldNumber : Type 0
+RefusesRouterOfOldNumber =
+    (now : ℕ) (tc : Tc) (old new : Topology) (key : RouterKey) (t : RouterTuple × ℕ) →
+    tc.complete ≡ true → key.from ≡ tc.originator → find router_eq new.routers key ≡ Some t → t.0.ansn ≢ tc.ansn → AfterTc now tc old new → ⊥
+
+-- and a network tuple
+abbrev pub RefusesNetworkOfOldNumber : Type 0
+RefusesNetworkOfOldNumber =
+    (now : ℕ) (tc : Tc) (old new : Topology) (key : NetworkKey) (t : NetworkTuple × ℕ) →
+    tc.complete ≡ true → key.from ≡ tc.originator → find network_eq new.networks key ≡ Some t → t.0.ansn ≢ tc.ansn → AfterTc now tc old new → ⊥
+
 -- after a TC that isn't complete, a tuple gone
 abbrev pub RefusesTupleGoneByPart : Type 0
 RefusesTupleGoneByPart =
@@ -222,6 +335,34 @@ abbrev pub RefusesProcessedUnnoted : Type 0
 RefusesProcessedUnnoted =
     (times : Times) (now i : ℕ) (heading : Heading) (answer : Forward) (old new : NotedMessages) →
     find flood_eq new.processed (key_of heading) ≡ None → AfterNote times now i heading true answer old new → ⊥
+
+-- a message that isn't processed, and is noted as processed
+abbrev pub RefusesProcessedOutOfNothing : Type 0
+RefusesProcessedOutOfNothing =
+    (times : Times) (now i : ℕ) (heading : Heading) (answer : Forward) (old new : NotedMessages) (e : Noted × ℕ) →
+    find flood_eq old.processed (key_of heading) ≡ None → find flood_eq new.processed (key_of heading) ≡ Some e →
+    AfterNote times now i heading false answer old new → ⊥
+
+-- a message that is processed, and noted so until another moment than the hold time says
+abbrev pub RefusesProcessedAtAnotherMoment : Type 0
+RefusesProcessedAtAnotherMoment =
+    (times : Times) (now i : ℕ) (heading : Heading) (answer : Forward) (old new : NotedMessages) (e : Noted × ℕ) →
+    find flood_eq new.processed (key_of heading) ≡ Some e → e.1 ≢ now + times.processed_hold → AfterNote times now i heading true answer old new → ⊥
+
+-- a message whose answer comes before the received set is asked, and that is noted as received
+abbrev pub RefusesReceivedOutOfNothing : Type 0
+RefusesReceivedOutOfNothing =
+    (times : Times) (now i : ℕ) (heading : Heading) (is_processed : Bool) (answer : Forward) (old new : NotedMessages) (e : Noted × ℕ) →
+    is_received answer ≡ false → find flood_eq (base_of old.received i) (key_of heading) ≡ None →
+    find flood_eq (base_of new.received i) (key_of heading) ≡ Some e →
+    AfterNote times now i heading is_processed answer old new → ⊥
+
+-- a message that is noted as received until another moment than the hold time says
+abbrev pub RefusesReceivedAtAnotherMoment : Type 0
+RefusesReceivedAtAnotherMoment =
+    (times : Times) (now i : ℕ) (heading : Heading) (is_processed : Bool) (answer : Forward) (old new : NotedMessages) (e : Noted × ℕ) →
+    is_received answer ≡ true → find flood_eq (base_of new.received i) (key_of heading) ≡ Some e → e.1 ≢ now + times.received_hold →
+    AfterNote times now i heading is_processed answer old new → ⊥
 
 -- a message that is noted as received over an interface that it didn't come by
 abbrev pub RefusesReceivedElsewhere : Type 0

@@ -2,7 +2,8 @@
 //! and worked and wrong states.
 #![tactic(auto)]
 
-ghost use Rattle.mesh_laws.specs.Spoiled.{RefusesNeighbourOutOfNothing, RefusesNeighbourGone, RefusesSelectorKept, RefusesNeighbourTooShort, RefusesLostThoughBack, RefusesLossUntold, RefusesLostOutOfNothing, RefusesLostAtAnotherMoment, RefusesLostSymmetric, RefusesOwnLost, RefusesLinksTogether, RefusesLinkOfUnlisted, RefusesLinkOfSharedAddress, RefusesLinkGone, RefusesOtherQuality, RefusesLostLinkKept, RefusesMadeUnadmitted, RefusesFullOfOne, RefusesTakenThoughFull, RefusesTakenThoughManyRows, RefusesFullThoughFits, RefusesLinkMetricFirst, RefusesMetricUnsaid, RefusesRowByLinkMetric, RefusesRowWithoutMetric, RefusesNumberUnnoted, RefusesTupleGoneByPart, RefusesTupleGoneOfAnother, RefusesProcessedUnnoted, RefusesReceivedElsewhere, RefusesForwardedUnsent, RefusesForwardedAtAnotherMoment};
+ghost use Rattle.mesh_laws.specs.Spoiled.{RefusesNeighbourOutOfNothing, RefusesNeighbourGone, RefusesSelectorKept, RefusesNeighbourTooShort, RefusesNeighbourTooLong, RefusesOtherAddresses, RefusesOtherWillingness, RefusesSelectorCleared, RefusesSymmetricUntold, RefusesSymmetricOutOfNothing, RefusesOtherMetricIn, RefusesOtherMetricOut, RefusesLostThoughBack, RefusesLossUntold, RefusesLostOutOfNothing, RefusesLostAtAnotherMoment, RefusesLostGone, RefusesLostMoved, RefusesLostSymmetric, RefusesOwnLost, RefusesLinksTogether, RefusesLinkOfUnlisted, RefusesLinkOfSharedAddress, RefusesLinkGone, RefusesOtherQuality, RefusesLostLinkKept, RefusesMadeUnadmitted, RefusesFullOfOne, RefusesTakenThoughFull, RefusesTakenThoughManyRows, RefusesFullThoughFits, RefusesLinkMetricFirst, RefusesMetricUnsaid, RefusesRowByLinkMetric, RefusesRowWithoutMetric, RefusesNumberUnnoted, RefusesNumberAtAnotherMoment, RefusesGivenOtherwise, RefusesGivenAtAnotherMoment, RefusesRouterUntaken, RefusesNetworkUntaken, RefusesRouterOfOldNumber, RefusesNetworkOfOldNumber, RefusesTupleGoneByPart, RefusesTupleGoneOfAnother, RefusesProcessedUnnoted, RefusesProcessedOutOfNothing, RefusesProcessedAtAnotherMoment, RefusesReceivedOutOfNothing, RefusesReceivedAtAnotherMoment, RefusesReceivedElsewhere, RefusesForwardedUnsent, RefusesForwardedAtAnotherMoment};
+ghost use Rattle.mesh_laws.specs.Unspoiled.{LostIsKept, MessageIsNoted, MessageIsPassedOver, TcIsTaken};
 ghost use Rattle.mesh_laws.specs.WrongStates.{RefusesExpiredLink, RefusesOwnTwoHop, RefusesTwoHopOfEndedLink, RefusesTupleOfOldNumber, RefusesHiddenNeighbour, RefusesPendingTold, RefusesRowOfNoSelector, RefusesTwoHopOnHeardLink, RefusesNeighbourWithoutLink, RefusesDearerRelays, RefusesGreaterParent, RefusesRouteTwice, RefusesTupleTooMany, RefusesStaleTuple};
 ghost use Rattle.mesh_laws.specs.WorkedHello.{FirstHelloIsTaken, SecondHelloIsTaken};
 ghost use Rattle.mesh_laws.specs.Witnesses.{TwoRoutersSettle, ThreeRoutersSettle};
@@ -51,10 +52,20 @@ pub fn spoiled_states_are_refused()
     ensures neighbour_gone { RefusesNeighbourGone }
     ensures selector_kept { RefusesSelectorKept }
     ensures neighbour_too_short { RefusesNeighbourTooShort }
+    ensures neighbour_too_long { RefusesNeighbourTooLong }
+    ensures other_addresses { RefusesOtherAddresses }
+    ensures other_willingness { RefusesOtherWillingness }
+    ensures selector_cleared { RefusesSelectorCleared }
+    ensures symmetric_untold { RefusesSymmetricUntold }
+    ensures symmetric_out_of_nothing { RefusesSymmetricOutOfNothing }
+    ensures other_metric_in { RefusesOtherMetricIn }
+    ensures other_metric_out { RefusesOtherMetricOut }
     ensures lost_though_back { RefusesLostThoughBack }
     ensures loss_untold { RefusesLossUntold }
     ensures lost_out_of_nothing { RefusesLostOutOfNothing }
     ensures lost_at_another_moment { RefusesLostAtAnotherMoment }
+    ensures lost_gone { RefusesLostGone }
+    ensures lost_moved { RefusesLostMoved }
     ensures lost_symmetric { RefusesLostSymmetric }
     ensures own_lost { RefusesOwnLost }
     ensures links_together { RefusesLinksTogether }
@@ -73,10 +84,30 @@ pub fn spoiled_states_are_refused()
     ensures row_by_link_metric { RefusesRowByLinkMetric }
     ensures row_without_metric { RefusesRowWithoutMetric }
     ensures number_unnoted { RefusesNumberUnnoted }
+    ensures number_at_another_moment { RefusesNumberAtAnotherMoment }
+    ensures given_otherwise { RefusesGivenOtherwise }
+    ensures given_at_another_moment { RefusesGivenAtAnotherMoment }
+    ensures router_untaken { RefusesRouterUntaken }
+    ensures network_untaken { RefusesNetworkUntaken }
+    ensures router_of_old_number { RefusesRouterOfOldNumber }
+    ensures network_of_old_number { RefusesNetworkOfOldNumber }
     ensures tuple_gone_by_part { RefusesTupleGoneByPart }
     ensures tuple_gone_of_another { RefusesTupleGoneOfAnother }
     ensures processed_unnoted { RefusesProcessedUnnoted }
+    ensures processed_out_of_nothing { RefusesProcessedOutOfNothing }
+    ensures processed_at_another_moment { RefusesProcessedAtAnotherMoment }
+    ensures received_out_of_nothing { RefusesReceivedOutOfNothing }
+    ensures received_at_another_moment { RefusesReceivedAtAnotherMoment }
     ensures received_elsewhere { RefusesReceivedElsewhere }
     ensures forwarded_unsent { RefusesForwardedUnsent }
     ensures forwarded_at_another_moment { RefusesForwardedAtAnotherMoment }
+{}
+
+/// The definitions take the states and answers that some of the spoiled ones come from: a lost address that stays, a message that
+/// is noted and one that is passed over, and a TC. It does nothing.
+pub fn unspoiled_states_are_taken()
+    ensures lost_kept { LostIsKept }
+    ensures message_noted { MessageIsNoted }
+    ensures message_passed_over { MessageIsPassedOver }
+    ensures tc_taken { TcIsTaken }
 {}
