@@ -1,3 +1,4 @@
+mod EmptyLines
 mod FirstLine
 mod Hex
 mod LineFeeds

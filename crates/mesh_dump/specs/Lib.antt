@@ -1,4 +1,5 @@
 pub mod Dump
+pub mod Empty
 pub mod Laws
 pub mod Lines
 pub mod Pairs

@@ -2,6 +2,7 @@
 #![tactic(auto)]
 
 mod digits;
+mod empty;
 mod lanes;
 mod laws;
 mod lines;

@@ -10,9 +10,9 @@ ghost use Rattle.mesh_dump.specs.Lines.{IsNotHex, FrameSays, IsListing, refusals
 ghost use Rattle.mesh_dump.specs.Pairs.{AreFirst};
 
 use crate::digits::put_octets;
+use crate::empty::EmptyLine;
 use hex::FromHexError;
 use memchr::memchr;
-use mesh_atoms::reason::SHORT;
 use mesh_atoms::{Bytes, DecodeFault, Refusal, refuse};
 use mesh_packet::decode;
 use mesh_report::{LineRead, Room, put_line_text};
@@ -132,12 +132,13 @@ fn put_read(
     Ok(refusals(read))
 }
 
-/// What one line after the other is listed in: room for its octets and for its lines, and its text.
+/// What one line after the other is listed in: room for its octets and for its lines, its text, and the listing of an empty line.
 #[derive(Drop)]
 pub struct Desk {
     frame: Vec<u8>,
     room: Room,
     pub text: Bytes,
+    pub empty: EmptyLine,
 }
 
 impl Desk {
@@ -147,6 +148,7 @@ impl Desk {
             frame: Vec::new(alloc),
             room: Room::new(),
             text: Bytes::new(alloc),
+            empty: EmptyLine::new(),
         }
     }
 }
@@ -166,8 +168,8 @@ fn put_refused(
     put_read(alloc, &mut desk.text, &mut desk.room, number, &read, recode)
 }
 
-// Puts the listing of a line that isn't empty.
-fn put_full_line(
+/// Puts the listing of the line of this number, and gives 1 where the line is refused, else 0.
+pub fn put_line(
     alloc: Global,
     desk: &mut Desk,
     number: u64,
@@ -184,21 +186,4 @@ fn put_full_line(
         Err(DecodeFault::Refused(refusal)) => put_refused(alloc, desk, number, refusal, recode),
         Err(DecodeFault::Memory(e)) => Err(e),
     }
-}
-
-/// Puts the listing of the line of this number, and gives 1 where the line is refused, else 0. An empty line is not read: no
-/// octet stands where a packet begins.
-pub fn put_line(
-    alloc: Global,
-    desk: &mut Desk,
-    number: u64,
-    line: &[u8],
-    recode: bool,
-) -> Result<u64, AllocError>
-    ensures { IfOk result (λ count. Wrote (IsListing recode number line.now count) desk.old.text desk.new.text) }
-{
-    if line.is_empty() {
-        return put_refused(alloc, desk, number, refuse(0, SHORT), recode);
-    }
-    put_full_line(alloc, desk, number, line, recode)
 }

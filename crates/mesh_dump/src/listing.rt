@@ -41,8 +41,8 @@ fn write_total<O: Sink>(part: &mut Bytes, counts: Counts, out: &mut O) -> Result
     Ok(())
 }
 
-// Writes the listing of the line of this number, by one write, and gives 1 where the line is refused, else 0. The text of
-// `desk` is lost.
+// Writes the listing of the line of this number, by one write, and gives 1 where the line is refused, else 0. An empty line is
+// not read: no octet stands where a packet begins. The text of `desk` is lost.
 fn write_line<O: Sink>(
     alloc: Global,
     desk: &mut Desk,
@@ -55,6 +55,11 @@ fn write_line<O: Sink>(
         (λ text. text ≡ []) (O.content out.old) (O.content out.new) (O.faults out.old) (O.faults out.new) result }
     ensures later { O.faults out.old ≤ O.faults out.new }
 {
+    if line.is_empty() {
+        desk.empty.go_to(number);
+        write_all(out, desk.empty.text())?;
+        return Ok(1);
+    }
     desk.text.clear();
     let refused = put_line(alloc, desk, number, line, recode)?;
     write_all(out, desk.text.as_slice())?;

@@ -1,4 +1,4 @@
-use Rattle.std.proofs.Common.{◌≡◌, ◌*◌, length, subst, arith, ◌∙◌}
+use Rattle.std.proofs.Common.{◌≡◌, length, subst, arith}
 use Rattle.std.proofs.lemmas.Bool.{ltb-true}
 use Rattle.mesh_dump.specs.Pairs.{ArePairs}
 use Rattle.mesh_dump.proofs.Pairs.{pairs_decode}

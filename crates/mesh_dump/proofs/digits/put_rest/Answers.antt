@@ -1,6 +1,5 @@
-use Rattle.std.proofs.Common.{◌≡◌, ◌<◌, length, subst, arith, ◌∙◌}
+use Rattle.std.proofs.Common.{arith, ◌∙◌}
 use Rattle.std.proofs.lemmas.List.{length-set}
-use Rattle.std.proofs.lemmas.Nat.{le_or_l}
 use Rattle.mesh_dump.proofs.Pairs.{one_more}
 use Rattle.mesh_dump.proofs.digits.put_rest.Goals as goal
 
