@@ -1,6 +1,5 @@
 mod Emulations
 mod Ends
-mod GapAtEnd
 mod Leaving
 mod Names
 mod Parts

@@ -2,7 +2,7 @@
 use Rattle.std.proofs.Common.{◌≡◌, ℕ, true, List, [], ◌∷◌, ◌++◌, sym, ap, ◌∙◌, arith}
 use Rattle.std.specs.List.{AllByRecursion as Each, flat_map}
 use Rattle.std.proofs.lemmas.Grind.{flat_map-append}
-use Rattle.std.proofs.lemmas.List.Elements.{All-nil, All-append}
+use Rattle.std.proofs.lemmas.List.Elements.{All-append}
 use Rattle.mesh_atoms.specs.declared.settings.Scenario.{Scenario}
 use Rattle.mesh_machine.specs.Names.{router_name}
 use Rattle.mesh_texts.specs.Printed.{IsPlain, ArePlain}
@@ -24,9 +24,6 @@ behind_lacks first [] is all = is
 behind_lacks first (part ∷ parts) is all = behind_lacks (first ++ part) parts (lacks_both 10 first part is all.0) all.1
 
 -- Texts
-
-pub nothing_plain : (text : List ℕ) → text ≡ [] → ArePlain text
-nothing_plain text none = record { lines = []; each = All-nil IsPlain; whole = none }
 
 pub both_plain : (a b : List ℕ) → ArePlain a → ArePlain b → ArePlain (a ++ b)
 both_plain a b p q = record {

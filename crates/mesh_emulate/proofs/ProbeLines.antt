@@ -8,7 +8,7 @@ use Rattle.std.proofs.lemmas.List.Folds.{flat_map-map}
 use Rattle.mesh_atoms.specs.declared.settings.Scenario.{Scenario}
 use Rattle.mesh_atoms.specs.State.{State}
 use Rattle.mesh_emulate.specs.Emulation.{TellsProbe}
-use Rattle.mesh_emulate.proofs.PlainLines.{router_lacks, behind, behind_lacks, nothing_plain}
+use Rattle.mesh_emulate.proofs.PlainLines.{router_lacks, behind, behind_lacks}
 use Rattle.mesh_machine.specs.Names.{router_name}
 use Rattle.mesh_probe.specs.declared.coverage.Coverage.{Coverage}
 use Rattle.mesh_probe.specs.declared.coverage.Probe.{Probe}
@@ -16,7 +16,7 @@ use Rattle.mesh_probe.specs.declared.coverage.Probe.TheVariants.{NoNumber, Done}
 use Rattle.mesh_probe.specs.Text.{is_reached, probe_start, probe_counts, probe_end, unreached_line}
 use Rattle.mesh_texts.specs.Printed.{IsLine, IsPlain, ArePlain}
 use Rattle.mesh_texts.proofs.Cuts.{lacks}
-use Rattle.mesh_texts.proofs.LineTexts.{line_end, line_after, begins_otherwise, number}
+use Rattle.mesh_texts.proofs.LineTexts.{line_end, line_after, begins_otherwise, number, nothing_plain}
 
 start_lacks : (s : Scenario) (origin : ℕ) → lacks 10 (probe_start s origin) ≡ true
 start_lacks s origin = behind_lacks (codes "probe ") (router_name s.routers origin ∷ []) refl (router_lacks s origin, tt)

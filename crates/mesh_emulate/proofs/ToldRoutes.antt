@@ -1,28 +1,24 @@
 -- What the text of an emulation tells: each router a run of the machine, whether the network is settled, and then its routes.
-use Rattle.std.proofs.Common.{◌≡◌, ℕ, ◌<◌, ◌^◌, ◌↔◌, List, ◌++◌, Option, Some, None, refl, sym, ap, subst, arith}
+use Rattle.std.proofs.Common.{◌≡◌, ℕ, ◌<◌, ◌^◌, ◌↔◌, List, ◌++◌, Some, sym, ap, subst, arith}
 use Rattle.std.specs.Prelude.{slice_get, Contains}
 use Rattle.mesh_atoms.specs.declared.addr.Addr4.{Addr4}
 use Rattle.mesh_atoms.specs.declared.addr.NetAddr.{NetAddr}
 use Rattle.mesh_atoms.specs.declared.graphs.Route.{Route}
 use Rattle.mesh_atoms.specs.declared.settings.Interface.{Interface}
 use Rattle.mesh_atoms.specs.declared.settings.RouterSettings.{RouterSettings}
-use Rattle.mesh_atoms.specs.declared.settings.Scenario.{Scenario}
 use Rattle.mesh_atoms.specs.Radio.{Router, RadioLeast}
-use Rattle.mesh_atoms.specs.Settled.{At, Settled}
+use Rattle.mesh_atoms.specs.Settled.{At}
 use Rattle.mesh_atoms.specs.State.{State}
 use Rattle.mesh_data.specs.Laws.{OfEachTrip, IsOnly, ReachesRouter, ReachesNetwork, NeverStrays}
-use Rattle.mesh_paths.specs.SettledRoutes.{IsSettledNetwork, HasRow, LeadsOn}
+use Rattle.mesh_paths.specs.SettledRoutes.{IsSettledNetwork, LeadsOn}
 use Rattle.mesh_paths.specs.SettledRoutes as rows
-use Rattle.mesh_paths.proofs.Scenarios.{sound_scenario}
 use Rattle.mesh_paths.proofs.SettledLaw.{settled_rows, settled_next_hops}
-use Rattle.mesh_radio.proofs.Through.{are_machines}
-use Rattle.mesh_settled.specs.declared.gap.Gap.{Gap}
 use Rattle.mesh_settled.proofs.FaceLemmas.{end_has_least}
 use Rattle.mesh_texts.specs.Marks.{face_name, name_of_face}
-use Rattle.mesh_texts.specs.Network.{IsGapOf}
 use Rattle.mesh_texts.specs.Printed.{SaysSettled, ArePlain, Prints, PrintsBy, LeadsOnwards, Arrives, Goes_on, At_gateway, LeadsThere}
-use Rattle.mesh_texts.proofs.ReadBack.{ends_settled, prints_rows, prints_rows_by}
-use Rattle.mesh_texts.proofs.RunStates.{run_states}
+use Rattle.mesh_texts.specs.Runs.{TellsWhetherSettled}
+use Rattle.mesh_texts.proofs.ReadBack.{ends_settled, tells_whether, prints_rows, prints_rows_by}
+use Rattle.mesh_texts.proofs.RunStates.{run_states, routers_are_runs, end_is_settled}
 use Rattle.mesh_emulate.specs.Emulation.{Emulation}
 use Rattle.mesh_emulate.specs.Laws.{RunsMachines, TellsSettled, PrintsLeastRoutes, PrintsNextHops, sending, TripsAreOnly, TripsReachRouters, TripsReachNetworks, TripsNeverStray}
 use Rattle.mesh_emulate.specs.Wants.{Wants}
@@ -32,15 +28,9 @@ use Rattle.mesh_emulate.proofs.ProbeLines.{probe_is_plain}
 use Rattle.mesh_emulate.proofs.TripLines.{trip_is_plain}
 
 pub runs_machines : RunsMachines
-runs_machines input wants e x settings is =
-    are_machines e.scenario e.run.opening e.run.events e.run.final e.run.is_opening e.run.runs x settings is
+runs_machines input wants e = routers_are_runs e.scenario e.run
 
 -- Whether it is settled
-
-no_gap : (s : Scenario) (states : List State) (now : ℕ) (gap : Option Gap) → IsGapOf s states now gap →
-    (gap ≡ None) ↔ Settled s states now
-no_gap s states now None is = (λ e. is, λ settled. refl)
-no_gap s states now (Some gap) is = (λ e. absurd cc, λ settled. absurd (is.0 settled))
 
 -- what stands behind the text of the run
 plain : (input : List ℕ) (wants : Wants) (e : Emulation input wants) → ArePlain (e.trip ++ e.probe)
@@ -50,9 +40,9 @@ plain input wants e =
 
 pub tells_settled : TellsSettled
 tells_settled input wants e =
-    let says = ends_settled e.scenario wants.trace e.run e.told (e.trip ++ e.probe) e.is_told (plain input wants e) in
-    let none = no_gap e.scenario e.run.final.routers e.scenario.end e.is_told.gap e.is_told.is_gap in
-    (λ h. none.0 (says.0 (subst SaysSettled e.whole h)), λ settled. subst SaysSettled (sym e.whole) (says.1 (none.1 settled)))
+    subst (TellsWhetherSettled e.run) (sym e.whole)
+    (tells_whether e.scenario e.run e.is_told.gap (e.told ++ (e.trip ++ e.probe)) e.is_told.is_gap
+    (ends_settled e.scenario wants.trace e.run e.told (e.trip ++ e.probe) e.is_told (plain input wants e)))
 
 -- Routes
 
@@ -62,13 +52,7 @@ module _ (input : List ℕ) (wants : Wants) (e : Emulation input wants) (says : 
 
   -- the routers at the end are a settled network
   pub network : IsSettledNetwork e.scenario e.run.final.routers e.scenario.end
-  network = record {
-    scenario = sound_scenario e.scenario;
-    routers = run_states e.scenario e.run;
-    sound = λ x p at. (at_end e.scenario e.run x p at).0;
-    moment = λ x p at. (at_end e.scenario e.run x p at).1;
-    settled = (tells_settled input wants e).0 says;
-  }
+  network = end_is_settled e.scenario e.run ((tells_settled input wants e).0 says)
 
   -- the state of a router of the scenario, which has the router's settings
   pub state_of : (x : ℕ) (router : RouterSettings) → Router e.scenario x router →

@@ -8,12 +8,13 @@ use Rattle.mesh_atoms.specs.declared.settings.Scenario.{Scenario}
 use Rattle.mesh_atoms.specs.State.{State}
 use Rattle.mesh_io.specs.declared.stop.Stop.{Stop}
 use Rattle.mesh_io.proofs.Steps.{appends_more}
+use Rattle.mesh_packet.specs.Least.{Wrote}
 use Rattle.mesh_radio.specs.declared.event.NetEvent.{NetEvent}
 use Rattle.mesh_radio.specs.Net.{Net, NetStep, By_delivery, By_tick, By_last_tick, Moves}
 use Rattle.mesh_traffic.specs.Sending.{Traffic, with_heard}
 use Rattle.mesh_radio.specs.Run.{IsOfPackets}
 use Rattle.mesh_texts.proofs.TraceSteps.{traces_more, traces_run}
-use Rattle.mesh_texts.specs.Events.{event_text, Of_taken}
+use Rattle.mesh_texts.specs.Events.{IsEventText}
 use Rattle.mesh_texts.specs.Runs.{IsTraced}
 use Rattle.mesh_emulate.specs.Left.{Leaves, IsNothing, IsLastEvent, Told, ToldToEnd, ToldSoFar}
 use Rattle.mesh_emulate.proofs.Leaving.{stops_then}
@@ -52,9 +53,10 @@ router_at {R} state routers states x router same within is =
 -- the text of the event was put
 pub text_put : {E : Type 0} (s : Scenario) (net : Net) (event : NetEvent) (after : State) (old new : List ℕ) (r : Result (Unit {0}) E) →
     IsLastEvent s net event → slice_get net.routers event.router ≡ Some after → old ≡ [] →
-    OnOk r (new ≡ old ++ event_text s event after) → OnOk r (IsTraced net event new)
-text_put s net event after old new (Ok u) last at none put =
-    (after, at, Of_taken last.packet (put ∙ ap (λ (l : List ℕ). l ++ event_text s event after) none ∙ ap (λ (t : Scenario). event_text t event after) (sym last.scenario)))
+    OnOk r (Wrote (IsEventText s event after) old new) → OnOk r (IsTraced net event new)
+text_put s net event after old new (Ok u) last at none (text, put, is) =
+    let whole : new ≡ text = put ∙ ap (λ (l : List ℕ). l ++ text) none in
+    (after, at, subst (IsEventText net.scenario event after) (sym whole) (subst (λ (t : Scenario). IsEventText t event after text) (sym last.scenario) is))
 text_put s net event after old new (Err e) last at none put = tt
 
 -- a run whose next event isn't told whole

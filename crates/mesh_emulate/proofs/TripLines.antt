@@ -20,9 +20,9 @@ use Rattle.mesh_emulate.specs.Wants.{Packet}
 use Rattle.mesh_machine.specs.Names.{router_name}
 use Rattle.mesh_texts.specs.Printed.{IsLine, IsPlain, ArePlain}
 use Rattle.mesh_texts.proofs.Cuts.{lacks}
-use Rattle.mesh_texts.proofs.LineTexts.{line_end, line_after, begins_otherwise, number}
+use Rattle.mesh_texts.proofs.LineTexts.{line_end, line_after, begins_otherwise, number, nothing_plain}
 use Rattle.mesh_texts.proofs.Marked.{name_lacks}
-use Rattle.mesh_emulate.proofs.PlainLines.{router_lacks, behind, behind_lacks, nothing_plain}
+use Rattle.mesh_emulate.proofs.PlainLines.{router_lacks, behind, behind_lacks}
 
 -- Parts without a line feed
 

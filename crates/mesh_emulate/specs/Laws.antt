@@ -1,11 +1,11 @@
 -- What the text of every emulation tells of its network.
-use Rattle.std.specs.Prelude.{◌≡◌, ◌≢◌, ◌↔◌, ◌⊎◌, ℕ, ◌<◌, ◌≤◌, ◌^◌, ◌++◌, List, Contains, length, map, Bool, Option, Some, slice_get, codes, decimal}
+use Rattle.std.specs.Prelude.{◌≡◌, ◌≢◌, ◌↔◌, ◌⊎◌, ℕ, ◌<◌, ◌≤◌, ◌^◌, ◌++◌, List, Contains, length, Bool, Option, Some, codes, decimal}
 use Rattle.mesh_atoms.specs.declared.addr.Addr4.{Addr4}
 use Rattle.mesh_atoms.specs.declared.addr.NetAddr.{NetAddr}
 use Rattle.mesh_atoms.specs.declared.settings.RouterSettings.{RouterSettings}
 use Rattle.mesh_atoms.specs.declared.settings.Scenario.{Scenario}
 use Rattle.mesh_atoms.specs.Radio.{Router, Joined, RadioLeast}
-use Rattle.mesh_atoms.specs.Settled.{At, Settled}
+use Rattle.mesh_atoms.specs.Settled.{At}
 use Rattle.mesh_atoms.specs.State.{State}
 use Rattle.mesh_data.specs.declared.trip.End.TheVariants.{Arrived, NoArc, TooFar}
 use Rattle.mesh_data.specs.declared.trip.Trip.{Trip}
@@ -14,28 +14,20 @@ use Rattle.mesh_data.specs.Trips.{IsTrip}
 use Rattle.mesh_emulate.specs.Emulation.{Emulation}
 use Rattle.mesh_emulate.specs.Wants.{Packet, Wants}
 use Rattle.mesh_flood.specs.Standing.{HasFullSet}
-use Rattle.mesh_machine.specs.Machine.{Run}
 use Rattle.mesh_probe.specs.declared.coverage.Coverage.{Coverage}
 use Rattle.mesh_probe.specs.Laws.{AllWillFlood}
 use Rattle.mesh_probe.specs.Probes.{IfDone, SendsOnce}
 use Rattle.mesh_probe.specs.Text.{ArePeers, probe_start}
-use Rattle.mesh_radio.specs.Net.{event_of, frames_of}
-use Rattle.mesh_radio.specs.Run.{events_at}
 use Rattle.mesh_texts.specs.Printed.{SaysSettled, Prints, PrintsBy, LeadsThere}
+use Rattle.mesh_texts.specs.Runs.{RoutersAreRuns, TellsWhetherSettled}
 
--- each router is a run of the machine with its settings: from its opening state it has come through the events of the network that
--- are its own, in their order, and at each it has sent what the event says
+-- each router is a run of the machine with its settings
 abbrev pub RunsMachines : Type 0
-RunsMachines =
-    (input : List ℕ) (wants : Wants) (e : Emulation input wants) (x : ℕ) (settings : RouterSettings) → Router e.scenario x settings →
-    (state : State) × (slice_get e.run.final.routers x ≡ Some state)
-    × Run settings (map event_of (events_at x e.run.events)) (map frames_of (events_at x e.run.events)) state
+RunsMachines = (input : List ℕ) (wants : Wants) (e : Emulation input wants) → RoutersAreRuns e.run
 
 -- a line is `settled yes` exactly where the network is settled at the end of the run
 abbrev pub TellsSettled : Type 0
-TellsSettled =
-    (input : List ℕ) (wants : Wants) (e : Emulation input wants) →
-    SaysSettled e.text ↔ Settled e.scenario e.run.final.routers e.scenario.end
+TellsSettled = (input : List ℕ) (wants : Wants) (e : Emulation input wants) → TellsWhetherSettled e.run e.text
 
 -- then under a router's name stand exactly the least routes of the radio graph. Numbers are told in full where they fit the 32 bits
 -- of an address and the 64 of a metric

@@ -1,5 +1,5 @@
 -- What is left on out by what is told of a network.
-use Rattle.std.specs.Prelude.{◌≡◌, ◌⊎◌, ◌<◌, ℕ, List, [], ◌++◌, Option, Some, None, Result, Ok, Err, Bool, true, false, take, length, IfSome, IsSome}
+use Rattle.std.specs.Prelude.{◌≡◌, ◌⊎◌, ◌<◌, ℕ, List, [], ◌++◌, Option, Some, None, Result, Ok, Err, Bool, true, false, take, length, IsSome}
 use Rattle.std.specs.Io.KnownBytes.{Appends}
 use Rattle.mesh_atoms.specs.declared.settings.Scenario.{Scenario}
 use Rattle.mesh_atoms.specs.State.{State}
@@ -12,13 +12,13 @@ use Rattle.mesh_io.specs.Faults.{Rose}
 use Rattle.mesh_io.specs.declared.stop.Stop.{Stop}
 use Rattle.mesh_io.specs.declared.stop.Stop.TheVariants as stop
 use Rattle.mesh_emulate.specs.Emulation.{IsProbeOf}
-use Rattle.mesh_machine.specs.Sendable.{IsPacket}
 use Rattle.mesh_probe.specs.declared.coverage.Probe.{Probe}
 use Rattle.mesh_probe.specs.Text.{IsProbeText}
 use Rattle.mesh_radio.specs.declared.event.NetEvent.{NetEvent}
 use Rattle.mesh_radio.specs.Net.{Net}
 use Rattle.mesh_radio.specs.Run.{IsOver, NetRun}
 use Rattle.mesh_settled.specs.declared.gap.Gap.{Gap}
+use Rattle.mesh_texts.specs.Events.{IsTaken}
 use Rattle.mesh_texts.specs.Network.{IsGapOf, IsSummary}
 use Rattle.mesh_texts.specs.Runs.{Traces, WholeRun, IsRunText, FirstEvents, IsFirstTrace}
 
@@ -39,7 +39,7 @@ IsNothing text = text ≡ []
 pub record IsLastEvent (s : Scenario) (net : Net) (event : NetEvent) : Type 0 where
   pub scenario : net.scenario ≡ s
   pub router : event.router < length net.routers
-  pub packet : IfSome event.heard (λ h. IsPacket h.2)
+  pub packet : IsTaken event
 
 -- the text of a run: its trace where it is asked for, and nothing where it isn't
 abbrev pub IsTold : Bool → Net → List NetEvent → Net → List ℕ → Type 0

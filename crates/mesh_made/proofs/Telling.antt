@@ -1,11 +1,9 @@
 -- What is told of a run of a made network.
-use Rattle.std.proofs.Common.{◌≡◌, ℕ, ◌≤◌, true, false, List, [], ◌++◌, length, Option, None, Some, refl, sym, ap, ◌∙◌, subst, arith}
-use Rattle.std.specs.Prelude.{IsNone, IfSome, ◌↔◌}
+use Rattle.std.proofs.Common.{◌≡◌, ℕ, ◌≤◌, List, [], ◌++◌, length, Option, refl, sym, ap, ◌∙◌, subst, arith}
 use Rattle.std.proofs.lemmas.List.{length-map}
 use Rattle.mesh_atoms.specs.declared.graphs.RadioGraph.{RadioGraph}
 use Rattle.mesh_atoms.specs.declared.settings.Scenario.{Scenario}
 use Rattle.mesh_atoms.specs.Radio.{IsRadioGraph}
-use Rattle.mesh_atoms.specs.Settled.{Settled}
 use Rattle.mesh_atoms.specs.State.{State}
 use Rattle.mesh_made.specs.Lines.{made_line, TellsRoutes}
 use Rattle.mesh_made.specs.Made.{IsMadeText, MadeEmulation}
@@ -16,7 +14,6 @@ use Rattle.mesh_radio.specs.declared.event.NetEvent.{NetEvent}
 use Rattle.mesh_radio.specs.Net.{Net}
 use Rattle.mesh_radio.specs.Run.{IsOpeningNet, IsOver, NetRun}
 use Rattle.mesh_settled.specs.declared.gap.Gap.{Gap}
-use Rattle.mesh_settled.specs.Gaps.{IsFirstGap}
 use Rattle.mesh_settled.specs.Network.{IsNetwork}
 use Rattle.mesh_texts.proofs.RunStates.{end_is_network, final_count}
 use Rattle.mesh_texts.specs.Network.{IsGapOf, counts_line, settled_text}
@@ -59,11 +56,6 @@ module _ (s : Scenario) (net : Net) (ends : EndsWith s net) (states : List State
           ∙ ap (λ (c : Counts). made_line k s ++ (counts_line s c ++ (routes ++ settled_text s gap))) (are ∙ ap (λ (n : Net). n.traffic.counts) (sym ends.1));
     },
   )
-
-pub gap_is : (s : Scenario) (states : List State) (now : ℕ) (gap : Option Gap) → (IsNone gap ↔ Settled s states now) →
-    IfSome gap (IsFirstGap s states now) → IsGapOf s states now gap
-gap_is s states now None none first = none.0 refl
-gap_is s states now (Some gap) none first = (λ settled. (let e : true ≡ false = none.1 settled in absurd cc), first)
 
 pub emulated : (k : Kind) (n seed : ℕ) (s : Scenario) → IsMade k n seed s → (text : List ℕ) → (run : WholeRun s) × IsMadeText k s run text →
     (m : MadeEmulation k n seed) × (m.text ≡ text)

@@ -1,4 +1,4 @@
--- What the text of a made network tells where its network is settled.
+-- What holds of every made network, and what its text tells.
 use Rattle.std.proofs.Common.{◌≡◌, ℕ, ◌+◌, List, [], ◌∷◌, ◌++◌, length, map, Option, None, Some, refl, sym, ap, ◌∙◌, subst, arith, append_assoc, codes, decimal}
 use Rattle.std.specs.Prelude.{Contains, slice_get}
 use Rattle.std.proofs.lemmas.List.{append-nil, length-map}
@@ -7,24 +7,23 @@ use Rattle.mesh_atoms.specs.declared.settings.RouterSettings.{RouterSettings}
 use Rattle.mesh_atoms.specs.declared.settings.Scenario.{Scenario}
 use Rattle.mesh_atoms.specs.Radio.{Router, RadioLeast}
 use Rattle.mesh_atoms.specs.Settled.{At, Settled}
-use Rattle.mesh_atoms.specs.State.{State}
 use Rattle.mesh_made.specs.Lines.{kind_text, made_line, greatest_text, routes_line}
-use Rattle.mesh_made.specs.Made.{Reached, AreLeastRoutes, TellsLeastRoutes}
+use Rattle.mesh_made.specs.Made.{MadeNetworksRunMachines, MadeNetworksTellSettled, Reached, AreLeastRoutes, TellsLeastRoutes}
 use Rattle.mesh_made.specs.Routes.{metrics_of, IsGreatest}
 use Rattle.mesh_made.proofs.Reaching.{all_reached, metrics_same, where_from, is_there, all_apart}
-use Rattle.mesh_paths.proofs.Scenarios.{sound_scenario}
 use Rattle.mesh_paths.proofs.SettledLaw.{settled_rows}
 use Rattle.mesh_paths.specs.SettledRoutes.{IsSettledNetwork}
-use Rattle.mesh_radio.proofs.Through.{end_together}
-use Rattle.mesh_settled.specs.declared.gap.Gap.{Gap}
-use Rattle.mesh_texts.proofs.LineTexts.{line_after, line_end, begins_otherwise, number, counts_plain}
-use Rattle.mesh_texts.proofs.ReadBack.{says_settled}
-use Rattle.mesh_texts.proofs.RunStates.{run_states}
-use Rattle.mesh_texts.specs.Network.{IsGapOf, counts_line, settled_text}
+use Rattle.mesh_texts.proofs.LineTexts.{line_after, line_end, begins_otherwise, number, counts_plain, nothing_plain}
+use Rattle.mesh_texts.proofs.ReadBack.{says_exactly, tells_whether}
+use Rattle.mesh_texts.proofs.RunStates.{run_states, routers_are_runs, end_is_settled}
+use Rattle.mesh_texts.specs.Network.{counts_line, settled_text}
 use Rattle.mesh_texts.specs.Printed.{IsLine, BeginsWith}
 use Rattle.mesh_texts.specs.Runs.{WholeRun}
 use Rattle.mesh_words.specs.declared.job.Kind.{Kind}
 use Rattle.mesh_words.specs.declared.job.Kind.TheVariants as kind
+
+pub run_as_machines : MadeNetworksRunMachines
+run_as_machines k n seed m = routers_are_runs m.scenario m.run
 
 -- Lines
 
@@ -66,22 +65,30 @@ three a b c d =
     ap (λ (l : List ℕ). a ++ (b ++ (c ++ l))) (sym (append-nil d)) ∙ ap (λ (l : List ℕ). a ++ (b ++ (l ++ e))) (sym (append-nil c))
     ∙ ap (λ (l : List ℕ). a ++ l) (sym (append_assoc b f e)) ∙ sym (append_assoc a (b ++ f) e)
 
--- Settled
+-- Whether it is settled
 
-settled_gap : (s : Scenario) (states : List State) (now : ℕ) (gap : Option Gap) → gap ≡ None → IsGapOf s states now gap →
-    Settled s states now
-settled_gap s states now None e is = is
-settled_gap s states now (Some gap) e is = absurd cc
+pub tell_settled : MadeNetworksTellSettled
+tell_settled k n seed m =
+    let s = m.scenario in
+    let t = m.is_text in
+    let first = made_line k s in
+    let second = counts_line s m.run.final.traffic.counts in
+    let told = t.tells_routes in
+    let count = length (metrics_of m.run.final.routers) in
+    let routes : routes_line count told.greatest ≡ t.routes = sym told.whole in
+    let counts = counts_plain s m.run.final.traffic.counts in
+    tells_whether s m.run t.gap m.text t.is_gap
+    (says_exactly s t.gap (first ∷ second ∷ t.routes ∷ []) [] m.text
+    (made_is_line k s, (counts.line, (subst IsLine routes (routes_is_line count told.greatest), tt)))
+    (omega arith)
+    (made_begins k s, (counts.no_settled, (subst (λ (l : List ℕ). BeginsWith (codes "settled yes\n") l → ⊥) routes (routes_begins count told.greatest), tt)))
+    (nothing_plain [] refl) (t.whole ∙ three first second t.routes (settled_text s t.gap)))
+
+-- The least routes
 
 module _ (s : Scenario) (run : WholeRun s) (settled : Settled s run.final.routers s.end) where
   network : IsSettledNetwork s run.final.routers s.end
-  network = record {
-    scenario = sound_scenario s;
-    routers = run_states s run;
-    sound = λ x p at. (end_together s run.opening run.events run.final run.is_opening run.runs run.over x p at.is).0;
-    moment = λ x p at. (end_together s run.opening run.events run.final run.is_opening run.runs run.over x p at.is).1;
-    settled = settled;
-  }
+  network = end_is_settled s run settled
 
   least_there : (x : ℕ) (dest : NetAddr) (metric : ℕ) →
       Contains (all_reached 0 run.final.routers) (record { router = x; dest = dest; metric = metric }) →
@@ -121,14 +128,7 @@ tells_least_routes k n seed m says =
     let first = made_line k s in
     let second = counts_line s m.run.final.traffic.counts in
     let last = settled_text s t.gap in
-    let told = t.tells_routes in
-    let routes : routes_line (length (metrics_of ps)) told.greatest ≡ t.routes = sym told.whole in
-    let counts = counts_plain s m.run.final.traffic.counts in
-    let none : t.gap ≡ None = says_settled s t.gap (first ∷ second ∷ t.routes ∷ []) [] m.text
-    (made_is_line k s, (counts.line, (subst IsLine routes (routes_is_line (length (metrics_of ps)) told.greatest), tt)))
-    (made_begins k s, (counts.no_settled, (subst (λ (l : List ℕ). BeginsWith (codes "settled yes\n") l → ⊥) routes (routes_begins (length (metrics_of ps)) told.greatest), tt)))
-    tt (t.whole ∙ three first second t.routes last) says in
-    let settled : Settled s ps s.end = settled_gap s ps s.end t.gap none t.is_gap in
+    let settled : Settled s ps s.end = (tell_settled k n seed m).0 says in
     let same : map (λ r. r.metric) (all_reached 0 ps) ≡ metrics_of ps = metrics_same 0 ps in
     let greatest = t.tells_routes.greatest in
     let count : length (metrics_of ps) ≡ length (all_reached 0 ps) =

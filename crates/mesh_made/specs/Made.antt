@@ -11,7 +11,7 @@ use Rattle.mesh_made.specs.Scenario.{IsMade}
 use Rattle.mesh_settled.specs.declared.gap.Gap.{Gap}
 use Rattle.mesh_texts.specs.Network.{IsGapOf, counts_line, settled_text}
 use Rattle.mesh_texts.specs.Printed.{IsLine, SaysSettled}
-use Rattle.mesh_texts.specs.Runs.{WholeRun}
+use Rattle.mesh_texts.specs.Runs.{WholeRun, RoutersAreRuns, TellsWhetherSettled}
 use Rattle.mesh_words.specs.declared.job.Kind.{Kind}
 
 -- what is told of a run of a made scenario's network: how it was made, what was counted, its routes, and what is said of its gap
@@ -29,6 +29,17 @@ pub record MadeEmulation (k : Kind) (n seed : ℕ) : Type 0 where
   pub run : WholeRun scenario
   pub text : List ℕ
   pub is_text : IsMadeText k scenario run text
+
+-- What holds of every made network
+
+-- each router is a run of the machine with its settings
+abbrev pub MadeNetworksRunMachines : Type 0
+MadeNetworksRunMachines = (k : Kind) (n seed : ℕ) (m : MadeEmulation k n seed) → RoutersAreRuns m.run
+
+-- a line is `settled yes` exactly where the network is settled at the end of the run; where it isn't, the text ends with `settled no`
+-- and the first gap
+abbrev pub MadeNetworksTellSettled : Type 0
+MadeNetworksTellSettled = (k : Kind) (n seed : ℕ) (m : MadeEmulation k n seed) → TellsWhetherSettled m.run m.text
 
 -- What the text tells where a line is `settled yes`
 

@@ -1,8 +1,11 @@
-//! What the text of every made network tells.
-ghost use Rattle.mesh_made.specs.Made.{TellsLeastRoutes};
+//! What holds of every made network, and what its text tells.
+ghost use Rattle.mesh_made.specs.Made.{MadeNetworksRunMachines, MadeNetworksTellSettled, TellsLeastRoutes};
 
-/// Where the text of a made network has a line `settled yes`, it tells how many least routes the radio graph has, and the greatest
-/// metric of them. It does nothing.
+/// In every run of a made network each router is a run of the machine with its settings. A line of its text is `settled yes` exactly
+/// where the network is settled at the end; then the text tells how many least routes the radio graph has, and the greatest metric of
+/// them. It does nothing.
 pub fn made_networks_tell()
-    ensures { TellsLeastRoutes }
+    ensures machines { MadeNetworksRunMachines }
+    ensures settled { MadeNetworksTellSettled }
+    ensures routes { TellsLeastRoutes }
 {}

@@ -1,5 +1,6 @@
 pub mod Cuts
 mod Digits
+pub mod Gaps
 pub mod Joined
 mod LineLists
 pub mod LineTexts

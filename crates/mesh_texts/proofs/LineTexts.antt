@@ -24,7 +24,7 @@ use Rattle.mesh_texts.specs.Marks.{joined, line_of, dotted, slashed, node_text, 
 use Rattle.mesh_texts.specs.Lines.{router_line, link_line, neighbour_line, held_line, flooding_line, routing_line, route_line, row_line}
 use Rattle.mesh_texts.specs.Events.{tick_line, heard_line, flooding_relays_line, routing_relays_line, sent_line, loss_line}
 use Rattle.mesh_texts.specs.Network.{counts_line, key_text, gap_line}
-use Rattle.mesh_texts.specs.Printed.{IsLine, BeginsWith, IsPlain}
+use Rattle.mesh_texts.specs.Printed.{IsLine, BeginsWith, IsPlain, ArePlain}
 use Rattle.mesh_texts.proofs.Cuts.{lacks, lacks_both, each_lacks, has_front}
 use Rattle.mesh_texts.proofs.Marked.{decimal_lacks, dotted_lacks, slashed_lacks, node_lacks, metric_lacks, choice_lacks, status_lacks, nearness_lacks, relays_lack, face_name_lacks, own_name_lacks, router_name_lacks, hex_lacks, name_lacks}
 
@@ -304,3 +304,7 @@ unsettled_plain = record {
   no_route = begins_otherwise (codes " route ") (codes "settled no\n") 0 refl refl;
   no_settled = begins_otherwise (codes "settled yes\n") (codes "settled no\n") 8 refl refl;
 }
+
+-- no line at all
+pub nothing_plain : (text : List ℕ) → text ≡ [] → ArePlain text
+nothing_plain text none = record { lines = []; each = All-nil IsPlain; whole = none }

@@ -1,5 +1,5 @@
 -- The text of a run read back: whether it was settled, and the routes under a router's name.
-use Rattle.std.proofs.Common.{◌≡◌, ℕ, zero, suc, ◌<◌, Bool, true, false, List, [], ◌∷◌, ◌++◌, length, map, get_or, Option, Some, None, refl, sym, ap, ◌∙◌, subst, arith, append_assoc, codes, length-append}
+use Rattle.std.proofs.Common.{◌≡◌, ◌↔◌, ℕ, zero, suc, ◌<◌, Bool, true, false, List, [], ◌∷◌, ◌++◌, length, map, get_or, Option, Some, None, refl, sym, ap, ◌∙◌, subst, arith, append_assoc, codes, length-append}
 use Rattle.std.specs.Prelude.{slice_get, Contains, option_map}
 use Rattle.std.specs.List.{AllByRecursion as Each, IsDistinct}
 use Rattle.std.proofs.lemmas.Cmp.{nat_list_eq_equiv}
@@ -18,10 +18,11 @@ use Rattle.mesh_atoms.proofs.Kept.{distinct_is}
 use Rattle.mesh_settled.specs.declared.gap.Gap.{Gap}
 use Rattle.mesh_texts.specs.Marks.{dotted, face_name}
 use Rattle.mesh_texts.specs.Lines.{router_line, row_line, route_line}
-use Rattle.mesh_texts.specs.Network.{settled_text}
-use Rattle.mesh_texts.specs.Runs.{WholeRun, IsRunText}
+use Rattle.mesh_texts.specs.Network.{IsGapOf, settled_text}
+use Rattle.mesh_texts.specs.Runs.{WholeRun, TellsWhetherSettled, IsRunText}
 use Rattle.mesh_texts.specs.Printed.{IsLine, BeginsWith, SaysSettled, IsPlain, ArePlain, StandsUnder, PrintsBy}
 use Rattle.mesh_texts.specs.Laws.{EndsSettled, PrintsRows, PrintsRowsBy}
+use Rattle.mesh_texts.proofs.Gaps.{no_gap}
 use Rattle.mesh_texts.proofs.Cuts.{first_cut, same_front}
 use Rattle.mesh_texts.proofs.Marked.{own_name_lacks}
 use Rattle.mesh_texts.proofs.LineLists.{heading_front, flat, flat_both, line_among, each_has, Heads, Stands, Under, each_both, each_front, each_back, each_weaker, first_lines, stands_contained, under_past, under_behind}
@@ -48,7 +49,7 @@ says_none lines text all none is (front, behind, e) =
     let stands = line_among lines front yes behind all settled_neither.line (sym is ∙ e) in
     each_has (λ l. Settles l → ⊥) stands.before stands.behind yes (subst (Each (λ l. Settles l → ⊥)) stands.whole none) ([], sym (append-nil yes))
 
-pub says_settled : (s : Scenario) (gap : Option Gap) (before behind : List (List ℕ)) (text : List ℕ) → Each IsLine before →
+says_settled : (s : Scenario) (gap : Option Gap) (before behind : List (List ℕ)) (text : List ℕ) → Each IsLine before →
     Each (λ l. Settles l → ⊥) before → Each IsPlain behind → text ≡ flat before ++ (settled_text s gap ++ flat behind) → SaysSettled text → gap ≡ None
 says_settled s None before behind text lines none plain e says = refl
 says_settled s (Some gap) before behind text lines none plain e says = absurd (
@@ -66,20 +67,34 @@ unfolding settled_text
 told_settled s None front behind text e none = (front, behind, e ∙ append_assoc front (codes "\n") (codes "settled yes\n" ++ behind))
 told_settled s (Some gap) front behind text e none = absurd cc
 
+-- a line is `settled yes` exactly where there is no gap to tell, whatever lines stand before and whatever plain lines behind
+pub says_exactly : (s : Scenario) (gap : Option Gap) (before : List (List ℕ)) (behind text : List ℕ) → Each IsLine before →
+    0 < length before → Each (λ l. Settles l → ⊥) before → ArePlain behind → text ≡ flat before ++ (settled_text s gap ++ behind) →
+    SaysSettled text ↔ (gap ≡ None)
+says_exactly s gap before behind text lines some none plain e =
+    let last = settled_text s gap in
+    let after = plain_lines behind plain in
+    let end = ends before lines some in (
+      says_settled s gap before after.lines text lines none after.each (e ∙ ap (λ (l : List ℕ). flat before ++ (last ++ l)) after.whole),
+      told_settled s gap end.0 behind text (e ∙ ap (λ (l : List ℕ). l ++ (last ++ behind)) end.1),
+    )
+
+-- so the text tells whether the network is settled, where the gap is the network's
+pub tells_whether : (s : Scenario) (run : WholeRun s) (gap : Option Gap) (text : List ℕ) → IsGapOf s run.final.routers s.end gap →
+    SaysSettled text ↔ (gap ≡ None) → TellsWhetherSettled run text
+tells_whether s run gap text is says =
+    let none = no_gap s run.final.routers s.end gap is in
+    (λ h. none.0 (says.0 h), λ settled. says.1 (none.1 settled))
+
 pub ends_settled : EndsSettled
 ends_settled s trace run text behind told plain =
     let t = text_lines s trace run text told in
-    let after = plain_lines behind plain in
     let lines = t.front ++ t.sections in
     let Other : List ℕ → Type 0 = λ l. Settles l → ⊥ in
     let all = each_both IsLine t.front t.sections (each_weaker IsPlain IsLine (λ l is. is.line) t.front t.plain) (sections_are_lines run.final.routers t.sections t.are_sections) in
     let none = each_both Other t.front t.sections (each_weaker IsPlain Other (λ l is. is.no_settled) t.front t.plain) (sections_settle_none run.final.routers t.sections t.are_sections) in
-    let end = ends lines all (omega (arith, t.some, length-append t.front t.sections)) in
-    let last = settled_text s told.gap in
-    let whole : text ++ behind ≡ flat lines ++ (last ++ behind) = ap (λ (l : List ℕ). l ++ behind) t.whole ∙ append_assoc (flat lines) last behind in (
-      says_settled s told.gap lines after.lines (text ++ behind) all none after.each (whole ∙ ap (λ (l : List ℕ). flat lines ++ (last ++ l)) after.whole),
-      told_settled s told.gap end.0 behind (text ++ behind) (whole ∙ ap (λ (l : List ℕ). l ++ (last ++ behind)) end.1),
-    )
+    says_exactly s told.gap lines behind (text ++ behind) all (omega (arith, t.some, length-append t.front t.sections)) none plain
+    (ap (λ (l : List ℕ). l ++ behind) t.whole ∙ append_assoc (flat lines) (settled_text s told.gap) behind)
 
 -- Lines of the text
 

@@ -6,7 +6,7 @@ use Rattle.mesh_atoms.specs.declared.graphs.RadioGraph.{RadioGraph}
 use Rattle.mesh_atoms.specs.declared.settings.RouterSettings.{RouterSettings}
 use Rattle.mesh_atoms.specs.declared.settings.Scenario.{Scenario}
 use Rattle.mesh_atoms.specs.Radio.{Router, IsRadioGraph}
-use Rattle.mesh_atoms.specs.Settled.{At, AreStates}
+use Rattle.mesh_atoms.specs.Settled.{At, AreStates, Settled}
 use Rattle.mesh_atoms.specs.State.{State}
 use Rattle.mesh_machine.specs.declared.frame.Frame.{Frame}
 use Rattle.mesh_machine.specs.Machine.{Event, Step, Heard_frame, Ticked, Steps, No_events, First_event, Run}
@@ -15,9 +15,11 @@ use Rattle.mesh_radio.specs.declared.event.NetEvent.{NetEvent}
 use Rattle.mesh_radio.specs.Net.{Net, NetStep, By_delivery, By_tick, By_last_tick, Moves, event_of, frames_of}
 use Rattle.mesh_traffic.specs.Sending.{Traffic, with_heard}
 use Rattle.mesh_radio.specs.Run.{NetRun, events_at}
+use Rattle.mesh_paths.proofs.Scenarios.{sound_scenario}
+use Rattle.mesh_paths.specs.SettledRoutes.{IsSettledNetwork}
 use Rattle.mesh_radio.proofs.Through.{are_machines, end_together}
 use Rattle.mesh_settled.specs.Network.{IsNetwork}
-use Rattle.mesh_texts.specs.Runs.{WholeRun}
+use Rattle.mesh_texts.specs.Runs.{WholeRun, RoutersAreRuns}
 
 -- Settings stay
 
@@ -51,19 +53,22 @@ run_count old (event ∷ events) new (mid, step, run) = run_count mid events new
 
 -- The end of a run
 
+pub routers_are_runs : (s : Scenario) (run : WholeRun s) → RoutersAreRuns run
+routers_are_runs s run = are_machines s run.opening run.events run.final run.is_opening run.runs
+
 one_state : (states : List State) (x : ℕ) (a b : State) → slice_get states x ≡ Some a → slice_get states x ≡ Some b → a ≡ b
 one_state states x a b e f = cc
 
 pub run_states : (s : Scenario) (run : WholeRun s) → AreStates s run.final.routers
 run_states s run = record { settings = settings; all = all } where
   all : (x : ℕ) (r : RouterSettings) → Router s x r → (p : State) × At run.final.routers x p
-  all x r is = let end = are_machines s run.opening run.events run.final run.is_opening run.runs x r is in (end.0, record { is = end.1 })
+  all x r is = let end = routers_are_runs s run x r is in (end.0, record { is = end.1 })
 
   settings : (x : ℕ) (p : State) → At run.final.routers x p → Router s x p.settings
   settings x p at = elim ((slice_get_cases s.routers x).1) [
     | inl there ↦
         let (r, _, is, _) = there in
-        let end = are_machines s run.opening run.events run.final run.is_opening run.runs x r is in
+        let end = routers_are_runs s run x r is in
         let same = one_state run.final.routers x end.0 p end.1 at.is in
         subst (λ (q : RouterSettings). Router s x q) (sym (run_settings r (map event_of (events_at x run.events)) (map frames_of (events_at x run.events)) end.0 end.2) ∙ ap (λ (q : State). q.settings) same) is
     | inr past ↦ absurd (
@@ -84,4 +89,14 @@ end_is_network s g run graph = record {
   routers = run_states s run;
   sound = λ x p at. (end_together s run.opening run.events run.final run.is_opening run.runs run.over x p at.is).0;
   moment = λ x p at. (end_together s run.opening run.events run.final run.is_opening run.runs run.over x p at.is).1;
+}
+
+-- where it is settled, what is known of settled networks holds of it
+pub end_is_settled : (s : Scenario) (run : WholeRun s) → Settled s run.final.routers s.end → IsSettledNetwork s run.final.routers s.end
+end_is_settled s run settled = record {
+  scenario = sound_scenario s;
+  routers = run_states s run;
+  sound = λ x p at. (end_together s run.opening run.events run.final run.is_opening run.runs run.over x p at.is).0;
+  moment = λ x p at. (end_together s run.opening run.events run.final run.is_opening run.runs run.over x p at.is).1;
+  settled = settled;
 }

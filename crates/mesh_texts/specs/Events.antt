@@ -74,10 +74,14 @@ unfoldable pub sent_lines : Scenario → ℕ → RouterSettings → Emission →
 sent_lines s moment r sent =
     sent_line moment r.name (face_name r.interfaces sent.iface) sent.frame ++ flat_map (lost_line s moment) sent.lost
 
--- an event whose frame spells a packet, or a tick, where the router is in that state after it
+-- a tick, or a frame that is taken, where the router is in that state after it
 unfoldable pub event_text : Scenario → NetEvent → State → List ℕ
 event_text s event after =
     event_line event after.settings ++ relays_lines after ++ flat_map (sent_lines s event.moment after.settings) event.sent
+
+-- the frame that is heard, if one is, spells a packet, so that it is taken
+abbrev pub IsTaken : NetEvent → Type 0
+IsTaken event = IfSome event.heard (λ h. IsPacket h.2)
 
 -- the frame that is heard has a fault, so that it is refused
 pub record IsRefused (event : NetEvent) : Type 0 where
@@ -91,5 +95,5 @@ pub record IsRefused (event : NetEvent) : Type 0 where
 
 -- the text of an event: a refused frame has its own line alone, as it changes nothing
 pub data IsEventText (s : Scenario) (event : NetEvent) (after : State) (text : List ℕ) : Type 0 where
-  Of_taken : IfSome event.heard (λ h. IsPacket h.2) → text ≡ event_text s event after → IsEventText s event after text
+  Of_taken : IsTaken event → text ≡ event_text s event after → IsEventText s event after text
   Of_refused : IsRefused event → text ≡ event_line event after.settings → IsEventText s event after text

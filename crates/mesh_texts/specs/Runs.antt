@@ -1,13 +1,18 @@
 -- The texts of whole runs of an emulated network.
-use Rattle.std.specs.Prelude.{◌≡◌, ℕ, List, [], ◌∷◌, ◌++◌, Option, Some, Bool, true, false, slice_get}
+use Rattle.std.specs.Prelude.{◌≡◌, ◌↔◌, ℕ, List, [], ◌∷◌, ◌++◌, map, Option, Some, Bool, true, false, slice_get}
+use Rattle.mesh_atoms.specs.declared.settings.RouterSettings.{RouterSettings}
 use Rattle.mesh_atoms.specs.declared.settings.Scenario.{Scenario}
+use Rattle.mesh_atoms.specs.Radio.{Router}
+use Rattle.mesh_atoms.specs.Settled.{Settled}
 use Rattle.mesh_atoms.specs.State.{State}
+use Rattle.mesh_machine.specs.Machine.{Run}
 use Rattle.mesh_radio.specs.declared.event.NetEvent.{NetEvent}
-use Rattle.mesh_radio.specs.Net.{Net, NetStep}
-use Rattle.mesh_radio.specs.Run.{IsOpeningNet, IsOver, NetRun}
+use Rattle.mesh_radio.specs.Net.{Net, NetStep, event_of, frames_of}
+use Rattle.mesh_radio.specs.Run.{IsOpeningNet, IsOver, NetRun, events_at}
 use Rattle.mesh_settled.specs.declared.gap.Gap.{Gap}
 use Rattle.mesh_texts.specs.Events.{IsEventText}
 use Rattle.mesh_texts.specs.Network.{IsGapOf, IsSummary}
+use Rattle.mesh_texts.specs.Printed.{SaysSettled}
 
 -- The trace
 
@@ -33,6 +38,18 @@ pub record WholeRun (s : Scenario) : Type 0 where
   pub is_opening : IsOpeningNet s opening
   pub runs : NetRun opening events final
   pub over : IsOver final
+
+-- each router is a run of the machine with its settings: from its opening state it has come through the events of the network that
+-- are its own, in their order, and at each it has sent what the event says
+abbrev pub RoutersAreRuns : {s : Scenario} → WholeRun s → Type 0
+RoutersAreRuns {s} run =
+    (x : ℕ) (settings : RouterSettings) → Router s x settings →
+    (state : State) × (slice_get run.final.routers x ≡ Some state)
+    × Run settings (map event_of (events_at x run.events)) (map frames_of (events_at x run.events)) state
+
+-- a line of the text is `settled yes` exactly where the network is settled at the end of the run
+abbrev pub TellsWhetherSettled : {s : Scenario} → WholeRun s → List ℕ → Type 0
+TellsWhetherSettled {s} run text = SaysSettled text ↔ Settled s run.final.routers s.end
 
 -- the trace of a run where it is asked for, and nothing where it isn't
 abbrev pub IsTrace : Bool → {s : Scenario} → WholeRun s → List ℕ → Type 0

@@ -1,10 +1,11 @@
 //! The lines of an event of an emulated network, put behind other octets.
 ghost use Rattle.std.specs.Prelude.{◌≡◌, ◌++◌, OnOk, Some};
 ghost use Rattle.std.specs.List.{flat_map, enumerate_from};
+ghost use Rattle.mesh_packet.specs.Least.{Wrote};
 ghost use Rattle.mesh_tlv.specs.Least.{Grows};
 ghost use Rattle.mesh_machine.specs.Names.{router_name};
 ghost use Rattle.mesh_texts.specs.Marks.{line_of, face_name, relays_text, faces_of};
-ghost use Rattle.mesh_texts.specs.Events.{tick_line, heard_line, event_line, flooding_relays_line, routing_relays_line, relays_lines, sent_line, loss_line, arc_line, lost_line, sent_lines, event_text};
+ghost use Rattle.mesh_texts.specs.Events.{tick_line, heard_line, event_line, flooding_relays_line, routing_relays_line, relays_lines, sent_line, loss_line, arc_line, lost_line, sent_lines, event_text, IsTaken, IsEventText};
 
 use crate::lines::relays_of;
 use crate::names::{face_name, faces_of};
@@ -343,11 +344,9 @@ fn put_sent_at(
     put_all_sent(out, scenario, event.moment, router, event.sent.as_slice())
 }
 
-/// Puts the lines of an event of an emulated network, after which its router is so: what happened to it, the relays that it then
-/// has, and each frame that it sent with the arcs on which it was lost. It is for ticks and for frames that spell a packet, as
-/// all frames of a run do. Want of memory leaves a part of it behind what was there.
+// Puts what happened to a router, its relays, and what it sent.
 #[tactic(auto, unfolding(crate::specs::Events::event_text))]
-pub fn put_event<R: RouterView>(
+fn put_happening<R: RouterView>(
     out: &mut Bytes,
     scenario: &Scenario,
     event: &NetEvent,
@@ -360,4 +359,20 @@ pub fn put_event<R: RouterView>(
     put_event_line(out, event, settings)?;
     put_relays_lines(out, router)?;
     put_sent_at(out, scenario, event, settings)
+}
+
+/// Puts the lines of an event of an emulated network, after which its router is so: what happened to it, the relays that it then
+/// has, and each frame that it sent with the arcs on which it was lost. What is heard spells a packet, as all frames of a run do.
+/// Want of memory leaves a part of it behind what was there.
+pub fn put_event<R: RouterView>(
+    out: &mut Bytes,
+    scenario: &Scenario,
+    event: &NetEvent,
+    router: &R,
+) -> Result<(), AllocError>
+    requires { IsTaken event.now }
+    ensures ok { OnOk result (Wrote (IsEventText scenario.now event.now (R.state router.now)) out.old out.new) }
+    ensures kept { Grows out.old out.new }
+{
+    put_happening(out, scenario, event, router)
 }

@@ -3,7 +3,7 @@ ghost use Rattle.std.specs.Prelude.{◌≡◌};
 ghost use Rattle.mesh_emulate.specs.Laws.{RunsMachines, TellsSettled, PrintsLeastRoutes, PrintsNextHops};
 ghost use Rattle.mesh_emulate.specs.Laws.{TripsAreOnly, TripsReachRouters, TripsReachNetworks, TripsNeverStray};
 ghost use Rattle.mesh_emulate.specs.Laws.{ProbesReachJoined, ProbesTellAll, ProbesSendOnce};
-ghost use Rattle.mesh_made.specs.Made.{TellsLeastRoutes};
+ghost use Rattle.mesh_made.specs.Made.{MadeNetworksRunMachines, MadeNetworksTellSettled, TellsLeastRoutes};
 ghost use Rattle.mesh_turns.specs.Laws.{TurnsAreRuns, TurnsKeepSound};
 ghost use Rattle.mesh_tool.specs.Answers.{Answers};
 ghost use Rattle.mesh_words.specs.Words.{texts};
@@ -138,7 +138,13 @@ pub fn mesh_top<S: Source, O: Sink, E: Sink, A: Air, C: Clock>(
     // and is sound.
     ensures sound_turns { TurnsKeepSound }
 
-    // What is told of a made network that is settled counts the least routes of its radio graph.
+    // In every run of a made network each router is a run of the machine.
+    ensures made_machines { MadeNetworksRunMachines }
+
+    // A line of the text of one is `settled yes` exactly where the network is settled at its end.
+    ensures made_settled { MadeNetworksTellSettled }
+
+    // Then the text counts the least routes of the radio graph.
     ensures made_routes { TellsLeastRoutes }
 {
     emulations_tell();

@@ -1,7 +1,8 @@
 use Rattle.std.proofs.Common.{arith}
 use Rattle.std.proofs.lemmas.List.{length-map}
 use Rattle.mesh_radio.specs.Run.{states_of}
-use Rattle.mesh_made.proofs.Telling.{at_end, few_states, made_text_is, gap_is}
+use Rattle.mesh_texts.proofs.Gaps.{gap_is}
+use Rattle.mesh_made.proofs.Telling.{at_end, few_states, made_text_is}
 use Rattle.mesh_made.proofs.emulation.text_of.Goals as goal
 
 pub settled-gap-requires : goal.settled-gap-requires

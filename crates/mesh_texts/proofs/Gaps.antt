@@ -1,6 +1,6 @@
--- The first gap of a network at its end.
-use Rattle.std.proofs.Common.{◌≡◌, ℕ, refl, List, Option, Some, None, true, false}
-use Rattle.std.specs.Prelude.{IsNone, IfSome, ◌↔◌}
+-- The first gap of a network at its end, or none where it is settled.
+use Rattle.std.proofs.Common.{◌≡◌, ℕ, ◌↔◌, refl, List, Option, Some, None, true, false}
+use Rattle.std.specs.Prelude.{IsNone, IfSome}
 use Rattle.mesh_atoms.specs.declared.settings.Scenario.{Scenario}
 use Rattle.mesh_atoms.specs.Settled.{Settled}
 use Rattle.mesh_atoms.specs.State.{State}
@@ -12,3 +12,8 @@ pub gap_is : (s : Scenario) (states : List State) (now : ℕ) (gap : Option Gap)
     IfSome gap (IsFirstGap s states now) → IsGapOf s states now gap
 gap_is s states now None none first = none.0 refl
 gap_is s states now (Some gap) none first = (λ settled. (let e : true ≡ false = none.1 settled in cc), first)
+
+pub no_gap : (s : Scenario) (states : List State) (now : ℕ) (gap : Option Gap) → IsGapOf s states now gap →
+    (gap ≡ None) ↔ Settled s states now
+no_gap s states now None is = (λ e. is, λ settled. refl)
+no_gap s states now (Some gap) is = (λ e. absurd cc, λ settled. absurd (is.0 settled))
