@@ -56,7 +56,28 @@ pub fn top_over<B: Bases, S: Source, O: Sink, E: Sink, A: Air, C: Clock>(
       air_faults = A.faults air.old;
       air_faults' = A.faults air.new;
     }) result }
+
+    // What holds of every emulation, trip, probe, made network and run of a router, clause by clause as at `mesh_top`.
+    ensures machines { RunsMachines }
+    ensures settled { TellsSettled }
+    ensures routes { PrintsLeastRoutes }
+    ensures next_hops { PrintsNextHops }
+    ensures trips { TripsAreOnly }
+    ensures trips_reach_routers { TripsReachRouters }
+    ensures trips_reach_networks { TripsReachNetworks }
+    ensures trips_never_stray { TripsNeverStray }
+    ensures probes_reach { ProbesReachJoined }
+    ensures probes_tell { ProbesTellAll }
+    ensures probes_once { ProbesSendOnce }
+    ensures turns { TurnsAreRuns }
+    ensures sound_turns { TurnsKeepSound }
+    ensures made_machines { MadeNetworksRunMachines }
+    ensures made_settled { MadeNetworksTellSettled }
+    ensures made_routes { TellsLeastRoutes }
 {
+    emulations_tell();
+    made_networks_tell();
+    turns_are_runs();
     let how = do_asked::<B, S, O, A, C>(alloc, words, input, out, air, clock);
     tell(err, words, &how)
 }
@@ -147,8 +168,5 @@ pub fn mesh_top<S: Source, O: Sink, E: Sink, A: Air, C: Clock>(
     // Then the text counts the least routes of the radio graph.
     ensures made_routes { TellsLeastRoutes }
 {
-    emulations_tell();
-    made_networks_tell();
-    turns_are_runs();
     top_over::<IndexedBases, S, O, E, A, C>(alloc, words, input, out, err, air, clock)
 }
