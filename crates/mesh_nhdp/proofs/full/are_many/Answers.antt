@@ -12,7 +12,7 @@ use Rattle.mesh_nhdp.specs.Wanted.{IsWantedAddress}
 use Rattle.mesh_hello.proofs.Collect.{iff_on}
 use Rattle.mesh_nhdp.proofs.Fits.{are_more}
 use Rattle.mesh_nhdp.proofs.HeldAddresses.{held_addresses}
-use Rattle.mesh_nhdp.proofs.full.is_full_of_addresses.Goals as goal
+use Rattle.mesh_nhdp.proofs.full.are_many.Goals as goal
 
 pub returns : goal.returns
 returns g c near is_neighbours is_losts =
