@@ -1,5 +1,5 @@
 -- What a HELLO doesn't touch: the neighbours that it doesn't speak of, with their links.
-use Rattle.std.proofs.Common.{◌≡◌, ℕ, ◌≢◌, ◌⊎◌, ◌↔◌, inl, inr, refl, sym, ◌∙◌, ap, subst, arith, List, [], Contains, Option, Some, None, IsTrue}
+use Rattle.std.proofs.Common.{◌≡◌, ℕ, ◌≢◌, ◌⊎◌, ◌↔◌, inl, inr, refl, sym, ◌∙◌, subst, arith, List, [], Contains, Option, Some, None, IsTrue}
 use Rattle.std.specs.Prelude.{Bool, true, false, cond, ◌&&◌}
 use Rattle.mesh_atoms.specs.declared.addr.Addr4.{Addr4}
 use Rattle.mesh_atoms.specs.declared.tuples.LinkKey.{LinkKey}

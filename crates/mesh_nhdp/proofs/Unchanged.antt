@@ -1,11 +1,9 @@
 -- Where nothing becomes of the links, nothing becomes of the neighbours.
-use Rattle.std.proofs.Common.{◌≡◌, ℕ, ◌+◌, ◌++◌, take, drop, ◌<◌, ◌≤◌, ◌⊎◌, ◌↔◌, inl, inr, refl, sym, ◌∙◌, ap, subst, arith, List, [], length, Contains, Option, Some, None, IsTrue, Decides}
+use Rattle.std.proofs.Common.{◌≡◌, ℕ, ◌+◌, ◌++◌, take, drop, ◌<◌, ◌≤◌, ◌⊎◌, ◌↔◌, inl, inr, refl, sym, ◌∙◌, ap, subst, arith, List, [], length, Option, Some, None, IsTrue}
 use Rattle.std.specs.Prelude.{Bool, true, false, cond, nat_lt, nat_eq, ◌&&◌}
-use Rattle.std.specs.List.{list_any, IsDistinct}
+use Rattle.std.specs.List.{IsDistinct}
 use Rattle.std.specs.Cmp.{IsEquivalence}
 use Rattle.std.proofs.lemmas.Bool.{false≢true, cases_lt, eqb-true}
-use Rattle.std.proofs.lemmas.Map.Entries.{place_from_lookup}
-use Rattle.std.proofs.lemmas.Map.Views.{lookup-from_Contains}
 use Rattle.mesh_atoms.specs.declared.addr.Addr4.{Addr4}
 use Rattle.mesh_atoms.specs.declared.metric.Metric.{Metric}
 use Rattle.mesh_atoms.specs.declared.tuples.LinkKey.{LinkKey}
@@ -20,7 +18,6 @@ use Rattle.mesh_atoms.specs.Quality.{admit_on, rule_of}
 use Rattle.mesh_atoms.specs.State.{Neighbourhood, is_symmetric, link_at, two_hop_at, neighbour_at, lost_at}
 use Rattle.mesh_atoms.specs.Live.{LiveNeighbourhood, trimmed, trim, is_symmetric_entry, is_symmetric_at, HasSymmetricOf, IsByLinks, Restores, IsSymmetricAddress, SettlesLost, Back, Stays as Still}
 use Rattle.mesh_atoms.specs.Sound.{SoundNeighbourhood}
-use Rattle.mesh_atoms.proofs.Deciding.{Decides-some, Decides-addr, Decides-and}
 use Rattle.mesh_atoms.proofs.Lookups.{addr_equiv, two_hop_equiv}
 use Rattle.mesh_links.specs.Links.{Stays, AllStay}
 use Rattle.mesh_nhdp.specs.Staying.{LinksStay, AllIsAsItWas, ExpiresBeside}
@@ -32,7 +29,7 @@ use Rattle.mesh_nhdp.proofs.Limits.{no_more}
 use Rattle.mesh_nhdp.proofs.LiveSound.{live_sound}
 use Rattle.mesh_nhdp.proofs.SymmetricAddresses.{symmetric_or_not}
 use Rattle.mesh_nhdp.proofs.Touched.{and_same}
-use Rattle.mesh_hello.proofs.Lookups.{Contains_at, none_not, live_from}
+use Rattle.mesh_hello.proofs.Lookups.{none_not, live_from}
 
 -- A link of which nothing becomes
 

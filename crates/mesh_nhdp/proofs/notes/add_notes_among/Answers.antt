@@ -1,4 +1,4 @@
-use Rattle.std.proofs.Common.{◌≡◌, ℕ, List, Some, Contains, length, sym, subst, arith}
+use Rattle.std.proofs.Common.{◌≡◌, ℕ, Some, length, sym, subst, arith}
 use Rattle.mesh_atoms.specs.declared.addr.Addr4.{Addr4}
 use Rattle.mesh_atoms.specs.declared.tuples.Link.{Link}
 use Rattle.mesh_atoms.specs.Base.{find, link_eq}
