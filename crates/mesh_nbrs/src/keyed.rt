@@ -8,6 +8,30 @@ use mesh_expire::{Key, Table};
 use std::alloc::AllocError;
 use std::collections::BTreeSet;
 
+// Whether the table has the key.
+fn stands<K: Key, V, T: Table<K, V>>(table: &T, key: &K) -> bool
+    ensures { result ≡ is_some (find K.eq (T.content table.now) key.now) }
+{
+    table.get(key).is_some()
+}
+
+// Puts a key into the set, which has it already where the table does.
+fn note_key<K: Key + Ord + Drop, V, T: Table<K, V>>(
+    table: &T,
+    keys: &mut BTreeSet<K>,
+    key: K,
+) -> Result<(), AllocError>
+    requires { Knows K.eq K.cmp keys.old (T.content table.now) }
+    ensures known { OnOk result (IsTrue (contains K.cmp keys.new key)) }
+    ensures knows { Knows K.eq K.cmp keys.new (T.content table.now) }
+{
+    if stands(table, &key) {
+        return Ok(());
+    }
+    keys.insert(key)?;
+    Ok(())
+}
+
 /// Makes the tuple of a key. Want of memory leaves the table unchanged.
 pub(crate) fn put_keyed<K: Key + Ord + Drop, V: Drop, T: Table<K, V>>(
     table: &mut T,
@@ -25,7 +49,7 @@ pub(crate) fn put_keyed<K: Key + Ord + Drop, V: Drop, T: Table<K, V>>(
     ensures err { OnErr result (T.content table.new ≡ T.content table.old) }
     ensures distinct { HasDistinctKeys K.eq (T.content table.new) }
 {
-    keys.insert(key)?;
+    note_key(table, keys, key)?;
     table.put(key, value, until)?;
     Ok(())
 }
@@ -47,13 +71,6 @@ pub(crate) fn remove_keyed<K: Key + Ord + Drop, V, T: Table<K, V>>(
 {
     keys.remove(key);
     table.remove(key)
-}
-
-// Whether the table has the key.
-fn stands<K: Key, V, T: Table<K, V>>(table: &T, key: &K) -> bool
-    ensures { result ≡ is_some (find K.eq (T.content table.now) key.now) }
-{
-    table.get(key).is_some()
 }
 
 // Takes out each key whose tuple is gone. Goes over all keys. Takes no memory.

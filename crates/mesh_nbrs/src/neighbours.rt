@@ -1,5 +1,5 @@
 //! The set of neighbours.
-ghost use Rattle.std.specs.Prelude.{◌≡◌, ◌+◌, ◌<◌, [], List, length, IfOk, OnOk};
+ghost use Rattle.std.specs.Prelude.{◌≡◌, ◌≢◌, ◌+◌, ◌<◌, [], List, length, IfOk, OnOk};
 ghost use Rattle.mesh_atoms.specs.Base.{Base, HasDistinctKeys, find, addr_eq};
 ghost use Rattle.mesh_atoms.specs.Words.{IsAscending};
 ghost use Rattle.mesh_atoms.specs.AfterHello.{Matches, announced};
@@ -109,6 +109,17 @@ impl<T: Table<Addr4, Neighbour>> NeighbourSet<T> {
         end_all(&mut self.table, &Unnoted { parts: &parts });
         renew_all(&mut self.table, &parts)
     }
+
+    /// The same for the neighbour with that originator alone; all others stay as they are. The notes tell of the links whose
+    /// keys are among its addresses. Looks at no other neighbour.
+    pub fn follow(&mut self, originator: Addr4, notes: &[LinkNote]) -> Result<(), AllocError>
+        ensures one { OnOk result (RestoresBy notes.now (find addr_eq self.old originator) (find addr_eq self.new originator)) }
+        ensures others { OnOk result ((o : Addr4) → o ≢ originator → find addr_eq self.new o ≡ find addr_eq self.old o) }
+        ensures distinct { HasDistinctKeys addr_eq self.new }
+    {
+        let parts = parts_of(self.alloc, notes)?;
+        follow_parts(&mut self.table, originator, &parts)
+    }
 }
 
 // The neighbours that no note is of.
@@ -146,6 +157,30 @@ fn renew_all<T: Table<Addr4, Neighbour>>(
         renew(table, &originator, &summary)?;
     }
     Ok(())
+}
+
+// Sets what the notes tell of the neighbour with that originator, or takes it out where no note is of it.
+fn follow_parts<T: Table<Addr4, Neighbour>>(
+    table: &mut T,
+    originator: Addr4,
+    parts: &IndexMap<Addr4, Summary>,
+) -> Result<(), AllocError>
+    requires { HasDistinctKeys addr_eq (T.content table.old) }
+    ensures one { OnOk result ((notes : List LinkNote) → AreParts notes parts.now.entries
+        → RestoresBy notes (find addr_eq (T.content table.old) originator) (find addr_eq (T.content table.new) originator)) }
+    ensures others { OnOk result ((o : Addr4) → o ≢ originator → find addr_eq (T.content table.new) o ≡ find addr_eq (T.content table.old) o) }
+    ensures distinct { HasDistinctKeys addr_eq (T.content table.new) }
+{
+    let Some((neighbour, _)) = table.get(&originator) else {
+        return Ok(());
+    };
+    let addrs = neighbour.addrs.as_slice();
+    if !has_part(parts, addrs) {
+        table.remove(&originator);
+        return Ok(());
+    }
+    let summary = together(parts, addrs);
+    renew(table, &originator, &summary)
 }
 
 // Sets flags, metrics and moment of one neighbour.

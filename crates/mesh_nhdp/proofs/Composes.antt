@@ -9,7 +9,7 @@ use Rattle.mesh_nbrs.specs.declared.neighbours.LinkNote.{LinkNote}
 use Rattle.mesh_atoms.specs.declared.tuples.Link.{Link}
 use Rattle.mesh_atoms.specs.declared.tuples.Neighbour.{Neighbour}
 use Rattle.mesh_atoms.specs.declared.tuples.Lost.{Lost}
-use Rattle.mesh_atoms.specs.Base.{Base, find, link_eq, addr_eq}
+use Rattle.mesh_atoms.specs.Base.{Base, base_of, find, link_eq, addr_eq}
 use Rattle.mesh_atoms.specs.State.{Neighbourhood, is_symmetric}
 use Rattle.mesh_atoms.specs.Live.{HasLinkOf, HasSymmetricOf, IsByLinks, Restores, SettlesLost, Back, Gone, Stays}
 use Rattle.mesh_atoms.specs.Words.{IsLeastMetric, IsKept, IsBeyond, Meets}
@@ -17,7 +17,7 @@ use Rattle.mesh_atoms.specs.HelloTold.{Told}
 use Rattle.mesh_atoms.specs.AfterHello.{GoesOn, IsApart, IsTheirs, Begins, Stood, Made, renewed, Matches, announced, BecomesOther, Joins, Remains}
 use Rattle.mesh_links.specs.Links.{EndsOutside, HearsOn}
 use Rattle.mesh_nbrs.specs.Neighbours.{HasNote, HasSymmetricNote, IsByNotes, RestoresBy, Replaces}
-use Rattle.mesh_nhdp.specs.Calls.{note_of, TellsLinks}
+use Rattle.mesh_nhdp.specs.Calls.{note_of, TellsLinks, TellsLinksOf}
 use Rattle.mesh_hello.proofs.Lookups.{some_same, none_not, contains_or_not}
 use Rattle.mesh_nhdp.proofs.HelloSound.{kept_from}
 
@@ -27,13 +27,15 @@ pub least_metric_iff : (P Q : Metric → Type 0) → ((m : Metric) → P m → Q
 least_metric_iff P Q to from None none = λ m q. none m (from m q)
 least_metric_iff P Q to from (Some m) least = (to m least.0, λ n q. least.1 n (from n q))
 
-module _ (near : Neighbourhood) (now : ℕ) (notes : List LinkNote) (T : TellsLinks near.links now notes) where
+module _ (near : Neighbourhood) (now : ℕ) (notes : List LinkNote) (Of : List Addr4 → Type 0)
+    (told : (note : LinkNote) → Contains notes note → (i : ℕ) × (e : Link × ℕ) × (find link_eq (base_of near.links i) note.key ≡ Some e) × (note ≡ note_of now note.key e))
+    (all : (addrs : List Addr4) → Of addrs → (i : ℕ) (key : LinkKey) (e : Link × ℕ) → HasLinkOf near addrs i key e → Contains notes (note_of now key e)) where
   -- a note's link, and a link's note
   link_of : (addrs : List Addr4) (note : LinkNote) → HasNote notes addrs note → (i : ℕ) × (e : Link × ℕ) × HasLinkOf near addrs i note.key e × (note ≡ note_of now note.key e)
-  link_of addrs note has = let (i, e, at, is) = T.told note has.0 in (i, e, (has.1, at), is)
+  link_of addrs note has = let (i, e, at, is) = told note has.0 in (i, e, (has.1, at), is)
 
-  note_is : (addrs : List Addr4) (i : ℕ) (key : LinkKey) (e : Link × ℕ) → HasLinkOf near addrs i key e → HasNote notes addrs (note_of now key e)
-  note_is addrs i key e has = (T.all i key e has.1, has.0)
+  note_is : (addrs : List Addr4) → Of addrs → (i : ℕ) (key : LinkKey) (e : Link × ℕ) → HasLinkOf near addrs i key e → HasNote notes addrs (note_of now key e)
+  note_is addrs of i key e has = (all addrs of i key e has, has.0)
 
   symmetric_link : (addrs : List Addr4) (note : LinkNote) → HasSymmetricNote notes addrs note → (link : Link) × HasSymmetricOf near now addrs link × (note.link_in ≡ link.link_in) × (note.link_out ≡ link.link_out)
   symmetric_link addrs note has =
@@ -41,35 +43,44 @@ module _ (near : Neighbourhood) (now : ℕ) (notes : List LinkNote) (T : TellsLi
       let symmetric : is_symmetric e.0 now ≡ true = ap (λ (n : LinkNote). n.symmetric) (sym is) ∙ has.1 in
       (e.0, (i, note.key, e.1, of, symmetric), ap (λ (n : LinkNote). n.link_in) is, ap (λ (n : LinkNote). n.link_out) is)
 
-  symmetric_note : (addrs : List Addr4) (link : Link) → HasSymmetricOf near now addrs link → (note : LinkNote) × HasSymmetricNote notes addrs note × (note.link_in ≡ link.link_in) × (note.link_out ≡ link.link_out)
-  symmetric_note addrs link has =
+  symmetric_note : (addrs : List Addr4) → Of addrs → (link : Link) → HasSymmetricOf near now addrs link → (note : LinkNote) × HasSymmetricNote notes addrs note × (note.link_in ≡ link.link_in) × (note.link_out ≡ link.link_out)
+  symmetric_note addrs its link has =
       let (i, key, until, of, symmetric) = has in
-      (note_of now key (link, until), (note_is addrs i key (link, until) of, symmetric), refl, refl)
+      (note_of now key (link, until), (note_is addrs its i key (link, until) of, symmetric), refl, refl)
 
-  by_links : (n : Neighbour) (until : ℕ) → IsByNotes notes n until → IsByLinks near now n until
-  by_links n until b = record {
+  by_links : (n : Neighbour) → Of n.addrs → (until : ℕ) → IsByNotes notes n until → IsByLinks near now n until
+  by_links n its until b = record {
     latest =
         let (note, has, at) = b.latest in
         let (i, e, of, is) = link_of n.addrs note has in
         let when : e.1 ≡ until = ap (λ (x : LinkNote). x.until) (sym is) ∙ at in
         (i, note.key, e.0, subst (λ (u : ℕ). HasLinkOf near n.addrs i note.key (e.0, u)) when of);
-    no_later = λ i key link u has. b.no_later (note_of now key (link, u)) (note_is n.addrs i key (link, u) has);
+    no_later = λ i key link u has. b.no_later (note_of now key (link, u)) (note_is n.addrs its i key (link, u) has);
     symmetric = (
       λ h. let (note, has) = b.symmetric.0 h in let (link, of, _, _) = symmetric_link n.addrs note has in (link, of),
-      λ h. let (note, has, _, _) = symmetric_note n.addrs h.0 h.1 in b.symmetric.1 (note, has),
+      λ h. let (note, has, _, _) = symmetric_note n.addrs its h.0 h.1 in b.symmetric.1 (note, has),
     );
     metric_in = least_metric_iff _ _
         (λ m h. let (note, has, is) = h in let (link, of, same, _) = symmetric_link n.addrs note has in (link, of, sym same ∙ is))
-        (λ m h. let (link, of, is) = h in let (note, has, same, _) = symmetric_note n.addrs link of in (note, has, same ∙ is)) n.metric_in b.metric_in;
+        (λ m h. let (link, of, is) = h in let (note, has, same, _) = symmetric_note n.addrs its link of in (note, has, same ∙ is)) n.metric_in b.metric_in;
     metric_out = least_metric_iff _ _
         (λ m h. let (note, has, is) = h in let (link, of, _, same) = symmetric_link n.addrs note has in (link, of, sym same ∙ is))
-        (λ m h. let (link, of, is) = h in let (note, has, _, same) = symmetric_note n.addrs link of in (note, has, same ∙ is)) n.metric_out b.metric_out;
+        (λ m h. let (link, of, is) = h in let (note, has, _, same) = symmetric_note n.addrs its link of in (note, has, same ∙ is)) n.metric_out b.metric_out;
   }
 
-  pub restores_by : (old new : Option (Neighbour × ℕ)) → RestoresBy notes old new → Restores near now old new
-  restores_by None new r = r
-  restores_by (Some e) None r = λ i key f has. r (note_of now key f) (note_is e.0.addrs i key f has)
-  restores_by (Some e) (Some f) r = record { addrs = r.addrs; willing = r.willing; selector = r.selector; by_links = by_links f.0 f.1 r.by_notes }
+  restores_so : (old new : Option (Neighbour × ℕ)) → ((e : Neighbour × ℕ) → old ≡ Some e → Of e.0.addrs) → RestoresBy notes old new → Restores near now old new
+  restores_so None new its r = r
+  restores_so (Some e) None its r = λ i key f has. r (note_of now key f) (note_is e.0.addrs (its e refl) i key f has)
+  restores_so (Some e) (Some f) its r = record { addrs = r.addrs; willing = r.willing; selector = r.selector; by_links = by_links f.0 (subst Of (sym r.addrs) (its e refl)) f.1 r.by_notes }
+
+-- by the notes of all links
+pub restores_by : (near : Neighbourhood) (now : ℕ) (notes : List LinkNote) → TellsLinks near.links now notes → (old new : Option (Neighbour × ℕ)) → RestoresBy notes old new → Restores near now old new
+restores_by near now notes T old new = restores_so near now notes (λ addrs. Unit {0}) T.told (λ addrs its i key e has. T.all i key e has.1) old new (λ e is. tt)
+
+-- by those of its own
+pub restores_of : (near : Neighbourhood) (now : ℕ) (addrs : List Addr4) (notes : List LinkNote) → TellsLinksOf near.links addrs now notes → (old new : Option (Neighbour × ℕ)) →
+    ((e : Neighbour × ℕ) → old ≡ Some e → e.0.addrs ≡ addrs) → RestoresBy notes old new → Restores near now old new
+restores_of near now addrs notes T old new = restores_so near now notes (λ xs. xs ≡ addrs) T.told (λ xs its i key e has. T.all i key e (subst (λ (ys : List Addr4). Contains ys key.addr) its has.0) has.1) old new
 
 -- Lost addresses: by lists of the symmetric neighbours' addresses
 

@@ -1,5 +1,5 @@
 -- The parts of the taking of a HELLO, interface by interface.
-use Rattle.std.proofs.Common.{◌≡◌, ℕ, ◌+◌, ◌<◌, ◌≤◌, ◌≢◌, ◌↔◌, inl, inr, refl, sym, ◌∙◌, ap, subst, arith, List, [], length, Contains, None}
+use Rattle.std.proofs.Common.{◌≡◌, ℕ, ◌+◌, ◌<◌, ◌≤◌, ◌≢◌, ◌⊎◌, ◌↔◌, inl, inr, refl, sym, ◌∙◌, ap, subst, arith, List, [], length, Contains, None}
 use Rattle.std.specs.Prelude.{true, false, nat_eq}
 use Rattle.std.specs.List.{IsDistinct}
 use Rattle.std.proofs.lemmas.Bool.{cases_eq, ne_eqb, eq-eqb}
@@ -22,15 +22,14 @@ use Rattle.mesh_atoms.specs.TakesHello.{IsFault, IsFullOfAddresses, FitsTwoHops}
 use Rattle.mesh_atoms.specs.Sound.{SoundNeighbourhood}
 use Rattle.mesh_links.specs.Links.{EndsOutside}
 use Rattle.mesh_nbrs.specs.Neighbours.{Replaces}
-use Rattle.mesh_nhdp.specs.declared.near_addresses.Wanted.TheVariants.{Symmetric}
-use Rattle.mesh_nhdp.specs.Calls.{TellsKeys, DropsEnded, TellsTwoHops, is_symmetric_in}
-use Rattle.mesh_nhdp.specs.Follows.{FollowsLinks}
+use Rattle.mesh_nhdp.specs.Calls.{key_at, DropsEnded, TellsTwoHops, is_symmetric_in}
+use Rattle.mesh_nhdp.specs.Follows.{FollowsLinksOf}
 use Rattle.mesh_nhdp.specs.Interfaces.{HearsAt}
-use Rattle.mesh_nhdp.specs.Wanted.{IsWantedAddress}
 use Rattle.mesh_atoms.specs.AfterHello.{IsTheirs}
 use Rattle.mesh_nhdp.proofs.Bases.{base_cases}
 use Rattle.mesh_nhdp.proofs.HelloSound.{hello_sound}
-use Rattle.mesh_hello.proofs.Lookups.{none_not}
+use Rattle.mesh_hello.proofs.Lookups.{Contains_at}
+use Rattle.mesh_nhdp.proofs.Touched.{IsTheirSymmetric}
 use Rattle.mesh_nhdp.proofs.Whole.{Starts, hello_by_calls}
 
 -- where there is no interface, nothing ends and nothing is dropped
@@ -40,15 +39,16 @@ ends_none theirs listed key = refl
 module _ (settings : RouterSettings) (now i : ℕ) (sender : Addr4) (told : Told) (hello : Hello) (old : Neighbourhood) (T : Tells settings i sender hello told) (fault : IsFault settings sender hello None)
     (lasts : 0 < told.shown.validity) (S : SoundNeighbourhood settings now old) (is_interface : i < length settings.interfaces)
     (links : List (Base LinkKey Link)) (mids two_hops : List (Base TwoHopKey TwoHop)) (replaced neighbours : Base Addr4 Neighbour) (losts : Base Addr4 Lost) (started : Base TwoHopKey TwoHop)
-    (theirs before : List Addr4) (until : ℕ) (theirs_are : (a : Addr4) → Contains theirs a ↔ IsTheirs old told a) (before_is : (a : Addr4) → Contains before a ↔ IsWantedAddress old.neighbours Symmetric a)
+    (theirs before : List Addr4) (keys : List LinkKey) (until : ℕ) (theirs_are : (a : Addr4) → Contains theirs a ↔ IsTheirs old told a) (before_is : (a : Addr4) → Contains before a ↔ IsTheirSymmetric old told a)
+    (keys_are : (a : Addr4) → Contains theirs a ⊎ Contains told.listed a → Contains keys (key_at a))
     (same : length links ≡ length old.links) (same_mids : length mids ≡ length old.two_hops) (same_two_hops : length two_hops ≡ length mids)
-    (each : (j : ℕ) → j < length old.links → HearsAt (rule_of settings i) told.shown told.least theirs told.listed settings.times.link_hold now (nat_eq j i) (base_of old.links j) (base_of links j) (base_of old.two_hops j) (base_of mids j))
+    (each : (j : ℕ) → j < length old.links → HearsAt (rule_of settings i) told.shown told.least theirs told.listed keys settings.times.link_hold now (nat_eq j i) (base_of old.links j) (base_of links j) (base_of old.two_hops j) (base_of mids j))
     (elsewhere : (j : ℕ) → j ≢ i → base_of two_hops j ≡ base_of mids j) (distinct_here : HasDistinctKeys two_hop_eq (base_of two_hops i))
     (starts : Starts old i told (base_of mids i) started)
     (rows : is_symmetric_in (base_of links i) now told.least ≡ true → TellsTwoHops settings told hello told.least (now + told.shown.validity) started (base_of two_hops i))
     (no_rows : is_symmetric_in (base_of links i) now told.least ≡ false → base_of two_hops i ≡ started)
     (replaces : Replaces told.originator told.listed told.willing told.routing until old.neighbours replaced)
-    (F : FollowsLinks links now before (now + settings.times.neighbour_hold) replaced neighbours old.losts losts) where
+    (F : FollowsLinksOf links now told.originator told.listed before (now + settings.times.neighbour_hold) replaced neighbours old.losts losts) where
   past : {K V : Type 0} (bases : List (Base K V)) (j : ℕ) → length bases ≤ j → base_of bases j ≡ []
   past bases j beyond = elim (base_cases bases j) [ inl there ↦ absurd (omega (arith, there.0, beyond)) | inr none ↦ none.1 ]
 
@@ -82,25 +82,19 @@ module _ (settings : RouterSettings) (now i : ℕ) (sender : Addr4) (told : Told
         (subst (λ (b : Base LinkKey Link). EndsOutside theirs told.listed [] b) (sym (past links j (let beyond = none.0 in omega (arith, beyond, same)))) (ends_none theirs told.listed))
   ]
 
-  no_keys : (j : ℕ) → length old.links ≤ j → (keys : List LinkKey) × TellsKeys (base_of old.links j) keys × DropsEnded keys (base_of links j) now (base_of old.two_hops j) (base_of mids j)
-  no_keys j beyond =
+  no_drops : (j : ℕ) → length old.links ≤ j → DropsEnded keys (base_of links j) now (base_of old.two_hops j) (base_of mids j)
+  no_drops j beyond key =
       let counts = S.interfaces in
-      let counts_too = S.two_hop_interfaces in (
-        [],
-        record {
-          told = λ key c. absurd (omega (arith, c.1));
-          all = λ key e found. none_not (ap (λ (b : Base LinkKey Link). find link_eq b key) (past old.links j beyond)) found;
-        },
-        λ key. subst (λ (b : Base TwoHopKey TwoHop). IsKept (λ t. (Contains [] key.link × (is_symmetric_in (base_of links j) now key.link ≡ false)) → ⊥) (find two_hop_eq b key) (find two_hop_eq (base_of mids j) key)) (sym (past old.two_hops j (omega (arith, beyond, counts, counts_too))))
-            (ap (λ (b : Base TwoHopKey TwoHop). find two_hop_eq b key) (past mids j (omega (arith, beyond, counts, counts_too, same_mids)))),
-      )
+      let counts_too = S.two_hop_interfaces in
+      subst (λ (b : Base TwoHopKey TwoHop). IsKept (λ t. (Contains keys key.link × (is_symmetric_in (base_of links j) now key.link ≡ false)) → ⊥) (find two_hop_eq b key) (find two_hop_eq (base_of mids j) key)) (sym (past old.two_hops j (omega (arith, beyond, counts, counts_too))))
+      (ap (λ (b : Base TwoHopKey TwoHop). find two_hop_eq b key) (past mids j (omega (arith, beyond, counts, counts_too, same_mids))))
 
-  drops : (j : ℕ) → (keys : List LinkKey) × TellsKeys (base_of old.links j) keys × DropsEnded keys (base_of links j) now (base_of old.two_hops j) (base_of mids j)
-  drops j = elim (base_cases old.links j) [ inl there ↦ (each j there.0).two_hops | inr none ↦ no_keys j none.0 ]
+  drops : (j : ℕ) → DropsEnded keys (base_of links j) now (base_of old.two_hops j) (base_of mids j)
+  drops j = elim (base_cases old.links j) [ inl there ↦ (each j there.0).two_hops | inr none ↦ no_drops j none.0 ]
 
   pub hears_is : AfterHello settings now i told hello old (record { links = links; two_hops = two_hops; neighbours = neighbours; losts = losts })
   hears_is = hello_by_calls settings now i told hello old (record { links = links; two_hops = two_hops; neighbours = neighbours; losts = losts })
-      (λ a has. (T.listed.1 a).1 (inl ((T.sending.1 a).0 has))) S (record {
+      (λ a has. (T.listed.1 a).1 (inl ((T.sending.1 a).0 has))) ((T.listed.1 told.least.addr).1 (inl ((T.sending.1 told.least.addr).0 (Contains_at told.shown.sending 0 told.least.addr T.least)))) S (record {
         tables = record { links = links_distinct; two_hops = two_hops_distinct; neighbours = F.distinct; losts = F.distinct_losts };
         interfaces = same;
         two_hop_interfaces = same_two_hops ∙ same_mids;
@@ -108,6 +102,8 @@ module _ (settings : RouterSettings) (now i : ℕ) (sender : Addr4) (told : Told
         theirs_are = theirs_are;
         ends = ends;
         hears = (each i is_link_interface).hears (eq-eqb i i refl);
+        keys = keys;
+        keys_are = keys_are;
         mids = λ j. base_of mids j;
         drops = drops;
         elsewhere = λ j other key. ap (λ (b : Base TwoHopKey TwoHop). find two_hop_eq b key) (elsewhere j other);
@@ -120,11 +116,10 @@ module _ (settings : RouterSettings) (now i : ℕ) (sender : Addr4) (told : Told
         replaces = replaces;
         notes = F.notes;
         notes_are = F.notes_are;
-        neighbours = F.neighbours;
+        neighbour = F.neighbour;
+        others = F.others;
         before = before;
         before_is = before_is;
-        after = F.after;
-        after_is = F.after_is;
         losts = F.losts;
       })
 

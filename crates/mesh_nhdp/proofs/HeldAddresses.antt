@@ -1,20 +1,24 @@
 -- The addresses that a router holds, with those that a HELLO tells of.
-use Rattle.std.proofs.Common.{◌≡◌, ℕ, ◌⊎◌, ◌↔◌, inl, inr, sym, ◌∙◌, ap, subst, List, [], ◌∷◌, ◌++◌, Contains, Some}
+use Rattle.std.proofs.Common.{◌≡◌, ℕ, ◌+◌, ◌≤◌, ◌⊎◌, ◌↔◌, inl, inr, refl, sym, ◌∙◌, ap, subst, arith, List, [], ◌∷◌, ◌++◌, length, length-append, Contains, Some}
 use Rattle.std.specs.Prelude.{option_map}
+use Rattle.std.specs.List.{flat_map}
 use Rattle.std.specs.Map.{keys_of}
 use Rattle.std.proofs.lemmas.Option.{slice_get-map}
 use Rattle.std.proofs.lemmas.List.Elements.{Contains-append_cases, Contains-append_left, Contains-append_right, Contains-push, Contains-push_cases}
-use Rattle.std.proofs.lemmas.Map.Entries.{place_from_lookup}
-use Rattle.std.proofs.lemmas.Map.Views.{list_any-from_Contains}
+use Rattle.std.proofs.lemmas.Map.Entries.{place_from_lookup, length-keys_of}
+use Rattle.std.proofs.lemmas.Map.Views.{list_any-from_Contains, lookup-from_Contains}
 use Rattle.mesh_atoms.specs.declared.addr.Addr4.{Addr4}
 use Rattle.mesh_atoms.specs.declared.tuples.Neighbour.{Neighbour}
-use Rattle.mesh_atoms.specs.Base.{Base, find, addr_eq}
+use Rattle.mesh_atoms.specs.Base.{Base, HasDistinctKeys, find, addr_eq}
 use Rattle.mesh_atoms.specs.State.{Neighbourhood}
 use Rattle.mesh_atoms.specs.TakesHello.{IsHeld}
+use Rattle.mesh_atoms.specs.Words.{AreMoreThan}
 use Rattle.mesh_atoms.proofs.Lookups.{addr_equiv, same_addr}
 use Rattle.mesh_nhdp.specs.declared.near_addresses.Wanted.TheVariants.{Each}
 use Rattle.mesh_nhdp.specs.Wanted.{IsWantedAddress}
+use Rattle.mesh_nhdp.proofs.Fits.{distinct_fits}
 use Rattle.mesh_nhdp.proofs.Limits.{found_if_key}
+use Rattle.mesh_nhdp.proofs.Somewhere.{flat_given, flat_gives}
 use Rattle.mesh_hello.proofs.Lookups.{Contains_at}
 
 abbrev IsKnown : Neighbourhood → List Addr4 → Addr4 → Addr4 → Type 0
@@ -72,3 +76,30 @@ held_addresses near listed originator wanted originators losts one two three fou
     from (inl (inr (inr held))) = in_two ((joined two one losts is_two a).1 (inr (subst (λ (xs : List Addr4). Contains xs a) (sym losts_is) ((keys_found near.losts a).1 held))))
     from (inr (inl has)) = in_three ((joined three two listed is_three a).1 (inr has))
     from (inr (inr same)) = subst (λ (zs : List Addr4). Contains zs a) (sym is_four) (subst (λ (b : Addr4). Contains (three ++ originator ∷ []) b) (sym same) (Contains-push three originator))
+
+-- all that is held and told, each as often as it stands somewhere
+module _ (near : Neighbourhood) (listed : List Addr4) (originator : Addr4) (distinct : HasDistinctKeys addr_eq near.neighbours) where
+  theirs : List Addr4
+  theirs = flat_map (λ (e : Addr4 × (Neighbour × ℕ)). e.1.0.addrs) near.neighbours
+
+  theirs_are : (a : Addr4) → Contains theirs a ↔ IsWantedAddress near.neighbours Each a
+  unfolding theirs
+  theirs_are a = (
+    λ c. let (e, within, has) = flat_given (λ (x : Addr4 × (Neighbour × ℕ)). x.1.0.addrs) near.neighbours a c in
+        (e.0, e.1.0, e.1.1, lookup-from_Contains addr_equiv e.0 e.1 near.neighbours distinct within, tt, has),
+    λ h. let (o, n, until, is, any, has) = h in
+        let (k, key, at, test) = place_from_lookup (addr_eq o) near.neighbours (n, until) is in
+        flat_gives (λ (x : Addr4 × (Neighbour × ℕ)). x.1.0.addrs) near.neighbours (key, (n, until)) a (Contains_at near.neighbours k (key, (n, until)) at) has,
+  )
+
+  -- where they are few, they are no more than so many
+  pub few_held : length (flat_map (λ (e : Addr4 × (Neighbour × ℕ)). e.1.0.addrs) near.neighbours) + (length near.neighbours + length near.losts + length listed + 1) ≤ 1024 → AreMoreThan 1024 (IsKnown near listed originator) → ⊥
+  unfolding theirs
+  few_held few (some, different, all, many) =
+      let one = theirs ++ keys_of near.neighbours in
+      let two = one ++ keys_of near.losts in
+      let three = two ++ listed in
+      let whole = three ++ originator ∷ [] in
+      let fits = distinct_fits some whole different (λ a c. (held_addresses near listed originator theirs (keys_of near.neighbours) (keys_of near.losts) one two three whole theirs_are refl refl refl refl refl refl a).1 (all a c)) in
+      let last : length whole ≡ length three + 1 = length-append three (originator ∷ []) in
+      absurd (omega (arith, fits, few, many, last, length-append two listed, length-append one (keys_of near.losts), length-append theirs (keys_of near.neighbours), length-keys_of near.neighbours, length-keys_of near.losts))

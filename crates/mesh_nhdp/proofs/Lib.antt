@@ -15,6 +15,8 @@ mod Places
 mod Receipt
 mod RowWalks
 pub mod Somewhere
+mod SymmetricAddresses
+mod Touched
 mod Unchanged
 pub mod Bases
 pub mod Composes

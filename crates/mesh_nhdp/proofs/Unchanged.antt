@@ -1,11 +1,9 @@
 -- Where nothing becomes of the links, nothing becomes of the neighbours.
-use Rattle.std.proofs.Common.{◌≡◌, ℕ, ◌+◌, ◌++◌, take, drop, ◌<◌, ◌≤◌, ◌⊎◌, ◌↔◌, inl, inr, refl, sym, ◌∙◌, ap, subst, arith, List, [], length, Contains, Option, Some, None, IsTrue, Decides}
+use Rattle.std.proofs.Common.{◌≡◌, ℕ, ◌+◌, ◌++◌, take, drop, ◌<◌, ◌≤◌, ◌⊎◌, ◌↔◌, inl, inr, refl, sym, ◌∙◌, ap, subst, arith, List, [], length, Option, Some, None, IsTrue}
 use Rattle.std.specs.Prelude.{Bool, true, false, cond, nat_lt, nat_eq, ◌&&◌}
-use Rattle.std.specs.List.{list_any, IsDistinct}
+use Rattle.std.specs.List.{IsDistinct}
 use Rattle.std.specs.Cmp.{IsEquivalence}
 use Rattle.std.proofs.lemmas.Bool.{false≢true, cases_lt, eqb-true}
-use Rattle.std.proofs.lemmas.Map.Entries.{place_from_lookup}
-use Rattle.std.proofs.lemmas.Map.Views.{lookup-from_Contains}
 use Rattle.mesh_atoms.specs.declared.addr.Addr4.{Addr4}
 use Rattle.mesh_atoms.specs.declared.metric.Metric.{Metric}
 use Rattle.mesh_atoms.specs.declared.tuples.LinkKey.{LinkKey}
@@ -20,7 +18,6 @@ use Rattle.mesh_atoms.specs.Quality.{admit_on, rule_of}
 use Rattle.mesh_atoms.specs.State.{Neighbourhood, is_symmetric, link_at, two_hop_at, neighbour_at, lost_at}
 use Rattle.mesh_atoms.specs.Live.{LiveNeighbourhood, trimmed, trim, is_symmetric_entry, is_symmetric_at, HasSymmetricOf, IsByLinks, Restores, IsSymmetricAddress, SettlesLost, Back, Stays as Still}
 use Rattle.mesh_atoms.specs.Sound.{SoundNeighbourhood}
-use Rattle.mesh_atoms.proofs.Deciding.{Decides-some, Decides-addr, Decides-and}
 use Rattle.mesh_atoms.proofs.Lookups.{addr_equiv, two_hop_equiv}
 use Rattle.mesh_links.specs.Links.{Stays, AllStay}
 use Rattle.mesh_nhdp.specs.Staying.{LinksStay, AllIsAsItWas, ExpiresBeside}
@@ -30,7 +27,9 @@ use Rattle.mesh_nhdp.proofs.Composes.{least_metric_iff}
 use Rattle.mesh_nhdp.proofs.Expiry.{written_back}
 use Rattle.mesh_nhdp.proofs.Limits.{no_more}
 use Rattle.mesh_nhdp.proofs.LiveSound.{live_sound}
-use Rattle.mesh_hello.proofs.Lookups.{Contains_at, none_not, live_from}
+use Rattle.mesh_nhdp.proofs.SymmetricAddresses.{symmetric_or_not}
+use Rattle.mesh_nhdp.proofs.Touched.{and_same}
+use Rattle.mesh_hello.proofs.Lookups.{none_not, live_from}
 
 -- A link of which nothing becomes
 
@@ -62,35 +61,6 @@ two_hop_there : (now : ℕ) (b : Bool) (o new : Option (TwoHop × ℕ)) → new 
 two_hop_there now true o new is there = is
 two_hop_there now false None new is there = is
 two_hop_there now false (Some t) new is there = absurd (false≢true (there t refl))
-
-and_same : (a b : Bool) → (IsTrue a → IsTrue b) → a ≡ (a && b)
-and_same true b h = sym (h refl)
-and_same false b h = refl
-
--- An address is a symmetric neighbour's, or it isn't
-
-module _ (near : Neighbourhood) (distinct : HasDistinctKeys addr_eq near.neighbours) (a : Addr4) where
-  IsOf : Addr4 × (Neighbour × ℕ) → Type 0
-  IsOf e = (e.1.0.symmetric ≡ true) × ((x : Addr4) × Contains e.1.0.addrs x × (a ≡ x))
-
-  is_of : Addr4 × (Neighbour × ℕ) → Bool
-  is_of e = e.1.0.symmetric && list_any (addr_eq a) e.1.0.addrs
-
-  decides : Decides (list_any is_of near.neighbours) ((e : Addr4 × (Neighbour × ℕ)) × Contains near.neighbours e × IsOf e)
-  unfolding is_of IsOf
-  decides = Decides-some is_of IsOf (λ e. Decides-and e.1.0.symmetric (list_any (addr_eq a) e.1.0.addrs) ((λ h. h), (λ h. h)) (Decides-some (addr_eq a) (λ x. a ≡ x) (λ x. Decides-addr a x) e.1.0.addrs)) near.neighbours
-
-  pub symmetric_or_not : IsSymmetricAddress near a ⊎ (IsSymmetricAddress near a → ⊥)
-  unfolding is_of IsOf
-  symmetric_or_not = by_test (list_any is_of near.neighbours) refl where
-    by_test : (b : Bool) → list_any is_of near.neighbours ≡ b → IsSymmetricAddress near a ⊎ (IsSymmetricAddress near a → ⊥)
-    by_test true is =
-        let (e, within, of) = decides.0 is in
-        inl (e.0, e.1.0, e.1.1, lookup-from_Contains addr_equiv e.0 e.1 near.neighbours distinct within, of.0, subst (λ (y : Addr4). Contains e.1.0.addrs y) (sym of.1.2) of.1.1)
-    by_test false is = inr (λ s. (
-        let (o, n, until, at, symmetric, has) = s in
-        let (k, q, there, test) = place_from_lookup (addr_eq o) near.neighbours (n, until) at in
-        false≢true (sym is ∙ decides.1 ((q, (n, until)), Contains_at near.neighbours k (q, (n, until)) there, (symmetric, (a, has, refl))))))
 
 lost_there : (now : ℕ) (was : Type 0) (until : ℕ) (o new : Option (Lost × ℕ)) → new ≡ if_live now o → ((e : Lost × ℕ) → o ≡ Some e → was → ⊥) → was ⊎ (was → ⊥) → SettlesLost was was until (if_live now o) new
 lost_there now was until None new is none (inl his) = Back his is

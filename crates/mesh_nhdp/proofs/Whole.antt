@@ -16,7 +16,7 @@ use Rattle.mesh_atoms.specs.State.{Neighbourhood, link_at, two_hop_at, neighbour
 use Rattle.mesh_atoms.specs.Live.{LiveNeighbourhood, IsSymmetricAddress, SettlesLost, is_symmetric_at, is_symmetric_entry, trim, HasTables}
 use Rattle.mesh_atoms.specs.Quality.{admitted, admit_on, rule_of}
 use Rattle.mesh_atoms.specs.HelloTold.{Told}
-use Rattle.mesh_atoms.specs.AfterHello.{AfterHello, GoesOn, IsTheirs, Begins, renewed, StoodOn, Same_link, New_link}
+use Rattle.mesh_atoms.specs.AfterHello.{AfterHello, GoesOn, IsTheirs, Matches, Begins, renewed, StoodOn, Same_link, New_link}
 use Rattle.mesh_atoms.specs.Words.{IsKept}
 use Rattle.mesh_atoms.specs.Sound.{SoundNeighbourhood}
 use Rattle.mesh_links.specs.Links.{AdmitsLinks, ExpiresLinks, EndsOutside, HearsOn}
@@ -24,10 +24,12 @@ use Rattle.mesh_nbrs.specs.declared.neighbours.LinkNote.{LinkNote}
 use Rattle.mesh_nbrs.specs.Neighbours.{Replaces, RestoresBy}
 use Rattle.mesh_nbrs.specs.Losts.{SettlesAll}
 use Rattle.mesh_nbrs.specs.TwoHops.{DropsLink}
-use Rattle.mesh_nhdp.specs.Calls.{TellsLinks, TellsKeys, DropsEnded, TellsTwoHops}
-use Rattle.mesh_hello.proofs.Lookups.{live_from}
-use Rattle.mesh_nhdp.proofs.Composes.{restores_by, settles_by, goes_on_elsewhere, goes_on_here, hears_link, replaced_one, replaced_other}
-use Rattle.mesh_nhdp.proofs.TwoHops.{dropped_here, dropped_elsewhere, left_by_ends, on_true, on_false}
+use Rattle.mesh_nhdp.specs.Calls.{key_at, TellsLinks, TellsLinksOf, TellsKeys, DropsEnded, TellsTwoHops}
+use Rattle.mesh_nhdp.specs.Wanted.{symmetric_at}
+use Rattle.mesh_hello.proofs.Lookups.{live_from, some_same, contains_or_not}
+use Rattle.mesh_nhdp.proofs.Composes.{restores_by, restores_of, settles_by, goes_on_elsewhere, goes_on_here, hears_link, replaced_one, replaced_other}
+use Rattle.mesh_nhdp.proofs.Touched.{IsTheirSymmetric, rests, untouched, settles}
+use Rattle.mesh_nhdp.proofs.TwoHops.{dropped_here, dropped_elsewhere, left_by_ends, left_by_keys, on_true, on_false}
 
 entry_there : (now : ℕ) (o : Option (Link × ℕ)) → is_symmetric_entry now o ≡ true → (e : Link × ℕ) × (o ≡ Some e)
 entry_there now None h = absurd (false≢true h)
@@ -95,7 +97,9 @@ pub record RunsHello (settings : RouterSettings) (now i : ℕ) (told : Told) (he
   pub ends : (j : ℕ) → j ≢ i → EndsOutside theirs told.listed (base_of old.links j) (base_of new.links j)
   pub hears : (mid : Base LinkKey Link) × EndsOutside theirs told.listed (base_of old.links i) mid × HearsOn (rule_of settings i) told.shown told.least settings.times.link_hold now mid (base_of new.links i)
   pub mids : ℕ → Base TwoHopKey TwoHop
-  pub drops : (j : ℕ) → (keys : List LinkKey) × TellsKeys (base_of old.links j) keys × DropsEnded keys (base_of new.links j) now (base_of old.two_hops j) (mids j)
+  pub keys : List LinkKey
+  pub keys_are : (a : Addr4) → Contains theirs a ⊎ Contains told.listed a → Contains keys (key_at a)
+  pub drops : (j : ℕ) → DropsEnded keys (base_of new.links j) now (base_of old.two_hops j) (mids j)
   pub elsewhere : (j : ℕ) → j ≢ i → Same two_hop_eq (mids j) (base_of new.two_hops j)
   pub started : Base TwoHopKey TwoHop
   pub starts : Starts old i told (mids i) started
@@ -105,19 +109,16 @@ pub record RunsHello (settings : RouterSettings) (now i : ℕ) (told : Told) (he
   pub replaced : Base Addr4 Neighbour
   pub replaces : Replaces told.originator told.listed told.willing told.routing until old.neighbours replaced
   pub notes : List LinkNote
-  pub notes_are : TellsLinks new.links now notes
-  pub neighbours : (o : Addr4) → RestoresBy notes (find addr_eq replaced o) (neighbour_at new o)
+  pub notes_are : TellsLinksOf new.links told.listed now notes
+  pub neighbour : RestoresBy notes (find addr_eq replaced told.originator) (neighbour_at new told.originator)
+  pub others : (o : Addr4) → o ≢ told.originator → neighbour_at new o ≡ find addr_eq replaced o
   pub before : List Addr4
-  pub before_is : (a : Addr4) → Contains before a ↔ IsSymmetricAddress old a
-  pub after : List Addr4
-  pub after_is : (a : Addr4) → Contains after a ↔ IsSymmetricAddress new a
-  pub losts : SettlesAll before after (now + settings.times.neighbour_hold) old.losts new.losts
+  pub before_is : (a : Addr4) → Contains before a ↔ IsTheirSymmetric old told a
+  pub losts : SettlesAll before (symmetric_at (neighbour_at new told.originator)) (now + settings.times.neighbour_hold) old.losts new.losts
 
 module _ (settings : RouterSettings) (now i : ℕ) (told : Told) (hello : Hello) (old new : Neighbourhood)
-    (within : (a : Addr4) → Contains told.shown.sending a → Contains told.listed a) (S : SoundNeighbourhood settings now old) (R : RunsHello settings now i told hello old new) where
-  link_there : (j : ℕ) (key : TwoHopKey) (t : TwoHop × ℕ) → two_hop_at old j key ≡ Some t → (e : Link × ℕ) × (link_at old j key.link ≡ Some e)
-  link_there j key t at = entry_there now (link_at old j key.link) (S.two_hop j key t at)
-
+    (within : (a : Addr4) → Contains told.shown.sending a → Contains told.listed a) (least : Contains told.listed told.least.addr) (S : SoundNeighbourhood settings now old)
+    (R : RunsHello settings now i told hello old new) where
   other_links : (j : ℕ) (key : LinkKey) → ((j ≢ i) ⊎ (key ≢ told.least)) → IsKept (λ e. GoesOn old told i j e.0) (link_at old j key) (link_at new j key)
   other_links j key other = elim (cases_eq j i) [
     | inl same ↦ elim other [
@@ -135,9 +136,18 @@ module _ (settings : RouterSettings) (now i : ℕ) (told : Told) (hello : Hello)
       let (mid, ends, hears) = R.hears in
       hears_link old told R.theirs R.theirs_are within (rule_of settings i) settings.times.link_hold now (base_of old.links i) mid (base_of new.links i) ends hears
 
+  -- a link that was SYMMETRIC and isn't is looked at
+  looked_at : (j : ℕ) (key : LinkKey) → is_symmetric_at old now j key ≡ true → is_symmetric_at new now j key ≡ false → Contains R.keys key
+  looked_at j key was not = let (f, there) = entry_there now (link_at old j key) was in elim (contains_or_not R.theirs key.addr) [
+    | inl theirs ↦ R.keys_are key.addr (inl theirs)
+    | inr others ↦
+        let same = untouched settings now i told old new within least S other_links j key f there (λ theirs. others ((R.theirs_are key.addr).1 theirs)) in
+        absurd (false≢true (sym not ∙ (ap (λ (o : Option (Link × ℕ)). is_symmetric_entry now o) same ∙ was)))
+  ]
+
   -- after the drops, the tuples of SYMMETRIC links are left
   left : (j : ℕ) (key : TwoHopKey) → find two_hop_eq (R.mids j) key ≡ cond (is_symmetric_at new now j key.link) (two_hop_at old j key) None
-  left j key = let (keys, all, drops) = R.drops j in left_by_ends (base_of old.links j) (base_of new.links j) now keys (base_of old.two_hops j) (R.mids j) all (link_there j) drops key
+  left j key = left_by_keys (base_of new.links j) now R.keys (base_of old.two_hops j) (R.mids j) key (λ t at not. looked_at j key.link (S.two_hop j key t at) not) (R.drops j key)
 
   started_elsewhere : (key : TwoHopKey) → key.link ≢ told.least → find two_hop_eq R.started key ≡ find two_hop_eq (R.mids i) key
   started_elsewhere key other = by_case R.starts
@@ -180,6 +190,13 @@ module _ (settings : RouterSettings) (now i : ℕ) (told : Told) (hello : Hello)
       by_case (Anew none d) = subst (λ (o : Option (TwoHop × ℕ)). StoodOn old i told a o)
           (sym (dropped_here told.least (R.mids i) R.started (record { link = told.least; addr = a }) d refl)) (New_link none)
 
+  -- a neighbour with another originator is kept where the HELLO doesn't speak of it
+  kept : (o : Addr4) → o ≢ told.originator → IsKept (λ e. Matches told.originator told.listed o e.0 → ⊥) (neighbour_at old o) (neighbour_at new o)
+  kept o other = subst (λ (x : Option (Neighbour × ℕ)). IsKept (λ e. Matches told.originator told.listed o e.0 → ⊥) (neighbour_at old o) x) (sym (R.others o other)) (R.replaces.others o other)
+
+  announced_addrs : (e : Neighbour × ℕ) → find addr_eq R.replaced told.originator ≡ Some e → e.0.addrs ≡ told.listed
+  announced_addrs e at = ap (λ (x : Neighbour × ℕ). x.0.addrs) (some_same at R.replaces.one)
+
   -- they are the neighbourhood after the HELLO
   pub hello_by_calls : AfterHello settings now i told hello old new
   hello_by_calls = record {
@@ -189,11 +206,11 @@ module _ (settings : RouterSettings) (now i : ℕ) (told : Told) (hello : Hello)
     link = the_link;
     other_links = other_links;
     neighbour = replaced_one new now R.until told old.neighbours R.replaced (neighbour_at new told.originator) R.replaces
-        (restores_by new now R.notes R.notes_are (find addr_eq R.replaced told.originator) (neighbour_at new told.originator) (R.neighbours told.originator));
-    other_neighbours = λ o other. replaced_other new now told o (neighbour_at old o) (find addr_eq R.replaced o) (neighbour_at new o) other (R.replaces.others o other)
-        (restores_by new now R.notes R.notes_are (find addr_eq R.replaced o) (neighbour_at new o) (R.neighbours o));
+        (restores_of new now told.listed R.notes R.notes_are (find addr_eq R.replaced told.originator) (neighbour_at new told.originator) announced_addrs R.neighbour);
+    other_neighbours = λ o other. replaced_other new now told o (neighbour_at old o) (neighbour_at new o) (neighbour_at new o) other (kept o other)
+        (rests settings now i told old new within least S other_links o (neighbour_at new o) (kept o other));
     two_hops = λ symmetric a. (find two_hop_eq R.started (record { link = told.least; addr = a }), stood_of a symmetric, (R.rows symmetric).one a);
     no_two_hops = no_two_hops;
     other_two_hops = other_two_hops;
-    losts = λ a. settles_by (IsSymmetricAddress old a) (IsSymmetricAddress new a) (R.before_is a).0 (R.before_is a).1 (R.after_is a).0 (R.after_is a).1 (R.losts a);
+    losts = λ a. settles settings now i told old new within least S other_links kept R.before (now + settings.times.neighbour_hold) a R.tables.neighbours (R.before_is a) (R.losts a);
   }

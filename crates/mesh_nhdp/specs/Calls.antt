@@ -17,6 +17,10 @@ use Rattle.mesh_nbrs.specs.declared.neighbours.LinkNote.{LinkNote}
 
 -- Links
 
+-- the key of a link with that least address
+abbrev pub key_at : Addr4 → LinkKey
+key_at a = record { addr = a }
+
 -- the note of a link
 abbrev pub note_of : ℕ → LinkKey → Link × ℕ → LinkNote
 note_of now key e = record { key = key; symmetric = is_symmetric e.0 now; link_in = e.0.link_in; link_out = e.0.link_out; until = e.1 }
@@ -25,11 +29,21 @@ note_of now key e = record { key = key; symmetric = is_symmetric e.0 now; link_i
 abbrev pub IsNoteIn : Base LinkKey Link → ℕ → LinkNote → Type 0
 IsNoteIn links now note = (key : LinkKey) × (e : Link × ℕ) × (find link_eq links key ≡ Some e) × (note ≡ note_of now key e)
 
+-- it is the note of one of these links, whose key is among the addresses
+abbrev pub IsNoteAmong : Base LinkKey Link → List Addr4 → ℕ → LinkNote → Type 0
+IsNoteAmong links addrs now note = (key : LinkKey) × (e : Link × ℕ) × Contains addrs key.addr × (find link_eq links key ≡ Some e) × (note ≡ note_of now key e)
+
 -- the notes tell every link of every interface
 pub record TellsLinks (links : List (Base LinkKey Link)) (now : ℕ) (notes : List LinkNote) : Type 0 where
   pub told : (note : LinkNote) → Contains notes note →
       (i : ℕ) × (e : Link × ℕ) × (find link_eq (base_of links i) note.key ≡ Some e) × (note ≡ note_of now note.key e)
   pub all : (i : ℕ) (key : LinkKey) (e : Link × ℕ) → find link_eq (base_of links i) key ≡ Some e → Contains notes (note_of now key e)
+
+-- the notes tell every link of every interface whose key is among the addresses
+pub record TellsLinksOf (links : List (Base LinkKey Link)) (addrs : List Addr4) (now : ℕ) (notes : List LinkNote) : Type 0 where
+  pub told : (note : LinkNote) → Contains notes note →
+      (i : ℕ) × (e : Link × ℕ) × (find link_eq (base_of links i) note.key ≡ Some e) × (note ≡ note_of now note.key e)
+  pub all : (i : ℕ) (key : LinkKey) (e : Link × ℕ) → Contains addrs key.addr → find link_eq (base_of links i) key ≡ Some e → Contains notes (note_of now key e)
 
 -- the keys of all links, and no others
 pub record TellsKeys (links : Base LinkKey Link) (keys : List LinkKey) : Type 0 where

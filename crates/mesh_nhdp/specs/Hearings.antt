@@ -29,13 +29,13 @@ pub record UpdatesTwoHops (stood symmetric : Bool) (own listed : List Addr4) (he
   pub no_rows : symmetric ≡ false → new ≡ started
 
 -- each interface hears the HELLO, and then the tuples of its link are brought up to date
-pub record HearsInterfaces (rule : Admit) (shown : Shown) (least : LinkKey) (theirs listed own : List Addr4) (hold now i : ℕ) (hello : Hello)
+pub record HearsInterfaces (rule : Admit) (shown : Shown) (least : LinkKey) (theirs listed : List Addr4) (keys : List LinkKey) (own : List Addr4) (hold now i : ℕ) (hello : Hello)
     (old new : List (Base LinkKey Link)) (before after : List (Base TwoHopKey TwoHop)) : Type 0 where
   pub mids : List (Base TwoHopKey TwoHop)
   pub same_mids : length mids ≡ length before
   pub same : length after ≡ length mids
   pub each : (j : ℕ) → j < length old →
-      HearsAt rule shown least theirs listed hold now (nat_eq j i) (base_of old j) (base_of new j) (base_of before j) (base_of mids j)
+      HearsAt rule shown least theirs listed keys hold now (nat_eq j i) (base_of old j) (base_of new j) (base_of before j) (base_of mids j)
   pub elsewhere : (j : ℕ) → j ≢ i → base_of after j ≡ base_of mids j
   pub stood : Bool
   pub stood_is : IsTrue stood ↔ ((e : Link × ℕ) × (find link_eq (base_of old i) least ≡ Some e) × (e.0.addrs ≡ shown.sending))

@@ -22,14 +22,15 @@ pub record ExpiresOn (rule : Admit) (hold now : ℕ) (old new : Base LinkKey Lin
       × TellsKeys old keys × DropsEnded keys new now mid after
 
 -- a HELLO: links of the neighbours that it speaks of end outside its addresses, the link that it came over is heard where
--- this is the interface that it came over, and the tuples of links that aren't SYMMETRIC go (RFC 6130, section 12)
-pub record HearsAt (rule : Admit) (shown : Shown) (least : LinkKey) (theirs listed : List Addr4) (hold now : ℕ) (here : Bool)
+-- this is the interface that it came over, and the tuples of those of the links with these keys that aren't SYMMETRIC go (RFC 6130,
+-- section 12)
+pub record HearsAt (rule : Admit) (shown : Shown) (least : LinkKey) (theirs listed : List Addr4) (keys : List LinkKey) (hold now : ℕ) (here : Bool)
     (old new : Base LinkKey Link) (before after : Base TwoHopKey TwoHop) : Type 0 where
   pub distinct_links : HasDistinctKeys link_eq new
   pub distinct_two_hops : HasDistinctKeys two_hop_eq after
   pub elsewhere : here ≡ false → EndsOutside theirs listed old new
   pub hears : here ≡ true → (mid : Base LinkKey Link) × EndsOutside theirs listed old mid × HearsOn rule shown least hold now mid new
-  pub two_hops : (keys : List LinkKey) × TellsKeys old keys × DropsEnded keys new now before after
+  pub two_hops : DropsEnded keys new now before after
 
 -- moments and times are in range, and the sending list is an ascending list of one address at least
 pub record CanHear (now hold : ℕ) (shown : Shown) : Type 0 where

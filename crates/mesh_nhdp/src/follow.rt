@@ -1,9 +1,9 @@
 //! Neighbours and lost addresses follow the links.
 ghost use Rattle.std.specs.Prelude.{OnOk};
-ghost use Rattle.mesh_nhdp.specs.Follows.{FollowsLinks};
+ghost use Rattle.mesh_nhdp.specs.Follows.{FollowsLinks, FollowsLinksOf};
 
-use crate::near_addresses::{Wanted, wanted_addresses};
-use crate::notes::notes_of;
+use crate::near_addresses::{Wanted, symmetric_at, wanted_addresses};
+use crate::notes::{notes_among, notes_of};
 use mesh_atoms::{Addr4, Link, LinkKey, Lost, Neighbour};
 use mesh_expire::Table;
 use mesh_links::LinkSet;
@@ -27,5 +27,28 @@ pub fn follow_links<L: Table<LinkKey, Link>, N: Table<Addr4, Neighbour>, O: Tabl
     neighbours.expire(&notes)?;
     let after = wanted_addresses(alloc, neighbours.table(), Wanted::Symmetric)?;
     losts.settle_lost(before, &after, until)?;
+    Ok(())
+}
+
+/// Sets the neighbour with that originator, which has these addresses, as its links have it, and the addresses as lost until that
+/// moment that were a symmetric neighbour's, of those that became this one, and aren't this one's now. Looks at no other neighbour.
+/// After want of memory both sets may only be dropped.
+pub fn follow_links_of<L: Table<LinkKey, Link>, N: Table<Addr4, Neighbour>, O: Table<Addr4, Lost>>(
+    alloc: Global,
+    links: &[LinkSet<L>],
+    now: u64,
+    originator: Addr4,
+    addrs: &[Addr4],
+    before: &[Addr4],
+    until: u64,
+    neighbours: &mut NeighbourSet<N>,
+    losts: &mut LostSet<O>,
+) -> Result<(), AllocError>
+    ensures { OnOk result (FollowsLinksOf links.now now originator addrs.now before.now until neighbours.old neighbours.new losts.old losts.new) }
+{
+    let notes = notes_among(alloc, links, addrs, now)?;
+    neighbours.follow(originator, &notes)?;
+    let after = symmetric_at(neighbours.table(), originator);
+    losts.settle_lost(before, after, until)?;
     Ok(())
 }

@@ -28,7 +28,7 @@ pub fn hear_interfaces<L: Table<LinkKey, Link>, H: Table<TwoHopKey, TwoHop>>(
     requires iface { hearing.now.iface < length links.old }
     requires same { length links.old ≡ length two_hops.old }
     ensures links { length links.new ≡ length links.old }
-    ensures hears { OnOk result (HearsInterfaces hearing.now.rule.now hearing.now.shown.now least hearing.now.theirs.now hearing.now.listed.now own.now hearing.now.hold hearing.now.moment hearing.now.iface hello.now
+    ensures hears { OnOk result (HearsInterfaces hearing.now.rule.now hearing.now.shown.now least hearing.now.theirs.now hearing.now.listed.now hearing.now.keys.now own.now hearing.now.hold hearing.now.moment hearing.now.iface hello.now
         links.old links.new two_hops.old two_hops.new) }
 {
     let stood = stands(

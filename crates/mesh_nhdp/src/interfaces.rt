@@ -99,7 +99,8 @@ impl<'a, L: Table<LinkKey, Link>, H: Table<TwoHopKey, TwoHop>> Change<L, H> for 
 }
 
 /// The taking of a HELLO on an interface: the moment, the hold time of links, which links the interface admits, what the HELLO
-/// shows of its link, the addresses of the neighbours that it speaks of, and those that it tells of.
+/// shows of its link, the addresses of the neighbours that it speaks of, those that it tells of, and the keys of the links of all
+/// these.
 #[derive(Clone, Copy)]
 pub struct Hearing<'a> {
     pub moment: u64,
@@ -109,6 +110,7 @@ pub struct Hearing<'a> {
     pub shown: &'a Shown,
     pub theirs: &'a [Addr4],
     pub listed: &'a [Addr4],
+    pub keys: &'a [LinkKey],
 }
 
 /// Hears the HELLO, if it came over these links.
@@ -135,19 +137,18 @@ impl<'a, L: Table<LinkKey, Link>, H: Table<TwoHopKey, TwoHop>> Change<L, H> for 
     ghost is_ready = { λ s. CanHear s.moment s.hold s.shown.now };
 
     ghost makes = { λ s i old new before after. (least : LinkKey) → slice_get s.shown.now.sending 0 ≡ Some least.addr
-        → HearsAt s.rule.now s.shown.now least s.theirs.now s.listed.now s.hold s.moment (nat_eq i s.iface) old new before after };
+        → HearsAt s.rule.now s.shown.now least s.theirs.now s.listed.now s.keys.now s.hold s.moment (nat_eq i s.iface) old new before after };
 
     fn change(
         &self,
-        alloc: Global,
+        _alloc: Global,
         iface: usize,
         links: &mut LinkSet<L>,
         two_hops: &mut TwoHopSet<H>,
     ) -> Result<(), AllocError> {
-        let before = link_keys(alloc, links)?;
         links.end_outside(self.theirs, self.listed);
         hear_here(self, links, iface == self.iface)?;
-        drop_ended(links, two_hops, &before, self.moment);
+        drop_ended(links, two_hops, self.keys, self.moment);
         let _count = two_hops.table().len();
         Ok(())
     }

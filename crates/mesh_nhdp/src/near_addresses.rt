@@ -1,19 +1,30 @@
 //! Addresses of neighbours.
-ghost use Rattle.std.specs.Prelude.{◌↔◌, Contains, IsTrue, IfOk, OnOk};
+ghost use Rattle.std.specs.Prelude.{◌≡◌, ◌↔◌, Contains, IsTrue, IfOk, OnOk};
+ghost use Rattle.mesh_atoms.specs.AfterHello.{Matches};
+ghost use Rattle.mesh_atoms.specs.Base.{find, addr_eq};
 ghost use Rattle.mesh_hello.specs.Gathers.{Gathers};
-ghost use Rattle.mesh_nhdp.specs.Wanted.{IsWanted, IsWantedAddress};
+ghost use Rattle.mesh_nhdp.specs.Wanted.{IsWanted, IsWantedAddress, symmetric_at};
 
+use crate::said_addresses::symmetric_addresses;
 use mesh_atoms::{Addr4, Neighbour, meets};
 use mesh_expire::Table;
 use std::alloc::{AllocError, Global};
 
-/// The neighbours whose addresses are wanted: all, the symmetric ones, or those that a HELLO with this originator and these
-/// addresses speaks of.
+/// The neighbours whose addresses are wanted: all, the symmetric ones, those that a HELLO with this originator and these
+/// addresses speaks of, or the symmetric ones among those.
 #[derive(Clone, Copy)]
 pub enum Wanted<'a> {
     Each,
     Symmetric,
     Matching(Addr4, &'a [Addr4]),
+    MatchingSymmetric(Addr4, &'a [Addr4]),
+}
+
+/// Whether a HELLO with the first originator and these addresses speaks of the neighbour with the second one.
+fn matches(told: Addr4, listed: &[Addr4], originator: Addr4, neighbour: &Neighbour) -> bool
+    ensures { IsTrue result ↔ Matches told listed.now originator neighbour.now }
+{
+    originator == told || meets(neighbour.addrs.as_slice(), listed)
 }
 
 /// Whether the neighbour is wanted.
@@ -23,8 +34,10 @@ fn is_wanted(wanted: Wanted, originator: Addr4, neighbour: &Neighbour) -> bool
     match wanted {
         Wanted::Each => true,
         Wanted::Symmetric => neighbour.symmetric,
-        Wanted::Matching(other, listed) => originator == other
-            || meets(neighbour.addrs.as_slice(), listed),
+        Wanted::Matching(told, listed) => matches(told, listed, originator, neighbour),
+        Wanted::MatchingSymmetric(told, listed) => {
+            neighbour.symmetric && matches(told, listed, originator, neighbour)
+        }
     }
 }
 
@@ -64,4 +77,14 @@ pub fn wanted_addresses<T: Table<Addr4, Neighbour>>(
         }
     }
     Ok(addrs)
+}
+
+/// The addresses of the neighbour with that originator, where it is symmetric; else none. Takes no memory.
+pub fn symmetric_at<T: Table<Addr4, Neighbour>>(table: &T, originator: Addr4) -> &[Addr4]
+    ensures { result.now ≡ symmetric_at (find addr_eq (T.content table.now) originator) }
+{
+    match table.get(&originator) {
+        Some((neighbour, _)) => symmetric_addresses(neighbour),
+        None => &[],
+    }
 }

@@ -32,7 +32,7 @@ fn linked_addresses(link: &Link) -> &[Addr4]
 }
 
 /// The addresses of a neighbour that is symmetric.
-fn symmetric_addresses(neighbour: &Neighbour) -> &[Addr4]
+pub fn symmetric_addresses(neighbour: &Neighbour) -> &[Addr4]
     ensures { result.now ≡ symmetric_addresses neighbour.now }
 {
     if neighbour.symmetric {

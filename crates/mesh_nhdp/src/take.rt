@@ -8,10 +8,11 @@ ghost use Rattle.mesh_atoms.specs.Sound.{SoundNeighbourhood};
 ghost use Rattle.mesh_nhdp.specs.Judged.{IsAnswer};
 ghost use Rattle.mesh_hello.specs.Telling.{told_of};
 
-use crate::follow::follow_links;
+use crate::follow::follow_links_of;
 use crate::hearing::hear_interfaces;
 use crate::interfaces::Hearing;
 use crate::judge::Judgement;
+use crate::keys::keys_of_both;
 use crate::near_addresses::{Wanted, wanted_addresses};
 use crate::nhdp::Nhdp;
 use mesh_atoms::{Addr4, Base, Hello};
@@ -31,7 +32,8 @@ pub enum HelloTaken {
 impl<B: Bases> Nhdp<B> {
     /// Takes in a HELLO from that sender on an interface, at a moment below 2^62 at which nothing is expired; its validity is
     /// above 0 and below 2^62 (RFC 6130, section 12, and RFC 7181, section 15.3). One that is refused or too much changes
-    /// nothing. After want of memory the neighbourhood may only be dropped. Quadratic at worst in links, rows and tuples.
+    /// nothing. After want of memory the neighbourhood may only be dropped. Goes over the neighbours a few times, and looks at
+    /// the links and the tuples of those alone that the HELLO speaks of; each row is looked for among the addresses that it lists.
     pub fn take_hello(
         &mut self,
         now: u64,
@@ -83,20 +85,27 @@ impl<B: Bases> Nhdp<B> {
         let until = now + settings.times.neighbour_hold;
         let face = &settings.interfaces.as_slice()[iface];
         let listed = telling.listed.as_slice();
-        let before = wanted_addresses(alloc, self.neighbours.table(), Wanted::Symmetric)?;
+        let before = wanted_addresses(
+            alloc,
+            self.neighbours.table(),
+            Wanted::MatchingSymmetric(telling.originator, listed),
+        )?;
         let theirs = wanted_addresses(
             alloc,
             self.neighbours.table(),
             Wanted::Matching(telling.originator, listed),
         )?;
+        let spoken_of = theirs.as_slice();
+        let keys = keys_of_both(alloc, spoken_of, listed)?;
         let hearing = Hearing {
             moment: now,
             hold: settings.times.link_hold,
             iface,
             rule: &face.admit,
             shown: &telling.shown,
-            theirs: &theirs,
+            theirs: spoken_of,
             listed,
+            keys: &keys,
         };
         hear_interfaces(
             alloc,
@@ -114,10 +123,12 @@ impl<B: Bases> Nhdp<B> {
             telling.routing,
             now,
         )?;
-        follow_links(
+        follow_links_of(
             alloc,
             &self.links,
             now,
+            telling.originator,
+            listed,
             &before,
             until,
             &mut self.neighbours,

@@ -1,27 +1,8 @@
-use Rattle.std.proofs.Common.{◌≡◌, ℕ, ◌↔◌, ◌⊎◌, ◌++◌, ◌∙◌, ap, sym, subst, Contains, IsTrue}
-use Rattle.std.specs.Prelude.{nat_lt}
-use Rattle.std.specs.Map.{keys_of}
-use Rattle.mesh_atoms.specs.declared.addr.Addr4.{Addr4}
-use Rattle.mesh_atoms.specs.declared.tuples.Neighbour.{Neighbour}
-use Rattle.mesh_atoms.specs.declared.tuples.Lost.{Lost}
-use Rattle.mesh_atoms.specs.Base.{Base}
-use Rattle.mesh_atoms.specs.TakesHello.{IsHeld}
-use Rattle.mesh_atoms.specs.Words.{AreMoreThan}
-use Rattle.mesh_nhdp.specs.declared.near_addresses.Wanted.TheVariants.{Each}
-use Rattle.mesh_nhdp.specs.Wanted.{IsWantedAddress}
-use Rattle.mesh_hello.proofs.Collect.{iff_on}
-use Rattle.mesh_nhdp.proofs.Fits.{are_more}
-use Rattle.mesh_nhdp.proofs.HeldAddresses.{held_addresses}
+use Rattle.std.proofs.Common.{◌∙◌, sym}
 use Rattle.mesh_nhdp.proofs.full.is_full_of_addresses.Goals as goal
 
-pub returns : goal.returns
-returns g c near is_neighbours is_losts =
-    let P : Addr4 → Type 0 = λ a. IsHeld near a ⊎ (Contains c.args.listed.now a ⊎ (a ≡ c.args.originator)) in
-    subst (λ (n : ℕ). IsTrue (nat_lt 1024 n) ↔ AreMoreThan 1024 P) (sym c.len-count.ensures)
-    (are_more 1024 P c.ascending-held.result c.ascending-held.ensures.order (λ a. iff_on (c.ascending-held.ensures.same a)
-    (held_addresses near c.args.listed.now c.args.originator c.in_ok-addrs.addrs.items c.in_ok-originators.originators.items c.in_ok-lost.lost.items _ _ _ _
-    (subst (λ (b : Base Addr4 Neighbour). (x : Addr4) → Contains c.in_ok-addrs.addrs.items x ↔ IsWantedAddress b Each x) (c.table.ensures.content ∙ sym is_neighbours) c.in_ok-addrs.ensures)
-    (c.in_ok-originators.ensures ∙ ap (λ (b : Base Addr4 Neighbour). keys_of b) (c.table-2.ensures.content ∙ sym is_neighbours))
-    (c.in_ok-lost.ensures ∙ ap (λ (b : Base Addr4 Lost). keys_of b) (c.table-3.ensures.content ∙ sym is_losts))
-    (c.in_ok-extend_from_slice.ensures.items ∙ ap (λ more. c.in_ok-addrs.addrs.items ++ more) c.deref.ensures.value)
-    (c.in_ok-extend_from_slice-2.ensures.items ∙ ap (λ more. c.extend_from_slice.new.self.items ++ more) c.deref-2.ensures.value) c.in_ok-extend_from_slice-3.ensures.items c.in_ok-push.ensures.items a)))
+pub returns-then-are_few : goal.returns-then-are_few
+returns-then-are_few g c near is_neighbours is_losts = (
+  λ no. absurd cc,
+  λ more. absurd (c.are_few.ensures c.if-are_few.true near c.args.originator (is_neighbours ∙ sym c.table.ensures.content) (is_losts ∙ sym c.table-2.ensures.content) more),
+)
