@@ -1,0 +1,253 @@
+//! Runs of routers: what happens to them step by step, and what must come of each.
+use crate::frames::ONE;
+use crate::looks::{Look, shows};
+use crate::octets::{Part, frame_of};
+use crate::reads::{Told, is_hello};
+use mesh_atoms::{Addr4, Refusal, RouterSettings, Scenario};
+use mesh_core::{Core, Fate, Heard, Outbox, Read};
+use mesh_expire::Bases;
+use mesh_flood::Forward;
+use std::alloc::{AllocError, Global};
+
+/// What a router is to answer to a frame.
+#[derive(Clone, Copy)]
+pub(crate) enum Answer {
+    // so many messages one after the other, and what becomes of each of them
+    Taken(&'static [(usize, Read, Forward)]),
+    // the place and the reason
+    Refused(usize, u8),
+    Wanting,
+}
+
+fn are_all(fates: &[Fate], read: Read, forward: Forward) -> bool {
+    for fate in fates {
+        if fate.read != read || fate.forward != forward {
+            return false;
+        }
+    }
+    true
+}
+
+fn are_fates(fates: &[Fate], wanted: &[(usize, Read, Forward)]) -> bool {
+    let mut rest = fates;
+    for run in wanted {
+        let (count, read, forward) = *run;
+        if count > rest.len() || !are_all(&rest[..count], read, forward) {
+            return false;
+        }
+        rest = &rest[count..];
+    }
+    rest.is_empty()
+}
+
+fn is_heard(heard: &Heard, answer: &Answer) -> bool {
+    match heard {
+        Heard::Taken(fates) => match *answer {
+            Answer::Taken(wanted) => are_fates(fates.as_slice(), wanted),
+            _ => false,
+        },
+        Heard::Refused(refusal) => match *answer {
+            Answer::Refused(place, reason) => *refusal == Refusal { place, reason },
+            _ => false,
+        },
+    }
+}
+
+fn is_answer(came: &Result<Heard, AllocError>, answer: &Answer) -> bool {
+    match came {
+        Ok(heard) => is_heard(heard, answer),
+        Err(_) => matches!(answer, Answer::Wanting),
+    }
+}
+
+/// Lets a router hear a frame, and says whether it answers so, and whether it is spent exactly where it wants memory.
+fn hear<B: Bases>(
+    core: &mut Core<B>,
+    out: &mut Outbox,
+    arrival: (u32, usize, u32),
+    frame: &[u8],
+    answer: &Answer,
+) -> bool {
+    let now = u64::from(arrival.0);
+    let iface = arrival.1;
+    if now < core.last() || iface >= core.settings().interfaces.len() {
+        return false;
+    }
+    let came = core.hear(now, iface, Addr4(arrival.2), frame, out);
+    is_answer(&came, answer) && core.is_spent() == came.is_err()
+}
+
+/// Lets the clock of a router tick, and says whether what is next due then is that; none where it wants memory.
+fn tick<B: Bases>(core: &mut Core<B>, out: &mut Outbox, now: u32, due: Option<u64>) -> bool {
+    let now = u64::from(now);
+    if now < core.last() {
+        return false;
+    }
+    match core.tick(now, out) {
+        Ok(()) => due == Some(core.due()) && core.last() == now && !core.is_spent(),
+        Err(_) => due.is_none() && core.is_spent(),
+    }
+}
+
+#[derive(Clone, Copy)]
+pub(crate) enum Event {
+    // moment, interface and sender; the frame; the answer
+    Hears((u32, usize, u32), &'static [Part], Answer),
+    // moment, interface and sender; the place of the frame among those that were sent; the answer
+    Gets((u32, usize, u32), usize, Answer),
+    // the moment; what is next due then, or none where it wants memory
+    Ticks(u32, Option<u64>),
+    Looks(Look),
+}
+
+#[derive(Clone, Copy)]
+pub(crate) enum Step {
+    // the router's number, and what happens to it
+    At(usize, Event),
+    // the place of a frame among those that were sent, its interface, and the HELLO that it is
+    Tells(usize, usize, Told),
+    // the frames that were sent, with their interfaces; they are forgotten then
+    Sent(&'static [(usize, &'static [Part])]),
+    // how many were sent; they are forgotten then
+    Count(usize),
+}
+
+/// A router hears a frame of 10.0.0.1 on its first interface, and answers so.
+pub(crate) const fn hears(router: usize, now: u32, frame: &'static [Part], answer: Answer) -> Step {
+    Step::At(router, Event::Hears((now, 0, ONE), frame, answer))
+}
+
+/// The clock of a router ticks, and that is next due then.
+pub(crate) const fn ticks(router: usize, now: u32, due: u64) -> Step {
+    Step::At(router, Event::Ticks(now, Some(due)))
+}
+
+/// A router looks so.
+pub(crate) const fn looks(router: usize, look: Look) -> Step {
+    Step::At(router, Event::Looks(look))
+}
+
+/// The octets of the frame at a place.
+fn copy_of(alloc: Global, out: &Outbox, place: usize) -> Result<Vec<u8>, AllocError> {
+    match out.frame(place) {
+        Some((_, octets)) => Vec::from_slice(alloc, octets),
+        None => Ok(Vec::new(alloc)),
+    }
+}
+
+/// Lets that happen to a router, and says whether what comes of it is right.
+fn happens<B: Bases>(
+    alloc: Global,
+    core: &mut Core<B>,
+    out: &mut Outbox,
+    event: &Event,
+) -> Result<bool, AllocError> {
+    match *event {
+        Event::Hears(arrival, parts, answer) => {
+            let frame = frame_of(alloc, parts)?;
+            Ok(hear(core, out, arrival, frame.as_slice(), &answer))
+        }
+        Event::Gets(arrival, place, answer) => {
+            let frame = copy_of(alloc, out, place)?;
+            Ok(hear(core, out, arrival, frame.as_slice(), &answer))
+        }
+        Event::Ticks(now, due) => Ok(tick(core, out, now, due)),
+        Event::Looks(look) => Ok(shows(core, &look)),
+    }
+}
+
+fn is_sent(
+    alloc: Global,
+    out: &Outbox,
+    place: usize,
+    iface: usize,
+    parts: &[Part],
+) -> Result<bool, AllocError> {
+    let wanted = frame_of(alloc, parts)?;
+    match out.frame(place) {
+        Some((on, octets)) => Ok(on == iface && octets == wanted.as_slice()),
+        None => Ok(false),
+    }
+}
+
+fn are_sent(alloc: Global, out: &Outbox, wanted: &[(usize, &[Part])]) -> Result<bool, AllocError> {
+    for place in 0..wanted.len() {
+        let (iface, parts) = wanted[place];
+        if !is_sent(alloc, out, place, iface, parts)? {
+            return Ok(false);
+        }
+    }
+    Ok(out.len() == wanted.len())
+}
+
+fn is_told(alloc: Global, out: &Outbox, place: usize, iface: usize, told: &Told) -> bool {
+    match out.frame(place) {
+        Some((on, octets)) => on == iface && is_hello(alloc, octets, told),
+        None => false,
+    }
+}
+
+/// Takes a step, and says whether what comes of it is right.
+fn is_taken<B: Bases>(
+    alloc: Global,
+    cores: &mut [Core<B>],
+    out: &mut Outbox,
+    step: &Step,
+) -> Result<bool, AllocError> {
+    match *step {
+        Step::At(router, event) => {
+            if router >= cores.len() {
+                return Ok(false);
+            }
+            happens(alloc, &mut cores[router], out, &event)
+        }
+        Step::Tells(place, iface, told) => Ok(is_told(alloc, out, place, iface, &told)),
+        Step::Sent(wanted) => {
+            let right = are_sent(alloc, out, wanted)?;
+            out.clear();
+            Ok(right)
+        }
+        Step::Count(want) => {
+            let right = out.len() == want;
+            out.clear();
+            Ok(right)
+        }
+    }
+}
+
+fn are_taken<B: Bases>(
+    alloc: Global,
+    cores: &mut [Core<B>],
+    out: &mut Outbox,
+    steps: &[Step],
+) -> Result<bool, AllocError> {
+    for step in steps {
+        if !is_taken(alloc, cores, out, step)? {
+            return Ok(false);
+        }
+    }
+    Ok(true)
+}
+
+fn put_cores<B: Bases>(
+    alloc: Global,
+    routers: &[RouterSettings],
+    cores: &mut Vec<Core<B>>,
+) -> Result<(), AllocError> {
+    for settings in routers {
+        cores.push(Core::new(alloc, settings.copy()?)?)?;
+    }
+    Ok(())
+}
+
+/// Whether each step of the routers of a scenario, before their first events, comes to what it must.
+pub(crate) fn goes_right<B: Bases>(
+    alloc: Global,
+    scenario: &Scenario,
+    steps: &[Step],
+) -> Result<bool, AllocError> {
+    let mut cores = Vec::new(alloc);
+    put_cores::<B>(alloc, scenario.routers.as_slice(), &mut cores)?;
+    let mut out = Outbox::new(alloc);
+    are_taken(alloc, cores.as_mut_slice(), &mut out, steps)
+}
