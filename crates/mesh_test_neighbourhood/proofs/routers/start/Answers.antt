@@ -1,4 +1,4 @@
-use Rattle.mesh_test_neighbourhood.proofs.exchange.start.Goals as goal
+use Rattle.mesh_test_neighbourhood.proofs.routers.start.Goals as goal
 
 -- an empty neighbourhood is sound at every moment
 pub returns-clause-sound : goal.returns-clause-sound
