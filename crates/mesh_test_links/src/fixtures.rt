@@ -2,14 +2,8 @@
 ghost use Rattle.std.specs.Prelude.{◌<◌, length, IfOk};
 ghost use Rattle.mesh_atoms.specs.Words.{IsAscending};
 
-use mesh_atoms::{Addr4, LinkKey, Metric, Seq};
+use mesh_atoms::{Addr4, LinkKey, Seq};
 use std::alloc::{AllocError, Global};
-
-/// Of cost 2.
-pub(crate) const LOW: Metric = Metric { code: 1 };
-
-/// Of cost 10.
-pub(crate) const HIGH: Metric = Metric { code: 9 };
 
 pub(crate) fn link_key(addr: u32) -> LinkKey {
     LinkKey { addr: Addr4(addr) }

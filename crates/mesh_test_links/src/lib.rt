@@ -1,8 +1,11 @@
-//! Tests of the sets that hold links, neighbours, 2-hop tuples and lost addresses: worked calls over indexed tables.
+//! Tests of the sets that hold links, neighbours, 2-hop tuples and lost addresses: worked calls over plain lists and over indexed
+//! tables.
 #![tactic(auto)]
 
 #[cfg(test)]
 mod fixtures;
+#[cfg(test)]
+mod kinds;
 #[cfg(test)]
 mod links;
 #[cfg(test)]

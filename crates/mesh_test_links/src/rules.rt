@@ -1,7 +1,6 @@
 //! Rules of admittance that tests use.
-ghost use Rattle.std.specs.Prelude.{◌≡◌, IfOk};
-
 use mesh_atoms::{Addr4, Admit, QualityStep, SenderQuality, Seq};
+use mesh_fixtures::list_of;
 use std::alloc::{AllocError, Global};
 
 #[derive(Clone, Copy)]
@@ -14,12 +13,6 @@ pub(crate) enum Rule {
     Zero,
     // 100 and 100. Of 1: 99 from 1000 on
     Hundred,
-}
-
-fn list_of<T: Copy>(alloc: Global, items: &[T]) -> Result<Seq<T>, AllocError>
-    ensures { IfOk result (λ list. list ≡ items.now) }
-{
-    Ok(Seq::from_vec(Vec::from_slice(alloc, items)?))
 }
 
 fn of_one(alloc: Global) -> Result<SenderQuality, AllocError> {

@@ -1,113 +1,87 @@
 //! Worked 2-hop tuples.
-use crate::fixtures::{HIGH, LOW, link_key};
-use mesh_atoms::{Addr4, Metric, TwoHop, TwoHopKey};
-use mesh_expire::{IndexTable, NoTable, Table};
+use crate::fixtures::link_key;
+use crate::kinds::{Case, Run, Tried};
+use mesh_atoms::{Addr4, TwoHop, TwoHopKey};
+use mesh_expire::Table;
+use mesh_fixtures::{cost, metric_if};
 use mesh_nbrs::TwoHopSet;
 use std::alloc::{AllocError, Global};
-use std::test::Fail;
+
+/// The costs of a tuple's metrics, in and out, and its moment.
+type Has = (Option<u32>, Option<u32>, u64);
 
 #[derive(Clone, Copy)]
-enum Call {
-    // of a link and an address; the metrics and the moment
-    Renew(u32, u32, Option<Metric>, Option<Metric>, u64),
+pub(crate) enum Call {
+    // of a link and an address; the costs of the metrics, 0 for none, and the moment
+    Renew(u32, u32, u16, u16, u64),
     // whether it was there
     DropRow(u32, u32, bool),
     // how many go
     DropLink(u32, usize),
     Expire(u64),
-    // what is there, with its moment
-    Get(u32, u32, Option<(TwoHop, u64)>),
+    // what is there
+    Get(u32, u32, Option<Has>),
     Len(usize),
 }
 
-fn tuple_of<T: Table<TwoHopKey, TwoHop>>(
-    set: &TwoHopSet<T>,
-    link: u32,
-    addr: u32,
-) -> Option<(TwoHop, u64)> {
+fn tuple_of<T: Table<TwoHopKey, TwoHop>>(set: &TwoHopSet<T>, link: u32, addr: u32) -> Option<Has> {
     let key = TwoHopKey {
         link: link_key(link),
         addr: Addr4(addr),
     };
     match set.table().get(&key) {
-        Some((tuple, until)) => Some((*tuple, until)),
+        Some((tuple, until)) => Some((cost(tuple.metric_in), cost(tuple.metric_out), until)),
         None => None,
     }
 }
 
-/// Makes a call, and says whether its answer is right.
-fn answers<T: Table<TwoHopKey, TwoHop>>(
-    set: &mut TwoHopSet<T>,
-    call: &Call,
-) -> Result<bool, AllocError> {
+/// Makes a call that takes no memory, and says whether its answer is right.
+fn shows<T: Table<TwoHopKey, TwoHop>>(set: &mut TwoHopSet<T>, call: &Call) -> bool {
     match *call {
-        Call::Renew(link, addr, metric_in, metric_out, until) => {
-            set.renew(link_key(link), Addr4(addr), metric_in, metric_out, until)?;
-            Ok(true)
-        }
-        Call::DropRow(link, addr, was) => Ok(set.drop_row(link_key(link), Addr4(addr)) == was),
-        Call::DropLink(link, count) => Ok(set.drop_link(link_key(link)) == count),
+        Call::DropRow(link, addr, was) => set.drop_row(link_key(link), Addr4(addr)) == was,
+        Call::DropLink(link, count) => set.drop_link(link_key(link)) == count,
         Call::Expire(now) => {
             set.expire(now);
-            Ok(true)
+            true
         }
-        Call::Get(link, addr, want) => Ok(tuple_of(set, link, addr) == want),
-        Call::Len(count) => Ok(set.table().len() == count),
+        Call::Get(link, addr, want) => tuple_of(set, link, addr) == want,
+        Call::Len(count) => set.table().len() == count,
+        Call::Renew(..) => false,
     }
 }
 
-fn answer_all<T: Table<TwoHopKey, TwoHop>>(
-    set: &mut TwoHopSet<T>,
-    calls: &[Call],
-) -> Result<bool, AllocError> {
-    for call in calls {
-        if !answers(set, call)? {
-            return Ok(false);
+impl<T: Table<TwoHopKey, TwoHop>> Tried for TwoHopSet<T> {
+    type Call = Call;
+
+    fn start(alloc: Global) -> Result<TwoHopSet<T>, AllocError> {
+        TwoHopSet::new(alloc)
+    }
+
+    fn answers(&mut self, _alloc: Global, call: &Call) -> Result<bool, AllocError> {
+        match *call {
+            Call::Renew(link, addr, metric_in, metric_out, until) => {
+                let (metric_in, metric_out) = (metric_if(metric_in), metric_if(metric_out));
+                self.renew(link_key(link), Addr4(addr), metric_in, metric_out, until)?;
+                Ok(true)
+            }
+            _ => Ok(shows(self, call)),
         }
     }
-    Ok(true)
 }
 
-/// Whether each call on a new set answers right.
-fn goes_right<T: Table<TwoHopKey, TwoHop>>(
-    alloc: Global,
-    calls: &[Call],
-) -> Result<bool, AllocError> {
-    let mut set = TwoHopSet::<T>::new(alloc)?;
-    answer_all(&mut set, calls)
-}
-
-/// The same over an indexed table.
-fn is_right(alloc: Global, calls: &[Call]) -> Result<bool, AllocError> {
-    goes_right::<IndexTable<TwoHopKey, TwoHop>>(alloc, calls)
-}
-
-/// The same over a table that holds nothing.
-fn is_right_of_none(alloc: Global, calls: &[Call]) -> Result<bool, AllocError> {
-    goes_right::<NoTable>(alloc, calls)
-}
-
-#[test]
-fn two_hop_tuples_come_and_go(rt: HostRuntime) -> Result<(), Fail> {
-    let one_way = TwoHop {
-        metric_in: Some(LOW),
-        metric_out: None,
-    };
-    let both_ways = TwoHop {
-        metric_in: Some(HIGH),
-        metric_out: Some(LOW),
-    };
-    let calls = [
-        Call::Renew(1, 7, Some(LOW), None, 100),
-        Call::Renew(1, 8, None, None, 200),
-        Call::Renew(2, 7, Some(LOW), None, 300),
-        Call::Renew(1, 9, Some(LOW), None, 400),
+pub(crate) static CASES: [Case; 1] = [(
+    "2-hop tuples come and go",
+    Run::TwoHops(&[
+        Call::Renew(1, 7, 2, 0, 100),
+        Call::Renew(1, 8, 0, 0, 200),
+        Call::Renew(2, 7, 2, 0, 300),
+        Call::Renew(1, 9, 2, 0, 400),
         Call::Len(4),
-        Call::Get(1, 7, Some((one_way, 100))),
+        Call::Get(1, 7, Some((Some(2), None, 100))),
         // another value and moment for a tuple that is there
-        Call::Renew(1, 7, Some(HIGH), Some(LOW), 500),
+        Call::Renew(1, 7, 10, 2, 500),
         Call::Len(4),
-        Call::Get(1, 7, Some((both_ways, 500))),
+        Call::Get(1, 7, Some((Some(10), Some(2), 500))),
         Call::DropRow(1, 8, true),
         Call::DropRow(1, 8, false),
         Call::Len(3),
@@ -115,18 +89,12 @@ fn two_hop_tuples_come_and_go(rt: HostRuntime) -> Result<(), Fail> {
         Call::DropLink(1, 2),
         Call::Len(1),
         Call::Expire(299),
-        Call::Get(2, 7, Some((one_way, 300))),
+        Call::Get(2, 7, Some((Some(2), None, 300))),
         Call::Expire(300),
         Call::Len(0),
-    ];
-    assert!(rt; is_right(rt.alloc(), &calls)?);
-    Ok(())
-}
+    ]),
+)];
 
-#[test]
-fn no_table_holds_no_two_hop_tuple(rt: HostRuntime) -> Result<(), Fail> {
-    let calls = [Call::DropLink(1, 0), Call::Len(0)];
-    assert!(rt; is_right_of_none(rt.alloc(), &calls)?);
-    assert!(rt; is_right_of_none(rt.alloc(), &[Call::Renew(1, 7, None, None, 5)]).is_err());
-    Ok(())
-}
+pub(crate) const NOTHING: &[Call] = &[Call::DropLink(1, 0), Call::Len(0)];
+
+pub(crate) const SOMETHING: &[Call] = &[Call::Renew(1, 7, 0, 0, 5)];
