@@ -65,10 +65,10 @@ fn probe_net<B: Bases, O: Sink>(
     probe: Option<usize>,
     out: &mut O,
 ) -> Result<(), Stop>
-    requires routers { AreRoutersAt scenario.now net.routers scenario.now.end }
+    requires routers { AreRoutersAt scenario.now net.net.routers scenario.now.end }
     requires graph { IsRadioGraph scenario.now graph.now }
     requires origin { IfSome probe (λ origin. origin < length scenario.now.routers) }
-    ensures leaves { Leaves (IsProbeTold scenario.now net.routers probe) (IsProbeTold scenario.now net.routers probe) (IsUntold probe)
+    ensures leaves { Leaves (IsProbeTold scenario.now net.net.routers probe) (IsProbeTold scenario.now net.net.routers probe) (IsUntold probe)
         (O.content out.old) (O.content out.new) (O.faults out.old) (O.faults out.new) result }
     ensures later { O.faults out.old ≤ O.faults out.new }
 {
@@ -85,7 +85,7 @@ fn tell_all<B: Bases, O: Sink>(
     errand: Errand,
     out: &mut O,
 ) -> Result<(), Stop>
-    requires opening { IsOpeningNet scenario.now net }
+    requires opening { IsOpeningNet scenario.now net.net }
     requires graph { IsRadioGraph scenario.now graph.now }
     requires within { IsWithin scenario.now errand }
     ensures leaves { Leaves (IsWholeText scenario.now errand) (IsFrontText scenario.now errand) (IsPartText scenario.now errand)

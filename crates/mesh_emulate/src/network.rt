@@ -38,7 +38,7 @@ pub trait Network {
 impl<B: Bases> Network for Net<B> {
     type Router = Core<B>;
 
-    ghost net = { λ n. n };
+    ghost net = { λ n. n.net };
 
     fn step(&mut self) -> Result<Option<NetEvent>, AllocError> {
         self.step()

@@ -19,7 +19,7 @@ use std::alloc::{AllocError, Global};
 
 // The network of a scenario at the end of its run.
 fn run_of<B: Bases>(alloc: Global, scenario: &Scenario) -> Result<Net<B>, AllocError>
-    ensures { IfOk result (λ net. (run : WholeRun scenario.now) × (run.final ≡ net)) }
+    ensures { IfOk result (λ net. (run : WholeRun scenario.now) × (run.final ≡ net.net)) }
 {
     let mut net = Net::new(alloc, scenario)?;
     net.run_until_end()?;

@@ -1,5 +1,5 @@
 -- The runs of an emulated network, and what each of its routers comes through.
-use Rattle.std.specs.Prelude.{◌≡◌, ℕ, ◌<◌, ◌∷◌, [], List, Some, slice_get, length, map, All, IfSome, nat_eq}
+use Rattle.std.specs.Prelude.{◌≡◌, ℕ, ◌<◌, ◌∷◌, [], List, Some, slice_get, length, map, All, Bool, IfSome, nat_eq}
 use Rattle.std.specs.List.{filter}
 use Rattle.mesh_atoms.specs.declared.settings.RouterSettings.{RouterSettings}
 use Rattle.mesh_atoms.specs.declared.settings.Scenario.{Scenario}
@@ -10,6 +10,11 @@ use Rattle.mesh_machine.specs.Machine.{IsOpening, Run}
 use Rattle.mesh_machine.specs.Sendable.{IsPacket}
 use Rattle.mesh_radio.specs.declared.event.NetEvent.{NetEvent}
 use Rattle.mesh_radio.specs.Net.{Net, NetStep, HasOnlyLastTicks, event_of, frames_of}
+
+-- an emulated network, and whether it has met want of memory
+pub record NetValue : Type 0 where
+  pub net : Net
+  pub is_spent : Bool
 
 -- a network before its first event: each router is in its opening state, nothing is in the air, and all numbers are 0
 pub record IsOpeningNet (scenario : Scenario) (net : Net) : Type 0 where

@@ -1,5 +1,5 @@
 //! The emulated network.
-ghost use Rattle.std.specs.Prelude.{◌≡◌, List, IfOk, OnOk, MatchOption, IfSome};
+ghost use Rattle.std.specs.Prelude.{◌≡◌, List, false, is_err, IfOk, OnOk, IsErr, IsTrue, MatchOption, IfSome};
 ghost use Rattle.mesh_radio.specs.declared.event.NetEvent.{NetEvent};
 ghost use Rattle.mesh_radio.specs.Net.{NetStep};
 ghost use Rattle.mesh_radio.specs.Opening.{AreOpening};
@@ -17,7 +17,7 @@ use std::alloc::{AllocError, Global};
 use std::marker::Model;
 
 /// An emulated network: the routers of a scenario, over these bases, and the frames in the air between them. Moments are in
-/// ticks of 1/8192 s. After want of memory every further event is refused for want of memory too.
+/// ticks of 1/8192 s. After want of memory a network is spent: every further event is refused for want of memory too.
 #[derive(Drop)]
 pub struct Net<B: Bases> {
     alloc: Global,
@@ -28,13 +28,12 @@ pub struct Net<B: Bases> {
 
 impl<B: Bases> Model for Net<B> {
     ghost use Rattle.std.specs.Prelude.{◌≡◌, false};
-    ghost use Rattle.mesh_radio.specs.Net.{Net};
-    ghost use Rattle.mesh_radio.specs.Run.{states_of};
+    ghost use Rattle.mesh_radio.specs.Run.{NetValue, states_of};
     ghost use Rattle.mesh_radio.specs.Scene.{IsSound, net_of};
 
-    ghost Value = { Net };
+    ghost Value = { NetValue };
 
-    ghost view = { λ n. net_of n.cores.items n.scene };
+    ghost view = { λ n. record { net = net_of n.cores.items n.scene; is_spent = n.spent } };
 
     ghost invariant = { λ n. n.spent ≡ false → IsSound (states_of n.cores.items) n.scene };
 }
@@ -42,7 +41,8 @@ impl<B: Bases> Model for Net<B> {
 impl<B: Bases> Net<B> {
     /// The network of a scenario before its first event.
     pub fn new(alloc: Global, scenario: &Scenario) -> Result<Net<B>, AllocError>
-        ensures { IfOk result (IsOpeningNet scenario.now) }
+        ensures opening { IfOk result (λ net. IsOpeningNet scenario.now net.net) }
+        ensures whole { IfOk result (λ net. net.is_spent ≡ false) }
     {
         let cores = cores_of(alloc, scenario)?;
         let ways = ways_of(alloc, scenario.routers.as_slice(), scenario.arcs.as_slice())?;
@@ -73,14 +73,25 @@ impl<B: Bases> Net<B> {
         })
     }
 
-    /// Does the next event, and tells it; `None` where none is left.
+    /// Whether the network has met want of memory.
+    pub fn is_spent(&self) -> bool
+        ensures { result ≡ self.now.is_spent }
+    {
+        self.spent
+    }
+
+    /// Does the next event, and tells it; `None` where none is left. Want of memory leaves the network spent: it then answers want of
+    /// memory to each event.
     pub fn step(&mut self) -> Result<Option<NetEvent>, AllocError>
         // The next event; none exactly where the run is over, and then nothing changes.
-        ensures step { IfOk result (λ e. MatchOption e (IsOver self.old × (self.new ≡ self.old)) (λ event. NetStep self.old event self.new)) }
+        ensures step { IfOk result (λ e. MatchOption e (IsOver self.old.net × (self.new.net ≡ self.old.net))
+            (λ event. NetStep self.old.net event self.new.net)) }
         // Its router, interfaces and lost arcs are the scenario's.
-        ensures named { IfOk result (λ e. IfSome e (IsOfScenario self.old.scenario)) }
+        ensures named { IfOk result (λ e. IfSome e (IsOfScenario self.old.net.scenario)) }
         // What is heard and sent spells packets.
         ensures packets { IfOk result (λ e. IfSome e IsOfPackets) }
+        ensures spent { self.new.is_spent ≡ is_err result }
+        ensures stays { IsTrue self.old.is_spent → IsErr result }
     {
         if self.spent {
             return Err(AllocError);
@@ -91,35 +102,38 @@ impl<B: Bases> Net<B> {
         Ok(event)
     }
 
-    /// Does all events that are left. After 2^64 - 1 events it gives up as for want of memory.
+    /// Does all events that are left. After 2^64 - 1 events it gives up as for want of memory, which leaves the network spent.
     pub fn run_until_end(&mut self) -> Result<(), AllocError>
-        ensures { OnOk result ((events : List NetEvent) × NetRun self.old events self.new × IsOver self.new) }
+        ensures over { OnOk result ((events : List NetEvent) × NetRun self.old.net events self.new.net × IsOver self.new.net) }
+        ensures spent { self.new.is_spent ≡ is_err result }
+        ensures stays { IsTrue self.old.is_spent → IsErr result }
     {
         for _ in 0..u64::MAX {
             let Some(_event) = self.step()? else {
                 return Ok(());
             };
         }
+        self.spent = true;
         Err(AllocError)
     }
 
     /// The routers, in the order of the scenario.
     pub fn cores(&self) -> &[Core<B>]
-        ensures { states_of result.now ≡ self.now.routers }
+        ensures { states_of result.now ≡ self.now.net.routers }
     {
         self.cores.as_slice()
     }
 
     /// The routers, in the order of the scenario. Takes no memory.
     pub fn into_cores(self) -> Vec<Core<B>>
-        ensures { states_of result.items ≡ self.routers }
+        ensures { states_of result.items ≡ self.net.routers }
     {
         self.cores
     }
 
     /// What was counted so far.
     pub fn counts(&self) -> Counts
-        ensures { result ≡ self.now.traffic.counts }
+        ensures { result ≡ self.now.net.traffic.counts }
     {
         self.scene.traffic.counts
     }

@@ -14,5 +14,5 @@ invariant_of-result g c fresh =
     opening_sound routers _ (rw c.in_ok-scenario.ensures c.in_ok-cores.ensures) (subst (λ (t : Scenario). AreWays t.arcs t.routers (length t.routers) ways) (sym c.in_ok-scenario.ensures) of_given)
     (rw c.new-draws.ensures refl) c.new-2.ensures c.first_due-due.ensures refl refl
 
-pub returns : goal.returns
-returns g c = opening_net c.args.scenario.now (states_of c.in_ok-cores.cores.items) _ c.in_ok-scenario.ensures refl c.in_ok-cores.ensures (rw (c.new-2.ensures, c.new-draws.ensures) refl) refl
+pub returns-clause-opening : goal.returns-clause-opening
+returns-clause-opening g c = opening_net c.args.scenario.now (states_of c.in_ok-cores.cores.items) _ c.in_ok-scenario.ensures refl c.in_ok-cores.ensures (rw (c.new-2.ensures, c.new-draws.ensures) refl) refl

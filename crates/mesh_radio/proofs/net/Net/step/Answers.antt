@@ -1,10 +1,15 @@
+use Rattle.std.proofs.Common.{◌≡◌, ap}
+use Rattle.mesh_radio.specs.Run.{NetValue}
 use Rattle.mesh_radio.proofs.net.Net.step.Goals as goal
+
+its_net : {v w : NetValue} → v ≡ w → v.net ≡ w.net
+its_net e = ap (λ (v : NetValue). v.net) e
 
 pub next_event-requires : goal.next_event-requires
 next_event-requires g c = record { sound = c.self.invariant c.if-self.false }
 
 pub returns-clause-step : goal.returns-clause-step
-returns-clause-step g c = rw (← c.self.view_is) c.in_ok-event.ensures.step
+returns-clause-step g c = rw (← its_net c.self.view_is) c.in_ok-event.ensures.step
 
 pub returns-clause-named : goal.returns-clause-named
-returns-clause-named g c = rw (← c.self.view_is) c.in_ok-event.ensures.named
+returns-clause-named g c = rw (← its_net c.self.view_is) c.in_ok-event.ensures.named
