@@ -2,7 +2,7 @@
 use mesh_atoms::{
     Addr4, Hello, HelloRow, LinkStatus, LocalIf, Metric, Metrics, Mpr, NetAddr, Willing,
 };
-use mesh_packet::decode;
+use mesh_packet::{Message, decode};
 use mesh_wire::hello_of;
 use std::alloc::{AllocError, Global};
 
@@ -103,17 +103,25 @@ fn tells(hello: &Hello, told: &Told) -> bool {
         && are_rows(hello.rows.as_slice(), told.rows)
 }
 
+// The type of HELLOs (RFC 6130).
+const HELLO: u8 = 0;
+
+// Whether a message is a HELLO that says that.
+fn reads_as(alloc: Global, message: &Message, told: &Told) -> bool {
+    if message.kind != HELLO {
+        return false;
+    }
+    match hello_of(alloc, message) {
+        Ok(hello) => tells(&hello, told),
+        Err(_) => false,
+    }
+}
+
 /// Whether a frame is one HELLO, which says that.
 pub(crate) fn is_hello(alloc: Global, frame: &[u8], told: &Told) -> bool {
     let Ok(decoded) = decode(alloc, frame) else {
         return false;
     };
     let messages = decoded.packet.messages.as_slice();
-    if messages.len() != 1 {
-        return false;
-    }
-    match hello_of(alloc, &messages[0]) {
-        Ok(hello) => tells(&hello, told),
-        Err(_) => false,
-    }
+    messages.len() == 1 && reads_as(alloc, &messages[0], told)
 }

@@ -32,10 +32,13 @@ fn are_fates(fates: &[Fate], wanted: &[(usize, Read, Forward)]) -> bool {
     let mut rest = fates;
     for run in wanted {
         let (count, read, forward) = *run;
-        if count > rest.len() || !are_all(&rest[..count], read, forward) {
+        let Some((these, left)) = rest.split_at_checked(count) else {
+            return false;
+        };
+        if !are_all(these, read, forward) {
             return false;
         }
-        rest = &rest[count..];
+        rest = left;
     }
     rest.is_empty()
 }
