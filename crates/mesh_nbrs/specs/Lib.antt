@@ -1,5 +1,6 @@
 pub mod Keyed
 pub mod Losts
 pub mod Neighbours
+pub mod Owners
 pub mod Parts
 pub mod TwoHops

@@ -15,6 +15,10 @@ pub record Replaces (originator : Addr4) (listed : List Addr4) (willing : Willin
   pub one : find addr_eq new originator ≡ Some (announced listed willing selector, until)
   pub others : (o : Addr4) → o ≢ originator → IsKept (λ e. Matches originator listed o e.0 → ⊥) (find addr_eq old o) (find addr_eq new o)
 
+-- a neighbour that a HELLO with this originator and these addresses speaks of (RFC 6130, section 12.3)
+abbrev pub IsSpokenOf : Base Addr4 Neighbour → Addr4 → List Addr4 → Addr4 → Type 0
+IsSpokenOf base told listed o = (e : Neighbour × ℕ) × (find addr_eq base o ≡ Some e) × Matches told listed o e.0
+
 -- By the notes of the links (RFC 6130, section 13, and RFC 7181, section 17.6)
 
 -- a note of a link of the neighbour with these addresses: its key is one of them

@@ -1,11 +1,13 @@
 //! The set of neighbours.
-ghost use Rattle.std.specs.Prelude.{◌≡◌, ◌≢◌, ◌+◌, ◌<◌, [], List, length, IfOk, OnOk};
+ghost use Rattle.std.specs.Prelude.{◌≡◌, ◌≢◌, ◌+◌, ◌<◌, ◌↔◌, ℕ, [], List, length, Contains, IfOk, IfSome, IfNone, OnOk, Some};
+ghost use Rattle.std.specs.List.{IsDistinct};
+ghost use Rattle.mesh_atoms.specs.declared.tuples.Neighbour.{Neighbour};
 ghost use Rattle.mesh_atoms.specs.Base.{Base, HasDistinctKeys, find, addr_eq};
 ghost use Rattle.mesh_atoms.specs.Words.{IsAscending};
 ghost use Rattle.mesh_atoms.specs.AfterHello.{Matches, announced};
-ghost use Rattle.mesh_expire.specs.Table.{changed_at};
+ghost use Rattle.mesh_expire.specs.Table.{changed_at, entry_of};
 ghost use Rattle.mesh_nbrs.specs.declared.neighbours.LinkNote.{LinkNote};
-ghost use Rattle.mesh_nbrs.specs.Neighbours.{Replaces, RestoresBy, HasSummary, by_summary};
+ghost use Rattle.mesh_nbrs.specs.Neighbours.{Replaces, RestoresBy, IsSpokenOf, HasSummary, by_summary};
 ghost use Rattle.mesh_nbrs.specs.Parts.{AreParts, HasPart};
 
 use crate::ends::{Ending, end_all};
@@ -64,6 +66,37 @@ impl<T: Table<Addr4, Neighbour>> NeighbourSet<T> {
         ensures distinct { HasDistinctKeys addr_eq self.now }
     {
         &self.table
+    }
+
+    /// The originators of the neighbours that a HELLO with this originator and these addresses speaks of: by the originator
+    /// or by one of the addresses (RFC 6130, section 12.3, and RFC 7181, section 15.3), each once. Looks each address up once.
+    pub fn spoken_of(
+        &self,
+        originator: Addr4,
+        listed: &[Addr4],
+    ) -> Result<Vec<Addr4>, AllocError>
+        ensures { IfOk result (λ found. (o : Addr4) → Contains found.items o ↔ IsSpokenOf self.now originator listed.now o) }
+    {
+        all_spoken_of(self.alloc, &self.table, &self.owners, originator, listed)
+    }
+
+    /// The neighbour that has the address, with its originator and moment. Takes no memory. Looks at no other neighbour.
+    pub fn with_address(&self, addr: Addr4) -> Option<(&Addr4, &Neighbour, u64)>
+        ensures some { IfSome (entry_of result) (λ e. (find addr_eq self.now e.0 ≡ Some e.1) × Contains e.1.0.addrs addr) }
+        ensures only { IfSome (entry_of result) (λ e. (o : Addr4) (f : Neighbour × ℕ) → find addr_eq self.now o ≡ Some f → Contains f.0.addrs addr → o ≡ e.0) }
+        ensures none { IfNone result ((o : Addr4) (f : Neighbour × ℕ) → find addr_eq self.now o ≡ Some f → Contains f.0.addrs addr → ⊥) }
+    {
+        let originator = self.owners.get(&addr)?;
+        let (neighbour, until) = self.table.get(originator)?;
+        Some((originator, neighbour, until))
+    }
+
+    /// How many addresses the neighbours have. Takes no memory.
+    pub fn address_count(&self) -> usize
+        ensures { (held : List Addr4) × IsDistinct addr_eq held × (length held ≡ result)
+            × ((a : Addr4) → Contains held a ↔ ((o : Addr4) × (e : Neighbour × ℕ) × (find addr_eq self.now o ≡ Some e) × Contains e.0.addrs a)) }
+    {
+        self.owners.len()
     }
 
     /// Makes one neighbour of all that match a HELLO, by the originator or by one of the addresses that it tells of
