@@ -1,5 +1,5 @@
 -- Which neighbour has an address.
-use Rattle.std.specs.Prelude.{◌≡◌, ◌↔◌, ◌≢◌, ℕ, List, Contains, Option, Some, None, option_map, cond}
+use Rattle.std.specs.Prelude.{◌≡◌, ◌↔◌, Bool, false, ℕ, List, Contains, Option, Some, None, option_map, cond}
 use Rattle.std.specs.List.{list_any}
 use Rattle.std.specs.Map.{lookup}
 use Rattle.mesh_atoms.specs.declared.addr.Addr4.{Addr4}
@@ -9,6 +9,11 @@ use Rattle.mesh_atoms.specs.Base.{Base, find, addr_eq}
 -- the originator that is noted for an address
 abbrev pub owner_of : List (Addr4 × Addr4) → Addr4 → Option Addr4
 owner_of owners a = lookup (addr_eq a) owners
+
+-- whether the noted originator is that one
+abbrev pub is_owner : Option Addr4 → Addr4 → Bool
+is_owner None o = false
+is_owner (Some p) o = addr_eq p o
 
 -- the addresses of the neighbour with that originator
 abbrev pub addrs_at : Base Addr4 Neighbour → Addr4 → Option (List Addr4)

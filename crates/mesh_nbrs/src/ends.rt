@@ -57,6 +57,7 @@ pub fn end_all<K: Key, V, T: Table<K, V>, E: Ending<K, V>>(table: &mut T, ending
     requires { HasDistinctKeys K.eq (T.content table.old) }
     ensures kept { (q : _) → IsKept (λ e. E.ends ending.now q e.0 → ⊥) (find K.eq (T.content table.old) q) (find K.eq (T.content table.new) q) }
     ensures count { result + length (T.content table.new) ≡ length (T.content table.old) }
+    ensures none { result ≡ 0 → T.content table.new ≡ T.content table.old }
     ensures distinct { HasDistinctKeys K.eq (T.content table.new) }
 {
     let before = table.len();

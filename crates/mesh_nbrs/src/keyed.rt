@@ -8,8 +8,8 @@ use mesh_expire::{Key, Table};
 use std::alloc::AllocError;
 use std::collections::BTreeSet;
 
-// Whether the table has the key.
-fn stands<K: Key, V, T: Table<K, V>>(table: &T, key: &K) -> bool
+/// Whether the table has the key.
+pub(crate) fn stands<K: Key, V, T: Table<K, V>>(table: &T, key: &K) -> bool
     ensures { result ≡ is_some (find K.eq (T.content table.now) key.now) }
 {
     table.get(key).is_some()

@@ -4,17 +4,20 @@ ghost use Rattle.std.specs.List.{IsDistinct};
 ghost use Rattle.mesh_atoms.specs.declared.tuples.Neighbour.{Neighbour};
 ghost use Rattle.mesh_atoms.specs.Base.{Base, HasDistinctKeys, find, addr_eq};
 ghost use Rattle.mesh_atoms.specs.Words.{IsAscending};
-ghost use Rattle.mesh_atoms.specs.AfterHello.{Matches, announced};
+ghost use Rattle.mesh_atoms.specs.AfterHello.{announced};
 ghost use Rattle.mesh_expire.specs.Table.{changed_at, entry_of};
 ghost use Rattle.mesh_nbrs.specs.declared.neighbours.LinkNote.{LinkNote};
 ghost use Rattle.mesh_nbrs.specs.Neighbours.{Replaces, RestoresBy, IsSpokenOf, HasSummary, by_summary};
+ghost use Rattle.mesh_nbrs.specs.Owners.{Owned, KeepsAddrs};
 ghost use Rattle.mesh_nbrs.specs.Parts.{AreParts, HasPart};
 
-use crate::ends::{Ending, end_all};
+use crate::ends::Ending;
+use crate::owners::{all_spoken_of, end_owned, remove_owned};
 use crate::parts::{has_part, parts_of, together};
+use crate::replacing::{put_owned, remove_others};
 use crate::summary::Summary;
 use indexmap::IndexMap;
-use mesh_atoms::{Addr4, LinkKey, Metric, Neighbour, Seq, Willing, meets};
+use mesh_atoms::{Addr4, LinkKey, Metric, Neighbour, Seq, Willing};
 use mesh_expire::Table;
 use std::alloc::{AllocError, Global};
 use std::marker::Model;
@@ -33,6 +36,7 @@ pub struct LinkNote {
 #[derive(Drop)]
 pub struct NeighbourSet<T: Table<Addr4, Neighbour>> {
     table: T,
+    owners: IndexMap<Addr4, Addr4>,
     alloc: Global,
 }
 
@@ -41,12 +45,13 @@ impl<T: Table<Addr4, Neighbour>> Model for NeighbourSet<T> {
     ghost use Rattle.mesh_atoms.specs.declared.addr.Addr4.{Addr4};
     ghost use Rattle.mesh_atoms.specs.declared.tuples.Neighbour.{Neighbour};
     ghost use Rattle.mesh_atoms.specs.Base.{HasDistinctKeys, addr_eq};
+    ghost use Rattle.mesh_nbrs.specs.Owners.{Owned};
 
     ghost Value = { Base Addr4 Neighbour };
 
     ghost view = { λ s. T.content s.table };
 
-    ghost invariant = { λ s. HasDistinctKeys addr_eq (T.content s.table) };
+    ghost invariant = { λ s. HasDistinctKeys addr_eq (T.content s.table) × Owned s.owners.entries (T.content s.table) };
 }
 
 impl<T: Table<Addr4, Neighbour>> NeighbourSet<T> {
@@ -56,6 +61,7 @@ impl<T: Table<Addr4, Neighbour>> NeighbourSet<T> {
     {
         Ok(NeighbourSet {
             table: T::new(alloc)?,
+            owners: IndexMap::new(alloc),
             alloc,
         })
     }
@@ -70,11 +76,7 @@ impl<T: Table<Addr4, Neighbour>> NeighbourSet<T> {
 
     /// The originators of the neighbours that a HELLO with this originator and these addresses speaks of: by the originator
     /// or by one of the addresses (RFC 6130, section 12.3, and RFC 7181, section 15.3), each once. Looks each address up once.
-    pub fn spoken_of(
-        &self,
-        originator: Addr4,
-        listed: &[Addr4],
-    ) -> Result<Vec<Addr4>, AllocError>
+    pub fn spoken_of(&self, originator: Addr4, listed: &[Addr4]) -> Result<Vec<Addr4>, AllocError>
         ensures { IfOk result (λ found. (o : Addr4) → Contains found.items o ↔ IsSpokenOf self.now originator listed.now o) }
     {
         all_spoken_of(self.alloc, &self.table, &self.owners, originator, listed)
@@ -102,7 +104,9 @@ impl<T: Table<Addr4, Neighbour>> NeighbourSet<T> {
     /// Makes one neighbour of all that match a HELLO, by the originator or by one of the addresses that it tells of
     /// (RFC 6130, section 12.3, and RFC 7181, section 15.3), and gives how many were taken out. The new one has that
     /// originator, those addresses, willingness and routing selector flag; it is not symmetric and has no metrics. The
-    /// addresses are in ascending order, at least one. Each address of each neighbour is looked for among them.
+    /// addresses are in ascending order, at least one. Looks each of them up once, and looks at no neighbour that doesn't match;
+    /// where only the one with that originator does, and it has just these addresses, it keeps its place. Takes memory for the
+    /// new neighbour and for the originators of those that match.
     pub fn replace(
         &mut self,
         originator: Addr4,
@@ -118,28 +122,35 @@ impl<T: Table<Addr4, Neighbour>> NeighbourSet<T> {
         ensures distinct { HasDistinctKeys addr_eq self.new }
     {
         let before = self.table.len();
-        let others = Others {
-            originator,
-            listed: addrs,
-        };
-        end_all(&mut self.table, &others);
         let neighbour = neighbour_with(self.alloc, addrs, willing, selector)?;
-        // One with that originator keeps its place.
-        self.table.put(originator, neighbour, until)?;
+        let found = all_spoken_of(self.alloc, &self.table, &self.owners, originator, addrs)?;
+        remove_others(&mut self.table, &mut self.owners, &found, originator);
+        put_owned(
+            &mut self.table,
+            &mut self.owners,
+            originator,
+            addrs,
+            neighbour,
+            until,
+        )?;
         Ok(before - (self.table.len() - 1))
     }
 
     /// Brings the neighbours in line with their links (RFC 6130, section 13, and RFC 7181, section 17.6), which the notes tell
     /// of: a link is a neighbour's where the neighbour has the address of its key. A neighbour without a link goes. Any other
     /// gets the latest moment of its links, is symmetric where one of them is SYMMETRIC, and gets the least metrics of those;
-    /// one that isn't symmetric loses its routing selector flag. All notes are looked at for each neighbour, each address by
-    /// address.
+    /// one that isn't symmetric loses its routing selector flag. Looks each address of each neighbour up once, and
+    /// where a neighbour goes, each address of all neighbours.
     pub fn expire(&mut self, notes: &[LinkNote]) -> Result<(), AllocError>
         ensures ok { OnOk result ((o : Addr4) → RestoresBy notes.now (find addr_eq self.old o) (find addr_eq self.new o)) }
         ensures distinct { HasDistinctKeys addr_eq self.new }
     {
         let parts = parts_of(self.alloc, notes)?;
-        end_all(&mut self.table, &Unnoted { parts: &parts });
+        end_owned(
+            &mut self.table,
+            &mut self.owners,
+            &Unnoted { parts: &parts },
+        );
         renew_all(&mut self.table, &parts)
     }
 
@@ -151,7 +162,7 @@ impl<T: Table<Addr4, Neighbour>> NeighbourSet<T> {
         ensures distinct { HasDistinctKeys addr_eq self.new }
     {
         let parts = parts_of(self.alloc, notes)?;
-        follow_parts(&mut self.table, originator, &parts)
+        follow_parts(&mut self.table, &mut self.owners, originator, &parts)
     }
 }
 
@@ -177,6 +188,7 @@ fn renew_all<T: Table<Addr4, Neighbour>>(
     requires { HasDistinctKeys addr_eq (T.content table.old) }
     ensures ok { OnOk result ((notes : List LinkNote) → AreParts notes parts.now.entries
         → (o : Addr4) → HasSummary notes (find addr_eq (T.content table.old) o) (find addr_eq (T.content table.new) o)) }
+    ensures addrs { KeepsAddrs (T.content table.old) (T.content table.new) }
     ensures distinct { HasDistinctKeys addr_eq (T.content table.new) }
 {
     for place in 0..table.len() {
@@ -195,10 +207,13 @@ fn renew_all<T: Table<Addr4, Neighbour>>(
 // Sets what the notes tell of the neighbour with that originator, or takes it out where no note is of it.
 fn follow_parts<T: Table<Addr4, Neighbour>>(
     table: &mut T,
+    owners: &mut IndexMap<Addr4, Addr4>,
     originator: Addr4,
     parts: &IndexMap<Addr4, Summary>,
 ) -> Result<(), AllocError>
-    requires { HasDistinctKeys addr_eq (T.content table.old) }
+    requires owned { Owned owners.old.entries (T.content table.old) }
+    requires distinct { HasDistinctKeys addr_eq (T.content table.old) }
+    ensures owned { Owned owners.new.entries (T.content table.new) }
     ensures one { OnOk result ((notes : List LinkNote) → AreParts notes parts.now.entries
         → RestoresBy notes (find addr_eq (T.content table.old) originator) (find addr_eq (T.content table.new) originator)) }
     ensures others { OnOk result ((o : Addr4) → o ≢ originator → find addr_eq (T.content table.new) o ≡ find addr_eq (T.content table.old) o) }
@@ -209,7 +224,7 @@ fn follow_parts<T: Table<Addr4, Neighbour>>(
     };
     let addrs = neighbour.addrs.as_slice();
     if !has_part(parts, addrs) {
-        table.remove(&originator);
+        remove_owned(table, owners, originator);
         return Ok(());
     }
     let summary = together(parts, addrs);
@@ -224,6 +239,7 @@ fn renew<T: Table<Addr4, Neighbour>>(
 ) -> Result<(), AllocError>
     ensures ok { OnOk result (T.content table.new
         ≡ changed_at addr_eq (T.content table.old) originator.now (λ e. (by_summary summary.now e.0, summary.now.until))) }
+    ensures addrs { KeepsAddrs (T.content table.old) (T.content table.new) }
     ensures distinct { HasDistinctKeys addr_eq (T.content table.new) }
 {
     write(table, originator, summary);
@@ -240,23 +256,6 @@ fn write<T: Table<Addr4, Neighbour>>(table: &mut T, originator: &Addr4, summary:
         neighbour.metric_in = summary.metric_in;
         neighbour.metric_out = summary.metric_out;
         neighbour.selector &= summary.symmetric;
-    }
-}
-
-// The neighbours of other originators that a HELLO with this originator and these addresses speaks of.
-#[derive(Clone, Copy)]
-struct Others<'a> {
-    originator: Addr4,
-    listed: &'a [Addr4],
-}
-
-impl<'a> Ending<Addr4, Neighbour> for Others<'a> {
-    ghost use Rattle.std.specs.Prelude.{◌≢◌};
-
-    ghost ends = { λ m originator neighbour. (originator ≢ m.originator) × Matches m.originator m.listed.now originator neighbour };
-
-    fn ends(&self, originator: &Addr4, neighbour: &Neighbour) -> bool {
-        *originator != self.originator && meets(neighbour.addrs.as_slice(), self.listed)
     }
 }
 

@@ -1,0 +1,130 @@
+//! The map from each address to the originator of the neighbour that has it.
+ghost use Rattle.std.specs.Prelude.{◌≡◌, ◌≢◌, ◌↔◌, IfOk, IsSome, OnOk, Contains, None, Some, length, ◌+◌, if◌then◌else◌};
+ghost use Rattle.std.specs.List.{list_any};
+ghost use Rattle.indexmap.specs.IndexSet.{contains};
+ghost use Rattle.mesh_atoms.specs.declared.addr.Addr4.{Addr4};
+ghost use Rattle.mesh_atoms.specs.Base.{HasDistinctKeys, SetsOnly, find, addr_eq};
+ghost use Rattle.mesh_atoms.specs.Words.{IsKept};
+ghost use Rattle.mesh_nbrs.specs.Neighbours.{IsSpokenOf};
+ghost use Rattle.mesh_nbrs.specs.Owners.{Owned, Leaves, SetsOwner, owner_of, is_owner};
+
+use crate::ends::{Ending, end_all};
+use crate::keyed::stands;
+use indexmap::{IndexMap, IndexSet};
+use mesh_atoms::{Addr4, Neighbour};
+use mesh_expire::Table;
+use std::alloc::{AllocError, Global};
+
+/// Takes the addresses out of the map. Takes no memory.
+pub fn disown(owners: &mut IndexMap<Addr4, Addr4>, addrs: &[Addr4])
+    ensures { SetsOwner addrs.now None owners.old.entries owners.new.entries }
+{
+    for addr in addrs {
+        owners.swap_remove(addr);
+    }
+}
+
+/// Notes the originator for each of the addresses.
+pub fn own_all(
+    owners: &mut IndexMap<Addr4, Addr4>,
+    addrs: &[Addr4],
+    originator: Addr4,
+) -> Result<(), AllocError>
+    ensures ok { OnOk result (SetsOwner addrs.now (Some originator) owners.old.entries owners.new.entries) }
+    ensures others { (a : Addr4) → (Contains addrs.now a → ⊥) → owner_of owners.new.entries a ≡ owner_of owners.old.entries a }
+{
+    for addr in addrs {
+        owners.insert(*addr, originator)?;
+    }
+    Ok(())
+}
+
+// Takes the addresses of the neighbour with that originator out of the map.
+fn disown_at<T: Table<Addr4, Neighbour>>(
+    owners: &mut IndexMap<Addr4, Addr4>,
+    table: &T,
+    originator: Addr4,
+)
+    requires { Owned owners.old.entries (T.content table.now) }
+    ensures { Leaves (λ o. o ≢ originator) owners.old.entries owners.new.entries }
+{
+    if let Some((neighbour, _)) = table.get(&originator) {
+        disown(owners, neighbour.addrs.as_slice());
+    }
+}
+
+/// Takes out the neighbour with that originator, where there is one, with its addresses. Takes no memory.
+pub fn remove_owned<T: Table<Addr4, Neighbour>>(
+    table: &mut T,
+    owners: &mut IndexMap<Addr4, Addr4>,
+    originator: Addr4,
+) -> bool
+    requires { Owned owners.old.entries (T.content table.old) }
+    ensures owned { Owned owners.new.entries (T.content table.new) }
+    ensures removed { SetsOnly addr_eq (T.content table.old) (T.content table.new) originator None }
+    ensures count { length (T.content table.new) + (if result then 1 else 0) ≡ length (T.content table.old) }
+    ensures distinct { HasDistinctKeys addr_eq (T.content table.new) }
+{
+    disown_at(owners, table, originator);
+    table.remove(&originator)
+}
+
+// Takes out each address whose neighbour is gone. Goes over the whole map. Takes no memory.
+fn purge<T: Table<Addr4, Neighbour>>(owners: &mut IndexMap<Addr4, Addr4>, table: &T)
+    ensures { Leaves (λ o. IsSome (find addr_eq (T.content table.now) o)) owners.old.entries owners.new.entries }
+{
+    let _count = owners.len();
+    owners.retain(|_, originator| stands(table, originator));
+}
+
+/// Takes out each neighbour that ends, with its addresses. Where one does, goes over the whole map. Takes no memory.
+pub fn end_owned<T: Table<Addr4, Neighbour>, E: Ending<Addr4, Neighbour>>(
+    table: &mut T,
+    owners: &mut IndexMap<Addr4, Addr4>,
+    ending: &E,
+)
+    requires owned { Owned owners.old.entries (T.content table.old) }
+    requires distinct { HasDistinctKeys addr_eq (T.content table.old) }
+    ensures owned { Owned owners.new.entries (T.content table.new) }
+    ensures kept { (q : _) → IsKept (λ e. E.ends ending.now q e.0 → ⊥) (find addr_eq (T.content table.old) q) (find addr_eq (T.content table.new) q) }
+    ensures distinct { HasDistinctKeys addr_eq (T.content table.new) }
+{
+    if end_all(table, ending) > 0 {
+        purge(owners, table);
+    }
+}
+
+// The originators that are noted for the addresses.
+fn owners_of(
+    alloc: Global,
+    owners: &IndexMap<Addr4, Addr4>,
+    addrs: &[Addr4],
+) -> Result<IndexSet<Addr4>, AllocError>
+    ensures { IfOk result (λ set. (o : _) → contains addr_eq set o ≡ list_any (λ x. is_owner (owner_of owners.now.entries x) o) addrs.now) }
+{
+    let mut found = IndexSet::new(alloc);
+    for addr in addrs {
+        if let Some(originator) = owners.get(addr) {
+            found.insert(*originator)?;
+        }
+    }
+    Ok(found)
+}
+
+/// The originators of the neighbours that a HELLO with this originator and these addresses speaks of, each once.
+pub fn all_spoken_of<T: Table<Addr4, Neighbour>>(
+    alloc: Global,
+    table: &T,
+    owners: &IndexMap<Addr4, Addr4>,
+    originator: Addr4,
+    listed: &[Addr4],
+) -> Result<Vec<Addr4>, AllocError>
+    requires { Owned owners.now.entries (T.content table.now) }
+    ensures { IfOk result (λ found. (o : Addr4) → Contains found.items o ↔ IsSpokenOf (T.content table.now) originator listed.now o) }
+{
+    let mut found = owners_of(alloc, owners, listed)?;
+    if stands(table, &originator) {
+        found.insert(originator)?;
+    }
+    Ok(Vec::from_slice(alloc, found.as_slice())?)
+}
