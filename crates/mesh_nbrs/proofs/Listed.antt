@@ -1,5 +1,5 @@
 -- Whether a key is listed, by a test and by membership.
-use Rattle.std.proofs.Common.{◌≡◌, Bool, true, false, List, [], ◌∷◌, Contains, refl, sym, ◌∙◌, subst, arith}
+use Rattle.std.proofs.Common.{◌≡◌, ℕ, zero, suc, take, Bool, true, false, List, [], ◌∷◌, Contains, refl, sym, ◌∙◌, subst, arith}
 use Rattle.std.specs.Prelude.{◌&&◌, ◌||◌}
 use Rattle.std.specs.List.{list_any}
 use Rattle.std.specs.Cmp.{IsEquivalence}
@@ -44,3 +44,12 @@ found_of {A} test (x ∷ xs) h = by_head (test x) refl (found_of test xs) where
   by_head : (b : Bool) → test x ≡ b → (list_any test xs ≡ true → (y : A) × Contains xs y × (test y ≡ true)) → (y : A) × Contains (x ∷ xs) y × (test y ≡ true)
   by_head true is behind = (x, (0, omega arith, refl), is)
   by_head false is behind = let y = behind (rw is at h) in (y.0, Contains-append_right (x ∷ []) xs y.0 y.1, y.2)
+
+-- what passes at the front of a list passes
+pub any_take : {A : Type 0} (test : A → Bool) (i : ℕ) (xs : List A) → list_any test (take i xs) ≡ true → list_any test xs ≡ true
+any_take test zero xs h = absurd cc
+any_take test (suc i) [] h = absurd cc
+any_take {A} test (suc i) (x ∷ xs) h = by_head (test x) refl (any_take test i xs) where
+  by_head : (b : Bool) → test x ≡ b → (list_any test (take i xs) ≡ true → list_any test xs ≡ true) → list_any test (x ∷ xs) ≡ true
+  by_head true is behind = rw is refl
+  by_head false is behind = rw is (behind (rw is at h))

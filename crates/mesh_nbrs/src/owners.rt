@@ -1,5 +1,5 @@
 //! The map from each address to the originator of the neighbour that has it.
-ghost use Rattle.std.specs.Prelude.{◌≡◌, ◌≢◌, ◌↔◌, IfOk, IsSome, OnOk, Contains, None, Some, length, ◌+◌, if◌then◌else◌};
+ghost use Rattle.std.specs.Prelude.{◌≡◌, ◌≢◌, ◌↔◌, IfOk, IsSome, OnOk, Contains, None, Some, length, ◌+◌, ◌&&◌, cond, true, is_some, if◌then◌else◌};
 ghost use Rattle.std.specs.List.{list_any};
 ghost use Rattle.indexmap.specs.IndexSet.{contains};
 ghost use Rattle.mesh_atoms.specs.declared.addr.Addr4.{Addr4};
@@ -111,6 +111,21 @@ fn owners_of(
     Ok(found)
 }
 
+// Adds the originator, where a neighbour has it.
+fn add_standing<T: Table<Addr4, Neighbour>>(
+    found: &mut IndexSet<Addr4>,
+    table: &T,
+    originator: Addr4,
+) -> Result<(), AllocError>
+    ensures { OnOk result ((o : _) → contains addr_eq found.new o
+        ≡ cond (is_some (find addr_eq (T.content table.now) originator) && addr_eq originator o) true (contains addr_eq found.old o)) }
+{
+    if stands(table, &originator) {
+        found.insert(originator)?;
+    }
+    Ok(())
+}
+
 /// The originators of the neighbours that a HELLO with this originator and these addresses speaks of, each once.
 pub fn all_spoken_of<T: Table<Addr4, Neighbour>>(
     alloc: Global,
@@ -123,8 +138,6 @@ pub fn all_spoken_of<T: Table<Addr4, Neighbour>>(
     ensures { IfOk result (λ found. (o : Addr4) → Contains found.items o ↔ IsSpokenOf (T.content table.now) originator listed.now o) }
 {
     let mut found = owners_of(alloc, owners, listed)?;
-    if stands(table, &originator) {
-        found.insert(originator)?;
-    }
+    add_standing(&mut found, table, originator)?;
     Ok(Vec::from_slice(alloc, found.as_slice())?)
 }

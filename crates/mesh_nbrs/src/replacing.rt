@@ -29,9 +29,10 @@ pub fn remove_others<T: Table<Addr4, Neighbour>>(
     ensures distinct { HasDistinctKeys addr_eq (T.content table.new) }
 {
     for other in found {
-        if *other != originator {
-            remove_owned(table, owners, *other);
+        if *other == originator {
+            continue;
         }
+        remove_owned(table, owners, *other);
     }
 }
 

@@ -8,9 +8,13 @@ loop-next-preserved g c =
     let found : c.remove.result ≡ true = c.remove.ensures.found.1 (ap is_some next.1) in
     record {
       kept = ended_more g.K.PartialEq.eq g.met.K.Key.exact (g.E.Ending.ends c.args.ending.now) (g.T.Table.content c.args.table.now) (g.T.Table.content c.loop-next.table) (g.T.Table.content c.remove.new.self) c.in-Some.next.1 next.0 c.loop-next.invariant.kept next.1 next.2 c.remove.ensures.removed;
+      none = λ many. absurd (omega (arith, many, c.loop-next.invariant.within, rw found at c.remove.ensures.count));
       within = omega (arith, c.loop-next.invariant.within, rw found at c.remove.ensures.count);
       distinct = c.remove.ensures.distinct;
     }
 
 pub returns-clause-kept : goal.returns-clause-kept
 returns-clause-kept g c = all_ended g.K.PartialEq.eq (g.E.Ending.ends c.args.ending.now) (g.T.Table.content c.args.table.now) (g.T.Table.content c.loop-next.table) c.loop-next.invariant.kept c.in_default.ensures.none
+
+pub returns-clause-none : goal.returns-clause-none
+returns-clause-none g c none = c.loop-next.invariant.none (omega (arith, none, c.loop-next.invariant.within, c.len-before.ensures.value, c.len.ensures.value))

@@ -1,4 +1,4 @@
-use Rattle.std.proofs.Common.{◌≤◌, length}
+use Rattle.std.proofs.Common.{◌≡◌, ◌≤◌, length}
 use Rattle.mesh_atoms.specs.Base.{HasDistinctKeys}
 use Rattle.mesh_nbrs.proofs.Ended.{HasEnded}
 use Rattle.mesh_nbrs.proofs.ends.end_all.Given as goal
@@ -9,6 +9,7 @@ invariant-loop-next g l =
     let now = g.T.Table.content l.table in
     record {
       kept : (q : _) → HasEnded g.K.PartialEq.eq (g.E.Ending.ends l.ending) before now q;
+      none : length before ≤ length now → now ≡ before;
       within : length now ≤ length before;
       distinct : HasDistinctKeys g.K.PartialEq.eq now;
     }

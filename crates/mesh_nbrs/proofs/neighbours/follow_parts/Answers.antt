@@ -11,6 +11,7 @@ use Rattle.mesh_nbrs.specs.declared.summary.Summary.{Summary}
 use Rattle.mesh_nbrs.specs.Neighbours.{by_summary, HasNote, IsSummary, RestoresBy}
 use Rattle.mesh_nbrs.specs.Parts.{AreParts, HasPart}
 use Rattle.mesh_nbrs.proofs.ByAddress.{kept_noted}
+use Rattle.mesh_nbrs.proofs.Owning.{owned_kept}
 use Rattle.mesh_nbrs.proofs.Sets.{set_there, set_elsewhere}
 use Rattle.mesh_nbrs.proofs.Summaries.{restored}
 use Rattle.mesh_nbrs.proofs.neighbours.follow_parts.Goals as goal
@@ -28,13 +29,13 @@ set s old new o e there is = rw is (sets-changed_at addr_equiv o (λ e. (by_summ
 pub returns-then-not-has_part-clause-one : goal.returns-then-not-has_part-clause-one
 returns-then-not-has_part-clause-one g c notes are =
     let old = g.T.Table.content c.args.table.now in
-    let new = g.T.Table.content c.remove.new.self in
+    let new = g.T.Table.content c.remove_owned.new.table in
     goes c.args.parts.now.entries (c.in-Some.neighbour.now, c.in-Some.field-0-1) notes are (find addr_eq old c.args.originator) (find addr_eq new c.args.originator) c.in-Some.ensures
     (λ has. (let both = c.has_part.ensures.1 (rw c.as_slice-addrs.ensures has) in absurd cc))
-    (set_there old new c.args.originator None c.remove.ensures.removed addr_equiv)
+    (set_there old new c.args.originator None c.remove_owned.ensures.removed addr_equiv)
 
 pub returns-then-not-has_part-clause-others : goal.returns-then-not-has_part-clause-others
-returns-then-not-has_part-clause-others g c = set_elsewhere (g.T.Table.content c.args.table.now) (g.T.Table.content c.remove.new.self) c.args.originator None c.remove.ensures.removed same_addr
+returns-then-not-has_part-clause-others g c = set_elsewhere (g.T.Table.content c.args.table.now) (g.T.Table.content c.remove_owned.new.table) c.args.originator None c.remove_owned.ensures.removed same_addr
 
 pub returns-clause-one : goal.returns-clause-one
 returns-clause-one g c =
@@ -51,3 +52,6 @@ returns-clause-others g c =
     let new = g.T.Table.content c.renew.new.table in
     let e : Neighbour × ℕ = (c.in-Some.neighbour.now, c.in-Some.field-0-1) in
     on_ok_weaker c.renew.result (λ is. set_elsewhere old new c.args.originator _ (set c.together-summary.result old new c.args.originator e c.in-Some.ensures is) same_addr) c.renew.ensures.ok
+
+pub returns-clause-owned : goal.returns-clause-owned
+returns-clause-owned g c = owned_kept c.args.owners.now.entries (g.T.Table.content c.args.table.now) (g.T.Table.content c.renew.new.table) c.requires.owned c.renew.ensures.addrs

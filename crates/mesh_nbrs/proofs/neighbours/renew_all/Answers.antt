@@ -8,6 +8,7 @@ use Rattle.mesh_nbrs.specs.declared.neighbours.LinkNote.{LinkNote}
 use Rattle.mesh_nbrs.specs.declared.summary.Summary.{Summary}
 use Rattle.mesh_nbrs.specs.Neighbours.{by_summary, HasSummary}
 use Rattle.mesh_nbrs.specs.Parts.{AreParts}
+use Rattle.mesh_nbrs.proofs.Owning.{keeps_twice}
 use Rattle.mesh_nbrs.proofs.Walks.{IsWalked, walk_begins, walk_on, walk_ends}
 use Rattle.mesh_nbrs.proofs.neighbours.renew_all.Goals as goal
 
@@ -25,19 +26,28 @@ module _ (parts : List (Addr4 × Summary)) where
     by_case (Some e) is = let was = walk_ends May before now place same_addr all h o e is in rw (was.1) (was.2 notes are)
 
 pub loop-place-init : goal.loop-place-init
-loop-place-init g c = walk_begins _ _ addr_equiv c.requires
+loop-place-init g c = record { walked = walk_begins _ _ addr_equiv c.requires; addrs = λ o. refl }
 
 pub loop-place-preserved : goal.loop-place-preserved
 loop-place-preserved g c =
-    walk_on (May c.args.parts.now.entries) (g.T.Table.content c.args.table.now) (g.T.Table.content c.loop-place.table) c.loop-place.place addr_equiv (g.T.Table.content c.renew.new.table) c.in-Some.originator.now
-    (c.in-Some.neighbour.now, c.in-Some.field-0-2) (λ e. (by_summary c.together.result e.0, c.together.result.until)) (sym c.in-Some.ensures)
-    (λ notes are. (c.together.result, rw c.as_slice.ensures at (c.together.ensures notes are), refl)) c.in_ok-renew.ensures.ok c.loop-place.invariant
+    let before = g.T.Table.content c.args.table.now in
+    let now = g.T.Table.content c.loop-place.table in
+    let next = g.T.Table.content c.renew.new.table in
+    record {
+      walked = walk_on (May c.args.parts.now.entries) before now c.loop-place.place addr_equiv next c.in-Some.originator.now
+          (c.in-Some.neighbour.now, c.in-Some.field-0-2) (λ e. (by_summary c.together.result e.0, c.together.result.until)) (sym c.in-Some.ensures)
+          (λ notes are. (c.together.result, rw c.as_slice.ensures at (c.together.ensures notes are), refl)) c.in_ok-renew.ensures.ok c.loop-place.invariant.walked;
+      addrs = keeps_twice before now next c.loop-place.invariant.addrs c.renew.ensures.addrs;
+    }
 
 pub returns-in-None-clause-ok : goal.returns-in-None-clause-ok
 returns-in-None-clause-ok g c = elim ((slice_get_cases (g.T.Table.content c.loop-place.table) c.loop-place.place).1) [
   | inl there ↦ absurd (let clash : None ≡ Some (there.0) = c.in-None.ensures ∙ there.2 in cc)
-  | inr past ↦ all_walked _ _ _ c.loop-place.place past.0 c.loop-place.invariant
+  | inr past ↦ all_walked _ _ _ c.loop-place.place past.0 c.loop-place.invariant.walked
 ]
 
 pub returns-clause-ok : goal.returns-clause-ok
-returns-clause-ok g c = all_walked _ _ _ c.loop-place.place (omega (arith, c.loop-place.invariant.len, c.len-place-end.ensures.value)) c.loop-place.invariant
+returns-clause-ok g c = all_walked _ _ _ c.loop-place.place (omega (arith, c.loop-place.invariant.walked.len, c.len-place-end.ensures.value)) c.loop-place.invariant.walked
+
+pub returns-in_err-renew-clause-addrs : goal.returns-in_err-renew-clause-addrs
+returns-in_err-renew-clause-addrs g c = keeps_twice (g.T.Table.content c.args.table.now) (g.T.Table.content c.loop-place.table) (g.T.Table.content c.renew.new.table) c.loop-place.invariant.addrs c.renew.ensures.addrs

@@ -1,6 +1,7 @@
 use Rattle.mesh_atoms.specs.Base.{addr_eq}
 use Rattle.mesh_expire.proofs.Laws.{distinct_none}
+use Rattle.mesh_nbrs.proofs.Owning.{owned_none}
 use Rattle.mesh_nbrs.proofs.neighbours.NeighbourSet.new.Goals as goal
 
 pub invariant_of-result : goal.invariant_of-result
-invariant_of-result g c = rw c.in_ok-new.ensures (distinct_none addr_eq)
+invariant_of-result g c = rw (c.in_ok-new.ensures, c.new-2.ensures.empty) (distinct_none addr_eq, owned_none)

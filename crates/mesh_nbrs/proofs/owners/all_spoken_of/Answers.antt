@@ -1,0 +1,14 @@
+use Rattle.std.proofs.Common.{Bool, true, cond, List, Contains, ap, sym, ◌∙◌, subst, is_some}
+use Rattle.std.specs.Prelude.{◌↔◌, ◌&&◌}
+use Rattle.mesh_atoms.specs.declared.addr.Addr4.{Addr4}
+use Rattle.mesh_atoms.specs.Base.{find, addr_eq}
+use Rattle.mesh_nbrs.specs.Neighbours.{IsSpokenOf}
+use Rattle.mesh_nbrs.proofs.Spoken.{spoken}
+use Rattle.mesh_nbrs.proofs.owners.all_spoken_of.Goals as goal
+
+pub returns : goal.returns
+returns g c o =
+    let base = g.T.Table.content c.args.table.now in
+    subst (λ (l : List Addr4). Contains l o ↔ IsSpokenOf base c.args.originator c.args.listed.now o) (sym (c.in_ok-from_slice.ensures.items ∙ c.as_slice.ensures.keys))
+    (spoken c.args.owners.now.entries base c.args.originator c.args.listed.now c.add_standing.new.found.keys c.requires
+    (λ q. c.in_ok-add_standing.ensures q ∙ ap (λ (b : Bool). cond (is_some (find addr_eq base c.args.originator) && addr_eq c.args.originator q) true b) (c.in_ok-found.ensures q)) o)

@@ -1,0 +1,6 @@
+use Rattle.std.proofs.Common.{take, None}
+use Rattle.mesh_nbrs.specs.Owners.{SetsOwner}
+use Rattle.mesh_nbrs.proofs.owners.disown.Given as goal
+
+abbrev pub invariant-loop-addr : goal.invariant-loop-addr
+invariant-loop-addr l = SetsOwner (take l.addr-index l.addrs) None l.initial.owners.entries l.owners.entries

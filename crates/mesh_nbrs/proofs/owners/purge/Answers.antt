@@ -1,0 +1,18 @@
+use Rattle.std.proofs.Common.{◌≡◌, Bool, is_some, rules, refl, ap, ◌∙◌}
+use Rattle.std.specs.List.{filter}
+use Rattle.std.proofs.lemmas.Map.Entries.{lookup-filter-values}
+use Rattle.indexmap.proofs.CallerLemmas.{filter-RetainsPairs}
+use Rattle.mesh_atoms.specs.declared.addr.Addr4.{Addr4}
+use Rattle.mesh_atoms.specs.Base.{find, addr_eq}
+use Rattle.mesh_atoms.proofs.Lookups.{addr_equiv}
+use Rattle.mesh_nbrs.specs.Owners.{owner_of}
+use Rattle.mesh_nbrs.proofs.Owning.{leaves_tested}
+use Rattle.mesh_nbrs.proofs.owners.purge.Goals as goal
+
+pub returns : goal.returns
+returns g c a o =
+    let test : Addr4 → Bool = λ p. is_some (find addr_eq (g.T.Table.content c.args.table.now) p) in
+    let kept : c.retain.new.self.entries ≡ filter (λ p. test p.1) c.args.owners.now.entries =
+    filter-RetainsPairs _ _ _ (λ k v b w f call. search rules) _ _ c.retain.ensures.filtered in
+    leaves_tested test (owner_of c.args.owners.now.entries a) (owner_of c.retain.new.self.entries a) o
+    (ap (λ l. owner_of l a) kept ∙ lookup-filter-values addr_equiv test a c.args.owners.now.entries c.len-count.ensures.unique)
