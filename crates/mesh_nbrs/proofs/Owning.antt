@@ -1,5 +1,5 @@
 -- The map from addresses to originators after each change.
-use Rattle.std.proofs.Common.{◌≡◌, ◌≢◌, ◌⊎◌, ℕ, inl, inr, refl, sym, ap, subst, ◌∙◌, Bool, true, false, cond, List, [], take, Contains, Option, Some, None, is_some}
+use Rattle.std.proofs.Common.{◌≡◌, ◌≢◌, ℕ, inl, inr, refl, sym, ap, subst, ◌∙◌, Bool, true, false, cond, List, [], take, Contains, Option, Some, None, is_some}
 use Rattle.std.specs.Prelude.{◌↔◌, option_map, IsSome, IfNone, OnOk, OnErr, Result, Ok, Err, is_err}
 use Rattle.std.specs.List.{list_any}
 use Rattle.std.specs.Map.{keys_of}
@@ -67,7 +67,7 @@ module _ (owners : Owners) (base : Nbrs) (owned : Owned owners base) where
   ) where
     by_owner : (p : Option Addr4) → owner_of owners a ≡ p → IsSome p → (o : Addr4) × (e : Neighbour × ℕ) × (find addr_eq base o ≡ Some e) × Contains e.0.addrs a
     by_owner None is some = absurd cc
-    by_owner (Some o) is some = (o, from_at base o a ((owned a o).0 is))
+    by_owner (Some o) is some = let (e, found, has) = from_at base o a ((owned a o).0 is) in (o, e, found, has)
 
 -- ---- what keeps the tie
 

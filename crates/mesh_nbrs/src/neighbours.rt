@@ -104,9 +104,9 @@ impl<T: Table<Addr4, Neighbour>> NeighbourSet<T> {
     /// Makes one neighbour of all that match a HELLO, by the originator or by one of the addresses that it tells of
     /// (RFC 6130, section 12.3, and RFC 7181, section 15.3), and gives how many were taken out. The new one has that
     /// originator, those addresses, willingness and routing selector flag; it is not symmetric and has no metrics. The
-    /// addresses are in ascending order, at least one. Looks each of them up once, and looks at no neighbour that doesn't match;
-    /// where only the one with that originator does, and it has just these addresses, it keeps its place. Takes memory for the
-    /// new neighbour and for the originators of those that match.
+    /// addresses are in ascending order, at least one. Looks each of them up, and looks at no neighbour that doesn't match; one
+    /// that has that originator and just these addresses keeps its place. Takes memory for the new neighbour, for its
+    /// addresses and for the originators of those that match.
     pub fn replace(
         &mut self,
         originator: Addr4,
@@ -139,8 +139,8 @@ impl<T: Table<Addr4, Neighbour>> NeighbourSet<T> {
     /// Brings the neighbours in line with their links (RFC 6130, section 13, and RFC 7181, section 17.6), which the notes tell
     /// of: a link is a neighbour's where the neighbour has the address of its key. A neighbour without a link goes. Any other
     /// gets the latest moment of its links, is symmetric where one of them is SYMMETRIC, and gets the least metrics of those;
-    /// one that isn't symmetric loses its routing selector flag. Looks each address of each neighbour up once, and
-    /// where a neighbour goes, each address of all neighbours.
+    /// one that isn't symmetric loses its routing selector flag. Looks at each address of each neighbour; where a
+    /// neighbour goes, looks the owner of each of these addresses up as well.
     pub fn expire(&mut self, notes: &[LinkNote]) -> Result<(), AllocError>
         ensures ok { OnOk result ((o : Addr4) → RestoresBy notes.now (find addr_eq self.old o) (find addr_eq self.new o)) }
         ensures distinct { HasDistinctKeys addr_eq self.new }

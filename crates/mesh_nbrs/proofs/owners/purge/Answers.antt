@@ -1,4 +1,4 @@
-use Rattle.std.proofs.Common.{◌≡◌, Bool, is_some, rules, refl, ap, ◌∙◌}
+use Rattle.std.proofs.Common.{◌≡◌, Bool, is_some, rules, ap, ◌∙◌}
 use Rattle.std.specs.List.{filter}
 use Rattle.std.proofs.lemmas.Map.Entries.{lookup-filter-values}
 use Rattle.indexmap.proofs.CallerLemmas.{filter-RetainsPairs}

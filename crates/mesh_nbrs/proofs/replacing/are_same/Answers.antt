@@ -1,4 +1,3 @@
-use Rattle.std.proofs.Common.{◌≡◌, true, ap, sym, ◌∙◌}
 use Rattle.std.proofs.lemmas.Slice.Eq.{slice_eq-Decides}
 use Rattle.mesh_atoms.proofs.Deciding.{Decides-addr}
 use Rattle.mesh_nbrs.proofs.replacing.are_same.Goals as goal

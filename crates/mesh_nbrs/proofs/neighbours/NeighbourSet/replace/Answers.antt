@@ -1,10 +1,5 @@
-use Rattle.std.proofs.Common.{◌≡◌, ℕ, List, Some, ap, sym, ◌∙◌}
-use Rattle.std.specs.Prelude.{◌↔◌, Contains}
-use Rattle.mesh_atoms.specs.declared.addr.Addr4.{Addr4}
-use Rattle.mesh_atoms.specs.declared.tuples.Neighbour.{Neighbour}
-use Rattle.mesh_atoms.specs.Base.{find, addr_eq}
+use Rattle.std.proofs.Common.{Some, ap, ◌∙◌}
 use Rattle.mesh_atoms.proofs.Lookups.{addr_equiv, same_addr}
-use Rattle.mesh_nbrs.specs.Neighbours.{IsSpokenOf}
 use Rattle.mesh_nbrs.proofs.Sets.{set_there, set_elsewhere}
 use Rattle.mesh_nbrs.proofs.Spoken.{others_kept, only_this}
 use Rattle.mesh_nbrs.proofs.neighbours.NeighbourSet.replace.Goals as goal
