@@ -20,6 +20,10 @@ abbrev pub status_at : Option (Link × ℕ) → ℕ → Option LinkState
 status_at None now = None
 status_at (Some e) now = Some (state_of e.0 now)
 
+-- the link with that key has the address
+abbrev pub HasLinkWith : Base LinkKey Link → Addr4 → LinkKey → Link × ℕ → Type 0
+HasLinkWith links a key e = (find link_eq links key ≡ Some e) × Contains e.0.addrs a
+
 -- a SYMMETRIC link that has the address
 abbrev pub IsSymmetricWith : Base LinkKey Link → ℕ → Addr4 → Link → Type 0
 IsSymmetricWith links now a link =

@@ -1,15 +1,16 @@
 //! The set of the links of one interface.
-ghost use Rattle.std.specs.Prelude.{◌≡◌, ◌+◌, ◌<◌, ◌^◌, ◌↔◌, [], length, slice_get, IsTrue, IfOk, OnOk, Some};
+ghost use Rattle.std.specs.Prelude.{◌≡◌, ◌+◌, ◌<◌, ◌^◌, ◌↔◌, ℕ, [], length, slice_get, IsTrue, IfOk, IfSome, IfNone, OnOk, Some};
 ghost use Rattle.mesh_atoms.specs.Base.{Base, HasDistinctKeys, find, link_eq};
 ghost use Rattle.mesh_atoms.specs.Words.{IsAscending};
 ghost use Rattle.mesh_atoms.specs.declared.tuples.LinkKey.{LinkKey};
-ghost use Rattle.mesh_links.specs.Links.{status_at, SelectorOf, AllStay, AdmitsLinks, ExpiresLinks, EndsOutside, HearsOn};
+ghost use Rattle.mesh_atoms.specs.declared.tuples.Link.{Link};
+ghost use Rattle.mesh_links.specs.Links.{status_at, HasLinkWith, SelectorOf, AllStay, AdmitsLinks, ExpiresLinks, EndsOutside, HearsOn};
 
 use crate::admittance::admit_all;
 use crate::ending::{Ending, end_all};
 use crate::expiry::expire_all;
 use crate::hearing::hear_on;
-use crate::owners::purge_after;
+use crate::owners::{link_with, purge_after};
 use crate::status::selector_of;
 use crate::staying::all_stay;
 use indexmap::IndexMap;
@@ -18,7 +19,9 @@ use mesh_expire::Table;
 use std::alloc::{AllocError, Global};
 use std::marker::Model;
 
-/// The links of one interface. Moments are in ticks of 1/8192 s. After want of memory the set may only be dropped.
+/// The links of one interface, with a map from addresses to their keys. The map is tied one way: each address of a link leads
+/// to it, and addresses of links that are gone may stand there up to the next purge, at `expire`. Moments are in ticks of
+/// 1/8192 s. After want of memory the set may only be dropped.
 #[derive(Drop)]
 pub struct LinkSet<T: Table<LinkKey, Link>> {
     table: T,
@@ -66,6 +69,17 @@ impl<T: Table<LinkKey, Link>> LinkSet<T> {
         Some(link.state(now))
     }
 
+    /// The link that has an address, with its key and its moment; `None` exactly where no link has it. Looks the address up
+    /// once, and then the link. Takes no memory.
+    pub fn with_address(&self, addr: Addr4) -> Option<(&LinkKey, &Link, u64)>
+        ensures some { IfSome result (λ e. HasLinkWith self.now addr e.0.now (e.1.now, e.2)) }
+        ensures only { IfSome result (λ e. (key : LinkKey) (other : Link × ℕ) → HasLinkWith self.now addr key other → key ≡ e.0.now) }
+        ensures none { IfNone result ((key : LinkKey) (e : Link × ℕ) → HasLinkWith self.now addr key e → ⊥) }
+        ensures distinct { HasDistinctKeys link_eq self.now }
+    {
+        link_with(&self.table, &self.owners, addr)
+    }
+
     /// The selector flag of a SYMMETRIC link that has the sender's address; `None` exactly where there is no such link
     /// (RFC 7181, section 8.1). Takes no memory.
     pub fn symmetric_of(&self, sender: Addr4, now: u64) -> Option<bool>
@@ -87,8 +101,8 @@ impl<T: Table<LinkKey, Link>> LinkSet<T> {
     /// Takes in what a HELLO shows of its link: the link with the sending list is renewed or made, PENDING where the rule
     /// doesn't accept its quality, and each other link that has an address of that list ends (RFC 6130, sections 12.5 and 14,
     /// and RFC 7181, section 15.3). The moment, the hold time and the validity are below 2^62. Copies the sending list where
-    /// it makes a link, and takes memory for its addresses; looks each of them up once. After want of memory the set may only
-    /// be dropped.
+    /// it makes a link, and takes memory for its addresses; looks each of them up once. Addresses of links that end stay in the
+    /// map up to the next purge. After want of memory the set may only be dropped.
     pub fn hear(
         &mut self,
         now: u64,

@@ -1,14 +1,41 @@
-//! The map from each address to the key of the link that has it.
-ghost use Rattle.std.specs.Prelude.{◌≡◌, ℕ, is_some, IsSome, OnOk, Some};
+//! The map from addresses to the keys of links. It is tied one way: each address of a link leads to the link's key. An address
+//! of a link that is gone may stand there up to the next purge, and lead to no link, or to one that hasn't the address.
+ghost use Rattle.std.specs.Prelude.{◌≡◌, ℕ, is_some, IsSome, IfSome, IfNone, OnOk, Some};
 ghost use Rattle.mesh_atoms.specs.declared.addr.Addr4.{Addr4};
 ghost use Rattle.mesh_atoms.specs.declared.tuples.LinkKey.{LinkKey};
-ghost use Rattle.mesh_atoms.specs.Base.{find, link_eq};
-ghost use Rattle.mesh_links.specs.Owners.{owner_of, OwnsAll, OwnsMore};
+ghost use Rattle.mesh_atoms.specs.declared.tuples.Link.{Link};
+ghost use Rattle.mesh_atoms.specs.Base.{HasDistinctKeys, find, link_eq};
+ghost use Rattle.mesh_links.specs.Links.{HasLinkWith};
+ghost use Rattle.mesh_links.specs.Owners.{owner_of, Owned, OwnsAll, OwnsMore};
 
 use indexmap::IndexMap;
-use mesh_atoms::{Addr4, Link, LinkKey};
+use mesh_atoms::{Addr4, Link, LinkKey, contains};
 use mesh_expire::Table;
 use std::alloc::AllocError;
+
+/// The link that has the address, with its key and its moment.
+pub fn link_with<'a, T: Table<LinkKey, Link>>(
+    table: &'a T,
+    owners: &'a IndexMap<Addr4, LinkKey>,
+    addr: Addr4,
+) -> Option<(&'a LinkKey, &'a Link, u64)>
+    requires { Owned owners.now.entries (T.content table.now) }
+    ensures some { IfSome result (λ e. HasLinkWith (T.content table.now) addr e.0.now (e.1.now, e.2)) }
+    ensures only { IfSome result (λ e. (key : LinkKey) (other : Link × ℕ) → HasLinkWith (T.content table.now) addr key other → key ≡ e.0.now) }
+    ensures none { IfNone result ((key : LinkKey) (e : Link × ℕ) → HasLinkWith (T.content table.now) addr key e → ⊥) }
+{
+    let Some(key) = owners.get(&addr) else {
+        return None;
+    };
+    let Some((link, until)) = table.get(key) else {
+        return None;
+    };
+    if contains(link.addrs.as_slice(), addr) {
+        Some((key, link, until))
+    } else {
+        None
+    }
+}
 
 /// Notes the key for each of the addresses.
 pub fn own_all(
