@@ -1,7 +1,6 @@
 -- The addresses that a router holds, with those that a HELLO tells of.
 use Rattle.std.proofs.Common.{◌≡◌, ℕ, ◌+◌, ◌≤◌, ◌⊎◌, ◌↔◌, inl, inr, refl, sym, ◌∙◌, ap, subst, arith, List, [], ◌∷◌, ◌++◌, length, length-append, Contains, Some}
 use Rattle.std.specs.Prelude.{option_map}
-use Rattle.std.specs.List.{flat_map}
 use Rattle.std.specs.Map.{keys_of}
 use Rattle.std.proofs.lemmas.Option.{slice_get-map}
 use Rattle.std.proofs.lemmas.List.Elements.{Contains-append_cases, Contains-append_left, Contains-append_right, Contains-push, Contains-push_cases}
@@ -18,7 +17,6 @@ use Rattle.mesh_nhdp.specs.declared.near_addresses.Wanted.TheVariants.{Each}
 use Rattle.mesh_nhdp.specs.Wanted.{IsWantedAddress}
 use Rattle.mesh_nhdp.proofs.Fits.{distinct_fits}
 use Rattle.mesh_nhdp.proofs.Limits.{found_if_key}
-use Rattle.mesh_nhdp.proofs.Somewhere.{flat_given, flat_gives}
 use Rattle.mesh_hello.proofs.Lookups.{Contains_at}
 
 abbrev IsKnown : Neighbourhood → List Addr4 → Addr4 → Addr4 → Type 0
@@ -77,29 +75,21 @@ held_addresses near listed originator wanted originators losts one two three fou
     from (inr (inl has)) = in_three ((joined three two listed is_three a).1 (inr has))
     from (inr (inr same)) = subst (λ (zs : List Addr4). Contains zs a) (sym is_four) (subst (λ (b : Addr4). Contains (three ++ originator ∷ []) b) (sym same) (Contains-push three originator))
 
--- all that is held and told, each as often as it stands somewhere
-module _ (near : Neighbourhood) (listed : List Addr4) (originator : Addr4) (distinct : HasDistinctKeys addr_eq near.neighbours) where
-  theirs : List Addr4
-  theirs = flat_map (λ (e : Addr4 × (Neighbour × ℕ)). e.1.0.addrs) near.neighbours
-
-  theirs_are : (a : Addr4) → Contains theirs a ↔ IsWantedAddress near.neighbours Each a
-  unfolding theirs
-  theirs_are a = (
-    λ c. let (e, within, has) = flat_given (λ (x : Addr4 × (Neighbour × ℕ)). x.1.0.addrs) near.neighbours a c in
-        (e.0, e.1.0, e.1.1, lookup-from_Contains addr_equiv e.0 e.1 near.neighbours distinct within, tt, has),
-    λ h. let (o, n, until, is, any, has) = h in
-        let (k, key, at, test) = place_from_lookup (addr_eq o) near.neighbours (n, until) is in
-        flat_gives (λ (x : Addr4 × (Neighbour × ℕ)). x.1.0.addrs) near.neighbours (key, (n, until)) a (Contains_at near.neighbours k (key, (n, until)) at) has,
-  )
-
-  -- where they are few, they are no more than so many
-  pub few_held : length (flat_map (λ (e : Addr4 × (Neighbour × ℕ)). e.1.0.addrs) near.neighbours) + (length near.neighbours + length near.losts + length listed + 1) ≤ 1024 → AreMoreThan 1024 (IsKnown near listed originator) → ⊥
-  unfolding theirs
-  few_held few (some, different, all, many) =
-      let one = theirs ++ keys_of near.neighbours in
-      let two = one ++ keys_of near.losts in
-      let three = two ++ listed in
-      let whole = three ++ originator ∷ [] in
-      let fits = distinct_fits some whole different (λ a c. (held_addresses near listed originator theirs (keys_of near.neighbours) (keys_of near.losts) one two three whole theirs_are refl refl refl refl refl refl a).1 (all a c)) in
-      let last : length whole ≡ length three + 1 = length-append three (originator ∷ []) in
-      absurd (omega (arith, fits, few, many, last, length-append two listed, length-append one (keys_of near.losts), length-append theirs (keys_of near.neighbours), length-keys_of near.neighbours, length-keys_of near.losts))
+-- where all that is held and told is few, each as often as it stands somewhere, the different ones are no more than so many
+pub few_held : (near : Neighbourhood) (listed : List Addr4) (originator : Addr4) (theirs : List Addr4) →
+    ((a : Addr4) → Contains theirs a ↔ ((o : Addr4) × (e : Neighbour × ℕ) × (find addr_eq near.neighbours o ≡ Some e) × Contains e.0.addrs a)) →
+    length theirs + (length near.neighbours + length near.losts + length listed + 1) ≤ 1024 → AreMoreThan 1024 (IsKnown near listed originator) → ⊥
+few_held near listed originator theirs are few (some, different, all, many) =
+    let one = theirs ++ keys_of near.neighbours in
+    let two = one ++ keys_of near.losts in
+    let three = two ++ listed in
+    let whole = three ++ originator ∷ [] in
+    let fits = distinct_fits some whole different (λ a c. (held_addresses near listed originator theirs (keys_of near.neighbours) (keys_of near.losts) one two three whole wanted refl refl refl refl refl refl a).1 (all a c)) in
+    let last : length whole ≡ length three + 1 = length-append three (originator ∷ []) in
+    absurd (omega (arith, fits, few, many, last, length-append two listed, length-append one (keys_of near.losts), length-append theirs (keys_of near.neighbours), length-keys_of near.neighbours, length-keys_of near.losts))
+  where
+    wanted : (a : Addr4) → Contains theirs a ↔ IsWantedAddress near.neighbours Each a
+    wanted a = (
+      (λ c. let (o, e, is, has) = (are a).0 c in (o, e.0, e.1, is, tt, has)),
+      (λ h. let (o, n, until, is, any, has) = h in (are a).1 (o, (n, until), is, has)),
+    )

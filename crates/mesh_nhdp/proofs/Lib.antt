@@ -14,6 +14,7 @@ mod Parts
 mod Places
 mod Receipt
 mod RowWalks
+mod Spoken
 pub mod Somewhere
 mod SymmetricAddresses
 mod Touched

@@ -39,6 +39,13 @@ pub record IsHelloOf (settings : RouterSettings) (links : Base LinkKey Link) (ne
   pub interval : (time : ℕ) × (hello.interval ≡ Some time) × IsRoundedUp settings.times.hello time
   pub willing : hello.willing ≡ settings.willing
 
+-- of the same tuples the same is said
+pub said_same : (settings : RouterSettings) (links seen_links : Base LinkKey Link) (neighbours seen_neighbours : Base Addr4 Neighbour) (losts : Base Addr4 Lost) (list : List Addr4) → seen_links ≡ links → seen_neighbours ≡ neighbours →
+    ((a : Addr4) → Contains list a ↔ Contains (said_addresses settings seen_links seen_neighbours losts) a) → (a : Addr4) → Contains list a ↔ Contains (said_addresses settings links neighbours losts) a
+said_same settings links seen_links neighbours seen_neighbours losts list same same_neighbours are a =
+    subst (λ (ls : Base LinkKey Link). Contains list a ↔ Contains (said_addresses settings ls neighbours losts) a) same
+    (subst (λ (ns : Base Addr4 Neighbour). Contains list a ↔ Contains (said_addresses settings seen_links ns losts) a) same_neighbours (are a))
+
 -- Lists that are mapped
 
 map_gives : {A B : Type 0} (f : A → B) (xs : List A) (x : A) → Contains xs x → Contains (map f xs) (f x)

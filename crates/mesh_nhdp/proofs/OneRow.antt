@@ -1,6 +1,9 @@
 -- The row of an address says what is shown of it.
-use Rattle.std.proofs.Common.{◌≡◌, ℕ, Bool, refl, sym, subst}
-use Rattle.std.specs.Prelude.{Contains, Option, Some, None, slice_get, IsTrue, ◌↔◌, is_some}
+use Rattle.std.proofs.Common.{◌≡◌, ℕ, Bool, true, false, refl, sym, ap, ◌∙◌, subst}
+use Rattle.std.specs.Prelude.{Contains, Option, Some, None, slice_get, IsTrue, IfSome, IfNone, ◌↔◌, is_some}
+use Rattle.std.proofs.lemmas.Bool.{false≢true}
+use Rattle.std.proofs.lemmas.Map.Entries.{place_from_lookup}
+use Rattle.std.proofs.lemmas.Map.Views.{lookup-from_Contains}
 use Rattle.mesh_atoms.specs.declared.addr.Addr4.{Addr4}
 use Rattle.mesh_atoms.specs.declared.hello.HelloRow.{HelloRow}
 use Rattle.mesh_atoms.specs.declared.settings.RouterSettings.{RouterSettings}
@@ -9,10 +12,12 @@ use Rattle.mesh_atoms.specs.declared.tuples.Link.{Link}
 use Rattle.mesh_atoms.specs.declared.tuples.Lost.{Lost}
 use Rattle.mesh_atoms.specs.declared.tuples.Neighbour.{Neighbour}
 use Rattle.mesh_atoms.specs.declared.tuples.Relays.{Relays}
-use Rattle.mesh_atoms.specs.Base.{Base, Has, HasDistinctKeys, addr_eq, find, host}
+use Rattle.mesh_atoms.specs.Base.{Base, Has, HasDistinctKeys, addr_eq, link_eq, find, host}
 use Rattle.mesh_expire.specs.Table.{entry_of, value_of}
 use Rattle.std.specs.Borrow.{Bor}
-use Rattle.mesh_atoms.proofs.Lookups.{has_found, addr_equiv, same_addr}
+use Rattle.mesh_atoms.proofs.Lookups.{has_found, addr_equiv, same_addr, link_equiv, same_link}
+use Rattle.mesh_hello.proofs.Lookups.{Contains_at, some_same}
+use Rattle.mesh_links.specs.Links.{HasLinkWith}
 use Rattle.mesh_atoms.specs.Hello.{IsHelloRow}
 use Rattle.mesh_atoms.specs.Words.{IsValue}
 use Rattle.mesh_atoms.specs.State.{State}
@@ -90,3 +95,33 @@ lost_by losts a (Some e) b distinct is so = ((λ h. (e.0.now, (has_found addr_eq
 pub lent_some : {K V : Type 0} (o : Option (Bor K × Bor V × ℕ)) → is_some o ≡ is_some (entry_of o)
 lent_some None = refl
 lent_some (Some e) = refl
+
+-- Tuples that have an address
+
+-- what is found at a key stands in the base
+stands : {K V : Type 0} {eq : K → K → Bool} → ((k l : K) → eq k l ≡ true → k ≡ l) → (base : Base K V) (key : K) (e : V × ℕ) → find eq base key ≡ Some e → Contains base (key, e)
+stands {K} {V} {eq} exact base key e is =
+    let (k, l, at, same) = place_from_lookup (eq key) base e is in
+    subst (λ (x : K). Contains base (x, e)) (sym (exact key l same)) (Contains_at base k (l, e) at)
+
+-- the link that has the address, or none
+pub link_by : (links : Base LinkKey Link) (a : Addr4) (o : Option (Bor LinkKey × Bor Link × ℕ)) → HasDistinctKeys link_eq links → IfSome o (λ e. HasLinkWith links a e.0.now (e.1.now, e.2)) →
+    IfNone o ((key : LinkKey) (e : Link × ℕ) → HasLinkWith links a key e → ⊥) → IsValue (IsLinkWith links a) (entry_of o)
+link_by links a None distinct some none = λ e with. none e.0 e.1 (lookup-from_Contains link_equiv e.0 e.1 links distinct with.0, with.1)
+link_by links a (Some e) distinct some none = (stands same_link links e.0.now (e.1.now, e.2) some.0, some.1)
+
+-- a neighbour that has the address, where it is symmetric
+pub near_by : (neighbours : Base Addr4 Neighbour) (a o : Addr4) (n : Neighbour) (until : ℕ) → find addr_eq neighbours o ≡ Some (n, until) → Contains n.addrs a → IsTrue n.symmetric → IsNeighbourWith neighbours a (o, (n, until))
+near_by neighbours a o n until is has symmetric = (stands same_addr neighbours o (n, until) is, symmetric, has)
+
+-- none is, where the only one that has it isn't
+pub not_near : (neighbours : Base Addr4 Neighbour) (a o : Addr4) (n : Neighbour) (until : ℕ) → HasDistinctKeys addr_eq neighbours → find addr_eq neighbours o ≡ Some (n, until) →
+    ((p : Addr4) (f : Neighbour × ℕ) → find addr_eq neighbours p ≡ Some f → Contains f.0.addrs a → p ≡ o) → n.symmetric ≡ false → (e : Addr4 × (Neighbour × ℕ)) → IsNeighbourWith neighbours a e → ⊥
+not_near neighbours a o n until distinct is only not e with =
+    let at = lookup-from_Contains addr_equiv e.0 e.1 neighbours distinct with.0 in
+    let same : e.1 ≡ (n, until) = some_same (ap (λ (p : Addr4). find addr_eq neighbours p) (sym (only e.0 e.1 at with.2)) ∙ at) is in
+    false≢true (sym not ∙ (ap (λ (x : Neighbour × ℕ). x.0.symmetric) (sym same) ∙ with.1))
+
+-- nor where none has it
+pub none_near : (neighbours : Base Addr4 Neighbour) (a : Addr4) → HasDistinctKeys addr_eq neighbours → ((p : Addr4) (f : Neighbour × ℕ) → find addr_eq neighbours p ≡ Some f → Contains f.0.addrs a → ⊥) → (e : Addr4 × (Neighbour × ℕ)) → IsNeighbourWith neighbours a e → ⊥
+none_near neighbours a distinct none e with = none e.0 e.1 (lookup-from_Contains addr_equiv e.0 e.1 neighbours distinct with.0) with.2

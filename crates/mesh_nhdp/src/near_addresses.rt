@@ -1,43 +1,30 @@
 //! Addresses of neighbours.
 ghost use Rattle.std.specs.Prelude.{◌≡◌, ◌↔◌, Contains, IsTrue, IfOk, OnOk};
-ghost use Rattle.mesh_atoms.specs.AfterHello.{Matches};
+ghost use Rattle.mesh_atoms.specs.declared.addr.Addr4.{Addr4};
 ghost use Rattle.mesh_atoms.specs.Base.{find, addr_eq};
 ghost use Rattle.mesh_hello.specs.Gathers.{Gathers};
-ghost use Rattle.mesh_nhdp.specs.Wanted.{IsWanted, IsWantedAddress, symmetric_at};
+ghost use Rattle.mesh_nhdp.specs.Wanted.{IsWanted, IsWantedAt, IsWantedAddress, IsSpokenAddress, IsSymmetricSpokenAddress, symmetric_at};
 
 use crate::said_addresses::symmetric_addresses;
-use mesh_atoms::{Addr4, Neighbour, meets};
+use mesh_atoms::{Addr4, Neighbour};
 use mesh_expire::Table;
+use mesh_nbrs::NeighbourSet;
 use std::alloc::{AllocError, Global};
 
-/// The neighbours whose addresses are wanted: all, the symmetric ones, those that a HELLO with this originator and these
-/// addresses speaks of, or the symmetric ones among those.
+/// The neighbours whose addresses are wanted: all, or the symmetric ones.
 #[derive(Clone, Copy)]
-pub enum Wanted<'a> {
+pub enum Wanted {
     Each,
     Symmetric,
-    Matching(Addr4, &'a [Addr4]),
-    MatchingSymmetric(Addr4, &'a [Addr4]),
-}
-
-/// Whether a HELLO with the first originator and these addresses speaks of the neighbour with the second one.
-fn matches(told: Addr4, listed: &[Addr4], originator: Addr4, neighbour: &Neighbour) -> bool
-    ensures { IsTrue result ↔ Matches told listed.now originator neighbour.now }
-{
-    originator == told || meets(neighbour.addrs.as_slice(), listed)
 }
 
 /// Whether the neighbour is wanted.
-fn is_wanted(wanted: Wanted, originator: Addr4, neighbour: &Neighbour) -> bool
-    ensures { IsTrue result ↔ IsWanted wanted.entry originator neighbour.now }
+fn is_wanted(wanted: Wanted, neighbour: &Neighbour) -> bool
+    ensures { IsTrue result ↔ IsWanted wanted neighbour.now }
 {
     match wanted {
         Wanted::Each => true,
         Wanted::Symmetric => neighbour.symmetric,
-        Wanted::Matching(told, listed) => matches(told, listed, originator, neighbour),
-        Wanted::MatchingSymmetric(told, listed) => {
-            neighbour.symmetric && matches(told, listed, originator, neighbour)
-        }
     }
 }
 
@@ -45,15 +32,64 @@ fn is_wanted(wanted: Wanted, originator: Addr4, neighbour: &Neighbour) -> bool
 fn add_wanted(
     addrs: &mut Vec<Addr4>,
     wanted: Wanted,
-    originator: Addr4,
     neighbour: &Neighbour,
 ) -> Result<(), AllocError>
-    ensures { OnOk result (Gathers addrs.old.items addrs.new.items (λ a. IsWanted wanted.entry originator neighbour.now × Contains neighbour.now.addrs a)) }
+    ensures { OnOk result (Gathers addrs.old.items addrs.new.items (λ a. IsWanted wanted neighbour.now × Contains neighbour.now.addrs a)) }
 {
-    if is_wanted(wanted, originator, neighbour) {
+    if is_wanted(wanted, neighbour) {
         addrs.extend_from_slice(neighbour.addrs.as_slice())?;
     }
     Ok(())
+}
+
+/// Adds the addresses of the neighbour with that originator, where it is wanted.
+fn add_wanted_at<T: Table<Addr4, Neighbour>>(
+    addrs: &mut Vec<Addr4>,
+    table: &T,
+    wanted: Wanted,
+    originator: Addr4,
+) -> Result<(), AllocError>
+    ensures { OnOk result (Gathers addrs.old.items addrs.new.items (IsWantedAt (T.content table.now) wanted originator)) }
+{
+    match table.get(&originator) {
+        Some((neighbour, _)) => add_wanted(addrs, wanted, neighbour),
+        None => Ok(()),
+    }
+}
+
+/// The addresses of the neighbours with these originators that are wanted, an address once for each neighbour that has it. Looks
+/// at no other neighbour.
+fn addresses_of<T: Table<Addr4, Neighbour>>(
+    alloc: Global,
+    table: &T,
+    originators: &[Addr4],
+    wanted: Wanted,
+) -> Result<Vec<Addr4>, AllocError>
+    ensures { IfOk result (λ addrs. (a : Addr4) → Contains addrs.items a ↔ ((o : Addr4) × Contains originators.now o × IsWantedAt (T.content table.now) wanted o a)) }
+{
+    let mut addrs = Vec::new(alloc);
+    for originator in originators {
+        add_wanted_at(&mut addrs, table, wanted, *originator)?;
+    }
+    Ok(addrs)
+}
+
+/// The addresses of the neighbours that a HELLO with this originator and these addresses speaks of, and those of the symmetric
+/// ones among them, an address once for each neighbour that has it. Looks at no other neighbour.
+pub fn spoken_addresses<N: Table<Addr4, Neighbour>>(
+    alloc: Global,
+    neighbours: &NeighbourSet<N>,
+    originator: Addr4,
+    listed: &[Addr4],
+) -> Result<(Vec<Addr4>, Vec<Addr4>), AllocError>
+    ensures all { IfOk result (λ found. (a : Addr4) → Contains found.0.items a ↔ IsSpokenAddress neighbours.now originator listed.now a) }
+    ensures symmetric { IfOk result (λ found. (a : Addr4) → Contains found.1.items a ↔ IsSymmetricSpokenAddress neighbours.now originator listed.now a) }
+{
+    let spoken = neighbours.spoken_of(originator, listed)?;
+    let table = neighbours.table();
+    let all = addresses_of(alloc, table, &spoken, Wanted::Each)?;
+    let symmetric = addresses_of(alloc, table, &spoken, Wanted::Symmetric)?;
+    Ok((all, symmetric))
 }
 
 /// The addresses of the neighbours that are wanted, an address once for each neighbour that has it.
@@ -62,15 +98,14 @@ pub fn wanted_addresses<T: Table<Addr4, Neighbour>>(
     table: &T,
     wanted: Wanted,
 ) -> Result<Vec<Addr4>, AllocError>
-    ensures { IfOk result (λ addrs. (a : Addr4) → Contains addrs.items a ↔ IsWantedAddress (T.content table.now) wanted.entry a) }
+    ensures { IfOk result (λ addrs. (a : Addr4) → Contains addrs.items a ↔ IsWantedAddress (T.content table.now) wanted a) }
 {
     let mut addrs = Vec::new(alloc);
     for place in 0..table.len() {
         match table.at(place) {
-            Some((originator, neighbour, _)) => add_wanted(
+            Some((_, neighbour, _)) => add_wanted(
                 &mut addrs,
                 wanted,
-                *originator,
                 neighbour,
             )?,
             None => return Ok(addrs),

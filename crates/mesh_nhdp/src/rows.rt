@@ -4,14 +4,16 @@ ghost use Rattle.mesh_atoms.specs.Base.{Has, HasDistinctKeys, addr_eq, host};
 ghost use Rattle.mesh_nhdp.specs.Said.{AreDisjoint, IsRowOf, said_addresses};
 
 use crate::said_of::{
-    is_flooding_relay, is_relay, link_in_said, link_out_said, link_status_said, link_with,
-    local_of, near_in_said, near_out_said, neighbour_with, other_said,
+    is_flooding_relay, is_relay, link_in_said, link_out_said, link_status_said, local_of,
+    near_in_said, near_out_said, neighbour_with, other_said,
 };
 use mesh_atoms::{
     Addr4, HelloRow, Link, LinkKey, Lost, Metrics, Mpr, Neighbour, Relays, RouterSettings, Seq,
     host,
 };
 use mesh_expire::Table;
+use mesh_links::LinkSet;
+use mesh_nbrs::NeighbourSet;
 use std::alloc::{AllocError, Global};
 
 /// Whether the address is lost.
@@ -25,20 +27,20 @@ fn is_lost<T: Table<Addr4, Lost>>(losts: &T, addr: Addr4) -> bool
 /// The row of an address of which something is said.
 fn row_of<L: Table<LinkKey, Link>, N: Table<Addr4, Neighbour>, O: Table<Addr4, Lost>>(
     settings: &RouterSettings,
-    links: &L,
-    neighbours: &N,
+    links: &LinkSet<L>,
+    neighbours: &NeighbourSet<N>,
     losts: &O,
     relays: &Relays,
     iface: usize,
     now: u64,
     addr: Addr4,
 ) -> HelloRow
-    requires apart { AreDisjoint (L.content links.now) (N.content neighbours.now) (O.content losts.now) }
-    requires said { Contains (said_addresses settings.now (L.content links.now) (N.content neighbours.now) (O.content losts.now)) addr }
+    requires apart { AreDisjoint links.now neighbours.now (O.content losts.now) }
+    requires said { Contains (said_addresses settings.now links.now neighbours.now (O.content losts.now)) addr }
     ensures addr { result.addr ≡ host addr }
-    ensures says { IsRowOf settings.now (L.content links.now) (N.content neighbours.now) (O.content losts.now) relays.now iface now result addr }
+    ensures says { IsRowOf settings.now links.now neighbours.now (O.content losts.now) relays.now iface now result addr }
 {
-    let link = link_with(links, addr);
+    let link = links.with_address(addr);
     let neighbour = neighbour_with(neighbours, addr);
     let status = link_status_said(link, now);
     HelloRow {
@@ -59,23 +61,23 @@ fn row_of<L: Table<LinkKey, Link>, N: Table<Addr4, Neighbour>, O: Table<Addr4, L
     }
 }
 
-/// The rows of those addresses, in their order. Each takes a walk over the links and over the neighbours.
+/// The rows of those addresses, in their order. Each address is looked up among the links, the neighbours and the lost ones.
 pub fn rows_of<L: Table<LinkKey, Link>, N: Table<Addr4, Neighbour>, O: Table<Addr4, Lost>>(
     alloc: Global,
     settings: &RouterSettings,
-    links: &L,
-    neighbours: &N,
+    links: &LinkSet<L>,
+    neighbours: &NeighbourSet<N>,
     losts: &O,
     relays: &Relays,
     iface: usize,
     now: u64,
     addrs: &[Addr4],
 ) -> Result<Seq<HelloRow>, AllocError>
-    requires apart { AreDisjoint (L.content links.now) (N.content neighbours.now) (O.content losts.now) }
-    requires said { (a : Addr4) → Contains addrs.now a → Contains (said_addresses settings.now (L.content links.now) (N.content neighbours.now) (O.content losts.now)) a }
+    requires apart { AreDisjoint links.now neighbours.now (O.content losts.now) }
+    requires said { (a : Addr4) → Contains addrs.now a → Contains (said_addresses settings.now links.now neighbours.now (O.content losts.now)) a }
     ensures addrs { IfOk result (λ rows. map (λ row. row.addr) rows ≡ map host addrs.now) }
     ensures says { IfOk result (λ rows. (row : HelloRow) → Contains rows row → (a : Addr4) ×
-        IsRowOf settings.now (L.content links.now) (N.content neighbours.now) (O.content losts.now) relays.now iface now row a) }
+        IsRowOf settings.now links.now neighbours.now (O.content losts.now) relays.now iface now row a) }
 {
     let mut rows = Seq::new(alloc);
     for addr in addrs {

@@ -3,43 +3,30 @@ ghost use Rattle.std.specs.Prelude.{◌≡◌, ◌↔◌, ◌<◌, IsTrue, Optio
 ghost use Rattle.mesh_atoms.specs.Words.{IsValue};
 ghost use Rattle.mesh_atoms.specs.State.{HasAddressOn};
 ghost use Rattle.mesh_expire.specs.Table.{entry_of};
-ghost use Rattle.mesh_nhdp.specs.Said.{IsLinkWith, IsNeighbourWith, link_status_said, other_said, link_in_said, link_out_said, near_in_said, near_out_said, IsRelayOf, IsFloodingRelay, IsLocalOn};
+ghost use Rattle.mesh_nhdp.specs.Said.{IsNeighbourWith, link_status_said, other_said, link_in_said, link_out_said, near_in_said, near_out_said, IsRelayOf, IsFloodingRelay, IsLocalOn};
 
 use mesh_atoms::{
     Addr4, Link, LinkKey, LinkStatus, LocalIf, Metric, Neighbour, OtherStatus, RouterSettings, Seq,
     contains,
 };
 use mesh_expire::Table;
+use mesh_nbrs::NeighbourSet;
 
-/// A link that has the address.
-pub fn link_with<T: Table<LinkKey, Link>>(links: &T, addr: Addr4) -> Option<(&LinkKey, &Link, u64)>
-    ensures { IsValue (IsLinkWith (T.content links.now) addr) (entry_of result) }
-{
-    for place in 0..links.len() {
-        if let Some((key, link, until)) = links.at(place) {
-            if contains(link.addrs.as_slice(), addr) {
-                return Some((key, link, until));
-            }
-        }
-    }
-    None
-}
-
-/// A symmetric neighbour that has the address.
-pub fn neighbour_with<T: Table<Addr4, Neighbour>>(
-    neighbours: &T,
+/// A symmetric neighbour that has the address. Looks at no other neighbour.
+pub fn neighbour_with<N: Table<Addr4, Neighbour>>(
+    neighbours: &NeighbourSet<N>,
     addr: Addr4,
 ) -> Option<(&Addr4, &Neighbour, u64)>
-    ensures { IsValue (IsNeighbourWith (T.content neighbours.now) addr) (entry_of result) }
+    ensures { IsValue (IsNeighbourWith neighbours.now addr) (entry_of result) }
 {
-    for place in 0..neighbours.len() {
-        if let Some((originator, neighbour, until)) = neighbours.at(place) {
-            if neighbour.symmetric && contains(neighbour.addrs.as_slice(), addr) {
-                return Some((originator, neighbour, until));
-            }
-        }
+    let Some((originator, neighbour, until)) = neighbours.with_address(addr) else {
+        return None;
+    };
+    if neighbour.symmetric {
+        Some((originator, neighbour, until))
+    } else {
+        None
     }
-    None
 }
 
 /// Whether the interface has the address.

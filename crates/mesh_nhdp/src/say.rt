@@ -15,24 +15,32 @@ use mesh_atoms::{
     Addr4, Hello, Link, LinkKey, Lost, Neighbour, Relays, RouterSettings, time_at_least,
 };
 use mesh_expire::{Bases, Table};
+use mesh_links::LinkSet;
+use mesh_nbrs::NeighbourSet;
 use std::alloc::{AllocError, Global};
 
 /// The HELLO of an interface, out of its links, the neighbours and the lost addresses.
 fn hello_of<L: Table<LinkKey, Link>, N: Table<Addr4, Neighbour>, O: Table<Addr4, Lost>>(
     alloc: Global,
     settings: &RouterSettings,
-    links: &L,
-    neighbours: &N,
+    links: &LinkSet<L>,
+    neighbours: &NeighbourSet<N>,
     losts: &O,
     relays: &Relays,
     iface: usize,
     now: u64,
 ) -> Result<Hello, AllocError>
-    requires { AreDisjoint (L.content links.now) (N.content neighbours.now) (O.content losts.now) }
+    requires { AreDisjoint links.now neighbours.now (O.content losts.now) }
     ensures { IfOk result (λ hello. (s : State) →
-        IsSeen s settings.now (L.content links.now) (N.content neighbours.now) (O.content losts.now) relays.now iface → IsHelloNow s iface now hello) }
+        IsSeen s settings.now links.now neighbours.now (O.content losts.now) relays.now iface → IsHelloNow s iface now hello) }
 {
-    let addrs = said_addresses(alloc, settings, links, neighbours, losts)?;
+    let addrs = said_addresses(
+        alloc,
+        settings,
+        links.table(),
+        neighbours.table(),
+        losts,
+    )?;
     let rows = rows_of(
         alloc,
         settings,
@@ -56,9 +64,9 @@ fn hello_of<L: Table<LinkKey, Link>, N: Table<Addr4, Neighbour>, O: Table<Addr4,
 impl<B: Bases> Nhdp<B> {
     /// The HELLO that interface `iface` sends at `now`, in ticks of 1/8192 s: originator, validity and interval rounded up to
     /// time codes, willingness, and a row for each address of which something is to be said (RFC 6130, section 11, and
-    /// RFC 7181, section 15.1). `iface` is an interface, and nothing is expired at `now`. Each row takes a walk over the links
-    /// of the interface and over the neighbours, so the cost is at worst quadratic in their addresses; nothing but the list of
-    /// addresses and the rows is copied. Only want of memory refuses.
+    /// RFC 7181, section 15.1). `iface` is an interface, and nothing is expired at `now`. Goes over the
+    /// links of the interface, the neighbours and the lost addresses once, sorts the addresses, and looks each of them up once in
+    /// each; nothing but the list of addresses and the rows is copied. Only want of memory refuses.
     pub fn hello_now(
         &self,
         alloc: Global,
@@ -78,8 +86,8 @@ impl<B: Bases> Nhdp<B> {
         hello_of(
             alloc,
             &self.settings,
-            self.links[iface].table(),
-            self.neighbours.table(),
+            &self.links[iface],
+            &self.neighbours,
             self.losts.table(),
             relays,
             iface,

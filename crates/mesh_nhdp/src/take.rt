@@ -13,7 +13,7 @@ use crate::hearing::hear_interfaces;
 use crate::interfaces::Hearing;
 use crate::judge::Judgement;
 use crate::keys::keys_of_both;
-use crate::near_addresses::{Wanted, wanted_addresses};
+use crate::near_addresses::spoken_addresses;
 use crate::nhdp::Nhdp;
 use mesh_atoms::{Addr4, Base, Hello};
 use mesh_expire::Bases;
@@ -32,8 +32,9 @@ pub enum HelloTaken {
 impl<B: Bases> Nhdp<B> {
     /// Takes in a HELLO from that sender on an interface, at a moment below 2^62 at which nothing is expired; its validity is
     /// above 0 and below 2^62 (RFC 6130, section 12, and RFC 7181, section 15.3). One that is refused or too much changes
-    /// nothing. After want of memory the neighbourhood may only be dropped. Goes over the neighbours a few times, and looks at
-    /// the links and the tuples of those alone that the HELLO speaks of; each row is looked for among the addresses that it lists.
+    /// nothing. After want of memory the neighbourhood may only be dropped. Looks the addresses that it lists up, and then at
+    /// the neighbours, the links and the tuples of those alone that it speaks of, but where about 1,024 addresses are held: then
+    /// it goes over all neighbours and lost addresses to count them. Each row is looked for among the addresses that it lists.
     pub fn take_hello(
         &mut self,
         now: u64,
@@ -85,16 +86,7 @@ impl<B: Bases> Nhdp<B> {
         let until = now + settings.times.neighbour_hold;
         let face = &settings.interfaces.as_slice()[iface];
         let listed = telling.listed.as_slice();
-        let before = wanted_addresses(
-            alloc,
-            self.neighbours.table(),
-            Wanted::MatchingSymmetric(telling.originator, listed),
-        )?;
-        let theirs = wanted_addresses(
-            alloc,
-            self.neighbours.table(),
-            Wanted::Matching(telling.originator, listed),
-        )?;
+        let (theirs, before) = spoken_addresses(alloc, &self.neighbours, telling.originator, listed)?;
         let spoken_of = theirs.as_slice();
         let keys = keys_of_both(alloc, spoken_of, listed)?;
         let hearing = Hearing {

@@ -1,18 +1,18 @@
 use Rattle.std.proofs.Common.{◌∙◌}
 use Rattle.mesh_expire.specs.Table.{entry_of}
-use Rattle.mesh_nhdp.proofs.OneRow.{row_of, lent_some}
+use Rattle.mesh_nhdp.proofs.OneRow.{row_of, lent_some, link_by}
 use Rattle.mesh_nhdp.proofs.rows.row_of.Goals as goal
 
 pub returns-clause-says : goal.returns-clause-says
 returns-clause-says g c =
-    row_of c.args.settings.now (g.L.Table.content c.args.links.now) (g.N.Table.content c.args.neighbours.now) (g.O.Table.content c.args.losts.now) c.args.relays.now c.args.iface c.args.now _ c.args.addr
+    row_of c.args.settings.now c.args.links.now c.args.neighbours.now (g.O.Table.content c.args.losts.now) c.args.relays.now c.args.iface c.args.now _ c.args.addr
     c.requires.apart c.requires.said
     (record {
-      linked = entry_of c.link_with-link.result;
+      linked = entry_of c.with_address-link.result;
       near = entry_of c.neighbour_with-neighbour.result;
       is_near = c.is_some.result;
       is_lost = c.is_lost.result;
-      linked_is = c.link_with-link.ensures;
+      linked_is = link_by c.args.links.now c.args.addr c.with_address-link.result c.with_address-link.ensures.distinct c.with_address-link.ensures.some c.with_address-link.ensures.none;
       near_is = c.neighbour_with-neighbour.ensures;
       is_near_so = c.is_some.ensures ∙ lent_some c.neighbour_with-neighbour.result;
       is_lost_so = c.is_lost.ensures;

@@ -9,5 +9,5 @@ use Rattle.mesh_nhdp.proofs.rows.rows_of.Given as goal
 abbrev pub invariant-loop-addr : goal.invariant-loop-addr
 invariant-loop-addr g l = record {
   addrs : map (λ (row : HelloRow). row.addr) l.rows ≡ map host (take l.addr-index l.addrs);
-  says : (row : HelloRow) → Contains l.rows row → (a : Addr4) × IsRowOf l.settings (g.L.Table.content l.links) (g.N.Table.content l.neighbours) (g.O.Table.content l.losts) l.relays l.iface l.now row a;
+  says : (row : HelloRow) → Contains l.rows row → (a : Addr4) × IsRowOf l.settings l.links l.neighbours (g.O.Table.content l.losts) l.relays l.iface l.now row a;
 }

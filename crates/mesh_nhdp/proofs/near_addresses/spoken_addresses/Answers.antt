@@ -1,0 +1,10 @@
+use Rattle.mesh_nhdp.proofs.Spoken.{all_spoken, symmetric_spoken}
+use Rattle.mesh_nhdp.proofs.near_addresses.spoken_addresses.Goals as goal
+
+pub returns-clause-all : goal.returns-clause-all
+returns-clause-all g c =
+    all_spoken c.args.neighbours.now _ c.args.originator c.args.listed.now c.in_ok-spoken.spoken.items _ c.in_ok-all.all.items c.in_ok-spoken.ensures c.table-table.ensures.content c.deref.ensures.value c.in_ok-all.ensures
+
+pub returns-clause-symmetric : goal.returns-clause-symmetric
+returns-clause-symmetric g c =
+    symmetric_spoken c.args.neighbours.now _ c.args.originator c.args.listed.now c.in_ok-spoken.spoken.items _ c.in_ok-symmetric.symmetric.items c.in_ok-spoken.ensures c.table-table.ensures.content c.deref-2.ensures.value c.in_ok-symmetric.ensures

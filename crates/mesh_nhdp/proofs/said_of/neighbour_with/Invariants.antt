@@ -1,6 +1,0 @@
-use Rattle.std.proofs.Common.{◌≡◌, ℕ, ◌<◌}
-use Rattle.std.specs.Prelude.{Some, slice_get, Contains, IsTrue}
-use Rattle.mesh_nhdp.proofs.said_of.neighbour_with.Given as goal
-
-abbrev pub invariant-loop-place : goal.invariant-loop-place
-invariant-loop-place g l = (k : ℕ) (e : _) → k < l.place → slice_get (g.T.Table.content l.neighbours) k ≡ Some e → IsTrue e.1.0.symmetric → Contains e.1.0.addrs l.addr → ⊥
