@@ -49,7 +49,7 @@ use Rattle.mesh_routes.proofs.Passes.{at_place, place_of}
 -- what the parts of the making say
 pub record Made (settings : RouterSettings) (near : Neighbourhood) (topology : Topology) (now : ℕ) (self : Addr4) (owners : OwnerMap) (count : ℕ) (g : Graph) (rows : List PathRow) (firsts : NodeMap) (ways : List Way) (routes : List Route) : Type 0 where
   pub near_sound : SoundNeighbourhood settings now near
-  pub topology_sound : SoundTopology settings now topology
+  pub topology_sound : (past : ℕ) × SoundTopology settings past topology
   pub is_self : IsOriginator settings self
   pub interfaces : length settings.interfaces ≡ count
   pub owners_are : AreOwners near.neighbours (length near.neighbours) owners
@@ -103,22 +103,22 @@ module _ (s : State) (now : ℕ) (self : Addr4) (owners : OwnerMap) (count : ℕ
   to_first _ _ _ (By_router {from = from} {to = to} t has) at =
       let mine : self ≡ from = sym (ap (λ (x : NetAddr). x.addr) at) in
       let key : RouterKey = record { from = from; to = to } in
-      let none = made.topology_sound.not_my_router key (subst (IsOriginator s.settings) mine made.is_self) in
-      let some = lookup-from_Contains router_equiv key (t, has.0) s.bases.topology.routers made.topology_sound.routers.distinct has.1 in
+      let none = made.topology_sound.1.not_my_router key (subst (IsOriginator s.settings) mine made.is_self) in
+      let some = lookup-from_Contains router_equiv key (t, has.0) s.bases.topology.routers made.topology_sound.1.routers.distinct has.1 in
       let both : None ≡ Some (t, has.0) = sym none ∙ some in
       absurd cc
   to_first _ _ _ (By_address {from = from} {a = a} t has) at =
       let mine : self ≡ from = sym (ap (λ (x : NetAddr). x.addr) at) in
       let key : AddressKey = record { from = from; addr = a } in
-      let none = made.topology_sound.not_my_address key (subst (IsOriginator s.settings) mine made.is_self) in
-      let some = lookup-from_Contains address_equiv key (t, has.0) s.bases.topology.addresses made.topology_sound.addresses.distinct has.1 in
+      let none = made.topology_sound.1.not_my_address key (subst (IsOriginator s.settings) mine made.is_self) in
+      let some = lookup-from_Contains address_equiv key (t, has.0) s.bases.topology.addresses made.topology_sound.1.addresses.distinct has.1 in
       let both : None ≡ Some (t, has.0) = sym none ∙ some in
       absurd cc
   to_first _ _ _ (By_network {from = from} {net = net} t has) at =
       let mine : self ≡ from = sym (ap (λ (x : NetAddr). x.addr) at) in
       let key : NetworkKey = record { from = from; net = net } in
-      let none = made.topology_sound.not_my_network key (subst (IsOriginator s.settings) mine made.is_self) in
-      let some = lookup-from_Contains network_equiv key (t, has.0) s.bases.topology.networks made.topology_sound.networks.distinct has.1 in
+      let none = made.topology_sound.1.not_my_network key (subst (IsOriginator s.settings) mine made.is_self) in
+      let some = lookup-from_Contains network_equiv key (t, has.0) s.bases.topology.networks made.topology_sound.1.networks.distinct has.1 in
       let both : None ≡ Some (t, has.0) = sym none ∙ some in
       absurd cc
 
