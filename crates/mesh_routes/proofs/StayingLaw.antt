@@ -23,7 +23,7 @@ use Rattle.mesh_atoms.specs.Base.{Has, host}
 use Rattle.mesh_atoms.specs.Codes.{metric_value}
 use Rattle.mesh_atoms.specs.Nodes.{IsBefore}
 use Rattle.mesh_atoms.specs.RelayGraphs.{IsMetricOver, IsRoutingGraph, IsFloodingGraph}
-use Rattle.mesh_atoms.specs.Routes.{RouteArc, To_neighbour, To_two_hop, By_router, By_address, By_network, IsOutside, IsParent, IsWayTo, IsNextHop, AreRoutes}
+use Rattle.mesh_atoms.specs.Routes.{RouteArc, To_neighbour, To_two_hop, By_router, By_address, By_network, IsOutside, IsParent, IsWayTo, IsNextHop}
 use Rattle.mesh_atoms.specs.State.{State, Topology, state_of, HasLink, HasTwoHop, HasSymmetric, HasAddress, IsOriginator}
 use Rattle.mesh_atoms.specs.Walk.{FirstNode, AtSelf, Through}
 use Rattle.mesh_routes.specs.Staying.{SameOwn, SameArcs, SameWays, SameTwoHops, RoutesStay, GraphsStay}

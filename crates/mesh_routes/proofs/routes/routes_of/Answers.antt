@@ -20,10 +20,12 @@ firsts_of-requires g c = rooted_in c.in_ok-graph.graph c.host-from.result c.in_o
 pub rows_of-requires : goal.rows_of-requires
 rows_of-requires g c = pairs_in c.in_ok-graph.graph c.host-from.result c.in_ok-certificate.certificate c.as_slice-2.result.now c.as_slice-2.ensures c.in_ok-certificate.ensures.certificate
 
-pub returns-clause-routes : goal.returns-clause-routes
-returns-clause-routes g c = λ s now settings near topology routes sound.
-    for_state c.args.settings.now (g.N.Near4.near c.args.near.now) c.args.topology.now now c.originator.result c.in_ok-owners.owners c.len-count.result c.in_ok-graph.graph c.in_ok-certificate.certificate.rows c.in_ok-firsts.firsts c.in_ok-ways.ways.keys c.in_ok-rows.rows
-    (made_of c.args.settings.now (g.N.Near4.near c.args.near.now) c.args.topology.now now c.originator.result c.host-from.result c.host-from.ensures c.in_ok-owners.owners c.len-count.result c.in_ok-graph.graph c.in_ok-certificate.certificate
-    c.as_slice.result.now c.as_slice-2.result.now c.as_slice.ensures c.as_slice-2.ensures c.in_ok-firsts.firsts c.in_ok-ways.ways.keys c.in_ok-rows.rows
-    sound (c.requires.sound.0, c.requires.sound.2) c.originator.ensures.is c.len-count.ensures c.in_ok-owners.ensures c.in_ok-graph.ensures.ordered c.in_ok-graph.ensures.arcs c.in_ok-certificate.ensures.certificate c.in_ok-firsts.ensures.right c.in_ok-firsts.ensures.all c.in_ok-ways.ensures c.in_ok-rows.ensures)
-    s settings near topology routes
+pub returns : goal.returns
+returns g c = record {
+  routes = λ s now settings near topology routes sound.
+      for_state c.args.settings.now (g.N.Near4.near c.args.near.now) c.args.topology.now now c.originator.result c.in_ok-owners.owners c.len-count.result c.in_ok-graph.graph c.in_ok-certificate.certificate.rows c.in_ok-firsts.firsts c.in_ok-ways.ways.keys c.in_ok-rows.rows
+      (made_of c.args.settings.now (g.N.Near4.near c.args.near.now) c.args.topology.now now c.originator.result c.host-from.result c.host-from.ensures c.in_ok-owners.owners c.len-count.result c.in_ok-graph.graph c.in_ok-certificate.certificate
+      c.as_slice.result.now c.as_slice-2.result.now c.as_slice.ensures c.as_slice-2.ensures c.in_ok-firsts.firsts c.in_ok-ways.ways.keys c.in_ok-rows.rows
+      sound (c.requires.sound.0, c.requires.sound.2) c.originator.ensures.is c.len-count.ensures c.in_ok-owners.ensures c.in_ok-graph.ensures.ordered c.in_ok-graph.ensures.arcs c.in_ok-certificate.ensures.certificate c.in_ok-firsts.ensures.right c.in_ok-firsts.ensures.all c.in_ok-ways.ensures c.in_ok-rows.ensures)
+      s settings near topology routes;
+}
