@@ -14,12 +14,14 @@ use Rattle.mesh_atoms.specs.declared.tuples.Neighbour.{Neighbour}
 use Rattle.mesh_atoms.specs.declared.tuples.LinkState.TheVariants.{Symmetric as Is_symmetric}
 use Rattle.mesh_atoms.specs.declared.settings.RouterSettings.{RouterSettings}
 use Rattle.mesh_atoms.specs.declared.tuples.Relays.{Relays}
-use Rattle.mesh_atoms.specs.declared.graphs.NeighbourGraph.{NeighbourGraph}
 use Rattle.mesh_atoms.specs.Base.{Base, Has, base_of}
-use Rattle.mesh_atoms.specs.RelayGraphs.{IsMetricOver, IsRoutingGraph, IsFloodingGraph, AreRelaysOf, AreRelays}
+use Rattle.mesh_atoms.specs.RelayGraphs.{AreRelaysOf, AreRelays}
+use Rattle.mesh_atoms.specs.Routes.{IsWayTo}
 use Rattle.mesh_atoms.specs.Sound.{SoundNeighbourhood}
 use Rattle.mesh_atoms.specs.State.{State, Neighbourhood, state_of, is_symmetric, link_at, HasLink, HasTwoHop, HasSymmetric}
 use Rattle.mesh_atoms.proofs.Lookups.{link_equiv, tests_symmetric}
+use Rattle.mesh_routes.specs.Staying.{SameWays, SameTwoHops}
+use Rattle.mesh_routes.proofs.StayingLaw.{graphs_stay}
 use Rattle.mesh_renewal.specs.declared.near.LinkImage.{LinkImage}
 use Rattle.mesh_renewal.specs.declared.near.TwoHopImage.{TwoHopImage}
 use Rattle.mesh_renewal.specs.declared.near.NeighbourImage.{NeighbourImage}
@@ -28,13 +30,6 @@ use Rattle.mesh_renewal.specs.declared.near.NearImage.{NearImage}
 use Rattle.mesh_renewal.specs.Images.{link_image, two_hop_image, neighbour_image, ShowsNear}
 use Rattle.mesh_renewal.specs.Kept.{AreRelaysFor}
 use Rattle.mesh_renewal.proofs.Lists.{carried, carried_on}
-
--- what one state has of its neighbourhood, the other has at its own moment
-pub record Carries (s t : State) (later : ℕ) : Type 0 where
-  pub neighbour : (o : Addr4) (n : Neighbour) → HasSymmetric s o n → HasSymmetric t o n
-  pub link : (i : ℕ) (key : LinkKey) (link : Link) (m : Metric) → HasLink s i key link → link.link_out ≡ Some m →
-      (other : Link) × HasLink t i key other × (state_of other later ≡ Is_symmetric) × (other.link_out ≡ Some m)
-  pub two_hop : (i : ℕ) (key : TwoHopKey) (tuple : TwoHop) → HasTwoHop s i key tuple → HasTwoHop t i key tuple
 
 -- a link with a known metric is SYMMETRIC
 known_symmetric : (s : State) (now : ℕ) → SoundNeighbourhood s.settings now s.bases.neighbourhood → (i : ℕ) (key : LinkKey) (link : Link) (until : ℕ) (m : Metric) →
@@ -86,63 +81,38 @@ module _ (image : NearImage) (s t : State) (now later : ℕ) (shows : ShowsNear 
       (omega (arith, sound_later.two_hop_interfaces, inside)) base at (key, (tuple, until)) has in
       (other, at_other, (d.1.1, subst (λ (x : TwoHopImage). Contains other (x.key, (x.tuple, d.1.1))) is within))
 
-  pub carries : Carries s t later
-  carries = record { neighbour = neighbour_carried; link = link_carried; two_hop = two_hop_carried }
+  way_carried : (n : Neighbour) (i : ℕ) (key : LinkKey) (m : Metric) → IsWayTo s now n i key m → IsWayTo t later n i key m
+  way_carried n i key m way =
+      let (other, stands, symmetric, out) = link_carried i key way.link m way.stands way.out in record { link = other; stands = stands; state = symmetric; of_it = way.of_it; out = out }
 
--- Metrics over an interface
-
-abbrev pub IsOutOver : State → ℕ → ℕ → Neighbour → Metric → Type 0
-IsOutOver s now i n k = (key : LinkKey) × (link : Link) × HasLink s i key link × Contains n.addrs key.addr × (state_of link now ≡ Is_symmetric) × (link.link_out ≡ Some k)
-
-out_over : (s t : State) (now later : ℕ) → Carries s t later → (i : ℕ) (n : Neighbour) (k : Metric) → IsOutOver s now i n k → IsOutOver t later i n k
-out_over s t now later to i n k (key, link, has, within, _, out) = let (other, stands, symmetric, known) = to.link i key link k has out in (key, other, stands, within, symmetric, known)
-
-through : {P Q R : Type 0} → P ↔ Q → (Q → R) → (R → Q) → P ↔ R
-through both to back = (λ p. to (both.0 p), λ r. both.1 (back r))
-
--- from one state to another, where each has what the other has
-module _ (s t : State) (now later : ℕ) (to : Carries s t later) (back : Carries t s now) where
-  metric_over : (i : ℕ) (n : Neighbour) (m : Metric) → IsMetricOver s now i n m → IsMetricOver t later i n m
-  metric_over i n m (is, least) = (out_over s t now later to i n m is, λ k by. least k (out_over t s later now back i n k by))
-
-module _ (s t : State) (now later : ℕ) (to : Carries s t later) (back : Carries t s now) where
-  routing_graph : (g : NeighbourGraph) → IsRoutingGraph s g → IsRoutingGraph t g
-  routing_graph g is = record {
-    near = λ e. through (is.near e) (λ (n, m, has, known, at, will). (n, m, to.neighbour e.id n has, known, at, will)) (λ (n, m, has, known, at, will). (n, m, back.neighbour e.id n has, known, at, will));
-    direct = λ e. through (is.direct e) (λ (o, n, m, (has, within), known, at). (o, n, m, (to.neighbour o n has, within), known, at)) (λ (o, n, m, (has, within), known, at). (o, n, m, (back.neighbour o n has, within), known, at));
-    far = λ e. through (is.far e)
-        (λ (i, key, tuple, n, k, m, two_hop, (has, within), known, addr, in_known, at). (i, key, tuple, n, k, m, to.two_hop i key tuple two_hop, (to.neighbour e.via n has, within), known, addr, in_known, at))
-        (λ (i, key, tuple, n, k, m, two_hop, (has, within), known, addr, in_known, at). (i, key, tuple, n, k, m, back.two_hop i key tuple two_hop, (back.neighbour e.via n has, within), known, addr, in_known, at));
+-- so both have the same neighbours, ways and 2-hop tuples
+module _ (image : NearImage) (s t : State) (now later : ℕ) (shows : ShowsNear image s.settings s.bases.neighbourhood) (shows_later : ShowsNear image t.settings t.bases.neighbourhood)
+    (sound : SoundNeighbourhood s.settings now s.bases.neighbourhood) (sound_later : SoundNeighbourhood t.settings later t.bases.neighbourhood) where
+  pub ways_again : SameWays s now t later
+  ways_again = record {
+    neighbours = λ o n. (neighbour_carried image s t now later shows shows_later sound sound_later o n, neighbour_carried image t s later now shows_later shows sound_later sound o n);
+    ways = λ n i key m. (way_carried image s t now later shows shows_later sound sound_later n i key m, way_carried image t s later now shows_later shows sound_later sound n i key m);
   }
 
-  flooding_graph : (i : ℕ) (g : NeighbourGraph) → IsFloodingGraph s now i g → IsFloodingGraph t later i g
-  flooding_graph i g is =
-      let over = metric_over s t now later to back i in
-      let back_over = metric_over t s later now back to i in record {
-        near = λ e. through (is.near e) (λ (n, m, has, out, at, will). (n, m, to.neighbour e.id n has, over n m out, at, will)) (λ (n, m, has, out, at, will). (n, m, back.neighbour e.id n has, back_over n m out, at, will));
-        direct = λ e. through (is.direct e)
-            (λ (o, n, m, (has, within), out, at). (o, n, m, (to.neighbour o n has, within), over n m out, at))
-            (λ (o, n, m, (has, within), out, at). (o, n, m, (back.neighbour o n has, within), back_over n m out, at));
-        far = λ e. through (is.far e)
-            (λ (key, tuple, n, k, m, two_hop, (has, within), out, addr, known, at). (key, tuple, n, k, m, to.two_hop i key tuple two_hop, (to.neighbour e.via n has, within), over n k out, addr, known, at))
-            (λ (key, tuple, n, k, m, two_hop, (has, within), out, addr, known, at). (key, tuple, n, k, m, back.two_hop i key tuple two_hop, (back.neighbour e.via n has, within), back_over n k out, addr, known, at));
-      }
+  pub two_hops_again : SameTwoHops s t
+  two_hops_again i key x = (two_hop_carried image s t now later shows shows_later sound sound_later i key x, two_hop_carried image t s later now shows_later shows sound_later sound i key x)
 
-  relays_carried : length s.settings.interfaces ≡ length t.settings.interfaces → s.relays ≡ t.relays → AreRelays s now → AreRelays t later
-  relays_carried count same are = record {
-    interfaces = ap (λ (r : Relays). length r.flooding) (sym same) ∙ (are.interfaces ∙ count);
-    flooding = λ i relays at.
-        let (g, is, chosen) = are.flooding i relays (subst (λ (r : Relays). slice_get r.flooding i ≡ Some relays) (sym same) at) in (g, flooding_graph i g is, chosen);
-    routing = let (g, is, chosen) = are.routing in (g, routing_graph g is, subst (λ (r : Relays). AreRelaysOf g r.routing) same chosen);
-  }
+-- the same neighbours, ways and 2-hop tuples keep the relays
+pub relays_stay : {s t : State} {now later : ℕ} → SameWays s now t later → SameTwoHops s t → length t.settings.interfaces ≡ length s.settings.interfaces → t.relays ≡ s.relays → AreRelays s now → AreRelays t later
+relays_stay {s} {t} {now} {later} ways two_hops count same are = record {
+  interfaces = ap (λ (r : Relays). length r.flooding) same ∙ (are.interfaces ∙ sym count);
+  flooding = λ i relays at.
+      let (g, is, chosen) = are.flooding i relays (subst (λ (r : Relays). slice_get r.flooding i ≡ Some relays) same at) in (g, (graphs_stay s t now later g ways two_hops).1 i is, chosen);
+  routing = let (g, is, chosen) = are.routing in (g, (graphs_stay s t now later g ways two_hops).0 is, subst (λ (r : Relays). AreRelaysOf g r.routing) (sym same) chosen);
+}
 
 -- relays that fit one router fit each with the same neighbourhood
 pub fit_each : (settings : RouterSettings) (near : Neighbourhood) (image : NearImage) (now : ℕ) (relays : Relays) → SoundNeighbourhood settings now near → ShowsNear image settings near →
     ((s : State) → s.settings ≡ settings → s.bases.neighbourhood ≡ near → s.relays ≡ relays → AreRelays s now) → AreRelaysFor image relays
 fit_each settings near image now relays sound shows made = λ t later shows_later sound_later is.
     let s : State = record t { settings = settings; bases = record t.bases { neighbourhood = near } } in
-    relays_carried s t now later (carries image s t now later shows shows_later sound sound_later) (carries image t s later now shows_later shows sound_later sound)
-    (shows.interfaces ∙ sym shows_later.interfaces) refl (made s refl refl is)
+    relays_stay (ways_again image s t now later shows shows_later sound sound_later) (two_hops_again image s t now later shows shows_later sound sound_later)
+    (shows_later.interfaces ∙ sym shows.interfaces) refl (made s refl refl is)
 
 -- relays that fit each router with a neighbourhood fit this one
 pub fit_this : (image : NearImage) (relays : Relays) (settings : RouterSettings) (near : Neighbourhood) (now : ℕ) → AreRelaysFor image relays → ShowsNear image settings near → SoundNeighbourhood settings now near →

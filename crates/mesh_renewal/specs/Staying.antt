@@ -1,15 +1,10 @@
 -- Events that leave relays, advertised rows and routes as they are.
-use Rattle.std.specs.Prelude.{◌≡◌, ℕ, Some}
-use Rattle.mesh_atoms.specs.declared.tuples.LinkKey.{LinkKey}
-use Rattle.mesh_atoms.specs.declared.tuples.Link.{Link}
+use Rattle.std.specs.Prelude.{◌≡◌, ℕ}
 use Rattle.mesh_atoms.specs.Sound.{Sound, SoundTopology}
-use Rattle.mesh_atoms.specs.State.{Neighbourhood, Bases, State, is_symmetric, link_at}
+use Rattle.mesh_atoms.specs.State.{Bases, State}
 use Rattle.mesh_topo.specs.Same.{SameAdvertised}
+use Rattle.mesh_routes.specs.Staying.{StaySymmetric}
 use Rattle.mesh_machine.specs.Renewal.{Renews}
-
--- each link is SYMMETRIC at now exactly where it was so at last
-abbrev pub StaySymmetric : Neighbourhood → ℕ → ℕ → Type 0
-StaySymmetric near last now = (i : ℕ) (key : LinkKey) (e : Link × ℕ) → link_at near i key ≡ Some e → is_symmetric e.0 now ≡ is_symmetric e.0 last
 
 -- an event at now leaves these bases, in which nothing has changed that relays, advertised rows and routes depend on: the neighbourhood is
 -- as it was at the last event, each link SYMMETRIC where it was so then, and others advertise the same

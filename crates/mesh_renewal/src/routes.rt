@@ -1,5 +1,5 @@
 //! The routes of a router.
-ghost use Rattle.std.specs.Prelude.{◌≡◌, [], OnOk};
+ghost use Rattle.std.specs.Prelude.{◌≡◌, ℕ, [], OnOk};
 ghost use Rattle.mesh_atoms.specs.declared.addr.Addr4.{Addr4};
 ghost use Rattle.mesh_atoms.specs.Routes.{AreRoutes};
 ghost use Rattle.mesh_atoms.specs.Sound.{SoundNeighbourhood, SoundTopology};
@@ -44,25 +44,24 @@ impl KeptRoutes {
         }
     }
 
-    /// Makes them the routes of a router with these bases and settings: they are made anew where these aren't those of which they
-    /// were made, but for moments.
+    /// Makes them the routes of a router with these bases and settings, at each moment at which its neighbourhood is sound: they are
+    /// made anew where these aren't those of which they were made, but for moments.
     pub(crate) fn renew<N: Near4, B: Bases>(
         &mut self,
         alloc: Global,
         near: &N,
         topology: &Topology<B>,
         settings: &RouterSettings,
-        now: u64,
     ) -> Result<(), AllocError>
-        requires near { SoundNeighbourhood settings.now now (N.near near.now) }
-        requires topology { SoundTopology settings.now now topology.now }
-        ensures { OnOk result ((s : State) → s.settings ≡ settings.now → s.bases.neighbourhood ≡ N.near near.now → s.bases.topology ≡ topology.now
-            → s.routes ≡ self.new → (self : Addr4) × AreRoutes s now self) }
+        requires sound { (now : ℕ) × SoundNeighbourhood settings.now now (N.near near.now) × SoundTopology settings.now now topology.now }
+        ensures routes { OnOk result ((s : State) (now : ℕ) → s.settings ≡ settings.now → s.bases.neighbourhood ≡ N.near near.now
+            → s.bases.topology ≡ topology.now → s.routes ≡ self.new → SoundNeighbourhood settings.now now (N.near near.now)
+            → (self : Addr4) × AreRoutes s now self) }
     {
         if self.basis.shows(near, topology, settings) {
             return Ok(());
         }
-        let routes = routes_of(alloc, near, topology, settings, now)?;
+        let routes = routes_of(alloc, near, topology, settings)?;
         let basis = RouteBasis::of(alloc, near, topology, settings)?;
         *self = KeptRoutes { routes, basis };
         Ok(())

@@ -5,8 +5,6 @@ use Rattle.std.specs.BTreeMap as tree
 use Rattle.std.proofs.lemmas.Bool.{cases_Bool}
 use Rattle.std.proofs.lemmas.Map.Views.{Contains-from_lookup, lookup-from_Contains}
 use Rattle.std.proofs.lemmas.Option.{slice_get_within}
-use Rattle.std.specs.Cmp.{IsEquivalence}
-use Rattle.std.proofs.lemmas.Cmp.{nat_eq_equiv, on_equiv, and_equiv}
 use Rattle.mesh_atoms.specs.declared.addr.Addr4.{Addr4}
 use Rattle.mesh_atoms.specs.declared.addr.NetAddr.{NetAddr}
 use Rattle.mesh_atoms.specs.declared.metric.Metric.{Metric}
@@ -20,7 +18,7 @@ use Rattle.mesh_atoms.specs.declared.graphs.Graph.{Graph}
 use Rattle.mesh_atoms.specs.declared.graphs.PathRow.{PathRow}
 use Rattle.mesh_atoms.specs.declared.graphs.Route.{Route}
 use Rattle.mesh_atoms.specs.declared.settings.RouterSettings.{RouterSettings}
-use Rattle.mesh_atoms.specs.Base.{base_of, host, router_eq, address_eq, network_eq}
+use Rattle.mesh_atoms.specs.Base.{base_of, host}
 use Rattle.mesh_atoms.specs.Codes.{metric_value}
 use Rattle.mesh_atoms.specs.Live.{HasSymmetricOf}
 use Rattle.mesh_atoms.specs.Words.{IsLeastMetric}
@@ -28,7 +26,7 @@ use Rattle.mesh_atoms.specs.Routes.{RouteArc, To_neighbour, To_two_hop, By_route
 use Rattle.mesh_atoms.specs.Sound.{SoundNeighbourhood, SoundTopology}
 use Rattle.mesh_atoms.specs.State.{State, Neighbourhood, Topology, IsOriginator, HasAddress, link_at, is_symmetric}
 use Rattle.mesh_atoms.specs.Walk.{Walk, Least, FirstNode, AtSelf, Through}
-use Rattle.mesh_atoms.proofs.Lookups.{same_link, link_equiv, tests_symmetric}
+use Rattle.mesh_atoms.proofs.Lookups.{same_link, link_equiv, tests_symmetric, router_equiv, address_equiv, network_equiv}
 use Rattle.mesh_atoms.proofs.Nets.{same_net}
 use Rattle.mesh_paths.specs.Paths.{IsCertificate}
 use Rattle.mesh_paths.proofs.Rows.{of_each}
@@ -49,7 +47,7 @@ use Rattle.mesh_routes.proofs.Passes.{at_place, place_of}
 -- what the parts of the making say
 pub record Made (settings : RouterSettings) (near : Neighbourhood) (topology : Topology) (now : ℕ) (self : Addr4) (owners : OwnerMap) (count : ℕ) (g : Graph) (rows : List PathRow) (firsts : NodeMap) (ways : List Way) (routes : List Route) : Type 0 where
   pub near_sound : SoundNeighbourhood settings now near
-  pub topology_sound : SoundTopology settings now topology
+  pub topology_sound : (past : ℕ) × SoundTopology settings past topology
   pub is_self : IsOriginator settings self
   pub interfaces : length settings.interfaces ≡ count
   pub owners_are : AreOwners near.neighbours (length near.neighbours) owners
@@ -67,15 +65,6 @@ pub way_inverse : (i : ℕ) (key : LinkKey) (o : Option Owner) (m : Option Metri
 way_inverse i key None m w e = absurd cc
 way_inverse i key (Some owner) None w e = absurd cc
 way_inverse i key (Some owner) (Some k) w e = (owner, refl, (k, refl, cc))
-
-router_equiv : IsEquivalence router_eq
-router_equiv = and_equiv (on_equiv (λ (k : RouterKey). k.from.0) nat_eq_equiv) (on_equiv (λ (k : RouterKey). k.to.0) nat_eq_equiv)
-
-address_equiv : IsEquivalence address_eq
-address_equiv = and_equiv (on_equiv (λ (k : AddressKey). k.from.0) nat_eq_equiv) (on_equiv (λ (k : AddressKey). k.addr.0) nat_eq_equiv)
-
-network_equiv : IsEquivalence network_eq
-network_equiv = and_equiv (on_equiv (λ (k : NetworkKey). k.from.0) nat_eq_equiv) (and_equiv (on_equiv (λ (k : NetworkKey). k.net.addr.0) nat_eq_equiv) (on_equiv (λ (k : NetworkKey). k.net.prefix) nat_eq_equiv))
 
 module _ (s : State) (now : ℕ) (self : Addr4) (owners : OwnerMap) (count : ℕ) (g : Graph) (rows : List PathRow) (firsts : NodeMap) (ways : List Way)
     (made : Made s.settings s.bases.neighbourhood s.bases.topology now self owners count g rows firsts ways s.routes) where
@@ -103,22 +92,22 @@ module _ (s : State) (now : ℕ) (self : Addr4) (owners : OwnerMap) (count : ℕ
   to_first _ _ _ (By_router {from = from} {to = to} t has) at =
       let mine : self ≡ from = sym (ap (λ (x : NetAddr). x.addr) at) in
       let key : RouterKey = record { from = from; to = to } in
-      let none = made.topology_sound.not_my_router key (subst (IsOriginator s.settings) mine made.is_self) in
-      let some = lookup-from_Contains router_equiv key (t, has.0) s.bases.topology.routers made.topology_sound.routers.distinct has.1 in
+      let none = made.topology_sound.1.not_my_router key (subst (IsOriginator s.settings) mine made.is_self) in
+      let some = lookup-from_Contains router_equiv key (t, has.0) s.bases.topology.routers made.topology_sound.1.routers.distinct has.1 in
       let both : None ≡ Some (t, has.0) = sym none ∙ some in
       absurd cc
   to_first _ _ _ (By_address {from = from} {a = a} t has) at =
       let mine : self ≡ from = sym (ap (λ (x : NetAddr). x.addr) at) in
       let key : AddressKey = record { from = from; addr = a } in
-      let none = made.topology_sound.not_my_address key (subst (IsOriginator s.settings) mine made.is_self) in
-      let some = lookup-from_Contains address_equiv key (t, has.0) s.bases.topology.addresses made.topology_sound.addresses.distinct has.1 in
+      let none = made.topology_sound.1.not_my_address key (subst (IsOriginator s.settings) mine made.is_self) in
+      let some = lookup-from_Contains address_equiv key (t, has.0) s.bases.topology.addresses made.topology_sound.1.addresses.distinct has.1 in
       let both : None ≡ Some (t, has.0) = sym none ∙ some in
       absurd cc
   to_first _ _ _ (By_network {from = from} {net = net} t has) at =
       let mine : self ≡ from = sym (ap (λ (x : NetAddr). x.addr) at) in
       let key : NetworkKey = record { from = from; net = net } in
-      let none = made.topology_sound.not_my_network key (subst (IsOriginator s.settings) mine made.is_self) in
-      let some = lookup-from_Contains network_equiv key (t, has.0) s.bases.topology.networks made.topology_sound.networks.distinct has.1 in
+      let none = made.topology_sound.1.not_my_network key (subst (IsOriginator s.settings) mine made.is_self) in
+      let some = lookup-from_Contains network_equiv key (t, has.0) s.bases.topology.networks made.topology_sound.1.networks.distinct has.1 in
       let both : None ≡ Some (t, has.0) = sym none ∙ some in
       absurd cc
 

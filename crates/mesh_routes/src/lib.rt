@@ -7,6 +7,7 @@ mod bases;
 mod choice;
 mod costs;
 mod firsts;
+mod laws;
 mod own;
 mod owners;
 mod routes;
@@ -15,6 +16,7 @@ mod set;
 mod ways;
 
 pub use choice::graph_of;
+pub use laws::routes_and_graphs_stay;
 pub use mesh_atoms::Route;
 pub use routes::routes_of;
 pub use set::RoutingSet;

@@ -6,7 +6,7 @@ use Rattle.mesh_renewal.proofs.renewal.renew.Goals as goal
 
 pub returns-clause-renews : goal.returns-clause-renews
 returns-clause-renews g c = λ before s settings_before rows_before ansn_before emptied_before settings near topology has.
-    let (self, routes) = c.in_ok-renew-2.ensures s settings near topology has.routes in
+    let (self, routes) = c.in_ok-renew-2.ensures.routes s c.args.now settings near topology has.routes c.requires.near in
     record {
       settings = settings ∙ sym settings_before;
       bases_are = refl;
