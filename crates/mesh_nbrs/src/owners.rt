@@ -107,6 +107,14 @@ pub fn end_owned<T: Table<Addr4, Neighbour>, E: Ending<Addr4, Neighbour>>(
     }
 }
 
+// The originator that is noted for the address.
+fn owner(owners: &IndexMap<Addr4, Addr4>, addr: Addr4) -> Option<Addr4>
+    ensures { result ≡ owner_of owners.now.entries addr }
+{
+    let originator = owners.get(&addr)?;
+    Some(*originator)
+}
+
 // Adds the originator that is noted for the address.
 fn add_owner(
     found: &mut IndexSet<Addr4>,
@@ -115,8 +123,8 @@ fn add_owner(
 ) -> Result<(), AllocError>
     ensures { OnOk result ((o : _) → contains addr_eq found.new o ≡ cond (is_owner (owner_of owners.now.entries addr) o) true (contains addr_eq found.old o)) }
 {
-    if let Some(originator) = owners.get(&addr) {
-        found.insert(*originator)?;
+    if let Some(originator) = owner(owners, addr) {
+        found.insert(originator)?;
     }
     Ok(())
 }
