@@ -1,5 +1,5 @@
 //! The map from each address to the originator of the neighbour that has it.
-ghost use Rattle.std.specs.Prelude.{◌≡◌, ◌≢◌, ◌↔◌, IfOk, IsSome, OnOk, Contains, None, Some, length, ◌+◌, ◌&&◌, cond, true, is_some, if◌then◌else◌};
+ghost use Rattle.std.specs.Prelude.{◌≡◌, ◌≢◌, ◌↔◌, IfOk, IsSome, OnOk, OnErr, Contains, None, Some, length, ◌+◌, ◌&&◌, cond, true, is_some, if◌then◌else◌};
 ghost use Rattle.std.specs.List.{list_any};
 ghost use Rattle.indexmap.specs.IndexSet.{contains};
 ghost use Rattle.mesh_atoms.specs.declared.addr.Addr4.{Addr4};
@@ -24,6 +24,19 @@ pub fn disown(owners: &mut IndexMap<Addr4, Addr4>, addrs: &[Addr4])
     }
 }
 
+// Notes the originator for the address.
+fn own(
+    owners: &mut IndexMap<Addr4, Addr4>,
+    addr: Addr4,
+    originator: Addr4,
+) -> Result<(), AllocError>
+    ensures ok { OnOk result ((a : Addr4) → owner_of owners.new.entries a ≡ cond (addr_eq addr a) (Some originator) (owner_of owners.old.entries a)) }
+    ensures err { OnErr result (owners.new.entries ≡ owners.old.entries) }
+{
+    owners.insert(addr, originator)?;
+    Ok(())
+}
+
 /// Notes the originator for each of the addresses.
 pub fn own_all(
     owners: &mut IndexMap<Addr4, Addr4>,
@@ -34,7 +47,7 @@ pub fn own_all(
     ensures others { (a : Addr4) → (Contains addrs.now a → ⊥) → owner_of owners.new.entries a ≡ owner_of owners.old.entries a }
 {
     for addr in addrs {
-        owners.insert(*addr, originator)?;
+        own(owners, *addr, originator)?;
     }
     Ok(())
 }
@@ -94,6 +107,28 @@ pub fn end_owned<T: Table<Addr4, Neighbour>, E: Ending<Addr4, Neighbour>>(
     }
 }
 
+// The originator that is noted for the address.
+fn owner(owners: &IndexMap<Addr4, Addr4>, addr: Addr4) -> Option<Addr4>
+    ensures { result ≡ owner_of owners.now.entries addr }
+{
+    let originator = owners.get(&addr)?;
+    Some(*originator)
+}
+
+// Adds the originator that is noted for the address.
+fn add_owner(
+    found: &mut IndexSet<Addr4>,
+    owners: &IndexMap<Addr4, Addr4>,
+    addr: Addr4,
+) -> Result<(), AllocError>
+    ensures { OnOk result ((o : _) → contains addr_eq found.new o ≡ cond (is_owner (owner_of owners.now.entries addr) o) true (contains addr_eq found.old o)) }
+{
+    if let Some(originator) = owner(owners, addr) {
+        found.insert(originator)?;
+    }
+    Ok(())
+}
+
 // The originators that are noted for the addresses.
 fn owners_of(
     alloc: Global,
@@ -104,9 +139,7 @@ fn owners_of(
 {
     let mut found = IndexSet::new(alloc);
     for addr in addrs {
-        if let Some(originator) = owners.get(addr) {
-            found.insert(*originator)?;
-        }
+        add_owner(&mut found, owners, *addr)?;
     }
     Ok(found)
 }
