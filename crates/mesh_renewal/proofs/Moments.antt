@@ -1,5 +1,5 @@
 -- What follows from a router's bases depends on no moment.
-use Rattle.std.proofs.Common.{◌≡◌, ◌↔◌, ℕ, ◌<◌, inl, inr, refl, sym, ◌∙◌, ap, subst, arith, [], length, Some, None, map, Contains}
+use Rattle.std.proofs.Common.{◌≡◌, ℕ, ◌<◌, inl, inr, refl, sym, ◌∙◌, ap, subst, arith, [], length, Some, None, map, Contains}
 use Rattle.std.specs.Prelude.{slice_get}
 use Rattle.std.proofs.lemmas.Bool.{cases_Bool}
 use Rattle.std.proofs.lemmas.Map.Views.{lookup-from_Contains}
@@ -108,11 +108,11 @@ relays_stay {s} {t} {now} {later} ways two_hops count same are = record {
 
 -- relays that fit one router fit each with the same neighbourhood
 pub fit_each : (settings : RouterSettings) (near : Neighbourhood) (image : NearImage) (now : ℕ) (relays : Relays) → SoundNeighbourhood settings now near → ShowsNear image settings near →
-    ((s : State) → s.settings ≡ settings → s.bases.neighbourhood ≡ near → s.relays ≡ relays → AreRelays s now) → AreRelaysFor image relays
+    ((s : State) (now : ℕ) → s.settings ≡ settings → s.bases.neighbourhood ≡ near → s.relays ≡ relays → SoundNeighbourhood settings now near → AreRelays s now) → AreRelaysFor image relays
 fit_each settings near image now relays sound shows made = λ t later shows_later sound_later is.
     let s : State = record t { settings = settings; bases = record t.bases { neighbourhood = near } } in
     relays_stay (ways_again image s t now later shows shows_later sound sound_later) (two_hops_again image s t now later shows shows_later sound sound_later)
-    (shows_later.interfaces ∙ sym shows.interfaces) refl (made s refl refl is)
+    (shows_later.interfaces ∙ sym shows.interfaces) refl (made s now refl refl is sound)
 
 -- relays that fit each router with a neighbourhood fit this one
 pub fit_this : (image : NearImage) (relays : Relays) (settings : RouterSettings) (near : Neighbourhood) (now : ℕ) → AreRelaysFor image relays → ShowsNear image settings near → SoundNeighbourhood settings now near →

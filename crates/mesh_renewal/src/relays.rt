@@ -1,5 +1,5 @@
 //! The relays that a router chooses.
-ghost use Rattle.std.specs.Prelude.{◌≡◌, IfOk, OnOk};
+ghost use Rattle.std.specs.Prelude.{◌≡◌, ℕ, IfOk, OnOk};
 ghost use Rattle.mesh_atoms.specs.RelayGraphs.{AreRelays};
 ghost use Rattle.mesh_atoms.specs.Sound.{SoundNeighbourhood};
 ghost use Rattle.mesh_atoms.specs.State.{State};
@@ -36,10 +36,10 @@ fn relays_of<N: Near4>(
     alloc: Global,
     near: &N,
     settings: &RouterSettings,
-    now: u64,
 ) -> Result<Relays, AllocError>
-    requires sound { SoundNeighbourhood settings.now now (N.near near.now) }
-    ensures { IfOk result (λ relays. (s : State) → s.settings ≡ settings.now → s.bases.neighbourhood ≡ N.near near.now → s.relays ≡ relays → AreRelays s now) }
+    requires sound { (now : ℕ) × SoundNeighbourhood settings.now now (N.near near.now) }
+    ensures { IfOk result (λ relays. (s : State) (now : ℕ) → s.settings ≡ settings.now → s.bases.neighbourhood ≡ N.near near.now → s.relays ≡ relays
+        → SoundNeighbourhood settings.now now (N.near near.now) → AreRelays s now) }
 {
     let mut flooding = Seq::new(alloc);
     for iface in 0..settings.interfaces.len() {
@@ -77,22 +77,22 @@ impl KeptRelays {
         })
     }
 
-    /// Makes them the relays of a router with this neighbourhood: they are chosen anew where it isn't the one from which they
-    /// were chosen, but for moments.
+    /// Makes them the relays of a router with this neighbourhood, at each moment at which it is sound: they are chosen anew where it
+    /// isn't the one from which they were chosen, but for moments.
     pub(crate) fn renew<N: Near4>(
         &mut self,
         alloc: Global,
         near: &N,
         settings: &RouterSettings,
-        now: u64,
     ) -> Result<(), AllocError>
-        requires sound { SoundNeighbourhood settings.now now (N.near near.now) }
-        ensures { OnOk result ((s : State) → s.settings ≡ settings.now → s.bases.neighbourhood ≡ N.near near.now → s.relays ≡ self.new → AreRelays s now) }
+        requires sound { (now : ℕ) × SoundNeighbourhood settings.now now (N.near near.now) }
+        ensures { OnOk result ((s : State) (now : ℕ) → s.settings ≡ settings.now → s.bases.neighbourhood ≡ N.near near.now → s.relays ≡ self.new
+            → SoundNeighbourhood settings.now now (N.near near.now) → AreRelays s now) }
     {
         if self.image.shows(near, settings) {
             return Ok(());
         }
-        let relays = relays_of(alloc, near, settings, now)?;
+        let relays = relays_of(alloc, near, settings)?;
         let image = NearImage::of(alloc, near, settings)?;
         *self = KeptRelays { relays, image };
         Ok(())

@@ -54,7 +54,7 @@ pub fn renew<N: Near4, B: Bases>(
     ensures next_hello { derived.new.next_hello ≡ derived.old.next_hello }
     ensures next_tc { derived.new.next_tc ≡ derived.old.next_tc }
 {
-    derived.relays.renew(alloc, near, settings, now)?;
+    derived.relays.renew(alloc, near, settings)?;
     derived.renew_rows(alloc, near, settings, now)?;
     derived.routes.renew(alloc, near, topology, settings)?;
     derived.last = now;

@@ -49,7 +49,7 @@ GraphsStay =
 abbrev pub StaySymmetric : Neighbourhood → ℕ → ℕ → Type 0
 StaySymmetric near last now = (i : ℕ) (key : LinkKey) (e : Link × ℕ) → link_at near i key ≡ Some e → is_symmetric e.0 now ≡ is_symmetric e.0 last
 
--- the same settings and the same neighbourhood, each link SYMMETRIC where it was so, and others that advertise the same, give the same of all
+-- the same settings and neighbourhood, each link SYMMETRIC where it was so, and others that advertise the same: then all of that is the same
 abbrev pub BasesGiveSame : Type 0
 BasesGiveSame =
     (s t : State) (now later : ℕ) → SoundNeighbourhood s.settings now s.bases.neighbourhood →

@@ -5,37 +5,31 @@ use Rattle.mesh_atoms.specs.declared.addr.Addr4.{Addr4}
 use Rattle.mesh_atoms.specs.declared.settings.RouterSettings.{RouterSettings}
 use Rattle.mesh_atoms.specs.declared.tuples.Relays.{Relays}
 use Rattle.mesh_atoms.specs.RelayGraphs.{AreRelaysOf, IsFloodingGraph}
-use Rattle.mesh_atoms.specs.Sound.{SoundNeighbourhood}
-use Rattle.mesh_atoms.specs.State.{Neighbourhood}
 use Rattle.mesh_renewal.proofs.Pushed.{at_pushed}
 use Rattle.mesh_renewal.proofs.relays.relays_of.Goals as goal
 
 pub loop-iface-preserved : goal.loop-iface-preserved
 loop-iface-preserved g c = record {
   count = ap (λ (xs : List (List Addr4)). length xs) c.in_ok-push.ensures.ok ∙ (length_push c.loop-iface.flooding c.in_ok-chosen.chosen ∙ ap (λ n. n + 1) c.loop-iface.invariant.count);
-  chosen = λ s settings near i relays at.
-      let sound : SoundNeighbourhood s.settings c.args.now s.bases.neighbourhood = subst (λ (n : Neighbourhood). SoundNeighbourhood s.settings c.args.now n) (sym near)
-      (subst (λ (r : RouterSettings). SoundNeighbourhood r c.args.now (g.N.Near4.near c.args.near.now)) (sym settings) c.requires.sound) in
+  chosen = λ s now settings near sound i relays at.
       elim (at_pushed c.loop-iface.flooding c.in_ok-chosen.chosen relays i (subst (λ (xs : List (List Addr4)). slice_get xs i ≡ Some relays) c.in_ok-push.ensures.ok at)) [
-        | inl before ↦ c.loop-iface.invariant.chosen s settings near i relays before
+        | inl before ↦ c.loop-iface.invariant.chosen s now settings near sound i relays before
         | inr last ↦
             let here : c.loop-iface.iface ≡ i = sym (last.0 ∙ c.loop-iface.invariant.count) in (
               c.in_ok-graph.graph,
-              subst (λ (n : ℕ). IsFloodingGraph s c.args.now n c.in_ok-graph.graph) here (c.in_ok-graph.ensures.flooding c.loop-iface.iface refl s c.args.now near c.requires.sound),
+              subst (λ (n : ℕ). IsFloodingGraph s now n c.in_ok-graph.graph) here (c.in_ok-graph.ensures.flooding c.loop-iface.iface refl s now near sound),
               subst (λ (r : List Addr4). AreRelaysOf c.in_ok-graph.graph r) last.1 (record { covers = c.in_ok-chosen.ensures.covers; needed = c.in_ok-chosen.ensures.needed; ascending = c.in_ok-chosen.ensures.order }),
             )
       ];
 }
 
 pub returns : goal.returns
-returns g c = λ s settings near relays.
-    let sound : SoundNeighbourhood s.settings c.args.now s.bases.neighbourhood = subst (λ (n : Neighbourhood). SoundNeighbourhood s.settings c.args.now n) (sym near)
-    (subst (λ (r : RouterSettings). SoundNeighbourhood r c.args.now (g.N.Near4.near c.args.near.now)) (sym settings) c.requires.sound) in
+returns g c = λ s now settings near relays sound.
     let flooding = ap (λ (r : Relays). r.flooding) relays in
     let routing = ap (λ (r : Relays). r.routing) relays in
     record {
       interfaces = ap (λ (xs : List (List Addr4)). length xs) flooding ∙ (c.loop-iface.invariant.count ∙ ((let a = c.loop-iface-test.false in let b = c.loop-iface.auto.iface-end in let e = c.len-iface-end.ensures in omega (arith, a, b, e)) ∙ ap (λ (r : RouterSettings). length r.interfaces) (sym settings)));
-      flooding = λ i list at. c.loop-iface.invariant.chosen s settings near i list (subst (λ (xs : List (List Addr4)). slice_get xs i ≡ Some list) flooding at);
+      flooding = λ i list at. c.loop-iface.invariant.chosen s now settings near sound i list (subst (λ (xs : List (List Addr4)). slice_get xs i ≡ Some list) flooding at);
       routing = (
         c.in_ok-graph-2.graph,
         c.in_ok-graph-2.ensures.routing refl s near,
