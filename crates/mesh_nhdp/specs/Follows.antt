@@ -6,9 +6,10 @@ use Rattle.mesh_atoms.specs.declared.tuples.Link.{Link}
 use Rattle.mesh_atoms.specs.declared.tuples.Neighbour.{Neighbour}
 use Rattle.mesh_atoms.specs.declared.tuples.Lost.{Lost}
 use Rattle.mesh_atoms.specs.Base.{Base, HasDistinctKeys, find, addr_eq}
+use Rattle.mesh_atoms.specs.HelloTold.{Told}
 use Rattle.mesh_nbrs.specs.declared.neighbours.LinkNote.{LinkNote}
 use Rattle.mesh_nbrs.specs.Losts.{SettlesAll}
-use Rattle.mesh_nbrs.specs.Neighbours.{RestoresBy}
+use Rattle.mesh_nbrs.specs.Neighbours.{Replaces, RestoresBy}
 use Rattle.mesh_nhdp.specs.declared.near_addresses.Wanted.TheVariants.{Symmetric}
 use Rattle.mesh_nhdp.specs.Calls.{TellsLinks, TellsLinksOf}
 use Rattle.mesh_nhdp.specs.Wanted.{IsWantedAddress, symmetric_at}
@@ -37,3 +38,10 @@ pub record FollowsLinksOf (links : List (Base LinkKey Link)) (now : ℕ) (origin
   pub neighbour : RestoresBy notes (find addr_eq old originator) (find addr_eq new originator)
   pub others : (o : Addr4) → o ≢ originator → find addr_eq new o ≡ find addr_eq old o
   pub losts : SettlesAll before (symmetric_at (find addr_eq new originator)) until lost is_lost
+
+-- all neighbours that a HELLO speaks of become one (RFC 6130, section 12.3), and that one is as the links have it
+pub record RenewsNeighbour (links : List (Base LinkKey Link)) (now : ℕ) (told : Told) (before : List Addr4) (until : ℕ)
+    (old new : Base Addr4 Neighbour) (lost is_lost : Base Addr4 Lost) : Type 0 where
+  pub replaced : Base Addr4 Neighbour
+  pub replaces : Replaces told.originator told.listed told.willing told.routing now old replaced
+  pub follows : FollowsLinksOf links now told.originator told.listed before until replaced new lost is_lost

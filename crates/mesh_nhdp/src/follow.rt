@@ -1,11 +1,14 @@
 //! Neighbours and lost addresses follow the links.
-ghost use Rattle.std.specs.Prelude.{OnOk};
-ghost use Rattle.mesh_nhdp.specs.Follows.{FollowsLinks, FollowsLinksOf};
+ghost use Rattle.std.specs.Prelude.{◌<◌, length, OnOk};
+ghost use Rattle.mesh_atoms.specs.Words.{IsAscending};
+ghost use Rattle.mesh_hello.specs.Telling.{told_of};
+ghost use Rattle.mesh_nhdp.specs.Follows.{FollowsLinks, FollowsLinksOf, RenewsNeighbour};
 
 use crate::near_addresses::{Wanted, symmetric_at, wanted_addresses};
 use crate::notes::{notes_among, notes_of};
 use mesh_atoms::{Addr4, Link, LinkKey, Lost, Neighbour};
 use mesh_expire::Table;
+use mesh_hello::Telling;
 use mesh_links::LinkSet;
 use mesh_nbrs::{LostSet, NeighbourSet};
 use std::alloc::{AllocError, Global};
@@ -33,7 +36,7 @@ pub fn follow_links<L: Table<LinkKey, Link>, N: Table<Addr4, Neighbour>, O: Tabl
 /// Sets the neighbour with that originator, which has these addresses, as its links have it, and the addresses as lost until that
 /// moment that were a symmetric neighbour's, of those that became this one, and aren't this one's now. Looks at no other neighbour.
 /// After want of memory both sets may only be dropped.
-pub fn follow_links_of<L: Table<LinkKey, Link>, N: Table<Addr4, Neighbour>, O: Table<Addr4, Lost>>(
+fn follow_links_of<L: Table<LinkKey, Link>, N: Table<Addr4, Neighbour>, O: Table<Addr4, Lost>>(
     alloc: Global,
     links: &[LinkSet<L>],
     now: u64,
@@ -51,4 +54,42 @@ pub fn follow_links_of<L: Table<LinkKey, Link>, N: Table<Addr4, Neighbour>, O: T
     let after = symmetric_at(neighbours.table(), originator);
     losts.settle_lost(before, after, until)?;
     Ok(())
+}
+
+/// Makes one neighbour of all that a HELLO speaks of, and sets it as its links have it, with the addresses as lost until that moment
+/// that were a symmetric neighbour's, of those that became this one, and aren't this one's now. Looks at no other neighbour. After
+/// want of memory both sets may only be dropped.
+pub fn renew_neighbour<L: Table<LinkKey, Link>, N: Table<Addr4, Neighbour>, O: Table<Addr4, Lost>>(
+    alloc: Global,
+    links: &[LinkSet<L>],
+    now: u64,
+    telling: &Telling,
+    before: &[Addr4],
+    until: u64,
+    neighbours: &mut NeighbourSet<N>,
+    losts: &mut LostSet<O>,
+) -> Result<(), AllocError>
+    requires ascending { IsAscending telling.now.listed }
+    requires some { 0 < length telling.now.listed }
+    ensures { OnOk result (RenewsNeighbour links.now now (told_of telling.now) before.now until neighbours.old neighbours.new losts.old losts.new) }
+{
+    let listed = telling.listed.as_slice();
+    neighbours.replace(
+        telling.originator,
+        listed,
+        telling.willing,
+        telling.routing,
+        now,
+    )?;
+    follow_links_of(
+        alloc,
+        links,
+        now,
+        telling.originator,
+        listed,
+        before,
+        until,
+        neighbours,
+        losts,
+    )
 }

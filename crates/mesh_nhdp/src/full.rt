@@ -12,6 +12,9 @@ use mesh_hello::ascending;
 use mesh_nbrs::{LostSet, NeighbourSet};
 use std::alloc::{AllocError, Global};
 
+/// How many addresses and originators a neighbourhood holds at most, those of lost neighbours with them.
+const MOST_ADDRESSES: usize = 1024;
+
 /// Whether these are at most 1,024 even where no two of them are one. Takes no memory.
 fn are_few<N: Table<Addr4, Neighbour>, O: Table<Addr4, Lost>>(
     neighbours: &NeighbourSet<N>,
@@ -23,10 +26,14 @@ fn are_few<N: Table<Addr4, Neighbour>, O: Table<Addr4, Lost>>(
 {
     let (count, addrs) = (neighbours.table().len(), neighbours.address_count());
     let (lost, told) = (losts.table().len(), listed.len());
-    if count >= 1024 || addrs >= 1024 || lost >= 1024 || told >= 1024 {
+    if count >= MOST_ADDRESSES
+        || addrs >= MOST_ADDRESSES
+        || lost >= MOST_ADDRESSES
+        || told >= MOST_ADDRESSES
+    {
         return false;
     }
-    count + addrs + lost + told < 1024
+    count + addrs + lost + told < MOST_ADDRESSES
 }
 
 /// The same as `is_full_of_addresses`, by a count of the different ones.
@@ -49,7 +56,7 @@ fn are_many<N: Table<Addr4, Neighbour>, O: Table<Addr4, Lost>>(
     addrs.push(originator)?;
     let held = ascending(addrs);
     let count = held.len();
-    Ok(count > 1024)
+    Ok(count > MOST_ADDRESSES)
 }
 
 /// Whether more than 1,024 addresses and originators are held with those that a HELLO tells of. Gathers them and counts the

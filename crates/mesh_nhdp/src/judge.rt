@@ -13,6 +13,9 @@ use mesh_hello::{Telling, own_addresses, receive_fault, tell};
 use mesh_nbrs::TwoHopSet;
 use std::alloc::AllocError;
 
+/// How many 2-hop tuples an interface holds at most.
+const MOST_TWO_HOPS: usize = 16384;
+
 /// A HELLO breaks the rule of a number, is too much for a base, or can be taken: then with the router's addresses, and with
 /// what it tells.
 #[derive(Drop)]
@@ -62,7 +65,7 @@ impl<B: Bases> Nhdp<B> {
         }
         let count = count_symmetric(alloc, hello, &own, listed)?;
         let held = count_on(&self.two_hops, iface);
-        if count > 16384 - held {
+        if count > MOST_TWO_HOPS - held {
             return Ok(Judgement::Overfills(Base::TwoHops));
         }
         Ok(Judgement::Fits(Seq::from_vec(own), telling))

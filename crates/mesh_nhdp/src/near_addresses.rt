@@ -8,6 +8,7 @@ ghost use Rattle.mesh_nhdp.specs.Wanted.{IsWanted, IsWantedAt, IsWantedAddress, 
 use crate::said_addresses::symmetric_addresses;
 use mesh_atoms::{Addr4, Neighbour};
 use mesh_expire::Table;
+use mesh_hello::Telling;
 use mesh_nbrs::NeighbourSet;
 use std::alloc::{AllocError, Global};
 
@@ -74,18 +75,16 @@ fn addresses_of<T: Table<Addr4, Neighbour>>(
     Ok(addrs)
 }
 
-/// The addresses of the neighbours that a HELLO with this originator and these addresses speaks of, and those of the symmetric
-/// ones among them, an address once for each neighbour that has it. Looks at no other neighbour.
+/// The addresses of the neighbours that a HELLO speaks of, and those of the symmetric ones among them, an address once for each neighbour that has it. Looks at no other neighbour.
 pub fn spoken_addresses<N: Table<Addr4, Neighbour>>(
     alloc: Global,
     neighbours: &NeighbourSet<N>,
-    originator: Addr4,
-    listed: &[Addr4],
+    telling: &Telling,
 ) -> Result<(Vec<Addr4>, Vec<Addr4>), AllocError>
-    ensures all { IfOk result (λ found. (a : Addr4) → Contains found.0.items a ↔ IsSpokenAddress neighbours.now originator listed.now a) }
-    ensures symmetric { IfOk result (λ found. (a : Addr4) → Contains found.1.items a ↔ IsSymmetricSpokenAddress neighbours.now originator listed.now a) }
+    ensures all { IfOk result (λ found. (a : Addr4) → Contains found.0.items a ↔ IsSpokenAddress neighbours.now telling.now.originator telling.now.listed a) }
+    ensures symmetric { IfOk result (λ found. (a : Addr4) → Contains found.1.items a ↔ IsSymmetricSpokenAddress neighbours.now telling.now.originator telling.now.listed a) }
 {
-    let spoken = neighbours.spoken_of(originator, listed)?;
+    let spoken = neighbours.spoken_of(telling.originator, telling.listed.as_slice())?;
     let table = neighbours.table();
     let all = addresses_of(alloc, table, &spoken, Wanted::Each)?;
     let symmetric = addresses_of(alloc, table, &spoken, Wanted::Symmetric)?;
@@ -103,11 +102,7 @@ pub fn wanted_addresses<T: Table<Addr4, Neighbour>>(
     let mut addrs = Vec::new(alloc);
     for place in 0..table.len() {
         match table.at(place) {
-            Some((_, neighbour, _)) => add_wanted(
-                &mut addrs,
-                wanted,
-                neighbour,
-            )?,
+            Some((_, neighbour, _)) => add_wanted(&mut addrs, wanted, neighbour)?,
             None => return Ok(addrs),
         }
     }

@@ -19,6 +19,8 @@ pub fn neighbour_with<N: Table<Addr4, Neighbour>>(
 ) -> Option<(&Addr4, &Neighbour, u64)>
     ensures { IsValue (IsNeighbourWith neighbours.now addr) (entry_of result) }
 {
+    // The table has no originator twice.
+    let _ = neighbours.table();
     let Some((originator, neighbour, until)) = neighbours.with_address(addr) else {
         return None;
     };

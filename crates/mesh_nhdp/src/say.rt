@@ -34,13 +34,7 @@ fn hello_of<L: Table<LinkKey, Link>, N: Table<Addr4, Neighbour>, O: Table<Addr4,
     ensures { IfOk result (λ hello. (s : State) →
         IsSeen s settings.now links.now neighbours.now (O.content losts.now) relays.now iface → IsHelloNow s iface now hello) }
 {
-    let addrs = said_addresses(
-        alloc,
-        settings,
-        links.table(),
-        neighbours.table(),
-        losts,
-    )?;
+    let addrs = said_addresses(alloc, settings, links.table(), neighbours.table(), losts)?;
     let rows = rows_of(
         alloc,
         settings,

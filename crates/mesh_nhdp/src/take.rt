@@ -8,7 +8,7 @@ ghost use Rattle.mesh_atoms.specs.Sound.{SoundNeighbourhood};
 ghost use Rattle.mesh_nhdp.specs.Judged.{IsAnswer};
 ghost use Rattle.mesh_hello.specs.Telling.{told_of};
 
-use crate::follow::follow_links_of;
+use crate::follow::renew_neighbour;
 use crate::hearing::hear_interfaces;
 use crate::interfaces::Hearing;
 use crate::judge::Judgement;
@@ -86,7 +86,7 @@ impl<B: Bases> Nhdp<B> {
         let until = now + settings.times.neighbour_hold;
         let face = &settings.interfaces.as_slice()[iface];
         let listed = telling.listed.as_slice();
-        let (theirs, before) = spoken_addresses(alloc, &self.neighbours, telling.originator, listed)?;
+        let (theirs, before) = spoken_addresses(alloc, &self.neighbours, telling)?;
         let spoken_of = theirs.as_slice();
         let keys = keys_of_both(alloc, spoken_of, listed)?;
         let hearing = Hearing {
@@ -108,19 +108,11 @@ impl<B: Bases> Nhdp<B> {
             &mut self.links,
             &mut self.two_hops,
         )?;
-        self.neighbours.replace(
-            telling.originator,
-            listed,
-            telling.willing,
-            telling.routing,
-            now,
-        )?;
-        follow_links_of(
+        renew_neighbour(
             alloc,
             &self.links,
             now,
-            telling.originator,
-            listed,
+            telling,
             &before,
             until,
             &mut self.neighbours,
