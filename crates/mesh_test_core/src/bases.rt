@@ -1,11 +1,15 @@
-//! The bases that runs are tried over.
+//! Cases, and the bases that they are tried over.
 use crate::run::{Step, goes_right};
-use mesh_atoms::Scenario;
+use crate::{full, hears, lone, row};
+use mesh_atoms::RouterSettings;
 use mesh_config::scenario_of;
+use mesh_core::Outbox;
 use mesh_expire::{IndexedBases, NoBases, PlainBases};
 use std::alloc::{AllocError, Global};
+use std::process::Abort;
+use std::test::Fail;
 
-/// What a run is tried over: plain lists and then indexed tables, indexed tables alone, or bases that hold nothing.
+/// What a case is tried over: plain lists and then indexed tables, indexed tables alone, or bases that hold nothing.
 #[derive(Clone, Copy)]
 pub(crate) enum Over {
     Both,
@@ -13,33 +17,114 @@ pub(crate) enum Over {
     Nothing,
 }
 
-fn over_lists(alloc: Global, scenario: &Scenario, steps: &[Step]) -> Result<bool, AllocError> {
-    goes_right::<PlainBases>(alloc, scenario, steps)
+/// What is shown, and over what; the routers, and what happens to them step by step.
+pub(crate) type Case = (&'static str, Over, &'static [u8], &'static [Step]);
+
+fn over_lists(
+    alloc: Global,
+    routers: &[RouterSettings],
+    steps: &[Step],
+) -> Result<bool, AllocError> {
+    let mut out = Outbox::new(alloc);
+    goes_right::<PlainBases>(alloc, routers, &mut out, steps)
 }
 
-fn over_indexes(alloc: Global, scenario: &Scenario, steps: &[Step]) -> Result<bool, AllocError> {
-    goes_right::<IndexedBases>(alloc, scenario, steps)
+fn over_indexes(
+    alloc: Global,
+    routers: &[RouterSettings],
+    steps: &[Step],
+) -> Result<bool, AllocError> {
+    let mut out = Outbox::new(alloc);
+    goes_right::<IndexedBases>(alloc, routers, &mut out, steps)
 }
 
-fn over_nothing(alloc: Global, scenario: &Scenario, steps: &[Step]) -> Result<bool, AllocError> {
-    goes_right::<NoBases>(alloc, scenario, steps)
+fn over_nothing(
+    alloc: Global,
+    routers: &[RouterSettings],
+    steps: &[Step],
+) -> Result<bool, AllocError> {
+    let mut out = Outbox::new(alloc);
+    goes_right::<NoBases>(alloc, routers, &mut out, steps)
 }
 
-/// Whether each step of the routers of a scenario comes to what it must.
-pub(crate) fn is_right(
+/// Whether each step of those routers comes to what it must.
+fn go_right(
+    alloc: Global,
+    over: Over,
+    routers: &[RouterSettings],
+    steps: &[Step],
+) -> Result<bool, AllocError> {
+    match over {
+        Over::Both => {
+            Ok(over_lists(alloc, routers, steps)? && over_indexes(alloc, routers, steps)?)
+        }
+        Over::Indexes => over_indexes(alloc, routers, steps),
+        Over::Nothing => over_nothing(alloc, routers, steps),
+    }
+}
+
+/// The same of the routers that the settings tell.
+fn is_right(
     alloc: Global,
     over: Over,
     settings: &[u8],
     steps: &[Step],
 ) -> Result<bool, AllocError> {
-    let Ok(scenario) = scenario_of(alloc, settings) else {
-        return Ok(false);
-    };
-    match over {
-        Over::Both => {
-            Ok(over_lists(alloc, &scenario, steps)? && over_indexes(alloc, &scenario, steps)?)
-        }
-        Over::Indexes => over_indexes(alloc, &scenario, steps),
-        Over::Nothing => over_nothing(alloc, &scenario, steps),
+    match scenario_of(alloc, settings) {
+        Ok(scenario) => go_right(alloc, over, scenario.routers.as_slice(), steps),
+        Err(_) => Ok(false),
     }
+}
+
+/// Tells the first case that goes wrong.
+fn all_hold(rt: &impl Abort, alloc: Global, cases: &[Case]) -> Result<(), AllocError> {
+    for (name, over, settings, steps) in cases {
+        assert!(rt; is_right(alloc, *over, settings, steps)?, "{name}");
+    }
+    Ok(())
+}
+
+#[test]
+fn a_router_hears_and_tells(rt: HostRuntime) -> Result<(), Fail> {
+    all_hold(&rt, rt.alloc(), &lone::CASES)?;
+    all_hold(&rt, rt.alloc(), &hears::CASES)?;
+    Ok(())
+}
+
+#[test]
+fn three_routers_in_a_row(rt: HostRuntime) -> Result<(), Fail> {
+    all_hold(&rt, rt.alloc(), &row::CASES)?;
+    Ok(())
+}
+
+// Each of these takes seconds, so it is a test by itself.
+
+#[test]
+fn addresses_of_neighbours_fill_their_set(rt: HostRuntime) -> Result<(), Fail> {
+    all_hold(&rt, rt.alloc(), &full::ADDRESSES_FILL)?;
+    Ok(())
+}
+
+#[test]
+fn two_hop_tuples_fill_their_set(rt: HostRuntime) -> Result<(), Fail> {
+    all_hold(&rt, rt.alloc(), &full::TWO_HOPS_FILL)?;
+    Ok(())
+}
+
+#[test]
+fn rows_of_tcs_fill_their_sets(rt: HostRuntime) -> Result<(), Fail> {
+    all_hold(&rt, rt.alloc(), &full::ROWS_FILL)?;
+    Ok(())
+}
+
+#[test]
+fn originators_fill_two_sets(rt: HostRuntime) -> Result<(), Fail> {
+    all_hold(&rt, rt.alloc(), &full::ORIGINATORS_FILL)?;
+    Ok(())
+}
+
+#[test]
+fn messages_fill_two_sets(rt: HostRuntime) -> Result<(), Fail> {
+    all_hold(&rt, rt.alloc(), &full::MESSAGES_FILL)?;
+    Ok(())
 }

@@ -1,13 +1,14 @@
 //! Sets that are full: one of each kind by frames that a router hears, over indexed tables.
-use crate::bases::{Over, is_right};
-use crate::frames::{CHOOSES_TWO, HEARD, HEARS_TWO, LONE, ONE_SAYS, PACKET, THREE};
-use crate::looks::{Held, Look};
+use crate::bases::{Case, Over};
+use crate::frames::{CHOOSES_TWO, HEARD, HEARS_TWO, LONE, ONE, ONE_SAYS, PACKET, THREE};
+use crate::looks::{EMPTY, Held, Look};
 use crate::octets::Part;
-use crate::run::{Answer, Event, Step, hears, looks};
+use crate::run::Answer;
+use crate::run::Event::{Hears, Looks};
+use crate::run::Step::{At, Count};
 use mesh_atoms::Base;
 use mesh_core::Read;
 use mesh_flood::{Forward, Process};
-use std::test::Fail;
 
 /// The router 10.0.0.2, and two more, which hold what they received or processed for 820 ticks.
 const ROUTERS: &[u8] = b"end_ms = 1
@@ -30,19 +31,6 @@ name = \"d\"
 name = \"w0\"
 addresses = [\"10.0.0.4\"]
 ";
-
-const fn holds(router: usize, last: u64, near: [usize; 4], far: [usize; 4]) -> Step {
-    let held = Held {
-        last,
-        due: 0,
-        near,
-        far,
-        ansn: 0,
-    };
-    looks(router, Look::Holds(held))
-}
-
-const NONE: [usize; 4] = [0, 0, 0, 0];
 
 /// 1,024 addresses, the further ones 11 a block.
 const ADDRESSES: &[Part] = &[
@@ -68,19 +56,6 @@ const FULL_OF_ADDRESSES: Answer = Answer::Taken(&[(
     Read::Full(Base::Neighbours),
     Forward::NotFlooded,
 )]);
-
-#[test]
-fn addresses_of_neighbours_fill_their_set(rt: HostRuntime) -> Result<(), Fail> {
-    let steps = [
-        hears(0, 100, ADDRESSES, HEARD),
-        holds(0, 100, [1, 0, 1, 0], NONE),
-        Step::At(0, Event::Hears((200, 0, THREE), ANOTHER, FULL_OF_ADDRESSES)),
-        holds(0, 200, [1, 0, 1, 0], NONE),
-        hears(0, 300, ADDRESSES, HEARD),
-    ];
-    assert!(rt; is_right(rt.alloc(), Over::Indexes, ROUTERS, &steps)?);
-    Ok(())
-}
 
 /// 16,384 addresses that are SYMMETRIC, 16 a block; and one more.
 const SYMMETRIC: Part = Part::Turns(
@@ -118,20 +93,6 @@ const FULL_OF_TWO_HOPS: Answer = Answer::Taken(&[(
     Read::Full(Base::TwoHops),
     Forward::NotFlooded,
 )]);
-
-#[test]
-fn two_hop_tuples_fill_their_set(rt: HostRuntime) -> Result<(), Fail> {
-    let steps = [
-        hears(0, 100, TOO_MANY_TWO_HOPS, FULL_OF_TWO_HOPS),
-        holds(0, 100, NONE, NONE),
-        hears(0, 200, MOST_TWO_HOPS, HEARD),
-        holds(0, 200, [1, 16384, 1, 0], NONE),
-        hears(0, 300, LAST_TWO_HOP, FULL_OF_TWO_HOPS),
-        holds(0, 300, [1, 16384, 1, 0], NONE),
-    ];
-    assert!(rt; is_right(rt.alloc(), Over::Indexes, ROUTERS, &steps)?);
-    Ok(())
-}
 
 /// The originator 10.9.9.9 of a TC, its hop limit and its hop count.
 const FAR: &[u8] = b"\x0a\x09\x09\x09\xff\x00";
@@ -220,26 +181,6 @@ const FULL_OF_NETWORKS: Answer = Answer::Taken(&[(
     Forward::NoSender,
 )]);
 
-#[test]
-fn rows_of_tcs_fill_their_sets(rt: HostRuntime) -> Result<(), Fail> {
-    let steps = [
-        hears(0, 100, TOO_MANY_ROUTERS, FULL_OF_ROUTERS),
-        holds(0, 100, NONE, NONE),
-        hears(0, 200, MOST_ROUTERS, TAKEN),
-        holds(0, 200, NONE, [1, 16384, 0, 0]),
-        hears(1, 100, TOO_MANY_ADDRESSES, FULL_OF_ADDRESS_ROWS),
-        holds(1, 100, NONE, NONE),
-        hears(1, 200, MOST_ADDRESSES, TAKEN),
-        holds(1, 200, NONE, [1, 0, 16384, 0]),
-        hears(2, 100, TOO_MANY_NETWORKS, FULL_OF_NETWORKS),
-        holds(2, 100, NONE, NONE),
-        hears(2, 200, MOST_NETWORKS, TAKEN),
-        holds(2, 200, NONE, [1, 0, 0, 16384]),
-    ];
-    assert!(rt; is_right(rt.alloc(), Over::Indexes, ROUTERS, &steps)?);
-    Ok(())
-}
-
 /// A TC without rows of 10.9.9.9; and before it those of 16,384 other originators.
 const TC: &[u8] = b"\x01\xf3\x00\x1b\x0a\x09\x09\x09\xff\x00\x00\x05";
 
@@ -266,19 +207,6 @@ const FULL_OF_ADVERTISERS: Answer = Answer::Taken(&[(
     Read::Full(Base::Advertisers),
     Forward::NoSender,
 )]);
-
-#[test]
-fn originators_fill_two_sets(rt: HostRuntime) -> Result<(), Fail> {
-    let steps = [
-        hears(0, 100, MANY_TCS, FULL_OF_PROCESSED),
-        looks(0, Look::Full(true)),
-        hears(0, 1000, ONE_TC, FULL_OF_ADVERTISERS),
-        looks(0, Look::Full(false)),
-        holds(0, 1000, NONE, [16384, 0, 0, 0]),
-    ];
-    assert!(rt; is_right(rt.alloc(), Over::Indexes, ROUTERS, &steps)?);
-    Ok(())
-}
 
 /// A message of 10.9.9.9 of another type; and 16,384 of 10.9.9.8, behind a HELLO that chooses the router as a flooding relay.
 const OTHER: &[u8] = b"\xc8\xf3\x00\x0e\x0a\x09\x09\x09\xff\x00\x00\x05\x00\x00";
@@ -311,15 +239,131 @@ const FULL_OF_FORWARDED: Answer = Answer::Taken(&[(
 
 const SEEN: Answer = Answer::Taken(&[(1, Read::Other, Forward::Seen { until: 1820 })]);
 
-#[test]
-fn messages_fill_two_sets(rt: HostRuntime) -> Result<(), Fail> {
-    let steps = [
-        hears(0, 100, MANY_OTHERS, FULL_OF_RECEIVED),
-        Step::Count(16384),
-        hears(0, 1000, ONE_OTHER, FULL_OF_FORWARDED),
-        hears(0, 1000, ONE_OTHER, SEEN),
-        Step::Count(0),
-    ];
-    assert!(rt; is_right(rt.alloc(), Over::Indexes, ROUTERS, &steps)?);
-    Ok(())
-}
+pub(crate) static ADDRESSES_FILL: [Case; 1] = [(
+    "addresses of neighbours fill their set",
+    Over::Indexes,
+    ROUTERS,
+    &[
+        At(0, Hears(100, ONE, ADDRESSES, HEARD)),
+        At(
+            0,
+            Looks(Look::Holds(Held {
+                last: 100,
+                near: [1, 0, 1, 0],
+                ..EMPTY
+            })),
+        ),
+        At(0, Hears(200, THREE, ANOTHER, FULL_OF_ADDRESSES)),
+        At(
+            0,
+            Looks(Look::Holds(Held {
+                last: 200,
+                near: [1, 0, 1, 0],
+                ..EMPTY
+            })),
+        ),
+        At(0, Hears(300, ONE, ADDRESSES, HEARD)),
+    ],
+)];
+
+pub(crate) static TWO_HOPS_FILL: [Case; 1] = [(
+    "2-hop tuples fill their set",
+    Over::Indexes,
+    ROUTERS,
+    &[
+        At(0, Hears(100, ONE, TOO_MANY_TWO_HOPS, FULL_OF_TWO_HOPS)),
+        At(0, Looks(Look::Holds(Held { last: 100, ..EMPTY }))),
+        At(0, Hears(200, ONE, MOST_TWO_HOPS, HEARD)),
+        At(
+            0,
+            Looks(Look::Holds(Held {
+                last: 200,
+                near: [1, 16384, 1, 0],
+                ..EMPTY
+            })),
+        ),
+        At(0, Hears(300, ONE, LAST_TWO_HOP, FULL_OF_TWO_HOPS)),
+        At(
+            0,
+            Looks(Look::Holds(Held {
+                last: 300,
+                near: [1, 16384, 1, 0],
+                ..EMPTY
+            })),
+        ),
+    ],
+)];
+
+pub(crate) static ROWS_FILL: [Case; 1] = [(
+    "rows of TCs fill their sets",
+    Over::Indexes,
+    ROUTERS,
+    &[
+        At(0, Hears(100, ONE, TOO_MANY_ROUTERS, FULL_OF_ROUTERS)),
+        At(0, Looks(Look::Holds(Held { last: 100, ..EMPTY }))),
+        At(0, Hears(200, ONE, MOST_ROUTERS, TAKEN)),
+        At(
+            0,
+            Looks(Look::Holds(Held {
+                last: 200,
+                far: [1, 16384, 0, 0],
+                ..EMPTY
+            })),
+        ),
+        At(1, Hears(100, ONE, TOO_MANY_ADDRESSES, FULL_OF_ADDRESS_ROWS)),
+        At(1, Looks(Look::Holds(Held { last: 100, ..EMPTY }))),
+        At(1, Hears(200, ONE, MOST_ADDRESSES, TAKEN)),
+        At(
+            1,
+            Looks(Look::Holds(Held {
+                last: 200,
+                far: [1, 0, 16384, 0],
+                ..EMPTY
+            })),
+        ),
+        At(2, Hears(100, ONE, TOO_MANY_NETWORKS, FULL_OF_NETWORKS)),
+        At(2, Looks(Look::Holds(Held { last: 100, ..EMPTY }))),
+        At(2, Hears(200, ONE, MOST_NETWORKS, TAKEN)),
+        At(
+            2,
+            Looks(Look::Holds(Held {
+                last: 200,
+                far: [1, 0, 0, 16384],
+                ..EMPTY
+            })),
+        ),
+    ],
+)];
+
+pub(crate) static ORIGINATORS_FILL: [Case; 1] = [(
+    "originators fill two sets",
+    Over::Indexes,
+    ROUTERS,
+    &[
+        At(0, Hears(100, ONE, MANY_TCS, FULL_OF_PROCESSED)),
+        At(0, Looks(Look::Full(true))),
+        At(0, Hears(1000, ONE, ONE_TC, FULL_OF_ADVERTISERS)),
+        At(0, Looks(Look::Full(false))),
+        At(
+            0,
+            Looks(Look::Holds(Held {
+                last: 1000,
+                far: [16384, 0, 0, 0],
+                ..EMPTY
+            })),
+        ),
+    ],
+)];
+
+pub(crate) static MESSAGES_FILL: [Case; 1] = [(
+    "messages fill two sets",
+    Over::Indexes,
+    ROUTERS,
+    &[
+        At(0, Hears(100, ONE, MANY_OTHERS, FULL_OF_RECEIVED)),
+        Count(16384),
+        At(0, Hears(1000, ONE, ONE_OTHER, FULL_OF_FORWARDED)),
+        At(0, Hears(1000, ONE, ONE_OTHER, SEEN)),
+        Count(0),
+    ],
+)];

@@ -1,13 +1,14 @@
 //! A router that hears TCs, and messages of other types.
-use crate::bases::{Over, is_right};
+use crate::bases::{Case, Over};
 use crate::frames::{CHOOSES_TWO, ONE, ONE_SAYS, PACKET};
 use crate::looks::{Held, LinkHas, Look};
 use crate::octets::Part;
-use crate::run::{Answer, Step, hears, looks};
+use crate::run::Answer;
+use crate::run::Event::{Hears, Looks};
+use crate::run::Step::{At, Count, Sent};
 use mesh_atoms::{Addr4, LinkState};
 use mesh_core::Read;
 use mesh_flood::{Forward, Heading, Process};
-use std::test::Fail;
 
 /// The router 10.0.0.2, with a second interface.
 const TWO_INTERFACES: &[u8] = b"end_ms = 1
@@ -42,14 +43,6 @@ const ONE_ROW: Look = Look::Holds(Held {
     far: [1, 1, 1, 0],
     ansn: 0,
 });
-
-/// The tuple that leads from 10.9.9.9 to 10.8.0.0 and so many.
-const fn tuple(to: u32, number: u16) -> Step {
-    looks(
-        0,
-        Look::Tuple(FAR, 0x0a08_0000 + to % 256, Some((number, 122880))),
-    )
-}
 
 const FIRST: &[Part] = &[
     Part::Once(TC),
@@ -124,28 +117,6 @@ const OLD: Answer = Answer::Taken(&[(
     Forward::NoSender,
 )]);
 
-#[test]
-fn tcs_of_one_originator(rt: HostRuntime) -> Result<(), Fail> {
-    let steps = [
-        hears(0, 0, FIRST, TAKEN),
-        tuple(1, 65535),
-        hears(0, 0, AGAIN, DONE),
-        tuple(1, 65535),
-        hears(0, 0, OLDER, OLD),
-        tuple(1, 65535),
-        looks(0, ONE_ROW),
-        hears(0, 0, ROUND, TAKEN),
-        tuple(4, 0),
-        looks(0, ONE_ROW),
-        hears(0, 0, HALF_ROUND, TAKEN),
-        tuple(5, 32768),
-        looks(0, ONE_ROW),
-        Step::Count(0),
-    ];
-    assert!(rt; is_right(rt.alloc(), Over::Both, TWO_INTERFACES, &steps)?);
-    Ok(())
-}
-
 /// The TC of 10.9.9.9 behind its hop limit and hop count, and a message of another type.
 const TC_BODY: &[u8] =
     b"\x00\x05\x00\x0d\x01\x10\x01\x6f\x00\x10\x01\x62\x08\x10\x02\x00\x07\x01\x00\x0a\x08\x00\x01\x00\x09\x09\x10\x01\x03\x07\x10\x02\x10\x00";
@@ -177,15 +148,25 @@ const OTHER_FURTHER: &[Part] = &[
     Part::Once(OTHER_BODY),
 ];
 
-const fn heading(kind: u8, sequence: u16) -> Heading {
-    Heading {
-        kind,
-        originator: Addr4(FAR),
-        sequence,
-        limit: None,
-        count: None,
-    }
-}
+/// The TC, the message of another type, and what has the type of the one and the number of the other.
+const TC_HEADING: Heading = Heading {
+    kind: 1,
+    originator: Addr4(FAR),
+    sequence: 5,
+    limit: None,
+    count: None,
+};
+
+const OTHER_HEADING: Heading = Heading {
+    kind: 200,
+    sequence: 6,
+    ..TC_HEADING
+};
+
+const MIXED_HEADING: Heading = Heading {
+    kind: 200,
+    ..TC_HEADING
+};
 
 /// A further message of another type, with no hop left, and from 255 hops away.
 const LAST: &[Part] = &[
@@ -225,30 +206,67 @@ const SEEN: Answer = Answer::Taken(&[
 
 const ENDS: Answer = Answer::Taken(&[(1, Read::Other, Forward::NoHops)]);
 
-#[test]
-fn three_messages_in_a_frame(rt: HostRuntime) -> Result<(), Fail> {
-    let link = LinkHas {
-        state: LinkState::Symmetric,
-        heard: 49252,
-        sym: 49252,
-        until: 98404,
-        link_in: 1,
-        link_out: Some(1),
-        selector: true,
-    };
-    let steps = [
-        looks(0, Look::Noted(heading(1, 5), false)),
-        hears(0, 100, THREE_MESSAGES, ONWARD),
-        Step::Sent(SENT),
-        looks(0, Look::Link(ONE, Some(link))),
-        looks(0, Look::Noted(heading(1, 5), true)),
-        looks(0, Look::Noted(heading(200, 6), true)),
-        looks(0, Look::Noted(heading(200, 5), false)),
-        hears(0, 100, THREE_MESSAGES, SEEN),
-        hears(0, 100, LAST, ENDS),
-        hears(0, 100, DISTANT, ENDS),
-        Step::Count(0),
-    ];
-    assert!(rt; is_right(rt.alloc(), Over::Both, TWO_INTERFACES, &steps)?);
-    Ok(())
-}
+/// The link with 10.0.0.1, which has chosen the router.
+const LINK: LinkHas = LinkHas {
+    state: LinkState::Symmetric,
+    heard: 49252,
+    sym: 49252,
+    until: 98404,
+    link_in: 1,
+    link_out: Some(1),
+    selector: true,
+};
+
+pub(crate) static CASES: [Case; 2] = [
+    (
+        "TCs of one originator",
+        Over::Both,
+        TWO_INTERFACES,
+        &[
+            At(0, Hears(0, ONE, FIRST, TAKEN)),
+            At(
+                0,
+                Looks(Look::Tuple(FAR, 0x0a08_0001, Some((65535, 122880)))),
+            ),
+            At(0, Hears(0, ONE, AGAIN, DONE)),
+            At(
+                0,
+                Looks(Look::Tuple(FAR, 0x0a08_0001, Some((65535, 122880)))),
+            ),
+            At(0, Hears(0, ONE, OLDER, OLD)),
+            At(
+                0,
+                Looks(Look::Tuple(FAR, 0x0a08_0001, Some((65535, 122880)))),
+            ),
+            At(0, Looks(ONE_ROW)),
+            At(0, Hears(0, ONE, ROUND, TAKEN)),
+            At(0, Looks(Look::Tuple(FAR, 0x0a08_0004, Some((0, 122880))))),
+            At(0, Looks(ONE_ROW)),
+            At(0, Hears(0, ONE, HALF_ROUND, TAKEN)),
+            At(
+                0,
+                Looks(Look::Tuple(FAR, 0x0a08_0005, Some((32768, 122880)))),
+            ),
+            At(0, Looks(ONE_ROW)),
+            Count(0),
+        ],
+    ),
+    (
+        "three messages in a frame",
+        Over::Both,
+        TWO_INTERFACES,
+        &[
+            At(0, Looks(Look::Noted(TC_HEADING, false))),
+            At(0, Hears(100, ONE, THREE_MESSAGES, ONWARD)),
+            Sent(SENT),
+            At(0, Looks(Look::Link(ONE, Some(LINK)))),
+            At(0, Looks(Look::Noted(TC_HEADING, true))),
+            At(0, Looks(Look::Noted(OTHER_HEADING, true))),
+            At(0, Looks(Look::Noted(MIXED_HEADING, false))),
+            At(0, Hears(100, ONE, THREE_MESSAGES, SEEN)),
+            At(0, Hears(100, ONE, LAST, ENDS)),
+            At(0, Hears(100, ONE, DISTANT, ENDS)),
+            Count(0),
+        ],
+    ),
+];

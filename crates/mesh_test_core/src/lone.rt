@@ -1,14 +1,15 @@
 //! A router that hears nobody, or one HELLO, and whose clock ticks.
-use crate::bases::{Over, is_right};
+use crate::bases::{Case, Over};
 use crate::frames::{HEARD, LONE, ONE, ONE_SAYS};
-use crate::looks::{Held, LinkHas, Look};
+use crate::looks::{EMPTY, Held, LinkHas, Look};
 use crate::octets::Part;
 use crate::reads::{Row, Told};
-use crate::run::{Answer, Event, Step, hears, looks, ticks};
+use crate::run::Answer;
+use crate::run::Event::{Hears, Looks, Ticks};
+use crate::run::Step::{At, Count, Tells};
 use mesh_atoms::{LinkState, LocalIf};
 use mesh_core::Read;
 use mesh_flood::Forward;
-use std::test::Fail;
 
 const ALONE: &[u8] = b"end_ms = 1
 [[router]]
@@ -49,18 +50,6 @@ name = \"w0\"
 addresses = [\"10.0.0.1\"]
 ";
 
-/// The router holds so many links and as many neighbours.
-const fn holds(router: usize, links: usize, last: u64, due: u64) -> Step {
-    let held = Held {
-        last,
-        due,
-        near: [links, 0, links, 0],
-        far: [0, 0, 0, 0],
-        ansn: 0,
-    };
-    looks(router, Look::Holds(held))
-}
-
 /// What 10.0.0.1 tells of its addresses: of its only one, and on each of two interfaces.
 const ALONE_ROWS: &[Row] = &[Row::Own(ONE, LocalIf::This)];
 
@@ -75,49 +64,20 @@ const SECOND_ROWS: &[Row] = &[
 ];
 
 /// What 10.0.0.1 tells.
-const fn told(rows: &'static [Row]) -> Told {
-    Told {
-        originator: ONE,
-        rows,
-    }
-}
+const ALONE_SAYS: Told = Told {
+    originator: ONE,
+    rows: ALONE_ROWS,
+};
 
-#[test]
-fn a_lone_router_tells_of_itself(rt: HostRuntime) -> Result<(), Fail> {
-    let steps = [
-        holds(0, 0, 0, 0),
-        ticks(0, 0, 16384),
-        Step::Tells(0, 0, told(ALONE_ROWS)),
-        Step::Count(1),
-        // a late tick sends once
-        ticks(0, 40960, 49152),
-        Step::Tells(0, 0, told(ALONE_ROWS)),
-        Step::Count(1),
-        holds(0, 0, 40960, 49152),
-        // one that comes early sends nothing
-        ticks(0, 49151, 49152),
-        Step::Count(0),
-    ];
-    assert!(rt; is_right(rt.alloc(), Over::Both, ALONE, &steps)?);
-    Ok(())
-}
+const FIRST_SAYS: Told = Told {
+    originator: ONE,
+    rows: FIRST_ROWS,
+};
 
-#[test]
-fn each_interface_tells_of_both(rt: HostRuntime) -> Result<(), Fail> {
-    let steps = [
-        holds(0, 0, 0, 4096),
-        ticks(0, 0, 4096),
-        // without rows no TC is sent
-        ticks(0, 4096, 8192),
-        Step::Count(0),
-        ticks(0, 8192, 24576),
-        Step::Tells(0, 0, told(FIRST_ROWS)),
-        Step::Tells(1, 1, told(SECOND_ROWS)),
-        Step::Count(2),
-    ];
-    assert!(rt; is_right(rt.alloc(), Over::Both, LATER, &steps)?);
-    Ok(())
-}
+const SECOND_SAYS: Told = Told {
+    originator: ONE,
+    rows: SECOND_ROWS,
+};
 
 const HELLO_OF_ONE: &[Part] = &[Part::Once(LONE), Part::Once(ONE_SAYS)];
 
@@ -127,79 +87,161 @@ const VERSION: &[Part] = &[Part::Once(b"\x10")];
 /// The HELLO of 10.0.0.1 with a size that passes the end of the frame by one.
 const CUT: &[Part] = &[Part::Once(b"\x00\x00\x83\x00\x23"), Part::Once(ONE_SAYS)];
 
-fn link(state: LinkState) -> Look {
-    let link = LinkHas {
-        state,
-        heard: 49252,
-        sym: 0,
-        until: 98404,
-        link_in: 1,
-        link_out: None,
-        selector: false,
-    };
-    Look::Link(ONE, Some(link))
-}
+/// The link with 10.0.0.1, heard at 100.
+const LINK: LinkHas = LinkHas {
+    state: LinkState::Heard,
+    heard: 49252,
+    sym: 0,
+    until: 98404,
+    link_in: 1,
+    link_out: None,
+    selector: false,
+};
 
-#[test]
-fn a_link_ends_in_silence(rt: HostRuntime) -> Result<(), Fail> {
-    let steps = [
-        hears(0, 100, HELLO_OF_ONE, HEARD),
-        looks(0, link(LinkState::Heard)),
-        holds(0, 1, 100, 0),
-        Step::Count(0),
-        ticks(0, 49252, 65536),
-        looks(0, link(LinkState::Lost)),
-        holds(0, 1, 49252, 65536),
-        Step::Count(1),
-        // a frame with a fault changes nothing, not even by expiry
-        hears(0, 98500, VERSION, Answer::Refused(0, 2)),
-        looks(0, link(LinkState::Lost)),
-        holds(0, 1, 49252, 65536),
-        Step::Count(0),
-        ticks(0, 98404, 114688),
-        looks(0, Look::Link(ONE, None)),
-        holds(0, 0, 98404, 114688),
-    ];
-    assert!(rt; is_right(rt.alloc(), Over::Both, TWO_ROUTERS, &steps)?);
-    Ok(())
-}
+const LOST_LINK: LinkHas = LinkHas {
+    state: LinkState::Lost,
+    ..LINK
+};
 
 /// The HELLO of a router that has one of the receiver's addresses.
 const BROKEN: Answer = Answer::Taken(&[(1, Read::Broken(30), Forward::NotFlooded)]);
 
-#[test]
-fn refused_frames_and_messages(rt: HostRuntime) -> Result<(), Fail> {
-    let steps = [
-        hears(1, 50, VERSION, Answer::Refused(0, 2)),
-        holds(1, 0, 0, 0),
-        // a message that breaks a rule changes nothing, but its frame is an event
-        hears(1, 100, HELLO_OF_ONE, BROKEN),
-        holds(1, 0, 100, 0),
-        hears(0, 100, HELLO_OF_ONE, HEARD),
-        // with a size that passes the end of the frame
-        hears(0, 200, CUT, Answer::Refused(3, 3)),
-        holds(0, 1, 100, 0),
-        Step::Count(0),
-    ];
-    assert!(rt; is_right(rt.alloc(), Over::Both, TWO_ROUTERS, &steps)?);
-    Ok(())
-}
-
-#[test]
-fn want_of_memory_spends_a_router(rt: HostRuntime) -> Result<(), Fail> {
-    let steps = [
-        looks(0, Look::Spent(false)),
-        ticks(0, 0, 16384),
-        looks(0, Look::Spent(false)),
-        Step::Count(1),
-        hears(0, 100, HELLO_OF_ONE, Answer::Wanting),
-        looks(0, Look::Spent(true)),
-        Step::At(0, Event::Ticks(20000, None)),
-        hears(0, 20100, HELLO_OF_ONE, Answer::Wanting),
-        hears(0, 20100, VERSION, Answer::Wanting),
-        looks(0, Look::Spent(true)),
-        Step::Count(0),
-    ];
-    assert!(rt; is_right(rt.alloc(), Over::Nothing, TWO_ROUTERS, &steps)?);
-    Ok(())
-}
+pub(crate) static CASES: [Case; 5] = [
+    (
+        "a lone router tells of itself",
+        Over::Both,
+        ALONE,
+        &[
+            At(0, Looks(Look::Holds(EMPTY))),
+            At(0, Ticks(0, Some(16384))),
+            Tells(0, 0, ALONE_SAYS),
+            Count(1),
+            // a late tick sends once
+            At(0, Ticks(40960, Some(49152))),
+            Tells(0, 0, ALONE_SAYS),
+            Count(1),
+            At(
+                0,
+                Looks(Look::Holds(Held {
+                    last: 40960,
+                    due: 49152,
+                    ..EMPTY
+                })),
+            ),
+            // one that comes early sends nothing
+            At(0, Ticks(49151, Some(49152))),
+            Count(0),
+        ],
+    ),
+    (
+        "each interface tells of both",
+        Over::Both,
+        LATER,
+        &[
+            At(0, Looks(Look::Holds(Held { due: 4096, ..EMPTY }))),
+            At(0, Ticks(0, Some(4096))),
+            // without rows no TC is sent
+            At(0, Ticks(4096, Some(8192))),
+            Count(0),
+            At(0, Ticks(8192, Some(24576))),
+            Tells(0, 0, FIRST_SAYS),
+            Tells(1, 1, SECOND_SAYS),
+            Count(2),
+        ],
+    ),
+    (
+        "a link ends in silence",
+        Over::Both,
+        TWO_ROUTERS,
+        &[
+            At(0, Hears(100, ONE, HELLO_OF_ONE, HEARD)),
+            At(0, Looks(Look::Link(ONE, Some(LINK)))),
+            At(
+                0,
+                Looks(Look::Holds(Held {
+                    last: 100,
+                    near: [1, 0, 1, 0],
+                    ..EMPTY
+                })),
+            ),
+            Count(0),
+            At(0, Ticks(49252, Some(65536))),
+            At(0, Looks(Look::Link(ONE, Some(LOST_LINK)))),
+            At(
+                0,
+                Looks(Look::Holds(Held {
+                    last: 49252,
+                    due: 65536,
+                    near: [1, 0, 1, 0],
+                    ..EMPTY
+                })),
+            ),
+            Count(1),
+            // a frame with a fault changes nothing, not even by expiry
+            At(0, Hears(98500, ONE, VERSION, Answer::Refused(0, 2))),
+            At(0, Looks(Look::Link(ONE, Some(LOST_LINK)))),
+            At(
+                0,
+                Looks(Look::Holds(Held {
+                    last: 49252,
+                    due: 65536,
+                    near: [1, 0, 1, 0],
+                    ..EMPTY
+                })),
+            ),
+            Count(0),
+            At(0, Ticks(98404, Some(114688))),
+            At(0, Looks(Look::Link(ONE, None))),
+            At(
+                0,
+                Looks(Look::Holds(Held {
+                    last: 98404,
+                    due: 114688,
+                    ..EMPTY
+                })),
+            ),
+        ],
+    ),
+    (
+        "frames and messages are refused",
+        Over::Both,
+        TWO_ROUTERS,
+        &[
+            At(1, Hears(50, ONE, VERSION, Answer::Refused(0, 2))),
+            At(1, Looks(Look::Holds(EMPTY))),
+            // a message that breaks a rule changes nothing, but its frame is an event
+            At(1, Hears(100, ONE, HELLO_OF_ONE, BROKEN)),
+            At(1, Looks(Look::Holds(Held { last: 100, ..EMPTY }))),
+            At(0, Hears(100, ONE, HELLO_OF_ONE, HEARD)),
+            // with a size that passes the end of the frame
+            At(0, Hears(200, ONE, CUT, Answer::Refused(3, 3))),
+            At(
+                0,
+                Looks(Look::Holds(Held {
+                    last: 100,
+                    near: [1, 0, 1, 0],
+                    ..EMPTY
+                })),
+            ),
+            Count(0),
+        ],
+    ),
+    (
+        "want of memory spends a router",
+        Over::Nothing,
+        TWO_ROUTERS,
+        &[
+            At(0, Looks(Look::Spent(false))),
+            At(0, Ticks(0, Some(16384))),
+            At(0, Looks(Look::Spent(false))),
+            Count(1),
+            At(0, Hears(100, ONE, HELLO_OF_ONE, Answer::Wanting)),
+            At(0, Looks(Look::Spent(true))),
+            At(0, Ticks(20000, None)),
+            At(0, Hears(20100, ONE, HELLO_OF_ONE, Answer::Wanting)),
+            At(0, Hears(20100, ONE, VERSION, Answer::Wanting)),
+            At(0, Looks(Look::Spent(true))),
+            Count(0),
+        ],
+    ),
+];

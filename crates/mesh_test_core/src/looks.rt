@@ -1,8 +1,8 @@
 //! What is seen of a router.
-use crate::reads::metric;
-use mesh_atoms::{Addr4, LinkKey, LinkState, Metric, NetAddr, Relays, Route, RouterKey, TcRow};
+use mesh_atoms::{Addr4, LinkKey, LinkState, NetAddr, Relays, Route, RouterKey, TcRow};
 use mesh_core::Core;
 use mesh_expire::{Bases, Table};
+use mesh_fixtures::{cost, metric};
 use mesh_flood::Heading;
 use mesh_nbrs::Near4;
 
@@ -16,6 +16,15 @@ pub(crate) struct Held {
     pub(crate) far: [usize; 4],
     pub(crate) ansn: u16,
 }
+
+/// Nothing, and nothing happened.
+pub(crate) const EMPTY: Held = Held {
+    last: 0,
+    due: 0,
+    near: [0, 0, 0, 0],
+    far: [0, 0, 0, 0],
+    ansn: 0,
+};
 
 fn near_of<N: Near4>(near: &N) -> [usize; 4] {
     [
@@ -56,13 +65,6 @@ pub(crate) struct LinkHas {
     pub(crate) link_in: u32,
     pub(crate) link_out: Option<u32>,
     pub(crate) selector: bool,
-}
-
-fn cost(metric: Option<Metric>) -> Option<u32> {
-    match metric {
-        Some(metric) => Some(metric.value()),
-        None => None,
-    }
 }
 
 fn link_of<B: Bases>(core: &Core<B>, addr: u32) -> Option<LinkHas> {

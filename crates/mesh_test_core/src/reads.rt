@@ -1,7 +1,6 @@
 //! What a sent HELLO says.
-use mesh_atoms::{
-    Addr4, Hello, HelloRow, LinkStatus, LocalIf, Metric, Metrics, Mpr, NetAddr, Willing,
-};
+use mesh_atoms::{Addr4, Hello, HelloRow, LinkStatus, LocalIf, Metrics, Mpr, NetAddr, Willing};
+use mesh_fixtures::metric;
 use mesh_packet::{Message, decode};
 use mesh_wire::hello_of;
 use std::alloc::{AllocError, Global};
@@ -12,13 +11,6 @@ use std::alloc::{AllocError, Global};
 pub(crate) enum Row {
     Own(u32, LocalIf),
     Relay(u32, u16, u16),
-}
-
-/// The metric of a cost from 1 to 256.
-pub(crate) fn metric(cost: u16) -> Metric {
-    Metric {
-        code: cost.saturating_sub(1) % 256,
-    }
 }
 
 fn own(addr: u32, local: LocalIf) -> HelloRow {
@@ -117,11 +109,18 @@ fn reads_as(alloc: Global, message: &Message, told: &Told) -> bool {
     }
 }
 
+// Whether one message alone is there, which is such a HELLO.
+fn is_only(alloc: Global, messages: &[Message], told: &Told) -> bool {
+    match messages {
+        [message] => reads_as(alloc, message, told),
+        _ => false,
+    }
+}
+
 /// Whether a frame is one HELLO, which says that.
 pub(crate) fn is_hello(alloc: Global, frame: &[u8], told: &Told) -> bool {
-    let Ok(decoded) = decode(alloc, frame) else {
-        return false;
-    };
-    let messages = decoded.packet.messages.as_slice();
-    messages.len() == 1 && reads_as(alloc, &messages[0], told)
+    match decode(alloc, frame) {
+        Ok(decoded) => is_only(alloc, decoded.packet.messages.as_slice(), told),
+        Err(_) => false,
+    }
 }

@@ -1,13 +1,15 @@
 //! Three routers in a row, a, b and c, whose frames are handed to each other, until each has routes to all that is there.
-use crate::bases::{Over, is_right};
+use crate::bases::{Case, Over};
 use crate::frames::{HEARD, ONE, THREE, TWO};
 use crate::looks::{Held, LinkHas, Look, RouteHas};
+use crate::octets::Part;
 use crate::reads::{Row, Told};
-use crate::run::{Answer, Event, Step, looks, ticks};
+use crate::run::Answer;
+use crate::run::Event::{Hears, Looks, Ticks};
+use crate::run::Step::{At, Count, Tells};
 use mesh_atoms::{Addr4, LinkState, LocalIf};
 use mesh_core::Read;
 use mesh_flood::{Forward, Process};
-use std::test::Fail;
 
 /// From a to b it costs 2 and back 3, from b to c 4 and back 5; and 7 from a into the network behind it.
 const ROW: &[u8] = b"end_ms = 1
@@ -57,10 +59,10 @@ const B: usize = 1;
 
 const C: usize = 2;
 
-/// A router hears the frame at a place, from that sender.
-const fn gets(router: usize, now: u32, sender: u32, place: usize, answer: Answer) -> Step {
-    Step::At(router, Event::Gets((now, 0, sender), place, answer))
-}
+/// What was sent first, and what was sent then.
+const FIRST_SENT: &[Part] = &[Part::Sent(0)];
+
+const SECOND_SENT: &[Part] = &[Part::Sent(1)];
 
 /// A TC that is taken and forwarded, one that is taken alone, and the router's own.
 const ONWARD: Answer = Answer::Taken(&[(1, Read::Topology, Forward::Do)]);
@@ -129,65 +131,65 @@ const HELD: Held = Held {
     ansn: 0,
 };
 
-#[test]
-fn three_routers_in_a_row(rt: HostRuntime) -> Result<(), Fail> {
-    let steps = [
+pub(crate) static CASES: [Case; 1] = [(
+    "three routers in a row",
+    Over::Both,
+    ROW,
+    &[
         // b hears a, and a that it does
-        ticks(A, 0, 16384),
-        gets(B, 9, ONE, 0, HEARD),
-        looks(B, Look::Routes(&[])),
-        Step::Count(1),
-        ticks(B, 4096, 20480),
-        gets(A, 4105, TWO, 0, HEARD),
-        gets(C, 4105, TWO, 0, HEARD),
-        looks(A, Look::Routes(AT_A_FIRST)),
-        Step::Count(1),
-        ticks(C, 8192, 24576),
-        gets(B, 8201, THREE, 0, HEARD),
-        looks(B, Look::Routes(AT_B_FIRST)),
-        Step::Count(1),
+        At(A, Ticks(0, Some(16384))),
+        At(B, Hears(9, ONE, FIRST_SENT, HEARD)),
+        At(B, Looks(Look::Routes(&[]))),
+        Count(1),
+        At(B, Ticks(4096, Some(20480))),
+        At(A, Hears(4105, TWO, FIRST_SENT, HEARD)),
+        At(C, Hears(4105, TWO, FIRST_SENT, HEARD)),
+        At(A, Looks(Look::Routes(AT_A_FIRST))),
+        Count(1),
+        At(C, Ticks(8192, Some(24576))),
+        At(B, Hears(8201, THREE, FIRST_SENT, HEARD)),
+        At(B, Looks(Look::Routes(AT_B_FIRST))),
+        Count(1),
         // b knows both, and they each other by what it says
-        ticks(A, 16384, 32768),
-        gets(B, 16393, ONE, 0, HEARD),
-        looks(B, Look::Routes(AT_B_NEXT)),
-        looks(B, Look::Relays(&[])),
-        Step::Count(1),
-        ticks(B, 20480, 36864),
-        gets(A, 20489, TWO, 0, HEARD),
-        gets(C, 20489, TWO, 0, HEARD),
-        looks(A, Look::Routes(AT_A)),
-        looks(A, Look::Relays(RELAY)),
-        looks(C, Look::Routes(AT_C_FIRST)),
-        Step::Count(1),
+        At(A, Ticks(16384, Some(32768))),
+        At(B, Hears(16393, ONE, FIRST_SENT, HEARD)),
+        At(B, Looks(Look::Routes(AT_B_NEXT))),
+        At(B, Looks(Look::Relays(&[]))),
+        Count(1),
+        At(B, Ticks(20480, Some(36864))),
+        At(A, Hears(20489, TWO, FIRST_SENT, HEARD)),
+        At(C, Hears(20489, TWO, FIRST_SENT, HEARD)),
+        At(A, Looks(Look::Routes(AT_A))),
+        At(A, Looks(Look::Relays(RELAY))),
+        At(C, Looks(Look::Routes(AT_C_FIRST))),
+        Count(1),
         // they choose it as their relay, and it advertises them
-        ticks(C, 24576, 40960),
-        Step::Tells(0, 0, CHOOSES),
-        gets(B, 24585, THREE, 0, HEARD),
-        looks(B, Look::Rows(ROWS_FIRST)),
-        Step::Count(1),
-        ticks(A, 32768, 40960),
-        gets(B, 32777, ONE, 0, HEARD),
-        looks(B, Look::Rows(ROWS)),
-        looks(B, Look::Link(ONE, Some(LINK))),
-        Step::Count(1),
+        At(C, Ticks(24576, Some(40960))),
+        Tells(0, 0, CHOOSES),
+        At(B, Hears(24585, THREE, FIRST_SENT, HEARD)),
+        At(B, Looks(Look::Rows(ROWS_FIRST))),
+        Count(1),
+        At(A, Ticks(32768, Some(40960))),
+        At(B, Hears(32777, ONE, FIRST_SENT, HEARD)),
+        At(B, Looks(Look::Rows(ROWS))),
+        At(B, Looks(Look::Link(ONE, Some(LINK)))),
+        Count(1),
         // a advertises its network, by way of b
-        ticks(A, 40960, 49152),
-        gets(B, 40969, ONE, 0, ONWARD),
-        gets(A, 40978, TWO, 1, BACK),
-        gets(C, 40978, TWO, 1, TAKEN),
-        looks(B, Look::Routes(AT_B)),
-        looks(C, Look::Routes(AT_C)),
-        Step::Count(2),
+        At(A, Ticks(40960, Some(49152))),
+        At(B, Hears(40969, ONE, FIRST_SENT, ONWARD)),
+        At(A, Hears(40978, TWO, SECOND_SENT, BACK)),
+        At(C, Hears(40978, TWO, SECOND_SENT, TAKEN)),
+        At(B, Looks(Look::Routes(AT_B))),
+        At(C, Looks(Look::Routes(AT_C))),
+        Count(2),
         // b comes late with its HELLO, and sends its TC behind it
-        ticks(B, 45056, 53248),
-        gets(A, 45065, TWO, 0, HEARD),
-        gets(A, 45065, TWO, 1, TAKEN),
-        Step::Count(2),
-        looks(A, Look::Tuple(TWO, ONE, Some((2, 167945)))),
-        looks(A, Look::Tuple(TWO, THREE, Some((2, 167945)))),
-        looks(A, Look::Holds(HELD)),
-        looks(A, Look::Routes(AT_A)),
-    ];
-    assert!(rt; is_right(rt.alloc(), Over::Both, ROW, &steps)?);
-    Ok(())
-}
+        At(B, Ticks(45056, Some(53248))),
+        At(A, Hears(45065, TWO, FIRST_SENT, HEARD)),
+        At(A, Hears(45065, TWO, SECOND_SENT, TAKEN)),
+        Count(2),
+        At(A, Looks(Look::Tuple(TWO, ONE, Some((2, 167945))))),
+        At(A, Looks(Look::Tuple(TWO, THREE, Some((2, 167945))))),
+        At(A, Looks(Look::Holds(HELD))),
+        At(A, Looks(Look::Routes(AT_A))),
+    ],
+)];

@@ -1,9 +1,8 @@
 //! Runs of routers: what happens to them step by step, and what must come of each.
-use crate::frames::ONE;
 use crate::looks::{Look, shows};
 use crate::octets::{Part, frame_of};
 use crate::reads::{Told, is_hello};
-use mesh_atoms::{Addr4, Refusal, RouterSettings, Scenario};
+use mesh_atoms::{Addr4, Refusal, RouterSettings};
 use mesh_core::{Core, Fate, Heard, Outbox, Read};
 use mesh_expire::Bases;
 use mesh_flood::Forward;
@@ -63,20 +62,20 @@ fn is_answer(came: &Result<Heard, AllocError>, answer: &Answer) -> bool {
     }
 }
 
-/// Lets a router hear a frame, and says whether it answers so, and whether it is spent exactly where it wants memory.
+/// Lets a router hear a frame on its first interface, and says whether it answers so, and whether it is spent exactly where it wants memory.
 fn hear<B: Bases>(
     core: &mut Core<B>,
     out: &mut Outbox,
-    arrival: (u32, usize, u32),
+    now: u32,
+    sender: u32,
     frame: &[u8],
     answer: &Answer,
 ) -> bool {
-    let now = u64::from(arrival.0);
-    let iface = arrival.1;
-    if now < core.last() || iface >= core.settings().interfaces.len() {
+    let now = u64::from(now);
+    if now < core.last() || core.settings().interfaces.len() == 0 {
         return false;
     }
-    let came = core.hear(now, iface, Addr4(arrival.2), frame, out);
+    let came = core.hear(now, 0, Addr4(sender), frame, out);
     is_answer(&came, answer) && core.is_spent() == came.is_err()
 }
 
@@ -94,10 +93,8 @@ fn tick<B: Bases>(core: &mut Core<B>, out: &mut Outbox, now: u32, due: Option<u6
 
 #[derive(Clone, Copy)]
 pub(crate) enum Event {
-    // moment, interface and sender; the frame; the answer
-    Hears((u32, usize, u32), &'static [Part], Answer),
-    // moment, interface and sender; the place of the frame among those that were sent; the answer
-    Gets((u32, usize, u32), usize, Answer),
+    // moment and sender; the frame, on the first interface; the answer
+    Hears(u32, u32, &'static [Part], Answer),
     // the moment; what is next due then, or none where it wants memory
     Ticks(u32, Option<u64>),
     Looks(Look),
@@ -115,29 +112,6 @@ pub(crate) enum Step {
     Count(usize),
 }
 
-/// A router hears a frame of 10.0.0.1 on its first interface, and answers so.
-pub(crate) const fn hears(router: usize, now: u32, frame: &'static [Part], answer: Answer) -> Step {
-    Step::At(router, Event::Hears((now, 0, ONE), frame, answer))
-}
-
-/// The clock of a router ticks, and that is next due then.
-pub(crate) const fn ticks(router: usize, now: u32, due: u64) -> Step {
-    Step::At(router, Event::Ticks(now, Some(due)))
-}
-
-/// A router looks so.
-pub(crate) const fn looks(router: usize, look: Look) -> Step {
-    Step::At(router, Event::Looks(look))
-}
-
-/// The octets of the frame at a place.
-fn copy_of(alloc: Global, out: &Outbox, place: usize) -> Result<Vec<u8>, AllocError> {
-    match out.frame(place) {
-        Some((_, octets)) => Vec::from_slice(alloc, octets),
-        None => Ok(Vec::new(alloc)),
-    }
-}
-
 /// Lets that happen to a router, and says whether what comes of it is right.
 fn happens<B: Bases>(
     alloc: Global,
@@ -146,13 +120,9 @@ fn happens<B: Bases>(
     event: &Event,
 ) -> Result<bool, AllocError> {
     match *event {
-        Event::Hears(arrival, parts, answer) => {
-            let frame = frame_of(alloc, parts)?;
-            Ok(hear(core, out, arrival, frame.as_slice(), &answer))
-        }
-        Event::Gets(arrival, place, answer) => {
-            let frame = copy_of(alloc, out, place)?;
-            Ok(hear(core, out, arrival, frame.as_slice(), &answer))
+        Event::Hears(now, sender, parts, answer) => {
+            let frame = frame_of(alloc, out, parts)?;
+            Ok(hear(core, out, now, sender, frame.as_slice(), &answer))
         }
         Event::Ticks(now, due) => Ok(tick(core, out, now, due)),
         Event::Looks(look) => Ok(shows(core, &look)),
@@ -166,7 +136,7 @@ fn is_sent(
     iface: usize,
     parts: &[Part],
 ) -> Result<bool, AllocError> {
-    let wanted = frame_of(alloc, parts)?;
+    let wanted = frame_of(alloc, out, parts)?;
     match out.frame(place) {
         Some((on, octets)) => Ok(on == iface && octets == wanted.as_slice()),
         None => Ok(false),
@@ -190,6 +160,24 @@ fn is_told(alloc: Global, out: &Outbox, place: usize, iface: usize, told: &Told)
     }
 }
 
+/// Whether what was sent is as a step says that looks at it.
+fn shows_sent(alloc: Global, out: &mut Outbox, step: &Step) -> Result<bool, AllocError> {
+    match *step {
+        Step::At(..) => Ok(false),
+        Step::Tells(place, iface, told) => Ok(is_told(alloc, out, place, iface, &told)),
+        Step::Sent(wanted) => {
+            let right = are_sent(alloc, out, wanted)?;
+            out.clear();
+            Ok(right)
+        }
+        Step::Count(want) => {
+            let right = out.len() == want;
+            out.clear();
+            Ok(right)
+        }
+    }
+}
+
 /// Takes a step, and says whether what comes of it is right.
 fn is_taken<B: Bases>(
     alloc: Global,
@@ -204,17 +192,7 @@ fn is_taken<B: Bases>(
             }
             happens(alloc, &mut cores[router], out, &event)
         }
-        Step::Tells(place, iface, told) => Ok(is_told(alloc, out, place, iface, &told)),
-        Step::Sent(wanted) => {
-            let right = are_sent(alloc, out, wanted)?;
-            out.clear();
-            Ok(right)
-        }
-        Step::Count(want) => {
-            let right = out.len() == want;
-            out.clear();
-            Ok(right)
-        }
+        _ => shows_sent(alloc, out, step),
     }
 }
 
@@ -232,25 +210,29 @@ fn are_taken<B: Bases>(
     Ok(true)
 }
 
+fn core_of<B: Bases>(alloc: Global, settings: &RouterSettings) -> Result<Core<B>, AllocError> {
+    Core::new(alloc, settings.copy()?)
+}
+
 fn put_cores<B: Bases>(
     alloc: Global,
     routers: &[RouterSettings],
     cores: &mut Vec<Core<B>>,
 ) -> Result<(), AllocError> {
     for settings in routers {
-        cores.push(Core::new(alloc, settings.copy()?)?)?;
+        cores.push(core_of(alloc, settings)?)?;
     }
     Ok(())
 }
 
-/// Whether each step of the routers of a scenario, before their first events, comes to what it must.
+/// Whether each step of the routers of a scenario, before their first events, comes to what it must; nothing is sent at first.
 pub(crate) fn goes_right<B: Bases>(
     alloc: Global,
-    scenario: &Scenario,
+    routers: &[RouterSettings],
+    out: &mut Outbox,
     steps: &[Step],
 ) -> Result<bool, AllocError> {
     let mut cores = Vec::new(alloc);
-    put_cores::<B>(alloc, scenario.routers.as_slice(), &mut cores)?;
-    let mut out = Outbox::new(alloc);
-    are_taken(alloc, cores.as_mut_slice(), &mut out, steps)
+    put_cores::<B>(alloc, routers, &mut cores)?;
+    are_taken(alloc, cores.as_mut_slice(), out, steps)
 }

@@ -12,10 +12,6 @@ ends_told arcs = map (λ a. record { from = a.from; from_iface = a.from_iface; t
 abbrev pub ends_of : List (ℕ × ℕ × ℕ × ℕ × ℕ) → List Ends
 ends_of rows = map (λ r. record { from = r.0; from_iface = r.1; to = r.2; to_iface = r.3 }) rows
 
--- a router's name is a letter or a digit, and its address isn't 0.0.0.0
-abbrev pub is_row : ℕ × Addr4 × Bool → Bool
-is_row r = is_name_octet r.0 && nat_lt 0 r.1.0
-
--- the same of a router of two interfaces, whose addresses ascend
+-- a router's name is a letter or a digit, and its two addresses ascend from above 0.0.0.0
 abbrev pub is_double_row : ℕ × Addr4 × Addr4 → Bool
 is_double_row r = is_name_octet r.0 && (nat_lt 0 r.1.0 && nat_lt r.1.0 r.2.0)

@@ -1,35 +1,18 @@
 //! Interfaces, routers, arcs and scenarios for worked networks.
-ghost use Rattle.std.specs.Prelude.{◌≡◌, ◌<◌, [], ◌∷◌, length, map, cond, IfOk, IsTrue};
+ghost use Rattle.std.specs.Prelude.{◌≡◌, ◌<◌, [], ◌∷◌, length, map, IfOk, IsTrue};
 ghost use Rattle.std.specs.List.{flat_map, list_all};
-ghost use Rattle.mesh_atoms.specs.Settings.{is_step, IsName, IsRouter, AreRouters, AreArcs};
-ghost use Rattle.mesh_test_graphs.specs.Scenarios.{ends_told, ends_of, is_row, is_double_row};
+ghost use Rattle.mesh_atoms.specs.Settings.{is_step, IsName, AreRouters, AreArcs};
+ghost use Rattle.mesh_test_graphs.specs.Scenarios.{ends_told, ends_of, is_double_row};
 
 use mesh_atoms::{
-    Addr4, Admit, Attached4, Bytes, DEFAULT_TC_ROWS, DEFAULT_TIMES, Interface, Metric, NetAddr,
-    QualityStep, RadioArc, RouterSettings, Scenario, SenderMetric, SenderQuality, Seq, Willing,
+    Addr4, Admit, DEFAULT_TIMES, Interface, Metric, QualityStep, RadioArc, RouterSettings,
+    Scenario, SenderMetric, SenderQuality, Seq,
 };
+use mesh_fixtures::{list_of, metric, router, text, two_interfaces};
 use std::alloc::{AllocError, Global};
 
 /// From an interface of a router to one of another, at a cost.
 pub(crate) type Joint = (usize, usize, usize, usize, u32);
-
-/// An interface of one address.
-fn interface_of(alloc: Global, name: &[u8], addr: Addr4) -> Result<Interface, AllocError>
-    requires name { IsName name.now }
-    requires addr { 0 < addr.0 }
-    ensures name { IfOk result (λ i. i.name ≡ name.now) }
-    ensures addrs { IfOk result (λ i. i.addrs ≡ addr ∷ []) }
-{
-    let senders = Seq::new(alloc);
-    let admit = Admit::all(&senders)?;
-    Ok(Interface {
-        name: Bytes::from_vec(Vec::from_slice(alloc, name)?),
-        addrs: Seq::from_vec(Vec::from_slice(alloc, &[addr])?),
-        metric: Metric { code: 0 },
-        senders,
-        admit,
-    })
-}
 
 /// A rule that accepts qualities from 60 on and rejects those below 40: of what one sender sends the quality is this one from a
 /// moment on.
@@ -61,46 +44,16 @@ fn judging_interface(
     requires step { IsTrue (is_step at quality) }
     ensures addrs { IfOk result (λ i. i.addrs ≡ addr ∷ []) }
 {
-    let mut senders = Seq::new(alloc);
-    senders.push(SenderMetric {
+    let first = SenderMetric {
         sender,
-        metric: Metric { code: 0 },
-    })?;
-    let admit = rule_of(alloc, sender, at, quality)?;
+        metric: metric(1),
+    };
     Ok(Interface {
-        name: Bytes::from_vec(Vec::from_slice(alloc, b"w0")?),
-        addrs: Seq::from_vec(Vec::from_slice(alloc, &[addr])?),
-        metric: Metric { code: 0 },
-        senders,
-        admit,
-    })
-}
-
-/// A router of these interfaces and attached networks.
-fn router_of(
-    alloc: Global,
-    name: &[u8],
-    interfaces: Seq<Interface>,
-    attached: Seq<Attached4>,
-) -> Result<RouterSettings, AllocError>
-    requires { IsRouter name.now 0 0 (map (λ i. i.name) interfaces) (flat_map (λ i. i.addrs) interfaces) (map (λ a. a.net) attached) }
-    ensures name { IfOk result (λ r. r.name ≡ name.now) }
-    ensures interfaces { IfOk result (λ r. r.interfaces ≡ interfaces) }
-    ensures attached { IfOk result (λ r. r.attached ≡ attached) }
-{
-    Ok(RouterSettings {
-        name: Bytes::from_vec(Vec::from_slice(alloc, name)?),
-        willing: Willing {
-            flooding: 7,
-            routing: 7,
-        },
-        hello_at: 0,
-        tc_at: 0,
-        times: DEFAULT_TIMES,
-        interfaces,
-        attached,
-        tc_rows: DEFAULT_TC_ROWS,
-        near_hold: Seq::new(alloc),
+        name: text(alloc, b"w0")?,
+        addrs: list_of(alloc, &[addr])?,
+        metric: metric(1),
+        senders: list_of(alloc, &[first])?,
+        admit: rule_of(alloc, sender, at, quality)?,
     })
 }
 
@@ -125,68 +78,7 @@ pub(crate) fn judge(
 {
     let mut interfaces = Seq::new(alloc);
     interfaces.push(judging_interface(alloc, addr, sender, at, quality)?)?;
-    router_of(alloc, name, interfaces, Seq::new(alloc))
-}
-
-/// A router of one interface.
-pub(crate) fn plain(alloc: Global, name: &[u8], addr: Addr4) -> Result<RouterSettings, AllocError>
-    requires name { IsName name.now }
-    requires addr { 0 < addr.0 }
-    ensures name { IfOk result (λ r. r.name ≡ name.now) }
-    ensures interfaces { IfOk result (λ r. length r.interfaces ≡ 1) }
-    ensures addrs { IfOk result (λ r. flat_map (λ i. i.addrs) r.interfaces ≡ addr ∷ []) }
-    ensures nets { IfOk result (λ r. map (λ a. a.net) r.attached ≡ []) }
-{
-    let mut interfaces = Seq::new(alloc);
-    interfaces.push(interface_of(alloc, b"w0", addr)?)?;
-    router_of(alloc, name, interfaces, Seq::new(alloc))
-}
-
-/// A router of one interface that attaches a network of prefix 24, at cost 1.
-fn gateway(
-    alloc: Global,
-    name: &[u8],
-    addr: Addr4,
-    net: NetAddr,
-) -> Result<RouterSettings, AllocError>
-    requires name { IsName name.now }
-    requires addr { 0 < addr.0 }
-    requires prefix { net.prefix ≡ 24 }
-    ensures name { IfOk result (λ r. r.name ≡ name.now) }
-    ensures interfaces { IfOk result (λ r. length r.interfaces ≡ 1) }
-    ensures addrs { IfOk result (λ r. flat_map (λ i. i.addrs) r.interfaces ≡ addr ∷ []) }
-    ensures nets { IfOk result (λ r. map (λ a. a.net) r.attached ≡ net ∷ []) }
-{
-    let mut interfaces = Seq::new(alloc);
-    interfaces.push(interface_of(alloc, b"w0", addr)?)?;
-    let mut attached = Seq::new(alloc);
-    attached.push(Attached4 {
-        net,
-        metric: metric_of(1),
-        distance: 1,
-    })?;
-    router_of(alloc, name, interfaces, attached)
-}
-
-/// A router of two interfaces.
-pub(crate) fn double(
-    alloc: Global,
-    name: &[u8],
-    first: Addr4,
-    second: Addr4,
-) -> Result<RouterSettings, AllocError>
-    requires name { IsName name.now }
-    requires first { 0 < first.0 }
-    requires second { first.0 < second.0 }
-    ensures name { IfOk result (λ r. r.name ≡ name.now) }
-    ensures interfaces { IfOk result (λ r. length r.interfaces ≡ 2) }
-    ensures addrs { IfOk result (λ r. flat_map (λ i. i.addrs) r.interfaces ≡ first ∷ second ∷ []) }
-    ensures nets { IfOk result (λ r. map (λ a. a.net) r.attached ≡ []) }
-{
-    let mut interfaces = Seq::new(alloc);
-    interfaces.push(interface_of(alloc, b"w0", first)?)?;
-    interfaces.push(interface_of(alloc, b"w1", second)?)?;
-    router_of(alloc, name, interfaces, Seq::new(alloc))
+    router(alloc, name, interfaces, DEFAULT_TIMES)
 }
 
 /// The least metric of at least that cost.
@@ -230,47 +122,28 @@ pub(crate) fn scenario_of(routers: Seq<RouterSettings>, arcs: Seq<RadioArc>) -> 
     }
 }
 
-/// A router as its name of one letter, its address, and whether it attaches the network.
-fn router_at(
+/// A router of two interfaces.
+fn double(
     alloc: Global,
-    net: NetAddr,
-    name: u8,
-    addr: Addr4,
-    attaches: bool,
+    name: &[u8],
+    first: Addr4,
+    second: Addr4,
 ) -> Result<RouterSettings, AllocError>
-    requires name { IsName (name ∷ []) }
-    requires addr { 0 < addr.0 }
-    requires prefix { net.prefix ≡ 24 }
-    ensures name { IfOk result (λ r. r.name ≡ name ∷ []) }
-    ensures interfaces { IfOk result (λ r. length r.interfaces ≡ 1) }
-    ensures addrs { IfOk result (λ r. flat_map (λ i. i.addrs) r.interfaces ≡ addr ∷ []) }
-    ensures nets { IfOk result (λ r. map (λ a. a.net) r.attached ≡ cond attaches (net ∷ []) []) }
+    requires name { IsName name.now }
+    requires first { 0 < first.0 }
+    requires second { first.0 < second.0 }
+    ensures name { IfOk result (λ r. r.name ≡ name.now) }
+    ensures interfaces { IfOk result (λ r. length r.interfaces ≡ 2) }
+    ensures addrs { IfOk result (λ r. flat_map (λ i. i.addrs) r.interfaces ≡ first ∷ second ∷ []) }
+    ensures nets { IfOk result (λ r. map (λ a. a.net) r.attached ≡ []) }
 {
-    if attaches {
-        gateway(alloc, &[name], addr, net)
-    } else {
-        plain(alloc, &[name], addr)
-    }
-}
-
-/// Routers of one interface each, as name, address, and whether it attaches the network.
-pub(crate) fn routers_of(
-    alloc: Global,
-    net: NetAddr,
-    rows: &[(u8, Addr4, bool)],
-) -> Result<Seq<RouterSettings>, AllocError>
-    requires rows { IsTrue (list_all is_row rows.now) }
-    requires prefix { net.prefix ≡ 24 }
-    ensures names { IfOk result (λ routers. map (λ r. r.name) routers ≡ map (λ r. r.0 ∷ []) rows.now) }
-    ensures counts { IfOk result (λ routers. map (λ r. length r.interfaces) routers ≡ map (λ r. 1) rows.now) }
-    ensures addrs { IfOk result (λ routers. flat_map (λ r. flat_map (λ i. i.addrs) r.interfaces) routers ≡ map (λ r. r.1) rows.now) }
-    ensures nets { IfOk result (λ routers. flat_map (λ r. map (λ a. a.net) r.attached) routers ≡ flat_map (λ r. cond r.2 (net ∷ []) []) rows.now) }
-{
-    let mut routers = Seq::new(alloc);
-    for &(name, addr, attaches) in rows {
-        routers.push(router_at(alloc, net, name, addr, attaches)?)?;
-    }
-    Ok(routers)
+    two_interfaces(
+        alloc,
+        name,
+        (first, metric(1)),
+        (second, metric(1)),
+        DEFAULT_TIMES,
+    )
 }
 
 /// Routers of two interfaces each, as name and addresses.

@@ -5,7 +5,6 @@ ghost use Rattle.mesh_paths.specs.Paths.{HasCosts};
 use mesh_atoms::{Addr4, NetAddr, Seq};
 use mesh_paths::{Arc4, Certificate, Graph, PathRow, check, search, search_by_rounds};
 use std::alloc::{AllocError, Global};
-use std::process::Abort;
 use std::test::Fail;
 
 // A number below 100 stands for a router's address, and 100 more for the network of that number and prefix 31.
@@ -64,7 +63,7 @@ type Case = (
 );
 
 // Certificates from node 1.
-const CERTIFICATES: [Case; 15] = [
+static CERTIFICATES: [Case; 15] = [
     (
         "right",
         &[(1, 2, 1), (1, 3, 1), (2, 4, 10), (3, 4, 2)],
@@ -137,27 +136,53 @@ const CERTIFICATES: [Case; 15] = [
     ),
 ];
 
-// The certificate is right or not, and a right one is what both searches find.
-fn expect_answer(rt: &impl Abort, alloc: Global, case: &Case) -> Result<(), AllocError> {
-    let (name, arcs, rows, is_right) = *case;
-    assert!(rt; arcs.len() < 100);
+fn is_found(alloc: Global, graph: &Graph, rows: &[PathRow]) -> Result<bool, AllocError>
+    requires costs { HasCosts graph.now }
+    requires few { length graph.now.arcs < 2 ^ 32 }
+{
+    let found = search(alloc, graph, node(1))?;
+    Ok(found.rows.as_slice() == rows)
+}
+
+fn is_found_by_rounds(alloc: Global, graph: &Graph, rows: &[PathRow]) -> Result<bool, AllocError>
+    requires costs { HasCosts graph.now }
+    requires few { length graph.now.arcs < 2 ^ 32 }
+{
+    let found = search_by_rounds(alloc, graph, node(1))?;
+    Ok(found.rows.as_slice() == rows)
+}
+
+// Whether the certificate is right or not, and where it is so, what both searches find.
+fn is_answered(
+    alloc: Global,
+    graph: &Graph,
+    certificate: &Certificate,
+    is_right: bool,
+) -> Result<bool, AllocError>
+    requires costs { HasCosts graph.now }
+    requires few { length graph.now.arcs < 2 ^ 32 }
+{
+    if check(graph, node(1), certificate) != is_right {
+        return Ok(false);
+    }
+    let rows = certificate.rows.as_slice();
+    Ok(!is_right || is_found(alloc, graph, rows)? && is_found_by_rounds(alloc, graph, rows)?)
+}
+
+fn answers(alloc: Global, case: &Case) -> Result<bool, AllocError> {
+    let (_, arcs, rows, is_right) = *case;
+    if arcs.len() >= 100 {
+        return Ok(false);
+    }
     let graph = graph_of(alloc, arcs)?;
     let certificate = certificate_of(alloc, rows)?;
-    assert!(rt; check(&graph, node(1), &certificate) == is_right, "{name}");
-    if is_right {
-        let found = search(alloc, &graph, node(1))?;
-        let plain = search_by_rounds(alloc, &graph, node(1))?;
-        let rows = certificate.rows.as_slice();
-        assert!(rt; found.rows.as_slice() == rows, "{name}");
-        assert!(rt; plain.rows.as_slice() == rows, "{name}");
-    }
-    Ok(())
+    is_answered(alloc, &graph, &certificate, is_right)
 }
 
 #[test]
 fn answers_certificates(rt: HostRuntime) -> Result<(), Fail> {
     for case in &CERTIFICATES {
-        expect_answer(&rt, rt.alloc(), case)?;
+        assert!(rt; answers(rt.alloc(), case)?, "{}", case.0);
     }
     Ok(())
 }
@@ -191,18 +216,42 @@ fn random_arcs(
     Ok(arcs)
 }
 
-#[test]
-fn bodies_agree_on_random_graphs(rt: HostRuntime) -> Result<(), Fail> {
-    for seed in 0..20_u64 {
-        for (count, nodes) in [(5, 4), (20, 8), (60, 20), (200, 60)] {
-            let arcs = random_arcs(rt.alloc(), seed, count, nodes)?;
-            assert!(rt; arcs.len() < 1000);
-            let graph = graph_of(rt.alloc(), arcs.as_slice())?;
-            let found = search(rt.alloc(), &graph, node(0))?;
-            let plain = search_by_rounds(rt.alloc(), &graph, node(0))?;
-            assert!(rt; found.rows.as_slice() == plain.rows.as_slice());
-            assert!(rt; check(&graph, node(0), &found));
+// Whether both searches find the same, and that is a certificate.
+fn agree_on(alloc: Global, graph: &Graph) -> Result<bool, AllocError>
+    requires costs { HasCosts graph.now }
+    requires few { length graph.now.arcs < 2 ^ 32 }
+{
+    let found = search(alloc, graph, node(0))?;
+    let plain = search_by_rounds(alloc, graph, node(0))?;
+    Ok(found.rows.as_slice() == plain.rows.as_slice() && check(graph, node(0), &found))
+}
+
+fn agree(alloc: Global, arcs: &[(u32, u32, u32)]) -> Result<bool, AllocError> {
+    if arcs.len() >= 1000 {
+        return Ok(false);
+    }
+    let graph = graph_of(alloc, arcs)?;
+    agree_on(alloc, &graph)
+}
+
+// The same on random arcs, from so many seeds.
+fn agree_often(alloc: Global, seeds: u64, count: u32, nodes: u64) -> Result<bool, AllocError>
+    requires { 0 < nodes }
+{
+    for seed in 0..seeds {
+        let arcs = random_arcs(alloc, seed, count, nodes)?;
+        if !agree(alloc, arcs.as_slice())? {
+            return Ok(false);
         }
     }
+    Ok(true)
+}
+
+#[test]
+fn bodies_agree_on_random_graphs(rt: HostRuntime) -> Result<(), Fail> {
+    assert!(rt; agree_often(rt.alloc(), 20, 5, 4)?);
+    assert!(rt; agree_often(rt.alloc(), 20, 20, 8)?);
+    assert!(rt; agree_often(rt.alloc(), 20, 60, 20)?);
+    assert!(rt; agree_often(rt.alloc(), 20, 200, 60)?);
     Ok(())
 }

@@ -1,15 +1,16 @@
 //! Worked graphs, and both ways to choose on graphs that a generator makes and shuffles.
 ghost use Rattle.std.specs.Prelude.{◌<◌};
+ghost use Rattle.mesh_atoms.specs.Relays.{HasDistinctIds};
 
 use mesh_atoms::{Addr4, Direct, Far, Near, NeighbourGraph, Seq};
 use mesh_relay::{choose, choose_by_dropping, covers, has_distinct_ids, irredundant};
 use std::alloc::{AllocError, Global};
-use std::process::Abort;
 use std::test::Fail;
 
-/// Neighbours as id, cost and willingness; direct entries as address and cost; far entries as neighbour, address and cost;
+/// What is shown; neighbours as id, cost and willingness; direct entries as address and cost; far entries as neighbour, address and cost;
 /// and the relays that each of both ways gives.
 struct Case<'a> {
+    name: &'a str,
     near: &'a [(u32, u32, u8)],
     direct: &'a [(u32, u32)],
     far: &'a [(u32, u32, u32)],
@@ -53,155 +54,162 @@ fn graph_of(
     })
 }
 
-fn addresses(alloc: Global, numbers: &[u32]) -> Result<Vec<Addr4>, AllocError> {
-    numbers.iter().map(|n| Addr4(*n)).collect(alloc)
+/// Whether the relays are these, in that order.
+fn are_numbered(relays: &[Addr4], numbers: &[u32]) -> bool {
+    if relays.len() != numbers.len() {
+        return false;
+    }
+    for place in 0..relays.len() {
+        if relays[place].0 != numbers[place] {
+            return false;
+        }
+    }
+    true
 }
 
-fn expect_relays(
-    rt: &impl Abort,
+/// Whether the relays are these, cover, and are irredundant.
+fn are_right(graph: &NeighbourGraph, relays: &[Addr4], numbers: &[u32]) -> bool {
+    are_numbered(relays, numbers) && covers(graph, relays) && irredundant(graph, relays)
+}
+
+fn chooses(alloc: Global, graph: &NeighbourGraph, numbers: &[u32]) -> Result<bool, AllocError>
+    requires { HasDistinctIds graph.now }
+{
+    let relays = choose(alloc, graph)?;
+    Ok(are_right(graph, relays.as_slice(), numbers))
+}
+
+fn chooses_by_dropping(
+    alloc: Global,
     graph: &NeighbourGraph,
-    relays: &[Addr4],
-    want: &[Addr4],
-    label: usize,
-) {
-    assert!(rt; relays == want, "graph {label}");
-    assert!(rt; covers(graph, relays), "graph {label} isn't covered");
-    assert!(rt;
-        irredundant(graph, relays),
-        "graph {label} has one relay too many"
-    );
+    numbers: &[u32],
+) -> Result<bool, AllocError>
+    requires { HasDistinctIds graph.now }
+{
+    let relays = choose_by_dropping(alloc, graph)?;
+    Ok(are_right(graph, relays.as_slice(), numbers))
 }
 
-/// Both ways give what is wanted, and it covers and is irredundant.
-fn expect_choices(
-    rt: &impl Abort,
+/// Whether both ways give what is wanted, and that covers and is irredundant.
+fn both_choose(
     alloc: Global,
     graph: &NeighbourGraph,
     greedy: &[u32],
     dropping: &[u32],
-    label: usize,
-) -> Result<(), AllocError> {
-    assert!(rt; has_distinct_ids(graph), "graph {label} has an id twice");
-    let want = addresses(alloc, greedy)?;
-    expect_relays(rt, graph, choose(alloc, graph)?.as_slice(), &want, label);
-    let want = addresses(alloc, dropping)?;
-    expect_relays(
-        rt,
-        graph,
-        choose_by_dropping(alloc, graph)?.as_slice(),
-        &want,
-        label,
-    );
-    Ok(())
+) -> Result<bool, AllocError> {
+    if !has_distinct_ids(graph) {
+        return Ok(false);
+    }
+    Ok(chooses(alloc, graph, greedy)? && chooses_by_dropping(alloc, graph, dropping)?)
 }
 
-const WORKED: [Case; 14] = [
-    // both give the address at equal cost
+static WORKED: [Case; 14] = [
     Case {
+        name: "both give the address at equal cost",
         near: &[(1, 1, 7), (2, 1, 7)],
         direct: &[],
         far: &[(1, 9, 1), (2, 9, 1)],
         greedy: &[1],
         dropping: &[1],
     },
-    // a direct entry is as cheap
     Case {
+        name: "a direct entry is as cheap",
         near: &[(1, 1, 7), (2, 1, 7)],
         direct: &[(9, 2)],
         far: &[(1, 9, 1), (2, 9, 1)],
         greedy: &[],
         dropping: &[],
     },
-    // a direct entry is dearer
     Case {
+        name: "a direct entry is dearer",
         near: &[(1, 1, 7), (2, 1, 7)],
         direct: &[(9, 3)],
         far: &[(1, 9, 1), (2, 9, 1)],
         greedy: &[1],
         dropping: &[1],
     },
-    // the first is unwilling
     Case {
+        name: "the first is unwilling",
         near: &[(1, 1, 0), (2, 1, 7)],
         direct: &[],
         far: &[(1, 9, 1), (2, 9, 1)],
         greedy: &[2],
         dropping: &[2],
     },
-    // a third of willingness 15 leads nowhere
     Case {
+        name: "a third of willingness 15 leads nowhere",
         near: &[(1, 1, 7), (2, 1, 7), (3, 1, 15)],
         direct: &[],
         far: &[(1, 9, 1), (2, 9, 1)],
         greedy: &[1, 3],
         dropping: &[1, 3],
     },
-    // near costs differ: 5 + 1 and 1 + 3
     Case {
+        name: "near costs differ: 5 + 1 and 1 + 3",
         near: &[(1, 5, 7), (2, 1, 7)],
         direct: &[],
         far: &[(1, 9, 1), (2, 9, 3)],
         greedy: &[2],
         dropping: &[2],
     },
-    // near costs differ, the sums don't
     Case {
+        name: "near costs differ, the sums don't",
         near: &[(1, 3, 7), (2, 1, 7)],
         direct: &[],
         far: &[(1, 9, 1), (2, 9, 3)],
         greedy: &[1],
         dropping: &[1],
     },
-    // only an unwilling neighbour leads there
     Case {
+        name: "only an unwilling neighbour leads there",
         near: &[(1, 1, 0), (2, 1, 7)],
         direct: &[],
         far: &[(1, 9, 1)],
         greedy: &[],
         dropping: &[],
     },
-    // nothing at all
     Case {
+        name: "nothing at all",
         near: &[],
         direct: &[],
         far: &[],
         greedy: &[],
         dropping: &[],
     },
-    // an entry stands twice and counts once
     Case {
+        name: "an entry stands twice and counts once",
         near: &[(1, 1, 7), (2, 1, 7), (3, 1, 7)],
         direct: &[],
         far: &[(3, 20, 1), (2, 22, 1), (3, 20, 1), (1, 20, 1)],
         greedy: &[1, 2],
         dropping: &[1, 2],
     },
-    // one neighbour makes up for two
     Case {
+        name: "one neighbour makes up for two",
         near: &[(1, 1, 7), (2, 1, 7), (3, 1, 7), (4, 1, 7)],
         direct: &[],
         far: &[(1, 23, 1), (3, 22, 1), (4, 22, 1), (4, 23, 1)],
         greedy: &[4],
         dropping: &[1, 3],
     },
-    // an entry by no neighbour
     Case {
+        name: "an entry by no neighbour",
         near: &[(1, 1, 7), (2, 1, 7)],
         direct: &[],
         far: &[(7, 9, 1)],
         greedy: &[],
         dropping: &[],
     },
-    // the least of two entries by one neighbour
     Case {
+        name: "the least of two entries by one neighbour",
         near: &[(1, 1, 7), (2, 1, 7)],
         direct: &[],
         far: &[(1, 9, 4), (1, 9, 1), (2, 9, 2)],
         greedy: &[1],
         dropping: &[1],
     },
-    // costs of nothing, and an address with two direct entries
     Case {
+        name: "costs of nothing, and an address with two direct entries",
         near: &[(1, 0, 7), (2, 0, 7)],
         direct: &[(9, 1), (9, 0)],
         far: &[(1, 9, 0), (1, 8, 0), (2, 8, 0)],
@@ -210,18 +218,41 @@ const WORKED: [Case; 14] = [
     },
 ];
 
+/// The same of the graph of those rows.
+fn choose_right(
+    alloc: Global,
+    near: &[(u32, u32, u8)],
+    direct: &[(u32, u32)],
+    far: &[(u32, u32, u32)],
+    greedy: &[u32],
+    dropping: &[u32],
+) -> Result<bool, AllocError> {
+    let graph = graph_of(alloc, near, direct, far)?;
+    both_choose(alloc, &graph, greedy, dropping)
+}
+
+fn goes_right(alloc: Global, case: &Case) -> Result<bool, AllocError> {
+    choose_right(
+        alloc,
+        case.near,
+        case.direct,
+        case.far,
+        case.greedy,
+        case.dropping,
+    )
+}
+
 #[test]
 fn worked_graphs(rt: HostRuntime) -> Result<(), Fail> {
-    for (label, case) in WORKED.iter().enumerate() {
-        let graph = graph_of(rt.alloc(), case.near, case.direct, case.far)?;
-        expect_choices(&rt, rt.alloc(), &graph, case.greedy, case.dropping, label)?;
+    for case in &WORKED {
+        assert!(rt; goes_right(rt.alloc(), case)?, "{}", case.name);
     }
     Ok(())
 }
 
 /// Sets of relays for the first worked graph with a neighbour of willingness 15 and an unwilling one, and whether they
 /// cover and are irredundant.
-const SETS: [(&[u32], bool, bool); 8] = [
+static SETS: [(&[u32], bool, bool); 8] = [
     (&[1, 3], true, true),
     (&[2, 3], true, true),
     (&[3, 2], true, true),
@@ -232,23 +263,42 @@ const SETS: [(&[u32], bool, bool); 8] = [
     (&[1, 3, 8], false, true),
 ];
 
-#[test]
-fn sets_of_relays(rt: HostRuntime) -> Result<(), Fail> {
+fn addresses(alloc: Global, numbers: &[u32]) -> Result<Vec<Addr4>, AllocError> {
+    numbers.iter().map(|n| Addr4(*n)).collect(alloc)
+}
+
+fn is_so(
+    alloc: Global,
+    graph: &NeighbourGraph,
+    set: &(&[u32], bool, bool),
+) -> Result<bool, AllocError> {
+    let relays = addresses(alloc, set.0)?;
+    let relays = relays.as_slice();
+    Ok(covers(graph, relays) == set.1 && irredundant(graph, relays) == set.2)
+}
+
+fn are_all_so(alloc: Global, graph: &NeighbourGraph) -> Result<bool, AllocError> {
+    for set in &SETS {
+        if !is_so(alloc, graph, set)? {
+            return Ok(false);
+        }
+    }
+    Ok(true)
+}
+
+fn sets_go_right(alloc: Global) -> Result<bool, AllocError> {
     let graph = graph_of(
-        rt.alloc(),
+        alloc,
         &[(1, 1, 7), (2, 1, 7), (3, 1, 15), (4, 1, 0)],
         &[(9, 3)],
         &[(1, 9, 1), (2, 9, 1), (4, 9, 0)],
     )?;
-    for (ids, is_cover, is_irredundant) in &SETS {
-        let relays = addresses(rt.alloc(), ids)?;
-        assert_eq!(rt; covers(&graph, &relays), *is_cover, "covers: {ids:?}");
-        assert_eq!(rt;
-            irredundant(&graph, &relays),
-            *is_irredundant,
-            "irredundant: {ids:?}"
-        );
-    }
+    are_all_so(alloc, &graph)
+}
+
+#[test]
+fn sets_of_relays(rt: HostRuntime) -> Result<(), Fail> {
+    assert!(rt; sets_go_right(rt.alloc())?);
     Ok(())
 }
 
@@ -308,7 +358,7 @@ fn shuffle<T>(numbers: &mut Numbers, items: &mut [T]) {
 }
 
 /// Seeds, and the relays that each of both ways gives; an independent program found them.
-const MADE: [(u32, &[u32], &[u32]); 10] = [
+static MADE: [(u32, &[u32], &[u32]); 10] = [
     (27, &[13, 14], &[10, 11, 13]),
     (36, &[12, 13, 14], &[12, 13, 14]),
     (37, &[11, 14, 15, 16], &[10, 11, 13, 14, 16]),
@@ -321,20 +371,38 @@ const MADE: [(u32, &[u32], &[u32]); 10] = [
     (191, &[10, 11, 16], &[10, 11, 14]),
 ];
 
+/// Whether both ways choose right on a graph of those rows, and after each of two shuffles.
+fn choose_thrice(
+    alloc: Global,
+    numbers: &mut Numbers,
+    near: &mut [(u32, u32, u8)],
+    direct: &mut [(u32, u32)],
+    far: &mut [(u32, u32, u32)],
+    made: &(u32, &[u32], &[u32]),
+) -> Result<bool, AllocError> {
+    for _ in 0..3 {
+        if !choose_right(alloc, near, direct, far, made.1, made.2)? {
+            return Ok(false);
+        }
+        shuffle(numbers, near);
+        shuffle(numbers, direct);
+        shuffle(numbers, far);
+    }
+    Ok(true)
+}
+
+fn is_made(alloc: Global, made: &(u32, &[u32], &[u32])) -> Result<bool, AllocError> {
+    let mut numbers = Numbers { state: made.0 };
+    let mut near = near_rows(alloc, &mut numbers)?;
+    let mut direct = direct_rows(alloc, &mut numbers)?;
+    let mut far = far_rows(alloc, &mut numbers)?;
+    choose_thrice(alloc, &mut numbers, &mut near, &mut direct, &mut far, made)
+}
+
 #[test]
 fn made_graphs(rt: HostRuntime) -> Result<(), Fail> {
-    for (seed, greedy, dropping) in &MADE {
-        let mut numbers = Numbers { state: *seed };
-        let mut near = near_rows(rt.alloc(), &mut numbers)?;
-        let mut direct = direct_rows(rt.alloc(), &mut numbers)?;
-        let mut far = far_rows(rt.alloc(), &mut numbers)?;
-        for _ in 0..3 {
-            let graph = graph_of(rt.alloc(), &near, &direct, &far)?;
-            expect_choices(&rt, rt.alloc(), &graph, greedy, dropping, *seed as usize)?;
-            shuffle(&mut numbers, &mut near);
-            shuffle(&mut numbers, &mut direct);
-            shuffle(&mut numbers, &mut far);
-        }
+    for made in &MADE {
+        assert!(rt; is_made(rt.alloc(), made)?, "seed {}", made.0);
     }
     Ok(())
 }

@@ -1,84 +1,123 @@
-//! Runs, and the bases that they are tried over.
-use crate::exchange::{Event, two_routers};
-use crate::routers::Setup;
-use crate::worked::{Step, alone};
+//! Cases, and the bases that they are tried over.
+ghost use Rattle.std.specs.Prelude.{◌<◌, length};
+
+use crate::routers::{Setup, settings_of};
+use crate::worked::{Step, two_routers};
 use crate::{exchange, neighbourhood};
-use mesh_expire::{Bases, IndexedBases, NoBases, PlainBases};
+use mesh_atoms::RouterSettings;
+use mesh_expire::{IndexedBases, NoBases, PlainBases};
 use std::alloc::{AllocError, Global};
 use std::process::Abort;
 use std::test::Fail;
 
-/// What a new router does alone, or two that hear each other, with what must come of each step.
+/// What is shown; a new router, beside 10.0.0.2 on which it may call; and what happens step by step, to it first, with what must come of
+/// each step.
+pub(crate) type Case = (&'static str, Setup, &'static [Step]);
+
+/// Plain lists, indexed tables, or bases that hold nothing.
 #[derive(Clone, Copy)]
-pub(crate) enum Run {
-    Alone(Setup, &'static [Step]),
-    TwoRouters(&'static [Event]),
+enum Over {
+    Plain,
+    Indexed,
+    Nothing,
 }
 
-/// Whether each step of a run comes to what it must.
-fn goes_right<B: Bases>(alloc: Global, run: Run) -> Result<bool, AllocError> {
-    match run {
-        Run::Alone(setup, steps) => alone::<B>(alloc, setup, steps),
-        Run::TwoRouters(events) => two_routers::<B>(alloc, events),
+fn over_plain(
+    alloc: Global,
+    first: &RouterSettings,
+    second: &RouterSettings,
+    steps: &[Step],
+) -> Result<bool, AllocError>
+    requires first_some { 0 < length first.now.interfaces }
+    requires second_some { 0 < length second.now.interfaces }
+{
+    two_routers::<PlainBases>(alloc, first, second, steps)
+}
+
+fn over_indexed(
+    alloc: Global,
+    first: &RouterSettings,
+    second: &RouterSettings,
+    steps: &[Step],
+) -> Result<bool, AllocError>
+    requires first_some { 0 < length first.now.interfaces }
+    requires second_some { 0 < length second.now.interfaces }
+{
+    two_routers::<IndexedBases>(alloc, first, second, steps)
+}
+
+fn over_nothing(
+    alloc: Global,
+    first: &RouterSettings,
+    second: &RouterSettings,
+    steps: &[Step],
+) -> Result<bool, AllocError>
+    requires first_some { 0 < length first.now.interfaces }
+    requires second_some { 0 < length second.now.interfaces }
+{
+    two_routers::<NoBases>(alloc, first, second, steps)
+}
+
+/// Whether each step of a router, and of 10.0.0.2 beside it, comes to what it must.
+fn beside_second(
+    alloc: Global,
+    over: Over,
+    first: &RouterSettings,
+    steps: &[Step],
+) -> Result<bool, AllocError>
+    requires { 0 < length first.now.interfaces }
+{
+    let second = settings_of(alloc, Setup::Second)?;
+    match over {
+        Over::Plain => over_plain(alloc, first, &second, steps),
+        Over::Indexed => over_indexed(alloc, first, &second, steps),
+        Over::Nothing => over_nothing(alloc, first, &second, steps),
     }
 }
 
-/// Whether a run goes right over plain lists.
-fn over_plain(alloc: Global, run: Run) -> Result<bool, AllocError> {
-    goes_right::<PlainBases>(alloc, run)
+fn is_right(alloc: Global, over: Over, setup: Setup, steps: &[Step]) -> Result<bool, AllocError> {
+    let first = settings_of(alloc, setup)?;
+    beside_second(alloc, over, &first, steps)
 }
 
-/// Whether a run goes right over indexed tables.
-fn over_indexed(alloc: Global, run: Run) -> Result<bool, AllocError> {
-    goes_right::<IndexedBases>(alloc, run)
-}
-
-/// Whether a run goes right over bases that hold nothing.
-fn over_none(alloc: Global, run: Run) -> Result<bool, AllocError> {
-    goes_right::<NoBases>(alloc, run)
-}
-
-/// What is shown, and the run that shows it.
-pub(crate) type Case = (&'static str, Run);
-
-/// Tells the first case that goes wrong over plain lists or over indexed tables.
-fn all_hold(rt: &impl Abort, alloc: Global, cases: &[Case]) -> Result<(), AllocError> {
-    for (name, run) in cases {
-        assert!(rt; over_plain(alloc, *run)?, "over plain lists: {name}");
-        assert!(rt; over_indexed(alloc, *run)?, "over indexed tables: {name}");
+/// Tells the first case that goes wrong.
+fn all_hold(rt: &impl Abort, alloc: Global, over: Over, cases: &[Case]) -> Result<(), AllocError> {
+    for (name, setup, steps) in cases {
+        assert!(rt; is_right(alloc, over, *setup, steps)?, "{name}");
     }
     Ok(())
 }
 
 #[test]
-fn a_router_holds_its_neighbourhood(rt: HostRuntime) -> Result<(), Fail> {
-    all_hold(&rt, rt.alloc(), &neighbourhood::CASES)?;
-    Ok(())
-}
-
-#[test]
-fn a_router_tells_of_its_neighbourhood(rt: HostRuntime) -> Result<(), Fail> {
-    all_hold(&rt, rt.alloc(), &neighbourhood::TOLD)?;
+fn cases_hold_over_plain_lists(rt: HostRuntime) -> Result<(), Fail> {
+    all_hold(&rt, rt.alloc(), Over::Plain, &neighbourhood::CASES)?;
+    all_hold(&rt, rt.alloc(), Over::Plain, &neighbourhood::TOLD)?;
+    all_hold(&rt, rt.alloc(), Over::Plain, &exchange::CASES)?;
     Ok(())
 }
 
 /// What fills a set is tried over indexed tables alone.
 #[test]
-fn full_sets_are_told(rt: HostRuntime) -> Result<(), Fail> {
-    for (name, run) in &neighbourhood::FULL {
-        assert!(rt; over_indexed(rt.alloc(), *run)?, "{name}");
-    }
+fn cases_hold_over_indexed_tables(rt: HostRuntime) -> Result<(), Fail> {
+    all_hold(&rt, rt.alloc(), Over::Indexed, &neighbourhood::CASES)?;
+    all_hold(&rt, rt.alloc(), Over::Indexed, &neighbourhood::TOLD)?;
+    all_hold(&rt, rt.alloc(), Over::Indexed, &neighbourhood::FULL)?;
+    all_hold(&rt, rt.alloc(), Over::Indexed, &exchange::CASES)?;
     Ok(())
 }
 
-#[test]
-fn two_routers_find_and_lose_each_other(rt: HostRuntime) -> Result<(), Fail> {
-    all_hold(&rt, rt.alloc(), &exchange::CASES)?;
-    Ok(())
+fn wants_memory(alloc: Global) -> bool {
+    is_right(
+        alloc,
+        Over::Nothing,
+        Setup::TwoInterfaces,
+        neighbourhood::HEARD_ALONE,
+    )
+    .is_err()
 }
 
 #[test]
 fn no_bases_answer_want_of_memory(rt: HostRuntime) -> Result<(), Fail> {
-    assert!(rt; over_none(rt.alloc(), neighbourhood::HEARD_ALONE).is_err());
+    assert!(rt; wants_memory(rt.alloc()));
     Ok(())
 }

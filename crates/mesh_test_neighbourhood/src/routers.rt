@@ -1,14 +1,11 @@
 //! Routers at which the runs begin.
-ghost use Rattle.std.specs.Prelude.{◌≡◌, ◌<◌, [], ◌∷◌, ℕ, length, map, IfOk};
-ghost use Rattle.mesh_atoms.specs.Sound.{SoundNeighbourhood};
+ghost use Rattle.std.specs.Prelude.{◌≡◌, ◌<◌, [], ◌∷◌, length, map, IfOk};
 
 use mesh_atoms::{
     Addr4, Admit, DEFAULT_TIMES, Interface, QualityStep, RouterSettings, SenderMetric,
     SenderQuality, Seq,
 };
-use mesh_expire::Bases;
 use mesh_fixtures::{list_of, metric, one_interface, router, text, two_interfaces};
-use mesh_nhdp::Nhdp;
 use std::alloc::{AllocError, Global};
 
 pub(crate) const ONE: u32 = 0x0a00_0001;
@@ -94,7 +91,7 @@ fn admitting(alloc: Global, addr: Addr4, sender: Addr4) -> Result<RouterSettings
 }
 
 /// The settings of a router, with the default times (RFC 7181, section 5.4).
-fn settings_of(alloc: Global, setup: Setup) -> Result<RouterSettings, AllocError>
+pub(crate) fn settings_of(alloc: Global, setup: Setup) -> Result<RouterSettings, AllocError>
     ensures { IfOk result (λ settings. 0 < length settings.interfaces) }
 {
     match setup {
@@ -107,14 +104,4 @@ fn settings_of(alloc: Global, setup: Setup) -> Result<RouterSettings, AllocError
         Setup::First => one_interface(alloc, b"a", Addr4(ONE), metric(1)),
         Setup::Second => one_interface(alloc, b"a", Addr4(TWO), metric(4)),
     }
-}
-
-/// The empty neighbourhood of a router.
-pub(crate) fn start<B: Bases>(alloc: Global, setup: Setup) -> Result<Nhdp<B>, AllocError>
-    ensures some { IfOk result (λ nhdp. 0 < length nhdp.settings.interfaces) }
-    ensures sound { IfOk result (λ nhdp. (moment : ℕ) × SoundNeighbourhood nhdp.settings moment nhdp.near) }
-{
-    let settings = settings_of(alloc, setup)?;
-    let nhdp = Nhdp::new(alloc, &settings)?;
-    Ok(nhdp)
 }

@@ -1,5 +1,5 @@
 //! Rows of HELLOs.
-ghost use Rattle.std.specs.Prelude.{◌≡◌, ◌<◌, ◌^◌, AllPairs, IfOk, true};
+ghost use Rattle.std.specs.Prelude.{◌≡◌, ◌<◌, ◌^◌, AllPairs, IfOk, IfSome, true};
 ghost use Rattle.mesh_atoms.specs.Nodes.{IsBefore};
 
 use mesh_atoms::{
@@ -104,7 +104,7 @@ fn push_row(list: &mut Vec<HelloRow>, row: &Row) -> Result<(), AllocError> {
     Ok(())
 }
 
-pub(crate) fn rows_of(alloc: Global, rows: &[Row]) -> Result<Vec<HelloRow>, AllocError> {
+fn rows_of(alloc: Global, rows: &[Row]) -> Result<Vec<HelloRow>, AllocError> {
     let mut list = Vec::new(alloc);
     for row in rows {
         push_row(&mut list, row)?;
@@ -113,7 +113,7 @@ pub(crate) fn rows_of(alloc: Global, rows: &[Row]) -> Result<Vec<HelloRow>, Allo
 }
 
 /// Whether the addresses of rows ascend.
-pub(crate) fn do_ascend(rows: &[HelloRow]) -> bool
+fn do_ascend(rows: &[HelloRow]) -> bool
     ensures { result ≡ true → AllPairs (λ r t. IsBefore r.addr t.addr) rows.now }
 {
     let mut least = 0;
@@ -128,7 +128,7 @@ pub(crate) fn do_ascend(rows: &[HelloRow]) -> bool
 }
 
 /// A HELLO of rows that ascend.
-pub(crate) fn hello_of(
+fn hello_of(
     alloc: Global,
     originator: Option<Addr4>,
     rows: &[HelloRow],
@@ -147,6 +147,28 @@ pub(crate) fn hello_of(
         },
         rows: list_of(alloc, rows)?,
     })
+}
+
+/// A HELLO of those rows; none where they don't ascend.
+pub(crate) fn hello_with(
+    alloc: Global,
+    originator: Option<u32>,
+    rows: &[Row],
+) -> Result<Option<Hello>, AllocError>
+    ensures lasts { IfOk result (λ told. IfSome told (λ hello. 0 < hello.validity)) }
+    ensures validity { IfOk result (λ told. IfSome told (λ hello. hello.validity < 2 ^ 62)) }
+{
+    let originator = match originator {
+        Some(number) => Some(Addr4(number)),
+        None => None,
+    };
+    let list = rows_of(alloc, rows)?;
+    let rows = list.as_slice();
+    if do_ascend(rows) {
+        Ok(Some(hello_of(alloc, originator, rows)?))
+    } else {
+        Ok(None)
+    }
 }
 
 /// The row of an address in a HELLO.

@@ -1,42 +1,58 @@
-//! Steps of a router, with what must hold after them.
-ghost use Rattle.std.specs.Prelude.{◌≡◌, ◌<◌, ℕ, length, OnOk};
+//! Steps of two routers, with what must hold after them.
+ghost use Rattle.std.specs.Prelude.{◌≡◌, ◌<◌, ◌^◌, ℕ, length, OnOk};
 ghost use Rattle.mesh_atoms.specs.Sound.{SoundNeighbourhood};
 
 use crate::near_callers::symmetric_neighbours;
-use crate::routers::{ONE, Setup, start};
-use crate::rows::{Row, Telling, do_ascend, hello_of, rows_of, says};
-use mesh_atoms::{Addr4, Hello, LinkState, Relays, Seq};
+use crate::routers::ONE;
+use crate::rows::{Row, Telling, hello_with, says};
+use mesh_atoms::{Addr4, Hello, LinkState, Relays, RouterSettings, Seq};
 use mesh_expire::Bases;
 use mesh_fixtures::cost;
 use mesh_nbrs::Near4;
 use mesh_nhdp::{HelloTaken, Nhdp};
 use std::alloc::{AllocError, Global};
+use std::mem::swap;
 
-/// Expires at that moment, and then takes a HELLO of those rows, whose sender is the originator where there is one; nothing
-/// where the rows don't ascend.
-fn hear<B: Bases>(
-    alloc: Global,
+/// Expires at that moment, and then takes a HELLO, whose sender is its originator, and 10.0.0.1 where there is none.
+fn take<B: Bases>(
     nhdp: &mut Nhdp<B>,
     now: u32,
     iface: usize,
-    originator: Option<Addr4>,
-    rows: &[Row],
-) -> Result<Option<HelloTaken>, AllocError>
+    hello: &Hello,
+) -> Result<HelloTaken, AllocError>
     requires iface { iface < length nhdp.old.settings.interfaces }
+    requires lasts { 0 < hello.now.validity }
+    requires validity { hello.now.validity < 2 ^ 62 }
     requires sound { (moment : ℕ) × SoundNeighbourhood nhdp.old.settings moment nhdp.old.near }
     ensures sound { OnOk result (SoundNeighbourhood nhdp.new.settings now nhdp.new.near) }
     ensures settings { nhdp.new.settings ≡ nhdp.old.settings }
 {
     let now = u64::from(now);
+    let sender = hello.originator.unwrap_or(Addr4(ONE));
     nhdp.expire(now)?;
-    let list = rows_of(alloc, rows)?;
-    let rows = list.as_slice();
-    if do_ascend(rows) {
-        let hello = hello_of(alloc, originator, rows)?;
-        let sender = originator.unwrap_or(Addr4(ONE));
-        Ok(Some(nhdp.take_hello(now, iface, sender, &hello)?))
-    } else {
-        Ok(None)
+    nhdp.take_hello(now, iface, sender, hello)
+}
+
+/// Takes a HELLO of those rows, and says whether the answer is right; nothing where the rows don't ascend.
+fn hear<B: Bases>(
+    alloc: Global,
+    nhdp: &mut Nhdp<B>,
+    now: u32,
+    iface: usize,
+    originator: Option<u32>,
+    rows: &[Row],
+    want: HelloTaken,
+) -> Result<bool, AllocError>
+    requires sound { (moment : ℕ) × SoundNeighbourhood nhdp.old.settings moment nhdp.old.near }
+    ensures sound { OnOk result ((moment : ℕ) × SoundNeighbourhood nhdp.new.settings moment nhdp.new.near) }
+    ensures settings { nhdp.new.settings ≡ nhdp.old.settings }
+{
+    if iface >= nhdp.settings().interfaces.len() {
+        return Ok(false);
+    }
+    match hello_with(alloc, originator, rows)? {
+        Some(hello) => Ok(take(nhdp, now, iface, &hello)? == want),
+        None => Ok(false),
     }
 }
 
@@ -53,11 +69,7 @@ fn no_relays(alloc: Global, interfaces: usize) -> Result<Relays, AllocError> {
 }
 
 /// Expires at that moment, and then gives the HELLO of the first interface of a router that has chosen no relays.
-pub(crate) fn tell<B: Bases>(
-    alloc: Global,
-    nhdp: &mut Nhdp<B>,
-    now: u32,
-) -> Result<Hello, AllocError>
+fn tell<B: Bases>(alloc: Global, nhdp: &mut Nhdp<B>, now: u32) -> Result<Hello, AllocError>
     requires iface { 0 < length nhdp.old.settings.interfaces }
     requires sound { (moment : ℕ) × SoundNeighbourhood nhdp.old.settings moment nhdp.old.near }
     ensures sound { OnOk result (SoundNeighbourhood nhdp.new.settings now nhdp.new.near) }
@@ -218,6 +230,10 @@ pub(crate) enum Step {
     Counts(Counts),
     // how many neighbours are symmetric
     Symmetric(usize),
+    // the moment; its HELLO is sent, and taken by the other router
+    Sends(u32),
+    // what comes next happens to the other router
+    Turn,
 }
 
 /// Whether a neighbourhood is as a step says that looks at it.
@@ -229,16 +245,12 @@ fn shows<N: Near4>(near: &N, step: &Step) -> bool {
         Step::Neighbour(originator, want) => neighbour_of(near, originator) == want,
         Step::Counts(want) => counts_of(near) == want,
         Step::Symmetric(want) => symmetric_neighbours(near) == want,
-        Step::Hear(..) | Step::Expire(_) | Step::Stays(..) | Step::Tells(..) => false,
+        _ => false,
     }
 }
 
-/// Takes a step, and says whether the answer is the step's.
-pub(crate) fn is_right<B: Bases>(
-    alloc: Global,
-    nhdp: &mut Nhdp<B>,
-    step: &Step,
-) -> Result<bool, AllocError>
+/// Takes a step of one router, and says whether the answer is the step's.
+fn is_right<B: Bases>(alloc: Global, nhdp: &mut Nhdp<B>, step: &Step) -> Result<bool, AllocError>
     requires some { 0 < length nhdp.old.settings.interfaces }
     requires sound { (moment : ℕ) × SoundNeighbourhood nhdp.old.settings moment nhdp.old.near }
     ensures sound { OnOk result ((moment : ℕ) × SoundNeighbourhood nhdp.new.settings moment nhdp.new.near) }
@@ -246,9 +258,7 @@ pub(crate) fn is_right<B: Bases>(
 {
     match *step {
         Step::Hear(now, iface, originator, rows, want) => {
-            let iface = iface % nhdp.settings().interfaces.len();
-            let originator = originator.map(Addr4);
-            Ok(hear(alloc, nhdp, now, iface, originator, rows)? == Some(want))
+            hear(alloc, nhdp, now, iface, originator, rows, want)
         }
         Step::Expire(now) => {
             nhdp.expire(u64::from(now))?;
@@ -260,29 +270,99 @@ pub(crate) fn is_right<B: Bases>(
     }
 }
 
-/// Takes each step, and says whether each answer is right.
-fn are_right<B: Bases>(
+/// Sends the HELLO of one router to another, and says whether it is valid for 49152 ticks and taken.
+fn send<B: Bases>(
     alloc: Global,
-    nhdp: &mut Nhdp<B>,
+    one: &mut Nhdp<B>,
+    other: &mut Nhdp<B>,
+    now: u32,
+) -> Result<bool, AllocError>
+    requires one_some { 0 < length one.old.settings.interfaces }
+    requires other_some { 0 < length other.old.settings.interfaces }
+    requires one_sound { (moment : ℕ) × SoundNeighbourhood one.old.settings moment one.old.near }
+    requires other_sound { (moment : ℕ) × SoundNeighbourhood other.old.settings moment other.old.near }
+    ensures one_some { OnOk result (0 < length one.new.settings.interfaces) }
+    ensures other_some { OnOk result (0 < length other.new.settings.interfaces) }
+    ensures one_sound { OnOk result ((moment : ℕ) × SoundNeighbourhood one.new.settings moment one.new.near) }
+    ensures other_sound { OnOk result ((moment : ℕ) × SoundNeighbourhood other.new.settings moment other.new.near) }
+{
+    let hello = tell(alloc, one, now)?;
+    if hello.validity != 49152 {
+        return Ok(false);
+    }
+    Ok(take(other, now, 0, &hello)? == HelloTaken::Done)
+}
+
+/// Takes a step of one router, beside another, and says whether what comes of it is right.
+fn happens<B: Bases>(
+    alloc: Global,
+    one: &mut Nhdp<B>,
+    other: &mut Nhdp<B>,
+    step: &Step,
+) -> Result<bool, AllocError>
+    requires one_some { 0 < length one.old.settings.interfaces }
+    requires other_some { 0 < length other.old.settings.interfaces }
+    requires one_sound { (moment : ℕ) × SoundNeighbourhood one.old.settings moment one.old.near }
+    requires other_sound { (moment : ℕ) × SoundNeighbourhood other.old.settings moment other.old.near }
+    ensures one_some { OnOk result (0 < length one.new.settings.interfaces) }
+    ensures other_some { OnOk result (0 < length other.new.settings.interfaces) }
+    ensures one_sound { OnOk result ((moment : ℕ) × SoundNeighbourhood one.new.settings moment one.new.near) }
+    ensures other_sound { OnOk result ((moment : ℕ) × SoundNeighbourhood other.new.settings moment other.new.near) }
+{
+    match *step {
+        Step::Sends(now) => send(alloc, one, other, now),
+        Step::Turn => {
+            swap(one, other);
+            Ok(true)
+        }
+        _ => is_right(alloc, one, step),
+    }
+}
+
+fn all_happen<B: Bases>(
+    alloc: Global,
+    one: &mut Nhdp<B>,
+    other: &mut Nhdp<B>,
     steps: &[Step],
 ) -> Result<bool, AllocError>
-    requires some { 0 < length nhdp.old.settings.interfaces }
-    requires sound { (moment : ℕ) × SoundNeighbourhood nhdp.old.settings moment nhdp.old.near }
+    requires one_some { 0 < length one.old.settings.interfaces }
+    requires other_some { 0 < length other.old.settings.interfaces }
+    requires one_sound { (moment : ℕ) × SoundNeighbourhood one.old.settings moment one.old.near }
+    requires other_sound { (moment : ℕ) × SoundNeighbourhood other.old.settings moment other.old.near }
 {
     for step in steps {
-        if !is_right(alloc, nhdp, step)? {
+        if !happens(alloc, one, other, step)? {
             return Ok(false);
         }
     }
     Ok(true)
 }
 
-/// The same of a new router.
-pub(crate) fn alone<B: Bases>(
+/// The same of a router and a new one.
+fn beside<B: Bases>(
     alloc: Global,
-    setup: Setup,
+    one: &mut Nhdp<B>,
+    settings: &RouterSettings,
     steps: &[Step],
-) -> Result<bool, AllocError> {
-    let mut nhdp = start::<B>(alloc, setup)?;
-    are_right(alloc, &mut nhdp, steps)
+) -> Result<bool, AllocError>
+    requires one_some { 0 < length one.old.settings.interfaces }
+    requires other_some { 0 < length settings.now.interfaces }
+    requires one_sound { (moment : ℕ) × SoundNeighbourhood one.old.settings moment one.old.near }
+{
+    let mut other = Nhdp::<B>::new(alloc, settings)?;
+    all_happen(alloc, one, &mut other, steps)
+}
+
+/// The same of two new routers.
+pub(crate) fn two_routers<B: Bases>(
+    alloc: Global,
+    first: &RouterSettings,
+    second: &RouterSettings,
+    steps: &[Step],
+) -> Result<bool, AllocError>
+    requires first_some { 0 < length first.now.interfaces }
+    requires second_some { 0 < length second.now.interfaces }
+{
+    let mut one = Nhdp::<B>::new(alloc, first)?;
+    beside(alloc, &mut one, second, steps)
 }

@@ -2,7 +2,7 @@
 use mesh_atoms::{Metric, seq_newer, time_at, time_code_at_least, time_of};
 
 /// Ticks, and the code of the least time that is at least as long.
-const LEAST_TIMES: [(u64, Option<u8>); 9] = [
+static LEAST_TIMES: [(u64, Option<u8>); 9] = [
     (0, Some(1)),
     (9, Some(1)),
     (10, Some(2)),
@@ -15,7 +15,7 @@ const LEAST_TIMES: [(u64, Option<u8>); 9] = [
 ];
 
 /// Codes, and their ticks.
-const TIMES: [(u8, u64); 6] = [
+static TIMES: [(u8, u64); 6] = [
     (0, 0),
     (1, 9),
     (7, 15),
@@ -28,7 +28,7 @@ const TIMES: [(u8, u64); 6] = [
 const PAIRS: [u8; 5] = [0x58, 2, 0x62, 255, 0x64];
 
 /// Distances, and the ticks of `PAIRS` there.
-const DISTANCES: [(u16, u64); 5] = [
+static DISTANCES: [(u16, u64); 5] = [
     (1, 16_384),
     (2, 16_384),
     (3, 40_960),
@@ -37,7 +37,7 @@ const DISTANCES: [(u16, u64); 5] = [
 ];
 
 /// Costs, and the code and the value of the least metric that is at least as great.
-const COSTS: [(u32, Option<(u16, u32)>); 6] = [
+static COSTS: [(u32, Option<(u16, u32)>); 6] = [
     (0, Some((0, 1))),
     (1, Some((0, 1))),
     (256, Some((0x0ff, 256))),
@@ -47,7 +47,7 @@ const COSTS: [(u32, Option<(u16, u32)>); 6] = [
 ];
 
 /// Two sequence numbers, and whether the first is newer.
-const NUMBERS: [(u16, u16, bool); 8] = [
+static NUMBERS: [(u16, u16, bool); 8] = [
     (1, 0, true),
     (0, 1, false),
     (7, 7, false),
@@ -59,8 +59,8 @@ const NUMBERS: [(u16, u16, bool); 8] = [
 ];
 
 fn times_have_codes() -> bool {
-    for (ticks, code) in LEAST_TIMES {
-        if time_code_at_least(ticks) != code {
+    for (ticks, code) in &LEAST_TIMES {
+        if time_code_at_least(*ticks) != *code {
             return false;
         }
     }
@@ -68,8 +68,8 @@ fn times_have_codes() -> bool {
 }
 
 fn codes_have_times() -> bool {
-    for (code, ticks) in TIMES {
-        if time_of(code) != ticks {
+    for (code, ticks) in &TIMES {
+        if time_of(*code) != *ticks {
             return false;
         }
     }
@@ -77,8 +77,8 @@ fn codes_have_times() -> bool {
 }
 
 fn times_go_by_distance() -> bool {
-    for (distance, ticks) in DISTANCES {
-        if time_at(&PAIRS, distance) != Some(ticks) {
+    for (distance, ticks) in &DISTANCES {
+        if time_at(&PAIRS, *distance) != Some(*ticks) {
             return false;
         }
     }
@@ -87,17 +87,21 @@ fn times_go_by_distance() -> bool {
 
 /// A list of even length tells no time.
 fn pairs_alone_tell_none() -> bool {
-    for len in [0, 2, 4] {
-        if time_at(&PAIRS[..len], 1).is_some() {
-            return false;
-        }
+    time_at(&[], 1).is_none()
+        && time_at(&PAIRS[..2], 1).is_none()
+        && time_at(&PAIRS[..4], 1).is_none()
+}
+
+fn code_and_value(metric: Option<Metric>) -> Option<(u16, u32)> {
+    match metric {
+        Some(metric) => Some((metric.code, metric.value())),
+        None => None,
     }
-    true
 }
 
 fn costs_have_metrics() -> bool {
-    for (cost, metric) in COSTS {
-        if Metric::at_least(cost).map(|m| (m.code, m.value())) != metric {
+    for (cost, metric) in &COSTS {
+        if code_and_value(Metric::at_least(*cost)) != *metric {
             return false;
         }
     }
@@ -109,8 +113,8 @@ fn codes_have_metrics() -> bool {
 }
 
 fn numbers_go_round() -> bool {
-    for (a, b, newer) in NUMBERS {
-        if seq_newer(a, b) != newer {
+    for (a, b, newer) in &NUMBERS {
+        if seq_newer(*a, *b) != *newer {
             return false;
         }
     }

@@ -17,4 +17,6 @@ mod settings;
 #[cfg(test)]
 mod streams;
 #[cfg(test)]
+mod top;
+#[cfg(test)]
 mod writing;

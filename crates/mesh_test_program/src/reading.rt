@@ -6,7 +6,7 @@ use std::alloc::Global;
 
 /// Packets of one message, each with the first rule that its message breaks, and the least address that breaks it, by its
 /// number and its prefix.
-const BROKEN: [(&[u8], u8, Option<(u32, u8)>); 18] = [
+static BROKEN: [(&[u8], u8, Option<(u32, u8)>); 18] = [
     (b"\x00\x00\x0f\x00\x06\x00\x00", 20, None),
     (b"\x00\x00\x43\x00\x07\x02\x00\x00", 21, None),
     (
@@ -120,20 +120,25 @@ fn breaks(alloc: Global, message: &Message, rule: u8, addr: Option<(u32, u8)>) -
     }
 }
 
+/// The same of the only message of several.
+fn only_breaks(alloc: Global, messages: &[Message], rule: u8, addr: Option<(u32, u8)>) -> bool {
+    match messages {
+        [message] => breaks(alloc, message, rule, addr),
+        _ => false,
+    }
+}
+
 /// The same of the only message of a packet.
 fn packet_breaks(alloc: Global, frame: &[u8], rule: u8, addr: Option<(u32, u8)>) -> bool {
     match decode(alloc, frame) {
-        Ok(decoded) => match decoded.packet.messages.as_slice() {
-            [message] => breaks(alloc, message, rule, addr),
-            _ => false,
-        },
+        Ok(decoded) => only_breaks(alloc, decoded.packet.messages.as_slice(), rule, addr),
         Err(_) => false,
     }
 }
 
 fn each_breaks_its_rule(alloc: Global) -> bool {
-    for (frame, rule, addr) in BROKEN {
-        if !packet_breaks(alloc, frame, rule, addr) {
+    for (frame, rule, addr) in &BROKEN {
+        if !packet_breaks(alloc, frame, *rule, *addr) {
             return false;
         }
     }
@@ -154,13 +159,18 @@ fn read(alloc: Global, message: &Message) -> Option<Hello> {
     }
 }
 
+/// The same of the only message of several.
+fn only_read(alloc: Global, messages: &[Message]) -> Option<Hello> {
+    match messages {
+        [message] => read(alloc, message),
+        _ => None,
+    }
+}
+
 /// The same of the only message of a packet.
 fn hello_in(alloc: Global, frame: &[u8]) -> Option<Hello> {
     match decode(alloc, frame) {
-        Ok(decoded) => match decoded.packet.messages.as_slice() {
-            [message] => read(alloc, message),
-            _ => None,
-        },
+        Ok(decoded) => only_read(alloc, decoded.packet.messages.as_slice()),
         Err(_) => None,
     }
 }

@@ -117,13 +117,18 @@ fn validity_of(alloc: Global, message: &Message) -> Option<u64> {
     }
 }
 
+/// The same of the only message of several.
+fn only_validity(alloc: Global, messages: &[Message]) -> Option<u64> {
+    match messages {
+        [message] => validity_of(alloc, message),
+        _ => None,
+    }
+}
+
 /// The same of the only message of a packet.
 fn validity_in(alloc: Global, frame: &[u8]) -> Option<u64> {
     match decode(alloc, frame) {
-        Ok(decoded) => match decoded.packet.messages.as_slice() {
-            [message] => validity_of(alloc, message),
-            _ => None,
-        },
+        Ok(decoded) => only_validity(alloc, decoded.packet.messages.as_slice()),
         Err(_) => None,
     }
 }

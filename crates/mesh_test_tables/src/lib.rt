@@ -3,9 +3,9 @@
 #![tactic(auto)]
 
 #[cfg(test)]
-mod bases;
-#[cfg(test)]
 mod draws;
+#[cfg(test)]
+mod kinds;
 #[cfg(test)]
 mod table_callers;
 #[cfg(test)]

@@ -4,13 +4,12 @@ ghost use Rattle.mesh_atoms.specs.declared.tuples.Base.TheVariants.{Received, Fo
 ghost use Rattle.mesh_atoms.specs.Base.{addr_eq, find, flood_eq};
 ghost use Rattle.mesh_flood.specs.Verdict.{key_of, has_no_hops, process_of, forward_by};
 
-use crate::bases::{Run, has_no_room, is_right, over_none};
-use crate::fixtures::{metric, two_interfaces};
+use crate::kinds::{Case, Run};
 use mesh_atoms::{Addr4, RouterSettings, Times};
 use mesh_expire::Bases;
+use mesh_fixtures::{metric, two_interfaces};
 use mesh_flood::{Flood, Forward, Heading, Process, Verdict};
 use std::alloc::{AllocError, Global};
-use std::test::Fail;
 
 const OWN: Addr4 = Addr4(0x0a00_0001);
 
@@ -30,23 +29,12 @@ const APART: Times = Times {
 };
 
 /// A router of two interfaces.
-fn settings(alloc: Global) -> Result<RouterSettings, AllocError>
+pub(crate) fn settings(alloc: Global) -> Result<RouterSettings, AllocError>
     ensures { IfOk result (λ settings. length settings.interfaces ≡ 2) }
 {
     let first = (OWN, metric(1));
     let second = (Addr4(0x0a00_0101), metric(1));
-    two_interfaces(alloc, first, second, APART)
-}
-
-/// A message of another router.
-const fn tc(sequence: u16) -> Heading {
-    Heading {
-        kind: 1,
-        originator: Addr4(0x0a00_0002),
-        sequence,
-        limit: Some(255),
-        count: Some(0),
-    }
+    two_interfaces(alloc, b"a", first, second, APART)
 }
 
 /// Judges a message and notes it, as processed where that is the answer and it is `taken`.
@@ -104,124 +92,155 @@ fn are_judged<B: Bases>(flood: &mut Flood<B>, heard: &[Heard]) -> Result<bool, A
 }
 
 /// Whether a new router of two interfaces judges each message right.
-pub(crate) fn messages<B: Bases>(alloc: Global, heard: &[Heard]) -> Result<bool, AllocError> {
-    let settings = settings(alloc)?;
-    let mut flood = Flood::<B>::new(alloc, &settings)?;
+pub(crate) fn messages<B: Bases>(
+    alloc: Global,
+    settings: &RouterSettings,
+    heard: &[Heard],
+) -> Result<bool, AllocError>
+    requires { length settings.now.interfaces ≡ 2 }
+{
+    let mut flood = Flood::<B>::new(alloc, settings)?;
     are_judged(&mut flood, heard)
 }
 
-#[test]
-fn each_answer_comes_in_its_order(rt: HostRuntime) -> Result<(), Fail> {
-    let own = Heading {
-        kind: 1,
-        originator: OWN,
-        sequence: 1,
-        limit: None,
-        count: None,
-    };
-    let unlimited = Heading {
-        limit: None,
-        ..tc(1)
-    };
-    let last = Heading {
-        limit: Some(1),
-        ..tc(2)
-    };
-    let far = Heading {
-        count: Some(255),
-        ..tc(2)
-    };
-    let heard = [
-        Heard::Message(0, own, None, true, Process::Own, Forward::Own),
-        Heard::Message(0, unlimited, None, true, Process::Do, Forward::NoSender),
-        Heard::Message(
-            0,
-            unlimited,
-            Some(true),
-            true,
-            Process::Done { until: 2000 },
-            Forward::NoHops,
-        ),
-        Heard::Message(0, last, Some(true), false, Process::Do, Forward::NoHops),
-        Heard::Message(0, far, Some(true), false, Process::Do, Forward::NoHops),
-        Heard::Message(
-            0,
-            tc(2),
-            Some(false),
-            false,
-            Process::Do,
-            Forward::NotSelector,
-        ),
-        // the received tuple was made there, and on that interface alone
-        Heard::Message(
-            0,
-            tc(2),
-            Some(true),
-            false,
-            Process::Do,
-            Forward::Seen { until: 1000 },
-        ),
-        Heard::Message(1, tc(2), Some(true), false, Process::Do, Forward::Do),
-        Heard::Message(
-            1,
-            tc(2),
-            Some(true),
-            false,
-            Process::Do,
-            Forward::Seen { until: 1000 },
-        ),
-        // another type and another sequence number are other messages
-        Heard::Message(
-            1,
-            Heading { kind: 2, ..tc(2) },
-            Some(true),
-            false,
-            Process::Do,
-            Forward::Do,
-        ),
-        Heard::Message(1, tc(3), Some(true), false, Process::Do, Forward::Do),
-        // what ends exactly now is expired
-        Heard::Expire(999),
-        Heard::Message(
-            1,
-            tc(2),
-            Some(true),
-            false,
-            Process::Do,
-            Forward::Seen { until: 1000 },
-        ),
-        Heard::Expire(1000),
-        Heard::Message(
-            1,
-            tc(2),
-            Some(true),
-            false,
-            Process::Do,
-            Forward::Done { until: 3000 },
-        ),
-        Heard::Message(
-            1,
-            tc(2),
-            Some(true),
-            false,
-            Process::Do,
-            Forward::Seen { until: 1000 },
-        ),
-        Heard::Message(
-            0,
-            unlimited,
-            None,
-            true,
-            Process::Done { until: 2000 },
-            Forward::NoSender,
-        ),
-        Heard::Expire(3000),
-        Heard::Message(0, tc(2), Some(true), false, Process::Do, Forward::Do),
-        Heard::Message(0, tc(1), None, true, Process::Do, Forward::NoSender),
-    ];
-    assert!(rt; is_right(rt.alloc(), Run::Messages(&heard))?);
-    Ok(())
-}
+const OF_OWN: Heading = Heading {
+    kind: 1,
+    originator: OWN,
+    sequence: 1,
+    limit: None,
+    count: None,
+};
+
+/// A message of another router, and its next ones.
+const FIRST: Heading = Heading {
+    kind: 1,
+    originator: Addr4(0x0a00_0002),
+    sequence: 1,
+    limit: Some(255),
+    count: Some(0),
+};
+
+const SECOND: Heading = Heading {
+    sequence: 2,
+    ..FIRST
+};
+
+const THIRD: Heading = Heading {
+    sequence: 3,
+    ..FIRST
+};
+
+const UNLIMITED: Heading = Heading {
+    limit: None,
+    ..FIRST
+};
+
+/// The second one at its last hop, and after 255.
+const LAST: Heading = Heading {
+    limit: Some(1),
+    ..SECOND
+};
+
+const FAR: Heading = Heading {
+    count: Some(255),
+    ..SECOND
+};
+
+const ANOTHER_KIND: Heading = Heading { kind: 2, ..SECOND };
+
+const DONE: Process = Process::Done { until: 2000 };
+
+const SEEN: Forward = Forward::Seen { until: 1000 };
+
+const SENT_ON: Forward = Forward::Done { until: 3000 };
+
+/// Messages of one originator from the fifth on.
+const FIFTH: Heading = Heading {
+    sequence: 5,
+    ..FIRST
+};
+
+const SIXTH: Heading = Heading {
+    sequence: 6,
+    ..FIRST
+};
+
+const SEVENTH: Heading = Heading {
+    sequence: 7,
+    ..FIRST
+};
+
+const EIGHTH: Heading = Heading {
+    sequence: 8,
+    ..FIRST
+};
+
+pub(crate) static CASES: [Case; 2] = [
+    (
+        "each answer comes in its order",
+        Run::Messages(&[
+            Heard::Message(0, OF_OWN, None, true, Process::Own, Forward::Own),
+            Heard::Message(0, UNLIMITED, None, true, Process::Do, Forward::NoSender),
+            Heard::Message(0, UNLIMITED, Some(true), true, DONE, Forward::NoHops),
+            Heard::Message(0, LAST, Some(true), false, Process::Do, Forward::NoHops),
+            Heard::Message(0, FAR, Some(true), false, Process::Do, Forward::NoHops),
+            Heard::Message(
+                0,
+                SECOND,
+                Some(false),
+                false,
+                Process::Do,
+                Forward::NotSelector,
+            ),
+            // the received tuple was made there, and on that interface alone
+            Heard::Message(0, SECOND, Some(true), false, Process::Do, SEEN),
+            Heard::Message(1, SECOND, Some(true), false, Process::Do, Forward::Do),
+            Heard::Message(1, SECOND, Some(true), false, Process::Do, SEEN),
+            // another type and another sequence number are other messages
+            Heard::Message(1, ANOTHER_KIND, Some(true), false, Process::Do, Forward::Do),
+            Heard::Message(1, THIRD, Some(true), false, Process::Do, Forward::Do),
+            // what ends exactly now is expired
+            Heard::Expire(999),
+            Heard::Message(1, SECOND, Some(true), false, Process::Do, SEEN),
+            Heard::Expire(1000),
+            Heard::Message(1, SECOND, Some(true), false, Process::Do, SENT_ON),
+            Heard::Message(1, SECOND, Some(true), false, Process::Do, SEEN),
+            Heard::Message(0, UNLIMITED, None, true, DONE, Forward::NoSender),
+            Heard::Expire(3000),
+            Heard::Message(0, SECOND, Some(true), false, Process::Do, Forward::Do),
+            Heard::Message(0, FIRST, None, true, Process::Do, Forward::NoSender),
+        ]),
+    ),
+    (
+        "messages of one originator",
+        Run::Messages(&[
+            Heard::Message(0, FIFTH, None, true, Process::Do, Forward::NoSender),
+            Heard::Message(0, FIFTH, None, true, DONE, Forward::NoSender),
+            Heard::Message(0, SIXTH, None, true, Process::Do, Forward::NoSender),
+            Heard::Message(0, SEVENTH, None, true, Process::Do, Forward::NoSender),
+            Heard::Message(0, EIGHTH, None, true, Process::Do, Forward::NoSender),
+        ]),
+    ),
+];
+
+/// A message that is not processed, and one that is.
+pub(crate) const PASSED: &[Heard] = &[Heard::Message(
+    1,
+    FIRST,
+    None,
+    false,
+    Process::Do,
+    Forward::NoSender,
+)];
+
+pub(crate) const TAKEN: &[Heard] = &[Heard::Message(
+    1,
+    FIRST,
+    None,
+    true,
+    Process::Do,
+    Forward::NoSender,
+)];
 
 // What is answered at sets of 16,384 tuples: to fill one tuple by tuple takes a minute.
 fn full_sets_are_told()
@@ -229,12 +248,3 @@ fn full_sets_are_told()
     ensures received { (own : _) (heading : _) (received : _) (forwarded : _) → addr_eq heading.originator own ≡ false → has_no_hops heading ≡ false → find flood_eq received (key_of heading) ≡ None → length received ≡ 16384 → forward_by own heading (Some true) received forwarded ≡ Forward.Full Received }
     ensures forwarded { (own : _) (heading : _) (forwarded : _) → addr_eq heading.originator own ≡ false → has_no_hops heading ≡ false → find flood_eq forwarded (key_of heading) ≡ None → length forwarded ≡ 16384 → forward_by own heading (Some true) [] forwarded ≡ Forward.Full Forwarded }
 {}
-
-#[test]
-fn no_bases_answer_want_of_memory(rt: HostRuntime) -> Result<(), Fail> {
-    let passed = [Heard::Message(1, tc(5), None, false, Process::Do, Forward::NoSender)];
-    let taken = [Heard::Message(1, tc(5), None, true, Process::Do, Forward::NoSender)];
-    assert!(rt; over_none(rt.alloc(), Run::Messages(&passed))?);
-    assert!(rt; has_no_room(rt.alloc(), Run::Messages(&taken)));
-    Ok(())
-}

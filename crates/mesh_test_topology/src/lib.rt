@@ -1,19 +1,13 @@
-//! Tests of the topology, of the parts in which its rows are sent, and of the messages seen before, by worked runs over plain lists and over indexed tables; those that
-//! fill a set are over indexed tables alone. And of the settings that they are made of.
+//! Tests of the topology, of the parts in which its rows are sent, and of the messages seen before, by worked runs over plain lists and
+//! over indexed tables; those that fill a set are over indexed tables alone.
 #![tactic(auto)]
 
 #[cfg(test)]
-mod bases;
-#[cfg(test)]
 mod cutting;
-#[cfg(test)]
-mod fixtures;
 #[cfg(test)]
 mod flooding;
 #[cfg(test)]
-mod sequence;
-#[cfg(test)]
-mod settings;
+mod kinds;
 #[cfg(test)]
 mod tcs;
 #[cfg(test)]

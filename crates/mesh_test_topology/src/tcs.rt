@@ -1,35 +1,45 @@
 //! TCs, and the taking of them.
-ghost use Rattle.std.specs.Prelude.{◌≡◌, ◌≤◌, All, AllPairs, IfOk, true};
+ghost use Rattle.std.specs.Prelude.{◌≡◌, All, AllPairs, IfOk, true};
 ghost use Rattle.mesh_atoms.specs.Nodes.{IsBefore};
 ghost use Rattle.mesh_atoms.specs.Writable.{IsHost};
 
-use mesh_atoms::{Addr4, Metric, NetAddr, Seq, Tc, TcRow, host};
+use mesh_atoms::{Addr4, Metric, Seq, Tc, TcRow, host};
 use mesh_expire::Bases;
 use mesh_topo::{TcTaken, Topology};
 use std::alloc::{AllocError, Global};
 
-const VALIDITY: u64 = 122880;
+pub(crate) const VALIDITY: u64 = 122880;
 
-pub(crate) fn net(addr: u32, prefix: u8) -> NetAddr
-    requires { prefix ≤ 32 }
-{
-    NetAddr::of(Addr4(addr), prefix)
+/// What a row says of its address.
+#[derive(Clone, Copy)]
+pub(crate) struct Said {
+    pub(crate) origin: bool,
+    pub(crate) routable: bool,
+    pub(crate) gateway: Option<u8>,
+    // of cost 2, where there is one
+    pub(crate) has_metric: bool,
 }
 
-pub(crate) fn plain(addr: u32) -> TcRow {
+/// That it is a router's.
+pub(crate) const ROUTER: Said = Said {
+    origin: true,
+    routable: false,
+    gateway: None,
+    has_metric: true,
+};
+
+fn row_at(said: &Said, addr: u32) -> TcRow {
     TcRow {
-        dest: net(addr, 32),
-        origin: false,
-        routable: false,
-        gateway: None,
-        metric: Metric::of_code(1),
+        dest: host(Addr4(addr)),
+        origin: said.origin,
+        routable: said.routable,
+        gateway: said.gateway,
+        metric: if said.has_metric {
+            Metric::of_code(1)
+        } else {
+            None
+        },
     }
-}
-
-pub(crate) fn router(addr: u32) -> TcRow {
-    let mut row = plain(addr);
-    row.origin = true;
-    row
 }
 
 /// So many rows of single addresses, which are like one but for their addresses: those from its own on.
@@ -47,15 +57,16 @@ fn rows_from(alloc: Global, row: &TcRow, count: u32) -> Result<Seq<TcRow>, Alloc
     Ok(rows)
 }
 
-/// A TC of one originator, of so many rows like one.
+/// A TC of one originator, of so many rows that say the same, each of the next address.
 pub(crate) fn tc_from(
     alloc: Global,
     ansn: u16,
     complete: bool,
-    row: &TcRow,
+    said: &Said,
+    first: u32,
     count: u32,
 ) -> Result<Tc, AllocError> {
-    let rows = rows_from(alloc, row, count)?;
+    let rows = rows_from(alloc, &row_at(said, first), count)?;
     Ok(Tc {
         originator: Addr4(1),
         sequence: 1,

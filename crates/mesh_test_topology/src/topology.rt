@@ -1,44 +1,31 @@
 //! TCs that are taken one after the other, sets that are full, and the rows that a router advertises.
 ghost use Rattle.std.specs.Prelude.{◌≤◌};
 
-use crate::bases::{Run, has_no_room, is_right, over_indexed};
-use crate::fixtures::list_of;
-use crate::tcs::{net, plain, router, take, tc_from};
-use mesh_atoms::{Addr4, Attached4, Base, Metric, NetAddr, RouterKey, RouterTuple, TcRow};
+use crate::kinds::{Case, Run};
+use crate::tcs::{ROUTER, Said, VALIDITY, take, tc_from};
+use mesh_atoms::{
+    Addr4, Advertiser, Attached4, Base, Metric, NetAddr, RouterKey, RouterTuple, TcRow,
+};
 use mesh_expire::{Bases, Table};
+use mesh_fixtures::list_of;
 use mesh_topo::{Selector, TcTaken, Topology, tc_rows};
 use std::alloc::{AllocError, Global};
 use std::test::Fail;
 
-fn address(addr: u32) -> TcRow {
-    let mut row = plain(addr);
-    row.routable = true;
-    row
-}
-
-fn network(addr: u32, distance: u8) -> TcRow {
-    let mut row = plain(addr);
-    row.gateway = Some(distance);
-    row
-}
-
-fn bare(row: TcRow) -> TcRow {
-    let mut row = row;
-    row.metric = None;
-    row
-}
-
-/// A TC of one row, or of several like it: its number, whether it is complete, and its first row. What comes of it, how many
-/// tuples there are then (advertisers, routers, addresses, networks), and the number of the router tuple of that row.
+/// A TC of one originator: its number, whether it is complete, what its rows say, and the address of the first, with how many
+/// there are. What comes of it; the number that is kept of the originator then; how many tuples there are (advertisers, routers,
+/// addresses, networks); and the number of the router tuple that leads to an address.
 #[derive(Clone, Copy)]
-pub(crate) struct Taking {
-    ansn: u16,
-    complete: bool,
-    row: TcRow,
-    taken: TcTaken,
-    counts: [usize; 4],
-    number: Option<u16>,
-}
+pub(crate) struct Taking(
+    u16,
+    bool,
+    Said,
+    (u32, u32),
+    TcTaken,
+    Option<u16>,
+    [usize; 4],
+    (u32, Option<u16>),
+);
 
 /// How many tuples there are: advertisers, routers, addresses, networks.
 fn counts_of<B: Bases>(topology: &Topology<B>) -> [usize; 4] {
@@ -50,29 +37,57 @@ fn counts_of<B: Bases>(topology: &Topology<B>) -> [usize; 4] {
     ]
 }
 
-/// The number of the router tuple that leads from the originator of all TCs to an address.
-fn number_of<T: Table<RouterKey, RouterTuple>>(routers: &T, to: Addr4) -> Option<u16> {
-    let key = RouterKey { from: Addr4(1), to };
-    match routers.get(&key) {
-        Some((tuple, _)) => Some(tuple.ansn),
+/// The number that is kept of the originator of all TCs, with its moment.
+fn kept_of<T: Table<Addr4, Advertiser>>(advertisers: &T) -> Option<(u16, u64)> {
+    match advertisers.get(&Addr4(1)) {
+        Some((advertiser, until)) => Some((advertiser.ansn, until)),
         None => None,
     }
 }
 
-fn stands<B: Bases>(topology: &Topology<B>, taking: &Taking) -> bool {
-    counts_of(topology) == taking.counts
-        && number_of(topology.routers(), taking.row.dest.addr) == taking.number
+/// The number, the cost and the moment of the router tuple that leads from there to an address.
+fn tuple_of<T: Table<RouterKey, RouterTuple>>(routers: &T, to: u32) -> Option<(u16, u32, u64)> {
+    let key = RouterKey {
+        from: Addr4(1),
+        to: Addr4(to),
+    };
+    match routers.get(&key) {
+        Some((tuple, until)) => Some((tuple.ansn, tuple.metric.value(), until)),
+        None => None,
+    }
 }
 
-/// Takes a TC of so many rows like one, and says whether what comes of it is right.
+/// Whether a number of each stands, of a tuple at cost 2, as long as a TC is valid.
+fn is_kept(kept: Option<(u16, u64)>, want: Option<u16>) -> bool {
+    match want {
+        Some(number) => kept == Some((number, VALIDITY)),
+        None => kept.is_none(),
+    }
+}
+
+fn is_tuple(tuple: Option<(u16, u32, u64)>, want: Option<u16>) -> bool {
+    match want {
+        Some(number) => tuple == Some((number, 2, VALIDITY)),
+        None => tuple.is_none(),
+    }
+}
+
+fn stands<B: Bases>(topology: &Topology<B>, taking: &Taking) -> bool {
+    let tuple = tuple_of(topology.routers(), taking.7.0);
+    is_kept(kept_of(topology.advertisers()), taking.5)
+        && counts_of(topology) == taking.6
+        && is_tuple(tuple, taking.7.1)
+}
+
+/// Takes a TC, and says whether what comes of it is right.
 fn is_taken<B: Bases>(
     alloc: Global,
     topology: &mut Topology<B>,
     taking: &Taking,
-    count: u32,
 ) -> Result<bool, AllocError> {
-    let tc = tc_from(alloc, taking.ansn, taking.complete, &taking.row, count)?;
-    Ok(take(topology, &tc)? == Some(taking.taken) && stands(topology, taking))
+    let (first, count) = taking.3;
+    let tc = tc_from(alloc, taking.0, taking.1, &taking.2, first, count)?;
+    Ok(take(topology, &tc)? == Some(taking.4) && stands(topology, taking))
 }
 
 fn are_taken<B: Bases>(
@@ -81,7 +96,7 @@ fn are_taken<B: Bases>(
     takings: &[Taking],
 ) -> Result<bool, AllocError> {
     for taking in takings {
-        if !is_taken(alloc, topology, taking, 1)? {
+        if !is_taken(alloc, topology, taking)? {
             return Ok(false);
         }
     }
@@ -94,99 +109,295 @@ pub(crate) fn tcs<B: Bases>(alloc: Global, takings: &[Taking]) -> Result<bool, A
     are_taken(alloc, &mut topology, takings)
 }
 
-/// Whether new sets take a TC of so many rows like one as they must.
-pub(crate) fn fills<B: Bases>(
-    alloc: Global,
-    taking: &Taking,
-    count: u32,
-) -> Result<bool, AllocError> {
-    let mut topology = Topology::<B>::new(alloc)?;
-    is_taken(alloc, &mut topology, taking, count)
-}
+const ADDRESS: Said = Said {
+    origin: false,
+    routable: true,
+    ..ROUTER
+};
 
-/// A TC that changes what is advertised.
-fn done(ansn: u16, complete: bool, row: TcRow, counts: [usize; 4], number: Option<u16>) -> Taking {
-    Taking {
-        ansn,
-        complete,
-        row,
-        taken: TcTaken::Done { changed: true },
-        counts,
-        number,
-    }
-}
+const NETWORK: Said = Said {
+    origin: false,
+    gateway: Some(2),
+    ..ROUTER
+};
 
-/// A TC that says again what is advertised.
-fn again(taking: Taking) -> Taking {
-    Taking {
-        taken: TcTaken::Done { changed: false },
-        ..taking
-    }
-}
+/// A row without metric gives nothing.
+const BARE: Said = Said {
+    has_metric: false,
+    ..ROUTER
+};
 
-#[test]
-fn tcs_are_taken_in_turn(rt: HostRuntime) -> Result<(), Fail> {
-    let takings = [
-        done(32768, true, router(4), [1, 1, 0, 0], Some(32768)),
-        // an incomplete one leaves older tuples
-        done(32769, false, router(5), [1, 2, 0, 0], Some(32769)),
-        done(32769, false, address(5), [1, 2, 1, 0], Some(32769)),
-        again(done(32769, false, address(5), [1, 2, 1, 0], Some(32769))),
-        done(32770, true, network(6, 2), [1, 0, 0, 1], None),
-        // a row without metric gives nothing
-        done(32771, true, bare(router(7)), [1, 0, 0, 0], None),
-    ];
-    assert!(rt; is_right(rt.alloc(), Run::Tcs(&takings))?);
-    assert!(rt; has_no_room(rt.alloc(), Run::Tcs(&takings)));
-    Ok(())
-}
+const ALL: Said = Said {
+    routable: true,
+    gateway: Some(1),
+    ..ROUTER
+};
 
-#[test]
-fn parts_of_a_content_stand_side_by_side(rt: HostRuntime) -> Result<(), Fail> {
-    let takings = [
-        done(5, false, router(4), [1, 1, 0, 0], Some(5)),
-        done(5, false, router(5), [1, 2, 0, 0], Some(5)),
-        // an incomplete one that lacks rows takes nothing out, with a newer number either
-        done(6, false, router(6), [1, 3, 0, 0], Some(6)),
-        again(done(7, false, bare(router(8)), [1, 3, 0, 0], None)),
-        // a complete one takes out each tuple that it lacks, unless it has its number
-        done(7, true, router(5), [1, 1, 0, 0], Some(7)),
-    ];
-    assert!(rt; is_right(rt.alloc(), Run::Tcs(&takings))?);
-    Ok(())
-}
+const ALL_BARE: Said = Said {
+    has_metric: false,
+    ..ALL
+};
 
-/// A TC that a set has no room for.
-fn full(row: TcRow, base: Base) -> Taking {
-    Taking {
-        ansn: 1,
-        complete: true,
-        row,
-        taken: TcTaken::Full(base),
-        counts: [0, 0, 0, 0],
-        number: None,
-    }
-}
+const ADDRESS_AND_NETWORK: Said = Said {
+    origin: false,
+    ..ALL
+};
 
-#[test]
-fn the_first_full_set_is_named(rt: HostRuntime) -> Result<(), Fail> {
-    let mut all = router(2);
-    all.routable = true;
-    all.gateway = Some(1);
-    let mut two = address(2);
-    two.gateway = Some(1);
-    let most = done(1, true, all, [1, 16384, 16384, 16384], Some(1));
-    let routers = full(all, Base::Routers);
-    let addresses = full(two, Base::Addresses);
-    let networks = full(network(2, 1), Base::Networks);
-    let nothing = again(done(1, true, bare(all), [1, 0, 0, 0], None));
-    assert!(rt; over_indexed(rt.alloc(), Run::Fills(&most, 16384))?);
-    assert!(rt; over_indexed(rt.alloc(), Run::Fills(&routers, 16385))?);
-    assert!(rt; over_indexed(rt.alloc(), Run::Fills(&addresses, 16385))?);
-    assert!(rt; over_indexed(rt.alloc(), Run::Fills(&networks, 16385))?);
-    assert!(rt; over_indexed(rt.alloc(), Run::Fills(&nothing, 16385))?);
-    Ok(())
-}
+const NEAR_NETWORK: Said = Said {
+    gateway: Some(1),
+    ..NETWORK
+};
+
+const CHANGED: TcTaken = TcTaken::Done { changed: true };
+
+const SAME: TcTaken = TcTaken::Done { changed: false };
+
+const OLD: TcTaken = TcTaken::Old { kept: 65535 };
+
+pub(crate) const IN_TURN: &[Taking] = &[
+    Taking(
+        32768,
+        true,
+        ROUTER,
+        (4, 1),
+        CHANGED,
+        Some(32768),
+        [1, 1, 0, 0],
+        (4, Some(32768)),
+    ),
+    // an incomplete one leaves older tuples
+    Taking(
+        32769,
+        false,
+        ROUTER,
+        (5, 1),
+        CHANGED,
+        Some(32769),
+        [1, 2, 0, 0],
+        (5, Some(32769)),
+    ),
+    Taking(
+        32769,
+        false,
+        ADDRESS,
+        (5, 1),
+        CHANGED,
+        Some(32769),
+        [1, 2, 1, 0],
+        (5, Some(32769)),
+    ),
+    Taking(
+        32769,
+        false,
+        ADDRESS,
+        (5, 1),
+        SAME,
+        Some(32769),
+        [1, 2, 1, 0],
+        (5, Some(32769)),
+    ),
+    Taking(
+        32770,
+        true,
+        NETWORK,
+        (6, 1),
+        CHANGED,
+        Some(32770),
+        [1, 0, 0, 1],
+        (6, None),
+    ),
+    Taking(
+        32771,
+        true,
+        BARE,
+        (7, 1),
+        CHANGED,
+        Some(32771),
+        [1, 0, 0, 0],
+        (7, None),
+    ),
+];
+
+pub(crate) static CASES: [Case; 3] = [
+    ("TCs are taken in turn", Run::Tcs(IN_TURN)),
+    (
+        "parts of a content stand side by side",
+        Run::Tcs(&[
+            Taking(
+                5,
+                false,
+                ROUTER,
+                (4, 1),
+                CHANGED,
+                Some(5),
+                [1, 1, 0, 0],
+                (4, Some(5)),
+            ),
+            Taking(
+                5,
+                false,
+                ROUTER,
+                (5, 1),
+                CHANGED,
+                Some(5),
+                [1, 2, 0, 0],
+                (5, Some(5)),
+            ),
+            // an incomplete one that lacks rows takes nothing out, with a newer number either
+            Taking(
+                6,
+                false,
+                ROUTER,
+                (6, 1),
+                CHANGED,
+                Some(6),
+                [1, 3, 0, 0],
+                (6, Some(6)),
+            ),
+            Taking(
+                7,
+                false,
+                BARE,
+                (8, 1),
+                SAME,
+                Some(7),
+                [1, 3, 0, 0],
+                (8, None),
+            ),
+            // a complete one takes out each tuple that it lacks, unless it has its number
+            Taking(
+                7,
+                true,
+                ROUTER,
+                (5, 1),
+                CHANGED,
+                Some(7),
+                [1, 1, 0, 0],
+                (5, Some(7)),
+            ),
+        ]),
+    ),
+    (
+        "the rows of one originator are those of its newest number",
+        Run::Tcs(&[
+            Taking(
+                65535,
+                true,
+                ROUTER,
+                (1, 1),
+                CHANGED,
+                Some(65535),
+                [1, 1, 0, 0],
+                (1, Some(65535)),
+            ),
+            Taking(
+                65534,
+                true,
+                ROUTER,
+                (3, 1),
+                OLD,
+                Some(65535),
+                [1, 1, 0, 0],
+                (1, Some(65535)),
+            ),
+            Taking(
+                0,
+                true,
+                ROUTER,
+                (4, 1),
+                CHANGED,
+                Some(0),
+                [1, 1, 0, 0],
+                (4, Some(0)),
+            ),
+            // at a distance of 32768 neither number is newer
+            Taking(
+                32768,
+                true,
+                ROUTER,
+                (5, 1),
+                CHANGED,
+                Some(32768),
+                [1, 1, 0, 0],
+                (5, Some(32768)),
+            ),
+        ]),
+    ),
+];
+
+const FULL_ROUTERS: TcTaken = TcTaken::Full(Base::Routers);
+
+const FULL_ADDRESSES: TcTaken = TcTaken::Full(Base::Addresses);
+
+const FULL_NETWORKS: TcTaken = TcTaken::Full(Base::Networks);
+
+pub(crate) static FULL: [Case; 5] = [
+    (
+        "there is room for 16,384 of each",
+        Run::Tcs(&[Taking(
+            1,
+            true,
+            ALL,
+            (2, 16384),
+            CHANGED,
+            Some(1),
+            [1, 16384, 16384, 16384],
+            (2, Some(1)),
+        )]),
+    ),
+    (
+        "routers come first",
+        Run::Tcs(&[Taking(
+            1,
+            true,
+            ALL,
+            (2, 16385),
+            FULL_ROUTERS,
+            None,
+            [0; 4],
+            (2, None),
+        )]),
+    ),
+    (
+        "then addresses",
+        Run::Tcs(&[Taking(
+            1,
+            true,
+            ADDRESS_AND_NETWORK,
+            (2, 16385),
+            FULL_ADDRESSES,
+            None,
+            [0; 4],
+            (2, None),
+        )]),
+    ),
+    (
+        "then networks",
+        Run::Tcs(&[Taking(
+            1,
+            true,
+            NEAR_NETWORK,
+            (2, 16385),
+            FULL_NETWORKS,
+            None,
+            [0; 4],
+            (2, None),
+        )]),
+    ),
+    (
+        "rows without metrics fill nothing",
+        Run::Tcs(&[Taking(
+            1,
+            true,
+            ALL_BARE,
+            (2, 16385),
+            SAME,
+            Some(1),
+            [1, 0, 0, 0],
+            (2, None),
+        )]),
+    ),
+];
 
 fn selector(
     alloc: Global,
@@ -205,7 +416,7 @@ fn row(addr: u32, prefix: u8, origin: bool, gateway: Option<u8>, metric: Metric)
     requires { prefix ≤ 32 }
 {
     TcRow {
-        dest: net(addr, prefix),
+        dest: NetAddr::of(Addr4(addr), prefix),
         origin,
         routable: gateway.is_none(),
         gateway,
@@ -227,10 +438,11 @@ fn are_in_order(rows: &[TcRow]) -> bool {
     rows == wanted.as_slice()
 }
 
-fn two_selectors(alloc: Global) -> Result<[Selector; 2], AllocError> {
-    let first = selector(alloc, 50, &[Addr4(50), Addr4(60), Addr4(70)], DEAR)?;
-    let second = selector(alloc, 70, &[Addr4(60)], CHEAP)?;
-    Ok([first, second])
+fn two_selectors(alloc: Global) -> Result<Vec<Selector>, AllocError> {
+    let mut selectors = Vec::new(alloc);
+    selectors.push(selector(alloc, 50, &[Addr4(50), Addr4(60), Addr4(70)], DEAR)?)?;
+    selectors.push(selector(alloc, 70, &[Addr4(60)], CHEAP)?)?;
+    Ok(selectors)
 }
 
 fn rows_are_in_order(alloc: Global) -> Result<bool, AllocError> {
@@ -254,7 +466,7 @@ fn rows_are_in_order(alloc: Global) -> Result<bool, AllocError> {
             distance: 3,
         },
     ];
-    let rows = tc_rows(alloc, &selectors, &attached)?;
+    let rows = tc_rows(alloc, selectors.as_slice(), &attached)?;
     Ok(are_in_order(rows.as_slice()))
 }
 

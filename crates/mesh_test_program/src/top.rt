@@ -1,0 +1,221 @@
+//! The top call over streams, an air and a clock in memory.
+ghost use Rattle.std.specs.Prelude.{◌≡◌, IfOk};
+
+use crate::{runs, streams};
+use mesh_atoms::{Addr4, Bytes, Seq};
+use mesh_expire::{IndexedBases, NoBases};
+use mesh_io::{AirFails, AirRoom, MemAir, MemClock, MemEar, MemSink, MemSource};
+use mesh_tool::top_over;
+use std::alloc::{AllocError, Global};
+use std::process::Abort;
+use std::test::Fail;
+
+/// Whether tables hold what they are told, or nothing.
+#[derive(Clone, Copy)]
+pub(crate) enum Over {
+    Indexes,
+    Nothing,
+}
+
+/// What is shown, and over which tables; the words and the input; the calls that fail, of the source and of out; whether the air is
+/// silent, on which nothing is heard and nothing sent; and what comes of it: the status, and what stands on out and on err.
+#[derive(Clone, Copy)]
+pub(crate) struct Case {
+    pub(crate) name: &'static str,
+    pub(crate) over: Over,
+    pub(crate) words: &'static [&'static str],
+    pub(crate) input: &'static str,
+    pub(crate) takes: &'static [u64],
+    pub(crate) puts: &'static [u64],
+    pub(crate) silent: bool,
+    pub(crate) status: u8,
+    pub(crate) out: &'static str,
+    pub(crate) err: &'static str,
+}
+
+/// What the top call reads and writes.
+#[derive(Drop)]
+struct Streams {
+    input: MemSource,
+    out: MemSink,
+    err: MemSink,
+}
+
+/// What else it is handed.
+#[derive(Drop)]
+struct Others {
+    words: Vec<String>,
+    air: MemAir,
+    clock: MemClock,
+}
+
+fn numbers(alloc: Global, numbers: &[u64]) -> Result<Seq<u64>, AllocError> {
+    Ok(Seq::from_vec(Vec::from_slice(alloc, numbers)?))
+}
+
+fn octets(alloc: Global, octets: &[u8]) -> Result<Bytes, AllocError> {
+    Ok(Bytes::from_vec(Vec::from_slice(alloc, octets)?))
+}
+
+fn strings(alloc: Global, words: &[&str]) -> Result<Vec<String>, AllocError> {
+    let mut strings = Vec::new(alloc);
+    for word in words {
+        strings.push(String::from_str(alloc, *word)?)?;
+    }
+    Ok(strings)
+}
+
+fn source(alloc: Global, input: &str, fails: &[u64]) -> Result<MemSource, AllocError> {
+    let fails = numbers(alloc, fails)?;
+    Ok(MemSource::new(octets(alloc, input.as_bytes())?, fails))
+}
+
+fn sink(alloc: Global, fails: &[u64]) -> Result<MemSink, AllocError> {
+    MemSink::new(alloc, 4096, numbers(alloc, fails)?)
+}
+
+/// A clock that tells four moments.
+fn clock(alloc: Global) -> Result<MemClock, AllocError> {
+    Ok(MemClock::new(numbers(alloc, &[0, 4096, 8192, 16384])?))
+}
+
+/// The HELLO of a lone router 10.0.0.1.
+const HELLO: &[u8] =
+    b"\x00\x00\x83\x00\x22\x0a\x00\x00\x01\x00\x0c\x01\x10\x01\x64\x00\x10\x01\x58\x07\x10\x01\x77\x01\x00\x0a\x00\x00\x01\x00\x04\x02\x10\x01\x00";
+
+fn frame(alloc: Global, bytes: &[u8]) -> Result<MemEar, AllocError> {
+    Ok(MemEar::Frame {
+        sender: Addr4(0x0a00_0001),
+        bytes: octets(alloc, bytes)?,
+    })
+}
+
+/// Nothing, or that HELLO and a frame that is refused.
+fn frames(alloc: Global, silent: bool) -> Result<Seq<MemEar>, AllocError> {
+    let mut frames = Seq::new(alloc);
+    if !silent {
+        frames.push(frame(alloc, HELLO)?)?;
+        frames.push(frame(alloc, b"\xff")?)?;
+    }
+    Ok(frames)
+}
+
+/// On a silent air both sendings fail; on the other one the third hearing and the second sending.
+fn fails(alloc: Global, silent: bool) -> Result<AirFails, AllocError> {
+    let (hear, send): (&[u64], &[u64]) = if silent { (&[], &[1, 2]) } else { (&[3], &[2]) };
+    let hear = numbers(alloc, hear)?;
+    Ok(AirFails {
+        attach: Seq::new(alloc),
+        hear,
+        send: numbers(alloc, send)?,
+    })
+}
+
+/// An air whose first interface hears those frames.
+fn air(alloc: Global, silent: bool) -> Result<MemAir, AllocError>
+    ensures { IfOk result (λ air. air.log.attached ≡ 0) }
+{
+    let room = AirRoom {
+        attaches: 8,
+        peers: 8,
+        ears: 100,
+        frames: 100,
+        octets: 10_000,
+    };
+    let mut scripts = Seq::new(alloc);
+    scripts.push(frames(alloc, silent)?)?;
+    MemAir::new(alloc, scripts, fails(alloc, silent)?, room)
+}
+
+fn streams_of(alloc: Global, case: &Case) -> Result<Streams, AllocError> {
+    Ok(Streams {
+        input: source(alloc, case.input, case.takes)?,
+        out: sink(alloc, case.puts)?,
+        err: sink(alloc, &[])?,
+    })
+}
+
+fn others_of(alloc: Global, case: &Case) -> Result<Others, AllocError>
+    ensures { IfOk result (λ others. others.air.log.attached ≡ 0) }
+{
+    Ok(Others {
+        words: strings(alloc, case.words)?,
+        air: air(alloc, case.silent)?,
+        clock: clock(alloc)?,
+    })
+}
+
+fn over_indexes(alloc: Global, streams: &mut Streams, others: &mut Others) -> u8
+    requires { others.old.air.log.attached ≡ 0 }
+{
+    let status = top_over::<IndexedBases, MemSource, MemSink, MemSink, MemAir, MemClock>(
+        alloc,
+        others.words.as_slice(),
+        &mut streams.input,
+        &mut streams.out,
+        &mut streams.err,
+        &mut others.air,
+        &mut others.clock,
+    );
+    status.code()
+}
+
+fn over_nothing(alloc: Global, streams: &mut Streams, others: &mut Others) -> u8
+    requires { others.old.air.log.attached ≡ 0 }
+{
+    let status = top_over::<NoBases, MemSource, MemSink, MemSink, MemAir, MemClock>(
+        alloc,
+        others.words.as_slice(),
+        &mut streams.input,
+        &mut streams.out,
+        &mut streams.err,
+        &mut others.air,
+        &mut others.clock,
+    );
+    status.code()
+}
+
+fn has_said(case: &Case, streams: &Streams) -> bool {
+    streams.out.as_slice() == case.out.as_bytes() && streams.err.as_slice() == case.err.as_bytes()
+}
+
+/// Makes the call, and says whether what comes of it is right.
+fn is_right(alloc: Global, case: &Case, streams: &mut Streams, others: &mut Others) -> bool
+    requires { others.old.air.log.attached ≡ 0 }
+{
+    let status = match case.over {
+        Over::Indexes => over_indexes(alloc, streams, others),
+        Over::Nothing => over_nothing(alloc, streams, others),
+    };
+    status == case.status && has_said(case, streams)
+}
+
+fn goes_right(alloc: Global, case: &Case, streams: &mut Streams) -> Result<bool, AllocError> {
+    let mut others = others_of(alloc, case)?;
+    Ok(is_right(alloc, case, streams, &mut others))
+}
+
+fn comes_to(alloc: Global, case: &Case) -> Result<bool, AllocError> {
+    let mut streams = streams_of(alloc, case)?;
+    goes_right(alloc, case, &mut streams)
+}
+
+/// Tells the first case that goes wrong.
+fn all_hold(rt: &impl Abort, alloc: Global, cases: &[Case]) -> Result<(), AllocError> {
+    for case in cases {
+        assert!(rt; comes_to(alloc, case)?, "{}", case.name);
+    }
+    Ok(())
+}
+
+#[test]
+fn streams_fail(rt: HostRuntime) -> Result<(), Fail> {
+    all_hold(&rt, rt.alloc(), &streams::CASES)?;
+    Ok(())
+}
+
+#[test]
+fn airs_fail(rt: HostRuntime) -> Result<(), Fail> {
+    all_hold(&rt, rt.alloc(), &runs::CASES)?;
+    Ok(())
+}
