@@ -92,11 +92,11 @@ fn all_hold(rt: &impl Abort, alloc: Global, over: Over, cases: &[Case]) -> Resul
 fn cases_hold_over_plain_lists(rt: HostRuntime) -> Result<(), Fail> {
     all_hold(&rt, rt.alloc(), Over::Plain, &neighbourhood::CASES)?;
     all_hold(&rt, rt.alloc(), Over::Plain, &neighbourhood::TOLD)?;
+    all_hold(&rt, rt.alloc(), Over::Plain, &neighbourhood::FULL)?;
     all_hold(&rt, rt.alloc(), Over::Plain, &exchange::CASES)?;
     Ok(())
 }
 
-/// What fills a set is tried over indexed tables alone.
 #[test]
 fn cases_hold_over_indexed_tables(rt: HostRuntime) -> Result<(), Fail> {
     all_hold(&rt, rt.alloc(), Over::Indexed, &neighbourhood::CASES)?;

@@ -80,11 +80,11 @@ fn all_hold(rt: &impl Abort, alloc: Global, over: Over, cases: &[Case]) -> Resul
 #[test]
 fn cases_hold_over_plain_lists(rt: HostRuntime) -> Result<(), Fail> {
     all_hold(&rt, rt.alloc(), Over::Plain, &topology::CASES)?;
+    all_hold(&rt, rt.alloc(), Over::Plain, &topology::FULL)?;
     all_hold(&rt, rt.alloc(), Over::Plain, &flooding::CASES)?;
     Ok(())
 }
 
-/// What fills a set is tried over indexed tables alone.
 #[test]
 fn cases_hold_over_indexed_tables(rt: HostRuntime) -> Result<(), Fail> {
     all_hold(&rt, rt.alloc(), Over::Indexed, &topology::CASES)?;

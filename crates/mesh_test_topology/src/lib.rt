@@ -1,5 +1,5 @@
 //! Tests of the topology, of the parts in which its rows are sent, and of the messages seen before, by worked runs over plain lists and
-//! over indexed tables; those that fill a set are over indexed tables alone.
+//! over indexed tables.
 #![tactic(auto)]
 
 #[cfg(test)]
