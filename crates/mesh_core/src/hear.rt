@@ -175,6 +175,5 @@ fn take_messages<B: Bases>(
         fates,
         out,
     )?;
-    end_event(alloc, holding, arrival.now, idle & quiet, derived)?;
-    Ok(())
+    end_event(alloc, holding, arrival.now, idle & quiet, derived)
 }

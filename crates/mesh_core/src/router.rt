@@ -1,7 +1,9 @@
 //! The router core: a router with its bases, and what follows from them.
-ghost use Rattle.std.specs.Prelude.{◌≡◌, IfOk, false};
+ghost use Rattle.std.specs.Prelude.{◌≡◌, length, IfOk, false};
 ghost use Rattle.mesh_atoms.specs.Sound.{Sound};
-ghost use Rattle.mesh_machine.specs.Machine.{IsOpening, due};
+ghost use Rattle.mesh_atoms.specs.State.{State};
+ghost use Rattle.mesh_machine.specs.Machine.{IsOpening, no_bases, due};
+ghost use Rattle.mesh_renewal.specs.Renewed.{HasDerived, HasNext};
 
 use mesh_atoms::RouterSettings;
 use mesh_expire::Bases;
@@ -38,13 +40,7 @@ impl<B: Bases> Core<B> {
         ensures sound { IfOk result (λ core. Sound core.state) }
         ensures whole { IfOk result (λ core. core.is_spent ≡ false) }
     {
-        let derived = opening(alloc, &settings)?;
-        let holding = Holding::new(alloc, &settings)?;
-        Ok(Core {
-            holding,
-            derived,
-            spent: false,
-        })
+        opened(alloc, &settings)
     }
 
     /// The moment at which the next HELLO or TC is due.
@@ -60,4 +56,41 @@ impl<B: Bases> Core<B> {
     {
         self.spent
     }
+}
+
+// A router with these settings before its first event.
+fn opened<B: Bases>(alloc: Global, settings: &RouterSettings) -> Result<Core<B>, AllocError>
+    ensures opening { IfOk result (λ core. IsOpening settings.now core.state) }
+    ensures whole { IfOk result (λ core. core.is_spent ≡ false) }
+{
+    let derived = opening(alloc, settings)?;
+    with_no_bases(alloc, settings, derived)
+}
+
+// A router that holds nothing.
+fn with_no_bases<B: Bases>(
+    alloc: Global,
+    settings: &RouterSettings,
+    derived: Derived,
+) -> Result<Core<B>, AllocError>
+    requires opens { (s : State) → s.settings ≡ settings.now → s.bases ≡ no_bases (length settings.now.interfaces) → HasDerived s derived → HasNext s derived → IsOpening settings.now s }
+    ensures opening { IfOk result (λ core. IsOpening settings.now core.state) }
+    ensures whole { IfOk result (λ core. core.is_spent ≡ false) }
+{
+    match Holding::new(alloc, settings) {
+        Ok(holding) => Ok(Core {
+            holding,
+            derived,
+            spent: false,
+        }),
+        Err(e) => {
+            let_go(derived);
+            Err(e)
+        }
+    }
+}
+
+// Lets go of what follows from the bases.
+fn let_go(derived: Derived) {
+    let _ = derived;
 }

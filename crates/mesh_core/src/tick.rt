@@ -89,6 +89,5 @@ fn do_tick<B: Bases>(
     let quiet = holding.expire(derived.last, now)?;
     end_event(alloc, holding, now, quiet, derived)?;
     send_hellos(alloc, holding.nhdp(), derived, out)?;
-    send_tcs(alloc, holding.settings(), derived, out)?;
-    Ok(())
+    send_tcs(alloc, holding.settings(), derived, out)
 }

@@ -1,6 +1,6 @@
 -- The moments of a table, in order.
 use Rattle.std.proofs.lemmas.Bool.{lt-ltb, le-ltb, eqb-true}
-use Rattle.std.proofs.Common.{◌≡◌, ℕ, ◌<◌, ◌≤◌, arith, Bool, true, false, cond, ◌&&◌, Option, Some, None, refl, sym, ap, ◌∙◌, nat_eq}
+use Rattle.std.proofs.Common.{◌≡◌, ℕ, ◌<◌, ◌≤◌, arith, Bool, true, false, cond, ◌&&◌, Option, Some, None, refl, sym, ap, subst, ◌∙◌, nat_eq}
 use Rattle.std.specs.Prelude.{IsTrue}
 use Rattle.std.specs.Ordering.{ordering_then, nat_cmp, is_eq, is_gt}
 use Rattle.std.specs.declared.cmp.Ordering.{Ordering}
@@ -12,7 +12,7 @@ use Rattle.std.specs.Map.{set_value}
 use Rattle.std.specs.Prelude.{option_map}
 use Rattle.mesh_atoms.specs.Base.{Base, HasDistinctKeys, find, SetsOnly, Expires, IsFresh, if_live}
 use Rattle.mesh_expire.specs.Moments.{moment_cmp, is_moment, until_of, Tells, SetsMoment}
-use Rattle.mesh_expire.specs.Table.{changed_at}
+use Rattle.mesh_expire.specs.Table.{changed_at, TakesExpired}
 use Rattle.mesh_expire.proofs.Laws.{find_same, find-changed_at, changed_at-set_value}
 
 -- what is not above in the order is not above by its moment
@@ -53,6 +53,17 @@ not_both until before moment apart h = grind (arith, apart, h)
 found_moment : {V : Type 0} (entry : Option (V × ℕ)) (moment : ℕ) → is_moment (until_of entry) moment ≡ true → (value : V) × (entry ≡ Some (value, moment))
 found_moment None moment h = absurd cc
 found_moment (Some e) moment h = (e.0, ap (λ n. Some (e.0, n)) (eqb-true e.1 moment h))
+
+nothing_is : {A : Type 0} (x : A) → None ≡ Some x → ⊥
+nothing_is x h = cc
+
+-- what has a moment is there
+pub no_moment : {V : Type 0} (entry : Option (V × ℕ)) (moment : ℕ) → None ≡ entry → Some moment ≡ until_of entry → ⊥
+no_moment None moment none some = cc
+no_moment (Some e) moment none some = cc
+
+same_until : {V : Type 0} (x y : V × ℕ) → Some x ≡ Some y → x.1 ≡ y.1
+same_until {V} x y h = let same : x ≡ y = cc in ap (λ (z : V × ℕ). z.1) same
 
 gone : {V : Type 0} (now moment : ℕ) (value : V) → moment ≤ now → None ≡ if_live now (Some (value, moment))
 gone now moment value h = rw (le-ltb now moment h) refl
@@ -127,6 +138,28 @@ module _ {K : Type 0} (eq : K → K → Bool) (cmp : K → K → Ordering) where
       by_key : (e : Bool) → eq key q ≡ e → if_live now (cond e None (find eq base q)) ≡ if_live now (find eq base q)
       by_key true is = gone now moment value late ∙ ap (if_live now) (sym (find_same laws key q is base ∙ found))
       by_key false is = refl
+
+    module _ (agree : (x y : K) → eq x y ≡ is_eq (cmp x y)) (laws : IsEquivalence eq) (old new : BTreeSet (ℕ × K)) (base base' : Base K V) (now : ℕ) (key : K) (tells : Tells eq cmp old base)
+        (taken : (moment : ℕ) × (moment ≤ now) × IsTrue (contains (moment_cmp cmp) old (moment, key)) × Updates (moment_cmp cmp) old new (moment, key) false) where
+      -- the key of a pair that goes is in the map
+      taken_entry : (value : V) × (find eq base key ≡ Some (value, taken.0))
+      taken_entry = of_pair old base taken.0 key tells taken.2
+
+      pub never_absent : None ≡ find eq base key → ⊥
+      never_absent none = nothing_is (taken_entry.0, taken.0) (none ∙ taken_entry.1)
+
+      -- a pair goes, and with it the entry of its key
+      pub goes_with : SetsOnly eq base base' key None → Tells eq cmp new base'
+      goes_with only =
+          let was : SetsMoment eq cmp old old key (Some taken.0) = subst (λ (o : Option (V × ℕ)). SetsMoment eq cmp old old key (until_of o)) taken_entry.1 (told laws old base key tells) in
+          tells_set old new base base' key None tells (goes_out eq cmp agree old new key taken.0 was taken.3) only
+
+      pub live_after : (first : Base K V) → SetsOnly eq base base' key None → ((q : K) → if_live now (find eq base q) ≡ if_live now (find eq first q)) → (q : K) → if_live now (find eq base' q) ≡ if_live now (find eq first q)
+      live_after first only live = still_live laws now taken.0 taken_entry.0 key first base base' taken.1 taken_entry.1 only live
+
+      pub takes_pair : (value : V) (until : ℕ) → Some (value, until) ≡ find eq base key → SetsOnly eq base base' key None → TakesExpired eq now key value base base'
+      takes_pair value until is only =
+          record { until = until; stood = sym is; late = rw (same_until (value, until) (taken_entry.0, taken.0) (is ∙ taken_entry.1)) taken.1; gone = only }
 
     -- where no pair is expired, no entry is
     pub all_live : (moments : BTreeSet (ℕ × K)) (base old : Base K V) (now : ℕ) → Tells eq cmp moments base → ((moment : ℕ) (key : K) → IsTrue (contains (moment_cmp cmp) moments (moment, key)) → now < moment)

@@ -1,5 +1,5 @@
 -- A base that is changed by the place of a key.
-use Rattle.std.proofs.Common.{◌≡◌, ℕ, zero, suc, ◌+◌, ◌<◌, ◌≤◌, inl, inr, subst, Bool, true, false, cond, List, [], ◌∷◌, ◌++◌, length, get_or, Option, Some, None, is_some, refl, sym, ap, ◌∙◌, arith}
+use Rattle.std.proofs.Common.{◌≡◌, ℕ, zero, suc, ◌+◌, ◌<◌, ◌≤◌, inl, inr, subst, Bool, true, false, cond, List, [], ◌∷◌, ◌++◌, length, drop, get_or, Option, Some, None, is_some, refl, sym, ap, ◌∙◌, arith}
 use Rattle.std.specs.Prelude.{remove, insert, slice_get, slice_set, option_map, IsSome, nat_lt}
 use Rattle.std.proofs.lemmas.Bool.{cases_order, lt-ltb}
 use Rattle.std.specs.List.{IsDistinct, AllByRecursion, list_any, filter}
@@ -9,8 +9,8 @@ use Rattle.std.proofs.lemmas.Map.{none_passes_from_lookup, lookup-insert, lookup
 use Rattle.std.proofs.lemmas.Map.Made.{is_some-lookup}
 use Rattle.std.proofs.lemmas.Map.Keys.{IsDistinct-push, IsDistinct-tail}
 use Rattle.std.proofs.lemmas.Map.Entries.{lookup-filter-values, lookup_from_place, option_filter}
-use Rattle.std.proofs.lemmas.List.{map_push, take_all, drop_all}
-use Rattle.std.proofs.lemmas.Option.{slice_get_within, get_or_from_slice_get}
+use Rattle.std.proofs.lemmas.List.{map_push, take_all, drop_all, at_drop_more}
+use Rattle.std.proofs.lemmas.Option.{slice_get_within, slice_get_read, get_or_from_slice_get}
 use Rattle.mesh_atoms.specs.Base.{Base, find, HasDistinctKeys, SetsOnly, IsFresh, if_live}
 use Rattle.mesh_expire.proofs.Laws.{find_same, walked, apart_before, changed_at-place, sets-changed_at, distinct-changed_at, length-changed_at}
 use Rattle.mesh_expire.specs.Table.{changed_at, TakesExpired}
@@ -25,6 +25,23 @@ there {K} {X} es i key h = by_case (slice_get es i) refl h where
 -- the place of a key is a place
 pub within : {K X : Type 0} (es : List (K × X)) (i : ℕ) (key : K) → option_map (λ (e : K × X). e.0) (slice_get es i) ≡ Some key → i < length es
 within es i key h = let t = there es i key h in slice_get_within es i (key, t.0) t.1
+
+module _ {K V : Type 0} (eq : K → K → Bool) (key : K) (es : Base K V) (i : ℕ) (e : K × (V × ℕ)) where
+  -- a look for a key from the front that has come to the entry `e`
+  at_entry : find eq es key ≡ find eq (drop i es) key → i < length es → e ≡ get_or es i e → find eq es key ≡ find eq (e ∷ drop (i + 1) es) key
+  at_entry so_far within is = so_far ∙ at_drop_more (λ (l : Base K V). find eq l key) es i e within ∙ ap (λ (x : K × (V × ℕ)). find eq (x ∷ drop (i + 1) es) key) (sym is)
+
+  -- it ends there
+  pub ends_at : find eq es key ≡ find eq (drop i es) key → i < length es → e ≡ get_or es i e → eq key e.0 ≡ true → find eq es key ≡ Some e.1
+  ends_at so_far within is same = at_entry so_far within is ∙ rw same refl
+
+  -- or it goes on
+  pub goes_on : find eq es key ≡ find eq (drop i es) key → i < length es → e ≡ get_or es i e → eq key e.0 ≡ false → find eq es key ≡ find eq (drop (i + 1) es) key
+  goes_on so_far within is other = at_entry so_far within is ∙ rw other refl
+
+-- where an entry of the key stands, the key stands
+pub stands_at : {K X : Type 0} (xs es : List (K × X)) (i : ℕ) (e : K × X) (key : K) → xs ≡ es → i < length xs → e ≡ get_or xs i e → key ≡ e.0 → option_map (λ (y : K × X). y.0) (slice_get es i) ≡ Some key
+stands_at xs es i e key same within is of = rw (← same, slice_get_read xs (length xs) i e refl within is, of) refl
 
 all_removed : {K X : Type 0} (test : K → Bool) (P : K → Type 0) (es : List (K × X)) → AllByRecursion P (keys_of es) → AllByRecursion P (keys_of (remove_entry test es))
 all_removed test P [] h = tt

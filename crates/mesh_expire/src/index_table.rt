@@ -72,8 +72,10 @@ fn move_moment<K: Key + Ord + Drop>(
 fn until_at<K: Key + Hash, V>(map: &IndexMap<K, (V, u64)>, key: &K) -> Option<u64>
     ensures { result ≡ until_of (find K.eq map.now.entries key.now) }
 {
-    let entry = map.get(key)?;
-    Some(entry.1)
+    match map.get(key) {
+        Some(entry) => Some(entry.1),
+        None => None,
+    }
 }
 
 fn put_in<K: Key + Ord + Hash + Drop, V: Drop>(
@@ -201,13 +203,17 @@ impl<K: Key + Ord + Hash + Drop, V: Drop> Table<K, V> for IndexTable<K, V> {
     }
 
     fn at(&self, place: usize) -> Option<(&K, &V, u64)> {
-        let (key, entry) = self.map.get_index(place)?;
-        Some((key, &entry.0, entry.1))
+        match self.map.get_index(place) {
+            Some((key, entry)) => Some((key, &entry.0, entry.1)),
+            None => None,
+        }
     }
 
     fn get(&self, key: &K) -> Option<(&V, u64)> {
-        let entry = self.map.get(key)?;
-        Some((&entry.0, entry.1))
+        match self.map.get(key) {
+            Some(entry) => Some((&entry.0, entry.1)),
+            None => None,
+        }
     }
 
     fn put(&mut self, key: K, value: V, until: u64) -> Result<(), AllocError> {

@@ -145,8 +145,10 @@ impl<K: Key + Drop, V: Drop> Table<K, V> for ListTable<K, V> {
     }
 
     fn at(&self, place: usize) -> Option<(&K, &V, u64)> {
-        let entry = self.entries.as_slice().get(place)?;
-        Some((&entry.0, &entry.1.0, entry.1.1))
+        match self.entries.as_slice().get(place) {
+            Some(entry) => Some((&entry.0, &entry.1.0, entry.1.1)),
+            None => None,
+        }
     }
 
     fn get(&self, key: &K) -> Option<(&V, u64)> {

@@ -1,6 +1,4 @@
-pub mod Keyed
 pub mod Losts
 pub mod Neighbours
 pub mod Owners
 pub mod Parts
-pub mod TwoHops

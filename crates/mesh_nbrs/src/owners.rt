@@ -9,7 +9,6 @@ ghost use Rattle.mesh_nbrs.specs.Neighbours.{IsSpokenOf};
 ghost use Rattle.mesh_nbrs.specs.Owners.{Owned, Leaves, SetsOwner, owner_of, is_owner};
 
 use crate::ends::{Ending, end_all};
-use crate::keyed::stands;
 use indexmap::{IndexMap, IndexSet};
 use mesh_atoms::{Addr4, Neighbour};
 use mesh_expire::Table;
@@ -80,6 +79,13 @@ pub fn remove_owned<T: Table<Addr4, Neighbour>>(
 {
     disown_at(owners, table, originator);
     table.remove(&originator)
+}
+
+// Whether there is a neighbour with that originator.
+fn stands<T: Table<Addr4, Neighbour>>(table: &T, originator: &Addr4) -> bool
+    ensures { result ≡ is_some (find addr_eq (T.content table.now) originator.now) }
+{
+    table.get(originator).is_some()
 }
 
 // Takes out each address whose neighbour is gone. Goes over the whole map. Takes no memory.
@@ -172,5 +178,5 @@ pub fn all_spoken_of<T: Table<Addr4, Neighbour>>(
 {
     let mut found = owners_of(alloc, owners, listed)?;
     add_standing(&mut found, table, originator)?;
-    Ok(Vec::from_slice(alloc, found.as_slice())?)
+    Vec::from_slice(alloc, found.as_slice())
 }

@@ -9,7 +9,7 @@ use crate::sending_link::{stands, update_two_hops};
 use mesh_atoms::{Addr4, Hello, Link, LinkKey, TwoHop, TwoHopKey};
 use mesh_expire::Table;
 use mesh_links::LinkSet;
-use mesh_nbrs::TwoHopSet;
+use mesh_two_hops::TwoHopSet;
 use std::alloc::{AllocError, Global};
 
 /// Takes the HELLO in on all interfaces; `least` is the key of the link that it came over, and `own` has the router's addresses.

@@ -10,7 +10,7 @@ use crate::two_hop_rows::count_symmetric;
 use mesh_atoms::{Addr4, Base, Hello, Seq, TwoHop, TwoHopKey};
 use mesh_expire::{Bases, Table};
 use mesh_hello::{Telling, own_addresses, receive_fault, tell};
-use mesh_nbrs::TwoHopSet;
+use mesh_two_hops::TwoHopSet;
 use std::alloc::AllocError;
 
 /// How many 2-hop tuples an interface holds at most.

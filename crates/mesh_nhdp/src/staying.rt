@@ -9,7 +9,7 @@ use crate::nhdp::Nhdp;
 use mesh_atoms::{Link, LinkKey, RouterSettings, TwoHop, TwoHopKey};
 use mesh_expire::{Bases, Table};
 use mesh_links::LinkSet;
-use mesh_nbrs::TwoHopSet;
+use mesh_two_hops::TwoHopSet;
 
 /// Whether nothing becomes of the links of the interface of that number.
 fn stay_on<L: Table<LinkKey, Link>>(

@@ -10,7 +10,7 @@ use Rattle.mesh_machine.specs.Machine.{Event, Step, due}
 use Rattle.mesh_machine.specs.Sendable.{IsSendable}
 use Rattle.mesh_radio.specs.Run.{states_of}
 use Rattle.mesh_radio.specs.Scene.{Stepped}
-use Rattle.mesh_traffic.proofs.Places.{mapped_at}
+use Rattle.mesh_traffic.proofs.Places.{mapped_at, same_at}
 
 pub stepped : (old : List CoreValue) (x now : ℕ) (event : Event) (before sent : List Frame) (here was is : CoreValue) (change : ℕ → ℕ → Type 0) →
     slice_get old x ≡ Some here → was ≡ get_or old x was → before ≡ [] → Step was.state event (sent_since before sent) is.state → All (IsSendable was.state.settings) (sent_since before sent) →
@@ -26,3 +26,7 @@ stepped old x now event before sent here was is change at item none step sendabl
   last = last;
   due_is = due_is;
 }
+
+-- the core of an index is the one that stands there
+pub same_core : (cores : List CoreValue) (x : ℕ) (here was : CoreValue) → slice_get cores x ≡ Some here → was ≡ get_or cores x was → here ≡ was
+same_core cores x here was at item = same_at cores x here was at (slice_get_read cores (length cores) x was refl (slice_get_within cores x here at) item)

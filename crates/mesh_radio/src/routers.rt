@@ -8,7 +8,7 @@ ghost use Rattle.mesh_radio.specs.Scene.{Stepped, IsFrom};
 
 use crate::scene::Due;
 use mesh_atoms::{Addr4, RadioArc, Scenario};
-use mesh_core::{Core, Outbox};
+use mesh_core::{Core, Heard, Outbox};
 use mesh_expire::Bases;
 use mesh_traffic::Landed;
 use std::alloc::AllocError;
@@ -29,14 +29,20 @@ pub(crate) fn hear<B: Bases>(
 {
     outbox.clear();
     let core = &mut cores[arc.to];
-    let _heard = core.hear(
+    let heard = core.hear(
         landed.moment,
         arc.to_iface,
         sender,
         landed.frame.as_ref().as_slice(),
         outbox,
     )?;
+    let_go(heard);
     Ok(())
+}
+
+/// Lets go of what is told of a frame.
+fn let_go(heard: Heard) {
+    let _ = heard;
 }
 
 /// A router ticks. The outbox has what it then sends.

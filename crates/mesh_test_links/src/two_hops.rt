@@ -4,7 +4,7 @@ use crate::kinds::{Case, Run, Tried};
 use mesh_atoms::{Addr4, TwoHop, TwoHopKey};
 use mesh_expire::Table;
 use mesh_fixtures::{cost, metric_if};
-use mesh_nbrs::TwoHopSet;
+use mesh_two_hops::TwoHopSet;
 use std::alloc::{AllocError, Global};
 
 /// The costs of a tuple's metrics, in and out, and its moment.

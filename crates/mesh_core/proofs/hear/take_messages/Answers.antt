@@ -10,6 +10,7 @@ use Rattle.mesh_machine.specs.Laws.{SoundBases}
 use Rattle.mesh_machine.specs.Messages.{TakesMessages}
 use Rattle.mesh_machine.proofs.Soundness.{bases_of, messages_sound}
 use Rattle.mesh_machine.proofs.Takes.{packet_spelled}
+use Rattle.mesh_sending.proofs.Written.{on_ok_more}
 use Rattle.mesh_core.proofs.Derivations.{ends_quietly, has_own, live_held}
 use Rattle.mesh_core.proofs.hear.take_messages.Goals as goal
 
@@ -53,7 +54,7 @@ returns g c =
     let by_spans = subst (λ (ss : List Span). TakesMessages before.settings own c.args.arrival c.args.bytes.now c.expire.new.self.bases (map fields_of_message c.args.decoded.now.packet.messages) ss c.take_messages.new.self.bases sent given)
     c.as_slice-2.ensures by_messages in
     record {
-      hears = (
+      hears = on_ok_more c.end_event.result (λ renews. (
         given,
         sent,
         fates,
@@ -68,10 +69,10 @@ returns g c =
           is_live = c.in_ok-idle.ensures.live;
           bases = c.take_messages.new.self.bases;
           takes = by_spans;
-          renews = c.in_ok-end_event.ensures.renews before (state_of c.take_messages.new.self c.end_event.new.derived) (sym (c.take_messages.ensures.settings ∙ same)) refl refl refl refl refl refl (has_own c.take_messages.new.self c.end_event.new.derived);
-          sequence = c.in_ok-end_event.ensures.sequence;
-          next_hello = c.in_ok-end_event.ensures.next_hello;
-          next_tc = c.in_ok-end_event.ensures.next_tc;
+          renews = renews before (state_of c.take_messages.new.self c.end_event.new.derived) (sym (c.take_messages.ensures.settings ∙ same)) refl refl refl refl refl refl (has_own c.take_messages.new.self c.end_event.new.derived);
+          sequence = c.end_event.ensures.sequence;
+          next_hello = c.end_event.ensures.next_hello;
+          next_tc = c.end_event.ensures.next_tc;
         },
-      );
+      )) c.end_event.ensures.renews;
     }

@@ -7,6 +7,7 @@ use Rattle.mesh_renewal.specs.declared.derived.Derived.{Derived}
 use Rattle.mesh_machine.specs.declared.frame.Frame.{Frame}
 use Rattle.mesh_core.specs.Holding.{state_of}
 use Rattle.mesh_nhdp.proofs.TcCounts.{tc_rows_few}
+use Rattle.mesh_sending.proofs.Written.{on_ok_more}
 use Rattle.mesh_core.proofs.Derivations.{derived_after, ends_quietly, has_own, live_held}
 use Rattle.mesh_machine.proofs.Soundness.{bases_of}
 use Rattle.mesh_core.proofs.tick.do_tick.Goals as goal
@@ -51,9 +52,8 @@ returns g c =
     let before : State = state_of c.args.holding.now c.args.derived.now in
     let has = derived_after c.expire.new.self c.end_event.new.derived c.send_hellos.new.derived c.send_tcs.new.derived c.send_hellos.ensures.others c.send_tcs.ensures.others in
     let (hellos, out_hellos, are_hellos) = c.in_ok-send_hellos.ensures.sent in
-    let (tcs, out_tcs, are_tcs) = c.in_ok-send_tcs.ensures.sent in
     record {
-      ticks = (
+      ticks = on_ok_more c.send_tcs.result (λ (tcs, out_tcs, are_tcs). (
         hellos ++ tcs,
         out_tcs ∙ (ap (λ (f : List Frame). f ++ tcs) out_hellos ∙ append_assoc c.args.out.now hellos tcs),
         record {
@@ -70,5 +70,5 @@ returns g c =
               (sym c.settings.ensures) (has_own c.expire.new.self c.send_tcs.new.derived) refl refl;
           sends = refl;
         },
-      );
+      )) c.send_tcs.ensures.sent;
     }

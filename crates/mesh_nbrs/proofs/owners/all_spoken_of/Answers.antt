@@ -1,5 +1,6 @@
-use Rattle.std.proofs.Common.{Bool, true, cond, List, Contains, ap, sym, ◌∙◌, subst, is_some}
+use Rattle.std.proofs.Common.{◌≡◌, Bool, true, cond, List, Contains, ap, sym, ◌∙◌, subst, is_some}
 use Rattle.std.specs.Prelude.{◌↔◌, ◌&&◌}
+use Rattle.std.proofs.lemmas.Result.{IfOk-weaker}
 use Rattle.mesh_atoms.specs.declared.addr.Addr4.{Addr4}
 use Rattle.mesh_atoms.specs.Base.{find, addr_eq}
 use Rattle.mesh_nbrs.specs.Neighbours.{IsSpokenOf}
@@ -7,8 +8,11 @@ use Rattle.mesh_nbrs.proofs.Spoken.{spoken}
 use Rattle.mesh_nbrs.proofs.owners.all_spoken_of.Goals as goal
 
 pub returns : goal.returns
-returns g c o =
+returns g c =
     let base = g.T.Table.content c.args.table.now in
-    subst (λ (l : List Addr4). Contains l o ↔ IsSpokenOf base c.args.originator c.args.listed.now o) (sym (c.in_ok-from_slice.ensures.items ∙ c.as_slice.ensures.keys))
+    IfOk-weaker c.from_slice.result (λ v. v.items ≡ c.as_slice.result.now) (λ v. (o : Addr4) → Contains v.items o ↔ IsSpokenOf base c.args.originator c.args.listed.now o)
+    (λ v items o.
+    subst (λ (l : List Addr4). Contains l o ↔ IsSpokenOf base c.args.originator c.args.listed.now o) (sym (items ∙ c.as_slice.ensures.keys))
     (spoken c.args.owners.now.entries base c.args.originator c.args.listed.now c.add_standing.new.found.keys c.requires
-    (λ q. c.in_ok-add_standing.ensures q ∙ ap (λ (b : Bool). cond (is_some (find addr_eq base c.args.originator) && addr_eq c.args.originator q) true b) (c.in_ok-found.ensures q)) o)
+    (λ q. c.in_ok-add_standing.ensures q ∙ ap (λ (b : Bool). cond (is_some (find addr_eq base c.args.originator) && addr_eq c.args.originator q) true b) (c.in_ok-found.ensures q)) o))
+    c.from_slice.ensures.items

@@ -1,16 +1,7 @@
-use Rattle.std.proofs.Common.{refl}
+use Rattle.mesh_routes.proofs.ChoiceLaw.{if_ok_more}
 use Rattle.mesh_machine.proofs.Opening.{opening_sound}
-use Rattle.mesh_core.specs.Holding.{state_of}
-use Rattle.mesh_core.proofs.Derivations.{has_own}
+use Rattle.mesh_core.specs.Holding.{CoreValue}
 use Rattle.mesh_core.proofs.router.Core.new.Goals as goal
 
-pub invariant_of-result : goal.invariant_of-result
-invariant_of-result g c = λ whole. opening_sound c.args.settings (state_of c.in_ok-holding.holding c.in_ok-derived.derived)
-    (c.in_ok-derived.ensures (state_of c.in_ok-holding.holding c.in_ok-derived.derived) c.in_ok-holding.ensures.settings c.in_ok-holding.ensures.empty (has_own c.in_ok-holding.holding c.in_ok-derived.derived) (record { sequence = refl; next_hello = refl; next_tc = refl }))
-
-pub returns-clause-opening : goal.returns-clause-opening
-returns-clause-opening g c = c.in_ok-derived.ensures (state_of c.in_ok-holding.holding c.in_ok-derived.derived) c.in_ok-holding.ensures.settings c.in_ok-holding.ensures.empty (has_own c.in_ok-holding.holding c.in_ok-derived.derived) (record { sequence = refl; next_hello = refl; next_tc = refl })
-
 pub returns-clause-sound : goal.returns-clause-sound
-returns-clause-sound g c = opening_sound c.args.settings (state_of c.in_ok-holding.holding c.in_ok-derived.derived)
-    (c.in_ok-derived.ensures (state_of c.in_ok-holding.holding c.in_ok-derived.derived) c.in_ok-holding.ensures.settings c.in_ok-holding.ensures.empty (has_own c.in_ok-holding.holding c.in_ok-derived.derived) (record { sequence = refl; next_hello = refl; next_tc = refl }))
+returns-clause-sound g c = if_ok_more c.opened.result (λ (core : CoreValue) opening. opening_sound c.args.settings core.state opening) c.opened.ensures.opening

@@ -1,7 +1,7 @@
-use Rattle.std.proofs.Common.{refl, sym, ap}
+use Rattle.std.proofs.Common.{arith, refl, sym, ap}
 use Rattle.std.specs.Prelude.{option_map}
 use Rattle.mesh_expire.proofs.Laws.{changed_at-absent, distinct-changed_at}
-use Rattle.mesh_expire.proofs.Places.{changes}
+use Rattle.mesh_expire.proofs.Places.{changes, within}
 use Rattle.mesh_expire.proofs.list_table.ListTableTable.value_mut.Goals as goal
 
 pub invariant_of-self-lent : goal.invariant_of-self-lent
@@ -23,3 +23,9 @@ returns-in-None g c =
       (refl, λ w. sym (changed_at-absent g.K.PartialEq.eq c.args.key.now (λ e. (w, e.1)) c.self.inside.entries.items c.in-None.ensures.none), refl),
       record { lends = tt; value = sym (ap (option_map (λ e. e.0)) c.in-None.ensures.none); distinct = c.self.invariant },
     )
+
+pub index_mut-requires : goal.index_mut-requires
+index_mut-requires g c = omega (arith, within c.self.inside.entries.items c.in-Some.i c.args.key.now c.in-Some.ensures.some)
+
+pub invariant_of-self : goal.invariant_of-self
+invariant_of-self g c = c.self.invariant

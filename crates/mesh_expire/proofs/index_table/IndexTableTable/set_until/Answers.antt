@@ -1,0 +1,19 @@
+use Rattle.mesh_expire.proofs.index_table.IndexTableTable.set_until.Goals as goal
+
+pub set_until_in-requires : goal.set_until_in-requires
+set_until_in-requires g c = c.self.invariant
+
+pub invariant_of-self : goal.invariant_of-self
+invariant_of-self g c = c.set_until_in.ensures.tells
+
+pub returns-clause-found : goal.returns-clause-found
+returns-clause-found g c = rw (← c.self.view_is) c.set_until_in.ensures.found
+
+pub returns-clause-ok : goal.returns-clause-ok
+returns-clause-ok g c = rw (← c.self.view_is) c.set_until_in.ensures.ok
+
+pub returns-clause-err : goal.returns-clause-err
+returns-clause-err g c = rw (← c.self.view_is) c.set_until_in.ensures.err
+
+pub returns-clause-distinct : goal.returns-clause-distinct
+returns-clause-distinct g c = c.set_until_in.ensures.distinct
