@@ -7,14 +7,12 @@ mod addresses;
 mod admit;
 mod agreement;
 mod bytes;
-mod codes;
 mod graphs;
 mod hello;
 pub mod hello_rule;
 mod hosts;
 mod least;
 mod literals;
-mod metric;
 mod octets;
 mod originator;
 mod quality;
@@ -27,6 +25,7 @@ mod status;
 mod tc;
 pub mod tc_rule;
 mod text;
+mod times;
 pub mod tlv_type;
 mod tuples;
 mod validity;
@@ -36,7 +35,6 @@ pub use addresses::{contains, meets};
 pub use admit::{Admit, QualityStep, SenderQuality};
 pub use agreement::definitions_agree;
 pub use bytes::Bytes;
-pub use codes::{seq_newer, time_at, time_at_least, time_code_at_least, time_of};
 pub use graphs::{
     Arc4, Certificate, Direct, Far, Graph, Near, NeighbourGraph, Pair, PathRow, RadioGraph, Route,
 };
@@ -44,7 +42,7 @@ pub use hello::{Hello, HelloRow, LinkStatus, LocalIf, Metrics, Mpr, OtherStatus,
 pub use hosts::host;
 pub use least::least_metric;
 pub use literals::{address_of, endpoint_of, name_of, net_of, number_of, place_of};
-pub use metric::Metric;
+pub use mesh_codes::{Metric, seq_newer, time_at, time_code_at_least, time_of};
 pub use octets::{read_octet, read_short, refuse};
 pub use quality::quality_at;
 pub use refusal::{DecodeFault, Refusal};
@@ -56,6 +54,7 @@ pub use settings::{
 };
 pub use tc::{Tc, TcRow};
 pub use text::put_decimal;
+pub use times::time_at_least;
 pub use tuples::{
     AddressKey, AddressTuple, Advertiser, Base, FloodKey, Link, LinkKey, LinkState, Lost,
     Neighbour, NetworkKey, NetworkTuple, Noted, Relays, RouterKey, RouterTuple, TwoHop, TwoHopKey,

@@ -1,6 +1,6 @@
 //! The arcs of a made scenario.
 ghost use Rattle.std.specs.Prelude.{◌≡◌, ◌≤◌, ◌<◌, ◌+◌, ◌*◌, length, IfOk, [], take};
-ghost use Rattle.mesh_atoms.specs.Codes.{metric_value};
+ghost use Rattle.mesh_codes.specs.Codes.{metric_value};
 ghost use Rattle.mesh_atoms.specs.Settings.{IsCount};
 ghost use Rattle.mesh_made.specs.Scenario.{cost, loss_of, IsMadeArc, AreMadeArcs};
 

@@ -3,7 +3,7 @@ use Rattle.std.proofs.Common.{◌≡◌, ℕ, Bool, true, false, inl, inr, refl,
 use Rattle.std.specs.Prelude.{Contains, List, Option, Some, None, slice_get, IsTrue, ◌↔◌, is_some}
 use Rattle.std.specs.Borrow.{Bor}
 use Rattle.mesh_atoms.specs.declared.addr.Addr4.{Addr4}
-use Rattle.mesh_atoms.specs.declared.metric.Metric.{Metric}
+use Rattle.mesh_codes.specs.declared.metric.Metric.{Metric}
 use Rattle.mesh_atoms.specs.declared.hello.LocalIf.{LocalIf}
 use Rattle.mesh_atoms.specs.declared.hello.LocalIf.TheVariants.{This, Other}
 use Rattle.mesh_atoms.specs.declared.hello.LinkStatus.{LinkStatus}

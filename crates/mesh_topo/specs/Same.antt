@@ -1,6 +1,6 @@
 -- What of a topology stays the same.
 use Rattle.std.specs.Prelude.{◌≡◌, ℕ, Option, Bool, option_map}
-use Rattle.mesh_atoms.specs.declared.metric.Metric.{Metric}
+use Rattle.mesh_codes.specs.declared.metric.Metric.{Metric}
 use Rattle.mesh_atoms.specs.Base.{Base, find, router_eq, address_eq, network_eq}
 use Rattle.mesh_atoms.specs.State.{Topology}
 use Rattle.mesh_topo.specs.Tuples.{router_says, address_says, network_says}

@@ -11,7 +11,7 @@ use Rattle.mesh_atoms.specs.declared.tuples.AddressTuple.{AddressTuple}
 use Rattle.mesh_atoms.specs.declared.tuples.NetworkKey.{NetworkKey}
 use Rattle.mesh_atoms.specs.declared.tuples.NetworkTuple.{NetworkTuple}
 use Rattle.mesh_atoms.specs.Base.{Base, Same, SetsOnly, IsFresh, find, addr_eq, router_eq, address_eq, network_eq}
-use Rattle.mesh_atoms.specs.Codes.{Newer}
+use Rattle.mesh_codes.specs.Codes.{Newer}
 use Rattle.mesh_atoms.specs.State.{Topology}
 
 -- a row of the TC gives that tuple

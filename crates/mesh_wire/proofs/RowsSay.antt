@@ -2,7 +2,7 @@
 use Rattle.std.proofs.Common.{◌≡◌, ℕ, List, map, refl, sym, ap, subst, ◌∙◌}
 use Rattle.std.specs.Prelude.{Contains, AllPairs, Option, Some, false}
 use Rattle.mesh_atoms.specs.declared.addr.NetAddr.{NetAddr}
-use Rattle.mesh_atoms.specs.declared.metric.Metric.{Metric}
+use Rattle.mesh_codes.specs.declared.metric.Metric.{Metric}
 use Rattle.mesh_atoms.specs.Nodes.{IsBefore}
 use Rattle.mesh_packet.specs.Fields.{MessageFields}
 use Rattle.mesh_tlv.specs.Fields.{TlvFields}

@@ -13,7 +13,7 @@ pub struct Metric {
 
 impl Metric {
     ghost use Rattle.std.specs.Prelude.{◌≡◌, ◌<◌, ◌≤◌, ◌↔◌, IsNone, IfSome};
-    ghost use Rattle.mesh_atoms.specs.Codes.{metric_value};
+    ghost use Rattle.mesh_codes.specs.Codes.{metric_value};
 
     /// The metric of a code; `None` exactly where the code has more than 12 bits.
     pub fn of_code(code: u16) -> Option<Metric>

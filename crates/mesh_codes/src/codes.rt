@@ -1,8 +1,6 @@
 //! Time codes, and the order of sequence numbers.
 ghost use Rattle.std.specs.Prelude.{◌≡◌, ℕ, ◌+◌, ◌*◌, ◌%◌, ◌^◌, ◌<◌, ◌≤◌, ◌⊎◌, ◌↔◌, length, IsTrue, IsSome, IfSome, IsNone};
-ghost use Rattle.mesh_atoms.specs.Codes.{time_value, time_at_distance, IsSentCode, Newer};
-ghost use Rattle.mesh_atoms.specs.Hello.{IsRoundedUp};
-ghost use Rattle.mesh_atoms.specs.Settings.{one_hour};
+ghost use Rattle.mesh_codes.specs.Codes.{time_value, time_at_distance, IsSentCode, Newer};
 
 /// The ticks of 1/8192 s that a time code stands for (RFC 5497, section 5); 0 for code 0.
 pub fn time_of(code: u8) -> u64
@@ -30,17 +28,6 @@ pub fn time_code_at_least(ticks: u64) -> Option<u8>
     }
     let (exponent, mantissa) = rounded_up(ticks, 8, 15);
     Some(u8::max(1, (8 * exponent) as u8 + (mantissa - 8) as u8))
-}
-
-/// Ticks of 1/8192 s rounded up to a time code that is sent, up to an hour (RFC 5497, section 5).
-pub fn time_at_least(ticks: u64) -> u64
-    requires { ticks ≤ one_hour }
-    ensures { IsRoundedUp ticks result }
-{
-    match time_code_at_least(ticks) {
-        Some(code) => time_of(code),
-        None => 0,
-    }
 }
 
 /// The ticks of 1/8192 s that a value of pairs of a time code and a number of hops, and a last time code, gives at a

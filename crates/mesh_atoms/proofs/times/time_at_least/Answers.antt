@@ -1,7 +1,7 @@
 use Rattle.std.proofs.Common.{◌<◌, refl, sym, arith}
-use Rattle.mesh_atoms.specs.Codes.{IsSentCode, time_value}
-use Rattle.mesh_atoms.proofs.CodeLaws.{time-le}
-use Rattle.mesh_atoms.proofs.codes.time_at_least.Goals as goal
+use Rattle.mesh_codes.specs.Codes.{IsSentCode, time_value}
+use Rattle.mesh_codes.proofs.CodeLaws.{time-le}
+use Rattle.mesh_atoms.proofs.times.time_at_least.Goals as goal
 
 pub returns-in-Some : goal.returns-in-Some
 returns-in-Some c = record {
