@@ -1,4 +1,1 @@
 mod Answering
-mod Refusal
-mod Running
-mod Spent

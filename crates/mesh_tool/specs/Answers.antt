@@ -6,10 +6,10 @@ use Rattle.mesh_emulate.specs.Emulation.{Emulation}
 use Rattle.mesh_io.specs.Faults.{Rose}
 use Rattle.mesh_made.specs.Made.{MadeEmulation}
 use Rattle.mesh_run.specs.Run.{WholeRun, SpendsTurns, FailsToAttach}
-use Rattle.mesh_tool.specs.declared.status.Status.{Status}
-use Rattle.mesh_tool.specs.declared.status.Status.TheVariants as status
-use Rattle.mesh_tool.specs.Calls.{Call, told_in, UsesNoAir, RunsSoFar, Asks, wants_in, most_octets, ReadsNothing, IsInput, RefusesOctets, Refuses, TakesInput, Finishes, StopsShort, LeavesFront}
-use Rattle.mesh_tool.specs.Lines.{words_line, read_line, refused_line, attach_line, turns_line, memory_line}
+use Rattle.mesh_jobs.specs.declared.status.Status.{Status}
+use Rattle.mesh_jobs.specs.declared.status.Status.TheVariants as status
+use Rattle.mesh_jobs.specs.Calls.{Call, told_in, UsesNoAir, RunsSoFar, Asks, wants_in, most_octets, ReadsNothing, IsInput, RefusesOctets, Refuses, TakesInput, Finishes, StopsShort, LeavesFront}
+use Rattle.mesh_jobs.specs.Lines.{words_line, read_line, refused_line, attach_line, turns_line, memory_line}
 use Rattle.mesh_words.specs.declared.job.Job.{Job}
 use Rattle.mesh_words.specs.declared.job.Job.TheVariants.{Dump, Run, Emulate, Make}
 use Rattle.mesh_words.specs.declared.job.Kind.{Kind}

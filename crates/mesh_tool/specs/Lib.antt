@@ -1,5 +1,1 @@
 pub mod Answers
-pub mod Calls
-pub mod Endings
-pub mod Lines
-pub mod Status

@@ -8,12 +8,10 @@ ghost use Rattle.mesh_turns.specs.Laws.{TurnsAreRuns, TurnsKeepSound};
 ghost use Rattle.mesh_tool.specs.Answers.{Answers};
 ghost use Rattle.mesh_words.specs.Words.{texts};
 
-use crate::Status;
-use crate::jobs::do_asked;
-use crate::say::tell;
 use mesh_emulate::emulations_tell;
 use mesh_expire::{Bases, IndexedBases};
 use mesh_io::{Air, Clock, Sink, Source};
+use mesh_jobs::{Status, do_asked, tell};
 use mesh_made::made_networks_tell;
 use mesh_turns::turns_are_runs;
 use std::alloc::Global;

@@ -1,0 +1,3 @@
+mod Refusal
+mod Running
+mod Spent

@@ -1,0 +1,12 @@
+use Rattle.std.proofs.Common.{refl}
+use Rattle.mesh_io.proofs.Fronts.{keeps_same}
+use Rattle.mesh_jobs.specs.Endings.{with_air, with_out, Unread, Worked}
+use Rattle.mesh_jobs.proofs.jobs.run_input.Goals as goal
+
+pub returns-in-Ok-clause-does : goal.returns-in-Ok-clause-does
+returns-in-Ok-clause-does g c =
+    λ call. Worked c.in-Ok.octets (c.in-Ok.ensures.whole (with_out (with_air call _ _ _ _ _ _ _) _ _ _ _)) (rw c.as_slice.ensures at c.run.ensures.leaves call) (rw c.as_slice.ensures at c.run.ensures.uses call)
+
+pub returns-in-Err-clause-does : goal.returns-in-Err-clause-does
+returns-in-Err-clause-does g c =
+    λ call. Unread tt (c.in-Err.ensures.stopped (with_out (with_air call _ _ _ _ _ _ _) _ _ _ _)) (keeps_same _) (record { moments = refl; reports = refl; attached = c.requires })

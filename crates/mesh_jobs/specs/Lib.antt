@@ -1,0 +1,4 @@
+pub mod Calls
+pub mod Endings
+pub mod Lines
+pub mod Status

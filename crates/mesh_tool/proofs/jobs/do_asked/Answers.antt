@@ -1,6 +1,0 @@
-use Rattle.std.proofs.Common.{sym}
-use Rattle.mesh_tool.specs.Endings.{Did}
-use Rattle.mesh_tool.proofs.jobs.do_asked.Goals as goal
-
-pub returns-in-Ok-clause-does : goal.returns-in-Ok-clause-does
-returns-in-Ok-clause-does g c = λ call. Did c.in-Ok.job (sym c.in-Ok.ensures.exact) (c.do_job.ensures.does call)
