@@ -13,8 +13,8 @@ use Rattle.mesh_traffic.specs.declared.emission.Counts.{Counts}
 use Rattle.mesh_radio.specs.declared.event.NetEvent.{NetEvent}
 use Rattle.mesh_radio.specs.Net.{Net}
 use Rattle.mesh_radio.specs.Run.{IsOpeningNet, IsOver, NetRun}
-use Rattle.mesh_settled.specs.declared.gap.Gap.{Gap}
-use Rattle.mesh_settled.specs.Network.{IsNetwork}
+use Rattle.mesh_gaps.specs.declared.gap.Gap.{Gap}
+use Rattle.mesh_gaps.specs.Network.{IsNetwork}
 use Rattle.mesh_texts.proofs.RunStates.{end_is_network, final_count}
 use Rattle.mesh_texts.specs.Network.{IsGapOf, counts_line, settled_text}
 use Rattle.mesh_texts.specs.Runs.{WholeRun}

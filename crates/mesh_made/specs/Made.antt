@@ -8,7 +8,7 @@ use Rattle.mesh_atoms.specs.Radio.{Router, RadioLeast}
 use Rattle.mesh_made.specs.Lines.{made_line, routes_line, TellsRoutes}
 use Rattle.mesh_made.specs.Routes.{metrics_of, IsGreatest}
 use Rattle.mesh_made.specs.Scenario.{IsMade}
-use Rattle.mesh_settled.specs.declared.gap.Gap.{Gap}
+use Rattle.mesh_gaps.specs.declared.gap.Gap.{Gap}
 use Rattle.mesh_texts.specs.Network.{IsGapOf, counts_line, settled_text}
 use Rattle.mesh_texts.specs.Printed.{IsLine, SaysSettled}
 use Rattle.mesh_texts.specs.Runs.{WholeRun, RoutersAreRuns, TellsWhetherSettled}

@@ -1,23 +1,11 @@
--- Laws of gaps, and of the routes of a settled network.
-use Rattle.std.specs.Prelude.{ℕ, ◌↔◌, ◌≢◌, List, Option}
+-- Laws of the routes of a settled network.
+use Rattle.std.specs.Prelude.{ℕ, List}
 use Rattle.mesh_atoms.specs.declared.graphs.RadioGraph.{RadioGraph}
 use Rattle.mesh_atoms.specs.declared.settings.Scenario.{Scenario}
-use Rattle.mesh_atoms.specs.Settled.{At, IsSettledAt, Settled}
+use Rattle.mesh_atoms.specs.Settled.{Settled}
 use Rattle.mesh_atoms.specs.State.{State}
-use Rattle.mesh_settled.specs.declared.gap.GapKey.{GapKey}
-use Rattle.mesh_settled.specs.declared.gap.GapValue.{GapValue}
-use Rattle.mesh_settled.specs.Gaps.{Look, look, IsGapAt, HasNoGap}
-use Rattle.mesh_settled.specs.Network.{IsNetwork, AreLeastRoutes, NextHopsLeadOn}
-
--- a router is settled exactly where it has no gap
-abbrev pub NoGapIsSettled : Type 0
-NoGapIsSettled =
-    (s : Scenario) (g : RadioGraph) (states : List State) (now x : ℕ) (p : State) → IsNetwork s g states now → At states x p →
-    IsSettledAt s states now x p ↔ HasNoGap (look s states now x p)
-
--- the values of the two sides of a gap differ
-abbrev pub GapsDiffer : Type 0
-GapsDiffer = (l : Look) (key : GapKey) (held present : Option GapValue) → IsGapAt l key held present → held ≢ present
+use Rattle.mesh_gaps.specs.Network.{IsNetwork}
+use Rattle.mesh_settled.specs.LeastRoutes.{AreLeastRoutes, NextHopsLeadOn}
 
 -- the rows of a settled network
 abbrev pub IsLeastWhereSettled : Type 0

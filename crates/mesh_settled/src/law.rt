@@ -1,15 +1,5 @@
-//! Laws of gaps and of settled networks, over the definitions alone.
-ghost use Rattle.mesh_settled.specs.Law.{NoGapIsSettled, GapsDiffer, LeadsWhereSettled, IsLeastWhereSettled};
-
-/// In a network of sound routers, a router is settled exactly where it has no gap at any key. It does nothing.
-pub fn no_gap_is_settled()
-    ensures { NoGapIsSettled }
-{}
-
-/// The two values of a gap differ. It does nothing.
-pub fn gaps_differ()
-    ensures { GapsDiffer }
-{}
+//! Laws of settled networks, over the definitions alone.
+ghost use Rattle.mesh_settled.specs.Law.{LeadsWhereSettled, IsLeastWhereSettled};
 
 /// In a network of sound routers that is settled, each router's rows are exactly the radio graph's least metrics, and each row's
 /// next hop is an adjacent router that leads on at what is left of the row's metric. It does nothing.

@@ -1,11 +1,11 @@
 use Rattle.std.specs.Prelude.{◌⊎◌}
 use Rattle.mesh_settled.specs.Kinds.{IsTopologyKey}
-use Rattle.mesh_settled.specs.Links.{IsLinkKey}
-use Rattle.mesh_settled.specs.Neighbours.{IsNeighbourKey}
-use Rattle.mesh_settled.specs.Site.{seen}
-use Rattle.mesh_settled.specs.TwoHops.{IsTwoHopKey}
+use Rattle.mesh_gaps.specs.Links.{IsLinkKey}
+use Rattle.mesh_gaps.specs.Neighbours.{IsNeighbourKey}
+use Rattle.mesh_gaps.specs.Site.{seen}
+use Rattle.mesh_gaps.specs.TwoHops.{IsTwoHopKey}
 use Rattle.mesh_settled.proofs.KindLemmas.{first_link, first_rest, none_found}
-use Rattle.mesh_settled.proofs.Leasts.{least_lesser}
+use Rattle.mesh_gaps.proofs.Leasts.{least_lesser}
 use Rattle.mesh_settled.proofs.report.first_gap.Goals as goal
 
 pub returns-then-is_some : goal.returns-then-is_some

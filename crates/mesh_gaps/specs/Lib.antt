@@ -1,0 +1,13 @@
+pub mod Fields
+pub mod Found
+pub mod Gaps
+pub mod Joints
+pub mod Law
+pub mod Links
+pub mod Metrics
+pub mod Neighbours
+pub mod Network
+pub mod Peers
+pub mod Site
+pub mod Topics
+pub mod TwoHops
