@@ -1,6 +1,8 @@
 -- The tuples of the interface that a HELLO came over.
-use Rattle.std.proofs.Common.{◌≡◌, ℕ, ◌<◌, ◌≢◌, ◌↔◌, sym, subst, List, [], length, IsTrue, Some, get_or, get_or-set_same, get_or-set_other}
-use Rattle.std.specs.Prelude.{Bool, slice_set}
+use Rattle.std.proofs.Common.{◌≡◌, ℕ, ◌+◌, ◌<◌, ◌≤◌, ◌≢◌, ◌↔◌, inl, inr, sym, ◌∙◌, subst, arith, List, [], length, IsTrue, Some, get_or, get_or-set_same, get_or-set_other}
+use Rattle.std.specs.Prelude.{Bool, false, nat_lt, slice_set}
+use Rattle.std.proofs.lemmas.Bool.{cases_lt, lt-ltb, false≢true}
+use Rattle.std.proofs.lemmas.List.{get_or_past}
 use Rattle.mesh_atoms.specs.declared.addr.Addr4.{Addr4}
 use Rattle.mesh_atoms.specs.declared.hello.Hello.{Hello}
 use Rattle.mesh_atoms.specs.declared.tuples.LinkKey.{LinkKey}
@@ -16,6 +18,16 @@ use Rattle.mesh_hello.proofs.Collect.{item_at}
 -- an item is the base of its interface
 pub is_base : {K V : Type 0} (bases : List (Base K V)) (i : ℕ) (x : Base K V) → i < length bases → x ≡ get_or bases i x → base_of bases i ≡ x
 is_base bases i x lt is = base_at bases i x (item_at bases i x lt is)
+
+-- the base that a look-up of its interface gives, and that of an interface past the last
+pub found_base : {K V : Type 0} (bases slice : List (Base K V)) (i : ℕ) (x : Base K V) → slice ≡ bases → i < length slice → x ≡ get_or slice i x → base_of bases i ≡ x
+found_base {K} {V} bases slice i x is lt at = subst (λ (bs : List (Base K V)). base_of bs i ≡ x) is (is_base slice i x lt at)
+
+pub past_base : {K V : Type 0} (bases slice : List (Base K V)) (i : ℕ) → slice ≡ bases → false ≡ nat_lt i (length slice) → base_of bases i ≡ []
+past_base {K} {V} bases slice i is past = elim (cases_lt i (length slice)) [
+  | inl lt ↦ absurd (false≢true (past ∙ lt-ltb i (length slice) lt))
+  | inr le ↦ get_or_past bases i [] (subst (λ (bs : List (Base K V)). length bs ≤ i) is le)
+]
 
 pub written_same : {K V : Type 0} (bases : List (Base K V)) (i : ℕ) (x : Base K V) → i < length bases → base_of (slice_set bases i x) i ≡ x
 written_same bases i x lt = get_or-set_same bases i x [] lt
@@ -38,3 +50,19 @@ pub stood_at : (stood : Bool) (links : List (Base LinkKey Link)) (i : ℕ) (seen
 stood_at stood links i seen link sending addrs is_seen is_sending h =
     subst (λ (b : Base LinkKey Link). IsTrue stood ↔ ((e : Link × ℕ) × (find link_eq b link ≡ Some e) × (e.0.addrs ≡ sending))) (sym is_seen)
     (subst (λ (xs : List Addr4). IsTrue stood ↔ ((e : Link × ℕ) × (find link_eq seen link ≡ Some e) × (e.0.addrs ≡ xs))) is_sending h)
+
+-- one interface more is changed
+pub changed_more : {K V L W : Type 0} (P : ℕ → Base K V → Base K V → Base L W → Base L W → Type 0) (first bases : List (Base K V)) (first_others others : List (Base L W)) (i : ℕ) (was after : Base K V) (was_other after_other : Base L W) →
+    i < length bases → i < length others → base_of bases i ≡ was → base_of others i ≡ was_other → ((k : ℕ) → i ≤ k → base_of bases k ≡ base_of first k) → ((k : ℕ) → i ≤ k → base_of others k ≡ base_of first_others k) →
+    ((k : ℕ) → k < i → P k (base_of first k) (base_of bases k) (base_of first_others k) (base_of others k)) → P i was after was_other after_other →
+    (k : ℕ) → k < i + 1 → P k (base_of first k) (base_of (slice_set bases i after) k) (base_of first_others k) (base_of (slice_set others i after_other) k)
+changed_more {K} {V} {L} {W} P first bases first_others others i was after was_other after_other within within_too here here_too left left_too done one k lt = elim (cases_lt k i) [
+  | inl less ↦ subst (λ (b : Base K V). P k (base_of first k) b (base_of first_others k) (base_of (slice_set others i after_other) k)) (sym (written_other bases i k after (λ e. omega (arith, e, less))))
+      (subst (λ (b : Base L W). P k (base_of first k) (base_of bases k) (base_of first_others k) b) (sym (written_other others i k after_other (λ e. omega (arith, e, less)))) (done k less))
+  | inr past ↦
+      let at : i ≡ k = omega (arith, past, lt) in
+      subst (λ (n : ℕ). P n (base_of first n) (base_of (slice_set bases i after) n) (base_of first_others n) (base_of (slice_set others i after_other) n)) at
+      (subst (λ (b : Base K V). P i (base_of first i) b (base_of first_others i) (base_of (slice_set others i after_other) i)) (sym (written_same bases i after within))
+      (subst (λ (b : Base L W). P i (base_of first i) after (base_of first_others i) b) (sym (written_same others i after_other within_too))
+      (subst (λ (b : Base K V). P i b after (base_of first_others i) after_other) (sym here ∙ left i (omega arith)) (subst (λ (b : Base L W). P i was after b after_other) (sym here_too ∙ left_too i (omega arith)) one))))
+]

@@ -1,5 +1,5 @@
 -- The empty neighbourhood is sound.
-use Rattle.std.proofs.Common.{◌≡◌, ℕ, ◌<◌, inl, inr, refl, sym, ◌∙◌, ap, subst, arith, List, [], ◌∷◌, length, replicate, Contains, Some, None}
+use Rattle.std.proofs.Common.{◌≡◌, ℕ, zero, suc, ◌+◌, ◌<◌, inl, inr, refl, sym, ◌∙◌, ap, subst, arith, List, [], ◌∷◌, ◌++◌, length, replicate, Contains, Some, None}
 use Rattle.std.specs.Prelude.{slice_index_or}
 use Rattle.std.specs.List.{IsDistinct}
 use Rattle.std.proofs.lemmas.List.{get_or-replicate, get_or_past, length-replicate}
@@ -11,13 +11,15 @@ use Rattle.mesh_atoms.specs.declared.tuples.TwoHopKey.{TwoHopKey}
 use Rattle.mesh_atoms.specs.declared.tuples.TwoHop.{TwoHop}
 use Rattle.mesh_atoms.specs.Base.{Base, base_of, find, HasDistinctKeys, link_eq, two_hop_eq}
 use Rattle.mesh_atoms.specs.declared.tuples.LinkKey.{LinkKey}
+use Rattle.mesh_atoms.specs.declared.tuples.Neighbour.{Neighbour}
+use Rattle.mesh_atoms.specs.declared.tuples.Lost.{Lost}
 use Rattle.mesh_atoms.specs.declared.tuples.Link.{Link}
 use Rattle.mesh_atoms.specs.Quality.{admit_on}
 use Rattle.mesh_atoms.specs.State.{Neighbourhood}
 use Rattle.mesh_atoms.specs.TakesHello.{IsHeld}
 use Rattle.mesh_atoms.specs.Words.{AreMoreThan}
 use Rattle.mesh_atoms.specs.Sound.{SoundNeighbourhood}
-use Rattle.mesh_nhdp.specs.NhdpState.{empty_near}
+use Rattle.mesh_nhdp.specs.NhdpState.{empty_near, near_with}
 
 empty_base : {K V : Type 0} (count i : ℕ) → slice_index_or (replicate count (let none : Base K V = [] in none)) i [] ≡ []
 empty_base {K} {V} count i = elim (cases_lt i count) [
@@ -74,6 +76,11 @@ empty_sound settings moment count near counts is = subst (λ (n : Neighbourhood)
   lost_not_mine = λ a e at mine. not_there at;
 })
 
+-- the empty neighbourhood is that of nothing
+pub empty_is : (count n : ℕ) (links : List (Base LinkKey Link)) (two_hops : List (Base TwoHopKey TwoHop)) (neighbours : Base Addr4 Neighbour) (losts : Base Addr4 Lost) → count ≡ n →
+    links ≡ replicate count [] → two_hops ≡ replicate count [] → neighbours ≡ [] → losts ≡ [] → near_with links two_hops neighbours losts ≡ empty_near n
+empty_is count n links two_hops neighbours losts same no_links no_two_hops no_neighbours no_losts = rw (no_links, no_two_hops, no_neighbours, no_losts, same) refl
+
 -- the same of its parts
 pub empty_parts : (settings : RouterSettings) (moment count : ℕ) (near : Neighbourhood) → count ≡ length settings.interfaces → near.links ≡ replicate count [] →
     near.two_hops ≡ replicate count [] → near.neighbours ≡ [] → near.losts ≡ [] → SoundNeighbourhood settings moment near
@@ -82,3 +89,11 @@ empty_parts settings moment count near counts links two_hops neighbours losts = 
     ∙ ap (λ t. let n : Neighbourhood = record near { links = replicate count []; two_hops = t } in n) two_hops
     ∙ ap (λ m. let n : Neighbourhood = record { links = replicate count []; two_hops = replicate count []; neighbours = m; losts = near.losts } in n) neighbours
     ∙ ap (λ m. let n : Neighbourhood = record { links = replicate count []; two_hops = replicate count []; neighbours = []; losts = m } in n) losts)
+
+-- one more of nothing is put at the end
+pub one_more_empty : {K V : Type 0} (sets new : List (Base K V)) (n : ℕ) (set : Base K V) → sets ≡ replicate n [] → new ≡ sets ++ set ∷ [] → set ≡ [] → new ≡ replicate (n + 1) []
+one_more_empty {K} {V} sets new n set is put none = put ∙ rw (is, none) (snoc n)
+  where
+    snoc : (n : ℕ) → replicate n (let none : Base K V = [] in none) ++ [] ∷ [] ≡ replicate (n + 1) []
+    snoc zero = refl
+    snoc (suc n) = let e : suc n + 1 ≡ suc (n + 1) = omega arith in rw e (ap (λ rest. [] ∷ rest) (snoc n))

@@ -22,6 +22,7 @@ use Rattle.mesh_atoms.specs.Sound.{SoundNeighbourhood}
 use Rattle.mesh_nhdp.specs.declared.near_addresses.Wanted.TheVariants.{Symmetric}
 use Rattle.mesh_nhdp.specs.Follows.{FollowsLinks}
 use Rattle.mesh_nhdp.specs.Interfaces.{ExpiresOn}
+use Rattle.mesh_nhdp.specs.NhdpState.{near_with}
 use Rattle.mesh_nhdp.specs.Wanted.{IsWantedAddress}
 use Rattle.mesh_nhdp.proofs.Bases.{base_cases}
 use Rattle.mesh_hello.proofs.Collect.{item_at}
@@ -112,47 +113,21 @@ module _ (settings : RouterSettings) (moment now : ℕ) (old : Neighbourhood) (S
   expiry_sound = live_sound settings moment now old (record { links = links; two_hops = two_hops; neighbours = neighbours; losts = losts }) S expiry_is
       (let least = settings.times.sound.neighbour_hold_range.least in omega (arith, least))
 
--- expiry, as the calls on the fields of a neighbourhood leave them
-pub expiry_runs : (settings : RouterSettings) (faces : List Interface) (moment now hold until : ℕ) (old : Neighbourhood) (old_links items links seen : List (Base LinkKey Link)) (old_two_hops items_two_hops two_hops : List (Base TwoHopKey TwoHop))
-    (old_neighbours neighbours seen_neighbours : Base Addr4 Neighbour) (old_losts losts live_losts : Base Addr4 Lost) (before seen_before : List Addr4) (len len_two_hops : ℕ) →
-    faces ≡ settings.interfaces → hold ≡ settings.times.link_hold → SoundNeighbourhood settings moment old → old ≡ record { links = items; two_hops = items_two_hops; neighbours = old_neighbours; losts = old_losts } → until ≡ now + settings.times.neighbour_hold →
-    old_links ≡ items → old_two_hops ≡ items_two_hops → len ≡ length old_links → len_two_hops ≡ length old_two_hops → length links ≡ length old_links → length two_hops ≡ length old_two_hops →
+-- expiry, as the calls leave it
+pub expiry_runs : (settings : RouterSettings) (faces : List Interface) (moment now : ℕ) (old_links links : List (Base LinkKey Link)) (old_two_hops two_hops : List (Base TwoHopKey TwoHop))
+    (old_neighbours neighbours seen_neighbours : Base Addr4 Neighbour) (old_losts losts live_losts : Base Addr4 Lost) (before seen_before : List Addr4) →
+    faces ≡ settings.interfaces → SoundNeighbourhood settings moment (near_with old_links old_two_hops old_neighbours old_losts) → length links ≡ length old_links → length two_hops ≡ length old_two_hops →
     seen_neighbours ≡ old_neighbours → ((a : Addr4) → Contains before a ↔ IsWantedAddress seen_neighbours Symmetric a) →
-    ((i : ℕ) → i < length old_links → (face : Interface) → slice_get faces i ≡ Some face → ExpiresOn face.admit hold now (base_of old_links i) (base_of links i) (base_of old_two_hops i) (base_of two_hops i)) → Expires addr_eq now old_losts live_losts →
-    seen ≡ take len (links ++ drop (length links) items) → seen_before ≡ before → FollowsLinks seen now seen_before until old_neighbours neighbours live_losts losts →
-    (LiveNeighbourhood settings now old (record {
-      links = take len (links ++ drop (length links) items);
-      two_hops = take len_two_hops (two_hops ++ drop (length two_hops) items_two_hops);
-      neighbours = neighbours;
-      losts = losts;
-    })) × (SoundNeighbourhood settings now (record {
-      links = take len (links ++ drop (length links) items);
-      two_hops = take len_two_hops (two_hops ++ drop (length two_hops) items_two_hops);
-      neighbours = neighbours;
-      losts = losts;
-    }))
-expiry_runs settings faces moment now hold until old old_links items links seen old_two_hops items_two_hops two_hops old_neighbours neighbours seen_neighbours old_losts losts live_losts before seen_before len len_two_hops
-    faces_are hold_is S from_items until_is is_items is_items_two_hops all all_two_hops same same_two_hops sees before_is each expires seen_is seen_before_is F =
-    let whole : take len (links ++ drop (length links) items) ≡ links = written_back len links items (same ∙ ap length is_items) (all ∙ ap length is_items) in
-    let whole_two_hops : take len_two_hops (two_hops ++ drop (length two_hops) items_two_hops) ≡ two_hops = written_back len_two_hops two_hops items_two_hops (same_two_hops ∙ ap length is_items_two_hops) (all_two_hops ∙ ap length is_items_two_hops) in
-    let O : Neighbourhood = record { links = old_links; two_hops = old_two_hops; neighbours = old_neighbours; losts = old_losts } in
-    let is : old ≡ O = from_items
-    ∙ (ap (λ (ls : List (Base LinkKey Link)). let n : Neighbourhood = record { links = ls; two_hops = items_two_hops; neighbours = old_neighbours; losts = old_losts } in n) (sym is_items)
-    ∙ ap (λ (hs : List (Base TwoHopKey TwoHop)). let n : Neighbourhood = record { links = old_links; two_hops = hs; neighbours = old_neighbours; losts = old_losts } in n) (sym is_items_two_hops)) in
-    let begins : SoundNeighbourhood settings moment O = subst (λ (n : Neighbourhood). SoundNeighbourhood settings moment n) is S in
+    ((i : ℕ) → i < length old_links → (face : Interface) → slice_get faces i ≡ Some face → ExpiresOn face.admit settings.times.link_hold now (base_of old_links i) (base_of links i) (base_of old_two_hops i) (base_of two_hops i)) →
+    Expires addr_eq now old_losts live_losts → seen_before ≡ before → FollowsLinks links now seen_before (now + settings.times.neighbour_hold) old_neighbours neighbours live_losts losts →
+    LiveNeighbourhood settings now (near_with old_links old_two_hops old_neighbours old_losts) (near_with links two_hops neighbours losts) × SoundNeighbourhood settings now (near_with links two_hops neighbours losts)
+expiry_runs settings faces moment now old_links links old_two_hops two_hops old_neighbours neighbours seen_neighbours old_losts losts live_losts before seen_before faces_are S same same_two_hops sees before_is each expires seen_is F =
+    let O : Neighbourhood = near_with old_links old_two_hops old_neighbours old_losts in
     let follows : FollowsLinks links now before (now + settings.times.neighbour_hold) old_neighbours neighbours live_losts losts =
-    subst (λ (ls : List (Base LinkKey Link)). FollowsLinks ls now before (now + settings.times.neighbour_hold) old_neighbours neighbours live_losts losts) (seen_is ∙ whole)
-    (subst (λ (b : List Addr4). FollowsLinks seen now b (now + settings.times.neighbour_hold) old_neighbours neighbours live_losts losts) seen_before_is
-    (subst (λ (u : ℕ). FollowsLinks seen now seen_before u old_neighbours neighbours live_losts losts) until_is F)) in
+    subst (λ (b : List Addr4). FollowsLinks links now b (now + settings.times.neighbour_hold) old_neighbours neighbours live_losts losts) seen_is F in
     let wanted : (a : Addr4) → Contains before a ↔ IsWantedAddress old_neighbours Symmetric a = subst (λ (b : Base Addr4 Neighbour). (a : Addr4) → Contains before a ↔ IsWantedAddress b Symmetric a) sees before_is in
     let each_by : (i : ℕ) → i < length old_links → (face : Interface) → slice_get settings.interfaces i ≡ Some face → ExpiresOn face.admit settings.times.link_hold now (base_of old_links i) (base_of links i) (base_of old_two_hops i) (base_of two_hops i) =
-    subst (λ (h : ℕ). (i : ℕ) → i < length old_links → (face : Interface) → slice_get settings.interfaces i ≡ Some face → ExpiresOn face.admit h now (base_of old_links i) (base_of links i) (base_of old_two_hops i) (base_of two_hops i)) hold_is
-    (subst (λ (fs : List Interface). (i : ℕ) → i < length old_links → (face : Interface) → slice_get fs i ≡ Some face → ExpiresOn face.admit hold now (base_of old_links i) (base_of links i) (base_of old_two_hops i) (base_of two_hops i)) faces_are each) in
-    let live = expiry_is settings moment now O begins links two_hops neighbours losts live_losts before wanted same same_two_hops each_by expires follows in
-    let sound = expiry_sound settings moment now O begins links two_hops neighbours losts live_losts before wanted same same_two_hops each_by expires follows in (
-      subst (λ (o : Neighbourhood). LiveNeighbourhood settings now o (record { links = take len (links ++ drop (length links) items); two_hops = take len_two_hops (two_hops ++ drop (length two_hops) items_two_hops); neighbours = neighbours; losts = losts })) (sym is)
-          (subst (λ (ls : List (Base LinkKey Link)). LiveNeighbourhood settings now O (record { links = ls; two_hops = take len_two_hops (two_hops ++ drop (length two_hops) items_two_hops); neighbours = neighbours; losts = losts })) (sym whole)
-          (subst (λ (hs : List (Base TwoHopKey TwoHop)). LiveNeighbourhood settings now O (record { links = links; two_hops = hs; neighbours = neighbours; losts = losts })) (sym whole_two_hops) live)),
-      subst (λ (ls : List (Base LinkKey Link)). SoundNeighbourhood settings now (record { links = ls; two_hops = take len_two_hops (two_hops ++ drop (length two_hops) items_two_hops); neighbours = neighbours; losts = losts })) (sym whole)
-          (subst (λ (hs : List (Base TwoHopKey TwoHop)). SoundNeighbourhood settings now (record { links = links; two_hops = hs; neighbours = neighbours; losts = losts })) (sym whole_two_hops) sound),
+    subst (λ (fs : List Interface). (i : ℕ) → i < length old_links → (face : Interface) → slice_get fs i ≡ Some face → ExpiresOn face.admit settings.times.link_hold now (base_of old_links i) (base_of links i) (base_of old_two_hops i) (base_of two_hops i)) faces_are each in (
+      expiry_is settings moment now O S links two_hops neighbours losts live_losts before wanted same same_two_hops each_by expires follows,
+      expiry_sound settings moment now O S links two_hops neighbours losts live_losts before wanted same same_two_hops each_by expires follows,
     )

@@ -1,5 +1,5 @@
 -- What is judged of a HELLO.
-use Rattle.std.proofs.Common.{◌≡◌, ℕ, ◌<◌, ◌≤◌, ◌+◌, ◌⊎◌, ◌↔◌, refl, sym, ◌∙◌, subst, arith, List, length, Contains, IsTrue, None}
+use Rattle.std.proofs.Common.{◌≡◌, ℕ, ◌<◌, ◌≤◌, ◌+◌, ◌⊎◌, ◌↔◌, refl, sym, ◌∙◌, subst, arith, List, length, Contains, IsTrue, None, Some}
 use Rattle.std.specs.Prelude.{Bool, true, false}
 use Rattle.std.proofs.lemmas.Bool.{false≢true}
 use Rattle.mesh_atoms.specs.declared.addr.Addr4.{Addr4}
@@ -16,7 +16,7 @@ use Rattle.mesh_atoms.specs.AfterHello.{AfterHello}
 use Rattle.mesh_atoms.specs.Sound.{SoundNeighbourhood}
 use Rattle.mesh_nhdp.specs.declared.judge.Judgement.TheVariants.{Overfills}
 use Rattle.mesh_nhdp.specs.declared.take.HelloTaken.TheVariants.{Full}
-use Rattle.mesh_nhdp.specs.Judged.{Judges, IsAnswer}
+use Rattle.mesh_nhdp.specs.Judged.{IsFilledBy, Judges, IsAnswer}
 use Rattle.mesh_nhdp.proofs.HelloSound.{hello_sound}
 
 -- the router's addresses, said of equal settings and of an equal list
@@ -46,6 +46,13 @@ overfills settings i near told hello count held rows is few more = (count, rows,
 pub fits : (settings : RouterSettings) (i : ℕ) (near : Neighbourhood) (told : Told) (hello : Hello) (count held : ℕ) → AreTwoHopRows settings told hello count → held ≡ length (base_of near.two_hops i) →
     held + count ≤ 16384 → FitsTwoHops settings i near told hello
 fits settings i near told hello count held rows is few = (count, rows, omega (arith, is, few))
+
+-- a base that it would fill is what is judged
+pub judged_full : (settings : RouterSettings) (i : ℕ) (sender : Addr4) (hello : Hello) (near : Neighbourhood) (told : Told) (base : Base) → IsFault settings sender hello None → Tells settings i sender hello told →
+    IsFilledBy settings i hello near told (Some base) → Judges settings i sender hello near (Overfills base)
+judged_full settings i sender hello near told Neighbours fault tells full = (told, fault, tells, full)
+judged_full settings i sender hello near told TwoHops fault tells full = (told, fault, tells, full.0, full.1)
+judged_full settings i sender hello near told base fault tells none = absurd none
 
 -- what is too much is answered so, and changes nothing
 pub overfull : (settings : RouterSettings) (now i : ℕ) (sender : Addr4) (hello : Hello) (near : Neighbourhood) (base : Base) → Judges settings i sender hello near (Overfills base) →

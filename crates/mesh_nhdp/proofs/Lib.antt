@@ -6,6 +6,7 @@ pub mod Empty
 mod Expiry
 pub mod Fits
 mod Hears
+mod Held
 mod HeldAddresses
 mod LinkKeys
 mod Message

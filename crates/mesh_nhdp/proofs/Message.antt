@@ -1,7 +1,7 @@
 -- The HELLO out of its rows, and sound tuples are apart.
-use Rattle.std.proofs.Common.{◌≡◌, ◌<◌, ◌≤◌, ℕ, false, nat_lt, inl, inr, refl, sym, ◌∙◌, ap, subst, map, length, get_or, zero, suc, ◌∷◌, arith}
+use Rattle.std.proofs.Common.{◌≡◌, ◌+◌, ◌++◌, take, ◌<◌, ◌≤◌, ℕ, false, nat_lt, inl, inr, refl, sym, ◌∙◌, ap, subst, map, length, get_or, zero, suc, ◌∷◌, arith}
 use Rattle.std.specs.Prelude.{List, [], Contains, AllPairs, Some, None, slice_get, ◌↔◌}
-use Rattle.std.proofs.lemmas.List.{length-map, get_or-map, get_or_default, get_or_past}
+use Rattle.std.proofs.lemmas.List.{length-map, map-append, get_or-map, get_or_default, get_or_past}
 use Rattle.std.proofs.lemmas.Option.{slice_get-get_or, none-some}
 use Rattle.std.proofs.lemmas.Bool.{cases_lt, lt-ltb, false≢true}
 use Rattle.mesh_atoms.specs.declared.addr.Addr4.{Addr4}
@@ -23,6 +23,7 @@ use Rattle.mesh_atoms.specs.State.{State, Neighbourhood, IsOriginator}
 use Rattle.mesh_atoms.proofs.Lookups.{has_found, addr_equiv, same_addr, link_equiv, same_link}
 use Rattle.mesh_atoms.specs.declared.settings.Interface.{Interface}
 use Rattle.mesh_links.specs.Links.{SelectorOf, Unlinked}
+use Rattle.mesh_hello.proofs.Collect.{adds_one, taken_more}
 use Rattle.mesh_nhdp.specs.NhdpState.{NhdpState}
 use Rattle.mesh_nhdp.specs.Said.{AreDisjoint, IsSeen, IsRowOf, said_addresses}
 use Rattle.mesh_hello.proofs.Lookups.{some_same}
@@ -55,6 +56,17 @@ map_given : {A B : Type 0} (f : A → B) (xs : List A) (y : B) → Contains (map
 map_given f [] y (k, lt, is) = absurd (omega arith)
 map_given f (x ∷ xs) y (zero, lt, is) = (x, (0, omega arith, refl), is)
 map_given f (x ∷ xs) y (suc k, lt, is) = let (z, (j, within, at), e) = map_given f xs y (k, omega arith, is) in (z, (suc j, omega arith, at), e)
+
+-- one row more is put at the end
+pub addrs_more : (rows new : List HelloRow) (list : List Addr4) (k : ℕ) (row : HelloRow) (a : Addr4) → slice_get list k ≡ Some a → new ≡ rows ++ row ∷ [] → row.addr ≡ host a →
+    map (λ (r : HelloRow). r.addr) rows ≡ map host (take k list) → map (λ (r : HelloRow). r.addr) new ≡ map host (take (k + 1) list)
+addrs_more rows new list k row a at is of so_far =
+    ap (λ (rs : List HelloRow). map (λ (r : HelloRow). r.addr) rs) is ∙ (map-append (λ (r : HelloRow). r.addr) rows (row ∷ [])
+    ∙ (ap (λ (nets : List NetAddr). nets ++ row.addr ∷ []) so_far ∙ (ap (λ (net : NetAddr). map host (take k list) ++ net ∷ []) of
+    ∙ (sym (map-append host (take k list) (a ∷ [])) ∙ ap (λ (xs : List Addr4). map host xs) (sym (taken_more list k a at))))))
+
+pub rows_more : (P : HelloRow → Type 0) (rows new : List HelloRow) (row : HelloRow) → new ≡ rows ++ row ∷ [] → P row → ((r : HelloRow) → Contains rows r → P r) → (r : HelloRow) → Contains new r → P r
+rows_more P rows new row is one all r has = elim ((adds_one rows new (λ (x : HelloRow). row ≡ x) row is refl (λ x h. h) r).0 has) [ inl was ↦ all r was | inr same ↦ subst P same one ]
 
 pub rows_before : (rows : List HelloRow) (list : List Addr4) → map (λ (row : HelloRow). row.addr) rows ≡ map host list → IsAscending list → AllPairs (λ (r t : HelloRow). IsBefore r.addr t.addr) rows
 rows_before rows list same up i j d lt within =
@@ -103,6 +115,7 @@ apart_by settings now near i sound =
           let (u, at) = (link_found k e).0 has in
           let (o, n, v, at', all) = sound.owner i k e u at in
           (o, n, (near_found o n).1 (v, at'), all);
+      distinct_neighbours = sound.distinct_neighbours;
       distinct_losts = sound.distinct_losts;
     }
 

@@ -1,5 +1,5 @@
 -- Elements of lists by their places.
-use Rattle.std.proofs.Common.{◌≡◌, ℕ, zero, suc, ◌+◌, ◌<◌, ◌≤◌, ◌++◌, List, [], ◌∷◌, drop, length, refl, ◌∙◌, ap, subst, arith, add-one}
+use Rattle.std.proofs.Common.{◌≡◌, ℕ, zero, suc, ◌+◌, ◌<◌, ◌≤◌, ◌++◌, List, [], ◌∷◌, drop, length, refl, sym, ◌∙◌, ap, subst, arith, add-one}
 use Rattle.std.specs.Prelude.{Contains, Some, slice_get, ◌↔◌}
 use Rattle.std.specs.List.{flat_map}
 use Rattle.std.proofs.lemmas.List.{append_assoc}
@@ -20,6 +20,27 @@ pub put_next : {A B : Type 0} (f : A → List B) (xs : List A) (k : ℕ) (x : A)
 put_next f xs k x list whole at h =
     let e : drop k xs ≡ x ∷ drop (k + 1) xs = rw add-one (drop_at xs k x at) in
     rw append_assoc (subst (λ l. list ++ flat_map f l ≡ whole) e h)
+
+pub put_more : {A B : Type 0} (f : A → List B) (xs : List A) (k : ℕ) (x : A) (list new whole : List B) → slice_get xs k ≡ Some x →
+    list ++ flat_map f (drop k xs) ≡ whole → new ≡ list ++ f x → new ++ flat_map f (drop (k + 1) xs) ≡ whole
+put_more f xs k x list new whole at h is = subst (λ l. l ++ flat_map f (drop (k + 1) xs) ≡ whole) (sym is) (put_next f xs k x list whole at h)
+
+pub append_none : {A : Type 0} (xs : List A) → xs ++ [] ≡ xs
+append_none [] = refl
+append_none (x ∷ xs) = ap (λ rest. x ∷ rest) (append_none xs)
+
+-- past the last place there is no rest
+pub put_all : {A B : Type 0} (f : A → List B) (xs : List A) (k : ℕ) (list whole : List B) → length xs ≤ k → list ++ flat_map f (drop k xs) ≡ whole → list ≡ whole
+put_all f xs k list whole past h = sym (append_none list) ∙ subst (λ rest. list ++ flat_map f rest ≡ whole) (none_left xs k past) h
+  where
+    none_left : {A : Type 0} (xs : List A) (k : ℕ) → length xs ≤ k → drop k xs ≡ []
+    none_left [] k past = drop_none k
+      where
+        drop_none : {A : Type 0} (k : ℕ) → drop k (let none : List A = [] in none) ≡ []
+        drop_none zero = refl
+        drop_none (suc k) = refl
+    none_left (x ∷ xs) zero past = absurd (omega (arith, past))
+    none_left (x ∷ xs) (suc k) past = none_left xs k (omega (arith, past))
 
 -- lists put one after another have what they have one by one
 pub same_in_turn : {A : Type 0} (once w x y z l0 l1 l2 l3 : List A) → l0 ≡ w → l1 ≡ l0 ++ x → l2 ≡ l1 ++ y → l3 ≡ l2 ++ z →

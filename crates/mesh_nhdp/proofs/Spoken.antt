@@ -1,6 +1,5 @@
 -- Addresses of the neighbours that a HELLO speaks of.
-use Rattle.std.proofs.Common.{◌≡◌, ℕ, ◌↔◌, ap, subst, List, Contains, Option, Some, None}
-use Rattle.std.specs.Prelude.{IsTrue}
+use Rattle.std.proofs.Common.{◌≡◌, ℕ, ◌↔◌, ap, subst, List, Contains, Some, None}
 use Rattle.mesh_atoms.specs.declared.addr.Addr4.{Addr4}
 use Rattle.mesh_atoms.specs.declared.tuples.Neighbour.{Neighbour}
 use Rattle.mesh_atoms.specs.Base.{Base, find, addr_eq}

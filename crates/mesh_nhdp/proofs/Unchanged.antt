@@ -1,5 +1,5 @@
 -- Where nothing becomes of the links, nothing becomes of the neighbours.
-use Rattle.std.proofs.Common.{◌≡◌, ℕ, ◌+◌, ◌++◌, take, drop, ◌<◌, ◌≤◌, ◌⊎◌, ◌↔◌, inl, inr, refl, sym, ◌∙◌, ap, subst, arith, List, [], length, Option, Some, None, IsTrue}
+use Rattle.std.proofs.Common.{◌≡◌, ℕ, ◌+◌, ◌<◌, ◌≤◌, ◌⊎◌, ◌↔◌, inl, inr, refl, sym, ◌∙◌, ap, subst, arith, List, [], length, Option, Some, None, IsTrue}
 use Rattle.std.specs.Prelude.{Bool, true, false, cond, nat_lt, nat_eq, ◌&&◌}
 use Rattle.std.specs.List.{IsDistinct}
 use Rattle.std.specs.Cmp.{IsEquivalence}
@@ -24,7 +24,6 @@ use Rattle.mesh_nhdp.specs.Staying.{LinksStay, AllIsAsItWas, ExpiresBeside}
 use Rattle.mesh_nhdp.proofs.Bases.{base_cases}
 use Rattle.mesh_nhdp.proofs.BesideWalk.{both_so, some_gone}
 use Rattle.mesh_nhdp.proofs.Composes.{least_metric_iff}
-use Rattle.mesh_nhdp.proofs.Expiry.{written_back}
 use Rattle.mesh_nhdp.proofs.Limits.{no_more}
 use Rattle.mesh_nhdp.proofs.LiveSound.{live_sound}
 use Rattle.mesh_nhdp.proofs.SymmetricAddresses.{symmetric_or_not}
@@ -201,24 +200,6 @@ module _ (now : ℕ) (links : List (Base LinkKey Link)) (two_hops after : List (
         ∙ ap (λ (ls : Base Addr4 Lost). let n : Neighbourhood = record { links = links; two_hops = two_hops; neighbours = neighbours; losts = ls } in n) (none (eqb-true gone 0 both.1)));
     changed = what_changed first refl;
   }
-
-pub beside_runs : (now : ℕ) (old : Neighbourhood) (links : List (Base LinkKey Link)) (items two_hops after : List (Base TwoHopKey TwoHop)) (neighbours : Base Addr4 Neighbour) (losts losts_after : Base Addr4 Lost) (first same : Bool) (gone len : ℕ) →
-    old ≡ record { links = links; two_hops = items; neighbours = neighbours; losts = losts } → two_hops ≡ items → len ≡ length two_hops → length after ≡ length two_hops →
-    ((i : ℕ) → i < length two_hops → Expires two_hop_eq now (base_of two_hops i) (base_of after i)) → ((i : ℕ) → i < length two_hops → HasDistinctKeys two_hop_eq (base_of after i)) →
-    (first ≡ true → after ≡ two_hops) → (first ≡ false → (i : ℕ) × (length (base_of after i) < length (base_of two_hops i))) → Expires addr_eq now losts losts_after → HasDistinctKeys addr_eq losts_after →
-    gone + length losts_after ≡ length losts → (gone ≡ 0 → losts_after ≡ losts) → same ≡ (first && nat_eq gone 0) →
-    ExpiresBeside now same old (record { links = links; two_hops = take len (after ++ drop (length after) items); neighbours = neighbours; losts = losts_after })
-beside_runs now old links items two_hops after neighbours losts losts_after first same gone len from is_items all lengths each distinct unchanged changed expires distinct_losts count none is =
-    let whole : take len (after ++ drop (length after) items) ≡ after = written_back len after items (lengths ∙ ap length is_items) (all ∙ ap length is_items) in
-    let begins : old ≡ record { links = links; two_hops = two_hops; neighbours = neighbours; losts = losts } =
-    from ∙ ap (λ (hs : List (Base TwoHopKey TwoHop)). let n : Neighbourhood = record { links = links; two_hops = hs; neighbours = neighbours; losts = losts } in n) (sym is_items) in
-    subst (λ (o : Neighbourhood). ExpiresBeside now same o (record { links = links; two_hops = take len (after ++ drop (length after) items); neighbours = neighbours; losts = losts_after })) (sym begins)
-    (subst (λ (hs : List (Base TwoHopKey TwoHop)). ExpiresBeside now same (record { links = links; two_hops = two_hops; neighbours = neighbours; losts = losts }) (record { links = links; two_hops = hs; neighbours = neighbours; losts = losts_after })) (sym whole)
-    (beside_is now links two_hops after neighbours losts losts_after first same gone lengths each distinct unchanged changed expires distinct_losts count none is))
-
--- the same said of equal settings and of equal links
-pub stay_at : (s r : RouterSettings) (last now : ℕ) (xs ys : List (Base LinkKey Link)) → s ≡ r → xs ≡ ys → LinksStay s last now xs → LinksStay r last now ys
-stay_at s r last now xs ys same is stay = subst (λ (t : RouterSettings). LinksStay t last now ys) same (subst (λ (ls : List (Base LinkKey Link)). LinksStay s last now ls) is stay)
 
 -- expiry, where nothing becomes of links
 pub beside_live : (settings : RouterSettings) (last now : ℕ) (same : Bool) (old new : Neighbourhood) → SoundNeighbourhood settings last old → LinksStay settings last now old.links → ExpiresBeside now same old new → LiveNeighbourhood settings now old new

@@ -1,5 +1,5 @@
 -- What a HELLO makes of the links and the 2-hop tuples of all interfaces.
-use Rattle.std.specs.Prelude.{◌≡◌, ℕ, ◌+◌, ◌<◌, ◌≢◌, ◌↔◌, List, length, Contains, Some, Bool, true, false, nat_eq, IsTrue}
+use Rattle.std.specs.Prelude.{◌≡◌, ℕ, ◌+◌, ◌<◌, ◌≢◌, ◌↔◌, ◌⊎◌, List, length, Contains, Some, Bool, true, false, nat_eq, IsTrue}
 use Rattle.mesh_atoms.specs.declared.addr.Addr4.{Addr4}
 use Rattle.mesh_atoms.specs.declared.admit.Admit.{Admit}
 use Rattle.mesh_atoms.specs.declared.hello.Hello.{Hello}
@@ -13,7 +13,7 @@ use Rattle.mesh_atoms.specs.Base.{Base, HasDistinctKeys, find, base_of, link_eq,
 use Rattle.mesh_atoms.specs.State.{HasAddress}
 use Rattle.mesh_atoms.specs.HelloTold.{Told}
 use Rattle.mesh_two_hops.specs.TwoHops.{DropsLink}
-use Rattle.mesh_nhdp.specs.Calls.{TellsTwoHops, is_symmetric_in}
+use Rattle.mesh_nhdp.specs.Calls.{TellsTwoHops, is_symmetric_in, key_at}
 use Rattle.mesh_nhdp.specs.Interfaces.{HearsAt}
 
 -- the tuples of the link that the HELLO came over: none where it is a made one, and then as the rows tell where it is SYMMETRIC
@@ -41,3 +41,11 @@ pub record HearsInterfaces (rule : Admit) (shown : Shown) (least : LinkKey) (the
   pub stood_is : IsTrue stood ↔ ((e : Link × ℕ) × (find link_eq (base_of old i) least ≡ Some e) × (e.0.addrs ≡ shown.sending))
   pub updates : UpdatesTwoHops stood (is_symmetric_in (base_of new i) now least) own listed hello least (now + shown.validity)
       (base_of mids i) (base_of after i)
+
+-- the same, with the keys of the links of the neighbours that the HELLO speaks of, and of the addresses that it lists
+pub record HearsLinks (rule : Admit) (told : Told) (theirs own : List Addr4) (hold now i : ℕ) (hello : Hello)
+    (old new : List (Base LinkKey Link)) (before after : List (Base TwoHopKey TwoHop)) : Type 0 where
+  pub keys : List LinkKey
+  pub keys_are : (a : Addr4) → Contains theirs a ⊎ Contains told.listed a → Contains keys (key_at a)
+  pub same : length new ≡ length old
+  pub hears : HearsInterfaces rule told.shown told.least theirs told.listed keys own hold now i hello old new before after

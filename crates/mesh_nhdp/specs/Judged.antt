@@ -1,7 +1,8 @@
 -- What is judged of a HELLO before anything changes, and what is answered.
-use Rattle.std.specs.Prelude.{◌≡◌, ℕ, ◌↔◌, Contains, Some, None}
+use Rattle.std.specs.Prelude.{◌≡◌, ℕ, ◌↔◌, Contains, Option, Some, None}
 use Rattle.mesh_atoms.specs.declared.addr.Addr4.{Addr4}
 use Rattle.mesh_atoms.specs.declared.hello.Hello.{Hello}
+use Rattle.mesh_atoms.specs.declared.tuples.Base.{Base}
 use Rattle.mesh_atoms.specs.declared.tuples.Base.TheVariants.{Neighbours, TwoHops}
 use Rattle.mesh_atoms.specs.declared.settings.RouterSettings.{RouterSettings}
 use Rattle.mesh_atoms.specs.State.{Neighbourhood, HasAddress}
@@ -13,6 +14,13 @@ use Rattle.mesh_nhdp.specs.declared.judge.Judgement.TheVariants.{Breaks, Overfil
 use Rattle.mesh_nhdp.specs.declared.take.HelloTaken.{HelloTaken}
 use Rattle.mesh_nhdp.specs.declared.take.HelloTaken.TheVariants.{Done, Broken, Full}
 use Rattle.mesh_hello.specs.Telling.{told_of}
+
+-- the base that a HELLO which breaks no rule would fill, if there is one
+abbrev pub IsFilledBy : RouterSettings → ℕ → Hello → Neighbourhood → Told → Option Base → Type 0
+IsFilledBy settings i hello near told None = (IsFullOfAddresses near told → ⊥) × FitsTwoHops settings i near told hello
+IsFilledBy settings i hello near told (Some Neighbours) = IsFullOfAddresses near told
+IsFilledBy settings i hello near told (Some TwoHops) = (IsFullOfAddresses near told → ⊥) × IsFullOfTwoHops settings i near told hello
+IsFilledBy settings i hello near told (Some base) = ⊥
 
 -- the HELLO breaks a rule, is too much for a limit, or can be taken
 abbrev pub Judges : RouterSettings → ℕ → Addr4 → Hello → Neighbourhood → Judgement → Type 0

@@ -37,6 +37,7 @@ pub record AreDisjoint (links : Base LinkKey Link) (neighbours : Base Addr4 Neig
   pub one_neighbour : (a o p : Addr4) (m n : Neighbour) → Has neighbours o m → Has neighbours p n → Contains m.addrs a → Contains n.addrs a → (o ≡ p) × (m ≡ n)
   pub owner : (k : LinkKey) (e : Link) → Has links k e →
       (o : Addr4) × (n : Neighbour) × Has neighbours o n × ((a : Addr4) → Contains e.addrs a → Contains n.addrs a)
+  pub distinct_neighbours : HasDistinctKeys addr_eq neighbours
   pub distinct_losts : HasDistinctKeys addr_eq losts
 
 -- What is said

@@ -2,14 +2,19 @@
 ghost use Rattle.std.specs.Prelude.{◌≡◌, ◌<◌, ◌^◌, ◌↔◌, ℕ, IsTrue, IfOk, OnOk};
 ghost use Rattle.mesh_atoms.specs.Live.{LiveNeighbourhood};
 ghost use Rattle.mesh_atoms.specs.Sound.{SoundNeighbourhood};
+ghost use Rattle.mesh_nhdp.specs.NhdpState.{near_with};
 ghost use Rattle.mesh_nhdp.specs.Staying.{AllIsAsItWas};
 
 use crate::follow::follow_links;
 use crate::interfaces::{Expiry, change_all};
 use crate::near_addresses::{Wanted, wanted_addresses};
 use crate::nhdp::Nhdp;
-use crate::staying::links_stay;
-use mesh_expire::Bases;
+use crate::staying::{expire_beside, links_stay};
+use mesh_atoms::{Addr4, Link, LinkKey, Lost, Neighbour, RouterSettings, TwoHop, TwoHopKey};
+use mesh_expire::{Bases, Table};
+use mesh_links::LinkSet;
+use mesh_nbrs::{LostSet, NeighbourSet};
+use mesh_two_hops::TwoHopSet;
 use std::alloc::AllocError;
 
 impl<B: Bases> Nhdp<B> {
@@ -25,12 +30,15 @@ impl<B: Bases> Nhdp<B> {
         ensures same { IfOk result (λ same. IsTrue same → self.new.near ≡ self.old.near) }
         ensures when { IfOk result (λ same. IsTrue same ↔ AllIsAsItWas self.old.settings last now self.old.near) }
     {
-        if links_stay(&self.settings, &self.links, last, now) {
-            Ok(self.expire_beside(now))
-        } else {
-            self.expire(now)?;
-            Ok(false)
-        }
+        expire_or_stay(
+            &self.settings,
+            last,
+            now,
+            &mut self.links,
+            &mut self.two_hops,
+            &mut self.neighbours,
+            &mut self.losts,
+        )
     }
 
     /// Brings links in line with their qualities, and takes out what is expired at a moment below 2^62: links, their 2-hop
@@ -44,25 +52,76 @@ impl<B: Bases> Nhdp<B> {
         ensures sound { OnOk result (SoundNeighbourhood self.new.settings now self.new.near) }
         ensures settings { self.new.settings ≡ self.old.settings }
     {
-        let settings = &self.settings;
-        let alloc = settings.interfaces.allocator();
-        let until = now + settings.times.neighbour_hold;
-        let before = wanted_addresses(alloc, self.neighbours.table(), Wanted::Symmetric)?;
-        let expiry = Expiry {
+        expire_all(
+            &self.settings,
             now,
-            hold: settings.times.link_hold,
-            faces: settings.interfaces.as_slice(),
-        };
-        change_all(alloc, &expiry, &mut self.links, &mut self.two_hops)?;
-        self.losts.expire(now);
-        follow_links(
-            alloc,
-            &self.links,
-            now,
-            &before,
-            until,
+            &mut self.links,
+            &mut self.two_hops,
             &mut self.neighbours,
             &mut self.losts,
         )
+    }
+}
+
+/// The same over links, tuples, neighbours and lost addresses, which after want of memory may only be dropped.
+fn expire_all<
+    L: Table<LinkKey, Link>,
+    H: Table<TwoHopKey, TwoHop>,
+    N: Table<Addr4, Neighbour>,
+    O: Table<Addr4, Lost>,
+>(
+    settings: &RouterSettings,
+    now: u64,
+    links: &mut [LinkSet<L>],
+    two_hops: &mut [TwoHopSet<H>],
+    neighbours: &mut NeighbourSet<N>,
+    losts: &mut LostSet<O>,
+) -> Result<(), AllocError>
+    requires now { now < 2 ^ 62 }
+    requires sound { (moment : ℕ) × SoundNeighbourhood settings.now moment (near_with links.old two_hops.old neighbours.old losts.old) }
+    ensures live { OnOk result (LiveNeighbourhood settings.now now (near_with links.old two_hops.old neighbours.old losts.old) (near_with links.new two_hops.new neighbours.new losts.new)) }
+    ensures sound { OnOk result (SoundNeighbourhood settings.now now (near_with links.new two_hops.new neighbours.new losts.new)) }
+{
+    let alloc = settings.interfaces.allocator();
+    let until = now + settings.times.neighbour_hold;
+    let before = wanted_addresses(alloc, neighbours.table(), Wanted::Symmetric)?;
+    let expiry = Expiry {
+        now,
+        hold: settings.times.link_hold,
+        faces: settings.interfaces.as_slice(),
+    };
+    change_all(alloc, &expiry, links, two_hops)?;
+    losts.expire(now);
+    follow_links(alloc, links, now, &before, until, neighbours, losts)
+}
+
+/// Takes out the 2-hop tuples and the lost addresses that are expired where nothing becomes of the links since `last`, and else
+/// brings all up to date; whether all is just as it was then.
+fn expire_or_stay<
+    L: Table<LinkKey, Link>,
+    H: Table<TwoHopKey, TwoHop>,
+    N: Table<Addr4, Neighbour>,
+    O: Table<Addr4, Lost>,
+>(
+    settings: &RouterSettings,
+    last: u64,
+    now: u64,
+    links: &mut [LinkSet<L>],
+    two_hops: &mut [TwoHopSet<H>],
+    neighbours: &mut NeighbourSet<N>,
+    losts: &mut LostSet<O>,
+) -> Result<bool, AllocError>
+    requires now { now < 2 ^ 62 }
+    requires sound { SoundNeighbourhood settings.now last (near_with links.old two_hops.old neighbours.old losts.old) }
+    ensures live { OnOk result (LiveNeighbourhood settings.now now (near_with links.old two_hops.old neighbours.old losts.old) (near_with links.new two_hops.new neighbours.new losts.new)) }
+    ensures sound { OnOk result (SoundNeighbourhood settings.now now (near_with links.new two_hops.new neighbours.new losts.new)) }
+    ensures same { IfOk result (λ same. IsTrue same → near_with links.new two_hops.new neighbours.new losts.new ≡ near_with links.old two_hops.old neighbours.old losts.old) }
+    ensures when { IfOk result (λ same. IsTrue same ↔ AllIsAsItWas settings.now last now (near_with links.old two_hops.old neighbours.old losts.old)) }
+{
+    if links_stay(settings, links, last, now) {
+        Ok(expire_beside(two_hops, losts, now))
+    } else {
+        expire_all(settings, now, links, two_hops, neighbours, losts)?;
+        Ok(false)
     }
 }

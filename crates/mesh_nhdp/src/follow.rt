@@ -29,8 +29,7 @@ pub fn follow_links<L: Table<LinkKey, Link>, N: Table<Addr4, Neighbour>, O: Tabl
     let notes = notes_of(alloc, links, now)?;
     neighbours.expire(&notes)?;
     let after = wanted_addresses(alloc, neighbours.table(), Wanted::Symmetric)?;
-    losts.settle_lost(before, &after, until)?;
-    Ok(())
+    losts.settle_lost(before, &after, until)
 }
 
 /// Sets the neighbour with that originator, which has these addresses, as its links have it, and the addresses as lost until that
@@ -52,8 +51,7 @@ fn follow_links_of<L: Table<LinkKey, Link>, N: Table<Addr4, Neighbour>, O: Table
     let notes = notes_among(alloc, links, addrs, now)?;
     neighbours.follow(originator, &notes)?;
     let after = symmetric_at(neighbours.table(), originator);
-    losts.settle_lost(before, after, until)?;
-    Ok(())
+    losts.settle_lost(before, after, until)
 }
 
 /// Makes one neighbour of all that a HELLO speaks of, and sets it as its links have it, with the addresses as lost until that moment

@@ -1,10 +1,11 @@
 //! Whether the addresses are too many.
-ghost use Rattle.std.specs.Prelude.{◌≡◌, ◌↔◌, ◌⊎◌, Contains, IsTrue, IfOk};
+ghost use Rattle.std.specs.Prelude.{◌≡◌, ◌↔◌, ◌⊎◌, ◌++◌, ◌∷◌, [], Contains, IsTrue, IfOk, OnOk};
+ghost use Rattle.std.specs.Map.{keys_of};
 ghost use Rattle.mesh_atoms.specs.State.{Neighbourhood};
 ghost use Rattle.mesh_atoms.specs.TakesHello.{IsHeld};
 ghost use Rattle.mesh_atoms.specs.Words.{AreMoreThan};
 
-use crate::keys::keys;
+use crate::keys::put_table_keys;
 use crate::near_addresses::{Wanted, wanted_addresses};
 use mesh_atoms::{Addr4, Lost, Neighbour};
 use mesh_expire::Table;
@@ -36,6 +37,23 @@ fn are_few<N: Table<Addr4, Neighbour>, O: Table<Addr4, Lost>>(
     count + addrs + lost + told < MOST_ADDRESSES
 }
 
+/// Puts the originators of neighbours, the lost addresses and those that a HELLO tells of at the end of a list.
+fn put_known<N: Table<Addr4, Neighbour>, O: Table<Addr4, Lost>>(
+    addrs: &mut Vec<Addr4>,
+    neighbours: &NeighbourSet<N>,
+    losts: &LostSet<O>,
+    originator: Addr4,
+    listed: &[Addr4],
+) -> Result<(), AllocError>
+    ensures { OnOk result (addrs.new.items ≡ (((addrs.old.items ++ keys_of neighbours.now) ++ keys_of losts.now) ++ listed.now) ++ originator ∷ []) }
+{
+    put_table_keys(addrs, neighbours.table())?;
+    put_table_keys(addrs, losts.table())?;
+    addrs.extend_from_slice(listed)?;
+    addrs.push(originator)?;
+    Ok(())
+}
+
 /// The same as `is_full_of_addresses`, by a count of the different ones.
 fn are_many<N: Table<Addr4, Neighbour>, O: Table<Addr4, Lost>>(
     alloc: Global,
@@ -48,12 +66,7 @@ fn are_many<N: Table<Addr4, Neighbour>, O: Table<Addr4, Lost>>(
         → IsTrue full ↔ AreMoreThan 1024 (λ a. IsHeld near a ⊎ (Contains listed.now a ⊎ (a ≡ originator)))) }
 {
     let mut addrs = wanted_addresses(alloc, neighbours.table(), Wanted::Each)?;
-    let originators = keys(alloc, neighbours.table())?;
-    addrs.extend_from_slice(&originators)?;
-    let lost = keys(alloc, losts.table())?;
-    addrs.extend_from_slice(&lost)?;
-    addrs.extend_from_slice(listed)?;
-    addrs.push(originator)?;
+    put_known(&mut addrs, neighbours, losts, originator, listed)?;
     let held = ascending(addrs);
     let count = held.len();
     Ok(count > MOST_ADDRESSES)

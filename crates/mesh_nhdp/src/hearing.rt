@@ -1,20 +1,33 @@
-//! What a HELLO makes of the links and the 2-hop tuples of all interfaces.
-ghost use Rattle.std.specs.Prelude.{◌≡◌, ◌<◌, Some, length, slice_get, OnOk};
-ghost use Rattle.mesh_nhdp.specs.Hearings.{HearsInterfaces};
+//! What a HELLO that isn't refused makes of the links, the 2-hop tuples, the neighbours and the lost addresses.
+ghost use Rattle.std.specs.Prelude.{◌≡◌, ◌<◌, ◌^◌, ◌↔◌, Contains, Some, None, length, slice_get, OnOk};
+ghost use Rattle.mesh_atoms.specs.AfterHello.{AfterHello};
+ghost use Rattle.mesh_atoms.specs.HelloTold.{Tells};
+ghost use Rattle.mesh_atoms.specs.Quality.{rule_of};
+ghost use Rattle.mesh_atoms.specs.Sound.{SoundNeighbourhood};
+ghost use Rattle.mesh_atoms.specs.State.{HasAddress};
+ghost use Rattle.mesh_atoms.specs.TakesHello.{IsFault};
+ghost use Rattle.mesh_hello.specs.Telling.{told_of};
+ghost use Rattle.mesh_nhdp.specs.Hearings.{HearsInterfaces, HearsLinks};
 ghost use Rattle.mesh_nhdp.specs.Interfaces.{CanHear};
+ghost use Rattle.mesh_nhdp.specs.NhdpState.{near_with};
 
 use crate::drops::has_symmetric;
+use crate::follow::renew_neighbour;
 use crate::interfaces::{Hearing, change_all};
+use crate::keys::keys_of_both;
+use crate::near_addresses::spoken_addresses;
 use crate::sending_link::{stands, update_two_hops};
-use mesh_atoms::{Addr4, Hello, Link, LinkKey, TwoHop, TwoHopKey};
+use mesh_atoms::{Addr4, Hello, Link, LinkKey, Lost, Neighbour, RouterSettings, TwoHop, TwoHopKey};
 use mesh_expire::Table;
+use mesh_hello::Telling;
 use mesh_links::LinkSet;
+use mesh_nbrs::{LostSet, NeighbourSet};
 use mesh_two_hops::TwoHopSet;
 use std::alloc::{AllocError, Global};
 
 /// Takes the HELLO in on all interfaces; `least` is the key of the link that it came over, and `own` has the router's addresses.
 /// After want of memory links and tuples may only be dropped.
-pub fn hear_interfaces<L: Table<LinkKey, Link>, H: Table<TwoHopKey, TwoHop>>(
+fn hear_interfaces<L: Table<LinkKey, Link>, H: Table<TwoHopKey, TwoHop>>(
     alloc: Global,
     hearing: &Hearing,
     least: LinkKey,
@@ -48,5 +61,82 @@ pub fn hear_interfaces<L: Table<LinkKey, Link>, H: Table<TwoHopKey, TwoHop>>(
         hearing.listed,
         stood,
         symmetric,
+    )
+}
+
+/// Takes a HELLO in on all interfaces; `own` has the router's addresses, and `theirs` those of the neighbours that it speaks of.
+/// After want of memory links and tuples may only be dropped.
+fn hear_links<L: Table<LinkKey, Link>, H: Table<TwoHopKey, TwoHop>>(
+    settings: &RouterSettings,
+    now: u64,
+    iface: usize,
+    hello: &Hello,
+    own: &[Addr4],
+    telling: &Telling,
+    theirs: &[Addr4],
+    links: &mut [LinkSet<L>],
+    two_hops: &mut [TwoHopSet<H>],
+) -> Result<(), AllocError>
+    requires iface { iface < length settings.now.interfaces }
+    requires links { length links.old ≡ length settings.now.interfaces }
+    requires two_hops { length two_hops.old ≡ length settings.now.interfaces }
+    requires ready { CanHear now settings.now.times.link_hold telling.now.shown }
+    requires least { slice_get telling.now.shown.sending 0 ≡ Some telling.now.least.addr }
+    ensures { OnOk result (HearsLinks (rule_of settings.now iface) (told_of telling.now) theirs.now own.now settings.now.times.link_hold now iface hello.now links.old links.new two_hops.old two_hops.new) }
+{
+    let alloc = settings.interfaces.allocator();
+    let listed = telling.listed.as_slice();
+    let keys = keys_of_both(alloc, theirs, listed)?;
+    let face = &settings.interfaces.as_slice()[iface];
+    let hearing = Hearing {
+        moment: now,
+        hold: settings.times.link_hold,
+        iface,
+        rule: &face.admit,
+        shown: &telling.shown,
+        theirs,
+        listed,
+        keys: &keys,
+    };
+    hear_interfaces(alloc, &hearing, telling.least, hello, own, links, two_hops)
+}
+
+/// Takes in a HELLO that isn't refused and isn't too much; `own` has the router's addresses. After want of memory the
+/// neighbourhood may only be dropped.
+pub fn hear<
+    L: Table<LinkKey, Link>,
+    H: Table<TwoHopKey, TwoHop>,
+    N: Table<Addr4, Neighbour>,
+    O: Table<Addr4, Lost>,
+>(
+    settings: &RouterSettings,
+    now: u64,
+    iface: usize,
+    hello: &Hello,
+    own: &[Addr4],
+    telling: &Telling,
+    links: &mut [LinkSet<L>],
+    two_hops: &mut [TwoHopSet<H>],
+    neighbours: &mut NeighbourSet<N>,
+    losts: &mut LostSet<O>,
+) -> Result<(), AllocError>
+    requires now { now < 2 ^ 62 }
+    requires iface { iface < length settings.now.interfaces }
+    requires lasts { 0 < hello.now.validity }
+    requires validity { hello.now.validity < 2 ^ 62 }
+    requires own { (a : Addr4) → Contains own.now a ↔ HasAddress settings.now a }
+    requires told { (sender : Addr4) × Tells settings.now iface sender hello.now (told_of telling.now) × IsFault settings.now sender hello.now None }
+    requires sound { SoundNeighbourhood settings.now now (near_with links.old two_hops.old neighbours.old losts.old) }
+    ensures { OnOk result (AfterHello settings.now now iface (told_of telling.now) hello.now
+        (near_with links.old two_hops.old neighbours.old losts.old) (near_with links.new two_hops.new neighbours.new losts.new)) }
+{
+    let alloc = settings.interfaces.allocator();
+    let until = now + settings.times.neighbour_hold;
+    let (theirs, before) = spoken_addresses(alloc, neighbours, telling)?;
+    hear_links(
+        settings, now, iface, hello, own, telling, &theirs, links, two_hops,
+    )?;
+    renew_neighbour(
+        alloc, links, now, telling, &before, until, neighbours, losts,
     )
 }

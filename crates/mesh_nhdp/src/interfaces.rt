@@ -11,7 +11,7 @@ ghost use Rattle.mesh_nhdp.specs.Calls.{TellsKeys};
 ghost use Rattle.mesh_nhdp.specs.Interfaces.{ExpiresOn, HearsAt, CanHear};
 
 use crate::drops::drop_ended;
-use crate::keys::keys;
+use crate::keys::put_table_keys;
 use mesh_atoms::{Addr4, Admit, Interface, Link, LinkKey, Shown, TwoHop, TwoHopKey};
 use mesh_expire::Table;
 use mesh_links::LinkSet;
@@ -25,8 +25,8 @@ fn link_keys<L: Table<LinkKey, Link>>(
 ) -> Result<Vec<LinkKey>, AllocError>
     ensures { IfOk result (λ keys. TellsKeys links.now keys.items) }
 {
-    let table = links.table();
-    let found = keys(alloc, table)?;
+    let mut found = Vec::new(alloc);
+    put_table_keys(&mut found, links.table())?;
     Ok(found)
 }
 

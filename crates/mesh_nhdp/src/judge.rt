@@ -1,17 +1,23 @@
 //! What is judged of a HELLO before anything changes.
-ghost use Rattle.std.specs.Prelude.{◌≡◌, ◌<◌, length, IfOk};
-ghost use Rattle.mesh_atoms.specs.Base.{base_of};
-ghost use Rattle.mesh_atoms.specs.Sound.{SoundNeighbourhood};
-ghost use Rattle.mesh_nhdp.specs.Judged.{Judges};
+ghost use Rattle.std.specs.Prelude.{◌≡◌, ◌<◌, ◌≤◌, ◌↔◌, List, Contains, length, IfOk};
+ghost use Rattle.mesh_atoms.specs.Base.{Base as Links, base_of};
+ghost use Rattle.mesh_atoms.specs.State.{HasAddress};
+ghost use Rattle.mesh_atoms.specs.declared.addr.Addr4.{Addr4};
+ghost use Rattle.mesh_atoms.specs.declared.settings.RouterSettings.{RouterSettings};
+ghost use Rattle.mesh_atoms.specs.declared.tuples.LinkKey.{LinkKey};
+ghost use Rattle.mesh_atoms.specs.declared.tuples.Link.{Link};
+ghost use Rattle.mesh_hello.specs.Telling.{told_of};
+ghost use Rattle.mesh_nhdp.specs.Judged.{IsFilledBy, Judges};
+ghost use Rattle.mesh_nhdp.specs.NhdpState.{near_with};
 
 use crate::full::is_full_of_addresses;
-use crate::nhdp::Nhdp;
 use crate::two_hop_rows::count_symmetric;
-use mesh_atoms::{Addr4, Base, Hello, Seq, TwoHop, TwoHopKey};
-use mesh_expire::{Bases, Table};
+use mesh_atoms::{Addr4, Base, Hello, Lost, Neighbour, RouterSettings, Seq, TwoHop, TwoHopKey};
+use mesh_expire::Table;
 use mesh_hello::{Telling, own_addresses, receive_fault, tell};
+use mesh_nbrs::{LostSet, NeighbourSet};
 use mesh_two_hops::TwoHopSet;
-use std::alloc::AllocError;
+use std::alloc::{AllocError, Global};
 
 /// How many 2-hop tuples an interface holds at most.
 const MOST_TWO_HOPS: usize = 16384;
@@ -33,41 +39,62 @@ fn count_on<H: Table<TwoHopKey, TwoHop>>(sets: &[TwoHopSet<H>], iface: usize) ->
     sets[iface].table().len()
 }
 
-impl<B: Bases> Nhdp<B> {
-    /// Judges the HELLO from that sender on an interface (RFC 6130, section 12.1, and the limits of the bases).
-    pub(crate) fn judge(
-        &self,
-        now: u64,
-        iface: usize,
-        sender: Addr4,
-        hello: &Hello,
-    ) -> Result<Judgement, AllocError>
-        requires iface { iface < length self.now.settings.interfaces }
-        requires sound { SoundNeighbourhood self.now.settings now self.now.near }
-        ensures { IfOk result (Judges self.now.settings iface sender hello.now self.now.near) }
-    {
-        let alloc = self.settings.interfaces.allocator();
-        let own = own_addresses(alloc, &self.settings)?;
-        match receive_fault(hello, sender, &own) {
-            Some(number) => return Ok(Judgement::Breaks(number)),
-            None => {}
-        }
-        let telling = tell(alloc, &self.settings, iface, sender, hello, &own)?;
-        let listed = telling.listed.as_slice();
-        if is_full_of_addresses(
-            alloc,
-            &self.neighbours,
-            &self.losts,
-            telling.originator,
-            listed,
-        )? {
-            return Ok(Judgement::Overfills(Base::Neighbours));
-        }
-        let count = count_symmetric(alloc, hello, &own, listed)?;
-        let held = count_on(&self.two_hops, iface);
-        if count > MOST_TWO_HOPS - held {
-            return Ok(Judgement::Overfills(Base::TwoHops));
-        }
-        Ok(Judgement::Fits(Seq::from_vec(own), telling))
+/// The base that the HELLO would fill, if there is one; `own` has the router's addresses.
+fn base_to_fill<H: Table<TwoHopKey, TwoHop>, N: Table<Addr4, Neighbour>, O: Table<Addr4, Lost>>(
+    alloc: Global,
+    two_hops: &[TwoHopSet<H>],
+    neighbours: &NeighbourSet<N>,
+    losts: &LostSet<O>,
+    iface: usize,
+    hello: &Hello,
+    own: &[Addr4],
+    telling: &Telling,
+) -> Result<Option<Base>, AllocError>
+    requires iface { iface < length two_hops.now }
+    requires few { length (base_of two_hops.now iface) ≤ 16384 }
+    ensures { IfOk result (λ base. (settings : RouterSettings) (links : List (Links LinkKey Link)) → ((a : Addr4) → Contains own.now a ↔ HasAddress settings a)
+        → IsFilledBy settings iface hello.now (near_with links two_hops.now neighbours.now losts.now) (told_of telling.now) base) }
+{
+    let listed = telling.listed.as_slice();
+    if is_full_of_addresses(alloc, neighbours, losts, telling.originator, listed)? {
+        return Ok(Some(Base::Neighbours));
+    }
+    let count = count_symmetric(alloc, hello, own, listed)?;
+    let held = count_on(two_hops, iface);
+    if count > MOST_TWO_HOPS - held {
+        Ok(Some(Base::TwoHops))
+    } else {
+        Ok(None)
+    }
+}
+
+/// Judges the HELLO from that sender on an interface (RFC 6130, section 12.1, and the limits of the bases).
+pub fn judge<H: Table<TwoHopKey, TwoHop>, N: Table<Addr4, Neighbour>, O: Table<Addr4, Lost>>(
+    settings: &RouterSettings,
+    two_hops: &[TwoHopSet<H>],
+    neighbours: &NeighbourSet<N>,
+    losts: &LostSet<O>,
+    iface: usize,
+    sender: Addr4,
+    hello: &Hello,
+) -> Result<Judgement, AllocError>
+    requires iface { iface < length settings.now.interfaces }
+    requires same { length two_hops.now ≡ length settings.now.interfaces }
+    requires few { length (base_of two_hops.now iface) ≤ 16384 }
+    ensures { IfOk result (λ judgement. (links : List (Links LinkKey Link)) →
+        Judges settings.now iface sender hello.now (near_with links two_hops.now neighbours.now losts.now) judgement) }
+{
+    let alloc = settings.interfaces.allocator();
+    let own = own_addresses(alloc, settings)?;
+    match receive_fault(hello, sender, &own) {
+        Some(number) => return Ok(Judgement::Breaks(number)),
+        None => {}
+    }
+    let telling = tell(alloc, settings, iface, sender, hello, &own)?;
+    match base_to_fill(
+        alloc, two_hops, neighbours, losts, iface, hello, &own, &telling,
+    )? {
+        Some(base) => Ok(Judgement::Overfills(base)),
+        None => Ok(Judgement::Fits(Seq::from_vec(own), telling)),
     }
 }

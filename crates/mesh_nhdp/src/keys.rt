@@ -8,23 +8,22 @@ use mesh_atoms::{Addr4, LinkKey};
 use mesh_expire::{Key, Table};
 use std::alloc::{AllocError, Global};
 
-/// The keys of a table, place by place.
-pub fn keys<K: Key + Drop, V, T: Table<K, V>>(
-    alloc: Global,
+/// Puts the keys of a table at the end of a list, place by place.
+pub fn put_table_keys<K: Key + Drop, V, T: Table<K, V>>(
+    keys: &mut Vec<K>,
     table: &T,
-) -> Result<Vec<K>, AllocError>
-    ensures { IfOk result (λ keys. keys.items ≡ keys_of (T.content table.now)) }
+) -> Result<(), AllocError>
+    ensures { OnOk result (keys.new.items ≡ keys.old.items ++ keys_of (T.content table.now)) }
 {
-    let mut keys = Vec::new(alloc);
     for place in 0..table.len() {
         match table.at(place) {
             Some((key, _, _)) => {
                 keys.push(*key)?;
             }
-            None => return Ok(keys),
+            None => return Ok(()),
         }
     }
-    Ok(keys)
+    Ok(())
 }
 
 /// Puts the keys of links with these least addresses at the end of a list.

@@ -75,7 +75,8 @@ fn addresses_of<T: Table<Addr4, Neighbour>>(
     Ok(addrs)
 }
 
-/// The addresses of the neighbours that a HELLO speaks of, and those of the symmetric ones among them, an address once for each neighbour that has it. Looks at no other neighbour.
+/// The addresses of the neighbours that a HELLO speaks of, and those of the symmetric ones among them, an address once for each
+/// neighbour that has it. Looks at no other neighbour.
 pub fn spoken_addresses<N: Table<Addr4, Neighbour>>(
     alloc: Global,
     neighbours: &NeighbourSet<N>,

@@ -3,7 +3,7 @@ ghost use Rattle.std.specs.Prelude.{◌≡◌, ℕ, [], length, replicate, IfOk}
 ghost use Rattle.mesh_atoms.specs.Sound.{SoundNeighbourhood};
 ghost use Rattle.mesh_nhdp.specs.NhdpState.{NhdpState, empty_near};
 
-use mesh_atoms::{Link, LinkKey, RouterSettings, TwoHop, TwoHopKey};
+use mesh_atoms::{Addr4, Link, LinkKey, Lost, Neighbour, RouterSettings, TwoHop, TwoHopKey};
 use mesh_expire::{Bases, Table};
 use mesh_links::LinkSet;
 use mesh_nbrs::{LostSet, NeighbourSet};
@@ -37,13 +37,14 @@ impl<B: Bases> Nhdp<B> {
         ensures empty { IfOk result (λ n. n.near ≡ empty_near (length settings.now.interfaces)) }
         ensures sound { IfOk result (λ n. (moment : ℕ) → SoundNeighbourhood n.settings moment n.near) }
     {
-        let count = settings.interfaces.len();
+        let settings = settings.copy()?;
+        let (links, two_hops, neighbours, losts) = no_tuples(alloc, settings.interfaces.len())?;
         Ok(Nhdp {
-            settings: settings.copy()?,
-            links: no_links(alloc, count)?,
-            two_hops: no_two_hops(alloc, count)?,
-            neighbours: NeighbourSet::new(alloc)?,
-            losts: LostSet::new(alloc)?,
+            settings,
+            links,
+            two_hops,
+            neighbours,
+            losts,
         })
     }
 
@@ -81,4 +82,34 @@ fn no_two_hops<T: Table<TwoHopKey, TwoHop>>(
         sets.push(TwoHopSet::new(alloc)?)?;
     }
     Ok(sets)
+}
+
+/// No links and no 2-hop tuples on so many interfaces, no neighbour, and no lost address.
+fn no_tuples<
+    L: Table<LinkKey, Link>,
+    H: Table<TwoHopKey, TwoHop>,
+    N: Table<Addr4, Neighbour>,
+    O: Table<Addr4, Lost>,
+>(
+    alloc: Global,
+    count: usize,
+) -> Result<
+    (
+        Vec<LinkSet<L>>,
+        Vec<TwoHopSet<H>>,
+        NeighbourSet<N>,
+        LostSet<O>,
+    ),
+    AllocError,
+>
+    ensures links { IfOk result (λ sets. sets.0.items ≡ replicate count []) }
+    ensures two_hops { IfOk result (λ sets. sets.1.items ≡ replicate count []) }
+    ensures neighbours { IfOk result (λ sets. sets.2 ≡ []) }
+    ensures losts { IfOk result (λ sets. sets.3 ≡ []) }
+{
+    let neighbours = NeighbourSet::new(alloc)?;
+    let losts = LostSet::new(alloc)?;
+    let links = no_links(alloc, count)?;
+    let two_hops = no_two_hops(alloc, count)?;
+    Ok((links, two_hops, neighbours, losts))
 }

@@ -4,7 +4,7 @@ ghost use Rattle.std.specs.List.{flat_map};
 ghost use Rattle.mesh_atoms.specs.Words.{IsAscending};
 ghost use Rattle.mesh_nhdp.specs.Said.{linked_addresses, symmetric_addresses, said_addresses};
 
-use crate::keys::keys;
+use crate::keys::put_table_keys;
 use mesh_atoms::{Addr4, Link, LinkKey, Lost, Neighbour, RouterSettings, Seq};
 use mesh_expire::Table;
 use mesh_hello::ascending;
@@ -81,7 +81,8 @@ pub fn said_addresses<L: Table<LinkKey, Link>, N: Table<Addr4, Neighbour>, O: Ta
     ensures same { IfOk result (λ list. (a : Addr4) →
         Contains list a ↔ Contains (said_addresses settings.now (L.content links.now) (N.content neighbours.now) (O.content losts.now)) a) }
 {
-    let mut list = keys(alloc, losts)?;
+    let mut list = Vec::new(alloc);
+    put_table_keys(&mut list, losts)?;
     put_own(&mut list, settings)?;
     put_linked(&mut list, links)?;
     put_symmetric(&mut list, neighbours)?;

@@ -1,6 +1,7 @@
 //! What a HELLO says of an address.
 ghost use Rattle.std.specs.Prelude.{◌≡◌, ◌↔◌, ◌<◌, IsTrue, Option, Some, None};
 ghost use Rattle.mesh_atoms.specs.Words.{IsValue};
+ghost use Rattle.mesh_atoms.specs.Base.{HasDistinctKeys, addr_eq};
 ghost use Rattle.mesh_atoms.specs.State.{HasAddressOn};
 ghost use Rattle.mesh_expire.specs.Table.{entry_of};
 ghost use Rattle.mesh_nhdp.specs.Said.{IsNeighbourWith, link_status_said, other_said, link_in_said, link_out_said, near_in_said, near_out_said, IsRelayOf, IsFloodingRelay, IsLocalOn};
@@ -17,10 +18,9 @@ pub fn neighbour_with<N: Table<Addr4, Neighbour>>(
     neighbours: &NeighbourSet<N>,
     addr: Addr4,
 ) -> Option<(&Addr4, &Neighbour, u64)>
+    requires { HasDistinctKeys addr_eq neighbours.now }
     ensures { IsValue (IsNeighbourWith neighbours.now addr) (entry_of result) }
 {
-    // The table has no originator twice.
-    let _ = neighbours.table();
     let Some((originator, neighbour, until)) = neighbours.with_address(addr) else {
         return None;
     };

@@ -1,14 +1,19 @@
 //! Expiry where nothing becomes of links.
-ghost use Rattle.std.specs.Prelude.{◌≡◌, ◌↔◌, ◌<◌, ◌^◌, ◌&&◌, ℕ, IsTrue, true, false, nat_eq, length};
-ghost use Rattle.mesh_atoms.specs.Base.{HasDistinctKeys, Expires, base_of, two_hop_eq};
+ghost use Rattle.std.specs.Prelude.{◌≡◌, ◌↔◌, ◌<◌, ◌^◌, ◌&&◌, ℕ, List, IsTrue, true, false, nat_eq, length};
+ghost use Rattle.mesh_atoms.specs.declared.addr.Addr4.{Addr4};
+ghost use Rattle.mesh_atoms.specs.declared.tuples.LinkKey.{LinkKey};
+ghost use Rattle.mesh_atoms.specs.declared.tuples.Link.{Link};
+ghost use Rattle.mesh_atoms.specs.declared.tuples.Neighbour.{Neighbour};
+ghost use Rattle.mesh_atoms.specs.Base.{Base, HasDistinctKeys, Expires, base_of, two_hop_eq};
 ghost use Rattle.mesh_atoms.specs.Quality.{rule_of};
 ghost use Rattle.mesh_links.specs.Links.{AllStay};
+ghost use Rattle.mesh_nhdp.specs.NhdpState.{near_with};
 ghost use Rattle.mesh_nhdp.specs.Staying.{LinksStay, ExpiresBeside};
 
-use crate::nhdp::Nhdp;
-use mesh_atoms::{Link, LinkKey, RouterSettings, TwoHop, TwoHopKey};
-use mesh_expire::{Bases, Table};
+use mesh_atoms::{Addr4, Link, LinkKey, Lost, RouterSettings, TwoHop, TwoHopKey};
+use mesh_expire::Table;
 use mesh_links::LinkSet;
+use mesh_nbrs::LostSet;
 use mesh_two_hops::TwoHopSet;
 
 /// Whether nothing becomes of the links of the interface of that number.
@@ -69,14 +74,16 @@ fn expire_two_hops<H: Table<TwoHopKey, TwoHop>>(sets: &mut [TwoHopSet<H>], now: 
     same
 }
 
-impl<B: Bases> Nhdp<B> {
-    /// Takes out the 2-hop tuples and the lost addresses that are expired; whether none is. Takes no memory.
-    pub(crate) fn expire_beside(&mut self, now: u64) -> bool
-        ensures beside { ExpiresBeside now result self.old.near self.new.near }
-        ensures settings { self.new.settings ≡ self.old.settings }
-    {
-        let same = expire_two_hops(&mut self.two_hops, now);
-        let gone = self.losts.expire(now);
-        none_went(same, gone)
-    }
+/// Takes out the 2-hop tuples and the lost addresses that are expired; whether none is. Takes no memory.
+pub fn expire_beside<H: Table<TwoHopKey, TwoHop>, O: Table<Addr4, Lost>>(
+    two_hops: &mut [TwoHopSet<H>],
+    losts: &mut LostSet<O>,
+    now: u64,
+) -> bool
+    ensures { (links : List (Base LinkKey Link)) (neighbours : Base Addr4 Neighbour) →
+        ExpiresBeside now result (near_with links two_hops.old neighbours losts.old) (near_with links two_hops.new neighbours losts.new) }
+{
+    let same = expire_two_hops(two_hops, now);
+    let gone = losts.expire(now);
+    none_went(same, gone)
 }

@@ -1,23 +1,20 @@
 //! The taking of a HELLO.
-ghost use Rattle.std.specs.Prelude.{◌≡◌, ◌<◌, ◌^◌, ◌↔◌, Contains, None, length, IfOk, OnOk};
-ghost use Rattle.mesh_atoms.specs.HelloTold.{Tells};
-ghost use Rattle.mesh_atoms.specs.State.{HasAddress};
-ghost use Rattle.mesh_atoms.specs.AfterHello.{AfterHello};
-ghost use Rattle.mesh_atoms.specs.TakesHello.{HelloAnswer, IsFault, TakesHello};
+ghost use Rattle.std.specs.Prelude.{◌≡◌, ◌<◌, ◌^◌, length, IfOk, OnOk};
+ghost use Rattle.mesh_atoms.specs.TakesHello.{HelloAnswer, TakesHello};
 ghost use Rattle.mesh_atoms.specs.Sound.{SoundNeighbourhood};
 ghost use Rattle.mesh_nhdp.specs.Judged.{IsAnswer};
-ghost use Rattle.mesh_hello.specs.Telling.{told_of};
+ghost use Rattle.mesh_nhdp.specs.NhdpState.{near_with};
 
-use crate::follow::renew_neighbour;
-use crate::hearing::hear_interfaces;
-use crate::interfaces::Hearing;
-use crate::judge::Judgement;
-use crate::keys::keys_of_both;
-use crate::near_addresses::spoken_addresses;
+use crate::hearing::hear;
+use crate::judge::{Judgement, judge};
 use crate::nhdp::Nhdp;
-use mesh_atoms::{Addr4, Base, Hello};
-use mesh_expire::Bases;
-use mesh_hello::Telling;
+use mesh_atoms::{
+    Addr4, Base, Hello, Link, LinkKey, Lost, Neighbour, RouterSettings, TwoHop, TwoHopKey,
+};
+use mesh_expire::{Bases, Table};
+use mesh_links::LinkSet;
+use mesh_nbrs::{LostSet, NeighbourSet};
+use mesh_two_hops::TwoHopSet;
 use std::alloc::AllocError;
 
 /// What became of a HELLO: it was taken, it broke the rule of that number (RFC 6130, section 12.1), or a base would have been
@@ -51,72 +48,63 @@ impl<B: Bases> Nhdp<B> {
         ensures sound { OnOk result (SoundNeighbourhood self.new.settings now self.new.near) }
         ensures settings { self.new.settings ≡ self.old.settings }
     {
-        match self.judge(now, iface, sender, hello)? {
-            Judgement::Breaks(number) => Ok(HelloTaken::Broken(number)),
-            Judgement::Overfills(base) => Ok(HelloTaken::Full(base)),
-            Judgement::Fits(own, telling) => {
-                self.hear(now, iface, hello, own.as_slice(), &telling)?;
-                Ok(HelloTaken::Done)
-            }
-        }
-    }
-
-    /// Takes in a HELLO that isn't refused and isn't too much; `own` has the router's addresses. After want of memory the
-    /// neighbourhood may only be dropped.
-    fn hear(
-        &mut self,
-        now: u64,
-        iface: usize,
-        hello: &Hello,
-        own: &[Addr4],
-        telling: &Telling,
-    ) -> Result<(), AllocError>
-        requires now { now < 2 ^ 62 }
-        requires iface { iface < length self.old.settings.interfaces }
-        requires lasts { 0 < hello.now.validity }
-        requires validity { hello.now.validity < 2 ^ 62 }
-        requires own { (a : Addr4) → Contains own.now a ↔ HasAddress self.old.settings a }
-        requires told { (sender : Addr4) × Tells self.old.settings iface sender hello.now (told_of telling.now) × IsFault self.old.settings sender hello.now None }
-        requires sound { SoundNeighbourhood self.old.settings now self.old.near }
-        ensures after { OnOk result (AfterHello self.old.settings now iface (told_of telling.now) hello.now self.old.near self.new.near) }
-        ensures settings { self.new.settings ≡ self.old.settings }
-    {
-        let settings = &self.settings;
-        let alloc = settings.interfaces.allocator();
-        let until = now + settings.times.neighbour_hold;
-        let face = &settings.interfaces.as_slice()[iface];
-        let listed = telling.listed.as_slice();
-        let (theirs, before) = spoken_addresses(alloc, &self.neighbours, telling)?;
-        let spoken_of = theirs.as_slice();
-        let keys = keys_of_both(alloc, spoken_of, listed)?;
-        let hearing = Hearing {
-            moment: now,
-            hold: settings.times.link_hold,
+        take_in(
+            &self.settings,
+            now,
             iface,
-            rule: &face.admit,
-            shown: &telling.shown,
-            theirs: spoken_of,
-            listed,
-            keys: &keys,
-        };
-        hear_interfaces(
-            alloc,
-            &hearing,
-            telling.least,
+            sender,
             hello,
-            own,
             &mut self.links,
             &mut self.two_hops,
-        )?;
-        renew_neighbour(
-            alloc,
-            &self.links,
-            now,
-            telling,
-            &before,
-            until,
             &mut self.neighbours,
             &mut self.losts,
         )
+    }
+}
+
+/// Takes in a HELLO from that sender on an interface, as `take_hello` does.
+fn take_in<
+    L: Table<LinkKey, Link>,
+    H: Table<TwoHopKey, TwoHop>,
+    N: Table<Addr4, Neighbour>,
+    O: Table<Addr4, Lost>,
+>(
+    settings: &RouterSettings,
+    now: u64,
+    iface: usize,
+    sender: Addr4,
+    hello: &Hello,
+    links: &mut [LinkSet<L>],
+    two_hops: &mut [TwoHopSet<H>],
+    neighbours: &mut NeighbourSet<N>,
+    losts: &mut LostSet<O>,
+) -> Result<HelloTaken, AllocError>
+    requires now { now < 2 ^ 62 }
+    requires iface { iface < length settings.now.interfaces }
+    requires lasts { 0 < hello.now.validity }
+    requires validity { hello.now.validity < 2 ^ 62 }
+    requires sound { SoundNeighbourhood settings.now now (near_with links.old two_hops.old neighbours.old losts.old) }
+    ensures ok { IfOk result (λ taken. (answer : HelloAnswer) × IsAnswer taken answer ×
+        TakesHello settings.now now iface sender hello.now (near_with links.old two_hops.old neighbours.old losts.old) (near_with links.new two_hops.new neighbours.new losts.new) answer) }
+    ensures sound { OnOk result (SoundNeighbourhood settings.now now (near_with links.new two_hops.new neighbours.new losts.new)) }
+{
+    match judge(settings, two_hops, neighbours, losts, iface, sender, hello)? {
+        Judgement::Breaks(number) => Ok(HelloTaken::Broken(number)),
+        Judgement::Overfills(base) => Ok(HelloTaken::Full(base)),
+        Judgement::Fits(own, telling) => {
+            hear(
+                settings,
+                now,
+                iface,
+                hello,
+                own.as_slice(),
+                &telling,
+                links,
+                two_hops,
+                neighbours,
+                losts,
+            )?;
+            Ok(HelloTaken::Done)
+        }
     }
 }

@@ -7,10 +7,11 @@ use Rattle.mesh_nbrs.specs.Losts.{SettlesAll}
 use Rattle.mesh_nbrs.specs.Neighbours.{RestoresBy}
 use Rattle.mesh_nhdp.specs.declared.near_addresses.Wanted.TheVariants.{Symmetric}
 use Rattle.mesh_nhdp.specs.Wanted.{IsWantedAddress}
+use Rattle.mesh_nhdp.proofs.Expiry.{on_ok}
 use Rattle.mesh_nhdp.proofs.follow.follow_links.Goals as goal
 
 pub returns : goal.returns
-returns g c = record {
+returns g c = on_ok c.settle_lost.result (λ settles. record {
   distinct = c.expire.ensures.distinct;
   distinct_losts = c.settle_lost.ensures.distinct;
   notes = c.in_ok-notes.notes.items;
@@ -18,5 +19,5 @@ returns g c = record {
   neighbours = λ o. subst (λ (notes : List LinkNote). RestoresBy notes (find addr_eq c.args.neighbours.now o) (find addr_eq c.expire.new.self o)) c.deref.ensures.value (c.in_ok-expire.ensures.ok o);
   after = c.in_ok-after.after.items;
   after_is = λ a. subst (λ (b : Base Addr4 Neighbour). Contains c.in_ok-after.after.items a ↔ IsWantedAddress b Symmetric a) c.table.ensures.content (c.in_ok-after.ensures a);
-  losts = subst (λ (after : List Addr4). SettlesAll c.args.before.now after c.args.until c.args.losts.now c.settle_lost.new.self) c.deref-2.ensures.value c.in_ok-settle_lost.ensures.ok;
-}
+  losts = subst (λ (after : List Addr4). SettlesAll c.args.before.now after c.args.until c.args.losts.now c.settle_lost.new.self) c.deref-2.ensures.value settles;
+}) c.settle_lost.ensures.ok

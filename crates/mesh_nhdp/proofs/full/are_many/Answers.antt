@@ -1,4 +1,4 @@
-use Rattle.std.proofs.Common.{◌≡◌, ℕ, ◌↔◌, ◌⊎◌, ◌++◌, ◌∙◌, ap, sym, subst, Contains, IsTrue}
+use Rattle.std.proofs.Common.{◌≡◌, ℕ, ◌↔◌, ◌⊎◌, ◌∙◌, refl, ap, sym, subst, Contains, IsTrue}
 use Rattle.std.specs.Prelude.{nat_lt}
 use Rattle.std.specs.Map.{keys_of}
 use Rattle.mesh_atoms.specs.declared.addr.Addr4.{Addr4}
@@ -19,9 +19,6 @@ returns g c near is_neighbours is_losts =
     let P : Addr4 → Type 0 = λ a. IsHeld near a ⊎ (Contains c.args.listed.now a ⊎ (a ≡ c.args.originator)) in
     subst (λ (n : ℕ). IsTrue (nat_lt 1024 n) ↔ AreMoreThan 1024 P) (sym c.len-count.ensures)
     (are_more 1024 P c.ascending-held.result c.ascending-held.ensures.order (λ a. iff_on (c.ascending-held.ensures.same a)
-    (held_addresses near c.args.listed.now c.args.originator c.in_ok-addrs.addrs.items c.in_ok-originators.originators.items c.in_ok-lost.lost.items _ _ _ _
+    (held_addresses near c.args.listed.now c.args.originator c.in_ok-addrs.addrs.items _ _ _ _ _ _
     (subst (λ (b : Base Addr4 Neighbour). (x : Addr4) → Contains c.in_ok-addrs.addrs.items x ↔ IsWantedAddress b Each x) (c.table.ensures.content ∙ sym is_neighbours) c.in_ok-addrs.ensures)
-    (c.in_ok-originators.ensures ∙ ap (λ (b : Base Addr4 Neighbour). keys_of b) (c.table-2.ensures.content ∙ sym is_neighbours))
-    (c.in_ok-lost.ensures ∙ ap (λ (b : Base Addr4 Lost). keys_of b) (c.table-3.ensures.content ∙ sym is_losts))
-    (c.in_ok-extend_from_slice.ensures.items ∙ ap (λ more. c.in_ok-addrs.addrs.items ++ more) c.deref.ensures.value)
-    (c.in_ok-extend_from_slice-2.ensures.items ∙ ap (λ more. c.extend_from_slice.new.self.items ++ more) c.deref-2.ensures.value) c.in_ok-extend_from_slice-3.ensures.items c.in_ok-push.ensures.items a)))
+    (ap (λ (b : Base Addr4 Neighbour). keys_of b) (sym is_neighbours)) (ap (λ (b : Base Addr4 Lost). keys_of b) (sym is_losts)) refl refl refl c.in_ok-put_known.ensures a)))

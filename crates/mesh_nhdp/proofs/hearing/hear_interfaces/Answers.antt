@@ -4,6 +4,30 @@ use Rattle.mesh_nhdp.proofs.AllHears.{is_base, written_other, updates_at, stood_
 use Rattle.mesh_nhdp.proofs.Expiry.{on_ok}
 use Rattle.mesh_nhdp.proofs.hearing.hear_interfaces.Goals as goal
 
+pub bounds-links-hearing : goal.bounds-links-hearing
+bounds-links-hearing g c = c.requires.iface
+
+pub change_all-requires-clause-ready : goal.change_all-requires-clause-ready
+change_all-requires-clause-ready g c = c.requires.ready
+
+pub change_all-requires-clause-length : goal.change_all-requires-clause-length
+change_all-requires-clause-length g c = c.requires.same
+
+pub returns-in_err-change_all-clause-links : goal.returns-in_err-change_all-clause-links
+returns-in_err-change_all-clause-links g c = c.change_all.ensures.links
+
+pub bounds-links-hearing-2 : goal.bounds-links-hearing-2
+bounds-links-hearing-2 g c = omega (arith, c.change_all.ensures.links, c.requires.iface)
+
+pub overflow_add-until : goal.overflow_add-until
+overflow_add-until g c = omega (arith, c.requires.ready.now_range, c.requires.ready.validity_range)
+
+pub bounds-two_hops-hearing : goal.bounds-two_hops-hearing
+bounds-two_hops-hearing g c = omega (arith, c.change_all.ensures.two_hops, c.requires.iface, c.requires.same)
+
+pub returns-clause-links : goal.returns-clause-links
+returns-clause-links g c = c.change_all.ensures.links
+
 pub returns-clause-hears : goal.returns-clause-hears
 returns-clause-hears g c =
     let counts = c.in_ok-change_all.ensures.links in

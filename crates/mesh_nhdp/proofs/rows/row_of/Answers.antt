@@ -3,6 +3,15 @@ use Rattle.mesh_expire.specs.Table.{entry_of}
 use Rattle.mesh_nhdp.proofs.OneRow.{row_of, lent_some, link_by}
 use Rattle.mesh_nhdp.proofs.rows.row_of.Goals as goal
 
+pub neighbour_with-neighbour-requires : goal.neighbour_with-neighbour-requires
+neighbour_with-neighbour-requires g c = c.requires.apart.distinct_neighbours
+
+pub is_lost-requires : goal.is_lost-requires
+is_lost-requires g c = c.requires.apart.distinct_losts
+
+pub returns-clause-addr : goal.returns-clause-addr
+returns-clause-addr g c = c.host.ensures
+
 pub returns-clause-says : goal.returns-clause-says
 returns-clause-says g c =
     row_of c.args.settings.now c.args.links.now c.args.neighbours.now (g.O.Table.content c.args.losts.now) c.args.relays.now c.args.iface c.args.now _ c.args.addr

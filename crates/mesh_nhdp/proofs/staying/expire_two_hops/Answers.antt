@@ -1,7 +1,20 @@
-use Rattle.std.proofs.Common.{◌<◌, ◌∙◌, length, arith, get_or}
+use Rattle.std.proofs.Common.{◌<◌, ◌∙◌, length, refl, arith, get_or}
 use Rattle.mesh_nhdp.proofs.AllHears.{is_base}
 use Rattle.mesh_nhdp.proofs.BesideWalk.{goes_over_one}
 use Rattle.mesh_nhdp.proofs.staying.expire_two_hops.Goals as goal
+
+pub loop-i-init : goal.loop-i-init
+loop-i-init g c = record {
+  lengths = refl;
+  done = λ k lt. absurd (omega (arith, lt));
+  distinct = λ k lt. absurd (omega (arith, lt));
+  left = λ k past. refl;
+  same = λ h. refl;
+  changed = λ h. absurd cc;
+}
+
+pub bounds-sets-i : goal.bounds-sets-i
+bounds-sets-i g c = omega (arith, c.loop-i-test.true, c.loop-i.invariant.lengths)
 
 pub loop-i-preserved : goal.loop-i-preserved
 loop-i-preserved g c =
@@ -11,3 +24,18 @@ loop-i-preserved g c =
     (record { lengths = old.lengths; done = old.done; distinct = old.distinct; left = old.left; unchanged = old.same; changed = old.changed }) within
     (is_base c.loop-i.sets c.loop-i.i c.index-sets-i.result within c.index-sets-i.is ∙ c.index-sets-i.is) c.expire-gone.ensures.expired c.expire-gone.ensures.distinct c.expire-gone.ensures.count c.expire-gone.ensures.none c.none_went-same.ensures in
     record { lengths = step.lengths; done = step.done; distinct = step.distinct; left = step.left; same = step.unchanged; changed = step.changed }
+
+pub returns-clause-length : goal.returns-clause-length
+returns-clause-length g c = c.loop-i.invariant.lengths
+
+pub returns-clause-each : goal.returns-clause-each
+returns-clause-each g c i lt = c.loop-i.invariant.done i (omega (arith, lt, c.loop-i-test.false))
+
+pub returns-clause-distinct : goal.returns-clause-distinct
+returns-clause-distinct g c i lt = c.loop-i.invariant.distinct i (omega (arith, lt, c.loop-i-test.false))
+
+pub returns-clause-same : goal.returns-clause-same
+returns-clause-same g c = c.loop-i.invariant.same
+
+pub returns-clause-changed : goal.returns-clause-changed
+returns-clause-changed g c h = let (k, less, fewer) = c.loop-i.invariant.changed h in (k, fewer)

@@ -1,33 +1,43 @@
-use Rattle.std.proofs.Common.{refl, subst}
-use Rattle.mesh_atoms.specs.TakesHello.{Taken, Broken_at, Breaks, Takes}
-use Rattle.mesh_nhdp.specs.declared.judge.Judgement.{Judgement}
-use Rattle.mesh_nhdp.specs.Judged.{Judges}
-use Rattle.mesh_hello.specs.Telling.{told_of}
-use Rattle.mesh_nhdp.proofs.Judges.{own_at, overfull, taken_sound}
+use Rattle.std.proofs.Common.{◌<◌, length, ap, sym, subst, arith}
+use Rattle.mesh_atoms.specs.Sound.{SoundNeighbourhood}
+use Rattle.mesh_atoms.specs.TakesHello.{TakesHello}
+use Rattle.mesh_nhdp.specs.NhdpState.{NhdpState}
+use Rattle.mesh_nhdp.proofs.Expiry.{on_ok}
+use Rattle.mesh_nhdp.proofs.Held.{both_ok, given, back, carried}
 use Rattle.mesh_nhdp.proofs.nhdp.Nhdp.take_hello.Goals as goal
 
-pub hear-requires-clause-own : goal.hear-requires-clause-own
-hear-requires-clause-own g c =
-    own_at c.args.self.now.settings c.args.self.now.settings c.in-Fits.own c.as_slice.result.now refl c.as_slice.ensures (subst (λ (j : Judgement). Judges c.args.self.now.settings c.args.iface c.args.sender c.args.hello.now c.args.self.now.near j) c.in-Fits.is c.in_ok-number.ensures).4
+pub take_in-requires-clause-now : goal.take_in-requires-clause-now
+take_in-requires-clause-now g c = c.requires.now
 
-pub returns-in-Breaks-clause-ok : goal.returns-in-Breaks-clause-ok
-returns-in-Breaks-clause-ok g c = (
-  Broken_at c.in-Breaks.number,
-  refl,
-  Breaks c.in-Breaks.number (subst (λ (j : Judgement). Judges c.args.self.now.settings c.args.iface c.args.sender c.args.hello.now c.args.self.now.near j) c.in-Breaks.is c.in_ok-number.ensures),
-)
+pub take_in-requires-clause-iface : goal.take_in-requires-clause-iface
+take_in-requires-clause-iface g c = subst (λ (h : NhdpState). c.args.iface < length h.settings.interfaces) (sym c.self.view_is) c.requires.iface
 
-pub returns-in-Overfills-clause-ok : goal.returns-in-Overfills-clause-ok
-returns-in-Overfills-clause-ok g c =
-    overfull c.args.self.now.settings c.args.now c.args.iface c.args.sender c.args.hello.now c.args.self.now.near c.in-Overfills.base (subst (λ (j : Judgement). Judges c.args.self.now.settings c.args.iface c.args.sender c.args.hello.now c.args.self.now.near j) c.in-Overfills.is c.in_ok-number.ensures)
+pub take_in-requires-clause-lasts : goal.take_in-requires-clause-lasts
+take_in-requires-clause-lasts g c = c.requires.lasts
 
-pub returns-in_ok-hear-in-Fits-clause-ok : goal.returns-in_ok-hear-in-Fits-clause-ok
-returns-in_ok-hear-in-Fits-clause-ok g c =
-    let judged = (subst (λ (j : Judgement). Judges c.args.self.now.settings c.args.iface c.args.sender c.args.hello.now c.args.self.now.near j) c.in-Fits.is c.in_ok-number.ensures) in
-    (Taken, refl, Takes (told_of c.in-Fits.telling) judged.0 judged.1 judged.2 judged.3 c.in_ok-hear-in-Fits.ensures.after)
+pub take_in-requires-clause-validity : goal.take_in-requires-clause-validity
+take_in-requires-clause-validity g c = c.requires.validity
 
-pub returns-in_ok-hear-in-Fits-clause-sound : goal.returns-in_ok-hear-in-Fits-clause-sound
-returns-in_ok-hear-in-Fits-clause-sound g c =
-    let judged = (subst (λ (j : Judgement). Judges c.args.self.now.settings c.args.iface c.args.sender c.args.hello.now c.args.self.now.near j) c.in-Fits.is c.in_ok-number.ensures) in
-    taken_sound c.args.self.now.settings c.hear.new.self.settings c.args.now c.args.iface c.args.sender c.args.hello.now (told_of c.in-Fits.telling) c.args.self.now.near c.hear.new.self.near judged.0 judged.1 c.requires.lasts
-    c.requires.sound c.in_ok-hear-in-Fits.ensures.after judged.2 judged.3 c.in_ok-hear-in-Fits.ensures.settings
+pub take_in-requires-clause-sound : goal.take_in-requires-clause-sound
+take_in-requires-clause-sound g c = given (λ s n. SoundNeighbourhood s c.args.now n) c.args.self.now _ c.deref_mut.result.now c.deref_mut-2.result.now c.self.view_is c.deref_mut.ensures.value c.deref_mut-2.ensures.value c.requires.sound
+
+pub returns-clause-ok : goal.returns-clause-ok
+returns-clause-ok g c =
+    let begins = given (λ s n. SoundNeighbourhood s c.args.now n) c.args.self.now _ c.deref_mut.result.now c.deref_mut-2.result.now c.self.view_is c.deref_mut.ensures.value c.deref_mut-2.ensures.value c.requires.sound in
+    both_ok c.take_in.result c.take_in.ensures.sound c.take_in.ensures.ok (λ taken sound told.
+    let (answer, is, takes) = told in (
+      answer,
+      is,
+      carried (λ s o n. TakesHello s c.args.now c.args.iface c.args.sender c.args.hello.now o n answer) c.args.self.now _ c.args.now c.args.now c.deref_mut.result.now c.take_in.new.links c.deref_mut-2.result.now c.take_in.new.two_hops c.take_in.new.neighbours c.take_in.new.losts
+          c.self.inside.links.len c.self.inside.two_hops.len c.self.view_is c.deref_mut.ensures.value c.deref_mut-2.ensures.value (omega (arith, c.deref_mut.ensures.len)) (omega (arith, c.deref_mut-2.ensures.len)) begins sound takes,
+    ))
+
+pub returns-clause-sound : goal.returns-clause-sound
+returns-clause-sound g c =
+    let begins = given (λ s n. SoundNeighbourhood s c.args.now n) c.args.self.now _ c.deref_mut.result.now c.deref_mut-2.result.now c.self.view_is c.deref_mut.ensures.value c.deref_mut-2.ensures.value c.requires.sound in
+    on_ok c.take_in.result (λ sound. back (λ n. SoundNeighbourhood c.self.inside.settings c.args.now n) c.self.inside.settings c.args.now c.args.now c.deref_mut.result.now c.self.inside.links.items c.take_in.new.links
+    c.deref_mut-2.result.now c.self.inside.two_hops.items c.take_in.new.two_hops c.self.inside.neighbours c.take_in.new.neighbours c.self.inside.losts c.take_in.new.losts c.self.inside.links.len c.self.inside.two_hops.len
+    c.deref_mut.ensures.value c.deref_mut-2.ensures.value (omega (arith, c.deref_mut.ensures.len)) (omega (arith, c.deref_mut-2.ensures.len)) begins sound sound) c.take_in.ensures.sound
+
+pub returns-clause-settings : goal.returns-clause-settings
+returns-clause-settings g c = ap (λ (h : NhdpState). h.settings) c.self.view_is

@@ -1,0 +1,47 @@
+use Rattle.mesh_hello.proofs.Local.{fails_so}
+use Rattle.mesh_nhdp.specs.NhdpState.{near_with}
+use Rattle.mesh_nhdp.proofs.Unchanged.{as_it_was, beside_live, beside_sound}
+use Rattle.std.proofs.Common.{refl}
+use Rattle.mesh_nhdp.proofs.expire.expire_or_stay.Goals as goal
+
+pub links_stay-requires-clause-now : goal.links_stay-requires-clause-now
+links_stay-requires-clause-now g c = c.requires.now
+
+pub links_stay-requires-clause-same : goal.links_stay-requires-clause-same
+links_stay-requires-clause-same g c = c.requires.sound.interfaces
+
+pub returns-then-links_stay-clause-live : goal.returns-then-links_stay-clause-live
+returns-then-links_stay-clause-live g c =
+    beside_live c.args.settings.now c.args.last c.args.now c.expire_beside.result (near_with c.args.links.now c.args.two_hops.now c.args.neighbours.now c.args.losts.now) (near_with c.args.links.now c.expire_beside.new.two_hops c.args.neighbours.now c.expire_beside.new.losts) c.requires.sound (c.links_stay.ensures.0 c.if-links_stay.true)
+    (c.expire_beside.ensures c.args.links.now c.args.neighbours.now)
+
+pub returns-then-links_stay-clause-sound : goal.returns-then-links_stay-clause-sound
+returns-then-links_stay-clause-sound g c =
+    beside_sound c.args.settings.now c.args.settings.now c.args.last c.args.now c.expire_beside.result (near_with c.args.links.now c.args.two_hops.now c.args.neighbours.now c.args.losts.now) (near_with c.args.links.now c.expire_beside.new.two_hops c.args.neighbours.now c.expire_beside.new.losts) c.requires.sound (c.links_stay.ensures.0 c.if-links_stay.true)
+    (c.expire_beside.ensures c.args.links.now c.args.neighbours.now) refl
+
+pub returns-then-links_stay-clause-same : goal.returns-then-links_stay-clause-same
+returns-then-links_stay-clause-same g c same = (c.expire_beside.ensures c.args.links.now c.args.neighbours.now).unchanged same
+
+pub returns-then-links_stay-clause-when : goal.returns-then-links_stay-clause-when
+returns-then-links_stay-clause-when g c =
+    as_it_was c.args.settings.now c.args.last c.args.now c.expire_beside.result (near_with c.args.links.now c.args.two_hops.now c.args.neighbours.now c.args.losts.now) (near_with c.args.links.now c.expire_beside.new.two_hops c.args.neighbours.now c.expire_beside.new.losts) c.requires.sound (c.links_stay.ensures.0 c.if-links_stay.true)
+    (c.expire_beside.ensures c.args.links.now c.args.neighbours.now)
+
+pub expire_all-requires-clause-now : goal.expire_all-requires-clause-now
+expire_all-requires-clause-now g c = c.requires.now
+
+pub expire_all-requires-clause-sound : goal.expire_all-requires-clause-sound
+expire_all-requires-clause-sound g c = (c.args.last, c.requires.sound)
+
+pub returns-in_ok-expire_all-clause-live : goal.returns-in_ok-expire_all-clause-live
+returns-in_ok-expire_all-clause-live g c = c.in_ok-expire_all.ensures.live
+
+pub returns-in_ok-expire_all-clause-sound : goal.returns-in_ok-expire_all-clause-sound
+returns-in_ok-expire_all-clause-sound g c = c.in_ok-expire_all.ensures.sound
+
+pub returns-in_ok-expire_all-clause-same : goal.returns-in_ok-expire_all-clause-same
+returns-in_ok-expire_all-clause-same g c same = absurd cc
+
+pub returns-in_ok-expire_all-clause-when : goal.returns-in_ok-expire_all-clause-when
+returns-in_ok-expire_all-clause-when g c = ((λ same. absurd cc), (λ all. absurd (fails_so _ c.links_stay.ensures c.if-links_stay.false all.links)))

@@ -1,0 +1,54 @@
+use Rattle.std.proofs.Common.{◌<◌, ◌^◌, sym, subst, inl, arith}
+use Rattle.mesh_atoms.specs.declared.hello.LocalIf.TheVariants.{This}
+use Rattle.mesh_atoms.specs.HelloTold.{TellsLocal}
+use Rattle.mesh_hello.specs.Telling.{told_of}
+use Rattle.mesh_hello.proofs.Mines.{sending_some, more_some}
+use Rattle.mesh_nhdp.proofs.Expiry.{on_ok}
+use Rattle.mesh_nhdp.proofs.Receipt.{receipt_runs}
+use Rattle.mesh_nhdp.proofs.hearing.hear.Goals as goal
+
+pub overflow_add-until : goal.overflow_add-until
+overflow_add-until g c = let most = c.args.settings.now.times.sound.neighbour_hold_range.most in omega (arith, c.requires.now, most)
+
+pub hear_links-requires-clause-iface : goal.hear_links-requires-clause-iface
+hear_links-requires-clause-iface g c = c.requires.iface
+
+pub hear_links-requires-clause-links : goal.hear_links-requires-clause-links
+hear_links-requires-clause-links g c = c.requires.sound.interfaces
+
+pub hear_links-requires-clause-two_hops : goal.hear_links-requires-clause-two_hops
+hear_links-requires-clause-two_hops g c = c.requires.sound.two_hop_interfaces
+
+pub hear_links-requires-clause-ready : goal.hear_links-requires-clause-ready
+hear_links-requires-clause-ready g c =
+    let (sender, told, fault) = c.requires.told in
+    let most = c.args.settings.now.times.sound.link_hold_range.most in
+    record {
+      now_range = c.requires.now;
+      hold_range = omega (arith, most);
+      lasts = subst (λ n. 0 < n) (sym told.validity) c.requires.lasts;
+      validity_range = subst (λ n. n < 2 ^ 62) (sym told.validity) c.requires.validity;
+      ascending = told.sending.0;
+      some = sending_some c.args.telling.now.shown.sending (λ b. TellsLocal c.args.hello.now b This) sender told.sending.1;
+    }
+
+pub hear_links-requires-clause-least : goal.hear_links-requires-clause-least
+hear_links-requires-clause-least g c = let (sender, told, fault) = c.requires.told in told.least
+
+pub renew_neighbour-requires-clause-ascending : goal.renew_neighbour-requires-clause-ascending
+renew_neighbour-requires-clause-ascending g c = let (sender, told, fault) = c.requires.told in told.listed.0
+
+pub renew_neighbour-requires-clause-some : goal.renew_neighbour-requires-clause-some
+renew_neighbour-requires-clause-some g c =
+    let (sender, told, fault) = c.requires.told in
+    more_some c.args.telling.now.shown.sending c.args.telling.now.listed (sending_some c.args.telling.now.shown.sending (λ b. TellsLocal c.args.hello.now b This) sender told.sending.1)
+    (λ a has. (told.listed.1 a).1 (inl ((told.sending.1 a).0 has)))
+
+pub returns : goal.returns
+returns g c =
+    let (sender, told, fault) = c.requires.told in
+    on_ok c.renew_neighbour.result
+    (λ R. receipt_runs c.args.settings.now c.args.now c.args.iface sender (told_of c.args.telling.now) c.args.hello.now c.args.links.now c.hear_links.new.links c.args.two_hops.now c.hear_links.new.two_hops
+    c.args.neighbours.now c.renew_neighbour.new.neighbours c.args.losts.now c.renew_neighbour.new.losts c.in_ok-theirs.theirs.items c.deref.result.now c.args.own.now c.in_ok-theirs.before.items c.deref-2.result.now told fault
+    (subst (λ n. 0 < n) (sym told.validity) c.requires.lasts) c.requires.sound c.requires.iface c.requires.own c.in_ok-theirs.ensures.symmetric c.in_ok-theirs.ensures.all c.deref.ensures.value c.deref-2.ensures.value
+    c.in_ok-hear_links.ensures R) c.renew_neighbour.ensures

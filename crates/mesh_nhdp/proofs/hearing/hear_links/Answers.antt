@@ -1,0 +1,26 @@
+use Rattle.std.proofs.Common.{refl, arith}
+use Rattle.mesh_atoms.specs.Quality.{rule_of}
+use Rattle.mesh_hello.specs.Telling.{told_of}
+use Rattle.mesh_nhdp.proofs.Expiry.{on_ok, face_rule}
+use Rattle.mesh_nhdp.proofs.Receipt.{links_heard}
+use Rattle.mesh_nhdp.proofs.hearing.hear_links.Goals as goal
+
+pub hear_interfaces-requires-clause-ready : goal.hear_interfaces-requires-clause-ready
+hear_interfaces-requires-clause-ready g c = c.requires.ready
+
+pub hear_interfaces-requires-clause-least : goal.hear_interfaces-requires-clause-least
+hear_interfaces-requires-clause-least g c = c.requires.least
+
+pub hear_interfaces-requires-clause-iface : goal.hear_interfaces-requires-clause-iface
+hear_interfaces-requires-clause-iface g c = omega (arith, c.requires.links, c.requires.iface)
+
+pub hear_interfaces-requires-clause-same : goal.hear_interfaces-requires-clause-same
+hear_interfaces-requires-clause-same g c = omega (arith, c.requires.links, c.requires.two_hops)
+
+pub returns : goal.returns
+returns g c =
+    on_ok c.hear_interfaces.result
+    (λ H. links_heard c.index-as_slice-iface.result.admit (rule_of c.args.settings.now c.args.iface) (told_of c.args.telling.now) c.args.theirs.now c.as_slice-listed.result.now c.args.own.now c.in_ok-keys.keys.items c.deref.result.now
+    c.args.settings.now.times.link_hold c.args.now c.args.iface c.args.hello.now c.args.links.now c.hear_interfaces.new.links c.args.two_hops.now c.hear_interfaces.new.two_hops
+    (face_rule c.args.settings.now c.args.settings.now c.args.iface c.as_slice.result.now c.index-as_slice-iface.result c.as_slice.ensures refl c.requires.iface c.index-as_slice-iface.is) c.as_slice-listed.ensures c.deref.ensures.value
+    c.in_ok-keys.ensures c.hear_interfaces.ensures.links H) c.hear_interfaces.ensures.hears
