@@ -1,9 +1,7 @@
 //! The router core: a router with its bases, and what follows from them.
-ghost use Rattle.std.specs.Prelude.{◌≡◌, length, IfOk, false};
+ghost use Rattle.std.specs.Prelude.{◌≡◌, IfOk, false};
 ghost use Rattle.mesh_atoms.specs.Sound.{Sound};
-ghost use Rattle.mesh_atoms.specs.State.{State};
-ghost use Rattle.mesh_machine.specs.Machine.{IsOpening, no_bases, due};
-ghost use Rattle.mesh_renewal.specs.Renewed.{HasDerived, HasNext};
+ghost use Rattle.mesh_machine.specs.Machine.{IsOpening, due};
 
 use mesh_atoms::RouterSettings;
 use mesh_expire::Bases;
@@ -24,7 +22,8 @@ pub struct Core<B: Bases> {
 impl<B: Bases> Model for Core<B> {
     ghost use Rattle.std.specs.Prelude.{◌≡◌, false};
     ghost use Rattle.mesh_atoms.specs.Sound.{Sound};
-    ghost use Rattle.mesh_core.specs.Holding.{CoreValue, state_of};
+    ghost use Rattle.mesh_core.specs.Holding.{CoreValue};
+    ghost use Rattle.mesh_events.specs.Holding.{state_of};
 
     ghost Value = { CoreValue };
 
@@ -40,7 +39,13 @@ impl<B: Bases> Core<B> {
         ensures sound { IfOk result (λ core. Sound core.state) }
         ensures whole { IfOk result (λ core. core.is_spent ≡ false) }
     {
-        opened(alloc, &settings)
+        let derived = opening(alloc, &settings)?;
+        let holding = Holding::new(alloc, &settings)?;
+        Ok(Core {
+            holding,
+            derived,
+            spent: false,
+        })
     }
 
     /// The moment at which the next HELLO or TC is due.
@@ -56,41 +61,4 @@ impl<B: Bases> Core<B> {
     {
         self.spent
     }
-}
-
-// A router with these settings before its first event.
-fn opened<B: Bases>(alloc: Global, settings: &RouterSettings) -> Result<Core<B>, AllocError>
-    ensures opening { IfOk result (λ core. IsOpening settings.now core.state) }
-    ensures whole { IfOk result (λ core. core.is_spent ≡ false) }
-{
-    let derived = opening(alloc, settings)?;
-    with_no_bases(alloc, settings, derived)
-}
-
-// A router that holds nothing.
-fn with_no_bases<B: Bases>(
-    alloc: Global,
-    settings: &RouterSettings,
-    derived: Derived,
-) -> Result<Core<B>, AllocError>
-    requires opens { (s : State) → s.settings ≡ settings.now → s.bases ≡ no_bases (length settings.now.interfaces) → HasDerived s derived → HasNext s derived → IsOpening settings.now s }
-    ensures opening { IfOk result (λ core. IsOpening settings.now core.state) }
-    ensures whole { IfOk result (λ core. core.is_spent ≡ false) }
-{
-    match Holding::new(alloc, settings) {
-        Ok(holding) => Ok(Core {
-            holding,
-            derived,
-            spent: false,
-        }),
-        Err(e) => {
-            let_go(derived);
-            Err(e)
-        }
-    }
-}
-
-// Lets go of what follows from the bases.
-fn let_go(derived: Derived) {
-    let _ = derived;
 }
