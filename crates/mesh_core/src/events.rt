@@ -48,16 +48,10 @@ impl<B: Bases> Core<B> {
         if self.spent {
             return Err(AllocError);
         }
-        self.spent = true;
-        let answer = hear_frame(
-            &mut self.holding,
-            &mut self.derived,
-            Arrival { now, iface, sender },
-            bytes,
-            out,
-        )?;
-        self.spent = false;
-        Ok(answer)
+        let arrival = Arrival { now, iface, sender };
+        let came = hear_frame(&mut self.holding, &mut self.derived, arrival, bytes, out);
+        self.spent = came.is_err();
+        came
     }
 
     /// The clock ticks, at a moment below 2^62 that isn't before the last event: what is due is sent, put at the end of `out`. Want of
@@ -81,9 +75,8 @@ impl<B: Bases> Core<B> {
         if self.spent {
             return Err(AllocError);
         }
-        self.spent = true;
-        tick(&mut self.holding, &mut self.derived, now, out)?;
-        self.spent = false;
-        Ok(())
+        let came = tick(&mut self.holding, &mut self.derived, now, out);
+        self.spent = came.is_err();
+        came
     }
 }

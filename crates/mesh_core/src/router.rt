@@ -39,13 +39,7 @@ impl<B: Bases> Core<B> {
         ensures sound { IfOk result (λ core. Sound core.state) }
         ensures whole { IfOk result (λ core. core.is_spent ≡ false) }
     {
-        let derived = opening(alloc, &settings)?;
-        let holding = Holding::new(alloc, &settings)?;
-        Ok(Core {
-            holding,
-            derived,
-            spent: false,
-        })
+        opened(alloc, &settings)
     }
 
     /// The moment at which the next HELLO or TC is due.
@@ -61,4 +55,28 @@ impl<B: Bases> Core<B> {
     {
         self.spent
     }
+}
+
+// A router with these settings before its first event.
+fn opened<B: Bases>(alloc: Global, settings: &RouterSettings) -> Result<Core<B>, AllocError>
+    ensures opening { IfOk result (λ core. IsOpening settings.now core.state) }
+    ensures whole { IfOk result (λ core. core.is_spent ≡ false) }
+{
+    let derived = opening(alloc, settings)?;
+    match Holding::new(alloc, settings) {
+        Ok(holding) => Ok(Core {
+            holding,
+            derived,
+            spent: false,
+        }),
+        Err(e) => {
+            let_go(derived);
+            Err(e)
+        }
+    }
+}
+
+// Lets go of what follows from the bases.
+fn let_go(derived: Derived) {
+    let _ = derived;
 }
