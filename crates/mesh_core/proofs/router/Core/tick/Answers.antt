@@ -1,4 +1,4 @@
-use Rattle.std.proofs.Common.{List, refl, subst, ◌≡◌, ◌<◌}
+use Rattle.std.proofs.Common.{List, refl, subst, ◌≡◌}
 use Rattle.std.specs.Prelude.{All}
 use Rattle.mesh_atoms.specs.State.{State}
 use Rattle.mesh_machine.specs.declared.frame.Frame.{Frame}
