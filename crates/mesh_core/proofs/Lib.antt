@@ -1,1 +1,1 @@
-mod Derivations
+mod Spent

@@ -1,10 +1,8 @@
 //! The router core: a router that hears frames, whose clock ticks, and which sends frames, as one step of the machine for each.
 #![tactic(auto)]
 
-mod ending;
-mod hear;
+mod events;
 mod router;
-mod tick;
 mod views;
 
 pub use mesh_holding::Outbox;

@@ -1,9 +1,7 @@
 //! The router core: a router with its bases, and what follows from them.
-ghost use Rattle.std.specs.Prelude.{◌≡◌, length, IfOk, false};
+ghost use Rattle.std.specs.Prelude.{◌≡◌, IfOk, false};
 ghost use Rattle.mesh_atoms.specs.Sound.{Sound};
-ghost use Rattle.mesh_atoms.specs.State.{State};
-ghost use Rattle.mesh_machine.specs.Machine.{IsOpening, no_bases, due};
-ghost use Rattle.mesh_renewal.specs.Renewed.{HasDerived, HasNext};
+ghost use Rattle.mesh_machine.specs.Machine.{IsOpening, due};
 
 use mesh_atoms::RouterSettings;
 use mesh_expire::Bases;
@@ -24,7 +22,8 @@ pub struct Core<B: Bases> {
 impl<B: Bases> Model for Core<B> {
     ghost use Rattle.std.specs.Prelude.{◌≡◌, false};
     ghost use Rattle.mesh_atoms.specs.Sound.{Sound};
-    ghost use Rattle.mesh_core.specs.Holding.{CoreValue, state_of};
+    ghost use Rattle.mesh_core.specs.Holding.{CoreValue};
+    ghost use Rattle.mesh_events.specs.Holding.{state_of};
 
     ghost Value = { CoreValue };
 
@@ -64,19 +63,6 @@ fn opened<B: Bases>(alloc: Global, settings: &RouterSettings) -> Result<Core<B>,
     ensures whole { IfOk result (λ core. core.is_spent ≡ false) }
 {
     let derived = opening(alloc, settings)?;
-    with_no_bases(alloc, settings, derived)
-}
-
-// A router that holds nothing.
-fn with_no_bases<B: Bases>(
-    alloc: Global,
-    settings: &RouterSettings,
-    derived: Derived,
-) -> Result<Core<B>, AllocError>
-    requires opens { (s : State) → s.settings ≡ settings.now → s.bases ≡ no_bases (length settings.now.interfaces) → HasDerived s derived → HasNext s derived → IsOpening settings.now s }
-    ensures opening { IfOk result (λ core. IsOpening settings.now core.state) }
-    ensures whole { IfOk result (λ core. core.is_spent ≡ false) }
-{
     match Holding::new(alloc, settings) {
         Ok(holding) => Ok(Core {
             holding,

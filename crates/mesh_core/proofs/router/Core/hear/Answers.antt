@@ -1,67 +1,102 @@
-use Rattle.std.proofs.Common.{List, arith, refl}
+use Rattle.std.proofs.Common.{List, length, arith, refl, subst, sym, ◌≡◌, ◌≤◌, ◌<◌}
 use Rattle.std.specs.Prelude.{All}
 use Rattle.mesh_routes.proofs.ChoiceLaw.{if_ok_more}
+use Rattle.mesh_atoms.specs.State.{State}
 use Rattle.mesh_machine.specs.declared.arrival.Arrival.{Arrival}
 use Rattle.mesh_machine.specs.declared.frame.Frame.{Frame}
-use Rattle.mesh_machine.specs.Machine.{Hears, Heard_frame}
+use Rattle.mesh_machine.specs.Frames.{sent_since}
+use Rattle.mesh_machine.specs.Machine.{Hear, Heard_frame, Hears, Step, due}
 use Rattle.mesh_machine.specs.Sendable.{IsSendable}
-use Rattle.mesh_machine.proofs.Effects.{since, appends, hears_settings, hears_last, hears_due}
+use Rattle.mesh_machine.proofs.Effects.{appends, since, hears_settings, hears_last, hears_due}
 use Rattle.mesh_machine.proofs.Sendables.{hears_sendable}
 use Rattle.mesh_sending.proofs.Written.{on_ok_of}
+use Rattle.mesh_core.specs.Holding.{CoreValue}
+use Rattle.mesh_core.proofs.Spent.{where_whole}
+use Rattle.mesh_events.specs.Holding.{state_of}
 use Rattle.mesh_core.proofs.router.Core.hear.Goals as goal
+
+pub hear_frame-came-requires-clause-now : goal.hear_frame-came-requires-clause-now
+hear_frame-came-requires-clause-now g c = c.requires.now
+
+pub hear_frame-came-requires-clause-iface : goal.hear_frame-came-requires-clause-iface
+hear_frame-came-requires-clause-iface g c = subst (λ (v : CoreValue). c.args.iface < length v.state.settings.interfaces) (sym c.self.view_is) c.requires.iface
+
+pub hear_frame-came-requires-clause-sound : goal.hear_frame-came-requires-clause-sound
+hear_frame-came-requires-clause-sound g c = c.self.invariant c.if-self.false
+
+pub invariant_of-self : goal.invariant_of-self
+invariant_of-self g c = where_whole c.hear_frame-came.result c.is_err-self-inside.ensures.value c.hear_frame-came.ensures.sound
 
 pub returns-clause-step : goal.returns-clause-step
 returns-clause-step g c =
     let arrival : Arrival = record { now = c.args.now; iface = c.args.iface; sender = c.args.sender } in
-    if_ok_more c.hear_frame.result (λ answer (sent, out, hears). Heard_frame answer (since (λ (f : List Frame). Hears c.args.self.now.state arrival c.args.bytes.now answer f c.hear_frame.new.self.state) c.args.out.now c.hear_frame.new.out sent out hears)) c.hear_frame.ensures.hears
+    let before : State = state_of c.self.inside.holding c.self.inside.derived in
+    let after : State = state_of c.hear_frame-came.new.holding c.hear_frame-came.new.derived in
+    if_ok_more c.hear_frame-came.result (λ answer (sent, out, hears).
+    subst (λ (v : CoreValue). Step v.state (Hear arrival c.args.bytes.now) (sent_since c.args.out.now c.hear_frame-came.new.out) after) c.self.view_is
+    (Heard_frame answer (since (λ (f : List Frame). Hears before arrival c.args.bytes.now answer f after) c.args.out.now c.hear_frame-came.new.out sent out hears))) c.hear_frame-came.ensures.hears
 
 pub returns-clause-answer : goal.returns-clause-answer
 returns-clause-answer g c =
     let arrival : Arrival = record { now = c.args.now; iface = c.args.iface; sender = c.args.sender } in
-    if_ok_more c.hear_frame.result (λ answer (sent, out, hears). since (λ (f : List Frame). Hears c.args.self.now.state arrival c.args.bytes.now answer f c.hear_frame.new.self.state) c.args.out.now c.hear_frame.new.out sent out hears) c.hear_frame.ensures.hears
+    let before : State = state_of c.self.inside.holding c.self.inside.derived in
+    let after : State = state_of c.hear_frame-came.new.holding c.hear_frame-came.new.derived in
+    if_ok_more c.hear_frame-came.result (λ answer (sent, out, hears).
+    subst (λ (v : CoreValue). Hears v.state arrival c.args.bytes.now answer (sent_since c.args.out.now c.hear_frame-came.new.out) after) c.self.view_is
+    (since (λ (f : List Frame). Hears before arrival c.args.bytes.now answer f after) c.args.out.now c.hear_frame-came.new.out sent out hears)) c.hear_frame-came.ensures.hears
+
+pub returns-clause-refused : goal.returns-clause-refused
+returns-clause-refused g c = c.hear_frame-came.ensures.refused
 
 pub returns-clause-appended : goal.returns-clause-appended
 returns-clause-appended g c =
     let arrival : Arrival = record { now = c.args.now; iface = c.args.iface; sender = c.args.sender } in
-    appends (λ answer sent. Hears c.args.self.now.state arrival c.args.bytes.now answer sent c.hear_frame.new.self.state) c.hear_frame.result c.args.out.now c.hear_frame.new.out c.hear_frame.ensures.hears c.hear_frame.ensures.wanting
+    let before : State = state_of c.self.inside.holding c.self.inside.derived in
+    let after : State = state_of c.hear_frame-came.new.holding c.hear_frame-came.new.derived in
+    appends (λ answer sent. Hears before arrival c.args.bytes.now answer sent after) c.hear_frame-came.result c.args.out.now c.hear_frame-came.new.out c.hear_frame-came.ensures.hears c.hear_frame-came.ensures.wanting
 
 pub returns-clause-sendable : goal.returns-clause-sendable
 returns-clause-sendable g c =
     let arrival : Arrival = record { now = c.args.now; iface = c.args.iface; sender = c.args.sender } in
-    on_ok_of c.hear_frame.result (λ answer (sent, out, hears). since (λ (f : List Frame). All (IsSendable c.args.self.now.state.settings) f) c.args.out.now c.hear_frame.new.out sent out (hears_sendable c.args.self.now.state arrival c.args.bytes.now answer sent c.hear_frame.new.self.state (λ i. omega (arith, c.type_inv.bytes i)) hears)) c.hear_frame.ensures.hears
+    let before : State = state_of c.self.inside.holding c.self.inside.derived in
+    let after : State = state_of c.hear_frame-came.new.holding c.hear_frame-came.new.derived in
+    on_ok_of c.hear_frame-came.result (λ answer (sent, out, hears).
+    subst (λ (v : CoreValue). All (IsSendable v.state.settings) (sent_since c.args.out.now c.hear_frame-came.new.out)) c.self.view_is
+    (since (λ (f : List Frame). All (IsSendable before.settings) f) c.args.out.now c.hear_frame-came.new.out sent out
+    (hears_sendable before arrival c.args.bytes.now answer sent after (λ i. omega (arith, c.type_inv.bytes i)) hears))) c.hear_frame-came.ensures.hears
 
 pub returns-clause-settings : goal.returns-clause-settings
 returns-clause-settings g c =
     let arrival : Arrival = record { now = c.args.now; iface = c.args.iface; sender = c.args.sender } in
-    on_ok_of c.hear_frame.result (λ answer (sent, out, hears). hears_settings c.args.self.now.state arrival c.args.bytes.now answer sent c.hear_frame.new.self.state hears) c.hear_frame.ensures.hears
+    let before : State = state_of c.self.inside.holding c.self.inside.derived in
+    let after : State = state_of c.hear_frame-came.new.holding c.hear_frame-came.new.derived in
+    on_ok_of c.hear_frame-came.result (λ answer (sent, out, hears).
+    subst (λ (v : CoreValue). after.settings ≡ v.state.settings) c.self.view_is (hears_settings before arrival c.args.bytes.now answer sent after hears)) c.hear_frame-came.ensures.hears
 
 pub returns-clause-last : goal.returns-clause-last
 returns-clause-last g c =
     let arrival : Arrival = record { now = c.args.now; iface = c.args.iface; sender = c.args.sender } in
-    on_ok_of c.hear_frame.result (λ answer (sent, out, hears). hears_last c.args.self.now.state arrival c.args.bytes.now answer sent c.hear_frame.new.self.state c.requires.later hears) c.hear_frame.ensures.hears
+    let before : State = state_of c.self.inside.holding c.self.inside.derived in
+    let after : State = state_of c.hear_frame-came.new.holding c.hear_frame-came.new.derived in
+    on_ok_of c.hear_frame-came.result (λ answer (sent, out, hears).
+    hears_last before arrival c.args.bytes.now answer sent after (subst (λ (v : CoreValue). v.state.last ≤ c.args.now) (sym c.self.view_is) c.requires.later) hears) c.hear_frame-came.ensures.hears
 
 pub returns-clause-due : goal.returns-clause-due
 returns-clause-due g c =
     let arrival : Arrival = record { now = c.args.now; iface = c.args.iface; sender = c.args.sender } in
-    on_ok_of c.hear_frame.result (λ answer (sent, out, hears). hears_due c.args.self.now.state arrival c.args.bytes.now answer sent c.hear_frame.new.self.state hears) c.hear_frame.ensures.hears
-
-pub hear_frame-requires-clause-now : goal.hear_frame-requires-clause-now
-hear_frame-requires-clause-now g c = c.requires.now
-
-pub hear_frame-requires-clause-iface : goal.hear_frame-requires-clause-iface
-hear_frame-requires-clause-iface g c = c.requires.iface
-
-pub returns-clause-refused : goal.returns-clause-refused
-returns-clause-refused g c = c.hear_frame.ensures.refused
+    let before : State = state_of c.self.inside.holding c.self.inside.derived in
+    let after : State = state_of c.hear_frame-came.new.holding c.hear_frame-came.new.derived in
+    on_ok_of c.hear_frame-came.result (λ answer (sent, out, hears).
+    subst (λ (v : CoreValue). due after ≡ due v.state) c.self.view_is (hears_due before arrival c.args.bytes.now answer sent after hears)) c.hear_frame-came.ensures.hears
 
 pub returns-clause-sound : goal.returns-clause-sound
-returns-clause-sound g c = c.hear_frame.ensures.sound
+returns-clause-sound g c = c.hear_frame-came.ensures.sound
 
 pub returns-clause-spent : goal.returns-clause-spent
-returns-clause-spent g c = c.hear_frame.ensures.spent
+returns-clause-spent g c = c.is_err-self-inside.ensures.value
 
 pub returns-clause-wanting : goal.returns-clause-wanting
-returns-clause-wanting g c = c.hear_frame.ensures.wanting
+returns-clause-wanting g c = c.hear_frame-came.ensures.wanting
 
 pub returns-then-self-clause-step : goal.returns-then-self-clause-step
 returns-then-self-clause-step g c = tt

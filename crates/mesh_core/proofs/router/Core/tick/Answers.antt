@@ -1,48 +1,72 @@
-use Rattle.std.proofs.Common.{List, refl}
+use Rattle.std.proofs.Common.{List, refl, subst, ◌≡◌}
 use Rattle.std.specs.Prelude.{All}
+use Rattle.mesh_atoms.specs.State.{State}
 use Rattle.mesh_machine.specs.declared.frame.Frame.{Frame}
-use Rattle.mesh_machine.specs.Machine.{TicksAt, Ticked}
+use Rattle.mesh_machine.specs.Frames.{sent_since}
+use Rattle.mesh_machine.specs.Machine.{Step, Tick, Ticked, TicksAt}
 use Rattle.mesh_machine.specs.Sendable.{IsSendable}
-use Rattle.mesh_machine.proofs.Effects.{since, appends_on, ticks_due}
+use Rattle.mesh_machine.proofs.Effects.{appends_on, since, ticks_due}
 use Rattle.mesh_machine.proofs.Sendables.{ticks_sendable}
 use Rattle.mesh_sending.proofs.Written.{on_ok_more}
+use Rattle.mesh_core.specs.Holding.{CoreValue}
+use Rattle.mesh_core.proofs.Spent.{where_whole}
+use Rattle.mesh_events.specs.Holding.{state_of}
 use Rattle.mesh_core.proofs.router.Core.tick.Goals as goal
+
+pub tick-came-requires-clause-now : goal.tick-came-requires-clause-now
+tick-came-requires-clause-now g c = c.requires.now
+
+pub tick-came-requires-clause-sound : goal.tick-came-requires-clause-sound
+tick-came-requires-clause-sound g c = c.self.invariant c.if-self.false
+
+pub invariant_of-self : goal.invariant_of-self
+invariant_of-self g c = where_whole c.tick-came.result c.is_err-self-inside.ensures.value c.tick-came.ensures.sound
 
 pub returns-clause-step : goal.returns-clause-step
 returns-clause-step g c =
-    on_ok_more c.send_due.result (λ (sent, out, ticks). Ticked (since (λ (f : List Frame). TicksAt c.args.self.now.state c.args.now f c.send_due.new.self.state) c.args.out.now c.send_due.new.out sent out ticks)) c.send_due.ensures.ticks
+    let before : State = state_of c.self.inside.holding c.self.inside.derived in
+    let after : State = state_of c.tick-came.new.holding c.tick-came.new.derived in
+    on_ok_more c.tick-came.result (λ (sent, out, ticks).
+    subst (λ (v : CoreValue). Step v.state (Tick c.args.now) (sent_since c.args.out.now c.tick-came.new.out) after) c.self.view_is
+    (Ticked (since (λ (f : List Frame). TicksAt before c.args.now f after) c.args.out.now c.tick-came.new.out sent out ticks))) c.tick-came.ensures.ticks
 
 pub returns-clause-appended : goal.returns-clause-appended
 returns-clause-appended g c =
-    appends_on (λ sent. TicksAt c.args.self.now.state c.args.now sent c.send_due.new.self.state) c.send_due.result c.args.out.now c.send_due.new.out c.send_due.ensures.ticks c.send_due.ensures.wanting
+    let before : State = state_of c.self.inside.holding c.self.inside.derived in
+    let after : State = state_of c.tick-came.new.holding c.tick-came.new.derived in
+    appends_on (λ sent. TicksAt before c.args.now sent after) c.tick-came.result c.args.out.now c.tick-came.new.out c.tick-came.ensures.ticks c.tick-came.ensures.wanting
 
 pub returns-clause-sendable : goal.returns-clause-sendable
 returns-clause-sendable g c =
-    on_ok_more c.send_due.result (λ (sent, out, ticks). since (λ (f : List Frame). All (IsSendable c.args.self.now.state.settings) f) c.args.out.now c.send_due.new.out sent out (ticks_sendable c.args.self.now.state c.args.now sent c.send_due.new.self.state ticks)) c.send_due.ensures.ticks
+    let before : State = state_of c.self.inside.holding c.self.inside.derived in
+    let after : State = state_of c.tick-came.new.holding c.tick-came.new.derived in
+    on_ok_more c.tick-came.result (λ (sent, out, ticks).
+    subst (λ (v : CoreValue). All (IsSendable v.state.settings) (sent_since c.args.out.now c.tick-came.new.out)) c.self.view_is
+    (since (λ (f : List Frame). All (IsSendable before.settings) f) c.args.out.now c.tick-came.new.out sent out (ticks_sendable before c.args.now sent after ticks))) c.tick-came.ensures.ticks
 
 pub returns-clause-settings : goal.returns-clause-settings
 returns-clause-settings g c =
-    on_ok_more c.send_due.result (λ (sent, out, ticks). ticks.renews.settings) c.send_due.ensures.ticks
+    let after : State = state_of c.tick-came.new.holding c.tick-came.new.derived in
+    on_ok_more c.tick-came.result (λ (sent, out, ticks). subst (λ (v : CoreValue). after.settings ≡ v.state.settings) c.self.view_is ticks.renews.settings) c.tick-came.ensures.ticks
 
 pub returns-clause-last : goal.returns-clause-last
 returns-clause-last g c =
-    on_ok_more c.send_due.result (λ (sent, out, ticks). ticks.renews.last) c.send_due.ensures.ticks
+    on_ok_more c.tick-came.result (λ (sent, out, ticks). ticks.renews.last) c.tick-came.ensures.ticks
 
 pub returns-clause-due : goal.returns-clause-due
 returns-clause-due g c =
-    on_ok_more c.send_due.result (λ (sent, out, ticks). ticks_due c.args.self.now.state c.args.now sent c.send_due.new.self.state ticks) c.send_due.ensures.ticks
-
-pub send_due-requires-clause-now : goal.send_due-requires-clause-now
-send_due-requires-clause-now g c = c.requires.now
+    let before : State = state_of c.self.inside.holding c.self.inside.derived in
+    let after : State = state_of c.tick-came.new.holding c.tick-came.new.derived in
+    on_ok_more c.tick-came.result (λ (sent, out, ticks). ticks_due before c.args.now sent after ticks) c.tick-came.ensures.ticks
 
 pub returns-clause-sound : goal.returns-clause-sound
-returns-clause-sound g c = c.send_due.ensures.sound
+returns-clause-sound g c = c.tick-came.ensures.sound
 
 pub returns-clause-spent : goal.returns-clause-spent
-returns-clause-spent g c = c.send_due.ensures.spent
+returns-clause-spent g c = c.is_err-self-inside.ensures.value
 
 pub returns-clause-wanting : goal.returns-clause-wanting
-returns-clause-wanting g c = c.send_due.ensures.wanting
+returns-clause-wanting g c = c.tick-came.ensures.wanting
 
 pub returns-then-self-clause-step : goal.returns-then-self-clause-step
 returns-then-self-clause-step g c = tt

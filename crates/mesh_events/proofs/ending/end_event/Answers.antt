@@ -3,7 +3,7 @@ use Rattle.mesh_atoms.specs.declared.settings.RouterSettings.{RouterSettings}
 use Rattle.mesh_atoms.specs.Sound.{SoundTopology}
 use Rattle.mesh_atoms.specs.State.{Bases}
 use Rattle.mesh_renewal.specs.Renewed.{RenewsTo}
-use Rattle.mesh_core.proofs.ending.end_event.Goals as goal
+use Rattle.mesh_events.proofs.ending.end_event.Goals as goal
 
 pub returns-then-quiet-clause-renews : goal.returns-then-quiet-clause-renews
 returns-then-quiet-clause-renews g c =

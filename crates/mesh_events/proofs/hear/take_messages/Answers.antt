@@ -4,15 +4,15 @@ use Rattle.mesh_atoms.specs.State.{State, IsOriginator}
 use Rattle.mesh_packet.specs.declared.packet.Span.{Span}
 use Rattle.mesh_packet.specs.declared.packet.Message.{Message}
 use Rattle.mesh_packet.specs.Fields.{fields_of_message, fields_of_packet}
-use Rattle.mesh_core.specs.Holding.{state_of}
+use Rattle.mesh_events.specs.Holding.{state_of}
 use Rattle.mesh_holding.proofs.Quiet.{both_true, quiet_after}
 use Rattle.mesh_machine.specs.Laws.{SoundBases}
 use Rattle.mesh_machine.specs.Messages.{TakesMessages}
 use Rattle.mesh_machine.proofs.Soundness.{bases_of, messages_sound}
 use Rattle.mesh_machine.proofs.Takes.{packet_spelled}
 use Rattle.mesh_sending.proofs.Written.{on_ok_more}
-use Rattle.mesh_core.proofs.Derivations.{ends_quietly, has_own, live_held}
-use Rattle.mesh_core.proofs.hear.take_messages.Goals as goal
+use Rattle.mesh_events.proofs.Derivations.{ends_quietly, has_own, live_held}
+use Rattle.mesh_events.proofs.hear.take_messages.Goals as goal
 
 pub expire-requires-clause-sound : goal.expire-requires-clause-sound
 expire-requires-clause-sound g c = bases_of (state_of c.args.holding.now c.args.derived.now) c.requires.sound

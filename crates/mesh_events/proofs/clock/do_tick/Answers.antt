@@ -5,12 +5,12 @@ use Rattle.mesh_atoms.specs.Advertised.{AreTcRows}
 use Rattle.mesh_atoms.specs.State.{State}
 use Rattle.mesh_renewal.specs.declared.derived.Derived.{Derived}
 use Rattle.mesh_machine.specs.declared.frame.Frame.{Frame}
-use Rattle.mesh_core.specs.Holding.{state_of}
+use Rattle.mesh_events.specs.Holding.{state_of}
 use Rattle.mesh_nhdp.proofs.TcCounts.{tc_rows_few}
 use Rattle.mesh_sending.proofs.Written.{on_ok_more}
-use Rattle.mesh_core.proofs.Derivations.{derived_after, ends_quietly, has_own, live_held}
+use Rattle.mesh_events.proofs.Derivations.{derived_after, ends_quietly, has_own, live_held}
 use Rattle.mesh_machine.proofs.Soundness.{bases_of}
-use Rattle.mesh_core.proofs.tick.do_tick.Goals as goal
+use Rattle.mesh_events.proofs.clock.do_tick.Goals as goal
 
 pub expire-requires-clause-sound : goal.expire-requires-clause-sound
 expire-requires-clause-sound g c = bases_of (state_of c.args.holding.now c.args.derived.now) c.requires.sound

@@ -1,6 +1,6 @@
 //! How an event ends.
 ghost use Rattle.std.specs.Prelude.{◌≡◌, OnOk, IsTrue};
-ghost use Rattle.mesh_core.specs.Holding.{EndsQuietly};
+ghost use Rattle.mesh_events.specs.Holding.{EndsQuietly};
 ghost use Rattle.mesh_machine.specs.Laws.{SoundBases};
 ghost use Rattle.mesh_renewal.specs.Renewed.{RenewsTo};
 

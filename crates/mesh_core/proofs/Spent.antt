@@ -1,0 +1,8 @@
+-- What holds of a core that isn't spent.
+use Rattle.std.proofs.Common.{◌≡◌, Bool, true, false, sym, Result, Ok, Err, ◌∙◌}
+use Rattle.std.specs.Prelude.{is_err, OnOk}
+
+-- where an event that met want of memory leaves the core spent, what holds after each other event holds of a core that isn't
+pub where_whole : {A E : Type 0} {P : Type 0} {spent : Bool} (came : Result A E) → spent ≡ is_err came → OnOk came P → spent ≡ false → P
+where_whole (Ok x) says holds whole = holds
+where_whole (Err e) says holds whole = let both : true ≡ false = sym says ∙ whole in absurd cc
