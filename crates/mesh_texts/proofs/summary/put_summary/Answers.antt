@@ -1,6 +1,6 @@
 use Rattle.std.proofs.Common.{◌++◌, refl}
 use Rattle.mesh_texts.specs.Network.{counts_line, settled_text}
-use Rattle.mesh_texts.proofs.Joined.{on_ok, three}
+use Rattle.mesh_lines.proofs.Joined.{on_ok, three}
 use Rattle.mesh_texts.proofs.summary.put_summary.Goals as goal
 
 pub returns-clause-ok : goal.returns-clause-ok
