@@ -2,7 +2,7 @@
 use Rattle.std.specs.Prelude.{◌≡◌, ℕ, List, [], ◌∷◌, length, Option, Some, None, codes, decimal}
 use Rattle.mesh_atoms.specs.declared.settings.Scenario.{Scenario}
 use Rattle.mesh_made.specs.Routes.{IsGreatest}
-use Rattle.mesh_texts.specs.Marks.{line_of}
+use Rattle.mesh_lines.specs.Marks.{line_of}
 use Rattle.mesh_words.specs.declared.job.Kind.{Kind}
 use Rattle.mesh_words.specs.declared.job.Kind.TheVariants as kind
 

@@ -7,10 +7,11 @@ ghost use Rattle.mesh_texts.specs.Network.{counts_line, settled_text};
 
 use crate::routes::{greatest_of, route_count};
 use mesh_atoms::{Bytes, Scenario};
+use mesh_lines::{Piece, put_line};
 use mesh_machine::RouterView;
 use mesh_radio::Counts;
 use mesh_settled::Gap;
-use mesh_texts::{Piece, put_counts_line, put_line, put_settled};
+use mesh_texts::{put_counts_line, put_settled};
 use mesh_words::Kind;
 use std::alloc::AllocError;
 

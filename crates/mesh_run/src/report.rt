@@ -6,8 +6,9 @@ ghost use Rattle.mesh_run.specs.Text.{run_line, IsReport};
 
 use mesh_atoms::Bytes;
 use mesh_io::{Sink, Stop, write_all};
+use mesh_lines::{Piece, put_line};
 use mesh_machine::RouterView;
-use mesh_texts::{Piece, put_line, put_section};
+use mesh_sections::put_section;
 use mesh_turns::Ended;
 use std::alloc::{AllocError, Global};
 

@@ -1,7 +1,5 @@
 pub mod Cuts
-mod Digits
 pub mod Gaps
-pub mod Joined
 mod LineLists
 pub mod LineTexts
 pub mod Marked
@@ -11,5 +9,4 @@ pub mod RunStates
 mod Sections
 mod States
 pub mod TraceSteps
-mod Tuples
 mod WholeTexts

@@ -1,5 +1,5 @@
 -- The text of a run read back: whether it was settled, and the routes under a router's name.
-use Rattle.std.proofs.Common.{◌≡◌, ◌↔◌, ℕ, zero, suc, ◌<◌, Bool, true, false, List, [], ◌∷◌, ◌++◌, length, map, get_or, Option, Some, None, refl, sym, ap, ◌∙◌, subst, arith, append_assoc, codes, length-append}
+use Rattle.std.proofs.Common.{◌≡◌, ◌↔◌, ℕ, zero, suc, ◌<◌, Bool, true, false, List, [], ◌∷◌, ◌++◌, length, map, Option, Some, None, refl, sym, ap, ◌∙◌, subst, arith, append_assoc, codes, length-append}
 use Rattle.std.specs.Prelude.{slice_get, Contains, option_map}
 use Rattle.std.specs.List.{AllByRecursion as Each, IsDistinct}
 use Rattle.std.proofs.lemmas.Cmp.{nat_list_eq_equiv}
@@ -16,8 +16,8 @@ use Rattle.mesh_atoms.specs.Settled.{At}
 use Rattle.mesh_atoms.specs.State.{State}
 use Rattle.mesh_atoms.proofs.Kept.{distinct_is}
 use Rattle.mesh_gaps.specs.declared.gap.Gap.{Gap}
-use Rattle.mesh_texts.specs.Marks.{dotted, face_name}
-use Rattle.mesh_texts.specs.Lines.{router_line, row_line, route_line}
+use Rattle.mesh_lines.specs.Marks.{dotted, face_name}
+use Rattle.mesh_lines.specs.Lines.{router_line, row_line, route_line}
 use Rattle.mesh_texts.specs.Network.{IsGapOf, settled_text}
 use Rattle.mesh_texts.specs.Runs.{WholeRun, TellsWhetherSettled, IsRunText}
 use Rattle.mesh_texts.specs.Printed.{IsLine, BeginsWith, SaysSettled, IsPlain, ArePlain, StandsUnder, PrintsBy}

@@ -1,10 +1,5 @@
 pub mod Events
 pub mod Laws
-pub mod Lines
-pub mod Marks
 pub mod Network
-pub mod Order
-pub mod Pieces
 pub mod Printed
 pub mod Runs
-pub mod Section

@@ -1,7 +1,20 @@
 use Rattle.std.proofs.Common.{◌++◌, refl}
+use Rattle.mesh_tlv.proofs.Grows.{grows_on}
 use Rattle.mesh_texts.specs.Network.{counts_line, settled_text}
-use Rattle.mesh_texts.proofs.Joined.{on_ok, three}
+use Rattle.mesh_lines.proofs.Joined.{on_ok, three}
 use Rattle.mesh_texts.proofs.summary.put_summary.Goals as goal
+
+pub put_sections-requires : goal.put_sections-requires
+put_sections-requires g c = c.requires
+
+pub returns-in_err-put_counts_line-clause-kept : goal.returns-in_err-put_counts_line-clause-kept
+returns-in_err-put_counts_line-clause-kept g c = c.put_counts_line.ensures.kept
+
+pub returns-in_err-put_sections-clause-kept : goal.returns-in_err-put_sections-clause-kept
+returns-in_err-put_sections-clause-kept g c = grows_on c.put_counts_line.ensures.kept c.put_sections.ensures.kept
+
+pub returns-clause-kept : goal.returns-clause-kept
+returns-clause-kept g c = grows_on (grows_on c.put_counts_line.ensures.kept c.put_sections.ensures.kept) c.put_settled.ensures.kept
 
 pub returns-clause-ok : goal.returns-clause-ok
 returns-clause-ok g c =
