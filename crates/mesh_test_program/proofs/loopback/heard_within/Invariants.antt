@@ -1,5 +1,5 @@
 use Rattle.std.proofs.Common.{◌≡◌, length}
-use Rattle.mesh_test_air.proofs.loopback.heard_within.Given as goal
+use Rattle.mesh_test_program.proofs.loopback.heard_within.Given as goal
 
 abbrev pub invariant-loop : goal.invariant-loop
 invariant-loop g l = record {
