@@ -56,7 +56,7 @@ const HEARD_AT_4: Row = Row::Link(ONE, LinkStatus::Heard, 4);
 
 const CLOSE: Row = Row::Close(TWO, 1, 4);
 
-pub(crate) const CASES: &[Case] = &[
+pub(crate) static CASES: [Case; 2] = [
     (
         "two routers find each other",
         Run::Routers(

@@ -170,7 +170,7 @@ const EIGHTH: Heading = Heading {
     ..FIRST
 };
 
-pub(crate) const CASES: &[Case] = &[
+pub(crate) static CASES: [Case; 2] = [
     (
         "each answer comes in its order",
         Run::Messages(&[

@@ -247,7 +247,7 @@ const PENDING: LinkHas = LinkHas {
     selector: false,
 };
 
-pub(crate) const CASES: &[Case] = &[
+pub(crate) static CASES: [Case; 3] = [
     (
         "a link is heard, symmetric and lost",
         Run::Links(&[
@@ -383,7 +383,7 @@ pub(crate) const CASES: &[Case] = &[
 ];
 
 /// Who is admitted, by the quality.
-pub(crate) const BY_QUALITY: &[Case] = &[
+pub(crate) static BY_QUALITY: [Case; 7] = [
     (
         "a link between the thresholds is what it was",
         Run::Links(&[

@@ -46,7 +46,7 @@ impl<T: Table<Addr4, Lost>> Tried for LostSet<T> {
     }
 }
 
-pub(crate) const CASES: &[Case] = &[(
+pub(crate) static CASES: [Case; 1] = [(
     "an address is lost until it is back",
     Run::Losts(&[
         Call::Settle(&[Addr4(1), Addr4(2), Addr4(3)], &[Addr4(2)], 100),

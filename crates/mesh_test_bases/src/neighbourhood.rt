@@ -58,7 +58,7 @@ const CLOSE: NeighbourHas = NeighbourHas {
     metric_out: Some(3),
 };
 
-pub(crate) const CASES: &[Case] = &[
+pub(crate) static CASES: [Case; 7] = [
     (
         "a neighbour is heard and goes",
         Run::Routers(
@@ -268,7 +268,7 @@ pub(crate) const CASES: &[Case] = &[
 ];
 
 /// HELLOs that are sent, and what comes of the quality of a link.
-pub(crate) const TOLD: &[Case] = &[
+pub(crate) static TOLD: [Case; 5] = [
     (
         "a lone router tells of itself",
         Run::Routers(
@@ -365,7 +365,7 @@ pub(crate) const TOLD: &[Case] = &[
     ),
 ];
 
-pub(crate) const FULL: &[Case] = &[
+pub(crate) static FULL: [Case; 3] = [
     (
         "too many addresses are told",
         Run::Routers(

@@ -158,7 +158,7 @@ const FAR: NeighbourHas = NeighbourHas {
     until: 400,
 };
 
-pub(crate) const CASES: &[Case] = &[
+pub(crate) static CASES: [Case; 2] = [
     (
         "matching neighbours become one",
         Run::Neighbours(&[

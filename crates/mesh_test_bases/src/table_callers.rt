@@ -135,7 +135,7 @@ pub(crate) fn addresses_are_renumbered<T: Table<AddressKey, AddressTuple>>(
     Ok(sweep(&mut table, 200) == 1 && ansn_of(&table, 300) == Some(6))
 }
 
-pub(crate) const CASES: &[Case] = &[
+pub(crate) static CASES: [Case; 2] = [
     ("2-hop tuples go with their link", Run::DropsTwoHops),
     ("addresses get another number", Run::RenumbersAddresses),
 ];

@@ -147,7 +147,7 @@ const PLACES: &[Call] = &[
     Call::HasFiveAndNine,
 ];
 
-pub(crate) const CASES: &[Case] = &[
+pub(crate) static CASES: [Case; 2] = [
     ("a table keeps its laws", Run::Table(LAWS)),
     ("an entry is taken out", Run::Table(PLACES)),
 ];

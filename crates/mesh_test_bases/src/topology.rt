@@ -205,7 +205,7 @@ pub(crate) const IN_TURN: &[Taking] = &[
     ),
 ];
 
-pub(crate) const CASES: &[Case] = &[
+pub(crate) static CASES: [Case; 3] = [
     ("TCs are taken in turn", Run::Tcs(IN_TURN)),
     (
         "parts of a content stand side by side",
@@ -318,7 +318,7 @@ const FULL_ADDRESSES: TcTaken = TcTaken::Full(Base::Addresses);
 
 const FULL_NETWORKS: TcTaken = TcTaken::Full(Base::Networks);
 
-pub(crate) const FULL: &[Case] = &[
+pub(crate) static FULL: [Case; 5] = [
     (
         "there is room for 16,384 of each",
         Run::Tcs(&[Taking(

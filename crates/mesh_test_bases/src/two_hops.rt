@@ -72,7 +72,7 @@ impl<T: Table<TwoHopKey, TwoHop>> Tried for TwoHopSet<T> {
     }
 }
 
-pub(crate) const CASES: &[Case] = &[(
+pub(crate) static CASES: [Case; 1] = [(
     "2-hop tuples come and go",
     Run::TwoHops(&[
         Call::Renew(1, 7, 2, 0, 100),

@@ -1,4 +1,4 @@
-use Rattle.std.proofs.Common.{ap}
+use Rattle.std.proofs.Common.{◌≡◌, ap, arith, ◌+◌}
 use Rattle.mesh_atoms.specs.declared.addr.NetAddr.{NetAddr}
 use Rattle.mesh_test_bases.proofs.Ascending.{one_more}
 use Rattle.mesh_test_bases.proofs.tcs.rows_from.Goals as goal
