@@ -1,5 +1,5 @@
 //! Tests of what no text of the program shows: codes, messages that are written, rows and addresses of a reading, blocks that no
-//! packet holds, the values of settings, failing streams, and runs over an air and a clock in memory.
+//! packet holds, the values of settings, failing streams, runs over an air and a clock in memory, and two airs over loopback.
 #![tactic(auto)]
 
 #[cfg(test)]
@@ -8,6 +8,8 @@ mod blocks;
 mod codes;
 #[cfg(test)]
 mod hop;
+#[cfg(test)]
+mod loopback;
 #[cfg(test)]
 mod reading;
 #[cfg(test)]

@@ -1,8 +1,0 @@
-use Rattle.std.proofs.Common.{◌≡◌, length}
-use Rattle.mesh_test_air.proofs.loopback.heard_within.Given as goal
-
-abbrev pub invariant-loop : goal.invariant-loop
-invariant-loop g l = record {
-  attached : g.A.Air.attached l.air ≡ g.A.Air.attached l.fn.air;
-  same : length l.buf ≡ length l.fn.buf;
-}

@@ -1,0 +1,98 @@
+//! Rules of admittance that tests use.
+ghost use Rattle.std.specs.Prelude.{◌≡◌, IfOk};
+
+use mesh_atoms::{Addr4, Admit, QualityStep, SenderQuality, Seq};
+use mesh_fixtures::list_of;
+use std::alloc::{AllocError, Global};
+
+#[derive(Clone, Copy)]
+pub(crate) enum Rule {
+    // everything is admitted
+    All,
+    // 60 and 40. Of 1: 50 from 1000 on, 20 from 2000 on, 60 from 3000 on. Of 2: 90 from 1500 on, 30 from 3000 on
+    SixtyForty,
+    // 0 and 0. Of 1: 0 from 1000 on
+    Zero,
+    // 100 and 100. Of 1: 99 from 1000 on
+    Hundred,
+}
+
+/// Of a sender 50 from 1000 on, 20 from 2000 on, 60 from 3000 on.
+pub(crate) fn changing(alloc: Global, sender: Addr4) -> Result<SenderQuality, AllocError>
+    ensures { IfOk result (λ quality. quality.sender ≡ sender) }
+{
+    let steps = [
+        QualityStep {
+            at: 1000,
+            quality: 50,
+        },
+        QualityStep {
+            at: 2000,
+            quality: 20,
+        },
+        QualityStep {
+            at: 3000,
+            quality: 60,
+        },
+    ];
+    Ok(SenderQuality {
+        sender,
+        steps: list_of(alloc, &steps)?,
+    })
+}
+
+fn of_two(alloc: Global) -> Result<SenderQuality, AllocError> {
+    let steps = [
+        QualityStep {
+            at: 1500,
+            quality: 90,
+        },
+        QualityStep {
+            at: 3000,
+            quality: 30,
+        },
+    ];
+    Ok(SenderQuality {
+        sender: Addr4(2),
+        steps: list_of(alloc, &steps)?,
+    })
+}
+
+/// Of 1 that quality from 1000 on.
+fn from_1000(alloc: Global, quality: u8) -> Result<Seq<SenderQuality>, AllocError> {
+    let mut senders = Seq::new(alloc);
+    if quality <= 100 {
+        let step = QualityStep { at: 1000, quality };
+        senders.push(SenderQuality {
+            sender: Addr4(1),
+            steps: list_of(alloc, &[step])?,
+        })?;
+    }
+    Ok(senders)
+}
+
+pub(crate) fn rule_of(alloc: Global, rule: Rule) -> Result<Admit, AllocError> {
+    match rule {
+        Rule::All => Admit::all(&Seq::new(alloc)),
+        Rule::SixtyForty => {
+            let mut senders = Seq::new(alloc);
+            senders.push(changing(alloc, Addr4(1))?)?;
+            senders.push(of_two(alloc)?)?;
+            Ok(Admit {
+                accept: 60,
+                reject: 40,
+                senders,
+            })
+        }
+        Rule::Zero => Ok(Admit {
+            accept: 0,
+            reject: 0,
+            senders: from_1000(alloc, 0)?,
+        }),
+        Rule::Hundred => Ok(Admit {
+            accept: 100,
+            reject: 100,
+            senders: from_1000(alloc, 99)?,
+        }),
+    }
+}
