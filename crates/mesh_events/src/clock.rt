@@ -12,9 +12,9 @@ use mesh_renewal::Derived;
 use mesh_sending::{send_hellos, send_tcs};
 use std::alloc::{AllocError, Global};
 
-/// A router's clock ticks, at a moment below 2^62 in ticks of 1/8192 s: what is expired goes (RFC 6130, section 13, and RFC 7181, section
-/// 17), what follows from the bases is renewed, and the HELLOs and TCs that are due are put at the end of `out`. Want of memory
-/// leaves `out` as it was; `holding` and `derived` may then only be dropped.
+/// A router's clock ticks, at a moment below 2^62 in ticks of 1/8192 s: what is expired goes (RFC 6130, section 13), what follows from the
+/// bases is renewed (RFC 7181, sections 16.1, 18 and 19), and the HELLOs (RFC 6130, section 11) and TCs (RFC 7181, section 16) that are
+/// due are put at the end of `out`. Want of memory leaves `out` as it was; `holding` and `derived` may then only be dropped.
 pub fn tick<B: Bases>(
     holding: &mut Holding<B>,
     derived: &mut Derived,
@@ -23,8 +23,9 @@ pub fn tick<B: Bases>(
 ) -> Result<(), AllocError>
     requires now { now < 2 ^ 62 }
     requires sound { Sound (state_of holding.old derived.old) }
-    // What is sent, and what is held then, are those of the machine.
+    // What is sent, and the state after it, are the machine's.
     ensures ticks { OnOk result ((sent : List Frame) × (out.new ≡ out.old ++ sent) × TicksAt (state_of holding.old derived.old) now sent (state_of holding.new derived.new)) }
+    // A sound router stays sound.
     ensures sound { OnOk result (Sound (state_of holding.new derived.new)) }
     ensures wanting { OnErr result (out.new ≡ out.old) }
 {

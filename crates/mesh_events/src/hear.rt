@@ -17,10 +17,10 @@ use mesh_packet::{Decoded, decode};
 use mesh_renewal::Derived;
 use std::alloc::{AllocError, Global};
 
-/// A router hears a frame, at a moment below 2^62 in ticks of 1/8192 s and on one of its interfaces (RFC 5444, RFC 6130 and RFC 7181).
-/// A frame with a fault changes nothing, not even by expiry. Of a packet, what is expired goes, its messages are taken in order, and
-/// what follows from the bases is renewed (RFC 7181, section 17). What is sent is put at the end of `out`. Want of memory leaves
-/// `out` as it was; `holding` and `derived` may then only be dropped.
+/// A router hears a frame (RFC 5444) on one of its interfaces, at a moment below 2^62 in ticks of 1/8192 s. A frame with a fault changes
+/// nothing, not even by expiry. Of one that spells a packet, what is expired goes (RFC 6130, section 13), the messages are taken in
+/// order (section 12, and RFC 7181, section 14), and what follows from the bases is renewed (RFC 7181, sections 16.1, 18 and 19). What
+/// is sent is put at the end of `out`. Want of memory leaves `out` as it was; `holding` and `derived` may then only be dropped.
 pub fn hear_frame<B: Bases>(
     holding: &mut Holding<B>,
     derived: &mut Derived,
@@ -31,11 +31,12 @@ pub fn hear_frame<B: Bases>(
     requires now { arrival.now < 2 ^ 62 }
     requires iface { arrival.iface < length holding.old.settings.interfaces }
     requires sound { Sound (state_of holding.old derived.old) }
-    // What is answered and sent, and what is held then, are those of the machine.
+    // What is answered and sent, and the state after it, are the machine's.
     ensures hears { IfOk result (λ answer. (sent : List Frame) × (out.new ≡ out.old ++ sent)
         × Hears (state_of holding.old derived.old) arrival bytes.now answer sent (state_of holding.new derived.new)) }
     // A frame with a fault is refused.
     ensures refused { (place reason : ℕ) → FirstFault bytes.now place reason → IfOk result (λ answer. answer ≡ Heard.Refused (record { place = place; reason = reason })) }
+    // A sound router stays sound.
     ensures sound { OnOk result (Sound (state_of holding.new derived.new)) }
     ensures wanting { OnErr result (out.new ≡ out.old) }
 {

@@ -23,3 +23,9 @@ returns-clause-sound g c =
 
 pub returns-clause-wanting : goal.returns-clause-wanting
 returns-clause-wanting g c = c.put_all.ensures.err
+
+pub do_tick-requires-clause-now : goal.do_tick-requires-clause-now
+do_tick-requires-clause-now g c = c.requires.now
+
+pub do_tick-requires-clause-sound : goal.do_tick-requires-clause-sound
+do_tick-requires-clause-sound g c = c.requires.sound
