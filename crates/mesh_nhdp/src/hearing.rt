@@ -11,12 +11,12 @@ ghost use Rattle.mesh_nhdp.specs.Hearings.{HearsInterfaces, HearsLinks};
 ghost use Rattle.mesh_nhdp.specs.Interfaces.{CanHear};
 ghost use Rattle.mesh_nhdp.specs.NhdpState.{near_with};
 
-use crate::drops::has_symmetric;
+use crate::drops::has_symmetric_on;
 use crate::follow::renew_neighbour;
 use crate::interfaces::{Hearing, change_all};
 use crate::keys::keys_of_both;
 use crate::near_addresses::spoken_addresses;
-use crate::sending_link::{stands, update_two_hops};
+use crate::sending_link::{stands, update_two_hops_on};
 use mesh_atoms::{Addr4, Hello, Link, LinkKey, Lost, Neighbour, RouterSettings, TwoHop, TwoHopKey};
 use mesh_expire::Table;
 use mesh_hello::Telling;
@@ -45,15 +45,17 @@ fn hear_interfaces<L: Table<LinkKey, Link>, H: Table<TwoHopKey, TwoHop>>(
         links.old links.new two_hops.old two_hops.new) }
 {
     let stood = stands(
-        links[hearing.iface].table(),
+        links,
+        hearing.iface,
         least,
         hearing.shown.sending.as_slice(),
     );
     change_all(alloc, hearing, links, two_hops)?;
-    let symmetric = has_symmetric(links[hearing.iface].table(), least, hearing.moment);
+    let symmetric = has_symmetric_on(links, hearing.iface, least, hearing.moment);
     let until = hearing.moment + hearing.shown.validity;
-    update_two_hops(
-        &mut two_hops[hearing.iface],
+    update_two_hops_on(
+        two_hops,
+        hearing.iface,
         least,
         until,
         hello,

@@ -1,6 +1,6 @@
 //! The 2-hop tuples of the link that a HELLO came over.
-ghost use Rattle.std.specs.Prelude.{◌≡◌, ◌↔◌, ℕ, Contains, Some, IsTrue, true, false, OnOk};
-ghost use Rattle.mesh_atoms.specs.Base.{find, link_eq};
+ghost use Rattle.std.specs.Prelude.{◌≡◌, ◌≢◌, ◌↔◌, ◌<◌, ℕ, length, Contains, Some, IsTrue, true, false, OnOk};
+ghost use Rattle.mesh_atoms.specs.Base.{base_of, find, link_eq};
 ghost use Rattle.mesh_atoms.specs.State.{HasAddress};
 ghost use Rattle.mesh_atoms.specs.HelloTold.{Told};
 ghost use Rattle.mesh_atoms.specs.declared.tuples.Link.{Link};
@@ -12,21 +12,28 @@ ghost use Rattle.mesh_nhdp.specs.Hearings.{UpdatesTwoHops};
 use crate::two_hop_rows::tell_two_hops;
 use mesh_atoms::{Addr4, Hello, Link, LinkKey, TwoHop, TwoHopKey};
 use mesh_expire::Table;
+use mesh_links::LinkSet;
 use mesh_two_hops::TwoHopSet;
 use std::alloc::AllocError;
 
-/// Whether the link with that key has exactly these addresses.
-pub fn stands<L: Table<LinkKey, Link>>(table: &L, key: LinkKey, addrs: &[Addr4]) -> bool
-    ensures { IsTrue result ↔ ((e : Link × ℕ) × (find link_eq (L.content table.now) key ≡ Some e) × (e.0.addrs ≡ addrs.now)) }
+/// Whether the link of the interface of that number with that key has exactly these addresses.
+pub fn stands<L: Table<LinkKey, Link>>(
+    links: &[LinkSet<L>],
+    iface: usize,
+    key: LinkKey,
+    addrs: &[Addr4],
+) -> bool
+    requires { iface < length links.now }
+    ensures { IsTrue result ↔ ((e : Link × ℕ) × (find link_eq (base_of links.now iface) key ≡ Some e) × (e.0.addrs ≡ addrs.now)) }
 {
-    match table.get(&key) {
+    match links[iface].table().get(&key) {
         Some((link, _)) => link.addrs.as_slice() == addrs,
         None => false,
     }
 }
 
 /// Takes out the tuples of the link, where it is a new one.
-pub fn start_two_hops<H: Table<TwoHopKey, TwoHop>>(
+fn start_two_hops<H: Table<TwoHopKey, TwoHop>>(
     two_hops: &mut TwoHopSet<H>,
     link: LinkKey,
     stood: bool,
@@ -40,7 +47,7 @@ pub fn start_two_hops<H: Table<TwoHopKey, TwoHop>>(
 }
 
 /// Makes of the tuples of the link what the rows of the HELLO tell, where it is SYMMETRIC.
-pub fn tell_if_symmetric<H: Table<TwoHopKey, TwoHop>>(
+fn tell_if_symmetric<H: Table<TwoHopKey, TwoHop>>(
     two_hops: &mut TwoHopSet<H>,
     link: LinkKey,
     until: u64,
@@ -62,7 +69,7 @@ pub fn tell_if_symmetric<H: Table<TwoHopKey, TwoHop>>(
 
 /// Brings the tuples of the link that the HELLO came over up to date: where it is a new one they go, and where it is SYMMETRIC
 /// they are made as the rows tell.
-pub fn update_two_hops<H: Table<TwoHopKey, TwoHop>>(
+fn update_two_hops<H: Table<TwoHopKey, TwoHop>>(
     two_hops: &mut TwoHopSet<H>,
     link: LinkKey,
     until: u64,
@@ -78,4 +85,33 @@ pub fn update_two_hops<H: Table<TwoHopKey, TwoHop>>(
     tell_if_symmetric(two_hops, link, until, hello, own, listed, symmetric)?;
     let _count = two_hops.table().len();
     Ok(())
+}
+
+/// The same of the interface of that number.
+pub fn update_two_hops_on<H: Table<TwoHopKey, TwoHop>>(
+    two_hops: &mut [TwoHopSet<H>],
+    iface: usize,
+    link: LinkKey,
+    until: u64,
+    hello: &Hello,
+    own: &[Addr4],
+    listed: &[Addr4],
+    stood: bool,
+    symmetric: bool,
+) -> Result<(), AllocError>
+    requires { iface < length two_hops.old }
+    ensures length { length two_hops.new ≡ length two_hops.old }
+    ensures elsewhere { (j : ℕ) → j ≢ iface → base_of two_hops.new j ≡ base_of two_hops.old j }
+    ensures here { OnOk result (UpdatesTwoHops stood symmetric own.now listed.now hello.now link until (base_of two_hops.old iface) (base_of two_hops.new iface)) }
+{
+    update_two_hops(
+        &mut two_hops[iface],
+        link,
+        until,
+        hello,
+        own,
+        listed,
+        stood,
+        symmetric,
+    )
 }

@@ -6,6 +6,12 @@ use Rattle.mesh_nhdp.proofs.interfaces.change_all.Goals as goal
 pub loop-i-init : goal.loop-i-init
 loop-i-init g c = record { links = refl; two_hops = refl; done = λ k lt. absurd (omega (arith, lt)); links_left = λ k past. refl; two_hops_left = λ k past. refl }
 
+pub bounds-links-i : goal.bounds-links-i
+bounds-links-i g c = omega (arith, c.loop-i-test.true, c.loop-i.invariant.links)
+
+pub change-requires : goal.change-requires
+change-requires g c = record { ready = c.requires.ready }
+
 pub bounds-two_hops-i : goal.bounds-two_hops-i
 bounds-two_hops-i g c = omega (arith, c.loop-i-test.true, c.loop-i.invariant.two_hops, c.requires.length)
 

@@ -1,0 +1,24 @@
+use Rattle.std.proofs.Common.{sym, subst, ◌∙◌, get_or}
+use Rattle.std.specs.Prelude.{slice_set}
+use Rattle.std.proofs.lemmas.List.{length-set}
+use Rattle.mesh_atoms.specs.declared.tuples.TwoHopKey.{TwoHopKey}
+use Rattle.mesh_atoms.specs.declared.tuples.TwoHop.{TwoHop}
+use Rattle.mesh_atoms.specs.Base.{Base, base_of}
+use Rattle.mesh_nhdp.specs.Hearings.{UpdatesTwoHops}
+use Rattle.mesh_nhdp.proofs.AllHears.{is_base, written_same, written_other}
+use Rattle.mesh_nhdp.proofs.Expiry.{on_ok}
+use Rattle.mesh_nhdp.proofs.sending_link.update_two_hops_on.Goals as goal
+
+pub returns-clause-length : goal.returns-clause-length
+returns-clause-length g c = length-set c.args.two_hops.now c.args.iface c.update_two_hops.new.two_hops
+
+pub returns-clause-elsewhere : goal.returns-clause-elsewhere
+returns-clause-elsewhere g c j other = written_other c.args.two_hops.now c.args.iface j c.update_two_hops.new.two_hops other
+
+pub returns-clause-here : goal.returns-clause-here
+returns-clause-here g c =
+    let here = is_base c.args.two_hops.now c.args.iface c.index-two_hops-iface.result c.requires c.index-two_hops-iface.is ∙ c.index-two_hops-iface.is in
+    on_ok c.update_two_hops.result (λ U.
+    subst (λ (b : Base TwoHopKey TwoHop). UpdatesTwoHops c.args.stood c.args.symmetric c.args.own.now c.args.listed.now c.args.hello.now c.args.link c.args.until b (base_of (slice_set c.args.two_hops.now c.args.iface c.update_two_hops.new.two_hops) c.args.iface)) (sym here)
+    (subst (λ (b : Base TwoHopKey TwoHop). UpdatesTwoHops c.args.stood c.args.symmetric c.args.own.now c.args.listed.now c.args.hello.now c.args.link c.args.until (get_or c.args.two_hops.now c.args.iface c.index-two_hops-iface.result) b)
+    (sym (written_same c.args.two_hops.now c.args.iface c.update_two_hops.new.two_hops c.requires)) U)) c.update_two_hops.ensures
