@@ -259,6 +259,21 @@ fn shows<N: Near4>(near: &N, step: &Step) -> bool {
     }
 }
 
+/// Expires or looks at the neighbourhood, and says whether what comes of it is right.
+fn passes<B: Bases>(nhdp: &mut Nhdp<B>, step: &Step) -> Result<bool, AllocError>
+    requires { IsReady nhdp.old }
+    ensures { OnOk result (IsReady nhdp.new) }
+{
+    match *step {
+        Step::Expire(now) => {
+            expire(nhdp, now)?;
+            Ok(true)
+        }
+        Step::Stays(last, now, want) => Ok(stays(nhdp, last, now)? == want),
+        _ => Ok(shows(nhdp, step)),
+    }
+}
+
 /// Takes a step of one router, and says whether the answer is the step's.
 fn is_right<B: Bases>(alloc: Global, nhdp: &mut Nhdp<B>, step: &Step) -> Result<bool, AllocError>
     requires { IsReady nhdp.old }
@@ -268,13 +283,8 @@ fn is_right<B: Bases>(alloc: Global, nhdp: &mut Nhdp<B>, step: &Step) -> Result<
         Step::Hear(now, iface, originator, rows, want) => {
             hear(alloc, nhdp, now, iface, originator, rows, want)
         }
-        Step::Expire(now) => {
-            expire(nhdp, now)?;
-            Ok(true)
-        }
-        Step::Stays(last, now, want) => Ok(stays(nhdp, last, now)? == want),
         Step::Tells(now, telling) => tells(alloc, nhdp, now, telling),
-        _ => Ok(shows(nhdp, step)),
+        _ => passes(nhdp, step),
     }
 }
 
