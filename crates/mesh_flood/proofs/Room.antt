@@ -1,8 +1,8 @@
 -- Where a message is noted, the set isn't full.
-use Rattle.std.proofs.Common.{◌≡◌, ◌≤◌, ◌<◌, ℕ, List, [], length, Option, Some, None, Bool, true, false, cond, not, refl, subst, sym, ◌∙◌, arith, get_or}
-use Rattle.std.specs.Prelude.{slice_set}
-use Rattle.std.proofs.lemmas.Grind.{common_steps}
-use Rattle.std.proofs.lemmas.List.{get_or_default}
+use Rattle.std.proofs.Common.{◌≡◌, ◌<◌, ℕ, List, [], length, Option, Some, None, Bool, true, false, cond, not, nat_eq, refl, subst, sym, ap, ◌∙◌, inl, inr, get_or}
+use Rattle.std.specs.Prelude.{OnOk, Result, Ok, Err, slice_set}
+use Rattle.std.proofs.lemmas.Bool.{false≢true, cases_Bool, eqb-true, eq-eqb}
+use Rattle.std.proofs.lemmas.List.{get_or_default, get_or-set_same, get_or-set_other}
 use Rattle.mesh_atoms.specs.declared.addr.Addr4.{Addr4}
 use Rattle.mesh_atoms.specs.declared.tuples.FloodKey.{FloodKey}
 use Rattle.mesh_atoms.specs.declared.tuples.Noted.{Noted}
@@ -14,6 +14,7 @@ use Rattle.mesh_flood.specs.declared.verdict.Process.{Process}
 use Rattle.mesh_flood.specs.declared.verdict.Process.TheVariants as process
 use Rattle.mesh_flood.specs.declared.verdict.Forward.{Forward}
 use Rattle.mesh_flood.specs.declared.verdict.Forward.TheVariants as forward
+use Rattle.mesh_flood.specs.Noting.{Notes}
 use Rattle.mesh_flood.specs.Verdict.{key_of, if_noted, if_linked, is_full, has_no_hops, process_of, forward_by, is_received, is_forwarded}
 
 -- the answers by what was found
@@ -69,11 +70,30 @@ has_room_forwarded own heading link received forwarded answer is noted =
     room_forwarded (addr_eq heading.originator own) link (has_no_hops heading) (find flood_eq received (key_of heading)) (is_full received) (find flood_eq forwarded (key_of heading)) (is_full forwarded)
     (subst (λ (a : Forward). is_forwarded a ≡ true) is noted)
 
--- sets that stay within the limit where the one of interface i is another that does
-pub within_set : (sets : List (Base FloodKey Noted)) (i : ℕ) (set : Base FloodKey Noted) → ((j : ℕ) → length (base_of sets j) ≤ 16384) → length set ≤ 16384
-    → (j : ℕ) → length (base_of (slice_set sets i set) j) ≤ 16384
-within_set sets i set each here j = grind (arith, common_steps, each j)
+-- what holds of each set, where the one of interface i is another of which it holds
+pub each_set : (P : Base FloodKey Noted → Type 0) (sets : List (Base FloodKey Noted)) (i : ℕ) (set : Base FloodKey Noted) → i < length sets → ((j : ℕ) → P (base_of sets j)) → P set
+    → (j : ℕ) → P (base_of (slice_set sets i set) j)
+each_set P sets i set here each this j = elim (cases_Bool (nat_eq j i)) [
+  | inl e ↦ subst P (sym (ap (λ (k : ℕ). base_of (slice_set sets i set) k) (eqb-true j i e) ∙ get_or-set_same sets i set [] here)) this
+  | inr e ↦ subst P (sym (get_or-set_other sets i j set [] (λ f. false≢true (sym e ∙ eq-eqb j i f)))) (each j)
+]
 
 -- a set that is there
 pub base_there : (sets : List (Base FloodKey Noted)) (i : ℕ) (found : Base FloodKey Noted) → i < length sets → found ≡ get_or sets i found → base_of sets i ≡ found
 base_there sets i found here is = get_or_default sets i [] found here ∙ sym is
+
+-- what is noted in the set of interface i
+pub noted_at : (wanted : Bool) (key : FloodKey) (until : ℕ) (sets : List (Base FloodKey Noted)) (i : ℕ) (found set : Base FloodKey Noted) → i < length sets → base_of sets i ≡ found
+    → Notes wanted key until found set → Notes wanted key until (base_of sets i) (base_of (slice_set sets i set) i)
+noted_at wanted key until sets i found set here there noted =
+    subst (λ (b : Base FloodKey Noted). Notes wanted key until (base_of sets i) b) (sym (get_or-set_same sets i set [] here))
+    (subst (λ (b : Base FloodKey Noted). Notes wanted key until b set) (sym there) noted)
+
+-- what holds where a call succeeded
+pub on_ok_if : {X E : Type 0} (r : Result X E) (A B : Type 0) → (A → OnOk r B) → OnOk r (A → B)
+on_ok_if (Ok x) A B h = h
+on_ok_if (Err e) A B h = tt
+
+pub on_ok_both : {X E : Type 0} (r : Result X E) (A B : Type 0) → OnOk r A → OnOk r B → OnOk r (A × B)
+on_ok_both (Ok x) A B a b = (a, b)
+on_ok_both (Err e) A B a b = tt

@@ -121,8 +121,7 @@ impl<B: Bases> Flood<B> {
             verdict.forward.is_forwarded(),
             key,
             now + times.forwarded_hold,
-        )?;
-        Ok(())
+        )
     }
 
     /// Takes out each tuple whose moment is at or below now. Takes no memory.

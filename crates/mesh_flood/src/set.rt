@@ -70,9 +70,10 @@ impl<T: Table<FloodKey, Noted>> FloodSet<T> {
         ensures room { (IsTrue wanted → is_full self.old ≡ false) → length self.old ≤ 16384 → OnOk result (length self.new ≤ 16384) }
     {
         if wanted {
-            self.table.put(key, Noted {}, until)?;
+            self.table.put(key, Noted {}, until)
+        } else {
+            Ok(())
         }
-        Ok(())
     }
 
     /// Takes out each tuple whose moment is at or below now.

@@ -120,12 +120,12 @@ Decides-covers g relays =
 
 -- Needed
 
-Decides-missed : (g : NeighbourGraph) (relays : Bor (List Addr4)) (id : Addr4) → Decides (is_missed g relays id) (IsMissed g relays.now id)
+Decides-missed : (g : NeighbourGraph) (relays : Bor (List Addr4)) (id : Addr4) → Decides (is_missed g (Others relays id)) (IsMissed g relays.now id)
 Decides-missed g relays id =
     Decides-some _ (λ f. HasSameDistance g (IsOtherRelay relays.now id) IsWilling f.addr → ⊥)
     (λ f. Decides-not _ (Decides-and _ _ (Decides-as_cheap g (Others relays id) Willing f.addr) (Decides-as_cheap g Willing (Others relays id) f.addr))) g.far
 
-pub Decides-irredundant : (g : NeighbourGraph) (relays : Bor (List Addr4)) → Decides (irredundant g relays) (Needed g relays.now)
+pub Decides-irredundant : (g : NeighbourGraph) (relays : Bor (List Addr4)) → Decides (irredundant g (Relays relays)) (Needed g relays.now)
 Decides-irredundant g relays =
     let d = Decides-each _ (λ n. Contains relays.now n.id → IsWilling n × (n.will < 15) → IsMissed g relays.now n.id)
     (λ n. Decides-if_both _ _ _ (Decides-contains relays.now n.id)

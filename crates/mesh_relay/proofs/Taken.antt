@@ -1,8 +1,8 @@
 -- Flags and the ids that they stand for.
 use Rattle.std.proofs.Common.{◌≡◌, ℕ, ◌+◌, ◌≤◌, ◌<◌, ◌⊎◌, Bool, true, false, cond, List, [], ◌∷◌, ◌++◌, length, drop, get_or, zero, suc, refl, sym, ◌∙◌, ap, subst, inl, inr, arith}
-use Rattle.std.specs.Prelude.{Contains, AllPairs, map}
+use Rattle.std.specs.Prelude.{Contains, AllPairs, replicate}
 use Rattle.std.proofs.lemmas.Bool.{false≢true, cases_Bool}
-use Rattle.std.proofs.lemmas.List.{drop_more, append_assoc, get_or-map}
+use Rattle.std.proofs.lemmas.List.{drop_more, append_assoc, get_or-replicate}
 use Rattle.std.proofs.lemmas.List.Elements.{Contains-get_or}
 use Rattle.mesh_atoms.specs.declared.addr.Addr4.{Addr4}
 use Rattle.mesh_atoms.specs.declared.graphs.Near.{Near}
@@ -234,6 +234,5 @@ pub covers_all : (g : NeighbourGraph) (willing : List Near) (ways : List Way) (t
 covers_all g willing ways ts are are-ways all =
     covers_taken g willing ways ts are are-ways (λ k n at e. all k at.0) (reaches_if g willing ways ts are-ways all)
 
-pub all_taken : (willing : List Near) (ts : List Bool) → ts ≡ map (λ n. true) willing → (k : ℕ) → k < length willing → IsTaken ts k
-all_taken willing ts e k lt =
-    subst (λ (l : List Bool). IsTaken l k) (sym e) (get_or-map (λ (n : Near). true) willing k (record { id = record { 0 = 0 }; cost = 0; will = 0 }) false lt)
+pub all_taken : (willing : List Near) (ts : List Bool) → ts ≡ replicate (length willing) true → (k : ℕ) → k < length willing → IsTaken ts k
+all_taken willing ts e k lt = subst (λ (l : List Bool). IsTaken l k) (sym e) (get_or-replicate (length willing) k true false lt)

@@ -64,17 +64,23 @@ are_willing g relays = list_all (λ id. is_willing_id g id) relays
 abbrev pub has_same_distance : NeighbourGraph → Among → Among → Addr4 → Bool
 has_same_distance g among other y = is_as_cheap g among other y && is_as_cheap g other among y
 
--- without that relay some address costs something else than by way of all willing neighbours
-abbrev pub is_missed : NeighbourGraph → Bor (List Addr4) → Addr4 → Bool
-is_missed g relays id = list_any (λ f. not (has_same_distance g (Others relays id) Willing f.addr)) g.far
+-- a list but for the id; any other set is as it was
+abbrev pub without : Among → Addr4 → Among
+without Willing id = Willing
+without (Relays relays) id = Others relays id
+without (Others relays other) id = Others relays other
+
+-- by way of the set some address costs something else than by way of all willing neighbours
+abbrev pub is_missed : NeighbourGraph → Among → Bool
+is_missed g among = list_any (λ f. not (has_same_distance g among Willing f.addr)) g.far
 
 -- a willing neighbour of willingness below 15
 abbrev pub may_be_left_out : Near → Bool
 may_be_left_out n = not (nat_eq n.will 0) && nat_lt n.will 15
 
--- each relay that may be left out is missed
-abbrev pub irredundant : NeighbourGraph → Bor (List Addr4) → Bool
-irredundant g relays = list_all (λ n. not (contains relays.now n.id) || not (may_be_left_out n) || is_missed g relays n.id) g.near
+-- each neighbour of the set that may be left out is missed without it
+abbrev pub irredundant : NeighbourGraph → Among → Bool
+irredundant g among = list_all (λ n. not (counts among n) || not (may_be_left_out n) || is_missed g (without among n.id)) g.near
 
 -- the relays keep every cost, have each neighbour of willingness 15, and are willing
 abbrev pub covers : NeighbourGraph → Bor (List Addr4) → Bool

@@ -1,5 +1,5 @@
 //! The choice of relays (RFC 7181, section 18.6).
-ghost use Rattle.std.specs.Prelude.{◌≡◌, IfOk, length, map, true};
+ghost use Rattle.std.specs.Prelude.{◌≡◌, IfOk, length, replicate, true};
 ghost use Rattle.mesh_atoms.specs.Relays.{Covers, Needed, HasDistinctIds};
 ghost use Rattle.mesh_atoms.specs.Words.{IsAscending};
 ghost use Rattle.mesh_relay.specs.Ways.{AreWilling, AreWays};
@@ -47,9 +47,9 @@ fn reduced(
 }
 
 fn all_flags(alloc: Global, willing: &[Near]) -> Result<Vec<bool>, AllocError>
-    ensures { IfOk result (λ taken. taken.items ≡ map (λ n. true) willing.now) }
+    ensures { IfOk result (λ taken. taken.items ≡ replicate (length willing.now) true) }
 {
-    willing.iter().map(|_| true).collect(alloc)
+    vec![in alloc; true; willing.len()]
 }
 
 /// Flags by which all willing neighbours are taken.

@@ -1,16 +1,56 @@
-use Rattle.std.proofs.Common.{◌≡◌, ◌<◌, ◌≤◌, length, Bool, false, Option, refl, sym, subst, ◌∙◌, arith}
-use Rattle.std.specs.Prelude.{IsTrue, slice_set}
-use Rattle.std.proofs.lemmas.Grind.{common_steps}
+use Rattle.std.proofs.Common.{◌≡◌, ◌+◌, ◌<◌, ◌≤◌, [], length, Bool, false, Option, refl, sym, ap, subst, ◌∙◌}
+use Rattle.std.specs.Prelude.{IsTrue, OnOk, slice_set}
+use Rattle.std.proofs.lemmas.List.{length-set, get_or-set_other}
+use Rattle.std.proofs.lemmas.Result.{on_ok_weaker}
 use Rattle.mesh_atoms.specs.declared.addr.Addr4.{Addr4}
 use Rattle.mesh_atoms.specs.declared.tuples.FloodKey.{FloodKey}
 use Rattle.mesh_atoms.specs.declared.tuples.Noted.{Noted}
-use Rattle.mesh_atoms.specs.Base.{Base, base_of}
+use Rattle.mesh_atoms.specs.Base.{Base, HasDistinctKeys, base_of, find, flood_eq}
 use Rattle.mesh_atoms.specs.State.{NotedMessages}
-use Rattle.mesh_flood.specs.Noting.{Held, AfterNote, AreWithin}
-use Rattle.mesh_flood.specs.Verdict.{process_of, forward_of, is_full}
+use Rattle.mesh_flood.specs.Noting.{Held, Notes, AfterNote, AreWithin}
+use Rattle.mesh_flood.specs.Verdict.{process_of, forward_of, is_full, key_of, is_received, is_forwarded}
 use Rattle.mesh_flood.proofs.Soundness.{sound_by_times, within_of}
-use Rattle.mesh_flood.proofs.Room.{has_room_processed, has_room_received, has_room_forwarded, within_set, base_there}
+use Rattle.mesh_flood.proofs.Room.{has_room_processed, has_room_received, has_room_forwarded, each_set, noted_at, base_there, on_ok_if, on_ok_both}
 use Rattle.mesh_flood.proofs.flood.Flood.note.Goals as goal
+
+pub invariant_of-self : goal.invariant_of-self
+invariant_of-self g c = record {
+  received = c.self.invariant.received;
+  processed = c.note.ensures.distinct c.self.invariant.processed;
+  forwarded = c.self.invariant.forwarded;
+}
+
+pub invariant_of-self-in_err-note-2 : goal.invariant_of-self-in_err-note-2
+invariant_of-self-in_err-note-2 g c =
+    let sets = c.self.inside.received.items in
+    let found = c.index_mut.result.now in
+    let here = subst (λ (h : Held). c.args.iface < length h.noted.received) (sym c.self.view_is) c.requires.iface in
+    let there = base_there sets c.args.iface found here c.index_mut.ensures.value in
+    record {
+      received = each_set (λ b. HasDistinctKeys flood_eq b) sets c.args.iface c.note-2.new.self here c.self.invariant.received
+          (c.note-2.ensures.distinct (subst (λ (b : Base FloodKey Noted). HasDistinctKeys flood_eq b) there (c.self.invariant.received c.args.iface)));
+      processed = c.note.ensures.distinct c.self.invariant.processed;
+      forwarded = c.self.invariant.forwarded;
+    }
+
+pub invariant_of-self-2 : goal.invariant_of-self-2
+invariant_of-self-2 g c =
+    let sets = c.self.inside.received.items in
+    let found = c.index_mut.result.now in
+    let here = subst (λ (h : Held). c.args.iface < length h.noted.received) (sym c.self.view_is) c.requires.iface in
+    let there = base_there sets c.args.iface found here c.index_mut.ensures.value in
+    record {
+      received = each_set (λ b. HasDistinctKeys flood_eq b) sets c.args.iface c.note-2.new.self here c.self.invariant.received
+          (c.note-2.ensures.distinct (subst (λ (b : Base FloodKey Noted). HasDistinctKeys flood_eq b) there (c.self.invariant.received c.args.iface)));
+      processed = c.note.ensures.distinct c.self.invariant.processed;
+      forwarded = c.note-3.ensures.distinct c.self.invariant.forwarded;
+    }
+
+pub returns-in_err-note-clause-times : goal.returns-in_err-note-clause-times
+returns-in_err-note-clause-times g c = rw (← c.self.view_is) (refl {a = c.self.inside.times})
+
+pub returns-in_err-note-2-clause-times : goal.returns-in_err-note-2-clause-times
+returns-in_err-note-2-clause-times g c = rw (← c.self.view_is) (refl {a = c.self.inside.times})
 
 pub returns : goal.returns
 returns g c =
@@ -25,16 +65,38 @@ returns g c =
     let (own, link, process, forward) = subst (λ (h : Held). (own : Addr4) × (link : Option Bool) × (c.args.verdict.now.process ≡ process_of own heading h.noted) × (c.args.verdict.now.forward ≡ forward_of i own heading link h.noted)) (sym c.self.view_is) c.requires.judged in
     let here = subst (λ (h : Held). i < length h.noted.received) (sym c.self.view_is) c.requires.iface in
     let there = base_there sets i found here c.index_mut.ensures.value in
-    let room = λ (does : IsTrue c.is_received.result). subst (λ (b : Base FloodKey Noted). is_full b ≡ false) there (has_room_received own heading link (base_of sets i) forwarded c.args.verdict.now.forward forward (sym c.is_received.ensures ∙ does)) in
-    let after : AfterNote times c.args.now i heading c.args.processed c.args.verdict.now.forward old new = grind (arith, common_steps) in
-    let within : AreWithin old → AreWithin new = λ few. record {
+    let room_received = λ (does : IsTrue c.is_received.result). subst (λ (b : Base FloodKey Noted). is_full b ≡ false) there (has_room_received own heading link (base_of sets i) forwarded c.args.verdict.now.forward forward (sym c.is_received.ensures ∙ does)) in
+    let answer = c.args.verdict.now.forward in
+    let key : c.key-key.result ≡ key_of heading = c.key-key.ensures in
+    let set : Base FloodKey Noted = c.note-2.new.self in
+    let answer = c.args.verdict.now.forward in
+    let key : c.key-key.result ≡ key_of heading = c.key-key.ensures in
+    let set : Base FloodKey Noted = c.note-2.new.self in
+    let after : OnOk c.note-3.result (AfterNote times c.args.now i heading c.args.processed answer old new) = on_ok_weaker c.note-3.result (λ noted. record {
+      tables = record {
+        received = each_set (λ b. HasDistinctKeys flood_eq b) sets i set here c.self.invariant.received
+            (c.note-2.ensures.distinct (subst (λ (b : Base FloodKey Noted). HasDistinctKeys flood_eq b) there (c.self.invariant.received i)));
+        processed = c.note.ensures.distinct c.self.invariant.processed;
+        forwarded = c.note-3.ensures.distinct c.self.invariant.forwarded;
+      };
+      interfaces = length-set sets i set;
+      processed = subst (λ (k : FloodKey). Notes c.args.processed k (c.args.now + times.processed_hold) c.self.inside.processed c.note.new.self) key c.in_ok-note.ensures.ok;
+      received = noted_at (is_received answer) (key_of heading) (c.args.now + times.received_hold) sets i found set here there
+          (subst (λ (k : FloodKey). Notes (is_received answer) k (c.args.now + times.received_hold) found set) key
+          (subst (λ (b : Bool). Notes b c.key-key.result (c.args.now + times.received_hold) found set) c.is_received.ensures c.in_ok-note-2.ensures.ok));
+      others = λ j other q. ap (λ (b : Base FloodKey Noted). find flood_eq b q) (get_or-set_other sets i j set [] other);
+      forwarded = subst (λ (k : FloodKey). Notes (is_forwarded answer) k (c.args.now + times.forwarded_hold) forwarded c.note-3.new.self) key
+          (subst (λ (b : Bool). Notes b c.key-key.result (c.args.now + times.forwarded_hold) forwarded c.note-3.new.self) c.is_forwarded.ensures noted);
+    }) c.note-3.ensures.ok in
+    let within : OnOk c.note-3.result (AreWithin old → AreWithin new) = on_ok_if c.note-3.result _ _ (λ few. on_ok_weaker c.note-3.result (λ room. record {
       processed = c.in_ok-note.ensures.room (λ does. has_room_processed own heading old c.args.verdict.now.process process (c.requires.processed does)) few.processed;
-      received = within_set sets i c.note-2.new.self few.received (c.in_ok-note-2.ensures.room room (subst (λ (b : Base FloodKey Noted). length b ≤ 16384) there (few.received i)));
-      forwarded = c.in_ok-note-3.ensures.room (λ does. has_room_forwarded own heading link (base_of sets i) forwarded c.args.verdict.now.forward forward (sym c.is_forwarded.ensures ∙ does)) few.forwarded;
-    } in
+      received = each_set (λ b. length b ≤ 16384) sets i set here few.received (c.in_ok-note-2.ensures.room room_received (subst (λ (b : Base FloodKey Noted). length b ≤ 16384) there (few.received i)));
+      forwarded = room;
+    }) (c.note-3.ensures.room (λ does. has_room_forwarded own heading link (base_of sets i) forwarded answer forward (sym c.is_forwarded.ensures ∙ does)) few.forwarded)) in
     rw (← c.self.view_is) (record {
       ok = after;
       times = refl {a = times};
       within = within;
-      sound = λ settings sound. sound_by_times settings times c.args.now i heading c.args.processed c.args.verdict.now.forward old new sound after (within (within_of settings c.args.now old sound));
+      sound = on_ok_weaker c.note-3.result (λ both settings sound. sound_by_times settings times c.args.now i heading c.args.processed answer old new sound both.0 (both.1 (within_of settings c.args.now old sound)))
+          (on_ok_both c.note-3.result _ _ after within);
     })
