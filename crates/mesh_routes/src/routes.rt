@@ -34,7 +34,16 @@ pub fn routes_of<N: Near4, B: Bases>(
     let from = host(settings.originator());
     let count = settings.interfaces.len();
     let owners = owners_of(alloc, near)?;
-    let graph = graph_of_bases(alloc, near, topology, count, from, &owners)?;
+    let graph = graph_of_bases(
+        alloc,
+        near,
+        topology.routers(),
+        topology.addresses(),
+        topology.networks(),
+        count,
+        from,
+        &owners,
+    )?;
     let certificate = search(alloc, &graph, from)?;
     let firsts = firsts_of(alloc, certificate.rows.as_slice(), from)?;
     let ways = ways_of(alloc, near, count, &owners)?;

@@ -1,4 +1,4 @@
-use Rattle.std.proofs.Common.{◌+◌, ◌||◌, sym}
+use Rattle.std.proofs.Common.{◌+◌, ◌||◌, refl, sym}
 use Rattle.mesh_atoms.specs.AfterTc.{Is_old, Overfull, Takes}
 use Rattle.mesh_atoms.specs.State.{Topology}
 use Rattle.mesh_topo.specs.Sets.{sets_of}
@@ -7,11 +7,19 @@ use Rattle.mesh_topo.proofs.Laws.{neither}
 use Rattle.mesh_topo.proofs.RowKinds.{router_set, address_set, network_set}
 use Rattle.mesh_topo.proofs.take.take.Goals as goal
 
-pub returns-in-Some-clause-ok : goal.returns-in-Some-clause-ok
-returns-in-Some-clause-ok g c = Is_old c.in-Some.kept c.in-Some.ensures.some
+pub returns-in-Some : goal.returns-in-Some
+returns-in-Some g c = record {
+  ok = Is_old c.in-Some.kept c.in-Some.ensures.some;
+  same = λ _. record { routers = λ q. refl; addresses = λ q. refl; networks = λ q. refl };
+  within = λ few. few;
+}
 
-pub returns-in-Some-first_full-clause-ok : goal.returns-in-Some-first_full-clause-ok
-returns-in-Some-first_full-clause-ok g c = Overfull c.in-Some-first_full.base c.in_default.ensures.none (sym c.in-Some-first_full.ensures)
+pub returns-in-Some-first_full : goal.returns-in-Some-first_full
+returns-in-Some-first_full g c = record {
+  ok = Overfull c.in-Some-first_full.base c.in_default.ensures.none (sym c.in-Some-first_full.ensures);
+  same = λ _. record { routers = λ q. refl; addresses = λ q. refl; networks = λ q. refl };
+  within = λ few. few;
+}
 
 pub returns-clause-ok : goal.returns-clause-ok
 returns-clause-ok g c =
