@@ -6,3 +6,4 @@ mod RouteMoments
 mod RowMoments
 mod Selectors
 mod StayingLaw
+mod Kept

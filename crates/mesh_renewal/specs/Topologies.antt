@@ -9,7 +9,7 @@ use Rattle.mesh_atoms.specs.declared.tuples.AddressKey.{AddressKey}
 use Rattle.mesh_atoms.specs.declared.tuples.AddressTuple.{AddressTuple}
 use Rattle.mesh_atoms.specs.declared.tuples.NetworkKey.{NetworkKey}
 use Rattle.mesh_atoms.specs.declared.tuples.NetworkTuple.{NetworkTuple}
-use Rattle.mesh_atoms.specs.Base.{host}
+use Rattle.mesh_atoms.specs.Base.{Base, host}
 use Rattle.mesh_atoms.specs.State.{Topology}
 use Rattle.mesh_renewal.specs.declared.reach.Reach.{Reach}
 use Rattle.mesh_renewal.specs.declared.topology.TopologyImage.{TopologyImage}
@@ -29,6 +29,12 @@ address_reach e = reach_at e.0.from (host e.0.addr) e.1.0.metric
 -- the originator of a TC reaches a network at the metric of the tuple
 abbrev pub network_reach : NetworkKey × (NetworkTuple × ℕ) → Reach
 network_reach e = reach_at e.0.from e.0.net e.1.0.metric
+
+-- tables of a topology are those of the image
+pub record ShowsTables (image : TopologyImage) (routers : Base RouterKey RouterTuple) (addresses : Base AddressKey AddressTuple) (networks : Base NetworkKey NetworkTuple) : Type 0 where
+  pub routers_are : map router_reach routers ≡ image.routers
+  pub addresses_are : map address_reach addresses ≡ image.addresses
+  pub networks_are : map network_reach networks ≡ image.networks
 
 -- the topology is that of the image
 pub record ShowsTopology (image : TopologyImage) (topology : Topology) : Type 0 where

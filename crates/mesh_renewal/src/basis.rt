@@ -1,6 +1,8 @@
 //! What is kept of that of which routes were made.
 ghost use Rattle.std.specs.Prelude.{◌≡◌, [], IsTrue, IfOk};
+ghost use Rattle.mesh_renewal.specs.Images.{ShowsNear};
 ghost use Rattle.mesh_renewal.specs.Routing.{ShowsBasis};
+ghost use Rattle.mesh_renewal.specs.Settings.{ShowsOwn};
 
 use crate::near::NearImage;
 use crate::own::OwnImage;
@@ -40,10 +42,27 @@ impl RouteBasis {
     ) -> Result<RouteBasis, AllocError>
         ensures { IfOk result (λ basis. ShowsBasis basis settings.now (N.near near.now) topology.now) }
     {
+        let topology = TopologyImage::of(alloc, topology)?;
+        RouteBasis::with(alloc, near, settings, topology)
+    }
+
+    // What is kept of the neighbourhood and settings of a router, with that of its topology.
+    fn with<N: Near4>(
+        alloc: Global,
+        near: &N,
+        settings: &RouterSettings,
+        topology: TopologyImage,
+    ) -> Result<RouteBasis, AllocError>
+        ensures near { IfOk result (λ basis. ShowsNear basis.near settings.now (N.near near.now)) }
+        ensures own { IfOk result (λ basis. ShowsOwn basis.own settings.now) }
+        ensures topology { IfOk result (λ basis. basis.topology ≡ topology) }
+    {
+        let near = NearImage::of(alloc, near, settings)?;
+        let own = OwnImage::of(alloc, settings)?;
         Ok(RouteBasis {
-            near: NearImage::of(alloc, near, settings)?,
-            own: OwnImage::of(alloc, settings)?,
-            topology: TopologyImage::of(alloc, topology)?,
+            near,
+            own,
+            topology,
         })
     }
 

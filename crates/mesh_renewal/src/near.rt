@@ -260,7 +260,8 @@ fn iface_images<N: Near4>(
 {
     let mut images = Seq::new(alloc);
     for iface in 0..count {
-        images.push(iface_image(alloc, near, iface)?)?;
+        let image = iface_image(alloc, near, iface)?;
+        images.push(image)?;
     }
     Ok(images)
 }

@@ -1,7 +1,7 @@
 //! What is kept of a topology.
 ghost use Rattle.std.specs.Prelude.{◌≡◌, IsTrue, IfOk};
 ghost use Rattle.mesh_renewal.specs.declared.reach.Reach.{Reach};
-ghost use Rattle.mesh_renewal.specs.Topologies.{ShowsTopology};
+ghost use Rattle.mesh_renewal.specs.Topologies.{ShowsTables, ShowsTopology};
 
 use crate::kind::{Kind, are_same, items_of};
 use crate::reach::Reach;
@@ -140,50 +140,72 @@ impl TopologyImage {
     ) -> Result<TopologyImage, AllocError>
         ensures { IfOk result (λ image. ShowsTopology image topology.now) }
     {
-        let routers = items_of(
+        image_of(
             alloc,
             topology.routers(),
-            0,
-            &tuples_of::<RouterKey, RouterTuple>(),
-        )?;
-        let addresses = items_of(
-            alloc,
             topology.addresses(),
-            0,
-            &tuples_of::<AddressKey, AddressTuple>(),
-        )?;
-        let networks = items_of(
-            alloc,
             topology.networks(),
-            0,
-            &tuples_of::<NetworkKey, NetworkTuple>(),
-        )?;
-        Ok(TopologyImage {
-            routers,
-            addresses,
-            networks,
-        })
+        )
     }
 
     /// Whether that is kept of the topology. Takes no memory, and one pass over it.
     pub(crate) fn shows<B: Bases>(&self, topology: &Topology<B>) -> bool
         ensures { IsTrue result → ShowsTopology self.now topology.now }
     {
-        are_same(
+        is_image_of(
+            self,
             topology.routers(),
-            0,
-            &self.routers,
-            &tuples_of::<RouterKey, RouterTuple>(),
-        ) && are_same(
             topology.addresses(),
-            0,
-            &self.addresses,
-            &tuples_of::<AddressKey, AddressTuple>(),
-        ) && are_same(
             topology.networks(),
-            0,
-            &self.networks,
-            &tuples_of::<NetworkKey, NetworkTuple>(),
         )
     }
+}
+
+// What is kept of the tables of a topology.
+fn image_of<
+    R: Table<RouterKey, RouterTuple>,
+    A: Table<AddressKey, AddressTuple>,
+    N: Table<NetworkKey, NetworkTuple>,
+>(alloc: Global, routers: &R, addresses: &A, networks: &N) -> Result<TopologyImage, AllocError>
+    ensures { IfOk result (λ image. ShowsTables image (R.content routers.now) (A.content addresses.now) (N.content networks.now)) }
+{
+    let routers = items_of(alloc, routers, 0, &tuples_of::<RouterKey, RouterTuple>())?;
+    let addresses = items_of(
+        alloc,
+        addresses,
+        0,
+        &tuples_of::<AddressKey, AddressTuple>(),
+    )?;
+    let networks = items_of(alloc, networks, 0, &tuples_of::<NetworkKey, NetworkTuple>())?;
+    Ok(TopologyImage {
+        routers,
+        addresses,
+        networks,
+    })
+}
+
+// Whether that is kept of the tables of a topology.
+fn is_image_of<
+    R: Table<RouterKey, RouterTuple>,
+    A: Table<AddressKey, AddressTuple>,
+    N: Table<NetworkKey, NetworkTuple>,
+>(image: &TopologyImage, routers: &R, addresses: &A, networks: &N) -> bool
+    ensures { IsTrue result → ShowsTables image.now (R.content routers.now) (A.content addresses.now) (N.content networks.now) }
+{
+    are_same(
+        routers,
+        0,
+        &image.routers,
+        &tuples_of::<RouterKey, RouterTuple>(),
+    ) && are_same(
+        addresses,
+        0,
+        &image.addresses,
+        &tuples_of::<AddressKey, AddressTuple>(),
+    ) && are_same(
+        networks,
+        0,
+        &image.networks,
+        &tuples_of::<NetworkKey, NetworkTuple>(),
+    )
 }
