@@ -162,8 +162,7 @@ pub fn hear_on<T: Table<LinkKey, Link>>(
             let sending = shown.sending.as_slice();
             end_all(table, owners, sending, Ending::Beside(sending));
             own_all(owners, sending, key)?;
-            renew_at(table, owners, key, now, hold, shown, rule)?;
-            Ok(())
+            renew_at(table, owners, key, now, hold, shown, rule)
         }
         None => Ok(()),
     }

@@ -1,4 +1,5 @@
 use Rattle.std.proofs.Common.{◌≡◌, sym, ap, subst, ◌∙◌, Some}
+use Rattle.std.proofs.lemmas.Result.{on_ok_weaker}
 use Rattle.mesh_atoms.specs.declared.addr.Addr4.{Addr4}
 use Rattle.mesh_atoms.specs.declared.tuples.LinkKey.{LinkKey}
 use Rattle.mesh_atoms.specs.Base.{find, link_eq}
@@ -27,15 +28,24 @@ renew_at-requires-clause-owned g c =
     (λ q e found. (stays_there (λ x. IsApart sending x.0) (find link_eq old q) (find link_eq mid q) e (rw c.as_slice-sending.ensures at c.end_all.ensures.kept q) found).0)
     (rw c.as_slice-sending.ensures at c.own_all.ensures.more)
 
-pub returns-in_ok-renew_at-in-Some-clause-ok : goal.returns-in_ok-renew_at-in-Some-clause-ok
-returns-in_ok-renew_at-in-Some-clause-ok g c least at =
+pub returns-in_ok-own_all-in-Some-clause-ok : goal.returns-in_ok-own_all-in-Some-clause-ok
+returns-in_ok-own_all-in-Some-clause-ok g c =
     let old = g.T.Table.content c.args.table.now in
     let mid = g.T.Table.content c.end_all.new.table in
     let new = g.T.Table.content c.renew_at.new.table in
     let key : LinkKey = record { addr = c.in-Some.addr.now } in
+    on_ok_weaker c.renew_at.result (λ (start, begins, sets) least at. (
     let both : Some c.in-Some.addr.now ≡ Some least.addr = c.in-Some.ensures ∙ at in
     let addr : c.in-Some.addr.now ≡ least.addr = cc in
     let same : key ≡ least = ap (λ (a : Addr4). let k : LinkKey = record { addr = a } in k) addr in
-    let (start, begins, sets) = c.in_ok-renew_at-in-Some.ensures.ok in
     subst (λ (k : LinkKey). HearsOn c.args.rule.now c.args.shown.now k c.args.hold c.args.now old new) same
-    (hears_after c.args.rule.now c.args.shown.now key c.args.hold c.args.now old mid new start (rw c.as_slice-sending.ensures at c.end_all.ensures.kept) begins sets)
+    (hears_after c.args.rule.now c.args.shown.now key c.args.hold c.args.now old mid new start (rw c.as_slice-sending.ensures at c.end_all.ensures.kept) begins sets))) c.renew_at.ensures.ok
+
+pub returns-in_ok-own_all-in-Some-clause-room : goal.returns-in_ok-own_all-in-Some-clause-room
+returns-in_ok-own_all-in-Some-clause-room g c = c.renew_at.ensures.room
+
+pub returns-in_ok-own_all-in-Some-clause-distinct : goal.returns-in_ok-own_all-in-Some-clause-distinct
+returns-in_ok-own_all-in-Some-clause-distinct g c = c.renew_at.ensures.distinct
+
+pub returns-in_ok-own_all-in-Some-clause-owned : goal.returns-in_ok-own_all-in-Some-clause-owned
+returns-in_ok-own_all-in-Some-clause-owned g c = c.renew_at.ensures.owned
