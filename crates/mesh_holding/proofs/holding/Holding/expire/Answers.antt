@@ -1,0 +1,25 @@
+use Rattle.std.proofs.Common.{ap, sym, subst, ◌∙◌}
+use Rattle.mesh_atoms.specs.Live.{Live}
+use Rattle.mesh_atoms.specs.Sound.{SoundNeighbourhood}
+use Rattle.mesh_holding.specs.Held.{Held}
+use Rattle.mesh_nhdp.specs.Staying.{AllIsAsItWas}
+use Rattle.mesh_holding.proofs.Quiet.{both_true}
+use Rattle.mesh_holding.proofs.holding.Holding.expire.Goals as goal
+
+pub expire_since-requires-clause-now : goal.expire_since-requires-clause-now
+expire_since-requires-clause-now g c = c.requires.now
+
+pub expire_since-requires-clause-sound : goal.expire_since-requires-clause-sound
+expire_since-requires-clause-sound g c = subst (λ (h : Held). SoundNeighbourhood h.settings c.args.last h.bases.neighbourhood) (sym c.self.view_is) c.requires.sound.neighbourhood
+
+pub returns-clause-live : goal.returns-clause-live
+returns-clause-live g c =
+    subst (λ (h : Held). Live h.settings c.args.now h.bases (record { neighbourhood = c.expire_since.new.self.near; topology = c.expire-changed.new.self; noted = c.expire.new.self.noted })) c.self.view_is
+    (record { neighbourhood = c.in_ok-same.ensures.live; topology = c.expire-changed.ensures.live; noted = c.expire.ensures.live })
+
+pub returns-clause-settings : goal.returns-clause-settings
+returns-clause-settings g c = c.expire_since.ensures.settings ∙ ap (λ (h : Held). h.settings) c.self.view_is
+
+pub returns-clause-links : goal.returns-clause-links
+returns-clause-links g c both =
+    subst (λ (h : Held). AllIsAsItWas h.settings c.args.last c.args.now h.bases.neighbourhood) c.self.view_is (c.in_ok-same.ensures.when.0 (both_true c.in_ok-same.same _ both).0)
