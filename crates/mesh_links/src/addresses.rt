@@ -8,7 +8,12 @@ use mesh_atoms::{Addr4, contains, meets};
 pub fn is_beyond(addrs: &[Addr4], others: &[Addr4]) -> bool
     ensures { IsTrue result ↔ IsBeyond addrs.now others.now }
 {
-    addrs.iter().any(|addr| !contains(others, *addr))
+    for addr in addrs {
+        if !contains(others, *addr) {
+            return true;
+        }
+    }
+    false
 }
 
 /// Whether two lists are the same.

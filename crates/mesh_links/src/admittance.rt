@@ -66,10 +66,12 @@ fn conforms(link: &Link, until: u64, ruling: Ruling) -> bool
 pub fn is_steady(rule: &Admit) -> bool
     ensures { result ≡ is_steady rule.now }
 {
-    rule.senders
-        .as_slice()
-        .iter()
-        .all(|sender| sender.steps.len() == 0)
+    for sender in rule.senders.as_slice() {
+        if sender.steps.len() != 0 {
+            return false;
+        }
+    }
+    true
 }
 
 /// The quality of a link; where the rule is a steady one no sender is looked at.

@@ -99,8 +99,7 @@ fn put_made<T: Table<LinkKey, Link>>(
 {
     let mut link = make(shown, rule, now)?;
     let until = renew(&mut link, now + shown.validity, now, hold, shown);
-    table.put(key, link, until)?;
-    Ok(())
+    table.put(key, link, until)
 }
 
 /// Renews the link with that key where it has the sending list, else makes it. The key is noted for each of its addresses.
