@@ -77,6 +77,21 @@ impl KeptRelays {
         })
     }
 
+    // The relays of a router with this neighbourhood.
+    fn of<N: Near4>(
+        alloc: Global,
+        near: &N,
+        settings: &RouterSettings,
+    ) -> Result<KeptRelays, AllocError>
+        requires sound { (now : ℕ) × SoundNeighbourhood settings.now now (N.near near.now) }
+        ensures { IfOk result (λ kept. (s : State) (now : ℕ) → s.settings ≡ settings.now → s.bases.neighbourhood ≡ N.near near.now → s.relays ≡ kept
+            → SoundNeighbourhood settings.now now (N.near near.now) → AreRelays s now) }
+    {
+        let relays = relays_of(alloc, near, settings)?;
+        let image = NearImage::of(alloc, near, settings)?;
+        Ok(KeptRelays { relays, image })
+    }
+
     /// Makes them the relays of a router with this neighbourhood, at each moment at which it is sound: they are chosen anew where it
     /// isn't the one from which they were chosen, but for moments.
     pub(crate) fn renew<N: Near4>(
@@ -92,9 +107,8 @@ impl KeptRelays {
         if self.image.shows(near, settings) {
             return Ok(());
         }
-        let relays = relays_of(alloc, near, settings)?;
-        let image = NearImage::of(alloc, near, settings)?;
-        *self = KeptRelays { relays, image };
+        let kept = KeptRelays::of(alloc, near, settings)?;
+        *self = kept;
         Ok(())
     }
 

@@ -1,5 +1,5 @@
 //! The routes of a router.
-ghost use Rattle.std.specs.Prelude.{◌≡◌, ℕ, [], OnOk};
+ghost use Rattle.std.specs.Prelude.{◌≡◌, ℕ, [], IfOk, OnOk};
 ghost use Rattle.mesh_atoms.specs.declared.addr.Addr4.{Addr4};
 ghost use Rattle.mesh_atoms.specs.Routes.{AreRoutes};
 ghost use Rattle.mesh_atoms.specs.Sound.{SoundNeighbourhood, SoundTopology};
@@ -44,6 +44,23 @@ impl KeptRoutes {
         }
     }
 
+    // The routes of a router with these bases and settings.
+    fn of<N: Near4, B: Bases>(
+        alloc: Global,
+        near: &N,
+        topology: &Topology<B>,
+        settings: &RouterSettings,
+    ) -> Result<KeptRoutes, AllocError>
+        requires sound { (now : ℕ) × SoundNeighbourhood settings.now now (N.near near.now) × SoundTopology settings.now now topology.now }
+        ensures routes { IfOk result (λ kept. (s : State) (now : ℕ) → s.settings ≡ settings.now → s.bases.neighbourhood ≡ N.near near.now
+            → s.bases.topology ≡ topology.now → s.routes ≡ kept → SoundNeighbourhood settings.now now (N.near near.now)
+            → (self : Addr4) × AreRoutes s now self) }
+    {
+        let routes = routes_of(alloc, near, topology, settings)?;
+        let basis = RouteBasis::of(alloc, near, topology, settings)?;
+        Ok(KeptRoutes { routes, basis })
+    }
+
     /// Makes them the routes of a router with these bases and settings, at each moment at which its neighbourhood is sound: they are
     /// made anew where these aren't those of which they were made, but for moments.
     pub(crate) fn renew<N: Near4, B: Bases>(
@@ -61,9 +78,7 @@ impl KeptRoutes {
         if self.basis.shows(near, topology, settings) {
             return Ok(());
         }
-        let routes = routes_of(alloc, near, topology, settings)?;
-        let basis = RouteBasis::of(alloc, near, topology, settings)?;
-        *self = KeptRoutes { routes, basis };
+        *self = KeptRoutes::of(alloc, near, topology, settings)?;
         Ok(())
     }
 

@@ -1,10 +1,10 @@
 use Rattle.std.proofs.Common.{sym, ◌∙◌}
-use Rattle.mesh_renewal.proofs.Moments.{fit_each, fit_this}
+use Rattle.mesh_renewal.proofs.Moments.{fit_this}
 use Rattle.mesh_renewal.proofs.relays.KeptRelays.renew.Goals as goal
 
 pub returns-then-shows : goal.returns-then-shows
 returns-then-shows g c = λ s now settings near is sound.
     fit_this c.self.inside.image c.self.inside.relays c.args.settings.now (g.N.Near4.near c.args.near.now) now c.self.invariant (c.shows.ensures c.if-shows.true) sound s settings near (is ∙ sym c.self.view_is)
 
-pub invariant_of-self : goal.invariant_of-self
-invariant_of-self g c = fit_each c.args.settings.now (g.N.Near4.near c.args.near.now) c.in_ok-image.image c.requires.sound.0 c.in_ok-relays.relays c.requires.sound.1 c.in_ok-image.ensures c.in_ok-relays.ensures
+pub returns : goal.returns
+returns g c = λ s now settings near is sound. c.in_ok-kept.ensures s now settings near (is ∙ c.drop.view_is) sound
