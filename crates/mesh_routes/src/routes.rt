@@ -5,7 +5,7 @@ ghost use Rattle.mesh_atoms.specs.Routes.{AreRoutes};
 ghost use Rattle.mesh_atoms.specs.Sound.{SoundNeighbourhood, SoundTopology};
 ghost use Rattle.mesh_atoms.specs.State.{State};
 
-use crate::bases::{graph_of_bases, ways_of};
+use crate::bases::{graph_of_topology, ways_of};
 use crate::firsts::firsts_of;
 use crate::owners::owners_of;
 use crate::rows::rows_of;
@@ -34,16 +34,7 @@ pub fn routes_of<N: Near4, B: Bases>(
     let from = host(settings.originator());
     let count = settings.interfaces.len();
     let owners = owners_of(alloc, near)?;
-    let graph = graph_of_bases(
-        alloc,
-        near,
-        topology.routers(),
-        topology.addresses(),
-        topology.networks(),
-        count,
-        from,
-        &owners,
-    )?;
+    let graph = graph_of_topology(alloc, near, topology, count, from, &owners)?;
     let certificate = search(alloc, &graph, from)?;
     let firsts = firsts_of(alloc, certificate.rows.as_slice(), from)?;
     let ways = ways_of(alloc, near, count, &owners)?;

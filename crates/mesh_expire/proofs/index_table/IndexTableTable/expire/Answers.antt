@@ -6,11 +6,9 @@ drop_expired-requires g c = c.self.invariant
 pub invariant_of-self : goal.invariant_of-self
 invariant_of-self g c = c.drop_expired.ensures.tells
 
-pub returns-clause-kept : goal.returns-clause-kept
-returns-clause-kept g c = rw (← c.self.view_is) c.drop_expired.ensures.kept
-
-pub returns-clause-count : goal.returns-clause-count
-returns-clause-count g c = rw (← c.self.view_is) c.drop_expired.ensures.count
-
-pub returns-clause-distinct : goal.returns-clause-distinct
-returns-clause-distinct g c = c.drop_expired.ensures.distinct
+pub returns : goal.returns
+returns g c = rw (← c.self.view_is) (record {
+  kept = c.drop_expired.ensures.kept;
+  count = c.drop_expired.ensures.count;
+  distinct = c.drop_expired.ensures.distinct;
+})

@@ -6,17 +6,11 @@ take_next-requires g c = c.self.invariant
 pub invariant_of-self : goal.invariant_of-self
 invariant_of-self g c = c.take_next.ensures.distinct
 
-pub returns-clause-some : goal.returns-clause-some
-returns-clause-some g c = rw (← c.self.view_is) c.take_next.ensures.some
-
-pub returns-clause-none : goal.returns-clause-none
-returns-clause-none g c = rw (← c.self.view_is) c.take_next.ensures.none
-
-pub returns-clause-fresh : goal.returns-clause-fresh
-returns-clause-fresh g c = rw (← c.self.view_is) c.take_next.ensures.fresh
-
-pub returns-clause-count : goal.returns-clause-count
-returns-clause-count g c = rw (← c.self.view_is) c.take_next.ensures.count
-
-pub returns-clause-distinct : goal.returns-clause-distinct
-returns-clause-distinct g c = c.take_next.ensures.distinct
+pub returns : goal.returns
+returns g c = rw (← c.self.view_is) (record {
+  some = c.take_next.ensures.some;
+  none = c.take_next.ensures.none;
+  fresh = c.take_next.ensures.fresh;
+  count = c.take_next.ensures.count;
+  distinct = c.take_next.ensures.distinct;
+})

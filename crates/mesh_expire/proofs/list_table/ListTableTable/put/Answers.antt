@@ -6,14 +6,10 @@ put_in-requires g c = c.self.invariant
 pub invariant_of-self : goal.invariant_of-self
 invariant_of-self g c = c.put_in.ensures.distinct
 
-pub returns-clause-ok : goal.returns-clause-ok
-returns-clause-ok g c = rw (← c.self.view_is) c.put_in.ensures.ok
-
-pub returns-clause-count : goal.returns-clause-count
-returns-clause-count g c = rw (← c.self.view_is) c.put_in.ensures.count
-
-pub returns-clause-err : goal.returns-clause-err
-returns-clause-err g c = rw (← c.self.view_is) c.put_in.ensures.err
-
-pub returns-clause-distinct : goal.returns-clause-distinct
-returns-clause-distinct g c = c.put_in.ensures.distinct
+pub returns : goal.returns
+returns g c = rw (← c.self.view_is) (record {
+  ok = c.put_in.ensures.ok;
+  count = c.put_in.ensures.count;
+  err = c.put_in.ensures.err;
+  distinct = c.put_in.ensures.distinct;
+})
