@@ -92,7 +92,6 @@ fn routers_hear_and_tell(rt: HostRuntime) -> Result<(), Fail> {
     Ok(())
 }
 
-// Each of these cases takes seconds.
 #[test]
 fn sets_are_filled(rt: HostRuntime) -> Result<(), Fail> {
     all_hold(&rt, rt.alloc(), &full::CASES)?;
