@@ -1,5 +1,5 @@
 //! Cases, and the bases that they are tried over.
-use crate::run::{Step, goes_right};
+use crate::run::{Step, goes_right_over};
 use crate::{full, hears, lone, row};
 use mesh_atoms::RouterSettings;
 use mesh_config::scenario_of;
@@ -26,7 +26,7 @@ fn over_lists(
     steps: &[Step],
 ) -> Result<bool, AllocError> {
     let mut out = Outbox::new(alloc);
-    goes_right::<PlainBases>(alloc, routers, &mut out, steps)
+    goes_right_over::<PlainBases>(alloc, routers, &mut out, steps)
 }
 
 fn over_indexes(
@@ -35,7 +35,7 @@ fn over_indexes(
     steps: &[Step],
 ) -> Result<bool, AllocError> {
     let mut out = Outbox::new(alloc);
-    goes_right::<IndexedBases>(alloc, routers, &mut out, steps)
+    goes_right_over::<IndexedBases>(alloc, routers, &mut out, steps)
 }
 
 fn over_nothing(
@@ -44,7 +44,7 @@ fn over_nothing(
     steps: &[Step],
 ) -> Result<bool, AllocError> {
     let mut out = Outbox::new(alloc);
-    goes_right::<NoBases>(alloc, routers, &mut out, steps)
+    goes_right_over::<NoBases>(alloc, routers, &mut out, steps)
 }
 
 /// Whether each step of those routers comes to what it must.
@@ -85,46 +85,15 @@ fn all_hold(rt: &impl Abort, alloc: Global, cases: &[Case]) -> Result<(), AllocE
 }
 
 #[test]
-fn a_router_hears_and_tells(rt: HostRuntime) -> Result<(), Fail> {
+fn routers_hear_and_tell(rt: HostRuntime) -> Result<(), Fail> {
     all_hold(&rt, rt.alloc(), &lone::CASES)?;
     all_hold(&rt, rt.alloc(), &hears::CASES)?;
-    Ok(())
-}
-
-#[test]
-fn three_routers_in_a_row(rt: HostRuntime) -> Result<(), Fail> {
     all_hold(&rt, rt.alloc(), &row::CASES)?;
     Ok(())
 }
 
-// Each of these takes seconds, so it is a test by itself.
-
 #[test]
-fn addresses_of_neighbours_fill_their_set(rt: HostRuntime) -> Result<(), Fail> {
-    all_hold(&rt, rt.alloc(), &full::ADDRESSES_FILL)?;
-    Ok(())
-}
-
-#[test]
-fn two_hop_tuples_fill_their_set(rt: HostRuntime) -> Result<(), Fail> {
-    all_hold(&rt, rt.alloc(), &full::TWO_HOPS_FILL)?;
-    Ok(())
-}
-
-#[test]
-fn rows_of_tcs_fill_their_sets(rt: HostRuntime) -> Result<(), Fail> {
-    all_hold(&rt, rt.alloc(), &full::ROWS_FILL)?;
-    Ok(())
-}
-
-#[test]
-fn originators_fill_two_sets(rt: HostRuntime) -> Result<(), Fail> {
-    all_hold(&rt, rt.alloc(), &full::ORIGINATORS_FILL)?;
-    Ok(())
-}
-
-#[test]
-fn messages_fill_two_sets(rt: HostRuntime) -> Result<(), Fail> {
-    all_hold(&rt, rt.alloc(), &full::MESSAGES_FILL)?;
+fn sets_are_filled(rt: HostRuntime) -> Result<(), Fail> {
+    all_hold(&rt, rt.alloc(), &full::CASES)?;
     Ok(())
 }

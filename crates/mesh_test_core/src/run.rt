@@ -112,20 +112,34 @@ pub(crate) enum Step {
     Count(usize),
 }
 
-/// Lets that happen to a router, and says whether what comes of it is right.
-fn happens<B: Bases>(
-    alloc: Global,
-    core: &mut Core<B>,
-    out: &mut Outbox,
-    event: &Event,
-) -> Result<bool, AllocError> {
-    match *event {
-        Event::Hears(now, sender, parts, answer) => {
-            let frame = frame_of(alloc, out, parts)?;
-            Ok(hear(core, out, now, sender, frame.as_slice(), &answer))
+/// What steps are tried on.
+trait Tried: Sized + Drop {
+    /// A router with those settings, before its first event.
+    fn start(alloc: Global, settings: &RouterSettings) -> Result<Self, AllocError>;
+
+    /// Lets that happen to it, and says whether what comes of it is right.
+    fn meets(&mut self, alloc: Global, out: &mut Outbox, event: &Event) -> Result<bool, AllocError>;
+}
+
+impl<B: Bases> Tried for Core<B> {
+    fn start(alloc: Global, settings: &RouterSettings) -> Result<Core<B>, AllocError> {
+        Core::new(alloc, settings.copy()?)
+    }
+
+    fn meets(
+        &mut self,
+        alloc: Global,
+        out: &mut Outbox,
+        event: &Event,
+    ) -> Result<bool, AllocError> {
+        match *event {
+            Event::Hears(now, sender, parts, answer) => {
+                let frame = frame_of(alloc, out, parts)?;
+                Ok(hear(self, out, now, sender, frame.as_slice(), &answer))
+            }
+            Event::Ticks(now, due) => Ok(tick(self, out, now, due)),
+            Event::Looks(look) => Ok(shows(self, &look)),
         }
-        Event::Ticks(now, due) => Ok(tick(core, out, now, due)),
-        Event::Looks(look) => Ok(shows(core, &look)),
     }
 }
 
@@ -179,60 +193,66 @@ fn shows_sent(alloc: Global, out: &mut Outbox, step: &Step) -> Result<bool, Allo
 }
 
 /// Takes a step, and says whether what comes of it is right.
-fn is_taken<B: Bases>(
+fn is_taken<T: Tried>(
     alloc: Global,
-    cores: &mut [Core<B>],
+    routers: &mut [T],
     out: &mut Outbox,
     step: &Step,
 ) -> Result<bool, AllocError> {
     match *step {
         Step::At(router, event) => {
-            if router >= cores.len() {
+            if router >= routers.len() {
                 return Ok(false);
             }
-            happens(alloc, &mut cores[router], out, &event)
+            routers[router].meets(alloc, out, &event)
         }
         _ => shows_sent(alloc, out, step),
     }
 }
 
-fn are_taken<B: Bases>(
+fn are_taken<T: Tried>(
     alloc: Global,
-    cores: &mut [Core<B>],
+    routers: &mut [T],
     out: &mut Outbox,
     steps: &[Step],
 ) -> Result<bool, AllocError> {
     for step in steps {
-        if !is_taken(alloc, cores, out, step)? {
+        if !is_taken(alloc, routers, out, step)? {
             return Ok(false);
         }
     }
     Ok(true)
 }
 
-fn core_of<B: Bases>(alloc: Global, settings: &RouterSettings) -> Result<Core<B>, AllocError> {
-    Core::new(alloc, settings.copy()?)
-}
-
-fn put_cores<B: Bases>(
+fn start_all<T: Tried>(
     alloc: Global,
-    routers: &[RouterSettings],
-    cores: &mut Vec<Core<B>>,
+    settings: &[RouterSettings],
+    routers: &mut Vec<T>,
 ) -> Result<(), AllocError> {
-    for settings in routers {
-        cores.push(core_of(alloc, settings)?)?;
+    for one in settings {
+        routers.push(T::start(alloc, one)?)?;
     }
     Ok(())
 }
 
 /// Whether each step of the routers of a scenario, before their first events, comes to what it must; nothing is sent at first.
-pub(crate) fn goes_right<B: Bases>(
+fn goes_right<T: Tried>(
     alloc: Global,
-    routers: &[RouterSettings],
+    settings: &[RouterSettings],
     out: &mut Outbox,
     steps: &[Step],
 ) -> Result<bool, AllocError> {
-    let mut cores = Vec::new(alloc);
-    put_cores::<B>(alloc, routers, &mut cores)?;
-    are_taken(alloc, cores.as_mut_slice(), out, steps)
+    let mut routers: Vec<T> = Vec::new(alloc);
+    start_all(alloc, settings, &mut routers)?;
+    are_taken(alloc, routers.as_mut_slice(), out, steps)
+}
+
+/// The same, over bases of some kind.
+pub(crate) fn goes_right_over<B: Bases>(
+    alloc: Global,
+    settings: &[RouterSettings],
+    out: &mut Outbox,
+    steps: &[Step],
+) -> Result<bool, AllocError> {
+    goes_right::<Core<B>>(alloc, settings, out, steps)
 }

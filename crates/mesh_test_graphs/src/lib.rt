@@ -3,8 +3,6 @@
 #![tactic(auto)]
 
 #[cfg(test)]
-mod builders;
-#[cfg(test)]
 mod paths;
 #[cfg(test)]
 mod radio;

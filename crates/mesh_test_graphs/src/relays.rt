@@ -18,39 +18,51 @@ struct Case<'a> {
     dropping: &'a [u32],
 }
 
+fn near_of(alloc: Global, rows: &[(u32, u32, u8)]) -> Result<Seq<Near>, AllocError> {
+    let mut near = Seq::new(alloc);
+    for &(id, cost, will) in rows {
+        near.push(Near {
+            id: Addr4(id),
+            cost,
+            will,
+        })?;
+    }
+    Ok(near)
+}
+
+fn direct_of(alloc: Global, rows: &[(u32, u32)]) -> Result<Seq<Direct>, AllocError> {
+    let mut direct = Seq::new(alloc);
+    for &(addr, cost) in rows {
+        direct.push(Direct {
+            addr: Addr4(addr),
+            cost,
+        })?;
+    }
+    Ok(direct)
+}
+
+fn far_of(alloc: Global, rows: &[(u32, u32, u32)]) -> Result<Seq<Far>, AllocError> {
+    let mut far = Seq::new(alloc);
+    for &(via, addr, cost) in rows {
+        far.push(Far {
+            via: Addr4(via),
+            addr: Addr4(addr),
+            cost,
+        })?;
+    }
+    Ok(far)
+}
+
 fn graph_of(
     alloc: Global,
     near: &[(u32, u32, u8)],
     direct: &[(u32, u32)],
     far: &[(u32, u32, u32)],
 ) -> Result<NeighbourGraph, AllocError> {
-    let near: Vec<Near> = near
-        .iter()
-        .map(|row| Near {
-            id: Addr4(row.0),
-            cost: row.1,
-            will: row.2,
-        })
-        .collect(alloc)?;
-    let direct: Vec<Direct> = direct
-        .iter()
-        .map(|row| Direct {
-            addr: Addr4(row.0),
-            cost: row.1,
-        })
-        .collect(alloc)?;
-    let far: Vec<Far> = far
-        .iter()
-        .map(|row| Far {
-            via: Addr4(row.0),
-            addr: Addr4(row.1),
-            cost: row.2,
-        })
-        .collect(alloc)?;
     Ok(NeighbourGraph {
-        near: Seq::from_vec(near),
-        direct: Seq::from_vec(direct),
-        far: Seq::from_vec(far),
+        near: near_of(alloc, near)?,
+        direct: direct_of(alloc, direct)?,
+        far: far_of(alloc, far)?,
     })
 }
 
@@ -252,38 +264,28 @@ fn worked_graphs(rt: HostRuntime) -> Result<(), Fail> {
 
 /// Sets of relays for the first worked graph with a neighbour of willingness 15 and an unwilling one, and whether they
 /// cover and are irredundant.
-static SETS: [(&[u32], bool, bool); 8] = [
-    (&[1, 3], true, true),
-    (&[2, 3], true, true),
-    (&[3, 2], true, true),
-    (&[1, 2, 3], true, false),
-    (&[3], false, true),
-    (&[1], false, true),
-    (&[1, 3, 4], false, true),
-    (&[1, 3, 8], false, true),
+static SETS: [(&[Addr4], bool, bool); 8] = [
+    (&[Addr4(1), Addr4(3)], true, true),
+    (&[Addr4(2), Addr4(3)], true, true),
+    (&[Addr4(3), Addr4(2)], true, true),
+    (&[Addr4(1), Addr4(2), Addr4(3)], true, false),
+    (&[Addr4(3)], false, true),
+    (&[Addr4(1)], false, true),
+    (&[Addr4(1), Addr4(3), Addr4(4)], false, true),
+    (&[Addr4(1), Addr4(3), Addr4(8)], false, true),
 ];
 
-fn addresses(alloc: Global, numbers: &[u32]) -> Result<Vec<Addr4>, AllocError> {
-    numbers.iter().map(|n| Addr4(*n)).collect(alloc)
+fn is_so(graph: &NeighbourGraph, set: &(&[Addr4], bool, bool)) -> bool {
+    covers(graph, set.0) == set.1 && irredundant(graph, set.0) == set.2
 }
 
-fn is_so(
-    alloc: Global,
-    graph: &NeighbourGraph,
-    set: &(&[u32], bool, bool),
-) -> Result<bool, AllocError> {
-    let relays = addresses(alloc, set.0)?;
-    let relays = relays.as_slice();
-    Ok(covers(graph, relays) == set.1 && irredundant(graph, relays) == set.2)
-}
-
-fn are_all_so(alloc: Global, graph: &NeighbourGraph) -> Result<bool, AllocError> {
+fn are_all_so(graph: &NeighbourGraph) -> bool {
     for set in &SETS {
-        if !is_so(alloc, graph, set)? {
-            return Ok(false);
+        if !is_so(graph, set) {
+            return false;
         }
     }
-    Ok(true)
+    true
 }
 
 fn sets_go_right(alloc: Global) -> Result<bool, AllocError> {
@@ -293,7 +295,7 @@ fn sets_go_right(alloc: Global) -> Result<bool, AllocError> {
         &[(9, 3)],
         &[(1, 9, 1), (2, 9, 1), (4, 9, 0)],
     )?;
-    are_all_so(alloc, &graph)
+    Ok(are_all_so(&graph))
 }
 
 #[test]

@@ -21,4 +21,6 @@ mod streams;
 #[cfg(test)]
 mod top;
 #[cfg(test)]
+mod values;
+#[cfg(test)]
 mod writing;

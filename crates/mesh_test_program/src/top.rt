@@ -3,9 +3,9 @@ ghost use Rattle.std.specs.Prelude.{◌≡◌, IfOk};
 
 use crate::{runs, streams};
 use mesh_atoms::{Addr4, Bytes, Seq};
-use mesh_expire::{IndexedBases, NoBases};
+use mesh_expire::NoBases;
 use mesh_io::{AirFails, AirRoom, MemAir, MemClock, MemEar, MemSink, MemSource};
-use mesh_tool::top_over;
+use mesh_tool::{mesh_top, top_over};
 use std::alloc::{AllocError, Global};
 use std::process::Abort;
 use std::test::Fail;
@@ -145,10 +145,11 @@ fn others_of(alloc: Global, case: &Case) -> Result<Others, AllocError>
     })
 }
 
+/// The program has indexed tables.
 fn over_indexes(alloc: Global, streams: &mut Streams, others: &mut Others) -> u8
     requires { others.old.air.log.attached ≡ 0 }
 {
-    let status = top_over::<IndexedBases, MemSource, MemSink, MemSink, MemAir, MemClock>(
+    let status = mesh_top(
         alloc,
         others.words.as_slice(),
         &mut streams.input,
