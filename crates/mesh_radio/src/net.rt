@@ -1,13 +1,15 @@
 //! The emulated network.
-ghost use Rattle.std.specs.Prelude.{◌≡◌, List, false, is_err, IfOk, OnOk, IsErr, IsTrue, MatchOption, IfSome};
+ghost use Rattle.std.specs.Prelude.{◌≡◌, ◌++◌, ◌∷◌, [], List, false, is_err, IfOk, OnOk, IsErr, IsTrue, MatchOption, IfSome};
 ghost use Rattle.mesh_radio.specs.declared.event.NetEvent.{NetEvent};
 ghost use Rattle.mesh_radio.specs.Net.{NetStep};
-ghost use Rattle.mesh_radio.specs.Opening.{AreOpening};
+ghost use Rattle.mesh_core.specs.Holding.{CoreValue};
+ghost use Rattle.mesh_machine.specs.Machine.{IsOpening};
+ghost use Rattle.mesh_radio.specs.Opening.{AreOpening, IsOpeningScene};
 ghost use Rattle.mesh_radio.specs.Run.{IsOpeningNet, IsOver, IsOfScenario, IsOfPackets, NetRun, states_of};
 
 use crate::event::NetEvent;
 use crate::routers::first_due;
-use crate::scene::Scene;
+use crate::scene::{Due, Scene};
 use crate::step::next_event;
 use mesh_atoms::{RouterSettings, Scenario, Seq};
 use mesh_core::{Core, Outbox};
@@ -45,30 +47,11 @@ impl<B: Bases> Net<B> {
         ensures whole { IfOk result (λ net. net.is_spent ≡ false) }
     {
         let cores = cores_of(alloc, scenario)?;
-        let ways = ways_of(alloc, scenario.routers.as_slice(), scenario.arcs.as_slice())?;
-        let scenario = copy_of(alloc, scenario)?;
-        let draws = Draws::new(scenario.seed);
-        let due = first_due(&cores);
+        let scene = scene_of(alloc, scenario, first_due(&cores))?;
         Ok(Net {
             alloc,
             cores,
-            scene: Scene {
-                scenario,
-                ways,
-                outbox: Outbox::new(alloc),
-                traffic: Traffic {
-                    air: Air::new(alloc),
-                    counts: Counts {
-                        sent: 0,
-                        delivered: 0,
-                        lost: 0,
-                    },
-                    draws,
-                },
-                due,
-                last_ticks: 0,
-                now: 0,
-            },
+            scene,
             spent: false,
         })
     }
@@ -139,15 +122,54 @@ impl<B: Bases> Net<B> {
     }
 }
 
+/// What the network of a scenario has besides its routers, before its first event, where this router ticks first.
+fn scene_of(alloc: Global, scenario: &Scenario, due: Due) -> Result<Scene, AllocError>
+    ensures { IfOk result (IsOpeningScene scenario.now due) }
+{
+    let ways = ways_of(alloc, scenario.routers.as_slice(), scenario.arcs.as_slice())?;
+    let scenario = copy_of(alloc, scenario)?;
+    let draws = Draws::new(scenario.seed);
+    Ok(Scene {
+        scenario,
+        ways,
+        outbox: Outbox::new(alloc),
+        traffic: Traffic {
+            air: Air::new(alloc),
+            counts: Counts {
+                sent: 0,
+                delivered: 0,
+                lost: 0,
+            },
+            draws,
+        },
+        due,
+        last_ticks: 0,
+        now: 0,
+    })
+}
+
 /// The routers of a scenario before their first events.
 fn cores_of<B: Bases>(alloc: Global, scenario: &Scenario) -> Result<Vec<Core<B>>, AllocError>
     ensures { IfOk result (λ cores. AreOpening scenario.now.routers (states_of cores.items)) }
 {
     let mut cores = Vec::new(alloc);
     for router in scenario.routers.as_slice() {
-        cores.push(Core::new(alloc, router.copy()?)?)?;
+        put_core(alloc, &mut cores, router)?;
     }
     Ok(cores)
+}
+
+/// Puts a router with these settings at the end, before its first event.
+fn put_core<B: Bases>(
+    alloc: Global,
+    cores: &mut Vec<Core<B>>,
+    settings: &RouterSettings,
+) -> Result<(), AllocError>
+    ensures { OnOk result ((core : CoreValue) × (cores.new.items ≡ cores.old.items ++ core ∷ []) × IsOpening settings.now core.state) }
+{
+    let core = Core::new(alloc, settings.copy()?)?;
+    cores.push(core)?;
+    Ok(())
 }
 
 /// An equal scenario.
