@@ -1,5 +1,5 @@
 -- A network before its first event.
-use Rattle.std.proofs.Common.{◌≡◌, sym, ℕ, ◌+◌, ◌<◌, List, [], ◌∷◌, ◌++◌, refl, ◌∙◌, ap, subst, length, get_or, arith, Some, None, length-append}
+use Rattle.std.proofs.Common.{◌≡◌, ℕ, ◌+◌, ◌<◌, List, [], ◌∷◌, ◌++◌, refl, ◌∙◌, ap, subst, length, get_or, arith, Some, None, length-append}
 use Rattle.std.specs.Prelude.{slice_get}
 use Rattle.std.proofs.lemmas.List.{map-append}
 use Rattle.std.proofs.lemmas.Option.{slice_get_read}
@@ -11,9 +11,8 @@ use Rattle.mesh_core.specs.Holding.{CoreValue}
 use Rattle.mesh_machine.specs.Machine.{IsOpening}
 use Rattle.mesh_radio.specs.Net.{Net, IsFirstDue}
 use Rattle.mesh_radio.specs.Run.{IsOpeningNet, states_of}
-use Rattle.mesh_radio.specs.declared.scene.Due.{Due}
 use Rattle.mesh_radio.specs.declared.scene.Scene.{Scene}
-use Rattle.mesh_radio.specs.Opening.{AreOpeningUpTo, AreOpening, IsOpeningScene}
+use Rattle.mesh_radio.specs.Opening.{AreOpeningUpTo, AreOpening}
 use Rattle.mesh_radio.specs.Scene.{IsSound, IsFlying}
 use Rattle.mesh_traffic.specs.Ways.{AreWays}
 use Rattle.mesh_traffic.proofs.Places.{each_more, same_at}
@@ -48,13 +47,6 @@ opening_sound routers s h ways seed air due now last_ticks = record {
   in_time = omega (arith, now);
   few = omega (arith, last_ticks);
 }
-
--- a network whose parts are those before its first event is sound, and opening
-module _ (scenario : Scenario) (routers : List State) (first : Due) (s : Scene) (scene : IsOpeningScene scenario first s) (h : AreOpening scenario.routers routers) where
-  pub begun_sound : IsFirstDue routers first.router first.moment → IsSound routers s
-  begun_sound due = opening_sound routers s (subst (λ (t : Scenario). AreOpening t.routers routers) (sym scene.scenario_is) h)
-      (subst (λ (t : Scenario). AreWays t.arcs t.routers (length t.routers) s.ways) (sym scene.scenario_is) scene.ways)
-      (scene.seed ∙ ap (λ (t : Scenario). t.seed) (sym scene.scenario_is)) scene.air (subst (λ (d : Due). IsFirstDue routers d.router d.moment) (sym scene.due_is) due) scene.now scene.last_ticks
 
 pub opening_net : (scenario : Scenario) (routers : List State) (net : Net) → net.scenario ≡ scenario → net.routers ≡ routers → AreOpening scenario.routers routers → net.traffic ≡ record { air = []; counts = record { sent = 0; delivered = 0; lost = 0 }; draws = 0 } →
     net.last_ticks ≡ 0 → IsOpeningNet scenario net

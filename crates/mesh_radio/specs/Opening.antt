@@ -1,13 +1,8 @@
 -- The routers of a network before its first event.
-use Rattle.std.specs.Prelude.{◌≡◌, ℕ, List, [], Some, slice_get, length}
+use Rattle.std.specs.Prelude.{◌≡◌, ℕ, List, Some, slice_get, length}
 use Rattle.mesh_atoms.specs.State.{State}
 use Rattle.mesh_atoms.specs.declared.settings.RouterSettings.{RouterSettings}
-use Rattle.mesh_atoms.specs.declared.settings.Scenario.{Scenario}
 use Rattle.mesh_machine.specs.Machine.{IsOpening}
-use Rattle.mesh_radio.specs.declared.scene.Due.{Due}
-use Rattle.mesh_radio.specs.declared.scene.Scene.{Scene}
-use Rattle.mesh_traffic.specs.Traffic.{traffic_of}
-use Rattle.mesh_traffic.specs.Ways.{AreWays}
 
 -- the first routers, one for each settings, so many
 pub record AreOpeningUpTo (settings : List RouterSettings) (count : ℕ) (routers : List State) : Type 0 where
@@ -17,14 +12,3 @@ pub record AreOpeningUpTo (settings : List RouterSettings) (count : ℕ) (router
 -- all routers
 abbrev pub AreOpening : List RouterSettings → List State → Type 0
 AreOpening settings routers = AreOpeningUpTo settings (length settings) routers
-
--- what a network has besides its routers before its first event, where that router ticks first
-pub record IsOpeningScene (scenario : Scenario) (due : Due) (s : Scene) : Type 0 where
-  pub scenario_is : s.scenario ≡ scenario
-  pub ways : AreWays scenario.arcs scenario.routers (length scenario.routers) s.ways
-  pub seed : s.traffic.draws.seed ≡ scenario.seed
-  pub traffic : traffic_of s.traffic ≡ record { air = []; counts = record { sent = 0; delivered = 0; lost = 0 }; draws = 0 }
-  pub air : s.traffic.air ≡ []
-  pub due_is : s.due ≡ due
-  pub last_ticks : s.last_ticks ≡ 0
-  pub now : s.now ≡ 0

@@ -4,12 +4,12 @@ ghost use Rattle.mesh_radio.specs.declared.event.NetEvent.{NetEvent};
 ghost use Rattle.mesh_radio.specs.Net.{NetStep};
 ghost use Rattle.mesh_core.specs.Holding.{CoreValue};
 ghost use Rattle.mesh_machine.specs.Machine.{IsOpening};
-ghost use Rattle.mesh_radio.specs.Opening.{AreOpening, IsOpeningScene};
+ghost use Rattle.mesh_radio.specs.Opening.{AreOpening};
 ghost use Rattle.mesh_radio.specs.Run.{IsOpeningNet, IsOver, IsOfScenario, IsOfPackets, NetRun, states_of};
 
 use crate::event::NetEvent;
 use crate::routers::first_due;
-use crate::scene::{Due, Scene};
+use crate::scene::Scene;
 use crate::step::next_event;
 use mesh_atoms::{RouterSettings, Scenario, Seq};
 use mesh_core::{Core, Outbox};
@@ -47,11 +47,30 @@ impl<B: Bases> Net<B> {
         ensures whole { IfOk result (λ net. net.is_spent ≡ false) }
     {
         let cores = cores_of(alloc, scenario)?;
-        let scene = scene_of(alloc, scenario, first_due(&cores))?;
+        let ways = ways_of(alloc, scenario.routers.as_slice(), scenario.arcs.as_slice())?;
+        let scenario = copy_of(alloc, scenario)?;
+        let draws = Draws::new(scenario.seed);
+        let due = first_due(&cores);
         Ok(Net {
             alloc,
             cores,
-            scene,
+            scene: Scene {
+                scenario,
+                ways,
+                outbox: Outbox::new(alloc),
+                traffic: Traffic {
+                    air: Air::new(alloc),
+                    counts: Counts {
+                        sent: 0,
+                        delivered: 0,
+                        lost: 0,
+                    },
+                    draws,
+                },
+                due,
+                last_ticks: 0,
+                now: 0,
+            },
             spent: false,
         })
     }
@@ -120,32 +139,6 @@ impl<B: Bases> Net<B> {
     {
         self.scene.traffic.counts
     }
-}
-
-/// What the network of a scenario has besides its routers, before its first event, where this router ticks first.
-fn scene_of(alloc: Global, scenario: &Scenario, due: Due) -> Result<Scene, AllocError>
-    ensures { IfOk result (IsOpeningScene scenario.now due) }
-{
-    let ways = ways_of(alloc, scenario.routers.as_slice(), scenario.arcs.as_slice())?;
-    let scenario = copy_of(alloc, scenario)?;
-    let draws = Draws::new(scenario.seed);
-    Ok(Scene {
-        scenario,
-        ways,
-        outbox: Outbox::new(alloc),
-        traffic: Traffic {
-            air: Air::new(alloc),
-            counts: Counts {
-                sent: 0,
-                delivered: 0,
-                lost: 0,
-            },
-            draws,
-        },
-        due,
-        last_ticks: 0,
-        now: 0,
-    })
 }
 
 /// The routers of a scenario before their first events.
