@@ -1,6 +1,6 @@
 -- The events of a network, put together.
-use Rattle.std.proofs.Common.{◌≡◌, ℕ, ◌+◌, ◌<◌, ◌≤◌, ◌∙◌, List, refl, sym, ap, length, arith, subst, All, Some}
-use Rattle.std.specs.Prelude.{min, slice_get, IfSome}
+use Rattle.std.proofs.Common.{◌≡◌, ℕ, ◌+◌, ◌<◌, ◌≤◌, ◌∙◌, List, refl, sym, ap, length, arith, subst, All, Option, Some, None}
+use Rattle.std.specs.Prelude.{min, slice_get, IfSome, MatchOption}
 use Rattle.std.proofs.lemmas.List.{length-map}
 use Rattle.std.proofs.lemmas.List.Elements.{All-weaker}
 use Rattle.mesh_atoms.specs.declared.settings.RouterSettings.{RouterSettings}
@@ -10,11 +10,11 @@ use Rattle.mesh_core.specs.Holding.{CoreValue}
 use Rattle.mesh_machine.specs.Sendable.{IsPacket, IsSendable}
 use Rattle.mesh_traffic.specs.declared.emission.Emission.{Emission}
 use Rattle.mesh_radio.specs.declared.event.NetEvent.{NetEvent}
-use Rattle.mesh_radio.specs.Net.{Net, TicksNext, HasOnlyLastTicks, Moves, Delivers, TicksDue, TicksLast, event_of, frames_of}
+use Rattle.mesh_radio.specs.Net.{Net, NetStep, TicksNext, HasOnlyLastTicks, Moves, Delivers, TicksDue, TicksLast, event_of, frames_of}
 use Rattle.mesh_traffic.specs.Sending.{Traffic, Delivery, IsHeardFirst, SendsAll, with_heard, frame_of}
 use Rattle.mesh_radio.specs.Run.{IsOver, IsOfScenario, IsOfPackets, states_of}
 use Rattle.mesh_radio.specs.declared.scene.Scene.{Scene}
-use Rattle.mesh_radio.specs.Scene.{IsSound, AreRouters, Lands, TicksOne, Stepped, net_of}
+use Rattle.mesh_radio.specs.Scene.{IsSound, AreRouters, Lands, TicksOne, Stepped, Happens, IsLeft, net_of}
 use Rattle.mesh_traffic.specs.Traffic.{traffic_of}
 use Rattle.mesh_radio.proofs.Arcs.{arc_ends}
 use Rattle.mesh_radio.proofs.Flying.{sent_lost}
@@ -159,7 +159,7 @@ module _ (old new : List CoreValue) (was is : Scene) (told : (new ≡ old) × (i
   only_last_ticks late = subst HasOnlyLastTicks (sym same_net) (only_of_old (subst (λ (s : Scene). s.scenario.end < s.due.moment) told.1 late))
 
   -- nothing at all is left
-  pub over : is.scenario.end < is.due.moment → length new ≤ is.last_ticks → IsOver (net_of old was) × (net_of new is ≡ net_of old was)
+  over : is.scenario.end < is.due.moment → length new ≤ is.last_ticks → IsOver (net_of old was) × (net_of new is ≡ net_of old was)
   over late done = (
     record {
       only = only_of_old (subst (λ (s : Scene). s.scenario.end < s.due.moment) told.1 late);
@@ -171,3 +171,29 @@ module _ (old new : List CoreValue) (was is : Scene) (told : (new ≡ old) × (i
     },
     same_net,
   )
+
+  pub still_sound : IsSound (states_of new) is
+  still_sound = subst (λ (cores : List CoreValue). IsSound (states_of cores) is) (sym told.0) (subst (IsSound (states_of old)) (sym told.1) sound)
+
+  pub nothing_left : is.scenario.end < is.due.moment → length new ≤ is.last_ticks → IsLeft old was new is
+  nothing_left late done = record { over = over late done; sound = still_sound }
+
+-- What is told of a network after its next event, if there is one
+
+module _ (old new : List CoreValue) (was is : Scene) where
+  pub next_step : (e : Option NetEvent) → MatchOption e (IsLeft old was new is) (λ event. Happens old was event new is) →
+      MatchOption e (IsOver (net_of old was) × (net_of new is ≡ net_of old was)) (λ event. NetStep (net_of old was) event (net_of new is))
+  next_step None h = h.over
+  next_step (Some event) h = h.step
+
+  pub next_named : (e : Option NetEvent) → MatchOption e (IsLeft old was new is) (λ event. Happens old was event new is) → IfSome e (IsOfScenario was.scenario)
+  next_named None h = tt
+  next_named (Some event) h = h.named
+
+  pub next_packets : (e : Option NetEvent) → MatchOption e (IsLeft old was new is) (λ event. Happens old was event new is) → IfSome e IsOfPackets
+  next_packets None h = tt
+  next_packets (Some event) h = h.packets
+
+  pub next_sound : (e : Option NetEvent) → MatchOption e (IsLeft old was new is) (λ event. Happens old was event new is) → IsSound (states_of new) is
+  next_sound None h = h.sound
+  next_sound (Some event) h = h.sound

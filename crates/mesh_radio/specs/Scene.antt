@@ -11,9 +11,9 @@ use Rattle.mesh_machine.specs.Machine.{Event, Step, due}
 use Rattle.mesh_machine.specs.Sendable.{IsPacket, IsSendable}
 use Rattle.mesh_radio.specs.declared.event.NetEvent.{NetEvent}
 use Rattle.mesh_radio.specs.declared.scene.Scene.{Scene}
-use Rattle.mesh_radio.specs.Net.{Net, IsFirstDue, IsSender, event_of, frames_of}
+use Rattle.mesh_radio.specs.Net.{Net, NetStep, IsFirstDue, IsSender, event_of, frames_of}
 use Rattle.mesh_traffic.specs.Sending.{Delivery, Traffic, SendsAll, with_heard}
-use Rattle.mesh_radio.specs.Run.{states_of}
+use Rattle.mesh_radio.specs.Run.{IsOver, IsOfScenario, IsOfPackets, states_of}
 use Rattle.mesh_traffic.specs.Traffic.{traffic_of}
 use Rattle.mesh_traffic.specs.Ways.{AreWays}
 
@@ -87,3 +87,15 @@ pub record TicksOne (s : Scenario) (old new : List State) (x now : ℕ) (event :
   pub heard : event.heard ≡ None
   pub stepped : Stepped old new x now (event_of event) (frames_of event) (λ was is. now < is)
   pub sends : SendsAll s now x event.sent before after
+
+-- an event of a network: what it does and names, and that the network is sound after it
+pub record Happens (old : List CoreValue) (before : Scene) (event : NetEvent) (new : List CoreValue) (after : Scene) : Type 0 where
+  pub step : NetStep (net_of old before) event (net_of new after)
+  pub named : IsOfScenario before.scenario event
+  pub packets : IsOfPackets event
+  pub sound : IsSound (states_of new) after
+
+-- no event is left, and the network stays as it was, and sound
+pub record IsLeft (old : List CoreValue) (before : Scene) (new : List CoreValue) (after : Scene) : Type 0 where
+  pub over : IsOver (net_of old before) × (net_of new after ≡ net_of old before)
+  pub sound : IsSound (states_of new) after

@@ -1,7 +1,9 @@
 //! The emulated network.
-ghost use Rattle.std.specs.Prelude.{◌≡◌, List, false, is_err, IfOk, OnOk, IsErr, IsTrue, MatchOption, IfSome};
+ghost use Rattle.std.specs.Prelude.{◌≡◌, ◌++◌, ◌∷◌, [], List, false, is_err, IfOk, OnOk, IsErr, IsTrue, MatchOption, IfSome};
 ghost use Rattle.mesh_radio.specs.declared.event.NetEvent.{NetEvent};
 ghost use Rattle.mesh_radio.specs.Net.{NetStep};
+ghost use Rattle.mesh_core.specs.Holding.{CoreValue};
+ghost use Rattle.mesh_machine.specs.Machine.{IsOpening};
 ghost use Rattle.mesh_radio.specs.Opening.{AreOpening};
 ghost use Rattle.mesh_radio.specs.Run.{IsOpeningNet, IsOver, IsOfScenario, IsOfPackets, NetRun, states_of};
 
@@ -145,9 +147,22 @@ fn cores_of<B: Bases>(alloc: Global, scenario: &Scenario) -> Result<Vec<Core<B>>
 {
     let mut cores = Vec::new(alloc);
     for router in scenario.routers.as_slice() {
-        cores.push(Core::new(alloc, router.copy()?)?)?;
+        put_core(alloc, &mut cores, router)?;
     }
     Ok(cores)
+}
+
+/// Puts a router with these settings at the end, before its first event.
+fn put_core<B: Bases>(
+    alloc: Global,
+    cores: &mut Vec<Core<B>>,
+    settings: &RouterSettings,
+) -> Result<(), AllocError>
+    ensures { OnOk result ((core : CoreValue) × (cores.new.items ≡ cores.old.items ++ core ∷ []) × IsOpening settings.now core.state) }
+{
+    let core = Core::new(alloc, settings.copy()?)?;
+    cores.push(core)?;
+    Ok(())
 }
 
 /// An equal scenario.

@@ -1,8 +1,8 @@
 //! The next event of a network.
-ghost use Rattle.std.specs.Prelude.{◌≡◌, ◌<◌, ◌≤◌, min, length, All, IfOk, OnOk, MatchOption, IfSome};
-ghost use Rattle.mesh_radio.specs.Net.{Delivers, TicksDue, TicksLast, NetStep, TicksNext, HasOnlyLastTicks};
-ghost use Rattle.mesh_radio.specs.Run.{IsOver, IsOfScenario, IsOfPackets, states_of};
-ghost use Rattle.mesh_radio.specs.Scene.{IsSound, net_of};
+ghost use Rattle.std.specs.Prelude.{◌≡◌, ◌<◌, ◌≤◌, min, length, All, IfOk, MatchOption};
+ghost use Rattle.mesh_radio.specs.Net.{TicksNext, HasOnlyLastTicks};
+ghost use Rattle.mesh_radio.specs.Run.{states_of};
+ghost use Rattle.mesh_radio.specs.Scene.{Happens, IsLeft, IsSound, net_of};
 
 use crate::event::NetEvent;
 use crate::events::{land, tick_one};
@@ -19,12 +19,8 @@ pub(crate) fn next_event<B: Bases>(
     scene: &mut Scene,
 ) -> Result<Option<NetEvent>, AllocError>
     requires sound { IsSound (states_of cores.old.items) scene.old }
-    ensures step { IfOk result (λ e. MatchOption e (IsOver (net_of cores.old.items scene.old)
-        × (net_of cores.new.items scene.new ≡ net_of cores.old.items scene.old))
-        (λ event. NetStep (net_of cores.old.items scene.old) event (net_of cores.new.items scene.new))) }
-    ensures named { IfOk result (λ e. IfSome e (IsOfScenario scene.old.scenario)) }
-    ensures packets { IfOk result (λ e. IfSome e IsOfPackets) }
-    ensures sound { OnOk result (IsSound (states_of cores.new.items) scene.new) }
+    ensures { IfOk result (λ e. MatchOption e (IsLeft cores.old.items scene.old cores.new.items scene.new)
+        (λ event. Happens cores.old.items scene.old event cores.new.items scene.new)) }
 {
     if let Some(event) = hear_next(alloc, cores, scene)? {
         return Ok(Some(event));
@@ -45,12 +41,9 @@ fn hear_next<B: Bases>(
     scene: &mut Scene,
 ) -> Result<Option<NetEvent>, AllocError>
     requires sound { IsSound (states_of cores.old.items) scene.old }
-    ensures hears { IfOk result (λ e. MatchOption e ((cores.new.items ≡ cores.old.items) × (scene.new ≡ scene.old)
+    ensures { IfOk result (λ e. MatchOption e ((cores.new.items ≡ cores.old.items) × (scene.new ≡ scene.old)
         × All (λ d. min scene.old.due.moment scene.old.scenario.end < d.moment) scene.old.traffic.air)
-        (λ event. Delivers (net_of cores.old.items scene.old) event (net_of cores.new.items scene.new))) }
-    ensures named { IfOk result (λ e. IfSome e (IsOfScenario scene.old.scenario)) }
-    ensures packets { IfOk result (λ e. IfSome e IsOfPackets) }
-    ensures sound { OnOk result (IsSound (states_of cores.new.items) scene.new) }
+        (λ event. Happens cores.old.items scene.old event cores.new.items scene.new)) }
 {
     let limit = u64::min(scene.due.moment, scene.scenario.end);
     let Some(landed) = scene.traffic.air.take(limit) else {
@@ -78,10 +71,7 @@ fn tick_next<B: Bases>(
 ) -> Result<NetEvent, AllocError>
     requires sound { IsSound (states_of cores.old.items) scene.old }
     requires next { TicksNext (net_of cores.old.items scene.old) scene.old.due.router scene.old.due.moment }
-    ensures ticks { IfOk result (λ event. TicksDue (net_of cores.old.items scene.old) event (net_of cores.new.items scene.new)) }
-    ensures named { IfOk result (IsOfScenario scene.old.scenario) }
-    ensures packets { IfOk result IsOfPackets }
-    ensures sound { OnOk result (IsSound (states_of cores.new.items) scene.new) }
+    ensures { IfOk result (λ event. Happens cores.old.items scene.old event cores.new.items scene.new) }
 {
     let now = scene.due.moment;
     let event = tick_one(
@@ -108,10 +98,7 @@ fn tick_last<B: Bases>(
     requires sound { IsSound (states_of cores.old.items) scene.old }
     requires only { HasOnlyLastTicks (net_of cores.old.items scene.old) }
     requires some { scene.old.last_ticks < length cores.old.items }
-    ensures ends { IfOk result (λ event. TicksLast (net_of cores.old.items scene.old) event (net_of cores.new.items scene.new)) }
-    ensures named { IfOk result (IsOfScenario scene.old.scenario) }
-    ensures packets { IfOk result IsOfPackets }
-    ensures sound { OnOk result (IsSound (states_of cores.new.items) scene.new) }
+    ensures { IfOk result (λ event. Happens cores.old.items scene.old event cores.new.items scene.new) }
 {
     let now = scene.scenario.end;
     let event = tick_one(

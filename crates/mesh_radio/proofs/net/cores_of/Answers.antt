@@ -1,7 +1,5 @@
 use Rattle.std.proofs.Common.{◌≡◌, List, sym, subst, arith, length}
-use Rattle.mesh_atoms.specs.declared.settings.RouterSettings.{RouterSettings}
 use Rattle.mesh_core.specs.Holding.{CoreValue}
-use Rattle.mesh_machine.specs.Machine.{IsOpening}
 use Rattle.mesh_radio.specs.Opening.{AreOpeningUpTo}
 use Rattle.mesh_radio.specs.Run.{states_of}
 use Rattle.mesh_radio.proofs.Beginning.{none_opening, opening_more}
@@ -12,8 +10,8 @@ loop-router-init g c = subst (λ (l : List CoreValue). AreOpeningUpTo c.as_slice
 
 pub loop-router-preserved : goal.loop-router-preserved
 loop-router-preserved g c =
-    opening_more _ c.loop-router.router-index c.router-item.result c.in_ok-new.field-0 _ _ c.loop-router-test.true c.router-item.is c.in_ok-push.ensures.items
-    (subst (λ (r : RouterSettings). IsOpening r c.in_ok-new.field-0.state) c.in_ok-copy.ensures c.in_ok-new.ensures.opening) c.loop-router.invariant
+    let (core, is, fresh) = c.in_ok-put_core.ensures in
+    opening_more _ c.loop-router.router-index c.router-item.result core _ _ c.loop-router-test.true c.router-item.is is fresh c.loop-router.invariant
 
 pub returns : goal.returns
 returns g c =

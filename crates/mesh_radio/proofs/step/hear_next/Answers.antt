@@ -2,6 +2,7 @@ use Rattle.std.proofs.Common.{◌≤◌, ◌∙◌}
 use Rattle.std.specs.Prelude.{min}
 use Rattle.mesh_traffic.specs.Air.{delivery_of}
 use Rattle.mesh_traffic.specs.Sending.{with_heard}
+use Rattle.mesh_radio.specs.Net.{By_delivery}
 use Rattle.mesh_radio.specs.Run.{states_of}
 use Rattle.mesh_radio.specs.Scene.{IsFlying}
 use Rattle.mesh_traffic.specs.Traffic.{traffic_of}
@@ -21,24 +22,8 @@ land-requires-clause-arc g c =
     let s = c.args.scene.now in
     (first_and_others (IsFlying s.scenario s.now) s.traffic.air (delivery_of c.in-Some.landed) c.take.new.self c.in-Some.ensures.first c.requires.sound.flying).0.arc
 
-pub returns-clause-hears : goal.returns-clause-hears
-returns-clause-hears g c =
-    heard c.args.cores.now.items (states_of c.land.new.cores.items) c.args.scene.now (delivery_of c.in-Some.landed) c.take.new.self c.in_ok-event.event _ c.requires.sound c.in-Some.ensures.first
-    (rw (← c.min-limit.ensures) c.in-Some.ensures.limit) c.in_ok-event.ensures.lands
-
-pub returns-clause-named : goal.returns-clause-named
-returns-clause-named g c =
-    let s = c.args.scene.now in
-    landing_of_scenario s.scenario (states_of c.args.cores.now.items) (states_of c.land.new.cores.items) c.in_ok-event.event s.now (delivery_of c.in-Some.landed) _ _ c.requires.sound.are_routers c.in_ok-event.ensures.lands
-
-pub returns-clause-packets : goal.returns-clause-packets
-returns-clause-packets g c =
-    let s = c.args.scene.now in
-    let flies = (first_and_others (IsFlying s.scenario s.now) s.traffic.air (delivery_of c.in-Some.landed) c.take.new.self c.in-Some.ensures.first c.requires.sound.flying).0 in
-    landing_of_packets s.scenario (states_of c.args.cores.now.items) (states_of c.land.new.cores.items) c.in_ok-event.event (delivery_of c.in-Some.landed) _ _ flies.packet c.in_ok-event.ensures.lands
-
-pub returns-clause-sound : goal.returns-clause-sound
-returns-clause-sound g c =
+pub returns : goal.returns
+returns g c =
     let s = c.args.scene.now in
     let old = states_of c.args.cores.now.items in
     let new = states_of c.land.new.cores.items in
@@ -49,12 +34,17 @@ returns-clause-sound g c =
     let parts = first_and_others (IsFlying s.scenario s.now) s.traffic.air d c.take.new.self c.in-Some.ensures.first c.requires.sound.flying in
     let flying = still_flying s.scenario s.now d.moment c.take.new.self parts.1 (others_later s.traffic.air d c.take.new.self c.in-Some.ensures.first) in
     record {
-      ways = c.requires.sound.ways;
-      are_routers = routers_after s.scenario d.moment old new _ _ _ _ (later_routers s.scenario s.now d.moment old parts.0.later c.requires.sound.are_routers) lands.stepped;
-      seed = c.in_ok-event.ensures.seed ∙ c.requires.sound.seed;
-      flying = sent_flying s.scenario d.moment lands.arc.to lands.stepped.was.settings event.sent (with_heard (left_in_air s c.take.new.self) c.take.new.self) (traffic_of c.land.new.traffic) lands.stepped.sendable lands.sends flying;
-      due = same_first old new _ _ _ _ _ _ lands.stepped c.requires.sound.due;
-      due_later = min_left d.moment s.due.moment s.scenario.end soon;
-      in_time = min_right d.moment s.due.moment s.scenario.end soon;
-      few = rw (same_count old new _ _ _ _ _ lands.stepped) c.requires.sound.few;
+      step = By_delivery (heard c.args.cores.now.items new s d c.take.new.self event _ c.requires.sound c.in-Some.ensures.first soon lands);
+      named = landing_of_scenario s.scenario old new event s.now d _ _ c.requires.sound.are_routers lands;
+      packets = landing_of_packets s.scenario old new event d _ _ parts.0.packet lands;
+      sound = record {
+        ways = c.requires.sound.ways;
+        are_routers = routers_after s.scenario d.moment old new _ _ _ _ (later_routers s.scenario s.now d.moment old parts.0.later c.requires.sound.are_routers) lands.stepped;
+        seed = c.in_ok-event.ensures.seed ∙ c.requires.sound.seed;
+        flying = sent_flying s.scenario d.moment lands.arc.to lands.stepped.was.settings event.sent (with_heard (left_in_air s c.take.new.self) c.take.new.self) (traffic_of c.land.new.traffic) lands.stepped.sendable lands.sends flying;
+        due = same_first old new _ _ _ _ _ _ lands.stepped c.requires.sound.due;
+        due_later = min_left d.moment s.due.moment s.scenario.end soon;
+        in_time = min_right d.moment s.due.moment s.scenario.end soon;
+        few = rw (same_count old new _ _ _ _ _ lands.stepped) c.requires.sound.few;
+      };
     }

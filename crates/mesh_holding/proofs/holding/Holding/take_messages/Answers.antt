@@ -1,13 +1,13 @@
-use Rattle.std.proofs.Common.{◌<◌, ℕ, sym, subst, refl, [], ◌∷◌, ◌++◌, List, length, arith, ap, ◌∙◌}
-use Rattle.std.proofs.lemmas.List.{append-nil, append_assoc, length-map}
+use Rattle.std.proofs.Common.{◌<◌, ℕ, sym, subst, refl, [], ◌∷◌, ◌++◌, List, length, map, take, arith, ap, ◌∙◌}
+use Rattle.std.proofs.lemmas.List.{append-nil, append_assoc, length-map, take_all}
 use Rattle.mesh_atoms.specs.declared.settings.RouterSettings.{RouterSettings}
 use Rattle.mesh_hello.proofs.Collect.{item_at}
 use Rattle.mesh_packet.specs.declared.packet.Span.{Span}
-use Rattle.mesh_packet.specs.Fields.{fields_of_message}
+use Rattle.mesh_packet.specs.Fields.{MessageFields, fields_of_message}
 use Rattle.mesh_machine.specs.declared.fate.Fate.{Fate}
 use Rattle.mesh_machine.specs.declared.frame.Frame.{Frame}
 use Rattle.mesh_machine.specs.Laws.{SoundBases}
-use Rattle.mesh_machine.specs.Messages.{TakesMessage, No_messages}
+use Rattle.mesh_machine.specs.Messages.{TakesMessage, TakesMessages, No_messages}
 use Rattle.mesh_machine.proofs.Soundness.{messages_sound}
 use Rattle.mesh_machine.proofs.Takes.{spelled_at, takes_more}
 use Rattle.mesh_holding.proofs.Quiet.{both_true, quiet_equal, quiet_after}
@@ -58,3 +58,32 @@ loop-i-preserved g c =
           let (before, here) = both_true c.loop-i.quiet c.in_ok-fate.same quiet in
           quiet_after c.args.self.now.bases c.loop-i.self.bases c.take_message.new.self.bases (c.loop-i.invariant.quiet before) (c.in_ok-fate.ensures.quiet here);
     }
+
+pub take_message-requires-clause-now : goal.take_message-requires-clause-now
+take_message-requires-clause-now g c = c.requires.now
+
+pub take_message-requires-clause-iface : goal.take_message-requires-clause-iface
+take_message-requires-clause-iface g c = subst (λ (r : RouterSettings). c.args.arrival.iface < length r.interfaces) (sym c.loop-i.invariant.settings) c.requires.iface
+
+pub returns-clause-taken : goal.returns-clause-taken
+returns-clause-taken g c =
+    let (given, sent, fates, out, takes) = c.loop-i.invariant.taken in
+    let old = c.args.self.now in
+    let end = c.loop-i-test.false in
+    let count = c.requires.spelled.count in
+    let fields = length-map c.args.messages.now fields_of_message in
+    let all : List MessageFields = map fields_of_message c.args.messages.now in
+    let of_all = subst (λ (m : List MessageFields). TakesMessages old.settings c.args.own c.args.arrival c.args.bytes.now old.bases m (take c.loop-i.i c.args.spans.now) c.loop-i.self.bases sent given) (take_all c.loop-i.i all (omega (arith, fields, end))) takes in
+    (
+      given,
+      sent,
+      fates,
+      out,
+      subst (λ (s : List Span). TakesMessages old.settings c.args.own c.args.arrival c.args.bytes.now old.bases all s c.loop-i.self.bases sent given) (take_all c.loop-i.i c.args.spans.now (omega (arith, count, fields, end))) of_all,
+    )
+
+pub returns-clause-settings : goal.returns-clause-settings
+returns-clause-settings g c = c.loop-i.invariant.settings
+
+pub returns-clause-quiet : goal.returns-clause-quiet
+returns-clause-quiet g c = c.loop-i.invariant.quiet
