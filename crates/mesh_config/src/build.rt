@@ -2,8 +2,8 @@
 ghost use Rattle.std.specs.Prelude.{◌≡◌, ◌≤◌, ◌<◌, None, length, map, IfOk};
 ghost use Rattle.mesh_toml.specs.Faults.{first};
 ghost use Rattle.mesh_checks.specs.Compared.{stated_lists, stated_duplicates};
-ghost use Rattle.mesh_config.specs.Fields.{interface_fields, thresholds_of, threshold_pair, settings_parts, stated_parts, IsClear};
-ghost use Rattle.mesh_stated.specs.Router.{stated_interface_fields};
+ghost use Rattle.mesh_config.specs.Fields.{interface_fields, thresholds_of, threshold_pair, router_fields, settings_parts, stated_parts, IsClear};
+ghost use Rattle.mesh_stated.specs.Router.{stated_interface_fields, head_fields};
 ghost use Rattle.mesh_config.specs.Senders.{AreApart, senders_to, sender_pair, HaveSenders, HaveAllSenders, stated_steps, with_steps, qualities_to, HaveQualities, HaveAllQualities};
 ghost use Rattle.mesh_stated.specs.Steps.{quality_pair};
 
@@ -80,6 +80,35 @@ fn make_interfaces(
     Ok(all)
 }
 
+/// The settings of a router of these interfaces, which is stated so but for them.
+pub fn router_from(
+    outline: &StatedRouter,
+    times: Times,
+    interfaces: Seq<Interface>,
+) -> Result<RouterSettings, AllocError>
+    requires clear { IsClear outline.now }
+    requires interfaces { map interface_fields interfaces ≡ map stated_interface_fields outline.now.interfaces }
+    ensures fields { IfOk result (λ r. router_fields r ≡ head_fields outline.now.head) }
+    ensures times { IfOk result (λ r. r.times ≡ times) }
+    ensures interfaces { IfOk result (λ r. r.interfaces ≡ interfaces) }
+    ensures attached { IfOk result (λ r. r.attached ≡ outline.now.attached) }
+{
+    let name = outline.head.name.copy()?;
+    let attached = outline.attached.copy()?;
+    let near_hold = outline.head.near_hold.copy()?;
+    Ok(RouterSettings {
+        name,
+        willing: outline.head.willing,
+        hello_at: outline.head.hello_at,
+        tc_at: outline.head.tc_at,
+        times,
+        interfaces,
+        attached,
+        tc_rows: outline.head.tc_rows,
+        near_hold,
+    })
+}
+
 fn make_router(
     alloc: Global,
     routers: &[StatedRouter],
@@ -105,20 +134,8 @@ fn make_router(
         router,
         stated.interfaces.as_slice(),
     )?;
-    let name = stated.head.name.copy()?;
-    let attached = stated.attached.copy()?;
-    let near_hold = stated.head.near_hold.copy()?;
-    Ok(RouterSettings {
-        name,
-        willing: stated.head.willing,
-        hello_at: stated.head.hello_at,
-        tc_at: stated.head.tc_at,
-        times,
-        interfaces,
-        attached,
-        tc_rows: stated.head.tc_rows,
-        near_hold,
-    })
+    let settings = router_from(stated, times, interfaces)?;
+    Ok(settings)
 }
 
 /// The settings of all routers, where this is stated of the arcs, one by one; an arc of which nothing is stated any more has no

@@ -1,14 +1,14 @@
 //! The setup of `run` out of its text.
-ghost use Rattle.std.specs.Prelude.{◌≡◌, [], ◌∷◌, None, map, IfOk, IfErr};
+ghost use Rattle.std.specs.Prelude.{◌≡◌, [], ◌∷◌, None, true, IfOk, IfErr};
 ghost use Rattle.toml.specs.View.{table_view};
 ghost use Rattle.mesh_toml.specs.Faults.{Answers, first, IfRefused};
 ghost use Rattle.mesh_checks.specs.Checks.{duplicates};
-ghost use Rattle.mesh_config.specs.Fields.{interface_fields, router_fields, IsClear};
-ghost use Rattle.mesh_stated.specs.Router.{stated_interface_fields, head_fields};
-ghost use Rattle.mesh_config.specs.RunSettings.{OutlineOf, run_identifiers, stated_run_checks, SetupFrom, SetupSays, setup_visits, SetupIs, run_refusals, FirstRunRefusal};
+ghost use Rattle.mesh_config.specs.Fields.{IsClear};
+ghost use Rattle.mesh_config.specs.RunSettings.{OutlineOf, run_identifiers, stated_run_checks, SetupFrom, senders_checked, SetupSays, setup_visits, SetupIs, run_refusals, FirstRunRefusal};
 
+use crate::build::router_from;
 use crate::setup::{outline, run_interfaces, run_ports, senders_distinct};
-use mesh_atoms::{Interface, RouterSettings, RunSetup, Seq, Times};
+use mesh_atoms::{RunSetup, Seq};
 use mesh_checks::{no_duplicates, refuse_duplicates};
 use mesh_stated::StatedRouter;
 use mesh_stated_run::{StatedRun, StatedRunRouter, stated_run};
@@ -29,31 +29,25 @@ fn clear_outline(alloc: Global, stated: &StatedRunRouter) -> Result<StatedRouter
     }
 }
 
-fn router_from(
+// The setup of what is stated, where no address stands twice among the senders of an interface.
+fn made_run(
+    alloc: Global,
+    stated: &StatedRun,
     outline: &StatedRouter,
-    times: Times,
-    interfaces: Seq<Interface>,
-) -> Result<RouterSettings, AllocError>
+) -> Result<RunSetup, AllocError>
+    requires outline { OutlineOf stated.now.router outline.now }
     requires clear { IsClear outline.now }
-    requires interfaces { map interface_fields interfaces ≡ map stated_interface_fields outline.now.interfaces }
-    ensures fields { IfOk result (λ r. router_fields r ≡ head_fields outline.now.head) }
-    ensures times { IfOk result (λ r. r.times ≡ times) }
-    ensures interfaces { IfOk result (λ r. r.interfaces ≡ interfaces) }
-    ensures attached { IfOk result (λ r. r.attached ≡ outline.now.attached) }
+    requires senders { senders_checked stated.now.router ≡ true }
+    ensures { IfOk result (SetupFrom stated.now) }
 {
-    let name = outline.head.name.copy()?;
-    let attached = outline.attached.copy()?;
-    let near_hold = outline.head.near_hold.copy()?;
-    Ok(RouterSettings {
-        name,
-        willing: outline.head.willing,
-        hello_at: outline.head.hello_at,
-        tc_at: outline.head.tc_at,
-        times,
-        interfaces,
-        attached,
-        tc_rows: outline.head.tc_rows,
-        near_hold,
+    let all = stated.router.interfaces.as_slice();
+    let ports = run_ports(alloc, all)?;
+    let interfaces = run_interfaces(alloc, all, stated.router.head.thresholds)?;
+    let router = router_from(outline, stated.times, interfaces)?;
+    Ok(RunSetup {
+        end: stated.end,
+        router,
+        ports,
     })
 }
 
@@ -62,16 +56,11 @@ fn checked_run(alloc: Global, stated: &StatedRun) -> Result<RunSetup, ConfigFaul
     ensures { Answers (SetupFrom stated.now) (first (stated_run_checks stated.now.router)) result }
 {
     let outline = clear_outline(alloc, &stated.router)?;
-    let all = stated.router.interfaces.as_slice();
-    refuse_duplicates(alloc, senders_distinct(all), "address")?;
-    let interfaces = run_interfaces(alloc, all, stated.router.head.thresholds)?;
-    let ports = run_ports(alloc, all)?;
-    let router = router_from(&outline, stated.times, interfaces)?;
-    Ok(RunSetup {
-        end: stated.end,
-        router,
-        ports,
-    })
+    let distinct = senders_distinct(stated.router.interfaces.as_slice());
+    match refuse_duplicates(alloc, distinct, "address") {
+        Ok(()) => Ok(made_run(alloc, stated, &outline)?),
+        Err(e) => Err(e),
+    }
 }
 
 fn setup_in(alloc: Global, table: &Table) -> Result<RunSetup, ConfigFault>

@@ -1,53 +1,26 @@
-use Rattle.std.proofs.Common.{◌≡◌, List, map, length, Bool, true, None, codes, refl, sym, ap, ◌∙◌, subst}
+use Rattle.std.proofs.Common.{◌≡◌, Bool, true, None, codes, refl, sym, ap, ◌∙◌, subst}
 use Rattle.std.specs.List.{list_all}
-use Rattle.mesh_atoms.specs.declared.settings.Interface.{Interface}
 use Rattle.mesh_atoms.specs.Settings.{are_distinct}
 use Rattle.mesh_checks.specs.Compared.{same_sender}
-use Rattle.mesh_config.specs.RunSettings.{run_interface_fields, stated_run_interface_fields, outline_fields, senders_checked, stated_port}
-use Rattle.mesh_config.specs.Fields.{thresholds_of, threshold_pair}
+use Rattle.mesh_config.specs.RunSettings.{senders_checked}
 use Rattle.mesh_checks.specs.Checks.{duplicate_unless}
 use Rattle.mesh_stated_run.specs.declared.stated.StatedRunInterface.{StatedRunInterface}
-use Rattle.mesh_config.proofs.RunLaws.{fields_from, sound_senders, same_length, unless_passed}
+use Rattle.mesh_config.proofs.RunLaws.{unless_passed}
 use Rattle.mesh_config.proofs.running.checked_run.Goals as goal
 
-pub run_interfaces-requires : goal.run_interfaces-requires
-run_interfaces-requires c = sym c.senders_distinct.ensures ∙ unless_passed c.senders_distinct.result (codes "address") c.in_ok-refuse_duplicates.ensures.0
+pub made_run-requires : goal.made_run-requires
+made_run-requires c = record {
+  outline = c.in_ok-outline.ensures.answer.1;
+  clear = c.in_ok-outline.ensures.clear;
+  senders = let checks : StatedRunInterface → Bool = λ i. are_distinct same_sender i.senders in
+      sym (c.senders_distinct-distinct.ensures ∙ ap (list_all checks) c.as_slice.ensures) ∙ unless_passed c.senders_distinct-distinct.result (codes "address") c.in-Ok.ensures.0;
+}
 
-pub router_from-requires-clause-interfaces : goal.router_from-requires-clause-interfaces
-router_from-requires-clause-interfaces c =
-    fields_from c.in_ok-interfaces.interfaces c.as_slice-all.result.now c.in_ok-interfaces.ensures.fields
-    ∙ (ap (map outline_fields) c.as_slice-all.ensures ∙ sym c.in_ok-outline.ensures.answer.1.same_interfaces)
-
-pub invariant_of-result : goal.invariant_of-result
-invariant_of-result c =
-    let xs = c.in_ok-interfaces.interfaces in let ds = c.as_slice-all.result.now in
-    let apart : list_all (λ i. are_distinct same_sender i.senders) ds ≡ true =
-    sym c.senders_distinct.ensures ∙ unless_passed c.senders_distinct.result (codes "address") c.in_ok-refuse_duplicates.ensures.0 in
-    let many : length c.in_ok-router.router.interfaces ≡ length ds =
-    ap (λ (ys : List Interface). length ys) c.in_ok-router.ensures.interfaces ∙ same_length run_interface_fields stated_run_interface_fields xs ds c.in_ok-interfaces.ensures.fields in
-    record {
-      end_in_range = c.args.stated.now.end_in_range;
-      sound_senders = rw c.in_ok-router.ensures.interfaces (sound_senders xs ds c.in_ok-interfaces.ensures.fields apart);
-      ports_of_interfaces = c.in_ok-ports.ensures.size ∙ sym many;
-    }
-
-pub returns : goal.returns
-returns c =
+pub returns-in-Ok : goal.returns-in-Ok
+returns-in-Ok c =
     let d = c.args.stated.now in let outline = c.in_ok-outline.ensures.answer in
     let checks : StatedRunInterface → Bool = λ i. are_distinct same_sender i.senders in
-    let same : c.senders_distinct.result ≡ senders_checked d.router = c.senders_distinct.ensures ∙ ap (list_all checks) c.as_slice-all.ensures in
+    let same : c.senders_distinct-distinct.result ≡ senders_checked d.router = c.senders_distinct-distinct.ensures ∙ ap (list_all checks) c.as_slice.ensures in
     let apart : duplicate_unless (senders_checked d.router) (codes "address") ≡ None =
-    subst (λ (b : Bool). duplicate_unless b (codes "address") ≡ None) same c.in_ok-refuse_duplicates.ensures.0 in (
-      rw (outline.0, apart) refl,
-      record {
-        same_end = refl;
-        same_fields = c.in_ok-router.ensures.fields ∙ outline.1.same_fields;
-        same_times = c.in_ok-router.ensures.times;
-        same_interfaces = ap (map run_interface_fields) c.in_ok-router.ensures.interfaces
-            ∙ (c.in_ok-interfaces.ensures.fields ∙ ap (map stated_run_interface_fields) c.as_slice-all.ensures);
-        same_thresholds = ap (map thresholds_of) c.in_ok-router.ensures.interfaces
-            ∙ (c.in_ok-interfaces.ensures.thresholds ∙ ap (map (λ (i : StatedRunInterface). threshold_pair d.router.head.thresholds)) c.as_slice-all.ensures);
-        same_attached = c.in_ok-router.ensures.attached ∙ outline.1.same_attached;
-        same_ports = c.in_ok-ports.ensures.ports ∙ ap (map stated_port) c.as_slice-all.ensures;
-      },
-    )
+    subst (λ (b : Bool). duplicate_unless b (codes "address") ≡ None) same c.in-Ok.ensures.0 in
+    (rw (outline.0, apart) refl, c.in_ok-made_run-in-Ok.ensures)

@@ -3,6 +3,7 @@ use Rattle.mesh_tlv.specs.Fields.{addr_fields}
 use Rattle.mesh_report.specs.Lines.{addr_tlv_line}
 use Rattle.mesh_report.specs.Pieces.{numbered, valued, chosen}
 use Rattle.mesh_report.proofs.Joined.{behind, two, three}
+use Rattle.mesh_tlv.proofs.Grows.{grows_on}
 use Rattle.mesh_report.proofs.lines.put_addr_tlv_line.Goals as goal
 
 pub returns-clause-ok : goal.returns-clause-ok
@@ -16,3 +17,12 @@ returns-clause-ok c =
     let second = behind c.make_room.new.out c.put_kind.new.line cover c.put_cover.ensures.text in
     let last = two (c.make_room.new.out ++ c.put_cover.new.line) value (codes "\n") c.in_ok-put_value.ensures.ok (behind c.put_value.new.out c.put_value.new.line (codes "\n") c.put_text.ensures.text) in
     three (c.args.out.now ++ c.args.line.now) kind cover (value ++ codes "\n") first second last
+
+pub returns-clause-kept : goal.returns-clause-kept
+returns-clause-kept c = grows_on c.make_room.ensures.kept c.put_value.ensures.kept
+
+pub returns-in_err-make_room-clause-kept : goal.returns-in_err-make_room-clause-kept
+returns-in_err-make_room-clause-kept c = c.make_room.ensures.kept
+
+pub returns-in_err-put_value-clause-kept : goal.returns-in_err-put_value-clause-kept
+returns-in_err-put_value-clause-kept c = grows_on c.make_room.ensures.kept c.put_value.ensures.kept

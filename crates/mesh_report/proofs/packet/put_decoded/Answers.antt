@@ -1,6 +1,7 @@
 use Rattle.std.proofs.Common.{◌≡◌, ◌++◌, List, ℕ, map, refl}
 use Rattle.std.specs.List.{flat_map}
 use Rattle.mesh_tlv.specs.Fields.{fields}
+use Rattle.mesh_tlv.proofs.Grows.{grows_on}
 use Rattle.mesh_packet.specs.Fields.{fields_of_packet, fields_of_message}
 use Rattle.mesh_packet.specs.Least.{Wrote}
 use Rattle.mesh_report.specs.Lines.{packet_line, tlv_line}
@@ -18,3 +19,12 @@ returns-clause-ok c = on_ok c.put_messages.result (λ wrote.
     let put_tlvs : standing ≡ (c.put_packet_line.new.out ++ c.put_packet_line.new.line) ++ tlvs = rw (← c.as_slice.ensures) c.in_ok-put_tlvs.ensures.ok in
     let messages : Wrote (IsMessagesText (map fields_of_message packet.messages) c.args.decoded.now.spans) standing (c.put_messages.new.out ++ c.put_messages.new.room.line) = rw (← c.as_slice-2.ensures, ← c.as_slice-3.ensures) wrote in
     (first ++ tlvs ++ messages.0, three old first tlvs messages.0 c.in_ok-put_packet_line.ensures.ok put_tlvs messages.1, (messages.0, messages.2, refl))) c.put_messages.ensures.ok
+
+pub returns-clause-kept : goal.returns-clause-kept
+returns-clause-kept c = grows_on c.put_packet_line.ensures.kept (grows_on c.put_tlvs.ensures.kept c.put_messages.ensures.kept)
+
+pub returns-in_err-put_packet_line-clause-kept : goal.returns-in_err-put_packet_line-clause-kept
+returns-in_err-put_packet_line-clause-kept c = c.put_packet_line.ensures.kept
+
+pub returns-in_err-put_tlvs-clause-kept : goal.returns-in_err-put_tlvs-clause-kept
+returns-in_err-put_tlvs-clause-kept c = grows_on c.put_packet_line.ensures.kept c.put_tlvs.ensures.kept

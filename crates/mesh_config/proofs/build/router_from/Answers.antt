@@ -1,5 +1,5 @@
 use Rattle.mesh_config.proofs.Builds.{sound_router}
-use Rattle.mesh_config.proofs.running.router_from.Goals as goal
+use Rattle.mesh_config.proofs.build.router_from.Goals as goal
 
 pub invariant_of-result : goal.invariant_of-result
 invariant_of-result c = record {

@@ -1,0 +1,30 @@
+use Rattle.std.proofs.Common.{◌≡◌, ◌++◌, List, ℕ, map}
+use Rattle.std.specs.List.{flat_map}
+use Rattle.mesh_tlv.specs.Fields.{fields}
+use Rattle.mesh_tlv.proofs.Grows.{grows_on}
+use Rattle.mesh_packet.specs.Fields.{fields_of_message, fields_of_block}
+use Rattle.mesh_report.specs.Lines.{message_line, tlv_line}
+use Rattle.mesh_report.specs.Packets.{block_text, message_text}
+use Rattle.mesh_report.proofs.Joined.{on_ok, three}
+use Rattle.mesh_report.proofs.packet.put_parts.Goals as goal
+
+pub returns-in_err-put_message_line-clause-kept : goal.returns-in_err-put_message_line-clause-kept
+returns-in_err-put_message_line-clause-kept c = c.put_message_line.ensures.kept
+
+pub returns-in_err-put_tlvs-clause-kept : goal.returns-in_err-put_tlvs-clause-kept
+returns-in_err-put_tlvs-clause-kept c = grows_on c.put_message_line.ensures.kept c.put_tlvs.ensures.kept
+
+pub returns : goal.returns
+unfolding message_text
+returns c =
+    let message = c.args.message.now in
+    let old : List ℕ = c.args.out.now ++ c.args.line.now in
+    let first : List ℕ = message_line c.args.size (fields_of_message message) in
+    let tlvs : List ℕ = flat_map tlv_line (map fields message.tlvs) in
+    let blocks : List ℕ = flat_map block_text (map fields_of_block message.blocks) in
+    let standing : List ℕ = c.put_tlvs.new.out ++ c.put_tlvs.new.line in
+    let put_tlvs : standing ≡ (c.put_message_line.new.out ++ c.put_message_line.new.line) ++ tlvs = rw (← c.as_slice.ensures) c.in_ok-put_tlvs.ensures.ok in
+    record {
+      ok = on_ok c.put_blocks.result (λ wrote. three old first tlvs blocks c.in_ok-put_message_line.ensures.ok put_tlvs (rw (← c.as_slice-2.ensures) wrote)) c.put_blocks.ensures.ok;
+      kept = grows_on c.put_message_line.ensures.kept (grows_on c.put_tlvs.ensures.kept c.put_blocks.ensures.kept);
+    }
