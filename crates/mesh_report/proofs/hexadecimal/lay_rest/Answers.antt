@@ -1,7 +1,6 @@
-use Rattle.std.proofs.Common.{◌≡◌, ◌+◌, ◌*◌, ◌<◌, length, subst, arith, ◌∙◌}
+use Rattle.std.proofs.Common.{◌+◌, ◌*◌, ◌<◌, length, arith, ◌∙◌}
 use Rattle.std.specs.Prelude.{slice_set}
 use Rattle.std.proofs.lemmas.List.{length-set}
-use Rattle.mesh_report.specs.Digits.{AreDigits}
 use Rattle.mesh_report.proofs.LaidHex.{one_more}
 use Rattle.mesh_report.proofs.hexadecimal.lay_rest.Goals as goal
 

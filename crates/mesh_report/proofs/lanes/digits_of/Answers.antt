@@ -1,4 +1,4 @@
-use Rattle.std.proofs.Common.{ℕ, ◌/◌, ◌%◌, ◌<◌, get_or, refl, ap, ◌∙◌, arith, Fits, w8}
+use Rattle.std.proofs.Common.{ℕ, ap, ◌∙◌, arith, Fits, w8}
 use Rattle.std.specs.Prelude.{slice_index}
 use Rattle.hex.specs.Hex.{lower_digits}
 use Rattle.std.proofs.lemmas.Simd.{Each1-get_or}

@@ -1,4 +1,4 @@
-use Rattle.std.proofs.Common.{◌≡◌, ◌++◌, List, ℕ, refl, sym, ap, ◌∙◌}
+use Rattle.std.proofs.Common.{◌≡◌, ◌++◌, List, ℕ, refl, ap, ◌∙◌}
 use Rattle.mesh_tlv.proofs.Grows.{grows_on, grows_none}
 use Rattle.mesh_packet.specs.Fields.{fields_of_message}
 use Rattle.mesh_report.specs.Packets.{message_text}
