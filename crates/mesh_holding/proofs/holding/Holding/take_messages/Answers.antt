@@ -73,8 +73,7 @@ returns-clause-taken g c =
     let count = c.requires.spelled.count in
     let fields = length-map c.args.messages.now fields_of_message in
     let all : List MessageFields = map fields_of_message c.args.messages.now in
-    let of_all = subst (λ (m : List MessageFields). TakesMessages old.settings c.args.own c.args.arrival c.args.bytes.now old.bases m (take c.loop-i.i c.args.spans.now) c.loop-i.self.bases sent given) (take_all c.loop-i.i all (omega (arith, fields, end))) takes in
-    (
+    let of_all = subst (λ (m : List MessageFields). TakesMessages old.settings c.args.own c.args.arrival c.args.bytes.now old.bases m (take c.loop-i.i c.args.spans.now) c.loop-i.self.bases sent given) (take_all c.loop-i.i all (omega (arith, fields, end))) takes in (
       given,
       sent,
       fates,
