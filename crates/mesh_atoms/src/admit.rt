@@ -5,7 +5,7 @@ ghost use Rattle.mesh_atoms.specs.Settings.{is_step, are_thresholds, are_ascendi
 use crate::{Addr4, Seq};
 
 /// From a moment on, up to 29,491,200 (an hour) in ticks of 1/8192 s, the quality of what a sender sends, up to 100.
-#[derive(Clone, Copy, PartialEq, Eq)]
+#[derive(Clone, Copy)]
 pub struct QualityStep {
     pub at: u64,
     pub quality: u8,

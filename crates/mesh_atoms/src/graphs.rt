@@ -2,7 +2,7 @@
 use crate::{Addr4, Metric, NetAddr, Seq};
 
 /// A neighbour in the choice of relays: the cost of its link, and its willingness up to 15 (RFC 7181, section 18.2).
-#[derive(Clone, Copy, PartialEq, Eq)]
+#[derive(Clone, Copy)]
 pub struct Near {
     pub id: Addr4,
     pub cost: u32,
@@ -10,14 +10,14 @@ pub struct Near {
 }
 
 /// An address that is reached with no relay.
-#[derive(Clone, Copy, PartialEq, Eq)]
+#[derive(Clone, Copy)]
 pub struct Direct {
     pub addr: Addr4,
     pub cost: u32,
 }
 
 /// An address that a neighbour leads to, and what that neighbour adds to its own cost.
-#[derive(Clone, Copy, PartialEq, Eq)]
+#[derive(Clone, Copy)]
 pub struct Far {
     pub via: Addr4,
     pub addr: Addr4,
@@ -33,7 +33,7 @@ pub struct NeighbourGraph {
 }
 
 /// An arc from one node to another, at a cost.
-#[derive(Clone, Copy, PartialEq, Eq, PartialOrd, Ord)]
+#[derive(Clone, Copy)]
 pub struct Arc4 {
     pub from: NetAddr,
     pub to: NetAddr,
@@ -63,7 +63,7 @@ pub struct Certificate {
 
 /// A routing tuple (RFC 7181, section 10.5): by which address on which interface the destination is reached, at which
 /// cost, and the node before it on the way.
-#[derive(Clone, Copy, PartialEq, Eq)]
+#[derive(Clone, Copy)]
 pub struct Route {
     pub dest: NetAddr,
     pub next: Addr4,
@@ -73,7 +73,7 @@ pub struct Route {
 }
 
 /// Two interfaces of two routers that hear each other, and the metric from the first to the second.
-#[derive(Clone, Copy, PartialEq, Eq)]
+#[derive(Clone, Copy)]
 pub struct Pair {
     pub from: usize,
     pub from_iface: usize,

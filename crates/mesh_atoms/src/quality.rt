@@ -65,7 +65,12 @@ pub fn quality_at(rule: &Admit, addrs: &[Addr4], now: u64) -> u8
 fn is_among(addrs: &[Addr4], addr: Addr4) -> bool
     ensures { result ≡ list_any (addr_eq addr) addrs.now }
 {
-    addrs.iter().any(|other| addr == *other)
+    for other in addrs {
+        if addr == *other {
+            return true;
+        }
+    }
+    false
 }
 
 // The quality of what a sender with these steps sends.

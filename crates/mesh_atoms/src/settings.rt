@@ -10,7 +10,7 @@ use std::alloc::AllocError;
 
 /// The intervals and hold times of a router, in ticks of 1/8192 s, each from 820 (100 ms) to 29,491,200 (an hour)
 /// (RFC 7181, section 5, and RFC 6130, section 5), and the hop limit of its TCs, at least 1.
-#[derive(Clone, Copy, PartialEq, Eq)]
+#[derive(Clone, Copy)]
 pub struct Times {
     /// Between two HELLOs.
     pub hello: u64,
@@ -53,7 +53,7 @@ pub const DEFAULT_TIMES: Times = Times {
 pub const DEFAULT_TC_ROWS: usize = 1088;
 
 /// The metric of what is received from a sender other than 0.0.0.0.
-#[derive(Clone, Copy, PartialEq, Eq)]
+#[derive(Clone, Copy)]
 pub struct SenderMetric {
     pub sender: Addr4,
     pub metric: Metric,
@@ -92,7 +92,7 @@ impl Interface {
 }
 
 /// A network behind a router (RFC 7181, section 7.2), at this distance in hops.
-#[derive(Clone, Copy, PartialEq, Eq)]
+#[derive(Clone, Copy)]
 pub struct Attached4 {
     pub net: NetAddr,
     pub metric: Metric,
@@ -101,7 +101,7 @@ pub struct Attached4 {
 
 /// Routers up to so many hops away, from 1 to 254, are to hold what a TC says for this time, in ticks of 1/8192 s from 820
 /// (100 ms) to 29,491,200 (an hour) (RFC 5497, section 6).
-#[derive(Clone, Copy, PartialEq, Eq)]
+#[derive(Clone, Copy)]
 pub struct NearHold {
     pub hops: u8,
     pub hold: u64,
@@ -184,7 +184,7 @@ pub struct RunSetup {
 
 /// A radio arc from one interface to another, routers and interfaces being numbered from 0: its metric, the frames that
 /// are lost on it among a thousand, and its delay from 9 (1 ms) to 8192 (1 s) in ticks of 1/8192 s.
-#[derive(Clone, Copy, PartialEq, Eq)]
+#[derive(Clone, Copy)]
 pub struct RadioArc {
     pub from: usize,
     pub from_iface: usize,

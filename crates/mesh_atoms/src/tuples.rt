@@ -119,31 +119,31 @@ pub struct Neighbour {
 }
 
 /// A lost neighbour tuple (RFC 6130, section 8.2), keyed by an address that was a symmetric neighbour's.
-#[derive(Clone, Copy, PartialEq, Eq)]
+#[derive(Clone, Copy)]
 pub struct Lost {}
 
 /// An advertising remote router tuple (RFC 7181, section 10.1), keyed by the router's originator.
-#[derive(Clone, Copy, PartialEq, Eq)]
+#[derive(Clone, Copy)]
 pub struct Advertiser {
     pub ansn: u16,
 }
 
 /// A router topology tuple (RFC 7181, section 10.2).
-#[derive(Clone, Copy, PartialEq, Eq)]
+#[derive(Clone, Copy)]
 pub struct RouterTuple {
     pub ansn: u16,
     pub metric: Metric,
 }
 
 /// A routable address topology tuple (RFC 7181, section 10.3).
-#[derive(Clone, Copy, PartialEq, Eq)]
+#[derive(Clone, Copy)]
 pub struct AddressTuple {
     pub ansn: u16,
     pub metric: Metric,
 }
 
 /// An attached network tuple (RFC 7181, section 10.4), with the network's distance behind the router, in hops.
-#[derive(Clone, Copy, PartialEq, Eq)]
+#[derive(Clone, Copy)]
 pub struct NetworkTuple {
     pub ansn: u16,
     pub distance: u8,
@@ -151,7 +151,7 @@ pub struct NetworkTuple {
 }
 
 /// A received, processed or forwarded tuple (RFC 7181, section 11).
-#[derive(Clone, Copy, PartialEq, Eq)]
+#[derive(Clone, Copy)]
 pub struct Noted {}
 
 /// A base that may be full.

@@ -66,14 +66,20 @@ pub fn put_number_or_none<const N: usize>(line: &mut Piece, label: [u8; N], numb
 pub fn wide_octet(number: Option<u8>) -> Option<u64>
     ensures { result ≡ number }
 {
-    number.map(u64::from)
+    match number {
+        Some(number) => Some(u64::from(number)),
+        None => None,
+    }
 }
 
 /// A number of 16 bits that may be absent, as one of 64.
 pub fn wide_short(number: Option<u16>) -> Option<u64>
     ensures { result ≡ number }
 {
-    number.map(u64::from)
+    match number {
+        Some(number) => Some(u64::from(number)),
+        None => None,
+    }
 }
 
 // Puts up to 128 octets in lower-case hexadecimal digits behind what `line` holds.

@@ -10,7 +10,7 @@ use mesh_atoms::{
 use std::alloc::{AllocError, Global};
 
 /// What a TLV may say of an address: its type, and for LINK_METRIC which metric.
-#[derive(Clone, Copy, PartialEq, Eq)]
+#[derive(Clone, Copy)]
 pub(crate) enum Column {
     Local,
     Link,
@@ -25,7 +25,7 @@ pub(crate) enum Column {
 }
 
 /// All that is written of one address.
-#[derive(Clone, Copy, PartialEq, Eq)]
+#[derive(Clone, Copy)]
 pub(crate) struct Line {
     pub net: NetAddr,
     pub local: Option<u8>,

@@ -7,7 +7,7 @@ use mesh_atoms::tlv_type::{
 };
 
 /// Of several numbers: none, one, though it may have come more than once, or different ones.
-#[derive(Clone, Copy, PartialEq, Eq)]
+#[derive(Clone, Copy)]
 pub(crate) enum One {
     Unsaid,
     Said(u16),
@@ -15,14 +15,14 @@ pub(crate) enum One {
 }
 
 /// The values of a type that has one octet in a range: whether one isn't such, and which octet the others are.
-#[derive(Clone, Copy, PartialEq, Eq)]
+#[derive(Clone, Copy)]
 pub(crate) struct Octets {
     pub wrong: bool,
     pub one: One,
 }
 
 /// What the TLVs say of one address.
-#[derive(Clone, Copy, PartialEq, Eq)]
+#[derive(Clone, Copy)]
 pub(crate) struct RowParts {
     pub local: Octets,
     pub link: Octets,
@@ -192,22 +192,21 @@ impl RowParts {
     pub(crate) fn take(&mut self, kind: u8, octets: &[u8])
         ensures { self.new ≡ take_part kind octets.now self.old }
     {
-        if kind == LOCAL_IF {
-            self.local = self.local.also(0, 2, octets);
-        } else if kind == LINK_STATUS {
-            self.link = self.link.also(0, 3, octets);
-        } else if kind == OTHER_NEIGHB {
-            self.other = self.other.also(0, 2, octets);
-        } else if kind == LINK_METRIC {
-            self.take_metric(octets);
-        } else if kind == MPR {
-            self.flooding = or(self.flooding, says_flag(octets, 1));
-            self.routing = or(self.routing, says_flag(octets, 2));
-        } else if kind == NBR_ADDR_TYPE {
-            self.take_type(octets);
-        } else if kind == GATEWAY {
-            self.wrong_gateway = or(self.wrong_gateway, has_other_length(octets, 1));
-            self.gateway = self.gateway.also_octet(octets);
+        match kind {
+            LOCAL_IF => self.local = self.local.also(0, 2, octets),
+            LINK_STATUS => self.link = self.link.also(0, 3, octets),
+            OTHER_NEIGHB => self.other = self.other.also(0, 2, octets),
+            LINK_METRIC => self.take_metric(octets),
+            MPR => {
+                self.flooding = or(self.flooding, says_flag(octets, 1));
+                self.routing = or(self.routing, says_flag(octets, 2));
+            }
+            NBR_ADDR_TYPE => self.take_type(octets),
+            GATEWAY => {
+                self.wrong_gateway = or(self.wrong_gateway, has_other_length(octets, 1));
+                self.gateway = self.gateway.also_octet(octets);
+            }
+            _ => {}
         }
     }
 }

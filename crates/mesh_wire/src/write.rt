@@ -1,14 +1,14 @@
 //! Writing HELLO and TC messages, each as a packet of its own.
-ghost use Rattle.std.specs.Prelude.{◌≡◌, ◌≤◌, length, map, List, IfOk};
+ghost use Rattle.std.specs.Prelude.{◌≡◌, ◌≤◌, [], ℕ, length, map, List, IfOk, OnOk};
 ghost use Rattle.std.specs.Option.{option_map};
 ghost use Rattle.mesh_tlv.specs.Fields.{fields};
 ghost use Rattle.mesh_codes.specs.Codes.{time_at_distance};
 ghost use Rattle.mesh_atoms.specs.Validity.{IsTimeValue};
 ghost use Rattle.mesh_atoms.specs.Writable.{IsSentTime, IsSentIfSome, HaveSenderAlone, HaveStatusWhole, AreOneType, HaveTypeWhole};
 ghost use Rattle.mesh_packet.specs.declared.packet.Span.{Span};
-ghost use Rattle.mesh_packet.specs.Fields.{fields_of_message, PacketFields};
+ghost use Rattle.mesh_packet.specs.Fields.{fields_of_message, fields_of_packet, PacketFields};
 ghost use Rattle.mesh_packet.specs.Grammar.{Spells};
-ghost use Rattle.mesh_packet.specs.Least.{IsEncodableMessage};
+ghost use Rattle.mesh_packet.specs.Least.{IsEncodable, IsEncodableMessage, LeastForm};
 ghost use Rattle.mesh_wire.specs.Drafts.{IsCodeOf, IsCodeIfSome, octet_of, whole, HasHelloValues, HasTcValues, saying, heading_of, DraftsHello, DraftsTc, FitsAlone};
 ghost use Rattle.mesh_wire.specs.Lines.{hello_line, tc_line};
 ghost use Rattle.mesh_wire.specs.Writes.{IsSoleMessage, WritesHello, WritesTc, ReadsBackHello, ReadsBackTc};
@@ -80,7 +80,27 @@ fn saying<'a>(kind: u8, ext: u8, octets: &'a [u8]) -> Tlv<'a>
     }
 }
 
-// The message TLVs: validity, interval where there is one, and another.
+// Puts the message TLVs into an empty list: validity, interval where there is one, and another.
+fn put_heading<'a>(
+    validity: &'a [u8],
+    values: &'a [u8],
+    has_interval: bool,
+    kind: u8,
+    ext: u8,
+    tlvs: &mut Seq<Tlv<'a>>,
+) -> Result<(), AllocError>
+    requires values { 1 ≤ length values.now }
+    requires empty { tlvs.old ≡ [] }
+    ensures { OnOk result (map fields tlvs.new ≡ heading_of validity.now values.now has_interval kind ext) }
+{
+    tlvs.push(saying(VALIDITY_TIME, 0, validity))?;
+    if has_interval {
+        tlvs.push(saying(INTERVAL_TIME, 0, &values[..1]))?;
+    }
+    tlvs.push(saying(kind, ext, &values[1..]))
+}
+
+// The message TLVs.
 fn heading_of<'a>(
     alloc: Global,
     validity: &'a [u8],
@@ -93,12 +113,22 @@ fn heading_of<'a>(
     ensures { IfOk result (λ tlvs. map fields tlvs ≡ heading_of validity.now values.now has_interval kind ext) }
 {
     let mut tlvs = Seq::new(alloc);
-    tlvs.push(saying(VALIDITY_TIME, 0, validity))?;
-    if has_interval {
-        tlvs.push(saying(INTERVAL_TIME, 0, &values[..1]))?;
-    }
-    tlvs.push(saying(kind, ext, &values[1..]))?;
+    put_heading(validity, values, has_interval, kind, ext, &mut tlvs)?;
     Ok(tlvs)
+}
+
+// The octets of a packet whose least form fits a datagram.
+fn encoded(alloc: Global, packet: &Packet) -> Result<Bytes, AllocError>
+    requires encodable { IsEncodable (fields_of_packet packet.now) }
+    requires fits { (bytes : List ℕ) → LeastForm (fields_of_packet packet.now) bytes → length bytes ≤ 65507 }
+    ensures least { IfOk result (LeastForm (fields_of_packet packet.now)) }
+    ensures spelled { IfOk result (λ bytes. (spans : List Span) × Spells (fields_of_packet packet.now) spans bytes) }
+{
+    match encode(alloc, packet) {
+        Ok(bytes) => Ok(bytes),
+        Err(EncodeFault::Memory(e)) => Err(e),
+        Err(EncodeFault::TooLong) => unreachable!(),
+    }
 }
 
 // The packet of one message.
@@ -114,11 +144,7 @@ fn alone(alloc: Global, message: Message) -> Result<Bytes, AllocError>
         tlvs: Seq::new(alloc),
         messages,
     };
-    match encode(alloc, &packet) {
-        Ok(bytes) => Ok(bytes),
-        Err(EncodeFault::Memory(e)) => Err(e),
-        Err(EncodeFault::TooLong) => unreachable!(),
-    }
+    encoded(alloc, &packet)
 }
 
 // The values of all TLVs of a HELLO.
@@ -128,9 +154,11 @@ fn hello_values(alloc: Global, hello: &Hello, lines: &[Line]) -> Result<Bytes, A
     ensures { IfOk result (HasHelloValues hello.now lines.now) }
 {
     let mut values = Bytes::new(alloc);
-    values.push(code_of(hello.validity))?;
-    values.push(code_if_some(hello.interval))?;
-    values.push(octet_of(hello.willing))?;
+    values.append(&[
+        code_of(hello.validity),
+        code_if_some(hello.interval),
+        octet_of(hello.willing),
+    ])?;
     lay(lines, &mut values)?;
     Ok(values)
 }
@@ -173,9 +201,11 @@ fn tc_values(alloc: Global, tc: &Tc, lines: &[Line]) -> Result<Bytes, AllocError
     ensures { IfOk result (HasTcValues tc.now lines.now) }
 {
     let mut values = Bytes::new(alloc);
-    values.push(code_if_some(tc.interval))?;
-    values.push((tc.ansn / 256) as u8)?;
-    values.push((tc.ansn % 256) as u8)?;
+    values.append(&[
+        code_if_some(tc.interval),
+        (tc.ansn / 256) as u8,
+        (tc.ansn % 256) as u8,
+    ])?;
     lay(lines, &mut values)?;
     Ok(values)
 }
