@@ -4,32 +4,21 @@ ghost use Rattle.std.specs.List.{filter_map, cons_option};
 ghost use Rattle.std.specs.Prelude.{[]};
 ghost use Rattle.mesh_atoms.specs.declared.graphs.Arc4.{Arc4};
 ghost use Rattle.mesh_atoms.specs.Base.{base_of};
-ghost use Rattle.mesh_routes.specs.Arcs.{known_arc, own_arc, two_hop_arc};
-ghost use Rattle.mesh_routes.specs.Owners.{addr_cmp};
+ghost use Rattle.mesh_hops.specs.Arcs.{two_hop_arc};
+ghost use Rattle.mesh_hops.specs.Owners.{addr_cmp};
+ghost use Rattle.mesh_routes.specs.Arcs.{own_arc};
 ghost use Rattle.std.specs.BTreeMap.{IsOrdered};
 ghost use Rattle.mesh_routes.specs.Passes.{Adds, GivenBy};
 
-use crate::owners::{Owner, owner_at};
 use mesh_atoms::{
-    Addr4, AddressKey, AddressTuple, Arc4, Metric, NetAddr, NetworkKey, NetworkTuple, RouterKey,
-    RouterTuple, Seq, TwoHop, TwoHopKey, host,
+    Addr4, AddressKey, AddressTuple, Arc4, NetAddr, NetworkKey, NetworkTuple, RouterKey,
+    RouterTuple, Seq, host,
 };
 use mesh_expire::{Key, Table};
+use mesh_hops::{Owner, known_arc, two_hop_arc};
 use mesh_nbrs::Near4;
 use std::alloc::AllocError;
 use std::collections::BTreeMap;
-
-// The arc at a metric, if it is known.
-fn known_arc(from: NetAddr, to: NetAddr, metric: Option<Metric>) -> Option<Arc4>
-    ensures { result ≡ known_arc from to metric }
-{
-    let metric = metric?;
-    Some(Arc4 {
-        from,
-        to,
-        metric: metric.value(),
-    })
-}
 
 // Puts an arc at the end, if there is one.
 fn put_arc(arcs: &mut Seq<Arc4>, arc: Option<Arc4>) -> Result<(), AllocError>
@@ -54,17 +43,6 @@ pub(crate) fn put_own_arcs(
         put_arc(arcs, known_arc(from, host(*addr), owner.metric_out))?;
     }
     Ok(())
-}
-
-// The arc of a 2-hop tuple, if its neighbour is willing to route and its metric is known.
-fn two_hop_arc(owners: &BTreeMap<Addr4, Owner>, key: &TwoHopKey, two_hop: &TwoHop) -> Option<Arc4>
-    ensures { (until : _) → result ≡ two_hop_arc owners.now (key.now, (two_hop.now, until)) }
-{
-    let owner = owner_at(owners, key.link.addr)?;
-    if owner.willing.routing == 0 {
-        return None;
-    }
-    known_arc(host(owner.originator), host(key.addr), two_hop.metric_out)
 }
 
 /// Puts the arcs from neighbours to the 2-hop addresses of an interface. Takes a look-up for each 2-hop tuple.
@@ -96,7 +74,7 @@ pub(crate) trait Leads<K>: Sized {
 
 impl Leads<RouterKey> for RouterTuple {
     ghost use Rattle.mesh_atoms.specs.Base.{host};
-    ghost use Rattle.mesh_routes.specs.Arcs.{arc_at};
+    ghost use Rattle.mesh_hops.specs.Arcs.{arc_at};
 
     ghost leads = { λ key tuple. arc_at (host key.from) (host key.to) tuple.metric };
 
@@ -111,7 +89,7 @@ impl Leads<RouterKey> for RouterTuple {
 
 impl Leads<AddressKey> for AddressTuple {
     ghost use Rattle.mesh_atoms.specs.Base.{host};
-    ghost use Rattle.mesh_routes.specs.Arcs.{arc_at};
+    ghost use Rattle.mesh_hops.specs.Arcs.{arc_at};
 
     ghost leads = { λ key tuple. arc_at (host key.from) (host key.addr) tuple.metric };
 
@@ -126,7 +104,7 @@ impl Leads<AddressKey> for AddressTuple {
 
 impl Leads<NetworkKey> for NetworkTuple {
     ghost use Rattle.mesh_atoms.specs.Base.{host};
-    ghost use Rattle.mesh_routes.specs.Arcs.{arc_at};
+    ghost use Rattle.mesh_hops.specs.Arcs.{arc_at};
 
     ghost leads = { λ key tuple. arc_at (host key.from) key.net tuple.metric };
 

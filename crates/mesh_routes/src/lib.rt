@@ -5,18 +5,15 @@
 mod arcs;
 mod bases;
 mod choice;
-mod costs;
 mod firsts;
 mod laws;
-mod own;
 mod owners;
 mod routes;
 mod rows;
-mod set;
 mod ways;
 
 pub use choice::graph_of;
 pub use laws::routes_and_graphs_stay;
 pub use mesh_atoms::Route;
+pub use mesh_hops::RoutingSet;
 pub use routes::routes_of;
-pub use set::RoutingSet;

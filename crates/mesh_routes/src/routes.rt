@@ -9,9 +9,9 @@ use crate::bases::{graph_of_topology, ways_of};
 use crate::firsts::firsts_of;
 use crate::owners::owners_of;
 use crate::rows::rows_of;
-use crate::set::RoutingSet;
 use mesh_atoms::{RouterSettings, host};
 use mesh_expire::Bases;
+use mesh_hops::RoutingSet;
 use mesh_nbrs::Near4;
 use mesh_paths::search;
 use mesh_topo::Topology;
@@ -46,5 +46,5 @@ pub fn routes_of<N: Near4, B: Bases>(
         &owners,
         &ways,
     )?;
-    Ok(RoutingSet { rows })
+    Ok(RoutingSet::of(rows))
 }

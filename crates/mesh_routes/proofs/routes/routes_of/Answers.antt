@@ -1,4 +1,4 @@
-use Rattle.std.proofs.Common.{◌≤◌, length, arith}
+use Rattle.std.proofs.Common.{◌≤◌, ◌∙◌, length, arith}
 use Rattle.mesh_routes.proofs.Making.{few_owners, rooted_in, pairs_in, made_of, for_state}
 use Rattle.mesh_routes.proofs.Originators.{interfaces_of}
 use Rattle.mesh_routes.proofs.OwnGraph.{costs_of}
@@ -20,6 +20,9 @@ firsts_of-requires g c = rooted_in c.in_ok-graph.graph c.host-from.result c.in_o
 pub rows_of-requires : goal.rows_of-requires
 rows_of-requires g c = pairs_in c.in_ok-graph.graph c.host-from.result c.in_ok-certificate.certificate c.as_slice-2.result.now c.as_slice-2.ensures c.in_ok-certificate.ensures.certificate
 
+pub of-requires : goal.of-requires
+of-requires g c = c.in_ok-rows.ensures.ordered
+
 pub returns : goal.returns
 returns g c = record {
   routes = λ s now settings near topology routes sound.
@@ -27,5 +30,5 @@ returns g c = record {
       (made_of c.args.settings.now (g.N.Near4.near c.args.near.now) c.args.topology.now now c.originator.result c.host-from.result c.host-from.ensures c.in_ok-owners.owners c.len-count.result c.in_ok-graph.graph c.in_ok-certificate.certificate
       c.as_slice.result.now c.as_slice-2.result.now c.as_slice.ensures c.as_slice-2.ensures c.in_ok-firsts.firsts c.in_ok-ways.ways.keys c.in_ok-rows.rows
       sound (c.requires.sound.0, c.requires.sound.2) c.originator.ensures.is c.len-count.ensures c.in_ok-owners.ensures c.in_ok-graph.ensures.ordered c.in_ok-graph.ensures.arcs c.in_ok-certificate.ensures.certificate c.in_ok-firsts.ensures.right c.in_ok-firsts.ensures.all c.in_ok-ways.ensures c.in_ok-rows.ensures)
-      s settings near topology routes;
+      s settings near topology (routes ∙ c.of.ensures);
 }

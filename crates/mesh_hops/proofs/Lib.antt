@@ -1,0 +1,4 @@
+mod LeastCosts
+mod Searching
+mod Tests
+pub mod WayOrder

@@ -1,0 +1,30 @@
+-- The order of turns.
+use Rattle.std.proofs.Common.{◌≡◌, ℕ, ◌<◌, ◌≤◌, inl, inr, sym, ◌∙◌, ap, arith}
+use Rattle.std.specs.Ordering.{nat_cmp, ordering_then}
+use Rattle.std.specs.declared.cmp.Ordering.TheVariants.{Less, Equal}
+use Rattle.std.specs.Cmp.{IsTotalOrder}
+use Rattle.std.proofs.lemmas.Cmp.{then_total, on_total, nat_cmp_total, ranked}
+use Rattle.std.proofs.lemmas.Map.Lookups.{CmpEqualImpliesEq, exact_unsigned}
+use Rattle.mesh_atoms.specs.declared.addr.NetAddr.{NetAddr}
+use Rattle.mesh_atoms.specs.Nodes.{net_cmp}
+use Rattle.mesh_atoms.proofs.NetOrder.{net_total, net_exact, then_equal, then_less}
+use Rattle.mesh_routes.specs.declared.firsts.Turn.{Turn}
+use Rattle.mesh_routes.specs.Firsts.{turn_cmp}
+
+pub turn_total : IsTotalOrder turn_cmp
+turn_total = then_total (on_total (λ (a : Turn). a.metric) nat_cmp_total) (then_total (on_total (λ (a : Turn). a.node) net_total) (on_total (λ (a : Turn). a.parent) net_total))
+
+pub turn_exact : CmpEqualImpliesEq turn_cmp
+turn_exact a b e =
+    let (f, rest) = then_equal (nat_cmp a.metric b.metric) (ordering_then (net_cmp a.node b.node) (net_cmp a.parent b.parent)) e in
+    let (g, h) = then_equal (net_cmp a.node b.node) (net_cmp a.parent b.parent) rest in
+    ap (λ (m : ℕ). let r : Turn = record { metric = m; node = a.node; parent = a.parent } in r) (exact_unsigned a.metric b.metric f)
+    ∙ ap (λ (n : NetAddr). let r : Turn = record { metric = b.metric; node = n; parent = a.parent } in r) (net_exact a.node b.node g)
+    ∙ ap (λ (n : NetAddr). let r : Turn = record { metric = b.metric; node = b.node; parent = n } in r) (net_exact a.parent b.parent h)
+
+-- a lesser turn costs no more
+pub no_dearer : (a b : Turn) → turn_cmp a b ≡ Less → a.metric ≤ b.metric
+no_dearer a b e = elim (then_less (nat_cmp a.metric b.metric) (ordering_then (net_cmp a.node b.node) (net_cmp a.parent b.parent)) e) [
+  | inl f ↦ let l : a.metric < b.metric = ranked a.metric b.metric Less (sym f) in omega arith
+  | inr (f, _) ↦ let l : a.metric ≡ b.metric = ranked a.metric b.metric Equal (sym f) in omega arith
+]
