@@ -1,11 +1,3 @@
-pub mod Full
-pub mod Originators
-pub mod RowKinds
-pub mod RowOrder
+mod Full
+mod RowKinds
 pub mod Soundness
-pub mod Advertising
-pub mod Best
-pub mod Laws
-pub mod Members
-pub mod Offering
-pub mod Cutting

@@ -1,5 +1,5 @@
 //! The taking of a TC (RFC 7181, section 16.3.3).
-ghost use Rattle.std.specs.Prelude.{◌≡◌, ◌+◌, ◌<◌, ◌≤◌, ◌^◌, ℕ, length, nat_lt, false, IfSome, IfNone, IfOk, OnOk};
+ghost use Rattle.std.specs.Prelude.{◌≡◌, ◌+◌, ◌<◌, ◌≤◌, ◌^◌, ℕ, length, count_by, is_some, nat_lt, false, IfSome, IfNone, IfOk, OnOk};
 ghost use Rattle.mesh_atoms.specs.Base.{find, addr_eq};
 ghost use Rattle.mesh_codes.specs.Codes.{Newer};
 ghost use Rattle.mesh_atoms.specs.AfterTc.{TakesTc, first_overfull};
@@ -8,14 +8,13 @@ ghost use Rattle.mesh_topo.specs.Same.{SameAdvertised};
 ghost use Rattle.mesh_topo.specs.Sets.{AreFew, KeepsNewer, sets_of};
 ghost use Rattle.mesh_topo.specs.Tuples.{HasHosts};
 
-use crate::keyed_set::KeyedSet;
-use crate::set::count_given;
 use crate::topology::TcTaken;
 use mesh_atoms::{
     Addr4, AddressKey, AddressTuple, Advertiser, Base, NetworkKey, NetworkTuple, RouterKey,
     RouterTuple, Tc, seq_newer,
 };
 use mesh_expire::Table;
+use mesh_tc_sets::{KeyedSet, Tuple};
 use std::alloc::AllocError;
 
 /// Takes a TC into the four sets. `Old` and `Full` change nothing.
@@ -77,6 +76,19 @@ fn is_overfull(held: usize, rows: usize) -> bool
     ensures { result ≡ nat_lt 16384 (held + rows) }
 {
     held > 16384 || rows > 16384 - held
+}
+
+// How many rows of the TC give a tuple.
+fn count_given<K: Ord + Drop, V: Tuple<K> + Drop>(tc: &Tc) -> usize
+    ensures value { result ≡ count_by (λ row. is_some (V.given tc.now.originator tc.now.ansn row)) tc.now.rows }
+{
+    let mut count = 0;
+    for row in tc.rows.as_slice() {
+        if V::given_by(tc.originator, tc.ansn, row).is_some() {
+            count += 1;
+        }
+    }
+    count
 }
 
 // The first of the sets that would be too large with the TC's rows.

@@ -10,12 +10,12 @@ ghost use Rattle.mesh_topo.specs.Same.{SameAdvertised};
 ghost use Rattle.mesh_topo.specs.Sets.{AreFew, AreFresh};
 ghost use Rattle.mesh_topo.specs.Tuples.{HasHosts};
 
-use crate::keyed_set::KeyedSet;
 use crate::take::take;
 use mesh_atoms::{
     AddressKey, AddressTuple, Base, NetworkKey, NetworkTuple, RouterKey, RouterTuple, Tc,
 };
 use mesh_expire::{Bases, Table};
+use mesh_tc_sets::KeyedSet;
 use std::alloc::{AllocError, Global};
 use std::marker::Model;
 

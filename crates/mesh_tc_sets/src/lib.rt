@@ -1,0 +1,11 @@
+//! The sets of tuples that TCs give (RFC 7181, section 10): one set of any kind of tuple, with its keys in order, and what a TC
+//! does to it (section 16.3.3).
+#![tactic(auto)]
+
+mod keyed_set;
+mod outdated;
+mod set;
+mod tuple;
+
+pub use keyed_set::KeyedSet;
+pub use tuple::Tuple;
