@@ -1,5 +1,4 @@
 //! Which table each kind of tuple stands in.
-use crate::index_table::IndexTable;
 use crate::list_table::ListTable;
 use crate::no_table::NoTable;
 use crate::table::Table;
@@ -66,34 +65,6 @@ impl Bases for PlainBases {
     type Processed = ListTable<FloodKey, Noted>;
 
     type Forwarded = ListTable<FloodKey, Noted>;
-}
-
-/// Bases of indexed tables.
-#[derive(Drop)]
-pub struct IndexedBases;
-
-impl Bases for IndexedBases {
-    type Links = IndexTable<LinkKey, Link>;
-
-    type TwoHops = IndexTable<TwoHopKey, TwoHop>;
-
-    type Neighbours = IndexTable<Addr4, Neighbour>;
-
-    type Losts = IndexTable<Addr4, Lost>;
-
-    type Advertisers = IndexTable<Addr4, Advertiser>;
-
-    type Routers = IndexTable<RouterKey, RouterTuple>;
-
-    type Addresses = IndexTable<AddressKey, AddressTuple>;
-
-    type Networks = IndexTable<NetworkKey, NetworkTuple>;
-
-    type Received = IndexTable<FloodKey, Noted>;
-
-    type Processed = IndexTable<FloodKey, Noted>;
-
-    type Forwarded = IndexTable<FloodKey, Noted>;
 }
 
 /// Bases that hold nothing, and answer want of memory to each tuple that is put in.

@@ -3,16 +3,14 @@
 
 mod bases;
 mod expiring;
-mod index_table;
 mod keyed;
 mod keys;
 mod list_table;
 mod no_table;
 mod table;
 
-pub use bases::{Bases, IndexedBases, NoBases, PlainBases};
+pub use bases::{Bases, NoBases, PlainBases};
 pub use expiring::expire_each;
-pub use index_table::IndexTable;
 pub use keyed::{expire_keyed, put_keyed, remove_keyed};
 pub use list_table::ListTable;
 pub use no_table::NoTable;

@@ -49,7 +49,7 @@ pub trait Tuple<K: Ord>: Sized {
 impl Tuple<RouterKey> for RouterTuple {
     ghost use Rattle.mesh_tc_sets.specs.Tuples.{router_of, router_says};
     ghost use Rattle.std.specs.Prelude.{refl};
-    ghost use Rattle.mesh_expire.proofs.Moments.{no_later};
+    ghost use Rattle.mesh_expire.proofs.KeyOrder.{no_later};
     ghost use Rattle.mesh_tc_sets.specs.Given.{router_numbered};
 
     ghost origin = { λ key. key.from };
@@ -99,7 +99,7 @@ impl Tuple<RouterKey> for RouterTuple {
 impl Tuple<AddressKey> for AddressTuple {
     ghost use Rattle.mesh_tc_sets.specs.Tuples.{address_of, address_says};
     ghost use Rattle.std.specs.Prelude.{refl};
-    ghost use Rattle.mesh_expire.proofs.Moments.{no_later};
+    ghost use Rattle.mesh_expire.proofs.KeyOrder.{no_later};
     ghost use Rattle.mesh_tc_sets.specs.Given.{address_numbered};
 
     ghost origin = { λ key. key.from };
@@ -149,7 +149,7 @@ impl Tuple<AddressKey> for AddressTuple {
 impl Tuple<NetworkKey> for NetworkTuple {
     ghost use Rattle.mesh_tc_sets.specs.Tuples.{network_of, network_says};
     ghost use Rattle.std.specs.Prelude.{refl};
-    ghost use Rattle.mesh_expire.proofs.Moments.{no_later};
+    ghost use Rattle.mesh_expire.proofs.KeyOrder.{no_later};
     ghost use Rattle.mesh_tc_sets.specs.Given.{network_numbered};
 
     ghost origin = { λ key. key.from };

@@ -8,8 +8,9 @@ use crate::{
     exchange, flooding, links, losts, neighbourhood, neighbours, table_callers, tables, topology,
     two_hops,
 };
-use mesh_expire::{Bases, IndexedBases, NoBases, PlainBases};
+use mesh_expire::{Bases, NoBases, PlainBases};
 use mesh_flood::Flood;
+use mesh_index::IndexedBases;
 use mesh_links::LinkSet;
 use mesh_nbrs::{LostSet, NeighbourSet};
 use mesh_topo::Topology;

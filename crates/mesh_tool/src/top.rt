@@ -9,7 +9,8 @@ ghost use Rattle.mesh_tool.specs.Answers.{Answers};
 ghost use Rattle.mesh_words.specs.Words.{texts};
 
 use mesh_emulate::emulations_tell;
-use mesh_expire::{Bases, IndexedBases};
+use mesh_expire::Bases;
+use mesh_index::IndexedBases;
 use mesh_io::{Air, Clock, Sink, Source};
 use mesh_jobs::{Status, do_asked, tell};
 use mesh_made::made_networks_tell;
