@@ -2,7 +2,7 @@
 use mesh_atoms::{Addr4, LinkKey, NetAddr, TwoHopKey};
 
 /// Which of a router's tuples a key is of, in the order in which they are looked at.
-#[derive(Clone, Copy, PartialEq, Eq)]
+#[derive(Clone, Copy)]
 pub enum GapKind {
     /// SYMMETRIC links (RFC 6130, section 7.1).
     Link,
@@ -15,7 +15,7 @@ pub enum GapKind {
 }
 
 /// The key of a tuple that is looked at; interfaces are counted from 0.
-#[derive(Clone, Copy, PartialEq, Eq)]
+#[derive(Clone, Copy)]
 pub enum GapKey {
     /// A link of an interface.
     Link { iface: usize, key: LinkKey },
@@ -42,7 +42,7 @@ pub enum GapKey {
 /// A metric's number is the cost that it stands for, and none where it is unknown; a selector flag's is 0 or 1; willingness is
 /// 16 times that for flooding plus that for routing. Of addresses, the least that one side alone has is that side's number, and
 /// the other side has none.
-#[derive(Clone, Copy, PartialEq, Eq)]
+#[derive(Clone, Copy)]
 pub struct GapValue {
     pub field: u8,
     pub number: Option<u64>,
@@ -50,7 +50,7 @@ pub struct GapValue {
 
 /// A gap of a router, counted from 0: a key at which what it holds isn't what the network has at present. A side without a tuple
 /// of the key has none.
-#[derive(Clone, Copy, PartialEq, Eq)]
+#[derive(Clone, Copy)]
 pub struct Gap {
     pub router: usize,
     pub kind: GapKind,

@@ -9,9 +9,8 @@ ghost use Rattle.mesh_expire.specs.Table.{changed_at, entry_of};
 ghost use Rattle.mesh_nbrs.specs.declared.neighbours.LinkNote.{LinkNote};
 ghost use Rattle.mesh_nbrs.specs.Neighbours.{Replaces, RestoresBy, IsSpokenOf, HasSummary, by_summary};
 ghost use Rattle.mesh_nbrs.specs.Owners.{Owned, KeepsAddrs};
-ghost use Rattle.mesh_nbrs.specs.Parts.{AreParts, HasPart};
+ghost use Rattle.mesh_nbrs.specs.Parts.{AreParts};
 
-use crate::ends::Ending;
 use crate::owners::{all_spoken_of, end_owned, remove_owned};
 use crate::parts::{has_part, parts_of, together};
 use crate::replacing::{put_owned, remove_others};
@@ -23,7 +22,7 @@ use std::alloc::{AllocError, Global};
 use std::marker::Model;
 
 /// What a neighbour is to know of a link: its key, whether it is SYMMETRIC, its metrics and its moment in ticks of 1/8192 s.
-#[derive(Clone, Copy, PartialEq, Eq)]
+#[derive(Clone, Copy)]
 pub struct LinkNote {
     pub key: LinkKey,
     pub symmetric: bool,
@@ -146,11 +145,7 @@ impl<T: Table<Addr4, Neighbour>> NeighbourSet<T> {
         ensures distinct { HasDistinctKeys addr_eq self.new }
     {
         let parts = parts_of(self.alloc, notes)?;
-        end_owned(
-            &mut self.table,
-            &mut self.owners,
-            &Unnoted { parts: &parts },
-        );
+        end_owned(&mut self.table, &mut self.owners, &parts);
         renew_all(&mut self.table, &parts)
     }
 
@@ -163,20 +158,6 @@ impl<T: Table<Addr4, Neighbour>> NeighbourSet<T> {
     {
         let parts = parts_of(self.alloc, notes)?;
         follow_parts(&mut self.table, &mut self.owners, originator, &parts)
-    }
-}
-
-// The neighbours that no note is of.
-#[derive(Clone, Copy)]
-struct Unnoted<'a> {
-    parts: &'a IndexMap<Addr4, Summary>,
-}
-
-impl<'a> Ending<Addr4, Neighbour> for Unnoted<'a> {
-    ghost ends = { λ u _ neighbour. HasPart u.parts.now.entries neighbour.addrs → ⊥ };
-
-    fn ends(&self, _originator: &Addr4, neighbour: &Neighbour) -> bool {
-        !has_part(self.parts, neighbour.addrs.as_slice())
     }
 }
 

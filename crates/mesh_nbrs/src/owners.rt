@@ -7,8 +7,10 @@ ghost use Rattle.mesh_atoms.specs.Base.{HasDistinctKeys, SetsOnly, find, addr_eq
 ghost use Rattle.mesh_atoms.specs.Words.{IsKept};
 ghost use Rattle.mesh_nbrs.specs.Neighbours.{IsSpokenOf};
 ghost use Rattle.mesh_nbrs.specs.Owners.{Owned, Leaves, SetsOwner, owner_of, is_owner};
+ghost use Rattle.mesh_nbrs.specs.Parts.{HasPart};
 
-use crate::ends::{Ending, end_all};
+use crate::ends::end_all;
+use crate::summary::Summary;
 use indexmap::{IndexMap, IndexSet};
 use mesh_atoms::{Addr4, Neighbour};
 use mesh_expire::Table;
@@ -96,19 +98,19 @@ fn purge<T: Table<Addr4, Neighbour>>(owners: &mut IndexMap<Addr4, Addr4>, table:
     owners.retain(|_, originator| stands(table, originator));
 }
 
-/// Takes out each neighbour that ends, with its addresses. Where one does, goes over the whole map. Takes no memory.
-pub fn end_owned<T: Table<Addr4, Neighbour>, E: Ending<Addr4, Neighbour>>(
+/// Takes out each neighbour that no note is of, with its addresses. Where there is one, goes over the whole map. Takes no memory.
+pub fn end_owned<T: Table<Addr4, Neighbour>>(
     table: &mut T,
     owners: &mut IndexMap<Addr4, Addr4>,
-    ending: &E,
+    parts: &IndexMap<Addr4, Summary>,
 )
     requires owned { Owned owners.old.entries (T.content table.old) }
     requires distinct { HasDistinctKeys addr_eq (T.content table.old) }
     ensures owned { Owned owners.new.entries (T.content table.new) }
-    ensures kept { (q : _) → IsKept (λ e. E.ends ending.now q e.0 → ⊥) (find addr_eq (T.content table.old) q) (find addr_eq (T.content table.new) q) }
+    ensures kept { (q : Addr4) → IsKept (λ e. (HasPart parts.now.entries e.0.addrs → ⊥) → ⊥) (find addr_eq (T.content table.old) q) (find addr_eq (T.content table.new) q) }
     ensures distinct { HasDistinctKeys addr_eq (T.content table.new) }
 {
-    if end_all(table, ending) > 0 {
+    if end_all(table, parts) > 0 {
         purge(owners, table);
     }
 }

@@ -55,7 +55,12 @@ fn is_noted(parts: &IndexMap<Addr4, Summary>, addr: Addr4) -> bool
 pub fn has_part(parts: &IndexMap<Addr4, Summary>, addrs: &[Addr4]) -> bool
     ensures { IsTrue result ↔ HasPart parts.now.entries addrs.now }
 {
-    addrs.iter().any(|addr| is_noted(parts, *addr))
+    for addr in addrs {
+        if is_noted(parts, *addr) {
+            return true;
+        }
+    }
+    false
 }
 
 // With what the notes of one more address tell.

@@ -36,10 +36,13 @@ fn pairs_of(
 ) -> Result<Vec<Pair>, AllocError>
     ensures { IfOk result (λ pairs. pairs.items ≡ map pair_of (filter (is_joined routers.now end arcs.now) arcs.now)) }
 {
-    arcs.iter()
-        .filter(|arc| is_joined(routers, end, arcs, arc))
-        .map(pair_of)
-        .collect(alloc)
+    let mut pairs = Vec::new(alloc);
+    for arc in arcs {
+        if is_joined(routers, end, arcs, arc) {
+            pairs.push(pair_of(arc))?;
+        }
+    }
+    Ok(pairs)
 }
 
 // The interfaces that the arc joins, and its metric.
@@ -99,7 +102,12 @@ fn accepts(end: u64, to: Option<&Interface>, from: Option<&Interface>) -> bool
 fn is_met(routers: &[RouterSettings], end: u64, arcs: &[RadioArc], arc: &RadioArc) -> bool
     ensures { result ≡ is_met routers.now end arcs.now arc.now }
 {
-    arcs.iter().any(|back| leads_home(routers, end, arc, back))
+    for back in arcs {
+        if leads_home(routers, end, arc, back) {
+            return true;
+        }
+    }
+    false
 }
 
 // Whether the second arc leads back between the interfaces of the first, and is admitted.

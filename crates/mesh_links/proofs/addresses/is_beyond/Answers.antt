@@ -1,8 +1,9 @@
 use Rattle.std.proofs.Common.{get_or, refl}
 use Rattle.std.specs.Prelude.{Contains}
+use Rattle.std.proofs.lemmas.Bool.{false≢true}
 use Rattle.std.proofs.lemmas.List.Elements.{AllWithin-more, AllWithin-upto, All-from_all_within, All-contains, Contains-get_or}
 use Rattle.mesh_atoms.specs.declared.addr.Addr4.{Addr4}
-use Rattle.mesh_links.proofs.Tied.{at_any}
+use Rattle.mesh_links.proofs.Tied.{at_any, not_both}
 use Rattle.mesh_links.proofs.addresses.is_beyond.Goals as goal
 
 pub loop-addr-preserved : goal.loop-addr-preserved
@@ -17,7 +18,7 @@ returns-then-not-contains c =
       λ e. (
         get_or c.args.addrs.now c.loop-addr.addr-index none,
         Contains-get_or c.args.addrs.now c.loop-addr.addr-index none c.loop-addr-test.true,
-        λ has. (let yes = c.contains.ensures.1 has in absurd cc),
+        λ has. not_both c.contains.result (c.contains.ensures.1 has) c.if-not-contains.true,
       ),
       λ w. refl,
     )
@@ -25,7 +26,7 @@ returns-then-not-contains c =
 pub returns : goal.returns
 returns c =
     let within : Addr4 → Type 0 = λ a. Contains c.args.others.now a in (
-      λ e. absurd cc,
+      λ e. absurd (false≢true e),
       λ (a, has, out). absurd (out (All-contains within c.args.addrs.now a
           (All-from_all_within within c.args.addrs.now (AllWithin-upto within c.args.addrs.now 0 c.loop-addr.addr-index _ c.loop-addr-test.false c.loop-addr.invariant)) has)),
     )

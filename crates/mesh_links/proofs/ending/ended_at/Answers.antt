@@ -1,7 +1,7 @@
 use Rattle.std.proofs.Common.{ℕ, sym, subst}
 use Rattle.mesh_atoms.specs.declared.tuples.Link.{Link}
 use Rattle.mesh_links.specs.Ending.{Spares}
-use Rattle.mesh_links.proofs.Tied.{sole, unowned, unlinked, same_of}
+use Rattle.mesh_links.proofs.Tied.{sole, unowned, unlinked, same_of, not_both}
 use Rattle.mesh_links.proofs.ending.ended_at.Goals as goal
 
 pub returns-in_default-clause-none : goal.returns-in_default-clause-none
@@ -18,4 +18,4 @@ returns-then-spares-clause-none g c key e found has =
     subst (λ (x : Link × ℕ). Spares c.args.which x.0) same (c.spares.ensures.0 c.if-spares.true)
 
 pub returns-else-spares-clause-some : goal.returns-else-spares-clause-some
-returns-else-spares-clause-some g c = ((c.in-Some-get.link.now, c.in-Some-get._until), sym c.in-Some-get.ensures, λ stays. (let both = c.spares.ensures.1 stays in absurd cc))
+returns-else-spares-clause-some g c = ((c.in-Some-get.link.now, c.in-Some-get._until), sym c.in-Some-get.ensures, λ stays. not_both c.spares.result (c.spares.ensures.1 stays) c.if-spares.false)

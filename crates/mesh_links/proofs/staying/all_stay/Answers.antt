@@ -1,15 +1,17 @@
 use Rattle.std.proofs.Common.{◌<◌, arith, refl, length}
+use Rattle.std.proofs.lemmas.Bool.{false≢true}
 use Rattle.std.proofs.lemmas.Map.Entries.{lookup_from_place, place_from_lookup}
 use Rattle.std.proofs.lemmas.Option.{slice_get_within}
 use Rattle.mesh_atoms.specs.Base.{link_eq}
 use Rattle.mesh_atoms.proofs.Lookups.{link_equiv}
+use Rattle.mesh_links.proofs.Tied.{not_both}
 use Rattle.mesh_links.proofs.staying.all_stay.Goals as goal
 
 pub returns-then-not-stays_at : goal.returns-then-not-stays_at
 returns-then-not-stays_at g c =
     let links = g.T.Table.content c.args.table.now in (
-      λ h. absurd cc,
-      λ all. (let yes = c.stays_at.ensures.1 (λ x at. all x.0 x.1 (lookup_from_place link_equiv links c.loop-place.place x.0 x.1 c.len-place-end.ensures.distinct at)) in absurd cc),
+      λ h. absurd (false≢true h),
+      λ all. (let yes = c.stays_at.ensures.1 (λ x at. all x.0 x.1 (lookup_from_place link_equiv links c.loop-place.place x.0 x.1 c.len-place-end.ensures.distinct at)) in absurd (not_both c.stays_at.result yes c.if-not-stays_at.true)),
     )
 
 pub returns : goal.returns

@@ -1,10 +1,11 @@
-use Rattle.std.proofs.Common.{sym}
+use Rattle.std.proofs.Common.{◌≡◌, true, sym}
 use Rattle.std.proofs.lemmas.Map.Entries.{lookup_from_place}
+use Rattle.mesh_atoms.proofs.Lookups.{addr_equiv}
 use Rattle.mesh_nbrs.proofs.ends.next_in.Goals as goal
 
-pub returns-then-ends-clause-some : goal.returns-then-ends-clause-some
-returns-then-ends-clause-some g c = (
-  (c.in-Some.value.now, c.in-Some.field-0-2),
-  lookup_from_place g.met.K.Eq.laws (g.T.Table.content c.args.table.now) c.loop-place.place c.in-Some.key.now (c.in-Some.value.now, c.in-Some.field-0-2) c.requires (sym c.in-Some.ensures),
-  c.ends.ensures.0 c.if-ends.true,
+pub returns-then-not-has_part-clause-some : goal.returns-then-not-has_part-clause-some
+returns-then-not-has_part-clause-some g c = (
+  (c.in-Some.neighbour.now, c.in-Some.field-0-2),
+  lookup_from_place addr_equiv (g.T.Table.content c.args.table.now) c.loop-place.place c.in-Some.originator.now (c.in-Some.neighbour.now, c.in-Some.field-0-2) c.requires (sym c.in-Some.ensures),
+  λ has. (let both = c.has_part.ensures.1 (rw c.as_slice.ensures has) in absurd cc),
 )
