@@ -1,10 +1,10 @@
 -- Whether a key is listed, by a test and by membership.
-use Rattle.std.proofs.Common.{◌≡◌, ℕ, zero, suc, take, Bool, true, false, List, [], ◌∷◌, Contains, refl, sym, ◌∙◌, subst, arith}
+use Rattle.std.proofs.Common.{◌≡◌, ℕ, zero, suc, ◌+◌, ◌<◌, take, length, get_or, Bool, true, false, cond, List, [], ◌∷◌, Contains, refl, sym, ◌∙◌, ap, subst, arith}
 use Rattle.std.specs.Prelude.{◌&&◌, ◌||◌}
 use Rattle.std.specs.List.{list_any}
 use Rattle.std.specs.Cmp.{IsEquivalence}
 use Rattle.std.proofs.lemmas.List.Elements.{Contains-append_right}
-use Rattle.std.proofs.lemmas.List.Folds.{list_any_at}
+use Rattle.std.proofs.lemmas.List.Folds.{list_any_at, list_any_more}
 
 module _ {K : Type 0} {eq : K → K → Bool} where
   -- a test that passes tells a member
@@ -53,3 +53,12 @@ any_take {A} test (suc i) (x ∷ xs) h = by_head (test x) refl (any_take test i 
   by_head : (b : Bool) → test x ≡ b → (list_any test (take i xs) ≡ true → list_any test xs ≡ true) → list_any test (x ∷ xs) ≡ true
   by_head true is behind = rw is refl
   by_head false is behind = rw is (behind (rw is at h))
+
+-- one more is looked at
+pub any_more : {K : Type 0} (test : K → Bool) (xs : List K) (i : ℕ) (d : K) (old new : Bool) → i < length xs → new ≡ cond (test (get_or xs i d)) true old → old ≡ list_any test (take i xs) → new ≡ list_any test (take (i + 1) xs)
+any_more test xs i d old new lt is before = is ∙ ap (λ (b : Bool). cond (test (get_or xs i d)) true b) before ∙ joined (test (get_or xs i d)) (list_any test (take i xs)) ∙ sym (list_any_more test xs i d lt) where
+  joined : (b any : Bool) → cond b true any ≡ (any || b)
+  joined true true = refl
+  joined true false = refl
+  joined false true = refl
+  joined false false = refl

@@ -1,4 +1,5 @@
-use Rattle.std.proofs.Common.{◌≡◌, ℕ, List, Option, Some, None, inl, inr, refl, sym}
+use Rattle.std.proofs.Common.{◌≡◌, ℕ, List, Option, Some, None, inl, inr, refl, sym, ◌∙◌}
+use Rattle.std.proofs.lemmas.Bool.{false≢true}
 use Rattle.std.proofs.lemmas.Result.{on_ok_weaker}
 use Rattle.mesh_atoms.proofs.Lookups.{addr_equiv, same_addr}
 use Rattle.mesh_atoms.specs.declared.addr.Addr4.{Addr4}
@@ -31,7 +32,7 @@ returns-then-not-has_part-clause-one g c notes are =
     let old = g.T.Table.content c.args.table.now in
     let new = g.T.Table.content c.remove_owned.new.table in
     goes c.args.parts.now.entries (c.in-Some.neighbour.now, c.in-Some.field-0-1) notes are (find addr_eq old c.args.originator) (find addr_eq new c.args.originator) c.in-Some.ensures
-    (λ has. (let both = c.has_part.ensures.1 (rw c.as_slice-addrs.ensures has) in absurd cc))
+    (λ has. false≢true (sym c.if-not-has_part.true ∙ c.has_part.ensures.1 (rw c.as_slice-addrs.ensures has)))
     (set_there old new c.args.originator None c.remove_owned.ensures.removed addr_equiv)
 
 pub returns-then-not-has_part-clause-others : goal.returns-then-not-has_part-clause-others

@@ -2,6 +2,7 @@ use Rattle.mesh_hello.proofs.Local.{fails_so}
 use Rattle.mesh_nhdp.specs.NhdpState.{near_with}
 use Rattle.mesh_nhdp.proofs.Unchanged.{as_it_was, beside_live, beside_sound}
 use Rattle.std.proofs.Common.{refl}
+use Rattle.std.proofs.lemmas.Bool.{false≢true}
 use Rattle.mesh_nhdp.proofs.expire.expire_or_stay.Goals as goal
 
 pub links_stay-requires-clause-now : goal.links_stay-requires-clause-now
@@ -41,7 +42,7 @@ pub returns-in_ok-expire_all-clause-sound : goal.returns-in_ok-expire_all-clause
 returns-in_ok-expire_all-clause-sound g c = c.in_ok-expire_all.ensures.sound
 
 pub returns-in_ok-expire_all-clause-same : goal.returns-in_ok-expire_all-clause-same
-returns-in_ok-expire_all-clause-same g c same = absurd cc
+returns-in_ok-expire_all-clause-same g c same = absurd (false≢true same)
 
 pub returns-in_ok-expire_all-clause-when : goal.returns-in_ok-expire_all-clause-when
-returns-in_ok-expire_all-clause-when g c = ((λ same. absurd cc), (λ all. absurd (fails_so _ c.links_stay.ensures c.if-links_stay.false all.links)))
+returns-in_ok-expire_all-clause-when g c = ((λ same. absurd (false≢true same)), (λ all. absurd (fails_so _ c.links_stay.ensures c.if-links_stay.false all.links)))

@@ -1,4 +1,5 @@
 use Rattle.std.proofs.Common.{refl, arith, below_more}
+use Rattle.std.proofs.lemmas.Bool.{false≢true}
 use Rattle.std.proofs.lemmas.Option.{slice_get_within}
 use Rattle.mesh_hello.proofs.Local.{fails_so}
 use Rattle.mesh_nhdp.proofs.said_of.is_on_other.Goals as goal
@@ -15,7 +16,7 @@ loop-place-preserved c = below_more _ _ c.loop-place.invariant (elim c.else-plac
 
 pub returns : goal.returns
 returns c = (
-  (λ h. absurd cc),
+  (λ h. absurd (false≢true h)),
   (λ w.
       absurd (c.loop-place.invariant w.0
       (omega (arith, c.loop-place-test.false, slice_get_within c.args.settings.now.interfaces w.0 w.2.0 w.2.1)) w.1 w.2)),

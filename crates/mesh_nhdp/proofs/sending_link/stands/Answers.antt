@@ -1,5 +1,6 @@
 use Rattle.std.proofs.Common.{◌≡◌, ℕ, true, ap, sym, subst, ◌∙◌}
 use Rattle.std.specs.Bool.{Decides}
+use Rattle.std.proofs.lemmas.Bool.{false≢true}
 use Rattle.std.proofs.lemmas.Slice.Eq.{slice_eq-Decides}
 use Rattle.mesh_atoms.specs.declared.addr.Addr4.{Addr4}
 use Rattle.mesh_atoms.specs.declared.tuples.Link.{Link}
@@ -24,4 +25,4 @@ returns-in-Some g c =
 pub returns-in-None : goal.returns-in-None
 returns-in-None g c =
     let none = found_on c.args.links.now c.args.iface (g.L.Table.content c.table.result.now) c.index-links-iface.result c.requires c.index-links-iface.is c.table.ensures.content c.args.key _ c.in-None.ensures in
-    ((λ h. absurd cc), (λ h. absurd (none-some h.0 (sym none ∙ h.1))))
+    ((λ h. absurd (false≢true h)), (λ h. absurd (none-some h.0 (sym none ∙ h.1))))

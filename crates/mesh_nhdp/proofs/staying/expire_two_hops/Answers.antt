@@ -1,4 +1,5 @@
-use Rattle.std.proofs.Common.{◌<◌, ◌∙◌, length, refl, arith, get_or}
+use Rattle.std.proofs.Common.{◌<◌, ◌∙◌, length, refl, sym, arith, get_or}
+use Rattle.std.proofs.lemmas.Bool.{false≢true}
 use Rattle.mesh_nhdp.proofs.AllHears.{is_base}
 use Rattle.mesh_nhdp.proofs.BesideWalk.{goes_over_one}
 use Rattle.mesh_nhdp.proofs.staying.expire_two_hops.Goals as goal
@@ -10,7 +11,7 @@ loop-i-init g c = record {
   distinct = λ k lt. absurd (omega (arith, lt));
   left = λ k past. refl;
   same = λ h. refl;
-  changed = λ h. absurd cc;
+  changed = λ h. absurd (false≢true (sym h));
 }
 
 pub bounds-sets-i : goal.bounds-sets-i

@@ -1,4 +1,5 @@
-use Rattle.std.proofs.Common.{refl, sym, subst}
+use Rattle.std.proofs.Common.{refl, sym, subst, ◌∙◌}
+use Rattle.std.proofs.lemmas.Bool.{false≢true}
 use Rattle.mesh_atoms.specs.declared.tuples.LinkKey.{LinkKey}
 use Rattle.mesh_atoms.specs.declared.tuples.Link.{Link}
 use Rattle.mesh_atoms.specs.Base.{Base, base_of}
@@ -11,11 +12,11 @@ use Rattle.mesh_nhdp.proofs.staying.links_stay.Goals as goal
 pub returns-then-not-stay_on : goal.returns-then-not-stay_on
 returns-then-not-stay_on g c =
     let settings = c.args.settings.now in (
-      λ h. absurd cc,
+      λ h. absurd (false≢true h),
       λ all. (
           let here = is_base c.args.links.now c.loop-i.i c.index-links-i.result c.loop-i-test.true c.index-links-i.is in
           let yes = c.stay_on.ensures.1 (subst (λ (b : Base LinkKey Link). AllStay (rule_of settings c.loop-i.i) settings.times.link_hold c.args.last c.args.now b) here (all c.loop-i.i)) in
-          absurd cc),
+          absurd (false≢true (sym c.if-not-stay_on.true ∙ yes))),
     )
 
 pub loop-i-preserved : goal.loop-i-preserved
