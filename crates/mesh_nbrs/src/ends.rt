@@ -50,10 +50,7 @@ fn next_from<T: Table<Addr4, Neighbour>>(
 
 /// Takes out each neighbour that no note is of, and gives their number. Takes no memory. The search for the next one goes on at
 /// the place of the one before.
-pub fn end_all<T: Table<Addr4, Neighbour>>(
-    table: &mut T,
-    parts: &IndexMap<Addr4, Summary>,
-) -> usize
+pub fn end_all<T: Table<Addr4, Neighbour>>(table: &mut T, parts: &IndexMap<Addr4, Summary>) -> usize
     requires { HasDistinctKeys addr_eq (T.content table.old) }
     ensures kept { (q : Addr4) → IsKept (λ e. (HasPart parts.now.entries e.0.addrs → ⊥) → ⊥) (find addr_eq (T.content table.old) q) (find addr_eq (T.content table.new) q) }
     ensures count { result + length (T.content table.new) ≡ length (T.content table.old) }
