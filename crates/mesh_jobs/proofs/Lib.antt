@@ -1,3 +1,1 @@
-mod Refusal
-mod Running
-mod Spent
+mod Pieces

@@ -32,7 +32,7 @@ attach_line interface = codes "mesh: attach " ++ (decimal interface ++ codes "\n
 -- so many turns were done, the greatest moment told, and the end, which none came to
 unfoldable pub turns_line : ℕ → ℕ → ℕ → List ℕ
 turns_line turns moment end =
-    (codes "mesh: turns " ++ (decimal turns ++ codes " moment ")) ++ (decimal moment ++ (codes " below " ++ (decimal end ++ codes "\n")))
+    codes "mesh: turns " ++ (decimal turns ++ (codes " moment " ++ (decimal moment ++ (codes " below " ++ (decimal end ++ codes "\n")))))
 
 abbrev pub memory_line : List ℕ
 memory_line = codes "mesh: memory\n"

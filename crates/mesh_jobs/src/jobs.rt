@@ -5,10 +5,10 @@ ghost use Rattle.std.specs.Option.{option_copied};
 ghost use Rattle.mesh_emulate.specs.Wants.{packet_of, wants_of};
 ghost use Rattle.mesh_jobs.specs.Calls.{Call, UsesNoAir, UsesAir, word_at, packet_in, wants_in, IsInput};
 ghost use Rattle.mesh_jobs.specs.Endings.{with_words, with_source, with_air, with_out, StopsReading, Leaves, DoesJob, Does};
-ghost use Rattle.mesh_words.specs.CommandLines.{IsInRange};
 ghost use Rattle.mesh_words.specs.Words.{texts};
 
 use crate::ending::Ending;
+use crate::words::word_or;
 use mesh_atoms::Bytes;
 use mesh_emulate::{EmulateFault, NamedPacket, Wanted};
 use mesh_expire::Bases;
@@ -52,23 +52,13 @@ fn list<O: Sink>(alloc: Global, octets: &[u8], recode: bool, out: &mut O) -> End
     }
 }
 
-// The word at that place; empty where there is none.
-fn word_at(words: &[String], place: usize) -> &[u8]
-    ensures { result.now ≡ word_at (texts words.now) place }
-{
-    match words.get(place) {
-        Some(word) => word.as_bytes(),
-        None => b"",
-    }
-}
-
 // The packet, from the router that the word at its place names.
 fn packet_in<'a>(words: &'a [String], send: Option<PacketWords>) -> Option<NamedPacket<'a>>
     ensures { option_map packet_of result ≡ option_map (packet_in (texts words.now)) send }
 {
     match send {
         Some(packet) => Some(NamedPacket {
-            from: word_at(words, packet.from),
+            from: word_or(words, packet.from, b""),
             dest: packet.dest,
         }),
         None => None,
@@ -80,7 +70,7 @@ fn name_in<'a>(words: &'a [String], place: Option<usize>) -> Option<&'a [u8]>
     ensures { option_copied result ≡ option_map (word_at (texts words.now)) place }
 {
     match place {
-        Some(place) => Some(word_at(words, place)),
+        Some(place) => Some(word_or(words, place, b"")),
         None => None,
     }
 }
@@ -135,8 +125,8 @@ fn run<B: Bases, O: Sink, A: Air, C: Clock>(
     requires { A.attached air.old ≡ 0 }
     ensures leaves { (call : Call) → Leaves (with_air call (C.moments clock.old) (C.moments clock.new) (A.reports air.old) (A.reports air.new)
         (A.attached air.new) (A.faults air.old) (A.faults air.new)) (Job.Run turns) octets.now
-        (O.content out.old) (O.content out.new) (O.faults out.old) (O.faults out.new) result }
-    ensures uses { (call : Call) → UsesAir (with_air call (C.moments clock.old) (C.moments clock.new) (A.reports air.old) (A.reports air.new)
+        (O.content out.old) (O.content out.new) (O.faults out.old) (O.faults out.new) result
+        × UsesAir (with_air call (C.moments clock.old) (C.moments clock.new) (A.reports air.old) (A.reports air.new)
         (A.attached air.new) (A.faults air.old) (A.faults air.new)) (Job.Run turns) octets.now }
     ensures later { O.faults out.old ≤ O.faults out.new }
     ensures later_air { A.faults air.old ≤ A.faults air.new }
@@ -229,39 +219,6 @@ fn run_input<B: Bases, S: Source, O: Sink, A: Air, C: Clock>(
     }
 }
 
-fn do_job<B: Bases, S: Source, O: Sink, A: Air, C: Clock>(
-    alloc: Global,
-    words: &[String],
-    job: Job,
-    input: &mut S,
-    out: &mut O,
-    air: &mut A,
-    clock: &mut C,
-) -> Ending
-    requires range { IsInRange job }
-    requires attached { A.attached air.old ≡ 0 }
-    ensures does { (call : Call) → DoesJob job (with_out (with_source (with_air (with_words call (texts words.now))
-        (C.moments clock.old) (C.moments clock.new) (A.reports air.old) (A.reports air.new) (A.attached air.new) (A.faults air.old) (A.faults air.new))
-        (S.left input.old) (S.left input.new) (S.taken input.old) (S.taken input.new) (S.faults input.old) (S.faults input.new))
-        (O.content out.old) (O.content out.new) (O.faults out.old) (O.faults out.new)) result }
-    ensures later_input { S.faults input.old ≤ S.faults input.new }
-    ensures later_out { O.faults out.old ≤ O.faults out.new }
-    ensures later_air { A.faults air.old ≤ A.faults air.new }
-{
-    match job {
-        Job::Dump { recode } => list_input(alloc, recode, input, out),
-        Job::Run { turns } => run_input::<B, S, O, A, C>(alloc, turns, input, out, air, clock),
-        Job::Emulate { trace, send, probe } => emulate_input::<B, S, O>(
-            alloc, words, trace, send, probe, input, out,
-        ),
-        Job::Make {
-            kind,
-            routers,
-            seed,
-        } => make::<B, O>(alloc, kind, routers, seed, out),
-    }
-}
-
 /// Does what the words ask for: the input is read where the job has one, and the job's text is put on `out`; a router is run over the
 /// air, which has no interface yet, and the clock. Nothing is told of a fault.
 pub fn do_asked<B: Bases, S: Source, O: Sink, A: Air, C: Clock>(
@@ -282,7 +239,18 @@ pub fn do_asked<B: Bases, S: Source, O: Sink, A: Air, C: Clock>(
     ensures later_air { A.faults air.old ≤ A.faults air.new }
 {
     match read_words(words) {
-        Ok(job) => do_job::<B, S, O, A, C>(alloc, words, job, input, out, air, clock),
+        Ok(Job::Dump { recode }) => list_input(alloc, recode, input, out),
+        Ok(Job::Run { turns }) => run_input::<B, S, O, A, C>(alloc, turns, input, out, air, clock),
+        Ok(Job::Emulate { trace, send, probe }) => {
+            emulate_input::<B, S, O>(alloc, words, trace, send, probe, input, out)
+        }
+        Ok(
+            Job::Make {
+                kind,
+                routers,
+                seed,
+            },
+        ) => make::<B, O>(alloc, kind, routers, seed, out),
         Err(_) => Ending::Words,
     }
 }

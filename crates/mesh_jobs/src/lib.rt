@@ -5,6 +5,7 @@ mod ending;
 mod jobs;
 mod say;
 mod status;
+mod words;
 
 pub use ending::Ending;
 pub use jobs::do_asked;

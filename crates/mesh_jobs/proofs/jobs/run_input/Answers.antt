@@ -5,7 +5,8 @@ use Rattle.mesh_jobs.proofs.jobs.run_input.Goals as goal
 
 pub returns-in-Ok-clause-does : goal.returns-in-Ok-clause-does
 returns-in-Ok-clause-does g c =
-    λ call. Worked c.in-Ok.octets (c.in-Ok.ensures.whole (with_out (with_air call _ _ _ _ _ _ _) _ _ _ _)) (rw c.as_slice.ensures at c.run.ensures.leaves call) (rw c.as_slice.ensures at c.run.ensures.uses call)
+    λ call. let (leaves, uses) = rw c.as_slice.ensures at c.run.ensures.leaves call in
+    Worked c.in-Ok.octets (c.in-Ok.ensures.whole (with_out (with_air call _ _ _ _ _ _ _) _ _ _ _)) leaves uses
 
 pub returns-in-Err-clause-does : goal.returns-in-Err-clause-does
 returns-in-Err-clause-does g c =
