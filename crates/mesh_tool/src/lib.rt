@@ -3,5 +3,6 @@
 
 mod top;
 
+pub use mesh_answers::top_over;
 pub use mesh_jobs::Status;
-pub use top::{mesh_top, top_over};
+pub use top::mesh_top;

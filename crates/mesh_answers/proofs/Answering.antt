@@ -15,7 +15,7 @@ use Rattle.mesh_jobs.specs.declared.ending.Ending.{Ending}
 use Rattle.mesh_jobs.specs.declared.ending.Ending.TheVariants as ending
 use Rattle.mesh_jobs.specs.declared.status.Status.{Status}
 use Rattle.mesh_jobs.specs.declared.status.Status.TheVariants as status
-use Rattle.mesh_tool.specs.Answers.{Due, Wrong_words, Read_fault, Refusal, Attach_fault, Turns_spent, Want_of_memory, Whole, All_well, Some_refused, On_out, On_err, Ends, Is_whole, Is_told, Is_failed, Answers}
+use Rattle.mesh_answers.specs.Answers.{Due, Wrong_words, Read_fault, Refusal, Attach_fault, Turns_spent, Want_of_memory, Whole, All_well, Some_refused, On_out, On_err, Ends, Is_whole, Is_told, Is_failed, Answers}
 use Rattle.mesh_jobs.specs.Calls.{Call, told_in, UsesNoAir, RunsSoFar, Asks, wants_in, most_octets, ReadsNothing, IsInput, IsTooLong, WorksOn, RefusesOctets, IsAskedText, Refuses, Too_long, By_rule, TakesInput, Finishes, Before_reading, On_the_way}
 use Rattle.mesh_jobs.specs.Endings.{StopsReading, IsUnattached, IsSpent, Leaves, DoesJob, Unread, Worked, Does, No_command, Did, TellsLine, TellsEnding}
 use Rattle.mesh_jobs.specs.Lines.{words_line, read_line, refused_line, attach_line, turns_line, memory_line}

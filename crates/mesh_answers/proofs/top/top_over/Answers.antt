@@ -1,5 +1,5 @@
-use Rattle.mesh_tool.proofs.Answering.{with_err, answers}
-use Rattle.mesh_tool.proofs.top.top_over.Goals as goal
+use Rattle.mesh_answers.proofs.Answering.{with_err, answers}
+use Rattle.mesh_answers.proofs.top.top_over.Goals as goal
 
 pub returns : goal.returns
 returns g c =
