@@ -8,7 +8,7 @@ ghost use Rattle.mesh_config.specs.RunSettings.{OutlineOf, run_identifiers, stat
 
 use crate::build::router_from;
 use crate::setup::{outline, run_interfaces, run_ports, senders_distinct};
-use mesh_atoms::{RunSetup, Seq};
+use mesh_atoms::RunSetup;
 use mesh_checks::{no_duplicates, refuse_duplicates};
 use mesh_stated::StatedRouter;
 use mesh_stated_run::{StatedRun, StatedRunRouter, stated_run};
@@ -21,10 +21,9 @@ fn clear_outline(alloc: Global, stated: &StatedRunRouter) -> Result<StatedRouter
     ensures answer { Answers (OutlineOf stated.now) (first (duplicates (run_identifiers stated.now ∷ []))) result }
     ensures clear { IfOk result IsClear }
 {
-    let mut one = Seq::new(alloc);
-    one.push(outline(alloc, stated)?)?;
-    match no_duplicates(alloc, one.as_slice()) {
-        Ok(()) => Ok(outline(alloc, stated)?),
+    let outline = outline(alloc, stated)?;
+    match no_duplicates(alloc, std::slice::from_ref(&outline)) {
+        Ok(()) => Ok(outline),
         Err(e) => Err(e),
     }
 }

@@ -117,16 +117,6 @@ pub fn run_interfaces(
     Ok(all)
 }
 
-fn run_port(stated: &StatedRunInterface) -> Result<Port, AllocError>
-    ensures { IfOk result (λ p. port_pair p ≡ stated_port stated.now) }
-{
-    let peers = stated.peers.copy()?;
-    Ok(Port {
-        local: stated.local,
-        peers,
-    })
-}
-
 /// The port of each interface, in order: where it receives, and where it sends to.
 pub fn run_ports(alloc: Global, interfaces: &[StatedRunInterface]) -> Result<Seq<Port>, AllocError>
     ensures ports { IfOk result (λ all. map port_pair all ≡ map stated_port interfaces.now) }
@@ -134,7 +124,11 @@ pub fn run_ports(alloc: Global, interfaces: &[StatedRunInterface]) -> Result<Seq
 {
     let mut all = Seq::new(alloc);
     for stated in interfaces {
-        all.push(run_port(stated)?)?;
+        let peers = stated.peers.copy()?;
+        all.push(Port {
+            local: stated.local,
+            peers,
+        })?;
     }
     Ok(all)
 }

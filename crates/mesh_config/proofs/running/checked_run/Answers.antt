@@ -1,4 +1,4 @@
-use Rattle.std.proofs.Common.{◌≡◌, Bool, true, None, codes, refl, sym, ap, ◌∙◌, subst}
+use Rattle.std.proofs.Common.{◌≡◌, Bool, None, codes, refl, sym, ap, ◌∙◌, subst}
 use Rattle.std.specs.List.{list_all}
 use Rattle.mesh_atoms.specs.Settings.{are_distinct}
 use Rattle.mesh_checks.specs.Compared.{same_sender}
