@@ -17,17 +17,23 @@ use std::alloc::Global;
 fn router_named(routers: &[StatedRouter], name: &[u8]) -> Option<usize>
     ensures { result ≡ position (λ r. name_eq name.now r.head.name) routers.now }
 {
-    routers
-        .iter()
-        .position(|router| name == router.head.name.as_slice())
+    for (at, router) in routers.iter().enumerate() {
+        if name == router.head.name.as_slice() {
+            return Some(at);
+        }
+    }
+    None
 }
 
 fn iface_named(interfaces: &[StatedInterface], name: &[u8]) -> Option<usize>
     ensures { result ≡ position (λ i. name_eq name.now i.name) interfaces.now }
 {
-    interfaces
-        .iter()
-        .position(|iface| name == iface.name.as_slice())
+    for (at, iface) in interfaces.iter().enumerate() {
+        if name == iface.name.as_slice() {
+            return Some(at);
+        }
+    }
+    None
 }
 
 fn stated_place(routers: &[StatedRouter], place: &Place) -> Option<(usize, usize)>
