@@ -5,7 +5,7 @@ ghost use Rattle.mesh_jobs.specs.Status.{code_of};
 /// How the program ended: the whole text was written; the words are no command line; a read or a write failed; the input
 /// was refused; the whole listing was written, and a line of it says a refusal; an interface couldn't be attached; all turns were
 /// done, and the end didn't come; want of memory.
-#[derive(Clone, Copy, PartialEq, Eq)]
+#[derive(Clone, Copy)]
 pub enum Status {
     Done,
     Words,
