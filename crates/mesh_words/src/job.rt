@@ -2,7 +2,7 @@
 use mesh_atoms::Addr4;
 
 /// A way to make a scenario: routers in rows and columns, in a ring, or joined by draws.
-#[derive(Clone, Copy, PartialEq, Eq)]
+#[derive(Clone, Copy)]
 pub enum Kind {
     Grid,
     Ring,
@@ -11,7 +11,7 @@ pub enum Kind {
 
 /// A data packet that is to be sent: the place of the word that names the router it starts from, counted from 0, and the address
 /// that it is for.
-#[derive(Clone, Copy, PartialEq, Eq)]
+#[derive(Clone, Copy)]
 pub struct PacketWords {
     pub from: usize,
     pub dest: Addr4,
@@ -21,7 +21,7 @@ pub struct PacketWords {
 /// least form; to run a router for at most so many turns, at least 1; to emulate the network of a scenario, with `trace` telling
 /// each event, with `send` the trip of a data packet at the end, and with `probe`, the place of the word that names a router, the probe
 /// of the network by that router; or to emulate the network of a scenario that is made of 2 to 64 routers by a seed below 2^32.
-#[derive(Clone, Copy, PartialEq, Eq)]
+#[derive(Clone, Copy)]
 pub enum Job {
     Dump {
         recode: bool,
