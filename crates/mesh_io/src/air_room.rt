@@ -20,7 +20,7 @@ pub struct AirFails {
 
 /// For how many attaches with how many peers in all, for how many ears, and for how many frames with how many octets in all an air
 /// in memory has room.
-#[derive(Clone, Copy, PartialEq, Eq)]
+#[derive(Clone, Copy)]
 pub struct AirRoom {
     pub attaches: usize,
     pub peers: usize,

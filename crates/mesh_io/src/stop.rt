@@ -3,7 +3,7 @@ use crate::WriteFault;
 use std::alloc::AllocError;
 
 /// Why a job stopped before its text was whole: a write failed, or memory was wanting.
-#[derive(Clone, Copy, PartialEq, Eq)]
+#[derive(Clone, Copy)]
 pub enum Stop {
     Write,
     Memory,
