@@ -1,5 +1,5 @@
 -- An air in memory, as callers see it.
-use Rattle.std.specs.Prelude.{◌≡◌, ℕ, ◌+◌, ◌-◌, ◌^◌, ◌<◌, ◌≤◌, ◌&&◌, ◌||◌, not, nat_lt, nat_le, Bool, [], ◌∷◌, ◌++◌, List, length, take, drop, map, slice_get, slice_index_or, slice_set, Option, Some, None, is_some, if◌then◌else◌}
+use Rattle.std.specs.Prelude.{◌≡◌, ℕ, ◌+◌, ◌-◌, ◌^◌, ◌<◌, ◌≤◌, ◌&&◌, ◌||◌, not, nat_lt, nat_le, Bool, [], ◌∷◌, ◌++◌, List, length, take, drop, slice_get, slice_index_or, slice_set, Option, Some, None, is_some, if◌then◌else◌}
 use Rattle.mesh_atoms.specs.declared.addr.Endpoint.{Endpoint}
 use Rattle.mesh_io.specs.Airs.{Report}
 use Rattle.mesh_io.specs.Airs.Report.{Attached_to, Heard_frame, Heard_silence, Heard_fault, Handed}

@@ -1,5 +1,5 @@
 //! What an air in memory keeps, in memory that it took before.
-ghost use Rattle.std.specs.Prelude.{◌≡◌, ℕ, ◌+◌, ◌^◌, ◌≤◌, ◌<◌, [], ◌∷◌, ◌++◌, length, replicate, take, Some, IsTrue, IsSome, IfOk, slice_index_or, slice_set, if◌then◌else◌};
+ghost use Rattle.std.specs.Prelude.{◌≡◌, ℕ, ◌+◌, ◌^◌, ◌≤◌, ◌<◌, [], ◌∷◌, ◌++◌, length, replicate, take, Some, IsTrue, IsSome, IfOk, IfSome, slice_index_or, slice_set, if◌then◌else◌};
 ghost use Rattle.std.specs.Option.{option_copied};
 ghost use Rattle.std.specs.Vec.{vec_capacity};
 ghost use Rattle.mesh_io.specs.Airs.{FitsBuffer, report_of_ear};
@@ -117,6 +117,14 @@ fn give(ear: Option<&MemEar>, buf: &mut [u8]) -> Ear
     }
 }
 
+// For how many calls there is room, where so many can be counted.
+fn calls_within(room: AirRoom) -> Option<usize>
+    ensures { IfSome result (λ calls. calls ≡ room.attaches + room.ears + room.frames) }
+{
+    let calls = room.attaches.checked_add(room.ears)?;
+    calls.checked_add(room.frames)
+}
+
 impl AirLog {
     /// Nothing told, with room for so much. Takes all the memory that it will need.
     pub fn new(
@@ -132,11 +140,7 @@ impl AirLog {
           left = room;
         }) }
     {
-        let most = room
-            .attaches
-            .checked_add(room.ears)
-            .and_then(|n| n.checked_add(room.frames));
-        let Some(most) = most else {
+        let Some(most) = calls_within(room) else {
             return Err(AllocError);
         };
         let places = vec![in alloc; 0; scripts.len()]?;

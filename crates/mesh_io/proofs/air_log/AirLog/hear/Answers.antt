@@ -1,7 +1,6 @@
-use Rattle.std.proofs.Common.{◌≡◌, ℕ, ◌+◌, List, [], length, Option, refl, sym, ap, ◌∙◌, arith}
-use Rattle.std.proofs.lemmas.List.{append-nil, length-append}
-use Rattle.mesh_io.specs.MemAir.{LogState, told_ear, ear_at}
-use Rattle.mesh_io.proofs.Stores.{told_on, grew_nothing, log_with, roomy_on}
+use Rattle.std.proofs.Common.{◌≡◌, ap, arith}
+use Rattle.mesh_io.specs.MemAir.{LogState}
+use Rattle.mesh_io.proofs.Stores.{roomy_on}
 use Rattle.mesh_io.proofs.air_log.AirLog.hear.Goals as goal
 
 pub invariant_of-self : goal.invariant_of-self
