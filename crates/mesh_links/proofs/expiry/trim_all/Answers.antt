@@ -1,9 +1,12 @@
-use Rattle.std.proofs.Common.{sym, arith}
+use Rattle.std.proofs.Common.{sym, arith, refl}
 use Rattle.mesh_atoms.specs.Base.{link_eq}
 use Rattle.mesh_atoms.specs.Live.{trimmed}
 use Rattle.mesh_atoms.proofs.Lookups.{link_equiv}
 use Rattle.mesh_expire.proofs.Laws.{walk_changed, distinct-changed_at}
 use Rattle.mesh_links.proofs.expiry.trim_all.Goals as goal
+
+pub loop-place-init : goal.loop-place-init
+loop-place-init g c = record { content = refl; distinct = c.len-place-end.ensures.distinct }
 
 pub loop-place-preserved : goal.loop-place-preserved
 loop-place-preserved g c = record {
