@@ -1,4 +1,4 @@
-use Rattle.std.proofs.Common.{◌≡◌, sym, ap, subst, ◌∙◌, Some}
+use Rattle.std.proofs.Common.{◌≡◌, sym, ap, subst, ◌∙◌, Some, inr}
 use Rattle.std.proofs.lemmas.Result.{on_ok_weaker}
 use Rattle.mesh_atoms.specs.declared.addr.Addr4.{Addr4}
 use Rattle.mesh_atoms.specs.declared.tuples.LinkKey.{LinkKey}
@@ -49,3 +49,21 @@ returns-in_ok-own_all-in-Some-clause-distinct g c = c.renew_at.ensures.distinct
 
 pub returns-in_ok-own_all-in-Some-clause-owned : goal.returns-in_ok-own_all-in-Some-clause-owned
 returns-in_ok-own_all-in-Some-clause-owned g c = c.renew_at.ensures.owned
+
+pub end_all-requires-clause-owned : goal.end_all-requires-clause-owned
+end_all-requires-clause-owned g c = c.requires.owned
+
+pub end_all-requires-clause-others : goal.end_all-requires-clause-others
+end_all-requires-clause-others g c = λ link none. inr none
+
+pub renew_at-requires-clause-now : goal.renew_at-requires-clause-now
+renew_at-requires-clause-now g c = c.requires.now
+
+pub renew_at-requires-clause-hold : goal.renew_at-requires-clause-hold
+renew_at-requires-clause-hold g c = c.requires.hold
+
+pub renew_at-requires-clause-validity : goal.renew_at-requires-clause-validity
+renew_at-requires-clause-validity g c = c.requires.validity
+
+pub renew_at-requires-clause-distinct : goal.renew_at-requires-clause-distinct
+renew_at-requires-clause-distinct g c = c.end_all.ensures.distinct
