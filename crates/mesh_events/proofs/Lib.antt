@@ -1,1 +1,2 @@
 pub mod Derivations
+mod Refusals

@@ -1,6 +1,7 @@
 //! What a frame that is heard does to what a router holds.
 ghost use Rattle.std.specs.Prelude.{◌≡◌, ◌<◌, ◌^◌, ◌++◌, ℕ, List, length, IfOk, OnOk, OnErr};
 ghost use Rattle.mesh_atoms.specs.Sound.{Sound};
+ghost use Rattle.mesh_events.specs.Hearing.{refused};
 ghost use Rattle.mesh_events.specs.Holding.{state_of};
 ghost use Rattle.mesh_machine.specs.declared.fate.Fate.{Fate as FateValue};
 ghost use Rattle.mesh_machine.specs.declared.frame.Frame.{Frame};
@@ -43,8 +44,17 @@ pub fn hear_frame<B: Bases>(
     let alloc = holding.settings().interfaces.allocator();
     match decode(alloc, bytes) {
         Ok(decoded) => take_packet(alloc, holding, derived, arrival, bytes, &decoded, out),
-        Err(DecodeFault::Refused(refusal)) => Ok(Heard::Refused(refusal)),
-        Err(DecodeFault::Memory(e)) => Err(e),
+        Err(fault) => refused(fault),
+    }
+}
+
+// What is answered to a frame that isn't read.
+fn refused(fault: DecodeFault) -> Result<Heard, AllocError>
+    ensures { result ≡ refused fault }
+{
+    match fault {
+        DecodeFault::Refused(refusal) => Ok(Heard::Refused(refusal)),
+        DecodeFault::Memory(e) => Err(e),
     }
 }
 

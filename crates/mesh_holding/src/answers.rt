@@ -14,15 +14,18 @@ use mesh_topo::TcTaken;
 use mesh_wire::WireFault;
 use std::alloc::AllocError;
 
-/// The fate of a message that breaks a rule; want of memory stays that.
-pub(crate) fn broken_fate(fault: WireFault) -> Result<Fate, AllocError>
-    ensures { IfOk result (λ fate. (number : ℕ) × (net : Option NetValue) × (fault ≡ WireFault.Broken number net) × (fate ≡ only (Read.Broken number))) }
+/// The fate of a message that breaks a rule, which is always quiet; want of memory stays that.
+pub(crate) fn broken(fault: WireFault) -> Result<(Fate, bool), AllocError>
+    ensures { IfOk result (λ made. (number : ℕ) × (net : Option NetValue) × (fault ≡ WireFault.Broken number net) × (made.0 ≡ only (Read.Broken number))) }
 {
     match fault {
-        WireFault::Broken { number, addr: _ } => Ok(Fate {
-            read: Read::Broken(number),
-            forward: Forward::NotFlooded,
-        }),
+        WireFault::Broken { number, addr: _ } => {
+            let fate = Fate {
+                read: Read::Broken(number),
+                forward: Forward::NotFlooded,
+            };
+            Ok((fate, true))
+        }
         WireFault::Memory(e) => Err(e),
     }
 }

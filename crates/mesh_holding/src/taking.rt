@@ -1,7 +1,8 @@
 //! What a message does to the bases of a router.
 ghost use Rattle.std.specs.Prelude.{◌≡◌, ◌≢◌, ◌<◌, ◌≤◌, ◌+◌, ◌^◌, ◌++◌, ℕ, [], map, List, length, IfOk, OnOk, IsTrue};
 ghost use Rattle.mesh_atoms.specs.declared.addr.Addr4.{Addr4};
-ghost use Rattle.mesh_atoms.specs.State.{IsOriginator};
+ghost use Rattle.mesh_atoms.specs.Sound.{SoundNeighbourhood};
+ghost use Rattle.mesh_atoms.specs.State.{IsOriginator, NotedMessages, Topology as TopologyValue};
 ghost use Rattle.mesh_topo.specs.Same.{SameAdvertised};
 ghost use Rattle.mesh_topo.specs.Tuples.{HasHosts};
 ghost use Rattle.mesh_packet.specs.Fields.{MessageFields, fields_of_message};
@@ -15,7 +16,7 @@ ghost use Rattle.mesh_machine.specs.Laws.{SoundBases};
 ghost use Rattle.mesh_machine.specs.Messages.{TakesMessage, TakesMessages, ProcessesTc, IsHeading, AreSpelled};
 
 use crate::answers::{
-    broken_fate, hello_read, is_processed, is_quiet_hello, is_quiet_tc, other_read, tc_read,
+    broken, hello_read, is_processed, is_quiet_hello, is_quiet_tc, other_read, tc_read,
 };
 use crate::heading::{heading_of, heading_of_tc};
 use crate::holding::Holding;
@@ -96,128 +97,112 @@ fn process_tc<B: Bases>(
     Ok((fate, quiet))
 }
 
-impl<B: Bases> Holding<B> {
-    // Takes a HELLO: its fate, and whether it was quiet.
-    fn take_hello(
-        &mut self,
-        alloc: Global,
-        arrival: Arrival,
-        message: &Message,
-    ) -> Result<(Fate, bool), AllocError>
-        requires kind { message.now.kind ≡ 0 }
-        requires now { arrival.now < 2 ^ 62 }
-        requires iface { arrival.iface < length self.old.settings.interfaces }
-        requires sound { SoundBases self.old.settings arrival.now self.old.bases }
-        ensures taken { IfOk result (λ made. (own : Addr4) (octets : List ℕ)
-            → TakesMessage self.old.settings own arrival self.old.bases (fields_of_message message.now) octets self.new.bases [] made.0) }
-        ensures quiet { IfOk result (λ made. IsTrue made.1 → IsQuiet self.old.bases self.new.bases) }
-        ensures settings { self.new.settings ≡ self.old.settings }
-    {
-        match hello_of(alloc, message) {
-            Ok(hello) => {
-                let taken = self
-                    .nhdp
-                    .take_hello(arrival.now, arrival.iface, arrival.sender, &hello)?;
-                let fate = Fate {
-                    read: hello_read(taken),
-                    forward: Forward::NotFlooded,
-                };
-                Ok((fate, is_quiet_hello(taken)))
-            }
-            Err(fault) => {
-                let fate = broken_fate(fault)?;
-                Ok((fate, true))
-            }
-        }
-    }
-
-    // Takes a TC: its fate, and whether it was quiet.
-    fn take_tc(
-        &mut self,
-        alloc: Global,
-        arrival: Arrival,
-        own: Addr4,
-        message: &Message,
-        octets: &[u8],
-        out: &mut Outbox,
-    ) -> Result<(Fate, bool), AllocError>
-        requires kind { message.now.kind ≡ 1 }
-        requires now { arrival.now < 2 ^ 62 }
-        requires iface { arrival.iface < length self.old.bases.noted.received }
-        requires spelled { SpellsMessage (fields_of_message message.now) octets.now }
-        ensures taken { IfOk result (λ made. (sent : List Frame) × (out.new ≡ out.old ++ sent)
-            × TakesMessage self.old.settings own arrival self.old.bases (fields_of_message message.now) octets.now self.new.bases sent made.0) }
-        ensures quiet { IfOk result (λ made. IsTrue made.1 → IsQuiet self.old.bases self.new.bases) }
-        ensures settings { self.new.settings ≡ self.old.settings }
-    {
-        match tc_of(alloc, message) {
-            Ok(tc) => {
-                let heading = heading_of_tc(message, &tc);
-                process_tc(
-                    alloc,
-                    &self.nhdp,
-                    &mut self.topology,
-                    &mut self.flood,
-                    arrival,
-                    own,
-                    &tc,
-                    &heading,
-                    octets,
-                    out,
-                )
-            }
-            Err(fault) => {
-                let fate = broken_fate(fault)?;
-                Ok((fate, true))
-            }
-        }
-    }
-
-    // Takes a message of another type, which is always quiet.
-    fn take_other(
-        &mut self,
-        alloc: Global,
-        arrival: Arrival,
-        own: Addr4,
-        message: &Message,
-        octets: &[u8],
-        out: &mut Outbox,
-    ) -> Result<Fate, AllocError>
-        requires no_hello { message.now.kind ≢ 0 }
-        requires no_tc { message.now.kind ≢ 1 }
-        requires now { arrival.now < 2 ^ 62 }
-        requires iface { arrival.iface < length self.old.bases.noted.received }
-        requires spelled { SpellsMessage (fields_of_message message.now) octets.now }
-        ensures taken { IfOk result (λ fate. (sent : List Frame) × (out.new ≡ out.old ++ sent)
-            × TakesMessage self.old.settings own arrival self.old.bases (fields_of_message message.now) octets.now self.new.bases sent fate) }
-        ensures quiet { OnOk result (IsQuiet self.old.bases self.new.bases) }
-        ensures settings { self.new.settings ≡ self.old.settings }
-    {
-        let Some(heading) = heading_of(message) else {
-            return Ok(Fate {
-                read: Read::Other,
+// Takes a HELLO: its fate, and whether it was quiet.
+fn take_hello<B: Bases>(
+    alloc: Global,
+    nhdp: &mut Nhdp<B>,
+    arrival: Arrival,
+    message: &Message,
+) -> Result<(Fate, bool), AllocError>
+    requires kind { message.now.kind ≡ 0 }
+    requires now { arrival.now < 2 ^ 62 }
+    requires iface { arrival.iface < length nhdp.old.settings.interfaces }
+    requires sound { SoundNeighbourhood nhdp.old.settings arrival.now nhdp.old.near }
+    ensures taken { IfOk result (λ made. (own : Addr4) (octets : List ℕ) (topology : TopologyValue) (noted : NotedMessages) → TakesMessage nhdp.old.settings own arrival
+        (record { neighbourhood = nhdp.old.near; topology = topology; noted = noted }) (fields_of_message message.now) octets
+        (record { neighbourhood = nhdp.new.near; topology = topology; noted = noted }) [] made.0) }
+    ensures quiet { IfOk result (λ made. IsTrue made.1 → nhdp.new.near ≡ nhdp.old.near) }
+    ensures settings { nhdp.new.settings ≡ nhdp.old.settings }
+{
+    match hello_of(alloc, message) {
+        Ok(hello) => {
+            let taken = nhdp.take_hello(arrival.now, arrival.iface, arrival.sender, &hello)?;
+            let fate = Fate {
+                read: hello_read(taken),
                 forward: Forward::NotFlooded,
-            });
-        };
-        let count = self.nhdp.settings().interfaces.len();
-        let verdict = judge(&self.nhdp, &self.flood, arrival, own, &heading);
-        pass_on(
-            alloc,
-            &mut self.flood,
-            count,
-            arrival,
-            &heading,
-            octets,
-            &verdict,
-            false,
-            out,
-        )?;
-        Ok(Fate {
-            read: other_read(verdict.process),
-            forward: verdict.forward,
-        })
+            };
+            Ok((fate, is_quiet_hello(taken)))
+        }
+        Err(fault) => broken(fault),
     }
+}
 
+// Takes a TC: its fate, and whether it was quiet.
+fn take_tc<B: Bases>(
+    alloc: Global,
+    nhdp: &Nhdp<B>,
+    topology: &mut Topology<B>,
+    flood: &mut Flood<B>,
+    arrival: Arrival,
+    own: Addr4,
+    message: &Message,
+    octets: &[u8],
+    out: &mut Outbox,
+) -> Result<(Fate, bool), AllocError>
+    requires kind { message.now.kind ≡ 1 }
+    requires now { arrival.now < 2 ^ 62 }
+    requires iface { arrival.iface < length flood.old.noted.received }
+    requires times { flood.old.times ≡ nhdp.now.settings.times }
+    requires spelled { SpellsMessage (fields_of_message message.now) octets.now }
+    ensures taken { IfOk result (λ made. (sent : List Frame) × (out.new ≡ out.old ++ sent) × TakesMessage nhdp.now.settings own arrival
+        (record { neighbourhood = nhdp.now.near; topology = topology.old; noted = flood.old.noted }) (fields_of_message message.now) octets.now
+        (record { neighbourhood = nhdp.now.near; topology = topology.new; noted = flood.new.noted }) sent made.0) }
+    ensures quiet { IfOk result (λ made. IsTrue made.1 → SameAdvertised topology.old topology.new) }
+    ensures times { flood.new.times ≡ flood.old.times }
+{
+    match tc_of(alloc, message) {
+        Ok(tc) => {
+            let heading = heading_of_tc(message, &tc);
+            process_tc(
+                alloc, nhdp, topology, flood, arrival, own, &tc, &heading, octets, out,
+            )
+        }
+        Err(fault) => broken(fault),
+    }
+}
+
+// Takes a message of another type, which is always quiet.
+fn take_other<B: Bases>(
+    alloc: Global,
+    nhdp: &Nhdp<B>,
+    flood: &mut Flood<B>,
+    arrival: Arrival,
+    own: Addr4,
+    message: &Message,
+    octets: &[u8],
+    out: &mut Outbox,
+) -> Result<(Fate, bool), AllocError>
+    requires no_hello { message.now.kind ≢ 0 }
+    requires no_tc { message.now.kind ≢ 1 }
+    requires now { arrival.now < 2 ^ 62 }
+    requires iface { arrival.iface < length flood.old.noted.received }
+    requires times { flood.old.times ≡ nhdp.now.settings.times }
+    requires spelled { SpellsMessage (fields_of_message message.now) octets.now }
+    ensures taken { IfOk result (λ made. (sent : List Frame) × (out.new ≡ out.old ++ sent) × ((topology : TopologyValue) → TakesMessage nhdp.now.settings own arrival
+        (record { neighbourhood = nhdp.now.near; topology = topology; noted = flood.old.noted }) (fields_of_message message.now) octets.now
+        (record { neighbourhood = nhdp.now.near; topology = topology; noted = flood.new.noted }) sent made.0)) }
+    ensures times { flood.new.times ≡ flood.old.times }
+{
+    let Some(heading) = heading_of(message) else {
+        let fate = Fate {
+            read: Read::Other,
+            forward: Forward::NotFlooded,
+        };
+        return Ok((fate, true));
+    };
+    let count = nhdp.settings().interfaces.len();
+    let verdict = judge(nhdp, flood, arrival, own, &heading);
+    pass_on(
+        alloc, flood, count, arrival, &heading, octets, &verdict, false, out,
+    )?;
+    let fate = Fate {
+        read: other_read(verdict.process),
+        forward: verdict.forward,
+    };
+    Ok((fate, true))
+}
+
+impl<B: Bases> Holding<B> {
     // Takes a message: its fate, and whether it was quiet.
     fn take_message(
         &mut self,
@@ -238,12 +223,28 @@ impl<B: Bases> Holding<B> {
         ensures settings { self.new.settings ≡ self.old.settings }
     {
         match message.kind {
-            0 => self.take_hello(alloc, arrival, message),
-            1 => self.take_tc(alloc, arrival, own, message, octets, out),
-            _ => {
-                let fate = self.take_other(alloc, arrival, own, message, octets, out)?;
-                Ok((fate, true))
-            }
+            0 => take_hello(alloc, &mut self.nhdp, arrival, message),
+            1 => take_tc(
+                alloc,
+                &self.nhdp,
+                &mut self.topology,
+                &mut self.flood,
+                arrival,
+                own,
+                message,
+                octets,
+                out,
+            ),
+            _ => take_other(
+                alloc,
+                &self.nhdp,
+                &mut self.flood,
+                arrival,
+                own,
+                message,
+                octets,
+                out,
+            ),
         }
     }
 

@@ -134,6 +134,14 @@ finish g willing ts are h = record {
 pub at_end : (g : NeighbourGraph) (willing : List Near) (ts : List Bool) (left : ℕ) → AreWilling g willing → left ≤ 0 → IsPruned g willing ts left → Needed g (ids_of willing ts)
 at_end g willing ts left are le h = let e : left ≡ 0 = omega arith in finish g willing ts are (subst (λ (k : ℕ). IsPruned g willing ts k) e h)
 
+-- before any is left out
+pub at_begin : (g : NeighbourGraph) (willing : List Near) (ts : List Bool) (left : ℕ) → left ≡ length willing → length ts ≡ length willing → Covers g (ids_of willing ts) → IsPruned g willing ts left
+at_begin g willing ts left whole len covers = record {
+  length = len;
+  covers = covers;
+  needed = λ k n from at taken low. let within = at.0 in absurd (omega (arith, from, within, whole));
+}
+
 read_at : (ns : List Near) (k : ℕ) (d : Near) → k < length ns → IsAt ns k (get_or ns k d)
 read_at ns k d lt = (lt, get_or_default ns k (get_or ns k d) d lt)
 

@@ -3,6 +3,7 @@ use Rattle.mesh_events.specs.Holding.{state_of}
 use Rattle.mesh_machine.specs.Machine.{Hear, Heard_frame}
 use Rattle.mesh_machine.proofs.Soundness.{step_sound}
 use Rattle.mesh_sending.proofs.Written.{on_ok_of}
+use Rattle.mesh_events.proofs.Refusals.{hears_refused, not_refused, on_err, on_ok, refused_at}
 use Rattle.mesh_events.proofs.hear.hear_frame.Goals as goal
 
 pub returns-in-Ok-clause-hears : goal.returns-in-Ok-clause-hears
@@ -25,14 +26,21 @@ take_packet-requires-clause-iface g c = c.requires.iface
 pub take_packet-requires-clause-sound : goal.take_packet-requires-clause-sound
 take_packet-requires-clause-sound g c = c.requires.sound
 
-pub returns-in-Err-Memory-clause-hears : goal.returns-in-Err-Memory-clause-hears
-returns-in-Err-Memory-clause-hears g c = tt
+pub take_packet-requires-clause-spelled : goal.take_packet-requires-clause-spelled
+take_packet-requires-clause-spelled g c = c.in-Ok.ensures.value
 
-pub returns-in-Err-Memory-clause-sound : goal.returns-in-Err-Memory-clause-sound
-returns-in-Err-Memory-clause-sound g c = tt
+pub returns-in-Ok-clause-refused : goal.returns-in-Ok-clause-refused
+returns-in-Ok-clause-refused g c = λ place reason fault. absurd (not_refused (c.in-Ok.ensures.first place reason fault))
 
-pub returns-in-Err-Memory-clause-refused : goal.returns-in-Err-Memory-clause-refused
-returns-in-Err-Memory-clause-refused g c = λ place reason fault. tt
+pub returns-in-Err-clause-hears : goal.returns-in-Err-clause-hears
+returns-in-Err-clause-hears g c =
+    hears_refused (state_of c.args.holding.now c.args.derived.now) c.args.arrival c.args.bytes.now c.args.out.now c.in-Err.fault c.refused.result c.refused.ensures c.in-Err.ensures.refused
 
-pub returns-in-Err-Memory-clause-wanting : goal.returns-in-Err-Memory-clause-wanting
-returns-in-Err-Memory-clause-wanting g c = refl
+pub returns-in-Err-clause-refused : goal.returns-in-Err-clause-refused
+returns-in-Err-clause-refused g c = λ place reason fault. refused_at c.in-Err.fault c.refused.result place reason c.refused.ensures (c.in-Err.ensures.first place reason fault)
+
+pub returns-in-Err-clause-sound : goal.returns-in-Err-clause-sound
+returns-in-Err-clause-sound g c = on_ok c.refused.result c.requires.sound
+
+pub returns-in-Err-clause-wanting : goal.returns-in-Err-clause-wanting
+returns-in-Err-clause-wanting g c = on_err c.refused.result refl

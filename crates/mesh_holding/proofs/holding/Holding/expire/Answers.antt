@@ -1,9 +1,10 @@
-use Rattle.std.proofs.Common.{ap, sym, subst, ◌∙◌}
+use Rattle.std.proofs.Common.{ap, refl, sym, subst, ◌∙◌}
+use Rattle.mesh_atoms.specs.declared.settings.RouterSettings.{RouterSettings}
 use Rattle.mesh_atoms.specs.Live.{Live}
 use Rattle.mesh_atoms.specs.Sound.{SoundNeighbourhood}
 use Rattle.mesh_holding.specs.Held.{Held}
 use Rattle.mesh_nhdp.specs.Staying.{AllIsAsItWas}
-use Rattle.mesh_holding.proofs.Quiet.{both_true}
+use Rattle.mesh_holding.proofs.Quiet.{both_true, not_true}
 use Rattle.mesh_holding.proofs.holding.Holding.expire.Goals as goal
 
 pub expire_since-requires-clause-now : goal.expire_since-requires-clause-now
@@ -23,3 +24,17 @@ returns-clause-settings g c = c.expire_since.ensures.settings ∙ ap (λ (h : He
 pub returns-clause-links : goal.returns-clause-links
 returns-clause-links g c both =
     subst (λ (h : Held). AllIsAsItWas h.settings c.args.last c.args.now h.bases.neighbourhood) c.self.view_is (c.in_ok-same.ensures.when.0 (both_true c.in_ok-same.same _ both).0)
+
+pub returns-in_err-same-clause-settings : goal.returns-in_err-same-clause-settings
+returns-in_err-same-clause-settings g c = c.expire_since.ensures.settings ∙ ap (λ (h : Held). h.settings) c.self.view_is
+
+pub invariant_of-self : goal.invariant_of-self
+invariant_of-self g c = c.self.invariant ∙ sym (ap (λ (r : RouterSettings). r.times) c.expire_since.ensures.settings)
+
+pub invariant_of-self-2 : goal.invariant_of-self-2
+invariant_of-self-2 g c = c.expire.ensures.times ∙ (c.self.invariant ∙ sym (ap (λ (r : RouterSettings). r.times) c.expire_since.ensures.settings))
+
+pub returns-clause-quiet : goal.returns-clause-quiet
+returns-clause-quiet g c both =
+    let (same, unchanged) = both_true c.in_ok-same.same _ both in
+    rw (← c.self.view_is) (record { neighbourhood = c.in_ok-same.ensures.same same; advertised = c.expire-changed.ensures.same (not_true c.expire-changed.result _ refl unchanged) })

@@ -86,3 +86,9 @@ returns-clause-settings g c = c.loop-i.invariant.settings
 
 pub returns-clause-quiet : goal.returns-clause-quiet
 returns-clause-quiet g c = c.loop-i.invariant.quiet
+
+pub returns-in_err-fate-clause-settings : goal.returns-in_err-fate-clause-settings
+returns-in_err-fate-clause-settings g c = c.take_message.ensures.settings ∙ c.loop-i.invariant.settings
+
+pub returns-in_err-push-clause-settings : goal.returns-in_err-push-clause-settings
+returns-in_err-push-clause-settings g c = c.take_message.ensures.settings ∙ c.loop-i.invariant.settings
