@@ -1,25 +1,32 @@
 -- The events of a network, put together.
-use Rattle.std.proofs.Common.{◌≡◌, ℕ, ◌+◌, ◌<◌, ◌≤◌, ◌∙◌, List, refl, sym, ap, length, arith, subst, All, Option, Some, None}
+use Rattle.std.proofs.Common.{◌≡◌, ℕ, ◌+◌, ◌<◌, ◌≤◌, ◌∙◌, List, refl, sym, length, map, arith, subst, All, Option, Some, None, Result, Ok, Err, Bool, true, false, is_err, IfOk}
 use Rattle.std.specs.Prelude.{min, slice_get, IfSome, MatchOption}
-use Rattle.std.proofs.lemmas.List.{length-map}
 use Rattle.std.proofs.lemmas.List.Elements.{All-weaker}
+use Rattle.std.proofs.lemmas.Option.{slice_get_within}
+use Rattle.std.proofs.lemmas.Result.{IfOk-weaker}
+use Rattle.mesh_atoms.specs.declared.addr.Addr4.{Addr4}
+use Rattle.mesh_atoms.specs.declared.settings.RadioArc.{RadioArc}
 use Rattle.mesh_atoms.specs.declared.settings.RouterSettings.{RouterSettings}
 use Rattle.mesh_atoms.specs.declared.settings.Scenario.{Scenario}
 use Rattle.mesh_atoms.specs.State.{State}
-use Rattle.mesh_core.specs.Holding.{CoreValue}
+use Rattle.mesh_machine.specs.declared.frame.Frame.{Frame}
+use Rattle.mesh_machine.specs.Machine.{Hear}
 use Rattle.mesh_machine.specs.Sendable.{IsPacket, IsSendable}
 use Rattle.mesh_traffic.specs.declared.emission.Emission.{Emission}
-use Rattle.mesh_radio.specs.declared.event.NetEvent.{NetEvent}
-use Rattle.mesh_radio.specs.Net.{Net, NetStep, TicksNext, HasOnlyLastTicks, Moves, Delivers, TicksDue, TicksLast, event_of, frames_of}
+use Rattle.mesh_traffic.specs.declared.traffic.Traffic.{Traffic as Kept}
 use Rattle.mesh_traffic.specs.Sending.{Traffic, Delivery, IsHeardFirst, SendsAll, with_heard, frame_of}
-use Rattle.mesh_radio.specs.Run.{IsOver, IsOfScenario, IsOfPackets, states_of}
-use Rattle.mesh_radio.specs.declared.scene.Scene.{Scene}
-use Rattle.mesh_radio.specs.Scene.{IsSound, AreRouters, Lands, TicksOne, Stepped, Happens, IsLeft, net_of}
 use Rattle.mesh_traffic.specs.Traffic.{traffic_of}
-use Rattle.mesh_radio.proofs.Arcs.{arc_ends}
-use Rattle.mesh_radio.proofs.Flying.{sent_lost}
 use Rattle.mesh_traffic.proofs.Places.{same_at, all_turned}
-use Rattle.mesh_radio.proofs.Soundness.{all_due}
+use Rattle.mesh_radio.specs.declared.event.NetEvent.{NetEvent}
+use Rattle.mesh_radio.specs.declared.scene.Due.{Due}
+use Rattle.mesh_radio.specs.declared.scene.Scene.{Scene}
+use Rattle.mesh_radio.specs.declared.scene.Tick.{Tick}
+use Rattle.mesh_radio.specs.Net.{Net, NetStep, By_delivery, By_tick, By_last_tick, IsFirstDue, IsSender, TicksNext, HasOnlyLastTicks, Moves, Delivers, TicksDue, TicksLast, event_of, frames_of}
+use Rattle.mesh_radio.specs.Run.{IsOver, IsOfScenario, IsOfPackets}
+use Rattle.mesh_radio.specs.Scene.{IsSound, AreRouters, Lands, TicksOne, Stepped, Happens, IsFlying, IsLeft, IsQuiet, IsNextTick, Due_first, At_end, HasNoTick, Stays, Tells, net_of}
+use Rattle.mesh_radio.proofs.Arcs.{arc_ends}
+use Rattle.mesh_radio.proofs.Flying.{first_and_others, others_later, sent_flying, sent_lost, still_flying}
+use Rattle.mesh_radio.proofs.Soundness.{all_due, due_from, later_routers, routers_after, same_count, same_first}
 
 pub min_left : (a b c : ℕ) → a ≤ min b c → a ≤ b
 min_left a b c h = omega (arith, h)
@@ -32,14 +39,14 @@ abbrev pub left_in_air : Scene → List Delivery → Traffic
 left_in_air s others = record { air = others; counts = s.traffic.counts; draws = s.traffic.draws.drawn }
 
 -- the network after an event
-abbrev pub after : List State → Scene → Traffic → ℕ → Net
-after new s traffic last_ticks = record { scenario = s.scenario; routers = new; traffic = traffic; last_ticks = last_ticks }
+abbrev network_after : List State → Scene → Traffic → ℕ → Net
+network_after new s traffic last_ticks = record { scenario = s.scenario; routers = new; traffic = traffic; last_ticks = last_ticks }
 
 -- What happens
 
-moved : (old : List CoreValue) (new : List State) (s : Scene) (x now last_ticks : ℕ) (event : NetEvent) (change : ℕ → ℕ → Type 0) (before then : Traffic) → event.router ≡ x → event.moment ≡ now →
-    Stepped (states_of old) new x now (event_of event) (frames_of event) change → SendsAll s.scenario now x event.sent before then →
-    Moves (net_of old s) event before (after new s then last_ticks)
+moved : (old new : List State) (s : Scene) (x now last_ticks : ℕ) (event : NetEvent) (change : ℕ → ℕ → Type 0) (before then : Traffic) → event.router ≡ x → event.moment ≡ now →
+    Stepped old new x now (event_of event) (frames_of event) change → SendsAll s.scenario now x event.sent before then →
+    Moves (net_of old s) event before (network_after new s then last_ticks)
 moved old new s x now last_ticks event change before then router moment step sends = record {
   was = step.was;
   is = step.is;
@@ -50,8 +57,8 @@ moved old new s x now last_ticks event change before then router moment step sen
   scenario = refl;
 }
 
-pub heard : (old : List CoreValue) (new : List State) (s : Scene) (d : Delivery) (others : List Delivery) (event : NetEvent) (then : Traffic) → IsSound (states_of old) s → IsHeardFirst s.traffic.air d others → d.moment ≤ min s.due.moment s.scenario.end →
-    Lands s.scenario (states_of old) new d event (left_in_air s others) then → Delivers (net_of old s) event (after new s then s.last_ticks)
+pub heard : (old new : List State) (s : Scene) (d : Delivery) (others : List Delivery) (event : NetEvent) (then : Traffic) → IsSound old s → IsHeardFirst s.traffic.air d others → d.moment ≤ min s.due.moment s.scenario.end →
+    Lands s.scenario old new d event (left_in_air s others) then → Delivers (net_of old s) event (network_after new s then s.last_ticks)
 heard old new s d others event then sound first soon lands =
     let ahead : d.moment ≤ s.due.moment = min_left d.moment s.due.moment s.scenario.end soon in
     record {
@@ -62,7 +69,7 @@ heard old new s d others event then sound first soon lands =
       next = record {
         first = first;
         in_time = min_right d.moment s.due.moment s.scenario.end soon;
-        before_ticks = all_due (λ m. d.moment ≤ m) (states_of old) (λ y t at. let no = sound.due.no_earlier y t at in omega (arith, no, ahead));
+        before_ticks = all_due (λ m. d.moment ≤ m) old (λ y t at. let no = sound.due.no_earlier y t at in omega (arith, no, ahead));
       };
       arc_is = lands.arc_is;
       sender_is = lands.sender_is;
@@ -73,8 +80,8 @@ heard old new s d others event then sound first soon lands =
       last_ticks = refl;
     }
 
-pub ticked : (old : List CoreValue) (new : List State) (s : Scene) (event : NetEvent) (then : Traffic) → TicksNext (net_of old s) s.due.router s.due.moment → TicksOne s.scenario (states_of old) new s.due.router s.due.moment event (traffic_of s.traffic) then →
-    TicksDue (net_of old s) event (after new s then s.last_ticks)
+pub ticked : (old new : List State) (s : Scene) (event : NetEvent) (then : Traffic) → TicksNext (net_of old s) s.due.router s.due.moment → TicksOne s.scenario old new s.due.router s.due.moment event (traffic_of s.traffic) then →
+    TicksDue (net_of old s) event (network_after new s then s.last_ticks)
 ticked old new s event then next ticks = record {
   next = rw (ticks.router, ticks.moment) next;
   heard = ticks.heard;
@@ -82,8 +89,8 @@ ticked old new s event then next ticks = record {
   last_ticks = refl;
 }
 
-pub ended : (old : List CoreValue) (new : List State) (s : Scene) (event : NetEvent) (then : Traffic) → HasOnlyLastTicks (net_of old s) → s.last_ticks < length (states_of old) → TicksOne s.scenario (states_of old) new s.last_ticks s.scenario.end event (traffic_of s.traffic) then →
-    TicksLast (net_of old s) event (after new s then (s.last_ticks + 1))
+pub ended : (old new : List State) (s : Scene) (event : NetEvent) (then : Traffic) → HasOnlyLastTicks (net_of old s) → s.last_ticks < length old → TicksOne s.scenario old new s.last_ticks s.scenario.end event (traffic_of s.traffic) then →
+    TicksLast (net_of old s) event (network_after new s then (s.last_ticks + 1))
 ended old new s event then only some ticks = record {
   only = only;
   some = some;
@@ -132,68 +139,169 @@ module _ (s : Scenario) (old new : List State) (event : NetEvent) where
   pub tick_of_packets : (x m : ℕ) (before then : Traffic) → TicksOne s old new x m event before then → IsOfPackets event
   tick_of_packets x m before then ticks = of_packets ticks.stepped.was.settings event ticks.stepped.sendable (rw ticks.heard tt)
 
--- Nothing is heard next
+-- A frame is heard
 
-module _ (old new : List CoreValue) (was is : Scene) (told : (new ≡ old) × (is ≡ was) × All (λ d. min was.due.moment was.scenario.end < d.moment) was.traffic.air) (sound : IsSound (states_of old) was) where
-  same_net : net_of new is ≡ net_of old was
-  same_net = ap (λ (cores : List CoreValue). net_of cores is) told.0 ∙ ap (net_of old) told.1
+-- what is told where a router has heard a frame
+pub lands : (s : Scenario) (old new : List State) (d : Delivery) (arc : RadioArc) (sender : Addr4) (frames : List Frame) (sent : List Emission) (before then : Traffic) → slice_get s.arcs d.arc ≡ Some arc → IsSender s.routers arc sender →
+    Stepped old new arc.to d.moment (Hear (record { now = d.moment; iface = arc.to_iface; sender = sender }) d.frame) frames (λ was is. is ≡ was) → map frame_of sent ≡ frames → SendsAll s d.moment arc.to sent (with_heard before before.air) then →
+    (event : NetEvent) → event ≡ record { moment = d.moment; router = arc.to; heard = Some (arc.to_iface, sender, d.frame); sent = sent } → Lands s old new d event before then
+lands s old new d arc sender frames sent before then arc_is sender_is stepped are sends event is = subst (λ (e : NetEvent). Lands s old new d e before then) (sym is) (record {
+  arc = arc;
+  sender = sender;
+  arc_is = arc_is;
+  sender_is = sender_is;
+  moment = refl;
+  router = refl;
+  heard = refl;
+  stepped = subst (λ (fs : List Frame). Stepped old new arc.to d.moment (Hear (record { now = d.moment; iface = arc.to_iface; sender = sender }) d.frame) fs (λ was is. is ≡ was)) (sym are) stepped;
+  sends = sends;
+})
 
-  pub next_tick : is.due.moment ≤ is.scenario.end → TicksNext (net_of new is) is.due.router is.due.moment
-  next_tick soon =
-      let in_time : was.due.moment ≤ was.scenario.end = subst (λ (s : Scene). s.due.moment ≤ s.scenario.end) told.1 soon in
-      let next : TicksNext (net_of old was) was.due.router was.due.moment = record {
-        first = sound.due;
-        in_time = in_time;
-        before_frames = λ k d lt. let late = told.2 k d lt in omega (arith, late, in_time);
-      } in
-      subst (λ (cores : List CoreValue). TicksNext (net_of cores is) is.due.router is.due.moment) (sym told.0)
-      (subst (λ (s : Scene). TicksNext (net_of old s) s.due.router s.due.moment) (sym told.1) next)
+-- the network after it
+pub hears_next : (s : Scene) (old new : List State) (d : Delivery) (others : List Delivery) (event : NetEvent) (outbox : List Frame) (then : Kept) → IsSound old s → IsHeardFirst s.traffic.air d others → d.moment ≤ min s.due.moment s.scenario.end →
+    Lands s.scenario old new d event (left_in_air s others) (traffic_of then) → then.draws.seed ≡ s.traffic.draws.seed → Happens old s event new (record s { outbox = outbox; traffic = then; now = d.moment })
+hears_next s old new d others event outbox then sound first soon lands seed =
+    let parts = first_and_others (IsFlying s.scenario s.now) s.traffic.air d others first sound.flying in
+    let flying = still_flying s.scenario s.now d.moment others parts.1 (others_later s.traffic.air d others first) in
+    record {
+      step = By_delivery (heard old new s d others event (traffic_of then) sound first soon lands);
+      named = landing_of_scenario s.scenario old new event s.now d _ _ sound.are_routers lands;
+      packets = landing_of_packets s.scenario old new event d _ _ parts.0.packet lands;
+      sound = record {
+        ways = sound.ways;
+        are_routers = routers_after s.scenario d.moment old new _ _ _ _ (later_routers s.scenario s.now d.moment old parts.0.later sound.are_routers) lands.stepped;
+        seed = seed ∙ sound.seed;
+        flying = sent_flying s.scenario d.moment lands.arc.to lands.stepped.was.settings event.sent (with_heard (left_in_air s others) others) (traffic_of then) lands.stepped.sendable lands.sends flying;
+        due = same_first old new _ _ _ _ _ _ lands.stepped sound.due;
+        due_later = min_left d.moment s.due.moment s.scenario.end soon;
+        in_time = min_right d.moment s.due.moment s.scenario.end soon;
+        few = rw (same_count old new _ _ _ _ _ lands.stepped) sound.few;
+      };
+    }
 
-  only_of_old : was.scenario.end < was.due.moment → HasOnlyLastTicks (net_of old was)
-  only_of_old late = record {
-    no_frames = λ k d lt. let later = told.2 k d lt in omega (arith, late, later);
-    no_ticks = all_due (λ m. was.scenario.end < m) (states_of old) (λ y t at. let no = sound.due.no_earlier y t at in omega (arith, no, late));
+-- A router ticks
+
+module _ (s : Scene) (old : List State) (sound : IsSound old s) (quiet : IsQuiet s) where
+  due_next : s.due.moment ≤ s.scenario.end → TicksNext (net_of old s) s.due.router s.due.moment
+  due_next soon = record {
+    first = sound.due;
+    in_time = soon;
+    before_frames = λ k d lt. let late = quiet k d lt in omega (arith, late, soon);
   }
 
-  pub only_last_ticks : is.scenario.end < is.due.moment → HasOnlyLastTicks (net_of new is)
-  only_last_ticks late = subst HasOnlyLastTicks (sym same_net) (only_of_old (subst (λ (s : Scene). s.scenario.end < s.due.moment) told.1 late))
+  only_last_ticks : s.scenario.end < s.due.moment → HasOnlyLastTicks (net_of old s)
+  only_last_ticks late = record {
+    no_frames = λ k d lt. let later = quiet k d lt in omega (arith, late, later);
+    no_ticks = all_due (λ m. s.scenario.end < m) old (λ y t at. let no = sound.due.no_earlier y t at in omega (arith, no, late));
+  }
+
+  -- a tick that is next
+
+  pub tick_within : (tick : Tick) → IsNextTick s tick → tick.router < length s.scenario.routers
+  tick_within tick (Due_first soon is) =
+      let count = sound.are_routers.count in
+      let below : s.due.router < length old = slice_get_within old s.due.router sound.due.state sound.due.stands in
+      subst (λ (t : Tick). t.router < length s.scenario.routers) (sym is) (omega (arith, count, below))
+  tick_within tick (At_end late some is) = subst (λ (t : Tick). t.router < length s.scenario.routers) (sym is) some
+
+  pub tick_in_time : (tick : Tick) → IsNextTick s tick → tick.moment ≤ s.scenario.end
+  tick_in_time tick (Due_first soon is) = subst (λ (t : Tick). t.moment ≤ s.scenario.end) (sym is) soon
+  tick_in_time tick (At_end late some is) = subst (λ (t : Tick). t.moment ≤ s.scenario.end) (sym is) (omega arith)
+
+  pub tick_later : (tick : Tick) → IsNextTick s tick → s.now ≤ tick.moment
+  tick_later tick (Due_first soon is) = subst (λ (t : Tick). s.now ≤ t.moment) (sym is) sound.due_later
+  tick_later tick (At_end late some is) = subst (λ (t : Tick). s.now ≤ t.moment) (sym is) sound.in_time
+
+  -- it is no later than the tick that is due first
+  tick_ahead : (tick : Tick) → IsNextTick s tick → tick.moment ≤ s.due.moment
+  tick_ahead tick (Due_first soon is) = subst (λ (t : Tick). t.moment ≤ s.due.moment) (sym is) (omega arith)
+  tick_ahead tick (At_end late some is) = subst (λ (t : Tick). t.moment ≤ s.due.moment) (sym is) (omega (arith, late))
+
+  tick_few : (tick : Tick) → IsNextTick s tick → tick.last_ticks ≤ length old
+  tick_few tick (Due_first soon is) = subst (λ (t : Tick). t.last_ticks ≤ length old) (sym is) sound.few
+  tick_few tick (At_end late some is) = let count = sound.are_routers.count in subst (λ (t : Tick). t.last_ticks ≤ length old) (sym is) (omega (arith, count, some))
+
+  tick_step : (new : List State) (event : NetEvent) (then : Traffic) (tick : Tick) → IsNextTick s tick → TicksOne s.scenario old new tick.router tick.moment event (traffic_of s.traffic) then →
+      NetStep (net_of old s) event (network_after new s then tick.last_ticks)
+  tick_step new event then tick (Due_first soon is) ticks =
+      subst (λ (t : Tick). TicksOne s.scenario old new t.router t.moment event (traffic_of s.traffic) then → NetStep (net_of old s) event (network_after new s then t.last_ticks)) (sym is)
+      (λ due. By_tick (ticked old new s event then (due_next soon) due)) ticks
+  tick_step new event then tick (At_end late some is) ticks =
+      let count = sound.are_routers.count in
+      subst (λ (t : Tick). TicksOne s.scenario old new t.router t.moment event (traffic_of s.traffic) then → NetStep (net_of old s) event (network_after new s then t.last_ticks)) (sym is)
+      (λ due. By_last_tick (ended old new s event then (only_last_ticks late) (omega (arith, count, some)) due)) ticks
+
+  -- the network after it
+  pub ticks_next : (new : List State) (event : NetEvent) (outbox : List Frame) (then : Kept) (due : Due) (tick : Tick) → IsNextTick s tick → TicksOne s.scenario old new tick.router tick.moment event (traffic_of s.traffic) (traffic_of then) →
+      then.draws.seed ≡ s.traffic.draws.seed → IsFirstDue new due.router due.moment →
+      Happens old s event new (record s { outbox = outbox; traffic = then; due = due; last_ticks = tick.last_ticks; now = tick.moment })
+  ticks_next new event outbox then due tick next ticks seed first =
+      let ahead = tick_ahead tick next in
+      let in_time = tick_in_time tick next in
+      let later = tick_later tick next in
+      let flying = still_flying s.scenario s.now tick.moment s.traffic.air sound.flying (λ k d lt. let late = quiet k d lt in omega (arith, late, ahead, in_time)) in
+      record {
+        step = tick_step new event (traffic_of then) tick next ticks;
+        named = tick_of_scenario s.scenario s.now old new event _ _ sound.are_routers _ _ ticks;
+        packets = tick_of_packets s.scenario old new event _ _ _ _ ticks;
+        sound = record {
+          ways = sound.ways;
+          are_routers = routers_after s.scenario tick.moment old new _ _ _ _ (later_routers s.scenario s.now tick.moment old later sound.are_routers) ticks.stepped;
+          seed = seed ∙ sound.seed;
+          flying = sent_flying s.scenario tick.moment tick.router ticks.stepped.was.settings event.sent (traffic_of s.traffic) (traffic_of then) ticks.stepped.sendable ticks.sends flying;
+          due = first;
+          due_later = due_from old new _ _ _ _ s.due.moment _ _ ticks.stepped sound.due.no_earlier ahead first;
+          in_time = in_time;
+          few = rw (same_count old new _ _ _ _ _ ticks.stepped) (tick_few tick next);
+        };
+      }
 
   -- nothing at all is left
-  over : is.scenario.end < is.due.moment → length new ≤ is.last_ticks → IsOver (net_of old was) × (net_of new is ≡ net_of old was)
-  over late done = (
-    record {
-      only = only_of_old (subst (λ (s : Scene). s.scenario.end < s.due.moment) told.1 late);
-      last_ticks =
-          let few = sound.few in
-          let count = length-map old (λ (c : CoreValue). c.state) in
-          let all : length old ≤ was.last_ticks = subst (λ (s : Scene). length old ≤ s.last_ticks) told.1 (subst (λ (cores : List CoreValue). length cores ≤ is.last_ticks) told.0 done) in
-          omega (arith, few, count, all);
-    },
-    same_net,
-  )
-
-  pub still_sound : IsSound (states_of new) is
-  still_sound = subst (λ (cores : List CoreValue). IsSound (states_of cores) is) (sym told.0) (subst (IsSound (states_of old)) (sym told.1) sound)
-
-  pub nothing_left : is.scenario.end < is.due.moment → length new ≤ is.last_ticks → IsLeft old was new is
-  nothing_left late done = record { over = over late done; sound = still_sound }
+  pub nothing_left : HasNoTick s → IsLeft old s old s
+  nothing_left (late, done) =
+      let few = sound.few in
+      let count = sound.are_routers.count in
+      record { over = (record { only = only_last_ticks late; last_ticks = omega (arith, few, count, done) }, refl); sound = sound }
 
 -- What is told of a network after its next event, if there is one
 
-module _ (old new : List CoreValue) (was is : Scene) where
-  pub next_step : (e : Option NetEvent) → MatchOption e (IsLeft old was new is) (λ event. Happens old was event new is) →
-      MatchOption e (IsOver (net_of old was) × (net_of new is ≡ net_of old was)) (λ event. NetStep (net_of old was) event (net_of new is))
-  next_step None h = h.over
-  next_step (Some event) h = h.step
+-- where it stayed as it was before
+pub told_since : {E : Type 0} (old mid new : List State) (before between after : Scene) (r : Result (Option NetEvent) E) → Stays old before mid between → IfOk r (Tells mid between new after) → IfOk r (Tells old before new after)
+told_since old mid new before between after r stays told =
+    subst (λ (states : List State). IfOk r (Tells states before new after)) stays.routers (subst (λ (s : Scene). IfOk r (Tells mid s new after)) stays.scene told)
 
-  pub next_named : (e : Option NetEvent) → MatchOption e (IsLeft old was new is) (λ event. Happens old was event new is) → IfSome e (IsOfScenario was.scenario)
-  next_named None h = tt
-  next_named (Some event) h = h.named
+-- and is sound
+pub sound_since : (old mid : List State) (before between : Scene) → Stays old before mid between → IsSound old before → IsSound mid between
+sound_since old mid before between stays sound =
+    subst (λ (states : List State). IsSound states between) (sym stays.routers) (subst (IsSound old) (sym stays.scene) sound)
 
-  pub next_packets : (e : Option NetEvent) → MatchOption e (IsLeft old was new is) (λ event. Happens old was event new is) → IfSome e IsOfPackets
-  next_packets None h = tt
-  next_packets (Some event) h = h.packets
+pub quiet_since : (old mid : List State) (before between : Scene) → Stays old before mid between → IsQuiet between
+quiet_since old mid before between stays = subst IsQuiet (sym stays.scene) stays.quiet
 
-  pub next_sound : (e : Option NetEvent) → MatchOption e (IsLeft old was new is) (λ event. Happens old was event new is) → IsSound (states_of new) is
-  next_sound None h = h.sound
-  next_sound (Some event) h = h.sound
+module _ {E : Type 0} (old new : List State) (before after : Scene) (r : Result (Option NetEvent) E) (told : IfOk r (Tells old before new after)) where
+  pub told_step : (was : Net) → net_of old before ≡ was → IfOk r (λ e. MatchOption e (IsOver was × (net_of new after ≡ was)) (λ event. NetStep was event (net_of new after)))
+  told_step was is = subst (λ (n : Net). IfOk r (λ e. MatchOption e (IsOver n × (net_of new after ≡ n)) (λ event. NetStep n event (net_of new after)))) is (IfOk-weaker r (Tells old before new after) _ one told)
+    where
+      one : (e : Option NetEvent) → Tells old before new after e → MatchOption e (IsOver (net_of old before) × (net_of new after ≡ net_of old before)) (λ event. NetStep (net_of old before) event (net_of new after))
+      one None h = h.over
+      one (Some event) h = h.step
+
+  pub told_named : (was : Net) → net_of old before ≡ was → IfOk r (λ e. IfSome e (IsOfScenario was.scenario))
+  told_named was is = subst (λ (n : Net). IfOk r (λ e. IfSome e (IsOfScenario n.scenario))) is (IfOk-weaker r (Tells old before new after) _ one told)
+    where
+      one : (e : Option NetEvent) → Tells old before new after e → IfSome e (IsOfScenario before.scenario)
+      one None h = tt
+      one (Some event) h = h.named
+
+  pub told_packets : IfOk r (λ e. IfSome e IsOfPackets)
+  told_packets = IfOk-weaker r (Tells old before new after) _ one told
+    where
+      one : (e : Option NetEvent) → Tells old before new after e → IfSome e IsOfPackets
+      one None h = tt
+      one (Some event) h = h.packets
+
+-- a network that isn't spent is sound
+pub sound_unless_spent : {E : Type 0} (old new : List State) (before after : Scene) (r : Result (Option NetEvent) E) (spent : Bool) → IfOk r (Tells old before new after) → spent ≡ is_err r → spent ≡ false → IsSound new after
+sound_unless_spent old new before after (Ok None) spent told says whole = told.sound
+sound_unless_spent old new before after (Ok (Some event)) spent told says whole = told.sound
+sound_unless_spent old new before after (Err e) spent told says whole = let both : true ≡ false = sym says ∙ whole in absurd cc

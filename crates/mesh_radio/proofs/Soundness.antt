@@ -1,7 +1,7 @@
 -- What holds of the routers after an event.
 use Rattle.std.proofs.Common.{◌≡◌, ℕ, ◌<◌, ◌≤◌, List, refl, sym, ◌∙◌, ap, subst, length, get_or, arith, All, Some, inl, inr, length-set}
 use Rattle.std.specs.Prelude.{slice_get, ◌⊎◌, ◌≢◌}
-use Rattle.std.proofs.lemmas.Option.{slice_get-get_or, slice_get_within, get_or_from_slice_get}
+use Rattle.std.proofs.lemmas.Option.{slice_get-get_or, slice_get_within}
 use Rattle.mesh_atoms.specs.State.{State}
 use Rattle.mesh_atoms.specs.declared.settings.Scenario.{Scenario}
 use Rattle.mesh_machine.specs.declared.frame.Frame.{Frame}
@@ -71,8 +71,3 @@ due_from old new x now r m first event frames step h le is =
 -- what holds of the due moment of each router
 pub all_due : (P : ℕ → Type 0) (routers : List State) → ((y : ℕ) (t : State) → slice_get routers y ≡ Some t → P (due t)) → All (λ t. P (due t)) routers
 all_due P routers h k d lt = h k (get_or routers k d) (slice_get-get_or routers k d lt)
-
-pub first_after : (e : ℕ) (routers : List State) (r m : ℕ) → IsFirstDue routers r m → All (λ t. e < due t) routers → e ≤ m
-first_after e routers r m first h =
-    let lt : e < due first.state = subst (λ (t : State). e < due t) (get_or_from_slice_get routers r first.state first.state first.stands) (h r first.state (slice_get_within routers r first.state first.stands)) in
-    let is = first.is in omega (arith, lt, is)

@@ -6,27 +6,23 @@ use Rattle.mesh_atoms.specs.State.{State}
 use Rattle.mesh_atoms.specs.declared.settings.RadioArc.{RadioArc}
 use Rattle.mesh_atoms.specs.declared.settings.RouterSettings.{RouterSettings}
 use Rattle.mesh_atoms.specs.declared.settings.Scenario.{Scenario}
-use Rattle.mesh_core.specs.Holding.{CoreValue}
 use Rattle.mesh_machine.specs.declared.frame.Frame.{Frame}
 use Rattle.mesh_machine.specs.Machine.{Event}
 use Rattle.mesh_machine.specs.Sendable.{IsSendable}
-use Rattle.mesh_radio.specs.Run.{states_of}
 use Rattle.mesh_radio.specs.Scene.{AreRouters, Stepped, IsTo}
-use Rattle.mesh_traffic.proofs.Places.{stands, same_at, mapped_at, turned_at}
+use Rattle.mesh_traffic.proofs.Places.{stands, same_at}
 
-pub core_at : (s : Scenario) (now : ℕ) (cores : List CoreValue) (x : ℕ) → AreRouters s now (states_of cores) → x < length cores → (core : CoreValue) × (slice_get cores x ≡ Some core) × (core.state.last ≤ now)
-core_at s now cores x h lt = let there = stands cores x lt in (there.0, there.1, h.lasts x there.0.state (mapped_at (λ c. c.state) cores x there.0 there.1))
+pub router_at : (s : Scenario) (now : ℕ) (routers : List State) (x : ℕ) → AreRouters s now routers → x < length s.routers → (was : State) × (slice_get routers x ≡ Some was) × (was.last ≤ now)
+router_at s now routers x h lt = let there = stands routers x (rw h.count lt) in (there.0, there.1, h.lasts x there.0 there.1)
 
 -- the router to which an arc leads
-pub core_to : (s : Scenario) (now : ℕ) (cores : List CoreValue) (arc : RadioArc) → AreRouters s now (states_of cores) → IsTo s.routers arc →
-    (core : CoreValue) × (slice_get cores arc.to ≡ Some core) × (core.state.last ≤ now) × (arc.to_iface < length core.state.settings.interfaces)
-core_to s now cores arc h to =
+pub router_to : (s : Scenario) (now : ℕ) (routers : List State) (arc : RadioArc) → AreRouters s now routers → IsTo s.routers arc →
+    (was : State) × (slice_get routers arc.to ≡ Some was) × (was.last ≤ now) × (arc.to_iface < length was.settings.interfaces)
+router_to s now routers arc h to =
     let below : arc.to < length s.routers = slice_get_within s.routers arc.to to.router to.stands in
-    let state = stands (states_of cores) arc.to (rw h.count below) in
-    let there = turned_at (λ (c : CoreValue). c.state) cores arc.to state.0 state.1 in
-    let at = mapped_at (λ (c : CoreValue). c.state) cores arc.to there.0 there.1 in
-    let same : to.router ≡ there.0.state.settings = same_at s.routers arc.to to.router there.0.state.settings to.stands (h.settings arc.to there.0.state at) in
-    (there.0, there.1, h.lasts arc.to there.0.state at, subst (λ (r : RouterSettings). arc.to_iface < length r.interfaces) same to.iface)
+    let there = stands routers arc.to (rw h.count below) in
+    let same : to.router ≡ there.0.settings = same_at s.routers arc.to to.router there.0.settings to.stands (h.settings arc.to there.0 there.1) in
+    (there.0, there.1, h.lasts arc.to there.0 there.1, subst (λ (r : RouterSettings). arc.to_iface < length r.interfaces) same to.iface)
 
 -- what a router sent goes out by its own interfaces
 pub may_send : (s : Scenario) (earlier now : ℕ) (old new : List State) (x : ℕ) (event : Event) (frames : List Frame) (change : ℕ → ℕ → Type 0) → AreRouters s earlier old → Stepped old new x now event frames change →

@@ -1,25 +1,25 @@
 -- An emulated network as it is kept, and what is true of it between events.
-use Rattle.std.specs.Prelude.{◌≡◌, ℕ, ◌<◌, ◌≤◌, List, Some, None, All, slice_get, slice_set, length}
+use Rattle.std.specs.Prelude.{◌≡◌, ℕ, ◌+◌, ◌<◌, ◌≤◌, min, List, Option, Some, None, All, slice_get, slice_set, length}
 use Rattle.mesh_atoms.specs.declared.settings.Scenario.{Scenario}
 use Rattle.mesh_atoms.specs.declared.addr.Addr4.{Addr4}
 use Rattle.mesh_atoms.specs.declared.settings.RadioArc.{RadioArc}
 use Rattle.mesh_atoms.specs.declared.settings.RouterSettings.{RouterSettings}
 use Rattle.mesh_atoms.specs.State.{State}
-use Rattle.mesh_core.specs.Holding.{CoreValue}
 use Rattle.mesh_machine.specs.declared.frame.Frame.{Frame}
 use Rattle.mesh_machine.specs.Machine.{Event, Step, due}
 use Rattle.mesh_machine.specs.Sendable.{IsPacket, IsSendable}
 use Rattle.mesh_radio.specs.declared.event.NetEvent.{NetEvent}
 use Rattle.mesh_radio.specs.declared.scene.Scene.{Scene}
+use Rattle.mesh_radio.specs.declared.scene.Tick.{Tick}
 use Rattle.mesh_radio.specs.Net.{Net, NetStep, IsFirstDue, IsSender, event_of, frames_of}
 use Rattle.mesh_traffic.specs.Sending.{Delivery, Traffic, SendsAll, with_heard}
-use Rattle.mesh_radio.specs.Run.{IsOver, IsOfScenario, IsOfPackets, states_of}
+use Rattle.mesh_radio.specs.Run.{IsOver, IsOfScenario, IsOfPackets}
 use Rattle.mesh_traffic.specs.Traffic.{traffic_of}
 use Rattle.mesh_traffic.specs.Ways.{AreWays}
 
 -- the network that is meant
-abbrev pub net_of : List CoreValue → Scene → Net
-net_of cores s = record { scenario = s.scenario; routers = states_of cores; traffic = traffic_of s.traffic; last_ticks = s.last_ticks }
+abbrev pub net_of : List State → Scene → Net
+net_of routers s = record { scenario = s.scenario; routers = routers; traffic = traffic_of s.traffic; last_ticks = s.last_ticks }
 
 -- a frame that is heard no earlier than now, by an arc of the scenario, and spells a packet
 pub record IsFlying (scenario : Scenario) (now : ℕ) (d : Delivery) : Type 0 where
@@ -43,6 +43,14 @@ pub record IsSound (routers : List State) (s : Scene) : Type 0 where
   pub due_later : s.now ≤ s.due.moment
   pub in_time : s.now ≤ s.scenario.end
   pub few : s.last_ticks ≤ length routers
+
+-- a router took a step, and sent these frames; how its due moment changed
+pub record Advances (was is : State) (now : ℕ) (event : Event) (frames : List Frame) (change : ℕ → ℕ → Type 0) : Type 0 where
+  pub step : Step was event frames is
+  pub sendable : All (IsSendable was.settings) frames
+  pub settings : is.settings ≡ was.settings
+  pub last : is.last ≤ now
+  pub due_is : change (due was) (due is)
 
 -- router x alone took a step, and sent these frames; how its due moment changed
 pub record Stepped (old new : List State) (x now : ℕ) (event : Event) (frames : List Frame) (change : ℕ → ℕ → Type 0) : Type 0 where
@@ -88,14 +96,39 @@ pub record TicksOne (s : Scenario) (old new : List State) (x now : ℕ) (event :
   pub stepped : Stepped old new x now (event_of event) (frames_of event) (λ was is. now < is)
   pub sends : SendsAll s now x event.sent before after
 
+-- nothing that is in the air is heard up to the first tick and the end
+abbrev pub IsQuiet : Scene → Type 0
+IsQuiet s = All (λ d. min s.due.moment s.scenario.end < d.moment) s.traffic.air
+
+-- a tick that is next: of the router that is due first, no later than the end, or else the next of the ticks at the end
+pub data IsNextTick (s : Scene) (tick : Tick) : Type 0 where
+  Due_first : s.due.moment ≤ s.scenario.end → tick ≡ record { router = s.due.router; moment = s.due.moment; last_ticks = s.last_ticks } → IsNextTick s tick
+  At_end : s.scenario.end < s.due.moment → s.last_ticks < length s.scenario.routers →
+      tick ≡ record { router = s.last_ticks; moment = s.scenario.end; last_ticks = s.last_ticks + 1 } → IsNextTick s tick
+
+-- no tick is left
+abbrev pub HasNoTick : Scene → Type 0
+HasNoTick s = (s.scenario.end < s.due.moment) × (length s.scenario.routers ≤ s.last_ticks)
+
 -- an event of a network: what it does and names, and that the network is sound after it
-pub record Happens (old : List CoreValue) (before : Scene) (event : NetEvent) (new : List CoreValue) (after : Scene) : Type 0 where
+pub record Happens (old : List State) (before : Scene) (event : NetEvent) (new : List State) (after : Scene) : Type 0 where
   pub step : NetStep (net_of old before) event (net_of new after)
   pub named : IsOfScenario before.scenario event
   pub packets : IsOfPackets event
-  pub sound : IsSound (states_of new) after
+  pub sound : IsSound new after
 
 -- no event is left, and the network stays as it was, and sound
-pub record IsLeft (old : List CoreValue) (before : Scene) (new : List CoreValue) (after : Scene) : Type 0 where
+pub record IsLeft (old : List State) (before : Scene) (new : List State) (after : Scene) : Type 0 where
   pub over : IsOver (net_of old before) × (net_of new after ≡ net_of old before)
-  pub sound : IsSound (states_of new) after
+  pub sound : IsSound new after
+
+-- what is told of the next event, if there is one
+abbrev pub Tells : List State → Scene → List State → Scene → Option NetEvent → Type 0
+Tells old before new after None = IsLeft old before new after
+Tells old before new after (Some event) = Happens old before event new after
+
+-- nothing is heard next, and all stays as it was
+pub record Stays (old : List State) (before : Scene) (new : List State) (after : Scene) : Type 0 where
+  pub routers : new ≡ old
+  pub scene : after ≡ before
+  pub quiet : IsQuiet before

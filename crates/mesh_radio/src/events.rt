@@ -1,79 +1,90 @@
 //! The events of a network: a frame is heard, or a router ticks.
-ghost use Rattle.std.specs.Prelude.{◌≡◌, ◌<◌, ◌≤◌, length, IfOk, OnOk};
+ghost use Rattle.std.specs.Prelude.{◌≡◌, ◌<◌, ◌≤◌, length, map, Some, IfOk, OnOk};
 ghost use Rattle.mesh_atoms.specs.Settings.{one_hour};
 ghost use Rattle.mesh_traffic.specs.Air.{delivery_of};
-ghost use Rattle.mesh_radio.specs.Run.{states_of};
 ghost use Rattle.mesh_radio.specs.Scene.{AreRouters, Lands, TicksOne};
 ghost use Rattle.mesh_traffic.specs.Traffic.{traffic_of};
 ghost use Rattle.mesh_traffic.specs.Ways.{AreWays};
 
 use crate::event::NetEvent;
+use crate::router::Router;
 use crate::routers::{hear, sender_of, tick};
-use mesh_atoms::{Bytes, Scenario, Seq};
-use mesh_core::{Core, Outbox};
-use mesh_expire::Bases;
-use mesh_traffic::{Landed, Traffic, Ways, send_all};
+use mesh_atoms::{Addr4, Bytes, RadioArc, Scenario, Seq};
+use mesh_core::Outbox;
+use mesh_traffic::{Emission, Landed, Traffic, Ways, send_all};
 use std::alloc::{AllocError, Global};
 use std::rc::Rc;
 
 /// A frame is heard by the router to which its arc leads, and what that sends goes into the air.
-pub(crate) fn land<B: Bases>(
+pub(crate) fn land<R: Router>(
     alloc: Global,
     scenario: &Scenario,
     ways: &Seq<Seq<Ways>>,
-    cores: &mut Vec<Core<B>>,
+    routers: &mut Vec<R>,
     outbox: &mut Outbox,
     traffic: &mut Traffic,
     landed: Landed,
 ) -> Result<NetEvent, AllocError>
     requires ways { AreWays scenario.now.arcs scenario.now.routers (length scenario.now.routers) ways.now }
-    requires routers { AreRouters scenario.now landed.moment (states_of cores.old.items) }
+    requires routers { AreRouters scenario.now landed.moment (map R.state routers.old.items) }
     requires seed { traffic.old.draws.seed ≡ scenario.now.seed }
     requires early { landed.moment ≤ one_hour }
     requires arc { landed.arc < length scenario.now.arcs }
-    ensures lands { IfOk result (λ event. Lands scenario.now (states_of cores.old.items) (states_of cores.new.items) (delivery_of landed) event (traffic_of traffic.old) (traffic_of traffic.new)) }
+    ensures lands { IfOk result (λ event. Lands scenario.now (map R.state routers.old.items) (map R.state routers.new.items) (delivery_of landed) event (traffic_of traffic.old) (traffic_of traffic.new)) }
     ensures seed { OnOk result (traffic.new.draws.seed ≡ traffic.old.draws.seed) }
 {
     let arc = scenario.arcs.as_slice()[landed.arc];
     let sender = sender_of(scenario, &arc);
-    let now = landed.moment;
     traffic.counts.delivered = traffic.counts.delivered.wrapping_add(1);
-    hear(cores, &landed, &arc, sender, outbox)?;
-    let sent = send_all(alloc, scenario, ways, now, arc.to, outbox, traffic)?;
-    let frame = octets_of(landed.frame)?;
-    Ok(NetEvent {
-        moment: now,
-        router: arc.to,
-        heard: Some((arc.to_iface, sender, frame)),
-        sent,
-    })
+    hear(routers, &landed, &arc, sender, outbox)?;
+    let sent = send_all(alloc, scenario, ways, landed.moment, arc.to, outbox, traffic)?;
+    told(landed, &arc, sender, sent)
 }
 
 /// A router ticks, and what it sends goes into the air.
-pub(crate) fn tick_one<B: Bases>(
+pub(crate) fn tick_one<R: Router>(
     alloc: Global,
     scenario: &Scenario,
     ways: &Seq<Seq<Ways>>,
-    cores: &mut Vec<Core<B>>,
+    routers: &mut Vec<R>,
     outbox: &mut Outbox,
     traffic: &mut Traffic,
     router: usize,
     now: u64,
 ) -> Result<NetEvent, AllocError>
     requires ways { AreWays scenario.now.arcs scenario.now.routers (length scenario.now.routers) ways.now }
-    requires routers { AreRouters scenario.now now (states_of cores.old.items) }
+    requires routers { AreRouters scenario.now now (map R.state routers.old.items) }
     requires seed { traffic.old.draws.seed ≡ scenario.now.seed }
     requires early { now ≤ one_hour }
-    requires router { router < length cores.old.items }
-    ensures ticks { IfOk result (λ event. TicksOne scenario.now (states_of cores.old.items) (states_of cores.new.items) router now event (traffic_of traffic.old) (traffic_of traffic.new)) }
+    requires router { router < length scenario.now.routers }
+    ensures ticks { IfOk result (λ event. TicksOne scenario.now (map R.state routers.old.items) (map R.state routers.new.items) router now event (traffic_of traffic.old) (traffic_of traffic.new)) }
     ensures seed { OnOk result (traffic.new.draws.seed ≡ traffic.old.draws.seed) }
 {
-    tick(cores, router, now, outbox)?;
+    tick(routers, router, now, outbox)?;
     let sent = send_all(alloc, scenario, ways, now, router, outbox, traffic)?;
     Ok(NetEvent {
         moment: now,
         router,
         heard: None,
+        sent,
+    })
+}
+
+/// The event at which a frame is heard that comes by an arc from a sender.
+fn told(
+    landed: Landed,
+    arc: &RadioArc,
+    sender: Addr4,
+    sent: Seq<Emission>,
+) -> Result<NetEvent, AllocError>
+    ensures { IfOk result (λ event. event ≡ record { moment = landed.moment; router = arc.now.to; heard = Some (arc.now.to_iface, sender, landed.frame.value); sent = sent }) }
+{
+    let now = landed.moment;
+    let frame = octets_of(landed.frame)?;
+    Ok(NetEvent {
+        moment: now,
+        router: arc.to,
+        heard: Some((arc.to_iface, sender, frame)),
         sent,
     })
 }

@@ -6,6 +6,8 @@ mod event;
 mod events;
 mod laws;
 mod net;
+mod opening;
+mod router;
 mod routers;
 mod scene;
 mod step;

@@ -1,20 +1,18 @@
 //! The emulated network.
-ghost use Rattle.std.specs.Prelude.{◌≡◌, ◌++◌, ◌∷◌, [], List, false, is_err, IfOk, OnOk, IsErr, IsTrue, MatchOption, IfSome};
+ghost use Rattle.std.specs.Prelude.{◌≡◌, List, false, is_err, IfOk, OnOk, IsErr, IsTrue, MatchOption, IfSome};
 ghost use Rattle.mesh_radio.specs.declared.event.NetEvent.{NetEvent};
 ghost use Rattle.mesh_radio.specs.Net.{NetStep};
-ghost use Rattle.mesh_core.specs.Holding.{CoreValue};
-ghost use Rattle.mesh_machine.specs.Machine.{IsOpening};
-ghost use Rattle.mesh_radio.specs.Opening.{AreOpening};
 ghost use Rattle.mesh_radio.specs.Run.{IsOpeningNet, IsOver, IsOfScenario, IsOfPackets, NetRun, states_of};
 
 use crate::event::NetEvent;
-use crate::routers::first_due;
+use crate::opening::opening_scene;
+use crate::routers::{first_due, routers_of};
 use crate::scene::Scene;
 use crate::step::next_event;
-use mesh_atoms::{RouterSettings, Scenario, Seq};
-use mesh_core::{Core, Outbox};
+use mesh_atoms::Scenario;
+use mesh_core::Core;
 use mesh_expire::Bases;
-use mesh_traffic::{Air, Counts, Draws, Traffic, ways_of};
+use mesh_traffic::Counts;
 use std::alloc::{AllocError, Global};
 use std::marker::Model;
 
@@ -35,7 +33,7 @@ impl<B: Bases> Model for Net<B> {
 
     ghost Value = { NetValue };
 
-    ghost view = { λ n. record { net = net_of n.cores.items n.scene; is_spent = n.spent } };
+    ghost view = { λ n. record { net = net_of (states_of n.cores.items) n.scene; is_spent = n.spent } };
 
     ghost invariant = { λ n. n.spent ≡ false → IsSound (states_of n.cores.items) n.scene };
 }
@@ -46,31 +44,12 @@ impl<B: Bases> Net<B> {
         ensures opening { IfOk result (λ net. IsOpeningNet scenario.now net.net) }
         ensures whole { IfOk result (λ net. net.is_spent ≡ false) }
     {
-        let cores = cores_of(alloc, scenario)?;
-        let ways = ways_of(alloc, scenario.routers.as_slice(), scenario.arcs.as_slice())?;
-        let scenario = copy_of(alloc, scenario)?;
-        let draws = Draws::new(scenario.seed);
-        let due = first_due(&cores);
+        let cores = routers_of(alloc, scenario.routers.as_slice())?;
+        let scene = opening_scene(alloc, scenario, first_due(&cores))?;
         Ok(Net {
             alloc,
             cores,
-            scene: Scene {
-                scenario,
-                ways,
-                outbox: Outbox::new(alloc),
-                traffic: Traffic {
-                    air: Air::new(alloc),
-                    counts: Counts {
-                        sent: 0,
-                        delivered: 0,
-                        lost: 0,
-                    },
-                    draws,
-                },
-                due,
-                last_ticks: 0,
-                now: 0,
-            },
+            scene,
             spent: false,
         })
     }
@@ -98,10 +77,9 @@ impl<B: Bases> Net<B> {
         if self.spent {
             return Err(AllocError);
         }
-        self.spent = true;
-        let event = next_event(self.alloc, &mut self.cores, &mut self.scene)?;
-        self.spent = false;
-        Ok(event)
+        let came = next_event(self.alloc, &mut self.cores, &mut self.scene);
+        self.spent = came.is_err();
+        came
     }
 
     /// Does all events that are left. After 2^64 - 1 events it gives up as for want of memory, which leaves the network spent.
@@ -139,56 +117,4 @@ impl<B: Bases> Net<B> {
     {
         self.scene.traffic.counts
     }
-}
-
-/// The routers of a scenario before their first events.
-fn cores_of<B: Bases>(alloc: Global, scenario: &Scenario) -> Result<Vec<Core<B>>, AllocError>
-    ensures { IfOk result (λ cores. AreOpening scenario.now.routers (states_of cores.items)) }
-{
-    let mut cores = Vec::new(alloc);
-    for router in scenario.routers.as_slice() {
-        put_core(alloc, &mut cores, router)?;
-    }
-    Ok(cores)
-}
-
-/// Puts a router with these settings at the end, before its first event.
-fn put_core<B: Bases>(
-    alloc: Global,
-    cores: &mut Vec<Core<B>>,
-    settings: &RouterSettings,
-) -> Result<(), AllocError>
-    ensures { OnOk result ((core : CoreValue) × (cores.new.items ≡ cores.old.items ++ core ∷ []) × IsOpening settings.now core.state) }
-{
-    let core = Core::new(alloc, settings.copy()?)?;
-    cores.push(core)?;
-    Ok(())
-}
-
-/// An equal scenario.
-fn copy_of(alloc: Global, scenario: &Scenario) -> Result<Scenario, AllocError>
-    ensures { IfOk result (λ copy. copy ≡ scenario.now) }
-{
-    let routers = copy_routers(alloc, &scenario.routers)?;
-    let arcs = scenario.arcs.copy()?;
-    Ok(Scenario {
-        end: scenario.end,
-        seed: scenario.seed,
-        loss_until: scenario.loss_until,
-        routers,
-        arcs,
-    })
-}
-
-fn copy_routers(
-    alloc: Global,
-    routers: &Seq<RouterSettings>,
-) -> Result<Seq<RouterSettings>, AllocError>
-    ensures { IfOk result (λ copy. copy ≡ routers.now) }
-{
-    let mut copies = Seq::new(alloc);
-    for router in routers.as_slice() {
-        copies.push(router.copy()?)?;
-    }
-    Ok(copies)
 }

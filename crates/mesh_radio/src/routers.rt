@@ -1,78 +1,81 @@
-//! One router of a network at an event.
-ghost use Rattle.std.specs.Prelude.{◌≡◌, ◌<◌, ◌≤◌, ◌^◌, [], length, slice_get, Some, IfOk, OnOk};
-ghost use Rattle.mesh_core.specs.Holding.{CoreValue};
+//! The routers of a network: at its opening, one of them at an event, and which of them ticks first.
+ghost use Rattle.std.specs.Prelude.{◌≡◌, ◌<◌, ◌≤◌, ◌^◌, length, map, slice_get, Some, IfOk, OnOk};
+ghost use Rattle.mesh_atoms.specs.State.{State};
 ghost use Rattle.mesh_machine.specs.Machine.{Hear, Tick};
 ghost use Rattle.mesh_radio.specs.Net.{IsFirstDue, IsSender};
-ghost use Rattle.mesh_radio.specs.Run.{states_of};
+ghost use Rattle.mesh_radio.specs.Opening.{AreOpening};
 ghost use Rattle.mesh_radio.specs.Scene.{Stepped, IsFrom};
 
+use crate::router::Router;
 use crate::scene::Due;
-use mesh_atoms::{Addr4, RadioArc, Scenario};
-use mesh_core::{Core, Heard, Outbox};
-use mesh_expire::Bases;
+use mesh_atoms::{Addr4, RadioArc, RouterSettings, Scenario};
+use mesh_core::{Arrival, Outbox};
 use mesh_traffic::Landed;
-use std::alloc::AllocError;
+use std::alloc::{AllocError, Global};
+
+/// The routers with these settings before their first events.
+pub(crate) fn routers_of<R: Router>(
+    alloc: Global,
+    settings: &[RouterSettings],
+) -> Result<Vec<R>, AllocError>
+    ensures { IfOk result (λ routers. AreOpening settings.now (map R.state routers.items)) }
+{
+    let mut routers = Vec::new(alloc);
+    for one in settings {
+        routers.push(R::make(alloc, one)?)?;
+    }
+    Ok(routers)
+}
 
 /// A router hears what comes by an arc. The outbox has what it then sends.
-pub(crate) fn hear<B: Bases>(
-    cores: &mut Vec<Core<B>>,
+pub(crate) fn hear<R: Router>(
+    routers: &mut Vec<R>,
     landed: &Landed,
     arc: &RadioArc,
     sender: Addr4,
     outbox: &mut Outbox,
 ) -> Result<(), AllocError>
-    requires core { (core : CoreValue) × (slice_get cores.old.items arc.now.to ≡ Some core) × (core.state.last ≤ landed.now.moment) × (arc.now.to_iface < length core.state.settings.interfaces) }
+    requires stands { (was : State) × (slice_get (map R.state routers.old.items) arc.now.to ≡ Some was) × (was.last ≤ landed.now.moment) × (arc.now.to_iface < length was.settings.interfaces) }
     requires early { landed.now.moment < 2 ^ 62 }
-    ensures stepped { OnOk result (Stepped (states_of cores.old.items) (states_of cores.new.items) arc.now.to landed.now.moment
+    ensures { OnOk result (Stepped (map R.state routers.old.items) (map R.state routers.new.items) arc.now.to landed.now.moment
         (Hear (record { now = landed.now.moment; iface = arc.now.to_iface; sender = sender }) landed.now.frame.value)
         outbox.new (λ before after. after ≡ before)) }
 {
-    outbox.clear();
-    let core = &mut cores[arc.to];
-    let heard = core.hear(
-        landed.moment,
-        arc.to_iface,
+    let arrival = Arrival {
+        now: landed.moment,
+        iface: arc.to_iface,
         sender,
-        landed.frame.as_ref().as_slice(),
-        outbox,
-    )?;
-    let_go(heard);
-    Ok(())
-}
-
-/// Lets go of what is told of a frame.
-fn let_go(heard: Heard) {
-    let _ = heard;
+    };
+    let router = &mut routers[arc.to];
+    router.hear_frame(arrival, landed.frame.as_ref().as_slice(), outbox)
 }
 
 /// A router ticks. The outbox has what it then sends.
-pub(crate) fn tick<B: Bases>(
-    cores: &mut Vec<Core<B>>,
+pub(crate) fn tick<R: Router>(
+    routers: &mut Vec<R>,
     router: usize,
     now: u64,
     outbox: &mut Outbox,
 ) -> Result<(), AllocError>
-    requires core { (core : CoreValue) × (slice_get cores.old.items router ≡ Some core) × (core.state.last ≤ now) }
+    requires stands { (was : State) × (slice_get (map R.state routers.old.items) router ≡ Some was) × (was.last ≤ now) }
     requires early { now < 2 ^ 62 }
-    ensures stepped { OnOk result (Stepped (states_of cores.old.items) (states_of cores.new.items) router now (Tick now) outbox.new (λ before after. now < after)) }
+    ensures { OnOk result (Stepped (map R.state routers.old.items) (map R.state routers.new.items) router now (Tick now) outbox.new (λ before after. now < after)) }
 {
-    outbox.clear();
-    let core = &mut cores[router];
-    core.tick(now, outbox)?;
-    Ok(())
+    let ticking = &mut routers[router];
+    ticking.tick_at(now, outbox)
 }
 
 /// The router that ticks first, and when.
-pub(crate) fn first_due<B: Bases>(cores: &Vec<Core<B>>) -> Due
-    requires { 0 < length cores.now.items }
-    ensures { IsFirstDue (states_of cores.now.items) result.router result.moment }
+pub(crate) fn first_due<R: Router>(routers: &Vec<R>) -> Due
+    requires { 0 < length routers.now.items }
+    ensures { IsFirstDue (map R.state routers.now.items) result.router result.moment }
 {
     let mut first = Due {
         router: 0,
-        moment: cores[0].due(),
+        moment: routers[0].next_due(),
     };
-    for (router, core) in cores.iter().enumerate() {
-        let moment = core.due();
+    for (router, one) in routers.iter().enumerate() {
+        let moment = one.next_due();
         if moment < first.moment {
             first = Due { router, moment };
         }

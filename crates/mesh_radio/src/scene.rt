@@ -10,6 +10,14 @@ pub(crate) struct Due {
     pub(crate) moment: u64,
 }
 
+/// A tick that is next: of which router, and when; and how many routers then had their tick at the end.
+#[derive(Clone, Copy)]
+pub(crate) struct Tick {
+    pub(crate) router: usize,
+    pub(crate) moment: u64,
+    pub(crate) last_ticks: usize,
+}
+
 /// What an emulated network has besides its routers.
 #[derive(Drop)]
 pub(crate) struct Scene {

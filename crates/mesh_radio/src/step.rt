@@ -1,49 +1,39 @@
 //! The next event of a network.
-ghost use Rattle.std.specs.Prelude.{◌≡◌, ◌<◌, ◌≤◌, min, length, All, IfOk, MatchOption};
-ghost use Rattle.mesh_radio.specs.Net.{TicksNext, HasOnlyLastTicks};
-ghost use Rattle.mesh_radio.specs.Run.{states_of};
-ghost use Rattle.mesh_radio.specs.Scene.{Happens, IsLeft, IsSound, net_of};
+ghost use Rattle.std.specs.Prelude.{map, IfOk, MatchOption};
+ghost use Rattle.mesh_radio.specs.Scene.{Happens, HasNoTick, IsNextTick, IsQuiet, IsSound, Stays, Tells};
 
 use crate::event::NetEvent;
 use crate::events::{land, tick_one};
+use crate::router::Router;
 use crate::routers::first_due;
-use crate::scene::Scene;
-use mesh_core::Core;
-use mesh_expire::Bases;
+use crate::scene::{Scene, Tick};
 use std::alloc::{AllocError, Global};
 
 /// Does the next event, and tells it; `None` where none is left.
-pub(crate) fn next_event<B: Bases>(
+pub(crate) fn next_event<R: Router>(
     alloc: Global,
-    cores: &mut Vec<Core<B>>,
+    routers: &mut Vec<R>,
     scene: &mut Scene,
 ) -> Result<Option<NetEvent>, AllocError>
-    requires sound { IsSound (states_of cores.old.items) scene.old }
-    ensures { IfOk result (λ e. MatchOption e (IsLeft cores.old.items scene.old cores.new.items scene.new)
-        (λ event. Happens cores.old.items scene.old event cores.new.items scene.new)) }
+    requires sound { IsSound (map R.state routers.old.items) scene.old }
+    ensures { IfOk result (Tells (map R.state routers.old.items) scene.old (map R.state routers.new.items) scene.new) }
 {
-    if let Some(event) = hear_next(alloc, cores, scene)? {
-        return Ok(Some(event));
+    let heard = hear_next(alloc, routers, scene)?;
+    match heard {
+        Some(event) => Ok(Some(event)),
+        None => tick_next(alloc, routers, scene),
     }
-    if scene.due.moment <= scene.scenario.end {
-        return Ok(Some(tick_next(alloc, cores, scene)?));
-    }
-    if scene.last_ticks < cores.len() {
-        return Ok(Some(tick_last(alloc, cores, scene)?));
-    }
-    Ok(None)
 }
 
 /// Lets the frame be heard that is due no later than the first tick and the end, if there is one.
-fn hear_next<B: Bases>(
+fn hear_next<R: Router>(
     alloc: Global,
-    cores: &mut Vec<Core<B>>,
+    routers: &mut Vec<R>,
     scene: &mut Scene,
 ) -> Result<Option<NetEvent>, AllocError>
-    requires sound { IsSound (states_of cores.old.items) scene.old }
-    ensures { IfOk result (λ e. MatchOption e ((cores.new.items ≡ cores.old.items) × (scene.new ≡ scene.old)
-        × All (λ d. min scene.old.due.moment scene.old.scenario.end < d.moment) scene.old.traffic.air)
-        (λ event. Happens cores.old.items scene.old event cores.new.items scene.new)) }
+    requires sound { IsSound (map R.state routers.old.items) scene.old }
+    ensures { IfOk result (λ e. MatchOption e (Stays (map R.state routers.old.items) scene.old (map R.state routers.new.items) scene.new)
+        (λ event. Happens (map R.state routers.old.items) scene.old event (map R.state routers.new.items) scene.new)) }
 {
     let limit = u64::min(scene.due.moment, scene.scenario.end);
     let Some(landed) = scene.traffic.air.take(limit) else {
@@ -54,7 +44,7 @@ fn hear_next<B: Bases>(
         alloc,
         &scene.scenario,
         &scene.ways,
-        cores,
+        routers,
         &mut scene.outbox,
         &mut scene.traffic,
         landed,
@@ -63,56 +53,52 @@ fn hear_next<B: Bases>(
     Ok(Some(event))
 }
 
-/// Lets the router tick that is due first.
-fn tick_next<B: Bases>(
+/// Lets the router tick that ticks next, if there is one.
+fn tick_next<R: Router>(
     alloc: Global,
-    cores: &mut Vec<Core<B>>,
+    routers: &mut Vec<R>,
     scene: &mut Scene,
-) -> Result<NetEvent, AllocError>
-    requires sound { IsSound (states_of cores.old.items) scene.old }
-    requires next { TicksNext (net_of cores.old.items scene.old) scene.old.due.router scene.old.due.moment }
-    ensures { IfOk result (λ event. Happens cores.old.items scene.old event cores.new.items scene.new) }
+) -> Result<Option<NetEvent>, AllocError>
+    requires sound { IsSound (map R.state routers.old.items) scene.old }
+    requires quiet { IsQuiet scene.old }
+    ensures { IfOk result (Tells (map R.state routers.old.items) scene.old (map R.state routers.new.items) scene.new) }
 {
-    let now = scene.due.moment;
+    let Some(tick) = next_tick(scene) else {
+        return Ok(None);
+    };
     let event = tick_one(
         alloc,
         &scene.scenario,
         &scene.ways,
-        cores,
+        routers,
         &mut scene.outbox,
         &mut scene.traffic,
-        scene.due.router,
-        now,
+        tick.router,
+        tick.moment,
     )?;
-    scene.now = now;
-    scene.due = first_due(cores);
-    Ok(event)
+    scene.now = tick.moment;
+    scene.last_ticks = tick.last_ticks;
+    scene.due = first_due(routers);
+    Ok(Some(event))
 }
 
-/// Lets the next router have its tick at the end.
-fn tick_last<B: Bases>(
-    alloc: Global,
-    cores: &mut Vec<Core<B>>,
-    scene: &mut Scene,
-) -> Result<NetEvent, AllocError>
-    requires sound { IsSound (states_of cores.old.items) scene.old }
-    requires only { HasOnlyLastTicks (net_of cores.old.items scene.old) }
-    requires some { scene.old.last_ticks < length cores.old.items }
-    ensures { IfOk result (λ event. Happens cores.old.items scene.old event cores.new.items scene.new) }
+/// The tick that is next: of the router that is due first, up to the end, and then of the routers in order at the end.
+fn next_tick(scene: &Scene) -> Option<Tick>
+    ensures { MatchOption result (HasNoTick scene.entry.now) (IsNextTick scene.entry.now) }
 {
-    let now = scene.scenario.end;
-    let event = tick_one(
-        alloc,
-        &scene.scenario,
-        &scene.ways,
-        cores,
-        &mut scene.outbox,
-        &mut scene.traffic,
-        scene.last_ticks,
-        now,
-    )?;
-    scene.now = now;
-    scene.last_ticks += 1;
-    scene.due = first_due(cores);
-    Ok(event)
+    if scene.due.moment <= scene.scenario.end {
+        return Some(Tick {
+            router: scene.due.router,
+            moment: scene.due.moment,
+            last_ticks: scene.last_ticks,
+        });
+    }
+    if scene.last_ticks < scene.scenario.routers.len() {
+        return Some(Tick {
+            router: scene.last_ticks,
+            moment: scene.scenario.end,
+            last_ticks: scene.last_ticks + 1,
+        });
+    }
+    None
 }

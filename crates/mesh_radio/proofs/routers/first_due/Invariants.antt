@@ -1,6 +1,6 @@
-use Rattle.mesh_radio.specs.Run.{states_of}
+use Rattle.std.specs.Prelude.{map}
 use Rattle.mesh_radio.proofs.FirstDue.{IsFirstOf}
 use Rattle.mesh_radio.proofs.routers.first_due.Given as goal
 
 abbrev pub invariant-loop-router : goal.invariant-loop-router
-invariant-loop-router g l = IsFirstOf (states_of l.cores.items) l.router l.first.router l.first.moment
+invariant-loop-router g l = IsFirstOf (map g.R.Router.state l.routers.items) l.router l.first.router l.first.moment

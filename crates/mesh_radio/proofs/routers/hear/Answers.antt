@@ -1,23 +1,33 @@
-use Rattle.std.proofs.Common.{◌<◌, ◌≤◌, length, subst}
-use Rattle.mesh_core.specs.Holding.{CoreValue}
-use Rattle.mesh_radio.proofs.Steps.{same_core, stepped}
+use Rattle.std.proofs.Common.{◌≡◌, ◌<◌, ◌≤◌, ◌∙◌, ℕ, List, OnOk, length, map, subst}
+use Rattle.std.specs.Prelude.{slice_set}
+use Rattle.std.proofs.lemmas.Result.{on_ok_weaker}
+use Rattle.mesh_atoms.specs.State.{State}
+use Rattle.mesh_machine.specs.Machine.{Hear}
+use Rattle.mesh_radio.specs.Scene.{Stepped}
+use Rattle.mesh_radio.proofs.Steps.{its_state, stepped}
 use Rattle.mesh_radio.proofs.routers.hear.Goals as goal
 
+pub hear_frame-requires-clause-now : goal.hear_frame-requires-clause-now
+hear_frame-requires-clause-now g c = c.requires.early
+
+pub hear_frame-requires-clause-later : goal.hear_frame-requires-clause-later
+hear_frame-requires-clause-later g c =
+    let (was, at, late, less) = c.requires.stands in
+    subst (λ (q : State). q.last ≤ c.args.landed.now.moment) (its_state g.R.Router.state c.args.routers.now.items c.args.arc.now.to was at c.index_mut-router.result.now c.index_mut-router.ensures.value) late
+
+pub hear_frame-requires-clause-iface : goal.hear_frame-requires-clause-iface
+hear_frame-requires-clause-iface g c =
+    let (was, at, late, less) = c.requires.stands in
+    subst (λ (q : State). c.args.arc.now.to_iface < length q.settings.interfaces)
+    (its_state g.R.Router.state c.args.routers.now.items c.args.arc.now.to was at c.index_mut-router.result.now c.index_mut-router.ensures.value) less
+
 pub returns : goal.returns
-returns g c = record {
-  stepped = stepped c.args.cores.now.items c.args.arc.now.to c.args.landed.now.moment _ c.clear.new.self c.hear.new.out c.requires.core.0 c.index_mut-core.result.now c.hear.new.self _
-      c.requires.core.1 c.index_mut-core.ensures.value c.clear.ensures (rw (← c.as_ref.ensures, ← c.as_slice.ensures) c.in_ok-heard.ensures.step) c.in_ok-heard.ensures.sendable c.in_ok-heard.ensures.settings c.in_ok-heard.ensures.last c.in_ok-heard.ensures.due;
-}
-
-pub hear-requires-clause-now : goal.hear-requires-clause-now
-hear-requires-clause-now g c = c.requires.early
-
-pub hear-requires-clause-later : goal.hear-requires-clause-later
-hear-requires-clause-later g c =
-    let (core, at, last, iface) = c.requires.core in
-    subst (λ (v : CoreValue). v.state.last ≤ c.args.landed.now.moment) (same_core c.args.cores.now.items c.args.arc.now.to core c.index_mut-core.result.now at c.index_mut-core.ensures.value) last
-
-pub hear-requires-clause-iface : goal.hear-requires-clause-iface
-hear-requires-clause-iface g c =
-    let (core, at, last, iface) = c.requires.core in
-    subst (λ (v : CoreValue). c.args.arc.now.to_iface < length v.state.settings.interfaces) (same_core c.args.cores.now.items c.args.arc.now.to core c.index_mut-core.result.now at c.index_mut-core.ensures.value) iface
+returns g c =
+    let (was, at, late, less) = c.requires.stands in
+    let state = g.R.Router.state in
+    let x = c.args.arc.now.to in
+    let routers = c.args.routers.now.items in
+    subst (λ (octets : List ℕ). OnOk c.hear_frame.result (Stepped (map state routers) (map state (slice_set routers x c.hear_frame.new.self)) x c.args.landed.now.moment
+    (Hear (record { now = c.args.landed.now.moment; iface = c.args.arc.now.to_iface; sender = c.args.sender }) octets) c.hear_frame.new.outbox (λ before after. after ≡ before)))
+    (c.as_slice.ensures ∙ c.as_ref.ensures)
+    (on_ok_weaker c.hear_frame.result (λ step. stepped state routers x was at c.args.landed.now.moment _ c.hear_frame.new.outbox c.index_mut-router.result.now c.hear_frame.new.self _ c.index_mut-router.ensures.value step) c.hear_frame.ensures)

@@ -1,18 +1,19 @@
-use Rattle.std.proofs.Common.{◌≤◌, arith, subst}
-use Rattle.mesh_core.specs.Holding.{CoreValue}
-use Rattle.mesh_radio.proofs.Steps.{same_core, stepped}
+use Rattle.std.proofs.Common.{◌≤◌, subst}
+use Rattle.std.proofs.lemmas.Result.{on_ok_weaker}
+use Rattle.mesh_atoms.specs.State.{State}
+use Rattle.mesh_radio.proofs.Steps.{its_state, stepped}
 use Rattle.mesh_radio.proofs.routers.tick.Goals as goal
 
+pub tick_at-requires-clause-now : goal.tick_at-requires-clause-now
+tick_at-requires-clause-now g c = c.requires.early
+
+pub tick_at-requires-clause-later : goal.tick_at-requires-clause-later
+tick_at-requires-clause-later g c =
+    let (was, at, late) = c.requires.stands in
+    subst (λ (q : State). q.last ≤ c.args.now) (its_state g.R.Router.state c.args.routers.now.items c.args.router was at c.index_mut-ticking.result.now c.index_mut-ticking.ensures.value) late
+
 pub returns : goal.returns
-returns g c = record {
-  stepped = stepped c.args.cores.now.items c.args.router c.args.now _ c.clear.new.self c.tick.new.out c.requires.core.0 c.index_mut-core.result.now c.tick.new.self _
-      c.requires.core.1 c.index_mut-core.ensures.value c.clear.ensures c.in_ok-tick.ensures.step c.in_ok-tick.ensures.sendable c.in_ok-tick.ensures.settings (let is = c.in_ok-tick.ensures.last in omega (arith, is)) c.in_ok-tick.ensures.due;
-}
-
-pub tick-requires-clause-now : goal.tick-requires-clause-now
-tick-requires-clause-now g c = c.requires.early
-
-pub tick-requires-clause-later : goal.tick-requires-clause-later
-tick-requires-clause-later g c =
-    let (core, at, last) = c.requires.core in
-    subst (λ (v : CoreValue). v.state.last ≤ c.args.now) (same_core c.args.cores.now.items c.args.router core c.index_mut-core.result.now at c.index_mut-core.ensures.value) last
+returns g c =
+    let (was, at, late) = c.requires.stands in
+    on_ok_weaker c.tick_at.result
+    (λ step. stepped g.R.Router.state c.args.routers.now.items c.args.router was at c.args.now _ c.tick_at.new.outbox c.index_mut-ticking.result.now c.tick_at.new.self _ c.index_mut-ticking.ensures.value step) c.tick_at.ensures

@@ -1,18 +1,25 @@
-use Rattle.std.proofs.Common.{arith}
-use Rattle.mesh_radio.proofs.Happenings.{nothing_left, next_tick, only_last_ticks, still_sound}
+use Rattle.std.proofs.Common.{map}
+use Rattle.mesh_radio.proofs.Happenings.{told_since, sound_since, quiet_since}
 use Rattle.mesh_radio.proofs.step.next_event.Goals as goal
 
+pub hear_next-requires : goal.hear_next-requires
+hear_next-requires g c = record { sound = c.requires.sound }
+
 pub tick_next-requires-clause-sound : goal.tick_next-requires-clause-sound
-tick_next-requires-clause-sound g c = let told = c.in_ok-event.ensures in still_sound _ _ _ _ (rw c.in_default.is at told) c.requires.sound
+tick_next-requires-clause-sound g c =
+    let state = g.R.Router.state in
+    sound_since (map state c.args.routers.now.items) (map state c.hear_next.new.routers.items) c.args.scene.now c.hear_next.new.scene (rw c.in-None.is at c.in_ok-heard.ensures) c.requires.sound
 
-pub tick_next-requires-clause-next : goal.tick_next-requires-clause-next
-tick_next-requires-clause-next g c = let told = c.in_ok-event.ensures in next_tick _ _ _ _ (rw c.in_default.is at told) c.requires.sound c.if-scene.true
+pub tick_next-requires-clause-quiet : goal.tick_next-requires-clause-quiet
+tick_next-requires-clause-quiet g c =
+    let state = g.R.Router.state in
+    quiet_since (map state c.args.routers.now.items) (map state c.hear_next.new.routers.items) c.args.scene.now c.hear_next.new.scene (rw c.in-None.is at c.in_ok-heard.ensures)
 
-pub tick_last-requires-clause-sound : goal.tick_last-requires-clause-sound
-tick_last-requires-clause-sound g c = let told = c.in_ok-event.ensures in still_sound _ _ _ _ (rw c.in_default.is at told) c.requires.sound
+pub returns-in-Some : goal.returns-in-Some
+returns-in-Some g c = rw c.in-Some.is at c.in_ok-heard.ensures
 
-pub tick_last-requires-clause-only : goal.tick_last-requires-clause-only
-tick_last-requires-clause-only g c = let told = c.in_ok-event.ensures in only_last_ticks _ _ _ _ (rw c.in_default.is at told) c.requires.sound c.if-scene.false
-
-pub returns : goal.returns
-returns g c = let told = c.in_ok-event.ensures in nothing_left _ _ _ _ (rw c.in_default.is at told) c.requires.sound c.if-scene.false (let len = c.len.ensures in let few = c.if-scene-len.false in omega (arith, len, few))
+pub returns-in-None : goal.returns-in-None
+returns-in-None g c =
+    let state = g.R.Router.state in
+    told_since (map state c.args.routers.now.items) (map state c.hear_next.new.routers.items) (map state c.tick_next.new.routers.items) c.args.scene.now c.hear_next.new.scene c.tick_next.new.scene c.tick_next.result
+    (rw c.in-None.is at c.in_ok-heard.ensures) c.tick_next.ensures

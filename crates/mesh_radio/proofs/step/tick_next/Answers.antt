@@ -1,31 +1,36 @@
-use Rattle.std.proofs.Common.{◌∙◌, arith}
-use Rattle.mesh_radio.specs.Net.{By_tick}
-use Rattle.mesh_radio.specs.Run.{states_of}
-use Rattle.mesh_radio.proofs.Happenings.{ticked, tick_of_scenario, tick_of_packets}
-use Rattle.mesh_radio.proofs.Flying.{still_flying, sent_flying}
-use Rattle.mesh_radio.proofs.Soundness.{same_count, later_routers, routers_after, due_from}
+use Rattle.std.proofs.Common.{arith, map}
+use Rattle.mesh_radio.proofs.Happenings.{tick_within, tick_in_time, tick_later, ticks_next, nothing_left}
+use Rattle.mesh_radio.proofs.Soundness.{later_routers}
 use Rattle.mesh_radio.proofs.step.tick_next.Goals as goal
+
+pub tick_one-requires-clause-ways : goal.tick_one-requires-clause-ways
+tick_one-requires-clause-ways g c = c.requires.sound.ways
+
+pub tick_one-requires-clause-routers : goal.tick_one-requires-clause-routers
+tick_one-requires-clause-routers g c =
+    let s = c.args.scene.now in
+    let old = map g.R.Router.state c.args.routers.now.items in
+    later_routers s.scenario s.now c.in-Some.tick.moment old (tick_later s old c.requires.sound c.requires.quiet c.in-Some.tick c.in-Some.ensures) c.requires.sound.are_routers
+
+pub tick_one-requires-clause-seed : goal.tick_one-requires-clause-seed
+tick_one-requires-clause-seed g c = c.requires.sound.seed
+
+pub tick_one-requires-clause-early : goal.tick_one-requires-clause-early
+tick_one-requires-clause-early g c =
+    let s = c.args.scene.now in
+    let in_time = tick_in_time s (map g.R.Router.state c.args.routers.now.items) c.requires.sound c.requires.quiet c.in-Some.tick c.in-Some.ensures in
+    let most = s.scenario.end_in_range.most in
+    omega (arith, in_time, most)
+
+pub tick_one-requires-clause-router : goal.tick_one-requires-clause-router
+tick_one-requires-clause-router g c =
+    tick_within c.args.scene.now (map g.R.Router.state c.args.routers.now.items) c.requires.sound c.requires.quiet c.in-Some.tick c.in-Some.ensures
 
 pub returns : goal.returns
 returns g c =
-    let s = c.args.scene.now in
-    let old = states_of c.args.cores.now.items in
-    let new = states_of c.tick_one.new.cores.items in
-    let event = c.in_ok-event.event in
-    let ticks = c.in_ok-event.ensures.ticks in
-    let flying = still_flying s.scenario s.now s.due.moment s.traffic.air c.requires.sound.flying (λ k d lt. let late = c.requires.next.before_frames k d lt in omega (arith, late)) in
-    record {
-      step = By_tick (ticked c.args.cores.now.items new s event _ c.requires.next ticks);
-      named = tick_of_scenario s.scenario s.now old new event _ _ c.requires.sound.are_routers _ _ ticks;
-      packets = tick_of_packets _ _ _ event _ _ _ _ ticks;
-      sound = record {
-        ways = c.requires.sound.ways;
-        are_routers = routers_after s.scenario s.due.moment old new _ _ _ _ (later_routers s.scenario s.now s.due.moment old c.requires.sound.due_later c.requires.sound.are_routers) ticks.stepped;
-        seed = c.in_ok-event.ensures.seed ∙ c.requires.sound.seed;
-        flying = sent_flying s.scenario s.due.moment s.due.router ticks.stepped.was.settings event.sent _ _ ticks.stepped.sendable ticks.sends flying;
-        due = c.first_due-scene.ensures;
-        due_later = due_from old new _ _ _ _ s.due.moment _ _ ticks.stepped c.requires.sound.due.no_earlier (omega arith) c.first_due-scene.ensures;
-        in_time = c.requires.next.in_time;
-        few = rw (same_count old new _ _ _ _ _ ticks.stepped) c.requires.sound.few;
-      };
-    }
+    let state = g.R.Router.state in
+    ticks_next c.args.scene.now (map state c.args.routers.now.items) c.requires.sound c.requires.quiet (map state c.tick_one.new.routers.items) c.in_ok-event.event c.tick_one.new.outbox c.tick_one.new.traffic c.first_due-scene.result c.in-Some.tick c.in-Some.ensures
+    c.in_ok-event.ensures.ticks c.in_ok-event.ensures.seed c.first_due-scene.ensures
+
+pub returns-in_default : goal.returns-in_default
+returns-in_default g c = nothing_left c.args.scene.now (map g.R.Router.state c.args.routers.now.items) c.requires.sound c.requires.quiet c.in_default.ensures

@@ -1,0 +1,6 @@
+use Rattle.std.proofs.Common.{refl}
+use Rattle.mesh_radio.specs.Scene.{Due_first, At_end}
+use Rattle.mesh_radio.proofs.step.next_tick.Goals as goal
+
+pub returns-then-scene : goal.returns-then-scene
+returns-then-scene c = Due_first c.if-scene.true refl

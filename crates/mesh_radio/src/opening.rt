@@ -1,0 +1,74 @@
+//! What a network has besides its routers before its first event.
+ghost use Rattle.std.specs.Prelude.{◌≡◌, [], IfOk};
+ghost use Rattle.mesh_radio.specs.Opening.{IsOpeningScene};
+
+use crate::scene::{Due, Scene};
+use mesh_atoms::{RouterSettings, Scenario, Seq};
+use mesh_core::Outbox;
+use mesh_traffic::{Air, Counts, Draws, Traffic, ways_of};
+use std::alloc::{AllocError, Global};
+
+/// What the network of a scenario has besides its routers before its first event, where this is due first.
+pub(crate) fn opening_scene(
+    alloc: Global,
+    scenario: &Scenario,
+    due: Due,
+) -> Result<Scene, AllocError>
+    ensures { IfOk result (IsOpeningScene scenario.now due) }
+{
+    let ways = ways_of(alloc, scenario.routers.as_slice(), scenario.arcs.as_slice())?;
+    let scenario = copy_of(alloc, scenario)?;
+    let traffic = no_traffic(alloc, scenario.seed);
+    Ok(Scene {
+        scenario,
+        ways,
+        outbox: Outbox::new(alloc),
+        traffic,
+        due,
+        last_ticks: 0,
+        now: 0,
+    })
+}
+
+/// Nothing in the air, no count, and no draw yet.
+fn no_traffic(alloc: Global, seed: u64) -> Traffic
+    ensures { result ≡ record { air = []; counts = record { sent = 0; delivered = 0; lost = 0 }; draws = record { seed = seed; drawn = 0 } } }
+{
+    Traffic {
+        air: Air::new(alloc),
+        counts: Counts {
+            sent: 0,
+            delivered: 0,
+            lost: 0,
+        },
+        draws: Draws::new(seed),
+    }
+}
+
+/// An equal scenario.
+fn copy_of(alloc: Global, scenario: &Scenario) -> Result<Scenario, AllocError>
+    ensures { IfOk result (λ copy. copy ≡ scenario.now) }
+{
+    let routers = copy_routers(alloc, &scenario.routers)?;
+    let arcs = scenario.arcs.copy()?;
+    Ok(Scenario {
+        end: scenario.end,
+        seed: scenario.seed,
+        loss_until: scenario.loss_until,
+        routers,
+        arcs,
+    })
+}
+
+fn copy_routers(
+    alloc: Global,
+    routers: &Seq<RouterSettings>,
+) -> Result<Seq<RouterSettings>, AllocError>
+    ensures { IfOk result (λ copy. copy ≡ routers.now) }
+{
+    let mut copies = Seq::new(alloc);
+    for router in routers.as_slice() {
+        copies.push(router.copy()?)?;
+    }
+    Ok(copies)
+}
