@@ -37,7 +37,15 @@ pub(crate) fn land<R: Router>(
     let sender = sender_of(scenario, &arc);
     traffic.counts.delivered = traffic.counts.delivered.wrapping_add(1);
     hear(routers, &landed, &arc, sender, outbox)?;
-    let sent = send_all(alloc, scenario, ways, landed.moment, arc.to, outbox, traffic)?;
+    let sent = send_all(
+        alloc,
+        scenario,
+        ways,
+        landed.moment,
+        arc.to,
+        outbox,
+        traffic,
+    )?;
     told(landed, &arc, sender, sent)
 }
 

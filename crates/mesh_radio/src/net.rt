@@ -5,8 +5,7 @@ ghost use Rattle.mesh_radio.specs.Net.{NetStep};
 ghost use Rattle.mesh_radio.specs.Run.{IsOpeningNet, IsOver, IsOfScenario, IsOfPackets, NetRun, states_of};
 
 use crate::event::NetEvent;
-use crate::opening::opening_scene;
-use crate::routers::{first_due, routers_of};
+use crate::opening::{Opening, opening_of};
 use crate::scene::Scene;
 use crate::step::next_event;
 use mesh_atoms::Scenario;
@@ -44,11 +43,10 @@ impl<B: Bases> Net<B> {
         ensures opening { IfOk result (λ net. IsOpeningNet scenario.now net.net) }
         ensures whole { IfOk result (λ net. net.is_spent ≡ false) }
     {
-        let cores = routers_of(alloc, scenario.routers.as_slice())?;
-        let scene = opening_scene(alloc, scenario, first_due(&cores))?;
+        let Opening { routers, scene } = opening_of(alloc, scenario)?;
         Ok(Net {
             alloc,
-            cores,
+            cores: routers,
             scene,
             spent: false,
         })

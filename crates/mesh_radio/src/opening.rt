@@ -1,15 +1,39 @@
-//! What a network has besides its routers before its first event.
-ghost use Rattle.std.specs.Prelude.{◌≡◌, [], IfOk};
+//! A network before its first event.
+ghost use Rattle.std.specs.Prelude.{◌≡◌, [], map, IfOk};
 ghost use Rattle.mesh_radio.specs.Opening.{IsOpeningScene};
+ghost use Rattle.mesh_radio.specs.Run.{IsOpeningNet};
+ghost use Rattle.mesh_radio.specs.Scene.{IsSound, net_of};
 
+use crate::router::Router;
+use crate::routers::{first_due, routers_of};
 use crate::scene::{Due, Scene};
 use mesh_atoms::{RouterSettings, Scenario, Seq};
 use mesh_core::Outbox;
 use mesh_traffic::{Air, Counts, Draws, Traffic, ways_of};
 use std::alloc::{AllocError, Global};
 
+/// The routers of a network, and what it has besides.
+#[derive(Drop)]
+pub(crate) struct Opening<R> {
+    pub(crate) routers: Vec<R>,
+    pub(crate) scene: Scene,
+}
+
+/// The network of a scenario before its first event.
+pub(crate) fn opening_of<R: Router>(
+    alloc: Global,
+    scenario: &Scenario,
+) -> Result<Opening<R>, AllocError>
+    ensures sound { IfOk result (λ opening. IsSound (map R.state opening.routers.items) opening.scene) }
+    ensures opening { IfOk result (λ opening. IsOpeningNet scenario.now (net_of (map R.state opening.routers.items) opening.scene)) }
+{
+    let routers = routers_of(alloc, scenario.routers.as_slice())?;
+    let scene = opening_scene(alloc, scenario, first_due(&routers))?;
+    Ok(Opening { routers, scene })
+}
+
 /// What the network of a scenario has besides its routers before its first event, where this is due first.
-pub(crate) fn opening_scene(
+fn opening_scene(
     alloc: Global,
     scenario: &Scenario,
     due: Due,

@@ -1,4 +1,4 @@
-use Rattle.std.proofs.Common.{◌≤◌, map, refl}
+use Rattle.std.proofs.Common.{◌≤◌, map}
 use Rattle.std.specs.Prelude.{min}
 use Rattle.mesh_traffic.specs.Air.{delivery_of}
 use Rattle.mesh_radio.specs.Scene.{IsFlying}

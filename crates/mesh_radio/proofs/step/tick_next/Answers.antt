@@ -1,6 +1,8 @@
 use Rattle.std.proofs.Common.{arith, map}
+use Rattle.std.proofs.lemmas.List.{length-map}
+use Rattle.std.proofs.lemmas.Option.{slice_get_within}
 use Rattle.mesh_radio.proofs.Happenings.{tick_within, tick_in_time, tick_later, ticks_next, nothing_left}
-use Rattle.mesh_radio.proofs.Soundness.{later_routers}
+use Rattle.mesh_radio.proofs.Soundness.{later_routers, same_count}
 use Rattle.mesh_radio.proofs.step.tick_next.Goals as goal
 
 pub tick_one-requires-clause-ways : goal.tick_one-requires-clause-ways
@@ -34,3 +36,11 @@ returns g c =
 
 pub returns-in_default : goal.returns-in_default
 returns-in_default g c = nothing_left c.args.scene.now (map g.R.Router.state c.args.routers.now.items) c.requires.sound c.requires.quiet c.in_default.ensures
+
+pub first_due-scene-requires : goal.first_due-scene-requires
+first_due-scene-requires g c =
+    let state = g.R.Router.state in
+    let first = c.requires.sound.due in
+    let same = same_count (map state c.args.routers.now.items) (map state c.tick_one.new.routers.items) _ _ _ _ _ c.in_ok-event.ensures.ticks.stepped in
+    let below = slice_get_within (map state c.args.routers.now.items) c.args.scene.now.due.router first.state first.stands in
+    omega (arith, same, below, length-map c.tick_one.new.routers.items state)
