@@ -1,22 +1,18 @@
 -- What is told of a run of a made network.
-use Rattle.std.proofs.Common.{◌≡◌, ℕ, ◌≤◌, List, [], ◌++◌, length, Option, refl, sym, ap, ◌∙◌, subst, arith}
+use Rattle.std.proofs.Common.{◌≡◌, ℕ, ◌≤◌, List, length, refl, sym, ap, ◌∙◌, subst, arith}
 use Rattle.std.proofs.lemmas.List.{length-map}
 use Rattle.mesh_atoms.specs.declared.graphs.RadioGraph.{RadioGraph}
 use Rattle.mesh_atoms.specs.declared.settings.Scenario.{Scenario}
 use Rattle.mesh_atoms.specs.Radio.{IsRadioGraph}
 use Rattle.mesh_atoms.specs.State.{State}
-use Rattle.mesh_made.specs.Lines.{made_line, TellsRoutes}
-use Rattle.mesh_made.specs.Made.{IsMadeText, MadeEmulation}
-use Rattle.mesh_made.specs.Routes.{metrics_of}
+use Rattle.mesh_made.specs.Made.{IsEndText, IsMadeText, MadeEmulation}
 use Rattle.mesh_made.specs.Scenario.{IsMade}
 use Rattle.mesh_traffic.specs.declared.emission.Counts.{Counts}
 use Rattle.mesh_radio.specs.declared.event.NetEvent.{NetEvent}
 use Rattle.mesh_radio.specs.Net.{Net}
 use Rattle.mesh_radio.specs.Run.{IsOpeningNet, IsOver, NetRun}
-use Rattle.mesh_gaps.specs.declared.gap.Gap.{Gap}
 use Rattle.mesh_gaps.specs.Network.{IsNetwork}
 use Rattle.mesh_texts.proofs.RunStates.{end_is_network, final_count}
-use Rattle.mesh_texts.specs.Network.{IsGapOf, counts_line, settled_text}
 use Rattle.mesh_texts.specs.Runs.{WholeRun}
 use Rattle.mesh_words.specs.declared.job.Kind.{Kind}
 
@@ -41,20 +37,11 @@ module _ (s : Scenario) (net : Net) (ends : EndsWith s net) (states : List State
       let count : length ends.0.final.routers ≡ length states = ap (λ (l : List State). length l) its_states in
       omega (arith, count, final_count s ends.0, length-map s.routers (λ r. r.name), s.sound_routers.routers.at_most)
 
-  pub made_text_is : (k : Kind) (counts : Counts) (gap : Option Gap) (old new : List ℕ) → counts ≡ net.traffic.counts → old ≡ [] →
-      IsGapOf s states s.end gap →
-      (routes : List ℕ) × TellsRoutes (metrics_of states) routes × (new ≡ old ++ (made_line k s ++ (counts_line s counts ++ (routes ++ settled_text s gap)))) →
-      (run : WholeRun s) × IsMadeText k s run new
-  made_text_is k counts gap old new are none is_gap (routes, tells, whole) = (
+  pub made_text_is : (k : Kind) (counts : Counts) → counts ≡ net.traffic.counts → (text : List ℕ) → IsEndText k s states counts text → (run : WholeRun s) × IsMadeText k s run text
+  made_text_is k counts are text is = (
     ends.0,
-    record {
-      routes = routes;
-      tells_routes = subst (λ (l : List State). TellsRoutes (metrics_of l) routes) (sym its_states) tells;
-      gap = gap;
-      is_gap = subst (λ (l : List State). IsGapOf s l s.end gap) (sym its_states) is_gap;
-      whole = whole ∙ ap (λ (l : List ℕ). l ++ (made_line k s ++ (counts_line s counts ++ (routes ++ settled_text s gap)))) none
-          ∙ ap (λ (c : Counts). made_line k s ++ (counts_line s c ++ (routes ++ settled_text s gap))) (are ∙ ap (λ (n : Net). n.traffic.counts) (sym ends.1));
-    },
+    subst (λ (c : Counts). IsEndText k s ends.0.final.routers c text) (are ∙ ap (λ (n : Net). n.traffic.counts) (sym ends.1))
+        (subst (λ (l : List State). IsEndText k s l counts text) (sym its_states) is),
   )
 
 pub emulated : (k : Kind) (n seed : ℕ) (s : Scenario) → IsMade k n seed s → (text : List ℕ) → (run : WholeRun s) × IsMadeText k s run text →

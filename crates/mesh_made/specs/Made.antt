@@ -5,6 +5,7 @@ use Rattle.mesh_atoms.specs.declared.addr.NetAddr.{NetAddr}
 use Rattle.mesh_atoms.specs.declared.settings.RouterSettings.{RouterSettings}
 use Rattle.mesh_atoms.specs.declared.settings.Scenario.{Scenario}
 use Rattle.mesh_atoms.specs.Radio.{Router, RadioLeast}
+use Rattle.mesh_atoms.specs.State.{State}
 use Rattle.mesh_made.specs.Lines.{made_line, routes_line, TellsRoutes}
 use Rattle.mesh_made.specs.Routes.{metrics_of, IsGreatest}
 use Rattle.mesh_made.specs.Scenario.{IsMade}
@@ -12,15 +13,21 @@ use Rattle.mesh_gaps.specs.declared.gap.Gap.{Gap}
 use Rattle.mesh_texts.specs.Network.{IsGapOf, counts_line, settled_text}
 use Rattle.mesh_texts.specs.Printed.{IsLine, SaysSettled}
 use Rattle.mesh_texts.specs.Runs.{WholeRun, RoutersAreRuns, TellsWhetherSettled}
+use Rattle.mesh_traffic.specs.declared.emission.Counts.{Counts}
 use Rattle.mesh_words.specs.declared.job.Kind.{Kind}
 
--- what is told of a run of a made scenario's network: how it was made, what was counted, its routes, and what is said of its gap
-pub record IsMadeText (k : Kind) (s : Scenario) (run : WholeRun s) (text : List ℕ) : Type 0 where
+-- what is told of the network of a made scenario whose routers are in these states at its end: how it was made, what was counted, its
+-- routes, and what is said of its gap
+pub record IsEndText (k : Kind) (s : Scenario) (states : List State) (counts : Counts) (text : List ℕ) : Type 0 where
   pub routes : List ℕ
-  pub tells_routes : TellsRoutes (metrics_of run.final.routers) routes
+  pub tells_routes : TellsRoutes (metrics_of states) routes
   pub gap : Option Gap
-  pub is_gap : IsGapOf s run.final.routers s.end gap
-  pub whole : text ≡ made_line k s ++ (counts_line s run.final.traffic.counts ++ (routes ++ settled_text s gap))
+  pub is_gap : IsGapOf s states s.end gap
+  pub whole : text ≡ made_line k s ++ (counts_line s counts ++ (routes ++ settled_text s gap))
+
+-- what is told of a run of the network
+abbrev pub IsMadeText : Kind → (s : Scenario) → WholeRun s → List ℕ → Type 0
+IsMadeText k s run text = IsEndText k s run.final.routers run.final.traffic.counts text
 
 -- the made scenario, a run of its network from its opening to its end, and the text of that run
 pub record MadeEmulation (k : Kind) (n seed : ℕ) : Type 0 where

@@ -1,9 +1,12 @@
 //! The emulation of a made network.
-ghost use Rattle.std.specs.Prelude.{◌≡◌, ◌≤◌, ◌<◌, ◌^◌, ℕ, List, Err, IfOk, OnOk, take};
+ghost use Rattle.std.specs.Prelude.{◌≡◌, ◌≤◌, ◌<◌, ◌^◌, ℕ, List, Err, IfOk, OnOk, length, map, take};
 ghost use Rattle.std.specs.Io.KnownBytes.{Appends, Keeps};
+ghost use Rattle.mesh_atoms.specs.declared.graphs.RadioGraph.{RadioGraph};
+ghost use Rattle.mesh_atoms.specs.Radio.{IsRadioGraph};
 ghost use Rattle.mesh_atoms.specs.Settings.{IsCount};
+ghost use Rattle.mesh_gaps.specs.Network.{IsNetwork};
 ghost use Rattle.mesh_io.specs.Faults.{Rose};
-ghost use Rattle.mesh_made.specs.Made.{IsMadeText, MadeEmulation};
+ghost use Rattle.mesh_made.specs.Made.{IsEndText, IsMadeText, MadeEmulation};
 ghost use Rattle.mesh_texts.specs.Runs.{WholeRun};
 
 use crate::scenario::made;
@@ -11,31 +14,39 @@ use crate::text::put_made;
 use mesh_atoms::{Bytes, Scenario};
 use mesh_expire::Bases;
 use mesh_io::{Sink, Stop, write_all};
+use mesh_machine::RouterView;
 use mesh_paths::radio_graph;
-use mesh_radio::Net;
+use mesh_radio::{Counts, Net};
 use mesh_settled::settled;
 use mesh_words::Kind;
 use std::alloc::{AllocError, Global};
 
-// The network of a scenario at the end of its run.
-fn run_of<B: Bases>(alloc: Global, scenario: &Scenario) -> Result<Net<B>, AllocError>
-    ensures { IfOk result (λ net. (run : WholeRun scenario.now) × (run.final ≡ net.net)) }
+// The text of a network of a made scenario, of which the routers are these at the end of its run.
+fn text_at_end<R: RouterView>(
+    alloc: Global,
+    kind: Kind,
+    scenario: &Scenario,
+    routers: &[R],
+    counts: Counts,
+) -> Result<Bytes, AllocError>
+    requires network { (graph : RadioGraph) → IsRadioGraph scenario.now graph → IsNetwork scenario.now graph (map R.state routers.now) scenario.now.end }
+    requires few { length routers.now ≤ 64 }
+    ensures { IfOk result (IsEndText kind scenario.now (map R.state routers.now) counts) }
 {
-    let mut net = Net::new(alloc, scenario)?;
-    net.run_until_end()?;
-    Ok(net)
+    let graph = radio_graph(alloc, scenario)?;
+    let gap = settled(routers, scenario, &graph, scenario.end);
+    let mut text = Bytes::new(alloc);
+    put_made(&mut text, kind, scenario, routers, counts, gap)?;
+    Ok(text)
 }
 
 // The text of a run of the network of a made scenario.
 fn text_of<B: Bases>(alloc: Global, kind: Kind, scenario: &Scenario) -> Result<Bytes, AllocError>
     ensures { IfOk result (λ text. (run : WholeRun scenario.now) × IsMadeText kind scenario.now run text) }
 {
-    let graph = radio_graph(alloc, scenario)?;
-    let net = run_of::<B>(alloc, scenario)?;
-    let gap = settled(net.cores(), scenario, &graph, scenario.end);
-    let mut text = Bytes::new(alloc);
-    put_made(&mut text, kind, scenario, net.cores(), net.counts(), gap)?;
-    Ok(text)
+    let mut net = Net::<B>::new(alloc, scenario)?;
+    net.run_until_end()?;
+    text_at_end(alloc, kind, scenario, net.cores(), net.counts())
 }
 
 // The text of a run of the network of the made scenario.
