@@ -1,12 +1,12 @@
 -- What is left on out, one part after the other.
-use Rattle.std.proofs.Common.{ℕ, ◌+◌, ◌≤◌, List, ◌++◌, length, take, Option, Result, Ok, Err, arith}
+use Rattle.std.proofs.Common.{◌≡◌, ℕ, ◌+◌, ◌≤◌, List, [], ◌++◌, length, take, Option, Result, Ok, Err, sym, subst, arith}
 use Rattle.std.specs.Io.KnownBytes.{Appends}
 use Rattle.std.proofs.Math.Seq.{take-append-add}
 use Rattle.mesh_io.specs.Faults.{Rose}
 use Rattle.mesh_io.specs.declared.stop.Stop.{Stop}
 use Rattle.mesh_io.specs.declared.stop.Stop.TheVariants as stop
 use Rattle.mesh_io.proofs.Steps.{appends_more}
-use Rattle.mesh_emulate.specs.Left.{Leaves}
+use Rattle.mesh_emulate.specs.Left.{Leaves, IsNothing}
 
 rose_later : (f g h : ℕ) → f ≤ g → Rose g h → Rose f h
 rose_later f g h le rose = omega (arith, le, rose)
@@ -39,3 +39,10 @@ pub stops_as : (W F P W' F' P' : List ℕ → Type 0) (a b : Option (List ℕ)) 
     ((t : List ℕ) → F t → F' t) → ((t : List ℕ) → P t → P' t) → Leaves W F P a b f g (Err why) → Leaves W' F' P' a b f g (Err why)
 stops_as W F P W' F' P' a b f g stop.Write front part (rose, text, is, n, stands) = (rose, text, front text is, n, stands)
 stops_as W F P W' F' P' a b f g stop.Memory front part (text, is, stands) = (text, part text is, stands)
+
+-- the same, where what was put there is known
+pub leaves_exactly : (W P : List ℕ → Type 0) (a b : Option (List ℕ)) (f g : ℕ) (whole : List ℕ) (r : Result (Unit {0}) Stop) → W whole → P [] →
+    Leaves (λ t. t ≡ whole) (λ t. t ≡ whole) IsNothing a b f g r → Leaves W W P a b f g r
+leaves_exactly W P a b f g whole (Ok u) is none (text, same, stands) = (text, subst W (sym same) is, stands)
+leaves_exactly W P a b f g whole (Err why) is none left =
+    stops_as (λ t. t ≡ whole) (λ t. t ≡ whole) IsNothing W W P a b f g why (λ t same. subst W (sym same) is) (λ t same. subst P (sym same) none) left
