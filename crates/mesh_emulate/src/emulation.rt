@@ -57,35 +57,35 @@ fn tell_net<N: Network, O: Sink>(
 }
 
 // Tells the probe of a network at the end of its run.
-fn probe_net<B: Bases, O: Sink>(
+fn probe_net<N: Network, O: Sink>(
     alloc: Global,
-    net: Net<B>,
+    net: N,
     scenario: &Scenario,
     graph: &RadioGraph,
     probe: Option<usize>,
     out: &mut O,
 ) -> Result<(), Stop>
-    requires routers { AreRoutersAt scenario.now net.net.routers scenario.now.end }
+    requires routers { AreRoutersAt scenario.now (N.net net).routers scenario.now.end }
     requires graph { IsRadioGraph scenario.now graph.now }
     requires origin { IfSome probe (λ origin. origin < length scenario.now.routers) }
-    ensures leaves { Leaves (IsProbeTold scenario.now net.net.routers probe) (IsProbeTold scenario.now net.net.routers probe) (IsUntold probe)
+    ensures leaves { Leaves (IsProbeTold scenario.now (N.net net).routers probe) (IsProbeTold scenario.now (N.net net).routers probe) (IsUntold probe)
         (O.content out.old) (O.content out.new) (O.faults out.old) (O.faults out.new) result }
     ensures later { O.faults out.old ≤ O.faults out.new }
 {
-    let mut cores = net.into_cores();
-    tell_probe(alloc, cores.as_mut_slice(), scenario, graph, probe, out)
+    let mut routers = net.into_routers();
+    tell_probe(alloc, routers.as_mut_slice(), scenario, graph, probe, out)
 }
 
 // Tells a run of a network, the trip, and then the probe.
-fn tell_all<B: Bases, O: Sink>(
+fn tell_all<N: Network, O: Sink>(
     alloc: Global,
-    net: Net<B>,
+    net: N,
     scenario: &Scenario,
     graph: &RadioGraph,
     errand: Errand,
     out: &mut O,
 ) -> Result<(), Stop>
-    requires opening { IsOpeningNet scenario.now net.net }
+    requires opening { IsOpeningNet scenario.now (N.net net) }
     requires graph { IsRadioGraph scenario.now graph.now }
     requires within { IsWithin scenario.now errand }
     ensures leaves { Leaves (IsWholeText scenario.now errand) (IsFrontText scenario.now errand) (IsPartText scenario.now errand)

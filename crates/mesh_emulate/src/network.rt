@@ -6,13 +6,13 @@ ghost use Rattle.mesh_radio.specs.Run.{IsOver, IsOfPackets, NetRun};
 
 use mesh_core::Core;
 use mesh_expire::Bases;
-use mesh_machine::RouterView;
+use mesh_probe::Hearer;
 use mesh_radio::{Counts, Net, NetEvent};
 use std::alloc::AllocError;
 
 /// An emulated network. What is told of one needs no more than this, and knows nothing of tables.
-pub trait Network {
-    type Router: RouterView;
+pub trait Network: Sized + Drop {
+    type Router: Hearer + Drop;
 
     ghost net: { Self → Net };
 
@@ -29,6 +29,10 @@ pub trait Network {
     /// The routers, in the order of the scenario.
     fn routers(&self) -> &[Self::Router]
         ensures { map Self.Router.state result.now ≡ (net self.now).routers };
+
+    /// The same. Takes no memory.
+    fn into_routers(self) -> Vec<Self::Router>
+        ensures { map Self.Router.state result.items ≡ (net self).routers };
 
     /// What was counted so far.
     fn counts(&self) -> Counts
@@ -50,6 +54,10 @@ impl<B: Bases> Network for Net<B> {
 
     fn routers(&self) -> &[Core<B>] {
         self.cores()
+    }
+
+    fn into_routers(self) -> Vec<Core<B>> {
+        self.into_cores()
     }
 
     fn counts(&self) -> Counts {

@@ -12,10 +12,10 @@ probe_net-requires-clause-routers g c =
 
 pub returns-in-Ok-clause-leaves : goal.returns-in-Ok-clause-leaves
 returns-in-Ok-clause-leaves g c =
-    probe_left c.args.scenario.now c.args.errand c.tell_net.new.net.net (g.O.Sink.content c.args.out.now) (g.O.Sink.content c.tell_net.new.out) (g.O.Sink.content c.probe_net.new.out)
+    probe_left c.args.scenario.now c.args.errand (g.N.Network.net c.tell_net.new.net) (g.O.Sink.content c.args.out.now) (g.O.Sink.content c.tell_net.new.out) (g.O.Sink.content c.probe_net.new.out)
     (g.O.Sink.faults c.args.out.now) (g.O.Sink.faults c.tell_net.new.out) (g.O.Sink.faults c.probe_net.new.out) c.probe_net.result c.in-Ok.ensures.leaves c.tell_net.ensures.later c.probe_net.ensures.leaves
 
 pub returns-in-Err-clause-leaves : goal.returns-in-Err-clause-leaves
 returns-in-Err-clause-leaves g c =
-    run_left c.args.scenario.now c.args.errand c.tell_net.new.net.net (g.O.Sink.content c.args.out.now) (g.O.Sink.content c.tell_net.new.out)
+    run_left c.args.scenario.now c.args.errand (g.N.Network.net c.tell_net.new.net) (g.O.Sink.content c.args.out.now) (g.O.Sink.content c.tell_net.new.out)
     (g.O.Sink.faults c.args.out.now) (g.O.Sink.faults c.tell_net.new.out) c.in-Err.stop c.in-Err.ensures.leaves
