@@ -33,11 +33,7 @@ pub(crate) fn opening_of<R: Router>(
 }
 
 /// What the network of a scenario has besides its routers before its first event, where this is due first.
-fn opening_scene(
-    alloc: Global,
-    scenario: &Scenario,
-    due: Due,
-) -> Result<Scene, AllocError>
+fn opening_scene(alloc: Global, scenario: &Scenario, due: Due) -> Result<Scene, AllocError>
     ensures { IfOk result (IsOpeningScene scenario.now due) }
 {
     let ways = ways_of(alloc, scenario.routers.as_slice(), scenario.arcs.as_slice())?;
