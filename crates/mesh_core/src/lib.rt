@@ -2,9 +2,11 @@
 #![tactic(auto)]
 
 mod events;
+mod machine;
 mod router;
 mod views;
 
+pub use machine::Machine;
 pub use mesh_holding::Outbox;
 pub use mesh_machine::{Arrival, Fate, Frame, Heard, Read, RouterView, Said};
 pub use router::Core;

@@ -1,0 +1,32 @@
+use Rattle.std.proofs.Common.{List}
+use Rattle.std.specs.Prelude.{All}
+use Rattle.mesh_machine.specs.declared.frame.Frame.{Frame}
+use Rattle.mesh_machine.specs.Machine.{Hear, Step}
+use Rattle.mesh_machine.specs.Sendable.{IsSendable}
+use Rattle.mesh_core.proofs.Emptied.{alone}
+use Rattle.mesh_core.proofs.machine.CoreMachine.hear_frame.Goals as goal
+
+pub hear-requires-clause-now : goal.hear-requires-clause-now
+hear-requires-clause-now g c = c.requires.now
+
+pub hear-requires-clause-later : goal.hear-requires-clause-later
+hear-requires-clause-later g c = c.requires.later
+
+pub hear-requires-clause-iface : goal.hear-requires-clause-iface
+hear-requires-clause-iface g c = c.requires.iface
+
+pub returns-clause-step : goal.returns-clause-step
+returns-clause-step g c =
+    alone (λ (sent : List Frame). Step c.args.self.now.state (Hear c.args.arrival c.args.bytes.now) sent c.hear.new.self.state) c.clear.new.self c.hear.new.out c.clear.ensures c.in_ok-heard.ensures.step
+
+pub returns-clause-sendable : goal.returns-clause-sendable
+returns-clause-sendable g c = alone (All (IsSendable c.args.self.now.state.settings)) c.clear.new.self c.hear.new.out c.clear.ensures c.in_ok-heard.ensures.sendable
+
+pub returns-clause-settings : goal.returns-clause-settings
+returns-clause-settings g c = c.in_ok-heard.ensures.settings
+
+pub returns-clause-last : goal.returns-clause-last
+returns-clause-last g c = c.in_ok-heard.ensures.last
+
+pub returns-clause-due : goal.returns-clause-due
+returns-clause-due g c = c.in_ok-heard.ensures.due
