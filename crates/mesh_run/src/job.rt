@@ -12,10 +12,9 @@ ghost use Rattle.mesh_toml.specs.Faults.{first};
 use crate::fault::RunFault;
 use crate::router::run_setup;
 use mesh_config::{ConfigFault, router_of};
-use mesh_core::Core;
+use mesh_core::{Core, Machine};
 use mesh_expire::Bases;
 use mesh_io::{Air, Clock, Sink, Stop};
-use mesh_turns::Machine;
 use std::alloc::Global;
 
 // Runs the router that the input states.

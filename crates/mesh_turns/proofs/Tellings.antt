@@ -1,11 +1,13 @@
 -- What was told in all, and its counts.
-use Rattle.std.proofs.Common.{◌≡◌, ℕ, ◌+◌, List, [], ◌++◌, ◌∷◌, Option, Some, None, refl, sym, ap, ◌∙◌, append_assoc, arith, cond, map}
+use Rattle.std.proofs.Common.{◌≡◌, ℕ, ◌+◌, ◌<◌, List, All, length, [], ◌++◌, ◌∷◌, Option, Some, None, refl, sym, ap, ◌∙◌, append_assoc, arith, cond, map}
 use Rattle.std.specs.List.{count_by}
 use Rattle.std.proofs.lemmas.List.{append-nil, map-append}
 use Rattle.std.proofs.lemmas.List.Sums.{sum_by-append}
+use Rattle.mesh_atoms.specs.declared.settings.RouterSettings.{RouterSettings}
 use Rattle.mesh_io.specs.Airs.{Report}
 use Rattle.mesh_io.specs.Told.{Tells}
 use Rattle.mesh_machine.specs.declared.frame.Frame.{Frame}
+use Rattle.mesh_machine.specs.Sendable.{IsSendable}
 use Rattle.mesh_turns.specs.declared.tally.Tally.{Tally}
 use Rattle.mesh_turns.specs.Turns.{handed, is_heard, is_sent, is_fault}
 use Rattle.mesh_turns.specs.Parts.{Hands, counted}
@@ -55,3 +57,7 @@ hands_more fs gs a b c t u v h k = record {
 -- no frames
 pub hands_nothing : (a : Option (List Report)) (t : Tally) → Hands [] a a t t
 hands_nothing a t = record { reports = []; tells = tells_nothing a; are_handed = refl; counts = counted_nothing t }
+
+-- what a router sends goes out by its own interfaces
+pub on_its_own : (settings : RouterSettings) (attached : ℕ) (frames : List Frame) → attached ≡ length settings.interfaces → All (IsSendable settings) frames → All (λ f. f.iface < attached) frames
+on_its_own settings attached frames are sendable = λ k d less. rw are (sendable k d less).iface

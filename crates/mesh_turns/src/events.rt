@@ -6,10 +6,9 @@ ghost use Rattle.mesh_turns.specs.Parts.{IsReady, Acts};
 ghost use Rattle.mesh_turns.specs.Turns.{tick_of};
 
 use crate::hand::{hand_over, has_room};
-use crate::machine::Machine;
 use crate::tally::Tally;
 use mesh_atoms::Addr4;
-use mesh_core::Outbox;
+use mesh_core::{Arrival, Machine, Outbox};
 use mesh_io::Air;
 use std::alloc::AllocError;
 
@@ -87,7 +86,8 @@ pub fn hear<M: Machine, A: Air>(
     ensures attached { A.attached air.new ≡ A.attached air.old }
     ensures later { A.faults air.old ≤ A.faults air.new }
 {
-    router.hear_frame(now, iface, sender, bytes, out)?;
+    let arrival = Arrival { now, iface, sender };
+    router.hear_frame(arrival, bytes, out)?;
     has_room(tally, out.len())?;
     hand_over(air, out, tally);
     Ok(())

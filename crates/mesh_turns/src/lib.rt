@@ -6,13 +6,11 @@ mod events;
 mod hand;
 mod laws;
 mod listen;
-mod machine;
 mod tally;
 mod turn;
 mod turns;
 
 pub use attach::attach_all;
 pub use laws::turns_are_runs;
-pub use machine::Machine;
 pub use tally::{Ended, Tally};
 pub use turns::do_turns;

@@ -3,9 +3,8 @@ ghost use Rattle.std.specs.Prelude.{◌≡◌, ◌<◌, ◌≤◌, ◌+◌, ◌^
 ghost use Rattle.mesh_turns.specs.Parts.{IsReady, Hears, HearsInVain, Going, Broken, at};
 
 use crate::events::hear;
-use crate::machine::Machine;
 use crate::tally::Tally;
-use mesh_core::Outbox;
+use mesh_core::{Machine, Outbox};
 use mesh_io::{Air, Ear};
 use std::alloc::AllocError;
 

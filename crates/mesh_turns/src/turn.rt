@@ -5,9 +5,8 @@ ghost use Rattle.mesh_turns.specs.Turns.{moment_of};
 
 use crate::events::tick_due;
 use crate::listen::listen_all;
-use crate::machine::Machine;
 use crate::tally::Tally;
-use mesh_core::Outbox;
+use mesh_core::{Machine, Outbox};
 use mesh_io::{Air, Clock};
 use std::alloc::AllocError;
 

@@ -4,11 +4,10 @@ ghost use Rattle.mesh_machine.specs.Machine.{IsOpening};
 ghost use Rattle.mesh_turns.specs.Parts.{IsReady, Turning, Stopped, at};
 ghost use Rattle.mesh_turns.specs.Turns.{moment_of, DoesTurns, StopsTurns};
 
-use crate::machine::Machine;
 use crate::tally::{Ended, Tally};
 use crate::turn::turn;
 use mesh_atoms::RunSetup;
-use mesh_core::Outbox;
+use mesh_core::{Machine, Outbox};
 use mesh_io::{Air, Clock};
 use std::alloc::{AllocError, Global};
 
