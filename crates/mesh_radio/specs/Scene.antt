@@ -44,14 +44,6 @@ pub record IsSound (routers : List State) (s : Scene) : Type 0 where
   pub in_time : s.now ≤ s.scenario.end
   pub few : s.last_ticks ≤ length routers
 
--- a router took a step, and sent these frames; how its due moment changed
-pub record Advances (was is : State) (now : ℕ) (event : Event) (frames : List Frame) (change : ℕ → ℕ → Type 0) : Type 0 where
-  pub step : Step was event frames is
-  pub sendable : All (IsSendable was.settings) frames
-  pub settings : is.settings ≡ was.settings
-  pub last : is.last ≤ now
-  pub due_is : change (due was) (due is)
-
 -- router x alone took a step, and sent these frames; how its due moment changed
 pub record Stepped (old new : List State) (x now : ℕ) (event : Event) (frames : List Frame) (change : ℕ → ℕ → Type 0) : Type 0 where
   pub was : State

@@ -7,16 +7,15 @@ ghost use Rattle.mesh_traffic.specs.Traffic.{traffic_of};
 ghost use Rattle.mesh_traffic.specs.Ways.{AreWays};
 
 use crate::event::NetEvent;
-use crate::router::Router;
 use crate::routers::{hear, sender_of, tick};
 use mesh_atoms::{Addr4, Bytes, RadioArc, Scenario, Seq};
-use mesh_core::Outbox;
+use mesh_core::{Machine, Outbox};
 use mesh_traffic::{Emission, Landed, Traffic, Ways, send_all};
 use std::alloc::{AllocError, Global};
 use std::rc::Rc;
 
 /// A frame is heard by the router to which its arc leads, and what that sends goes into the air.
-pub(crate) fn land<R: Router>(
+pub(crate) fn land<R: Machine>(
     alloc: Global,
     scenario: &Scenario,
     ways: &Seq<Seq<Ways>>,
@@ -50,7 +49,7 @@ pub(crate) fn land<R: Router>(
 }
 
 /// A router ticks, and what it sends goes into the air.
-pub(crate) fn tick_one<R: Router>(
+pub(crate) fn tick_one<R: Machine>(
     alloc: Global,
     scenario: &Scenario,
     ways: &Seq<Seq<Ways>>,

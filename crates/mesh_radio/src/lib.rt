@@ -7,7 +7,6 @@ mod events;
 mod laws;
 mod net;
 mod opening;
-mod router;
 mod routers;
 mod scene;
 mod step;

@@ -4,11 +4,10 @@ ghost use Rattle.mesh_radio.specs.Opening.{IsOpeningScene};
 ghost use Rattle.mesh_radio.specs.Run.{IsOpeningNet};
 ghost use Rattle.mesh_radio.specs.Scene.{IsSound, net_of};
 
-use crate::router::Router;
 use crate::routers::{first_due, routers_of};
 use crate::scene::{Due, Scene};
 use mesh_atoms::{RouterSettings, Scenario, Seq};
-use mesh_core::Outbox;
+use mesh_core::{Machine, Outbox};
 use mesh_traffic::{Air, Counts, Draws, Traffic, ways_of};
 use std::alloc::{AllocError, Global};
 
@@ -20,7 +19,7 @@ pub(crate) struct Opening<R> {
 }
 
 /// The network of a scenario before its first event.
-pub(crate) fn opening_of<R: Router>(
+pub(crate) fn opening_of<R: Machine>(
     alloc: Global,
     scenario: &Scenario,
 ) -> Result<Opening<R>, AllocError>

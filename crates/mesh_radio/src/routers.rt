@@ -6,15 +6,14 @@ ghost use Rattle.mesh_radio.specs.Net.{IsFirstDue, IsSender};
 ghost use Rattle.mesh_radio.specs.Opening.{AreOpening};
 ghost use Rattle.mesh_radio.specs.Scene.{Stepped, IsFrom};
 
-use crate::router::Router;
 use crate::scene::Due;
 use mesh_atoms::{Addr4, RadioArc, RouterSettings, Scenario};
-use mesh_core::{Arrival, Outbox};
+use mesh_core::{Arrival, Machine, Outbox};
 use mesh_traffic::Landed;
 use std::alloc::{AllocError, Global};
 
 /// The routers with these settings before their first events.
-pub(crate) fn routers_of<R: Router>(
+pub(crate) fn routers_of<R: Machine>(
     alloc: Global,
     settings: &[RouterSettings],
 ) -> Result<Vec<R>, AllocError>
@@ -22,13 +21,13 @@ pub(crate) fn routers_of<R: Router>(
 {
     let mut routers = Vec::new(alloc);
     for one in settings {
-        routers.push(R::make(alloc, one)?)?;
+        routers.push(R::make(alloc, one.copy()?)?)?;
     }
     Ok(routers)
 }
 
 /// A router hears what comes by an arc. The outbox has what it then sends.
-pub(crate) fn hear<R: Router>(
+pub(crate) fn hear<R: Machine>(
     routers: &mut Vec<R>,
     landed: &Landed,
     arc: &RadioArc,
@@ -51,7 +50,7 @@ pub(crate) fn hear<R: Router>(
 }
 
 /// A router ticks. The outbox has what it then sends.
-pub(crate) fn tick<R: Router>(
+pub(crate) fn tick<R: Machine>(
     routers: &mut Vec<R>,
     router: usize,
     now: u64,
@@ -66,7 +65,7 @@ pub(crate) fn tick<R: Router>(
 }
 
 /// The router that ticks first, and when.
-pub(crate) fn first_due<R: Router>(routers: &Vec<R>) -> Due
+pub(crate) fn first_due<R: Machine>(routers: &Vec<R>) -> Due
     requires { 0 < length routers.now.items }
     ensures { IsFirstDue (map R.state routers.now.items) result.router result.moment }
 {

@@ -4,13 +4,13 @@ ghost use Rattle.mesh_radio.specs.Scene.{Happens, HasNoTick, IsNextTick, IsQuiet
 
 use crate::event::NetEvent;
 use crate::events::{land, tick_one};
-use crate::router::Router;
 use crate::routers::first_due;
 use crate::scene::{Scene, Tick};
+use mesh_core::Machine;
 use std::alloc::{AllocError, Global};
 
 /// Does the next event, and tells it; `None` where none is left.
-pub(crate) fn next_event<R: Router>(
+pub(crate) fn next_event<R: Machine>(
     alloc: Global,
     routers: &mut Vec<R>,
     scene: &mut Scene,
@@ -26,7 +26,7 @@ pub(crate) fn next_event<R: Router>(
 }
 
 /// Lets the frame be heard that is due no later than the first tick and the end, if there is one.
-fn hear_next<R: Router>(
+fn hear_next<R: Machine>(
     alloc: Global,
     routers: &mut Vec<R>,
     scene: &mut Scene,
@@ -54,7 +54,7 @@ fn hear_next<R: Router>(
 }
 
 /// Lets the router tick that ticks next, if there is one.
-fn tick_next<R: Router>(
+fn tick_next<R: Machine>(
     alloc: Global,
     routers: &mut Vec<R>,
     scene: &mut Scene,
