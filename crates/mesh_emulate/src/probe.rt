@@ -6,12 +6,13 @@ ghost use Rattle.mesh_probe.specs.Probes.{AreRoutersAt};
 
 use crate::writing::write_text;
 use mesh_atoms::{Bytes, RadioGraph, Scenario};
+use mesh_core::Machine;
 use mesh_io::{Sink, Stop};
-use mesh_probe::{Hearer, probe, probe_text};
+use mesh_probe::{probe, probe_text};
 use std::alloc::{AllocError, Global};
 
 // The text of the probe by that router. After want of memory the routers may only be dropped.
-fn text_of_probe<R: Hearer>(
+fn text_of_probe<R: Machine>(
     alloc: Global,
     routers: &mut [R],
     scenario: &Scenario,
@@ -28,7 +29,7 @@ fn text_of_probe<R: Hearer>(
 }
 
 /// Writes the probe of the network by the router that is wanted; nothing where none is.
-pub fn tell_probe<R: Hearer, O: Sink>(
+pub fn tell_probe<R: Machine, O: Sink>(
     alloc: Global,
     routers: &mut [R],
     scenario: &Scenario,

@@ -6,10 +6,9 @@ ghost use Rattle.mesh_probe.specs.Flood.{leads_from, hearers_of, IsSender, AllHe
 ghost use Rattle.mesh_probe.specs.Hearing.{CanHear, IsOfInterface, HearsFrame, SendsOnceFrom};
 
 use crate::frames::put_sent;
-use crate::hearer::Hearer;
 use crate::transmission::Transmission;
 use mesh_atoms::{Addr4, RadioArc, Scenario};
-use mesh_machine::Arrival;
+use mesh_core::{Arrival, Machine, Outbox};
 use std::alloc::{AllocError, Global};
 
 // Whether the arc leads from that interface of the router.
@@ -30,7 +29,7 @@ fn sender_of(scenario: &Scenario, frame: &Transmission) -> Addr4
 }
 
 // The router at the end of an arc hears a frame of these octets from that sender, and what it sends is put at the end.
-fn hear_one<R: Hearer>(
+fn hear_one<R: Machine>(
     alloc: Global,
     routers: &mut [R],
     arc: &RadioArc,
@@ -48,13 +47,14 @@ fn hear_one<R: Hearer>(
         iface: arc.to_iface,
         sender,
     };
-    let frames = routers[arc.to].hear(alloc, arrival, octets)?;
+    let mut frames = Outbox::new(alloc);
+    routers[arc.to].hear_frame(arrival, octets, &mut frames)?;
     put_sent(alloc, sent, arc.to, &frames)?;
     Ok(())
 }
 
 // The routers at the ends of a frame's arcs hear it, in the order of the arcs: the frames that they send.
-fn hear_all<R: Hearer>(
+fn hear_all<R: Machine>(
     alloc: Global,
     routers: &mut [R],
     scenario: &Scenario,
@@ -81,7 +81,7 @@ fn hear_all<R: Hearer>(
 
 /// The frames that wait are heard at one moment, first sent first, and what is sent waits behind them, until all are heard. There
 /// are never more frames than there are interfaces.
-pub(crate) fn flood<R: Hearer>(
+pub(crate) fn flood<R: Machine>(
     alloc: Global,
     routers: &mut [R],
     scenario: &Scenario,

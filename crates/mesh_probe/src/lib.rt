@@ -5,7 +5,6 @@
 mod coverage;
 mod flooding;
 mod frames;
-mod hearer;
 mod laws;
 mod lines;
 mod numbers;
@@ -14,7 +13,6 @@ mod reached;
 mod transmission;
 
 pub use coverage::{Coverage, Probe, Sending};
-pub use hearer::Hearer;
 pub use laws::{floods_reach, probes_reach};
 pub use lines::probe_text;
 pub use probing::probe;

@@ -9,12 +9,12 @@ ghost use Rattle.mesh_probe.specs.Probes.{AreRoutersAt, HasLeastNumber, TellsFlo
 use crate::coverage::{Coverage, Probe, Sending};
 use crate::flooding::flood;
 use crate::frames::first_frames;
-use crate::hearer::Hearer;
 use crate::laws::floods_reach;
 use crate::numbers::free_number;
 use crate::reached::reached_of;
 use crate::transmission::Transmission;
 use mesh_atoms::{Bytes, Scenario, Seq, Tc, time_at_least, time_code_at_least};
+use mesh_core::Machine;
 use mesh_machine::RouterView;
 use mesh_wire::write_tc;
 use std::alloc::{AllocError, Global};
@@ -69,7 +69,7 @@ fn probe_frame<R: RouterView>(alloc: Global, router: &R, number: u16) -> Result<
 }
 
 // The flood of a router's TC with that number: the frames that are heard.
-fn flood_of<R: Hearer>(
+fn flood_of<R: Machine>(
     alloc: Global,
     routers: &mut [R],
     scenario: &Scenario,
@@ -110,7 +110,7 @@ fn sends_of(alloc: Global, frames: &[Transmission]) -> Result<Seq<Sending>, Allo
 }
 
 // The flood of a router's TC with that number, and whom it reaches.
-fn coverage_of<R: Hearer>(
+fn coverage_of<R: Machine>(
     alloc: Global,
     routers: &mut [R],
     scenario: &Scenario,
@@ -134,7 +134,7 @@ fn coverage_of<R: Hearer>(
 }
 
 // The probe of a network, whatever its laws.
-fn probe_from<R: Hearer>(
+fn probe_from<R: Machine>(
     alloc: Global,
     routers: &mut [R],
     scenario: &Scenario,
@@ -161,7 +161,7 @@ fn probe_from<R: Hearer>(
 ///
 /// The TC's sequence number is the least that no router has noted of the origin's TCs; `NoNumber` exactly where there is none, and then
 /// nothing changes. After want of memory the routers may only be dropped.
-pub fn probe<R: Hearer>(
+pub fn probe<R: Machine>(
     alloc: Global,
     routers: &mut [R],
     scenario: &Scenario,
