@@ -4,15 +4,14 @@ ghost use Rattle.mesh_radio.specs.declared.event.NetEvent.{NetEvent};
 ghost use Rattle.mesh_radio.specs.Net.{Net, NetStep};
 ghost use Rattle.mesh_radio.specs.Run.{IsOver, IsOfPackets, NetRun};
 
-use mesh_core::Core;
+use mesh_core::{Core, Machine};
 use mesh_expire::Bases;
-use mesh_probe::Hearer;
 use mesh_radio::{Counts, Net, NetEvent};
 use std::alloc::AllocError;
 
 /// An emulated network. What is told of one needs no more than this, and knows nothing of tables.
 pub trait Network: Sized + Drop {
-    type Router: Hearer + Drop;
+    type Router: Machine;
 
     ghost net: { Self → Net };
 
