@@ -1,5 +1,6 @@
 //! Tests of what no text of the program shows: codes, messages that are written, rows and addresses of a reading, blocks that no
-//! packet holds, the values of settings, failing streams, runs over an air and a clock in memory, and two airs over loopback.
+//! packet holds, the values of settings, relays, certificates and radio graphs, failing streams, runs over an air and a clock in memory,
+//! and two airs over loopback.
 #![tactic(auto)]
 
 #[cfg(test)]
@@ -7,9 +8,13 @@ mod blocks;
 #[cfg(test)]
 mod codes;
 #[cfg(test)]
+mod graphs;
+#[cfg(test)]
 mod hop;
 #[cfg(test)]
 mod loopback;
+#[cfg(test)]
+mod octets;
 #[cfg(test)]
 mod reading;
 #[cfg(test)]

@@ -1,17 +1,11 @@
 //! Two airs over loopback, one of which hears what the other sends.
 ghost use Rattle.std.specs.Prelude.{◌≡◌, ◌<◌, ◌≤◌, length};
 
+use crate::octets::LONE;
 use mesh_air::UdpAir;
 use mesh_atoms::{Addr4, Endpoint};
 use mesh_io::{Air, Attached, Ear, Sent};
 use std::io;
-
-// A lone router's HELLO.
-const HELLO: [u8; 35] = [
-    0x00, 0x00, 0x83, 0x00, 0x22, 0x0a, 0x00, 0x00, 0x01, 0x00, 0x0c, 0x01, 0x10, 0x01, 0x64, 0x00,
-    0x10, 0x01, 0x58, 0x07, 0x10, 0x01, 0x77, 0x01, 0x00, 0x0a, 0x00, 0x00, 0x01, 0x00, 0x04, 0x02,
-    0x10, 0x01, 0x00,
-];
 
 // The length of the first frame that is heard within so many calls, 0 where none is.
 fn heard_within<A: Air>(air: &mut A, buf: &mut [u8], calls: u64) -> (usize, u32)
@@ -47,11 +41,11 @@ fn ends(one: &mut UdpAir<HostRuntime>, other: &mut UdpAir<HostRuntime>, buf: &mu
     match one.attach(here, &[there]) {
         Attached::Done => match other.attach(there, &[here]) {
             Attached::Done => {
-                if !says(one, &HELLO) {
+                if !says(one, LONE) {
                     return false;
                 }
                 let (len, sender) = heard_within(other, buf, 100);
-                sender == 2_130_706_433 && &buf[..len] == HELLO.as_slice()
+                sender == 2_130_706_433 && &buf[..len] == LONE.as_slice()
             }
             Attached::Failed => false,
         },

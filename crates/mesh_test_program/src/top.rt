@@ -1,9 +1,11 @@
 //! The top call over streams, an air and a clock in memory.
 ghost use Rattle.std.specs.Prelude.{◌≡◌, IfOk};
 
+use crate::octets::LONE;
 use crate::{runs, streams};
-use mesh_atoms::{Addr4, Bytes, Seq};
+use mesh_atoms::{Addr4, Seq};
 use mesh_expire::NoBases;
+use mesh_fixtures::{list_of, text};
 use mesh_io::{AirFails, AirRoom, MemAir, MemClock, MemEar, MemSink, MemSource};
 use mesh_tool::{mesh_top, top_over};
 use std::alloc::{AllocError, Global};
@@ -49,14 +51,6 @@ struct Others {
     clock: MemClock,
 }
 
-fn numbers(alloc: Global, numbers: &[u64]) -> Result<Seq<u64>, AllocError> {
-    Ok(Seq::from_vec(Vec::from_slice(alloc, numbers)?))
-}
-
-fn octets(alloc: Global, octets: &[u8]) -> Result<Bytes, AllocError> {
-    Ok(Bytes::from_vec(Vec::from_slice(alloc, octets)?))
-}
-
 fn strings(alloc: Global, words: &[&str]) -> Result<Vec<String>, AllocError> {
     let mut strings = Vec::new(alloc);
     for word in words {
@@ -66,27 +60,23 @@ fn strings(alloc: Global, words: &[&str]) -> Result<Vec<String>, AllocError> {
 }
 
 fn source(alloc: Global, input: &str, fails: &[u64]) -> Result<MemSource, AllocError> {
-    let fails = numbers(alloc, fails)?;
-    Ok(MemSource::new(octets(alloc, input.as_bytes())?, fails))
+    let fails = list_of(alloc, fails)?;
+    Ok(MemSource::new(text(alloc, input.as_bytes())?, fails))
 }
 
 fn sink(alloc: Global, fails: &[u64]) -> Result<MemSink, AllocError> {
-    MemSink::new(alloc, 4096, numbers(alloc, fails)?)
+    MemSink::new(alloc, 4096, list_of(alloc, fails)?)
 }
 
 /// A clock that tells four moments.
 fn clock(alloc: Global) -> Result<MemClock, AllocError> {
-    Ok(MemClock::new(numbers(alloc, &[0, 4096, 8192, 16384])?))
+    Ok(MemClock::new(list_of(alloc, &[0, 4096, 8192, 16384])?))
 }
-
-/// The HELLO of a lone router 10.0.0.1.
-const HELLO: &[u8] =
-    b"\x00\x00\x83\x00\x22\x0a\x00\x00\x01\x00\x0c\x01\x10\x01\x64\x00\x10\x01\x58\x07\x10\x01\x77\x01\x00\x0a\x00\x00\x01\x00\x04\x02\x10\x01\x00";
 
 fn frame(alloc: Global, bytes: &[u8]) -> Result<MemEar, AllocError> {
     Ok(MemEar::Frame {
         sender: Addr4(0x0a00_0001),
-        bytes: octets(alloc, bytes)?,
+        bytes: text(alloc, bytes)?,
     })
 }
 
@@ -94,7 +84,7 @@ fn frame(alloc: Global, bytes: &[u8]) -> Result<MemEar, AllocError> {
 fn frames(alloc: Global, silent: bool) -> Result<Seq<MemEar>, AllocError> {
     let mut frames = Seq::new(alloc);
     if !silent {
-        frames.push(frame(alloc, HELLO)?)?;
+        frames.push(frame(alloc, LONE)?)?;
         frames.push(frame(alloc, b"\xff")?)?;
     }
     Ok(frames)
@@ -103,11 +93,11 @@ fn frames(alloc: Global, silent: bool) -> Result<Seq<MemEar>, AllocError> {
 /// On a silent air both sendings fail; on the other one the third hearing and the second sending.
 fn fails(alloc: Global, silent: bool) -> Result<AirFails, AllocError> {
     let (hear, send): (&[u64], &[u64]) = if silent { (&[], &[1, 2]) } else { (&[3], &[2]) };
-    let hear = numbers(alloc, hear)?;
+    let hear = list_of(alloc, hear)?;
     Ok(AirFails {
         attach: Seq::new(alloc),
         hear,
-        send: numbers(alloc, send)?,
+        send: list_of(alloc, send)?,
     })
 }
 

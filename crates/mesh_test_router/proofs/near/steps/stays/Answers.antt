@@ -1,0 +1,10 @@
+use Rattle.std.proofs.Common.{◌∙◌}
+use Rattle.std.proofs.lemmas.Result.{on_ok_weaker}
+use Rattle.mesh_test_router.proofs.Staying.{ready}
+use Rattle.mesh_test_router.proofs.near.steps.stays.Goals as goal
+
+pub expire-requires-clause-sound : goal.expire-requires-clause-sound
+expire-requires-clause-sound g c = (c.requires.moment, c.requires.sound)
+
+pub returns : goal.returns
+returns g c = on_ok_weaker c.expire_since.result (ready c.requires (c.expire_since.ensures.settings ∙ c.in_ok-expire.ensures.settings)) c.expire_since.ensures.sound

@@ -1,0 +1,171 @@
+//! What is seen of a router.
+use crate::fixtures::{LinkHas, TupleHas, link_has, link_key, router_key, tuple_has};
+use mesh_atoms::{Addr4, LinkState, NetAddr, Relays, Route, TcRow};
+use mesh_core::{Core, RouterView};
+use mesh_expire::{Bases, Table};
+use mesh_fixtures::metric;
+use mesh_flood::Heading;
+
+/// What a router holds: the moments of its last event and of the next one that is due; how many links and 2-hop tuples of its first
+/// interface, neighbours and lost addresses; how many advertisers, router, address and network tuples; and its ANSN.
+#[derive(Clone, Copy, PartialEq, Eq)]
+pub(crate) struct Held {
+    pub(crate) last: u64,
+    pub(crate) due: u64,
+    pub(crate) near: [usize; 4],
+    pub(crate) far: [usize; 4],
+    pub(crate) ansn: u16,
+}
+
+/// Nothing, and nothing happened.
+pub(crate) const EMPTY: Held = Held {
+    last: 0,
+    due: 0,
+    near: [0, 0, 0, 0],
+    far: [0, 0, 0, 0],
+    ansn: 0,
+};
+
+/// The same of a router, but for what no view shows: the moment of its next event, and how many advertisers it has.
+fn held_by<V: RouterView>(view: &V, due: u64, advertisers: usize) -> Held {
+    Held {
+        last: view.last(),
+        due,
+        near: [
+            view.links(0),
+            view.two_hops(0),
+            view.neighbours(),
+            view.losts(),
+        ],
+        far: [
+            advertisers,
+            view.routers(),
+            view.addresses(),
+            view.networks(),
+        ],
+        ansn: view.ansn(),
+    }
+}
+
+/// A link of the first interface, with its state at the last event.
+fn link_of<V: RouterView>(view: &V, addr: u32) -> Option<(LinkState, LinkHas)> {
+    match view.link_of(0, &link_key(addr)) {
+        Some((link, until)) => Some((link.state(view.last()), link_has(link, until))),
+        None => None,
+    }
+}
+
+/// The router tuple that leads from one router to another.
+fn tuple_of<V: RouterView>(view: &V, from: u32, to: u32) -> Option<TupleHas> {
+    match view.router_of(&router_key(from, to)) {
+        Some((tuple, until)) => Some(tuple_has(tuple, until)),
+        None => None,
+    }
+}
+
+/// Whether the one router is the only relay, for flooding on the first interface and for routing; or whether there is none.
+fn are_relays(relays: &Relays, wanted: &[Addr4]) -> bool {
+    match relays.flooding.get(0) {
+        Some(flooding) => flooding.as_slice() == wanted && relays.routing.as_slice() == wanted,
+        None => false,
+    }
+}
+
+/// The row of a router that is a neighbour at that cost.
+fn row_of(addr: u32, cost: u16) -> TcRow {
+    TcRow {
+        dest: NetAddr {
+            addr: Addr4(addr),
+            prefix: 32,
+        },
+        origin: true,
+        routable: true,
+        gateway: None,
+        metric: Some(metric(cost)),
+    }
+}
+
+fn advertise(rows: &[TcRow], wanted: &[(u32, u16)]) -> bool {
+    if rows.len() != wanted.len() {
+        return false;
+    }
+    for place in 0..rows.len() {
+        let (addr, cost) = wanted[place];
+        if rows[place] != row_of(addr, cost) {
+            return false;
+        }
+    }
+    true
+}
+
+/// A route on the first interface: the address and the prefix length of where it leads, the cost, the next address, and the address of
+/// the node before the last.
+pub(crate) type RouteHas = (u32, u8, u64, u32, u32);
+
+fn is_route(route: &Route, want: RouteHas) -> bool {
+    let parent = NetAddr {
+        addr: Addr4(want.4),
+        prefix: 32,
+    };
+    route.dest.addr == Addr4(want.0)
+        && route.dest.prefix == want.1
+        && route.metric == want.2
+        && route.next == Addr4(want.3)
+        && route.iface == 0
+        && route.parent == parent
+}
+
+fn are_routes(routes: &[Route], wanted: &[RouteHas]) -> bool {
+    if routes.len() != wanted.len() {
+        return false;
+    }
+    for place in 0..routes.len() {
+        if !is_route(&routes[place], wanted[place]) {
+            return false;
+        }
+    }
+    true
+}
+
+#[derive(Clone, Copy)]
+pub(crate) enum Look {
+    Spent(bool),
+    Holds(Held),
+    // the address; the link, and its state at the last event
+    Link(u32, Option<(LinkState, LinkHas)>),
+    // from where to where the tuple leads; the tuple
+    Tuple(u32, u32, Option<TupleHas>),
+    // for flooding on the first interface, and for routing
+    Relays(&'static [Addr4]),
+    Routes(&'static [RouteHas]),
+    // the neighbours that are advertised, with the cost to each
+    Rows(&'static [(u32, u16)]),
+    // whether the message was noted
+    Noted(Heading, bool),
+    // whether a set of messages is full
+    Full(bool),
+}
+
+fn shows<V: RouterView>(view: &V, look: &Look) -> bool {
+    match *look {
+        Look::Link(addr, want) => link_of(view, addr) == want,
+        Look::Tuple(from, to, want) => tuple_of(view, from, to) == want,
+        Look::Relays(want) => are_relays(view.relays(), want),
+        Look::Routes(want) => are_routes(view.routes(), want),
+        Look::Rows(want) => advertise(view.rows(), want),
+        Look::Noted(heading, want) => view.has_noted(&heading) == want,
+        Look::Full(want) => view.has_full_set() == want,
+        Look::Spent(_) | Look::Holds(_) => false,
+    }
+}
+
+/// Whether a router is as it must look.
+pub(crate) fn looks_so<B: Bases>(core: &Core<B>, look: &Look) -> bool {
+    match *look {
+        Look::Spent(want) => core.is_spent() == want,
+        Look::Holds(want) => {
+            held_by(core, core.due(), core.topology().advertisers().len()) == want
+        }
+        _ => shows(core, look),
+    }
+}

@@ -1,0 +1,266 @@
+//! Steps of routers: what happens to them, and what must come of each.
+use crate::frames::looks::{Look, looks_so};
+use crate::frames::octets::{Part, frame_of};
+use crate::frames::reads::is_hello;
+use crate::rows::Telling;
+use crate::tried::Tried;
+use mesh_atoms::{Addr4, Refusal, RouterSettings};
+use mesh_config::scenario_of;
+use mesh_core::{Core, Fate, Heard, Outbox, Read};
+use mesh_expire::Bases;
+use mesh_flood::Forward;
+use std::alloc::{AllocError, Global};
+
+/// What a router is to answer to a frame.
+#[derive(Clone, Copy)]
+pub(crate) enum Answer {
+    // so many messages one after the other, and what becomes of each of them
+    Taken(&'static [(usize, Read, Forward)]),
+    // the place and the reason
+    Refused(usize, u8),
+    Wanting,
+}
+
+/// A HELLO is taken.
+pub(crate) const HEARD: Answer = Answer::Taken(&[(1, Read::Hello, Forward::NotFlooded)]);
+
+fn are_all(fates: &[Fate], read: Read, forward: Forward) -> bool {
+    for fate in fates {
+        if fate.read != read || fate.forward != forward {
+            return false;
+        }
+    }
+    true
+}
+
+fn are_fates(fates: &[Fate], wanted: &[(usize, Read, Forward)]) -> bool {
+    let mut rest = fates;
+    for run in wanted {
+        let (count, read, forward) = *run;
+        let Some((these, left)) = rest.split_at_checked(count) else {
+            return false;
+        };
+        if !are_all(these, read, forward) {
+            return false;
+        }
+        rest = left;
+    }
+    rest.is_empty()
+}
+
+fn is_heard(heard: &Heard, answer: &Answer) -> bool {
+    match heard {
+        Heard::Taken(fates) => match *answer {
+            Answer::Taken(wanted) => are_fates(fates.as_slice(), wanted),
+            _ => false,
+        },
+        Heard::Refused(refusal) => match *answer {
+            Answer::Refused(place, reason) => *refusal == Refusal { place, reason },
+            _ => false,
+        },
+    }
+}
+
+fn is_answer(came: &Result<Heard, AllocError>, answer: &Answer) -> bool {
+    match came {
+        Ok(heard) => is_heard(heard, answer),
+        Err(_) => matches!(answer, Answer::Wanting),
+    }
+}
+
+/// Lets a router hear a frame on its first interface, and says whether it answers so, and whether it is spent exactly where it wants memory.
+fn hear<B: Bases>(
+    core: &mut Core<B>,
+    out: &mut Outbox,
+    now: u32,
+    sender: u32,
+    frame: &[u8],
+    answer: &Answer,
+) -> bool {
+    let now = u64::from(now);
+    if now < core.last() || core.settings().interfaces.len() == 0 {
+        return false;
+    }
+    let came = core.hear(now, 0, Addr4(sender), frame, out);
+    is_answer(&came, answer) && core.is_spent() == came.is_err()
+}
+
+/// Lets the clock of a router tick, and says whether what is next due then is that; none where it wants memory.
+fn tick<B: Bases>(core: &mut Core<B>, out: &mut Outbox, now: u32, due: Option<u64>) -> bool {
+    let now = u64::from(now);
+    if now < core.last() {
+        return false;
+    }
+    match core.tick(now, out) {
+        Ok(()) => due == Some(core.due()) && core.last() == now && !core.is_spent(),
+        Err(_) => due.is_none() && core.is_spent(),
+    }
+}
+
+#[derive(Clone, Copy)]
+pub(crate) enum Event {
+    // moment and sender; the frame, on the first interface; the answer
+    Hears(u32, u32, &'static [Part], Answer),
+    // the moment; what is next due then, or none where it wants memory
+    Ticks(u32, Option<u64>),
+    Looks(Look),
+}
+
+#[derive(Clone, Copy)]
+pub(crate) enum Step {
+    // the router's number, and what happens to it
+    At(usize, Event),
+    // the place of a frame among those that were sent, its interface, and the HELLO that it is
+    Tells(usize, usize, Telling),
+    // the frames that were sent, with their interfaces; they are forgotten then
+    Sent(&'static [(usize, &'static [Part])]),
+    // how many were sent; they are forgotten then
+    Count(usize),
+}
+
+/// A router that is tried by events.
+pub(crate) trait Router: Sized + Drop {
+    /// A router with those settings, before its first event.
+    fn start(alloc: Global, settings: &RouterSettings) -> Result<Self, AllocError>;
+
+    /// Lets that happen to it, and says whether what comes of it is right.
+    fn meets(&mut self, alloc: Global, out: &mut Outbox, event: &Event) -> Result<bool, AllocError>;
+}
+
+impl<B: Bases> Router for Core<B> {
+    fn start(alloc: Global, settings: &RouterSettings) -> Result<Core<B>, AllocError> {
+        Core::new(alloc, settings.copy()?)
+    }
+
+    fn meets(
+        &mut self,
+        alloc: Global,
+        out: &mut Outbox,
+        event: &Event,
+    ) -> Result<bool, AllocError> {
+        match *event {
+            Event::Hears(now, sender, parts, answer) => {
+                let frame = frame_of(alloc, out, parts)?;
+                Ok(hear(self, out, now, sender, frame.as_slice(), &answer))
+            }
+            Event::Ticks(now, due) => Ok(tick(self, out, now, due)),
+            Event::Looks(look) => Ok(looks_so(self, &look)),
+        }
+    }
+}
+
+fn is_sent(
+    alloc: Global,
+    out: &Outbox,
+    place: usize,
+    iface: usize,
+    parts: &[Part],
+) -> Result<bool, AllocError> {
+    let wanted = frame_of(alloc, out, parts)?;
+    match out.frame(place) {
+        Some((on, octets)) => Ok(on == iface && octets == wanted.as_slice()),
+        None => Ok(false),
+    }
+}
+
+fn are_sent(alloc: Global, out: &Outbox, wanted: &[(usize, &[Part])]) -> Result<bool, AllocError> {
+    for place in 0..wanted.len() {
+        let (iface, parts) = wanted[place];
+        if !is_sent(alloc, out, place, iface, parts)? {
+            return Ok(false);
+        }
+    }
+    Ok(out.len() == wanted.len())
+}
+
+fn is_told(alloc: Global, out: &Outbox, place: usize, iface: usize, telling: Telling) -> bool {
+    match out.frame(place) {
+        Some((on, octets)) => on == iface && is_hello(alloc, octets, telling),
+        None => false,
+    }
+}
+
+/// Whether what was sent is as a step says that looks at it.
+fn shows_sent(alloc: Global, out: &mut Outbox, step: &Step) -> Result<bool, AllocError> {
+    match *step {
+        Step::At(..) => Ok(false),
+        Step::Tells(place, iface, telling) => Ok(is_told(alloc, out, place, iface, telling)),
+        Step::Sent(wanted) => {
+            let right = are_sent(alloc, out, wanted)?;
+            out.clear();
+            Ok(right)
+        }
+        Step::Count(want) => {
+            let right = out.len() == want;
+            out.clear();
+            Ok(right)
+        }
+    }
+}
+
+/// Takes a step, and says whether what comes of it is right.
+fn is_taken<R: Router>(
+    alloc: Global,
+    routers: &mut [R],
+    out: &mut Outbox,
+    step: &Step,
+) -> Result<bool, AllocError> {
+    match *step {
+        Step::At(router, event) => {
+            if router >= routers.len() {
+                return Ok(false);
+            }
+            routers[router].meets(alloc, out, &event)
+        }
+        _ => shows_sent(alloc, out, step),
+    }
+}
+
+fn start_each<R: Router>(
+    alloc: Global,
+    settings: &[RouterSettings],
+    routers: &mut Vec<R>,
+) -> Result<(), AllocError> {
+    for one in settings {
+        routers.push(R::start(alloc, one)?)?;
+    }
+    Ok(())
+}
+
+/// The same of those that settings tell; none where they are refused.
+fn start_all<R: Router>(
+    alloc: Global,
+    settings: &[u8],
+    routers: &mut Vec<R>,
+) -> Result<(), AllocError> {
+    match scenario_of(alloc, settings) {
+        Ok(scenario) => start_each(alloc, scenario.routers.as_slice(), routers),
+        Err(_) => Ok(()),
+    }
+}
+
+/// The routers of a scenario, and what they have sent.
+#[derive(Drop)]
+pub(crate) struct Network<R> {
+    routers: Vec<R>,
+    out: Outbox,
+}
+
+impl<R: Router> Tried for Network<R> {
+    type Setup = &'static [u8];
+
+    type Call = Step;
+
+    fn start(alloc: Global, settings: &&'static [u8]) -> Result<Network<R>, AllocError> {
+        let mut routers = Vec::new(alloc);
+        start_all(alloc, *settings, &mut routers)?;
+        Ok(Network {
+            routers,
+            out: Outbox::new(alloc),
+        })
+    }
+
+    fn answers(&mut self, alloc: Global, step: &Step) -> Result<bool, AllocError> {
+        is_taken(alloc, self.routers.as_mut_slice(), &mut self.out, step)
+    }
+}
