@@ -52,6 +52,10 @@ fn lone_hello(alloc: Global) -> Result<Hello, AllocError>
     })
 }
 
+/// A TC of 10.0.0.2 with a validity of 15 s, and without rows.
+const EMPTY: &[u8] =
+    b"\x00\x01\xf3\x00\x1b\x0a\x00\x00\x02\xff\x00\x00\x05\x00\x0d\x01\x10\x01\x6f\x00\x10\x01\x62\x08\x10\x02\x00\x07";
+
 // A TC of a router without neighbours.
 fn empty_tc(alloc: Global, validity: u64) -> Tc
     ensures rows { result.rows ≡ [] }
@@ -69,31 +73,29 @@ fn empty_tc(alloc: Global, validity: u64) -> Tc
     }
 }
 
-#[test]
-fn hello_is_written(rt: HostRuntime) -> Result<(), Fail> {
-    let hello = lone_hello(rt.alloc())?;
-    let bytes = write_hello(rt.alloc(), &hello)?;
-    assert!(rt;
-bytes.as_slice() == LONE.as_slice()    );
-    Ok(())
+fn hello_is_written(alloc: Global) -> Result<bool, AllocError> {
+    let hello = lone_hello(alloc)?;
+    let bytes = write_hello(alloc, &hello)?;
+    Ok(bytes.as_slice() == LONE.as_slice())
+}
+
+fn tc_is_written(alloc: Global) -> Result<bool, AllocError> {
+    let tc = empty_tc(alloc, 122880);
+    let bytes = write_tc(alloc, &tc, 255, b"\x6f")?;
+    Ok(bytes.as_slice() == EMPTY)
+}
+
+/// The same by distance.
+fn tc_is_written_by_distance(alloc: Global) -> Result<bool, AllocError> {
+    let tc = empty_tc(alloc, 16384);
+    let bytes = write_tc(alloc, &tc, 255, b"\x58\x02\x6f")?;
+    Ok(bytes.as_slice() == BY_DISTANCE)
 }
 
 #[test]
-fn tc_is_written(rt: HostRuntime) -> Result<(), Fail> {
-    let tc = empty_tc(rt.alloc(), 122880);
-    let bytes = write_tc(rt.alloc(), &tc, 255, b"\x6f")?;
-    assert!(rt;
-        bytes.as_slice()
-            == b"\x00\x01\xf3\x00\x1b\x0a\x00\x00\x02\xff\x00\x00\x05\x00\x0d\x01\x10\x01\x6f\x00\x10\x01\x62\x08\x10\x02\x00\x07".as_slice()
-    );
-    Ok(())
-}
-
-/// The same TC by distance.
-#[test]
-fn tc_is_written_by_distance(rt: HostRuntime) -> Result<(), Fail> {
-    let tc = empty_tc(rt.alloc(), 16384);
-    let bytes = write_tc(rt.alloc(), &tc, 255, b"\x58\x02\x6f")?;
-    assert!(rt; bytes.as_slice() == BY_DISTANCE);
+fn messages_are_written(rt: HostRuntime) -> Result<(), Fail> {
+    assert!(rt; hello_is_written(rt.alloc())?);
+    assert!(rt; tc_is_written(rt.alloc())?);
+    assert!(rt; tc_is_written_by_distance(rt.alloc())?);
     Ok(())
 }

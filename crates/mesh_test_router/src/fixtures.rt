@@ -2,7 +2,7 @@
 ghost use Rattle.std.specs.Prelude.{◌<◌, length, IfOk};
 ghost use Rattle.mesh_atoms.specs.Words.{IsAscending};
 
-use mesh_atoms::{Addr4, Link, LinkKey, RouterKey, RouterTuple, Seq, TwoHop};
+use mesh_atoms::{Addr4, Link, LinkKey, RouterKey, RouterTuple, Seq, TwoHop, TwoHopKey};
 use mesh_fixtures::cost;
 use std::alloc::{AllocError, Global};
 
@@ -28,6 +28,13 @@ pub(crate) fn addrs_of(alloc: Global, first: u32, second: u32) -> Result<Seq<Add
         list.push(Addr4(second))?;
     }
     Ok(list)
+}
+
+pub(crate) fn two_hop_key(link: u32, addr: u32) -> TwoHopKey {
+    TwoHopKey {
+        link: link_key(link),
+        addr: Addr4(addr),
+    }
 }
 
 pub(crate) fn router_key(from: u32, to: u32) -> RouterKey {

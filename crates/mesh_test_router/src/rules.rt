@@ -1,5 +1,6 @@
 //! Rules of admittance that tests use.
-ghost use Rattle.std.specs.Prelude.{◌≡◌, IfOk};
+ghost use Rattle.std.specs.Prelude.{◌≡◌, ◌≤◌, IfOk, IsTrue};
+ghost use Rattle.mesh_atoms.specs.Settings.{are_thresholds};
 
 use mesh_atoms::{Addr4, Admit, QualityStep, SenderQuality, Seq};
 use mesh_fixtures::list_of;
@@ -59,40 +60,57 @@ fn of_two(alloc: Global) -> Result<SenderQuality, AllocError> {
 }
 
 /// Of 1 that quality from 1000 on.
-fn from_1000(alloc: Global, quality: u8) -> Result<Seq<SenderQuality>, AllocError> {
-    let mut senders = Seq::new(alloc);
-    if quality <= 100 {
-        let step = QualityStep { at: 1000, quality };
-        senders.push(SenderQuality {
-            sender: Addr4(1),
-            steps: list_of(alloc, &[step])?,
-        })?;
+fn from_1000(alloc: Global, quality: u8) -> Result<SenderQuality, AllocError>
+    requires { quality ≤ 100 }
+{
+    let steps = [QualityStep { at: 1000, quality }];
+    Ok(SenderQuality {
+        sender: Addr4(1),
+        steps: list_of(alloc, &steps)?,
+    })
+}
+
+fn push_senders(
+    alloc: Global,
+    rule: Rule,
+    senders: &mut Seq<SenderQuality>,
+) -> Result<(), AllocError> {
+    match rule {
+        Rule::All => Ok(()),
+        Rule::SixtyForty => {
+            senders.push(changing(alloc, Addr4(1))?)?;
+            senders.push(of_two(alloc)?)
+        }
+        Rule::Zero => senders.push(from_1000(alloc, 0)?),
+        Rule::Hundred => senders.push(from_1000(alloc, 99)?),
     }
-    Ok(senders)
+}
+
+/// From which quality on and below which one.
+fn thresholds_of(rule: Rule) -> (u8, u8)
+    ensures { IsTrue (are_thresholds result.0 result.1) }
+{
+    match rule {
+        Rule::All | Rule::Zero => (0, 0),
+        Rule::SixtyForty => (60, 40),
+        Rule::Hundred => (100, 100),
+    }
+}
+
+fn by_quality(alloc: Global, rule: Rule) -> Result<Admit, AllocError> {
+    let mut senders = Seq::new(alloc);
+    push_senders(alloc, rule, &mut senders)?;
+    let (accept, reject) = thresholds_of(rule);
+    Ok(Admit {
+        accept,
+        reject,
+        senders,
+    })
 }
 
 pub(crate) fn rule_of(alloc: Global, rule: Rule) -> Result<Admit, AllocError> {
     match rule {
         Rule::All => Admit::all(&Seq::new(alloc)),
-        Rule::SixtyForty => {
-            let mut senders = Seq::new(alloc);
-            senders.push(changing(alloc, Addr4(1))?)?;
-            senders.push(of_two(alloc)?)?;
-            Ok(Admit {
-                accept: 60,
-                reject: 40,
-                senders,
-            })
-        }
-        Rule::Zero => Ok(Admit {
-            accept: 0,
-            reject: 0,
-            senders: from_1000(alloc, 0)?,
-        }),
-        Rule::Hundred => Ok(Admit {
-            accept: 100,
-            reject: 100,
-            senders: from_1000(alloc, 99)?,
-        }),
+        _ => by_quality(alloc, rule),
     }
 }

@@ -16,6 +16,7 @@ use mesh_expire::{Bases, IndexedBases, NoBases, PlainBases};
 use mesh_flood::Flood;
 use mesh_links::LinkSet;
 use mesh_nbrs::{LostSet, NeighbourSet};
+use mesh_nhdp::Nhdp;
 use mesh_topo::Topology;
 use mesh_two_hops::TwoHopSet;
 use std::alloc::{AllocError, Global};
@@ -43,19 +44,35 @@ pub(crate) enum Run {
 /// What is shown, and the run that shows it.
 pub(crate) type Case = (&'static str, Run);
 
-fn is_right_over<B: Bases>(alloc: Global, run: Run) -> Result<bool, AllocError> {
+/// Whether each step of a run on one set comes to what it must.
+fn set_goes_right<B: Bases>(alloc: Global, run: Run) -> Result<bool, AllocError> {
     match run {
-        Run::Table(calls) => goes_right::<Numbers<B::Advertisers>>(alloc, &(), calls),
-        Run::DropsTwoHops => two_hops_are_dropped::<B::TwoHops>(alloc),
-        Run::RenumbersAddresses => addresses_are_renumbered::<B::Addresses>(alloc),
         Run::Links(calls) => goes_right::<LinkSet<B::Links>>(alloc, &(), calls),
         Run::Losts(calls) => goes_right::<LostSet<B::Losts>>(alloc, &(), calls),
         Run::Neighbours(calls) => goes_right::<NeighbourSet<B::Neighbours>>(alloc, &(), calls),
         Run::TwoHops(calls) => goes_right::<TwoHopSet<B::TwoHops>>(alloc, &(), calls),
+        _ => Ok(false),
+    }
+}
+
+/// The same of a run on one table, or on one set.
+fn table_goes_right<B: Bases>(alloc: Global, run: Run) -> Result<bool, AllocError> {
+    match run {
+        Run::Table(calls) => goes_right::<Numbers<B::Advertisers>>(alloc, &(), calls),
+        Run::DropsTwoHops => two_hops_are_dropped::<B::TwoHops>(alloc),
+        Run::RenumbersAddresses => addresses_are_renumbered::<B::Addresses>(alloc),
+        _ => set_goes_right::<B>(alloc, run),
+    }
+}
+
+/// The same of any run.
+fn is_right_over<B: Bases>(alloc: Global, run: Run) -> Result<bool, AllocError> {
+    match run {
         Run::Messages(heard) => goes_right::<Flood<B>>(alloc, &(), heard),
         Run::Tcs(takings) => goes_right::<Topology<B>>(alloc, &(), takings),
-        Run::Routers(setup, steps) => goes_right::<Routers<B>>(alloc, &setup, steps),
+        Run::Routers(setup, steps) => goes_right::<Routers<Nhdp<B>>>(alloc, &setup, steps),
         Run::Frames(settings, steps) => goes_right::<Network<Core<B>>>(alloc, &settings, steps),
+        _ => table_goes_right::<B>(alloc, run),
     }
 }
 
@@ -112,15 +129,13 @@ fn cases_hold(rt: &impl Abort, alloc: Global, over: Over) -> Result<(), AllocErr
     all_hold(rt, alloc, over, &exchange::CASES)?;
     all_hold(rt, alloc, over, &lone::CASES)?;
     all_hold(rt, alloc, over, &hears::CASES)?;
-    all_hold(rt, alloc, over, &row::CASES)?;
-    Ok(())
+    all_hold(rt, alloc, over, &row::CASES)
 }
 
 /// The same of those.
 fn sets_are_filled(rt: &impl Abort, alloc: Global, over: Over) -> Result<(), AllocError> {
     all_hold(rt, alloc, over, &takings::FULL)?;
-    all_hold(rt, alloc, over, &neighbourhood::FULL)?;
-    Ok(())
+    all_hold(rt, alloc, over, &neighbourhood::FULL)
 }
 
 #[test]
@@ -144,7 +159,12 @@ fn sets_are_filled_over_plain_lists(rt: HostRuntime) -> Result<(), Fail> {
 #[test]
 fn sets_are_filled_over_indexed_tables(rt: HostRuntime) -> Result<(), Fail> {
     sets_are_filled(&rt, rt.alloc(), Over::Indexes)?;
-    // and by frames, over indexes alone
+    Ok(())
+}
+
+/// By frames, over indexes alone.
+#[test]
+fn frames_fill_sets(rt: HostRuntime) -> Result<(), Fail> {
     all_hold(&rt, rt.alloc(), Over::Indexes, &full::CASES)?;
     Ok(())
 }

@@ -245,25 +245,25 @@ pub(crate) static CASES: [Case; 5] = [
         Run::Frames(
             ROUTERS,
             &[
-            At(0, Hears(100, ONE, ADDRESSES, HEARD)),
-            At(
-                0,
-                Looks(Look::Holds(Held {
-                    last: 100,
-                    near: [1, 0, 1, 0],
-                    ..EMPTY
-                })),
-            ),
-            At(0, Hears(200, THREE, ANOTHER, FULL_OF_ADDRESSES)),
-            At(
-                0,
-                Looks(Look::Holds(Held {
-                    last: 200,
-                    near: [1, 0, 1, 0],
-                    ..EMPTY
-                })),
-            ),
-            At(0, Hears(300, ONE, ADDRESSES, HEARD)),
+                At(0, Hears(100, ONE, ADDRESSES, HEARD)),
+                At(
+                    0,
+                    Looks(Look::Holds(Held {
+                        last: 100,
+                        near: [1, 0, 1, 0],
+                        ..EMPTY
+                    })),
+                ),
+                At(0, Hears(200, THREE, ANOTHER, FULL_OF_ADDRESSES)),
+                At(
+                    0,
+                    Looks(Look::Holds(Held {
+                        last: 200,
+                        near: [1, 0, 1, 0],
+                        ..EMPTY
+                    })),
+                ),
+                At(0, Hears(300, ONE, ADDRESSES, HEARD)),
             ],
         ),
     ),
@@ -272,26 +272,26 @@ pub(crate) static CASES: [Case; 5] = [
         Run::Frames(
             ROUTERS,
             &[
-            At(0, Hears(100, ONE, TOO_MANY_TWO_HOPS, FULL_OF_TWO_HOPS)),
-            At(0, Looks(Look::Holds(Held { last: 100, ..EMPTY }))),
-            At(0, Hears(200, ONE, MOST_TWO_HOPS, HEARD)),
-            At(
-                0,
-                Looks(Look::Holds(Held {
-                    last: 200,
-                    near: [1, 16384, 1, 0],
-                    ..EMPTY
-                })),
-            ),
-            At(0, Hears(300, ONE, LAST_TWO_HOP, FULL_OF_TWO_HOPS)),
-            At(
-                0,
-                Looks(Look::Holds(Held {
-                    last: 300,
-                    near: [1, 16384, 1, 0],
-                    ..EMPTY
-                })),
-            ),
+                At(0, Hears(100, ONE, TOO_MANY_TWO_HOPS, FULL_OF_TWO_HOPS)),
+                At(0, Looks(Look::Holds(Held { last: 100, ..EMPTY }))),
+                At(0, Hears(200, ONE, MOST_TWO_HOPS, HEARD)),
+                At(
+                    0,
+                    Looks(Look::Holds(Held {
+                        last: 200,
+                        near: [1, 16384, 1, 0],
+                        ..EMPTY
+                    })),
+                ),
+                At(0, Hears(300, ONE, LAST_TWO_HOP, FULL_OF_TWO_HOPS)),
+                At(
+                    0,
+                    Looks(Look::Holds(Held {
+                        last: 300,
+                        near: [1, 16384, 1, 0],
+                        ..EMPTY
+                    })),
+                ),
             ],
         ),
     ),
@@ -300,39 +300,39 @@ pub(crate) static CASES: [Case; 5] = [
         Run::Frames(
             ROUTERS,
             &[
-            At(0, Hears(100, ONE, TOO_MANY_ROUTERS, FULL_OF_ROUTERS)),
-            At(0, Looks(Look::Holds(Held { last: 100, ..EMPTY }))),
-            At(0, Hears(200, ONE, MOST_ROUTERS, TAKEN)),
-            At(
-                0,
-                Looks(Look::Holds(Held {
-                    last: 200,
-                    far: [1, 16384, 0, 0],
-                    ..EMPTY
-                })),
-            ),
-            At(1, Hears(100, ONE, TOO_MANY_ADDRESSES, FULL_OF_ADDRESS_ROWS)),
-            At(1, Looks(Look::Holds(Held { last: 100, ..EMPTY }))),
-            At(1, Hears(200, ONE, MOST_ADDRESSES, TAKEN)),
-            At(
-                1,
-                Looks(Look::Holds(Held {
-                    last: 200,
-                    far: [1, 0, 16384, 0],
-                    ..EMPTY
-                })),
-            ),
-            At(2, Hears(100, ONE, TOO_MANY_NETWORKS, FULL_OF_NETWORKS)),
-            At(2, Looks(Look::Holds(Held { last: 100, ..EMPTY }))),
-            At(2, Hears(200, ONE, MOST_NETWORKS, TAKEN)),
-            At(
-                2,
-                Looks(Look::Holds(Held {
-                    last: 200,
-                    far: [1, 0, 0, 16384],
-                    ..EMPTY
-                })),
-            ),
+                At(0, Hears(100, ONE, TOO_MANY_ROUTERS, FULL_OF_ROUTERS)),
+                At(0, Looks(Look::Holds(Held { last: 100, ..EMPTY }))),
+                At(0, Hears(200, ONE, MOST_ROUTERS, TAKEN)),
+                At(
+                    0,
+                    Looks(Look::Holds(Held {
+                        last: 200,
+                        far: [1, 16384, 0, 0],
+                        ..EMPTY
+                    })),
+                ),
+                At(1, Hears(100, ONE, TOO_MANY_ADDRESSES, FULL_OF_ADDRESS_ROWS)),
+                At(1, Looks(Look::Holds(Held { last: 100, ..EMPTY }))),
+                At(1, Hears(200, ONE, MOST_ADDRESSES, TAKEN)),
+                At(
+                    1,
+                    Looks(Look::Holds(Held {
+                        last: 200,
+                        far: [1, 0, 16384, 0],
+                        ..EMPTY
+                    })),
+                ),
+                At(2, Hears(100, ONE, TOO_MANY_NETWORKS, FULL_OF_NETWORKS)),
+                At(2, Looks(Look::Holds(Held { last: 100, ..EMPTY }))),
+                At(2, Hears(200, ONE, MOST_NETWORKS, TAKEN)),
+                At(
+                    2,
+                    Looks(Look::Holds(Held {
+                        last: 200,
+                        far: [1, 0, 0, 16384],
+                        ..EMPTY
+                    })),
+                ),
             ],
         ),
     ),
@@ -341,18 +341,18 @@ pub(crate) static CASES: [Case; 5] = [
         Run::Frames(
             ROUTERS,
             &[
-            At(0, Hears(100, ONE, MANY_TCS, FULL_OF_PROCESSED)),
-            At(0, Looks(Look::Full(true))),
-            At(0, Hears(1000, ONE, ONE_TC, FULL_OF_ADVERTISERS)),
-            At(0, Looks(Look::Full(false))),
-            At(
-                0,
-                Looks(Look::Holds(Held {
-                    last: 1000,
-                    far: [16384, 0, 0, 0],
-                    ..EMPTY
-                })),
-            ),
+                At(0, Hears(100, ONE, MANY_TCS, FULL_OF_PROCESSED)),
+                At(0, Looks(Look::Full(true))),
+                At(0, Hears(1000, ONE, ONE_TC, FULL_OF_ADVERTISERS)),
+                At(0, Looks(Look::Full(false))),
+                At(
+                    0,
+                    Looks(Look::Holds(Held {
+                        last: 1000,
+                        far: [16384, 0, 0, 0],
+                        ..EMPTY
+                    })),
+                ),
             ],
         ),
     ),
@@ -361,11 +361,11 @@ pub(crate) static CASES: [Case; 5] = [
         Run::Frames(
             ROUTERS,
             &[
-            At(0, Hears(100, ONE, MANY_OTHERS, FULL_OF_RECEIVED)),
-            Count(16384),
-            At(0, Hears(1000, ONE, ONE_OTHER, FULL_OF_FORWARDED)),
-            At(0, Hears(1000, ONE, ONE_OTHER, SEEN)),
-            Count(0),
+                At(0, Hears(100, ONE, MANY_OTHERS, FULL_OF_RECEIVED)),
+                Count(16384),
+                At(0, Hears(1000, ONE, ONE_OTHER, FULL_OF_FORWARDED)),
+                At(0, Hears(1000, ONE, ONE_OTHER, SEEN)),
+                Count(0),
             ],
         ),
     ),

@@ -53,15 +53,9 @@ addresses = [\"10.0.0.1\"]
 /// What 10.0.0.1 tells of its addresses: of its only one, and on each of two interfaces.
 const ALONE_ROWS: &[Row] = &[Row::This(ONE)];
 
-const FIRST_ROWS: &[Row] = &[
-    Row::This(ONE),
-    Row::Other(OTHER),
-];
+const FIRST_ROWS: &[Row] = &[Row::This(ONE), Row::Other(OTHER)];
 
-const SECOND_ROWS: &[Row] = &[
-    Row::Other(ONE),
-    Row::This(OTHER),
-];
+const SECOND_ROWS: &[Row] = &[Row::Other(ONE), Row::This(OTHER)];
 
 /// What 10.0.0.1 tells.
 const ALONE_SAYS: Telling = Telling::All(ONE, ALONE_ROWS);
@@ -101,25 +95,25 @@ pub(crate) static CASES: [Case; 4] = [
         Run::Frames(
             ALONE,
             &[
-            At(0, Looks(Look::Holds(EMPTY))),
-            At(0, Ticks(0, Some(16384))),
-            Tells(0, 0, ALONE_SAYS),
-            Count(1),
-            // a late tick sends once
-            At(0, Ticks(40960, Some(49152))),
-            Tells(0, 0, ALONE_SAYS),
-            Count(1),
-            At(
-                0,
-                Looks(Look::Holds(Held {
-                    last: 40960,
-                    due: 49152,
-                    ..EMPTY
-                })),
-            ),
-            // one that comes early sends nothing
-            At(0, Ticks(49151, Some(49152))),
-            Count(0),
+                At(0, Looks(Look::Holds(EMPTY))),
+                At(0, Ticks(0, Some(16384))),
+                Tells(0, 0, ALONE_SAYS),
+                Count(1),
+                // a late tick sends once
+                At(0, Ticks(40960, Some(49152))),
+                Tells(0, 0, ALONE_SAYS),
+                Count(1),
+                At(
+                    0,
+                    Looks(Look::Holds(Held {
+                        last: 40960,
+                        due: 49152,
+                        ..EMPTY
+                    })),
+                ),
+                // one that comes early sends nothing
+                At(0, Ticks(49151, Some(49152))),
+                Count(0),
             ],
         ),
     ),
@@ -128,15 +122,15 @@ pub(crate) static CASES: [Case; 4] = [
         Run::Frames(
             LATER,
             &[
-            At(0, Looks(Look::Holds(Held { due: 4096, ..EMPTY }))),
-            At(0, Ticks(0, Some(4096))),
-            // without rows no TC is sent
-            At(0, Ticks(4096, Some(8192))),
-            Count(0),
-            At(0, Ticks(8192, Some(24576))),
-            Tells(0, 0, FIRST_SAYS),
-            Tells(1, 1, SECOND_SAYS),
-            Count(2),
+                At(0, Looks(Look::Holds(Held { due: 4096, ..EMPTY }))),
+                At(0, Ticks(0, Some(4096))),
+                // without rows no TC is sent
+                At(0, Ticks(4096, Some(8192))),
+                Count(0),
+                At(0, Ticks(8192, Some(24576))),
+                Tells(0, 0, FIRST_SAYS),
+                Tells(1, 1, SECOND_SAYS),
+                Count(2),
             ],
         ),
     ),
@@ -145,52 +139,52 @@ pub(crate) static CASES: [Case; 4] = [
         Run::Frames(
             TWO_ROUTERS,
             &[
-            At(0, Hears(100, ONE, HELLO_OF_ONE, HEARD)),
-            At(0, Looks(Look::Link(ONE, HEARD_LINK))),
-            At(
-                0,
-                Looks(Look::Holds(Held {
-                    last: 100,
-                    near: [1, 0, 1, 0],
-                    ..EMPTY
-                })),
-            ),
-            Count(0),
-            At(0, Ticks(49252, Some(65536))),
-            At(0, Looks(Look::Link(ONE, LOST_LINK))),
-            At(
-                0,
-                Looks(Look::Holds(Held {
-                    last: 49252,
-                    due: 65536,
-                    near: [1, 0, 1, 0],
-                    ..EMPTY
-                })),
-            ),
-            Count(1),
-            // a frame with a fault changes nothing, not even by expiry
-            At(0, Hears(98500, ONE, VERSION, Answer::Refused(0, 2))),
-            At(0, Looks(Look::Link(ONE, LOST_LINK))),
-            At(
-                0,
-                Looks(Look::Holds(Held {
-                    last: 49252,
-                    due: 65536,
-                    near: [1, 0, 1, 0],
-                    ..EMPTY
-                })),
-            ),
-            Count(0),
-            At(0, Ticks(98404, Some(114688))),
-            At(0, Looks(Look::Link(ONE, None))),
-            At(
-                0,
-                Looks(Look::Holds(Held {
-                    last: 98404,
-                    due: 114688,
-                    ..EMPTY
-                })),
-            ),
+                At(0, Hears(100, ONE, HELLO_OF_ONE, HEARD)),
+                At(0, Looks(Look::Link(ONE, HEARD_LINK))),
+                At(
+                    0,
+                    Looks(Look::Holds(Held {
+                        last: 100,
+                        near: [1, 0, 1, 0],
+                        ..EMPTY
+                    })),
+                ),
+                Count(0),
+                At(0, Ticks(49252, Some(65536))),
+                At(0, Looks(Look::Link(ONE, LOST_LINK))),
+                At(
+                    0,
+                    Looks(Look::Holds(Held {
+                        last: 49252,
+                        due: 65536,
+                        near: [1, 0, 1, 0],
+                        ..EMPTY
+                    })),
+                ),
+                Count(1),
+                // a frame with a fault changes nothing, not even by expiry
+                At(0, Hears(98500, ONE, VERSION, Answer::Refused(0, 2))),
+                At(0, Looks(Look::Link(ONE, LOST_LINK))),
+                At(
+                    0,
+                    Looks(Look::Holds(Held {
+                        last: 49252,
+                        due: 65536,
+                        near: [1, 0, 1, 0],
+                        ..EMPTY
+                    })),
+                ),
+                Count(0),
+                At(0, Ticks(98404, Some(114688))),
+                At(0, Looks(Look::Link(ONE, None))),
+                At(
+                    0,
+                    Looks(Look::Holds(Held {
+                        last: 98404,
+                        due: 114688,
+                        ..EMPTY
+                    })),
+                ),
             ],
         ),
     ),
@@ -199,23 +193,23 @@ pub(crate) static CASES: [Case; 4] = [
         Run::Frames(
             TWO_ROUTERS,
             &[
-            At(1, Hears(50, ONE, VERSION, Answer::Refused(0, 2))),
-            At(1, Looks(Look::Holds(EMPTY))),
-            // a message that breaks a rule changes nothing, but its frame is an event
-            At(1, Hears(100, ONE, HELLO_OF_ONE, BROKEN)),
-            At(1, Looks(Look::Holds(Held { last: 100, ..EMPTY }))),
-            At(0, Hears(100, ONE, HELLO_OF_ONE, HEARD)),
-            // with a size that passes the end of the frame
-            At(0, Hears(200, ONE, CUT, Answer::Refused(3, 3))),
-            At(
-                0,
-                Looks(Look::Holds(Held {
-                    last: 100,
-                    near: [1, 0, 1, 0],
-                    ..EMPTY
-                })),
-            ),
-            Count(0),
+                At(1, Hears(50, ONE, VERSION, Answer::Refused(0, 2))),
+                At(1, Looks(Look::Holds(EMPTY))),
+                // a message that breaks a rule changes nothing, but its frame is an event
+                At(1, Hears(100, ONE, HELLO_OF_ONE, BROKEN)),
+                At(1, Looks(Look::Holds(Held { last: 100, ..EMPTY }))),
+                At(0, Hears(100, ONE, HELLO_OF_ONE, HEARD)),
+                // with a size that passes the end of the frame
+                At(0, Hears(200, ONE, CUT, Answer::Refused(3, 3))),
+                At(
+                    0,
+                    Looks(Look::Holds(Held {
+                        last: 100,
+                        near: [1, 0, 1, 0],
+                        ..EMPTY
+                    })),
+                ),
+                Count(0),
             ],
         ),
     ),
@@ -223,10 +217,10 @@ pub(crate) static CASES: [Case; 4] = [
 
 /// Over tables that hold nothing.
 pub(crate) const SPENT: Case = (
-        "want of memory spends a router",
-        Run::Frames(
-            TWO_ROUTERS,
-            &[
+    "want of memory spends a router",
+    Run::Frames(
+        TWO_ROUTERS,
+        &[
             At(0, Looks(Look::Spent(false))),
             At(0, Ticks(0, Some(16384))),
             At(0, Looks(Look::Spent(false))),
@@ -238,6 +232,6 @@ pub(crate) const SPENT: Case = (
             At(0, Hears(20100, ONE, VERSION, Answer::Wanting)),
             At(0, Looks(Look::Spent(true))),
             Count(0),
-            ],
-        ),
+        ],
+    ),
 );

@@ -1,8 +1,7 @@
 //! What is seen of a router.
 use crate::fixtures::{LinkHas, TupleHas, link_has, link_key, router_key, tuple_has};
 use mesh_atoms::{Addr4, LinkState, NetAddr, Relays, Route, TcRow};
-use mesh_core::{Core, RouterView};
-use mesh_expire::{Bases, Table};
+use mesh_core::RouterView;
 use mesh_fixtures::metric;
 use mesh_flood::Heading;
 
@@ -26,11 +25,20 @@ pub(crate) const EMPTY: Held = Held {
     ansn: 0,
 };
 
-/// The same of a router, but for what no view shows: the moment of its next event, and how many advertisers it has.
-fn held_by<V: RouterView>(view: &V, due: u64, advertisers: usize) -> Held {
+/// What is seen beside the view of a router: whether it is spent, the moments of its last event and of the next one that is due, and how
+/// many advertisers it has.
+#[derive(Clone, Copy)]
+pub(crate) struct Beside {
+    pub(crate) spent: bool,
+    pub(crate) last: u64,
+    pub(crate) due: u64,
+    pub(crate) advertisers: usize,
+}
+
+fn held_by<V: RouterView>(view: &V, beside: &Beside) -> Held {
     Held {
-        last: view.last(),
-        due,
+        last: beside.last,
+        due: beside.due,
         near: [
             view.links(0),
             view.two_hops(0),
@@ -38,7 +46,7 @@ fn held_by<V: RouterView>(view: &V, due: u64, advertisers: usize) -> Held {
             view.losts(),
         ],
         far: [
-            advertisers,
+            beside.advertisers,
             view.routers(),
             view.addresses(),
             view.networks(),
@@ -146,8 +154,11 @@ pub(crate) enum Look {
     Full(bool),
 }
 
-fn shows<V: RouterView>(view: &V, look: &Look) -> bool {
+/// Whether a router is as it must look.
+pub(crate) fn shows<V: RouterView>(view: &V, beside: &Beside, look: &Look) -> bool {
     match *look {
+        Look::Spent(want) => beside.spent == want,
+        Look::Holds(want) => held_by(view, beside) == want,
         Look::Link(addr, want) => link_of(view, addr) == want,
         Look::Tuple(from, to, want) => tuple_of(view, from, to) == want,
         Look::Relays(want) => are_relays(view.relays(), want),
@@ -155,17 +166,5 @@ fn shows<V: RouterView>(view: &V, look: &Look) -> bool {
         Look::Rows(want) => advertise(view.rows(), want),
         Look::Noted(heading, want) => view.has_noted(&heading) == want,
         Look::Full(want) => view.has_full_set() == want,
-        Look::Spent(_) | Look::Holds(_) => false,
-    }
-}
-
-/// Whether a router is as it must look.
-pub(crate) fn looks_so<B: Bases>(core: &Core<B>, look: &Look) -> bool {
-    match *look {
-        Look::Spent(want) => core.is_spent() == want,
-        Look::Holds(want) => {
-            held_by(core, core.due(), core.topology().advertisers().len()) == want
-        }
-        _ => shows(core, look),
     }
 }

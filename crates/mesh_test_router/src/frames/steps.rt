@@ -1,5 +1,5 @@
 //! Steps of routers: what happens to them, and what must come of each.
-use crate::frames::looks::{Look, looks_so};
+use crate::frames::looks::{Beside, Look, shows};
 use crate::frames::octets::{Part, frame_of};
 use crate::frames::reads::is_hello;
 use crate::rows::Telling;
@@ -7,7 +7,7 @@ use crate::tried::Tried;
 use mesh_atoms::{Addr4, Refusal, RouterSettings};
 use mesh_config::scenario_of;
 use mesh_core::{Core, Fate, Heard, Outbox, Read};
-use mesh_expire::Bases;
+use mesh_expire::{Bases, Table};
 use mesh_flood::Forward;
 use std::alloc::{AllocError, Global};
 
@@ -68,35 +68,6 @@ fn is_answer(came: &Result<Heard, AllocError>, answer: &Answer) -> bool {
     }
 }
 
-/// Lets a router hear a frame on its first interface, and says whether it answers so, and whether it is spent exactly where it wants memory.
-fn hear<B: Bases>(
-    core: &mut Core<B>,
-    out: &mut Outbox,
-    now: u32,
-    sender: u32,
-    frame: &[u8],
-    answer: &Answer,
-) -> bool {
-    let now = u64::from(now);
-    if now < core.last() || core.settings().interfaces.len() == 0 {
-        return false;
-    }
-    let came = core.hear(now, 0, Addr4(sender), frame, out);
-    is_answer(&came, answer) && core.is_spent() == came.is_err()
-}
-
-/// Lets the clock of a router tick, and says whether what is next due then is that; none where it wants memory.
-fn tick<B: Bases>(core: &mut Core<B>, out: &mut Outbox, now: u32, due: Option<u64>) -> bool {
-    let now = u64::from(now);
-    if now < core.last() {
-        return false;
-    }
-    match core.tick(now, out) {
-        Ok(()) => due == Some(core.due()) && core.last() == now && !core.is_spent(),
-        Err(_) => due.is_none() && core.is_spent(),
-    }
-}
-
 #[derive(Clone, Copy)]
 pub(crate) enum Event {
     // moment and sender; the frame, on the first interface; the answer
@@ -121,31 +92,108 @@ pub(crate) enum Step {
 /// A router that is tried by events.
 pub(crate) trait Router: Sized + Drop {
     /// A router with those settings, before its first event.
-    fn start(alloc: Global, settings: &RouterSettings) -> Result<Self, AllocError>;
+    fn start(alloc: Global, settings: RouterSettings) -> Result<Self, AllocError>;
 
-    /// Lets that happen to it, and says whether what comes of it is right.
-    fn meets(&mut self, alloc: Global, out: &mut Outbox, event: &Event) -> Result<bool, AllocError>;
+    /// Lets it hear a frame on its first interface; nothing where there is none, or the moment is before the last event.
+    fn hears(
+        &mut self,
+        out: &mut Outbox,
+        now: u32,
+        sender: Addr4,
+        frame: &[u8],
+    ) -> Option<Result<Heard, AllocError>>;
+
+    /// Lets its clock tick; nothing where the moment is before the last event.
+    fn ticks(&mut self, out: &mut Outbox, now: u32) -> Option<Result<(), AllocError>>;
+
+    fn beside(&self) -> Beside;
+
+    fn looks(&self, look: &Look) -> bool;
 }
 
 impl<B: Bases> Router for Core<B> {
-    fn start(alloc: Global, settings: &RouterSettings) -> Result<Core<B>, AllocError> {
-        Core::new(alloc, settings.copy()?)
+    fn start(alloc: Global, settings: RouterSettings) -> Result<Core<B>, AllocError> {
+        Core::new(alloc, settings)
     }
 
-    fn meets(
+    fn hears(
         &mut self,
-        alloc: Global,
         out: &mut Outbox,
-        event: &Event,
-    ) -> Result<bool, AllocError> {
-        match *event {
-            Event::Hears(now, sender, parts, answer) => {
-                let frame = frame_of(alloc, out, parts)?;
-                Ok(hear(self, out, now, sender, frame.as_slice(), &answer))
-            }
-            Event::Ticks(now, due) => Ok(tick(self, out, now, due)),
-            Event::Looks(look) => Ok(looks_so(self, &look)),
+        now: u32,
+        sender: Addr4,
+        frame: &[u8],
+    ) -> Option<Result<Heard, AllocError>> {
+        let now = u64::from(now);
+        if now < self.last() || self.settings().interfaces.len() == 0 {
+            return None;
         }
+        Some(self.hear(now, 0, sender, frame, out))
+    }
+
+    fn ticks(&mut self, out: &mut Outbox, now: u32) -> Option<Result<(), AllocError>> {
+        let now = u64::from(now);
+        if now < self.last() {
+            return None;
+        }
+        Some(self.tick(now, out))
+    }
+
+    fn beside(&self) -> Beside {
+        Beside {
+            spent: self.is_spent(),
+            last: self.last(),
+            due: self.due(),
+            advertisers: self.topology().advertisers().len(),
+        }
+    }
+
+    fn looks(&self, look: &Look) -> bool {
+        shows(self, &self.beside(), look)
+    }
+}
+
+/// Lets a router hear a frame, and says whether it answers so, and whether it is spent exactly where it wants memory.
+fn hears<R: Router>(
+    router: &mut R,
+    out: &mut Outbox,
+    now: u32,
+    sender: u32,
+    frame: &[u8],
+    answer: &Answer,
+) -> bool {
+    match router.hears(out, now, Addr4(sender), frame) {
+        Some(came) => is_answer(&came, answer) && router.beside().spent == came.is_err(),
+        None => false,
+    }
+}
+
+/// Lets the clock of a router tick, and says whether what is next due then is that; none where it wants memory.
+fn ticks<R: Router>(router: &mut R, out: &mut Outbox, now: u32, due: Option<u64>) -> bool {
+    match router.ticks(out, now) {
+        Some(Ok(())) => is_ticked(&router.beside(), now, due),
+        Some(Err(_)) => due.is_none() && router.beside().spent,
+        None => false,
+    }
+}
+
+fn is_ticked(beside: &Beside, now: u32, due: Option<u64>) -> bool {
+    due == Some(beside.due) && beside.last == u64::from(now) && !beside.spent
+}
+
+/// Lets that happen to a router, and says whether what comes of it is right.
+fn meets<R: Router>(
+    alloc: Global,
+    router: &mut R,
+    out: &mut Outbox,
+    event: &Event,
+) -> Result<bool, AllocError> {
+    match *event {
+        Event::Hears(now, sender, parts, answer) => {
+            let frame = frame_of(alloc, out, parts)?;
+            Ok(hears(router, out, now, sender, frame.as_slice(), &answer))
+        }
+        Event::Ticks(now, due) => Ok(ticks(router, out, now, due)),
+        Event::Looks(look) => Ok(router.looks(&look)),
     }
 }
 
@@ -210,7 +258,7 @@ fn is_taken<R: Router>(
             if router >= routers.len() {
                 return Ok(false);
             }
-            routers[router].meets(alloc, out, &event)
+            meets(alloc, &mut routers[router], out, &event)
         }
         _ => shows_sent(alloc, out, step),
     }
@@ -222,7 +270,8 @@ fn start_each<R: Router>(
     routers: &mut Vec<R>,
 ) -> Result<(), AllocError> {
     for one in settings {
-        routers.push(R::start(alloc, one)?)?;
+        let settings = one.copy()?;
+        routers.push(R::start(alloc, settings)?)?;
     }
     Ok(())
 }

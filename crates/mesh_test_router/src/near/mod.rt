@@ -2,6 +2,7 @@
 
 mod callers;
 pub(crate) mod exchange;
+pub(crate) mod listener;
 pub(crate) mod neighbourhood;
 pub(crate) mod routers;
 pub(crate) mod steps;

@@ -1,123 +1,18 @@
 //! Steps of two routers, with what must hold after them.
-ghost use Rattle.std.specs.Prelude.{◌<◌, ◌^◌, length, IfOk, OnOk};
-ghost use Rattle.mesh_atoms.specs.Sound.{SoundNeighbourhood};
-ghost use Rattle.mesh_test_router.specs.Ready.{IsReady};
+ghost use Rattle.std.specs.Prelude.{IfOk, OnOk};
 
-use crate::fixtures::{LinkHas, ONE, TwoHopHas, link_has, two_hop_has};
+use crate::fixtures::{LinkHas, TwoHopHas, link_has, two_hop_has, two_hop_key};
 use crate::near::callers::symmetric_neighbours;
+use crate::near::listener::Listener;
 use crate::near::routers::{Setup, settings_of};
 use crate::rows::{Row, Telling, hello_with, says};
 use crate::tried::Tried;
-use mesh_atoms::{Addr4, Hello, Link, LinkState, Relays, Seq};
-use mesh_expire::Bases;
+use mesh_atoms::{Addr4, Link, LinkState, Neighbour, TwoHop, TwoHopKey};
 use mesh_fixtures::cost;
 use mesh_nbrs::Near4;
-use mesh_nhdp::{HelloTaken, Nhdp};
+use mesh_nhdp::HelloTaken;
 use std::alloc::{AllocError, Global};
 use std::mem::swap;
-
-/// Expires at that moment, and then takes a HELLO, whose sender is its originator, and 10.0.0.1 where there is none.
-fn take<B: Bases>(
-    nhdp: &mut Nhdp<B>,
-    now: u32,
-    iface: usize,
-    hello: &Hello,
-) -> Result<HelloTaken, AllocError>
-    requires iface { iface < length nhdp.old.settings.interfaces }
-    requires lasts { 0 < hello.now.validity }
-    requires validity { hello.now.validity < 2 ^ 62 }
-    requires ready { IsReady nhdp.old }
-    ensures { OnOk result (IsReady nhdp.new) }
-{
-    let now = u64::from(now);
-    let sender = hello.originator.unwrap_or(Addr4(ONE));
-    nhdp.expire(now)?;
-    nhdp.take_hello(now, iface, sender, hello)
-}
-
-/// Takes a HELLO of those rows, and says whether the answer is right; nothing where the rows don't ascend.
-fn hear<B: Bases>(
-    alloc: Global,
-    nhdp: &mut Nhdp<B>,
-    now: u32,
-    iface: usize,
-    originator: Option<u32>,
-    rows: &[Row],
-    want: HelloTaken,
-) -> Result<bool, AllocError>
-    requires { IsReady nhdp.old }
-    ensures { OnOk result (IsReady nhdp.new) }
-{
-    if iface >= nhdp.settings().interfaces.len() {
-        return Ok(false);
-    }
-    match hello_with(alloc, originator, rows)? {
-        Some(hello) => Ok(take(nhdp, now, iface, &hello)? == want),
-        None => Ok(false),
-    }
-}
-
-/// Empty lists of relays, one for flooding on each of so many interfaces.
-fn no_relays(alloc: Global, interfaces: usize) -> Result<Relays, AllocError> {
-    let mut flooding = Seq::new(alloc);
-    for _ in 0..interfaces {
-        flooding.push(Seq::new(alloc))?;
-    }
-    Ok(Relays {
-        flooding,
-        routing: Seq::new(alloc),
-    })
-}
-
-/// The HELLO of the first interface of a router that has chosen no relays.
-fn hello_at<B: Bases>(alloc: Global, nhdp: &Nhdp<B>, now: u64) -> Result<Hello, AllocError>
-    requires some { 0 < length nhdp.now.settings.interfaces }
-    requires sound { SoundNeighbourhood nhdp.now.settings now nhdp.now.near }
-{
-    let relays = no_relays(alloc, nhdp.settings().interfaces.len())?;
-    nhdp.hello_now(alloc, 0, now, &relays)
-}
-
-/// Expires at that moment, and then gives that HELLO.
-fn tell<B: Bases>(alloc: Global, nhdp: &mut Nhdp<B>, now: u32) -> Result<Hello, AllocError>
-    requires { IsReady nhdp.old }
-    ensures { OnOk result (IsReady nhdp.new) }
-{
-    let now = u64::from(now);
-    nhdp.expire(now)?;
-    hello_at(alloc, nhdp, now)
-}
-
-/// Whether that HELLO tells what it must.
-fn tells<B: Bases>(
-    alloc: Global,
-    nhdp: &mut Nhdp<B>,
-    now: u32,
-    telling: Telling,
-) -> Result<bool, AllocError>
-    requires { IsReady nhdp.old }
-    ensures { OnOk result (IsReady nhdp.new) }
-{
-    let hello = tell(alloc, nhdp, now)?;
-    Ok(says(&hello, telling))
-}
-
-fn expire<B: Bases>(nhdp: &mut Nhdp<B>, now: u32) -> Result<(), AllocError>
-    requires { IsReady nhdp.old }
-    ensures { OnOk result (IsReady nhdp.new) }
-{
-    nhdp.expire(u64::from(now))
-}
-
-/// Whether expiry finds the neighbourhood as it was at the last moment.
-fn stays<B: Bases>(nhdp: &mut Nhdp<B>, last: u32, now: u32) -> Result<bool, AllocError>
-    requires { IsReady nhdp.old }
-    ensures { OnOk result (IsReady nhdp.new) }
-{
-    let last = u64::from(last);
-    nhdp.expire(last)?;
-    nhdp.expire_since(last, u64::from(now))
-}
 
 /// The link of an interface that has that least address.
 fn link_with<N: Near4>(near: &N, iface: usize, addr: u32) -> Option<(&Link, u64)> {
@@ -145,15 +40,23 @@ fn link_of<N: Near4>(near: &N, iface: usize, addr: u32) -> Option<LinkHas> {
     }
 }
 
-fn two_hop_of<N: Near4>(near: &N, iface: usize, link: u32, addr: u32) -> Option<TwoHopHas> {
+/// The 2-hop tuple of an interface that has that key.
+fn two_hop_with<N: Near4>(near: &N, iface: usize, wanted: TwoHopKey) -> Option<(&TwoHop, u64)> {
     for place in 0..near.two_hops(iface) {
         if let Some((key, two_hop, until)) = near.two_hop(iface, place) {
-            if key.link.addr == Addr4(link) && key.addr == Addr4(addr) {
-                return Some(two_hop_has(two_hop, until));
+            if *key == wanted {
+                return Some((two_hop, until));
             }
         }
     }
     None
+}
+
+fn two_hop_of<N: Near4>(near: &N, iface: usize, link: u32, addr: u32) -> Option<TwoHopHas> {
+    match two_hop_with(near, iface, two_hop_key(link, addr)) {
+        Some((two_hop, until)) => Some(two_hop_has(two_hop, until)),
+        None => None,
+    }
 }
 
 /// What a neighbour has: whether it is symmetric, how many addresses, and its metrics by their costs.
@@ -165,20 +68,27 @@ pub(crate) struct NeighbourHas {
     pub(crate) metric_out: Option<u32>,
 }
 
-fn neighbour_of<N: Near4>(near: &N, originator: u32) -> Option<NeighbourHas> {
+fn neighbour_with<N: Near4>(near: &N, originator: Addr4) -> Option<&Neighbour> {
     for place in 0..near.neighbours() {
         if let Some((key, neighbour, _)) = near.neighbour(place) {
-            if *key == Addr4(originator) {
-                return Some(NeighbourHas {
-                    symmetric: neighbour.symmetric,
-                    addrs: neighbour.addrs.len(),
-                    metric_in: cost(neighbour.metric_in),
-                    metric_out: cost(neighbour.metric_out),
-                });
+            if *key == originator {
+                return Some(neighbour);
             }
         }
     }
     None
+}
+
+fn neighbour_of<N: Near4>(near: &N, originator: u32) -> Option<NeighbourHas> {
+    match neighbour_with(near, Addr4(originator)) {
+        Some(neighbour) => Some(NeighbourHas {
+            symmetric: neighbour.symmetric,
+            addrs: neighbour.addrs.len(),
+            metric_in: cost(neighbour.metric_in),
+            metric_out: cost(neighbour.metric_out),
+        }),
+        None => None,
+    }
 }
 
 /// How many tuples there are: links of both interfaces, 2-hop tuples of both, neighbours, and lost addresses.
@@ -243,81 +153,102 @@ fn shows<N: Near4>(near: &N, step: &Step) -> bool {
     }
 }
 
-/// Expires or looks at the neighbourhood, and says whether what comes of it is right.
-fn passes<B: Bases>(nhdp: &mut Nhdp<B>, step: &Step) -> Result<bool, AllocError>
-    requires { IsReady nhdp.old }
-    ensures { OnOk result (IsReady nhdp.new) }
+/// Takes a HELLO of those rows, and says whether the answer is right; nothing where the rows don't ascend.
+fn hear<N: Listener>(
+    alloc: Global,
+    near: &mut N,
+    now: u32,
+    iface: usize,
+    originator: Option<u32>,
+    rows: &[Row],
+    want: HelloTaken,
+) -> Result<bool, AllocError>
+    requires { N.is_ready near.old }
+    ensures { OnOk result (N.is_ready near.new) }
 {
-    match *step {
-        Step::Expire(now) => {
-            expire(nhdp, now)?;
-            Ok(true)
-        }
-        Step::Stays(last, now, want) => Ok(stays(nhdp, last, now)? == want),
-        _ => Ok(shows(nhdp, step)),
+    match hello_with(alloc, originator, rows)? {
+        Some(hello) => near.hears(now, iface, &hello, want),
+        None => Ok(false),
     }
 }
 
-/// Takes a step of one router, and says whether the answer is the step's.
-fn is_right<B: Bases>(alloc: Global, nhdp: &mut Nhdp<B>, step: &Step) -> Result<bool, AllocError>
-    requires { IsReady nhdp.old }
-    ensures { OnOk result (IsReady nhdp.new) }
+/// Whether the HELLO of a moment tells what it must.
+fn tells<N: Listener>(
+    alloc: Global,
+    near: &mut N,
+    now: u32,
+    telling: Telling,
+) -> Result<bool, AllocError>
+    requires { N.is_ready near.old }
+    ensures { OnOk result (N.is_ready near.new) }
+{
+    let hello = near.tells(alloc, now)?;
+    Ok(says(&hello, telling))
+}
+
+/// Takes a step of one router, and says whether what comes of it is right.
+fn is_right<N: Listener>(alloc: Global, near: &mut N, step: &Step) -> Result<bool, AllocError>
+    requires { N.is_ready near.old }
+    ensures { OnOk result (N.is_ready near.new) }
 {
     match *step {
         Step::Hear(now, iface, originator, rows, want) => {
-            hear(alloc, nhdp, now, iface, originator, rows, want)
+            hear(alloc, near, now, iface, originator, rows, want)
         }
-        Step::Tells(now, telling) => tells(alloc, nhdp, now, telling),
-        _ => passes(nhdp, step),
+        Step::Tells(now, telling) => tells(alloc, near, now, telling),
+        Step::Expire(now) => {
+            near.ages(now)?;
+            Ok(true)
+        }
+        Step::Stays(last, now, want) => Ok(near.stays(last, now)? == want),
+        _ => Ok(shows(near, step)),
     }
 }
 
 /// Sends the HELLO of one router to another, and says whether it is valid for 49152 ticks and taken.
-fn send<B: Bases>(
+fn send<N: Listener>(
     alloc: Global,
-    one: &mut Nhdp<B>,
-    other: &mut Nhdp<B>,
+    one: &mut N,
+    other: &mut N,
     now: u32,
 ) -> Result<bool, AllocError>
-    requires one { IsReady one.old }
-    requires other { IsReady other.old }
-    ensures one { OnOk result (IsReady one.new) }
-    ensures other { OnOk result (IsReady other.new) }
+    requires one { N.is_ready one.old }
+    requires other { N.is_ready other.old }
+    ensures one { OnOk result (N.is_ready one.new) }
+    ensures other { OnOk result (N.is_ready other.new) }
 {
-    let hello = tell(alloc, one, now)?;
+    let hello = one.tells(alloc, now)?;
     if hello.validity != 49152 {
         return Ok(false);
     }
-    Ok(take(other, now, 0, &hello)? == HelloTaken::Done)
+    other.hears(now, 0, &hello, HelloTaken::Done)
 }
 
-/// A new router of those settings.
-fn router<B: Bases>(alloc: Global, setup: Setup) -> Result<Nhdp<B>, AllocError>
-    ensures { IfOk result (λ nhdp. IsReady nhdp) }
+fn start<N: Listener>(alloc: Global, setup: Setup) -> Result<N, AllocError>
+    ensures { IfOk result (λ near. N.is_ready near) }
 {
     let settings = settings_of(alloc, setup)?;
-    let nhdp = Nhdp::new(alloc, &settings)?;
-    Ok(nhdp)
+    N::start(alloc, &settings)
 }
 
 /// Two routers, to the first of which a step happens.
 #[derive(Drop)]
-pub(crate) struct Routers<B: Bases> {
-    one: Nhdp<B>,
-    other: Nhdp<B>,
+pub(crate) struct Routers<N> {
+    one: N,
+    other: N,
 }
 
-impl<B: Bases> Tried for Routers<B> {
+impl<N: Listener> Tried for Routers<N> {
     type Setup = Setup;
 
     type Call = Step;
 
-    ghost is_ready = { λ routers. IsReady routers.one × IsReady routers.other };
+    ghost is_ready = { λ routers. N.is_ready routers.one × N.is_ready routers.other };
 
-    fn start(alloc: Global, setup: &Setup) -> Result<Routers<B>, AllocError> {
+    fn start(alloc: Global, setup: &Setup) -> Result<Routers<N>, AllocError> {
         Ok(Routers {
-            one: router(alloc, *setup)?,
-            other: router(alloc, Setup::Second)?,
+            one: start(alloc, *setup)?,
+            other: start(alloc, Setup::Second)?,
         })
     }
 

@@ -1,5 +1,5 @@
 //! Worked 2-hop tuples.
-use crate::fixtures::{TwoHopHas, link_key, two_hop_has};
+use crate::fixtures::{TwoHopHas, link_key, two_hop_has, two_hop_key};
 use crate::runs::{Case, Run};
 use crate::tried::Tried;
 use mesh_atoms::{Addr4, TwoHop, TwoHopKey};
@@ -22,12 +22,12 @@ pub(crate) enum Call {
     Len(usize),
 }
 
-fn tuple_of<T: Table<TwoHopKey, TwoHop>>(set: &TwoHopSet<T>, link: u32, addr: u32) -> Option<TwoHopHas> {
-    let key = TwoHopKey {
-        link: link_key(link),
-        addr: Addr4(addr),
-    };
-    match set.table().get(&key) {
+fn tuple_of<T: Table<TwoHopKey, TwoHop>>(
+    set: &TwoHopSet<T>,
+    link: u32,
+    addr: u32,
+) -> Option<TwoHopHas> {
+    match set.table().get(&two_hop_key(link, addr)) {
         Some((tuple, until)) => Some(two_hop_has(tuple, until)),
         None => None,
     }

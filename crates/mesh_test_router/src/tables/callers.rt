@@ -3,6 +3,7 @@ ghost use Rattle.std.specs.Prelude.{◌≡◌, length, if◌then◌else◌, map,
 ghost use Rattle.mesh_atoms.specs.Base.{find, Expires, two_hop_eq, link_eq};
 ghost use Rattle.mesh_expire.specs.Table.{changed_at};
 
+use crate::fixtures::{link_key, two_hop_key};
 use crate::runs::{Case, Run};
 use mesh_atoms::{Addr4, AddressKey, AddressTuple, LinkKey, Metric, TwoHop, TwoHopKey};
 use mesh_expire::{Key, Table};
@@ -68,22 +69,18 @@ fn drop_link<T: Table<TwoHopKey, TwoHop>>(table: &mut T, link: LinkKey)
     }
 }
 
-fn two_hop(link: u32, addr: u32) -> TwoHopKey {
-    TwoHopKey {
-        link: LinkKey { addr: Addr4(link) },
-        addr: Addr4(addr),
-    }
-}
-
-fn put_two_hop<T: Table<TwoHopKey, TwoHop>>(
+fn put_two_hops<T: Table<TwoHopKey, TwoHop>>(
     table: &mut T,
-    key: TwoHopKey,
+    keys: &[TwoHopKey],
 ) -> Result<(), AllocError> {
-    let tuple = TwoHop {
-        metric_in: None,
-        metric_out: None,
-    };
-    table.put(key, tuple, 100)
+    for key in keys {
+        let tuple = TwoHop {
+            metric_in: None,
+            metric_out: None,
+        };
+        table.put(*key, tuple, 100)?;
+    }
+    Ok(())
 }
 
 /// Whether of three 2-hop tuples the third is left once a link with two is gone.
@@ -91,11 +88,10 @@ pub(crate) fn two_hops_are_dropped<T: Table<TwoHopKey, TwoHop>>(
     alloc: Global,
 ) -> Result<bool, AllocError> {
     let mut table = T::new(alloc)?;
-    put_two_hop(&mut table, two_hop(1, 7))?;
-    put_two_hop(&mut table, two_hop(2, 7))?;
-    put_two_hop(&mut table, two_hop(1, 8))?;
-    drop_link(&mut table, LinkKey { addr: Addr4(1) });
-    Ok(table.len() == 1 && table.get(&two_hop(2, 7)).is_some())
+    let left = two_hop_key(2, 7);
+    put_two_hops(&mut table, &[two_hop_key(1, 7), left, two_hop_key(1, 8)])?;
+    drop_link(&mut table, link_key(1));
+    Ok(table.len() == 1 && table.get(&left).is_some())
 }
 
 fn address(addr: u32) -> AddressKey {
@@ -105,15 +101,18 @@ fn address(addr: u32) -> AddressKey {
     }
 }
 
-fn put_address<T: Table<AddressKey, AddressTuple>>(
+fn put_addresses<T: Table<AddressKey, AddressTuple>>(
     table: &mut T,
-    until: u32,
+    untils: &[u32],
 ) -> Result<(), AllocError> {
-    let tuple = AddressTuple {
-        ansn: 5,
-        metric: Metric { code: 0 },
-    };
-    table.put(address(until), tuple, u64::from(until))
+    for until in untils {
+        let tuple = AddressTuple {
+            ansn: 5,
+            metric: Metric { code: 0 },
+        };
+        table.put(address(*until), tuple, u64::from(*until))?;
+    }
+    Ok(())
 }
 
 fn ansn_of<T: Table<AddressKey, AddressTuple>>(table: &T, addr: u32) -> Option<u16> {
@@ -128,9 +127,7 @@ pub(crate) fn addresses_are_renumbered<T: Table<AddressKey, AddressTuple>>(
     alloc: Global,
 ) -> Result<bool, AllocError> {
     let mut table = T::new(alloc)?;
-    put_address(&mut table, 100)?;
-    put_address(&mut table, 200)?;
-    put_address(&mut table, 300)?;
+    put_addresses(&mut table, &[100, 200, 300])?;
     renumber_all(&mut table, 6);
     Ok(sweep(&mut table, 200) == 1 && ansn_of(&table, 300) == Some(6))
 }

@@ -1,9 +1,9 @@
-use Rattle.mesh_test_router.proofs.near.steps.router.Goals as goal
+use Rattle.mesh_test_router.proofs.near.listener.NhdpListener.start.Goals as goal
 
 -- an empty neighbourhood is sound at every moment
 pub returns : goal.returns
 returns g c = record {
-  some = rw c.in_ok-nhdp.ensures.settings c.in_ok-settings.ensures;
+  some = rw c.in_ok-nhdp.ensures.settings c.requires;
   moment = 0;
   sound = c.in_ok-nhdp.ensures.sound 0;
 }

@@ -1,5 +1,5 @@
 use Rattle.mesh_test_router.proofs.Staying.{ready, beside}
-use Rattle.mesh_test_router.proofs.near.steps.tell.Goals as goal
+use Rattle.mesh_test_router.proofs.near.listener.NhdpListener.tells.Goals as goal
 
 pub expire-requires-clause-sound : goal.expire-requires-clause-sound
 expire-requires-clause-sound g c = (c.requires.moment, c.requires.sound)

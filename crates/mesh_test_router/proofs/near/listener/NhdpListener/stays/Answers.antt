@@ -1,7 +1,7 @@
 use Rattle.std.proofs.Common.{◌∙◌}
 use Rattle.std.proofs.lemmas.Result.{on_ok_weaker}
 use Rattle.mesh_test_router.proofs.Staying.{ready}
-use Rattle.mesh_test_router.proofs.near.steps.stays.Goals as goal
+use Rattle.mesh_test_router.proofs.near.listener.NhdpListener.stays.Goals as goal
 
 pub expire-requires-clause-sound : goal.expire-requires-clause-sound
 expire-requires-clause-sound g c = (c.requires.moment, c.requires.sound)
