@@ -144,11 +144,16 @@ fn is_found(alloc: Global, graph: &Graph, rows: &[PathRow]) -> Result<bool, Allo
     Ok(found.rows.as_slice() == rows)
 }
 
-fn is_found_by_rounds(alloc: Global, graph: &Graph, rows: &[PathRow]) -> Result<bool, AllocError>
+fn is_found_by_rounds(
+    alloc: Global,
+    graph: &Graph,
+    start: u32,
+    rows: &[PathRow],
+) -> Result<bool, AllocError>
     requires costs { HasCosts graph.now }
     requires few { length graph.now.arcs < 2 ^ 32 }
 {
-    let found = search_by_rounds(alloc, graph, node(1))?;
+    let found = search_by_rounds(alloc, graph, node(start))?;
     Ok(found.rows.as_slice() == rows)
 }
 
@@ -166,7 +171,7 @@ fn is_answered(
         return Ok(false);
     }
     let rows = certificate.rows.as_slice();
-    Ok(!is_right || is_found(alloc, graph, rows)? && is_found_by_rounds(alloc, graph, rows)?)
+    Ok(!is_right || is_found(alloc, graph, rows)? && is_found_by_rounds(alloc, graph, 1, rows)?)
 }
 
 fn answers(alloc: Global, case: &Case) -> Result<bool, AllocError> {
@@ -222,8 +227,7 @@ fn agree_on(alloc: Global, graph: &Graph) -> Result<bool, AllocError>
     requires few { length graph.now.arcs < 2 ^ 32 }
 {
     let found = search(alloc, graph, node(0))?;
-    let plain = search_by_rounds(alloc, graph, node(0))?;
-    Ok(found.rows.as_slice() == plain.rows.as_slice() && check(graph, node(0), &found))
+    Ok(check(graph, node(0), &found) && is_found_by_rounds(alloc, graph, 0, found.rows.as_slice())?)
 }
 
 fn agree(alloc: Global, arcs: &[(u32, u32, u32)]) -> Result<bool, AllocError> {

@@ -4,10 +4,10 @@ use Rattle.std.proofs.Common.{refl, sym, subst, arith}
 use Rattle.mesh_test_program.proofs.writing.tc_is_written.Goals as goal
 
 pub write_tc-requires-clause-value : goal.write_tc-requires-clause-value
-write_tc-requires-clause-value g c = Everywhere (omega arith, omega arith)
+write_tc-requires-clause-value c = Everywhere (omega arith, omega arith)
 
 pub write_tc-requires-clause-near : goal.write_tc-requires-clause-near
-write_tc-requires-clause-near g c = sym c.empty_tc-tc.ensures.validity
+write_tc-requires-clause-near c = sym c.empty_tc-tc.ensures.validity
 
 pub write_tc-requires-clause-interval : goal.write_tc-requires-clause-interval
-write_tc-requires-clause-interval g c = subst IsSentIfSome (sym c.empty_tc-tc.ensures.interval) (98, (omega arith, omega arith), refl)
+write_tc-requires-clause-interval c = subst IsSentIfSome (sym c.empty_tc-tc.ensures.interval) (98, (omega arith, omega arith), refl)
