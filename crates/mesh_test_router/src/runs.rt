@@ -113,23 +113,39 @@ fn all_hold(rt: &impl Abort, alloc: Global, over: Over, cases: &[Case]) -> Resul
     Ok(())
 }
 
-/// Tells the first case that goes wrong of all but those that take seconds.
-fn cases_hold(rt: &impl Abort, alloc: Global, over: Over) -> Result<(), AllocError> {
+fn tables_hold(rt: &impl Abort, alloc: Global, over: Over) -> Result<(), AllocError> {
     all_hold(rt, alloc, over, &worked::CASES)?;
-    all_hold(rt, alloc, over, &callers::CASES)?;
+    all_hold(rt, alloc, over, &callers::CASES)
+}
+
+fn sets_hold(rt: &impl Abort, alloc: Global, over: Over) -> Result<(), AllocError> {
     all_hold(rt, alloc, over, &links::CASES)?;
     all_hold(rt, alloc, over, &links::BY_QUALITY)?;
     all_hold(rt, alloc, over, &losts::CASES)?;
     all_hold(rt, alloc, over, &neighbours::CASES)?;
-    all_hold(rt, alloc, over, &two_hops::CASES)?;
+    all_hold(rt, alloc, over, &two_hops::CASES)
+}
+
+fn bases_hold(rt: &impl Abort, alloc: Global, over: Over) -> Result<(), AllocError> {
     all_hold(rt, alloc, over, &messages::CASES)?;
     all_hold(rt, alloc, over, &takings::CASES)?;
     all_hold(rt, alloc, over, &neighbourhood::CASES)?;
     all_hold(rt, alloc, over, &neighbourhood::TOLD)?;
-    all_hold(rt, alloc, over, &exchange::CASES)?;
+    all_hold(rt, alloc, over, &exchange::CASES)
+}
+
+fn frames_hold(rt: &impl Abort, alloc: Global, over: Over) -> Result<(), AllocError> {
     all_hold(rt, alloc, over, &lone::CASES)?;
     all_hold(rt, alloc, over, &hears::CASES)?;
     all_hold(rt, alloc, over, &row::CASES)
+}
+
+/// Tells the first case that goes wrong of all but those that take seconds.
+fn cases_hold(rt: &impl Abort, alloc: Global, over: Over) -> Result<(), AllocError> {
+    tables_hold(rt, alloc, over)?;
+    sets_hold(rt, alloc, over)?;
+    bases_hold(rt, alloc, over)?;
+    frames_hold(rt, alloc, over)
 }
 
 /// The same of those.
