@@ -12,11 +12,21 @@ use std::marker::Model;
 
 /// A router: it hears frames, its clock ticks, and it sends frames. Moments are in ticks of 1/8192 s. After want of memory it is
 /// spent, and may only be dropped.
-#[derive(Drop)]
 pub struct Core<B: Bases> {
     pub(crate) holding: Holding<B>,
     pub(crate) derived: Derived,
     pub(crate) spent: bool,
+}
+
+// By hand, so that no crate that lets go of one has to know its parts.
+impl<B: Bases> Drop for Core<B> {
+    fn drop(self) {
+        let Core {
+            holding: _,
+            derived: _,
+            spent: _,
+        } = self;
+    }
 }
 
 impl<B: Bases> Model for Core<B> {

@@ -17,12 +17,23 @@ use std::marker::Model;
 
 /// An emulated network: the routers of a scenario, over these bases, and the frames in the air between them. Moments are in
 /// ticks of 1/8192 s. After want of memory a network is spent: every further event is refused for want of memory too.
-#[derive(Drop)]
 pub struct Net<B: Bases> {
     alloc: Global,
     cores: Vec<Core<B>>,
     scene: Scene,
     spent: bool,
+}
+
+// By hand, so that no crate that lets go of one has to know its parts.
+impl<B: Bases> Drop for Net<B> {
+    fn drop(self) {
+        let Net {
+            alloc: _,
+            cores: _,
+            scene: _,
+            spent: _,
+        } = self;
+    }
 }
 
 impl<B: Bases> Model for Net<B> {
@@ -106,7 +117,13 @@ impl<B: Bases> Net<B> {
     pub fn into_cores(self) -> Vec<Core<B>>
         ensures { states_of result.items ≡ self.net.routers }
     {
-        self.cores
+        let Net {
+            alloc: _,
+            cores,
+            scene: _,
+            spent: _,
+        } = self;
+        cores
     }
 
     /// What was counted so far.
