@@ -1,6 +1,11 @@
-use Rattle.std.proofs.Common.{◌∙◌, refl}
+use Rattle.std.proofs.Common.{◌≡◌, ◌∙◌, ℕ, [], length, refl}
 use Rattle.mesh_expire.proofs.Laws.{distinct_none}
-use Rattle.mesh_atoms.specs.Base.{flood_eq}
+use Rattle.std.specs.Prelude.{Result, Ok, Err, IfOk, IsErrAnd}
+use Rattle.std.specs.declared.alloc.AllocError.{AllocError}
+use Rattle.mesh_atoms.specs.declared.settings.RouterSettings.{RouterSettings}
+use Rattle.mesh_atoms.specs.Sound.{SoundNoted}
+use Rattle.mesh_atoms.specs.Base.{base_of, flood_eq}
+use Rattle.mesh_flood.specs.Noting.{Held}
 use Rattle.mesh_flood.proofs.Soundness.{none_sound}
 use Rattle.mesh_flood.proofs.flood.Flood.new.Goals as goal
 
@@ -28,3 +33,25 @@ returns-clause-processed g c = c.in_ok-new.ensures
 
 pub returns-clause-forwarded : goal.returns-clause-forwarded
 returns-clause-forwarded g c = c.in_ok-new-2.ensures
+
+-- nothing holds of a value that isn't made
+not_made : (settings : RouterSettings) (Q : AllocError → Type 0) (r : Result Held AllocError) → IsErrAnd r Q
+    → IfOk r (λ flood. flood.times ≡ settings.times) × IfOk r (λ flood. length flood.noted.received ≡ length settings.interfaces) × IfOk r (λ flood. (i : ℕ) → base_of flood.noted.received i ≡ [])
+    × IfOk r (λ flood. flood.noted.processed ≡ []) × IfOk r (λ flood. flood.noted.forwarded ≡ []) × IfOk r (λ flood. (now : ℕ) → SoundNoted settings now flood.noted)
+not_made settings Q (Err e) stopped = (tt, tt, tt, tt, tt, tt)
+not_made settings Q (Ok flood) stopped = absurd stopped
+
+pub returns-in_err-empty_sets : goal.returns-in_err-empty_sets
+returns-in_err-empty_sets g c =
+    let (times, interfaces, received, processed, forwarded, sound) = not_made c.args.settings.now _ c.from_residual.result c.from_residual.ensures.1 in
+    record { times = times; interfaces = interfaces; received = received; processed = processed; forwarded = forwarded; sound = sound }
+
+pub returns-in_err-new : goal.returns-in_err-new
+returns-in_err-new g c =
+    let (times, interfaces, received, processed, forwarded, sound) = not_made c.args.settings.now _ c.from_residual-in_err-new.result c.from_residual-in_err-new.ensures.1 in
+    record { times = times; interfaces = interfaces; received = received; processed = processed; forwarded = forwarded; sound = sound }
+
+pub returns-in_err-new-2 : goal.returns-in_err-new-2
+returns-in_err-new-2 g c =
+    let (times, interfaces, received, processed, forwarded, sound) = not_made c.args.settings.now _ c.from_residual-in_err-new-2.result c.from_residual-in_err-new-2.ensures.1 in
+    record { times = times; interfaces = interfaces; received = received; processed = processed; forwarded = forwarded; sound = sound }

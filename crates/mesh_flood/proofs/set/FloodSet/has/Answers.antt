@@ -1,10 +1,10 @@
-use Rattle.std.proofs.Common.{◌≡◌, Option, None}
+use Rattle.std.proofs.Common.{◌≡◌, Option, None, subst, sym}
 use Rattle.std.specs.Prelude.{IsSome, IsTrue, false}
+use Rattle.std.proofs.lemmas.Bool.{false≢true}
 use Rattle.mesh_flood.proofs.set.FloodSet.has.Goals as goal
 
 nothing : {A : Type 0} (o : Option A) → None ≡ o → IsSome o → IsTrue false
-nothing None is some = some
-nothing o is some = absurd (let e = is in cc)
+nothing {A} o is some = subst (λ (p : Option A). IsSome p) (sym is) some
 
 pub returns-in-None : goal.returns-in-None
-returns-in-None g c = rw (← c.self.view_is) (λ e. absurd (cc), λ h. nothing _ c.in-None.ensures h)
+returns-in-None g c = rw (← c.self.view_is) (λ e. absurd (false≢true e), λ h. nothing _ c.in-None.ensures h)
