@@ -100,6 +100,25 @@ module _ (s : Scenario) (g : RadioGraph) (is : IsRadioGraph s g) (states : List 
   joint_found None none = λ joint with. none joint (of_joint joint with)
   joint_found (Some joint) some = joint_there some.0 joint some.1 some.2
 
+-- Pairs that lead back
+module _ (pairs : List Pair) (pair : Pair) where
+  pub back_here : (i : ℕ) (back : Pair) → slice_get pairs i ≡ Some back → back.from ≡ pair.to → back.from_iface ≡ pair.to_iface → back.to ≡ pair.from → back.to_iface ≡ pair.from_iface →
+      IsBack pairs pair back.metric
+  back_here i back at from from_iface to to_iface = rw (← from, ← from_iface, ← to, ← to_iface) (Contains_at pairs i back at)
+
+  -- what stands before place i doesn't lead back
+  abbrev pub NoBackBefore : ℕ → Type 0
+  NoBackBefore i = (k : ℕ) (back : Pair) → k < i → slice_get pairs k ≡ Some back → back.from ≡ pair.to → back.from_iface ≡ pair.to_iface → back.to ≡ pair.from → back.to_iface ≡ pair.from_iface → ⊥
+
+  pub not_back : (i : ℕ) (e : Pair) → slice_get pairs i ≡ Some e → (e.from ≡ pair.to → e.from_iface ≡ pair.to_iface → e.to ≡ pair.from → e.to_iface ≡ pair.from_iface → ⊥) → NoBackBefore i → NoBackBefore (i + 1)
+  not_back i e at other before k back less there = elim (cases_eq k i) [
+    | inl same ↦ subst (λ (x : Pair). x.from ≡ pair.to → x.from_iface ≡ pair.to_iface → x.to ≡ pair.from → x.to_iface ≡ pair.from_iface → ⊥) (some_same at (ap (λ (n : ℕ). slice_get pairs n) (sym same) ∙ there)) other
+    | inr ne ↦ before k back (omega (arith, less, ne)) there
+  ]
+
+  pub no_back : (i : ℕ) → length pairs ≤ i → NoBackBefore i → (m : Metric) → IsBack pairs pair m → ⊥
+  no_back i end before m has = let w = place_in pairs _ has in before w.0 _ (omega (arith, w.1, end)) w.2 refl refl refl refl
+
 -- Searches
 module _ {A B : Type 0} (P : A → B → Type 0) (list : List A) where
   -- what stands before place i gives nothing

@@ -4,6 +4,12 @@ use Rattle.mesh_two_hops.proofs.keyed.put_keyed.Goals as goal
 pub returns-in_err-note_key-clause-knows : goal.returns-in_err-note_key-clause-knows
 returns-in_err-note_key-clause-knows g c = c.note_key.ensures.knows
 
+pub note_key-requires : goal.note_key-requires
+note_key-requires g c = c.requires.knows
+
+pub returns-in_err-note_key-clause-distinct : goal.returns-in_err-note_key-clause-distinct
+returns-in_err-note_key-clause-distinct g c = c.requires.distinct
+
 pub returns-clause-knows : goal.returns-clause-knows
 returns-clause-knows g c =
     by_result _ _ _ c.put.result c.put.ensures.ok c.put.ensures.err
