@@ -1,4 +1,4 @@
-use Rattle.std.proofs.Common.{◌≡◌, ℕ, refl, sym}
+use Rattle.std.proofs.Common.{◌≡◌, ℕ, refl, sym, arith}
 use Rattle.mesh_io.specs.declared.sinks.Put.{Put}
 use Rattle.mesh_io.specs.declared.sinks.Put.TheVariants.{Took, Failed}
 use Rattle.mesh_io.proofs.memory.MemSinkSink.put.Goals as goal
@@ -27,3 +27,10 @@ returns-clause-whole c = λ n e. sym (same_count _ n e)
 
 pub returns-clause-fails : goal.returns-clause-fails
 returns-clause-fails c = rw (← c.self.view_is) refl
+
+pub returns-then-bytes-room-clause-cause : goal.returns-then-bytes-room-clause-cause
+returns-then-bytes-room-clause-cause c =
+    rw (← c.self.view_is) (omega (arith, c.saturating_add-self-inside-then-bytes-room.ensures), omega (arith, c.saturating_add-self-inside-then-bytes-room.ensures))
+
+pub returns-clause-cause : goal.returns-clause-cause
+returns-clause-cause c = rw (← c.self.view_is) (omega arith)
