@@ -67,6 +67,43 @@ fn take_all(
     all_flags(alloc, willing)
 }
 
+/// Flags by which neighbours are taken before any is left out.
+fn take_first(
+    alloc: Global,
+    graph: &NeighbourGraph,
+    willing: &[Near],
+    ways: &[Way],
+    greedily: bool,
+) -> Result<Vec<bool>, AllocError>
+    requires willing { AreWilling graph.now willing.now }
+    requires ways { AreWays graph.now willing.now ways.now }
+    ensures length { IfOk result (λ taken. length taken.items ≡ length willing.now) }
+    ensures covers { IfOk result (λ taken. Covers graph.now (ids_of willing.now taken.items)) }
+{
+    if greedily {
+        take_greedily(alloc, graph, willing, ways)
+    } else {
+        take_all(alloc, graph, willing, ways)
+    }
+}
+
+/// Takes neighbours, and leaves out those that the others make up for.
+fn choose_from(
+    alloc: Global,
+    graph: &NeighbourGraph,
+    greedily: bool,
+) -> Result<Seq<Addr4>, AllocError>
+    requires { HasDistinctIds graph.now }
+    ensures covers { IfOk result (Covers graph.now) }
+    ensures needed { IfOk result (Needed graph.now) }
+    ensures order { IfOk result IsAscending }
+{
+    let willing = willing_of(alloc, graph)?;
+    let ways = ways_of(alloc, graph, &willing)?;
+    let mut taken = take_first(alloc, graph, &willing, &ways, greedily)?;
+    reduced(alloc, graph, &willing, &ways, &mut taken)
+}
+
 /// Relays for the graph (RFC 7181, sections 18.3 and 18.6): ids in ascending order that cover, each of which is needed. All willing
 /// neighbours are taken, and then those that the others make up for are left out, the greatest id first. The order of the
 /// graph's lists has no say. Ids must be distinct. Only want of memory refuses.
@@ -76,10 +113,7 @@ pub fn choose_by_dropping(alloc: Global, graph: &NeighbourGraph) -> Result<Seq<A
     ensures needed { IfOk result (Needed graph.now) }
     ensures order { IfOk result IsAscending }
 {
-    let willing = willing_of(alloc, graph)?;
-    let ways = ways_of(alloc, graph, &willing)?;
-    let mut taken = take_all(alloc, graph, &willing, &ways)?;
-    reduced(alloc, graph, &willing, &ways, &mut taken)
+    choose_from(alloc, graph, false)
 }
 
 /// Relays for the graph (RFC 7181, sections 18.3 and 18.6): ids in ascending order that cover, each of which is needed. The
@@ -94,8 +128,5 @@ pub fn choose(alloc: Global, graph: &NeighbourGraph) -> Result<Seq<Addr4>, Alloc
     ensures needed { IfOk result (Needed graph.now) }
     ensures order { IfOk result IsAscending }
 {
-    let willing = willing_of(alloc, graph)?;
-    let ways = ways_of(alloc, graph, &willing)?;
-    let mut taken = take_greedily(alloc, graph, &willing, &ways)?;
-    reduced(alloc, graph, &willing, &ways, &mut taken)
+    choose_from(alloc, graph, true)
 }

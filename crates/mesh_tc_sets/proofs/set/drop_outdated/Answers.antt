@@ -1,4 +1,5 @@
 use Rattle.std.proofs.Common.{◌≡◌, Bool, false, List, [], ◌∷◌, length, refl, sym, ap, cond, arith, ◌∙◌}
+use Rattle.std.proofs.lemmas.Bool.{false≢true}
 use Rattle.std.specs.Prelude.{None}
 use Rattle.std.specs.List.{list_any}
 use Rattle.mesh_atoms.specs.Base.{find}
@@ -48,6 +49,6 @@ returns g c =
           ∙ ap (λ keys. cond (list_any (eq q) keys) None (find eq before q)) c.as_slice.ensures
           ∙ ap (λ out. cond out None (find eq before q)) (c.in_ok-found.ensures q)
           ∙ left_at eq c.args.tc.now g.V.Tuple.origin g.V.Tuple.number c.if-not-tc.false before q;
-      same = λ e. absurd cc;
+      same = λ e. absurd (false≢true (sym e));
       count = c.remove_all.ensures.count;
     }
