@@ -1,7 +1,7 @@
-use Rattle.std.proofs.Common.{◌≡◌, ℕ, ◌+◌, ◌<◌, List, [], ◌∷◌, ◌++◌, Option, Some, None, length, drop, get_or, sym, ap, subst, ◌∙◌}
+use Rattle.std.proofs.Common.{◌≡◌, ℕ, ◌+◌, ◌<◌, ◌≤◌, List, [], ◌∷◌, ◌++◌, Option, Some, None, length, drop, get_or, sym, ap, subst, ◌∙◌}
 use Rattle.std.specs.Prelude.{filter_map}
 use Rattle.std.specs.List.{cons_option}
-use Rattle.std.proofs.lemmas.List.{at_drop_more, append_assoc}
+use Rattle.std.proofs.lemmas.List.{append-nil, at_drop_more, at_drop_all, append_assoc}
 use Rattle.mesh_atoms.specs.declared.graphs.Far.{Far}
 use Rattle.mesh_relay.specs.declared.ways.Way.{Way}
 use Rattle.mesh_relay.specs.Ways.{way_from}
@@ -43,3 +43,10 @@ loop-far-preserved c =
             c.way_by.ensures.way w.in_default.is c.loop-far.invariant.ways)
       ];
     }
+
+pub returns : goal.returns
+returns c =
+    let ways = c.loop-far.ways.items in
+    let past : length c.args.graph.now.far ≤ c.loop-far.far-index = subst (λ (l : List Far). length l ≤ c.loop-far.far-index) c.as_slice-far-items.ensures c.loop-far-test.false in
+    sym (append-nil ways)
+    ∙ (ap (λ (l : List Way). ways ++ l) (sym (at_drop_all (filter_map (λ f. way_from c.args.graph.now 0 c.args.willing.now f)) c.args.graph.now.far c.loop-far.far-index past)) ∙ c.loop-far.invariant.ways)

@@ -1,0 +1,40 @@
+-- A pass over a list that ends at the first element that settles the answer.
+use Rattle.std.proofs.Common.{◌≡◌, ℕ, ◌+◌, ◌<◌, ◌≤◌, Bool, true, false, not, ◌&&◌, ◌||◌, List, [], ◌∷◌, length, drop, get_or, refl, sym, ap, subst, ◌∙◌}
+use Rattle.std.specs.List.{list_any, list_all}
+use Rattle.std.proofs.lemmas.List.{at_drop_more, at_drop_all}
+use Rattle.std.proofs.lemmas.List.Folds.{list_any_at, list_all_at}
+
+module _ {X : Type 0} (p : X → Bool) (items xs : List X) (same : items ≡ xs) (i : ℕ) where
+  module _ (d : X) (lt : i < length items) where
+    within : i < length xs
+    within = subst (λ (l : List X). i < length l) same lt
+
+    at : (b : Bool) → p (get_or items i d) ≡ b → p (get_or xs i d) ≡ b
+    at b h = ap (λ (l : List X). p (get_or l i d)) (sym same) ∙ h
+
+    pub any_found : p (get_or items i d) ≡ true → true ≡ list_any p xs
+    any_found h = sym (list_any_at p xs i d within (at true h))
+
+    pub all_failed : p (get_or items i d) ≡ false → false ≡ list_all p xs
+    all_failed h = sym (list_all_at p xs i d within (at false h))
+
+    pub any_next : p (get_or items i d) ≡ false → list_any p (drop i xs) ≡ list_any p xs → list_any p (drop (i + 1) xs) ≡ list_any p xs
+    any_next h rest = ap (λ (b : Bool). b || list_any p (drop (i + 1) xs)) (sym (at false h)) ∙ sym (at_drop_more (list_any p) xs i d within) ∙ rest
+
+    pub all_next : p (get_or items i d) ≡ true → list_all p (drop i xs) ≡ list_all p xs → list_all p (drop (i + 1) xs) ≡ list_all p xs
+    all_next h rest = ap (λ (b : Bool). b && list_all p (drop (i + 1) xs)) (sym (at true h)) ∙ sym (at_drop_more (list_all p) xs i d within) ∙ rest
+
+  pub any_end : length items ≤ i → list_any p (drop i xs) ≡ list_any p xs → false ≡ list_any p xs
+  any_end past rest = sym (at_drop_all (list_any p) xs i (subst (λ (l : List X). length l ≤ i) same past)) ∙ rest
+
+  pub all_end : length items ≤ i → list_all p (drop i xs) ≡ list_all p xs → true ≡ list_all p xs
+  all_end past rest = sym (at_drop_all (list_all p) xs i (subst (λ (l : List X). length l ≤ i) same past)) ∙ rest
+
+pub both : (a b : Bool) → a ≡ true → b ≡ true → (a && b) ≡ true
+both a b ha hb = rw (ha, hb) refl
+
+pub unless_one : (a b : Bool) → a ≡ true → b ≡ false → (not a || b) ≡ false
+unless_one a b ha hb = rw (ha, hb) refl
+
+pub unless_two : (a b c : Bool) → a ≡ true → b ≡ true → c ≡ false → (not a || not b || c) ≡ false
+unless_two a b c ha hb hc = rw (ha, hb, hc) refl

@@ -1,0 +1,10 @@
+use Rattle.std.proofs.Common.{sym, ◌∙◌, eq-eqb}
+use Rattle.mesh_relay.proofs.Passes.{any_found, both, any_end}
+use Rattle.mesh_relay.proofs.sets.is_led_to_within.Goals as goal
+
+pub returns-then-leads : goal.returns-then-leads
+returns-then-leads c = any_found _ c.as_slice-far-items.result.now c.args.graph.now.far c.as_slice-far-items.ensures c.loop-far.far-index _ c.loop-far-test.true
+    (both _ _ (eq-eqb _ _ c.if-far-addr.true) (sym c.leads.ensures ∙ c.if-leads.true))
+
+pub returns : goal.returns
+returns c = any_end _ c.as_slice-far-items.result.now c.args.graph.now.far c.as_slice-far-items.ensures c.loop-far.far-index c.loop-far-test.false c.loop-far.invariant
