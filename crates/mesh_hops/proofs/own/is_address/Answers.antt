@@ -1,4 +1,5 @@
-use Rattle.std.proofs.Common.{◌≡◌, true, Contains}
+use Rattle.std.proofs.Common.{Contains, sym, ◌∙◌}
+use Rattle.std.proofs.lemmas.Bool.{false≢true}
 use Rattle.std.proofs.lemmas.List.Elements.{AllWithin-more, at_read}
 use Rattle.mesh_atoms.specs.declared.settings.Interface.{Interface}
 use Rattle.mesh_paths.proofs.Rows.{yes, no, item_in, of_each}
@@ -12,7 +13,7 @@ loop-interface-preserved c =
     let P : Interface → Type 0 = λ i. Contains i.addrs c.args.addr → ⊥ in
     AllWithin-more P c.args.interfaces.now 0 c.loop-interface.interface-index c.loop-interface.invariant
     (at_read c.args.interfaces.now P c.loop-interface.interface-index c.interface-item.result c.loop-interface-test.true c.interface-item.is
-    (λ h. let t : c.has_address.result ≡ true = c.has_address.ensures.1 h in (cc)))
+    (λ h. false≢true (sym c.if-has_address.false ∙ c.has_address.ensures.1 h)))
 
 pub returns : goal.returns
 returns c = no (λ w. of_each (λ (i : Interface). Contains i.addrs c.args.addr → ⊥) c.args.interfaces.now c.loop-interface.interface-index c.loop-interface-test.false c.loop-interface.invariant w.0 w.1 w.2)

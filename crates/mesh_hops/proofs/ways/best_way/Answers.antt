@@ -1,4 +1,5 @@
-use Rattle.std.proofs.Common.{◌≡◌, true}
+use Rattle.std.proofs.Common.{sym, ◌∙◌}
+use Rattle.std.proofs.lemmas.Bool.{false≢true}
 use Rattle.mesh_hops.proofs.WayOrder.{range_none, range_best, range_first}
 use Rattle.mesh_hops.proofs.ways.best_way.Goals as goal
 
@@ -14,4 +15,4 @@ returns-then-leads_to-clause-best c = range_best c.args.ways.now c.least_way.res
 pub returns-clause-none : goal.returns-clause-none
 returns-clause-none c = range_first c.args.ways.now c.least_way.result c.args.originator c.range.result (c.range.ensures.in_range tt)
     c.least_way.ensures.originator c.least_way.ensures.metric c.least_way.ensures.iface c.least_way.ensures.next _ _ c.in-Some.ensures.steps
-    (λ e. let yes : c.leads_to.result ≡ true = c.leads_to.ensures.1 e in (cc))
+    (λ e. false≢true (sym c.if-leads_to.false ∙ c.leads_to.ensures.1 e))
