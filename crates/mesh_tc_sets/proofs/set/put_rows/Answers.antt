@@ -1,4 +1,4 @@
-use Rattle.std.proofs.Common.{◌≡◌, ℕ, ◌+◌, ◌≤◌, List, Option, length, take, count_by, is_some, refl, ap, subst, arith}
+use Rattle.std.proofs.Common.{◌≡◌, ℕ, ◌+◌, ◌≤◌, List, Option, length, count_by, is_some, refl, ap, subst, arith}
 use Rattle.std.proofs.lemmas.List.{take_all}
 use Rattle.mesh_atoms.specs.declared.tc.TcRow.{TcRow}
 use Rattle.mesh_atoms.specs.Base.{find}
