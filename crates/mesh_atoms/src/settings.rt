@@ -63,7 +63,6 @@ pub struct SenderMetric {
 /// An interface of a router: its name of 1 to 16 lower case letters and digits, its 1 to 4 addresses other than 0.0.0.0,
 /// the metric of what it receives: that of the sender where there is one, else its own; and which of its links are admitted, by
 /// the qualities of the same senders. No sender stands twice.
-#[derive(Drop)]
 pub struct Interface {
     pub name: Bytes,
     pub addrs: Seq<Addr4>,
@@ -74,6 +73,19 @@ pub struct Interface {
     pub ghost few_senders: { length senders ≤ 4096 },
     pub ghost distinct_senders: { IsTrue (are_distinct addr_eq (map (λ s. s.sender) senders)) },
     pub ghost same_senders: { map (λ s. s.sender) admit.senders ≡ map (λ s. s.sender) senders },
+}
+
+// By hand, so that no crate that lets go of one has to know its parts.
+impl Drop for Interface {
+    fn drop(self) {
+        let Interface {
+            name: _,
+            addrs: _,
+            metric: _,
+            senders: _,
+            admit: _,
+        } = self;
+    }
 }
 
 impl Interface {
@@ -112,7 +124,6 @@ pub struct NearHold {
 /// distinct networks that it attaches, none of them one of its addresses. The moments of its first HELLO and its first
 /// TC are in ticks of 1/8192 s, up to 29,491,200 (an hour). A TC of it has at most `tc_rows` rows, from 1 to 1,088, and near
 /// routers hold it for other times than far ones: at most 8 near holds, in order of their hops, no two at one number.
-#[derive(Drop)]
 pub struct RouterSettings {
     pub name: Bytes,
     pub willing: Willing,
@@ -127,6 +138,23 @@ pub struct RouterSettings {
     pub ghost rows_in_range: { IsCount 1 1088 tc_rows },
     pub ghost few_near_holds: { length near_hold ≤ 8 },
     pub ghost near_holds_in_order: { IsTrue (are_ascending (map (λ n. n.hops) near_hold)) },
+}
+
+// By hand, so that no crate that lets go of one has to know its parts.
+impl Drop for RouterSettings {
+    fn drop(self) {
+        let RouterSettings {
+            name: _,
+            willing: _,
+            hello_at: _,
+            tc_at: _,
+            times: _,
+            interfaces: _,
+            attached: _,
+            tc_rows: _,
+            near_hold: _,
+        } = self;
+    }
 }
 
 impl RouterSettings {

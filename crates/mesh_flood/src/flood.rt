@@ -18,12 +18,23 @@ use std::marker::Model;
 
 /// The received sets of a router's interfaces, its processed and its forwarded set (RFC 7181, section 11), and the times
 /// for which their tuples are held. Moments are in ticks of 1/8192 s.
-#[derive(Drop)]
 pub struct Flood<B: Bases> {
     times: Times,
     received: Vec<FloodSet<B::Received>>,
     processed: FloodSet<B::Processed>,
     forwarded: FloodSet<B::Forwarded>,
+}
+
+// By hand, so that no crate that lets go of one has to know its parts.
+impl<B: Bases> Drop for Flood<B> {
+    fn drop(self) {
+        let Flood {
+            times: _,
+            received: _,
+            processed: _,
+            forwarded: _,
+        } = self;
+    }
 }
 
 impl<B: Bases> Model for Flood<B> {

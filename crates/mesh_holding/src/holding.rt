@@ -16,11 +16,21 @@ use std::marker::Model;
 
 /// The bases of a router: its neighbourhood, its topology, and the messages seen before. Moments are in ticks of 1/8192 s. After
 /// want of memory the value may only be dropped.
-#[derive(Drop)]
 pub struct Holding<B: Bases> {
     pub(crate) nhdp: Nhdp<B>,
     pub(crate) topology: Topology<B>,
     pub(crate) flood: Flood<B>,
+}
+
+// By hand, so that no crate that lets go of one has to know its parts.
+impl<B: Bases> Drop for Holding<B> {
+    fn drop(self) {
+        let Holding {
+            nhdp: _,
+            topology: _,
+            flood: _,
+        } = self;
+    }
 }
 
 impl<B: Bases> Model for Holding<B> {

@@ -13,13 +13,25 @@ use std::marker::Model;
 
 /// The neighbourhood of a router, with its settings. Moments are in ticks of 1/8192 s. After want of memory it may only be
 /// dropped.
-#[derive(Drop)]
 pub struct Nhdp<B: Bases> {
     pub(crate) settings: RouterSettings,
     pub(crate) links: Vec<LinkSet<B::Links>>,
     pub(crate) two_hops: Vec<TwoHopSet<B::TwoHops>>,
     pub(crate) neighbours: NeighbourSet<B::Neighbours>,
     pub(crate) losts: LostSet<B::Losts>,
+}
+
+// By hand, so that no crate that lets go of one has to know its parts.
+impl<B: Bases> Drop for Nhdp<B> {
+    fn drop(self) {
+        let Nhdp {
+            settings: _,
+            links: _,
+            two_hops: _,
+            neighbours: _,
+            losts: _,
+        } = self;
+    }
 }
 
 impl<B: Bases> Model for Nhdp<B> {

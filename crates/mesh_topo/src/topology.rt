@@ -32,12 +32,23 @@ pub enum TcTaken {
 }
 
 /// The four sets of the topology (RFC 7181, section 10): who advertises, and what. Moments are in ticks of 1/8192 s.
-#[derive(Drop)]
 pub struct Topology<B: Bases> {
     advertisers: B::Advertisers,
     routers: KeyedSet<RouterKey, RouterTuple, B::Routers>,
     addresses: KeyedSet<AddressKey, AddressTuple, B::Addresses>,
     networks: KeyedSet<NetworkKey, NetworkTuple, B::Networks>,
+}
+
+// By hand, so that no crate that lets go of one has to know its parts.
+impl<B: Bases> Drop for Topology<B> {
+    fn drop(self) {
+        let Topology {
+            advertisers: _,
+            routers: _,
+            addresses: _,
+            networks: _,
+        } = self;
+    }
 }
 
 impl<B: Bases> Model for Topology<B> {
