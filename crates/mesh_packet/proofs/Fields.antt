@@ -2,12 +2,14 @@
 use Rattle.std.proofs.Common.{◌≡◌, ℕ, ◌+◌, ◌*◌, ◌<◌, ◌≤◌, Bool, true, false, List, [], ◌∷◌, length, Option, Some, None, Ok, refl, sym, ap, subst, ◌∙◌, arith}
 use Rattle.std.specs.Prelude.{MatchResult, slice_range}
 use Rattle.mesh_atoms.specs.declared.refusal.Refusal.{Refusal}
+use Rattle.mesh_atoms.specs.Grammar.{SpellsShort}
 use Rattle.mesh_atoms.specs.Reading.{Reading, refuse, octet_at, short_at, piece_at}
 use Rattle.mesh_atoms.proofs.Reading.{meets_bind, Takes, takes_none, Stands, octet_takes, octet_again, octet_cut, short_takes, short_again, short_cut, two_long, piece_takes, piece_again, piece_cut}
 use Rattle.mesh_addr.specs.declared.records.RawAddr.{RawAddr}
 use Rattle.mesh_addr.specs.Grammar.{padded}
-use Rattle.mesh_packet.specs.Grammar.{SpellsOctet, SpellsNumber, SpellsOriginator, size_if}
-use Rattle.mesh_packet.specs.Reading.{octet_if, short_if, originator_if}
+use Rattle.mesh_tlv.proofs.Items.{meets_weaker}
+use Rattle.mesh_packet.specs.Grammar.{SpellsIf, SpellsOctet, SpellsNumber, SpellsAddress, SpellsOriginator, size_if}
+use Rattle.mesh_packet.specs.Reading.{if_flagged, octet_if, short_if, address_at, originator_if}
 
 -- the fault of a field that is cut off
 abbrev pub IsCut : List ℕ → ℕ → ℕ → ℕ → Refusal → Type 0
@@ -26,127 +28,95 @@ pub record IsField {A : Type 0} (read : List ℕ → ℕ → ℕ → Reading A) 
   pub long : (x : A) (text : List ℕ) → Says x text → length text ≡ size
   pub some : (text : List ℕ) → length text ≡ size → (x : A) × Says x text
 
-pub octet_field : (set : Bool) → IsField (octet_if set) (SpellsOctet set) (size_if set 1)
-unfolding octet_if
-octet_field true = record {
-  takes = λ s at end le fits. meets_bind (octet_at 1 s at end) _ _ (Took s at end (SpellsOctet true)) _ (IsCut s at end 1) (octet_takes 1 s at end fits) (λ e h. (h.0, omega (arith, ap length h.1))) (λ x t. (x.0 ∷ [], refl, t));
+-- what is read so is read so where it is flagged
+pub flagged : {A : Type 0} (set : Bool) (read : List ℕ → ℕ → ℕ → Reading A) (Says : A → List ℕ → Type 0) (size : ℕ) → IsField read Says size → IsField (λ s at end. if_flagged set at (read s at end)) (SpellsIf set Says) (size_if set size)
+unfolding if_flagged
+flagged {A} true read Says size field = record {
+  takes = λ s at end le fits. meets_bind (read s at end) _ _ (Took s at end (SpellsIf true Says)) _ (IsCut s at end size) (field.takes s at end le fits) (λ e h. h) (λ x t. t);
   again = again;
-  cut = λ s at end fits short. rw (octet_cut 1 s at end fits (none (slice_range s at end) short)) refl;
+  cut = λ s at end fits short. rw (field.cut s at end fits short) refl;
+  long = long;
+  some = λ text e. let x = field.some text e in (Some x.0, x.1);
+} where
+  again : (s : List ℕ) (at : ℕ) (x : Option A) (text rest : List ℕ) (end : ℕ) → Stands s at text rest end → SpellsIf true Says x text → if_flagged true at (read s at end) ≡ Ok (x, at + length text)
+  again s at (Some n) text rest end h e = rw (field.again s at n text rest end h e) refl
+  again s at None text rest end h e = absurd e
+
+  long : (x : Option A) (text : List ℕ) → SpellsIf true Says x text → length text ≡ size
+  long (Some n) text e = field.long n text e
+  long None text e = absurd e
+flagged {A} false read Says size field = record {
+  takes = λ s at end le fits. ([], refl, takes_none s at end le);
+  again = again;
+  cut = λ s at end fits short. absurd (omega arith);
   long = long;
   some = some;
 } where
-  again : (s : List ℕ) (at : ℕ) (x : Option ℕ) (text rest : List ℕ) (end : ℕ) → Stands s at text rest end → SpellsOctet true x text → octet_if true s at end ≡ Ok (x, at + length text)
-  again s at (Some n) text rest end h e = rw (octet_again 1 s at end n rest h.fits (rw e at h.parts), e) refl
-  again s at None text rest end h e = absurd e
+  again : (s : List ℕ) (at : ℕ) (x : Option A) (text rest : List ℕ) (end : ℕ) → Stands s at text rest end → SpellsIf false Says x text → if_flagged false at (read s at end) ≡ Ok (x, at + length text)
+  again s at None text rest end h e = let z : at ≡ at + length text = omega (arith, ap length e) in ap (λ (k : ℕ). Ok (None, k)) z
+  again s at (Some n) text rest end h e = absurd e
 
+  long : (x : Option A) (text : List ℕ) → SpellsIf false Says x text → length text ≡ 0
+  long None text e = ap length e
+  long (Some n) text e = absurd e
+
+  some : (text : List ℕ) → length text ≡ 0 → (x : Option A) × SpellsIf false Says x text
+  some [] e = (None, refl)
+  some (n ∷ l) e = absurd (omega arith)
+
+octet : IsField (octet_at 1) (λ n bytes. bytes ≡ n ∷ []) 1
+octet = record {
+  takes = λ s at end le fits. meets_weaker (octet_at 1 s at end) _ (Took s at end (λ n bytes. bytes ≡ n ∷ [])) _ (IsCut s at end 1) (octet_takes 1 s at end fits) (λ x t. (x.0 ∷ [], refl, t)) (λ e h. (h.0, omega (arith, ap length h.1)));
+  again = λ s at n text rest end h e. rw (octet_again 1 s at end n rest h.fits (rw e at h.parts), e) refl;
+  cut = λ s at end fits short. octet_cut 1 s at end fits (none (slice_range s at end) short);
+  long = λ n text e. ap length e;
+  some = some;
+} where
   none : (l : List ℕ) → length l < 1 → l ≡ []
   none [] h = refl
   none (x ∷ l) h = absurd (omega arith)
 
-  long : (x : Option ℕ) (text : List ℕ) → SpellsOctet true x text → length text ≡ 1
-  long (Some n) text e = ap length e
-  long None text e = absurd e
-
-  some : (text : List ℕ) → length text ≡ 1 → (x : Option ℕ) × SpellsOctet true x text
-  some (n ∷ []) e = (Some n, refl)
+  some : (text : List ℕ) → length text ≡ 1 → (n : ℕ) × (text ≡ n ∷ [])
+  some (n ∷ []) e = (n, refl)
   some [] e = absurd (omega arith)
   some (n ∷ m ∷ l) e = absurd (omega arith)
-octet_field false = record {
-  takes = λ s at end le fits. ([], refl, takes_none s at end le);
-  again = again;
-  cut = λ s at end fits short. absurd (omega arith);
-  long = long;
+
+pub octet_field : (set : Bool) → IsField (octet_if set) (SpellsOctet set) (size_if set 1)
+octet_field set = flagged set (octet_at 1) (λ n bytes. bytes ≡ n ∷ []) 1 octet
+
+short : IsField (short_at 1) SpellsShort 2
+short = record {
+  takes = λ s at end le fits. short_takes 1 s at end fits;
+  again = λ s at n text rest end h e. rw (short_again 1 s at end n text rest h.fits e h.parts, two_long n text e) refl;
+  cut = λ s at end fits cut. short_cut 1 s at end fits cut;
+  long = two_long;
   some = some;
 } where
-  again : (s : List ℕ) (at : ℕ) (x : Option ℕ) (text rest : List ℕ) (end : ℕ) → Stands s at text rest end → SpellsOctet false x text → octet_if false s at end ≡ Ok (x, at + length text)
-  again s at None text rest end h e = let z : at ≡ at + length text = omega (arith, ap length e) in ap (λ (k : ℕ). Ok (None, k)) z
-  again s at (Some n) text rest end h e = absurd e
-
-  long : (x : Option ℕ) (text : List ℕ) → SpellsOctet false x text → length text ≡ 0
-  long None text e = ap length e
-  long (Some n) text e = absurd e
-
-  some : (text : List ℕ) → length text ≡ 0 → (x : Option ℕ) × SpellsOctet false x text
-  some [] e = (None, refl)
-  some (n ∷ l) e = absurd (omega arith)
-
-pub number_field : (set : Bool) → IsField (short_if set) (SpellsNumber set) (size_if set 2)
-unfolding short_if
-number_field true = record {
-  takes = λ s at end le fits. meets_bind (short_at 1 s at end) _ _ (Took s at end (SpellsNumber true)) _ (IsCut s at end 2) (short_takes 1 s at end fits) (λ e h. h) (λ x t. t);
-  again = again;
-  cut = λ s at end fits short. rw (short_cut 1 s at end fits short) refl;
-  long = long;
-  some = some;
-} where
-  again : (s : List ℕ) (at : ℕ) (x : Option ℕ) (text rest : List ℕ) (end : ℕ) → Stands s at text rest end → SpellsNumber true x text → short_if true s at end ≡ Ok (x, at + length text)
-  again s at (Some n) text rest end h e = rw (short_again 1 s at end n text rest h.fits e h.parts, two_long n text e) refl
-  again s at None text rest end h e = absurd e
-
-  long : (x : Option ℕ) (text : List ℕ) → SpellsNumber true x text → length text ≡ 2
-  long (Some n) text e = two_long n text e
-  long None text e = absurd e
-
-  some : (text : List ℕ) → length text ≡ 2 → (x : Option ℕ) × SpellsNumber true x text
-  some (a ∷ b ∷ []) e = (Some (256 * a + b), (a, b, refl, refl))
+  some : (text : List ℕ) → length text ≡ 2 → (n : ℕ) × SpellsShort n text
+  some (a ∷ b ∷ []) e = (256 * a + b, (a, b, refl, refl))
   some [] e = absurd (omega arith)
   some (a ∷ []) e = absurd (omega arith)
   some (a ∷ b ∷ c ∷ l) e = absurd (omega arith)
-number_field false = record {
-  takes = λ s at end le fits. ([], refl, takes_none s at end le);
-  again = again;
-  cut = λ s at end fits short. absurd (omega arith);
-  long = long;
-  some = some;
-} where
-  again : (s : List ℕ) (at : ℕ) (x : Option ℕ) (text rest : List ℕ) (end : ℕ) → Stands s at text rest end → SpellsNumber false x text → short_if false s at end ≡ Ok (x, at + length text)
-  again s at None text rest end h e = let z : at ≡ at + length text = omega (arith, ap length e) in ap (λ (k : ℕ). Ok (None, k)) z
-  again s at (Some n) text rest end h e = absurd e
 
-  long : (x : Option ℕ) (text : List ℕ) → SpellsNumber false x text → length text ≡ 0
-  long None text e = ap length e
-  long (Some n) text e = absurd e
-
-  some : (text : List ℕ) → length text ≡ 0 → (x : Option ℕ) × SpellsNumber false x text
-  some [] e = (None, refl)
-  some (n ∷ l) e = absurd (omega arith)
+pub number_field : (set : Bool) → IsField (short_if set) (SpellsNumber set) (size_if set 2)
+number_field set = flagged set (short_at 1) SpellsShort 2 short
 
 same : (a : RawAddr) (octets : List ℕ) (prefix : ℕ) → a.octets ≡ octets → a.prefix ≡ prefix → record { octets = octets; prefix = prefix } ≡ a
 same a octets prefix h k = ap (λ (l : List ℕ). record { octets = l; prefix = prefix }) (sym h) ∙ ap (λ (n : ℕ). record { octets = a.octets; prefix = n }) (sym k)
 
-pub originator_field : (set : Bool) (width : ℕ) → IsField (originator_if set width) (SpellsOriginator set width) (size_if set width)
-unfolding originator_if
-originator_field true width = record {
-  takes = λ s at end le fits. meets_bind (piece_at 1 s at end width) _ _ (Took s at end (SpellsOriginator true width)) _ (IsCut s at end width) (piece_takes 1 s at end width le fits) (λ e h. h) (λ x t. (x.0, (t.0, refl, refl), t.1));
+address : (width : ℕ) → IsField (address_at width) (SpellsAddress width) width
+unfolding address_at
+address width = record {
+  takes = λ s at end le fits. meets_bind (piece_at 1 s at end width) _ _ (Took s at end (SpellsAddress width)) _ (IsCut s at end width) (piece_takes 1 s at end width le fits) (λ e h. h) (λ x t. (x.0, (t.0, refl, refl), t.1));
   again = again;
-  cut = λ s at end fits short. rw (piece_cut 1 s at end width fits short) refl;
-  long = long;
-  some = λ text e. (Some (record { octets = padded text; prefix = 8 * width }), (e, refl, refl));
+  cut = λ s at end fits cut. rw (piece_cut 1 s at end width fits cut) refl;
+  long = λ a text e. e.0;
+  some = λ text e. (record { octets = padded text; prefix = 8 * width }, (e, refl, refl));
 } where
-  again : (s : List ℕ) (at : ℕ) (x : Option RawAddr) (text rest : List ℕ) (end : ℕ) → Stands s at text rest end → SpellsOriginator true width x text → originator_if true width s at end ≡ Ok (x, at + length text)
-  again s at (Some a) text rest end h e =
+  again : (s : List ℕ) (at : ℕ) (a : RawAddr) (text rest : List ℕ) (end : ℕ) → Stands s at text rest end → SpellsAddress width a text → address_at width s at end ≡ Ok (a, at + length text)
+  again s at a text rest end h e =
       let piece : piece_at 1 s at end width ≡ Ok (text, at + length text) = subst (λ (n : ℕ). piece_at 1 s at end n ≡ Ok (text, at + length text)) e.0 (piece_again 1 s at text rest end h) in
-      rw piece (ap (λ (r : RawAddr). Ok (Some r, at + length text)) (same a (padded text) (8 * width) e.1 e.2))
-  again s at None text rest end h e = absurd e
+      rw piece (ap (λ (r : RawAddr). Ok (r, at + length text)) (same a (padded text) (8 * width) e.1 e.2))
 
-  long : (x : Option RawAddr) (text : List ℕ) → SpellsOriginator true width x text → length text ≡ width
-  long (Some a) text e = e.0
-  long None text e = absurd e
-originator_field false width = record {
-  takes = λ s at end le fits. ([], refl, takes_none s at end le);
-  again = again;
-  cut = λ s at end fits short. absurd (omega arith);
-  long = long;
-  some = some;
-} where
-  again : (s : List ℕ) (at : ℕ) (x : Option RawAddr) (text rest : List ℕ) (end : ℕ) → Stands s at text rest end → SpellsOriginator false width x text → originator_if false width s at end ≡ Ok (x, at + length text)
-  again s at None text rest end h e = let z : at ≡ at + length text = omega (arith, ap length e) in ap (λ (k : ℕ). Ok (None, k)) z
-  again s at (Some n) text rest end h e = absurd e
-
-  long : (x : Option RawAddr) (text : List ℕ) → SpellsOriginator false width x text → length text ≡ 0
-  long None text e = ap length e
-  long (Some n) text e = absurd e
-
-  some : (text : List ℕ) → length text ≡ 0 → (x : Option RawAddr) × SpellsOriginator false width x text
-  some [] e = (None, refl)
-  some (n ∷ l) e = absurd (omega arith)
+pub originator_field : (set : Bool) (width : ℕ) → IsField (originator_if set width) (SpellsOriginator set width) (size_if set width)
+originator_field set width = flagged set (address_at width) (SpellsAddress width) width (address width)

@@ -1,24 +1,9 @@
 -- Each flag and the width are told from the sum that is written, by trying all sums.
-use Rattle.std.proofs.Common.{◌≡◌, ℕ, zero, suc, ◌+◌, ◌%◌, ◌<◌, ◌≤◌, Bool, true, false, not, ◌&&◌, eqb, refl, sym, subst, arith}
+use Rattle.std.proofs.Common.{◌≡◌, ℕ, zero, suc, ◌+◌, ◌%◌, ◌<◌, ◌≤◌, Bool, true, false, ◌&&◌, eqb, refl, sym, subst, arith}
 use Rattle.std.proofs.lemmas.Bool.{eqb-true, eqb-false}
 use Rattle.mesh_atoms.specs.Reading.{has}
+use Rattle.mesh_tlv.proofs.Trying.{and_left, and_right, both, both_is, same, same_is}
 use Rattle.mesh_tlv.specs.Least.{flag}
-
-and_left : (a b : Bool) → (a && b) ≡ true → a ≡ true
-and_left true b h = refl
-and_left false b h = absurd cc
-
-and_right : (a b : Bool) → (a && b) ≡ true → b ≡ true
-and_right true b h = h
-and_right false b h = absurd cc
-
--- of both
-abbrev both : (Bool → Bool) → Bool
-both f = f true && f false
-
-both_is : (f : Bool → Bool) → both f ≡ true → (b : Bool) → f b ≡ true
-both_is f h true = and_left (f true) (f false) h
-both_is f h false = and_right (f true) (f false) h
 
 -- of all numbers below
 abbrev below : ℕ → (ℕ → Bool) → Bool
@@ -32,16 +17,6 @@ at_last n f i lt last before false e = before (omega (arith, lt, eqb-false i n e
 below_is : (n : ℕ) (f : ℕ → Bool) → below n f ≡ true → (i : ℕ) → i < n → f i ≡ true
 below_is zero f h i lt = absurd (omega (arith, lt))
 below_is (suc n) f h i lt = at_last n f i lt (and_left (f n) (below n f) h) (λ k. below_is n f (and_right (f n) (below n f) h) i k) (eqb i n) refl
-
-abbrev same : Bool → Bool → Bool
-same true b = b
-same false b = not b
-
-same_is : (a b : Bool) → same a b ≡ true → a ≡ b
-same_is true true h = refl
-same_is true false h = absurd cc
-same_is false true h = absurd cc
-same_is false false h = refl
 
 -- ---- the flags of a message
 

@@ -8,11 +8,10 @@ use Rattle.mesh_atoms.specs.declared.refusal.DecodeFault.{DecodeFault}
 use Rattle.mesh_atoms.specs.declared.refusal.DecodeFault.TheVariants as faults
 use Rattle.mesh_atoms.specs.Reading.{◌>>=◌, Fails}
 use Rattle.mesh_tlv.specs.Items.{items_at}
-use Rattle.mesh_tlv.proofs.Loop.{with_front, none_before, goes_on, is_done, is_at_end}
+use Rattle.mesh_tlv.proofs.Loop.{with_front, none_before, goes_on, fails, is_done, is_at_end}
 use Rattle.mesh_packet.specs.declared.packet.Span.{Span}
 use Rattle.mesh_packet.specs.Fields.{MessageFields}
 use Rattle.mesh_packet.specs.Reading.{message_at, sized_at, spans_from, messages_at}
-use Rattle.mesh_packet.proofs.Runs.{fails}
 use Rattle.mesh_packet.proofs.Sizes.{zip_push, zip_firsts, zip_seconds, spans_push, total, total_push}
 
 abbrev pub sizes : List Span → List ℕ

@@ -56,20 +56,6 @@ fields_of_packet p = record { sequence = p.sequence; tlvs = map fields p.tlvs; m
 abbrev pub fields_of_decoded : Decoded → PacketFields × List Span
 fields_of_decoded d = (fields_of_packet d.packet, d.spans)
 
--- ---- what was read, and the place after it
-
--- an address block and its TLVs
-abbrev pub pair_read : Block × ℕ → BlockFields × ℕ
-pair_read x = (fields_of_block x.0, x.1)
-
--- the address blocks of a message
-abbrev pub pairs_read : List Block × ℕ → List BlockFields × ℕ
-pairs_read x = (map fields_of_block x.0, x.1)
-
--- a message
-abbrev pub message_read : Message × ℕ → MessageFields × ℕ
-message_read x = (fields_of_message x.0, x.1)
-
--- messages and their spans
+-- messages that were read and their spans, and the place after them
 abbrev pub messages_read : (List Message × List Span) × ℕ → (List MessageFields × List Span) × ℕ
 messages_read x = ((map fields_of_message x.0.0, x.0.1), x.1)

@@ -11,26 +11,28 @@ use Rattle.mesh_tlv.specs.Items.{SpellsItems, ItemsFault}
 use Rattle.mesh_packet.specs.declared.packet.Span.{Span}
 use Rattle.mesh_packet.specs.Fields.{BlockFields, MessageFields, PacketFields}
 
+-- what is spelled where it is flagged, and no octets where it isn't
+abbrev pub SpellsIf : {A : Type 0} → Bool → (A → List ℕ → Type 0) → Option A → List ℕ → Type 0
+SpellsIf true Says (Some x) bytes = Says x bytes
+SpellsIf false Says None bytes = bytes ≡ []
+SpellsIf true Says None bytes = ⊥
+SpellsIf false Says (Some x) bytes = ⊥
+
 -- an octet, where it is flagged
 abbrev pub SpellsOctet : Bool → Option ℕ → List ℕ → Type 0
-SpellsOctet true (Some n) bytes = bytes ≡ n ∷ []
-SpellsOctet false None bytes = bytes ≡ []
-SpellsOctet true None bytes = ⊥
-SpellsOctet false (Some n) bytes = ⊥
+SpellsOctet set = SpellsIf set (λ n bytes. bytes ≡ n ∷ [])
 
 -- a number of 16 bits, where it is flagged
 abbrev pub SpellsNumber : Bool → Option ℕ → List ℕ → Type 0
-SpellsNumber true (Some n) bytes = SpellsShort n bytes
-SpellsNumber false None bytes = bytes ≡ []
-SpellsNumber true None bytes = ⊥
-SpellsNumber false (Some n) bytes = ⊥
+SpellsNumber set = SpellsIf set SpellsShort
 
--- an address of that width with all its bits as prefix, where it is flagged
+-- an address of that width with all its bits as prefix
+abbrev pub SpellsAddress : ℕ → RawAddr → List ℕ → Type 0
+SpellsAddress width a bytes = (length bytes ≡ width) × (a.octets ≡ padded bytes) × (a.prefix ≡ 8 * width)
+
+-- an originator, where it is flagged
 abbrev pub SpellsOriginator : Bool → ℕ → Option RawAddr → List ℕ → Type 0
-SpellsOriginator true width (Some a) bytes = (length bytes ≡ width) × (a.octets ≡ padded bytes) × (a.prefix ≡ 8 * width)
-SpellsOriginator false width None bytes = bytes ≡ []
-SpellsOriginator true width None bytes = ⊥
-SpellsOriginator false width (Some a) bytes = ⊥
+SpellsOriginator set width = SpellsIf set (SpellsAddress width)
 
 -- an address block of that width and the TLV block behind it
 pub record SpellsPair (width : ℕ) (block : BlockFields) (bytes : List ℕ) : Type 0 where

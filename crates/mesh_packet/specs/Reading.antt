@@ -13,18 +13,25 @@ use Rattle.mesh_packet.specs.declared.read.Opening.{Opening}
 use Rattle.mesh_packet.specs.Fields.{BlockFields, MessageFields, PacketFields}
 use Rattle.mesh_packet.specs.Grammar.{width_of}
 
+-- what was read, where it is flagged, and the place after it, else the place itself
+unfoldable pub if_flagged : {A : Type 0} → Bool → ℕ → Reading A → Reading (Option A)
+if_flagged set at read = if set then (read >>= λ x. Ok (Some x.0, x.1)) else Ok (None, at)
+
 -- an octet, where it is flagged
-unfoldable pub octet_if : Bool → List ℕ → ℕ → ℕ → Reading (Option ℕ)
-octet_if set frame at end = if set then (octet_at 1 frame at end >>= λ x. Ok (Some x.0, x.1)) else Ok (None, at)
+abbrev pub octet_if : Bool → List ℕ → ℕ → ℕ → Reading (Option ℕ)
+octet_if set frame at end = if_flagged set at (octet_at 1 frame at end)
 
 -- a number of 16 bits, where it is flagged
-unfoldable pub short_if : Bool → List ℕ → ℕ → ℕ → Reading (Option ℕ)
-short_if set frame at end = if set then (short_at 1 frame at end >>= λ x. Ok (Some x.0, x.1)) else Ok (None, at)
+abbrev pub short_if : Bool → List ℕ → ℕ → ℕ → Reading (Option ℕ)
+short_if set frame at end = if_flagged set at (short_at 1 frame at end)
+
+-- an address of that width
+unfoldable pub address_at : ℕ → List ℕ → ℕ → ℕ → Reading RawAddr
+address_at width frame at end = piece_at 1 frame at end width >>= λ x. Ok (record { octets = padded x.0; prefix = 8 * width }, x.1)
 
 -- an originator, where it is flagged
-unfoldable pub originator_if : Bool → ℕ → List ℕ → ℕ → ℕ → Reading (Option RawAddr)
-originator_if set width frame at end =
-    if set then (piece_at 1 frame at end width >>= λ x. Ok (Some (record { octets = padded x.0; prefix = 8 * width }), x.1)) else Ok (None, at)
+abbrev pub originator_if : Bool → ℕ → List ℕ → ℕ → ℕ → Reading (Option RawAddr)
+originator_if set width frame at end = if_flagged set at (address_at width frame at end)
 
 -- an address block and its TLVs
 unfoldable pub pair_at : ℕ → List ℕ → ℕ → ℕ → Reading BlockFields

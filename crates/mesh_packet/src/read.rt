@@ -4,14 +4,14 @@ ghost use Rattle.std.specs.Option.{option_copied};
 ghost use Rattle.mesh_atoms.specs.Reading.{Gives, IfRefused, refuse, octet_at, short_at, piece_at};
 ghost use Rattle.mesh_atoms.specs.declared.refusal.Refusal.{Refusal};
 ghost use Rattle.mesh_addr.specs.Grammar.{padded};
-ghost use Rattle.mesh_tlv.specs.Items.{items_at};
+ghost use Rattle.mesh_tlv.specs.Items.{by_fields};
 ghost use Rattle.mesh_tlv.specs.Reading.{block_at, tlv_at};
 ghost use Rattle.mesh_tlv.specs.Fields.{fields, block_fields};
 ghost use Rattle.mesh_packet.specs.Placed.{ArePlaced};
-ghost use Rattle.mesh_packet.specs.Fields.{PacketFields, fields_of_packet, pair_read, pairs_read, message_read, messages_read, fields_of_decoded};
+ghost use Rattle.mesh_packet.specs.Fields.{PacketFields, fields_of_message, fields_of_packet, messages_read, fields_of_decoded};
 ghost use Rattle.mesh_packet.specs.Grammar.{Spells, FirstFault, width_of};
 ghost use Rattle.mesh_packet.specs.Least.{IsEncodable};
-ghost use Rattle.mesh_packet.specs.Reading.{octet_if, short_if, originator_if, pair_at, head_at, body_at, message_at, messages_at, flags_at, header_tlvs_at, packet_of};
+ghost use Rattle.mesh_packet.specs.Reading.{if_flagged, address_at, head_at, body_at, message_at, messages_at, flags_at, header_tlvs_at, packet_of};
 ghost use Rattle.mesh_packet.specs.declared.packet.Span.{Span};
 
 use crate::flags::{COUNT, LIMIT, ORIGINATOR, PACKET_SEQUENCE, PACKET_TLVS, SEQUENCE};
@@ -19,36 +19,21 @@ use crate::packet::{Block, Decoded, Message, Packet, Span};
 use mesh_addr::{RawAddr, read_block};
 use mesh_atoms::reason::{MESSAGE_SIZE, SHORT, VERSION};
 use mesh_atoms::{DecodeFault, Refusal, Seq, read_octet, read_short, refuse};
-use mesh_tlv::{Tlv, read_addr_tlvs, read_tlvs};
+use mesh_tlv::{ItemReader, Tlv, read_addr_tlvs, read_items, read_tlvs};
 use std::alloc::Global;
 
-/// The octet at a place, where it is flagged, and the place after it.
-#[tactic(auto, unfolding(crate::specs::Reading::octet_if))]
-fn octet_if(set: bool, frame: &[u8], at: usize, end: usize) -> Result<(Option<u8>, usize), Refusal>
-    requires at { at ≤ end }
-    requires end { end ≤ length frame.now }
-    ensures exact { result ≡ octet_if set frame.now at end }
-    ensures after { IfOk result (λ x. (x.1 ≤ end) × (at ≤ x.1)) }
+/// What was read, where it is flagged, and the place after it; else the place that is given.
+#[tactic(auto, unfolding(crate::specs::Reading::if_flagged))]
+fn if_flagged<T: Copy>(
+    set: bool,
+    at: usize,
+    read: Result<(T, usize), Refusal>,
+) -> Result<(Option<T>, usize), Refusal>
+    ensures { result ≡ if_flagged set at read }
 {
     if set {
-        let (number, after) = read_octet(frame, at, end, SHORT)?;
-        Ok((Some(number), after))
-    } else {
-        Ok((None, at))
-    }
-}
-
-/// The number of 16 bits at a place, where it is flagged, and the place after it.
-#[tactic(auto, unfolding(crate::specs::Reading::short_if))]
-fn short_if(set: bool, frame: &[u8], at: usize, end: usize) -> Result<(Option<u16>, usize), Refusal>
-    requires at { at ≤ end }
-    requires end { end ≤ length frame.now }
-    ensures exact { result ≡ short_if set frame.now at end }
-    ensures after { IfOk result (λ x. (x.1 ≤ end) × (at ≤ x.1)) }
-{
-    if set {
-        let (number, after) = read_short(frame, at, end, SHORT)?;
-        Ok((Some(number), after))
+        let (value, after) = read?;
+        Ok((Some(value), after))
     } else {
         Ok((None, at))
     }
@@ -68,31 +53,19 @@ fn whole_address(frame: &[u8], at: usize, width: u8) -> RawAddr
     }
 }
 
-/// The originator at a place, where it is flagged, and the place after it.
-#[tactic(auto, unfolding(crate::specs::Reading::originator_if))]
-fn originator_if(
-    set: bool,
-    width: u8,
-    frame: &[u8],
-    at: usize,
-    end: usize,
-) -> Result<(Option<RawAddr>, usize), Refusal>
+/// The address at a place, and the place after it.
+#[tactic(auto, unfolding(crate::specs::Reading::address_at))]
+fn address(width: u8, frame: &[u8], at: usize, end: usize) -> Result<(RawAddr, usize), Refusal>
     requires width { width ≤ 16 }
     requires at { at ≤ end }
     requires end { end ≤ length frame.now }
-    ensures exact { result ≡ originator_if set width frame.now at end }
-    ensures after { IfOk result (λ x. (x.1 ≤ end) × (at ≤ x.1)) }
+    ensures exact { result ≡ address_at width frame.now at end }
+    ensures after { IfOk result (λ x. (x.1 ≤ end) × (x.1 ≡ at + width)) }
 {
-    if !set {
-        return Ok((None, at));
-    }
     if end - at < usize::from(width) {
         return Err(refuse(at, SHORT));
     }
-    Ok((
-        Some(whole_address(frame, at, width)),
-        at + usize::from(width),
-    ))
+    Ok((whole_address(frame, at, width), at + usize::from(width)))
 }
 
 /// What a message has before its TLVs.
@@ -121,10 +94,14 @@ fn head(flags: u8, frame: &[u8], at: usize, end: usize) -> Result<(Opening, usiz
     ensures exact { result ≡ head_at flags frame.now at end }
     ensures after { IfOk result (λ x. (x.1 ≤ end) × (at ≤ x.1)) }
 {
-    let (originator, at) = originator_if(flags & ORIGINATOR != 0, width_of(flags), frame, at, end)?;
-    let (limit, at) = octet_if(flags & LIMIT != 0, frame, at, end)?;
-    let (count, at) = octet_if(flags & COUNT != 0, frame, at, end)?;
-    let (sequence, at) = short_if(flags & SEQUENCE != 0, frame, at, end)?;
+    let originator = address(width_of(flags), frame, at, end);
+    let (originator, at) = if_flagged(flags & ORIGINATOR != 0, at, originator)?;
+    let limit = read_octet(frame, at, end, SHORT);
+    let (limit, at) = if_flagged(flags & LIMIT != 0, at, limit)?;
+    let count = read_octet(frame, at, end, SHORT);
+    let (count, at) = if_flagged(flags & COUNT != 0, at, count)?;
+    let sequence = read_short(frame, at, end, SHORT);
+    let (sequence, at) = if_flagged(flags & SEQUENCE != 0, at, sequence)?;
     Ok((
         Opening {
             originator,
@@ -136,53 +113,39 @@ fn head(flags: u8, frame: &[u8], at: usize, end: usize) -> Result<(Opening, usiz
     ))
 }
 
-/// An address block and the TLVs of its addresses.
-#[tactic(auto, unfolding(crate::specs::Reading::pair_at))]
-fn pair<'a>(
-    alloc: Global,
+/// Address blocks of this width, each with the TLVs of its addresses.
+#[derive(Clone, Copy)]
+struct Blocks {
     width: u8,
-    frame: &'a [u8],
-    at: usize,
-    end: usize,
-) -> Result<(Block<'a>, usize), DecodeFault>
-    requires some { 0 < width }
-    requires width { width ≤ 16 }
-    requires at { at < end }
-    requires end { end ≤ length frame.now }
-    ensures exact { Gives pair_read result (pair_at width frame.now at end) }
-    ensures after { IfOk result (λ x. (at ≤ x.1) × (x.1 ≤ end)) }
-{
-    let (addrs, next) = read_block(alloc, frame, at, end, width)?;
-    let (tlvs, after) = read_addr_tlvs(alloc, frame, next, end, addrs.addrs.len() as u8)?;
-    Ok((Block { addrs, tlvs }, after))
 }
 
-/// The address blocks up to the end of their message, each with the TLVs of its addresses.
-fn pairs<'a>(
-    alloc: Global,
-    width: u8,
-    frame: &'a [u8],
-    at: usize,
-    end: usize,
-) -> Result<(Seq<Block<'a>>, usize), DecodeFault>
-    requires some { 0 < width }
-    requires width { width ≤ 16 }
-    requires at { at ≤ end }
-    requires end { end ≤ length frame.now }
-    ensures exact { Gives pairs_read result (items_at (pair_at width frame.now) (end - at) at end) }
-    ensures after { IfOk result (λ x. (at ≤ x.1) × (x.1 ≤ end)) }
-{
-    let mut blocks = Seq::new(alloc);
-    let mut place = at;
-    for _ in 0..end - at {
-        if place == end {
-            break;
-        }
-        let (block, after) = pair(alloc, width, frame, place, end)?;
-        blocks.push(block)?;
-        place = after;
+impl<'a> ItemReader<'a> for Blocks {
+    ghost use Rattle.std.specs.Prelude.{◌<◌, ◌≤◌};
+    ghost use Rattle.mesh_packet.specs.Fields.{BlockFields, fields_of_block};
+    ghost use Rattle.mesh_packet.specs.Reading.{pair_at};
+
+    type Item = Block<'a>;
+
+    ghost Fields = { BlockFields };
+
+    ghost fields = { fields_of_block };
+
+    ghost can_read = { λ blocks. (0 < blocks.width) × (blocks.width ≤ 16) };
+
+    ghost item_at = { λ blocks. pair_at blocks.width };
+
+    #[tactic(auto, unfolding(crate::specs::Reading::pair_at))]
+    fn read(
+        self,
+        alloc: Global,
+        frame: &'a [u8],
+        at: usize,
+        end: usize,
+    ) -> Result<(Block<'a>, usize), DecodeFault> {
+        let (addrs, next) = read_block(alloc, frame, at, end, self.width)?;
+        let (tlvs, after) = read_addr_tlvs(alloc, frame, next, end, addrs.addrs.len() as u8)?;
+        Ok((Block { addrs, tlvs }, after))
     }
-    Ok((blocks, place))
 }
 
 /// What stands in a message behind its size, up to its end.
@@ -197,13 +160,13 @@ fn body<'a>(
 ) -> Result<(Message<'a>, usize), DecodeFault>
     requires at { at ≤ end }
     requires end { end ≤ length frame.now }
-    ensures exact { Gives message_read result (body_at kind flags frame.now at end) }
+    ensures exact { Gives (by_fields fields_of_message) result (body_at kind flags frame.now at end) }
     ensures after { IfOk result (λ x. (at ≤ x.1) × (x.1 ≤ end)) }
 {
     let width = width_of(flags);
     let (head, at) = head(flags, frame, at, end)?;
     let (tlvs, at) = read_tlvs(alloc, frame, at, end)?;
-    let (blocks, after) = pairs(alloc, width, frame, at, end)?;
+    let (blocks, after) = read_items(alloc, Blocks { width }, frame, at, end)?;
     Ok((
         Message {
             kind,
@@ -229,7 +192,7 @@ fn message<'a>(
 ) -> Result<(Message<'a>, usize), DecodeFault>
     requires at { at ≤ end }
     requires end { end ≤ length frame.now }
-    ensures exact { Gives message_read result (message_at frame.now at end) }
+    ensures exact { Gives (by_fields fields_of_message) result (message_at frame.now at end) }
     ensures after { IfOk result (λ x. (at ≤ x.1) × (x.1 ≤ end)) }
 {
     let (kind, next) = read_octet(frame, at, end, SHORT)?;
@@ -310,7 +273,8 @@ fn whole<'a>(alloc: Global, frame: &'a [u8]) -> Result<Decoded<'a>, DecodeFault>
     ensures { Gives fields_of_decoded result (packet_of frame.now) }
 {
     let (flags, at) = packet_flags(frame)?;
-    let (sequence, at) = short_if(flags & PACKET_SEQUENCE != 0, frame, at, frame.len())?;
+    let sequence = read_short(frame, at, frame.len(), SHORT);
+    let (sequence, at) = if_flagged(flags & PACKET_SEQUENCE != 0, at, sequence)?;
     let (tlvs, at) = header_tlvs(alloc, flags & PACKET_TLVS != 0, frame, at)?;
     let ((messages, spans), _) = messages(alloc, frame, at, frame.len())?;
     Ok(Decoded {

@@ -5,7 +5,7 @@ use Rattle.std.specs.Prelude.{MatchResult}
 use Rattle.mesh_addr.specs.Grammar.{padded}
 use Rattle.mesh_packet.specs.Fields.{MessageFields}
 use Rattle.mesh_packet.specs.Grammar.{SpellsMessage}
-use Rattle.mesh_packet.specs.Reading.{message_at, body_at, head_at, octet_if, short_if, originator_if}
+use Rattle.mesh_packet.specs.Reading.{message_at, body_at, head_at, if_flagged, address_at}
 use Rattle.mesh_packet.proofs.Messages.{message_reader}
 use Rattle.mesh_tlv.specs.Reading.{flags_at, extension_at, index_octet_at, indexes_at, value_at, tlv_of_at, tlv_at, range_at, block_at}
 use Rattle.mesh_tlv.specs.Items.{items_at, FirstFault}
@@ -29,7 +29,7 @@ message = record {
 }
 
 read : message_at octets 0 22 ≡ Ok (message, 22)
-unfolding message_at body_at head_at octet_if short_if originator_if block_at tlv_at range_at items_at tlv_of_at flags_at extension_at index_octet_at indexes_at value_at
+unfolding message_at body_at head_at if_flagged address_at block_at tlv_at range_at items_at tlv_of_at flags_at extension_at index_octet_at indexes_at value_at
 read = refl
 
 spells : SpellsMessage message octets

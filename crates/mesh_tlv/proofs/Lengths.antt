@@ -4,7 +4,8 @@ use Rattle.std.specs.List.{flat_map}
 use Rattle.std.proofs.lemmas.Bool.{lt-ltb}
 use Rattle.std.proofs.lemmas.List.{length-append, append-nil}
 use Rattle.std.proofs.lemmas.List.Folds.{length-flat_map-take, flat_map-map}
-use Rattle.mesh_tlv.specs.Fields.{TlvFields, AddrTlvFields, indexed}
+use Rattle.mesh_tlv.specs.declared.tlv.Tlv.{Tlv}
+use Rattle.mesh_tlv.specs.Fields.{TlvFields, AddrTlvFields, fields, indexed}
 use Rattle.mesh_tlv.specs.Least.{length_within, least_length, least_value, least_head, least_addr_tlv, least_tlv, IsLong, HasLongValue, AreTooLong}
 
 module _ {A B : Type 0} (view : A → B) (least : B → List ℕ) (xs : List A) (i : ℕ) (d : A) where
@@ -49,3 +50,7 @@ pub item_written : {A B : Type 0} (view : A → B) (least : B → List ℕ) (xs 
 item_written view least xs i d old out new lt before is =
     let next : suc i ≡ i + 1 = omega arith in
     subst (λ (n : ℕ). new ≡ old ++ flat_map least (map view (take n xs))) next (written_next view least xs i d old out new lt before is)
+
+-- packet or message TLVs, written as those of a block of one address
+pub written_indexed : (tlvs : List Tlv) → flat_map (least_addr_tlv 1) (map (λ tlv. indexed (fields tlv)) tlvs) ≡ flat_map least_tlv (map fields tlvs)
+written_indexed tlvs = flat_map-map (least_addr_tlv 1) (λ (tlv : Tlv). indexed (fields tlv)) tlvs ∙ sym (flat_map-map least_tlv fields tlvs)

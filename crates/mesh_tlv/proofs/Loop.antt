@@ -1,9 +1,11 @@
--- Reading items one after the other, as a loop does.
+-- Reading items one after the other, as a loop does, where reading may want memory.
 use Rattle.std.proofs.Common.{◌≡◌, ℕ, suc, ◌+◌, ◌-◌, ◌≤◌, ◌<◌, List, [], ◌∷◌, ◌++◌, Ok, Err, refl, sym, ap, ◌∙◌, append_assoc, arith, eqb, true}
 use Rattle.std.proofs.lemmas.List.{append-nil}
 use Rattle.std.proofs.lemmas.Bool.{ne_eqb}
 use Rattle.mesh_atoms.specs.declared.refusal.Refusal.{Refusal}
-use Rattle.mesh_atoms.specs.Reading.{◌>>=◌, Reading}
+use Rattle.mesh_atoms.specs.declared.refusal.DecodeFault.{DecodeFault}
+use Rattle.mesh_atoms.specs.declared.refusal.DecodeFault.TheVariants as faults
+use Rattle.mesh_atoms.specs.Reading.{◌>>=◌, Reading, Fails}
 use Rattle.mesh_tlv.specs.Items.{items_at}
 
 -- what was read before, and what is still read
@@ -26,12 +28,17 @@ module _ {A : Type 0} (one : ℕ → ℕ → Reading A) (front : List A) (limit 
       let step : with_front front (items_at one (limit - i) at end) ≡ with_front (front ++ p ∷ []) (items_at one (limit - (i + 1)) after end) = rw (k, ne_eqb at end apart, h) (regroup front p (items_at one (limit - (i + 1)) after end)) in
       sym step ∙ so_far
 
-  pub ends : i < limit → (at ≡ end → ⊥) → (f : Refusal) → one at end ≡ Err f → total ≡ Err f
+  ends : i < limit → (at ≡ end → ⊥) → (f : Refusal) → one at end ≡ Err f → total ≡ Err f
   unfolding items_at
   ends lt apart f h =
       let k : limit - i ≡ suc (limit - (i + 1)) = omega arith in
       let step : with_front front (items_at one (limit - i) at end) ≡ Err f = rw (k, ne_eqb at end apart, h) refl in
       sym so_far ∙ step
+
+  -- a fault of the next one is the fault of all
+  pub fails : i < limit → (at ≡ end → ⊥) → (fault : DecodeFault) → Fails fault (one at end) → Fails fault total
+  fails lt apart (faults.Memory e) h = tt
+  fails lt apart (faults.Refused f) h = ends lt apart f h
 
   pub is_done : limit ≤ i → total ≡ Ok (front, at)
   unfolding items_at

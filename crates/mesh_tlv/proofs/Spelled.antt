@@ -8,37 +8,13 @@ use Rattle.std.proofs.lemmas.List.Concat.{flat_map-cons}
 use Rattle.std.proofs.lemmas.List.Elements.{All-head, All-tail, All-weaker}
 use Rattle.mesh_atoms.specs.Grammar.{SpellsShort}
 use Rattle.mesh_atoms.specs.Reading.{has}
+use Rattle.mesh_tlv.proofs.Trying.{both, both_is, same, same_is}
 use Rattle.mesh_tlv.specs.Fields.{TlvFields, AddrTlvFields, indexed}
 use Rattle.mesh_tlv.specs.Items.{SpellsItems}
 use Rattle.mesh_tlv.specs.Grammar.{SpellsExtension, SpellsIndex, SpellsLength, SpellsValue, HasEqualParts, SpellsTlvOf, SpellsTlv, SpellsAddrTlv, SpellsTlvs, SpellsTlvBlock, SpellsAddrTlvBlock}
 use Rattle.mesh_tlv.specs.Least.{IsFit, flag, octet_if, is_single, is_several, has_value, is_wide, least_flags, least_index, least_head, least_short, least_length, least_value, least_addr_tlv, least_tlv, least_block}
 
 -- ---- each flag is told from the sum of the flags, by trying all sums
-
-and_left : (a b : Bool) → (a && b) ≡ true → a ≡ true
-and_left true b h = refl
-and_left false b h = absurd cc
-
-and_right : (a b : Bool) → (a && b) ≡ true → b ≡ true
-and_right true b h = h
-and_right false b h = absurd cc
-
-abbrev both : (Bool → Bool) → Bool
-both f = f true && f false
-
-both_is : (f : Bool → Bool) → both f ≡ true → (b : Bool) → f b ≡ true
-both_is f h true = and_left (f true) (f false) h
-both_is f h false = and_right (f true) (f false) h
-
-abbrev same : Bool → Bool → Bool
-same true b = b
-same false b = not b
-
-same_is : (a b : Bool) → same a b ≡ true → a ≡ b
-same_is true true h = refl
-same_is true false h = absurd cc
-same_is false true h = absurd cc
-same_is false false h = refl
 
 abbrev flags_of : Bool → Bool → Bool → Bool → Bool → Bool → ℕ
 flags_of a b c d e f = flag a 128 + flag b 64 + flag c 32 + flag d 16 + flag e 8 + flag f 4

@@ -1,8 +1,9 @@
 -- TLVs by their fields, without where their values lie in memory.
-use Rattle.std.specs.Prelude.{ℕ, List, map, Option, Bool, false}
+use Rattle.std.specs.Prelude.{ℕ, List, Option, Bool, false}
 use Rattle.std.specs.Option.{option_copied}
 use Rattle.mesh_tlv.specs.declared.tlv.Tlv.{Tlv}
 use Rattle.mesh_tlv.specs.declared.tlv.AddrTlv.{AddrTlv}
+use Rattle.mesh_tlv.specs.Items.{all_by_fields}
 
 -- a packet or message TLV
 pub record TlvFields : Type 0 where
@@ -37,8 +38,8 @@ unindexed t = record { kind = t.kind; ext = t.ext; value = t.value }
 
 -- what was read of a block of packet or message TLVs, and the place after it
 abbrev pub block_fields : List Tlv × ℕ → List TlvFields × ℕ
-block_fields x = (map fields x.0, x.1)
+block_fields = all_by_fields fields
 
 -- what was read of a block of address TLVs, and the place after it
 abbrev pub addr_block_fields : List AddrTlv × ℕ → List AddrTlvFields × ℕ
-addr_block_fields x = (map addr_fields x.0, x.1)
+addr_block_fields = all_by_fields addr_fields

@@ -1,5 +1,5 @@
 -- Items of any kind, one after the other, that fill a range of a frame: TLVs, messages, address blocks with their TLVs.
-use Rattle.std.specs.Prelude.{◌≡◌, ℕ, zero, suc, ◌+◌, ◌<◌, List, [], ◌∷◌, ◌++◌, length, slice_range, Ok, ◌==◌, if◌then◌else◌}
+use Rattle.std.specs.Prelude.{◌≡◌, ℕ, zero, suc, ◌+◌, ◌<◌, List, [], ◌∷◌, ◌++◌, length, map, slice_range, Ok, ◌==◌, if◌then◌else◌}
 use Rattle.mesh_atoms.specs.declared.refusal.Refusal.{Refusal}
 use Rattle.mesh_atoms.specs.Reading.{◌>>=◌, Reading}
 
@@ -32,3 +32,11 @@ unfoldable pub items_at : {A : Type 0} → (ℕ → ℕ → Reading A) → ℕ �
 items_at one zero at end = Ok ([], at)
 items_at one (suc n) at end =
     if at == end then Ok ([], at) else (one at end >>= λ first. items_at one n first.1 end >>= λ others. Ok (first.0 ∷ others.0, others.1))
+
+-- what was read, by its fields, and the place after it
+abbrev pub by_fields : {X Y : Type 0} → (X → Y) → X × ℕ → Y × ℕ
+by_fields fields x = (fields x.0, x.1)
+
+-- the same of a list
+abbrev pub all_by_fields : {X Y : Type 0} → (X → Y) → List X × ℕ → List Y × ℕ
+all_by_fields fields = by_fields (map fields)

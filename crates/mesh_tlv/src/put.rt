@@ -219,32 +219,40 @@ pub fn addr_tlv_length(tlv: AddrTlv, count: u8) -> usize
     head_length(tlv, count) + value_length(tlv.value)
 }
 
-/// A packet or message TLV as one of a block of one address, which it covers.
-pub fn indexed<'a>(tlv: Tlv<'a>) -> AddrTlv<'a>
-    ensures { addr_fields result ≡ indexed (fields tlv.entry) }
-{
-    AddrTlv {
-        kind: tlv.kind,
-        ext: tlv.ext,
-        first: 0,
-        last: 0,
-        multi: false,
-        value: tlv.value,
+/// A TLV as it is written: one of a packet or a message as one of a block of one address, which it covers.
+pub trait Indexed<'a>: Copy {
+    ghost use Rattle.std.specs.Prelude.{◌≡◌};
+    ghost use Rattle.mesh_tlv.specs.Fields.{AddrTlvFields, addr_fields};
+
+    ghost written: { Self → AddrTlvFields };
+
+    fn indexed(self) -> AddrTlv<'a>
+        ensures { addr_fields result ≡ written self };
+}
+
+impl<'a> Indexed<'a> for AddrTlv<'a> {
+    ghost use Rattle.mesh_tlv.specs.Fields.{addr_fields};
+
+    ghost written = { addr_fields };
+
+    fn indexed(self) -> AddrTlv<'a> {
+        self
     }
 }
 
-/// How long a packet or message TLV is.
-pub fn tlv_length(tlv: Tlv) -> usize
-    ensures { result ≡ length (least_tlv (fields tlv.entry)) }
-{
-    addr_tlv_length(indexed(tlv), 1)
-}
+impl<'a> Indexed<'a> for Tlv<'a> {
+    ghost use Rattle.mesh_tlv.specs.Fields.{fields, indexed};
 
-/// Puts a packet or message TLV.
-pub fn put_tlv(tlv: Tlv, out: &mut Bytes) -> Result<(), AllocError>
-    requires { length (least_tlv (fields tlv)) ≤ 65535 }
-    ensures ok { OnOk result (out.new ≡ out.old ++ least_tlv (fields tlv.entry)) }
-    ensures kept { Grows out.old out.new }
-{
-    put_addr_tlv(indexed(tlv), 1, out)
+    ghost written = { λ tlv. indexed (fields tlv) };
+
+    fn indexed(self) -> AddrTlv<'a> {
+        AddrTlv {
+            kind: self.kind,
+            ext: self.ext,
+            first: 0,
+            last: 0,
+            multi: false,
+            value: self.value,
+        }
+    }
 }

@@ -3,13 +3,14 @@ ghost use Rattle.std.specs.Prelude.{◌≡◌, ◌≤◌, ◌<◌, ◌-◌, ◌+
 ghost use Rattle.mesh_atoms.specs.Reading.{Gives, IfRefused, Reads};
 ghost use Rattle.mesh_atoms.specs.declared.refusal.Refusal.{Refusal};
 ghost use Rattle.mesh_tlv.specs.Fields.{TlvFields, AddrTlvFields, fields, addr_fields, block_fields, addr_block_fields};
-ghost use Rattle.mesh_tlv.specs.Items.{FirstFault, items_at};
+ghost use Rattle.mesh_tlv.specs.Items.{FirstFault, all_by_fields};
 ghost use Rattle.mesh_tlv.specs.Least.{IsFit};
 ghost use Rattle.mesh_tlv.specs.Grammar.{SpellsTlvBlock, SpellsAddrTlvBlock, TlvBlockFault, AddrTlvBlockFault};
 ghost use Rattle.mesh_tlv.specs.Reading.{tlv_of_at, addr_tlv_at, tlv_at, range_at, block_at};
 
 use crate::bits::{ADDRESS_FLAGS, MULTI_VALUE};
 use crate::field::{extension, flags, indexes, parts, value};
+use crate::reader::{ItemReader, read_items};
 use crate::tlv::{AddrTlv, Tlv};
 use mesh_atoms::reason::{BLOCK_LENGTH, SHORT};
 use mesh_atoms::{DecodeFault, Refusal, Seq, read_octet, read_short, refuse};
@@ -55,26 +56,73 @@ fn read_tlv_of<'a>(
     ))
 }
 
-/// One TLV of a packet or a message.
-#[tactic(auto, unfolding(crate::specs::Reading::tlv_at))]
-fn read_tlv<'a>(frame: &'a [u8], at: usize, end: usize) -> Result<(Tlv<'a>, usize), Refusal>
-    requires { end ≤ length frame.now }
-    ensures exact { Reads (λ x. (fields x.0, x.1)) result (tlv_at frame.now at end) }
-    ensures after { IfOk result (λ x. (x.1 ≤ end) × (at < x.1)) }
-{
-    let form = Form {
-        barred: ADDRESS_FLAGS,
-        count: 1,
-    };
-    let (tlv, after) = read_tlv_of(form, frame, at, end)?;
-    Ok((
-        Tlv {
-            kind: tlv.kind,
-            ext: tlv.ext,
-            value: tlv.value,
-        },
-        after,
-    ))
+impl<'a> ItemReader<'a> for Form {
+    ghost use Rattle.std.specs.Prelude.{◌<◌};
+    ghost use Rattle.mesh_tlv.specs.Fields.{AddrTlvFields, addr_fields};
+    ghost use Rattle.mesh_tlv.specs.Reading.{tlv_of_at};
+
+    type Item = AddrTlv<'a>;
+
+    ghost Fields = { AddrTlvFields };
+
+    ghost fields = { addr_fields };
+
+    ghost can_read = { λ form. 0 < form.count };
+
+    ghost item_at = { λ form. tlv_of_at form.barred form.count };
+
+    fn read(
+        self,
+        _alloc: Global,
+        frame: &'a [u8],
+        at: usize,
+        end: usize,
+    ) -> Result<(AddrTlv<'a>, usize), DecodeFault> {
+        let (tlv, after) = read_tlv_of(self, frame, at, end)?;
+        Ok((tlv, after))
+    }
+}
+
+/// TLVs of a packet or a message, which cover no addresses.
+#[derive(Clone, Copy)]
+struct Plain;
+
+impl<'a> ItemReader<'a> for Plain {
+    ghost use Rattle.mesh_tlv.specs.Fields.{TlvFields, fields};
+    ghost use Rattle.mesh_tlv.specs.Reading.{tlv_at};
+
+    type Item = Tlv<'a>;
+
+    ghost Fields = { TlvFields };
+
+    ghost fields = { fields };
+
+    ghost can_read = { λ plain. Unit {0} };
+
+    ghost item_at = { λ plain. tlv_at };
+
+    #[tactic(auto, unfolding(crate::specs::Reading::tlv_at))]
+    fn read(
+        self,
+        _alloc: Global,
+        frame: &'a [u8],
+        at: usize,
+        end: usize,
+    ) -> Result<(Tlv<'a>, usize), DecodeFault> {
+        let form = Form {
+            barred: ADDRESS_FLAGS,
+            count: 1,
+        };
+        let (tlv, after) = read_tlv_of(form, frame, at, end)?;
+        Ok((
+            Tlv {
+                kind: tlv.kind,
+                ext: tlv.ext,
+                value: tlv.value,
+            },
+            after,
+        ))
+    }
 }
 
 /// Where a block's TLVs begin and end, behind its length.
@@ -93,87 +141,22 @@ fn range(frame: &[u8], at: usize, end: usize) -> Result<(usize, usize), Refusal>
     Ok((start, start + len))
 }
 
-/// The TLVs of a packet or a message that fill a range.
-fn read_all<'a>(
-    alloc: Global,
-    frame: &'a [u8],
-    at: usize,
-    end: usize,
-) -> Result<(Seq<Tlv<'a>>, usize), DecodeFault>
-    requires at { at ≤ end }
-    requires end { end ≤ length frame.now }
-    ensures { Gives block_fields result (items_at (tlv_at frame.now) (end - at) at end) }
-{
-    let mut tlvs = Seq::new(alloc);
-    let mut place = at;
-    for _ in 0..end - at {
-        if place == end {
-            break;
-        }
-        let (tlv, after) = read_tlv(frame, place, end)?;
-        tlvs.push(tlv)?;
-        place = after;
-    }
-    Ok((tlvs, place))
-}
-
-/// The TLVs of `count` addresses that fill a range.
-fn read_all_addr<'a>(
-    alloc: Global,
-    count: u8,
-    frame: &'a [u8],
-    at: usize,
-    end: usize,
-) -> Result<(Seq<AddrTlv<'a>>, usize), DecodeFault>
-    requires count { 0 < count }
-    requires at { at ≤ end }
-    requires end { end ≤ length frame.now }
-    ensures { Gives addr_block_fields result (items_at (addr_tlv_at count frame.now) (end - at) at end) }
-{
-    let form = Form { barred: 0, count };
-    let mut tlvs = Seq::new(alloc);
-    let mut place = at;
-    for _ in 0..end - at {
-        if place == end {
-            break;
-        }
-        let (tlv, after) = read_tlv_of(form, frame, place, end)?;
-        tlvs.push(tlv)?;
-        place = after;
-    }
-    Ok((tlvs, place))
-}
-
+/// A block of items: its length, and the items that fill it.
 #[tactic(auto, unfolding(crate::specs::Reading::block_at))]
-fn read_block<'a>(
+fn read_block<'a, R: ItemReader<'a>>(
     alloc: Global,
+    reader: R,
     frame: &'a [u8],
     at: usize,
     end: usize,
-) -> Result<(Seq<Tlv<'a>>, usize), DecodeFault>
+) -> Result<(Seq<R::Item>, usize), DecodeFault>
+    requires can { R.can_read reader }
     requires at { at ≤ end }
     requires end { end ≤ length frame.now }
-    ensures { Gives block_fields result (block_at tlv_at frame.now at end) }
+    ensures { Gives (all_by_fields R.fields) result (block_at (R.item_at reader) frame.now at end) }
 {
     let (start, stop) = range(frame, at, end)?;
-    read_all(alloc, frame, start, stop)
-}
-
-#[tactic(auto, unfolding(crate::specs::Reading::block_at))]
-fn read_addr_block<'a>(
-    alloc: Global,
-    count: u8,
-    frame: &'a [u8],
-    at: usize,
-    end: usize,
-) -> Result<(Seq<AddrTlv<'a>>, usize), DecodeFault>
-    requires count { 0 < count }
-    requires at { at ≤ end }
-    requires end { end ≤ length frame.now }
-    ensures { Gives addr_block_fields result (block_at (addr_tlv_at count) frame.now at end) }
-{
-    let (start, stop) = range(frame, at, end)?;
-    read_all_addr(alloc, count, frame, start, stop)
+    read_items(alloc, reader, frame, start, stop)
 }
 
 /// Reads the TLV block of a packet or a message that begins at `at` (RFC 5444, section 5.4), in a frame or message that
@@ -203,7 +186,7 @@ pub fn read_tlvs<'a>(
     // How it is read, field by field.
     ensures exact { Gives block_fields result (block_at tlv_at frame.now at end) }
 {
-    read_block(alloc, frame, at, end)
+    read_block(alloc, Plain, frame, at, end)
 }
 
 /// Reads the TLV block behind a block of `count` addresses (RFC 5444, section 5.4), as `read_tlvs` reads that of a
@@ -239,5 +222,5 @@ pub fn read_addr_tlvs<'a>(
     // How it is read, field by field.
     ensures exact { Gives addr_block_fields result (block_at (addr_tlv_at count) frame.now at end) }
 {
-    read_addr_block(alloc, count, frame, at, end)
+    read_block(alloc, Form { barred: 0, count }, frame, at, end)
 }

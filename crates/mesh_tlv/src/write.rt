@@ -6,7 +6,7 @@ ghost use Rattle.mesh_tlv.specs.declared.tlv.WriteTlv.TheVariants as WriteTlv;
 ghost use Rattle.mesh_tlv.specs.Grammar.{SpellsTlvBlock, SpellsAddrTlvBlock};
 ghost use Rattle.mesh_tlv.specs.Least.{IsFit, least_addr_tlv, least_tlv, least_block, length_within, AreTooLong, Grows};
 
-use crate::put::{addr_tlv_length, put_addr_tlv, put_short, put_tlv, tlv_length};
+use crate::put::{Indexed, addr_tlv_length, put_addr_tlv, put_short};
 use crate::tlv::{AddrTlv, Tlv, WriteTlv};
 use mesh_atoms::Bytes;
 use std::alloc::AllocError;
@@ -15,13 +15,13 @@ use std::alloc::AllocError;
 const LONGEST: usize = 65535;
 
 /// How long the TLVs of a block of `count` addresses are together, where a block's length can say it.
-fn addr_tlvs_length(tlvs: &[AddrTlv], count: u8) -> Option<u16>
+fn tlvs_length<'a, T: Indexed<'a>>(tlvs: &[T], count: u8) -> Option<u16>
     requires { 0 < count }
-    ensures { result ≡ length_within (length (flat_map (least_addr_tlv count) (map addr_fields tlvs.now))) }
+    ensures { result ≡ length_within (length (flat_map (least_addr_tlv count) (map T.written tlvs.now))) }
 {
     let mut total = 0;
     for tlv in tlvs {
-        let len = addr_tlv_length(*tlv, count);
+        let len = addr_tlv_length((*tlv).indexed(), count);
         if len > LONGEST - total {
             return None;
         }
@@ -31,96 +31,47 @@ fn addr_tlvs_length(tlvs: &[AddrTlv], count: u8) -> Option<u16>
 }
 
 /// Puts the TLVs of a block of `count` addresses.
-fn put_addr_tlvs(tlvs: &[AddrTlv], count: u8, out: &mut Bytes) -> Result<(), AllocError>
+fn put_tlvs<'a, T: Indexed<'a>>(tlvs: &[T], count: u8, out: &mut Bytes) -> Result<(), AllocError>
     requires count { 0 < count }
-    requires len { length (flat_map (least_addr_tlv count) (map addr_fields tlvs.now)) ≤ 65535 }
-    ensures ok { OnOk result (out.new ≡ out.old ++ flat_map (least_addr_tlv count) (map addr_fields tlvs.now)) }
+    requires len { length (flat_map (least_addr_tlv count) (map T.written tlvs.now)) ≤ 65535 }
+    ensures ok { OnOk result (out.new ≡ out.old ++ flat_map (least_addr_tlv count) (map T.written tlvs.now)) }
     ensures kept { Grows out.old out.new }
 {
     for tlv in tlvs {
-        put_addr_tlv(*tlv, count, out)?;
+        put_addr_tlv((*tlv).indexed(), count, out)?;
     }
     Ok(())
 }
 
 /// Puts the block of these TLVs behind `count` addresses, whose length together is known.
-fn put_addr_block(tlvs: &[AddrTlv], count: u8, len: u16, out: &mut Bytes) -> Result<(), AllocError>
+fn put_block<'a, T: Indexed<'a>>(
+    tlvs: &[T],
+    count: u8,
+    len: u16,
+    out: &mut Bytes,
+) -> Result<(), AllocError>
     requires count { 0 < count }
-    requires len { len ≡ length (flat_map (least_addr_tlv count) (map addr_fields tlvs.now)) }
-    ensures ok { OnOk result (out.new ≡ out.old ++ least_block (least_addr_tlv count) (map addr_fields tlvs.now)) }
+    requires len { len ≡ length (flat_map (least_addr_tlv count) (map T.written tlvs.now)) }
+    ensures ok { OnOk result (out.new ≡ out.old ++ least_block (least_addr_tlv count) (map T.written tlvs.now)) }
     ensures kept { Grows out.old out.new }
 {
     put_short(len, out)?;
-    put_addr_tlvs(tlvs, count, out)
-}
-
-/// How long packet or message TLVs are together, where a block's length can say it.
-fn tlvs_length(tlvs: &[Tlv]) -> Option<u16>
-    ensures { result ≡ length_within (length (flat_map least_tlv (map fields tlvs.now))) }
-{
-    let mut total = 0;
-    for tlv in tlvs {
-        let len = tlv_length(*tlv);
-        if len > LONGEST - total {
-            return None;
-        }
-        total += len;
-    }
-    Some(total as u16)
-}
-
-/// Puts packet or message TLVs.
-fn put_tlvs(tlvs: &[Tlv], out: &mut Bytes) -> Result<(), AllocError>
-    requires { length (flat_map least_tlv (map fields tlvs.now)) ≤ 65535 }
-    ensures ok { OnOk result (out.new ≡ out.old ++ flat_map least_tlv (map fields tlvs.now)) }
-    ensures kept { Grows out.old out.new }
-{
-    for tlv in tlvs {
-        put_tlv(*tlv, out)?;
-    }
-    Ok(())
-}
-
-/// Puts the block of these packet or message TLVs, whose length together is known.
-fn put_block(tlvs: &[Tlv], len: u16, out: &mut Bytes) -> Result<(), AllocError>
-    requires { len ≡ length (flat_map least_tlv (map fields tlvs.now)) }
-    ensures ok { OnOk result (out.new ≡ out.old ++ least_block least_tlv (map fields tlvs.now)) }
-    ensures kept { Grows out.old out.new }
-{
-    put_short(len, out)?;
-    put_tlvs(tlvs, out)
-}
-
-/// Appends the block of these packet or message TLVs, unless it is too long.
-fn write_block(tlvs: &[Tlv], out: &mut Bytes) -> Result<(), WriteTlv>
-    ensures ok { OnOk result (out.new ≡ out.old ++ least_block least_tlv (map fields tlvs.now)) }
-    ensures fits { OnOk result (length (flat_map least_tlv (map fields tlvs.now)) ≤ 65535) }
-    ensures too_long { result ≡ Err WriteTlv.TooLong → (65535 < length (flat_map least_tlv (map fields tlvs.now))) × (out.new ≡ out.old) }
-    ensures long { 65535 < length (flat_map least_tlv (map fields tlvs.now)) → result ≡ Err WriteTlv.TooLong }
-    ensures kept { Grows out.old out.new }
-{
-    match tlvs_length(tlvs) {
-        None => Err(WriteTlv::TooLong),
-        Some(len) => {
-            put_block(tlvs, len, out)?;
-            Ok(())
-        }
-    }
+    put_tlvs(tlvs, count, out)
 }
 
 /// Appends the block of these TLVs behind `count` addresses, unless it is too long.
-fn write_addr_block(tlvs: &[AddrTlv], count: u8, out: &mut Bytes) -> Result<(), WriteTlv>
+fn write_block<'a, T: Indexed<'a>>(tlvs: &[T], count: u8, out: &mut Bytes) -> Result<(), WriteTlv>
     requires { 0 < count }
-    ensures ok { OnOk result (out.new ≡ out.old ++ least_block (least_addr_tlv count) (map addr_fields tlvs.now)) }
-    ensures fits { OnOk result (length (flat_map (least_addr_tlv count) (map addr_fields tlvs.now)) ≤ 65535) }
-    ensures too_long { result ≡ Err WriteTlv.TooLong → (65535 < length (flat_map (least_addr_tlv count) (map addr_fields tlvs.now))) × (out.new ≡ out.old) }
-    ensures long { 65535 < length (flat_map (least_addr_tlv count) (map addr_fields tlvs.now)) → result ≡ Err WriteTlv.TooLong }
+    ensures ok { OnOk result (out.new ≡ out.old ++ least_block (least_addr_tlv count) (map T.written tlvs.now)) }
+    ensures fits { OnOk result (length (flat_map (least_addr_tlv count) (map T.written tlvs.now)) ≤ 65535) }
+    ensures too_long { result ≡ Err WriteTlv.TooLong → (65535 < length (flat_map (least_addr_tlv count) (map T.written tlvs.now))) × (out.new ≡ out.old) }
+    ensures long { 65535 < length (flat_map (least_addr_tlv count) (map T.written tlvs.now)) → result ≡ Err WriteTlv.TooLong }
     ensures kept { Grows out.old out.new }
 {
-    match addr_tlvs_length(tlvs, count) {
+    match tlvs_length(tlvs, count) {
         None => Err(WriteTlv::TooLong),
         Some(len) => {
-            put_addr_block(tlvs, count, len, out)?;
+            put_block(tlvs, count, len, out)?;
             Ok(())
         }
     }
@@ -143,7 +94,7 @@ pub fn write_tlvs(tlvs: &[Tlv], out: &mut Bytes) -> Result<(), WriteTlv>
     // Also after want of memory the old octets stand in front.
     ensures kept { Grows out.old out.new }
 {
-    write_block(tlvs, out)
+    write_block(tlvs, 1, out)
 }
 
 /// Appends the block of these TLVs behind a block of `count` addresses (RFC 5444, section 5.4) in its least form: as
@@ -168,5 +119,5 @@ pub fn write_addr_tlvs(tlvs: &[AddrTlv], count: u8, out: &mut Bytes) -> Result<(
     // Also after want of memory the old octets stand in front.
     ensures kept { Grows out.old out.new }
 {
-    write_addr_block(tlvs, count, out)
+    write_block(tlvs, count, out)
 }

@@ -1,8 +1,7 @@
 use Rattle.std.proofs.Common.{◌≡◌, ◌++◌, map, take}
 use Rattle.std.specs.List.{flat_map}
-use Rattle.mesh_tlv.specs.Fields.{fields}
-use Rattle.mesh_tlv.specs.Least.{least_tlv}
+use Rattle.mesh_tlv.specs.Least.{least_addr_tlv}
 use Rattle.mesh_tlv.proofs.write.put_tlvs.Given as goal
 
 abbrev pub invariant-loop-tlv : goal.invariant-loop-tlv
-invariant-loop-tlv l = record { wrote : l.out ≡ l.initial.out ++ flat_map (least_tlv) (map fields (take l.tlv-index l.tlvs)) }
+invariant-loop-tlv g l = record { wrote : l.out ≡ l.initial.out ++ flat_map (least_addr_tlv l.count) (map g.T.Indexed.written (take l.tlv-index l.tlvs)) }

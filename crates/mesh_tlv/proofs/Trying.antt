@@ -1,0 +1,29 @@
+-- What is told of flags by trying all of them.
+use Rattle.std.proofs.Common.{◌≡◌, Bool, true, false, not, ◌&&◌, refl}
+use Rattle.std.proofs.lemmas.Bool.{false≢true}
+
+pub and_left : (a b : Bool) → (a && b) ≡ true → a ≡ true
+and_left true b h = refl
+and_left false b h = absurd (false≢true h)
+
+pub and_right : (a b : Bool) → (a && b) ≡ true → b ≡ true
+and_right true b h = h
+and_right false b h = absurd (false≢true h)
+
+-- of both
+abbrev pub both : (Bool → Bool) → Bool
+both f = f true && f false
+
+pub both_is : (f : Bool → Bool) → both f ≡ true → (b : Bool) → f b ≡ true
+both_is f h true = and_left (f true) (f false) h
+both_is f h false = and_right (f true) (f false) h
+
+abbrev pub same : Bool → Bool → Bool
+same true b = b
+same false b = not b
+
+pub same_is : (a b : Bool) → same a b ≡ true → a ≡ b
+same_is true true h = refl
+same_is true false h = absurd (false≢true h)
+same_is false true h = absurd (false≢true h)
+same_is false false h = refl

@@ -1,5 +1,0 @@
-use Rattle.mesh_tlv.proofs.Grows.{grows_on}
-use Rattle.mesh_tlv.proofs.write.put_addr_block.Goals as goal
-
-pub returns-clause-kept : goal.returns-clause-kept
-returns-clause-kept c = grows_on c.put_short.ensures.kept c.put_addr_tlvs.ensures.kept

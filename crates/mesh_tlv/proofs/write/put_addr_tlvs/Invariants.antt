@@ -1,8 +1,0 @@
-use Rattle.std.proofs.Common.{◌≡◌, ◌++◌, map, take}
-use Rattle.std.specs.List.{flat_map}
-use Rattle.mesh_tlv.specs.Fields.{addr_fields}
-use Rattle.mesh_tlv.specs.Least.{least_addr_tlv}
-use Rattle.mesh_tlv.proofs.write.put_addr_tlvs.Given as goal
-
-abbrev pub invariant-loop-tlv : goal.invariant-loop-tlv
-invariant-loop-tlv l = record { wrote : l.out ≡ l.initial.out ++ flat_map (least_addr_tlv l.count) (map addr_fields (take l.tlv-index l.tlvs)) }
