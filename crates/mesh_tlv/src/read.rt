@@ -85,9 +85,9 @@ impl<'a> ItemReader<'a> for Form {
 
 /// TLVs of a packet or a message, which cover no addresses.
 #[derive(Clone, Copy)]
-struct Plain;
+struct MessageTlvs;
 
-impl<'a> ItemReader<'a> for Plain {
+impl<'a> ItemReader<'a> for MessageTlvs {
     ghost use Rattle.mesh_tlv.specs.Fields.{TlvFields, fields};
     ghost use Rattle.mesh_tlv.specs.Reading.{tlv_at};
 
@@ -97,9 +97,9 @@ impl<'a> ItemReader<'a> for Plain {
 
     ghost fields = { fields };
 
-    ghost can_read = { λ plain. Unit {0} };
+    ghost can_read = { λ tlvs. Unit {0} };
 
-    ghost item_at = { λ plain. tlv_at };
+    ghost item_at = { λ tlvs. tlv_at };
 
     #[tactic(auto, unfolding(crate::specs::Reading::tlv_at))]
     fn read(
@@ -186,7 +186,7 @@ pub fn read_tlvs<'a>(
     // How it is read, field by field.
     ensures exact { Gives block_fields result (block_at tlv_at frame.now at end) }
 {
-    read_block(alloc, Plain, frame, at, end)
+    read_block(alloc, MessageTlvs, frame, at, end)
 }
 
 /// Reads the TLV block behind a block of `count` addresses (RFC 5444, section 5.4), as `read_tlvs` reads that of a
