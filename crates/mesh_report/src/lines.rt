@@ -1,10 +1,10 @@
 //! The lines of a packet's listing. Each is put behind what a piece holds, which is put behind other octets where it is long.
 ghost use Rattle.std.specs.Prelude.{◌≡◌, ◌++◌, ◌+◌, ◌≤◌, length, codes, OnOk};
-ghost use Rattle.mesh_tlv.specs.Fields.{fields, addr_fields};
+ghost use Rattle.std.specs.List.{flat_map};
 ghost use Rattle.mesh_tlv.specs.Least.{Grows};
 ghost use Rattle.mesh_packet.specs.Fields.{fields_of_packet, fields_of_message, fields_of_block};
 ghost use Rattle.mesh_report.specs.Pieces.{numbered, numbered_or_none, addressed, addressed_or_none, chosen, named};
-ghost use Rattle.mesh_report.specs.Lines.{packet_line, tlv_line, message_line, block_line, address_line, addr_tlv_line, refused_line};
+ghost use Rattle.mesh_report.specs.Lines.{packet_line, message_line, block_line, address_line, refused_line};
 
 use crate::piece::Piece;
 use crate::pieces::{
@@ -16,6 +16,35 @@ use mesh_atoms::{Bytes, Refusal};
 use mesh_packet::{Block, Message, Packet};
 use mesh_tlv::{AddrTlv, Tlv};
 use std::alloc::AllocError;
+
+/// What is listed in lines of its own.
+pub(crate) trait Listed {
+    ghost use Rattle.std.specs.Prelude.{◌≡◌, ℕ, List, ◌++◌, OnOk};
+    ghost use Rattle.mesh_tlv.specs.Least.{Grows};
+
+    /// The lines.
+    ghost text: { Self → List ℕ };
+
+    /// Puts the lines.
+    fn put_lines(&self, out: &mut Bytes, line: &mut Piece) -> Result<(), AllocError>
+        ensures ok { OnOk result (out.new ++ line.new ≡ (out.old ++ line.old) ++ text self.now) }
+        ensures kept { Grows out.old out.new };
+}
+
+/// Puts the lines of each value, in order.
+pub(crate) fn put_each<T: Listed>(
+    out: &mut Bytes,
+    line: &mut Piece,
+    items: &[T],
+) -> Result<(), AllocError>
+    ensures ok { OnOk result (out.new ++ line.new ≡ (out.old ++ line.old) ++ flat_map T.text items.now) }
+    ensures kept { Grows out.old out.new }
+{
+    for item in items {
+        item.put_lines(out, line)?;
+    }
+    Ok(())
+}
 
 // Puts two counts, and ends the line.
 #[inline(always)]
@@ -77,17 +106,20 @@ fn put_kind<const N: usize>(line: &mut Piece, label: [u8; N], kind: u8, ext: u8)
     put_numbered(line, *b" extension ", u64::from(ext));
 }
 
-/// Puts the line of a TLV of a packet or a message.
-#[tactic(auto, unfolding(crate::specs::Lines::tlv_line))]
-pub fn put_tlv_line(out: &mut Bytes, line: &mut Piece, tlv: Tlv) -> Result<(), AllocError>
-    ensures ok { OnOk result (out.new ++ line.new ≡ (out.old ++ line.old) ++ tlv_line (fields tlv.entry)) }
-    ensures kept { Grows out.old out.new }
-{
-    make_room(out, line)?;
-    put_kind(line, *b"  tlv ", tlv.kind, tlv.ext);
-    put_value(out, line, tlv.value)?;
-    line.put_text(*b"\n");
-    Ok(())
+impl Listed for Tlv<'_> {
+    ghost use Rattle.mesh_tlv.specs.Fields.{fields};
+    ghost use Rattle.mesh_report.specs.Lines.{tlv_line};
+
+    ghost text = { λ tlv. tlv_line (fields tlv) };
+
+    #[tactic(auto, unfolding(crate::specs::Lines::tlv_line))]
+    fn put_lines(&self, out: &mut Bytes, line: &mut Piece) -> Result<(), AllocError> {
+        make_room(out, line)?;
+        put_kind(line, *b"  tlv ", self.kind, self.ext);
+        put_value(out, line, self.value)?;
+        line.put_text(*b"\n");
+        Ok(())
+    }
 }
 
 // Puts what a message's line says up to its originator.
@@ -216,18 +248,21 @@ fn put_cover(line: &mut Piece, first: u8, last: u8, multi: bool)
     put_choice(line, *b" multi ", multi);
 }
 
-/// Puts the line of a TLV of the addresses of a block.
-#[tactic(auto, unfolding(crate::specs::Lines::addr_tlv_line))]
-pub fn put_addr_tlv_line(out: &mut Bytes, line: &mut Piece, tlv: AddrTlv) -> Result<(), AllocError>
-    ensures ok { OnOk result (out.new ++ line.new ≡ (out.old ++ line.old) ++ addr_tlv_line (addr_fields tlv.entry)) }
-    ensures kept { Grows out.old out.new }
-{
-    make_room(out, line)?;
-    put_kind(line, *b"   tlv ", tlv.kind, tlv.ext);
-    put_cover(line, tlv.first, tlv.last, tlv.multi);
-    put_value(out, line, tlv.value)?;
-    line.put_text(*b"\n");
-    Ok(())
+impl Listed for AddrTlv<'_> {
+    ghost use Rattle.mesh_tlv.specs.Fields.{addr_fields};
+    ghost use Rattle.mesh_report.specs.Lines.{addr_tlv_line};
+
+    ghost text = { λ tlv. addr_tlv_line (addr_fields tlv) };
+
+    #[tactic(auto, unfolding(crate::specs::Lines::addr_tlv_line))]
+    fn put_lines(&self, out: &mut Bytes, line: &mut Piece) -> Result<(), AllocError> {
+        make_room(out, line)?;
+        put_kind(line, *b"   tlv ", self.kind, self.ext);
+        put_cover(line, self.first, self.last, self.multi);
+        put_value(out, line, self.value)?;
+        line.put_text(*b"\n");
+        Ok(())
+    }
 }
 
 /// Puts a label, the number of the rule that is broken, and its name, and ends the line.

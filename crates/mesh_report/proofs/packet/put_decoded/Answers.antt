@@ -1,4 +1,5 @@
 use Rattle.std.proofs.Common.{◌≡◌, ◌++◌, List, ℕ, map, refl}
+use Rattle.std.proofs.lemmas.List.Folds.{flat_map-map}
 use Rattle.std.specs.List.{flat_map}
 use Rattle.mesh_tlv.specs.Fields.{fields}
 use Rattle.mesh_tlv.proofs.Grows.{grows_on}
@@ -15,16 +16,16 @@ returns-clause-ok c = on_ok c.put_messages.result (λ wrote.
     let old : List ℕ = c.args.out.now ++ c.args.room.now.line in
     let first : List ℕ = packet_line c.args.number (fields_of_packet packet) in
     let tlvs : List ℕ = flat_map tlv_line (map fields packet.tlvs) in
-    let standing : List ℕ = c.put_tlvs.new.out ++ c.put_tlvs.new.line in
-    let put_tlvs : standing ≡ (c.put_packet_line.new.out ++ c.put_packet_line.new.line) ++ tlvs = rw (← c.as_slice.ensures) c.in_ok-put_tlvs.ensures.ok in
+    let standing : List ℕ = c.put_each.new.out ++ c.put_each.new.line in
+    let put_tlvs : standing ≡ (c.put_packet_line.new.out ++ c.put_packet_line.new.line) ++ tlvs = rw (← c.as_slice.ensures, flat_map-map tlv_line fields c.as_slice.result.now) c.in_ok-put_each.ensures.ok in
     let messages : Wrote (IsMessagesText (map fields_of_message packet.messages) c.args.decoded.now.spans) standing (c.put_messages.new.out ++ c.put_messages.new.room.line) = rw (← c.as_slice-2.ensures, ← c.as_slice-3.ensures) wrote in
     (first ++ tlvs ++ messages.0, three old first tlvs messages.0 c.in_ok-put_packet_line.ensures.ok put_tlvs messages.1, (messages.0, messages.2, refl))) c.put_messages.ensures.ok
 
 pub returns-clause-kept : goal.returns-clause-kept
-returns-clause-kept c = grows_on c.put_packet_line.ensures.kept (grows_on c.put_tlvs.ensures.kept c.put_messages.ensures.kept)
+returns-clause-kept c = grows_on c.put_packet_line.ensures.kept (grows_on c.put_each.ensures.kept c.put_messages.ensures.kept)
 
 pub returns-in_err-put_packet_line-clause-kept : goal.returns-in_err-put_packet_line-clause-kept
 returns-in_err-put_packet_line-clause-kept c = c.put_packet_line.ensures.kept
 
-pub returns-in_err-put_tlvs-clause-kept : goal.returns-in_err-put_tlvs-clause-kept
-returns-in_err-put_tlvs-clause-kept c = grows_on c.put_packet_line.ensures.kept c.put_tlvs.ensures.kept
+pub returns-in_err-put_each-clause-kept : goal.returns-in_err-put_each-clause-kept
+returns-in_err-put_each-clause-kept c = grows_on c.put_packet_line.ensures.kept c.put_each.ensures.kept

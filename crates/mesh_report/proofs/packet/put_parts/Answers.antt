@@ -1,4 +1,5 @@
 use Rattle.std.proofs.Common.{◌≡◌, ◌++◌, List, ℕ, map}
+use Rattle.std.proofs.lemmas.List.Folds.{flat_map-map}
 use Rattle.std.specs.List.{flat_map}
 use Rattle.mesh_tlv.specs.Fields.{fields}
 use Rattle.mesh_tlv.proofs.Grows.{grows_on}
@@ -11,8 +12,8 @@ use Rattle.mesh_report.proofs.packet.put_parts.Goals as goal
 pub returns-in_err-put_message_line-clause-kept : goal.returns-in_err-put_message_line-clause-kept
 returns-in_err-put_message_line-clause-kept c = c.put_message_line.ensures.kept
 
-pub returns-in_err-put_tlvs-clause-kept : goal.returns-in_err-put_tlvs-clause-kept
-returns-in_err-put_tlvs-clause-kept c = grows_on c.put_message_line.ensures.kept c.put_tlvs.ensures.kept
+pub returns-in_err-put_each-clause-kept : goal.returns-in_err-put_each-clause-kept
+returns-in_err-put_each-clause-kept c = grows_on c.put_message_line.ensures.kept c.put_each.ensures.kept
 
 pub returns : goal.returns
 unfolding message_text
@@ -22,9 +23,9 @@ returns c =
     let first : List ℕ = message_line c.args.size (fields_of_message message) in
     let tlvs : List ℕ = flat_map tlv_line (map fields message.tlvs) in
     let blocks : List ℕ = flat_map block_text (map fields_of_block message.blocks) in
-    let standing : List ℕ = c.put_tlvs.new.out ++ c.put_tlvs.new.line in
-    let put_tlvs : standing ≡ (c.put_message_line.new.out ++ c.put_message_line.new.line) ++ tlvs = rw (← c.as_slice.ensures) c.in_ok-put_tlvs.ensures.ok in
+    let standing : List ℕ = c.put_each.new.out ++ c.put_each.new.line in
+    let put_tlvs : standing ≡ (c.put_message_line.new.out ++ c.put_message_line.new.line) ++ tlvs = rw (← c.as_slice.ensures, flat_map-map tlv_line fields c.as_slice.result.now) c.in_ok-put_each.ensures.ok in
     record {
-      ok = on_ok c.put_blocks.result (λ wrote. three old first tlvs blocks c.in_ok-put_message_line.ensures.ok put_tlvs (rw (← c.as_slice-2.ensures) wrote)) c.put_blocks.ensures.ok;
-      kept = grows_on c.put_message_line.ensures.kept (grows_on c.put_tlvs.ensures.kept c.put_blocks.ensures.kept);
+      ok = on_ok c.put_each-2.result (λ wrote. three old first tlvs blocks c.in_ok-put_message_line.ensures.ok put_tlvs (rw (← c.as_slice-2.ensures, flat_map-map block_text fields_of_block c.as_slice-2.result.now) wrote)) c.put_each-2.ensures.ok;
+      kept = grows_on c.put_message_line.ensures.kept (grows_on c.put_each.ensures.kept c.put_each-2.ensures.kept);
     }

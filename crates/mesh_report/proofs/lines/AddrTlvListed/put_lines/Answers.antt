@@ -4,12 +4,12 @@ use Rattle.mesh_report.specs.Lines.{addr_tlv_line}
 use Rattle.mesh_report.specs.Pieces.{numbered, valued, chosen}
 use Rattle.mesh_report.proofs.Joined.{behind, two, three}
 use Rattle.mesh_tlv.proofs.Grows.{grows_on}
-use Rattle.mesh_report.proofs.lines.put_addr_tlv_line.Goals as goal
+use Rattle.mesh_report.proofs.lines.AddrTlvListed.put_lines.Goals as goal
 
 pub returns-clause-ok : goal.returns-clause-ok
 unfolding addr_tlv_line
 returns-clause-ok c =
-    let tlv = addr_fields c.args.tlv in
+    let tlv = addr_fields c.args.self.now in
     let kind : List ℕ = numbered (codes "   tlv ") tlv.kind ++ numbered (codes " extension ") tlv.ext in
     let cover : List ℕ = numbered (codes " first ") tlv.first ++ numbered (codes " last ") tlv.last ++ chosen (codes " multi ") tlv.multi in
     let value : List ℕ = valued (codes " value ") tlv.value in

@@ -1,12 +1,13 @@
 use Rattle.std.proofs.Common.{◌≡◌, ◌++◌, List, ℕ, map}
 use Rattle.std.specs.List.{flat_map}
+use Rattle.std.proofs.lemmas.List.Folds.{flat_map-map}
 use Rattle.mesh_tlv.specs.Fields.{addr_fields}
 use Rattle.mesh_tlv.proofs.Grows.{grows_on}
 use Rattle.mesh_packet.specs.Fields.{fields_of_block}
 use Rattle.mesh_report.specs.Lines.{block_line, address_line, addr_tlv_line}
 use Rattle.mesh_report.specs.Packets.{block_text}
 use Rattle.mesh_report.proofs.Joined.{on_ok, three}
-use Rattle.mesh_report.proofs.packet.put_block.Goals as goal
+use Rattle.mesh_report.proofs.packet.BlockListed.put_lines.Goals as goal
 
 pub returns-in_err-put_block_line-clause-kept : goal.returns-in_err-put_block_line-clause-kept
 returns-in_err-put_block_line-clause-kept c = c.put_block_line.ensures.kept
@@ -17,7 +18,7 @@ returns-in_err-put_addresses-clause-kept c = grows_on c.put_block_line.ensures.k
 pub returns : goal.returns
 unfolding block_text
 returns c =
-    let block = c.args.block.now in
+    let block = c.args.self.now in
     let old : List ℕ = c.args.out.now ++ c.args.line.now in
     let first : List ℕ = block_line (fields_of_block block) in
     let addrs : List ℕ = flat_map (address_line block.addrs.width) block.addrs.addrs in
@@ -25,6 +26,6 @@ returns c =
     let standing : List ℕ = c.put_addresses.new.out ++ c.put_addresses.new.line in
     let put_addresses : standing ≡ (c.put_block_line.new.out ++ c.put_block_line.new.line) ++ addrs = rw (← c.as_slice.ensures) c.in_ok-put_addresses.ensures.ok in
     record {
-      ok = on_ok c.put_addr_tlvs.result (λ wrote. three old first addrs tlvs c.in_ok-put_block_line.ensures.ok put_addresses (rw (← c.as_slice-2.ensures) wrote)) c.put_addr_tlvs.ensures.ok;
-      kept = grows_on c.put_block_line.ensures.kept (grows_on c.put_addresses.ensures.kept c.put_addr_tlvs.ensures.kept);
+      ok = on_ok c.put_each.result (λ wrote. three old first addrs tlvs c.in_ok-put_block_line.ensures.ok put_addresses (rw (← c.as_slice-2.ensures, flat_map-map addr_tlv_line addr_fields c.as_slice-2.result.now) wrote)) c.put_each.ensures.ok;
+      kept = grows_on c.put_block_line.ensures.kept (grows_on c.put_addresses.ensures.kept c.put_each.ensures.kept);
     }

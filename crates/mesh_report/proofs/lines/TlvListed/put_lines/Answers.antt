@@ -4,12 +4,12 @@ use Rattle.mesh_report.specs.Lines.{tlv_line}
 use Rattle.mesh_report.specs.Pieces.{numbered, valued}
 use Rattle.mesh_report.proofs.Joined.{behind, two}
 use Rattle.mesh_tlv.proofs.Grows.{grows_on}
-use Rattle.mesh_report.proofs.lines.put_tlv_line.Goals as goal
+use Rattle.mesh_report.proofs.lines.TlvListed.put_lines.Goals as goal
 
 pub returns-clause-ok : goal.returns-clause-ok
 unfolding tlv_line
 returns-clause-ok c =
-    let tlv = fields c.args.tlv in
+    let tlv = fields c.args.self.now in
     let kind : List ℕ = numbered (codes "  tlv ") tlv.kind ++ numbered (codes " extension ") tlv.ext in
     let value : List ℕ = valued (codes " value ") tlv.value in
     let first = behind c.make_room.new.out c.make_room.new.line kind c.put_kind.ensures.text ∙ ap (λ (l : List ℕ). l ++ kind) c.in_ok-make_room.ensures.ok in

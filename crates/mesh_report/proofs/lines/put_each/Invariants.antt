@@ -1,0 +1,10 @@
+use Rattle.std.proofs.Common.{◌≡◌, ◌++◌, take}
+use Rattle.std.specs.List.{flat_map}
+use Rattle.mesh_tlv.specs.Least.{Grows}
+use Rattle.mesh_report.proofs.lines.put_each.Given as goal
+
+abbrev pub invariant-loop-item : goal.invariant-loop-item
+invariant-loop-item g l = record {
+  wrote : l.out ++ l.line ≡ (l.initial.out ++ l.initial.line) ++ flat_map g.T.Listed.text (take l.item-index l.items);
+  kept : Grows l.initial.out l.out;
+}
