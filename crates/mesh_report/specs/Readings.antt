@@ -1,5 +1,5 @@
 -- How a HELLO or a TC reads, as the last line of its message.
-use Rattle.std.specs.Prelude.{◌≡◌, ◌≢◌, ◌⊎◌, ℕ, List, [], ◌++◌, length, codes, Option}
+use Rattle.std.specs.Prelude.{◌≡◌, ◌≢◌, ◌⊎◌, ℕ, List, [], ◌++◌, length, codes, Option, Result, Ok, Err}
 use Rattle.mesh_atoms.specs.declared.addr.NetAddr.{NetAddr}
 use Rattle.mesh_atoms.specs.declared.hello.Hello.{Hello}
 use Rattle.mesh_atoms.specs.declared.tc.Tc.{Tc}
@@ -8,6 +8,8 @@ use Rattle.mesh_wire.specs.Hello.{HelloIs}
 use Rattle.mesh_wire.specs.HelloRules.{BreaksHello}
 use Rattle.mesh_wire.specs.Rules.{Keeps, FirstBroken}
 use Rattle.mesh_wire.specs.Tc.{TcIs}
+use Rattle.mesh_wire.specs.declared.fault.WireFault.{WireFault}
+use Rattle.mesh_wire.specs.declared.fault.WireFault.TheVariants.{Broken, Memory}
 use Rattle.mesh_wire.specs.TcRules.{BreaksTc}
 use Rattle.mesh_report.specs.Pieces.{numbered, numbered_or_none, addressed_by_number, chosen, named}
 
@@ -35,6 +37,12 @@ abbrev pub Reads : {X : Type 0} → (ℕ → Option NetAddr → Type 0) → (X �
 Reads {X} Breaks Is line_of text =
     ((value : X) × Keeps Breaks × Is value × (text ≡ line_of value))
     ⊎ ((number : ℕ) × (addr : Option NetAddr) × FirstBroken Breaks number addr × (text ≡ broken_line number))
+
+-- the line of what was read, or of the rule that is broken
+abbrev pub Tells : {X : Type 0} → (X → List ℕ) → Result X WireFault → List ℕ → Type 0
+Tells line_of (Ok value) text = text ≡ line_of value
+Tells line_of (Err (Broken number addr)) text = text ≡ broken_line number
+Tells line_of (Err (Memory e)) text = ⊥
 
 -- how a message reads, by its type; messages of other types than HELLO and TC have no reading
 pub record IsReading (message : MessageFields) (text : List ℕ) : Type 0 where

@@ -2,12 +2,8 @@
 ghost use Rattle.std.specs.Prelude.{◌≡◌, ◌++◌, ◌+◌, ◌≤◌, length, codes, OnOk};
 ghost use Rattle.mesh_packet.specs.Fields.{fields_of_message};
 ghost use Rattle.mesh_packet.specs.Least.{Wrote};
-ghost use Rattle.mesh_wire.specs.Hello.{HelloIs};
-ghost use Rattle.mesh_wire.specs.HelloRules.{BreaksHello};
-ghost use Rattle.mesh_wire.specs.Tc.{TcIs};
-ghost use Rattle.mesh_wire.specs.TcRules.{BreaksTc};
 ghost use Rattle.mesh_report.specs.Pieces.{numbered, numbered_or_none, addressed_by_number, chosen};
-ghost use Rattle.mesh_report.specs.Readings.{hello_line, tc_line, broken_line, Reads, IsReading};
+ghost use Rattle.mesh_report.specs.Readings.{broken_line, Tells, IsReading};
 
 use crate::lines::put_rule;
 use crate::piece::Piece;
@@ -48,20 +44,34 @@ fn put_rows(line: &mut Piece, count: usize)
     line.put_text(*b"\n");
 }
 
-#[tactic(auto, unfolding(crate::specs::Readings::hello_line))]
-fn put_hello_line(line: &mut Piece, hello: &Hello)
-    requires { length line.old ≤ 10 }
-    ensures text { line.new ≡ line.old ++ hello_line hello.now }
-    ensures len { length line.new ≤ 320 }
-{
-    put_times(
-        line,
-        *b" reading hello validity ",
-        hello.validity,
-        hello.interval,
-    );
-    put_willing(line, hello.willing);
-    put_rows(line, hello.rows.len());
+/// What a message is read as, which a line tells.
+trait Reading: Sized + Drop {
+    ghost use Rattle.std.specs.Prelude.{◌≡◌, ◌++◌, ◌≤◌, ℕ, List, length};
+
+    ghost line_of: { Self → List ℕ };
+
+    fn put_line(&self, line: &mut Piece)
+        requires { length line.old ≤ 10 }
+        ensures text { line.new ≡ line.old ++ line_of self.now }
+        ensures len { length line.new ≤ 320 };
+}
+
+impl Reading for Hello {
+    ghost use Rattle.mesh_report.specs.Readings.{hello_line};
+
+    ghost line_of = { hello_line };
+
+    #[tactic(auto, unfolding(crate::specs::Readings::hello_line))]
+    fn put_line(&self, line: &mut Piece) {
+        put_times(
+            line,
+            *b" reading hello validity ",
+            self.validity,
+            self.interval,
+        );
+        put_willing(line, self.willing);
+        put_rows(line, self.rows.len());
+    }
 }
 
 // Puts who sent a TC, by which numbers, and whether it tells all rows.
@@ -77,15 +87,17 @@ fn put_content(line: &mut Piece, tc: &Tc)
     put_choice(line, *b" complete ", tc.complete);
 }
 
-#[tactic(auto, unfolding(crate::specs::Readings::tc_line))]
-fn put_tc_line(line: &mut Piece, tc: &Tc)
-    requires { length line.old ≤ 10 }
-    ensures text { line.new ≡ line.old ++ tc_line tc.now }
-    ensures len { length line.new ≤ 320 }
-{
-    put_content(line, tc);
-    put_times(line, *b" validity ", tc.validity, tc.interval);
-    put_rows(line, tc.rows.len());
+impl Reading for Tc {
+    ghost use Rattle.mesh_report.specs.Readings.{tc_line};
+
+    ghost line_of = { tc_line };
+
+    #[tactic(auto, unfolding(crate::specs::Readings::tc_line))]
+    fn put_line(&self, line: &mut Piece) {
+        put_content(line, self);
+        put_times(line, *b" validity ", self.validity, self.interval);
+        put_rows(line, self.rows.len());
+    }
 }
 
 #[tactic(auto, unfolding(crate::specs::Readings::broken_line))]
@@ -97,36 +109,15 @@ fn put_broken_line(line: &mut Piece, number: u8)
     put_rule(line, *b" reading broken ", number);
 }
 
-// Puts how a HELLO reads.
-fn put_hello(alloc: Global, line: &mut Piece, message: &Message) -> Result<(), AllocError>
-    requires kind { message.now.kind ≡ 0 }
-    requires room { length line.old ≤ 10 }
-    ensures text { OnOk result (Wrote (Reads (BreaksHello (fields_of_message message.now)) (HelloIs (fields_of_message message.now)) hello_line) line.old line.new) }
+// Puts what a message was read as, or the first rule that it breaks.
+fn put_read<R: Reading>(line: &mut Piece, read: Result<R, WireFault>) -> Result<(), AllocError>
+    requires { length line.old ≤ 10 }
+    ensures text { OnOk result (Wrote (Tells R.line_of read) line.old line.new) }
     ensures len { OnOk result (length line.new ≤ 320) }
 {
-    match hello_of(alloc, message) {
-        Ok(hello) => {
-            put_hello_line(line, &hello);
-            Ok(())
-        }
-        Err(WireFault::Broken { number, .. }) => {
-            put_broken_line(line, number);
-            Ok(())
-        }
-        Err(WireFault::Memory(e)) => Err(e),
-    }
-}
-
-// Puts how a TC reads.
-fn put_tc(alloc: Global, line: &mut Piece, message: &Message) -> Result<(), AllocError>
-    requires kind { message.now.kind ≡ 1 }
-    requires room { length line.old ≤ 10 }
-    ensures text { OnOk result (Wrote (Reads (BreaksTc (fields_of_message message.now)) (TcIs (fields_of_message message.now)) tc_line) line.old line.new) }
-    ensures len { OnOk result (length line.new ≤ 320) }
-{
-    match tc_of(alloc, message) {
-        Ok(tc) => {
-            put_tc_line(line, &tc);
+    match read {
+        Ok(value) => {
+            value.put_line(line);
             Ok(())
         }
         Err(WireFault::Broken { number, .. }) => {
@@ -145,8 +136,8 @@ pub fn put_reading(alloc: Global, line: &mut Piece, message: &Message) -> Result
     ensures len { OnOk result (length line.new ≤ 320) }
 {
     match message.kind {
-        0 => put_hello(alloc, line, message),
-        1 => put_tc(alloc, line, message),
+        0 => put_read(line, hello_of(alloc, message)),
+        1 => put_read(line, tc_of(alloc, message)),
         _ => Ok(()),
     }
 }

@@ -1,0 +1,26 @@
+use Rattle.std.proofs.Common.{arith}
+use Rattle.mesh_report.proofs.Joined.{on_ok}
+use Rattle.mesh_report.proofs.Readings.{told_reads}
+use Rattle.mesh_report.proofs.reading.put_reading.Goals as goal
+
+pub returns-in-0-clause-text : goal.returns-in-0-clause-text
+returns-in-0-clause-text c = on_ok c.put_read.result (λ wrote. (
+  wrote.0,
+  wrote.1,
+  record {
+    hello = λ kind. told_reads c.hello_of.result c.hello_of.ensures.reads c.hello_of.ensures.keeps c.hello_of.ensures.broken wrote.2;
+    tc = λ kind. absurd (omega (arith, c.in-0.is, kind));
+    other = λ no_hello no_tc. absurd (no_hello c.in-0.is);
+  },
+)) c.put_read.ensures.text
+
+pub returns-in-1-clause-text : goal.returns-in-1-clause-text
+returns-in-1-clause-text c = on_ok c.put_read-in-1.result (λ wrote. (
+  wrote.0,
+  wrote.1,
+  record {
+    hello = λ kind. absurd (omega (arith, c.in-1.is, kind));
+    tc = λ kind. told_reads c.tc_of.result c.tc_of.ensures.reads c.tc_of.ensures.keeps c.tc_of.ensures.broken wrote.2;
+    other = λ no_hello no_tc. absurd (no_tc c.in-1.is);
+  },
+)) c.put_read-in-1.ensures.text
