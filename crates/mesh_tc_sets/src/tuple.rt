@@ -1,5 +1,5 @@
 //! The tuples that the rows of a TC give (RFC 7181, section 16.3.3).
-ghost use Rattle.std.specs.Prelude.{◌≡◌, ◌≤◌, ℕ, Option, Some, IsTrue, false};
+ghost use Rattle.std.specs.Prelude.{◌≡◌, ◌≤◌, ◌↔◌, ℕ, Option, Some, IsTrue, false};
 ghost use Rattle.std.specs.Ordering.{is_gt};
 ghost use Rattle.mesh_atoms.specs.declared.addr.Addr4.{Addr4};
 ghost use Rattle.mesh_codes.specs.declared.metric.Metric.{Metric};
@@ -30,7 +30,7 @@ pub trait Tuple<K: Ord>: Sized {
 
     /// Whether two tuples say the same, whatever their numbers.
     fn says_as(&self, other: &Self) -> bool
-        ensures { IsTrue result → says self.now ≡ says other.now };
+        ensures { IsTrue result ↔ (says self.now ≡ says other.now) };
 
     /// No key of the originator is before this one.
     fn first_key(originator: Addr4) -> K
