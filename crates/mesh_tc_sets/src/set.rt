@@ -1,5 +1,5 @@
 //! One set of tuples with its keys in order, and what a TC does to it.
-ghost use Rattle.std.specs.Prelude.{◌≡◌, ◌+◌, ◌≤◌, ℕ, false, length, count_by, is_some, option_map, IfOk, OnOk, IsTrue, Some, cond};
+ghost use Rattle.std.specs.Prelude.{◌≡◌, ◌+◌, ◌≤◌, ◌↔◌, ℕ, false, length, count_by, is_some, option_map, IfOk, OnOk, IsTrue, Some, cond};
 ghost use Rattle.mesh_atoms.specs.Base.{HasDistinctKeys, find};
 ghost use Rattle.mesh_atoms.specs.AfterTc.{BecomesSet, if_not_dropped};
 ghost use Rattle.mesh_expire.specs.Keyed.{AreKeys};
@@ -62,7 +62,7 @@ fn drop_outdated<K: Key + Ord + Drop, V: Tuple<K> + Drop, T: Table<K, V>>(
 
 // Whether a tuple that says the same stands at the key.
 fn stands<K: Key + Ord, V: Tuple<K>, T: Table<K, V>>(table: &T, key: &K, tuple: &V) -> bool
-    ensures { IsTrue result → option_map (λ e. V.says e.0) (find K.eq (T.content table.now) key.now) ≡ Some (V.says tuple.now) }
+    ensures { IsTrue result ↔ (option_map (λ e. V.says e.0) (find K.eq (T.content table.now) key.now) ≡ Some (V.says tuple.now)) }
 {
     match table.get(key) {
         Some((old, _)) => old.says_as(tuple),
@@ -82,7 +82,7 @@ fn put_given<K: Key + Ord + Drop, V: Tuple<K> + Drop, T: Table<K, V>>(
     ensures keys { AreKeys K.eq K.cmp keys.new (T.content table.new) }
     ensures distinct { HasDistinctKeys K.eq (T.content table.new) }
     ensures put { OnOk result (PutsGiven K.eq given until (T.content table.old) (T.content table.new)) }
-    ensures same { IfOk result (λ changed. changed ≡ false → SaysSame K.eq V.says (T.content table.old) (T.content table.new)) }
+    ensures same { IfOk result (λ changed. changed ≡ false ↔ SaysSame K.eq V.says (T.content table.old) (T.content table.new)) }
     ensures count { OnOk result (length (T.content table.new) ≤ length (T.content table.old) + cond (is_some given) 1 0) }
 {
     let Some((key, tuple)) = given else {

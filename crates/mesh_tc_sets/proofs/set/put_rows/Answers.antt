@@ -30,7 +30,7 @@ loop-row-preserved g c =
       keys = c.in_ok-changed.ensures.keys;
       distinct = c.in_ok-changed.ensures.distinct;
       same = λ e. let (was, stays) = neither c.loop-row.changed c.in_ok-changed.field-0 e in
-          same_after g.K.PartialEq.eq g.V.Tuple.says _ _ _ (c.loop-row.invariant.same was) (c.in_ok-changed.ensures.same stays);
+          same_after g.K.PartialEq.eq g.V.Tuple.says _ _ _ (c.loop-row.invariant.same was) (c.in_ok-changed.ensures.same.0 stays);
       put = puts_more g.met.K.Eq.laws g.met.K.Key.exact given c.args.until rows c.loop-row.row-index c.row-item.result c.given_by.result (g.T.Table.content c.args.table.now) (g.T.Table.content c.loop-row.table) (g.T.Table.content c.put_given.new.table)
           here c.given_by.ensures c.loop-row.invariant.put c.in_ok-changed.ensures.put;
       count = count_more given rows c.loop-row.row-index c.row-item.result c.given_by.result _ _ _ here c.given_by.ensures c.loop-row.invariant.count c.in_ok-changed.ensures.count;
