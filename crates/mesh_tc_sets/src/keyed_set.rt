@@ -1,14 +1,14 @@
 //! A table of tuples with its keys in order.
-ghost use Rattle.std.specs.Prelude.{◌≡◌, ◌+◌, ◌≤◌, [], false, length, count_by, is_some, IfOk, OnOk};
-ghost use Rattle.mesh_atoms.specs.Base.{HasDistinctKeys, Expires};
+ghost use Rattle.std.specs.Prelude.{◌≡◌, ◌+◌, ◌≤◌, ◌↔◌, [], false, length, count_by, is_some, option_map, cond, IfOk, OnOk, IsTrue, Some};
+ghost use Rattle.mesh_atoms.specs.Base.{HasDistinctKeys, Expires, find};
 ghost use Rattle.mesh_atoms.specs.AfterTc.{BecomesSet};
 ghost use Rattle.mesh_tc_sets.specs.Same.{SaysSame};
-ghost use Rattle.mesh_tc_sets.specs.Sets.{GivenBy};
+ghost use Rattle.mesh_tc_sets.specs.Sets.{GivenBy, PutsGiven, PutsRows};
 
-use crate::set::take_rows;
+use crate::outdated::drop_outdated;
 use crate::tuple::Tuple;
 use mesh_atoms::Tc;
-use mesh_expire::{Key, Table, expire_keyed};
+use mesh_expire::{Key, Table, expire_keyed, put_keyed};
 use std::alloc::{AllocError, Global};
 use std::collections::BTreeSet;
 use std::marker::{Model, PhantomData};
@@ -59,14 +59,17 @@ impl<K: Key + Ord + Drop, V: Tuple<K> + Drop, T: Table<K, V>> KeyedSet<K, V, T> 
         self.table.len()
     }
 
-    /// Takes the rows of a TC until that moment. Whether what the tuples say may have changed. After want of memory the set
+    /// Takes the rows of a TC: they make or renew tuples until that moment. If the TC is complete, each other tuple of its
+    /// originator with another number goes. Whether what the tuples say may have changed. After want of memory the set
     /// may only be dropped.
     pub fn take_rows(&mut self, tc: &Tc, until: u64) -> Result<bool, AllocError>
         ensures becomes { OnOk result (BecomesSet K.eq tc.now until V.origin V.number (GivenBy V.given tc.now) self.old self.new) }
         ensures same { IfOk result (λ changed. changed ≡ false → SaysSame K.eq V.says self.old self.new) }
         ensures count { OnOk result (length self.new ≤ length self.old + count_by (λ row. is_some (V.given tc.now.originator tc.now.ansn row)) tc.now.rows) }
     {
-        take_rows(&mut self.table, &mut self.keys, tc, until)
+        let mut changed = self.put_rows(tc, until)?;
+        changed |= drop_outdated(&mut self.table, &mut self.keys, tc)?;
+        Ok(changed)
     }
 
     /// Takes out what is expired at that moment. Whether something was. Takes no memory.
@@ -77,5 +80,43 @@ impl<K: Key + Ord + Drop, V: Tuple<K> + Drop, T: Table<K, V>> KeyedSet<K, V, T> 
         ensures distinct { HasDistinctKeys K.eq self.new }
     {
         expire_keyed(&mut self.table, &mut self.keys, now) > 0
+    }
+
+    // Whether a tuple that says the same stands at the key.
+    fn stands(&self, key: &K, tuple: &V) -> bool
+        ensures { IsTrue result ↔ (option_map (λ e. V.says e.0) (find K.eq self.now key.now) ≡ Some (V.says tuple.now)) }
+    {
+        match self.table.get(key) {
+            Some((old, _)) => old.says_as(tuple),
+            None => false,
+        }
+    }
+
+    // Puts a tuple, if there is one, until that moment. Whether none that says the same stood there.
+    fn put_given(&mut self, given: Option<(K, V)>, until: u64) -> Result<bool, AllocError>
+        ensures put { OnOk result (PutsGiven K.eq given until self.old self.new) }
+        ensures same { IfOk result (λ changed. changed ≡ false ↔ SaysSame K.eq V.says self.old self.new) }
+        ensures count { OnOk result (length self.new ≤ length self.old + cond (is_some given) 1 0) }
+    {
+        let Some((key, tuple)) = given else {
+            return Ok(false);
+        };
+        let stood = self.stands(&key, &tuple);
+        put_keyed(&mut self.table, &mut self.keys, key, tuple, until)?;
+        Ok(!stood)
+    }
+
+    // Puts what the TC's rows give, until that moment. Whether what the tuples say may have changed.
+    fn put_rows(&mut self, tc: &Tc, until: u64) -> Result<bool, AllocError>
+        ensures put { OnOk result ((q : K) → PutsRows (V.given tc.now.originator tc.now.ansn) until tc.now.rows (length tc.now.rows) q
+            (find K.eq self.old q) (find K.eq self.new q)) }
+        ensures same { IfOk result (λ changed. changed ≡ false → SaysSame K.eq V.says self.old self.new) }
+        ensures count { OnOk result (length self.new ≤ length self.old + count_by (λ row. is_some (V.given tc.now.originator tc.now.ansn row)) tc.now.rows) }
+    {
+        let mut changed = false;
+        for row in tc.rows.as_slice() {
+            changed |= self.put_given(V::given_by(tc.originator, tc.ansn, row), until)?;
+        }
+        Ok(changed)
     }
 }

@@ -4,7 +4,6 @@
 
 mod keyed_set;
 mod outdated;
-mod set;
 mod tuple;
 
 pub use keyed_set::KeyedSet;

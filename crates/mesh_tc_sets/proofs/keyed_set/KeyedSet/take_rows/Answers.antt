@@ -1,10 +1,11 @@
+use Rattle.mesh_tc_sets.proofs.Laws.{becomes}
 use Rattle.mesh_tc_sets.proofs.keyed_set.KeyedSet.take_rows.Goals as goal
 
 pub returns-clause-becomes : goal.returns-clause-becomes
-returns-clause-becomes g c = rw (← c.self.view_is) c.take_rows.ensures.becomes
-
-pub returns-clause-same : goal.returns-clause-same
-returns-clause-same g c = rw (← c.self.view_is) c.take_rows.ensures.same
-
-pub returns-clause-count : goal.returns-clause-count
-returns-clause-count g c = rw (← c.self.view_is) c.take_rows.ensures.count
+returns-clause-becomes g c =
+    let tc = c.args.tc.now in
+    record {
+      distinct = c.drop_outdated.ensures.distinct;
+      at = λ key. becomes g.V.Tuple.given tc c.args.until g.V.Tuple.origin g.V.Tuple.number key _ _ _ (λ value gives. g.met.V.Tuple.numbered tc.originator tc.ansn gives.0 key value gives.2)
+          (c.in_ok-changed.ensures.put key) (rw (← c.self.view_is) (c.in_ok-changed-2.ensures.dropped key));
+    }

@@ -4,7 +4,7 @@ use Rattle.std.specs.Prelude.{None}
 use Rattle.std.specs.List.{list_any}
 use Rattle.mesh_atoms.specs.Base.{find}
 use Rattle.mesh_tc_sets.proofs.Laws.{left_all, left_at}
-use Rattle.mesh_tc_sets.proofs.set.drop_outdated.Goals as goal
+use Rattle.mesh_tc_sets.proofs.outdated.drop_outdated.Goals as goal
 
 none_of : {X : Type 0} (p : X → Bool) (xs : List X) → length xs ≡ 0 → list_any p xs ≡ false
 none_of p [] none = refl
