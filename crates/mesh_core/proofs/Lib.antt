@@ -1,2 +1,3 @@
 mod Emptied
+mod Seen
 mod Spent

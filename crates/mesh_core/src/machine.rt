@@ -1,5 +1,5 @@
 //! A router that runs, whatever tables it has.
-ghost use Rattle.std.specs.Prelude.{◌≡◌, ◌<◌, ◌≤◌, ◌^◌, length, All, IfOk, OnOk};
+ghost use Rattle.std.specs.Prelude.{◌≡◌, ◌<◌, ◌≤◌, ◌^◌, length, is_err, All, IfOk, OnOk};
 ghost use Rattle.mesh_machine.specs.Machine.{Event, Step, IsOpening, due};
 ghost use Rattle.mesh_machine.specs.Sendable.{IsSendable};
 
@@ -50,6 +50,14 @@ pub trait Machine: RouterView + Sized + Drop {
         ensures { result ≡ due (Self.state self.now) };
 }
 
+// Whether a frame was heard, whatever is answered to it.
+fn told(came: Result<Heard, AllocError>) -> Result<(), AllocError>
+    ensures { is_err result ≡ is_err came }
+{
+    let _ = came?;
+    Ok(())
+}
+
 impl<B: Bases> Machine for Core<B> {
     fn make(alloc: Global, settings: RouterSettings) -> Result<Core<B>, AllocError> {
         Core::new(alloc, settings)
@@ -62,9 +70,7 @@ impl<B: Bases> Machine for Core<B> {
         out: &mut Outbox,
     ) -> Result<(), AllocError> {
         out.clear();
-        let heard = self.hear(arrival.now, arrival.iface, arrival.sender, bytes, out)?;
-        let_go(heard);
-        Ok(())
+        told(self.hear(arrival.now, arrival.iface, arrival.sender, bytes, out))
     }
 
     fn tick_at(&mut self, now: u64, out: &mut Outbox) -> Result<(), AllocError> {
@@ -73,11 +79,6 @@ impl<B: Bases> Machine for Core<B> {
     }
 
     fn next_due(&self) -> u64 {
-        self.due()
+        u64::min(self.derived.next_hello, self.derived.next_tc)
     }
-}
-
-// Lets go of what is answered to a frame.
-fn let_go(heard: Heard) {
-    let _ = heard;
 }

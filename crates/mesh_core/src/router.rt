@@ -1,7 +1,7 @@
 //! The router core: a router with its bases, and what follows from them.
 ghost use Rattle.std.specs.Prelude.{◌≡◌, IfOk, false};
 ghost use Rattle.mesh_atoms.specs.Sound.{Sound};
-ghost use Rattle.mesh_machine.specs.Machine.{IsOpening, due};
+ghost use Rattle.mesh_machine.specs.Machine.{IsOpening};
 
 use mesh_atoms::RouterSettings;
 use mesh_expire::Bases;
@@ -18,14 +18,20 @@ pub struct Core<B: Bases> {
     pub(crate) spent: bool,
 }
 
+// Lets go of what follows from the bases.
+fn let_go(derived: Derived) {
+    let _ = derived;
+}
+
 // By hand, so that no crate that lets go of one has to know its parts.
 impl<B: Bases> Drop for Core<B> {
     fn drop(self) {
         let Core {
             holding: _,
-            derived: _,
+            derived,
             spent: _,
         } = self;
+        let_go(derived);
     }
 }
 
@@ -52,13 +58,6 @@ impl<B: Bases> Core<B> {
         opened(alloc, &settings)
     }
 
-    /// The moment at which the next HELLO or TC is due.
-    pub fn due(&self) -> u64
-        ensures { result ≡ due self.now.state }
-    {
-        u64::min(self.derived.next_hello, self.derived.next_tc)
-    }
-
     /// Whether the router has met want of memory.
     pub fn is_spent(&self) -> bool
         ensures { result ≡ self.now.is_spent }
@@ -72,21 +71,11 @@ fn opened<B: Bases>(alloc: Global, settings: &RouterSettings) -> Result<Core<B>,
     ensures opening { IfOk result (λ core. IsOpening settings.now core.state) }
     ensures whole { IfOk result (λ core. core.is_spent ≡ false) }
 {
+    let holding = Holding::new(alloc, settings)?;
     let derived = opening(alloc, settings)?;
-    match Holding::new(alloc, settings) {
-        Ok(holding) => Ok(Core {
-            holding,
-            derived,
-            spent: false,
-        }),
-        Err(e) => {
-            let_go(derived);
-            Err(e)
-        }
-    }
-}
-
-// Lets go of what follows from the bases.
-fn let_go(derived: Derived) {
-    let _ = derived;
+    Ok(Core {
+        holding,
+        derived,
+        spent: false,
+    })
 }

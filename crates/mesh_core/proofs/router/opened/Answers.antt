@@ -5,9 +5,9 @@ use Rattle.mesh_events.proofs.Derivations.{has_own}
 use Rattle.mesh_core.proofs.router.opened.Goals as goal
 
 pub invariant_of-result : goal.invariant_of-result
-invariant_of-result g c = λ whole. opening_sound c.args.settings.now (state_of c.in-Ok.holding c.in_ok-derived.derived)
-    (c.in_ok-derived.ensures (state_of c.in-Ok.holding c.in_ok-derived.derived) c.in-Ok.ensures.settings c.in-Ok.ensures.empty (has_own c.in-Ok.holding c.in_ok-derived.derived) (record { sequence = refl; next_hello = refl; next_tc = refl }))
+invariant_of-result g c = λ whole. opening_sound c.args.settings.now (state_of c.in_ok-holding.holding c.in_ok-derived.derived)
+    (c.in_ok-derived.ensures (state_of c.in_ok-holding.holding c.in_ok-derived.derived) c.in_ok-holding.ensures.settings c.in_ok-holding.ensures.empty (has_own c.in_ok-holding.holding c.in_ok-derived.derived) (record { sequence = refl; next_hello = refl; next_tc = refl }))
 
-pub returns-in-Ok-clause-opening : goal.returns-in-Ok-clause-opening
-returns-in-Ok-clause-opening g c =
-    c.in_ok-derived.ensures (state_of c.in-Ok.holding c.in_ok-derived.derived) c.in-Ok.ensures.settings c.in-Ok.ensures.empty (has_own c.in-Ok.holding c.in_ok-derived.derived) (record { sequence = refl; next_hello = refl; next_tc = refl })
+pub returns-clause-opening : goal.returns-clause-opening
+returns-clause-opening g c =
+    c.in_ok-derived.ensures (state_of c.in_ok-holding.holding c.in_ok-derived.derived) c.in_ok-holding.ensures.settings c.in_ok-holding.ensures.empty (has_own c.in_ok-holding.holding c.in_ok-derived.derived) (record { sequence = refl; next_hello = refl; next_tc = refl })

@@ -1,9 +1,10 @@
-use Rattle.std.proofs.Common.{List}
+use Rattle.std.proofs.Common.{List, OnOk}
 use Rattle.std.specs.Prelude.{All}
 use Rattle.mesh_machine.specs.declared.frame.Frame.{Frame}
 use Rattle.mesh_machine.specs.Machine.{Hear, Step}
 use Rattle.mesh_machine.specs.Sendable.{IsSendable}
 use Rattle.mesh_core.proofs.Emptied.{alone}
+use Rattle.mesh_core.proofs.Spent.{where_told}
 use Rattle.mesh_core.proofs.machine.CoreMachine.hear_frame.Goals as goal
 
 pub hear-requires-clause-now : goal.hear-requires-clause-now
@@ -17,16 +18,19 @@ hear-requires-clause-iface g c = c.requires.iface
 
 pub returns-clause-step : goal.returns-clause-step
 returns-clause-step g c =
-    alone (λ (sent : List Frame). Step c.args.self.now.state (Hear c.args.arrival c.args.bytes.now) sent c.hear.new.self.state) c.clear.new.self c.hear.new.out c.clear.ensures c.in_ok-heard.ensures.step
+    where_told _ c.hear.result c.told.result c.told.ensures
+    (alone (λ (sent : List Frame). OnOk c.hear.result (Step c.args.self.now.state (Hear c.args.arrival c.args.bytes.now) sent c.hear.new.self.state)) c.clear.new.self c.hear.new.out c.clear.ensures c.hear.ensures.step)
 
 pub returns-clause-sendable : goal.returns-clause-sendable
-returns-clause-sendable g c = alone (All (IsSendable c.args.self.now.state.settings)) c.clear.new.self c.hear.new.out c.clear.ensures c.in_ok-heard.ensures.sendable
+returns-clause-sendable g c =
+    where_told _ c.hear.result c.told.result c.told.ensures
+    (alone (λ (sent : List Frame). OnOk c.hear.result (All (IsSendable c.args.self.now.state.settings) sent)) c.clear.new.self c.hear.new.out c.clear.ensures c.hear.ensures.sendable)
 
 pub returns-clause-settings : goal.returns-clause-settings
-returns-clause-settings g c = c.in_ok-heard.ensures.settings
+returns-clause-settings g c = where_told _ c.hear.result c.told.result c.told.ensures c.hear.ensures.settings
 
 pub returns-clause-last : goal.returns-clause-last
-returns-clause-last g c = c.in_ok-heard.ensures.last
+returns-clause-last g c = where_told _ c.hear.result c.told.result c.told.ensures c.hear.ensures.last
 
 pub returns-clause-due : goal.returns-clause-due
-returns-clause-due g c = c.in_ok-heard.ensures.due
+returns-clause-due g c = where_told _ c.hear.result c.told.result c.told.ensures c.hear.ensures.due

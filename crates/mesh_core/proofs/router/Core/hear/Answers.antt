@@ -1,16 +1,11 @@
-use Rattle.std.proofs.Common.{List, length, arith, refl, subst, sym, ◌≡◌, ◌≤◌, ◌<◌}
-use Rattle.std.specs.Prelude.{All}
+use Rattle.std.proofs.Common.{length, arith, refl, subst, sym, ◌<◌}
 use Rattle.mesh_routes.proofs.ChoiceLaw.{if_ok_more}
-use Rattle.mesh_atoms.specs.State.{State}
-use Rattle.mesh_machine.specs.declared.arrival.Arrival.{Arrival}
-use Rattle.mesh_machine.specs.declared.frame.Frame.{Frame}
-use Rattle.mesh_machine.specs.Frames.{sent_since}
-use Rattle.mesh_machine.specs.Machine.{Hear, Heard_frame, Hears, Step, due}
-use Rattle.mesh_machine.specs.Sendable.{IsSendable}
-use Rattle.mesh_machine.proofs.Effects.{appends, since, hears_settings, hears_last, hears_due}
+use Rattle.mesh_machine.specs.Machine.{Heard_frame, Hears}
+use Rattle.mesh_machine.proofs.Effects.{appends, hears_settings, hears_last, hears_due}
 use Rattle.mesh_machine.proofs.Sendables.{hears_sendable}
 use Rattle.mesh_sending.proofs.Written.{on_ok_of}
 use Rattle.mesh_core.specs.Holding.{CoreValue}
+use Rattle.mesh_core.proofs.Seen.{heard}
 use Rattle.mesh_core.proofs.Spent.{where_whole}
 use Rattle.mesh_events.specs.Holding.{state_of}
 use Rattle.mesh_core.proofs.router.Core.hear.Goals as goal
@@ -27,67 +22,30 @@ hear_frame-came-requires-clause-sound g c = c.self.invariant c.if-self.false
 pub invariant_of-self : goal.invariant_of-self
 invariant_of-self g c = where_whole c.hear_frame-came.result c.is_err-self-inside.ensures.value c.hear_frame-came.ensures.sound
 
-pub returns-clause-step : goal.returns-clause-step
-returns-clause-step g c =
-    let arrival : Arrival = record { now = c.args.now; iface = c.args.iface; sender = c.args.sender } in
-    let before : State = state_of c.self.inside.holding c.self.inside.derived in
-    let after : State = state_of c.hear_frame-came.new.holding c.hear_frame-came.new.derived in
-    if_ok_more c.hear_frame-came.result (λ answer (sent, out, hears).
-    subst (λ (v : CoreValue). Step v.state (Hear arrival c.args.bytes.now) (sent_since c.args.out.now c.hear_frame-came.new.out) after) c.self.view_is
-    (Heard_frame answer (since (λ (f : List Frame). Hears before arrival c.args.bytes.now answer f after) c.args.out.now c.hear_frame-came.new.out sent out hears))) c.hear_frame-came.ensures.hears
-
 pub returns-clause-answer : goal.returns-clause-answer
-returns-clause-answer g c =
-    let arrival : Arrival = record { now = c.args.now; iface = c.args.iface; sender = c.args.sender } in
-    let before : State = state_of c.self.inside.holding c.self.inside.derived in
-    let after : State = state_of c.hear_frame-came.new.holding c.hear_frame-came.new.derived in
-    if_ok_more c.hear_frame-came.result (λ answer (sent, out, hears).
-    subst (λ (v : CoreValue). Hears v.state arrival c.args.bytes.now answer (sent_since c.args.out.now c.hear_frame-came.new.out) after) c.self.view_is
-    (since (λ (f : List Frame). Hears before arrival c.args.bytes.now answer f after) c.args.out.now c.hear_frame-came.new.out sent out hears)) c.hear_frame-came.ensures.hears
+returns-clause-answer g c = heard _ _ _ _ _ c.hear_frame-came.result c.self.view_is c.hear_frame-came.ensures.hears
+
+pub returns-clause-step : goal.returns-clause-step
+returns-clause-step g c = if_ok_more c.hear_frame-came.result (λ answer hears. Heard_frame answer hears) (returns-clause-answer g c)
 
 pub returns-clause-refused : goal.returns-clause-refused
 returns-clause-refused g c = c.hear_frame-came.ensures.refused
 
 pub returns-clause-appended : goal.returns-clause-appended
 returns-clause-appended g c =
-    let arrival : Arrival = record { now = c.args.now; iface = c.args.iface; sender = c.args.sender } in
-    let before : State = state_of c.self.inside.holding c.self.inside.derived in
-    let after : State = state_of c.hear_frame-came.new.holding c.hear_frame-came.new.derived in
-    appends (λ answer sent. Hears before arrival c.args.bytes.now answer sent after) c.hear_frame-came.result c.args.out.now c.hear_frame-came.new.out c.hear_frame-came.ensures.hears c.hear_frame-came.ensures.wanting
+    appends (λ answer sent. Hears (state_of c.self.inside.holding c.self.inside.derived) (record { now = c.args.now; iface = c.args.iface; sender = c.args.sender }) c.args.bytes.now answer sent (state_of c.hear_frame-came.new.holding c.hear_frame-came.new.derived)) c.hear_frame-came.result c.args.out.now c.hear_frame-came.new.out c.hear_frame-came.ensures.hears c.hear_frame-came.ensures.wanting
 
 pub returns-clause-sendable : goal.returns-clause-sendable
-returns-clause-sendable g c =
-    let arrival : Arrival = record { now = c.args.now; iface = c.args.iface; sender = c.args.sender } in
-    let before : State = state_of c.self.inside.holding c.self.inside.derived in
-    let after : State = state_of c.hear_frame-came.new.holding c.hear_frame-came.new.derived in
-    on_ok_of c.hear_frame-came.result (λ answer (sent, out, hears).
-    subst (λ (v : CoreValue). All (IsSendable v.state.settings) (sent_since c.args.out.now c.hear_frame-came.new.out)) c.self.view_is
-    (since (λ (f : List Frame). All (IsSendable before.settings) f) c.args.out.now c.hear_frame-came.new.out sent out
-    (hears_sendable before arrival c.args.bytes.now answer sent after (λ i. omega (arith, c.type_inv.bytes i)) hears))) c.hear_frame-came.ensures.hears
+returns-clause-sendable g c = on_ok_of c.hear_frame-came.result (λ answer hears. hears_sendable _ _ _ answer _ _ (λ i. omega (arith, c.type_inv.bytes i)) hears) (returns-clause-answer g c)
 
 pub returns-clause-settings : goal.returns-clause-settings
-returns-clause-settings g c =
-    let arrival : Arrival = record { now = c.args.now; iface = c.args.iface; sender = c.args.sender } in
-    let before : State = state_of c.self.inside.holding c.self.inside.derived in
-    let after : State = state_of c.hear_frame-came.new.holding c.hear_frame-came.new.derived in
-    on_ok_of c.hear_frame-came.result (λ answer (sent, out, hears).
-    subst (λ (v : CoreValue). after.settings ≡ v.state.settings) c.self.view_is (hears_settings before arrival c.args.bytes.now answer sent after hears)) c.hear_frame-came.ensures.hears
+returns-clause-settings g c = on_ok_of c.hear_frame-came.result (λ answer hears. hears_settings _ _ _ answer _ _ hears) (returns-clause-answer g c)
 
 pub returns-clause-last : goal.returns-clause-last
-returns-clause-last g c =
-    let arrival : Arrival = record { now = c.args.now; iface = c.args.iface; sender = c.args.sender } in
-    let before : State = state_of c.self.inside.holding c.self.inside.derived in
-    let after : State = state_of c.hear_frame-came.new.holding c.hear_frame-came.new.derived in
-    on_ok_of c.hear_frame-came.result (λ answer (sent, out, hears).
-    hears_last before arrival c.args.bytes.now answer sent after (subst (λ (v : CoreValue). v.state.last ≤ c.args.now) (sym c.self.view_is) c.requires.later) hears) c.hear_frame-came.ensures.hears
+returns-clause-last g c = on_ok_of c.hear_frame-came.result (λ answer hears. hears_last _ _ _ answer _ _ c.requires.later hears) (returns-clause-answer g c)
 
 pub returns-clause-due : goal.returns-clause-due
-returns-clause-due g c =
-    let arrival : Arrival = record { now = c.args.now; iface = c.args.iface; sender = c.args.sender } in
-    let before : State = state_of c.self.inside.holding c.self.inside.derived in
-    let after : State = state_of c.hear_frame-came.new.holding c.hear_frame-came.new.derived in
-    on_ok_of c.hear_frame-came.result (λ answer (sent, out, hears).
-    subst (λ (v : CoreValue). due after ≡ due v.state) c.self.view_is (hears_due before arrival c.args.bytes.now answer sent after hears)) c.hear_frame-came.ensures.hears
+returns-clause-due g c = on_ok_of c.hear_frame-came.result (λ answer hears. hears_due _ _ _ answer _ _ hears) (returns-clause-answer g c)
 
 pub returns-clause-sound : goal.returns-clause-sound
 returns-clause-sound g c = c.hear_frame-came.ensures.sound

@@ -1,14 +1,9 @@
-use Rattle.std.proofs.Common.{List, refl, subst, ◌≡◌}
-use Rattle.std.specs.Prelude.{All}
-use Rattle.mesh_atoms.specs.State.{State}
-use Rattle.mesh_machine.specs.declared.frame.Frame.{Frame}
-use Rattle.mesh_machine.specs.Frames.{sent_since}
-use Rattle.mesh_machine.specs.Machine.{Step, Tick, Ticked, TicksAt}
-use Rattle.mesh_machine.specs.Sendable.{IsSendable}
-use Rattle.mesh_machine.proofs.Effects.{appends_on, since, ticks_due}
+use Rattle.std.proofs.Common.{refl}
+use Rattle.std.proofs.lemmas.Result.{on_ok_weaker}
+use Rattle.mesh_machine.specs.Machine.{Ticked, TicksAt}
+use Rattle.mesh_machine.proofs.Effects.{appends_on, ticks_due}
 use Rattle.mesh_machine.proofs.Sendables.{ticks_sendable}
-use Rattle.mesh_sending.proofs.Written.{on_ok_more}
-use Rattle.mesh_core.specs.Holding.{CoreValue}
+use Rattle.mesh_core.proofs.Seen.{ticked}
 use Rattle.mesh_core.proofs.Spent.{where_whole}
 use Rattle.mesh_events.specs.Holding.{state_of}
 use Rattle.mesh_core.proofs.router.Core.tick.Goals as goal
@@ -23,41 +18,23 @@ pub invariant_of-self : goal.invariant_of-self
 invariant_of-self g c = where_whole c.tick-came.result c.is_err-self-inside.ensures.value c.tick-came.ensures.sound
 
 pub returns-clause-step : goal.returns-clause-step
-returns-clause-step g c =
-    let before : State = state_of c.self.inside.holding c.self.inside.derived in
-    let after : State = state_of c.tick-came.new.holding c.tick-came.new.derived in
-    on_ok_more c.tick-came.result (λ (sent, out, ticks).
-    subst (λ (v : CoreValue). Step v.state (Tick c.args.now) (sent_since c.args.out.now c.tick-came.new.out) after) c.self.view_is
-    (Ticked (since (λ (f : List Frame). TicksAt before c.args.now f after) c.args.out.now c.tick-came.new.out sent out ticks))) c.tick-came.ensures.ticks
+returns-clause-step g c = on_ok_weaker c.tick-came.result (λ ticks. Ticked ticks) (ticked _ _ _ _ c.tick-came.result c.self.view_is c.tick-came.ensures.ticks)
 
 pub returns-clause-appended : goal.returns-clause-appended
 returns-clause-appended g c =
-    let before : State = state_of c.self.inside.holding c.self.inside.derived in
-    let after : State = state_of c.tick-came.new.holding c.tick-came.new.derived in
-    appends_on (λ sent. TicksAt before c.args.now sent after) c.tick-came.result c.args.out.now c.tick-came.new.out c.tick-came.ensures.ticks c.tick-came.ensures.wanting
+    appends_on (λ sent. TicksAt (state_of c.self.inside.holding c.self.inside.derived) c.args.now sent (state_of c.tick-came.new.holding c.tick-came.new.derived)) c.tick-came.result c.args.out.now c.tick-came.new.out c.tick-came.ensures.ticks c.tick-came.ensures.wanting
 
 pub returns-clause-sendable : goal.returns-clause-sendable
-returns-clause-sendable g c =
-    let before : State = state_of c.self.inside.holding c.self.inside.derived in
-    let after : State = state_of c.tick-came.new.holding c.tick-came.new.derived in
-    on_ok_more c.tick-came.result (λ (sent, out, ticks).
-    subst (λ (v : CoreValue). All (IsSendable v.state.settings) (sent_since c.args.out.now c.tick-came.new.out)) c.self.view_is
-    (since (λ (f : List Frame). All (IsSendable before.settings) f) c.args.out.now c.tick-came.new.out sent out (ticks_sendable before c.args.now sent after ticks))) c.tick-came.ensures.ticks
+returns-clause-sendable g c = on_ok_weaker c.tick-came.result (λ ticks. ticks_sendable _ _ _ _ ticks) (ticked _ _ _ _ c.tick-came.result c.self.view_is c.tick-came.ensures.ticks)
 
 pub returns-clause-settings : goal.returns-clause-settings
-returns-clause-settings g c =
-    let after : State = state_of c.tick-came.new.holding c.tick-came.new.derived in
-    on_ok_more c.tick-came.result (λ (sent, out, ticks). subst (λ (v : CoreValue). after.settings ≡ v.state.settings) c.self.view_is ticks.renews.settings) c.tick-came.ensures.ticks
+returns-clause-settings g c = on_ok_weaker c.tick-came.result (λ ticks. ticks.renews.settings) (ticked _ _ _ _ c.tick-came.result c.self.view_is c.tick-came.ensures.ticks)
 
 pub returns-clause-last : goal.returns-clause-last
-returns-clause-last g c =
-    on_ok_more c.tick-came.result (λ (sent, out, ticks). ticks.renews.last) c.tick-came.ensures.ticks
+returns-clause-last g c = on_ok_weaker c.tick-came.result (λ ticks. ticks.renews.last) (ticked _ _ _ _ c.tick-came.result c.self.view_is c.tick-came.ensures.ticks)
 
 pub returns-clause-due : goal.returns-clause-due
-returns-clause-due g c =
-    let before : State = state_of c.self.inside.holding c.self.inside.derived in
-    let after : State = state_of c.tick-came.new.holding c.tick-came.new.derived in
-    on_ok_more c.tick-came.result (λ (sent, out, ticks). ticks_due before c.args.now sent after ticks) c.tick-came.ensures.ticks
+returns-clause-due g c = on_ok_weaker c.tick-came.result (λ ticks. ticks_due _ _ _ _ ticks) (ticked _ _ _ _ c.tick-came.result c.self.view_is c.tick-came.ensures.ticks)
 
 pub returns-clause-sound : goal.returns-clause-sound
 returns-clause-sound g c = c.tick-came.ensures.sound

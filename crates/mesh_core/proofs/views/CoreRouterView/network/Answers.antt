@@ -1,4 +1,4 @@
 use Rattle.mesh_core.proofs.views.CoreRouterView.network.Goals as goal
 
 pub returns : goal.returns
-returns g c = rw (← c.self.view_is, ← c.topology.ensures, ← c.networks.ensures) c.at.ensures
+returns g c = rw (← c.topology.ensures, ← c.networks.ensures) c.at.ensures
