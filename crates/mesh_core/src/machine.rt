@@ -79,6 +79,6 @@ impl<B: Bases> Machine for Core<B> {
     }
 
     fn next_due(&self) -> u64 {
-        u64::min(self.derived.next_hello, self.derived.next_tc)
+        self.due()
     }
 }

@@ -1,7 +1,7 @@
 //! The router core: a router with its bases, and what follows from them.
 ghost use Rattle.std.specs.Prelude.{◌≡◌, IfOk, false};
 ghost use Rattle.mesh_atoms.specs.Sound.{Sound};
-ghost use Rattle.mesh_machine.specs.Machine.{IsOpening};
+ghost use Rattle.mesh_machine.specs.Machine.{IsOpening, due};
 
 use mesh_atoms::RouterSettings;
 use mesh_expire::Bases;
@@ -56,6 +56,13 @@ impl<B: Bases> Core<B> {
         ensures whole { IfOk result (λ core. core.is_spent ≡ false) }
     {
         opened(alloc, &settings)
+    }
+
+    /// The moment at which the next HELLO or TC is due.
+    pub fn due(&self) -> u64
+        ensures { result ≡ due self.now.state }
+    {
+        u64::min(self.derived.next_hello, self.derived.next_tc)
     }
 
     /// Whether the router has met want of memory.

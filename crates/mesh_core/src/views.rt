@@ -7,17 +7,70 @@ use mesh_atoms::{
     Route, RouterKey, RouterSettings, RouterTuple, TcRow, TwoHop, TwoHopKey,
 };
 use mesh_expire::{Bases, Table};
-use mesh_flood::Heading;
+use mesh_flood::{Flood, Heading};
 use mesh_machine::{RouterView, Said, said_of, two_hops_of};
 use mesh_nbrs::Near4;
+use mesh_nhdp::Nhdp;
+use mesh_routes::RoutingSet;
 use mesh_topo::Topology;
 
 impl<B: Bases> Core<B> {
+    /// The moment of the last event, in ticks of 1/8192 s.
+    pub fn last(&self) -> u64
+        ensures { result ≡ self.now.state.last }
+    {
+        self.derived.last
+    }
+
+    /// The settings.
+    pub fn settings(&self) -> &RouterSettings
+        ensures { result.now ≡ self.now.state.settings }
+    {
+        self.holding.settings()
+    }
+
+    /// The relays.
+    pub fn relays(&self) -> &Relays
+        ensures { result.now ≡ self.now.state.relays }
+    {
+        self.derived.relays.get()
+    }
+
+    /// The routes.
+    pub fn routes(&self) -> &RoutingSet
+        ensures { result.now ≡ self.now.state.routes }
+    {
+        self.derived.routes.get()
+    }
+
+    /// The neighbourhood.
+    pub fn nhdp(&self) -> &Nhdp<B>
+        ensures near { result.now.near ≡ self.now.state.bases.neighbourhood }
+        ensures settings { result.now.settings ≡ self.now.state.settings }
+    {
+        self.holding.nhdp()
+    }
+
     /// The topology.
     pub fn topology(&self) -> &Topology<B>
         ensures { result.now ≡ self.now.state.bases.topology }
     {
         self.holding.topology()
+    }
+
+    /// The messages seen before.
+    pub fn flood(&self) -> &Flood<B>
+        ensures { result.now.noted ≡ self.now.state.bases.noted }
+    {
+        self.holding.flood()
+    }
+
+    /// The advertised rows, and their ANSN.
+    pub fn advertised(&self) -> (&[TcRow], u16)
+        ensures rows { result.0.now ≡ self.now.state.rows }
+        ensures ansn { result.1 ≡ self.now.state.ansn }
+    {
+        (self.derived.rows.as_slice(), self.derived.ansn)
     }
 }
 

@@ -6,7 +6,7 @@ use crate::rows::Telling;
 use crate::tried::Tried;
 use mesh_atoms::{Addr4, Refusal, RouterSettings};
 use mesh_config::scenario_of;
-use mesh_core::{Core, Fate, Heard, Machine, Outbox, Read, RouterView};
+use mesh_core::{Core, Fate, Heard, Outbox, Read};
 use mesh_expire::{Bases, Table};
 use mesh_flood::Forward;
 use std::alloc::{AllocError, Global};
@@ -142,7 +142,7 @@ impl<B: Bases> Router for Core<B> {
         Beside {
             spent: self.is_spent(),
             last: self.last(),
-            due: self.next_due(),
+            due: self.due(),
             advertisers: self.topology().advertisers().len(),
         }
     }
