@@ -7,7 +7,7 @@ use Rattle.mesh_wire.specs.Hello.{HelloIs, IsReadHelloRow}
 use Rattle.mesh_wire.specs.Kinds.{local_if, link_status, link_metric, IsStatusBelow}
 use Rattle.mesh_addr.specs.declared.records.RawAddr.{RawAddr}
 use Rattle.mesh_tlv.specs.Fields.{TlvFields, AddrTlvFields}
-use Rattle.mesh_packet.specs.Fields.{BlockFields}
+use Rattle.mesh_packet.specs.Fields.{BlockFields, MessageFields}
 use Rattle.mesh_wire.specs.Parts.{IsIn, part_at, octets_of}
 use Rattle.mesh_wire.specs.Rows.{HoldsAddressAt, HoldsAddress, HasValue}
 use Rattle.mesh_wire.specs.HelloRules.{BreaksHello, AddressWidth, HopLimit, HopCount, NoValidity, WrongInterval, WrongWilling, Undefined, TwoValues, ShortPrefix, WrongMetric}
@@ -25,26 +25,20 @@ pub first_only : {A : Type 0} (x y : A) (place : ℕ) → slice_get (x ∷ []) p
 first_only x y zero e = cc
 first_only x y (suc k) e = cc
 
+-- ---- a TLV says its value of each address that it covers
+
+pub says : (m : MessageFields) (block : BlockFields) (place : ℕ) (net : NetAddr) (tlv : AddrTlvFields) (kind : ℕ) (octets : List ℕ) →
+    HoldsAddressAt m block place net → Contains block.tlvs tlv → tlv.first ≤ place → place ≤ tlv.last → record { kind = kind; ext = 0; value = Some octets } ≡ part_at tlv place → HasValue m net kind octets
+says m block place net tlv kind octets at there first last is =
+    (Some octets, record { block = block; place = place; tlv = tlv; address = at; in_block = there; first = first; last = last; part_is = is }, refl)
+
 -- ---- the HELLO of a router that hears nobody: its own address, on the interface that sends
 
 own_at : HoldsAddressAt lone own_block 0 own_net
 own_at = record { address = own; in_message = (0, lit< tt, refl); in_block = refl; is_in = record { prefix = refl; number = refl } }
 
 own_local : HasValue lone own_net local_if (0 ∷ [])
-own_local = (
-  Some (0 ∷ []),
-  record {
-    block = own_block;
-    place = 0;
-    tlv = local;
-    address = own_at;
-    in_block = (0, lit< tt, refl);
-    first = lit≤ tt;
-    last = lit≤ tt;
-    part_is = refl;
-  },
-  refl,
-)
+own_local = says lone own_block 0 own_net local local_if (0 ∷ []) own_at (0, lit< tt, refl) (lit≤ tt) (lit≤ tt) refl
 
 own_row_is : IsReadHelloRow lone own_row
 own_row_is = record {
@@ -132,18 +126,8 @@ bare_broken = record {
 
 -- ---- a multivalue gives each address of its range one part
 
+near_at : HoldsAddressAt two_near (record { width = 4; addrs = own ∷ (own ∷ (near ∷ [])); tlvs = states ∷ [] }) 2 near_net
+near_at = record { address = near; in_message = (0, lit< tt, refl); in_block = refl; is_in = record { prefix = refl; number = refl } }
+
 pub heard_of_last : HasValue two_near near_net link_status (2 ∷ [])
-heard_of_last = (
-  Some (2 ∷ []),
-  record {
-    block = record { width = 4; addrs = own ∷ (own ∷ (near ∷ [])); tlvs = states ∷ [] };
-    place = 2;
-    tlv = states;
-    address = record { address = near; in_message = (0, lit< tt, refl); in_block = refl; is_in = record { prefix = refl; number = refl } };
-    in_block = (0, lit< tt, refl);
-    first = lit≤ tt;
-    last = lit≤ tt;
-    part_is = refl;
-  },
-  refl,
-)
+heard_of_last = says two_near _ 2 near_net states link_status (2 ∷ []) near_at (0, lit< tt, refl) (lit≤ tt) (lit≤ tt) refl

@@ -11,26 +11,13 @@ use Rattle.mesh_wire.specs.Rows.{HoldsAddressAt, HoldsAddress, HasValue}
 use Rattle.mesh_wire.specs.Rules.{FirstBroken, IsLow, IsOctet}
 use Rattle.mesh_wire.specs.TcRules.{BreaksTc, AddressWidth, NoOriginator, NoSequence, NoValidity, WrongInterval, Content, AddrType, TwoAddrTypes, ShortPrefix, GatewayOctet, TwoGateways, Beside, WrongMetric}
 use Rattle.mesh_wire.specs.Examples.{own, own_net, near, unknown, pair, odd_types}
-use Rattle.mesh_wire.proofs.Examples.{only}
+use Rattle.mesh_wire.proofs.Examples.{only, says}
 
 own_at : HoldsAddressAt odd_types pair 1 own_net
 own_at = record { address = own; in_message = (0, lit< tt, refl); in_block = refl; is_in = record { prefix = refl; number = refl } }
 
 own_unknown : HasValue odd_types own_net nbr_addr_type (4 ∷ [])
-own_unknown = (
-  Some (4 ∷ []),
-  record {
-    block = pair;
-    place = 1;
-    tlv = unknown;
-    address = own_at;
-    in_block = (0, lit< tt, refl);
-    first = lit≤ tt;
-    last = lit≤ tt;
-    part_is = refl;
-  },
-  refl,
-)
+own_unknown = says odd_types pair 1 own_net unknown nbr_addr_type (4 ∷ []) own_at (0, lit< tt, refl) (lit≤ tt) (lit≤ tt) refl
 
 not_four : (octets : List ℕ) → octets ≡ 4 ∷ [] → IsOctet 1 4 octets → ⊥
 not_four octets e (octet, is, low, high) = (let same : octet ≡ 4 = cc in omega arith)

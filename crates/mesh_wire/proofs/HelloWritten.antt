@@ -32,19 +32,19 @@ use Rattle.mesh_wire.specs.Hello.{local_value, link_value, other_value, Originat
 use Rattle.mesh_wire.specs.HelloRules.{BreaksHello, AddressWidth, HopLimit, HopCount, NoValidity, WrongInterval, WrongWilling, Undefined, TwoValues, ShortPrefix, WrongMetric}
 use Rattle.mesh_wire.specs.Kinds.{validity_time, local_if, link_metric, mpr_willing, IsStatusBelow}
 use Rattle.mesh_wire.specs.Lines.{kind_of, number, value_of, hello_line, high, flags_number}
-use Rattle.mesh_wire.specs.Metrics.{MetricKind, Link_in, Link_out, Near_in, Near_out, flag_of, ShowsMetric}
+use Rattle.mesh_wire.specs.Metrics.{MetricKind, Link_in, Link_out, Near_in, Near_out, flag_of}
 use Rattle.mesh_wire.specs.Parts.{octets_of, values_of}
-use Rattle.mesh_wire.specs.Rows.{HasType, HasPart, HasValue, AreRows}
+use Rattle.mesh_wire.specs.Rows.{HasType, HasPart, HasValue, HasTwoValues, AreRows}
 use Rattle.mesh_wire.specs.Rules.{IsOctet, Keeps}
 use Rattle.mesh_wire.specs.Runs.{has_part}
 use Rattle.mesh_wire.specs.Writes.{IsSoleMessage, HasFlag, IsReadOfOther, IsReadOfHelloAddress, WritesHello, ReadsBackHello}
 use Rattle.mesh_wire.proofs.Fits.{message_fits, HasFewParts, fits_alone}
 use Rattle.mesh_wire.proofs.Headings.{validity_told, one_validity, interval_is, interval_told, willing_is, read_of_hello}
 use Rattle.mesh_wire.proofs.Laid.{whole_number}
-use Rattle.mesh_wire.proofs.LinesSay.{octet_value, octet_is, flags_are, metric_is, two_octets, metric_octets, has_flag, metric_value, column_of, metric_of}
+use Rattle.mesh_wire.proofs.LinesSay.{octet_value, metric_octets, has_flag, metric_value, column_of, metric_of}
 use Rattle.mesh_wire.proofs.OneHello.{one_hello}
 use Rattle.mesh_wire.proofs.RowLines.{unmapped, of_value, alone_again}
-use Rattle.mesh_wire.proofs.RowsSay.{unique, among, row_stands, row_at, row_there, part_there, said_of, once, at_row, one_code}
+use Rattle.mesh_wire.proofs.RowsSay.{row_stands, row_at, part_there, said_of, row_of, not_two, right_metric, octet_said, flags_said, metric_said}
 
 -- ---- fewest parts
 
@@ -146,20 +146,20 @@ module _ (hello : Hello) (values : List ℕ) (m : MessageFields) (h : IsHelloMes
   other_is : (row : HelloRow) → Contains hello.rows row → TellsOther m row
   other_is row there =
       let l = hello_line row in
-      let flags = flags_are m (map hello_line hello.rows) h.blocks (unique hello_line hello.rows m h.blocks up) l (among hello_line hello.rows m h.blocks up row there) Mpr refl row.mpr.flooding row.mpr.routing (octet_value l.mpr) in record {
-        link = octet_is m (map hello_line hello.rows) h.blocks (unique hello_line hello.rows m h.blocks up) l (among hello_line hello.rows m h.blocks up row there) Link refl (option_map link_value row.link) (octet_value l.link);
-        other = octet_is m (map hello_line hello.rows) h.blocks (unique hello_line hello.rows m h.blocks up) l (among hello_line hello.rows m h.blocks up row there) Other refl (option_map other_value row.other) (octet_value l.other);
-        link_in = metric_is m (map hello_line hello.rows) h.blocks (unique hello_line hello.rows m h.blocks up) l (among hello_line hello.rows m h.blocks up row there) Link_in;
-        link_out = metric_is m (map hello_line hello.rows) h.blocks (unique hello_line hello.rows m h.blocks up) l (among hello_line hello.rows m h.blocks up row there) Link_out;
-        near_in = metric_is m (map hello_line hello.rows) h.blocks (unique hello_line hello.rows m h.blocks up) l (among hello_line hello.rows m h.blocks up row there) Near_in;
-        near_out = metric_is m (map hello_line hello.rows) h.blocks (unique hello_line hello.rows m h.blocks up) l (among hello_line hello.rows m h.blocks up row there) Near_out;
+      let flags = flags_said hello_line hello.rows m h.blocks up row there Mpr refl row.mpr.flooding row.mpr.routing (octet_value l.mpr) in record {
+        link = octet_said hello_line hello.rows m h.blocks up row there Link refl (option_map link_value row.link) (octet_value l.link);
+        other = octet_said hello_line hello.rows m h.blocks up row there Other refl (option_map other_value row.other) (octet_value l.other);
+        link_in = metric_said hello_line hello.rows m h.blocks up row there Link_in;
+        link_out = metric_said hello_line hello.rows m h.blocks up row there Link_out;
+        near_in = metric_said hello_line hello.rows m h.blocks up row there Near_in;
+        near_out = metric_said hello_line hello.rows m h.blocks up row there Near_out;
         flooding = flags.0;
         routing = flags.1;
       }
 
   row_is : (row : HelloRow) → Contains hello.rows row → IsReadHelloRow m row
   row_is row there = record {
-    local = octet_is m (map hello_line hello.rows) h.blocks (unique hello_line hello.rows m h.blocks up) (hello_line row) (among hello_line hello.rows m h.blocks up row there) Local refl (option_map local_value row.local) (octet_value (hello_line row).local);
+    local = octet_said hello_line hello.rows m h.blocks up row there Local refl (option_map local_value row.local) (octet_value (hello_line row).local);
     of_other = λ none. other_is row there;
     of_sender = sender row there;
   }
@@ -194,33 +194,34 @@ module _ (hello : Hello) (values : List ℕ) (m : MessageFields) (h : IsHelloMes
 
   -- ---- rules
 
-  -- a status that is said is the row's
-  record StatusIs (row : HelloRow) (bound : ℕ) (octets : List ℕ) : Type 0 where
-    column : Column
-    value : value_of column (hello_line row) ≡ Some octets
+  -- a status that is said of an address is its row's
+  record StatusIs (net : NetAddr) (bound : ℕ) (octets : List ℕ) : Type 0 where
+    row : HelloRow
+    there : Contains hello.rows row
+    of : row.addr ≡ net
     octet : ℕ
     is : octets ≡ octet ∷ []
     below : octet < bound
     shown_is : IsSome row.local ⊎ (IsSome row.link ⊎ IsSome row.other)
 
-  status_is : (row : HelloRow) → Contains hello.rows row → (kind bound : ℕ) → IsStatusBelow kind bound → (octets : List ℕ) → HasValue m row.addr kind octets → StatusIs row bound octets
-  status_is row there kind bound (inl (k, b)) octets s =
-      let v = said_of hello_line hello.rows m h.blocks up row there Local refl kind k octets s in
+  status_is : (net : NetAddr) (kind bound : ℕ) → IsStatusBelow kind bound → (octets : List ℕ) → HasValue m net kind octets → StatusIs net bound octets
+  status_is net kind bound (inl (k, b)) octets s =
+      let (row, there, of, v) = row_of hello_line hello.rows m h.blocks up Local refl net kind k octets s in
       let (n, is, below, some) = of_value local_value 2 local_below row.local octets (sym (octet_value (hello_line row).local) ∙ v) in
-      record { column = Local; value = v; octet = n; is = is; below = omega (arith, below, b); shown_is = inl some }
-  status_is row there kind bound (inr (inl (k, b))) octets s =
-      let v = said_of hello_line hello.rows m h.blocks up row there Link refl kind k octets s in
+      record { row = row; there = there; of = of; octet = n; is = is; below = omega (arith, below, b); shown_is = inl some }
+  status_is net kind bound (inr (inl (k, b))) octets s =
+      let (row, there, of, v) = row_of hello_line hello.rows m h.blocks up Link refl net kind k octets s in
       let (n, is, below, some) = of_value link_value 3 link_below row.link octets (sym (octet_value (hello_line row).link) ∙ v) in
-      record { column = Link; value = v; octet = n; is = is; below = omega (arith, below, b); shown_is = inr (inl some) }
-  status_is row there kind bound (inr (inr (k, b))) octets s =
-      let v = said_of hello_line hello.rows m h.blocks up row there Other refl kind k octets s in
+      record { row = row; there = there; of = of; octet = n; is = is; below = omega (arith, below, b); shown_is = inr (inl some) }
+  status_is net kind bound (inr (inr (k, b))) octets s =
+      let (row, there, of, v) = row_of hello_line hello.rows m h.blocks up Other refl net kind k octets s in
       let (n, is, below, some) = of_value other_value 2 other_below row.other octets (sym (octet_value (hello_line row).other) ∙ v) in
-      record { column = Other; value = v; octet = n; is = is; below = omega (arith, below, b); shown_is = inr (inr some) }
+      record { row = row; there = there; of = of; octet = n; is = is; below = omega (arith, below, b); shown_is = inr (inr some) }
 
-  status_once : (row : HelloRow) → Contains hello.rows row → (kind bound : ℕ) → IsStatusBelow kind bound → (x y : List ℕ) → HasValue m row.addr kind x → HasValue m row.addr kind y → x ≡ y
-  status_once row there kind bound (inl (k, b)) x y s t = once hello_line hello.rows m h.blocks up row there Local refl kind k x y s t
-  status_once row there kind bound (inr (inl (k, b))) x y s t = once hello_line hello.rows m h.blocks up row there Link refl kind k x y s t
-  status_once row there kind bound (inr (inr (k, b))) x y s t = once hello_line hello.rows m h.blocks up row there Other refl kind k x y s t
+  status_once : (net : NetAddr) (kind bound : ℕ) → IsStatusBelow kind bound → HasTwoValues m net kind → ⊥
+  status_once net kind bound (inl (k, b)) two = not_two hello_line hello.rows m h.blocks up Local refl net kind k two
+  status_once net kind bound (inr (inl (k, b))) two = not_two hello_line hello.rows m h.blocks up Link refl net kind k two
+  status_once net kind bound (inr (inr (k, b))) two = not_two hello_line hello.rows m h.blocks up Other refl net kind k two
 
   keeps : Keeps (BreaksHello m)
   keeps n a (AddressWidth wide) = wide h.width
@@ -230,30 +231,19 @@ module _ (hello : Hello) (values : List ℕ) (m : MessageFields) (h : IsHelloMes
   keeps n a (WrongInterval none) = none hello.interval hello_is.interval
   keeps n a (WrongWilling none) = let (octet, is, f, r) = hello_is.willing in none octet is
   keeps n a (Undefined net kind bound status (octets, s, wrong)) =
-      let (row, there, of) = row_there hello_line hello.rows m h.blocks up net kind octets s in
-      let st = status_is row there kind bound status octets (at_row hello_line hello.rows m h.blocks up row net of kind octets s) in
+      let st = status_is net kind bound status octets s in
       wrong (st.octet, st.is, omega arith, st.below)
-  keeps n a (TwoValues net kind bound status (x, y, s, t, other)) =
-      let (row, there, of) = row_there hello_line hello.rows m h.blocks up net kind x s in
-      other (status_once row there kind bound status x y (at_row hello_line hello.rows m h.blocks up row net of kind x s) (at_row hello_line hello.rows m h.blocks up row net of kind y t))
+  keeps n a (TwoValues net kind bound status two) = status_once net kind bound status two
   keeps n a (ShortPrefix net kind bound status (octets, s) short) =
-      let (row, there, of) = row_there hello_line hello.rows m h.blocks up net kind octets s in
-      let st = status_is row there kind bound status octets (at_row hello_line hello.rows m h.blocks up row net of kind octets s) in
-      omega (arith, short, is_whole row there st.shown_is, ap (λ (x : NetAddr). x.prefix) of)
-  keeps n a (WrongMetric net (inl (octets, s, other))) =
-      let (row, there, of) = row_there hello_line hello.rows m h.blocks up net link_metric octets s in
-      let (x, y, is) = two_octets m (map hello_line hello.rows) h.blocks (unique hello_line hello.rows m h.blocks up) (hello_line row) (among hello_line hello.rows m h.blocks up row there) octets (at_row hello_line hello.rows m h.blocks up row net of link_metric octets s) in
-      other (ap length is)
-  keeps n a (WrongMetric net (inr (k, x, y, s, t, other))) =
-      let (high, low, is, flag, code) = s in
-      let (row, there, of) = row_there hello_line hello.rows m h.blocks up net link_metric (high ∷ (low ∷ [])) is in
-      other (one_code hello_line hello.rows m h.blocks up row there k x y (subst (λ (p : NetAddr). ShowsMetric m p k x) (sym of) s) (subst (λ (p : NetAddr). ShowsMetric m p k y) (sym of) t))
+      let st = status_is net kind bound status octets s in
+      omega (arith, short, is_whole st.row st.there st.shown_is, ap (λ (x : NetAddr). x.prefix) st.of)
+  keeps n a (WrongMetric net wrong) = right_metric hello_line hello.rows m h.blocks up net wrong
 
   -- ---- nothing is ignored
 
-  no_local : (row : HelloRow) → Contains hello.rows row → row.local ≡ None → (net : NetAddr) → row.addr ≡ net → HasType m net local_if → ⊥
-  no_local row there e net of (octets, s) =
-      let v = said_of hello_line hello.rows m h.blocks up row there Local refl local_if refl octets (at_row hello_line hello.rows m h.blocks up row net of local_if octets s) in
+  no_local : (row : HelloRow) → Contains hello.rows row → row.local ≡ None → HasType m row.addr local_if → ⊥
+  no_local row there e (octets, s) =
+      let v = said_of hello_line hello.rows m h.blocks up row there Local refl local_if refl octets s in
       none_said octets (option_map (λ (n : ℕ). n ∷ []) (option_map local_value row.local)) (ap (λ (o : Option LocalIf). option_map (λ (n : ℕ). n ∷ []) (option_map local_value o)) e) (sym (octet_value (hello_line row).local) ∙ v)
 
   part_read : (net : NetAddr) (part : TlvFields) → HasPart m net part → IsReadOfHelloAddress m net part
@@ -261,7 +251,7 @@ module _ (hello : Hello) (values : List ℕ) (m : MessageFields) (h : IsHelloMes
       let (row, c, there, here, k, ext, value) = part_there hello_line hello.rows m h.blocks up net part p in
       record {
         kind = elim (local_or_not row.local) [
-          | inl e ↦ inr (no_local row there e net here, other_read row part.kind (octets_of part.value) c k value e)
+          | inl e ↦ inr (subst (λ (n : NetAddr). HasType m n local_if → ⊥) here (no_local row there e), other_read row part.kind (octets_of part.value) c k value e)
           | inr some ↦ inl (only_local row part.kind (octets_of part.value) c k value (sender row there some))
         ];
         ext = ext;
@@ -297,7 +287,7 @@ module _ (hello : Hello) (values : List ℕ) (m : MessageFields) (h : IsHelloMes
   pub back : (bytes : List ℕ) → IsSoleMessage m bytes → (packet : PacketFields) (spans : List Span) → Spells packet spans bytes → ReadsBackHello hello packet
   back bytes is packet spans spelled = record {
     message = m;
-    one = ap (λ (p : PacketFields). p.messages) (alone_again m bytes is packet spans spelled);
+    one = alone_again m bytes is packet spans spelled;
     kind = h.kind;
     keeps = keeps;
     same = λ other reads. one_hello m keeps other hello reads hello_is;

@@ -21,7 +21,7 @@ use Rattle.mesh_wire.specs.declared.lines.Line.{Line}
 use Rattle.mesh_wire.specs.Drafts.{HasTcValues, heading_of, IsTcMessage, FitsAlone}
 use Rattle.mesh_wire.specs.Kinds.{validity_time, nbr_addr_type, gateway, link_metric, cont_seq_num}
 use Rattle.mesh_wire.specs.Lines.{kind_of, value_of, flags_number, tc_line}
-use Rattle.mesh_wire.specs.Metrics.{Near_out, ShowsMetric}
+use Rattle.mesh_wire.specs.Metrics.{Near_out}
 use Rattle.mesh_wire.specs.Parts.{octets_of, values_of}
 use Rattle.mesh_wire.specs.Rows.{HasPart, HasValue, AreRows}
 use Rattle.mesh_wire.specs.Rules.{Keeps}
@@ -33,11 +33,11 @@ use Rattle.mesh_wire.specs.Writes.{IsSoleMessage, HasFlag, IsReadOfTcAddress, Wr
 use Rattle.mesh_wire.proofs.Fits.{message_fits, HasFewParts, fits_alone}
 use Rattle.mesh_wire.proofs.Headings.{validity_told, interval_is, interval_told, content_is, read_of_tc}
 use Rattle.mesh_wire.proofs.HelloWritten.{bit_most, originator_is, none_said, flags_octet, metric_flagged}
-use Rattle.mesh_wire.proofs.LinesSay.{octet_value, octet_is, flags_are, metric_is, two_octets, metric_value}
+use Rattle.mesh_wire.proofs.LinesSay.{octet_value, metric_value}
 use Rattle.mesh_wire.proofs.OneTc.{one_tc}
 use Rattle.mesh_wire.proofs.RowLines.{unmapped, alone_again}
 use Rattle.mesh_wire.proofs.Further.{further}
-use Rattle.mesh_wire.proofs.RowsSay.{unique, among, row_stands, row_at, row_there, part_there, said_of, once, at_row, one_code}
+use Rattle.mesh_wire.proofs.RowsSay.{row_stands, row_at, part_there, said_of, row_of, not_two, right_metric, octet_said, flags_said, metric_said}
 
 few_of : (row : TcRow) → HasFewParts (tc_line row)
 few_of row = let l = tc_line row in omega (arith, bit_most (has_part AddrType l), bit_most (has_part Gateway l), bit_most (has_part NearOut l))
@@ -71,11 +71,11 @@ module _ (tc : Tc) (hop_limit : ℕ) (validity values : List ℕ) (m : MessageFi
   row_is : (row : TcRow) → Contains tc.rows row → IsReadTcRow m row
   row_is row there =
       let l = tc_line row in
-      let flags = flags_are m (map tc_line tc.rows) h.blocks (unique tc_line tc.rows m h.blocks up) l (among tc_line tc.rows m h.blocks up row there) AddrType refl row.origin row.routable (octet_value l.addr_type) in record {
+      let flags = flags_said tc_line tc.rows m h.blocks up row there AddrType refl row.origin row.routable (octet_value l.addr_type) in record {
         origin = flags.0;
         routable = flags.1;
-        gateway_is = octet_is m (map tc_line tc.rows) h.blocks (unique tc_line tc.rows m h.blocks up) l (among tc_line tc.rows m h.blocks up row there) Gateway refl row.gateway (octet_value l.gateway);
-        metric = metric_is m (map tc_line tc.rows) h.blocks (unique tc_line tc.rows m h.blocks up) l (among tc_line tc.rows m h.blocks up row there) Near_out;
+        gateway_is = octet_said tc_line tc.rows m h.blocks up row there Gateway refl row.gateway (octet_value l.gateway);
+        metric = metric_said tc_line tc.rows m h.blocks up row there Near_out;
       }
 
   rows_are : AreRows m (λ (row : TcRow). row.dest) (IsReadTcRow m) tc.rows
@@ -112,11 +112,21 @@ module _ (tc : Tc) (hop_limit : ℕ) (validity values : List ℕ) (m : MessageFi
 
   -- ---- rules
 
-  type_of : (row : TcRow) → Contains tc.rows row → (octets : List ℕ) → HasValue m row.dest nbr_addr_type octets → option_map (λ (n : ℕ). n ∷ []) (flags_number row.origin row.routable) ≡ Some octets
-  type_of row there octets s = sym (octet_value (tc_line row).addr_type) ∙ said_of tc_line tc.rows m h.blocks up row there AddrType refl nbr_addr_type refl octets s
+  type_of : (net : NetAddr) (octets : List ℕ) → HasValue m net nbr_addr_type octets → (row : TcRow) × Contains tc.rows row × (row.dest ≡ net) × (option_map (λ (n : ℕ). n ∷ []) (flags_number row.origin row.routable) ≡ Some octets)
+  type_of net octets s =
+      let (row, there, of, v) = row_of tc_line tc.rows m h.blocks up AddrType refl net nbr_addr_type refl octets s in
+      (row, there, of, sym (octet_value (tc_line row).addr_type) ∙ v)
 
-  gateway_of : (row : TcRow) → Contains tc.rows row → (octets : List ℕ) → HasValue m row.dest gateway octets → option_map (λ (n : ℕ). n ∷ []) row.gateway ≡ Some octets
-  gateway_of row there octets s = sym (octet_value (tc_line row).gateway) ∙ said_of tc_line tc.rows m h.blocks up row there Gateway refl gateway refl octets s
+  gateway_of : (net : NetAddr) (octets : List ℕ) → HasValue m net gateway octets → (row : TcRow) × Contains tc.rows row × (row.dest ≡ net) × (option_map (λ (n : ℕ). n ∷ []) row.gateway ≡ Some octets)
+  gateway_of net octets s =
+      let (row, there, of, v) = row_of tc_line tc.rows m h.blocks up Gateway refl net gateway refl octets s in
+      (row, there, of, sym (octet_value (tc_line row).gateway) ∙ v)
+
+  -- a row with a type has no gateway
+  no_gateway : (row : TcRow) → Contains tc.rows row → (octets : List ℕ) → HasValue m row.dest nbr_addr_type octets → row.gateway ≡ None
+  no_gateway row there octets s =
+      let v = said_of tc_line tc.rows m h.blocks up row there AddrType refl nbr_addr_type refl octets s in
+      one_type row there (set_of row.origin row.routable octets (sym (octet_value (tc_line row).addr_type) ∙ v))
 
   keeps : Keeps (BreaksTc m)
   keeps n a (AddressWidth wide) = wide h.width
@@ -126,32 +136,21 @@ module _ (tc : Tc) (hop_limit : ℕ) (validity values : List ℕ) (m : MessageFi
   keeps n a (WrongInterval none) = none tc.interval tc_is.interval
   keeps n a (Content none) = none tc.ansn tc.complete tc_is.content
   keeps n a (AddrTypeRule net (octets, s, wrong)) =
-      let (row, there, of) = row_there tc_line tc.rows m h.blocks up net nbr_addr_type octets s in
-      wrong (flags_octet row.origin row.routable octets (type_of row there octets (at_row tc_line tc.rows m h.blocks up row net of nbr_addr_type octets s)))
-  keeps n a (TwoAddrTypes net (x, y, s, t, other)) =
-      let (row, there, of) = row_there tc_line tc.rows m h.blocks up net nbr_addr_type x s in
-      other (once tc_line tc.rows m h.blocks up row there AddrType refl nbr_addr_type refl x y (at_row tc_line tc.rows m h.blocks up row net of nbr_addr_type x s) (at_row tc_line tc.rows m h.blocks up row net of nbr_addr_type y t))
+      let (row, there, of, v) = type_of net octets s in
+      wrong (flags_octet row.origin row.routable octets v)
+  keeps n a (TwoAddrTypes net two) = not_two tc_line tc.rows m h.blocks up AddrType refl net nbr_addr_type refl two
   keeps n a (ShortPrefix net (octets, s) short) =
-      let (row, there, of) = row_there tc_line tc.rows m h.blocks up net nbr_addr_type octets s in
-      omega (arith, short, is_whole row there (set_of row.origin row.routable octets (type_of row there octets (at_row tc_line tc.rows m h.blocks up row net of nbr_addr_type octets s))), ap (λ (x : NetAddr). x.prefix) of)
+      let (row, there, of, v) = type_of net octets s in
+      omega (arith, short, is_whole row there (set_of row.origin row.routable octets v), ap (λ (x : NetAddr). x.prefix) of)
   keeps n a (GatewayOctet net (octets, s, other)) =
-      let (row, there, of) = row_there tc_line tc.rows m h.blocks up net gateway octets s in
-      other (distance_octet row.gateway octets (gateway_of row there octets (at_row tc_line tc.rows m h.blocks up row net of gateway octets s)))
-  keeps n a (TwoGateways net (x, y, s, t, other)) =
-      let (row, there, of) = row_there tc_line tc.rows m h.blocks up net gateway x s in
-      other (once tc_line tc.rows m h.blocks up row there Gateway refl gateway refl x y (at_row tc_line tc.rows m h.blocks up row net of gateway x s) (at_row tc_line tc.rows m h.blocks up row net of gateway y t))
+      let (row, there, of, v) = gateway_of net octets s in
+      other (distance_octet row.gateway octets v)
+  keeps n a (TwoGateways net two) = not_two tc_line tc.rows m h.blocks up Gateway refl net gateway refl two
   keeps n a (Beside net (octets, s) (x, t)) =
-      let (row, there, of) = row_there tc_line tc.rows m h.blocks up net gateway octets s in
-      let none : row.gateway ≡ None = one_type row there (set_of row.origin row.routable x (type_of row there x (at_row tc_line tc.rows m h.blocks up row net of nbr_addr_type x t))) in
-      none_said octets (option_map (λ (n : ℕ). n ∷ []) row.gateway) (ap (option_map (λ (n : ℕ). n ∷ [])) none) (gateway_of row there octets (at_row tc_line tc.rows m h.blocks up row net of gateway octets s))
-  keeps n a (WrongMetric net (inl (octets, s, other))) =
-      let (row, there, of) = row_there tc_line tc.rows m h.blocks up net link_metric octets s in
-      let (x, y, is) = two_octets m (map tc_line tc.rows) h.blocks (unique tc_line tc.rows m h.blocks up) (tc_line row) (among tc_line tc.rows m h.blocks up row there) octets (at_row tc_line tc.rows m h.blocks up row net of link_metric octets s) in
-      other (ap length is)
-  keeps n a (WrongMetric net (inr (k, x, y, s, t, other))) =
-      let (high, low, is, flag, code) = s in
-      let (row, there, of) = row_there tc_line tc.rows m h.blocks up net link_metric (high ∷ (low ∷ [])) is in
-      other (one_code tc_line tc.rows m h.blocks up row there k x y (subst (λ (p : NetAddr). ShowsMetric m p k x) (sym of) s) (subst (λ (p : NetAddr). ShowsMetric m p k y) (sym of) t))
+      let (row, there, of, v) = gateway_of net octets s in
+      let none = no_gateway row there x (subst (λ (p : NetAddr). HasValue m p nbr_addr_type x) (sym of) t) in
+      none_said octets (option_map (λ (n : ℕ). n ∷ []) row.gateway) (ap (option_map (λ (n : ℕ). n ∷ [])) none) v
+  keeps n a (WrongMetric net wrong) = right_metric tc_line tc.rows m h.blocks up net wrong
 
   -- ---- the whole
 
@@ -187,7 +186,7 @@ module _ (tc : Tc) (hop_limit : ℕ) (validity values : List ℕ) (m : MessageFi
   pub back : (bytes : List ℕ) → IsSoleMessage m bytes → (packet : PacketFields) (spans : List Span) → Spells packet spans bytes → ReadsBackTc tc packet
   back bytes is packet spans spelled = record {
     message = m;
-    one = ap (λ (p : PacketFields). p.messages) (alone_again m bytes is packet spans spelled);
+    one = alone_again m bytes is packet spans spelled;
     kind = h.kind;
     keeps = keeps;
     same = λ other reads. one_tc m keeps other tc reads tc_is;
