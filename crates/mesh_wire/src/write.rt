@@ -1,5 +1,5 @@
 //! Writing HELLO and TC messages, each as a packet of its own.
-ghost use Rattle.std.specs.Prelude.{◌≡◌, ◌≤◌, [], ℕ, length, map, List, IfOk, OnOk};
+ghost use Rattle.std.specs.Prelude.{◌≡◌, ◌≤◌, ◌++◌, [], ℕ, length, map, List, IfOk, OnOk};
 ghost use Rattle.std.specs.Option.{option_map};
 ghost use Rattle.mesh_tlv.specs.Fields.{fields};
 ghost use Rattle.mesh_codes.specs.Codes.{time_at_distance};
@@ -10,7 +10,7 @@ ghost use Rattle.mesh_packet.specs.Fields.{fields_of_message, fields_of_packet, 
 ghost use Rattle.mesh_packet.specs.Grammar.{Spells};
 ghost use Rattle.mesh_packet.specs.Least.{IsEncodable, IsEncodableMessage, LeastForm};
 ghost use Rattle.mesh_wire.specs.Drafts.{IsCodeOf, IsCodeIfSome, octet_of, whole, HasHelloValues, HasTcValues, saying, heading_of, DraftsHello, DraftsTc, FitsAlone};
-ghost use Rattle.mesh_wire.specs.Lines.{hello_line, tc_line};
+ghost use Rattle.mesh_wire.specs.Lines.{columns, columns_text, hello_line, tc_line};
 ghost use Rattle.mesh_wire.specs.Writes.{IsSoleMessage, WritesHello, WritesTc, ReadsBackHello, ReadsBackTc};
 
 use crate::lay::lay;
@@ -147,20 +147,28 @@ fn alone(alloc: Global, message: Message) -> Result<Bytes, AllocError>
     encoded(alloc, &packet)
 }
 
+// Octets, and the values of all columns behind them.
+fn values_of(alloc: Global, first: &[u8], lines: &[Line]) -> Result<Bytes, AllocError>
+    ensures { IfOk result (λ values. values ≡ first.now ++ columns_text columns lines.now) }
+{
+    let mut values = Bytes::new(alloc);
+    values.append(first)?;
+    lay(lines, &mut values)?;
+    Ok(values)
+}
+
 // The values of all TLVs of a HELLO.
 fn hello_values(alloc: Global, hello: &Hello, lines: &[Line]) -> Result<Bytes, AllocError>
     requires validity { IsSentTime hello.now.validity }
     requires interval { IsSentIfSome hello.now.interval }
     ensures { IfOk result (HasHelloValues hello.now lines.now) }
 {
-    let mut values = Bytes::new(alloc);
-    values.append(&[
+    let first = [
         code_of(hello.validity),
         code_if_some(hello.interval),
         octet_of(hello.willing),
-    ])?;
-    lay(lines, &mut values)?;
-    Ok(values)
+    ];
+    values_of(alloc, &first, lines)
 }
 
 // The message of a HELLO.
@@ -200,14 +208,12 @@ fn tc_values(alloc: Global, tc: &Tc, lines: &[Line]) -> Result<Bytes, AllocError
     requires { IsSentIfSome tc.now.interval }
     ensures { IfOk result (HasTcValues tc.now lines.now) }
 {
-    let mut values = Bytes::new(alloc);
-    values.append(&[
+    let first = [
         code_if_some(tc.interval),
         (tc.ansn / 256) as u8,
         (tc.ansn % 256) as u8,
-    ])?;
-    lay(lines, &mut values)?;
-    Ok(values)
+    ];
+    values_of(alloc, &first, lines)
 }
 
 // The message of a TC.
