@@ -1,8 +1,8 @@
 -- Lists of what is kept of tuples.
-use Rattle.std.proofs.Common.{◌≡◌, ℕ, ◌+◌, ◌<◌, zero, suc, refl, sym, ◌∙◌, ap, subst, arith, List, [], ◌∷◌, ◌++◌, length, take, map, Contains, Option, Some, None}
-use Rattle.std.specs.Prelude.{slice_get, option_map}
+use Rattle.std.proofs.Common.{◌≡◌, ℕ, ◌+◌, ◌<◌, zero, suc, refl, sym, ◌∙◌, ap, subst, arith, List, [], ◌∷◌, ◌++◌, length, take, map, Contains, Bool, Option, Some, None, inl, inr}
+use Rattle.std.specs.Prelude.{◌↔◌, IsTrue, slice_get, option_map}
 use Rattle.std.specs.List.{cons_option}
-use Rattle.std.proofs.lemmas.Option.{slice_get-map, slice_get-get_or, get_or_from_slice_get}
+use Rattle.std.proofs.lemmas.Option.{slice_get_cases, slice_get-map, slice_get-get_or, get_or_from_slice_get}
 use Rattle.mesh_atoms.specs.Base.{Base, base_of}
 use Rattle.mesh_routes.proofs.Passes.{at_place, place_of}
 
@@ -16,6 +16,13 @@ same_lists (x ∷ xs) (y ∷ ys) long same =
     let first : x ≡ y = cc in
     let others : xs ≡ ys = same_lists xs ys (omega (arith, long)) (λ k low. same (suc k) (omega (arith, low))) in
     ap (λ z. z ∷ xs) first ∙ ap (λ zs. y ∷ zs) others
+
+-- at a place within a list stands an item
+pub has_at : {A : Type 0} (xs : List A) (k : ℕ) → k < length xs → (x : A) × (slice_get xs k ≡ Some x)
+has_at xs k low = elim (slice_get_cases xs k).1 [
+  | inl found ↦ (found.0, found.2)
+  | inr past ↦ absurd (let h = past.0 in omega (arith, low, h))
+]
 
 -- one item more from the front of a list, if there is one
 pub take_more : {A : Type 0} (xs : List A) (n : ℕ) (o : Option A) → o ≡ slice_get xs n → take (n + 1) xs ≡ take n xs ++ cons_option o []
@@ -32,6 +39,13 @@ take_more xs n o at =
 -- what is kept of the tuple at a place stands at that place
 pub at_image : {E I : Type 0} (f : E → I) (base : List E) (place : ℕ) (o : Option E) → o ≡ slice_get base place → slice_get (map f base) place ≡ option_map f o
 at_image f base place o at = slice_get-map f base place ∙ ap (option_map f) (sym at)
+
+-- a test whether what stands there is some item tells whether that item stands there
+pub stands_by : {A : Type 0} {o : Option A} {x y item : A} {r : Bool} → o ≡ Some x → y ≡ x → IsTrue r ↔ (y ≡ item) → IsTrue r ↔ (o ≡ Some item)
+stands_by at is test = (λ t. at ∙ ap Some (sym is ∙ test.0 t), λ there. test.1 (is ∙ same_item at there))
+  where
+    same_item : {A : Type 0} {o : Option A} {x y : A} → o ≡ Some x → o ≡ Some y → x ≡ y
+    same_item e f = cc
 
 -- where the same is kept of two lists, the tuple at a place of the one has one at that place of the other of which the same is kept
 pub carried_at : {E I : Type 0} (f : E → I) (xs ys : List E) → map f xs ≡ map f ys → (k : ℕ) (e : E) → slice_get xs k ≡ Some e → (d : E) × (slice_get ys k ≡ Some d) × (f d ≡ f e)

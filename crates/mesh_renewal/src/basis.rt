@@ -1,5 +1,5 @@
 //! What is kept of that of which routes were made.
-ghost use Rattle.std.specs.Prelude.{◌≡◌, [], IsTrue, IfOk};
+ghost use Rattle.std.specs.Prelude.{◌≡◌, ◌↔◌, [], IsTrue, IfOk};
 ghost use Rattle.mesh_renewal.specs.Images.{ShowsNear};
 ghost use Rattle.mesh_renewal.specs.Routing.{ShowsBasis};
 ghost use Rattle.mesh_renewal.specs.Settings.{ShowsOwn};
@@ -73,7 +73,7 @@ impl RouteBasis {
         topology: &Topology<B>,
         settings: &RouterSettings,
     ) -> bool
-        ensures { IsTrue result → ShowsBasis self.now settings.now (N.near near.now) topology.now }
+        ensures { IsTrue result ↔ ShowsBasis self.now settings.now (N.near near.now) topology.now }
     {
         self.own.shows(settings) && self.near.shows(near, settings) && self.topology.shows(topology)
     }

@@ -1,5 +1,5 @@
 //! Lists of what is kept of tuples, and whether the tuples are still the same.
-ghost use Rattle.std.specs.Prelude.{◌≡◌, ◌++◌, ℕ, List, [], length, slice_get, Some, IsTrue, IfOk, OnOk};
+ghost use Rattle.std.specs.Prelude.{◌≡◌, ◌↔◌, ◌++◌, ℕ, List, [], length, slice_get, Some, IsTrue, IfOk, OnOk};
 ghost use Rattle.std.specs.List.{cons_option};
 
 use mesh_atoms::Seq;
@@ -16,7 +16,7 @@ pub(crate) trait Kind<S, I>: Sized {
 
     /// Whether the item is kept of the tuple at that place.
     fn is_at(source: &S, iface: usize, place: usize, item: &I) -> bool
-        ensures { IsTrue result → slice_get (items source.now iface) place ≡ Some item.now };
+        ensures { IsTrue result ↔ (slice_get (items source.now iface) place ≡ Some item.now) };
 
     /// What is kept of the tuple at that place.
     fn item_at(source: &S, iface: usize, place: usize) -> Result<Option<I>, AllocError>
@@ -31,7 +31,7 @@ fn is_same_at<S, I: Drop, K: Kind<S, I>>(
     items: &Seq<I>,
     _kind: &K,
 ) -> bool
-    ensures { IsTrue result → slice_get (K.items source.now iface) place ≡ slice_get items.now place }
+    ensures { IsTrue result ↔ ((item : I) × (slice_get items.now place ≡ Some item) × (slice_get (K.items source.now iface) place ≡ Some item)) }
 {
     match items.get(place) {
         Some(item) => K::is_at(source, iface, place, item),
@@ -46,7 +46,7 @@ pub(crate) fn are_same<S, I: Drop, K: Kind<S, I>>(
     items: &Seq<I>,
     kind: &K,
 ) -> bool
-    ensures { IsTrue result → K.items source.now iface ≡ items.now }
+    ensures { IsTrue result ↔ (K.items source.now iface ≡ items.now) }
 {
     if K::count(source, iface) != items.len() {
         return false;

@@ -1,5 +1,5 @@
 //! What is kept of a neighbourhood.
-ghost use Rattle.std.specs.Prelude.{◌≡◌, [], length, slice_get, Some, IsTrue, IfOk};
+ghost use Rattle.std.specs.Prelude.{◌≡◌, ◌↔◌, [], length, slice_get, Some, IsTrue, IfOk};
 ghost use Rattle.mesh_renewal.specs.declared.near.IfaceImage.{IfaceImage as IfaceImageValue};
 ghost use Rattle.mesh_renewal.specs.Images.{link_image, two_hop_image, neighbour_image, IsIface, AreIfaces, ShowsNear};
 
@@ -59,7 +59,7 @@ fn link_image(key: &LinkKey, link: &Link) -> LinkImage
 
 // Whether that is kept of the link.
 fn is_link(key: &LinkKey, link: &Link, image: &LinkImage) -> bool
-    ensures { IsTrue result → link_image (key.now, (link.now, 0)) ≡ image.now }
+    ensures { IsTrue result ↔ (link_image (key.now, (link.now, 0)) ≡ image.now) }
 {
     same_metric(link.link_out, image.out) && *key == image.key
 }
@@ -105,14 +105,14 @@ fn two_hop_image(key: &TwoHopKey, tuple: &TwoHop) -> TwoHopImage
 
 // Whether two 2-hop tuples are the same.
 fn is_same_two_hop(tuple: &TwoHop, other: &TwoHop) -> bool
-    ensures { IsTrue result → tuple.now ≡ other.now }
+    ensures { IsTrue result ↔ (tuple.now ≡ other.now) }
 {
     same_metric(tuple.metric_in, other.metric_in) && same_metric(tuple.metric_out, other.metric_out)
 }
 
 // Whether that is kept of the 2-hop tuple.
 fn is_two_hop(key: &TwoHopKey, tuple: &TwoHop, image: &TwoHopImage) -> bool
-    ensures { IsTrue result → two_hop_image (key.now, (tuple.now, 0)) ≡ image.now }
+    ensures { IsTrue result ↔ (two_hop_image (key.now, (tuple.now, 0)) ≡ image.now) }
 {
     is_same_two_hop(tuple, &image.tuple) && *key == image.key
 }
@@ -162,9 +162,7 @@ fn copy_neighbour(neighbour: &Neighbour) -> Result<Neighbour, AllocError>
 
 // Whether two neighbours have the same flags and willingness.
 fn has_flags(neighbour: &Neighbour, other: &Neighbour) -> bool
-    ensures symmetric { IsTrue result → neighbour.now.symmetric ≡ other.now.symmetric }
-    ensures selector { IsTrue result → neighbour.now.selector ≡ other.now.selector }
-    ensures willing { IsTrue result → neighbour.now.willing ≡ other.now.willing }
+    ensures { IsTrue result ↔ ((neighbour.now.symmetric ≡ other.now.symmetric) × (neighbour.now.selector ≡ other.now.selector) × (neighbour.now.willing ≡ other.now.willing)) }
 {
     neighbour.symmetric == other.symmetric
         && neighbour.selector == other.selector
@@ -173,8 +171,7 @@ fn has_flags(neighbour: &Neighbour, other: &Neighbour) -> bool
 
 // Whether two neighbours have the same metrics.
 fn has_metrics(neighbour: &Neighbour, other: &Neighbour) -> bool
-    ensures metric_in { IsTrue result → neighbour.now.metric_in ≡ other.now.metric_in }
-    ensures metric_out { IsTrue result → neighbour.now.metric_out ≡ other.now.metric_out }
+    ensures { IsTrue result ↔ ((neighbour.now.metric_in ≡ other.now.metric_in) × (neighbour.now.metric_out ≡ other.now.metric_out)) }
 {
     same_metric(neighbour.metric_in, other.metric_in)
         && same_metric(neighbour.metric_out, other.metric_out)
@@ -182,7 +179,7 @@ fn has_metrics(neighbour: &Neighbour, other: &Neighbour) -> bool
 
 // Whether two neighbours are the same.
 fn is_same_neighbour(neighbour: &Neighbour, other: &Neighbour) -> bool
-    ensures { IsTrue result → neighbour.now ≡ other.now }
+    ensures { IsTrue result ↔ (neighbour.now ≡ other.now) }
 {
     if !has_flags(neighbour, other) {
         return false;
@@ -195,7 +192,7 @@ fn is_same_neighbour(neighbour: &Neighbour, other: &Neighbour) -> bool
 
 // Whether that is kept of the neighbour.
 fn is_neighbour(originator: Addr4, neighbour: &Neighbour, image: &NeighbourImage) -> bool
-    ensures { IsTrue result → neighbour_image (originator, (neighbour.now, 0)) ≡ image.now }
+    ensures { IsTrue result ↔ (neighbour_image (originator, (neighbour.now, 0)) ≡ image.now) }
 {
     originator == image.originator && is_same_neighbour(neighbour, &image.neighbour)
 }
@@ -243,7 +240,7 @@ fn iface_image<N: Near4>(alloc: Global, near: &N, iface: usize) -> Result<IfaceI
 
 // Whether that is kept of the interface.
 fn is_iface<N: Near4>(near: &N, iface: usize, image: &IfaceImage) -> bool
-    ensures { IsTrue result → IsIface (N.near near.now) iface image.now }
+    ensures { IsTrue result ↔ IsIface (N.near near.now) iface image.now }
 {
     are_same(near, iface, &image.links, &Links {})
         && are_same(near, iface, &image.two_hops, &TwoHops {})
@@ -268,7 +265,7 @@ fn iface_images<N: Near4>(
 
 // Whether that image is kept of the interface at its place.
 fn is_iface_at<N: Near4>(near: &N, images: &Seq<IfaceImage>, iface: usize) -> bool
-    ensures { IsTrue result → (image : IfaceImageValue) → slice_get images.now iface ≡ Some image → IsIface (N.near near.now) iface image }
+    ensures { IsTrue result ↔ ((image : IfaceImageValue) × (slice_get images.now iface ≡ Some image) × IsIface (N.near near.now) iface image) }
 {
     match images.get(iface) {
         Some(image) => is_iface(near, iface, image),
@@ -278,7 +275,7 @@ fn is_iface_at<N: Near4>(near: &N, images: &Seq<IfaceImage>, iface: usize) -> bo
 
 // Whether these are kept of the first interfaces.
 fn are_ifaces<N: Near4>(near: &N, images: &Seq<IfaceImage>) -> bool
-    ensures { IsTrue result → AreIfaces (N.near near.now) images.now }
+    ensures { IsTrue result ↔ AreIfaces (N.near near.now) images.now }
 {
     for iface in 0..images.len() {
         if !is_iface_at(near, images, iface) {
@@ -314,7 +311,7 @@ impl NearImage {
 
     /// Whether that is kept of the neighbourhood of a router with these settings. Takes no memory, and one pass over it.
     pub(crate) fn shows<N: Near4>(&self, near: &N, settings: &RouterSettings) -> bool
-        ensures { IsTrue result → ShowsNear self.now settings.now (N.near near.now) }
+        ensures { IsTrue result ↔ ShowsNear self.now settings.now (N.near near.now) }
     {
         self.ifaces.len() == settings.interfaces.len()
             && are_same(near, 0, &self.neighbours, &Neighbours {})

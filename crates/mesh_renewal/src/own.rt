@@ -1,5 +1,5 @@
 //! What is kept of a router's settings.
-ghost use Rattle.std.specs.Prelude.{◌≡◌, IsTrue, IfOk};
+ghost use Rattle.std.specs.Prelude.{◌≡◌, ◌↔◌, IsTrue, IfOk};
 ghost use Rattle.mesh_renewal.specs.Settings.{ShowsOwn};
 
 use crate::kind::{Kind, are_same, items_of};
@@ -48,7 +48,7 @@ impl Kind<RouterSettings, Seq<Addr4>> for Interfaces {
 
 // Whether two attached networks are the same.
 fn is_network(attached: &Attached4, other: &Attached4) -> bool
-    ensures { IsTrue result → attached.now ≡ other.now }
+    ensures { IsTrue result ↔ (attached.now ≡ other.now) }
 {
     same_net(attached.net, other.net)
         && same_cost(attached.metric, other.metric)
@@ -101,7 +101,7 @@ impl OwnImage {
 
     /// Whether that is kept of the settings. Takes no memory.
     pub(crate) fn shows(&self, settings: &RouterSettings) -> bool
-        ensures { IsTrue result → ShowsOwn self.now settings.now }
+        ensures { IsTrue result ↔ ShowsOwn self.now settings.now }
     {
         are_same(settings, 0, &self.addrs, &Interfaces {})
             && are_same(&settings.attached, 0, &self.attached, &Networks {})

@@ -1,5 +1,5 @@
 //! What is kept of a topology.
-ghost use Rattle.std.specs.Prelude.{◌≡◌, IsTrue, IfOk};
+ghost use Rattle.std.specs.Prelude.{◌≡◌, ◌↔◌, IsTrue, IfOk};
 ghost use Rattle.mesh_renewal.specs.declared.reach.Reach.{Reach};
 ghost use Rattle.mesh_renewal.specs.Topologies.{ShowsTables, ShowsTopology};
 
@@ -84,7 +84,7 @@ struct Tuples<K, V> {
 
 // Whether two tuples tell the same.
 fn is_same_reach(reach: Reach, other: Reach) -> bool
-    ensures { IsTrue result → reach ≡ other }
+    ensures { IsTrue result ↔ (reach ≡ other) }
 {
     same_net(reach.to, other.to)
         && same_cost(reach.metric, other.metric)
@@ -150,7 +150,7 @@ impl TopologyImage {
 
     /// Whether that is kept of the topology. Takes no memory, and one pass over it.
     pub(crate) fn shows<B: Bases>(&self, topology: &Topology<B>) -> bool
-        ensures { IsTrue result → ShowsTopology self.now topology.now }
+        ensures { IsTrue result ↔ ShowsTopology self.now topology.now }
     {
         is_image_of(
             self,
@@ -190,7 +190,7 @@ fn is_image_of<
     A: Table<AddressKey, AddressTuple>,
     N: Table<NetworkKey, NetworkTuple>,
 >(image: &TopologyImage, routers: &R, addresses: &A, networks: &N) -> bool
-    ensures { IsTrue result → ShowsTables image.now (R.content routers.now) (A.content addresses.now) (N.content networks.now) }
+    ensures { IsTrue result ↔ ShowsTables image.now (R.content routers.now) (A.content addresses.now) (N.content networks.now) }
 {
     are_same(
         routers,

@@ -1,9 +1,20 @@
-use Rattle.std.proofs.Common.{◌≡◌, length, arith}
-use Rattle.mesh_renewal.proofs.Lists.{same_lists}
+use Rattle.std.proofs.Common.{◌≡◌, ap, ◌∙◌, length, slice_get, arith, refl}
+use Rattle.std.proofs.lemmas.Bool.{false≢true}
+use Rattle.mesh_renewal.proofs.Lists.{has_at, same_lists}
 use Rattle.mesh_renewal.proofs.kind.are_same.Goals as goal
 
+pub returns-then-not-is_same_at : goal.returns-then-not-is_same_at
+returns-then-not-is_same_at g c = (
+  λ e. absurd (false≢true e),
+  λ same.
+      let (item, at) = has_at c.args.items.now c.loop-place.place (omega (arith, c.loop-place-test.true, c.len-place-end.ensures)) in
+      c.if-not-is_same_at.ensures.1 (item, at, ap (λ items. slice_get items c.loop-place.place) same ∙ at),
+)
+
 pub returns : goal.returns
-returns g c = λ _.
+returns g c =
     let differ = c.if-count-len.false in
-    let long : length (g.K.Kind.items c.args.source.now c.args.iface) ≡ length c.args.items.now = omega (arith, differ, c.count.ensures, c.len.ensures) in
-    same_lists (g.K.Kind.items c.args.source.now c.args.iface) c.args.items.now long (λ k low. c.loop-place.invariant k (omega (arith, low, c.loop-place-test.false, c.loop-place.auto.place-end, c.len-place-end.ensures)))
+    let long : length (g.K.Kind.items c.args.source.now c.args.iface) ≡ length c.args.items.now = omega (arith, differ, c.count.ensures, c.len.ensures) in (
+      λ _. same_lists (g.K.Kind.items c.args.source.now c.args.iface) c.args.items.now long (λ k low. c.loop-place.invariant k (omega (arith, low, c.loop-place-test.false, c.loop-place.auto.place-end, c.len-place-end.ensures))),
+      λ _. refl,
+    )
