@@ -13,7 +13,6 @@ use std::alloc::{AllocError, Global};
 
 /// Relays, routes, advertised rows with their ANSN and the moment at which they became empty; the sequence number of the next
 /// TC; the moments of the next HELLO and TC, and that of the last event. Moments are in ticks of 1/8192 s.
-#[derive(Drop)]
 pub struct Derived {
     pub relays: KeptRelays,
     pub routes: KeptRoutes,
@@ -24,6 +23,23 @@ pub struct Derived {
     pub next_hello: u64,
     pub next_tc: u64,
     pub last: u64,
+}
+
+// By hand, so that no crate that lets go of one has to know its parts.
+impl Drop for Derived {
+    fn drop(self) {
+        let Derived {
+            relays: _,
+            routes: _,
+            rows: _,
+            ansn: _,
+            emptied: _,
+            sequence: _,
+            next_hello: _,
+            next_tc: _,
+            last: _,
+        } = self;
+    }
 }
 
 impl Derived {
@@ -40,7 +56,7 @@ impl Derived {
         if rows.len() == 0 && self.rows.len() != 0 {
             self.emptied = Some(now);
         }
-        self.rows = rows;
+        let _old = std::mem::replace(&mut self.rows, rows);
     }
 
     // Renews the advertised rows at the end of an event: they are made anew where other neighbours or networks give them.

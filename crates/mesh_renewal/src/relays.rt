@@ -14,10 +14,19 @@ use std::alloc::{AllocError, Global};
 use std::marker::Model;
 
 /// The relays of a router, and what is kept of the neighbourhood from which they were chosen. Contracts see them as the relays.
-#[derive(Drop)]
 pub struct KeptRelays {
     relays: Relays,
     image: NearImage,
+}
+
+// By hand, so that no crate that lets go of one has to know its parts.
+impl Drop for KeptRelays {
+    fn drop(self) {
+        let KeptRelays {
+            relays: _,
+            image: _,
+        } = self;
+    }
 }
 
 impl Model for KeptRelays {
@@ -108,7 +117,7 @@ impl KeptRelays {
             return Ok(());
         }
         let kept = KeptRelays::of(alloc, near, settings)?;
-        *self = kept;
+        let _old = std::mem::replace(self, kept);
         Ok(())
     }
 

@@ -1,5 +1,5 @@
 //! The routes of a router.
-ghost use Rattle.std.specs.Prelude.{◌≡◌, ℕ, [], IfOk, OnOk};
+ghost use Rattle.std.specs.Prelude.{◌≡◌, ℕ, [], Ok, IfOk, OnOk};
 ghost use Rattle.mesh_atoms.specs.declared.addr.Addr4.{Addr4};
 ghost use Rattle.mesh_atoms.specs.Routes.{AreRoutes};
 ghost use Rattle.mesh_atoms.specs.Sound.{SoundNeighbourhood, SoundTopology};
@@ -15,10 +15,19 @@ use std::alloc::{AllocError, Global};
 use std::marker::Model;
 
 /// The routes of a router, and what is kept of the bases and settings of which they were made. Contracts see them as the routes.
-#[derive(Drop)]
 pub struct KeptRoutes {
     routes: RoutingSet,
     basis: RouteBasis,
+}
+
+// By hand, so that no crate that lets go of one has to know its parts.
+impl Drop for KeptRoutes {
+    fn drop(self) {
+        let KeptRoutes {
+            routes: _,
+            basis: _,
+        } = self;
+    }
 }
 
 impl Model for KeptRoutes {
@@ -61,6 +70,15 @@ impl KeptRoutes {
         Ok(KeptRoutes { routes, basis })
     }
 
+    // Takes routes that were made, if memory was enough.
+    fn take(&mut self, made: Result<KeptRoutes, AllocError>) -> Result<(), AllocError>
+        ensures { OnOk result (made ≡ Ok self.new) }
+    {
+        let kept = made?;
+        let _old = std::mem::replace(self, kept);
+        Ok(())
+    }
+
     /// Makes them the routes of a router with these bases and settings, at each moment at which its neighbourhood is sound: they are
     /// made anew where these aren't those of which they were made, but for moments.
     pub(crate) fn renew<N: Near4, B: Bases>(
@@ -78,8 +96,8 @@ impl KeptRoutes {
         if self.basis.shows(near, topology, settings) {
             return Ok(());
         }
-        *self = KeptRoutes::of(alloc, near, topology, settings)?;
-        Ok(())
+        let made = KeptRoutes::of(alloc, near, topology, settings);
+        self.take(made)
     }
 
     /// The routes.

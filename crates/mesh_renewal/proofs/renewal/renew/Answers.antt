@@ -4,6 +4,18 @@ use Rattle.mesh_atoms.specs.Advertised.{AreTcRows}
 use Rattle.mesh_renewal.specs.declared.derived.Derived.{Derived}
 use Rattle.mesh_renewal.proofs.renewal.renew.Goals as goal
 
+pub returns-clause-last : goal.returns-clause-last
+returns-clause-last g c = refl
+
+pub returns-clause-sequence : goal.returns-clause-sequence
+returns-clause-sequence g c = ap (λ (d : Derived). d.sequence) c.renew_rows.ensures.others
+
+pub returns-clause-next_hello : goal.returns-clause-next_hello
+returns-clause-next_hello g c = ap (λ (d : Derived). d.next_hello) c.renew_rows.ensures.others
+
+pub returns-clause-next_tc : goal.returns-clause-next_tc
+returns-clause-next_tc g c = ap (λ (d : Derived). d.next_tc) c.renew_rows.ensures.others
+
 pub returns-clause-renews : goal.returns-clause-renews
 returns-clause-renews g c = λ before s settings_before rows_before ansn_before emptied_before settings near topology has.
     let (self, routes) = c.in_ok-renew-2.ensures.routes s c.args.now settings near topology has.routes c.requires.near in
