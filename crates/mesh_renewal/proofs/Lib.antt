@@ -1,3 +1,4 @@
+mod Chosen
 mod Deciding
 mod Lists
 mod Moments

@@ -1,12 +1,13 @@
 //! The relays that a router chooses.
-ghost use Rattle.std.specs.Prelude.{◌≡◌, ℕ, IfOk, OnOk};
-ghost use Rattle.mesh_atoms.specs.RelayGraphs.{AreRelays};
+ghost use Rattle.std.specs.Prelude.{◌≡◌, ℕ, Some, None, IfOk, OnOk};
+ghost use Rattle.mesh_atoms.specs.declared.graphs.NeighbourGraph.{NeighbourGraph as Graph};
+ghost use Rattle.mesh_atoms.specs.RelayGraphs.{AreRelays, AreRelaysOf, IsFloodingGraph, IsRoutingGraph};
 ghost use Rattle.mesh_atoms.specs.Sound.{SoundNeighbourhood};
 ghost use Rattle.mesh_atoms.specs.State.{State};
 ghost use Rattle.mesh_machine.specs.Machine.{no_relays};
 
 use crate::near::NearImage;
-use mesh_atoms::{Relays, RouterSettings, Seq};
+use mesh_atoms::{Addr4, Relays, RouterSettings, Seq};
 use mesh_nbrs::Near4;
 use mesh_relay::choose;
 use mesh_routes::graph_of;
@@ -40,6 +41,23 @@ impl Model for KeptRelays {
     ghost invariant = { λ k. AreRelaysFor k.image k.relays };
 }
 
+// The flooding relays on an interface of a router with this neighbourhood, or where there is none its routing relays.
+fn relays_on<N: Near4>(
+    alloc: Global,
+    near: &N,
+    settings: &RouterSettings,
+    iface: Option<usize>,
+) -> Result<Seq<Addr4>, AllocError>
+    requires sound { (now : ℕ) × SoundNeighbourhood settings.now now (N.near near.now) }
+    ensures routing { iface ≡ None → IfOk result (λ relays. (s : State) → s.bases.neighbourhood ≡ N.near near.now
+        → (graph : Graph) × IsRoutingGraph s graph × AreRelaysOf graph relays) }
+    ensures flooding { (i : ℕ) → iface ≡ Some i → IfOk result (λ relays. (s : State) (now : ℕ) → s.bases.neighbourhood ≡ N.near near.now
+        → SoundNeighbourhood settings.now now (N.near near.now) → (graph : Graph) × IsFloodingGraph s now i graph × AreRelaysOf graph relays) }
+{
+    let graph = graph_of(alloc, near, settings, iface)?;
+    choose(alloc, &graph)
+}
+
 // The relays of a router with this neighbourhood.
 fn relays_of<N: Near4>(
     alloc: Global,
@@ -52,12 +70,10 @@ fn relays_of<N: Near4>(
 {
     let mut flooding = Seq::new(alloc);
     for iface in 0..settings.interfaces.len() {
-        let graph = graph_of(alloc, near, settings, Some(iface))?;
-        let chosen = choose(alloc, &graph)?;
+        let chosen = relays_on(alloc, near, settings, Some(iface))?;
         flooding.push(chosen)?;
     }
-    let graph = graph_of(alloc, near, settings, None)?;
-    let routing = choose(alloc, &graph)?;
+    let routing = relays_on(alloc, near, settings, None)?;
     Ok(Relays { flooding, routing })
 }
 

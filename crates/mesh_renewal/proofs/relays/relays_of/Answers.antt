@@ -2,9 +2,10 @@ use Rattle.std.proofs.Common.{◌≡◌, ◌+◌, ℕ, List, length, sym, subst,
 use Rattle.std.specs.Prelude.{slice_get, Some}
 use Rattle.std.proofs.lemmas.List.{length_push}
 use Rattle.mesh_atoms.specs.declared.addr.Addr4.{Addr4}
+use Rattle.mesh_atoms.specs.declared.graphs.NeighbourGraph.{NeighbourGraph}
 use Rattle.mesh_atoms.specs.declared.settings.RouterSettings.{RouterSettings}
 use Rattle.mesh_atoms.specs.declared.tuples.Relays.{Relays}
-use Rattle.mesh_atoms.specs.RelayGraphs.{AreRelaysOf, IsFloodingGraph}
+use Rattle.mesh_atoms.specs.RelayGraphs.{AreRelaysOf, IsFloodingGraph, IsRoutingGraph}
 use Rattle.mesh_renewal.proofs.Pushed.{at_pushed}
 use Rattle.mesh_renewal.proofs.relays.relays_of.Goals as goal
 
@@ -15,11 +16,9 @@ loop-iface-preserved g c = record {
       elim (at_pushed c.loop-iface.flooding c.in_ok-chosen.chosen relays i (subst (λ (xs : List (List Addr4)). slice_get xs i ≡ Some relays) c.in_ok-push.ensures.ok at)) [
         | inl before ↦ c.loop-iface.invariant.chosen s now settings near sound i relays before
         | inr last ↦
-            let here : c.loop-iface.iface ≡ i = sym (last.0 ∙ c.loop-iface.invariant.count) in (
-              c.in_ok-graph.graph,
-              subst (λ (n : ℕ). IsFloodingGraph s now n c.in_ok-graph.graph) here (c.in_ok-graph.ensures.flooding c.loop-iface.iface refl s now near sound),
-              subst (λ (r : List Addr4). AreRelaysOf c.in_ok-graph.graph r) last.1 (record { covers = c.in_ok-chosen.ensures.covers; needed = c.in_ok-chosen.ensures.needed; ascending = c.in_ok-chosen.ensures.order }),
-            )
+            let here : c.loop-iface.iface ≡ i = sym (last.0 ∙ c.loop-iface.invariant.count) in
+            subst (λ (n : ℕ). (graph : NeighbourGraph) × IsFloodingGraph s now n graph × AreRelaysOf graph relays) here
+            (subst (λ (r : List Addr4). (graph : NeighbourGraph) × IsFloodingGraph s now c.loop-iface.iface graph × AreRelaysOf graph r) last.1 (c.in_ok-chosen.ensures.flooding c.loop-iface.iface refl s now near sound))
       ];
 }
 
@@ -30,9 +29,5 @@ returns g c = λ s now settings near relays sound.
     record {
       interfaces = ap (λ (xs : List (List Addr4)). length xs) flooding ∙ (c.loop-iface.invariant.count ∙ ((let a = c.loop-iface-test.false in let b = c.loop-iface.auto.iface-end in let e = c.len-iface-end.ensures in omega (arith, a, b, e)) ∙ ap (λ (r : RouterSettings). length r.interfaces) (sym settings)));
       flooding = λ i list at. c.loop-iface.invariant.chosen s now settings near sound i list (subst (λ (xs : List (List Addr4)). slice_get xs i ≡ Some list) flooding at);
-      routing = (
-        c.in_ok-graph-2.graph,
-        c.in_ok-graph-2.ensures.routing refl s near,
-        subst (λ (r : List Addr4). AreRelaysOf c.in_ok-graph-2.graph r) (sym routing) (record { covers = c.in_ok-routing.ensures.covers; needed = c.in_ok-routing.ensures.needed; ascending = c.in_ok-routing.ensures.order }),
-      );
+      routing = subst (λ (r : List Addr4). (graph : NeighbourGraph) × IsRoutingGraph s graph × AreRelaysOf graph r) (sym routing) (c.in_ok-routing.ensures.routing refl s near);
     }
