@@ -4,6 +4,7 @@ ghost use Rattle.mesh_atoms.specs.declared.addr.Addr4.{Addr4};
 ghost use Rattle.mesh_atoms.specs.Routes.{AreRoutes};
 ghost use Rattle.mesh_atoms.specs.Sound.{SoundNeighbourhood, SoundTopology};
 ghost use Rattle.mesh_atoms.specs.State.{State};
+ghost use Rattle.mesh_renewal.specs.Routing.{AreRoutesFor};
 
 use crate::basis::RouteBasis;
 use mesh_atoms::RouterSettings;
@@ -66,7 +67,19 @@ impl KeptRoutes {
             → (self : Addr4) × AreRoutes s now self) }
     {
         let routes = routes_of(alloc, near, topology, settings)?;
-        let basis = RouteBasis::of(alloc, near, topology, settings)?;
+        let basis = RouteBasis::of(alloc, near, topology, settings);
+        KeptRoutes::with(routes, basis)
+    }
+
+    // Routes with that of which they were made, if memory was enough to keep it.
+    fn with(
+        routes: RoutingSet,
+        basis: Result<RouteBasis, AllocError>,
+    ) -> Result<KeptRoutes, AllocError>
+        requires fit { IfOk basis (λ made_of. AreRoutesFor made_of routes) }
+        ensures { IfOk result (λ kept. kept ≡ routes) }
+    {
+        let basis = basis?;
         Ok(KeptRoutes { routes, basis })
     }
 
