@@ -2,6 +2,7 @@ mod Chosen
 mod Deciding
 mod Lists
 mod Moments
+mod Nothing
 pub mod Pushed
 mod RouteMoments
 mod RowMoments
