@@ -26,6 +26,8 @@ use Rattle.mesh_nhdp.specs.NhdpState.{near_with}
 use Rattle.mesh_nhdp.specs.Wanted.{IsWantedAddress}
 use Rattle.mesh_nhdp.proofs.Bases.{base_cases}
 use Rattle.mesh_hello.proofs.Collect.{item_at}
+use Rattle.mesh_hello.proofs.Lookups.{none_not}
+use Rattle.mesh_nhdp.proofs.Places.{append_none}
 use Rattle.mesh_nhdp.proofs.Whole.{live_by_calls}
 use Rattle.mesh_nhdp.proofs.LiveSound.{live_sound}
 
@@ -50,10 +52,6 @@ written_back len new items same all =
     none_left [] h = refl
     none_left (x ∷ xs) h = absurd (omega (arith, h))
 
-    append_none : {A : Type 0} (xs : List A) → xs ++ [] ≡ xs
-    append_none [] = refl
-    append_none (x ∷ xs) = ap (λ rest. x ∷ rest) (append_none xs)
-
 -- where there is no interface
 expires_on_none : (rule : Admit) (hold now : ℕ) → ExpiresOn rule hold now [] [] [] []
 unfolding IsDistinct
@@ -61,7 +59,7 @@ expires_on_none rule hold now = record {
   distinct_links = tt;
   distinct_two_hops = tt;
   links = ([], (λ key. refl), (λ key. refl));
-  two_hops = ([], [], (λ key. refl), record { told = λ key c. absurd (omega (arith, c.1)); all = λ key e is. absurd cc }, (λ key. refl));
+  two_hops = ([], [], (λ key. refl), record { told = λ key c. absurd (omega (arith, c.1)); all = λ key e is. none_not refl is }, (λ key. refl));
 }
 
 module _ (settings : RouterSettings) (moment now : ℕ) (old : Neighbourhood) (S : SoundNeighbourhood settings moment old)

@@ -84,7 +84,7 @@ few_held near listed originator theirs are few (some, different, all, many) =
     let two = one ++ keys_of near.losts in
     let three = two ++ listed in
     let whole = three ++ originator ∷ [] in
-    let fits = distinct_fits some whole different (λ a c. (held_addresses near listed originator theirs (keys_of near.neighbours) (keys_of near.losts) one two three whole wanted refl refl refl refl refl refl a).1 (all a c)) in
+    let fits = distinct_fits addr_equiv same_addr some whole different (λ a c. (held_addresses near listed originator theirs (keys_of near.neighbours) (keys_of near.losts) one two three whole wanted refl refl refl refl refl refl a).1 (all a c)) in
     let last : length whole ≡ length three + 1 = length-append three (originator ∷ []) in
     absurd (omega (arith, fits, few, many, last, length-append two listed, length-append one (keys_of near.losts), length-append theirs (keys_of near.neighbours), length-keys_of near.neighbours, length-keys_of near.losts))
   where

@@ -1,5 +1,5 @@
 -- The HELLO out of its rows, and sound tuples are apart.
-use Rattle.std.proofs.Common.{◌≡◌, ◌+◌, ◌++◌, take, ◌<◌, ◌≤◌, ℕ, false, nat_lt, inl, inr, refl, sym, ◌∙◌, ap, subst, map, length, get_or, zero, suc, ◌∷◌, arith}
+use Rattle.std.proofs.Common.{◌≡◌, ◌+◌, ◌++◌, take, ◌<◌, ◌≤◌, ℕ, false, nat_lt, inl, inr, refl, sym, ◌∙◌, ap, subst, map, length, get_or, ◌∷◌, arith}
 use Rattle.std.specs.Prelude.{List, [], Contains, AllPairs, Some, None, slice_get, ◌↔◌}
 use Rattle.std.proofs.lemmas.List.{length-map, map-append, get_or-map, get_or_default, get_or_past}
 use Rattle.std.proofs.lemmas.Option.{slice_get-get_or, none-some}
@@ -27,6 +27,7 @@ use Rattle.mesh_hello.proofs.Collect.{adds_one, taken_more}
 use Rattle.mesh_nhdp.specs.NhdpState.{NhdpState}
 use Rattle.mesh_nhdp.specs.Said.{AreDisjoint, IsSeen, IsRowOf, said_addresses}
 use Rattle.mesh_hello.proofs.Lookups.{some_same}
+use Rattle.mesh_nhdp.proofs.Places.{map_gives, map_given}
 use Rattle.mesh_nhdp.proofs.Somewhere.{told_all}
 
 -- what the HELLO is made of: the addresses of which something is said, and a row for each, in their order
@@ -48,14 +49,6 @@ said_same settings links seen_links neighbours seen_neighbours losts list same s
     (subst (λ (ns : Base Addr4 Neighbour). Contains list a ↔ Contains (said_addresses settings seen_links ns losts) a) same_neighbours (are a))
 
 -- Lists that are mapped
-
-map_gives : {A B : Type 0} (f : A → B) (xs : List A) (x : A) → Contains xs x → Contains (map f xs) (f x)
-map_gives f xs x (k, lt, is) = (k, (let e : length (map f xs) ≡ length xs = length-map xs f in omega arith), get_or-map f xs k x (f x) lt ∙ ap f is)
-
-map_given : {A B : Type 0} (f : A → B) (xs : List A) (y : B) → Contains (map f xs) y → (x : A) × Contains xs x × (f x ≡ y)
-map_given f [] y (k, lt, is) = absurd (omega arith)
-map_given f (x ∷ xs) y (zero, lt, is) = (x, (0, omega arith, refl), is)
-map_given f (x ∷ xs) y (suc k, lt, is) = let (z, (j, within, at), e) = map_given f xs y (k, omega arith, is) in (z, (suc j, omega arith, at), e)
 
 -- one row more is put at the end
 pub addrs_more : (rows new : List HelloRow) (list : List Addr4) (k : ℕ) (row : HelloRow) (a : Addr4) → slice_get list k ≡ Some a → new ≡ rows ++ row ∷ [] → row.addr ≡ host a →

@@ -16,7 +16,7 @@ use Rattle.mesh_atoms.specs.Base.{Base, Has, HasDistinctKeys, addr_eq, link_eq, 
 use Rattle.mesh_expire.specs.Table.{entry_of, value_of}
 use Rattle.std.specs.Borrow.{Bor}
 use Rattle.mesh_atoms.proofs.Lookups.{has_found, addr_equiv, same_addr, link_equiv, same_link}
-use Rattle.mesh_hello.proofs.Lookups.{Contains_at, some_same}
+use Rattle.mesh_hello.proofs.Lookups.{Contains_at, some_same, none_not}
 use Rattle.mesh_links.specs.Links.{HasLinkWith}
 use Rattle.mesh_atoms.specs.Hello.{IsHelloRow}
 use Rattle.mesh_atoms.specs.Words.{IsValue}
@@ -87,8 +87,8 @@ row_of settings links neighbours losts relays i now row a apart told made = reco
 pub lost_by : (losts : Base Addr4 Lost) (a : Addr4) (o : Option (Bor Lost × ℕ)) (b : Bool) → HasDistinctKeys addr_eq losts → value_of o ≡ find addr_eq losts a → b ≡ is_some o →
     IsTrue b ↔ ((l : Lost) × Has losts a l)
 lost_by losts a None b distinct is so = (
-  (λ h. absurd cc),
-  (λ w. let (until, found) = (has_found addr_equiv same_addr losts a w.0 distinct).0 w.1 in absurd cc),
+  (λ h. absurd (false≢true (sym so ∙ h))),
+  (λ w. let (until, found) = (has_found addr_equiv same_addr losts a w.0 distinct).0 w.1 in none_not refl (is ∙ found)),
 )
 lost_by losts a (Some e) b distinct is so = ((λ h. (e.0.now, (has_found addr_equiv same_addr losts a e.0.now distinct).1 (e.1, sym is))), (λ w. so))
 

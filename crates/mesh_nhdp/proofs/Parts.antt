@@ -2,6 +2,7 @@
 use Rattle.std.proofs.Common.{◌≡◌, ℕ, Bool, true, false, inl, inr, refl, sym, ◌∙◌, ap, subst}
 use Rattle.std.specs.Prelude.{Contains, List, Option, Some, None, slice_get, IsTrue, ◌↔◌, is_some}
 use Rattle.std.specs.Borrow.{Bor}
+use Rattle.std.proofs.lemmas.Bool.{false≢true}
 use Rattle.mesh_atoms.specs.declared.addr.Addr4.{Addr4}
 use Rattle.mesh_codes.specs.declared.metric.Metric.{Metric}
 use Rattle.mesh_atoms.specs.declared.hello.LocalIf.{LocalIf}
@@ -22,7 +23,7 @@ use Rattle.mesh_atoms.specs.declared.tuples.LinkState.{LinkState}
 use Rattle.mesh_atoms.specs.declared.tuples.LinkState.TheVariants.{Pending as Is_pending, Lost as Is_lost, Symmetric as Is_symmetric, Heard as Is_heard}
 use Rattle.mesh_atoms.specs.State.{State, state_of, HasLink, HasSymmetricWith, HasAddressOn}
 use Rattle.mesh_expire.specs.Table.{entry_of}
-use Rattle.mesh_hello.proofs.Lookups.{some_same}
+use Rattle.mesh_hello.proofs.Lookups.{some_same, none_not}
 use Rattle.mesh_nhdp.specs.Said.{IsLinkWith, IsNeighbourWith, AreDisjoint, IsLocalOn, IsRelayOf, IsFloodingRelay, link_status_said, other_said, link_in_said, link_out_said, near_in_said, near_out_said}
 
 pub lent : {K V : Type 0} (o : Option (Bor K × Bor V × ℕ)) (e : Bor K × Bor V × ℕ) → o ≡ Some e → entry_of o ≡ Some (e.0.now, (e.1.now, e.2))
@@ -53,17 +54,21 @@ status_for Down = refl
 status_for Symmetric = refl
 status_for Heard = refl
 
+-- each state is told of by a status of its own, or else by none
+state_of_said : Option LinkStatus → LinkState
+state_of_said None = Is_pending
+state_of_said (Some status) = state_for status
+
+said_back : (state : LinkState) → state_of_said (status_said state) ≡ state
+unfolding state_of_said
+said_back Is_pending = refl
+said_back Is_lost = refl
+said_back Is_symmetric = refl
+said_back Is_heard = refl
+
 state_told : (state : LinkState) (status : LinkStatus) → status_said state ≡ Some status → state ≡ state_for status
-state_told Is_pending status h = absurd cc
-state_told Is_lost Down h = refl
-state_told Is_lost Symmetric h = absurd cc
-state_told Is_lost Heard h = absurd cc
-state_told Is_symmetric Down h = absurd cc
-state_told Is_symmetric Symmetric h = refl
-state_told Is_symmetric Heard h = absurd cc
-state_told Is_heard Down h = absurd cc
-state_told Is_heard Symmetric h = absurd cc
-state_told Is_heard Heard h = refl
+unfolding state_of_said
+state_told state status h = sym (said_back state) ∙ ap state_of_said h
 
 shows_part : (s : State) (i now : ℕ) (a : Addr4) (status : LinkStatus) → SaysLink s i now a (state_for status) → Says s i now a (link_part status)
 shows_part s i now a Down h = h
@@ -78,6 +83,21 @@ part_shows s i now a Heard h = h
 -- the link of interface i that has the address, in that state
 abbrev pub IsLinkTo : State → ℕ → ℕ → Addr4 → LinkState → LinkKey × (Link × ℕ) → Type 0
 IsLinkTo s i now a state e = HasLinkTo s i now a state e.1.0
+
+-- a status that is another
+abbrev is_heard : Option LinkStatus → Bool
+is_heard (Some Heard) = true
+is_heard status = false
+
+abbrev pub is_symmetric : Option LinkStatus → Bool
+is_symmetric (Some Symmetric) = true
+is_symmetric status = false
+
+not_heard : {status : Option LinkStatus} → is_heard status ≡ false → status ≡ Some Heard → ⊥
+not_heard other h = false≢true (sym other ∙ ap is_heard h)
+
+pub not_symmetric : {status : Option LinkStatus} → is_symmetric status ≡ false → status ≡ Some Symmetric → ⊥
+not_symmetric other h = false≢true (sym other ∙ ap is_symmetric h)
 
 -- what the status says of the link, and the links of the status: it is the one link that has the address
 pub record IsStatus (s : State) (i now : ℕ) (a : Addr4) (link : Option (LinkKey × (Link × ℕ))) (status : Option LinkStatus) : Type 0 where
@@ -96,7 +116,7 @@ module _ (s : State) (i now : ℕ) (a : Addr4) (links : Base LinkKey Link) (at :
 
   pub is_status : (link : Option (LinkKey × (Link × ℕ))) → IsValue (IsLinkWith links a) link → IsStatus s i now a link (link_status_said link now)
   is_status None none = record {
-    told = λ v h. absurd cc;
+    told = λ v h. none_not refl h;
     all = λ v l w. let (key, has, in', is) = w in let (until, stands) = in_links key l has in absurd (none (key, (l, until)) (stands, in'));
   }
   is_status (Some e) with' = record {
@@ -110,11 +130,11 @@ module _ (s : State) (i now : ℕ) (a : Addr4) (links : Base LinkKey Link) (at :
 
   pub is_only : (neighbour : Option (Addr4 × (Neighbour × ℕ))) → IsValue (IsNeighbourWith s.bases.neighbourhood.neighbours a) neighbour → IsOnlyNeighbour s a neighbour
   is_only None none = record {
-    told = λ e h. absurd cc;
+    told = λ e h. none_not refl h;
     all = λ o n w. let ((has, is), in') = w in absurd (none (o, (n, has.0)) (has.1, is, in'));
   }
   is_only (Some e) with' = record {
-    told = λ f h. let is : e ≡ f = cc in subst (λ (x : Addr4 × (Neighbour × ℕ)). HasSymmetricWith s a x.0 x.1.0) is (((e.1.1, with'.0), with'.1), with'.2);
+    told = λ f h. let is : e ≡ f = some_same refl h in subst (λ (x : Addr4 × (Neighbour × ℕ)). HasSymmetricWith s a x.0 x.1.0) is (((e.1.1, with'.0), with'.1), with'.2);
     all = λ o n w. let ((has, is), in') = w in let (x, y) = apart.one_neighbour a o e.0 n e.1.0 has (e.1.1, with'.0) in' with'.2 in (e, refl, x, y);
   }
 
@@ -130,7 +150,7 @@ module _ (s : State) (i now : ℕ) (a : Addr4) (links : Base LinkKey Link) (at :
         subst (λ (x : LinkKey × (Link × ℕ)). IsLinkTo s i now a (state_for v) x) (some_same there' there) to
 
   pub link_told : (link : Option (LinkKey × (Link × ℕ))) (status : Option LinkStatus) → IsStatus s i now a link status → IsValue (λ v. Says s i now a (link_part v)) status
-  link_told link None is = λ v w. shows_not link None is v (λ h. cc) (part_shows s i now a v w)
+  link_told link None is = λ v w. shows_not link None is v (none_not refl) (part_shows s i now a v w)
   link_told link (Some v) is = let (e, _, to) = is.told v refl in shows_part s i now a v (e.1.0, to)
 
   no_link_in : (link : Option (LinkKey × (Link × ℕ))) (status : Option LinkStatus) → IsStatus s i now a link status → (status ≡ Some Heard → ⊥) → (status ≡ Some Symmetric → ⊥) →
@@ -139,10 +159,10 @@ module _ (s : State) (i now : ℕ) (a : Addr4) (links : Base LinkKey Link) (at :
   no_link_in link status is not_heard not_symmetric m (l, inr h, _) = shows_not link status is Symmetric not_symmetric (l, h)
 
   pub link_in_told : (link : Option (LinkKey × (Link × ℕ))) (status : Option LinkStatus) → IsStatus s i now a link status → IsValue (λ m. Says s i now a (Link_in m)) (link_in_said status link)
-  link_in_told link None is = no_link_in link None is (λ h. cc) (λ h. cc)
-  link_in_told link (Some Down) is = no_link_in link (Some Down) is (λ h. cc) (λ h. cc)
-  link_in_told None (Some Symmetric) is = let (e, there, _) = is.told Symmetric refl in absurd cc
-  link_in_told None (Some Heard) is = let (e, there, _) = is.told Heard refl in absurd cc
+  link_in_told link None is = no_link_in link None is (not_heard refl) (not_symmetric refl)
+  link_in_told link (Some Down) is = no_link_in link (Some Down) is (not_heard refl) (not_symmetric refl)
+  link_in_told None (Some Symmetric) is = let (e, there, _) = is.told Symmetric refl in none_not refl there
+  link_in_told None (Some Heard) is = let (e, there, _) = is.told Heard refl in none_not refl there
   link_in_told (Some e) (Some Symmetric) is = (e.1.0, inr (link_at (Some e) (Some Symmetric) is e Symmetric refl refl), refl)
   link_in_told (Some e) (Some Heard) is = (e.1.0, inl (link_at (Some e) (Some Heard) is e Heard refl refl), refl)
 
@@ -152,38 +172,38 @@ module _ (s : State) (i now : ℕ) (a : Addr4) (links : Base LinkKey Link) (at :
       let one : e ≡ f = some_same refl there in
       let both : w.0 ≡ e.1.0 = same' ∙ ap (λ (x : LinkKey × (Link × ℕ)). x.1.0) (sym one) in
       let out : w.0.link_out ≡ None = ap (λ (l : Link). l.link_out) both ∙ none in
-      cc (out, w.2)
+      none_not out w.2
   link_out_of e (Some m) some is = (e.1.0, link_at (Some e) (Some Symmetric) is e Symmetric refl refl, some)
 
   pub link_out_told : (link : Option (LinkKey × (Link × ℕ))) (status : Option LinkStatus) → IsStatus s i now a link status → IsValue (λ m. Says s i now a (Link_out m)) (link_out_said status link)
-  link_out_told link None is = λ m w. shows_not link None is Symmetric (λ h. cc) (w.0, w.1)
-  link_out_told link (Some Down) is = λ m w. shows_not link (Some Down) is Symmetric (λ h. cc) (w.0, w.1)
-  link_out_told link (Some Heard) is = λ m w. shows_not link (Some Heard) is Symmetric (λ h. cc) (w.0, w.1)
-  link_out_told None (Some Symmetric) is = let (e, there, _) = is.told Symmetric refl in absurd cc
+  link_out_told link None is = λ m w. shows_not link None is Symmetric (not_symmetric refl) (w.0, w.1)
+  link_out_told link (Some Down) is = λ m w. shows_not link (Some Down) is Symmetric (not_symmetric refl) (w.0, w.1)
+  link_out_told link (Some Heard) is = λ m w. shows_not link (Some Heard) is Symmetric (not_symmetric refl) (w.0, w.1)
+  link_out_told None (Some Symmetric) is = let (e, there, _) = is.told Symmetric refl in none_not refl there
   link_out_told (Some e) (Some Symmetric) is = link_out_of e e.1.0.link_out refl is
 
   -- Of the neighbour
 
   pub near_in_told : (neighbour : Option (Addr4 × (Neighbour × ℕ))) → IsOnlyNeighbour s a neighbour → IsValue (λ m. Says s i now a (Near_in m)) (near_in_said neighbour)
-  near_in_told None is = λ m w. let (e, there, _, _) = is.all w.0 w.1 w.2 in cc
+  near_in_told None is = λ m w. let (e, there, _, _) = is.all w.0 w.1 w.2 in none_not refl there
   near_in_told (Some e) is = by_metric e.1.0.metric_in refl where
     by_metric : (shown : Option Metric) → e.1.0.metric_in ≡ shown → IsValue (λ m. Says s i now a (Near_in m)) shown
     by_metric None none = λ m w.
         let (f, there, _, same') = is.all w.0 w.1 w.2 in
         let one : e ≡ f = some_same refl there in
         let out : w.1.metric_in ≡ None = ap (λ (n : Neighbour). n.metric_in) (same' ∙ ap (λ (x : Addr4 × (Neighbour × ℕ)). x.1.0) (sym one)) ∙ none in
-        cc (out, w.3)
+        none_not out w.3
     by_metric (Some m) some = (e.0, e.1.0, is.told e refl, some)
 
   pub near_out_told : (neighbour : Option (Addr4 × (Neighbour × ℕ))) → IsOnlyNeighbour s a neighbour → IsValue (λ m. Says s i now a (Near_out m)) (near_out_said neighbour)
-  near_out_told None is = λ m w. let (e, there, _, _) = is.all w.0 w.1 w.2 in cc
+  near_out_told None is = λ m w. let (e, there, _, _) = is.all w.0 w.1 w.2 in none_not refl there
   near_out_told (Some e) is = by_metric e.1.0.metric_out refl where
     by_metric : (shown : Option Metric) → e.1.0.metric_out ≡ shown → IsValue (λ m. Says s i now a (Near_out m)) shown
     by_metric None none = λ m w.
         let (f, there, _, same') = is.all w.0 w.1 w.2 in
         let one : e ≡ f = some_same refl there in
         let out : w.1.metric_out ≡ None = ap (λ (n : Neighbour). n.metric_out) (same' ∙ ap (λ (x : Addr4 × (Neighbour × ℕ)). x.1.0) (sym one)) ∙ none in
-        cc (out, w.3)
+        none_not out w.3
     by_metric (Some m) some = (e.0, e.1.0, is.told e refl, some)
 
   -- Of the neighbour and the link
@@ -197,15 +217,15 @@ module _ (s : State) (i now : ℕ) (a : Addr4) (links : Base LinkKey Link) (at :
     other_told status neighbour true is only tells = tells.0 refl
     other_told status None false is only tells = not_shown where
       not_shown : (v : _) → Says s i now a (other_part v) → ⊥
-      not_shown No_more w = let h = tells.1 w in cc
-      not_shown Still w = let (e, there, _, _) = only.all w.0.0 w.0.1 w.0.2 in cc
+      not_shown No_more w = false≢true (tells.1 w)
+      not_shown Still w = let (e, there, _, _) = only.all w.0.0 w.0.1 w.0.2 in none_not refl there
     other_told (Some Symmetric) (Some e) false is only tells = not_shown where
       not_shown : (v : _) → Says s i now a (other_part v) → ⊥
-      not_shown No_more w = let h = tells.1 w in cc
+      not_shown No_more w = false≢true (tells.1 w)
       not_shown Still w = let (f, _, to) = is.told Symmetric refl in w.1 (f.1.0, to)
-    other_told None (Some e) false is only tells = still e None only is (λ h. cc)
-    other_told (Some Down) (Some e) false is only tells = still e (Some Down) only is (λ h. cc)
-    other_told (Some Heard) (Some e) false is only tells = still e (Some Heard) only is (λ h. cc)
+    other_told None (Some e) false is only tells = still e None only is (not_symmetric refl)
+    other_told (Some Down) (Some e) false is only tells = still e (Some Down) only is (not_symmetric refl)
+    other_told (Some Heard) (Some e) false is only tells = still e (Some Heard) only is (not_symmetric refl)
 
     pub flooding_told : (status : Option LinkStatus) (neighbour : Option (Addr4 × (Neighbour × ℕ))) → IsStatus s i now a link status → IsOnlyNeighbour s a neighbour →
         IsFloodingRelay s.relays.flooding i status neighbour ↔ Says s i now a Flooding

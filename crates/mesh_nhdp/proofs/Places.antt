@@ -1,17 +1,18 @@
 -- Elements of lists by their places.
-use Rattle.std.proofs.Common.{◌≡◌, ℕ, zero, suc, ◌+◌, ◌<◌, ◌≤◌, ◌++◌, List, [], ◌∷◌, drop, length, refl, sym, ◌∙◌, ap, subst, arith, add-one}
+use Rattle.std.proofs.Common.{◌≡◌, ℕ, zero, suc, ◌+◌, ◌<◌, ◌≤◌, ◌++◌, List, [], ◌∷◌, drop, length, map, refl, sym, ◌∙◌, ap, subst, arith, add-one}
 use Rattle.std.specs.Prelude.{Contains, Some, slice_get, ◌↔◌}
 use Rattle.std.specs.List.{flat_map}
-use Rattle.std.proofs.lemmas.List.{append_assoc}
+use Rattle.std.proofs.lemmas.List.{append_assoc, length-map, get_or-map}
 use Rattle.std.proofs.lemmas.Option.{slice_get-get_or}
+use Rattle.mesh_hello.proofs.Lookups.{some_same, none_not}
 
 -- an element stands at a place
 pub place_of : {A : Type 0} (xs : List A) (x : A) → Contains xs x → (k : ℕ) × (k < length xs) × (slice_get xs k ≡ Some x)
 place_of xs x (k, lt, is) = (k, lt, slice_get-get_or xs k x lt ∙ ap Some is)
 
 drop_at : {A : Type 0} (xs : List A) (k : ℕ) (x : A) → slice_get xs k ≡ Some x → drop k xs ≡ x ∷ drop (suc k) xs
-drop_at [] k x h = absurd cc
-drop_at (y ∷ ys) zero x h = let e : y ≡ x = cc in ap (λ z. z ∷ ys) e
+drop_at [] k x h = none_not refl h
+drop_at (y ∷ ys) zero x h = ap (λ z. z ∷ ys) (some_same refl h)
 drop_at (y ∷ ys) (suc k) x h = drop_at ys k x h
 
 -- what a list with the rest gives, with what the next element gives put at its end
@@ -24,6 +25,15 @@ put_next f xs k x list whole at h =
 pub put_more : {A B : Type 0} (f : A → List B) (xs : List A) (k : ℕ) (x : A) (list new whole : List B) → slice_get xs k ≡ Some x →
     list ++ flat_map f (drop k xs) ≡ whole → new ≡ list ++ f x → new ++ flat_map f (drop (k + 1) xs) ≡ whole
 put_more f xs k x list new whole at h is = subst (λ l. l ++ flat_map f (drop (k + 1) xs) ≡ whole) (sym is) (put_next f xs k x list whole at h)
+
+-- what a map of a list has
+pub map_given : {A B : Type 0} (f : A → B) (xs : List A) (y : B) → Contains (map f xs) y → (x : A) × Contains xs x × (f x ≡ y)
+map_given f [] y (k, lt, is) = absurd (omega (arith, lt))
+map_given f (x ∷ xs) y (zero, lt, is) = (x, (0, omega arith, refl), is)
+map_given f (x ∷ xs) y (suc k, lt, is) = let (z, (j, within, at), e) = map_given f xs y (k, omega (arith, lt), is) in (z, (suc j, omega (arith, within), at), e)
+
+pub map_gives : {A B : Type 0} (f : A → B) (xs : List A) (x : A) → Contains xs x → Contains (map f xs) (f x)
+map_gives f xs x (k, lt, is) = (k, (let e : length (map f xs) ≡ length xs = length-map xs f in omega (arith, lt, e)), get_or-map f xs k x (f x) lt ∙ ap f is)
 
 pub append_none : {A : Type 0} (xs : List A) → xs ++ [] ≡ xs
 append_none [] = refl

@@ -53,7 +53,7 @@ is_beyond own a = not (list_any (addr_eq a) own)
 among_or_beyond : (own : List Addr4) (a : Addr4) → Contains own a ⊎ (is_beyond own a ≡ true)
 among_or_beyond own a = by_test (list_any (addr_eq a) own) refl where
   by_test : (b : Bool) → list_any (addr_eq a) own ≡ b → Contains own a ⊎ (not (list_any (addr_eq a) own) ≡ true)
-  by_test true is = inl (any_contains own a is)
+  by_test true is = inl (any_contains same_addr own a is)
   by_test false is = inr (ap not is)
 
 beyond_not_among : (own : List Addr4) (a : Addr4) → is_beyond own a ≡ true → Contains own a → ⊥
@@ -71,7 +71,7 @@ counted own list P most up few each =
       | inl more ↦ absurd (few (rest, distinct_ascending rest rises, have, more))
       | inr less ↦ less
     ] in
-    let fits = distinct_fits list (own ++ rest) (distinct_ascending list up) (λ a has. by_test a has (among_or_beyond own a)) in
+    let fits = distinct_fits addr_equiv same_addr list (own ++ rest) (distinct_ascending list up) (λ a has. by_test a has (among_or_beyond own a)) in
     omega (arith, fits, small, length-append own rest)
   where
     by_each : (a : Addr4) → is_beyond own a ≡ true → Contains own a ⊎ P a → P a

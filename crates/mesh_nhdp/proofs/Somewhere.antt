@@ -3,7 +3,7 @@ use Rattle.std.proofs.Common.{◌≡◌, ◌⊎◌, ◌++◌, ℕ, Bool, true, f
 use Rattle.std.specs.Prelude.{Contains, Option, Some, None, IsTrue}
 use Rattle.std.specs.List.{flat_map}
 use Rattle.std.specs.Map.{keys_of}
-use Rattle.std.proofs.lemmas.Bool.{cases_eq}
+use Rattle.std.proofs.lemmas.Bool.{false≢true, cases_eq}
 use Rattle.std.proofs.lemmas.List.Elements.{Contains-append_left, Contains-append_right, Contains-append_cases}
 use Rattle.mesh_atoms.specs.declared.addr.Addr4.{Addr4}
 use Rattle.mesh_atoms.specs.declared.hello.LinkStatus.{LinkStatus}
@@ -21,7 +21,7 @@ use Rattle.mesh_atoms.specs.State.{State, state_of, HasSymmetricWith, HasAddress
 use Rattle.mesh_nhdp.specs.Said.{linked_addresses, symmetric_addresses, said_addresses}
 use Rattle.mesh_hello.proofs.Lookups.{some_same, Contains_at}
 use Rattle.mesh_nhdp.proofs.Places.{place_of}
-use Rattle.mesh_nhdp.proofs.Parts.{IsStatus}
+use Rattle.mesh_nhdp.proofs.Parts.{IsStatus, not_symmetric}
 
 -- Lists in general
 
@@ -79,7 +79,15 @@ symmetric_given n a false is (k, lt, at) = absurd (omega arith)
 
 symmetric_so : (n : Neighbour) (a : Addr4) (symmetric : Bool) → n.symmetric ≡ symmetric → IsTrue n.symmetric → Contains n.addrs a → Contains (cond symmetric n.addrs []) a
 symmetric_so n a true is so has = has
-symmetric_so n a false is so has = absurd (cc)
+symmetric_so n a false is so has = absurd (false≢true (sym is ∙ so))
+
+-- a state that is another
+abbrev is_pending : LinkState → Bool
+is_pending Is_pending = true
+is_pending state = false
+
+not_pending : {state : LinkState} → is_pending state ≡ false → state ≡ Is_pending → ⊥
+not_pending other h = false≢true (sym other ∙ ap is_pending h)
 
 pending_state : (l : Link) (now : ℕ) → l.pending ≡ true → state_of l now ≡ Is_pending
 pending_state l now is = rw is refl
@@ -87,10 +95,10 @@ pending_state l now is = rw is refl
 not_pending_state : (l : Link) (now : ℕ) → l.pending ≡ false → state_of l now ≡ Is_pending → ⊥
 not_pending_state l now is h = by_cases l.lost (nat_lt now l.sym) (nat_lt now l.heard) (rw is at h) where
   by_cases : (lost late heard : Bool) → cond lost Is_lost (cond late Is_symmetric (cond heard Is_heard Is_lost)) ≡ Is_pending → ⊥
-  by_cases true late heard e = cc
-  by_cases false true heard e = cc
-  by_cases false false true e = cc
-  by_cases false false false e = cc
+  by_cases true late heard e = not_pending refl e
+  by_cases false true heard e = not_pending refl e
+  by_cases false false true e = not_pending refl e
+  by_cases false false false e = not_pending refl e
 
 -- The addresses of a router
 
@@ -141,17 +149,17 @@ module _ (s : State) (i now : ℕ) (a : Addr4) (links : Base LinkKey Link) (at :
   pub told_all : (part : Part) → Says s i now a part → Contains told a
   told_all This_if w = own_in i w
   told_all Other_if w = own_in w.0 w.2
-  told_all Link_lost w = link_in Is_lost w.0 (λ h. cc) w.1
-  told_all Link_symmetric w = link_in Is_symmetric w.0 (λ h. cc) w.1
-  told_all Link_heard w = link_in Is_heard w.0 (λ h. cc) w.1
+  told_all Link_lost w = link_in Is_lost w.0 (not_pending refl) w.1
+  told_all Link_symmetric w = link_in Is_symmetric w.0 (not_pending refl) w.1
+  told_all Link_heard w = link_in Is_heard w.0 (not_pending refl) w.1
   told_all Other_lost w = gone_in w.0 w.1
   told_all Other_symmetric w = near_in w.0.0 w.0.1 w.0.2
-  told_all (Link_in m) (l, inl to, is) = link_in Is_heard l (λ h. cc) to
-  told_all (Link_in m) (l, inr to, is) = link_in Is_symmetric l (λ h. cc) to
-  told_all (Link_out m) w = link_in Is_symmetric w.0 (λ h. cc) w.1
+  told_all (Link_in m) (l, inl to, is) = link_in Is_heard l (not_pending refl) to
+  told_all (Link_in m) (l, inr to, is) = link_in Is_symmetric l (not_pending refl) to
+  told_all (Link_out m) w = link_in Is_symmetric w.0 (not_pending refl) w.1
   told_all (Near_in m) w = near_in w.0 w.1 w.2
   told_all (Near_out m) w = near_in w.0 w.1 w.2
-  told_all Flooding w = link_in Is_symmetric w.0 (λ h. cc) w.1
+  told_all Flooding w = link_in Is_symmetric w.0 (not_pending refl) w.1
   told_all Routing w = near_in w.0 w.1 w.2
 
   -- Of an address of the list something is said
@@ -187,9 +195,9 @@ module _ (s : State) (i now : ℕ) (a : Addr4) (links : Base LinkKey Link) (at :
       by_status status is e with' where
         by_status : (status : Option LinkStatus) → IsStatus s i now a link status → (e : Addr4 × (Neighbour × ℕ)) → HasSymmetricWith s a e.0 e.1.0 → Somewhat
         by_status (Some Symmetric) is e with' = let (f, _, to) = is.told Symmetric refl in (Link_symmetric, (f.1.0, to))
-        by_status None is e with' = (Other_symmetric, ((e.0, e.1.0, with'), λ w. let (h, _) = is.all Symmetric w.0 w.1 in cc))
-        by_status (Some Down) is e with' = (Other_symmetric, ((e.0, e.1.0, with'), λ w. let (h, _) = is.all Symmetric w.0 w.1 in cc))
-        by_status (Some Heard) is e with' = (Other_symmetric, ((e.0, e.1.0, with'), λ w. let (h, _) = is.all Symmetric w.0 w.1 in cc))
+        by_status None is e with' = (Other_symmetric, ((e.0, e.1.0, with'), λ w. not_symmetric refl (is.all Symmetric w.0 w.1).0))
+        by_status (Some Down) is e with' = (Other_symmetric, ((e.0, e.1.0, with'), λ w. not_symmetric refl (is.all Symmetric w.0 w.1).0))
+        by_status (Some Heard) is e with' = (Other_symmetric, ((e.0, e.1.0, with'), λ w. not_symmetric refl (is.all Symmetric w.0 w.1).0))
 
   gone_said : Contains gone a → Somewhat
   gone_said w = let (v, stands) = key_given s.bases.neighbourhood.losts a w in (Other_lost, (v.0, (v.1, stands)))

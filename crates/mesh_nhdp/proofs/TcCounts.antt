@@ -1,9 +1,8 @@
 -- How many rows a router advertises.
-use Rattle.std.proofs.Common.{◌≡◌, ℕ, zero, suc, ◌<◌, ◌≤◌, ◌⊎◌, inl, inr, refl, sym, ◌∙◌, ap, subst, arith, List, [], ◌∷◌, length, map, Contains, Bool, true, false, cond, get_or}
-use Rattle.std.specs.Prelude.{not, Some, AllPairs, is_some, IsSome, ◌||◌}
+use Rattle.std.proofs.Common.{◌≡◌, ℕ, ◌<◌, ◌≤◌, ◌⊎◌, inl, inr, refl, sym, ◌∙◌, ap, subst, arith, List, [], ◌∷◌, length, map, Contains, Bool, true, false, get_or}
+use Rattle.std.specs.Prelude.{not, AllPairs, is_some}
 use Rattle.std.specs.Cmp.{IsEquivalence}
-use Rattle.std.specs.List.{IsDistinct, filter, list_any}
-use Rattle.std.specs.Map.{lookup}
+use Rattle.std.specs.List.{IsDistinct, filter}
 use Rattle.std.proofs.lemmas.Bool.{false≢true}
 use Rattle.std.proofs.lemmas.Cmp.{nat_eq_equiv, on_equiv, and_equiv}
 use Rattle.std.proofs.lemmas.List.{length-map, get_or-map}
@@ -11,8 +10,6 @@ use Rattle.std.proofs.lemmas.List.Elements.{All-filter, All-contains, All-contai
 use Rattle.std.proofs.lemmas.List.Filters.{length-filter_both}
 use Rattle.std.proofs.lemmas.List.Kept.{AllPairs-filter}
 use Rattle.std.proofs.lemmas.Map.Keys.{IsDistinct-from_apart}
-use Rattle.std.proofs.lemmas.Map.Steps.{length-le_from_keys}
-use Rattle.std.proofs.lemmas.Map.Views.{list_any-from_Contains}
 use Rattle.mesh_atoms.specs.declared.addr.Addr4.{Addr4}
 use Rattle.mesh_atoms.specs.declared.addr.NetAddr.{NetAddr}
 use Rattle.mesh_codes.specs.declared.metric.Metric.{Metric}
@@ -26,6 +23,8 @@ use Rattle.mesh_atoms.specs.State.{State}
 use Rattle.mesh_atoms.specs.TakesHello.{IsHeld}
 use Rattle.mesh_atoms.proofs.Lookups.{looks_up_neighbours}
 use Rattle.mesh_atoms.proofs.Nets.{net_exact}
+use Rattle.mesh_nhdp.proofs.Fits.{distinct_fits}
+use Rattle.mesh_nhdp.proofs.Places.{map_gives, map_given}
 use Rattle.mesh_nhdp.proofs.RowCounts.{counted, rows_ascend, neighbour_held}
 
 -- Lists
@@ -35,48 +34,6 @@ net_equiv = and_equiv (on_equiv (λ (a : NetAddr). a.addr.0) nat_eq_equiv) (on_e
 
 in_filter : {A : Type 0} (p : A → Bool) (xs : List A) (a : A) → Contains (filter p xs) a → Contains xs a × (p a ≡ true)
 in_filter {A} p xs a has = (All-contains (Contains xs) (filter p xs) a (All-filter p (Contains xs) xs (All-contains_itself xs)) has, All-contains (λ (x : A). p x ≡ true) (filter p xs) a (filter_passes p xs) has)
-
-map_given : {A B : Type 0} (f : A → B) (xs : List A) (y : B) → Contains (map f xs) y → (x : A) × Contains xs x × (f x ≡ y)
-map_given f [] y (k, lt, is) = absurd (omega (arith, lt))
-map_given f (x ∷ xs) y (zero, lt, is) = (x, (0, omega arith, refl), is)
-map_given f (x ∷ xs) y (suc k, lt, is) = let (z, (j, within, at), e) = map_given f xs y (k, omega (arith, lt), is) in (z, (suc j, omega (arith, within), at), e)
-
-map_gives : {A B : Type 0} (f : A → B) (xs : List A) (x : A) → Contains xs x → Contains (map f xs) (f x)
-map_gives f xs x (k, lt, is) = (k, (let e : length (map f xs) ≡ length xs = length-map xs f in omega (arith, lt, e)), get_or-map f xs k x (f x) lt ∙ ap f is)
-
-entries : List NetAddr → List (NetAddr × NetAddr)
-entries [] = []
-entries (a ∷ rest) = (a, a) ∷ entries rest
-
-length_entries : (nets : List NetAddr) → length (entries nets) ≡ length nets
-unfolding entries
-length_entries [] = refl
-length_entries (a ∷ rest) = ap suc (length_entries rest)
-
-either : (b c : Bool) → (b || c) ≡ true → (b ≡ true) ⊎ (c ≡ true)
-either true c h = inl refl
-either false c h = inr h
-
-any_contains : (nets : List NetAddr) (a : NetAddr) → list_any (net_eq a) nets ≡ true → Contains nets a
-any_contains [] a h = absurd (false≢true h)
-any_contains (x ∷ xs) a h = elim (either (net_eq a x) (list_any (net_eq a) xs) h) [
-  | inl same ↦ (0, omega arith, sym (net_exact a x same))
-  | inr later ↦ let c = any_contains xs a later in (suc c.0, omega (arith, c.1), c.2)
-]
-
-found : (nets : List NetAddr) (a : NetAddr) → list_any (net_eq a) nets ≡ true → IsSome (lookup (net_eq a) (entries nets))
-unfolding entries
-found [] a h = absurd (false≢true h)
-found (x ∷ xs) a h = step (net_eq a x) (λ k. found xs a k) h
-  where
-    step : (b : Bool) → (list_any (net_eq a) xs ≡ true → IsSome (lookup (net_eq a) (entries xs))) → (b || list_any (net_eq a) xs) ≡ true → IsSome (cond b (Some x) (lookup (net_eq a) (entries xs)))
-    step true more h = refl
-    step false more h = more h
-
-nets_fit : (some nets : List NetAddr) → IsDistinct net_eq some → ((a : NetAddr) → Contains some a → Contains nets a) → length some ≤ length nets
-nets_fit some nets distinct within =
-    let fits = length-le_from_keys net_equiv some (entries nets) distinct (λ a h. found nets a (list_any-from_Contains net_equiv a nets (within a (any_contains some a h)))) in
-    omega (arith, fits, length_entries nets)
 
 before_apart : (x y : NetAddr) → IsBefore x y → net_eq x y ≡ false
 before_apart x y before = by_test (net_eq x y) refl where
@@ -150,5 +107,5 @@ tc_rows_few s m rows sound are =
     let (r, in', e) = map_given (λ (r : TcRow). r.dest) nets n has in
     let (there, is) = in_filter of_network rows r in' in
     subst (λ (x : NetAddr). Contains (map (λ (a : Attached4). a.net) s.settings.attached) x) e (row_attached s r ((are.exactly r).0 there) is) in
-    let fit = nets_fit dests (map (λ (a : Attached4). a.net) s.settings.attached) apart attached in
+    let fit = distinct_fits net_equiv net_exact dests (map (λ (a : Attached4). a.net) s.settings.attached) apart attached in
     omega (arith, both, few, fit, length-map hosts (λ (r : TcRow). r.dest.addr), length-map nets (λ (r : TcRow). r.dest), s.settings.sound.attached)
