@@ -5,7 +5,7 @@ ghost use Rattle.mesh_atoms.specs.Base.{find, addr_eq};
 ghost use Rattle.mesh_hello.specs.Gathers.{Gathers};
 ghost use Rattle.mesh_nhdp.specs.Wanted.{IsWanted, IsWantedAt, IsWantedAddress, IsSpokenAddress, IsSymmetricSpokenAddress, symmetric_at};
 
-use crate::said_addresses::symmetric_addresses;
+use crate::said_addresses::HasSaid;
 use mesh_atoms::{Addr4, Neighbour};
 use mesh_expire::Table;
 use mesh_hello::Telling;
@@ -115,7 +115,7 @@ pub fn symmetric_at<T: Table<Addr4, Neighbour>>(table: &T, originator: Addr4) ->
     ensures { result.now ≡ symmetric_at (find addr_eq (T.content table.now) originator) }
 {
     match table.get(&originator) {
-        Some((neighbour, _)) => symmetric_addresses(neighbour),
+        Some((neighbour, _)) => neighbour.said(),
         None => &[],
     }
 }

@@ -1,12 +1,13 @@
 //! Of which addresses a HELLO says something.
-ghost use Rattle.std.specs.Prelude.{◌≡◌, ◌++◌, ◌↔◌, [], Contains, IfOk, OnOk};
+ghost use Rattle.std.specs.Prelude.{◌≡◌, ◌++◌, ◌↔◌, List, Contains, IfOk, OnOk};
 ghost use Rattle.std.specs.List.{flat_map};
+ghost use Rattle.mesh_atoms.specs.declared.addr.Addr4.{Addr4};
 ghost use Rattle.mesh_atoms.specs.Words.{IsAscending};
 ghost use Rattle.mesh_nhdp.specs.Said.{linked_addresses, symmetric_addresses, said_addresses};
 
 use crate::keys::put_table_keys;
 use mesh_atoms::{Addr4, Link, LinkKey, Lost, Neighbour, RouterSettings, Seq};
-use mesh_expire::Table;
+use mesh_expire::{Key, Table};
 use mesh_hello::ascending;
 use std::alloc::{AllocError, Global};
 
@@ -20,50 +21,49 @@ fn put_own(list: &mut Vec<Addr4>, settings: &RouterSettings) -> Result<(), Alloc
     Ok(())
 }
 
-/// The addresses of a link that isn't PENDING.
-fn linked_addresses(link: &Link) -> &[Addr4]
-    ensures { result.now ≡ linked_addresses link.now }
-{
-    if link.pending {
-        &[]
-    } else {
-        link.addrs.as_slice()
-    }
+/// A tuple of whose addresses a HELLO says something.
+pub trait HasSaid {
+    ghost said: { Self → List Addr4 };
+
+    /// The addresses of which it does. Takes no memory.
+    fn said(&self) -> &[Addr4]
+        ensures { result.now ≡ said self.now };
 }
 
-/// The addresses of a neighbour that is symmetric.
-pub fn symmetric_addresses(neighbour: &Neighbour) -> &[Addr4]
-    ensures { result.now ≡ symmetric_addresses neighbour.now }
-{
-    if neighbour.symmetric {
-        neighbour.addrs.as_slice()
-    } else {
-        &[]
-    }
-}
+impl HasSaid for Link {
+    ghost said = { linked_addresses };
 
-/// Puts the addresses of links that aren't PENDING at the end of a list.
-fn put_linked<T: Table<LinkKey, Link>>(list: &mut Vec<Addr4>, links: &T) -> Result<(), AllocError>
-    ensures { OnOk result (list.new.items ≡ list.old.items ++ flat_map (λ e. linked_addresses e.1.0) (T.content links.now)) }
-{
-    for place in 0..links.len() {
-        if let Some((_, link, _)) = links.at(place) {
-            list.extend_from_slice(linked_addresses(link))?;
+    fn said(&self) -> &[Addr4] {
+        if self.pending {
+            &[]
+        } else {
+            self.addrs.as_slice()
         }
     }
-    Ok(())
 }
 
-/// Puts the addresses of symmetric neighbours at the end of a list.
-fn put_symmetric<T: Table<Addr4, Neighbour>>(
+impl HasSaid for Neighbour {
+    ghost said = { symmetric_addresses };
+
+    fn said(&self) -> &[Addr4] {
+        if self.symmetric {
+            self.addrs.as_slice()
+        } else {
+            &[]
+        }
+    }
+}
+
+/// Puts the addresses of a table of which something is said at the end of a list.
+fn put_said<K: Key, V: HasSaid, T: Table<K, V>>(
     list: &mut Vec<Addr4>,
-    neighbours: &T,
+    table: &T,
 ) -> Result<(), AllocError>
-    ensures { OnOk result (list.new.items ≡ list.old.items ++ flat_map (λ e. symmetric_addresses e.1.0) (T.content neighbours.now)) }
+    ensures { OnOk result (list.new.items ≡ list.old.items ++ flat_map (λ e. V.said e.1.0) (T.content table.now)) }
 {
-    for place in 0..neighbours.len() {
-        if let Some((_, neighbour, _)) = neighbours.at(place) {
-            list.extend_from_slice(symmetric_addresses(neighbour))?;
+    for place in 0..table.len() {
+        if let Some((_, tuple, _)) = table.at(place) {
+            list.extend_from_slice(tuple.said())?;
         }
     }
     Ok(())
@@ -84,7 +84,7 @@ pub fn said_addresses<L: Table<LinkKey, Link>, N: Table<Addr4, Neighbour>, O: Ta
     let mut list = Vec::new(alloc);
     put_table_keys(&mut list, losts)?;
     put_own(&mut list, settings)?;
-    put_linked(&mut list, links)?;
-    put_symmetric(&mut list, neighbours)?;
+    put_said(&mut list, links)?;
+    put_said(&mut list, neighbours)?;
     Ok(ascending(list))
 }

@@ -8,5 +8,5 @@ returns-clause-ascending g c = c.ascending.ensures.order
 
 pub returns-clause-same : goal.returns-clause-same
 returns-clause-same g c =
-    same_in_turn _ _ _ _ _ _ _ _ _ (c.in_ok-put_table_keys.ensures ∙ ap (λ ks. ks ++ keys_of (g.O.Table.content c.args.losts.now)) c.new-list.ensures.items) c.in_ok-put_own.ensures c.in_ok-put_linked.ensures
-    c.in_ok-put_symmetric.ensures c.ascending.ensures.same
+    same_in_turn _ _ _ _ _ _ _ _ _ (c.in_ok-put_table_keys.ensures ∙ ap (λ ks. ks ++ keys_of (g.O.Table.content c.args.losts.now)) c.new-list.ensures.items) c.in_ok-put_own.ensures c.in_ok-put_said.ensures
+    c.in_ok-put_said-2.ensures c.ascending.ensures.same
