@@ -1,16 +1,13 @@
 use Rattle.std.proofs.Common.{subst}
 use Rattle.std.specs.Prelude.{List}
 use Rattle.mesh_atoms.specs.declared.tuples.LinkKey.{LinkKey}
-use Rattle.mesh_atoms.specs.declared.tuples.TwoHopKey.{TwoHopKey}
-use Rattle.mesh_atoms.specs.declared.tuples.TwoHop.{TwoHop}
-use Rattle.mesh_atoms.specs.Base.{Base, HasDistinctKeys, two_hop_eq}
 use Rattle.mesh_nhdp.specs.Calls.{DropsEnded}
 use Rattle.mesh_nhdp.proofs.interfaces.ExpiryChange.change.Goals as goal
 
 pub returns : goal.returns
 returns g c face at = record {
   distinct_links = c.expire.ensures.distinct;
-  distinct_two_hops = subst (λ (b : Base TwoHopKey TwoHop). HasDistinctKeys two_hop_eq b) c.table.ensures.content c.len-count.ensures.distinct;
+  distinct_two_hops = c.table-table.ensures.distinct;
   links = (c.admit_on.new.links, c.in_ok-admit_on.ensures face at, c.expire.ensures.expired);
   two_hops = (
     c.expire-2.new.self,
