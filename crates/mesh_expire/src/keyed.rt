@@ -24,6 +24,7 @@ pub fn put_keyed<K: Key + Ord + Drop, V: Drop, T: Table<K, V>>(
     ensures err { OnErr result (T.content table.new ≡ T.content table.old) }
     ensures distinct { HasDistinctKeys K.eq (T.content table.new) }
 {
+    // Its keys are distinct, which the proof needs.
     let _count = table.len();
     let is_new = keys.insert(key)?;
     let Err(_) = table.put(key, value, until) else {

@@ -92,6 +92,7 @@ fn put_in<K: Key + Ord + Hash + Drop, V: Drop>(
     ensures err { OnErr result (map.new.entries ≡ map.old.entries) }
     ensures count { OnOk result (length map.new.entries ≡ length map.old.entries + (if is_some (find K.eq map.old.entries key) then 0 else 1)) }
 {
+    // Its keys are distinct, which the proof needs.
     let _count = map.len();
     let before = until_at(map, &key);
     move_moment(moments, key, before, until)?;
@@ -153,6 +154,7 @@ fn take_next<K: Key + Ord + Hash + Drop, V: Drop>(
     ensures fresh { IfNone result (IsFresh K.eq now map.old.entries) }
     ensures count { length map.new.entries + (if is_some result then 1 else 0) ≡ length map.old.entries }
 {
+    // Its keys are distinct, which the proof needs.
     let _count = map.len();
     let Some(key) = take_expired(moments, now) else {
         return None;
@@ -177,6 +179,7 @@ fn set_until_in<K: Key + Ord + Hash + Drop, V>(
     ensures ok { OnOk result (map.new.entries ≡ changed_at K.eq map.old.entries key.now (λ e. (e.0, until))) }
     ensures err { OnErr result (map.new.entries ≡ map.old.entries) }
 {
+    // Its keys are distinct, which the proof needs.
     let _count = map.len();
     let Some(before) = until_at(map, key) else {
         return Ok(false);

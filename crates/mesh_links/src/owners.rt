@@ -63,6 +63,7 @@ fn stands<T: Table<LinkKey, Link>>(table: &T, key: LinkKey) -> bool
 fn purge<T: Table<LinkKey, Link>>(owners: &mut IndexMap<Addr4, LinkKey>, table: &T)
     ensures { (a : Addr4) (key : LinkKey) → IsSome (find link_eq (T.content table.now) key) → owner_of owners.old.entries a ≡ Some key → owner_of owners.new.entries a ≡ Some key }
 {
+    // Its keys are distinct, which the proof needs.
     let _count = owners.len();
     owners.retain(|_, key| stands(table, *key));
 }

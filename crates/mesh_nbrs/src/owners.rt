@@ -94,6 +94,7 @@ fn stands<T: Table<Addr4, Neighbour>>(table: &T, originator: &Addr4) -> bool
 fn purge<T: Table<Addr4, Neighbour>>(owners: &mut IndexMap<Addr4, Addr4>, table: &T)
     ensures { Leaves (λ o. IsSome (find addr_eq (T.content table.now) o)) owners.old.entries owners.new.entries }
 {
+    // Its keys are distinct, which the proof needs.
     let _count = owners.len();
     owners.retain(|_, originator| stands(table, originator));
 }

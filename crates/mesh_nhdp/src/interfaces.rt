@@ -93,6 +93,7 @@ impl<'a, L: Table<LinkKey, Link>, H: Table<TwoHopKey, TwoHop>> Change<L, H> for 
         links.expire(self.now);
         two_hops.expire(self.now);
         drop_ended(links, two_hops, &before, self.now);
+        // Its keys are distinct, which the proof needs.
         let _table = two_hops.table();
         Ok(())
     }
@@ -149,6 +150,7 @@ impl<'a, L: Table<LinkKey, Link>, H: Table<TwoHopKey, TwoHop>> Change<L, H> for 
         links.end_outside(self.theirs, self.listed);
         hear_here(self, links, iface == self.iface)?;
         drop_ended(links, two_hops, self.keys, self.moment);
+        // Its keys are distinct, which the proof needs.
         let _table = two_hops.table();
         Ok(())
     }

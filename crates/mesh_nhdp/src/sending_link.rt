@@ -83,6 +83,7 @@ fn update_two_hops<H: Table<TwoHopKey, TwoHop>>(
 {
     start_two_hops(two_hops, link, stood);
     tell_if_symmetric(two_hops, link, until, hello, own, listed, symmetric)?;
+    // Its keys are distinct, which the proof needs.
     let _table = two_hops.table();
     Ok(())
 }
