@@ -7,8 +7,8 @@ use Rattle.mesh_atoms.specs.Base.{router_eq, address_eq, network_eq}
 use Rattle.mesh_atoms.specs.State.{Neighbourhood, Topology, Bases}
 use Rattle.mesh_atoms.specs.TakesHello.{HelloAnswer, Taken, TakesHello, Breaks, Overfull, Overfull_two_hops, Takes}
 use Rattle.mesh_topo.specs.Same.{SameAdvertised}
-use Rattle.mesh_tc_sets.specs.Tuples.{router_says, address_says, network_says}
-use Rattle.mesh_tc_sets.proofs.Laws.{same_after, same_equal}
+use Rattle.mesh_topo.specs.TcSets.Tuples.{router_says, address_says, network_says}
+use Rattle.mesh_topo.proofs.TcSetsLemmas.Laws.{same_after, same_equal}
 use Rattle.mesh_holding.specs.Quiet.{IsQuiet}
 
 pub both_true : (a b : Bool) → IsTrue (a && b) → (a ≡ true) × (b ≡ true)

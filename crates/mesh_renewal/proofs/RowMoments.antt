@@ -8,7 +8,7 @@ use Rattle.mesh_atoms.specs.declared.tc.TcRow.{TcRow}
 use Rattle.mesh_atoms.specs.declared.tuples.Neighbour.{Neighbour}
 use Rattle.mesh_atoms.specs.Advertised.{Gives, AreRowsBy, AreTcRows}
 use Rattle.mesh_atoms.specs.State.{State, Neighbourhood, HasSymmetric}
-use Rattle.mesh_advertised.proofs.Advertising.{same_row}
+use Rattle.mesh_topo.proofs.AdvertisedLemmas.Advertising.{same_row}
 use Rattle.mesh_renewal.specs.declared.rows.Givers.{Givers}
 use Rattle.mesh_renewal.specs.Rows.{ShowsGivers, AreRowsFor}
 use Rattle.mesh_renewal.proofs.Moments.{neighbour_again}

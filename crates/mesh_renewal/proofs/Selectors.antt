@@ -6,8 +6,8 @@ use Rattle.mesh_codes.specs.declared.metric.Metric.{Metric}
 use Rattle.mesh_atoms.specs.declared.tuples.Neighbour.{Neighbour}
 use Rattle.mesh_atoms.specs.Base.{Base}
 use Rattle.mesh_atoms.specs.State.{State}
-use Rattle.mesh_advertised.specs.declared.rows.Selector.{Selector}
-use Rattle.mesh_advertised.specs.Selectors.{HasSelector, IsSelectorOf, AreSelectors}
+use Rattle.mesh_topo.specs.declared.advertised.rows.Selector.{Selector}
+use Rattle.mesh_topo.specs.Advertised.Selectors.{HasSelector, IsSelectorOf, AreSelectors}
 use Rattle.mesh_routes.specs.Passes.{Adds, GivenBy}
 use Rattle.mesh_routes.proofs.Choosing.{adds_same}
 use Rattle.mesh_routes.proofs.Passes.{adds_start, adds_all}

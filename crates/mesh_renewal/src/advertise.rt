@@ -5,9 +5,9 @@ ghost use Rattle.mesh_atoms.specs.State.{State};
 ghost use Rattle.mesh_renewal.specs.Selecting.{selector_metric, IsSelectorBy};
 ghost use Rattle.mesh_routes.specs.Passes.{Adds, GivenBy};
 
-use mesh_advertised::{Selector, tc_rows};
 use mesh_atoms::{Addr4, Metric, Neighbour, RouterSettings, Seq, TcRow};
 use mesh_nbrs::Near4;
+use mesh_topo::{Selector, tc_rows};
 use std::alloc::{AllocError, Global};
 
 // The metric to a neighbour, if that is a selector and its metric is known.

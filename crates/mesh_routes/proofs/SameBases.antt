@@ -16,8 +16,8 @@ use Rattle.mesh_atoms.specs.Sound.{SoundTopology}
 use Rattle.mesh_atoms.specs.State.{Neighbourhood, Topology, State, is_symmetric, HasLink, HasTwoHop, HasSymmetric, HasAddress, IsOriginator}
 use Rattle.mesh_atoms.proofs.Lookups.{tests_symmetric, looks_up_links, has_found, router_equiv, same_router, address_equiv, same_address, network_equiv, same_network}
 use Rattle.mesh_topo.specs.Same.{SameAdvertised}
-use Rattle.mesh_tc_sets.specs.Same.{SaysSame}
-use Rattle.mesh_tc_sets.specs.Tuples.{router_says, address_says, network_says}
+use Rattle.mesh_topo.specs.TcSets.Same.{SaysSame}
+use Rattle.mesh_topo.specs.TcSets.Tuples.{router_says, address_says, network_says}
 use Rattle.mesh_routes.specs.Staying.{SameOwn, SameWays, SameTwoHops, BasesGiveSame}
 use Rattle.mesh_routes.proofs.StayingLaw.{TellsAlso, same_own, arcs_stay}
 

@@ -10,8 +10,8 @@ use Rattle.std.proofs.lemmas.List.Elements.{Contains-append_left, Contains-appen
 use Rattle.mesh_atoms.specs.declared.tc.TcRow.{TcRow}
 use Rattle.mesh_atoms.specs.State.{State}
 use Rattle.mesh_atoms.specs.Writable.{AreOneType, HaveTypeWhole}
-use Rattle.mesh_advertised.specs.declared.spans.PartSpan.{PartSpan}
-use Rattle.mesh_advertised.specs.Spans.{part_of, AreSpans}
+use Rattle.mesh_topo.specs.declared.advertised.spans.PartSpan.{PartSpan}
+use Rattle.mesh_topo.specs.Advertised.Spans.{part_of, AreSpans}
 use Rattle.mesh_renewal.specs.declared.derived.Derived.{Derived}
 use Rattle.mesh_renewal.specs.Renewed.{HasDerived}
 

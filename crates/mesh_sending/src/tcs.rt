@@ -8,8 +8,8 @@ ghost use Rattle.mesh_atoms.specs.Nodes.{IsBefore};
 ghost use Rattle.mesh_atoms.specs.State.{State};
 ghost use Rattle.mesh_atoms.specs.Validity.{IsTimeValue};
 ghost use Rattle.mesh_atoms.specs.Writable.{IsSentIfSome};
-ghost use Rattle.mesh_advertised.specs.declared.spans.PartSpan.{PartSpan as SpanValue};
-ghost use Rattle.mesh_advertised.specs.Spans.{part_of};
+ghost use Rattle.mesh_topo.specs.declared.advertised.spans.PartSpan.{PartSpan as SpanValue};
+ghost use Rattle.mesh_topo.specs.Advertised.Spans.{part_of};
 ghost use Rattle.mesh_sending.specs.Sent.{TcsAreSent, PartsAreSent};
 ghost use Rattle.mesh_renewal.specs.Renewed.{HasDerived};
 ghost use Rattle.mesh_machine.specs.declared.frame.Frame.{Frame};
@@ -17,10 +17,10 @@ ghost use Rattle.mesh_machine.specs.Sending.{HasToAdvertise, IsTcOfRows, SendsPa
 ghost use Rattle.mesh_wire.specs.Writes.{WritesTc};
 
 use crate::moments::next_moment;
-use mesh_advertised::{PartSpan, parts};
 use mesh_atoms::{Bytes, RouterSettings, Seq, Tc, TcRow, time_at, time_at_least};
 use mesh_holding::Outbox;
 use mesh_renewal::Derived;
+use mesh_topo::{PartSpan, parts};
 use mesh_wire::write_tc;
 use std::alloc::{AllocError, Global};
 

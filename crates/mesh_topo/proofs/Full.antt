@@ -11,7 +11,7 @@ use Rattle.mesh_atoms.specs.declared.tc.TcRow.{TcRow}
 use Rattle.mesh_atoms.specs.declared.tuples.Base.TheVariants.{Advertisers, Routers, Addresses, Networks}
 use Rattle.mesh_atoms.specs.AfterTc.{is_overfull, first_overfull}
 use Rattle.mesh_atoms.specs.State.{Topology}
-use Rattle.mesh_tc_sets.specs.Tuples.{router_of, address_of, network_of, network_with}
+use Rattle.mesh_topo.specs.TcSets.Tuples.{router_of, address_of, network_of, network_with}
 
 -- tests that agree count the same
 count_same : {A : Type 0} (p q : A → Bool) → ((x : A) → p x ≡ q x) → (xs : List A) → count_by p xs ≡ count_by q xs

@@ -1,3 +1,5 @@
+pub mod AdvertisedLemmas
 mod Full
 mod RowKinds
 pub mod Soundness
+pub mod TcSetsLemmas

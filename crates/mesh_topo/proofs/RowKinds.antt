@@ -15,10 +15,10 @@ use Rattle.mesh_atoms.specs.declared.tuples.NetworkTuple.{NetworkTuple}
 use Rattle.mesh_atoms.specs.Base.{Base, host, router_eq, address_eq, network_eq}
 use Rattle.mesh_atoms.specs.AfterTc.{BecomesSet, GivesRouter, GivesAddress, GivesNetwork}
 use Rattle.mesh_atoms.proofs.Nets.{same_net}
-use Rattle.mesh_tc_sets.specs.Sets.{GivenBy}
+use Rattle.mesh_topo.specs.TcSets.Sets.{GivenBy}
 use Rattle.mesh_topo.specs.Tuples.{HasHosts}
-use Rattle.mesh_tc_sets.specs.Tuples.{router_of, address_of, network_of, network_with}
-use Rattle.mesh_tc_sets.proofs.Laws.{set_by}
+use Rattle.mesh_topo.specs.TcSets.Tuples.{router_of, address_of, network_of, network_with}
+use Rattle.mesh_topo.proofs.TcSetsLemmas.Laws.{set_by}
 
 -- a value that is there by a test and an option
 some_of : {A B : Type 0} (f : A → B) (b : Bool) (o : Option A) (y : B) → cond b (option_map f o) None ≡ Some y → (x : A) × (b ≡ true) × (o ≡ Some x) × (f x ≡ y)

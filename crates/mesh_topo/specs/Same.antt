@@ -1,8 +1,8 @@
 -- What of a topology stays the same.
 use Rattle.mesh_atoms.specs.Base.{router_eq, address_eq, network_eq}
 use Rattle.mesh_atoms.specs.State.{Topology}
-use Rattle.mesh_tc_sets.specs.Same.{SaysSame}
-use Rattle.mesh_tc_sets.specs.Tuples.{router_says, address_says, network_says}
+use Rattle.mesh_topo.specs.TcSets.Same.{SaysSame}
+use Rattle.mesh_topo.specs.TcSets.Tuples.{router_says, address_says, network_says}
 
 -- the same routers, addresses and networks are advertised, at the same metrics and distances; numbers and moments may differ
 pub record SameAdvertised (old new : Topology) : Type 0 where

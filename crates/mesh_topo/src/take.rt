@@ -8,13 +8,13 @@ ghost use Rattle.mesh_topo.specs.Same.{SameAdvertised};
 ghost use Rattle.mesh_topo.specs.Sets.{AreFew, KeepsNewer, sets_of};
 ghost use Rattle.mesh_topo.specs.Tuples.{HasHosts};
 
+use crate::tc_sets::{KeyedSet, Tuple};
 use crate::topology::TcTaken;
 use mesh_atoms::{
     Addr4, AddressKey, AddressTuple, Advertiser, Base, NetworkKey, NetworkTuple, RouterKey,
     RouterTuple, Tc, seq_newer,
 };
 use mesh_expire::Table;
-use mesh_tc_sets::{KeyedSet, Tuple};
 use std::alloc::AllocError;
 
 /// Takes a TC into the four sets. `Old` and `Full` change nothing.

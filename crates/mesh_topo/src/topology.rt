@@ -11,11 +11,11 @@ ghost use Rattle.mesh_topo.specs.Sets.{AreFew, AreFresh};
 ghost use Rattle.mesh_topo.specs.Tuples.{HasHosts};
 
 use crate::take::take;
+use crate::tc_sets::KeyedSet;
 use mesh_atoms::{
     AddressKey, AddressTuple, Base, NetworkKey, NetworkTuple, RouterKey, RouterTuple, Tc,
 };
 use mesh_expire::{Bases, Table};
-use mesh_tc_sets::KeyedSet;
 use std::alloc::{AllocError, Global};
 use std::marker::Model;
 

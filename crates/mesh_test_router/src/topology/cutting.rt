@@ -1,5 +1,5 @@
 //! Rows that are cut into parts.
-use mesh_advertised::{PartSpan, parts};
+use mesh_topo::{PartSpan, parts};
 use std::alloc::{AllocError, Global};
 use std::test::Fail;
 

@@ -5,13 +5,12 @@ use crate::fixtures::{TupleHas, router_key, tuple_has};
 use crate::runs::{Case, Run};
 use crate::topology::tcs::{ROUTER, Said, VALIDITY, take, tc_from};
 use crate::tried::Tried;
-use mesh_advertised::{Selector, tc_rows};
 use mesh_atoms::{
     Addr4, Advertiser, Attached4, Base, Metric, NetAddr, RouterKey, RouterTuple, TcRow,
 };
 use mesh_expire::{Bases, Table};
 use mesh_fixtures::list_of;
-use mesh_topo::{TcTaken, Topology};
+use mesh_topo::{Selector, TcTaken, Topology, tc_rows};
 use std::alloc::{AllocError, Global};
 use std::test::Fail;
 

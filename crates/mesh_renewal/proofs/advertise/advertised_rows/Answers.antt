@@ -1,8 +1,8 @@
 use Rattle.std.proofs.Common.{ap, subst, sym, List, ◌∙◌}
 use Rattle.mesh_atoms.specs.declared.settings.RouterSettings.{RouterSettings}
 use Rattle.mesh_atoms.specs.State.{Neighbourhood}
-use Rattle.mesh_advertised.specs.declared.rows.Selector.{Selector}
-use Rattle.mesh_advertised.specs.Selectors.{AreSelectors}
+use Rattle.mesh_topo.specs.declared.advertised.rows.Selector.{Selector}
+use Rattle.mesh_topo.specs.Advertised.Selectors.{AreSelectors}
 use Rattle.mesh_routes.proofs.ChoiceLaw.{if_ok_more}
 use Rattle.mesh_renewal.proofs.Selectors.{selectors_are}
 use Rattle.mesh_renewal.proofs.advertise.advertised_rows.Goals as goal

@@ -1,7 +1,7 @@
 use Rattle.std.proofs.Common.{ℕ, sym, arith, [], List, subst}
 use Rattle.mesh_atoms.specs.declared.addr.Addr4.{Addr4}
 use Rattle.mesh_atoms.specs.declared.tuples.Neighbour.{Neighbour}
-use Rattle.mesh_advertised.specs.declared.rows.Selector.{Selector}
+use Rattle.mesh_topo.specs.declared.advertised.rows.Selector.{Selector}
 use Rattle.mesh_routes.specs.Passes.{Adds, Given}
 use Rattle.mesh_routes.proofs.Passes.{adds_start, adds_more, adds_all, nothing_there}
 use Rattle.mesh_renewal.specs.Selecting.{IsSelectorBy}

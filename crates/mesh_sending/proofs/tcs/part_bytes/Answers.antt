@@ -3,7 +3,7 @@ use Rattle.std.specs.List.{AllPairs}
 use Rattle.mesh_atoms.specs.declared.tc.TcRow.{TcRow}
 use Rattle.mesh_atoms.specs.Nodes.{IsBefore}
 use Rattle.mesh_atoms.specs.Writable.{AreOneType, HaveTypeWhole}
-use Rattle.mesh_advertised.specs.Spans.{part_of}
+use Rattle.mesh_topo.specs.Advertised.Spans.{part_of}
 use Rattle.mesh_routes.proofs.ChoiceLaw.{if_ok_more}
 use Rattle.mesh_machine.specs.Sending.{IsTcOfRows}
 use Rattle.mesh_sending.proofs.PartRows.{part_length, part_ordered, part_one_type, part_whole}

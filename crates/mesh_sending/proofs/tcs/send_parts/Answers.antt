@@ -3,8 +3,8 @@ use Rattle.std.proofs.lemmas.List.{length-map}
 use Rattle.mesh_atoms.specs.declared.tc.TcRow.{TcRow}
 use Rattle.mesh_atoms.specs.Advertised.{AreParts}
 use Rattle.mesh_atoms.specs.Validity.{IsValidity}
-use Rattle.mesh_advertised.specs.declared.spans.PartSpan.{PartSpan}
-use Rattle.mesh_advertised.specs.Spans.{part_of}
+use Rattle.mesh_topo.specs.declared.advertised.spans.PartSpan.{PartSpan}
+use Rattle.mesh_topo.specs.Advertised.Spans.{part_of}
 use Rattle.mesh_sending.proofs.PartRows.{runs_within, has_before}
 use Rattle.mesh_sending.proofs.tcs.send_parts.Goals as goal
 

@@ -5,8 +5,8 @@ use Rattle.std.proofs.lemmas.Option.{slice_get-get_or}
 use Rattle.std.proofs.Math.ListN.{drop_of_length-le}
 use Rattle.mesh_atoms.specs.declared.settings.RouterSettings.{RouterSettings}
 use Rattle.mesh_atoms.specs.declared.tc.TcRow.{TcRow}
-use Rattle.mesh_advertised.specs.declared.spans.PartSpan.{PartSpan}
-use Rattle.mesh_advertised.specs.Spans.{part_of}
+use Rattle.mesh_topo.specs.declared.advertised.spans.PartSpan.{PartSpan}
+use Rattle.mesh_topo.specs.Advertised.Spans.{part_of}
 use Rattle.mesh_renewal.specs.declared.derived.Derived.{Derived}
 use Rattle.mesh_machine.specs.declared.frame.Frame.{Frame}
 use Rattle.mesh_machine.specs.Frames.{on_each}

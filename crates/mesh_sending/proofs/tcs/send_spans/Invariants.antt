@@ -1,7 +1,7 @@
 use Rattle.std.proofs.Common.{◌≡◌, ◌+◌, ◌%◌, ◌++◌, List, length, map, drop}
 use Rattle.std.specs.Prelude.{nat_eq}
 use Rattle.mesh_atoms.specs.State.{State}
-use Rattle.mesh_advertised.specs.Spans.{part_of}
+use Rattle.mesh_topo.specs.Advertised.Spans.{part_of}
 use Rattle.mesh_renewal.specs.Renewed.{HasDerived}
 use Rattle.mesh_machine.specs.declared.frame.Frame.{Frame}
 use Rattle.mesh_machine.specs.Sending.{SendsParts}

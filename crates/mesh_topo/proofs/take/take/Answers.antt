@@ -3,7 +3,7 @@ use Rattle.mesh_atoms.specs.AfterTc.{Is_old, Overfull, Takes}
 use Rattle.mesh_atoms.specs.State.{Topology}
 use Rattle.mesh_topo.specs.Sets.{sets_of}
 use Rattle.mesh_topo.proofs.Full.{room_in_all, few_after, put_few, router_rows, address_rows, network_rows}
-use Rattle.mesh_tc_sets.proofs.Laws.{neither}
+use Rattle.mesh_topo.proofs.TcSetsLemmas.Laws.{neither}
 use Rattle.mesh_topo.proofs.RowKinds.{router_set, address_set, network_set}
 use Rattle.mesh_topo.proofs.take.take.Goals as goal
 

@@ -1,6 +1,0 @@
-pub mod Advertising
-mod Best
-mod Cutting
-mod Members
-mod Offering
-mod RowOrder

@@ -1,7 +1,0 @@
-use Rattle.std.proofs.Common.{◌≡◌, ◌++◌}
-use Rattle.std.specs.Prelude.{map}
-use Rattle.mesh_advertised.specs.Offers.{row_of}
-use Rattle.mesh_advertised.proofs.rows.in_order.Given as goal
-
-abbrev pub invariant-loop-net : goal.invariant-loop-net
-invariant-loop-net l = l.rows ++ map row_of l.net-iterator ≡ map row_of l.offers.entries

@@ -1,8 +1,0 @@
-use Rattle.std.proofs.Common.{false}
-use Rattle.std.specs.Prelude.{drop, map}
-use Rattle.mesh_advertised.specs.Offers.{of_address}
-use Rattle.mesh_advertised.proofs.Offering.{Leaves}
-use Rattle.mesh_advertised.proofs.rows.put_addresses.Given as goal
-
-abbrev pub invariant-loop-i : goal.invariant-loop-i
-invariant-loop-i l = Leaves l.offers (map (of_address false l.metric) (drop l.i l.addrs)) l.fn.offers (map (of_address false l.metric) l.addrs)

@@ -1,7 +1,0 @@
-use Rattle.std.specs.Prelude.{drop, map}
-use Rattle.mesh_advertised.specs.Offers.{of_network}
-use Rattle.mesh_advertised.proofs.Offering.{Leaves}
-use Rattle.mesh_advertised.proofs.rows.put_networks.Given as goal
-
-abbrev pub invariant-loop-i : goal.invariant-loop-i
-invariant-loop-i l = Leaves l.offers (map of_network (drop l.i l.attached)) l.fn.offers (map of_network l.attached)

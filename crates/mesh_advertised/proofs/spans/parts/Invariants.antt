@@ -1,9 +1,0 @@
-use Rattle.std.proofs.Common.{◌-◌}
-use Rattle.mesh_advertised.proofs.Cutting.{AreFull}
-use Rattle.mesh_advertised.proofs.spans.parts.Given as goal
-
-abbrev pub invariant-loop-first : goal.invariant-loop-first
-invariant-loop-first l = AreFull l.rows l.most l.first l.spans
-
-abbrev pub decreases-loop-first : goal.decreases-loop-first
-decreases-loop-first l = l.rows - l.first

@@ -1,8 +1,0 @@
-//! The rows that a router's own TCs tell, and the parts in which they are sent (RFC 7181, section 16.1).
-#![tactic(auto)]
-
-mod rows;
-mod spans;
-
-pub use rows::{Selector, tc_rows};
-pub use spans::{PartSpan, parts};

@@ -1,0 +1,6 @@
+pub mod Advertising
+pub mod Best
+pub mod Cutting
+pub mod Members
+pub mod Offering
+pub mod RowOrder

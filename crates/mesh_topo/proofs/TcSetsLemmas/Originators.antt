@@ -1,0 +1,176 @@
+-- A walk over the keys of an originator, for those that are outdated.
+use Rattle.std.proofs.Common.{◌≡◌, ℕ, ◌≤◌, Bool, true, false, cond, not, nat_eq, ◌&&◌, ◌||◌, List, [], ◌∷◌, ◌++◌, refl, sym, ap, subst, ◌∙◌, arith, is_some, Option, Some, None, eq-eqb}
+use Rattle.std.specs.List.{list_any, filter, AllByRecursion}
+use Rattle.std.specs.List.Sorted.{IsStrictlySortedBy}
+use Rattle.std.specs.Ordering.{is_gt, is_le, is_eq}
+use Rattle.std.specs.declared.cmp.Ordering.{Ordering}
+use Rattle.std.specs.declared.cmp.Ordering.TheVariants.{Less, Equal, Greater}
+use Rattle.std.specs.Cmp.{IsEquivalence}
+use Rattle.std.specs.BTreeMap.{is_at}
+use Rattle.std.specs.BTreeSet.{BTreeSet, contains}
+use Rattle.std.proofs.lemmas.Map.Keys.{sorted_head, sorted_tail}
+use Rattle.mesh_atoms.specs.declared.addr.Addr4.{Addr4}
+use Rattle.mesh_atoms.specs.Base.{Base, find, addr_eq}
+use Rattle.mesh_atoms.proofs.Nets.{addr_exact}
+use Rattle.mesh_topo.specs.TcSets.Sets.{has_other_number, is_outdated}
+
+-- what passes stays where another test passes it
+any_filter : {K : Type 0} (test p : K → Bool) (xs : List K) → ((x : K) → p x ≡ true → test x ≡ true) → list_any p xs ≡ true → list_any p (filter test xs) ≡ true
+any_filter test p [] both h = h
+any_filter {K} test p (x ∷ xs) both h = by_head (p x) refl (test x) refl (any_filter test p xs both) where
+  by_head : (a : Bool) → p x ≡ a → (b : Bool) → test x ≡ b → (list_any p xs ≡ true → list_any p (filter test xs) ≡ true) → list_any p (filter test (x ∷ xs)) ≡ true
+  by_head true is true passes behind = rw (passes, is) refl
+  by_head true is false fails behind = absurd (let clash : true ≡ false = sym (both x is) ∙ fails in cc)
+  by_head false is true passes behind = rw (passes, is) (behind (rw is at h))
+  by_head false is false fails behind = rw fails (behind (rw is at h))
+
+any_last : {K : Type 0} (p : K → Bool) (xs : List K) (k : K) → list_any p (xs ++ k ∷ []) ≡ (list_any p xs || p k)
+any_last p [] k = by_test (p k) where
+  by_test : (b : Bool) → (b || false) ≡ b
+  by_test true = refl
+  by_test false = refl
+any_last p (x ∷ xs) k = by_head (p x) (any_last p xs k) where
+  by_head : (b : Bool) → list_any p (xs ++ k ∷ []) ≡ (list_any p xs || p k) → (b || list_any p (xs ++ k ∷ [])) ≡ ((b || list_any p xs) || p k)
+  by_head true h = refl
+  by_head false h = h
+
+-- one that is found and one that isn't
+found_more : (o a e r : Bool) → (e ≡ true → o ≡ true) → o ≡ (a || (o && (e || r))) → o ≡ ((a || e) || (o && r))
+found_more o true e r f h = h
+found_more o false true r f h = f refl
+found_more o false false r f h = h
+
+passed_more : (o a e r : Bool) → (e ≡ true → o ≡ false) → o ≡ (a || (o && (e || r))) → o ≡ (a || (o && r))
+passed_more true a true r f h = absurd (let clash : true ≡ false = f refl in cc)
+passed_more false a true r f h = h
+passed_more o a false r f h = h
+
+none_more : (o a r : Bool) → (o ≡ true → r ≡ true → ⊥) → o ≡ (a || (o && r)) → a ≡ o
+none_more true true r f h = refl
+none_more true false true f h = absurd (f refl refl)
+none_more true false false f h = absurd cc
+none_more false true r f h = sym h
+none_more false false r f h = refl
+
+-- an element that is found there has what all have
+any_has : {K : Type 0} {eq : K → K → Bool} (exact : (a b : K) → eq a b ≡ true → a ≡ b) (P : K → Type 0) (q : K) (xs : List K) → AllByRecursion P xs → list_any (eq q) xs ≡ true → P q
+any_has exact P q [] all h = absurd cc
+any_has {K} {eq} exact P q (x ∷ xs) all h = by_head (eq q x) refl (any_has {eq = eq} exact P q xs all.1) h where
+  by_head : (b : Bool) → eq q x ≡ b → (list_any (eq q) xs ≡ true → P q) → (b || list_any (eq q) xs) ≡ true → P q
+  by_head true is behind k = subst P (sym (exact q x is)) all.0
+  by_head false is behind k = behind k
+
+pub all_filter : {K : Type 0} (P : K → Type 0) (test : K → Bool) (xs : List K) → ((x : K) → test x ≡ true → P x) → AllByRecursion P (filter test xs)
+all_filter P test [] each = tt
+all_filter {K} P test (x ∷ xs) each = by_test (test x) refl (all_filter P test xs each) where
+  by_test : (b : Bool) → test x ≡ b → AllByRecursion P (filter test xs) → AllByRecursion P (cond b (x ∷ filter test xs) (filter test xs))
+  by_test true is behind = (each x is, behind)
+  by_test false is behind = behind
+
+module _ {K : Type 0} {eq : K → K → Bool} (laws : IsEquivalence eq) (exact : (a b : K) → eq a b ≡ true → a ≡ b) (out : K → Bool) where
+  -- each key that is outdated is found, or still to come
+  abbrev pub Walks : List K → List K → Type 0
+  Walks found rest = (q : K) → out q ≡ (list_any (eq q) found || (out q && list_any (eq q) rest))
+
+  pub walk_begins : (test : K → Bool) (xs found rest : List K) → found ≡ [] → rest ≡ filter test xs → ((q : K) → out q ≡ true → (list_any (eq q) xs ≡ true) × (test q ≡ true)) → Walks found rest
+  walk_begins test xs found rest none is each q = by_out (out q) refl ∙ ap (λ (l : List K). list_any (eq q) l || (out q && list_any (eq q) rest)) (sym none) where
+    by_out : (b : Bool) → out q ≡ b → out q ≡ (out q && list_any (eq q) rest)
+    by_out false e = rw e refl
+    by_out true e =
+        let (there, passes) = each q e in
+        rw e (sym (ap (list_any (eq q)) is ∙ any_filter test (eq q) xs (λ x same. subst (λ (k : K). test k ≡ true) (exact q x same) passes) there))
+
+  pub walk_finds : (found all rest : List K) (k : K) → all ≡ k ∷ rest → out k ≡ true → Walks found all → Walks (found ++ k ∷ []) rest
+  walk_finds found all rest k steps is walks q =
+      found_more (out q) (list_any (eq q) found) (eq q k) (list_any (eq q) rest) (λ same. ap out (exact q k same) ∙ is) (walks q ∙ ap (λ (l : List K). list_any (eq q) found || (out q && list_any (eq q) l)) steps)
+      ∙ ap (λ (b : Bool). b || (out q && list_any (eq q) rest)) (sym (any_last (eq q) found k))
+
+  pub walk_passes : (found all rest : List K) (k : K) → all ≡ k ∷ rest → out k ≡ false → Walks found all → Walks found rest
+  walk_passes found all rest k steps is walks q =
+      passed_more (out q) (list_any (eq q) found) (eq q k) (list_any (eq q) rest) (λ same. ap out (exact q k same) ∙ is) (walks q ∙ ap (λ (l : List K). list_any (eq q) found || (out q && list_any (eq q) l)) steps)
+
+  pub walk_ends : (found all : List K) → all ≡ [] → Walks found all → (q : K) → list_any (eq q) found ≡ out q
+  walk_ends found all none walks q = none_more (out q) (list_any (eq q) found) (list_any (eq q) all) (λ is there. let clash : true ≡ false = sym there ∙ ap (list_any (eq q)) none in absurd cc) (walks q)
+
+  pub walk_stops : (cmp : K → K → Ordering) (origin : K → Addr4) (originator : Addr4) → ((a b : K) → is_gt (cmp a b) ≡ false → (origin a).0 ≤ (origin b).0) → ((q : K) → out q ≡ true → origin q ≡ originator)
+      → (found all rest : List K) (k : K) → all ≡ k ∷ rest → AllByRecursion (λ x. originator.0 ≤ (origin x).0) all → (addr_eq (origin k) originator ≡ false) → IsStrictlySortedBy cmp all → Walks found all → (q : K) → list_any (eq q) found ≡ out q
+  walk_stops cmp origin originator by_origin of found all rest k steps from other sorted walks q =
+      none_more (out q) (list_any (eq q) found) (list_any (eq q) all) never (walks q)
+    where
+      above : originator.0 ≤ (origin k).0
+      above = (subst (AllByRecursion (λ x. originator.0 ≤ (origin x).0)) steps from).0
+
+      after : IsStrictlySortedBy cmp (k ∷ rest)
+      after = subst (IsStrictlySortedBy cmp) steps sorted
+
+      up : (x : K) → cmp k x ≡ Less → (origin k).0 ≤ (origin x).0
+      up x less = by_origin k x (ap is_gt less)
+
+      all_up : (xs : List K) → AllByRecursion (λ x. cmp k x ≡ Less) xs → AllByRecursion (λ x. (origin k).0 ≤ (origin x).0) xs
+      all_up [] each = tt
+      all_up (x ∷ xs) each = (up x each.0, all_up xs each.1)
+
+      reach : list_any (eq q) (k ∷ rest) ≡ true → (origin k).0 ≤ (origin q).0
+      reach there = any_has {eq = eq} exact (λ x. (origin k).0 ≤ (origin x).0) q (k ∷ rest) (omega arith, all_up rest (sorted_head cmp k rest after)) there
+
+      never : out q ≡ true → list_any (eq q) all ≡ true → ⊥
+      never is there =
+          let least : (origin k).0 ≤ originator.0 = subst (λ (a : Addr4). (origin k).0 ≤ a.0) (of q is) (reach (sym (ap (list_any (eq q)) steps) ∙ there)) in
+          let same : (origin k).0 ≡ originator.0 = omega (arith, least, above) in
+          let yes : addr_eq (origin k) originator ≡ true = eq-eqb (origin k).0 originator.0 same in
+          let clash : true ≡ false = sym yes ∙ other in
+          absurd cc
+
+-- what follows the first of a list
+pub rest_sorted : {K : Type 0} (cmp : K → K → Ordering) (all rest : List K) (k : K) → all ≡ k ∷ rest → IsStrictlySortedBy cmp all → IsStrictlySortedBy cmp rest
+rest_sorted cmp all rest k steps sorted = sorted_tail cmp k rest (subst (IsStrictlySortedBy cmp) steps sorted)
+
+pub rest_all : {K : Type 0} (P : K → Type 0) (all rest : List K) (k : K) → all ≡ k ∷ rest → AllByRecursion P all → AllByRecursion P rest
+rest_all P all rest k steps each = (subst (AllByRecursion P) steps each).1
+
+-- what is in a range that has a least key alone
+pub in_range : (o : Ordering) → is_gt o ≡ false → (is_le o && not false) ≡ true
+in_range Less h = refl
+in_range Equal h = refl
+in_range Greater h = absurd cc
+
+pub of_range : (o : Ordering) → (is_le o && not false) ≡ true → is_gt o ≡ false
+of_range Less h = refl
+of_range Equal h = refl
+of_range Greater h = absurd cc
+
+-- what is outdated is a tuple of the originator
+module _ {K V : Type 0} (eq : K → K → Bool) (originator : Addr4) (ansn : ℕ) (from : K → Addr4) (number : V → ℕ) (base : Base K V) (q : K) where
+  abbrev out_at : Bool → Option (V × ℕ) → Bool
+  out_at of entry = of && has_other_number ansn number entry
+
+  stands_so : (of : Bool) (entry : Option (V × ℕ)) → out_at of entry ≡ true → (of ≡ true) × (is_some entry ≡ true)
+  stands_so true (Some e) h = (refl, refl)
+  stands_so true None h = absurd cc
+  stands_so false entry h = absurd cc
+
+  pub outdated_of : is_outdated eq originator ansn from number base q ≡ true → from q ≡ originator
+  outdated_of h = addr_exact (from q) originator (stands_so (addr_eq (from q) originator) (find eq base q) h).0
+
+  pub outdated_there : is_outdated eq originator ansn from number base q ≡ true → is_some (find eq base q) ≡ true
+  outdated_there h = (stands_so (addr_eq (from q) originator) (find eq base q) h).1
+
+  -- it is so by the tests of its originator and its number
+  pub outdated_is : (here : Addr4) (ne other : Bool) → ne ≡ not (nat_eq here.0 originator.0) → here ≡ from q → ne ≡ false → other ≡ has_other_number ansn number (find eq base q) → is_outdated eq originator ansn from number base q ≡ other
+  outdated_is here ne other is of same by = by_test (addr_eq (from q) originator) (sym (is ∙ ap (λ (a : Addr4). not (nat_eq a.0 originator.0)) of) ∙ same) where
+    by_test : (b : Bool) → not b ≡ false → (b && has_other_number ansn number (find eq base q)) ≡ other
+    by_test true h = sym by
+    by_test false h = absurd cc
+
+  pub of_another : (here : Addr4) (ne : Bool) → ne ≡ not (nat_eq here.0 originator.0) → here ≡ from q → ne ≡ true → addr_eq (from q) originator ≡ false
+  of_another here ne is of apart = by_test (addr_eq (from q) originator) (sym (is ∙ ap (λ (a : Addr4). not (nat_eq a.0 originator.0)) of) ∙ apart) where
+    by_test : (b : Bool) → not b ≡ true → b ≡ false
+    by_test true h = absurd cc
+    by_test false h = refl
+
+-- a key of an ordered set, by the keys' own test
+pub any_key : {K : Type 0} (eq : K → K → Bool) (cmp : K → K → Ordering) (agree : (x y : K) → eq x y ≡ is_eq (cmp x y)) (keys : BTreeSet K) (q : K) → contains cmp keys q ≡ list_any (eq q) keys.keys
+any_key {K} eq cmp agree keys q = walk keys.keys where
+  walk : (xs : List K) → list_any (is_at (cmp q)) xs ≡ list_any (eq q) xs
+  walk [] = refl
+  walk (x ∷ xs) = ap (λ (b : Bool). b || list_any (is_at (cmp q)) xs) (sym (agree q x)) ∙ ap (λ (b : Bool). eq q x || b) (walk xs)

@@ -1,0 +1,15 @@
+use Rattle.std.proofs.Common.{◌∷◌, ◌+◌, sym, ap, ◌∙◌}
+use Rattle.std.specs.Prelude.{drop, flat_map}
+use Rattle.std.proofs.lemmas.List.{at_drop_more}
+use Rattle.mesh_topo.specs.declared.advertised.rows.Selector.{Selector}
+use Rattle.mesh_topo.specs.Advertised.Offers.{of_selector}
+use Rattle.mesh_topo.proofs.AdvertisedLemmas.Offering.{keeps_more}
+use Rattle.mesh_topo.proofs.advertised.rows.put_selectors.Goals as goal
+
+pub loop-i-preserved : goal.loop-i-preserved
+loop-i-preserved c =
+    let selectors = c.args.selectors.now in
+    let i = c.loop-i.i in
+    let x : Selector = c.index-selectors-i.result in
+    keeps_more c.args.offers.now c.loop-i.offers c.put_selector.new.offers (of_selector x) (flat_map of_selector (drop (i + 1) selectors)) (flat_map of_selector (drop i selectors)) (flat_map of_selector selectors)
+    (at_drop_more (flat_map of_selector) selectors i x c.loop-i-test.true ∙ ap (λ (y : Selector). flat_map of_selector (y ∷ drop (i + 1) selectors)) (sym c.index-selectors-i.is)) c.loop-i.invariant c.in_ok-put_selector.ensures

@@ -1,0 +1,14 @@
+use Rattle.std.proofs.Common.{◌≡◌, ◌≤◌, ◌+◌, false, take, count_by, is_some, length}
+use Rattle.mesh_atoms.specs.Base.{find}
+use Rattle.mesh_topo.specs.TcSets.Same.{SaysSame}
+use Rattle.mesh_topo.specs.TcSets.Sets.{PutsRows}
+use Rattle.mesh_topo.proofs.tc_sets.keyed_set.KeyedSet.put_rows.Given as goal
+
+abbrev pub invariant-loop-row : goal.invariant-loop-row
+invariant-loop-row g l =
+    let eq = g.K.PartialEq.eq in
+    record {
+      put : (q : _) → PutsRows (g.V.Tuple.given l.tc.originator l.tc.ansn) l.until l.tc.rows l.row-index q (find eq l.initial.self q) (find eq l.self q);
+      same : l.changed ≡ false → SaysSame eq g.V.Tuple.says l.initial.self l.self;
+      count : length l.self ≤ length l.initial.self + count_by (λ row. is_some (g.V.Tuple.given l.tc.originator l.tc.ansn row)) (take l.row-index l.tc.rows);
+    }

@@ -1,0 +1,13 @@
+use Rattle.std.proofs.Common.{◌≤◌}
+use Rattle.std.specs.List.{AllByRecursion}
+use Rattle.std.specs.List.Sorted.{IsStrictlySortedBy}
+use Rattle.mesh_topo.specs.TcSets.Sets.{is_outdated}
+use Rattle.mesh_topo.proofs.TcSetsLemmas.Originators.{Walks}
+use Rattle.mesh_topo.proofs.tc_sets.outdated.outdated.Given as goal
+
+abbrev pub invariant-loop-key : goal.invariant-loop-key
+invariant-loop-key g l = record {
+  walks : Walks g.met.K.Eq.laws g.met.K.Key.exact (is_outdated g.K.PartialEq.eq l.originator l.ansn g.V.Tuple.origin g.V.Tuple.number (g.T.Table.content l.table)) l.found l.key-iterator;
+  sorted : IsStrictlySortedBy g.K.Ord.cmp l.key-iterator;
+  from : AllByRecursion (λ k. l.originator.0 ≤ (g.V.Tuple.origin k).0) l.key-iterator;
+}

@@ -1,0 +1,15 @@
+use Rattle.std.proofs.Common.{◌≡◌, ◌≤◌, take, length, cond}
+use Rattle.std.specs.Prelude.{None}
+use Rattle.std.specs.List.{list_any}
+use Rattle.mesh_atoms.specs.Base.{HasDistinctKeys, find}
+use Rattle.mesh_expire.specs.Keyed.{AreKeys}
+use Rattle.mesh_topo.proofs.tc_sets.outdated.remove_all.Given as goal
+
+abbrev pub invariant-loop-key : goal.invariant-loop-key
+invariant-loop-key g l = record {
+  keys : AreKeys g.K.PartialEq.eq g.K.Ord.cmp l.keys (g.T.Table.content l.table);
+  distinct : HasDistinctKeys g.K.PartialEq.eq (g.T.Table.content l.table);
+  removed : (q : _) → find g.K.PartialEq.eq (g.T.Table.content l.table) q
+      ≡ cond (list_any (g.K.PartialEq.eq q) (take l.key-index l.gone)) None (find g.K.PartialEq.eq (g.T.Table.content l.initial.table) q);
+  count : length (g.T.Table.content l.table) ≤ length (g.T.Table.content l.initial.table);
+}

@@ -1,0 +1,122 @@
+//! A table of tuples with its keys in order.
+ghost use Rattle.std.specs.Prelude.{◌≡◌, ◌+◌, ◌≤◌, ◌↔◌, [], false, length, count_by, is_some, option_map, cond, IfOk, OnOk, IsTrue, Some};
+ghost use Rattle.mesh_atoms.specs.Base.{HasDistinctKeys, Expires, find};
+ghost use Rattle.mesh_atoms.specs.AfterTc.{BecomesSet};
+ghost use Rattle.mesh_topo.specs.TcSets.Same.{SaysSame};
+ghost use Rattle.mesh_topo.specs.TcSets.Sets.{GivenBy, PutsGiven, PutsRows};
+
+use crate::tc_sets::outdated::drop_outdated;
+use crate::tc_sets::tuple::Tuple;
+use mesh_atoms::Tc;
+use mesh_expire::{Key, Table, expire_keyed, put_keyed};
+use std::alloc::{AllocError, Global};
+use std::collections::BTreeSet;
+use std::marker::{Model, PhantomData};
+
+/// The tuples of a kind, with the ordered set of their keys, in which those of an originator stand together.
+#[derive(Drop)]
+pub struct KeyedSet<K: Key + Ord, V, T: Table<K, V>> {
+    table: T,
+    keys: BTreeSet<K>,
+    tuples: PhantomData<V>,
+}
+
+impl<K: Key + Ord, V, T: Table<K, V>> Model for KeyedSet<K, V, T> {
+    ghost use Rattle.mesh_atoms.specs.Base.{Base, HasDistinctKeys};
+    ghost use Rattle.mesh_expire.specs.Keyed.{AreKeys};
+
+    ghost Value = { Base K V };
+
+    ghost view = { λ s. T.content s.table };
+
+    ghost invariant = { λ s. HasDistinctKeys K.eq (T.content s.table) × AreKeys K.eq K.cmp s.keys (T.content s.table) };
+}
+
+impl<K: Key + Ord + Drop, V: Tuple<K> + Drop, T: Table<K, V>> KeyedSet<K, V, T> {
+    /// No tuples.
+    pub fn new(alloc: Global) -> Result<KeyedSet<K, V, T>, AllocError>
+        ensures { IfOk result (λ set. set ≡ []) }
+    {
+        Ok(KeyedSet {
+            table: T::new(alloc)?,
+            keys: BTreeSet::new(alloc),
+            tuples: PhantomData,
+        })
+    }
+
+    /// The tuples as a table. Takes no memory.
+    pub fn table(&self) -> &T
+        ensures content { T.content result.now ≡ self.now }
+        ensures distinct { HasDistinctKeys K.eq self.now }
+    {
+        &self.table
+    }
+
+    /// How many tuples there are.
+    pub fn len(&self) -> usize
+        ensures { result ≡ length self.now }
+    {
+        self.table.len()
+    }
+
+    /// Takes the rows of a TC: they make or renew tuples until that moment. If the TC is complete, each other tuple of its
+    /// originator with another number goes. Whether what the tuples say may have changed. After want of memory the set
+    /// may only be dropped.
+    pub fn take_rows(&mut self, tc: &Tc, until: u64) -> Result<bool, AllocError>
+        ensures becomes { OnOk result (BecomesSet K.eq tc.now until V.origin V.number (GivenBy V.given tc.now) self.old self.new) }
+        ensures same { IfOk result (λ changed. changed ≡ false → SaysSame K.eq V.says self.old self.new) }
+        ensures count { OnOk result (length self.new ≤ length self.old + count_by (λ row. is_some (V.given tc.now.originator tc.now.ansn row)) tc.now.rows) }
+    {
+        let mut changed = self.put_rows(tc, until)?;
+        changed |= drop_outdated(&mut self.table, &mut self.keys, tc)?;
+        Ok(changed)
+    }
+
+    /// Takes out what is expired at that moment. Whether something was. Takes no memory.
+    pub fn expire(&mut self, now: u64) -> bool
+        ensures kept { Expires K.eq now self.old self.new }
+        ensures none { result ≡ false → self.new ≡ self.old }
+        ensures count { length self.new ≤ length self.old }
+        ensures distinct { HasDistinctKeys K.eq self.new }
+    {
+        expire_keyed(&mut self.table, &mut self.keys, now) > 0
+    }
+
+    // Whether a tuple that says the same stands at the key.
+    fn stands(&self, key: &K, tuple: &V) -> bool
+        ensures { IsTrue result ↔ (option_map (λ e. V.says e.0) (find K.eq self.now key.now) ≡ Some (V.says tuple.now)) }
+    {
+        match self.table.get(key) {
+            Some((old, _)) => old.says_as(tuple),
+            None => false,
+        }
+    }
+
+    // Puts a tuple, if there is one, until that moment. Whether none that says the same stood there.
+    fn put_given(&mut self, given: Option<(K, V)>, until: u64) -> Result<bool, AllocError>
+        ensures put { OnOk result (PutsGiven K.eq given until self.old self.new) }
+        ensures same { IfOk result (λ changed. changed ≡ false ↔ SaysSame K.eq V.says self.old self.new) }
+        ensures count { OnOk result (length self.new ≤ length self.old + cond (is_some given) 1 0) }
+    {
+        let Some((key, tuple)) = given else {
+            return Ok(false);
+        };
+        let stood = self.stands(&key, &tuple);
+        put_keyed(&mut self.table, &mut self.keys, key, tuple, until)?;
+        Ok(!stood)
+    }
+
+    // Puts what the TC's rows give, until that moment. Whether what the tuples say may have changed.
+    fn put_rows(&mut self, tc: &Tc, until: u64) -> Result<bool, AllocError>
+        ensures put { OnOk result ((q : K) → PutsRows (V.given tc.now.originator tc.now.ansn) until tc.now.rows (length tc.now.rows) q
+            (find K.eq self.old q) (find K.eq self.new q)) }
+        ensures same { IfOk result (λ changed. changed ≡ false → SaysSame K.eq V.says self.old self.new) }
+        ensures count { OnOk result (length self.new ≤ length self.old + count_by (λ row. is_some (V.given tc.now.originator tc.now.ansn row)) tc.now.rows) }
+    {
+        let mut changed = false;
+        for row in tc.rows.as_slice() {
+            changed |= self.put_given(V::given_by(tc.originator, tc.ansn, row), until)?;
+        }
+        Ok(changed)
+    }
+}
