@@ -10,7 +10,7 @@ use Rattle.mesh_emulate.proofs.Refusals.{emulated_not_refused}
 use Rattle.mesh_io.specs.Faults.{Rose}
 use Rattle.mesh_made.specs.Made.{MadeEmulation}
 use Rattle.mesh_run.specs.Run.{States, WholeRun, SpendsTurns, FailsToAttach}
-use Rattle.mesh_toml.specs.Faults.{Fault, fault, first}
+use Rattle.mesh_config.specs.Keys.Faults.{Fault, fault, first}
 use Rattle.mesh_jobs.specs.declared.ending.Ending.{Ending}
 use Rattle.mesh_jobs.specs.declared.ending.Ending.TheVariants as ending
 use Rattle.mesh_jobs.specs.declared.status.Status.{Status}

@@ -12,9 +12,9 @@ use Rattle.mesh_atoms.specs.Base.{addr_eq}
 use Rattle.mesh_atoms.specs.Literals.{◌>>=◌}
 use Rattle.mesh_atoms.specs.Settings.{are_distinct, ends_eq}
 use Rattle.mesh_atoms.proofs.Lookups.{same_addr}
-use Rattle.mesh_stated.specs.declared.stated.StatedInterface.{StatedInterface}
-use Rattle.mesh_stated.specs.declared.stated.StatedRouter.{StatedRouter}
-use Rattle.mesh_checks.specs.Compared.{all_addrs, stated_lists, ends_of}
+use Rattle.mesh_config.specs.declared.stated.stated.StatedInterface.{StatedInterface}
+use Rattle.mesh_config.specs.declared.stated.stated.StatedRouter.{StatedRouter}
+use Rattle.mesh_config.specs.Checks.Compared.{all_addrs, stated_lists, ends_of}
 use Rattle.mesh_config.specs.Senders.{AreApart, Lists, first_addr, with_metric, sender_by, sender_pair, senders_to}
 use Rattle.mesh_config.proofs.Builds.{distinct_front, distinct_back, map-then}
 

@@ -10,15 +10,15 @@ use Rattle.mesh_atoms.specs.declared.settings.RadioArc.{RadioArc}
 use Rattle.mesh_atoms.specs.declared.settings.RouterSettings.{RouterSettings}
 use Rattle.mesh_atoms.specs.Base.{addr_eq, net_eq}
 use Rattle.mesh_atoms.specs.Settings.{are_distinct, is_host, name_eq, IsRouter}
-use Rattle.mesh_stated.specs.declared.stated.StatedRouter.{StatedRouter}
-use Rattle.mesh_stated.specs.declared.stated.StatedInterface.{StatedInterface}
-use Rattle.mesh_toml.specs.Faults.{first}
-use Rattle.mesh_checks.specs.Checks.{duplicate_unless}
-use Rattle.mesh_checks.specs.Compared.{same_router, same_interface, same_attached, router_addrs, all_addrs, attaches_no_host, stated_duplicates}
+use Rattle.mesh_config.specs.declared.stated.stated.StatedRouter.{StatedRouter}
+use Rattle.mesh_config.specs.declared.stated.stated.StatedInterface.{StatedInterface}
+use Rattle.mesh_config.specs.Keys.Faults.{first}
+use Rattle.mesh_config.specs.Checks.Checks.{duplicate_unless}
+use Rattle.mesh_config.specs.Checks.Compared.{same_router, same_interface, same_attached, router_addrs, all_addrs, attaches_no_host, stated_duplicates}
 use Rattle.mesh_config.specs.Fields.{interface_fields, IsClear}
-use Rattle.mesh_stated.specs.Router.{InterfaceFields, stated_interface_fields}
+use Rattle.mesh_config.specs.Stated.Router.{InterfaceFields, stated_interface_fields}
 use Rattle.mesh_config.specs.Senders.{Lists, senders_to, sender_pair, HaveSenders, HaveAllSenders}
-use Rattle.mesh_checks.proofs.Links.{are_distinct-map}
+use Rattle.mesh_config.proofs.ChecksLemmas.Links.{are_distinct-map}
 
 -- one more interface, one more router
 pub senders_more : (lists : Lists) (arcs : List RadioArc) (router i n : ℕ) (xs : List Interface) (x : Interface) → HaveSenders lists arcs router i xs → i + length xs ≡ n

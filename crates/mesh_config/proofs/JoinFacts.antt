@@ -4,10 +4,10 @@ use Rattle.std.specs.List.{list_all, list_any, slice_get, position_or_len}
 use Rattle.std.proofs.lemmas.Bool.Decides.{nat_tests}
 use Rattle.std.proofs.lemmas.List.Folds.{list_any-append}
 use Rattle.mesh_atoms.specs.Settings.{name_eq, are_distinct, Ends, ends_eq, is_interface, joins_routers}
-use Rattle.mesh_toml.specs.declared.refusal.TheConstants.{DUPLICATE}
-use Rattle.mesh_toml.specs.Faults.{Fault, Read, fault, bad_value}
+use Rattle.mesh_config.specs.declared.keys.refusal.TheConstants.{DUPLICATE}
+use Rattle.mesh_config.specs.Keys.Faults.{Fault, Read, fault, bad_value}
 use Rattle.mesh_atoms.specs.Literals.{◌>>=◌}
-use Rattle.mesh_checks.specs.Checks.{Identifiers, Place, find_place, known_place, ends, new_ends, joined, joins, ◌>>?◌}
+use Rattle.mesh_config.specs.Checks.Checks.{Identifiers, Place, find_place, known_place, ends, new_ends, joined, joins, ◌>>?◌}
 
 abbrev counts : List Identifiers → List ℕ
 counts routers = map (λ (n : Identifiers). length n.interface_names) routers

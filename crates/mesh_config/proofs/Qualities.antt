@@ -13,8 +13,8 @@ use Rattle.mesh_atoms.specs.declared.settings.Interface.{Interface}
 use Rattle.mesh_atoms.specs.declared.settings.RadioArc.{RadioArc}
 use Rattle.mesh_atoms.specs.declared.settings.RouterSettings.{RouterSettings}
 use Rattle.mesh_atoms.specs.declared.settings.SenderMetric.{SenderMetric}
-use Rattle.mesh_stated.specs.declared.stated.StatedArc.{StatedArc}
-use Rattle.mesh_stated.specs.Steps.{quality_pair}
+use Rattle.mesh_config.specs.declared.stated.stated.StatedArc.{StatedArc}
+use Rattle.mesh_config.specs.Stated.Steps.{quality_pair}
 use Rattle.mesh_config.specs.Senders.{Lists, first_addr, with_metric, sender_by, senders_to, sender_pair, with_steps, with_quality, quality_by, qualities_to, HaveQualities, HaveAllQualities, stated_steps, steps_at}
 
 -- the steps of a stated arc are those at its number

@@ -10,28 +10,28 @@ use Rattle.mesh_atoms.specs.declared.settings.Attached4.{Attached4}
 use Rattle.mesh_atoms.specs.declared.settings.Interface.{Interface}
 use Rattle.mesh_atoms.specs.declared.addr.Endpoint.{Endpoint}
 use Rattle.mesh_atoms.specs.declared.settings.Port.{Port}
-use Rattle.mesh_toml.specs.Ports.{port_of}
+use Rattle.mesh_config.specs.Keys.Ports.{port_of}
 use Rattle.mesh_atoms.specs.declared.settings.RunSetup.{RunSetup}
 use Rattle.mesh_atoms.specs.declared.settings.SenderMetric.{SenderMetric}
 use Rattle.mesh_atoms.specs.Base.{addr_eq}
 use Rattle.mesh_atoms.specs.Settings.{are_distinct, are_senders}
-use Rattle.mesh_toml.specs.declared.fault.ConfigFault.{ConfigFault}
-use Rattle.mesh_stated.specs.declared.stated.StatedRouter.{StatedRouter}
-use Rattle.mesh_stated_run.specs.declared.stated.StatedRun.{StatedRun}
-use Rattle.mesh_stated_run.specs.declared.stated.StatedRunInterface.{StatedRunInterface}
-use Rattle.mesh_stated_run.specs.declared.stated.StatedRunRouter.{StatedRunRouter}
-use Rattle.mesh_toml.specs.Faults.{first, listed, Answers}
-use Rattle.mesh_stated.specs.Router.{InterfaceFields, RouterFields, AreRouterFields, stated_interface_fields, name, addresses, interfaces, attached, net, AttachedIs}
-use Rattle.mesh_stated_run.specs.Run.{PortSays, run_table_visits, address, neighbours, NeighbourIs, RunInterfaceIs, RunRouterIs, RunIs}
-use Rattle.mesh_checks.specs.Checks.{Identifiers, table_identifiers, net_in, tables_in, duplicates, duplicate_unless}
-use Rattle.mesh_checks.specs.Compared.{stated_identifiers, same_sender}
+use Rattle.mesh_config.specs.declared.keys.fault.ConfigFault.{ConfigFault}
+use Rattle.mesh_config.specs.declared.stated.stated.StatedRouter.{StatedRouter}
+use Rattle.mesh_config.specs.declared.run_tables.stated.StatedRun.{StatedRun}
+use Rattle.mesh_config.specs.declared.run_tables.stated.StatedRunInterface.{StatedRunInterface}
+use Rattle.mesh_config.specs.declared.run_tables.stated.StatedRunRouter.{StatedRunRouter}
+use Rattle.mesh_config.specs.Keys.Faults.{first, listed, Answers}
+use Rattle.mesh_config.specs.Stated.Router.{InterfaceFields, RouterFields, AreRouterFields, stated_interface_fields, name, addresses, interfaces, attached, net, AttachedIs}
+use Rattle.mesh_config.specs.RunTables.Run.{PortSays, run_table_visits, address, neighbours, NeighbourIs, RunInterfaceIs, RunRouterIs, RunIs}
+use Rattle.mesh_config.specs.Checks.Checks.{Identifiers, table_identifiers, net_in, tables_in, duplicates, duplicate_unless}
+use Rattle.mesh_config.specs.Checks.Compared.{stated_identifiers, same_sender}
 use Rattle.mesh_config.specs.Fields.{interface_fields, IsClear}
 use Rattle.mesh_config.specs.RunSettings.{OutlineOf, run_identifiers, stated_run_checks, senders_checked, SetupFrom, SetupSays, RunInterfaceSays, setup_visits, run_checks, the_router, addr_in, neighbour_addrs, RunInterfaceFields, run_interface_fields, stated_run_interface_fields, outline_fields, stated_port, port_pair}
-use Rattle.mesh_checks.proofs.Links.{duplicates_same, are_distinct-map}
+use Rattle.mesh_config.proofs.ChecksLemmas.Links.{duplicates_same, are_distinct-map}
 use Rattle.mesh_config.proofs.Builds.{clear_at, map-then}
-use Rattle.mesh_toml.proofs.Parts.{first_one}
+use Rattle.mesh_config.proofs.KeysLemmas.Parts.{first_one}
 use Rattle.mesh_config.proofs.Said.{named_of, map_said, flat_said, thresholds_say}
-use Rattle.mesh_stated.proofs.Elements.{Each-along}
+use Rattle.mesh_config.proofs.StatedLemmas.Elements.{Each-along}
 use Rattle.mesh_config.proofs.Told.{answers_along}
 
 pub outline_named : (d : StatedRunRouter) (o : StatedRouter) → OutlineOf d o → stated_identifiers o ≡ run_identifiers d

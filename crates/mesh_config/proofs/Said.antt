@@ -6,19 +6,19 @@ use Rattle.toml.specs.Data.{Data, Members}
 use Rattle.mesh_atoms.specs.declared.addr.Addr4.{Addr4}
 use Rattle.mesh_atoms.specs.declared.settings.Attached4.{Attached4}
 use Rattle.mesh_atoms.specs.declared.settings.Interface.{Interface}
-use Rattle.mesh_stated.specs.declared.stated.StatedRouter.{StatedRouter}
-use Rattle.mesh_stated.specs.declared.stated.Thresholds.{Thresholds}
-use Rattle.mesh_stated.specs.Rules.{AreThresholds}
+use Rattle.mesh_config.specs.declared.stated.stated.StatedRouter.{StatedRouter}
+use Rattle.mesh_config.specs.declared.stated.stated.Thresholds.{Thresholds}
+use Rattle.mesh_config.specs.Stated.Rules.{AreThresholds}
 use Rattle.mesh_config.specs.Fields.{thresholds_of, threshold_pair}
 use Rattle.mesh_config.specs.Settings.{Admits}
-use Rattle.mesh_stated.specs.declared.stated.StatedInterface.{StatedInterface}
-use Rattle.mesh_stated.specs.declared.stated.StatedArc.{StatedArc}
-use Rattle.mesh_toml.specs.Faults.{listed}
-use Rattle.mesh_stated.specs.Tables.{Each, table_of}
-use Rattle.mesh_stated.specs.Router.{name, addresses, interfaces, attached, net, InterfaceIs, AttachedIs, RouterIs}
-use Rattle.mesh_stated.specs.Scenario.{ArcIs}
-use Rattle.mesh_checks.specs.Checks.{Identifiers, table_identifiers, net_in, tables_in, places_table}
-use Rattle.mesh_checks.specs.Compared.{stated_identifiers, router_addrs, arc_places}
+use Rattle.mesh_config.specs.declared.stated.stated.StatedInterface.{StatedInterface}
+use Rattle.mesh_config.specs.declared.stated.stated.StatedArc.{StatedArc}
+use Rattle.mesh_config.specs.Keys.Faults.{listed}
+use Rattle.mesh_config.specs.Stated.Tables.{Each, table_of}
+use Rattle.mesh_config.specs.Stated.Router.{name, addresses, interfaces, attached, net, InterfaceIs, AttachedIs, RouterIs}
+use Rattle.mesh_config.specs.Stated.Scenario.{ArcIs}
+use Rattle.mesh_config.specs.Checks.Checks.{Identifiers, table_identifiers, net_in, tables_in, places_table}
+use Rattle.mesh_config.specs.Checks.Compared.{stated_identifiers, router_addrs, arc_places}
 
 -- what each table says, of all of them
 pub map_said : {X B : Type 0} (Is : Members → X → Type 0) (F : Members → B) (G : X → B) → ((t : Members) (x : X) → Is t x → F t ≡ G x) → (ds : List Data) (xs : List X) → Each Is ds xs

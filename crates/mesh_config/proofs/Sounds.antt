@@ -9,14 +9,14 @@ use Rattle.mesh_atoms.specs.declared.settings.RadioArc.{RadioArc}
 use Rattle.mesh_atoms.specs.declared.settings.RouterSettings.{RouterSettings}
 use Rattle.mesh_atoms.specs.declared.settings.Times.{Times}
 use Rattle.mesh_atoms.specs.Settings.{is_host, name_eq, AreRouters, AreArcs, IsCount}
-use Rattle.mesh_stated.specs.declared.stated.StatedRouter.{StatedRouter}
-use Rattle.mesh_toml.specs.Faults.{first}
-use Rattle.mesh_checks.specs.Checks.{Identifiers, Place, joins}
-use Rattle.mesh_checks.specs.Compared.{router_addrs, all_addrs, attaches_no_host, stated_duplicates, stated_identifiers, stated_lists, ends_of}
+use Rattle.mesh_config.specs.declared.stated.stated.StatedRouter.{StatedRouter}
+use Rattle.mesh_config.specs.Keys.Faults.{first}
+use Rattle.mesh_config.specs.Checks.Checks.{Identifiers, Place, joins}
+use Rattle.mesh_config.specs.Checks.Compared.{router_addrs, all_addrs, attaches_no_host, stated_duplicates, stated_identifiers, stated_lists, ends_of}
 use Rattle.mesh_config.specs.Fields.{interface_fields, RouterParts, settings_parts, stated_parts}
-use Rattle.mesh_stated.specs.Router.{InterfaceFields, stated_interface_fields}
+use Rattle.mesh_config.specs.Stated.Router.{InterfaceFields, stated_interface_fields}
 use Rattle.mesh_config.specs.Senders.{addr_lists}
-use Rattle.mesh_checks.proofs.Links.{are_distinct-map}
+use Rattle.mesh_config.proofs.ChecksLemmas.Links.{are_distinct-map}
 use Rattle.mesh_config.proofs.JoinFacts.{joins_range, joins_distinct}
 use Rattle.mesh_config.proofs.Builds.{stated_passed, map-then}
 

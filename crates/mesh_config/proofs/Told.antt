@@ -6,29 +6,29 @@ use Rattle.mesh_atoms.specs.declared.settings.RadioArc.{RadioArc}
 use Rattle.mesh_atoms.specs.declared.settings.RouterSettings.{RouterSettings}
 use Rattle.mesh_atoms.specs.declared.settings.Scenario.{Scenario}
 use Rattle.mesh_atoms.specs.declared.settings.Times.{Times}
-use Rattle.mesh_stated.specs.declared.stated.StatedArc.{StatedArc}
-use Rattle.mesh_stated.specs.declared.stated.StatedInterface.{StatedInterface}
-use Rattle.mesh_stated.specs.declared.stated.StatedRouter.{StatedRouter}
-use Rattle.mesh_stated.specs.declared.stated.StatedScenario.{StatedScenario}
-use Rattle.mesh_toml.specs.declared.fault.ConfigFault.{ConfigFault}
-use Rattle.mesh_toml.specs.Faults.{Fault, first, listed, Answers}
-use Rattle.mesh_stated.specs.Tables.{Each}
-use Rattle.mesh_toml.specs.Document.{document}
-use Rattle.mesh_stated.specs.Steps.{StepsAre}
-use Rattle.mesh_stated.specs.Times.{TimesIs}
-use Rattle.mesh_stated.specs.Router.{interfaces, InterfaceIs, RouterIs, AreInterfaceFields, AreRouterFields, stated_interface_fields}
-use Rattle.mesh_stated.specs.Scenario.{ArcIs, AreArcFields, ScenarioIs, scenario_table_visits, routers, arcs, sub_times}
-use Rattle.mesh_checks.specs.Checks.{arc_ends, scenario_visits, joins}
-use Rattle.mesh_checks.specs.Compared.{stated_identifiers, arc_places}
-use Rattle.mesh_stated.specs.Scenario.{stated_arc_fields}
-use Rattle.mesh_checks.specs.Compared.{arc_fields}
+use Rattle.mesh_config.specs.declared.stated.stated.StatedArc.{StatedArc}
+use Rattle.mesh_config.specs.declared.stated.stated.StatedInterface.{StatedInterface}
+use Rattle.mesh_config.specs.declared.stated.stated.StatedRouter.{StatedRouter}
+use Rattle.mesh_config.specs.declared.stated.stated.StatedScenario.{StatedScenario}
+use Rattle.mesh_config.specs.declared.keys.fault.ConfigFault.{ConfigFault}
+use Rattle.mesh_config.specs.Keys.Faults.{Fault, first, listed, Answers}
+use Rattle.mesh_config.specs.Stated.Tables.{Each}
+use Rattle.mesh_config.specs.Keys.Document.{document}
+use Rattle.mesh_config.specs.Stated.Steps.{StepsAre}
+use Rattle.mesh_config.specs.Stated.Times.{TimesIs}
+use Rattle.mesh_config.specs.Stated.Router.{interfaces, InterfaceIs, RouterIs, AreInterfaceFields, AreRouterFields, stated_interface_fields}
+use Rattle.mesh_config.specs.Stated.Scenario.{ArcIs, AreArcFields, ScenarioIs, scenario_table_visits, routers, arcs, sub_times}
+use Rattle.mesh_config.specs.Checks.Checks.{arc_ends, scenario_visits, joins}
+use Rattle.mesh_config.specs.Checks.Compared.{stated_identifiers, arc_places}
+use Rattle.mesh_config.specs.Stated.Scenario.{stated_arc_fields}
+use Rattle.mesh_config.specs.Checks.Compared.{arc_fields}
 use Rattle.mesh_config.specs.Fields.{interface_fields, RouterParts, settings_parts, stated_parts}
 use Rattle.mesh_config.specs.Built.{stated_visits, BuiltFrom}
 use Rattle.mesh_config.specs.Senders.{stated_steps}
 use Rattle.mesh_config.specs.Settings.{InterfaceSays, RouterSays, ArcSays, ScenarioSays, SettingsIs, refusals}
-use Rattle.mesh_toml.proofs.Parts.{first_one}
+use Rattle.mesh_config.proofs.KeysLemmas.Parts.{first_one}
 use Rattle.mesh_config.proofs.Said.{all_named_same, places_same, thresholds_say}
-use Rattle.mesh_stated.proofs.Elements.{Each-along, Each-map}
+use Rattle.mesh_config.proofs.StatedLemmas.Elements.{Each-along, Each-map}
 
 pub answers_along : {X : Type 0} (Is Says : X → Type 0) (found found' : Option Fault) (r : Result X ConfigFault) → found' ≡ found → ((x : X) → Is x → Says x) → Answers Is found r → Answers Says found' r
 answers_along Is Says found found' (Ok x) same h met = (same ∙ met.0, h x met.1)

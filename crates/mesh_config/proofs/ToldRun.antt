@@ -2,11 +2,11 @@
 use Rattle.std.proofs.Common.{◌≡◌, ℕ, List, Result, Ok}
 use Rattle.toml.specs.Data.{Members}
 use Rattle.mesh_atoms.specs.declared.settings.RunSetup.{RunSetup}
-use Rattle.mesh_toml.specs.declared.fault.ConfigFault.{ConfigFault}
-use Rattle.mesh_toml.specs.Faults.{first, Answers}
-use Rattle.mesh_toml.specs.Document.{document}
+use Rattle.mesh_config.specs.declared.keys.fault.ConfigFault.{ConfigFault}
+use Rattle.mesh_config.specs.Keys.Faults.{first, Answers}
+use Rattle.mesh_config.specs.Keys.Document.{document}
 use Rattle.mesh_config.specs.RunSettings.{SetupSays, setup_visits, SetupIs, run_refusals}
-use Rattle.mesh_toml.proofs.Parts.{first_one}
+use Rattle.mesh_config.proofs.KeysLemmas.Parts.{first_one}
 use Rattle.mesh_config.proofs.Told.{answers_along}
 
 pub setup_text_answers : (text : List ℕ) (table : Members) (r : Result RunSetup ConfigFault) → document text ≡ Ok table → Answers (SetupSays table) (first (setup_visits table)) r

@@ -1,13 +1,13 @@
 -- A scenario out of what its tables state.
 use Rattle.std.specs.Prelude.{◌≡◌, [], ◌∷◌, map, Ok}
 use Rattle.mesh_atoms.specs.declared.settings.Scenario.{Scenario}
-use Rattle.mesh_stated.specs.declared.stated.StatedScenario.{StatedScenario}
-use Rattle.mesh_toml.specs.Faults.{Visits, visit, first}
-use Rattle.mesh_checks.specs.Checks.{duplicates, joins}
-use Rattle.mesh_checks.specs.Compared.{stated_identifiers, arc_places, ends_of}
-use Rattle.mesh_checks.specs.Compared.{arc_fields}
+use Rattle.mesh_config.specs.declared.stated.stated.StatedScenario.{StatedScenario}
+use Rattle.mesh_config.specs.Keys.Faults.{Visits, visit, first}
+use Rattle.mesh_config.specs.Checks.Checks.{duplicates, joins}
+use Rattle.mesh_config.specs.Checks.Compared.{stated_identifiers, arc_places, ends_of}
+use Rattle.mesh_config.specs.Checks.Compared.{arc_fields}
 use Rattle.mesh_config.specs.Fields.{settings_parts, stated_parts}
-use Rattle.mesh_stated.specs.Scenario.{stated_arc_fields}
+use Rattle.mesh_config.specs.Stated.Scenario.{stated_arc_fields}
 use Rattle.mesh_config.specs.Senders.{addr_lists, HaveAllSenders, with_steps, HaveAllQualities, stated_steps}
 
 -- the checks of a stated scenario: what stands twice, and then what the arcs join

@@ -6,10 +6,10 @@ use Rattle.mesh_atoms.specs.declared.settings.RouterSettings.{RouterSettings}
 use Rattle.mesh_atoms.specs.declared.settings.Times.{Times}
 use Rattle.mesh_atoms.specs.Base.{addr_eq}
 use Rattle.mesh_atoms.specs.Settings.{are_distinct}
-use Rattle.mesh_stated.specs.declared.stated.StatedRouter.{StatedRouter}
-use Rattle.mesh_stated.specs.declared.stated.Thresholds.{Thresholds}
-use Rattle.mesh_stated.specs.Router.{InterfaceFields, stated_interface_fields, RouterFields, head_fields}
-use Rattle.mesh_checks.specs.Compared.{same_interface, same_attached, router_addrs, attaches_no_host}
+use Rattle.mesh_config.specs.declared.stated.stated.StatedRouter.{StatedRouter}
+use Rattle.mesh_config.specs.declared.stated.stated.Thresholds.{Thresholds}
+use Rattle.mesh_config.specs.Stated.Router.{InterfaceFields, stated_interface_fields, RouterFields, head_fields}
+use Rattle.mesh_config.specs.Checks.Compared.{same_interface, same_attached, router_addrs, attaches_no_host}
 
 -- what the table of an interface says, as the settings have it
 abbrev pub interface_fields : Interface → InterfaceFields

@@ -1,5 +1,9 @@
 pub mod Built
+pub mod Checks
 pub mod Fields
+pub mod Keys
 pub mod RunSettings
+pub mod RunTables
 pub mod Senders
 pub mod Settings
+pub mod Stated

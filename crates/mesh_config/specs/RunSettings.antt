@@ -13,20 +13,20 @@ use Rattle.mesh_atoms.specs.declared.settings.SenderMetric.{SenderMetric}
 use Rattle.mesh_atoms.specs.declared.admit.SenderQuality.{SenderQuality}
 use Rattle.mesh_atoms.specs.Base.{addr_eq}
 use Rattle.mesh_atoms.specs.Settings.{are_distinct}
-use Rattle.mesh_stated.specs.declared.stated.StatedRouter.{StatedRouter}
-use Rattle.mesh_stated_run.specs.declared.stated.StatedRun.{StatedRun}
-use Rattle.mesh_stated_run.specs.declared.stated.StatedRunInterface.{StatedRunInterface}
-use Rattle.mesh_stated_run.specs.declared.stated.StatedRunRouter.{StatedRunRouter}
-use Rattle.mesh_toml.specs.Faults.{Read, Visits, fault, visit, first, listed}
-use Rattle.mesh_stated.specs.Tables.{Each}
-use Rattle.mesh_toml.specs.Document.{document}
-use Rattle.mesh_stated.specs.Times.{TimesIs}
-use Rattle.mesh_stated.specs.Router.{InterfaceFields, stated_interface_fields, AreRouterFields, head_fields, name, addresses, interfaces, attached, AttachedIs}
-use Rattle.mesh_stated.specs.Scenario.{end_moment, sub_times}
-use Rattle.mesh_toml.specs.Values.{table_read}
-use Rattle.mesh_stated_run.specs.Run.{address, PortSays, AreCosts, neighbours, router_table, run_table_visits}
-use Rattle.mesh_checks.specs.Checks.{Identifiers, table_identifiers, tables_in, duplicate_unless, duplicates}
-use Rattle.mesh_checks.specs.Compared.{same_sender}
+use Rattle.mesh_config.specs.declared.stated.stated.StatedRouter.{StatedRouter}
+use Rattle.mesh_config.specs.declared.run_tables.stated.StatedRun.{StatedRun}
+use Rattle.mesh_config.specs.declared.run_tables.stated.StatedRunInterface.{StatedRunInterface}
+use Rattle.mesh_config.specs.declared.run_tables.stated.StatedRunRouter.{StatedRunRouter}
+use Rattle.mesh_config.specs.Keys.Faults.{Read, Visits, fault, visit, first, listed}
+use Rattle.mesh_config.specs.Stated.Tables.{Each}
+use Rattle.mesh_config.specs.Keys.Document.{document}
+use Rattle.mesh_config.specs.Stated.Times.{TimesIs}
+use Rattle.mesh_config.specs.Stated.Router.{InterfaceFields, stated_interface_fields, AreRouterFields, head_fields, name, addresses, interfaces, attached, AttachedIs}
+use Rattle.mesh_config.specs.Stated.Scenario.{end_moment, sub_times}
+use Rattle.mesh_config.specs.Keys.Values.{table_read}
+use Rattle.mesh_config.specs.RunTables.Run.{address, PortSays, AreCosts, neighbours, router_table, run_table_visits}
+use Rattle.mesh_config.specs.Checks.Checks.{Identifiers, table_identifiers, tables_in, duplicate_unless, duplicates}
+use Rattle.mesh_config.specs.Checks.Compared.{same_sender}
 use Rattle.mesh_config.specs.Fields.{interface_fields, router_fields, thresholds_of, threshold_pair}
 use Rattle.mesh_config.specs.Settings.{Admits}
 

@@ -11,10 +11,10 @@ use Rattle.mesh_atoms.specs.declared.settings.SenderMetric.{SenderMetric}
 use Rattle.mesh_atoms.specs.Base.{addr_eq}
 use Rattle.mesh_atoms.specs.Literals.{◌>>=◌}
 use Rattle.mesh_atoms.specs.Settings.{are_distinct, ends_eq}
-use Rattle.mesh_stated.specs.declared.stated.StatedArc.{StatedArc}
-use Rattle.mesh_stated.specs.declared.stated.StatedRouter.{StatedRouter}
-use Rattle.mesh_stated.specs.Steps.{quality_pair}
-use Rattle.mesh_checks.specs.Compared.{all_addrs, ends_of}
+use Rattle.mesh_config.specs.declared.stated.stated.StatedArc.{StatedArc}
+use Rattle.mesh_config.specs.declared.stated.stated.StatedRouter.{StatedRouter}
+use Rattle.mesh_config.specs.Stated.Steps.{quality_pair}
+use Rattle.mesh_config.specs.Checks.Compared.{all_addrs, ends_of}
 
 -- the addresses of each interface of each router
 abbrev pub Lists : Type 0

@@ -6,18 +6,18 @@ use Rattle.mesh_atoms.specs.declared.settings.Interface.{Interface}
 use Rattle.mesh_atoms.specs.declared.settings.RadioArc.{RadioArc}
 use Rattle.mesh_atoms.specs.declared.settings.RouterSettings.{RouterSettings}
 use Rattle.mesh_atoms.specs.declared.settings.Scenario.{Scenario}
-use Rattle.mesh_toml.specs.Faults.{Visits, fault, visit, first, listed}
-use Rattle.mesh_stated.specs.Tables.{Each}
-use Rattle.mesh_toml.specs.Document.{document}
-use Rattle.mesh_stated.specs.Times.{TimesIs}
-use Rattle.mesh_stated.specs.Rules.{AreThresholds}
-use Rattle.mesh_stated.specs.Steps.{StepsAre}
-use Rattle.mesh_stated.specs.Router.{AreInterfaceFields, AreRouterFields, interfaces, attached, AttachedIs}
-use Rattle.mesh_stated.specs.Scenario.{end_moment, seed, loss_until, sub_times, routers, arcs, AreArcFields}
-use Rattle.mesh_toml.specs.Values.{table_read}
-use Rattle.mesh_checks.specs.Checks.{arc_ends, scenario_visits}
-use Rattle.mesh_checks.specs.Compared.{ends_of}
-use Rattle.mesh_checks.specs.Compared.{arc_fields}
+use Rattle.mesh_config.specs.Keys.Faults.{Visits, fault, visit, first, listed}
+use Rattle.mesh_config.specs.Stated.Tables.{Each}
+use Rattle.mesh_config.specs.Keys.Document.{document}
+use Rattle.mesh_config.specs.Stated.Times.{TimesIs}
+use Rattle.mesh_config.specs.Stated.Rules.{AreThresholds}
+use Rattle.mesh_config.specs.Stated.Steps.{StepsAre}
+use Rattle.mesh_config.specs.Stated.Router.{AreInterfaceFields, AreRouterFields, interfaces, attached, AttachedIs}
+use Rattle.mesh_config.specs.Stated.Scenario.{end_moment, seed, loss_until, sub_times, routers, arcs, AreArcFields}
+use Rattle.mesh_config.specs.Keys.Values.{table_read}
+use Rattle.mesh_config.specs.Checks.Checks.{arc_ends, scenario_visits}
+use Rattle.mesh_config.specs.Checks.Compared.{ends_of}
+use Rattle.mesh_config.specs.Checks.Compared.{arc_fields}
 use Rattle.mesh_config.specs.Fields.{interface_fields, router_fields}
 use Rattle.mesh_config.specs.Senders.{addr_lists, HaveAllSenders, with_steps, HaveAllQualities}
 

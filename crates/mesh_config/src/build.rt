@@ -1,15 +1,15 @@
 //! Settings out of what their tables state.
 ghost use Rattle.std.specs.Prelude.{◌≡◌, ◌≤◌, ◌<◌, None, length, map, IfOk};
-ghost use Rattle.mesh_toml.specs.Faults.{first};
-ghost use Rattle.mesh_checks.specs.Compared.{stated_lists, stated_duplicates};
+ghost use Rattle.mesh_config.specs.Keys.Faults.{first};
+ghost use Rattle.mesh_config.specs.Checks.Compared.{stated_lists, stated_duplicates};
 ghost use Rattle.mesh_config.specs.Fields.{interface_fields, thresholds_of, threshold_pair, router_fields, settings_parts, stated_parts, IsClear};
-ghost use Rattle.mesh_stated.specs.Router.{stated_interface_fields, head_fields};
+ghost use Rattle.mesh_config.specs.Stated.Router.{stated_interface_fields, head_fields};
 ghost use Rattle.mesh_config.specs.Senders.{AreApart, senders_to, sender_pair, HaveSenders, HaveAllSenders, stated_steps, with_steps, qualities_to, HaveQualities, HaveAllQualities};
-ghost use Rattle.mesh_stated.specs.Steps.{quality_pair};
+ghost use Rattle.mesh_config.specs.Stated.Steps.{quality_pair};
 
 use crate::senders::{qualities_to, senders_to};
+use crate::stated::{StatedArc, StatedInterface, StatedRouter, Thresholds};
 use mesh_atoms::{Admit, Interface, Metric, RadioArc, RouterSettings, Seq, Times};
-use mesh_stated::{StatedArc, StatedInterface, StatedRouter, Thresholds};
 use std::alloc::{AllocError, Global};
 
 // An interface, with its senders; its own metric is 1.

@@ -1,16 +1,16 @@
 //! A scenario out of its text.
 ghost use Rattle.std.specs.Prelude.{◌≡◌, None, IfOk, IfErr};
 ghost use Rattle.toml.specs.View.{table_view};
-ghost use Rattle.mesh_toml.specs.Faults.{Answers, first, IfRefused};
-ghost use Rattle.mesh_checks.specs.Checks.{scenario_visits};
+ghost use Rattle.mesh_config.specs.Keys.Faults.{Answers, first, IfRefused};
+ghost use Rattle.mesh_config.specs.Checks.Checks.{scenario_visits};
 ghost use Rattle.mesh_config.specs.Built.{stated_visits, BuiltFrom};
 ghost use Rattle.mesh_config.specs.Settings.{ScenarioSays, SettingsIs, refusals, FirstRefusal};
 
 use crate::build::make_routers;
+use crate::checks::{all_joined, no_duplicates};
+use crate::keys::{ConfigFault, document};
+use crate::stated::{StatedScenario, stated_scenario};
 use mesh_atoms::Scenario;
-use mesh_checks::{all_joined, no_duplicates};
-use mesh_stated::{StatedScenario, stated_scenario};
-use mesh_toml::{ConfigFault, document};
 use std::alloc::Global;
 use toml::Table;
 

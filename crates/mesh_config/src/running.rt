@@ -1,18 +1,18 @@
 //! The setup of `run` out of its text.
 ghost use Rattle.std.specs.Prelude.{◌≡◌, [], ◌∷◌, None, true, IfOk, IfErr};
 ghost use Rattle.toml.specs.View.{table_view};
-ghost use Rattle.mesh_toml.specs.Faults.{Answers, first, IfRefused};
-ghost use Rattle.mesh_checks.specs.Checks.{duplicates};
+ghost use Rattle.mesh_config.specs.Keys.Faults.{Answers, first, IfRefused};
+ghost use Rattle.mesh_config.specs.Checks.Checks.{duplicates};
 ghost use Rattle.mesh_config.specs.Fields.{IsClear};
 ghost use Rattle.mesh_config.specs.RunSettings.{OutlineOf, run_identifiers, stated_run_checks, SetupFrom, senders_checked, SetupSays, setup_visits, SetupIs, run_refusals, FirstRunRefusal};
 
 use crate::build::router_from;
+use crate::checks::{no_duplicates, refuse_duplicates};
+use crate::keys::{ConfigFault, document};
+use crate::run_tables::{StatedRun, StatedRunRouter, stated_run};
 use crate::setup::{outline, run_interfaces, run_ports, senders_distinct};
+use crate::stated::StatedRouter;
 use mesh_atoms::RunSetup;
-use mesh_checks::{no_duplicates, refuse_duplicates};
-use mesh_stated::StatedRouter;
-use mesh_stated_run::{StatedRun, StatedRunRouter, stated_run};
-use mesh_toml::{ConfigFault, document};
 use std::alloc::{AllocError, Global};
 use toml::Table;
 

@@ -1,12 +1,12 @@
 //! The senders of the interfaces of a scenario.
 ghost use Rattle.std.specs.Prelude.{◌≡◌, ◌≤◌, ◌<◌, ◌++◌, length, map, IfOk, IfSome, OnOk};
 ghost use Rattle.std.specs.List.{slice_get};
-ghost use Rattle.mesh_checks.specs.Compared.{stated_lists};
+ghost use Rattle.mesh_config.specs.Checks.Compared.{stated_lists};
 ghost use Rattle.mesh_config.specs.Senders.{first_addr, senders_to, sender_pair, stated_steps, steps_at, with_steps, quality_by, qualities_to};
-ghost use Rattle.mesh_stated.specs.Steps.{quality_pair};
+ghost use Rattle.mesh_config.specs.Stated.Steps.{quality_pair};
 
+use crate::stated::{StatedArc, StatedInterface, StatedRouter};
 use mesh_atoms::{Addr4, RadioArc, SenderMetric, SenderQuality, Seq};
-use mesh_stated::{StatedArc, StatedInterface, StatedRouter};
 use std::alloc::{AllocError, Global};
 
 fn first_of(interface: &StatedInterface) -> Option<Addr4>

@@ -2,15 +2,15 @@
 ghost use Rattle.std.specs.Prelude.{◌≡◌, map, length, true, IfOk};
 ghost use Rattle.std.specs.List.{list_all};
 ghost use Rattle.mesh_atoms.specs.Settings.{are_distinct};
-ghost use Rattle.mesh_checks.specs.Compared.{same_sender};
-ghost use Rattle.mesh_stated.specs.Router.{stated_interface_fields};
+ghost use Rattle.mesh_config.specs.Checks.Compared.{same_sender};
+ghost use Rattle.mesh_config.specs.Stated.Router.{stated_interface_fields};
 ghost use Rattle.mesh_config.specs.Fields.{thresholds_of, threshold_pair};
 ghost use Rattle.mesh_config.specs.RunSettings.{run_interface_fields, stated_run_interface_fields, port_pair, stated_port, outline_fields, OutlineOf};
 
+use crate::checks::are_distinct;
+use crate::run_tables::{StatedRunInterface, StatedRunRouter};
+use crate::stated::{RouterHead, StatedInterface, StatedRouter, Thresholds};
 use mesh_atoms::{Admit, Interface, Port, SenderQuality, Seq};
-use mesh_checks::are_distinct;
-use mesh_stated::{RouterHead, StatedInterface, StatedRouter, Thresholds};
-use mesh_stated_run::{StatedRunInterface, StatedRunRouter};
 use std::alloc::{AllocError, Global};
 
 fn outline_interfaces(

@@ -19,9 +19,9 @@ use Rattle.mesh_emulate.specs.declared.emulation.EmulateFault.TheVariants.{Refus
 use Rattle.mesh_emulate.specs.declared.prepared.Prepared.{Prepared}
 use Rattle.mesh_emulate.specs.declared.wanted.Departure.{Departure}
 use Rattle.mesh_texts.specs.Runs.{WholeRun, IsRunText, IsFirstTrace}
-use Rattle.mesh_toml.specs.Faults.{IfRefused}
-use Rattle.mesh_toml.specs.declared.fault.ConfigFault.{ConfigFault}
-use Rattle.mesh_toml.specs.declared.fault.ConfigFault.TheVariants as faults
+use Rattle.mesh_config.specs.Keys.Faults.{IfRefused}
+use Rattle.mesh_config.specs.declared.keys.fault.ConfigFault.{ConfigFault}
+use Rattle.mesh_config.specs.declared.keys.fault.ConfigFault.TheVariants as faults
 
 pub same_stop : (a b : Stop) → ◌≡◌ {A = Result (Unit {0}) EmulateFault} (Err (Stopped a)) (Err (Stopped b)) → a ≡ b
 same_stop a b e = cc

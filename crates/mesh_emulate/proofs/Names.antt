@@ -7,11 +7,11 @@ use Rattle.mesh_atoms.specs.declared.settings.Scenario.{Scenario}
 use Rattle.mesh_config.specs.Settings.{RouterSays}
 use Rattle.mesh_emulate.specs.Emulation.{States}
 use Rattle.mesh_emulate.specs.Wants.{Wants, HasName, IsNamed, IsUnknown, FirstUnknown, Of_send, Of_probe}
-use Rattle.mesh_stated.specs.Router.{name}
-use Rattle.mesh_stated.specs.Scenario.{sub_times, routers}
-use Rattle.mesh_stated.specs.Tables.{Each, table_of}
-use Rattle.mesh_toml.specs.Document.{document}
-use Rattle.mesh_toml.specs.Faults.{Read, listed}
+use Rattle.mesh_config.specs.Stated.Router.{name}
+use Rattle.mesh_config.specs.Stated.Scenario.{sub_times, routers}
+use Rattle.mesh_config.specs.Stated.Tables.{Each, table_of}
+use Rattle.mesh_config.specs.Keys.Document.{document}
+use Rattle.mesh_config.specs.Keys.Faults.{Read, listed}
 
 same_name : (read : Read (List ℕ)) (a b : List ℕ) → read ≡ Ok a → read ≡ Ok b → a ≡ b
 same_name read a b e f = cc

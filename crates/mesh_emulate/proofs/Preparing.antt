@@ -12,9 +12,9 @@ use Rattle.mesh_emulate.specs.declared.wanted.Errand.{Errand}
 use Rattle.mesh_emulate.specs.Emulation.{States, IsRefused, By_settings, By_name}
 use Rattle.mesh_emulate.specs.Wants.{Packet, Wants, HasName, IsNamed, Agree, Departs, IsErrand, IsWithin, IsUnknown, NamesUnknown, NamesKnown, start_of, FirstUnknown, Of_send, Of_probe}
 use Rattle.mesh_emulate.proofs.Names.{unknown_as}
-use Rattle.mesh_toml.specs.Faults.{Fault, fault, FailsAt, IfRefused}
-use Rattle.mesh_toml.specs.declared.fault.ConfigFault.{ConfigFault}
-use Rattle.mesh_toml.specs.declared.fault.ConfigFault.TheVariants as faults
+use Rattle.mesh_config.specs.Keys.Faults.{Fault, fault, FailsAt, IfRefused}
+use Rattle.mesh_config.specs.declared.keys.fault.ConfigFault.{ConfigFault}
+use Rattle.mesh_config.specs.declared.keys.fault.ConfigFault.TheVariants as faults
 
 -- What is wanted, by numbers
 

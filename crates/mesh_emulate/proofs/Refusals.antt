@@ -5,7 +5,7 @@ use Rattle.mesh_atoms.specs.State.{State}
 use Rattle.mesh_config.specs.Settings.{refusals}
 use Rattle.mesh_emulate.specs.Emulation.{TellsTrip, TellsProbe, Emulation, IsRefused, By_settings, By_name}
 use Rattle.mesh_emulate.specs.Wants.{Packet, Wants, IsNamed, start_of, FirstUnknown, Of_send, Of_probe}
-use Rattle.mesh_toml.specs.Faults.{Fault, fault, first}
+use Rattle.mesh_config.specs.Keys.Faults.{Fault, fault, first}
 
 no_fault : (found : Option Fault) (f : Fault) → found ≡ None → found ≡ Some f → ⊥
 no_fault found f none some = cc

@@ -11,7 +11,7 @@ use Rattle.mesh_probe.specs.declared.coverage.Probe.{Probe}
 use Rattle.mesh_probe.specs.Probes.{HasLeastNumber, TellsFlood, AreReached, IfDone}
 use Rattle.mesh_probe.specs.Text.{IsProbeText}
 use Rattle.mesh_texts.specs.Runs.{WholeRun, IsRunText, FirstEvents, IsFirstTrace}
-use Rattle.mesh_toml.specs.Faults.{first}
+use Rattle.mesh_config.specs.Keys.Faults.{first}
 
 -- the input states this scenario, and has no refusal
 pub record States (input : List ℕ) (scenario : Scenario) : Type 0 where

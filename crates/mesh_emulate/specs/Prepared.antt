@@ -6,8 +6,8 @@ use Rattle.mesh_emulate.specs.declared.prepared.Prepared.{Prepared}
 use Rattle.mesh_emulate.specs.Emulation.{States}
 use Rattle.mesh_emulate.specs.Wants.{Wants, IsErrand, IsWithin}
 use Rattle.mesh_io.specs.declared.stop.Stop.TheVariants as stop
-use Rattle.mesh_toml.specs.declared.fault.ConfigFault.{ConfigFault}
-use Rattle.mesh_toml.specs.declared.fault.ConfigFault.TheVariants as faults
+use Rattle.mesh_config.specs.declared.keys.fault.ConfigFault.{ConfigFault}
+use Rattle.mesh_config.specs.declared.keys.fault.ConfigFault.TheVariants as faults
 
 -- the scenario that the input states, and what is wanted, by numbers of its routers
 pub record IsPrepared (input : List ℕ) (wants : Wants) (p : Prepared) : Type 0 where

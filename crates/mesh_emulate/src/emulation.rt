@@ -18,11 +18,11 @@ use crate::probe::tell_probe;
 use crate::summary::tell_end;
 use crate::wanted::{Errand, Wanted};
 use mesh_atoms::{Bytes, RadioGraph, Scenario};
+use mesh_config::ConfigFault;
 use mesh_expire::Bases;
 use mesh_io::{Sink, Stop};
 use mesh_paths::radio_graph;
 use mesh_radio::Net;
-use mesh_toml::ConfigFault;
 use std::alloc::Global;
 
 /// Why an emulation isn't told whole: the input is refused, or a name that is wanted and no router of it has, with the number and

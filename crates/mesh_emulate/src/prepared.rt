@@ -4,12 +4,11 @@ ghost use Rattle.mesh_config.specs.Settings.{FirstRefusal};
 ghost use Rattle.mesh_emulate.specs.Emulation.{States, IsRefused};
 ghost use Rattle.mesh_emulate.specs.Prepared.{IsPrepared};
 ghost use Rattle.mesh_emulate.specs.Wants.{wants_of};
-ghost use Rattle.mesh_toml.specs.Faults.{IfRefused};
+ghost use Rattle.mesh_config.specs.Keys.Faults.{IfRefused};
 
 use crate::wanted::{Errand, Wanted, errand_of};
 use mesh_atoms::Scenario;
-use mesh_config::scenario_of;
-use mesh_toml::ConfigFault;
+use mesh_config::{ConfigFault, scenario_of};
 use std::alloc::Global;
 
 /// The scenario that an input states, and what is wanted of it, by numbers of its routers.

@@ -4,11 +4,11 @@ ghost use Rattle.std.specs.Prelude.{◌≡◌, ℕ, codes, option_map, IfOk, IfE
 ghost use Rattle.mesh_atoms.specs.Settings.{name_eq};
 ghost use Rattle.mesh_emulate.specs.Wants.{HasName, IsNamed, packet_of, wants_of, Agree, Departs, IsErrand};
 ghost use Rattle.mesh_emulate.specs.Wants.{IsUnknown, NamesUnknown, start_of, FirstUnknown};
-ghost use Rattle.mesh_toml.specs.Faults.{IfRefused};
+ghost use Rattle.mesh_config.specs.Keys.Faults.{IfRefused};
 
 use mesh_atoms::{Addr4, RouterSettings, Scenario};
-use mesh_toml::refusal::UNKNOWN_NAME;
-use mesh_toml::{ConfigFault, refused};
+use mesh_config::refusal::UNKNOWN_NAME;
+use mesh_config::{ConfigFault, refused};
 use std::alloc::Global;
 
 /// A data packet: from the router of that name, to that address.

@@ -9,7 +9,7 @@ use Rattle.mesh_emulate.specs.Wants.{Packet, Wants}
 use Rattle.mesh_io.specs.Airs.{Report}
 use Rattle.mesh_made.specs.Made.{MadeEmulation}
 use Rattle.mesh_run.specs.Run.{Told, told, IsUntold, States, WholeRun, SpendsTurns, FailsToAttach, RunsShort}
-use Rattle.mesh_toml.specs.Faults.{first}
+use Rattle.mesh_config.specs.Keys.Faults.{first}
 use Rattle.mesh_words.specs.declared.job.Job.{Job}
 use Rattle.mesh_words.specs.declared.job.Job.TheVariants as job
 use Rattle.mesh_words.specs.declared.job.PacketWords.{PacketWords}

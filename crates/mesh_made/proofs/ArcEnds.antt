@@ -6,7 +6,7 @@ use Rattle.std.proofs.lemmas.Bool.{and_parts, not-true, cases_Bool, or_parts, eq
 use Rattle.std.proofs.lemmas.List.{length-map}
 use Rattle.mesh_atoms.specs.declared.settings.RadioArc.{RadioArc}
 use Rattle.mesh_atoms.specs.Settings.{Ends, AreArcs, are_distinct, ends_eq, joins_routers}
-use Rattle.mesh_checks.specs.Compared.{ends_of}
+use Rattle.mesh_config.specs.Checks.Compared.{ends_of}
 use Rattle.mesh_made.specs.declared.pairs.Pair.{Pair}
 use Rattle.mesh_made.specs.Pairs.{same_pair}
 use Rattle.mesh_made.specs.Scenario.{IsMadeArc, AreMadeArcs}

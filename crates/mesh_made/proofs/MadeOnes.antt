@@ -9,7 +9,7 @@ use Rattle.mesh_atoms.specs.declared.settings.RadioArc.{RadioArc}
 use Rattle.mesh_atoms.specs.declared.settings.RouterSettings.{RouterSettings}
 use Rattle.mesh_atoms.specs.declared.settings.Times.{Times}
 use Rattle.mesh_atoms.specs.Settings.{AreArcs}
-use Rattle.mesh_checks.specs.Compared.{ends_of, stated_lists}
+use Rattle.mesh_config.specs.Checks.Compared.{ends_of, stated_lists}
 use Rattle.mesh_config.specs.Fields.{RouterParts, settings_parts, stated_parts, thresholds_of, threshold_pair}
 use Rattle.mesh_config.specs.Senders.{Lists, HaveAllSenders, HaveAllQualities, addr_lists}
 use Rattle.mesh_config.proofs.Sounds.{counts_same, lists_same}
@@ -19,8 +19,8 @@ use Rattle.mesh_made.specs.Stated.{IsStated, AreStated}
 use Rattle.mesh_made.proofs.Apart.{AreApart}
 use Rattle.mesh_made.proofs.ArcEnds.{arcs_sound}
 use Rattle.mesh_made.proofs.StatedOnes.{one_each}
-use Rattle.mesh_stated.specs.declared.stated.StatedRouter.{StatedRouter}
-use Rattle.mesh_stated.specs.Times.{TimesIs}
+use Rattle.mesh_config.specs.declared.stated.stated.StatedRouter.{StatedRouter}
+use Rattle.mesh_config.specs.Stated.Times.{TimesIs}
 use Rattle.mesh_words.specs.declared.job.Kind.{Kind}
 use Rattle.toml.specs.Data.{no_members}
 

@@ -9,14 +9,14 @@ use Rattle.std.proofs.lemmas.List.{append_cancel_left, length-map}
 use Rattle.mesh_atoms.specs.declared.addr.Addr4.{Addr4}
 use Rattle.mesh_atoms.specs.Base.{addr_eq}
 use Rattle.mesh_atoms.specs.Settings.{IsName, is_name_octet, name_eq, are_distinct}
-use Rattle.mesh_checks.specs.Checks.{Identifiers}
-use Rattle.mesh_checks.specs.Compared.{same_router, same_interface, same_attached, router_addrs, all_addrs, attaches_no_host, stated_duplicates, stated_identifiers}
+use Rattle.mesh_config.specs.Checks.Checks.{Identifiers}
+use Rattle.mesh_config.specs.Checks.Compared.{same_router, same_interface, same_attached, router_addrs, all_addrs, attaches_no_host, stated_duplicates, stated_identifiers}
 use Rattle.mesh_made.specs.Scenario.{name_of, addr_of, face_of}
 use Rattle.mesh_made.specs.Stated.{IsStated, AreStated}
-use Rattle.mesh_stated.specs.declared.stated.StatedInterface.{StatedInterface}
-use Rattle.mesh_stated.specs.declared.stated.StatedRouter.{StatedRouter}
-use Rattle.mesh_stated.specs.Router.{InterfaceFields, stated_interface_fields}
-use Rattle.mesh_toml.specs.Faults.{first}
+use Rattle.mesh_config.specs.declared.stated.stated.StatedInterface.{StatedInterface}
+use Rattle.mesh_config.specs.declared.stated.stated.StatedRouter.{StatedRouter}
+use Rattle.mesh_config.specs.Stated.Router.{InterfaceFields, stated_interface_fields}
+use Rattle.mesh_config.specs.Keys.Faults.{first}
 
 -- One router more
 

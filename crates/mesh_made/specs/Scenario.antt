@@ -9,8 +9,8 @@ use Rattle.mesh_config.specs.Fields.{interface_fields, thresholds_of}
 use Rattle.mesh_config.specs.Senders.{HaveAllSenders, addr_lists, with_steps, HaveAllQualities}
 use Rattle.mesh_made.specs.declared.pairs.Pair.{Pair}
 use Rattle.mesh_made.specs.Pairs.{ArePairs, word}
-use Rattle.mesh_stated.specs.Router.{InterfaceFields}
-use Rattle.mesh_stated.specs.Times.{TimesIs}
+use Rattle.mesh_config.specs.Stated.Router.{InterfaceFields}
+use Rattle.mesh_config.specs.Stated.Times.{TimesIs}
 use Rattle.mesh_words.specs.declared.job.Kind.{Kind}
 use Rattle.mesh_words.specs.declared.job.Kind.TheVariants as kind
 use Rattle.toml.specs.Data.{no_members}

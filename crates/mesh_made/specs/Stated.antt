@@ -1,8 +1,8 @@
 -- The routers of a made scenario as their tables would state them.
 use Rattle.std.specs.Prelude.{◌≡◌, ℕ, ◌+◌, List, [], ◌∷◌, map}
 use Rattle.mesh_made.specs.Scenario.{name_of, face_of}
-use Rattle.mesh_stated.specs.declared.stated.StatedRouter.{StatedRouter}
-use Rattle.mesh_stated.specs.Router.{stated_interface_fields}
+use Rattle.mesh_config.specs.declared.stated.stated.StatedRouter.{StatedRouter}
+use Rattle.mesh_config.specs.Stated.Router.{stated_interface_fields}
 
 -- router i
 pub record IsStated (i : ℕ) (d : StatedRouter) : Type 0 where

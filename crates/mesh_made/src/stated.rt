@@ -3,10 +3,10 @@ ghost use Rattle.std.specs.Prelude.{◌≡◌, ◌∷◌, [], ◌≤◌, ◌<◌
 ghost use Rattle.mesh_atoms.specs.Settings.{IsName};
 ghost use Rattle.mesh_made.specs.Scenario.{name_of, addr_of, face_of};
 ghost use Rattle.mesh_made.specs.Stated.{IsStated, AreStated};
-ghost use Rattle.mesh_stated.specs.Router.{stated_interface_fields};
+ghost use Rattle.mesh_config.specs.Stated.Router.{stated_interface_fields};
 
 use mesh_atoms::{Addr4, Bytes, DEFAULT_TC_ROWS, Seq, Willing, put_decimal};
-use mesh_stated::{RouterHead, StatedInterface, StatedRouter, Thresholds};
+use mesh_config::{RouterHead, StatedInterface, StatedRouter, Thresholds};
 use std::alloc::{AllocError, Global};
 
 fn name_of(alloc: Global, i: usize) -> Result<Bytes, AllocError>

@@ -21,7 +21,7 @@ use Rattle.mesh_run.specs.Text.{IsReport}
 use Rattle.mesh_run.specs.declared.fault.RunFault.{RunFault}
 use Rattle.mesh_run.specs.declared.fault.RunFault.TheVariants as fault
 use Rattle.mesh_run.proofs.Moments.{below_end, reaches_end}
-use Rattle.mesh_toml.specs.Faults.{first}
+use Rattle.mesh_config.specs.Keys.Faults.{first}
 use Rattle.mesh_turns.proofs.Runs.{keep_sound}
 use Rattle.mesh_turns.proofs.Tellings.{tells_more}
 use Rattle.mesh_turns.proofs.Whole.{stops_behind}

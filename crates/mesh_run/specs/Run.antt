@@ -5,7 +5,7 @@ use Rattle.mesh_atoms.specs.State.{State}
 use Rattle.mesh_config.specs.RunSettings.{SetupIs, run_refusals}
 use Rattle.mesh_io.specs.Airs.{Report}
 use Rattle.mesh_io.specs.Told.{Tells}
-use Rattle.mesh_toml.specs.Faults.{first}
+use Rattle.mesh_config.specs.Keys.Faults.{first}
 use Rattle.mesh_turns.specs.Turns.{attached_report, greatest_of, Turns, StopsShort}
 use Rattle.mesh_run.specs.Text.{RunText}
 

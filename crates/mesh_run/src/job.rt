@@ -7,7 +7,7 @@ ghost use Rattle.mesh_io.specs.Faults.{Rose};
 ghost use Rattle.mesh_run.specs.Ends.{Ends, Completes};
 ghost use Rattle.mesh_run.specs.Run.{States, told, IsUntold, WholeRun, SpendsTurns, FailsToAttach, RunsShort};
 ghost use Rattle.mesh_run.specs.declared.fault.RunFault.TheVariants.{Refused, Attach, Turns, Stopped};
-ghost use Rattle.mesh_toml.specs.Faults.{first};
+ghost use Rattle.mesh_config.specs.Keys.Faults.{first};
 
 use crate::fault::RunFault;
 use crate::router::run_setup;

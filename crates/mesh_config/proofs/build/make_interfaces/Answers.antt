@@ -1,12 +1,12 @@
 use Rattle.std.proofs.Common.{◌≡◌, ◌+◌, length, arith}
-use Rattle.mesh_checks.specs.Compared.{stated_lists}
+use Rattle.mesh_config.specs.Checks.Compared.{stated_lists}
 use Rattle.mesh_config.specs.Fields.{interface_fields, thresholds_of, threshold_pair}
 use Rattle.mesh_config.specs.Senders.{with_steps, stated_steps}
-use Rattle.mesh_stated.specs.declared.stated.StatedInterface.{StatedInterface}
+use Rattle.mesh_config.specs.declared.stated.stated.StatedInterface.{StatedInterface}
 use Rattle.mesh_config.proofs.Qualities.{have_more}
-use Rattle.mesh_stated.specs.Router.{stated_interface_fields}
+use Rattle.mesh_config.specs.Stated.Router.{stated_interface_fields}
 use Rattle.mesh_config.proofs.Builds.{senders_more, maps_more}
-use Rattle.mesh_stated.proofs.Elements.{one_longer}
+use Rattle.mesh_config.proofs.StatedLemmas.Elements.{one_longer}
 use Rattle.mesh_config.proofs.build.make_interfaces.Goals as goal
 
 pub loop-iface-preserved : goal.loop-iface-preserved

@@ -1,5 +1,5 @@
 use Rattle.std.proofs.Common.{◌∙◌, ap, map, refl}
-use Rattle.mesh_stated.specs.Router.{stated_interface_fields}
+use Rattle.mesh_config.specs.Stated.Router.{stated_interface_fields}
 use Rattle.mesh_config.proofs.build.make_router.Goals as goal
 
 pub router_from-requires-clause-interfaces : goal.router_from-requires-clause-interfaces

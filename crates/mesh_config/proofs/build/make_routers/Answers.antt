@@ -1,10 +1,10 @@
 use Rattle.std.proofs.Common.{◌≡◌, ◌+◌, length, arith, sym, subst}
-use Rattle.mesh_checks.specs.Compared.{stated_lists}
+use Rattle.mesh_config.specs.Checks.Compared.{stated_lists}
 use Rattle.mesh_config.specs.Fields.{settings_parts, stated_parts, IsClear}
 use Rattle.mesh_config.proofs.Builds.{all_senders_more, maps_more, clear_at}
 use Rattle.mesh_config.specs.Senders.{with_steps, stated_steps}
 use Rattle.mesh_config.proofs.Qualities.{all_have_more}
-use Rattle.mesh_stated.proofs.Elements.{one_longer}
+use Rattle.mesh_config.proofs.StatedLemmas.Elements.{one_longer}
 use Rattle.mesh_config.proofs.build.make_routers.Goals as goal
 
 pub make_router-requires-clause-clear : goal.make_router-requires-clause-clear

@@ -1,5 +1,5 @@
 use Rattle.std.proofs.Common.{◌≡◌, take, map, length}
-use Rattle.mesh_checks.specs.Compared.{stated_lists}
+use Rattle.mesh_config.specs.Checks.Compared.{stated_lists}
 use Rattle.mesh_config.specs.Fields.{settings_parts, stated_parts}
 use Rattle.mesh_config.specs.Senders.{HaveAllSenders, with_steps, stated_steps, HaveAllQualities}
 use Rattle.mesh_config.proofs.build.make_routers.Given as goal

@@ -1,10 +1,10 @@
 use Rattle.std.proofs.Common.{◌≡◌, Bool, None, codes, refl, sym, ap, ◌∙◌, subst}
 use Rattle.std.specs.List.{list_all}
 use Rattle.mesh_atoms.specs.Settings.{are_distinct}
-use Rattle.mesh_checks.specs.Compared.{same_sender}
+use Rattle.mesh_config.specs.Checks.Compared.{same_sender}
 use Rattle.mesh_config.specs.RunSettings.{senders_checked}
-use Rattle.mesh_checks.specs.Checks.{duplicate_unless}
-use Rattle.mesh_stated_run.specs.declared.stated.StatedRunInterface.{StatedRunInterface}
+use Rattle.mesh_config.specs.Checks.Checks.{duplicate_unless}
+use Rattle.mesh_config.specs.declared.run_tables.stated.StatedRunInterface.{StatedRunInterface}
 use Rattle.mesh_config.proofs.RunLaws.{unless_passed}
 use Rattle.mesh_config.proofs.running.checked_run.Goals as goal
 

@@ -1,7 +1,7 @@
 use Rattle.std.proofs.Common.{◌≡◌, List, [], ◌∷◌, map, sym, ap, ◌∙◌, subst}
-use Rattle.mesh_toml.specs.Faults.{first, FailsAt}
-use Rattle.mesh_checks.specs.Checks.{Identifiers, duplicates}
-use Rattle.mesh_checks.specs.Compared.{stated_identifiers}
+use Rattle.mesh_config.specs.Keys.Faults.{first, FailsAt}
+use Rattle.mesh_config.specs.Checks.Checks.{Identifiers, duplicates}
+use Rattle.mesh_config.specs.Checks.Compared.{stated_identifiers}
 use Rattle.mesh_config.specs.RunSettings.{run_identifiers}
 use Rattle.mesh_config.proofs.RunLaws.{one_named, clear_one}
 use Rattle.mesh_config.proofs.running.clear_outline.Goals as goal

@@ -2,10 +2,10 @@ use Rattle.std.proofs.Common.{◌≡◌, List, map, length, Bool, true, refl, sy
 use Rattle.std.specs.List.{list_all}
 use Rattle.mesh_atoms.specs.declared.settings.Interface.{Interface}
 use Rattle.mesh_atoms.specs.Settings.{are_distinct}
-use Rattle.mesh_checks.specs.Compared.{same_sender}
+use Rattle.mesh_config.specs.Checks.Compared.{same_sender}
 use Rattle.mesh_config.specs.RunSettings.{run_interface_fields, stated_run_interface_fields, outline_fields, stated_port}
 use Rattle.mesh_config.specs.Fields.{thresholds_of, threshold_pair}
-use Rattle.mesh_stated_run.specs.declared.stated.StatedRunInterface.{StatedRunInterface}
+use Rattle.mesh_config.specs.declared.run_tables.stated.StatedRunInterface.{StatedRunInterface}
 use Rattle.mesh_config.proofs.RunLaws.{fields_from, sound_senders, same_length}
 use Rattle.mesh_config.proofs.running.made_run.Goals as goal
 

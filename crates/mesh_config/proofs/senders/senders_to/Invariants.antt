@@ -1,5 +1,5 @@
 use Rattle.std.proofs.Common.{◌≡◌, ◌≤◌, take, map, length}
-use Rattle.mesh_checks.specs.Compared.{stated_lists}
+use Rattle.mesh_config.specs.Checks.Compared.{stated_lists}
 use Rattle.mesh_config.specs.Senders.{senders_to, sender_pair}
 use Rattle.mesh_config.proofs.senders.senders_to.Given as goal
 

@@ -1,5 +1,5 @@
 use Rattle.std.proofs.Common.{◌≡◌, take, map, length}
-use Rattle.mesh_stated.specs.Router.{stated_interface_fields}
+use Rattle.mesh_config.specs.Stated.Router.{stated_interface_fields}
 use Rattle.mesh_config.specs.RunSettings.{outline_fields}
 use Rattle.mesh_config.proofs.setup.outline_interfaces.Given as goal
 

@@ -1,7 +1,7 @@
 use Rattle.std.proofs.Common.{◌∙◌}
 use Rattle.mesh_atoms.specs.declared.settings.SenderMetric.{SenderMetric}
 use Rattle.mesh_atoms.specs.Base.{addr_eq}
-use Rattle.mesh_checks.proofs.Links.{are_distinct-map}
+use Rattle.mesh_config.proofs.ChecksLemmas.Links.{are_distinct-map}
 use Rattle.mesh_config.proofs.setup.run_interface.Goals as goal
 
 pub invariant_of-result-2-clause-distinct_senders : goal.invariant_of-result-2-clause-distinct_senders

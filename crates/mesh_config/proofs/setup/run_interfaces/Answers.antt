@@ -1,7 +1,7 @@
 use Rattle.std.proofs.Common.{ap, ◌∙◌, Bool}
 use Rattle.mesh_atoms.specs.Settings.{are_distinct}
-use Rattle.mesh_stated_run.specs.declared.stated.StatedRunInterface.{StatedRunInterface}
-use Rattle.mesh_checks.specs.Compared.{same_sender}
+use Rattle.mesh_config.specs.declared.run_tables.stated.StatedRunInterface.{StatedRunInterface}
+use Rattle.mesh_config.specs.Checks.Compared.{same_sender}
 use Rattle.mesh_config.proofs.Builds.{all_at}
 use Rattle.mesh_config.proofs.setup.run_interfaces.Goals as goal
 

@@ -1,5 +1,5 @@
 use Rattle.std.proofs.Common.{◌≡◌, take, map}
-use Rattle.mesh_stated_run.specs.declared.stated.StatedRunInterface.{StatedRunInterface}
+use Rattle.mesh_config.specs.declared.run_tables.stated.StatedRunInterface.{StatedRunInterface}
 use Rattle.mesh_config.specs.Fields.{thresholds_of, threshold_pair}
 use Rattle.mesh_config.specs.RunSettings.{run_interface_fields, stated_run_interface_fields}
 use Rattle.mesh_config.proofs.setup.run_interfaces.Given as goal

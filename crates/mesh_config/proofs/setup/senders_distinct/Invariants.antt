@@ -1,7 +1,7 @@
 use Rattle.std.proofs.Common.{◌≡◌, drop}
 use Rattle.std.specs.List.{list_all}
 use Rattle.mesh_atoms.specs.Settings.{are_distinct}
-use Rattle.mesh_checks.specs.Compared.{same_sender}
+use Rattle.mesh_config.specs.Checks.Compared.{same_sender}
 use Rattle.mesh_config.proofs.setup.senders_distinct.Given as goal
 
 abbrev pub invariant-loop-interface : goal.invariant-loop-interface

@@ -1,7 +1,0 @@
-use Rattle.std.proofs.Common.{◌≡◌, take}
-use Rattle.std.specs.List.{flat_map}
-use Rattle.mesh_checks.specs.Compared.{router_addrs}
-use Rattle.mesh_checks.proofs.checks.all_addrs.Given as goal
-
-abbrev pub invariant-loop-router : goal.invariant-loop-router
-invariant-loop-router l = l.addrs ≡ flat_map router_addrs (take l.router-index l.routers)

@@ -1,8 +1,0 @@
-use Rattle.std.proofs.Common.{◌≡◌, drop, not}
-use Rattle.std.specs.List.{list_all, list_any}
-use Rattle.mesh_atoms.specs.Settings.{is_host}
-use Rattle.mesh_checks.specs.Compared.{attaches_no_host}
-use Rattle.mesh_checks.proofs.checks.attaches_none.Given as goal
-
-abbrev pub invariant-loop-attached : goal.invariant-loop-attached
-invariant-loop-attached l = attaches_no_host l.addrs l.router ≡ list_all (λ a. not (list_any (is_host a.net) l.addrs)) (drop l.attached-index l.attached-items)

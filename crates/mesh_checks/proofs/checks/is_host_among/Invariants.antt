@@ -1,7 +1,0 @@
-use Rattle.std.proofs.Common.{◌≡◌, drop}
-use Rattle.std.specs.List.{list_any}
-use Rattle.mesh_atoms.specs.Settings.{is_host}
-use Rattle.mesh_checks.proofs.checks.is_host_among.Given as goal
-
-abbrev pub invariant-loop-addr : goal.invariant-loop-addr
-invariant-loop-addr l = list_any (is_host l.attached.net) l.addrs ≡ list_any (is_host l.attached.net) (drop l.addr-index l.addrs)

@@ -1,5 +1,0 @@
-use Rattle.std.proofs.Common.{◌≡◌, ◌++◌, take}
-use Rattle.mesh_checks.proofs.checks.put_addrs.Given as goal
-
-abbrev pub invariant-loop-addr : goal.invariant-loop-addr
-invariant-loop-addr l = l.out ≡ l.initial.out ++ take l.addr-index l.addrs

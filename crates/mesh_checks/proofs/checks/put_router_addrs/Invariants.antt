@@ -1,6 +1,0 @@
-use Rattle.std.proofs.Common.{◌≡◌, ◌++◌, take}
-use Rattle.std.specs.List.{flat_map}
-use Rattle.mesh_checks.proofs.checks.put_router_addrs.Given as goal
-
-abbrev pub invariant-loop-interface : goal.invariant-loop-interface
-invariant-loop-interface l = l.out ≡ l.initial.out ++ flat_map (λ i. i.addrs) (take l.interface-index l.interface-items)

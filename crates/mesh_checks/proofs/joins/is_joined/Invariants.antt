@@ -1,9 +1,0 @@
-use Rattle.std.proofs.Common.{◌≡◌, drop, map}
-use Rattle.std.specs.List.{list_any}
-use Rattle.mesh_atoms.specs.Settings.{ends_eq}
-use Rattle.mesh_checks.specs.Checks.{ends}
-use Rattle.mesh_checks.specs.Compared.{ends_of}
-use Rattle.mesh_checks.proofs.joins.is_joined.Given as goal
-
-abbrev pub invariant-loop-arc : goal.invariant-loop-arc
-invariant-loop-arc l = list_any (ends_eq (ends l.from l.to)) (map ends_of l.arcs) ≡ list_any (ends_eq (ends l.from l.to)) (map ends_of (drop l.arc-index l.arcs))

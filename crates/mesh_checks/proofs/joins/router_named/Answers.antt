@@ -1,6 +1,0 @@
-use Rattle.std.proofs.lemmas.Iterator.Adapters.{position_from-zero}
-use Rattle.mesh_atoms.specs.Settings.{name_eq}
-use Rattle.mesh_checks.proofs.joins.router_named.Goals as goal
-
-pub loop-at-init : goal.loop-at-init
-loop-at-init c = position_from-zero (λ r. name_eq c.args.name.now r.head.name) c.args.routers.now

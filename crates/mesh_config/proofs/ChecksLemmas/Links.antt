@@ -1,0 +1,95 @@
+-- What the tables state is what the checks look at.
+use Rattle.std.proofs.Common.{◌≡◌, ℕ, ◌+◌, List, [], ◌∷◌, map, position, Bool, not, codes, Option, Some, None, option_map, refl, sym, ap, ◌∙◌}
+use Rattle.std.specs.List.{list_all, list_any, flat_map, slice_get, position_from}
+use Rattle.std.proofs.lemmas.List.Folds.{list_all-map, flat_map-map}
+use Rattle.std.proofs.lemmas.Option.{slice_get-map}
+use Rattle.std.proofs.lemmas.Iterator.Adapters.{position_from-zero}
+use Rattle.mesh_atoms.specs.Base.{addr_eq}
+use Rattle.mesh_atoms.specs.Settings.{name_eq, are_distinct}
+use Rattle.mesh_config.specs.declared.stated.stated.StatedRouter.{StatedRouter}
+use Rattle.mesh_config.specs.declared.stated.stated.StatedInterface.{StatedInterface}
+use Rattle.mesh_config.specs.Keys.Faults.{Fault}
+use Rattle.mesh_atoms.specs.Literals.{◌>>=◌}
+use Rattle.mesh_config.specs.Checks.Checks as checks
+use Rattle.mesh_config.specs.Checks.Checks.{Identifiers, Place, duplicates, duplicate_unless, find_place}
+use Rattle.mesh_config.specs.Checks.Compared.{same_interface, same_attached, all_addrs, attaches_no_host, stated_duplicates, stated_identifiers, stated_place}
+
+list_any-map : {A B : Type 0} (p : B → Bool) (f : A → B) (xs : List A) → list_any p (map f xs) ≡ list_any (λ x. p (f x)) xs
+list_any-map p f [] = refl
+list_any-map p f (x ∷ xs) = rw (list_any-map p f xs)
+
+pub are_distinct-map : {A B : Type 0} (eq : B → B → Bool) (f : A → B) (xs : List A) → are_distinct eq (map f xs) ≡ are_distinct (λ a b. eq (f a) (f b)) xs
+are_distinct-map eq f [] = refl
+are_distinct-map eq f (x ∷ xs) = rw (list_any-map (eq (f x)) f xs, are_distinct-map eq f xs)
+
+all_same : {A : Type 0} (p q : A → Bool) → ((x : A) → p x ≡ q x) → (xs : List A) → list_all p xs ≡ list_all q xs
+all_same p q h [] = refl
+all_same p q h (x ∷ xs) = rw (h x, all_same p q h xs)
+
+position_from-map : {A B : Type 0} (p : B → Bool) (f : A → B) (i : ℕ) (xs : List A) → position_from p i (map f xs) ≡ position_from (λ x. p (f x)) i xs
+position_from-map p f i [] = refl
+position_from-map p f i (x ∷ xs) = rw (position_from-map p f (i + 1) xs)
+
+position-map : {A B : Type 0} (p : B → Bool) (f : A → B) (xs : List A) → position p (map f xs) ≡ position (λ x. p (f x)) xs
+position-map p f xs = position_from-zero p (map f xs) ∙ (position_from-map p f 0 xs ∙ sym (position_from-zero (λ x. p (f x)) xs))
+
+-- the five checks
+abbrev list_of : Bool → Bool → Bool → Bool → Bool → List (Option Fault)
+list_of a b c d e = duplicate_unless a (codes "name") ∷ duplicate_unless b (codes "name") ∷ duplicate_unless c (codes "addresses") ∷ duplicate_unless d (codes "net") ∷ duplicate_unless e (codes "net") ∷ []
+
+list_same : (a b c d e a' b' c' d' e' : Bool) → a ≡ a' → b ≡ b' → c ≡ c' → d ≡ d' → e ≡ e' → list_of a b c d e ≡ list_of a' b' c' d' e'
+list_same a b c d e a' b' c' d' e' p q r s t = rw (p, q, r, s, t)
+
+ifaces_same : (rs : List StatedRouter) → list_all (λ (r : Identifiers). are_distinct name_eq r.interface_names) (map stated_identifiers rs) ≡ list_all (λ r. are_distinct same_interface r.interfaces) rs
+ifaces_same rs =
+    list_all-map (λ (r : Identifiers). are_distinct name_eq r.interface_names) stated_identifiers rs
+    ∙ all_same _ (λ r. are_distinct same_interface r.interfaces) (λ r. are_distinct-map name_eq (λ (i : StatedInterface). i.name) r.interfaces) rs
+
+nets_same : (rs : List StatedRouter) → list_all (λ (r : Identifiers). are_distinct checks.same_net r.nets) (map stated_identifiers rs) ≡ list_all (λ r. are_distinct same_attached r.attached) rs
+nets_same rs =
+    list_all-map (λ (r : Identifiers). are_distinct checks.same_net r.nets) stated_identifiers rs
+    ∙ all_same _ (λ r. are_distinct same_attached r.attached) (λ r. are_distinct-map checks.same_net _ r.attached) rs
+
+addrs_same : (rs : List StatedRouter) → flat_map (λ (r : Identifiers). r.addrs) (map stated_identifiers rs) ≡ all_addrs rs
+addrs_same rs = flat_map-map (λ (r : Identifiers). r.addrs) stated_identifiers rs
+
+hosts_same : (rs : List StatedRouter) → list_all (checks.attaches_none (flat_map (λ (r : Identifiers). r.addrs) (map stated_identifiers rs))) (map stated_identifiers rs) ≡ list_all (attaches_no_host (all_addrs rs)) rs
+hosts_same rs =
+    rw (addrs_same rs) (list_all-map (checks.attaches_none (all_addrs rs)) stated_identifiers rs
+    ∙ all_same _ (attaches_no_host (all_addrs rs)) (λ r. list_all-map (λ n. not (list_any (checks.is_address n) (all_addrs rs))) _ r.attached) rs)
+
+pub duplicates_same : (rs : List StatedRouter) → duplicates (map stated_identifiers rs) ≡ stated_duplicates rs
+duplicates_same rs =
+    list_same _ _ _ _ _ _ _ _ _ _ (are_distinct-map checks.same_name stated_identifiers rs) (ifaces_same rs) (ap (are_distinct addr_eq) (addrs_same rs)) (nets_same rs) (hosts_same rs)
+
+-- a place looked up
+abbrev both : ℕ → ℕ → Option (ℕ × ℕ)
+both a b = Some (a, b)
+
+iface_same : (p : Place) (router : ℕ) (found : Option StatedRouter)
+    → (option_map stated_identifiers found >>= λ r. position (name_eq p.1) r.interface_names >>= λ iface. both router iface)
+    ≡ (found >>= λ r. position (λ i. name_eq p.1 i.name) r.interfaces >>= λ iface. both router iface)
+iface_same p router None = refl
+iface_same p router (Some r) = rw (position-map (name_eq p.1) (λ (i : StatedInterface). i.name) r.interfaces)
+
+router_same : (rs : List StatedRouter) (p : Place) (found : Option ℕ)
+    → (found >>= λ router. slice_get (map stated_identifiers rs) router >>= λ r. position (name_eq p.1) r.interface_names >>= λ iface. both router iface)
+    ≡ (found >>= λ router. slice_get rs router >>= λ r. position (λ i. name_eq p.1 i.name) r.interfaces >>= λ iface. both router iface)
+router_same rs p None = refl
+router_same rs p (Some router) = rw (slice_get-map stated_identifiers rs router) (iface_same p router (slice_get rs router))
+
+pub place_same : (rs : List StatedRouter) (p : Place) → find_place (map stated_identifiers rs) p ≡ stated_place rs p
+place_same rs p = rw (position-map (λ (r : Identifiers). name_eq p.0 r.router_name) stated_identifiers rs) (router_same rs p (position (λ r. name_eq p.0 r.head.name) rs))
+
+-- a place that was looked up step by step
+abbrev iface_in : List ℕ → ℕ → StatedRouter → Option (ℕ × ℕ)
+iface_in name router r = position (λ i. name_eq name i.name) r.interfaces >>= λ iface. both router iface
+
+abbrev router_in : List StatedRouter → List ℕ → ℕ → Option (ℕ × ℕ)
+router_in rs name router = slice_get rs router >>= iface_in name router
+
+pub place_found : (rs : List StatedRouter) (called name : List ℕ) (at iface : ℕ) (r : StatedRouter) → Some at ≡ position (λ r. name_eq called r.head.name) rs → Some r ≡ slice_get rs at
+    → Some iface ≡ position (λ i. name_eq name i.name) r.interfaces → Some (at, iface) ≡ stated_place rs (called, name)
+place_found rs called name at iface r here is there =
+    ap (λ (o : Option ℕ). o >>= λ iface. both at iface) there
+    ∙ (ap (λ (o : Option StatedRouter). o >>= iface_in name at) is ∙ ap (λ (o : Option ℕ). o >>= router_in rs name) here)

@@ -1,0 +1,107 @@
+-- Tables of which each has a number above that of the one before.
+use Rattle.std.proofs.Common.{◌≡◌, ℕ, ◌+◌, ◌<◌, ◌≤◌, List, [], ◌∷◌, ◌++◌, map, true, false, Bool, nat_lt, if◌then◌else◌, Option, Some, None, Ok, Err, refl, ap, ◌∙◌, sym, length, get_or, drop, arith}
+use Rattle.std.specs.List.{list_all}
+use Rattle.std.proofs.lemmas.Bool.{and_from, lt-ltb, ltb-false}
+use Rattle.std.proofs.lemmas.List.{drop_more}
+use Rattle.toml.specs.Data.{Data, Members, string, integer, float, boolean, datetime, array, table}
+use Rattle.toml.specs.View.{view}
+use Rattle.toml.specs.declared.value.Value.{Value}
+use Rattle.mesh_atoms.specs.Settings.{are_ascending}
+use Rattle.mesh_config.specs.declared.keys.fault.ConfigFault.{ConfigFault}
+use Rattle.mesh_config.specs.Keys.Faults.{Fault, Read, first, visit, bad_value, FailsAt}
+use Rattle.mesh_config.specs.Keys.Values.{ticks}
+use Rattle.mesh_config.specs.Stated.Tables.{Each, table_of, element_visits, no_less, one_above, rising_visits}
+use Rattle.mesh_config.proofs.StatedLemmas.Elements.{first_passes, fails_first}
+
+-- one table after the other
+module _ (visits : ℕ → Members → List (Option Fault)) (number : Members → Read ℕ) (key : List ℕ) where
+  pub rising_fail : (vs : List Value) (i least : ℕ) (v : Value) (e : ConfigFault) → v ≡ get_or vs i v → i < length vs
+      → FailsAt e (first (element_visits (visits least) key (view v))) → FailsAt e (first (rising_visits visits number key least (map view (drop i vs))))
+  rising_fail vs i least v e here within h =
+      let at : drop i vs ≡ v ∷ drop (i + 1) vs = drop_more vs i v within ∙ ap (λ (w : Value). w ∷ drop (i + 1) vs) (sym here) in
+      rw at (fails_first e (element_visits (visits least) key (view v)) (rising_visits visits number key (one_above (number (table_of (view v)))) (map view (drop (i + 1) vs))) h)
+
+  pub rising_pass : (vs : List Value) (i least n : ℕ) (v : Value) → v ≡ get_or vs i v → i < length vs
+      → first (element_visits (visits least) key (view v)) ≡ None → number (table_of (view v)) ≡ Ok n
+      → first (rising_visits visits number key least (map view (drop i vs))) ≡ first (rising_visits visits number key (n + 1) (map view (drop (i + 1) vs)))
+  rising_pass vs i least n v here within h numbered =
+      let at : drop i vs ≡ v ∷ drop (i + 1) vs = drop_more vs i v within ∙ ap (λ (w : Value). w ∷ drop (i + 1) vs) (sym here) in
+      rw at (first_passes (element_visits (visits least) key (view v)) (rising_visits visits number key (one_above (number (table_of (view v)))) (map view (drop (i + 1) vs))) h
+      ∙ ap (λ (r : Read ℕ). first (rising_visits visits number key (one_above r) (map view (drop (i + 1) vs)))) numbered)
+
+-- no fault in two lists
+none_both : (a b : List (Option Fault)) → first (a ++ b) ≡ None → (first a ≡ None) × (first b ≡ None)
+none_both [] b h = (refl, h)
+none_both (None ∷ a) b h = none_both a b h
+none_both (Some f ∷ a) b h = absurd cc
+
+-- an element without a fault is a table without one
+none_within : (visits : Members → List (Option Fault)) (key : List ℕ) (d : Data) → first (element_visits visits key d) ≡ None → first (visits (table_of d)) ≡ None
+none_within visits key (table t) h = h
+none_within visits key (string s) h = absurd cc
+none_within visits key (integer n) h = absurd cc
+none_within visits key (float x) h = absurd cc
+none_within visits key (boolean b) h = absurd cc
+none_within visits key (datetime t) h = absurd cc
+none_within visits key (array ds) h = absurd cc
+
+-- the number of a table without a fault
+pub record Numbered (least : ℕ) (read : Read ℕ) : Type 0 where
+  pub number : ℕ
+  pub is_read : read ≡ Ok number
+  pub no_less : least ≤ number
+
+unless_some : (b : Bool) (f : Fault) → (if b then Some f else None) ≡ None → b ≡ false
+unless_some false f h = refl
+unless_some true f h = absurd cc
+
+number_of : (least : ℕ) (key : List ℕ) (read : Read ℕ) → visit read ≡ None → no_less least key read ≡ None → Numbered least read
+number_of least key (Err f) h k = absurd cc
+number_of least key (Ok n) h k = record { number = n; is_read = refl; no_less = ltb-false n least (unless_some (nat_lt n least) (bad_value key) k) }
+
+-- the visits of a table: its known keys, its number, that it is no less, and more
+pub numbered : (least : ℕ) (key : List ℕ) (known : Option Fault) (read : Read ℕ) (more : List (Option Fault)) → first (known ∷ visit read ∷ no_less least key read ∷ more) ≡ None → Numbered least read
+numbered least key known read more h =
+    let a = none_both (known ∷ []) (visit read ∷ no_less least key read ∷ more) h in
+    let b = none_both (visit read ∷ []) (no_less least key read ∷ more) a.1 in
+    let c = none_both (no_less least key read ∷ []) more b.1 in
+    number_of least key read (one_none (visit read) b.0) (one_none (no_less least key read) c.0) where
+      one_none : (v : Option Fault) → first (v ∷ []) ≡ None → v ≡ None
+      one_none None h = refl
+      one_none (Some f) h = absurd cc
+
+-- what they stand for ascends, where each stands at a place that rises with the number of its table
+module _ {X : Type 0} (Is : Members → X → Type 0) (visits : ℕ → Members → List (Option Fault)) (number : Members → Read ℕ) (key : List ℕ) (place : X → ℕ) (turn : ℕ → ℕ)
+    (rises : (m n : ℕ) → m < n → turn m < turn n) (placed : (t : Members) (x : X) (n : ℕ) → number t ≡ Ok n → Is t x → place x ≡ turn n)
+    (read : (least : ℕ) (t : Members) → first (visits least t) ≡ None → Numbered least (number t)) where
+  above : (m least : ℕ) (ds : List Data) (xs : List X) → m < least → first (rising_visits visits number key least ds) ≡ None → Each Is ds xs → list_all (nat_lt (turn m)) (map place xs) ≡ true
+  above m least [] [] less none all = refl
+  above m least [] (x ∷ xs) less none all = absurd all
+  above m least (d ∷ ds) [] less none all = absurd all
+  above m least (d ∷ ds) (x ∷ xs) less none all =
+      let parts = none_both (element_visits (visits least) key d) (rising_visits visits number key (one_above (number (table_of d))) ds) none in
+      let n = read least (table_of d) (none_within (visits least) key d parts.0) in
+      let at : place x ≡ turn n.number = placed (table_of d) x n.number n.is_read all.0 in
+      let rest : first (rising_visits visits number key (n.number + 1) ds) ≡ None =
+      sym (ap (λ (r : Read ℕ). first (rising_visits visits number key (one_above r) ds)) n.is_read) ∙ parts.1 in
+      and_from (nat_lt (turn m) (place x)) (list_all (nat_lt (turn m)) (map place xs))
+      (rw at (lt-ltb (turn m) (turn n.number) (rises m n.number (omega (arith, less, n.no_less)))))
+      (above m (n.number + 1) ds xs (omega (arith, less, n.no_less)) rest all.1)
+
+  pub rising_ascends : (least : ℕ) (ds : List Data) (xs : List X) → first (rising_visits visits number key least ds) ≡ None → Each Is ds xs → are_ascending (map place xs) ≡ true
+  rising_ascends least [] [] none all = refl
+  rising_ascends least [] (x ∷ xs) none all = absurd all
+  rising_ascends least (d ∷ ds) [] none all = absurd all
+  rising_ascends least (d ∷ ds) (x ∷ xs) none all =
+      let parts = none_both (element_visits (visits least) key d) (rising_visits visits number key (one_above (number (table_of d))) ds) none in
+      let n = read least (table_of d) (none_within (visits least) key d parts.0) in
+      let at : place x ≡ turn n.number = placed (table_of d) x n.number n.is_read all.0 in
+      let rest : first (rising_visits visits number key (n.number + 1) ds) ≡ None =
+      sym (ap (λ (r : Read ℕ). first (rising_visits visits number key (one_above r) ds)) n.is_read) ∙ parts.1 in
+      and_from (list_all (nat_lt (place x)) (map place xs)) (are_ascending (map place xs))
+      (rw at (above n.number (n.number + 1) ds xs (omega arith) rest all.1))
+      (rising_ascends (n.number + 1) ds xs rest all.1)
+
+-- a millisecond later is at least a tick later
+pub ticks_rise : (m n : ℕ) → m < n → ticks m < ticks n
+ticks_rise m n less = omega (arith, less)

@@ -1,0 +1,14 @@
+use Rattle.std.proofs.Common.{◌≡◌, [], drop, take, map, length}
+use Rattle.mesh_config.specs.Checks.Checks.{joins}
+use Rattle.mesh_config.specs.Checks.Compared.{stated_identifiers, arc_places, ends_of}
+use Rattle.mesh_config.specs.Stated.Scenario.{stated_arc_fields}
+use Rattle.mesh_config.specs.Checks.Compared.{arc_fields}
+use Rattle.mesh_config.proofs.ChecksLemmas.JoinLaws.{after_front}
+use Rattle.mesh_config.proofs.checks.joins.all_joined.Given as goal
+
+abbrev pub invariant-loop-arc : goal.invariant-loop-arc
+invariant-loop-arc l = record {
+  read : joins (map stated_identifiers l.routers) [] (map arc_places l.arcs) ≡ after_front (map ends_of l.all) (joins (map stated_identifiers l.routers) (map ends_of l.all) (map arc_places (drop l.arc-index l.arcs)));
+  says : map arc_fields l.all ≡ map stated_arc_fields (take l.arc-index l.arcs);
+  size : length l.all ≡ l.arc-index;
+}

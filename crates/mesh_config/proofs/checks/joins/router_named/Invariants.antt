@@ -1,0 +1,7 @@
+use Rattle.std.proofs.Common.{◌≡◌, drop, position}
+use Rattle.std.specs.List.{position_from}
+use Rattle.mesh_atoms.specs.Settings.{name_eq}
+use Rattle.mesh_config.proofs.checks.joins.router_named.Given as goal
+
+abbrev pub invariant-loop-at : goal.invariant-loop-at
+invariant-loop-at l = position (λ r. name_eq l.name r.head.name) l.routers ≡ position_from (λ r. name_eq l.name r.head.name) l.at (drop l.at l.routers)

@@ -1,0 +1,5 @@
+use Rattle.std.proofs.Common.{◌≡◌, take, map}
+use Rattle.mesh_config.proofs.run_tables.neighbours.senders_of.Given as goal
+
+abbrev pub invariant-loop-neighbour : goal.invariant-loop-neighbour
+invariant-loop-neighbour l = l.senders ≡ map (λ n. n.cost) (take l.neighbour-index l.neighbours)

@@ -1,0 +1,150 @@
+-- The tables of `run`: neighbours, interfaces with their ports, the router, and the top.
+use Rattle.std.specs.Prelude.{◌≡◌, ℕ, List, [], ◌∷◌, codes, map, Ok}
+use Rattle.toml.specs.Data.{Data, Members, as_table}
+use Rattle.mesh_atoms.specs.declared.addr.Addr4.{Addr4}
+use Rattle.mesh_codes.specs.declared.metric.Metric.{Metric}
+use Rattle.mesh_atoms.specs.declared.settings.Port.{Port}
+use Rattle.mesh_atoms.specs.declared.settings.SenderMetric.{SenderMetric}
+use Rattle.mesh_atoms.specs.declared.admit.SenderQuality.{SenderQuality}
+use Rattle.mesh_config.specs.declared.run_tables.stated.StatedNeighbour.{StatedNeighbour}
+use Rattle.mesh_config.specs.declared.run_tables.stated.StatedRunInterface.{StatedRunInterface}
+use Rattle.mesh_config.specs.declared.run_tables.stated.StatedRunRouter.{StatedRunRouter}
+use Rattle.mesh_config.specs.declared.run_tables.stated.StatedRun.{StatedRun}
+use Rattle.mesh_config.specs.Keys.Faults.{Read, Visits, visit, first, listed}
+use Rattle.mesh_config.specs.Keys.Values.{optional, required, whole, text, array_or_none, each_turned, unknown, is_one_of}
+use Rattle.mesh_atoms.specs.Literals.{address_of, endpoint_of}
+use Rattle.mesh_config.specs.Keys.Ports.{port_of}
+use Rattle.mesh_config.specs.Stated.Tables.{tables_visits, Each}
+use Rattle.mesh_config.specs.Stated.Steps.{steps_visits, StepsAre}
+use Rattle.mesh_config.specs.Stated.Times.{TimesIs}
+use Rattle.mesh_config.specs.Stated.Router.{name, addresses, named_visits, metric_asked, IsMetric, head_visits, HeadIs, interfaces, networks_visits, attached, AttachedIs}
+use Rattle.mesh_config.specs.Stated.Scenario.{end_moment, times_part, sub_times}
+use Rattle.mesh_config.specs.Keys.Values.{table_read}
+
+-- ---- a neighbour
+
+-- the address from which the neighbour sends, other than 0.0.0.0; it must stand
+abbrev pub address : Members → Read Addr4
+address = required (text address_of) (codes "address")
+
+-- the keys that the table of a neighbour may have
+abbrev pub neighbour_keys : List (List ℕ)
+neighbour_keys = codes "address" ∷ codes "metric" ∷ codes "quality" ∷ []
+
+-- the table of a neighbour is visited: its least unknown key, its address, its metric, and the qualities of what it sends
+abbrev pub neighbour_visits : Members → Visits
+neighbour_visits table =
+    unknown (is_one_of neighbour_keys) table ∷ visit (address table) ∷ visit (metric_asked table) ∷ first (steps_visits table) ∷ []
+
+-- the metric of what the neighbour sends
+pub record NeighbourIs (table : Members) (sender : SenderMetric) : Type 0 where
+  pub is_sender : address table ≡ Ok sender.sender
+  pub is_metric : IsMetric (metric_asked table) sender.metric
+
+-- the qualities of what the neighbour sends
+pub record QualityIs (table : Members) (quality : SenderQuality) : Type 0 where
+  pub is_sender : address table ≡ Ok quality.sender
+  pub are_steps : StepsAre table quality.steps
+
+-- the stated neighbour is what its table says
+pub record StatedNeighbourIs (table : Members) (neighbour : StatedNeighbour) : Type 0 where
+  pub is_sender : NeighbourIs table neighbour.cost
+  pub are_steps : StepsAre table neighbour.steps
+
+-- ---- an interface with its port
+
+-- where it receives: an address with a port from 1 to 65535; it must stand
+abbrev pub local : Members → Read (Addr4 × ℕ)
+local = required (text endpoint_of) (codes "local")
+
+-- where it sends to: at most 64 of these; none where they are absent
+abbrev pub peers : Members → Read (List (Addr4 × ℕ))
+peers table = each_turned (text endpoint_of) (codes "peers") (array_or_none 64 (codes "peers") table)
+
+-- the number that its own metric must be at least: that of what it receives from any but its neighbours; 1 where it is absent
+abbrev pub own_metric_asked : Members → Read ℕ
+own_metric_asked = optional 1 (whole 1 16776960) (codes "metric")
+
+-- the elements that are to be the tables of its neighbours, at most 1,024; none where they are absent
+abbrev pub neighbours : Members → Read (List Data)
+neighbours = array_or_none 1024 (codes "neighbour")
+
+-- the keys that the table of an interface may have, for `run`
+abbrev pub run_interface_keys : List (List ℕ)
+run_interface_keys =
+    codes "name" ∷ codes "addresses" ∷ codes "local" ∷ codes "peers" ∷ codes "metric" ∷ codes "neighbour" ∷ []
+
+-- the number of the neighbours is visited, and then the table of each
+abbrev pub neighbours_visits : Members → Visits
+neighbours_visits table = visit (neighbours table) ∷ tables_visits neighbour_visits (codes "neighbour") (listed (neighbours table))
+
+-- where the interface receives is visited, and then where it sends to
+abbrev pub port_visits : Members → Visits
+port_visits table = visit (local table) ∷ visit (peers table) ∷ []
+
+-- its own metric is visited, and then its neighbours
+abbrev pub cost_visits : Members → Visits
+cost_visits table = visit (own_metric_asked table) ∷ first (neighbours_visits table) ∷ []
+
+-- the table of an interface is visited: its least unknown key, its name and addresses, its port, and the metrics of what it receives
+abbrev pub run_interface_visits : Members → Visits
+run_interface_visits table =
+    unknown (is_one_of run_interface_keys) table ∷ first (named_visits table) ∷ first (port_visits table) ∷ first (cost_visits table) ∷ []
+
+-- where an interface receives, and where it sends to
+pub record PortSays (table : Members) (port : Port) : Type 0 where
+  pub is_local : local table ≡ Ok (port_of port.local)
+  pub are_peers : peers table ≡ Ok (map port_of port.peers)
+
+-- the metrics of what an interface receives: its own, and those of its neighbours; and the qualities of these
+pub record AreCosts (table : Members) (metric : Metric) (senders : List SenderMetric) (qualities : List SenderQuality) : Type 0 where
+  pub is_metric : IsMetric (own_metric_asked table) metric
+  pub are_senders : Each NeighbourIs (listed (neighbours table)) senders
+  pub are_qualities : Each QualityIs (listed (neighbours table)) qualities
+
+-- the stated interface is what its table says
+pub record RunInterfaceIs (table : Members) (interface : StatedRunInterface) : Type 0 where
+  pub is_name : name table ≡ Ok interface.name
+  pub is_addrs : addresses table ≡ Ok interface.addrs
+  pub is_local : local table ≡ Ok (port_of interface.local)
+  pub are_peers : peers table ≡ Ok (map port_of interface.peers)
+  pub are_costs : AreCosts table interface.metric interface.senders interface.qualities
+
+-- ---- the router and the top
+
+-- the number of the interfaces is visited, and then the table of each
+abbrev pub run_interfaces_visits : Members → Visits
+run_interfaces_visits table = visit (interfaces table) ∷ tables_visits run_interface_visits (codes "interface") (listed (interfaces table))
+
+-- the table of the router is visited: what comes before its interfaces, these, and the networks that it attaches
+abbrev pub run_router_visits : Members → Visits
+run_router_visits table = first (head_visits table) ∷ first (run_interfaces_visits table) ∷ first (networks_visits table) ∷ []
+
+-- the stated router is what its table says, with each interface and each attached network as its own table says it
+pub record RunRouterIs (table : Members) (router : StatedRunRouter) : Type 0 where
+  pub is_head : HeadIs table router.head
+  pub are_interfaces : Each RunInterfaceIs (listed (interfaces table)) router.interfaces
+  pub are_attached : Each AttachedIs (listed (attached table)) router.attached
+
+-- the table of the router, which is one alone; it must stand
+abbrev pub router_table : Members → Read Members
+router_table = required as_table (codes "router")
+
+-- it is visited whether the router is a table, and then what stands in it
+abbrev pub router_part : Members → Visits
+router_part table = visit (router_table table) ∷ first (run_router_visits (table_read (router_table table))) ∷ []
+
+-- the keys that the top table of `run` may have
+abbrev pub run_keys : List (List ℕ)
+run_keys = codes "end_ms" ∷ codes "times" ∷ codes "router" ∷ []
+
+-- the top table is visited: its least unknown key, the end, the times and the router
+abbrev pub run_table_visits : Members → Visits
+run_table_visits table =
+    unknown (is_one_of run_keys) table ∷ visit (end_moment table) ∷ first (times_part table) ∷ first (router_part table) ∷ []
+
+-- what is stated is what the top table and the tables in it say; the end is in ticks
+pub record RunIs (table : Members) (run : StatedRun) : Type 0 where
+  pub is_end : end_moment table ≡ Ok run.end
+  pub are_times : TimesIs (sub_times table) run.times
+  pub is_router : RunRouterIs (table_read (router_table table)) run.router

@@ -1,0 +1,217 @@
+-- The tables of a router: its interfaces, and the networks that it attaches.
+use Rattle.std.specs.Prelude.{◌≡◌, ◌≤◌, ℕ, List, [], ◌∷◌, codes, Ok, Err}
+use Rattle.toml.specs.Data.{Data, Members}
+use Rattle.mesh_atoms.specs.declared.addr.Addr4.{Addr4}
+use Rattle.mesh_atoms.specs.declared.hello.Willing.{Willing}
+use Rattle.mesh_codes.specs.declared.metric.Metric.{Metric}
+use Rattle.mesh_atoms.specs.declared.settings.Attached4.{Attached4}
+use Rattle.mesh_atoms.specs.declared.settings.NearHold.{NearHold}
+use Rattle.mesh_codes.specs.Codes.{metric_value}
+use Rattle.mesh_atoms.specs.Literals.{name_of, address_of, net_of}
+use Rattle.mesh_config.specs.declared.stated.stated.StatedRouter.{StatedRouter}
+use Rattle.mesh_config.specs.declared.stated.stated.RouterHead.{RouterHead}
+use Rattle.mesh_config.specs.declared.stated.stated.RouterRules.{RouterRules}
+use Rattle.mesh_config.specs.declared.stated.stated.StatedInterface.{StatedInterface}
+use Rattle.mesh_config.specs.Keys.Faults.{Read, Visits, visit, first, listed, then_turned}
+use Rattle.mesh_config.specs.Keys.Values.{optional, required, whole, text, array, array_or_none, each_turned, unknown, is_one_of, ticks}
+use Rattle.mesh_config.specs.Stated.Tables.{tables_visits, Each}
+use Rattle.mesh_config.specs.Stated.Rules.{threshold_visits, AreThresholds, tc_visits, AreTcs}
+
+-- a moment up to an hour, in ticks; 0 where it is absent
+abbrev pub moment : List ℕ → Members → Read ℕ
+moment key table = then_turned ticks (optional 0 (whole 0 3600000) key table)
+
+-- a name
+abbrev pub name : Members → Read (List ℕ)
+name = required (text name_of) (codes "name")
+
+-- the metric is the least that is at least the number asked for
+pub record RoundsUp (asked : ℕ) (metric : Metric) : Type 0 where
+  pub enough : asked ≤ metric_value metric
+  pub least : (other : Metric) → asked ≤ metric_value other → metric.code ≤ other.code
+
+-- the metric rounds up the number that is read; none does where a fault stands
+abbrev pub IsMetric : Read ℕ → Metric → Type 0
+IsMetric (Ok asked) metric = RoundsUp asked metric
+IsMetric (Err f) metric = ⊥
+
+-- the number that a metric must be at least; it must stand
+abbrev pub metric_asked : Members → Read ℕ
+metric_asked = required (whole 1 16776960) (codes "metric")
+
+-- ---- an interface
+
+-- its 1 to 4 addresses, none of them 0.0.0.0
+abbrev pub addresses : Members → Read (List Addr4)
+addresses table = each_turned (text address_of) (codes "addresses") (array 1 4 (codes "addresses") table)
+
+-- the keys that the table of an interface may have, in a scenario
+abbrev pub interface_keys : List (List ℕ)
+interface_keys = codes "name" ∷ codes "addresses" ∷ []
+
+-- its name is visited, and then its addresses
+abbrev pub named_visits : Members → Visits
+named_visits table = visit (name table) ∷ visit (addresses table) ∷ []
+
+-- the table of an interface is visited: its least unknown key first, and then its name and its addresses
+abbrev pub interface_visits : Members → Visits
+interface_visits table = unknown (is_one_of interface_keys) table ∷ named_visits table
+
+-- what the table of an interface says
+pub record InterfaceFields : Type 0 where
+  pub interface_name : List ℕ
+  pub addrs : List Addr4
+
+-- the fields hold the name and the addresses that the table has, both without a fault
+pub record AreInterfaceFields (table : Members) (fields : InterfaceFields) : Type 0 where
+  pub is_name : name table ≡ Ok fields.interface_name
+  pub is_addrs : addresses table ≡ Ok fields.addrs
+
+-- what a stated interface keeps of its table
+abbrev pub stated_interface_fields : StatedInterface → InterfaceFields
+stated_interface_fields stated = record { interface_name = stated.name; addrs = stated.addrs }
+
+-- the stated interface is what the table of an interface says
+abbrev pub InterfaceIs : Members → StatedInterface → Type 0
+InterfaceIs table stated = AreInterfaceFields table (stated_interface_fields stated)
+
+-- ---- an attached network
+
+-- a network: its address, and its prefix of 0 to 32 bits; it must stand
+abbrev pub net : Members → Read (Addr4 × ℕ)
+net = required (text net_of) (codes "net")
+
+-- how far it is behind the router, from 0 to 255 hops (AL_dist of RFC 7181, section 7.2); 1 where it is absent
+abbrev pub distance : Members → Read ℕ
+distance = optional 1 (whole 0 255) (codes "distance")
+
+-- the keys that the table of an attached network may have
+abbrev pub attached_keys : List (List ℕ)
+attached_keys = codes "net" ∷ codes "metric" ∷ codes "distance" ∷ []
+
+-- the table of an attached network is visited: its least unknown key, and then its keys in their order
+abbrev pub attached_visits : Members → Visits
+attached_visits table =
+    unknown (is_one_of attached_keys) table ∷ visit (net table) ∷ visit (metric_asked table) ∷ visit (distance table) ∷ []
+
+-- the attached network is what its table says, with its metric rounded up
+pub record AttachedIs (table : Members) (attached : Attached4) : Type 0 where
+  pub is_net : net table ≡ Ok (attached.net.addr, attached.net.prefix)
+  pub is_metric : IsMetric (metric_asked table) attached.metric
+  pub is_distance : distance table ≡ Ok attached.distance
+
+-- ---- a router
+
+-- the willingness for flooding, from 0 (WILL_NEVER) to 15 (WILL_ALWAYS); 7 (WILL_DEFAULT) where it is absent
+abbrev pub flooding : Members → Read ℕ
+flooding = optional 7 (whole 0 15) (codes "flooding")
+
+-- the willingness for routing, in the same range and with the same default
+abbrev pub routing : Members → Read ℕ
+routing = optional 7 (whole 0 15) (codes "routing")
+
+-- the moment of the first HELLO, in ticks; 0 where it is absent
+abbrev pub hello_at : Members → Read ℕ
+hello_at = moment (codes "hello_at_ms")
+
+-- the moment of the first TC, in ticks; 0 where it is absent
+abbrev pub tc_at : Members → Read ℕ
+tc_at = moment (codes "tc_at_ms")
+
+-- the elements that are to be the tables of its interfaces, from 1 to 8; they must stand
+abbrev pub interfaces : Members → Read (List Data)
+interfaces = array 1 8 (codes "interface")
+
+-- the elements that are to be the tables of the networks that it attaches, at most 64; none where they are absent
+abbrev pub attached : Members → Read (List Data)
+attached = array_or_none 64 (codes "attached")
+
+-- the keys that the table of a router may have
+abbrev pub router_keys : List (List ℕ)
+router_keys =
+    codes "name" ∷ codes "flooding" ∷ codes "routing" ∷ codes "hyst_accept" ∷ codes "hyst_reject" ∷ codes "tc_rows" ∷ codes "near_hold"
+    ∷ codes "hello_at_ms" ∷ codes "tc_at_ms" ∷ codes "interface" ∷ codes "attached" ∷ []
+
+-- the willingness for flooding is visited, and then that for routing
+abbrev pub willing_visits : Members → Visits
+willing_visits table = visit (flooding table) ∷ visit (routing table) ∷ []
+
+-- the moment of the first HELLO is visited, and then that of the first TC
+abbrev pub start_visits : Members → Visits
+start_visits table = visit (hello_at table) ∷ visit (tc_at table) ∷ []
+
+-- the keys of a router between its name and its interfaces
+abbrev pub rule_visits : Members → Visits
+rule_visits table =
+    first (willing_visits table) ∷ first (threshold_visits table) ∷ first (tc_visits table) ∷ first (start_visits table) ∷ []
+
+-- what comes before the interfaces is visited: the least unknown key of the table, the name, and the rules
+abbrev pub head_visits : Members → Visits
+head_visits table = unknown (is_one_of router_keys) table ∷ visit (name table) ∷ first (rule_visits table) ∷ []
+
+-- the number of the interfaces is visited, and then the table of each
+abbrev pub interfaces_visits : Members → Visits
+interfaces_visits table = visit (interfaces table) ∷ tables_visits interface_visits (codes "interface") (listed (interfaces table))
+
+-- the number of the attached networks is visited, and then the table of each
+abbrev pub networks_visits : Members → Visits
+networks_visits table = visit (attached table) ∷ tables_visits attached_visits (codes "attached") (listed (attached table))
+
+-- the table of a router is visited: what comes before its interfaces, these, and the networks that it attaches
+abbrev pub router_visits : Members → Visits
+router_visits table = first (head_visits table) ∷ first (interfaces_visits table) ∷ first (networks_visits table) ∷ []
+
+-- what the table of a router says of the router itself, but for the thresholds of its links
+pub record RouterFields : Type 0 where
+  pub router_name : List ℕ
+  pub willing : Willing
+  pub tc_rows : ℕ
+  pub near_hold : List NearHold
+  pub hello_at : ℕ
+  pub tc_at : ℕ
+
+-- the table says this willingness for flooding and for routing
+pub record IsWilling (table : Members) (willing : Willing) : Type 0 where
+  pub is_flooding : flooding table ≡ Ok willing.flooding
+  pub is_routing : routing table ≡ Ok willing.routing
+
+-- the moments of the first HELLO and of the first TC
+pub record AreStarts (table : Members) (hello_at_read tc_at_read : ℕ) : Type 0 where
+  pub is_hello_at : hello_at table ≡ Ok hello_at_read
+  pub is_tc_at : tc_at table ≡ Ok tc_at_read
+
+-- the table says these fields, each without a fault
+pub record AreRouterFields (table : Members) (fields : RouterFields) : Type 0 where
+  pub is_name : name table ≡ Ok fields.router_name
+  pub is_willing : IsWilling table fields.willing
+  pub are_tcs : AreTcs table fields.tc_rows fields.near_hold
+  pub are_starts : AreStarts table fields.hello_at fields.tc_at
+
+-- the fields of what a stated router keeps of itself
+abbrev pub head_fields : RouterHead → RouterFields
+head_fields head = record {
+  router_name = head.name;
+  willing = head.willing;
+  tc_rows = head.tc_rows;
+  near_hold = head.near_hold;
+  hello_at = head.hello_at;
+  tc_at = head.tc_at;
+}
+
+-- what the table says besides the name
+pub record RulesAre (table : Members) (rules : RouterRules) : Type 0 where
+  pub is_willing : IsWilling table rules.willing
+  pub are_thresholds : AreThresholds table rules.thresholds.accept rules.thresholds.reject
+  pub are_tcs : AreTcs table rules.tc_rows rules.near_hold
+  pub are_starts : AreStarts table rules.hello_at rules.tc_at
+
+-- what is kept of the router itself is what the table says: its fields, and the thresholds of its links
+pub record HeadIs (table : Members) (head : RouterHead) : Type 0 where
+  pub are_fields : AreRouterFields table (head_fields head)
+  pub are_thresholds : AreThresholds table head.thresholds.accept head.thresholds.reject
+
+-- the stated router is what its table says, with each interface and each attached network as its own table says it
+pub record RouterIs (table : Members) (router : StatedRouter) : Type 0 where
+  pub is_head : HeadIs table router.head
+  pub are_interfaces : Each InterfaceIs (listed (interfaces table)) router.interfaces
+  pub are_attached : Each AttachedIs (listed (attached table)) router.attached

@@ -1,0 +1,82 @@
+-- What the table of a router says of the links that it admits, and of its TCs.
+use Rattle.std.specs.Prelude.{◌≡◌, ℕ, List, [], ◌∷◌, codes, Ok, Err}
+use Rattle.toml.specs.Data.{Data, Members}
+use Rattle.mesh_atoms.specs.declared.settings.NearHold.{NearHold}
+use Rattle.mesh_config.specs.Keys.Faults.{Read, Visits, visit, first, listed, then_turned}
+use Rattle.mesh_config.specs.Keys.Values.{optional, required, whole, array_or_none, unknown, is_one_of, ticks}
+use Rattle.mesh_config.specs.Stated.Tables.{Each, no_less, rising_visits}
+
+-- ---- thresholds
+
+-- the quality from which on a link is accepted (HYST_ACCEPT of RFC 6130), in hundredths from 0 to 100; 0 where it is absent
+abbrev pub hyst_accept : Members → Read ℕ
+hyst_accept = optional 0 (whole 0 100) (codes "hyst_accept")
+
+-- a number that is read; 0 where a fault stands
+abbrev pub or_zero : Read ℕ → ℕ
+or_zero (Ok n) = n
+or_zero (Err f) = 0
+
+-- the quality below which a link is rejected is no greater than the one from which on it is accepted
+abbrev pub hyst_reject : Members → Read ℕ
+hyst_reject table = optional 0 (whole 0 (or_zero (hyst_accept table))) (codes "hyst_reject") table
+
+-- the quality to accept from is visited, and then the one to reject below
+abbrev pub threshold_visits : Members → Visits
+threshold_visits table = visit (hyst_accept table) ∷ visit (hyst_reject table) ∷ []
+
+-- the table says these two qualities, both without a fault
+pub record AreThresholds (table : Members) (accept reject : ℕ) : Type 0 where
+  pub is_accept : hyst_accept table ≡ Ok accept
+  pub is_reject : hyst_reject table ≡ Ok reject
+
+-- ---- a near hold
+
+-- the number of hops up to which it counts, from 1 to 254; it must stand
+abbrev pub hops : Members → Read ℕ
+hops = required (whole 1 254) (codes "hops")
+
+-- how long what a TC says is held so near, from 100 ms to an hour, in ticks; it must stand
+abbrev pub near_hold_ms : Members → Read ℕ
+near_hold_ms table = then_turned ticks (required (whole 100 3600000) (codes "hold_ms") table)
+
+-- the keys that the table of a near hold may have
+abbrev pub near_hold_keys : List (List ℕ)
+near_hold_keys = codes "hops" ∷ codes "hold_ms" ∷ []
+
+-- the visits of a near hold, whose hops are to be no fewer than so many
+abbrev pub near_hold_visits : ℕ → Members → Visits
+near_hold_visits least table =
+    unknown (is_one_of near_hold_keys) table ∷ visit (hops table) ∷ no_less least (codes "hops") (hops table) ∷ visit (near_hold_ms table) ∷ []
+
+-- the near hold has the hops and the time, in ticks, that its table says
+pub record NearHoldIs (table : Members) (near : NearHold) : Type 0 where
+  pub is_hops : hops table ≡ Ok near.hops
+  pub is_hold : near_hold_ms table ≡ Ok near.hold
+
+-- ---- TCs
+
+-- the most rows of a TC, from 1 to 1,088; 1,088, which is all that a router advertises, where it is absent
+abbrev pub tc_rows : Members → Read ℕ
+tc_rows = optional 1088 (whole 1 1088) (codes "tc_rows")
+
+-- the elements that are to be the tables of near holds, at most 8; none where they are absent
+abbrev pub near_holds : Members → Read (List Data)
+near_holds = array_or_none 8 (codes "near_hold")
+
+-- the number of the near holds is visited, and then the table of each, whose hops are to be more than those before
+abbrev pub near_holds_visits : Members → Visits
+near_holds_visits table = visit (near_holds table) ∷ rising_visits near_hold_visits hops (codes "near_hold") 0 (listed (near_holds table))
+
+-- the most rows are visited, and then the near holds
+abbrev pub tc_visits : Members → Visits
+tc_visits table = visit (tc_rows table) ∷ first (near_holds_visits table) ∷ []
+
+-- the near holds are what their tables say, in the order of the tables
+abbrev pub NearHoldsAre : Members → List NearHold → Type 0
+NearHoldsAre table nears = Each NearHoldIs (listed (near_holds table)) nears
+
+-- the table says these rows of a TC and these near holds
+pub record AreTcs (table : Members) (rows : ℕ) (nears : List NearHold) : Type 0 where
+  pub is_rows : tc_rows table ≡ Ok rows
+  pub are_near_holds : NearHoldsAre table nears

@@ -1,0 +1,150 @@
+-- The tables of a scenario: arcs, and the top.
+use Rattle.std.specs.Prelude.{◌≡◌, ℕ, List, [], ◌∷◌, codes, Option, Some, None, Ok, option_map}
+use Rattle.toml.specs.Data.{Data, Members, no_members, as_table}
+use Rattle.mesh_config.specs.declared.stated.stated.ArcNumbers.{ArcNumbers}
+use Rattle.mesh_config.specs.declared.stated.stated.Place.{Place}
+use Rattle.mesh_config.specs.declared.stated.stated.StatedArc.{StatedArc}
+use Rattle.mesh_config.specs.declared.stated.stated.StatedScenario.{StatedScenario}
+use Rattle.mesh_codes.specs.declared.metric.Metric.{Metric}
+use Rattle.mesh_config.specs.Keys.Faults.{Read, Visits, visit, first, listed, then_turned}
+use Rattle.mesh_config.specs.Keys.Values.{optional, required, whole, text, array, array_or_none, unknown, is_one_of, ticks, table_read}
+use Rattle.mesh_atoms.specs.Literals.{place_of}
+use Rattle.mesh_config.specs.Stated.Tables.{tables_visits, Each}
+use Rattle.mesh_config.specs.Stated.Steps.{steps_visits, StepsAre}
+use Rattle.mesh_config.specs.Stated.Times.{times_visits, TimesIs}
+use Rattle.mesh_config.specs.Stated.Router.{metric_asked, IsMetric, router_visits, RouterIs}
+
+-- ---- an arc
+
+-- an end of an arc at a key: the name of a router, and that of one of its interfaces; it must stand
+abbrev pub place : List ℕ → Members → Read (List ℕ × List ℕ)
+place = required (text place_of)
+
+-- how many of a thousand frames are lost over the arc; 0 where it is absent
+abbrev pub loss : Members → Read ℕ
+loss = optional 0 (whole 0 1000) (codes "loss")
+
+-- how long a frame is under way, from 1 to 1,000 ms, in ticks; 1 ms where it is absent
+abbrev pub delay : Members → Read ℕ
+delay table = then_turned ticks (optional 1 (whole 1 1000) (codes "delay_ms") table)
+
+-- the keys that the table of an arc may have
+abbrev pub arc_keys : List (List ℕ)
+arc_keys = codes "from" ∷ codes "to" ∷ codes "metric" ∷ codes "loss" ∷ codes "delay_ms" ∷ codes "quality" ∷ []
+
+-- the interface that sends is visited, and then the one that receives
+abbrev pub end_visits : Members → Visits
+end_visits table = visit (place (codes "from") table) ∷ visit (place (codes "to") table) ∷ []
+
+-- the keys of an arc behind its ends
+abbrev pub arc_number_visits : Members → Visits
+arc_number_visits table = visit (metric_asked table) ∷ visit (loss table) ∷ visit (delay table) ∷ []
+
+-- the table of an arc is visited: its least unknown key, its ends, its numbers, and the qualities of what is sent over it
+abbrev pub arc_visits : Members → Visits
+arc_visits table =
+    unknown (is_one_of arc_keys) table ∷ first (end_visits table) ∷ first (arc_number_visits table) ∷ first (steps_visits table) ∷ []
+
+-- what the table of an arc says besides its ends and its qualities
+pub record ArcFields : Type 0 where
+  pub metric : Metric
+  pub loss : ℕ
+  pub delay : ℕ
+
+-- the table says this metric, rounded up, this loss and this delay
+pub record AreArcFields (table : Members) (fields : ArcFields) : Type 0 where
+  pub is_metric : IsMetric (metric_asked table) fields.metric
+  pub is_loss : loss table ≡ Ok fields.loss
+  pub is_delay : delay table ≡ Ok fields.delay
+
+-- these fields of the numbers of an arc
+abbrev pub arc_number_fields : ArcNumbers → ArcFields
+arc_number_fields numbers = record { metric = numbers.metric; loss = numbers.loss; delay = numbers.delay }
+
+-- these fields of a stated arc
+abbrev pub stated_arc_fields : StatedArc → ArcFields
+stated_arc_fields arc = record { metric = arc.metric; loss = arc.loss; delay = arc.delay }
+
+-- the table names `from` as the interface that sends and `to` as the one that receives
+pub record AreEnds (table : Members) (from to : Place) : Type 0 where
+  pub is_from : place (codes "from") table ≡ Ok (from.router, from.iface)
+  pub is_to : place (codes "to") table ≡ Ok (to.router, to.iface)
+
+-- the stated arc is what its table says
+pub record ArcIs (table : Members) (arc : StatedArc) : Type 0 where
+  pub are_ends : AreEnds table arc.from arc.to
+  pub are_fields : AreArcFields table (stated_arc_fields arc)
+  pub are_steps : StepsAre table arc.steps
+
+-- ---- the top
+
+-- the moment at which the run ends, from 1 ms to an hour, in ticks; it must stand
+abbrev pub end_moment : Members → Read ℕ
+end_moment table = then_turned ticks (required (whole 1 3600000) (codes "end_ms") table)
+
+-- the number from which the losses are drawn, less than 2^63; 0 where it is absent
+abbrev pub seed : Members → Read ℕ
+seed = optional 0 (whole 0 9223372036854775807) (codes "seed")
+
+-- a whole number from `low` to `high`, of a key that may be absent without a default
+abbrev pub some_whole : ℕ → ℕ → Data → Option (Option ℕ)
+some_whole low high d = option_map Some (whole low high d)
+
+-- the moment from which on nothing is lost, up to an hour, in ticks; none where it is absent, and losses never end
+abbrev pub loss_until : Members → Read (Option ℕ)
+loss_until table = then_turned (option_map ticks) (optional None (some_whole 0 3600000) (codes "loss_until_ms") table)
+
+-- the table of times; the empty one, with which all defaults stand, where it is absent
+abbrev pub times_table : Members → Read Members
+times_table = optional no_members as_table (codes "times")
+
+-- the same, where a fault is taken for the empty table
+abbrev pub sub_times : Members → Members
+sub_times table = table_read (times_table table)
+
+-- the elements that are to be the tables of routers, from 1 to 64; they must stand
+abbrev pub routers : Members → Read (List Data)
+routers = array 1 64 (codes "router")
+
+-- the elements that are to be the tables of arcs, at most 4,096; none where they are absent
+abbrev pub arcs : Members → Read (List Data)
+arcs = array_or_none 4096 (codes "arc")
+
+-- the keys that the top table of a scenario may have
+abbrev pub scenario_keys : List (List ℕ)
+scenario_keys = codes "end_ms" ∷ codes "seed" ∷ codes "loss_until_ms" ∷ codes "times" ∷ codes "router" ∷ codes "arc" ∷ []
+
+-- the number of the routers is visited, and then the table of each
+abbrev pub routers_visits : Members → Visits
+routers_visits table = visit (routers table) ∷ tables_visits router_visits (codes "router") (listed (routers table))
+
+-- the number of the arcs is visited, and then the table of each
+abbrev pub arcs_visits : Members → Visits
+arcs_visits table = visit (arcs table) ∷ tables_visits arc_visits (codes "arc") (listed (arcs table))
+
+-- it is visited whether the times are a table, and then what stands in it
+abbrev pub times_part : Members → Visits
+times_part table = visit (times_table table) ∷ first (times_visits (sub_times table)) ∷ []
+
+-- the numbers at the top
+abbrev pub top_visits : Members → Visits
+top_visits table = visit (end_moment table) ∷ visit (seed table) ∷ visit (loss_until table) ∷ []
+
+-- the top table says this end and this end of losses, both in ticks, and this seed
+pub record AreTopNumbers (table : Members) (end_read seed_read : ℕ) (loss_until_read : Option ℕ) : Type 0 where
+  pub is_end : end_moment table ≡ Ok end_read
+  pub is_seed : seed table ≡ Ok seed_read
+  pub is_loss_until : loss_until table ≡ Ok loss_until_read
+
+-- the top table is visited: its least unknown key, its numbers, the times, the routers and the arcs
+abbrev pub scenario_table_visits : Members → Visits
+scenario_table_visits table =
+    unknown (is_one_of scenario_keys) table ∷ first (top_visits table)
+    ∷ first (times_part table) ∷ first (routers_visits table) ∷ first (arcs_visits table) ∷ []
+
+-- the stated scenario is what the top table and the tables in it say
+pub record ScenarioIs (table : Members) (scenario : StatedScenario) : Type 0 where
+  pub are_numbers : AreTopNumbers table scenario.end scenario.seed scenario.loss_until
+  pub are_times : TimesIs (sub_times table) scenario.times
+  pub are_routers : Each RouterIs (listed (routers table)) scenario.routers
+  pub are_arcs : Each ArcIs (listed (arcs table)) scenario.arcs

@@ -1,0 +1,8 @@
+//! The settings of a running router as the tables of their text say them, each value by itself.
+
+mod neighbours;
+mod run;
+mod stated;
+
+pub use crate::run_tables::run::stated_run;
+pub use crate::run_tables::stated::{StatedRun, StatedRunInterface, StatedRunRouter};

@@ -1,0 +1,18 @@
+//! Settings as the tables of their text say them, each value by itself, before what must not stand twice is looked at.
+
+mod rising;
+mod router;
+mod rules;
+mod scenario;
+mod stated;
+mod steps;
+mod tables;
+mod times;
+
+pub use crate::stated::router::{attached_of, head, interface_said, metric_at};
+pub use crate::stated::scenario::{end_moment, stated_scenario, times_of};
+pub use crate::stated::stated::{
+    Place, RouterHead, StatedArc, StatedInterface, StatedRouter, StatedScenario, Thresholds,
+};
+pub use crate::stated::steps::steps_of;
+pub use crate::stated::tables::{FromTable, all_tables};

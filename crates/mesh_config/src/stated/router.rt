@@ -1,0 +1,218 @@
+//! The tables of a router: its interfaces, and the networks that it attaches.
+ghost use Rattle.std.specs.Prelude.{◌≤◌, length, IfOk, IsTrue, map};
+ghost use Rattle.toml.specs.View.{table_view, view};
+ghost use Rattle.mesh_atoms.specs.Settings.{IsCount, one_hour};
+ghost use Rattle.mesh_config.specs.Keys.Faults.{Gives, Answers, first, visit, listed};
+ghost use Rattle.mesh_config.specs.Keys.Values.{SaysNothing, unknown, is_one_of};
+ghost use Rattle.mesh_config.specs.Stated.Router.{moment, net, metric_asked, IsMetric, named_visits, router_keys, willing_visits, IsWilling, start_visits, AreStarts, rule_visits, RulesAre, interface_visits, InterfaceIs, attached_visits, AttachedIs, head_visits, HeadIs, interfaces_visits, interfaces, networks_visits, attached, router_visits, RouterIs};
+ghost use Rattle.mesh_config.specs.Stated.Tables.{Each};
+
+use crate::keys::refusal::{BAD_VALUE, MISSING};
+use crate::keys::{
+    ConfigFault, addresses_at, array_at, array_or_none, found, known_keys, name_at, refused,
+    string_in, ticks, whole_at, whole_or,
+};
+use crate::stated::rules::{tc_rules, thresholds};
+use crate::stated::stated::{RouterHead, RouterRules, Starts, StatedInterface, StatedRouter};
+use crate::stated::tables::{FromTable, all_tables};
+use mesh_atoms::{Attached4, Metric, NetAddr, Seq, Willing, net_of};
+use std::alloc::Global;
+use toml::Table;
+
+// A moment up to an hour, in ticks; 0 where it is absent.
+fn moment(alloc: Global, table: &Table, key: &str) -> Result<u64, ConfigFault>
+    ensures read { Gives (λ n. n) result (moment key.now (table_view table.now)) }
+    ensures range { IfOk result (λ n. n ≤ one_hour) }
+{
+    let ms = whole_or(alloc, table, key, 0, 3_600_000, 0)?;
+    Ok(ticks(ms))
+}
+
+/// The least metric that is at least the whole number at `metric`, from 1 to 16,776,960, which must stand.
+pub fn metric_at(alloc: Global, table: &Table) -> Result<Metric, ConfigFault>
+    ensures { Answers (IsMetric (metric_asked (table_view table.now))) (visit (metric_asked (table_view table.now))) result }
+{
+    let asked = whole_at(alloc, table, "metric", 1, 16_776_960)?;
+    match Metric::at_least(asked as u32) {
+        Some(metric) => Ok(metric),
+        None => Err(refused(alloc, BAD_VALUE, "metric")),
+    }
+}
+
+// The network at `net`, which must stand.
+fn net_at(alloc: Global, table: &Table) -> Result<NetAddr, ConfigFault>
+    ensures { Gives (λ n. (n.addr, n.prefix)) result (net (table_view table.now)) }
+{
+    match found(table, "net") {
+        None => Err(refused(alloc, MISSING, "net")),
+        Some(value) => match string_in(value) {
+            None => Err(refused(alloc, BAD_VALUE, "net")),
+            Some(text) => match net_of(text) {
+                None => Err(refused(alloc, BAD_VALUE, "net")),
+                Some(net) => Ok(net),
+            },
+        },
+    }
+}
+
+/// What the table of an interface says of its name and its 1 to 4 addresses, or the first fault of these. Other keys aren't
+/// looked at.
+pub fn interface_said(alloc: Global, table: &Table) -> Result<StatedInterface, ConfigFault>
+    ensures { Answers (InterfaceIs (table_view table.now)) (first (named_visits (table_view table.now))) result }
+{
+    let name = name_at(alloc, table, "name")?;
+    match addresses_at(alloc, table, "addresses") {
+        Ok(addrs) => Ok(StatedInterface { name, addrs }),
+        Err(e) => Err(e),
+    }
+}
+
+impl FromTable for StatedInterface {
+    ghost use Rattle.mesh_config.specs.Stated.Router.{interface_visits, InterfaceIs};
+
+    ghost visits = { interface_visits };
+
+    ghost says = { InterfaceIs };
+
+    fn from_table(alloc: Global, table: &Table) -> Result<StatedInterface, ConfigFault> {
+        known_keys(alloc, table, &["name", "addresses"])?;
+        interface_said(alloc, table)
+    }
+}
+
+impl FromTable for Attached4 {
+    ghost use Rattle.mesh_config.specs.Stated.Router.{attached_visits, AttachedIs};
+
+    ghost visits = { attached_visits };
+
+    ghost says = { AttachedIs };
+
+    fn from_table(alloc: Global, table: &Table) -> Result<Attached4, ConfigFault> {
+        known_keys(alloc, table, &["net", "metric", "distance"])?;
+        let net = net_at(alloc, table)?;
+        let metric = metric_at(alloc, table)?;
+        let distance = whole_or(alloc, table, "distance", 0, 255, 1)? as u8;
+        Ok(Attached4 {
+            net,
+            metric,
+            distance,
+        })
+    }
+}
+
+fn willing(alloc: Global, table: &Table) -> Result<Willing, ConfigFault>
+    ensures { Answers (IsWilling (table_view table.now)) (first (willing_visits (table_view table.now))) result }
+{
+    let flooding = whole_or(alloc, table, "flooding", 0, 15, 7)? as u8;
+    let routing = whole_or(alloc, table, "routing", 0, 15, 7)? as u8;
+    Ok(Willing { flooding, routing })
+}
+
+fn starts(alloc: Global, table: &Table) -> Result<Starts, ConfigFault>
+    ensures { Answers (λ s. AreStarts (table_view table.now) s.hello_at s.tc_at) (first (start_visits (table_view table.now))) result }
+{
+    let hello_at = moment(alloc, table, "hello_at_ms")?;
+    let tc_at = moment(alloc, table, "tc_at_ms")?;
+    Ok(Starts { hello_at, tc_at })
+}
+
+// What the table of a router says of itself besides its name.
+fn rules(alloc: Global, table: &Table) -> Result<RouterRules, ConfigFault>
+    ensures { Answers (RulesAre (table_view table.now)) (first (rule_visits (table_view table.now))) result }
+{
+    let willing = willing(alloc, table)?;
+    let thresholds = thresholds(alloc, table)?;
+    let tcs = tc_rules(alloc, table)?;
+    match starts(alloc, table) {
+        Ok(starts) => Ok(RouterRules {
+            willing,
+            thresholds,
+            tc_rows: tcs.rows,
+            near_hold: tcs.near_hold,
+            hello_at: starts.hello_at,
+            tc_at: starts.tc_at,
+        }),
+        Err(e) => Err(e),
+    }
+}
+
+fn known_to_routers(alloc: Global, table: &Table) -> Result<(), ConfigFault>
+    ensures { Answers SaysNothing (unknown (is_one_of router_keys) (table_view table.now)) result }
+{
+    known_keys(
+        alloc,
+        table,
+        &[
+            "name",
+            "flooding",
+            "routing",
+            "hyst_accept",
+            "hyst_reject",
+            "tc_rows",
+            "near_hold",
+            "hello_at_ms",
+            "tc_at_ms",
+            "interface",
+            "attached",
+        ],
+    )
+}
+
+/// What the table of a router says of itself, with its first moments in ticks; or the first fault there: an unknown key comes
+/// before all others. What its interfaces and attached networks are isn't looked at.
+pub fn head(alloc: Global, table: &Table) -> Result<RouterHead, ConfigFault>
+    ensures { Answers (HeadIs (table_view table.now)) (first (head_visits (table_view table.now))) result }
+{
+    known_to_routers(alloc, table)?;
+    let name = name_at(alloc, table, "name")?;
+    match rules(alloc, table) {
+        Ok(rules) => Ok(RouterHead {
+            name,
+            willing: rules.willing,
+            thresholds: rules.thresholds,
+            tc_rows: rules.tc_rows,
+            near_hold: rules.near_hold,
+            hello_at: rules.hello_at,
+            tc_at: rules.tc_at,
+        }),
+        Err(e) => Err(e),
+    }
+}
+
+fn interfaces_of(alloc: Global, table: &Table) -> Result<Seq<StatedInterface>, ConfigFault>
+    ensures answer { Answers (Each InterfaceIs (listed (interfaces (table_view table.now)))) (first (interfaces_visits (table_view table.now))) result }
+    ensures size { IfOk result (λ xs. IsCount 1 8 (length xs)) }
+{
+    let values = array_at(alloc, table, "interface", 1, 8)?;
+    all_tables(alloc, "interface", values)
+}
+
+/// The networks that a router attaches (RFC 7181, section 7.2), at most 64, in order of their tables, or the first fault there.
+pub fn attached_of(alloc: Global, table: &Table) -> Result<Seq<Attached4>, ConfigFault>
+    ensures answer { Answers (Each AttachedIs (listed (attached (table_view table.now)))) (first (networks_visits (table_view table.now))) result }
+    ensures size { IfOk result (λ xs. length xs ≤ 64) }
+{
+    let values = array_or_none(alloc, table, "attached", 64)?;
+    all_tables(alloc, "attached", values)
+}
+
+impl FromTable for StatedRouter {
+    ghost use Rattle.mesh_config.specs.Stated.Router.{router_visits, RouterIs};
+
+    ghost visits = { router_visits };
+
+    ghost says = { RouterIs };
+
+    fn from_table(alloc: Global, table: &Table) -> Result<StatedRouter, ConfigFault> {
+        let head = head(alloc, table)?;
+        let interfaces = interfaces_of(alloc, table)?;
+        match attached_of(alloc, table) {
+            Ok(attached) => Ok(StatedRouter {
+                head,
+                interfaces,
+                attached,
+            }),
+            Err(e) => Err(e),
+        }
+    }
+}

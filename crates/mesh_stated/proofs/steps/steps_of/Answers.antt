@@ -1,7 +1,0 @@
-use Rattle.std.proofs.Common.{map}
-use Rattle.toml.specs.View.{view}
-use Rattle.mesh_stated.proofs.Ordered.{steps_ascend}
-use Rattle.mesh_stated.proofs.steps.steps_of.Goals as goal
-
-pub returns-clause-order : goal.returns-clause-order
-returns-clause-order c = steps_ascend (map view c.in_ok-values.values.now) c.all_rising.result c.all_rising.ensures.answer

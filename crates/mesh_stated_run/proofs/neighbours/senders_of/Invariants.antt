@@ -1,5 +1,0 @@
-use Rattle.std.proofs.Common.{◌≡◌, take, map}
-use Rattle.mesh_stated_run.proofs.neighbours.senders_of.Given as goal
-
-abbrev pub invariant-loop-neighbour : goal.invariant-loop-neighbour
-invariant-loop-neighbour l = l.senders ≡ map (λ n. n.cost) (take l.neighbour-index l.neighbours)

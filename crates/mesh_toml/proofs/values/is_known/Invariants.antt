@@ -1,7 +1,0 @@
-use Rattle.std.proofs.Common.{◌≡◌, drop}
-use Rattle.std.specs.List.{list_any}
-use Rattle.mesh_atoms.specs.Settings.{name_eq}
-use Rattle.mesh_toml.proofs.values.is_known.Given as goal
-
-abbrev pub invariant-loop-other : goal.invariant-loop-other
-invariant-loop-other l = list_any (λ k. name_eq l.key k.now) l.known ≡ list_any (λ k. name_eq l.key k.now) (drop l.other-index l.known)

@@ -1,9 +1,0 @@
-use Rattle.std.proofs.Common.{◌≡◌}
-use Rattle.toml.specs.View.{members_view, table_view}
-use Rattle.std.specs.List.{list_any}
-use Rattle.mesh_atoms.specs.Settings.{name_eq}
-use Rattle.mesh_toml.specs.Values.{first_unknown}
-use Rattle.mesh_toml.proofs.values.known_keys.Given as goal
-
-abbrev pub invariant-loop-key : goal.invariant-loop-key
-invariant-loop-key l = first_unknown (λ key. list_any (λ k. name_eq key k.now) l.known) (table_view l.table) ≡ first_unknown (λ key. list_any (λ k. name_eq key k.now) l.known) (members_view l.key-iterator)
