@@ -12,8 +12,8 @@ use Rattle.mesh_made.specs.declared.pairs.Pair.{Pair}
 use Rattle.mesh_made.specs.Pairs.{pair, pair_if, grid_pairs_of, ring_pairs, tree_pairs, same_pair, joined_with, more_pairs, word, ArePairs}
 use Rattle.mesh_made.proofs.Growing.{flat_more}
 use Rattle.mesh_made.proofs.Rows.{two_or_more}
-use Rattle.mesh_words.specs.declared.job.Kind.{Kind}
-use Rattle.mesh_words.specs.declared.job.Kind.TheVariants as kind
+use Rattle.mesh_made.specs.declared.kind.Kind.{Kind}
+use Rattle.mesh_made.specs.declared.kind.Kind.TheVariants as kind
 
 -- pairs of n routers, at most so many, none of which stands twice
 pub record AreApart (n most : ℕ) (pairs : List Pair) : Type 0 where

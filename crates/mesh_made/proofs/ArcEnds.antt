@@ -11,7 +11,7 @@ use Rattle.mesh_made.specs.declared.pairs.Pair.{Pair}
 use Rattle.mesh_made.specs.Pairs.{same_pair}
 use Rattle.mesh_made.specs.Scenario.{IsMadeArc, AreMadeArcs}
 use Rattle.mesh_made.proofs.Apart.{AreApart}
-use Rattle.mesh_words.specs.declared.job.Kind.{Kind}
+use Rattle.mesh_made.specs.declared.kind.Kind.{Kind}
 
 -- from a router to another
 abbrev way : ℕ → ℕ → Ends

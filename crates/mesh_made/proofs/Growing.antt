@@ -7,7 +7,7 @@ use Rattle.mesh_atoms.specs.declared.settings.RadioArc.{RadioArc}
 use Rattle.mesh_made.specs.declared.pairs.Pair.{Pair}
 use Rattle.mesh_made.specs.Pairs.{joined_with, more_pairs, word}
 use Rattle.mesh_made.specs.Scenario.{IsMadeArc, AreMadeArcs}
-use Rattle.mesh_words.specs.declared.job.Kind.{Kind}
+use Rattle.mesh_made.specs.declared.kind.Kind.{Kind}
 
 -- Numbers in order
 

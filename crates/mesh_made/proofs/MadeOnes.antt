@@ -21,7 +21,7 @@ use Rattle.mesh_made.proofs.ArcEnds.{arcs_sound}
 use Rattle.mesh_made.proofs.StatedOnes.{one_each}
 use Rattle.mesh_config.specs.declared.stated.stated.StatedRouter.{StatedRouter}
 use Rattle.mesh_config.specs.Stated.Times.{TimesIs}
-use Rattle.mesh_words.specs.declared.job.Kind.{Kind}
+use Rattle.mesh_made.specs.declared.kind.Kind.{Kind}
 use Rattle.toml.specs.Data.{no_members}
 
 -- no link of an interface is rejected, where none is of the router

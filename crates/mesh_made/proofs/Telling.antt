@@ -14,7 +14,7 @@ use Rattle.mesh_radio.specs.Run.{IsOpeningNet, IsOver, NetRun}
 use Rattle.mesh_gaps.specs.Network.{IsNetwork}
 use Rattle.mesh_texts.proofs.RunStates.{end_is_network, final_count}
 use Rattle.mesh_texts.specs.Runs.{WholeRun}
-use Rattle.mesh_words.specs.declared.job.Kind.{Kind}
+use Rattle.mesh_made.specs.declared.kind.Kind.{Kind}
 
 -- a run of the network of a scenario that ends with this one
 abbrev pub EndsWith : Scenario → Net → Type 0

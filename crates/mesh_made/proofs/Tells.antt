@@ -19,8 +19,8 @@ use Rattle.mesh_texts.proofs.RunStates.{run_states, routers_are_runs, end_is_set
 use Rattle.mesh_texts.specs.Network.{counts_line, settled_text}
 use Rattle.mesh_texts.specs.Printed.{IsLine, BeginsWith}
 use Rattle.mesh_texts.specs.Runs.{WholeRun}
-use Rattle.mesh_words.specs.declared.job.Kind.{Kind}
-use Rattle.mesh_words.specs.declared.job.Kind.TheVariants as kind
+use Rattle.mesh_made.specs.declared.kind.Kind.{Kind}
+use Rattle.mesh_made.specs.declared.kind.Kind.TheVariants as kind
 
 pub run_as_machines : MadeNetworksRunMachines
 run_as_machines k n seed m = routers_are_runs m.scenario m.run

@@ -3,8 +3,8 @@ use Rattle.std.specs.Prelude.{◌≡◌, ℕ, List, [], ◌∷◌, length, Optio
 use Rattle.mesh_atoms.specs.declared.settings.Scenario.{Scenario}
 use Rattle.mesh_made.specs.Routes.{IsGreatest}
 use Rattle.mesh_lines.specs.Marks.{line_of}
-use Rattle.mesh_words.specs.declared.job.Kind.{Kind}
-use Rattle.mesh_words.specs.declared.job.Kind.TheVariants as kind
+use Rattle.mesh_made.specs.declared.kind.Kind.{Kind}
+use Rattle.mesh_made.specs.declared.kind.Kind.TheVariants as kind
 
 abbrev pub kind_text : Kind → List ℕ
 kind_text kind.Grid = codes "grid"

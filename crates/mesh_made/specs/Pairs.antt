@@ -3,8 +3,8 @@ use Rattle.std.specs.Prelude.{◌≡◌, ℕ, ◌+◌, ◌-◌, ◌*◌, ◌%◌
 use Rattle.std.specs.List.{flat_map, list_any, range_with_len}
 use Rattle.mesh_traffic.specs.Draws.{word_of}
 use Rattle.mesh_made.specs.declared.pairs.Pair.{Pair}
-use Rattle.mesh_words.specs.declared.job.Kind.{Kind}
-use Rattle.mesh_words.specs.declared.job.Kind.TheVariants as kind
+use Rattle.mesh_made.specs.declared.kind.Kind.{Kind}
+use Rattle.mesh_made.specs.declared.kind.Kind.TheVariants as kind
 
 -- two routers by their numbers, the lower one first
 abbrev pub pair : ℕ → ℕ → Pair

@@ -11,8 +11,8 @@ use Rattle.mesh_made.specs.declared.pairs.Pair.{Pair}
 use Rattle.mesh_made.specs.Pairs.{ArePairs, word}
 use Rattle.mesh_config.specs.Stated.Router.{InterfaceFields}
 use Rattle.mesh_config.specs.Stated.Times.{TimesIs}
-use Rattle.mesh_words.specs.declared.job.Kind.{Kind}
-use Rattle.mesh_words.specs.declared.job.Kind.TheVariants as kind
+use Rattle.mesh_made.specs.declared.kind.Kind.{Kind}
+use Rattle.mesh_made.specs.declared.kind.Kind.TheVariants as kind
 use Rattle.toml.specs.Data.{no_members}
 
 -- Arcs

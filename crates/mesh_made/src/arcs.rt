@@ -4,10 +4,10 @@ ghost use Rattle.mesh_codes.specs.Codes.{metric_value};
 ghost use Rattle.mesh_atoms.specs.Settings.{IsCount};
 ghost use Rattle.mesh_made.specs.Scenario.{cost, loss_of, IsMadeArc, AreMadeArcs};
 
+use crate::kind::Kind;
 use crate::pairs::Pair;
 use crate::words::word_below;
 use mesh_atoms::{Metric, RadioArc, Seq};
-use mesh_words::Kind;
 use std::alloc::{AllocError, Global};
 
 fn metric_of(kind: Kind, routers: usize, seed: u64, number: usize) -> Metric

@@ -9,6 +9,7 @@ ghost use Rattle.mesh_io.specs.Faults.{Rose};
 ghost use Rattle.mesh_made.specs.Made.{IsEndText, IsMadeText, MadeEmulation};
 ghost use Rattle.mesh_texts.specs.Runs.{WholeRun};
 
+use crate::kind::Kind;
 use crate::scenario::made;
 use crate::text::put_made;
 use mesh_atoms::{Bytes, Scenario};
@@ -18,7 +19,6 @@ use mesh_machine::RouterView;
 use mesh_paths::radio_graph;
 use mesh_radio::{Counts, Net};
 use mesh_settled::settled;
-use mesh_words::Kind;
 use std::alloc::{AllocError, Global};
 
 // The text of a network of a made scenario, of which the routers are these at the end of its run.

@@ -3,6 +3,7 @@
 
 mod arcs;
 mod emulation;
+mod kind;
 mod laws;
 mod pairs;
 mod routes;
@@ -12,5 +13,6 @@ mod text;
 mod words;
 
 pub use emulation::make;
+pub use kind::Kind;
 pub use laws::made_networks_tell;
 pub use scenario::made;

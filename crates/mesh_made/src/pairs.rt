@@ -4,9 +4,9 @@ ghost use Rattle.std.specs.List.{list_any};
 ghost use Rattle.mesh_atoms.specs.Settings.{IsCount};
 ghost use Rattle.mesh_made.specs.Pairs.{pair, pair_if, grid_pairs_of, grid_pairs, IsRowOf, ring_pairs, tree_pairs, same_pair, joined_with, random_pairs, ArePairs};
 
+use crate::kind::Kind;
 use crate::words::word_below;
 use mesh_atoms::Seq;
-use mesh_words::Kind;
 use std::alloc::{AllocError, Global};
 
 /// Two routers by their numbers, the lower one first.

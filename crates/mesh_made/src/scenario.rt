@@ -4,11 +4,11 @@ ghost use Rattle.mesh_atoms.specs.Settings.{IsCount};
 ghost use Rattle.mesh_made.specs.Scenario.{IsMade};
 
 use crate::arcs::arcs_of;
+use crate::kind::Kind;
 use crate::pairs::pairs_of;
 use crate::stated::stated_routers;
 use mesh_atoms::{DEFAULT_TIMES, Scenario};
 use mesh_config::make_routers;
-use mesh_words::Kind;
 use std::alloc::{AllocError, Global};
 
 /// The scenario of 2 to 64 routers that is made by a seed.

@@ -5,6 +5,7 @@ ghost use Rattle.mesh_made.specs.Routes.{metrics_of};
 ghost use Rattle.mesh_packet.specs.Least.{Wrote};
 ghost use Rattle.mesh_texts.specs.Network.{counts_line, settled_text};
 
+use crate::kind::Kind;
 use crate::routes::{greatest_of, route_count};
 use mesh_atoms::{Bytes, Scenario};
 use mesh_lines::{Piece, put_line};
@@ -12,7 +13,6 @@ use mesh_machine::RouterView;
 use mesh_radio::Counts;
 use mesh_settled::Gap;
 use mesh_texts::{put_counts_line, put_settled};
-use mesh_words::Kind;
 use std::alloc::AllocError;
 
 fn kind_text(kind: Kind) -> &'static [u8]

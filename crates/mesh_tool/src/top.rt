@@ -5,13 +5,13 @@ ghost use Rattle.mesh_emulate.specs.Laws.{TripsAreOnly, TripsReachRouters, Trips
 ghost use Rattle.mesh_emulate.specs.Laws.{ProbesReachJoined, ProbesTellAll, ProbesSendOnce};
 ghost use Rattle.mesh_made.specs.Made.{MadeNetworksRunMachines, MadeNetworksTellSettled, TellsLeastRoutes};
 ghost use Rattle.mesh_turns.specs.Laws.{TurnsAreRuns, TurnsKeepSound};
-ghost use Rattle.mesh_answers.specs.Answers.{Answers};
-ghost use Rattle.mesh_words.specs.Words.{texts};
+ghost use Rattle.mesh_tool.specs.Answers.Answers.{Answers};
+ghost use Rattle.mesh_tool.specs.Words.Words.{texts};
 
-use mesh_answers::top_over;
+use crate::answers::top_over;
+use crate::jobs::Status;
 use mesh_index::IndexedBases;
 use mesh_io::{Air, Clock, Sink, Source};
-use mesh_jobs::Status;
 use std::alloc::Global;
 
 /// The program: `top_over` over indexed tables.

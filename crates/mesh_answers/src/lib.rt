@@ -1,7 +1,0 @@
-//! The program's top call over any bases, and what it answers: it reads the words of a command line, does the job that they ask for, and
-//! answers a status.
-#![tactic(auto)]
-
-mod top;
-
-pub use top::top_over;

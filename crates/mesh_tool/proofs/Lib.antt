@@ -1,0 +1,3 @@
+mod AnswersLemmas
+mod JobsLemmas
+mod WordsLemmas

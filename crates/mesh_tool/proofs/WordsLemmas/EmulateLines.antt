@@ -1,0 +1,376 @@
+-- The options of `emulate` of a scenario that is read: asked for, and read.
+use Rattle.std.proofs.Common.{◌≡◌, ℕ, zero, suc, ◌+◌, ◌≤◌, ◌⊎◌, inl, inr, List, [], ◌∷◌, ◌++◌, length, Option, Some, None, Result, Ok, Bool, true, false, not, ◌&&◌, cond, refl, sym, ap, subst, ◌∙◌, arith}
+use Rattle.std.specs.Prelude.{codes, is_none}
+use Rattle.std.specs.List.{flat_map}
+use Rattle.std.proofs.lemmas.List.{append-nil}
+use Rattle.mesh_atoms.specs.declared.addr.Addr4.{Addr4}
+use Rattle.mesh_atoms.specs.Literals.{◌>>=◌, address_of}
+use Rattle.mesh_tool.specs.declared.words.job.Job.{Job}
+use Rattle.mesh_tool.specs.declared.words.job.Job.TheVariants as job
+use Rattle.mesh_tool.specs.declared.words.job.PacketWords.{PacketWords}
+use Rattle.mesh_tool.specs.declared.words.asked.Asked.{Asked}
+use Rattle.mesh_tool.specs.declared.words.asked.Asked.TheVariants as asked
+use Rattle.mesh_tool.specs.declared.words.asked.EmulateOptions.{EmulateOptions}
+use Rattle.mesh_tool.specs.declared.words.asked.EmulateValue.TheVariants as value
+use Rattle.mesh_tool.specs.Words.Words.{is_word, is_without, make_option, no_make_options, emulate_option, or_at, read_on}
+use Rattle.mesh_tool.specs.Words.CommandLines.{InAnyOrder, OptionWords, PlacedOption, at_place, placed, IsTrace, IsSend, IsProbe}
+use Rattle.mesh_tool.proofs.WordsLemmas.Orders.{later, last, none_left, taken_out, IsFew, first_or_later}
+use Rattle.mesh_tool.proofs.WordsLemmas.Reading.{or_at_ok, if_some, stands, same_job}
+
+abbrev pub options_of : Bool → Option PacketWords → Option ℕ → EmulateOptions
+options_of trace send probe = record { trace = trace; send = send; probe = probe }
+
+abbrev pub packet_words : ℕ → Addr4 → PacketWords
+packet_words from dest = record { from = from; dest = dest }
+
+abbrev send_words : List ℕ → List ℕ → OptionWords
+send_words from dest = codes "--send" ∷ from ∷ dest ∷ []
+
+abbrev probe_words : List ℕ → OptionWords
+probe_words name = codes "--probe" ∷ name ∷ []
+
+-- what is still to come of an option, where it stood before, or not
+abbrev MoreTrace : Bool → Bool → List PlacedOption → Type 0
+MoreTrace true trace options = (trace ≡ true) × (options ≡ [])
+MoreTrace false trace options = IsTrace trace options
+
+abbrev More : {A : Type 0} → (Option A → List PlacedOption → Type 0) → Option A → Option A → List PlacedOption → Type 0
+More Is (Some stood) now options = (now ≡ Some stood) × (options ≡ [])
+More Is None now options = Is now options
+
+-- where these stood before, these options at this place are asked for by the job of these
+pub record Comes (t : Bool) (s : Option PacketWords) (p : Option ℕ) (trace : Bool) (send : Option PacketWords) (probe : Option ℕ) (place : ℕ) (options : List OptionWords) : Type 0 where
+  pub traces : List PlacedOption
+  pub sends : List PlacedOption
+  pub probes : List PlacedOption
+  pub is_trace : MoreTrace t trace traces
+  pub is_send : More IsSend s send sends
+  pub is_probe : More IsProbe p probe probes
+  pub any : InAnyOrder (traces ++ (sends ++ probes)) (placed place options)
+
+-- ---- one option, or none
+
+abbrev first_words : List PlacedOption → OptionWords
+first_words [] = []
+first_words (x ∷ xs) = x.words
+
+abbrev first_place : List PlacedOption → ℕ
+first_place [] = 0
+first_place (x ∷ xs) = x.place
+
+few_trace : (t trace : Bool) (xs : List PlacedOption) → MoreTrace t trace xs → IsFew xs
+few_trace true trace xs more = inl more.1
+few_trace false false xs none = inl none
+few_trace false true xs (place, one) = inr (at_place place (codes "--trace" ∷ []), one)
+
+few_send : (send : Option PacketWords) (xs : List PlacedOption) → IsSend send xs → IsFew xs
+few_send None xs none = inl none
+few_send (Some w) xs (place, from, dest, at, is, one) = inr (at_place place (send_words from dest), one)
+
+few_probe : (probe : Option ℕ) (xs : List PlacedOption) → IsProbe probe xs → IsFew xs
+few_probe None xs none = inl none
+few_probe (Some k) xs (place, name, at, one) = inr (at_place place (probe_words name), one)
+
+few_more : {A : Type 0} (Is : Option A → List PlacedOption → Type 0) → ((now : Option A) (xs : List PlacedOption) → Is now xs → IsFew xs) → (stood now : Option A) (xs : List PlacedOption)
+    → More Is stood now xs → IsFew xs
+few_more Is few (Some w) now xs more = inl more.1
+few_more Is few None now xs more = few now xs more
+
+-- none is left
+trace_done : (t trace : Bool) (xs : List PlacedOption) → MoreTrace t trace xs → xs ≡ [] → trace ≡ t
+trace_done true trace xs more none = more.0
+trace_done false false xs more none = refl
+trace_done false true xs (place, one) none = let bad : ⊥ = cc in absurd bad
+
+send_done : (send : Option PacketWords) (xs : List PlacedOption) → IsSend send xs → xs ≡ [] → send ≡ None
+send_done None xs is none = refl
+send_done (Some w) xs (place, from, dest, at, is, one) none = let bad : ⊥ = cc in absurd bad
+
+probe_done : (probe : Option ℕ) (xs : List PlacedOption) → IsProbe probe xs → xs ≡ [] → probe ≡ None
+probe_done None xs is none = refl
+probe_done (Some k) xs (place, name, at, one) none = let bad : ⊥ = cc in absurd bad
+
+more_done : {A : Type 0} (Is : Option A → List PlacedOption → Type 0) → ((now : Option A) (xs : List PlacedOption) → Is now xs → xs ≡ [] → now ≡ None) → (stood now : Option A) (xs : List PlacedOption)
+    → More Is stood now xs → xs ≡ [] → now ≡ stood
+more_done Is done (Some w) now xs more none = more.0
+more_done Is done None now xs more none = done now xs more none
+
+nothing : {A : Type 0} (xs ys : List A) → xs ++ ys ≡ [] → (xs ≡ []) × (ys ≡ [])
+nothing [] ys e = (refl, e)
+nothing (x ∷ xs) ys e = let bad : ⊥ = cc in absurd bad
+
+not_none : {A : Type 0} (front : List A) (y : A) (back : List A) → [] ≡ front ++ y ∷ back → ⊥
+not_none [] y back e = cc
+not_none (f ∷ front) y back e = cc
+
+-- ---- what is asked for is read
+
+module _ (trace : Bool) (send : Option PacketWords) (probe : Option ℕ) where
+  -- one of the options is read, where the rest is
+  abbrev pub Reads : Bool → Option PacketWords → Option ℕ → ℕ → List OptionWords → Type 0
+  Reads t s p place options = read_on (asked.Emulate (options_of t s p)) place (flat_map (λ option. option) options) ≡ Ok (job.Emulate trace send probe)
+
+reads_trace : (t : Bool) (s : Option PacketWords) (p : Option ℕ) (trace : Bool) (send : Option PacketWords) (probe : Option ℕ) (place : ℕ) (option : OptionWords) (options : List OptionWords) (xs : List PlacedOption)
+    → MoreTrace t trace xs → xs ≡ at_place place option ∷ []
+    → (MoreTrace true trace [] → Reads trace send probe true s p (place + length option) options) → Reads trace send probe t s p place (option ∷ options)
+reads_trace true s p trace send probe place option options xs more is on = let none : xs ≡ [] = more.1 in let bad : ⊥ = cc in absurd bad
+reads_trace false s p false send probe place option options xs none is on = let bad : ⊥ = cc in absurd bad
+reads_trace false s p true send probe place option options xs (at, one) is on =
+    let words : option ≡ codes "--trace" ∷ [] = ap first_words (sym is ∙ one) in
+    let count : place + length option ≡ place + 1 = ap (λ (o : OptionWords). place + length o) words in
+    rw words (subst (λ (n : ℕ). Reads true send probe true s p n options) count (on (refl, refl)))
+
+reads_send : (t : Bool) (s : Option PacketWords) (p : Option ℕ) (trace : Bool) (send : Option PacketWords) (probe : Option ℕ) (place : ℕ) (option : OptionWords) (options : List OptionWords) (xs : List PlacedOption)
+    → More IsSend s send xs → xs ≡ at_place place option ∷ []
+    → ((w : PacketWords) → More IsSend (Some w) send [] → Reads trace send probe t (Some w) p (place + length option) options) → Reads trace send probe t s p place (option ∷ options)
+reads_send t (Some w) p trace send probe place option options xs more is on = let none : xs ≡ [] = more.1 in let bad : ⊥ = cc in absurd bad
+reads_send t None p trace None probe place option options xs none is on = let bad : ⊥ = cc in absurd bad
+reads_send t None p trace (Some w) probe place option options xs (at, from, dest, behind, is_dest, one) is on =
+    let words : option ≡ send_words from dest = ap first_words (sym is ∙ one) in
+    let here : place ≡ at = ap first_place (sym is ∙ one) in
+    let count : place + length option ≡ place + 1 + 1 + 1 = ap (λ (o : OptionWords). place + length o) words ∙ omega arith in
+    let from_is : w.from ≡ place + 1 = behind ∙ ap (λ (n : ℕ). n + 1) (sym here) in
+    let packet : packet_words (place + 1) w.dest ≡ w = ap (λ (n : ℕ). packet_words n w.dest) (sym from_is) in
+    let rest = subst (λ (n : ℕ). Reads trace (Some w) probe t (Some w) p n options) count (on w (refl, refl)) in
+    rw words (subst (λ (r : Option Addr4). or_at (place + 1 + 1) (r >>= λ x. Some (asked.Emulate (options_of t (Some (packet_words (place + 1) x)) p))) (λ next. read_on next (place + 1 + 1 + 1) (flat_map (λ o. o) options)) ≡ Ok (job.Emulate trace (Some w) probe)) (sym is_dest)
+    (subst (λ (k : PacketWords). Reads trace (Some w) probe t (Some k) p (place + 1 + 1 + 1) options) (sym packet) rest))
+
+reads_probe : (t : Bool) (s : Option PacketWords) (p : Option ℕ) (trace : Bool) (send : Option PacketWords) (probe : Option ℕ) (place : ℕ) (option : OptionWords) (options : List OptionWords) (xs : List PlacedOption)
+    → More IsProbe p probe xs → xs ≡ at_place place option ∷ []
+    → ((k : ℕ) → More IsProbe (Some k) probe [] → Reads trace send probe t s (Some k) (place + length option) options) → Reads trace send probe t s p place (option ∷ options)
+reads_probe t s (Some k) trace send probe place option options xs more is on = let none : xs ≡ [] = more.1 in let bad : ⊥ = cc in absurd bad
+reads_probe t s None trace send None place option options xs none is on = let bad : ⊥ = cc in absurd bad
+reads_probe t s None trace send (Some k) place option options xs (at, name, behind, one) is on =
+    let words : option ≡ probe_words name = ap first_words (sym is ∙ one) in
+    let here : place ≡ at = ap first_place (sym is ∙ one) in
+    let count : place + length option ≡ place + 1 + 1 = ap (λ (o : OptionWords). place + length o) words ∙ omega arith in
+    let name_is : k ≡ place + 1 = behind ∙ ap (λ (n : ℕ). n + 1) (sym here) in
+    let rest = subst (λ (n : ℕ). Reads trace send (Some k) t s (Some k) n options) count (on k (refl, refl)) in
+    rw words (subst (λ (n : ℕ). Reads trace send (Some k) t s (Some n) (place + 1 + 1) options) name_is rest)
+
+pub comes_read : (trace : Bool) (send : Option PacketWords) (probe : Option ℕ) (options : List OptionWords) (t : Bool) (s : Option PacketWords) (p : Option ℕ) (place : ℕ)
+    → Comes t s p trace send probe place options → Reads trace send probe t s p place options
+comes_read trace send probe [] t s p place c =
+    let none : c.traces ++ (c.sends ++ c.probes) ≡ [] = none_left (c.traces ++ (c.sends ++ c.probes)) c.any in
+    let first = nothing c.traces (c.sends ++ c.probes) none in
+    let rest = nothing c.sends c.probes first.1 in
+    rw (trace_done t trace c.traces c.is_trace first.0, more_done IsSend send_done s send c.sends c.is_send rest.0, more_done IsProbe probe_done p probe c.probes c.is_probe rest.1) refl
+comes_read trace send probe (option ∷ options) t s p place c =
+    let x = at_place place option in
+    let next = place + length option in
+    let out = taken_out (c.traces ++ (c.sends ++ c.probes)) x (placed next options) c.any in
+    let Rest : List PlacedOption → Type 0 = λ l. InAnyOrder l (placed next options) in
+    elim (first_or_later c.traces (c.sends ++ c.probes) out.0 x out.1 (few_trace t trace c.traces c.is_trace) out.2) [
+      | inl (here, rest) ↦ reads_trace t s p trace send probe place option options c.traces c.is_trace here
+          (λ more. comes_read trace send probe options true s p next
+          (record { traces = []; sends = c.sends; probes = c.probes; is_trace = more; is_send = c.is_send; is_probe = c.is_probe; any = subst Rest rest out.3 }))
+      | inr (behind, is, rest) ↦ elim (first_or_later c.sends c.probes behind x out.1 (few_more IsSend few_send s send c.sends c.is_send) is) [
+        | inl (here, rest') ↦ reads_send t s p trace send probe place option options c.sends c.is_send here
+            (λ w more. comes_read trace send probe options t (Some w) p next
+            (record { traces = c.traces; sends = []; probes = c.probes; is_trace = c.is_trace; is_send = more; is_probe = c.is_probe; any = subst Rest (rest ∙ ap (λ l. c.traces ++ l) rest') out.3 }))
+        | inr (behind', is', rest') ↦ elim (first_or_later c.probes [] behind' x out.1 (few_more IsProbe few_probe p probe c.probes c.is_probe) (append-nil c.probes ∙ is')) [
+          | inl (here, rest'') ↦ reads_probe t s p trace send probe place option options c.probes c.is_probe here
+              (λ k more. comes_read trace send probe options t s (Some k) next
+              (record { traces = c.traces; sends = c.sends; probes = []; is_trace = c.is_trace; is_send = c.is_send; is_probe = more; any = subst Rest (rest ∙ ap (λ l. c.traces ++ l) (rest' ∙ ap (λ l. c.sends ++ l) rest'')) out.3 }))
+          | inr (behind'', is'', rest'') ↦ absurd (not_none behind'' x out.1 is'')
+        ]
+      ]
+    ]
+
+-- ---- what is read is asked for
+
+-- these words, at this place, are options that a job is asked for by, where these stood before
+pub record ReadFrom (t : Bool) (s : Option PacketWords) (p : Option ℕ) (place : ℕ) (words : List (List ℕ)) (j : Job) : Type 0 where
+  pub trace : Bool
+  pub send : Option PacketWords
+  pub probe : Option ℕ
+  pub is_job : j ≡ job.Emulate trace send probe
+  pub options : List OptionWords
+  pub whole : words ≡ flat_map (λ option. option) options
+  pub comes : Comes t s p trace send probe place options
+
+none_more_trace : (t : Bool) → MoreTrace t t []
+none_more_trace true = (refl, refl)
+none_more_trace false = refl
+
+none_more_send : (s : Option PacketWords) → More IsSend s s []
+none_more_send (Some w) = (refl, refl)
+none_more_send None = refl
+
+none_more_probe : (p : Option ℕ) → More IsProbe p p []
+none_more_probe (Some k) = (refl, refl)
+none_more_probe None = refl
+
+pub all_read : (t : Bool) (s : Option PacketWords) (p : Option ℕ) (place : ℕ) (j : Job) → read_on (asked.Emulate (options_of t s p)) place [] ≡ Ok j → ReadFrom t s p place [] j
+all_read t s p place j h = record {
+  trace = t;
+  send = s;
+  probe = p;
+  is_job = sym (same_job (job.Emulate t s p) j h);
+  options = [];
+  whole = refl;
+  comes = record { traces = []; sends = []; probes = []; is_trace = none_more_trace t; is_send = none_more_send s; is_probe = none_more_probe p; any = refl };
+}
+
+with_trace : (t : Bool) (s : Option PacketWords) (p : Option ℕ) (place : ℕ) (w : List ℕ) (words : List (List ℕ)) (j : Job) → w ≡ codes "--trace" → not t ≡ true
+    → ReadFrom true s p (place + 1) words j → ReadFrom t s p place (w ∷ words) j
+with_trace true s p place w words j is free r = let bad : ⊥ = cc in absurd bad
+with_trace false s p place w words j is free r =
+    let c = r.comes in
+    let option : OptionWords = codes "--trace" ∷ [] in
+    let stood : r.trace ≡ true = c.is_trace.0 in
+    record {
+      trace = r.trace;
+      send = r.send;
+      probe = r.probe;
+      is_job = r.is_job;
+      options = option ∷ r.options;
+      whole = ap (λ v. v ∷ words) is ∙ ap (λ l. codes "--trace" ∷ l) r.whole;
+      comes = record {
+        traces = at_place place option ∷ [];
+        sends = c.sends;
+        probes = c.probes;
+        is_trace = subst (λ (b : Bool). IsTrace b (at_place place option ∷ [])) (sym stood) (place, refl);
+        is_send = c.is_send;
+        is_probe = c.is_probe;
+        any = ([], placed (place + 1) r.options, refl, subst (λ l. InAnyOrder (l ++ (c.sends ++ c.probes)) (placed (place + 1) r.options)) c.is_trace.1 c.any);
+      };
+    }
+
+with_send : (t : Bool) (p : Option ℕ) (place : ℕ) (w from dest : List ℕ) (to : Addr4) (words : List (List ℕ)) (j : Job) → w ≡ codes "--send" → address_of dest ≡ Some to
+    → ReadFrom t (Some (packet_words (place + 1) to)) p (place + 1 + 1 + 1) words j → ReadFrom t None p place (w ∷ from ∷ dest ∷ words) j
+with_send t p place w from dest to words j is is_dest r =
+    let c = r.comes in
+    let option = send_words from dest in
+    let count : place + length option ≡ place + 1 + 1 + 1 = omega arith in
+    record {
+      trace = r.trace;
+      send = r.send;
+      probe = r.probe;
+      is_job = r.is_job;
+      options = option ∷ r.options;
+      whole = ap (λ v. v ∷ from ∷ dest ∷ words) is ∙ ap (λ l. codes "--send" ∷ from ∷ dest ∷ l) r.whole;
+      comes = record {
+        traces = c.traces;
+        sends = at_place place option ∷ [];
+        probes = c.probes;
+        is_trace = c.is_trace;
+        is_send = subst (λ (o : Option PacketWords). IsSend o (at_place place option ∷ [])) (sym c.is_send.0) (place, from, dest, refl, is_dest, refl);
+        is_probe = c.is_probe;
+        any = later c.traces (at_place place option) c.probes (placed (place + length option) r.options)
+            (subst (λ (n : ℕ). InAnyOrder (c.traces ++ c.probes) (placed n r.options)) (sym count) (subst (λ l. InAnyOrder (c.traces ++ (l ++ c.probes)) (placed (place + 1 + 1 + 1) r.options)) c.is_send.1 c.any));
+      };
+    }
+
+with_probe : (t : Bool) (s : Option PacketWords) (place : ℕ) (w name : List ℕ) (words : List (List ℕ)) (j : Job) → w ≡ codes "--probe"
+    → ReadFrom t s (Some (place + 1)) (place + 1 + 1) words j → ReadFrom t s None place (w ∷ name ∷ words) j
+with_probe t s place w name words j is r =
+    let c = r.comes in
+    let option = probe_words name in
+    let count : place + length option ≡ place + 1 + 1 = omega arith in
+    record {
+      trace = r.trace;
+      send = r.send;
+      probe = r.probe;
+      is_job = r.is_job;
+      options = option ∷ r.options;
+      whole = ap (λ v. v ∷ name ∷ words) is ∙ ap (λ l. codes "--probe" ∷ name ∷ l) r.whole;
+      comes = record {
+        traces = c.traces;
+        sends = c.sends;
+        probes = at_place place option ∷ [];
+        is_trace = c.is_trace;
+        is_send = c.is_send;
+        is_probe = subst (λ (o : Option ℕ). IsProbe o (at_place place option ∷ [])) (sym c.is_probe.0) (place, name, refl, refl);
+        any = last c.traces c.sends (at_place place option) (placed (place + length option) r.options)
+            (subst (λ (n : ℕ). InAnyOrder (c.traces ++ (c.sends ++ [])) (placed n r.options)) (sym count) (subst (λ l. InAnyOrder (c.traces ++ (c.sends ++ l)) (placed (place + 1 + 1) r.options)) c.is_probe.1 c.any));
+      };
+    }
+
+-- the words behind an option's own
+dest_read : (place : ℕ) (read : Option Addr4) (g : Addr4 → EmulateOptions) (f : Asked → Result Job ℕ) (j : Job) → or_at place (read >>= λ x. Some (asked.Emulate (g x))) f ≡ Ok j
+    → (x : Addr4) × (read ≡ Some x) × (f (asked.Emulate (g x)) ≡ Ok j)
+dest_read place (Some x) g f j h = (x, refl, h)
+dest_read place None g f j h = let bad : ⊥ = cc in absurd bad
+
+-- what is read behind these options, where some stand already
+abbrev pub ReadsOn : ℕ → Job → Type 0
+ReadsOn n j = (t : Bool) (s : Option PacketWords) (p : Option ℕ) (place : ℕ) (words : List (List ℕ)) → length words ≤ n → is_without (options_of t s p) ≡ false
+    → read_on (asked.Emulate (options_of t s p)) place words ≡ Ok j → ReadFrom t s p place words j
+
+send_stood : (t : Bool) (w : PacketWords) (p : Option ℕ) → is_without (options_of t (Some w) p) ≡ false
+send_stood true w p = refl
+send_stood false w p = refl
+
+probe_stood : (t : Bool) (s : Option PacketWords) (k : ℕ) → is_without (options_of t s (Some k)) ≡ false
+probe_stood true s k = refl
+probe_stood false (Some w) k = refl
+probe_stood false None k = refl
+
+sends_on : (n : ℕ) (j : Job) (t : Bool) (p : Option ℕ) (place : ℕ) (w : List ℕ) (words : List (List ℕ)) → length words ≤ n → w ≡ codes "--send"
+    → read_on (asked.EmulateAwaits (options_of t None p) value.From) (place + 1) words ≡ Ok j → ReadsOn n j → ReadFrom t None p place (w ∷ words) j
+sends_on n j t p place w [] short is h on = let bad : ⊥ = cc in absurd bad
+sends_on n j t p place w (from ∷ []) short is h on = let bad : ⊥ = cc in absurd bad
+sends_on n j t p place w (from ∷ dest ∷ words) short is h on =
+    let x = dest_read (place + 1 + 1) (address_of dest) (λ to. options_of t (Some (packet_words (place + 1) to)) p) (λ next. read_on next (place + 1 + 1 + 1) words) j h in
+    with_send t p place w from dest x.0 words j is x.1 (on t (Some (packet_words (place + 1) x.0)) p (place + 1 + 1 + 1) words (omega (arith, short)) (send_stood t (packet_words (place + 1) x.0) p) x.2)
+
+probes_on : (n : ℕ) (j : Job) (t : Bool) (s : Option PacketWords) (place : ℕ) (w : List ℕ) (words : List (List ℕ)) → length words ≤ n → w ≡ codes "--probe"
+    → read_on (asked.EmulateAwaits (options_of t s None) value.Name) (place + 1) words ≡ Ok j → ReadsOn n j → ReadFrom t s None place (w ∷ words) j
+probes_on n j t s place w [] short is h on = let bad : ⊥ = cc in absurd bad
+probes_on n j t s place w (name ∷ words) short is h on =
+    with_probe t s place w name words j is (on t s (Some (place + 1)) (place + 1 + 1) words (omega (arith, short)) (probe_stood t s (place + 1)) h)
+
+-- where none of a made scenario's options stands, or the first of them does
+abbrev pub IsOption : ℕ → Job → Bool → Option PacketWords → Option ℕ → ℕ → List ℕ → List (List ℕ) → Type 0
+IsOption n j t s p place w words =
+    ReadFrom t s p place (w ∷ words) j
+    ⊎ ((is_without (options_of t s p) ≡ true) × ((next : Asked) × (make_option no_make_options w ≡ Some next) × (read_on next (place + 1) words ≡ Ok j)))
+
+made_or_none : (b : Bool) (read : Option Asked) (next : Asked) → cond b read None ≡ Some next → (b ≡ true) × (read ≡ Some next)
+made_or_none true read next h = (refl, h)
+made_or_none false read next h = let bad : ⊥ = cc in absurd bad
+
+trace_next : (n : ℕ) (j : Job) (t : Bool) (s : Option PacketWords) (p : Option ℕ) (place : ℕ) (w : List ℕ) (words : List (List ℕ)) (next : Asked) → length words ≤ n
+    → (is_word w (codes "--trace") && not t) ≡ true → next ≡ asked.Emulate (options_of true s p) → read_on next (place + 1) words ≡ Ok j → ReadsOn n j → ReadFrom t s p place (w ∷ words) j
+trace_next n j t s p place w words next short test is h on =
+    let free = stands w (codes "--trace") (not t) test in
+    with_trace t s p place w words j free.0 free.1 (on true s p (place + 1) words short refl (subst (λ (a : Asked). read_on a (place + 1) words ≡ Ok j) is h))
+
+send_next : (n : ℕ) (j : Job) (t : Bool) (s : Option PacketWords) (p : Option ℕ) (place : ℕ) (w : List ℕ) (words : List (List ℕ)) (next : Asked) → length words ≤ n
+    → (is_word w (codes "--send") && is_none s) ≡ true → next ≡ asked.EmulateAwaits (options_of t s p) value.From → read_on next (place + 1) words ≡ Ok j → ReadsOn n j → ReadFrom t s p place (w ∷ words) j
+send_next n j t None p place w words next short test is h on =
+    let free = stands w (codes "--send") true test in
+    sends_on n j t p place w words short free.0 (subst (λ (a : Asked). read_on a (place + 1) words ≡ Ok j) is h) on
+send_next n j t (Some k) p place w words next short test is h on = let free = stands w (codes "--send") false test in let bad : false ≡ true = free.1 in absurd cc
+
+probe_next : (n : ℕ) (j : Job) (t : Bool) (s : Option PacketWords) (p : Option ℕ) (place : ℕ) (w : List ℕ) (words : List (List ℕ)) (next : Asked) → length words ≤ n
+    → (is_word w (codes "--probe") && is_none p) ≡ true → next ≡ asked.EmulateAwaits (options_of t s p) value.Name → read_on next (place + 1) words ≡ Ok j → ReadsOn n j → ReadFrom t s p place (w ∷ words) j
+probe_next n j t s None place w words next short test is h on =
+    let free = stands w (codes "--probe") true test in
+    probes_on n j t s place w words short free.0 (subst (λ (a : Asked). read_on a (place + 1) words ≡ Ok j) is h) on
+probe_next n j t s (Some k) place w words next short test is h on = let free = stands w (codes "--probe") false test in let bad : false ≡ true = free.1 in absurd cc
+
+pub option_on : (n : ℕ) (j : Job) (t : Bool) (s : Option PacketWords) (p : Option ℕ) (place : ℕ) (w : List ℕ) (words : List (List ℕ)) → length words ≤ n
+    → read_on (asked.Emulate (options_of t s p)) place (w ∷ words) ≡ Ok j → ReadsOn n j → IsOption n j t s p place w words
+option_on n j t s p place w words short h on =
+    let step = or_at_ok place (emulate_option (options_of t s p) w) (λ next. read_on next (place + 1) words) j h in
+    elim (if_some (is_word w (codes "--trace") && not t) (asked.Emulate (options_of true s p)) _ step.0 step.1) [
+      | inl (test, is) ↦ inl (trace_next n j t s p place w words step.0 short test is step.2 on)
+      | inr (a, rest) ↦ elim (if_some (is_word w (codes "--send") && is_none s) (asked.EmulateAwaits (options_of t s p) value.From) _ step.0 rest) [
+        | inl (test, is) ↦ inl (send_next n j t s p place w words step.0 short test is step.2 on)
+        | inr (b, rest') ↦ elim (if_some (is_word w (codes "--probe") && is_none p) (asked.EmulateAwaits (options_of t s p) value.Name) _ step.0 rest') [
+          | inl (test, is) ↦ inl (probe_next n j t s p place w words step.0 short test is step.2 on)
+          | inr (d, rest'') ↦ let m = made_or_none (is_without (options_of t s p)) (make_option no_make_options w) step.0 rest'' in inr (m.0, (step.0, m.1, step.2))
+        ]
+      ]
+    ]
+
+pub reads_on : (n : ℕ) (j : Job) → ReadsOn n j
+reads_on n j t s p place [] short stood h = all_read t s p place j h
+reads_on zero j t s p place (w ∷ words) short stood h = absurd (omega (arith, short))
+reads_on (suc n) j t s p place (w ∷ words) short stood h =
+    elim (option_on n j t s p place w words (omega (arith, short)) h (λ t' s' p' at more few some k. reads_on n j t' s' p' at more few some k)) [
+      | inl r ↦ r
+      | inr (without, m) ↦ let bad : true ≡ false = sym without ∙ stood in absurd cc
+    ]

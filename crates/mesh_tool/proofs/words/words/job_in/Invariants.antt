@@ -1,0 +1,6 @@
+use Rattle.std.proofs.Common.{◌≡◌, drop}
+use Rattle.mesh_tool.specs.Words.Words.{words_of, read_on, texts}
+use Rattle.mesh_tool.proofs.words.words.job_in.Given as goal
+
+abbrev pub invariant-loop-place : goal.invariant-loop-place
+invariant-loop-place l = record { left : words_of (texts l.words) ≡ read_on l.asked l.place (drop l.place (texts l.words)) }

@@ -1,0 +1,105 @@
+-- What the program answers.
+use Rattle.std.specs.Prelude.{◌≡◌, ◌⊎◌, ℕ, ◌+◌, ◌<◌, ◌≤◌, List, [], take, Bool, Option, Some, IsErr}
+use Rattle.std.specs.Io.KnownBytes.{Appends, Keeps}
+use Rattle.mesh_dump.specs.Dump.{IsDumpText}
+use Rattle.mesh_emulate.specs.Emulation.{Emulation}
+use Rattle.mesh_io.specs.Faults.{Rose}
+use Rattle.mesh_made.specs.Made.{MadeEmulation}
+use Rattle.mesh_run.specs.Run.{WholeRun, SpendsTurns, FailsToAttach}
+use Rattle.mesh_tool.specs.declared.jobs.status.Status.{Status}
+use Rattle.mesh_tool.specs.declared.jobs.status.Status.TheVariants as status
+use Rattle.mesh_tool.specs.Jobs.Calls.{Call, told_in, UsesNoAir, RunsSoFar, Asks, wants_in, most_octets, ReadsNothing, IsInput, RefusesOctets, Refuses, TakesInput, Finishes, StopsShort, LeavesFront}
+use Rattle.mesh_tool.specs.Jobs.Lines.{words_line, read_line, refused_line, attach_line, turns_line, memory_line}
+use Rattle.mesh_tool.specs.declared.words.job.Job.{Job}
+use Rattle.mesh_tool.specs.declared.words.job.Job.TheVariants.{Dump, Run, Emulate, Make}
+use Rattle.mesh_made.specs.declared.kind.Kind.{Kind}
+use Rattle.mesh_tool.specs.declared.words.job.PacketWords.{PacketWords}
+use Rattle.mesh_tool.specs.Words.Words.{words_of}
+
+-- a fault that is told on err: its cause, what stands on out, and its line
+pub data Due (call : Call) : Status → List ℕ → Type 0 where
+  Wrong_words : IsErr (words_of call.words) → ReadsNothing call → Keeps call.out call.out' → Due call status.Words (words_line call.words)
+  Read_fault : (job : Job) → Asks call job → Rose call.read_faults call.read_faults' → Keeps call.out call.out' →
+      Due call status.Read read_line
+  Refusal : (number : ℕ) (key : List ℕ) (job : Job) → Asks call job → Refuses job call number key → Keeps call.out call.out' →
+      Due call status.Refused (refused_line number key)
+  Attach_fault : (turns interface : ℕ) (octets : List ℕ) → Asks call (Run turns) → IsInput 1048576 call octets →
+      FailsToAttach octets interface (told_in call) → Rose call.air_faults call.air_faults' → Keeps call.out call.out' →
+      Due call status.Attach (attach_line interface)
+  Turns_spent : (turns greatest end : ℕ) (octets : List ℕ) → Asks call (Run turns) → IsInput 1048576 call octets →
+      SpendsTurns octets turns greatest end (told_in call) → Keeps call.out call.out' → Due call status.Turns (turns_line turns greatest end)
+  Want_of_memory : (job : Job) → Asks call job → StopsShort call job → Due call status.Memory memory_line
+
+-- the whole text stands on out, of which no line or some line tells a refusal
+pub data Whole (call : Call) : Status → Type 0 where
+  All_well : (job : Job) → Asks call job → Finishes call job 0 → Whole call status.Done
+  Some_refused : (recode : Bool) (refused : ℕ) → Asks call (Dump recode) → 0 < refused → Finishes call (Dump recode) refused →
+      Whole call status.Packets
+
+-- a write failed: on out, where a front of a text of the job then stands, and nothing on err; or on err, where a front of the line of
+-- the fault that was due then stands
+pub data Fails (call : Call) : Type 0 where
+  On_out : (job : Job) → Asks call job → LeavesFront call job → Rose call.out_faults call.out_faults' → Appends call.err call.err' [] →
+      Fails call
+  On_err : (due : Status) (line : List ℕ) → Due call due line → Rose call.err_faults call.err_faults' → (size : ℕ) →
+      Appends call.err call.err' (take size line) → Fails call
+
+-- a fault's line stands on err
+pub record Tells (call : Call) (answer : Status) : Type 0 where
+  pub line : List ℕ
+  pub due : Due call answer line
+  pub stands : Appends call.err call.err' line
+
+-- what is answered, and then stands on out and err
+pub data Ends (call : Call) (answer : Status) : Type 0 where
+  Is_whole : Whole call answer → Appends call.err call.err' [] → Ends call answer
+  Is_told : Tells call answer → Ends call answer
+  Is_failed : answer ≡ status.Write → Fails call → Ends call answer
+
+-- of what the program does, a fact each
+pub record Answers (call : Call) (answer : Status) : Type 0 where
+  -- what stands on out and err, by the status
+  pub ends : Ends call answer
+  -- 0 to `dump`: the listing of the whole input stands on out, and none of its lines is refused
+  pub dumped : (recode : Bool) → answer ≡ status.Done → Asks call (Dump recode) →
+      (octets : List ℕ) × IsInput 67108864 call octets × (text : List ℕ) × IsDumpText octets recode 0 text × Appends call.out call.out' text
+  -- 0 to `run`: the input states a router, and the report of its run, by the moments and the reports told, stands on out
+  pub ran : (turns : ℕ) → answer ≡ status.Done → Asks call (Run turns) →
+      (octets : List ℕ) × IsInput 1048576 call octets × (r : WholeRun octets turns (told_in call)) × Appends call.out call.out' r.text
+  -- whatever is answered to `run`: the clock and the air weren't used, or they told a run of the router that the input states, or some
+  -- first turns of one, with all frames that were handed over
+  pub hands : (turns : ℕ) → Asks call (Run turns) →
+      UsesNoAir call ⊎ ((octets : List ℕ) × IsInput 1048576 call octets × RunsSoFar octets turns (told_in call))
+  -- no other command uses the clock or the air
+  pub airless : (job : Job) → Asks call job → ((turns : ℕ) → job ≡ Run turns → ⊥) → UsesNoAir call
+  -- 0 to `emulate`: the input states a scenario, and the text of a run of its network, from its opening to its end, stands on out,
+  -- and behind it the trip and the probe that the words ask for
+  pub emulated : (trace : Bool) (send : Option PacketWords) (probe : Option ℕ) → answer ≡ status.Done → Asks call (Emulate trace send probe) →
+      (octets : List ℕ) × IsInput 1048576 call octets × (e : Emulation octets (wants_in call.words trace send probe))
+      × Appends call.out call.out' e.text
+  -- 0 to `emulate --make`: what is told of a run of the made scenario stands on out, and nothing was read
+  pub made : (kind : Kind) (routers seed : ℕ) → answer ≡ status.Done → Asks call (Make kind routers seed) →
+      (m : MadeEmulation kind routers seed) × Appends call.out call.out' m.text × ReadsNothing call
+  -- `emulate --make` reads nothing, whatever is answered
+  pub unread : (kind : Kind) (routers seed : ℕ) → Asks call (Make kind routers seed) → ReadsNothing call
+  -- words that are no command line are told, or their line couldn't be written; nothing is read
+  pub no_command : IsErr (words_of call.words) →
+      ((answer ≡ status.Words) ⊎ (answer ≡ status.Write)) × ReadsNothing call × UsesNoAir call
+  -- an input that is too long is told, or its line couldn't be written
+  pub too_long : (job : Job) → Asks call job → call.taken' ≡ call.taken + (most_octets job + 1) →
+      (answer ≡ status.Refused) ⊎ (answer ≡ status.Write)
+  -- with right words, an input that the source tells and the job refuses, and no fault of the source, the refusal is told, or a line
+  -- couldn't be written, or memory was wanting
+  pub refuses : (job : Job) (octets : List ℕ) (number : ℕ) (key : List ℕ) → Asks call job → call.left ≡ Some octets →
+      RefusesOctets call.words job octets number key → (Rose call.read_faults call.read_faults' → ⊥) →
+      (answer ≡ status.Refused) ⊎ ((answer ≡ status.Write) ⊎ (answer ≡ status.Memory))
+  -- with right words, an input that the job takes, and no fault of source and sinks, the job is done, or its turns are, or memory was
+  -- wanting
+  pub complete : (job : Job) → Asks call job → TakesInput job call → (Rose call.read_faults call.read_faults' → ⊥) →
+      (Rose call.out_faults call.out_faults' → ⊥) → (Rose call.err_faults call.err_faults' → ⊥) →
+      (answer ≡ status.Done) ⊎ ((answer ≡ status.Packets) ⊎ ((answer ≡ status.Turns) ⊎ (answer ≡ status.Memory)))
+  -- the counts of faults never fall
+  pub later_input : call.read_faults ≤ call.read_faults'
+  pub later_out : call.out_faults ≤ call.out_faults'
+  pub later_err : call.err_faults ≤ call.err_faults'
+  pub later_air : call.air_faults ≤ call.air_faults'

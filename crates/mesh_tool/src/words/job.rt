@@ -1,0 +1,35 @@
+//! What a command line asks for.
+use mesh_atoms::Addr4;
+use mesh_made::Kind;
+
+/// A data packet that is to be sent: the place of the word that names the router it starts from, counted from 0, and the address
+/// that it is for.
+#[derive(Clone, Copy)]
+pub struct PacketWords {
+    pub from: usize,
+    pub dest: Addr4,
+}
+
+/// What a command line asks for: to list lines of hexadecimal text as packets, with `recode` each one written again in its
+/// least form; to run a router for at most so many turns, at least 1; to emulate the network of a scenario, with `trace` telling
+/// each event, with `send` the trip of a data packet at the end, and with `probe`, the place of the word that names a router, the probe
+/// of the network by that router; or to emulate the network of a scenario that is made of 2 to 64 routers by a seed below 2^32.
+#[derive(Clone, Copy)]
+pub enum Job {
+    Dump {
+        recode: bool,
+    },
+    Run {
+        turns: u32,
+    },
+    Emulate {
+        trace: bool,
+        send: Option<PacketWords>,
+        probe: Option<usize>,
+    },
+    Make {
+        kind: Kind,
+        routers: usize,
+        seed: u64,
+    },
+}

@@ -1,7 +1,0 @@
-pub mod CommandLines
-mod EmulateLines
-pub mod FirstFault
-mod MakeLines
-mod Orders
-mod Ranges
-mod Reading

@@ -1,5 +1,0 @@
-use Rattle.mesh_words.proofs.CommandLines.{asked_is_read, read_is_asked}
-use Rattle.mesh_words.proofs.laws.command_lines_are_read.Goals as goal
-
-pub returns : goal.returns
-returns c = λ words job. (λ h. read_is_asked words job h, λ asks. asked_is_read words job asks)

@@ -1,5 +1,0 @@
-use Rattle.mesh_words.proofs.FirstFault.{first_at_fault, refused_at_first}
-use Rattle.mesh_words.proofs.laws.faults_are_first.Goals as goal
-
-pub returns : goal.returns
-returns c = λ words place. (λ h. first_at_fault words place h, λ first. refused_at_first words place first)

@@ -1,6 +1,0 @@
-use Rattle.std.proofs.Common.{◌≡◌, drop}
-use Rattle.mesh_words.specs.Words.{words_of, read_on, texts}
-use Rattle.mesh_words.proofs.words.job_in.Given as goal
-
-abbrev pub invariant-loop-place : goal.invariant-loop-place
-invariant-loop-place l = record { left : words_of (texts l.words) ≡ read_on l.asked l.place (drop l.place (texts l.words)) }

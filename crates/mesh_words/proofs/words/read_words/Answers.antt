@@ -1,6 +1,0 @@
-use Rattle.mesh_words.specs.Words.{texts}
-use Rattle.mesh_words.proofs.Ranges.{read_in_range}
-use Rattle.mesh_words.proofs.words.read_words.Goals as goal
-
-pub returns-clause-range : goal.returns-clause-range
-returns-clause-range c = read_in_range (texts c.args.words.now) c.job_in.result c.job_in.ensures
