@@ -5,4 +5,5 @@ mod Owning
 pub mod Sets
 mod Spoken
 pub mod Summaries
+mod TwoHopsLemmas
 pub mod Walks

@@ -2,3 +2,4 @@ pub mod Losts
 pub mod Neighbours
 pub mod Owners
 pub mod Parts
+pub mod TwoHops

@@ -9,7 +9,9 @@ mod owners;
 mod parts;
 mod replacing;
 mod summary;
+mod two_hops;
 
 pub use losts::LostSet;
 pub use near::Near4;
 pub use neighbours::{LinkNote, NeighbourSet};
+pub use two_hops::TwoHopSet;

@@ -9,7 +9,7 @@ use Rattle.mesh_atoms.specs.declared.tuples.TwoHop.{TwoHop}
 use Rattle.mesh_atoms.specs.Base.{Base, find, link_eq, two_hop_eq}
 use Rattle.mesh_atoms.specs.Words.{IsKept}
 use Rattle.mesh_atoms.proofs.Lookups.{same_link, link_equiv}
-use Rattle.mesh_two_hops.specs.TwoHops.{DropsLink}
+use Rattle.mesh_nbrs.specs.TwoHops.TwoHops.{DropsLink}
 use Rattle.mesh_nhdp.specs.Calls.{TellsKeys, is_symmetric_in, DropsEnded}
 
 pub link_eq_same : (a b : LinkKey) → a ≡ b → link_eq a b ≡ true

@@ -23,7 +23,7 @@ use Rattle.mesh_links.specs.Links.{AdmitsLinks, ExpiresLinks, EndsOutside, Hears
 use Rattle.mesh_nbrs.specs.declared.neighbours.LinkNote.{LinkNote}
 use Rattle.mesh_nbrs.specs.Neighbours.{Replaces, RestoresBy}
 use Rattle.mesh_nbrs.specs.Losts.{SettlesAll}
-use Rattle.mesh_two_hops.specs.TwoHops.{DropsLink}
+use Rattle.mesh_nbrs.specs.TwoHops.TwoHops.{DropsLink}
 use Rattle.mesh_nhdp.specs.Calls.{key_at, TellsLinks, TellsLinksOf, TellsKeys, DropsEnded, TellsTwoHops}
 use Rattle.mesh_nhdp.specs.Wanted.{symmetric_at}
 use Rattle.mesh_hello.proofs.Lookups.{live_from, some_same, contains_or_not}

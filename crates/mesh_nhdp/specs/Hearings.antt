@@ -12,7 +12,7 @@ use Rattle.mesh_atoms.specs.declared.settings.RouterSettings.{RouterSettings}
 use Rattle.mesh_atoms.specs.Base.{Base, HasDistinctKeys, find, base_of, link_eq, two_hop_eq}
 use Rattle.mesh_atoms.specs.State.{HasAddress}
 use Rattle.mesh_atoms.specs.HelloTold.{Told}
-use Rattle.mesh_two_hops.specs.TwoHops.{DropsLink}
+use Rattle.mesh_nbrs.specs.TwoHops.TwoHops.{DropsLink}
 use Rattle.mesh_nhdp.specs.Calls.{TellsTwoHops, is_symmetric_in, key_at}
 use Rattle.mesh_nhdp.specs.Interfaces.{HearsAt}
 

@@ -6,7 +6,7 @@ ghost use Rattle.mesh_nhdp.specs.Calls.{is_symmetric_in, DropsEnded};
 use mesh_atoms::{Link, LinkKey, TwoHop, TwoHopKey};
 use mesh_expire::Table;
 use mesh_links::LinkSet;
-use mesh_two_hops::TwoHopSet;
+use mesh_nbrs::TwoHopSet;
 
 /// Whether there is a link with that key, and it is SYMMETRIC. Takes no memory.
 fn has_symmetric<T: Table<LinkKey, Link>>(table: &T, key: LinkKey, now: u64) -> bool

@@ -13,8 +13,7 @@ use crate::staying::{expire_beside, links_stay};
 use mesh_atoms::{Addr4, Link, LinkKey, Lost, Neighbour, RouterSettings, TwoHop, TwoHopKey};
 use mesh_expire::{Bases, Table};
 use mesh_links::LinkSet;
-use mesh_nbrs::{LostSet, NeighbourSet};
-use mesh_two_hops::TwoHopSet;
+use mesh_nbrs::{LostSet, NeighbourSet, TwoHopSet};
 use std::alloc::AllocError;
 
 impl<B: Bases> Nhdp<B> {

@@ -21,8 +21,7 @@ use mesh_atoms::{Addr4, Hello, Link, LinkKey, Lost, Neighbour, RouterSettings, T
 use mesh_expire::Table;
 use mesh_hello::Telling;
 use mesh_links::LinkSet;
-use mesh_nbrs::{LostSet, NeighbourSet};
-use mesh_two_hops::TwoHopSet;
+use mesh_nbrs::{LostSet, NeighbourSet, TwoHopSet};
 use std::alloc::{AllocError, Global};
 
 /// Takes the HELLO in on all interfaces; `least` is the key of the link that it came over, and `own` has the router's addresses.

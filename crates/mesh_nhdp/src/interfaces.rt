@@ -15,7 +15,7 @@ use crate::keys::put_table_keys;
 use mesh_atoms::{Addr4, Admit, Interface, Link, LinkKey, Shown, TwoHop, TwoHopKey};
 use mesh_expire::Table;
 use mesh_links::LinkSet;
-use mesh_two_hops::TwoHopSet;
+use mesh_nbrs::TwoHopSet;
 use std::alloc::{AllocError, Global};
 
 /// The keys of the links of one interface.

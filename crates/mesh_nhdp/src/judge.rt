@@ -15,8 +15,7 @@ use crate::two_hop_rows::count_symmetric;
 use mesh_atoms::{Addr4, Base, Hello, Lost, Neighbour, RouterSettings, Seq, TwoHop, TwoHopKey};
 use mesh_expire::Table;
 use mesh_hello::{Telling, own_addresses, receive_fault, tell};
-use mesh_nbrs::{LostSet, NeighbourSet};
-use mesh_two_hops::TwoHopSet;
+use mesh_nbrs::{LostSet, NeighbourSet, TwoHopSet};
 use std::alloc::{AllocError, Global};
 
 /// How many 2-hop tuples an interface holds at most.

@@ -6,8 +6,7 @@ ghost use Rattle.mesh_nhdp.specs.NhdpState.{NhdpState, empty_near};
 use mesh_atoms::{Addr4, Link, LinkKey, Lost, Neighbour, RouterSettings, TwoHop, TwoHopKey};
 use mesh_expire::{Bases, Table};
 use mesh_links::LinkSet;
-use mesh_nbrs::{LostSet, NeighbourSet};
-use mesh_two_hops::TwoHopSet;
+use mesh_nbrs::{LostSet, NeighbourSet, TwoHopSet};
 use std::alloc::{AllocError, Global};
 use std::marker::Model;
 

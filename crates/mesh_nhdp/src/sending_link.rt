@@ -5,7 +5,7 @@ ghost use Rattle.mesh_atoms.specs.State.{HasAddress};
 ghost use Rattle.mesh_atoms.specs.HelloTold.{Told};
 ghost use Rattle.mesh_atoms.specs.declared.tuples.Link.{Link};
 ghost use Rattle.mesh_atoms.specs.declared.settings.RouterSettings.{RouterSettings};
-ghost use Rattle.mesh_two_hops.specs.TwoHops.{DropsLink};
+ghost use Rattle.mesh_nbrs.specs.TwoHops.TwoHops.{DropsLink};
 ghost use Rattle.mesh_nhdp.specs.Calls.{TellsTwoHops};
 ghost use Rattle.mesh_nhdp.specs.Hearings.{UpdatesTwoHops};
 
@@ -13,7 +13,7 @@ use crate::two_hop_rows::tell_two_hops;
 use mesh_atoms::{Addr4, Hello, Link, LinkKey, TwoHop, TwoHopKey};
 use mesh_expire::Table;
 use mesh_links::LinkSet;
-use mesh_two_hops::TwoHopSet;
+use mesh_nbrs::TwoHopSet;
 use std::alloc::AllocError;
 
 /// Whether the link of the interface of that number with that key has exactly these addresses.

@@ -13,8 +13,7 @@ ghost use Rattle.mesh_nhdp.specs.Staying.{LinksStay, ExpiresBeside};
 use mesh_atoms::{Addr4, Link, LinkKey, Lost, RouterSettings, TwoHop, TwoHopKey};
 use mesh_expire::Table;
 use mesh_links::LinkSet;
-use mesh_nbrs::LostSet;
-use mesh_two_hops::TwoHopSet;
+use mesh_nbrs::{LostSet, TwoHopSet};
 
 /// Whether nothing becomes of the links of the interface of that number.
 fn stay_on<L: Table<LinkKey, Link>>(

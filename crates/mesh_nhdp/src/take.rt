@@ -13,8 +13,7 @@ use mesh_atoms::{
 };
 use mesh_expire::{Bases, Table};
 use mesh_links::LinkSet;
-use mesh_nbrs::{LostSet, NeighbourSet};
-use mesh_two_hops::TwoHopSet;
+use mesh_nbrs::{LostSet, NeighbourSet, TwoHopSet};
 use std::alloc::AllocError;
 
 /// What became of a HELLO: it was taken, it broke the rule of that number (RFC 6130, section 12.1), or a base would have been

@@ -15,7 +15,7 @@ use mesh_atoms::{
 };
 use mesh_expire::Table;
 use mesh_hello::ascending;
-use mesh_two_hops::TwoHopSet;
+use mesh_nbrs::TwoHopSet;
 use std::alloc::{AllocError, Global};
 
 /// Whether the row tells of a neighbour of the sender (RFC 6130, section 12.6).

@@ -5,7 +5,7 @@ use crate::tried::Tried;
 use mesh_atoms::{Addr4, TwoHop, TwoHopKey};
 use mesh_expire::Table;
 use mesh_fixtures::metric_if;
-use mesh_two_hops::TwoHopSet;
+use mesh_nbrs::TwoHopSet;
 use std::alloc::{AllocError, Global};
 
 #[derive(Clone, Copy)]

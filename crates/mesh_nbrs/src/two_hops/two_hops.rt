@@ -1,0 +1,118 @@
+//! The set of the 2-hop tuples of one interface.
+ghost use Rattle.std.specs.Prelude.{◌≡◌, ◌+◌, ◌↔◌, [], length, false, if◌then◌else◌, is_some, IfOk, OnOk, OnErr, IsTrue, IsSome, Some, None};
+ghost use Rattle.mesh_atoms.specs.Base.{Base, HasDistinctKeys, find, SetsOnly, Expires, two_hop_eq, link_eq};
+ghost use Rattle.mesh_nbrs.specs.TwoHops.TwoHops.{DropsLink};
+
+use crate::two_hops::keyed::{purge_after, put_keyed, remove_keyed};
+use crate::two_hops::two_hop_order::drop_all;
+use mesh_atoms::{Addr4, LinkKey, Metric, TwoHop, TwoHopKey};
+use mesh_expire::{Table, expire_each};
+use std::alloc::{AllocError, Global};
+use std::collections::BTreeSet;
+use std::marker::Model;
+
+/// The 2-hop tuples of one interface. After want of memory the set may only be dropped.
+#[derive(Drop)]
+pub struct TwoHopSet<T: Table<TwoHopKey, TwoHop>> {
+    table: T,
+    keys: BTreeSet<TwoHopKey>,
+}
+
+impl<T: Table<TwoHopKey, TwoHop>> Model for TwoHopSet<T> {
+    ghost use Rattle.mesh_atoms.specs.Base.{Base};
+    ghost use Rattle.mesh_atoms.specs.declared.tuples.TwoHopKey.{TwoHopKey};
+    ghost use Rattle.mesh_atoms.specs.declared.tuples.TwoHop.{TwoHop};
+
+    ghost Value = { Base TwoHopKey TwoHop };
+
+    ghost use Rattle.mesh_atoms.specs.Base.{HasDistinctKeys, two_hop_eq};
+    ghost use Rattle.mesh_nbrs.specs.TwoHops.Keyed.{Knows};
+
+    ghost view = { λ s. T.content s.table };
+
+    ghost invariant = { λ s. HasDistinctKeys two_hop_eq (T.content s.table) × Knows two_hop_eq ⟦<TwoHopKey as Ord>⟧.cmp s.keys (T.content s.table) };
+}
+
+impl<T: Table<TwoHopKey, TwoHop>> TwoHopSet<T> {
+    /// No tuples.
+    pub fn new(alloc: Global) -> Result<TwoHopSet<T>, AllocError>
+        ensures { IfOk result (λ set. set ≡ []) }
+    {
+        Ok(TwoHopSet {
+            table: T::new(alloc)?,
+            keys: BTreeSet::new(alloc),
+        })
+    }
+
+    /// The tuples as a table. Takes no memory.
+    pub fn table(&self) -> &T
+        ensures content { T.content result.now ≡ self.now }
+        ensures distinct { HasDistinctKeys two_hop_eq self.now }
+    {
+        &self.table
+    }
+
+    /// Makes the tuple of a link and an address, in place of the one that stood there: the metrics are the neighbour's, from
+    /// and to the address (RFC 6130, section 12.6, and RFC 7181, section 15.3). Want of memory leaves the set unchanged.
+    pub fn renew(
+        &mut self,
+        link: LinkKey,
+        addr: Addr4,
+        metric_in: Option<Metric>,
+        metric_out: Option<Metric>,
+        until: u64,
+    ) -> Result<(), AllocError>
+        ensures ok { OnOk result (SetsOnly two_hop_eq self.old self.new (record { link = link; addr = addr })
+            (Some (record { metric_in = metric_in; metric_out = metric_out }, until))) }
+        ensures count { OnOk result (length self.new
+            ≡ length self.old + (if is_some (find two_hop_eq self.old (record { link = link; addr = addr })) then 0 else 1)) }
+        ensures err { OnErr result (self.new ≡ self.old) }
+        ensures distinct { HasDistinctKeys two_hop_eq self.new }
+    {
+        put_keyed(
+            &mut self.table,
+            &mut self.keys,
+            TwoHopKey { link, addr },
+            TwoHop {
+                metric_in,
+                metric_out,
+            },
+            until,
+        )
+    }
+
+    /// Takes out the tuple of a link and an address (RFC 6130, section 12.6); false, changing nothing, where there is none.
+    /// Takes no memory.
+    pub fn drop_row(&mut self, link: LinkKey, addr: Addr4) -> bool
+        ensures found { IsTrue result ↔ IsSome (find two_hop_eq self.old (record { link = link; addr = addr })) }
+        ensures removed { SetsOnly two_hop_eq self.old self.new (record { link = link; addr = addr }) None }
+        ensures count { length self.new + (if result then 1 else 0) ≡ length self.old }
+        ensures unchanged { result ≡ false → self.new ≡ self.old }
+        ensures distinct { HasDistinctKeys two_hop_eq self.new }
+    {
+        remove_keyed(&mut self.table, &mut self.keys, &TwoHopKey { link, addr })
+    }
+
+    /// Takes out all tuples of a link (RFC 6130, section 13), and gives their number. Takes no memory. Looks at no other link's
+    /// tuples.
+    pub fn drop_link(&mut self, link: LinkKey) -> usize
+        ensures dropped { DropsLink link self.old self.new }
+        ensures count { result + length self.new ≡ length self.old }
+        ensures distinct { HasDistinctKeys two_hop_eq self.new }
+    {
+        drop_all(&mut self.table, &mut self.keys, link)
+    }
+
+    /// Takes out the tuples whose moment is at or below now (RFC 6130, section 13), and gives their number. Takes no memory.
+    /// Where some go, all keys are looked at.
+    pub fn expire(&mut self, now: u64) -> usize
+        ensures expired { Expires two_hop_eq now self.old self.new }
+        ensures count { result + length self.new ≡ length self.old }
+        ensures none { result ≡ 0 → self.new ≡ self.old }
+        ensures distinct { HasDistinctKeys two_hop_eq self.new }
+    {
+        let gone = expire_each(&mut self.table, now);
+        purge_after(&mut self.keys, &self.table, gone);
+        gone
+    }
+}

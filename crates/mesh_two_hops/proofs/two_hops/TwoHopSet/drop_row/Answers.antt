@@ -1,7 +1,0 @@
-use Rattle.mesh_two_hops.proofs.two_hops.TwoHopSet.drop_row.Goals as goal
-
-pub returns-clause-found : goal.returns-clause-found
-returns-clause-found g c = rw (← c.self.view_is) c.remove_keyed.ensures.found
-
-pub returns-clause-removed : goal.returns-clause-removed
-returns-clause-removed g c = rw (← c.self.view_is) c.remove_keyed.ensures.removed

@@ -1,7 +1,0 @@
-use Rattle.mesh_two_hops.proofs.two_hops.TwoHopSet.renew.Goals as goal
-
-pub returns-clause-ok : goal.returns-clause-ok
-returns-clause-ok g c = rw (← c.self.view_is) c.put_keyed.ensures.ok
-
-pub returns-clause-count : goal.returns-clause-count
-returns-clause-count g c = rw (← c.self.view_is) c.put_keyed.ensures.count

@@ -1,8 +1,0 @@
-//! 2-hop neighbours (RFC 6130, section 7.2, and RFC 7181, section 8.2).
-#![tactic(auto)]
-
-mod keyed;
-mod two_hop_order;
-mod two_hops;
-
-pub use two_hops::TwoHopSet;
