@@ -3,6 +3,7 @@
 
 mod bases;
 mod expiring;
+mod index;
 mod keyed;
 mod keys;
 mod list_table;
@@ -11,6 +12,7 @@ mod table;
 
 pub use bases::{Bases, NoBases, PlainBases};
 pub use expiring::expire_each;
+pub use index::{IndexTable, IndexedBases};
 pub use keyed::{expire_keyed, put_keyed, remove_keyed};
 pub use list_table::ListTable;
 pub use no_table::NoTable;

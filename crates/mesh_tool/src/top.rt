@@ -10,7 +10,7 @@ ghost use Rattle.mesh_tool.specs.Words.Words.{texts};
 
 use crate::answers::top_over;
 use crate::jobs::Status;
-use mesh_index::IndexedBases;
+use mesh_expire::IndexedBases;
 use mesh_io::{Air, Clock, Sink, Source};
 use std::alloc::Global;
 

@@ -1,7 +1,6 @@
 //! The same 2,000 calls on a plain list and on an indexed table, drawn from words of ChaCha20.
 use mesh_atoms::Addr4;
-use mesh_expire::{ListTable, Table};
-use mesh_index::IndexTable;
+use mesh_expire::{IndexTable, ListTable, Table};
 use rand_chacha::ChaCha20Rng;
 use rand_core::SeedableRng;
 use rand_core::utils::NextWord;

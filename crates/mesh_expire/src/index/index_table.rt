@@ -1,0 +1,248 @@
+//! A table with an index of its keys, and one of its moments.
+ghost use Rattle.std.specs.Prelude.{◌≡◌, ◌≤◌, ◌<◌, ℕ, ◌+◌, length, true, false, if◌then◌else◌, is_some, IfOk, OnOk, OnErr, IfSome, IfNone, IsTrue, IsSome, ◌↔◌, Some, None};
+ghost use Rattle.std.specs.BTreeSet.{contains, btree_set_len, Updates, IsUnchanged};
+ghost use Rattle.mesh_atoms.specs.Base.{HasDistinctKeys, find, SetsOnly, Expires, IsFresh};
+ghost use Rattle.mesh_expire.specs.Table.{changed_at, TakesExpired};
+ghost use Rattle.mesh_expire.specs.Index.Moments.{moment_cmp, is_moment, until_of, Tells, SetsMoment};
+
+use crate::{Key, Table};
+use indexmap::IndexMap;
+use std::alloc::{AllocError, Global};
+use std::collections::BTreeSet;
+use std::hash::Hash;
+use std::marker::Model;
+
+/// A table that finds a key by its hash, and what is expired by the order of the moments.
+#[derive(Drop)]
+pub struct IndexTable<K: Key + Ord + Hash, V> {
+    map: IndexMap<K, (V, u64)>,
+    moments: BTreeSet<(u64, K)>,
+}
+
+impl<K: Key + Ord + Hash, V> Model for IndexTable<K, V> {
+    ghost use Rattle.mesh_atoms.specs.Base.{Base};
+    ghost use Rattle.mesh_expire.specs.Index.Moments.{Tells};
+
+    ghost Value = { Base K V };
+
+    ghost view = { λ t. t.map.entries };
+
+    ghost invariant = { λ t. Tells K.eq K.cmp t.moments t.map.entries };
+}
+
+// Takes out the pair that ends first, where its moment is at or below now, and gives its key.
+fn take_expired<K: Key + Ord + Drop>(moments: &mut BTreeSet<(u64, K)>, now: u64) -> Option<K>
+    ensures some { IfSome result (λ key. (moment : ℕ) × (moment ≤ now) × IsTrue (contains (moment_cmp K.cmp) moments.old (moment, key))
+        × Updates (moment_cmp K.cmp) moments.old moments.new (moment, key) false) }
+    ensures none { IfNone result (IsUnchanged moments.old moments.new) }
+    ensures rest { IfNone result ((moment : ℕ) (key : K) → IsTrue (contains (moment_cmp K.cmp) moments.old (moment, key)) → now < moment) }
+    ensures len { btree_set_len moments.new + (if is_some result then 1 else 0) ≡ btree_set_len moments.old }
+{
+    let least = *moments.first()?;
+    if now < least.0 {
+        return None;
+    }
+    moments.remove(&least);
+    Some(least.1)
+}
+
+// Gives a key a moment in place of the one that it had; the same one changes nothing.
+fn move_moment<K: Key + Ord + Drop>(
+    moments: &mut BTreeSet<(u64, K)>,
+    key: K,
+    before: Option<u64>,
+    until: u64,
+) -> Result<(), AllocError>
+    requires { SetsMoment K.eq K.cmp moments.old moments.old key before }
+    ensures ok { OnOk result (SetsMoment K.eq K.cmp moments.old moments.new key (Some until)) }
+    ensures err { OnErr result (IsUnchanged moments.old moments.new) }
+{
+    let Some(moment) = before else {
+        moments.insert((until, key))?;
+        return Ok(());
+    };
+    if moment == until {
+        return Ok(());
+    }
+    moments.insert((until, key))?;
+    moments.remove(&(moment, key));
+    Ok(())
+}
+
+fn until_at<K: Key + Hash, V>(map: &IndexMap<K, (V, u64)>, key: &K) -> Option<u64>
+    ensures { result ≡ until_of (find K.eq map.now.entries key.now) }
+{
+    match map.get(key) {
+        Some(entry) => Some(entry.1),
+        None => None,
+    }
+}
+
+fn put_in<K: Key + Ord + Hash + Drop, V: Drop>(
+    map: &mut IndexMap<K, (V, u64)>,
+    moments: &mut BTreeSet<(u64, K)>,
+    key: K,
+    value: V,
+    until: u64,
+) -> Result<(), AllocError>
+    requires { Tells K.eq K.cmp moments.old map.old.entries }
+    ensures tells { Tells K.eq K.cmp moments.new map.new.entries }
+    ensures distinct { HasDistinctKeys K.eq map.new.entries }
+    ensures ok { OnOk result (SetsOnly K.eq map.old.entries map.new.entries key (Some (value, until))) }
+    ensures err { OnErr result (map.new.entries ≡ map.old.entries) }
+    ensures count { OnOk result (length map.new.entries ≡ length map.old.entries + (if is_some (find K.eq map.old.entries key) then 0 else 1)) }
+{
+    // Its keys are distinct, which the proof needs.
+    let _count = map.len();
+    let before = until_at(map, &key);
+    move_moment(moments, key, before, until)?;
+    let Err(_) = map.insert(key, (value, until)) else {
+        return Ok(());
+    };
+    moments.remove(&(until, key));
+    Err(AllocError)
+}
+
+fn remove_from<K: Key + Ord + Hash + Drop, V: Drop>(
+    map: &mut IndexMap<K, (V, u64)>,
+    moments: &mut BTreeSet<(u64, K)>,
+    key: &K,
+) -> bool
+    requires { Tells K.eq K.cmp moments.old map.old.entries }
+    ensures tells { Tells K.eq K.cmp moments.new map.new.entries }
+    ensures distinct { HasDistinctKeys K.eq map.new.entries }
+    ensures found { IsTrue result ↔ IsSome (find K.eq map.old.entries key.now) }
+    ensures removed { SetsOnly K.eq map.old.entries map.new.entries key.now None }
+    ensures unchanged { result ≡ false → map.new.entries ≡ map.old.entries }
+    ensures count { length map.new.entries + (if result then 1 else 0) ≡ length map.old.entries }
+{
+    let Some((_, until)) = map.swap_remove(key) else {
+        return false;
+    };
+    moments.remove(&(until, *key));
+    true
+}
+
+fn drop_expired<K: Key + Ord + Hash + Drop, V: Drop>(
+    map: &mut IndexMap<K, (V, u64)>,
+    moments: &mut BTreeSet<(u64, K)>,
+    now: u64,
+) -> usize
+    requires { Tells K.eq K.cmp moments.old map.old.entries }
+    ensures tells { Tells K.eq K.cmp moments.new map.new.entries }
+    ensures distinct { HasDistinctKeys K.eq map.new.entries }
+    ensures kept { Expires K.eq now map.old.entries map.new.entries }
+    ensures count { result + length map.new.entries ≡ length map.old.entries }
+{
+    let before = map.len();
+    while let Some(key) = take_expired(moments, now) {
+        map.swap_remove(&key);
+    }
+    before - map.len()
+}
+
+fn take_next<K: Key + Ord + Hash + Drop, V: Drop>(
+    map: &mut IndexMap<K, (V, u64)>,
+    moments: &mut BTreeSet<(u64, K)>,
+    now: u64,
+) -> Option<(K, V)>
+    requires { Tells K.eq K.cmp moments.old map.old.entries }
+    ensures tells { Tells K.eq K.cmp moments.new map.new.entries }
+    ensures distinct { HasDistinctKeys K.eq map.new.entries }
+    ensures some { IfSome result (λ e. TakesExpired K.eq now e.0 e.1 map.old.entries map.new.entries) }
+    ensures none { IfNone result (map.new.entries ≡ map.old.entries) }
+    ensures fresh { IfNone result (IsFresh K.eq now map.old.entries) }
+    ensures count { length map.new.entries + (if is_some result then 1 else 0) ≡ length map.old.entries }
+{
+    // Its keys are distinct, which the proof needs.
+    let _count = map.len();
+    let Some(key) = take_expired(moments, now) else {
+        return None;
+    };
+    // Its key is in the map.
+    let Some((value, _)) = map.swap_remove(&key) else {
+        return None;
+    };
+    Some((key, value))
+}
+
+fn set_until_in<K: Key + Ord + Hash + Drop, V>(
+    map: &mut IndexMap<K, (V, u64)>,
+    moments: &mut BTreeSet<(u64, K)>,
+    key: &K,
+    until: u64,
+) -> Result<bool, AllocError>
+    requires { Tells K.eq K.cmp moments.old map.old.entries }
+    ensures tells { Tells K.eq K.cmp moments.new map.new.entries }
+    ensures distinct { HasDistinctKeys K.eq map.new.entries }
+    ensures found { IfOk result (λ was_there. IsTrue was_there ↔ IsSome (find K.eq map.old.entries key.now)) }
+    ensures ok { OnOk result (map.new.entries ≡ changed_at K.eq map.old.entries key.now (λ e. (e.0, until))) }
+    ensures err { OnErr result (map.new.entries ≡ map.old.entries) }
+{
+    // Its keys are distinct, which the proof needs.
+    let _count = map.len();
+    let Some(before) = until_at(map, key) else {
+        return Ok(false);
+    };
+    move_moment(moments, *key, Some(before), until)?;
+    if let Some(entry) = map.get_mut(key) {
+        entry.1 = until;
+    }
+    Ok(true)
+}
+
+impl<K: Key + Ord + Hash + Drop, V: Drop> Table<K, V> for IndexTable<K, V> {
+    ghost content = { λ t. t };
+
+    fn new(alloc: Global) -> Result<IndexTable<K, V>, AllocError> {
+        Ok(IndexTable {
+            map: IndexMap::new(alloc),
+            moments: BTreeSet::new(alloc),
+        })
+    }
+
+    fn len(&self) -> usize {
+        self.map.len()
+    }
+
+    fn at(&self, place: usize) -> Option<(&K, &V, u64)> {
+        match self.map.get_index(place) {
+            Some((key, entry)) => Some((key, &entry.0, entry.1)),
+            None => None,
+        }
+    }
+
+    fn get(&self, key: &K) -> Option<(&V, u64)> {
+        match self.map.get(key) {
+            Some(entry) => Some((&entry.0, entry.1)),
+            None => None,
+        }
+    }
+
+    fn put(&mut self, key: K, value: V, until: u64) -> Result<(), AllocError> {
+        put_in(&mut self.map, &mut self.moments, key, value, until)
+    }
+
+    fn remove(&mut self, key: &K) -> bool {
+        remove_from(&mut self.map, &mut self.moments, key)
+    }
+
+    fn expire(&mut self, now: u64) -> usize {
+        drop_expired(&mut self.map, &mut self.moments, now)
+    }
+
+    fn expire_next(&mut self, now: u64) -> Option<(K, V)> {
+        take_next(&mut self.map, &mut self.moments, now)
+    }
+
+    fn value_mut(&mut self, key: &K) -> Option<&mut V> {
+        match self.map.get_mut(key) {
+            Some(entry) => Some(&mut entry.0),
+            None => None,
+        }
+    }
+
+    fn set_until(&mut self, key: &K, until: u64) -> Result<bool, AllocError> {
+        set_until_in(&mut self.map, &mut self.moments, key, until)
+    }
+}
