@@ -30,16 +30,16 @@ use Rattle.mesh_atoms.proofs.Lookups.{same_link, link_equiv, tests_symmetric, ro
 use Rattle.mesh_atoms.proofs.Nets.{same_net}
 use Rattle.mesh_paths.specs.Paths.{IsCertificate}
 use Rattle.mesh_paths.proofs.Rows.{of_each}
-use Rattle.mesh_hops.specs.declared.owners.Owner.{Owner}
-use Rattle.mesh_hops.specs.declared.ways.Way.{Way}
+use Rattle.mesh_routes.specs.declared.hops.owners.Owner.{Owner}
+use Rattle.mesh_routes.specs.declared.hops.ways.Way.{Way}
 use Rattle.mesh_routes.specs.Arcs.{IsArcOfAll, IsGraphOf}
 use Rattle.mesh_routes.specs.Firsts.{NodeMap, first_at, IsParentIn, AreFirsts}
-use Rattle.mesh_hops.specs.Own.{IsOutsideOf}
-use Rattle.mesh_hops.specs.Owners.{addr_cmp, OwnerMap, owner_at, owner_by}
+use Rattle.mesh_routes.specs.Hops.Own.{IsOutsideOf}
+use Rattle.mesh_routes.specs.Hops.Owners.{addr_cmp, OwnerMap, owner_at, owner_by}
 use Rattle.mesh_routes.specs.Owners.{AreOwners}
 use Rattle.mesh_routes.specs.Passes.{Adds}
 use Rattle.mesh_routes.specs.Rows.{IsHop, HasNoHop, HasNoRoute, route_by, AreRoutesOf}
-use Rattle.mesh_hops.specs.Ways.{way_at, IsNoWorse}
+use Rattle.mesh_routes.specs.Hops.Ways.{way_at, IsNoWorse}
 use Rattle.mesh_routes.specs.Ways.{IsWayOfAll}
 use Rattle.mesh_routes.proofs.GraphWalks.{least_of, row_tells, row_reached}
 use Rattle.mesh_routes.proofs.KnownOwners.{entry_at, one_at, owner_of, owner_known}

@@ -4,18 +4,18 @@ ghost use Rattle.std.specs.List.{filter_map, cons_option};
 ghost use Rattle.std.specs.Prelude.{[]};
 ghost use Rattle.mesh_atoms.specs.declared.graphs.Arc4.{Arc4};
 ghost use Rattle.mesh_atoms.specs.Base.{base_of};
-ghost use Rattle.mesh_hops.specs.Arcs.{two_hop_arc};
-ghost use Rattle.mesh_hops.specs.Owners.{addr_cmp};
+ghost use Rattle.mesh_routes.specs.Hops.Arcs.{two_hop_arc};
+ghost use Rattle.mesh_routes.specs.Hops.Owners.{addr_cmp};
 ghost use Rattle.mesh_routes.specs.Arcs.{own_arc};
 ghost use Rattle.std.specs.BTreeMap.{IsOrdered};
 ghost use Rattle.mesh_routes.specs.Passes.{Adds, GivenBy};
 
+use crate::hops::{Owner, known_arc, two_hop_arc};
 use mesh_atoms::{
     Addr4, AddressKey, AddressTuple, Arc4, NetAddr, NetworkKey, NetworkTuple, RouterKey,
     RouterTuple, Seq, host,
 };
 use mesh_expire::{Key, Table};
-use mesh_hops::{Owner, known_arc, two_hop_arc};
 use mesh_nbrs::Near4;
 use std::alloc::AllocError;
 use std::collections::BTreeMap;
@@ -74,7 +74,7 @@ pub(crate) trait Leads<K>: Sized {
 
 impl Leads<RouterKey> for RouterTuple {
     ghost use Rattle.mesh_atoms.specs.Base.{host};
-    ghost use Rattle.mesh_hops.specs.Arcs.{arc_at};
+    ghost use Rattle.mesh_routes.specs.Hops.Arcs.{arc_at};
 
     ghost leads = { λ key tuple. arc_at (host key.from) (host key.to) tuple.metric };
 
@@ -89,7 +89,7 @@ impl Leads<RouterKey> for RouterTuple {
 
 impl Leads<AddressKey> for AddressTuple {
     ghost use Rattle.mesh_atoms.specs.Base.{host};
-    ghost use Rattle.mesh_hops.specs.Arcs.{arc_at};
+    ghost use Rattle.mesh_routes.specs.Hops.Arcs.{arc_at};
 
     ghost leads = { λ key tuple. arc_at (host key.from) (host key.addr) tuple.metric };
 
@@ -104,7 +104,7 @@ impl Leads<AddressKey> for AddressTuple {
 
 impl Leads<NetworkKey> for NetworkTuple {
     ghost use Rattle.mesh_atoms.specs.Base.{host};
-    ghost use Rattle.mesh_hops.specs.Arcs.{arc_at};
+    ghost use Rattle.mesh_routes.specs.Hops.Arcs.{arc_at};
 
     ghost leads = { λ key tuple. arc_at (host key.from) key.net tuple.metric };
 

@@ -6,6 +6,7 @@ mod arcs;
 mod bases;
 mod choice;
 mod firsts;
+mod hops;
 mod laws;
 mod owners;
 mod routes;
@@ -13,7 +14,10 @@ mod rows;
 mod ways;
 
 pub use choice::graph_of;
+pub use hops::{
+    Flooding, Owner, Purpose, Routing, RoutingSet, Way, best_way, is_outside, known_arc, owner_at,
+    owner_by, two_hop_arc, way_of,
+};
 pub use laws::routes_and_graphs_stay;
 pub use mesh_atoms::Route;
-pub use mesh_hops::RoutingSet;
 pub use routes::routes_of;

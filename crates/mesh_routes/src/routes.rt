@@ -7,11 +7,11 @@ ghost use Rattle.mesh_atoms.specs.State.{State};
 
 use crate::bases::{graph_of_topology, ways_of};
 use crate::firsts::firsts_of;
+use crate::hops::RoutingSet;
 use crate::owners::owners_of;
 use crate::rows::rows_of;
 use mesh_atoms::{RouterSettings, host};
 use mesh_expire::Bases;
-use mesh_hops::RoutingSet;
 use mesh_nbrs::Near4;
 use mesh_paths::search;
 use mesh_topo::Topology;

@@ -1,4 +1,0 @@
-mod LeastCosts
-mod Searching
-mod Tests
-pub mod WayOrder

@@ -1,0 +1,4 @@
+pub mod LeastCosts
+pub mod Searching
+pub mod Tests
+pub mod WayOrder

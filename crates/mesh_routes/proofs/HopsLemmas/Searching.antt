@@ -1,0 +1,123 @@
+-- The search for the route to a node, and for the longest prefix.
+use Rattle.std.proofs.Common.{◌≡◌, ◌≢◌, ℕ, ◌+◌, ◌-◌, ◌*◌, ◌/◌, ◌^◌, ◌<◌, ◌≤◌, inl, inr, refl, sym, ◌∙◌, ap, subst, arith, List, [], ◌∷◌, length, Result, Ok, Err, Option, Some, None, Bor, slice_get, slice_index_or, true, false, Contains}
+use Rattle.std.specs.Prelude.{IfOk, IfErr, IfSome, IfNone}
+use Rattle.std.specs.Option.{option_copied}
+use Rattle.std.specs.List.{AllPairs, HoldsAt}
+use Rattle.std.specs.List.Sorted.{IsSortedBy, IsSearchInRange, IsBinarySearchResult}
+use Rattle.std.specs.Ordering.{is_lt}
+use Rattle.std.specs.declared.cmp.Ordering.{Ordering}
+use Rattle.std.specs.declared.cmp.Ordering.TheVariants.{Less, Equal, Greater}
+use Rattle.std.proofs.lemmas.Bool.{cases_Bool, cases_lt}
+use Rattle.std.proofs.lemmas.Cmp.{tied_itself}
+use Rattle.std.proofs.lemmas.List.Sorted.{searchable_from_sorted}
+use Rattle.std.proofs.lemmas.Option.{slice_get_within, slice_get-get_or, get_or_from_slice_get}
+use Rattle.mesh_atoms.specs.declared.addr.Addr4.{Addr4}
+use Rattle.mesh_atoms.specs.declared.addr.NetAddr.{NetAddr}
+use Rattle.mesh_atoms.specs.declared.graphs.Route.{Route}
+use Rattle.mesh_atoms.specs.Nodes.{IsBefore, net_cmp}
+use Rattle.mesh_atoms.proofs.NetOrder.{net_total, net_exact, net_less}
+use Rattle.mesh_atoms.proofs.Nets.{same_net}
+use Rattle.mesh_paths.proofs.Order.{before_trans, not_before_itself}
+use Rattle.mesh_atoms.specs.NextHop.{Holds, IsLongest, HasNoRouteTo}
+use Rattle.mesh_routes.specs.Hops.NextHop.{IsPlaceOf, IsLongestAt}
+
+is_less : (o : Ordering) → is_lt o ≡ true → o ≡ Less
+is_less Less e = refl
+is_less Equal e = absurd (cc)
+is_less Greater e = absurd (cc)
+
+-- what stands before is not less
+not_less : (a b : NetAddr) → IsBefore a b → is_lt (net_cmp b a) ≡ false
+not_less a b before = elim (cases_Bool (is_lt (net_cmp b a))) [
+  | inl t ↦ absurd (not_before_itself a a refl (before_trans a b a before (net_less b a (is_less (net_cmp b a) t))))
+  | inr f ↦ f
+]
+
+module _ (rows : List Route) (pairs : AllPairs (λ r t. IsBefore r.dest t.dest) rows) (node : NetAddr) where
+  sorted : IsSortedBy (λ (a b : Route). is_lt (net_cmp a.dest b.dest)) rows
+  sorted k d from to = not_less (slice_index_or rows k d).dest (slice_index_or rows (k + 1) d).dest (pairs k (k + 1) d (omega arith) to)
+
+  is_equal_at : (r : Route) → r.dest ≡ node → net_cmp r.dest node ≡ Equal
+  is_equal_at r e = subst (λ (n : NetAddr). net_cmp r.dest n ≡ Equal) e (tied_itself net_total r.dest)
+
+  pub found_at : (res : Result ℕ ℕ) → IsSearchInRange res (length rows) → IsBinarySearchResult (λ (y : Route). net_cmp y.dest node) rows res → IfOk res (IsPlaceOf rows node)
+  found_at (Err i) bound h = tt
+  found_at (Ok k) bound h = first rows k bound h
+    where
+      first : (list : List Route) (k : ℕ) → k < length list → HoldsAt (λ (y : Route). net_cmp y.dest node ≡ Equal) list k → IsPlaceOf list node k
+      first [] k l h = absurd (omega arith)
+      first (x ∷ xs) k l h =
+          let r : Route = slice_index_or (x ∷ xs) k x in
+          (r, slice_get-get_or (x ∷ xs) k x l, net_exact r.dest node (h x))
+
+  pub absent : (res : Result ℕ ℕ) → IsBinarySearchResult (λ (y : Route). net_cmp y.dest node) rows res → IfErr res (λ _. (r : Route) → Contains rows r → r.dest ≢ node)
+  absent (Ok k) h = tt
+  absent (Err i) h = λ r has e. none_there r has e
+    where
+      none_there : (r : Route) → Contains rows r → r.dest ≢ node
+      none_there r (k, l, is) e =
+          let parts = h (searchable_from_sorted net_total (λ (y : Route). y.dest) rows node sorted) in
+          let same : net_cmp r.dest node ≡ Equal = is_equal_at r e in
+          elim (cases_lt k i) [
+            | inl less ↦
+                let below : net_cmp (slice_index_or rows k r).dest node ≡ Less = parts.0 k r (omega arith) less in
+                let mine : net_cmp r.dest node ≡ Less = subst (λ (x : Route). net_cmp x.dest node ≡ Less) is below in
+                let b : Less ≡ Equal = sym mine ∙ same in
+                absurd (cc)
+            | inr more ↦
+                let above : net_cmp (slice_index_or rows k r).dest node ≡ Greater = parts.1 k r more l in
+                let mine : net_cmp r.dest node ≡ Greater = subst (λ (x : Route). net_cmp x.dest node ≡ Greater) is above in
+                let b : Greater ≡ Equal = sym mine ∙ same in
+                absurd (cc)
+          ]
+
+-- The prefixes from the longest on
+
+-- no route has the address by a prefix above the bound
+abbrev pub HasNoLonger : List Route → Addr4 → ℕ → Type 0
+HasNoLonger routes a less = (r : Route) → Contains routes r → Holds r.dest a → r.dest.prefix + less ≤ 32
+
+pub no_longer_at_first : (routes : List Route) (a : Addr4) → HasNoLonger routes a 0
+no_longer_at_first routes a r has holds = omega (arith, r.dest.within)
+
+-- a network of that prefix that has the address is the address with the further bits cleared
+is_that : (net of : NetAddr) (a : Addr4) (p : ℕ) → net.prefix ≡ p → of.prefix ≡ p → of.addr.0 ≡ a.0 / 2 ^ (32 - p) * 2 ^ (32 - p) → Holds net a → net ≡ of
+is_that net of a p is_p of_p cleared holds =
+    let mine : a.0 / 2 ^ (32 - p) * 2 ^ (32 - p) ≡ net.addr.0 = subst (λ (n : ℕ). a.0 / 2 ^ (32 - n) * 2 ^ (32 - n) ≡ net.addr.0) is_p holds in
+    let numbers : net.addr.0 ≡ of.addr.0 = sym mine ∙ sym cleared in
+    same_net net of (ap (λ (n : ℕ). let x : Addr4 = record { 0 = n } in x) numbers) (is_p ∙ sym of_p)
+
+pub no_longer_more : (routes : List Route) (a : Addr4) (less : ℕ) (of : NetAddr) → less < 33 → of.prefix ≡ 32 - less → of.addr.0 ≡ a.0 / 2 ^ (32 - (32 - less)) * 2 ^ (32 - (32 - less)) →
+    ((r : Route) → Contains routes r → r.dest ≢ of) → HasNoLonger routes a less → HasNoLonger routes a (less + 1)
+no_longer_more routes a less of low prefix cleared none before r has holds =
+    let upto : r.dest.prefix + less ≤ 32 = before r has holds in
+    elim (cases_lt r.dest.prefix (32 - less)) [
+      | inl shorter ↦ omega arith
+      | inr longer ↦
+          let at : r.dest.prefix ≡ 32 - less = omega arith in
+          absurd (none r has (is_that r.dest of a (32 - less) at prefix cleared holds))
+    ]
+
+pub longest_at : (routes : List Route) (a : Addr4) (less : ℕ) (of : NetAddr) (k : ℕ) → less < 33 → of.prefix ≡ 32 - less → of.addr.0 ≡ a.0 / 2 ^ (32 - (32 - less)) * 2 ^ (32 - (32 - less)) →
+    IsPlaceOf routes of k → HasNoLonger routes a less → IsLongestAt routes a k
+longest_at routes a less of k low prefix cleared (r, at, is) before =
+    let mine : r.dest.prefix ≡ 32 - less = ap (λ (n : NetAddr). n.prefix) is ∙ prefix in
+    let number : r.dest.addr.0 ≡ a.0 / 2 ^ (32 - (32 - less)) * 2 ^ (32 - (32 - less)) = ap (λ (n : NetAddr). n.addr.0) is ∙ cleared in
+    let holds : Holds r.dest a = subst (λ (n : ℕ). a.0 / 2 ^ (32 - n) * 2 ^ (32 - n) ≡ r.dest.addr.0) (sym mine) (sym number) in
+    (r, at, record { stands = (k, slice_get_within routes k r at, get_or_from_slice_get routes k r r at); holds = holds; longest = λ t has holds_t. omega (arith, before t has holds_t) })
+
+pub none_at_last : (routes : List Route) (a : Addr4) (less : ℕ) → 33 ≤ less → HasNoLonger routes a less → HasNoRouteTo routes a
+none_at_last routes a less end before r has holds = let l : r.dest.prefix + less ≤ 32 = before r has holds in absurd (omega arith)
+
+-- what is got at the place
+pub got : (o : Option (Bor Route)) (of inside routes : List Route) (a : Addr4) (k : ℕ) → option_copied o ≡ slice_get inside k → of ≡ routes → inside ≡ routes → IsLongestAt of a k →
+    IfSome o (λ r. IsLongest routes a r.now) × IfNone o (HasNoRouteTo routes a)
+got None of inside routes a k at same is_inside (r, there, longest) =
+    let both : slice_get of k ≡ slice_get inside k = ap (λ (l : List Route). slice_get l k) (same ∙ sym is_inside) in
+    let none : None ≡ Some r = at ∙ sym both ∙ there in
+    absurd cc
+got (Some x) of inside routes a k at same is_inside (r, there, longest) =
+    let both : slice_get of k ≡ slice_get inside k = ap (λ (l : List Route). slice_get l k) (same ∙ sym is_inside) in
+    let is : Some x.now ≡ Some r = at ∙ sym both ∙ there in
+    let one : r ≡ x.now = cc in
+    (subst (λ (l : List Route). IsLongest l a x.now) same (subst (λ (y : Route). IsLongest of a y) one longest), tt)

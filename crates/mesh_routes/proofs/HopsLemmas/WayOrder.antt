@@ -1,0 +1,123 @@
+-- The order of ways, and what a range of ways begins with.
+use Rattle.std.proofs.Common.{◌≡◌, ◌≢◌, ℕ, ◌<◌, ◌≤◌, ◌⊎◌, inl, inr, refl, sym, ◌∙◌, ap, subst, arith, true, false, List, [], ◌∷◌, Contains}
+use Rattle.std.specs.Ordering.{nat_cmp, ordering_then, is_gt}
+use Rattle.std.specs.declared.cmp.Ordering.{Ordering}
+use Rattle.std.specs.declared.cmp.Ordering.TheVariants.{Less, Equal, Greater}
+use Rattle.std.specs.declared.ops.Bound.TheVariants.{Included, Unbounded}
+use Rattle.std.specs.Cmp.{IsTotalOrder}
+use Rattle.std.specs.BTreeSet as sorted
+use Rattle.std.specs.BTreeSet.{BTreeSet}
+use Rattle.std.proofs.lemmas.Cmp.{then_total, on_total, nat_cmp_total, ranked}
+use Rattle.std.proofs.lemmas.Map.Lookups.{CmpEqualImpliesEq, exact_unsigned}
+use Rattle.std.proofs.lemmas.Map.Views.{btree_set_contains_iff}
+use Rattle.mesh_atoms.specs.declared.addr.Addr4.{Addr4}
+use Rattle.mesh_atoms.proofs.NetOrder.{then_equal}
+use Rattle.mesh_routes.specs.declared.hops.ways.Way.{Way}
+use Rattle.mesh_routes.specs.Hops.Ways.{way_cmp, IsNoWorse, IsBest, IsCutOff}
+
+pub way_total : IsTotalOrder way_cmp
+way_total = then_total (on_total (λ (a : Way). a.originator.0) nat_cmp_total)
+    (then_total (on_total (λ (a : Way). a.metric) nat_cmp_total) (then_total (on_total (λ (a : Way). a.iface) nat_cmp_total) (on_total (λ (a : Way). a.next.0) nat_cmp_total)))
+
+-- an address is its number
+pub same_addr : (a b : Addr4) → a.0 ≡ b.0 → a ≡ b
+same_addr a b e = ap (λ (n : ℕ). let r : Addr4 = record { 0 = n } in r) e
+
+pub way_exact : CmpEqualImpliesEq way_cmp
+way_exact a b e =
+    let (f, rest) = then_equal (nat_cmp a.originator.0 b.originator.0) (ordering_then (nat_cmp a.metric b.metric) (ordering_then (nat_cmp a.iface b.iface) (nat_cmp a.next.0 b.next.0))) e in
+    let (g, last) = then_equal (nat_cmp a.metric b.metric) (ordering_then (nat_cmp a.iface b.iface) (nat_cmp a.next.0 b.next.0)) rest in
+    let (h, k) = then_equal (nat_cmp a.iface b.iface) (nat_cmp a.next.0 b.next.0) last in
+    ap (λ (o : Addr4). let r : Way = record { originator = o; metric = a.metric; iface = a.iface; next = a.next } in r) (same_addr a.originator b.originator (exact_unsigned a.originator.0 b.originator.0 f))
+    ∙ ap (λ (m : ℕ). let r : Way = record { originator = b.originator; metric = m; iface = a.iface; next = a.next } in r) (exact_unsigned a.metric b.metric g)
+    ∙ ap (λ (i : ℕ). let r : Way = record { originator = b.originator; metric = b.metric; iface = i; next = a.next } in r) (exact_unsigned a.iface b.iface h)
+    ∙ ap (λ (o : Addr4). let r : Way = record { originator = b.originator; metric = b.metric; iface = b.iface; next = o } in r) (same_addr a.next b.next (exact_unsigned a.next.0 b.next.0 k))
+
+then_upto : (o p : Ordering) → is_gt (ordering_then o p) ≡ false → (o ≡ Less) ⊎ ((o ≡ Equal) × (is_gt p ≡ false))
+then_upto Less p e = inl refl
+then_upto Equal p e = inr (refl, e)
+then_upto Greater p e = absurd (cc)
+
+-- of two numbers that are compared first, the one is less, or they are the same and what is compared next decides
+number_upto : (a b : ℕ) (p : Ordering) → is_gt (ordering_then (nat_cmp a b) p) ≡ false → (a < b) ⊎ ((a ≡ b) × (is_gt p ≡ false))
+number_upto a b p e = elim (then_upto (nat_cmp a b) p e) [
+  | inl f ↦ inl (ranked a b Less (sym f))
+  | inr (f, g) ↦ inr (ranked a b Equal (sym f), g)
+]
+
+last_upto : (a b : ℕ) (o : Ordering) → o ≡ nat_cmp a b → is_gt o ≡ false → a ≤ b
+last_upto a b Less e f = let l : a < b = ranked a b Less e in omega arith
+last_upto a b Equal e f = let l : a ≡ b = ranked a b Equal e in omega arith
+last_upto a b Greater e f = absurd (cc)
+
+-- which of two ways in order is the better
+upto_originator : (a b : Way) → is_gt (way_cmp a b) ≡ false → a.originator.0 ≤ b.originator.0
+upto_originator a b e = elim (number_upto a.originator.0 b.originator.0 _ e) [ inl l ↦ omega arith | inr (l, _) ↦ omega arith ]
+
+upto_no_worse : (a b : Way) → a.originator ≡ b.originator → is_gt (way_cmp a b) ≡ false → IsNoWorse a b
+upto_no_worse a b same e = elim (number_upto a.originator.0 b.originator.0 _ e) [
+  | inl l ↦ let s : a.originator.0 ≡ b.originator.0 = ap (λ (o : Addr4). o.0) same in absurd (omega arith)
+  | inr (_, rest) ↦ elim (number_upto a.metric b.metric _ rest) [
+    | inl l ↦ inl l
+    | inr (m, last) ↦ elim (number_upto a.iface b.iface _ last) [
+      | inl l ↦ inr (m, inl l)
+      | inr (i, next) ↦ inr (m, inr (i, last_upto a.next.0 b.next.0 _ refl next))
+    ]
+  ]
+]
+
+upto_then : (o p : Ordering) → (o ≡ Less) ⊎ ((o ≡ Equal) × (is_gt p ≡ false)) → is_gt (ordering_then o p) ≡ false
+upto_then Less p h = refl
+upto_then Equal p h = elim h [ inl e ↦ absurd (cc) | inr (_, f) ↦ f ]
+upto_then Greater p h = elim h [ inl e ↦ absurd (cc) | inr (e, _) ↦ absurd (cc) ]
+
+number_then : (a b : ℕ) (o p : Ordering) → o ≡ nat_cmp a b → a ≤ b → is_gt p ≡ false → is_gt (ordering_then o p) ≡ false
+number_then a b Less p e l f = refl
+number_then a b Equal p e l f = f
+number_then a b Greater p e l f = let m : b < a = ranked a b Greater e in absurd (omega arith)
+
+last_then : (a b : ℕ) (o : Ordering) → o ≡ nat_cmp a b → a ≤ b → is_gt o ≡ false
+last_then a b Less e l = refl
+last_then a b Equal e l = refl
+last_then a b Greater e l = let m : b < a = ranked a b Greater e in absurd (omega arith)
+
+-- the way to a neighbour whose numbers are 0 is no greater than another to it
+least_upto : (a b : Way) → a.originator ≡ b.originator → a.metric ≡ 0 → a.iface ≡ 0 → a.next.0 ≡ 0 → is_gt (way_cmp a b) ≡ false
+least_upto a b same metric iface next =
+    let s : a.originator.0 ≡ b.originator.0 = ap (λ (o : Addr4). o.0) same in
+    number_then a.originator.0 b.originator.0 _ _ refl (omega arith)
+    (number_then a.metric b.metric _ _ refl (omega arith) (number_then a.iface b.iface _ _ refl (omega arith) (last_then a.next.0 b.next.0 _ refl (omega arith))))
+
+-- The ways from the least of a neighbour on
+module _ (s : BTreeSet Way) (lo : Way) (originator : Addr4) (r : List Way) (part : sorted.IsKeyRangeOf way_cmp (Included lo) Unbounded s r)
+    (from : lo.originator ≡ originator) (metric : lo.metric ≡ 0) (iface : lo.iface ≡ 0) (next : lo.next.0 ≡ 0) where
+  least_of : (way : Way) → way.originator ≡ originator → is_gt (way_cmp lo way) ≡ false
+  least_of way is = least_upto lo way (from ∙ sym is) metric iface next
+
+  found : (way : Way) → Contains s.keys way → sorted.contains way_cmp s way ≡ true
+  found way has = (btree_set_contains_iff way_total way_exact s way).1 has
+
+  pub range_none : r ≡ [] → IsCutOff s.keys originator
+  range_none none way has is =
+      let t : sorted.contains way_cmp s way ≡ true = found way has in
+      let f : sorted.contains way_cmp s way ≡ false = part.5 none way (least_of way is, tt) in
+      (cc)
+
+  module _ (k : Way) (t : List Way) (e : r ≡ k ∷ t) where
+    front : sorted.IsKeyRangeOf way_cmp (Included lo) Unbounded s (k ∷ t)
+    front = subst (λ (x : List Way). sorted.IsKeyRangeOf way_cmp (Included lo) Unbounded s x) e part
+
+    pub range_best : k.originator ≡ originator → IsBest s.keys originator k
+    range_best leads = record {
+      stands = (btree_set_contains_iff way_total way_exact s k).0 (front.0 0 k (omega arith)).1;
+      leads = leads;
+      best = λ v has is. upto_no_worse k v (leads ∙ sym is) (front.2 v (least_of v is, tt) (found v has));
+    }
+
+    pub range_first : k.originator ≢ originator → IsCutOff s.keys originator
+    range_first off v has is =
+        let above : lo.originator.0 ≤ k.originator.0 = upto_originator lo k (front.0 0 k (omega arith)).0.0 in
+        let below : k.originator.0 ≤ v.originator.0 = upto_originator k v (front.2 v (least_of v is, tt) (found v has)) in
+        let a : lo.originator.0 ≡ originator.0 = ap (λ (o : Addr4). o.0) from in
+        let b : v.originator.0 ≡ originator.0 = ap (λ (o : Addr4). o.0) is in
+        off (same_addr k.originator originator (omega arith))

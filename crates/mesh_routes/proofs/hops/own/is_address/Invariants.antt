@@ -1,0 +1,7 @@
+use Rattle.std.proofs.Common.{Contains}
+use Rattle.std.specs.List.{AllWithin}
+use Rattle.mesh_atoms.specs.declared.settings.Interface.{Interface}
+use Rattle.mesh_routes.proofs.hops.own.is_address.Given as goal
+
+abbrev pub invariant-loop-interface : goal.invariant-loop-interface
+invariant-loop-interface l = AllWithin (λ (iface : Interface). Contains iface.addrs l.addr → ⊥) l.interfaces 0 l.interface-index

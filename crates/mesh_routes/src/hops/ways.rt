@@ -1,0 +1,72 @@
+//! The ways to neighbours: their links with a known metric.
+ghost use Rattle.std.specs.Prelude.{◌≡◌, ◌↔◌, IsTrue, IfSome, IfNone};
+ghost use Rattle.mesh_routes.specs.Hops.Ways.{way_of, IsBest, IsCutOff};
+
+use crate::hops::owners::{Owner, owner_at};
+use mesh_atoms::{Addr4, Link, LinkKey};
+use std::collections::{BTreeMap, BTreeSet};
+
+/// A way to a neighbour: by which interface to which of its addresses, at which cost. Ways are ordered so that those to one
+/// neighbour stand together, the best of them first.
+#[derive(Clone, Copy, PartialEq, Eq, PartialOrd, Ord)]
+pub struct Way {
+    pub originator: Addr4,
+    pub metric: u32,
+    pub iface: usize,
+    pub next: Addr4,
+}
+
+/// The way by a link of an interface, if its metric is known and its neighbour symmetric.
+pub fn way_of(
+    owners: &BTreeMap<Addr4, Owner>,
+    iface: usize,
+    key: &LinkKey,
+    link: &Link,
+) -> Option<Way>
+    ensures { (until : _) → result ≡ way_of owners.now iface (key.now, (link.now, until)) }
+{
+    let owner = owner_at(owners, key.addr)?;
+    let metric = link.link_out?;
+    Some(Way {
+        originator: owner.originator,
+        metric: metric.value(),
+        iface,
+        next: key.addr,
+    })
+}
+
+// No way to the neighbour is better.
+fn least_way(originator: Addr4) -> Way
+    ensures originator { result.originator ≡ originator }
+    ensures metric { result.metric ≡ 0 }
+    ensures iface { result.iface ≡ 0 }
+    ensures next { result.next.0 ≡ 0 }
+{
+    Way {
+        originator,
+        metric: 0,
+        iface: 0,
+        next: Addr4(0),
+    }
+}
+
+// Whether the way leads to the neighbour.
+fn leads_to(way: &Way, originator: Addr4) -> bool
+    ensures { IsTrue result ↔ (way.now.originator ≡ originator) }
+{
+    way.originator == originator
+}
+
+/// The best way to a neighbour, if one leads there. Takes time near log n in the number n of ways.
+pub fn best_way(ways: &BTreeSet<Way>, originator: Addr4) -> Option<Way>
+    ensures best { IfSome result (IsBest ways.now.keys originator) }
+    ensures none { IfNone result (IsCutOff ways.now.keys originator) }
+{
+    let Some(&way) = ways.range(least_way(originator)..).next() else {
+        return None;
+    };
+    if leads_to(&way, originator) {
+        return Some(way);
+    }
+    None
+}
