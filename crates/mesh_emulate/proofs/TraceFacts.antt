@@ -11,7 +11,7 @@ use Rattle.mesh_io.proofs.Steps.{appends_more}
 use Rattle.mesh_packet.specs.Least.{Wrote}
 use Rattle.mesh_radio.specs.declared.event.NetEvent.{NetEvent}
 use Rattle.mesh_radio.specs.Net.{Net, NetStep, By_delivery, By_tick, By_last_tick, Moves}
-use Rattle.mesh_traffic.specs.Sending.{Traffic, with_heard}
+use Rattle.mesh_radio.specs.Traffic.Sending.{Traffic, with_heard}
 use Rattle.mesh_radio.specs.Run.{IsOfPackets}
 use Rattle.mesh_texts.proofs.TraceSteps.{traces_more, traces_run}
 use Rattle.mesh_texts.specs.Events.{IsEventText}

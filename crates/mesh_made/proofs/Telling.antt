@@ -7,7 +7,7 @@ use Rattle.mesh_atoms.specs.Radio.{IsRadioGraph}
 use Rattle.mesh_atoms.specs.State.{State}
 use Rattle.mesh_made.specs.Made.{IsEndText, IsMadeText, MadeEmulation}
 use Rattle.mesh_made.specs.Scenario.{IsMade}
-use Rattle.mesh_traffic.specs.declared.emission.Counts.{Counts}
+use Rattle.mesh_radio.specs.declared.traffic.emission.Counts.{Counts}
 use Rattle.mesh_radio.specs.declared.event.NetEvent.{NetEvent}
 use Rattle.mesh_radio.specs.Net.{Net}
 use Rattle.mesh_radio.specs.Run.{IsOpeningNet, IsOver, NetRun}

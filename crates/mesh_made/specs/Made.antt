@@ -13,7 +13,7 @@ use Rattle.mesh_gaps.specs.declared.gap.Gap.{Gap}
 use Rattle.mesh_texts.specs.Network.{IsGapOf, counts_line, settled_text}
 use Rattle.mesh_texts.specs.Printed.{IsLine, SaysSettled}
 use Rattle.mesh_texts.specs.Runs.{WholeRun, RoutersAreRuns, TellsWhetherSettled}
-use Rattle.mesh_traffic.specs.declared.emission.Counts.{Counts}
+use Rattle.mesh_radio.specs.declared.traffic.emission.Counts.{Counts}
 use Rattle.mesh_made.specs.declared.kind.Kind.{Kind}
 
 -- what is told of the network of a made scenario whose routers are in these states at its end: how it was made, what was counted, its

@@ -2,7 +2,7 @@
 ghost use Rattle.std.specs.Prelude.{◌≡◌, ◌<◌, ◌%◌};
 ghost use Rattle.mesh_made.specs.Pairs.{word};
 
-use mesh_traffic::words_of;
+use mesh_radio::words_of;
 use rand_core::utils::NextWord;
 
 /// A word of the stream 1 of a seed.

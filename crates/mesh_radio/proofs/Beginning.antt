@@ -14,10 +14,10 @@ use Rattle.mesh_radio.specs.Net.{IsFirstDue}
 use Rattle.mesh_radio.specs.Opening.{AreOpeningUpTo, AreOpening, IsOpeningScene}
 use Rattle.mesh_radio.specs.Run.{IsOpeningNet}
 use Rattle.mesh_radio.specs.Scene.{IsSound, IsFlying, net_of}
-use Rattle.mesh_traffic.specs.declared.traffic.Traffic.{Traffic}
-use Rattle.mesh_traffic.specs.Traffic.{traffic_of}
-use Rattle.mesh_traffic.specs.Ways.{AreWays}
-use Rattle.mesh_traffic.proofs.Places.{each_more, same_at}
+use Rattle.mesh_radio.specs.declared.traffic.traffic.Traffic.{Traffic}
+use Rattle.mesh_radio.specs.Traffic.Traffic.{traffic_of}
+use Rattle.mesh_radio.specs.Traffic.Ways.{AreWays}
+use Rattle.mesh_radio.proofs.TrafficLemmas.Places.{each_more, same_at}
 
 pub none_opening : {A : Type 0} (state : A → State) (settings : List RouterSettings) (routers : List A) → routers ≡ [] → AreOpeningUpTo settings 0 (map state routers)
 none_opening {A = A} state settings routers none = subst (λ (l : List A). AreOpeningUpTo settings 0 (map state l)) (sym none) (record { count_is = refl; each = λ x s at. absurd (let no : None ≡ Some s = at in cc) })

@@ -3,8 +3,9 @@ mod Beginning
 mod FirstDue
 mod Flying
 mod Happenings
-pub mod Through
 mod Runs
 mod Soundness
 mod Standing
 mod Steps
+pub mod Through
+mod TrafficLemmas

@@ -12,10 +12,10 @@ use Rattle.mesh_radio.specs.declared.event.NetEvent.{NetEvent}
 use Rattle.mesh_radio.specs.declared.scene.Scene.{Scene}
 use Rattle.mesh_radio.specs.declared.scene.Tick.{Tick}
 use Rattle.mesh_radio.specs.Net.{Net, NetStep, IsFirstDue, IsSender, event_of, frames_of}
-use Rattle.mesh_traffic.specs.Sending.{Delivery, Traffic, SendsAll, with_heard}
+use Rattle.mesh_radio.specs.Traffic.Sending.{Delivery, Traffic, SendsAll, with_heard}
 use Rattle.mesh_radio.specs.Run.{IsOver, IsOfScenario, IsOfPackets}
-use Rattle.mesh_traffic.specs.Traffic.{traffic_of}
-use Rattle.mesh_traffic.specs.Ways.{AreWays}
+use Rattle.mesh_radio.specs.Traffic.Traffic.{traffic_of}
+use Rattle.mesh_radio.specs.Traffic.Ways.{AreWays}
 
 -- the network that is meant
 abbrev pub net_of : List State → Scene → Net

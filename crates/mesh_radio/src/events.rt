@@ -1,16 +1,16 @@
 //! The events of a network: a frame is heard, or a router ticks.
 ghost use Rattle.std.specs.Prelude.{◌≡◌, ◌<◌, ◌≤◌, length, map, Some, IfOk, OnOk};
 ghost use Rattle.mesh_atoms.specs.Settings.{one_hour};
-ghost use Rattle.mesh_traffic.specs.Air.{delivery_of};
+ghost use Rattle.mesh_radio.specs.Traffic.Air.{delivery_of};
 ghost use Rattle.mesh_radio.specs.Scene.{AreRouters, Lands, TicksOne};
-ghost use Rattle.mesh_traffic.specs.Traffic.{traffic_of};
-ghost use Rattle.mesh_traffic.specs.Ways.{AreWays};
+ghost use Rattle.mesh_radio.specs.Traffic.Traffic.{traffic_of};
+ghost use Rattle.mesh_radio.specs.Traffic.Ways.{AreWays};
 
 use crate::event::NetEvent;
 use crate::routers::{hear, sender_of, tick};
+use crate::traffic::{Emission, Landed, Traffic, Ways, send_all};
 use mesh_atoms::{Addr4, Bytes, RadioArc, Scenario, Seq};
 use mesh_core::{Machine, Outbox};
-use mesh_traffic::{Emission, Landed, Traffic, Ways, send_all};
 use std::alloc::{AllocError, Global};
 use std::rc::Rc;
 

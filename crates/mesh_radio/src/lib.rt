@@ -10,8 +10,11 @@ mod opening;
 mod routers;
 mod scene;
 mod step;
+mod traffic;
 
 pub use event::NetEvent;
 pub use laws::{machines, routers_end_together};
-pub use mesh_traffic::{Counts, Emission};
 pub use net::Net;
+pub use traffic::{
+    Air, Counts, Draws, Emission, Landed, Traffic, Ways, send_all, ways_of, words_of,
+};

@@ -8,10 +8,10 @@ use crate::event::NetEvent;
 use crate::opening::{Opening, opening_of};
 use crate::scene::Scene;
 use crate::step::next_event;
+use crate::traffic::Counts;
 use mesh_atoms::Scenario;
 use mesh_core::Core;
 use mesh_expire::Bases;
-use mesh_traffic::Counts;
 use std::alloc::{AllocError, Global};
 use std::marker::Model;
 

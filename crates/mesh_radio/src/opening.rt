@@ -6,9 +6,9 @@ ghost use Rattle.mesh_radio.specs.Scene.{IsSound, net_of};
 
 use crate::routers::{first_due, routers_of};
 use crate::scene::{Due, Scene};
+use crate::traffic::{Air, Counts, Draws, Traffic, ways_of};
 use mesh_atoms::{RouterSettings, Scenario, Seq};
 use mesh_core::{Machine, Outbox};
-use mesh_traffic::{Air, Counts, Draws, Traffic, ways_of};
 use std::alloc::{AllocError, Global};
 
 /// The routers of a network, and what it has besides.

@@ -7,9 +7,9 @@ ghost use Rattle.mesh_radio.specs.Opening.{AreOpening};
 ghost use Rattle.mesh_radio.specs.Scene.{Stepped, IsFrom};
 
 use crate::scene::Due;
+use crate::traffic::Landed;
 use mesh_atoms::{Addr4, RadioArc, RouterSettings, Scenario};
 use mesh_core::{Arrival, Machine, Outbox};
-use mesh_traffic::Landed;
 use std::alloc::{AllocError, Global};
 
 /// The routers with these settings before their first events.

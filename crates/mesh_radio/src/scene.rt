@@ -1,7 +1,7 @@
 //! What an emulated network has besides its routers.
+use crate::traffic::{Traffic, Ways};
 use mesh_atoms::{Scenario, Seq};
 use mesh_core::Outbox;
-use mesh_traffic::{Traffic, Ways};
 
 /// The router that ticks first, and when.
 #[derive(Clone, Copy)]

@@ -15,7 +15,7 @@ use Rattle.mesh_atoms.specs.declared.tuples.Link.{Link}
 use Rattle.mesh_atoms.specs.declared.tuples.LinkKey.{LinkKey}
 use Rattle.mesh_atoms.specs.declared.tuples.Neighbour.{Neighbour}
 use Rattle.mesh_atoms.specs.State.{Bases, state_of}
-use Rattle.mesh_traffic.specs.declared.emission.Counts.{Counts}
+use Rattle.mesh_radio.specs.declared.traffic.emission.Counts.{Counts}
 use Rattle.mesh_gaps.specs.declared.gap.Gap.{Gap}
 use Rattle.mesh_gaps.specs.declared.gap.GapKey.{GapKey}
 use Rattle.mesh_gaps.specs.declared.gap.GapKey.TheVariants.{Link as Of_link, Neighbour as Of_neighbour, TwoHop as Of_two_hop, Router as Of_router, Address as Of_address, Network as Of_network}

@@ -13,7 +13,7 @@ use Rattle.mesh_machine.specs.Machine.{Event, Step, Heard_frame, Ticked, Steps, 
 use Rattle.mesh_machine.proofs.Effects.{hears_settings}
 use Rattle.mesh_radio.specs.declared.event.NetEvent.{NetEvent}
 use Rattle.mesh_radio.specs.Net.{Net, NetStep, By_delivery, By_tick, By_last_tick, Moves, event_of, frames_of}
-use Rattle.mesh_traffic.specs.Sending.{Traffic, with_heard}
+use Rattle.mesh_radio.specs.Traffic.Sending.{Traffic, with_heard}
 use Rattle.mesh_radio.specs.Run.{NetRun, events_at}
 use Rattle.mesh_paths.proofs.Scenarios.{sound_scenario}
 use Rattle.mesh_paths.specs.SettledRoutes.{IsSettledNetwork}

@@ -4,7 +4,7 @@ use Rattle.mesh_atoms.specs.declared.settings.Interface.{Interface}
 use Rattle.mesh_atoms.specs.declared.settings.Scenario.{Scenario}
 use Rattle.mesh_atoms.specs.Settled.{Settled}
 use Rattle.mesh_atoms.specs.State.{State}
-use Rattle.mesh_traffic.specs.declared.emission.Counts.{Counts}
+use Rattle.mesh_radio.specs.declared.traffic.emission.Counts.{Counts}
 use Rattle.mesh_gaps.specs.declared.gap.Gap.{Gap}
 use Rattle.mesh_gaps.specs.declared.gap.GapKey.{GapKey}
 use Rattle.mesh_gaps.specs.declared.gap.GapKey.TheVariants.{Link, Neighbour, TwoHop, Router, Address, Network}

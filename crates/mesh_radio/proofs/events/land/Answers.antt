@@ -1,7 +1,7 @@
 use Rattle.std.proofs.Common.{map}
 use Rattle.std.proofs.lemmas.Result.{IfOk-weaker}
-use Rattle.mesh_traffic.specs.Air.{delivery_of}
-use Rattle.mesh_traffic.specs.Traffic.{traffic_of}
+use Rattle.mesh_radio.specs.Traffic.Air.{delivery_of}
+use Rattle.mesh_radio.specs.Traffic.Traffic.{traffic_of}
 use Rattle.mesh_radio.proofs.Arcs.{arc_ends}
 use Rattle.mesh_radio.proofs.Happenings.{lands}
 use Rattle.mesh_radio.proofs.Standing.{router_to, may_send, item_at}

@@ -1,6 +1,6 @@
 use Rattle.std.proofs.Common.{◌≤◌, map}
 use Rattle.std.specs.Prelude.{min}
-use Rattle.mesh_traffic.specs.Air.{delivery_of}
+use Rattle.mesh_radio.specs.Traffic.Air.{delivery_of}
 use Rattle.mesh_radio.specs.Scene.{IsFlying}
 use Rattle.mesh_radio.proofs.Happenings.{hears_next}
 use Rattle.mesh_radio.proofs.Flying.{first_and_others}

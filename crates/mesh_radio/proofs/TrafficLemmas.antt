@@ -1,0 +1,5 @@
+pub mod Flights
+pub mod Leaving
+pub mod Places
+pub mod Sending
+pub mod Spreading

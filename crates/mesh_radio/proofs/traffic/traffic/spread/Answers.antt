@@ -1,0 +1,34 @@
+use Rattle.std.proofs.Common.{ℕ, ◌+◌, List, sym, ◌∙◌, ap, refl, true≢false}
+use Rattle.std.proofs.lemmas.List.{drop_all}
+use Rattle.mesh_radio.specs.Traffic.Sending.{with_delivery}
+use Rattle.mesh_radio.specs.Traffic.Traffic.{traffic_of}
+use Rattle.mesh_radio.proofs.TrafficLemmas.Spreading.{on_lost, on_carried, all_spread}
+use Rattle.mesh_radio.proofs.traffic.traffic.spread.Goals as goal
+use Rattle.mesh_radio.proofs.traffic.traffic.spread.Goals.{then-loses+in_ok-push, else-loses+in_ok-share+in_ok-put}
+
+pub loop-number-init : goal.loop-number-init
+loop-number-init c = record { goes = λ more new rest. rw c.new-lost.ensures rest; seeded = c.requires.seed }
+
+pub loses-requires : goal.loses-requires
+loses-requires c = record { seed = c.loop-number.invariant.seeded }
+
+pub loop-number-preserved : goal.loop-number-preserved
+loop-number-preserved c =
+    elim c.if-loses.branch [
+      | then-loses+in_ok-push w ↦
+          record {
+            goes = rw (w.lost-is, w.in_ok-push.ensures.ok) (on_lost _ _ _ _ _ _ _ _ c.loop-number-item.result c.loop-number-test.true c.loop-number-item.is (c.loses.ensures.lost.0 w.if-loses.true) (traffic_of c.if-loses.traffic) (rw (w.traffic-is, c.loses.ensures.drawn) refl) c.loop-number.invariant.goes);
+            seeded = rw (w.traffic-is, c.loses.ensures.drawn) c.loop-number.invariant.seeded;
+          }
+      | else-loses+in_ok-share+in_ok-put w ↦
+          record {
+            goes = rw w.lost-is (on_carried _ _ _ _ _ _ _ _ c.loop-number-item.result c.loop-number-test.true c.loop-number-item.is (λ is. true≢false (sym (c.loses.ensures.lost.1 is) ∙ w.if-loses.false)) (traffic_of c.if-loses.traffic) (rw (w.traffic-is, c.loses.ensures.drawn, w.in_ok-put.ensures) (ap (λ (f : List ℕ). with_delivery (traffic_of c.loop-number.traffic) (record { moment = c.args.now + c.loop-number-item.result.1.delay; arc = c.loop-number-item.result.0; frame = f })) w.in_ok-share.ensures.cases)) c.loop-number.invariant.goes);
+            seeded = rw (w.traffic-is, c.loses.ensures.drawn) c.loop-number.invariant.seeded;
+          }
+    ]
+
+pub returns-clause-spreads : goal.returns-clause-spreads
+returns-clause-spreads c = all_spread _ _ _ _ _ _ _ _ (drop_all _ _ c.loop-number-test.false) c.loop-number.invariant.goes
+
+pub returns-clause-seed : goal.returns-clause-seed
+returns-clause-seed c = c.loop-number.invariant.seeded ∙ sym c.requires.seed

@@ -1,0 +1,6 @@
+use Rattle.mesh_radio.specs.Traffic.Traffic.{traffic_of}
+use Rattle.mesh_radio.proofs.TrafficLemmas.Spreading.{Spreading}
+use Rattle.mesh_radio.proofs.traffic.traffic.spread.Given as goal
+
+abbrev pub invariant-loop-number : goal.invariant-loop-number
+invariant-loop-number l = Spreading l.scenario l.now l.frame.value l.ways l.number-index l.lost (traffic_of l.fn.traffic) (traffic_of l.traffic) l.traffic.draws.seed

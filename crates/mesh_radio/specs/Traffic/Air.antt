@@ -1,0 +1,7 @@
+-- What is heard, as a delivery.
+use Rattle.mesh_radio.specs.Traffic.Sending.{Delivery}
+use Rattle.mesh_radio.specs.declared.traffic.air.Landed.{Landed}
+
+-- a frame that is heard
+abbrev pub delivery_of : Landed → Delivery
+delivery_of landed = record { moment = landed.moment; arc = landed.arc; frame = landed.frame.value }

@@ -1,0 +1,13 @@
+//! The frames of an emulated network: the arcs on which they go out, the draws that lose them, and the order in which they are heard.
+
+mod air;
+mod draws;
+mod emission;
+mod traffic;
+mod ways;
+
+pub use crate::traffic::air::{Air, Landed};
+pub use crate::traffic::draws::{Draws, words_of};
+pub use crate::traffic::emission::{Counts, Emission};
+pub use crate::traffic::traffic::{Traffic, send_all};
+pub use crate::traffic::ways::{Ways, ways_of};

@@ -1,0 +1,94 @@
+//! The frames in the air, in the order in which they will be heard.
+ghost use Rattle.std.specs.Prelude.{◌≡◌, ◌<◌, ◌≤◌, [], ◌∷◌, ◌++◌, All, OnOk, MatchOption};
+ghost use Rattle.mesh_radio.specs.Traffic.Sending.{IsHeardFirst};
+ghost use Rattle.mesh_radio.specs.Traffic.Air.{delivery_of};
+
+use mesh_atoms::Bytes;
+use std::alloc::{AllocError, Global};
+use std::collections::BTreeMap;
+use std::marker::Model;
+use std::rc::Rc;
+
+/// When a frame is heard, and the number of its delivery in order of sending and then arc.
+#[derive(Clone, Copy, PartialEq, Eq, PartialOrd, Ord)]
+pub struct Turn {
+    pub moment: u64,
+    pub number: u64,
+}
+
+/// The arc by which a frame comes, and its octets, which are kept once for all who hear them.
+#[derive(Drop)]
+pub struct Flight {
+    pub arc: usize,
+    pub frame: Rc<Bytes>,
+}
+
+/// A frame that is heard.
+#[derive(Drop)]
+pub struct Landed {
+    pub moment: u64,
+    pub arc: usize,
+    pub frame: Rc<Bytes>,
+}
+
+/// The frames in the air. Contracts see them in order of sending and then arc.
+#[derive(Drop)]
+pub struct Air {
+    flights: BTreeMap<Turn, Flight>,
+    /// How many deliveries were put in the air so far.
+    made: u64,
+}
+
+impl Model for Air {
+    ghost use Rattle.std.specs.Prelude.{List};
+    ghost use Rattle.mesh_radio.specs.Traffic.Sending.{Delivery};
+    ghost use Rattle.mesh_radio.specs.Traffic.Flights.{in_order, AreMade};
+
+    ghost Value = { List Delivery };
+
+    ghost view = { λ a. in_order a.flights.entries };
+
+    ghost invariant = { λ a. AreMade a.made a.flights.entries };
+}
+
+impl Air {
+    /// Nothing.
+    pub fn new(alloc: Global) -> Air
+        ensures { result ≡ [] }
+    {
+        Air {
+            flights: BTreeMap::new(alloc),
+            made: 0,
+        }
+    }
+
+    /// Puts a frame in the air behind all others. After 2^64 - 1 deliveries it gives up as for want of memory, which
+    /// leaves everything as it was.
+    pub fn put(&mut self, moment: u64, arc: usize, frame: Rc<Bytes>) -> Result<(), AllocError>
+        ensures { OnOk result (self.new ≡ self.old ++ record { moment = moment; arc = arc; frame = frame.value } ∷ []) }
+    {
+        let Some(made) = self.made.checked_add(1) else {
+            return Err(AllocError);
+        };
+        let turn = Turn {
+            moment,
+            number: self.made,
+        };
+        self.flights.insert(turn, Flight { arc, frame })?;
+        self.made = made;
+        Ok(())
+    }
+
+    /// Takes the frame that is heard first, if that is no later than a moment.
+    pub fn take(&mut self, limit: u64) -> Option<Landed>
+        ensures first { MatchOption result (self.new ≡ self.old) (λ landed. IsHeardFirst self.old (delivery_of landed) self.new) }
+        ensures limit { MatchOption result (All (λ d. limit < d.moment) self.old) (λ landed. landed.moment ≤ limit) }
+    {
+        let (turn, _) = self.flights.first_key_value()?;
+        if turn.moment > limit {
+            return None;
+        }
+        let (Turn { moment, .. }, Flight { arc, frame }) = self.flights.pop_first()?;
+        Some(Landed { moment, arc, frame })
+    }
+}

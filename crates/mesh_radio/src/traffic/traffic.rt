@@ -1,0 +1,139 @@
+//! The sending of frames.
+ghost use Rattle.std.specs.Prelude.{◌≡◌, ◌+◌, ◌≤◌, ◌<◌, ◌^◌, ◌↔◌, length, map, slice_get, All, IfOk, OnOk, IsTrue, Some};
+ghost use Rattle.mesh_atoms.specs.Settings.{one_hour};
+ghost use Rattle.mesh_atoms.specs.declared.settings.RouterSettings.{RouterSettings};
+ghost use Rattle.mesh_machine.specs.Sendable.{IsSendable};
+ghost use Rattle.mesh_radio.specs.Traffic.Sending.{IsLossy, IsLost, Spreads, Sends, SendsAll, frame_of, next_count};
+ghost use Rattle.mesh_radio.specs.Traffic.Traffic.{traffic_of};
+ghost use Rattle.mesh_radio.specs.Traffic.Ways.{AreWays};
+
+use crate::traffic::air::Air;
+use crate::traffic::draws::Draws;
+use crate::traffic::emission::{Counts, Emission};
+use crate::traffic::ways::{Ways, leaving_of};
+use mesh_atoms::{Bytes, RadioArc, Scenario, Seq};
+use mesh_holding::Outbox;
+use std::alloc::{AllocError, Global};
+use std::rc::Rc;
+
+/// What is in the air, what was counted, and the draws.
+#[derive(Drop)]
+pub struct Traffic {
+    pub air: Air,
+    pub counts: Counts,
+    pub draws: Draws,
+}
+
+/// Sends what is in an outbox, in order.
+pub fn send_all(
+    alloc: Global,
+    scenario: &Scenario,
+    ways: &Seq<Seq<Ways>>,
+    now: u64,
+    router: usize,
+    outbox: &Outbox,
+    traffic: &mut Traffic,
+) -> Result<Seq<Emission>, AllocError>
+    requires ways { AreWays scenario.now.arcs scenario.now.routers (length scenario.now.routers) ways.now }
+    requires sendable { (settings : RouterSettings) × (slice_get scenario.now.routers router ≡ Some settings) × All (IsSendable settings) outbox.now }
+    requires seed { traffic.old.draws.seed ≡ scenario.now.seed }
+    requires early { now ≤ one_hour }
+    ensures frames { IfOk result (λ sent. map frame_of sent ≡ outbox.now) }
+    ensures sends { IfOk result (λ sent. SendsAll scenario.now now router sent (traffic_of traffic.old) (traffic_of traffic.new)) }
+    ensures seed { OnOk result (traffic.new.draws.seed ≡ traffic.old.draws.seed) }
+{
+    let mut sent = Seq::new(alloc);
+    for i in 0..outbox.len() {
+        let Some((iface, frame)) = outbox.frame(i) else {
+            break;
+        };
+        sent.push(send(alloc, scenario, ways, now, router, iface, frame, traffic)?)?;
+    }
+    Ok(sent)
+}
+
+/// Sends a frame by an interface: once on each arc that leaves it, in order.
+fn send(
+    alloc: Global,
+    scenario: &Scenario,
+    ways: &Seq<Seq<Ways>>,
+    now: u64,
+    router: usize,
+    iface: usize,
+    frame: &[u8],
+    traffic: &mut Traffic,
+) -> Result<Emission, AllocError>
+    requires ways { AreWays scenario.now.arcs scenario.now.routers (length scenario.now.routers) ways.now }
+    requires face { (settings : RouterSettings) × (slice_get scenario.now.routers router ≡ Some settings) × (iface < length settings.interfaces) }
+    requires seed { traffic.old.draws.seed ≡ scenario.now.seed }
+    requires early { now ≤ one_hour }
+    ensures frame { IfOk result (λ e. frame_of e ≡ record { iface = iface; bytes = frame.now }) }
+    ensures sends { IfOk result (λ e. Sends scenario.now now router e (traffic_of traffic.old) (traffic_of traffic.new)) }
+    ensures seed { OnOk result (traffic.new.draws.seed ≡ traffic.old.draws.seed) }
+{
+    traffic.counts.sent = traffic.counts.sent.wrapping_add(1);
+    let arcs = leaving_of(scenario, ways, router, iface);
+    let shared = Rc::new(alloc, bytes_of(alloc, frame)?)?;
+    let lost = spread(alloc, scenario, now, &shared, arcs, traffic)?;
+    Ok(Emission {
+        iface,
+        frame: bytes_of(alloc, frame)?,
+        lost,
+    })
+}
+
+/// Sends a frame on arcs in order, and gives the numbers of those on which it is lost.
+fn spread(
+    alloc: Global,
+    scenario: &Scenario,
+    now: u64,
+    frame: &Rc<Bytes>,
+    ways: &[(usize, RadioArc)],
+    traffic: &mut Traffic,
+) -> Result<Seq<usize>, AllocError>
+    requires seed { traffic.old.draws.seed ≡ scenario.now.seed }
+    requires early { now ≤ one_hour }
+    ensures spreads { IfOk result (λ lost. Spreads scenario.now now frame.now.value ways.now lost (traffic_of traffic.old) (traffic_of traffic.new)) }
+    ensures seed { OnOk result (traffic.new.draws.seed ≡ traffic.old.draws.seed) }
+{
+    let mut lost = Seq::new(alloc);
+    for (number, arc) in ways {
+        if loses(scenario, now, arc, &mut traffic.draws) {
+            traffic.counts.lost = traffic.counts.lost.wrapping_add(1);
+            lost.push(*number)?;
+        } else {
+            let share = frame.clone()?;
+            traffic.air.put(now + arc.delay, *number, share)?;
+        }
+    }
+    Ok(lost)
+}
+
+/// Whether the next draw loses what is sent now on an arc.
+fn loses(scenario: &Scenario, now: u64, arc: &RadioArc, draws: &mut Draws) -> bool
+    requires seed { draws.old.seed ≡ scenario.now.seed }
+    ensures lost { IsTrue result ↔ IsLost scenario.now now draws.old.drawn arc.now }
+    ensures drawn { draws.new ≡ record { seed = draws.old.seed; drawn = next_count draws.old.drawn } }
+{
+    let word = draws.draw();
+    is_lossy(scenario.loss_until, now) && word % 1000 < u32::from(arc.loss)
+}
+
+/// Whether frames may be lost.
+fn is_lossy(loss_until: Option<u64>, now: u64) -> bool
+    ensures { IsTrue result ↔ IsLossy loss_until now }
+{
+    match loss_until {
+        Some(until) => now < until,
+        None => true,
+    }
+}
+
+/// The same octets.
+fn bytes_of(alloc: Global, octets: &[u8]) -> Result<Bytes, AllocError>
+    ensures { IfOk result (λ bytes. bytes ≡ octets.now) }
+{
+    let mut bytes = Bytes::new(alloc);
+    bytes.append(octets)?;
+    Ok(bytes)
+}

@@ -1,5 +1,0 @@
-mod Flights
-mod Leaving
-pub mod Places
-mod Sending
-mod Spreading

@@ -1,6 +1,0 @@
-use Rattle.mesh_traffic.specs.Traffic.{traffic_of}
-use Rattle.mesh_traffic.proofs.Spreading.{Spreading}
-use Rattle.mesh_traffic.proofs.traffic.spread.Given as goal
-
-abbrev pub invariant-loop-number : goal.invariant-loop-number
-invariant-loop-number l = Spreading l.scenario l.now l.frame.value l.ways l.number-index l.lost (traffic_of l.fn.traffic) (traffic_of l.traffic) l.traffic.draws.seed

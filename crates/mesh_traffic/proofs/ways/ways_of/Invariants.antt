@@ -1,5 +1,0 @@
-use Rattle.mesh_traffic.specs.Ways.{AreWays}
-use Rattle.mesh_traffic.proofs.ways.ways_of.Given as goal
-
-abbrev pub invariant-loop-x : goal.invariant-loop-x
-invariant-loop-x l = AreWays l.arcs l.routers l.x l.ways

@@ -1,7 +1,0 @@
-use Rattle.std.proofs.Common.{◌≡◌, ◌++◌}
-use Rattle.mesh_traffic.specs.Sending.{leaving}
-use Rattle.mesh_traffic.proofs.Leaving.{leaving_from}
-use Rattle.mesh_traffic.proofs.ways.ways_of_interface.Given as goal
-
-abbrev pub invariant-loop-number : goal.invariant-loop-number
-invariant-loop-number l = l.ways ++ leaving_from l.arcs l.router l.iface l.number ≡ leaving l.arcs l.router l.iface

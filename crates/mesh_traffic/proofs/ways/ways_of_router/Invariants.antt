@@ -1,5 +1,0 @@
-use Rattle.mesh_traffic.specs.Ways.{AreWaysOf}
-use Rattle.mesh_traffic.proofs.ways.ways_of_router.Given as goal
-
-abbrev pub invariant-loop-iface : goal.invariant-loop-iface
-invariant-loop-iface l = AreWaysOf l.arcs l.router l.iface l.ways

@@ -1,7 +1,0 @@
--- What is heard, as a delivery.
-use Rattle.mesh_traffic.specs.Sending.{Delivery}
-use Rattle.mesh_traffic.specs.declared.air.Landed.{Landed}
-
--- a frame that is heard
-abbrev pub delivery_of : Landed → Delivery
-delivery_of landed = record { moment = landed.moment; arc = landed.arc; frame = landed.frame.value }

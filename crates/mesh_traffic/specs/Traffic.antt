@@ -1,7 +1,0 @@
--- The traffic of a network as it is kept.
-use Rattle.mesh_traffic.specs.Sending as net
-use Rattle.mesh_traffic.specs.declared.traffic.Traffic.{Traffic}
-
--- the traffic that is meant
-abbrev pub traffic_of : Traffic → net.Traffic
-traffic_of t = record { air = t.air; counts = t.counts; draws = t.draws.drawn }
