@@ -22,11 +22,11 @@ use Rattle.mesh_run.specs.declared.fault.RunFault.{RunFault}
 use Rattle.mesh_run.specs.declared.fault.RunFault.TheVariants as fault
 use Rattle.mesh_run.proofs.Moments.{below_end, reaches_end}
 use Rattle.mesh_config.specs.Keys.Faults.{first}
-use Rattle.mesh_turns.proofs.Runs.{keep_sound}
-use Rattle.mesh_turns.proofs.Tellings.{tells_more}
-use Rattle.mesh_turns.proofs.Whole.{stops_behind}
-use Rattle.mesh_turns.specs.Turns.{attached_report, moment_of, DoesTurns, StopsTurns}
-use Rattle.mesh_turns.specs.declared.tally.Ended.{Ended}
+use Rattle.mesh_run.proofs.TurnsLemmas.Runs.{keep_sound}
+use Rattle.mesh_run.proofs.TurnsLemmas.Tellings.{tells_more}
+use Rattle.mesh_run.proofs.TurnsLemmas.Whole.{stops_behind}
+use Rattle.mesh_run.specs.Turns.Turns.{attached_report, moment_of, DoesTurns, StopsTurns}
+use Rattle.mesh_run.specs.declared.turns.tally.Ended.{Ended}
 
 -- Behind the attaches
 

@@ -2,8 +2,8 @@
 use Rattle.std.proofs.Common.{ℕ, ◌^◌, ◌<◌, ◌≤◌, List, [], ◌∷◌, All, refl, arith}
 use Rattle.std.proofs.lemmas.List.Elements.{All-nil, All-cons, All-append}
 use Rattle.mesh_io.specs.Airs.{Report}
-use Rattle.mesh_turns.specs.Turns.{Position, Goes}
-use Rattle.mesh_turns.specs.Turns.Goes.{Stays, Then_begins, Then_listens}
+use Rattle.mesh_run.specs.Turns.Turns.{Position, Goes}
+use Rattle.mesh_run.specs.Turns.Turns.Goes.{Stays, Then_begins, Then_listens}
 use Rattle.mesh_run.specs.Text.{ReachesEnd}
 
 module _ (end count : ℕ) (early : end < 2 ^ 62) (start : Position) (before : start.moment < end) where

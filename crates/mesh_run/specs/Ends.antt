@@ -13,7 +13,7 @@ use Rattle.mesh_run.specs.Run.{Told, IsUntold, WholeRun, SpendsTurns, FailsToAtt
 use Rattle.mesh_run.specs.Text.{RunText}
 use Rattle.mesh_run.specs.declared.fault.RunFault.{RunFault}
 use Rattle.mesh_run.specs.declared.fault.RunFault.TheVariants as fault
-use Rattle.mesh_turns.specs.Turns.{greatest_of, Turns, StopsTurns}
+use Rattle.mesh_run.specs.Turns.Turns.{greatest_of, Turns, StopsTurns}
 
 -- the job is done, or its turns are, or memory was wanting
 abbrev pub Completes : Result (Unit {0}) RunFault → Type 0

@@ -1,3 +1,4 @@
 pub mod Ends
 pub mod Run
 pub mod Text
+pub mod Turns

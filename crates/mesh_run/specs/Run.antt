@@ -6,7 +6,7 @@ use Rattle.mesh_config.specs.RunSettings.{SetupIs, run_refusals}
 use Rattle.mesh_io.specs.Airs.{Report}
 use Rattle.mesh_io.specs.Told.{Tells}
 use Rattle.mesh_config.specs.Keys.Faults.{first}
-use Rattle.mesh_turns.specs.Turns.{attached_report, greatest_of, Turns, StopsShort}
+use Rattle.mesh_run.specs.Turns.Turns.{attached_report, greatest_of, Turns, StopsShort}
 use Rattle.mesh_run.specs.Text.{RunText}
 
 -- the input states this setup, and has no refusal

@@ -5,8 +5,8 @@ use Rattle.mesh_atoms.specs.State.{State}
 use Rattle.mesh_io.specs.Airs.{Report}
 use Rattle.mesh_lines.specs.Marks.{line_of}
 use Rattle.mesh_sections.specs.Section.{IsSection}
-use Rattle.mesh_turns.specs.Turns.{Turns, ended_by}
-use Rattle.mesh_turns.specs.declared.tally.Ended.{Ended}
+use Rattle.mesh_run.specs.Turns.Turns.{Turns, ended_by}
+use Rattle.mesh_run.specs.declared.turns.tally.Ended.{Ended}
 
 -- when a run ended, how many turns were begun, and what was counted of its air
 unfoldable pub run_line : ℕ → Ended → List ℕ

@@ -5,6 +5,8 @@ mod fault;
 mod job;
 mod report;
 mod router;
+mod turns;
 
 pub use fault::RunFault;
 pub use job::run;
+pub use turns::{Ended, Tally, attach_all, do_turns, turns_are_runs};

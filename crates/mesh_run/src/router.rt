@@ -6,10 +6,10 @@ ghost use Rattle.mesh_run.specs.Run.{States, told};
 
 use crate::fault::RunFault;
 use crate::report::tell_report;
+use crate::turns::{attach_all, do_turns};
 use mesh_atoms::RunSetup;
 use mesh_core::Machine;
 use mesh_io::{Air, Clock, Sink, Stop};
-use mesh_turns::{attach_all, do_turns};
 use std::alloc::{AllocError, Global};
 
 // Does the turns of a router that was made with the setup, and writes its report.

@@ -4,7 +4,7 @@ ghost use Rattle.mesh_emulate.specs.Laws.{RunsMachines, TellsSettled, PrintsLeas
 ghost use Rattle.mesh_emulate.specs.Laws.{TripsAreOnly, TripsReachRouters, TripsReachNetworks, TripsNeverStray};
 ghost use Rattle.mesh_emulate.specs.Laws.{ProbesReachJoined, ProbesTellAll, ProbesSendOnce};
 ghost use Rattle.mesh_made.specs.Made.{MadeNetworksRunMachines, MadeNetworksTellSettled, TellsLeastRoutes};
-ghost use Rattle.mesh_turns.specs.Laws.{TurnsAreRuns, TurnsKeepSound};
+ghost use Rattle.mesh_run.specs.Turns.Laws.{TurnsAreRuns, TurnsKeepSound};
 ghost use Rattle.mesh_tool.specs.Answers.Answers.{Answers};
 ghost use Rattle.mesh_tool.specs.Words.Words.{texts};
 

@@ -4,7 +4,7 @@ ghost use Rattle.mesh_emulate.specs.Laws.{RunsMachines, TellsSettled, PrintsLeas
 ghost use Rattle.mesh_emulate.specs.Laws.{TripsAreOnly, TripsReachRouters, TripsReachNetworks, TripsNeverStray};
 ghost use Rattle.mesh_emulate.specs.Laws.{ProbesReachJoined, ProbesTellAll, ProbesSendOnce};
 ghost use Rattle.mesh_made.specs.Made.{MadeNetworksRunMachines, MadeNetworksTellSettled, TellsLeastRoutes};
-ghost use Rattle.mesh_turns.specs.Laws.{TurnsAreRuns, TurnsKeepSound};
+ghost use Rattle.mesh_run.specs.Turns.Laws.{TurnsAreRuns, TurnsKeepSound};
 ghost use Rattle.mesh_tool.specs.Answers.Answers.{Answers};
 ghost use Rattle.mesh_tool.specs.Words.Words.{texts};
 
@@ -13,7 +13,7 @@ use mesh_emulate::emulations_tell;
 use mesh_expire::Bases;
 use mesh_io::{Air, Clock, Sink, Source};
 use mesh_made::made_networks_tell;
-use mesh_turns::turns_are_runs;
+use mesh_run::turns_are_runs;
 use std::alloc::Global;
 
 /// All that the program does, with routers over these bases: it reads the words, then the input, and writes the text of the job on

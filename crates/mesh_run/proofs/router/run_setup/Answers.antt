@@ -1,7 +1,7 @@
 use Rattle.std.proofs.Common.{◌<◌, ◌∙◌, List, ap, length, map, subst, take}
 use Rattle.mesh_atoms.specs.declared.settings.Port.{Port}
 use Rattle.mesh_io.specs.Told.{Tells}
-use Rattle.mesh_turns.specs.Turns.{attached_report}
+use Rattle.mesh_run.specs.Turns.Turns.{attached_report}
 use Rattle.mesh_run.proofs.Endings.{ends_behind, attach_left}
 use Rattle.mesh_run.proofs.router.run_setup.Goals as goal
 

@@ -1,0 +1,247 @@
+-- What was done from one position to another, and then more.
+use Rattle.std.proofs.Common.{◌≡◌, ℕ, ◌+◌, ◌-◌, ◌^◌, ◌<◌, ◌≤◌, min, max, List, [], ◌++◌, ◌∷◌, Option, Some, refl, sym, ap, subst, ◌∙◌, append_assoc, arith, cond, Result, Ok, Err, OnOk, OnErr, nat_le}
+use Rattle.std.proofs.lemmas.List.{append-nil, length-append}
+use Rattle.std.proofs.lemmas.Bool.{le-leb, lt-leb}
+use Rattle.mesh_atoms.specs.declared.addr.Addr4.{Addr4}
+use Rattle.mesh_atoms.specs.State.{State}
+use Rattle.mesh_io.specs.Airs.{Report}
+use Rattle.mesh_io.specs.Airs.Report.{Heard_frame}
+use Rattle.mesh_io.specs.Told.{Tells}
+use Rattle.mesh_machine.specs.Machine.Event.{Hear}
+use Rattle.mesh_run.specs.declared.turns.tally.Tally.{Tally}
+use Rattle.mesh_run.specs.Turns.Turns.{Position, Goes, tick_of, moment_of, greatest_of}
+use Rattle.mesh_run.specs.Turns.Turns.Goes.{Stays, Then_begins, Then_listens}
+use Rattle.mesh_run.specs.Turns.Turns.IsLost.{A_moment, An_ear}
+use Rattle.mesh_run.specs.Turns.Parts.{Acts, Hears, HearsInVain, Going, Broken, Turning, Stopped, at, counted}
+use Rattle.mesh_run.proofs.TurnsLemmas.Tellings.{tells_nothing, tells_more, counted_nothing, counted_more}
+
+-- what holds of an answer, and what follows from it
+pub on_ok : {A E : Type 0} {P Q : Type 0} (r : Result A E) → (P → Q) → OnOk r P → OnOk r Q
+on_ok (Ok x) f p = f p
+on_ok (Err e) f p = tt
+
+pub on_err : {A E : Type 0} {P Q : Type 0} (r : Result A E) → (P → Q) → OnErr r P → OnErr r Q
+on_err (Ok x) f p = tt
+on_err (Err e) f p = f p
+
+pub on_err_of : {A E : Type 0} {P : Type 0} (r : Result A E) → P → OnErr r P
+on_err_of (Ok x) p = tt
+on_err_of (Err e) p = p
+
+-- What an interface hears
+
+-- a frame that was heard counts one more
+heard_one : (t : Tally) (h iface : ℕ) (sender : Addr4) (bytes : List ℕ) → h ≡ t.heard + 1 →
+    (let u : Tally = record { heard = h; sent = t.sent; faults = t.faults } in u) ≡ counted t (Heard_frame iface sender bytes ∷ [])
+heard_one t h iface sender bytes e = rw (e, zero_more t.sent, zero_more t.faults) refl
+  where
+    zero_more : (x : ℕ) → x + 0 ≡ x
+    zero_more x = omega arith
+
+-- a frame is heard, and then what comes of it
+pub hears_frame : (now iface : ℕ) (sender : Addr4) (bytes : List ℕ) (old new : State) (a b c : Option (List Report)) (t v : Tally) (h : ℕ) →
+    h ≡ t.heard + 1 → Tells a b (Heard_frame iface sender bytes ∷ []) →
+    Acts old (Some (Hear (record { now = now; iface = iface; sender = sender }) bytes)) new b c (record { heard = h; sent = t.sent; faults = t.faults }) v →
+    Hears now iface old new a c t v
+hears_frame now iface sender bytes old new a b c t v h more told acts = record {
+  ear = Heard_frame iface sender bytes;
+  reports = acts.reports;
+  tells = tells_more a b c (Heard_frame iface sender bytes ∷ []) acts.reports told acts.tells;
+  heard = refl;
+  does = acts.does;
+  counts = counted_more t (record { heard = h; sent = t.sent; faults = t.faults }) v (Heard_frame iface sender bytes ∷ []) acts.reports (heard_one t h iface sender bytes more) acts.counts;
+}
+
+-- a frame is heard, and nothing comes of it
+pub hears_in_vain : (iface : ℕ) (sender : Addr4) (bytes : List ℕ) (a b c : Option (List Report)) →
+    Tells a b (Heard_frame iface sender bytes ∷ []) → Tells b c [] → HearsInVain iface a c
+hears_in_vain iface sender bytes a b c told silent = record {
+  ear = Heard_frame iface sender bytes;
+  tells = tells_more a b c (Heard_frame iface sender bytes ∷ []) [] told silent;
+  heard = refl;
+}
+
+-- From position to position
+
+-- nothing is done
+pub going_nothing : (end count : ℕ) (s : Position) (a : Option (List Report)) (t : Tally) → Going end count s s [] a a t t
+going_nothing end count s a t = record { reports = []; tells = tells_nothing a; goes = Stays; counts = counted_nothing t }
+
+-- the next interface is heard
+pub going_hears : (end count : ℕ) (s : Position) (ms : List ℕ) (now i : ℕ) (old new : State) (a b c : Option (List Report)) (t u v : Tally) →
+    Going end count s (at old now i) ms a b t u → i < count → Hears now i old new b c u v → Going end count s (at new now (i + 1)) ms a c t v
+going_hears end count s ms now i old new a b c t u v g lt h = record {
+  reports = g.reports ++ h.ear ∷ h.reports;
+  tells = tells_more a b c g.reports (h.ear ∷ h.reports) g.tells h.tells;
+  goes = Then_listens g.goes (record { within = lt; heard = h.heard; does = h.does; moment = refl; next = refl });
+  counts = counted_more t u v g.reports (h.ear ∷ h.reports) g.counts h.counts;
+}
+
+-- the next interface is heard in vain
+pub broken_hears : (end count : ℕ) (s : Position) (ms : List ℕ) (now i : ℕ) (old : State) (a b c : Option (List Report)) (t u : Tally) →
+    Going end count s (at old now i) ms a b t u → i < count → HearsInVain i b c → Broken end count s ms a c
+broken_hears end count s ms now i old a b c t u g lt h = record {
+  first_moments = ms;
+  first_reports = g.reports;
+  position = at old now i;
+  goes = g.goes;
+  lost_moments = [];
+  lost_reports = h.ear ∷ [];
+  is_lost = An_ear h.ear lt h.heard;
+  moments_are = sym (append-nil ms);
+  tells = tells_more a b c g.reports (h.ear ∷ []) g.tells h.tells;
+}
+
+-- more is done
+goes_more : (end count : ℕ) (s m p : Position) (ms ns : List ℕ) (rs qs : List Report) → Goes end count s ms rs m → Goes end count m ns qs p →
+    Goes end count s (ms ++ ns) (rs ++ qs) p
+goes_more end count s m p ms ns rs qs g Stays = rw (append-nil ms, append-nil rs) g
+goes_more end count s m p ms ns rs qs g (Then_begins {moments = ks} {reports = js} {more = more} {told = told} h b) =
+    rw (← append_assoc ms ks (told ∷ []), ← append_assoc rs js more) (Then_begins (goes_more end count s m _ ms ks rs js g h) b)
+goes_more end count s m p ms ns rs qs g (Then_listens {moments = ks} {reports = js} {more = more} {ear = ear} h b) =
+    rw (← append_assoc rs js (ear ∷ more)) (Then_listens (goes_more end count s m _ ms ks rs js g h) b)
+
+pub going_more : (end count : ℕ) (s m p : Position) (ms ns : List ℕ) (a b c : Option (List Report)) (t u v : Tally) →
+    Going end count s m ms a b t u → Going end count m p ns b c u v → Going end count s p (ms ++ ns) a c t v
+going_more end count s m p ms ns a b c t u v g h = record {
+  reports = g.reports ++ h.reports;
+  tells = tells_more a b c g.reports h.reports g.tells h.tells;
+  goes = goes_more end count s m p ms ns g.reports h.reports g.goes h.goes;
+  counts = counted_more t u v g.reports h.reports g.counts h.counts;
+}
+
+pub broken_more : (end count : ℕ) (s m : Position) (ms ns : List ℕ) (a b c : Option (List Report)) (t u : Tally) →
+    Going end count s m ms a b t u → Broken end count m ns b c → Broken end count s (ms ++ ns) a c
+broken_more end count s m ms ns a b c t u g k = record {
+  first_moments = ms ++ k.first_moments;
+  first_reports = g.reports ++ k.first_reports;
+  position = k.position;
+  goes = goes_more end count s m k.position ms k.first_moments g.reports k.first_reports g.goes k.goes;
+  lost_moments = k.lost_moments;
+  lost_reports = k.lost_reports;
+  is_lost = k.is_lost;
+  moments_are = ap (λ (l : List ℕ). ms ++ l) k.moments_are ∙ sym (append_assoc ms k.first_moments k.lost_moments);
+  tells = subst (λ (l : List Report). Tells a c l) (sym (append_assoc g.reports k.first_reports k.lost_reports))
+      (tells_more a b c g.reports (k.first_reports ++ k.lost_reports) g.tells k.tells);
+}
+
+-- the same place
+pub going_at : (end count : ℕ) (s : Position) (ms : List ℕ) (x : State) (now now' i j : ℕ) (a b : Option (List Report)) (t u : Tally) →
+    now ≡ now' → i ≡ j → Going end count s (at x now i) ms a b t u → Going end count s (at x now' j) ms a b t u
+going_at end count s ms x now now' i j a b t u e f g =
+    subst (λ (n : ℕ). Going end count s (at x n j) ms a b t u) e (subst (λ (n : ℕ). Going end count s (at x now n) ms a b t u) f g)
+
+-- A turn
+
+-- a turn that has begun: the moment told, the greatest moment told so far, and what the tick did
+pub record Begun (end last now told g : ℕ) (old mid : State) (clock clock' : Option (List ℕ)) (a b : Option (List Report)) (t u : Tally) : Type 0 where
+  pub going : last < end
+  pub greatest : g ≡ max last told
+  pub now_is : now ≡ min g (2 ^ 62 - 1)
+  pub tells : Tells clock clock' (told ∷ [])
+  pub acts : Acts old (tick_of end now old) mid a b t u
+
+begun : (end count last now told g : ℕ) (old mid : State) (clock clock' : Option (List ℕ)) (a b : Option (List Report)) (t u : Tally) (n : ℕ) →
+    Begun end last now told g old mid clock clock' a b t u → cond (nat_le end now) count 0 ≡ n →
+    Going end count (at old last count) (at mid now n) (told ∷ []) a b t u
+begun end count last now told g old mid clock clock' a b t u n h e =
+    let is : now ≡ moment_of last told = omega (arith, h.greatest, h.now_is) in
+    going_at end count (at old last count) (told ∷ []) mid now now (cond (nat_le end now) count 0) n a b t u refl e (record {
+      reports = h.acts.reports;
+      tells = h.acts.tells;
+      goes = Then_begins {moments = []} {reports = []} Stays (record { between = refl; going = h.going; moment = is; does = h.acts.does; next = refl });
+      counts = h.acts.counts;
+    })
+
+-- one turn
+one_turn : (end count last now told g : ℕ) (old new : State) (clock clock' : Option (List ℕ)) (a b : Option (List Report)) (t u : Tally) →
+    g ≡ max last told → now ≡ min g (2 ^ 62 - 1) → Tells clock clock' (told ∷ []) →
+    Going end count (at old last count) (at new now count) (told ∷ []) a b t u →
+    Turning end count (at old last count) (at new (moment_of 0 g) count) 1 last g clock clock' a b t u
+one_turn end count last now told g old new clock clock' a b t u greatest now_is tells going =
+    let is : now ≡ moment_of 0 g = omega (arith, now_is) in record {
+      moments = told ∷ [];
+      clock_tells = tells;
+      turns_are = refl;
+      greatest_is = omega (arith, greatest);
+      going = going_at end count (at old last count) (told ∷ []) new now (moment_of 0 g) count count a b t u is refl going;
+    }
+
+pub turn_ends : (end count last now told g : ℕ) (old mid : State) (clock clock' : Option (List ℕ)) (a b : Option (List Report)) (t u : Tally) →
+    Begun end last now told g old mid clock clock' a b t u → end ≤ now →
+    Turning end count (at old last count) (at mid (moment_of 0 g) count) 1 last g clock clock' a b t u
+turn_ends end count last now told g old mid clock clock' a b t u h le =
+    one_turn end count last now told g old mid clock clock' a b t u h.greatest h.now_is h.tells
+    (begun end count last now told g old mid clock clock' a b t u count h (rw (le-leb end now le) refl))
+
+pub turn_goes : (end count last now told g : ℕ) (old mid new : State) (clock clock' : Option (List ℕ)) (a b c : Option (List Report)) (t u v : Tally) →
+    Begun end last now told g old mid clock clock' a b t u → now < end → Going end count (at mid now 0) (at new now count) [] b c u v →
+    Turning end count (at old last count) (at new (moment_of 0 g) count) 1 last g clock clock' a c t v
+turn_goes end count last now told g old mid new clock clock' a b c t u v h lt k =
+    one_turn end count last now told g old new clock clock' a c t v h.greatest h.now_is h.tells
+    (going_more end count (at old last count) (at mid now 0) (at new now count) (told ∷ []) [] a b c t u v
+    (begun end count last now told g old mid clock clock' a b t u 0 h (rw (lt-leb end now lt) refl)) k)
+
+-- a turn whose tick want of memory stops
+pub turn_stops : (end count last told : ℕ) (old : State) (clock clock' : Option (List ℕ)) (a b : Option (List Report)) →
+    Tells clock clock' (told ∷ []) → Tells a b [] → Stopped end count (at old last count) clock clock' a b
+turn_stops end count last told old clock clock' a b tells silent = record {
+  moments = told ∷ [];
+  clock_tells = tells;
+  broken = record {
+    first_moments = [];
+    first_reports = [];
+    position = at old last count;
+    goes = Stays;
+    lost_moments = told ∷ [];
+    lost_reports = [];
+    is_lost = A_moment told refl;
+    moments_are = refl;
+    tells = silent;
+  };
+}
+
+-- a turn that want of memory stops while an interface is heard
+pub turn_breaks : (end count last now told g : ℕ) (old mid : State) (clock clock' : Option (List ℕ)) (a b c : Option (List Report)) (t u : Tally) →
+    Begun end last now told g old mid clock clock' a b t u → now < end → Broken end count (at mid now 0) [] b c →
+    Stopped end count (at old last count) clock clock' a c
+turn_breaks end count last now told g old mid clock clock' a b c t u h lt k = record {
+  moments = told ∷ [];
+  clock_tells = h.tells;
+  broken = broken_more end count (at old last count) (at mid now 0) (told ∷ []) [] a b c t u
+      (begun end count last now told g old mid clock clock' a b t u 0 h (rw (lt-leb end now lt) refl)) k;
+}
+
+-- Turns
+
+-- the greatest of moments, and of more
+greatest_more : (ms ns : List ℕ) → greatest_of (ms ++ ns) ≡ max (greatest_of ms) (greatest_of ns)
+greatest_more [] ns = omega arith
+greatest_more (m ∷ ms) ns = ap (λ (n : ℕ). max m n) (greatest_more ms ns) ∙ omega arith
+
+pub turning_nothing : (end count : ℕ) (s : Position) (k : Option (List ℕ)) (a : Option (List Report)) (t : Tally) →
+    Turning end count s s 0 0 0 k k a a t t
+turning_nothing end count s k a t =
+    record { moments = []; clock_tells = tells_nothing k; turns_are = refl; greatest_is = refl; going = going_nothing end count s a t }
+
+pub turning_more : (end count : ℕ) (s m p : Position) (n n' g g' g'' : ℕ) (k l o : Option (List ℕ)) (a b c : Option (List Report)) (t u v : Tally) →
+    Turning end count s m n g g' k l a b t u → Turning end count m p n' g' g'' l o b c u v → Turning end count s p (n + n') g g'' k o a c t v
+turning_more end count s m p n n' g g' g'' k l o a b c t u v h w = record {
+  moments = h.moments ++ w.moments;
+  clock_tells = tells_more k l o h.moments w.moments h.clock_tells w.clock_tells;
+  turns_are = omega (arith, h.turns_are, w.turns_are, length-append h.moments w.moments);
+  greatest_is = omega (arith, h.greatest_is, w.greatest_is, greatest_more h.moments w.moments);
+  going = going_more end count s m p h.moments w.moments a b c t u v h.going w.going;
+}
+
+pub turning_at : (end count : ℕ) (s : Position) (x : State) (m m' n g g' : ℕ) (k l : Option (List ℕ)) (a b : Option (List Report)) (t u : Tally) →
+    m ≡ m' → Turning end count s (at x m count) n g g' k l a b t u → Turning end count s (at x m' count) n g g' k l a b t u
+turning_at end count s x m m' n g g' k l a b t u e h = subst (λ (y : ℕ). Turning end count s (at x y count) n g g' k l a b t u) e h
+
+pub turning_stops : (end count : ℕ) (s m : Position) (n g g' : ℕ) (k l o : Option (List ℕ)) (a b c : Option (List Report)) (t u : Tally) →
+    Turning end count s m n g g' k l a b t u → Stopped end count m l o b c → Stopped end count s k o a c
+turning_stops end count s m n g g' k l o a b c t u h w = record {
+  moments = h.moments ++ w.moments;
+  clock_tells = tells_more k l o h.moments w.moments h.clock_tells w.clock_tells;
+  broken = broken_more end count s m h.moments w.moments a b c t u h.going w.broken;
+}

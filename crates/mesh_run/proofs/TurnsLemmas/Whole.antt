@@ -1,0 +1,109 @@
+-- Turns from the opening of a router on.
+use Rattle.std.proofs.Common.{◌≡◌, ℕ, ◌+◌, max, List, [], ◌++◌, length, Option, refl, sym, subst, ◌∙◌, arith}
+use Rattle.std.specs.List.{count_by}
+use Rattle.std.proofs.lemmas.List.{append-nil}
+use Rattle.mesh_atoms.specs.declared.settings.RunSetup.{RunSetup}
+use Rattle.mesh_atoms.specs.State.{State}
+use Rattle.mesh_io.specs.Airs.{Report}
+use Rattle.mesh_machine.specs.Machine.{IsOpening}
+use Rattle.mesh_run.specs.declared.turns.tally.Ended.{Ended}
+use Rattle.mesh_run.specs.declared.turns.tally.Tally.{Tally}
+use Rattle.mesh_run.specs.Turns.Turns.{moment_of, greatest_of, is_heard, is_sent, is_fault, tally_of, ended_by, DoesTurns, StopsTurns}
+use Rattle.mesh_run.specs.Turns.Turns.Goes.{Stays}
+use Rattle.mesh_run.specs.Turns.Turns.IsLost.{Nothing}
+use Rattle.mesh_run.specs.Turns.Parts.{Turning, Stopped, at, counted}
+use Rattle.mesh_run.proofs.TurnsLemmas.Tellings.{tells_nothing}
+
+-- counts from nothing on
+abbrev pub no_tally : Tally
+no_tally = record { heard = 0; sent = 0; faults = 0 }
+
+counted_all : (reports : List Report) → counted no_tally reports ≡ tally_of reports
+counted_all reports = rw (none (count_by is_heard reports), none (count_by is_sent reports), none (count_by is_fault reports)) refl
+  where
+    none : (x : ℕ) → 0 + x ≡ x
+    none x = omega arith
+
+ended_is : (n g : ℕ) (u : Tally) (ms : List ℕ) (rs : List Report) → n ≡ length ms → g ≡ max 0 (greatest_of ms) → u ≡ counted no_tally rs →
+    (let ended : Ended = record { turns = n; greatest = g; tally = u } in ended) ≡ ended_by ms rs
+ended_is n g u ms rs e f h =
+    let f' : g ≡ greatest_of ms = omega (arith, f) in
+    let h' : u ≡ tally_of rs = h ∙ counted_all rs in
+    rw (e, f', h') refl
+
+pub does_turns : (setup : RunSetup) (count : ℕ) (old new : State) (n g : ℕ) (k l : Option (List ℕ)) (a b : Option (List Report)) (u : Tally) →
+    IsOpening setup.router old → count ≡ length setup.ports →
+    Turning setup.end count (at old 0 count) (at new (moment_of 0 g) count) n 0 g k l a b no_tally u →
+    DoesTurns setup new (record { turns = n; greatest = g; tally = u }) k l a b
+does_turns setup count old new n g k l a b u opening e h =
+    let t = subst (λ (c : ℕ). Turning setup.end c (at old 0 c) (at new (moment_of 0 g) c) n 0 g k l a b no_tally u) e h in record {
+      moments = t.moments;
+      reports = t.going.reports;
+      clock_tells = t.clock_tells;
+      air_tells = t.going.tells;
+      turns = record { opening = old; is_opening = opening; goes = t.going.goes };
+      ended_is = ended_is n g u t.moments t.going.reports t.turns_are t.greatest_is t.going.counts;
+    }
+
+pub stops_turns : (setup : RunSetup) (count : ℕ) (old : State) (k l : Option (List ℕ)) (a b : Option (List Report)) →
+    IsOpening setup.router old → count ≡ length setup.ports → Stopped setup.end count (at old 0 count) k l a b → StopsTurns setup k l a b
+stops_turns setup count old k l a b opening e h =
+    let s = subst (λ (c : ℕ). Stopped setup.end c (at old 0 c) k l a b) e h in record {
+      moments = s.moments;
+      reports = s.broken.first_reports ++ s.broken.lost_reports;
+      clock_tells = s.clock_tells;
+      air_tells = s.broken.tells;
+      stops = record {
+        first_moments = s.broken.first_moments;
+        first_reports = s.broken.first_reports;
+        position = s.broken.position;
+        goes = record { opening = old; is_opening = opening; goes = s.broken.goes };
+        lost_moments = s.broken.lost_moments;
+        lost_reports = s.broken.lost_reports;
+        is_lost = s.broken.is_lost;
+        moments_are = s.broken.moments_are;
+        reports_are = refl;
+      };
+    }
+
+-- where nothing was told yet
+pub stops_before : (setup : RunSetup) (old : State) (k : Option (List ℕ)) (a : Option (List Report)) → IsOpening setup.router old →
+    StopsTurns setup k k a a
+stops_before setup old k a opening = record {
+  moments = [];
+  reports = [];
+  clock_tells = tells_nothing k;
+  air_tells = tells_nothing a;
+  stops = record {
+    first_moments = [];
+    first_reports = [];
+    position = at old 0 (length setup.ports);
+    goes = record { opening = old; is_opening = opening; goes = Stays };
+    lost_moments = [];
+    lost_reports = [];
+    is_lost = Nothing;
+    moments_are = refl;
+    reports_are = refl;
+  };
+}
+
+-- where whole turns were done, and nothing is lost
+pub stops_behind : (setup : RunSetup) (state : State) (ended : Ended) (k l : Option (List ℕ)) (a b : Option (List Report)) →
+    DoesTurns setup state ended k l a b → StopsTurns setup k l a b
+stops_behind setup state ended k l a b d = record {
+  moments = d.moments;
+  reports = d.reports;
+  clock_tells = d.clock_tells;
+  air_tells = d.air_tells;
+  stops = record {
+    first_moments = d.moments;
+    first_reports = d.reports;
+    position = at state (moment_of 0 ended.greatest) (length setup.ports);
+    goes = d.turns;
+    lost_moments = [];
+    lost_reports = [];
+    is_lost = Nothing;
+    moments_are = sym (append-nil d.moments);
+    reports_are = sym (append-nil d.reports);
+  };
+}

@@ -1,0 +1,15 @@
+use Rattle.std.proofs.Common.{◌≡◌, ◌<◌, ◌≤◌, length}
+use Rattle.mesh_run.specs.Turns.Parts.{IsReady, Turning, at}
+use Rattle.mesh_run.proofs.turns.turns.turn_on.Given as goal
+
+-- so many turns were done, below the end
+abbrev pub invariant-loop-done : goal.invariant-loop-done
+invariant-loop-done g l = record {
+  turns : Turning l.fn.end l.count (at (g.M.RouterView.state l.fn.router) 0 l.count) (at (g.M.RouterView.state l.router) l.greatest l.count) l.done 0 l.greatest
+      (g.C.Clock.moments l.fn.clock) (g.C.Clock.moments l.clock) (g.A.Air.reports l.fn.air) (g.A.Air.reports l.air) l.fn.tally l.tally;
+  going : l.greatest < l.fn.end;
+  ready : IsReady (g.M.RouterView.state l.router) (g.A.Air.attached l.air) l.greatest;
+  attached : g.A.Air.attached l.air ≡ g.A.Air.attached l.fn.air;
+  later : g.A.Air.faults l.fn.air ≤ g.A.Air.faults l.air;
+  longest : length l.buf ≡ 65507;
+}

@@ -1,0 +1,36 @@
+//! Attaching the interfaces of a router.
+ghost use Rattle.std.specs.Prelude.{◌≡◌, ◌<◌, ◌≤◌, length, map, take, OnOk, IfErr};
+ghost use Rattle.mesh_io.specs.Faults.{Rose};
+ghost use Rattle.mesh_io.specs.Told.{Tells};
+ghost use Rattle.mesh_run.specs.Turns.Parts.{AttachesPort};
+ghost use Rattle.mesh_run.specs.Turns.Turns.{attached_report};
+
+use mesh_atoms::Port;
+use mesh_io::{Air, Attached};
+
+/// Attaches an interface for each port, in order, up to the first attach that fails; the error is its number, counted from 0.
+pub fn attach_all<A: Air>(air: &mut A, ports: &[Port]) -> Result<(), usize>
+    requires { A.attached air.old ≡ 0 }
+    ensures all { OnOk result (A.attached air.new ≡ length ports.now) }
+    ensures told { OnOk result (Tells (A.reports air.old) (A.reports air.new) (map attached_report ports.now)) }
+    ensures failed { IfErr result (λ i. Rose (A.faults air.old) (A.faults air.new)) }
+    ensures fewer { IfErr result (λ i. (i < length ports.now)) }
+    ensures number { IfErr result (λ i. A.attached air.new ≡ i) }
+    ensures told_before { IfErr result (λ i. Tells (A.reports air.old) (A.reports air.new) (map attached_report (take i ports.now))) }
+    ensures later { A.faults air.old ≤ A.faults air.new }
+{
+    for i in 0..ports.len() {
+        if attach(air, &ports[i]) == Attached::Failed {
+            return Err(i);
+        }
+    }
+    Ok(())
+}
+
+// Attaches an interface for a port.
+fn attach<A: Air>(air: &mut A, port: &Port) -> Attached
+    ensures { AttachesPort (A.attached air.old) (A.attached air.new) (A.reports air.old) (A.reports air.new)
+        (A.faults air.old) (A.faults air.new) port.now result }
+{
+    air.attach(port.local, port.peers.as_slice())
+}

@@ -1,0 +1,94 @@
+//! Events of a running router, with what it sends handed over.
+ghost use Rattle.std.specs.Prelude.{◌≡◌, ◌<◌, ◌≤◌, ◌^◌, [], Some, OnOk, OnErr};
+ghost use Rattle.mesh_io.specs.Told.{Tells};
+ghost use Rattle.mesh_machine.specs.Machine.{Event};
+ghost use Rattle.mesh_run.specs.Turns.Parts.{IsReady, Acts};
+ghost use Rattle.mesh_run.specs.Turns.Turns.{tick_of};
+
+use crate::turns::hand::{hand_over, has_room};
+use crate::turns::tally::Tally;
+use mesh_atoms::Addr4;
+use mesh_core::{Arrival, Machine, Outbox};
+use mesh_io::Air;
+use std::alloc::AllocError;
+
+// The clock of the router ticks.
+fn tick<M: Machine, A: Air>(
+    router: &mut M,
+    now: u64,
+    out: &mut Outbox,
+    air: &mut A,
+    tally: &mut Tally,
+) -> Result<(), AllocError>
+    requires now { now < 2 ^ 62 }
+    requires ready { IsReady (M.state router.old) (A.attached air.old) now }
+    ensures acts { OnOk result (Acts (M.state router.old) (Some (Event.Tick now)) (M.state router.new)
+        (A.reports air.old) (A.reports air.new) tally.old tally.new) }
+    ensures silent { OnErr result (Tells (A.reports air.old) (A.reports air.new) []) }
+    ensures ready { OnOk result (IsReady (M.state router.new) (A.attached air.new) now) }
+    ensures attached { A.attached air.new ≡ A.attached air.old }
+    ensures later { A.faults air.old ≤ A.faults air.new }
+{
+    router.tick_at(now, out)?;
+    has_room(tally, out.len())?;
+    hand_over(air, out, tally);
+    Ok(())
+}
+
+/// The clock of the router ticks: at the end, where the end has come; else at the moment, where the router is due. Moments are in
+/// ticks of 1/8192 s. What the router sends is handed over.
+pub fn tick_due<M: Machine, A: Air>(
+    router: &mut M,
+    end: u64,
+    now: u64,
+    out: &mut Outbox,
+    air: &mut A,
+    tally: &mut Tally,
+) -> Result<(), AllocError>
+    requires now { now < 2 ^ 62 }
+    requires going { (M.state router.old).last ≤ end }
+    requires ready { IsReady (M.state router.old) (A.attached air.old) now }
+    ensures acts { OnOk result (Acts (M.state router.old) (tick_of end now (M.state router.old)) (M.state router.new)
+        (A.reports air.old) (A.reports air.new) tally.old tally.new) }
+    ensures silent { OnErr result (Tells (A.reports air.old) (A.reports air.new) []) }
+    ensures ready { OnOk result (IsReady (M.state router.new) (A.attached air.new) now) }
+    ensures attached { A.attached air.new ≡ A.attached air.old }
+    ensures later { A.faults air.old ≤ A.faults air.new }
+{
+    if end <= now {
+        return tick(router, end, out, air, tally);
+    }
+    if router.next_due() <= now {
+        return tick(router, now, out, air, tally);
+    }
+    Ok(())
+}
+
+/// The router hears a frame from that sender at a moment in ticks, and what it sends is handed over.
+pub fn hear<M: Machine, A: Air>(
+    router: &mut M,
+    now: u64,
+    iface: usize,
+    sender: Addr4,
+    bytes: &[u8],
+    out: &mut Outbox,
+    air: &mut A,
+    tally: &mut Tally,
+) -> Result<(), AllocError>
+    requires now { now < 2 ^ 62 }
+    requires iface { iface < A.attached air.old }
+    requires ready { IsReady (M.state router.old) (A.attached air.old) now }
+    ensures acts { OnOk result (Acts (M.state router.old)
+        (Some (Event.Hear (record { now = now; iface = iface; sender = sender }) bytes.now)) (M.state router.new)
+        (A.reports air.old) (A.reports air.new) tally.old tally.new) }
+    ensures silent { OnErr result (Tells (A.reports air.old) (A.reports air.new) []) }
+    ensures ready { OnOk result (IsReady (M.state router.new) (A.attached air.new) now) }
+    ensures attached { A.attached air.new ≡ A.attached air.old }
+    ensures later { A.faults air.old ≤ A.faults air.new }
+{
+    let arrival = Arrival { now, iface, sender };
+    router.hear_frame(arrival, bytes, out)?;
+    has_room(tally, out.len())?;
+    hand_over(air, out, tally);
+    Ok(())
+}

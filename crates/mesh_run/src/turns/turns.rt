@@ -1,0 +1,110 @@
+//! The turns of a running router, up to its end.
+ghost use Rattle.std.specs.Prelude.{◌≡◌, ◌<◌, ◌≤◌, ◌^◌, length, OnErr, IfOk};
+ghost use Rattle.mesh_machine.specs.Machine.{IsOpening};
+ghost use Rattle.mesh_run.specs.Turns.Parts.{IsReady, Turning, Stopped, at};
+ghost use Rattle.mesh_run.specs.Turns.Turns.{moment_of, DoesTurns, StopsTurns};
+
+use crate::turns::tally::{Ended, Tally};
+use crate::turns::turn::turn;
+use mesh_atoms::RunSetup;
+use mesh_core::{Machine, Outbox};
+use mesh_io::{Air, Clock};
+use std::alloc::{AllocError, Global};
+
+// Where turns stopped: how many there were, and the greatest moment told.
+#[derive(Drop)]
+struct Stop {
+    turns: u32,
+    greatest: u64,
+}
+
+// At most so many turns, up to the first at or behind the end.
+fn turn_on<M: Machine, A: Air, C: Clock>(
+    router: &mut M,
+    end: u64,
+    most: u32,
+    count: usize,
+    buf: &mut [u8],
+    out: &mut Outbox,
+    air: &mut A,
+    clock: &mut C,
+    tally: &mut Tally,
+) -> Result<Stop, AllocError>
+    requires end { end < 2 ^ 62 }
+    requires some { 0 < end }
+    requires count { count ≡ A.attached air.old }
+    requires longest { length buf.old ≡ 65507 }
+    requires ready { IsReady (M.state router.old) (A.attached air.old) 0 }
+    ensures turns { IfOk result (λ stop. Turning end count (at (M.state router.old) 0 count)
+        (at (M.state router.new) (moment_of 0 stop.greatest) count) stop.turns 0 stop.greatest
+        (C.moments clock.old) (C.moments clock.new) (A.reports air.old) (A.reports air.new) tally.old tally.new) }
+    ensures most { IfOk result (λ stop. stop.turns ≤ most) }
+    ensures spent { IfOk result (λ stop. stop.greatest < end → stop.turns ≡ most) }
+    ensures stops { OnErr result (Stopped end count (at (M.state router.old) 0 count)
+        (C.moments clock.old) (C.moments clock.new) (A.reports air.old) (A.reports air.new)) }
+    ensures attached { A.attached air.new ≡ A.attached air.old }
+    ensures later { A.faults air.old ≤ A.faults air.new }
+{
+    let mut greatest = 0;
+    for done in 0..most {
+        greatest = turn(router, end, greatest, count, buf, out, air, clock, tally)?;
+        if end <= greatest {
+            return Ok(Stop {
+                turns: done + 1,
+                greatest,
+            });
+        }
+    }
+    Ok(Stop {
+        turns: most,
+        greatest,
+    })
+}
+
+/// Does at most so many turns of a router that was made with the setup, over an air with its interfaces: up to the first turn whose
+/// moment is at or above the setup's end. In a turn the clock is asked, the router ticks where it is due, and each interface is heard
+/// once, in order; what the router sends is handed over at once.
+pub fn do_turns<M: Machine, A: Air, C: Clock>(
+    alloc: Global,
+    router: &mut M,
+    setup: &RunSetup,
+    most: u32,
+    air: &mut A,
+    clock: &mut C,
+) -> Result<Ended, AllocError>
+    requires opening { IsOpening setup.now.router (M.state router.old) }
+    requires attached { A.attached air.old ≡ length setup.now.ports }
+    ensures done { IfOk result (λ ended. DoesTurns setup.now (M.state router.new) ended
+        (C.moments clock.old) (C.moments clock.new) (A.reports air.old) (A.reports air.new)) }
+    // It ended, or all turns were done.
+    ensures most { IfOk result (λ ended. ended.turns ≤ most) }
+    ensures spent { IfOk result (λ ended. ended.greatest < setup.now.end → ended.turns ≡ most) }
+    ensures stops { OnErr result (StopsTurns setup.now
+        (C.moments clock.old) (C.moments clock.new) (A.reports air.old) (A.reports air.new)) }
+    ensures attached { A.attached air.new ≡ A.attached air.old }
+    ensures later { A.faults air.old ≤ A.faults air.new }
+{
+    let mut buf = vec![in alloc; 0; 65507]?;
+    let mut out = Outbox::new(alloc);
+    let mut tally = Tally {
+        heard: 0,
+        sent: 0,
+        faults: 0,
+    };
+    let stop = turn_on(
+        router,
+        setup.end,
+        most,
+        setup.ports.len(),
+        buf.as_mut_slice(),
+        &mut out,
+        air,
+        clock,
+        &mut tally,
+    )?;
+    Ok(Ended {
+        turns: stop.turns,
+        greatest: stop.greatest,
+        tally,
+    })
+}
