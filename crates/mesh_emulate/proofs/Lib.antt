@@ -1,13 +1,14 @@
 mod Emulations
 mod Ends
 mod Leaving
+mod MakingLemmas
 mod Names
 mod Parts
 mod PlainLines
 mod Preparing
 mod ProbeLines
-pub mod Refusals
 mod Probing
+pub mod Refusals
 mod ToldProbes
 mod ToldRoutes
 mod TraceFacts

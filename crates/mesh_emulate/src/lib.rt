@@ -4,6 +4,7 @@
 mod emulation;
 mod events;
 mod laws;
+mod making;
 mod network;
 mod prepared;
 mod probe;
@@ -14,4 +15,5 @@ mod writing;
 
 pub use emulation::{EmulateFault, emulate};
 pub use laws::emulations_tell;
+pub use making::{Kind, made, made_networks_tell, make};
 pub use wanted::{NamedPacket, Wanted};

@@ -3,7 +3,7 @@ ghost use Rattle.std.specs.Prelude.{◌≡◌};
 ghost use Rattle.mesh_emulate.specs.Laws.{RunsMachines, TellsSettled, PrintsLeastRoutes, PrintsNextHops};
 ghost use Rattle.mesh_emulate.specs.Laws.{TripsAreOnly, TripsReachRouters, TripsReachNetworks, TripsNeverStray};
 ghost use Rattle.mesh_emulate.specs.Laws.{ProbesReachJoined, ProbesTellAll, ProbesSendOnce};
-ghost use Rattle.mesh_made.specs.Made.{MadeNetworksRunMachines, MadeNetworksTellSettled, TellsLeastRoutes};
+ghost use Rattle.mesh_emulate.specs.Making.Made.{MadeNetworksRunMachines, MadeNetworksTellSettled, TellsLeastRoutes};
 ghost use Rattle.mesh_run.specs.Turns.Laws.{TurnsAreRuns, TurnsKeepSound};
 ghost use Rattle.mesh_tool.specs.Answers.Answers.{Answers};
 ghost use Rattle.mesh_tool.specs.Words.Words.{texts};

@@ -8,4 +8,4 @@ mod words;
 pub use crate::words::job::{Job, PacketWords};
 pub use crate::words::laws::{command_lines_are_read, faults_are_first};
 pub use crate::words::words::read_words;
-pub use mesh_made::Kind;
+pub use mesh_emulate::Kind;

@@ -8,7 +8,7 @@ use Rattle.mesh_dump.specs.Dump.{IsDumpText}
 use Rattle.mesh_emulate.specs.Emulation.{Emulation, IsRefused}
 use Rattle.mesh_emulate.proofs.Refusals.{emulated_not_refused}
 use Rattle.mesh_io.specs.Faults.{Rose}
-use Rattle.mesh_made.specs.Made.{MadeEmulation}
+use Rattle.mesh_emulate.specs.Making.Made.{MadeEmulation}
 use Rattle.mesh_run.specs.Run.{States, WholeRun, SpendsTurns, FailsToAttach}
 use Rattle.mesh_config.specs.Keys.Faults.{Fault, fault, first}
 use Rattle.mesh_tool.specs.declared.jobs.ending.Ending.{Ending}
@@ -21,7 +21,7 @@ use Rattle.mesh_tool.specs.Jobs.Endings.{StopsReading, IsUnattached, IsSpent, Le
 use Rattle.mesh_tool.specs.Jobs.Lines.{words_line, read_line, refused_line, attach_line, turns_line, memory_line}
 use Rattle.mesh_tool.specs.declared.words.job.Job.{Job}
 use Rattle.mesh_tool.specs.declared.words.job.Job.TheVariants as job
-use Rattle.mesh_made.specs.declared.kind.Kind.{Kind}
+use Rattle.mesh_emulate.specs.declared.making.kind.Kind.{Kind}
 use Rattle.mesh_tool.specs.declared.words.job.PacketWords.{PacketWords}
 use Rattle.mesh_tool.specs.Words.Words.{words_of}
 

@@ -6,7 +6,7 @@ use Rattle.std.specs.Cmp.Lexicographic.{bytes_decides}
 use Rattle.mesh_atoms.specs.Literals.{only_if}
 use Rattle.mesh_tool.specs.declared.words.job.Job.{Job}
 use Rattle.mesh_tool.specs.declared.words.job.Job.TheVariants as job
-use Rattle.mesh_made.specs.declared.kind.Kind.{Kind}
+use Rattle.mesh_emulate.specs.declared.making.kind.Kind.{Kind}
 use Rattle.mesh_tool.specs.declared.words.job.PacketWords.{PacketWords}
 use Rattle.mesh_tool.specs.declared.words.asked.Asked.{Asked}
 use Rattle.mesh_tool.specs.declared.words.asked.Asked.TheVariants as asked

@@ -5,8 +5,8 @@ use Rattle.std.proofs.lemmas.Bool.{cases_order}
 use Rattle.std.proofs.lemmas.List.{append-nil, take-append-drop, take-take}
 use Rattle.std.proofs.Math.Seq.{take-append_seam, take-append-add}
 use Rattle.mesh_tool.specs.declared.words.job.Job.{Job}
-use Rattle.mesh_made.specs.declared.kind.Kind.{Kind}
-use Rattle.mesh_made.specs.declared.kind.Kind.TheVariants as kind
+use Rattle.mesh_emulate.specs.declared.making.kind.Kind.{Kind}
+use Rattle.mesh_emulate.specs.declared.making.kind.Kind.TheVariants as kind
 use Rattle.mesh_tool.specs.declared.words.asked.Asked.{Asked}
 use Rattle.mesh_tool.specs.declared.words.asked.Asked.TheVariants as asked
 use Rattle.mesh_tool.specs.declared.words.asked.EmulateValue.TheVariants as emulates

@@ -5,7 +5,7 @@ use Rattle.std.specs.List.{flat_map}
 use Rattle.mesh_atoms.specs.Literals.{◌>>=◌}
 use Rattle.mesh_tool.specs.declared.words.job.Job.{Job}
 use Rattle.mesh_tool.specs.declared.words.job.Job.TheVariants as job
-use Rattle.mesh_made.specs.declared.kind.Kind.{Kind}
+use Rattle.mesh_emulate.specs.declared.making.kind.Kind.{Kind}
 use Rattle.mesh_tool.specs.declared.words.asked.Asked.{Asked}
 use Rattle.mesh_tool.specs.declared.words.asked.Asked.TheVariants as asked
 use Rattle.mesh_tool.specs.declared.words.asked.MakeOptions.{MakeOptions}

@@ -4,7 +4,7 @@ use Rattle.std.specs.Io.KnownBytes.{Appends, Keeps}
 use Rattle.mesh_dump.specs.Dump.{IsDumpText}
 use Rattle.mesh_emulate.specs.Emulation.{Emulation}
 use Rattle.mesh_io.specs.Faults.{Rose}
-use Rattle.mesh_made.specs.Made.{MadeEmulation}
+use Rattle.mesh_emulate.specs.Making.Made.{MadeEmulation}
 use Rattle.mesh_run.specs.Run.{WholeRun, SpendsTurns, FailsToAttach}
 use Rattle.mesh_tool.specs.declared.jobs.status.Status.{Status}
 use Rattle.mesh_tool.specs.declared.jobs.status.Status.TheVariants as status
@@ -12,7 +12,7 @@ use Rattle.mesh_tool.specs.Jobs.Calls.{Call, told_in, UsesNoAir, RunsSoFar, Asks
 use Rattle.mesh_tool.specs.Jobs.Lines.{words_line, read_line, refused_line, attach_line, turns_line, memory_line}
 use Rattle.mesh_tool.specs.declared.words.job.Job.{Job}
 use Rattle.mesh_tool.specs.declared.words.job.Job.TheVariants.{Dump, Run, Emulate, Make}
-use Rattle.mesh_made.specs.declared.kind.Kind.{Kind}
+use Rattle.mesh_emulate.specs.declared.making.kind.Kind.{Kind}
 use Rattle.mesh_tool.specs.declared.words.job.PacketWords.{PacketWords}
 use Rattle.mesh_tool.specs.Words.Words.{words_of}
 

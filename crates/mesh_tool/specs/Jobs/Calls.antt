@@ -7,7 +7,7 @@ use Rattle.mesh_dump.specs.Dump.{IsDumpText, IsDumpFront, IsFirstLinesText}
 use Rattle.mesh_emulate.specs.Emulation.{Emulation, IsRefused, IsFirstPart, IsFront}
 use Rattle.mesh_emulate.specs.Wants.{Packet, Wants}
 use Rattle.mesh_io.specs.Airs.{Report}
-use Rattle.mesh_made.specs.Made.{MadeEmulation}
+use Rattle.mesh_emulate.specs.Making.Made.{MadeEmulation}
 use Rattle.mesh_run.specs.Run.{Told, told, IsUntold, States, WholeRun, SpendsTurns, FailsToAttach, RunsShort}
 use Rattle.mesh_config.specs.Keys.Faults.{first}
 use Rattle.mesh_tool.specs.declared.words.job.Job.{Job}

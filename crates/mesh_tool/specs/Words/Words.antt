@@ -5,8 +5,8 @@ use Rattle.std.specs.declared.alloc.Global.{Global}
 use Rattle.mesh_atoms.specs.Literals.{◌>>=◌, only_if, number_of, address_of}
 use Rattle.mesh_tool.specs.declared.words.job.Job.{Job}
 use Rattle.mesh_tool.specs.declared.words.job.Job.TheVariants as job
-use Rattle.mesh_made.specs.declared.kind.Kind.{Kind}
-use Rattle.mesh_made.specs.declared.kind.Kind.TheVariants as kind
+use Rattle.mesh_emulate.specs.declared.making.kind.Kind.{Kind}
+use Rattle.mesh_emulate.specs.declared.making.kind.Kind.TheVariants as kind
 use Rattle.mesh_tool.specs.declared.words.asked.Asked.{Asked}
 use Rattle.mesh_tool.specs.declared.words.asked.Asked.TheVariants as asked
 use Rattle.mesh_tool.specs.declared.words.asked.EmulateOptions.{EmulateOptions}

@@ -155,7 +155,7 @@ fn make<B: Bases, O: Sink>(
         (O.content out.old) (O.content out.new) (O.faults out.old) (O.faults out.new) result }
     ensures later { O.faults out.old ≤ O.faults out.new }
 {
-    match mesh_made::make::<B, O>(alloc, kind, routers, seed, out) {
+    match mesh_emulate::make::<B, O>(alloc, kind, routers, seed, out) {
         Ok(()) => Ending::Done,
         Err(Stop::Write) => Ending::Write,
         Err(Stop::Memory) => Ending::Memory,

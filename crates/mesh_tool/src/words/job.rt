@@ -1,6 +1,6 @@
 //! What a command line asks for.
 use mesh_atoms::Addr4;
-use mesh_made::Kind;
+use mesh_emulate::Kind;
 
 /// A data packet that is to be sent: the place of the word that names the router it starts from, counted from 0, and the address
 /// that it is for.

@@ -1,0 +1,10 @@
+pub mod Apart
+pub mod ArcEnds
+pub mod Greatest
+pub mod Growing
+pub mod MadeOnes
+pub mod Reaching
+pub mod Rows
+pub mod StatedOnes
+pub mod Telling
+pub mod Tells

@@ -1,0 +1,54 @@
+-- One pair more, and one router more.
+use Rattle.std.proofs.Common.{◌≡◌, ℕ, zero, suc, ◌+◌, ◌-◌, ◌*◌, ◌%◌, ◌<◌, List, [], ◌∷◌, ◌++◌, length, refl, ap, ◌∙◌, subst, arith}
+use Rattle.std.specs.List.{flat_map, range_with_len}
+use Rattle.std.proofs.lemmas.Grind.{flat_map-append}
+use Rattle.std.proofs.lemmas.List.{append-nil}
+use Rattle.mesh_atoms.specs.declared.settings.RadioArc.{RadioArc}
+use Rattle.mesh_emulate.specs.declared.making.pairs.Pair.{Pair}
+use Rattle.mesh_emulate.specs.Making.Pairs.{joined_with, more_pairs, word}
+use Rattle.mesh_emulate.specs.Making.Scenario.{IsMadeArc, AreMadeArcs}
+use Rattle.mesh_emulate.specs.declared.making.kind.Kind.{Kind}
+
+-- Numbers in order
+
+pub range_more : (a n j : ℕ) → a + n ≡ j → range_with_len a (n + 1) ≡ range_with_len a n ++ j ∷ []
+range_more a zero j e = let same : a ≡ j = omega (arith, e) in ap (λ (i : ℕ). i ∷ []) same
+range_more a (suc n) j e =
+    let more : suc n + 1 ≡ suc (n + 1) = omega arith in
+    let there : (a + 1) + n ≡ j = omega (arith, e) in
+    ap (range_with_len a) more ∙ ap (λ (l : List ℕ). a ∷ l) (range_more (a + 1) n j there)
+
+pub flat_more : {A : Type 0} (f : ℕ → List A) (n : ℕ) → flat_map f (range_with_len 0 (n + 1)) ≡ flat_map f (range_with_len 0 n) ++ f n
+flat_more f n =
+    ap (flat_map f) (range_more 0 n n (omega arith)) ∙ flat_map-append f (range_with_len 0 n) (n ∷ [])
+    ∙ ap (λ l. flat_map f (range_with_len 0 n) ++ l) (append-nil (f n))
+
+-- Draws
+
+pub drawn_more : (seed n times : ℕ) (pairs : List Pair) → times < n →
+    more_pairs seed n (n - 1 + 2 * times) (n - times) pairs
+    ≡ more_pairs seed n (n - 1 + 2 * (times + 1)) (n - (times + 1)) (joined_with pairs (word seed (n - 1 + 2 * times) % n) (word seed (n - 1 + 2 * times + 1) % n))
+drawn_more seed n times pairs within =
+    let left : n - times ≡ suc (n - (times + 1)) = omega (arith, within) in
+    let place : n - 1 + 2 * times + 2 ≡ n - 1 + 2 * (times + 1) = omega arith in
+    let next = joined_with pairs (word seed (n - 1 + 2 * times) % n) (word seed (n - 1 + 2 * times + 1) % n) in
+    ap (λ (k : ℕ). more_pairs seed n (n - 1 + 2 * times) k pairs) left ∙ ap (λ (k : ℕ). more_pairs seed n k (n - (times + 1)) next) place
+
+-- Arcs
+
+pub arcs_more : (k : Kind) (n seed from : ℕ) (pairs : List Pair) (p : Pair) (arcs : List RadioArc) (there back : RadioArc) (at : ℕ) →
+    from + 2 * length pairs ≡ at → AreMadeArcs k n seed from pairs arcs →
+    IsMadeArc k n seed at p.low p.high there → IsMadeArc k n seed (at + 1) p.high p.low back →
+    AreMadeArcs k n seed from (pairs ++ p ∷ []) (arcs ++ there ∷ back ∷ [])
+arcs_more k n seed from [] p [] there back at e all one two =
+    let here : at ≡ from = omega (arith, e) in (
+      subst (λ (i : ℕ). IsMadeArc k n seed i p.low p.high there) here one,
+      subst (λ (i : ℕ). IsMadeArc k n seed (i + 1) p.high p.low back) here two,
+      refl,
+    )
+arcs_more k n seed from [] p (a ∷ arcs) there back at e all one two = absurd cc
+arcs_more k n seed from (q ∷ pairs) p [] there back at e all one two = absurd all
+arcs_more k n seed from (q ∷ pairs) p (a ∷ []) there back at e all one two = absurd all
+arcs_more k n seed from (q ∷ pairs) p (a ∷ b ∷ arcs) there back at e all one two =
+    let rest : (from + 2) + 2 * length pairs ≡ at = omega (arith, e) in
+    (all.0, all.1, arcs_more k n seed (from + 2) pairs p arcs there back at rest all.2 one two)

@@ -1,0 +1,88 @@
+-- The settings of the routers of a made scenario.
+use Rattle.std.proofs.Common.{◌≡◌, ℕ, zero, suc, ◌+◌, ◌*◌, ◌≤◌, List, [], ◌∷◌, map, length, All, Some, refl, sym, ap, ◌∙◌, subst, arith}
+use Rattle.std.specs.Prelude.{slice_get}
+use Rattle.std.proofs.lemmas.List.{length-map}
+use Rattle.std.proofs.lemmas.List.Elements.{All-nil, All-cons}
+use Rattle.mesh_atoms.specs.declared.admit.QualityStep.{QualityStep}
+use Rattle.mesh_atoms.specs.declared.settings.Interface.{Interface}
+use Rattle.mesh_atoms.specs.declared.settings.RadioArc.{RadioArc}
+use Rattle.mesh_atoms.specs.declared.settings.RouterSettings.{RouterSettings}
+use Rattle.mesh_atoms.specs.declared.settings.Times.{Times}
+use Rattle.mesh_atoms.specs.Settings.{AreArcs}
+use Rattle.mesh_config.specs.Checks.Compared.{ends_of, stated_lists}
+use Rattle.mesh_config.specs.Fields.{RouterParts, settings_parts, stated_parts, thresholds_of, threshold_pair}
+use Rattle.mesh_config.specs.Senders.{Lists, HaveAllSenders, HaveAllQualities, addr_lists}
+use Rattle.mesh_config.proofs.Sounds.{counts_same, lists_same}
+use Rattle.mesh_emulate.specs.declared.making.pairs.Pair.{Pair}
+use Rattle.mesh_emulate.specs.Making.Scenario.{IsMadeRouter, AreMadeArcs}
+use Rattle.mesh_emulate.specs.Making.Stated.{IsStated, AreStated}
+use Rattle.mesh_emulate.proofs.MakingLemmas.Apart.{AreApart}
+use Rattle.mesh_emulate.proofs.MakingLemmas.ArcEnds.{arcs_sound}
+use Rattle.mesh_emulate.proofs.MakingLemmas.StatedOnes.{one_each}
+use Rattle.mesh_config.specs.declared.stated.stated.StatedRouter.{StatedRouter}
+use Rattle.mesh_config.specs.Stated.Times.{TimesIs}
+use Rattle.mesh_emulate.specs.declared.making.kind.Kind.{Kind}
+use Rattle.toml.specs.Data.{no_members}
+
+-- no link of an interface is rejected, where none is of the router
+none_rejected : {Y : Type 0} (thresholds : ℕ × ℕ) (xs : List Interface) (ys : List Y) → thresholds ≡ (0, 0) → map thresholds_of xs ≡ map (λ y. thresholds) ys →
+    All (λ f. thresholds_of f ≡ (0, 0)) xs
+none_rejected thresholds [] ys none same = All-nil (λ (f : Interface). thresholds_of f ≡ (0, 0))
+none_rejected thresholds (x ∷ xs) [] none same = absurd cc
+none_rejected thresholds (x ∷ xs) (y ∷ ys) none same =
+    let here : thresholds_of x ≡ thresholds = cc in
+    let rest : map thresholds_of xs ≡ map (λ y. thresholds) ys = cc in
+    All-cons (λ (f : Interface). thresholds_of f ≡ (0, 0)) x xs (here ∙ none) (none_rejected thresholds xs ys none rest)
+
+module _ (times : Times) (default : TimesIs no_members times) where
+  one_made : (i : ℕ) (r : RouterSettings) (d : StatedRouter) → settings_parts r ≡ stated_parts times d → IsStated i d → IsMadeRouter i r
+  one_made i r d same is = record {
+    name = ap (λ (p : RouterParts). p.fields.router_name) same ∙ is.name;
+    flooding = ap (λ (p : RouterParts). p.fields.willing.flooding) same ∙ is.flooding;
+    routing = ap (λ (p : RouterParts). p.fields.willing.routing) same ∙ is.routing;
+    hello_at = ap (λ (p : RouterParts). p.fields.hello_at) same ∙ is.hello_at;
+    tc_at = ap (λ (p : RouterParts). p.fields.tc_at) same ∙ is.tc_at;
+    times = subst (TimesIs no_members) (sym (ap (λ (p : RouterParts). p.times) same)) default;
+    tc_rows = ap (λ (p : RouterParts). p.fields.tc_rows) same ∙ is.tc_rows;
+    near_hold = ap (λ (p : RouterParts). p.fields.near_hold) same ∙ is.near_hold;
+    interfaces = ap (λ (p : RouterParts). p.interfaces) same ∙ is.interfaces;
+    thresholds = none_rejected (threshold_pair d.head.thresholds) r.interfaces d.interfaces (rw (is.accept, is.reject) refl) (ap (λ (p : RouterParts). p.thresholds) same);
+    attached = ap (λ (p : RouterParts). p.attached) same ∙ is.attached;
+  }
+
+  made_from : (i : ℕ) (ss : List RouterSettings) (ds : List StatedRouter) → map settings_parts ss ≡ map (stated_parts times) ds →
+      AreStated i ds →
+      (x n : ℕ) (r : RouterSettings) → i + x ≡ n → slice_get ss x ≡ Some r → IsMadeRouter n r
+  made_from i [] ds same all x n r place at = absurd cc
+  made_from i (s ∷ ss) [] same all x n r place at = absurd cc
+  made_from i (s ∷ ss) (d ∷ ds) same all zero n r place at =
+      let head : settings_parts s ≡ stated_parts times d = cc in
+      let is : s ≡ r = cc in
+      let here : i ≡ n = omega (arith, place) in
+      subst (IsMadeRouter n) is (subst (λ (k : ℕ). IsMadeRouter k s) here (one_made i s d head all.0))
+  made_from i (s ∷ ss) (d ∷ ds) same all (suc x) n r place at =
+      let rest : map settings_parts ss ≡ map (stated_parts times) ds = cc in
+      made_from (i + 1) ss ds rest all.1 x n r (omega (arith, place)) at
+
+  pub made_routers : (ss : List RouterSettings) (ds : List StatedRouter) → map settings_parts ss ≡ map (stated_parts times) ds →
+      AreStated 0 ds →
+      (i : ℕ) (r : RouterSettings) → slice_get ss i ≡ Some r → IsMadeRouter i r
+  made_routers ss ds same all i r at = made_from 0 ss ds same all i i r (omega arith) at
+
+module _ (times : Times) (ss : List RouterSettings) (ds : List StatedRouter) (same : map settings_parts ss ≡ map (stated_parts times) ds) where
+  pub made_count : length ss ≡ length ds
+  made_count =
+      let parts : length (map settings_parts ss) ≡ length (map (stated_parts times) ds) = ap (λ (l : List RouterParts). length l) same in
+      sym (length-map ss settings_parts) ∙ parts ∙ length-map ds (stated_parts times)
+
+  pub made_arcs : (k : Kind) (n seed : ℕ) (pairs : List Pair) (arcs : List RadioArc) → n ≤ 64 → AreApart n (2 * n) pairs →
+      AreMadeArcs k n seed 0 pairs arcs →
+      AreStated 0 ds → length ds ≡ n → AreArcs (map (λ r. length r.interfaces) ss) (map ends_of arcs)
+  made_arcs k n seed pairs arcs few apart made all count =
+      rw (counts_same times ss ds same) (arcs_sound k n seed pairs arcs few apart made _ (λ x within. one_each 0 ds all x (omega (arith, within, count))))
+
+  pub made_senders : (arcs : List RadioArc) → HaveAllSenders (stated_lists ds) arcs 0 ss → HaveAllSenders (addr_lists ss) arcs 0 ss
+  made_senders arcs have = subst (λ (lists : Lists). HaveAllSenders lists arcs 0 ss) (sym (lists_same times ss ds same)) have
+
+  pub made_qualities : (arcs : List (RadioArc × List QualityStep)) → HaveAllQualities (stated_lists ds) arcs 0 ss → HaveAllQualities (addr_lists ss) arcs 0 ss
+  made_qualities arcs have = subst (λ (lists : Lists). HaveAllQualities lists arcs 0 ss) (sym (lists_same times ss ds same)) have

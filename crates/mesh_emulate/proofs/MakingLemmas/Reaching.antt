@@ -1,0 +1,127 @@
+-- The least routes of the routers of a settled network, one behind the other.
+use Rattle.std.proofs.Common.{◌≡◌, ◌≢◌, ℕ, zero, suc, ◌+◌, List, [], ◌∷◌, ◌++◌, map, get_or, Some, inl, inr, refl, sym, ap, ◌∙◌, subst, arith}
+use Rattle.std.specs.Prelude.{Contains, slice_get}
+use Rattle.std.specs.List.{AllPairs}
+use Rattle.std.proofs.lemmas.List.{map-append}
+use Rattle.std.proofs.lemmas.List.Elements.{Contains-append_cases, Contains-append_left, Contains-append_right, Contains-get_or}
+use Rattle.mesh_atoms.specs.declared.addr.NetAddr.{NetAddr}
+use Rattle.mesh_atoms.specs.declared.graphs.Route.{Route}
+use Rattle.mesh_atoms.specs.Nodes.{IsBefore}
+use Rattle.mesh_atoms.specs.State.{State}
+use Rattle.mesh_config.proofs.Builds.{map-then}
+use Rattle.mesh_emulate.specs.Making.Made.{Reached}
+use Rattle.mesh_emulate.specs.Making.Routes.{metrics_of}
+use Rattle.mesh_paths.proofs.Scenarios.{contains_map}
+
+abbrev pub reached_by : ℕ → Route → Reached
+reached_by x r = record { router = x; dest = r.dest; metric = r.metric }
+
+-- what routers in these states reach, the first of them of that number
+abbrev pub all_reached : ℕ → List State → List Reached
+all_reached i [] = []
+all_reached i (p ∷ ps) = map (reached_by i) p.routes ++ all_reached (i + 1) ps
+
+pub metrics_same : (i : ℕ) (ps : List State) → map (λ r. r.metric) (all_reached i ps) ≡ metrics_of ps
+metrics_same i [] = refl
+metrics_same i (p ∷ ps) =
+    let metric : Reached → ℕ = λ r. r.metric in
+    map-append metric (map (reached_by i) p.routes) (all_reached (i + 1) ps)
+    ∙ rw (map-then metric (reached_by i) p.routes, metrics_same (i + 1) ps) refl
+
+-- Of which router, and by which route
+
+from_map : {A B : Type 0} (f : A → B) (xs : List A) (y : B) → Contains (map f xs) y → (x : A) × Contains xs x × (f x ≡ y)
+from_map f [] y (k, within, is) = absurd (omega (arith, within))
+from_map f (x ∷ xs) y (zero, within, is) = (x, (0, omega arith, refl), is)
+from_map f (x ∷ xs) y (suc k, within, is) =
+    let rest = from_map f xs y (k, omega (arith, within), is) in
+    (rest.0, (suc rest.1.0, omega (arith, rest.1.1), rest.1.2), rest.2)
+
+-- a route of the router of a number
+pub record IsRouteOf (ps : List State) (i : ℕ) (q : Reached) : Type 0 where
+  pub j : ℕ
+  pub p : State
+  pub at : slice_get ps j ≡ Some p
+  pub r : Route
+  pub within : Contains p.routes r
+  pub is : reached_by (i + j) r ≡ q
+
+pub where_from : (i : ℕ) (ps : List State) (q : Reached) → Contains (all_reached i ps) q → IsRouteOf ps i q
+where_from i [] q (k, within, is) = absurd (omega (arith, within))
+where_from i (p ∷ ps) q within = elim (Contains-append_cases (map (reached_by i) p.routes) (all_reached (i + 1) ps) q within) [
+  | inl here ↦
+      let found = from_map (reached_by i) p.routes q here in
+      let same : i + 0 ≡ i = omega arith in
+      record { j = 0; p = p; at = refl; r = found.0; within = found.1; is = ap (λ (x : ℕ). reached_by x found.0) same ∙ found.2 }
+  | inr behind ↦
+      let rest = where_from (i + 1) ps q behind in
+      let same : i + suc rest.j ≡ (i + 1) + rest.j = omega arith in
+      record { j = suc rest.j; p = rest.p; at = rest.at; r = rest.r; within = rest.within; is = ap (λ (x : ℕ). reached_by x rest.r) same ∙ rest.is }
+]
+
+pub is_there : (i n : ℕ) (ps : List State) (j : ℕ) (p : State) (r : Route) → i + j ≡ n → slice_get ps j ≡ Some p → Contains p.routes r →
+    Contains (all_reached i ps) (reached_by n r)
+is_there i n [] j p r place at within = absurd cc
+is_there i n (s ∷ ps) zero p r place at within =
+    let same : s ≡ p = cc in
+    let here : i ≡ n = omega (arith, place) in
+    Contains-append_left (map (reached_by i) s.routes) (all_reached (i + 1) ps) (reached_by n r)
+    (subst (λ (x : ℕ). Contains (map (reached_by i) s.routes) (reached_by x r)) here
+    (contains_map (reached_by i) s.routes r (subst (λ (q : State). Contains q.routes r) (sym same) within)))
+is_there i n (s ∷ ps) (suc j) p r place at within =
+    Contains-append_right (map (reached_by i) s.routes) (all_reached (i + 1) ps) (reached_by n r)
+    (is_there (i + 1) n ps j p r (omega (arith, place)) at within)
+
+-- Each once
+
+apart_first : {A : Type 0} (x : A) (xs : List A) → ((y : A) → Contains xs y → x ≢ y) → AllPairs (λ a b. a ≢ b) xs →
+    AllPairs (λ a b. a ≢ b) (x ∷ xs)
+apart_first x xs others all zero zero d less within = absurd (omega (arith, less))
+apart_first x xs others all zero (suc j) d less within = others (get_or xs j d) (Contains-get_or xs j d (omega (arith, within)))
+apart_first x xs others all (suc i) zero d less within = absurd (omega (arith, less))
+apart_first x xs others all (suc i) (suc j) d less within = all i j d (omega (arith, less)) (omega (arith, within))
+
+pairs_tail : {A : Type 0} (R : A → A → Type 0) (x : A) (xs : List A) → AllPairs R (x ∷ xs) → AllPairs R xs
+pairs_tail R x xs all i j d less within = all (suc i) (suc j) d (omega (arith, less)) (omega (arith, within))
+
+pairs_first : {A : Type 0} (R : A → A → Type 0) (x : A) (xs : List A) (y : A) → AllPairs R (x ∷ xs) → Contains xs y → R x y
+pairs_first R x xs y all (k, within, is) = subst (R x) is (all 0 (suc k) y (omega arith) (omega (arith, within)))
+
+apart_both : {A : Type 0} (xs ys : List A) → AllPairs (λ a b. a ≢ b) xs → AllPairs (λ a b. a ≢ b) ys →
+    ((x y : A) → Contains xs x → Contains ys y → x ≢ y) → AllPairs (λ a b. a ≢ b) (xs ++ ys)
+apart_both [] ys one two cross = two
+apart_both {A} (x ∷ xs) ys one two cross =
+    let rest = apart_both xs ys (pairs_tail (λ (a b : A). a ≢ b) x xs one) two (λ a b within. cross a b (suc within.0, omega (arith, within.1), within.2)) in
+    apart_first x (xs ++ ys)
+    (λ y within. elim (Contains-append_cases xs ys y within) [
+      | inl here ↦ pairs_first (λ (a b : A). a ≢ b) x xs y one here
+      | inr there ↦ cross x y (0, omega arith, refl) there
+    ]) rest
+
+not_before : (a b : NetAddr) → IsBefore a b → a ≢ b
+not_before a b (inl less) same = let e = ap (λ (n : NetAddr). n.addr.0) same in omega (arith, less, e)
+not_before a b (inr less) same = let e = ap (λ (n : NetAddr). n.prefix) same in omega (arith, less.1, e)
+
+one_router_apart : (x : ℕ) (rows : List Route) → AllPairs (λ r t. IsBefore r.dest t.dest) rows →
+    AllPairs (λ a b. a ≢ b) (map (reached_by x) rows)
+one_router_apart x [] ordered = λ i j d less within. absurd (omega (arith, within))
+one_router_apart x (r ∷ rows) ordered =
+    apart_first (reached_by x r) (map (reached_by x) rows)
+    (λ q within same.
+    let found = from_map (reached_by x) rows q within in
+    let dest : r.dest ≡ found.0.dest = ap (λ (y : Reached). y.dest) (same ∙ sym found.2) in
+    not_before r.dest found.0.dest (pairs_first (λ (a b : Route). IsBefore a.dest b.dest) r rows found.0 ordered found.1) dest)
+    (one_router_apart x rows (pairs_tail (λ (a b : Route). IsBefore a.dest b.dest) r rows ordered))
+
+pub all_apart : (i : ℕ) (ps : List State) → ((j : ℕ) (p : State) → slice_get ps j ≡ Some p →
+    AllPairs (λ r t. IsBefore r.dest t.dest) p.routes) →
+    AllPairs (λ a b. a ≢ b) (all_reached i ps)
+all_apart i [] ordered = λ j k d less within. absurd (omega (arith, within))
+all_apart i (p ∷ ps) ordered =
+    apart_both (map (reached_by i) p.routes) (all_reached (i + 1) ps) (one_router_apart i p.routes (ordered 0 p refl))
+    (all_apart (i + 1) ps (λ j q at. ordered (suc j) q at))
+    (λ a b within behind same.
+    let mine = from_map (reached_by i) p.routes a within in
+    let other = where_from (i + 1) ps b behind in
+    let e : i ≡ (i + 1) + other.j = ap (λ (q : Reached). q.router) (mine.2 ∙ same ∙ sym other.is) in
+    omega (arith, e))

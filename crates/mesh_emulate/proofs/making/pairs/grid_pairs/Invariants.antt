@@ -1,0 +1,7 @@
+use Rattle.std.proofs.Common.{◌≡◌}
+use Rattle.std.specs.List.{flat_map, range_with_len}
+use Rattle.mesh_emulate.specs.Making.Pairs.{grid_pairs_of}
+use Rattle.mesh_emulate.proofs.making.pairs.grid_pairs.Given as goal
+
+abbrev pub invariant-loop-i : goal.invariant-loop-i
+invariant-loop-i l = l.pairs ≡ flat_map (grid_pairs_of l.row l.routers) (range_with_len 0 l.i)

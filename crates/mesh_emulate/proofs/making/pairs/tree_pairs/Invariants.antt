@@ -1,0 +1,7 @@
+use Rattle.std.proofs.Common.{◌≡◌, ◌+◌, ◌%◌, map}
+use Rattle.std.specs.List.{range_with_len}
+use Rattle.mesh_emulate.specs.Making.Pairs.{pair, word}
+use Rattle.mesh_emulate.proofs.making.pairs.tree_pairs.Given as goal
+
+abbrev pub invariant-loop-i : goal.invariant-loop-i
+invariant-loop-i l = l.pairs ≡ map (λ i. pair (word l.seed i % (i + 1)) (i + 1)) (range_with_len 0 l.i)

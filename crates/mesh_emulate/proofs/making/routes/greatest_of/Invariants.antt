@@ -1,0 +1,6 @@
+use Rattle.std.proofs.Common.{map, take}
+use Rattle.mesh_emulate.specs.Making.Routes.{metrics_of, IsGreatest}
+use Rattle.mesh_emulate.proofs.making.routes.greatest_of.Given as goal
+
+abbrev pub invariant-loop-router : goal.invariant-loop-router
+invariant-loop-router g l = IsGreatest (metrics_of (map g.R.RouterView.state (take l.router-index l.routers))) l.greatest

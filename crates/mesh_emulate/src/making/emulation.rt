@@ -1,0 +1,93 @@
+//! The emulation of a made network.
+ghost use Rattle.std.specs.Prelude.{◌≡◌, ◌≤◌, ◌<◌, ◌^◌, ℕ, List, Err, IfOk, OnOk, length, map, take};
+ghost use Rattle.std.specs.Io.KnownBytes.{Appends, Keeps};
+ghost use Rattle.mesh_atoms.specs.declared.graphs.RadioGraph.{RadioGraph};
+ghost use Rattle.mesh_atoms.specs.Radio.{IsRadioGraph};
+ghost use Rattle.mesh_atoms.specs.Settings.{IsCount};
+ghost use Rattle.mesh_gaps.specs.Network.{IsNetwork};
+ghost use Rattle.mesh_io.specs.Faults.{Rose};
+ghost use Rattle.mesh_emulate.specs.Making.Made.{IsEndText, IsMadeText, MadeEmulation};
+ghost use Rattle.mesh_texts.specs.Runs.{WholeRun};
+
+use crate::making::kind::Kind;
+use crate::making::scenario::made;
+use crate::making::text::put_made;
+use mesh_atoms::{Bytes, Scenario};
+use mesh_expire::Bases;
+use mesh_io::{Sink, Stop, write_all};
+use mesh_machine::RouterView;
+use mesh_paths::radio_graph;
+use mesh_radio::{Counts, Net};
+use mesh_settled::settled;
+use std::alloc::{AllocError, Global};
+
+// The text of a network of a made scenario, of which the routers are these at the end of its run.
+fn text_at_end<R: RouterView>(
+    alloc: Global,
+    kind: Kind,
+    scenario: &Scenario,
+    routers: &[R],
+    counts: Counts,
+) -> Result<Bytes, AllocError>
+    requires network { (graph : RadioGraph) → IsRadioGraph scenario.now graph → IsNetwork scenario.now graph (map R.state routers.now) scenario.now.end }
+    requires few { length routers.now ≤ 64 }
+    ensures { IfOk result (IsEndText kind scenario.now (map R.state routers.now) counts) }
+{
+    let graph = radio_graph(alloc, scenario)?;
+    let gap = settled(routers, scenario, &graph, scenario.end);
+    let mut text = Bytes::new(alloc);
+    put_made(&mut text, kind, scenario, routers, counts, gap)?;
+    Ok(text)
+}
+
+// The text of a run of the network of a made scenario.
+fn text_of<B: Bases>(alloc: Global, kind: Kind, scenario: &Scenario) -> Result<Bytes, AllocError>
+    ensures { IfOk result (λ text. (run : WholeRun scenario.now) × IsMadeText kind scenario.now run text) }
+{
+    let mut net = Net::<B>::new(alloc, scenario)?;
+    net.run_until_end()?;
+    text_at_end(alloc, kind, scenario, net.cores(), net.counts())
+}
+
+// The text of a run of the network of the made scenario.
+fn made_text<B: Bases>(
+    alloc: Global,
+    kind: Kind,
+    routers: usize,
+    seed: u64,
+) -> Result<Bytes, AllocError>
+    requires count { IsCount 2 64 routers }
+    requires seed { seed < 2 ^ 63 }
+    ensures { IfOk result (λ text. (m : MadeEmulation kind routers seed) × (m.text ≡ text)) }
+{
+    let scenario = made(alloc, kind, routers, seed)?;
+    text_of::<B>(alloc, kind, &scenario)
+}
+
+/// Emulates the network of the made scenario of 2 to 64 routers, with routers over these bases, from its opening to its end, and
+/// tells on `out`, by one write, how large it is, what was counted, its routes in number and whether it is settled.
+pub fn make<B: Bases, O: Sink>(
+    alloc: Global,
+    kind: Kind,
+    routers: usize,
+    seed: u64,
+    out: &mut O,
+) -> Result<(), Stop>
+    requires count { IsCount 2 64 routers }
+    requires seed { seed < 2 ^ 63 }
+    ensures done { OnOk result ((m : MadeEmulation kind routers seed) × Appends (O.content out.old) (O.content out.new) m.text) }
+
+    // The sink counted a fault; a front of the text stands on `out`.
+    ensures write { result ≡ Err Stop.Write → Rose (O.faults out.old) (O.faults out.new)
+        × (m : MadeEmulation kind routers seed) × (n : ℕ) × Appends (O.content out.old) (O.content out.new) (take n m.text) }
+    ensures memory { result ≡ Err Stop.Memory → Keeps (O.content out.old) (O.content out.new) }
+    ensures later { O.faults out.old ≤ O.faults out.new }
+{
+    match made_text::<B>(alloc, kind, routers, seed) {
+        Ok(text) => match write_all(out, text.as_slice()) {
+            Ok(()) => Ok(()),
+            Err(_) => Err(Stop::Write),
+        },
+        Err(_) => Err(Stop::Memory),
+    }
+}

@@ -1,7 +1,0 @@
-use Rattle.std.proofs.Common.{sym}
-use Rattle.mesh_made.specs.Pairs.{grid_pairs_of}
-use Rattle.mesh_made.proofs.Growing.{flat_more}
-use Rattle.mesh_made.proofs.pairs.grid_pairs.Goals as goal
-
-pub loop-i-preserved : goal.loop-i-preserved
-loop-i-preserved c = rw (c.in_ok-put_grid.ensures, c.loop-i.invariant) (sym (flat_more (grid_pairs_of c.args.row c.args.routers) c.loop-i.i))

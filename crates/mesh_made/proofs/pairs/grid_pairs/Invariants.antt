@@ -1,7 +1,0 @@
-use Rattle.std.proofs.Common.{◌≡◌}
-use Rattle.std.specs.List.{flat_map, range_with_len}
-use Rattle.mesh_made.specs.Pairs.{grid_pairs_of}
-use Rattle.mesh_made.proofs.pairs.grid_pairs.Given as goal
-
-abbrev pub invariant-loop-i : goal.invariant-loop-i
-invariant-loop-i l = l.pairs ≡ flat_map (grid_pairs_of l.row l.routers) (range_with_len 0 l.i)

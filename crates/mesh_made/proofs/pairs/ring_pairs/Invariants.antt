@@ -1,7 +1,0 @@
-use Rattle.std.proofs.Common.{◌≡◌, ◌+◌, map}
-use Rattle.std.specs.List.{range_with_len}
-use Rattle.mesh_made.specs.Pairs.{pair}
-use Rattle.mesh_made.proofs.pairs.ring_pairs.Given as goal
-
-abbrev pub invariant-loop-i : goal.invariant-loop-i
-invariant-loop-i l = l.pairs ≡ map (λ i. pair i (i + 1)) (range_with_len 0 l.i)

@@ -1,6 +1,0 @@
-use Rattle.std.proofs.Common.{ℕ, List, ◌++◌, map, take}
-use Rattle.mesh_made.specs.Routes.{IsGreatest}
-use Rattle.mesh_made.proofs.routes.greatest_with.Given as goal
-
-abbrev pub invariant-loop-route : goal.invariant-loop-route
-invariant-loop-route l = (metrics : List ℕ) → IsGreatest metrics l.fn.greatest → IsGreatest (metrics ++ map (λ r. r.metric) (take l.route-index l.routes)) l.all
