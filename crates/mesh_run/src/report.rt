@@ -7,9 +7,8 @@ ghost use Rattle.mesh_run.specs.Text.{run_line, IsReport};
 use crate::turns::Ended;
 use mesh_atoms::Bytes;
 use mesh_io::{Sink, Stop, write_all};
-use mesh_lines::{Piece, put_line};
 use mesh_machine::RouterView;
-use mesh_sections::put_section;
+use mesh_router_text::{Piece, put_line, put_section};
 use std::alloc::{AllocError, Global};
 
 // Puts when a run ended and what was counted. Want of memory leaves a part of it behind what was there.

@@ -16,8 +16,8 @@ use Rattle.mesh_atoms.specs.Settled.{At}
 use Rattle.mesh_atoms.specs.State.{State}
 use Rattle.mesh_atoms.proofs.Kept.{distinct_is}
 use Rattle.mesh_gaps.specs.declared.gap.Gap.{Gap}
-use Rattle.mesh_lines.specs.Marks.{dotted, face_name}
-use Rattle.mesh_lines.specs.Lines.{router_line, row_line, route_line}
+use Rattle.mesh_router_text.specs.Lines.Marks.{dotted, face_name}
+use Rattle.mesh_router_text.specs.Lines.Lines.{router_line, row_line, route_line}
 use Rattle.mesh_texts.specs.Network.{IsGapOf, settled_text}
 use Rattle.mesh_texts.specs.Runs.{WholeRun, TellsWhetherSettled, IsRunText}
 use Rattle.mesh_texts.specs.Printed.{IsLine, BeginsWith, SaysSettled, IsPlain, ArePlain, StandsUnder, PrintsBy}

@@ -4,8 +4,8 @@ use Rattle.std.specs.Prelude.{slice_get}
 use Rattle.std.specs.List.{AllByRecursion as Each}
 use Rattle.mesh_atoms.specs.declared.addr.Addr4.{Addr4}
 use Rattle.mesh_atoms.specs.State.{State}
-use Rattle.mesh_lines.specs.Marks.{line_of, dotted}
-use Rattle.mesh_lines.specs.Lines.{router_line, row_line}
+use Rattle.mesh_router_text.specs.Lines.Marks.{line_of, dotted}
+use Rattle.mesh_router_text.specs.Lines.Lines.{router_line, row_line}
 use Rattle.mesh_texts.specs.Printed.{BeginsWith, IsPlain}
 use Rattle.mesh_texts.proofs.LineLists.{Heads, Stands, Under, each_both, each_front, each_back, each_map, each_weaker, each_has, cons_heads, cons_tails, stands_in_two, under_past, under_behind}
 use Rattle.mesh_texts.proofs.LineTexts.{IsNeither, plain_neither, router_no_route, row_no_heading}

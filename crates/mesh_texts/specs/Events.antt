@@ -13,7 +13,7 @@ use Rattle.mesh_machine.specs.Sendable.{IsPacket}
 use Rattle.mesh_radio.specs.declared.traffic.emission.Emission.{Emission}
 use Rattle.mesh_radio.specs.declared.event.NetEvent.{NetEvent}
 use Rattle.mesh_machine.specs.Names.{router_name}
-use Rattle.mesh_lines.specs.Marks.{line_of, dotted, relays_text, face_name, faces_of}
+use Rattle.mesh_router_text.specs.Lines.Marks.{line_of, dotted, relays_text, face_name, faces_of}
 
 -- a router's clock ticked
 unfoldable pub tick_line : ℕ → List ℕ → List ℕ

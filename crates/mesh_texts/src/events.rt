@@ -4,13 +4,13 @@ ghost use Rattle.std.specs.List.{flat_map, enumerate_from};
 ghost use Rattle.mesh_packet.specs.Least.{Wrote};
 ghost use Rattle.mesh_tlv.specs.Least.{Grows};
 ghost use Rattle.mesh_machine.specs.Names.{router_name};
-ghost use Rattle.mesh_lines.specs.Marks.{line_of, face_name, relays_text, faces_of};
+ghost use Rattle.mesh_router_text.specs.Lines.Marks.{line_of, face_name, relays_text, faces_of};
 ghost use Rattle.mesh_texts.specs.Events.{tick_line, heard_line, event_line, flooding_relays_line, routing_relays_line, relays_lines, sent_line, loss_line, arc_line, lost_line, sent_lines, event_text, IsTaken, IsEventText};
 
 use mesh_atoms::{Addr4, Bytes, Interface, RadioArc, RouterSettings, Scenario, Seq};
-use mesh_lines::{Piece, face_name, faces_of, put_line, relays_of};
 use mesh_machine::{RouterView, router_name};
 use mesh_radio::{Emission, NetEvent};
+use mesh_router_text::{Piece, face_name, faces_of, put_line, relays_of};
 use std::alloc::AllocError;
 
 #[tactic(auto, unfolding(crate::specs::Events::tick_line))]

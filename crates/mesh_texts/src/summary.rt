@@ -5,16 +5,15 @@ ghost use Rattle.mesh_atoms.specs.Sound.{Sound};
 ghost use Rattle.mesh_packet.specs.Least.{Wrote};
 ghost use Rattle.mesh_tlv.specs.Least.{Grows};
 ghost use Rattle.mesh_machine.specs.Names.{router_name};
-ghost use Rattle.mesh_lines.specs.Marks.{joined, line_of, dotted, choice_text, faces_of};
-ghost use Rattle.mesh_lines.specs.Pieces.{piece_text};
-ghost use Rattle.mesh_sections.specs.Section.{AreSections};
+ghost use Rattle.mesh_router_text.specs.Lines.Marks.{joined, line_of, dotted, choice_text, faces_of};
+ghost use Rattle.mesh_router_text.specs.Lines.Pieces.{piece_text};
+ghost use Rattle.mesh_router_text.specs.Sections.Section.{AreSections};
 ghost use Rattle.mesh_texts.specs.Network.{counts_line, key_text, gap_line, settled_text, IsSummary};
 
 use mesh_atoms::{Addr4, Bytes, Interface, LinkKey, Scenario, TwoHopKey};
-use mesh_lines::{Piece, face_name, faces_of, put_all, put_line};
 use mesh_machine::{RouterView, router_name};
 use mesh_radio::Counts;
-use mesh_sections::put_section;
+use mesh_router_text::{Piece, face_name, faces_of, put_all, put_line, put_section};
 use mesh_settled::{Gap, GapKey};
 use std::alloc::AllocError;
 

@@ -1,6 +1,6 @@
 use Rattle.std.proofs.Common.{refl}
 use Rattle.mesh_texts.specs.Events.{event_text, Of_taken}
-use Rattle.mesh_lines.proofs.Joined.{on_ok}
+use Rattle.mesh_router_text.proofs.LinesLemmas.Joined.{on_ok}
 use Rattle.mesh_texts.proofs.events.put_event.Goals as goal
 
 pub returns-clause-ok : goal.returns-clause-ok

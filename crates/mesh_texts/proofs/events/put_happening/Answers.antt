@@ -1,6 +1,6 @@
 use Rattle.std.specs.List.{flat_map}
 use Rattle.mesh_tlv.proofs.Grows.{grows_on}
-use Rattle.mesh_lines.proofs.Joined.{on_ok, three}
+use Rattle.mesh_router_text.proofs.LinesLemmas.Joined.{on_ok, three}
 use Rattle.mesh_texts.specs.Events.{event_line, relays_lines, sent_lines, event_text}
 use Rattle.mesh_texts.proofs.events.put_happening.Goals as goal
 

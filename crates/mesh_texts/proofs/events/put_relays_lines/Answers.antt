@@ -3,7 +3,7 @@ use Rattle.std.specs.List.{flat_map, enumerate_from}
 use Rattle.mesh_atoms.specs.declared.settings.RouterSettings.{RouterSettings}
 use Rattle.mesh_atoms.specs.declared.tuples.Relays.{Relays}
 use Rattle.mesh_tlv.proofs.Grows.{grows_on}
-use Rattle.mesh_lines.proofs.Joined.{on_ok, two}
+use Rattle.mesh_router_text.proofs.LinesLemmas.Joined.{on_ok, two}
 use Rattle.mesh_texts.specs.Events.{flooding_relays_line, routing_relays_line, relays_lines}
 use Rattle.mesh_texts.proofs.events.put_relays_lines.Goals as goal
 

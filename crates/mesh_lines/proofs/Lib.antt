@@ -1,2 +1,0 @@
-mod Digits
-pub mod Joined

@@ -1,0 +1,2 @@
+pub mod LinesLemmas
+mod SectionsLemmas
