@@ -1,3 +1,6 @@
 mod Emptied
+mod EventLemmas
+mod HeldLemmas
 mod Seen
+mod SendingLemmas
 mod Spent

@@ -1,1 +1,4 @@
+pub mod Event
+pub mod Held
 pub mod Holding
+pub mod Sending

@@ -6,11 +6,11 @@ ghost use Rattle.mesh_machine.specs.Machine.{Event, Step, Hears, due};
 ghost use Rattle.mesh_machine.specs.Sendable.{IsSendable};
 ghost use Rattle.mesh_packet.specs.Grammar.{FirstFault};
 
+use crate::event::{hear_frame, tick};
+use crate::held::Outbox;
 use crate::router::Core;
 use mesh_atoms::Addr4;
-use mesh_events::{hear_frame, tick};
 use mesh_expire::Bases;
-use mesh_holding::Outbox;
 use mesh_machine::{Arrival, Heard};
 use std::alloc::AllocError;
 

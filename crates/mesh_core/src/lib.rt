@@ -1,12 +1,17 @@
 //! The router core: a router that hears frames, whose clock ticks, and which sends frames, as one step of the machine for each.
 #![tactic(auto)]
 
+mod event;
 mod events;
+mod held;
 mod machine;
 mod router;
+mod sending;
 mod views;
 
+pub use event::{hear_frame, tick};
+pub use held::{Holding, Outbox};
 pub use machine::Machine;
-pub use mesh_holding::Outbox;
 pub use mesh_machine::{Arrival, Fate, Frame, Heard, Read, RouterView, Said};
 pub use router::Core;
+pub use sending::{send_hellos, send_tcs};

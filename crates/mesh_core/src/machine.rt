@@ -3,10 +3,10 @@ ghost use Rattle.std.specs.Prelude.{◌≡◌, ◌<◌, ◌≤◌, ◌^◌, leng
 ghost use Rattle.mesh_machine.specs.Machine.{Event, Step, IsOpening, due};
 ghost use Rattle.mesh_machine.specs.Sendable.{IsSendable};
 
+use crate::held::Outbox;
 use crate::router::Core;
 use mesh_atoms::RouterSettings;
 use mesh_expire::Bases;
-use mesh_holding::Outbox;
 use mesh_machine::{Arrival, Heard, RouterView};
 use std::alloc::{AllocError, Global};
 

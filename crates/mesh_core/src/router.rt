@@ -3,9 +3,9 @@ ghost use Rattle.std.specs.Prelude.{◌≡◌, IfOk, false};
 ghost use Rattle.mesh_atoms.specs.Sound.{Sound};
 ghost use Rattle.mesh_machine.specs.Machine.{IsOpening, due};
 
+use crate::held::Holding;
 use mesh_atoms::RouterSettings;
 use mesh_expire::Bases;
-use mesh_holding::Holding;
 use mesh_renewal::{Derived, opening};
 use std::alloc::{AllocError, Global};
 use std::marker::Model;
@@ -39,7 +39,7 @@ impl<B: Bases> Model for Core<B> {
     ghost use Rattle.std.specs.Prelude.{◌≡◌, false};
     ghost use Rattle.mesh_atoms.specs.Sound.{Sound};
     ghost use Rattle.mesh_core.specs.Holding.{CoreValue};
-    ghost use Rattle.mesh_events.specs.Holding.{state_of};
+    ghost use Rattle.mesh_core.specs.Event.Holding.{state_of};
 
     ghost Value = { CoreValue };
 

@@ -12,7 +12,7 @@ use crate::traffic::draws::Draws;
 use crate::traffic::emission::{Counts, Emission};
 use crate::traffic::ways::{Ways, leaving_of};
 use mesh_atoms::{Bytes, RadioArc, Scenario, Seq};
-use mesh_holding::Outbox;
+use mesh_core::Outbox;
 use std::alloc::{AllocError, Global};
 use std::rc::Rc;
 

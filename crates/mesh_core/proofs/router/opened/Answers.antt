@@ -1,7 +1,7 @@
 use Rattle.std.proofs.Common.{refl}
 use Rattle.mesh_machine.proofs.Opening.{opening_sound}
-use Rattle.mesh_events.specs.Holding.{state_of}
-use Rattle.mesh_events.proofs.Derivations.{has_own}
+use Rattle.mesh_core.specs.Event.Holding.{state_of}
+use Rattle.mesh_core.proofs.EventLemmas.Derivations.{has_own}
 use Rattle.mesh_core.proofs.router.opened.Goals as goal
 
 pub invariant_of-result : goal.invariant_of-result

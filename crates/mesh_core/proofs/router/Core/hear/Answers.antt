@@ -3,11 +3,11 @@ use Rattle.mesh_routes.proofs.ChoiceLaw.{if_ok_more}
 use Rattle.mesh_machine.specs.Machine.{Heard_frame, Hears}
 use Rattle.mesh_machine.proofs.Effects.{appends, hears_settings, hears_last, hears_due}
 use Rattle.mesh_machine.proofs.Sendables.{hears_sendable}
-use Rattle.mesh_sending.proofs.Written.{on_ok_of}
+use Rattle.mesh_core.proofs.SendingLemmas.Written.{on_ok_of}
 use Rattle.mesh_core.specs.Holding.{CoreValue}
 use Rattle.mesh_core.proofs.Seen.{heard}
 use Rattle.mesh_core.proofs.Spent.{where_whole}
-use Rattle.mesh_events.specs.Holding.{state_of}
+use Rattle.mesh_core.specs.Event.Holding.{state_of}
 use Rattle.mesh_core.proofs.router.Core.hear.Goals as goal
 
 pub hear_frame-came-requires-clause-now : goal.hear_frame-came-requires-clause-now

@@ -5,7 +5,7 @@ use Rattle.mesh_machine.proofs.Effects.{appends_on, ticks_due}
 use Rattle.mesh_machine.proofs.Sendables.{ticks_sendable}
 use Rattle.mesh_core.proofs.Seen.{ticked}
 use Rattle.mesh_core.proofs.Spent.{where_whole}
-use Rattle.mesh_events.specs.Holding.{state_of}
+use Rattle.mesh_core.specs.Event.Holding.{state_of}
 use Rattle.mesh_core.proofs.router.Core.tick.Goals as goal
 
 pub tick-came-requires-clause-now : goal.tick-came-requires-clause-now

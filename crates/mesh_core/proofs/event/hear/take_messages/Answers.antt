@@ -1,0 +1,78 @@
+use Rattle.std.proofs.Common.{◌≡◌, refl, sym, subst, List, map, ◌∙◌}
+use Rattle.mesh_atoms.specs.declared.settings.RouterSettings.{RouterSettings}
+use Rattle.mesh_atoms.specs.State.{State, IsOriginator}
+use Rattle.mesh_packet.specs.declared.packet.Span.{Span}
+use Rattle.mesh_packet.specs.declared.packet.Message.{Message}
+use Rattle.mesh_packet.specs.Fields.{fields_of_message, fields_of_packet}
+use Rattle.mesh_core.specs.Event.Holding.{state_of}
+use Rattle.mesh_core.proofs.HeldLemmas.Quiet.{both_true, quiet_after}
+use Rattle.mesh_machine.specs.Laws.{SoundBases}
+use Rattle.mesh_machine.specs.Messages.{TakesMessages}
+use Rattle.mesh_machine.proofs.Soundness.{bases_of, messages_sound}
+use Rattle.mesh_machine.proofs.Takes.{packet_spelled}
+use Rattle.mesh_core.proofs.SendingLemmas.Written.{on_ok_more}
+use Rattle.mesh_core.proofs.EventLemmas.Derivations.{ends_quietly, has_own, live_held}
+use Rattle.mesh_core.proofs.event.hear.take_messages.Goals as goal
+
+pub expire-requires-clause-sound : goal.expire-requires-clause-sound
+expire-requires-clause-sound g c = bases_of (state_of c.args.holding.now c.args.derived.now) c.requires.sound
+
+pub take_messages-requires-clause-own : goal.take_messages-requires-clause-own
+take_messages-requires-clause-own g c =
+    subst (λ (r : RouterSettings). IsOriginator r c.originator-own.result) (c.settings.ensures ∙ sym c.in_ok-idle.ensures.settings) c.originator-own.ensures.is
+
+pub take_messages-requires-clause-sound : goal.take_messages-requires-clause-sound
+take_messages-requires-clause-sound g c = live_held c.args.holding.now c.expire.new.self c.args.derived.now c.args.arrival.now c.requires.sound c.in_ok-idle.ensures.live c.in_ok-idle.ensures.settings
+
+pub take_messages-requires-clause-spelled : goal.take_messages-requires-clause-spelled
+take_messages-requires-clause-spelled g c = rw (c.as_slice.ensures, c.as_slice-2.ensures) (packet_spelled c.args.bytes.now _ _ c.requires.spelled)
+
+pub end_event-requires-clause-sound : goal.end_event-requires-clause-sound
+end_event-requires-clause-sound g c =
+    let (given, sent, fates, out, takes) = c.in_ok-quiet.ensures.taken in
+    subst (λ (r : RouterSettings). SoundBases r c.args.arrival.now c.take_messages.new.self.bases) (sym c.take_messages.ensures.settings)
+    (messages_sound c.expire.new.self.settings c.originator-own.result c.args.arrival c.args.bytes.now c.expire.new.self.bases _ _ c.take_messages.new.self.bases sent given
+    (subst (λ (r : RouterSettings). IsOriginator r c.originator-own.result) (c.settings.ensures ∙ sym c.in_ok-idle.ensures.settings) c.originator-own.ensures.is)
+    (live_held c.args.holding.now c.expire.new.self c.args.derived.now c.args.arrival.now c.requires.sound c.in_ok-idle.ensures.live c.in_ok-idle.ensures.settings) takes)
+
+pub end_event-requires-clause-quiet : goal.end_event-requires-clause-quiet
+end_event-requires-clause-quiet g c = λ both.
+    let (idle, quiet) = both_true c.in_ok-idle.idle c.in_ok-quiet.quiet both in
+    ends_quietly c.args.holding.now c.take_messages.new.self c.args.derived.now c.args.arrival.now c.requires.sound (c.take_messages.ensures.settings ∙ c.in_ok-idle.ensures.settings)
+    (quiet_after c.args.holding.now.bases c.expire.new.self.bases c.take_messages.new.self.bases (c.in_ok-idle.ensures.quiet idle) (c.in_ok-quiet.ensures.quiet quiet)) (c.in_ok-idle.ensures.links idle)
+
+pub returns : goal.returns
+returns g c =
+    let (given, sent, fates, out, takes) = c.in_ok-quiet.ensures.taken in
+    let before : State = state_of c.args.holding.now c.args.derived.now in
+    let same : c.expire.new.self.settings ≡ c.args.holding.now.settings = c.in_ok-idle.ensures.settings in
+    let own = c.originator-own.result in
+    let by_settings : TakesMessages before.settings own c.args.arrival c.args.bytes.now c.expire.new.self.bases (map fields_of_message c.as_slice.result.now) c.as_slice-2.result.now c.take_messages.new.self.bases sent given =
+    subst (λ (r : RouterSettings). TakesMessages r own c.args.arrival c.args.bytes.now c.expire.new.self.bases (map fields_of_message c.as_slice.result.now) c.as_slice-2.result.now c.take_messages.new.self.bases sent given) same takes in
+    let by_messages = subst (λ (ms : List Message). TakesMessages before.settings own c.args.arrival c.args.bytes.now c.expire.new.self.bases (map fields_of_message ms) c.as_slice-2.result.now c.take_messages.new.self.bases sent given)
+    c.as_slice.ensures by_settings in
+    let by_spans = subst (λ (ss : List Span). TakesMessages before.settings own c.args.arrival c.args.bytes.now c.expire.new.self.bases (map fields_of_message c.args.decoded.now.packet.messages) ss c.take_messages.new.self.bases sent given)
+    c.as_slice-2.ensures by_messages in
+    record {
+      hears = on_ok_more c.end_event.result (λ renews. (
+        given,
+        sent,
+        fates,
+        out,
+        record {
+          packet = fields_of_packet c.args.decoded.now.packet;
+          spans = c.args.decoded.now.spans;
+          spelled = c.requires.spelled;
+          own = own;
+          is_own = subst (λ (r : RouterSettings). IsOriginator r own) c.settings.ensures c.originator-own.ensures.is;
+          live = c.expire.new.self.bases;
+          is_live = c.in_ok-idle.ensures.live;
+          bases = c.take_messages.new.self.bases;
+          takes = by_spans;
+          renews = renews before (state_of c.take_messages.new.self c.end_event.new.derived) (sym (c.take_messages.ensures.settings ∙ same)) refl refl refl refl refl refl (has_own c.take_messages.new.self c.end_event.new.derived);
+          sequence = c.end_event.ensures.sequence;
+          next_hello = c.end_event.ensures.next_hello;
+          next_tc = c.end_event.ensures.next_tc;
+        },
+      )) c.end_event.ensures.renews;
+    }

@@ -1,0 +1,11 @@
+//! The bases of a router, what expiry and a message do to them, and the frames that it sends.
+
+mod answers;
+mod heading;
+mod holding;
+mod onward;
+mod outbox;
+mod taking;
+
+pub use crate::held::holding::Holding;
+pub use crate::held::outbox::Outbox;

@@ -1,0 +1,107 @@
+//! The bases of a router, with its settings.
+ghost use Rattle.std.specs.Prelude.{◌≡◌, ◌<◌, ◌^◌, length, IfOk, OnOk, IsTrue};
+ghost use Rattle.mesh_atoms.specs.Live.{Live};
+ghost use Rattle.mesh_core.specs.Held.Quiet.{IsQuiet};
+ghost use Rattle.mesh_machine.specs.Laws.{SoundBases};
+ghost use Rattle.mesh_machine.specs.Machine.{no_bases};
+ghost use Rattle.mesh_nhdp.specs.Staying.{AllIsAsItWas};
+
+use mesh_atoms::RouterSettings;
+use mesh_expire::Bases;
+use mesh_flood::Flood;
+use mesh_nhdp::Nhdp;
+use mesh_topo::Topology;
+use std::alloc::{AllocError, Global};
+use std::marker::Model;
+
+/// The bases of a router: its neighbourhood, its topology, and the messages seen before. Moments are in ticks of 1/8192 s. After
+/// want of memory the value may only be dropped.
+pub struct Holding<B: Bases> {
+    pub(crate) nhdp: Nhdp<B>,
+    pub(crate) topology: Topology<B>,
+    pub(crate) flood: Flood<B>,
+}
+
+// By hand, so that no crate that lets go of one has to know its parts.
+impl<B: Bases> Drop for Holding<B> {
+    fn drop(self) {
+        let Holding {
+            nhdp: _,
+            topology: _,
+            flood: _,
+        } = self;
+    }
+}
+
+impl<B: Bases> Model for Holding<B> {
+    ghost use Rattle.std.specs.Prelude.{◌≡◌};
+    ghost use Rattle.mesh_core.specs.Held.Held.{Held};
+
+    ghost Value = { Held };
+
+    ghost view = { λ h. record { settings = h.nhdp.settings; bases = record { neighbourhood = h.nhdp.near; topology = h.topology; noted = h.flood.noted } } };
+
+    ghost invariant = { λ h. h.flood.times ≡ h.nhdp.settings.times };
+}
+
+impl<B: Bases> Holding<B> {
+    /// The bases of a router with these settings before its first event: they are empty.
+    pub fn new(alloc: Global, settings: &RouterSettings) -> Result<Holding<B>, AllocError>
+        ensures settings { IfOk result (λ holding. holding.settings ≡ settings.now) }
+        ensures empty { IfOk result (λ holding. holding.bases ≡ no_bases (length settings.now.interfaces)) }
+    {
+        let flood = Flood::new(alloc, settings)?;
+        let topology = Topology::new(alloc)?;
+        let nhdp = Nhdp::new(alloc, settings)?;
+        Ok(Holding {
+            nhdp,
+            topology,
+            flood,
+        })
+    }
+
+    /// The settings. Takes no memory.
+    pub fn settings(&self) -> &RouterSettings
+        ensures { result.now ≡ self.now.settings }
+    {
+        self.nhdp.settings()
+    }
+
+    /// The neighbourhood. Takes no memory.
+    pub fn nhdp(&self) -> &Nhdp<B>
+        ensures near { result.now.near ≡ self.now.bases.neighbourhood }
+        ensures settings { result.now.settings ≡ self.now.settings }
+    {
+        &self.nhdp
+    }
+
+    /// The topology. Takes no memory.
+    pub fn topology(&self) -> &Topology<B>
+        ensures { result.now ≡ self.now.bases.topology }
+    {
+        &self.topology
+    }
+
+    /// The messages seen before. Takes no memory.
+    pub fn flood(&self) -> &Flood<B>
+        ensures { result.now.noted ≡ self.now.bases.noted }
+    {
+        &self.flood
+    }
+
+    /// Takes out what is expired at a moment below 2^62, where the last event was at `last` (RFC 6130, section 13, and RFC 7181,
+    /// sections 10 and 14). True only where the neighbourhood is just as it was then, and others advertise the same.
+    pub fn expire(&mut self, last: u64, now: u64) -> Result<bool, AllocError>
+        requires now { now < 2 ^ 62 }
+        requires sound { SoundBases self.old.settings last self.old.bases }
+        ensures live { OnOk result (Live self.old.settings now self.old.bases self.new.bases) }
+        ensures settings { self.new.settings ≡ self.old.settings }
+        ensures quiet { IfOk result (λ quiet. IsTrue quiet → IsQuiet self.old.bases self.new.bases) }
+        ensures links { IfOk result (λ quiet. IsTrue quiet → AllIsAsItWas self.old.settings last now self.old.bases.neighbourhood) }
+    {
+        let same = self.nhdp.expire_since(last, now)?;
+        let changed = self.topology.expire(now);
+        self.flood.expire(now);
+        Ok(same & !changed)
+    }
+}

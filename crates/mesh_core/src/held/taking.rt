@@ -1,0 +1,294 @@
+//! What a message does to the bases of a router.
+ghost use Rattle.std.specs.Prelude.{◌≡◌, ◌≢◌, ◌<◌, ◌≤◌, ◌+◌, ◌^◌, ◌++◌, ℕ, [], map, List, length, IfOk, OnOk, IsTrue};
+ghost use Rattle.mesh_atoms.specs.declared.addr.Addr4.{Addr4};
+ghost use Rattle.mesh_atoms.specs.Sound.{SoundNeighbourhood};
+ghost use Rattle.mesh_atoms.specs.State.{IsOriginator, NotedMessages, Topology as TopologyValue};
+ghost use Rattle.mesh_topo.specs.Same.{SameAdvertised};
+ghost use Rattle.mesh_topo.specs.Tuples.{HasHosts};
+ghost use Rattle.mesh_packet.specs.Fields.{MessageFields, fields_of_message};
+ghost use Rattle.mesh_packet.specs.Grammar.{SpellsMessage};
+ghost use Rattle.mesh_core.specs.Held.Quiet.{IsQuiet};
+ghost use Rattle.mesh_core.specs.Held.Reading.{ReadsTc};
+ghost use Rattle.mesh_machine.specs.declared.fate.Fate.{Fate as FateValue};
+ghost use Rattle.mesh_machine.specs.declared.frame.Frame.{Frame};
+ghost use Rattle.mesh_machine.specs.Frames.{octets_at};
+ghost use Rattle.mesh_machine.specs.Laws.{SoundBases};
+ghost use Rattle.mesh_machine.specs.Messages.{TakesMessage, TakesMessages, ProcessesTc, IsHeading, AreSpelled};
+
+use crate::held::answers::{
+    broken, hello_read, is_processed, is_quiet_hello, is_quiet_tc, other_read, tc_read,
+};
+use crate::held::heading::{heading_of, heading_of_tc};
+use crate::held::holding::Holding;
+use crate::held::onward::{judge, pass_on};
+use crate::held::outbox::Outbox;
+use mesh_atoms::{Addr4, Seq, Tc};
+use mesh_expire::Bases;
+use mesh_flood::{Flood, Forward, Heading, Process};
+use mesh_machine::{Arrival, Fate, Read};
+use mesh_nhdp::Nhdp;
+use mesh_packet::{Message, Span};
+use mesh_topo::Topology;
+use mesh_wire::{hello_of, tc_of};
+use std::alloc::{AllocError, Global};
+
+// Takes a TC into the topology where it is to be processed: what is made of it, whether it counts as processed, and whether others
+// advertise the same.
+fn read_tc<B: Bases>(
+    topology: &mut Topology<B>,
+    now: u64,
+    tc: &Tc,
+    process: Process,
+) -> Result<(Read, bool, bool), AllocError>
+    requires now { now < 2 ^ 62 }
+    requires validity { tc.now.validity < 2 ^ 62 }
+    requires hosts { HasHosts tc.now }
+    ensures reads { IfOk result (λ made. ReadsTc now tc.now process topology.old topology.new made.0 made.1) }
+    ensures quiet { IfOk result (λ made. IsTrue made.2 → SameAdvertised topology.old topology.new) }
+{
+    match process {
+        Process::Do => {
+            let taken = topology.take_tc(now, tc)?;
+            Ok((
+                tc_read(taken, tc.ansn),
+                is_processed(taken),
+                is_quiet_tc(taken),
+            ))
+        }
+        answer => Ok((Read::Passed(answer), false, true)),
+    }
+}
+
+// Takes a TC that breaks no rule: its fate, and whether others advertise the same.
+fn process_tc<B: Bases>(
+    alloc: Global,
+    nhdp: &Nhdp<B>,
+    topology: &mut Topology<B>,
+    flood: &mut Flood<B>,
+    arrival: Arrival,
+    own: Addr4,
+    tc: &Tc,
+    heading: &Heading,
+    octets: &[u8],
+    out: &mut Outbox,
+) -> Result<(Fate, bool), AllocError>
+    requires now { arrival.now < 2 ^ 62 }
+    requires iface { arrival.iface < length flood.old.noted.received }
+    requires times { flood.old.times ≡ nhdp.now.settings.times }
+    requires message { (message : MessageFields) × SpellsMessage message octets.now × IsHeading message heading.now }
+    requires validity { tc.now.validity < 2 ^ 62 }
+    requires hosts { HasHosts tc.now }
+    ensures taken { IfOk result (λ made. (sent : List Frame) × (out.new ≡ out.old ++ sent) × ProcessesTc nhdp.now.settings own arrival
+        (record { neighbourhood = nhdp.now.near; topology = topology.old; noted = flood.old.noted }) tc.now heading.now octets.now
+        (record { neighbourhood = nhdp.now.near; topology = topology.new; noted = flood.new.noted }) sent made.0) }
+    ensures quiet { IfOk result (λ made. IsTrue made.1 → SameAdvertised topology.old topology.new) }
+    ensures times { flood.new.times ≡ flood.old.times }
+{
+    let count = nhdp.settings().interfaces.len();
+    let verdict = judge(nhdp, flood, arrival, own, heading);
+    let (read, processed, quiet) = read_tc(topology, arrival.now, tc, verdict.process)?;
+    pass_on(
+        alloc, flood, count, arrival, heading, octets, &verdict, processed, out,
+    )?;
+    let fate = Fate {
+        read,
+        forward: verdict.forward,
+    };
+    Ok((fate, quiet))
+}
+
+// Takes a HELLO: its fate, and whether it was quiet.
+fn take_hello<B: Bases>(
+    alloc: Global,
+    nhdp: &mut Nhdp<B>,
+    arrival: Arrival,
+    message: &Message,
+) -> Result<(Fate, bool), AllocError>
+    requires kind { message.now.kind ≡ 0 }
+    requires now { arrival.now < 2 ^ 62 }
+    requires iface { arrival.iface < length nhdp.old.settings.interfaces }
+    requires sound { SoundNeighbourhood nhdp.old.settings arrival.now nhdp.old.near }
+    ensures taken { IfOk result (λ made. (own : Addr4) (octets : List ℕ) (topology : TopologyValue) (noted : NotedMessages) → TakesMessage nhdp.old.settings own arrival
+        (record { neighbourhood = nhdp.old.near; topology = topology; noted = noted }) (fields_of_message message.now) octets
+        (record { neighbourhood = nhdp.new.near; topology = topology; noted = noted }) [] made.0) }
+    ensures quiet { IfOk result (λ made. IsTrue made.1 → nhdp.new.near ≡ nhdp.old.near) }
+    ensures settings { nhdp.new.settings ≡ nhdp.old.settings }
+{
+    match hello_of(alloc, message) {
+        Ok(hello) => {
+            let taken = nhdp.take_hello(arrival.now, arrival.iface, arrival.sender, &hello)?;
+            let fate = Fate {
+                read: hello_read(taken),
+                forward: Forward::NotFlooded,
+            };
+            Ok((fate, is_quiet_hello(taken)))
+        }
+        Err(fault) => broken(fault),
+    }
+}
+
+// Takes a TC: its fate, and whether it was quiet.
+fn take_tc<B: Bases>(
+    alloc: Global,
+    nhdp: &Nhdp<B>,
+    topology: &mut Topology<B>,
+    flood: &mut Flood<B>,
+    arrival: Arrival,
+    own: Addr4,
+    message: &Message,
+    octets: &[u8],
+    out: &mut Outbox,
+) -> Result<(Fate, bool), AllocError>
+    requires kind { message.now.kind ≡ 1 }
+    requires now { arrival.now < 2 ^ 62 }
+    requires iface { arrival.iface < length flood.old.noted.received }
+    requires times { flood.old.times ≡ nhdp.now.settings.times }
+    requires spelled { SpellsMessage (fields_of_message message.now) octets.now }
+    ensures taken { IfOk result (λ made. (sent : List Frame) × (out.new ≡ out.old ++ sent) × TakesMessage nhdp.now.settings own arrival
+        (record { neighbourhood = nhdp.now.near; topology = topology.old; noted = flood.old.noted }) (fields_of_message message.now) octets.now
+        (record { neighbourhood = nhdp.now.near; topology = topology.new; noted = flood.new.noted }) sent made.0) }
+    ensures quiet { IfOk result (λ made. IsTrue made.1 → SameAdvertised topology.old topology.new) }
+    ensures times { flood.new.times ≡ flood.old.times }
+{
+    match tc_of(alloc, message) {
+        Ok(tc) => {
+            let heading = heading_of_tc(message, &tc);
+            process_tc(
+                alloc, nhdp, topology, flood, arrival, own, &tc, &heading, octets, out,
+            )
+        }
+        Err(fault) => broken(fault),
+    }
+}
+
+// Takes a message of another type, which is always quiet.
+fn take_other<B: Bases>(
+    alloc: Global,
+    nhdp: &Nhdp<B>,
+    flood: &mut Flood<B>,
+    arrival: Arrival,
+    own: Addr4,
+    message: &Message,
+    octets: &[u8],
+    out: &mut Outbox,
+) -> Result<(Fate, bool), AllocError>
+    requires no_hello { message.now.kind ≢ 0 }
+    requires no_tc { message.now.kind ≢ 1 }
+    requires now { arrival.now < 2 ^ 62 }
+    requires iface { arrival.iface < length flood.old.noted.received }
+    requires times { flood.old.times ≡ nhdp.now.settings.times }
+    requires spelled { SpellsMessage (fields_of_message message.now) octets.now }
+    ensures taken { IfOk result (λ made. (sent : List Frame) × (out.new ≡ out.old ++ sent) × ((topology : TopologyValue) → TakesMessage nhdp.now.settings own arrival
+        (record { neighbourhood = nhdp.now.near; topology = topology; noted = flood.old.noted }) (fields_of_message message.now) octets.now
+        (record { neighbourhood = nhdp.now.near; topology = topology; noted = flood.new.noted }) sent made.0)) }
+    ensures times { flood.new.times ≡ flood.old.times }
+{
+    let Some(heading) = heading_of(message) else {
+        let fate = Fate {
+            read: Read::Other,
+            forward: Forward::NotFlooded,
+        };
+        return Ok((fate, true));
+    };
+    let count = nhdp.settings().interfaces.len();
+    let verdict = judge(nhdp, flood, arrival, own, &heading);
+    pass_on(
+        alloc, flood, count, arrival, &heading, octets, &verdict, false, out,
+    )?;
+    let fate = Fate {
+        read: other_read(verdict.process),
+        forward: verdict.forward,
+    };
+    Ok((fate, true))
+}
+
+impl<B: Bases> Holding<B> {
+    // Takes a message: its fate, and whether it was quiet.
+    fn take_message(
+        &mut self,
+        alloc: Global,
+        arrival: Arrival,
+        own: Addr4,
+        message: &Message,
+        octets: &[u8],
+        out: &mut Outbox,
+    ) -> Result<(Fate, bool), AllocError>
+        requires now { arrival.now < 2 ^ 62 }
+        requires iface { arrival.iface < length self.old.settings.interfaces }
+        requires sound { SoundBases self.old.settings arrival.now self.old.bases }
+        requires spelled { SpellsMessage (fields_of_message message.now) octets.now }
+        ensures taken { IfOk result (λ made. (sent : List Frame) × (out.new ≡ out.old ++ sent)
+            × TakesMessage self.old.settings own arrival self.old.bases (fields_of_message message.now) octets.now self.new.bases sent made.0) }
+        ensures quiet { IfOk result (λ made. IsTrue made.1 → IsQuiet self.old.bases self.new.bases) }
+        ensures settings { self.new.settings ≡ self.old.settings }
+    {
+        match message.kind {
+            0 => take_hello(alloc, &mut self.nhdp, arrival, message),
+            1 => take_tc(
+                alloc,
+                &self.nhdp,
+                &mut self.topology,
+                &mut self.flood,
+                arrival,
+                own,
+                message,
+                octets,
+                out,
+            ),
+            _ => take_other(
+                alloc,
+                &self.nhdp,
+                &mut self.flood,
+                arrival,
+                own,
+                message,
+                octets,
+                out,
+            ),
+        }
+    }
+
+    /// Takes the messages of a frame that is heard at a moment below 2^62 on one of the router's interfaces, in order; `own` is the
+    /// router's originator, and each message is spelled at its place in the octets. The fate of each message is put at the end of
+    /// `fates`, and what is sent at the end of `out` (RFC 7181, sections 14 to 16). True only where all of them were quiet: the
+    /// neighbourhood is as it was, and others advertise the same.
+    pub fn take_messages(
+        &mut self,
+        alloc: Global,
+        arrival: Arrival,
+        own: Addr4,
+        bytes: &[u8],
+        messages: &[Message],
+        spans: &[Span],
+        fates: &mut Seq<Fate>,
+        out: &mut Outbox,
+    ) -> Result<bool, AllocError>
+        requires now { arrival.now < 2 ^ 62 }
+        requires iface { arrival.iface < length self.old.settings.interfaces }
+        requires own { IsOriginator self.old.settings own }
+        requires sound { SoundBases self.old.settings arrival.now self.old.bases }
+        requires spelled { AreSpelled bytes.now (map fields_of_message messages.now) spans.now }
+        ensures taken { OnOk result ((given : List FateValue) × (sent : List Frame) × (fates.new ≡ fates.old ++ given) × (out.new ≡ out.old ++ sent)
+            × TakesMessages self.old.settings own arrival bytes.now self.old.bases (map fields_of_message messages.now) spans.now self.new.bases sent given) }
+        ensures settings { self.new.settings ≡ self.old.settings }
+        ensures quiet { IfOk result (λ quiet. IsTrue quiet → IsQuiet self.old.bases self.new.bases) }
+    {
+        let mut quiet = true;
+        for i in 0..messages.len() {
+            let message = &messages[i];
+            let octets = octets_of(bytes, spans[i]);
+            let (fate, same) = self.take_message(alloc, arrival, own, message, octets, out)?;
+            fates.push(fate)?;
+            quiet &= same;
+        }
+        Ok(quiet)
+    }
+}
+
+// The octets of a message that stands there.
+fn octets_of(bytes: &[u8], span: Span) -> &[u8]
+    requires { span.start + span.len ≤ length bytes.now }
+    ensures { result.now ≡ octets_at bytes.now span }
+{
+    &bytes[span.start..span.start + span.len]
+}

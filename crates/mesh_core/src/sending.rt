@@ -1,0 +1,8 @@
+//! What a router sends when its clock ticks: the HELLOs of its interfaces, and TCs for its rows.
+
+mod hellos;
+mod moments;
+mod tcs;
+
+pub use crate::sending::hellos::send_hellos;
+pub use crate::sending::tcs::send_tcs;

@@ -1,2 +1,0 @@
-mod Fates
-pub mod Quiet

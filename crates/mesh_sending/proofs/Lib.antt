@@ -1,2 +1,0 @@
-mod PartRows
-pub mod Written
