@@ -17,7 +17,7 @@ use Rattle.mesh_probe.specs.Text.{IsProbeText}
 use Rattle.mesh_radio.specs.declared.event.NetEvent.{NetEvent}
 use Rattle.mesh_radio.specs.Net.{Net}
 use Rattle.mesh_radio.specs.Run.{IsOver, NetRun}
-use Rattle.mesh_gaps.specs.declared.gap.Gap.{Gap}
+use Rattle.mesh_settled.specs.declared.gaps.gap.Gap.{Gap}
 use Rattle.mesh_texts.specs.Events.{IsTaken}
 use Rattle.mesh_texts.specs.Network.{IsGapOf, IsSummary}
 use Rattle.mesh_texts.specs.Runs.{Traces, WholeRun, IsRunText, FirstEvents, IsFirstTrace}

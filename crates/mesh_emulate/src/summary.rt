@@ -1,7 +1,7 @@
 //! What is told of a network at the end of its run.
 ghost use Rattle.std.specs.Prelude.{◌≡◌, ◌≤◌, ◌<◌, length, map, OnOk, IfSome};
 ghost use Rattle.mesh_emulate.specs.Left.{Leaves, IsNothing, IsEnd, IsEndTold, IsEndFront, IsEndPart};
-ghost use Rattle.mesh_gaps.specs.Network.{IsNetwork};
+ghost use Rattle.mesh_settled.specs.Gaps.Network.{IsNetwork};
 ghost use Rattle.mesh_texts.specs.Network.{IsGapOf};
 
 use crate::network::Network;

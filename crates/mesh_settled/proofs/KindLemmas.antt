@@ -7,23 +7,23 @@ use Rattle.mesh_atoms.specs.declared.settings.Scenario.{Scenario}
 use Rattle.mesh_atoms.specs.Base.{host}
 use Rattle.mesh_atoms.specs.Settled.{At, Settled}
 use Rattle.mesh_atoms.specs.State.{State}
-use Rattle.mesh_gaps.specs.declared.found.Found.{Found}
-use Rattle.mesh_gaps.specs.declared.gap.Gap.{Gap}
-use Rattle.mesh_gaps.specs.declared.gap.GapKey.{GapKey}
-use Rattle.mesh_gaps.specs.declared.gap.GapKey.TheVariants.{Link, Neighbour, TwoHop, Router, Address, Network}
-use Rattle.mesh_gaps.specs.Found.{IsLeast}
-use Rattle.mesh_gaps.specs.Gaps.{Look, look, AreSame, HasNoGap, IsFirstGap, rank_of}
-use Rattle.mesh_gaps.specs.Network.{IsNetwork}
+use Rattle.mesh_settled.specs.declared.gaps.found.Found.{Found}
+use Rattle.mesh_settled.specs.declared.gaps.gap.Gap.{Gap}
+use Rattle.mesh_settled.specs.declared.gaps.gap.GapKey.{GapKey}
+use Rattle.mesh_settled.specs.declared.gaps.gap.GapKey.TheVariants.{Link, Neighbour, TwoHop, Router, Address, Network}
+use Rattle.mesh_settled.specs.Gaps.Found.{IsLeast}
+use Rattle.mesh_settled.specs.Gaps.Gaps.{Look, look, AreSame, HasNoGap, IsFirstGap, rank_of}
+use Rattle.mesh_settled.specs.Gaps.Network.{IsNetwork}
 use Rattle.mesh_settled.specs.Kinds.{IsTopologyKey, IsFirstFound, IsFirstAt, IsFirstOf, reported}
-use Rattle.mesh_gaps.specs.Links.{IsLinkKey}
-use Rattle.mesh_gaps.specs.Neighbours.{IsNeighbourKey}
-use Rattle.mesh_gaps.specs.TwoHops.{IsTwoHopKey}
-use Rattle.mesh_gaps.proofs.Apart.{some_same}
-use Rattle.mesh_gaps.proofs.GapLaw.{law}
-use Rattle.mesh_gaps.proofs.JointLemmas.{same_state}
-use Rattle.mesh_gaps.proofs.Leasts.{before_cases}
-use Rattle.mesh_gaps.proofs.PeerLemmas.{within}
-use Rattle.mesh_gaps.proofs.Sides.{gaps_differ}
+use Rattle.mesh_settled.specs.Gaps.Links.{IsLinkKey}
+use Rattle.mesh_settled.specs.Gaps.Neighbours.{IsNeighbourKey}
+use Rattle.mesh_settled.specs.Gaps.TwoHops.{IsTwoHopKey}
+use Rattle.mesh_settled.proofs.GapsLemmas.Apart.{some_same}
+use Rattle.mesh_settled.proofs.GapsLemmas.GapLaw.{law}
+use Rattle.mesh_settled.proofs.GapsLemmas.JointLemmas.{same_state}
+use Rattle.mesh_settled.proofs.GapsLemmas.Leasts.{before_cases}
+use Rattle.mesh_settled.proofs.GapsLemmas.PeerLemmas.{within}
+use Rattle.mesh_settled.proofs.GapsLemmas.Sides.{gaps_differ}
 
 -- Kinds
 

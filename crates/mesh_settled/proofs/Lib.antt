@@ -1,2 +1,3 @@
+pub mod GapsLemmas
 mod KindLemmas
 mod RouteLaw

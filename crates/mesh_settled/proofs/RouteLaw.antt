@@ -8,7 +8,7 @@ use Rattle.mesh_paths.specs.SettledRoutes.{IsSettledNetwork}
 use Rattle.mesh_paths.proofs.Scenarios.{sound_scenario}
 use Rattle.mesh_paths.proofs.SettledLaw.{settled_rows, settled_next_hops}
 use Rattle.mesh_settled.specs.Law.{IsLeastWhereSettled, LeadsWhereSettled}
-use Rattle.mesh_gaps.specs.Network.{IsNetwork}
+use Rattle.mesh_settled.specs.Gaps.Network.{IsNetwork}
 
 settled_network : (s : Scenario) (g : RadioGraph) (states : List State) (now : ℕ) → IsNetwork s g states now → Settled s states now → IsSettledNetwork s states now
 settled_network s g states now net settled =

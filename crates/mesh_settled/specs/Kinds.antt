@@ -3,13 +3,13 @@ use Rattle.std.specs.Prelude.{◌≡◌, ◌⊎◌, ℕ, List, Option, Some, Non
 use Rattle.mesh_atoms.specs.declared.settings.Scenario.{Scenario}
 use Rattle.mesh_atoms.specs.Settled.{At}
 use Rattle.mesh_atoms.specs.State.{State}
-use Rattle.mesh_gaps.specs.declared.found.Found.{Found}
-use Rattle.mesh_gaps.specs.declared.gap.Gap.{Gap}
-use Rattle.mesh_gaps.specs.declared.gap.GapKey.{GapKey}
-use Rattle.mesh_gaps.specs.declared.topics.Topic.TheVariants.{Routers, Addresses, Networks}
-use Rattle.mesh_gaps.specs.Found.{IsGap}
-use Rattle.mesh_gaps.specs.Gaps.{Look, look, AreSame, HasNoGap, IsFirstGap, rank_of, ranks_before, gap_kind}
-use Rattle.mesh_gaps.specs.Topics.{IsTopicKey}
+use Rattle.mesh_settled.specs.declared.gaps.found.Found.{Found}
+use Rattle.mesh_settled.specs.declared.gaps.gap.Gap.{Gap}
+use Rattle.mesh_settled.specs.declared.gaps.gap.GapKey.{GapKey}
+use Rattle.mesh_settled.specs.declared.gaps.topics.Topic.TheVariants.{Routers, Addresses, Networks}
+use Rattle.mesh_settled.specs.Gaps.Found.{IsGap}
+use Rattle.mesh_settled.specs.Gaps.Gaps.{Look, look, AreSame, HasNoGap, IsFirstGap, rank_of, ranks_before, gap_kind}
+use Rattle.mesh_settled.specs.Gaps.Topics.{IsTopicKey}
 
 -- a key of a topology tuple
 abbrev pub IsTopologyKey : GapKey → Type 0

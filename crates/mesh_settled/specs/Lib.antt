@@ -1,3 +1,4 @@
+pub mod Gaps
 pub mod Kinds
 pub mod Law
 pub mod LeastRoutes

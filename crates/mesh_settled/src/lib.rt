@@ -1,9 +1,13 @@
 //! Whether a network is settled, and the first gap where it isn't.
 #![tactic(auto)]
 
+mod gaps;
 mod law;
 mod report;
 
+pub use gaps::{
+    Found, Gap, GapKey, GapKind, GapValue, Site, Topic, gaps_differ, lesser, link_gap,
+    neighbour_gap, no_gap_is_settled, router_at, topology_gap, two_hop_gap,
+};
 pub use law::settled_routers_lead;
-pub use mesh_gaps::{Gap, GapKey, GapKind, GapValue, gaps_differ, no_gap_is_settled};
 pub use report::settled;

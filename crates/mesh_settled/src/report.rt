@@ -1,18 +1,18 @@
 //! Whether a network is settled.
 ghost use Rattle.std.specs.Prelude.{◌≡◌, ◌≢◌, ◌↔◌, map, IfSome, IsNone};
 ghost use Rattle.mesh_atoms.specs.Settled.{Settled};
-ghost use Rattle.mesh_gaps.specs.Found.{IsLeast};
-ghost use Rattle.mesh_gaps.specs.Gaps.{gap_kind, IsFirstGap};
-ghost use Rattle.mesh_gaps.specs.Network.{IsNetwork};
+ghost use Rattle.mesh_settled.specs.Gaps.Found.{IsLeast};
+ghost use Rattle.mesh_settled.specs.Gaps.Gaps.{gap_kind, IsFirstGap};
+ghost use Rattle.mesh_settled.specs.Gaps.Network.{IsNetwork};
 ghost use Rattle.mesh_settled.specs.LeastRoutes.{AreLeastRoutes, NextHopsLeadOn};
 ghost use Rattle.mesh_settled.specs.Kinds.{IsTopologyKey, IsFirstFound, IsFirstAt, IsFirstOf, reported};
-ghost use Rattle.mesh_gaps.specs.Site.{seen, IsSite};
+ghost use Rattle.mesh_settled.specs.Gaps.Site.{seen, IsSite};
 
-use mesh_atoms::{RadioGraph, Scenario};
-use mesh_gaps::{
+use crate::gaps::{
     Found, Gap, GapKey, GapKind, Site, Topic, lesser, link_gap, neighbour_gap, router_at,
     topology_gap, two_hop_gap,
 };
+use mesh_atoms::{RadioGraph, Scenario};
 use mesh_machine::RouterView;
 
 // The least gap among the topology tuples of all kinds.

@@ -18,7 +18,7 @@ use Rattle.mesh_radio.specs.Run.{NetRun, events_at}
 use Rattle.mesh_paths.proofs.Scenarios.{sound_scenario}
 use Rattle.mesh_paths.specs.SettledRoutes.{IsSettledNetwork}
 use Rattle.mesh_radio.proofs.Through.{are_machines, end_together}
-use Rattle.mesh_gaps.specs.Network.{IsNetwork}
+use Rattle.mesh_settled.specs.Gaps.Network.{IsNetwork}
 use Rattle.mesh_texts.specs.Runs.{WholeRun, RoutersAreRuns}
 
 -- Settings stay

@@ -14,7 +14,7 @@ use Rattle.mesh_atoms.specs.State.{State}
 use Rattle.mesh_radio.specs.declared.traffic.emission.Emission.{Emission}
 use Rattle.mesh_radio.specs.declared.event.NetEvent.{NetEvent}
 use Rattle.mesh_radio.specs.Net.{Net}
-use Rattle.mesh_gaps.specs.declared.gap.Gap.{Gap}
+use Rattle.mesh_settled.specs.declared.gaps.gap.Gap.{Gap}
 use Rattle.mesh_router_text.specs.Lines.Marks.{face_name}
 use Rattle.mesh_router_text.specs.Lines.Lines.{router_line, link_line, neighbour_line, held_line, flooding_line, routing_line, row_line}
 use Rattle.mesh_router_text.specs.Sections.Section.{AreAllLinkLines, ways_text, IsSection, AreSections}

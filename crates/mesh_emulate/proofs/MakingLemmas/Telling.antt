@@ -11,7 +11,7 @@ use Rattle.mesh_radio.specs.declared.traffic.emission.Counts.{Counts}
 use Rattle.mesh_radio.specs.declared.event.NetEvent.{NetEvent}
 use Rattle.mesh_radio.specs.Net.{Net}
 use Rattle.mesh_radio.specs.Run.{IsOpeningNet, IsOver, NetRun}
-use Rattle.mesh_gaps.specs.Network.{IsNetwork}
+use Rattle.mesh_settled.specs.Gaps.Network.{IsNetwork}
 use Rattle.mesh_texts.proofs.RunStates.{end_is_network, final_count}
 use Rattle.mesh_texts.specs.Runs.{WholeRun}
 use Rattle.mesh_emulate.specs.declared.making.kind.Kind.{Kind}

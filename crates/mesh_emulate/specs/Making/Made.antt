@@ -9,7 +9,7 @@ use Rattle.mesh_atoms.specs.State.{State}
 use Rattle.mesh_emulate.specs.Making.Lines.{made_line, routes_line, TellsRoutes}
 use Rattle.mesh_emulate.specs.Making.Routes.{metrics_of, IsGreatest}
 use Rattle.mesh_emulate.specs.Making.Scenario.{IsMade}
-use Rattle.mesh_gaps.specs.declared.gap.Gap.{Gap}
+use Rattle.mesh_settled.specs.declared.gaps.gap.Gap.{Gap}
 use Rattle.mesh_texts.specs.Network.{IsGapOf, counts_line, settled_text}
 use Rattle.mesh_texts.specs.Printed.{IsLine, SaysSettled}
 use Rattle.mesh_texts.specs.Runs.{WholeRun, RoutersAreRuns, TellsWhetherSettled}

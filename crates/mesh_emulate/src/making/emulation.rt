@@ -4,7 +4,7 @@ ghost use Rattle.std.specs.Io.KnownBytes.{Appends, Keeps};
 ghost use Rattle.mesh_atoms.specs.declared.graphs.RadioGraph.{RadioGraph};
 ghost use Rattle.mesh_atoms.specs.Radio.{IsRadioGraph};
 ghost use Rattle.mesh_atoms.specs.Settings.{IsCount};
-ghost use Rattle.mesh_gaps.specs.Network.{IsNetwork};
+ghost use Rattle.mesh_settled.specs.Gaps.Network.{IsNetwork};
 ghost use Rattle.mesh_io.specs.Faults.{Rose};
 ghost use Rattle.mesh_emulate.specs.Making.Made.{IsEndText, IsMadeText, MadeEmulation};
 ghost use Rattle.mesh_texts.specs.Runs.{WholeRun};

@@ -1,11 +1,11 @@
 use Rattle.std.specs.Prelude.{◌⊎◌}
 use Rattle.mesh_settled.specs.Kinds.{IsTopologyKey}
-use Rattle.mesh_gaps.specs.Links.{IsLinkKey}
-use Rattle.mesh_gaps.specs.Neighbours.{IsNeighbourKey}
-use Rattle.mesh_gaps.specs.Site.{seen}
-use Rattle.mesh_gaps.specs.TwoHops.{IsTwoHopKey}
+use Rattle.mesh_settled.specs.Gaps.Links.{IsLinkKey}
+use Rattle.mesh_settled.specs.Gaps.Neighbours.{IsNeighbourKey}
+use Rattle.mesh_settled.specs.Gaps.Site.{seen}
+use Rattle.mesh_settled.specs.Gaps.TwoHops.{IsTwoHopKey}
 use Rattle.mesh_settled.proofs.KindLemmas.{first_link, first_rest, none_found}
-use Rattle.mesh_gaps.proofs.Leasts.{least_lesser}
+use Rattle.mesh_settled.proofs.GapsLemmas.Leasts.{least_lesser}
 use Rattle.mesh_settled.proofs.report.first_gap.Goals as goal
 
 pub returns-then-is_some : goal.returns-then-is_some

@@ -1,6 +1,6 @@
 use Rattle.std.proofs.Common.{map, sym, ap, ◌∙◌}
 use Rattle.std.specs.Prelude.{option_map}
-use Rattle.mesh_gaps.proofs.JointLemmas.{no_state}
+use Rattle.mesh_settled.proofs.GapsLemmas.JointLemmas.{no_state}
 use Rattle.mesh_settled.proofs.KindLemmas.{first_at}
 use Rattle.mesh_settled.proofs.report.gap_at.Goals as goal
 

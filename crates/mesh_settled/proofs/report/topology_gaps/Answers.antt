@@ -1,8 +1,8 @@
 use Rattle.std.specs.Prelude.{◌⊎◌}
-use Rattle.mesh_gaps.specs.declared.topics.Topic.TheVariants.{Routers, Addresses, Networks}
-use Rattle.mesh_gaps.specs.Site.{seen}
-use Rattle.mesh_gaps.specs.Topics.{IsTopicKey}
-use Rattle.mesh_gaps.proofs.Leasts.{least_lesser}
+use Rattle.mesh_settled.specs.declared.gaps.topics.Topic.TheVariants.{Routers, Addresses, Networks}
+use Rattle.mesh_settled.specs.Gaps.Site.{seen}
+use Rattle.mesh_settled.specs.Gaps.Topics.{IsTopicKey}
+use Rattle.mesh_settled.proofs.GapsLemmas.Leasts.{least_lesser}
 use Rattle.mesh_settled.proofs.report.topology_gaps.Goals as goal
 
 pub returns : goal.returns

@@ -1,7 +1,0 @@
-use Rattle.std.proofs.Common.{sym, ◌∙◌, ap}
-use Rattle.std.specs.Option.{option_copied}
-use Rattle.mesh_gaps.proofs.JointLemmas.{on_interface}
-use Rattle.mesh_gaps.proofs.joints.addrs_of.Goals as goal
-
-pub returns-in-Some : goal.returns-in-Some
-returns-in-Some c = rw c.as_slice.ensures (on_interface c.args.settings.now c.args.iface c.in-Some.face.now (sym c.get.ensures ∙ ap option_copied c.in-Some.is))

@@ -1,5 +1,0 @@
-use Rattle.mesh_gaps.proofs.JointLemmas.{NotBefore}
-use Rattle.mesh_gaps.proofs.joints.is_address_of.Given as goal
-
-abbrev pub invariant-loop-i : goal.invariant-loop-i
-invariant-loop-i l = NotBefore l.settings l.addr l.i

@@ -1,5 +1,0 @@
-use Rattle.mesh_gaps.proofs.JointLemmas.{least_in}
-use Rattle.mesh_gaps.proofs.joints.least_address.Goals as goal
-
-pub returns : goal.returns
-returns c = least_in c.args.settings.now c.args.iface c.addrs_of.result.now c.least_missing.result c.addrs_of.ensures c.least_missing.ensures

@@ -1,6 +1,0 @@
-use Rattle.mesh_atoms.specs.Hello.{Says, Flooding}
-use Rattle.mesh_gaps.proofs.JointLemmas.{NoBefore}
-use Rattle.mesh_gaps.proofs.links.is_selector.Given as goal
-
-abbrev pub invariant-loop-k : goal.invariant-loop-k
-invariant-loop-k g l = NoBefore (λ a. Says (g.R.RouterView.state l.other) l.j l.now a Flooding) l.addrs l.k

@@ -1,5 +1,0 @@
-use Rattle.mesh_gaps.specs.Metrics.{IsCheapest}
-use Rattle.mesh_gaps.proofs.metrics.cheapest.Given as goal
-
-abbrev pub invariant-loop-k : goal.invariant-loop-k
-invariant-loop-k l = IsCheapest l.pairs l.y l.z l.k l.best

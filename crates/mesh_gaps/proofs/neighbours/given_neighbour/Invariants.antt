@@ -1,7 +1,0 @@
-use Rattle.std.proofs.Common.{ℕ, ◌<◌, None}
-use Rattle.mesh_gaps.specs.Neighbours.{IsGivenAt}
-use Rattle.mesh_gaps.specs.Site.{seen}
-use Rattle.mesh_gaps.proofs.neighbours.given_neighbour.Given as goal
-
-abbrev pub invariant-loop-y : goal.invariant-loop-y
-invariant-loop-y g l = (k : ℕ) → k < l.y → IsGivenAt (seen g.R.RouterView.state l.site) l.addr k None

@@ -1,6 +1,0 @@
-use Rattle.std.proofs.Common.{ℕ, ◌<◌}
-use Rattle.mesh_gaps.proofs.NeighbourLemmas.{SaysOn}
-use Rattle.mesh_gaps.proofs.neighbours.is_selector.Given as goal
-
-abbrev pub invariant-loop-i : goal.invariant-loop-i
-invariant-loop-i g l = (k : ℕ) → k < l.i → SaysOn (g.R.RouterView.state l.other) l.now l.settings k → ⊥

@@ -1,5 +1,0 @@
-use Rattle.mesh_gaps.proofs.RowLemmas.{claim_found}
-use Rattle.mesh_gaps.proofs.topics.claim_of.Goals as goal
-
-pub returns : goal.returns
-returns g c = λ from origin. claim_found (g.R.RouterView.state c.args.other.now) c.requires from origin c.args.topic c.args.net c.claim_in.result (rw (c.rows.ensures, c.ansn.ensures) at c.claim_in.ensures)

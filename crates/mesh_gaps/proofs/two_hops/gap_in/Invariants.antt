@@ -1,9 +1,0 @@
-use Rattle.std.proofs.Common.{map}
-use Rattle.mesh_gaps.specs.Found.{IsLeast}
-use Rattle.mesh_gaps.specs.TwoHops.{IsKeyOfAt}
-use Rattle.mesh_gaps.specs.Site.{seen}
-use Rattle.mesh_gaps.proofs.Leasts.{Below}
-use Rattle.mesh_gaps.proofs.two_hops.gap_in.Given as goal
-
-abbrev pub invariant-loop-place : goal.invariant-loop-place
-invariant-loop-place g l = IsLeast (seen g.R.RouterView.state l.site) (Below (IsKeyOfAt (map g.R.RouterView.state l.site.routers.now) l.site.x l.pairs) l.place) l.best

@@ -1,8 +1,0 @@
-use Rattle.mesh_gaps.specs.Found.{IsLeast}
-use Rattle.mesh_gaps.specs.TwoHops.{IsKeyNear}
-use Rattle.mesh_gaps.specs.Site.{seen}
-use Rattle.mesh_gaps.proofs.Leasts.{Below}
-use Rattle.mesh_gaps.proofs.two_hops.given_by.Given as goal
-
-abbrev pub invariant-loop-place : goal.invariant-loop-place
-invariant-loop-place g l = IsLeast (seen g.R.RouterView.state l.site) (Below (IsKeyNear l.end.i l.end.link (g.R.RouterView.state l.end.other.now)) l.place) l.best

@@ -1,8 +1,0 @@
-use Rattle.mesh_gaps.specs.Found.{IsLeast}
-use Rattle.mesh_gaps.specs.TwoHops.{IsTwoHopAt}
-use Rattle.mesh_gaps.specs.Site.{seen}
-use Rattle.mesh_gaps.proofs.Leasts.{Below}
-use Rattle.mesh_gaps.proofs.two_hops.held_by.Given as goal
-
-abbrev pub invariant-loop-place : goal.invariant-loop-place
-invariant-loop-place g l = IsLeast (seen g.R.RouterView.state l.site) (Below (IsTwoHopAt (g.R.RouterView.state l.site.router.now) l.end.i l.end.link) l.place) l.best

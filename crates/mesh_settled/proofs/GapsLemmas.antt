@@ -1,0 +1,14 @@
+pub mod Apart
+pub mod FaceLemmas
+pub mod GapLaw
+pub mod JointLemmas
+pub mod Leasts
+pub mod LinkLemmas
+pub mod MetricLemmas
+pub mod NeighbourLemmas
+pub mod PeerLemmas
+pub mod RowLemmas
+pub mod ShownLemmas
+pub mod Sides
+pub mod TopicLemmas
+pub mod TwoHopLemmas

@@ -1,0 +1,184 @@
+-- Least addresses, and hops by the pairs of the radio graph.
+use Rattle.std.proofs.Common.{◌≡◌, ℕ, ◌+◌, ◌<◌, ◌≤◌, inl, inr, refl, sym, ◌∙◌, ap, subst, arith, List, [], Option, Some, None, Bool, true, false, nat_eq, nat_lt, slice_index_or, length, map, slice_get, Contains}
+use Rattle.std.specs.Prelude.{◌↔◌, IsTrue, is_some}
+use Rattle.std.specs.Option.{option_map}
+use Rattle.std.proofs.lemmas.Bool.{false≢true, eqb-true, eq-eqb, ltb-true, ltb-false, cases_eq}
+use Rattle.std.proofs.lemmas.Option.{slice_get-map, none-some, slice_get_read, slice_get_past, slice_get_within}
+use Rattle.mesh_atoms.specs.declared.addr.Addr4.{Addr4}
+use Rattle.mesh_atoms.specs.declared.graphs.Pair.{Pair}
+use Rattle.mesh_atoms.specs.declared.graphs.RadioGraph.{RadioGraph}
+use Rattle.mesh_codes.specs.declared.metric.Metric.{Metric}
+use Rattle.mesh_atoms.specs.declared.settings.Interface.{Interface}
+use Rattle.mesh_atoms.specs.declared.settings.RouterSettings.{RouterSettings}
+use Rattle.mesh_atoms.specs.declared.settings.Scenario.{Scenario}
+use Rattle.mesh_atoms.specs.Words.{IsValue}
+use Rattle.mesh_atoms.specs.Radio.{Joins, IsRadioGraph}
+use Rattle.mesh_atoms.specs.Settled.{At, IsLeastAddress}
+use Rattle.mesh_atoms.specs.State.{State, HasAddressOn, HasAddress}
+use Rattle.mesh_settled.specs.declared.gaps.joints.Joint.{Joint}
+use Rattle.mesh_settled.specs.Gaps.Found.{IsLeastMissing}
+use Rattle.mesh_settled.specs.Gaps.Joints.{IsBack, IsLeastOf, IsJointBy, IsJointWith, IsOfSome}
+use Rattle.mesh_paths.proofs.Admitted.{joins_back}
+use Rattle.mesh_paths.proofs.SettledDecisions.{Contains_at}
+use Rattle.mesh_settled.proofs.GapsLemmas.Apart.{some_same, place_in}
+
+pub none_within : {X : Type 0} (x : X) → Contains [] x → ⊥
+none_within x w = omega (arith, w.1)
+
+pub on_interface : (settings : RouterSettings) (i : ℕ) (face : Interface) → slice_get settings.interfaces i ≡ Some face → (a : Addr4) → Contains face.addrs a ↔ HasAddressOn settings i a
+on_interface settings i face at a = (λ w. (face, at, w), λ h. subst (λ (f : Interface). Contains f.addrs a) (some_same h.1 at) h.2)
+
+pub on_none : (settings : RouterSettings) (i : ℕ) → slice_get settings.interfaces i ≡ None → (a : Addr4) → Contains [] a ↔ HasAddressOn settings i a
+on_none settings i at a = (λ w. absurd (none_within a w), λ h. absurd (none-some h.0 (sym at ∙ h.1)))
+
+pub least_in : (settings : RouterSettings) (i : ℕ) (list : List Addr4) (o : Option Addr4) → ((a : Addr4) → Contains list a ↔ HasAddressOn settings i a) →
+    IsLeastMissing (λ a. Contains list a) [] o → IsValue (IsLeastAddress settings i) o
+least_in settings i list None on least = λ a h. none_within a (least a ((on a).1 h.0))
+least_in settings i list (Some b) on least = ((on b).0 least.0, λ a h. least.2 a ((on a).1 h) (none_within a))
+
+pub value_some : {A : Type 0} (P : A → Type 0) (o : Option A) (a : A) → o ≡ Some a → IsValue P o → P a
+value_some P None a e v = absurd (none-some a e)
+value_some P (Some b) a e v = subst P (some_same refl e) v
+
+pub value_none : {A : Type 0} (P : A → Type 0) (o : Option A) → o ≡ None → IsValue P o → (a : A) → P a → ⊥
+value_none P None e v = v
+value_none P (Some b) e v = absurd (none-some b (sym e))
+
+pub one_least : (settings : RouterSettings) (i : ℕ) (least a : Addr4) → IsLeastAddress settings i least → IsTrue (nat_eq least.0 a.0) ↔ IsLeastAddress settings i a
+one_least settings i least a is = (
+  λ e. subst (IsLeastAddress settings i) (ap (λ (n : ℕ). let r : Addr4 = record { 0 = n } in r) (eqb-true least.0 a.0 e)) is,
+  λ other. eq-eqb least.0 a.0 (let low = is.1 a other.0 in let high = other.1 least is.0 in omega arith),
+)
+
+pub never : {P : Type 0} → (P → ⊥) → IsTrue false ↔ P
+never none = (λ e. absurd (false≢true e), λ p. absurd (none p))
+
+-- Routers at their places
+module _ {A : Type 0} (f : A → State) where
+  pub some_router : (routers : List A) (y : ℕ) (r : A) (b : Bool) → b ≡ true → b ≡ nat_lt y (length routers) → r ≡ slice_index_or routers y r → Some (f r) ≡ slice_get (map f routers) y
+  some_router routers y r b e within is = sym (slice_get-map f routers y ∙ ap (option_map f) (slice_get_read routers (length routers) y r refl (ltb-true y (length routers) (sym within ∙ e)) is))
+
+  pub none_router : (routers : List A) (y : ℕ) (b : Bool) → b ≡ false → b ≡ nat_lt y (length routers) → None ≡ slice_get (map f routers) y
+  none_router routers y b e past = sym (slice_get-map f routers y ∙ ap (option_map f) (slice_get_past routers y (ltb-false y (length routers) (sym past ∙ e))))
+
+pub same_state : {states : List State} {y : ℕ} {p q : State} → At states y p → At states y q → p ≡ q
+same_state at at' = some_same at.is at'.is
+
+pub least_there : (states : List State) (y j : ℕ) (p : State) (a : Addr4) (b : Bool) → At states y p → (settings : RouterSettings) → settings ≡ p.settings →
+    IsTrue b ↔ IsLeastAddress settings j a → IsTrue b ↔ IsLeastOf states y j a
+least_there states y j p a b at settings same test = (
+  λ e. (p, at, subst (λ (r : RouterSettings). IsLeastAddress r j a) same (test.0 e)),
+  λ w. test.1 (subst (λ (r : RouterSettings). IsLeastAddress r j a) (ap (λ (q : State). q.settings) (same_state w.1 at) ∙ sym same) w.2),
+)
+
+pub no_state : {states : List State} {y : ℕ} → slice_get states y ≡ None → (q : State) → At states y q → ⊥
+no_state e q at = none-some q (sym e ∙ at.is)
+
+-- Hops
+module _ (s : Scenario) (g : RadioGraph) (is : IsRadioGraph s g) (states : List State) (x i : ℕ) (a : Addr4) where
+  abbrev pair_of : Joint → Pair
+  pair_of joint = record { from = x; from_iface = i; to = joint.to; to_iface = joint.iface; metric = joint.there }
+
+  pub joins_by : (pair : Pair) (m : Metric) → Contains g.pairs pair → IsBack g.pairs pair m → Joins s pair.from pair.from_iface pair.to pair.to_iface pair.metric m
+  joins_by pair m there back =
+      let first = ((is.pairs pair).0 there).1 in
+      let second = ((is.pairs _).0 back).1 in
+      record { out = first.out; home = second.out; out_admitted = first.out_admitted; home_admitted = second.out_admitted }
+
+  joint_there : (pair : Pair) (joint : Joint) → Contains g.pairs pair → IsJointBy states g.pairs x i a pair joint → IsJointWith s states x i a joint
+  joint_there pair joint there by =
+      let joins : Joins s pair.from pair.from_iface pair.to pair.to_iface pair.metric joint.back = joins_by pair joint.back there by.back in
+      (rw (← by.from, ← by.from_iface, by.to, by.iface, by.there) joins, rw (by.to, by.iface) by.least)
+
+  of_joint : (joint : Joint) → IsJointWith s states x i a joint → IsOfSome (IsJointBy states g.pairs x i a) g.pairs joint
+  of_joint joint with =
+      let there = (is.pairs (pair_of joint)).1 (joint.back, with.0) in
+      let back = (is.pairs (record { from = joint.to; from_iface = joint.iface; to = x; to_iface = i; metric = joint.back })).1 (joint.there, joins_back with.0) in
+      (pair_of joint, there, record { from = refl; from_iface = refl; to = refl; iface = refl; there = refl; back = back; least = with.1 })
+
+  pub joint_found : (o : Option Joint) → IsValue (IsOfSome (IsJointBy states g.pairs x i a) g.pairs) o → IsValue (IsJointWith s states x i a) o
+  joint_found None none = λ joint with. none joint (of_joint joint with)
+  joint_found (Some joint) some = joint_there some.0 joint some.1 some.2
+
+-- Pairs that lead back
+module _ (pairs : List Pair) (pair : Pair) where
+  pub back_here : (i : ℕ) (back : Pair) → slice_get pairs i ≡ Some back → back.from ≡ pair.to → back.from_iface ≡ pair.to_iface → back.to ≡ pair.from → back.to_iface ≡ pair.from_iface →
+      IsBack pairs pair back.metric
+  back_here i back at from from_iface to to_iface = rw (← from, ← from_iface, ← to, ← to_iface) (Contains_at pairs i back at)
+
+  -- what stands before place i doesn't lead back
+  abbrev pub NoBackBefore : ℕ → Type 0
+  NoBackBefore i = (k : ℕ) (back : Pair) → k < i → slice_get pairs k ≡ Some back → back.from ≡ pair.to → back.from_iface ≡ pair.to_iface → back.to ≡ pair.from → back.to_iface ≡ pair.from_iface → ⊥
+
+  pub not_back : (i : ℕ) (e : Pair) → slice_get pairs i ≡ Some e → (e.from ≡ pair.to → e.from_iface ≡ pair.to_iface → e.to ≡ pair.from → e.to_iface ≡ pair.from_iface → ⊥) → NoBackBefore i → NoBackBefore (i + 1)
+  not_back i e at other before k back less there = elim (cases_eq k i) [
+    | inl same ↦ subst (λ (x : Pair). x.from ≡ pair.to → x.from_iface ≡ pair.to_iface → x.to ≡ pair.from → x.to_iface ≡ pair.from_iface → ⊥) (some_same at (ap (λ (n : ℕ). slice_get pairs n) (sym same) ∙ there)) other
+    | inr ne ↦ before k back (omega (arith, less, ne)) there
+  ]
+
+  pub no_back : (i : ℕ) → length pairs ≤ i → NoBackBefore i → (m : Metric) → IsBack pairs pair m → ⊥
+  no_back i end before m has = let w = place_in pairs _ has in before w.0 _ (omega (arith, w.1, end)) w.2 refl refl refl refl
+
+-- Searches
+module _ {A B : Type 0} (P : A → B → Type 0) (list : List A) where
+  -- what stands before place i gives nothing
+  abbrev pub NoneBefore : ℕ → Type 0
+  NoneBefore i = (k : ℕ) (e : A) → k < i → slice_get list k ≡ Some e → (r : B) → P e r → ⊥
+
+  pub none_step : (i : ℕ) (e : A) (o : Option B) → slice_get list i ≡ Some e → o ≡ None → IsValue (P e) o → NoneBefore i → NoneBefore (i + 1)
+  none_step i e o at none value before k f less there r p = elim (cases_eq k i) [
+    | inl same ↦ value_none (P e) o none value r (subst (λ (x : A). P x r) (some_same (ap (λ (n : ℕ). slice_get list n) (sym same) ∙ there) at) p)
+    | inr other ↦ before k f (omega arith) there r p
+  ]
+
+  pub none_all : (i : ℕ) → length list ≤ i → NoneBefore i → (e : A) → Contains list e → (r : B) → P e r → ⊥
+  none_all i end before e has r p = let w = place_in list e has in before w.0 e (omega (arith, w.1)) w.2 r p
+
+  pub found_one : (i : ℕ) (e : A) (o : Option B) → slice_get list i ≡ Some e → true ≡ is_some o → IsValue (P e) o → IsValue (IsOfSome P list) o
+  found_one i e None at some value = absurd (false≢true (sym some))
+  found_one i e (Some r) at some value = (e, Contains_at list i e at, value)
+
+  pub none_one : (i : ℕ) (e : A) (o : Option B) → slice_get list i ≡ Some e → false ≡ is_some o → IsValue (P e) o → NoneBefore i → NoneBefore (i + 1)
+  none_one i e None at some value before = none_step i e None at refl value before
+  none_one i e (Some r) at some value before = absurd (false≢true some)
+
+  pub none_found : (i : ℕ) → length list ≤ i → NoneBefore i → IsValue (IsOfSome P list) None
+  none_found i end before = λ r w. none_all i end before w.0 w.1 r w.2
+
+-- Tests of each element
+module _ {A : Type 0} (P : A → Type 0) (list : List A) where
+  abbrev pub NoBefore : ℕ → Type 0
+  NoBefore i = (k : ℕ) (e : A) → k < i → slice_get list k ≡ Some e → P e → ⊥
+
+  pub some_here : (i : ℕ) (e : A) → slice_get list i ≡ Some e → P e → IsTrue true ↔ ((a : A) × Contains list a × P a)
+  some_here i e at p = (λ _. (e, Contains_at list i e at, p), λ _. refl)
+
+  pub no_more : (i : ℕ) (e : A) → slice_get list i ≡ Some e → (P e → ⊥) → NoBefore i → NoBefore (i + 1)
+  no_more i e at none before k f less there p = elim (cases_eq k i) [
+    | inl same ↦ none (subst P (some_same (ap (λ (n : ℕ). slice_get list n) (sym same) ∙ there) at) p)
+    | inr other ↦ before k f (omega arith) there p
+  ]
+
+  pub none_here : (i : ℕ) → length list ≤ i → NoBefore i → IsTrue false ↔ ((a : A) × Contains list a × P a)
+  none_here i end before = never (λ w. let at = place_in list w.0 w.1 in before at.0 w.0 (omega (arith, at.1)) at.2 w.2)
+
+pub denied : {P : Type 0} {b : Bool} → IsTrue b ↔ P → b ≡ false → P → ⊥
+denied test e p = false≢true (sym e ∙ test.1 p)
+
+-- Addresses of all interfaces
+
+-- no interface before this has the address
+abbrev pub NotBefore : RouterSettings → Addr4 → ℕ → Type 0
+NotBefore settings a i = (k : ℕ) → k < i → HasAddressOn settings k a → ⊥
+
+pub one_face : (settings : RouterSettings) (a : Addr4) (i : ℕ) (b : Bool) → IsTrue b ↔ HasAddressOn settings i a → b ≡ true → IsTrue true ↔ HasAddress settings a
+one_face settings a i b test e = (λ _. (i, test.0 e), λ _. refl)
+
+pub not_more : (settings : RouterSettings) (a : Addr4) (i : ℕ) (b : Bool) → IsTrue b ↔ HasAddressOn settings i a → b ≡ false → NotBefore settings a i → NotBefore settings a (i + 1)
+not_more settings a i b test e before k less h = elim (cases_eq k i) [
+  | inl same ↦ denied test e (subst (λ (n : ℕ). HasAddressOn settings n a) same h)
+  | inr other ↦ before k (omega arith) h
+]
+
+pub no_face : (settings : RouterSettings) (a : Addr4) (i : ℕ) → length settings.interfaces ≤ i → NotBefore settings a i → IsTrue false ↔ HasAddress settings a
+no_face settings a i end before = never (λ h. let less = slice_get_within settings.interfaces h.0 h.1.0 h.1.1 in before h.0 (omega arith) h.1)

@@ -1,0 +1,176 @@
+-- The order of keys, and the lesser of two gaps.
+use Rattle.std.proofs.Common.{◌≡◌, ℕ, ◌+◌, ◌<◌, ◌≤◌, ◌⊎◌, inl, inr, refl, sym, subst, ◌∙◌, arith, Option, Some, None, Bool, true, false, cond, nat_lt, nat_eq, ◌||◌}
+use Rattle.std.specs.Prelude.{◌&&◌, List}
+use Rattle.std.proofs.lemmas.Bool.{false≢true, ltb-true, lt-ltb, ltb-false, eqb-true, eq-eqb, cases_eq}
+use Rattle.mesh_settled.specs.declared.gaps.found.Found.{Found}
+use Rattle.mesh_settled.specs.declared.gaps.found.Rank.{Rank}
+use Rattle.mesh_settled.specs.declared.gaps.gap.GapKey.{GapKey}
+use Rattle.mesh_settled.specs.declared.gaps.compare.Values.{Values}
+use Rattle.mesh_settled.specs.Gaps.Fields.{Field}
+use Rattle.mesh_settled.specs.Gaps.Gaps.{Look, IsHeldTuple, IsPresentTuple, AreSame, precedes, ranks_before, rank_of}
+use Rattle.mesh_settled.specs.Gaps.Found.{IsLeast, IsTest, lesser, found_at}
+
+-- The order
+
+or_cases : (a b : Bool) → (a || b) ≡ true → (a ≡ true) ⊎ (b ≡ true)
+or_cases true b e = inl refl
+or_cases false b e = inr e
+
+and_cases : (a b : Bool) → (a && b) ≡ true → (a ≡ true) × (b ≡ true)
+and_cases true b e = (refl, e)
+and_cases false b e = absurd (false≢true e)
+
+pub before_cases : (m n : ℕ) (r : Bool) → precedes m n r ≡ true → (m < n) ⊎ ((m ≡ n) × (r ≡ true))
+before_cases m n r e = elim (or_cases (nat_lt m n) (nat_eq m n && r) e) [
+  | inl less ↦ inl (ltb-true m n less)
+  | inr same ↦ let (is, rest) = and_cases (nat_eq m n) r same in inr (eqb-true m n is, rest)
+]
+
+before_less : (m n : ℕ) (r : Bool) → m < n → precedes m n r ≡ true
+before_less m n r less = by_case (nat_lt m n) (lt-ltb m n less)
+  where
+    by_case : (b : Bool) → b ≡ true → (b || (nat_eq m n && r)) ≡ true
+    by_case true e = refl
+    by_case false e = absurd (false≢true e)
+
+before_same : (m n : ℕ) (r : Bool) → m ≡ n → r ≡ true → precedes m n r ≡ true
+before_same m n r same rest = by_case (nat_lt m n) (nat_eq m n) (eq-eqb m n same) r rest
+  where
+    by_case : (a b : Bool) → b ≡ true → (r : Bool) → r ≡ true → (a || (b && r)) ≡ true
+    by_case true b e r f = refl
+    by_case false true e r f = f
+    by_case false false e r f = absurd (false≢true e)
+
+then_before : (k l m : ℕ) (r s t : Bool) → (r ≡ true → s ≡ true → t ≡ true) → precedes k l r ≡ true → precedes l m s ≡ true → precedes k m t ≡ true
+then_before k l m r s t next e f = elim (before_cases k l r e) [
+  | inl less ↦ elim (before_cases l m s f) [ inl more ↦ before_less k m t (omega arith) | inr same ↦ before_less k m t (let h = same.0 in omega arith) ]
+  | inr same ↦ elim (before_cases l m s f) [ inl more ↦ before_less k m t (let h = same.0 in omega arith) | inr last ↦ before_same k m t (let h = same.0 in let g = last.0 in omega arith) (next same.1 last.1) ]
+]
+
+true_false : {X : Type 0} {b : Bool} → b ≡ true → b ≡ false → X
+true_false e f = absurd (false≢true (sym f ∙ e))
+
+either : (b : Bool) → (b ≡ true) ⊎ (b ≡ false)
+either true = inl refl
+either false = inr refl
+
+not_before : (k l m : ℕ) (r s t : Bool) → (r ≡ true → s ≡ false → t ≡ true) → precedes k l r ≡ true → precedes m l s ≡ false → precedes k m t ≡ true
+not_before k l m r s t next e f = elim (cases_lt m l) [
+  | inl less ↦ true_false (before_less m l s less) f
+  | inr more ↦ elim (before_cases k l r e) [
+    | inl less ↦ before_less k m t (omega arith)
+    | inr same ↦ elim (cases_eq m l) [
+      | inl equal ↦ elim (either s) [
+        | inl same_s ↦ true_false (before_same m l s equal same_s) f
+        | inr other_s ↦ before_same k m t (let h = same.0 in omega arith) (next same.1 other_s)
+      ]
+      | inr other ↦ before_less k m t (let h = same.0 in omega (arith, other))
+    ]
+  ]
+]
+  where
+    cases_lt : (a b : ℕ) → (a < b) ⊎ (b ≤ a)
+    cases_lt a b = elim (either (nat_lt a b)) [ inl less ↦ inl (ltb-true a b less) | inr more ↦ inr (ltb-false a b more) ]
+
+below : (k l m : ℕ) → nat_lt k l ≡ true → nat_lt l m ≡ true → nat_lt k m ≡ true
+below k l m e f = let g = ltb-true k l e in let h = ltb-true l m f in lt-ltb k m (omega arith)
+
+not_below : (k l m : ℕ) → nat_lt k l ≡ true → nat_lt m l ≡ false → nat_lt k m ≡ true
+not_below k l m e f = let g = ltb-true k l e in let h = ltb-false m l f in lt-ltb k m (omega arith)
+
+pub before_trans : (k l m : Rank) → ranks_before k l ≡ true → ranks_before l m ≡ true → ranks_before k m ≡ true
+before_trans k l m =
+    then_before k.kind l.kind m.kind _ _ _ (then_before k.iface l.iface m.iface _ _ _ (then_before k.first l.first m.first _ _ _
+    (then_before k.second l.second m.second _ _ _ (below k.prefix l.prefix m.prefix))))
+
+pub before_not : (k l m : Rank) → ranks_before k l ≡ true → ranks_before m l ≡ false → ranks_before k m ≡ true
+before_not k l m =
+    not_before k.kind l.kind m.kind _ _ _ (not_before k.iface l.iface m.iface _ _ _ (not_before k.first l.first m.first _ _ _
+    (not_before k.second l.second m.second _ _ _ (not_below k.prefix l.prefix m.prefix))))
+
+-- The lesser of two gaps
+
+module _ (l : Look) (P Q : GapKey → Type 0) where
+  abbrev Either : GapKey → Type 0
+  Either key = P key ⊎ Q key
+
+  pub least_lesser : (f g : Option Found) → IsLeast l P f → IsLeast l Q g → IsLeast l Either (lesser f g)
+  least_lesser None None p q = λ key either. elim either [ inl at ↦ p key at | inr at ↦ q key at ]
+  least_lesser None (Some g) p q = (inr q.0, q.1, λ key either first. elim either [ inl at ↦ p key at | inr at ↦ q.2 key at first ])
+  least_lesser (Some f) None p q = (inl p.0, p.1, λ key either first. elim either [ inl at ↦ p.2 key at first | inr at ↦ q key at ])
+  least_lesser (Some f) (Some g) p q = by_case (ranks_before (rank_of g.key) (rank_of f.key)) refl
+    where
+      by_case : (b : Bool) → ranks_before (rank_of g.key) (rank_of f.key) ≡ b → IsLeast l Either (cond b (Some g) (Some f))
+      by_case true is = (
+        inr q.0,
+        q.1,
+        λ key either first. elim either [
+          | inl at ↦ p.2 key at (before_trans (rank_of key) (rank_of g.key) (rank_of f.key) first is)
+          | inr at ↦ q.2 key at first
+        ],
+      )
+      by_case false is = (
+        inl p.0,
+        p.1,
+        λ key either first. elim either [
+          | inl at ↦ p.2 key at first
+          | inr at ↦ q.2 key at (before_not (rank_of key) (rank_of f.key) (rank_of g.key) first is)
+        ],
+      )
+
+  -- the same for keys that are said in another way
+  pub least_as : ((key : GapKey) → P key → Q key) → ((key : GapKey) → Q key → P key) → (f : Option Found) → IsLeast l P f → IsLeast l Q f
+  least_as there back None p = λ key at. p key (back key at)
+  least_as there back (Some f) p = (there f.key p.0, p.1, λ key at first. p.2 key (back key at) first)
+
+-- One key
+pub least_one : (l : Look) (key : GapKey) (v : Option Values) → IsTest l key v → IsLeast l (λ k. k ≡ key) (found_at key v)
+least_one l key None test = λ k same. subst (AreSame l) (sym same) test
+least_one l key (Some v) test = (refl, test, λ k same first. absurd (before_self k (subst (λ (j : GapKey). ranks_before (rank_of k) (rank_of j) ≡ true) (sym same) first)))
+  where
+    no_less : (n : ℕ) → nat_lt n n ≡ true → ⊥
+    no_less n e = let h = ltb-true n n e in omega arith
+
+    then_self : (n : ℕ) (r : Bool) → (r ≡ true → ⊥) → precedes n n r ≡ true → ⊥
+    then_self n r none e = elim (before_cases n n r e) [ inl less ↦ omega arith | inr rest ↦ none rest.1 ]
+
+    before_self : (k : GapKey) → ranks_before (rank_of k) (rank_of k) ≡ true → ⊥
+    before_self k =
+        let p = rank_of k in
+        then_self p.kind _ (then_self p.iface _ (then_self p.first _ (then_self p.second _ (no_less p.prefix))))
+
+-- Keys by places
+
+-- what the places before this give
+abbrev pub Below : (ℕ → GapKey → Type 0) → ℕ → GapKey → Type 0
+Below P n key = (m : ℕ) × (m < n) × P m key
+
+pub least_none : (l : Look) (P : ℕ → GapKey → Type 0) → IsLeast l (Below P 0) None
+least_none l P = λ key w. absurd (omega (arith, w.1))
+
+pub least_step : (l : Look) (P : ℕ → GapKey → Type 0) (n : ℕ) (f g : Option Found) → IsLeast l (Below P n) f → IsLeast l (P n) g → IsLeast l (Below P (n + 1)) (lesser f g)
+least_step l P n f g p q =
+    least_as l (λ key. Below P n key ⊎ P n key) (Below P (n + 1))
+    (λ key w. elim w [ inl earlier ↦ (earlier.0, omega (arith, earlier.1), earlier.2) | inr here ↦ (n, omega arith, here) ])
+    (λ key w. elim (cases_eq w.0 n) [ inl same ↦ inr (subst (λ (m : ℕ). P m key) same w.2) | inr other ↦ inl (w.0, omega (arith, w.1), w.2) ])
+    (lesser f g) (least_lesser l (Below P n) (P n) f g p q)
+
+-- the end of a loop
+pub least_end : (l : Look) (P : ℕ → GapKey → Type 0) (n m : ℕ) (f : Option Found) → m ≤ n → n ≤ m → IsLeast l (Below P n) f → IsLeast l (Below P m) f
+least_end l P n m f up down p = subst (λ (k : ℕ). IsLeast l (Below P k) f) (antisym n m up down) p
+  where
+    antisym : (n m : ℕ) → m ≤ n → n ≤ m → n ≡ m
+    antisym n m up down = omega arith
+
+-- All keys of a kind, where those that are looked at have all that a side has
+pub least_all : (l : Look) (P Q : GapKey → Type 0) (f : Option Found) → ((key : GapKey) → P key → Q key) → ((key : GapKey) (fs : List Field) → Q key → IsHeldTuple l key fs → P key) →
+    ((key : GapKey) (gs : List Field) → Q key → IsPresentTuple l key gs → P key) → IsLeast l P f → IsLeast l Q f
+least_all l P Q None in_kind held given p = λ key q. record { held = λ fs h. (p key (held key fs q h)).held fs h; present = λ gs w. (p key (given key gs q w)).present gs w }
+least_all l P Q (Some f) in_kind held given p = (
+  in_kind f.key p.0,
+  p.1,
+  λ key q first. record {
+    held = λ fs h. (p.2 key (held key fs q h) first).held fs h;
+    present = λ gs w. (p.2 key (given key gs q w) first).present gs w;
+  },
+)

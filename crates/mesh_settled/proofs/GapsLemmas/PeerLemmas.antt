@@ -1,0 +1,74 @@
+-- Senders of TCs, and stray routers.
+use Rattle.std.proofs.Common.{◌≡◌, ◌≢◌, ℕ, ◌+◌, ◌<◌, ◌≤◌, inl, inr, arith, refl, sym, ◌∙◌, ap, subst, length, List, Some, Bool, true, false, slice_get, nat_eq, map}
+use Rattle.std.specs.Prelude.{◌↔◌, IsTrue}
+use Rattle.std.proofs.lemmas.Bool.{false≢true, eqb-true, eq-eqb, cases_eq}
+use Rattle.std.proofs.lemmas.Option.{slice_get_within}
+use Rattle.std.proofs.lemmas.List.{length-map}
+use Rattle.mesh_atoms.specs.declared.addr.Addr4.{Addr4}
+use Rattle.mesh_atoms.specs.declared.graphs.RadioGraph.{RadioGraph}
+use Rattle.mesh_atoms.specs.declared.settings.Interface.{Interface}
+use Rattle.mesh_atoms.specs.declared.settings.RouterSettings.{RouterSettings}
+use Rattle.mesh_atoms.specs.declared.settings.Scenario.{Scenario}
+use Rattle.mesh_atoms.specs.Radio.{Joined}
+use Rattle.mesh_atoms.specs.Settled.{At, IsStray}
+use Rattle.mesh_atoms.specs.State.{State, HasAddress, IsOriginator}
+use Rattle.mesh_settled.specs.Gaps.Network.{IsNetwork}
+use Rattle.mesh_settled.specs.Gaps.Peers.{IsSender, IsStrayAt}
+use Rattle.mesh_settled.proofs.GapsLemmas.Apart.{some_same}
+use Rattle.mesh_settled.proofs.GapsLemmas.JointLemmas.{same_state, denied}
+
+pub addr_is : (a b : Addr4) → a.0 ≡ b.0 → a ≡ b
+addr_is a b e = ap (λ (n : ℕ). let r : Addr4 = record { 0 = n } in r) e
+
+module _ (s : Scenario) (graph : RadioGraph) (states : List State) (now x : ℕ) (net : IsNetwork s graph states now) where
+  pub not_sender : (from : Addr4) (w : ℕ) (b : Bool) → IsTrue b ↔ ((w ≢ x) × Joined s x w) → b ≡ false → IsTrue false ↔ IsSender s states x from w
+  not_sender from w b test no_join = (λ e. absurd (false≢true e), λ h. let p = h.1 in absurd (false≢true (sym no_join ∙ test.1 (p.other, p.joined))))
+
+  pub is_sender : (from own : Addr4) (w : ℕ) (b : Bool) (q : State) → IsTrue b ↔ ((w ≢ x) × Joined s x w) → b ≡ true → At states w q → (settings : RouterSettings) → settings ≡ q.settings → IsOriginator settings own →
+      IsTrue (nat_eq own.0 from.0) ↔ IsSender s states x from w
+  is_sender from own w b q test joins at settings same origin =
+      let mine : IsOriginator q.settings own = subst (λ (r : RouterSettings). IsOriginator r own) same origin in
+      let j = test.0 joins in (
+        λ e. (q, record { other = j.0; joined = j.1; at = at }, subst (IsOriginator q.settings) (addr_is own from (eqb-true own.0 from.0 e)) mine),
+        λ h.
+            let theirs : IsOriginator q.settings from = subst (λ (r : State). IsOriginator r.settings from) (same_state h.1.at at) h.2 in
+            let face : slice_get theirs.0.addrs 0 ≡ Some own = subst (λ (f : Interface). slice_get f.addrs 0 ≡ Some own) (some_same mine.1 theirs.1) mine.2 in
+            eq-eqb own.0 from.0 (ap (λ (a : Addr4). a.0) (some_same face theirs.2)),
+      )
+
+  pub no_stray_at : (a : Addr4) (v : ℕ) (b : Bool) → IsTrue b ↔ ((v ≢ x) × Joined s x v) → b ≡ true → IsTrue false ↔ IsStrayAt s x a v
+  no_stray_at a v b test joins = (λ e. absurd (false≢true e), λ w. absurd (w.1 (test.0 joins).1))
+
+  pub stray_at : (a : Addr4) (v : ℕ) (b c : Bool) (q : State) → IsTrue b ↔ ((v ≢ x) × Joined s x v) → b ≡ false → v ≢ x → At states v q → (settings : RouterSettings) → settings ≡ q.settings →
+      IsTrue c ↔ HasAddress settings a → IsTrue c ↔ IsStrayAt s x a v
+  stray_at a v b c q test no_join other at settings same has = (
+    λ e. (other, λ j. false≢true (sym no_join ∙ test.1 (other, j)), (q.settings, net.routers.settings v q at, subst (λ (r : RouterSettings). HasAddress r a) same (has.0 e))),
+    λ w.
+        let (r, is, mine) = w.2 in
+        has.1 (subst (λ (r' : RouterSettings). HasAddress r' a) (some_same is (net.routers.settings v q at) ∙ sym same) mine),
+  )
+
+pub one_not : (P : ℕ → Type 0) (i : ℕ) (b : Bool) → IsTrue b ↔ P i → b ≡ false → ((k : ℕ) → k < i → P k → ⊥) → (k : ℕ) → k < i + 1 → P k → ⊥
+one_not P i b test no_more before k less h = elim (cases_eq k i) [
+  | inl same ↦ denied test no_more (subst P same h)
+  | inr other ↦ before k (omega arith) h
+]
+
+module _ {A : Type 0} (f : A → State) (routers : List A) where
+  pub within : (w : ℕ) (q : State) → At (map f routers) w q → w < length routers
+  within w q at = let less = slice_get_within (map f routers) w q at.is in let same = length-map routers f in omega (arith, less, same)
+
+  pub past_sender : (s : Scenario) (x : ℕ) (from : Addr4) (n : ℕ) → length routers ≤ n → ((k : ℕ) → k < n → IsSender s (map f routers) x from k → ⊥) → (w : ℕ) → IsSender s (map f routers) x from w → ⊥
+  past_sender s x from n end before w h = let less = within w h.0 h.1.at in before w (omega (arith, less)) h
+
+  pub no_stray : (s : Scenario) (graph : RadioGraph) (now : ℕ) → IsNetwork s graph (map f routers) now → (x : ℕ) (a : Addr4) (n : ℕ) → length routers ≤ n → ((k : ℕ) → k < n → IsStrayAt s x a k → ⊥) → IsTrue false ↔ IsStray s x a
+  no_stray s graph now net x a n end before = (
+    λ e. absurd (false≢true e),
+    λ h.
+        let (p, at) = net.routers.all h.0 h.3.0 h.3.1 in
+        let less = within h.0 p at in
+        absurd (before h.0 (omega (arith, less)) (h.1, h.2, h.3)),
+  )
+
+pub some_stray : (s : Scenario) (x : ℕ) (a : Addr4) (v : ℕ) → IsStrayAt s x a v → IsTrue true ↔ IsStray s x a
+some_stray s x a v h = (λ _. (v, h.0, h.1, h.2), λ _. refl)

@@ -1,0 +1,116 @@
+-- What two sides have at a key, and the test of it.
+use Rattle.std.proofs.Common.{List, None, Option, Some, [], ap, inl, inr, refl, sym, ℕ, ◌+◌, ◌∙◌, ◌∷◌, ◌≡◌, ◌≢◌}
+use Rattle.std.specs.Prelude.{is_some}
+use Rattle.mesh_settled.specs.declared.gaps.compare.Difference.{Difference}
+use Rattle.mesh_settled.specs.declared.gaps.gap.GapKey.{GapKey}
+use Rattle.mesh_settled.specs.Gaps.Fields.{Field, Addresses, Number, SaySame, AllSame, Differ, DifferFrom}
+use Rattle.mesh_settled.specs.Gaps.Gaps.{Look, IsHeldTuple, IsPresentTuple, IsExcepted, Held_alone, Present_alone, Unequal, IsGapAt, at_field}
+use Rattle.mesh_settled.specs.Gaps.Found.{IsTest, IsTestFrom, IsSide, compared}
+use Rattle.mesh_settled.specs.declared.gaps.gap.GapValue.{GapValue}
+use Rattle.std.proofs.lemmas.Option.{none-some}
+use Rattle.mesh_settled.proofs.GapsLemmas.Apart.{some_same}
+
+-- Fields that say the same
+
+same_sym : (f g : Field) → SaySame f g → SaySame g f
+same_sym (Addresses ms) (Addresses ns) same = λ a. ((same a).1, (same a).0)
+same_sym (Number m) (Number n) same = sym same
+same_sym (Addresses ms) (Number n) same = same
+same_sym (Number m) (Addresses ns) same = same
+
+same_then : (f g h : Field) → SaySame f g → SaySame g h → SaySame f h
+same_then (Addresses ms) (Addresses ns) (Addresses os) e f = λ a. (λ w. (f a).0 ((e a).0 w), λ w. (e a).1 ((f a).1 w))
+same_then (Number m) (Number n) (Number o) e f = e ∙ f
+same_then (Addresses ms) (Number n) h e f = absurd e
+same_then (Number m) (Addresses ns) h e f = absurd e
+same_then (Addresses ms) (Addresses ns) (Number o) e f = f
+same_then (Number m) (Number n) (Addresses os) e f = f
+
+same_self : (f : Field) → SaySame f f
+same_self (Addresses ms) = λ a. (λ w. w, λ w. w)
+same_self (Number n) = refl
+
+pub all_self : (fs : List Field) → AllSame fs fs
+all_self [] = tt
+all_self (f ∷ fs) = (same_self f, all_self fs)
+
+pub all_sym : (fs gs : List Field) → AllSame fs gs → AllSame gs fs
+all_sym [] [] same = same
+all_sym (f ∷ fs) (g ∷ gs) same = (same_sym f g same.0, all_sym fs gs same.1)
+all_sym [] (g ∷ gs) same = same
+all_sym (f ∷ fs) [] same = same
+
+pub all_then : (fs gs hs : List Field) → AllSame fs gs → AllSame gs hs → AllSame fs hs
+all_then [] [] [] e f = tt
+all_then [] [] (h ∷ hs) e f = f
+all_then [] (g ∷ gs) hs e f = absurd e
+all_then (f ∷ fs) [] hs e f' = absurd e
+all_then (f ∷ fs) (g ∷ gs) [] e f' = f'
+all_then (f ∷ fs) (g ∷ gs) (h ∷ hs) e f' = (same_then f g h e.0 f'.0, all_then fs gs hs e.1 f'.1)
+
+-- and such that differ
+
+differ_not : (f g : Field) (m n : Option ℕ) → Differ f g m n → SaySame f g → ⊥
+differ_not (Addresses ms) (Addresses ns) m n apart same = elim apart.apart [
+  | inl held ↦ held.0.1 ((same apart.least).0 held.0.0)
+  | inr given ↦ given.0.1 ((same apart.least).1 given.0.0)
+]
+differ_not (Number v) (Number w) m n apart same = apart.0 same
+differ_not (Addresses ms) (Number w) m n apart same = same
+differ_not (Number v) (Addresses ns) m n apart same = same
+
+pub differ_none : (at : ℕ) (fs gs : List Field) (field : ℕ) (m n : Option ℕ) → DifferFrom at fs gs field m n → AllSame fs gs → ⊥
+differ_none at [] gs field m n differ same = differ
+differ_none at (f ∷ fs) [] field m n differ same = differ
+differ_none at (f ∷ fs) (g ∷ gs) field m n differ same = elim differ [
+  | inl here ↦ differ_not f g m n here.1 same.0
+  | inr later ↦ differ_none (at + 1) fs gs field m n later.1 same.1
+]
+
+-- The test of a key
+
+module _ (l : Look) (key : GapKey) (all : IsExcepted l key → ⊥) where
+  pub tested : (h p : Option (List Field)) (d : Option Difference) → IsSide (IsHeldTuple l key) h → IsSide (IsPresentTuple l key) p →
+      ((fs gs : List Field) → h ≡ Some fs → p ≡ Some gs → IsTestFrom 0 fs gs d) → IsTest l key (compared (is_some h) (is_some p) d)
+  tested None None d held given test = record { held = λ fs is. absurd (held fs is); present = λ gs is. absurd (given gs is) }
+  tested (Some fs) None d held given test = (Held_alone fs held.0 all given refl refl, λ same. elim (same.held fs held.0) [ inl e ↦ all e | inr w ↦ given w.0 w.1 ])
+  tested None (Some gs) d held given test = (Present_alone gs given.0 held refl refl, λ same. let w = same.present gs given.0 in held w.0 w.1)
+  tested (Some fs) (Some gs) None held given test =
+      let same : AllSame fs gs = test fs gs refl refl in record {
+        held = λ hs is. inr (gs, given.0, all_then hs fs gs (held.1 hs is) same);
+        present = λ hs is. (fs, held.0, all_then hs gs fs (given.1 hs is) (all_sym fs gs same));
+      }
+  tested (Some fs) (Some gs) (Some d) held given test =
+      let differ : DifferFrom 0 fs gs d.field d.held d.present = test fs gs refl refl in (
+        Unequal fs gs d.field d.held d.present held.0 given.0 differ refl refl,
+        λ same. elim (same.held fs held.0) [
+          | inl e ↦ all e
+          | inr w ↦ differ_none 0 fs gs d.field d.held d.present differ (all_then fs w.0 gs w.2 (given.1 w.0 w.1))
+        ],
+      )
+
+-- The two values of a gap differ
+
+unequal_numbers : (f g : Field) (m n : Option ℕ) → Differ f g m n → m ≢ n
+unequal_numbers (Addresses ms) (Addresses ns) m n apart same = elim apart.apart [
+  | inl held ↦ none-some apart.least.0 (sym held.2 ∙ (sym same ∙ held.1))
+  | inr given ↦ none-some apart.least.0 (sym given.1 ∙ (same ∙ given.2))
+]
+unequal_numbers (Number v) (Number w) m n apart same = apart.0 (sym apart.1 ∙ (same ∙ apart.2))
+unequal_numbers (Addresses ms) (Number w) m n apart same = apart
+unequal_numbers (Number v) (Addresses ns) m n apart same = apart
+
+unequal_from : (at : ℕ) (fs gs : List Field) (field : ℕ) (m n : Option ℕ) → DifferFrom at fs gs field m n → m ≢ n
+unequal_from at [] gs field m n differ same = differ
+unequal_from at (f ∷ fs) [] field m n differ same = differ
+unequal_from at (f ∷ fs) (g ∷ gs) field m n differ same = elim differ [
+  | inl here ↦ unequal_numbers f g m n here.1 same
+  | inr later ↦ unequal_from (at + 1) fs gs field m n later.1 same
+]
+
+pub gaps_differ : (l : Look) (key : GapKey) (held present : Option GapValue) → IsGapAt l key held present → held ≢ present
+gaps_differ l key held present (Held_alone fs h e none is none_is) same = none-some (at_field 0 None) (sym none_is ∙ (sym same ∙ is))
+gaps_differ l key held present (Present_alone gs g none none_is is) same = none-some (at_field 0 None) (sym none_is ∙ (same ∙ is))
+gaps_differ l key held present (Unequal fs gs field m n h g differ held_is present_is) same =
+    let values : at_field field m ≡ at_field field n = some_same held_is (same ∙ present_is) in
+    unequal_from 0 fs gs field m n differ (ap (λ (x : GapValue). x.number) values)

@@ -1,0 +1,9 @@
+use Rattle.std.proofs.lemmas.Option.{slice_get-get_or}
+use Rattle.mesh_settled.proofs.GapsLemmas.Apart.{one_more, all_missing}
+use Rattle.mesh_settled.proofs.gaps.compare.least_missing.Goals as goal
+
+pub loop-i-preserved : goal.loop-i-preserved
+loop-i-preserved c = rw c.lower-best.ensures (one_more c.args.addrs.now c.args.others.now c.loop-i.i _ (slice_get-get_or c.args.addrs.now c.loop-i.i _ c.loop-i-test.true) c.loop-i.best c.contains.result c.contains.ensures c.loop-i.invariant)
+
+pub returns : goal.returns
+returns c = all_missing c.args.addrs.now c.args.others.now c.loop-i.i c.loop-i.best c.loop-i-test.false c.loop-i.invariant

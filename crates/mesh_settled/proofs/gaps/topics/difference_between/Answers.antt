@@ -1,0 +1,13 @@
+use Rattle.std.specs.Prelude.{Some, [], ◌∷◌}
+use Rattle.mesh_settled.specs.Gaps.Fields.{Number, cost_field}
+use Rattle.mesh_settled.proofs.gaps.topics.difference_between.Goals as goal
+
+pub returns : goal.returns
+returns c =
+    let h = c.args.held in
+    let g = c.args.given in
+    c.first_of.ensures (Number (Some h.ansn)) (Number (Some g.ansn)) (cost_field h.metric ∷ Number h.distance ∷ []) (cost_field g.metric ∷ Number g.distance ∷ [])
+    (rw (c.from.ensures, c.from-2.ensures) at c.numbers-ansn.ensures)
+    (c.first_of-second.ensures (cost_field h.metric) (cost_field g.metric) (Number h.distance ∷ []) (Number g.distance ∷ [])
+    (rw (c.known_cost.ensures, c.known_cost-2.ensures) at c.numbers-metric.ensures)
+    (c.first_of-last.ensures (Number h.distance) (Number g.distance) [] [] c.distances-distance.ensures tt))

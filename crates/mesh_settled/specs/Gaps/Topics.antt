@@ -1,0 +1,144 @@
+-- What the tests of topology find, of any kind of tuple.
+use Rattle.std.specs.Prelude.{◌≡◌, ℕ, ◌<◌, List, Option, Some, None, Bool, cond, not, ◌&&◌, slice_get, length, option_map}
+use Rattle.mesh_atoms.specs.declared.addr.Addr4.{Addr4}
+use Rattle.mesh_atoms.specs.declared.addr.NetAddr.{NetAddr}
+use Rattle.mesh_atoms.specs.declared.tc.TcRow.{TcRow}
+use Rattle.mesh_atoms.specs.declared.tuples.AddressKey.{AddressKey}
+use Rattle.mesh_atoms.specs.declared.tuples.AddressTuple.{AddressTuple}
+use Rattle.mesh_atoms.specs.declared.tuples.NetworkKey.{NetworkKey}
+use Rattle.mesh_atoms.specs.declared.tuples.NetworkTuple.{NetworkTuple}
+use Rattle.mesh_atoms.specs.declared.tuples.RouterKey.{RouterKey}
+use Rattle.mesh_atoms.specs.declared.tuples.RouterTuple.{RouterTuple}
+use Rattle.mesh_atoms.specs.Base.{host, net_eq}
+use Rattle.mesh_atoms.specs.Settled.{At, IsPeer, IsRouterBy, IsAddressBy, IsNetworkBy}
+use Rattle.mesh_atoms.specs.State.{State, IsOriginator}
+use Rattle.mesh_settled.specs.declared.gaps.gap.GapKey.{GapKey}
+use Rattle.mesh_settled.specs.declared.gaps.gap.GapKey.TheVariants.{Router as Of_router, Address as Of_address, Network as Of_network}
+use Rattle.mesh_settled.specs.declared.gaps.topics.Topic.{Topic}
+use Rattle.mesh_settled.specs.declared.gaps.topics.Topic.TheVariants.{Routers, Addresses, Networks}
+use Rattle.mesh_settled.specs.declared.gaps.topics.Claim.{Claim}
+use Rattle.mesh_settled.specs.Gaps.Fields.{Field, topology_fields}
+use Rattle.mesh_settled.specs.Gaps.Gaps.{Look, IsHeldRouter, IsHeldAddress, IsHeldNetwork}
+
+-- What a tuple says
+
+-- of a router topology tuple
+abbrev pub of_router : RouterTuple → Claim
+of_router t = record { ansn = t.ansn; metric = t.metric; distance = None }
+
+-- of a routable address topology tuple
+abbrev pub of_address : AddressTuple → Claim
+of_address t = record { ansn = t.ansn; metric = t.metric; distance = None }
+
+-- of an attached network tuple, which alone has a distance
+abbrev pub of_network : NetworkTuple → Claim
+of_network t = record { ansn = t.ansn; metric = t.metric; distance = Some t.distance }
+
+-- its fields, which are those of the tuple
+abbrev pub claim_fields : Claim → List Field
+claim_fields t = topology_fields t.ansn t.metric t.distance
+
+-- Keys
+
+-- from the originator of a TC to that of its neighbour (TR_from_orig_addr, TR_to_orig_addr)
+abbrev pub router_key : RouterKey → GapKey
+router_key key = Of_router key.from key.to
+
+-- from the originator of a TC to an address (TA_from_orig_addr, TA_dest_addr)
+abbrev pub address_key : AddressKey → GapKey
+address_key key = Of_address key.from key.addr
+
+-- from the originator of a TC to a network (AN_orig_addr, AN_net_addr)
+abbrev pub network_key : NetworkKey → GapKey
+network_key key = Of_network key.from key.net
+
+-- the key of that kind from an originator to a destination, whose prefix counts for networks alone
+abbrev pub key_at : Topic → Addr4 → NetAddr → GapKey
+key_at Routers from net = Of_router from net.addr
+key_at Addresses from net = Of_address from net.addr
+key_at Networks from net = Of_network from net
+
+-- The two sides
+
+-- the router in state p holds a tuple of that kind, from that originator to that destination, with these fields
+abbrev pub IsHeldClaim : State → Topic → Addr4 → NetAddr → List Field → Type 0
+IsHeldClaim p Routers from net = IsHeldRouter p (record { from = from; to = net.addr })
+IsHeldClaim p Addresses from net = IsHeldAddress p (record { from = from; addr = net.addr })
+IsHeldClaim p Networks from net = IsHeldNetwork p (record { from = from; net = net })
+
+-- the TC of a router in state q says it
+abbrev pub IsClaimBy : State → Topic → Addr4 → NetAddr → Claim → Type 0
+IsClaimBy q Routers from net t = (u : RouterTuple) × IsRouterBy q (record { from = from; to = net.addr }) u × (t ≡ of_router u)
+IsClaimBy q Addresses from net t =
+    (u : AddressTuple) × IsAddressBy q (record { from = from; addr = net.addr }) u × (t ≡ of_address u)
+IsClaimBy q Networks from net t = (u : NetworkTuple) × IsNetworkBy q (record { from = from; net = net }) u × (t ≡ of_network u)
+
+-- the TC of another router which is joined with it says one, with these fields
+abbrev pub IsPresentClaim : Look → Topic → Addr4 → NetAddr → List Field → Type 0
+IsPresentClaim l topic from net gs =
+    (w : ℕ) × (q : State) × (t : Claim) × IsPeer l.s l.states l.x w q × IsClaimBy q topic from net t × (gs ≡ claim_fields t)
+
+-- Rows
+
+-- the destination of a row that gives a tuple of that kind: where it is an address, its prefix is 32
+abbrev pub dest_of : Topic → NetAddr → NetAddr
+dest_of Routers net = host net.addr
+dest_of Addresses net = host net.addr
+dest_of Networks net = net
+
+-- the row gives a tuple of that kind and destination
+abbrev pub is_row_of : Topic → NetAddr → TcRow → Bool
+is_row_of Routers net row = row.origin && net_eq row.dest (host net.addr)
+is_row_of Addresses net row = row.routable && net_eq row.dest (host net.addr)
+is_row_of Networks net row = not row.routable && net_eq row.dest net
+
+-- what a row says in a TC of that ANSN; nothing where it has no metric
+abbrev pub claim_by : ℕ → TcRow → Option Claim
+claim_by ansn row = option_map (λ m. record { ansn = ansn; metric = m; distance = row.gateway }) row.metric
+
+-- the same, where the row gives a tuple of that kind and destination
+abbrev pub claim_if : Topic → NetAddr → ℕ → TcRow → Option Claim
+claim_if topic net ansn row = cond (is_row_of topic net row) (claim_by ansn row) None
+
+-- Which keys are looked at
+
+-- a key of that kind
+abbrev pub IsTopicKey : Topic → GapKey → Type 0
+IsTopicKey topic k = (from : Addr4) × (net : NetAddr) × (k ≡ key_at topic from net)
+
+-- the number of tuples of that kind that the router holds
+abbrev pub held_count : State → Topic → ℕ
+held_count p Routers = length p.bases.topology.routers
+held_count p Addresses = length p.bases.topology.addresses
+held_count p Networks = length p.bases.topology.networks
+
+-- the key of the tuple at a place
+abbrev pub held_key : State → Topic → ℕ → Option GapKey
+held_key p Routers place = option_map (λ e. router_key e.0) (slice_get p.bases.topology.routers place)
+held_key p Addresses place = option_map (λ e. address_key e.0) (slice_get p.bases.topology.addresses place)
+held_key p Networks place = option_map (λ e. network_key e.0) (slice_get p.bases.topology.networks place)
+
+-- the tuple at a place has the key
+abbrev pub IsHeldAt : State → Topic → ℕ → GapKey → Type 0
+IsHeldAt p topic place k = held_key p topic place ≡ Some k
+
+-- the key of some tuple of that kind which the router holds
+abbrev pub IsHeld : State → Topic → GapKey → Type 0
+IsHeld p topic k = (place : ℕ) × (place < held_count p topic) × IsHeldAt p topic place k
+
+-- the key from that originator to the destination of the row at a place
+abbrev pub IsToRow : Topic → Addr4 → List TcRow → ℕ → GapKey → Type 0
+IsToRow topic from rows n k = (row : TcRow) × (slice_get rows n ≡ Some row) × (k ≡ key_at topic from row.dest)
+
+-- the key from that originator to the destination of some row
+abbrev pub IsToRows : Topic → Addr4 → List TcRow → GapKey → Type 0
+IsToRows topic from rows k = (n : ℕ) × (n < length rows) × IsToRow topic from rows n k
+
+-- one of the keys that the rows of router w give
+abbrev pub IsByRows : List State → Topic → ℕ → GapKey → Type 0
+IsByRows states topic w k =
+    (q : State) × At states w q × (from : Addr4) × IsOriginator q.settings from × IsToRows topic from q.rows k
+
+-- one of the keys that the rows of some router before router n give
+abbrev pub IsByAllRows : List State → Topic → ℕ → GapKey → Type 0
+IsByAllRows states topic n k = (w : ℕ) × (w < n) × IsByRows states topic w k

@@ -1,0 +1,391 @@
+//! Gaps among the topology tuples of a router, of any kind.
+ghost use Rattle.std.specs.Prelude.{◌≡◌, ℕ, List, IsTrue, Some, length, option_map, nat_eq, ◌&&◌};
+ghost use Rattle.mesh_atoms.specs.declared.addr.Addr4.{Addr4};
+ghost use Rattle.mesh_atoms.specs.Words.{IsValue};
+ghost use Rattle.mesh_atoms.specs.Sound.{Sound};
+ghost use Rattle.mesh_atoms.specs.State.{IsOriginator};
+ghost use Rattle.mesh_expire.specs.Table.{entry_of, value_of};
+ghost use Rattle.mesh_settled.specs.Gaps.Fields.{Field, Number};
+ghost use Rattle.mesh_settled.specs.Gaps.Found.{IsSide, IsTest, IsFieldTest, IsTestFrom, IsLeast};
+ghost use Rattle.mesh_settled.specs.Gaps.Joints.{IsOfSome};
+ghost use Rattle.mesh_settled.specs.Gaps.Peers.{IsValueOf};
+ghost use Rattle.mesh_settled.specs.Gaps.Site.{states, seen, IsSite};
+ghost use Rattle.mesh_settled.specs.Gaps.Topics.{of_router, of_address, of_network, claim_fields, key_at, router_key, address_key, network_key, is_row_of, claim_if, held_key, held_count, IsHeldClaim, IsPresentClaim, IsClaimBy, IsHeldAt, IsHeld, IsToRows, IsByRows, IsByAllRows, IsTopicKey};
+
+use crate::gaps::compare::{Apart, Difference, Values, compared, first_of, known_cost, numbers};
+use crate::gaps::found::{Found, found_at, lesser};
+use crate::gaps::gap::GapKey;
+use crate::gaps::joints::router_at;
+use crate::gaps::peers::{is_stray, sender_of};
+use crate::gaps::site::Site;
+use mesh_atoms::{
+    Addr4, AddressKey, AddressTuple, Metric, NetAddr, NetworkKey, NetworkTuple, RouterKey,
+    RouterTuple, TcRow, host,
+};
+use mesh_machine::RouterView;
+
+/// A kind of topology tuples.
+#[derive(Clone, Copy)]
+pub enum Topic {
+    Routers,
+    Addresses,
+    Networks,
+}
+
+/// What a topology tuple says; of a network also its distance.
+#[derive(Clone, Copy)]
+pub struct Claim {
+    pub ansn: u16,
+    pub metric: Metric,
+    pub distance: Option<u8>,
+}
+
+// The key of a tuple of that kind.
+fn key_at(topic: Topic, from: Addr4, net: NetAddr) -> GapKey
+    ensures { result ≡ key_at topic from net }
+{
+    match topic {
+        Topic::Routers => GapKey::Router { from, to: net.addr },
+        Topic::Addresses => GapKey::Address {
+            from,
+            addr: net.addr,
+        },
+        Topic::Networks => GapKey::Network { from, net },
+    }
+}
+
+fn is_net(dest: NetAddr, addr: Addr4, prefix: u8) -> bool
+    ensures { result ≡ (nat_eq dest.addr.0 addr.0 && nat_eq dest.prefix prefix) }
+{
+    dest.addr.0 == addr.0 && dest.prefix == prefix
+}
+
+// Whether the row gives a tuple of that kind and destination.
+fn is_row_of(topic: Topic, net: NetAddr, row: &TcRow) -> bool
+    ensures { result ≡ is_row_of topic net row.now }
+{
+    match topic {
+        Topic::Routers => row.origin && is_net(row.dest, net.addr, 32),
+        Topic::Addresses => row.routable && is_net(row.dest, net.addr, 32),
+        Topic::Networks => !row.routable && is_net(row.dest, net.addr, net.prefix),
+    }
+}
+
+// What the row says of that destination.
+fn claim_if(topic: Topic, net: NetAddr, ansn: u16, row: &TcRow) -> Option<Claim>
+    ensures { result ≡ claim_if topic net ansn row.now }
+{
+    if is_row_of(topic, net, row) {
+        match row.metric {
+            Some(metric) => Some(Claim {
+                ansn,
+                metric,
+                distance: row.gateway,
+            }),
+            None => None,
+        }
+    } else {
+        None
+    }
+}
+
+// What the first of the rows says that is of that destination.
+fn claim_in(rows: &[TcRow], topic: Topic, net: NetAddr, ansn: u16) -> Option<Claim>
+    ensures { IsValue (IsOfSome (λ row t. claim_if topic net ansn row ≡ Some t) rows.now) result }
+{
+    for k in 0..rows.len() {
+        let claim = claim_if(topic, net, ansn, &rows[k]);
+        if claim.is_some() {
+            return claim;
+        }
+    }
+    None
+}
+
+// What the TC of a router says of that destination.
+fn claim_of<R: RouterView>(other: &R, topic: Topic, net: NetAddr) -> Option<Claim>
+    requires { Sound (R.state other.now) }
+    ensures { (from : Addr4) → IsOriginator (R.state other.now).settings from →
+        IsValueOf (IsClaimBy (R.state other.now) topic from net) result }
+{
+    claim_in(other.rows(), topic, net, other.ansn())
+}
+
+// What the TC of a router says of it that is joined with router x, and has that originator.
+fn given_claim<R: RouterView>(
+    site: &Site<'_, R>,
+    topic: Topic,
+    from: Addr4,
+    net: NetAddr,
+) -> Option<Claim>
+    requires { IsSite R.state site.now }
+    ensures { IsSide (IsPresentClaim (seen R.state site.entry.now) topic from net) (option_map claim_fields result) }
+{
+    match sender_of(site, from) {
+        Some(w) => match router_at(site.routers, w) {
+            Some(other) => claim_of(other, topic, net),
+            None => None,
+        },
+        None => None,
+    }
+}
+
+// What the router topology tuple says that a look-up finds.
+fn router_claim(found: Option<(&RouterTuple, u64)>) -> Option<Claim>
+    ensures { result ≡ option_map (λ e. of_router e.0) (value_of found.entry) }
+{
+    match found {
+        Some((tuple, _)) => Some(Claim {
+            ansn: tuple.ansn,
+            metric: tuple.metric,
+            distance: None,
+        }),
+        None => None,
+    }
+}
+
+// The same of a routable address tuple.
+fn address_claim(found: Option<(&AddressTuple, u64)>) -> Option<Claim>
+    ensures { result ≡ option_map (λ e. of_address e.0) (value_of found.entry) }
+{
+    match found {
+        Some((tuple, _)) => Some(Claim {
+            ansn: tuple.ansn,
+            metric: tuple.metric,
+            distance: None,
+        }),
+        None => None,
+    }
+}
+
+// The same of an attached network tuple.
+fn network_claim(found: Option<(&NetworkTuple, u64)>) -> Option<Claim>
+    ensures { result ≡ option_map (λ e. of_network e.0) (value_of found.entry) }
+{
+    match found {
+        Some((tuple, _)) => Some(Claim {
+            ansn: tuple.ansn,
+            metric: tuple.metric,
+            distance: Some(tuple.distance),
+        }),
+        None => None,
+    }
+}
+
+// What the router's own tuple says.
+fn held_claim<R: RouterView>(router: &R, topic: Topic, from: Addr4, net: NetAddr) -> Option<Claim>
+    requires { Sound (R.state router.now) }
+    ensures { IsSide (IsHeldClaim (R.state router.now) topic from net) (option_map claim_fields result) }
+{
+    match topic {
+        Topic::Routers => router_claim(router.router_of(&RouterKey { from, to: net.addr })),
+        Topic::Addresses => address_claim(router.address_of(&AddressKey {
+            from,
+            addr: net.addr,
+        })),
+        Topic::Networks => network_claim(router.network_of(&NetworkKey { from, net })),
+    }
+}
+
+fn number(distance: Option<u8>) -> Option<u64>
+    ensures { result ≡ distance }
+{
+    match distance {
+        Some(distance) => Some(u64::from(distance)),
+        None => None,
+    }
+}
+
+// Where the distances differ.
+fn distances(held: Option<u8>, given: Option<u8>) -> Option<Apart>
+    ensures { IsFieldTest (Number held) (Number given) result }
+{
+    let ours = number(held);
+    let theirs = number(given);
+    numbers(ours, theirs)
+}
+
+// Where the two tuples differ.
+fn difference_between(held: Claim, given: Claim) -> Option<Difference>
+    ensures { IsTestFrom 0 (claim_fields held) (claim_fields given) result }
+{
+    let ansn = numbers(Some(u64::from(held.ansn)), Some(u64::from(given.ansn)));
+    let metric = numbers(
+        known_cost(Some(held.metric)),
+        known_cost(Some(given.metric)),
+    );
+    let distance = distances(held.distance, given.distance);
+    let last = first_of(2, distance, None);
+    let second = first_of(1, metric, last);
+    first_of(0, ansn, second)
+}
+
+// Where the two tuples differ, if there are two.
+fn difference_of(held: Option<Claim>, given: Option<Claim>) -> Option<Difference>
+    ensures { (fs gs : List Field) → option_map claim_fields held ≡ Some fs → option_map claim_fields given ≡ Some gs →
+        IsTestFrom 0 fs gs result }
+{
+    match (held, given) {
+        (Some(held), Some(given)) => difference_between(held, given),
+        _ => None,
+    }
+}
+
+// What the two sides say of a tuple of that kind, where they differ.
+fn claim_values<R: RouterView>(
+    site: &Site<'_, R>,
+    topic: Topic,
+    from: Addr4,
+    net: NetAddr,
+) -> Option<Values>
+    requires { IsSite R.state site.now }
+    ensures { IsTest (seen R.state site.entry.now) (key_at topic from net) result }
+{
+    if is_stray(site, from) {
+        return None;
+    }
+    let held = held_claim(site.router, topic, from, net);
+    let given = given_claim(site, topic, from, net);
+    let difference = difference_of(held, given);
+    compared(held.is_some(), given.is_some(), difference)
+}
+
+// The gap at the tuple of that kind, sender and destination.
+fn gap_at<R: RouterView>(
+    site: &Site<'_, R>,
+    topic: Topic,
+    from: Addr4,
+    net: NetAddr,
+) -> Option<Found>
+    requires { IsSite R.state site.now }
+    ensures { IsLeast (seen R.state site.entry.now) (λ k. k ≡ key_at topic from net) result }
+{
+    found_at(
+        key_at(topic, from, net),
+        claim_values(site, topic, from, net),
+    )
+}
+
+// How many tuples of that kind the router holds.
+fn held_count<R: RouterView>(router: &R, topic: Topic) -> usize
+    ensures { result ≡ held_count (R.state router.now) topic }
+{
+    match topic {
+        Topic::Routers => router.routers(),
+        Topic::Addresses => router.addresses(),
+        Topic::Networks => router.networks(),
+    }
+}
+
+// The sender and the destination of a router topology tuple.
+fn router_ends(found: Option<(&RouterKey, &RouterTuple, u64)>) -> Option<(Addr4, NetAddr)>
+    ensures { option_map (λ k. key_at Topic.Routers k.0 k.1) result ≡ option_map (λ e. router_key e.0) (entry_of found.entry) }
+{
+    match found {
+        Some((key, _, _)) => Some((key.from, host(key.to))),
+        None => None,
+    }
+}
+
+// The same of a routable address tuple.
+fn address_ends(found: Option<(&AddressKey, &AddressTuple, u64)>) -> Option<(Addr4, NetAddr)>
+    ensures { option_map (λ k. key_at Topic.Addresses k.0 k.1) result ≡ option_map (λ e. address_key e.0) (entry_of found.entry) }
+{
+    match found {
+        Some((key, _, _)) => Some((key.from, host(key.addr))),
+        None => None,
+    }
+}
+
+// The same of an attached network tuple.
+fn network_ends(found: Option<(&NetworkKey, &NetworkTuple, u64)>) -> Option<(Addr4, NetAddr)>
+    ensures { option_map (λ k. key_at Topic.Networks k.0 k.1) result ≡ option_map (λ e. network_key e.0) (entry_of found.entry) }
+{
+    match found {
+        Some((key, _, _)) => Some((key.from, key.net)),
+        None => None,
+    }
+}
+
+// The sender and the destination of the tuple at that place.
+fn held_ends<R: RouterView>(router: &R, topic: Topic, place: usize) -> Option<(Addr4, NetAddr)>
+    ensures { option_map (λ k. key_at topic k.0 k.1) result ≡ held_key (R.state router.now) topic place }
+{
+    match topic {
+        Topic::Routers => router_ends(router.router(place)),
+        Topic::Addresses => address_ends(router.address(place)),
+        Topic::Networks => network_ends(router.network(place)),
+    }
+}
+
+// The gap at the tuple at that place.
+fn held_at<R: RouterView>(site: &Site<'_, R>, topic: Topic, place: usize) -> Option<Found>
+    requires { IsSite R.state site.now }
+    ensures { IsLeast (seen R.state site.entry.now) (IsHeldAt (R.state site.entry.now.router.now) topic place) result }
+{
+    match held_ends(site.router, topic, place) {
+        Some((from, net)) => gap_at(site, topic, from, net),
+        None => None,
+    }
+}
+
+// The least gap at the tuples that the router holds.
+fn held_gap<R: RouterView>(site: &Site<'_, R>, topic: Topic) -> Option<Found>
+    requires { IsSite R.state site.now }
+    ensures { IsLeast (seen R.state site.entry.now) (IsHeld (R.state site.entry.now.router.now) topic) result }
+{
+    let mut best = None;
+    for place in 0..held_count(site.router, topic) {
+        best = lesser(best, held_at(site, topic, place));
+    }
+    best
+}
+
+// The least gap at the tuples from that originator to the destinations of these rows.
+fn rows_gap<R: RouterView>(
+    site: &Site<'_, R>,
+    topic: Topic,
+    from: Addr4,
+    rows: &[TcRow],
+) -> Option<Found>
+    requires { IsSite R.state site.now }
+    ensures { IsLeast (seen R.state site.entry.now) (IsToRows topic from rows.now) result }
+{
+    let mut best = None;
+    for n in 0..rows.len() {
+        best = lesser(best, gap_at(site, topic, from, rows[n].dest));
+    }
+    best
+}
+
+// The least gap at the tuples that the rows of router w give.
+fn gap_by<R: RouterView>(site: &Site<'_, R>, topic: Topic, w: usize) -> Option<Found>
+    requires { IsSite R.state site.now }
+    ensures { IsLeast (seen R.state site.entry.now) (IsByRows (states R.state site.entry.now) topic w) result }
+{
+    match router_at(site.routers, w) {
+        Some(other) => rows_gap(site, topic, other.settings().originator(), other.rows()),
+        None => None,
+    }
+}
+
+// The least gap at the tuples that the rows of all routers give.
+fn given_gap<R: RouterView>(site: &Site<'_, R>, topic: Topic) -> Option<Found>
+    requires { IsSite R.state site.now }
+    ensures { IsLeast (seen R.state site.entry.now) (IsByAllRows (states R.state site.entry.now) topic
+        (length site.entry.now.routers.now)) result }
+{
+    let mut best = None;
+    for w in 0..site.routers.len() {
+        best = lesser(best, gap_by(site, topic, w));
+    }
+    best
+}
+
+/// The least gap among the topology tuples of that kind of router x.
+pub fn topology_gap<R: RouterView>(site: &Site<'_, R>, topic: Topic) -> Option<Found>
+    requires { IsSite R.state site.now }
+    ensures { IsLeast (seen R.state site.entry.now) (IsTopicKey topic) result }
+{
+    lesser(held_gap(site, topic), given_gap(site, topic))
+}
