@@ -2,7 +2,7 @@
 use Rattle.std.proofs.Common.{◌≡◌, ℕ, ◌+◌, ◌*◌, ◌<◌, refl, sym, ap, subst, ◌∙◌, arith, List, [], ◌∷◌, ◌++◌, length, length-append, drop, get_or}
 use Rattle.std.proofs.lemmas.List.{drop_more}
 use Rattle.mesh_atoms.specs.declared.settings.NearHold.{NearHold}
-use Rattle.mesh_codes.specs.Codes.{IsSentCode}
+use Rattle.mesh_atoms.specs.Codes.Codes.{IsSentCode}
 use Rattle.mesh_atoms.specs.Validity.{IsLeastCode, IsTimeValue, Up_to, IsValidity, Near}
 
 -- two more octets stand before what follows

@@ -1,7 +1,7 @@
 -- The topology after a TC, from the topology that expiry has left.
 use Rattle.std.specs.Prelude.{◌≡◌, ℕ, ◌+◌, not, Contains, Option, Some, None, length, count_by, is_some, IsTrue, Bool, false, cond, nat_lt, nat_eq, ◌&&◌}
 use Rattle.mesh_atoms.specs.declared.addr.Addr4.{Addr4}
-use Rattle.mesh_codes.specs.declared.metric.Metric.{Metric}
+use Rattle.mesh_atoms.specs.declared.codes.metric.Metric.{Metric}
 use Rattle.mesh_atoms.specs.declared.tuples.RouterKey.{RouterKey}
 use Rattle.mesh_atoms.specs.declared.tuples.AddressKey.{AddressKey}
 use Rattle.mesh_atoms.specs.declared.tuples.NetworkKey.{NetworkKey}
@@ -11,7 +11,7 @@ use Rattle.mesh_atoms.specs.declared.tuples.Base.TheVariants.{Advertisers, Route
 use Rattle.mesh_atoms.specs.declared.tc.Tc.{Tc}
 use Rattle.mesh_atoms.specs.declared.tc.TcRow.{TcRow}
 use Rattle.mesh_atoms.specs.Base.{Base, HasDistinctKeys, find, SetsOnly, host, addr_eq, router_eq, address_eq, network_eq}
-use Rattle.mesh_codes.specs.Codes.{Newer}
+use Rattle.mesh_atoms.specs.Codes.Codes.{Newer}
 use Rattle.mesh_atoms.specs.State.{Topology}
 
 -- What a TC's rows give (RFC 7181, section 16.3.3)

@@ -2,7 +2,7 @@
 use Rattle.std.specs.Prelude.{◌≡◌, ℕ, ◌≤◌, ◌⊎◌, ◌≢◌, ◌↔◌, Contains, Option, Some, None, slice_get, IsTrue, List}
 use Rattle.std.specs.List.{AllPairs}
 use Rattle.mesh_atoms.specs.declared.addr.Addr4.{Addr4}
-use Rattle.mesh_codes.specs.declared.metric.Metric.{Metric}
+use Rattle.mesh_atoms.specs.declared.codes.metric.Metric.{Metric}
 use Rattle.mesh_atoms.specs.declared.hello.LocalIf.{LocalIf}
 use Rattle.mesh_atoms.specs.declared.hello.LocalIf.TheVariants.{This, Other}
 use Rattle.mesh_atoms.specs.declared.hello.LinkStatus.{LinkStatus}
@@ -16,7 +16,7 @@ use Rattle.mesh_atoms.specs.declared.tuples.Link.{Link}
 use Rattle.mesh_atoms.specs.declared.tuples.Lost.{Lost}
 use Rattle.mesh_atoms.specs.declared.tuples.Neighbour.{Neighbour}
 use Rattle.mesh_atoms.specs.Base.{Has, host}
-use Rattle.mesh_codes.specs.Codes.{time_value, IsSentCode}
+use Rattle.mesh_atoms.specs.Codes.Codes.{time_value, IsSentCode}
 use Rattle.mesh_atoms.specs.Nodes.{IsBefore}
 use Rattle.mesh_atoms.specs.declared.tuples.LinkState.{LinkState}
 use Rattle.mesh_atoms.specs.declared.tuples.LinkState.TheVariants.{Pending as Is_pending, Lost as Is_lost, Symmetric as Is_symmetric, Heard as Is_heard}

@@ -4,6 +4,7 @@ pub mod AfterTc
 pub mod Agreement
 pub mod Ascends
 pub mod Base
+pub mod Codes
 pub mod Grammar
 pub mod Hello
 pub mod HelloTold

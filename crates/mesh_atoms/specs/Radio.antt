@@ -2,7 +2,7 @@
 use Rattle.std.specs.Prelude.{◌≡◌, ℕ, ◌≤◌, ◌≢◌, ◌↔◌, Contains, Some, slice_get, length}
 use Rattle.mesh_atoms.specs.declared.addr.Addr4.{Addr4}
 use Rattle.mesh_atoms.specs.declared.addr.NetAddr.{NetAddr}
-use Rattle.mesh_codes.specs.declared.metric.Metric.{Metric}
+use Rattle.mesh_atoms.specs.declared.codes.metric.Metric.{Metric}
 use Rattle.mesh_atoms.specs.declared.settings.RadioArc.{RadioArc}
 use Rattle.mesh_atoms.specs.declared.settings.Interface.{Interface}
 use Rattle.mesh_atoms.specs.declared.settings.RouterSettings.{RouterSettings}
@@ -11,7 +11,7 @@ use Rattle.mesh_atoms.specs.declared.settings.Scenario.{Scenario}
 use Rattle.mesh_atoms.specs.declared.graphs.Pair.{Pair}
 use Rattle.mesh_atoms.specs.declared.graphs.RadioGraph.{RadioGraph}
 use Rattle.mesh_atoms.specs.Base.{host}
-use Rattle.mesh_codes.specs.Codes.{metric_value}
+use Rattle.mesh_atoms.specs.Codes.Codes.{metric_value}
 use Rattle.mesh_atoms.specs.Quality.{quality_at}
 use Rattle.mesh_atoms.specs.State.{HasAddress, HasAddressOn, IsOriginator}
 use Rattle.mesh_atoms.specs.Walk.{LeastWilling, LeastToNet}

@@ -1,7 +1,7 @@
 -- The neighbour graphs from which a router chooses its relays, and the relays that it may have chosen.
 use Rattle.std.specs.Prelude.{◌≡◌, ℕ, ◌↔◌, List, Contains, Some, slice_get, length}
 use Rattle.mesh_atoms.specs.declared.addr.Addr4.{Addr4}
-use Rattle.mesh_codes.specs.declared.metric.Metric.{Metric}
+use Rattle.mesh_atoms.specs.declared.codes.metric.Metric.{Metric}
 use Rattle.mesh_atoms.specs.declared.tuples.LinkKey.{LinkKey}
 use Rattle.mesh_atoms.specs.declared.tuples.TwoHopKey.{TwoHopKey}
 use Rattle.mesh_atoms.specs.declared.tuples.Link.{Link}
@@ -11,7 +11,7 @@ use Rattle.mesh_atoms.specs.declared.graphs.Near.{Near}
 use Rattle.mesh_atoms.specs.declared.graphs.Direct.{Direct}
 use Rattle.mesh_atoms.specs.declared.graphs.Far.{Far}
 use Rattle.mesh_atoms.specs.declared.graphs.NeighbourGraph.{NeighbourGraph}
-use Rattle.mesh_codes.specs.Codes.{metric_value}
+use Rattle.mesh_atoms.specs.Codes.Codes.{metric_value}
 use Rattle.mesh_atoms.specs.Words.{IsLeastMetric, IsAscending}
 use Rattle.mesh_atoms.specs.Relays.{Covers, Needed}
 use Rattle.mesh_atoms.specs.declared.tuples.LinkState.TheVariants.{Symmetric as Is_symmetric}

@@ -1,7 +1,7 @@
 -- For how long what a TC says is to be held, by the distance of who hears it (RFC 5497, section 6).
 use Rattle.std.specs.Prelude.{ℕ, ◌≤◌, List, [], ◌∷◌}
 use Rattle.mesh_atoms.specs.declared.settings.NearHold.{NearHold}
-use Rattle.mesh_codes.specs.Codes.{time_value, IsSentCode}
+use Rattle.mesh_atoms.specs.Codes.Codes.{time_value, IsSentCode}
 
 -- the least time code that is sent and no shorter
 pub record IsLeastCode (ticks code : ℕ) : Type 0 where

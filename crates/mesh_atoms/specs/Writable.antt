@@ -2,7 +2,7 @@
 use Rattle.std.specs.Prelude.{◌≡◌, ℕ, ◌⊎◌, List, Contains, Option, Some, None, IsSome, IsTrue, false}
 use Rattle.mesh_atoms.specs.declared.hello.HelloRow.{HelloRow}
 use Rattle.mesh_atoms.specs.declared.tc.TcRow.{TcRow}
-use Rattle.mesh_codes.specs.Codes.{time_value, IsSentCode}
+use Rattle.mesh_atoms.specs.Codes.Codes.{time_value, IsSentCode}
 
 -- the time of a code that is sent (RFC 5497, section 5)
 abbrev pub IsSentTime : ℕ → Type 0

@@ -6,7 +6,7 @@ use Rattle.mesh_atoms.specs.declared.settings.Attached4.{Attached4}
 use Rattle.mesh_atoms.specs.declared.settings.RouterSettings.{RouterSettings}
 use Rattle.mesh_atoms.specs.declared.settings.Scenario.{Scenario}
 use Rattle.mesh_atoms.specs.Base.{net_eq}
-use Rattle.mesh_codes.specs.Codes.{metric_value}
+use Rattle.mesh_atoms.specs.Codes.Codes.{metric_value}
 use Rattle.mesh_atoms.specs.Radio.{Attaches}
 use Rattle.mesh_atoms.specs.Settings.{are_distinct}
 use Rattle.mesh_atoms.proofs.Lookups.{net_equiv}

@@ -5,14 +5,14 @@ use Rattle.mesh_atoms.specs.declared.addr.NetAddr.{NetAddr}
 use Rattle.mesh_atoms.specs.declared.graphs.Route.{Route}
 use Rattle.mesh_atoms.specs.declared.settings.Scenario.{Scenario}
 use Rattle.mesh_atoms.specs.Base.{host}
-use Rattle.mesh_codes.specs.Codes.{metric_value}
+use Rattle.mesh_atoms.specs.Codes.Codes.{metric_value}
 use Rattle.mesh_atoms.specs.Radio.{AddressOf, RadioLeast}
 use Rattle.mesh_atoms.specs.Settled.{At}
 use Rattle.mesh_atoms.specs.State.{State}
 use Rattle.mesh_paths.specs.SettledRoutes.{IsSettledNetwork, HasRow, RowsAreLeast, NextHopsLead, Arrives, Goes_on, At_gateway}
 use Rattle.mesh_atoms.specs.NextHop.{Holds}
 use Rattle.mesh_paths.proofs.SettledNeighbours.{owner, same_host}
-use Rattle.mesh_codes.proofs.CodeLaws.{metric_above_zero}
+use Rattle.mesh_atoms.proofs.CodesLemmas.CodeLaws.{metric_above_zero}
 use Rattle.mesh_data.specs.declared.trip.End.{End}
 use Rattle.mesh_data.specs.declared.trip.End.TheVariants.{Arrived}
 use Rattle.mesh_data.specs.declared.trip.Hop.{Hop}

@@ -1,7 +1,7 @@
 -- Routers of one interface with one address, which admits whatever it hears, and what is held of a neighbour whose HELLOs are heard.
 use Rattle.std.proofs.Common.{ℕ, refl, List, [], ◌∷◌, map, Some, true, false, Bool}
 use Rattle.mesh_atoms.specs.declared.addr.Addr4.{Addr4}
-use Rattle.mesh_codes.specs.declared.metric.Metric.{Metric}
+use Rattle.mesh_atoms.specs.declared.codes.metric.Metric.{Metric}
 use Rattle.mesh_atoms.specs.declared.hello.Willing.{Willing as Wills}
 use Rattle.mesh_atoms.specs.declared.tuples.Link.{Link}
 use Rattle.mesh_atoms.specs.declared.tuples.Neighbour.{Neighbour}

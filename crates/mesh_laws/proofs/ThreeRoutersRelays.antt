@@ -1,7 +1,7 @@
 -- The relays of three routers in a row: the outer ones need the middle one, which needs none.
 use Rattle.std.proofs.Common.{◌≡◌, ℕ, zero, suc, ◌↔◌, ◌≢◌, inl, inr, refl, sym, ◌∙◌, ap, subst, arith, [], ◌∷◌, map, Contains, Option, Some}
 use Rattle.mesh_atoms.specs.declared.addr.Addr4.{Addr4}
-use Rattle.mesh_codes.specs.declared.metric.Metric.{Metric}
+use Rattle.mesh_atoms.specs.declared.codes.metric.Metric.{Metric}
 use Rattle.mesh_atoms.specs.declared.tuples.LinkKey.{LinkKey}
 use Rattle.mesh_atoms.specs.declared.tuples.Link.{Link}
 use Rattle.mesh_atoms.specs.declared.tuples.TwoHopKey.{TwoHopKey}
@@ -11,7 +11,7 @@ use Rattle.mesh_atoms.specs.declared.graphs.Near.{Near}
 use Rattle.mesh_atoms.specs.declared.graphs.Direct.{Direct}
 use Rattle.mesh_atoms.specs.declared.graphs.Far.{Far}
 use Rattle.mesh_atoms.specs.declared.graphs.NeighbourGraph.{NeighbourGraph}
-use Rattle.mesh_codes.specs.Codes.{metric_value}
+use Rattle.mesh_atoms.specs.Codes.Codes.{metric_value}
 use Rattle.mesh_atoms.specs.RelayGraphs.{IsRoutingGraph, IsFloodingGraph, IsMetricOver, AreRelays, AreRelaysOf}
 use Rattle.mesh_atoms.specs.Relays.{Offers, IsWilling, IsRelay, IsOtherRelay}
 use Rattle.mesh_atoms.specs.declared.tuples.LinkState.TheVariants.{Symmetric as Is_symmetric}

@@ -19,7 +19,7 @@ use Rattle.mesh_atoms.specs.declared.tuples.TwoHop.{TwoHop}
 use Rattle.mesh_atoms.specs.declared.graphs.Route.{Route}
 use Rattle.mesh_atoms.specs.Ascends.{more_ascend, one_ascends}
 use Rattle.mesh_atoms.specs.Base.{host, net_eq}
-use Rattle.mesh_codes.specs.Codes.{metric_value}
+use Rattle.mesh_atoms.specs.Codes.Codes.{metric_value}
 use Rattle.mesh_atoms.specs.Nodes.{IsBefore}
 use Rattle.mesh_atoms.specs.Routes.{RouteArc, To_neighbour, To_two_hop, By_router, By_address, By_network, IsOutside, IsParent, IsNextHop, AreRoutes}
 use Rattle.mesh_atoms.specs.Walk.{Walk, Stay, Onward, Least, FirstNode, AtSelf, Through}

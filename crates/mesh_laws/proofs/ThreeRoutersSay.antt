@@ -1,11 +1,11 @@
 -- What the HELLOs and the TCs of three routers in a row say.
 use Rattle.std.proofs.Common.{◌≡◌, ℕ, inl, inr, refl, sym, ◌∙◌, ap, subst, arith, List, [], map, Contains, Some, IsTrue}
 use Rattle.mesh_atoms.specs.declared.addr.Addr4.{Addr4}
-use Rattle.mesh_codes.specs.declared.metric.Metric.{Metric}
+use Rattle.mesh_atoms.specs.declared.codes.metric.Metric.{Metric}
 use Rattle.mesh_atoms.specs.declared.tuples.Link.{Link}
 use Rattle.mesh_atoms.specs.declared.tuples.Neighbour.{Neighbour}
 use Rattle.mesh_atoms.specs.Advertised.{Gives, Advertises, AdvertisesOriginator, AdvertisesNetwork}
-use Rattle.mesh_codes.specs.Codes.{metric_value}
+use Rattle.mesh_atoms.specs.Codes.Codes.{metric_value}
 use Rattle.mesh_atoms.specs.Hello.{Says, SaysSymmetric, HasLinkTo, Link_symmetric, Flooding, Routing, Near_in, Near_out}
 use Rattle.mesh_atoms.specs.declared.tuples.LinkState.{LinkState}
 use Rattle.mesh_atoms.specs.declared.tuples.LinkState.TheVariants.{Symmetric as Is_symmetric}

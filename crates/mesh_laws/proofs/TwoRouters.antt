@@ -11,7 +11,7 @@ use Rattle.mesh_atoms.specs.declared.settings.RouterSettings.{RouterSettings}
 use Rattle.mesh_atoms.specs.declared.settings.Scenario.{Scenario}
 use Rattle.mesh_atoms.specs.declared.graphs.Route.{Route}
 use Rattle.mesh_atoms.specs.Base.{host}
-use Rattle.mesh_codes.specs.Codes.{metric_value}
+use Rattle.mesh_atoms.specs.Codes.Codes.{metric_value}
 use Rattle.mesh_atoms.specs.State.{State, HasLink, HasTwoHop, HasSymmetric, HasAddressOn}
 use Rattle.mesh_paths.proofs.ShortLists.{none_of, only, here, first_of}
 pub use Rattle.mesh_laws.proofs.TwoRoutersInRange.{addr}

@@ -1,12 +1,12 @@
 -- Two routers that hear each other hold exactly what the other says.
 use Rattle.std.proofs.Common.{◌≡◌, ℕ, zero, suc, ◌⊎◌, ◌≢◌, inl, inr, refl, sym, ap, subst, arith, List, [], ◌∷◌, Contains, slice_get, Some, None, true, false, IsTrue}
 use Rattle.mesh_atoms.specs.declared.addr.Addr4.{Addr4}
-use Rattle.mesh_codes.specs.declared.metric.Metric.{Metric}
+use Rattle.mesh_atoms.specs.declared.codes.metric.Metric.{Metric}
 use Rattle.mesh_atoms.specs.declared.tuples.Link.{Link}
 use Rattle.mesh_atoms.specs.declared.tuples.Neighbour.{Neighbour}
 use Rattle.mesh_atoms.specs.declared.settings.RouterSettings.{RouterSettings}
 use Rattle.mesh_atoms.specs.Advertised.{Gives, Advertises}
-use Rattle.mesh_codes.specs.Codes.{metric_value}
+use Rattle.mesh_atoms.specs.Codes.Codes.{metric_value}
 use Rattle.mesh_atoms.specs.Hello.{SaysSymmetric}
 use Rattle.mesh_atoms.specs.Radio.{Leads, IsAdmitted, Joins, IsMetric, Router}
 use Rattle.mesh_atoms.specs.Settled.{At, IsSettledAt, IsLinkTo, IsNeighbourOf, IsPeer}

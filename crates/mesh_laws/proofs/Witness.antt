@@ -1,7 +1,7 @@
 -- Two routers that hear each other are a settled network: the premises of the law of settled routes can be met.
 use Rattle.std.proofs.Common.{◌≡◌, ℕ, zero, suc, ◌⊎◌, inl, inr, refl, sym, ◌∙◌, ap, subst, arith, [], Contains, slice_get, Some, None}
 use Rattle.mesh_atoms.specs.declared.addr.Addr4.{Addr4}
-use Rattle.mesh_codes.specs.declared.metric.Metric.{Metric}
+use Rattle.mesh_atoms.specs.declared.codes.metric.Metric.{Metric}
 use Rattle.mesh_atoms.specs.declared.settings.RouterSettings.{RouterSettings}
 use Rattle.mesh_atoms.specs.declared.settings.RadioArc.{RadioArc}
 use Rattle.mesh_atoms.specs.Base.{host}

@@ -4,7 +4,7 @@ use Rattle.std.specs.Prelude.{true, false}
 use Rattle.std.specs.List.{IsDistinct}
 use Rattle.mesh_atoms.specs.declared.addr.Addr4.{Addr4}
 use Rattle.mesh_atoms.specs.declared.addr.NetAddr.{NetAddr}
-use Rattle.mesh_codes.specs.declared.metric.Metric.{Metric}
+use Rattle.mesh_atoms.specs.declared.codes.metric.Metric.{Metric}
 use Rattle.mesh_atoms.specs.declared.hello.LocalIf.{LocalIf}
 use Rattle.mesh_atoms.specs.declared.hello.LocalIf.TheVariants.{This, Other}
 use Rattle.mesh_atoms.specs.declared.hello.LinkStatus.TheVariants.{Heard}

@@ -1,7 +1,7 @@
 -- States and answers with one thing spoiled, which one clause of a definition alone refuses.
 use Rattle.std.specs.Prelude.{◌≡◌, ◌≢◌, ℕ, ◌+◌, ◌<◌, ◌≤◌, Contains, Some, None, length, Bool, true, false}
 use Rattle.mesh_atoms.specs.declared.addr.Addr4.{Addr4}
-use Rattle.mesh_codes.specs.declared.metric.Metric.{Metric}
+use Rattle.mesh_atoms.specs.declared.codes.metric.Metric.{Metric}
 use Rattle.mesh_atoms.specs.declared.hello.Hello.{Hello}
 use Rattle.mesh_atoms.specs.declared.hello.HelloRow.{HelloRow}
 use Rattle.mesh_atoms.specs.declared.tc.Tc.{Tc}
@@ -24,7 +24,7 @@ use Rattle.mesh_atoms.specs.declared.settings.RouterSettings.{RouterSettings}
 use Rattle.mesh_atoms.specs.AfterHello.{AfterHello, IsTheirs, IsApart, GoesOn}
 use Rattle.mesh_atoms.specs.AfterTc.{AfterTc, GivesRouter, GivesAddress, GivesNetwork}
 use Rattle.mesh_atoms.specs.Base.{find, base_of, addr_eq, router_eq, address_eq, network_eq, flood_eq}
-use Rattle.mesh_codes.specs.Codes.{metric_value}
+use Rattle.mesh_atoms.specs.Codes.Codes.{metric_value}
 use Rattle.mesh_atoms.specs.Hello.{Says, Near_in, Link_out}
 use Rattle.mesh_atoms.specs.HelloTold.{Told, Tells, two_hop_of}
 use Rattle.mesh_atoms.specs.Live.{HasLinkOf, HasSymmetricOf, Restores, IsSymmetricAddress, LiveNeighbourhood}

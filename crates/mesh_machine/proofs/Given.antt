@@ -9,7 +9,7 @@ use Rattle.std.proofs.lemmas.List.{length-append}
 use Rattle.mesh_atoms.specs.declared.addr.Addr4.{Addr4}
 use Rattle.mesh_atoms.specs.declared.tc.Tc.{Tc}
 use Rattle.mesh_atoms.specs.declared.tc.TcRow.{TcRow}
-use Rattle.mesh_codes.specs.declared.metric.Metric.{Metric}
+use Rattle.mesh_atoms.specs.declared.codes.metric.Metric.{Metric}
 use Rattle.mesh_atoms.specs.declared.tuples.Base.TheVariants.{Advertisers, Routers, Addresses, Networks}
 use Rattle.mesh_atoms.specs.AfterTc.{Becomes, Given, Left, BecomesSet, AfterTc, if_not_dropped, is_overfull, first_overfull, GivesRouter, GivesAddress, GivesNetwork}
 use Rattle.mesh_atoms.specs.Base.{Base, find, addr_eq, router_eq, address_eq, network_eq}

@@ -4,7 +4,7 @@ use Rattle.mesh_atoms.specs.declared.hello.Hello.{Hello}
 use Rattle.mesh_atoms.specs.declared.tc.Tc.{Tc}
 use Rattle.mesh_atoms.specs.declared.tc.TcRow.{TcRow}
 use Rattle.mesh_atoms.specs.Advertised.{AreParts}
-use Rattle.mesh_codes.specs.Codes.{time_at_distance}
+use Rattle.mesh_atoms.specs.Codes.Codes.{time_at_distance}
 use Rattle.mesh_atoms.specs.Hello.{IsHelloNow, IsRoundedUp}
 use Rattle.mesh_atoms.specs.State.{State, IsOriginator}
 use Rattle.mesh_atoms.specs.Validity.{IsValidity}

@@ -1,7 +1,7 @@
 -- What interfaces admit, by tests of arcs; and that admitted arcs each way join two interfaces from both sides.
 use Rattle.std.proofs.Common.{◌≡◌, ℕ, ◌≤◌, refl, ◌∙◌, ap, Option, Some, None, true, false, slice_get}
 use Rattle.std.proofs.lemmas.Bool.{leb-true, le-leb}
-use Rattle.mesh_codes.specs.declared.metric.Metric.{Metric}
+use Rattle.mesh_atoms.specs.declared.codes.metric.Metric.{Metric}
 use Rattle.mesh_atoms.specs.declared.settings.Interface.{Interface}
 use Rattle.mesh_atoms.specs.declared.settings.RadioArc.{RadioArc}
 use Rattle.mesh_atoms.specs.declared.settings.RouterSettings.{RouterSettings}

@@ -1,7 +1,7 @@
 -- At the moment of the last event neither the quality rule nor expiry changes a link, so that links stay as they are.
 use Rattle.std.proofs.Common.{◌≡◌, ℕ, refl, sym, ◌∙◌, ap, Option, Some, None}
 use Rattle.std.specs.Prelude.{Bool, true, false, cond, nat_lt}
-use Rattle.mesh_codes.specs.declared.metric.Metric.{Metric}
+use Rattle.mesh_atoms.specs.declared.codes.metric.Metric.{Metric}
 use Rattle.mesh_atoms.specs.declared.tuples.LinkKey.{LinkKey}
 use Rattle.mesh_atoms.specs.declared.tuples.Link.{Link}
 use Rattle.mesh_atoms.specs.declared.settings.RouterSettings.{RouterSettings}

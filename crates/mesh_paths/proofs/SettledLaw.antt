@@ -6,7 +6,7 @@ use Rattle.mesh_atoms.specs.declared.graphs.Route.{Route}
 use Rattle.mesh_atoms.specs.declared.settings.Scenario.{Scenario}
 use Rattle.mesh_atoms.specs.declared.settings.RouterSettings.{RouterSettings}
 use Rattle.mesh_atoms.specs.Base.{host}
-use Rattle.mesh_codes.specs.Codes.{metric_value}
+use Rattle.mesh_atoms.specs.Codes.Codes.{metric_value}
 use Rattle.mesh_atoms.specs.Radio.{Hop, Willing, Joins, AddressOf, Attaches, RadioLeast, To_router, To_network}
 use Rattle.mesh_atoms.specs.Routes.{RouteArc, IsOutside, IsParent, IsNextHop}
 use Rattle.mesh_atoms.specs.Settled.{At}

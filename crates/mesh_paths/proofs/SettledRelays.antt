@@ -1,7 +1,7 @@
 -- What a settled network says of each router's relays and TCs, in the terms of the radio graph.
 use Rattle.std.proofs.Common.{◌≡◌, ℕ, ◌+◌, ◌≤◌, ◌⊎◌, inl, inr, refl, sym, ◌∙◌, ap, subst, arith, List, Contains, Some, IsTrue}
 use Rattle.mesh_atoms.specs.declared.addr.Addr4.{Addr4}
-use Rattle.mesh_codes.specs.declared.metric.Metric.{Metric}
+use Rattle.mesh_atoms.specs.declared.codes.metric.Metric.{Metric}
 use Rattle.mesh_atoms.specs.declared.tuples.LinkKey.{LinkKey}
 use Rattle.mesh_atoms.specs.declared.tuples.TwoHop.{TwoHop}
 use Rattle.mesh_atoms.specs.declared.tuples.Neighbour.{Neighbour}
@@ -12,7 +12,7 @@ use Rattle.mesh_atoms.specs.declared.settings.RouterSettings.{RouterSettings}
 use Rattle.mesh_atoms.specs.declared.settings.Scenario.{Scenario}
 use Rattle.mesh_atoms.specs.declared.hello.Willing.{Willing as Wills}
 use Rattle.mesh_atoms.specs.Advertised.{Gives, Advertises}
-use Rattle.mesh_codes.specs.Codes.{metric_value}
+use Rattle.mesh_atoms.specs.Codes.Codes.{metric_value}
 use Rattle.mesh_atoms.specs.Hello.{Says, Routing}
 use Rattle.mesh_atoms.specs.Radio.{Adjacent, IsMetric, Hop, Willing, AddressOf}
 use Rattle.mesh_atoms.specs.Relays.{Offers, IsWilling, IsRelay}

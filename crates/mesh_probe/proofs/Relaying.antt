@@ -3,7 +3,7 @@ use Rattle.std.proofs.Common.{◌≡◌, ℕ, zero, suc, ◌+◌, ◌≤◌, ◌
 use Rattle.std.specs.Prelude.{Bool, true}
 use Rattle.std.proofs.lemmas.Option.{slice_get_cases, slice_get_within}
 use Rattle.mesh_atoms.specs.declared.addr.Addr4.{Addr4}
-use Rattle.mesh_codes.specs.declared.metric.Metric.{Metric}
+use Rattle.mesh_atoms.specs.declared.codes.metric.Metric.{Metric}
 use Rattle.mesh_atoms.specs.declared.hello.Willing.{Willing as Wills}
 use Rattle.mesh_atoms.specs.declared.tuples.LinkKey.{LinkKey}
 use Rattle.mesh_atoms.specs.declared.tuples.Link.{Link}
@@ -16,7 +16,7 @@ use Rattle.mesh_atoms.specs.declared.graphs.NeighbourGraph.{NeighbourGraph}
 use Rattle.mesh_atoms.specs.declared.settings.RouterSettings.{RouterSettings}
 use Rattle.mesh_atoms.specs.declared.settings.Scenario.{Scenario}
 use Rattle.mesh_atoms.specs.Base.{Base, HasDistinctKeys, base_of, link_eq}
-use Rattle.mesh_codes.specs.Codes.{metric_value}
+use Rattle.mesh_atoms.specs.Codes.Codes.{metric_value}
 use Rattle.mesh_atoms.specs.Hello.{Says, Flooding}
 use Rattle.mesh_atoms.specs.Radio.{Joins, Adjacent, Router, AddressOf}
 use Rattle.mesh_atoms.specs.RelayGraphs.{IsFloodingGraph, IsMetricOver, AreRelays}

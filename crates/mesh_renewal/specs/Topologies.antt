@@ -2,7 +2,7 @@
 use Rattle.std.specs.Prelude.{◌≡◌, ℕ, map}
 use Rattle.mesh_atoms.specs.declared.addr.Addr4.{Addr4}
 use Rattle.mesh_atoms.specs.declared.addr.NetAddr.{NetAddr}
-use Rattle.mesh_codes.specs.declared.metric.Metric.{Metric}
+use Rattle.mesh_atoms.specs.declared.codes.metric.Metric.{Metric}
 use Rattle.mesh_atoms.specs.declared.tuples.RouterKey.{RouterKey}
 use Rattle.mesh_atoms.specs.declared.tuples.RouterTuple.{RouterTuple}
 use Rattle.mesh_atoms.specs.declared.tuples.AddressKey.{AddressKey}

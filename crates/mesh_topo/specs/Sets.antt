@@ -10,7 +10,7 @@ use Rattle.mesh_atoms.specs.declared.tuples.AddressTuple.{AddressTuple}
 use Rattle.mesh_atoms.specs.declared.tuples.NetworkKey.{NetworkKey}
 use Rattle.mesh_atoms.specs.declared.tuples.NetworkTuple.{NetworkTuple}
 use Rattle.mesh_atoms.specs.Base.{Base, IsFresh, find, addr_eq, router_eq, address_eq, network_eq}
-use Rattle.mesh_codes.specs.Codes.{Newer}
+use Rattle.mesh_atoms.specs.Codes.Codes.{Newer}
 use Rattle.mesh_atoms.specs.State.{Topology}
 
 -- each of the four sets has at most 16,384 tuples

@@ -1,7 +1,7 @@
 //! The taking of a TC (RFC 7181, section 16.3.3).
 ghost use Rattle.std.specs.Prelude.{◌≡◌, ◌+◌, ◌<◌, ◌≤◌, ◌^◌, ℕ, length, count_by, is_some, nat_lt, false, IfSome, IfNone, IfOk, OnOk};
 ghost use Rattle.mesh_atoms.specs.Base.{find, addr_eq};
-ghost use Rattle.mesh_codes.specs.Codes.{Newer};
+ghost use Rattle.mesh_atoms.specs.Codes.Codes.{Newer};
 ghost use Rattle.mesh_atoms.specs.AfterTc.{TakesTc, first_overfull};
 ghost use Rattle.mesh_topo.specs.Answers.{answer_of, changes};
 ghost use Rattle.mesh_topo.specs.Same.{SameAdvertised};

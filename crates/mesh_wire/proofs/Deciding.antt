@@ -3,8 +3,8 @@ use Rattle.std.proofs.Common.{◌≡◌, ℕ, ◌<◌, ◌%◌, ◌/◌, ◌*◌
 use Rattle.std.specs.Prelude.{◌==◌, ◌&&◌, Contains, Option, Some, None}
 use Rattle.std.proofs.lemmas.Bool.{cases_Bool, cases_lt, cases_eq}
 use Rattle.mesh_atoms.specs.declared.addr.NetAddr.{NetAddr}
-use Rattle.mesh_codes.specs.declared.metric.Metric.{Metric}
-use Rattle.mesh_codes.specs.Codes.{time_at_distance}
+use Rattle.mesh_atoms.specs.declared.codes.metric.Metric.{Metric}
+use Rattle.mesh_atoms.specs.Codes.Codes.{time_at_distance}
 use Rattle.mesh_packet.specs.Fields.{MessageFields}
 use Rattle.mesh_tlv.specs.Fields.{TlvFields}
 use Rattle.mesh_wire.specs.declared.collect.AddressParts.{AddressParts}

@@ -3,7 +3,7 @@ use Rattle.std.proofs.Common.{◌≡◌, ℕ, ◌+◌, ◌<◌, ◌%◌, inl, in
 use Rattle.mesh_atoms.specs.declared.addr.NetAddr.{NetAddr}
 use Rattle.mesh_atoms.specs.declared.tc.Tc.{Tc}
 use Rattle.mesh_atoms.specs.declared.tc_rule.TheConstants as rule
-use Rattle.mesh_codes.specs.Codes.{time_at_distance}
+use Rattle.mesh_atoms.specs.Codes.Codes.{time_at_distance}
 use Rattle.mesh_atoms.specs.Validity.{IsTimeValue}
 use Rattle.mesh_packet.specs.Fields.{MessageFields}
 use Rattle.mesh_wire.specs.Kinds.{validity_time, nbr_addr_type, gateway, link_metric}

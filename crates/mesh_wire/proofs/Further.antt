@@ -1,9 +1,9 @@
 -- The validity that a value of times tells, at each distance.
 use Rattle.std.proofs.Common.{◌≡◌, ℕ, ◌%◌, ◌<◌, List, [], ◌∷◌, length, refl, arith}
 use Rattle.std.specs.Prelude.{Bool, true, false, cond, nat_lt}
-use Rattle.mesh_codes.specs.Codes.{time_value, IsSentCode, time_at_distance}
+use Rattle.mesh_atoms.specs.Codes.Codes.{time_value, IsSentCode, time_at_distance}
 use Rattle.mesh_atoms.specs.Validity.{IsTimeValue, Everywhere, Up_to}
-use Rattle.mesh_codes.proofs.CodeLaws.{time-less}
+use Rattle.mesh_atoms.proofs.CodesLemmas.CodeLaws.{time-less}
 use Rattle.mesh_packet.specs.Fields.{MessageFields}
 use Rattle.mesh_wire.specs.Kinds.{validity_time}
 use Rattle.mesh_wire.specs.Parts.{values_of}

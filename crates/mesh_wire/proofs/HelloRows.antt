@@ -3,7 +3,7 @@ use Rattle.std.proofs.Common.{◌≡◌, ℕ, zero, suc, ◌*◌, ◌/◌, ◌<�
 use Rattle.std.specs.Prelude.{◌||◌, ◌↔◌, Option, Some, None, IsTrue}
 use Rattle.std.specs.Option.{option_map}
 use Rattle.mesh_atoms.specs.declared.addr.NetAddr.{NetAddr}
-use Rattle.mesh_codes.specs.declared.metric.Metric.{Metric}
+use Rattle.mesh_atoms.specs.declared.codes.metric.Metric.{Metric}
 use Rattle.mesh_atoms.specs.declared.hello.HelloRow.{HelloRow}
 use Rattle.mesh_packet.specs.Fields.{MessageFields}
 use Rattle.mesh_wire.specs.declared.collect.AddressParts.{AddressParts}

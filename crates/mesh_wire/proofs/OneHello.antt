@@ -16,7 +16,7 @@ use Rattle.mesh_atoms.specs.declared.hello.Mpr.{Mpr}
 use Rattle.mesh_atoms.specs.declared.hello.Willing.{Willing}
 use Rattle.mesh_atoms.specs.declared.hello.HelloRow.{HelloRow}
 use Rattle.mesh_atoms.specs.declared.hello.Hello.{Hello}
-use Rattle.mesh_codes.specs.declared.metric.Metric.{Metric}
+use Rattle.mesh_atoms.specs.declared.codes.metric.Metric.{Metric}
 use Rattle.mesh_atoms.specs.Writable.{IsAlone}
 use Rattle.mesh_wire.specs.Hello.{local_value, link_value, other_value, HasWilling, WillingIs, TellsOther, IsReadHelloRow, HelloIs}
 use Rattle.mesh_wire.specs.HelloRules.{BreaksHello, TwoValues, WrongMetric}

@@ -3,7 +3,7 @@ use Rattle.std.proofs.Common.{◌≡◌, ℕ, ◌<◌, ◌≤◌, ap, subst, ◌
 use Rattle.std.specs.Coded.{le_prop}
 use Rattle.mesh_atoms.specs.declared.addr.Addr4.{Addr4}
 use Rattle.mesh_atoms.specs.declared.hello.Willing.{Willing}
-use Rattle.mesh_codes.specs.declared.metric.Metric.{Metric}
+use Rattle.mesh_atoms.specs.declared.codes.metric.Metric.{Metric}
 
 pub same_addr : (a b : Addr4) → a.0 ≡ b.0 → a ≡ b
 same_addr a b e = ap (λ (n : ℕ). record { 0 = n }) e

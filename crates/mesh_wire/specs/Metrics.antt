@@ -1,7 +1,7 @@
 -- The metrics that a message shows of an address (RFC 7181, section 13.3.2).
 use Rattle.std.specs.Prelude.{◌≡◌, ℕ, ◌+◌, ◌*◌, ◌%◌, ◌⊎◌, ◌≢◌, [], ◌∷◌, Option, Some, None, true}
 use Rattle.mesh_atoms.specs.declared.addr.NetAddr.{NetAddr}
-use Rattle.mesh_codes.specs.declared.metric.Metric.{Metric}
+use Rattle.mesh_atoms.specs.declared.codes.metric.Metric.{Metric}
 use Rattle.mesh_atoms.specs.Reading.{has}
 use Rattle.mesh_wire.specs.Kinds.{link_metric}
 use Rattle.mesh_packet.specs.Fields.{MessageFields}

@@ -1,6 +1,6 @@
 -- The times that a message tells at a distance (RFC 5497, section 7).
 use Rattle.std.specs.Prelude.{◌≡◌, ℕ, ◌+◌, ◌%◌, ◌<◌, List, [], ◌∷◌, length, Option, Some, None}
-use Rattle.mesh_codes.specs.Codes.{time_at_distance}
+use Rattle.mesh_atoms.specs.Codes.Codes.{time_at_distance}
 use Rattle.mesh_wire.specs.Kinds.{interval_time, validity_time}
 use Rattle.mesh_packet.specs.Fields.{MessageFields}
 use Rattle.mesh_wire.specs.Parts.{values_of}

@@ -2,7 +2,7 @@
 ghost use Rattle.std.specs.Prelude.{◌≡◌, ◌≤◌, ◌++◌, [], ℕ, length, map, List, IfOk, OnOk};
 ghost use Rattle.std.specs.Option.{option_map};
 ghost use Rattle.mesh_tlv.specs.Fields.{fields};
-ghost use Rattle.mesh_codes.specs.Codes.{time_at_distance};
+ghost use Rattle.mesh_atoms.specs.Codes.Codes.{time_at_distance};
 ghost use Rattle.mesh_atoms.specs.Validity.{IsTimeValue};
 ghost use Rattle.mesh_atoms.specs.Writable.{IsSentTime, IsSentIfSome, HaveSenderAlone, HaveStatusWhole, AreOneType, HaveTypeWhole};
 ghost use Rattle.mesh_packet.specs.declared.packet.Span.{Span};

@@ -3,10 +3,10 @@ use Rattle.std.specs.Prelude.{◌≡◌, ◌≤◌, ℕ, List, [], ◌∷◌, co
 use Rattle.toml.specs.Data.{Data, Members}
 use Rattle.mesh_atoms.specs.declared.addr.Addr4.{Addr4}
 use Rattle.mesh_atoms.specs.declared.hello.Willing.{Willing}
-use Rattle.mesh_codes.specs.declared.metric.Metric.{Metric}
+use Rattle.mesh_atoms.specs.declared.codes.metric.Metric.{Metric}
 use Rattle.mesh_atoms.specs.declared.settings.Attached4.{Attached4}
 use Rattle.mesh_atoms.specs.declared.settings.NearHold.{NearHold}
-use Rattle.mesh_codes.specs.Codes.{metric_value}
+use Rattle.mesh_atoms.specs.Codes.Codes.{metric_value}
 use Rattle.mesh_atoms.specs.Literals.{name_of, address_of, net_of}
 use Rattle.mesh_config.specs.declared.stated.stated.StatedRouter.{StatedRouter}
 use Rattle.mesh_config.specs.declared.stated.stated.RouterHead.{RouterHead}

@@ -5,7 +5,7 @@ use Rattle.mesh_config.specs.declared.stated.stated.ArcNumbers.{ArcNumbers}
 use Rattle.mesh_config.specs.declared.stated.stated.Place.{Place}
 use Rattle.mesh_config.specs.declared.stated.stated.StatedArc.{StatedArc}
 use Rattle.mesh_config.specs.declared.stated.stated.StatedScenario.{StatedScenario}
-use Rattle.mesh_codes.specs.declared.metric.Metric.{Metric}
+use Rattle.mesh_atoms.specs.declared.codes.metric.Metric.{Metric}
 use Rattle.mesh_config.specs.Keys.Faults.{Read, Visits, visit, first, listed, then_turned}
 use Rattle.mesh_config.specs.Keys.Values.{optional, required, whole, text, array, array_or_none, unknown, is_one_of, ticks, table_read}
 use Rattle.mesh_atoms.specs.Literals.{place_of}

@@ -3,7 +3,7 @@ ghost use Rattle.std.specs.Prelude.{◌≡◌, ◌<◌, ◌≤◌, ◌+◌, ◌%
 ghost use Rattle.std.specs.List.{AllPairs};
 ghost use Rattle.mesh_atoms.specs.declared.tc.Tc.{Tc as TcValue};
 ghost use Rattle.mesh_atoms.specs.Advertised.{AreTcRows};
-ghost use Rattle.mesh_codes.specs.Codes.{time_at_distance};
+ghost use Rattle.mesh_atoms.specs.Codes.Codes.{time_at_distance};
 ghost use Rattle.mesh_atoms.specs.Nodes.{IsBefore};
 ghost use Rattle.mesh_atoms.specs.State.{State};
 ghost use Rattle.mesh_atoms.specs.Validity.{IsTimeValue};

@@ -1,9 +1,9 @@
 -- What a neighbour costs in the choice of relays.
 use Rattle.std.specs.Prelude.{◌≡◌, ℕ, ◌≤◌, List, Contains, Some}
 use Rattle.mesh_atoms.specs.declared.addr.Addr4.{Addr4}
-use Rattle.mesh_codes.specs.declared.metric.Metric.{Metric}
+use Rattle.mesh_atoms.specs.declared.codes.metric.Metric.{Metric}
 use Rattle.mesh_atoms.specs.declared.tuples.Neighbour.{Neighbour}
-use Rattle.mesh_codes.specs.Codes.{metric_value}
+use Rattle.mesh_atoms.specs.Codes.Codes.{metric_value}
 use Rattle.mesh_routes.specs.declared.hops.ways.Way.{Way}
 
 -- the neighbour has that metric to the router

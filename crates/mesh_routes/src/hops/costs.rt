@@ -1,7 +1,7 @@
 //! What a neighbour costs in the choice of relays.
 ghost use Rattle.std.specs.Prelude.{◌≡◌, ℕ, IfSome, IfNone, Option};
 ghost use Rattle.mesh_atoms.specs.declared.addr.Addr4.{Addr4};
-ghost use Rattle.mesh_codes.specs.declared.metric.Metric.{Metric};
+ghost use Rattle.mesh_atoms.specs.declared.codes.metric.Metric.{Metric};
 ghost use Rattle.mesh_atoms.specs.declared.tuples.Neighbour.{Neighbour};
 ghost use Rattle.mesh_atoms.specs.declared.tuples.TwoHop.{TwoHop};
 

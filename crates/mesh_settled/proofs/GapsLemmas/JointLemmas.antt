@@ -7,7 +7,7 @@ use Rattle.std.proofs.lemmas.Option.{slice_get-map, none-some, slice_get_read, s
 use Rattle.mesh_atoms.specs.declared.addr.Addr4.{Addr4}
 use Rattle.mesh_atoms.specs.declared.graphs.Pair.{Pair}
 use Rattle.mesh_atoms.specs.declared.graphs.RadioGraph.{RadioGraph}
-use Rattle.mesh_codes.specs.declared.metric.Metric.{Metric}
+use Rattle.mesh_atoms.specs.declared.codes.metric.Metric.{Metric}
 use Rattle.mesh_atoms.specs.declared.settings.Interface.{Interface}
 use Rattle.mesh_atoms.specs.declared.settings.RouterSettings.{RouterSettings}
 use Rattle.mesh_atoms.specs.declared.settings.Scenario.{Scenario}

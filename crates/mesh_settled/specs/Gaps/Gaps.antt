@@ -1,6 +1,6 @@
 -- Gaps: the keys at which a router holds something else than the network has at present.
 use Rattle.std.specs.Prelude.{◌≡◌, ℕ, ◌<◌, ◌⊎◌, List, Option, Some, None, Bool, nat_lt, nat_eq, ◌&&◌, ◌||◌, IsTrue}
-use Rattle.mesh_codes.specs.declared.metric.Metric.{Metric}
+use Rattle.mesh_atoms.specs.declared.codes.metric.Metric.{Metric}
 use Rattle.mesh_atoms.specs.declared.tuples.Link.{Link as LinkTuple}
 use Rattle.mesh_atoms.specs.declared.tuples.Neighbour.{Neighbour as NeighbourTuple}
 use Rattle.mesh_atoms.specs.declared.tuples.TwoHop.{TwoHop as TwoHopTuple}

@@ -1,8 +1,8 @@
 -- The least metric of pairs.
 use Rattle.std.specs.Prelude.{◌≡◌, ℕ, ◌<◌, ◌≤◌, List, Option, Some, None, cond, nat_eq, nat_lt, ◌&&◌, slice_get}
 use Rattle.mesh_atoms.specs.declared.graphs.Pair.{Pair}
-use Rattle.mesh_codes.specs.declared.metric.Metric.{Metric}
-use Rattle.mesh_codes.specs.Codes.{metric_value}
+use Rattle.mesh_atoms.specs.declared.codes.metric.Metric.{Metric}
+use Rattle.mesh_atoms.specs.Codes.Codes.{metric_value}
 
 -- the lesser of the two metrics; the second where there is no first
 abbrev pub less : Option Metric → Metric → Option Metric

@@ -2,7 +2,7 @@
 use Rattle.std.specs.Prelude.{◌≡◌, ◌↔◌, ◌<◌, ℕ, List, Option, Some, None, true, cond, IsTrue, slice_get, length}
 use Rattle.std.specs.Borrow.{Bor}
 use Rattle.mesh_atoms.specs.declared.addr.Addr4.{Addr4}
-use Rattle.mesh_codes.specs.declared.metric.Metric.{Metric}
+use Rattle.mesh_atoms.specs.declared.codes.metric.Metric.{Metric}
 use Rattle.mesh_atoms.specs.declared.tuples.Neighbour.{Neighbour}
 use Rattle.mesh_atoms.specs.Hello.{Says, Routing}
 use Rattle.mesh_atoms.specs.Radio.{IsMetric}

@@ -10,16 +10,16 @@ use Rattle.std.proofs.lemmas.Bool.{cases_Bool, eq-eqb}
 use Rattle.std.proofs.lemmas.Map.Views.{btree_map_get_iff}
 use Rattle.mesh_atoms.specs.declared.addr.Addr4.{Addr4}
 use Rattle.mesh_atoms.specs.declared.addr.NetAddr.{NetAddr}
-use Rattle.mesh_codes.specs.declared.metric.Metric.{Metric}
+use Rattle.mesh_atoms.specs.declared.codes.metric.Metric.{Metric}
 use Rattle.mesh_atoms.specs.declared.settings.Attached4.{Attached4}
 use Rattle.mesh_atoms.specs.declared.tc.TcRow.{TcRow}
 use Rattle.mesh_atoms.specs.Advertised.{Gives, AdvertisesBy, AdvertisesOriginatorBy, IsRowBy, Of_address, Of_network, AreRowsBy, AreTcRows}
 use Rattle.mesh_atoms.specs.Base.{host, net_eq}
-use Rattle.mesh_codes.specs.Codes.{metric_value}
+use Rattle.mesh_atoms.specs.Codes.Codes.{metric_value}
 use Rattle.mesh_atoms.specs.Settings.{are_distinct}
 use Rattle.mesh_atoms.specs.State.{State, HasSymmetric}
 use Rattle.mesh_atoms.proofs.Kept.{both}
-use Rattle.mesh_codes.proofs.CodeLaws.{cost-injective}
+use Rattle.mesh_atoms.proofs.CodesLemmas.CodeLaws.{cost-injective}
 use Rattle.mesh_topo.specs.declared.advertised.rows.Offer.{Offer}
 use Rattle.mesh_topo.specs.declared.advertised.rows.Selector.{Selector}
 use Rattle.mesh_atoms.specs.Nodes.{net_cmp}

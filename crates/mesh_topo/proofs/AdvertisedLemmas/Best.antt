@@ -4,9 +4,9 @@ use Rattle.std.specs.Prelude.{Contains, IsTrue, is_some, nat_lt, ◌||◌}
 use Rattle.std.specs.Ordering.{is_eq}
 use Rattle.std.proofs.lemmas.Bool.{ltb-true, ltb-false}
 use Rattle.mesh_atoms.specs.declared.addr.NetAddr.{NetAddr}
-use Rattle.mesh_codes.specs.declared.metric.Metric.{Metric}
-use Rattle.mesh_codes.specs.Codes.{metric_value}
-use Rattle.mesh_codes.proofs.CodeLaws.{cost-le}
+use Rattle.mesh_atoms.specs.declared.codes.metric.Metric.{Metric}
+use Rattle.mesh_atoms.specs.Codes.Codes.{metric_value}
+use Rattle.mesh_atoms.proofs.CodesLemmas.CodeLaws.{cost-le}
 use Rattle.mesh_topo.specs.declared.advertised.rows.Offer.{Offer}
 use Rattle.mesh_atoms.specs.Nodes.{net_cmp}
 use Rattle.mesh_topo.specs.Advertised.Offers.{lesser, put_offer, offered}

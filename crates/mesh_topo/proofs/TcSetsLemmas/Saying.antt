@@ -1,7 +1,7 @@
 -- Whether two tuples say the same.
 use Rattle.std.proofs.Common.{◌≡◌, eqb, eq-eqb, ap, Decides}
 use Rattle.std.proofs.lemmas.Bool.{eqb-true}
-use Rattle.mesh_codes.specs.declared.metric.Metric.{Metric}
+use Rattle.mesh_atoms.specs.declared.codes.metric.Metric.{Metric}
 use Rattle.mesh_atoms.proofs.Rows.{same_metric}
 
 -- beside the same distance, or none, it is as their metrics are

@@ -1,7 +1,7 @@
 -- The neighbours that have chosen a router as a routing relay.
 use Rattle.std.specs.Prelude.{◌≡◌, ◌⊎◌, ◌↔◌, List, Contains, Some, IsTrue}
 use Rattle.mesh_atoms.specs.declared.addr.Addr4.{Addr4}
-use Rattle.mesh_codes.specs.declared.metric.Metric.{Metric}
+use Rattle.mesh_atoms.specs.declared.codes.metric.Metric.{Metric}
 use Rattle.mesh_atoms.specs.declared.tuples.Neighbour.{Neighbour}
 use Rattle.mesh_atoms.specs.State.{State, HasSymmetric}
 use Rattle.mesh_topo.specs.declared.advertised.rows.Selector.{Selector}

@@ -1,6 +1,6 @@
 -- What tuples say stays the same.
 use Rattle.std.specs.Prelude.{◌≡◌, ℕ, Option, Bool, option_map}
-use Rattle.mesh_codes.specs.declared.metric.Metric.{Metric}
+use Rattle.mesh_atoms.specs.declared.codes.metric.Metric.{Metric}
 use Rattle.mesh_atoms.specs.Base.{Base, find}
 
 -- at each key a tuple that says the same stands as before, or none does as before

@@ -2,7 +2,7 @@
 ghost use Rattle.std.specs.Prelude.{◌≡◌, ◌≤◌, ◌↔◌, ℕ, Option, Some, IsTrue, false};
 ghost use Rattle.std.specs.Ordering.{is_gt};
 ghost use Rattle.mesh_atoms.specs.declared.addr.Addr4.{Addr4};
-ghost use Rattle.mesh_codes.specs.declared.metric.Metric.{Metric};
+ghost use Rattle.mesh_atoms.specs.declared.codes.metric.Metric.{Metric};
 ghost use Rattle.mesh_atoms.specs.declared.tc.TcRow.{TcRow};
 
 use mesh_atoms::{

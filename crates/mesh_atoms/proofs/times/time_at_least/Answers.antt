@@ -1,6 +1,6 @@
 use Rattle.std.proofs.Common.{◌<◌, refl, sym, arith}
-use Rattle.mesh_codes.specs.Codes.{IsSentCode, time_value}
-use Rattle.mesh_codes.proofs.CodeLaws.{time-le}
+use Rattle.mesh_atoms.specs.Codes.Codes.{IsSentCode, time_value}
+use Rattle.mesh_atoms.proofs.CodesLemmas.CodeLaws.{time-le}
 use Rattle.mesh_atoms.proofs.times.time_at_least.Goals as goal
 
 pub returns-in-Some : goal.returns-in-Some

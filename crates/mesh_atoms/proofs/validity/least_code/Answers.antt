@@ -1,5 +1,5 @@
 use Rattle.std.proofs.Common.{◌<◌, refl, arith}
-use Rattle.mesh_codes.specs.Codes.{IsSentCode, time_value}
+use Rattle.mesh_atoms.specs.Codes.Codes.{IsSentCode, time_value}
 use Rattle.mesh_atoms.proofs.validity.least_code.Goals as goal
 
 pub returns-in-None : goal.returns-in-None

@@ -1,6 +1,6 @@
 use Rattle.std.proofs.Common.{ℕ, ◌≤◌, sym, ap, subst, ◌∙◌}
-use Rattle.mesh_codes.specs.Codes.{time_value, IsSentCode}
-use Rattle.mesh_codes.proofs.CodeLaws.{time_again}
+use Rattle.mesh_atoms.specs.Codes.Codes.{time_value, IsSentCode}
+use Rattle.mesh_atoms.proofs.CodesLemmas.CodeLaws.{time_again}
 use Rattle.mesh_wire.proofs.write.code_of.Goals as goal
 
 pub returns : goal.returns

@@ -1,6 +1,6 @@
 use Rattle.std.proofs.Common.{◌≡◌, ℕ, Option, Some, refl, sym}
-use Rattle.mesh_codes.specs.declared.metric.Metric.{Metric}
-use Rattle.mesh_codes.specs.Codes.{metric_value}
+use Rattle.mesh_atoms.specs.declared.codes.metric.Metric.{Metric}
+use Rattle.mesh_atoms.specs.Codes.Codes.{metric_value}
 use Rattle.mesh_atoms.specs.declared.tuples.LinkKey.{LinkKey}
 use Rattle.mesh_routes.specs.declared.hops.owners.Owner.{Owner}
 use Rattle.mesh_routes.specs.Hops.Owners.{owner_at}

@@ -1,6 +1,6 @@
 use Rattle.std.proofs.Common.{◌≡◌, ℕ, ◌∙◌, Option, Some, None, sym, ap}
-use Rattle.mesh_codes.specs.declared.metric.Metric.{Metric}
-use Rattle.mesh_codes.specs.Codes.{metric_value}
+use Rattle.mesh_atoms.specs.declared.codes.metric.Metric.{Metric}
+use Rattle.mesh_atoms.specs.Codes.Codes.{metric_value}
 use Rattle.mesh_routes.proofs.HopsLemmas.LeastCosts.{if_none_given}
 use Rattle.mesh_routes.proofs.hops.costs.RoutingPurpose.cost_of.Goals as goal
 

@@ -1,6 +1,6 @@
 use Rattle.std.proofs.Common.{◌≡◌, Option, Some, ℕ, sym, ap, ◌∙◌, eq-eqb}
 use Rattle.std.proofs.lemmas.Bool.{eqb-true}
-use Rattle.mesh_codes.specs.declared.metric.Metric.{Metric}
+use Rattle.mesh_atoms.specs.declared.codes.metric.Metric.{Metric}
 use Rattle.mesh_topo.proofs.TcSetsLemmas.Saying.{says_same}
 use Rattle.mesh_topo.proofs.tc_sets.tuple.NetworkTupleTupleNetworkKey.says_as.Goals as goal
 

@@ -2,8 +2,8 @@
 use Rattle.std.proofs.Common.{◌≡◌, ℕ, ◌+◌, ◌*◌, ◌%◌, ◌^◌, ◌/◌, min, ◌∙◌, ap, inl, inr, arith}
 use Rattle.std.proofs.lemmas.Nat.{pow_pos, one_shl}
 use Rattle.std.proofs.lemmas.Bool.{cases_lt}
-use Rattle.mesh_codes.proofs.CodeLaws.{ceil_reaches, ceil_least, rounded_least}
-use Rattle.mesh_codes.proofs.codes.rounded_up.Goals as goal
+use Rattle.mesh_atoms.proofs.CodesLemmas.CodeLaws.{ceil_reaches, ceil_least, rounded_least}
+use Rattle.mesh_atoms.proofs.codes.codes.rounded_up.Goals as goal
 
 -- the quotient, rounded up
 ceil : (n d e q : ℕ) → d ≡ 2 ^ e → q ≡ n / d + min 1 (n % d) → q ≡ n / 2 ^ e + min 1 (n % 2 ^ e)

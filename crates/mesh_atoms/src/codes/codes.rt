@@ -1,6 +1,6 @@
 //! Time codes, and the order of sequence numbers.
 ghost use Rattle.std.specs.Prelude.{◌≡◌, ℕ, ◌+◌, ◌*◌, ◌%◌, ◌^◌, ◌<◌, ◌≤◌, ◌⊎◌, ◌↔◌, length, IsTrue, IsSome, IfSome, IsNone};
-ghost use Rattle.mesh_codes.specs.Codes.{time_value, time_at_distance, IsSentCode, Newer};
+ghost use Rattle.mesh_atoms.specs.Codes.Codes.{time_value, time_at_distance, IsSentCode, Newer};
 
 /// The ticks of 1/8192 s that a time code stands for (RFC 5497, section 5); 0 for code 0.
 pub fn time_of(code: u8) -> u64

@@ -5,8 +5,8 @@ use Rattle.std.proofs.Math.Pow.{pow_mono}
 use Rattle.std.proofs.lemmas.Nat.{pow_pos}
 use Rattle.std.proofs.lemmas.Bool.{cases_order, cases_lt, lt-ltb, ne_eqb}
 use Rattle.std.proofs.lemmas.Grind.{div_ceil_times}
-use Rattle.mesh_codes.specs.declared.metric.Metric.{Metric}
-use Rattle.mesh_codes.specs.Codes.{cost_of, metric_value, time_value, IsSentCode, time_at_distance}
+use Rattle.mesh_atoms.specs.declared.codes.metric.Metric.{Metric}
+use Rattle.mesh_atoms.specs.Codes.Codes.{cost_of, metric_value, time_value, IsSentCode, time_at_distance}
 
 -- ---- mantissas and exponents
 

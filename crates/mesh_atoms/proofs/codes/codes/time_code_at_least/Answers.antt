@@ -1,8 +1,8 @@
 -- Code 254 bounds the times, and rounding up stays at or below it.
 use Rattle.std.proofs.Common.{◌<◌, inl, inr, refl, arith}
-use Rattle.mesh_codes.specs.Codes.{time_value}
-use Rattle.mesh_codes.proofs.CodeLaws.{sent_most}
-use Rattle.mesh_codes.proofs.codes.time_code_at_least.Goals as goal
+use Rattle.mesh_atoms.specs.Codes.Codes.{time_value}
+use Rattle.mesh_atoms.proofs.CodesLemmas.CodeLaws.{sent_most}
+use Rattle.mesh_atoms.proofs.codes.codes.time_code_at_least.Goals as goal
 
 pub returns-then-ticks-clause-none : goal.returns-then-ticks-clause-none
 returns-then-ticks-clause-none c = (λ none code sent. omega (arith, sent_most code sent), λ all. refl)

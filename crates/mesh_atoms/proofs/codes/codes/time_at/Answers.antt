@@ -1,8 +1,8 @@
 -- Two octets further, the pair before did not reach.
 use Rattle.std.proofs.Common.{◌≡◌, ℕ, ◌+◌, ◌*◌, drop, subst, ◌∙◌, arith}
-use Rattle.mesh_codes.specs.Codes.{time_at_distance}
-use Rattle.mesh_codes.proofs.CodeLaws.{time_further}
-use Rattle.mesh_codes.proofs.codes.time_at.Goals as goal
+use Rattle.mesh_atoms.specs.Codes.Codes.{time_at_distance}
+use Rattle.mesh_atoms.proofs.CodesLemmas.CodeLaws.{time_further}
+use Rattle.mesh_atoms.proofs.codes.codes.time_at.Goals as goal
 
 pub loop-pair-preserved : goal.loop-pair-preserved
 loop-pair-preserved c =

@@ -1,7 +1,7 @@
 //! Link metrics.
 ghost use Rattle.std.specs.Prelude.{◌<◌};
 
-use crate::codes::rounded_up;
+use crate::codes::codes::rounded_up;
 
 /// A link metric by its 12-bit code; the cost that the code stands for is 1 to 16,776,960 (RFC 7181, section 6.2). A
 /// greater code stands for a greater cost.
@@ -13,7 +13,7 @@ pub struct Metric {
 
 impl Metric {
     ghost use Rattle.std.specs.Prelude.{◌≡◌, ◌<◌, ◌≤◌, ◌↔◌, IsNone, IfSome};
-    ghost use Rattle.mesh_codes.specs.Codes.{metric_value};
+    ghost use Rattle.mesh_atoms.specs.Codes.Codes.{metric_value};
 
     /// The metric of a code; `None` exactly where the code has more than 12 bits.
     pub fn of_code(code: u16) -> Option<Metric>

@@ -1,6 +1,6 @@
 use Rattle.std.proofs.Common.{◌≡◌, ◌*◌, drop}
-use Rattle.mesh_codes.specs.Codes.{time_at_distance}
-use Rattle.mesh_codes.proofs.codes.time_at.Given as goal
+use Rattle.mesh_atoms.specs.Codes.Codes.{time_at_distance}
+use Rattle.mesh_atoms.proofs.codes.codes.time_at.Given as goal
 
 abbrev pub invariant-loop-pair : goal.invariant-loop-pair
 invariant-loop-pair l = time_at_distance l.distance l.value ≡ time_at_distance l.distance (drop (2 * l.pair) l.value)

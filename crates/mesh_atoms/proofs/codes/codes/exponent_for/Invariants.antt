@@ -1,5 +1,5 @@
 use Rattle.std.proofs.Common.{ℕ, ◌*◌, ◌^◌, ◌<◌}
-use Rattle.mesh_codes.proofs.codes.exponent_for.Given as goal
+use Rattle.mesh_atoms.proofs.codes.codes.exponent_for.Given as goal
 
 abbrev pub invariant-loop-exponent : goal.invariant-loop-exponent
 invariant-loop-exponent l = (k : ℕ) → k < l.exponent → l.top * 2 ^ k < l.value

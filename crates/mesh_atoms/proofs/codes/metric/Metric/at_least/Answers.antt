@@ -1,6 +1,6 @@
 -- A mantissa of 512 reaches each cost in range at exponent 15.
 use Rattle.std.proofs.Common.{inl, inr, arith}
-use Rattle.mesh_codes.proofs.metric.Metric.at_least.Goals as goal
+use Rattle.mesh_atoms.proofs.codes.metric.Metric.at_least.Goals as goal
 
 pub invariant_of-result : goal.invariant_of-result
 invariant_of-result c = record {

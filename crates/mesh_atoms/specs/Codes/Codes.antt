@@ -1,6 +1,6 @@
 -- Times, metrics and sequence numbers by their codes.
 use Rattle.std.specs.Prelude.{ℕ, ◌+◌, ◌-◌, ◌*◌, ◌/◌, ◌%◌, ◌^◌, ◌<◌, ◌≤◌, ◌⊎◌, List, [], ◌∷◌, ◌==◌, nat_lt, if◌then◌else◌}
-use Rattle.mesh_codes.specs.declared.metric.Metric.{Metric}
+use Rattle.mesh_atoms.specs.declared.codes.metric.Metric.{Metric}
 
 -- the cost that a metric code stands for (RFC 7181, section 6.2)
 abbrev pub cost_of : ℕ → ℕ
