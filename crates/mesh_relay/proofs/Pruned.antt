@@ -10,12 +10,12 @@ use Rattle.mesh_atoms.specs.declared.graphs.NeighbourGraph.{NeighbourGraph}
 use Rattle.mesh_atoms.specs.Relays.{Offers, IsWilling, IsRelay, IsOtherRelay, IsAsCheap, Covers, Needed, HasDistinctIds}
 use Rattle.mesh_relay.specs.declared.ways.Way.{Way}
 use Rattle.mesh_relay.specs.Ways.{AreWilling, IsAt, AreWays}
-use Rattle.mesh_relay.specs.Taken.{ids_of, IsTaken, reaches, IsPruned}
+use Rattle.mesh_relay.specs.Taken.{ids_of, IsTaken, reaches, IsDearer, IsPruned}
 use Rattle.mesh_relay.proofs.Taken.{taken_of, id_taken, taken_at, HasAlways, covers_taken, dearer_somewhere}
 
 -- Smaller sets
 
-offers_more : (g : NeighbourGraph) (A B : Near → Type 0) (y : Addr4) (c : ℕ) → ((n : Near) → A n → B n) → Offers g A y c → Offers g B y c
+pub offers_more : (g : NeighbourGraph) (A B : Near → Type 0) (y : Addr4) (c : ℕ) → ((n : Near) → A n → B n) → Offers g A y c → Offers g B y c
 offers_more g A B y c within o = elim o [
   | inl d ↦ inl d
   | inr w ↦ inr (w.0, w.1, within w.0 w.2, w.3, w.4, w.5, w.6, w.7)
@@ -30,7 +30,7 @@ dear_for_less g A B within h = (h.0, h.1, λ cheap. h.2 (λ c o. let w = cheap c
 
 -- Flags that are cleared
 
-not_taken : (ts : List Bool) (place : ℕ) → place < length ts → IsTaken (set ts place false) place → ⊥
+pub not_taken : (ts : List Bool) (place : ℕ) → place < length ts → IsTaken (set ts place false) place → ⊥
 not_taken ts place lt e = false≢true (sym (get_or-set_same ts place false false lt) ∙ e)
 
 still_taken : (ts : List Bool) (place k : ℕ) → k ≢ place → IsTaken ts k → IsTaken (set ts place false) k
@@ -40,13 +40,13 @@ was_taken : (ts : List Bool) (place k : ℕ) → k ≢ place → IsTaken (set ts
 was_taken ts place k other e = sym (get_or-set_other ts place k false false other) ∙ e
 
 -- an id that is left is another one, and was there before
-left_before : (willing : List Near) (ts : List Bool) (place : ℕ) (id : Addr4) → place < length ts → Contains (ids_of willing (set ts place false)) id → Contains (ids_of willing ts) id
+pub left_before : (willing : List Near) (ts : List Bool) (place : ℕ) (id : Addr4) → place < length ts → Contains (ids_of willing (set ts place false)) id → Contains (ids_of willing ts) id
 left_before willing ts place id lt w =
     let h = taken_of willing (set ts place false) id w in
     let other : h.place ≢ place = λ e. not_taken ts place lt (subst (IsTaken (set ts place false)) e h.taken) in
     subst (Contains (ids_of willing ts)) h.is (id_taken willing ts h.place h.near h.at (was_taken ts place h.place other h.taken))
 
-same_near : (ns : List Near) (k : ℕ) (m m' : Near) → IsAt ns k m → IsAt ns k m' → m ≡ m'
+pub same_near : (ns : List Near) (k : ℕ) (m m' : Near) → IsAt ns k m → IsAt ns k m' → m ≡ m'
 same_near ns k m m' a b = sym a.1 ∙ (get_or_default ns k m m' a.0 ∙ b.1)
 
 others_left : (willing : List Near) (ts : List Bool) (place : ℕ) (n : Near) (id : Addr4) → IsAt willing place n → Contains (ids_of willing ts) id → id ≢ n.id →
@@ -80,7 +80,7 @@ kept_as_is g willing ts place h none = record {
   ];
 }
 
-always_taken : (g : NeighbourGraph) (willing : List Near) (ts : List Bool) → AreWilling g willing → Covers g (ids_of willing ts) → HasAlways willing ts
+pub always_taken : (g : NeighbourGraph) (willing : List Near) (ts : List Bool) → AreWilling g willing → Covers g (ids_of willing ts) → HasAlways willing ts
 always_taken g willing ts are covers k n at e =
     taken_at g willing ts k n are at (covers.always n ((are.each n).0 (k, at.0, at.1)).0 e)
 
@@ -122,6 +122,13 @@ left_in g willing ways ts place distinct are are-ways h none = record {
     | inr lt ↦ h.needed k n lt at taken below
   ];
 }
+
+pub dearer_without : (g : NeighbourGraph) (willing : List Near) (ways : List Way) (ts : List Bool) (place : ℕ) (n : Near) → HasDistinctIds g → AreWilling g willing → AreWays g willing ways →
+    IsAt willing place n → reaches ways (set ts place false) ≡ false → IsDearer g (ids_of willing ts) n.id
+dearer_without g willing ways ts place n distinct are are-ways here none =
+    dear_for_less g (IsOtherRelay (ids_of willing ts) n.id) (IsRelay (ids_of willing (set ts place false)))
+    (λ x w. others_left willing ts place n x.id here w.0 w.1)
+    (dearer_somewhere g willing ways (set ts place false) distinct are are-ways none)
 
 pub finish : (g : NeighbourGraph) (willing : List Near) (ts : List Bool) → AreWilling g willing → IsPruned g willing ts 0 → Needed g (ids_of willing ts)
 finish g willing ts are h = record {

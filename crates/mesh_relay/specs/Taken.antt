@@ -18,10 +18,6 @@ ids_of (n ∷ ns) (t ∷ ts) = cond t (n.id ∷ ids_of ns ts) (ids_of ns ts)
 abbrev pub IsTaken : List Bool → ℕ → Type 0
 IsTaken taken place = slice_index_or taken place false ≡ true
 
--- each neighbour is taken
-abbrev pub AreAllTaken : List Bool → Type 0
-AreAllTaken taken = (k : ℕ) → k < length taken → IsTaken taken k
-
 -- the neighbour at that place isn't taken
 abbrev pub IsFree : List Bool → ℕ → Type 0
 IsFree taken place = (place < length taken) × (slice_index_or taken place false ≡ false)

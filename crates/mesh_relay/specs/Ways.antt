@@ -1,5 +1,5 @@
 -- The cheapest ways to the addresses that need a relay.
-use Rattle.std.specs.Prelude.{◌≡◌, ℕ, ◌+◌, ◌≤◌, ◌<◌, ◌⊎◌, Bool, true, ◌&&◌, ◌||◌, cond, nat_eq, nat_lt, nat_le, List, [], ◌∷◌, Contains, AllPairs, ◌↔◌, Option, Some, None, length, slice_index_or}
+use Rattle.std.specs.Prelude.{◌≡◌, ℕ, ◌+◌, ◌≤◌, ◌<◌, ◌⊎◌, Bool, true, false, ◌&&◌, ◌||◌, cond, nat_eq, nat_lt, nat_le, List, [], ◌∷◌, Contains, AllPairs, ◌↔◌, Option, Some, None, length, slice_index_or}
 use Rattle.mesh_atoms.specs.declared.addr.Addr4.{Addr4}
 use Rattle.mesh_atoms.specs.declared.graphs.Near.{Near}
 use Rattle.mesh_atoms.specs.declared.graphs.Direct.{Direct}
@@ -74,6 +74,11 @@ IsSought willing s = s.found ≡ near_from 0 willing s.via
 -- the direct entry offers the address at no more than that
 abbrev pub is_offer : Addr4 → ℕ → Direct → Bool
 is_offer y most d = addr_eq d.addr y && nat_le d.cost most
+
+-- one of the first direct entries, those of that address, costs no more than that
+abbrev pub is_first_within : Addr4 → ℕ → List Direct → Bool
+is_first_within y most [] = false
+is_first_within y most (d ∷ ds) = cond (addr_eq d.addr y) (nat_le d.cost most || is_first_within y most ds) false
 
 -- of ways in order, the next one is dearer than the last one to its address, or by the same neighbour
 abbrev pub adds_nothing : Way → Way → Bool

@@ -5,8 +5,9 @@ ghost use Rattle.mesh_atoms.specs.Words.{IsAscending};
 ghost use Rattle.mesh_relay.specs.Ways.{AreWilling, AreWays};
 ghost use Rattle.mesh_relay.specs.Taken.{ids_of};
 
-use crate::greedy::take_greedily;
+use crate::greedy::choose_greedily;
 use crate::prune::prune;
+use crate::soles::is_choice;
 use crate::ways::{Way, ways_of, willing_of};
 use mesh_atoms::{Addr4, Near, NeighbourGraph, Seq};
 use std::alloc::{AllocError, Global};
@@ -67,41 +68,45 @@ fn take_all(
     all_flags(alloc, willing)
 }
 
-/// Flags by which neighbours are taken before any is left out.
-fn take_first(
+/// All willing neighbours, without those that the others make up for.
+fn drop_from_all(
     alloc: Global,
     graph: &NeighbourGraph,
     willing: &[Near],
     ways: &[Way],
-    greedily: bool,
-) -> Result<Vec<bool>, AllocError>
+) -> Result<Seq<Addr4>, AllocError>
+    requires distinct { HasDistinctIds graph.now }
     requires willing { AreWilling graph.now willing.now }
     requires ways { AreWays graph.now willing.now ways.now }
-    ensures length { IfOk result (λ taken. length taken.items ≡ length willing.now) }
-    ensures covers { IfOk result (λ taken. Covers graph.now (ids_of willing.now taken.items)) }
-{
-    if greedily {
-        take_greedily(alloc, graph, willing, ways)
-    } else {
-        take_all(alloc, graph, willing, ways)
-    }
-}
-
-/// Takes neighbours, and leaves out those that the others make up for.
-fn choose_from(
-    alloc: Global,
-    graph: &NeighbourGraph,
-    greedily: bool,
-) -> Result<Seq<Addr4>, AllocError>
-    requires { HasDistinctIds graph.now }
     ensures covers { IfOk result (Covers graph.now) }
     ensures needed { IfOk result (Needed graph.now) }
     ensures order { IfOk result IsAscending }
 {
-    let willing = willing_of(alloc, graph)?;
-    let ways = ways_of(alloc, graph, &willing)?;
-    let mut taken = take_first(alloc, graph, &willing, &ways, greedily)?;
-    reduced(alloc, graph, &willing, &ways, &mut taken)
+    let mut taken = take_all(alloc, graph, willing, ways)?;
+    reduced(alloc, graph, willing, ways, &mut taken)
+}
+
+/// The ids of those taken, where they cover and each of them is needed; or else a choice by dropping.
+fn checked(
+    alloc: Global,
+    graph: &NeighbourGraph,
+    willing: &[Near],
+    ways: &[Way],
+    taken: &[bool],
+) -> Result<Seq<Addr4>, AllocError>
+    requires distinct { HasDistinctIds graph.now }
+    requires willing { AreWilling graph.now willing.now }
+    requires ways { AreWays graph.now willing.now ways.now }
+    requires length { length taken.now ≡ length willing.now }
+    ensures covers { IfOk result (Covers graph.now) }
+    ensures needed { IfOk result (Needed graph.now) }
+    ensures order { IfOk result IsAscending }
+{
+    if is_choice(alloc, graph, willing, ways, taken)? {
+        ids_of(alloc, willing, taken)
+    } else {
+        drop_from_all(alloc, graph, willing, ways)
+    }
 }
 
 /// Relays for the graph (RFC 7181, sections 18.3 and 18.6): ids in ascending order that cover, each of which is needed. All willing
@@ -113,20 +118,25 @@ pub fn choose_by_dropping(alloc: Global, graph: &NeighbourGraph) -> Result<Seq<A
     ensures needed { IfOk result (Needed graph.now) }
     ensures order { IfOk result IsAscending }
 {
-    choose_from(alloc, graph, false)
+    let willing = willing_of(alloc, graph)?;
+    let ways = ways_of(alloc, graph, &willing)?;
+    drop_from_all(alloc, graph, &willing, &ways)
 }
 
 /// Relays for the graph (RFC 7181, sections 18.3 and 18.6): ids in ascending order that cover, each of which is needed. The
 /// neighbours of willingness 15 are taken first, then again and again the one by which most addresses come to be reached
 /// at their least cost, the least id among equals; then those that the others make up for are left out, the greatest id
-/// first. The order of the graph's lists has no say. Takes about as many steps as there are neighbours times `far`
-/// entries, or as there are `far` entries where direct ones are as cheap and those by one neighbour stand side by side in
-/// ascending order of address. Ids must be distinct. Only want of memory refuses.
+/// first. The order of the graph's lists has no say. The choice is checked before it is told; were it refused, it would be one
+/// by dropping. Takes about n log n steps for n `far` entries, where those by one neighbour stand side by side, and as many as the square of the
+/// number of neighbours. Ids must be distinct. Only want of memory refuses.
 pub fn choose(alloc: Global, graph: &NeighbourGraph) -> Result<Seq<Addr4>, AllocError>
     requires { HasDistinctIds graph.now }
     ensures covers { IfOk result (Covers graph.now) }
     ensures needed { IfOk result (Needed graph.now) }
     ensures order { IfOk result IsAscending }
 {
-    choose_from(alloc, graph, true)
+    let willing = willing_of(alloc, graph)?;
+    let ways = ways_of(alloc, graph, &willing)?;
+    let taken = choose_greedily(alloc, &willing, &ways)?;
+    checked(alloc, graph, &willing, &ways, &taken)
 }

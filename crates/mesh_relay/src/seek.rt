@@ -1,8 +1,9 @@
-//! Look-ups for one far entry after the other. Entries by one neighbour mostly stand side by side, in ascending order of
-//! address, so each look-up begins where the last one ended.
-ghost use Rattle.std.specs.Prelude.{◌≡◌, IfOk, is_some, IsPermutation};
+//! Look-ups for one far entry after the other. Entries by one neighbour mostly stand side by side, so that what was found for the
+//! last one is kept.
+ghost use Rattle.std.specs.Prelude.{◌≡◌, ◌≤◌, nat_lt, true, false, IsTrue, IfOk, length, IsPermutation};
+ghost use Rattle.std.specs.List.Sorted.{IsNonDecreasingBy, IsPartitionPoint};
 ghost use Rattle.std.specs.List.{list_any};
-ghost use Rattle.mesh_relay.specs.Ways.{near_from, is_offer, IsSought};
+ghost use Rattle.mesh_relay.specs.Ways.{near_from, is_offer, is_first_within, IsSought};
 
 use mesh_atoms::{Addr4, Direct, Near, NeighbourGraph};
 use std::alloc::{AllocError, Global};
@@ -23,54 +24,68 @@ fn copied(alloc: Global, graph: &NeighbourGraph) -> Result<Vec<Direct>, AllocErr
 
 /// The direct entries in ascending order of address.
 pub fn directs_of(alloc: Global, graph: &NeighbourGraph) -> Result<Vec<Direct>, AllocError>
-    ensures { IfOk result (λ directs. IsPermutation graph.now.direct directs.items) }
+    ensures same { IfOk result (λ directs. IsPermutation graph.now.direct directs.items) }
+    ensures order { IfOk result (λ directs. IsNonDecreasingBy (λ d. d.addr.0) directs.items) }
 {
     let mut directs = copied(alloc, graph)?;
     directs.sort_unstable_by_key(|direct| direct.addr.0);
     Ok(directs)
 }
 
-/// Whether the direct entry offers the address at no more than `most`.
-fn is_offer(direct: Direct, addr: Addr4, most: u64) -> bool
-    ensures { result ≡ is_offer addr most direct }
+/// Where the direct entries of no lower address begin.
+fn first_direct(directs: &[Direct], addr: Addr4) -> usize
+    requires { IsNonDecreasingBy (λ d. d.addr.0) directs.now }
+    ensures within { result ≤ length directs.now }
+    ensures point { IsPartitionPoint (λ d. nat_lt d.addr.0 addr.0 ≡ true) (λ d. nat_lt d.addr.0 addr.0 ≡ false) directs.now result }
 {
-    direct.addr.0 == addr.0 && u64::from(direct.cost) <= most
+    directs.partition_point(|direct| direct.addr.0 < addr.0)
 }
 
-/// The place of the first direct entry that offers the address at no more than `most`.
-fn first_offer(directs: &[Direct], addr: Addr4, most: u64) -> Option<usize>
-    ensures { is_some result ≡ list_any (is_offer addr most) directs.now }
+/// Whether one of the first direct entries, those of that address, costs no more than `most`.
+fn is_first_within(directs: &[Direct], addr: Addr4, most: u64) -> bool
+    ensures { result ≡ is_first_within addr most directs.now }
 {
-    for (place, direct) in directs.iter().enumerate() {
-        if is_offer(*direct, addr, most) {
-            return Some(place);
+    for direct in directs {
+        if direct.addr.0 != addr.0 {
+            return false;
+        }
+        if u64::from(direct.cost) <= most {
+            return true;
         }
     }
-    None
+    false
 }
 
-/// The place of a direct entry that offers the address at no more than `most`: the one at that place, or else the first.
-fn offer_from(directs: &[Direct], place: usize, addr: Addr4, most: u64) -> Option<usize>
-    ensures { is_some result ≡ list_any (is_offer addr most) directs.now }
-{
-    if place < directs.len() && is_offer(directs[place], addr, most) {
-        Some(place)
-    } else {
-        first_offer(directs, addr, most)
-    }
-}
-
-/// Whether a direct entry offers the address at no more than `most`. The one at `next` is looked at first, and the one after it
-/// is to be the next.
-pub fn is_direct(directs: &[Direct], next: &mut usize, addr: Addr4, most: u64) -> bool
+/// Whether a direct entry offers the address at no more than `most`, by a search.
+fn is_found(directs: &[Direct], next: &mut usize, addr: Addr4, most: u64) -> bool
+    requires { IsNonDecreasingBy (λ d. d.addr.0) directs.now }
     ensures { result ≡ list_any (is_offer addr most) directs.now }
 {
-    match offer_from(directs, *next, addr, most) {
-        Some(place) => {
-            *next = place.saturating_add(1);
-            true
-        }
-        None => false,
+    let first = first_direct(directs, addr);
+    *next = first.saturating_add(1);
+    is_first_within(&directs[first..], addr, most)
+}
+
+/// Whether the direct entry at that place offers the address at no more than `most`.
+fn is_offer_at(directs: &[Direct], place: usize, addr: Addr4, most: u64) -> bool
+    ensures { IsTrue result → list_any (is_offer addr most) directs.now ≡ true }
+{
+    place < directs.len()
+        && directs[place].addr.0 == addr.0
+        && u64::from(directs[place].cost) <= most
+}
+
+/// Whether a direct entry offers the address at no more than `most`. The one at `next` is looked at first, and the one after what is
+/// found is to be the next.
+pub fn is_direct(directs: &[Direct], next: &mut usize, addr: Addr4, most: u64) -> bool
+    requires { IsNonDecreasingBy (λ d. d.addr.0) directs.now }
+    ensures { result ≡ list_any (is_offer addr most) directs.now }
+{
+    if is_offer_at(directs, *next, addr, most) {
+        *next = (*next).saturating_add(1);
+        true
+    } else {
+        is_found(directs, next, addr, most)
     }
 }
 

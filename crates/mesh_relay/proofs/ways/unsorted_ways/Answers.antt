@@ -27,7 +27,10 @@ none_more h ways items far k d o all same lt is none rest =
     ap (λ (l : List Way). ways ++ l) (sym (next_given h items far k d None same lt (sym none ∙ is))) ∙ rest
 
 pub way_by-requires-clause-direct : goal.way_by-requires-clause-direct
-way_by-requires-clause-direct c = rw c.deref.ensures.value c.in_ok-directs.ensures
+way_by-requires-clause-direct c = rw c.deref.ensures.value c.in_ok-directs.ensures.same
+
+pub way_by-requires-clause-order : goal.way_by-requires-clause-order
+way_by-requires-clause-order c = rw c.deref.ensures.value c.in_ok-directs.ensures.order
 
 pub loop-far-preserved : goal.loop-far-preserved
 loop-far-preserved c =

@@ -1,0 +1,7 @@
+use Rattle.std.proofs.Common.{rules}
+use Rattle.std.proofs.lemmas.List.Sorted.{IsNonDecreasingBy-from_sort_by_key}
+use Rattle.mesh_atoms.specs.declared.graphs.Direct.{Direct}
+use Rattle.mesh_relay.proofs.seek.directs_of.Goals as goal
+
+pub returns-clause-order : goal.returns-clause-order
+returns-clause-order c = IsNonDecreasingBy-from_sort_by_key (λ (d : Direct). d.addr.0) _ c.sort_unstable_by_key.ensures.sorted (λ a r q k. search rules)
