@@ -4,7 +4,7 @@ use Rattle.std.specs.Prelude.{Bool, true}
 use Rattle.std.specs.Cmp.{IsEquivalence}
 use Rattle.std.specs.Map.{keys_of}
 use Rattle.std.proofs.lemmas.Bool.{cases_eq}
-use Rattle.std.proofs.lemmas.List.{take_more, take_all}
+use Rattle.std.proofs.lemmas.List.{append_assoc, take_more, take_all}
 use Rattle.std.proofs.lemmas.List.Elements.{Contains-append_cases, Contains-append_left, Contains-append_right, Contains-push, Contains-push_cases}
 use Rattle.std.proofs.lemmas.Option.{slice_get_within, get_or_from_slice_get, slice_get_cases, none-some}
 use Rattle.std.proofs.lemmas.Map.Entries.{place_from_lookup, lookup_from_place}
@@ -165,3 +165,9 @@ adds_all old new more is a = (
   λ c. Contains-append_cases old more a (subst (λ xs. Contains xs a) is c),
   λ h. subst (λ xs. Contains xs a) (sym is) (elim h [ inl c ↦ Contains-append_left old more a c | inr c ↦ Contains-append_right old more a c ]),
 )
+
+-- the next key is put after those of the places before
+pub keys_put : {K V : Type 0} (base : Base K V) (k : ℕ) (key : K) (e : V × ℕ) (first list new : List K) → slice_get base k ≡ Some (key, e) → list ≡ first ++ keys_of (take k base) → new ≡ list ++ key ∷ [] →
+    new ≡ first ++ keys_of (take (k + 1) base)
+keys_put base k key e first list new at so_far is =
+    is ∙ (ap (λ ks. ks ++ key ∷ []) so_far ∙ (append_assoc first (keys_of (take k base)) (key ∷ []) ∙ ap (λ ks. first ++ ks) (sym (keys_more base k key e at))))

@@ -1,6 +1,7 @@
-pub mod Sorted
 pub mod Collect
-pub mod Local
+pub mod Fits
 pub mod Lookups
-pub mod Mines
-mod Senders
+pub mod Places
+pub mod SayingLemmas
+pub mod Sorted
+pub mod ToldLemmas

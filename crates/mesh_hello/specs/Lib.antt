@@ -1,5 +1,3 @@
 pub mod Gathers
-pub mod Mine
-pub mod Receive
-pub mod Sender
-pub mod Telling
+pub mod Saying
+pub mod Told

@@ -1,13 +1,11 @@
-//! What a HELLO tells the router that hears it: whether it breaks a rule there, whose interface sent it, and what it says of the
-//! receiver (RFC 6130, sections 12.1, 12.2 and 12.5, and RFC 7181, section 15.3).
+//! HELLOs over the tables of a neighbourhood: what one tells the router that hears it, and what one has to say (RFC 6130,
+//! sections 11 and 12, and RFC 7181, section 15).
 #![tactic(auto)]
 
 mod lists;
-mod mine;
-mod receive;
-mod sender;
-mod telling;
+mod saying;
+mod told;
 
-pub use lists::ascending;
-pub use receive::receive_fault;
-pub use telling::{Telling, own_addresses, tell};
+pub use lists::{ascending, put_table_keys};
+pub use saying::{HasSaid, make_hello};
+pub use told::{Telling, own_addresses, receive_fault, tell};

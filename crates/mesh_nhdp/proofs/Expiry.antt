@@ -27,7 +27,7 @@ use Rattle.mesh_nhdp.specs.Wanted.{IsWantedAddress}
 use Rattle.mesh_nhdp.proofs.Bases.{base_cases}
 use Rattle.mesh_hello.proofs.Collect.{item_at}
 use Rattle.mesh_hello.proofs.Lookups.{none_not}
-use Rattle.mesh_nhdp.proofs.Places.{append_none}
+use Rattle.mesh_hello.proofs.Places.{append_none}
 use Rattle.mesh_nhdp.proofs.Whole.{live_by_calls}
 use Rattle.mesh_nhdp.proofs.LiveSound.{live_sound}
 

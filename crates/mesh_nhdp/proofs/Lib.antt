@@ -4,19 +4,13 @@ mod AllNotes
 mod BesideWalk
 pub mod Empty
 mod Expiry
-pub mod Fits
 mod Hears
 mod Held
 mod HeldAddresses
 mod LinkKeys
-mod Message
-mod OneRow
-mod Parts
-mod Places
 mod Receipt
 mod RowWalks
 mod Spoken
-pub mod Somewhere
 mod SymmetricAddresses
 mod Touched
 mod Unchanged
@@ -28,7 +22,6 @@ pub mod Limits
 pub mod LiveSound
 pub mod TwoHops
 pub mod Whole
+mod InterfaceTables
 mod Judges
-pub mod RowCounts
 pub mod TcCounts
-pub mod OwnRows

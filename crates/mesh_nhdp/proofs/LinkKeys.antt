@@ -1,17 +1,15 @@
 -- The keys of a base.
-use Rattle.std.proofs.Common.{◌≡◌, ℕ, ◌+◌, inl, inr, sym, ◌∙◌, ap, subst, arith, List, [], ◌∷◌, ◌++◌, take, slice_get, Some}
+use Rattle.std.proofs.Common.{◌≡◌, ℕ, inl, inr, sym, ◌∙◌, ap, subst, arith, List, slice_get, Some}
 use Rattle.std.specs.Prelude.{option_map}
 use Rattle.std.specs.Map.{keys_of}
 use Rattle.std.proofs.lemmas.Option.{slice_get_cases, slice_get-map, get_or_from_slice_get}
 use Rattle.std.proofs.lemmas.Map.Entries.{place_from_lookup, lookup_from_place, length-keys_of}
-use Rattle.std.proofs.lemmas.List.{append_assoc}
 use Rattle.mesh_atoms.specs.declared.tuples.LinkKey.{LinkKey}
 use Rattle.mesh_atoms.specs.declared.tuples.Link.{Link}
 use Rattle.mesh_atoms.specs.Base.{Base, find, HasDistinctKeys, link_eq}
 use Rattle.mesh_atoms.proofs.Lookups.{link_equiv, same_link}
 use Rattle.mesh_nhdp.specs.Calls.{TellsKeys}
 use Rattle.mesh_hello.proofs.Lookups.{Contains_at}
-use Rattle.mesh_hello.proofs.Collect.{keys_more}
 
 key_at : (base : Base LinkKey Link) (k : ℕ) (key : LinkKey) (e : Link × ℕ) → slice_get base k ≡ Some (key, e) → slice_get (keys_of base) k ≡ Some key
 key_at base k key e at = slice_get-map (λ (x : LinkKey × (Link × ℕ)). x.0) base k ∙ ap (option_map (λ (x : LinkKey × (Link × ℕ)). x.0)) at
@@ -28,9 +26,3 @@ tells_keys links base keys same distinct is = subst (λ (b : Base LinkKey Link).
       let (k, l, at, test) = place_from_lookup (link_eq key) base e found in
       Contains_at (keys_of base) k key (key_at base k key e (subst (λ x. slice_get base k ≡ Some (x, e)) (sym (same_link key l test)) at));
 }))
-
--- the next key is put after those of the places before
-pub keys_put : {K V : Type 0} (base : Base K V) (k : ℕ) (key : K) (e : V × ℕ) (first list new : List K) → slice_get base k ≡ Some (key, e) → list ≡ first ++ keys_of (take k base) → new ≡ list ++ key ∷ [] →
-    new ≡ first ++ keys_of (take (k + 1) base)
-keys_put base k key e first list new at so_far is =
-    is ∙ (ap (λ ks. ks ++ key ∷ []) so_far ∙ (append_assoc first (keys_of (take k base)) (key ∷ []) ∙ ap (λ ks. first ++ ks) (sym (keys_more base k key e at))))

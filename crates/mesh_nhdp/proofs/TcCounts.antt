@@ -23,9 +23,9 @@ use Rattle.mesh_atoms.specs.State.{State}
 use Rattle.mesh_atoms.specs.TakesHello.{IsHeld}
 use Rattle.mesh_atoms.proofs.Lookups.{looks_up_neighbours}
 use Rattle.mesh_atoms.proofs.Nets.{net_exact}
-use Rattle.mesh_nhdp.proofs.Fits.{distinct_fits}
-use Rattle.mesh_nhdp.proofs.Places.{map_gives, map_given}
-use Rattle.mesh_nhdp.proofs.RowCounts.{counted, rows_ascend, neighbour_held}
+use Rattle.mesh_hello.proofs.Fits.{distinct_fits}
+use Rattle.mesh_hello.proofs.Places.{map_gives, map_given}
+use Rattle.mesh_hello.proofs.SayingLemmas.RowCounts.{counted, rows_ascend, neighbour_held}
 
 -- Lists
 

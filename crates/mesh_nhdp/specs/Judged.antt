@@ -13,7 +13,7 @@ use Rattle.mesh_nhdp.specs.declared.judge.Judgement.{Judgement}
 use Rattle.mesh_nhdp.specs.declared.judge.Judgement.TheVariants.{Breaks, Overfills, Fits}
 use Rattle.mesh_nhdp.specs.declared.take.HelloTaken.{HelloTaken}
 use Rattle.mesh_nhdp.specs.declared.take.HelloTaken.TheVariants.{Done, Broken, Full}
-use Rattle.mesh_hello.specs.Telling.{told_of}
+use Rattle.mesh_hello.specs.Told.Telling.{told_of}
 
 -- the base that a HELLO which breaks no rule would fill, if there is one
 abbrev pub IsFilledBy : RouterSettings → ℕ → Hello → Neighbourhood → Told → Option Base → Type 0

@@ -6,6 +6,5 @@ pub mod Judged
 pub mod Laws
 pub mod NhdpState
 pub mod Rows
-pub mod Said
 pub mod Staying
 pub mod Wanted

@@ -6,7 +6,7 @@ use Rattle.mesh_atoms.specs.Base.{Base, find, addr_eq}
 use Rattle.mesh_atoms.specs.AfterHello.{Matches}
 use Rattle.mesh_nhdp.specs.declared.near_addresses.Wanted.{Wanted}
 use Rattle.mesh_nhdp.specs.declared.near_addresses.Wanted.TheVariants.{Each, Symmetric}
-use Rattle.mesh_nhdp.specs.Said.{symmetric_addresses}
+use Rattle.mesh_hello.specs.Saying.Said.{symmetric_addresses}
 
 -- the neighbour is wanted
 abbrev pub IsWanted : Wanted → Neighbour → Type 0

@@ -1,7 +1,7 @@
 //! Neighbours and lost addresses follow the links.
 ghost use Rattle.std.specs.Prelude.{◌<◌, length, OnOk};
 ghost use Rattle.mesh_atoms.specs.Words.{IsAscending};
-ghost use Rattle.mesh_hello.specs.Telling.{told_of};
+ghost use Rattle.mesh_hello.specs.Told.Telling.{told_of};
 ghost use Rattle.mesh_nhdp.specs.Follows.{FollowsLinks, FollowsLinksOf, RenewsNeighbour};
 
 use crate::near_addresses::{Wanted, symmetric_at, wanted_addresses};

@@ -5,11 +5,10 @@ ghost use Rattle.mesh_atoms.specs.State.{Neighbourhood};
 ghost use Rattle.mesh_atoms.specs.TakesHello.{IsHeld};
 ghost use Rattle.mesh_atoms.specs.Words.{AreMoreThan};
 
-use crate::keys::put_table_keys;
 use crate::near_addresses::{Wanted, wanted_addresses};
 use mesh_atoms::{Addr4, Lost, Neighbour};
 use mesh_expire::Table;
-use mesh_hello::ascending;
+use mesh_hello::{ascending, put_table_keys};
 use mesh_nbrs::{LostSet, NeighbourSet};
 use std::alloc::{AllocError, Global};
 

@@ -6,7 +6,7 @@ ghost use Rattle.mesh_atoms.specs.Quality.{rule_of};
 ghost use Rattle.mesh_atoms.specs.Sound.{SoundNeighbourhood};
 ghost use Rattle.mesh_atoms.specs.State.{HasAddress};
 ghost use Rattle.mesh_atoms.specs.TakesHello.{IsFault};
-ghost use Rattle.mesh_hello.specs.Telling.{told_of};
+ghost use Rattle.mesh_hello.specs.Told.Telling.{told_of};
 ghost use Rattle.mesh_nhdp.specs.Hearings.{HearsInterfaces, HearsLinks};
 ghost use Rattle.mesh_nhdp.specs.Interfaces.{CanHear};
 ghost use Rattle.mesh_nhdp.specs.NhdpState.{near_with};

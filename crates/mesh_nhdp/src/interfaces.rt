@@ -11,9 +11,9 @@ ghost use Rattle.mesh_nhdp.specs.Calls.{TellsKeys};
 ghost use Rattle.mesh_nhdp.specs.Interfaces.{ExpiresOn, HearsAt, CanHear};
 
 use crate::drops::drop_ended;
-use crate::keys::put_table_keys;
 use mesh_atoms::{Addr4, Admit, Interface, Link, LinkKey, Shown, TwoHop, TwoHopKey};
 use mesh_expire::Table;
+use mesh_hello::put_table_keys;
 use mesh_links::LinkSet;
 use mesh_nbrs::TwoHopSet;
 use std::alloc::{AllocError, Global};

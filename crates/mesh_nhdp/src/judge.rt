@@ -6,7 +6,7 @@ ghost use Rattle.mesh_atoms.specs.declared.addr.Addr4.{Addr4};
 ghost use Rattle.mesh_atoms.specs.declared.settings.RouterSettings.{RouterSettings};
 ghost use Rattle.mesh_atoms.specs.declared.tuples.LinkKey.{LinkKey};
 ghost use Rattle.mesh_atoms.specs.declared.tuples.Link.{Link};
-ghost use Rattle.mesh_hello.specs.Telling.{told_of};
+ghost use Rattle.mesh_hello.specs.Told.Telling.{told_of};
 ghost use Rattle.mesh_nhdp.specs.Judged.{IsFilledBy, Judges};
 ghost use Rattle.mesh_nhdp.specs.NhdpState.{near_with};
 

@@ -1,30 +1,10 @@
-//! The keys of tables.
+//! The keys of links.
 ghost use Rattle.std.specs.Prelude.{◌≡◌, ◌⊎◌, ◌++◌, map, Contains, IfOk, OnOk};
-ghost use Rattle.std.specs.Map.{keys_of};
 ghost use Rattle.mesh_atoms.specs.declared.addr.Addr4.{Addr4};
 ghost use Rattle.mesh_nhdp.specs.Calls.{key_at};
 
 use mesh_atoms::{Addr4, LinkKey};
-use mesh_expire::{Key, Table};
 use std::alloc::{AllocError, Global};
-
-/// Puts the keys of a table at the end of a list, place by place.
-pub fn put_table_keys<K: Key + Drop, V, T: Table<K, V>>(
-    keys: &mut Vec<K>,
-    table: &T,
-) -> Result<(), AllocError>
-    ensures { OnOk result (keys.new.items ≡ keys.old.items ++ keys_of (T.content table.now)) }
-{
-    for place in 0..table.len() {
-        match table.at(place) {
-            Some((key, _, _)) => {
-                keys.push(*key)?;
-            }
-            None => return Ok(()),
-        }
-    }
-    Ok(())
-}
 
 /// Puts the keys of links with these least addresses at the end of a list.
 fn put_keys(keys: &mut Vec<LinkKey>, addrs: &[Addr4]) -> Result<(), AllocError>

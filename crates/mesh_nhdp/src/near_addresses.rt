@@ -5,10 +5,9 @@ ghost use Rattle.mesh_atoms.specs.Base.{find, addr_eq};
 ghost use Rattle.mesh_hello.specs.Gathers.{Gathers};
 ghost use Rattle.mesh_nhdp.specs.Wanted.{IsWanted, IsWantedAt, IsWantedAddress, IsSpokenAddress, IsSymmetricSpokenAddress, symmetric_at};
 
-use crate::said_addresses::HasSaid;
 use mesh_atoms::{Addr4, Neighbour};
 use mesh_expire::Table;
-use mesh_hello::Telling;
+use mesh_hello::{HasSaid, Telling};
 use mesh_nbrs::NeighbourSet;
 use std::alloc::{AllocError, Global};
 

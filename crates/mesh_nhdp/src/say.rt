@@ -1,59 +1,17 @@
-//! The HELLO that a router sends.
+//! The HELLO that a router sends, and whether a sender has chosen it as a flooding relay.
 ghost use Rattle.std.specs.Prelude.{◌≡◌, ◌<◌, ◌≤◌, length, IfOk};
+ghost use Rattle.mesh_atoms.specs.Base.{base_of};
 ghost use Rattle.mesh_atoms.specs.Hello.{IsHelloNow};
 ghost use Rattle.mesh_atoms.specs.Sound.{SoundNeighbourhood};
 ghost use Rattle.mesh_atoms.specs.State.{State};
 ghost use Rattle.mesh_atoms.specs.Writable.{HaveSenderAlone};
 ghost use Rattle.mesh_links.specs.Links.{SelectorOf};
-ghost use Rattle.mesh_nhdp.specs.Said.{AreDisjoint, IsSeen};
-ghost use Rattle.mesh_atoms.specs.Base.{base_of};
 
 use crate::nhdp::Nhdp;
-use crate::rows::rows_of;
-use crate::said_addresses::said_addresses;
-use mesh_atoms::{
-    Addr4, Hello, Link, LinkKey, Lost, Neighbour, Relays, RouterSettings, time_at_least,
-};
-use mesh_expire::{Bases, Table};
-use mesh_links::LinkSet;
-use mesh_nbrs::NeighbourSet;
+use mesh_atoms::{Addr4, Hello, Relays};
+use mesh_expire::Bases;
+use mesh_hello::make_hello;
 use std::alloc::{AllocError, Global};
-
-/// The HELLO of an interface, out of its links, the neighbours and the lost addresses.
-fn hello_of<L: Table<LinkKey, Link>, N: Table<Addr4, Neighbour>, O: Table<Addr4, Lost>>(
-    alloc: Global,
-    settings: &RouterSettings,
-    links: &LinkSet<L>,
-    neighbours: &NeighbourSet<N>,
-    losts: &O,
-    relays: &Relays,
-    iface: usize,
-    now: u64,
-) -> Result<Hello, AllocError>
-    requires { AreDisjoint links.now neighbours.now (O.content losts.now) }
-    ensures { IfOk result (λ hello. (s : State) →
-        IsSeen s settings.now links.now neighbours.now (O.content losts.now) relays.now iface → IsHelloNow s iface now hello) }
-{
-    let addrs = said_addresses(alloc, settings, links.table(), neighbours.table(), losts)?;
-    let rows = rows_of(
-        alloc,
-        settings,
-        links,
-        neighbours,
-        losts,
-        relays,
-        iface,
-        now,
-        addrs.as_slice(),
-    )?;
-    Ok(Hello {
-        originator: Some(settings.originator()),
-        validity: time_at_least(settings.times.hold),
-        interval: Some(time_at_least(settings.times.hello)),
-        willing: settings.willing,
-        rows,
-    })
-}
 
 impl<B: Bases> Nhdp<B> {
     /// The HELLO that interface `iface` sends at `now`, in ticks of 1/8192 s: originator, validity and interval rounded up to
@@ -77,7 +35,7 @@ impl<B: Bases> Nhdp<B> {
         // An address of its own has no status, no metric and no relay.
         ensures own { IfOk result (λ hello. HaveSenderAlone hello.rows) }
     {
-        hello_of(
+        make_hello(
             alloc,
             &self.settings,
             &self.links[iface],

@@ -1,4 +1,4 @@
-use Rattle.mesh_hello.proofs.Local.{fails_so}
+use Rattle.mesh_hello.proofs.ToldLemmas.Local.{fails_so}
 use Rattle.mesh_nhdp.specs.NhdpState.{near_with}
 use Rattle.mesh_nhdp.proofs.Unchanged.{as_it_was, beside_live, beside_sound}
 use Rattle.std.proofs.Common.{refl}

@@ -10,7 +10,7 @@ use Rattle.mesh_atoms.specs.Words.{AreMoreThan}
 use Rattle.mesh_nhdp.specs.declared.near_addresses.Wanted.TheVariants.{Each}
 use Rattle.mesh_nhdp.specs.Wanted.{IsWantedAddress}
 use Rattle.mesh_hello.proofs.Collect.{iff_on}
-use Rattle.mesh_nhdp.proofs.Fits.{are_more}
+use Rattle.mesh_hello.proofs.Fits.{are_more}
 use Rattle.mesh_nhdp.proofs.HeldAddresses.{held_addresses}
 use Rattle.mesh_nhdp.proofs.full.are_many.Goals as goal
 

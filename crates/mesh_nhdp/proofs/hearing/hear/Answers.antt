@@ -1,8 +1,8 @@
 use Rattle.std.proofs.Common.{◌<◌, ◌^◌, sym, subst, inl, arith}
 use Rattle.mesh_atoms.specs.declared.hello.LocalIf.TheVariants.{This}
 use Rattle.mesh_atoms.specs.HelloTold.{TellsLocal}
-use Rattle.mesh_hello.specs.Telling.{told_of}
-use Rattle.mesh_hello.proofs.Mines.{sending_some, more_some}
+use Rattle.mesh_hello.specs.Told.Telling.{told_of}
+use Rattle.mesh_hello.proofs.ToldLemmas.Mines.{sending_some, more_some}
 use Rattle.mesh_nhdp.proofs.Expiry.{on_ok}
 use Rattle.mesh_nhdp.proofs.Receipt.{receipt_runs}
 use Rattle.mesh_nhdp.proofs.hearing.hear.Goals as goal

@@ -1,6 +1,6 @@
 use Rattle.std.proofs.Common.{refl, arith}
 use Rattle.mesh_atoms.specs.Quality.{rule_of}
-use Rattle.mesh_hello.specs.Telling.{told_of}
+use Rattle.mesh_hello.specs.Told.Telling.{told_of}
 use Rattle.mesh_nhdp.proofs.Expiry.{on_ok, face_rule}
 use Rattle.mesh_nhdp.proofs.Receipt.{links_heard}
 use Rattle.mesh_nhdp.proofs.hearing.hear_links.Goals as goal

@@ -1,5 +1,5 @@
 use Rattle.std.proofs.Common.{◌<◌, ◌≤◌, ◌+◌, refl, sym, arith}
-use Rattle.mesh_hello.specs.Telling.{told_of}
+use Rattle.mesh_hello.specs.Told.Telling.{told_of}
 use Rattle.mesh_nhdp.specs.NhdpState.{near_with}
 use Rattle.mesh_nhdp.proofs.Judges.{is_full, is_not_full, overfills, fits}
 use Rattle.mesh_nhdp.proofs.judge.base_to_fill.Goals as goal

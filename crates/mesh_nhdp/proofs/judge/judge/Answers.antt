@@ -1,8 +1,8 @@
 use Rattle.std.proofs.Common.{refl, subst, arith, Some, None}
 use Rattle.std.specs.Prelude.{Option}
 use Rattle.mesh_atoms.specs.declared.tuples.Base.{Base}
-use Rattle.mesh_hello.specs.Telling.{told_of}
-use Rattle.mesh_hello.proofs.Local.{fault_at}
+use Rattle.mesh_hello.specs.Told.Telling.{told_of}
+use Rattle.mesh_hello.proofs.ToldLemmas.Local.{fault_at}
 use Rattle.mesh_nhdp.specs.Judged.{IsFilledBy}
 use Rattle.mesh_nhdp.specs.NhdpState.{near_with}
 use Rattle.mesh_nhdp.proofs.Judges.{own_at, judged_full}

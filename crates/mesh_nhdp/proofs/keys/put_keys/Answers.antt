@@ -3,7 +3,7 @@ use Rattle.std.proofs.lemmas.List.{append_assoc, at_drop_more, at_drop_all}
 use Rattle.mesh_atoms.specs.declared.addr.Addr4.{Addr4}
 use Rattle.mesh_atoms.specs.declared.tuples.LinkKey.{LinkKey}
 use Rattle.mesh_nhdp.specs.Calls.{key_at}
-use Rattle.mesh_nhdp.proofs.Places.{append_none}
+use Rattle.mesh_hello.proofs.Places.{append_none}
 use Rattle.mesh_nhdp.proofs.keys.put_keys.Goals as goal
 
 one_more : (addrs : List Addr4) (i : ℕ) (d : Addr4) (old new all : List LinkKey) → i < length addrs → new ≡ old ++ key_at (get_or addrs i d) ∷ [] → old ++ map key_at (drop i addrs) ≡ all → new ++ map key_at (drop (i + 1) addrs) ≡ all

@@ -1,6 +1,6 @@
 use Rattle.std.proofs.Common.{refl, subst}
 use Rattle.mesh_atoms.specs.TakesHello.{Taken, Broken_at, Breaks, Takes}
-use Rattle.mesh_hello.specs.Telling.{told_of}
+use Rattle.mesh_hello.specs.Told.Telling.{told_of}
 use Rattle.mesh_nhdp.specs.declared.judge.Judgement.{Judgement}
 use Rattle.mesh_nhdp.specs.Judged.{Judges}
 use Rattle.mesh_nhdp.specs.NhdpState.{near_with}

@@ -1,5 +1,5 @@
 use Rattle.std.proofs.Common.{refl}
-use Rattle.mesh_hello.proofs.Local.{fails_so}
+use Rattle.mesh_hello.proofs.ToldLemmas.Local.{fails_so}
 use Rattle.mesh_nhdp.specs.Rows.{Looked, Passed}
 use Rattle.mesh_nhdp.proofs.Expiry.{on_ok}
 use Rattle.mesh_nhdp.proofs.two_hop_rows.tell_if_looked_at.Goals as goal

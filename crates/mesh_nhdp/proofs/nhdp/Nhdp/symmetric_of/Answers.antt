@@ -1,4 +1,4 @@
-use Rattle.mesh_nhdp.proofs.Message.{no_selector}
+use Rattle.mesh_nhdp.proofs.InterfaceTables.{no_selector}
 use Rattle.mesh_nhdp.proofs.nhdp.Nhdp.symmetric_of.Goals as goal
 
 pub returns-in-None : goal.returns-in-None

@@ -1,0 +1,6 @@
+pub mod Message
+pub mod OneRow
+pub mod OwnRows
+pub mod Parts
+pub mod RowCounts
+pub mod Somewhere

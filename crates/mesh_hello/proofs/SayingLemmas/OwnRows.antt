@@ -1,0 +1,113 @@
+-- Rows of a router's own addresses say nothing else of them.
+use Rattle.std.proofs.Common.{◌≡◌, ℕ, inl, inr, refl, ◌∙◌, ap, Contains, Bool, true, false}
+use Rattle.std.specs.Prelude.{Option, Some, None, IsTrue, IsSome}
+use Rattle.std.proofs.lemmas.Bool.{false≢true}
+use Rattle.mesh_atoms.specs.declared.addr.Addr4.{Addr4}
+use Rattle.mesh_atoms.specs.declared.hello.Hello.{Hello}
+use Rattle.mesh_atoms.specs.declared.hello.HelloRow.{HelloRow}
+use Rattle.mesh_atoms.specs.declared.hello.LinkStatus.{LinkStatus}
+use Rattle.mesh_atoms.specs.declared.hello.LinkStatus.TheVariants.{Lost as Down, Symmetric, Heard}
+use Rattle.mesh_atoms.specs.declared.hello.LocalIf.{LocalIf}
+use Rattle.mesh_atoms.specs.declared.hello.LocalIf.TheVariants.{This, Other}
+use Rattle.mesh_atoms.specs.declared.hello.Metrics.{Metrics}
+use Rattle.mesh_atoms.specs.declared.hello.Mpr.{Mpr}
+use Rattle.mesh_atoms.specs.declared.hello.OtherStatus.{OtherStatus}
+use Rattle.mesh_atoms.specs.declared.hello.OtherStatus.TheVariants.{Lost as No_more, Symmetric as Still}
+use Rattle.mesh_atoms.specs.declared.codes.metric.Metric.{Metric}
+use Rattle.mesh_atoms.specs.declared.settings.RouterSettings.{RouterSettings}
+use Rattle.mesh_atoms.specs.declared.tuples.Relays.{Relays}
+use Rattle.mesh_atoms.specs.Hello.{Part, Says, IsHelloNow, local_part, link_part, other_part, This_if, Other_if, Link_lost, Link_symmetric, Link_heard, Other_lost, Other_symmetric, Link_in, Link_out, Near_in, Near_out, Flooding, Routing}
+use Rattle.mesh_atoms.specs.Words.{IsValue}
+use Rattle.mesh_atoms.specs.Sound.{SoundNeighbourhood}
+use Rattle.mesh_atoms.specs.State.{State, Neighbourhood, HasAddress}
+use Rattle.mesh_atoms.specs.TakesHello.{IsHeld}
+use Rattle.mesh_atoms.specs.Writable.{IsAlone}
+use Rattle.mesh_atoms.proofs.Lookups.{addr_equiv, same_addr, has_found}
+use Rattle.mesh_hello.proofs.SayingLemmas.RowCounts.{neighbour_held, link_held, sample}
+
+held_not_mine : (settings : RouterSettings) (m : ℕ) (near : Neighbourhood) → SoundNeighbourhood settings m near → (a : Addr4) → IsHeld near a → HasAddress settings a → ⊥
+held_not_mine settings m near sound a (inl (e, at)) mine = (sound.neighbour a e.0 e.1 at).not_mine mine
+held_not_mine settings m near sound a (inr (inl (o, n, until, at, in'))) mine = (sound.neighbour o n until at).none_mine a in' mine
+held_not_mine settings m near sound a (inr (inr (e, at))) mine = sound.lost_not_mine a e at mine
+
+-- the part says that the address is the sender's
+abbrev IsLocal : Part → Type 0
+IsLocal This_if = Unit {0}
+IsLocal Other_if = Unit {0}
+IsLocal part = ⊥
+
+own_only : (s : State) (i now m : ℕ) → SoundNeighbourhood s.settings m s.bases.neighbourhood → (a : Addr4) → HasAddress s.settings a → (part : Part) → Says s i now a part → IsLocal part
+own_only s i now m sound a mine This_if h = tt
+own_only s i now m sound a mine Other_if h = tt
+own_only s i now m sound a mine Link_lost (link, (key, has, in', state)) = held_not_mine s.settings m s.bases.neighbourhood sound a (link_held s i m sound a key link has in') mine
+own_only s i now m sound a mine Link_symmetric (link, (key, has, in', state)) = held_not_mine s.settings m s.bases.neighbourhood sound a (link_held s i m sound a key link has in') mine
+own_only s i now m sound a mine Link_heard (link, (key, has, in', state)) = held_not_mine s.settings m s.bases.neighbourhood sound a (link_held s i m sound a key link has in') mine
+own_only s i now m sound a mine Other_lost (lost, has) =
+    let (until, at) = (has_found addr_equiv same_addr s.bases.neighbourhood.losts a lost sound.distinct_losts).0 has in
+    sound.lost_not_mine a (lost, until) at mine
+own_only s i now m sound a mine Other_symmetric ((o, n, has), none) = held_not_mine s.settings m s.bases.neighbourhood sound a (neighbour_held s m sound a o n has) mine
+own_only s i now m sound a mine (Link_in c) (link, inl (key, has, in', state), is) = held_not_mine s.settings m s.bases.neighbourhood sound a (link_held s i m sound a key link has in') mine
+own_only s i now m sound a mine (Link_in c) (link, inr (key, has, in', state), is) = held_not_mine s.settings m s.bases.neighbourhood sound a (link_held s i m sound a key link has in') mine
+own_only s i now m sound a mine (Link_out c) (link, (key, has, in', state), is) = held_not_mine s.settings m s.bases.neighbourhood sound a (link_held s i m sound a key link has in') mine
+own_only s i now m sound a mine (Near_in c) (o, n, has, is) = held_not_mine s.settings m s.bases.neighbourhood sound a (neighbour_held s m sound a o n has) mine
+own_only s i now m sound a mine (Near_out c) (o, n, has, is) = held_not_mine s.settings m s.bases.neighbourhood sound a (neighbour_held s m sound a o n has) mine
+own_only s i now m sound a mine Flooding h = held_not_mine s.settings m s.bases.neighbourhood sound a (link_held s i m sound a h.1.0 h.0 h.1.1 h.1.2) mine
+own_only s i now m sound a mine Routing (o, n, has, is) = held_not_mine s.settings m s.bases.neighbourhood sound a (neighbour_held s m sound a o n has) mine
+
+-- Values
+
+none_value : {A : Type 0} (P : A → Type 0) (o : Option A) → ((a : A) → P a → ⊥) → IsValue P o → o ≡ None
+none_value P None never is = refl
+none_value P (Some a) never is = absurd (never a is)
+
+not_set : (b : Bool) → (IsTrue b → ⊥) → b ≡ false
+not_set true never = absurd (never refl)
+not_set false never = refl
+
+link_not_local : (v : LinkStatus) → IsLocal (link_part v) → ⊥
+link_not_local Down h = h
+link_not_local Symmetric h = h
+link_not_local Heard h = h
+
+other_not_local : (v : OtherStatus) → IsLocal (other_part v) → ⊥
+other_not_local No_more h = h
+other_not_local Still h = h
+
+local_mine : (s : State) (i now : ℕ) (a : Addr4) (o : Option LocalIf) → IsSome o → IsValue (λ v. Says s i now a (local_part v)) o → HasAddress s.settings a
+local_mine s i now a None some h = absurd (false≢true some)
+local_mine s i now a (Some This) some h = (i, h)
+local_mine s i now a (Some Other) some h = (h.0, h.2)
+
+abbrev shown : Option Metric → Option Metric → Option Metric → Option Metric → Metrics
+shown link_in link_out near_in near_out = record { link_in = link_in; link_out = link_out; near_in = near_in; near_out = near_out }
+
+no_metrics : (m : Metrics) → m.link_in ≡ None → m.link_out ≡ None → m.near_in ≡ None → m.near_out ≡ None → m ≡ shown None None None None
+no_metrics m a b c d =
+    ap (λ x. shown x m.link_out m.near_in m.near_out) a ∙ (ap (λ x. shown None x m.near_in m.near_out) b
+    ∙ (ap (λ x. shown None None x m.near_out) c ∙ ap (λ x. shown None None None x) d))
+
+abbrev chosen : Bool → Bool → Mpr
+chosen flooding routing = record { flooding = flooding; routing = routing }
+
+no_mpr : (m : Mpr) → m.flooding ≡ false → m.routing ≡ false → m ≡ chosen false false
+no_mpr m a b = ap (λ x. chosen x m.routing) a ∙ ap (λ x. chosen false x) b
+
+own_row : (s : State) (i now m : ℕ) (hello : Hello) → SoundNeighbourhood s.settings m s.bases.neighbourhood → IsHelloNow s i now hello → (row : HelloRow) → Contains hello.rows row → IsSome row.local → IsAlone row
+own_row s i now m hello sound is row has local =
+    let (a, r) = is.rows row has in
+    let mine : HasAddress s.settings a = local_mine s i now a row.local local r.local in
+    let only = own_only s i now m sound a mine in
+    record {
+      link = none_value (λ (v : LinkStatus). Says s i now a (link_part v)) row.link (λ v h. link_not_local v (only (link_part v) h)) r.link;
+      other = none_value (λ (v : OtherStatus). Says s i now a (other_part v)) row.other (λ v h. other_not_local v (only (other_part v) h)) r.other;
+      metrics = no_metrics row.metrics
+          (none_value (λ (c : Metric). Says s i now a (Link_in c)) row.metrics.link_in (λ c h. only (Link_in c) h) r.link_in)
+          (none_value (λ (c : Metric). Says s i now a (Link_out c)) row.metrics.link_out (λ c h. only (Link_out c) h) r.link_out)
+          (none_value (λ (c : Metric). Says s i now a (Near_in c)) row.metrics.near_in (λ c h. only (Near_in c) h) r.near_in)
+          (none_value (λ (c : Metric). Says s i now a (Near_out c)) row.metrics.near_out (λ c h. only (Near_out c) h) r.near_out);
+      mpr = no_mpr row.mpr (not_set row.mpr.flooding (λ set. only Flooding (r.flooding.0 set))) (not_set row.mpr.routing (λ set. only Routing (r.routing.0 set)));
+    }
+
+pub own_rows : (settings : RouterSettings) (near : Neighbourhood) (relays : Relays) (i now : ℕ) (hello : Hello) → SoundNeighbourhood settings now near →
+    ((s : State) → s.settings ≡ settings → s.bases.neighbourhood ≡ near → s.relays ≡ relays → IsHelloNow s i now hello) → (row : HelloRow) → Contains hello.rows row → IsSome row.local → IsAlone row
+own_rows settings near relays i now hello sound is = own_row (sample settings near relays) i now now hello sound (is (sample settings near relays) refl refl refl)

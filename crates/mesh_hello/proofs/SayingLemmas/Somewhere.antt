@@ -1,0 +1,212 @@
+-- The addresses of which something is said are those that are put into the list.
+use Rattle.std.proofs.Common.{◌≡◌, ◌⊎◌, ◌++◌, ℕ, Bool, true, false, cond, nat_lt, zero, suc, inl, inr, List, [], ◌∷◌, refl, sym, ◌∙◌, ap, subst, slice_get, arith}
+use Rattle.std.specs.Prelude.{Contains, Option, Some, None, IsTrue}
+use Rattle.std.specs.List.{flat_map}
+use Rattle.std.specs.Map.{keys_of}
+use Rattle.std.proofs.lemmas.Bool.{false≢true, cases_eq}
+use Rattle.std.proofs.lemmas.List.Elements.{Contains-append_left, Contains-append_right, Contains-append_cases}
+use Rattle.mesh_atoms.specs.declared.addr.Addr4.{Addr4}
+use Rattle.mesh_atoms.specs.declared.hello.LinkStatus.{LinkStatus}
+use Rattle.mesh_atoms.specs.declared.hello.LinkStatus.TheVariants.{Lost as Down, Symmetric, Heard}
+use Rattle.mesh_atoms.specs.declared.settings.Interface.{Interface}
+use Rattle.mesh_atoms.specs.declared.tuples.LinkKey.{LinkKey}
+use Rattle.mesh_atoms.specs.declared.tuples.Link.{Link}
+use Rattle.mesh_atoms.specs.declared.tuples.Lost.{Lost}
+use Rattle.mesh_atoms.specs.declared.tuples.Neighbour.{Neighbour}
+use Rattle.mesh_atoms.specs.Base.{Base, Has}
+use Rattle.mesh_atoms.specs.Hello.{Part, This_if, Other_if, Link_lost, Link_symmetric, Link_heard, Other_lost, Other_symmetric, Link_in, Link_out, Near_in, Near_out, Flooding, Routing, Says, HasLinkTo}
+use Rattle.mesh_atoms.specs.declared.tuples.LinkState.{LinkState}
+use Rattle.mesh_atoms.specs.declared.tuples.LinkState.TheVariants.{Pending as Is_pending, Lost as Is_lost, Symmetric as Is_symmetric, Heard as Is_heard}
+use Rattle.mesh_atoms.specs.State.{State, state_of, HasSymmetricWith, HasAddressOn}
+use Rattle.mesh_hello.specs.Saying.Said.{linked_addresses, symmetric_addresses, said_addresses}
+use Rattle.mesh_hello.proofs.Lookups.{some_same, Contains_at}
+use Rattle.mesh_hello.proofs.Places.{place_of}
+use Rattle.mesh_hello.proofs.SayingLemmas.Parts.{IsStatus, not_symmetric}
+
+-- Lists in general
+
+pub cons_cases : {X : Type 0} (x a : X) (xs : List X) → Contains (x ∷ xs) a → (x ≡ a) ⊎ Contains xs a
+cons_cases x a xs (zero, lt, at) = inl at
+cons_cases x a xs (suc k, lt, at) = inr (k, omega arith, at)
+
+cons_first : {X : Type 0} (x : X) (xs : List X) → Contains (x ∷ xs) x
+cons_first x xs = (0, omega arith, refl)
+
+cons_more : {X : Type 0} (x a : X) (xs : List X) → Contains xs a → Contains (x ∷ xs) a
+cons_more x a xs w = (suc w.0, omega (arith, w.1), w.2)
+
+pub flat_given : {X Y : Type 0} (f : X → List Y) (xs : List X) (y : Y) → Contains (flat_map f xs) y → (x : X) × Contains xs x × Contains (f x) y
+flat_given f [] y (k, lt, at) = absurd (omega arith)
+flat_given f (x ∷ xs) y w = elim (Contains-append_cases (f x) (flat_map f xs) y w) [
+  | inl here ↦ (x, cons_first x xs, here)
+  | inr later ↦ let (z, in', has) = flat_given f xs y later in (z, cons_more x z xs in', has)
+]
+
+pub flat_gives : {X Y : Type 0} (f : X → List Y) (xs : List X) (x : X) (y : Y) → Contains xs x → Contains (f x) y → Contains (flat_map f xs) y
+flat_gives f [] x y (k, lt, at) has = absurd (omega arith)
+flat_gives {X} {Y} f (z ∷ xs) x y w has = elim (cons_cases z x xs w) [
+  | inl e ↦ Contains-append_left (f z) (flat_map f xs) y (subst (λ (v : X). Contains (f v) y) (sym e) has)
+  | inr later ↦ Contains-append_right (f z) (flat_map f xs) y (flat_gives f xs x y later has)
+]
+
+key_given : {K V : Type 0} (xs : List (K × V)) (k : K) → Contains (keys_of xs) k → (v : V) × Contains xs (k, v)
+key_given [] k (n, lt, at) = absurd (omega arith)
+key_given {K} {V} (x ∷ xs) k w = elim (cons_cases x.0 k (keys_of xs) w) [
+  | inl e ↦ let P : K → Type 0 = λ q. Contains (x ∷ xs) (q, x.1) in (x.1, subst P e (cons_first x xs))
+  | inr later ↦ let (v, in') = key_given xs k later in (v, cons_more x (k, v) xs in')
+]
+
+key_gives : {K V : Type 0} (xs : List (K × V)) (k : K) (v : V) → Contains xs (k, v) → Contains (keys_of xs) k
+key_gives [] k v (n, lt, at) = absurd (omega arith)
+key_gives {K} {V} (x ∷ xs) k v w = elim (cons_cases x (k, v) xs w) [
+  | inl e ↦ subst (λ (q : K). Contains (x.0 ∷ keys_of xs) q) (ap (λ (q : K × V). q.0) e) (cons_first x.0 (keys_of xs))
+  | inr later ↦ cons_more x.0 k (keys_of xs) (key_gives xs k v later)
+]
+
+-- The addresses of one tuple
+
+linked_not_pending : (l : Link) (a : Addr4) (pending : Bool) → l.pending ≡ pending → Contains (cond pending [] l.addrs) a → (l.pending ≡ false) × Contains l.addrs a
+linked_not_pending l a true is (k, lt, at) = absurd (omega arith)
+linked_not_pending l a false is has = (is, has)
+
+linked_so : (l : Link) (a : Addr4) (pending : Bool) → l.pending ≡ pending → (l.pending ≡ true → ⊥) → Contains l.addrs a → Contains (cond pending [] l.addrs) a
+linked_so l a true is not has = absurd (not is)
+linked_so l a false is not has = has
+
+symmetric_given : (n : Neighbour) (a : Addr4) (symmetric : Bool) → n.symmetric ≡ symmetric → Contains (cond symmetric n.addrs []) a → IsTrue n.symmetric × Contains n.addrs a
+symmetric_given n a true is has = (is, has)
+symmetric_given n a false is (k, lt, at) = absurd (omega arith)
+
+symmetric_so : (n : Neighbour) (a : Addr4) (symmetric : Bool) → n.symmetric ≡ symmetric → IsTrue n.symmetric → Contains n.addrs a → Contains (cond symmetric n.addrs []) a
+symmetric_so n a true is so has = has
+symmetric_so n a false is so has = absurd (false≢true (sym is ∙ so))
+
+-- a state that is another
+abbrev is_pending : LinkState → Bool
+is_pending Is_pending = true
+is_pending state = false
+
+not_pending : {state : LinkState} → is_pending state ≡ false → state ≡ Is_pending → ⊥
+not_pending other h = false≢true (sym other ∙ ap is_pending h)
+
+pending_state : (l : Link) (now : ℕ) → l.pending ≡ true → state_of l now ≡ Is_pending
+pending_state l now is = rw is refl
+
+not_pending_state : (l : Link) (now : ℕ) → l.pending ≡ false → state_of l now ≡ Is_pending → ⊥
+not_pending_state l now is h = by_cases l.lost (nat_lt now l.sym) (nat_lt now l.heard) (rw is at h) where
+  by_cases : (lost late heard : Bool) → cond lost Is_lost (cond late Is_symmetric (cond heard Is_heard Is_lost)) ≡ Is_pending → ⊥
+  by_cases true late heard e = not_pending refl e
+  by_cases false true heard e = not_pending refl e
+  by_cases false false true e = not_pending refl e
+  by_cases false false false e = not_pending refl e
+
+-- The addresses of a router
+
+module _ (s : State) (i now : ℕ) (a : Addr4) (links : Base LinkKey Link) (at : slice_get s.bases.neighbourhood.links i ≡ Some links) where
+  abbrev mine : List Addr4
+  mine = flat_map (λ (face : Interface). face.addrs) s.settings.interfaces
+
+  abbrev linked : List Addr4
+  linked = flat_map (λ (e : LinkKey × (Link × ℕ)). linked_addresses e.1.0) links
+
+  abbrev near : List Addr4
+  near = flat_map (λ (e : Addr4 × (Neighbour × ℕ)). symmetric_addresses e.1.0) s.bases.neighbourhood.neighbours
+
+  abbrev gone : List Addr4
+  gone = keys_of s.bases.neighbourhood.losts
+
+  abbrev told : List Addr4
+  told = said_addresses s.settings links s.bases.neighbourhood.neighbours s.bases.neighbourhood.losts
+
+  -- What is said is of an address of the list
+
+  own_in : (j : ℕ) → HasAddressOn s.settings j a → Contains told a
+  own_in j (face, there, has) =
+      Contains-append_right gone (mine ++ (linked ++ near)) a
+      (Contains-append_left mine (linked ++ near) a (flat_gives (λ (f : Interface). f.addrs) s.settings.interfaces face a (Contains_at s.settings.interfaces j face there) has))
+
+  link_in : (state : LinkState) (l : Link) → (state ≡ Is_pending → ⊥) → HasLinkTo s i now a state l → Contains told a
+  link_in state l not (key, (base, there, (until, stands)), has, is) =
+      let P : Base LinkKey Link → Type 0 = λ b. Contains b (key, (l, until)) in
+      Contains-append_right gone (mine ++ (linked ++ near)) a
+      (Contains-append_right mine (linked ++ near) a
+      (Contains-append_left linked near a
+      (flat_gives (λ (e : LinkKey × (Link × ℕ)). linked_addresses e.1.0) links (key, (l, until)) a (subst P (some_same there at) stands)
+      (linked_so l a l.pending refl (λ p. not (sym is ∙ pending_state l now p)) has))))
+
+  near_in : (o : Addr4) (n : Neighbour) → HasSymmetricWith s a o n → Contains told a
+  near_in o n (((until, stands), is), has) =
+      Contains-append_right gone (mine ++ (linked ++ near)) a
+      (Contains-append_right mine (linked ++ near) a
+      (Contains-append_right linked near a
+      (flat_gives (λ (e : Addr4 × (Neighbour × ℕ)). symmetric_addresses e.1.0) s.bases.neighbourhood.neighbours (o, (n, until)) a stands
+      (symmetric_so n a n.symmetric refl is has))))
+
+  gone_in : (lost : Lost) → Has s.bases.neighbourhood.losts a lost → Contains told a
+  gone_in lost (until, stands) =
+      Contains-append_left gone (mine ++ (linked ++ near)) a (key_gives s.bases.neighbourhood.losts a (lost, until) stands)
+
+  pub told_all : (part : Part) → Says s i now a part → Contains told a
+  told_all This_if w = own_in i w
+  told_all Other_if w = own_in w.0 w.2
+  told_all Link_lost w = link_in Is_lost w.0 (not_pending refl) w.1
+  told_all Link_symmetric w = link_in Is_symmetric w.0 (not_pending refl) w.1
+  told_all Link_heard w = link_in Is_heard w.0 (not_pending refl) w.1
+  told_all Other_lost w = gone_in w.0 w.1
+  told_all Other_symmetric w = near_in w.0.0 w.0.1 w.0.2
+  told_all (Link_in m) (l, inl to, is) = link_in Is_heard l (not_pending refl) to
+  told_all (Link_in m) (l, inr to, is) = link_in Is_symmetric l (not_pending refl) to
+  told_all (Link_out m) w = link_in Is_symmetric w.0 (not_pending refl) w.1
+  told_all (Near_in m) w = near_in w.0 w.1 w.2
+  told_all (Near_out m) w = near_in w.0 w.1 w.2
+  told_all Flooding w = link_in Is_symmetric w.0 (not_pending refl) w.1
+  told_all Routing w = near_in w.0 w.1 w.2
+
+  -- Of an address of the list something is said
+
+  abbrev Somewhat : Type 0
+  Somewhat = (part : Part) × Says s i now a part
+
+  own_said : Contains mine a → Somewhat
+  own_said w =
+      let (face, stands, has) = flat_given (λ (f : Interface). f.addrs) s.settings.interfaces a w in
+      let (j, _, there) = place_of s.settings.interfaces face stands in
+      elim (cases_eq j i) [
+        | inl e ↦ let P : ℕ → Type 0 = λ k. HasAddressOn s.settings k a in (This_if, subst P e (face, there, has))
+        | inr ne ↦ (Other_if, (j, ne, (face, there, has)))
+      ]
+
+  link_said : Contains linked a → Somewhat
+  link_said w =
+      let (e, stands, has) = flat_given (λ (x : LinkKey × (Link × ℕ)). linked_addresses x.1.0) links a w in
+      let (is, has') = linked_not_pending e.1.0 a e.1.0.pending refl has in
+      by_state e has' (not_pending_state e.1.0 now is) stands (state_of e.1.0 now) refl where
+        by_state : (e : LinkKey × (Link × ℕ)) → Contains e.1.0.addrs a → (state_of e.1.0 now ≡ Is_pending → ⊥) → Contains links e → (state : LinkState) → state_of e.1.0 now ≡ state → Somewhat
+        by_state e has not stands Is_pending is = absurd (not is)
+        by_state e has not stands Is_lost is = (Link_lost, (e.1.0, (e.0, (links, at, (e.1.1, stands)), has, is)))
+        by_state e has not stands Is_symmetric is = (Link_symmetric, (e.1.0, (e.0, (links, at, (e.1.1, stands)), has, is)))
+        by_state e has not stands Is_heard is = (Link_heard, (e.1.0, (e.0, (links, at, (e.1.1, stands)), has, is)))
+
+  near_said : (link : Option (LinkKey × (Link × ℕ))) (status : Option LinkStatus) → IsStatus s i now a link status → Contains near a → Somewhat
+  near_said link status is w =
+      let (e, stands, has) = flat_given (λ (x : Addr4 × (Neighbour × ℕ)). symmetric_addresses x.1.0) s.bases.neighbourhood.neighbours a w in
+      let (so, has') = symmetric_given e.1.0 a e.1.0.symmetric refl has in
+      let with' : HasSymmetricWith s a e.0 e.1.0 = (((e.1.1, stands), so), has') in
+      by_status status is e with' where
+        by_status : (status : Option LinkStatus) → IsStatus s i now a link status → (e : Addr4 × (Neighbour × ℕ)) → HasSymmetricWith s a e.0 e.1.0 → Somewhat
+        by_status (Some Symmetric) is e with' = let (f, _, to) = is.told Symmetric refl in (Link_symmetric, (f.1.0, to))
+        by_status None is e with' = (Other_symmetric, ((e.0, e.1.0, with'), λ w. not_symmetric refl (is.all Symmetric w.0 w.1).0))
+        by_status (Some Down) is e with' = (Other_symmetric, ((e.0, e.1.0, with'), λ w. not_symmetric refl (is.all Symmetric w.0 w.1).0))
+        by_status (Some Heard) is e with' = (Other_symmetric, ((e.0, e.1.0, with'), λ w. not_symmetric refl (is.all Symmetric w.0 w.1).0))
+
+  gone_said : Contains gone a → Somewhat
+  gone_said w = let (v, stands) = key_given s.bases.neighbourhood.losts a w in (Other_lost, (v.0, (v.1, stands)))
+
+  pub told_some : (link : Option (LinkKey × (Link × ℕ))) (status : Option LinkStatus) → IsStatus s i now a link status → Contains told a → Somewhat
+  told_some link status is w = elim (Contains-append_cases gone (mine ++ (linked ++ near)) a w) [
+    | inl g ↦ gone_said g
+    | inr x ↦ elim (Contains-append_cases mine (linked ++ near) a x) [
+      | inl m ↦ own_said m
+      | inr y ↦ elim (Contains-append_cases linked near a y) [ inl l ↦ link_said l | inr n ↦ near_said link status is n ]
+    ]
+  ]

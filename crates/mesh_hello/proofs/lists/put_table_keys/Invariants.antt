@@ -1,0 +1,6 @@
+use Rattle.std.proofs.Common.{◌≡◌, ◌++◌, take}
+use Rattle.std.specs.Map.{keys_of}
+use Rattle.mesh_hello.proofs.lists.put_table_keys.Given as goal
+
+abbrev pub invariant-loop-place : goal.invariant-loop-place
+invariant-loop-place g l = l.keys.items ≡ l.fn.keys.items ++ keys_of (take l.place (g.T.Table.content l.table))

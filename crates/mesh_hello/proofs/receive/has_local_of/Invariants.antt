@@ -1,7 +1,0 @@
-use Rattle.std.proofs.Common.{◌≡◌, ℕ, ◌<◌, get_or}
-use Rattle.std.specs.Prelude.{Contains}
-use Rattle.mesh_hello.specs.Receive.{IsLocalWith}
-use Rattle.mesh_hello.proofs.receive.has_local_of.Given as goal
-
-abbrev pub invariant-loop-row : goal.invariant-loop-row
-invariant-loop-row l = (k : ℕ) (row : _) → k < l.row-index → get_or l.hello.rows k row ≡ row → IsLocalWith (Contains l.own) row → ⊥

@@ -1,0 +1,13 @@
+use Rattle.std.proofs.Common.{Contains, refl, sym, subst}
+use Rattle.mesh_hello.proofs.told.mine.tells_mine.Goals as goal
+
+pub returns-then-bears : goal.returns-then-bears
+returns-then-bears c = (
+  λ h. (
+    c.row-item.result,
+    subst (λ rows. Contains rows c.row-item.result) c.as_slice-row-items.ensures (c.loop-row.row-index, c.loop-row-test.true, sym c.row-item.is),
+    c.if-is_row_of.ensures.0 refl,
+    c.if-bears.ensures.0 refl,
+  ),
+  λ h. refl,
+)

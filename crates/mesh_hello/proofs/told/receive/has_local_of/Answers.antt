@@ -1,0 +1,7 @@
+use Rattle.std.proofs.Common.{sym, refl}
+use Rattle.mesh_hello.proofs.told.receive.has_local_of.Goals as goal
+
+pub returns-then-is_local_of : goal.returns-then-is_local_of
+returns-then-is_local_of c =
+    rw (← c.as_slice-row-items.ensures)
+    ((λ h. (c.loop-row.row-index, c.row-item.result, c.loop-row-test.true, sym c.row-item.is, c.is_local_of.ensures.0 c.if-is_local_of.true)), (λ h. refl))

@@ -1,6 +1,0 @@
--- What a HELLO tells, as the definitions of the taking of a HELLO have it.
-use Rattle.mesh_atoms.specs.HelloTold.{Told}
-use Rattle.mesh_hello.specs.declared.telling.Telling.{Telling}
-
-abbrev pub told_of : Telling → Told
-told_of t = record { shown = t.shown; least = t.least; listed = t.listed; originator = t.originator; willing = t.willing; routing = t.routing }

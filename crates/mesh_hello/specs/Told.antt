@@ -1,0 +1,4 @@
+pub mod Mine
+pub mod Receive
+pub mod Sender
+pub mod Telling

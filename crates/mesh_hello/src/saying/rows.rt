@@ -1,0 +1,89 @@
+//! The rows of a HELLO.
+ghost use Rattle.std.specs.Prelude.{◌≡◌, ◌↔◌, IsTrue, Contains, IfOk, map};
+ghost use Rattle.mesh_atoms.specs.Base.{Has, HasDistinctKeys, addr_eq, host};
+ghost use Rattle.mesh_hello.specs.Saying.Said.{AreDisjoint, IsRowOf, said_addresses};
+
+use crate::saying::said_of::{
+    is_flooding_relay, is_relay, link_in_said, link_out_said, link_status_said, local_of,
+    near_in_said, near_out_said, neighbour_with, other_said,
+};
+use mesh_atoms::{
+    Addr4, HelloRow, Link, LinkKey, Lost, Metrics, Mpr, Neighbour, Relays, RouterSettings, Seq,
+    host,
+};
+use mesh_expire::Table;
+use mesh_links::LinkSet;
+use mesh_nbrs::NeighbourSet;
+use std::alloc::{AllocError, Global};
+
+/// Whether the address is lost.
+fn is_lost<T: Table<Addr4, Lost>>(losts: &T, addr: Addr4) -> bool
+    requires { HasDistinctKeys addr_eq (T.content losts.now) }
+    ensures { IsTrue result ↔ ((lost : _) × Has (T.content losts.now) addr lost) }
+{
+    losts.get(&addr).is_some()
+}
+
+/// The row of an address of which something is said.
+fn row_of<L: Table<LinkKey, Link>, N: Table<Addr4, Neighbour>, O: Table<Addr4, Lost>>(
+    settings: &RouterSettings,
+    links: &LinkSet<L>,
+    neighbours: &NeighbourSet<N>,
+    losts: &O,
+    relays: &Relays,
+    iface: usize,
+    now: u64,
+    addr: Addr4,
+) -> HelloRow
+    requires apart { AreDisjoint links.now neighbours.now (O.content losts.now) }
+    requires said { Contains (said_addresses settings.now links.now neighbours.now (O.content losts.now)) addr }
+    ensures addr { result.addr ≡ host addr }
+    ensures says { IsRowOf settings.now links.now neighbours.now (O.content losts.now) relays.now iface now result addr }
+{
+    let link = links.with_address(addr);
+    let neighbour = neighbour_with(neighbours, addr);
+    let status = link_status_said(link, now);
+    HelloRow {
+        addr: host(addr),
+        local: local_of(settings, iface, addr),
+        link: status,
+        other: other_said(status, neighbour.is_some(), is_lost(losts, addr)),
+        metrics: Metrics {
+            link_in: link_in_said(status, link),
+            link_out: link_out_said(status, link),
+            near_in: near_in_said(neighbour),
+            near_out: near_out_said(neighbour),
+        },
+        mpr: Mpr {
+            flooding: is_flooding_relay(&relays.flooding, iface, status, neighbour),
+            routing: is_relay(relays.routing.as_slice(), neighbour),
+        },
+    }
+}
+
+/// The rows of those addresses, in their order. Each address is looked up among the links, the neighbours and the lost ones.
+pub fn rows_of<L: Table<LinkKey, Link>, N: Table<Addr4, Neighbour>, O: Table<Addr4, Lost>>(
+    alloc: Global,
+    settings: &RouterSettings,
+    links: &LinkSet<L>,
+    neighbours: &NeighbourSet<N>,
+    losts: &O,
+    relays: &Relays,
+    iface: usize,
+    now: u64,
+    addrs: &[Addr4],
+) -> Result<Seq<HelloRow>, AllocError>
+    requires apart { AreDisjoint links.now neighbours.now (O.content losts.now) }
+    requires said { (a : Addr4) → Contains addrs.now a → Contains (said_addresses settings.now links.now neighbours.now (O.content losts.now)) a }
+    ensures addrs { IfOk result (λ rows. map (λ row. row.addr) rows ≡ map host addrs.now) }
+    ensures says { IfOk result (λ rows. (row : HelloRow) → Contains rows row → (a : Addr4) ×
+        IsRowOf settings.now links.now neighbours.now (O.content losts.now) relays.now iface now row a) }
+{
+    let mut rows = Seq::new(alloc);
+    for addr in addrs {
+        rows.push(row_of(
+            settings, links, neighbours, losts, relays, iface, now, *addr,
+        ))?;
+    }
+    Ok(rows)
+}

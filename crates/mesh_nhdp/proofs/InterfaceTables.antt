@@ -1,0 +1,57 @@
+-- The tables of one interface of a router.
+use Rattle.std.proofs.Common.{◌≡◌, ◌<◌, ◌≤◌, ℕ, false, nat_lt, inl, inr, sym, ◌∙◌, ap, subst, length, get_or, arith}
+use Rattle.std.specs.Prelude.{List, [], Some, None, slice_get}
+use Rattle.std.proofs.lemmas.List.{get_or_default, get_or_past}
+use Rattle.std.proofs.lemmas.Option.{slice_get-get_or, none-some}
+use Rattle.std.proofs.lemmas.Bool.{cases_lt, lt-ltb, false≢true}
+use Rattle.mesh_atoms.specs.declared.addr.Addr4.{Addr4}
+use Rattle.mesh_atoms.specs.declared.tuples.LinkKey.{LinkKey}
+use Rattle.mesh_atoms.specs.declared.tuples.Link.{Link}
+use Rattle.mesh_atoms.specs.declared.tuples.Lost.{Lost}
+use Rattle.mesh_atoms.specs.declared.tuples.Neighbour.{Neighbour}
+use Rattle.mesh_atoms.specs.declared.tuples.Relays.{Relays}
+use Rattle.mesh_atoms.specs.Base.{Base, base_of}
+use Rattle.mesh_atoms.specs.Sound.{SoundNeighbourhood}
+use Rattle.mesh_atoms.specs.State.{State, Neighbourhood}
+use Rattle.mesh_links.specs.Links.{SelectorOf, Unlinked}
+use Rattle.mesh_nhdp.specs.NhdpState.{NhdpState}
+use Rattle.mesh_hello.specs.Saying.Said.{AreDisjoint, IsSeen}
+use Rattle.mesh_hello.proofs.SayingLemmas.Message.{apart_by}
+
+-- a place within a list is of an element, whatever stands for none
+stands_at : {A : Type 0} (xs : List A) (i : ℕ) (x d : A) → x ≡ get_or xs i x → i < length xs → get_or xs i d ≡ x
+stands_at xs i x d is lt = get_or_default xs i d x lt ∙ sym is
+
+-- where the neighbourhood is sound, no two tuples of a kind have an address in common
+pub apart_held : (held inside : NhdpState) (now i : ℕ) (links l : Base LinkKey Link) (neighbours : Base Addr4 Neighbour) (losts : Base Addr4 Lost) → inside ≡ held →
+    SoundNeighbourhood held.settings now held.near → i < length held.settings.interfaces → links ≡ l → l ≡ get_or inside.near.links i l → neighbours ≡ inside.near.neighbours → losts ≡ inside.near.losts →
+    AreDisjoint links neighbours losts
+apart_held held inside now i links l neighbours losts is sound lt e f g h =
+    let lt' : i < length held.near.links = omega (arith, lt, sound.interfaces) in
+    let there : l ≡ get_or held.near.links i l = f ∙ ap (λ (x : NhdpState). get_or x.near.links i l) is in
+    rw (e, ← stands_at held.near.links i l [] there lt', g, h, is) (apart_by held.settings now held.near i sound)
+
+-- they are what each state with these settings, this neighbourhood and these relays has
+pub seen_held : (held inside : NhdpState) (now i : ℕ) (links l : Base LinkKey Link) (neighbours : Base Addr4 Neighbour) (losts : Base Addr4 Lost) → inside ≡ held →
+    SoundNeighbourhood held.settings now held.near → i < length held.settings.interfaces → links ≡ l → l ≡ get_or inside.near.links i l → neighbours ≡ inside.near.neighbours → losts ≡ inside.near.losts →
+    (relays : Relays) (s : State) → s.settings ≡ held.settings → s.bases.neighbourhood ≡ held.near → s.relays ≡ relays → IsSeen s inside.settings links neighbours losts relays i
+seen_held held inside now i links l neighbours losts is sound lt e f g h relays s own near chosen =
+    let lt' : i < length held.near.links = omega (arith, lt, sound.interfaces) in
+    let there : l ≡ get_or held.near.links i l = f ∙ ap (λ (x : NhdpState). get_or x.near.links i l) is in
+    record {
+      settings_are = own ∙ ap (λ (x : NhdpState). x.settings) (sym is);
+      links_are = ap (λ (n : Neighbourhood). slice_get n.links i) near ∙ (slice_get-get_or held.near.links i l lt' ∙ ap (λ (x : Base LinkKey Link). Some x) (sym there ∙ sym e));
+      neighbours_are = ap (λ (n : Neighbourhood). n.neighbours) near ∙ (ap (λ (x : NhdpState). x.near.neighbours) (sym is) ∙ sym g);
+      losts_are = ap (λ (n : Neighbourhood). n.losts) near ∙ (ap (λ (x : NhdpState). x.near.losts) (sym is) ∙ sym h);
+      relays_are = chosen;
+    }
+
+-- no link, where there is no such interface
+pub no_selector : (links items : List (Base LinkKey Link)) (i now : ℕ) (a : Addr4) → items ≡ links → false ≡ nat_lt i (length items) → SelectorOf (base_of links i) now a None
+no_selector links items i now a same past = elim (cases_lt i (length items)) [
+  | inl lt ↦ absurd (false≢true (past ∙ lt-ltb i (length items) lt))
+  | inr le ↦
+      let P : Base LinkKey Link → Type 0 = λ base. SelectorOf base now a None in
+      let empty : base_of links i ≡ [] = get_or_past links i [] (subst (λ (l : List (Base LinkKey Link)). length l ≤ i) same le) in
+      subst P (sym empty) (Unlinked (λ link w. none-some (link, w.1) w.2))
+]

@@ -1,6 +1,0 @@
-use Rattle.std.proofs.Common.{◌≡◌, ◌++◌, take}
-use Rattle.std.specs.Map.{keys_of}
-use Rattle.mesh_nhdp.proofs.keys.put_table_keys.Given as goal
-
-abbrev pub invariant-loop-place : goal.invariant-loop-place
-invariant-loop-place g l = l.keys.items ≡ l.fn.keys.items ++ keys_of (take l.place (g.T.Table.content l.table))
