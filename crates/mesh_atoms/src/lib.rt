@@ -8,12 +8,14 @@ mod admit;
 mod agreement;
 mod bytes;
 mod codes;
+mod gap;
 mod graphs;
 mod hello;
 pub mod hello_rule;
 mod hosts;
 mod least;
 mod literals;
+mod network;
 mod octets;
 mod originator;
 mod quality;
@@ -37,6 +39,7 @@ pub use admit::{Admit, QualityStep, SenderQuality};
 pub use agreement::definitions_agree;
 pub use bytes::Bytes;
 pub use codes::{Metric, seq_newer, time_at, time_code_at_least, time_of};
+pub use gap::{Gap, GapKey, GapKind, GapValue};
 pub use graphs::{
     Arc4, Certificate, Direct, Far, Graph, Near, NeighbourGraph, Pair, PathRow, RadioGraph, Route,
 };
@@ -44,6 +47,7 @@ pub use hello::{Hello, HelloRow, LinkStatus, LocalIf, Metrics, Mpr, OtherStatus,
 pub use hosts::host;
 pub use least::least_metric;
 pub use literals::{address_of, endpoint_of, name_of, net_of, number_of, place_of};
+pub use network::{Counts, Emission, NetEvent};
 pub use octets::{read_octet, read_short, refuse};
 pub use quality::quality_at;
 pub use refusal::{DecodeFault, Refusal};

@@ -14,10 +14,10 @@ use Rattle.mesh_io.specs.declared.stop.Stop.TheVariants as stop
 use Rattle.mesh_emulate.specs.Emulation.{IsProbeOf}
 use Rattle.mesh_probe.specs.declared.coverage.Probe.{Probe}
 use Rattle.mesh_probe.specs.Text.{IsProbeText}
-use Rattle.mesh_radio.specs.declared.event.NetEvent.{NetEvent}
+use Rattle.mesh_atoms.specs.declared.network.NetEvent.{NetEvent}
 use Rattle.mesh_radio.specs.Net.{Net}
 use Rattle.mesh_radio.specs.Run.{IsOver, NetRun}
-use Rattle.mesh_settled.specs.declared.gaps.gap.Gap.{Gap}
+use Rattle.mesh_atoms.specs.declared.gap.Gap.{Gap}
 use Rattle.mesh_texts.specs.Events.{IsTaken}
 use Rattle.mesh_texts.specs.Network.{IsGapOf, IsSummary}
 use Rattle.mesh_texts.specs.Runs.{Traces, WholeRun, IsRunText, FirstEvents, IsFirstTrace}

@@ -1,6 +1,6 @@
 //! An emulated network, whatever tables its routers have.
 ghost use Rattle.std.specs.Prelude.{◌≡◌, List, map, IfOk, OnOk, MatchOption, IfSome};
-ghost use Rattle.mesh_radio.specs.declared.event.NetEvent.{NetEvent};
+ghost use Rattle.mesh_atoms.specs.declared.network.NetEvent.{NetEvent};
 ghost use Rattle.mesh_radio.specs.Net.{Net, NetStep};
 ghost use Rattle.mesh_radio.specs.Run.{IsOver, IsOfPackets, NetRun};
 

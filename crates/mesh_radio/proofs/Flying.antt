@@ -6,7 +6,7 @@ use Rattle.mesh_atoms.specs.declared.settings.RadioArc.{RadioArc}
 use Rattle.mesh_atoms.specs.declared.settings.RouterSettings.{RouterSettings}
 use Rattle.mesh_atoms.specs.declared.settings.Scenario.{Scenario}
 use Rattle.mesh_machine.specs.Sendable.{IsSendable}
-use Rattle.mesh_radio.specs.declared.traffic.emission.Emission.{Emission}
+use Rattle.mesh_atoms.specs.declared.network.Emission.{Emission}
 use Rattle.mesh_radio.specs.Traffic.Sending.{Traffic, Delivery, IsHeardFirst, Spreads, No_arcs, Loses, Carries, SendsAll, leaves, leaving, frame_of, with_delivery, with_loss, with_sent}
 use Rattle.mesh_radio.specs.Scene.{IsFlying}
 use Rattle.mesh_radio.proofs.TrafficLemmas.Places.{all_turned}

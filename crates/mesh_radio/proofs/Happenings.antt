@@ -12,12 +12,12 @@ use Rattle.mesh_atoms.specs.State.{State}
 use Rattle.mesh_machine.specs.declared.frame.Frame.{Frame}
 use Rattle.mesh_machine.specs.Machine.{Hear}
 use Rattle.mesh_machine.specs.Sendable.{IsPacket, IsSendable}
-use Rattle.mesh_radio.specs.declared.traffic.emission.Emission.{Emission}
+use Rattle.mesh_atoms.specs.declared.network.Emission.{Emission}
 use Rattle.mesh_radio.specs.declared.traffic.traffic.Traffic.{Traffic as Kept}
 use Rattle.mesh_radio.specs.Traffic.Sending.{Traffic, Delivery, IsHeardFirst, SendsAll, with_heard, frame_of}
 use Rattle.mesh_radio.specs.Traffic.Traffic.{traffic_of}
 use Rattle.mesh_radio.proofs.TrafficLemmas.Places.{same_at, all_turned}
-use Rattle.mesh_radio.specs.declared.event.NetEvent.{NetEvent}
+use Rattle.mesh_atoms.specs.declared.network.NetEvent.{NetEvent}
 use Rattle.mesh_radio.specs.declared.scene.Due.{Due}
 use Rattle.mesh_radio.specs.declared.scene.Scene.{Scene}
 use Rattle.mesh_radio.specs.declared.scene.Tick.{Tick}

@@ -1,6 +1,6 @@
 -- Runs of a network.
 use Rattle.std.proofs.Common.{◌≡◌, List, [], ◌∷◌, subst, sym}
-use Rattle.mesh_radio.specs.declared.event.NetEvent.{NetEvent}
+use Rattle.mesh_atoms.specs.declared.network.NetEvent.{NetEvent}
 use Rattle.mesh_radio.specs.Net.{Net, NetStep}
 use Rattle.mesh_radio.specs.Run.{NetRun, IsOver}
 

@@ -11,7 +11,7 @@ use Rattle.mesh_machine.proofs.Effects.{ticks_due}
 use Rattle.mesh_machine.proofs.Opening.{runs_sound}
 use Rattle.mesh_machine.specs.declared.frame.Frame.{Frame}
 use Rattle.mesh_machine.specs.Machine.{Step, Ticked, Tick, Steps, No_events, First_event, due}
-use Rattle.mesh_radio.specs.declared.event.NetEvent.{NetEvent}
+use Rattle.mesh_atoms.specs.declared.network.NetEvent.{NetEvent}
 use Rattle.mesh_radio.specs.Net.{Net, NetStep, By_delivery, By_tick, By_last_tick, Moves, HasOnlyLastTicks, event_of, frames_of, happening}
 use Rattle.mesh_radio.specs.Traffic.Sending.{Traffic, Delivery, with_heard}
 use Rattle.mesh_radio.specs.Run.{NetRun, AreMachines, EndTogether, events_at}

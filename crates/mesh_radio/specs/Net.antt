@@ -9,7 +9,7 @@ use Rattle.mesh_atoms.specs.State.{State}
 use Rattle.mesh_machine.specs.declared.frame.Frame.{Frame}
 use Rattle.mesh_machine.specs.Machine.{Event, Hear, Tick, Step, due}
 use Rattle.mesh_radio.specs.Traffic.Sending.{Delivery, Traffic, frame_of, with_heard, SendsAll, IsHeardFirst}
-use Rattle.mesh_radio.specs.declared.event.NetEvent.{NetEvent}
+use Rattle.mesh_atoms.specs.declared.network.NetEvent.{NetEvent}
 
 -- a network at a moment
 pub record Net : Type 0 where

@@ -8,7 +8,7 @@ use Rattle.mesh_atoms.specs.State.{State}
 use Rattle.mesh_core.specs.Holding.{CoreValue}
 use Rattle.mesh_machine.specs.Machine.{IsOpening, Run}
 use Rattle.mesh_machine.specs.Sendable.{IsPacket}
-use Rattle.mesh_radio.specs.declared.event.NetEvent.{NetEvent}
+use Rattle.mesh_atoms.specs.declared.network.NetEvent.{NetEvent}
 use Rattle.mesh_radio.specs.Net.{Net, NetStep, HasOnlyLastTicks, event_of, frames_of}
 
 -- an emulated network, and whether it has met want of memory

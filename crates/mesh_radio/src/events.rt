@@ -6,10 +6,9 @@ ghost use Rattle.mesh_radio.specs.Scene.{AreRouters, Lands, TicksOne};
 ghost use Rattle.mesh_radio.specs.Traffic.Traffic.{traffic_of};
 ghost use Rattle.mesh_radio.specs.Traffic.Ways.{AreWays};
 
-use crate::event::NetEvent;
 use crate::routers::{hear, sender_of, tick};
-use crate::traffic::{Emission, Landed, Traffic, Ways, send_all};
-use mesh_atoms::{Addr4, Bytes, RadioArc, Scenario, Seq};
+use crate::traffic::{Landed, Traffic, Ways, send_all};
+use mesh_atoms::{Addr4, Bytes, Emission, NetEvent, RadioArc, Scenario, Seq};
 use mesh_core::{Machine, Outbox};
 use std::alloc::{AllocError, Global};
 use std::rc::Rc;

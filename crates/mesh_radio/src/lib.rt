@@ -2,7 +2,6 @@
 //! run of the machine.
 #![tactic(auto)]
 
-mod event;
 mod events;
 mod laws;
 mod net;
@@ -12,9 +11,7 @@ mod scene;
 mod step;
 mod traffic;
 
-pub use event::NetEvent;
 pub use laws::{machines, routers_end_together};
+pub use mesh_atoms::{Counts, Emission, NetEvent};
 pub use net::Net;
-pub use traffic::{
-    Air, Counts, Draws, Emission, Landed, Traffic, Ways, send_all, ways_of, words_of,
-};
+pub use traffic::{Air, Draws, Landed, Traffic, Ways, send_all, ways_of, words_of};

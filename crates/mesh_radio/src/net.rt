@@ -1,15 +1,13 @@
 //! The emulated network.
 ghost use Rattle.std.specs.Prelude.{◌≡◌, List, false, is_err, IfOk, OnOk, IsErr, IsTrue, MatchOption, IfSome};
-ghost use Rattle.mesh_radio.specs.declared.event.NetEvent.{NetEvent};
+ghost use Rattle.mesh_atoms.specs.declared.network.NetEvent.{NetEvent};
 ghost use Rattle.mesh_radio.specs.Net.{NetStep};
 ghost use Rattle.mesh_radio.specs.Run.{IsOpeningNet, IsOver, IsOfScenario, IsOfPackets, NetRun, states_of};
 
-use crate::event::NetEvent;
 use crate::opening::{Opening, opening_of};
 use crate::scene::Scene;
 use crate::step::next_event;
-use crate::traffic::Counts;
-use mesh_atoms::Scenario;
+use mesh_atoms::{Counts, NetEvent, Scenario};
 use mesh_core::Core;
 use mesh_expire::Bases;
 use std::alloc::{AllocError, Global};

@@ -6,8 +6,8 @@ ghost use Rattle.mesh_radio.specs.Scene.{IsSound, net_of};
 
 use crate::routers::{first_due, routers_of};
 use crate::scene::{Due, Scene};
-use crate::traffic::{Air, Counts, Draws, Traffic, ways_of};
-use mesh_atoms::{RouterSettings, Scenario, Seq};
+use crate::traffic::{Air, Draws, Traffic, ways_of};
+use mesh_atoms::{Counts, RouterSettings, Scenario, Seq};
 use mesh_core::{Machine, Outbox};
 use std::alloc::{AllocError, Global};
 

@@ -2,10 +2,10 @@
 ghost use Rattle.std.specs.Prelude.{map, IfOk, MatchOption};
 ghost use Rattle.mesh_radio.specs.Scene.{Happens, HasNoTick, IsNextTick, IsQuiet, IsSound, Stays, Tells};
 
-use crate::event::NetEvent;
 use crate::events::{land, tick_one};
 use crate::routers::first_due;
 use crate::scene::{Scene, Tick};
+use mesh_atoms::NetEvent;
 use mesh_core::Machine;
 use std::alloc::{AllocError, Global};
 

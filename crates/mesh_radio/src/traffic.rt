@@ -2,12 +2,10 @@
 
 mod air;
 mod draws;
-mod emission;
 mod traffic;
 mod ways;
 
 pub use crate::traffic::air::{Air, Landed};
 pub use crate::traffic::draws::{Draws, words_of};
-pub use crate::traffic::emission::{Counts, Emission};
 pub use crate::traffic::traffic::{Traffic, send_all};
 pub use crate::traffic::ways::{Ways, ways_of};

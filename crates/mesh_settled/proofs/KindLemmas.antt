@@ -8,9 +8,9 @@ use Rattle.mesh_atoms.specs.Base.{host}
 use Rattle.mesh_atoms.specs.Settled.{At, Settled}
 use Rattle.mesh_atoms.specs.State.{State}
 use Rattle.mesh_settled.specs.declared.gaps.found.Found.{Found}
-use Rattle.mesh_settled.specs.declared.gaps.gap.Gap.{Gap}
-use Rattle.mesh_settled.specs.declared.gaps.gap.GapKey.{GapKey}
-use Rattle.mesh_settled.specs.declared.gaps.gap.GapKey.TheVariants.{Link, Neighbour, TwoHop, Router, Address, Network}
+use Rattle.mesh_atoms.specs.declared.gap.Gap.{Gap}
+use Rattle.mesh_atoms.specs.declared.gap.GapKey.{GapKey}
+use Rattle.mesh_atoms.specs.declared.gap.GapKey.TheVariants.{Link, Neighbour, TwoHop, Router, Address, Network}
 use Rattle.mesh_settled.specs.Gaps.Found.{IsLeast}
 use Rattle.mesh_settled.specs.Gaps.Gaps.{Look, look, AreSame, HasNoGap, IsFirstGap, rank_of}
 use Rattle.mesh_settled.specs.Gaps.Network.{IsNetwork}

@@ -4,8 +4,8 @@ use Rattle.mesh_atoms.specs.declared.settings.Scenario.{Scenario}
 use Rattle.mesh_atoms.specs.Settled.{At}
 use Rattle.mesh_atoms.specs.State.{State}
 use Rattle.mesh_settled.specs.declared.gaps.found.Found.{Found}
-use Rattle.mesh_settled.specs.declared.gaps.gap.Gap.{Gap}
-use Rattle.mesh_settled.specs.declared.gaps.gap.GapKey.{GapKey}
+use Rattle.mesh_atoms.specs.declared.gap.Gap.{Gap}
+use Rattle.mesh_atoms.specs.declared.gap.GapKey.{GapKey}
 use Rattle.mesh_settled.specs.declared.gaps.topics.Topic.TheVariants.{Routers, Addresses, Networks}
 use Rattle.mesh_settled.specs.Gaps.Found.{IsGap}
 use Rattle.mesh_settled.specs.Gaps.Gaps.{Look, look, AreSame, HasNoGap, IsFirstGap, rank_of, ranks_before, gap_kind}

@@ -2,7 +2,6 @@
 
 mod compare;
 mod found;
-mod gap;
 mod joints;
 mod law;
 mod links;
@@ -15,7 +14,6 @@ mod topics;
 mod two_hops;
 
 pub use crate::gaps::found::{Found, lesser};
-pub use crate::gaps::gap::{Gap, GapKey, GapKind, GapValue};
 pub use crate::gaps::joints::router_at;
 pub use crate::gaps::law::{gaps_differ, no_gap_is_settled};
 pub use crate::gaps::links::link_gap;

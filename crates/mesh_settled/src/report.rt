@@ -9,10 +9,9 @@ ghost use Rattle.mesh_settled.specs.Kinds.{IsTopologyKey, IsFirstFound, IsFirstA
 ghost use Rattle.mesh_settled.specs.Gaps.Site.{seen, IsSite};
 
 use crate::gaps::{
-    Found, Gap, GapKey, GapKind, Site, Topic, lesser, link_gap, neighbour_gap, router_at,
-    topology_gap, two_hop_gap,
+    Found, Site, Topic, lesser, link_gap, neighbour_gap, router_at, topology_gap, two_hop_gap,
 };
-use mesh_atoms::{RadioGraph, Scenario};
+use mesh_atoms::{Gap, GapKey, GapKind, RadioGraph, Scenario};
 use mesh_machine::RouterView;
 
 // The least gap among the topology tuples of all kinds.

@@ -4,7 +4,7 @@ use Rattle.std.specs.Prelude.{IsNone, IfSome}
 use Rattle.mesh_atoms.specs.declared.settings.Scenario.{Scenario}
 use Rattle.mesh_atoms.specs.Settled.{Settled}
 use Rattle.mesh_atoms.specs.State.{State}
-use Rattle.mesh_settled.specs.declared.gaps.gap.Gap.{Gap}
+use Rattle.mesh_atoms.specs.declared.gap.Gap.{Gap}
 use Rattle.mesh_settled.specs.Gaps.Gaps.{IsFirstGap}
 use Rattle.mesh_texts.specs.Network.{IsGapOf}
 

@@ -15,10 +15,10 @@ use Rattle.mesh_atoms.specs.declared.tuples.Link.{Link}
 use Rattle.mesh_atoms.specs.declared.tuples.LinkKey.{LinkKey}
 use Rattle.mesh_atoms.specs.declared.tuples.Neighbour.{Neighbour}
 use Rattle.mesh_atoms.specs.State.{Bases, state_of}
-use Rattle.mesh_radio.specs.declared.traffic.emission.Counts.{Counts}
-use Rattle.mesh_settled.specs.declared.gaps.gap.Gap.{Gap}
-use Rattle.mesh_settled.specs.declared.gaps.gap.GapKey.{GapKey}
-use Rattle.mesh_settled.specs.declared.gaps.gap.GapKey.TheVariants.{Link as Of_link, Neighbour as Of_neighbour, TwoHop as Of_two_hop, Router as Of_router, Address as Of_address, Network as Of_network}
+use Rattle.mesh_atoms.specs.declared.network.Counts.{Counts}
+use Rattle.mesh_atoms.specs.declared.gap.Gap.{Gap}
+use Rattle.mesh_atoms.specs.declared.gap.GapKey.{GapKey}
+use Rattle.mesh_atoms.specs.declared.gap.GapKey.TheVariants.{Link as Of_link, Neighbour as Of_neighbour, TwoHop as Of_two_hop, Router as Of_router, Address as Of_address, Network as Of_network}
 use Rattle.mesh_machine.specs.Names.{router_name}
 use Rattle.mesh_router_text.specs.Lines.Marks.{joined, line_of, dotted, slashed, node_text, metric_text, choice_text, status_text, nearness_text, relays_text, face_name, faces_of}
 use Rattle.mesh_router_text.specs.Lines.Lines.{router_line, link_line, neighbour_line, held_line, flooding_line, routing_line, route_line, row_line}

@@ -15,7 +15,7 @@ use Rattle.mesh_atoms.specs.Settings.{name_eq}
 use Rattle.mesh_atoms.specs.Settled.{At}
 use Rattle.mesh_atoms.specs.State.{State}
 use Rattle.mesh_atoms.proofs.Kept.{distinct_is}
-use Rattle.mesh_settled.specs.declared.gaps.gap.Gap.{Gap}
+use Rattle.mesh_atoms.specs.declared.gap.Gap.{Gap}
 use Rattle.mesh_router_text.specs.Lines.Marks.{dotted, face_name}
 use Rattle.mesh_router_text.specs.Lines.Lines.{router_line, row_line, route_line}
 use Rattle.mesh_texts.specs.Network.{IsGapOf, settled_text}

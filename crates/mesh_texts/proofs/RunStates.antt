@@ -11,7 +11,7 @@ use Rattle.mesh_atoms.specs.State.{State}
 use Rattle.mesh_machine.specs.declared.frame.Frame.{Frame}
 use Rattle.mesh_machine.specs.Machine.{Event, Step, Heard_frame, Ticked, Steps, No_events, First_event, Run}
 use Rattle.mesh_machine.proofs.Effects.{hears_settings}
-use Rattle.mesh_radio.specs.declared.event.NetEvent.{NetEvent}
+use Rattle.mesh_atoms.specs.declared.network.NetEvent.{NetEvent}
 use Rattle.mesh_radio.specs.Net.{Net, NetStep, By_delivery, By_tick, By_last_tick, Moves, event_of, frames_of}
 use Rattle.mesh_radio.specs.Traffic.Sending.{Traffic, with_heard}
 use Rattle.mesh_radio.specs.Run.{NetRun, events_at}

@@ -11,10 +11,10 @@ use Rattle.mesh_atoms.specs.declared.settings.RadioArc.{RadioArc}
 use Rattle.mesh_atoms.specs.declared.settings.RouterSettings.{RouterSettings}
 use Rattle.mesh_atoms.specs.declared.settings.Scenario.{Scenario}
 use Rattle.mesh_atoms.specs.State.{State}
-use Rattle.mesh_radio.specs.declared.traffic.emission.Emission.{Emission}
-use Rattle.mesh_radio.specs.declared.event.NetEvent.{NetEvent}
+use Rattle.mesh_atoms.specs.declared.network.Emission.{Emission}
+use Rattle.mesh_atoms.specs.declared.network.NetEvent.{NetEvent}
 use Rattle.mesh_radio.specs.Net.{Net}
-use Rattle.mesh_settled.specs.declared.gaps.gap.Gap.{Gap}
+use Rattle.mesh_atoms.specs.declared.gap.Gap.{Gap}
 use Rattle.mesh_router_text.specs.Lines.Marks.{face_name}
 use Rattle.mesh_router_text.specs.Lines.Lines.{router_line, link_line, neighbour_line, held_line, flooding_line, routing_line, row_line}
 use Rattle.mesh_router_text.specs.Sections.Section.{AreAllLinkLines, ways_text, IsSection, AreSections}

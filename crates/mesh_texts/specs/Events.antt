@@ -10,8 +10,8 @@ use Rattle.mesh_atoms.specs.declared.settings.Scenario.{Scenario}
 use Rattle.mesh_atoms.specs.State.{State}
 use Rattle.mesh_packet.specs.Grammar.{FirstFault}
 use Rattle.mesh_machine.specs.Sendable.{IsPacket}
-use Rattle.mesh_radio.specs.declared.traffic.emission.Emission.{Emission}
-use Rattle.mesh_radio.specs.declared.event.NetEvent.{NetEvent}
+use Rattle.mesh_atoms.specs.declared.network.Emission.{Emission}
+use Rattle.mesh_atoms.specs.declared.network.NetEvent.{NetEvent}
 use Rattle.mesh_machine.specs.Names.{router_name}
 use Rattle.mesh_router_text.specs.Lines.Marks.{line_of, dotted, relays_text, face_name, faces_of}
 

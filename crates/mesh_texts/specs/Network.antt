@@ -4,10 +4,10 @@ use Rattle.mesh_atoms.specs.declared.settings.Interface.{Interface}
 use Rattle.mesh_atoms.specs.declared.settings.Scenario.{Scenario}
 use Rattle.mesh_atoms.specs.Settled.{Settled}
 use Rattle.mesh_atoms.specs.State.{State}
-use Rattle.mesh_radio.specs.declared.traffic.emission.Counts.{Counts}
-use Rattle.mesh_settled.specs.declared.gaps.gap.Gap.{Gap}
-use Rattle.mesh_settled.specs.declared.gaps.gap.GapKey.{GapKey}
-use Rattle.mesh_settled.specs.declared.gaps.gap.GapKey.TheVariants.{Link, Neighbour, TwoHop, Router, Address, Network}
+use Rattle.mesh_atoms.specs.declared.network.Counts.{Counts}
+use Rattle.mesh_atoms.specs.declared.gap.Gap.{Gap}
+use Rattle.mesh_atoms.specs.declared.gap.GapKey.{GapKey}
+use Rattle.mesh_atoms.specs.declared.gap.GapKey.TheVariants.{Link, Neighbour, TwoHop, Router, Address, Network}
 use Rattle.mesh_settled.specs.Gaps.Gaps.{IsFirstGap}
 use Rattle.mesh_machine.specs.Names.{router_name}
 use Rattle.mesh_router_text.specs.Lines.Marks.{joined, line_of, dotted, slashed, choice_text, face_name, faces_of}

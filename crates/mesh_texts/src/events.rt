@@ -7,9 +7,10 @@ ghost use Rattle.mesh_machine.specs.Names.{router_name};
 ghost use Rattle.mesh_router_text.specs.Lines.Marks.{line_of, face_name, relays_text, faces_of};
 ghost use Rattle.mesh_texts.specs.Events.{tick_line, heard_line, event_line, flooding_relays_line, routing_relays_line, relays_lines, sent_line, loss_line, arc_line, lost_line, sent_lines, event_text, IsTaken, IsEventText};
 
-use mesh_atoms::{Addr4, Bytes, Interface, RadioArc, RouterSettings, Scenario, Seq};
+use mesh_atoms::{
+    Addr4, Bytes, Emission, Interface, NetEvent, RadioArc, RouterSettings, Scenario, Seq,
+};
 use mesh_machine::{RouterView, router_name};
-use mesh_radio::{Emission, NetEvent};
 use mesh_router_text::{Piece, face_name, faces_of, put_line, relays_of};
 use std::alloc::AllocError;
 

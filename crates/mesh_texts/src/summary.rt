@@ -10,11 +10,9 @@ ghost use Rattle.mesh_router_text.specs.Lines.Pieces.{piece_text};
 ghost use Rattle.mesh_router_text.specs.Sections.Section.{AreSections};
 ghost use Rattle.mesh_texts.specs.Network.{counts_line, key_text, gap_line, settled_text, IsSummary};
 
-use mesh_atoms::{Addr4, Bytes, Interface, LinkKey, Scenario, TwoHopKey};
+use mesh_atoms::{Addr4, Bytes, Counts, Gap, GapKey, Interface, LinkKey, Scenario, TwoHopKey};
 use mesh_machine::{RouterView, router_name};
-use mesh_radio::Counts;
 use mesh_router_text::{Piece, face_name, faces_of, put_all, put_line, put_section};
-use mesh_settled::{Gap, GapKey};
 use std::alloc::AllocError;
 
 /// Puts how large a network is, when it ended, and what was counted. Want of memory leaves a part of it behind what was there.

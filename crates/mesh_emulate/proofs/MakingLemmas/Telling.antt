@@ -7,8 +7,8 @@ use Rattle.mesh_atoms.specs.Radio.{IsRadioGraph}
 use Rattle.mesh_atoms.specs.State.{State}
 use Rattle.mesh_emulate.specs.Making.Made.{IsEndText, IsMadeText, MadeEmulation}
 use Rattle.mesh_emulate.specs.Making.Scenario.{IsMade}
-use Rattle.mesh_radio.specs.declared.traffic.emission.Counts.{Counts}
-use Rattle.mesh_radio.specs.declared.event.NetEvent.{NetEvent}
+use Rattle.mesh_atoms.specs.declared.network.Counts.{Counts}
+use Rattle.mesh_atoms.specs.declared.network.NetEvent.{NetEvent}
 use Rattle.mesh_radio.specs.Net.{Net}
 use Rattle.mesh_radio.specs.Run.{IsOpeningNet, IsOver, NetRun}
 use Rattle.mesh_settled.specs.Gaps.Network.{IsNetwork}

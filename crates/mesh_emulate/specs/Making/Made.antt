@@ -9,11 +9,11 @@ use Rattle.mesh_atoms.specs.State.{State}
 use Rattle.mesh_emulate.specs.Making.Lines.{made_line, routes_line, TellsRoutes}
 use Rattle.mesh_emulate.specs.Making.Routes.{metrics_of, IsGreatest}
 use Rattle.mesh_emulate.specs.Making.Scenario.{IsMade}
-use Rattle.mesh_settled.specs.declared.gaps.gap.Gap.{Gap}
+use Rattle.mesh_atoms.specs.declared.gap.Gap.{Gap}
 use Rattle.mesh_texts.specs.Network.{IsGapOf, counts_line, settled_text}
 use Rattle.mesh_texts.specs.Printed.{IsLine, SaysSettled}
 use Rattle.mesh_texts.specs.Runs.{WholeRun, RoutersAreRuns, TellsWhetherSettled}
-use Rattle.mesh_radio.specs.declared.traffic.emission.Counts.{Counts}
+use Rattle.mesh_atoms.specs.declared.network.Counts.{Counts}
 use Rattle.mesh_emulate.specs.declared.making.kind.Kind.{Kind}
 
 -- what is told of the network of a made scenario whose routers are in these states at its end: how it was made, what was counted, its

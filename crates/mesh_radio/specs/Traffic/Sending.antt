@@ -5,8 +5,8 @@ use Rattle.mesh_atoms.specs.declared.settings.RadioArc.{RadioArc}
 use Rattle.mesh_atoms.specs.declared.settings.Scenario.{Scenario}
 use Rattle.mesh_machine.specs.declared.frame.Frame.{Frame}
 use Rattle.mesh_radio.specs.Traffic.Draws.{word_of}
-use Rattle.mesh_radio.specs.declared.traffic.emission.Counts.{Counts}
-use Rattle.mesh_radio.specs.declared.traffic.emission.Emission.{Emission}
+use Rattle.mesh_atoms.specs.declared.network.Counts.{Counts}
+use Rattle.mesh_atoms.specs.declared.network.Emission.{Emission}
 
 -- a frame in the air: when it is heard, the number of the arc by which it comes, and its octets
 pub record Delivery : Type 0 where

@@ -9,9 +9,8 @@ ghost use Rattle.mesh_radio.specs.Traffic.Ways.{AreWays};
 
 use crate::traffic::air::Air;
 use crate::traffic::draws::Draws;
-use crate::traffic::emission::{Counts, Emission};
 use crate::traffic::ways::{Ways, leaving_of};
-use mesh_atoms::{Bytes, RadioArc, Scenario, Seq};
+use mesh_atoms::{Bytes, Counts, Emission, RadioArc, Scenario, Seq};
 use mesh_core::Outbox;
 use std::alloc::{AllocError, Global};
 use std::rc::Rc;

@@ -36,7 +36,7 @@ use Rattle.mesh_atoms.proofs.CodesLemmas.CodeLaws.{cost-injective}
 use Rattle.mesh_atoms.proofs.Deciding.{Decides-some}
 use Rattle.mesh_paths.proofs.Admitted.{joins_back}
 use Rattle.mesh_paths.proofs.Scenarios.{sound_scenario}
-use Rattle.mesh_settled.specs.declared.gaps.gap.GapKey.TheVariants.{Link, Neighbour, TwoHop, Router, Address, Network}
+use Rattle.mesh_atoms.specs.declared.gap.GapKey.TheVariants.{Link, Neighbour, TwoHop, Router, Address, Network}
 use Rattle.mesh_settled.specs.Gaps.Fields.{Field, AllSame, link_fields, neighbour_fields, two_hop_fields, router_fields, address_fields, network_fields, known_cost}
 use Rattle.mesh_settled.specs.Gaps.Gaps.{Look, look, AreSame, HasNoGap}
 use Rattle.mesh_settled.specs.Gaps.Joints.{all_addresses}

@@ -4,7 +4,7 @@ use Rattle.std.specs.Prelude.{◌&&◌, List}
 use Rattle.std.proofs.lemmas.Bool.{false≢true, ltb-true, lt-ltb, ltb-false, eqb-true, eq-eqb, cases_eq}
 use Rattle.mesh_settled.specs.declared.gaps.found.Found.{Found}
 use Rattle.mesh_settled.specs.declared.gaps.found.Rank.{Rank}
-use Rattle.mesh_settled.specs.declared.gaps.gap.GapKey.{GapKey}
+use Rattle.mesh_atoms.specs.declared.gap.GapKey.{GapKey}
 use Rattle.mesh_settled.specs.declared.gaps.compare.Values.{Values}
 use Rattle.mesh_settled.specs.Gaps.Fields.{Field}
 use Rattle.mesh_settled.specs.Gaps.Gaps.{Look, IsHeldTuple, IsPresentTuple, AreSame, precedes, ranks_before, rank_of}

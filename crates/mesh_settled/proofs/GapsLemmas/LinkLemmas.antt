@@ -25,8 +25,8 @@ use Rattle.mesh_paths.proofs.Scenarios.{sound_scenario}
 use Rattle.mesh_settled.specs.declared.gaps.compare.Difference.{Difference}
 use Rattle.mesh_settled.specs.declared.gaps.compare.Values.{Values}
 use Rattle.mesh_settled.specs.declared.gaps.found.Found.{Found}
-use Rattle.mesh_settled.specs.declared.gaps.gap.GapKey.{GapKey}
-use Rattle.mesh_settled.specs.declared.gaps.gap.GapKey.TheVariants.{Link as Of_link}
+use Rattle.mesh_atoms.specs.declared.gap.GapKey.{GapKey}
+use Rattle.mesh_atoms.specs.declared.gap.GapKey.TheVariants.{Link as Of_link}
 use Rattle.mesh_settled.specs.declared.gaps.joints.Joint.{Joint}
 use Rattle.mesh_settled.specs.declared.gaps.links.GivenLink.{GivenLink}
 use Rattle.mesh_settled.specs.Gaps.Fields.{Field, AllSame, link_fields, known_cost}

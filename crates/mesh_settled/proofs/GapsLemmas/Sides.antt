@@ -2,11 +2,11 @@
 use Rattle.std.proofs.Common.{List, None, Option, Some, [], ap, inl, inr, refl, sym, ℕ, ◌+◌, ◌∙◌, ◌∷◌, ◌≡◌, ◌≢◌}
 use Rattle.std.specs.Prelude.{is_some}
 use Rattle.mesh_settled.specs.declared.gaps.compare.Difference.{Difference}
-use Rattle.mesh_settled.specs.declared.gaps.gap.GapKey.{GapKey}
+use Rattle.mesh_atoms.specs.declared.gap.GapKey.{GapKey}
 use Rattle.mesh_settled.specs.Gaps.Fields.{Field, Addresses, Number, SaySame, AllSame, Differ, DifferFrom}
 use Rattle.mesh_settled.specs.Gaps.Gaps.{Look, IsHeldTuple, IsPresentTuple, IsExcepted, Held_alone, Present_alone, Unequal, IsGapAt, at_field}
 use Rattle.mesh_settled.specs.Gaps.Found.{IsTest, IsTestFrom, IsSide, compared}
-use Rattle.mesh_settled.specs.declared.gaps.gap.GapValue.{GapValue}
+use Rattle.mesh_atoms.specs.declared.gap.GapValue.{GapValue}
 use Rattle.std.proofs.lemmas.Option.{none-some}
 use Rattle.mesh_settled.proofs.GapsLemmas.Apart.{some_same}
 

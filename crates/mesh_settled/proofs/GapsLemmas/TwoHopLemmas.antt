@@ -22,8 +22,8 @@ use Rattle.mesh_atoms.proofs.Lookups.{tests_symmetric, looks_up_links, looks_up_
 use Rattle.mesh_paths.proofs.Scenarios.{sound_scenario}
 use Rattle.mesh_settled.specs.declared.gaps.compare.Difference.{Difference}
 use Rattle.mesh_settled.specs.declared.gaps.found.Found.{Found}
-use Rattle.mesh_settled.specs.declared.gaps.gap.GapKey.{GapKey}
-use Rattle.mesh_settled.specs.declared.gaps.gap.GapKey.TheVariants.{Link as Of_link, TwoHop as Of_two_hop}
+use Rattle.mesh_atoms.specs.declared.gap.GapKey.{GapKey}
+use Rattle.mesh_atoms.specs.declared.gap.GapKey.TheVariants.{Link as Of_link, TwoHop as Of_two_hop}
 use Rattle.mesh_machine.specs.declared.said.Said.{Said}
 use Rattle.mesh_settled.specs.Gaps.Fields.{Field, AllSame, link_fields, two_hop_fields}
 use Rattle.mesh_settled.specs.Gaps.Found.{IsSide, IsTest, IsTestFrom, IsLeast, compared, lesser}

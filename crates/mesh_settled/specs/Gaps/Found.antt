@@ -5,7 +5,7 @@ use Rattle.mesh_settled.specs.declared.gaps.compare.Apart.{Apart}
 use Rattle.mesh_settled.specs.declared.gaps.compare.Difference.{Difference}
 use Rattle.mesh_settled.specs.declared.gaps.compare.Values.{Values}
 use Rattle.mesh_settled.specs.declared.gaps.found.Found.{Found}
-use Rattle.mesh_settled.specs.declared.gaps.gap.GapKey.{GapKey}
+use Rattle.mesh_atoms.specs.declared.gap.GapKey.{GapKey}
 use Rattle.mesh_settled.specs.Gaps.Fields.{Field, SaySame, AllSame, Differ, DifferFrom}
 use Rattle.mesh_settled.specs.Gaps.Gaps.{Look, IsGapAt, AreSame, at_field, rank_of, ranks_before}
 

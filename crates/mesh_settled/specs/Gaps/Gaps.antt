@@ -19,12 +19,12 @@ use Rattle.mesh_atoms.specs.Radio.{Joins, IsMetric}
 use Rattle.mesh_atoms.specs.declared.tuples.LinkState.TheVariants.{Symmetric as Is_symmetric}
 use Rattle.mesh_atoms.specs.State.{State, state_of, HasLink, HasTwoHop, HasSymmetric}
 use Rattle.mesh_atoms.specs.Settled.{At, IsLinkTo, IsNeighbourOf, IsTwoHopBy, IsPeer, IsStray, IsRouterBy, IsAddressBy, IsNetworkBy}
-use Rattle.mesh_settled.specs.declared.gaps.gap.Gap.{Gap}
-use Rattle.mesh_settled.specs.declared.gaps.gap.GapValue.{GapValue}
-use Rattle.mesh_settled.specs.declared.gaps.gap.GapKind.{GapKind}
-use Rattle.mesh_settled.specs.declared.gaps.gap.GapKind.TheVariants.{Link as Of_link, Neighbour as Of_neighbour, TwoHop as Of_two_hop, Topology as Of_topology}
-use Rattle.mesh_settled.specs.declared.gaps.gap.GapKey.{GapKey}
-use Rattle.mesh_settled.specs.declared.gaps.gap.GapKey.TheVariants.{Link, Neighbour, TwoHop, Router, Address, Network}
+use Rattle.mesh_atoms.specs.declared.gap.Gap.{Gap}
+use Rattle.mesh_atoms.specs.declared.gap.GapValue.{GapValue}
+use Rattle.mesh_atoms.specs.declared.gap.GapKind.{GapKind}
+use Rattle.mesh_atoms.specs.declared.gap.GapKind.TheVariants.{Link as Of_link, Neighbour as Of_neighbour, TwoHop as Of_two_hop, Topology as Of_topology}
+use Rattle.mesh_atoms.specs.declared.gap.GapKey.{GapKey}
+use Rattle.mesh_atoms.specs.declared.gap.GapKey.TheVariants.{Link, Neighbour, TwoHop, Router, Address, Network}
 use Rattle.mesh_settled.specs.declared.gaps.found.Rank.{Rank}
 use Rattle.mesh_settled.specs.Gaps.Fields.{Field, link_fields, neighbour_fields, two_hop_fields, router_fields, address_fields, network_fields, AllSame, DifferFrom}
 

@@ -4,8 +4,8 @@ use Rattle.mesh_atoms.specs.declared.graphs.RadioGraph.{RadioGraph}
 use Rattle.mesh_atoms.specs.declared.settings.Scenario.{Scenario}
 use Rattle.mesh_atoms.specs.Settled.{At, IsSettledAt}
 use Rattle.mesh_atoms.specs.State.{State}
-use Rattle.mesh_settled.specs.declared.gaps.gap.GapKey.{GapKey}
-use Rattle.mesh_settled.specs.declared.gaps.gap.GapValue.{GapValue}
+use Rattle.mesh_atoms.specs.declared.gap.GapKey.{GapKey}
+use Rattle.mesh_atoms.specs.declared.gap.GapValue.{GapValue}
 use Rattle.mesh_settled.specs.Gaps.Gaps.{Look, look, IsGapAt, HasNoGap}
 use Rattle.mesh_settled.specs.Gaps.Network.{IsNetwork}
 

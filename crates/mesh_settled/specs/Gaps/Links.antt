@@ -8,8 +8,8 @@ use Rattle.mesh_atoms.specs.declared.tuples.LinkKey.{LinkKey}
 use Rattle.mesh_atoms.specs.Base.{base_of}
 use Rattle.mesh_atoms.specs.Hello.{Says, Flooding}
 use Rattle.mesh_atoms.specs.State.{State, is_symmetric, HasAddressOn}
-use Rattle.mesh_settled.specs.declared.gaps.gap.GapKey.{GapKey}
-use Rattle.mesh_settled.specs.declared.gaps.gap.GapKey.TheVariants.{Link as Of_link}
+use Rattle.mesh_atoms.specs.declared.gap.GapKey.{GapKey}
+use Rattle.mesh_atoms.specs.declared.gap.GapKey.TheVariants.{Link as Of_link}
 use Rattle.mesh_settled.specs.declared.gaps.joints.Joint.{Joint}
 use Rattle.mesh_settled.specs.declared.gaps.links.GivenLink.{GivenLink}
 use Rattle.mesh_settled.specs.Gaps.Fields.{Field, Addresses, cost_field, flag_field, link_fields}

@@ -8,8 +8,8 @@ use Rattle.mesh_atoms.specs.Hello.{Says, Routing}
 use Rattle.mesh_atoms.specs.Radio.{IsMetric}
 use Rattle.mesh_atoms.specs.Settled.{At}
 use Rattle.mesh_atoms.specs.State.{State, HasAddress, IsOriginator}
-use Rattle.mesh_settled.specs.declared.gaps.gap.GapKey.{GapKey}
-use Rattle.mesh_settled.specs.declared.gaps.gap.GapKey.TheVariants.{Neighbour as Of_neighbour}
+use Rattle.mesh_atoms.specs.declared.gap.GapKey.{GapKey}
+use Rattle.mesh_atoms.specs.declared.gap.GapKey.TheVariants.{Neighbour as Of_neighbour}
 use Rattle.mesh_settled.specs.declared.gaps.neighbours.GivenNeighbour.{GivenNeighbour}
 use Rattle.mesh_settled.specs.Gaps.Fields.{Field, neighbour_fields}
 use Rattle.mesh_settled.specs.Gaps.Gaps.{Look}

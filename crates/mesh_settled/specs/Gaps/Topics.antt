@@ -12,8 +12,8 @@ use Rattle.mesh_atoms.specs.declared.tuples.RouterTuple.{RouterTuple}
 use Rattle.mesh_atoms.specs.Base.{host, net_eq}
 use Rattle.mesh_atoms.specs.Settled.{At, IsPeer, IsRouterBy, IsAddressBy, IsNetworkBy}
 use Rattle.mesh_atoms.specs.State.{State, IsOriginator}
-use Rattle.mesh_settled.specs.declared.gaps.gap.GapKey.{GapKey}
-use Rattle.mesh_settled.specs.declared.gaps.gap.GapKey.TheVariants.{Router as Of_router, Address as Of_address, Network as Of_network}
+use Rattle.mesh_atoms.specs.declared.gap.GapKey.{GapKey}
+use Rattle.mesh_atoms.specs.declared.gap.GapKey.TheVariants.{Router as Of_router, Address as Of_address, Network as Of_network}
 use Rattle.mesh_settled.specs.declared.gaps.topics.Topic.{Topic}
 use Rattle.mesh_settled.specs.declared.gaps.topics.Topic.TheVariants.{Routers, Addresses, Networks}
 use Rattle.mesh_settled.specs.declared.gaps.topics.Claim.{Claim}

@@ -11,8 +11,8 @@ use Rattle.mesh_atoms.specs.Base.{base_of}
 use Rattle.mesh_atoms.specs.Radio.{Joins}
 use Rattle.mesh_atoms.specs.Settled.{At, IsLeastAddress}
 use Rattle.mesh_atoms.specs.State.{State}
-use Rattle.mesh_settled.specs.declared.gaps.gap.GapKey.{GapKey}
-use Rattle.mesh_settled.specs.declared.gaps.gap.GapKey.TheVariants.{TwoHop as Of_two_hop}
+use Rattle.mesh_atoms.specs.declared.gap.GapKey.{GapKey}
+use Rattle.mesh_atoms.specs.declared.gap.GapKey.TheVariants.{TwoHop as Of_two_hop}
 use Rattle.mesh_machine.specs.declared.said.Said.{Said}
 use Rattle.mesh_settled.specs.Gaps.Joints.{IsLeastOf}
 

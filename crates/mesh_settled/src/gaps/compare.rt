@@ -4,8 +4,7 @@ ghost use Rattle.mesh_atoms.specs.declared.addr.Addr4.{Addr4};
 ghost use Rattle.mesh_settled.specs.Gaps.Fields.{Field, Addresses, Number, flag_field, known_cost};
 ghost use Rattle.mesh_settled.specs.Gaps.Found.{IsFieldTest, IsTestFrom, IsLeastMissing, lower, least_of, compared};
 
-use crate::gaps::gap::GapValue;
-use mesh_atoms::{Addr4, Metric, contains};
+use mesh_atoms::{Addr4, GapValue, Metric, contains};
 
 /// The numbers of a field on both sides.
 #[derive(Clone, Copy)]

@@ -4,7 +4,7 @@ ghost use Rattle.mesh_settled.specs.Gaps.Found.{lesser, found_at};
 ghost use Rattle.mesh_settled.specs.Gaps.Gaps.{rank_of, ranks_before};
 
 use crate::gaps::compare::Values;
-use crate::gaps::gap::{GapKey, GapValue};
+use mesh_atoms::{GapKey, GapValue};
 
 /// A gap of a router.
 #[derive(Clone, Copy)]

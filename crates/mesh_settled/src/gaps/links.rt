@@ -5,7 +5,7 @@ ghost use Rattle.mesh_atoms.specs.Hello.{Says, Flooding};
 ghost use Rattle.mesh_atoms.specs.Words.{IsValue};
 ghost use Rattle.mesh_atoms.specs.Sound.{Sound};
 ghost use Rattle.mesh_expire.specs.Table.{value_of};
-ghost use Rattle.mesh_settled.specs.declared.gaps.gap.GapKey.TheVariants.{Link as Of_link};
+ghost use Rattle.mesh_atoms.specs.declared.gap.GapKey.TheVariants.{Link as Of_link};
 ghost use Rattle.mesh_settled.specs.Gaps.Found.{IsSide, IsTest, IsTestFrom, IsLeast};
 ghost use Rattle.mesh_settled.specs.Gaps.Gaps.{IsHeldLink, IsPresentLink};
 ghost use Rattle.mesh_settled.specs.Gaps.Fields.{Field, link_fields};
@@ -17,10 +17,9 @@ use crate::gaps::compare::{
     Difference, Values, addresses, compared, first_of, flags, known_cost, numbers,
 };
 use crate::gaps::found::{Found, found_at, lesser};
-use crate::gaps::gap::GapKey;
 use crate::gaps::joints::{Joint, addrs_of, joint_with, least_address, router_at};
 use crate::gaps::site::Site;
-use mesh_atoms::{Addr4, Link, LinkKey, Metric, Pair, RouterSettings};
+use mesh_atoms::{Addr4, GapKey, Link, LinkKey, Metric, Pair, RouterSettings};
 use mesh_machine::RouterView;
 
 /// The link with a joined interface.

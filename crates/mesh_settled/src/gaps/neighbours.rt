@@ -6,7 +6,7 @@ ghost use Rattle.mesh_atoms.specs.Settled.{At};
 ghost use Rattle.mesh_atoms.specs.Sound.{Sound};
 ghost use Rattle.mesh_atoms.specs.State.{HasAddress, IsOriginator};
 ghost use Rattle.mesh_expire.specs.Table.{value_of};
-ghost use Rattle.mesh_settled.specs.declared.gaps.gap.GapKey.TheVariants.{Neighbour as Of_neighbour};
+ghost use Rattle.mesh_atoms.specs.declared.gap.GapKey.TheVariants.{Neighbour as Of_neighbour};
 ghost use Rattle.mesh_settled.specs.Gaps.Fields.{Field, neighbour_fields};
 ghost use Rattle.mesh_settled.specs.Gaps.Found.{IsSide, IsTest, IsTestFrom, IsLeast};
 ghost use Rattle.mesh_settled.specs.Gaps.Gaps.{IsHeldNeighbour, IsPresentNeighbour};
@@ -15,12 +15,11 @@ ghost use Rattle.mesh_settled.specs.Gaps.Site.{states, seen, IsSite};
 
 use crate::gaps::compare::{Difference, Values, compared, first_of, flags, known_cost, numbers};
 use crate::gaps::found::{Found, found_at, lesser};
-use crate::gaps::gap::GapKey;
 use crate::gaps::joints::{addrs_of, router_at};
 use crate::gaps::metrics::metric_to;
 use crate::gaps::owned::owned;
 use crate::gaps::site::Site;
-use mesh_atoms::{Addr4, Metric, Neighbour, RouterSettings, Willing};
+use mesh_atoms::{Addr4, GapKey, Metric, Neighbour, RouterSettings, Willing};
 use mesh_machine::RouterView;
 
 /// The neighbour that an adjacent router is.

@@ -14,12 +14,11 @@ ghost use Rattle.mesh_settled.specs.Gaps.Topics.{of_router, of_address, of_netwo
 
 use crate::gaps::compare::{Apart, Difference, Values, compared, first_of, known_cost, numbers};
 use crate::gaps::found::{Found, found_at, lesser};
-use crate::gaps::gap::GapKey;
 use crate::gaps::joints::router_at;
 use crate::gaps::peers::{is_stray, sender_of};
 use crate::gaps::site::Site;
 use mesh_atoms::{
-    Addr4, AddressKey, AddressTuple, Metric, NetAddr, NetworkKey, NetworkTuple, RouterKey,
+    Addr4, AddressKey, AddressTuple, GapKey, Metric, NetAddr, NetworkKey, NetworkTuple, RouterKey,
     RouterTuple, TcRow, host,
 };
 use mesh_machine::RouterView;

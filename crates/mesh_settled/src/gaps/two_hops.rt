@@ -9,10 +9,9 @@ ghost use Rattle.mesh_settled.specs.Gaps.TwoHops.{if_far, key_by, IsTwoHopAt, Is
 
 use crate::gaps::compare::{Difference, Values, compared, first_of, known_cost, numbers};
 use crate::gaps::found::{Found, found_at, lesser};
-use crate::gaps::gap::GapKey;
 use crate::gaps::joints::{is_address_of, least_address, router_at};
 use crate::gaps::site::{End, Site};
-use mesh_atoms::{Addr4, LinkKey, Pair, TwoHop, TwoHopKey};
+use mesh_atoms::{Addr4, GapKey, LinkKey, Pair, TwoHop, TwoHopKey};
 use mesh_machine::{RouterView, Said};
 
 // The 2-hop tuple of an address of which that is said, if it is shown SYMMETRIC and is neither router's own.

@@ -1,4 +1,4 @@
-use Rattle.mesh_settled.specs.declared.gaps.gap.GapKey.TheVariants.{Neighbour}
+use Rattle.mesh_atoms.specs.declared.gap.GapKey.TheVariants.{Neighbour}
 use Rattle.mesh_settled.specs.Gaps.Site.{seen}
 use Rattle.mesh_settled.proofs.GapsLemmas.Leasts.{least_one}
 use Rattle.mesh_settled.proofs.gaps.neighbours.gap_at.Goals as goal

@@ -1,5 +1,5 @@
 //! A gap: a key at which a router holds something else than the network has at present.
-use mesh_atoms::{Addr4, LinkKey, NetAddr, TwoHopKey};
+use crate::{Addr4, LinkKey, NetAddr, TwoHopKey};
 
 /// Which of a router's tuples a key is of, in the order in which they are looked at.
 #[derive(Clone, Copy)]
