@@ -10,9 +10,9 @@ use Rattle.mesh_io.specs.declared.stop.Stop.{Stop}
 use Rattle.mesh_io.proofs.Steps.{appends_more}
 use Rattle.mesh_packet.specs.Least.{Wrote}
 use Rattle.mesh_atoms.specs.declared.network.NetEvent.{NetEvent}
-use Rattle.mesh_radio.specs.Net.{Net, NetStep, By_delivery, By_tick, By_last_tick, Moves}
-use Rattle.mesh_radio.specs.Traffic.Sending.{Traffic, with_heard}
-use Rattle.mesh_radio.specs.Run.{IsOfPackets}
+use Rattle.mesh_machine.specs.Net.{Net, NetStep, By_delivery, By_tick, By_last_tick, Moves}
+use Rattle.mesh_machine.specs.Traffic.{Traffic, with_heard}
+use Rattle.mesh_machine.specs.NetRun.{IsOfPackets}
 use Rattle.mesh_texts.proofs.TraceSteps.{traces_more, traces_run}
 use Rattle.mesh_texts.specs.Events.{IsEventText}
 use Rattle.mesh_texts.specs.Runs.{IsTraced}

@@ -1,8 +1,8 @@
 //! An emulated network, whatever tables its routers have.
 ghost use Rattle.std.specs.Prelude.{◌≡◌, List, map, IfOk, OnOk, MatchOption, IfSome};
 ghost use Rattle.mesh_atoms.specs.declared.network.NetEvent.{NetEvent};
-ghost use Rattle.mesh_radio.specs.Net.{Net, NetStep};
-ghost use Rattle.mesh_radio.specs.Run.{IsOver, IsOfPackets, NetRun};
+ghost use Rattle.mesh_machine.specs.Net.{Net, NetStep};
+ghost use Rattle.mesh_machine.specs.NetRun.{IsOver, IsOfPackets, NetRun};
 
 use mesh_core::{Core, Machine};
 use mesh_expire::Bases;

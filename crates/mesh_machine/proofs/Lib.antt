@@ -3,8 +3,11 @@ pub mod Given
 pub mod Hops
 pub mod Opening
 pub mod Originators
+pub mod Places
 pub mod Saying
 pub mod Sendables
+pub mod Sent
 pub mod Soundness
 pub mod Tables
 pub mod Takes
+pub mod Through

@@ -1,9 +1,13 @@
+pub mod Draws
 pub mod Frames
 pub mod Laws
 pub mod Machine
 pub mod Messages
 pub mod Names
+pub mod Net
+pub mod NetRun
 pub mod Renewal
 pub mod Said
 pub mod Sendable
 pub mod Sending
+pub mod Traffic

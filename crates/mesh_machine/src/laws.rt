@@ -1,5 +1,6 @@
-//! What every step of a router keeps, and what it sends.
+//! What every step of a router keeps and what it sends, and what the routers of an emulated network come through.
 ghost use Rattle.mesh_machine.specs.Laws.{KeepsSound, RunsAreSound, SendsPackets};
+ghost use Rattle.mesh_machine.specs.NetRun.{AreMachines, EndTogether};
 
 /// A step of a sound router leaves a sound router.
 pub fn steps_keep_sound()
@@ -14,4 +15,14 @@ pub fn runs_are_sound()
 /// Each frame that a step sends spells a packet, and is sent on one of the router's interfaces.
 pub fn steps_send_packets()
     ensures { SendsPackets }
+{}
+
+/// In every run of a network from its opening, over whatever losses and delays, each router is a run of the machine with its settings.
+pub fn machines()
+    ensures { AreMachines }
+{}
+
+/// Where such a run is over, each router is sound, and the moment of its last event is the scenario's end.
+pub fn routers_end_together()
+    ensures { EndTogether }
 {}

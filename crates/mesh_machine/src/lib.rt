@@ -1,5 +1,5 @@
 //! The router as a machine: what each event does to it and what it sends, as definitions (RFC 6130 and RFC 7181), with the laws
-//! that hold of each step and of each run; and what a router shows.
+//! that hold of each step and of each run; an emulated network of such machines, likewise; and what a router shows.
 #![tactic(auto)]
 
 mod arrival;
@@ -15,7 +15,9 @@ pub use arrival::Arrival;
 pub use count::two_hops_of;
 pub use fate::{Fate, Heard, Read};
 pub use frame::Frame;
-pub use laws::{runs_are_sound, steps_keep_sound, steps_send_packets};
+pub use laws::{
+    machines, routers_end_together, runs_are_sound, steps_keep_sound, steps_send_packets,
+};
 pub use names::router_name;
 pub use said::{Said, said_of};
 pub use view::RouterView;

@@ -8,7 +8,7 @@ use Rattle.mesh_atoms.specs.declared.settings.RouterSettings.{RouterSettings}
 use Rattle.mesh_atoms.specs.declared.settings.Scenario.{Scenario}
 use Rattle.mesh_atoms.specs.Settings.{Ends, is_interface, joins_routers}
 use Rattle.mesh_radio.specs.Scene.{IsFrom, IsTo}
-use Rattle.mesh_radio.proofs.TrafficLemmas.Places.{mapped_at}
+use Rattle.mesh_machine.proofs.Places.{mapped_at}
 
 both_true : (a b : Bool) → (a && b) ≡ true → (a ≡ true) × (b ≡ true)
 both_true true b h = (refl, h)

@@ -10,14 +10,14 @@ use Rattle.mesh_atoms.specs.declared.settings.Scenario.{Scenario}
 use Rattle.mesh_machine.specs.Machine.{IsOpening}
 use Rattle.mesh_radio.specs.declared.scene.Due.{Due}
 use Rattle.mesh_radio.specs.declared.scene.Scene.{Scene}
-use Rattle.mesh_radio.specs.Net.{IsFirstDue}
+use Rattle.mesh_machine.specs.Net.{IsFirstDue}
 use Rattle.mesh_radio.specs.Opening.{AreOpeningUpTo, AreOpening, IsOpeningScene}
-use Rattle.mesh_radio.specs.Run.{IsOpeningNet}
+use Rattle.mesh_machine.specs.NetRun.{IsOpeningNet}
 use Rattle.mesh_radio.specs.Scene.{IsSound, IsFlying, net_of}
 use Rattle.mesh_radio.specs.declared.traffic.traffic.Traffic.{Traffic}
 use Rattle.mesh_radio.specs.Traffic.Traffic.{traffic_of}
 use Rattle.mesh_radio.specs.Traffic.Ways.{AreWays}
-use Rattle.mesh_radio.proofs.TrafficLemmas.Places.{each_more, same_at}
+use Rattle.mesh_machine.proofs.Places.{each_more, same_at}
 
 pub none_opening : {A : Type 0} (state : A → State) (settings : List RouterSettings) (routers : List A) → routers ≡ [] → AreOpeningUpTo settings 0 (map state routers)
 none_opening {A = A} state settings routers none = subst (λ (l : List A). AreOpeningUpTo settings 0 (map state l)) (sym none) (record { count_is = refl; each = λ x s at. absurd (let no : None ≡ Some s = at in cc) })

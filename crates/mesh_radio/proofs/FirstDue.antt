@@ -4,8 +4,8 @@ use Rattle.std.specs.Prelude.{slice_get}
 use Rattle.std.proofs.lemmas.Option.{slice_get_within}
 use Rattle.mesh_atoms.specs.State.{State}
 use Rattle.mesh_machine.specs.Machine.{due}
-use Rattle.mesh_radio.specs.Net.{IsFirstDue}
-use Rattle.mesh_radio.proofs.TrafficLemmas.Places.{same_at}
+use Rattle.mesh_machine.specs.Net.{IsFirstDue}
+use Rattle.mesh_machine.proofs.Places.{same_at}
 
 -- the first of the first routers, so many, or of the very first
 pub record IsFirstOf (routers : List State) (count x moment : ℕ) : Type 0 where

@@ -14,18 +14,19 @@ use Rattle.mesh_machine.specs.Machine.{Hear}
 use Rattle.mesh_machine.specs.Sendable.{IsPacket, IsSendable}
 use Rattle.mesh_atoms.specs.declared.network.Emission.{Emission}
 use Rattle.mesh_radio.specs.declared.traffic.traffic.Traffic.{Traffic as Kept}
-use Rattle.mesh_radio.specs.Traffic.Sending.{Traffic, Delivery, IsHeardFirst, SendsAll, with_heard, frame_of}
+use Rattle.mesh_machine.specs.Traffic.{Traffic, Delivery, IsHeardFirst, SendsAll, with_heard, frame_of}
 use Rattle.mesh_radio.specs.Traffic.Traffic.{traffic_of}
-use Rattle.mesh_radio.proofs.TrafficLemmas.Places.{same_at, all_turned}
+use Rattle.mesh_machine.proofs.Places.{same_at, all_turned}
 use Rattle.mesh_atoms.specs.declared.network.NetEvent.{NetEvent}
 use Rattle.mesh_radio.specs.declared.scene.Due.{Due}
 use Rattle.mesh_radio.specs.declared.scene.Scene.{Scene}
 use Rattle.mesh_radio.specs.declared.scene.Tick.{Tick}
-use Rattle.mesh_radio.specs.Net.{Net, NetStep, By_delivery, By_tick, By_last_tick, IsFirstDue, IsSender, TicksNext, HasOnlyLastTicks, Moves, Delivers, TicksDue, TicksLast, event_of, frames_of}
-use Rattle.mesh_radio.specs.Run.{IsOver, IsOfScenario, IsOfPackets}
+use Rattle.mesh_machine.specs.Net.{Net, NetStep, By_delivery, By_tick, By_last_tick, IsFirstDue, IsSender, TicksNext, HasOnlyLastTicks, Moves, Delivers, TicksDue, TicksLast, event_of, frames_of}
+use Rattle.mesh_machine.specs.NetRun.{IsOver, IsOfScenario, IsOfPackets}
 use Rattle.mesh_radio.specs.Scene.{IsSound, AreRouters, Lands, TicksOne, Stepped, Happens, IsFlying, IsLeft, IsQuiet, IsNextTick, Due_first, At_end, HasNoTick, Stays, Tells, net_of}
 use Rattle.mesh_radio.proofs.Arcs.{arc_ends}
-use Rattle.mesh_radio.proofs.Flying.{first_and_others, others_later, sent_flying, sent_lost, still_flying}
+use Rattle.mesh_machine.proofs.Sent.{first_and_others, others_later, sent_lost}
+use Rattle.mesh_radio.proofs.Flying.{sent_flying, still_flying}
 use Rattle.mesh_radio.proofs.Soundness.{all_due, due_from, later_routers, routers_after, same_count, same_first}
 
 pub min_left : (a b c : ℕ) → a ≤ min b c → a ≤ b

@@ -7,5 +7,4 @@ mod Runs
 mod Soundness
 mod Standing
 mod Steps
-pub mod Through
 mod TrafficLemmas

@@ -1,8 +1,8 @@
 -- Runs of a network.
 use Rattle.std.proofs.Common.{◌≡◌, List, [], ◌∷◌, subst, sym}
 use Rattle.mesh_atoms.specs.declared.network.NetEvent.{NetEvent}
-use Rattle.mesh_radio.specs.Net.{Net, NetStep}
-use Rattle.mesh_radio.specs.Run.{NetRun, IsOver}
+use Rattle.mesh_machine.specs.Net.{Net, NetStep}
+use Rattle.mesh_machine.specs.NetRun.{NetRun, IsOver}
 
 -- whatever run goes on from here, a run from the start leads there
 abbrev pub RunsOn : Net → Net → Type 0

@@ -6,9 +6,9 @@ use Rattle.mesh_atoms.specs.State.{State}
 use Rattle.mesh_atoms.specs.declared.settings.Scenario.{Scenario}
 use Rattle.mesh_machine.specs.declared.frame.Frame.{Frame}
 use Rattle.mesh_machine.specs.Machine.{Event, due}
-use Rattle.mesh_radio.specs.Net.{IsFirstDue}
+use Rattle.mesh_machine.specs.Net.{IsFirstDue}
 use Rattle.mesh_radio.specs.Scene.{AreRouters, Stepped}
-use Rattle.mesh_radio.proofs.TrafficLemmas.Places.{stands, same_at, set_at}
+use Rattle.mesh_machine.proofs.Places.{stands, same_at, set_at}
 
 pub same_count : (old new : List State) (x now : ℕ) (event : Event) (frames : List Frame) (change : ℕ → ℕ → Type 0) → Stepped old new x now event frames change → length new ≡ length old
 same_count old new x now event frames change step = ap length step.routers ∙ length-set old x step.is

@@ -8,7 +8,7 @@ use Rattle.mesh_machine.specs.declared.frame.Frame.{Frame}
 use Rattle.mesh_machine.specs.Machine.{Event, Step, due}
 use Rattle.mesh_machine.specs.Sendable.{IsSendable}
 use Rattle.mesh_radio.specs.Scene.{Stepped}
-use Rattle.mesh_radio.proofs.TrafficLemmas.Places.{mapped_at, same_at}
+use Rattle.mesh_machine.proofs.Places.{mapped_at, same_at}
 
 module _ {A : Type 0} (state : A → State) (routers : List A) (x : ℕ) (here : State) (at : slice_get (map state routers) x ≡ Some here) where
   pub within : x < length routers

@@ -1,5 +1,4 @@
-pub mod Net
 pub mod Opening
-pub mod Run
 pub mod Scene
 pub mod Traffic
+pub mod Value

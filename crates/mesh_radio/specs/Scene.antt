@@ -11,9 +11,9 @@ use Rattle.mesh_machine.specs.Sendable.{IsPacket, IsSendable}
 use Rattle.mesh_atoms.specs.declared.network.NetEvent.{NetEvent}
 use Rattle.mesh_radio.specs.declared.scene.Scene.{Scene}
 use Rattle.mesh_radio.specs.declared.scene.Tick.{Tick}
-use Rattle.mesh_radio.specs.Net.{Net, NetStep, IsFirstDue, IsSender, event_of, frames_of}
-use Rattle.mesh_radio.specs.Traffic.Sending.{Delivery, Traffic, SendsAll, with_heard}
-use Rattle.mesh_radio.specs.Run.{IsOver, IsOfScenario, IsOfPackets}
+use Rattle.mesh_machine.specs.Net.{Net, NetStep, IsFirstDue, IsSender, event_of, frames_of}
+use Rattle.mesh_machine.specs.Traffic.{Delivery, Traffic, SendsAll, with_heard}
+use Rattle.mesh_machine.specs.NetRun.{IsOver, IsOfScenario, IsOfPackets}
 use Rattle.mesh_radio.specs.Traffic.Traffic.{traffic_of}
 use Rattle.mesh_radio.specs.Traffic.Ways.{AreWays}
 

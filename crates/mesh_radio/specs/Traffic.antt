@@ -1,6 +1,5 @@
 pub mod Air
 pub mod Draws
 pub mod Flights
-pub mod Sending
 pub mod Traffic
 pub mod Ways

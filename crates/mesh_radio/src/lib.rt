@@ -3,7 +3,6 @@
 #![tactic(auto)]
 
 mod events;
-mod laws;
 mod net;
 mod opening;
 mod routers;
@@ -11,7 +10,7 @@ mod scene;
 mod step;
 mod traffic;
 
-pub use laws::{machines, routers_end_together};
 pub use mesh_atoms::{Counts, Emission, NetEvent};
+pub use mesh_machine::{machines, routers_end_together};
 pub use net::Net;
 pub use traffic::{Air, Draws, Landed, Traffic, Ways, send_all, ways_of, words_of};

@@ -1,8 +1,9 @@
 //! The emulated network.
 ghost use Rattle.std.specs.Prelude.{◌≡◌, List, false, is_err, IfOk, OnOk, IsErr, IsTrue, MatchOption, IfSome};
 ghost use Rattle.mesh_atoms.specs.declared.network.NetEvent.{NetEvent};
-ghost use Rattle.mesh_radio.specs.Net.{NetStep};
-ghost use Rattle.mesh_radio.specs.Run.{IsOpeningNet, IsOver, IsOfScenario, IsOfPackets, NetRun, states_of};
+ghost use Rattle.mesh_machine.specs.Net.{NetStep};
+ghost use Rattle.mesh_machine.specs.NetRun.{IsOpeningNet, IsOver, IsOfScenario, IsOfPackets, NetRun};
+ghost use Rattle.mesh_radio.specs.Value.{states_of};
 
 use crate::opening::{Opening, opening_of};
 use crate::scene::Scene;
@@ -36,7 +37,7 @@ impl<B: Bases> Drop for Net<B> {
 
 impl<B: Bases> Model for Net<B> {
     ghost use Rattle.std.specs.Prelude.{◌≡◌, false};
-    ghost use Rattle.mesh_radio.specs.Run.{NetValue, states_of};
+    ghost use Rattle.mesh_radio.specs.Value.{NetValue, states_of};
     ghost use Rattle.mesh_radio.specs.Scene.{IsSound, net_of};
 
     ghost Value = { NetValue };

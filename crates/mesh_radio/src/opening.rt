@@ -1,7 +1,7 @@
 //! A network before its first event.
 ghost use Rattle.std.specs.Prelude.{◌≡◌, [], map, IfOk};
 ghost use Rattle.mesh_radio.specs.Opening.{IsOpeningScene};
-ghost use Rattle.mesh_radio.specs.Run.{IsOpeningNet};
+ghost use Rattle.mesh_machine.specs.NetRun.{IsOpeningNet};
 ghost use Rattle.mesh_radio.specs.Scene.{IsSound, net_of};
 
 use crate::routers::{first_due, routers_of};

@@ -2,7 +2,7 @@
 ghost use Rattle.std.specs.Prelude.{◌≡◌, ◌<◌, ◌≤◌, ◌^◌, length, map, slice_get, Some, IfOk, OnOk};
 ghost use Rattle.mesh_atoms.specs.State.{State};
 ghost use Rattle.mesh_machine.specs.Machine.{Hear, Tick};
-ghost use Rattle.mesh_radio.specs.Net.{IsFirstDue, IsSender};
+ghost use Rattle.mesh_machine.specs.Net.{IsFirstDue, IsSender};
 ghost use Rattle.mesh_radio.specs.Opening.{AreOpening};
 ghost use Rattle.mesh_radio.specs.Scene.{Stepped, IsFrom};
 

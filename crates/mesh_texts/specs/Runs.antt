@@ -7,8 +7,8 @@ use Rattle.mesh_atoms.specs.Settled.{Settled}
 use Rattle.mesh_atoms.specs.State.{State}
 use Rattle.mesh_machine.specs.Machine.{Run}
 use Rattle.mesh_atoms.specs.declared.network.NetEvent.{NetEvent}
-use Rattle.mesh_radio.specs.Net.{Net, NetStep, event_of, frames_of}
-use Rattle.mesh_radio.specs.Run.{IsOpeningNet, IsOver, NetRun, events_at}
+use Rattle.mesh_machine.specs.Net.{Net, NetStep, event_of, frames_of}
+use Rattle.mesh_machine.specs.NetRun.{IsOpeningNet, IsOver, NetRun, events_at}
 use Rattle.mesh_atoms.specs.declared.gap.Gap.{Gap}
 use Rattle.mesh_texts.specs.Events.{IsEventText}
 use Rattle.mesh_texts.specs.Network.{IsGapOf, IsSummary}

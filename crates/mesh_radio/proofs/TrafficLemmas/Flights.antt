@@ -12,7 +12,7 @@ use Rattle.std.proofs.lemmas.Cmp.{ranked}
 use Rattle.std.proofs.lemmas.List.{map-append}
 use Rattle.std.proofs.lemmas.List.Elements.{All-nil, All-cons, All-head, All-tail, All-weaker, All-map}
 use Rattle.std.proofs.lemmas.Map.Views.{All-keys-insert_entry}
-use Rattle.mesh_radio.specs.Traffic.Sending.{Delivery, IsHeardFirst}
+use Rattle.mesh_machine.specs.Traffic.{Delivery, IsHeardFirst}
 use Rattle.mesh_radio.specs.declared.traffic.air.Turn.{Turn}
 use Rattle.mesh_radio.specs.declared.traffic.air.Flight.{Flight}
 use Rattle.mesh_radio.specs.Traffic.Flights.{Entry, flight_of, insert_by_number, by_number, in_order, turn_cmp, AreMade}

@@ -5,9 +5,9 @@ use Rattle.std.specs.List.{filter, enumerate_from}
 use Rattle.mesh_atoms.specs.declared.settings.RadioArc.{RadioArc}
 use Rattle.std.proofs.lemmas.Option.{slice_get_read, get_or_from_slice_get}
 use Rattle.mesh_atoms.specs.declared.settings.RouterSettings.{RouterSettings}
-use Rattle.mesh_radio.specs.Traffic.Sending.{leaves, leaving}
+use Rattle.mesh_machine.specs.Traffic.{leaves, leaving}
 use Rattle.mesh_radio.specs.Traffic.Ways.{AreWays, AreWaysOf}
-use Rattle.mesh_radio.proofs.TrafficLemmas.Places.{each_more}
+use Rattle.mesh_machine.proofs.Places.{each_more}
 
 -- the arcs from number k on that leave an interface
 abbrev pub leaving_from : List RadioArc → ℕ → ℕ → ℕ → List (ℕ × RadioArc)

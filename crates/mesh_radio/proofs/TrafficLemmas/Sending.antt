@@ -7,7 +7,7 @@ use Rattle.std.proofs.lemmas.Option.{slice_get_within, get_or_from_slice_get}
 use Rattle.mesh_atoms.specs.declared.settings.Scenario.{Scenario}
 use Rattle.mesh_machine.specs.declared.frame.Frame.{Frame}
 use Rattle.mesh_atoms.specs.declared.network.Emission.{Emission}
-use Rattle.mesh_radio.specs.Traffic.Sending.{Traffic, Sends, SendsAll, frame_of}
+use Rattle.mesh_machine.specs.Traffic.{Traffic, Sends, SendsAll, frame_of}
 
 -- whatever is sent from here on, the whole is sent
 abbrev pub SendsOn : Scenario → ℕ → ℕ → List Emission → Traffic → Traffic → Type 0

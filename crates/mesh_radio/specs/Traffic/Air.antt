@@ -1,5 +1,5 @@
 -- What is heard, as a delivery.
-use Rattle.mesh_radio.specs.Traffic.Sending.{Delivery}
+use Rattle.mesh_machine.specs.Traffic.{Delivery}
 use Rattle.mesh_radio.specs.declared.traffic.air.Landed.{Landed}
 
 -- a frame that is heard

@@ -3,7 +3,7 @@ use Rattle.std.specs.Prelude.{ℕ, ◌<◌, List, [], ◌∷◌, All, map, cond,
 use Rattle.std.specs.Map.{keys_of}
 use Rattle.std.specs.Ordering.{nat_cmp, ordering_then}
 use Rattle.std.specs.declared.cmp.Ordering.{Ordering}
-use Rattle.mesh_radio.specs.Traffic.Sending.{Delivery}
+use Rattle.mesh_machine.specs.Traffic.{Delivery}
 use Rattle.mesh_radio.specs.declared.traffic.air.Turn.{Turn}
 use Rattle.mesh_radio.specs.declared.traffic.air.Flight.{Flight}
 

@@ -1,5 +1,5 @@
 -- The traffic of a network as it is kept.
-use Rattle.mesh_radio.specs.Traffic.Sending as net
+use Rattle.mesh_machine.specs.Traffic as net
 use Rattle.mesh_radio.specs.declared.traffic.traffic.Traffic.{Traffic}
 
 -- the traffic that is meant

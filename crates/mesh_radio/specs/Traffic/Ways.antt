@@ -2,7 +2,7 @@
 use Rattle.std.specs.Prelude.{◌≡◌, ℕ, List, Some, slice_get, length}
 use Rattle.mesh_atoms.specs.declared.settings.RadioArc.{RadioArc}
 use Rattle.mesh_atoms.specs.declared.settings.RouterSettings.{RouterSettings}
-use Rattle.mesh_radio.specs.Traffic.Sending.{leaving}
+use Rattle.mesh_machine.specs.Traffic.{leaving}
 
 -- the arcs that leave each of so many interfaces of router x
 pub record AreWaysOf (arcs : List RadioArc) (x interfaces : ℕ) (ways : List (List (ℕ × RadioArc))) : Type 0 where

@@ -1,6 +1,6 @@
 //! The frames in the air, in the order in which they will be heard.
 ghost use Rattle.std.specs.Prelude.{◌≡◌, ◌<◌, ◌≤◌, [], ◌∷◌, ◌++◌, All, OnOk, MatchOption};
-ghost use Rattle.mesh_radio.specs.Traffic.Sending.{IsHeardFirst};
+ghost use Rattle.mesh_machine.specs.Traffic.{IsHeardFirst};
 ghost use Rattle.mesh_radio.specs.Traffic.Air.{delivery_of};
 
 use mesh_atoms::Bytes;
@@ -41,7 +41,7 @@ pub struct Air {
 
 impl Model for Air {
     ghost use Rattle.std.specs.Prelude.{List};
-    ghost use Rattle.mesh_radio.specs.Traffic.Sending.{Delivery};
+    ghost use Rattle.mesh_machine.specs.Traffic.{Delivery};
     ghost use Rattle.mesh_radio.specs.Traffic.Flights.{in_order, AreMade};
 
     ghost Value = { List Delivery };

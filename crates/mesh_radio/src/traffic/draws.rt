@@ -1,7 +1,7 @@
 //! The draws of an emulated network.
 ghost use Rattle.std.specs.Prelude.{◌≡◌};
-ghost use Rattle.mesh_radio.specs.Traffic.Draws.{key_by};
-ghost use Rattle.mesh_radio.specs.Traffic.Sending.{draw, next_count};
+ghost use Rattle.mesh_machine.specs.Draws.{key_by};
+ghost use Rattle.mesh_machine.specs.Traffic.{draw, next_count};
 
 use rand_chacha::ChaCha20Rng;
 use rand_core::SeedableRng;
@@ -32,7 +32,8 @@ pub struct Draws {
 
 impl Model for Draws {
     ghost use Rattle.std.specs.Prelude.{◌≡◌};
-    ghost use Rattle.mesh_radio.specs.Traffic.Draws.{Drawing, key_by};
+    ghost use Rattle.mesh_radio.specs.Traffic.Draws.{Drawing};
+    ghost use Rattle.mesh_machine.specs.Draws.{key_by};
 
     ghost Value = { Drawing };
 

@@ -3,7 +3,7 @@ ghost use Rattle.std.specs.Prelude.{◌≡◌, ◌+◌, ◌≤◌, ◌<◌, ◌^
 ghost use Rattle.mesh_atoms.specs.Settings.{one_hour};
 ghost use Rattle.mesh_atoms.specs.declared.settings.RouterSettings.{RouterSettings};
 ghost use Rattle.mesh_machine.specs.Sendable.{IsSendable};
-ghost use Rattle.mesh_radio.specs.Traffic.Sending.{IsLossy, IsLost, Spreads, Sends, SendsAll, frame_of, next_count};
+ghost use Rattle.mesh_machine.specs.Traffic.{IsLossy, IsLost, Spreads, Sends, SendsAll, frame_of, next_count};
 ghost use Rattle.mesh_radio.specs.Traffic.Traffic.{traffic_of};
 ghost use Rattle.mesh_radio.specs.Traffic.Ways.{AreWays};
 

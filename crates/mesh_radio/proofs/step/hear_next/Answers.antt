@@ -3,7 +3,7 @@ use Rattle.std.specs.Prelude.{min}
 use Rattle.mesh_radio.specs.Traffic.Air.{delivery_of}
 use Rattle.mesh_radio.specs.Scene.{IsFlying}
 use Rattle.mesh_radio.proofs.Happenings.{hears_next}
-use Rattle.mesh_radio.proofs.Flying.{first_and_others}
+use Rattle.mesh_machine.proofs.Sent.{first_and_others}
 use Rattle.mesh_radio.proofs.Soundness.{later_routers}
 use Rattle.mesh_radio.proofs.step.hear_next.Goals as goal
 

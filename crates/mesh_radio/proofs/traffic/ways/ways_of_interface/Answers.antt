@@ -1,7 +1,7 @@
 use Rattle.std.proofs.Common.{sym, ◌∙◌, ◌≡◌, ◌++◌, append-nil, drop, [], subst, true, false}
 use Rattle.std.specs.List.{filter, enumerate_from}
 use Rattle.std.proofs.lemmas.List.{drop_all}
-use Rattle.mesh_radio.specs.Traffic.Sending.{leaves, leaving}
+use Rattle.mesh_machine.specs.Traffic.{leaves, leaving}
 use Rattle.mesh_radio.proofs.TrafficLemmas.Leaving.{leaving_more}
 use Rattle.mesh_radio.proofs.traffic.ways.ways_of_interface.Goals as goal
 use Rattle.mesh_radio.proofs.traffic.ways.ways_of_interface.Goals.{then-leaves+in_ok-push, else-leaves}

@@ -1,5 +1,5 @@
 use Rattle.std.proofs.Common.{◌≡◌, ◌++◌}
-use Rattle.mesh_radio.specs.Traffic.Sending.{leaving}
+use Rattle.mesh_machine.specs.Traffic.{leaving}
 use Rattle.mesh_radio.proofs.TrafficLemmas.Leaving.{leaving_from}
 use Rattle.mesh_radio.proofs.traffic.ways.ways_of_interface.Given as goal
 

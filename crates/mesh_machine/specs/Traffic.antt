@@ -4,7 +4,7 @@ use Rattle.std.specs.List.{filter, enumerate_from}
 use Rattle.mesh_atoms.specs.declared.settings.RadioArc.{RadioArc}
 use Rattle.mesh_atoms.specs.declared.settings.Scenario.{Scenario}
 use Rattle.mesh_machine.specs.declared.frame.Frame.{Frame}
-use Rattle.mesh_radio.specs.Traffic.Draws.{word_of}
+use Rattle.mesh_machine.specs.Draws.{word_of}
 use Rattle.mesh_atoms.specs.declared.network.Counts.{Counts}
 use Rattle.mesh_atoms.specs.declared.network.Emission.{Emission}
 

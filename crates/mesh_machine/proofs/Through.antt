@@ -12,11 +12,11 @@ use Rattle.mesh_machine.proofs.Opening.{runs_sound}
 use Rattle.mesh_machine.specs.declared.frame.Frame.{Frame}
 use Rattle.mesh_machine.specs.Machine.{Step, Ticked, Tick, Steps, No_events, First_event, due}
 use Rattle.mesh_atoms.specs.declared.network.NetEvent.{NetEvent}
-use Rattle.mesh_radio.specs.Net.{Net, NetStep, By_delivery, By_tick, By_last_tick, Moves, HasOnlyLastTicks, event_of, frames_of, happening}
-use Rattle.mesh_radio.specs.Traffic.Sending.{Traffic, Delivery, with_heard}
-use Rattle.mesh_radio.specs.Run.{NetRun, AreMachines, EndTogether, events_at}
-use Rattle.mesh_radio.proofs.Flying.{first_and_others, sent_later}
-use Rattle.mesh_radio.proofs.TrafficLemmas.Places.{stands, same_at, set_at, set_here, set_there}
+use Rattle.mesh_machine.specs.Net.{Net, NetStep, By_delivery, By_tick, By_last_tick, Moves, HasOnlyLastTicks, event_of, frames_of, happening}
+use Rattle.mesh_machine.specs.Traffic.{Traffic, Delivery, with_heard}
+use Rattle.mesh_machine.specs.NetRun.{NetRun, AreMachines, EndTogether, events_at}
+use Rattle.mesh_machine.proofs.Sent.{first_and_others, sent_later}
+use Rattle.mesh_machine.proofs.Places.{stands, same_at, set_at, set_here, set_there}
 
 -- Each event moves one router
 

@@ -1,20 +1,14 @@
 -- The runs of an emulated network, and what each of its routers comes through.
-use Rattle.std.specs.Prelude.{◌≡◌, ℕ, ◌<◌, ◌∷◌, [], List, Some, slice_get, length, map, All, Bool, IfSome, nat_eq}
+use Rattle.std.specs.Prelude.{◌≡◌, ℕ, ◌<◌, ◌∷◌, [], List, Some, slice_get, length, map, All, IfSome, nat_eq}
 use Rattle.std.specs.List.{filter}
 use Rattle.mesh_atoms.specs.declared.settings.RouterSettings.{RouterSettings}
 use Rattle.mesh_atoms.specs.declared.settings.Scenario.{Scenario}
 use Rattle.mesh_atoms.specs.Sound.{Sound}
 use Rattle.mesh_atoms.specs.State.{State}
-use Rattle.mesh_core.specs.Holding.{CoreValue}
 use Rattle.mesh_machine.specs.Machine.{IsOpening, Run}
 use Rattle.mesh_machine.specs.Sendable.{IsPacket}
 use Rattle.mesh_atoms.specs.declared.network.NetEvent.{NetEvent}
-use Rattle.mesh_radio.specs.Net.{Net, NetStep, HasOnlyLastTicks, event_of, frames_of}
-
--- an emulated network, and whether it has met want of memory
-pub record NetValue : Type 0 where
-  pub net : Net
-  pub is_spent : Bool
+use Rattle.mesh_machine.specs.Net.{Net, NetStep, HasOnlyLastTicks, event_of, frames_of}
 
 -- a network before its first event: each router is in its opening state, nothing is in the air, and all numbers are 0
 pub record IsOpeningNet (scenario : Scenario) (net : Net) : Type 0 where
@@ -49,12 +43,6 @@ pub record IsOfScenario (scenario : Scenario) (event : NetEvent) : Type 0 where
 pub record IsOfPackets (event : NetEvent) : Type 0 where
   pub heard : IfSome event.heard (λ h. IsPacket h.2)
   pub sent : All (λ e. IsPacket e.frame) event.sent
-
--- The states of cores
-
--- the state of each core, in order
-abbrev pub states_of : List CoreValue → List State
-states_of cores = map (λ c. c.state) cores
 
 -- What each router comes through
 

@@ -8,7 +8,7 @@ use Rattle.mesh_atoms.specs.declared.settings.Scenario.{Scenario}
 use Rattle.mesh_atoms.specs.State.{State}
 use Rattle.mesh_machine.specs.declared.frame.Frame.{Frame}
 use Rattle.mesh_machine.specs.Machine.{Event, Hear, Tick, Step, due}
-use Rattle.mesh_radio.specs.Traffic.Sending.{Delivery, Traffic, frame_of, with_heard, SendsAll, IsHeardFirst}
+use Rattle.mesh_machine.specs.Traffic.{Delivery, Traffic, frame_of, with_heard, SendsAll, IsHeardFirst}
 use Rattle.mesh_atoms.specs.declared.network.NetEvent.{NetEvent}
 
 -- a network at a moment
