@@ -1,8 +1,8 @@
 use Rattle.std.proofs.Common.{◌≡◌, ◌++◌, drop}
 use Rattle.std.specs.List.{flat_map, enumerate_from}
 use Rattle.mesh_tlv.specs.Least.{Grows}
-use Rattle.mesh_texts.specs.Events.{flooding_relays_line}
-use Rattle.mesh_texts.proofs.events.put_all_flooding_relays.Given as goal
+use Rattle.mesh_router_text.specs.Trace.{flooding_relays_line}
+use Rattle.mesh_router_text.proofs.trace.put_all_flooding_relays.Given as goal
 
 abbrev pub invariant-loop-iface : goal.invariant-loop-iface
 invariant-loop-iface l = record {

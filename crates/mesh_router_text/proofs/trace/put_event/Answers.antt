@@ -1,7 +1,7 @@
 use Rattle.std.proofs.Common.{refl}
-use Rattle.mesh_texts.specs.Events.{event_text, Of_taken}
+use Rattle.mesh_router_text.specs.Trace.{event_text, Of_taken}
 use Rattle.mesh_router_text.proofs.LinesLemmas.Joined.{on_ok}
-use Rattle.mesh_texts.proofs.events.put_event.Goals as goal
+use Rattle.mesh_router_text.proofs.trace.put_event.Goals as goal
 
 pub returns-clause-ok : goal.returns-clause-ok
 returns-clause-ok g c =

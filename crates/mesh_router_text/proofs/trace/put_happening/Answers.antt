@@ -1,8 +1,8 @@
 use Rattle.std.specs.List.{flat_map}
 use Rattle.mesh_tlv.proofs.Grows.{grows_on}
 use Rattle.mesh_router_text.proofs.LinesLemmas.Joined.{on_ok, three}
-use Rattle.mesh_texts.specs.Events.{event_line, relays_lines, sent_lines, event_text}
-use Rattle.mesh_texts.proofs.events.put_happening.Goals as goal
+use Rattle.mesh_router_text.specs.Trace.{event_line, relays_lines, sent_lines, event_text}
+use Rattle.mesh_router_text.proofs.trace.put_happening.Goals as goal
 
 pub returns-in_err-put_event_line-clause-kept : goal.returns-in_err-put_event_line-clause-kept
 returns-in_err-put_event_line-clause-kept g c = c.put_event_line.ensures.kept

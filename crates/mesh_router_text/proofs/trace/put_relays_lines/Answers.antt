@@ -4,8 +4,8 @@ use Rattle.mesh_atoms.specs.declared.settings.RouterSettings.{RouterSettings}
 use Rattle.mesh_atoms.specs.declared.tuples.Relays.{Relays}
 use Rattle.mesh_tlv.proofs.Grows.{grows_on}
 use Rattle.mesh_router_text.proofs.LinesLemmas.Joined.{on_ok, two}
-use Rattle.mesh_texts.specs.Events.{flooding_relays_line, routing_relays_line, relays_lines}
-use Rattle.mesh_texts.proofs.events.put_relays_lines.Goals as goal
+use Rattle.mesh_router_text.specs.Trace.{flooding_relays_line, routing_relays_line, relays_lines}
+use Rattle.mesh_router_text.proofs.trace.put_relays_lines.Goals as goal
 
 pub returns-in_err-put_all_flooding_relays-clause-kept : goal.returns-in_err-put_all_flooding_relays-clause-kept
 returns-in_err-put_all_flooding_relays-clause-kept g c = c.put_all_flooding_relays.ensures.kept

@@ -5,16 +5,16 @@ ghost use Rattle.mesh_packet.specs.Least.{Wrote};
 ghost use Rattle.mesh_tlv.specs.Least.{Grows};
 ghost use Rattle.mesh_machine.specs.Names.{router_name};
 ghost use Rattle.mesh_router_text.specs.Lines.Marks.{line_of, face_name, relays_text, faces_of};
-ghost use Rattle.mesh_texts.specs.Events.{tick_line, heard_line, event_line, flooding_relays_line, routing_relays_line, relays_lines, sent_line, loss_line, arc_line, lost_line, sent_lines, event_text, IsTaken, IsEventText};
+ghost use Rattle.mesh_router_text.specs.Trace.{tick_line, heard_line, event_line, flooding_relays_line, routing_relays_line, relays_lines, sent_line, loss_line, arc_line, lost_line, sent_lines, event_text, IsTaken, IsEventText};
 
+use crate::lines::{Piece, face_name, faces_of, put_line, relays_of};
 use mesh_atoms::{
     Addr4, Bytes, Emission, Interface, NetEvent, RadioArc, RouterSettings, Scenario, Seq,
 };
 use mesh_machine::{RouterView, router_name};
-use mesh_router_text::{Piece, face_name, faces_of, put_line, relays_of};
 use std::alloc::AllocError;
 
-#[tactic(auto, unfolding(crate::specs::Events::tick_line))]
+#[tactic(auto, unfolding(crate::specs::Trace::tick_line))]
 fn put_tick_line(out: &mut Bytes, moment: u64, router: &[u8]) -> Result<(), AllocError>
     ensures ok { OnOk result (out.new ≡ out.old ++ tick_line moment router.now) }
     ensures kept { Grows out.old out.new }
@@ -30,7 +30,7 @@ fn put_tick_line(out: &mut Bytes, moment: u64, router: &[u8]) -> Result<(), Allo
     )
 }
 
-#[tactic(auto, unfolding(crate::specs::Events::heard_line))]
+#[tactic(auto, unfolding(crate::specs::Trace::heard_line))]
 fn put_heard_line<'a>(
     out: &mut Bytes,
     moment: u64,
@@ -60,7 +60,7 @@ fn put_heard_line<'a>(
 }
 
 // Puts what happened to the router with these settings.
-#[tactic(auto, unfolding(crate::specs::Events::event_line))]
+#[tactic(auto, unfolding(crate::specs::Trace::event_line))]
 fn put_event_line(
     out: &mut Bytes,
     event: &NetEvent,
@@ -85,7 +85,7 @@ fn put_event_line(
     }
 }
 
-#[tactic(auto, unfolding(crate::specs::Events::flooding_relays_line))]
+#[tactic(auto, unfolding(crate::specs::Trace::flooding_relays_line))]
 fn put_flooding_relays_line<'a>(
     out: &mut Bytes,
     router: &'a [u8],
@@ -110,7 +110,7 @@ fn put_flooding_relays_line<'a>(
     )
 }
 
-#[tactic(auto, unfolding(crate::specs::Events::routing_relays_line))]
+#[tactic(auto, unfolding(crate::specs::Trace::routing_relays_line))]
 fn put_routing_relays_line<'a>(
     out: &mut Bytes,
     router: &'a [u8],
@@ -148,7 +148,7 @@ fn put_all_flooding_relays(
 }
 
 // Puts the relays that a router has: of each interface, then for routing.
-#[tactic(auto, unfolding(crate::specs::Events::relays_lines))]
+#[tactic(auto, unfolding(crate::specs::Trace::relays_lines))]
 fn put_relays_lines<R: RouterView>(out: &mut Bytes, router: &R) -> Result<(), AllocError>
     ensures ok { OnOk result (out.new ≡ out.old ++ relays_lines (R.state router.now)) }
     ensures kept { Grows out.old out.new }
@@ -165,7 +165,7 @@ fn put_relays_lines<R: RouterView>(out: &mut Bytes, router: &R) -> Result<(), Al
     put_routing_relays_line(out, name, relays.routing.as_slice())
 }
 
-#[tactic(auto, unfolding(crate::specs::Events::sent_line))]
+#[tactic(auto, unfolding(crate::specs::Trace::sent_line))]
 fn put_sent_line<'a>(
     out: &mut Bytes,
     moment: u64,
@@ -191,7 +191,7 @@ fn put_sent_line<'a>(
     )
 }
 
-#[tactic(auto, unfolding(crate::specs::Events::loss_line))]
+#[tactic(auto, unfolding(crate::specs::Trace::loss_line))]
 fn put_loss_line<'a>(
     out: &mut Bytes,
     moment: u64,
@@ -243,7 +243,7 @@ fn put_arc_line(
 }
 
 // Puts that a frame was lost on the arc of that number.
-#[tactic(auto, unfolding(crate::specs::Events::lost_line))]
+#[tactic(auto, unfolding(crate::specs::Trace::lost_line))]
 fn put_lost_line(
     out: &mut Bytes,
     scenario: &Scenario,
@@ -297,7 +297,7 @@ fn put_sending(
 }
 
 // Puts a frame that was sent, and on which arcs it was lost.
-#[tactic(auto, unfolding(crate::specs::Events::sent_lines))]
+#[tactic(auto, unfolding(crate::specs::Trace::sent_lines))]
 fn put_sent_lines(
     out: &mut Bytes,
     scenario: &Scenario,
@@ -344,7 +344,7 @@ fn put_sent_at(
 }
 
 // Puts what happened to a router, its relays, and what it sent.
-#[tactic(auto, unfolding(crate::specs::Events::event_text))]
+#[tactic(auto, unfolding(crate::specs::Trace::event_text))]
 fn put_happening<R: RouterView>(
     out: &mut Bytes,
     scenario: &Scenario,

@@ -3,9 +3,9 @@ use Rattle.std.specs.Prelude.{slice_get}
 use Rattle.std.proofs.lemmas.List.{append-nil}
 use Rattle.std.proofs.lemmas.Option.{slice_get_read, slice_get_past}
 use Rattle.mesh_atoms.specs.declared.settings.RadioArc.{RadioArc}
-use Rattle.mesh_texts.specs.Events.{arc_line, lost_line}
+use Rattle.mesh_router_text.specs.Trace.{arc_line, lost_line}
 use Rattle.mesh_router_text.proofs.LinesLemmas.Joined.{on_ok}
-use Rattle.mesh_texts.proofs.events.put_lost_line.Goals as goal
+use Rattle.mesh_router_text.proofs.trace.put_lost_line.Goals as goal
 
 pub returns-in-Some-clause-ok : goal.returns-in-Some-clause-ok
 unfolding lost_line
