@@ -9,8 +9,8 @@ use Rattle.mesh_atoms.specs.declared.tuples.Noted.{Noted}
 use Rattle.mesh_atoms.specs.declared.tuples.Base.TheVariants.{Received, Forwarded}
 use Rattle.mesh_atoms.specs.Base.{Base, addr_eq, find, flood_eq}
 use Rattle.mesh_atoms.specs.Reading.{has}
-use Rattle.mesh_packet.specs.Fields.{MessageFields}
-use Rattle.mesh_packet.specs.Grammar.{SpellsMessage, SpellsOctet}
+use Rattle.mesh_wire.specs.packet.Fields.{MessageFields}
+use Rattle.mesh_wire.specs.packet.Grammar.{SpellsMessage, SpellsOctet}
 use Rattle.mesh_wire.specs.Rehop.{HasHop}
 use Rattle.mesh_flood.specs.declared.verdict.Heading.{Heading}
 use Rattle.mesh_flood.specs.declared.verdict.Forward.{Forward}

@@ -1,3 +1,7 @@
+pub use Rattle.mesh_hello.proofs as hello
+pub use Rattle.mesh_nhdp.proofs as nhdp
+pub use Rattle.mesh_wire.proofs.packet
+pub use Rattle.mesh_wire.proofs.tlv
 pub mod Effects
 pub mod Given
 pub mod Hops

@@ -17,7 +17,7 @@ use Rattle.mesh_atoms.specs.declared.tuples.LinkState.TheVariants.{Pending as Is
 use Rattle.mesh_atoms.specs.State.{State, state_of, is_symmetric, is_heard, HasSymmetricWith, link_at, neighbour_at}
 use Rattle.mesh_atoms.specs.Words.{IsValue}
 use Rattle.mesh_atoms.proofs.Lookups.{has_found, link_equiv, same_link, looks_up_links, looks_up_neighbours}
-use Rattle.mesh_expire.specs.Table.{entry_of}
+use Rattle.mesh_nhdp.specs.expire.Table.{entry_of}
 use Rattle.mesh_hello.proofs.Lookups.{some_same}
 use Rattle.mesh_machine.specs.declared.said.Said.{Said}
 use Rattle.mesh_machine.specs.Said.{IsSaidOf, IsLinkWith, IsNeighbourWith, IsRelayOf, IsFloodingRelay, shows_symmetric, link_metric_in, link_metric_out, near_metric_in, near_metric_out, or_else}

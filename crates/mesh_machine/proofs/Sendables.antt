@@ -10,9 +10,9 @@ use Rattle.mesh_atoms.specs.declared.tc.Tc.{Tc}
 use Rattle.mesh_atoms.specs.declared.tc.TcRow.{TcRow}
 use Rattle.mesh_atoms.specs.Base.{base_of}
 use Rattle.mesh_atoms.specs.State.{Bases, NotedMessages, State}
-use Rattle.mesh_packet.specs.declared.packet.Span.{Span}
-use Rattle.mesh_packet.specs.Fields.{MessageFields, PacketFields}
-use Rattle.mesh_packet.specs.Grammar.{SpellsMessage}
+use Rattle.mesh_wire.specs.packet.declared.packet.Span.{Span}
+use Rattle.mesh_wire.specs.packet.Fields.{MessageFields, PacketFields}
+use Rattle.mesh_wire.specs.packet.Grammar.{SpellsMessage}
 use Rattle.mesh_wire.specs.Rehop.{HasHop, one_hop_on, hopped}
 use Rattle.mesh_wire.proofs.Hops.{can_hop, hop_spells}
 use Rattle.mesh_flood.specs.declared.verdict.Heading.{Heading}

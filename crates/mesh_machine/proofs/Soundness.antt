@@ -26,9 +26,9 @@ use Rattle.mesh_flood.proofs.Soundness.{sound_after_note, sound_after_expiry}
 use Rattle.mesh_atoms.specs.declared.settings.Interface.{Interface}
 use Rattle.mesh_atoms.specs.RelayGraphs.{AreRelays}
 use Rattle.mesh_atoms.specs.Routes.{AreRoutes}
-use Rattle.mesh_addr.specs.declared.records.RawAddr.{RawAddr}
-use Rattle.mesh_packet.specs.declared.packet.Span.{Span}
-use Rattle.mesh_packet.specs.Fields.{MessageFields}
+use Rattle.mesh_wire.specs.addr.declared.records.RawAddr.{RawAddr}
+use Rattle.mesh_wire.specs.packet.declared.packet.Span.{Span}
+use Rattle.mesh_wire.specs.packet.Fields.{MessageFields}
 use Rattle.mesh_wire.specs.Hello.{OriginatorIs}
 use Rattle.mesh_flood.specs.declared.verdict.Process.TheVariants as process
 use Rattle.mesh_flood.proofs.Room.{has_room_processed, has_room_received, has_room_forwarded}

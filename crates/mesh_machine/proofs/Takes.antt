@@ -6,15 +6,15 @@ use Rattle.std.proofs.Common.{map, get_or}
 use Rattle.std.specs.Prelude.{option_map}
 use Rattle.std.proofs.lemmas.Option.{slice_get-map, slice_get-get_or, slice_get_within}
 use Rattle.std.proofs.lemmas.List.{length-map}
-use Rattle.mesh_packet.specs.declared.packet.Message.{Message}
+use Rattle.mesh_wire.specs.packet.declared.packet.Message.{Message}
 use Rattle.mesh_hello.proofs.Collect.{taken_more}
-use Rattle.mesh_packet.specs.Fields.{fields_of_message}
+use Rattle.mesh_wire.specs.packet.Fields.{fields_of_message}
 use Rattle.mesh_atoms.specs.declared.addr.Addr4.{Addr4}
 use Rattle.mesh_atoms.specs.declared.settings.RouterSettings.{RouterSettings}
 use Rattle.mesh_atoms.specs.State.{Bases}
-use Rattle.mesh_packet.specs.declared.packet.Span.{Span}
-use Rattle.mesh_packet.specs.Fields.{MessageFields, PacketFields}
-use Rattle.mesh_packet.specs.Grammar.{Spells, SpellsMessage, SpellsMessages}
+use Rattle.mesh_wire.specs.packet.declared.packet.Span.{Span}
+use Rattle.mesh_wire.specs.packet.Fields.{MessageFields, PacketFields}
+use Rattle.mesh_wire.specs.packet.Grammar.{Spells, SpellsMessage, SpellsMessages}
 use Rattle.mesh_machine.specs.declared.arrival.Arrival.{Arrival}
 use Rattle.mesh_machine.specs.declared.fate.Fate.{Fate}
 use Rattle.mesh_machine.specs.declared.frame.Frame.{Frame}

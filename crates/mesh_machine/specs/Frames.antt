@@ -1,6 +1,6 @@
 -- Frames that a router hears and sends.
 use Rattle.std.specs.Prelude.{ℕ, zero, suc, ◌+◌, ◌∷◌, [], ◌++◌, List, slice_range, length, drop}
-use Rattle.mesh_packet.specs.declared.packet.Span.{Span}
+use Rattle.mesh_wire.specs.packet.declared.packet.Span.{Span}
 use Rattle.mesh_machine.specs.declared.frame.Frame.{Frame}
 
 -- the octets of a message that stands there in a frame

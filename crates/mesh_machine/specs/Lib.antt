@@ -1,3 +1,9 @@
+pub use Rattle.mesh_wire.specs.addr
+pub use Rattle.mesh_nhdp.specs.expire
+pub use Rattle.mesh_flood.specs as flood
+pub use Rattle.mesh_nhdp.specs.links
+pub use Rattle.mesh_wire.specs.packet
+pub use Rattle.mesh_wire.specs.tlv
 pub mod Draws
 pub mod Frames
 pub mod Laws

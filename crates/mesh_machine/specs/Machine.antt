@@ -6,9 +6,9 @@ use Rattle.mesh_atoms.specs.declared.settings.RouterSettings.{RouterSettings}
 use Rattle.mesh_atoms.specs.Advertised.{AreTcRows}
 use Rattle.mesh_atoms.specs.Live.{Live}
 use Rattle.mesh_atoms.specs.State.{Bases, State, IsOriginator}
-use Rattle.mesh_packet.specs.declared.packet.Span.{Span}
-use Rattle.mesh_packet.specs.Fields.{PacketFields}
-use Rattle.mesh_packet.specs.Grammar.{Spells, FirstFault}
+use Rattle.mesh_wire.specs.packet.declared.packet.Span.{Span}
+use Rattle.mesh_wire.specs.packet.Fields.{PacketFields}
+use Rattle.mesh_wire.specs.packet.Grammar.{Spells, FirstFault}
 use Rattle.mesh_machine.specs.declared.arrival.Arrival.{Arrival}
 use Rattle.mesh_machine.specs.declared.fate.Fate.{Fate}
 use Rattle.mesh_machine.specs.declared.fate.Heard.{Heard}

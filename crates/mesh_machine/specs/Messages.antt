@@ -10,16 +10,16 @@ use Rattle.mesh_atoms.specs.Base.{base_of}
 use Rattle.mesh_atoms.specs.State.{Neighbourhood, Topology, NotedMessages, Bases}
 use Rattle.mesh_atoms.specs.TakesHello.{HelloAnswer, Taken, Broken_at, Full_of_addresses, Full_of_two_hops, TakesHello}
 use Rattle.mesh_atoms.specs.AfterTc.{TcAnswer, Taken as Taken_tc, Too_old, Full_of, TakesTc}
-use Rattle.mesh_packet.specs.declared.packet.Span.{Span}
-use Rattle.mesh_packet.specs.Fields.{MessageFields}
-use Rattle.mesh_packet.specs.Grammar.{SpellsMessage}
+use Rattle.mesh_wire.specs.packet.declared.packet.Span.{Span}
+use Rattle.mesh_wire.specs.packet.Fields.{MessageFields}
+use Rattle.mesh_wire.specs.packet.Grammar.{SpellsMessage}
 use Rattle.mesh_wire.specs.Hello.{HelloIs, OriginatorIs}
 use Rattle.mesh_wire.specs.HelloRules.{BreaksHello}
 use Rattle.mesh_wire.specs.Rehop.{hopped}
 use Rattle.mesh_wire.specs.Rules.{Keeps, FirstBroken}
 use Rattle.mesh_wire.specs.Tc.{TcIs}
 use Rattle.mesh_wire.specs.TcRules.{BreaksTc}
-use Rattle.mesh_links.specs.Links.{SelectorOf}
+use Rattle.mesh_nhdp.specs.links.Links.{SelectorOf}
 use Rattle.mesh_flood.specs.declared.verdict.Heading.{Heading}
 use Rattle.mesh_flood.specs.declared.verdict.Process.{Process}
 use Rattle.mesh_flood.specs.declared.verdict.Process.TheVariants as process

@@ -1,9 +1,9 @@
 -- What a router sends can be sent.
 use Rattle.std.specs.Prelude.{ℕ, ◌<◌, List, length, slice_index}
 use Rattle.mesh_atoms.specs.declared.settings.RouterSettings.{RouterSettings}
-use Rattle.mesh_packet.specs.declared.packet.Span.{Span}
-use Rattle.mesh_packet.specs.Fields.{PacketFields}
-use Rattle.mesh_packet.specs.Grammar.{Spells}
+use Rattle.mesh_wire.specs.packet.declared.packet.Span.{Span}
+use Rattle.mesh_wire.specs.packet.Fields.{PacketFields}
+use Rattle.mesh_wire.specs.packet.Grammar.{Spells}
 use Rattle.mesh_machine.specs.declared.frame.Frame.{Frame}
 
 -- numbers that are octets

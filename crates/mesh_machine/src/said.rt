@@ -5,7 +5,7 @@ ghost use Rattle.mesh_atoms.specs.Base.{base_of};
 ghost use Rattle.mesh_atoms.specs.Sound.{SoundNeighbourhood};
 ghost use Rattle.mesh_atoms.specs.State.{State};
 ghost use Rattle.mesh_atoms.specs.Words.{IsValue};
-ghost use Rattle.mesh_expire.specs.Table.{entry_of};
+ghost use Rattle.mesh_nhdp.specs.expire.Table.{entry_of};
 ghost use Rattle.mesh_machine.specs.Said.{IsSaidOf, IsLinkWith, IsNeighbourWith, IsRelayOf, IsFloodingRelay, shows_symmetric, link_metric_in, link_metric_out, near_metric_in, near_metric_out, or_else};
 
 use mesh_atoms::{Addr4, Link, LinkKey, Metric, Neighbour, Relays, Seq, contains};

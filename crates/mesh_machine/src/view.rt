@@ -6,7 +6,7 @@ ghost use Rattle.mesh_atoms.specs.Nodes.{IsBefore};
 ghost use Rattle.mesh_atoms.specs.NextHop.{IsLongest, HasNoRouteTo};
 ghost use Rattle.mesh_atoms.specs.Sound.{Sound};
 ghost use Rattle.mesh_atoms.specs.State.{State};
-ghost use Rattle.mesh_expire.specs.Table.{entry_of, value_of};
+ghost use Rattle.mesh_nhdp.specs.expire.Table.{entry_of, value_of};
 ghost use Rattle.mesh_flood.specs.Standing.{HasNoted, HasFullSet};
 ghost use Rattle.mesh_flood.specs.Verdict.{key_of};
 ghost use Rattle.mesh_machine.specs.Said.{IsSaidOf};

@@ -1,3 +1,5 @@
+pub use Rattle.mesh_expire.specs as expire
+pub use Rattle.mesh_links.specs as links
 pub mod Calls
 pub mod Follows
 pub mod Hearings

@@ -4,11 +4,11 @@ use Rattle.std.specs.Prelude.{slice_range}
 use Rattle.std.proofs.lemmas.List.{append_assoc, append-nil, length-append}
 use Rattle.std.proofs.Math.Seq.{drop-append_seam, take-append_seam}
 use Rattle.mesh_atoms.specs.declared.refusal.Refusal.{Refusal}
-use Rattle.mesh_packet.specs.declared.packet.Span.{Span}
-use Rattle.mesh_packet.specs.Fields.{MessageFields, PacketFields}
-use Rattle.mesh_packet.specs.Grammar.{Spells, SpellsMessage, SpellsMessages, FirstFault}
-use Rattle.mesh_packet.specs.Reading.{packet_of}
-use Rattle.mesh_packet.proofs.Packets.{packet_again, packet_fault}
+use Rattle.mesh_machine.specs.packet.declared.packet.Span.{Span}
+use Rattle.mesh_machine.specs.packet.Fields.{MessageFields, PacketFields}
+use Rattle.mesh_machine.specs.packet.Grammar.{Spells, SpellsMessage, SpellsMessages, FirstFault}
+use Rattle.mesh_machine.specs.packet.Reading.{packet_of}
+use Rattle.mesh_machine.proofs.packet.Packets.{packet_again, packet_fault}
 use Rattle.mesh_wire.specs.Rehop.{HasHop, one_hop_on, hopped}
 use Rattle.mesh_wire.specs.Writes.{alone}
 use Rattle.mesh_wire.proofs.Hops.{can_hop, hop_spells}

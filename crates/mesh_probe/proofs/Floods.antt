@@ -7,7 +7,7 @@ use Rattle.mesh_atoms.specs.declared.tc.Tc.{Tc}
 use Rattle.mesh_atoms.specs.Radio.{Joined, Itself, By}
 use Rattle.mesh_atoms.specs.Settled.{AreStates}
 use Rattle.mesh_atoms.specs.State.{State}
-use Rattle.mesh_packet.specs.Fields.{MessageFields}
+use Rattle.mesh_machine.specs.packet.Fields.{MessageFields}
 use Rattle.mesh_paths.specs.SettledRoutes.{IsSettledNetwork}
 use Rattle.mesh_probe.proofs.Wave.{Going, Net, Chain, On, IsSelected, IsCovering, IsApart, Spread, frames_on}
 use Rattle.mesh_probe.proofs.Wave as wave

@@ -7,9 +7,9 @@ use Rattle.mesh_atoms.specs.declared.settings.RouterSettings.{RouterSettings}
 use Rattle.mesh_atoms.specs.declared.tc.Tc.{Tc}
 use Rattle.mesh_atoms.specs.Live.{Live}
 use Rattle.mesh_atoms.specs.State.{State, Bases, NotedMessages, IsOriginator}
-use Rattle.mesh_packet.specs.declared.packet.Span.{Span}
-use Rattle.mesh_packet.specs.Fields.{MessageFields, PacketFields}
-use Rattle.mesh_packet.specs.Grammar.{SpellsMessage}
+use Rattle.mesh_machine.specs.packet.declared.packet.Span.{Span}
+use Rattle.mesh_machine.specs.packet.Fields.{MessageFields, PacketFields}
+use Rattle.mesh_machine.specs.packet.Grammar.{SpellsMessage}
 use Rattle.mesh_wire.specs.Rules.{Keeps}
 use Rattle.mesh_wire.specs.TcRules.{BreaksTc}
 use Rattle.mesh_flood.specs.declared.verdict.Heading.{Heading}

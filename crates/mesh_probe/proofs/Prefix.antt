@@ -6,7 +6,7 @@ use Rattle.mesh_atoms.specs.declared.tc.Tc.{Tc}
 use Rattle.mesh_atoms.specs.Settled.{At, AreStates}
 use Rattle.mesh_atoms.specs.State.{State}
 use Rattle.mesh_machine.specs.Frames.{on_each}
-use Rattle.mesh_packet.specs.Fields.{MessageFields}
+use Rattle.mesh_machine.specs.packet.Fields.{MessageFields}
 use Rattle.mesh_probe.specs.declared.transmission.Transmission.{Transmission}
 use Rattle.mesh_probe.specs.Flood.{sent_by}
 use Rattle.mesh_probe.specs.Hearing.{FloodsTo, Nothing_heard, One_more, SendsOnceFrom}

@@ -25,7 +25,7 @@ use Rattle.mesh_atoms.specs.Settled.{At, IsTwoHopBy, IsLinkTo}
 use Rattle.mesh_atoms.specs.declared.tuples.LinkState.TheVariants.{Symmetric as Is_symmetric}
 use Rattle.mesh_atoms.specs.State.{State, state_of, is_symmetric, HasLink, HasTwoHop, HasSymmetric, HasSymmetricWith, HasAddressOn}
 use Rattle.mesh_atoms.proofs.Lookups.{tests_symmetric, looks_up_links}
-use Rattle.mesh_links.specs.Links.{SelectorOf, Linked, Unlinked, IsSymmetricWith}
+use Rattle.mesh_machine.specs.links.Links.{SelectorOf, Linked, Unlinked, IsSymmetricWith}
 use Rattle.mesh_paths.specs.SettledRoutes.{IsSettledNetwork}
 use Rattle.mesh_paths.proofs.Admitted.{joins_back}
 use Rattle.mesh_paths.proofs.SettledNeighbours.{owner, same_state, same_settings, address_in, has_address, state_there, apart, known_address, known_originator, known_by, Known, neighbouring, has_with, shown_near, shows_neighbour}

@@ -9,7 +9,7 @@ use Rattle.mesh_atoms.specs.Base.{base_of}
 use Rattle.mesh_atoms.specs.Radio.{Joins}
 use Rattle.mesh_atoms.specs.Settled.{At}
 use Rattle.mesh_atoms.specs.State.{State}
-use Rattle.mesh_links.specs.Links.{SelectorOf}
+use Rattle.mesh_machine.specs.links.Links.{SelectorOf}
 use Rattle.mesh_probe.specs.Flood.{hearers_of, IsSender}
 use Rattle.mesh_probe.proofs.Wave.{Net}
 

@@ -3,7 +3,7 @@ use Rattle.std.proofs.Common.{◌≡◌, ℕ, zero, suc, ◌+◌, ◌-◌, ◌<�
 use Rattle.std.specs.Prelude.{Bool, true, false, nat_eq, nat_le, ◌||◌, if◌then◌else◌}
 use Rattle.std.proofs.lemmas.Bool.{eq-eqb, eqb-true, leb-true, cases_eq}
 use Rattle.std.proofs.lemmas.List.{map-append}
-use Rattle.mesh_addr.specs.declared.records.RawAddr.{RawAddr}
+use Rattle.mesh_machine.specs.addr.declared.records.RawAddr.{RawAddr}
 use Rattle.mesh_atoms.specs.declared.addr.Addr4.{Addr4}
 use Rattle.mesh_atoms.specs.declared.settings.RouterSettings.{RouterSettings}
 use Rattle.mesh_atoms.specs.declared.settings.Scenario.{Scenario}
@@ -19,8 +19,8 @@ use Rattle.mesh_atoms.specs.Settled.{At, AreStates}
 use Rattle.mesh_atoms.specs.Sound.{SoundNeighbourhood}
 use Rattle.mesh_atoms.specs.State.{State, Neighbourhood, NotedMessages, Bases, IsOriginator, link_at}
 use Rattle.mesh_atoms.proofs.Lookups.{same_addr}
-use Rattle.mesh_packet.specs.Fields.{MessageFields}
-use Rattle.mesh_packet.specs.Grammar.{SpellsMessage}
+use Rattle.mesh_machine.specs.packet.Fields.{MessageFields}
+use Rattle.mesh_machine.specs.packet.Grammar.{SpellsMessage}
 use Rattle.mesh_wire.specs.Hello.{OriginatorIs}
 use Rattle.mesh_wire.specs.Rules.{Keeps}
 use Rattle.mesh_wire.specs.TcRules.{BreaksTc}

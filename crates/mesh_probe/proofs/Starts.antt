@@ -5,7 +5,7 @@ use Rattle.mesh_atoms.specs.declared.settings.Scenario.{Scenario}
 use Rattle.mesh_atoms.specs.declared.tc.Tc.{Tc}
 use Rattle.mesh_atoms.specs.Settled.{At, AreStates}
 use Rattle.mesh_atoms.specs.State.{State}
-use Rattle.mesh_packet.specs.Fields.{MessageFields}
+use Rattle.mesh_machine.specs.packet.Fields.{MessageFields}
 use Rattle.mesh_wire.specs.Writes.{alone}
 use Rattle.mesh_wire.proofs.EachDistance.{kept_on}
 use Rattle.mesh_paths.specs.SettledRoutes.{IsSettledNetwork}

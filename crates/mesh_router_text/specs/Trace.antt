@@ -8,7 +8,7 @@ use Rattle.mesh_atoms.specs.declared.settings.RadioArc.{RadioArc}
 use Rattle.mesh_atoms.specs.declared.settings.RouterSettings.{RouterSettings}
 use Rattle.mesh_atoms.specs.declared.settings.Scenario.{Scenario}
 use Rattle.mesh_atoms.specs.State.{State}
-use Rattle.mesh_packet.specs.Grammar.{FirstFault}
+use Rattle.mesh_machine.specs.packet.Grammar.{FirstFault}
 use Rattle.mesh_machine.specs.Sendable.{IsPacket}
 use Rattle.mesh_atoms.specs.declared.network.Emission.{Emission}
 use Rattle.mesh_atoms.specs.declared.network.NetEvent.{NetEvent}

@@ -1,8 +1,8 @@
 //! The lines of an event of an emulated network, put behind other octets.
 ghost use Rattle.std.specs.Prelude.{◌≡◌, ◌++◌, OnOk, Some};
 ghost use Rattle.std.specs.List.{flat_map, enumerate_from};
-ghost use Rattle.mesh_packet.specs.Least.{Wrote};
-ghost use Rattle.mesh_tlv.specs.Least.{Grows};
+ghost use Rattle.mesh_machine.specs.packet.Least.{Wrote};
+ghost use Rattle.mesh_machine.specs.tlv.Least.{Grows};
 ghost use Rattle.mesh_machine.specs.Names.{router_name};
 ghost use Rattle.mesh_router_text.specs.Lines.Marks.{line_of, face_name, relays_text, faces_of};
 ghost use Rattle.mesh_router_text.specs.Trace.{tick_line, heard_line, event_line, flooding_relays_line, routing_relays_line, relays_lines, sent_line, loss_line, arc_line, lost_line, sent_lines, event_text, IsTaken, IsEventText};

@@ -1,3 +1,4 @@
+pub use Rattle.mesh_paths.specs as paths
 pub mod Gaps
 pub mod Kinds
 pub mod Law

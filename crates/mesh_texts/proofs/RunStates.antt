@@ -15,8 +15,8 @@ use Rattle.mesh_atoms.specs.declared.network.NetEvent.{NetEvent}
 use Rattle.mesh_machine.specs.Net.{Net, NetStep, By_delivery, By_tick, By_last_tick, Moves, event_of, frames_of}
 use Rattle.mesh_machine.specs.Traffic.{Traffic, with_heard}
 use Rattle.mesh_machine.specs.NetRun.{NetRun, events_at}
-use Rattle.mesh_paths.proofs.Scenarios.{sound_scenario}
-use Rattle.mesh_paths.specs.SettledRoutes.{IsSettledNetwork}
+use Rattle.mesh_settled.proofs.paths.Scenarios.{sound_scenario}
+use Rattle.mesh_settled.specs.paths.SettledRoutes.{IsSettledNetwork}
 use Rattle.mesh_machine.proofs.Through.{are_machines, end_together}
 use Rattle.mesh_settled.specs.Gaps.Network.{IsNetwork}
 use Rattle.mesh_texts.specs.Runs.{WholeRun, RoutersAreRuns}

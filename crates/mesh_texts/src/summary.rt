@@ -2,8 +2,8 @@
 ghost use Rattle.std.specs.Prelude.{◌≡◌, ◌++◌, ◌∷◌, [], codes, length, map, is_some, OnOk, Option};
 ghost use Rattle.std.specs.List.{All};
 ghost use Rattle.mesh_atoms.specs.Sound.{Sound};
-ghost use Rattle.mesh_packet.specs.Least.{Wrote};
-ghost use Rattle.mesh_tlv.specs.Least.{Grows};
+ghost use Rattle.mesh_machine.specs.packet.Least.{Wrote};
+ghost use Rattle.mesh_machine.specs.tlv.Least.{Grows};
 ghost use Rattle.mesh_machine.specs.Names.{router_name};
 ghost use Rattle.mesh_router_text.specs.Lines.Marks.{joined, line_of, dotted, choice_text, faces_of};
 ghost use Rattle.mesh_router_text.specs.Lines.Pieces.{piece_text};

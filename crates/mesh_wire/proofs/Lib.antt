@@ -1,3 +1,5 @@
+pub use Rattle.mesh_packet.proofs as packet
+pub use Rattle.mesh_tlv.proofs as tlv
 pub mod Addresses
 pub mod Ascending
 pub mod Collected

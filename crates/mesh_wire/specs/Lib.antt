@@ -1,3 +1,6 @@
+pub use Rattle.mesh_addr.specs as addr
+pub use Rattle.mesh_packet.specs as packet
+pub use Rattle.mesh_tlv.specs as tlv
 pub mod Answers
 pub mod Collects
 pub mod Drafts

@@ -2,7 +2,7 @@
 ghost use Rattle.std.specs.Prelude.{◌≡◌, ◌<◌, ◌^◌, ◌++◌, ◌∷◌, ℕ, List, Option, Bool, length, OnOk, IsTrue};
 ghost use Rattle.mesh_atoms.specs.declared.addr.Addr4.{Addr4};
 ghost use Rattle.mesh_atoms.specs.Base.{base_of};
-ghost use Rattle.mesh_links.specs.Links.{SelectorOf};
+ghost use Rattle.mesh_machine.specs.links.Links.{SelectorOf};
 ghost use Rattle.mesh_flood.specs.Noting.{AfterNote};
 ghost use Rattle.mesh_flood.specs.Verdict.{process_of, forward_of};
 ghost use Rattle.mesh_packet.specs.Fields.{MessageFields};

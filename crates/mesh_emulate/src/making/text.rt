@@ -2,7 +2,7 @@
 ghost use Rattle.std.specs.Prelude.{◌≡◌, ◌≤◌, ◌++◌, ◌∷◌, ℕ, List, [], length, map, OnOk};
 ghost use Rattle.mesh_emulate.specs.Making.Lines.{kind_text, made_line, routes_line, TellsRoutes};
 ghost use Rattle.mesh_emulate.specs.Making.Routes.{metrics_of};
-ghost use Rattle.mesh_packet.specs.Least.{Wrote};
+ghost use Rattle.mesh_machine.specs.packet.Least.{Wrote};
 ghost use Rattle.mesh_texts.specs.Network.{counts_line, settled_text};
 
 use crate::making::kind::Kind;

@@ -4,7 +4,7 @@ ghost use Rattle.mesh_atoms.specs.declared.addr.Addr4.{Addr4};
 ghost use Rattle.mesh_atoms.specs.Hello.{Says, Flooding};
 ghost use Rattle.mesh_atoms.specs.Words.{IsValue};
 ghost use Rattle.mesh_atoms.specs.Sound.{Sound};
-ghost use Rattle.mesh_expire.specs.Table.{value_of};
+ghost use Rattle.mesh_machine.specs.expire.Table.{value_of};
 ghost use Rattle.mesh_atoms.specs.declared.gap.GapKey.TheVariants.{Link as Of_link};
 ghost use Rattle.mesh_settled.specs.Gaps.Found.{IsSide, IsTest, IsTestFrom, IsLeast};
 ghost use Rattle.mesh_settled.specs.Gaps.Gaps.{IsHeldLink, IsPresentLink};

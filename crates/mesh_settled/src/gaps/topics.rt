@@ -4,7 +4,7 @@ ghost use Rattle.mesh_atoms.specs.declared.addr.Addr4.{Addr4};
 ghost use Rattle.mesh_atoms.specs.Words.{IsValue};
 ghost use Rattle.mesh_atoms.specs.Sound.{Sound};
 ghost use Rattle.mesh_atoms.specs.State.{IsOriginator};
-ghost use Rattle.mesh_expire.specs.Table.{entry_of, value_of};
+ghost use Rattle.mesh_machine.specs.expire.Table.{entry_of, value_of};
 ghost use Rattle.mesh_settled.specs.Gaps.Fields.{Field, Number};
 ghost use Rattle.mesh_settled.specs.Gaps.Found.{IsSide, IsTest, IsFieldTest, IsTestFrom, IsLeast};
 ghost use Rattle.mesh_settled.specs.Gaps.Joints.{IsOfSome};

@@ -1,6 +1,6 @@
 //! Gaps among the 2-hop tuples of a router.
 ghost use Rattle.std.specs.Prelude.{◌≡◌, List, Some, None, Contains, option_map};
-ghost use Rattle.mesh_expire.specs.Table.{value_of};
+ghost use Rattle.mesh_machine.specs.expire.Table.{value_of};
 ghost use Rattle.mesh_settled.specs.Gaps.Fields.{Field, two_hop_fields};
 ghost use Rattle.mesh_settled.specs.Gaps.Found.{IsTest, IsTestFrom, IsLeast};
 ghost use Rattle.mesh_settled.specs.Gaps.Links.{IsLinkKey};

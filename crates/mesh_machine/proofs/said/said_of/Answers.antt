@@ -3,7 +3,7 @@ use Rattle.std.specs.Prelude.{◌↔◌, IsTrue}
 use Rattle.mesh_atoms.specs.declared.addr.Addr4.{Addr4}
 use Rattle.mesh_atoms.specs.Sound.{SoundNeighbourhood}
 use Rattle.mesh_atoms.specs.State.{Neighbourhood}
-use Rattle.mesh_expire.specs.Table.{entry_of}
+use Rattle.mesh_nhdp.specs.expire.Table.{entry_of}
 use Rattle.mesh_machine.specs.Said.{IsFloodingRelay, IsRelayOf, or_else, shows_symmetric, near_metric_in, near_metric_out}
 use Rattle.mesh_machine.proofs.Saying.{said_by, lent_some}
 use Rattle.mesh_machine.proofs.said.said_of.Goals as goal

@@ -1,7 +1,7 @@
 use Rattle.std.proofs.Common.{◌≡◌, ◌∷◌, [], List, ap, ◌∙◌, codes}
 use Rattle.std.specs.Prelude.{is_some}
 use Rattle.mesh_atoms.specs.declared.settings.RouterSettings.{RouterSettings}
-use Rattle.mesh_tlv.proofs.Grows.{grows_on}
+use Rattle.mesh_machine.proofs.tlv.Grows.{grows_on}
 use Rattle.mesh_machine.specs.Names.{router_name}
 use Rattle.mesh_router_text.specs.Lines.Marks.{joined, line_of, choice_text, faces_of}
 use Rattle.mesh_router_text.proofs.LinesLemmas.Joined.{on_ok, three}

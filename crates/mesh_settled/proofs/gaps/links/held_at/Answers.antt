@@ -1,5 +1,5 @@
 use Rattle.std.proofs.Common.{sym, ap, ◌∙◌}
-use Rattle.mesh_expire.specs.Table.{entry_of}
+use Rattle.mesh_machine.specs.expire.Table.{entry_of}
 use Rattle.mesh_settled.proofs.GapsLemmas.LinkLemmas.{held_key}
 use Rattle.mesh_settled.specs.Gaps.Site.{seen}
 use Rattle.mesh_settled.proofs.gaps.links.held_at.Goals as goal

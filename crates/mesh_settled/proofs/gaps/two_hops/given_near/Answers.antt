@@ -1,5 +1,5 @@
 use Rattle.std.proofs.Common.{sym, ap, ◌∙◌}
-use Rattle.mesh_expire.specs.Table.{entry_of}
+use Rattle.mesh_machine.specs.expire.Table.{entry_of}
 use Rattle.mesh_settled.proofs.GapsLemmas.TwoHopLemmas.{near_at}
 use Rattle.mesh_settled.specs.Gaps.Site.{seen}
 use Rattle.mesh_settled.proofs.gaps.two_hops.given_near.Goals as goal

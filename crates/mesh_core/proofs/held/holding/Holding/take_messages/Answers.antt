@@ -1,7 +1,7 @@
 use Rattle.std.proofs.Common.{◌<◌, ℕ, sym, subst, refl, [], ◌∷◌, ◌++◌, List, length, map, take, arith, ap, ◌∙◌}
 use Rattle.std.proofs.lemmas.List.{append-nil, append_assoc, length-map, take_all}
 use Rattle.mesh_atoms.specs.declared.settings.RouterSettings.{RouterSettings}
-use Rattle.mesh_hello.proofs.Collect.{item_at}
+use Rattle.mesh_machine.proofs.hello.Collect.{item_at}
 use Rattle.mesh_packet.specs.declared.packet.Span.{Span}
 use Rattle.mesh_packet.specs.Fields.{MessageFields, fields_of_message}
 use Rattle.mesh_machine.specs.declared.fate.Fate.{Fate}
