@@ -1,5 +1,5 @@
 //! The arcs of a scenario by the interfaces that they leave.
-ghost use Rattle.std.specs.Prelude.{◌≡◌, ◌<◌, ℕ, length, IfOk, Some, slice_get};
+ghost use Rattle.std.specs.Prelude.{◌≡◌, ◌<◌, ℕ, length, map, IfOk, Some, slice_get};
 ghost use Rattle.mesh_atoms.specs.declared.settings.RouterSettings.{RouterSettings};
 ghost use Rattle.mesh_machine.specs.Traffic.{leaves, leaving};
 ghost use Rattle.mesh_radio.specs.Traffic.Ways.{AreWays, AreWaysOf};
