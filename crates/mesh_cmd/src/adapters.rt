@@ -1,11 +1,12 @@
 //! Sources and sinks over std's readers and writers, with a count of the errors. A call that the system interrupted is no
 //! error: it is made again.
-ghost use Rattle.std.specs.Prelude.{◌≡◌, ◌≤◌, ◌<◌, ◌+◌, length, IsTrue, IsErr};
+ghost use Rattle.std.specs.Prelude.{◌≡◌, ◌≤◌, ◌<◌, ◌+◌, [], length, IsTrue, IsErr};
 ghost use Rattle.std.specs.Io.{ReadsAtMost, WritesAtMost};
+ghost use Rattle.std.specs.Io.Buffered.{writer_buffer, writer_contents};
 ghost use Rattle.std.specs.Io.KnownBytes.{Keeps, ReadConsumes, WriteAppends};
 
 use mesh_io::{Put, Sink, Source, Took};
-use std::io::{self, ErrorKind, Read, Write};
+use std::io::{self, BufWriter, ErrorKind, Read, Write};
 
 // Whether the system interrupted a call before it read or wrote anything.
 fn is_interrupted(answer: &io::Result<usize>) -> bool
@@ -105,10 +106,13 @@ impl<W: Write> Writing<W> {
     pub fn new(inner: W) -> Writing<W> {
         Writing { inner, faults: 0 }
     }
+}
 
-    /// Hands over what the writer gathered, and tells whether that went well. What was put stays the same.
+impl<W: Write + Drop> Writing<BufWriter<W>> {
+    /// Hands over what the writer gathered, and tells whether that went well: nothing is gathered then. What was put stays the same.
     pub fn flush(&mut self) -> bool
-        ensures { Keeps (W.contents self.old.inner) (W.contents self.new.inner) }
+        ensures kept { Keeps (writer_contents W.contents self.old.inner) (writer_contents W.contents self.new.inner) }
+        ensures empty { IsTrue result → writer_buffer self.new.inner ≡ [] }
     {
         self.inner.flush().is_ok()
     }

@@ -1,6 +1,12 @@
 //! The program `mesh`: the standard streams as source and sinks, UDP sockets as the air, the system's clock, and the top call over them.
 #![tactic(auto)]
 
+ghost use Rattle.std.specs.Prelude.{◌≡◌, ◌⊎◌, ◌≤◌, ℕ, List, [], take};
+ghost use Rattle.std.specs.Io.Buffered.{writer_buffer};
+ghost use Rattle.std.specs.Io.KnownBytes.{Keeps};
+ghost use Rattle.mesh_cmd.specs.Runs.{Runs, TellsNoMemory, Exits};
+ghost use Rattle.mesh_tool.specs.Words.Words.{texts};
+
 mod adapters;
 
 use adapters::{Reading, Writing};
@@ -19,50 +25,98 @@ fn words(rt: &HostRuntime) -> io::Result<Vec<String>> {
 }
 
 // Want of memory before the top call.
-fn no_memory<W: Write>(err: &mut Writing<W>) -> Status {
+fn no_memory<E: Sink>(err: &mut E) -> Status
+    ensures { TellsNoMemory (E.content err.old) (E.content err.new) (E.faults err.old) (E.faults err.new) result }
+{
     match write_all(err, b"mesh: memory\n") {
         Ok(()) => Status::Memory,
         Err(_) => Status::Write,
     }
 }
 
-// Runs the words of the command line over the standard input, these sinks, UDP sockets and the system's clock.
-fn run<O: Sink, W: Write>(rt: &HostRuntime, out: &mut O, err: &mut Writing<W>) -> Status {
+// Runs these words over the standard input, these sinks, UDP sockets and the system's clock.
+fn run_words<O: Sink, E: Sink>(
+    rt: &HostRuntime,
+    words: &[String],
+    out: &mut O,
+    err: &mut E,
+) -> Status
+    ensures { Runs (texts words.now) (record {
+      out = O.content out.old;
+      out' = O.content out.new;
+      out_faults = O.faults out.old;
+      out_faults' = O.faults out.new;
+      err = E.content err.old;
+      err' = E.content err.new;
+      err_faults = E.faults err.old;
+      err_faults' = E.faults err.new;
+    }) result }
+{
     let mut input = Reading::new(rt.stdin());
-    let mut air = UdpAir::new(rt, rt.alloc());
     let mut clock = SystemClock::new(rt);
-    let words = match words(rt) {
-        Ok(words) => words,
-        // Arguments that aren't text are no command line: the top call is given no words, and says `mesh: words none`.
+    match UdpAir::new(rt, rt.alloc()) {
+        Ok(mut air) => mesh_top(
+            rt.alloc(),
+            words,
+            &mut input,
+            out,
+            err,
+            &mut air,
+            &mut clock,
+        ),
+        Err(_) => no_memory(err),
+    }
+}
+
+// Runs the words of the command line over these sinks.
+fn run<O: Sink, E: Sink>(rt: &HostRuntime, out: &mut O, err: &mut E) -> Status
+    ensures { (words : List (List ℕ)) × Runs words (record {
+      out = O.content out.old;
+      out' = O.content out.new;
+      out_faults = O.faults out.old;
+      out_faults' = O.faults out.new;
+      err = E.content err.old;
+      err' = E.content err.new;
+      err_faults = E.faults err.old;
+      err_faults' = E.faults err.new;
+    }) result }
+{
+    match words(rt) {
+        Ok(words) => run_words(rt, words.as_slice(), out, err),
         Err(e) => {
             if e.kind() == ErrorKind::OutOfMemory {
                 return no_memory(err);
             }
-            Vec::new(rt.alloc())
+            // Arguments that aren't text are no command line: the top call is given no words, and says `mesh: words none`.
+            run_words(rt, &[], out, err)
         }
-    };
-    mesh_top(
-        rt.alloc(),
-        words.as_slice(),
-        &mut input,
-        out,
-        err,
-        &mut air,
-        &mut clock,
-    )
+    }
 }
 
-// What is put on the standard output is gathered, and handed over by 8,192 octets, the rest at the end; a failure then is one of
-// writing.
-fn main(rt: HostRuntime) -> ExitCode {
+// Hands over what was gathered; a failure then is one of writing.
+fn finish<W: Write + Drop>(out: &mut Writing<BufWriter<W>>, status: Status) -> Status
+    ensures status { (result ≡ status) ⊎ (result ≡ Status.Write) }
+    ensures handed { (result ≡ Status.Write → ⊥) → writer_buffer out.new.inner ≡ [] }
+{
+    if out.flush() { status } else { Status::Write }
+}
+
+// Runs the program. What is put on the standard output is gathered, and handed over by 8,192 octets, the rest at the end.
+fn run_program(rt: &HostRuntime) -> ExitCode
+    ensures { Exits result }
+{
     let mut err = Writing::new(rt.stderr());
     let status = match BufWriter::new(rt.alloc(), rt.stdout()) {
         Ok(gathering) => {
             let mut out = Writing::new(gathering);
-            let status = run(&rt, &mut out, &mut err);
-            if out.flush() { status } else { Status::Write }
+            let status = run(rt, &mut out, &mut err);
+            finish(&mut out, status)
         }
         Err(_) => no_memory(&mut err),
     };
     ExitCode::from(status.code())
+}
+
+fn main(rt: HostRuntime) -> ExitCode {
+    run_program(&rt)
 }

@@ -56,8 +56,8 @@ fn ends(one: &mut UdpAir<HostRuntime>, other: &mut UdpAir<HostRuntime>, buf: &mu
 #[test]
 fn hears_over_loopback(rt: HostRuntime) -> io::Result<()> {
     let mut buf = vec![in rt.alloc(); 0; 65507]?;
-    let mut one = UdpAir::new(&rt, rt.alloc());
-    let mut other = UdpAir::new(&rt, rt.alloc());
+    let mut one = UdpAir::new(&rt, rt.alloc())?;
+    let mut other = UdpAir::new(&rt, rt.alloc())?;
     let heard = ends(&mut one, &mut other, buf.as_mut_slice());
     assert!(&rt; heard);
     Ok(())
