@@ -68,7 +68,7 @@ module _ (setup : RunSetup) (most : ℕ) (state : State) (ended : Ended) (k l : 
   pub report_stops : ended.turns ≤ most → setup.end ≤ ended.greatest → (o o' : Option (List ℕ)) (f f' : ℕ) (why : Stop) →
       LeavesText (IsReport setup.end ended state) o o' f f' (Err why) → RouterEnds setup most k l a b o o' f f' (Err (fault.Stopped why))
   report_stops within reached o o' f f' stop.Write (rose, text, report, n, stands) = (rose, text, finishes within reached text report, n, stands)
-  report_stops within reached o o' f f' stop.Memory keeps = (inr (stops_behind setup state ended k l a b does), keeps)
+  report_stops within reached o o' f f' stop.Memory keeps = (inr (stops_behind setup most state ended k l a b within does), keeps)
 
   -- all its turns were done, below the end
   pub spends : ended.greatest < setup.end → Spends setup ended.turns ended.greatest setup.end k l a b
@@ -134,8 +134,8 @@ module _ (input : List ℕ) (setup : RunSetup) (stated : States input setup) (mo
     attached = attached;
   }
 
-  stops_short : StopsTurns setup k l b c → RunsShort input (told k l a c n)
-  stops_short s = In_turns setup s.moments s.reports stated (is_told s.moments s.reports s.clock_tells s.air_tells) s.stops
+  stops_short : StopsTurns setup most k l b c → RunsShort input most (told k l a c n)
+  stops_short s = In_turns setup s.moments s.reports stated (is_told s.moments s.reports s.clock_tells s.air_tells) s.within s.stops
 
   pub ends_behind : (o o' : Option (List ℕ)) (f f' af af' : ℕ) (r : Result (Unit {0}) RunFault) →
       RouterEnds setup most k l b c o o' f f' r → Ends input most (told k l a c n) o o' f f' af af' r

@@ -73,7 +73,7 @@ RouterEnds setup most clock clock' air air' out out' faults faults' (Err (fault.
     Rose faults faults' × (text : List ℕ) × Finishes setup most clock clock' air air' text
     × (n : ℕ) × Appends out out' (take n text)
 RouterEnds setup most clock clock' air air' out out' faults faults' (Err (fault.Stopped stop.Memory)) =
-    (IsQuiet clock clock' air air' ⊎ StopsTurns setup clock clock' air air') × Keeps out out'
+    (IsQuiet clock clock' air air' ⊎ StopsTurns setup most clock clock' air air') × Keeps out out'
 
 -- what is left in all
 abbrev pub Ends : List ℕ → ℕ → Told → Option (List ℕ) → Option (List ℕ) → ℕ → ℕ → ℕ → ℕ → Result (Unit {0}) RunFault → Type 0
@@ -88,4 +88,4 @@ Ends input most told out out' faults faults' air_faults air_faults' (Err (fault.
 Ends input most told out out' faults faults' air_faults air_faults' (Err (fault.Stopped stop.Write)) =
     Rose faults faults' × (r : WholeRun input most told) × (n : ℕ) × Appends out out' (take n r.text)
 Ends input most told out out' faults faults' air_faults air_faults' (Err (fault.Stopped stop.Memory)) =
-    RunsShort input told × Keeps out out'
+    RunsShort input most told × Keeps out out'

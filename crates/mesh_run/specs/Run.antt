@@ -80,9 +80,10 @@ pub record FailsToAttach (input : List ℕ) (interface : ℕ) (told : Told) : Ty
   pub fewer : interface < length setup.ports
   pub is_attached : IsAttached setup interface told
 
--- where memory was wanting: before anything was done; when the interfaces were attached; or in the turns, or after them
-pub data RunsShort (input : List ℕ) (told : Told) : Type 0 where
-  Before_attaching : IsUntold told → RunsShort input told
-  Before_turns : (setup : RunSetup) → States input setup → IsAttached setup (length setup.ports) told → RunsShort input told
+-- where memory was wanting: before anything was done; when the interfaces were attached; or in one of at most so many turns, or after
+-- them
+pub data RunsShort (input : List ℕ) (most : ℕ) (told : Told) : Type 0 where
+  Before_attaching : IsUntold told → RunsShort input most told
+  Before_turns : (setup : RunSetup) → States input setup → IsAttached setup (length setup.ports) told → RunsShort input most told
   In_turns : (setup : RunSetup) (moments : List ℕ) (reports : List Report) → States input setup → IsTold setup moments reports told →
-      StopsShort setup moments reports → RunsShort input told
+      length moments ≤ most → StopsShort setup moments reports → RunsShort input most told

@@ -80,8 +80,8 @@ pub fn run<B: Bases, O: Sink, A: Air, C: Clock>(
         (told (C.moments clock.old) (C.moments clock.new) (A.reports air.old) (A.reports air.new) (A.attached air.new)))
         × (n : ℕ) × Appends (O.content out.old) (O.content out.new) (take n r.text) }
 
-    // What was told and handed over is that of some first turns; nothing was put on `out`.
-    ensures memory { result ≡ Err (Stopped Stop.Memory) → RunsShort input.now
+    // What was told and handed over is that of some first turns, at most as many as were asked for; nothing was put on `out`.
+    ensures memory { result ≡ Err (Stopped Stop.Memory) → RunsShort input.now turns
         (told (C.moments clock.old) (C.moments clock.new) (A.reports air.old) (A.reports air.new) (A.attached air.new))
         × Keeps (O.content out.old) (O.content out.new) }
 

@@ -184,10 +184,11 @@ turn_goes end count last now told g old mid new clock clock' a b c t u v h lt k 
 
 -- a turn whose tick want of memory stops
 pub turn_stops : (end count last told : ℕ) (old : State) (clock clock' : Option (List ℕ)) (a b : Option (List Report)) →
-    Tells clock clock' (told ∷ []) → Tells a b [] → Stopped end count (at old last count) clock clock' a b
+    Tells clock clock' (told ∷ []) → Tells a b [] → Stopped 1 end count (at old last count) clock clock' a b
 turn_stops end count last told old clock clock' a b tells silent = record {
   moments = told ∷ [];
   clock_tells = tells;
+  within = omega arith;
   broken = record {
     first_moments = [];
     first_reports = [];
@@ -204,10 +205,11 @@ turn_stops end count last told old clock clock' a b tells silent = record {
 -- a turn that want of memory stops while an interface is heard
 pub turn_breaks : (end count last now told g : ℕ) (old mid : State) (clock clock' : Option (List ℕ)) (a b c : Option (List Report)) (t u : Tally) →
     Begun end last now told g old mid clock clock' a b t u → now < end → Broken end count (at mid now 0) [] b c →
-    Stopped end count (at old last count) clock clock' a c
+    Stopped 1 end count (at old last count) clock clock' a c
 turn_breaks end count last now told g old mid clock clock' a b c t u h lt k = record {
   moments = told ∷ [];
   clock_tells = h.tells;
+  within = omega arith;
   broken = broken_more end count (at old last count) (at mid now 0) (told ∷ []) [] a b c t u
       (begun end count last now told g old mid clock clock' a b t u 0 h (rw (lt-leb end now lt) refl)) k;
 }
@@ -238,10 +240,11 @@ pub turning_at : (end count : ℕ) (s : Position) (x : State) (m m' n g g' : ℕ
     m ≡ m' → Turning end count s (at x m count) n g g' k l a b t u → Turning end count s (at x m' count) n g g' k l a b t u
 turning_at end count s x m m' n g g' k l a b t u e h = subst (λ (y : ℕ). Turning end count s (at x y count) n g g' k l a b t u) e h
 
-pub turning_stops : (end count : ℕ) (s m : Position) (n g g' : ℕ) (k l o : Option (List ℕ)) (a b c : Option (List Report)) (t u : Tally) →
-    Turning end count s m n g g' k l a b t u → Stopped end count m l o b c → Stopped end count s k o a c
-turning_stops end count s m n g g' k l o a b c t u h w = record {
+pub turning_stops : (most end count : ℕ) (s m : Position) (n g g' : ℕ) (k l o : Option (List ℕ)) (a b c : Option (List Report)) (t u : Tally) →
+    n < most → Turning end count s m n g g' k l a b t u → Stopped 1 end count m l o b c → Stopped most end count s k o a c
+turning_stops most end count s m n g g' k l o a b c t u fewer h w = record {
   moments = h.moments ++ w.moments;
   clock_tells = tells_more k l o h.moments w.moments h.clock_tells w.clock_tells;
+  within = omega (arith, fewer, h.turns_are, w.within, length-append h.moments w.moments);
   broken = broken_more end count s m h.moments w.moments a b c t u h.going w.broken;
 }

@@ -1,5 +1,5 @@
 -- Turns from the opening of a router on.
-use Rattle.std.proofs.Common.{◌≡◌, ℕ, ◌+◌, max, List, [], ◌++◌, length, Option, refl, sym, subst, ◌∙◌, arith}
+use Rattle.std.proofs.Common.{◌≡◌, ℕ, ◌+◌, ◌≤◌, max, List, [], ◌++◌, length, Option, refl, sym, ap, subst, ◌∙◌, arith}
 use Rattle.std.specs.List.{count_by}
 use Rattle.std.proofs.lemmas.List.{append-nil}
 use Rattle.mesh_atoms.specs.declared.settings.RunSetup.{RunSetup}
@@ -45,14 +45,15 @@ does_turns setup count old new n g k l a b u opening e h =
       ended_is = ended_is n g u t.moments t.going.reports t.turns_are t.greatest_is t.going.counts;
     }
 
-pub stops_turns : (setup : RunSetup) (count : ℕ) (old : State) (k l : Option (List ℕ)) (a b : Option (List Report)) →
-    IsOpening setup.router old → count ≡ length setup.ports → Stopped setup.end count (at old 0 count) k l a b → StopsTurns setup k l a b
-stops_turns setup count old k l a b opening e h =
-    let s = subst (λ (c : ℕ). Stopped setup.end c (at old 0 c) k l a b) e h in record {
+pub stops_turns : (setup : RunSetup) (most count : ℕ) (old : State) (k l : Option (List ℕ)) (a b : Option (List Report)) →
+    IsOpening setup.router old → count ≡ length setup.ports → Stopped most setup.end count (at old 0 count) k l a b → StopsTurns setup most k l a b
+stops_turns setup most count old k l a b opening e h =
+    let s = subst (λ (c : ℕ). Stopped most setup.end c (at old 0 c) k l a b) e h in record {
       moments = s.moments;
       reports = s.broken.first_reports ++ s.broken.lost_reports;
       clock_tells = s.clock_tells;
       air_tells = s.broken.tells;
+      within = s.within;
       stops = record {
         first_moments = s.broken.first_moments;
         first_reports = s.broken.first_reports;
@@ -67,13 +68,14 @@ stops_turns setup count old k l a b opening e h =
     }
 
 -- where nothing was told yet
-pub stops_before : (setup : RunSetup) (old : State) (k : Option (List ℕ)) (a : Option (List Report)) → IsOpening setup.router old →
-    StopsTurns setup k k a a
-stops_before setup old k a opening = record {
+pub stops_before : (setup : RunSetup) (most : ℕ) (old : State) (k : Option (List ℕ)) (a : Option (List Report)) → IsOpening setup.router old →
+    StopsTurns setup most k k a a
+stops_before setup most old k a opening = record {
   moments = [];
   reports = [];
   clock_tells = tells_nothing k;
   air_tells = tells_nothing a;
+  within = omega arith;
   stops = record {
     first_moments = [];
     first_reports = [];
@@ -88,13 +90,14 @@ stops_before setup old k a opening = record {
 }
 
 -- where whole turns were done, and nothing is lost
-pub stops_behind : (setup : RunSetup) (state : State) (ended : Ended) (k l : Option (List ℕ)) (a b : Option (List Report)) →
-    DoesTurns setup state ended k l a b → StopsTurns setup k l a b
-stops_behind setup state ended k l a b d = record {
+pub stops_behind : (setup : RunSetup) (most : ℕ) (state : State) (ended : Ended) (k l : Option (List ℕ)) (a b : Option (List Report)) →
+    ended.turns ≤ most → DoesTurns setup state ended k l a b → StopsTurns setup most k l a b
+stops_behind setup most state ended k l a b within d = record {
   moments = d.moments;
   reports = d.reports;
   clock_tells = d.clock_tells;
   air_tells = d.air_tells;
+  within = omega (arith, within, ap (λ (e : Ended). e.turns) d.ended_is);
   stops = record {
     first_moments = d.moments;
     first_reports = d.reports;

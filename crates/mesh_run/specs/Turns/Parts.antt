@@ -96,9 +96,10 @@ pub record Turning (end count : ℕ) (start stop : Position) (turns before after
   pub greatest_is : after ≡ max before (greatest_of moments)
   pub going : Going end count start stop moments log log' tally tally'
 
--- turns that want of memory stopped
-pub record Stopped (end count : ℕ) (start : Position) (clock clock' : Option (List ℕ)) (log log' : Option (List Report)) :
+-- turns, at most so many with the one that want of memory stopped
+pub record Stopped (most end count : ℕ) (start : Position) (clock clock' : Option (List ℕ)) (log log' : Option (List Report)) :
     Type 0 where
   pub moments : List ℕ
   pub clock_tells : Tells clock clock' moments
+  pub within : length moments ≤ most
   pub broken : Broken end count start moments log log'

@@ -1,5 +1,5 @@
 -- The turns of a running router: what it does by what a clock and an air tell it.
-use Rattle.std.specs.Prelude.{◌≡◌, ℕ, ◌+◌, ◌-◌, ◌^◌, ◌<◌, min, max, nat_le, Bool, true, false, [], ◌∷◌, ◌++◌, List, length, map, Option, Some, None, if◌then◌else◌}
+use Rattle.std.specs.Prelude.{◌≡◌, ℕ, ◌+◌, ◌-◌, ◌^◌, ◌<◌, ◌≤◌, min, max, nat_le, Bool, true, false, [], ◌∷◌, ◌++◌, List, length, map, Option, Some, None, if◌then◌else◌}
 use Rattle.std.specs.List.{count_by}
 use Rattle.mesh_atoms.specs.declared.settings.Port.{Port}
 use Rattle.mesh_atoms.specs.declared.settings.RunSetup.{RunSetup}
@@ -187,10 +187,11 @@ pub record DoesTurns (setup : RunSetup) (state : State) (ended : Ended) (clock c
   pub turns : Turns setup moments reports (moment_of 0 ended.greatest) state
   pub ended_is : ended ≡ ended_by moments reports
 
--- the same, where want of memory stopped it
-pub record StopsTurns (setup : RunSetup) (clock clock' : Option (List ℕ)) (air air' : Option (List Report)) : Type 0 where
+-- the same, where want of memory stopped it in one of at most so many turns, or behind them
+pub record StopsTurns (setup : RunSetup) (most : ℕ) (clock clock' : Option (List ℕ)) (air air' : Option (List Report)) : Type 0 where
   pub moments : List ℕ
   pub reports : List Report
   pub clock_tells : Tells clock clock' moments
   pub air_tells : Tells air air' reports
+  pub within : length moments ≤ most
   pub stops : StopsShort setup moments reports

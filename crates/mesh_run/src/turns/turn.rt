@@ -34,7 +34,7 @@ pub fn turn<M: Machine, A: Air, C: Clock>(
     ensures turns { IfOk result (λ new. Turning end count (at (M.state router.old) greatest count)
         (at (M.state router.new) (moment_of 0 new) count) 1 greatest new
         (C.moments clock.old) (C.moments clock.new) (A.reports air.old) (A.reports air.new) tally.old tally.new) }
-    ensures stops { OnErr result (Stopped end count (at (M.state router.old) greatest count)
+    ensures stops { OnErr result (Stopped 1 end count (at (M.state router.old) greatest count)
         (C.moments clock.old) (C.moments clock.new) (A.reports air.old) (A.reports air.new)) }
     ensures ready { IfOk result (λ new. IsReady (M.state router.new) (A.attached air.new) (moment_of 0 new)) }
     ensures attached { A.attached air.new ≡ A.attached air.old }

@@ -40,7 +40,7 @@ fn turn_on<M: Machine, A: Air, C: Clock>(
         (C.moments clock.old) (C.moments clock.new) (A.reports air.old) (A.reports air.new) tally.old tally.new) }
     ensures most { IfOk result (λ stop. stop.turns ≤ most) }
     ensures spent { IfOk result (λ stop. stop.greatest < end → stop.turns ≡ most) }
-    ensures stops { OnErr result (Stopped end count (at (M.state router.old) 0 count)
+    ensures stops { OnErr result (Stopped most end count (at (M.state router.old) 0 count)
         (C.moments clock.old) (C.moments clock.new) (A.reports air.old) (A.reports air.new)) }
     ensures attached { A.attached air.new ≡ A.attached air.old }
     ensures later { A.faults air.old ≤ A.faults air.new }
@@ -79,7 +79,7 @@ pub fn do_turns<M: Machine, A: Air, C: Clock>(
     // It ended, or all turns were done.
     ensures most { IfOk result (λ ended. ended.turns ≤ most) }
     ensures spent { IfOk result (λ ended. ended.greatest < setup.now.end → ended.turns ≡ most) }
-    ensures stops { OnErr result (StopsTurns setup.now
+    ensures stops { OnErr result (StopsTurns setup.now most
         (C.moments clock.old) (C.moments clock.new) (A.reports air.old) (A.reports air.new)) }
     ensures attached { A.attached air.new ≡ A.attached air.old }
     ensures later { A.faults air.old ≤ A.faults air.new }

@@ -141,7 +141,7 @@ IsAskedText call (job.Make kind routers seed) octets refused text = (refused ≡
 -- all of it but the trip or the probe; nothing of a router that is run, whose turns were the first of a run
 abbrev pub IsFirstText : Call → Job → List ℕ → List ℕ → Type 0
 IsFirstText call (job.Dump recode) octets text = IsFirstLinesText octets recode text
-IsFirstText call (job.Run turns) octets text = (text ≡ []) × RunsShort octets (told_in call)
+IsFirstText call (job.Run turns) octets text = (text ≡ []) × RunsShort octets turns (told_in call)
 IsFirstText call (job.Emulate trace send probe) octets text = IsFirstPart octets (wants_in call.words trace send probe) text
 IsFirstText call (job.Make kind routers seed) octets text = text ≡ []
 
@@ -182,7 +182,7 @@ abbrev pub RunsSoFar : List ℕ → ℕ → Told → Type 0
 RunsSoFar octets turns told =
     WholeRun octets turns told
     ⊎ (((greatest : ℕ) × (end : ℕ) × SpendsTurns octets turns greatest end told)
-    ⊎ (((interface : ℕ) × FailsToAttach octets interface told) ⊎ RunsShort octets told))
+    ⊎ (((interface : ℕ) × FailsToAttach octets interface told) ⊎ RunsShort octets turns told))
 
 -- the clock and the air weren't used, or as `run` uses them
 abbrev pub UsesAir : Call → Job → List ℕ → Type 0

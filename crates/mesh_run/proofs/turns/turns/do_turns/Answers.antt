@@ -4,11 +4,11 @@ use Rattle.mesh_run.proofs.turns.turns.do_turns.Goals as goal
 
 pub returns-in_err-buf-clause-stops : goal.returns-in_err-buf-clause-stops
 returns-in_err-buf-clause-stops g c = on_err_of c.from_residual.result
-    (stops_before c.args.setup.now (g.M.RouterView.state c.args.router.now) (g.C.Clock.moments c.args.clock.now) (g.A.Air.reports c.args.air.now) c.requires.opening)
+    (stops_before c.args.setup.now c.args.most (g.M.RouterView.state c.args.router.now) (g.C.Clock.moments c.args.clock.now) (g.A.Air.reports c.args.air.now) c.requires.opening)
 
 pub returns-in_err-stop-clause-stops : goal.returns-in_err-stop-clause-stops
 returns-in_err-stop-clause-stops g c = on_err_of c.from_residual-in_err-stop.result
-    (stops_turns c.args.setup.now c.len.result (g.M.RouterView.state c.args.router.now) (g.C.Clock.moments c.args.clock.now) (g.C.Clock.moments c.turn_on.new.clock)
+    (stops_turns c.args.setup.now c.args.most c.len.result (g.M.RouterView.state c.args.router.now) (g.C.Clock.moments c.args.clock.now) (g.C.Clock.moments c.turn_on.new.clock)
     (g.A.Air.reports c.args.air.now) (g.A.Air.reports c.turn_on.new.air) c.requires.opening c.len.ensures c.in_err-stop.ensures.stops)
 
 pub returns-clause-done : goal.returns-clause-done

@@ -16,10 +16,10 @@ loop-done-init g c = record {
 
 pub returns-in_err-greatest-clause-stops : goal.returns-in_err-greatest-clause-stops
 returns-in_err-greatest-clause-stops g c = on_err_of c.from_residual.result
-    (turning_stops c.args.end c.args.count (at (g.M.RouterView.state c.args.router.now) 0 c.args.count) (at (g.M.RouterView.state c.loop-done.router) c.loop-done.greatest c.args.count) c.loop-done.done 0 c.loop-done.greatest
+    (turning_stops c.args.most c.args.end c.args.count (at (g.M.RouterView.state c.args.router.now) 0 c.args.count) (at (g.M.RouterView.state c.loop-done.router) c.loop-done.greatest c.args.count) c.loop-done.done 0 c.loop-done.greatest
     (g.C.Clock.moments c.args.clock.now) (g.C.Clock.moments c.loop-done.clock) (g.C.Clock.moments c.turn.new.clock)
     (g.A.Air.reports c.args.air.now) (g.A.Air.reports c.loop-done.air) (g.A.Air.reports c.turn.new.air) c.args.tally.now c.loop-done.tally
-    c.loop-done.invariant.turns c.in_err-greatest.ensures.stops)
+    c.loop-done-test.true c.loop-done.invariant.turns c.in_err-greatest.ensures.stops)
 
 pub returns-then-end-greatest-clause-turns : goal.returns-then-end-greatest-clause-turns
 returns-then-end-greatest-clause-turns g c =
