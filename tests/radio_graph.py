@@ -8,7 +8,11 @@ over walks whose inner routers are willing to route. Then it asks the program fo
 the sequence number aside, with a flood over the arcs in which each router forwards as the printed flooding relays say. Where all
 routers are willing to flood and the hop limit suffices, every router that is joined has to be reached. It prints what differs and a
 line of counts; its status is 1 where something differs. It needs Python 3.11 or later for tomllib."""
-import collections, glob, heapq, os, re, subprocess, sys, tomllib
+import collections, glob, heapq, os, subprocess, sys, tomllib
+
+TESTS = os.path.dirname(os.path.abspath(__file__))
+sys.path.insert(0, os.path.join(os.path.dirname(TESTS), "tools"))
+import mesh_text
 
 
 def cost(metric):
@@ -96,18 +100,15 @@ class Graph:
         return heard - {x}, sent
 
 
-def relays_of(out, graph):
+def relays_of(told, graph):
     """The names of the flooding relays of each interface, as a summary has them."""
-    names, relays, router = {}, {}, 0
-    for line in out.splitlines():
-        words = line.split()
-        if line.startswith("router "):
-            names[words[2]] = words[1]
-            router = graph.names.index(words[1])
-        elif line.startswith(" flooding "):
-            place = [f["name"] for f in graph.routers[router]["interface"]].index(words[1])
-            relays[router, place] = [] if words[2:] == ["none"] else words[2:]
-    return {place: {names[a] for a in addresses} for place, addresses in relays.items()}
+    names, relays = {r["originator"]: r["name"] for r in told["routers"]}, {}
+    for router in told["routers"]:
+        number = graph.names.index(router["name"])
+        places = [f["name"] for f in graph.routers[number]["interface"]]
+        for face in router["flooding"]:
+            relays[number, places.index(face["on"])] = {names[a] for a in face["relays"]}
+    return relays
 
 
 def run(program, text, *words):
@@ -115,21 +116,28 @@ def run(program, text, *words):
     return done.returncode, done.stdout.decode()
 
 
+def told_of(program, text, *words):
+    """The status, and the text read back."""
+    status, out = run(program, text, *words)
+    return status, mesh_text.read(out.splitlines())
+
+
 def probed(graph, x, relays):
-    """What a probe by x prints, but for the sequence number."""
+    """What a probe by x tells, but for the sequence number."""
     joined, (heard, sent) = graph.joined(x), graph.flood(x, relays)
-    lines = [f"probe {graph.names[x]} number N reached {len(heard & set(joined))} of {len(joined)} sent {sent}"]
-    return lines + [f"unreached {graph.names[y]}" for y in joined if y not in heard]
+    missed = [graph.names[y] for y in joined if y not in heard]
+    told = {"by": graph.names[x], "reached": len(joined) - len(missed), "of": len(joined), "sent": sent}
+    return {**told, "unreached": missed} if missed else told
 
 
-def check_probe(program, path, text, out, graph, x, tell):
-    """Compares the probe by router x; `out` is what is told without it."""
-    _, told = run(program, text, "--probe", graph.names[x])
-    lines = [re.sub(" number [0-9]+ ", " number N ", l) for l in told[len(out):].splitlines()]
-    want = probed(graph, x, relays_of(out, graph))
+def check_probe(program, path, text, told, graph, x, tell):
+    """Compares the probe by router x; `told` is what is told without it."""
+    _, more = told_of(program, text, "--probe", graph.names[x])
+    probe, want = more.pop("probe"), probed(graph, x, relays_of(told, graph))
+    found = {key: value for key, value in probe.items() if key != "number"}
     willing = all(r.get("flooding", 7) > 0 for r in graph.routers) and graph.limit >= len(graph.routers)
-    if not told.startswith(out) or lines != want or willing and len(want) > 1:
-        tell(f"{path}: {lines}: wanted {want}")
+    if more != told or found != want or willing and "unreached" in want:
+        tell(f"{path}: {found}: wanted {want}")
 
 
 def check_sends(program, path, text, graph, x, tell):
@@ -138,31 +146,30 @@ def check_sends(program, path, text, graph, x, tell):
     for y in range(len(graph.routers)):
         for face in graph.routers[y]["interface"]:
             for address in face["addresses"] if y != x and y in least else []:
-                _, told = run(program, text, "--send", graph.names[x], address)
+                send = told_of(program, text, "--send", graph.names[x], address)[1]["send"]
                 sends += 1
-                line = next(l for l in told.splitlines() if l.startswith("send "))
-                want = f"send {graph.names[x]} {address} end arrived at {graph.names[y]} metric {least[y]} "
-                if not line.startswith(want):
-                    tell(f"{path}: {line}: wanted {want}")
+                want = {"from": graph.names[x], "to": address, "end": "arrived", "at": graph.names[y], "metric": least[y]}
+                if {key: send[key] for key in want} != want:
+                    tell(f"{path}: {send}: wanted {want}")
     return sends
 
 
 def check(program, path, tell):
     text = open(path, "rb").read().decode()
-    status, out = run(program, text)
-    if status != 0 or out.splitlines()[-1:] != ["settled yes"]:
+    status, told = told_of(program, text)
+    if status != 0 or not told["settled"]:
         return 0, 0
     graph, sends = Graph(text), 0
     some = range(len(graph.routers))[:4]
     for x in some:
-        check_probe(program, path, text, out, graph, x, tell)
+        check_probe(program, path, text, told, graph, x, tell)
         sends += check_sends(program, path, text, graph, x, tell)
     return sends, len(some)
 
 
 def main():
     program, *paths = sys.argv[1:]
-    cases = os.path.join(os.path.dirname(os.path.abspath(__file__)), "cases", "emulate", "*", "scenario.toml")
+    cases = os.path.join(TESTS, "cases", "emulate", "*", "scenario.toml")
     told, sends, probes = [], 0, 0
     for path in paths or sorted(glob.glob(cases)):
         try:

@@ -72,7 +72,7 @@ class Picture:
         text = network.text
         self.tree = network.tree_of(center) if center else []
         self.trip = [((hop["from"], hop["on"]), hop["to"]) for hop in text.get("send", {}).get("path", [])]
-        self.unreached = text.get("probe", {}).get("unreached", []) if isinstance(text.get("probe"), dict) else []
+        self.unreached = text.get("probe", {}).get("unreached", [])
 
     def lines(self):
         yield "digraph mesh {"
@@ -104,8 +104,8 @@ class Picture:
             parts.append(f"red: {send['from']} to {send['to']}, {send['end']} at {send['at']}, metric {send['metric']}")
         probe = text.get("probe")
         if probe:
-            parts.append(f"probe by {probe['by']}: {probe['reached']} of {probe['of']} reached, {probe['sent']} sent" if isinstance(probe, dict)
-                         else f"no probe by {probe}")
+            parts.append(f"probe by {probe['by']}: {probe['reached']} of {probe['of']} reached, {probe['sent']} sent" if "number" in probe
+                         else f"no probe by {probe['by']}")
         return "\\n".join(["   ".join(parts[:3]), *parts[3:]])
 
     def router(self, place, name):
@@ -142,7 +142,8 @@ class Picture:
             ends = self.network.cheapest(start, to, on)
             if ends:
                 self.colours[ends] = RED
-                self.colours.pop(ends[::-1], None)
+                if self.colours.get(ends[::-1]) == BLUE:
+                    del self.colours[ends[::-1]]
             else:
                 self.left.append((start, to, RED))
 

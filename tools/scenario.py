@@ -18,8 +18,10 @@ class Scenario:
             with open(path, "rb") as file:
                 octets = file.read()
             self.top = toml_lines.read(octets)
-        except (OSError, toml_lines.Fault) as fault:
-            sys.exit(f"{tool}: {path}: {fault}")
+        except OSError as fault:
+            sys.exit(f"{tool}: {path}: {fault.strerror}")
+        except toml_lines.Fault as fault:
+            sys.exit(f"{tool}: {path}:{fault.line}: {fault.why}")
         self.text = octets.decode().removeprefix("\ufeff")
         self.settings = self.top.plain()
         routers = self.settings.get("router", [])
@@ -32,7 +34,8 @@ class Scenario:
             sys.exit(f"{tool}: {path}: no settings that mesh takes; tools/why.py tells the line")
 
     def end_ms(self):
-        return self.settings["end_ms"]
+        end = self.settings.get("end_ms")
+        return end if type(end) is int and end > 0 else sys.exit(f"{self.tool}: {self.path}: no `end_ms` that mesh takes")
 
     def with_key(self, key, value):
         """The text with another value at a key of the top table."""
@@ -46,5 +49,7 @@ class Scenario:
                                   capture_output=True, check=False)
             return mesh_text.read(done.stdout.decode().splitlines()) if done.returncode == 0 else sys.exit(
                 f"{self.tool}: {done.stderr.decode().strip()} (status {done.returncode}); tools/why.py tells the line")
-        except (OSError, mesh_text.Unread) as fault:
+        except OSError as fault:
+            return sys.exit(f"{self.tool}: {mesh}: {fault.strerror}")
+        except mesh_text.Unread as fault:
             return sys.exit(f"{self.tool}: {fault}")

@@ -9,6 +9,7 @@ destination, in a colour for each next hop, with the metric. On standard error i
 be settled or ceased to be, with the gap before it or then; what comes and goes between two moments of the series is not seen. The
 status is 0, or 1 where the scenario is refused."""
 import concurrent.futures
+import itertools
 import os
 import re
 import sys
@@ -79,9 +80,11 @@ class Drawing:
         return "\n".join([head, '<rect width="100%" height="100%" fill="white"/>', *self.out, "</svg>"])
 
     def counts(self):
-        for moment, after in zip(self.moments, self.moments[1:] + [self.end]):
-            if self.told[moment]["settled"]:
-                self.box(self.across(moment), TOP, self.across(after) - self.across(moment), MIDDLE - TOP, "#dff0d8")
+        for settled, some in itertools.groupby(zip(self.moments, self.moments[1:] + [self.end]), lambda span: self.told[span[0]]["settled"]):
+            spans = list(some)
+            if settled:
+                x = self.across(spans[0][0])
+                self.box(x, TOP, self.across(spans[-1][1]) - x, MIDDLE - TOP, "#dff0d8")
         for colour, counts in (("#bbbbbb", lambda key, route: True), ("#2f6fd6", lambda key, route: self.last.get(key) == route)):
             points = []
             for moment in self.moments:

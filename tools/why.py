@@ -91,7 +91,8 @@ class Table:
             if name in place.value:
                 yield from rule.refusals(name, place.value[name], place)
             elif must:
-                yield Refusal(41, name, place.line, f"`{name}` must stand in the table that begins here: {rule.says}")
+                where = "in the table that begins here" if key else "at the top, before the first heading"
+                yield Refusal(41, name, place.line, f"`{name}` must stand {where}: {rule.says}")
 
 
 def whole(low, high):
