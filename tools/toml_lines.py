@@ -1,7 +1,7 @@
 """Reads TOML 1.1 with the place of each value, which Python's own reader doesn't tell.
 
 `read(text)` gives the top table as a Place; Fault has the line and the cause where the text is no TOML that `mesh` takes: numbers have
-64 bits, and tables and arrays are at most 80 deep."""
+64 bits, a key has at most 80 parts, and at most 80 arrays and inline tables stand in each other."""
 import re
 
 DEPTH = 80
@@ -84,6 +84,8 @@ class Reader:
             else:
                 raise self.fault(f"a key is wanted before `{self.rest()}`; a text stands in quotes" if self.rest() else "a key is wanted")
             self.blanks()
+            if len(parts) > DEPTH:
+                raise self.fault(f"the key has more than {DEPTH} parts")
             if not self.take("."):
                 return parts
 
@@ -124,8 +126,8 @@ class Reader:
     def value(self, depth):
         self.blanks()
         place = Place(None, self.here(), self.at)
-        if depth > DEPTH:
-            raise self.fault(f"more than {DEPTH} arrays and tables stand in each other")
+        if depth > DEPTH and self.next() in ("[", "{"):
+            raise self.fault(f"more than {DEPTH} arrays and inline tables stand in each other")
         if self.next() in ('"', "'") and self.next():
             place.value = self.string()
         elif self.take("["):
@@ -179,7 +181,7 @@ class Reader:
             below = table.value.setdefault(part, Place({}, line, how="dotted"))
             if below.how != "dotted":
                 raise self.fault(f"`{part}` stands at line {below.line} already", line)
-            table, depth = below, depth + 1
+            table = below
         if not self.take("="):
             raise self.fault(f"`=` is wanted before `{self.rest()}`" if self.rest() else f"`=` is missing behind `{last}`", line)
         if last in table.value:
@@ -193,8 +195,6 @@ class Reader:
         *path, last = self.key()
         if not self.take("]]" if many else "]"):
             raise self.fault(f"`{']]' if many else ']'}` is missing", line)
-        if len(path) >= DEPTH:
-            raise self.fault(f"more than {DEPTH} arrays and tables stand in each other", line)
         table = top
         for part in path:
             table = table.value.setdefault(part, Place({}, line, how="implied"))
