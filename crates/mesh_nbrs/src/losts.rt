@@ -68,9 +68,16 @@ impl<T: Table<Addr4, Lost>> LostSet<T> {
         put_gone(&mut self.table, before, &back, until)
     }
 
-    /// Takes out the lost addresses whose moment is at or below now (RFC 6130, section 13), and gives their number. Takes no
-    /// memory.
-    pub fn expire(&mut self, now: u64) -> usize
+    /// Takes out the lost addresses whose moment is at or below now (RFC 6130, section 13). Takes no memory.
+    pub fn expire(&mut self, now: u64)
+        ensures expired { Expires addr_eq now self.old self.new }
+        ensures distinct { HasDistinctKeys addr_eq self.new }
+    {
+        self.expire_and_count(now);
+    }
+
+    /// The same as `expire`, and how many lost addresses went.
+    pub fn expire_and_count(&mut self, now: u64) -> usize
         ensures expired { Expires addr_eq now self.old self.new }
         ensures count { result + length self.new ≡ length self.old }
         ensures none { result ≡ 0 → self.new ≡ self.old }

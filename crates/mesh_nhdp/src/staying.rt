@@ -67,7 +67,7 @@ fn expire_two_hops<H: Table<TwoHopKey, TwoHop>>(sets: &mut [TwoHopSet<H>], now: 
 {
     let mut same = true;
     for i in 0..sets.len() {
-        let gone = sets[i].expire(now);
+        let gone = sets[i].expire_and_count(now);
         same = none_went(same, gone);
     }
     same
@@ -83,6 +83,6 @@ pub fn expire_beside<H: Table<TwoHopKey, TwoHop>, O: Table<Addr4, Lost>>(
         ExpiresBeside now result (near_with links two_hops.old neighbours losts.old) (near_with links two_hops.new neighbours losts.new) }
 {
     let same = expire_two_hops(two_hops, now);
-    let gone = losts.expire(now);
+    let gone = losts.expire_and_count(now);
     none_went(same, gone)
 }

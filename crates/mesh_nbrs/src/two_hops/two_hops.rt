@@ -103,9 +103,17 @@ impl<T: Table<TwoHopKey, TwoHop>> TwoHopSet<T> {
         drop_all(&mut self.table, &mut self.keys, link)
     }
 
-    /// Takes out the tuples whose moment is at or below now (RFC 6130, section 13), and gives their number. Takes no memory.
-    /// Where some go, all keys are looked at.
-    pub fn expire(&mut self, now: u64) -> usize
+    /// Takes out the tuples whose moment is at or below now (RFC 6130, section 13). Takes no memory. Where some go, all keys are
+    /// looked at.
+    pub fn expire(&mut self, now: u64)
+        ensures expired { Expires two_hop_eq now self.old self.new }
+        ensures distinct { HasDistinctKeys two_hop_eq self.new }
+    {
+        self.expire_and_count(now);
+    }
+
+    /// The same as `expire`, and how many tuples went.
+    pub fn expire_and_count(&mut self, now: u64) -> usize
         ensures expired { Expires two_hop_eq now self.old self.new }
         ensures count { result + length self.new ≡ length self.old }
         ensures none { result ≡ 0 → self.new ≡ self.old }

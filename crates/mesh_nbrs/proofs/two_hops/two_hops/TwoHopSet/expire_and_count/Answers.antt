@@ -1,7 +1,7 @@
 use Rattle.std.proofs.Common.{sym, ◌∙◌}
 use Rattle.mesh_atoms.specs.Base.{find, two_hop_eq}
 use Rattle.mesh_nbrs.proofs.TwoHopsLemmas.Ordered.{live_was}
-use Rattle.mesh_nbrs.proofs.two_hops.two_hops.TwoHopSet.expire.Goals as goal
+use Rattle.mesh_nbrs.proofs.two_hops.two_hops.TwoHopSet.expire_and_count.Goals as goal
 
 pub returns-clause-expired : goal.returns-clause-expired
 returns-clause-expired g c = rw (← c.self.view_is) c.expire_each-gone.ensures.kept
