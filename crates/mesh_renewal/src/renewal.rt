@@ -56,7 +56,7 @@ pub fn renew<N: Near4, B: Bases>(
 {
     derived.relays.renew(alloc, near, settings)?;
     derived.renew_rows(alloc, near, settings, now)?;
-    derived.routes.renew(alloc, near, topology, settings)?;
+    derived.routes.renew(alloc, near, topology, settings, now)?;
     derived.last = now;
     Ok(())
 }

@@ -54,19 +54,21 @@ impl KeptRoutes {
         }
     }
 
-    // The routes of a router with these bases and settings.
+    // The routes of a router with these bases, which are sound at that moment, and settings.
     fn of<N: Near4, B: Bases>(
         alloc: Global,
         near: &N,
         topology: &Topology<B>,
         settings: &RouterSettings,
+        now: u64,
     ) -> Result<KeptRoutes, AllocError>
-        requires sound { (now : ℕ) × SoundNeighbourhood settings.now now (N.near near.now) × SoundTopology settings.now now topology.now }
-        ensures routes { IfOk result (λ kept. (s : State) (now : ℕ) → s.settings ≡ settings.now → s.bases.neighbourhood ≡ N.near near.now
-            → s.bases.topology ≡ topology.now → s.routes ≡ kept → SoundNeighbourhood settings.now now (N.near near.now)
-            → (self : Addr4) × AreRoutes s now self) }
+        requires near { SoundNeighbourhood settings.now now (N.near near.now) }
+        requires topology { SoundTopology settings.now now topology.now }
+        ensures routes { IfOk result (λ kept. (s : State) (moment : ℕ) → s.settings ≡ settings.now → s.bases.neighbourhood ≡ N.near near.now
+            → s.bases.topology ≡ topology.now → s.routes ≡ kept → SoundNeighbourhood settings.now moment (N.near near.now)
+            → (self : Addr4) × AreRoutes s moment self) }
     {
-        let routes = routes_of(alloc, near, topology, settings)?;
+        let routes = routes_of(alloc, near, topology, settings, now)?;
         let basis = RouteBasis::of(alloc, near, topology, settings);
         KeptRoutes::with(routes, basis)
     }
@@ -92,24 +94,26 @@ impl KeptRoutes {
         Ok(())
     }
 
-    /// Makes them the routes of a router with these bases and settings, at each moment at which its neighbourhood is sound: they are
-    /// made anew where these aren't those of which they were made, but for moments.
+    /// Makes them the routes of a router with these bases, which are sound at that moment, and settings, at each moment at which its
+    /// neighbourhood is sound: they are made anew where these aren't those of which they were made, but for moments.
     pub(crate) fn renew<N: Near4, B: Bases>(
         &mut self,
         alloc: Global,
         near: &N,
         topology: &Topology<B>,
         settings: &RouterSettings,
+        now: u64,
     ) -> Result<(), AllocError>
-        requires sound { (now : ℕ) × SoundNeighbourhood settings.now now (N.near near.now) × SoundTopology settings.now now topology.now }
-        ensures routes { OnOk result ((s : State) (now : ℕ) → s.settings ≡ settings.now → s.bases.neighbourhood ≡ N.near near.now
-            → s.bases.topology ≡ topology.now → s.routes ≡ self.new → SoundNeighbourhood settings.now now (N.near near.now)
-            → (self : Addr4) × AreRoutes s now self) }
+        requires near { SoundNeighbourhood settings.now now (N.near near.now) }
+        requires topology { SoundTopology settings.now now topology.now }
+        ensures routes { OnOk result ((s : State) (moment : ℕ) → s.settings ≡ settings.now → s.bases.neighbourhood ≡ N.near near.now
+            → s.bases.topology ≡ topology.now → s.routes ≡ self.new → SoundNeighbourhood settings.now moment (N.near near.now)
+            → (self : Addr4) × AreRoutes s moment self) }
     {
         if self.basis.shows(near, topology, settings) {
             return Ok(());
         }
-        let made = KeptRoutes::of(alloc, near, topology, settings);
+        let made = KeptRoutes::of(alloc, near, topology, settings, now);
         self.take(made)
     }
 

@@ -17,19 +17,21 @@ use mesh_paths::search;
 use mesh_topo::Topology;
 use std::alloc::{AllocError, Global};
 
-/// The routes of a router with sound bases, at each moment at which its neighbourhood is sound (RFC 7181, section 19.2): one for
-/// each node that a walk over its own graph reaches and that is not its own, at the least cost, with the least parent and the
+/// The routes of a router whose bases are sound at a moment (RFC 7181, section 19.2), which are its routes at each moment at which
+/// its neighbourhood is sound, so that nothing is made of the moment: one for each node that a walk over its own graph reaches and that is not its own, at the least cost, with the least parent and the
 /// best next hop. Refuses for want of memory alone. Takes time near n log n in the number n of tuples.
 pub fn routes_of<N: Near4, B: Bases>(
     alloc: Global,
     near: &N,
     topology: &Topology<B>,
     settings: &RouterSettings,
+    now: u64,
 ) -> Result<RoutingSet, AllocError>
-    requires sound { (now : ℕ) × SoundNeighbourhood settings.now now (N.near near.now) × SoundTopology settings.now now topology.now }
-    ensures routes { IfOk result (λ routes. (s : State) (now : ℕ) → s.settings ≡ settings.now → s.bases.neighbourhood ≡ N.near near.now
-        → s.bases.topology ≡ topology.now → s.routes ≡ routes → SoundNeighbourhood settings.now now (N.near near.now)
-        → (self : Addr4) × AreRoutes s now self) }
+    requires near { SoundNeighbourhood settings.now now (N.near near.now) }
+    requires topology { SoundTopology settings.now now topology.now }
+    ensures routes { IfOk result (λ routes. (s : State) (moment : ℕ) → s.settings ≡ settings.now → s.bases.neighbourhood ≡ N.near near.now
+        → s.bases.topology ≡ topology.now → s.routes ≡ routes → SoundNeighbourhood settings.now moment (N.near near.now)
+        → (self : Addr4) × AreRoutes s moment self) }
 {
     let from = host(settings.originator());
     let count = settings.interfaces.len();

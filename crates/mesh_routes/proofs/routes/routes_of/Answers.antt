@@ -9,8 +9,8 @@ search-requires-clause-costs g c = costs_of (g.N.Near4.near c.args.near.now) c.a
 
 pub search-requires-clause-few : goal.search-requires-clause-few
 search-requires-clause-few g c =
-    let few : length c.in_ok-owners.owners.entries ≤ 1024 = few_owners c.args.settings.now c.requires.sound.0 (g.N.Near4.near c.args.near.now) c.requires.sound.1 c.in_ok-owners.owners c.in_ok-owners.ensures c.in_ok-graph.ensures.ordered in
-    omega (arith, (interfaces_of c.args.settings.now).1, c.len-count.ensures, c.in_ok-graph.ensures.few, c.requires.sound.2.routers.limit, c.requires.sound.2.addresses.limit, c.requires.sound.2.networks.limit)
+    let few : length c.in_ok-owners.owners.entries ≤ 1024 = few_owners c.args.settings.now c.args.now (g.N.Near4.near c.args.near.now) c.requires.near c.in_ok-owners.owners c.in_ok-owners.ensures c.in_ok-graph.ensures.ordered in
+    omega (arith, (interfaces_of c.args.settings.now).1, c.len-count.ensures, c.in_ok-graph.ensures.few, c.requires.topology.routers.limit, c.requires.topology.addresses.limit, c.requires.topology.networks.limit)
 
 pub firsts_of-requires : goal.firsts_of-requires
 firsts_of-requires g c = rooted_in c.in_ok-graph.graph c.host-from.result c.in_ok-certificate.certificate c.as_slice.result.now
@@ -29,6 +29,6 @@ returns g c = record {
       for_state c.args.settings.now (g.N.Near4.near c.args.near.now) c.args.topology.now now c.originator.result c.in_ok-owners.owners c.len-count.result c.in_ok-graph.graph c.in_ok-certificate.certificate.rows c.in_ok-firsts.firsts c.in_ok-ways.ways.keys c.in_ok-rows.rows
       (made_of c.args.settings.now (g.N.Near4.near c.args.near.now) c.args.topology.now now c.originator.result c.host-from.result c.host-from.ensures c.in_ok-owners.owners c.len-count.result c.in_ok-graph.graph c.in_ok-certificate.certificate
       c.as_slice.result.now c.as_slice-2.result.now c.as_slice.ensures c.as_slice-2.ensures c.in_ok-firsts.firsts c.in_ok-ways.ways.keys c.in_ok-rows.rows
-      sound (c.requires.sound.0, c.requires.sound.2) c.originator.ensures.is c.len-count.ensures c.in_ok-owners.ensures c.in_ok-graph.ensures.ordered c.in_ok-graph.ensures.arcs c.in_ok-certificate.ensures.certificate c.in_ok-firsts.ensures.right c.in_ok-firsts.ensures.all c.in_ok-ways.ensures c.in_ok-rows.ensures)
+      sound (c.args.now, c.requires.topology) c.originator.ensures.is c.len-count.ensures c.in_ok-owners.ensures c.in_ok-graph.ensures.ordered c.in_ok-graph.ensures.arcs c.in_ok-certificate.ensures.certificate c.in_ok-firsts.ensures.right c.in_ok-firsts.ensures.all c.in_ok-ways.ensures c.in_ok-rows.ensures)
       s settings near topology (routes ∙ c.of.ensures);
 }

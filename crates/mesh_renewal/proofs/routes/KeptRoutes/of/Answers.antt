@@ -5,5 +5,5 @@ use Rattle.mesh_renewal.proofs.routes.KeptRoutes.of.Goals as goal
 pub with-requires : goal.with-requires
 with-requires g c = record {
   fit = if_ok_more c.of-basis.result
-      (λ basis shows. routes_fit_each c.args.settings.now (g.N.Near4.near c.args.near.now) c.args.topology.now basis c.requires.sound.0 c.in_ok-routes.routes c.requires.sound.1 shows c.in_ok-routes.ensures.routes) c.of-basis.ensures;
+      (λ basis shows. routes_fit_each c.args.settings.now (g.N.Near4.near c.args.near.now) c.args.topology.now basis c.args.now c.in_ok-routes.routes c.requires.near shows c.in_ok-routes.ensures.routes) c.of-basis.ensures;
 }
