@@ -132,13 +132,13 @@ hellos_sendable old new sent (Hellos_due late next frames) =
     let is = frames.each i frame (slice_get-get_or sent i (record { iface = 0; bytes = [] }) below) in
     let place = is.iface in
     let count = frames.count in
-    record { iface = omega (arith, below, place, count); packet = (_, is.written.packet.spans, is.written.packet.spelled) })
+    record { iface = omega (arith, below, place, count); packet = (_, _, is.written.packet.spelled) })
 
 parts_sendable : (s : State) (validity : List ℕ) (complete : Bool) (sequence : ℕ) (parts : List (List TcRow)) (sent : List Frame) → SendsParts s validity complete sequence parts sent → All (IsSendable s.settings) sent
 parts_sendable s validity complete sequence parts sent No_part = All-nil (IsSendable s.settings)
 parts_sendable s validity complete sequence parts sent (First_part {parts = others} {more = more} tc bytes is written sends) =
     All-append (IsSendable s.settings) (on_each (length s.settings.interfaces) bytes) more
-    (each_sendable s.settings (length s.settings.interfaces) bytes (omega arith) (_, written.packet.spans, written.packet.spelled))
+    (each_sendable s.settings (length s.settings.interfaces) bytes (omega arith) (_, _, written.packet.spelled))
     (parts_sendable s validity complete ((sequence + 1) % 65536) others more sends)
 
 tcs_sendable : (old new : State) (sent : List Frame) → SendsTcs old new sent → All (IsSendable new.settings) sent

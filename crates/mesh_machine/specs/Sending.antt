@@ -21,7 +21,7 @@ pub record IsNextMoment (start interval now next : ℕ) : Type 0 where
 
 -- HELLOs
 
--- a frame with the HELLO of interface i (RFC 6130, section 11, and RFC 7181, section 15.1)
+-- a frame with the HELLO of interface i, however it is spelled (RFC 6130, section 11, and RFC 7181, section 15.1)
 pub record IsHelloFrame (s : State) (i : ℕ) (frame : Frame) : Type 0 where
   pub iface : frame.iface ≡ i
   pub hello : Hello
@@ -53,8 +53,8 @@ pub record IsTcOfRows (s : State) (validity : List ℕ) (complete : Bool) (seque
   pub interval : (time : ℕ) × (tc.interval ≡ Some time) × IsRoundedUp s.settings.times.tc time
   pub rows_are : tc.rows ≡ rows
 
--- a TC for each part of the rows, in order, each in the same octets on each interface. Each takes the next sequence number, which
--- goes round
+-- a TC for each part of the rows, in order, each however it is spelled, and in the same octets on each interface. Each takes the next
+-- sequence number, which goes round
 pub data SendsParts (s : State) (validity : List ℕ) (complete : Bool) : ℕ → List (List TcRow) → List Frame → Type 0 where
   No_part : {sequence : ℕ} → SendsParts s validity complete sequence [] []
   First_part : {sequence : ℕ} {rows : List TcRow} {parts : List (List TcRow)} {more : List Frame} (tc : Tc) (bytes : List ℕ) →

@@ -18,7 +18,7 @@ use Rattle.mesh_packet.specs.Grammar.{SpellsOctet, SpellsNumber, SpellsOriginato
 use Rattle.mesh_packet.specs.Least.{IsOriginator, IsEncodableBlock, IsEncodableMessage, IsEncodable, least_octet, least_number, least_originator, least_head, message_flags, LeastPair, LeastBody, LeastMessage, has_tlvs, least_header_tlvs, packet_flags, LeastForm}
 use Rattle.mesh_packet.proofs.FlagSums.{tells_128, tells_64, tells_32, tells_16, tells_width, tells_8, tells_4, version_none}
 
-short_spelled : (n : ℕ) → SpellsShort n (least_short n)
+pub short_spelled : (n : ℕ) → SpellsShort n (least_short n)
 short_spelled n = (n / 256, n % 256, omega arith, refl)
 
 -- ---- optional parts
@@ -43,7 +43,7 @@ header_tlvs_spelled (t ∷ ts) = tlv_block_spelled (t ∷ ts)
 
 -- ---- messages
 
-pair_spelled : (width : ℕ) (b : BlockFields) (text : List ℕ) → IsEncodableBlock width b → LeastPair b text → SpellsPair width b text
+unfoldable pub pair_spelled : (width : ℕ) (b : BlockFields) (text : List ℕ) → IsEncodableBlock width b → LeastPair b text → SpellsPair width b text
 pair_spelled width b text fit h = record {
   addrs = h.addrs;
   tlvs = least_block (least_addr_tlv (length b.addrs)) b.tlvs;
@@ -53,7 +53,7 @@ pair_spelled width b text fit h = record {
   whole = h.whole;
 }
 
-items_spelled : {A : Type 0} (P : A → Type 0) (Least Says : A → List ℕ → Type 0) → ((x : A) (text : List ℕ) → P x → Least x text → Says x text) → (xs : List A) (text : List ℕ) → All P xs → SpellsItems Least xs text → SpellsItems Says xs text
+pub items_spelled : {A : Type 0} (P : A → Type 0) (Least Says : A → List ℕ → Type 0) → ((x : A) (text : List ℕ) → P x → Least x text → Says x text) → (xs : List A) (text : List ℕ) → All P xs → SpellsItems Least xs text → SpellsItems Says xs text
 items_spelled P Least Says one [] text fit h = h
 items_spelled P Least Says one (x ∷ xs) text fit h = (h.0, h.1, one x h.0 (All-head P x xs fit) h.2, items_spelled P Least Says one xs h.1 (All-tail P x xs fit) h.3, h.4)
 
@@ -73,11 +73,11 @@ module _ (m : MessageFields) (fit : IsEncodableMessage m) where
   small : m.width - 1 < 16
   small = omega (arith, fit.wide, fit.narrow)
 
-  width_told : width_of (message_flags m) ≡ m.width
+  pub width_told : width_of (message_flags m) ≡ m.width
   unfolding message_flags
   width_told = omega (arith, tells_width a b c d (m.width - 1) small, fit.wide)
 
-  head_spelled : SpellsMessageHead (message_flags m) m.originator m.limit m.count m.sequence (least_head m)
+  pub head_spelled : SpellsMessageHead (message_flags m) m.originator m.limit m.count m.sequence (least_head m)
   unfolding message_flags least_head
   head_spelled = record {
     originator_text = least_originator m.width m.originator;
@@ -91,7 +91,7 @@ module _ (m : MessageFields) (fit : IsEncodableMessage m) where
     whole = refl;
   }
 
-  body_spelled : (text : List ℕ) → LeastBody m text → SpellsBody (message_flags m) m text
+  unfoldable pub body_spelled : (text : List ℕ) → LeastBody m text → SpellsBody (message_flags m) m text
   body_spelled text h = record {
     head = least_head m;
     tlvs = least_block least_tlv m.tlvs;
@@ -103,7 +103,7 @@ module _ (m : MessageFields) (fit : IsEncodableMessage m) where
     whole = h.whole;
   }
 
-message_spelled : (m : MessageFields) (text : List ℕ) → IsEncodableMessage m → LeastMessage m text → SpellsMessage m text
+unfoldable pub message_spelled : (m : MessageFields) (text : List ℕ) → IsEncodableMessage m → LeastMessage m text → SpellsMessage m text
 message_spelled m text fit h = record {
   flags = message_flags m;
   size = least_short (4 + length h.body);

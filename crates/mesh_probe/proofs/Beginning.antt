@@ -77,7 +77,7 @@ module _ (s : Scenario) (states : List State) (origin : ℕ) (net : AreRoutersAt
 
   module _ (p : State) (at : At states origin p) (number : ℕ) (bytes : List ℕ) (frame : IsProbeFrame p number bytes) where
     tc_is : IsTcOf p frame.tc p.settings.times.tc_hop_limit bytes
-    tc_is = record { validity = frame.code ∷ []; times = Everywhere frame.is_code.sent; writes = frame.writes; own = frame.tc_is.originator; octet = frame.octet }
+    tc_is = record { validity = frame.code ∷ []; times = Everywhere frame.is_code.sent; writes = frame.writes.writes; own = frame.tc_is.originator; octet = frame.octet }
 
     abbrev pub first : List Transmission
     first = sent_by origin (on_each (length p.settings.interfaces) bytes)

@@ -1,5 +1,5 @@
 -- A flood of a TC begins as the message of a wave.
-use Rattle.std.proofs.Common.{◌≡◌, ℕ, zero, suc, ◌-◌, ◌<◌, refl, sym, ◌∙◌, ap, subst, arith, List, length, Option, Some, slice_index_or, slice_get}
+use Rattle.std.proofs.Common.{◌≡◌, ℕ, zero, suc, ◌-◌, ◌<◌, refl, sym, ◌∙◌, ap, subst, arith, List, [], ◌∷◌, length, Option, Some, slice_index_or, slice_get}
 use Rattle.std.specs.List.{AllPairs}
 use Rattle.mesh_atoms.specs.declared.settings.Scenario.{Scenario}
 use Rattle.mesh_atoms.specs.declared.tc.Tc.{Tc}
@@ -26,7 +26,7 @@ first_carried p tc limit bytes is =
     ap (λ (o : Option ℕ). let r : MessageFields = record m { limit = o } in r) (is.writes.limit ∙ ap (λ (n : ℕ). Some n) e)
     ∙ ap (λ (o : Option ℕ). let r : MessageFields = record m { limit = Some (limit - 0); count = o } in r) is.writes.count in
     subst (λ (x : MessageFields). Carries x bytes) same
-    (record { packet = alone m; spans = is.writes.packet.spans; spelled = is.writes.packet.spelled; one = refl })
+    (record { packet = alone m; spans = is.writes.packet.span ∷ []; spelled = is.writes.packet.spelled; one = refl })
 
 module _ (s : Scenario) (states : List State) (now origin : ℕ) (tc : Tc) (limit : ℕ) (Prem : Type 0) (routers : AreStates s states)
     (settled : Prem → IsSettledNetwork s states now) (unknown : Prem → AreUnknown states tc) (p : State) (at : At states origin p) (bytes : List ℕ)

@@ -13,7 +13,7 @@ use Rattle.mesh_atoms.specs.Validity.{IsLeastCode}
 use Rattle.mesh_machine.specs.declared.frame.Frame.{Frame}
 use Rattle.mesh_machine.specs.Machine.{Hear, Step}
 use Rattle.mesh_machine.specs.Sendable.{IsSendable}
-use Rattle.mesh_wire.specs.Writes.{WritesTc}
+use Rattle.mesh_wire.specs.Writes.{WritesLeastTc}
 use Rattle.mesh_probe.specs.declared.coverage.Coverage.{Coverage}
 use Rattle.mesh_probe.specs.declared.coverage.Probe.TheVariants.{Done}
 use Rattle.mesh_probe.specs.declared.coverage.Sending.{Sending}
@@ -83,11 +83,11 @@ IsLeastUnknown states o (Some number) =
 
 -- The first frame
 
--- the octets with which a router in that state probes
+-- the octets with which a router in that state probes: they are written here, so they are the least form
 pub record IsProbeFrame (p : State) (number : ℕ) (bytes : List ℕ) : Type 0 where
   pub tc : Tc
   pub tc_is : IsProbeTc p number tc
   pub code : ℕ
   pub is_code : IsLeastCode p.settings.times.topology_hold code
-  pub writes : WritesTc tc p.settings.times.tc_hop_limit (code ∷ []) bytes
+  pub writes : WritesLeastTc tc p.settings.times.tc_hop_limit (code ∷ []) bytes
   pub octet : p.settings.times.tc_hop_limit < 256

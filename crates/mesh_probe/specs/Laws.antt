@@ -19,7 +19,7 @@ use Rattle.mesh_probe.specs.Flood.{sent_by, hearers_of, Flood}
 
 -- The flood of a TC
 
--- the octets are a TC of a router in state p, with that hop limit
+-- the octets are a TC of a router in state p, with that hop limit, however it is spelled
 pub record IsTcOf (p : State) (tc : Tc) (limit : ℕ) (bytes : List ℕ) : Type 0 where
   pub validity : List ℕ
   pub times : IsTimeValue validity

@@ -72,6 +72,6 @@ kept m limit hops value keeps one odd some number _ (TwoGateways net h) = keeps 
 kept m limit hops value keeps one odd some number _ (Beside net h g) = keeps rule.GATEWAY (Some net) (Beside net (has_back m limit hops net gateway h) (has_back m limit hops net nbr_addr_type g))
 kept m limit hops value keeps one odd some number _ (WrongMetric net h) = keeps rule.METRIC (Some net) (WrongMetric net (wrong_back m limit hops net h))
 
--- a TC that is written breaks no rule after any number of hops
+-- a TC that may be sent breaks no rule after any number of hops
 pub kept_on : (tc : Tc) (limit : ℕ) (validity bytes : List ℕ) → (w : WritesTc tc limit validity bytes) → IsTimeValue validity → (hops : ℕ) → Keeps (BreaksTc (after_hops w.message limit hops))
 kept_on tc limit validity bytes w times hops = kept w.message limit hops validity w.keeps w.validity_is (odd validity times) (λ distance. above distance validity times)

@@ -22,7 +22,7 @@ use Rattle.mesh_atoms.specs.Writable.{HaveSenderAlone, HaveStatusWhole, IsAlone}
 use Rattle.mesh_packet.specs.Fields.{MessageFields, PacketFields}
 use Rattle.mesh_packet.specs.declared.packet.Span.{Span}
 use Rattle.mesh_packet.specs.Grammar.{Spells}
-use Rattle.mesh_packet.specs.Least.{IsEncodableMessage}
+use Rattle.mesh_packet.specs.Least.{IsEncodableMessage, LeastForm}
 use Rattle.mesh_tlv.specs.Fields.{TlvFields}
 use Rattle.mesh_wire.specs.declared.lines.Column.{Column}
 use Rattle.mesh_wire.specs.declared.lines.Column.TheVariants.{Local, Link, Other, Mpr, AddrType, Gateway, LinkIn, LinkOut, NearIn, NearOut}
@@ -37,7 +37,7 @@ use Rattle.mesh_wire.specs.Parts.{octets_of, values_of}
 use Rattle.mesh_wire.specs.Rows.{HasType, HasPart, HasValue, HasTwoValues, AreRows}
 use Rattle.mesh_wire.specs.Rules.{IsOctet, Keeps}
 use Rattle.mesh_wire.specs.Runs.{has_part}
-use Rattle.mesh_wire.specs.Writes.{IsSoleMessage, HasFlag, IsReadOfOther, IsReadOfHelloAddress, WritesHello, ReadsBackHello}
+use Rattle.mesh_wire.specs.Writes.{IsSoleMessage, HasFlag, IsReadOfOther, IsReadOfHelloAddress, WritesHello, WritesLeastHello, alone, ReadsBackHello}
 use Rattle.mesh_wire.proofs.Fits.{message_fits, HasFewParts, fits_alone}
 use Rattle.mesh_wire.proofs.Headings.{validity_told, one_validity, interval_is, interval_told, willing_is, read_of_hello}
 use Rattle.mesh_wire.proofs.Laid.{whole_number}
@@ -277,11 +277,18 @@ module _ (hello : Hello) (values : List ℕ) (m : MessageFields) (h : IsHelloMes
     count = h.count;
     sequence = h.sequence;
     reads = hello_is;
-    validity_is = (has.0, validity_there, has.2.1);
-    interval_is = interval_told (has.0 ∷ []) has.1 (octet_of hello.willing ∷ []) 0 m mpr_willing (inl refl) hello.interval heading has.3;
     keeps = keeps;
     tlvs = read_of_hello m (take 1 values) (slice_range values 1 3) (is_some hello.interval) h.tlvs;
     parts = part_read;
+  }
+
+  pub written_least : (bytes : List ℕ) → IsSoleMessage m bytes → LeastForm (alone m) bytes → WritesLeastHello hello bytes
+  unfolding written
+  written_least bytes is least = record {
+    writes = written bytes is;
+    least = least;
+    validity_is = (has.0, validity_there, has.2.1);
+    interval_is = interval_told (has.0 ∷ []) has.1 (octet_of hello.willing ∷ []) 0 m mpr_willing (inl refl) hello.interval heading has.3;
   }
 
   pub back : (bytes : List ℕ) → IsSoleMessage m bytes → (packet : PacketFields) (spans : List Span) → Spells packet spans bytes → ReadsBackHello hello packet

@@ -25,6 +25,7 @@ pub mod Hops
 pub mod InOrder
 pub mod Kept
 pub mod Laid
+pub mod LeastAlone
 pub mod LinesSay
 pub mod Made
 pub mod OneHello

@@ -69,4 +69,4 @@ ok_same x y r e f = cc
 -- what the octets of a message alone spell has that message alone
 pub alone_again : (m : MessageFields) (bytes : List ℕ) → IsSoleMessage m bytes → (packet : PacketFields) (spans : List Span) → Spells packet spans bytes → packet.messages ≡ m ∷ []
 alone_again m bytes is packet spans spelled =
-    ap (λ (x : PacketFields × List Span). x.0.messages) (ok_same (packet, spans) (alone m, is.spans) (packet_of bytes) (packet_again bytes packet spans spelled) (packet_again bytes (alone m) is.spans is.spelled))
+    ap (λ (x : PacketFields × List Span). x.0.messages) (ok_same (packet, spans) (alone m, is.span ∷ []) (packet_of bytes) (packet_again bytes packet spans spelled) (packet_again bytes (alone m) (is.span ∷ []) is.spelled))

@@ -13,7 +13,7 @@ use Rattle.mesh_atoms.specs.Writable.{AreOneType, HaveTypeWhole}
 use Rattle.mesh_packet.specs.declared.packet.Span.{Span}
 use Rattle.mesh_packet.specs.Fields.{MessageFields, PacketFields}
 use Rattle.mesh_packet.specs.Grammar.{Spells}
-use Rattle.mesh_packet.specs.Least.{IsEncodableMessage}
+use Rattle.mesh_packet.specs.Least.{IsEncodableMessage, LeastForm}
 use Rattle.mesh_tlv.specs.Fields.{TlvFields}
 use Rattle.mesh_wire.specs.declared.lines.Column.{Column}
 use Rattle.mesh_wire.specs.declared.lines.Column.TheVariants.{Local, Link, Other, Mpr, AddrType, Gateway, LinkIn, LinkOut, NearIn, NearOut}
@@ -29,7 +29,7 @@ use Rattle.mesh_wire.specs.Runs.{has_part}
 use Rattle.mesh_wire.specs.Tc.{IsReadTcRow, TcIs}
 use Rattle.mesh_wire.specs.TcRules.{BreaksTc, AddressWidth, NoOriginator, NoSequence, NoValidity, WrongInterval, Content, AddrType as AddrTypeRule, TwoAddrTypes, ShortPrefix, GatewayOctet, TwoGateways, Beside, WrongMetric}
 use Rattle.mesh_wire.specs.Times.{distance_of, ValidityIs}
-use Rattle.mesh_wire.specs.Writes.{IsSoleMessage, HasFlag, IsReadOfTcAddress, WritesTc, ReadsBackTc}
+use Rattle.mesh_wire.specs.Writes.{IsSoleMessage, HasFlag, IsReadOfTcAddress, WritesTc, WritesLeastTc, alone, ReadsBackTc}
 use Rattle.mesh_wire.proofs.Fits.{message_fits, HasFewParts, fits_alone}
 use Rattle.mesh_wire.proofs.Headings.{validity_told, interval_is, interval_told, content_is, read_of_tc}
 use Rattle.mesh_wire.proofs.HelloWritten.{bit_most, originator_is, none_said, flags_octet, metric_flagged}
@@ -177,10 +177,17 @@ module _ (tc : Tc) (hop_limit : ℕ) (validity values : List ℕ) (m : MessageFi
     count = h.count;
     reads = tc_is;
     validity_is = validity_there;
-    interval_is = interval_told validity has.0 (tc.ansn / 256 ∷ (tc.ansn % 256 ∷ [])) (cond tc.complete 0 1) m cont_seq_num (inr refl) tc.interval heading has.1;
     keeps = keeps;
     tlvs = read_of_tc m validity (take 3 values) (is_some tc.interval) tc.complete h.tlvs;
     parts = part_read;
+  }
+
+  pub written_least : (bytes : List ℕ) → IsSoleMessage m bytes → LeastForm (alone m) bytes → WritesLeastTc tc hop_limit validity bytes
+  unfolding written
+  written_least bytes is least = record {
+    writes = written bytes is;
+    least = least;
+    interval_is = interval_told validity has.0 (tc.ansn / 256 ∷ (tc.ansn % 256 ∷ [])) (cond tc.complete 0 1) m cont_seq_num (inr refl) tc.interval heading has.1;
   }
 
   pub back : (bytes : List ℕ) → IsSoleMessage m bytes → (packet : PacketFields) (spans : List Span) → Spells packet spans bytes → ReadsBackTc tc packet

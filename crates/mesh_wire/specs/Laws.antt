@@ -61,7 +61,7 @@ ReadsAsHelloOrNot = (message : MessageFields) → HasOctets message → ReadsOrB
 abbrev pub ReadsAsTcOrNot : Type 0
 ReadsAsTcOrNot = (message : MessageFields) → HasOctets message → ReadsOrBreaks (TcIs message) (BreaksTc message)
 
--- a TC that is written tells, after any number of hops, the validity that the value has at that distance
+-- a TC that may be sent tells, after any number of hops and however it is spelled, the validity that the value has at that distance
 abbrev pub TellsAtEachDistance : Type 0
 TellsAtEachDistance =
     (tc : Tc) (hop_limit : ℕ) (validity bytes : List ℕ) → (written : WritesTc tc hop_limit validity bytes) → IsTimeValue validity → (hops : ℕ) →

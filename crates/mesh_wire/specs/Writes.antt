@@ -1,15 +1,17 @@
--- What is written for a HELLO and for a TC.
-use Rattle.std.specs.Prelude.{◌≡◌, ℕ, ◌≤◌, ◌⊎◌, List, [], ◌∷◌, Contains, Option, Some, None, true}
+-- What may be sent for a HELLO and for a TC, and what is written for them.
+use Rattle.std.specs.Prelude.{◌≡◌, ℕ, ◌<◌, ◌≤◌, ◌⊎◌, List, [], ◌∷◌, length, slice_index, Contains, Option, Some, None, true}
 use Rattle.mesh_atoms.specs.declared.addr.NetAddr.{NetAddr}
 use Rattle.mesh_atoms.specs.declared.hello.Hello.{Hello}
 use Rattle.mesh_atoms.specs.declared.tc.Tc.{Tc}
 use Rattle.mesh_atoms.specs.Codes.Codes.{time_value}
 use Rattle.mesh_atoms.specs.Reading.{has}
+use Rattle.mesh_addr.specs.Grammar.{SpellsBlock}
 use Rattle.mesh_packet.specs.declared.packet.Span.{Span}
-use Rattle.mesh_packet.specs.Fields.{MessageFields, PacketFields}
-use Rattle.mesh_packet.specs.Grammar.{Spells}
+use Rattle.mesh_packet.specs.Fields.{BlockFields, MessageFields, PacketFields}
+use Rattle.mesh_packet.specs.Grammar.{Spells, SpellsMessage, SpellsPair, width_of}
 use Rattle.mesh_packet.specs.Least.{LeastForm}
 use Rattle.mesh_tlv.specs.Fields.{TlvFields}
+use Rattle.mesh_tlv.specs.Items.{SpellsItems}
 use Rattle.mesh_wire.specs.Hello.{HelloIs}
 use Rattle.mesh_wire.specs.HelloRules.{BreaksHello}
 use Rattle.mesh_wire.specs.Kinds.{interval_time, validity_time, mpr_willing, cont_seq_num, local_if, link_status, other_neighb, link_metric, mpr, nbr_addr_type, gateway}
@@ -20,25 +22,29 @@ use Rattle.mesh_wire.specs.Rules.{IsOctet, Keeps}
 use Rattle.mesh_wire.specs.Tc.{TcIs}
 use Rattle.mesh_wire.specs.TcRules.{BreaksTc}
 
--- ---- what is written
+-- ---- a message alone
 
--- a packet of that message alone
+-- a packet of that message alone, with no sequence number and no TLVs of its own (RFC 5444, section 5.1)
 abbrev pub alone : MessageFields → PacketFields
 alone message = record { sequence = None; tlvs = []; messages = message ∷ [] }
 
--- the octets spell that message alone, in the least form: each address block in the fewest octets
+-- an address block in the fewest octets, and its TLV block in any way
+pub record SpellsBriefly (width : ℕ) (block : BlockFields) (bytes : List ℕ) : Type 0 where
+  pub pair : SpellsPair width block bytes
+  pub fewest : (other : List ℕ) → SpellsBlock width block.addrs other → length pair.addrs ≤ length other
+
+-- so is each address block of the message
+abbrev pub HasBriefBlocks : {message : MessageFields} {bytes : List ℕ} → SpellsMessage message bytes → Type 0
+HasBriefBlocks {message} spelled = SpellsItems (SpellsBriefly (width_of spelled.flags)) message.blocks spelled.body_is.blocks
+
+-- The octets spell a packet of that message alone, each address block in the fewest octets. All else of the spelling is free.
 pub record IsSoleMessage (message : MessageFields) (bytes : List ℕ) : Type 0 where
-  pub spans : List Span
-  pub spelled : Spells (alone message) spans bytes
-  pub least : LeastForm (alone message) bytes
+  pub octets : (i : ℕ) → slice_index bytes i < 256
+  pub span : Span
+  pub spelled : Spells (alone message) (span ∷ []) bytes
+  pub brief : HasBriefBlocks spelled.messages_is.2
 
--- the message has one TLV of that type, which is no more than the code of that time: it tells the time at every distance
-abbrev pub HasCode : MessageFields → ℕ → ℕ → Type 0
-HasCode message kind ticks = (code : ℕ) × (values_of kind message ≡ (code ∷ []) ∷ []) × (time_value code ≡ ticks)
-
--- such a TLV of the interval, where there is one
-abbrev pub HasInterval : MessageFields → Option ℕ → Type 0
-HasInterval message interval = (ticks : ℕ) → interval ≡ Some ticks → HasCode message interval_time ticks
+-- ---- what may be sent
 
 -- a reading of a HELLO looks at the message TLV
 pub record IsReadOfHello (tlv : TlvFields) : Type 0 where
@@ -70,8 +76,6 @@ pub record WritesHello (hello : Hello) (bytes : List ℕ) : Type 0 where
   pub count : message.count ≡ None
   pub sequence : message.sequence ≡ None
   pub reads : HelloIs message hello
-  pub validity_is : HasCode message validity_time hello.validity
-  pub interval_is : HasInterval message hello.interval
   pub keeps : Keeps (BreaksHello message)
   pub tlvs : (tlv : TlvFields) → Contains message.tlvs tlv → IsReadOfHello tlv
   pub parts : (net : NetAddr) (part : TlvFields) → HasPart message net part → IsReadOfHelloAddress message net part
@@ -96,10 +100,32 @@ pub record WritesTc (tc : Tc) (hop_limit : ℕ) (validity : List ℕ) (bytes : L
   pub count : message.count ≡ Some 0
   pub reads : TcIs message tc
   pub validity_is : values_of validity_time message ≡ validity ∷ []
-  pub interval_is : HasInterval message tc.interval
   pub keeps : Keeps (BreaksTc message)
   pub tlvs : (tlv : TlvFields) → Contains message.tlvs tlv → IsReadOfTc tlv
   pub parts : (net : NetAddr) (part : TlvFields) → HasPart message net part → IsReadOfTcAddress part
+
+-- ---- what this project's writers write: of all that may be sent, the least form
+
+-- the message has one TLV of that type, which is no more than the code of that time: it tells the time at every distance
+abbrev pub HasCode : MessageFields → ℕ → ℕ → Type 0
+HasCode message kind ticks = (code : ℕ) × (values_of kind message ≡ (code ∷ []) ∷ []) × (time_value code ≡ ticks)
+
+-- such a TLV of the interval, where there is one
+abbrev pub HasInterval : MessageFields → Option ℕ → Type 0
+HasInterval message interval = (ticks : ℕ) → interval ≡ Some ticks → HasCode message interval_time ticks
+
+-- the octets may be sent for the HELLO, and are the least form of their packet; each time is one code
+pub record WritesLeastHello (hello : Hello) (bytes : List ℕ) : Type 0 where
+  pub writes : WritesHello hello bytes
+  pub least : LeastForm (alone writes.message) bytes
+  pub validity_is : HasCode writes.message validity_time hello.validity
+  pub interval_is : HasInterval writes.message hello.interval
+
+-- the octets may be sent for the TC, and are the least form of their packet; the interval is one code
+pub record WritesLeastTc (tc : Tc) (hop_limit : ℕ) (validity : List ℕ) (bytes : List ℕ) : Type 0 where
+  pub writes : WritesTc tc hop_limit validity bytes
+  pub least : LeastForm (alone writes.message) bytes
+  pub interval_is : HasInterval writes.message tc.interval
 
 -- ---- what is read of it
 

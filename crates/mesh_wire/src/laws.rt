@@ -24,8 +24,8 @@ pub fn each_is_read_or_refused()
     ensures tc { ReadsAsTcOrNot }
 {}
 
-/// A TC that is written, with a value of VALIDITY_TIME whose codes are from 1 to 254, tells after any number of hops the time that
-/// the value has at that distance, and breaks no rule there (RFC 5497, section 6).
+/// A TC that may be sent, with a value of VALIDITY_TIME whose codes are from 1 to 254, tells after any number of hops the time that
+/// the value has at that distance, and breaks no rule there, however it is spelled (RFC 5497, section 6).
 pub fn written_for_each_distance()
     ensures tells { TellsAtEachDistance }
     ensures keeps { KeepsAtEachDistance }

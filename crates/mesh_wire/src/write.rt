@@ -1,5 +1,5 @@
 //! Writing HELLO and TC messages, each as a packet of its own.
-ghost use Rattle.std.specs.Prelude.{◌≡◌, ◌≤◌, ◌++◌, [], ℕ, length, map, List, IfOk, OnOk};
+ghost use Rattle.std.specs.Prelude.{◌≡◌, ◌<◌, ◌≤◌, ◌++◌, [], ℕ, length, map, slice_index, List, IfOk, OnOk};
 ghost use Rattle.std.specs.Option.{option_map};
 ghost use Rattle.mesh_tlv.specs.Fields.{fields};
 ghost use Rattle.mesh_atoms.specs.Codes.Codes.{time_at_distance};
@@ -11,7 +11,7 @@ ghost use Rattle.mesh_packet.specs.Grammar.{Spells};
 ghost use Rattle.mesh_packet.specs.Least.{IsEncodable, IsEncodableMessage, LeastForm};
 ghost use Rattle.mesh_wire.specs.Drafts.{IsCodeOf, IsCodeIfSome, octet_of, whole, HasHelloValues, HasTcValues, saying, heading_of, DraftsHello, DraftsTc, FitsAlone};
 ghost use Rattle.mesh_wire.specs.Lines.{columns, columns_text, hello_line, tc_line};
-ghost use Rattle.mesh_wire.specs.Writes.{IsSoleMessage, WritesHello, WritesTc, ReadsBackHello, ReadsBackTc};
+ghost use Rattle.mesh_wire.specs.Writes.{IsSoleMessage, WritesHello, WritesTc, WritesLeastHello, WritesLeastTc, alone, ReadsBackHello, ReadsBackTc};
 
 use crate::lay::lay;
 use crate::lines::{Line, hello_lines, tc_lines};
@@ -121,8 +121,7 @@ fn heading_of<'a>(
 fn encoded(alloc: Global, packet: &Packet) -> Result<Bytes, AllocError>
     requires encodable { IsEncodable (fields_of_packet packet.now) }
     requires fits { (bytes : List ℕ) → LeastForm (fields_of_packet packet.now) bytes → length bytes ≤ 65507 }
-    ensures least { IfOk result (LeastForm (fields_of_packet packet.now)) }
-    ensures spelled { IfOk result (λ bytes. (spans : List Span) × Spells (fields_of_packet packet.now) spans bytes) }
+    ensures { IfOk result (LeastForm (fields_of_packet packet.now)) }
 {
     match encode(alloc, packet) {
         Ok(bytes) => Ok(bytes),
@@ -131,11 +130,16 @@ fn encoded(alloc: Global, packet: &Packet) -> Result<Bytes, AllocError>
     }
 }
 
+// Octets are below 256.
+fn are_octets(bytes: &[u8])
+    ensures { (i : ℕ) → slice_index bytes.now i < 256 }
+{}
+
 // The packet of one message.
 fn alone(alloc: Global, message: Message) -> Result<Bytes, AllocError>
     requires encodable { IsEncodableMessage (fields_of_message message) }
     requires fits { FitsAlone (fields_of_message message) }
-    ensures { IfOk result (λ bytes. IsSoleMessage (fields_of_message message.entry) bytes) }
+    ensures { IfOk result (λ bytes. IsSoleMessage (fields_of_message message.entry) bytes × LeastForm (alone (fields_of_message message.entry)) bytes) }
 {
     let mut messages = Seq::new(alloc);
     messages.push(message)?;
@@ -144,7 +148,9 @@ fn alone(alloc: Global, message: Message) -> Result<Bytes, AllocError>
         tlvs: Seq::new(alloc),
         messages,
     };
-    encoded(alloc, &packet)
+    let bytes = encoded(alloc, &packet)?;
+    are_octets(bytes.as_slice());
+    Ok(bytes)
 }
 
 // Octets, and the values of all columns behind them.
@@ -261,8 +267,9 @@ pub fn write_hello(alloc: Global, hello: &Hello) -> Result<Bytes, AllocError>
     requires interval { IsSentIfSome hello.now.interval }
     requires sender { HaveSenderAlone hello.now.rows }
     requires whole { HaveStatusWhole hello.now.rows }
-    // What is written.
+    // What is written may be sent for it, and is the least form.
     ensures writes { IfOk result (WritesHello hello.now) }
+    ensures least { IfOk result (WritesLeastHello hello.now) }
     // Whatever it is read as is that HELLO.
     ensures back { IfOk result (λ bytes. (packet : PacketFields) (spans : List Span) → Spells packet spans bytes → ReadsBackHello hello.now packet) }
 {
@@ -284,8 +291,9 @@ pub fn write_tc(alloc: Global, tc: &Tc, hop_limit: u8, validity: &[u8]) -> Resul
     requires interval { IsSentIfSome tc.now.interval }
     requires kinds { AreOneType tc.now.rows }
     requires whole { HaveTypeWhole tc.now.rows }
-    // What is written.
+    // What is written may be sent for it, and is the least form.
     ensures writes { IfOk result (WritesTc tc.now hop_limit validity.now) }
+    ensures least { IfOk result (WritesLeastTc tc.now hop_limit validity.now) }
     // Whatever it is read as is that TC.
     ensures back { IfOk result (λ bytes. (packet : PacketFields) (spans : List Span) → Spells packet spans bytes → ReadsBackTc tc.now packet) }
 {

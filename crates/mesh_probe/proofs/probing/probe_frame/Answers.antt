@@ -7,7 +7,7 @@ use Rattle.mesh_atoms.specs.Validity.{IsLeastCode, Everywhere}
 use Rattle.mesh_atoms.specs.Writable.{AreOneType, HaveTypeWhole}
 use Rattle.mesh_probe.proofs.Advertising.{sent_if_some, rows_one_type, rows_whole}
 use Rattle.mesh_machine.proofs.nhdp.TcCounts.{tc_rows_few}
-use Rattle.mesh_wire.specs.Writes.{WritesTc}
+use Rattle.mesh_wire.specs.Writes.{WritesLeastTc}
 use Rattle.mesh_probe.proofs.OneTime.{least_is_rounded}
 use Rattle.mesh_probe.proofs.probing.probe_frame.Goals as goal
 
@@ -45,6 +45,6 @@ returns g c = record {
   tc_is = c.in_ok-tc.ensures;
   code = c.hold_code.result;
   is_code = subst (λ (r : RouterSettings). IsLeastCode r.times.topology_hold c.hold_code.result) c.settings.ensures c.hold_code.ensures;
-  writes = subst (λ (limit : ℕ). WritesTc c.in_ok-tc.tc limit (c.hold_code.result ∷ []) c.in_ok-bytes.bytes) c.hop_limit_of.ensures.value c.in_ok-bytes.ensures.writes;
+  writes = subst (λ (limit : ℕ). WritesLeastTc c.in_ok-tc.tc limit (c.hold_code.result ∷ []) c.in_ok-bytes.bytes) c.hop_limit_of.ensures.value c.in_ok-bytes.ensures.least;
   octet = subst (λ (limit : ℕ). limit < 256) c.hop_limit_of.ensures.value c.hop_limit_of.ensures.octet;
 }

@@ -1,7 +1,9 @@
 use Rattle.mesh_addr.proofs.Writable.{if_ok}
+use Rattle.std.proofs.Common.{List, ℕ}
 use Rattle.mesh_packet.specs.Fields.{fields_of_message}
-use Rattle.mesh_wire.specs.Writes.{IsSoleMessage, WritesHello}
-use Rattle.mesh_wire.proofs.HelloWritten.{fits, encodable, written, back}
+use Rattle.mesh_packet.specs.Least.{LeastForm}
+use Rattle.mesh_wire.specs.Writes.{IsSoleMessage, WritesHello, WritesLeastHello, alone}
+use Rattle.mesh_wire.proofs.HelloWritten.{fits, encodable, written, written_least, back}
 use Rattle.mesh_wire.proofs.write.write_hello.Goals as goal
 
 pub alone-requires-clause-encodable : goal.alone-requires-clause-encodable
@@ -14,10 +16,16 @@ pub returns-clause-writes : goal.returns-clause-writes
 returns-clause-writes c =
     let (values, has, h) = c.in_ok-message.ensures in
     let m = fields_of_message c.in_ok-message.message in
-    if_ok c.alone.result (IsSoleMessage m) (WritesHello c.args.hello.now) (written c.args.hello.now values m h has c.args.hello.now.ascending c.requires.sender c.requires.whole) c.alone.ensures
+    if_ok c.alone.result (λ (bytes : List ℕ). IsSoleMessage m bytes × LeastForm (alone m) bytes) (WritesHello c.args.hello.now) (λ bytes is. written c.args.hello.now values m h has c.args.hello.now.ascending c.requires.sender c.requires.whole bytes is.0) c.alone.ensures
+
+pub returns-clause-least : goal.returns-clause-least
+returns-clause-least c =
+    let (values, has, h) = c.in_ok-message.ensures in
+    let m = fields_of_message c.in_ok-message.message in
+    if_ok c.alone.result (λ (bytes : List ℕ). IsSoleMessage m bytes × LeastForm (alone m) bytes) (WritesLeastHello c.args.hello.now) (λ bytes is. written_least c.args.hello.now values m h has c.args.hello.now.ascending c.requires.sender c.requires.whole bytes is.0 is.1) c.alone.ensures
 
 pub returns-clause-back : goal.returns-clause-back
 returns-clause-back c =
     let (values, has, h) = c.in_ok-message.ensures in
     let m = fields_of_message c.in_ok-message.message in
-    if_ok c.alone.result (IsSoleMessage m) _ (back c.args.hello.now values m h has c.args.hello.now.ascending c.requires.sender c.requires.whole) c.alone.ensures
+    if_ok c.alone.result (λ (bytes : List ℕ). IsSoleMessage m bytes × LeastForm (alone m) bytes) _ (λ bytes is. back c.args.hello.now values m h has c.args.hello.now.ascending c.requires.sender c.requires.whole bytes is.0) c.alone.ensures

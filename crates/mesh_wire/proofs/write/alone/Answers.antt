@@ -1,0 +1,13 @@
+use Rattle.std.proofs.Common.{ℕ, List, ◌<◌, subst, rules}
+use Rattle.std.specs.Prelude.{slice_index}
+use Rattle.mesh_packet.specs.Fields.{fields_of_message}
+use Rattle.mesh_packet.specs.Least.{LeastForm}
+use Rattle.mesh_wire.specs.Writes.{alone}
+use Rattle.mesh_wire.proofs.LeastAlone.{sole_message}
+use Rattle.mesh_wire.proofs.write.alone.Goals as goal
+
+pub returns : goal.returns
+returns c =
+    let octets : (i : ℕ) → slice_index c.in_ok-bytes.bytes i < 256 = subst (λ (bytes : List ℕ). (i : ℕ) → slice_index bytes i < 256) c.as_slice.ensures c.are_octets.ensures in
+    let least : LeastForm (alone (fields_of_message c.args.message)) c.in_ok-bytes.bytes = search rules in
+    (sole_message (fields_of_message c.args.message) c.in_ok-bytes.bytes octets c.requires.encodable least, least)
