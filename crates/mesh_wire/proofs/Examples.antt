@@ -9,7 +9,7 @@ use Rattle.mesh_addr.specs.declared.records.RawAddr.{RawAddr}
 use Rattle.mesh_tlv.specs.Fields.{TlvFields, AddrTlvFields}
 use Rattle.mesh_packet.specs.Fields.{BlockFields, MessageFields}
 use Rattle.mesh_wire.specs.Parts.{IsIn, part_at, octets_of}
-use Rattle.mesh_wire.specs.Rows.{HoldsAddressAt, HoldsAddress, HasValue}
+use Rattle.mesh_wire.specs.Rows.{HoldsAddressAt, HoldsAddress, HasPart, HasValue}
 use Rattle.mesh_wire.specs.HelloRules.{BreaksHello, AddressWidth, HopLimit, HopCount, NoValidity, WrongInterval, WrongWilling, Undefined, TwoValues, ShortPrefix, WrongMetric}
 use Rattle.mesh_wire.specs.Rules.{FirstBroken, IsOctet, Keeps}
 use Rattle.mesh_wire.specs.Examples.{own, own_net, local, own_block, lone, own_row, lone_hello, bare, near, near_net, states, two_near}
@@ -70,12 +70,15 @@ lone_is = record {
 }
 
 -- it says LOCAL_IF of its address, and nothing else
-says_only : (net : NetAddr) (kind : ℕ) (octets : List ℕ) → HasValue lone net kind octets → (kind ≡ 2) × (octets ≡ 0 ∷ []) × (own_net ≡ net)
-says_only net kind octets (value, h, is) =
+pub part_only : (net : NetAddr) (part : TlvFields) → HasPart lone net part → part ≡ record { kind = 2; ext = 0; value = Some (0 ∷ []) }
+part_only net part h =
     let block : own_block ≡ h.block = only own_block h.block h.address.in_message in
     let in_block : Contains own_block.tlvs h.tlv = subst (λ (b : BlockFields). Contains b.tlvs h.tlv) (sym block) h.in_block in
-    let tlv : local ≡ h.tlv = only local h.tlv in_block in
-    let part : record { kind = kind; ext = 0; value = value } ≡ part_at local h.place = h.part_is ∙ ap (λ (t : AddrTlvFields). part_at t h.place) (sym tlv) in
+    h.part_is ∙ ap (λ (t : AddrTlvFields). part_at t h.place) (sym (only local h.tlv in_block))
+
+says_only : (net : NetAddr) (kind : ℕ) (octets : List ℕ) → HasValue lone net kind octets → (kind ≡ 2) × (octets ≡ 0 ∷ []) × (own_net ≡ net)
+says_only net kind octets (value, h, is) =
+    let part = part_only net (record { kind = kind; ext = 0; value = value }) h in
     (ap (λ (p : TlvFields). p.kind) part, is ∙ ap (λ (p : TlvFields). octets_of p.value) part, only_own net (h.block, h.place, h.address))
 
 no_metric : (net : NetAddr) (octets : List ℕ) → HasValue lone net link_metric octets → ⊥

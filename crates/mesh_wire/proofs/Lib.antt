@@ -2,6 +2,7 @@ pub use Rattle.mesh_packet.proofs as packet
 pub use Rattle.mesh_tlv.proofs as tlv
 pub mod Addresses
 pub mod Ascending
+pub mod Behind
 pub mod Collected
 pub mod Collecting
 pub mod Deciding
@@ -38,6 +39,7 @@ pub mod RunLaws
 pub mod Same
 pub mod Single
 pub mod Slots
+pub mod Spellings
 pub mod Standing
 pub mod TcHeading
 pub mod TcRead

@@ -7,7 +7,9 @@ ghost use Rattle.mesh_wire.specs.HelloRules.{BreaksHello};
 ghost use Rattle.mesh_wire.specs.Kinds.{link_status};
 ghost use Rattle.mesh_wire.specs.Rows.{HasValue};
 ghost use Rattle.mesh_wire.specs.Rules.{Keeps, FirstBroken};
+ghost use Rattle.mesh_wire.specs.Spellings.{wordy, too_wordy, IsForNone, IsSentForNone, unknown_tlv, with_near, status_of_sender};
 ghost use Rattle.mesh_wire.specs.TcRules.{BreaksTc};
+ghost use Rattle.mesh_wire.specs.Writes.{WritesHello};
 
 /// A message that breaks no rule of a HELLO or a TC reads as one at most; of broken rules one is the first, at one address.
 pub fn one_reading()
@@ -39,4 +41,19 @@ pub fn worked_readings()
     ensures bare { FirstBroken (BreaksHello bare) 23 None }
     ensures multivalue { HasValue two_near near_net link_status (2 ∷ []) }
     ensures least { FirstBroken (BreaksTc odd_types) 37 (Some own_net) }
+{}
+
+/// A HELLO may be sent with reserved flags, an empty block of packet TLVs, a length of 16 bits, an extension that is 0, and indexes of the
+/// only address; but not with an address block of one octet more than the fewest. A message may not be sent that has a TLV which a
+/// reading of a HELLO passes over, of the message or of an address, an MPR or a LINK_METRIC of no known meaning, a LINK_STATUS of the
+/// sender's address or one that breaks a rule. It does nothing.
+pub fn worked_spellings()
+    ensures wordy { WritesHello lone_hello wordy }
+    ensures too_wordy { IsForNone too_wordy }
+    ensures unknown_tlv { IsSentForNone unknown_tlv }
+    ensures unknown_part { IsSentForNone (with_near 200 []) }
+    ensures unknown_relay { IsSentForNone (with_near 8 (4 ∷ [])) }
+    ensures unknown_metric { IsSentForNone (with_near 7 (0 ∷ (100 ∷ []))) }
+    ensures unknown_status { IsSentForNone (with_near 3 (7 ∷ [])) }
+    ensures status_of_sender { IsSentForNone status_of_sender }
 {}

@@ -19,6 +19,9 @@ mod write;
 pub use fault::WireFault;
 pub use hello::{hello_of, originator_of};
 pub use hop::rehop;
-pub use laws::{each_is_read_or_refused, one_reading, worked_readings, written_for_each_distance};
+pub use laws::{
+    each_is_read_or_refused, one_reading, worked_readings, worked_spellings,
+    written_for_each_distance,
+};
 pub use tc::tc_of;
 pub use write::{write_hello, write_tc};
