@@ -1,12 +1,14 @@
-pub mod Calls
-pub mod Choosing
-pub mod Fewest
-pub mod Limits
-pub mod Loops
-pub mod OneLeast
-pub mod Outcomes
-pub mod Padding
-pub mod ReadAgain
-pub mod Refusing
-pub mod Taking
-pub mod Writable
+-- Lemmas for crates above, each file with the crates that cite it.
+pub mod Fewest  -- packet
+pub mod OneLeast  -- packet
+pub mod ReadAgain  -- packet
+pub mod Refusing  -- packet
+pub mod Taking  -- packet
+pub mod Writable  -- packet, wire
+-- Lemmas of this crate alone.
+mod Calls
+mod Choosing
+mod Limits
+mod Loops
+mod Outcomes
+mod Padding

@@ -1,13 +1,15 @@
-pub mod Apart
-pub mod Builds
+-- Lemmas for crates above, each file with the crates that cite it.
+pub mod Builds  -- emulate
+pub mod Sounds  -- emulate
+-- Lemmas of this crate alone.
+mod Apart
 mod ChecksLemmas
-pub mod JoinFacts
+mod JoinFacts
 mod KeysLemmas
-pub mod Qualities
-pub mod RunLaws
+mod Qualities
+mod RunLaws
 mod RunTablesLemmas
-pub mod Said
-pub mod Sounds
+mod Said
 mod StatedLemmas
-pub mod Told
-pub mod ToldRun
+mod Told
+mod ToldRun

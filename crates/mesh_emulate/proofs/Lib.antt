@@ -1,3 +1,6 @@
+-- Lemmas for crates above, each file with the crates that cite it.
+pub mod Refusals  -- tool
+-- Lemmas of this crate alone.
 mod Emulations
 mod Ends
 mod Leaving
@@ -8,7 +11,6 @@ mod PlainLines
 mod Preparing
 mod ProbeLines
 mod Probing
-pub mod Refusals
 mod ToldProbes
 mod ToldRoutes
 mod TraceFacts

@@ -1,3 +1,5 @@
+-- Lemmas for crates above, each file with the crates that cite it.
+pub mod Room  -- machine
+pub mod Soundness  -- machine
+-- Lemmas of this crate alone.
 mod Choices
-pub mod Room
-pub mod Soundness

@@ -1,7 +1,8 @@
-pub mod Collect
-pub mod Fits
-pub mod Lookups
-pub mod Places
-pub mod SayingLemmas
-pub mod Sorted
-pub mod ToldLemmas
+-- Lemmas for crates above, each file with the crates that cite it.
+pub mod Collect  -- core, machine, nhdp
+pub mod Fits  -- nhdp
+pub mod Lookups  -- machine, nhdp
+pub mod Places  -- nhdp
+pub mod SayingLemmas  -- nhdp
+pub mod Sorted  -- nhdp
+pub mod ToldLemmas  -- nhdp

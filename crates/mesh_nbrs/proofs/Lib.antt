@@ -1,9 +1,11 @@
-pub mod ByAddress
-pub mod Ended
-pub mod Listed
+-- Lemmas for crates above, each file with the crates that cite it.
+pub mod Summaries  -- hello
+-- Lemmas of this crate alone.
+mod ByAddress
+mod Ended
+mod Listed
 mod Owning
-pub mod Sets
+mod Sets
 mod Spoken
-pub mod Summaries
 mod TwoHopsLemmas
-pub mod Walks
+mod Walks

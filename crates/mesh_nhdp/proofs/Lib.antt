@@ -1,27 +1,29 @@
-pub mod Admitted
+-- Lemmas for crates above, each file with the crates that cite it.
+pub mod Empty  -- machine
+pub mod HelloSound  -- machine
+pub mod Limits  -- machine
+pub mod LiveSound  -- machine
+pub mod TcCounts  -- core, probe
+-- Lemmas of this crate alone.
+mod Admitted
 mod AllHears
 mod AllNotes
+mod Bases
 mod BesideWalk
-pub mod Empty
+mod Composes
+mod Ends
 mod Expiry
 mod Hears
 mod Held
 mod HeldAddresses
+mod InterfaceTables
+mod Judges
 mod LinkKeys
 mod Receipt
 mod RowWalks
 mod Spoken
 mod SymmetricAddresses
 mod Touched
+mod TwoHops
 mod Unchanged
-pub mod Bases
-pub mod Composes
-pub mod Ends
-pub mod HelloSound
-pub mod Limits
-pub mod LiveSound
-pub mod TwoHops
-pub mod Whole
-mod InterfaceTables
-mod Judges
-pub mod TcCounts
+mod Whole

@@ -1,24 +1,26 @@
-pub mod Admitted
-pub mod Found
-pub mod FrontierLaw
-pub mod Index
+-- Lemmas for crates above, each file with the crates that cite it.
+pub mod Admitted  -- probe, settled
+pub mod LinksStay  -- probe
+pub mod Order  -- data, laws, routes
+pub mod Rows  -- data, probe, routes
+pub mod Scenarios  -- data, emulate, laws, probe, settled, texts
+pub mod SearchLaw  -- data, probe, routes
+pub mod Sets  -- routes
+pub mod SettledDecisions  -- laws, probe, settled
+pub mod SettledLaw  -- emulate, settled
+pub mod SettledNeighbours  -- data, probe, settled
+pub mod ShortLists  -- data, laws, probe
+pub mod TreeLaw  -- routes
+-- Lemmas of this crate alone.
+mod Found
+mod FrontierLaw
+mod Index
 mod JoinedParts
-pub mod LinksStay
-pub mod Order
-pub mod RadioLaw
-pub mod RoundsLaw
-pub mod Rows
-pub mod Scenarios
-pub mod SearchLaw
-pub mod Sets
+mod RadioLaw
+mod RoundsLaw
 mod SettledArcs
-pub mod SettledDecisions
 mod SettledHops
-pub mod SettledLaw
 mod SettledLeast
-pub mod SettledNeighbours
 mod SettledRelays
 mod SettledWalks
-pub mod ShortLists
-pub mod TreeLaw
-pub mod Unique
+mod Unique

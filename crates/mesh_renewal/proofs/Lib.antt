@@ -1,11 +1,13 @@
+-- Lemmas for crates above, each file with the crates that cite it.
+pub mod Pushed  -- core
+-- Lemmas of this crate alone.
 mod Chosen
 mod Deciding
+mod Kept
 mod Lists
 mod Moments
 mod Nothing
-pub mod Pushed
 mod RouteMoments
 mod RowMoments
 mod Selectors
 mod StayingLaw
-mod Kept

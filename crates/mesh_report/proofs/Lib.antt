@@ -1,10 +1,12 @@
+-- Lemmas for crates above, each file with the crates that cite it.
+pub mod Joined  -- dump
+pub mod OneListing  -- dump
+pub mod Tables  -- dump
+pub mod Vectors  -- dump
+-- Lemmas of this crate alone.
 mod Decimals
 mod Digits
-pub mod Joined
-mod Messages
-pub mod OneListing
 mod LaidHex
+mod Messages
 mod Readings
-pub mod Tables
 mod Turns
-pub mod Vectors

@@ -1,3 +1,3 @@
-pub mod Endings
-pub mod Moments
+mod Endings
+mod Moments
 mod TurnsLemmas

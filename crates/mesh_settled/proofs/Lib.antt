@@ -1,4 +1,7 @@
+-- Lemmas of crates below, for the crates above.
 pub use Rattle.mesh_paths.proofs as paths
-pub mod GapsLemmas
+-- Lemmas for crates above, each file with the crates that cite it.
+pub mod GapsLemmas  -- emulate
+-- Lemmas of this crate alone.
 mod KindLemmas
 mod RouteLaw

@@ -1,12 +1,14 @@
-pub mod Cuts
-pub mod Gaps
+-- Lemmas for crates above, each file with the crates that cite it.
+pub mod Cuts  -- emulate
+pub mod Gaps  -- emulate
+pub mod LineTexts  -- emulate
+pub mod Marked  -- emulate
+pub mod ReadBack  -- emulate
+pub mod RunStates  -- emulate
+pub mod TraceSteps  -- emulate
+-- Lemmas of this crate alone.
 mod LineLists
-pub mod LineTexts
-pub mod Marked
-pub mod ReadBack
 mod RouteLines
-pub mod RunStates
 mod Sections
 mod States
-pub mod TraceSteps
 mod WholeTexts

@@ -1,5 +1,7 @@
-pub mod AdvertisedLemmas
+-- Lemmas for crates above, each file with the crates that cite it.
+pub mod AdvertisedLemmas  -- renewal
+pub mod Soundness  -- machine
+pub mod TcSetsLemmas  -- core
+-- Lemmas of this crate alone.
 mod Full
 mod RowKinds
-pub mod Soundness
-pub mod TcSetsLemmas

@@ -1,51 +1,54 @@
+-- Lemmas of crates below, for the crates above.
 pub use Rattle.mesh_packet.proofs as packet
 pub use Rattle.mesh_tlv.proofs as tlv
-pub mod Addresses
-pub mod Ascending
-pub mod Behind
-pub mod Collected
-pub mod Collecting
-pub mod Deciding
-pub mod EachDistance
-pub mod EachHello
-pub mod EachTc
-pub mod Entries
-pub mod Examples
-pub mod ExamplesTc
-pub mod Fits
-pub mod Further
-pub mod Gathered
-pub mod Gathering
-pub mod Headings
-pub mod HelloHeading
-pub mod HelloRead
-pub mod HelloRows
-pub mod HelloRuled
-pub mod HelloWritten
-pub mod Hops
-pub mod InOrder
-pub mod Kept
-pub mod Laid
-pub mod LeastAlone
-pub mod LinesSay
-pub mod Made
-pub mod OneHello
-pub mod OneTc
-pub mod Ranks
-pub mod RowLines
-pub mod RowsSay
-pub mod Ruled
-pub mod RunLaws
-pub mod Same
-pub mod Single
-pub mod Slots
-pub mod Spellings
-pub mod Standing
-pub mod TcHeading
-pub mod TcRead
-pub mod TcRows
-pub mod TcRuled
-pub mod TcWritten
-pub mod Texts
-pub mod Values
-pub mod TcWhole
+-- Lemmas for crates above, each file with the crates that cite it.
+pub mod EachDistance  -- probe
+pub mod HelloRuled  -- probe
+pub mod Hops  -- machine, probe
+pub mod Laid  -- machine
+pub mod OneHello  -- report
+pub mod OneTc  -- report
+pub mod Single  -- report
+pub mod Slots  -- probe
+pub mod Standing  -- probe
+-- Lemmas of this crate alone.
+mod Addresses
+mod Ascending
+mod Behind
+mod Collected
+mod Collecting
+mod Deciding
+mod EachHello
+mod EachTc
+mod Entries
+mod Examples
+mod ExamplesTc
+mod Fits
+mod Further
+mod Gathered
+mod Gathering
+mod Headings
+mod HelloHeading
+mod HelloRead
+mod HelloRows
+mod HelloWritten
+mod InOrder
+mod Kept
+mod LeastAlone
+mod LinesSay
+mod Made
+mod Ranks
+mod RowLines
+mod RowsSay
+mod Ruled
+mod RunLaws
+mod Same
+mod Spellings
+mod TcHeading
+mod TcRead
+mod TcRows
+mod TcRuled
+mod TcWhole
+mod TcWritten
+mod Texts
+mod Values
