@@ -2,11 +2,11 @@
 #![tactic(auto)]
 
 mod event;
-mod events;
 mod held;
 mod machine;
 mod router;
 mod sending;
+mod steps;
 mod views;
 
 pub use event::{hear_frame, tick};
