@@ -76,7 +76,8 @@ class Drawing:
             colours = {}
             for place, to in enumerate(self.rows):
                 self.row(MIDDLE + 45 + ROW * place, to, colours)
-        head = f'<svg xmlns="http://www.w3.org/2000/svg" width="{RIGHT + 30}" height="{self.height}" font-family="Helvetica, sans-serif" font-size="11">'
+        size = f'width="{RIGHT + 30}" height="{self.height}"'
+        head = f'<svg xmlns="http://www.w3.org/2000/svg" {size} font-family="Helvetica, sans-serif" font-size="11">'
         return "\n".join([head, '<rect width="100%" height="100%" fill="white"/>', *self.out, "</svg>"])
 
     def counts(self):

@@ -154,7 +154,8 @@ class Reader:
             item()
             self.blanks(lines=True)
             if not self.take(",") and self.next() != end:
-                raise self.fault(f"`,` or `{end}` is wanted before `{self.rest()}`" if self.rest() else f"`{end}` is missing", None if self.rest() else begun)
+                rest = self.rest()
+                raise self.fault(f"`,` or `{end}` is wanted before `{rest}`") if rest else self.fault(f"`{end}` is missing", begun)
 
     def scalar(self):
         word = re.compile(r"[^,\]}#\r\n]*").match(self.text, self.at)[0].rstrip(" \t")

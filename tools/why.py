@@ -59,7 +59,9 @@ class Many:
 
     def __init__(self, low, high, each):
         self.low, self.high, self.each = low, high, each
-        self.says = f"an array of {low} to {high}: {each.says}" if isinstance(each, Value) else f"{low} to {high} tables with a heading in two brackets"
+        self.says = f"{low} to {high} tables with a heading in two brackets"
+        if isinstance(each, Value):
+            self.says = f"an array of {low} to {high}: {each.says}"
 
     def refusals(self, key, place, table):
         items = place.value
