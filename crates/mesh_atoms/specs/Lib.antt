@@ -12,6 +12,7 @@ pub mod Literals
 pub mod Live
 pub mod NextHop
 pub mod Nodes
+pub mod Octets
 pub mod Quality
 pub mod Radio
 pub mod Reading

@@ -48,7 +48,9 @@ pub use hosts::host;
 pub use least::least_metric;
 pub use literals::{address_of, endpoint_of, name_of, net_of, number_of, place_of};
 pub use network::{Counts, Emission, NetEvent};
-pub use octets::{read_octet, read_short, refuse};
+pub use octets::{
+    address_in, octets_of_address, octets_of_short, read_octet, read_short, refuse, short_of,
+};
 pub use quality::quality_at;
 pub use refusal::{DecodeFault, Refusal};
 pub use same::same_rows;

@@ -1,8 +1,45 @@
-//! The first steps of reading a frame: one octet, and a number of 16 bits, or the fault of one that is cut off.
-ghost use Rattle.std.specs.Prelude.{◌≡◌, ◌≤◌, ◌<◌, ◌+◌, length, IfOk};
+//! Numbers of 16 bits and addresses as octets, the highest octet first, and the first steps of reading a frame: one octet, and a
+//! number of 16 bits, or the fault of one that is cut off.
+ghost use Rattle.std.specs.Prelude.{◌≡◌, ◌≤◌, ◌<◌, ◌+◌, ◌∷◌, [], length, IfOk};
+ghost use Rattle.mesh_atoms.specs.Octets.{short_in, short_octets, address_in, address_octets};
 ghost use Rattle.mesh_atoms.specs.Reading.{octet_at, short_at};
 
-use crate::Refusal;
+use crate::{Addr4, Refusal};
+use byteorder::{BigEndian, ByteOrder};
+
+/// The number of 16 bits that the first two octets are, the high one first.
+pub fn short_of(octets: &[u8]) -> u16
+    requires { 2 ≤ length octets.now }
+    ensures { result ≡ short_in octets.now }
+{
+    BigEndian::read_u16(octets)
+}
+
+/// The two octets of a number of 16 bits, the high one first.
+pub fn octets_of_short(number: u16) -> [u8; 2]
+    ensures { result ≡ short_octets number }
+{
+    let mut octets = [0; 2];
+    BigEndian::write_u16(&mut octets, number);
+    octets
+}
+
+/// The IPv4 address that the first four octets are.
+pub fn address_in(octets: &[u8]) -> Addr4
+    requires { 4 ≤ length octets.now }
+    ensures { result.0 ≡ address_in octets.now }
+{
+    Addr4(BigEndian::read_u32(octets))
+}
+
+/// The four octets of an IPv4 address.
+pub fn octets_of_address(address: Addr4) -> [u8; 4]
+    ensures { result ≡ address_octets address.0 }
+{
+    let mut octets = [0; 4];
+    BigEndian::write_u32(&mut octets, address.0);
+    octets
+}
 
 /// The refusal of the field at a place, by the number of the rule that it breaks.
 pub fn refuse(place: usize, reason: u8) -> Refusal
@@ -33,7 +70,7 @@ pub fn read_short(frame: &[u8], at: usize, end: usize, reason: u8) -> Result<(u1
     ensures after { IfOk result (λ x. (x.1 ≤ end) × (x.1 ≡ at + 2)) }
 {
     if end - at > 1 {
-        Ok((u16::from_be_bytes([frame[at], frame[at + 1]]), at + 2))
+        Ok((short_of(&frame[at..]), at + 2))
     } else {
         Err(refuse(at, reason))
     }

@@ -6,7 +6,7 @@ ghost use Rattle.mesh_tlv.specs.Least.{flag, octet_if, covers_all, is_single, is
 
 use crate::bits::{EXTENSION, MULTI_INDEX, MULTI_VALUE, SINGLE_INDEX, VALUE, WIDE_LENGTH};
 use crate::tlv::{AddrTlv, Tlv};
-use mesh_atoms::Bytes;
+use mesh_atoms::{Bytes, octets_of_short};
 use std::alloc::AllocError;
 
 /// The bit of a flag, where it is set.
@@ -104,8 +104,7 @@ pub fn put_short(n: u16, out: &mut Bytes) -> Result<(), AllocError>
     ensures ok { OnOk result (out.new ≡ out.old ++ least_short n) }
     ensures kept { Grows out.old out.new }
 {
-    put((n / 256) as u8, out)?;
-    put((n % 256) as u8, out)
+    put_all(&octets_of_short(n), out)
 }
 
 /// Puts a value's length.

@@ -6,6 +6,7 @@ use Rattle.std.proofs.lemmas.Bool.{cases_eq}
 use Rattle.mesh_atoms.specs.declared.addr.Addr4.{Addr4}
 use Rattle.mesh_atoms.specs.declared.hello.Hello.{Hello}
 use Rattle.mesh_atoms.specs.declared.hello.HelloRow.{HelloRow}
+use Rattle.mesh_atoms.specs.Octets.{address_in}
 use Rattle.mesh_addr.specs.declared.records.RawAddr.{RawAddr}
 use Rattle.mesh_packet.specs.Fields.{MessageFields}
 use Rattle.mesh_wire.specs.declared.collect.AddressParts.{AddressParts}
@@ -18,7 +19,6 @@ use Rattle.mesh_wire.specs.HelloRules.{BreaksHello, AddressWidth, HopLimit, HopC
 use Rattle.mesh_wire.specs.Laws.{HasOctets, ReadsOrBreaks}
 use Rattle.mesh_wire.specs.Made.{HasRows}
 use Rattle.mesh_wire.specs.Metrics.{Link_in, Link_out, Near_in, Near_out}
-use Rattle.mesh_wire.specs.Parts.{number_of}
 use Rattle.mesh_wire.specs.RowRules.{hello_rule}
 use Rattle.mesh_wire.specs.Rows.{HasValue}
 use Rattle.mesh_wire.specs.Rules.{Keeps}
@@ -70,7 +70,7 @@ row_by m octets t h None e =
 
 originator_of : (o : Option RawAddr) → (a : Option Addr4) × OriginatorIs o a
 originator_of None = (None, tt)
-originator_of (Some address) = (Some (record { 0 = number_of address.octets }), refl)
+originator_of (Some address) = (Some (record { 0 = address_in address.octets }), refl)
 
 -- ---- the rules in order
 

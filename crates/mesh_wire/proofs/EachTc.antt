@@ -6,6 +6,7 @@ use Rattle.std.proofs.lemmas.Bool.{cases_eq}
 use Rattle.mesh_atoms.specs.declared.addr.Addr4.{Addr4}
 use Rattle.mesh_atoms.specs.declared.tc.Tc.{Tc}
 use Rattle.mesh_atoms.specs.declared.tc.TcRow.{TcRow}
+use Rattle.mesh_atoms.specs.Octets.{address_in}
 use Rattle.mesh_addr.specs.declared.records.RawAddr.{RawAddr}
 use Rattle.mesh_packet.specs.Fields.{MessageFields}
 use Rattle.mesh_wire.specs.declared.collect.AddressParts.{AddressParts}
@@ -16,7 +17,6 @@ use Rattle.mesh_wire.specs.HelloRows.{number_from}
 use Rattle.mesh_wire.specs.Laws.{HasOctets, ReadsOrBreaks}
 use Rattle.mesh_wire.specs.Made.{HasRows}
 use Rattle.mesh_wire.specs.Metrics.{Near_out}
-use Rattle.mesh_wire.specs.Parts.{number_of}
 use Rattle.mesh_wire.specs.RowRules.{tc_rule}
 use Rattle.mesh_wire.specs.Rows.{HasValue}
 use Rattle.mesh_wire.specs.Rules.{Keeps}
@@ -38,7 +38,7 @@ row_of m octets t h =
     )
 
 self_of : RawAddr → Addr4
-self_of address = record { 0 = number_of address.octets }
+self_of address = record { 0 = address_in address.octets }
 
 self_is : (address : RawAddr) (o : Option RawAddr) → o ≡ Some address → OriginatorIs o (Some (self_of address))
 unfolding self_of

@@ -11,6 +11,7 @@ use Rattle.std.proofs.lemmas.Option.{slice_get-map}
 use Rattle.mesh_atoms.specs.declared.addr.Addr4.{Addr4}
 use Rattle.mesh_atoms.specs.declared.addr.NetAddr.{NetAddr}
 use Rattle.mesh_atoms.proofs.Nets.{same_net}
+use Rattle.mesh_atoms.specs.Octets.{address_in}
 use Rattle.mesh_addr.specs.declared.records.RawAddr.{RawAddr}
 use Rattle.mesh_packet.specs.Fields.{BlockFields, MessageFields}
 use Rattle.mesh_tlv.specs.Fields.{TlvFields, AddrTlvFields}
@@ -19,7 +20,7 @@ use Rattle.mesh_wire.specs.declared.lines.Column.{Column}
 use Rattle.mesh_wire.specs.declared.lines.Column.TheVariants.{Local, Link, Other, Mpr, AddrType, Gateway, LinkIn, LinkOut, NearIn, NearOut}
 use Rattle.mesh_wire.specs.declared.lines.Line.{Line}
 use Rattle.mesh_wire.specs.Lines.{kind_of, value_of, columns}
-use Rattle.mesh_wire.specs.Parts.{octets_of, number_of, IsIn, value_at}
+use Rattle.mesh_wire.specs.Parts.{octets_of, IsIn, value_at}
 use Rattle.mesh_wire.specs.Rows.{HoldsAddressAt, HoldsAddress, HasPart, HasValue}
 use Rattle.mesh_wire.specs.Runs.{host_octets, raw_of, present, IsRun, LaysAll, IsBlock, AreBlocks}
 use Rattle.mesh_wire.proofs.Ascending.{at_head, in_tail, head_or_tail, none_in}
@@ -44,10 +45,10 @@ same_some a b o e f = cc
 
 -- ---- addresses as they stand in a block
 
-number_again : (net : NetAddr) → number_of (raw_of net).octets ≡ net.addr.0
+number_again : (net : NetAddr) → address_in (raw_of net).octets ≡ net.addr.0
 number_again net = omega arith
 
-pub whole_number : (a : Addr4) → number_of (host_octets a.0) ≡ a.0
+pub whole_number : (a : Addr4) → address_in (host_octets a.0) ≡ a.0
 whole_number a = omega arith
 
 cleared : (n m : ℕ) → n % m ≡ 0 → n / m * m ≡ n

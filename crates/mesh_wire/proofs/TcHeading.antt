@@ -1,9 +1,10 @@
 -- The rules on what a TC says before its rows, one by one.
-use Rattle.std.proofs.Common.{◌≡◌, ℕ, ◌+◌, ◌*◌, ◌<◌, ◌≤◌, ◌⊎◌, inl, inr, refl, sym, ◌∙◌, ap, subst, arith, Bool, List, [], ◌∷◌, length, map, slice_index_or}
+use Rattle.std.proofs.Common.{◌≡◌, ℕ, ◌+◌, ◌*◌, ◌⊎◌, inl, inr, refl, sym, ◌∙◌, subst, arith, Bool, List, [], ◌∷◌, length, map, slice_index}
 use Rattle.std.specs.Prelude.{◌≢◌, Option, Some, None, ◌==◌, cond}
 use Rattle.std.specs.Option.{option_copied}
 use Rattle.mesh_atoms.specs.declared.addr.Addr4.{Addr4}
 use Rattle.mesh_atoms.specs.declared.addr.NetAddr.{NetAddr}
+use Rattle.mesh_atoms.specs.Octets.{short_in}
 use Rattle.mesh_addr.specs.declared.records.RawAddr.{RawAddr}
 use Rattle.mesh_tlv.specs.declared.tlv.Tlv.{Tlv}
 use Rattle.mesh_tlv.specs.Fields.{TlvFields, fields}
@@ -99,21 +100,21 @@ a_sequence o n e f = cc
 
 -- ---- the content
 
-two_octets : (x : List ℕ) → 2 ≤ length x → length x < 3 → x ≡ slice_index_or x 0 0 ∷ slice_index_or x 1 0 ∷ []
-two_octets [] low high = absurd (omega arith)
-two_octets (a ∷ []) low high = absurd (omega arith)
-two_octets (a ∷ b ∷ []) low high = refl
-two_octets (a ∷ b ∷ c ∷ rest) low high = absurd (omega arith)
+two_octets : (x : List ℕ) → length x ≡ 2 → x ≡ slice_index x 0 ∷ slice_index x 1 ∷ []
+two_octets [] two = absurd (omega arith)
+two_octets (a ∷ []) two = absurd (omega arith)
+two_octets (a ∷ b ∷ []) two = refl
+two_octets (a ∷ b ∷ c ∷ rest) two = absurd (omega arith)
 
-pub content_made : (tlvs slice : List Tlv) (tlv : Tlv) (octets : List ℕ) (high low : ℕ) → slice ≡ tlvs → contents_in (map fields slice) ≡ fields tlv ∷ [] → octets ≡ octets_of (option_copied tlv.value) →
-    2 ≤ length octets → length octets < 3 → high ≡ slice_index_or octets 0 0 → low ≡ slice_index_or octets 1 0 →
-    (p : TlvFields) × (h : ℕ) × (l : ℕ) × (contents_in (map fields tlvs) ≡ p ∷ []) × (octets_of p.value ≡ h ∷ l ∷ []) × (256 * high + low ≡ 256 * h + l) × ((tlv.ext == 0) ≡ (p.ext == 0))
-content_made tlvs slice tlv octets high low same one is at_least below first second = (
+pub content_made : (tlvs slice : List Tlv) (tlv : Tlv) (octets : List ℕ) (number : ℕ) → slice ≡ tlvs → contents_in (map fields slice) ≡ fields tlv ∷ [] → octets ≡ octets_of (option_copied tlv.value) →
+    length octets ≡ 2 → number ≡ short_in octets →
+    (p : TlvFields) × (h : ℕ) × (l : ℕ) × (contents_in (map fields tlvs) ≡ p ∷ []) × (octets_of p.value ≡ h ∷ l ∷ []) × (number ≡ 256 * h + l) × ((tlv.ext == 0) ≡ (p.ext == 0))
+content_made tlvs slice tlv octets number same one is two short = (
   fields tlv,
-  slice_index_or octets 0 0,
-  slice_index_or octets 1 0,
+  slice_index octets 0,
+  slice_index octets 1,
   subst (λ (ts : List Tlv). contents_in (map fields ts) ≡ fields tlv ∷ []) same one,
-  sym is ∙ two_octets octets at_least below,
-  ap (λ (n : ℕ). 256 * n + low) first ∙ ap (λ (n : ℕ). 256 * slice_index_or octets 0 0 + n) second,
+  sym is ∙ two_octets octets two,
+  short,
   refl,
 )

@@ -1,11 +1,12 @@
 -- A message as one list: its addresses, and what each TLV says of each address that it covers.
 use Rattle.std.specs.Prelude.{ℕ, ◌+◌, ◌-◌, ◌*◌, ◌/◌, ◌^◌, List, [], ◌∷◌, ◌++◌, map, slice_range, Option, Some, None, Bool, ◌&&◌, ◌==◌, if◌then◌else◌, unwrap_or}
 use Rattle.mesh_atoms.specs.declared.addr.NetAddr.{NetAddr}
+use Rattle.mesh_atoms.specs.Octets.{address_in}
 use Rattle.mesh_addr.specs.declared.records.RawAddr.{RawAddr}
 use Rattle.mesh_tlv.specs.Fields.{AddrTlvFields}
 use Rattle.mesh_packet.specs.Fields.{BlockFields}
 use Rattle.mesh_wire.specs.declared.parts.RowParts.{RowParts}
-use Rattle.mesh_wire.specs.Parts.{number_of, octets_of, value_at}
+use Rattle.mesh_wire.specs.Parts.{octets_of, value_at}
 use Rattle.mesh_wire.specs.KeptParts.{no_parts, take_part}
 
 -- a network, and a type with a value that is said of it, or that it stands in the message
@@ -16,7 +17,7 @@ pub record Entry : Type 0 where
 
 -- the entry of an address, by the network that it is in
 abbrev pub entry_on : RawAddr → Option (ℕ × List ℕ) → Entry
-entry_on a said = record { number = number_of a.octets / 2 ^ (32 - a.prefix) * 2 ^ (32 - a.prefix); prefix = a.prefix; said = said }
+entry_on a said = record { number = address_in a.octets / 2 ^ (32 - a.prefix) * 2 ^ (32 - a.prefix); prefix = a.prefix; said = said }
 
 -- whether an entry is of the network
 abbrev pub is_of : NetAddr → Entry → Bool

@@ -12,10 +12,11 @@ use Rattle.mesh_atoms.specs.declared.hello.Willing.{Willing}
 use Rattle.mesh_atoms.specs.declared.hello.HelloRow.{HelloRow}
 use Rattle.mesh_atoms.specs.declared.hello.Hello.{Hello}
 use Rattle.mesh_atoms.specs.Writable.{IsAlone}
+use Rattle.mesh_atoms.specs.Octets.{address_in}
 use Rattle.mesh_wire.specs.Kinds.{mpr_willing, local_if, link_status, other_neighb, mpr}
 use Rattle.mesh_addr.specs.declared.records.RawAddr.{RawAddr}
 use Rattle.mesh_packet.specs.Fields.{MessageFields}
-use Rattle.mesh_wire.specs.Parts.{values_of, number_of}
+use Rattle.mesh_wire.specs.Parts.{values_of}
 use Rattle.mesh_wire.specs.Metrics.{MetricIs, Link_in, Link_out, Near_in, Near_out}
 use Rattle.mesh_wire.specs.Rows.{OctetIs, SaysFlag, AreRows}
 use Rattle.mesh_wire.specs.Times.{ValidityIs, IntervalIs}
@@ -39,7 +40,7 @@ other_value other.Symmetric = 1
 -- the originator is that of the header, if it has one
 abbrev pub OriginatorIs : Option RawAddr → Option Addr4 → Type 0
 OriginatorIs None None = Unit {0}
-OriginatorIs (Some address) (Some originator) = originator.0 ≡ number_of address.octets
+OriginatorIs (Some address) (Some originator) = originator.0 ≡ address_in address.octets
 OriginatorIs None (Some originator) = ⊥
 OriginatorIs (Some address) None = ⊥
 

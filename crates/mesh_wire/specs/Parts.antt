@@ -1,7 +1,8 @@
 -- What the TLVs of a message say, and of which addresses (RFC 5444, section 5.4).
-use Rattle.std.specs.Prelude.{◌≡◌, ℕ, ◌+◌, ◌-◌, ◌*◌, ◌/◌, ◌^◌, List, [], map, filter, length, slice_index, slice_range, Option, Some, None, ◌==◌, ◌&&◌, if◌then◌else◌}
+use Rattle.std.specs.Prelude.{◌≡◌, ℕ, ◌+◌, ◌-◌, ◌*◌, ◌/◌, ◌^◌, List, [], map, filter, length, slice_range, Option, Some, None, ◌==◌, ◌&&◌, if◌then◌else◌}
 use Rattle.std.specs.Option.{option_map}
 use Rattle.mesh_atoms.specs.declared.addr.NetAddr.{NetAddr}
+use Rattle.mesh_atoms.specs.Octets.{address_in}
 use Rattle.mesh_addr.specs.declared.records.RawAddr.{RawAddr}
 use Rattle.mesh_tlv.specs.Fields.{TlvFields, AddrTlvFields}
 use Rattle.mesh_packet.specs.Fields.{MessageFields}
@@ -15,14 +16,14 @@ octets_of (Some octets) = octets
 abbrev pub values_of : ℕ → MessageFields → List (List ℕ)
 values_of kind message = map (λ (p : TlvFields). octets_of p.value) (filter (λ (p : TlvFields). p.kind == kind && p.ext == 0) message.tlvs)
 
--- an IPv4 address as a number, its first octet highest
+-- an IPv4 address as a number
 abbrev pub number_of : List ℕ → ℕ
-number_of octets = 16777216 * slice_index octets 0 + 65536 * slice_index octets 1 + 256 * slice_index octets 2 + slice_index octets 3
+number_of octets = address_in octets
 
 -- the network that an address is in: its bits after the prefix are cleared
 pub record IsIn (address : RawAddr) (net : NetAddr) : Type 0 where
   pub prefix : net.prefix ≡ address.prefix
-  pub number : net.addr.0 ≡ number_of address.octets / 2 ^ (32 - address.prefix) * 2 ^ (32 - address.prefix)
+  pub number : net.addr.0 ≡ address_in address.octets / 2 ^ (32 - address.prefix) * 2 ^ (32 - address.prefix)
 
 -- the k-th of n equal parts, counted from 0
 abbrev pub share_of : ℕ → ℕ → List ℕ → List ℕ

@@ -11,14 +11,14 @@ ghost use Rattle.mesh_wire.specs.HelloRows.{number_from, local_from, link_from, 
 ghost use Rattle.mesh_wire.specs.HelloRules.{BreaksHello};
 ghost use Rattle.mesh_wire.specs.Rules.{Keeps, FirstBroken};
 
-use crate::collect::{AddressParts, number_of};
+use crate::collect::AddressParts;
 use crate::fault::WireFault;
 use crate::parts::One;
 use crate::rows::{Row, rows_in};
 use crate::times;
 use mesh_atoms::{
     Addr4, Hello, HelloRow, LinkStatus, LocalIf, Metrics, Mpr, OtherStatus, Seq, Willing,
-    hello_rule,
+    address_in, hello_rule,
 };
 use mesh_packet::Message;
 use std::alloc::Global;
@@ -161,7 +161,7 @@ pub fn originator_of(message: &Message) -> Option<Addr4>
     ensures { OriginatorIs message.now.originator result }
 {
     match message.originator {
-        Some(address) => Some(Addr4(number_of(&address.octets))),
+        Some(address) => Some(address_in(&address.octets)),
         None => None,
     }
 }

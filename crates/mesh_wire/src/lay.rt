@@ -3,7 +3,7 @@ ghost use Rattle.std.specs.Prelude.{◌≡◌, ◌+◌, ◌*◌, ◌++◌, OnOk}
 ghost use Rattle.mesh_wire.specs.Lines.{octets_of, columns, column_text, columns_text};
 
 use crate::lines::{Column, Line};
-use mesh_atoms::Bytes;
+use mesh_atoms::{Bytes, octets_of_short};
 use std::alloc::AllocError;
 
 /// All columns, in the order in which they are laid and written.
@@ -24,9 +24,10 @@ pub(crate) const COLUMNS: [Column; 10] = [
 fn put_value(column: Column, number: u16, out: &mut Bytes) -> Result<(), AllocError>
     ensures { OnOk result (out.new ≡ out.old ++ octets_of column number) }
 {
-    out.push((number / 256) as u8)?;
+    let [high, low] = octets_of_short(number);
+    out.push(high)?;
     if column.is_wide() {
-        out.push((number % 256) as u8)?;
+        out.push(low)?;
     }
     Ok(())
 }

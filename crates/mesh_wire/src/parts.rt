@@ -2,6 +2,7 @@
 ghost use Rattle.std.specs.Prelude.{◌≡◌, true, ◌<◌, ◌||◌};
 ghost use Rattle.mesh_wire.specs.KeptParts.{also, is_octet_in, octets_also, octet_also, code_also, has_other_length, says_flag, take_part, no_parts};
 
+use mesh_atoms::short_of;
 use mesh_atoms::tlv_type::{
     GATEWAY, LINK_METRIC, LINK_STATUS, LOCAL_IF, MPR, NBR_ADDR_TYPE, OTHER_NEIGHB,
 };
@@ -69,9 +70,9 @@ impl One {
         ensures { result ≡ code_also true flag octets.now self }
     {
         match octets {
-            [high, low] => {
+            [high, _] => {
                 if *high & flag != 0 {
-                    self.also(16 * (256 * u16::from(*high % 16) + u16::from(*low)))
+                    self.also(16 * (short_of(octets) % 4096))
                 } else {
                     self
                 }

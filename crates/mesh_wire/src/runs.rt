@@ -8,7 +8,7 @@ ghost use Rattle.mesh_wire.specs.Runs.{host_octets, raw_of, leading, all_are, ru
 use crate::lay::COLUMNS;
 use crate::lines::{Column, Line};
 use mesh_addr::{AddrBlock, RawAddr};
-use mesh_atoms::{Addr4, Seq};
+use mesh_atoms::{Addr4, Seq, octets_of_address};
 use mesh_packet::Block;
 use mesh_tlv::AddrTlv;
 use std::alloc::{AllocError, Global};
@@ -20,26 +20,9 @@ const LONGEST: usize = 255;
 pub(crate) fn raw_of(address: Addr4, prefix: u8) -> RawAddr
     ensures { result ≡ record { octets = host_octets address.0; prefix = prefix } }
 {
-    let number = address.0;
+    let [a, b, c, d] = octets_of_address(address);
     RawAddr {
-        octets: [
-            (number / 16777216) as u8,
-            (number / 65536 % 256) as u8,
-            (number / 256 % 256) as u8,
-            (number % 256) as u8,
-            0,
-            0,
-            0,
-            0,
-            0,
-            0,
-            0,
-            0,
-            0,
-            0,
-            0,
-            0,
-        ],
+        octets: [a, b, c, d, 0, 0, 0, 0, 0, 0, 0, 0, 0, 0, 0, 0],
         prefix,
     }
 }

@@ -21,7 +21,7 @@ use crate::parts::One;
 use crate::rows::{Row, rows_in};
 use crate::times;
 use mesh_atoms::tlv_type::CONT_SEQ_NUM;
-use mesh_atoms::{Addr4, Seq, Tc, TcRow, tc_rule};
+use mesh_atoms::{Addr4, Seq, Tc, TcRow, short_of, tc_rule};
 use mesh_packet::Message;
 use mesh_tlv::Tlv;
 use std::alloc::Global;
@@ -81,10 +81,13 @@ fn content_of(message: &Message) -> Option<(u16, bool)>
     ensures none { IfNone result ((ansn : ℕ) (complete : Bool) → ContentIs (fields_of_message message.now) ansn complete → ⊥) }
 {
     match contents_of(message.tlvs.as_slice()) {
-        Contents::Single(tlv) => match times::octets_of(&tlv) {
-            [high, low] => Some((256 * u16::from(*high) + u16::from(*low), tlv.ext == 0)),
-            _ => None,
-        },
+        Contents::Single(tlv) => {
+            let octets = times::octets_of(&tlv);
+            if octets.len() != 2 {
+                return None;
+            }
+            Some((short_of(octets), tlv.ext == 0))
+        }
         _ => None,
     }
 }

@@ -18,7 +18,7 @@ use crate::lines::{Line, hello_lines, tc_lines};
 use crate::runs::{blocks_of, raw_of};
 use mesh_addr::RawAddr;
 use mesh_atoms::tlv_type::{CONT_SEQ_NUM, INTERVAL_TIME, MPR_WILLING, VALIDITY_TIME};
-use mesh_atoms::{Addr4, Bytes, Hello, Seq, Tc, Willing, time_code_at_least};
+use mesh_atoms::{Addr4, Bytes, Hello, Seq, Tc, Willing, octets_of_short, time_code_at_least};
 use mesh_packet::{EncodeFault, Message, Packet, encode};
 use mesh_tlv::Tlv;
 use std::alloc::{AllocError, Global};
@@ -214,11 +214,8 @@ fn tc_values(alloc: Global, tc: &Tc, lines: &[Line]) -> Result<Bytes, AllocError
     requires { IsSentIfSome tc.now.interval }
     ensures { IfOk result (HasTcValues tc.now lines.now) }
 {
-    let first = [
-        code_if_some(tc.interval),
-        (tc.ansn / 256) as u8,
-        (tc.ansn % 256) as u8,
-    ];
+    let [high, low] = octets_of_short(tc.ansn);
+    let first = [code_if_some(tc.interval), high, low];
     values_of(alloc, &first, lines)
 }
 

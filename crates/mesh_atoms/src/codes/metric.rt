@@ -3,7 +3,7 @@ ghost use Rattle.std.specs.Prelude.{◌<◌};
 
 use crate::codes::codes::rounded_up;
 
-/// A link metric by its 12-bit code; the cost that the code stands for is 1 to 16,776,960 (RFC 7181, section 6.2). A
+/// A link metric by its 12-bit code; the cost that the code stands for, by this project's reading, is 1 to 16,776,960. A
 /// greater code stands for a greater cost.
 #[derive(Clone, Copy, PartialEq, Eq, PartialOrd, Ord)]
 pub struct Metric {
@@ -27,7 +27,7 @@ impl Metric {
         }
     }
 
-    /// The cost that the metric stands for (RFC 7181, section 6.2).
+    /// The cost that the metric stands for: `(257 + b) * 2^a - 256` for the code `256 a + b`.
     pub fn value(self) -> u32
         ensures value { result ≡ metric_value self }
         ensures positive { 1 ≤ result }
