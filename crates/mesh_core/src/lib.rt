@@ -13,5 +13,6 @@ pub use event::{hear_frame, tick};
 pub use held::{Holding, Outbox};
 pub use machine::Machine;
 pub use mesh_machine::{Arrival, Fate, Frame, Heard, Read, RouterView, Said};
+pub use mesh_routes::graph_of;
 pub use router::Core;
 pub use sending::{send_hellos, send_tcs};

@@ -110,7 +110,7 @@ pub takes_tc_sound : (settings : RouterSettings) (now : ℕ) (tc : Tc) (old new 
 takes_tc_sound settings now tc old new answer lasts other sound (Is_old kept is) = sound
 takes_tc_sound settings now tc old new answer lasts other sound (Overfull_tc kind not_old first) = sound
 takes_tc_sound settings now tc old new answer lasts other sound (Takes_tc not_old none after) =
-    topology.tc_sound now tc old new (Ok (taken.Done false)) (Takes_tc not_old none after) (λ few. tc_few now tc old new none after) settings lasts other sound
+    topology.tc_sound now tc old new (Ok (taken.Done, true)) (Takes_tc not_old none after) (λ few. tc_few now tc old new none after) settings lasts other sound
 
 -- ---- a message
 

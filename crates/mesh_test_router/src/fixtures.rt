@@ -13,6 +13,9 @@ pub(crate) const TWO: u32 = 0x0a00_0002;
 
 pub(crate) const THREE: u32 = 0x0a00_0003;
 
+/// The router 10.9.9.9, which is no neighbour.
+pub(crate) const FAR: u32 = 0x0a09_0909;
+
 pub(crate) fn link_key(addr: u32) -> LinkKey {
     LinkKey { addr: Addr4(addr) }
 }

@@ -34,6 +34,7 @@ pub(crate) enum Run {
     TwoHops(&'static [two_hops::Call]),
     Messages(&'static [messages::Heard]),
     Tcs(&'static [takings::Taking]),
+    TcExpires,
     // of a new router, beside 10.0.0.2 on which it may call
     Routers(Setup, &'static [near::steps::Step]),
     // of the routers that settings tell
@@ -69,6 +70,7 @@ fn is_right_over<B: Bases>(alloc: Global, run: Run) -> Result<bool, AllocError> 
     match run {
         Run::Messages(heard) => goes_right::<Flood<B>>(alloc, &(), heard),
         Run::Tcs(takings) => goes_right::<Topology<B>>(alloc, &(), takings),
+        Run::TcExpires => takings::a_tc_expires::<B>(alloc),
         Run::Routers(setup, steps) => goes_right::<Routers<Nhdp<B>>>(alloc, &setup, steps),
         Run::Frames(settings, steps) => goes_right::<Network<Core<B>>>(alloc, &settings, steps),
         _ => table_goes_right::<B>(alloc, run),

@@ -157,16 +157,16 @@ taken_cases now tc old new answer (Is_old kept is) = inl refl
 taken_cases now tc old new answer (Overfull kind not_old first) = inl refl
 taken_cases now tc old new answer (Takes not_old none after) = inr after
 
-pub tc_fresh : (now : ℕ) (tc : Tc) (old new : Topology) (r : Result TcTaken AllocError) → IfOk r (λ taken. TakesTc now tc old new (answer_of taken)) → OnOk r (0 < tc.validity → AreFresh now old → AreFresh now new)
-tc_fresh now tc old new (Ok taken) takes = λ lasts fresh. elim (taken_cases now tc old new (answer_of taken) takes) [
+pub tc_fresh : (now : ℕ) (tc : Tc) (old new : Topology) (r : Result (TcTaken × Bool) AllocError) → IfOk r (λ told. TakesTc now tc old new (answer_of told.0)) → OnOk r (0 < tc.validity → AreFresh now old → AreFresh now new)
+tc_fresh now tc old new (Ok told) takes = λ lasts fresh. elim (taken_cases now tc old new (answer_of told.0) takes) [
   | inl same ↦ subst (AreFresh now) (sym same) fresh
   | inr after ↦ after_fresh now tc old new lasts after fresh
 ]
 tc_fresh now tc old new (Err e) takes = tt
 
-pub tc_sound : (now : ℕ) (tc : Tc) (old new : Topology) (r : Result TcTaken AllocError) → IfOk r (λ taken. TakesTc now tc old new (answer_of taken)) → OnOk r (AreFew old → AreFew new) →
+pub tc_sound : (now : ℕ) (tc : Tc) (old new : Topology) (r : Result (TcTaken × Bool) AllocError) → IfOk r (λ told. TakesTc now tc old new (answer_of told.0)) → OnOk r (AreFew old → AreFew new) →
     OnOk r ((settings : RouterSettings) → 0 < tc.validity → (IsOriginator settings tc.originator → ⊥) → SoundTopology settings now old → SoundTopology settings now new)
-tc_sound now tc old new (Ok taken) takes within = λ settings lasts other sound. elim (taken_cases now tc old new (answer_of taken) takes) [
+tc_sound now tc old new (Ok told) takes within = λ settings lasts other sound. elim (taken_cases now tc old new (answer_of told.0) takes) [
   | inl same ↦ subst (SoundTopology settings now) (sym same) sound
   | inr after ↦ after_sound settings now tc old new lasts other (within (few_of settings now old sound)) after sound
 ]

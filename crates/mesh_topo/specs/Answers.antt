@@ -1,16 +1,10 @@
 -- What is answered to a TC.
-use Rattle.std.specs.Prelude.{Bool, false}
 use Rattle.mesh_atoms.specs.AfterTc.{TcAnswer, Taken, Too_old, Full_of}
 use Rattle.mesh_topo.specs.declared.topology.TcTaken.{TcTaken}
 use Rattle.mesh_topo.specs.declared.topology.TcTaken.TheVariants.{Done, Old, Full}
 
 -- the answer in the model's words
 abbrev pub answer_of : TcTaken → TcAnswer
-answer_of (Done changed) = Taken
+answer_of Done = Taken
 answer_of (Old kept) = Too_old kept
 answer_of (Full base) = Full_of base
-
--- whether it says that what is advertised may have changed
-abbrev pub changes : TcTaken → Bool
-changes (Done changed) = changed
-changes other = false

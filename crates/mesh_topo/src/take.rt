@@ -3,7 +3,7 @@ ghost use Rattle.std.specs.Prelude.{◌≡◌, ◌+◌, ◌<◌, ◌≤◌, ◌^
 ghost use Rattle.mesh_atoms.specs.Base.{find, addr_eq};
 ghost use Rattle.mesh_atoms.specs.Codes.Codes.{Newer};
 ghost use Rattle.mesh_atoms.specs.AfterTc.{TakesTc, first_overfull};
-ghost use Rattle.mesh_topo.specs.Answers.{answer_of, changes};
+ghost use Rattle.mesh_topo.specs.Answers.{answer_of};
 ghost use Rattle.mesh_topo.specs.Same.{SameAdvertised};
 ghost use Rattle.mesh_topo.specs.Sets.{AreFew, KeepsNewer, sets_of};
 ghost use Rattle.mesh_topo.specs.Tuples.{HasHosts};
@@ -17,7 +17,8 @@ use mesh_atoms::{
 use mesh_expire::Table;
 use std::alloc::AllocError;
 
-/// Takes a TC into the four sets. `Old` and `Full` change nothing.
+/// Takes a TC into the four sets; what came of it, and whether what is advertised may have changed. `Old` and `Full` change
+/// nothing.
 pub(crate) fn take<
     A: Table<Addr4, Advertiser>,
     R: Table<RouterKey, RouterTuple>,
@@ -30,32 +31,32 @@ pub(crate) fn take<
     networks: &mut KeyedSet<NetworkKey, NetworkTuple, N>,
     now: u64,
     tc: &Tc,
-) -> Result<TcTaken, AllocError>
+) -> Result<(TcTaken, bool), AllocError>
     requires now { now < 2 ^ 62 }
     requires validity { tc.now.validity < 2 ^ 62 }
     requires hosts { HasHosts tc.now }
-    ensures ok { IfOk result (λ taken. TakesTc now tc.now
+    ensures ok { IfOk result (λ told. TakesTc now tc.now
         (sets_of (A.content advertisers.old) routers.old addresses.old networks.old)
         (sets_of (A.content advertisers.new) routers.new addresses.new networks.new)
-        (answer_of taken)) }
-    ensures same { IfOk result (λ taken. changes taken ≡ false → SameAdvertised
+        (answer_of told.0)) }
+    ensures same { IfOk result (λ told. told.1 ≡ false → SameAdvertised
         (sets_of (A.content advertisers.old) routers.old addresses.old networks.old)
         (sets_of (A.content advertisers.new) routers.new addresses.new networks.new)) }
     ensures within { OnOk result (AreFew (sets_of (A.content advertisers.old) routers.old addresses.old networks.old)
         → AreFew (sets_of (A.content advertisers.new) routers.new addresses.new networks.new)) }
 {
     if let Some(kept) = newer_kept(advertisers, tc) {
-        return Ok(TcTaken::Old { kept });
+        return Ok((TcTaken::Old { kept }, false));
     }
     if let Some(base) = first_full(advertisers, routers, addresses, networks, tc) {
-        return Ok(TcTaken::Full(base));
+        return Ok((TcTaken::Full(base), false));
     }
     let until = now + tc.validity;
     advertisers.put(tc.originator, Advertiser { ansn: tc.ansn }, until)?;
     let mut changed = routers.take_rows(tc, until)?;
     changed |= addresses.take_rows(tc, until)?;
     changed |= networks.take_rows(tc, until)?;
-    Ok(TcTaken::Done { changed })
+    Ok((TcTaken::Done, changed))
 }
 
 // The number that is kept of the TC's originator, if it is newer than the TC's.

@@ -5,7 +5,7 @@ ghost use Rattle.mesh_atoms.specs.AfterTc.{TakesTc};
 ghost use Rattle.mesh_atoms.specs.Live.{LiveTopology};
 ghost use Rattle.mesh_atoms.specs.Sound.{SoundTopology};
 ghost use Rattle.mesh_atoms.specs.State.{IsOriginator};
-ghost use Rattle.mesh_topo.specs.Answers.{answer_of, changes};
+ghost use Rattle.mesh_topo.specs.Answers.{answer_of};
 ghost use Rattle.mesh_topo.specs.Same.{SameAdvertised};
 ghost use Rattle.mesh_topo.specs.Sets.{AreFew, AreFresh};
 ghost use Rattle.mesh_topo.specs.Tuples.{HasHosts};
@@ -22,9 +22,8 @@ use std::marker::Model;
 /// What came of a TC.
 #[derive(Clone, Copy, PartialEq, Eq)]
 pub enum TcTaken {
-    /// It is taken. Where nothing changed, the same routers, addresses and networks are advertised at the same metrics and
-    /// distances as before.
-    Done { changed: bool },
+    /// It is taken.
+    Done,
     /// Nothing changed, since a newer number of its originator is kept.
     Old { kept: u16 },
     /// Nothing changed, since this set would have more than 16,384 tuples.
@@ -91,10 +90,26 @@ impl<B: Bases> Topology<B> {
         requires validity { tc.now.validity < 2 ^ 62 }
         requires hosts { HasHosts tc.now }
         ensures ok { IfOk result (λ taken. TakesTc now tc.now self.old self.new (answer_of taken)) }
-        ensures same { IfOk result (λ taken. changes taken ≡ false → SameAdvertised self.old self.new) }
         ensures within { OnOk result (AreFew self.old → AreFew self.new) }
         ensures fresh { OnOk result (0 < tc.now.validity → AreFresh now self.old → AreFresh now self.new) }
         // A TC of another router keeps what holds of the topology after every event.
+        ensures sound { OnOk result ((settings : RouterSettings) → 0 < tc.now.validity → (IsOriginator settings tc.now.originator → ⊥)
+            → SoundTopology settings now self.old → SoundTopology settings now self.new) }
+    {
+        let (taken, _) = self.take_and_tell(now, tc)?;
+        Ok(taken)
+    }
+
+    /// The same as `take_tc`, and whether the TC changed what is advertised: where it didn't, the same routers, addresses and
+    /// networks are advertised at the same metrics and distances as before.
+    pub fn take_and_tell(&mut self, now: u64, tc: &Tc) -> Result<(TcTaken, bool), AllocError>
+        requires now { now < 2 ^ 62 }
+        requires validity { tc.now.validity < 2 ^ 62 }
+        requires hosts { HasHosts tc.now }
+        ensures ok { IfOk result (λ told. TakesTc now tc.now self.old self.new (answer_of told.0)) }
+        ensures same { IfOk result (λ told. told.1 ≡ false → SameAdvertised self.old self.new) }
+        ensures within { OnOk result (AreFew self.old → AreFew self.new) }
+        ensures fresh { OnOk result (0 < tc.now.validity → AreFresh now self.old → AreFresh now self.new) }
         ensures sound { OnOk result ((settings : RouterSettings) → 0 < tc.now.validity → (IsOriginator settings tc.now.originator → ⊥)
             → SoundTopology settings now self.old → SoundTopology settings now self.new) }
     {
@@ -108,9 +123,19 @@ impl<B: Bases> Topology<B> {
         )
     }
 
-    /// Takes out what is expired at that moment (RFC 7181, section 10), and tells whether a router, an address or a network
-    /// went. Takes no memory.
-    pub fn expire(&mut self, now: u64) -> bool
+    /// Takes out what is expired at that moment (RFC 7181, section 10). Takes no memory.
+    pub fn expire(&mut self, now: u64)
+        ensures live { LiveTopology now self.old self.new }
+        ensures within { AreFew self.old → AreFew self.new }
+        ensures fresh { AreFresh now self.new }
+        ensures sound { (settings : RouterSettings) (before : ℕ) → SoundTopology settings before self.old → SoundTopology settings now self.new }
+    {
+        self.expire_and_tell(now);
+    }
+
+    /// The same as `expire`, and whether a router, an address or a network went: where none did, the same are advertised at the
+    /// same metrics and distances as before.
+    pub fn expire_and_tell(&mut self, now: u64) -> bool
         ensures live { LiveTopology now self.old self.new }
         ensures same { result ≡ false → SameAdvertised self.old self.new }
         ensures within { AreFew self.old → AreFew self.new }

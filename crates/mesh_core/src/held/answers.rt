@@ -1,10 +1,10 @@
 //! What becomes of a message, by what the bases answered.
-ghost use Rattle.std.specs.Prelude.{◌≡◌, ◌≢◌, ◌↔◌, ℕ, Option, IfOk, IsTrue, not};
+ghost use Rattle.std.specs.Prelude.{◌≡◌, ◌≢◌, ◌↔◌, ℕ, Option, IfOk, IsTrue};
 ghost use Rattle.mesh_atoms.specs.declared.tc.Tc.{Tc as TcValue};
 ghost use Rattle.mesh_atoms.specs.declared.addr.NetAddr.{NetAddr as NetValue};
 ghost use Rattle.mesh_atoms.specs.TakesHello.{HelloAnswer, Taken};
 ghost use Rattle.mesh_nhdp.specs.Judged.{IsAnswer};
-ghost use Rattle.mesh_topo.specs.Answers.{answer_of, changes};
+ghost use Rattle.mesh_topo.specs.Answers.{answer_of};
 ghost use Rattle.mesh_machine.specs.Messages.{only, hello_read, tc_read, is_processed, other_read};
 
 use mesh_flood::{Forward, Process};
@@ -53,7 +53,7 @@ pub(crate) fn tc_read(taken: TcTaken, given: u16) -> Read
     ensures { (tc : TcValue) → tc.ansn ≡ given → result ≡ tc_read tc (answer_of taken) }
 {
     match taken {
-        TcTaken::Done { .. } => Read::Topology,
+        TcTaken::Done => Read::Topology,
         TcTaken::Old { kept } => Read::Old { kept, given },
         TcTaken::Full(base) => Read::Full(base),
     }
@@ -64,13 +64,6 @@ pub(crate) fn is_processed(taken: TcTaken) -> bool
     ensures { result ≡ is_processed (answer_of taken) }
 {
     !matches!(taken, TcTaken::Full(_))
-}
-
-/// Whether others advertise the same after a TC as before.
-pub(crate) fn is_quiet_tc(taken: TcTaken) -> bool
-    ensures { result ≡ not (changes taken) }
-{
-    !matches!(taken, TcTaken::Done { changed: true })
 }
 
 /// What is made of a message of another type.

@@ -100,7 +100,7 @@ impl<B: Bases> Holding<B> {
         ensures links { IfOk result (λ quiet. IsTrue quiet → AllIsAsItWas self.old.settings last now self.old.bases.neighbourhood) }
     {
         let same = self.nhdp.expire_since(last, now)?;
-        let changed = self.topology.expire(now);
+        let changed = self.topology.expire_and_tell(now);
         self.flood.expire(now);
         Ok(same & !changed)
     }

@@ -60,7 +60,7 @@ impl Outbox {
     }
 
     /// Puts a frame at the end. Want of memory leaves the outbox as it was.
-    pub fn send(&mut self, iface: usize, bytes: Bytes) -> Result<(), AllocError>
+    pub(crate) fn send(&mut self, iface: usize, bytes: Bytes) -> Result<(), AllocError>
         ensures ok { OnOk result (self.new ≡ self.old ++ (record { iface = iface; bytes = bytes }) ∷ []) }
         ensures err { OnErr result (self.new ≡ self.old) }
     {
@@ -69,7 +69,7 @@ impl Outbox {
     }
 
     /// Puts all frames of another outbox at the end. Want of memory leaves this one as it was.
-    pub fn put_all(&mut self, mut other: Outbox) -> Result<(), AllocError>
+    pub(crate) fn put_all(&mut self, mut other: Outbox) -> Result<(), AllocError>
         ensures ok { OnOk result (self.new ≡ self.old ++ other) }
         ensures err { OnErr result (self.new ≡ self.old) }
     {
@@ -78,7 +78,7 @@ impl Outbox {
     }
 
     /// Puts the octets at the end as one frame on each interface, in order. After want of memory some of them may stand there.
-    pub fn send_on_each(&mut self, count: usize, bytes: &[u8]) -> Result<(), AllocError>
+    pub(crate) fn send_on_each(&mut self, count: usize, bytes: &[u8]) -> Result<(), AllocError>
         ensures ok { OnOk result (self.new ≡ self.old ++ on_each count bytes.now) }
     {
         for iface in 0..count {

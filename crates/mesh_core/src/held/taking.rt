@@ -15,9 +15,7 @@ ghost use Rattle.mesh_machine.specs.Frames.{octets_at};
 ghost use Rattle.mesh_machine.specs.Laws.{SoundBases};
 ghost use Rattle.mesh_machine.specs.Messages.{TakesMessage, TakesMessages, ProcessesTc, IsHeading, AreSpelled};
 
-use crate::held::answers::{
-    broken, hello_read, is_processed, is_quiet_hello, is_quiet_tc, other_read, tc_read,
-};
+use crate::held::answers::{broken, hello_read, is_processed, is_quiet_hello, other_read, tc_read};
 use crate::held::heading::{heading_of, heading_of_tc};
 use crate::held::holding::Holding;
 use crate::held::onward::{judge, pass_on};
@@ -48,12 +46,8 @@ fn read_tc<B: Bases>(
 {
     match process {
         Process::Do => {
-            let taken = topology.take_tc(now, tc)?;
-            Ok((
-                tc_read(taken, tc.ansn),
-                is_processed(taken),
-                is_quiet_tc(taken),
-            ))
+            let (taken, changed) = topology.take_and_tell(now, tc)?;
+            Ok((tc_read(taken, tc.ansn), is_processed(taken), !changed))
         }
         answer => Ok((Read::Passed(answer), false, true)),
     }

@@ -1,5 +1,5 @@
 //! A router that hears TCs, and messages of other types.
-use crate::fixtures::{LinkHas, ONE};
+use crate::fixtures::{FAR, LinkHas, ONE};
 use crate::frames::looks::{Held, Look};
 use crate::frames::octets::{CHOOSES_TWO, ONE_SAYS, PACKET, Part};
 use crate::frames::steps::Answer;
@@ -21,8 +21,6 @@ addresses = [\"10.0.0.2\"]
 name = \"w1\"
 addresses = [\"10.0.1.2\"]
 ";
-
-const FAR: u32 = 0x0a09_0909;
 
 /// A packet of one TC of 10.9.9.9, of one row, up to its hop limit.
 const TC: &[u8] = b"\x00\x01\xf3\x00\x2c\x0a\x09\x09\x09";
@@ -97,6 +95,33 @@ const HALF_ROUND: &[Part] = &[
     Part::Once(b"\x80\x00"),
     Part::Once(ROW),
     Part::Once(b"\x05"),
+    Part::Once(AS_ROUTER),
+];
+
+/// The same with a validity of 2 s up to 2 hops away, and of 15 s further out: from its originator, and with a newer number from 3 hops away.
+const LONGER: &[u8] = b"\x00\x01\xf3\x00\x2e\x0a\x09\x09\x09";
+
+const BY_DISTANCE: &[u8] = b"\x00\x0f\x01\x10\x03\x58\x02\x6f\x00\x10\x01\x62\x08\x10\x02";
+
+const NEAR_BY: &[Part] = &[
+    Part::Once(LONGER),
+    Part::Once(b"\xff\x00"),
+    Part::Once(b"\x00\x05"),
+    Part::Once(BY_DISTANCE),
+    Part::Once(b"\x00\x07"),
+    Part::Once(ROW),
+    Part::Once(b"\x01"),
+    Part::Once(AS_ROUTER),
+];
+
+const FROM_AFAR: &[Part] = &[
+    Part::Once(LONGER),
+    Part::Once(b"\xfd\x02"),
+    Part::Once(b"\x00\x06"),
+    Part::Once(BY_DISTANCE),
+    Part::Once(b"\x00\x08"),
+    Part::Once(ROW),
+    Part::Once(b"\x01"),
     Part::Once(AS_ROUTER),
 ];
 
@@ -216,7 +241,25 @@ const LINK: LinkHas = LinkHas {
     selector: true,
 };
 
-pub(crate) static CASES: [Case; 2] = [
+pub(crate) static CASES: [Case; 3] = [
+    (
+        "a TC is valid by its distance",
+        Run::Frames(
+            TWO_INTERFACES,
+            &[
+                At(0, Hears(0, ONE, NEAR_BY, TAKEN)),
+                At(0, Looks(Look::Kept(Some((7, 16384))))),
+                At(0, Looks(Look::Tuple(FAR, 0x0a08_0001, Some((7, 1, 16384))))),
+                At(0, Hears(0, ONE, FROM_AFAR, TAKEN)),
+                At(0, Looks(Look::Kept(Some((8, 122880))))),
+                At(
+                    0,
+                    Looks(Look::Tuple(FAR, 0x0a08_0001, Some((8, 1, 122880)))),
+                ),
+                Count(0),
+            ],
+        ),
+    ),
     (
         "TCs of one originator",
         Run::Frames(

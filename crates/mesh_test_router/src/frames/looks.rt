@@ -1,7 +1,8 @@
 //! What is seen of a router.
 use crate::fixtures::{LinkHas, TupleHas, link_has, link_key, router_key, tuple_has};
-use mesh_atoms::{Addr4, LinkState, NetAddr, Relays, Route, TcRow};
+use mesh_atoms::{Addr4, Advertiser, LinkState, NetAddr, Relays, Route, TcRow};
 use mesh_core::RouterView;
+use mesh_expire::Table;
 use mesh_fixtures::metric;
 use mesh_flood::Heading;
 
@@ -25,14 +26,28 @@ pub(crate) const EMPTY: Held = Held {
     ansn: 0,
 };
 
-/// What is seen beside the view of a router: whether it is spent, the moments of its last event and of the next one that is due, and how
-/// many advertisers it has.
+/// What is seen beside the view of a router: whether it is spent, the moments of its last event and of the next one that is due, how many
+/// advertisers it has, and of 10.9.9.9 the number that is kept and until when; and its advertised rows, with their ANSN.
 #[derive(Clone, Copy)]
-pub(crate) struct Beside {
+pub(crate) struct Beside<'a> {
     pub(crate) spent: bool,
     pub(crate) last: u64,
     pub(crate) due: u64,
     pub(crate) advertisers: usize,
+    pub(crate) kept: Option<(u16, u64)>,
+    pub(crate) rows: &'a [TcRow],
+    pub(crate) ansn: u16,
+}
+
+/// The number that is kept of an originator, and until when.
+pub(crate) fn kept_of<T: Table<Addr4, Advertiser>>(
+    advertisers: &T,
+    originator: u32,
+) -> Option<(u16, u64)> {
+    match advertisers.get(&Addr4(originator)) {
+        Some((advertiser, until)) => Some((advertiser.ansn, until)),
+        None => None,
+    }
 }
 
 fn held_by<V: RouterView>(view: &V, beside: &Beside) -> Held {
@@ -51,7 +66,7 @@ fn held_by<V: RouterView>(view: &V, beside: &Beside) -> Held {
             view.addresses(),
             view.networks(),
         ],
-        ansn: view.ansn(),
+        ansn: beside.ansn,
     }
 }
 
@@ -143,6 +158,8 @@ pub(crate) enum Look {
     Link(u32, Option<(LinkState, LinkHas)>),
     // from where to where the tuple leads; the tuple
     Tuple(u32, u32, Option<TupleHas>),
+    // of 10.9.9.9: the number, and until when
+    Kept(Option<(u16, u64)>),
     // for flooding on the first interface, and for routing
     Relays(&'static [Addr4]),
     Routes(&'static [RouteHas]),
@@ -163,7 +180,8 @@ pub(crate) fn shows<V: RouterView>(view: &V, beside: &Beside, look: &Look) -> bo
         Look::Tuple(from, to, want) => tuple_of(view, from, to) == want,
         Look::Relays(want) => are_relays(view.relays(), want),
         Look::Routes(want) => are_routes(view.routes(), want),
-        Look::Rows(want) => advertise(view.rows(), want),
+        Look::Rows(want) => advertise(beside.rows, want),
+        Look::Kept(want) => beside.kept == want,
         Look::Noted(heading, want) => view.has_noted(&heading) == want,
         Look::Full(want) => view.has_full_set() == want,
     }

@@ -1,5 +1,6 @@
 //! Steps of routers: what happens to them, and what must come of each.
-use crate::frames::looks::{Beside, Look, shows};
+use crate::fixtures::FAR;
+use crate::frames::looks::{Beside, Look, kept_of, shows};
 use crate::frames::octets::{Part, frame_of};
 use crate::frames::reads::is_hello;
 use crate::rows::Telling;
@@ -106,7 +107,7 @@ pub(crate) trait Router: Sized + Drop {
     /// Lets its clock tick; nothing where the moment is before the last event.
     fn ticks(&mut self, out: &mut Outbox, now: u32) -> Option<Result<(), AllocError>>;
 
-    fn beside(&self) -> Beside;
+    fn beside(&self) -> Beside<'_>;
 
     fn looks(&self, look: &Look) -> bool;
 }
@@ -138,12 +139,17 @@ impl<B: Bases> Router for Core<B> {
         Some(self.tick(now, out))
     }
 
-    fn beside(&self) -> Beside {
+    fn beside(&self) -> Beside<'_> {
+        let (rows, ansn) = self.advertised();
+        let advertisers = self.topology().advertisers();
         Beside {
             spent: self.is_spent(),
             last: self.last(),
             due: self.due(),
-            advertisers: self.topology().advertisers().len(),
+            advertisers: advertisers.len(),
+            kept: kept_of(advertisers, FAR),
+            rows,
+            ansn,
         }
     }
 

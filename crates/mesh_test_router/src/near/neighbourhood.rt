@@ -59,7 +59,37 @@ const CLOSE: NeighbourHas = NeighbourHas {
     metric_out: Some(3),
 };
 
-pub(crate) static CASES: [Case; 7] = [
+/// What a neighbour that is symmetric and lost comes to.
+const SYMMETRIC_AND_LOST: &[Step] = &[
+    Step::Hear(200, 0, Some(ONE), HEARS_AND_REACHES, HelloTaken::Done),
+    Step::Counts(WITH_TWO_HOP),
+    Step::Link(0, ONE, Some(SYMMETRIC)),
+    Step::Status(0, ONE, 200, Some(LinkState::Symmetric)),
+    Step::TwoHop(0, ONE, THREE, Some((Some(5), None, 49352))),
+    Step::Neighbour(ONE, Some(CLOSE)),
+    Step::Hear(300, 0, Some(ONE), LOST_IT, HelloTaken::Done),
+    Step::Counts(ONE_LOST),
+    Step::Link(
+        0,
+        ONE,
+        Some(LinkHas {
+            heard: 49452,
+            until: 98604,
+            ..HEARD
+        }),
+    ),
+    Step::Status(0, ONE, 300, Some(LinkState::Heard)),
+    Step::TwoHop(0, ONE, THREE, None),
+    Step::Neighbour(ONE, Some(FAR)),
+    // the lost address goes, and the link stays, LOST
+    Step::Expire(49451),
+    Step::Counts(ONE_LOST),
+    Step::Expire(49452),
+    Step::Counts(ONE_LINK),
+    Step::Status(0, ONE, 49452, Some(LinkState::Lost)),
+];
+
+pub(crate) static CASES: [Case; 8] = [
     (
         "a neighbour is heard and goes",
         Run::Routers(
@@ -83,37 +113,11 @@ pub(crate) static CASES: [Case; 7] = [
     ),
     (
         "a neighbour is symmetric and lost",
-        Run::Routers(
-            Setup::TwoInterfaces,
-            &[
-                Step::Hear(200, 0, Some(ONE), HEARS_AND_REACHES, HelloTaken::Done),
-                Step::Counts(WITH_TWO_HOP),
-                Step::Link(0, ONE, Some(SYMMETRIC)),
-                Step::Status(0, ONE, 200, Some(LinkState::Symmetric)),
-                Step::TwoHop(0, ONE, THREE, Some((Some(5), None, 49352))),
-                Step::Neighbour(ONE, Some(CLOSE)),
-                Step::Hear(300, 0, Some(ONE), LOST_IT, HelloTaken::Done),
-                Step::Counts(ONE_LOST),
-                Step::Link(
-                    0,
-                    ONE,
-                    Some(LinkHas {
-                        heard: 49452,
-                        until: 98604,
-                        ..HEARD
-                    }),
-                ),
-                Step::Status(0, ONE, 300, Some(LinkState::Heard)),
-                Step::TwoHop(0, ONE, THREE, None),
-                Step::Neighbour(ONE, Some(FAR)),
-                // the lost address goes, and the link stays, LOST
-                Step::Expire(49451),
-                Step::Counts(ONE_LOST),
-                Step::Expire(49452),
-                Step::Counts(ONE_LINK),
-                Step::Status(0, ONE, 49452, Some(LinkState::Lost)),
-            ],
-        ),
+        Run::Routers(Setup::TwoInterfaces, SYMMETRIC_AND_LOST),
+    ),
+    (
+        "a neighbour is symmetric and lost at a router of one interface",
+        Run::Routers(Setup::OneInterface, SYMMETRIC_AND_LOST),
     ),
     (
         "a lost neighbour is symmetric again",

@@ -16,6 +16,8 @@ pub(crate) const OWN_TOO: u32 = 0x0a00_0102;
 pub(crate) enum Setup {
     // of two interfaces, whose in-metrics are of cost 1 and 4
     TwoInterfaces,
+    // of the first one alone
+    OneInterface,
     // of one interface, which receives at cost 1, and admits what 10.0.0.1 sends from a quality of 60 on, and rejects it below 40;
     // that quality is 50 from 1000 on, 20 from 2000 on and 60 from 3000 on
     Admitting,
@@ -78,6 +80,7 @@ pub(crate) fn settings_of(alloc: Global, setup: Setup) -> Result<RouterSettings,
             let second = (Addr4(OWN_TOO), metric(4));
             two_interfaces(alloc, b"a", first, second, DEFAULT_TIMES)
         }
+        Setup::OneInterface => one_interface(alloc, b"a", Addr4(OWN), metric(1)),
         Setup::Admitting => admitting(alloc, Addr4(OWN), Addr4(ONE)),
         Setup::First => one_interface(alloc, b"a", Addr4(ONE), metric(1)),
         Setup::Second => one_interface(alloc, b"a", Addr4(TWO), metric(4)),

@@ -3,7 +3,7 @@ ghost use Rattle.std.specs.Prelude.{◌≤◌};
 
 use crate::fixtures::{TupleHas, router_key, tuple_has};
 use crate::runs::{Case, Run};
-use crate::topology::tcs::{ROUTER, Said, VALIDITY, take, tc_from};
+use crate::topology::tcs::{ROUTER, Said, VALIDITY, take, take_and_tell, tc_from};
 use crate::tried::Tried;
 use mesh_atoms::{
     Addr4, Advertiser, Attached4, Base, Metric, NetAddr, RouterKey, RouterTuple, TcRow,
@@ -15,7 +15,7 @@ use std::alloc::{AllocError, Global};
 use std::test::Fail;
 
 /// A TC of one originator: its number, whether it is complete, what its rows say, and the address of the first, with how many
-/// there are. What comes of it; the number that is kept of the originator then; how many tuples there are (advertisers, routers,
+/// there are. What comes of it, and whether it changes what is advertised; the number that is kept of the originator then; how many tuples there are (advertisers, routers,
 /// addresses, networks); and the number of the router tuple that leads to an address.
 #[derive(Clone, Copy)]
 pub(crate) struct Taking(
@@ -23,7 +23,7 @@ pub(crate) struct Taking(
     bool,
     Said,
     (u32, u32),
-    TcTaken,
+    (TcTaken, bool),
     Option<u16>,
     [usize; 4],
     (u32, Option<u16>),
@@ -89,7 +89,7 @@ impl<B: Bases> Tried for Topology<B> {
     fn answers(&mut self, alloc: Global, taking: &Taking) -> Result<bool, AllocError> {
         let (first, count) = taking.3;
         let tc = tc_from(alloc, taking.0, taking.1, &taking.2, first, count)?;
-        Ok(take(self, &tc)? == Some(taking.4) && stands(self, taking))
+        Ok(take_and_tell(self, &tc)? == Some(taking.4) && stands(self, taking))
     }
 }
 
@@ -132,11 +132,22 @@ const NEAR_NETWORK: Said = Said {
     ..NETWORK
 };
 
-const CHANGED: TcTaken = TcTaken::Done { changed: true };
+const CHANGED: (TcTaken, bool) = (TcTaken::Done, true);
 
-const SAME: TcTaken = TcTaken::Done { changed: false };
+const SAME: (TcTaken, bool) = (TcTaken::Done, false);
 
-const OLD: TcTaken = TcTaken::Old { kept: 65535 };
+const OLD: (TcTaken, bool) = (TcTaken::Old { kept: 65535 }, false);
+
+/// Whether a TC with a row for each set is taken, and its tuples stand up to the end of its validity and are gone then.
+pub(crate) fn a_tc_expires<B: Bases>(alloc: Global) -> Result<bool, AllocError> {
+    let mut topology = Topology::<B>::new(alloc)?;
+    let tc = tc_from(alloc, 5, true, &ALL, 2, 1)?;
+    let taken = take(&mut topology, &tc)?;
+    topology.expire(VALIDITY - 1);
+    let stood = counts_of(&topology);
+    topology.expire(VALIDITY);
+    Ok(taken == Some(TcTaken::Done) && stood == [1; 4] && counts_of(&topology) == [0; 4])
+}
 
 pub(crate) const IN_TURN: &[Taking] = &[
     Taking(
@@ -202,8 +213,9 @@ pub(crate) const IN_TURN: &[Taking] = &[
     ),
 ];
 
-pub(crate) static CASES: [Case; 3] = [
+pub(crate) static CASES: [Case; 4] = [
     ("TCs are taken in turn", Run::Tcs(IN_TURN)),
+    ("a TC expires", Run::TcExpires),
     (
         "parts of a content stand side by side",
         Run::Tcs(&[
@@ -309,11 +321,11 @@ pub(crate) static CASES: [Case; 3] = [
     ),
 ];
 
-const FULL_ROUTERS: TcTaken = TcTaken::Full(Base::Routers);
+const FULL_ROUTERS: (TcTaken, bool) = (TcTaken::Full(Base::Routers), false);
 
-const FULL_ADDRESSES: TcTaken = TcTaken::Full(Base::Addresses);
+const FULL_ADDRESSES: (TcTaken, bool) = (TcTaken::Full(Base::Addresses), false);
 
-const FULL_NETWORKS: TcTaken = TcTaken::Full(Base::Networks);
+const FULL_NETWORKS: (TcTaken, bool) = (TcTaken::Full(Base::Networks), false);
 
 pub(crate) static FULL: [Case; 5] = [
     (

@@ -113,3 +113,17 @@ pub(crate) fn take<B: Bases>(
     }
     Ok(Some(topology.take_tc(0, tc)?))
 }
+
+/// The same, and whether it changed what is advertised.
+pub(crate) fn take_and_tell<B: Bases>(
+    topology: &mut Topology<B>,
+    tc: &Tc,
+) -> Result<Option<(TcTaken, bool)>, AllocError> {
+    if tc.validity > VALIDITY {
+        return Ok(None);
+    }
+    if !are_hosts(tc.rows.as_slice()) {
+        return Ok(None);
+    }
+    Ok(Some(topology.take_and_tell(0, tc)?))
+}

@@ -1,14 +1,11 @@
 use Rattle.std.proofs.Common.{refl}
-use Rattle.mesh_topo.specs.Answers.{answer_of, changes}
+use Rattle.mesh_topo.specs.Answers.{answer_of}
 use Rattle.mesh_core.specs.Held.Reading.{Taken_in, Passed_by}
-use Rattle.mesh_core.proofs.HeldLemmas.Quiet.{advertised_equal, not_true}
+use Rattle.mesh_core.proofs.HeldLemmas.Quiet.{advertised_equal}
 use Rattle.mesh_core.proofs.held.taking.read_tc.Goals as goal
 
 pub returns-in_ok-taken-in-Do-clause-reads : goal.returns-in_ok-taken-in-Do-clause-reads
 returns-in_ok-taken-in-Do-clause-reads g c = Taken_in (answer_of c.in_ok-taken-in-Do.taken) c.in-Do.is c.in_ok-taken-in-Do.ensures.ok (c.tc_read.ensures c.args.tc.now refl) c.is_processed.ensures
-
-pub returns-in_ok-taken-in-Do-clause-quiet : goal.returns-in_ok-taken-in-Do-clause-quiet
-returns-in_ok-taken-in-Do-clause-quiet g c = λ quiet. c.in_ok-taken-in-Do.ensures.same (not_true (changes c.in_ok-taken-in-Do.taken) c.is_quiet_tc.result c.is_quiet_tc.ensures quiet)
 
 pub returns-in_default-clause-reads : goal.returns-in_default-clause-reads
 returns-in_default-clause-reads g c = Passed_by c.in_default.not-Do refl refl refl

@@ -15,8 +15,8 @@ expire_since-requires-clause-sound g c = subst (λ (h : Held). SoundNeighbourhoo
 
 pub returns-clause-live : goal.returns-clause-live
 returns-clause-live g c =
-    subst (λ (h : Held). Live h.settings c.args.now h.bases (record { neighbourhood = c.expire_since.new.self.near; topology = c.expire-changed.new.self; noted = c.expire.new.self.noted })) c.self.view_is
-    (record { neighbourhood = c.in_ok-same.ensures.live; topology = c.expire-changed.ensures.live; noted = c.expire.ensures.live })
+    subst (λ (h : Held). Live h.settings c.args.now h.bases (record { neighbourhood = c.expire_since.new.self.near; topology = c.expire_and_tell-changed.new.self; noted = c.expire.new.self.noted })) c.self.view_is
+    (record { neighbourhood = c.in_ok-same.ensures.live; topology = c.expire_and_tell-changed.ensures.live; noted = c.expire.ensures.live })
 
 pub returns-clause-settings : goal.returns-clause-settings
 returns-clause-settings g c = c.expire_since.ensures.settings ∙ ap (λ (h : Held). h.settings) c.self.view_is
@@ -37,4 +37,4 @@ invariant_of-self-2 g c = c.expire.ensures.times ∙ (c.self.invariant ∙ sym (
 pub returns-clause-quiet : goal.returns-clause-quiet
 returns-clause-quiet g c both =
     let (same, unchanged) = both_true c.in_ok-same.same _ both in
-    rw (← c.self.view_is) (record { neighbourhood = c.in_ok-same.ensures.same same; advertised = c.expire-changed.ensures.same (not_true c.expire-changed.result _ refl unchanged) })
+    rw (← c.self.view_is) (record { neighbourhood = c.in_ok-same.ensures.same same; advertised = c.expire_and_tell-changed.ensures.same (not_true c.expire_and_tell-changed.result _ refl unchanged) })

@@ -1,5 +1,5 @@
 use Rattle.mesh_topo.proofs.Soundness.{tc_fresh, tc_sound}
-use Rattle.mesh_topo.proofs.topology.Topology.take_tc.Goals as goal
+use Rattle.mesh_topo.proofs.topology.Topology.take_and_tell.Goals as goal
 
 pub returns-clause-ok : goal.returns-clause-ok
 returns-clause-ok g c = rw (← c.self.view_is) c.take.ensures.ok
