@@ -11,6 +11,7 @@ routes of its router by tools/kernel_routes.py, once they are reported; --then t
 it made is taken away at its end. The status is 0, that of the command behind --then, or 1 where something failed."""
 import json
 import os
+import signal
 import subprocess
 import sys
 
@@ -90,11 +91,12 @@ def start(mesh, space, settings):
     return process
 
 
-def run(words, scenario, front):
-    """The reports of all routers, the kernel's routes, and the command; the status."""
+def run(words, scenario, front, running):
+    """The reports of all routers, the kernel's routes, and the command; the status. The routers' processes go into `running`."""
     mesh, status, reports = os.path.abspath(words.mesh), 0, {}
     build(scenario, front)
-    running = {router["name"]: start(mesh, front + router["name"], settings_of(scenario, router, words.seconds)) for router in scenario.routers}
+    for router in scenario.routers:
+        running[router["name"]] = start(mesh, front + router["name"], settings_of(scenario, router, words.seconds))
     for name, process in running.items():
         reports[name], _ = process.communicate()
         print(reports[name], end="", flush=True)
@@ -122,12 +124,19 @@ def main():
         parser.error("--then wants a router of the scenario and a command")
     if os.geteuid() != 0:
         sys.exit("namespaces: root is needed")
-    front = f"m{os.getpid()}-"
+    front, running = f"m{os.getpid()}-", {}
+    # What was made is taken away, also where a reader of the reports goes away or the script is ended.
+    signal.signal(signal.SIGPIPE, signal.SIG_IGN)
+    signal.signal(signal.SIGTERM, lambda *_: sys.exit(143))
     try:
-        sys.exit(run(words, scenario, front))
+        sys.exit(run(words, scenario, front, running))
     except (OSError, subprocess.CalledProcessError) as fault:
         sys.exit(f"namespaces: {fault}")
+    except KeyboardInterrupt:
+        sys.exit(130)
     finally:
+        for process in running.values():
+            process.kill()
         for space in ("hub", *(router["name"] for router in scenario.routers)):
             subprocess.run(["ip", "netns", "del", front + space], check=False, stderr=subprocess.DEVNULL)
 
