@@ -1,9 +1,10 @@
 #!/usr/bin/env python3
-"""floors.py [--check FILE]: draws the crates of crates.txt, floor by floor, as SVG on standard output; with --check it compares with FILE instead.
+"""Draws the crates of crates.txt, floor by floor, as SVG on standard output.
 
 A comment line of crates.txt names a floor, lowest first, and the crates below it stand there. A line in the picture leads from a crate
 to one that it stands on, where no other crate that it stands on leads there too. The status is 1 where FILE differs, or where a crate
 stands on one of a higher floor."""
+import argparse
 import functools
 import os
 import sys
@@ -70,9 +71,9 @@ def draw(floors, own):
 
 
 def main():
-    if sys.argv[1:] in (["--help"], ["-h"]):
-        print(__doc__)
-        return 0
+    words = argparse.ArgumentParser(description=__doc__, formatter_class=argparse.RawDescriptionHelpFormatter)
+    words.add_argument("--check", metavar="FILE", help="compare with FILE, and draw nothing")
+    wanted = words.parse_args().check
     top = os.path.dirname(os.path.dirname(os.path.abspath(__file__)))
     floors, own = read(f"{top}/crates.txt")
     level = {name: row for row, (_, crates) in enumerate(floors) for name in crates}
@@ -80,11 +81,11 @@ def main():
     for it in wrong:
         print(f"floors: {it}", file=sys.stderr)
     picture = draw(floors, own)
-    if sys.argv[1:2] == ["--check"]:
-        with open(sys.argv[2], encoding="utf8") as file:
+    if wanted:
+        with open(wanted, encoding="utf8") as file:
             if file.read() != picture:
-                wrong.append(sys.argv[2])
-                print(f"floors: {sys.argv[2]} isn't the picture of crates.txt: make it anew by tools/floors.py", file=sys.stderr)
+                wrong.append(wanted)
+                print(f"floors: {wanted} isn't the picture of crates.txt: make it anew by docs/floors.py", file=sys.stderr)
     else:
         sys.stdout.write(picture)
     return 1 if wrong else 0
