@@ -2,25 +2,14 @@
 ghost use Rattle.std.specs.Prelude.{◌≡◌, IfSome, IsNone};
 ghost use Rattle.mesh_flood.specs.declared.verdict.Heading.{Heading};
 ghost use Rattle.mesh_packet.specs.Fields.{fields_of_message};
-ghost use Rattle.mesh_wire.specs.Parts.{number_of};
 ghost use Rattle.mesh_wire.specs.Rules.{Keeps};
 ghost use Rattle.mesh_wire.specs.Tc.{TcIs};
 ghost use Rattle.mesh_wire.specs.TcRules.{BreaksTc};
 ghost use Rattle.mesh_machine.specs.Messages.{IsHeading};
 
-use mesh_atoms::{Addr4, Tc};
+use mesh_atoms::{Tc, address_in};
 use mesh_flood::Heading as FloodHeading;
 use mesh_packet::Message;
-
-// An IPv4 address by its first four octets.
-fn number_of(octets: &[u8; 16]) -> u32
-    ensures { result ≡ number_of octets.now }
-{
-    16777216 * u32::from(octets[0])
-        + 65536 * u32::from(octets[1])
-        + 256 * u32::from(octets[2])
-        + u32::from(octets[3])
-}
 
 /// The heading of a message that can be flooded; `None` for another one.
 pub(crate) fn heading_of(message: &Message) -> Option<FloodHeading>
@@ -33,7 +22,7 @@ pub(crate) fn heading_of(message: &Message) -> Option<FloodHeading>
     match (message.originator, message.sequence) {
         (Some(originator), Some(sequence)) => Some(FloodHeading {
             kind: message.kind,
-            originator: Addr4(number_of(&originator.octets)),
+            originator: address_in(&originator.octets),
             sequence,
             limit: message.limit,
             count: message.count,
