@@ -69,13 +69,21 @@ not_far : (o : Option ℕ) (n : ℕ) → is_far o ≡ false → o ≡ Some n →
 not_far None n far is = absurd cc
 not_far (Some m) n far is = let same : m ≡ n = cc in subst (λ (k : ℕ). k ≢ 255) same (eqb-false m 255 far)
 
+-- what is forwarded has hops left
+hops_left : (own : Addr4) (heading : Heading) (link : Option Bool) (received forwarded : Base FloodKey Noted) → forward_by own heading link received forwarded ≡ forward.Do → has_no_hops heading ≡ false
+hops_left own heading link received forwarded forwards =
+    does (addr_eq heading.originator own) link (has_no_hops heading) (find flood_eq received (key_of heading)) (is_full received) (find flood_eq forwarded (key_of heading)) (is_full forwarded) forwards
+
+-- so it has a hop limit above 1
+pub limit_left : (own : Addr4) (heading : Heading) (link : Option Bool) (received forwarded : Base FloodKey Noted) → forward_by own heading link received forwarded ≡ forward.Do → (limit : ℕ) × (heading.limit ≡ Some limit) × (1 < limit)
+limit_left own heading link received forwarded forwards =
+    above_one heading.limit (neither (is_last heading.limit) (is_far heading.count) (hops_left own heading link received forwarded forwards)).0
+
 -- a message that is forwarded has a hop left
 pub forwarded_hop : (message : MessageFields) (s : List ℕ) (heading : Heading) (own : Addr4) (link : Option Bool) (received forwarded : Base FloodKey Noted) → SpellsMessage message s → ((i : ℕ) → slice_index s i < 256) → IsHeading message heading →
     forward_by own heading link received forwarded ≡ forward.Do → HasHop message
 forwarded_hop message s heading own link received forwarded spells bytes is forwards =
-    let none : has_no_hops heading ≡ false =
-    does (addr_eq heading.originator own) link (has_no_hops heading) (find flood_eq received (key_of heading)) (is_full received) (find flood_eq forwarded (key_of heading)) (is_full forwarded) forwards in
-    let (last, far) = neither (is_last heading.limit) (is_far heading.count) none in
+    let (last, far) = neither (is_last heading.limit) (is_far heading.count) (hops_left own heading link received forwarded forwards) in
     let (limit, limit_is, above) = above_one heading.limit last in
     record {
       limit = limit;

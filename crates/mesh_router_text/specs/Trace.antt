@@ -33,10 +33,13 @@ happened_line moment r (Some heard) = heard_line moment r.name (face_name r.inte
 unfoldable pub event_line : NetEvent → RouterSettings → List ℕ
 event_line event r = happened_line event.moment r event.heard
 
--- the flooding relays of an interface of the router of that name
+-- the flooding relays of a router, on the interface of that name
+abbrev pub flooding_text : List ℕ → List ℕ → List Addr4 → List ℕ
+flooding_text router face relays = line_of (codes "relays " ∷ router ∷ codes " flooding " ∷ face ∷ relays_text relays ∷ [])
+
+-- of the lists of all its interfaces, the one of this interface
 unfoldable pub flooding_relays_line : List ℕ → List (List Addr4) → ℕ × Interface → List ℕ
-flooding_relays_line router relays face = line_of (
-    codes "relays " ∷ router ∷ codes " flooding " ∷ face.1.name ∷ relays_text (slice_index_or relays face.0 []) ∷ [])
+flooding_relays_line router relays face = flooding_text router face.1.name (slice_index_or relays face.0 [])
 
 -- its routing relays
 unfoldable pub routing_relays_line : List ℕ → List Addr4 → List ℕ

@@ -1,0 +1,2 @@
+mod PositionsLemmas
+mod ReadingLemmas

@@ -1,0 +1,8 @@
+//! The checker of a trace: its lines, and where a trace stands after some of them.
+#![tactic(auto)]
+
+mod positions;
+mod reading;
+
+pub use positions::{all_else_is_fixed, lines_lead_alike, runs_are_whole};
+pub use reading::Reader;
