@@ -3,18 +3,20 @@ pub use Rattle.mesh_hello.proofs as hello
 pub use Rattle.mesh_nhdp.proofs as nhdp
 pub use Rattle.mesh_wire.proofs.packet
 pub use Rattle.mesh_wire.proofs.tlv
+pub use Rattle.mesh_topo.proofs as topo
+pub use Rattle.mesh_wire.proofs as wire
 -- Lemmas for crates above, each file with the crates that cite it.
 pub mod Effects  -- core, texts
-pub mod Hops  -- core
-pub mod Opening  -- core, run
-pub mod Originators  -- core, renewal
-pub mod Places  -- radio
+pub mod Hops  -- core, replay
+pub mod Opening  -- core, replay, run
+pub mod Originators  -- core, renewal, replay
+pub mod Places  -- radio, replay
 pub mod Sendables  -- core
-pub mod Sent  -- radio
-pub mod Soundness  -- core
-pub mod Takes  -- core
+pub mod Sent  -- radio, replay
+pub mod Soundness  -- core, replay
+pub mod Tables  -- replay
+pub mod Takes  -- core, replay
 pub mod Through  -- emulate, texts
 -- Lemmas of this crate alone.
 mod Given
 mod Saying
-mod Tables

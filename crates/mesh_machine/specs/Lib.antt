@@ -4,6 +4,7 @@ pub use Rattle.mesh_flood.specs as flood
 pub use Rattle.mesh_nhdp.specs.links
 pub use Rattle.mesh_wire.specs.packet
 pub use Rattle.mesh_wire.specs.tlv
+pub use Rattle.mesh_wire.specs as wire
 pub mod Draws
 pub mod Frames
 pub mod Laws

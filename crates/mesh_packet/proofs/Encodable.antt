@@ -21,20 +21,20 @@ use Rattle.mesh_packet.specs.Least.{IsOriginator, IsEncodableBlock, IsEncodableM
 abbrev pub AreOctets : List ℕ → Type 0
 AreOctets s = (i : ℕ) → get_or s i 0 < 256
 
-octets_front : (a b : List ℕ) → AreOctets (a ++ b) → AreOctets a
+pub octets_front : (a b : List ℕ) → AreOctets (a ++ b) → AreOctets a
 octets_front a b h i = at (ltb i (length a)) refl where
   at : (t : Bool) → ltb i (length a) ≡ t → get_or a i 0 < 256
   at true e = subst (λ (n : ℕ). n < 256) (get_or_append_left a b 0 i (ltb-true i (length a) e)) (h i)
   at false e = omega (arith, get_or_past a i 0 (ltb-false i (length a) e))
 
-octets_back : (a b : List ℕ) → AreOctets (a ++ b) → AreOctets b
+pub octets_back : (a b : List ℕ) → AreOctets (a ++ b) → AreOctets b
 octets_back a b h i = subst (λ (n : ℕ). n < 256) (get_or-append-add a b i 0) (h (length a + i))
 
 -- the same of a text in two parts
-front_octets : (s a b : List ℕ) → AreOctets s → s ≡ a ++ b → AreOctets a
+pub front_octets : (s a b : List ℕ) → AreOctets s → s ≡ a ++ b → AreOctets a
 front_octets s a b h e = octets_front a b (subst AreOctets e h)
 
-back_octets : (s a b : List ℕ) → AreOctets s → s ≡ a ++ b → AreOctets b
+pub back_octets : (s a b : List ℕ) → AreOctets s → s ≡ a ++ b → AreOctets b
 back_octets s a b h e = octets_back a b (subst AreOctets e h)
 
 all_of : (s : List ℕ) → slice_range s 0 (length s) ≡ s

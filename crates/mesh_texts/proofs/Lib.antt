@@ -1,14 +1,14 @@
 -- Lemmas for crates above, each file with the crates that cite it.
-pub mod Cuts  -- emulate
+pub mod Cuts  -- emulate, replay
 pub mod Gaps  -- emulate
-pub mod LineTexts  -- emulate
-pub mod Marked  -- emulate
+pub mod LineTexts  -- emulate, replay
+pub mod Marked  -- emulate, replay
 pub mod ReadBack  -- emulate
+pub mod RouteLines  -- replay
 pub mod RunStates  -- emulate
 pub mod TraceSteps  -- emulate
 -- Lemmas of this crate alone.
 mod LineLists
-mod RouteLines
 mod Sections
 mod States
 mod WholeTexts

@@ -54,13 +54,13 @@ pub record IsNeither (l : List ℕ) : Type 0 where
 pub plain_neither : (l : List ℕ) → IsPlain l → IsNeither l
 plain_neither l is = record { line = is.line; no_heading = is.no_heading; no_route = is.no_route }
 
-address : (a : Addr4) → lacks 10 (dotted a) ≡ true
+pub address : (a : Addr4) → lacks 10 (dotted a) ≡ true
 address a = dotted_lacks 10 (omega arith) refl a
 
 pub number : (n : ℕ) → lacks 10 (decimal n) ≡ true
 number n = decimal_lacks 10 (omega arith) n
 
-face : (faces : List Interface) (i : ℕ) → lacks 10 (face_name faces i) ≡ true
+pub face : (faces : List Interface) (i : ℕ) → lacks 10 (face_name faces i) ≡ true
 face faces i = face_name_lacks 10 (omega arith) faces i
 
 -- Headings and routes

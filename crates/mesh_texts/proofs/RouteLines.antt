@@ -46,7 +46,7 @@ same_decimal m n small e = by (ltb n (10 ^ 64)) refl where
 
 -- Addresses
 
-in_order : (a : Addr4) →
+pub in_order : (a : Addr4) →
     dotted a ≡ decimal (a.0 / 16777216) ++ 46 ∷ (decimal (a.0 / 65536 % 256) ++ 46 ∷ (decimal (a.0 / 256 % 256) ++ 46 ∷ decimal (a.0 % 256)))
 unfolding dotted
 in_order a =

@@ -2,18 +2,19 @@
 pub use Rattle.mesh_packet.proofs as packet
 pub use Rattle.mesh_tlv.proofs as tlv
 -- Lemmas for crates above, each file with the crates that cite it.
+pub mod Ascending  -- replay
 pub mod EachDistance  -- probe
 pub mod HelloRuled  -- probe
-pub mod Hops  -- machine, probe
+pub mod Hops  -- machine, probe, replay
 pub mod Laid  -- machine
-pub mod OneHello  -- report
-pub mod OneTc  -- report
+pub mod OneHello  -- replay, report
+pub mod OneTc  -- replay, report
+pub mod RowLines  -- replay
 pub mod Single  -- report
 pub mod Slots  -- probe
 pub mod Standing  -- probe
 -- Lemmas of this crate alone.
 mod Addresses
-mod Ascending
 mod Behind
 mod Collected
 mod Collecting
@@ -38,7 +39,6 @@ mod LeastAlone
 mod LinesSay
 mod Made
 mod Ranks
-mod RowLines
 mod RowsSay
 mod Ruled
 mod RunLaws
