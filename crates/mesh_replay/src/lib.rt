@@ -4,5 +4,5 @@
 mod positions;
 mod reading;
 
-pub use positions::{all_else_is_fixed, lines_lead_alike, runs_are_whole};
-pub use reading::Reader;
+pub use positions::{all_else_is_fixed, lines_lead_alike, runs_are_whole, whole_traces_end};
+pub use reading::{Reader, worked_texts_have_lines};

@@ -8,8 +8,11 @@ ghost use Rattle.mesh_replay.specs.Positions.Laws.{
   AllElseIsFixed,
   OneDecidesFit,
   OneDecidesEnd,
-  UnfitIsNotEnded,
+  UnfitIsNotWhole,
   OneUnfit,
+  NothingFollows,
+  NoneIsLonger,
+  HasSomeLine,
   RunsAreWhole,
 };
 
@@ -30,8 +33,15 @@ pub fn all_else_is_fixed()
     ensures fixed { AllElseIsFixed }
     ensures fit { OneDecidesFit }
     ensures end { OneDecidesEnd }
-    ensures unfit { UnfitIsNotEnded }
+    ensures unfit { UnfitIsNotWhole }
     ensures one { OneUnfit }
+{}
+
+/// Behind a whole trace no line fits, so that no trace is whole with lines more; and the whole trace of a network that has routers has lines.
+pub fn whole_traces_end()
+    ensures follows { NothingFollows }
+    ensures longer { NoneIsLonger }
+    ensures some { HasSomeLine }
 {}
 
 /// The trace of each run of a network from its opening to its end is whole.

@@ -1,6 +1,7 @@
 //! The lines of a trace, one after the other.
 ghost use Rattle.std.specs.Prelude.{◌≡◌, ◌∷◌, ◌++◌, ◌<◌, ◌≤◌, ◌↔◌, ℕ, List, length, drop, IsTrue, IsFalse, IfSome, IsNone};
 ghost use Rattle.mesh_replay.specs.Reading.Lines.{lines_of, IsLineOf};
+ghost use Rattle.mesh_replay.specs.Reading.Worked.{EmptyLines, LastLines, ReturnsStay};
 ghost use Rattle.mesh_replay.specs.Reading.Readers.{lines_from, IsReaderOf, TakesLine, IsRest};
 
 use memchr::memchr;
@@ -116,3 +117,10 @@ impl Reader {
         self.taken += 1;
     }
 }
+
+/// Texts and their lines, worked by hand: where lines are empty, how a text may end, and that a carriage return is part of its line.
+pub fn worked_texts_have_lines()
+    ensures empty { EmptyLines }
+    ensures last { LastLines }
+    ensures returns { ReturnsStay }
+{}

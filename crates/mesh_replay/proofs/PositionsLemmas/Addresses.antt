@@ -214,7 +214,7 @@ tick_named p x now last_ticks line q named h =
     let t = h.ticks in
     subst IsNamedPosition (sym h.leads) (record {
       near = set_bound p.net.routers x h.is named.near (subst (λ (b : Bases). HasBound b.neighbourhood) (sym t.follows.bases_are)
-          (live_bound h.was.settings now h.was.bases.neighbourhood t.live.neighbourhood t.is_live.neighbourhood (named.near x h.was h.stood)));
+          (live_bound h.was.settings now h.was.bases.neighbourhood t.live.neighbourhood t.is_live.neighbourhood (named.near x h.was h.stands)));
       air = named.air;
       left = λ f among. absurd (both_left (relay_items h.is.settings) (t.hellos ++ t.tcs) (relays_left h.is.settings)
           (both_left t.hellos t.tcs (hellos_left h.was h.is t.hellos t.are_hellos) (tcs_left h.was h.is t.tcs t.are_tcs)) f (subst (λ (l : List Item). Contains l (Sent f)) t.whole among));
@@ -245,7 +245,7 @@ hearing_named p line q named h =
     let first = h.next.first in
     let there : Contains p.net.traffic.air h.delivery =
     subst (λ (l : List Delivery). Contains l h.delivery) (sym first.whole) (Contains-append_right first.before (h.delivery ∷ first.behind) h.delivery (0, omega arith, refl)) in
-    let done = hears_bound h.was _ h.delivery.frame h.is h.left (named.near h.arc.to h.was h.stood) (named.air h.delivery there) h.hears in
+    let done = hears_bound h.was _ h.delivery.frame h.is h.left (named.near h.arc.to h.was h.stands) (named.air h.delivery there) h.hears in
     subst IsNamedPosition (sym h.leads) (record {
       near = set_bound p.net.routers h.arc.to h.is named.near done.near;
       air = λ d among. named.air d (subst (λ (l : List Delivery). Contains l d) (sym first.whole) (others first.before first.behind h.delivery d (subst (λ (l : List Delivery). Contains l d) first.left among)));

@@ -159,7 +159,7 @@ tells_once net x s line Routing new new' more more' known one other =
 tells_once net x s line (Hello i) new new' more more' known one other =
     let a = tells_hello net x s line i new more one in
     let b = tells_hello net x s line i new' more' other in
-    let frames : b.frame ≡ a.frame = same_frame s line b.frame a.frame (b.is.iface ∙ sym a.is.iface) b.is.written.packet.octets a.is.written.packet.octets b.tells.told a.tells.told in
+    let frames : b.frame ≡ a.frame = same_frame s line b.frame a.frame (b.is.iface ∙ sym a.is.iface) b.is.written.packet.octets a.is.written.packet.octets b.tells.line_is a.tells.line_is in
     frame_once net x s a.frame line new new' more more' a.tells (subst (λ (f : Frame). TellsFrame net x s f line new' more') frames b.tells)
 tells_once net x s line (Tc complete sequence rows) new new' more more' known one other =
     let a = tells_tc net x s line complete sequence rows new more one in
@@ -168,7 +168,7 @@ tells_once net x s line (Tc complete sequence rows) new new' more more' known on
     let n = one_part s b.are.validity complete sequence rows (b.first ∷ b.further) b.are.sends in
     let first : b.first ≡ a.first = same_frame s line b.first a.first (ap (λ (f : Frame). f.iface) (first_is s n.bytes b.first b.further n.are) ∙ sym (ap (λ (f : Frame). f.iface) (first_is s m.bytes a.first a.further m.are)))
     (subst (λ (f : Frame). AreOctets f.bytes) (sym (first_is s n.bytes b.first b.further n.are)) n.written.packet.octets)
-    (subst (λ (f : Frame). AreOctets f.bytes) (sym (first_is s m.bytes a.first a.further m.are)) m.written.packet.octets) b.tells.told a.tells.told in
+    (subst (λ (f : Frame). AreOctets f.bytes) (sym (first_is s m.bytes a.first a.further m.are)) m.written.packet.octets) b.tells.line_is a.tells.line_is in
     let bytes : n.bytes ≡ m.bytes =
     sym (ap (λ (f : Frame). f.bytes) (first_is s n.bytes b.first b.further n.are)) ∙ (ap (λ (f : Frame). f.bytes) first ∙ ap (λ (f : Frame). f.bytes) (first_is s m.bytes a.first a.further m.are)) in
     let further : b.further ≡ a.further =

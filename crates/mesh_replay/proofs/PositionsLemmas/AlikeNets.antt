@@ -114,8 +114,8 @@ frame_from m n x s t frame line after losses nets states tells =
     record {
       new = with_traffic n tells.traffic;
       tells = record {
-        told = subst (λ (l : ℕ). IsLineOf line (sent_line l t.settings.name (face_name t.settings.interfaces frame.iface) frame.bytes)) (sym states.last)
-            (subst (λ (r : RouterSettings). IsLineOf line (sent_line s.last r.name (face_name r.interfaces frame.iface) frame.bytes)) (sym states.settings) tells.told);
+        line_is = subst (λ (l : ℕ). IsLineOf line (sent_line l t.settings.name (face_name t.settings.interfaces frame.iface) frame.bytes)) (sym states.last)
+            (subst (λ (r : RouterSettings). IsLineOf line (sent_line s.last r.name (face_name r.interfaces frame.iface) frame.bytes)) (sym states.settings) tells.line_is);
         lost = tells.lost;
         traffic = tells.traffic;
         sends = subst (λ (c : Scenario). Sends c t.last x e n.traffic tells.traffic) (sym nets.scenario)

@@ -178,8 +178,8 @@ tick_walk old x0 x now l was is sent es after stood ticks frames sends opens =
     let opening = walks_one (at old x0 []) (at (with_state base x (untold is)) x (relay_items is.settings ++ left)) (tick_line now was.settings.name) (tick_one now was.settings)
     (λ line told. To_event refl (opens line _ (record {
       was = was;
-      stood = stood;
-      told = told;
+      stands = stood;
+      line_is = told;
       is = untold is;
       left = relay_items is.settings ++ left;
       ticks = record {
@@ -230,8 +230,8 @@ hear_walk old x0 delivery others arc sender was is fates es after next arc_is se
       arc_is = arc_is;
       sender_is = sender_is;
       was = was;
-      stood = stood;
-      told = told;
+      stands = stood;
+      line_is = told;
       is = untold is;
       left = relay_items is.settings ++ left;
       hears = Taken (takes_of was arrival delivery.frame fates (map frame_of es) is hears);

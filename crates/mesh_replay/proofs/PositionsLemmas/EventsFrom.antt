@@ -185,14 +185,14 @@ record TickAlso (n : Net) (x now last_ticks : ℕ) (line : List ℕ) (after : Tr
 
 tick_from : (m n : Net) → AlikeNets m n → (x now last_ticks : ℕ) (line : List ℕ) (after : TracePosition) → OpensTick m x now last_ticks line after → TickAlso n x now last_ticks line after
 tick_from m n nets x now last_ticks line after h =
-    let here = router_also m n nets x h.was h.stood in
+    let here = router_also m n nets x h.was h.stands in
     let set = nets_set m n x h.is h.is nets (states_itself h.is) in
     record {
       new = record { net = record (with_state n x h.is) { last_ticks = last_ticks }; router = x; left = h.left };
       opens = record {
         was = here.t;
-        stood = here.stands;
-        told = subst (λ (r : RouterSettings). IsLineOf line (tick_line now r.name)) (sym here.alike.settings) h.told;
+        stands = here.stands;
+        line_is = subst (λ (r : RouterSettings). IsLineOf line (tick_line now r.name)) (sym here.alike.settings) h.line_is;
         is = h.is;
         left = h.left;
         ticks = ticks_from h.was here.t here.alike now h.is h.left h.ticks;
@@ -204,7 +204,7 @@ tick_from m n nets x now last_ticks line after h =
 
 hearing_from : (m n : Net) → AlikeNets m n → (line : List ℕ) (after : TracePosition) → OpensHearing m line after → OpensAlso n line after
 hearing_from m n nets line after h =
-    let here = router_also m n nets h.arc.to h.was h.stood in
+    let here = router_also m n nets h.arc.to h.was h.stands in
     let arrival : Arrival = record { now = h.delivery.moment; iface = h.arc.to_iface; sender = h.sender } in
     let also = hears_from h.was here.t here.alike arrival h.delivery.frame h.is h.left h.hears in
     let set = nets_set m n h.arc.to h.is also.new nets also.alike in
@@ -220,8 +220,8 @@ hearing_from m n nets line after h =
         arc_is = subst (λ (c : Scenario). slice_get c.arcs h.delivery.arc ≡ Some h.arc) (sym nets.scenario) h.arc_is;
         sender_is = subst (λ (c : Scenario). IsSender c.routers h.arc h.sender) (sym nets.scenario) h.sender_is;
         was = here.t;
-        stood = here.stands;
-        told = subst (λ (r : RouterSettings). IsLineOf line (heard_line h.delivery.moment r.name (face_name r.interfaces h.arc.to_iface) h.sender h.delivery.frame)) (sym here.alike.settings) h.told;
+        stands = here.stands;
+        line_is = subst (λ (r : RouterSettings). IsLineOf line (heard_line h.delivery.moment r.name (face_name r.interfaces h.arc.to_iface) h.sender h.delivery.frame)) (sym here.alike.settings) h.line_is;
         is = also.new;
         left = h.left;
         hears = also.hears;

@@ -281,8 +281,8 @@ nets_itself n = record {
 
 tick_once : (net : Net) (x now last_ticks : ℕ) (line : List ℕ) (p q : TracePosition) → AreSound net.routers → OpensTick net x now last_ticks line p → OpensTick net x now last_ticks line q → Alike p q
 tick_once net x now last_ticks line p q sound h k =
-    let was : k.was ≡ h.was = same_at net.routers x k.was h.was k.stood h.stood in
-    let once = ticks_once h.was now h.is k.is h.left k.left (sound x h.was h.stood) h.ticks (subst (λ (z : State). TicksBy z now k.is k.left) was k.ticks) in
+    let was : k.was ≡ h.was = same_at net.routers x k.was h.was k.stands h.stands in
+    let once = ticks_once h.was now h.is k.is h.left k.left (sound x h.was h.stands) h.ticks (subst (λ (z : State). TicksBy z now k.is k.left) was k.ticks) in
     let set = nets_set net net x h.is k.is (nets_itself net) once.alike in
     subst (λ (z : TracePosition). Alike z q) (sym h.leads)
     (subst (λ (z : TracePosition). Alike (record { net = record (with_state net x h.is) { last_ticks = last_ticks }; router = x; left = h.left }) z) (sym k.leads)
@@ -303,14 +303,14 @@ hearing_once net line p q sound h k =
     let others : k.others ≡ h.others = g.left ∙ (one.left ∙ sym f.left) in
     let arc : k.arc ≡ h.arc = same_at net.scenario.arcs h.delivery.arc k.arc h.arc (subst (λ (d : Delivery). slice_get net.scenario.arcs d.arc ≡ Some k.arc) one.first k.arc_is) h.arc_is in
     let sender : k.sender ≡ h.sender = sender_once net.scenario.routers h.arc k.sender h.sender (subst (λ (a : RadioArc). IsSender net.scenario.routers a k.sender) arc k.sender_is) h.sender_is in
-    let was : k.was ≡ h.was = same_at net.routers h.arc.to k.was h.was (subst (λ (a : RadioArc). slice_get net.routers a.to ≡ Some k.was) arc k.stood) h.stood in
+    let was : k.was ≡ h.was = same_at net.routers h.arc.to k.was h.was (subst (λ (a : RadioArc). slice_get net.routers a.to ≡ Some k.was) arc k.stands) h.stands in
     let arrival : Arrival = record { now = h.delivery.moment; iface = h.arc.to_iface; sender = h.sender } in
     let hears : HearsBy h.was arrival h.delivery.frame k.is k.left =
     subst (λ (z : State). HearsBy z arrival h.delivery.frame k.is k.left) was
     (subst (λ (z : Addr4). HearsBy k.was (record { now = h.delivery.moment; iface = h.arc.to_iface; sender = z }) h.delivery.frame k.is k.left) sender
     (subst (λ (a : RadioArc). HearsBy k.was (record { now = h.delivery.moment; iface = a.to_iface; sender = k.sender }) h.delivery.frame k.is k.left) arc
     (subst (λ (d : Delivery). HearsBy k.was (record { now = d.moment; iface = k.arc.to_iface; sender = k.sender }) d.frame k.is k.left) one.first k.hears))) in
-    let once = hears_once h.was arrival h.delivery.frame h.is k.is h.left k.left (sound h.arc.to h.was h.stood) h.hears hears in
+    let once = hears_once h.was arrival h.delivery.frame h.is k.is h.left k.left (sound h.arc.to h.was h.stands) h.hears hears in
     let set = nets_set net net h.arc.to h.is k.is (nets_itself net) once.alike in
     let here : TracePosition = record { net = with_traffic (with_state net h.arc.to h.is) (with_heard net.traffic h.others); router = h.arc.to; left = h.left } in
     let there : q ≡ record { net = with_traffic (with_state net h.arc.to k.is) (with_heard net.traffic h.others); router = h.arc.to; left = k.left } =

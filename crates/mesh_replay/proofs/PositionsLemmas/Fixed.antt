@@ -13,8 +13,8 @@ use Rattle.mesh_machine.proofs.Places.{stands, same_at}
 use Rattle.mesh_machine.specs.Net.{Net}
 use Rattle.mesh_replay.specs.Positions.Alike.{AlikeBases, AlikeStates, Alike, HasAddresses, IsSoundPosition}
 use Rattle.mesh_replay.specs.Positions.Items.{Tells}
-use Rattle.mesh_replay.specs.Positions.Laws.{AllElseIsFixed, LeadsAlike, LeadsFromAlike, OneDecidesFit, OneDecidesEnd, UnfitIsNotEnded, OneUnfit}
-use Rattle.mesh_replay.specs.Positions.Standing.{Item, TracePosition, IsFirstPosition}
+use Rattle.mesh_replay.specs.Positions.Laws.{NothingFollows, NoneIsLonger, HasSomeLine, AllElseIsFixed, LeadsAlike, LeadsFromAlike, OneDecidesFit, OneDecidesEnd, UnfitIsNotWhole, OneUnfit}
+use Rattle.mesh_replay.specs.Positions.Standing.{Item, TracePosition, IsFirstPosition, IsDone}
 use Rattle.mesh_replay.specs.Positions.Leading.{Fits, Leads, To_event, To_item, LeadsBy, Reaches, At_line, Behind_all}
 use Rattle.mesh_replay.proofs.PositionsLemmas.Addresses.{positions_have_addresses}
 use Rattle.mesh_replay.proofs.PositionsLemmas.AlikeBases.{bases_itself}
@@ -23,6 +23,7 @@ use Rattle.mesh_replay.proofs.PositionsLemmas.AlikeNets.{AlikeNets, as_nets, sta
 use Rattle.mesh_replay.proofs.PositionsLemmas.AlikeStates.{HoldsAlso, holds_also, holds_by, rows_only, states_back}
 use Rattle.mesh_replay.proofs.PositionsLemmas.EventsFrom.{router_also, last_ticks_from, opens_from}
 use Rattle.mesh_replay.proofs.PositionsLemmas.EventsOnce.{opens_once}
+use Rattle.mesh_replay.proofs.PositionsLemmas.Over.{over_opens}
 use Rattle.mesh_replay.proofs.PositionsLemmas.SoundPositions.{positions_are_sound}
 use Rattle.mesh_replay.proofs.PositionsLemmas.Walks.{leads_on}
 
@@ -193,11 +194,11 @@ split : (front : List (List ℕ)) (line : List ℕ) (rest : List (List ℕ)) (p 
 split [] line rest p q (mid, one, more) = (p, mid, refl, one)
 split (l ∷ front) line rest p q (mid, one, more) = let (a, b, before, leads) = split front line rest mid q more in (a, b, (mid, one, before), leads)
 
-pub unfit_is_not_ended : UnfitIsNotEnded
-unfit_is_not_ended s lines k (At_line p front line rest whole reaches unfit) (q, (first, is, leads), done) =
+pub unfit_is_not_whole : UnfitIsNotWhole
+unfit_is_not_whole s lines k (At_line p front line rest whole reaches unfit) (q, (first, is, leads), done) =
     let (mid, next, before, led) = split front line rest first q (subst (λ (l : List (List ℕ)). LeadsBy first l q) whole leads) in
     unfit (mid, next, (first, is, before), led)
-unfit_is_not_ended s lines k (Behind_all p reaches none) ended = none ended
+unfit_is_not_whole s lines k (Behind_all p reaches none) ended = none ended
 
 -- one line at most is the first that doesn't fit
 longer : {A : Type 0} (front front' : List A) (line line' : A) (rest rest' : List A) → front ++ line ∷ rest ≡ front' ++ line' ∷ rest' → length front < length front' → (more : List A) × (front' ≡ front ++ line ∷ more)
@@ -225,3 +226,22 @@ one_unfit s lines k j (At_line p front line rest whole reaches unfit) (At_line p
 one_unfit s lines k j (At_line p front line rest whole reaches unfit) (Behind_all p' reaches' none) = absurd (unfit (fits_within s lines front line rest p' whole reaches'))
 one_unfit s lines k j (Behind_all p reaches none) (At_line p' front line rest whole reaches' unfit) = absurd (unfit (fits_within s lines front line rest p whole reaches))
 one_unfit s lines k j (Behind_all p reaches none) (Behind_all p' reaches' none') = refl
+
+-- ---- behind a whole trace
+
+closed : (p : TracePosition) (line : List ℕ) (q : TracePosition) → IsDone p → Leads p line q → ⊥
+closed p line q done (To_event none opens) = over_opens p.net line q done.over opens
+closed p line q done (To_item {item} {rest} left stands tells leads) = absurd (let no : [] ≡ item ∷ rest = sym done.none ∙ left in cc)
+
+pub nothing_follows : NothingFollows
+nothing_follows s lines line (p, here, done) = one_decides_fit s lines line p here (λ q. closed p line q done)
+
+pub none_is_longer : NoneIsLonger
+none_is_longer s lines line more whole (q, there, done) = nothing_follows s lines line whole (fits_within s (lines ++ line ∷ more) lines line more q refl there)
+
+pub has_some_line : HasSomeLine
+has_some_line s some (p, (first, is, same), done) =
+    let none : first.net.last_ticks ≡ 0 = is.opening.last_ticks in
+    let all : first.net.last_ticks ≡ length first.net.routers = subst (λ (z : TracePosition). z.net.last_ticks ≡ length z.net.routers) same done.over.last_ticks in
+    let count = is.opening.count in
+    omega (arith, some, none, all, count)

@@ -55,7 +55,7 @@ frame_walk net x s item e after more rest stood sends told =
     (walks_one _ _ text (sent_one s.last s.settings e.iface e.frame)
     (λ line is. subst (λ (l : List Item). Leads (at net x (item ∷ rest)) line (at (with_traffic net after) x l)) (append_assoc (map Lost e.lost) more rest)
     (to_item net x item rest line s (with_traffic net after) (map Lost e.lost ++ more) stood
-    (told line (record { told = is; lost = e.lost; traffic = after; sends = sends; leads = refl; losses_are = refl })))))
+    (told line (record { line_is = is; lost = e.lost; traffic = after; sends = sends; leads = refl; losses_are = refl })))))
     (losses_walk (with_traffic net after) x s (more ++ rest) e.lost stood (All-head (λ (e : Emission). All (λ n. n < length net.scenario.arcs) e.lost) e [] (sent_lost net.scenario s.last x (e ∷ []) net.traffic after (after, sends, refl))))
 
 -- ---- frames of given octets

@@ -55,13 +55,13 @@ set_sound routers x new sound is y s at = elim (set_at routers x new y s at) [
 opens_sound : (old : Net) (line : List ℕ) (new : TracePosition) → AreSound old.routers → OpensEvent old line new → AreSound new.net.routers
 opens_sound old line new sound (By_delivery h) =
     subst (λ (p : TracePosition). AreSound p.net.routers) (sym h.leads)
-    (set_sound old.routers h.arc.to h.is sound (hears_sound h.was _ h.delivery.frame h.is h.left (sound h.arc.to h.was h.stood) h.hears))
+    (set_sound old.routers h.arc.to h.is sound (hears_sound h.was _ h.delivery.frame h.is h.left (sound h.arc.to h.was h.stands) h.hears))
 opens_sound old line new sound (By_tick x moment next h) =
     subst (λ (p : TracePosition). AreSound p.net.routers) (sym h.leads)
-    (set_sound old.routers x h.is sound (ticks_sound h.was moment h.is h.left (sound x h.was h.stood) h.ticks))
+    (set_sound old.routers x h.is sound (ticks_sound h.was moment h.is h.left (sound x h.was h.stands) h.ticks))
 opens_sound old line new sound (By_last_tick only some h) =
     subst (λ (p : TracePosition). AreSound p.net.routers) (sym h.leads)
-    (set_sound old.routers old.last_ticks h.is sound (ticks_sound h.was old.scenario.end h.is h.left (sound old.last_ticks h.was h.stood) h.ticks))
+    (set_sound old.routers old.last_ticks h.is sound (ticks_sound h.was old.scenario.end h.is h.left (sound old.last_ticks h.was h.stands) h.ticks))
 
 frame_sound : (net : Net) (x : ℕ) (s : State) (frame : Frame) (line : List ℕ) (new : Net) (losses : List Item) → AreSound net.routers → TellsFrame net x s frame line new losses → AreSound new.routers
 frame_sound net x s frame line new losses sound tells = subst (λ (n : Net). AreSound n.routers) (sym tells.leads) sound

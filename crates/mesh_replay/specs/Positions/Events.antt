@@ -21,8 +21,8 @@ pub record OpensHearing (old : Net) (line : List ℕ) (new : TracePosition) : Ty
   pub arc_is : slice_get old.scenario.arcs delivery.arc ≡ Some arc
   pub sender_is : IsSender old.scenario.routers arc sender
   pub was : State
-  pub stood : slice_get old.routers arc.to ≡ Some was
-  pub told : IsLineOf line
+  pub stands : slice_get old.routers arc.to ≡ Some was
+  pub line_is : IsLineOf line
       (heard_line delivery.moment was.settings.name (face_name was.settings.interfaces arc.to_iface) sender delivery.frame)
   pub is : State
   pub left : List Item
@@ -36,8 +36,8 @@ pub record OpensHearing (old : Net) (line : List ℕ) (new : TracePosition) : Ty
 -- the line tells that router x ticks at now, and then so many routers had their last tick
 pub record OpensTick (old : Net) (x now last_ticks : ℕ) (line : List ℕ) (new : TracePosition) : Type 0 where
   pub was : State
-  pub stood : slice_get old.routers x ≡ Some was
-  pub told : IsLineOf line (tick_line now was.settings.name)
+  pub stands : slice_get old.routers x ≡ Some was
+  pub line_is : IsLineOf line (tick_line now was.settings.name)
   pub is : State
   pub left : List Item
   pub ticks : TicksBy was now is left

@@ -25,7 +25,7 @@ with_routing s relays = record s { relays = record s.relays { routing = relays }
 
 -- the line tells that router x, in that state, sends the frame: it goes out on the arcs, and these losses are then to be told
 pub record TellsFrame (net : Net) (x : ℕ) (s : State) (frame : Frame) (line : List ℕ) (new : Net) (losses : List Item) : Type 0 where
-  pub told : IsLineOf line (sent_line s.last s.settings.name (face_name s.settings.interfaces frame.iface) frame.bytes)
+  pub line_is : IsLineOf line (sent_line s.last s.settings.name (face_name s.settings.interfaces frame.iface) frame.bytes)
   pub lost : List ℕ
   pub traffic : Traffic
   pub sends : Sends net.scenario s.last x (record { iface = frame.iface; frame = frame.bytes; lost = lost }) net.traffic traffic

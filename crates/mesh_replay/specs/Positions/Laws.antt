@@ -1,5 +1,5 @@
 -- That all of a run but its choices is fixed by its trace, and that the trace of each whole run is whole.
-use Rattle.std.specs.Prelude.{◌≡◌, ℕ, List, true}
+use Rattle.std.specs.Prelude.{◌≡◌, ℕ, ◌<◌, List, [], ◌∷◌, ◌++◌, length, true}
 use Rattle.mesh_atoms.specs.declared.settings.Scenario.{Scenario}
 use Rattle.mesh_atoms.specs.declared.addr.Addr4.{Addr4}
 use Rattle.mesh_atoms.specs.declared.settings.RouterSettings.{RouterSettings}
@@ -57,12 +57,25 @@ abbrev pub OneDecidesEnd : Type 0
 OneDecidesEnd = (s : Scenario) (lines : List (List ℕ)) (p : TracePosition) → Reaches s lines p → (IsDone p → ⊥) → IsWholeTrace s lines → ⊥
 
 -- lines with a first one that doesn't fit are no whole trace
-abbrev pub UnfitIsNotEnded : Type 0
-UnfitIsNotEnded = (s : Scenario) (lines : List (List ℕ)) (k : ℕ) → IsUnfit s lines k → IsWholeTrace s lines → ⊥
+abbrev pub UnfitIsNotWhole : Type 0
+UnfitIsNotWhole = (s : Scenario) (lines : List (List ℕ)) (k : ℕ) → IsUnfit s lines k → IsWholeTrace s lines → ⊥
 
 -- and one line at most is the first that doesn't fit
 abbrev pub OneUnfit : Type 0
 OneUnfit = (s : Scenario) (lines : List (List ℕ)) (k j : ℕ) → IsUnfit s lines k → IsUnfit s lines j → k ≡ j
+
+-- behind a whole trace no line fits
+abbrev pub NothingFollows : Type 0
+NothingFollows = (s : Scenario) (lines : List (List ℕ)) (line : List ℕ) → IsWholeTrace s lines → Fits s lines line → ⊥
+
+-- so a whole trace with lines more behind it is no whole trace
+abbrev pub NoneIsLonger : Type 0
+NoneIsLonger = (s : Scenario) (lines : List (List ℕ)) (line : List ℕ) (more : List (List ℕ)) → IsWholeTrace s lines →
+    IsWholeTrace s (lines ++ line ∷ more) → ⊥
+
+-- and where there are routers, no lines at all are no whole trace
+abbrev pub HasSomeLine : Type 0
+HasSomeLine = (s : Scenario) → 0 < length s.routers → IsWholeTrace s [] → ⊥
 
 -- the trace of each run of a scenario's network, from its opening to its end, is whole
 abbrev pub RunsAreWhole : Type 0

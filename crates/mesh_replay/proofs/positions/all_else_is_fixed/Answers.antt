@@ -1,5 +1,5 @@
 use Rattle.mesh_replay.proofs.PositionsLemmas.Addresses.{positions_have_addresses}
-use Rattle.mesh_replay.proofs.PositionsLemmas.Fixed.{all_else_is_fixed, one_decides_fit, one_decides_end, unfit_is_not_ended, one_unfit}
+use Rattle.mesh_replay.proofs.PositionsLemmas.Fixed.{all_else_is_fixed, one_decides_fit, one_decides_end, unfit_is_not_whole, one_unfit}
 use Rattle.mesh_replay.proofs.PositionsLemmas.SoundPositions.{positions_are_sound}
 use Rattle.mesh_replay.proofs.positions.all_else_is_fixed.Goals as goal
 
@@ -19,7 +19,7 @@ pub returns-clause-end : goal.returns-clause-end
 returns-clause-end c = one_decides_end
 
 pub returns-clause-unfit : goal.returns-clause-unfit
-returns-clause-unfit c = unfit_is_not_ended
+returns-clause-unfit c = unfit_is_not_whole
 
 pub returns-clause-one : goal.returns-clause-one
 returns-clause-one c = one_unfit
