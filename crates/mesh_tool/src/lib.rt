@@ -9,4 +9,4 @@ mod words;
 pub use answers::top_over;
 pub use jobs::{Ending, Status, do_asked, tell};
 pub use top::mesh_top;
-pub use words::{Job, Kind, PacketWords, command_lines_are_read, faults_are_first, read_words};
+pub use words::{Job, Kind, command_lines_are_read, faults_are_first, read_words};

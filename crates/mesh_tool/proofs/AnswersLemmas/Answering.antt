@@ -3,6 +3,7 @@ use Rattle.std.proofs.Common.{◌≡◌, ℕ, ◌+◌, ◌<◌, ◌≤◌, ◌�
 use Rattle.std.specs.Prelude.{IsErr, codes}
 use Rattle.std.specs.Io.KnownBytes.{Appends, Consumes, IsAtEnd, Keeps}
 use Rattle.std.proofs.lemmas.List.{append-nil}
+use Rattle.mesh_atoms.specs.declared.addr.Addr4.{Addr4}
 use Rattle.mesh_config.specs.RunSettings.{run_refusals, FirstRunRefusal}
 use Rattle.mesh_dump.specs.Dump.{IsDumpText}
 use Rattle.mesh_emulate.specs.Emulation.{Emulation, IsRefused}
@@ -22,7 +23,6 @@ use Rattle.mesh_tool.specs.Jobs.Lines.{words_line, read_line, refused_line, atta
 use Rattle.mesh_tool.specs.declared.words.job.Job.{Job}
 use Rattle.mesh_tool.specs.declared.words.job.Job.TheVariants as job
 use Rattle.mesh_emulate.specs.declared.making.kind.Kind.{Kind}
-use Rattle.mesh_tool.specs.declared.words.job.PacketWords.{PacketWords}
 use Rattle.mesh_tool.specs.Words.Words.{words_of}
 
 -- ---- the job that the words ask for is one, or none
@@ -131,7 +131,7 @@ ran : (call : Call) (turns : ℕ) → Finishes call (job.Run turns) 0
     → (octets : List ℕ) × IsInput 1048576 call octets × (r : WholeRun octets turns (told_in call)) × Appends call.out call.out' r.text
 ran call turns fin = (fin.octets, fin.works_on, fin.is_text.1, rw (← fin.is_text.2) fin.stands)
 
-emulated : (call : Call) (trace : Bool) (send : Option PacketWords) (probe : Option ℕ) → Finishes call (job.Emulate trace send probe) 0
+emulated : (call : Call) (trace : Bool) (send : Option (ℕ × Addr4)) (probe : Option ℕ) → Finishes call (job.Emulate trace send probe) 0
     → (octets : List ℕ) × IsInput 1048576 call octets × (e : Emulation octets (wants_in call.words trace send probe)) × Appends call.out call.out' e.text
 emulated call trace send probe fin = (fin.octets, fin.works_on, fin.is_text.1, rw (← fin.is_text.2) fin.stands)
 

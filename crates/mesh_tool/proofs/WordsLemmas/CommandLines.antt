@@ -3,11 +3,11 @@ use Rattle.std.proofs.Common.{◌≡◌, ℕ, ◌+◌, inl, inr, List, [], ◌�
 use Rattle.std.specs.Prelude.{codes, option_map}
 use Rattle.std.specs.List.{flat_map}
 use Rattle.std.specs.Cmp.Lexicographic.{bytes_decides}
+use Rattle.mesh_atoms.specs.declared.addr.Addr4.{Addr4}
 use Rattle.mesh_atoms.specs.Literals.{only_if}
 use Rattle.mesh_tool.specs.declared.words.job.Job.{Job}
 use Rattle.mesh_tool.specs.declared.words.job.Job.TheVariants as job
 use Rattle.mesh_emulate.specs.declared.making.kind.Kind.{Kind}
-use Rattle.mesh_tool.specs.declared.words.job.PacketWords.{PacketWords}
 use Rattle.mesh_tool.specs.declared.words.asked.Asked.{Asked}
 use Rattle.mesh_tool.specs.declared.words.asked.Asked.TheVariants as asked
 use Rattle.mesh_tool.specs.Words.Words.{is_word, turns_of, kind_of, routers_of, seed_of, no_emulate_options, command_word, takes, or_at, read_on, words_of}
@@ -29,7 +29,7 @@ made k n s kind routers seed options is_kind are_routers is_seed any =
     (rw (is_kind, are_routers, is_seed) refl) (rw (are_routers, is_kind, is_seed) refl) (rw (are_routers, is_seed, is_kind) refl)
     (rw (is_kind, is_seed, are_routers) refl) (rw (is_seed, is_kind, are_routers) refl) (rw (is_seed, are_routers, is_kind) refl) any
 
-emulated : (trace : Bool) (send : Option PacketWords) (probe : Option ℕ) (options : List OptionWords) → AreEmulateOptions trace send probe options
+emulated : (trace : Bool) (send : Option (ℕ × Addr4)) (probe : Option ℕ) (options : List OptionWords) → AreEmulateOptions trace send probe options
     → words_of (behind (codes "emulate") options) ≡ Ok (job.Emulate trace send probe)
 emulated trace send probe options are = comes_read trace send probe options false None None 1
     (record { traces = are.traces; sends = are.sends; probes = are.probes; is_trace = are.is_trace; is_send = are.is_send; is_probe = are.is_probe; any = are.any })

@@ -7,7 +7,6 @@ use Rattle.mesh_atoms.specs.declared.addr.Addr4.{Addr4}
 use Rattle.mesh_atoms.specs.Literals.{◌>>=◌, address_of}
 use Rattle.mesh_tool.specs.declared.words.job.Job.{Job}
 use Rattle.mesh_tool.specs.declared.words.job.Job.TheVariants as job
-use Rattle.mesh_tool.specs.declared.words.job.PacketWords.{PacketWords}
 use Rattle.mesh_tool.specs.declared.words.asked.Asked.{Asked}
 use Rattle.mesh_tool.specs.declared.words.asked.Asked.TheVariants as asked
 use Rattle.mesh_tool.specs.declared.words.asked.EmulateOptions.{EmulateOptions}
@@ -17,11 +16,11 @@ use Rattle.mesh_tool.specs.Words.CommandLines.{InAnyOrder, OptionWords, PlacedOp
 use Rattle.mesh_tool.proofs.WordsLemmas.Orders.{later, last, none_left, taken_out, IsFew, first_or_later}
 use Rattle.mesh_tool.proofs.WordsLemmas.Reading.{or_at_ok, if_some, stands, same_job}
 
-abbrev pub options_of : Bool → Option PacketWords → Option ℕ → EmulateOptions
+abbrev pub options_of : Bool → Option (ℕ × Addr4) → Option ℕ → EmulateOptions
 options_of trace send probe = record { trace = trace; send = send; probe = probe }
 
-abbrev pub packet_words : ℕ → Addr4 → PacketWords
-packet_words from dest = record { from = from; dest = dest }
+abbrev pub packet_words : ℕ → Addr4 → ℕ × Addr4
+packet_words from dest = (from, dest)
 
 abbrev send_words : List ℕ → List ℕ → OptionWords
 send_words from dest = codes "--send" ∷ from ∷ dest ∷ []
@@ -39,7 +38,7 @@ More Is (Some stood) now options = (now ≡ Some stood) × (options ≡ [])
 More Is None now options = Is now options
 
 -- where these stood before, these options at this place are asked for by the job of these
-pub record Comes (t : Bool) (s : Option PacketWords) (p : Option ℕ) (trace : Bool) (send : Option PacketWords) (probe : Option ℕ) (place : ℕ) (options : List OptionWords) : Type 0 where
+pub record Comes (t : Bool) (s : Option (ℕ × Addr4)) (p : Option ℕ) (trace : Bool) (send : Option (ℕ × Addr4)) (probe : Option ℕ) (place : ℕ) (options : List OptionWords) : Type 0 where
   pub traces : List PlacedOption
   pub sends : List PlacedOption
   pub probes : List PlacedOption
@@ -63,7 +62,7 @@ few_trace true trace xs more = inl more.1
 few_trace false false xs none = inl none
 few_trace false true xs (place, one) = inr (at_place place (codes "--trace" ∷ []), one)
 
-few_send : (send : Option PacketWords) (xs : List PlacedOption) → IsSend send xs → IsFew xs
+few_send : (send : Option (ℕ × Addr4)) (xs : List PlacedOption) → IsSend send xs → IsFew xs
 few_send None xs none = inl none
 few_send (Some w) xs (place, from, dest, at, is, one) = inr (at_place place (send_words from dest), one)
 
@@ -82,7 +81,7 @@ trace_done true trace xs more none = more.0
 trace_done false false xs more none = refl
 trace_done false true xs (place, one) none = let bad : ⊥ = cc in absurd bad
 
-send_done : (send : Option PacketWords) (xs : List PlacedOption) → IsSend send xs → xs ≡ [] → send ≡ None
+send_done : (send : Option (ℕ × Addr4)) (xs : List PlacedOption) → IsSend send xs → xs ≡ [] → send ≡ None
 send_done None xs is none = refl
 send_done (Some w) xs (place, from, dest, at, is, one) none = let bad : ⊥ = cc in absurd bad
 
@@ -105,12 +104,12 @@ not_none (f ∷ front) y back e = cc
 
 -- ---- what is asked for is read
 
-module _ (trace : Bool) (send : Option PacketWords) (probe : Option ℕ) where
+module _ (trace : Bool) (send : Option (ℕ × Addr4)) (probe : Option ℕ) where
   -- one of the options is read, where the rest is
-  abbrev pub Reads : Bool → Option PacketWords → Option ℕ → ℕ → List OptionWords → Type 0
+  abbrev pub Reads : Bool → Option (ℕ × Addr4) → Option ℕ → ℕ → List OptionWords → Type 0
   Reads t s p place options = read_on (asked.Emulate (options_of t s p)) place (flat_map (λ option. option) options) ≡ Ok (job.Emulate trace send probe)
 
-reads_trace : (t : Bool) (s : Option PacketWords) (p : Option ℕ) (trace : Bool) (send : Option PacketWords) (probe : Option ℕ) (place : ℕ) (option : OptionWords) (options : List OptionWords) (xs : List PlacedOption)
+reads_trace : (t : Bool) (s : Option (ℕ × Addr4)) (p : Option ℕ) (trace : Bool) (send : Option (ℕ × Addr4)) (probe : Option ℕ) (place : ℕ) (option : OptionWords) (options : List OptionWords) (xs : List PlacedOption)
     → MoreTrace t trace xs → xs ≡ at_place place option ∷ []
     → (MoreTrace true trace [] → Reads trace send probe true s p (place + length option) options) → Reads trace send probe t s p place (option ∷ options)
 reads_trace true s p trace send probe place option options xs more is on = let none : xs ≡ [] = more.1 in let bad : ⊥ = cc in absurd bad
@@ -120,22 +119,22 @@ reads_trace false s p true send probe place option options xs (at, one) is on =
     let count : place + length option ≡ place + 1 = ap (λ (o : OptionWords). place + length o) words in
     rw words (subst (λ (n : ℕ). Reads true send probe true s p n options) count (on (refl, refl)))
 
-reads_send : (t : Bool) (s : Option PacketWords) (p : Option ℕ) (trace : Bool) (send : Option PacketWords) (probe : Option ℕ) (place : ℕ) (option : OptionWords) (options : List OptionWords) (xs : List PlacedOption)
+reads_send : (t : Bool) (s : Option (ℕ × Addr4)) (p : Option ℕ) (trace : Bool) (send : Option (ℕ × Addr4)) (probe : Option ℕ) (place : ℕ) (option : OptionWords) (options : List OptionWords) (xs : List PlacedOption)
     → More IsSend s send xs → xs ≡ at_place place option ∷ []
-    → ((w : PacketWords) → More IsSend (Some w) send [] → Reads trace send probe t (Some w) p (place + length option) options) → Reads trace send probe t s p place (option ∷ options)
+    → ((w : ℕ × Addr4) → More IsSend (Some w) send [] → Reads trace send probe t (Some w) p (place + length option) options) → Reads trace send probe t s p place (option ∷ options)
 reads_send t (Some w) p trace send probe place option options xs more is on = let none : xs ≡ [] = more.1 in let bad : ⊥ = cc in absurd bad
 reads_send t None p trace None probe place option options xs none is on = let bad : ⊥ = cc in absurd bad
 reads_send t None p trace (Some w) probe place option options xs (at, from, dest, behind, is_dest, one) is on =
     let words : option ≡ send_words from dest = ap first_words (sym is ∙ one) in
     let here : place ≡ at = ap first_place (sym is ∙ one) in
     let count : place + length option ≡ place + 1 + 1 + 1 = ap (λ (o : OptionWords). place + length o) words ∙ omega arith in
-    let from_is : w.from ≡ place + 1 = behind ∙ ap (λ (n : ℕ). n + 1) (sym here) in
-    let packet : packet_words (place + 1) w.dest ≡ w = ap (λ (n : ℕ). packet_words n w.dest) (sym from_is) in
+    let from_is : w.0 ≡ place + 1 = behind ∙ ap (λ (n : ℕ). n + 1) (sym here) in
+    let packet : packet_words (place + 1) w.1 ≡ w = ap (λ (n : ℕ). packet_words n w.1) (sym from_is) in
     let rest = subst (λ (n : ℕ). Reads trace (Some w) probe t (Some w) p n options) count (on w (refl, refl)) in
     rw words (subst (λ (r : Option Addr4). or_at (place + 1 + 1) (r >>= λ x. Some (asked.Emulate (options_of t (Some (packet_words (place + 1) x)) p))) (λ next. read_on next (place + 1 + 1 + 1) (flat_map (λ o. o) options)) ≡ Ok (job.Emulate trace (Some w) probe)) (sym is_dest)
-    (subst (λ (k : PacketWords). Reads trace (Some w) probe t (Some k) p (place + 1 + 1 + 1) options) (sym packet) rest))
+    (subst (λ (k : ℕ × Addr4). Reads trace (Some w) probe t (Some k) p (place + 1 + 1 + 1) options) (sym packet) rest))
 
-reads_probe : (t : Bool) (s : Option PacketWords) (p : Option ℕ) (trace : Bool) (send : Option PacketWords) (probe : Option ℕ) (place : ℕ) (option : OptionWords) (options : List OptionWords) (xs : List PlacedOption)
+reads_probe : (t : Bool) (s : Option (ℕ × Addr4)) (p : Option ℕ) (trace : Bool) (send : Option (ℕ × Addr4)) (probe : Option ℕ) (place : ℕ) (option : OptionWords) (options : List OptionWords) (xs : List PlacedOption)
     → More IsProbe p probe xs → xs ≡ at_place place option ∷ []
     → ((k : ℕ) → More IsProbe (Some k) probe [] → Reads trace send probe t s (Some k) (place + length option) options) → Reads trace send probe t s p place (option ∷ options)
 reads_probe t s (Some k) trace send probe place option options xs more is on = let none : xs ≡ [] = more.1 in let bad : ⊥ = cc in absurd bad
@@ -148,7 +147,7 @@ reads_probe t s None trace send (Some k) place option options xs (at, name, behi
     let rest = subst (λ (n : ℕ). Reads trace send (Some k) t s (Some k) n options) count (on k (refl, refl)) in
     rw words (subst (λ (n : ℕ). Reads trace send (Some k) t s (Some n) (place + 1 + 1) options) name_is rest)
 
-pub comes_read : (trace : Bool) (send : Option PacketWords) (probe : Option ℕ) (options : List OptionWords) (t : Bool) (s : Option PacketWords) (p : Option ℕ) (place : ℕ)
+pub comes_read : (trace : Bool) (send : Option (ℕ × Addr4)) (probe : Option ℕ) (options : List OptionWords) (t : Bool) (s : Option (ℕ × Addr4)) (p : Option ℕ) (place : ℕ)
     → Comes t s p trace send probe place options → Reads trace send probe t s p place options
 comes_read trace send probe [] t s p place c =
     let none : c.traces ++ (c.sends ++ c.probes) ≡ [] = none_left (c.traces ++ (c.sends ++ c.probes)) c.any in
@@ -180,9 +179,9 @@ comes_read trace send probe (option ∷ options) t s p place c =
 -- ---- what is read is asked for
 
 -- these words, at this place, are options that a job is asked for by, where these stood before
-pub record ReadFrom (t : Bool) (s : Option PacketWords) (p : Option ℕ) (place : ℕ) (words : List (List ℕ)) (j : Job) : Type 0 where
+pub record ReadFrom (t : Bool) (s : Option (ℕ × Addr4)) (p : Option ℕ) (place : ℕ) (words : List (List ℕ)) (j : Job) : Type 0 where
   pub trace : Bool
-  pub send : Option PacketWords
+  pub send : Option (ℕ × Addr4)
   pub probe : Option ℕ
   pub is_job : j ≡ job.Emulate trace send probe
   pub options : List OptionWords
@@ -193,7 +192,7 @@ none_more_trace : (t : Bool) → MoreTrace t t []
 none_more_trace true = (refl, refl)
 none_more_trace false = refl
 
-none_more_send : (s : Option PacketWords) → More IsSend s s []
+none_more_send : (s : Option (ℕ × Addr4)) → More IsSend s s []
 none_more_send (Some w) = (refl, refl)
 none_more_send None = refl
 
@@ -201,7 +200,7 @@ none_more_probe : (p : Option ℕ) → More IsProbe p p []
 none_more_probe (Some k) = (refl, refl)
 none_more_probe None = refl
 
-pub all_read : (t : Bool) (s : Option PacketWords) (p : Option ℕ) (place : ℕ) (j : Job) → read_on (asked.Emulate (options_of t s p)) place [] ≡ Ok j → ReadFrom t s p place [] j
+pub all_read : (t : Bool) (s : Option (ℕ × Addr4)) (p : Option ℕ) (place : ℕ) (j : Job) → read_on (asked.Emulate (options_of t s p)) place [] ≡ Ok j → ReadFrom t s p place [] j
 all_read t s p place j h = record {
   trace = t;
   send = s;
@@ -212,7 +211,7 @@ all_read t s p place j h = record {
   comes = record { traces = []; sends = []; probes = []; is_trace = none_more_trace t; is_send = none_more_send s; is_probe = none_more_probe p; any = refl };
 }
 
-with_trace : (t : Bool) (s : Option PacketWords) (p : Option ℕ) (place : ℕ) (w : List ℕ) (words : List (List ℕ)) (j : Job) → w ≡ codes "--trace" → not t ≡ true
+with_trace : (t : Bool) (s : Option (ℕ × Addr4)) (p : Option ℕ) (place : ℕ) (w : List ℕ) (words : List (List ℕ)) (j : Job) → w ≡ codes "--trace" → not t ≡ true
     → ReadFrom true s p (place + 1) words j → ReadFrom t s p place (w ∷ words) j
 with_trace true s p place w words j is free r = let bad : ⊥ = cc in absurd bad
 with_trace false s p place w words j is free r =
@@ -255,14 +254,14 @@ with_send t p place w from dest to words j is is_dest r =
         sends = at_place place option ∷ [];
         probes = c.probes;
         is_trace = c.is_trace;
-        is_send = subst (λ (o : Option PacketWords). IsSend o (at_place place option ∷ [])) (sym c.is_send.0) (place, from, dest, refl, is_dest, refl);
+        is_send = subst (λ (o : Option (ℕ × Addr4)). IsSend o (at_place place option ∷ [])) (sym c.is_send.0) (place, from, dest, refl, is_dest, refl);
         is_probe = c.is_probe;
         any = later c.traces (at_place place option) c.probes (placed (place + length option) r.options)
             (subst (λ (n : ℕ). InAnyOrder (c.traces ++ c.probes) (placed n r.options)) (sym count) (subst (λ l. InAnyOrder (c.traces ++ (l ++ c.probes)) (placed (place + 1 + 1 + 1) r.options)) c.is_send.1 c.any));
       };
     }
 
-with_probe : (t : Bool) (s : Option PacketWords) (place : ℕ) (w name : List ℕ) (words : List (List ℕ)) (j : Job) → w ≡ codes "--probe"
+with_probe : (t : Bool) (s : Option (ℕ × Addr4)) (place : ℕ) (w name : List ℕ) (words : List (List ℕ)) (j : Job) → w ≡ codes "--probe"
     → ReadFrom t s (Some (place + 1)) (place + 1 + 1) words j → ReadFrom t s None place (w ∷ name ∷ words) j
 with_probe t s place w name words j is r =
     let c = r.comes in
@@ -295,14 +294,14 @@ dest_read place None g f j h = let bad : ⊥ = cc in absurd bad
 
 -- what is read behind these options, where some stand already
 abbrev pub ReadsOn : ℕ → Job → Type 0
-ReadsOn n j = (t : Bool) (s : Option PacketWords) (p : Option ℕ) (place : ℕ) (words : List (List ℕ)) → length words ≤ n → is_without (options_of t s p) ≡ false
+ReadsOn n j = (t : Bool) (s : Option (ℕ × Addr4)) (p : Option ℕ) (place : ℕ) (words : List (List ℕ)) → length words ≤ n → is_without (options_of t s p) ≡ false
     → read_on (asked.Emulate (options_of t s p)) place words ≡ Ok j → ReadFrom t s p place words j
 
-send_stood : (t : Bool) (w : PacketWords) (p : Option ℕ) → is_without (options_of t (Some w) p) ≡ false
+send_stood : (t : Bool) (w : ℕ × Addr4) (p : Option ℕ) → is_without (options_of t (Some w) p) ≡ false
 send_stood true w p = refl
 send_stood false w p = refl
 
-probe_stood : (t : Bool) (s : Option PacketWords) (k : ℕ) → is_without (options_of t s (Some k)) ≡ false
+probe_stood : (t : Bool) (s : Option (ℕ × Addr4)) (k : ℕ) → is_without (options_of t s (Some k)) ≡ false
 probe_stood true s k = refl
 probe_stood false (Some w) k = refl
 probe_stood false None k = refl
@@ -315,14 +314,14 @@ sends_on n j t p place w (from ∷ dest ∷ words) short is h on =
     let x = dest_read (place + 1 + 1) (address_of dest) (λ to. options_of t (Some (packet_words (place + 1) to)) p) (λ next. read_on next (place + 1 + 1 + 1) words) j h in
     with_send t p place w from dest x.0 words j is x.1 (on t (Some (packet_words (place + 1) x.0)) p (place + 1 + 1 + 1) words (omega (arith, short)) (send_stood t (packet_words (place + 1) x.0) p) x.2)
 
-probes_on : (n : ℕ) (j : Job) (t : Bool) (s : Option PacketWords) (place : ℕ) (w : List ℕ) (words : List (List ℕ)) → length words ≤ n → w ≡ codes "--probe"
+probes_on : (n : ℕ) (j : Job) (t : Bool) (s : Option (ℕ × Addr4)) (place : ℕ) (w : List ℕ) (words : List (List ℕ)) → length words ≤ n → w ≡ codes "--probe"
     → read_on (asked.EmulateAwaits (options_of t s None) value.Name) (place + 1) words ≡ Ok j → ReadsOn n j → ReadFrom t s None place (w ∷ words) j
 probes_on n j t s place w [] short is h on = let bad : ⊥ = cc in absurd bad
 probes_on n j t s place w (name ∷ words) short is h on =
     with_probe t s place w name words j is (on t s (Some (place + 1)) (place + 1 + 1) words (omega (arith, short)) (probe_stood t s (place + 1)) h)
 
 -- where none of a made scenario's options stands, or the first of them does
-abbrev pub IsOption : ℕ → Job → Bool → Option PacketWords → Option ℕ → ℕ → List ℕ → List (List ℕ) → Type 0
+abbrev pub IsOption : ℕ → Job → Bool → Option (ℕ × Addr4) → Option ℕ → ℕ → List ℕ → List (List ℕ) → Type 0
 IsOption n j t s p place w words =
     ReadFrom t s p place (w ∷ words) j
     ⊎ ((is_without (options_of t s p) ≡ true) × ((next : Asked) × (make_option no_make_options w ≡ Some next) × (read_on next (place + 1) words ≡ Ok j)))
@@ -331,27 +330,27 @@ made_or_none : (b : Bool) (read : Option Asked) (next : Asked) → cond b read N
 made_or_none true read next h = (refl, h)
 made_or_none false read next h = let bad : ⊥ = cc in absurd bad
 
-trace_next : (n : ℕ) (j : Job) (t : Bool) (s : Option PacketWords) (p : Option ℕ) (place : ℕ) (w : List ℕ) (words : List (List ℕ)) (next : Asked) → length words ≤ n
+trace_next : (n : ℕ) (j : Job) (t : Bool) (s : Option (ℕ × Addr4)) (p : Option ℕ) (place : ℕ) (w : List ℕ) (words : List (List ℕ)) (next : Asked) → length words ≤ n
     → (is_word w (codes "--trace") && not t) ≡ true → next ≡ asked.Emulate (options_of true s p) → read_on next (place + 1) words ≡ Ok j → ReadsOn n j → ReadFrom t s p place (w ∷ words) j
 trace_next n j t s p place w words next short test is h on =
     let free = stands w (codes "--trace") (not t) test in
     with_trace t s p place w words j free.0 free.1 (on true s p (place + 1) words short refl (subst (λ (a : Asked). read_on a (place + 1) words ≡ Ok j) is h))
 
-send_next : (n : ℕ) (j : Job) (t : Bool) (s : Option PacketWords) (p : Option ℕ) (place : ℕ) (w : List ℕ) (words : List (List ℕ)) (next : Asked) → length words ≤ n
+send_next : (n : ℕ) (j : Job) (t : Bool) (s : Option (ℕ × Addr4)) (p : Option ℕ) (place : ℕ) (w : List ℕ) (words : List (List ℕ)) (next : Asked) → length words ≤ n
     → (is_word w (codes "--send") && is_none s) ≡ true → next ≡ asked.EmulateAwaits (options_of t s p) value.From → read_on next (place + 1) words ≡ Ok j → ReadsOn n j → ReadFrom t s p place (w ∷ words) j
 send_next n j t None p place w words next short test is h on =
     let free = stands w (codes "--send") true test in
     sends_on n j t p place w words short free.0 (subst (λ (a : Asked). read_on a (place + 1) words ≡ Ok j) is h) on
 send_next n j t (Some k) p place w words next short test is h on = let free = stands w (codes "--send") false test in let bad : false ≡ true = free.1 in absurd cc
 
-probe_next : (n : ℕ) (j : Job) (t : Bool) (s : Option PacketWords) (p : Option ℕ) (place : ℕ) (w : List ℕ) (words : List (List ℕ)) (next : Asked) → length words ≤ n
+probe_next : (n : ℕ) (j : Job) (t : Bool) (s : Option (ℕ × Addr4)) (p : Option ℕ) (place : ℕ) (w : List ℕ) (words : List (List ℕ)) (next : Asked) → length words ≤ n
     → (is_word w (codes "--probe") && is_none p) ≡ true → next ≡ asked.EmulateAwaits (options_of t s p) value.Name → read_on next (place + 1) words ≡ Ok j → ReadsOn n j → ReadFrom t s p place (w ∷ words) j
 probe_next n j t s None place w words next short test is h on =
     let free = stands w (codes "--probe") true test in
     probes_on n j t s place w words short free.0 (subst (λ (a : Asked). read_on a (place + 1) words ≡ Ok j) is h) on
 probe_next n j t s (Some k) place w words next short test is h on = let free = stands w (codes "--probe") false test in let bad : false ≡ true = free.1 in absurd cc
 
-pub option_on : (n : ℕ) (j : Job) (t : Bool) (s : Option PacketWords) (p : Option ℕ) (place : ℕ) (w : List ℕ) (words : List (List ℕ)) → length words ≤ n
+pub option_on : (n : ℕ) (j : Job) (t : Bool) (s : Option (ℕ × Addr4)) (p : Option ℕ) (place : ℕ) (w : List ℕ) (words : List (List ℕ)) → length words ≤ n
     → read_on (asked.Emulate (options_of t s p)) place (w ∷ words) ≡ Ok j → ReadsOn n j → IsOption n j t s p place w words
 option_on n j t s p place w words short h on =
     let step = or_at_ok place (emulate_option (options_of t s p) w) (λ next. read_on next (place + 1) words) j h in

@@ -1,6 +1,7 @@
 -- What the program answers.
 use Rattle.std.specs.Prelude.{◌≡◌, ◌⊎◌, ℕ, ◌+◌, ◌<◌, ◌≤◌, List, [], take, Bool, Option, Some, IsErr}
 use Rattle.std.specs.Io.KnownBytes.{Appends, Keeps}
+use Rattle.mesh_atoms.specs.declared.addr.Addr4.{Addr4}
 use Rattle.mesh_dump.specs.Dump.{IsDumpText}
 use Rattle.mesh_emulate.specs.Emulation.{Emulation}
 use Rattle.mesh_io.specs.Faults.{Rose}
@@ -13,7 +14,6 @@ use Rattle.mesh_tool.specs.Jobs.Lines.{words_line, read_line, refused_line, atta
 use Rattle.mesh_tool.specs.declared.words.job.Job.{Job}
 use Rattle.mesh_tool.specs.declared.words.job.Job.TheVariants.{Dump, Run, Emulate, Make}
 use Rattle.mesh_emulate.specs.declared.making.kind.Kind.{Kind}
-use Rattle.mesh_tool.specs.declared.words.job.PacketWords.{PacketWords}
 use Rattle.mesh_tool.specs.Words.Words.{words_of}
 
 -- a fault that is told on err: its cause, what stands on out, and its line
@@ -74,7 +74,7 @@ pub record Answers (call : Call) (answer : Status) : Type 0 where
   pub airless : (job : Job) → Asks call job → ((turns : ℕ) → job ≡ Run turns → ⊥) → UsesNoAir call
   -- 0 to `emulate`: the input states a scenario, and the text of a run of its network, from its opening to its end, stands on out,
   -- and behind it the trip and the probe that the words ask for
-  pub emulated : (trace : Bool) (send : Option PacketWords) (probe : Option ℕ) → answer ≡ status.Done → Asks call (Emulate trace send probe) →
+  pub emulated : (trace : Bool) (send : Option (ℕ × Addr4)) (probe : Option ℕ) → answer ≡ status.Done → Asks call (Emulate trace send probe) →
       (octets : List ℕ) × IsInput 1048576 call octets × (e : Emulation octets (wants_in call.words trace send probe))
       × Appends call.out call.out' e.text
   -- 0 to `emulate --make`: what is told of a run of the made scenario stands on out, and nothing was read

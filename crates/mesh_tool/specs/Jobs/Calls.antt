@@ -1,6 +1,7 @@
 -- What a call of the program was given, what it read, and what it left.
 use Rattle.std.specs.Prelude.{◌≡◌, ℕ, ◌+◌, ◌≤◌, List, [], length, take, ◌⊎◌, Bool, Option, Some, None, Ok, codes, option_map, slice_get, unwrap_or}
 use Rattle.std.specs.Io.KnownBytes.{Appends, Consumes, IsAtEnd, Keeps}
+use Rattle.mesh_atoms.specs.declared.addr.Addr4.{Addr4}
 use Rattle.mesh_atoms.specs.declared.settings.RunSetup.{RunSetup}
 use Rattle.mesh_config.specs.RunSettings.{run_refusals, FirstRunRefusal}
 use Rattle.mesh_dump.specs.Dump.{IsDumpText, IsDumpFront, IsFirstLinesText}
@@ -12,7 +13,6 @@ use Rattle.mesh_run.specs.Run.{Told, told, IsUntold, States, WholeRun, SpendsTur
 use Rattle.mesh_config.specs.Keys.Faults.{first}
 use Rattle.mesh_tool.specs.declared.words.job.Job.{Job}
 use Rattle.mesh_tool.specs.declared.words.job.Job.TheVariants as job
-use Rattle.mesh_tool.specs.declared.words.job.PacketWords.{PacketWords}
 use Rattle.mesh_tool.specs.Words.Words.{words_of}
 
 -- the words, and what the source, the two sinks, the clock and an air without interfaces showed before the call and after it: the
@@ -61,10 +61,10 @@ abbrev pub word_at : List (List ℕ) → ℕ → List ℕ
 word_at words place = unwrap_or (slice_get words place) []
 
 -- the packet, from the router that the word at its place names
-abbrev pub packet_in : List (List ℕ) → PacketWords → Packet
-packet_in words packet = record { from = word_at words packet.from; dest = packet.dest }
+abbrev pub packet_in : List (List ℕ) → ℕ × Addr4 → Packet
+packet_in words packet = record { from = word_at words packet.0; dest = packet.1 }
 
-abbrev pub wants_in : List (List ℕ) → Bool → Option PacketWords → Option ℕ → Wants
+abbrev pub wants_in : List (List ℕ) → Bool → Option (ℕ × Addr4) → Option ℕ → Wants
 wants_in words trace send probe =
     record { trace = trace; send = option_map (packet_in words) send; probe = option_map (word_at words) probe }
 

@@ -1,11 +1,11 @@
 -- How command lines are written.
 use Rattle.std.specs.Prelude.{◌≡◌, ℕ, ◌+◌, ◌≤◌, List, [], ◌∷◌, ◌++◌, length, Bool, true, false, Option, Some, None, Ok, codes, ◌↔◌}
 use Rattle.std.specs.List.{flat_map}
+use Rattle.mesh_atoms.specs.declared.addr.Addr4.{Addr4}
 use Rattle.mesh_atoms.specs.Literals.{address_of}
 use Rattle.mesh_atoms.specs.Settings.{IsCount}
 use Rattle.mesh_tool.specs.declared.words.job.Job.{Job}
 use Rattle.mesh_tool.specs.declared.words.job.Job.TheVariants as job
-use Rattle.mesh_tool.specs.declared.words.job.PacketWords.{PacketWords}
 use Rattle.mesh_tool.specs.Words.Words.{words_of, turns_of, kind_of, routers_of, seed_of}
 
 -- these, each once, in any order
@@ -37,10 +37,10 @@ IsTrace false options = options ≡ []
 IsTrace true options = (place : ℕ) × (options ≡ at_place place (codes "--trace" ∷ []) ∷ [])
 
 -- `--send` with FROM and DEST, where a packet is asked for: FROM has the packet's place, and DEST is its address
-abbrev pub IsSend : Option PacketWords → List PlacedOption → Type 0
+abbrev pub IsSend : Option (ℕ × Addr4) → List PlacedOption → Type 0
 IsSend None options = options ≡ []
 IsSend (Some packet) options =
-    (place : ℕ) × (from : List ℕ) × (dest : List ℕ) × (packet.from ≡ place + 1) × (address_of dest ≡ Some packet.dest)
+    (place : ℕ) × (from : List ℕ) × (dest : List ℕ) × (packet.0 ≡ place + 1) × (address_of dest ≡ Some packet.1)
     × (options ≡ at_place place (codes "--send" ∷ from ∷ dest ∷ []) ∷ [])
 
 -- `--probe` with NAME, where a probe is asked for: NAME has that place
@@ -50,7 +50,7 @@ IsProbe (Some at) options =
     (place : ℕ) × (name : List ℕ) × (at ≡ place + 1) × (options ≡ at_place place (codes "--probe" ∷ name ∷ []) ∷ [])
 
 -- the options of `emulate`, behind one word
-pub record AreEmulateOptions (trace : Bool) (send : Option PacketWords) (probe : Option ℕ) (options : List OptionWords) : Type 0 where
+pub record AreEmulateOptions (trace : Bool) (send : Option (ℕ × Addr4)) (probe : Option ℕ) (options : List OptionWords) : Type 0 where
   pub traces : List PlacedOption
   pub sends : List PlacedOption
   pub probes : List PlacedOption

@@ -95,7 +95,7 @@ emulate_option o word =
 abbrev pub emulate_value : EmulateOptions → EmulateValue → ℕ → List ℕ → Option Asked
 emulate_value o emulates.From place word = Some (asked.EmulateAwaits o (emulates.Dest place))
 emulate_value o (emulates.Dest from) place word =
-    address_of word >>= λ dest. Some (asked.Emulate (record { trace = o.trace; send = Some (record { from = from; dest = dest }); probe = o.probe }))
+    address_of word >>= λ dest. Some (asked.Emulate (record { trace = o.trace; send = Some (from, dest); probe = o.probe }))
 emulate_value o emulates.Name place word = Some (asked.Emulate (record { trace = o.trace; send = o.send; probe = Some place }))
 
 -- ---- command lines

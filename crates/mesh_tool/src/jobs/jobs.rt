@@ -9,8 +9,8 @@ ghost use Rattle.mesh_tool.specs.Words.Words.{texts};
 
 use crate::jobs::ending::Ending;
 use crate::jobs::words::word_or;
-use crate::words::{Job, Kind, PacketWords, read_words};
-use mesh_atoms::Bytes;
+use crate::words::{Job, Kind, read_words};
+use mesh_atoms::{Addr4, Bytes};
 use mesh_emulate::{EmulateFault, NamedPacket, Wanted};
 use mesh_expire::Bases;
 use mesh_io::{Air, Clock, ReadFault, Sink, Source, Stop, read_all};
@@ -53,13 +53,13 @@ fn list<O: Sink>(alloc: Global, octets: &[u8], recode: bool, out: &mut O) -> End
 }
 
 // The packet, from the router that the word at its place names.
-fn packet_in<'a>(words: &'a [String], send: Option<PacketWords>) -> Option<NamedPacket<'a>>
+fn packet_in<'a>(words: &'a [String], send: Option<(usize, Addr4)>) -> Option<NamedPacket<'a>>
     ensures { option_map packet_of result ≡ option_map (packet_in (texts words.now)) send }
 {
     match send {
-        Some(packet) => Some(NamedPacket {
-            from: word_or(words, packet.from, b""),
-            dest: packet.dest,
+        Some((from, dest)) => Some(NamedPacket {
+            from: word_or(words, from, b""),
+            dest,
         }),
         None => None,
     }
@@ -79,7 +79,7 @@ fn name_in<'a>(words: &'a [String], place: Option<usize>) -> Option<&'a [u8]>
 fn wanted<'a>(
     words: &'a [String],
     trace: bool,
-    send: Option<PacketWords>,
+    send: Option<(usize, Addr4)>,
     probe: Option<usize>,
 ) -> Wanted<'a>
     ensures { wants_of result ≡ wants_in (texts words.now) trace send probe }
@@ -97,7 +97,7 @@ fn emulate<B: Bases, O: Sink>(
     words: &[String],
     octets: &[u8],
     trace: bool,
-    send: Option<PacketWords>,
+    send: Option<(usize, Addr4)>,
     probe: Option<usize>,
     out: &mut O,
 ) -> Ending
@@ -179,7 +179,7 @@ fn emulate_input<B: Bases, S: Source, O: Sink>(
     alloc: Global,
     words: &[String],
     trace: bool,
-    send: Option<PacketWords>,
+    send: Option<(usize, Addr4)>,
     probe: Option<usize>,
     input: &mut S,
     out: &mut O,

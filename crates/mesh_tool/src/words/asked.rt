@@ -4,14 +4,14 @@ ghost use Rattle.mesh_tool.specs.Words.Words.{number_from, turns_of, kind_of, ma
 ghost use Rattle.mesh_tool.specs.Words.Words.{is_without, emulate_option, emulate_value, command_word, takes, job_of, is_word};
 ghost use Rattle.mesh_atoms.specs.Literals.{only_if};
 
-use crate::words::{Job, Kind, PacketWords};
-use mesh_atoms::{address_of, number_of};
+use crate::words::{Job, Kind};
+use mesh_atoms::{Addr4, address_of, number_of};
 
 /// The options of `emulate` of a scenario that is read.
 #[derive(Clone, Copy)]
 pub struct EmulateOptions {
     pub trace: bool,
-    pub send: Option<PacketWords>,
+    pub send: Option<(usize, Addr4)>,
     pub probe: Option<usize>,
 }
 
@@ -191,7 +191,7 @@ impl EmulateOptions {
             EmulateValue::Dest(from) => {
                 let dest = address_of(word.as_bytes())?;
                 Some(Asked::Emulate(EmulateOptions {
-                    send: Some(PacketWords { from, dest }),
+                    send: Some((from, dest)),
                     ..self
                 }))
             }

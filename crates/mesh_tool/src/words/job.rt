@@ -2,18 +2,11 @@
 use mesh_atoms::Addr4;
 use mesh_emulate::Kind;
 
-/// A data packet that is to be sent: the place of the word that names the router it starts from, counted from 0, and the address
-/// that it is for.
-#[derive(Clone, Copy)]
-pub struct PacketWords {
-    pub from: usize,
-    pub dest: Addr4,
-}
-
 /// What a command line asks for: to list lines of hexadecimal text as packets, with `recode` each one written again in its
 /// least form; to run a router for at most so many turns, at least 1; to emulate the network of a scenario, with `trace` telling
-/// each event, with `send` the trip of a data packet at the end, and with `probe`, the place of the word that names a router, the probe
-/// of the network by that router; or to emulate the network of a scenario that is made of 2 to 64 routers by a seed below 2^32.
+/// each event, with `send`, the place of the word that names a router (counted from 0) and an address, the trip of a data packet from
+/// there to the address at the end, and with `probe`, the place of the word that names a router, the probe of the network by that
+/// router; or to emulate the network of a scenario that is made of 2 to 64 routers by a seed below 2^32.
 #[derive(Clone, Copy)]
 pub enum Job {
     Dump {
@@ -24,7 +17,7 @@ pub enum Job {
     },
     Emulate {
         trace: bool,
-        send: Option<PacketWords>,
+        send: Option<(usize, Addr4)>,
         probe: Option<usize>,
     },
     Make {
