@@ -9,7 +9,7 @@ pub loop-router-preserved : goal.loop-router-preserved
 loop-router-preserved c =
     let s = c.args.scenario.now in
     let P : ℕ → Type 0 = λ z. (z ≢ c.args.origin) × Joined s c.args.origin z in
-    let joined = c.is_joined.ensures s c.requires in
+    let joined = c.is_joined.ensures.joined s c.requires in
     elim c.if-is_joined.branch [
       | then-is_joined+in_ok-push w ↦ rw (w.peers-is, w.in_ok-push.ensures.items) (one_listed P c.loop-router.router c.loop-router.peers.items (joined.0 w.if-is_joined.true) c.loop-router.invariant)
       | else-is_joined w ↦
