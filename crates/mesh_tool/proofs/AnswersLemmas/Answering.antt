@@ -17,7 +17,7 @@ use Rattle.mesh_tool.specs.declared.jobs.ending.Ending.TheVariants as ending
 use Rattle.mesh_tool.specs.declared.jobs.status.Status.{Status}
 use Rattle.mesh_tool.specs.declared.jobs.status.Status.TheVariants as status
 use Rattle.mesh_tool.specs.Answers.Answers.{Due, Wrong_words, Read_fault, Refusal, Attach_fault, Turns_spent, Want_of_memory, Whole, All_well, Some_refused, On_out, On_err, Ends, Is_whole, Is_told, Is_failed, Answers}
-use Rattle.mesh_tool.specs.Jobs.Calls.{Call, told_in, UsesNoAir, RunsSoFar, Asks, wants_in, most_octets, ReadsNothing, IsInput, IsTooLong, WorksOn, RefusesOctets, IsAskedText, Refuses, Too_long, By_rule, TakesInput, Finishes, Before_reading, On_the_way}
+use Rattle.mesh_tool.specs.Jobs.Calls.{Call, told_in, UsesNoAir, RunsSoFar, Asks, wants_in, most_octets, ReadsInput, ReadsNothing, IsInput, IsTooLong, WorksOn, RefusesOctets, IsAskedText, Refuses, Too_long, By_rule, TakesInput, Finishes, Before_reading, On_the_way}
 use Rattle.mesh_tool.specs.Jobs.Endings.{StopsReading, IsUnattached, IsSpent, Leaves, DoesJob, Unread, Worked, Does, No_command, Did, TellsLine, TellsEnding}
 use Rattle.mesh_tool.specs.Jobs.Lines.{words_line, read_line, refused_line, attach_line, turns_line, memory_line}
 use Rattle.mesh_tool.specs.declared.words.job.Job.{Job}
@@ -199,10 +199,10 @@ long_input : (call : Call) (how : Ending) (answer : Status) (j : Job) → DoesJo
 long_input call how answer j (Unread reads stops keeps air) tells long = long_unread call (most_octets j) how answer stops tells long
 long_input call how answer j (Worked octets works leaves uses) tells long = absurd (works_within call j octets works long)
 
-too_long : (call : Call) (how : Ending) (answer : Status) → Does call how → TellsEnding call.words call.err call.err' call.err_faults call.err_faults' how answer
+one_too_many : (call : Call) (how : Ending) (answer : Status) → Does call how → TellsEnding call.words call.err call.err' call.err_faults call.err_faults' how answer
     → (j : Job) → Asks call j → call.taken' ≡ call.taken + (most_octets j + 1) → (answer ≡ status.Refused) ⊎ (answer ≡ status.Write)
-too_long call how answer (No_command is err reads keeps air) tells j asks long = absurd (none_asked (words_of call.words) j err asks)
-too_long call how answer (Did i asked did) tells j asks long =
+one_too_many call how answer (No_command is err reads keeps air) tells j asks long = absurd (none_asked (words_of call.words) j err asks)
+one_too_many call how answer (Did i asked did) tells j asks long =
     long_input call how answer j (subst (λ (k : Job). DoesJob k call how) (same_job (words_of call.words) i j asked asks) did) tells long
 
 -- ---- an input that the source tells
@@ -228,6 +228,40 @@ whole_input {call} {most} {octets} all is input = whole_taken call.left call.lef
 clear_not_refused : (octets all : List ℕ) (number : ℕ) (key : List ℕ) → octets ≡ all → first (run_refusals octets) ≡ None → FirstRunRefusal all number key → ⊥
 clear_not_refused octets all number key same clear refused =
     no_fault (first (run_refusals all)) (fault number key) (subst (λ (o : List ℕ). first (run_refusals o) ≡ None) same clear) refused
+
+-- ---- an input that has more octets than its job takes
+
+works_short : (call : Call) (j : Job) (octets all : List ℕ) → ReadsInput j → WorksOn j call octets → call.left ≡ Some all → most_octets j < length all → ⊥
+works_short call (job.Dump recode) octets all reads works is long = omega (arith, ap length (whole_input all is works), works.within, long)
+works_short call (job.Run turns) octets all reads works is long = omega (arith, ap length (whole_input all is works), works.within, long)
+works_short call (job.Emulate trace send probe) octets all reads works is long = omega (arith, ap length (whole_input all is works), works.within, long)
+works_short call (job.Make kind routers seed) octets all reads works is long = absurd reads
+
+-- no job works on a part of it
+long_works : (call : Call) (j : Job) (all : List ℕ) → Asks call j → ReadsInput j → call.left ≡ Some all → most_octets j < length all →
+    (i : Job) (octets : List ℕ) → Asks call i → WorksOn i call octets → ⊥
+long_works call j all asks reads is long i octets asked works =
+    works_short call j octets all reads (subst (λ (k : Job). WorksOn k call octets) (same_job (words_of call.words) i j asked asks) works) is long
+
+whole_not_long : {call : Call} {answer : Status} → Whole call answer → ((i : Job) (octets : List ℕ) → Asks call i → WorksOn i call octets → ⊥) → ⊥
+whole_not_long (All_well i asked fin) none = none i fin.octets asked fin.works_on
+whole_not_long (Some_refused recode refused asked some fin) none = none (job.Dump recode) fin.octets asked fin.works_on
+
+long_due : {call : Call} {answer : Status} {line : List ℕ} (j : Job) → Due call answer line → Asks call j →
+    ((i : Job) (octets : List ℕ) → Asks call i → WorksOn i call octets → ⊥) → (Rose call.read_faults call.read_faults' → ⊥)
+    → (answer ≡ status.Refused) ⊎ ((answer ≡ status.Write) ⊎ (answer ≡ status.Memory))
+long_due {call} j (Wrong_words err reads keeps) asks none calm = absurd (none_asked (words_of call.words) j err asks)
+long_due j (Read_fault i asked rose keeps) asks none calm = absurd (calm rose)
+long_due j (Refusal n k i asked refuses keeps) asks none calm = inl refl
+long_due j (Attach_fault turns interface octets asked works fails rose keeps) asks none calm = absurd (none (job.Run turns) octets asked works)
+long_due j (Turns_spent turns greatest end octets asked works spends keeps) asks none calm = absurd (none (job.Run turns) octets asked works)
+long_due j (Want_of_memory i asked stops) asks none calm = inr (inr refl)
+
+too_long : (call : Call) (answer : Status) → Ends call answer → (j : Job) (all : List ℕ) → Asks call j → ReadsInput j → call.left ≡ Some all → most_octets j < length all
+    → (Rose call.read_faults call.read_faults' → ⊥) → (answer ≡ status.Refused) ⊎ ((answer ≡ status.Write) ⊎ (answer ≡ status.Memory))
+too_long call answer (Is_whole whole quiet) j all asks reads is long calm = absurd (whole_not_long whole (long_works call j all asks reads is long))
+too_long call answer (Is_told t) j all asks reads is long calm = long_due j t.due asks (long_works call j all asks reads is long) calm
+too_long call answer (Is_failed failed f) j all asks reads is long calm = inr (inl failed)
 
 -- one text isn't both done and refused
 not_refused : (call : Call) (j : Job) (refused : ℕ) (all : List ℕ) (number : ℕ) (key : List ℕ) → Finishes call j refused → call.left ≡ Some all → RefusesOctets call.words j all number key → ⊥
@@ -387,7 +421,8 @@ answers call how answer does tells later_input later_out later_err later_air =
       made = λ kind routers seed same asks. made call kind routers seed (finishes call answer (job.Make kind routers seed) e same asks);
       unread = λ kind routers seed asks. unread call how does kind routers seed asks;
       no_command = λ wrong. let w = no_command call answer e wrong in (w.0, w.1, no_words_airless call how does wrong);
-      too_long = λ j asks long. too_long call how answer does tells j asks long;
+      too_long = λ j octets asks reads is long calm. too_long call answer e j octets asks reads is long calm;
+      one_too_many = λ j asks long. one_too_many call how answer does tells j asks long;
       refuses = λ j octets number key asks is refused calm. refuses call answer e j octets number key asks is refused calm;
       complete = λ j asks takes calm out err.
           complete call answer e j asks takes (λ number key refused. takes_all call number key j (λ kind routers seed is. unread call how does kind routers seed (subst (λ (k : Job). Asks call k) is asks)) takes refused) calm out err;

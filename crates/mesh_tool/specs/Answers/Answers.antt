@@ -1,5 +1,5 @@
 -- What the program answers.
-use Rattle.std.specs.Prelude.{◌≡◌, ◌⊎◌, ℕ, ◌+◌, ◌<◌, ◌≤◌, List, [], take, Bool, Option, Some, IsErr}
+use Rattle.std.specs.Prelude.{◌≡◌, ◌⊎◌, ℕ, ◌+◌, ◌<◌, ◌≤◌, List, [], length, take, Bool, Option, Some, IsErr}
 use Rattle.std.specs.Io.KnownBytes.{Appends, Keeps}
 use Rattle.mesh_atoms.specs.declared.addr.Addr4.{Addr4}
 use Rattle.mesh_dump.specs.Dump.{IsDumpText}
@@ -9,7 +9,7 @@ use Rattle.mesh_emulate.specs.Making.Made.{MadeEmulation}
 use Rattle.mesh_run.specs.Run.{WholeRun, SpendsTurns, FailsToAttach}
 use Rattle.mesh_tool.specs.declared.jobs.status.Status.{Status}
 use Rattle.mesh_tool.specs.declared.jobs.status.Status.TheVariants as status
-use Rattle.mesh_tool.specs.Jobs.Calls.{Call, told_in, UsesNoAir, RunsSoFar, Asks, wants_in, most_octets, ReadsNothing, IsInput, RefusesOctets, Refuses, TakesInput, Finishes, StopsShort, LeavesFront}
+use Rattle.mesh_tool.specs.Jobs.Calls.{Call, told_in, UsesNoAir, RunsSoFar, Asks, wants_in, most_octets, ReadsInput, ReadsNothing, IsInput, RefusesOctets, Refuses, TakesInput, Finishes, StopsShort, LeavesFront}
 use Rattle.mesh_tool.specs.Jobs.Lines.{words_line, read_line, refused_line, attach_line, turns_line, memory_line}
 use Rattle.mesh_tool.specs.declared.words.job.Job.{Job}
 use Rattle.mesh_tool.specs.declared.words.job.Job.TheVariants.{Dump, Run, Emulate, Make}
@@ -85,8 +85,13 @@ pub record Answers (call : Call) (answer : Status) : Type 0 where
   -- words that are no command line are told, or their line couldn't be written; nothing is read
   pub no_command : IsErr (words_of call.words) →
       ((answer ≡ status.Words) ⊎ (answer ≡ status.Write)) × ReadsNothing call × UsesNoAir call
-  -- an input that is too long is told, or its line couldn't be written
-  pub too_long : (job : Job) → Asks call job → call.taken' ≡ call.taken + (most_octets job + 1) →
+  -- with right words, an input that the source tells and that has more octets than its job takes, and no fault of the source, that is
+  -- told, or a line couldn't be written, or memory was wanting
+  pub too_long : (job : Job) (octets : List ℕ) → Asks call job → ReadsInput job → call.left ≡ Some octets →
+      most_octets job < length octets → (Rose call.read_faults call.read_faults' → ⊥) →
+      (answer ≡ status.Refused) ⊎ ((answer ≡ status.Write) ⊎ (answer ≡ status.Memory))
+  -- whatever the source tells: where one octet more than the most was taken, that is told, or its line couldn't be written
+  pub one_too_many : (job : Job) → Asks call job → call.taken' ≡ call.taken + (most_octets job + 1) →
       (answer ≡ status.Refused) ⊎ (answer ≡ status.Write)
   -- with right words, an input that the source tells and the job refuses, and no fault of the source, the refusal is told, or a line
   -- couldn't be written, or memory was wanting

@@ -70,6 +70,13 @@ wants_in words trace send probe =
 
 -- What is read
 
+-- the jobs that read an input
+abbrev pub ReadsInput : Job → Type 0
+ReadsInput (job.Dump recode) = Unit {0}
+ReadsInput (job.Run turns) = Unit {0}
+ReadsInput (job.Emulate trace send probe) = Unit {0}
+ReadsInput (job.Make kind routers seed) = ⊥
+
 -- the most octets that the input of a job may have
 abbrev pub most_octets : Job → ℕ
 most_octets (job.Dump recode) = 67108864

@@ -8,7 +8,7 @@ use Rattle.mesh_tool.specs.declared.jobs.ending.Ending.{Ending}
 use Rattle.mesh_tool.specs.declared.jobs.ending.Ending.TheVariants as ending
 use Rattle.mesh_tool.specs.declared.jobs.status.Status.{Status}
 use Rattle.mesh_tool.specs.declared.jobs.status.Status.TheVariants as status
-use Rattle.mesh_tool.specs.Jobs.Calls.{Call, told_in, UsesNoAir, UsesAir, Asks, most_octets, ReadsNothing, IsTooLong, WorksOn, RefusesOctets, IsAskedText, IsFirstText, IsFrontOf}
+use Rattle.mesh_tool.specs.Jobs.Calls.{Call, told_in, UsesNoAir, UsesAir, Asks, most_octets, ReadsInput, ReadsNothing, IsTooLong, WorksOn, RefusesOctets, IsAskedText, IsFirstText, IsFrontOf}
 use Rattle.mesh_tool.specs.Jobs.Lines.{words_line, read_line, refused_line, attach_line, turns_line, memory_line}
 use Rattle.mesh_tool.specs.declared.words.job.Job.{Job}
 use Rattle.mesh_tool.specs.declared.words.job.Job.TheVariants as job
@@ -83,13 +83,6 @@ Leaves call job octets out out' faults faults' (ending.Turns turns moment end) =
 Leaves call job octets out out' faults faults' ending.Words = ⊥
 Leaves call job octets out out' faults faults' ending.Read = ⊥
 Leaves call job octets out out' faults faults' ending.TooLong = ⊥
-
--- the jobs that read an input
-abbrev pub ReadsInput : Job → Type 0
-ReadsInput (job.Dump recode) = Unit {0}
-ReadsInput (job.Run turns) = Unit {0}
-ReadsInput (job.Emulate trace send probe) = Unit {0}
-ReadsInput (job.Make kind routers seed) = ⊥
 
 -- what was read and put for a job: its input wasn't read whole, and nothing was put; or it worked on its octets
 pub data DoesJob (job : Job) (call : Call) (how : Ending) : Type 0 where
