@@ -10,7 +10,7 @@ use Rattle.mesh_atoms.specs.State.{State}
 use Rattle.mesh_config.specs.RunSettings.{run_refusals}
 use Rattle.mesh_io.proofs.Fronts.{keeps_same}
 use Rattle.mesh_io.specs.Airs.{Report}
-use Rattle.mesh_io.specs.Faults.{Rose}
+use Rattle.mesh_io.specs.Faults.{Rose, RoseByOne}
 use Rattle.mesh_io.specs.Told.{Tells}
 use Rattle.mesh_io.specs.declared.stop.Stop.{Stop}
 use Rattle.mesh_io.specs.declared.stop.Stop.TheVariants as stop
@@ -150,7 +150,7 @@ module _ (input : List ℕ) (setup : RunSetup) (stated : States input setup) (mo
 
 -- an attach failed
 pub attach_left : (input : List ℕ) (setup : RunSetup) (most : ℕ) (k : Option (List ℕ)) (a b : Option (List Report)) (o : Option (List ℕ)) (n f af af' i : ℕ) →
-    States input setup → i < length setup.ports → n ≡ i → Tells a b (map attached_report (take i setup.ports)) → Rose af af' →
+    States input setup → i < length setup.ports → n ≡ i → Tells a b (map attached_report (take i setup.ports)) → RoseByOne af af' →
     Ends input most (told k k a b n) o o f f af af' (Err (fault.Attach i))
 attach_left input setup most k a b o n f af af' i stated fewer number tells rose = (
   record { setup = setup; stated = stated; fewer = fewer; is_attached = record { moments = refl; reports = tells; attached = number } },

@@ -5,7 +5,7 @@ use Rattle.mesh_atoms.specs.declared.settings.RunSetup.{RunSetup}
 use Rattle.mesh_atoms.specs.State.{State}
 use Rattle.mesh_config.specs.RunSettings.{FirstRunRefusal}
 use Rattle.mesh_io.specs.Airs.{Report}
-use Rattle.mesh_io.specs.Faults.{Rose}
+use Rattle.mesh_io.specs.Faults.{Rose, RoseByOne}
 use Rattle.mesh_io.specs.Told.{Tells}
 use Rattle.mesh_io.specs.declared.stop.Stop.{Stop}
 use Rattle.mesh_io.specs.declared.stop.Stop.TheVariants as stop
@@ -82,7 +82,7 @@ Ends input most told out out' faults faults' air_faults air_faults' (Ok u) =
 Ends input most told out out' faults faults' air_faults air_faults' (Err (fault.Refused number key)) =
     FirstRunRefusal input number key × IsUntold told × Keeps out out'
 Ends input most told out out' faults faults' air_faults air_faults' (Err (fault.Attach interface)) =
-    FailsToAttach input interface told × Rose air_faults air_faults' × Keeps out out'
+    FailsToAttach input interface told × RoseByOne air_faults air_faults' × Keeps out out'
 Ends input most told out out' faults faults' air_faults air_faults' (Err (fault.Turns turns greatest end)) =
     (turns ≡ most) × SpendsTurns input turns greatest end told × Keeps out out'
 Ends input most told out out' faults faults' air_faults air_faults' (Err (fault.Stopped stop.Write)) =

@@ -3,7 +3,7 @@ ghost use Rattle.std.specs.Prelude.{◌≡◌, ◌≤◌, ℕ, List, Err, OnOk, 
 ghost use Rattle.std.specs.Io.KnownBytes.{Appends, Keeps};
 ghost use Rattle.mesh_atoms.specs.declared.settings.RunSetup.{RunSetup};
 ghost use Rattle.mesh_config.specs.RunSettings.{run_refusals, FirstRunRefusal};
-ghost use Rattle.mesh_io.specs.Faults.{Rose};
+ghost use Rattle.mesh_io.specs.Faults.{Rose, RoseByOne};
 ghost use Rattle.mesh_run.specs.Ends.{Ends, Completes};
 ghost use Rattle.mesh_run.specs.Run.{States, told, IsUntold, WholeRun, SpendsTurns, FailsToAttach, RunsShort};
 ghost use Rattle.mesh_run.specs.declared.fault.RunFault.TheVariants.{Refused, Attach, Turns, Stopped};
@@ -63,10 +63,10 @@ pub fn run<B: Bases, O: Sink, A: Air, C: Clock>(
         × IsUntold (told (C.moments clock.old) (C.moments clock.new) (A.reports air.old) (A.reports air.new) (A.attached air.new))
         × Keeps (O.content out.old) (O.content out.new) }
 
-    // An attach failed, and the air counted a fault; nothing else was told, and nothing put on `out`.
+    // An attach failed, and the air counted that one fault; nothing else was told, and nothing put on `out`.
     ensures attach { (interface : ℕ) → result ≡ Err (Attach interface) → FailsToAttach input.now interface
         (told (C.moments clock.old) (C.moments clock.new) (A.reports air.old) (A.reports air.new) (A.attached air.new))
-        × Rose (A.faults air.old) (A.faults air.new) × Keeps (O.content out.old) (O.content out.new) }
+        × RoseByOne (A.faults air.old) (A.faults air.new) × Keeps (O.content out.old) (O.content out.new) }
 
     // All turns were done, each at a moment below the end; nothing was put on `out`.
     ensures turns { (count greatest end : ℕ) → result ≡ Err (Turns count greatest end) → (count ≡ turns)

@@ -1,6 +1,6 @@
 //! Attaching the interfaces of a router.
 ghost use Rattle.std.specs.Prelude.{◌≡◌, ◌<◌, ◌≤◌, length, map, take, OnOk, IfErr};
-ghost use Rattle.mesh_io.specs.Faults.{Rose};
+ghost use Rattle.mesh_io.specs.Faults.{RoseByOne};
 ghost use Rattle.mesh_io.specs.Told.{Tells};
 ghost use Rattle.mesh_run.specs.Turns.Parts.{AttachesPort};
 ghost use Rattle.mesh_run.specs.Turns.Turns.{attached_report};
@@ -13,7 +13,10 @@ pub fn attach_all<A: Air>(air: &mut A, ports: &[Port]) -> Result<(), usize>
     requires { A.attached air.old ≡ 0 }
     ensures all { OnOk result (A.attached air.new ≡ length ports.now) }
     ensures told { OnOk result (Tells (A.reports air.old) (A.reports air.new) (map attached_report ports.now)) }
-    ensures failed { IfErr result (λ i. Rose (A.faults air.old) (A.faults air.new)) }
+
+    // No attach failed, so each was tried once; or one failed, and none was tried after it.
+    ensures no_fault { OnOk result (A.faults air.new ≡ A.faults air.old) }
+    ensures one_fault { IfErr result (λ i. RoseByOne (A.faults air.old) (A.faults air.new)) }
     ensures fewer { IfErr result (λ i. (i < length ports.now)) }
     ensures number { IfErr result (λ i. A.attached air.new ≡ i) }
     ensures told_before { IfErr result (λ i. Tells (A.reports air.old) (A.reports air.new) (map attached_report (take i ports.now))) }

@@ -65,7 +65,7 @@ ends_unread call j ending.Write answer asks stops keeps tells = absurd stops
 
 unattached : (call : Call) (j : Job) (octets : List ℕ) (interface : ℕ) (answer : Status) → Asks call j → WorksOn j call octets → IsUnattached call j octets interface → Keeps call.out call.out'
     → TellsLine call.err call.err' call.err_faults call.err_faults' (attach_line interface) status.Attach answer → Ends call answer
-unattached call (job.Run turns) octets interface answer asks works (fails, rose) keeps tells =
+unattached call (job.Run turns) octets interface answer asks works (rose, fails) keeps tells =
     told call (attach_line interface) status.Attach answer (Attach_fault turns interface octets asks works fails rose keeps) tells
 unattached call (job.Dump recode) octets interface answer asks works is keeps tells = absurd is
 unattached call (job.Emulate trace send probe) octets interface answer asks works is keeps tells = absurd is

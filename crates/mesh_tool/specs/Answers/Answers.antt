@@ -4,7 +4,7 @@ use Rattle.std.specs.Io.KnownBytes.{Appends, Keeps}
 use Rattle.mesh_atoms.specs.declared.addr.Addr4.{Addr4}
 use Rattle.mesh_dump.specs.Dump.{IsDumpText}
 use Rattle.mesh_emulate.specs.Emulation.{Emulation}
-use Rattle.mesh_io.specs.Faults.{Rose}
+use Rattle.mesh_io.specs.Faults.{Rose, RoseByOne}
 use Rattle.mesh_emulate.specs.Making.Made.{MadeEmulation}
 use Rattle.mesh_run.specs.Run.{WholeRun, SpendsTurns, FailsToAttach}
 use Rattle.mesh_tool.specs.declared.jobs.status.Status.{Status}
@@ -24,7 +24,7 @@ pub data Due (call : Call) : Status → List ℕ → Type 0 where
   Refusal : (number : ℕ) (key : List ℕ) (job : Job) → Asks call job → Refuses job call number key → Keeps call.out call.out' →
       Due call status.Refused (refused_line number key)
   Attach_fault : (turns interface : ℕ) (octets : List ℕ) → Asks call (Run turns) → IsInput 1048576 call octets →
-      FailsToAttach octets interface (told_in call) → Rose call.air_faults call.air_faults' → Keeps call.out call.out' →
+      FailsToAttach octets interface (told_in call) → RoseByOne call.air_faults call.air_faults' → Keeps call.out call.out' →
       Due call status.Attach (attach_line interface)
   Turns_spent : (turns greatest end : ℕ) (octets : List ℕ) → Asks call (Run turns) → IsInput 1048576 call octets →
       SpendsTurns octets turns greatest end (told_in call) → Keeps call.out call.out' → Due call status.Turns (turns_line turns greatest end)

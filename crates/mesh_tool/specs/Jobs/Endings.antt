@@ -2,7 +2,7 @@
 use Rattle.std.specs.Prelude.{◌≡◌, ◌⊎◌, ℕ, ◌+◌, ◌<◌, List, [], take, codes, Option, IsErr}
 use Rattle.std.specs.Io.KnownBytes.{Appends, Keeps}
 use Rattle.mesh_io.specs.Airs.{Report}
-use Rattle.mesh_io.specs.Faults.{Rose}
+use Rattle.mesh_io.specs.Faults.{Rose, RoseByOne}
 use Rattle.mesh_run.specs.Run.{SpendsTurns, FailsToAttach}
 use Rattle.mesh_tool.specs.declared.jobs.ending.Ending.{Ending}
 use Rattle.mesh_tool.specs.declared.jobs.ending.Ending.TheVariants as ending
@@ -59,7 +59,7 @@ StopsReading most call ending.Write = ⊥
 -- an interface couldn't be attached, or all turns were done below the end
 abbrev pub IsUnattached : Call → Job → List ℕ → ℕ → Type 0
 IsUnattached call (job.Dump recode) octets interface = ⊥
-IsUnattached call (job.Run turns) octets interface = FailsToAttach octets interface (told_in call) × Rose call.air_faults call.air_faults'
+IsUnattached call (job.Run turns) octets interface = RoseByOne call.air_faults call.air_faults' × FailsToAttach octets interface (told_in call)
 IsUnattached call (job.Emulate trace send probe) octets interface = ⊥
 IsUnattached call (job.Make kind routers seed) octets interface = ⊥
 

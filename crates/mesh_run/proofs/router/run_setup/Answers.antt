@@ -26,4 +26,4 @@ returns-in-Err-clause-ends g c =
     (subst (λ (ports : List Port). c.in-Err.interface < length ports) c.as_slice.ensures c.in-Err.ensures.fewer)
     c.in-Err.ensures.number
     (subst (λ (ports : List Port). Tells before behind (map attached_report (take c.in-Err.interface ports))) c.as_slice.ensures c.in-Err.ensures.told_before)
-    c.in-Err.ensures.failed
+    c.in-Err.ensures.one_fault

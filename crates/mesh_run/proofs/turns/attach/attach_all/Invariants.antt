@@ -1,12 +1,12 @@
-use Rattle.std.proofs.Common.{◌≡◌, ◌≤◌, map, take}
+use Rattle.std.proofs.Common.{◌≡◌, map, take}
 use Rattle.mesh_io.specs.Told.{Tells}
 use Rattle.mesh_run.specs.Turns.Turns.{attached_report}
 use Rattle.mesh_run.proofs.turns.attach.attach_all.Given as goal
 
--- so many ports are attached, and told
+-- so many ports are attached, and told, and none failed
 abbrev pub invariant-loop-i : goal.invariant-loop-i
 invariant-loop-i g l = record {
   attached : g.A.Air.attached l.air ≡ l.i;
   told : Tells (g.A.Air.reports l.fn.air) (g.A.Air.reports l.air) (map attached_report (take l.i l.ports));
-  later : g.A.Air.faults l.fn.air ≤ g.A.Air.faults l.air;
+  no_fault : g.A.Air.faults l.air ≡ g.A.Air.faults l.fn.air;
 }

@@ -13,7 +13,7 @@ returns-in-Err-Refused-clause-leaves g c = λ call.
 pub returns-in-Err-Attach-clause-leaves : goal.returns-in-Err-Attach-clause-leaves
 returns-in-Err-Attach-clause-leaves g c = λ call.
     let failed = c.in-Err-Attach.ensures.attach c.in-Err-Attach.interface (ap (λ fault. Err fault) c.in-Err-Attach.field-0-is) in
-    (((failed.0, failed.1), failed.2), inr (inr (inr (inl (c.in-Err-Attach.interface, failed.0)))))
+    (((failed.1, failed.0), failed.2), inr (inr (inr (inl (c.in-Err-Attach.interface, failed.0)))))
 
 pub returns-in-Err-Turns-clause-leaves : goal.returns-in-Err-Turns-clause-leaves
 returns-in-Err-Turns-clause-leaves g c = λ call.
