@@ -64,7 +64,7 @@ module _ (s : Scenario) (states : List State) (from : ℕ) (a : Addr4) (trip : T
   abbrev pub IsOnly : Type 0
   IsOnly = AreSound states → (other : Trip) → IsTrip s states from a other → other ≡ trip
 
-  -- in a settled network a trip to another router's address arrives there at the least cost
+  -- in a settled network a trip to another router's address, to which the radio graph has a least cost, arrives there at that cost
   abbrev pub ReachesRouter : Type 0
   ReachesRouter =
       (now y c : ℕ) → IsSettledNetwork s states now → LiesAt s from a y c →

@@ -58,14 +58,16 @@ TripsAreOnly =
     (input : List ℕ) (trace : Bool) (packet : Packet) (probe : Option (List ℕ)) (e : Emulation input (sending trace packet probe)) (other : Trip) →
     IsTrip e.scenario e.run.final.routers e.is_trip.from packet.dest other → other ≡ e.is_trip.trip
 
--- where a line is `settled yes`, a packet to another router's address arrives there, at the least metric
+-- where a line is `settled yes`, a packet to another router's address, to which the radio graph has a least cost, arrives there, at
+-- that cost
 abbrev pub TripsReachRouters : Type 0
 TripsReachRouters =
     (input : List ℕ) (trace : Bool) (packet : Packet) (probe : Option (List ℕ)) (e : Emulation input (sending trace packet probe)) → SaysSettled e.text →
     (y c : ℕ) → LiesAt e.scenario e.is_trip.from packet.dest y c →
     (e.is_trip.trip.end ≡ Arrived) × (e.is_trip.trip.last ≡ y) × (e.is_trip.trip.metric ≡ c)
 
--- one to an attached network arrives at a router that attaches the longest of those that have the address
+-- where all routers are willing to route, no router has the address, and a joined router attaches a network that has it, the packet
+-- arrives at a router that attaches the longest such network
 abbrev pub TripsReachNetworks : Type 0
 TripsReachNetworks =
     (input : List ℕ) (trace : Bool) (packet : Packet) (probe : Option (List ℕ)) (e : Emulation input (sending trace packet probe)) → SaysSettled e.text →

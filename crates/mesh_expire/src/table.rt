@@ -27,7 +27,7 @@ pub trait Table<K: Key, V>: Sized + Drop {
         ensures distinct { HasDistinctKeys K.eq (content self.now) };
 
     /// The entry at a place, counted from 0; `None` from the length on. An entry stays at its place up to the next `put`,
-    /// `remove` or `expire`.
+    /// `remove`, `expire` or `expire_next`.
     fn at(&self, place: usize) -> Option<(&K, &V, u64)>
         ensures { entry_of result ≡ slice_get (content self.now) place };
 

@@ -93,7 +93,8 @@ Hears old arrival bytes (heard.Refused refusal) sent new =
 Hears old arrival bytes (heard.Taken fates) sent new = HearsPacket old arrival bytes fates sent new
 
 -- one event: what is sent, and the state after it. Free are the relay sets, among those that cover and are needed, and how sent
--- HELLOs and TCs are spelled; a base is a list whose order has no meaning. All else is fixed
+-- HELLOs and TCs are spelled, but that each address block is in the fewest octets; a base is a list whose order has no meaning. All
+-- else is fixed
 pub data Step (old : State) : Event → List Frame → State → Type 0 where
   Heard_frame : {arrival : Arrival} {bytes : List ℕ} {sent : List Frame} {new : State} (answer : Heard) →
       Hears old arrival bytes answer sent new → Step old (Hear arrival bytes) sent new

@@ -12,12 +12,13 @@ pub fn runs_are_sound()
     ensures { RunsAreSound }
 {}
 
-/// Each frame that a step sends spells a packet, and is sent on one of the router's interfaces.
+/// Where what is heard is octets, each frame that a step sends spells a packet, and is sent on one of the router's interfaces.
 pub fn steps_send_packets()
     ensures { SendsPackets }
 {}
 
-/// In every run of a network from its opening, over whatever losses and delays, each router is a run of the machine with its settings.
+/// In every run of a scenario's network from its opening, over the losses and delays of that scenario, each router is a run of the
+/// machine with its settings.
 pub fn machines()
     ensures { AreMachines }
 {}

@@ -53,7 +53,7 @@ pub record IsUnknown (key : FloodKey) (noted : NotedMessages) : Type 0 where
   pub room_received : (j : ℕ) → length (base_of noted.received j) < 16384
   pub room_forwarded : length noted.forwarded < 16384
 
--- no router knows the message
+-- no router knows the message, and each has room for it
 abbrev pub AreUnknown : List State → Tc → Type 0
 AreUnknown states tc = (x : ℕ) (q : State) → At states x q → IsUnknown (key_of_tc tc) q.bases.noted
 
@@ -68,7 +68,7 @@ abbrev pub IsHeardBy : Scenario → List Transmission → ℕ → Type 0
 IsHeardBy s heard z = (f : Transmission) × (j : ℕ) × Contains heard f × Contains (hearers_of s.arcs f.router f.frame.iface) (z, j)
 
 -- in a settled network whose routers are all willing to flood, a TC whose hop limit is no less than the number of routers, and
--- that no router knows, is heard by each router that is joined with its originator
+-- that no router knows and each has room for, is heard by each router that is joined with its originator
 abbrev pub FloodReaches : Type 0
 FloodReaches =
     (s : Scenario) (states : List State) (now origin : ℕ) (tc : Tc) (limit : ℕ) (heard : List Transmission) (new : List State) →

@@ -2,9 +2,9 @@
 ghost use Rattle.mesh_probe.specs.Laws.{FloodReaches, FloodSendsOnce};
 ghost use Rattle.mesh_probe.specs.Probes.{ProbesReach, ProbesSendOnce};
 
-/// The laws of floods (RFC 7181, section 14.3). In a settled network whose routers are all willing to flood, a TC that no router
-/// knows and whose hop limit is no less than the number of routers is heard by each router that is joined with its originator
-/// (`reaches`). Whatever the network, no router sends a TC twice on an interface (`once`). It does nothing.
+/// The laws of floods (RFC 7181, section 14.3). In a settled network whose routers are all willing to flood and have room in their
+/// sets of messages, a TC that no router knows and whose hop limit is no less than the number of routers is heard by each router that is
+/// joined with its originator (`reaches`). Whatever the network, no router sends a TC twice on an interface (`once`). It does nothing.
 pub fn floods_reach()
     ensures reaches { FloodReaches }
     ensures once { FloodSendsOnce }

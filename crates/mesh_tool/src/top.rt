@@ -51,7 +51,7 @@ pub fn mesh_top<S: Source, O: Sink, E: Sink, A: Air, C: Clock>(
       air_faults' = A.faults air.new;
     }) result }
 
-    // In every emulation each router is a run of the machine, over whatever frames, losses and moments.
+    // In every emulation each router is a run of the machine, over the frames, losses and moments of its scenario's network.
     ensures machines { RunsMachines }
 
     // A line of the text of an emulation is `settled yes` exactly where its network is settled at its end.
@@ -66,17 +66,19 @@ pub fn mesh_top<S: Source, O: Sink, E: Sink, A: Air, C: Clock>(
     // The trip that is told is the only one over the routes of the network's routers.
     ensures trips { TripsAreOnly }
 
-    // In a settled network a packet to another router's address arrives there, at the least metric,
+    // In a settled network a packet to another router's address, to which the radio graph has a way over routers that are willing to
+    // route, arrives there, at the least metric;
     ensures trips_reach_routers { TripsReachRouters }
 
-    // one to an attached network at a router that attaches the longest that has the address,
+    // where all routers are willing to route, no router has the address and a joined router attaches a network that has it, a packet
+    // arrives at a router that attaches the longest such network;
     ensures trips_reach_networks { TripsReachNetworks }
 
-    // and none of these ends for want of an arc, or goes too far.
+    // and none of these packets ends for want of an arc, or goes too far.
     ensures trips_never_stray { TripsNeverStray }
 
-    // In a settled network whose routers are all willing to flood and have room for messages, a probe whose hop limit suffices reaches
-    // each router that is joined with its own,
+    // In a settled network whose routers are all willing to flood and have room for messages, a probe that has a number, and whose hop
+    // limit is no less than the number of routers, reaches each router that is joined with its own,
     ensures probes_reach { ProbesReachJoined }
 
     // and the text says so.

@@ -100,8 +100,8 @@ impl<B: Bases> Topology<B> {
         Ok(taken)
     }
 
-    /// The same as `take_tc`, and whether the TC changed what is advertised: where it didn't, the same routers, addresses and
-    /// networks are advertised at the same metrics and distances as before.
+    /// The same as `take_tc`; and `false` where the TC didn't change what is advertised: then the same routers, addresses and networks are
+    /// advertised at the same metrics and distances as before. `true` promises nothing.
     pub fn take_and_tell(&mut self, now: u64, tc: &Tc) -> Result<(TcTaken, bool), AllocError>
         requires now { now < 2 ^ 62 }
         requires validity { tc.now.validity < 2 ^ 62 }
@@ -133,8 +133,8 @@ impl<B: Bases> Topology<B> {
         self.expire_and_tell(now);
     }
 
-    /// The same as `expire`, and whether a router, an address or a network went: where none did, the same are advertised at the
-    /// same metrics and distances as before.
+    /// The same as `expire`; and `false` where no router, address or network went: then the same are advertised at the same metrics and
+    /// distances as before. `true` promises nothing.
     pub fn expire_and_tell(&mut self, now: u64) -> bool
         ensures live { LiveTopology now self.old self.new }
         ensures same { result ≡ false → SameAdvertised self.old self.new }
