@@ -14,7 +14,7 @@ use Rattle.mesh_paths.specs.SettledRoutes.{IsSettledNetwork, LeadsOn}
 use Rattle.mesh_paths.specs.SettledRoutes as rows
 use Rattle.mesh_paths.proofs.SettledLaw.{settled_rows, settled_next_hops}
 use Rattle.mesh_settled.proofs.GapsLemmas.FaceLemmas.{end_has_least}
-use Rattle.mesh_router_text.specs.Lines.Marks.{face_name, name_of_face}
+use Rattle.mesh_texts.specs.Lines.Marks.{face_name, name_of_face}
 use Rattle.mesh_texts.specs.Printed.{SaysSettled, ArePlain, Prints, PrintsBy, LeadsOnwards, Arrives, Goes_on, At_gateway, LeadsThere}
 use Rattle.mesh_texts.specs.Runs.{TellsWhetherSettled}
 use Rattle.mesh_texts.proofs.ReadBack.{ends_settled, tells_whether, prints_rows, prints_rows_by}

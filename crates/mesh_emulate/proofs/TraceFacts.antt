@@ -14,7 +14,7 @@ use Rattle.mesh_machine.specs.Net.{Net, NetStep, By_delivery, By_tick, By_last_t
 use Rattle.mesh_machine.specs.Traffic.{Traffic, with_heard}
 use Rattle.mesh_machine.specs.NetRun.{IsOfPackets}
 use Rattle.mesh_texts.proofs.TraceSteps.{traces_more, traces_run}
-use Rattle.mesh_router_text.specs.Trace.{IsEventText}
+use Rattle.mesh_texts.specs.Trace.{IsEventText}
 use Rattle.mesh_texts.specs.Runs.{IsTraced}
 use Rattle.mesh_emulate.specs.Left.{Leaves, IsNothing, IsLastEvent, Told, ToldToEnd, ToldSoFar}
 use Rattle.mesh_emulate.proofs.Leaving.{stops_then}

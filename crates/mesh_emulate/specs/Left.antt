@@ -18,7 +18,7 @@ use Rattle.mesh_atoms.specs.declared.network.NetEvent.{NetEvent}
 use Rattle.mesh_machine.specs.Net.{Net}
 use Rattle.mesh_machine.specs.NetRun.{IsOver, NetRun}
 use Rattle.mesh_atoms.specs.declared.gap.Gap.{Gap}
-use Rattle.mesh_router_text.specs.Trace.{IsTaken}
+use Rattle.mesh_texts.specs.Trace.{IsTaken}
 use Rattle.mesh_texts.specs.Network.{IsGapOf, IsSummary}
 use Rattle.mesh_texts.specs.Runs.{Traces, WholeRun, IsRunText, FirstEvents, IsFirstTrace}
 

@@ -1,6 +1,6 @@
 -- Lemmas for crates above, each file with the crates that cite it.
 pub mod Collect  -- core, machine, nhdp
-pub mod Fits  -- nhdp
+pub mod Fits  -- nhdp, replay
 pub mod Lookups  -- machine, nhdp
 pub mod Places  -- nhdp
 pub mod SayingLemmas  -- nhdp

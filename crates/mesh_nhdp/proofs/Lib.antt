@@ -1,7 +1,7 @@
 -- Lemmas for crates above, each file with the crates that cite it.
 pub mod Empty  -- machine
 pub mod HelloSound  -- machine
-pub mod Limits  -- machine
+pub mod Limits  -- machine, replay
 pub mod LiveSound  -- machine
 pub mod TcCounts  -- core, probe
 -- Lemmas of this crate alone.

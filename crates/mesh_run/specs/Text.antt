@@ -3,8 +3,8 @@ use Rattle.std.specs.Prelude.{◌≡◌, ℕ, ◌<◌, ◌≤◌, [], ◌∷◌,
 use Rattle.mesh_atoms.specs.declared.settings.RunSetup.{RunSetup}
 use Rattle.mesh_atoms.specs.State.{State}
 use Rattle.mesh_io.specs.Airs.{Report}
-use Rattle.mesh_router_text.specs.Lines.Marks.{line_of}
-use Rattle.mesh_router_text.specs.Sections.Section.{IsSection}
+use Rattle.mesh_texts.specs.Lines.Marks.{line_of}
+use Rattle.mesh_texts.specs.Sections.Section.{IsSection}
 use Rattle.mesh_run.specs.Turns.Turns.{Turns, ended_by}
 use Rattle.mesh_run.specs.declared.turns.tally.Ended.{Ended}
 

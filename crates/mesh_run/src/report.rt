@@ -8,7 +8,7 @@ use crate::turns::Ended;
 use mesh_atoms::Bytes;
 use mesh_io::{Sink, Stop, write_all};
 use mesh_machine::RouterView;
-use mesh_router_text::{Piece, put_line, put_section};
+use mesh_texts::{Piece, put_line, put_section};
 use std::alloc::{AllocError, Global};
 
 // Puts when a run ended and what was counted. Want of memory leaves a part of it behind what was there.

@@ -9,6 +9,8 @@ pub mod RunStates  -- emulate
 pub mod TraceSteps  -- emulate
 -- Lemmas of this crate alone.
 mod LineLists
-mod Sections
+mod LinesLemmas
+mod SectionTexts
+mod SectionsLemmas
 mod States
 mod WholeTexts

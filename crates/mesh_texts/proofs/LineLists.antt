@@ -5,7 +5,7 @@ use Rattle.std.specs.List.{AllByRecursion as Each, flat_map}
 use Rattle.std.proofs.lemmas.Bool.{eqb-true}
 use Rattle.std.proofs.lemmas.Grind.{flat_map-append}
 use Rattle.std.proofs.lemmas.List.{append-nil}
-use Rattle.mesh_router_text.specs.Lines.Marks.{joined}
+use Rattle.mesh_texts.specs.Lines.Marks.{joined}
 use Rattle.mesh_texts.specs.Printed.{IsLine, BeginsWith}
 use Rattle.mesh_texts.proofs.Cuts.{lacks, first_cut, inside_lacks}
 

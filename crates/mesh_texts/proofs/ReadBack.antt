@@ -16,8 +16,8 @@ use Rattle.mesh_atoms.specs.Settled.{At}
 use Rattle.mesh_atoms.specs.State.{State}
 use Rattle.mesh_atoms.proofs.Kept.{distinct_is}
 use Rattle.mesh_atoms.specs.declared.gap.Gap.{Gap}
-use Rattle.mesh_router_text.specs.Lines.Marks.{dotted, face_name}
-use Rattle.mesh_router_text.specs.Lines.Lines.{router_line, row_line, route_line}
+use Rattle.mesh_texts.specs.Lines.Marks.{dotted, face_name}
+use Rattle.mesh_texts.specs.Lines.Lines.{router_line, row_line, route_line}
 use Rattle.mesh_texts.specs.Network.{IsGapOf, settled_text}
 use Rattle.mesh_texts.specs.Runs.{WholeRun, TellsWhetherSettled, IsRunText}
 use Rattle.mesh_texts.specs.Printed.{IsLine, BeginsWith, SaysSettled, IsPlain, ArePlain, StandsUnder, PrintsBy}
@@ -30,7 +30,7 @@ use Rattle.mesh_texts.proofs.LineTexts.{IsNeither, plain_neither, settled_neithe
 use Rattle.mesh_texts.proofs.RunStates.{run_states}
 use Rattle.mesh_texts.proofs.RouteLines.{SameParts, same_parts, same_slashed, same_decimal, same_dotted}
 use Rattle.mesh_texts.proofs.WholeTexts.{Settles, TextLines, text_lines, plain_lines, gap_is_plain, settled_lines, sections_are_lines, sections_settle_none}
-use Rattle.mesh_texts.proofs.Sections.{rows_of, Names, in_sections, sections_have}
+use Rattle.mesh_texts.proofs.SectionTexts.{rows_of, Names, in_sections, sections_have}
 
 -- Whether it is settled
 

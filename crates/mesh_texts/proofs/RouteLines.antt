@@ -9,8 +9,8 @@ use Rattle.std.proofs.Math.Nat.{pow-succ'}
 use Rattle.mesh_atoms.specs.declared.addr.Addr4.{Addr4}
 use Rattle.mesh_atoms.specs.declared.addr.NetAddr.{NetAddr}
 use Rattle.mesh_atoms.proofs.Nets.{same_net}
-use Rattle.mesh_router_text.specs.Lines.Marks.{dotted, slashed, node_text}
-use Rattle.mesh_router_text.specs.Lines.Lines.{route_line}
+use Rattle.mesh_texts.specs.Lines.Marks.{dotted, slashed, node_text}
+use Rattle.mesh_texts.specs.Lines.Lines.{route_line}
 use Rattle.mesh_texts.proofs.Cuts.{lacks, lacks_both, first_cut, last_cut, same_front}
 use Rattle.mesh_texts.proofs.Marked.{decimal_lacks, dotted_lacks, slashed_lacks, node_lacks}
 

@@ -15,10 +15,10 @@ use Rattle.mesh_atoms.specs.declared.network.Emission.{Emission}
 use Rattle.mesh_atoms.specs.declared.network.NetEvent.{NetEvent}
 use Rattle.mesh_machine.specs.Net.{Net}
 use Rattle.mesh_atoms.specs.declared.gap.Gap.{Gap}
-use Rattle.mesh_router_text.specs.Lines.Marks.{face_name}
-use Rattle.mesh_router_text.specs.Lines.Lines.{router_line, link_line, neighbour_line, held_line, flooding_line, routing_line, row_line}
-use Rattle.mesh_router_text.specs.Sections.Section.{AreAllLinkLines, ways_text, IsSection, AreSections}
-use Rattle.mesh_router_text.specs.Trace.{happened_line, event_line, flooding_relays_line, relays_lines, arc_line, lost_line, sent_line, sent_lines, event_text, IsEventText, Of_taken, Of_refused}
+use Rattle.mesh_texts.specs.Lines.Marks.{face_name}
+use Rattle.mesh_texts.specs.Lines.Lines.{router_line, link_line, neighbour_line, held_line, flooding_line, routing_line, row_line}
+use Rattle.mesh_texts.specs.Sections.Section.{AreAllLinkLines, ways_text, IsSection, AreSections}
+use Rattle.mesh_texts.specs.Trace.{happened_line, event_line, flooding_relays_line, relays_lines, arc_line, lost_line, sent_line, sent_lines, event_text, IsEventText, Of_taken, Of_refused}
 use Rattle.mesh_texts.specs.Network.{counts_line, gap_line, settled_text}
 use Rattle.mesh_texts.specs.Runs.{Traces, WholeRun, IsTrace, IsRunText}
 use Rattle.mesh_texts.specs.Printed.{IsLine, BeginsWith, IsPlain, ArePlain}

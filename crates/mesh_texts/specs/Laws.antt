@@ -7,7 +7,7 @@ use Rattle.mesh_atoms.specs.declared.settings.Scenario.{Scenario}
 use Rattle.mesh_atoms.specs.Settled.{At}
 use Rattle.mesh_atoms.specs.State.{State}
 use Rattle.mesh_settled.specs.paths.SettledRoutes.{HasRow}
-use Rattle.mesh_router_text.specs.Lines.Marks.{face_name}
+use Rattle.mesh_texts.specs.Lines.Marks.{face_name}
 use Rattle.mesh_texts.specs.Printed.{SaysSettled, ArePlain, Prints, PrintsBy}
 use Rattle.mesh_texts.specs.Runs.{WholeRun, IsRunText}
 

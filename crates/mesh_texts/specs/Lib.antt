@@ -1,5 +1,7 @@
-pub use Rattle.mesh_router_text.specs as router_text
 pub mod Laws
+pub mod Lines
 pub mod Network
 pub mod Printed
 pub mod Runs
+pub mod Sections
+pub mod Trace

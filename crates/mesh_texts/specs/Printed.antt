@@ -12,8 +12,8 @@ use Rattle.mesh_atoms.specs.Codes.Codes.{metric_value}
 use Rattle.mesh_atoms.specs.Radio.{Router, Joins, AddressOf, Attaches, Hop, Willing}
 use Rattle.mesh_atoms.specs.State.{HasAddressOn}
 use Rattle.mesh_atoms.specs.Walk.{LeastWilling}
-use Rattle.mesh_router_text.specs.Lines.Lines.{route_line}
-use Rattle.mesh_router_text.specs.Lines.Marks.{joined}
+use Rattle.mesh_texts.specs.Lines.Lines.{route_line}
+use Rattle.mesh_texts.specs.Lines.Marks.{joined}
 
 -- Lines
 

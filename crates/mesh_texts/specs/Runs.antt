@@ -10,7 +10,7 @@ use Rattle.mesh_atoms.specs.declared.network.NetEvent.{NetEvent}
 use Rattle.mesh_machine.specs.Net.{Net, NetStep, event_of, frames_of}
 use Rattle.mesh_machine.specs.NetRun.{IsOpeningNet, IsOver, NetRun, events_at}
 use Rattle.mesh_atoms.specs.declared.gap.Gap.{Gap}
-use Rattle.mesh_router_text.specs.Trace.{IsEventText}
+use Rattle.mesh_texts.specs.Trace.{IsEventText}
 use Rattle.mesh_texts.specs.Network.{IsGapOf, IsSummary}
 use Rattle.mesh_texts.specs.Printed.{SaysSettled}
 

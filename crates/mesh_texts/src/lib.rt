@@ -1,9 +1,18 @@
-//! The texts of an emulated network: the summary of the network, and what can be read back from it and from the trace.
+//! The texts of routers and of emulated networks: the lines and the section of a router, the lines of an event (a trace), the summary of
+//! a network, and what can be read back from them.
 #![tactic(auto)]
 
 mod laws;
+mod lines;
+mod sections;
 mod summary;
+mod trace;
 
 pub use laws::texts_read_back;
-pub use mesh_router_text::put_event;
+pub use lines::{
+    Piece, face_name, faces_of, put_all, put_flooding_line, put_line, put_link_line,
+    put_neighbour_line, put_route_line, put_router_line, put_routing_line, relays_of,
+};
+pub use sections::put_section;
 pub use summary::{put_counts_line, put_settled, put_summary};
+pub use trace::put_event;

@@ -2,7 +2,7 @@
 use Rattle.std.specs.Prelude.{◌≡◌, ℕ, List, [], ◌∷◌, length, Option, Some, None, codes, decimal}
 use Rattle.mesh_atoms.specs.declared.settings.Scenario.{Scenario}
 use Rattle.mesh_emulate.specs.Making.Routes.{IsGreatest}
-use Rattle.mesh_router_text.specs.Lines.Marks.{line_of}
+use Rattle.mesh_texts.specs.Lines.Marks.{line_of}
 use Rattle.mesh_emulate.specs.declared.making.kind.Kind.{Kind}
 use Rattle.mesh_emulate.specs.declared.making.kind.Kind.TheVariants as kind
 

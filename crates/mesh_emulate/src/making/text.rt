@@ -10,9 +10,8 @@ use crate::making::routes::{greatest_of, route_count};
 use mesh_atoms::{Bytes, Scenario};
 use mesh_machine::RouterView;
 use mesh_radio::Counts;
-use mesh_router_text::{Piece, put_line};
 use mesh_settled::Gap;
-use mesh_texts::{put_counts_line, put_settled};
+use mesh_texts::{Piece, put_counts_line, put_line, put_settled};
 use std::alloc::AllocError;
 
 fn kind_text(kind: Kind) -> &'static [u8]

@@ -18,8 +18,8 @@ use Rattle.mesh_machine.specs.Sending.{IsHelloFrame}
 use Rattle.mesh_machine.specs.Traffic.{Traffic, Spreads, No_arcs, Loses, Carries, with_loss, with_delivery, with_sent, leaving}
 use Rattle.mesh_machine.proofs.packet.Encodable.{AreOctets}
 use Rattle.mesh_machine.proofs.Places.{same_at}
-use Rattle.mesh_texts.specs.router_text.Lines.Marks.{face_name}
-use Rattle.mesh_texts.specs.router_text.Trace.{flooding_text, routing_relays_line, sent_line}
+use Rattle.mesh_texts.specs.Lines.Marks.{face_name}
+use Rattle.mesh_texts.specs.Trace.{flooding_text, routing_relays_line, sent_line}
 use Rattle.mesh_machine.specs.Net.{Net}
 use Rattle.mesh_replay.specs.Positions.Alike.{HasAddresses}
 use Rattle.mesh_replay.specs.Positions.Items.{Tells, Tells_flooding, Tells_routing, Tells_hello, Tells_tc, TellsFrame, AreTcFrames, with_flooding, with_routing}

@@ -16,8 +16,8 @@ use Rattle.mesh_machine.specs.Sending.{IsHelloFrame}
 use Rattle.mesh_atoms.specs.declared.network.Emission.{Emission}
 use Rattle.mesh_machine.specs.Traffic.{Traffic, Sends}
 use Rattle.mesh_machine.proofs.Places.{set_at}
-use Rattle.mesh_texts.specs.router_text.Lines.Marks.{face_name}
-use Rattle.mesh_texts.specs.router_text.Trace.{flooding_text, routing_relays_line, sent_line, lost_line}
+use Rattle.mesh_texts.specs.Lines.Marks.{face_name}
+use Rattle.mesh_texts.specs.Trace.{flooding_text, routing_relays_line, sent_line, lost_line}
 use Rattle.mesh_machine.specs.Net.{Net}
 use Rattle.mesh_machine.specs.wire.Writes.{WritesTc}
 use Rattle.mesh_replay.specs.Positions.Alike.{AlikeStates, Alike}

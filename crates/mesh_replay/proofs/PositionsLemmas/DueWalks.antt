@@ -15,7 +15,7 @@ use Rattle.mesh_machine.proofs.Originators.{some_interface}
 use Rattle.mesh_atoms.specs.declared.network.Emission.{Emission}
 use Rattle.mesh_machine.specs.Traffic.{Traffic, SendsAll, frame_of}
 use Rattle.mesh_machine.specs.wire.Writes.{WritesTc}
-use Rattle.mesh_texts.specs.router_text.Trace.{sent_lines}
+use Rattle.mesh_texts.specs.Trace.{sent_lines}
 use Rattle.mesh_machine.specs.Net.{Net}
 use Rattle.mesh_replay.specs.Positions.Due.{part_items}
 use Rattle.mesh_replay.specs.Positions.Items.{Tells, Tells_hello, Tells_tc, TellsFrame, AreTcFrames}

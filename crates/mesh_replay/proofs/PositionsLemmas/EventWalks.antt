@@ -20,8 +20,8 @@ use Rattle.mesh_machine.specs.Sending.{IsHelloFrame, SendsHellos, Hellos_early a
 use Rattle.mesh_atoms.specs.declared.network.Emission.{Emission}
 use Rattle.mesh_machine.specs.Traffic.{Traffic, Delivery, SendsAll, frame_of, with_heard}
 use Rattle.mesh_machine.proofs.Places.{set_here}
-use Rattle.mesh_texts.specs.router_text.Lines.Marks.{face_name}
-use Rattle.mesh_texts.specs.router_text.Trace.{tick_line, heard_line, relays_lines, sent_lines}
+use Rattle.mesh_texts.specs.Lines.Marks.{face_name}
+use Rattle.mesh_texts.specs.Trace.{tick_line, heard_line, relays_lines, sent_lines}
 use Rattle.mesh_machine.specs.Net.{Net, HearsNext, IsSender}
 use Rattle.mesh_replay.specs.Positions.Due.{Follows, TakesPacket, Taken, HellosDue, Hellos_early, Hellos_due, TcsDue, Tcs_early, Tcs_silent, Tcs_due, none_told, part_items}
 use Rattle.mesh_replay.specs.Positions.Events.{OpensEvent, OpensTick, By_delivery}

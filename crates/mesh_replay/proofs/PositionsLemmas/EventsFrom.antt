@@ -13,8 +13,8 @@ use Rattle.mesh_machine.specs.Messages.{TakesMessages}
 use Rattle.mesh_machine.specs.Renewal.{IsNextAnsn, IsEmptied}
 use Rattle.mesh_machine.specs.Traffic.{Traffic, Delivery, IsHeardFirst, with_heard}
 use Rattle.mesh_machine.proofs.Places.{stands}
-use Rattle.mesh_texts.specs.router_text.Lines.Marks.{face_name}
-use Rattle.mesh_texts.specs.router_text.Trace.{heard_line, tick_line}
+use Rattle.mesh_texts.specs.Lines.Marks.{face_name}
+use Rattle.mesh_texts.specs.Trace.{heard_line, tick_line}
 use Rattle.mesh_machine.specs.Net.{Net, IsFirstDue, HearsNext, TicksNext, HasOnlyLastTicks, IsSender}
 use Rattle.mesh_replay.specs.Positions.Alike.{AlikeStates, Alike}
 use Rattle.mesh_replay.specs.Positions.Due.{Follows, TakesPacket, HearsBy, Refused, Taken, HellosDue, Hellos_early, Hellos_due, TcsDue, Tcs_early, Tcs_silent, Tcs_due, TicksBy, part_items}

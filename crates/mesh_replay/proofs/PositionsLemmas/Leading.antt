@@ -2,7 +2,7 @@
 use Rattle.std.proofs.Common.{◌≡◌, ℕ, List, [], ◌∷◌, ◌++◌, Some, refl, sym, subst}
 use Rattle.std.specs.Prelude.{slice_get}
 use Rattle.mesh_atoms.specs.State.{State}
-use Rattle.mesh_texts.specs.router_text.Trace.{lost_line}
+use Rattle.mesh_texts.specs.Trace.{lost_line}
 use Rattle.mesh_machine.specs.Net.{Net}
 use Rattle.mesh_machine.specs.declared.frame.Frame.{Frame}
 use Rattle.mesh_replay.specs.Positions.Items.{Tells, Tells_frame, Tells_loss, TellsFrame}

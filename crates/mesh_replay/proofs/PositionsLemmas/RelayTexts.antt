@@ -2,11 +2,11 @@
 use Rattle.std.proofs.Common.{◌≡◌, ℕ, suc, ◌<◌, ◌^◌, ◌/◌, ◌%◌, true, List, [], ◌∷◌, ◌++◌, refl, sym, ap, ◌∙◌, subst, arith, append_assoc, codes, decimal, Contains}
 use Rattle.std.proofs.lemmas.List.{append_cancel_left, append_cancel_right}
 use Rattle.mesh_atoms.specs.declared.addr.Addr4.{Addr4}
-use Rattle.mesh_texts.specs.router_text.Lines.Marks.{dotted, spaced, relays_text}
+use Rattle.mesh_texts.specs.Lines.Marks.{dotted, spaced, relays_text}
 use Rattle.mesh_texts.proofs.Cuts.{lacks, lacks_rest, not_here, first_cut}
 use Rattle.mesh_texts.proofs.Marked.{dotted_lacks}
 use Rattle.mesh_texts.proofs.RouteLines.{in_order, same_dotted}
-use Rattle.mesh_texts.specs.router_text.Trace.{flooding_text, routing_relays_line}
+use Rattle.mesh_texts.specs.Trace.{flooding_text, routing_relays_line}
 
 -- Lists of addresses
 

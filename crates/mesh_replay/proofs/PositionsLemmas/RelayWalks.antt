@@ -9,7 +9,7 @@ use Rattle.mesh_atoms.specs.declared.settings.Interface.{Interface}
 use Rattle.mesh_atoms.specs.RelayGraphs.{AreRelays, IsFloodingGraph, IsRoutingGraph}
 use Rattle.mesh_atoms.specs.State.{State}
 use Rattle.mesh_machine.proofs.Places.{set_here}
-use Rattle.mesh_texts.specs.router_text.Trace.{flooding_text, flooding_relays_line, routing_relays_line, relays_lines}
+use Rattle.mesh_texts.specs.Trace.{flooding_text, flooding_relays_line, routing_relays_line, relays_lines}
 use Rattle.mesh_machine.specs.Net.{Net}
 use Rattle.mesh_replay.specs.Positions.Due.{none_told}
 use Rattle.mesh_replay.specs.Positions.Items.{Tells_flooding, Tells_routing}

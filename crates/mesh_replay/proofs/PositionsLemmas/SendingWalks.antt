@@ -11,8 +11,8 @@ use Rattle.mesh_atoms.specs.declared.network.Emission.{Emission}
 use Rattle.mesh_machine.specs.Traffic.{Traffic, Sends, SendsAll, frame_of}
 use Rattle.mesh_machine.proofs.Sent.{sent_lost}
 use Rattle.mesh_machine.proofs.Places.{stands}
-use Rattle.mesh_texts.specs.router_text.Lines.Marks.{face_name}
-use Rattle.mesh_texts.specs.router_text.Trace.{sent_line, lost_line, sent_lines}
+use Rattle.mesh_texts.specs.Lines.Marks.{face_name}
+use Rattle.mesh_texts.specs.Trace.{sent_line, lost_line, sent_lines}
 use Rattle.mesh_machine.specs.Net.{Net}
 use Rattle.mesh_replay.specs.Positions.Items.{Tells, Tells_frame, Tells_loss, TellsFrame}
 use Rattle.mesh_replay.specs.Positions.Standing.{Item, Lost, Sent, with_traffic}

@@ -18,9 +18,9 @@ use Rattle.mesh_machine.specs.Sendable.{IsPacket}
 use Rattle.mesh_atoms.specs.declared.network.Emission.{Emission}
 use Rattle.mesh_machine.specs.Traffic.{Traffic, SendsAll, frame_of, with_heard}
 use Rattle.mesh_machine.proofs.Places.{set_here, same_at}
-use Rattle.mesh_texts.specs.router_text.Lines.Marks.{face_name}
+use Rattle.mesh_texts.specs.Lines.Marks.{face_name}
 use Rattle.mesh_atoms.specs.declared.network.NetEvent.{NetEvent}
-use Rattle.mesh_texts.specs.router_text.Trace.{happened_line, event_line, heard_line, relays_lines, sent_lines, event_text, IsEventText, Of_taken, Of_refused}
+use Rattle.mesh_texts.specs.Trace.{happened_line, event_line, heard_line, relays_lines, sent_lines, event_text, IsEventText, Of_taken, Of_refused}
 use Rattle.mesh_machine.specs.Net.{Net, NetStep, By_delivery, By_tick, By_last_tick, Moves, Delivers, happening, event_of, frames_of}
 use Rattle.mesh_texts.specs.Runs.{IsTraced, Traces}
 use Rattle.mesh_replay.specs.Positions.Due.{Refused}

@@ -4,8 +4,8 @@ use Rattle.mesh_atoms.specs.declared.addr.Addr4.{Addr4}
 use Rattle.mesh_atoms.specs.declared.settings.RadioArc.{RadioArc}
 use Rattle.mesh_atoms.specs.State.{State}
 use Rattle.mesh_machine.specs.Traffic.{Delivery, with_heard}
-use Rattle.mesh_texts.specs.router_text.Lines.Marks.{face_name}
-use Rattle.mesh_texts.specs.router_text.Trace.{heard_line, tick_line}
+use Rattle.mesh_texts.specs.Lines.Marks.{face_name}
+use Rattle.mesh_texts.specs.Trace.{heard_line, tick_line}
 use Rattle.mesh_machine.specs.Net.{Net, HearsNext, TicksNext, HasOnlyLastTicks, IsSender}
 use Rattle.mesh_replay.specs.Positions.Due.{HearsBy, TicksBy}
 use Rattle.mesh_replay.specs.Reading.Lines.{IsLineOf}

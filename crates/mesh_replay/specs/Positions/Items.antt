@@ -10,8 +10,8 @@ use Rattle.mesh_atoms.specs.Validity.{IsValidity}
 use Rattle.mesh_machine.specs.declared.frame.Frame.{Frame}
 use Rattle.mesh_machine.specs.Sending.{IsHelloFrame, SendsParts}
 use Rattle.mesh_machine.specs.Traffic.{Traffic, Sends}
-use Rattle.mesh_texts.specs.router_text.Lines.Marks.{face_name}
-use Rattle.mesh_texts.specs.router_text.Trace.{flooding_text, routing_relays_line, sent_line, lost_line}
+use Rattle.mesh_texts.specs.Lines.Marks.{face_name}
+use Rattle.mesh_texts.specs.Trace.{flooding_text, routing_relays_line, sent_line, lost_line}
 use Rattle.mesh_machine.specs.Net.{Net}
 use Rattle.mesh_replay.specs.Reading.Lines.{IsLineOf}
 use Rattle.mesh_replay.specs.Positions.Standing.{Item, Flooding, Routing, Hello, Tc, Sent, Lost, with_state, with_traffic}

@@ -1,7 +1,7 @@
 use Rattle.std.proofs.Common.{List, ℕ, ◌++◌, drop, map}
 use Rattle.mesh_machine.specs.packet.Least.{Wrote}
 use Rattle.mesh_machine.specs.tlv.Least.{Grows}
-use Rattle.mesh_router_text.specs.Sections.Section.{AreSections}
+use Rattle.mesh_texts.specs.Sections.Section.{AreSections}
 use Rattle.mesh_texts.proofs.summary.put_sections.Given as goal
 
 -- what stands, with the sections that are still to come, is the whole

@@ -1,8 +1,0 @@
-use Rattle.std.proofs.Common.{codes}
-use Rattle.mesh_router_text.specs.Lines.Marks.{dotted}
-use Rattle.mesh_router_text.proofs.LinesLemmas.Joined.{on_ok, two}
-use Rattle.mesh_router_text.proofs.lines.pieces.put_after_space.Goals as goal
-
-pub returns-clause-ok : goal.returns-clause-ok
-returns-clause-ok c =
-    on_ok c.put_address.result (λ last. two c.args.out.now (codes " ") (dotted c.args.addr) c.in_ok-put.ensures.ok last) c.put_address.ensures.ok

@@ -1,7 +1,0 @@
-use Rattle.std.proofs.Common.{◌≡◌, ◌++◌, take}
-use Rattle.std.specs.List.{flat_map}
-use Rattle.mesh_router_text.specs.Trace.{sent_lines}
-use Rattle.mesh_router_text.proofs.trace.put_all_sent.Given as goal
-
-abbrev pub invariant-loop-emission : goal.invariant-loop-emission
-invariant-loop-emission l = record { wrote : l.out ≡ l.initial.out ++ flat_map (sent_lines l.scenario l.moment l.router) (take l.emission-index l.sent) }

@@ -1,7 +1,0 @@
-use Rattle.std.proofs.Common.{◌≡◌, ◌++◌, take}
-use Rattle.std.specs.List.{flat_map}
-use Rattle.mesh_router_text.specs.Trace.{lost_line}
-use Rattle.mesh_router_text.proofs.trace.put_lost_lines.Given as goal
-
-abbrev pub invariant-loop-arc : goal.invariant-loop-arc
-invariant-loop-arc l = record { wrote : l.out ≡ l.initial.out ++ flat_map (lost_line l.scenario l.moment) (take l.arc-index l.lost) }

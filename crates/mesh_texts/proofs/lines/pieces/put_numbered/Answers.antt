@@ -1,0 +1,7 @@
+use Rattle.std.proofs.Common.{decimal}
+use Rattle.mesh_texts.proofs.LinesLemmas.Joined.{on_ok, two}
+use Rattle.mesh_texts.proofs.lines.pieces.put_numbered.Goals as goal
+
+pub returns-clause-ok : goal.returns-clause-ok
+returns-clause-ok c =
+    on_ok c.put_number.result (λ last. two c.args.out.now c.args.label.now (decimal c.args.number) c.in_ok-put.ensures.ok last) c.put_number.ensures.ok

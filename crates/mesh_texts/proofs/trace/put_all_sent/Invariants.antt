@@ -1,0 +1,7 @@
+use Rattle.std.proofs.Common.{◌≡◌, ◌++◌, take}
+use Rattle.std.specs.List.{flat_map}
+use Rattle.mesh_texts.specs.Trace.{sent_lines}
+use Rattle.mesh_texts.proofs.trace.put_all_sent.Given as goal
+
+abbrev pub invariant-loop-emission : goal.invariant-loop-emission
+invariant-loop-emission l = record { wrote : l.out ≡ l.initial.out ++ flat_map (sent_lines l.scenario l.moment l.router) (take l.emission-index l.sent) }

@@ -1,0 +1,377 @@
+//! The lines of an event of an emulated network, put behind other octets.
+ghost use Rattle.std.specs.Prelude.{◌≡◌, ◌++◌, OnOk, Some};
+ghost use Rattle.std.specs.List.{flat_map, enumerate_from};
+ghost use Rattle.mesh_machine.specs.packet.Least.{Wrote};
+ghost use Rattle.mesh_machine.specs.tlv.Least.{Grows};
+ghost use Rattle.mesh_machine.specs.Names.{router_name};
+ghost use Rattle.mesh_texts.specs.Lines.Marks.{line_of, face_name, relays_text, faces_of};
+ghost use Rattle.mesh_texts.specs.Trace.{tick_line, heard_line, event_line, flooding_relays_line, routing_relays_line, relays_lines, sent_line, loss_line, arc_line, lost_line, sent_lines, event_text, IsTaken, IsEventText};
+
+use crate::lines::{Piece, face_name, faces_of, put_line, relays_of};
+use mesh_atoms::{
+    Addr4, Bytes, Emission, Interface, NetEvent, RadioArc, RouterSettings, Scenario, Seq,
+};
+use mesh_machine::{RouterView, router_name};
+use std::alloc::AllocError;
+
+#[tactic(auto, unfolding(crate::specs::Trace::tick_line))]
+fn put_tick_line(out: &mut Bytes, moment: u64, router: &[u8]) -> Result<(), AllocError>
+    ensures ok { OnOk result (out.new ≡ out.old ++ tick_line moment router.now) }
+    ensures kept { Grows out.old out.new }
+{
+    put_line(
+        out,
+        &[
+            Piece::Text(b"tick "),
+            Piece::Number(moment),
+            Piece::Text(b" "),
+            Piece::Text(router),
+        ],
+    )
+}
+
+#[tactic(auto, unfolding(crate::specs::Trace::heard_line))]
+fn put_heard_line<'a>(
+    out: &mut Bytes,
+    moment: u64,
+    router: &'a [u8],
+    face: &'a [u8],
+    sender: Addr4,
+    frame: &'a [u8],
+) -> Result<(), AllocError>
+    ensures ok { OnOk result (out.new ≡ out.old ++ heard_line moment router.now face.now sender frame.now) }
+    ensures kept { Grows out.old out.new }
+{
+    put_line(
+        out,
+        &[
+            Piece::Text(b"heard "),
+            Piece::Number(moment),
+            Piece::Text(b" "),
+            Piece::Text(router),
+            Piece::Text(b" "),
+            Piece::Text(face),
+            Piece::Text(b" "),
+            Piece::Address(sender),
+            Piece::Text(b" "),
+            Piece::Hex(frame),
+        ],
+    )
+}
+
+// Puts what happened to the router with these settings.
+#[tactic(auto, unfolding(crate::specs::Trace::event_line))]
+fn put_event_line(
+    out: &mut Bytes,
+    event: &NetEvent,
+    router: &RouterSettings,
+) -> Result<(), AllocError>
+    ensures ok { OnOk result (out.new ≡ out.old ++ event_line event.now router.now) }
+    ensures kept { Grows out.old out.new }
+{
+    match &event.heard {
+        None => put_tick_line(out, event.moment, router.name.as_slice()),
+        Some((iface, sender, frame)) => {
+            let face = face_name(router.interfaces.as_slice(), *iface);
+            put_heard_line(
+                out,
+                event.moment,
+                router.name.as_slice(),
+                face,
+                *sender,
+                frame.as_slice(),
+            )
+        }
+    }
+}
+
+#[tactic(auto, unfolding(crate::specs::Trace::flooding_relays_line))]
+fn put_flooding_relays_line<'a>(
+    out: &mut Bytes,
+    router: &'a [u8],
+    relays: &'a [Seq<Addr4>],
+    iface: usize,
+    face: &'a Interface,
+) -> Result<(), AllocError>
+    ensures ok { OnOk result (out.new ≡ out.old ++ flooding_relays_line router.now relays.now (iface, face.now)) }
+    ensures kept { Grows out.old out.new }
+{
+    let name = face.name.as_slice();
+    let relays = relays_of(relays, iface);
+    put_line(
+        out,
+        &[
+            Piece::Text(b"relays "),
+            Piece::Text(router),
+            Piece::Text(b" flooding "),
+            Piece::Text(name),
+            Piece::Relays(relays),
+        ],
+    )
+}
+
+#[tactic(auto, unfolding(crate::specs::Trace::routing_relays_line))]
+fn put_routing_relays_line<'a>(
+    out: &mut Bytes,
+    router: &'a [u8],
+    relays: &'a [Addr4],
+) -> Result<(), AllocError>
+    ensures ok { OnOk result (out.new ≡ out.old ++ routing_relays_line router.now relays.now) }
+    ensures kept { Grows out.old out.new }
+{
+    put_line(
+        out,
+        &[
+            Piece::Text(b"relays "),
+            Piece::Text(router),
+            Piece::Text(b" routing"),
+            Piece::Relays(relays),
+        ],
+    )
+}
+
+// Puts the flooding relays of all interfaces.
+fn put_all_flooding_relays(
+    out: &mut Bytes,
+    router: &[u8],
+    relays: &[Seq<Addr4>],
+    faces: &[Interface],
+) -> Result<(), AllocError>
+    ensures ok { OnOk result (out.new ≡ out.old
+        ++ flat_map (flooding_relays_line router.now relays.now) (enumerate_from 0 faces.now)) }
+    ensures kept { Grows out.old out.new }
+{
+    for iface in 0..faces.len() {
+        put_flooding_relays_line(out, router, relays, iface, &faces[iface])?;
+    }
+    Ok(())
+}
+
+// Puts the relays that a router has: of each interface, then for routing.
+#[tactic(auto, unfolding(crate::specs::Trace::relays_lines))]
+fn put_relays_lines<R: RouterView>(out: &mut Bytes, router: &R) -> Result<(), AllocError>
+    ensures ok { OnOk result (out.new ≡ out.old ++ relays_lines (R.state router.now)) }
+    ensures kept { Grows out.old out.new }
+{
+    let settings = router.settings();
+    let name = settings.name.as_slice();
+    let relays = router.relays();
+    put_all_flooding_relays(
+        out,
+        name,
+        relays.flooding.as_slice(),
+        settings.interfaces.as_slice(),
+    )?;
+    put_routing_relays_line(out, name, relays.routing.as_slice())
+}
+
+#[tactic(auto, unfolding(crate::specs::Trace::sent_line))]
+fn put_sent_line<'a>(
+    out: &mut Bytes,
+    moment: u64,
+    router: &'a [u8],
+    face: &'a [u8],
+    frame: &'a [u8],
+) -> Result<(), AllocError>
+    ensures ok { OnOk result (out.new ≡ out.old ++ sent_line moment router.now face.now frame.now) }
+    ensures kept { Grows out.old out.new }
+{
+    put_line(
+        out,
+        &[
+            Piece::Text(b"sent "),
+            Piece::Number(moment),
+            Piece::Text(b" "),
+            Piece::Text(router),
+            Piece::Text(b" "),
+            Piece::Text(face),
+            Piece::Text(b" "),
+            Piece::Hex(frame),
+        ],
+    )
+}
+
+#[tactic(auto, unfolding(crate::specs::Trace::loss_line))]
+fn put_loss_line<'a>(
+    out: &mut Bytes,
+    moment: u64,
+    from: &'a [u8],
+    from_face: &'a [u8],
+    to: &'a [u8],
+    to_face: &'a [u8],
+) -> Result<(), AllocError>
+    ensures ok { OnOk result (out.new ≡ out.old ++ loss_line moment from.now from_face.now to.now to_face.now) }
+    ensures kept { Grows out.old out.new }
+{
+    put_line(
+        out,
+        &[
+            Piece::Text(b"lost "),
+            Piece::Number(moment),
+            Piece::Text(b" "),
+            Piece::Text(from),
+            Piece::Text(b"."),
+            Piece::Text(from_face),
+            Piece::Text(b" "),
+            Piece::Text(to),
+            Piece::Text(b"."),
+            Piece::Text(to_face),
+        ],
+    )
+}
+
+// Puts that a frame was lost on an arc between these routers.
+fn put_arc_line(
+    out: &mut Bytes,
+    routers: &[RouterSettings],
+    moment: u64,
+    arc: RadioArc,
+) -> Result<(), AllocError>
+    ensures ok { OnOk result (out.new ≡ out.old ++ arc_line routers.now moment (Some arc)) }
+    ensures kept { Grows out.old out.new }
+{
+    let from = face_name(faces_of(routers, arc.from), arc.from_iface);
+    let to = face_name(faces_of(routers, arc.to), arc.to_iface);
+    put_loss_line(
+        out,
+        moment,
+        router_name(routers, arc.from),
+        from,
+        router_name(routers, arc.to),
+        to,
+    )
+}
+
+// Puts that a frame was lost on the arc of that number.
+#[tactic(auto, unfolding(crate::specs::Trace::lost_line))]
+fn put_lost_line(
+    out: &mut Bytes,
+    scenario: &Scenario,
+    moment: u64,
+    arc: usize,
+) -> Result<(), AllocError>
+    ensures ok { OnOk result (out.new ≡ out.old ++ lost_line scenario.now moment arc) }
+    ensures kept { Grows out.old out.new }
+{
+    match scenario.arcs.as_slice().get(arc) {
+        Some(arc) => put_arc_line(out, scenario.routers.as_slice(), moment, *arc),
+        None => Ok(()),
+    }
+}
+
+// Puts on which arcs a frame was lost.
+fn put_lost_lines(
+    out: &mut Bytes,
+    scenario: &Scenario,
+    moment: u64,
+    lost: &[usize],
+) -> Result<(), AllocError>
+    ensures ok { OnOk result (out.new ≡ out.old ++ flat_map (lost_line scenario.now moment) lost.now) }
+    ensures kept { Grows out.old out.new }
+{
+    for arc in lost {
+        put_lost_line(out, scenario, moment, *arc)?;
+    }
+    Ok(())
+}
+
+// Puts that a router with these settings sent a frame.
+fn put_sending(
+    out: &mut Bytes,
+    moment: u64,
+    router: &RouterSettings,
+    sent: &Emission,
+) -> Result<(), AllocError>
+    ensures ok { OnOk result (out.new ≡ out.old
+        ++ sent_line moment router.now.name (face_name router.now.interfaces sent.now.iface) sent.now.frame) }
+    ensures kept { Grows out.old out.new }
+{
+    let face = face_name(router.interfaces.as_slice(), sent.iface);
+    put_sent_line(
+        out,
+        moment,
+        router.name.as_slice(),
+        face,
+        sent.frame.as_slice(),
+    )
+}
+
+// Puts a frame that was sent, and on which arcs it was lost.
+#[tactic(auto, unfolding(crate::specs::Trace::sent_lines))]
+fn put_sent_lines(
+    out: &mut Bytes,
+    scenario: &Scenario,
+    moment: u64,
+    router: &RouterSettings,
+    sent: &Emission,
+) -> Result<(), AllocError>
+    ensures ok { OnOk result (out.new ≡ out.old ++ sent_lines scenario.now moment router.now sent.now) }
+    ensures kept { Grows out.old out.new }
+{
+    put_sending(out, moment, router, sent)?;
+    put_lost_lines(out, scenario, moment, sent.lost.as_slice())
+}
+
+// Puts the frames that were sent.
+fn put_all_sent(
+    out: &mut Bytes,
+    scenario: &Scenario,
+    moment: u64,
+    router: &RouterSettings,
+    sent: &[Emission],
+) -> Result<(), AllocError>
+    ensures ok { OnOk result (out.new ≡ out.old ++ flat_map (sent_lines scenario.now moment router.now) sent.now) }
+    ensures kept { Grows out.old out.new }
+{
+    for emission in sent {
+        put_sent_lines(out, scenario, moment, router, emission)?;
+    }
+    Ok(())
+}
+
+// Puts what a router sent at an event.
+fn put_sent_at(
+    out: &mut Bytes,
+    scenario: &Scenario,
+    event: &NetEvent,
+    router: &RouterSettings,
+) -> Result<(), AllocError>
+    ensures ok { OnOk result (out.new ≡ out.old
+        ++ flat_map (sent_lines scenario.now event.now.moment router.now) event.now.sent) }
+    ensures kept { Grows out.old out.new }
+{
+    put_all_sent(out, scenario, event.moment, router, event.sent.as_slice())
+}
+
+// Puts what happened to a router, its relays, and what it sent.
+#[tactic(auto, unfolding(crate::specs::Trace::event_text))]
+fn put_happening<R: RouterView>(
+    out: &mut Bytes,
+    scenario: &Scenario,
+    event: &NetEvent,
+    router: &R,
+) -> Result<(), AllocError>
+    ensures ok { OnOk result (out.new ≡ out.old ++ event_text scenario.now event.now (R.state router.now)) }
+    ensures kept { Grows out.old out.new }
+{
+    let settings = router.settings();
+    put_event_line(out, event, settings)?;
+    put_relays_lines(out, router)?;
+    put_sent_at(out, scenario, event, settings)
+}
+
+/// Puts the lines of an event of an emulated network, after which its router is so: what happened to it, the relays that it then
+/// has, and each frame that it sent with the arcs on which it was lost. What is heard spells a packet, as all frames of a run do.
+/// Want of memory leaves a part of it behind what was there.
+pub fn put_event<R: RouterView>(
+    out: &mut Bytes,
+    scenario: &Scenario,
+    event: &NetEvent,
+    router: &R,
+) -> Result<(), AllocError>
+    requires { IsTaken event.now }
+    ensures ok { OnOk result (Wrote (IsEventText scenario.now event.now (R.state router.now)) out.old out.new) }
+    ensures kept { Grows out.old out.new }
+{
+    put_happening(out, scenario, event, router)
+}
