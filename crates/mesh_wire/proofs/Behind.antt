@@ -7,11 +7,7 @@ use Rattle.mesh_packet.specs.Fields.{MessageFields}
 use Rattle.mesh_packet.specs.Grammar.{SpellsOctet, SpellsNumber, SpellsOriginator, SpellsMessage}
 use Rattle.mesh_tlv.specs.Fields.{TlvFields}
 use Rattle.mesh_tlv.specs.Grammar.{SpellsTlvBlock}
-
--- so many octets, where there is something
-abbrev pub size_if : {A : Type 0} → ℕ → Option A → ℕ
-size_if n None = 0
-size_if n (Some x) = n
+use Rattle.mesh_wire.specs.Sizes.{size_if, size_before}
 
 octet_size : (set : Bool) (x : Option ℕ) (text : List ℕ) → SpellsOctet set x text → length text ≡ size_if 1 x
 octet_size true (Some n) text e = ap length e
@@ -31,12 +27,9 @@ originator_size false width None text e = ap length e
 originator_size true width None text e = absurd e
 originator_size false width (Some a) text e = absurd e
 
--- what a message has before its TLVs: type, flags and size, and the parts that are there
-abbrev pub size_before : MessageFields → ℕ
-size_before m = 4 + (size_if m.width m.originator + (size_if 1 m.limit + (size_if 1 m.count + size_if 2 m.sequence)))
-
-pub behind_head : (m : MessageFields) (text : List ℕ) (is : SpellsMessage m text) → drop (size_before m) text ≡ is.body_is.tlvs ++ is.body_is.blocks
-behind_head m text is =
+-- a message is so many octets, its TLVs, and its address blocks
+pub head_before : (m : MessageFields) (text : List ℕ) (is : SpellsMessage m text) → (front : List ℕ) × (length front ≡ size_before m) × (text ≡ front ++ (is.body_is.tlvs ++ is.body_is.blocks))
+head_before m text is =
     let body = is.body_is in
     let h = body.head_is in
     let (high, low, number, size) = is.size_is in
@@ -53,8 +46,12 @@ behind_head m text is =
     let r = length-append h.count_text h.sequence_text in
     let t = ap length size in
     let u = length-append is.size body.head in
-    let long : length front ≡ size_before m = omega (arith, o, l, c, s, parts, p, q, r, t, u) in
-    ap (λ (n : ℕ). drop n text) (sym long) ∙ ap (drop (length front)) whole ∙ drop-append_seam front (body.tlvs ++ body.blocks)
+    (front, omega (arith, o, l, c, s, parts, p, q, r, t, u), whole)
+
+pub behind_head : (m : MessageFields) (text : List ℕ) (is : SpellsMessage m text) → drop (size_before m) text ≡ is.body_is.tlvs ++ is.body_is.blocks
+behind_head m text is =
+    let (front, long, whole) = head_before m text is in
+    ap (λ (n : ℕ). drop n text) (sym long) ∙ ap (drop (length front)) whole ∙ drop-append_seam front (is.body_is.tlvs ++ is.body_is.blocks)
 
 -- the parts of two lists that are the same
 pub first_same : {A : Type 0} (x y : A) (xs ys : List A) → x ∷ xs ≡ y ∷ ys → x ≡ y

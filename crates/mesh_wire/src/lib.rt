@@ -16,6 +16,7 @@ mod tc;
 mod times;
 mod write;
 
+pub use collect::{net_of, part_of, value_of};
 pub use fault::WireFault;
 pub use hello::{hello_of, originator_of};
 pub use hop::rehop;
@@ -24,4 +25,5 @@ pub use laws::{
     written_for_each_distance,
 };
 pub use tc::tc_of;
+pub use times::only_value;
 pub use write::{write_hello, write_tc};

@@ -1,5 +1,5 @@
 //! What the TLVs of a message's header say: its times and how willing its sender is to be a relay.
-ghost use Rattle.std.specs.Prelude.{◌≡◌, ◌≤◌, ◌<◌, ◌^◌, ℕ, Option, map, IfSome, IfNone};
+ghost use Rattle.std.specs.Prelude.{◌≡◌, ◌≤◌, ◌<◌, ◌^◌, ℕ, List, [], ◌∷◌, Option, map, IfSome, IfNone};
 ghost use Rattle.mesh_tlv.specs.Fields.{fields};
 ghost use Rattle.mesh_packet.specs.Fields.{fields_of_message};
 ghost use Rattle.mesh_wire.specs.Hello.{HasWilling};
@@ -47,6 +47,18 @@ fn values_of<'a>(tlvs: &[Tlv<'a>], kind: u8) -> Values<'a>
     match found {
         Some(octets) => Values::Single(octets),
         None => Values::Nothing,
+    }
+}
+
+/// The value of the one message TLV of that type without extension; `None` where there is none, or more than one. No value counts as one of no
+/// octets.
+pub fn only_value<'a>(tlvs: &[Tlv<'a>], kind: u8) -> Option<&'a [u8]>
+    ensures some { IfSome result (λ octets. values_in kind (map fields tlvs.now) ≡ octets.now ∷ []) }
+    ensures none { IfNone result ((octets : List ℕ) → values_in kind (map fields tlvs.now) ≡ octets ∷ [] → ⊥) }
+{
+    match values_of(tlvs, kind) {
+        Values::Single(octets) => Some(octets),
+        _ => None,
     }
 }
 
