@@ -4,7 +4,7 @@ pub mod OneLeast  -- packet
 pub mod ReadAgain  -- packet
 pub mod Refusing  -- packet
 pub mod Taking  -- packet
-pub mod Writable  -- packet, wire
+pub mod Writable  -- packet, replay, wire
 -- Lemmas of this crate alone.
 mod Calls
 mod Choosing

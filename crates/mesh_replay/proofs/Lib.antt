@@ -1,2 +1,3 @@
 mod PositionsLemmas
 mod ReadingLemmas
+mod SpellingLemmas

@@ -3,6 +3,8 @@ pub use Rattle.mesh_packet.proofs as packet
 pub use Rattle.mesh_tlv.proofs as tlv
 -- Lemmas for crates above, each file with the crates that cite it.
 pub mod Ascending  -- replay
+pub mod Behind  -- replay
+pub mod Collecting  -- replay
 pub mod EachDistance  -- probe
 pub mod HelloRuled  -- probe
 pub mod Hops  -- machine, probe, replay
@@ -12,12 +14,10 @@ pub mod OneTc  -- replay, report
 pub mod RowLines  -- replay
 pub mod Single  -- report
 pub mod Slots  -- probe
-pub mod Standing  -- probe
+pub mod Standing  -- probe, replay
 -- Lemmas of this crate alone.
 mod Addresses
-mod Behind
 mod Collected
-mod Collecting
 mod Deciding
 mod EachHello
 mod EachTc
