@@ -11,4 +11,4 @@ mod pieces;
 mod reading;
 
 pub use laws::one_listing;
-pub use packet::{LineRead, Room, packet_text, put_line_text, put_packet_text};
+pub use packet::{LineRead, Room, packet_text, put_line_text};

@@ -1,6 +1,6 @@
 //! Tests of what no text of the program shows: codes, messages that are written, rows and addresses of a reading, blocks that no
-//! packet holds, the values of settings, relays, certificates and radio graphs, failing streams, runs over an air and a clock in memory,
-//! and two airs over loopback.
+//! packet holds, listings as texts of their own, the values of settings, relays, certificates and radio graphs, failing streams, runs
+//! over an air and a clock in memory, and two airs over loopback.
 #![tactic(auto)]
 
 #[cfg(test)]
@@ -11,6 +11,8 @@ mod codes;
 mod graphs;
 #[cfg(test)]
 mod hop;
+#[cfg(test)]
+mod listing;
 #[cfg(test)]
 mod loopback;
 #[cfg(test)]
