@@ -1,5 +1,5 @@
 //! Streams that fail where no shell can make them, and tables that hold nothing.
-use crate::top::{Case, Over};
+use crate::top::{Case, Over, QUIET};
 
 // A router alone, for ten seconds.
 const ALONE: &str = "end_ms = 10000
@@ -28,42 +28,76 @@ to = \"y.w0\"
 metric = 1
 ";
 
-pub(crate) static CASES: [Case; 5] = [
+// Three routers that hear each other, for a minute: the direct way from the first to the last costs as much as the other.
+const TIE: &str = "end_ms = 60000
+[[router]]
+name = \"s\"
+[[router.interface]]
+name = \"w0\"
+addresses = [\"10.0.0.1\"]
+[[router]]
+name = \"a\"
+[[router.interface]]
+name = \"w0\"
+addresses = [\"10.0.0.2\"]
+[[router]]
+name = \"t\"
+[[router.interface]]
+name = \"w0\"
+addresses = [\"10.0.0.3\"]
+[[arc]]
+from = \"s.w0\"
+to = \"a.w0\"
+metric = 1
+[[arc]]
+from = \"a.w0\"
+to = \"s.w0\"
+metric = 1
+[[arc]]
+from = \"a.w0\"
+to = \"t.w0\"
+metric = 1
+[[arc]]
+from = \"t.w0\"
+to = \"a.w0\"
+metric = 1
+[[arc]]
+from = \"s.w0\"
+to = \"t.w0\"
+metric = 2
+[[arc]]
+from = \"t.w0\"
+to = \"s.w0\"
+metric = 2
+";
+
+pub(crate) static CASES: [Case; 6] = [
     Case {
         name: "the second call of the source fails",
-        over: Over::Indexes,
         words: &["dump"],
         input: "00\n",
         takes: &[2],
-        puts: &[],
-        silent: false,
         status: 2,
-        out: "",
         err: "mesh: read fault\n",
+        ..QUIET
     },
     // a front of the listing is out
     Case {
         name: "the second call of out fails",
-        over: Over::Indexes,
         words: &["dump"],
         input: "\n10\n",
-        takes: &[],
         puts: &[2],
-        silent: false,
         status: 3,
         out: "line 1 refused at 0 reason 1 Short\n",
-        err: "",
+        ..QUIET
     },
     // The third event of a trace isn't written, and those before it are out. What is sent is the HELLO of a router that hears nobody,
     // as it is known from outside.
     Case {
         name: "the third event of a trace isn't written",
-        over: Over::Indexes,
         words: &["emulate", "--trace"],
         input: ALONE,
-        takes: &[],
         puts: &[3],
-        silent: false,
         status: 3,
         out: "tick 0 s
 relays s flooding w0 none
@@ -74,7 +108,7 @@ relays s flooding w0 none
 relays s routing none
 sent 16384 s w0 00008300220a000001000c01100164001001580710017701000a000001000402100100
 ",
-        err: "",
+        ..QUIET
     },
     // Tables that hold nothing have no room for what a HELLO tells; a router alone hears none.
     Case {
@@ -82,22 +116,24 @@ sent 16384 s w0 00008300220a000001000c01100164001001580710017701000a000001000402
         over: Over::Nothing,
         words: &["emulate"],
         input: HEARD,
-        takes: &[],
-        puts: &[],
-        silent: false,
         status: 8,
-        out: "",
         err: "mesh: memory\n",
+        ..QUIET
+    },
+    Case {
+        name: "tables that hold nothing have no room for three routers",
+        over: Over::Nothing,
+        words: &["emulate"],
+        input: TIE,
+        status: 8,
+        err: "mesh: memory\n",
+        ..QUIET
     },
     Case {
         name: "a router alone needs no room",
         over: Over::Nothing,
         words: &["emulate"],
         input: ALONE,
-        takes: &[],
-        puts: &[],
-        silent: false,
-        status: 0,
         out: "emulate routers 1 arcs 0 end 81920 sent 6 delivered 0 lost 0
 router s 10.0.0.1
  held twohop 0 lost 0 topology 0 addresses 0 networks 0
@@ -105,6 +141,6 @@ router s 10.0.0.1
  routing none
 settled yes
 ",
-        err: "",
+        ..QUIET
     },
 ];

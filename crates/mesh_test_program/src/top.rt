@@ -19,21 +19,52 @@ pub(crate) enum Over {
     Nothing,
 }
 
-/// What is shown, and over which tables; the words and the input; the calls that fail, of the source and of out; whether the air is
-/// silent, on which nothing is heard and nothing sent; and what comes of it: the status, and what stands on out and on err.
+/// What the first interface hears, before it is silent.
+#[derive(Clone, Copy)]
+pub(crate) enum Script {
+    Nothing,
+    Hello,
+    HelloAndRefused,
+}
+
+/// What is shown, and over which tables; the words and the input; what is heard, and the moments that the clock tells; the calls that
+/// fail, of the source and of out, and of attaching, hearing and sending; and what comes of it: the status, and what stands on out and
+/// on err.
 #[derive(Clone, Copy)]
 pub(crate) struct Case {
     pub(crate) name: &'static str,
     pub(crate) over: Over,
     pub(crate) words: &'static [&'static str],
     pub(crate) input: &'static str,
+    pub(crate) script: Script,
+    pub(crate) moments: &'static [u64],
     pub(crate) takes: &'static [u64],
     pub(crate) puts: &'static [u64],
-    pub(crate) silent: bool,
+    pub(crate) attaches: &'static [u64],
+    pub(crate) hears: &'static [u64],
+    pub(crate) sends: &'static [u64],
     pub(crate) status: u8,
     pub(crate) out: &'static str,
     pub(crate) err: &'static str,
 }
+
+/// One in which nothing fails and nothing is heard.
+pub(crate) const QUIET: Case = Case {
+    name: "",
+    over: Over::Indexes,
+    words: &[],
+    input: "",
+    script: Script::Nothing,
+    moments: &[0, 8192, 16384],
+    takes: &[],
+    puts: &[],
+    attaches: &[],
+    hears: &[],
+    sends: &[],
+    status: 0,
+    out: "",
+    err: "",
+};
 
 /// What the top call reads and writes.
 #[derive(Drop)]
@@ -68,11 +99,6 @@ fn sink(alloc: Global, fails: &[u64]) -> Result<MemSink, AllocError> {
     MemSink::new(alloc, 4096, list_of(alloc, fails)?)
 }
 
-/// A clock that tells four moments.
-fn clock(alloc: Global) -> Result<MemClock, AllocError> {
-    Ok(MemClock::new(list_of(alloc, &[0, 4096, 8192, 16384])?))
-}
-
 fn frame(alloc: Global, bytes: &[u8]) -> Result<MemEar, AllocError> {
     Ok(MemEar::Frame {
         sender: Addr4(0x0a00_0001),
@@ -80,29 +106,29 @@ fn frame(alloc: Global, bytes: &[u8]) -> Result<MemEar, AllocError> {
     })
 }
 
-/// Nothing, or that HELLO and a frame that is refused.
-fn frames(alloc: Global, silent: bool) -> Result<Seq<MemEar>, AllocError> {
+fn frames(alloc: Global, script: Script) -> Result<Seq<MemEar>, AllocError> {
     let mut frames = Seq::new(alloc);
-    if !silent {
-        frames.push(frame(alloc, LONE)?)?;
-        frames.push(frame(alloc, b"\xff")?)?;
+    match script {
+        Script::Nothing => {}
+        Script::Hello => frames.push(frame(alloc, LONE)?)?,
+        Script::HelloAndRefused => {
+            frames.push(frame(alloc, LONE)?)?;
+            frames.push(frame(alloc, b"\xff")?)?;
+        }
     }
     Ok(frames)
 }
 
-/// On a silent air both sendings fail; on the other one the third hearing and the second sending.
-fn fails(alloc: Global, silent: bool) -> Result<AirFails, AllocError> {
-    let (hear, send): (&[u64], &[u64]) = if silent { (&[], &[1, 2]) } else { (&[3], &[2]) };
-    let hear = list_of(alloc, hear)?;
+fn fails(alloc: Global, case: &Case) -> Result<AirFails, AllocError> {
     Ok(AirFails {
-        attach: Seq::new(alloc),
-        hear,
-        send: list_of(alloc, send)?,
+        attach: list_of(alloc, case.attaches)?,
+        hear: list_of(alloc, case.hears)?,
+        send: list_of(alloc, case.sends)?,
     })
 }
 
-/// An air whose first interface hears those frames.
-fn air(alloc: Global, silent: bool) -> Result<MemAir, AllocError>
+/// An air whose first interface hears what is written.
+fn air(alloc: Global, case: &Case) -> Result<MemAir, AllocError>
     ensures { IfOk result (λ air. air.log.attached ≡ 0) }
 {
     let room = AirRoom {
@@ -113,8 +139,8 @@ fn air(alloc: Global, silent: bool) -> Result<MemAir, AllocError>
         octets: 10_000,
     };
     let mut scripts = Seq::new(alloc);
-    scripts.push(frames(alloc, silent)?)?;
-    MemAir::new(alloc, scripts, fails(alloc, silent)?, room)
+    scripts.push(frames(alloc, case.script)?)?;
+    MemAir::new(alloc, scripts, fails(alloc, case)?, room)
 }
 
 fn streams_of(alloc: Global, case: &Case) -> Result<Streams, AllocError> {
@@ -130,8 +156,8 @@ fn others_of(alloc: Global, case: &Case) -> Result<Others, AllocError>
 {
     Ok(Others {
         words: strings(alloc, case.words)?,
-        air: air(alloc, case.silent)?,
-        clock: clock(alloc)?,
+        air: air(alloc, case)?,
+        clock: MemClock::new(list_of(alloc, case.moments)?),
     })
 }
 
