@@ -1,7 +1,6 @@
 //! The listing of one line as a text of its own.
 ghost use Rattle.mesh_report.specs.Packets.{CanList, line_read};
 
-use mesh_atoms::Bytes;
 use mesh_packet::{DecodeFault, decode};
 use mesh_report::{LineRead, packet_text};
 use std::alloc::{AllocError, Global};
