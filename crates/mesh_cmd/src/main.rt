@@ -1,7 +1,7 @@
 //! The program `mesh`: the standard streams as source and sinks, UDP sockets as the air, the system's clock, and the top call over them.
 #![tactic(auto)]
 
-ghost use Rattle.std.specs.Prelude.{◌≡◌, ◌⊎◌, ◌≤◌, ℕ, List, [], take};
+ghost use Rattle.std.specs.Prelude.{◌≡◌, ◌⊎◌, ◌≤◌, ℕ, List, [], None, take};
 ghost use Rattle.std.specs.Io.Buffered.{writer_buffer};
 ghost use Rattle.std.specs.Io.KnownBytes.{Keeps};
 ghost use Rattle.mesh_cmd.specs.Runs.{Runs, TellsNoMemory, Exits};
@@ -32,6 +32,22 @@ fn no_memory<E: Sink>(err: &mut E) -> Status
         Ok(()) => Status::Memory,
         Err(_) => Status::Write,
     }
+}
+
+// Want of memory before there is a standard output to put anything on.
+fn no_memory_for_out<E: Sink>(err: &mut E) -> Status
+    ensures { Runs [] (record {
+      out = None;
+      out' = None;
+      out_faults = 0;
+      out_faults' = 0;
+      err = E.content err.old;
+      err' = E.content err.new;
+      err_faults = E.faults err.old;
+      err_faults' = E.faults err.new;
+    }) result }
+{
+    no_memory(err)
 }
 
 // Runs these words over the standard input, these sinks, UDP sockets and the system's clock.
@@ -112,7 +128,7 @@ fn run_program(rt: &HostRuntime) -> ExitCode
             let status = run(rt, &mut out, &mut err);
             finish(&mut out, status)
         }
-        Err(_) => no_memory(&mut err),
+        Err(_) => no_memory_for_out(&mut err),
     };
     ExitCode::from(status.code())
 }
