@@ -1,3 +1,1 @@
-mod PositionsLemmas
-mod ReadingLemmas
 mod SpellingLemmas

@@ -1,3 +1,1 @@
-pub mod Positions
-pub mod Reading
 pub mod Spelling

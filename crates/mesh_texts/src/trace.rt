@@ -14,8 +14,9 @@ use mesh_atoms::{
 use mesh_machine::{RouterView, router_name};
 use std::alloc::AllocError;
 
+/// Puts the line of a tick.
 #[tactic(auto, unfolding(crate::specs::Trace::tick_line))]
-fn put_tick_line(out: &mut Bytes, moment: u64, router: &[u8]) -> Result<(), AllocError>
+pub fn put_tick_line(out: &mut Bytes, moment: u64, router: &[u8]) -> Result<(), AllocError>
     ensures ok { OnOk result (out.new ≡ out.old ++ tick_line moment router.now) }
     ensures kept { Grows out.old out.new }
 {
@@ -30,8 +31,9 @@ fn put_tick_line(out: &mut Bytes, moment: u64, router: &[u8]) -> Result<(), Allo
     )
 }
 
+/// Puts the line of a frame that is heard from a sender on the interface of that name.
 #[tactic(auto, unfolding(crate::specs::Trace::heard_line))]
-fn put_heard_line<'a>(
+pub fn put_heard_line<'a>(
     out: &mut Bytes,
     moment: u64,
     router: &'a [u8],
@@ -85,8 +87,9 @@ fn put_event_line(
     }
 }
 
+/// Puts the line of the flooding relays of an interface, by its number among the lists of all interfaces.
 #[tactic(auto, unfolding(crate::specs::Trace::flooding_relays_line))]
-fn put_flooding_relays_line<'a>(
+pub fn put_flooding_relays_line<'a>(
     out: &mut Bytes,
     router: &'a [u8],
     relays: &'a [Seq<Addr4>],
@@ -110,8 +113,9 @@ fn put_flooding_relays_line<'a>(
     )
 }
 
+/// Puts the line of the routing relays.
 #[tactic(auto, unfolding(crate::specs::Trace::routing_relays_line))]
-fn put_routing_relays_line<'a>(
+pub fn put_routing_relays_line<'a>(
     out: &mut Bytes,
     router: &'a [u8],
     relays: &'a [Addr4],
@@ -165,8 +169,9 @@ fn put_relays_lines<R: RouterView>(out: &mut Bytes, router: &R) -> Result<(), Al
     put_routing_relays_line(out, name, relays.routing.as_slice())
 }
 
+/// Puts the line of a frame that is sent on the interface of that name.
 #[tactic(auto, unfolding(crate::specs::Trace::sent_line))]
-fn put_sent_line<'a>(
+pub fn put_sent_line<'a>(
     out: &mut Bytes,
     moment: u64,
     router: &'a [u8],
@@ -242,9 +247,9 @@ fn put_arc_line(
     )
 }
 
-// Puts that a frame was lost on the arc of that number.
+/// Puts the line of a frame that is lost on the arc of that number; nothing where the scenario has no such arc.
 #[tactic(auto, unfolding(crate::specs::Trace::lost_line))]
-fn put_lost_line(
+pub fn put_lost_line(
     out: &mut Bytes,
     scenario: &Scenario,
     moment: u64,

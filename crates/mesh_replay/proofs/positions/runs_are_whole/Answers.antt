@@ -1,5 +1,0 @@
-use Rattle.mesh_replay.proofs.PositionsLemmas.WholeRuns.{runs_are_whole}
-use Rattle.mesh_replay.proofs.positions.runs_are_whole.Goals as goal
-
-pub returns : goal.returns
-returns c = runs_are_whole

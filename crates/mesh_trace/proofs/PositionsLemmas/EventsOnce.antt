@@ -1,0 +1,357 @@
+-- One line tells one event, which leaves one position but for the order of tuples.
+use Rattle.std.proofs.Common.{◌≡◌, ℕ, ◌+◌, ◌%◌, ◌<◌, ◌≤◌, inl, inr, refl, sym, ◌∙◌, ap, subst, arith, List, [], ◌∷◌, ◌++◌, length, map, Some, All}
+use Rattle.std.specs.Prelude.{slice_get, nat_eq}
+use Rattle.std.specs.List.{enumerate_from}
+use Rattle.std.proofs.lemmas.List.Elements.{All-head, All-tail}
+use Rattle.std.proofs.lemmas.Bool.{cases_lt}
+use Rattle.mesh_atoms.specs.declared.addr.Addr4.{Addr4}
+use Rattle.mesh_atoms.specs.declared.settings.Interface.{Interface}
+use Rattle.mesh_atoms.specs.declared.settings.RadioArc.{RadioArc}
+use Rattle.mesh_atoms.specs.declared.settings.RouterSettings.{RouterSettings}
+use Rattle.mesh_atoms.specs.declared.tc.TcRow.{TcRow}
+use Rattle.mesh_atoms.specs.Advertised.{AreParts}
+use Rattle.mesh_atoms.specs.State.{Bases, State, IsOriginator}
+use Rattle.mesh_machine.specs.packet.declared.packet.Span.{Span}
+use Rattle.mesh_machine.specs.packet.Fields.{PacketFields}
+use Rattle.mesh_machine.proofs.packet.OneReading.{one_packet, not_both}
+use Rattle.mesh_machine.specs.declared.arrival.Arrival.{Arrival}
+use Rattle.mesh_machine.specs.declared.frame.Frame.{Frame}
+use Rattle.mesh_machine.specs.Machine.{due}
+use Rattle.mesh_machine.specs.Messages.{TakesMessages}
+use Rattle.mesh_machine.specs.Renewal.{IsNextAnsn, IsEmptied}
+use Rattle.mesh_machine.specs.Sending.{HasToAdvertise, IsNextMoment}
+use Rattle.mesh_machine.proofs.Soundness.{live_bases_sound}
+use Rattle.mesh_machine.specs.Traffic.{Delivery, with_heard}
+use Rattle.mesh_machine.proofs.Places.{same_at}
+use Rattle.mesh_machine.specs.Net.{Net, IsFirstDue, HearsNext, TicksNext, HasOnlyLastTicks, IsSender}
+use Rattle.mesh_trace.specs.Positions.Alike.{AlikeBases, AlikeStates, Alike}
+use Rattle.mesh_trace.specs.Positions.Due.{Follows, TakesPacket, HearsBy, Refused, Taken, HellosDue, Hellos_early, Hellos_due, TcsDue, Tcs_early, Tcs_silent, Tcs_due, TicksBy, part_items}
+use Rattle.mesh_trace.specs.Positions.Events.{OpensHearing, OpensTick, OpensEvent, By_delivery, By_tick, By_last_tick}
+use Rattle.mesh_trace.specs.Positions.Standing.{Item, Hello, Sent, TracePosition, relay_items, with_state, with_traffic}
+use Rattle.mesh_trace.proofs.PositionsLemmas.AlikeBases.{bases_itself, bases_back, live_only}
+use Rattle.mesh_trace.proofs.PositionsLemmas.AlikeNets.{AlikeNets, states_itself, nets_set}
+use Rattle.mesh_trace.proofs.PositionsLemmas.AlikeStates.{holds_by, rows_only}
+use Rattle.mesh_trace.proofs.PositionsLemmas.MessagesFixed.{messages_are_fixed}
+use Rattle.mesh_trace.proofs.PositionsLemmas.Over.{all_at, all_behind}
+use Rattle.mesh_trace.proofs.PositionsLemmas.Parts.{moment_once, parts_once}
+use Rattle.mesh_trace.proofs.PositionsLemmas.SoundPositions.{SoundState, AreSound, takes_sound, ticks_sound}
+
+-- ---- which event comes next
+
+-- what is heard first is one frame
+record SameFirst (d e : Delivery) (a b a' b' : List Delivery) : Type 0 where
+  first : d ≡ e
+  left : a ++ b ≡ a' ++ b'
+
+behind_all : (P : Delivery → Type 0) (before behind : List Delivery) (e : Delivery) → All P (before ++ e ∷ behind) → P e
+behind_all P before behind e all = All-head P e behind (all_behind P before (e ∷ behind) all)
+
+first_once : (a b a' b' : List Delivery) (d e : Delivery) → a ++ d ∷ b ≡ a' ++ e ∷ b' → All (λ x. d.moment < x.moment) a → All (λ x. d.moment ≤ x.moment) b → All (λ x. e.moment < x.moment) a' → All (λ x. e.moment ≤ x.moment) b' →
+    SameFirst d e a b a' b'
+first_once [] b [] b' d e same p q p' q' = record { first = cc; left = cc }
+first_once [] b (x ∷ a') b' d e same p q p' q' =
+    let heads : d ≡ x = cc in
+    let tails : b ≡ a' ++ e ∷ b' = cc in
+    let late : e.moment < x.moment = All-head (λ (z : Delivery). e.moment < z.moment) x a' p' in
+    let early : d.moment ≤ e.moment = behind_all (λ (z : Delivery). d.moment ≤ z.moment) a' b' e (subst (All (λ (z : Delivery). d.moment ≤ z.moment)) tails q) in
+    let moments = ap (λ (z : Delivery). z.moment) heads in
+    absurd (omega (arith, late, early, moments))
+first_once (x ∷ a) b [] b' d e same p q p' q' =
+    let heads : x ≡ e = cc in
+    let tails : a ++ d ∷ b ≡ b' = cc in
+    let late : d.moment < x.moment = All-head (λ (z : Delivery). d.moment < z.moment) x a p in
+    let early : e.moment ≤ d.moment = behind_all (λ (z : Delivery). e.moment ≤ z.moment) a b d (subst (All (λ (z : Delivery). e.moment ≤ z.moment)) (sym tails) q') in
+    let moments = ap (λ (z : Delivery). z.moment) heads in
+    absurd (omega (arith, late, early, moments))
+first_once (x ∷ a) b (y ∷ a') b' d e same p q p' q' =
+    let heads : x ≡ y = cc in
+    let tails : a ++ d ∷ b ≡ a' ++ e ∷ b' = cc in
+    let P : Delivery → Type 0 = λ z. d.moment < z.moment in
+    let Q : Delivery → Type 0 = λ z. e.moment < z.moment in
+    let rest = first_once a b a' b' d e tails (All-tail P x a p) q (All-tail Q y a' p') q' in
+    record { first = rest.first; left = ap (λ (z : Delivery). z ∷ (a ++ b)) heads ∙ ap (λ (l : List Delivery). y ∷ l) rest.left }
+
+-- the router that is due first is one
+due_once : (routers : List State) (x y m n : ℕ) → IsFirstDue routers x m → IsFirstDue routers y n → (x ≡ y) × (m ≡ n)
+due_once routers x y m n h k =
+    let a : m ≤ due k.state = h.no_earlier y k.state k.stands in
+    let b : n ≤ due h.state = k.no_earlier x h.state h.stands in
+    let here = h.is in
+    let there = k.is in
+    let same : m ≡ n = omega (arith, a, b, here, there) in
+    let one : y < x → ⊥ = λ less. (let late = h.later y k.state k.stands less in omega (arith, late, there, same)) in
+    let other : x < y → ⊥ = λ less. (let late = k.later x h.state h.stands less in omega (arith, late, here, same)) in
+    (between x y other one, same)
+  where
+    between : (x y : ℕ) → (x < y → ⊥) → (y < x → ⊥) → x ≡ y
+    between x y a b = elim (cases_lt x y) [
+      | inl less ↦ absurd (a less)
+      | inr most ↦ elim (cases_lt y x) [ inl greater ↦ absurd (b greater) | inr least ↦ omega (arith, most, least) ]
+    ]
+
+-- ---- one router
+
+originator_once : (r : RouterSettings) (a b : Addr4) → IsOriginator r a → IsOriginator r b → a ≡ b
+originator_once r a b (f, at, is) (g, at', is') =
+    let faces : g ≡ f = same_at r.interfaces 0 g f at' at in
+    same_at f.addrs 0 a b is (subst (λ (z : Interface). slice_get z.addrs 0 ≡ Some b) faces is')
+
+ansn_once : (old a b : State) → b.rows ≡ a.rows → IsNextAnsn old a → IsNextAnsn old b → b.ansn ≡ a.ansn
+ansn_once old a b rows (inl (same, ansn)) (inl (same', ansn')) = ansn' ∙ sym ansn
+ansn_once old a b rows (inl (same, ansn)) (inr (other, ansn')) = absurd (other (rows ∙ same))
+ansn_once old a b rows (inr (other, ansn)) (inl (same', ansn')) = absurd (other (sym rows ∙ same'))
+ansn_once old a b rows (inr (other, ansn)) (inr (other', ansn')) = ansn' ∙ sym ansn
+
+emptied_once : (old a b : State) → b.rows ≡ a.rows → b.last ≡ a.last → IsEmptied old a → IsEmptied old b → b.emptied ≡ a.emptied
+emptied_once old a b rows last (inl (none, some, is)) (inl (none', some', is')) = is' ∙ (ap (λ (n : ℕ). Some n) last ∙ sym is)
+emptied_once old a b rows last (inl (none, some, is)) (inr (inl full, is')) = absurd (full (rows ∙ none))
+emptied_once old a b rows last (inl (none, some, is)) (inr (inr was, is')) = absurd (some was)
+emptied_once old a b rows last (inr (inl full, is)) (inl (none', some', is')) = absurd (full (sym rows ∙ none'))
+emptied_once old a b rows last (inr (inr was, is)) (inl (none', some', is')) = absurd (some' was)
+emptied_once old a b rows last (inr (how, is)) (inr (how', is')) = is' ∙ sym is
+
+-- what follows from bases that are alike
+record FollowsOnce (a b : State) : Type 0 where
+  settings : b.settings ≡ a.settings
+  bases : AlikeBases a.bases b.bases
+  relays : b.relays ≡ a.relays
+  rows : b.rows ≡ a.rows
+  ansn : b.ansn ≡ a.ansn
+  emptied : b.emptied ≡ a.emptied
+  last : b.last ≡ a.last
+
+follows_once : (old : State) (now : ℕ) (one other : Bases) (a b : State) → AlikeBases one other → SoundState a → SoundState b → Follows old now one a → Follows old now other b → FollowsOnce a b
+follows_once old now one other a b alike sound sound' h k =
+    let settings : b.settings ≡ a.settings = k.settings ∙ sym h.settings in
+    let relays : b.relays ≡ a.relays = k.relays ∙ sym h.relays in
+    let bases : AlikeBases a.bases b.bases = subst (λ (z : Bases). AlikeBases z b.bases) (sym h.bases_are) (subst (λ (z : Bases). AlikeBases one z) (sym k.bases_are) alike) in
+    let back : AlikeBases b.bases a.bases = bases_back a.bases b.bases bases in
+    let last : b.last ≡ a.last = k.last ∙ sym h.last in
+    let rows : b.rows ≡ a.rows =
+    sym (rows_only a b (holds_by a b sound.neighbourhood sound'.neighbourhood settings relays bases.neighbourhood)
+    (holds_by b a sound'.neighbourhood sound.neighbourhood (sym settings) (sym relays) back.neighbourhood) a.rows b.rows h.rows k.rows) in
+    record {
+      settings = settings;
+      bases = bases;
+      relays = relays;
+      rows = rows;
+      ansn = ansn_once old a b rows h.ansn k.ansn;
+      emptied = emptied_once old a b rows last h.emptied k.emptied;
+      last = last;
+    }
+
+-- ---- ticks
+
+abbrev hello_items : RouterSettings → List Item
+hello_items r = map (λ f. Hello f.0) (enumerate_from 0 r.interfaces)
+
+hellos_once : (old a b : State) (one other : List Item) → FollowsOnce a b → HellosDue old a one → HellosDue old b other → (other ≡ one) × (b.next_hello ≡ a.next_hello)
+hellos_once old a b one other same (Hellos_early early next) (Hellos_early early' next') = (refl, next' ∙ sym next)
+hellos_once old a b one other same (Hellos_early early next) (Hellos_due due next') = absurd (let l = same.last in omega (arith, early, due, l))
+hellos_once old a b one other same (Hellos_due due next) (Hellos_early early next') = absurd (let l = same.last in omega (arith, early, due, l))
+hellos_once old a b one other same (Hellos_due due next) (Hellos_due due' next') = (
+  ap (λ (r : RouterSettings). hello_items r) same.settings,
+  sym (moment_once a.settings.hello_at a.settings.times.hello a.last a.next_hello b.next_hello next
+      (subst (λ (n : ℕ). IsNextMoment a.settings.hello_at a.settings.times.hello n b.next_hello) same.last
+      (subst (λ (r : RouterSettings). IsNextMoment r.hello_at r.times.hello b.last b.next_hello) same.settings next'))),
+)
+
+has_too : (a b : State) → FollowsOnce a b → HasToAdvertise a → HasToAdvertise b
+has_too a b same (inl some) = inl (λ none. some (sym same.rows ∙ none))
+has_too a b same (inr (moment, is, less)) =
+    let l = same.last in
+    let held : b.settings.times.advertised_hold ≡ a.settings.times.advertised_hold = ap (λ (r : RouterSettings). r.times.advertised_hold) same.settings in
+    inr (moment, same.emptied ∙ is, omega (arith, less, l, held))
+
+back_once : (a b : State) → FollowsOnce a b → FollowsOnce b a
+back_once a b h = record { settings = sym h.settings; bases = bases_back a.bases b.bases h.bases; relays = sym h.relays; rows = sym h.rows; ansn = sym h.ansn; emptied = sym h.emptied; last = sym h.last }
+
+record TcsOnce (a b : State) (one other : List Item) : Type 0 where
+  items : other ≡ one
+  next : b.next_tc ≡ a.next_tc
+  sequence : b.sequence ≡ a.sequence
+
+next_tc_once : (a b : State) → FollowsOnce a b → IsNextMoment a.settings.tc_at a.settings.times.tc a.last a.next_tc → IsNextMoment b.settings.tc_at b.settings.times.tc b.last b.next_tc → b.next_tc ≡ a.next_tc
+next_tc_once a b same next next' =
+    sym (moment_once a.settings.tc_at a.settings.times.tc a.last a.next_tc b.next_tc next
+    (subst (λ (n : ℕ). IsNextMoment a.settings.tc_at a.settings.times.tc n b.next_tc) same.last
+    (subst (λ (r : RouterSettings). IsNextMoment r.tc_at r.times.tc b.last b.next_tc) same.settings next')))
+
+tcs_once : (old a b : State) (one other : List Item) → FollowsOnce a b → TcsDue old a one → TcsDue old b other → TcsOnce a b one other
+tcs_once old a b one other same (Tcs_early early next seq) (Tcs_early early' next' seq') = record { items = refl; next = next' ∙ sym next; sequence = seq' ∙ sym seq }
+tcs_once old a b one other same (Tcs_early early next seq) (Tcs_silent due next' silent seq') = absurd (let l = same.last in omega (arith, early, due, l))
+tcs_once old a b one other same (Tcs_early early next seq) (Tcs_due due next' has parts are seq') = absurd (let l = same.last in omega (arith, early, due, l))
+tcs_once old a b one other same (Tcs_silent due next silent seq) (Tcs_early early next' seq') = absurd (let l = same.last in omega (arith, early, due, l))
+tcs_once old a b one other same (Tcs_silent due next silent seq) (Tcs_silent due' next' silent' seq') = record { items = refl; next = next_tc_once a b same next next'; sequence = seq' ∙ sym seq }
+tcs_once old a b one other same (Tcs_silent due next silent seq) (Tcs_due due' next' has parts are seq') = absurd (silent (has_too b a (back_once a b same) has))
+tcs_once old a b one other same (Tcs_due due next has parts are seq) (Tcs_early early next' seq') = absurd (let l = same.last in omega (arith, early, due, l))
+tcs_once old a b one other same (Tcs_due due next has parts are seq) (Tcs_silent due' next' silent seq') = absurd (silent (has_too a b same has))
+tcs_once old a b one other same (Tcs_due due next has parts are seq) (Tcs_due due' next' has' parts' are' seq') =
+    let are'' : AreParts a.settings.tc_rows a.rows parts' =
+    subst (λ (l : List TcRow). AreParts a.settings.tc_rows l parts') same.rows (subst (λ (r : RouterSettings). AreParts r.tc_rows b.rows parts') same.settings are') in
+    let some : 0 < a.settings.tc_rows = let range = a.settings.rows_in_range in omega (arith, range.at_least) in
+    let cut : parts' ≡ parts = parts_once a.settings.tc_rows some a.rows parts' parts are'' are in
+    record {
+      items = ap (λ (l : List (List TcRow)). part_items (nat_eq (length l) 1) old.sequence l) cut;
+      next = next_tc_once a b same next next';
+      sequence = seq' ∙ (ap (λ (l : List (List TcRow)). (old.sequence + length l) % 65536) cut ∙ sym seq);
+    }
+
+record StatesOnce (a b : State) (one other : List Item) : Type 0 where
+  alike : AlikeStates a b
+  left : other ≡ one
+
+ticks_once : (s : State) (now : ℕ) (a b : State) (one other : List Item) → SoundState s → TicksBy s now a one → TicksBy s now b other → StatesOnce a b one other
+ticks_once s now a b one other sound h k =
+    let live = live_only s.settings now s.bases s.bases h.live k.live (bases_itself s.bases) h.is_live k.is_live in
+    let same = follows_once s now h.live k.live a b live (ticks_sound s now a one sound h) (ticks_sound s now b other sound k) h.follows k.follows in
+    let (hellos, next_hello) = hellos_once s a b h.hellos k.hellos same h.are_hellos k.are_hellos in
+    let tcs = tcs_once s a b h.tcs k.tcs same h.are_tcs k.are_tcs in
+    record {
+      alike = record {
+        settings = same.settings;
+        bases = same.bases;
+        relays = same.relays;
+        rows = same.rows;
+        ansn = same.ansn;
+        emptied = same.emptied;
+        sequence = tcs.sequence;
+        next_hello = next_hello;
+        next_tc = tcs.next;
+        last = same.last;
+      };
+      left = k.whole ∙ (ap (λ (r : RouterSettings). relay_items r ++ (k.hellos ++ k.tcs)) same.settings
+          ∙ (ap (λ (l : List Item). relay_items a.settings ++ (l ++ k.tcs)) hellos ∙ (ap (λ (l : List Item). relay_items a.settings ++ (h.hellos ++ l)) tcs.items ∙ sym h.whole)));
+    }
+
+-- ---- frames
+
+takes_once : (s : State) (arrival : Arrival) (bytes : List ℕ) (one other : List Frame) (a b : State) → SoundState s → TakesPacket s arrival bytes one a → TakesPacket s arrival bytes other b →
+    AlikeStates a b × (other ≡ one)
+takes_once s arrival bytes one other a b sound h k =
+    let (packets, spans) = one_packet bytes k.packet h.packet k.spans h.spans k.spelled h.spelled in
+    let own : k.own ≡ h.own = originator_once s.settings k.own h.own k.is_own h.is_own in
+    let live = live_only s.settings arrival.now s.bases s.bases h.live k.live (bases_itself s.bases) h.is_live k.is_live in
+    let takes : TakesMessages s.settings h.own arrival bytes k.live h.packet.messages h.spans k.bases other k.fates =
+    subst (λ (o : Addr4). TakesMessages s.settings o arrival bytes k.live h.packet.messages h.spans k.bases other k.fates) own
+    (subst (λ (l : List Span). TakesMessages s.settings k.own arrival bytes k.live h.packet.messages l k.bases other k.fates) spans
+    (subst (λ (p : PacketFields). TakesMessages s.settings k.own arrival bytes k.live p.messages k.spans k.bases other k.fates) packets k.takes)) in
+    let (bases, sent) = messages_are_fixed s.settings h.own arrival bytes h.packet.messages h.spans h.live k.live h.bases k.bases one other h.fates k.fates h.is_own
+    (live_bases_sound s.settings s.last arrival.now s.bases h.live sound h.is_live) (live_bases_sound s.settings s.last arrival.now s.bases k.live sound k.is_live) live h.takes takes in
+    let same = follows_once s arrival.now h.bases k.bases a b bases (takes_sound s arrival bytes one a sound h) (takes_sound s arrival bytes other b sound k) h.follows k.follows in (
+      record {
+        settings = same.settings;
+        bases = same.bases;
+        relays = same.relays;
+        rows = same.rows;
+        ansn = same.ansn;
+        emptied = same.emptied;
+        sequence = k.sequence ∙ sym h.sequence;
+        next_hello = k.next_hello ∙ sym h.next_hello;
+        next_tc = k.next_tc ∙ sym h.next_tc;
+        last = same.last;
+      },
+      sent,
+    )
+
+hears_once : (s : State) (arrival : Arrival) (bytes : List ℕ) (a b : State) (one other : List Item) → SoundState s → HearsBy s arrival bytes a one → HearsBy s arrival bytes b other → StatesOnce a b one other
+hears_once s arrival bytes a b one other sound (Refused place reason fault) (Refused place' reason' fault') = record { alike = states_itself s; left = refl }
+hears_once s arrival bytes a b one other sound (Refused place reason fault) (Taken takes) = absurd (not_both bytes takes.packet takes.spans place reason takes.spelled fault)
+hears_once s arrival bytes a b one other sound (Taken takes) (Refused place reason fault) = absurd (not_both bytes takes.packet takes.spans place reason takes.spelled fault)
+hears_once s arrival bytes a b one other sound (Taken {sent} h) (Taken {sent = more} k) =
+    let (alike, same) = takes_once s arrival bytes sent more a b sound h k in
+    record {
+      alike = alike;
+      left = ap (λ (r : RouterSettings). relay_items r ++ map Sent more) alike.settings ∙ ap (λ (l : List Frame). relay_items a.settings ++ map Sent l) same;
+    }
+
+-- ---- the line
+
+placed : (m n : Net) (x : ℕ) (one other : List Item) → AlikeNets m n → other ≡ one → Alike (record { net = m; router = x; left = one }) (record { net = n; router = x; left = other })
+placed m n x one other h left = record { scenario = h.scenario; count = h.count; routers = h.routers; traffic = h.traffic; last_ticks = h.last_ticks; router = refl; left = left }
+
+nets_itself : (n : Net) → AlikeNets n n
+nets_itself n = record {
+  scenario = refl;
+  count = refl;
+  routers = λ x s t at at'. subst (λ (z : State). AlikeStates s z) (same_at n.routers x s t at at') (states_itself s);
+  traffic = refl;
+  last_ticks = refl;
+}
+
+tick_once : (net : Net) (x now last_ticks : ℕ) (line : List ℕ) (p q : TracePosition) → AreSound net.routers → OpensTick net x now last_ticks line p → OpensTick net x now last_ticks line q → Alike p q
+tick_once net x now last_ticks line p q sound h k =
+    let was : k.was ≡ h.was = same_at net.routers x k.was h.was k.stands h.stands in
+    let once = ticks_once h.was now h.is k.is h.left k.left (sound x h.was h.stands) h.ticks (subst (λ (z : State). TicksBy z now k.is k.left) was k.ticks) in
+    let set = nets_set net net x h.is k.is (nets_itself net) once.alike in
+    subst (λ (z : TracePosition). Alike z q) (sym h.leads)
+    (subst (λ (z : TracePosition). Alike (record { net = record (with_state net x h.is) { last_ticks = last_ticks }; router = x; left = h.left }) z) (sym k.leads)
+    (record { scenario = set.scenario; count = set.count; routers = set.routers; traffic = set.traffic; last_ticks = refl; router = refl; left = once.left }))
+
+sender_once : (routers : List RouterSettings) (arc : RadioArc) (a b : Addr4) → IsSender routers arc a → IsSender routers arc b → a ≡ b
+sender_once routers arc a b h k =
+    let router : k.router ≡ h.router = same_at routers arc.from k.router h.router k.router_is h.router_is in
+    let face : k.face ≡ h.face =
+    same_at h.router.interfaces arc.from_iface k.face h.face (subst (λ (r : RouterSettings). slice_get r.interfaces arc.from_iface ≡ Some k.face) router k.face_is) h.face_is in
+    same_at h.face.addrs 0 a b h.address (subst (λ (f : Interface). slice_get f.addrs 0 ≡ Some b) face k.address)
+
+hearing_once : (net : Net) (line : List ℕ) (p q : TracePosition) → AreSound net.routers → OpensHearing net line p → OpensHearing net line q → Alike p q
+hearing_once net line p q sound h k =
+    let f = h.next.first in
+    let g = k.next.first in
+    let one = first_once g.before g.behind f.before f.behind k.delivery h.delivery (sym g.whole ∙ f.whole) g.later g.no_earlier f.later f.no_earlier in
+    let others : k.others ≡ h.others = g.left ∙ (one.left ∙ sym f.left) in
+    let arc : k.arc ≡ h.arc = same_at net.scenario.arcs h.delivery.arc k.arc h.arc (subst (λ (d : Delivery). slice_get net.scenario.arcs d.arc ≡ Some k.arc) one.first k.arc_is) h.arc_is in
+    let sender : k.sender ≡ h.sender = sender_once net.scenario.routers h.arc k.sender h.sender (subst (λ (a : RadioArc). IsSender net.scenario.routers a k.sender) arc k.sender_is) h.sender_is in
+    let was : k.was ≡ h.was = same_at net.routers h.arc.to k.was h.was (subst (λ (a : RadioArc). slice_get net.routers a.to ≡ Some k.was) arc k.stands) h.stands in
+    let arrival : Arrival = record { now = h.delivery.moment; iface = h.arc.to_iface; sender = h.sender } in
+    let hears : HearsBy h.was arrival h.delivery.frame k.is k.left =
+    subst (λ (z : State). HearsBy z arrival h.delivery.frame k.is k.left) was
+    (subst (λ (z : Addr4). HearsBy k.was (record { now = h.delivery.moment; iface = h.arc.to_iface; sender = z }) h.delivery.frame k.is k.left) sender
+    (subst (λ (a : RadioArc). HearsBy k.was (record { now = h.delivery.moment; iface = a.to_iface; sender = k.sender }) h.delivery.frame k.is k.left) arc
+    (subst (λ (d : Delivery). HearsBy k.was (record { now = d.moment; iface = k.arc.to_iface; sender = k.sender }) d.frame k.is k.left) one.first k.hears))) in
+    let once = hears_once h.was arrival h.delivery.frame h.is k.is h.left k.left (sound h.arc.to h.was h.stands) h.hears hears in
+    let set = nets_set net net h.arc.to h.is k.is (nets_itself net) once.alike in
+    let here : TracePosition = record { net = with_traffic (with_state net h.arc.to h.is) (with_heard net.traffic h.others); router = h.arc.to; left = h.left } in
+    let there : q ≡ record { net = with_traffic (with_state net h.arc.to k.is) (with_heard net.traffic h.others); router = h.arc.to; left = k.left } =
+    k.leads ∙ (ap (λ (a : RadioArc). let z : TracePosition = record { net = with_traffic (with_state net a.to k.is) (with_heard net.traffic k.others); router = a.to; left = k.left } in z) arc
+    ∙ ap (λ (l : List Delivery). let z : TracePosition = record { net = with_traffic (with_state net h.arc.to k.is) (with_heard net.traffic l); router = h.arc.to; left = k.left } in z) others) in
+    subst (λ (z : TracePosition). Alike z q) (sym h.leads)
+    (subst (λ (z : TracePosition). Alike here z) (sym there)
+    (record { scenario = set.scenario; count = set.count; routers = set.routers; traffic = refl; last_ticks = set.last_ticks; router = refl; left = once.left }))
+
+-- a frame isn't next where a tick is, nor is either where only last ticks are left
+not_tick : (net : Net) (d : Delivery) (others : List Delivery) (x moment : ℕ) → HearsNext net d others → TicksNext net x moment → ⊥
+not_tick net d others x moment h k =
+    let early : d.moment ≤ due k.first.state = all_at (λ (s : State). d.moment ≤ due s) net.routers x k.first.state h.before_ticks k.first.stands in
+    let late : moment < d.moment = behind_all (λ (e : Delivery). moment < e.moment) h.first.before h.first.behind d (subst (All (λ (e : Delivery). moment < e.moment)) h.first.whole k.before_frames) in
+    let is = k.first.is in
+    omega (arith, early, late, is)
+
+not_last : (net : Net) (d : Delivery) (others : List Delivery) → HearsNext net d others → HasOnlyLastTicks net → ⊥
+not_last net d others h k =
+    let late : net.scenario.end < d.moment = behind_all (λ (e : Delivery). net.scenario.end < e.moment) h.first.before h.first.behind d (subst (All (λ (e : Delivery). net.scenario.end < e.moment)) h.first.whole k.no_frames) in
+    let early = h.in_time in
+    omega (arith, early, late)
+
+tick_not_last : (net : Net) (x moment : ℕ) → TicksNext net x moment → HasOnlyLastTicks net → ⊥
+tick_not_last net x moment h k =
+    let late : net.scenario.end < due h.first.state = all_at (λ (s : State). net.scenario.end < due s) net.routers x h.first.state k.no_ticks h.first.stands in
+    let early = h.in_time in
+    let is = h.first.is in
+    omega (arith, early, late, is)
+
+pub opens_once : (net : Net) (line : List ℕ) (p q : TracePosition) → AreSound net.routers → OpensEvent net line p → OpensEvent net line q → Alike p q
+opens_once net line p q sound (By_delivery h) (By_delivery k) = hearing_once net line p q sound h k
+opens_once net line p q sound (By_delivery h) (By_tick x moment next k) = absurd (not_tick net h.delivery h.others x moment h.next next)
+opens_once net line p q sound (By_delivery h) (By_last_tick only some k) = absurd (not_last net h.delivery h.others h.next only)
+opens_once net line p q sound (By_tick x moment next h) (By_delivery k) = absurd (not_tick net k.delivery k.others x moment k.next next)
+opens_once net line p q sound (By_tick x moment next h) (By_tick y other next' k) =
+    let (same, moments) = due_once net.routers y x other moment next'.first next.first in
+    tick_once net x moment net.last_ticks line p q sound h
+    (subst (λ (n : ℕ). OpensTick net x n net.last_ticks line q) moments (subst (λ (z : ℕ). OpensTick net z other net.last_ticks line q) same k))
+opens_once net line p q sound (By_tick x moment next h) (By_last_tick only some k) = absurd (tick_not_last net x moment next only)
+opens_once net line p q sound (By_last_tick only some h) (By_delivery k) = absurd (not_last net k.delivery k.others k.next only)
+opens_once net line p q sound (By_last_tick only some h) (By_tick x moment next k) = absurd (tick_not_last net x moment next only)
+opens_once net line p q sound (By_last_tick only some h) (By_last_tick only' some' k) =
+    tick_once net net.last_ticks net.scenario.end (net.last_ticks + 1) line p q sound h k
