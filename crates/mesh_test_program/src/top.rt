@@ -3,9 +3,8 @@ ghost use Rattle.std.specs.Prelude.{◌≡◌, IfOk};
 
 use crate::octets::LONE;
 use crate::{runs, streams};
-use mesh_atoms::{Addr4, Seq};
+use mesh_atoms::{Addr4, Bytes, Seq};
 use mesh_expire::NoBases;
-use mesh_fixtures::{list_of, text};
 use mesh_io::{AirFails, AirRoom, MemAir, MemClock, MemEar, MemSink, MemSource};
 use mesh_tool::{mesh_top, top_over};
 use std::alloc::{AllocError, Global};
@@ -88,6 +87,14 @@ fn strings(alloc: Global, words: &[&str]) -> Result<Vec<String>, AllocError> {
         strings.push(String::from_str(alloc, *word)?)?;
     }
     Ok(strings)
+}
+
+fn list_of<T: Copy>(alloc: Global, items: &[T]) -> Result<Seq<T>, AllocError> {
+    Ok(Seq::from_vec(Vec::from_slice(alloc, items)?))
+}
+
+fn text(alloc: Global, octets: &[u8]) -> Result<Bytes, AllocError> {
+    Ok(Bytes::from_vec(Vec::from_slice(alloc, octets)?))
 }
 
 fn source(alloc: Global, input: &str, fails: &[u64]) -> Result<MemSource, AllocError> {

@@ -23,3 +23,5 @@ mod tables;
 mod topology;
 #[cfg(test)]
 mod tried;
+#[cfg(test)]
+mod values;

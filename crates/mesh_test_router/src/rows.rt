@@ -5,7 +5,7 @@ ghost use Rattle.mesh_atoms.specs.Nodes.{IsBefore};
 use mesh_atoms::{
     Addr4, Hello, HelloRow, LinkStatus, LocalIf, Metrics, Mpr, NetAddr, OtherStatus, Willing,
 };
-use mesh_fixtures::{list_of, metric_if};
+use crate::values::{list_of, metric_if};
 use std::alloc::{AllocError, Global};
 
 #[derive(Clone, Copy)]

@@ -3,7 +3,7 @@ ghost use Rattle.std.specs.Prelude.{◌≡◌, ◌≤◌, IfOk, IsTrue};
 ghost use Rattle.mesh_atoms.specs.Settings.{are_thresholds};
 
 use mesh_atoms::{Addr4, Admit, QualityStep, SenderQuality, Seq};
-use mesh_fixtures::list_of;
+use crate::values::list_of;
 use std::alloc::{AllocError, Global};
 
 #[derive(Clone, Copy)]

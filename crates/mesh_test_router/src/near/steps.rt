@@ -8,7 +8,7 @@ use crate::near::routers::{Setup, settings_of};
 use crate::rows::{Row, Telling, hello_with, says};
 use crate::tried::Tried;
 use mesh_atoms::{Addr4, Link, LinkState, Neighbour, TwoHop, TwoHopKey};
-use mesh_fixtures::cost;
+use crate::values::cost;
 use mesh_nbrs::Near4;
 use mesh_nhdp::HelloTaken;
 use std::alloc::{AllocError, Global};

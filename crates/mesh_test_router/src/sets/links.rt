@@ -5,7 +5,7 @@ use crate::runs::{Case, Run};
 use crate::tried::Tried;
 use mesh_atoms::{Addr4, Link, LinkKey, LinkState, LinkStatus, Shown};
 use mesh_expire::Table;
-use mesh_fixtures::{metric, metric_if};
+use crate::values::{metric, metric_if};
 use mesh_links::LinkSet;
 use std::alloc::{AllocError, Global};
 

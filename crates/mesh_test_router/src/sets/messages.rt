@@ -8,7 +8,7 @@ use crate::runs::{Case, Run};
 use crate::tried::Tried;
 use mesh_atoms::{Addr4, RouterSettings, Times};
 use mesh_expire::Bases;
-use mesh_fixtures::{metric, two_interfaces};
+use crate::values::{metric, two_interfaces};
 use mesh_flood::{Flood, Forward, Heading, Process, Verdict};
 use std::alloc::{AllocError, Global};
 

@@ -4,7 +4,7 @@ use crate::runs::{Case, Run};
 use crate::tried::Tried;
 use mesh_atoms::{Addr4, Neighbour, Willing};
 use mesh_expire::Table;
-use mesh_fixtures::{cost, metric, metric_if};
+use crate::values::{cost, metric, metric_if};
 use mesh_nbrs::{LinkNote, NeighbourSet};
 use std::alloc::{AllocError, Global};
 

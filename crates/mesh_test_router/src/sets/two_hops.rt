@@ -4,7 +4,7 @@ use crate::runs::{Case, Run};
 use crate::tried::Tried;
 use mesh_atoms::{Addr4, TwoHop, TwoHopKey};
 use mesh_expire::Table;
-use mesh_fixtures::metric_if;
+use crate::values::metric_if;
 use mesh_nbrs::TwoHopSet;
 use std::alloc::{AllocError, Global};
 

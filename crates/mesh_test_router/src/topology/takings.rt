@@ -9,7 +9,7 @@ use mesh_atoms::{
     Addr4, Advertiser, Attached4, Base, Metric, NetAddr, RouterKey, RouterTuple, TcRow,
 };
 use mesh_expire::{Bases, Table};
-use mesh_fixtures::list_of;
+use crate::values::list_of;
 use mesh_topo::{Selector, TcTaken, Topology, tc_rows};
 use std::alloc::{AllocError, Global};
 use std::test::Fail;

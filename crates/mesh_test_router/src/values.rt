@@ -1,6 +1,4 @@
 //! What tests are made of: lists, metrics by their costs, and the settings of a router.
-#![tactic(auto)]
-
 ghost use Rattle.std.specs.Prelude.{◌≡◌, ◌<◌, [], ◌∷◌, length, map, IfOk, IsTrue};
 ghost use Rattle.std.specs.List.{flat_map, list_all};
 ghost use Rattle.mesh_atoms.specs.Base.{addr_eq};
@@ -13,33 +11,33 @@ use mesh_atoms::{
 use std::alloc::{AllocError, Global};
 
 /// The list of those items.
-pub fn list_of<T: Copy>(alloc: Global, items: &[T]) -> Result<Seq<T>, AllocError>
+pub(crate) fn list_of<T: Copy>(alloc: Global, items: &[T]) -> Result<Seq<T>, AllocError>
     ensures { IfOk result (λ list. list ≡ items.now) }
 {
     Ok(Seq::from_vec(Vec::from_slice(alloc, items)?))
 }
 
 /// Those octets.
-pub fn text(alloc: Global, octets: &[u8]) -> Result<Bytes, AllocError>
+pub(crate) fn text(alloc: Global, octets: &[u8]) -> Result<Bytes, AllocError>
     ensures { IfOk result (λ bytes. bytes ≡ octets.now) }
 {
     Ok(Bytes::from_vec(Vec::from_slice(alloc, octets)?))
 }
 
 /// The metric of a cost from 1 to 256.
-pub fn metric(cost: u16) -> Metric {
+pub(crate) fn metric(cost: u16) -> Metric {
     Metric {
         code: cost.saturating_sub(1) % 256,
     }
 }
 
 /// The same, and none of a cost of 0.
-pub fn metric_if(cost: u16) -> Option<Metric> {
+pub(crate) fn metric_if(cost: u16) -> Option<Metric> {
     if cost == 0 { None } else { Some(metric(cost)) }
 }
 
 /// The cost of a metric, where there is one.
-pub fn cost(metric: Option<Metric>) -> Option<u32> {
+pub(crate) fn cost(metric: Option<Metric>) -> Option<u32> {
     match metric {
         Some(metric) => Some(metric.value()),
         None => None,
@@ -47,7 +45,7 @@ pub fn cost(metric: Option<Metric>) -> Option<u32> {
 }
 
 /// An interface of one address, with the metric of what it receives.
-pub fn interface(
+pub(crate) fn interface(
     alloc: Global,
     name: &[u8],
     addr: Addr4,
@@ -70,7 +68,7 @@ pub fn interface(
 }
 
 /// A router of those interfaces, whose first messages are sent at 0, and which no network is attached to.
-pub fn router(
+pub(crate) fn router(
     alloc: Global,
     name: &[u8],
     interfaces: Seq<Interface>,
@@ -98,7 +96,7 @@ pub fn router(
 }
 
 /// A router of one interface, with the metric of what it receives, and the default times (RFC 7181, section 5.4).
-pub fn one_interface(
+pub(crate) fn one_interface(
     alloc: Global,
     name: &[u8],
     addr: Addr4,
@@ -117,7 +115,7 @@ pub fn one_interface(
 }
 
 /// A router of two interfaces, each with the metric of what it receives.
-pub fn two_interfaces(
+pub(crate) fn two_interfaces(
     alloc: Global,
     name: &[u8],
     first: (Addr4, Metric),
