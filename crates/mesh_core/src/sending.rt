@@ -5,4 +5,5 @@ mod moments;
 mod tcs;
 
 pub use crate::sending::hellos::send_hellos;
-pub use crate::sending::tcs::send_tcs;
+pub use crate::sending::moments::next_moment;
+pub use crate::sending::tcs::{send_tcs, tc_of_rows};

@@ -53,8 +53,9 @@ fn selectors_of<N: Near4>(alloc: Global, near: &N) -> Result<Vec<Selector>, Allo
     Ok(selectors)
 }
 
-/// The rows that a router with this neighbourhood advertises.
-pub(crate) fn advertised_rows<N: Near4>(
+/// The rows that a router with this neighbourhood advertises (RFC 7181, section 16.1): its routing MPR selectors with a metric, and its
+/// attached networks. Only an allocation failure refuses.
+pub fn advertised_rows<N: Near4>(
     alloc: Global,
     near: &N,
     settings: &RouterSettings,

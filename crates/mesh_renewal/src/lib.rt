@@ -16,6 +16,7 @@ mod same;
 mod staying;
 mod topology;
 
+pub use advertise::advertised_rows;
 pub use derived::Derived;
 pub use relays::KeptRelays;
 pub use renewal::{opening, renew};

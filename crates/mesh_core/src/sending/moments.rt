@@ -2,8 +2,9 @@
 ghost use Rattle.std.specs.Prelude.{◌<◌, ◌≤◌, ◌^◌};
 ghost use Rattle.mesh_machine.specs.Sending.{IsNextMoment};
 
-/// The first moment above now of the series that begins at `start` and goes on by that interval.
-pub(crate) fn next_moment(start: u64, interval: u64, now: u64) -> u64
+/// The first moment above now of the series that begins at `start` and goes on by that interval. All are in ticks of
+/// 1/8192 s and below 2^62; the interval isn't 0.
+pub fn next_moment(start: u64, interval: u64, now: u64) -> u64
     requires interval { 0 < interval }
     requires start { start < 2 ^ 62 }
     requires most { interval < 2 ^ 62 }

@@ -136,7 +136,15 @@ fn part_bytes(
         HasDerived s derived.now → IsTcOfRows s validity.now complete sequence (part_of derived.now.rows span) tc)) }
 {
     let rows = rows_of(derived.rows.as_slice(), span);
-    let tc = tc_of_rows(alloc, settings, derived, validity, complete, sequence, rows)?;
+    let tc = tc_of_rows(
+        alloc,
+        settings,
+        derived.ansn,
+        validity,
+        complete,
+        sequence,
+        rows,
+    )?;
     write_tc(alloc, &tc, settings.times.tc_hop_limit, validity)
 }
 
@@ -148,11 +156,12 @@ fn rows_of(rows: &[TcRow], span: PartSpan) -> &[TcRow]
     &rows[span.first..span.first + span.len]
 }
 
-// The TC of some of the rows.
-fn tc_of_rows(
+/// The TC of some of the rows, which stand in order, with that ANSN, its validity a time value by distance, and that sequence number;
+/// complete where these are all the rows (RFC 7181, section 16.1). Only an allocation failure refuses.
+pub fn tc_of_rows(
     alloc: Global,
     settings: &RouterSettings,
-    derived: &Derived,
+    ansn: u16,
     validity: &[u8],
     complete: bool,
     sequence: u16,
@@ -160,7 +169,7 @@ fn tc_of_rows(
 ) -> Result<Tc, AllocError>
     requires value { IsTimeValue validity.now }
     requires ordered { AllPairs (λ r t. IsBefore r.dest t.dest) rows.now }
-    ensures is { IfOk result (λ tc. (s : State) → s.settings ≡ settings.now → HasDerived s derived.now → IsTcOfRows s validity.now complete sequence rows.now tc) }
+    ensures is { IfOk result (λ tc. (s : State) → s.settings ≡ settings.now → s.ansn ≡ ansn → IsTcOfRows s validity.now complete sequence rows.now tc) }
     ensures rows { IfOk result (λ tc. tc.rows ≡ rows.now) }
     ensures near { IfOk result (λ tc. time_at_distance 1 validity.now ≡ tc.validity) }
     ensures interval { IfOk result (λ tc. IsSentIfSome tc.interval) }
@@ -168,7 +177,7 @@ fn tc_of_rows(
     Ok(Tc {
         originator: settings.originator(),
         sequence,
-        ansn: derived.ansn,
+        ansn,
         complete,
         validity: time_nearby(validity),
         interval: Some(time_at_least(settings.times.tc)),

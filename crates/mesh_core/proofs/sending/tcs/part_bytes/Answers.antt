@@ -41,5 +41,5 @@ returns c =
     if_ok_more c.write_tc.result (λ bytes writes. (
       c.in_ok-tc.tc,
       writes,
-      λ s settings has. subst (λ (rows : List TcRow). IsTcOfRows s c.args.validity.now c.args.complete c.args.sequence rows c.in_ok-tc.tc) is (c.in_ok-tc.ensures.is s settings has),
+      λ s settings has. subst (λ (rows : List TcRow). IsTcOfRows s c.args.validity.now c.args.complete c.args.sequence rows c.in_ok-tc.tc) is (c.in_ok-tc.ensures.is s settings has.ansn),
     )) c.write_tc.ensures.writes
