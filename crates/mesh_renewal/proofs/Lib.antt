@@ -1,13 +1,13 @@
 -- Lemmas for crates above, each file with the crates that cite it.
+pub mod Moments  -- replay
 pub mod Pushed  -- core
+pub mod RowMoments  -- replay
 -- Lemmas of this crate alone.
 mod Chosen
 mod Deciding
 mod Kept
 mod Lists
-mod Moments
 mod Nothing
 mod RouteMoments
-mod RowMoments
 mod Selectors
 mod StayingLaw

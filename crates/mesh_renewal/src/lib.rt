@@ -18,7 +18,7 @@ mod topology;
 
 pub use advertise::advertised_rows;
 pub use derived::Derived;
-pub use relays::KeptRelays;
+pub use relays::{KeptRelays, no_relays};
 pub use renewal::{opening, renew};
 pub use routes::KeptRoutes;
 pub use rows::KeptRows;

@@ -77,8 +77,8 @@ fn relays_of<N: Near4>(
     Ok(Relays { flooding, routing })
 }
 
-// No relays on so many interfaces.
-fn no_relays(alloc: Global, count: usize) -> Result<Relays, AllocError>
+/// The relays of a router with so many interfaces that has chosen none. Only an allocation failure refuses.
+pub fn no_relays(alloc: Global, count: usize) -> Result<Relays, AllocError>
     ensures { IfOk result (λ relays. relays ≡ no_relays count) }
 {
     let mut flooding = Seq::new(alloc);
