@@ -15,4 +15,4 @@ pub use machine::Machine;
 pub use mesh_machine::{Arrival, Fate, Frame, Heard, Read, RouterView, Said};
 pub use mesh_routes::graph_of;
 pub use router::Core;
-pub use sending::{next_moment, send_hellos, send_tcs, tc_of_rows};
+pub use sending::{has_to_advertise, next_moment, send_hellos, send_tcs, tc_of_rows};

@@ -6,4 +6,4 @@ mod tcs;
 
 pub use crate::sending::hellos::send_hellos;
 pub use crate::sending::moments::next_moment;
-pub use crate::sending::tcs::{send_tcs, tc_of_rows};
+pub use crate::sending::tcs::{has_to_advertise, send_tcs, tc_of_rows};

@@ -42,21 +42,28 @@ pub fn send_tcs(
         return Ok(());
     }
     derived.next_tc = next_moment(settings.tc_at, settings.times.tc, now);
-    if !has_to_advertise(derived, settings.times.advertised_hold) {
+    if !has_to_advertise(
+        derived.rows.len(),
+        derived.emptied,
+        now,
+        settings.times.advertised_hold,
+    ) {
         return Ok(());
     }
     send_parts(alloc, settings, derived, out)
 }
 
-// Whether there is something to advertise in a TC.
-fn has_to_advertise(derived: &Derived, hold: u64) -> bool
-    ensures { (s : State) → HasDerived s derived.now → s.settings.times.advertised_hold ≡ hold → IsTrue result ↔ HasToAdvertise s }
+/// Whether there is something to advertise in a TC at `now`: rows, or none since the moment at which they became empty, which is less than
+/// the hold time ago (RFC 7181, section 16.2). Moments and the hold time are in ticks of 1/8192 s.
+pub fn has_to_advertise(rows: usize, emptied: Option<u64>, now: u64, hold: u64) -> bool
+    ensures { (s : State) → length s.rows ≡ rows → s.emptied ≡ emptied → s.last ≡ now → s.settings.times.advertised_hold ≡ hold
+        → IsTrue result ↔ HasToAdvertise s }
 {
-    if derived.rows.len() != 0 {
+    if rows != 0 {
         return true;
     }
-    match derived.emptied {
-        Some(moment) => derived.last < moment || derived.last - moment < hold,
+    match emptied {
+        Some(moment) => now < moment || now - moment < hold,
         None => false,
     }
 }

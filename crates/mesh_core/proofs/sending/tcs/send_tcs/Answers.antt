@@ -1,8 +1,9 @@
-use Rattle.std.proofs.Common.{◌≡◌, ℕ, ◌+◌, ◌%◌, length, [], true, inl, inr, sym, ap, subst, arith, ◌∙◌}
+use Rattle.std.proofs.Common.{◌≡◌, ℕ, ◌+◌, ◌%◌, List, length, [], true, inl, inr, sym, ap, subst, arith, ◌∙◌}
 use Rattle.std.specs.Prelude.{nat_eq}
 use Rattle.std.proofs.lemmas.List.{append-nil}
 use Rattle.std.proofs.lemmas.Bool.{cases_Bool}
 use Rattle.mesh_atoms.specs.declared.settings.RouterSettings.{RouterSettings}
+use Rattle.mesh_atoms.specs.declared.tc.TcRow.{TcRow}
 use Rattle.mesh_renewal.specs.declared.derived.Derived.{Derived}
 use Rattle.mesh_renewal.specs.Renewed.{HasDerived}
 use Rattle.mesh_machine.specs.Sending.{SendsParts, Tcs_early, Tcs_silent, Tcs_due}
@@ -24,7 +25,7 @@ returns-then-not-has_to_advertise-clause-sent c = (
   λ before s sequence next settings has sequence_after next_after.
       Tcs_silent (let late = c.if-now-derived.false in rw (next, has.last) (omega (arith, late))) (rw (settings, has.last, next_after) c.next_moment-derived.ensures)
       (λ tells.
-      let t : c.has_to_advertise.result ≡ true = (c.has_to_advertise.ensures s has (ap (λ (r : RouterSettings). r.times.advertised_hold) settings)).1 tells in
+      let t : c.has_to_advertise.result ≡ true = (c.has_to_advertise.ensures s (ap (λ (rows : List TcRow). length rows) has.rows ∙ sym c.len.ensures) has.emptied has.last (ap (λ (r : RouterSettings). r.times.advertised_hold) settings)).1 tells in
       let f = c.if-not-has_to_advertise.true in absurd cc) (sequence_after ∙ sym sequence),
 )
 
@@ -39,7 +40,7 @@ returns-clause-sent c =
           let sends = all s settings has in
           Tcs_due (let late = c.if-now-derived.false in rw (next, has.last, ap (λ (d : Derived). d.last) c.send_parts.ensures.others) (omega (arith, late)))
           (rw (settings, has.last, next_after, ap (λ (d : Derived). d.last) c.send_parts.ensures.others, ap (λ (d : Derived). d.next_tc) c.send_parts.ensures.others) c.next_moment-derived.ensures)
-          ((c.has_to_advertise.ensures s had (ap (λ (r : RouterSettings). r.times.advertised_hold) settings)).0 tells)
+          ((c.has_to_advertise.ensures s (ap (λ (rows : List TcRow). length rows) had.rows ∙ sym c.len.ensures) had.emptied had.last (ap (λ (r : RouterSettings). r.times.advertised_hold) settings)).0 tells)
           sends.parts sends.cut sends.validity sends.is
           (sequence_after ∙ (sends.number ∙ ap (λ (n : ℕ). (n + length sends.parts) % 65536) (sym sequence)))
           (subst (λ (n : ℕ). SendsParts s sends.validity (nat_eq (length sends.parts) 1) n sends.parts sent) (sym sequence) sends.sends),
