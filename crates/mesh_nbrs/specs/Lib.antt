@@ -2,4 +2,5 @@ pub mod Losts
 pub mod Neighbours
 pub mod Owners
 pub mod Parts
+pub mod Same
 pub mod TwoHops

@@ -1,4 +1,5 @@
 -- Lemmas for crates above, each file with the crates that cite it.
+pub mod Deciding  -- renewal
 pub mod Empty  -- machine
 pub mod HelloSound  -- machine
 pub mod Limits  -- machine, replay
@@ -20,6 +21,7 @@ mod InterfaceTables
 mod Judges
 mod LinkKeys
 mod Receipt
+mod RepeatsLaw
 mod RowWalks
 mod Spoken
 mod SymmetricAddresses

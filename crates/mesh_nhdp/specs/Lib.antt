@@ -7,6 +7,7 @@ pub mod Interfaces
 pub mod Judged
 pub mod Laws
 pub mod NhdpState
+pub mod Repeats
 pub mod Rows
 pub mod Staying
 pub mod Wanted

@@ -16,6 +16,7 @@ mod near;
 mod near_addresses;
 mod nhdp;
 mod notes;
+mod repeating;
 mod say;
 mod sending_link;
 mod staying;

@@ -1,13 +1,15 @@
 //! The taking of a HELLO.
-ghost use Rattle.std.specs.Prelude.{◌≡◌, ◌<◌, ◌^◌, length, IfOk, OnOk};
+ghost use Rattle.std.specs.Prelude.{◌≡◌, ◌<◌, ◌^◌, false, length, IfOk, OnOk};
 ghost use Rattle.mesh_atoms.specs.TakesHello.{HelloAnswer, TakesHello};
 ghost use Rattle.mesh_atoms.specs.Sound.{SoundNeighbourhood};
+ghost use Rattle.mesh_nbrs.specs.Same.{SameNear};
 ghost use Rattle.mesh_nhdp.specs.Judged.{IsAnswer};
 ghost use Rattle.mesh_nhdp.specs.NhdpState.{near_with};
 
 use crate::hearing::hear;
 use crate::judge::{Judgement, judge};
 use crate::nhdp::Nhdp;
+use crate::repeating::repeats;
 use mesh_atoms::{
     Addr4, Base, Hello, Link, LinkKey, Lost, Neighbour, RouterSettings, TwoHop, TwoHopKey,
 };
@@ -47,6 +49,29 @@ impl<B: Bases> Nhdp<B> {
         ensures sound { OnOk result (SoundNeighbourhood self.new.settings now self.new.near) }
         ensures settings { self.new.settings ≡ self.old.settings }
     {
+        let (taken, _) = self.take_and_tell(now, iface, sender, hello)?;
+        Ok(taken)
+    }
+
+    /// The same as `take_hello`; and `false` where the HELLO changed nothing but moments: then the same neighbours and 2-hop tuples stand as
+    /// before, and the same links are SYMMETRIC at the same metrics. `true` promises nothing.
+    pub fn take_and_tell(
+        &mut self,
+        now: u64,
+        iface: usize,
+        sender: Addr4,
+        hello: &Hello,
+    ) -> Result<(HelloTaken, bool), AllocError>
+        requires now { now < 2 ^ 62 }
+        requires iface { iface < length self.old.settings.interfaces }
+        requires lasts { 0 < hello.now.validity }
+        requires validity { hello.now.validity < 2 ^ 62 }
+        requires sound { SoundNeighbourhood self.old.settings now self.old.near }
+        ensures ok { IfOk result (λ told. (answer : HelloAnswer) × IsAnswer told.0 answer × TakesHello self.old.settings now iface sender hello.now self.old.near self.new.near answer) }
+        ensures same { IfOk result (λ told. told.1 ≡ false → SameNear self.old.near now self.new.near now) }
+        ensures sound { OnOk result (SoundNeighbourhood self.new.settings now self.new.near) }
+        ensures settings { self.new.settings ≡ self.old.settings }
+    {
         take_in(
             &self.settings,
             now,
@@ -61,7 +86,7 @@ impl<B: Bases> Nhdp<B> {
     }
 }
 
-/// Takes in a HELLO from that sender on an interface, as `take_hello` does.
+/// Takes in a HELLO from that sender on an interface, as `take_and_tell` does.
 fn take_in<
     L: Table<LinkKey, Link>,
     H: Table<TwoHopKey, TwoHop>,
@@ -77,33 +102,30 @@ fn take_in<
     two_hops: &mut [TwoHopSet<H>],
     neighbours: &mut NeighbourSet<N>,
     losts: &mut LostSet<O>,
-) -> Result<HelloTaken, AllocError>
+) -> Result<(HelloTaken, bool), AllocError>
     requires now { now < 2 ^ 62 }
     requires iface { iface < length settings.now.interfaces }
     requires lasts { 0 < hello.now.validity }
     requires validity { hello.now.validity < 2 ^ 62 }
     requires sound { SoundNeighbourhood settings.now now (near_with links.old two_hops.old neighbours.old losts.old) }
-    ensures ok { IfOk result (λ taken. (answer : HelloAnswer) × IsAnswer taken answer ×
+    ensures ok { IfOk result (λ told. (answer : HelloAnswer) × IsAnswer told.0 answer ×
         TakesHello settings.now now iface sender hello.now (near_with links.old two_hops.old neighbours.old losts.old) (near_with links.new two_hops.new neighbours.new losts.new) answer) }
+    ensures same { IfOk result (λ told. told.1 ≡ false →
+        SameNear (near_with links.old two_hops.old neighbours.old losts.old) now (near_with links.new two_hops.new neighbours.new losts.new) now) }
     ensures sound { OnOk result (SoundNeighbourhood settings.now now (near_with links.new two_hops.new neighbours.new losts.new)) }
 {
     match judge(settings, two_hops, neighbours, losts, iface, sender, hello)? {
-        Judgement::Breaks(number) => Ok(HelloTaken::Broken(number)),
-        Judgement::Overfills(base) => Ok(HelloTaken::Full(base)),
+        Judgement::Breaks(number) => Ok((HelloTaken::Broken(number), false)),
+        Judgement::Overfills(base) => Ok((HelloTaken::Full(base), false)),
         Judgement::Fits(own, telling) => {
+            let own = own.as_slice();
+            let repeated = repeats(
+                now, iface, hello, own, &telling, links, two_hops, neighbours,
+            );
             hear(
-                settings,
-                now,
-                iface,
-                hello,
-                own.as_slice(),
-                &telling,
-                links,
-                two_hops,
-                neighbours,
-                losts,
+                settings, now, iface, hello, own, &telling, links, two_hops, neighbours, losts,
             )?;
-            Ok(HelloTaken::Done)
+            Ok((HelloTaken::Done, !repeated))
         }
     }
 }

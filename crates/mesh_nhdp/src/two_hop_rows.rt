@@ -19,7 +19,7 @@ use mesh_nbrs::TwoHopSet;
 use std::alloc::{AllocError, Global};
 
 /// Whether the row tells of a neighbour of the sender (RFC 6130, section 12.6).
-fn is_looked_at(row: &HelloRow, own: &[Addr4], listed: &[Addr4]) -> bool
+pub fn is_looked_at(row: &HelloRow, own: &[Addr4], listed: &[Addr4]) -> bool
     ensures { IsTrue result ↔ LooksOn own.now listed.now row.now }
 {
     row.addr.prefix == 32
@@ -29,7 +29,7 @@ fn is_looked_at(row: &HelloRow, own: &[Addr4], listed: &[Addr4]) -> bool
 }
 
 /// Whether the row says that it is a SYMMETRIC neighbour.
-fn tells_symmetric(row: &HelloRow) -> bool
+pub fn tells_symmetric(row: &HelloRow) -> bool
     ensures { result ≡ tells_symmetric row.now.link row.now.other }
 {
     match row.link {
@@ -42,7 +42,7 @@ fn tells_symmetric(row: &HelloRow) -> bool
 }
 
 /// The neighbour metric where there is one, else the link metric.
-fn or_else(near: Option<Metric>, link: Option<Metric>) -> Option<Metric>
+pub fn or_else(near: Option<Metric>, link: Option<Metric>) -> Option<Metric>
     ensures { result ≡ or_else near link }
 {
     match near {

@@ -4,7 +4,6 @@ pub mod Pushed  -- core
 pub mod RowMoments  -- replay
 -- Lemmas of this crate alone.
 mod Chosen
-mod Deciding
 mod Kept
 mod Lists
 mod Nothing

@@ -1,11 +1,17 @@
-use Rattle.std.proofs.Common.{refl, subst}
+use Rattle.std.proofs.Common.{◌≡◌, ◌<◌, refl, sym, subst, Bool, true, false}
+use Rattle.std.specs.Prelude.{not}
 use Rattle.mesh_atoms.specs.TakesHello.{Taken, Broken_at, Breaks, Takes}
 use Rattle.mesh_hello.specs.Told.Telling.{told_of}
 use Rattle.mesh_nhdp.specs.declared.judge.Judgement.{Judgement}
 use Rattle.mesh_nhdp.specs.Judged.{Judges}
 use Rattle.mesh_nhdp.specs.NhdpState.{near_with}
 use Rattle.mesh_nhdp.proofs.Judges.{own_at, overfull, taken_sound}
+use Rattle.mesh_nhdp.proofs.RepeatsLaw.{repeats_same, unchanged_same}
 use Rattle.mesh_nhdp.proofs.take.take_in.Goals as goal
+
+not_false : (b : Bool) → not b ≡ false → b ≡ true
+not_false true h = refl
+not_false false h = sym h
 
 pub judge-requires-clause-iface : goal.judge-requires-clause-iface
 judge-requires-clause-iface g c = c.requires.iface
@@ -51,7 +57,7 @@ hear-requires-clause-validity g c = c.requires.validity
 pub hear-requires-clause-own : goal.hear-requires-clause-own
 hear-requires-clause-own g c =
     let near = near_with c.args.links.now c.args.two_hops.now c.args.neighbours.now c.args.losts.now in
-    own_at c.args.settings.now c.args.settings.now c.in-Fits.own c.as_slice.result.now refl c.as_slice.ensures
+    own_at c.args.settings.now c.args.settings.now c.in-Fits.own c.as_slice-own.result.now refl c.as_slice-own.ensures
     (subst (λ (j : Judgement). Judges c.args.settings.now c.args.iface c.args.sender c.args.hello.now near j) c.in-Fits.is (c.in_ok-number.ensures c.args.links.now)).4
 
 pub hear-requires-clause-told : goal.hear-requires-clause-told
@@ -76,3 +82,18 @@ returns-in_ok-hear-in-Fits-clause-sound g c =
     let judged = (subst (λ (j : Judgement). Judges c.args.settings.now c.args.iface c.args.sender c.args.hello.now near j) c.in-Fits.is (c.in_ok-number.ensures c.args.links.now)) in
     taken_sound c.args.settings.now c.args.settings.now c.args.now c.args.iface c.args.sender c.args.hello.now (told_of c.in-Fits.telling) near after judged.0 judged.1 c.requires.lasts
     c.requires.sound c.in_ok-hear-in-Fits.ensures judged.2 judged.3 refl
+
+pub returns-in-Breaks-clause-same : goal.returns-in-Breaks-clause-same
+returns-in-Breaks-clause-same g c = λ unchanged. unchanged_same _ c.args.now
+
+pub returns-in-Overfills-clause-same : goal.returns-in-Overfills-clause-same
+returns-in-Overfills-clause-same g c = λ unchanged. unchanged_same _ c.args.now
+
+pub returns-in_ok-hear-in-Fits-clause-same : goal.returns-in_ok-hear-in-Fits-clause-same
+returns-in_ok-hear-in-Fits-clause-same g c = λ unchanged.
+    let near = near_with c.args.links.now c.args.two_hops.now c.args.neighbours.now c.args.losts.now in
+    let after = near_with c.hear.new.links c.hear.new.two_hops c.hear.new.neighbours c.hear.new.losts in
+    let judged = (subst (λ (j : Judgement). Judges c.args.settings.now c.args.iface c.args.sender c.args.hello.now near j) c.in-Fits.is (c.in_ok-number.ensures c.args.links.now)) in
+    let own_is = own_at c.args.settings.now c.args.settings.now c.in-Fits.own c.as_slice-own.result.now refl c.as_slice-own.ensures judged.4 in
+    repeats_same c.args.settings.now c.args.now c.args.iface (told_of c.in-Fits.telling) c.args.hello.now c.as_slice-own.result.now own_is near after
+    (subst (λ n. 0 < n) (sym judged.1.validity) c.requires.lasts) c.requires.sound c.in_ok-hear-in-Fits.ensures (c.repeats-repeated.ensures (not_false c.repeats-repeated.result unchanged) c.args.losts.now)

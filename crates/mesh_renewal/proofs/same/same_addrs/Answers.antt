@@ -1,5 +1,5 @@
 use Rattle.std.proofs.lemmas.Slice.Eq.{slice_eq-Decides}
-use Rattle.mesh_renewal.proofs.Deciding.{addrs}
+use Rattle.mesh_machine.proofs.nhdp.Deciding.{addrs}
 use Rattle.mesh_renewal.proofs.same.same_addrs.Goals as goal
 
 pub returns : goal.returns

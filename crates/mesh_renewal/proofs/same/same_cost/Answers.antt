@@ -1,4 +1,4 @@
-use Rattle.mesh_renewal.proofs.Deciding.{metrics}
+use Rattle.mesh_machine.proofs.nhdp.Deciding.{metrics}
 use Rattle.mesh_renewal.proofs.same.same_cost.Goals as goal
 
 pub returns : goal.returns

@@ -1,4 +1,4 @@
-use Rattle.mesh_renewal.proofs.Deciding.{known_metrics}
+use Rattle.mesh_machine.proofs.nhdp.Deciding.{known_metrics}
 use Rattle.mesh_renewal.proofs.same.same_metric.Goals as goal
 
 pub returns : goal.returns

@@ -1,4 +1,4 @@
-use Rattle.mesh_renewal.proofs.Deciding.{willings}
+use Rattle.mesh_machine.proofs.nhdp.Deciding.{willings}
 use Rattle.mesh_renewal.proofs.same.same_willing.Goals as goal
 
 pub returns : goal.returns

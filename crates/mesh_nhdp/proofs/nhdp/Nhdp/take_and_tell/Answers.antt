@@ -1,10 +1,11 @@
 use Rattle.std.proofs.Common.{◌<◌, length, ap, sym, subst, arith}
 use Rattle.mesh_atoms.specs.Sound.{SoundNeighbourhood}
 use Rattle.mesh_atoms.specs.TakesHello.{TakesHello}
+use Rattle.mesh_nbrs.specs.Same.{SameNear}
 use Rattle.mesh_nhdp.specs.NhdpState.{NhdpState}
 use Rattle.mesh_nhdp.proofs.Expiry.{on_ok}
 use Rattle.mesh_nhdp.proofs.Held.{both_ok, given, back, carried}
-use Rattle.mesh_nhdp.proofs.nhdp.Nhdp.take_hello.Goals as goal
+use Rattle.mesh_nhdp.proofs.nhdp.Nhdp.take_and_tell.Goals as goal
 
 pub take_in-requires-clause-now : goal.take_in-requires-clause-now
 take_in-requires-clause-now g c = c.requires.now
@@ -41,3 +42,10 @@ returns-clause-sound g c =
 
 pub returns-clause-settings : goal.returns-clause-settings
 returns-clause-settings g c = ap (λ (h : NhdpState). h.settings) c.self.view_is
+
+pub returns-clause-same : goal.returns-clause-same
+returns-clause-same g c =
+    let begins = given (λ s n. SoundNeighbourhood s c.args.now n) c.args.self.now _ c.deref_mut.result.now c.deref_mut-2.result.now c.self.view_is c.deref_mut.ensures.value c.deref_mut-2.ensures.value c.requires.sound in
+    both_ok c.take_in.result c.take_in.ensures.sound c.take_in.ensures.same (λ told sound same unchanged.
+    carried (λ s o n. SameNear o c.args.now n c.args.now) c.args.self.now _ c.args.now c.args.now c.deref_mut.result.now c.take_in.new.links c.deref_mut-2.result.now c.take_in.new.two_hops c.take_in.new.neighbours c.take_in.new.losts
+    c.self.inside.links.len c.self.inside.two_hops.len c.self.view_is c.deref_mut.ensures.value c.deref_mut-2.ensures.value (omega (arith, c.deref_mut.ensures.len)) (omega (arith, c.deref_mut-2.ensures.len)) begins sound (same unchanged))

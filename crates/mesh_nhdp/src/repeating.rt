@@ -1,0 +1,206 @@
+//! Whether a HELLO repeats what is held already, so that its taking changes nothing but moments.
+ghost use Rattle.std.specs.Prelude.{◌≡◌, ◌↔◌, ◌<◌, ◌&&◌, length, IsTrue};
+ghost use Rattle.mesh_atoms.specs.Base.{Base, base_of};
+ghost use Rattle.mesh_atoms.specs.HelloTold.{two_hop_of};
+ghost use Rattle.mesh_hello.specs.Told.Telling.{told_of};
+ghost use Rattle.mesh_nhdp.specs.NhdpState.{near_with};
+ghost use Rattle.mesh_nhdp.specs.Repeats.{Repeats, RepeatsLink, RepeatsNeighbour, RepeatsRow, RepeatsRows, RepeatsStatus};
+ghost use Rattle.mesh_nhdp.specs.Rows.{LooksOn};
+
+use crate::two_hop_rows::{is_looked_at, or_else, tells_symmetric};
+use mesh_atoms::{
+    Addr4, Hello, HelloRow, Link, LinkKey, LinkStatus, Lost, Metric, Neighbour, Shown, TwoHop,
+    TwoHopKey, Willing,
+};
+use mesh_expire::Table;
+use mesh_hello::Telling;
+use mesh_links::LinkSet;
+use mesh_nbrs::{NeighbourSet, TwoHopSet};
+
+/// Whether two metrics, which may be unknown, are the same.
+fn same_metric(metric: Option<Metric>, other: Option<Metric>) -> bool
+    ensures { IsTrue result ↔ (metric ≡ other) }
+{
+    metric == other
+}
+
+/// Whether two routers are as willing.
+fn same_willing(willing: Willing, other: Willing) -> bool
+    ensures { IsTrue result ↔ (willing ≡ other) }
+{
+    willing == other
+}
+
+/// Whether two lists of addresses are the same.
+fn same_addrs(addrs: &[Addr4], others: &[Addr4]) -> bool
+    ensures { IsTrue result ↔ (addrs.now ≡ others.now) }
+{
+    addrs == others
+}
+
+/// Whether two flags are the same.
+fn same_flag(flag: bool, other: bool) -> bool
+    ensures { IsTrue result ↔ (flag ≡ other) }
+{
+    flag == other
+}
+
+/// Whether what a HELLO shows of the link leaves that SYMMETRIC, at the same metric, or not SYMMETRIC.
+fn repeats_status(link: &Link, shown: &Shown, now: u64) -> bool
+    ensures { IsTrue result → RepeatsStatus shown.now now link.now shown.now.status }
+{
+    match shown.status {
+        None => true,
+        Some(LinkStatus::Lost) => !link.is_symmetric(now),
+        Some(_) => {
+            link.pending
+                || link.lost
+                || link.is_symmetric(now) && same_metric(link.link_out, shown.link_out)
+        }
+    }
+}
+
+/// Whether the 2-hop tuple has the metrics that the row shows.
+fn repeats_metrics(tuple: &TwoHop, row: &HelloRow) -> bool
+    ensures { IsTrue result → tuple.now ≡ two_hop_of row.now }
+{
+    same_metric(
+        tuple.metric_in,
+        or_else(row.metrics.near_in, row.metrics.link_in),
+    ) && same_metric(
+        tuple.metric_out,
+        or_else(row.metrics.near_out, row.metrics.link_out),
+    )
+}
+
+/// Whether the 2-hop tuple of the row's address stands as the row makes it, but for its moment.
+fn repeats_row<H: Table<TwoHopKey, TwoHop>>(
+    two_hops: &TwoHopSet<H>,
+    link: LinkKey,
+    row: &HelloRow,
+) -> bool
+    ensures { IsTrue result → RepeatsRow two_hops.now link row.now }
+{
+    let addr = row.addr.addr;
+    match two_hops.table().get(&TwoHopKey { link, addr }) {
+        Some((tuple, _)) => tells_symmetric(row) && repeats_metrics(tuple, row),
+        None => !tells_symmetric(row),
+    }
+}
+
+/// The same, where the row tells of a neighbour of the sender.
+fn repeats_if_looked_at<H: Table<TwoHopKey, TwoHop>>(
+    two_hops: &TwoHopSet<H>,
+    link: LinkKey,
+    row: &HelloRow,
+    own: &[Addr4],
+    listed: &[Addr4],
+) -> bool
+    ensures { IsTrue result → LooksOn own.now listed.now row.now → RepeatsRow two_hops.now link row.now }
+{
+    !is_looked_at(row, own, listed) || repeats_row(two_hops, link, row)
+}
+
+/// The same of all rows. Looks up a tuple for each, up to the first that tells something new.
+fn repeats_rows<H: Table<TwoHopKey, TwoHop>>(
+    two_hops: &TwoHopSet<H>,
+    link: LinkKey,
+    hello: &Hello,
+    own: &[Addr4],
+    listed: &[Addr4],
+) -> bool
+    ensures { IsTrue result → RepeatsRows own.now listed.now two_hops.now link hello.now }
+{
+    for row in hello.rows.as_slice() {
+        if !repeats_if_looked_at(two_hops, link, row, own, listed) {
+            return false;
+        }
+    }
+    true
+}
+
+/// Whether the link has the sending list, and what the HELLO shows of it leaves it SYMMETRIC, at the same metric, or not SYMMETRIC.
+fn is_shown(link: &Link, shown: &Shown, now: u64) -> bool
+    ensures addrs { IsTrue result → link.now.addrs ≡ shown.now.sending }
+    ensures status { IsTrue result → RepeatsStatus shown.now now link.now shown.now.status }
+{
+    if !repeats_status(link, shown, now) {
+        return false;
+    }
+    same_addrs(link.addrs.as_slice(), shown.sending.as_slice())
+}
+
+/// Whether the link that the HELLO came over stands, and its 2-hop tuples where it is SYMMETRIC.
+fn repeats_link<L: Table<LinkKey, Link>, H: Table<TwoHopKey, TwoHop>>(
+    now: u64,
+    hello: &Hello,
+    own: &[Addr4],
+    telling: &Telling,
+    links: &LinkSet<L>,
+    two_hops: &TwoHopSet<H>,
+) -> bool
+    ensures { IsTrue result → RepeatsLink now own.now (told_of telling.now) hello.now links.now two_hops.now }
+{
+    let Some((link, _)) = links.table().get(&telling.least) else {
+        return false;
+    };
+    if !is_shown(link, &telling.shown, now) {
+        return false;
+    }
+    if !link.is_symmetric(now) {
+        return true;
+    }
+    let listed = telling.listed.as_slice();
+    repeats_rows(two_hops, telling.least, hello, own, listed)
+}
+
+/// Whether the neighbour is as the HELLO tells of it, but for what its links say.
+fn is_told(neighbour: &Neighbour, telling: &Telling) -> bool
+    ensures addrs { IsTrue result → neighbour.now.addrs ≡ telling.now.listed }
+    ensures willing { IsTrue result → neighbour.now.willing ≡ telling.now.willing }
+    ensures selector { IsTrue result → neighbour.now.selector ≡ (telling.now.routing && neighbour.now.symmetric) }
+{
+    let selector = telling.routing && neighbour.symmetric;
+    if !same_flag(neighbour.selector, selector) {
+        return false;
+    }
+    if !same_willing(neighbour.willing, telling.willing) {
+        return false;
+    }
+    same_addrs(neighbour.addrs.as_slice(), telling.listed.as_slice())
+}
+
+/// Whether the neighbour that the HELLO tells of stands, with the same addresses, willingness and routing selector flag.
+fn repeats_neighbour<N: Table<Addr4, Neighbour>>(
+    neighbours: &NeighbourSet<N>,
+    telling: &Telling,
+) -> bool
+    ensures { IsTrue result → RepeatsNeighbour (told_of telling.now) neighbours.now }
+{
+    let Some((neighbour, _)) = neighbours.table().get(&telling.originator) else {
+        return false;
+    };
+    is_told(neighbour, telling)
+}
+
+/// Whether the HELLO repeats what is held already, but for moments; `own` has the router's addresses. Looks up the neighbour and the link
+/// that it tells of, and a 2-hop tuple for each row. Takes no memory.
+pub fn repeats<L: Table<LinkKey, Link>, H: Table<TwoHopKey, TwoHop>, N: Table<Addr4, Neighbour>>(
+    now: u64,
+    iface: usize,
+    hello: &Hello,
+    own: &[Addr4],
+    telling: &Telling,
+    links: &[LinkSet<L>],
+    two_hops: &[TwoHopSet<H>],
+    neighbours: &NeighbourSet<N>,
+) -> bool
+    requires links { iface < length links.now }
+    requires two_hops { iface < length two_hops.now }
+    ensures { IsTrue result → (losts : Base Addr4 Lost) → Repeats now iface own.now (told_of telling.now) hello.now (near_with links.now two_hops.now neighbours.now losts) }
+{
+    if !repeats_neighbour(neighbours, telling) {
+        return false;
+    }
+    repeats_link(now, hello, own, telling, &links[iface], &two_hops[iface])
+}
