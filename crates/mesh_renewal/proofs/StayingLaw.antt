@@ -16,7 +16,7 @@ use Rattle.mesh_renewal.proofs.RowMoments.{rows_stay, some_or_none}
 pub still_renews : (old : State) (now : ℕ) (new : State) → Sound old → SoundTopology new.settings now new.bases.topology → StaysAt old now new.bases → new.settings ≡ old.settings → (before : State) → new.settings ≡ before.settings →
     new.relays ≡ old.relays → new.routes ≡ old.routes → new.rows ≡ old.rows → new.rows ≡ before.rows → new.ansn ≡ before.ansn → new.emptied ≡ before.emptied → new.last ≡ now → Renews before now new.bases new
 still_renews old now new sound sound_new stays settings before settings_before relays routes rows rows_before ansn emptied last =
-    let (own, arcs, ways, two_hops) = bases_give_same old new old.last now sound.neighbourhood sound.topology sound_new settings stays.neighbourhood stays.symmetric stays.advertised in
+    let (own, arcs, ways, two_hops) = bases_give_same old new old.last now sound.neighbourhood stays.tables sound.topology sound_new settings stays.near stays.advertised in
     record {
       settings = settings_before;
       bases_are = refl;

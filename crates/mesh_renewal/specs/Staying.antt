@@ -1,16 +1,17 @@
 -- Events that leave relays, advertised rows and routes as they are.
 use Rattle.std.specs.Prelude.{◌≡◌, ℕ}
+use Rattle.mesh_atoms.specs.Live.{HasTables}
 use Rattle.mesh_atoms.specs.Sound.{Sound, SoundTopology}
 use Rattle.mesh_atoms.specs.State.{Bases, State}
+use Rattle.mesh_nbrs.specs.Same.{SameNear}
 use Rattle.mesh_topo.specs.Same.{SameAdvertised}
-use Rattle.mesh_routes.specs.Staying.{StaySymmetric}
 use Rattle.mesh_machine.specs.Renewal.{Renews}
 
 -- an event at now leaves these bases, in which nothing has changed that relays, advertised rows and routes depend on: the neighbourhood is
--- as it was at the last event, each link SYMMETRIC where it was so then, and others advertise the same
+-- as it was at the last event but for moments, and others advertise the same
 pub record StaysAt (old : State) (now : ℕ) (bases : Bases) : Type 0 where
-  pub neighbourhood : bases.neighbourhood ≡ old.bases.neighbourhood
-  pub symmetric : StaySymmetric old.bases.neighbourhood old.last now
+  pub tables : HasTables bases.neighbourhood
+  pub near : SameNear old.bases.neighbourhood old.last bases.neighbourhood now
   pub advertised : SameAdvertised old.bases.topology bases.topology
 
 -- at now the router still has its relays, routes and advertised rows, with their ANSN

@@ -1,6 +1,6 @@
--- The same neighbourhood, with links that stay SYMMETRIC, and the same topology give the same of all that routes and graphs are made of.
+-- The same neighbourhood but for moments, and the same topology, give the same of all that routes and graphs are made of.
 use Rattle.std.proofs.Common.{◌≡◌, ◌↔◌, ℕ, refl, sym, ◌∙◌, ap, subst, Option, Some, None}
-use Rattle.std.specs.Prelude.{Bool, true, slice_get, option_map}
+use Rattle.std.specs.Prelude.{Bool, true, false, cond, option_map}
 use Rattle.std.specs.Cmp.{IsEquivalence}
 use Rattle.mesh_atoms.specs.declared.addr.Addr4.{Addr4}
 use Rattle.mesh_atoms.specs.declared.codes.metric.Metric.{Metric}
@@ -12,37 +12,63 @@ use Rattle.mesh_atoms.specs.declared.tuples.Neighbour.{Neighbour}
 use Rattle.mesh_atoms.specs.declared.settings.RouterSettings.{RouterSettings}
 use Rattle.mesh_atoms.specs.Base.{Base, Has, HasDistinctKeys, find}
 use Rattle.mesh_atoms.specs.Routes.{IsWayTo}
-use Rattle.mesh_atoms.specs.Sound.{SoundTopology}
-use Rattle.mesh_atoms.specs.State.{Neighbourhood, Topology, State, is_symmetric, HasLink, HasTwoHop, HasSymmetric, HasAddress, IsOriginator}
-use Rattle.mesh_atoms.proofs.Lookups.{tests_symmetric, looks_up_links, has_found, router_equiv, same_router, address_equiv, same_address, network_equiv, same_network}
+use Rattle.mesh_atoms.specs.Live.{HasTables}
+use Rattle.mesh_atoms.specs.Sound.{SoundNeighbourhood, SoundTopology}
+use Rattle.mesh_atoms.specs.State.{Neighbourhood, Topology, State, is_symmetric, link_at, two_hop_at, neighbour_at, HasTwoHop, HasSymmetric, HasAddress, IsOriginator}
+use Rattle.mesh_atoms.proofs.Lookups.{tests_symmetric, looks_up_links, looks_up_two_hops, looks_up_neighbours, has_found, router_equiv, same_router, address_equiv, same_address, network_equiv, same_network}
+use Rattle.mesh_nbrs.specs.Same.{SameNear, way_at}
 use Rattle.mesh_topo.specs.Same.{SameAdvertised}
 use Rattle.mesh_topo.specs.TcSets.Same.{SaysSame}
 use Rattle.mesh_topo.specs.TcSets.Tuples.{router_says, address_says, network_says}
 use Rattle.mesh_routes.specs.Staying.{SameOwn, SameWays, SameTwoHops, BasesGiveSame}
 use Rattle.mesh_routes.proofs.StayingLaw.{TellsAlso, same_own, arcs_stay}
 
--- The same neighbourhood
+-- The same neighbourhood but for moments
 
-module _ (s t : State) (near : t.bases.neighbourhood ≡ s.bases.neighbourhood) where
-  link_by : (i : ℕ) (key : LinkKey) (link : Link) → HasLink s i key link → HasLink t i key link
-  link_by i key link = subst (λ (n : Neighbourhood). (base : Base LinkKey Link) × (slice_get n.links i ≡ Some base) × Has base key link) (sym near)
+near_back : {old new : Neighbourhood} {last now : ℕ} → SameNear old last new now → SameNear new now old last
+near_back same = record { neighbours = λ q. sym (same.neighbours q); two_hops = λ i q. sym (same.two_hops i q); ways = λ i key. sym (same.ways i key) }
 
+-- the record that stands in the one base stands in the other
+tuple_by : {V : Type 0} (x : V) (was is : Option (V × ℕ)) → option_map (λ (e : V × ℕ). e.0) is ≡ option_map (λ (e : V × ℕ). e.0) was → (until : ℕ) → was ≡ Some (x, until) → (moment : ℕ) × (is ≡ Some (x, moment))
+tuple_by x was None same until at = absurd (let e = same ∙ ap (option_map (λ e. e.0)) at in cc)
+tuple_by {V} x was (Some e) same until at =
+    let value : e.0 ≡ x = (let f = same ∙ ap (option_map (λ (e : V × ℕ). e.0)) at in cc) in (e.1, ap (λ (y : V). let o : Option (V × ℕ) = Some (y, e.1) in o) value)
+
+-- a way is by a SYMMETRIC link
+way_from : (later : ℕ) (o : Option (Link × ℕ)) (m : Metric) → way_at later o ≡ Some m → (e : Link × ℕ) × (o ≡ Some e) × (is_symmetric e.0 later ≡ true) × (e.0.link_out ≡ Some m)
+way_from later None m is = absurd cc
+way_from later (Some e) m is = by_case (is_symmetric e.0 later) refl is
+  where
+    by_case : (b : Bool) → is_symmetric e.0 later ≡ b → cond b e.0.link_out None ≡ Some m → (f : Link × ℕ) × (Some e ≡ Some f) × (is_symmetric f.0 later ≡ true) × (f.0.link_out ≡ Some m)
+    by_case true symmetric out = (e, refl, symmetric, out)
+    by_case false symmetric out = absurd cc
+
+way_to : (now : ℕ) (e : Link × ℕ) (m : Metric) → is_symmetric e.0 now ≡ true → e.0.link_out ≡ Some m → way_at now (Some e) ≡ Some m
+way_to now e m symmetric out = ap (λ (b : Bool). cond b e.0.link_out None) symmetric ∙ out
+
+module _ (s t : State) (now later : ℕ) (S : HasTables s.bases.neighbourhood) (T : HasTables t.bases.neighbourhood) (same : SameNear s.bases.neighbourhood now t.bases.neighbourhood later) where
   two_hop_by : (i : ℕ) (key : TwoHopKey) (x : TwoHop) → HasTwoHop s i key x → HasTwoHop t i key x
-  two_hop_by i key x = subst (λ (n : Neighbourhood). (base : Base TwoHopKey TwoHop) × (slice_get n.two_hops i ≡ Some base) × Has base key x) (sym near)
+  two_hop_by i key x has =
+      let (until, at) = (looks_up_two_hops s i key x (S.two_hops i)).0 has in
+      (looks_up_two_hops t i key x (T.two_hops i)).1 (tuple_by x (two_hop_at s.bases.neighbourhood i key) (two_hop_at t.bases.neighbourhood i key) (same.two_hops i key) until at)
 
   neighbour_by : (o : Addr4) (n : Neighbour) → HasSymmetric s o n → HasSymmetric t o n
-  neighbour_by o n (has, symmetric) = (subst (λ (x : Neighbourhood). Has x.neighbours o n) (sym near) has, symmetric)
+  neighbour_by o n (has, symmetric) =
+      let (until, at) = (looks_up_neighbours s o n S.neighbours).0 has in
+      ((looks_up_neighbours t o n T.neighbours).1 (tuple_by n (neighbour_at s.bases.neighbourhood o) (neighbour_at t.bases.neighbourhood o) (same.neighbours o) until at), symmetric)
 
-  -- with links that are SYMMETRIC for the one at now and for the other at later
-  way_by : (now later : ℕ) → ((i : ℕ) (key : LinkKey) (link : Link) → HasLink s i key link → is_symmetric link later ≡ is_symmetric link now) → (n : Neighbour) (i : ℕ) (key : LinkKey) (m : Metric) →
-      IsWayTo s now n i key m → IsWayTo t later n i key m
-  way_by now later same n i key m way = record {
-    link = way.link;
-    stands = link_by i key way.link way.stands;
-    state = (tests_symmetric way.link later).0 (same i key way.link way.stands ∙ (tests_symmetric way.link now).1 way.state);
-    of_it = way.of_it;
-    out = way.out;
-  }
+  way_by : (n : Neighbour) (i : ℕ) (key : LinkKey) (m : Metric) → IsWayTo s now n i key m → IsWayTo t later n i key m
+  way_by n i key m way =
+      let (until, at) = (looks_up_links s i key way.link (S.links i)).0 way.stands in
+      let was : way_at now (link_at s.bases.neighbourhood i key) ≡ Some m = ap (way_at now) at ∙ way_to now (way.link, until) m ((tests_symmetric way.link now).1 way.state) way.out in
+      let (e, is, symmetric, out) = way_from later (link_at t.bases.neighbourhood i key) m (same.ways i key ∙ was) in
+      record {
+        link = e.0;
+        stands = (looks_up_links t i key e.0 (T.links i)).1 (e.1, is);
+        state = (tests_symmetric e.0 later).0 symmetric;
+        of_it = way.of_it;
+        out = out;
+      }
 
 -- The same is advertised
 
@@ -71,18 +97,20 @@ advertised_back same = record { routers = λ q. sym (same.routers q); addresses 
 
 -- The whole
 
+pub tables_of : {settings : RouterSettings} {now : ℕ} {near : Neighbourhood} → SoundNeighbourhood settings now near → HasTables near
+tables_of sound = record { links = sound.distinct_links; two_hops = λ i. (sound.two_hops i).distinct; neighbours = sound.distinct_neighbours; losts = sound.distinct_losts }
+
 pub bases_give_same : BasesGiveSame
-bases_give_same s t now later sound topology topology_later settings near symmetric advertised =
-    let is_still : (i : ℕ) (key : LinkKey) (link : Link) → HasLink s i key link → is_symmetric link later ≡ is_symmetric link now = λ i key link has.
-    let (until, at) = (looks_up_links s i key link (sound.distinct_links i)).0 has in symmetric i key (link, until) at in
-    let was : (i : ℕ) (key : LinkKey) (link : Link) → HasLink t i key link → is_symmetric link now ≡ is_symmetric link later = λ i key link has. sym (is_still i key link (link_by t s (sym near) i key link has)) in
+bases_give_same s t now later sound tables topology topology_later settings same advertised =
+    let S : HasTables s.bases.neighbourhood = tables_of sound in
+    let back = near_back same in
     let own : SameOwn s t = same_own s t
     (λ a. subst (λ (r : RouterSettings). IsOriginator s.settings a ↔ IsOriginator r a) (sym settings) (λ x. x, λ x. x))
     (λ a. subst (λ (r : RouterSettings). HasAddress s.settings a ↔ HasAddress r a) (sym settings) (λ x. x, λ x. x))
     (ap (λ (r : RouterSettings). r.attached) settings) in
     let ways : SameWays s now t later = record {
-      neighbours = λ o n. (neighbour_by s t near o n, neighbour_by t s (sym near) o n);
-      ways = λ n i key m. (way_by s t near now later is_still n i key m, way_by t s (sym near) later now was n i key m);
+      neighbours = λ o n. (neighbour_by s t now later S tables same o n, neighbour_by t s later now tables S back o n);
+      ways = λ n i key m. (way_by s t now later S tables same n i key m, way_by t s later now tables S back n i key m);
     } in
-    let two_hops : SameTwoHops s t = λ i key x. (two_hop_by s t near i key x, two_hop_by t s (sym near) i key x) in
+    let two_hops : SameTwoHops s t = λ i key x. (two_hop_by s t now later S tables same i key x, two_hop_by t s later now tables S back i key x) in
     (own, arcs_stay own ways two_hops (tells_also topology topology_later advertised) (tells_also topology_later topology (advertised_back advertised)), ways, two_hops)

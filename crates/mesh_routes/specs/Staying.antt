@@ -1,18 +1,19 @@
 -- When routes, and the graphs from which relays are chosen, stay: all that they are made of is the same.
-use Rattle.std.specs.Prelude.{◌≡◌, ℕ, ◌↔◌, Some}
+use Rattle.std.specs.Prelude.{◌≡◌, ℕ, ◌↔◌}
 use Rattle.mesh_atoms.specs.declared.addr.Addr4.{Addr4}
 use Rattle.mesh_atoms.specs.declared.addr.NetAddr.{NetAddr}
 use Rattle.mesh_atoms.specs.declared.codes.metric.Metric.{Metric}
 use Rattle.mesh_atoms.specs.declared.graphs.NeighbourGraph.{NeighbourGraph}
 use Rattle.mesh_atoms.specs.declared.tuples.LinkKey.{LinkKey}
-use Rattle.mesh_atoms.specs.declared.tuples.Link.{Link}
 use Rattle.mesh_atoms.specs.declared.tuples.Neighbour.{Neighbour}
 use Rattle.mesh_atoms.specs.declared.tuples.TwoHop.{TwoHop}
 use Rattle.mesh_atoms.specs.declared.tuples.TwoHopKey.{TwoHopKey}
+use Rattle.mesh_atoms.specs.Live.{HasTables}
 use Rattle.mesh_atoms.specs.RelayGraphs.{IsRoutingGraph, IsFloodingGraph}
 use Rattle.mesh_atoms.specs.Routes.{RouteArc, IsOutside, IsWayTo, AreRoutes}
 use Rattle.mesh_atoms.specs.Sound.{SoundNeighbourhood, SoundTopology}
-use Rattle.mesh_atoms.specs.State.{State, Neighbourhood, HasTwoHop, HasSymmetric, IsOriginator, is_symmetric, link_at}
+use Rattle.mesh_atoms.specs.State.{State, HasTwoHop, HasSymmetric, IsOriginator}
+use Rattle.mesh_nbrs.specs.Same.{SameNear}
 use Rattle.mesh_topo.specs.Same.{SameAdvertised}
 
 -- the same originator, and the same own addresses and networks
@@ -45,14 +46,10 @@ GraphsStay =
     (s t : State) (now later : ℕ) (g : NeighbourGraph) → SameWays s now t later → SameTwoHops s t →
     (IsRoutingGraph s g → IsRoutingGraph t g) × ((i : ℕ) → IsFloodingGraph s now i g → IsFloodingGraph t later i g)
 
--- each link is SYMMETRIC at now exactly where it was so at last
-abbrev pub StaySymmetric : Neighbourhood → ℕ → ℕ → Type 0
-StaySymmetric near last now = (i : ℕ) (key : LinkKey) (e : Link × ℕ) → link_at near i key ≡ Some e → is_symmetric e.0 now ≡ is_symmetric e.0 last
-
--- the same settings and neighbourhood, each link SYMMETRIC where it was so, and others that advertise the same: then all of that is the same
+-- the same settings, the same neighbourhood but for moments, and others that advertise the same: then all of that is the same
 abbrev pub BasesGiveSame : Type 0
 BasesGiveSame =
-    (s t : State) (now later : ℕ) → SoundNeighbourhood s.settings now s.bases.neighbourhood →
+    (s t : State) (now later : ℕ) → SoundNeighbourhood s.settings now s.bases.neighbourhood → HasTables t.bases.neighbourhood →
     SoundTopology s.settings now s.bases.topology → SoundTopology t.settings later t.bases.topology →
-    t.settings ≡ s.settings → t.bases.neighbourhood ≡ s.bases.neighbourhood → StaySymmetric s.bases.neighbourhood now later →
+    t.settings ≡ s.settings → SameNear s.bases.neighbourhood now t.bases.neighbourhood later →
     SameAdvertised s.bases.topology t.bases.topology → SameOwn s t × SameArcs s t × SameWays s now t later × SameTwoHops s t

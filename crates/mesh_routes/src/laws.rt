@@ -3,8 +3,8 @@ ghost use Rattle.mesh_routes.specs.Staying.{BasesGiveSame, GraphsStay, RoutesSta
 
 /// Routes, and the graphs from which relays are chosen, stay where all that they are made of is the same, whatever the moment. The
 /// same arcs of the own graph, symmetric neighbours and ways to them keep the routes (RFC 7181, section 19); the same neighbours,
-/// ways and 2-hop tuples keep the graphs (section 18). Where the settings and the neighbourhood are as they were, each link SYMMETRIC
-/// where it was so, and others advertise the same, all of that is the same. It does nothing.
+/// ways and 2-hop tuples keep the graphs (section 18). Where the settings are as they were, the neighbourhood is so but for moments,
+/// and others advertise the same, all of that is the same. It does nothing.
 pub fn routes_and_graphs_stay()
     ensures routes { RoutesStay }
     ensures graphs { GraphsStay }

@@ -5,7 +5,6 @@ use Rattle.mesh_atoms.specs.Live.{Live}
 use Rattle.mesh_atoms.specs.Sound.{Sound}
 use Rattle.mesh_machine.specs.Laws.{SoundBases}
 use Rattle.mesh_machine.proofs.Soundness.{bases_of, live_bases_sound}
-use Rattle.mesh_nhdp.specs.Staying.{AllIsAsItWas}
 use Rattle.mesh_core.specs.Held.Held.{Held}
 use Rattle.mesh_core.specs.Held.Quiet.{IsQuiet}
 use Rattle.mesh_renewal.specs.declared.derived.Derived.{Derived}
@@ -34,13 +33,6 @@ live_held old new derived now sound live same =
     subst (λ (r : RouterSettings). SoundBases r now new.bases) (sym same)
     (live_bases_sound old.settings derived.last now old.bases new.bases (bases_of (state_of old derived) sound) live)
 
--- an event that leaves all as it was at the last one ends quietly
-pub ends_quietly : (old new : Held) (derived : Derived) (now : ℕ) → Sound (state_of old derived) → new.settings ≡ old.settings → IsQuiet old.bases new.bases → AllIsAsItWas old.settings derived.last now old.bases.neighbourhood →
-    EndsQuietly new now derived
-ends_quietly old new derived now sound same quiet as_it_was = record {
-  before = state_of old derived;
-  sound = sound;
-  has = has_own old derived;
-  settings = sym same;
-  stays = record { neighbourhood = quiet.neighbourhood; symmetric = λ i key e at. (as_it_was.links i key e at).symmetric; advertised = quiet.advertised };
-}
+-- an event that leaves all as it was at the last one, but for moments, ends quietly
+pub ends_quietly : (old new : Held) (derived : Derived) (now : ℕ) → Sound (state_of old derived) → new.settings ≡ old.settings → IsQuiet old.bases derived.last new.bases now → EndsQuietly new now derived
+ends_quietly old new derived now sound same quiet = record { before = state_of old derived; sound = sound; has = has_own old derived; settings = sym same; quiet = quiet }

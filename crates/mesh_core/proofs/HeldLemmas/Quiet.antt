@@ -1,11 +1,12 @@
 -- Where what relays, advertised rows and routes depend on stays.
-use Rattle.std.proofs.Common.{◌≡◌, ◌≢◌, ℕ, refl, ◌∙◌, ap, ◌&&◌, not, Bool, true, false, IsTrue}
-use Rattle.mesh_atoms.specs.declared.addr.Addr4.{Addr4}
-use Rattle.mesh_atoms.specs.declared.hello.Hello.{Hello}
+use Rattle.std.proofs.Common.{◌≡◌, ℕ, refl, sym, subst, ◌∙◌, ap, ◌&&◌, not, Bool, true, false, IsTrue, Option, Some, None}
+use Rattle.std.specs.Prelude.{cond}
 use Rattle.mesh_atoms.specs.declared.settings.RouterSettings.{RouterSettings}
+use Rattle.mesh_atoms.specs.declared.tuples.Link.{Link}
 use Rattle.mesh_atoms.specs.Base.{router_eq, address_eq, network_eq}
-use Rattle.mesh_atoms.specs.State.{Neighbourhood, Topology, Bases}
-use Rattle.mesh_atoms.specs.TakesHello.{HelloAnswer, Taken, TakesHello, Breaks, Overfull, Overfull_two_hops, Takes}
+use Rattle.mesh_atoms.specs.State.{Neighbourhood, Topology, Bases, is_symmetric, link_at}
+use Rattle.mesh_nbrs.specs.Same.{SameNear, way_at}
+use Rattle.mesh_nhdp.specs.Staying.{AllIsAsItWas}
 use Rattle.mesh_topo.specs.Same.{SameAdvertised}
 use Rattle.mesh_topo.specs.TcSets.Tuples.{router_says, address_says, network_says}
 use Rattle.mesh_topo.proofs.TcSetsLemmas.Laws.{same_after, same_equal}
@@ -34,16 +35,30 @@ advertised_after old mid new h k = record {
   networks = same_after network_eq network_says old.networks mid.networks new.networks h.networks k.networks;
 }
 
-pub quiet_equal : (old new : Bases) → new.neighbourhood ≡ old.neighbourhood → new.topology ≡ old.topology → IsQuiet old new
-quiet_equal old new near topology = record { neighbourhood = near; advertised = advertised_equal old.topology new.topology topology }
+near_after : (old : Neighbourhood) (last : ℕ) (mid : Neighbourhood) (then : ℕ) (new : Neighbourhood) (now : ℕ) → SameNear old last mid then → SameNear mid then new now → SameNear old last new now
+near_after old last mid then new now h k = record { neighbours = λ q. k.neighbours q ∙ h.neighbours q; two_hops = λ i q. k.two_hops i q ∙ h.two_hops i q; ways = λ i key. k.ways i key ∙ h.ways i key }
+
+pub near_equal : (old new : Neighbourhood) (now : ℕ) → new ≡ old → SameNear old now new now
+near_equal old new now is = subst (λ (n : Neighbourhood). SameNear old now n now) (sym is) (record { neighbours = λ q. refl; two_hops = λ i q. refl; ways = λ i key. refl })
+
+pub quiet_equal : (old new : Bases) (now : ℕ) → new.neighbourhood ≡ old.neighbourhood → new.topology ≡ old.topology → IsQuiet old now new now
+quiet_equal old new now near topology = record { near = near_equal old.neighbourhood new.neighbourhood now near; advertised = advertised_equal old.topology new.topology topology }
 
 -- one quiet change after the other
-pub quiet_after : (old mid new : Bases) → IsQuiet old mid → IsQuiet mid new → IsQuiet old new
-quiet_after old mid new h k = record { neighbourhood = k.neighbourhood ∙ h.neighbourhood; advertised = advertised_after old.topology mid.topology new.topology h.advertised k.advertised }
+pub quiet_after : (old : Bases) (last : ℕ) (mid : Bases) (then : ℕ) (new : Bases) (now : ℕ) → IsQuiet old last mid then → IsQuiet mid then new now → IsQuiet old last new now
+quiet_after old last mid then new now h k = record {
+  near = near_after old.neighbourhood last mid.neighbourhood then new.neighbourhood now h.near k.near;
+  advertised = advertised_after old.topology mid.topology new.topology h.advertised k.advertised;
+}
 
--- only a HELLO that is taken changes the neighbourhood
-pub hello_leaves : {settings : RouterSettings} {now i : ℕ} {sender : Addr4} {hello : Hello} {old new : Neighbourhood} {answer : HelloAnswer} → TakesHello settings now i sender hello old new answer → answer ≢ Taken → new ≡ old
-hello_leaves (Breaks number is) not = refl
-hello_leaves (Overfull told fault tells full) not = refl
-hello_leaves (Overfull_two_hops told fault tells fits full) not = refl
-hello_leaves (Takes told fault tells fits room after) not = absurd (not refl)
+-- a neighbourhood of which nothing has become: each link is SYMMETRIC where it was so
+way_stays : (last now : ℕ) (o : Option (Link × ℕ)) → ((e : Link × ℕ) → o ≡ Some e → is_symmetric e.0 now ≡ is_symmetric e.0 last) → way_at now o ≡ way_at last o
+way_stays last now None same = refl
+way_stays last now (Some e) same = ap (λ (b : Bool). cond b e.0.link_out None) (same e refl)
+
+pub near_stays : (settings : RouterSettings) (last now : ℕ) (old new : Neighbourhood) → new ≡ old → AllIsAsItWas settings last now old → SameNear old last new now
+near_stays settings last now old new is as_it_was = subst (λ (n : Neighbourhood). SameNear old last n now) (sym is) (record {
+  neighbours = λ q. refl;
+  two_hops = λ i q. refl;
+  ways = λ i key. way_stays last now (link_at old i key) (λ e at. (as_it_was.links i key e at).symmetric);
+})

@@ -3,9 +3,9 @@ use Rattle.std.specs.Prelude.{◌≡◌, ℕ}
 use Rattle.mesh_atoms.specs.Sound.{Sound}
 use Rattle.mesh_atoms.specs.State.{State}
 use Rattle.mesh_core.specs.Held.Held.{Held}
+use Rattle.mesh_core.specs.Held.Quiet.{IsQuiet}
 use Rattle.mesh_renewal.specs.declared.derived.Derived.{Derived}
 use Rattle.mesh_renewal.specs.Renewed.{HasDerived}
-use Rattle.mesh_renewal.specs.Staying.{StaysAt}
 
 -- the state of a router
 abbrev pub state_of : Held → Derived → State
@@ -30,4 +30,4 @@ pub record EndsQuietly (held : Held) (now : ℕ) (derived : Derived) : Type 0 wh
   pub sound : Sound before
   pub has : HasDerived before derived
   pub settings : before.settings ≡ held.settings
-  pub stays : StaysAt before now held.bases
+  pub quiet : IsQuiet before.bases before.last held.bases now

@@ -1,8 +1,8 @@
 //! What becomes of a message, by what the bases answered.
-ghost use Rattle.std.specs.Prelude.{◌≡◌, ◌≢◌, ◌↔◌, ℕ, Option, IfOk, IsTrue};
+ghost use Rattle.std.specs.Prelude.{◌≡◌, ℕ, Option, IfOk};
 ghost use Rattle.mesh_atoms.specs.declared.tc.Tc.{Tc as TcValue};
 ghost use Rattle.mesh_atoms.specs.declared.addr.NetAddr.{NetAddr as NetValue};
-ghost use Rattle.mesh_atoms.specs.TakesHello.{HelloAnswer, Taken};
+ghost use Rattle.mesh_atoms.specs.TakesHello.{HelloAnswer};
 ghost use Rattle.mesh_nhdp.specs.Judged.{IsAnswer};
 ghost use Rattle.mesh_topo.specs.Answers.{answer_of};
 ghost use Rattle.mesh_machine.specs.Messages.{only, hello_read, tc_read, is_processed, other_read};
@@ -39,13 +39,6 @@ pub(crate) fn hello_read(taken: HelloTaken) -> Read
         HelloTaken::Broken(number) => Read::Broken(number),
         HelloTaken::Full(base) => Read::Full(base),
     }
-}
-
-/// Whether a HELLO left the neighbourhood as it was.
-pub(crate) fn is_quiet_hello(taken: HelloTaken) -> bool
-    ensures { (answer : HelloAnswer) → IsAnswer taken answer → IsTrue result ↔ (answer ≢ Taken) }
-{
-    !matches!(taken, HelloTaken::Done)
 }
 
 /// What is made of a TC that is processed.

@@ -96,7 +96,8 @@ impl<B: Bases> Holding<B> {
         requires sound { SoundBases self.old.settings last self.old.bases }
         ensures live { OnOk result (Live self.old.settings now self.old.bases self.new.bases) }
         ensures settings { self.new.settings ≡ self.old.settings }
-        ensures quiet { IfOk result (λ quiet. IsTrue quiet → IsQuiet self.old.bases self.new.bases) }
+        ensures quiet { IfOk result (λ quiet. IsTrue quiet → IsQuiet self.old.bases last self.new.bases now) }
+        ensures same { IfOk result (λ quiet. IsTrue quiet → self.new.bases.neighbourhood ≡ self.old.bases.neighbourhood) }
         ensures links { IfOk result (λ quiet. IsTrue quiet → AllIsAsItWas self.old.settings last now self.old.bases.neighbourhood) }
     {
         let same = self.nhdp.expire_since(last, now)?;

@@ -3,6 +3,7 @@ ghost use Rattle.std.specs.Prelude.{◌≡◌, ◌≢◌, ◌<◌, ◌≤◌, �
 ghost use Rattle.mesh_atoms.specs.declared.addr.Addr4.{Addr4};
 ghost use Rattle.mesh_atoms.specs.Sound.{SoundNeighbourhood};
 ghost use Rattle.mesh_atoms.specs.State.{IsOriginator, NotedMessages, Topology as TopologyValue};
+ghost use Rattle.mesh_nbrs.specs.Same.{SameNear};
 ghost use Rattle.mesh_topo.specs.Same.{SameAdvertised};
 ghost use Rattle.mesh_topo.specs.Tuples.{HasHosts};
 ghost use Rattle.mesh_packet.specs.Fields.{MessageFields, fields_of_message};
@@ -15,7 +16,7 @@ ghost use Rattle.mesh_machine.specs.Frames.{octets_at};
 ghost use Rattle.mesh_machine.specs.Laws.{SoundBases};
 ghost use Rattle.mesh_machine.specs.Messages.{TakesMessage, TakesMessages, ProcessesTc, IsHeading, AreSpelled};
 
-use crate::held::answers::{broken, hello_read, is_processed, is_quiet_hello, other_read, tc_read};
+use crate::held::answers::{broken, hello_read, is_processed, other_read, tc_read};
 use crate::held::heading::{heading_of, heading_of_tc};
 use crate::held::holding::Holding;
 use crate::held::onward::{judge, pass_on};
@@ -105,17 +106,22 @@ fn take_hello<B: Bases>(
     ensures taken { IfOk result (λ made. (own : Addr4) (octets : List ℕ) (topology : TopologyValue) (noted : NotedMessages) → TakesMessage nhdp.old.settings own arrival
         (record { neighbourhood = nhdp.old.near; topology = topology; noted = noted }) (fields_of_message message.now) octets
         (record { neighbourhood = nhdp.new.near; topology = topology; noted = noted }) [] made.0) }
-    ensures quiet { IfOk result (λ made. IsTrue made.1 → nhdp.new.near ≡ nhdp.old.near) }
+    ensures quiet { IfOk result (λ made. IsTrue made.1 → SameNear nhdp.old.near arrival.now nhdp.new.near arrival.now) }
     ensures settings { nhdp.new.settings ≡ nhdp.old.settings }
 {
     match hello_of(alloc, message) {
         Ok(hello) => {
-            let taken = nhdp.take_hello(arrival.now, arrival.iface, arrival.sender, &hello)?;
+            let (taken, changed) = nhdp.take_and_tell(
+                arrival.now,
+                arrival.iface,
+                arrival.sender,
+                &hello,
+            )?;
             let fate = Fate {
                 read: hello_read(taken),
                 forward: Forward::NotFlooded,
             };
-            Ok((fate, is_quiet_hello(taken)))
+            Ok((fate, !changed))
         }
         Err(fault) => broken(fault),
     }
@@ -213,7 +219,7 @@ impl<B: Bases> Holding<B> {
         requires spelled { SpellsMessage (fields_of_message message.now) octets.now }
         ensures taken { IfOk result (λ made. (sent : List Frame) × (out.new ≡ out.old ++ sent)
             × TakesMessage self.old.settings own arrival self.old.bases (fields_of_message message.now) octets.now self.new.bases sent made.0) }
-        ensures quiet { IfOk result (λ made. IsTrue made.1 → IsQuiet self.old.bases self.new.bases) }
+        ensures quiet { IfOk result (λ made. IsTrue made.1 → IsQuiet self.old.bases arrival.now self.new.bases arrival.now) }
         ensures settings { self.new.settings ≡ self.old.settings }
     {
         match message.kind {
@@ -245,7 +251,7 @@ impl<B: Bases> Holding<B> {
     /// Takes the messages of a frame that is heard at a moment below 2^62 on one of the router's interfaces, in order; `own` is the
     /// router's originator, and each message is spelled at its place in the octets. The fate of each message is put at the end of
     /// `fates`, and what is sent at the end of `out` (RFC 7181, sections 14 to 16). True only where all of them were quiet: the
-    /// neighbourhood is as it was, and others advertise the same.
+    /// neighbourhood is as it was but for moments, and others advertise the same.
     pub fn take_messages(
         &mut self,
         alloc: Global,
@@ -265,7 +271,7 @@ impl<B: Bases> Holding<B> {
         ensures taken { OnOk result ((given : List FateValue) × (sent : List Frame) × (fates.new ≡ fates.old ++ given) × (out.new ≡ out.old ++ sent)
             × TakesMessages self.old.settings own arrival bytes.now self.old.bases (map fields_of_message messages.now) spans.now self.new.bases sent given) }
         ensures settings { self.new.settings ≡ self.old.settings }
-        ensures quiet { IfOk result (λ quiet. IsTrue quiet → IsQuiet self.old.bases self.new.bases) }
+        ensures quiet { IfOk result (λ quiet. IsTrue quiet → IsQuiet self.old.bases arrival.now self.new.bases arrival.now) }
     {
         let mut quiet = true;
         for i in 0..messages.len() {

@@ -1,7 +1,9 @@
 use Rattle.std.proofs.Common.{sym, subst, ◌∙◌}
+use Rattle.mesh_atoms.specs.Live.{HasTables}
 use Rattle.mesh_atoms.specs.Sound.{SoundTopology}
 use Rattle.mesh_atoms.specs.declared.settings.RouterSettings.{RouterSettings}
-use Rattle.mesh_atoms.specs.State.{Topology}
+use Rattle.mesh_atoms.specs.State.{Neighbourhood, Topology}
+use Rattle.mesh_nbrs.specs.Same.{SameNear}
 use Rattle.mesh_topo.specs.Same.{SameAdvertised}
 use Rattle.mesh_renewal.specs.Staying.{StaysAt}
 use Rattle.mesh_renewal.proofs.StayingLaw.{still_renews}
@@ -10,8 +12,8 @@ use Rattle.mesh_renewal.proofs.staying.stay.Goals as goal
 pub returns-clause-renews : goal.returns-clause-renews
 returns-clause-renews c = λ old bases had sound sound_new stays before s settings_before rows_before ansn_before emptied_before settings near topology has.
     let here : StaysAt old c.args.now s.bases = record {
-      neighbourhood = near ∙ stays.neighbourhood;
-      symmetric = stays.symmetric;
+      tables = subst (λ (n : Neighbourhood). HasTables n) (sym near) stays.tables;
+      near = subst (λ (n : Neighbourhood). SameNear old.bases.neighbourhood old.last n c.args.now) (sym near) stays.near;
       advertised = subst (λ (x : Topology). SameAdvertised old.bases.topology x) (sym topology) stays.advertised;
     } in
     let topology_sound : SoundTopology s.settings c.args.now s.bases.topology = subst (λ (r : RouterSettings). SoundTopology r c.args.now s.bases.topology) (sym settings)

@@ -19,7 +19,7 @@ pub end_event-requires-clause-sound : goal.end_event-requires-clause-sound
 end_event-requires-clause-sound g c = live_held c.args.holding.now c.expire.new.self c.args.derived.now c.args.now c.requires.sound c.in_ok-quiet.ensures.live c.in_ok-quiet.ensures.settings
 
 pub end_event-requires-clause-quiet : goal.end_event-requires-clause-quiet
-end_event-requires-clause-quiet g c = λ quiet. ends_quietly c.args.holding.now c.expire.new.self c.args.derived.now c.args.now c.requires.sound c.in_ok-quiet.ensures.settings (c.in_ok-quiet.ensures.quiet quiet) (c.in_ok-quiet.ensures.links quiet)
+end_event-requires-clause-quiet g c = λ quiet. ends_quietly c.args.holding.now c.expire.new.self c.args.derived.now c.args.now c.requires.sound c.in_ok-quiet.ensures.settings (c.in_ok-quiet.ensures.quiet quiet)
 
 pub send_hellos-requires-clause-now : goal.send_hellos-requires-clause-now
 send_hellos-requires-clause-now g c = rw c.in_ok-end_event.ensures.last c.requires.now

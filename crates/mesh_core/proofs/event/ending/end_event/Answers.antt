@@ -3,6 +3,8 @@ use Rattle.mesh_atoms.specs.declared.settings.RouterSettings.{RouterSettings}
 use Rattle.mesh_atoms.specs.Sound.{SoundTopology}
 use Rattle.mesh_atoms.specs.State.{Bases}
 use Rattle.mesh_renewal.specs.Renewed.{RenewsTo}
+use Rattle.mesh_renewal.specs.Staying.{StaysAt}
+use Rattle.mesh_routes.proofs.SameBases.{tables_of}
 use Rattle.mesh_core.proofs.event.ending.end_event.Goals as goal
 
 pub returns-then-quiet-clause-renews : goal.returns-then-quiet-clause-renews
@@ -10,7 +12,8 @@ returns-then-quiet-clause-renews g c =
     let q = c.requires.quiet c.if-quiet.true in
     let bases : Bases = c.args.holding.now.bases in
     let sound : SoundTopology q.before.settings c.args.now bases.topology = subst (λ (r : RouterSettings). SoundTopology r c.args.now bases.topology) (sym q.settings) c.requires.sound.topology in
-    subst (λ (r : RouterSettings). RenewsTo r bases.neighbourhood bases.topology c.args.derived.now c.args.now c.stay.new.derived) q.settings (c.stay.ensures.renews q.before bases q.has q.sound sound q.stays)
+    let stays : StaysAt q.before c.args.now bases = record { tables = tables_of c.requires.sound.neighbourhood; near = q.quiet.near; advertised = q.quiet.advertised } in
+    subst (λ (r : RouterSettings). RenewsTo r bases.neighbourhood bases.topology c.args.derived.now c.args.now c.stay.new.derived) q.settings (c.stay.ensures.renews q.before bases q.has q.sound sound stays)
 
 pub renew-requires-clause-near : goal.renew-requires-clause-near
 renew-requires-clause-near g c = rw (c.settings.ensures, c.nhdp.ensures.near) c.requires.sound.neighbourhood

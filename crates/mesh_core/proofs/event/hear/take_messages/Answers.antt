@@ -39,7 +39,7 @@ pub end_event-requires-clause-quiet : goal.end_event-requires-clause-quiet
 end_event-requires-clause-quiet g c = λ both.
     let (idle, quiet) = both_true c.in_ok-idle.idle c.in_ok-quiet.quiet both in
     ends_quietly c.args.holding.now c.take_messages.new.self c.args.derived.now c.args.arrival.now c.requires.sound (c.take_messages.ensures.settings ∙ c.in_ok-idle.ensures.settings)
-    (quiet_after c.args.holding.now.bases c.expire.new.self.bases c.take_messages.new.self.bases (c.in_ok-idle.ensures.quiet idle) (c.in_ok-quiet.ensures.quiet quiet)) (c.in_ok-idle.ensures.links idle)
+    (quiet_after c.args.holding.now.bases c.args.derived.now.last c.expire.new.self.bases c.args.arrival.now c.take_messages.new.self.bases c.args.arrival.now (c.in_ok-idle.ensures.quiet idle) (c.in_ok-quiet.ensures.quiet quiet))
 
 pub returns : goal.returns
 returns g c =

@@ -4,7 +4,7 @@ use Rattle.mesh_atoms.specs.Live.{Live}
 use Rattle.mesh_atoms.specs.Sound.{SoundNeighbourhood}
 use Rattle.mesh_core.specs.Held.Held.{Held}
 use Rattle.mesh_nhdp.specs.Staying.{AllIsAsItWas}
-use Rattle.mesh_core.proofs.HeldLemmas.Quiet.{both_true, not_true}
+use Rattle.mesh_core.proofs.HeldLemmas.Quiet.{both_true, not_true, near_stays}
 use Rattle.mesh_core.proofs.held.holding.Holding.expire.Goals as goal
 
 pub expire_since-requires-clause-now : goal.expire_since-requires-clause-now
@@ -37,4 +37,10 @@ invariant_of-self-2 g c = c.expire.ensures.times ∙ (c.self.invariant ∙ sym (
 pub returns-clause-quiet : goal.returns-clause-quiet
 returns-clause-quiet g c both =
     let (same, unchanged) = both_true c.in_ok-same.same _ both in
-    rw (← c.self.view_is) (record { neighbourhood = c.in_ok-same.ensures.same same; advertised = c.expire_and_tell-changed.ensures.same (not_true c.expire_and_tell-changed.result _ refl unchanged) })
+    rw (← c.self.view_is) (record {
+      near = near_stays c.self.inside.nhdp.settings c.args.last c.args.now c.self.inside.nhdp.near c.expire_since.new.self.near (c.in_ok-same.ensures.same same) (c.in_ok-same.ensures.when.0 same);
+      advertised = c.expire_and_tell-changed.ensures.same (not_true c.expire_and_tell-changed.result _ refl unchanged);
+    })
+
+pub returns-clause-same : goal.returns-clause-same
+returns-clause-same g c both = rw (← c.self.view_is) (c.in_ok-same.ensures.same (both_true c.in_ok-same.same _ both).0)

@@ -3,7 +3,7 @@ use Rattle.std.proofs.lemmas.List.{append-nil}
 use Rattle.mesh_atoms.specs.Sound.{SoundNeighbourhood}
 use Rattle.mesh_core.specs.Held.Held.{Held}
 use Rattle.mesh_core.proofs.HeldLemmas.Fates.{if_ok}
-use Rattle.mesh_core.proofs.HeldLemmas.Quiet.{advertised_equal}
+use Rattle.mesh_core.proofs.HeldLemmas.Quiet.{advertised_equal, near_equal}
 use Rattle.mesh_core.proofs.held.holding.Holding.take_message.Goals as goal
 
 pub take_hello-requires-clause-iface : goal.take_hello-requires-clause-iface
@@ -32,7 +32,7 @@ returns-in-0-clause-taken g c =
 
 pub returns-in-0-clause-quiet : goal.returns-in-0-clause-quiet
 returns-in-0-clause-quiet g c =
-    rw (← c.self.view_is) (if_ok c.take_hello.result (λ made h quiet. record { neighbourhood = h quiet; advertised = advertised_equal c.self.inside.topology c.self.inside.topology refl }) c.take_hello.ensures.quiet)
+    rw (← c.self.view_is) (if_ok c.take_hello.result (λ made h quiet. record { near = h quiet; advertised = advertised_equal c.self.inside.topology c.self.inside.topology refl }) c.take_hello.ensures.quiet)
 
 pub returns-in-0-clause-settings : goal.returns-in-0-clause-settings
 returns-in-0-clause-settings g c = c.take_hello.ensures.settings ∙ ap (λ (h : Held). h.settings) c.self.view_is
@@ -42,7 +42,7 @@ returns-in-1-clause-taken g c = rw (← c.self.view_is) c.take_tc.ensures.taken
 
 pub returns-in-1-clause-quiet : goal.returns-in-1-clause-quiet
 returns-in-1-clause-quiet g c =
-    rw (← c.self.view_is) (if_ok c.take_tc.result (λ made h quiet. record { neighbourhood = refl; advertised = h quiet }) c.take_tc.ensures.quiet)
+    rw (← c.self.view_is) (if_ok c.take_tc.result (λ made h quiet. record { near = near_equal _ _ c.args.arrival.now refl; advertised = h quiet }) c.take_tc.ensures.quiet)
 
 pub returns-in-1-clause-settings : goal.returns-in-1-clause-settings
 returns-in-1-clause-settings g c = ap (λ (h : Held). h.settings) c.self.view_is
@@ -53,7 +53,7 @@ returns-in_default-clause-taken g c =
 
 pub returns-in_default-clause-quiet : goal.returns-in_default-clause-quiet
 returns-in_default-clause-quiet g c =
-    rw (← c.self.view_is) (if_ok c.take_other.result (λ made h quiet. record { neighbourhood = refl; advertised = advertised_equal c.self.inside.topology c.self.inside.topology refl }) c.take_other.ensures.taken)
+    rw (← c.self.view_is) (if_ok c.take_other.result (λ made h quiet. record { near = near_equal _ _ c.args.arrival.now refl; advertised = advertised_equal c.self.inside.topology c.self.inside.topology refl }) c.take_other.ensures.taken)
 
 pub returns-in_default-clause-settings : goal.returns-in_default-clause-settings
 returns-in_default-clause-settings g c = ap (λ (h : Held). h.settings) c.self.view_is

@@ -14,7 +14,7 @@ use Rattle.mesh_core.proofs.HeldLemmas.Quiet.{both_true, quiet_equal, quiet_afte
 use Rattle.mesh_core.proofs.held.holding.Holding.take_messages.Goals as goal
 
 pub loop-i-init : goal.loop-i-init
-loop-i-init g c = record { taken = ([], [], sym (append-nil _), sym (append-nil _), No_messages); settings = refl; quiet = λ quiet. quiet_equal c.args.self.now.bases c.args.self.now.bases refl refl }
+loop-i-init g c = record { taken = ([], [], sym (append-nil _), sym (append-nil _), No_messages); settings = refl; quiet = λ quiet. quiet_equal c.args.self.now.bases c.args.self.now.bases c.args.arrival.now refl refl }
 
 pub octets_of-octets-requires : goal.octets_of-octets-requires
 octets_of-octets-requires g c = (spelled_at c.args.bytes.now c.args.messages.now c.args.spans.now c.loop-i.i c.index-messages-i.result (record { start = 0; len = 0 }) c.requires.spelled
@@ -56,7 +56,7 @@ loop-i-preserved g c =
       settings = c.take_message.ensures.settings ∙ c.loop-i.invariant.settings;
       quiet = λ quiet.
           let (before, here) = both_true c.loop-i.quiet c.in_ok-fate.same quiet in
-          quiet_after c.args.self.now.bases c.loop-i.self.bases c.take_message.new.self.bases (c.loop-i.invariant.quiet before) (c.in_ok-fate.ensures.quiet here);
+          quiet_after c.args.self.now.bases c.args.arrival.now c.loop-i.self.bases c.args.arrival.now c.take_message.new.self.bases c.args.arrival.now (c.loop-i.invariant.quiet before) (c.in_ok-fate.ensures.quiet here);
     }
 
 pub take_message-requires-clause-now : goal.take_message-requires-clause-now

@@ -11,5 +11,5 @@ invariant-loop-i g l = record {
   taken : (given : List Fate) × (sent : List Frame) × (l.fates ≡ l.initial.fates ++ given) × (l.out ≡ l.initial.out ++ sent)
       × TakesMessages l.initial.self.settings l.own l.arrival l.bytes l.initial.self.bases (take l.i (map fields_of_message l.messages)) (take l.i l.spans) l.self.bases sent given;
   settings : l.self.settings ≡ l.initial.self.settings;
-  quiet : IsTrue l.quiet → IsQuiet l.initial.self.bases l.self.bases;
+  quiet : IsTrue l.quiet → IsQuiet l.initial.self.bases l.arrival.now l.self.bases l.arrival.now;
 }
