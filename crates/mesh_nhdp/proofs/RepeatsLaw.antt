@@ -140,9 +140,6 @@ module _ (shown : Shown) (hold now : ℕ) (e : Link × ℕ) (lasts : 0 < shown.v
   no_out b out is was = ap (λ (x : Bool). cond x out None) is ∙ sym (none was)
 
   -- what it says of the link
-  said : Link
-  said = record e.0 { sym = now + shown.validity; link_out = shown.link_out; selector = shown.selector }
-
   said_like : (e.0.pending ≡ true) ⊎ ((e.0.lost ≡ true) ⊎ ((is_symmetric e.0 now ≡ true) × (e.0.link_out ≡ shown.link_out))) →
       (is_symmetric (record e.0 { sym = now + shown.validity; link_out = shown.link_out; selector = shown.selector }) now ≡ is_symmetric e.0 now)
       × (cond (is_symmetric (record e.0 { sym = now + shown.validity; link_out = shown.link_out; selector = shown.selector }) now) shown.link_out None ≡ e.0.link_out)
@@ -332,21 +329,18 @@ module _ (settings : RouterSettings) (now i : ℕ) (told : Told) (hello : Hello)
 
   -- 2-hop tuples
 
-  StaysAt : ℕ → TwoHopKey → Type 0
-  StaysAt j key = option_map (λ (t : TwoHop × ℕ). t.0) (two_hop_at new j key) ≡ option_map (λ (t : TwoHop × ℕ). t.0) (two_hop_at old j key)
+  KeepsTuple : ℕ → TwoHopKey → Type 0
+  KeepsTuple j key = option_map (λ (t : TwoHop × ℕ). t.0) (two_hop_at new j key) ≡ option_map (λ (t : TwoHop × ℕ). t.0) (two_hop_at old j key)
 
-  other_two_hop : (j : ℕ) (key : TwoHopKey) → ((j ≢ i) ⊎ (key.link ≢ told.least)) → StaysAt j key
-  unfolding StaysAt
+  other_two_hop : (j : ℕ) (key : TwoHopKey) → ((j ≢ i) ⊎ (key.link ≢ told.least)) → KeepsTuple j key
+  unfolding KeepsTuple
   other_two_hop j key other = ap (option_map (λ (t : TwoHop × ℕ). t.0)) (A.other_two_hops j key other
       ∙ cond_kept (is_symmetric_at new now j key.link) (two_hop_at old j key) (λ t at. (way_stays j key.link).1 ∙ S.two_hop j key t at))
 
-  one_two_hop : (a : Addr4) → StaysAt i (record { link = told.least; addr = a })
-  unfolding StaysAt
+  one_two_hop : (a : Addr4) → KeepsTuple i (record { link = told.least; addr = a })
+  unfolding KeepsTuple
   one_two_hop a = by_case (is_symmetric_at new now i told.least) refl
     where
-      key : TwoHopKey
-      key = record { link = told.least; addr = a }
-
       by_row : is_symmetric_at new now i told.least ≡ true → (stood : Option (TwoHop × ℕ)) → StoodOn old i told a stood →
           TellsTwoHop settings told hello (now + told.shown.validity) a stood (two_hop_at new i (record { link = told.least; addr = a })) →
           option_map (λ (t : TwoHop × ℕ). t.0) (two_hop_at new i (record { link = told.least; addr = a })) ≡ option_map (λ (t : TwoHop × ℕ). t.0) (two_hop_at old i (record { link = told.least; addr = a }))
@@ -370,12 +364,12 @@ module _ (settings : RouterSettings) (now i : ℕ) (told : Told) (hello : Hello)
       by_case false is = ap (option_map (λ (t : TwoHop × ℕ). t.0)) (A.no_two_hops is a ∙ sym (no_old (two_hop_at old i (record { link = told.least; addr = a })) refl is))
 
   two_hops_stay : (j : ℕ) → SameTuples two_hop_eq (base_of old.two_hops j) (base_of new.two_hops j)
-  unfolding StaysAt
+  unfolding KeepsTuple
   two_hops_stay j key = elim (cases_eq j i) [
     | inl same ↦ elim (same_key key.link told.least) [
       | inl is ↦
           let whole : key ≡ record { link = told.least; addr = key.addr } = ap (λ (l : LinkKey). let k : TwoHopKey = record { link = l; addr = key.addr } in k) is in
-          subst (λ (n : ℕ). StaysAt n key) (sym same) (subst (λ (k : TwoHopKey). StaysAt i k) (sym whole) (one_two_hop key.addr))
+          subst (λ (n : ℕ). KeepsTuple n key) (sym same) (subst (λ (k : TwoHopKey). KeepsTuple i k) (sym whole) (one_two_hop key.addr))
       | inr apart ↦ other_two_hop j key (inr apart)
     ]
     | inr apart ↦ other_two_hop j key (inl apart)
