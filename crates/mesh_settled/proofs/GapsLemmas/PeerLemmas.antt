@@ -1,6 +1,6 @@
 -- Senders of TCs, and stray routers.
 use Rattle.std.proofs.Common.{◌≡◌, ◌≢◌, ℕ, ◌+◌, ◌<◌, ◌≤◌, inl, inr, arith, refl, sym, ◌∙◌, ap, subst, length, List, Some, Bool, true, false, slice_get, nat_eq, map}
-use Rattle.std.specs.Prelude.{◌↔◌, IsTrue}
+use Rattle.std.specs.Prelude.{◌↔◌, IsTrue, Option, None, is_some, not}
 use Rattle.std.proofs.lemmas.Bool.{false≢true, eqb-true, eq-eqb, cases_eq}
 use Rattle.std.proofs.lemmas.Option.{slice_get_within}
 use Rattle.std.proofs.lemmas.List.{length-map}
@@ -12,6 +12,9 @@ use Rattle.mesh_atoms.specs.declared.settings.Scenario.{Scenario}
 use Rattle.mesh_atoms.specs.Radio.{Joined}
 use Rattle.mesh_atoms.specs.Settled.{At, IsStray}
 use Rattle.mesh_atoms.specs.State.{State, HasAddress, IsOriginator}
+use Rattle.mesh_atoms.specs.Words.{IsValue}
+use Rattle.mesh_paths.proofs.Scenarios.{sound_scenario}
+use Rattle.mesh_paths.proofs.SettledNeighbours.{originator_address}
 use Rattle.mesh_settled.specs.Gaps.Network.{IsNetwork}
 use Rattle.mesh_settled.specs.Gaps.Peers.{IsSender, IsStrayAt}
 use Rattle.mesh_settled.proofs.GapsLemmas.Apart.{some_same}
@@ -72,3 +75,18 @@ module _ {A : Type 0} (f : A → State) (routers : List A) where
 
 pub some_stray : (s : Scenario) (x : ℕ) (a : Addr4) (v : ℕ) → IsStrayAt s x a v → IsTrue true ↔ IsStray s x a
 some_stray s x a v h = (λ _. (v, h.0, h.1, h.2), λ _. refl)
+
+-- a sender's originator is no stray router's address
+pub sender_is_near : (s : Scenario) (graph : RadioGraph) (states : List State) (now x : ℕ) → IsNetwork s graph states now → (a : Addr4) (w : ℕ) → IsSender s states x a w → IsStray s x a → ⊥
+sender_is_near s graph states now x net a w sender stray =
+    let q = sender.0 in
+    let theirs = originator_address q.settings a sender.2 in
+    let (r, is, mine) = stray.3 in
+    let ends = (sound_scenario s).addresses w stray.0 theirs.0 mine.0 q.settings r a (net.routers.settings w q sender.1.at) is theirs.1 mine.1 in
+    stray.2 (subst (Joined s x) ends.0 sender.1.joined)
+
+-- the originator of a sender is not stray
+pub sender_known : (s : Scenario) (graph : RadioGraph) (states : List State) (now x : ℕ) → IsNetwork s graph states now → (a : Addr4) (o : Option ℕ) (b : Bool) → is_some o ≡ not b → b ≡ false → IsValue (IsSender s states x a) o → IsTrue b ↔ IsStray s x a
+sender_known s graph states now x net a None b test denies value = absurd (false≢true (test ∙ ap not denies))
+sender_known s graph states now x net a (Some w) b test denies value =
+    (λ e. absurd (false≢true (sym denies ∙ e)), λ stray. absurd (sender_is_near s graph states now x net a w value stray))

@@ -2,7 +2,7 @@
 ghost use Rattle.std.specs.Prelude.{◌≡◌, ◌↔◌, IsTrue};
 ghost use Rattle.mesh_atoms.specs.Words.{IsValue};
 ghost use Rattle.mesh_atoms.specs.Settled.{IsStray};
-ghost use Rattle.mesh_settled.specs.Gaps.Peers.{IsSender, IsStrayAt};
+ghost use Rattle.mesh_settled.specs.Gaps.Peers.{IsSender, IsStrayAt, IsOrigin};
 ghost use Rattle.mesh_settled.specs.Gaps.Site.{states, IsSite};
 
 use crate::gaps::joints::{is_address_of, router_at};
@@ -10,6 +10,14 @@ use crate::gaps::site::Site;
 use mesh_atoms::Addr4;
 use mesh_machine::RouterView;
 use mesh_paths::is_joined;
+
+/// An originator: the router that is joined with router x and has it, and whether it is an address of a stray router.
+#[derive(Clone, Copy)]
+pub struct Origin {
+    pub addr: Addr4,
+    pub sender: Option<usize>,
+    pub stray: bool,
+}
 
 // Whether router w is another one that is joined with router x, and has that originator.
 fn is_sender<R: RouterView>(site: &Site<'_, R>, from: Addr4, w: usize) -> bool
@@ -42,8 +50,8 @@ fn is_stray_at<R: RouterView>(site: &Site<'_, R>, v: usize, addr: Addr4) -> bool
     }
 }
 
-/// The router that is joined with router x, and has that originator.
-pub fn sender_of<R: RouterView>(site: &Site<'_, R>, from: Addr4) -> Option<usize>
+// The router that is joined with router x, and has that originator.
+fn sender_of<R: RouterView>(site: &Site<'_, R>, from: Addr4) -> Option<usize>
     requires { IsSite R.state site.now }
     ensures { IsValue (IsSender site.entry.now.scenario.now (states R.state site.entry.now) site.entry.now.x from) result }
 {
@@ -55,8 +63,8 @@ pub fn sender_of<R: RouterView>(site: &Site<'_, R>, from: Addr4) -> Option<usize
     None
 }
 
-/// Whether it is an address of a router that is neither x nor joined with it.
-pub fn is_stray<R: RouterView>(site: &Site<'_, R>, addr: Addr4) -> bool
+// Whether it is an address of a router that is neither x nor joined with it.
+fn is_stray<R: RouterView>(site: &Site<'_, R>, addr: Addr4) -> bool
     requires { IsSite R.state site.now }
     ensures { IsTrue result ↔ IsStray site.entry.now.scenario.now site.entry.now.x addr }
 {
@@ -66,4 +74,32 @@ pub fn is_stray<R: RouterView>(site: &Site<'_, R>, addr: Addr4) -> bool
         }
     }
     false
+}
+
+/// The originator, as router x knows it.
+pub fn origin_of<R: RouterView>(site: &Site<'_, R>, addr: Addr4) -> Origin
+    requires { IsSite R.state site.now }
+    ensures addr { result.addr ≡ addr }
+    ensures origin { IsOrigin site.entry.now.scenario.now (states R.state site.entry.now) site.entry.now.x result }
+{
+    let sender = sender_of(site, addr);
+    let stray = sender.is_none() && is_stray(site, addr);
+    Origin {
+        addr,
+        sender,
+        stray,
+    }
+}
+
+/// The originator, which may be the one that was asked for before.
+pub fn next_origin<R: RouterView>(site: &Site<'_, R>, last: Origin, addr: Addr4) -> Origin
+    requires site { IsSite R.state site.now }
+    requires last { IsOrigin site.now.scenario.now (states R.state site.now) site.now.x last }
+    ensures addr { result.addr ≡ addr }
+    ensures origin { IsOrigin site.entry.now.scenario.now (states R.state site.entry.now) site.entry.now.x result }
+{
+    if last.addr.0 == addr.0 {
+        return last;
+    }
+    origin_of(site, addr)
 }

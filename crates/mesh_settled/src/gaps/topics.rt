@@ -8,14 +8,14 @@ ghost use Rattle.mesh_machine.specs.expire.Table.{entry_of, value_of};
 ghost use Rattle.mesh_settled.specs.Gaps.Fields.{Field, Number};
 ghost use Rattle.mesh_settled.specs.Gaps.Found.{IsSide, IsTest, IsFieldTest, IsTestFrom, IsLeast};
 ghost use Rattle.mesh_settled.specs.Gaps.Joints.{IsOfSome};
-ghost use Rattle.mesh_settled.specs.Gaps.Peers.{IsValueOf};
+ghost use Rattle.mesh_settled.specs.Gaps.Peers.{IsOrigin, IsValueOf};
 ghost use Rattle.mesh_settled.specs.Gaps.Site.{states, seen, IsSite};
 ghost use Rattle.mesh_settled.specs.Gaps.Topics.{of_router, of_address, of_network, claim_fields, key_at, router_key, address_key, network_key, is_row_of, claim_if, held_key, held_count, IsHeldClaim, IsPresentClaim, IsClaimBy, IsHeldAt, IsHeld, IsToRows, IsByRows, IsByAllRows, IsTopicKey};
 
 use crate::gaps::compare::{Apart, Difference, Values, compared, first_of, known_cost, numbers};
 use crate::gaps::found::{Found, found_at, lesser};
 use crate::gaps::joints::router_at;
-use crate::gaps::peers::{is_stray, sender_of};
+use crate::gaps::peers::{Origin, next_origin, origin_of};
 use crate::gaps::site::Site;
 use mesh_atoms::{
     Addr4, AddressKey, AddressTuple, GapKey, Metric, NetAddr, NetworkKey, NetworkTuple, RouterKey,
@@ -114,13 +114,14 @@ fn claim_of<R: RouterView>(other: &R, topic: Topic, net: NetAddr) -> Option<Clai
 fn given_claim<R: RouterView>(
     site: &Site<'_, R>,
     topic: Topic,
-    from: Addr4,
+    origin: &Origin,
     net: NetAddr,
 ) -> Option<Claim>
-    requires { IsSite R.state site.now }
-    ensures { IsSide (IsPresentClaim (seen R.state site.entry.now) topic from net) (option_map claim_fields result) }
+    requires site { IsSite R.state site.now }
+    requires origin { IsOrigin site.now.scenario.now (states R.state site.now) site.now.x origin.now }
+    ensures { IsSide (IsPresentClaim (seen R.state site.entry.now) topic origin.now.addr net) (option_map claim_fields result) }
 {
-    match sender_of(site, from) {
+    match origin.sender {
         Some(w) => match router_at(site.routers, w) {
             Some(other) => claim_of(other, topic, net),
             None => None,
@@ -234,17 +235,18 @@ fn difference_of(held: Option<Claim>, given: Option<Claim>) -> Option<Difference
 fn claim_values<R: RouterView>(
     site: &Site<'_, R>,
     topic: Topic,
-    from: Addr4,
+    origin: &Origin,
     net: NetAddr,
 ) -> Option<Values>
-    requires { IsSite R.state site.now }
-    ensures { IsTest (seen R.state site.entry.now) (key_at topic from net) result }
+    requires site { IsSite R.state site.now }
+    requires origin { IsOrigin site.now.scenario.now (states R.state site.now) site.now.x origin.now }
+    ensures { IsTest (seen R.state site.entry.now) (key_at topic origin.now.addr net) result }
 {
-    if is_stray(site, from) {
+    if origin.stray {
         return None;
     }
-    let held = held_claim(site.router, topic, from, net);
-    let given = given_claim(site, topic, from, net);
+    let held = held_claim(site.router, topic, origin.addr, net);
+    let given = given_claim(site, topic, origin, net);
     let difference = difference_of(held, given);
     compared(held.is_some(), given.is_some(), difference)
 }
@@ -253,15 +255,16 @@ fn claim_values<R: RouterView>(
 fn gap_at<R: RouterView>(
     site: &Site<'_, R>,
     topic: Topic,
-    from: Addr4,
+    origin: &Origin,
     net: NetAddr,
 ) -> Option<Found>
-    requires { IsSite R.state site.now }
-    ensures { IsLeast (seen R.state site.entry.now) (λ k. k ≡ key_at topic from net) result }
+    requires site { IsSite R.state site.now }
+    requires origin { IsOrigin site.now.scenario.now (states R.state site.now) site.now.x origin.now }
+    ensures { IsLeast (seen R.state site.entry.now) (λ k. k ≡ key_at topic origin.now.addr net) result }
 {
     found_at(
-        key_at(topic, from, net),
-        claim_values(site, topic, from, net),
+        key_at(topic, origin.addr, net),
+        claim_values(site, topic, origin, net),
     )
 }
 
@@ -317,13 +320,24 @@ fn held_ends<R: RouterView>(router: &R, topic: Topic, place: usize) -> Option<(A
     }
 }
 
-// The gap at the tuple at that place.
-fn held_at<R: RouterView>(site: &Site<'_, R>, topic: Topic, place: usize) -> Option<Found>
-    requires { IsSite R.state site.now }
-    ensures { IsLeast (seen R.state site.entry.now) (IsHeldAt (R.state site.entry.now.router.now) topic place) result }
+// The gap at the tuple at that place, and its originator, which may be that of the tuple before.
+fn held_at<R: RouterView>(
+    site: &Site<'_, R>,
+    last: &mut Origin,
+    topic: Topic,
+    place: usize,
+) -> Option<Found>
+    requires site { IsSite R.state site.now }
+    requires last { IsOrigin site.now.scenario.now (states R.state site.now) site.now.x last.old }
+    ensures gap { IsLeast (seen R.state site.entry.now) (IsHeldAt (R.state site.entry.now.router.now) topic place) result }
+    ensures last { IsOrigin site.entry.now.scenario.now (states R.state site.entry.now) site.entry.now.x last.new }
 {
     match held_ends(site.router, topic, place) {
-        Some((from, net)) => gap_at(site, topic, from, net),
+        Some((from, net)) => {
+            let origin = next_origin(site, *last, from);
+            *last = origin;
+            gap_at(site, topic, &origin, net)
+        }
         None => None,
     }
 }
@@ -334,8 +348,9 @@ fn held_gap<R: RouterView>(site: &Site<'_, R>, topic: Topic) -> Option<Found>
     ensures { IsLeast (seen R.state site.entry.now) (IsHeld (R.state site.entry.now.router.now) topic) result }
 {
     let mut best = None;
+    let mut last = origin_of(site, site.router.settings().originator());
     for place in 0..held_count(site.router, topic) {
-        best = lesser(best, held_at(site, topic, place));
+        best = lesser(best, held_at(site, &mut last, topic, place));
     }
     best
 }
@@ -344,15 +359,16 @@ fn held_gap<R: RouterView>(site: &Site<'_, R>, topic: Topic) -> Option<Found>
 fn rows_gap<R: RouterView>(
     site: &Site<'_, R>,
     topic: Topic,
-    from: Addr4,
+    origin: &Origin,
     rows: &[TcRow],
 ) -> Option<Found>
-    requires { IsSite R.state site.now }
-    ensures { IsLeast (seen R.state site.entry.now) (IsToRows topic from rows.now) result }
+    requires site { IsSite R.state site.now }
+    requires origin { IsOrigin site.now.scenario.now (states R.state site.now) site.now.x origin.now }
+    ensures { IsLeast (seen R.state site.entry.now) (IsToRows topic origin.now.addr rows.now) result }
 {
     let mut best = None;
     for n in 0..rows.len() {
-        best = lesser(best, gap_at(site, topic, from, rows[n].dest));
+        best = lesser(best, gap_at(site, topic, origin, rows[n].dest));
     }
     best
 }
@@ -363,7 +379,10 @@ fn gap_by<R: RouterView>(site: &Site<'_, R>, topic: Topic, w: usize) -> Option<F
     ensures { IsLeast (seen R.state site.entry.now) (IsByRows (states R.state site.entry.now) topic w) result }
 {
     match router_at(site.routers, w) {
-        Some(other) => rows_gap(site, topic, other.settings().originator(), other.rows()),
+        Some(other) => {
+            let origin = origin_of(site, other.settings().originator());
+            rows_gap(site, topic, &origin, other.rows())
+        }
         None => None,
     }
 }

@@ -4,15 +4,15 @@ use Rattle.mesh_settled.proofs.GapsLemmas.TopicLemmas.{stray_same, claim_tested}
 use Rattle.mesh_settled.proofs.gaps.topics.claim_values.Goals as goal
 
 pub held_claim-held-requires : goal.held_claim-held-requires
-held_claim-held-requires g c = c.requires.network.sound c.args.site.now.x (g.R.RouterView.state c.args.site.now.router.now) c.requires.at
+held_claim-held-requires g c = c.requires.site.network.sound c.args.site.now.x (g.R.RouterView.state c.args.site.now.router.now) c.requires.site.at
 
-pub returns-then-is_stray : goal.returns-then-is_stray
-returns-then-is_stray g c =
+pub returns-then-origin : goal.returns-then-origin
+returns-then-origin g c =
     let site = c.args.site.now in
-    stray_same site.scenario.now site.graph.now (states g.R.RouterView.state site) site.moment site.x c.requires.network (g.R.RouterView.state site.router.now) c.args.topic c.args.from c.args.net (c.is_stray.ensures.0 c.if-is_stray.true)
+    stray_same site.scenario.now site.graph.now (states g.R.RouterView.state site) site.moment site.x c.requires.site.network (g.R.RouterView.state site.router.now) c.args.topic c.args.origin.now.addr c.args.net (c.requires.origin.stray.0 c.if-origin.true)
 
 pub returns : goal.returns
 returns g c =
-    rw c.compared.ensures (claim_tested (seen g.R.RouterView.state c.args.site.now) c.args.topic c.args.from c.args.net (denied c.is_stray.ensures c.if-is_stray.false)
+    rw c.compared.ensures (claim_tested (seen g.R.RouterView.state c.args.site.now) c.args.topic c.args.origin.now.addr c.args.net (denied c.requires.origin.stray c.if-origin.false)
     c.held_claim-held.result c.given_claim-given.result c.difference_of-difference.result c.is_some.result c.is_some-2.result c.is_some.ensures c.is_some-2.ensures
     c.held_claim-held.ensures c.given_claim-given.ensures c.difference_of-difference.ensures)

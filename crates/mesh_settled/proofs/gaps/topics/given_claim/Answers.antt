@@ -7,7 +7,7 @@ use Rattle.mesh_settled.proofs.GapsLemmas.TopicLemmas.{given_side, none_given, i
 use Rattle.mesh_settled.proofs.gaps.topics.given_claim.Goals as goal
 
 pub claim_of-requires : goal.claim_of-requires
-claim_of-requires g c = c.requires.network.sound c.in-Some.w (g.R.RouterView.state c.in-Some-router_at.other.now) (record { is = sym c.router_at.ensures ∙ ap (option_map (λ r. g.R.RouterView.state r.now)) c.in-Some-router_at.is })
+claim_of-requires g c = c.requires.site.network.sound c.in-Some.w (g.R.RouterView.state c.in-Some-router_at.other.now) (record { is = sym c.router_at.ensures ∙ ap (option_map (λ r. g.R.RouterView.state r.now)) c.in-Some-router_at.is })
 
 pub returns-in-Some-router_at : goal.returns-in-Some-router_at
 returns-in-Some-router_at g c =
@@ -15,13 +15,13 @@ returns-in-Some-router_at g c =
     let all = states g.R.RouterView.state site in
     let q = g.R.RouterView.state c.in-Some-router_at.other.now in
     let p = g.R.RouterView.state site.router.now in
-    let sender = value_some (IsSender site.scenario.now all site.x c.args.from) c.sender_of.result c.in-Some.w c.in-Some.is c.sender_of.ensures in
-    let origin = its_origin site.scenario.now site.graph.now all site.moment site.x c.requires.network p c.args.topic c.args.from c.args.net c.in-Some.w q (record { is = sym c.router_at.ensures ∙ ap (option_map (λ r. g.R.RouterView.state r.now)) c.in-Some-router_at.is }) sender in
-    given_side site.scenario.now site.graph.now all site.moment site.x c.requires.network p c.args.topic c.args.from c.args.net c.in-Some.w q (record { is = sym c.router_at.ensures ∙ ap (option_map (λ r. g.R.RouterView.state r.now)) c.in-Some-router_at.is }) sender c.claim_of.result (c.claim_of.ensures c.args.from origin)
+    let sender = value_some (IsSender site.scenario.now all site.x c.args.origin.now.addr) c.args.origin.now.sender c.in-Some.w c.in-Some.is c.requires.origin.sender in
+    let origin = its_origin site.scenario.now site.graph.now all site.moment site.x c.requires.site.network p c.args.topic c.args.origin.now.addr c.args.net c.in-Some.w q (record { is = sym c.router_at.ensures ∙ ap (option_map (λ r. g.R.RouterView.state r.now)) c.in-Some-router_at.is }) sender in
+    given_side site.scenario.now site.graph.now all site.moment site.x c.requires.site.network p c.args.topic c.args.origin.now.addr c.args.net c.in-Some.w q (record { is = sym c.router_at.ensures ∙ ap (option_map (λ r. g.R.RouterView.state r.now)) c.in-Some-router_at.is }) sender c.claim_of.result (c.claim_of.ensures c.args.origin.now.addr origin)
 
 pub returns-in-None : goal.returns-in-None
 returns-in-None g c =
     let site = c.args.site.now in
     let all = states g.R.RouterView.state site in
-    none_given site.scenario.now site.graph.now all site.moment site.x c.requires.network (g.R.RouterView.state site.router.now) c.args.topic c.args.from c.args.net
-    (value_none (IsSender site.scenario.now all site.x c.args.from) c.sender_of.result c.in-None.is c.sender_of.ensures)
+    none_given site.scenario.now site.graph.now all site.moment site.x c.requires.site.network (g.R.RouterView.state site.router.now) c.args.topic c.args.origin.now.addr c.args.net
+    (value_none (IsSender site.scenario.now all site.x c.args.origin.now.addr) c.args.origin.now.sender c.in-None.is c.requires.origin.sender)
