@@ -103,17 +103,19 @@ fn given_near<'a, R: RouterView>(
     ensures { IsGivenNear (seen R.state site.entry.now) y (R.state other.now) result }
 {
     let there = metric_to(site, site.x, y);
-    let back = metric_to(site, y, site.x);
     match there {
-        Some(metric_out) => match back {
-            Some(metric_in) => Some(GivenNeighbour {
-                settings: other.settings(),
-                metric_in,
-                metric_out,
-                selector: is_selector(other, site.router.settings(), site.moment),
-            }),
-            None => None,
-        },
+        Some(metric_out) => {
+            let back = metric_to(site, y, site.x);
+            match back {
+                Some(metric_in) => Some(GivenNeighbour {
+                    settings: other.settings(),
+                    metric_in,
+                    metric_out,
+                    selector: is_selector(other, site.router.settings(), site.moment),
+                }),
+                None => None,
+            }
+        }
         None => None,
     }
 }
