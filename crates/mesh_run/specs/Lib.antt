@@ -1,3 +1,4 @@
+pub mod Attaching
 pub mod Ends
 pub mod Run
 pub mod Text

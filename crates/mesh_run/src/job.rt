@@ -4,6 +4,7 @@ ghost use Rattle.std.specs.Io.KnownBytes.{Appends, Keeps};
 ghost use Rattle.mesh_atoms.specs.declared.settings.RunSetup.{RunSetup};
 ghost use Rattle.mesh_config.specs.RunSettings.{run_refusals, FirstRunRefusal};
 ghost use Rattle.mesh_io.specs.Faults.{Rose, RoseByOne};
+ghost use Rattle.mesh_run.specs.Attaching.{AttachesAtOnce};
 ghost use Rattle.mesh_run.specs.Ends.{Ends, Completes};
 ghost use Rattle.mesh_run.specs.Run.{States, told, IsUntold, WholeRun, SpendsTurns, FailsToAttach, RunsShort};
 ghost use Rattle.mesh_run.specs.declared.fault.RunFault.TheVariants.{Refused, Attach, Turns, Stopped};
@@ -30,6 +31,7 @@ fn run_stated<M: Machine, O: Sink, A: Air, C: Clock>(
     ensures ends { Ends input.now turns
         (told (C.moments clock.old) (C.moments clock.new) (A.reports air.old) (A.reports air.new) (A.attached air.new))
         (O.content out.old) (O.content out.new) (O.faults out.old) (O.faults out.new) (A.faults air.old) (A.faults air.new) result }
+    ensures first_try { AttachesAtOnce A A.attached A.faults air.old air.new }
     ensures later_out { O.faults out.old ≤ O.faults out.new }
     ensures later_air { A.faults air.old ≤ A.faults air.new }
 {
@@ -67,6 +69,9 @@ pub fn run<B: Bases, O: Sink, A: Air, C: Clock>(
     ensures attach { (interface : ℕ) → result ≡ Err (Attach interface) → FailsToAttach input.now interface
         (told (C.moments clock.old) (C.moments clock.new) (A.reports air.old) (A.reports air.new) (A.attached air.new))
         × RoseByOne (A.faults air.old) (A.faults air.new) × Keeps (O.content out.old) (O.content out.new) }
+
+    // Whatever is answered, each interface that there is was attached at the first try, and none behind a failed attach.
+    ensures first_try { AttachesAtOnce A A.attached A.faults air.old air.new }
 
     // All turns were done, each at a moment below the end; nothing was put on `out`.
     ensures turns { (count greatest end : ℕ) → result ≡ Err (Turns count greatest end) → (count ≡ turns)

@@ -1,6 +1,7 @@
 //! The router of a run.
 ghost use Rattle.std.specs.Prelude.{◌≡◌, ◌≤◌, ℕ, List, length, IfOk};
 ghost use Rattle.mesh_machine.specs.Machine.{IsOpening};
+ghost use Rattle.mesh_run.specs.Attaching.{AttachesAtOnce};
 ghost use Rattle.mesh_run.specs.Ends.{RouterEnds, Ends};
 ghost use Rattle.mesh_run.specs.Run.{States, told};
 
@@ -91,6 +92,7 @@ pub fn run_setup<M: Machine, O: Sink, A: Air, C: Clock>(
     ensures ends { (input : List ℕ) → States input setup.now → Ends input turns
         (told (C.moments clock.old) (C.moments clock.new) (A.reports air.old) (A.reports air.new) (A.attached air.new))
         (O.content out.old) (O.content out.new) (O.faults out.old) (O.faults out.new) (A.faults air.old) (A.faults air.new) result }
+    ensures first_try { AttachesAtOnce A A.attached A.faults air.old air.new }
     ensures later_out { O.faults out.old ≤ O.faults out.new }
     ensures later_air { A.faults air.old ≤ A.faults air.new }
 {

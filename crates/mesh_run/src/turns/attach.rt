@@ -4,6 +4,7 @@ ghost use Rattle.mesh_io.specs.Faults.{RoseByOne};
 ghost use Rattle.mesh_io.specs.Told.{Tells};
 ghost use Rattle.mesh_run.specs.Turns.Parts.{AttachesPort};
 ghost use Rattle.mesh_run.specs.Turns.Turns.{attached_report};
+ghost use Rattle.mesh_run.specs.Attaching.{AttachesAtOnce};
 
 use mesh_atoms::Port;
 use mesh_io::{Air, Attached};
@@ -20,6 +21,7 @@ pub fn attach_all<A: Air>(air: &mut A, ports: &[Port]) -> Result<(), usize>
     ensures fewer { IfErr result (λ i. (i < length ports.now)) }
     ensures number { IfErr result (λ i. A.attached air.new ≡ i) }
     ensures told_before { IfErr result (λ i. Tells (A.reports air.old) (A.reports air.new) (map attached_report (take i ports.now))) }
+    ensures first_try { AttachesAtOnce A A.attached A.faults air.old air.new }
     ensures later { A.faults air.old ≤ A.faults air.new }
 {
     for i in 0..ports.len() {
