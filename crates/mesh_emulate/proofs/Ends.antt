@@ -7,7 +7,7 @@ use Rattle.mesh_atoms.specs.Settled.{At}
 use Rattle.mesh_atoms.specs.Sound.{Sound}
 use Rattle.mesh_atoms.specs.State.{State}
 use Rattle.mesh_probe.specs.Probes.{AreRoutersAt}
-use Rattle.mesh_machine.proofs.Through.{end_together}
+use Rattle.mesh_texts.proofs.machine.Through.{end_together}
 use Rattle.mesh_settled.specs.Gaps.Network.{IsNetwork}
 use Rattle.mesh_texts.proofs.RunStates.{run_states}
 use Rattle.mesh_texts.specs.Runs.{WholeRun}

@@ -5,8 +5,8 @@ use Rattle.std.specs.Prelude.{is_some}
 use Rattle.std.proofs.lemmas.List.{append-nil}
 use Rattle.mesh_atoms.specs.declared.settings.Scenario.{Scenario}
 use Rattle.mesh_io.specs.declared.stop.Stop.{Stop}
-use Rattle.mesh_machine.specs.Net.{Net}
-use Rattle.mesh_machine.specs.NetRun.{IsOpeningNet, IsOver}
+use Rattle.mesh_texts.specs.machine.Net.{Net}
+use Rattle.mesh_texts.specs.machine.NetRun.{IsOpeningNet, IsOver}
 use Rattle.mesh_texts.specs.Runs.{WholeRun, IsTrace, IsRunText}
 use Rattle.mesh_emulate.specs.declared.wanted.Departure.{Departure}
 use Rattle.mesh_emulate.specs.declared.wanted.Errand.{Errand}

@@ -4,7 +4,7 @@ use Rattle.std.specs.List.{AllByRecursion as Each, flat_map}
 use Rattle.std.proofs.lemmas.Grind.{flat_map-append}
 use Rattle.std.proofs.lemmas.List.Elements.{All-append}
 use Rattle.mesh_atoms.specs.declared.settings.Scenario.{Scenario}
-use Rattle.mesh_machine.specs.Names.{router_name}
+use Rattle.mesh_texts.specs.machine.Names.{router_name}
 use Rattle.mesh_texts.specs.Printed.{IsPlain, ArePlain}
 use Rattle.mesh_texts.proofs.Cuts.{lacks, lacks_both}
 use Rattle.mesh_texts.proofs.Marked.{router_name_lacks}

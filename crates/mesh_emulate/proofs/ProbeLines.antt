@@ -9,7 +9,7 @@ use Rattle.mesh_atoms.specs.declared.settings.Scenario.{Scenario}
 use Rattle.mesh_atoms.specs.State.{State}
 use Rattle.mesh_emulate.specs.Emulation.{TellsProbe}
 use Rattle.mesh_emulate.proofs.PlainLines.{router_lacks, behind, behind_lacks}
-use Rattle.mesh_machine.specs.Names.{router_name}
+use Rattle.mesh_texts.specs.machine.Names.{router_name}
 use Rattle.mesh_probe.specs.declared.coverage.Coverage.{Coverage}
 use Rattle.mesh_probe.specs.declared.coverage.Probe.{Probe}
 use Rattle.mesh_probe.specs.declared.coverage.Probe.TheVariants.{NoNumber, Done}

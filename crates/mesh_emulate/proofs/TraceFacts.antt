@@ -8,11 +8,11 @@ use Rattle.mesh_atoms.specs.declared.settings.Scenario.{Scenario}
 use Rattle.mesh_atoms.specs.State.{State}
 use Rattle.mesh_io.specs.declared.stop.Stop.{Stop}
 use Rattle.mesh_io.proofs.Steps.{appends_more}
-use Rattle.mesh_machine.specs.packet.Least.{Wrote}
+use Rattle.mesh_texts.specs.machine.packet.Least.{Wrote}
 use Rattle.mesh_atoms.specs.declared.network.NetEvent.{NetEvent}
-use Rattle.mesh_machine.specs.Net.{Net, NetStep, By_delivery, By_tick, By_last_tick, Moves}
-use Rattle.mesh_machine.specs.Traffic.{Traffic, with_heard}
-use Rattle.mesh_machine.specs.NetRun.{IsOfPackets}
+use Rattle.mesh_texts.specs.machine.Net.{Net, NetStep, By_delivery, By_tick, By_last_tick, Moves}
+use Rattle.mesh_texts.specs.machine.Traffic.{Traffic, with_heard}
+use Rattle.mesh_texts.specs.machine.NetRun.{IsOfPackets}
 use Rattle.mesh_texts.proofs.TraceSteps.{traces_more, traces_run}
 use Rattle.mesh_texts.specs.Trace.{IsEventText}
 use Rattle.mesh_texts.specs.Runs.{IsTraced}

@@ -17,7 +17,7 @@ use Rattle.mesh_data.specs.Dotted.{dotted}
 use Rattle.mesh_data.specs.Text.{interface_name, interface_in, end_name, hop_start, hop_end, hop_line, trip_start, trip_end, text_of}
 use Rattle.mesh_emulate.specs.Emulation.{TellsTrip}
 use Rattle.mesh_emulate.specs.Wants.{Packet}
-use Rattle.mesh_machine.specs.Names.{router_name}
+use Rattle.mesh_texts.specs.machine.Names.{router_name}
 use Rattle.mesh_texts.specs.Printed.{IsLine, IsPlain, ArePlain}
 use Rattle.mesh_texts.proofs.Cuts.{lacks}
 use Rattle.mesh_texts.proofs.LineTexts.{line_end, line_after, begins_otherwise, number, nothing_plain}

@@ -13,7 +13,7 @@ use Rattle.mesh_data.specs.Laws.{LiesAt, HasNetwork, IsNetworkOf, ArrivesAt}
 use Rattle.mesh_data.specs.Trips.{IsTrip}
 use Rattle.mesh_emulate.specs.Emulation.{Emulation}
 use Rattle.mesh_emulate.specs.Wants.{Packet, Wants}
-use Rattle.mesh_machine.specs.flood.Standing.{HasFullSet}
+use Rattle.mesh_texts.specs.machine.flood.Standing.{HasFullSet}
 use Rattle.mesh_probe.specs.declared.coverage.Coverage.{Coverage}
 use Rattle.mesh_probe.specs.Laws.{AllWillFlood}
 use Rattle.mesh_probe.specs.Probes.{IfDone, SendsOnce}

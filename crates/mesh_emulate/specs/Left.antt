@@ -15,8 +15,8 @@ use Rattle.mesh_emulate.specs.Emulation.{IsProbeOf}
 use Rattle.mesh_probe.specs.declared.coverage.Probe.{Probe}
 use Rattle.mesh_probe.specs.Text.{IsProbeText}
 use Rattle.mesh_atoms.specs.declared.network.NetEvent.{NetEvent}
-use Rattle.mesh_machine.specs.Net.{Net}
-use Rattle.mesh_machine.specs.NetRun.{IsOver, NetRun}
+use Rattle.mesh_texts.specs.machine.Net.{Net}
+use Rattle.mesh_texts.specs.machine.NetRun.{IsOver, NetRun}
 use Rattle.mesh_atoms.specs.declared.gap.Gap.{Gap}
 use Rattle.mesh_texts.specs.Trace.{IsTaken}
 use Rattle.mesh_texts.specs.Network.{IsGapOf, IsSummary}

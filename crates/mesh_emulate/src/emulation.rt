@@ -9,7 +9,7 @@ ghost use Rattle.mesh_emulate.specs.Wants.{wants_of, IsWithin};
 ghost use Rattle.mesh_emulate.specs.declared.emulation.EmulateFault.TheVariants.{Refused, Stopped};
 ghost use Rattle.mesh_io.specs.Faults.{Rose};
 ghost use Rattle.mesh_probe.specs.Probes.{AreRoutersAt};
-ghost use Rattle.mesh_machine.specs.NetRun.{IsOpeningNet};
+ghost use Rattle.mesh_texts.specs.machine.NetRun.{IsOpeningNet};
 
 use crate::events::tell_events;
 use crate::network::Network;

@@ -1,12 +1,11 @@
 //! An emulated network, whatever tables its routers have.
 ghost use Rattle.std.specs.Prelude.{◌≡◌, List, map, IfOk, OnOk, MatchOption, IfSome};
 ghost use Rattle.mesh_atoms.specs.declared.network.NetEvent.{NetEvent};
-ghost use Rattle.mesh_machine.specs.Net.{Net, NetStep};
-ghost use Rattle.mesh_machine.specs.NetRun.{IsOver, IsOfPackets, NetRun};
+ghost use Rattle.mesh_texts.specs.machine.Net.{Net, NetStep};
+ghost use Rattle.mesh_texts.specs.machine.NetRun.{IsOver, IsOfPackets, NetRun};
 
-use mesh_core::{Core, Machine};
 use mesh_expire::Bases;
-use mesh_radio::{Counts, Net, NetEvent};
+use mesh_radio::{Core, Counts, Machine, Net, NetEvent};
 use std::alloc::AllocError;
 
 /// An emulated network. What is told of one needs no more than this, and knows nothing of tables.

@@ -6,9 +6,9 @@ ghost use Rattle.mesh_probe.specs.Probes.{AreRoutersAt};
 
 use crate::writing::write_text;
 use mesh_atoms::{Bytes, RadioGraph, Scenario};
-use mesh_core::Machine;
 use mesh_io::{Sink, Stop};
 use mesh_probe::{probe, probe_text};
+use mesh_radio::Machine;
 use std::alloc::{AllocError, Global};
 
 // The text of the probe by that router. After want of memory the routers may only be dropped.

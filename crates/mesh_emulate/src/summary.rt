@@ -10,7 +10,7 @@ use crate::wanted::Departure;
 use crate::writing::write_text;
 use mesh_atoms::{Bytes, RadioGraph, Scenario};
 use mesh_io::{Sink, Stop};
-use mesh_machine::RouterView;
+use mesh_radio::RouterView;
 use mesh_settled::{Gap, settled};
 use mesh_texts::put_summary;
 use std::alloc::{AllocError, Global};

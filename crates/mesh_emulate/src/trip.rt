@@ -8,7 +8,7 @@ use crate::writing::write_text;
 use mesh_atoms::{Bytes, Scenario};
 use mesh_data::{send, trip_text};
 use mesh_io::{Sink, Stop};
-use mesh_machine::RouterView;
+use mesh_radio::RouterView;
 use std::alloc::{AllocError, Global};
 
 // The text of the trip of a packet.

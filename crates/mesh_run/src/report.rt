@@ -6,8 +6,8 @@ ghost use Rattle.mesh_run.specs.Text.{run_line, IsReport};
 
 use crate::turns::Ended;
 use mesh_atoms::Bytes;
+use mesh_core::RouterView;
 use mesh_io::{Sink, Stop, write_all};
-use mesh_machine::RouterView;
 use mesh_texts::{Piece, put_line, put_section};
 use std::alloc::{AllocError, Global};
 

@@ -1,6 +1,6 @@
 //! The router of a run.
 ghost use Rattle.std.specs.Prelude.{◌≡◌, ◌≤◌, ℕ, List, length, IfOk};
-ghost use Rattle.mesh_machine.specs.Machine.{IsOpening};
+ghost use Rattle.mesh_texts.specs.machine.Machine.{IsOpening};
 ghost use Rattle.mesh_run.specs.Attaching.{AttachesAtOnce};
 ghost use Rattle.mesh_run.specs.Ends.{RouterEnds, Ends};
 ghost use Rattle.mesh_run.specs.Run.{States, told};

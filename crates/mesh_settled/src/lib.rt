@@ -11,4 +11,5 @@ pub use gaps::{
 };
 pub use law::settled_routers_lead;
 pub use mesh_atoms::{Gap, GapKey, GapKind, GapValue};
+pub use mesh_machine::{RouterView, router_name};
 pub use report::settled;

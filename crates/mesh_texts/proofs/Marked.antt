@@ -13,7 +13,7 @@ use Rattle.mesh_atoms.specs.Codes.Codes.{metric_value}
 use Rattle.mesh_atoms.specs.Settings.{IsName, is_name_octet}
 use Rattle.mesh_atoms.specs.declared.tuples.LinkState.{LinkState}
 use Rattle.mesh_atoms.specs.declared.tuples.LinkState.TheVariants.{Pending as Is_pending, Lost as Is_lost, Symmetric as Is_symmetric, Heard as Is_heard}
-use Rattle.mesh_machine.specs.Names.{name_of_router, router_name}
+use Rattle.mesh_settled.specs.machine.Names.{name_of_router, router_name}
 use Rattle.mesh_texts.specs.Lines.Marks.{dotted, slashed, node_text, metric_text, choice_text, status_text, nearness_text, relays_text, spaced, name_of_face, face_name}
 use Rattle.mesh_texts.proofs.Cuts.{lacks, lacks_both, lacks_by, lacks_rest, not_here}
 

@@ -8,16 +8,16 @@ use Rattle.mesh_atoms.specs.declared.settings.Scenario.{Scenario}
 use Rattle.mesh_atoms.specs.Radio.{Router, IsRadioGraph}
 use Rattle.mesh_atoms.specs.Settled.{At, AreStates, Settled}
 use Rattle.mesh_atoms.specs.State.{State}
-use Rattle.mesh_machine.specs.declared.frame.Frame.{Frame}
-use Rattle.mesh_machine.specs.Machine.{Event, Step, Heard_frame, Ticked, Steps, No_events, First_event, Run}
-use Rattle.mesh_machine.proofs.Effects.{hears_settings}
+use Rattle.mesh_settled.specs.machine.declared.frame.Frame.{Frame}
+use Rattle.mesh_settled.specs.machine.Machine.{Event, Step, Heard_frame, Ticked, Steps, No_events, First_event, Run}
+use Rattle.mesh_settled.proofs.machine.Effects.{hears_settings}
 use Rattle.mesh_atoms.specs.declared.network.NetEvent.{NetEvent}
-use Rattle.mesh_machine.specs.Net.{Net, NetStep, By_delivery, By_tick, By_last_tick, Moves, event_of, frames_of}
-use Rattle.mesh_machine.specs.Traffic.{Traffic, with_heard}
-use Rattle.mesh_machine.specs.NetRun.{NetRun, events_at}
+use Rattle.mesh_settled.specs.machine.Net.{Net, NetStep, By_delivery, By_tick, By_last_tick, Moves, event_of, frames_of}
+use Rattle.mesh_settled.specs.machine.Traffic.{Traffic, with_heard}
+use Rattle.mesh_settled.specs.machine.NetRun.{NetRun, events_at}
 use Rattle.mesh_settled.proofs.paths.Scenarios.{sound_scenario}
 use Rattle.mesh_settled.specs.paths.SettledRoutes.{IsSettledNetwork}
-use Rattle.mesh_machine.proofs.Through.{are_machines, end_together}
+use Rattle.mesh_settled.proofs.machine.Through.{are_machines, end_together}
 use Rattle.mesh_settled.specs.Gaps.Network.{IsNetwork}
 use Rattle.mesh_texts.specs.Runs.{WholeRun, RoutersAreRuns}
 

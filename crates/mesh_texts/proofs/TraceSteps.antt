@@ -2,8 +2,8 @@
 use Rattle.std.proofs.Common.{ℕ, List, [], ◌∷◌, ◌++◌, refl, sym, ap, ◌∙◌, subst, append_assoc}
 use Rattle.std.proofs.lemmas.List.{append-nil}
 use Rattle.mesh_atoms.specs.declared.network.NetEvent.{NetEvent}
-use Rattle.mesh_machine.specs.Net.{Net, NetStep}
-use Rattle.mesh_machine.specs.NetRun.{NetRun}
+use Rattle.mesh_settled.specs.machine.Net.{Net, NetStep}
+use Rattle.mesh_settled.specs.machine.NetRun.{NetRun}
 use Rattle.mesh_texts.specs.Runs.{IsTraced, Traces}
 
 -- a trace with one event more

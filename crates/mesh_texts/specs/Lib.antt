@@ -1,3 +1,4 @@
+pub use Rattle.mesh_settled.specs.machine
 pub mod Laws
 pub mod Lines
 pub mod Network

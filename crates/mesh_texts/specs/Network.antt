@@ -9,7 +9,7 @@ use Rattle.mesh_atoms.specs.declared.gap.Gap.{Gap}
 use Rattle.mesh_atoms.specs.declared.gap.GapKey.{GapKey}
 use Rattle.mesh_atoms.specs.declared.gap.GapKey.TheVariants.{Link, Neighbour, TwoHop, Router, Address, Network}
 use Rattle.mesh_settled.specs.Gaps.Gaps.{IsFirstGap}
-use Rattle.mesh_machine.specs.Names.{router_name}
+use Rattle.mesh_settled.specs.machine.Names.{router_name}
 use Rattle.mesh_texts.specs.Lines.Marks.{joined, line_of, dotted, slashed, choice_text, face_name, faces_of}
 use Rattle.mesh_texts.specs.Sections.Section.{AreSections}
 

@@ -5,10 +5,10 @@ use Rattle.mesh_atoms.specs.declared.settings.Scenario.{Scenario}
 use Rattle.mesh_atoms.specs.Radio.{Router}
 use Rattle.mesh_atoms.specs.Settled.{Settled}
 use Rattle.mesh_atoms.specs.State.{State}
-use Rattle.mesh_machine.specs.Machine.{Run}
+use Rattle.mesh_settled.specs.machine.Machine.{Run}
 use Rattle.mesh_atoms.specs.declared.network.NetEvent.{NetEvent}
-use Rattle.mesh_machine.specs.Net.{Net, NetStep, event_of, frames_of}
-use Rattle.mesh_machine.specs.NetRun.{IsOpeningNet, IsOver, NetRun, events_at}
+use Rattle.mesh_settled.specs.machine.Net.{Net, NetStep, event_of, frames_of}
+use Rattle.mesh_settled.specs.machine.NetRun.{IsOpeningNet, IsOver, NetRun, events_at}
 use Rattle.mesh_atoms.specs.declared.gap.Gap.{Gap}
 use Rattle.mesh_texts.specs.Trace.{IsEventText}
 use Rattle.mesh_texts.specs.Network.{IsGapOf, IsSummary}

@@ -8,11 +8,11 @@ use Rattle.mesh_atoms.specs.declared.settings.RadioArc.{RadioArc}
 use Rattle.mesh_atoms.specs.declared.settings.RouterSettings.{RouterSettings}
 use Rattle.mesh_atoms.specs.declared.settings.Scenario.{Scenario}
 use Rattle.mesh_atoms.specs.State.{State}
-use Rattle.mesh_machine.specs.packet.Grammar.{FirstFault}
-use Rattle.mesh_machine.specs.Sendable.{IsPacket}
+use Rattle.mesh_settled.specs.machine.packet.Grammar.{FirstFault}
+use Rattle.mesh_settled.specs.machine.Sendable.{IsPacket}
 use Rattle.mesh_atoms.specs.declared.network.Emission.{Emission}
 use Rattle.mesh_atoms.specs.declared.network.NetEvent.{NetEvent}
-use Rattle.mesh_machine.specs.Names.{router_name}
+use Rattle.mesh_settled.specs.machine.Names.{router_name}
 use Rattle.mesh_texts.specs.Lines.Marks.{line_of, dotted, relays_text, face_name, faces_of}
 
 -- a router's clock ticked

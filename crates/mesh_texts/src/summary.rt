@@ -2,9 +2,9 @@
 ghost use Rattle.std.specs.Prelude.{◌≡◌, ◌++◌, ◌∷◌, [], codes, length, map, is_some, OnOk, Option};
 ghost use Rattle.std.specs.List.{All};
 ghost use Rattle.mesh_atoms.specs.Sound.{Sound};
-ghost use Rattle.mesh_machine.specs.packet.Least.{Wrote};
-ghost use Rattle.mesh_machine.specs.tlv.Least.{Grows};
-ghost use Rattle.mesh_machine.specs.Names.{router_name};
+ghost use Rattle.mesh_settled.specs.machine.packet.Least.{Wrote};
+ghost use Rattle.mesh_settled.specs.machine.tlv.Least.{Grows};
+ghost use Rattle.mesh_settled.specs.machine.Names.{router_name};
 ghost use Rattle.mesh_texts.specs.Lines.Marks.{joined, line_of, dotted, choice_text, faces_of};
 ghost use Rattle.mesh_texts.specs.Lines.Pieces.{piece_text};
 ghost use Rattle.mesh_texts.specs.Sections.Section.{AreSections};
@@ -12,7 +12,7 @@ ghost use Rattle.mesh_texts.specs.Network.{counts_line, key_text, gap_line, sett
 
 use crate::{Piece, face_name, faces_of, put_all, put_line, put_section};
 use mesh_atoms::{Addr4, Bytes, Counts, Gap, GapKey, Interface, LinkKey, Scenario, TwoHopKey};
-use mesh_machine::{RouterView, router_name};
+use mesh_settled::{RouterView, router_name};
 use std::alloc::AllocError;
 
 /// Puts how large a network is, when it ended, and what was counted. Want of memory leaves a part of it behind what was there.

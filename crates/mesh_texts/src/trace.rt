@@ -1,9 +1,9 @@
 //! The lines of an event of an emulated network, put behind other octets.
 ghost use Rattle.std.specs.Prelude.{◌≡◌, ◌++◌, OnOk, Some};
 ghost use Rattle.std.specs.List.{flat_map, enumerate_from};
-ghost use Rattle.mesh_machine.specs.packet.Least.{Wrote};
-ghost use Rattle.mesh_machine.specs.tlv.Least.{Grows};
-ghost use Rattle.mesh_machine.specs.Names.{router_name};
+ghost use Rattle.mesh_settled.specs.machine.packet.Least.{Wrote};
+ghost use Rattle.mesh_settled.specs.machine.tlv.Least.{Grows};
+ghost use Rattle.mesh_settled.specs.machine.Names.{router_name};
 ghost use Rattle.mesh_texts.specs.Lines.Marks.{line_of, face_name, relays_text, faces_of};
 ghost use Rattle.mesh_texts.specs.Trace.{tick_line, heard_line, event_line, flooding_relays_line, routing_relays_line, relays_lines, sent_line, loss_line, arc_line, lost_line, sent_lines, event_text, IsTaken, IsEventText};
 
@@ -11,7 +11,7 @@ use crate::lines::{Piece, face_name, faces_of, put_line, relays_of};
 use mesh_atoms::{
     Addr4, Bytes, Emission, Interface, NetEvent, RadioArc, RouterSettings, Scenario, Seq,
 };
-use mesh_machine::{RouterView, router_name};
+use mesh_settled::{RouterView, router_name};
 use std::alloc::AllocError;
 
 /// Puts the line of a tick.

@@ -1,2 +1,3 @@
+pub use Rattle.mesh_texts.specs.machine
 pub mod Positions
 pub mod Reading

@@ -9,8 +9,8 @@ use Rattle.mesh_emulate.specs.Making.Made.{IsEndText, IsMadeText, MadeEmulation}
 use Rattle.mesh_emulate.specs.Making.Scenario.{IsMade}
 use Rattle.mesh_atoms.specs.declared.network.Counts.{Counts}
 use Rattle.mesh_atoms.specs.declared.network.NetEvent.{NetEvent}
-use Rattle.mesh_machine.specs.Net.{Net}
-use Rattle.mesh_machine.specs.NetRun.{IsOpeningNet, IsOver, NetRun}
+use Rattle.mesh_texts.specs.machine.Net.{Net}
+use Rattle.mesh_texts.specs.machine.NetRun.{IsOpeningNet, IsOver, NetRun}
 use Rattle.mesh_settled.specs.Gaps.Network.{IsNetwork}
 use Rattle.mesh_texts.proofs.RunStates.{end_is_network, final_count}
 use Rattle.mesh_texts.specs.Runs.{WholeRun}

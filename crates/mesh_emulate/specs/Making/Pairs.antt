@@ -1,7 +1,7 @@
 -- The pairs of routers that are joined in a made scenario.
 use Rattle.std.specs.Prelude.{◌≡◌, ℕ, ◌+◌, ◌-◌, ◌*◌, ◌%◌, ◌≤◌, List, [], ◌∷◌, ◌++◌, map, Bool, not, cond, nat_lt, nat_eq, ◌&&◌, zero, suc, if◌then◌else◌}
 use Rattle.std.specs.List.{flat_map, list_any, range_with_len}
-use Rattle.mesh_machine.specs.Draws.{word_of}
+use Rattle.mesh_texts.specs.machine.Draws.{word_of}
 use Rattle.mesh_emulate.specs.declared.making.pairs.Pair.{Pair}
 use Rattle.mesh_emulate.specs.declared.making.kind.Kind.{Kind}
 use Rattle.mesh_emulate.specs.declared.making.kind.Kind.TheVariants as kind

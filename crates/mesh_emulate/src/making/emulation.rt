@@ -15,9 +15,8 @@ use crate::making::text::put_made;
 use mesh_atoms::{Bytes, Scenario};
 use mesh_expire::Bases;
 use mesh_io::{Sink, Stop, write_all};
-use mesh_machine::RouterView;
 use mesh_paths::radio_graph;
-use mesh_radio::{Counts, Net};
+use mesh_radio::{Counts, Net, RouterView};
 use mesh_settled::settled;
 use std::alloc::{AllocError, Global};
 

@@ -3,7 +3,7 @@ ghost use Rattle.std.specs.Prelude.{◌≡◌, ◌++◌, ◌∷◌, [], ◌≤�
 ghost use Rattle.mesh_emulate.specs.Making.Routes.{metrics_of, IsGreatest};
 
 use mesh_atoms::Route;
-use mesh_machine::RouterView;
+use mesh_radio::RouterView;
 
 // The greater of the metric and the greatest one so far.
 fn greater(greatest: Option<u64>, metric: u64) -> Option<u64>

@@ -2,14 +2,13 @@
 ghost use Rattle.std.specs.Prelude.{◌≡◌, ◌≤◌, ◌++◌, ◌∷◌, ℕ, List, [], length, map, OnOk};
 ghost use Rattle.mesh_emulate.specs.Making.Lines.{kind_text, made_line, routes_line, TellsRoutes};
 ghost use Rattle.mesh_emulate.specs.Making.Routes.{metrics_of};
-ghost use Rattle.mesh_machine.specs.packet.Least.{Wrote};
+ghost use Rattle.mesh_texts.specs.machine.packet.Least.{Wrote};
 ghost use Rattle.mesh_texts.specs.Network.{counts_line, settled_text};
 
 use crate::making::kind::Kind;
 use crate::making::routes::{greatest_of, route_count};
 use mesh_atoms::{Bytes, Scenario};
-use mesh_machine::RouterView;
-use mesh_radio::Counts;
+use mesh_radio::{Counts, RouterView};
 use mesh_settled::Gap;
 use mesh_texts::{Piece, put_counts_line, put_line, put_settled};
 use std::alloc::AllocError;

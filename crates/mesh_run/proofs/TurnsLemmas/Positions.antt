@@ -7,7 +7,7 @@ use Rattle.mesh_atoms.specs.State.{State}
 use Rattle.mesh_io.specs.Airs.{Report}
 use Rattle.mesh_io.specs.Airs.Report.{Heard_frame}
 use Rattle.mesh_io.specs.Told.{Tells}
-use Rattle.mesh_machine.specs.Machine.Event.{Hear}
+use Rattle.mesh_texts.specs.machine.Machine.Event.{Hear}
 use Rattle.mesh_run.specs.declared.turns.tally.Tally.{Tally}
 use Rattle.mesh_run.specs.Turns.Turns.{Position, Goes, tick_of, moment_of, greatest_of}
 use Rattle.mesh_run.specs.Turns.Turns.Goes.{Stays, Then_begins, Then_listens}

@@ -6,9 +6,9 @@ use Rattle.std.proofs.lemmas.List.{append-nil}
 use Rattle.mesh_atoms.specs.State.{State}
 use Rattle.mesh_io.specs.Airs.{Report}
 use Rattle.mesh_io.specs.Airs.Report.{Attached_to, Heard_frame, Heard_silence, Heard_fault, Handed}
-use Rattle.mesh_machine.proofs.Opening.{runs_sound}
-use Rattle.mesh_machine.specs.declared.frame.Frame.{Frame}
-use Rattle.mesh_machine.specs.Machine.{Event, Tick, Step, Steps, No_events, First_event, due}
+use Rattle.mesh_texts.proofs.machine.Opening.{runs_sound}
+use Rattle.mesh_texts.specs.machine.declared.frame.Frame.{Frame}
+use Rattle.mesh_texts.specs.machine.Machine.{Event, Tick, Step, Steps, No_events, First_event, due}
 use Rattle.mesh_run.specs.Turns.Laws.{HeardFrame, heard_by, heard_in, TurnsAreRuns, TurnsKeepSound}
 use Rattle.mesh_run.specs.Turns.Turns.{handed, ear_of, heard_at, AreHanded, Does, tick_of, Position, Goes}
 use Rattle.mesh_run.specs.Turns.Turns.Goes.{Stays, Then_begins, Then_listens}

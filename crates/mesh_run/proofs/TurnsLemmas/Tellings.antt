@@ -6,8 +6,8 @@ use Rattle.std.proofs.lemmas.List.Sums.{sum_by-append}
 use Rattle.mesh_atoms.specs.declared.settings.RouterSettings.{RouterSettings}
 use Rattle.mesh_io.specs.Airs.{Report}
 use Rattle.mesh_io.specs.Told.{Tells}
-use Rattle.mesh_machine.specs.declared.frame.Frame.{Frame}
-use Rattle.mesh_machine.specs.Sendable.{IsSendable}
+use Rattle.mesh_texts.specs.machine.declared.frame.Frame.{Frame}
+use Rattle.mesh_texts.specs.machine.Sendable.{IsSendable}
 use Rattle.mesh_run.specs.declared.turns.tally.Tally.{Tally}
 use Rattle.mesh_run.specs.Turns.Turns.{handed, is_heard, is_sent, is_fault}
 use Rattle.mesh_run.specs.Turns.Parts.{Hands, counted}

@@ -5,7 +5,7 @@ use Rattle.std.proofs.lemmas.List.{append-nil}
 use Rattle.mesh_atoms.specs.declared.settings.RunSetup.{RunSetup}
 use Rattle.mesh_atoms.specs.State.{State}
 use Rattle.mesh_io.specs.Airs.{Report}
-use Rattle.mesh_machine.specs.Machine.{IsOpening}
+use Rattle.mesh_texts.specs.machine.Machine.{IsOpening}
 use Rattle.mesh_run.specs.declared.turns.tally.Ended.{Ended}
 use Rattle.mesh_run.specs.declared.turns.tally.Tally.{Tally}
 use Rattle.mesh_run.specs.Turns.Turns.{moment_of, greatest_of, is_heard, is_sent, is_fault, tally_of, ended_by, DoesTurns, StopsTurns}

@@ -6,8 +6,8 @@ use Rattle.mesh_atoms.specs.State.{State}
 use Rattle.mesh_io.specs.Airs.{Report, Attaches, IsAttachCaused}
 use Rattle.mesh_io.specs.Told.{Tells}
 use Rattle.mesh_io.specs.declared.airs.Attached.{Attached}
-use Rattle.mesh_machine.specs.declared.frame.Frame.{Frame}
-use Rattle.mesh_machine.specs.Machine.{Event}
+use Rattle.mesh_texts.specs.machine.declared.frame.Frame.{Frame}
+use Rattle.mesh_texts.specs.machine.Machine.{Event}
 use Rattle.mesh_run.specs.declared.turns.tally.Tally.{Tally}
 use Rattle.mesh_run.specs.Turns.Turns.{ear_of, heard_at, AreHanded, Does, Position, Goes, IsLost, is_heard, is_sent, is_fault, greatest_of}
 

@@ -8,8 +8,8 @@ use Rattle.mesh_io.specs.Airs.{Report}
 use Rattle.mesh_io.specs.Airs.Report.{Attached_to, Heard_frame, Heard_silence, Heard_fault, Handed}
 use Rattle.mesh_io.specs.declared.airs.Sent.TheVariants as sent
 use Rattle.mesh_io.specs.Told.{Tells}
-use Rattle.mesh_machine.specs.declared.frame.Frame.{Frame}
-use Rattle.mesh_machine.specs.Machine.{Event, Hear, Tick, Step, IsOpening, due}
+use Rattle.mesh_texts.specs.machine.declared.frame.Frame.{Frame}
+use Rattle.mesh_texts.specs.machine.Machine.{Event, Hear, Tick, Step, IsOpening, due}
 use Rattle.mesh_run.specs.declared.turns.tally.Ended.{Ended}
 use Rattle.mesh_run.specs.declared.turns.tally.Tally.{Tally}
 

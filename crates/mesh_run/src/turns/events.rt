@@ -1,7 +1,7 @@
 //! Events of a running router, with what it sends handed over.
 ghost use Rattle.std.specs.Prelude.{◌≡◌, ◌<◌, ◌≤◌, ◌^◌, [], Some, OnOk, OnErr};
 ghost use Rattle.mesh_io.specs.Told.{Tells};
-ghost use Rattle.mesh_machine.specs.Machine.{Event};
+ghost use Rattle.mesh_texts.specs.machine.Machine.{Event};
 ghost use Rattle.mesh_run.specs.Turns.Parts.{IsReady, Acts};
 ghost use Rattle.mesh_run.specs.Turns.Turns.{tick_of};
 

@@ -1,6 +1,6 @@
 //! The turns of a running router, up to its end.
 ghost use Rattle.std.specs.Prelude.{◌≡◌, ◌<◌, ◌≤◌, ◌^◌, length, OnErr, IfOk};
-ghost use Rattle.mesh_machine.specs.Machine.{IsOpening};
+ghost use Rattle.mesh_texts.specs.machine.Machine.{IsOpening};
 ghost use Rattle.mesh_run.specs.Turns.Parts.{IsReady, Turning, Stopped, at};
 ghost use Rattle.mesh_run.specs.Turns.Turns.{moment_of, DoesTurns, StopsTurns};
 

@@ -2,7 +2,7 @@
 ghost use Rattle.std.specs.Prelude.{◌≡◌, ◌++◌, ◌∷◌, codes, length, map, decimal, slice_index_or, OnOk, [], Some};
 ghost use Rattle.std.specs.List.{flat_map, enumerate_from, sum};
 ghost use Rattle.mesh_atoms.specs.State.{state_of};
-ghost use Rattle.mesh_machine.specs.tlv.Least.{Grows};
+ghost use Rattle.mesh_settled.specs.machine.tlv.Least.{Grows};
 ghost use Rattle.mesh_texts.specs.Lines.Marks.{line_of, dotted, metric_text, choice_text, status_text, nearness_text, relays_text, face_name};
 ghost use Rattle.mesh_texts.specs.Lines.Lines.{router_line, link_line, neighbour_line, flooding_line, routing_line, row_line, route_line};
 

@@ -2,7 +2,7 @@
 ghost use Rattle.std.specs.Prelude.{◌≡◌, ◌++◌, ◌≤◌, length, map, take, decimal, codes, OnOk};
 ghost use Rattle.std.specs.List.{flat_map};
 ghost use Rattle.hex.specs.Hex.{encode_lower};
-ghost use Rattle.mesh_machine.specs.tlv.Least.{Grows};
+ghost use Rattle.mesh_settled.specs.machine.tlv.Least.{Grows};
 ghost use Rattle.mesh_texts.specs.Lines.Marks.{line_of, dotted, slashed, node_text, metric_text, choice_text, relays_text};
 ghost use Rattle.mesh_texts.specs.Lines.Pieces.{piece_text};
 

@@ -19,28 +19,28 @@ use Rattle.mesh_atoms.specs.Live.{Restores, LiveNeighbourhood}
 use Rattle.mesh_atoms.specs.State.{Neighbourhood, NotedMessages, Bases, State, neighbour_at}
 use Rattle.mesh_atoms.specs.TakesHello.{HelloAnswer, TakesHello, Breaks, Overfull, Overfull_two_hops, Takes}
 use Rattle.mesh_atoms.proofs.Lookups.{has_found, addr_equiv, same_addr}
-use Rattle.mesh_machine.specs.addr.declared.records.RawAddr.{RawAddr}
-use Rattle.mesh_machine.specs.packet.declared.packet.Span.{Span}
-use Rattle.mesh_machine.specs.packet.Fields.{MessageFields}
-use Rattle.mesh_machine.specs.packet.Grammar.{SpellsMessage}
-use Rattle.mesh_machine.specs.flood.declared.verdict.Heading.{Heading}
-use Rattle.mesh_machine.specs.flood.declared.verdict.Forward.{Forward}
-use Rattle.mesh_machine.specs.flood.declared.verdict.Forward.TheVariants as forward
-use Rattle.mesh_machine.specs.declared.arrival.Arrival.{Arrival}
-use Rattle.mesh_machine.specs.declared.fate.Fate.{Fate}
-use Rattle.mesh_machine.specs.declared.frame.Frame.{Frame}
-use Rattle.mesh_machine.specs.Frames.{on_each, octets_at}
-use Rattle.mesh_machine.specs.Messages.{IsHeading, ConsidersForwarding, ProcessesTc, Tc_taken, Tc_passed, TakesMessage, Hello_read, Hello_broken, Tc_read, Tc_broken, Other_passed, Other_left, TakesMessages, No_messages, First_message, AreSpelled, forwarding}
-use Rattle.mesh_machine.proofs.Hops.{limit_left}
-use Rattle.mesh_machine.proofs.Takes.{packet_spelled}
-use Rattle.mesh_machine.specs.Traffic.{Delivery, Traffic, Spreads, No_arcs, Loses, Carries, with_loss, with_delivery, with_sent, leaving}
-use Rattle.mesh_machine.proofs.Places.{set_at, stands}
-use Rattle.mesh_machine.specs.wire.Hello.{OriginatorIs}
-use Rattle.mesh_machine.specs.wire.Parts.{number_of}
-use Rattle.mesh_machine.specs.wire.Rehop.{hopped}
-use Rattle.mesh_machine.proofs.wire.Ascending.{head_or_tail, none_in}
-use Rattle.mesh_machine.proofs.wire.RowLines.{unmapped}
-use Rattle.mesh_machine.specs.Net.{Net}
+use Rattle.mesh_texts.specs.machine.addr.declared.records.RawAddr.{RawAddr}
+use Rattle.mesh_texts.specs.machine.packet.declared.packet.Span.{Span}
+use Rattle.mesh_texts.specs.machine.packet.Fields.{MessageFields}
+use Rattle.mesh_texts.specs.machine.packet.Grammar.{SpellsMessage}
+use Rattle.mesh_texts.specs.machine.flood.declared.verdict.Heading.{Heading}
+use Rattle.mesh_texts.specs.machine.flood.declared.verdict.Forward.{Forward}
+use Rattle.mesh_texts.specs.machine.flood.declared.verdict.Forward.TheVariants as forward
+use Rattle.mesh_texts.specs.machine.declared.arrival.Arrival.{Arrival}
+use Rattle.mesh_texts.specs.machine.declared.fate.Fate.{Fate}
+use Rattle.mesh_texts.specs.machine.declared.frame.Frame.{Frame}
+use Rattle.mesh_texts.specs.machine.Frames.{on_each, octets_at}
+use Rattle.mesh_texts.specs.machine.Messages.{IsHeading, ConsidersForwarding, ProcessesTc, Tc_taken, Tc_passed, TakesMessage, Hello_read, Hello_broken, Tc_read, Tc_broken, Other_passed, Other_left, TakesMessages, No_messages, First_message, AreSpelled, forwarding}
+use Rattle.mesh_texts.proofs.machine.Hops.{limit_left}
+use Rattle.mesh_texts.proofs.machine.Takes.{packet_spelled}
+use Rattle.mesh_texts.specs.machine.Traffic.{Delivery, Traffic, Spreads, No_arcs, Loses, Carries, with_loss, with_delivery, with_sent, leaving}
+use Rattle.mesh_texts.proofs.machine.Places.{set_at, stands}
+use Rattle.mesh_texts.specs.machine.wire.Hello.{OriginatorIs}
+use Rattle.mesh_texts.specs.machine.wire.Parts.{number_of}
+use Rattle.mesh_texts.specs.machine.wire.Rehop.{hopped}
+use Rattle.mesh_texts.proofs.machine.wire.Ascending.{head_or_tail, none_in}
+use Rattle.mesh_texts.proofs.machine.wire.RowLines.{unmapped}
+use Rattle.mesh_texts.specs.machine.Net.{Net}
 use Rattle.mesh_trace.specs.Positions.Due.{TakesPacket, HearsBy, Refused, Taken, HellosDue, Hellos_early, Hellos_due, TcsDue, Tcs_early, Tcs_silent, Tcs_due, part_items}
 use Rattle.mesh_trace.specs.Positions.Items.{Tells, Tells_flooding, Tells_routing, Tells_hello, Tells_tc, Tells_frame, Tells_loss, TellsFrame}
 use Rattle.mesh_trace.specs.Positions.Laws.{PositionsHaveAddresses}

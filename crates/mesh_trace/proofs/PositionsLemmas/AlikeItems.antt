@@ -12,15 +12,15 @@ use Rattle.mesh_atoms.specs.declared.settings.Scenario.{Scenario}
 use Rattle.mesh_atoms.specs.declared.tc.TcRow.{TcRow}
 use Rattle.mesh_atoms.specs.RelayGraphs.{AreRelaysOf, IsFloodingGraph, IsRoutingGraph}
 use Rattle.mesh_atoms.specs.State.{State}
-use Rattle.mesh_machine.specs.declared.frame.Frame.{Frame}
-use Rattle.mesh_machine.specs.Frames.{on_each}
-use Rattle.mesh_machine.specs.Sending.{IsHelloFrame}
-use Rattle.mesh_machine.specs.Traffic.{Traffic, Spreads, No_arcs, Loses, Carries, with_loss, with_delivery, with_sent, leaving}
-use Rattle.mesh_machine.proofs.packet.Encodable.{AreOctets}
-use Rattle.mesh_machine.proofs.Places.{same_at}
+use Rattle.mesh_texts.specs.machine.declared.frame.Frame.{Frame}
+use Rattle.mesh_texts.specs.machine.Frames.{on_each}
+use Rattle.mesh_texts.specs.machine.Sending.{IsHelloFrame}
+use Rattle.mesh_texts.specs.machine.Traffic.{Traffic, Spreads, No_arcs, Loses, Carries, with_loss, with_delivery, with_sent, leaving}
+use Rattle.mesh_texts.proofs.machine.packet.Encodable.{AreOctets}
+use Rattle.mesh_texts.proofs.machine.Places.{same_at}
 use Rattle.mesh_texts.specs.Lines.Marks.{face_name}
 use Rattle.mesh_texts.specs.Trace.{flooding_text, routing_relays_line, sent_line}
-use Rattle.mesh_machine.specs.Net.{Net}
+use Rattle.mesh_texts.specs.machine.Net.{Net}
 use Rattle.mesh_trace.specs.Positions.Alike.{HasAddresses}
 use Rattle.mesh_trace.specs.Positions.Items.{Tells, Tells_flooding, Tells_routing, Tells_hello, Tells_tc, TellsFrame, AreTcFrames, with_flooding, with_routing}
 use Rattle.mesh_trace.specs.Reading.Lines.{IsLineOf}

@@ -10,16 +10,16 @@ use Rattle.mesh_atoms.specs.Hello.{IsHelloNow, IsRoundedUp}
 use Rattle.mesh_atoms.specs.RelayGraphs.{IsFloodingGraph}
 use Rattle.mesh_atoms.specs.State.{State, IsOriginator}
 use Rattle.mesh_atoms.specs.Validity.{IsValidity}
-use Rattle.mesh_machine.specs.declared.frame.Frame.{Frame}
-use Rattle.mesh_machine.specs.Frames.{on_each}
-use Rattle.mesh_machine.specs.Sending.{IsHelloFrame}
+use Rattle.mesh_texts.specs.machine.declared.frame.Frame.{Frame}
+use Rattle.mesh_texts.specs.machine.Frames.{on_each}
+use Rattle.mesh_texts.specs.machine.Sending.{IsHelloFrame}
 use Rattle.mesh_atoms.specs.declared.network.Emission.{Emission}
-use Rattle.mesh_machine.specs.Traffic.{Traffic, Sends}
-use Rattle.mesh_machine.proofs.Places.{set_at}
+use Rattle.mesh_texts.specs.machine.Traffic.{Traffic, Sends}
+use Rattle.mesh_texts.proofs.machine.Places.{set_at}
 use Rattle.mesh_texts.specs.Lines.Marks.{face_name}
 use Rattle.mesh_texts.specs.Trace.{flooding_text, routing_relays_line, sent_line, lost_line}
-use Rattle.mesh_machine.specs.Net.{Net}
-use Rattle.mesh_machine.specs.wire.Writes.{WritesTc}
+use Rattle.mesh_texts.specs.machine.Net.{Net}
+use Rattle.mesh_texts.specs.machine.wire.Writes.{WritesTc}
 use Rattle.mesh_trace.specs.Positions.Alike.{AlikeStates, Alike}
 use Rattle.mesh_trace.specs.Positions.Items.{Tells, Tells_flooding, Tells_routing, Tells_hello, Tells_tc, Tells_frame, Tells_loss, TellsFrame, AreTcFrames, with_flooding, with_routing}
 use Rattle.mesh_trace.specs.Reading.Lines.{IsLineOf}

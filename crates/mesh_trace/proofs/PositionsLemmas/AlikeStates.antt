@@ -28,10 +28,10 @@ use Rattle.mesh_atoms.specs.Sound.{SoundNeighbourhood}
 use Rattle.mesh_atoms.specs.State.{State, HasLink, HasTwoHop, HasSymmetric, HasAddressOn, IsOriginator}
 use Rattle.mesh_atoms.specs.Words.{IsValue}
 use Rattle.mesh_atoms.proofs.Lookups.{has_found, has_found_on, addr_equiv, same_addr, link_equiv, same_link, two_hop_equiv, same_two_hop}
-use Rattle.mesh_machine.proofs.topo.AdvertisedLemmas.Advertising.{same_row}
+use Rattle.mesh_texts.proofs.machine.topo.AdvertisedLemmas.Advertising.{same_row}
 use Rattle.mesh_routes.specs.Staying.{SameWays}
 use Rattle.mesh_routes.proofs.StayingLaw.{graphs_stay}
-use Rattle.mesh_machine.proofs.wire.Ascending.{head_or_tail}
+use Rattle.mesh_texts.proofs.machine.wire.Ascending.{head_or_tail}
 use Rattle.mesh_trace.specs.Positions.Alike.{AlikeNear, AlikeStates}
 use Rattle.mesh_trace.proofs.PositionsLemmas.AlikeBases.{bases_back}
 

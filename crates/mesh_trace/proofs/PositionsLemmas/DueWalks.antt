@@ -8,15 +8,15 @@ use Rattle.mesh_atoms.specs.declared.tc.Tc.{Tc as TcValue}
 use Rattle.mesh_atoms.specs.declared.tc.TcRow.{TcRow}
 use Rattle.mesh_atoms.specs.State.{State}
 use Rattle.mesh_atoms.specs.Validity.{IsValidity}
-use Rattle.mesh_machine.specs.declared.frame.Frame.{Frame}
-use Rattle.mesh_machine.specs.Frames.{on_each}
-use Rattle.mesh_machine.specs.Sending.{IsHelloFrame, IsTcOfRows, SendsParts, No_part, First_part}
-use Rattle.mesh_machine.proofs.Originators.{some_interface}
+use Rattle.mesh_texts.specs.machine.declared.frame.Frame.{Frame}
+use Rattle.mesh_texts.specs.machine.Frames.{on_each}
+use Rattle.mesh_texts.specs.machine.Sending.{IsHelloFrame, IsTcOfRows, SendsParts, No_part, First_part}
+use Rattle.mesh_texts.proofs.machine.Originators.{some_interface}
 use Rattle.mesh_atoms.specs.declared.network.Emission.{Emission}
-use Rattle.mesh_machine.specs.Traffic.{Traffic, SendsAll, frame_of}
-use Rattle.mesh_machine.specs.wire.Writes.{WritesTc}
+use Rattle.mesh_texts.specs.machine.Traffic.{Traffic, SendsAll, frame_of}
+use Rattle.mesh_texts.specs.machine.wire.Writes.{WritesTc}
 use Rattle.mesh_texts.specs.Trace.{sent_lines}
-use Rattle.mesh_machine.specs.Net.{Net}
+use Rattle.mesh_texts.specs.machine.Net.{Net}
 use Rattle.mesh_trace.specs.Positions.Due.{part_items}
 use Rattle.mesh_trace.specs.Positions.Items.{Tells, Tells_hello, Tells_tc, TellsFrame, AreTcFrames}
 use Rattle.mesh_trace.specs.Positions.Standing.{Item, Hello, Tc, Sent, Lost, with_traffic}

@@ -10,19 +10,19 @@ use Rattle.mesh_atoms.specs.declared.tc.TcRow.{TcRow}
 use Rattle.mesh_atoms.specs.Advertised.{Gives, AreTcRows}
 use Rattle.mesh_atoms.specs.RelayGraphs.{AreRelays}
 use Rattle.mesh_atoms.specs.State.{Bases, State}
-use Rattle.mesh_machine.proofs.topo.AdvertisedLemmas.Advertising.{same_row}
-use Rattle.mesh_machine.specs.declared.arrival.Arrival.{Arrival}
-use Rattle.mesh_machine.specs.declared.fate.Fate.{Fate}
-use Rattle.mesh_machine.specs.declared.frame.Frame.{Frame}
-use Rattle.mesh_machine.specs.Machine.{HearsPacket, TicksAt}
-use Rattle.mesh_machine.specs.Renewal.{Renews}
-use Rattle.mesh_machine.specs.Sending.{IsHelloFrame, SendsHellos, Hellos_early as Early_hellos, Hellos_due as Due_hellos, SendsTcs, Tcs_early as Early_tcs, Tcs_silent as Silent_tcs, Tcs_due as Due_tcs}
+use Rattle.mesh_texts.proofs.machine.topo.AdvertisedLemmas.Advertising.{same_row}
+use Rattle.mesh_texts.specs.machine.declared.arrival.Arrival.{Arrival}
+use Rattle.mesh_texts.specs.machine.declared.fate.Fate.{Fate}
+use Rattle.mesh_texts.specs.machine.declared.frame.Frame.{Frame}
+use Rattle.mesh_texts.specs.machine.Machine.{HearsPacket, TicksAt}
+use Rattle.mesh_texts.specs.machine.Renewal.{Renews}
+use Rattle.mesh_texts.specs.machine.Sending.{IsHelloFrame, SendsHellos, Hellos_early as Early_hellos, Hellos_due as Due_hellos, SendsTcs, Tcs_early as Early_tcs, Tcs_silent as Silent_tcs, Tcs_due as Due_tcs}
 use Rattle.mesh_atoms.specs.declared.network.Emission.{Emission}
-use Rattle.mesh_machine.specs.Traffic.{Traffic, Delivery, SendsAll, frame_of, with_heard}
-use Rattle.mesh_machine.proofs.Places.{set_here}
+use Rattle.mesh_texts.specs.machine.Traffic.{Traffic, Delivery, SendsAll, frame_of, with_heard}
+use Rattle.mesh_texts.proofs.machine.Places.{set_here}
 use Rattle.mesh_texts.specs.Lines.Marks.{face_name}
 use Rattle.mesh_texts.specs.Trace.{tick_line, heard_line, relays_lines, sent_lines}
-use Rattle.mesh_machine.specs.Net.{Net, HearsNext, IsSender}
+use Rattle.mesh_texts.specs.machine.Net.{Net, HearsNext, IsSender}
 use Rattle.mesh_trace.specs.Positions.Due.{Follows, TakesPacket, Taken, HellosDue, Hellos_early, Hellos_due, TcsDue, Tcs_early, Tcs_silent, Tcs_due, none_told, part_items}
 use Rattle.mesh_trace.specs.Positions.Events.{OpensEvent, OpensTick, By_delivery}
 use Rattle.mesh_trace.specs.Positions.Standing.{Item, Hello, Sent, TracePosition, with_state, with_traffic, relay_items}

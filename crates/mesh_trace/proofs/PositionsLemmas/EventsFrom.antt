@@ -6,16 +6,16 @@ use Rattle.mesh_atoms.specs.declared.settings.RouterSettings.{RouterSettings}
 use Rattle.mesh_atoms.specs.declared.settings.Scenario.{Scenario}
 use Rattle.mesh_atoms.specs.Live.{Live}
 use Rattle.mesh_atoms.specs.State.{Bases, State, IsOriginator}
-use Rattle.mesh_machine.specs.declared.arrival.Arrival.{Arrival}
-use Rattle.mesh_machine.specs.declared.frame.Frame.{Frame}
-use Rattle.mesh_machine.specs.Machine.{due}
-use Rattle.mesh_machine.specs.Messages.{TakesMessages}
-use Rattle.mesh_machine.specs.Renewal.{IsNextAnsn, IsEmptied}
-use Rattle.mesh_machine.specs.Traffic.{Traffic, Delivery, IsHeardFirst, with_heard}
-use Rattle.mesh_machine.proofs.Places.{stands}
+use Rattle.mesh_texts.specs.machine.declared.arrival.Arrival.{Arrival}
+use Rattle.mesh_texts.specs.machine.declared.frame.Frame.{Frame}
+use Rattle.mesh_texts.specs.machine.Machine.{due}
+use Rattle.mesh_texts.specs.machine.Messages.{TakesMessages}
+use Rattle.mesh_texts.specs.machine.Renewal.{IsNextAnsn, IsEmptied}
+use Rattle.mesh_texts.specs.machine.Traffic.{Traffic, Delivery, IsHeardFirst, with_heard}
+use Rattle.mesh_texts.proofs.machine.Places.{stands}
 use Rattle.mesh_texts.specs.Lines.Marks.{face_name}
 use Rattle.mesh_texts.specs.Trace.{heard_line, tick_line}
-use Rattle.mesh_machine.specs.Net.{Net, IsFirstDue, HearsNext, TicksNext, HasOnlyLastTicks, IsSender}
+use Rattle.mesh_texts.specs.machine.Net.{Net, IsFirstDue, HearsNext, TicksNext, HasOnlyLastTicks, IsSender}
 use Rattle.mesh_trace.specs.Positions.Alike.{AlikeStates, Alike}
 use Rattle.mesh_trace.specs.Positions.Due.{Follows, TakesPacket, HearsBy, Refused, Taken, HellosDue, Hellos_early, Hellos_due, TcsDue, Tcs_early, Tcs_silent, Tcs_due, TicksBy, part_items}
 use Rattle.mesh_trace.specs.Reading.Lines.{IsLineOf}

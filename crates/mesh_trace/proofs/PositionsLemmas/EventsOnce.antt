@@ -11,19 +11,19 @@ use Rattle.mesh_atoms.specs.declared.settings.RouterSettings.{RouterSettings}
 use Rattle.mesh_atoms.specs.declared.tc.TcRow.{TcRow}
 use Rattle.mesh_atoms.specs.Advertised.{AreParts}
 use Rattle.mesh_atoms.specs.State.{Bases, State, IsOriginator}
-use Rattle.mesh_machine.specs.packet.declared.packet.Span.{Span}
-use Rattle.mesh_machine.specs.packet.Fields.{PacketFields}
-use Rattle.mesh_machine.proofs.packet.OneReading.{one_packet, not_both}
-use Rattle.mesh_machine.specs.declared.arrival.Arrival.{Arrival}
-use Rattle.mesh_machine.specs.declared.frame.Frame.{Frame}
-use Rattle.mesh_machine.specs.Machine.{due}
-use Rattle.mesh_machine.specs.Messages.{TakesMessages}
-use Rattle.mesh_machine.specs.Renewal.{IsNextAnsn, IsEmptied}
-use Rattle.mesh_machine.specs.Sending.{HasToAdvertise, IsNextMoment}
-use Rattle.mesh_machine.proofs.Soundness.{live_bases_sound}
-use Rattle.mesh_machine.specs.Traffic.{Delivery, with_heard}
-use Rattle.mesh_machine.proofs.Places.{same_at}
-use Rattle.mesh_machine.specs.Net.{Net, IsFirstDue, HearsNext, TicksNext, HasOnlyLastTicks, IsSender}
+use Rattle.mesh_texts.specs.machine.packet.declared.packet.Span.{Span}
+use Rattle.mesh_texts.specs.machine.packet.Fields.{PacketFields}
+use Rattle.mesh_texts.proofs.machine.packet.OneReading.{one_packet, not_both}
+use Rattle.mesh_texts.specs.machine.declared.arrival.Arrival.{Arrival}
+use Rattle.mesh_texts.specs.machine.declared.frame.Frame.{Frame}
+use Rattle.mesh_texts.specs.machine.Machine.{due}
+use Rattle.mesh_texts.specs.machine.Messages.{TakesMessages}
+use Rattle.mesh_texts.specs.machine.Renewal.{IsNextAnsn, IsEmptied}
+use Rattle.mesh_texts.specs.machine.Sending.{HasToAdvertise, IsNextMoment}
+use Rattle.mesh_texts.proofs.machine.Soundness.{live_bases_sound}
+use Rattle.mesh_texts.specs.machine.Traffic.{Delivery, with_heard}
+use Rattle.mesh_texts.proofs.machine.Places.{same_at}
+use Rattle.mesh_texts.specs.machine.Net.{Net, IsFirstDue, HearsNext, TicksNext, HasOnlyLastTicks, IsSender}
 use Rattle.mesh_trace.specs.Positions.Alike.{AlikeBases, AlikeStates, Alike}
 use Rattle.mesh_trace.specs.Positions.Due.{Follows, TakesPacket, HearsBy, Refused, Taken, HellosDue, Hellos_early, Hellos_due, TcsDue, Tcs_early, Tcs_silent, Tcs_due, TicksBy, part_items}
 use Rattle.mesh_trace.specs.Positions.Events.{OpensHearing, OpensTick, OpensEvent, By_delivery, By_tick, By_last_tick}

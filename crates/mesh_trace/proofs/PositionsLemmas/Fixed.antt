@@ -6,11 +6,11 @@ use Rattle.std.proofs.lemmas.Option.{slice_get_within}
 use Rattle.mesh_atoms.specs.declared.settings.RouterSettings.{RouterSettings}
 use Rattle.mesh_atoms.specs.declared.settings.Scenario.{Scenario}
 use Rattle.mesh_atoms.specs.State.{Bases, State}
-use Rattle.mesh_machine.specs.Machine.{IsOpening}
-use Rattle.mesh_machine.proofs.Opening.{opening_sound}
-use Rattle.mesh_machine.proofs.Soundness.{bases_of}
-use Rattle.mesh_machine.proofs.Places.{stands, same_at}
-use Rattle.mesh_machine.specs.Net.{Net}
+use Rattle.mesh_texts.specs.machine.Machine.{IsOpening}
+use Rattle.mesh_texts.proofs.machine.Opening.{opening_sound}
+use Rattle.mesh_texts.proofs.machine.Soundness.{bases_of}
+use Rattle.mesh_texts.proofs.machine.Places.{stands, same_at}
+use Rattle.mesh_texts.specs.machine.Net.{Net}
 use Rattle.mesh_trace.specs.Positions.Alike.{AlikeBases, AlikeStates, Alike, HasAddresses, IsSoundPosition}
 use Rattle.mesh_trace.specs.Positions.Items.{Tells}
 use Rattle.mesh_trace.specs.Positions.Laws.{NothingFollows, NoneIsLonger, HasSomeLine, AllElseIsFixed, LeadsAlike, LeadsFromAlike, OneDecidesFit, OneDecidesEnd, UnfitIsNotWhole, OneUnfit}

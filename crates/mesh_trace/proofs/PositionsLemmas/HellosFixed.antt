@@ -34,10 +34,10 @@ use Rattle.mesh_atoms.specs.State.{Neighbourhood, link_at, two_hop_at, neighbour
 use Rattle.mesh_atoms.specs.TakesHello.{IsNameless, IsFault, IsHeld, IsFullOfAddresses, AreTwoHopRows, IsFullOfTwoHops, FitsTwoHops, HelloAnswer, TakesHello, Breaks, Overfull, Overfull_two_hops, Takes}
 use Rattle.mesh_atoms.specs.Words.{Lists, IsKept}
 use Rattle.mesh_atoms.proofs.Lookups.{addr_equiv, same_addr, two_hop_equiv}
-use Rattle.mesh_machine.proofs.hello.Fits.{distinct_fits}
-use Rattle.mesh_machine.proofs.Places.{stands}
-use Rattle.mesh_machine.proofs.wire.Ascending.{head_or_tail, none_in}
-use Rattle.mesh_machine.proofs.wire.RowLines.{one_row}
+use Rattle.mesh_texts.proofs.machine.hello.Fits.{distinct_fits}
+use Rattle.mesh_texts.proofs.machine.Places.{stands}
+use Rattle.mesh_texts.proofs.machine.wire.Ascending.{head_or_tail, none_in}
+use Rattle.mesh_texts.proofs.machine.wire.RowLines.{one_row}
 use Rattle.mesh_trace.specs.Positions.Alike.{AlikeNear}
 use Rattle.mesh_trace.proofs.PositionsLemmas.AlikeBases.{SameLinks, SameNeighbours, near_back, least_only, flag_only, restores_only, settles_only, symmetric_address}
 use Rattle.mesh_trace.proofs.PositionsLemmas.AlikeStates.{ordered_once}

@@ -3,8 +3,8 @@ use Rattle.std.proofs.Common.{◌≡◌, ℕ, List, [], ◌∷◌, ◌++◌, Som
 use Rattle.std.specs.Prelude.{slice_get}
 use Rattle.mesh_atoms.specs.State.{State}
 use Rattle.mesh_texts.specs.Trace.{lost_line}
-use Rattle.mesh_machine.specs.Net.{Net}
-use Rattle.mesh_machine.specs.declared.frame.Frame.{Frame}
+use Rattle.mesh_texts.specs.machine.Net.{Net}
+use Rattle.mesh_texts.specs.machine.declared.frame.Frame.{Frame}
 use Rattle.mesh_trace.specs.Positions.Items.{Tells, Tells_frame, Tells_loss, TellsFrame}
 use Rattle.mesh_trace.specs.Reading.Lines.{IsLineOf}
 use Rattle.mesh_trace.specs.Positions.Standing.{Item, Lost, Sent, TracePosition, IsDone}

@@ -8,24 +8,24 @@ use Rattle.mesh_atoms.specs.declared.tc.Tc.{Tc}
 use Rattle.mesh_atoms.specs.AfterTc.{TcAnswer, TakesTc}
 use Rattle.mesh_atoms.specs.State.{NotedMessages, Bases, IsOriginator}
 use Rattle.mesh_atoms.specs.TakesHello.{TakesHello}
-use Rattle.mesh_machine.specs.addr.declared.records.RawAddr.{RawAddr}
-use Rattle.mesh_machine.specs.packet.declared.packet.Span.{Span}
-use Rattle.mesh_machine.specs.packet.Fields.{MessageFields}
-use Rattle.mesh_machine.specs.flood.declared.verdict.Heading.{Heading}
-use Rattle.mesh_machine.specs.flood.declared.verdict.Forward.{Forward}
-use Rattle.mesh_machine.specs.flood.Verdict.{process_of}
-use Rattle.mesh_machine.specs.declared.arrival.Arrival.{Arrival}
-use Rattle.mesh_machine.specs.declared.fate.Fate.{Fate}
-use Rattle.mesh_machine.specs.declared.frame.Frame.{Frame}
-use Rattle.mesh_machine.specs.Frames.{octets_at}
-use Rattle.mesh_machine.specs.Laws.{SoundBases}
-use Rattle.mesh_machine.specs.Messages.{IsHeading, is_processed, ConsidersForwarding, ProcessesTc, Tc_taken, Tc_passed, TakesMessage, Hello_read, Hello_broken, Tc_read, Tc_broken, Other_passed, Other_left, TakesMessages, No_messages, First_message}
-use Rattle.mesh_machine.proofs.Soundness.{message_sound}
-use Rattle.mesh_machine.specs.wire.Hello.{OriginatorIs}
-use Rattle.mesh_machine.specs.wire.Rules.{Keeps, FirstBroken}
-use Rattle.mesh_machine.specs.wire.Tc.{TcIs}
-use Rattle.mesh_machine.proofs.wire.OneHello.{one_hello}
-use Rattle.mesh_machine.proofs.wire.OneTc.{one_tc}
+use Rattle.mesh_texts.specs.machine.addr.declared.records.RawAddr.{RawAddr}
+use Rattle.mesh_texts.specs.machine.packet.declared.packet.Span.{Span}
+use Rattle.mesh_texts.specs.machine.packet.Fields.{MessageFields}
+use Rattle.mesh_texts.specs.machine.flood.declared.verdict.Heading.{Heading}
+use Rattle.mesh_texts.specs.machine.flood.declared.verdict.Forward.{Forward}
+use Rattle.mesh_texts.specs.machine.flood.Verdict.{process_of}
+use Rattle.mesh_texts.specs.machine.declared.arrival.Arrival.{Arrival}
+use Rattle.mesh_texts.specs.machine.declared.fate.Fate.{Fate}
+use Rattle.mesh_texts.specs.machine.declared.frame.Frame.{Frame}
+use Rattle.mesh_texts.specs.machine.Frames.{octets_at}
+use Rattle.mesh_texts.specs.machine.Laws.{SoundBases}
+use Rattle.mesh_texts.specs.machine.Messages.{IsHeading, is_processed, ConsidersForwarding, ProcessesTc, Tc_taken, Tc_passed, TakesMessage, Hello_read, Hello_broken, Tc_read, Tc_broken, Other_passed, Other_left, TakesMessages, No_messages, First_message}
+use Rattle.mesh_texts.proofs.machine.Soundness.{message_sound}
+use Rattle.mesh_texts.specs.machine.wire.Hello.{OriginatorIs}
+use Rattle.mesh_texts.specs.machine.wire.Rules.{Keeps, FirstBroken}
+use Rattle.mesh_texts.specs.machine.wire.Tc.{TcIs}
+use Rattle.mesh_texts.proofs.machine.wire.OneHello.{one_hello}
+use Rattle.mesh_texts.proofs.machine.wire.OneTc.{one_tc}
 use Rattle.mesh_trace.specs.Positions.Alike.{AlikeBases}
 use Rattle.mesh_trace.specs.Positions.Laws.{MessagesAreFixed}
 use Rattle.mesh_trace.proofs.PositionsLemmas.AlikeBases.{near_back, topology_back}

@@ -5,19 +5,19 @@ use Rattle.mesh_atoms.specs.declared.addr.Addr4.{Addr4}
 use Rattle.mesh_atoms.specs.declared.hello.Hello.{Hello}
 use Rattle.mesh_atoms.specs.declared.tc.Tc.{Tc}
 use Rattle.mesh_atoms.specs.Reading.{has}
-use Rattle.mesh_machine.specs.addr.declared.records.RawAddr.{RawAddr}
-use Rattle.mesh_machine.specs.packet.declared.packet.Span.{Span}
-use Rattle.mesh_machine.specs.packet.Fields.{MessageFields, PacketFields}
-use Rattle.mesh_machine.specs.packet.Grammar.{SpellsOctet, SpellsOriginator, SpellsMessage, Spells}
-use Rattle.mesh_machine.proofs.packet.Alone.{behind_zero}
-use Rattle.mesh_machine.proofs.packet.Encodable.{AreOctets, octets_back, front_octets, back_octets}
-use Rattle.mesh_machine.proofs.packet.OneReading.{one_packet}
-use Rattle.mesh_machine.specs.wire.Hello.{OriginatorIs}
-use Rattle.mesh_machine.specs.wire.Parts.{number_of}
-use Rattle.mesh_machine.specs.wire.Rehop.{one_hop_on, hopped, flags_of}
-use Rattle.mesh_machine.specs.wire.Writes.{alone, IsSoleMessage, WritesHello, WritesTc}
-use Rattle.mesh_machine.proofs.wire.Hops.{hop_spells}
-use Rattle.mesh_machine.proofs.wire.Ascending.{head_or_tail, none_in}
+use Rattle.mesh_texts.specs.machine.addr.declared.records.RawAddr.{RawAddr}
+use Rattle.mesh_texts.specs.machine.packet.declared.packet.Span.{Span}
+use Rattle.mesh_texts.specs.machine.packet.Fields.{MessageFields, PacketFields}
+use Rattle.mesh_texts.specs.machine.packet.Grammar.{SpellsOctet, SpellsOriginator, SpellsMessage, Spells}
+use Rattle.mesh_texts.proofs.machine.packet.Alone.{behind_zero}
+use Rattle.mesh_texts.proofs.machine.packet.Encodable.{AreOctets, octets_back, front_octets, back_octets}
+use Rattle.mesh_texts.proofs.machine.packet.OneReading.{one_packet}
+use Rattle.mesh_texts.specs.machine.wire.Hello.{OriginatorIs}
+use Rattle.mesh_texts.specs.machine.wire.Parts.{number_of}
+use Rattle.mesh_texts.specs.machine.wire.Rehop.{one_hop_on, hopped, flags_of}
+use Rattle.mesh_texts.specs.machine.wire.Writes.{alone, IsSoleMessage, WritesHello, WritesTc}
+use Rattle.mesh_texts.proofs.machine.wire.Hops.{hop_spells}
+use Rattle.mesh_texts.proofs.machine.wire.Ascending.{head_or_tail, none_in}
 
 -- ---- octets of parts
 

@@ -4,10 +4,10 @@ use Rattle.std.specs.Prelude.{slice_get}
 use Rattle.std.proofs.lemmas.List.Elements.{All-head, All-tail}
 use Rattle.std.proofs.lemmas.Option.{slice_get_within, get_or_from_slice_get}
 use Rattle.mesh_atoms.specs.State.{State}
-use Rattle.mesh_machine.specs.Machine.{due}
-use Rattle.mesh_machine.specs.Traffic.{Delivery}
-use Rattle.mesh_machine.specs.Net.{Net}
-use Rattle.mesh_machine.specs.NetRun.{IsOver}
+use Rattle.mesh_texts.specs.machine.Machine.{due}
+use Rattle.mesh_texts.specs.machine.Traffic.{Delivery}
+use Rattle.mesh_texts.specs.machine.Net.{Net}
+use Rattle.mesh_texts.specs.machine.NetRun.{IsOver}
 use Rattle.mesh_trace.specs.Positions.Events.{OpensEvent, By_delivery, By_tick, By_last_tick}
 use Rattle.mesh_trace.specs.Positions.Standing.{TracePosition}
 

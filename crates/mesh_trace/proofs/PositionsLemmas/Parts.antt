@@ -5,7 +5,7 @@ use Rattle.std.specs.List.{flat_map}
 use Rattle.std.proofs.lemmas.List.{append-nil}
 use Rattle.mesh_atoms.specs.Advertised.{AreParts}
 use Rattle.mesh_atoms.specs.declared.tc.TcRow.{TcRow}
-use Rattle.mesh_machine.specs.Sending.{IsNextMoment}
+use Rattle.mesh_texts.specs.machine.Sending.{IsNextMoment}
 
 -- ---- moments
 

@@ -8,9 +8,9 @@ use Rattle.mesh_atoms.specs.declared.addr.Addr4.{Addr4}
 use Rattle.mesh_atoms.specs.declared.settings.Interface.{Interface}
 use Rattle.mesh_atoms.specs.RelayGraphs.{AreRelays, IsFloodingGraph, IsRoutingGraph}
 use Rattle.mesh_atoms.specs.State.{State}
-use Rattle.mesh_machine.proofs.Places.{set_here}
+use Rattle.mesh_texts.proofs.machine.Places.{set_here}
 use Rattle.mesh_texts.specs.Trace.{flooding_text, flooding_relays_line, routing_relays_line, relays_lines}
-use Rattle.mesh_machine.specs.Net.{Net}
+use Rattle.mesh_texts.specs.machine.Net.{Net}
 use Rattle.mesh_trace.specs.Positions.Due.{none_told}
 use Rattle.mesh_trace.specs.Positions.Items.{Tells_flooding, Tells_routing}
 use Rattle.mesh_trace.specs.Positions.Standing.{Item, Flooding, Routing, with_state, relay_items}

@@ -6,14 +6,14 @@ use Rattle.std.proofs.lemmas.List.{append-nil}
 use Rattle.std.proofs.lemmas.List.Elements.{All-head, All-tail}
 use Rattle.mesh_atoms.specs.declared.settings.Scenario.{Scenario}
 use Rattle.mesh_atoms.specs.State.{State}
-use Rattle.mesh_machine.specs.declared.frame.Frame.{Frame}
+use Rattle.mesh_texts.specs.machine.declared.frame.Frame.{Frame}
 use Rattle.mesh_atoms.specs.declared.network.Emission.{Emission}
-use Rattle.mesh_machine.specs.Traffic.{Traffic, Sends, SendsAll, frame_of}
-use Rattle.mesh_machine.proofs.Sent.{sent_lost}
-use Rattle.mesh_machine.proofs.Places.{stands}
+use Rattle.mesh_texts.specs.machine.Traffic.{Traffic, Sends, SendsAll, frame_of}
+use Rattle.mesh_texts.proofs.machine.Sent.{sent_lost}
+use Rattle.mesh_texts.proofs.machine.Places.{stands}
 use Rattle.mesh_texts.specs.Lines.Marks.{face_name}
 use Rattle.mesh_texts.specs.Trace.{sent_line, lost_line, sent_lines}
-use Rattle.mesh_machine.specs.Net.{Net}
+use Rattle.mesh_texts.specs.machine.Net.{Net}
 use Rattle.mesh_trace.specs.Positions.Items.{Tells, Tells_frame, Tells_loss, TellsFrame}
 use Rattle.mesh_trace.specs.Positions.Standing.{Item, Lost, Sent, with_traffic}
 use Rattle.mesh_trace.specs.Positions.Leading.{Leads}

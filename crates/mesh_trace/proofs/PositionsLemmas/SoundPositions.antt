@@ -4,13 +4,13 @@ use Rattle.std.specs.Prelude.{slice_get, slice_set}
 use Rattle.std.proofs.lemmas.Option.{slice_get_within}
 use Rattle.mesh_atoms.specs.State.{Bases, State}
 use Rattle.mesh_atoms.specs.declared.settings.Scenario.{Scenario}
-use Rattle.mesh_machine.specs.declared.arrival.Arrival.{Arrival}
-use Rattle.mesh_machine.specs.declared.frame.Frame.{Frame}
-use Rattle.mesh_machine.specs.Laws.{SoundBases}
-use Rattle.mesh_machine.proofs.Opening.{opening_sound}
-use Rattle.mesh_machine.proofs.Soundness.{bases_of, live_bases_sound, messages_sound}
-use Rattle.mesh_machine.proofs.Places.{set_at, stands}
-use Rattle.mesh_machine.specs.Net.{Net}
+use Rattle.mesh_texts.specs.machine.declared.arrival.Arrival.{Arrival}
+use Rattle.mesh_texts.specs.machine.declared.frame.Frame.{Frame}
+use Rattle.mesh_texts.specs.machine.Laws.{SoundBases}
+use Rattle.mesh_texts.proofs.machine.Opening.{opening_sound}
+use Rattle.mesh_texts.proofs.machine.Soundness.{bases_of, live_bases_sound, messages_sound}
+use Rattle.mesh_texts.proofs.machine.Places.{set_at, stands}
+use Rattle.mesh_texts.specs.machine.Net.{Net}
 use Rattle.mesh_trace.specs.Positions.Due.{Follows, TakesPacket, TicksBy, HearsBy, Refused, Taken}
 use Rattle.mesh_trace.specs.Positions.Items.{Tells, Tells_flooding, Tells_routing, Tells_hello, Tells_tc, Tells_frame, Tells_loss, TellsFrame}
 use Rattle.mesh_trace.specs.Positions.Laws.{PositionsAreSound}

@@ -4,11 +4,11 @@ use Rattle.std.proofs.lemmas.List.{append-nil}
 use Rattle.mesh_atoms.specs.declared.tc.Tc.{Tc}
 use Rattle.mesh_atoms.specs.declared.tc.TcRow.{TcRow}
 use Rattle.mesh_atoms.specs.State.{State}
-use Rattle.mesh_machine.specs.declared.frame.Frame.{Frame}
-use Rattle.mesh_machine.specs.wire.Writes.{WritesTc}
-use Rattle.mesh_machine.specs.Frames.{on_each}
-use Rattle.mesh_machine.specs.Sending.{IsTcOfRows, SendsParts, No_part, First_part}
-use Rattle.mesh_machine.proofs.Originators.{some_interface}
+use Rattle.mesh_texts.specs.machine.declared.frame.Frame.{Frame}
+use Rattle.mesh_texts.specs.machine.wire.Writes.{WritesTc}
+use Rattle.mesh_texts.specs.machine.Frames.{on_each}
+use Rattle.mesh_texts.specs.machine.Sending.{IsTcOfRows, SendsParts, No_part, First_part}
+use Rattle.mesh_texts.proofs.machine.Originators.{some_interface}
 
 -- the first of the frames on each interface, where there is one
 pub on_first : (n : ℕ) (bytes : List ℕ) → 0 < n → on_each n bytes ≡ record { iface = 0; bytes = bytes } ∷ drop 1 (on_each n bytes)

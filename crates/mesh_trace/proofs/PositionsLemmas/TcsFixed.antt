@@ -31,20 +31,20 @@ use Rattle.mesh_atoms.specs.Nodes.{IsBefore}
 use Rattle.mesh_atoms.specs.Sound.{SoundNeighbourhood, SoundTopology, SoundNoted}
 use Rattle.mesh_atoms.specs.State.{Neighbourhood, Topology, NotedMessages, Bases, link_at}
 use Rattle.mesh_atoms.proofs.Lookups.{addr_equiv, router_equiv, address_equiv, network_equiv}
-use Rattle.mesh_machine.specs.flood.declared.verdict.Heading.{Heading}
-use Rattle.mesh_machine.specs.flood.declared.verdict.Process.{Process}
-use Rattle.mesh_machine.specs.flood.declared.verdict.Process.TheVariants as process
-use Rattle.mesh_machine.specs.flood.declared.verdict.Forward.{Forward}
-use Rattle.mesh_machine.specs.flood.declared.verdict.Forward.TheVariants as forward
-use Rattle.mesh_machine.specs.flood.Noting.{Notes, AfterNote}
-use Rattle.mesh_machine.specs.flood.Verdict.{key_of, process_of, forward_of, if_noted, if_linked, has_no_hops, is_received, is_forwarded}
-use Rattle.mesh_machine.specs.links.Links.{IsSymmetricWith, SelectorOf, Linked, Unlinked}
-use Rattle.mesh_machine.specs.declared.arrival.Arrival.{Arrival}
-use Rattle.mesh_machine.specs.declared.frame.Frame.{Frame}
-use Rattle.mesh_machine.specs.Messages.{ConsidersForwarding, forwarding}
-use Rattle.mesh_machine.proofs.Tables.{flood_equiv}
-use Rattle.mesh_machine.proofs.nhdp.Limits.{no_more}
-use Rattle.mesh_machine.proofs.wire.RowLines.{one_row}
+use Rattle.mesh_texts.specs.machine.flood.declared.verdict.Heading.{Heading}
+use Rattle.mesh_texts.specs.machine.flood.declared.verdict.Process.{Process}
+use Rattle.mesh_texts.specs.machine.flood.declared.verdict.Process.TheVariants as process
+use Rattle.mesh_texts.specs.machine.flood.declared.verdict.Forward.{Forward}
+use Rattle.mesh_texts.specs.machine.flood.declared.verdict.Forward.TheVariants as forward
+use Rattle.mesh_texts.specs.machine.flood.Noting.{Notes, AfterNote}
+use Rattle.mesh_texts.specs.machine.flood.Verdict.{key_of, process_of, forward_of, if_noted, if_linked, has_no_hops, is_received, is_forwarded}
+use Rattle.mesh_texts.specs.machine.links.Links.{IsSymmetricWith, SelectorOf, Linked, Unlinked}
+use Rattle.mesh_texts.specs.machine.declared.arrival.Arrival.{Arrival}
+use Rattle.mesh_texts.specs.machine.declared.frame.Frame.{Frame}
+use Rattle.mesh_texts.specs.machine.Messages.{ConsidersForwarding, forwarding}
+use Rattle.mesh_texts.proofs.machine.Tables.{flood_equiv}
+use Rattle.mesh_texts.proofs.machine.nhdp.Limits.{no_more}
+use Rattle.mesh_texts.proofs.machine.wire.RowLines.{one_row}
 use Rattle.mesh_trace.specs.Positions.Alike.{AlikeNear, AlikeTopology, AlikeNoted}
 
 -- tables that say the same have the same number of tuples

@@ -6,7 +6,7 @@ use Rattle.mesh_atoms.specs.declared.addr.Addr4.{Addr4}
 use Rattle.mesh_atoms.specs.declared.settings.Interface.{Interface}
 use Rattle.mesh_atoms.specs.declared.settings.RadioArc.{RadioArc}
 use Rattle.mesh_atoms.specs.declared.settings.RouterSettings.{RouterSettings}
-use Rattle.mesh_machine.specs.Names.{router_name}
+use Rattle.mesh_texts.specs.machine.Names.{router_name}
 use Rattle.mesh_texts.specs.Lines.Marks.{dotted, relays_text, face_name, faces_of}
 use Rattle.mesh_texts.specs.Trace.{tick_line, heard_line, flooding_relays_line, routing_relays_line, sent_line, loss_line}
 use Rattle.mesh_texts.proofs.Cuts.{lacks, lacks_both, lacks_rest, not_here}

@@ -7,21 +7,21 @@ use Rattle.mesh_atoms.specs.declared.addr.Addr4.{Addr4}
 use Rattle.mesh_atoms.specs.declared.settings.RouterSettings.{RouterSettings}
 use Rattle.mesh_atoms.specs.declared.settings.Scenario.{Scenario}
 use Rattle.mesh_atoms.specs.State.{State}
-use Rattle.mesh_machine.specs.packet.Grammar.{FirstFault, Spells}
-use Rattle.mesh_machine.proofs.packet.OneReading.{not_both}
-use Rattle.mesh_machine.specs.declared.arrival.Arrival.{Arrival}
-use Rattle.mesh_machine.specs.declared.fate.Heard.{Heard}
-use Rattle.mesh_machine.specs.declared.fate.Heard.TheVariants as heard
-use Rattle.mesh_machine.specs.declared.frame.Frame.{Frame}
-use Rattle.mesh_machine.specs.Machine.{Event, Hear, Tick, Step, Heard_frame, Ticked, Hears, HearsPacket, TicksAt}
-use Rattle.mesh_machine.specs.Sendable.{IsPacket}
+use Rattle.mesh_texts.specs.machine.packet.Grammar.{FirstFault, Spells}
+use Rattle.mesh_texts.proofs.machine.packet.OneReading.{not_both}
+use Rattle.mesh_texts.specs.machine.declared.arrival.Arrival.{Arrival}
+use Rattle.mesh_texts.specs.machine.declared.fate.Heard.{Heard}
+use Rattle.mesh_texts.specs.machine.declared.fate.Heard.TheVariants as heard
+use Rattle.mesh_texts.specs.machine.declared.frame.Frame.{Frame}
+use Rattle.mesh_texts.specs.machine.Machine.{Event, Hear, Tick, Step, Heard_frame, Ticked, Hears, HearsPacket, TicksAt}
+use Rattle.mesh_texts.specs.machine.Sendable.{IsPacket}
 use Rattle.mesh_atoms.specs.declared.network.Emission.{Emission}
-use Rattle.mesh_machine.specs.Traffic.{Traffic, SendsAll, frame_of, with_heard}
-use Rattle.mesh_machine.proofs.Places.{set_here, same_at}
+use Rattle.mesh_texts.specs.machine.Traffic.{Traffic, SendsAll, frame_of, with_heard}
+use Rattle.mesh_texts.proofs.machine.Places.{set_here, same_at}
 use Rattle.mesh_texts.specs.Lines.Marks.{face_name}
 use Rattle.mesh_atoms.specs.declared.network.NetEvent.{NetEvent}
 use Rattle.mesh_texts.specs.Trace.{happened_line, event_line, heard_line, relays_lines, sent_lines, event_text, IsEventText, Of_taken, Of_refused}
-use Rattle.mesh_machine.specs.Net.{Net, NetStep, By_delivery, By_tick, By_last_tick, Moves, Delivers, happening, event_of, frames_of}
+use Rattle.mesh_texts.specs.machine.Net.{Net, NetStep, By_delivery, By_tick, By_last_tick, Moves, Delivers, happening, event_of, frames_of}
 use Rattle.mesh_texts.specs.Runs.{IsTraced, Traces}
 use Rattle.mesh_trace.specs.Positions.Due.{Refused}
 use Rattle.mesh_trace.specs.Positions.Laws.{RunsAreWhole}

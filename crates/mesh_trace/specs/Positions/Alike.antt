@@ -4,7 +4,7 @@ use Rattle.mesh_atoms.specs.declared.addr.Addr4.{Addr4}
 use Rattle.mesh_atoms.specs.declared.tuples.Neighbour.{Neighbour}
 use Rattle.mesh_atoms.specs.Base.{Same, base_of, link_eq, two_hop_eq, addr_eq, router_eq, address_eq, network_eq, flood_eq}
 use Rattle.mesh_atoms.specs.State.{Neighbourhood, Topology, NotedMessages, Bases, State, HasSymmetric}
-use Rattle.mesh_machine.specs.Laws.{SoundBases}
+use Rattle.mesh_texts.specs.machine.Laws.{SoundBases}
 use Rattle.mesh_trace.specs.Positions.Standing.{TracePosition}
 
 -- the same tuples near the router, on as many interfaces: at each key the same tuple, or none

@@ -7,15 +7,15 @@ use Rattle.mesh_atoms.specs.declared.tuples.Relays.{Relays}
 use Rattle.mesh_atoms.specs.Advertised.{AreTcRows, AreParts}
 use Rattle.mesh_atoms.specs.Live.{Live}
 use Rattle.mesh_atoms.specs.State.{Bases, State, IsOriginator}
-use Rattle.mesh_machine.specs.packet.declared.packet.Span.{Span}
-use Rattle.mesh_machine.specs.packet.Fields.{PacketFields}
-use Rattle.mesh_machine.specs.packet.Grammar.{Spells, FirstFault}
-use Rattle.mesh_machine.specs.declared.arrival.Arrival.{Arrival}
-use Rattle.mesh_machine.specs.declared.fate.Fate.{Fate}
-use Rattle.mesh_machine.specs.declared.frame.Frame.{Frame}
-use Rattle.mesh_machine.specs.Messages.{TakesMessages}
-use Rattle.mesh_machine.specs.Renewal.{IsNextAnsn, IsEmptied}
-use Rattle.mesh_machine.specs.Sending.{IsNextMoment, HasToAdvertise}
+use Rattle.mesh_texts.specs.machine.packet.declared.packet.Span.{Span}
+use Rattle.mesh_texts.specs.machine.packet.Fields.{PacketFields}
+use Rattle.mesh_texts.specs.machine.packet.Grammar.{Spells, FirstFault}
+use Rattle.mesh_texts.specs.machine.declared.arrival.Arrival.{Arrival}
+use Rattle.mesh_texts.specs.machine.declared.fate.Fate.{Fate}
+use Rattle.mesh_texts.specs.machine.declared.frame.Frame.{Frame}
+use Rattle.mesh_texts.specs.machine.Messages.{TakesMessages}
+use Rattle.mesh_texts.specs.machine.Renewal.{IsNextAnsn, IsEmptied}
+use Rattle.mesh_texts.specs.machine.Sending.{IsNextMoment, HasToAdvertise}
 use Rattle.mesh_trace.specs.Positions.Standing.{Item, Hello, Tc, Sent, relay_items}
 
 -- no relays were told yet

@@ -3,10 +3,10 @@ use Rattle.std.specs.Prelude.{◌≡◌, ℕ, ◌+◌, ◌<◌, List, Some, slic
 use Rattle.mesh_atoms.specs.declared.addr.Addr4.{Addr4}
 use Rattle.mesh_atoms.specs.declared.settings.RadioArc.{RadioArc}
 use Rattle.mesh_atoms.specs.State.{State}
-use Rattle.mesh_machine.specs.Traffic.{Delivery, with_heard}
+use Rattle.mesh_texts.specs.machine.Traffic.{Delivery, with_heard}
 use Rattle.mesh_texts.specs.Lines.Marks.{face_name}
 use Rattle.mesh_texts.specs.Trace.{heard_line, tick_line}
-use Rattle.mesh_machine.specs.Net.{Net, HearsNext, TicksNext, HasOnlyLastTicks, IsSender}
+use Rattle.mesh_texts.specs.machine.Net.{Net, HearsNext, TicksNext, HasOnlyLastTicks, IsSender}
 use Rattle.mesh_trace.specs.Positions.Due.{HearsBy, TicksBy}
 use Rattle.mesh_trace.specs.Reading.Lines.{IsLineOf}
 use Rattle.mesh_trace.specs.Positions.Standing.{Item, TracePosition, with_state, with_traffic}

@@ -7,12 +7,12 @@ use Rattle.mesh_atoms.specs.declared.tc.TcRow.{TcRow}
 use Rattle.mesh_atoms.specs.RelayGraphs.{AreRelaysOf, IsFloodingGraph, IsRoutingGraph}
 use Rattle.mesh_atoms.specs.State.{State}
 use Rattle.mesh_atoms.specs.Validity.{IsValidity}
-use Rattle.mesh_machine.specs.declared.frame.Frame.{Frame}
-use Rattle.mesh_machine.specs.Sending.{IsHelloFrame, SendsParts}
-use Rattle.mesh_machine.specs.Traffic.{Traffic, Sends}
+use Rattle.mesh_texts.specs.machine.declared.frame.Frame.{Frame}
+use Rattle.mesh_texts.specs.machine.Sending.{IsHelloFrame, SendsParts}
+use Rattle.mesh_texts.specs.machine.Traffic.{Traffic, Sends}
 use Rattle.mesh_texts.specs.Lines.Marks.{face_name}
 use Rattle.mesh_texts.specs.Trace.{flooding_text, routing_relays_line, sent_line, lost_line}
-use Rattle.mesh_machine.specs.Net.{Net}
+use Rattle.mesh_texts.specs.machine.Net.{Net}
 use Rattle.mesh_trace.specs.Reading.Lines.{IsLineOf}
 use Rattle.mesh_trace.specs.Positions.Standing.{Item, Flooding, Routing, Hello, Tc, Sent, Lost, with_state, with_traffic}
 

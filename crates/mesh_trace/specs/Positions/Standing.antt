@@ -5,10 +5,10 @@ use Rattle.mesh_atoms.specs.declared.settings.RouterSettings.{RouterSettings}
 use Rattle.mesh_atoms.specs.declared.settings.Scenario.{Scenario}
 use Rattle.mesh_atoms.specs.declared.tc.TcRow.{TcRow}
 use Rattle.mesh_atoms.specs.State.{State}
-use Rattle.mesh_machine.specs.declared.frame.Frame.{Frame}
-use Rattle.mesh_machine.specs.Traffic.{Traffic}
-use Rattle.mesh_machine.specs.Net.{Net}
-use Rattle.mesh_machine.specs.NetRun.{IsOpeningNet, IsOver}
+use Rattle.mesh_texts.specs.machine.declared.frame.Frame.{Frame}
+use Rattle.mesh_texts.specs.machine.Traffic.{Traffic}
+use Rattle.mesh_texts.specs.machine.Net.{Net}
+use Rattle.mesh_texts.specs.machine.NetRun.{IsOpeningNet, IsOver}
 
 -- one thing that is told of an event behind its first line, in a line of its own
 pub data Item : Type 0 where

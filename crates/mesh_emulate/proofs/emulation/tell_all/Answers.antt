@@ -2,7 +2,7 @@ use Rattle.std.proofs.Common.{subst}
 use Rattle.mesh_emulate.proofs.Ends.{end_routers}
 use Rattle.mesh_emulate.proofs.Parts.{run_left, probe_left}
 use Rattle.mesh_probe.specs.Probes.{AreRoutersAt}
-use Rattle.mesh_machine.specs.Net.{Net}
+use Rattle.mesh_texts.specs.machine.Net.{Net}
 use Rattle.mesh_emulate.proofs.emulation.tell_all.Goals as goal
 
 pub probe_net-requires-clause-routers : goal.probe_net-requires-clause-routers

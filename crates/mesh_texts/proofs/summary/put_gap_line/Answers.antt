@@ -1,8 +1,8 @@
 use Rattle.std.proofs.Common.{◌≡◌, ◌∷◌, [], List, ap, ◌∙◌, codes}
 use Rattle.std.specs.Prelude.{is_some}
 use Rattle.mesh_atoms.specs.declared.settings.RouterSettings.{RouterSettings}
-use Rattle.mesh_machine.proofs.tlv.Grows.{grows_on}
-use Rattle.mesh_machine.specs.Names.{router_name}
+use Rattle.mesh_settled.proofs.machine.tlv.Grows.{grows_on}
+use Rattle.mesh_settled.specs.machine.Names.{router_name}
 use Rattle.mesh_texts.specs.Lines.Marks.{joined, line_of, choice_text, faces_of}
 use Rattle.mesh_texts.proofs.LinesLemmas.Joined.{on_ok, three}
 use Rattle.mesh_texts.specs.Network.{key_text, gap_line}

@@ -1,7 +1,7 @@
 use Rattle.std.proofs.Common.{◌≡◌, [], ◌++◌, drop, refl, arith, append_assoc}
 use Rattle.std.proofs.lemmas.List.{append-nil, drop_all}
 use Rattle.mesh_atoms.specs.Sound.{Sound}
-use Rattle.mesh_machine.proofs.tlv.Grows.{grows_on}
+use Rattle.mesh_settled.proofs.machine.tlv.Grows.{grows_on}
 use Rattle.mesh_texts.proofs.States.{next_state, state_has}
 use Rattle.mesh_texts.proofs.summary.put_sections.Goals as goal
 

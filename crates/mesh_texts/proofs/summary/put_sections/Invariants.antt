@@ -1,6 +1,6 @@
 use Rattle.std.proofs.Common.{List, ℕ, ◌++◌, drop, map}
-use Rattle.mesh_machine.specs.packet.Least.{Wrote}
-use Rattle.mesh_machine.specs.tlv.Least.{Grows}
+use Rattle.mesh_settled.specs.machine.packet.Least.{Wrote}
+use Rattle.mesh_settled.specs.machine.tlv.Least.{Grows}
 use Rattle.mesh_texts.specs.Sections.Section.{AreSections}
 use Rattle.mesh_texts.proofs.summary.put_sections.Given as goal
 

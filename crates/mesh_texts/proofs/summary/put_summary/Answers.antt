@@ -1,5 +1,5 @@
 use Rattle.std.proofs.Common.{◌++◌, refl}
-use Rattle.mesh_machine.proofs.tlv.Grows.{grows_on}
+use Rattle.mesh_settled.proofs.machine.tlv.Grows.{grows_on}
 use Rattle.mesh_texts.specs.Network.{counts_line, settled_text}
 use Rattle.mesh_texts.proofs.LinesLemmas.Joined.{on_ok, three}
 use Rattle.mesh_texts.proofs.summary.put_summary.Goals as goal

@@ -1,6 +1,6 @@
 use Rattle.std.proofs.Common.{◌≡◌, ◌++◌, drop}
 use Rattle.std.specs.List.{flat_map, enumerate_from}
-use Rattle.mesh_machine.specs.tlv.Least.{Grows}
+use Rattle.mesh_settled.specs.machine.tlv.Least.{Grows}
 use Rattle.mesh_texts.specs.Trace.{flooding_relays_line}
 use Rattle.mesh_texts.proofs.trace.put_all_flooding_relays.Given as goal
 

@@ -1,5 +1,5 @@
 use Rattle.std.specs.List.{flat_map}
-use Rattle.mesh_machine.proofs.tlv.Grows.{grows_on}
+use Rattle.mesh_settled.proofs.machine.tlv.Grows.{grows_on}
 use Rattle.mesh_texts.proofs.LinesLemmas.Joined.{on_ok, three}
 use Rattle.mesh_texts.specs.Trace.{event_line, relays_lines, sent_lines, event_text}
 use Rattle.mesh_texts.proofs.trace.put_happening.Goals as goal

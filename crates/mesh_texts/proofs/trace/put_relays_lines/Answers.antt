@@ -2,7 +2,7 @@ use Rattle.std.proofs.Common.{◌≡◌, ap, ◌∙◌}
 use Rattle.std.specs.List.{flat_map, enumerate_from}
 use Rattle.mesh_atoms.specs.declared.settings.RouterSettings.{RouterSettings}
 use Rattle.mesh_atoms.specs.declared.tuples.Relays.{Relays}
-use Rattle.mesh_machine.proofs.tlv.Grows.{grows_on}
+use Rattle.mesh_settled.proofs.machine.tlv.Grows.{grows_on}
 use Rattle.mesh_texts.proofs.LinesLemmas.Joined.{on_ok, two}
 use Rattle.mesh_texts.specs.Trace.{flooding_relays_line, routing_relays_line, relays_lines}
 use Rattle.mesh_texts.proofs.trace.put_relays_lines.Goals as goal
