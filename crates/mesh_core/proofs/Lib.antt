@@ -1,6 +1,8 @@
+-- Lemmas for crates above, each file with the crates that cite it.
+pub mod HeldLemmas  -- replay
+-- Lemmas of this crate alone.
 mod Emptied
 mod EventLemmas
-mod HeldLemmas
 mod Seen
 mod SendingLemmas
 mod Spent
