@@ -4,3 +4,4 @@ pub use Rattle.mesh_texts.proofs.machine
 pub mod PositionsLemmas  -- replay
 -- Lemmas of this crate alone.
 mod ReadingLemmas
+mod SpellingLemmas

@@ -58,23 +58,23 @@ record ToldRouting (net : Net) (x : ℕ) (s : State) (line : List ℕ) (new : Ne
 tells_routing : (net : Net) (x : ℕ) (s : State) (line : List ℕ) (new : Net) (more : List Item) → Tells net x s line Routing new more → ToldRouting net x s line new more
 tells_routing net x s line new more (Tells_routing relays g graph are is) = record { relays = relays; graph = g; graph_is = graph; are = are; is = is; new_is = refl; more_is = refl }
 
-record ToldHello (net : Net) (x : ℕ) (s : State) (line : List ℕ) (i : ℕ) (new : Net) (more : List Item) : Type 0 where
-  frame : Frame
-  is : IsHelloFrame s i frame
-  tells : TellsFrame net x s frame line new more
+pub record ToldHello (net : Net) (x : ℕ) (s : State) (line : List ℕ) (i : ℕ) (new : Net) (more : List Item) : Type 0 where
+  pub frame : Frame
+  pub is : IsHelloFrame s i frame
+  pub tells : TellsFrame net x s frame line new more
 
-tells_hello : (net : Net) (x : ℕ) (s : State) (line : List ℕ) (i : ℕ) (new : Net) (more : List Item) → Tells net x s line (Hello i) new more → ToldHello net x s line i new more
+pub tells_hello : (net : Net) (x : ℕ) (s : State) (line : List ℕ) (i : ℕ) (new : Net) (more : List Item) → Tells net x s line (Hello i) new more → ToldHello net x s line i new more
 tells_hello net x s line i new more (Tells_hello frame is tells) = record { frame = frame; is = is; tells = tells }
 
-record ToldTc (net : Net) (x : ℕ) (s : State) (line : List ℕ) (complete : Bool) (sequence : ℕ) (rows : List TcRow) (new : Net) (more : List Item) : Type 0 where
-  first : Frame
-  further : List Frame
-  losses : List Item
-  are : AreTcFrames s complete sequence rows first further
-  tells : TellsFrame net x s first line new losses
-  more_is : more ≡ losses ++ map Sent further
+pub record ToldTc (net : Net) (x : ℕ) (s : State) (line : List ℕ) (complete : Bool) (sequence : ℕ) (rows : List TcRow) (new : Net) (more : List Item) : Type 0 where
+  pub first : Frame
+  pub further : List Frame
+  pub losses : List Item
+  pub are : AreTcFrames s complete sequence rows first further
+  pub tells : TellsFrame net x s first line new losses
+  pub more_is : more ≡ losses ++ map Sent further
 
-tells_tc : (net : Net) (x : ℕ) (s : State) (line : List ℕ) (complete : Bool) (sequence : ℕ) (rows : List TcRow) (new : Net) (more : List Item) → Tells net x s line (Tc complete sequence rows) new more →
+pub tells_tc : (net : Net) (x : ℕ) (s : State) (line : List ℕ) (complete : Bool) (sequence : ℕ) (rows : List TcRow) (new : Net) (more : List Item) → Tells net x s line (Tc complete sequence rows) new more →
     ToldTc net x s line complete sequence rows new more
 tells_tc net x s line complete sequence rows new more (Tells_tc {losses} first further are tells) = record { first = first; further = further; losses = losses; are = are; tells = tells; more_is = refl }
 
@@ -112,7 +112,7 @@ unfolding behind_parts
 same_behind [] one other e = e
 same_behind (part ∷ parts) one other e = same_behind parts one other (append_cancel_left part (behind_parts parts one) (behind_parts parts other) e)
 
-same_sent : (moment : ℕ) (router face one other : List ℕ) → AreOctets one → AreOctets other → sent_line moment router face one ≡ sent_line moment router face other → one ≡ other
+pub same_sent : (moment : ℕ) (router face one other : List ℕ) → AreOctets one → AreOctets other → sent_line moment router face one ≡ sent_line moment router face other → one ≡ other
 unfolding sent_line behind_parts
 same_sent moment router face one other are are' e =
     same_octets one other are are' (append_cancel_right (encode_lower one) (encode_lower other) (codes "\n")

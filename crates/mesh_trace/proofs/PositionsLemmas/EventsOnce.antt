@@ -72,7 +72,7 @@ first_once (x ∷ a) b (y ∷ a') b' d e same p q p' q' =
     record { first = rest.first; left = ap (λ (z : Delivery). z ∷ (a ++ b)) heads ∙ ap (λ (l : List Delivery). y ∷ l) rest.left }
 
 -- the router that is due first is one
-due_once : (routers : List State) (x y m n : ℕ) → IsFirstDue routers x m → IsFirstDue routers y n → (x ≡ y) × (m ≡ n)
+pub due_once : (routers : List State) (x y m n : ℕ) → IsFirstDue routers x m → IsFirstDue routers y n → (x ≡ y) × (m ≡ n)
 due_once routers x y m n h k =
     let a : m ≤ due k.state = h.no_earlier y k.state k.stands in
     let b : n ≤ due h.state = k.no_earlier x h.state h.stands in
@@ -321,20 +321,20 @@ hearing_once net line p q sound h k =
     (record { scenario = set.scenario; count = set.count; routers = set.routers; traffic = refl; last_ticks = set.last_ticks; router = refl; left = once.left }))
 
 -- a frame isn't next where a tick is, nor is either where only last ticks are left
-not_tick : (net : Net) (d : Delivery) (others : List Delivery) (x moment : ℕ) → HearsNext net d others → TicksNext net x moment → ⊥
+pub not_tick : (net : Net) (d : Delivery) (others : List Delivery) (x moment : ℕ) → HearsNext net d others → TicksNext net x moment → ⊥
 not_tick net d others x moment h k =
     let early : d.moment ≤ due k.first.state = all_at (λ (s : State). d.moment ≤ due s) net.routers x k.first.state h.before_ticks k.first.stands in
     let late : moment < d.moment = behind_all (λ (e : Delivery). moment < e.moment) h.first.before h.first.behind d (subst (All (λ (e : Delivery). moment < e.moment)) h.first.whole k.before_frames) in
     let is = k.first.is in
     omega (arith, early, late, is)
 
-not_last : (net : Net) (d : Delivery) (others : List Delivery) → HearsNext net d others → HasOnlyLastTicks net → ⊥
+pub not_last : (net : Net) (d : Delivery) (others : List Delivery) → HearsNext net d others → HasOnlyLastTicks net → ⊥
 not_last net d others h k =
     let late : net.scenario.end < d.moment = behind_all (λ (e : Delivery). net.scenario.end < e.moment) h.first.before h.first.behind d (subst (All (λ (e : Delivery). net.scenario.end < e.moment)) h.first.whole k.no_frames) in
     let early = h.in_time in
     omega (arith, early, late)
 
-tick_not_last : (net : Net) (x moment : ℕ) → TicksNext net x moment → HasOnlyLastTicks net → ⊥
+pub tick_not_last : (net : Net) (x moment : ℕ) → TicksNext net x moment → HasOnlyLastTicks net → ⊥
 tick_not_last net x moment h k =
     let late : net.scenario.end < due h.first.state = all_at (λ (s : State). net.scenario.end < due s) net.routers x h.first.state k.no_ticks h.first.stands in
     let early = h.in_time in

@@ -1,0 +1,10 @@
+pub mod Flags
+pub mod Hellos
+pub mod Mapped
+pub mod OneMessage
+pub mod Pairs
+pub mod SameRows
+pub mod Searching
+pub mod Spells
+pub mod Tcs
+pub mod Told

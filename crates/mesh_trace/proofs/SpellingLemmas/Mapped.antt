@@ -1,0 +1,62 @@
+-- Items of a list one after the other, and by their fields.
+use Rattle.std.proofs.Common.{◌≡◌, ℕ, ◌+◌, ◌<◌, ◌≤◌, ◌⊎◌, inl, inr, Bool, true, false, refl, ltb, List, ◌∷◌, length, map, sym, subst, ap, ◌∙◌, arith, slice_index_or}
+use Rattle.std.specs.Prelude.{All, Contains, Some, drop, slice_get}
+use Rattle.std.proofs.lemmas.List.{at_drop_more, drop-map}
+use Rattle.std.proofs.lemmas.List.Elements.{All-contains}
+use Rattle.std.proofs.lemmas.Option.{slice_get_within, slice_get-get_or, get_or_from_slice_get}
+use Rattle.std.proofs.lemmas.Bool.{ltb-true, ltb-false}
+use Rattle.mesh_wire.proofs.RowLines.{mapped, unmapped}
+
+-- the item at a place, as an index gives it
+pub item_at : {X : Type 0} (xs : List X) (i : ℕ) (x : X) → i < length xs → x ≡ slice_index_or xs i x → slice_get xs i ≡ Some x
+item_at xs i x lt is = slice_get-get_or xs i x lt ∙ ap (λ y. Some y) (sym is)
+
+-- it is one of the list
+pub there_item : {X : Type 0} (xs : List X) (i : ℕ) (x : X) → slice_get xs i ≡ Some x → Contains xs x
+there_item xs i x at = (i, slice_get_within xs i x at, get_or_from_slice_get xs i x x at)
+
+module _ {X : Type 0} (P : ℕ → X → Type 0) (xs : List X) where
+  -- it holds of the items before a place
+  abbrev pub HoldsBefore : ℕ → Type 0
+  HoldsBefore i = (j : ℕ) (x : X) → j < i → slice_get xs j ≡ Some x → P j x
+
+  pub before_first : HoldsBefore 0
+  before_first j x lt is = absurd (omega (arith, lt))
+
+  pub before_more : (i : ℕ) (x : X) → slice_get xs i ≡ Some x → P i x → HoldsBefore i → HoldsBefore (i + 1)
+  before_more i x here holds before j y lt is = elim (lt_or_eq j i (omega (arith, lt))) [
+    | inl less ↦ before j y less is
+    | inr same ↦ subst (λ (n : ℕ). P n y) (sym same) (subst (P i) (some_same x y (sym here ∙ ap (slice_get xs) (sym same) ∙ is)) holds)
+  ]
+    where
+      some_same : (a b : X) → Some a ≡ Some b → a ≡ b
+      some_same a b e = cc
+
+      lt_or_eq : (a b : ℕ) → a ≤ b → (a < b) ⊎ (a ≡ b)
+      lt_or_eq a b le = at (ltb a b) refl where
+        at : (t : Bool) → ltb a b ≡ t → (a < b) ⊎ (a ≡ b)
+        at true e = inl (ltb-true a b e)
+        at false e = inr (omega (arith, le, ltb-false a b e))
+
+  pub before_all : (i : ℕ) → length xs ≤ i → HoldsBefore i → (j : ℕ) (x : X) → slice_get xs j ≡ Some x → P j x
+  before_all i most before j x is = before j x (let lt = slice_get_within xs j x is in omega (arith, lt, most)) is
+
+module _ {X Y : Type 0} (f : X → Y) (xs : List X) where
+  pub next_mapped : (i : ℕ) (x : X) → i < length xs → x ≡ slice_index_or xs i x → drop i (map f xs) ≡ f x ∷ drop (i + 1) (map f xs)
+  next_mapped i x lt is = drop-map f i xs ∙ at_drop_more (map f) xs i x lt ∙ ap (λ (y : X). f y ∷ map f (drop (i + 1) xs)) (sym is) ∙ ap (λ (l : List Y). f x ∷ l) (sym (drop-map f (i + 1) xs))
+
+  pub there_mapped : (i : ℕ) (x : X) → i < length xs → x ≡ slice_index_or xs i x → Contains (map f xs) (f x)
+  there_mapped i x lt is = mapped f xs x (i, lt, sym is)
+
+  -- what holds of each item by its fields
+  pub all_mapped : (P : Y → Type 0) → ((j : ℕ) (x : X) → slice_get xs j ≡ Some x → P (f x)) → (y : Y) → Contains (map f xs) y → P y
+  all_mapped P all y has =
+      let (x, (j, lt, at), is) = unmapped f xs y has in
+      subst P is (all j x (slice_get-get_or xs j x lt ∙ ap (λ z. Some z) at))
+
+  -- what holds of each by its fields holds of the item at a place
+  pub one_mapped : (P : Y → Type 0) → All P (map f xs) → (i : ℕ) (x : X) → slice_get xs i ≡ Some x → P (f x)
+  one_mapped P all i x at = All-contains P (map f xs) (f x) all (mapped f xs x (there_item xs i x at))
+
+  pub mapped_item : (i : ℕ) (x : X) → slice_get xs i ≡ Some x → Contains (map f xs) (f x)
+  mapped_item i x at = mapped f xs x (there_item xs i x at)

@@ -1,0 +1,62 @@
+-- A packet that was read, and the one message that octets may be sent for.
+use Rattle.std.proofs.Common.{◌≡◌, ℕ, ◌+◌, ◌<◌, Bool, List, [], ◌∷◌, ◌++◌, length, refl, sym, ap, subst, ◌∙◌, arith, append_assoc}
+use Rattle.std.specs.Prelude.{slice_range, slice_index, slice_index_or, IsTrue, ◌↔◌}
+use Rattle.mesh_atoms.proofs.Reading.{text_is, Stands, stands_next, behind}
+use Rattle.mesh_packet.specs.declared.packet.Span.{Span}
+use Rattle.mesh_packet.specs.Fields.{MessageFields, PacketFields}
+use Rattle.mesh_packet.specs.Grammar.{SpellsMessage, Spells}
+use Rattle.mesh_packet.proofs.OneReading.{one_packet}
+use Rattle.mesh_packet.proofs.Packets.{first_stands}
+use Rattle.mesh_wire.specs.Writes.{HasBriefBlocks, IsSoleMessage, alone}
+
+-- the message's octets are those at its span
+pub stands_alone : (m : MessageFields) (s : Span) (bytes : List ℕ) (is : Spells (alone m) (s ∷ []) bytes) → slice_range bytes s.start (s.start + s.len) ≡ is.messages_is.0
+stands_alone m s bytes is =
+    let end : ℕ = length bytes in
+    let front = first_stands bytes is.flags is.sequence (is.tlvs ++ is.messages) is.whole in
+    let both : Stands bytes 1 (is.sequence ++ is.tlvs) is.messages end = record { parts = front.parts ∙ sym (append_assoc is.sequence is.tlvs is.messages); at_end = front.at_end; fits = front.fits } in
+    let last = behind bytes (1 + length is.sequence) is.tlvs is.messages end (stands_next bytes 1 is.sequence is.tlvs is.messages end both) in
+    let (text, rest, spelled, stands, none, parts) = is.messages_is in
+    let there = text_is bytes (1 + length is.sequence + length is.tlvs) end text rest (omega (arith, last.1)) (omega arith) (last.0 ∙ parts) in
+    ap (λ (p : Span). slice_range bytes p.start (p.start + p.len)) stands ∙ there.1
+
+-- one span of one message
+one_span : (spans : List Span) (none : Span) → length spans ≡ 1 → spans ≡ slice_index_or spans 0 none ∷ []
+one_span [] none e = absurd (omega (arith, e))
+one_span (x ∷ []) none e = refl
+one_span (x ∷ y ∷ xs) none e = absurd (omega (arith, e))
+
+pub alone_spans : (packet : PacketFields) (m : MessageFields) (spans : List Span) (s none : Span) (bytes : List ℕ) → packet ≡ alone m → length packet.messages ≡ length spans → s ≡ slice_index_or spans 0 none →
+    Spells packet spans bytes → Spells (alone m) (s ∷ []) bytes
+alone_spans packet m spans s none bytes e count at is =
+    let one : length spans ≡ 1 = sym count ∙ ap (λ (p : PacketFields). length p.messages) e in
+    let same : spans ≡ s ∷ [] = one_span spans none one ∙ ap (λ (p : Span). p ∷ []) (sym at) in
+    subst (λ (ss : List Span). Spells (alone m) ss bytes) same (subst (λ (p : PacketFields). Spells p spans bytes) e is)
+
+first_of : {A : Type 0} (a b : A) → a ∷ [] ≡ b ∷ [] → a ≡ b
+first_of a b e = cc
+
+module _ (Says : MessageFields → Type 0) (bytes : List ℕ) where
+  -- the octets are a packet of one message alone of which that is true
+  abbrev pub IsSole : Type 0
+  IsSole = (m : MessageFields) × IsSoleMessage m bytes × Says m
+
+  pub sole_is : (answer : Bool) (m : MessageFields) (s : Span) → Spells (alone m) (s ∷ []) bytes → ((i : ℕ) → slice_index bytes i < 256) →
+      ((text : List ℕ) (spelled : SpellsMessage m text) → slice_range bytes s.start (s.start + s.len) ≡ text → IsTrue answer ↔ (Says m × HasBriefBlocks spelled)) → IsTrue answer ↔ IsSole
+  sole_is answer m s is octets tells = (
+    λ y.
+        let here = (tells is.messages_is.0 is.messages_is.2 (stands_alone m s bytes is)).0 y in
+        (m, record { octets = octets; span = s; spelled = is; brief = here.1 }, here.0),
+    λ sole.
+        let (n, only, says) = sole in
+        let same = one_packet bytes (alone m) (alone n) (s ∷ []) (only.span ∷ []) is only.spelled in
+        let messages : m ≡ n = first_of m n (ap (λ (p : PacketFields). p.messages) same.0) in
+        let spans : s ≡ only.span = first_of s only.span same.1 in
+        let told = subst (λ (o : MessageFields). (text : List ℕ) (spelled : SpellsMessage o text) → slice_range bytes s.start (s.start + s.len) ≡ text → IsTrue answer ↔ (Says o × HasBriefBlocks spelled)) messages tells in
+        let there = ap (λ (p : Span). slice_range bytes p.start (p.start + p.len)) spans ∙ stands_alone n only.span bytes only.spelled in
+        (told only.spelled.messages_is.0 only.spelled.messages_is.2 there).1 (says, only.brief),
+  )
+
+  -- a packet that isn't one message alone is none
+  pub not_sole : (packet : PacketFields) (spans : List Span) → Spells packet spans bytes → ((m : MessageFields) → packet ≡ alone m → ⊥) → IsSole → ⊥
+  not_sole packet spans is none (n, only, says) = none n (one_packet bytes packet (alone n) spans (only.span ∷ []) is only.spelled).0

@@ -1,0 +1,128 @@
+-- When rows of a HELLO are the same, and when HELLOs are.
+use Rattle.std.proofs.Common.{◌≡◌, ℕ, Bool, true, false, eqb, ◌&&◌, refl, ap, sym, ◌∙◌, Decides}
+use Rattle.std.specs.Prelude.{Option, Some, None}
+use Rattle.std.specs.Option.{option_eq}
+use Rattle.std.specs.Cmp.{booleans_Decides}
+use Rattle.std.proofs.Math.Bool.{beq}
+use Rattle.std.proofs.lemmas.Bool.{false≢true}
+use Rattle.std.proofs.lemmas.Bool.Decides.{Decides-and, Decides-eqb}
+use Rattle.mesh_atoms.specs.declared.addr.Addr4.{Addr4}
+use Rattle.mesh_atoms.specs.declared.addr.NetAddr.{NetAddr}
+use Rattle.mesh_atoms.specs.declared.codes.metric.Metric.{Metric}
+use Rattle.mesh_atoms.specs.declared.hello.HelloRow.{HelloRow}
+use Rattle.mesh_atoms.specs.declared.hello.LinkStatus.{LinkStatus}
+use Rattle.mesh_atoms.specs.declared.hello.LinkStatus.TheVariants as link
+use Rattle.mesh_atoms.specs.declared.hello.LocalIf.{LocalIf}
+use Rattle.mesh_atoms.specs.declared.hello.LocalIf.TheVariants as local
+use Rattle.mesh_atoms.specs.declared.hello.Metrics.{Metrics}
+use Rattle.mesh_atoms.specs.declared.hello.Mpr.{Mpr}
+use Rattle.mesh_atoms.specs.declared.hello.OtherStatus.{OtherStatus}
+use Rattle.mesh_atoms.specs.declared.hello.OtherStatus.TheVariants as other
+use Rattle.mesh_atoms.proofs.Nets.{same_net}
+use Rattle.mesh_atoms.proofs.Rows.{same_metric}
+
+decides_so : {P Q : Type 0} (b : Bool) → (P → Q) → (Q → P) → Decides b P → Decides b Q
+decides_so b to from d = (λ e. to (d.0 e), λ q. d.1 (from q))
+
+pub options : {X : Type 0} (test : X → X → Bool) → ((x y : X) → Decides (test x y) (x ≡ y)) → (a b : Option X) → Decides (option_eq test a b) (a ≡ b)
+options test same None None = (λ _. refl, λ _. refl)
+options test same None (Some y) = (λ e. absurd (false≢true e), λ e. absurd (cc))
+options test same (Some x) None = (λ e. absurd (false≢true e), λ e. absurd (cc))
+options test same (Some x) (Some y) = (λ e. ap (λ z. Some z) ((same x y).0 e), λ e. let f : x ≡ y = cc in (same x y).1 f)
+
+nets : (a b : NetAddr) → Decides (eqb a.addr.0 b.addr.0 && eqb a.prefix b.prefix) (a ≡ b)
+nets a b = decides_so _ (λ h. same_net a b (ap (λ (n : ℕ). let x : Addr4 = record { 0 = n } in x) h.0) h.1) (λ e. (ap (λ (n : NetAddr). n.addr.0) e, ap (λ (n : NetAddr). n.prefix) e)) (Decides-and _ _ (Decides-eqb a.addr.0 b.addr.0) (Decides-eqb a.prefix b.prefix))
+
+metrics : (a b : Metric) → Decides (eqb a.code b.code) (a ≡ b)
+metrics a b = decides_so _ (same_metric a b) (ap (λ (m : Metric). m.code)) (Decides-eqb a.code b.code)
+
+-- what tells variants apart
+
+yes : {P : Type 0} (b : Bool) → b ≡ true → P → Decides b P
+yes b e p = (λ _. p, λ _. e)
+
+no : {P : Type 0} (b : Bool) → b ≡ false → (P → ⊥) → Decides b P
+no b e not = (λ t. absurd (false≢true (sym e ∙ t)), λ p. absurd (not p))
+
+locals : (test : LocalIf → LocalIf → Bool) → test local.This local.This ≡ true → test local.Other local.Other ≡ true → test local.This local.Other ≡ false → test local.Other local.This ≡ false → (a b : LocalIf) → Decides (test a b) (a ≡ b)
+locals test tt oo to ot local.This local.This = yes _ tt refl
+locals test tt oo to ot local.Other local.Other = yes _ oo refl
+locals test tt oo to ot local.This local.Other = no _ to (λ e. cc)
+locals test tt oo to ot local.Other local.This = no _ ot (λ e. cc)
+
+others : (test : OtherStatus → OtherStatus → Bool) → test other.Lost other.Lost ≡ true → test other.Symmetric other.Symmetric ≡ true → test other.Lost other.Symmetric ≡ false → test other.Symmetric other.Lost ≡ false → (a b : OtherStatus) → Decides (test a b) (a ≡ b)
+others test ll ss ls sl other.Lost other.Lost = yes _ ll refl
+others test ll ss ls sl other.Symmetric other.Symmetric = yes _ ss refl
+others test ll ss ls sl other.Lost other.Symmetric = no _ ls (λ e. cc)
+others test ll ss ls sl other.Symmetric other.Lost = no _ sl (λ e. cc)
+
+links : (test : LinkStatus → LinkStatus → Bool) → test link.Lost link.Lost ≡ true → test link.Symmetric link.Symmetric ≡ true → test link.Heard link.Heard ≡ true →
+    test link.Lost link.Symmetric ≡ false → test link.Symmetric link.Lost ≡ false → test link.Lost link.Heard ≡ false → test link.Heard link.Lost ≡ false →
+    test link.Symmetric link.Heard ≡ false → test link.Heard link.Symmetric ≡ false → (a b : LinkStatus) → Decides (test a b) (a ≡ b)
+links test ll ss hh ls sl lh hl sh hs link.Lost link.Lost = yes _ ll refl
+links test ll ss hh ls sl lh hl sh hs link.Symmetric link.Symmetric = yes _ ss refl
+links test ll ss hh ls sl lh hl sh hs link.Heard link.Heard = yes _ hh refl
+links test ll ss hh ls sl lh hl sh hs link.Lost link.Symmetric = no _ ls (λ e. cc)
+links test ll ss hh ls sl lh hl sh hs link.Symmetric link.Lost = no _ sl (λ e. cc)
+links test ll ss hh ls sl lh hl sh hs link.Lost link.Heard = no _ lh (λ e. cc)
+links test ll ss hh ls sl lh hl sh hs link.Heard link.Lost = no _ hl (λ e. cc)
+links test ll ss hh ls sl lh hl sh hs link.Symmetric link.Heard = no _ sh (λ e. cc)
+links test ll ss hh ls sl lh hl sh hs link.Heard link.Symmetric = no _ hs (λ e. cc)
+
+-- ---- rows
+
+abbrev metrics_of : Option Metric → Option Metric → Option Metric → Option Metric → Metrics
+metrics_of a b c d = record { link_in = a; link_out = b; near_in = c; near_out = d }
+
+abbrev mpr_of : Bool → Bool → Mpr
+mpr_of f r = record { flooding = f; routing = r }
+
+abbrev row_of : NetAddr → Option LocalIf → Option LinkStatus → Option OtherStatus → Metrics → Mpr → HelloRow
+row_of n l k o m r = record { addr = n; local = l; link = k; other = o; metrics = m; mpr = r }
+
+pub same_metrics : (a b : Metrics) → a.link_in ≡ b.link_in → a.link_out ≡ b.link_out → a.near_in ≡ b.near_in → a.near_out ≡ b.near_out → a ≡ b
+same_metrics a b w x y z =
+    ap (λ k. metrics_of k a.link_out a.near_in a.near_out) w ∙ (ap (λ k. metrics_of b.link_in k a.near_in a.near_out) x
+    ∙ (ap (λ k. metrics_of b.link_in b.link_out k a.near_out) y ∙ ap (λ k. metrics_of b.link_in b.link_out b.near_in k) z))
+
+pub same_mpr : (a b : Mpr) → a.flooding ≡ b.flooding → a.routing ≡ b.routing → a ≡ b
+same_mpr a b f r = ap (λ k. mpr_of k a.routing) f ∙ ap (λ k. mpr_of b.flooding k) r
+
+pub same_row : (a b : HelloRow) → a.addr ≡ b.addr → a.local ≡ b.local → a.link ≡ b.link → a.other ≡ b.other → a.metrics ≡ b.metrics → a.mpr ≡ b.mpr → a ≡ b
+same_row a b n l k o m r =
+    ap (λ x. row_of x a.local a.link a.other a.metrics a.mpr) n ∙ (ap (λ x. row_of b.addr x a.link a.other a.metrics a.mpr) l
+    ∙ (ap (λ x. row_of b.addr b.local x a.other a.metrics a.mpr) k ∙ (ap (λ x. row_of b.addr b.local b.link x a.metrics a.mpr) o
+    ∙ (ap (λ x. row_of b.addr b.local b.link b.other x a.mpr) m ∙ ap (λ x. row_of b.addr b.local b.link b.other b.metrics x) r))))
+
+abbrev metrics_test : Metrics → Metrics → Bool
+metrics_test a b = option_eq (λ (m n : Metric). eqb m.code n.code) a.link_in b.link_in && (option_eq (λ (m n : Metric). eqb m.code n.code) a.link_out b.link_out
+    && (option_eq (λ (m n : Metric). eqb m.code n.code) a.near_in b.near_in && option_eq (λ (m n : Metric). eqb m.code n.code) a.near_out b.near_out))
+
+all_metrics : (a b : Metrics) → Decides (metrics_test a b) (a ≡ b)
+all_metrics a b = decides_so _ (λ h. same_metrics a b h.0 h.1.0 h.1.1.0 h.1.1.1)
+    (λ e. (ap (λ (m : Metrics). m.link_in) e, (ap (λ (m : Metrics). m.link_out) e, (ap (λ (m : Metrics). m.near_in) e, ap (λ (m : Metrics). m.near_out) e))))
+    (Decides-and _ _ (options _ metrics a.link_in b.link_in) (Decides-and _ _ (options _ metrics a.link_out b.link_out) (Decides-and _ _ (options _ metrics a.near_in b.near_in) (options _ metrics a.near_out b.near_out))))
+
+mprs : (a b : Mpr) → Decides (beq a.flooding b.flooding && beq a.routing b.routing) (a ≡ b)
+mprs a b = decides_so _ (λ h. same_mpr a b h.0 h.1) (λ e. (ap (λ (m : Mpr). m.flooding) e, ap (λ (m : Mpr). m.routing) e)) (Decides-and _ _ (booleans_Decides a.flooding b.flooding) (booleans_Decides a.routing b.routing))
+
+module _ (local_test : LocalIf → LocalIf → Bool) (link_test : LinkStatus → LinkStatus → Bool) (other_test : OtherStatus → OtherStatus → Bool) where
+  rows : ((a b : LocalIf) → Decides (local_test a b) (a ≡ b)) → ((a b : LinkStatus) → Decides (link_test a b) (a ≡ b)) → ((a b : OtherStatus) → Decides (other_test a b) (a ≡ b)) → (a b : HelloRow) →
+      Decides ((eqb a.addr.addr.0 b.addr.addr.0 && eqb a.addr.prefix b.addr.prefix) && (option_eq local_test a.local b.local && (option_eq link_test a.link b.link
+      && (option_eq other_test a.other b.other && (metrics_test a.metrics b.metrics && (beq a.mpr.flooding b.mpr.flooding && beq a.mpr.routing b.mpr.routing)))))) (a ≡ b)
+  rows of_local of_link of_other a b = decides_so _ (λ h. same_row a b h.0 h.1.0 h.1.1.0 h.1.1.1.0 h.1.1.1.1.0 h.1.1.1.1.1)
+      (λ e. (ap (λ (r : HelloRow). r.addr) e, (ap (λ (r : HelloRow). r.local) e, (ap (λ (r : HelloRow). r.link) e, (ap (λ (r : HelloRow). r.other) e, (ap (λ (r : HelloRow). r.metrics) e, ap (λ (r : HelloRow). r.mpr) e))))))
+      (Decides-and _ _ (nets a.addr b.addr) (Decides-and _ _ (options local_test of_local a.local b.local) (Decides-and _ _ (options link_test of_link a.link b.link)
+      (Decides-and _ _ (options other_test of_other a.other b.other) (Decides-and _ _ (all_metrics a.metrics b.metrics) (mprs a.mpr b.mpr))))))
+
+-- rows by the tests that tell variants apart
+pub hello_rows : (local_test : LocalIf → LocalIf → Bool) (link_test : LinkStatus → LinkStatus → Bool) (other_test : OtherStatus → OtherStatus → Bool) →
+    local_test local.This local.This ≡ true → local_test local.Other local.Other ≡ true → local_test local.This local.Other ≡ false → local_test local.Other local.This ≡ false →
+    link_test link.Lost link.Lost ≡ true → link_test link.Symmetric link.Symmetric ≡ true → link_test link.Heard link.Heard ≡ true →
+    link_test link.Lost link.Symmetric ≡ false → link_test link.Symmetric link.Lost ≡ false → link_test link.Lost link.Heard ≡ false → link_test link.Heard link.Lost ≡ false →
+    link_test link.Symmetric link.Heard ≡ false → link_test link.Heard link.Symmetric ≡ false →
+    other_test other.Lost other.Lost ≡ true → other_test other.Symmetric other.Symmetric ≡ true → other_test other.Lost other.Symmetric ≡ false → other_test other.Symmetric other.Lost ≡ false →
+    (a b : HelloRow) → Decides ((eqb a.addr.addr.0 b.addr.addr.0 && eqb a.addr.prefix b.addr.prefix) && (option_eq local_test a.local b.local && (option_eq link_test a.link b.link
+    && (option_eq other_test a.other b.other && (metrics_test a.metrics b.metrics && (beq a.mpr.flooding b.mpr.flooding && beq a.mpr.routing b.mpr.routing)))))) (a ≡ b)
+hello_rows local_test link_test other_test a1 a2 a3 a4 b1 b2 b3 b4 b5 b6 b7 b8 b9 c1 c2 c3 c4 a b =
+    rows local_test link_test other_test (locals local_test a1 a2 a3 a4) (links link_test b1 b2 b3 b4 b5 b6 b7 b8 b9) (others other_test c1 c2 c3 c4) a b

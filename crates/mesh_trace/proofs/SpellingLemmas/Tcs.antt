@@ -1,0 +1,44 @@
+-- What a reading of a TC looks at, and what octets may be sent for one.
+use Rattle.std.proofs.Common.{◌≡◌, ℕ, List}
+use Rattle.std.specs.Prelude.{None}
+use Rattle.mesh_atoms.specs.declared.addr.NetAddr.{NetAddr}
+use Rattle.mesh_atoms.specs.declared.tc.Tc.{Tc}
+use Rattle.mesh_packet.specs.Fields.{MessageFields}
+use Rattle.mesh_tlv.specs.Fields.{TlvFields}
+use Rattle.mesh_wire.specs.Rows.{HasPart}
+use Rattle.mesh_wire.specs.Rules.{Keeps}
+use Rattle.mesh_wire.specs.TcRules.{BreaksTc, AddressWidth}
+use Rattle.mesh_wire.specs.Writes.{IsReadOfTcAddress, WritesTc}
+use Rattle.mesh_trace.specs.Spelling.Looks.{LooksTc, TellsOnly, SaysTc}
+use Rattle.mesh_trace.proofs.SpellingLemmas.Hellos.{four_octets}
+use Rattle.mesh_trace.proofs.SpellingLemmas.OneMessage.{IsSole}
+
+pub tc_width : (m : MessageFields) → Keeps (BreaksTc m) → m.width ≡ 4
+tc_width m keeps = four_octets m.width (λ not. keeps _ None (AddressWidth not))
+
+pub parts_read : (m : MessageFields) → TellsOnly LooksTc m → (net : NetAddr) (part : TlvFields) → HasPart m net part → IsReadOfTcAddress part
+parts_read m tells net part p = let looks = tells net part p in record { kind = looks.1; ext = looks.0 }
+
+pub parts_looked : (m : MessageFields) → ((net : NetAddr) (part : TlvFields) → HasPart m net part → IsReadOfTcAddress part) → TellsOnly LooksTc m
+parts_looked m read net part p = let r = read net part p in (r.ext, r.kind)
+
+pub writes_of : (tc : Tc) (hop_limit : ℕ) (validity bytes : List ℕ) → IsSole (SaysTc tc hop_limit validity) bytes → WritesTc tc hop_limit validity bytes
+writes_of tc hop_limit validity bytes (m, packet, says) = record {
+  message = m;
+  packet = packet;
+  kind = says.header.kind;
+  limit = says.header.limit;
+  count = says.header.count;
+  reads = says.reads;
+  validity_is = says.validity_is;
+  keeps = says.keeps;
+  tlvs = says.tlvs;
+  parts = says.parts;
+}
+
+pub sole_of : (tc : Tc) (hop_limit : ℕ) (validity bytes : List ℕ) → WritesTc tc hop_limit validity bytes → IsSole (SaysTc tc hop_limit validity) bytes
+sole_of tc hop_limit validity bytes w = (
+  w.message,
+  w.packet,
+  record { header = record { kind = w.kind; limit = w.limit; count = w.count }; reads = w.reads; validity_is = w.validity_is; keeps = w.keeps; tlvs = w.tlvs; parts = w.parts },
+)

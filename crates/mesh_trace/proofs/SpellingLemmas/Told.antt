@@ -1,0 +1,35 @@
+-- What is said of addresses, block by block and part by part.
+use Rattle.std.proofs.Common.{◌≤◌, List, [], ◌∷◌, refl, sym, subst, arith}
+use Rattle.std.specs.Prelude.{All, Contains}
+use Rattle.std.proofs.lemmas.List.Elements.{All-nil, All-cons}
+use Rattle.mesh_addr.specs.declared.records.RawAddr.{RawAddr}
+use Rattle.mesh_addr.specs.Grammar.{AreRaw}
+use Rattle.mesh_packet.specs.Fields.{BlockFields, MessageFields}
+use Rattle.mesh_tlv.specs.Fields.{AddrTlvFields}
+use Rattle.mesh_trace.specs.Spelling.Looks.{Saying, IsSaying, SaysOnly, TellsOnly}
+
+-- addresses of four octets have prefixes of at most 32 bits
+pub raw_narrow : (addrs : List RawAddr) → AreRaw 4 addrs → All (λ (a : RawAddr). a.prefix ≤ 32) addrs
+raw_narrow [] h = All-nil (λ (a : RawAddr). a.prefix ≤ 32)
+raw_narrow (a ∷ addrs) h = All-cons (λ (x : RawAddr). x.prefix ≤ 32) a addrs (let le = h.1 in omega (arith, le)) (raw_narrow addrs h.2)
+
+module _ (P : Saying) (m : MessageFields) where
+  abbrev pub BlocksSayOnly : Type 0
+  BlocksSayOnly = (b : BlockFields) → Contains m.blocks b → (tlv : AddrTlvFields) → Contains b.tlvs tlv → SaysOnly P b.addrs tlv
+
+  pub parts_of_blocks : BlocksSayOnly → TellsOnly P m
+  parts_of_blocks says net part p =
+      subst (IsSaying P net) (sym p.part_is) (says p.block p.address.in_message p.tlv p.in_block p.place p.address.address net p.first p.last p.address.in_block p.address.is_in)
+
+  pub blocks_of_parts : TellsOnly P m → BlocksSayOnly
+  blocks_of_parts tells b has tlv in_block place a net first last at is =
+      tells net _ (record {
+        block = b;
+        place = place;
+        tlv = tlv;
+        address = record { address = a; in_message = has; in_block = at; is_in = is };
+        in_block = in_block;
+        first = first;
+        last = last;
+        part_is = refl;
+      })

@@ -1,0 +1,41 @@
+use Rattle.std.proofs.Common.{◌≡◌, rules, ℕ, length, slice_index_or, false, refl, sym, ◌∙◌}
+use Rattle.std.specs.Prelude.{IsTrue, None}
+use Rattle.std.proofs.lemmas.Bool.{false≢true}
+use Rattle.std.proofs.lemmas.Option.{slice_get-get_or}
+use Rattle.mesh_tlv.specs.declared.tlv.AddrTlv.{AddrTlv}
+use Rattle.mesh_tlv.specs.Fields.{addr_fields}
+use Rattle.mesh_tlv.specs.Least.{IsFit}
+use Rattle.mesh_trace.specs.Spelling.Looks.{SaysOnly}
+use Rattle.mesh_trace.proofs.SpellingLemmas.Mapped.{before_more, before_all, all_mapped, one_mapped, mapped_item}
+use Rattle.mesh_trace.proofs.spelling.parts.looks_at_block.Goals as goal
+
+pub looks_at_addr_tlv-requires-clause-fit : goal.looks_at_addr_tlv-requires-clause-fit
+looks_at_addr_tlv-requires-clause-fit g c =
+    let none : AddrTlv = record { kind = 0; ext = 0; first = 0; last = 0; multi = false; value = None } in
+    let tlvs = c.args.tlvs.now in
+    one_mapped addr_fields tlvs (IsFit (length c.args.addrs.now)) c.requires.fit c.loop-i.i (slice_index_or tlvs c.loop-i.i none) (slice_get-get_or tlvs c.loop-i.i none c.loop-i-test.true)
+
+pub loop-i-preserved : goal.loop-i-preserved
+loop-i-preserved g c =
+    let none : AddrTlv = record { kind = 0; ext = 0; first = 0; last = 0; multi = false; value = None } in
+    let tlvs = c.args.tlvs.now in
+    let yes : IsTrue c.looks_at_addr_tlv.result = search rules in
+    before_more (λ (j : ℕ) (tlv : AddrTlv). SaysOnly (g.L.Looks.reads c.args.looks.now) c.args.addrs.now (addr_fields tlv)) tlvs c.loop-i.i (slice_index_or tlvs c.loop-i.i none)
+    (slice_get-get_or tlvs c.loop-i.i none c.loop-i-test.true) (c.looks_at_addr_tlv.ensures.0 yes) c.loop-i.invariant
+
+pub returns-then-not-looks_at_addr_tlv : goal.returns-then-not-looks_at_addr_tlv
+returns-then-not-looks_at_addr_tlv g c =
+    let none : AddrTlv = record { kind = 0; ext = 0; first = 0; last = 0; multi = false; value = None } in
+    let tlvs = c.args.tlvs.now in
+    let tlv : AddrTlv = slice_index_or tlvs c.loop-i.i none in
+    let no : c.looks_at_addr_tlv.result ≡ false = search rules in (
+      λ yes. absurd (false≢true yes),
+      λ all. absurd (false≢true (sym no ∙ c.looks_at_addr_tlv.ensures.1 (all (addr_fields tlv) (mapped_item addr_fields tlvs c.loop-i.i tlv (slice_get-get_or tlvs c.loop-i.i none c.loop-i-test.true))))),
+    )
+
+pub returns : goal.returns
+returns g c = (
+  λ _. all_mapped addr_fields c.args.tlvs.now (SaysOnly (g.L.Looks.reads c.args.looks.now) c.args.addrs.now)
+      (before_all (λ (j : ℕ) (tlv : AddrTlv). SaysOnly (g.L.Looks.reads c.args.looks.now) c.args.addrs.now (addr_fields tlv)) c.args.tlvs.now c.loop-i.i c.loop-i-test.false c.loop-i.invariant),
+  λ _. refl,
+)

@@ -1,0 +1,12 @@
+use Rattle.std.proofs.Common.{ℕ}
+use Rattle.std.specs.Prelude.{Contains}
+use Rattle.mesh_packet.specs.declared.packet.Block.{Block}
+use Rattle.mesh_packet.specs.Fields.{fields_of_block}
+use Rattle.mesh_tlv.specs.Fields.{AddrTlvFields}
+use Rattle.mesh_trace.specs.Spelling.Looks.{SaysOnly}
+use Rattle.mesh_trace.proofs.SpellingLemmas.Mapped.{HoldsBefore}
+use Rattle.mesh_trace.proofs.spelling.parts.looks_at_blocks.Given as goal
+
+abbrev pub invariant-loop-i : goal.invariant-loop-i
+invariant-loop-i g l =
+    HoldsBefore (λ (j : ℕ) (b : Block). (tlv : AddrTlvFields) → Contains (fields_of_block b).tlvs tlv → SaysOnly (g.L.Looks.reads l.looks) (fields_of_block b).addrs tlv) l.blocks l.i

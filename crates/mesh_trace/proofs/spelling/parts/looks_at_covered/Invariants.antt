@@ -1,0 +1,11 @@
+use Rattle.std.proofs.Common.{◌+◌, ℕ}
+use Rattle.mesh_atoms.specs.declared.addr.NetAddr.{NetAddr}
+use Rattle.mesh_addr.specs.declared.records.RawAddr.{RawAddr}
+use Rattle.mesh_tlv.specs.Fields.{addr_fields}
+use Rattle.mesh_wire.specs.Parts.{IsIn, octets_of, value_at}
+use Rattle.mesh_trace.proofs.SpellingLemmas.Mapped.{HoldsBefore}
+use Rattle.mesh_trace.proofs.spelling.parts.looks_at_covered.Given as goal
+
+abbrev pub invariant-loop-i : goal.invariant-loop-i
+invariant-loop-i g l =
+    HoldsBefore (λ (i : ℕ) (a : RawAddr). (net : NetAddr) → IsIn a net → g.L.Looks.reads l.looks net l.tlv.kind l.tlv.ext (octets_of (value_at (addr_fields l.tlv) (l.tlv.first + i)))) l.covered l.i

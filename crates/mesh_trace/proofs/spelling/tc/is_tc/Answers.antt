@@ -1,0 +1,34 @@
+use Rattle.std.proofs.Common.{List, refl, ap, arith, slice_index_or}
+use Rattle.std.proofs.lemmas.Bool.{false≢true}
+use Rattle.mesh_addr.proofs.Writable.{if_ok}
+use Rattle.mesh_packet.specs.declared.packet.Span.{Span}
+use Rattle.mesh_packet.specs.Fields.{MessageFields, PacketFields, fields_of_message, fields_of_packet}
+use Rattle.mesh_trace.specs.Spelling.Looks.{SaysTc}
+use Rattle.mesh_trace.proofs.SpellingLemmas.OneMessage.{alone_spans, sole_is, not_sole}
+use Rattle.mesh_trace.proofs.SpellingLemmas.Tcs.{writes_of, sole_of}
+use Rattle.mesh_trace.proofs.spelling.tc.is_tc.Goals as goal
+
+pub returns-in-Some : goal.returns-in-Some
+returns-in-Some c =
+    let bytes = c.args.bytes.now in
+    let tc = c.args.tc.now in
+    let limit = c.args.hop_limit in
+    let validity = c.args.validity.now in
+    let packet : PacketFields = fields_of_packet c.args.decoded.now.packet in
+    let spans = c.args.decoded.now.spans in
+    let m : MessageFields = fields_of_message c.in-Some.message.now in
+    let none : Span = record { start = 0; len = 0 } in
+    let s : Span = slice_index_or c.as_slice.result.now 0 none in
+    let is = alone_spans packet m spans s none bytes c.in-Some.ensures.some c.requires.placed.same (ap (λ (l : List Span). slice_index_or l 0 none) c.as_slice.ensures) c.requires.value in
+    if_ok c.tells_tc.result _ _ (λ yes tells.
+    let iff = sole_is (SaysTc tc limit validity) bytes yes m s is (λ i. omega (arith, c.type_inv.bytes i)) tells in
+    (λ y. writes_of tc limit validity bytes (iff.0 y), λ w. iff.1 (sole_of tc limit validity bytes w))) c.tells_tc.ensures
+
+pub returns-in-None : goal.returns-in-None
+returns-in-None c =
+    let bytes = c.args.bytes.now in
+    let validity = c.args.validity.now in (
+      λ yes. absurd (false≢true yes),
+      λ w. absurd (not_sole (SaysTc c.args.tc.now c.args.hop_limit validity) bytes (fields_of_packet c.args.decoded.now.packet) c.args.decoded.now.spans c.requires.value
+          (λ m e. c.in-None.ensures.none refl m e) (sole_of c.args.tc.now c.args.hop_limit validity bytes w)),
+    )
