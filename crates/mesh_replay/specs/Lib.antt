@@ -1,1 +1,3 @@
-pub mod Spelling
+pub mod Checking
+pub mod Command
+pub mod Traffic

@@ -1,6 +1,12 @@
-//! Which octets may be sent for a HELLO or a TC.
+//! The checker of a trace: whether it is that of a run of the network. It takes relays from the trace and judges them, reads what is
+//! sent and compares it with what is due, and draws losses by itself. The command splits its input and tells the answer.
 #![tactic(auto)]
 
-mod spelling;
+mod answer;
+mod checking;
+mod command;
+mod traffic;
 
-pub use spelling::{spells_hello, spells_tc};
+pub use answer::Replay;
+pub use checking::replay;
+pub use command::{ReplayFault, inputs_split_once, replay_input, worked_inputs_are_split};

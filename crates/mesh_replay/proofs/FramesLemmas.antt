@@ -1,0 +1,9 @@
+pub mod HelloOnce
+pub mod Losses
+pub mod Octets
+pub mod OneInterface
+pub mod HelloItems
+pub mod Onward
+pub mod Sendings
+pub mod TcOnce
+pub mod TcItems

@@ -1,0 +1,163 @@
+-- The line of a frame that is heard next leads on, and no other line does.
+use Rattle.std.proofs.Common.{◌≡◌, ℕ, ◌<◌, ◌≤◌, List, [], ◌∷◌, ◌++◌, refl, sym, ◌∙◌, ap, subst, arith, Some, All}
+use Rattle.std.specs.Prelude.{slice_get}
+use Rattle.std.proofs.lemmas.List.Elements.{All-head, All-tail}
+use Rattle.mesh_atoms.specs.declared.addr.Addr4.{Addr4}
+use Rattle.mesh_atoms.specs.declared.settings.Interface.{Interface}
+use Rattle.mesh_atoms.specs.declared.settings.RadioArc.{RadioArc}
+use Rattle.mesh_atoms.specs.declared.settings.RouterSettings.{RouterSettings}
+use Rattle.mesh_atoms.specs.declared.settings.Scenario.{Scenario}
+use Rattle.mesh_atoms.specs.State.{State}
+use Rattle.mesh_trace.proofs.machine.Places.{same_at, set_here}
+use Rattle.mesh_trace.specs.machine.declared.arrival.Arrival.{Arrival}
+use Rattle.mesh_trace.specs.machine.Net.{Net, HearsNext, IsSender}
+use Rattle.mesh_trace.specs.machine.Traffic.{Delivery, with_heard}
+use Rattle.mesh_texts.specs.Lines.Marks.{face_name}
+use Rattle.mesh_texts.specs.Trace.{heard_line}
+use Rattle.mesh_replay.specs.Checking.Going.{at}
+use Rattle.mesh_trace.specs.Positions.Alike.{HasAddresses}
+use Rattle.mesh_trace.specs.Positions.Due.{HearsBy}
+use Rattle.mesh_trace.specs.Positions.Events.{OpensHearing, OpensEvent, By_delivery, By_tick, By_last_tick}
+use Rattle.mesh_trace.specs.Positions.Items.{Tells, Tells_flooding, Tells_routing, Tells_hello, Tells_tc, Tells_frame, Tells_loss}
+use Rattle.mesh_trace.specs.Positions.Leading.{Leads, To_event, To_item, LeadsBy, Reaches}
+use Rattle.mesh_trace.specs.Positions.Standing.{Item, TracePosition, IsDone, with_state, with_traffic}
+use Rattle.mesh_trace.specs.Reading.Lines.{IsLineOf}
+use Rattle.mesh_trace.proofs.PositionsLemmas.Addresses.{positions_have_addresses}
+use Rattle.mesh_trace.proofs.PositionsLemmas.EventsOnce.{not_tick, not_last}
+use Rattle.mesh_trace.proofs.PositionsLemmas.Over.{all_behind}
+use Rattle.mesh_trace.proofs.PositionsLemmas.Walks.{leads_on}
+
+-- ---- what is heard first is one frame
+
+behind : (P : Delivery → Type 0) (before after : List Delivery) (e : Delivery) → All P (before ++ e ∷ after) → P e
+behind P before after e all = All-head P e after (all_behind P before (e ∷ after) all)
+
+heard_once : (a b c f : List Delivery) (d e : Delivery) → a ++ d ∷ b ≡ c ++ e ∷ f → All (λ x. d.moment < x.moment) a → All (λ x. d.moment ≤ x.moment) b → All (λ x. e.moment < x.moment) c → All (λ x. e.moment ≤ x.moment) f → d ≡ e
+heard_once [] b [] f d e same p q r t = cc
+heard_once [] b (x ∷ c) f d e same p q r t =
+    let heads : d ≡ x = cc in
+    let tails : b ≡ c ++ e ∷ f = cc in
+    let late : e.moment < x.moment = All-head (λ (z : Delivery). e.moment < z.moment) x c r in
+    let early : d.moment ≤ e.moment = behind (λ (z : Delivery). d.moment ≤ z.moment) c f e (subst (All (λ (z : Delivery). d.moment ≤ z.moment)) tails q) in
+    let moments = ap (λ (z : Delivery). z.moment) heads in
+    absurd (omega (arith, late, early, moments))
+heard_once (x ∷ a) b [] f d e same p q r t =
+    let heads : x ≡ e = cc in
+    let tails : a ++ d ∷ b ≡ f = cc in
+    let late : d.moment < x.moment = All-head (λ (z : Delivery). d.moment < z.moment) x a p in
+    let early : e.moment ≤ d.moment = behind (λ (z : Delivery). e.moment ≤ z.moment) a b d (subst (All (λ (z : Delivery). e.moment ≤ z.moment)) (sym tails) t) in
+    let moments = ap (λ (z : Delivery). z.moment) heads in
+    absurd (omega (arith, late, early, moments))
+heard_once (x ∷ a) b (y ∷ c) f d e same p q r t =
+    let tails : a ++ d ∷ b ≡ c ++ e ∷ f = cc in
+    heard_once a b c f d e tails (All-tail (λ (z : Delivery). d.moment < z.moment) x a p) q (All-tail (λ (z : Delivery). e.moment < z.moment) y c r) t
+
+next_once : (net : Net) (d e : Delivery) (others more : List Delivery) → HearsNext net d others → HearsNext net e more → d ≡ e
+next_once net d e others more h k =
+    heard_once h.first.before h.first.behind k.first.before k.first.behind d e (sym h.first.whole ∙ k.first.whole) h.first.later h.first.no_earlier k.first.later k.first.no_earlier
+
+sender_once : (routers : List RouterSettings) (arc : RadioArc) (a b : Addr4) → IsSender routers arc a → IsSender routers arc b → a ≡ b
+sender_once routers arc a b h k =
+    let router : k.router ≡ h.router = same_at routers arc.from k.router h.router k.router_is h.router_is in
+    let face : k.face ≡ h.face =
+    same_at h.router.interfaces arc.from_iface k.face h.face (subst (λ (r : RouterSettings). slice_get r.interfaces arc.from_iface ≡ Some k.face) router k.face_is) h.face_is in
+    same_at h.face.addrs 0 a b h.address (subst (λ (f : Interface). slice_get f.addrs 0 ≡ Some b) face k.address)
+
+-- ---- the scenario stays
+
+opens_scenario : (old : Net) (line : List ℕ) (new : TracePosition) → OpensEvent old line new → new.net.scenario ≡ old.scenario
+opens_scenario old line new (By_delivery h) = ap (λ (p : TracePosition). p.net.scenario) h.leads
+opens_scenario old line new (By_tick x moment next h) = ap (λ (p : TracePosition). p.net.scenario) h.leads
+opens_scenario old line new (By_last_tick only some h) = ap (λ (p : TracePosition). p.net.scenario) h.leads
+
+tells_scenario : (net : Net) (x : ℕ) (s : State) (line : List ℕ) (item : Item) (new : Net) (more : List Item) → Tells net x s line item new more → new.scenario ≡ net.scenario
+tells_scenario net x s line item new more (Tells_flooding face relays g at_face graph are is) = refl
+tells_scenario net x s line item new more (Tells_routing relays g graph are is) = refl
+tells_scenario net x s line item new more (Tells_hello frame is tells) = ap (λ (n : Net). n.scenario) tells.leads
+tells_scenario net x s line item new more (Tells_tc first further are tells) = ap (λ (n : Net). n.scenario) tells.leads
+tells_scenario net x s line item new more (Tells_frame tells) = ap (λ (n : Net). n.scenario) tells.leads
+tells_scenario net x s line item new more (Tells_loss is) = refl
+
+leads_scenario : (old : TracePosition) (line : List ℕ) (new : TracePosition) → Leads old line new → new.net.scenario ≡ old.net.scenario
+leads_scenario old line new (To_event none opens) = opens_scenario old.net line new opens
+leads_scenario old line new (To_item {s} {item} {rest} {more} {net} left stands tells leads) =
+    ap (λ (p : TracePosition). p.net.scenario) leads ∙ tells_scenario old.net old.router s line item net more tells
+
+leads_by_scenario : (old : TracePosition) (lines : List (List ℕ)) (new : TracePosition) → LeadsBy old lines new → new.net.scenario ≡ old.net.scenario
+leads_by_scenario old [] new same = ap (λ (p : TracePosition). p.net.scenario) same
+leads_by_scenario old (line ∷ lines) new (mid, one, more) = leads_by_scenario mid lines new more ∙ leads_scenario old line mid one
+
+pub reached_scenario : (s : Scenario) (lines : List (List ℕ)) (p : TracePosition) → Reaches s lines p → p.net.scenario ≡ s
+reached_scenario s lines p (first, is, leads) = leads_by_scenario first lines p leads ∙ is.opening.scenario_is
+
+-- ---- the frame that is heard next
+
+pub record ComesNext (net : Net) (d : Delivery) (others : List Delivery) (arc : RadioArc) (sender : Addr4) (was : State) : Type 0 where
+  pub next : HearsNext net d others
+  pub arc_is : slice_get net.scenario.arcs d.arc ≡ Some arc
+  pub sender_is : IsSender net.scenario.routers arc sender
+  pub stands : slice_get net.routers arc.to ≡ Some was
+
+abbrev pub its_line : Delivery → RadioArc → Addr4 → State → List ℕ
+its_line d arc sender was = heard_line d.moment was.settings.name (face_name was.settings.interfaces arc.to_iface) sender d.frame
+
+abbrev pub its_arrival : Delivery → RadioArc → Addr4 → Arrival
+its_arrival d arc sender = record { now = d.moment; iface = arc.to_iface; sender = sender }
+
+abbrev pub heard_net : Net → List Delivery → ℕ → State → Net
+heard_net net others x is = with_traffic (with_state net x is) (with_heard net.traffic others)
+
+module _ (net : Net) (y : ℕ) (d : Delivery) (others : List Delivery) (arc : RadioArc) (sender : Addr4) (was : State) (comes : ComesNext net d others arc sender was) where
+  -- its line leads on, however the frame leaves the router
+  pub heard_leads : (line : List ℕ) (is : State) (left : List Item) → IsLineOf line (its_line d arc sender was) → HearsBy was (its_arrival d arc sender) d.frame is left →
+      Leads (at net y []) line (at (heard_net net others arc.to is) arc.to left)
+  heard_leads line is left line_is hears =
+      To_event refl (By_delivery (record {
+        delivery = d;
+        others = others;
+        arc = arc;
+        sender = sender;
+        next = comes.next;
+        arc_is = comes.arc_is;
+        sender_is = comes.sender_is;
+        was = was;
+        stands = comes.stands;
+        line_is = line_is;
+        is = is;
+        left = left;
+        hears = hears;
+        leads = refl;
+      }))
+
+  opens_alone : (line : List ℕ) (after : TracePosition) → OpensHearing net line after → IsLineOf line (its_line d arc sender was)
+  opens_alone line after h =
+      let one : h.delivery ≡ d = next_once net h.delivery d h.others others h.next comes.next in
+      let arcs : h.arc ≡ arc = same_at net.scenario.arcs d.arc h.arc arc (subst (λ (e : Delivery). slice_get net.scenario.arcs e.arc ≡ Some h.arc) one h.arc_is) comes.arc_is in
+      let senders : h.sender ≡ sender = sender_once net.scenario.routers arc h.sender sender (subst (λ (a : RadioArc). IsSender net.scenario.routers a h.sender) arcs h.sender_is) comes.sender_is in
+      let states : h.was ≡ was = same_at net.routers arc.to h.was was (subst (λ (a : RadioArc). slice_get net.routers a.to ≡ Some h.was) arcs h.stands) comes.stands in
+      subst (λ (s : State). IsLineOf line (its_line d arc sender s)) states
+      (subst (λ (o : Addr4). IsLineOf line (its_line d arc o h.was)) senders
+      (subst (λ (a : RadioArc). IsLineOf line (its_line d a h.sender h.was)) arcs
+      (subst (λ (e : Delivery). IsLineOf line (its_line e h.arc h.sender h.was)) one h.line_is)))
+
+  event_alone : (line : List ℕ) (after : TracePosition) → OpensEvent net line after → IsLineOf line (its_line d arc sender was)
+  event_alone line after (By_delivery h) = opens_alone line after h
+  event_alone line after (By_tick x moment next h) = absurd (not_tick net d others x moment comes.next next)
+  event_alone line after (By_last_tick only some h) = absurd (not_last net d others comes.next only)
+
+  -- and no other
+  pub heard_alone : (line : List ℕ) (after : TracePosition) → Leads (at net y []) line after → IsLineOf line (its_line d arc sender was)
+  heard_alone line after (To_event none opens) = event_alone line after opens
+  heard_alone line after (To_item left stands tells leads) = absurd cc
+
+  -- the run isn't over
+  pub heard_undone : IsDone (at net y []) → ⊥
+  heard_undone done = not_last net d others comes.next done.over.only
+
+  -- behind its line the router's neighbours have addresses of 32 bits
+  pub heard_addresses : (s : Scenario) (lines : List (List ℕ)) (line : List ℕ) → Reaches s lines (at net y []) → IsLineOf line (its_line d arc sender was) →
+      (is : State) (left : List Item) → HearsBy was (its_arrival d arc sender) d.frame is left → HasAddresses is
+  heard_addresses s lines line (first, is_first, leads) line_is is left hears =
+      let q : TracePosition = at (heard_net net others arc.to is) arc.to left in
+      (positions_have_addresses s (lines ++ line ∷ []) q (first, is_first, leads_on first (at net y []) q lines (line ∷ []) leads (q, heard_leads line is left line_is hears, refl))).addresses
+      arc.to is (set_here net.routers arc.to is was comes.stands)

@@ -1,0 +1,141 @@
+-- Addresses are read back from their texts.
+use Rattle.std.proofs.Common.{◌≡◌, ℕ, zero, suc, ◌+◌, ◌-◌, ◌<◌, ◌≤◌, ◌^◌, ◌/◌, ◌%◌, ◌*◌, inl, inr, true, false, Bool, eqb, List, [], ◌∷◌, ◌++◌, length, length-append, take, drop, refl, sym, ap, ◌∙◌, subst, arith, append_assoc, codes, decimal, Some, None, Option, position}
+use Rattle.std.specs.Prelude.{◌==◌, ◌&&◌, cond, nat_eq, nat_lt, slice_range, slice_index}
+use Rattle.std.specs.Fmt.{digits}
+use Rattle.std.specs.List.{position_from}
+use Rattle.std.proofs.lemmas.Bool.{cases_Bool, eqb-true, ne_eqb, lt-ltb, eq-eqb, ltb-true, ltb-false}
+use Rattle.std.proofs.lemmas.Iterator.Adapters.{position_from-zero}
+use Rattle.std.proofs.lemmas.List.{append-nil, take_at, drop_at, take_all}
+use Rattle.mesh_atoms.specs.declared.addr.Addr4.{Addr4}
+use Rattle.mesh_atoms.specs.Literals.{number_of, cut, cut_at, dotted_of, address_of}
+use Rattle.mesh_atoms.proofs.Kept.{both}
+use Rattle.mesh_texts.specs.Lines.Marks.{dotted, spaced}
+use Rattle.mesh_texts.proofs.Cuts.{lacks, lacks_rest, not_here}
+use Rattle.mesh_texts.proofs.Marked.{decimal_lacks, dotted_lacks}
+use Rattle.mesh_texts.proofs.RouteLines.{in_order, same_dotted}
+
+-- ---- numbers
+
+abbrev is_number : ℕ → Option ℕ → Bool
+is_number n None = false
+is_number n (Some m) = m == n
+
+number_is : (n : ℕ) (read : Option ℕ) → is_number n read ≡ true → read ≡ Some n
+number_is n None e = absurd cc
+number_is n (Some m) e = ap (λ (k : ℕ). let some : Option ℕ = Some k in some) (eqb-true m n e)
+
+-- each of so many numbers is read back
+abbrev are_read : ℕ → Bool
+are_read zero = true
+are_read (suc n) = is_number n (number_of 255 (decimal n)) && are_read n
+
+all_are_read : are_read 256 ≡ true
+unfolding digits
+all_are_read = refl
+
+read_below : (k n : ℕ) → are_read k ≡ true → n < k → number_of 255 (decimal n) ≡ Some n
+read_below zero n are less = absurd (omega (arith, less))
+read_below (suc k) n are less = elim (cases_Bool (eqb n k)) [
+  | inl same ↦ subst (λ (m : ℕ). number_of 255 (decimal m) ≡ Some m) (sym (eqb-true n k same)) (number_is k (number_of 255 (decimal k)) (both (is_number k (number_of 255 (decimal k))) (are_read k) are).0)
+  | inr other ↦ read_below k n (both (is_number k (number_of 255 (decimal k))) (are_read k) are).1 (by other)
+] where
+  by : eqb n k ≡ false → n < k
+  by other = elim (cases_Bool (nat_lt n k)) [
+    | inl lower ↦ omega (arith, ltb-true n k lower)
+    | inr upper ↦ absurd (let same : n ≡ k = (let high = ltb-false n k upper in omega (arith, less, high)) in let yes = eq-eqb n k same in cc)
+  ]
+
+number_read : (n : ℕ) → n < 256 → number_of 255 (decimal n) ≡ Some n
+number_read n small = read_below 256 n all_are_read small
+
+-- ---- texts that are cut
+
+some_same : (m n : ℕ) → m ≡ n → let one : Option ℕ = Some m in let other : Option ℕ = Some n in one ≡ other
+some_same m n e = ap (λ (k : ℕ). let some : Option ℕ = Some k in some) e
+
+first_mark : (mark i : ℕ) (a x : List ℕ) → lacks mark a ≡ true → position_from (λ octet. octet == mark) i (a ++ mark ∷ x) ≡ Some (i + length a)
+first_mark mark i [] x none = rw (eq-eqb mark mark refl) (some_same i (i + 0) (omega arith))
+first_mark mark i (c ∷ a) x none =
+    let other : (c == mark) ≡ false = ne_eqb c mark (not_here mark c a none) in
+    rw other (first_mark mark (i + 1) a x (lacks_rest mark c a none) ∙ some_same ((i + 1) + length a) (i + suc (length a)) (omega arith))
+
+behind_mark : (mark k : ℕ) (a x : List ℕ) → k ≡ length a + 1 → slice_range (a ++ mark ∷ x) k (length (a ++ mark ∷ x)) ≡ x
+behind_mark mark k a x place =
+    let whole : a ++ mark ∷ x ≡ (a ++ mark ∷ []) ++ x = sym (append_assoc a (mark ∷ []) x) in
+    let long : length (a ++ mark ∷ []) ≡ k = (let h = length-append a (mark ∷ []) in omega (arith, h, place)) in
+    let rest : drop k (a ++ mark ∷ x) ≡ x = ap (λ (l : List ℕ). drop k l) whole ∙ drop_at (a ++ mark ∷ []) x k long in
+    ap (λ (l : List ℕ). take (length (a ++ mark ∷ x) - k) l) rest ∙ take_all (length (a ++ mark ∷ x) - k) x (let h = length-append a (mark ∷ x) in omega (arith, h, place))
+
+cut_first : (mark : ℕ) (a x : List ℕ) → lacks mark a ≡ true → cut mark (a ++ mark ∷ x) ≡ Some (a, x)
+cut_first mark a x none =
+    let front : take (0 + length a) (a ++ mark ∷ x) ≡ a = take_at a (mark ∷ x) (0 + length a) (omega arith) in
+    let behind : slice_range (a ++ mark ∷ x) (0 + length a + 1) (length (a ++ mark ∷ x)) ≡ x = behind_mark mark (0 + length a + 1) a x (omega arith) in
+    rw (position_from-zero (λ octet. octet == mark) (a ++ mark ∷ x), first_mark mark 0 a x none) cc
+
+-- ---- addresses
+
+dotted_read : (a : Addr4) → a.0 < 2 ^ 32 → dotted_of (dotted a) ≡ Some a.0
+dotted_read a small =
+    let i = a.0 / 16777216 in
+    let j = a.0 / 65536 % 256 in
+    let k = a.0 / 256 % 256 in
+    let l = a.0 % 256 in
+    let third = cut_first 46 (decimal k) (decimal l) (decimal_lacks 46 (omega arith) k) in
+    let second = cut_first 46 (decimal j) (decimal k ++ 46 ∷ decimal l) (decimal_lacks 46 (omega arith) j) in
+    let first = cut_first 46 (decimal i) (decimal j ++ 46 ∷ (decimal k ++ 46 ∷ decimal l)) (decimal_lacks 46 (omega arith) i) in
+    rw (in_order a, first, second, third, number_read i (omega (arith, small)), number_read j (omega arith), number_read k (omega arith), number_read l (omega arith))
+    (some_same (((i * 256 + j) * 256 + k) * 256 + l) a.0 (omega arith))
+
+-- one that isn't 0.0.0.0
+pub address_read : (a : Addr4) → a.0 < 2 ^ 32 → 0 < a.0 → address_of (dotted a) ≡ Some a
+address_read a small some = rw (dotted_read a small, lt-ltb 0 a.0 some) refl
+
+zero_text : dotted (record { 0 = 0 }) ≡ codes "0.0.0.0"
+unfolding dotted digits
+zero_text = refl
+
+-- and that
+pub zero_read : (a : Addr4) → a.0 < 2 ^ 32 → dotted a ≡ codes "0.0.0.0" → a ≡ record { 0 = 0 }
+zero_read a small is = same_dotted a (record { 0 = 0 }) small (is ∙ sym zero_text)
+
+pub not_zero : (a : Addr4) → (dotted a ≡ codes "0.0.0.0" → ⊥) → 0 < a.0
+not_zero a other = elim (cases_Bool (nat_lt 0 a.0)) [
+  | inl some ↦ ltb-true 0 a.0 some
+  | inr none ↦ absurd (
+      let nothing : a.0 ≡ 0 = (let low = ltb-false 0 a.0 none in omega (arith, low)) in
+      let same : a ≡ record { 0 = 0 } = ap (λ (n : ℕ). let addr : Addr4 = record { 0 = n } in addr) nothing in
+      other (ap dotted same ∙ zero_text))
+]
+
+-- ---- the word that an address is
+
+word_at : (w : List ℕ) (more : List Addr4) (k : ℕ) → lacks 32 w ≡ true → k < length (w ++ spaced more) → eqb (slice_index (w ++ spaced more) k) 32 ≡ true →
+    ((j : ℕ) → j < k → eqb (slice_index (w ++ spaced more) j) 32 ≡ true → ⊥) → (take k (w ++ spaced more) ≡ w) × (drop k (w ++ spaced more) ≡ spaced more)
+word_at [] [] k none within is first = absurd (omega (arith, within))
+word_at [] (b ∷ more) zero none within is first = (refl, refl)
+word_at [] (b ∷ more) (suc k) none within is first = absurd (first 0 (omega arith) refl)
+word_at (c ∷ w) more zero none within is first = absurd (not_here 32 c w none (eqb-true c 32 is))
+word_at (c ∷ w) more (suc k) none within is first =
+    let (front, behind) = word_at w more k (lacks_rest 32 c w none) (omega (arith, within)) is (λ j less here. first (suc j) (omega (arith, less)) here) in
+    (ap (λ (l : List ℕ). c ∷ l) front, behind)
+
+word_whole : (w : List ℕ) (more : List Addr4) → ((j : ℕ) → j < length (w ++ spaced more) → eqb (slice_index (w ++ spaced more) j) 32 ≡ true → ⊥) → (w ++ spaced more ≡ w) × ([] ≡ spaced more)
+word_whole w [] none = (append-nil w, refl)
+word_whole [] (b ∷ more) none = absurd (none 0 (omega arith) refl)
+word_whole (c ∷ w) (b ∷ more) none =
+    let (front, behind) = word_whole w (b ∷ more) (λ j less here. none (suc j) (omega (arith, less)) here) in (ap (λ (l : List ℕ). c ∷ l) front, behind)
+
+blankless : (a : Addr4) → lacks 32 (dotted a) ≡ true
+blankless a = dotted_lacks 32 (omega arith) refl a
+
+-- the same of a text that is so
+pub word_before : (text : List ℕ) (a : Addr4) (more : List Addr4) (k : ℕ) → text ≡ dotted a ++ spaced more → k < length text → eqb (slice_index text k) 32 ≡ true →
+    ((j : ℕ) → j < k → eqb (slice_index text j) 32 ≡ true → ⊥) → (take k text ≡ dotted a) × (drop k text ≡ spaced more)
+word_before text a more k is =
+    subst (λ (l : List ℕ). k < length l → eqb (slice_index l k) 32 ≡ true → ((j : ℕ) → j < k → eqb (slice_index l j) 32 ≡ true → ⊥) → (take k l ≡ dotted a) × (drop k l ≡ spaced more)) (sym is)
+    (word_at (dotted a) more k (blankless a))
+
+pub word_alone : (text : List ℕ) (a : Addr4) (more : List Addr4) → text ≡ dotted a ++ spaced more → ((j : ℕ) → j < length text → eqb (slice_index text j) 32 ≡ true → ⊥) →
+    (text ≡ dotted a) × ([] ≡ spaced more)
+word_alone text a more is =
+    subst (λ (l : List ℕ). ((j : ℕ) → j < length l → eqb (slice_index l j) 32 ≡ true → ⊥) → (l ≡ dotted a) × ([] ≡ spaced more)) (sym is) (word_whole (dotted a) more)

@@ -1,0 +1,135 @@
+-- What is answered where lines that were read lead to.
+use Rattle.std.proofs.Common.{◌≡◌, ℕ, ◌+◌, ◌<◌, ◌↔◌, List, [], ◌∷◌, ◌++◌, refl, sym, ◌∙◌, ap, subst, length, drop, append_assoc, append-nil, length-append, arith, Result, IfOk}
+use Rattle.std.specs.Prelude.{if◌then◌else◌, ◌==◌, Bool, true, false}
+use Rattle.std.proofs.lemmas.List.{drop_all, length-drop}
+use Rattle.std.proofs.lemmas.Result.{IfOk-weaker}
+use Rattle.mesh_atoms.specs.declared.settings.Scenario.{Scenario}
+use Rattle.mesh_trace.specs.machine.Net.{Net}
+use Rattle.mesh_trace.specs.machine.NetRun.{IsOver}
+use Rattle.mesh_replay.specs.declared.answer.Replay.{Replay}
+use Rattle.mesh_replay.specs.declared.answer.Replay.TheVariants.{Yes, No}
+use Rattle.mesh_replay.specs.declared.checking.case.Case.{Case}
+use Rattle.mesh_replay.specs.declared.checking.case.Progress.{Progress}
+use Rattle.mesh_replay.specs.declared.checking.scene.Outcome.{Outcome}
+use Rattle.mesh_replay.specs.declared.checking.scene.Outcome.TheVariants.{Fits, Unfit, Over}
+use Rattle.mesh_replay.specs.Checking.Answers.{Answers}
+use Rattle.mesh_replay.specs.Checking.Going.{at, Went}
+use Rattle.mesh_replay.specs.Checking.Reached.{HasRead}
+use Rattle.mesh_replay.specs.Checking.Scenes.{Comes, IsReachedNet}
+use Rattle.mesh_trace.specs.declared.reading.Reader.{Reader}
+use Rattle.mesh_trace.specs.Positions.Leading.{Reaches, Fits as FitsBehind, IsWholeTrace, IsUnfit, At_line, Behind_all}
+use Rattle.mesh_trace.specs.Positions.Standing.{TracePosition}
+use Rattle.mesh_trace.specs.Reading.Lines.{lines_of, begun}
+use Rattle.mesh_trace.specs.Reading.Readers.{lines_from}
+use Rattle.mesh_trace.proofs.PositionsLemmas.Fixed.{one_decides_fit, one_decides_end, unfit_is_not_whole, one_unfit, nothing_follows}
+use Rattle.mesh_trace.proofs.PositionsLemmas.Walks.{leads_on}
+
+-- the lines lead to the network between events
+pub is_reached : (case : Case) (reader : Reader) (net : Net) → HasRead case reader net → IsReachedNet case net
+is_reached case reader net h = (h.lines, h.router, h.reaches)
+
+-- lines that were read behind others
+record HasReadTo (case : Case) (reader : Reader) (p : TracePosition) : Type 0 where
+  lines : List (List ℕ)
+  reaches : Reaches case.scenario.now lines p
+  read : lines_of case.trace.now ≡ lines ++ lines_from case.trace.now reader.at
+  taken : reader.taken ≡ length lines
+
+more_read : (case : Case) (old new : Reader) (net : Net) (q : TracePosition) → (h : HasRead case old net) → Went case.trace.now old new (at net h.router []) q → HasReadTo case new q
+more_read case old new net q h went = record {
+  lines = h.lines ++ went.lines;
+  reaches = let (first, is, leads) = h.reaches in (first, is, leads_on first (at net h.router []) q h.lines went.lines leads went.leads);
+  read = h.read ∙ (ap (λ (l : List (List ℕ)). h.lines ++ l) went.read ∙ sym (append_assoc h.lines went.lines (lines_from case.trace.now new.at)));
+  taken = let a = h.taken in let b = went.taken in let c = length-append h.lines went.lines in omega (arith, a, b, c);
+}
+
+-- the lines of an event that fit lead on to the next network between events
+pub read_on : (case : Case) (old new : Progress) (before after : Net) (outcome : Outcome) → HasRead case old.reader before → Comes case old new before after outcome → outcome ≡ Fits → HasRead case new.reader after
+read_on case old new before after outcome h comes is =
+    let (y, went) = subst (Comes case old new before after) is comes h.router in
+    let more = more_read case old.reader new.reader before (at after y []) h went in
+    record { lines = more.lines; router = y; reaches = more.reaches; read = more.read; taken = more.taken }
+
+-- where no event is left, the lines lead to a network whose run is over
+pub read_to_end : (case : Case) (old new : Progress) (before after : Net) (outcome : Outcome) → HasRead case old.reader before → Comes case old new before after outcome → outcome ≡ Over → (net : Net) × HasRead case new.reader net × IsOver net
+read_to_end case old new before after outcome h comes is =
+    let (over, same, stays) = subst (Comes case old new before after) is comes in
+    (before, subst (λ (r : Reader). HasRead case r before) (sym stays) h, over)
+
+-- lines of which the next doesn't fit, or is missing
+unfit_at : (s : Scenario) (all lines left : List (List ℕ)) (p : TracePosition) → Reaches s lines p → all ≡ lines ++ left → ((line : List ℕ) (rest : List (List ℕ)) → left ≡ line ∷ rest → FitsBehind s lines line → ⊥) →
+    (IsWholeTrace s lines → ⊥) → IsUnfit s all (length lines + 1)
+unfit_at s all lines [] p reaches is none undone =
+    let same : all ≡ lines = is ∙ append-nil lines in
+    subst (λ (l : List (List ℕ)). IsUnfit s l (length lines + 1)) (sym same) (Behind_all p reaches undone)
+unfit_at s all lines (line ∷ rest) p reaches is none undone = At_line p lines line rest is reaches (none line rest refl)
+
+-- the lines of an event that don't fit
+pub stopped : (case : Case) (old new : Progress) (before after : Net) (outcome : Outcome) → HasRead case old.reader before → Comes case old new before after outcome → outcome ≡ Unfit →
+    IsUnfit case.scenario.now (lines_of case.trace.now) (new.reader.taken + 1)
+stopped case old new before after outcome h comes is =
+    let s = case.scenario.now in
+    let stops = subst (Comes case old new before after) is comes h.router in
+    let more = more_read case old.reader new.reader before stops.stop h stops.went in
+    rw more.taken (unfit_at s (lines_of case.trace.now) more.lines (lines_from case.trace.now new.reader.at) stops.stop more.reaches more.read
+    (λ line rest left. one_decides_fit s more.lines line stops.stop more.reaches (λ q leads. stops.holds line rest q left leads)) (one_decides_end s more.lines stops.stop more.reaches stops.undone))
+
+-- a text that isn't empty has lines
+begun_not : (octet : ℕ) (lines : List (List ℕ)) → begun octet lines ≡ [] → ⊥
+begun_not octet [] e = absurd (cc)
+begun_not octet (line ∷ lines) e = absurd (cc)
+
+has_lines : (octet : ℕ) (text : List ℕ) → lines_of (octet ∷ text) ≡ [] → ⊥
+has_lines octet text = by_cases (octet == 10)
+  where
+    by_cases : (b : Bool) → (if b then [] ∷ lines_of text else begun octet (lines_of text)) ≡ [] → ⊥
+    by_cases true e = absurd (cc)
+    by_cases false e = begun_not octet (lines_of text) e
+
+-- at the end of a run
+module _ (case : Case) (reader : Reader) (net : Net) (h : HasRead case reader net) (over : IsOver net) where
+  whole_there : IsWholeTrace case.scenario.now h.lines
+  whole_there = (at net h.router [], h.reaches, record { over = over; none = refl })
+
+  -- no line is left
+  pub whole_if_done : (count : ℕ) → length case.trace.now ≡ reader.at → count ≡ reader.taken → Answers case.scenario.now (lines_of case.trace.now) (Yes count)
+  whole_if_done count done is =
+      let none : lines_from case.trace.now reader.at ≡ [] = ap lines_of (drop_all reader.at case.trace.now (omega (arith, done))) in
+      let all : lines_of case.trace.now ≡ h.lines = h.read ∙ (ap (λ (l : List (List ℕ)). h.lines ++ l) none ∙ append-nil h.lines) in
+      rw all (whole_there, is ∙ h.taken)
+
+  -- some line is left
+  pub longer_if_not : reader.at < length case.trace.now → IsUnfit case.scenario.now (lines_of case.trace.now) (reader.taken + 1)
+  longer_if_not left = with_line (drop reader.at case.trace.now) refl
+    where
+      by_lines : (more : List (List ℕ)) → lines_from case.trace.now reader.at ≡ more → (more ≡ [] → ⊥) → IsUnfit case.scenario.now (lines_of case.trace.now) (reader.taken + 1)
+      by_lines [] e some = absurd (some refl)
+      by_lines (line ∷ rest) e some =
+          rw h.taken (At_line (at net h.router []) h.lines line rest (h.read ∙ ap (λ (l : List (List ℕ)). h.lines ++ l) e) h.reaches (nothing_follows case.scenario.now h.lines line whole_there))
+
+      with_line : (text : List ℕ) → drop reader.at case.trace.now ≡ text → IsUnfit case.scenario.now (lines_of case.trace.now) (reader.taken + 1)
+      with_line [] e = absurd (let long = length-drop reader.at case.trace.now in let none = ap length e in omega (arith, long, none, left))
+      with_line (octet ∷ text) e = by_lines (lines_of (octet ∷ text)) (ap lines_of e) (has_lines octet text)
+
+-- Each answer comes exactly where it says
+
+-- where it is yes with that number
+abbrev pub IsYesExactly : Scenario → List (List ℕ) → Replay → Type 0
+IsYesExactly s lines answer = (count : ℕ) → (answer ≡ Yes count ↔ IsWholeTrace s lines × (count ≡ length lines))
+
+abbrev pub IsNoExactly : Scenario → List (List ℕ) → Replay → Type 0
+IsNoExactly s lines answer = (line : ℕ) → (answer ≡ No line ↔ IsUnfit s lines line)
+
+yes_exactly : (s : Scenario) (lines : List (List ℕ)) (answer : Replay) → Answers s lines answer → IsYesExactly s lines answer
+yes_exactly s lines (Yes n) (whole, is) count = ((λ e. (whole, let same : n ≡ count = cc in sym same ∙ is)), (λ both. ap Yes (is ∙ sym both.1)))
+yes_exactly s lines (No k) unfit count = ((λ e. absurd (cc)), (λ both. absurd (unfit_is_not_whole s lines k unfit both.0)))
+
+no_exactly : (s : Scenario) (lines : List (List ℕ)) (answer : Replay) → Answers s lines answer → IsNoExactly s lines answer
+no_exactly s lines (Yes n) (whole, is) line = ((λ e. absurd (cc)), (λ unfit. absurd (unfit_is_not_whole s lines line unfit whole)))
+no_exactly s lines (No k) unfit line = ((λ e. let same : k ≡ line = cc in subst (IsUnfit s lines) same unfit), (λ other. ap No (one_unfit s lines k line unfit other)))
+
+pub if_yes : {E : Type 0} (s : Scenario) (lines : List (List ℕ)) (r : Result Replay E) → IfOk r (Answers s lines) → IfOk r (IsYesExactly s lines)
+if_yes s lines r h = IfOk-weaker r (Answers s lines) (IsYesExactly s lines) (yes_exactly s lines) h
+
+pub if_no : {E : Type 0} (s : Scenario) (lines : List (List ℕ)) (r : Result Replay E) → IfOk r (Answers s lines) → IfOk r (IsNoExactly s lines)
+if_no s lines r h = IfOk-weaker r (Answers s lines) (IsNoExactly s lines) (no_exactly s lines) h

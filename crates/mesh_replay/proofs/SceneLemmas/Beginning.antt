@@ -1,0 +1,84 @@
+-- A network before its first line.
+use Rattle.std.proofs.Common.{◌≡◌, ℕ, ◌+◌, ◌<◌, List, [], ◌∷◌, ◌++◌, refl, sym, ap, subst, length, get_or, All, arith, Some, None, length-append}
+use Rattle.std.specs.Prelude.{slice_get}
+use Rattle.std.proofs.lemmas.List.{length-map}
+use Rattle.std.proofs.lemmas.Option.{slice_get_read}
+use Rattle.std.proofs.lemmas.List.Elements.{All-nil}
+use Rattle.mesh_atoms.specs.State.{State}
+use Rattle.mesh_atoms.specs.declared.settings.RouterSettings.{RouterSettings}
+use Rattle.mesh_atoms.specs.declared.settings.Scenario.{Scenario}
+use Rattle.mesh_trace.specs.machine.Machine.{IsOpening}
+use Rattle.mesh_trace.specs.machine.NetRun.{IsOpeningNet}
+use Rattle.mesh_trace.specs.machine.Traffic as net
+use Rattle.mesh_trace.proofs.machine.Places.{each_more, same_at}
+use Rattle.mesh_replay.specs.declared.checking.case.Case.{Case}
+use Rattle.mesh_replay.specs.declared.checking.case.Progress.{Progress}
+use Rattle.mesh_replay.specs.declared.checking.scene.Due.{Due}
+use Rattle.mesh_replay.specs.Checking.Cases.{IsCase}
+use Rattle.mesh_replay.specs.Checking.Going.{at}
+use Rattle.mesh_replay.specs.Checking.Kept.{IsAtRest}
+use Rattle.mesh_replay.specs.Checking.Opening.{AreAtOpeningUpTo, AreAtOpening, IsOpeningProgress, IsAtFirstLine}
+use Rattle.mesh_replay.specs.Checking.Reached.{HasRead}
+use Rattle.mesh_replay.specs.Checking.Scenes.{IsSoundScene, net_of}
+use Rattle.mesh_trace.specs.Reading.Readers.{lines_from}
+
+pub none_opening : (settings : List RouterSettings) (routers : List State) → routers ≡ [] → AreAtOpeningUpTo settings 0 routers
+none_opening settings routers none = subst (AreAtOpeningUpTo settings 0) (sym none) (record { count_is = refl; each = λ x s at. absurd (let no : None ≡ Some s = at in cc) })
+
+pub opening_more : (settings : List RouterSettings) (k : ℕ) (r : RouterSettings) (router : State) (old new : List State) → k < length settings → r ≡ get_or settings k r → new ≡ old ++ router ∷ [] →
+    IsOpening r router → IsAtRest router → AreAtOpeningUpTo settings k old → AreAtOpeningUpTo settings (k + 1) new
+opening_more settings k r router old new lt is p fresh kept h =
+    rw p (record {
+      count_is = let e = length-append old (router ∷ []) in let f = h.count_is in omega (arith, e, f);
+      each = each_more (λ x t. (q : RouterSettings) × (slice_get settings x ≡ Some q) × IsOpening q t × IsAtRest t) old router h.each
+          (rw h.count_is (r, slice_get_read settings (length settings) k r refl lt is, fresh, kept));
+    })
+
+-- there is a router
+pub some_router : (s : Scenario) (routers : List State) → AreAtOpening s.routers routers → 0 < length routers
+some_router s routers h =
+    let least = s.sound_routers.routers.at_least in
+    omega (arith, least, h.count_is, length-map s.routers (λ (r : RouterSettings). r.name))
+
+pub opening_sound : (case : Case) (routers : List State) (due : Due) (last_ticks : ℕ) (progress : Progress) → IsCase case → IsOpeningProgress case.scenario.now.seed progress →
+    IsAtFirstLine case.scenario.now routers due last_ticks → IsSoundScene case routers due last_ticks progress
+opening_sound case routers due last_ticks progress is begun opens = record {
+  case_is = is;
+  progress_is = record {
+    reading = record { within = let e = begun.at_start in omega (arith, e); few = let e = begun.none_taken in omega (arith, e) };
+    seed = begun.seed_is;
+    flying = subst (λ (t : net.Traffic). All (λ (d : net.Delivery). d.arc < length case.scenario.now.arcs) t.air) (sym begun.traffic_is) (All-nil (λ (d : net.Delivery). d.arc < length case.scenario.now.arcs));
+  };
+  kept = record {
+    count = opens.are.count_is;
+    settings = λ x t at. let (r, stands, fresh, kept) = opens.are.each x t at in rw fresh.settings_are stands;
+    kept = λ x t at. let (r, stands, fresh, kept) = opens.are.each x t at in kept;
+  };
+  first = opens.first;
+  few = let none = opens.none in omega (arith, none);
+}
+
+opening_net : (case : Case) (routers : List State) (due : Due) (last_ticks : ℕ) (progress : Progress) → IsOpeningProgress case.scenario.now.seed progress →
+    IsAtFirstLine case.scenario.now routers due last_ticks → IsOpeningNet case.scenario.now (net_of case routers last_ticks progress)
+opening_net case routers due last_ticks progress begun opens = record {
+  scenario_is = refl;
+  count = opens.are.count_is;
+  opening = λ x settings state there at.
+      let (r, stands, fresh, kept) = opens.are.each x state at in
+      rw (same_at case.scenario.now.routers x settings r there stands) fresh;
+  traffic = begun.traffic_is;
+  last_ticks = opens.none;
+}
+
+-- no line leads to the network before its first event
+pub opening_read : (case : Case) (routers : List State) (due : Due) (last_ticks : ℕ) (progress : Progress) → IsOpeningProgress case.scenario.now.seed progress →
+    IsAtFirstLine case.scenario.now routers due last_ticks → HasRead case progress.reader (net_of case routers last_ticks progress)
+opening_read case routers due last_ticks progress begun opens =
+    let first = at (net_of case routers last_ticks progress) 0 [] in
+    record {
+      lines = [];
+      router = 0;
+      reaches = (first, record { opening = opening_net case routers due last_ticks progress begun opens; nobody = refl; none = refl }, refl);
+      read = ap (lines_from case.trace.now) (sym begun.at_start);
+      taken = begun.none_taken;
+    }

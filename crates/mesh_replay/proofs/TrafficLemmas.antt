@@ -1,0 +1,4 @@
+pub mod Flying
+pub mod Hearing
+pub mod Leaving
+pub mod Spreading

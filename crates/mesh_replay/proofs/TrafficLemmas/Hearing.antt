@@ -1,0 +1,81 @@
+-- The frame in the air that is heard first.
+use Rattle.std.proofs.Common.{◌≡◌, ℕ, ◌+◌, ◌<◌, ◌≤◌, List, [], ◌∷◌, ap, zero, suc, length, get_or, map, All, arith, refl, Some, below_more}
+use Rattle.std.specs.Prelude.{slice_get}
+use Rattle.std.specs.List.{remove}
+use Rattle.std.proofs.lemmas.List.Elements.{All-nil, All-cons, All-map}
+use Rattle.std.proofs.lemmas.Option.{slice_get_within, slice_get_read, slice_get-get_or}
+use Rattle.mesh_trace.specs.machine.Traffic.{IsHeardFirst}
+use Rattle.mesh_trace.proofs.machine.Places.{same_at, stands}
+use Rattle.mesh_replay.specs.declared.traffic.air.Delivered.{Delivered}
+use Rattle.mesh_replay.specs.Traffic.Air.{delivery_of, IsLeast}
+
+nowhere : (i : ℕ) → i < 0 → ⊥
+nowhere i h = omega (arith, h)
+
+-- the first of none
+pub least_of_none : (flights : List Delivered) → 0 < length flights → IsLeast flights 0 0
+least_of_none flights some = let (f, at) = stands flights 0 some in record {
+  flight = f;
+  stands = at;
+  no_earlier = λ i g there below. absurd (nowhere i below);
+  later = λ i g there below. absurd (nowhere i below);
+}
+
+-- what stands there
+pub read_as : (flights : List Delivered) (count place : ℕ) (e : Delivered) → (h : IsLeast flights count place) → e ≡ get_or flights place e → h.flight ≡ e
+read_as flights count place e h is = same_at flights place h.flight e h.stands (slice_get_read flights (length flights) place e refl (slice_get_within flights place h.flight h.stands) is)
+
+module _ (flights : List Delivered) (count place : ℕ) (f : Delivered) (at : slice_get flights count ≡ Some f) (h : IsLeast flights count place) where
+  -- one more, which is earlier than all before it
+  pub is_earlier : f.moment < h.flight.moment → IsLeast flights (count + 1) count
+  is_earlier lt = record {
+    flight = f;
+    stands = at;
+    no_earlier = λ i g there below. below_more (λ k. (e : Delivered) → slice_get flights k ≡ Some e → f.moment ≤ e.moment) count
+        (λ k b e th. let no = h.no_earlier k e th b in omega (arith, no, lt)) (λ e th. rw (same_at flights count e f th at) (omega arith)) i below g there;
+    later = λ i g there below. let no = h.no_earlier i g there below in omega (arith, no, lt);
+  }
+
+  -- one more, which is no earlier
+  pub is_no_earlier : h.flight.moment ≤ f.moment → IsLeast flights (count + 1) place
+  is_no_earlier le = record {
+    flight = h.flight;
+    stands = h.stands;
+    no_earlier = λ i g there below. below_more (λ k. (e : Delivered) → slice_get flights k ≡ Some e → h.flight.moment ≤ e.moment) count
+        (λ k b e th. h.no_earlier k e th b) (λ e th. rw (same_at flights count e f th at) le) i below g there;
+    later = h.later;
+  }
+
+-- what holds at each place holds of all deliveries
+all_at : (P : ℕ → Type 0) (flights : List Delivered) → ((i : ℕ) (f : Delivered) → slice_get flights i ≡ Some f → P f.moment) → All (λ d. P d.moment) (map delivery_of flights)
+all_at P flights h = All-map (λ d. P d.moment) delivery_of flights (λ k d below. h k (get_or flights k d) (slice_get-get_or flights k d below))
+
+-- the frame at a place is heard first, and the others stay
+pub heard_at : (flights : List Delivered) (place : ℕ) (f : Delivered) → slice_get flights place ≡ Some f → ((i : ℕ) (e : Delivered) → slice_get flights i ≡ Some e → f.moment ≤ e.moment) →
+    ((i : ℕ) (e : Delivered) → slice_get flights i ≡ Some e → i < place → f.moment < e.moment) → IsHeardFirst (map delivery_of flights) (delivery_of f) (map delivery_of (remove flights place))
+heard_at [] place f at from later = absurd (cc)
+heard_at (g ∷ gs) zero f at from later = let same : g ≡ f = cc in record {
+  before = [];
+  behind = map delivery_of gs;
+  whole = ap (λ (e : Delivered). delivery_of e ∷ map delivery_of gs) same;
+  later = All-nil (λ d. f.moment < d.moment);
+  no_earlier = all_at (λ m. f.moment ≤ m) gs (λ i e there. from (suc i) e there);
+  left = refl;
+}
+heard_at (g ∷ gs) (suc place) f at from later =
+    let more = heard_at gs place f at (λ i e there. from (suc i) e there) (λ i e there below. later (suc i) e there (omega (arith, below))) in
+    record {
+      before = delivery_of g ∷ more.before;
+      behind = more.behind;
+      whole = ap (λ l. delivery_of g ∷ l) more.whole;
+      later = All-cons (λ d. f.moment < d.moment) (delivery_of g) more.before (later zero g refl (omega arith)) more.later;
+      no_earlier = more.no_earlier;
+      left = ap (λ l. delivery_of g ∷ l) more.left;
+    }
+
+pub heard_first : (flights : List Delivered) (place : ℕ) (f : Delivered) → (h : IsLeast flights (length flights) place) → f ≡ h.flight → IsHeardFirst (map delivery_of flights) (delivery_of f) (map delivery_of (remove flights place))
+heard_first flights place f h is = rw is (heard_at flights place h.flight h.stands (λ i e there. h.no_earlier i e there (slice_get_within flights i e there)) h.later)
+
+-- all are later than a moment where the first is
+pub all_later : (limit : ℕ) (flights : List Delivered) (place : ℕ) → (h : IsLeast flights (length flights) place) → limit < h.flight.moment → All (λ d. limit < d.moment) (map delivery_of flights)
+all_later limit flights place h late = all_at (λ m. limit < m) flights (λ i e there. let no = h.no_earlier i e there (slice_get_within flights i e there) in omega (arith, no, late))

@@ -1,0 +1,5 @@
+use Rattle.mesh_replay.proofs.SceneLemmas.FirstDue.{IsFirstOf}
+use Rattle.mesh_replay.proofs.checking.opening.first_due.Given as goal
+
+abbrev pub invariant-loop-router : goal.invariant-loop-router
+invariant-loop-router g l = IsFirstOf l.routers.items l.router l.first.router l.first.moment

@@ -1,0 +1,29 @@
+use Rattle.std.proofs.Common.{◌≡◌, ◌+◌, ◌%◌, ◌≤◌, ℕ, arith, true, inl, inr, sym, ap, subst}
+use Rattle.std.proofs.lemmas.Bool.{cases_Bool}
+use Rattle.mesh_atoms.specs.declared.settings.RouterSettings.{RouterSettings}
+use Rattle.mesh_replay.proofs.RouterLemmas.Parts.{tcs_due, tcs_early, tcs_silent}
+use Rattle.mesh_replay.proofs.RouterLemmas.Spans.{spans_within}
+use Rattle.mesh_replay.proofs.checking.router.CheckedRouter.take_parts.Goals as goal
+
+pub returns-then-self-clause-due : goal.returns-then-self-clause-due
+returns-then-self-clause-due g c = rw (← c.self.view_is) (λ old next number. tcs_early old _ _ _ c.new.ensures (rw next c.if-self.true) (sym next) (sym number))
+
+pub returns-then-not-has_to_advertise-clause-due : goal.returns-then-not-has_to_advertise-clause-due
+returns-then-not-has_to_advertise-clause-due g c = rw (← c.self.view_is) (λ old next number.
+    tcs_silent old _ _ _ c.has_to_advertise.result c.len.result c.settings-settings.result.now.times.advertised_hold c.new-then-not-has_to_advertise.ensures
+    (let late = c.if-self.false in rw next (omega (arith, late))) (rw (sym c.settings-settings.ensures) c.next_moment-self-inside.ensures)
+    c.has_to_advertise.ensures (sym c.len.ensures) (ap (λ (r : RouterSettings). r.times.advertised_hold) (sym c.settings-settings.ensures)) c.if-not-has_to_advertise.true (sym number))
+
+pub returns-clause-due : goal.returns-clause-due
+returns-clause-due g c =
+    let told : c.has_to_advertise.result ≡ true = elim (cases_Bool c.has_to_advertise.result) [ inl t ↦ t | inr f ↦ let n = c.if-not-has_to_advertise.false in absurd cc ] in
+    rw (← c.self.view_is) (λ old next number.
+    tcs_due old _ _ c.in_ok-spans.spans c.has_to_advertise.result c.len.result c.settings-settings.result.now.times.advertised_hold number
+    (let late = c.if-self.false in rw next (omega (arith, late))) (rw (sym c.settings-settings.ensures) c.next_moment-self-inside.ensures)
+    c.has_to_advertise.ensures (sym c.len.ensures) (ap (λ (r : RouterSettings). r.times.advertised_hold) (sym c.settings-settings.ensures)) told
+    (rw (sym c.settings-settings.ensures) (c.in_ok-spans.ensures.cuts c.self.inside.rows (sym c.len-2.ensures)))
+    (ap (λ (n : ℕ). (c.self.inside.sequence + n) % 65536) c.len-3.ensures))
+
+pub returns-clause-within : goal.returns-clause-within
+returns-clause-within g c = λ i span at.
+    subst (λ (n : ℕ). span.first + span.len ≤ n) c.len-2.ensures (spans_within c.len-2.result c.settings-settings.result.now.tc_rows c.in_ok-spans.spans c.in_ok-spans.ensures.spans i span at)

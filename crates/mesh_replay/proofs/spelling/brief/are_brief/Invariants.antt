@@ -1,7 +1,0 @@
-use Rattle.std.specs.Prelude.{map}
-use Rattle.mesh_packet.specs.Fields.{fields_of_block}
-use Rattle.mesh_replay.proofs.SpellingLemmas.Pairs.{Left}
-use Rattle.mesh_replay.proofs.spelling.brief.are_brief.Given as goal
-
-abbrev pub invariant-loop-i : goal.invariant-loop-i
-invariant-loop-i l = Left l.width (map fields_of_block l.blocks) l.frame l.start l.end l.at l.i

@@ -1,0 +1,13 @@
+pub mod Answers
+pub mod Cases
+pub mod Events
+pub mod Going
+pub mod Hearing
+pub mod Kept
+pub mod Opening
+pub mod Reached
+pub mod RelayLines
+pub mod Scenes
+pub mod Sending
+pub mod Ticked
+pub mod Ticking

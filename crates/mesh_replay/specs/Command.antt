@@ -1,0 +1,7 @@
+pub mod Laws
+pub mod Marks
+pub mod Parts
+pub mod Replays
+pub mod Split
+pub mod Tells
+pub mod Worked

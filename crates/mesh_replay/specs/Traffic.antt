@@ -1,0 +1,4 @@
+pub mod Air
+pub mod Draws
+pub mod Traffic
+pub mod Ways

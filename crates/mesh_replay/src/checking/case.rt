@@ -1,0 +1,19 @@
+//! What is checked, and how far the checking came.
+use crate::traffic::{LeavingArcs, Traffic};
+use mesh_atoms::{Scenario, Seq};
+use mesh_trace::Reader;
+
+/// A trace with its scenario, and the arcs of this by the interfaces that they leave.
+#[derive(Drop)]
+pub(crate) struct Case<'a> {
+    pub(crate) trace: &'a [u8],
+    pub(crate) scenario: &'a Scenario,
+    pub(crate) ways: Seq<Seq<LeavingArcs>>,
+}
+
+/// How far the checking came: where the trace is read, and what flies.
+#[derive(Drop)]
+pub(crate) struct Progress {
+    pub(crate) reader: Reader,
+    pub(crate) traffic: Traffic,
+}

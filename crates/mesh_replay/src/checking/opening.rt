@@ -1,0 +1,71 @@
+//! Before the first line.
+ghost use Rattle.std.specs.Prelude.{◌<◌, length, IfOk};
+ghost use Rattle.mesh_trace.specs.machine.Net.{IsFirstDue};
+ghost use Rattle.mesh_replay.specs.Checking.Opening.{AreAtOpening, IsOpeningProgress, IsAtFirstLine};
+
+use crate::checking::case::Progress;
+use crate::checking::router::CheckedRouter;
+use crate::checking::scene::{CheckedNet, Due};
+use crate::traffic::Traffic;
+use mesh_atoms::{RouterSettings, Scenario};
+use mesh_expire::Bases;
+use mesh_trace::Reader;
+use std::alloc::{AllocError, Global};
+
+/// No line was read, and nothing flies.
+pub(crate) fn opening_progress(alloc: Global, scenario: &Scenario) -> Progress
+    ensures { IsOpeningProgress scenario.now.seed result }
+{
+    Progress {
+        reader: Reader::new(alloc),
+        traffic: Traffic::new(alloc, scenario.seed),
+    }
+}
+
+/// The routers of a scenario before their first events.
+pub(crate) fn opening_scene<B: Bases>(
+    alloc: Global,
+    scenario: &Scenario,
+) -> Result<CheckedNet<B>, AllocError>
+    ensures { IfOk result (λ scene. IsAtFirstLine scenario.now scene.routers.items scene.due scene.last_ticks) }
+{
+    let routers = routers_of(alloc, scenario.routers.as_slice())?;
+    let due = first_due(&routers);
+    Ok(CheckedNet {
+        routers,
+        due,
+        last_ticks: 0,
+    })
+}
+
+// The routers with these settings before their first events.
+fn routers_of<B: Bases>(
+    alloc: Global,
+    settings: &[RouterSettings],
+) -> Result<Vec<CheckedRouter<B>>, AllocError>
+    ensures { IfOk result (λ routers. AreAtOpening settings.now routers.items) }
+{
+    let mut routers = Vec::new(alloc);
+    for one in settings {
+        routers.push(CheckedRouter::new(alloc, one)?)?;
+    }
+    Ok(routers)
+}
+
+/// The router that ticks first, and when.
+pub(crate) fn first_due<B: Bases>(routers: &Vec<CheckedRouter<B>>) -> Due
+    requires { 0 < length routers.now.items }
+    ensures { IsFirstDue routers.now.items result.router result.moment }
+{
+    let mut first = Due {
+        router: 0,
+        moment: routers[0].due(),
+    };
+    for (router, one) in routers.iter().enumerate() {
+        let moment = one.due();
+        if moment < first.moment {
+            first = Due { router, moment };
+        }
+    }
+    first
+}

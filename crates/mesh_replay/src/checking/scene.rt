@@ -1,0 +1,34 @@
+//! The network that is checked.
+use crate::checking::router::CheckedRouter;
+use mesh_expire::Bases;
+
+/// The router that ticks first, and when.
+#[derive(Clone, Copy)]
+pub(crate) struct Due {
+    pub(crate) router: usize,
+    pub(crate) moment: u64,
+}
+
+/// The routers, the tick that is next, and how many routers had their tick at the end.
+#[derive(Drop)]
+pub(crate) struct CheckedNet<B: Bases> {
+    pub(crate) routers: Vec<CheckedRouter<B>>,
+    pub(crate) due: Due,
+    pub(crate) last_ticks: usize,
+}
+
+/// A tick that is next: of which router, and when; and how many routers then had their tick at the end.
+#[derive(Clone, Copy)]
+pub(crate) struct NextTick {
+    pub(crate) router: usize,
+    pub(crate) moment: u64,
+    pub(crate) last_ticks: usize,
+}
+
+/// What came of the next event: its lines fit, one of them doesn't or is missing, or no event is left.
+#[derive(Clone, Copy)]
+pub(crate) enum Outcome {
+    Fits,
+    Unfit,
+    Over,
+}

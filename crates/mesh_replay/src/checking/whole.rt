@@ -1,0 +1,82 @@
+//! Whether a whole trace is that of a run.
+ghost use Rattle.std.specs.Prelude.{◌≡◌, ◌↔◌, ℕ, length, IfOk};
+ghost use Rattle.mesh_trace.specs.machine.Net.{Net};
+ghost use Rattle.mesh_trace.specs.machine.NetRun.{IsOver};
+ghost use Rattle.mesh_replay.specs.Checking.Answers.{Answers};
+ghost use Rattle.mesh_replay.specs.Checking.Reached.{HasRead};
+ghost use Rattle.mesh_replay.specs.Checking.Scenes.{IsSoundScene, net_of};
+ghost use Rattle.mesh_trace.specs.Positions.Leading.{IsUnfit, IsWholeTrace};
+ghost use Rattle.mesh_trace.specs.Reading.Lines.{lines_of};
+ghost use Rattle.mesh_trace.specs.Reading.Readers.{IsReaderOf};
+
+use crate::answer::Replay;
+use crate::checking::case::{Case, Progress};
+use crate::checking::opening::{opening_progress, opening_scene};
+use crate::checking::scene::{CheckedNet, Outcome};
+use crate::checking::step::next_event;
+use crate::traffic::ways_of;
+use mesh_atoms::Scenario;
+use mesh_expire::Bases;
+use std::alloc::{AllocError, Global};
+
+/// Whether a trace is that of a run of the emulated network of a scenario up to its end: yes exactly where it is whole, and else the first
+/// line that doesn't fit. After 2^64 - 1 events it gives up as for want of memory.
+pub fn replay<B: Bases>(
+    alloc: Global,
+    scenario: &Scenario,
+    trace: &[u8],
+) -> Result<Replay, AllocError>
+    ensures answers { IfOk result (Answers scenario.now (lines_of trace.now)) }
+    ensures yes { IfOk result (λ answer. (lines : ℕ) → answer ≡ Replay.Yes lines
+        ↔ IsWholeTrace scenario.now (lines_of trace.now) × (lines ≡ length (lines_of trace.now))) }
+    ensures no { IfOk result (λ answer. (line : ℕ) → answer ≡ Replay.No line ↔ IsUnfit scenario.now (lines_of trace.now) line) }
+{
+    let ways = ways_of(alloc, scenario.routers.as_slice(), scenario.arcs.as_slice())?;
+    let case = Case {
+        trace,
+        scenario,
+        ways,
+    };
+    let mut progress = opening_progress(alloc, scenario);
+    let mut scene = opening_scene::<B>(alloc, scenario)?;
+    check(alloc, &case, &mut scene, &mut progress)
+}
+
+// Takes the lines of one event after the other, from where those that were read lead to.
+fn check<B: Bases>(
+    alloc: Global,
+    case: &Case,
+    scene: &mut CheckedNet<B>,
+    progress: &mut Progress,
+) -> Result<Replay, AllocError>
+    requires sound { IsSoundScene case.now scene.old.routers.items scene.old.due scene.old.last_ticks progress.old }
+    requires read { HasRead case.now progress.old.reader (net_of case.now scene.old.routers.items scene.old.last_ticks progress.old) }
+    ensures { IfOk result (Answers case.now.scenario.now (lines_of case.now.trace.now)) }
+{
+    for _ in 0..u64::MAX {
+        match next_event(alloc, case, scene, progress)? {
+            Outcome::Fits => {}
+            Outcome::Unfit => {
+                let line = progress.reader.taken + 1;
+                return Ok(Replay::No { line });
+            }
+            Outcome::Over => return Ok(at_end(case, progress)),
+        }
+    }
+    Err(AllocError)
+}
+
+// The answer where no event is left: no line may be left either.
+fn at_end(case: &Case, progress: &Progress) -> Replay
+    requires reading { IsReaderOf case.now.trace.now progress.now.reader }
+    requires over { (net : Net) × HasRead case.now progress.now.reader net × IsOver net }
+    ensures { Answers case.now.scenario.now (lines_of case.now.trace.now) result }
+{
+    let lines = progress.reader.taken;
+    if progress.reader.is_done(case.trace) {
+        Replay::Yes { lines }
+    } else {
+        let line = lines + 1;
+        Replay::No { line }
+    }
+}

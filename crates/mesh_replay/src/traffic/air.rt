@@ -1,0 +1,87 @@
+//! The frames in the air, in the order in which they were sent.
+ghost use Rattle.std.specs.Prelude.{◌≡◌, ◌<◌, ◌≤◌, [], ◌∷◌, ◌++◌, length, All, OnOk, MatchOption};
+ghost use Rattle.mesh_trace.specs.machine.Traffic.{IsHeardFirst};
+ghost use Rattle.mesh_replay.specs.Traffic.Air.{delivery_of, IsLeast};
+
+use mesh_atoms::Bytes;
+use std::alloc::{AllocError, Global};
+use std::marker::Model;
+use std::rc::Rc;
+
+/// A frame in the air or just out of it: when it is heard, the arc by which it comes, and its octets, which are kept once for all who
+/// hear them.
+#[derive(Drop)]
+pub(crate) struct Delivered {
+    pub moment: u64,
+    pub arc: usize,
+    pub frame: Rc<Bytes>,
+}
+
+/// The frames in the air, in order of sending and then arc.
+#[derive(Drop)]
+pub(crate) struct Air {
+    flights: Vec<Delivered>,
+}
+
+impl Model for Air {
+    ghost use Rattle.std.specs.Prelude.{List, map};
+    ghost use Rattle.mesh_trace.specs.machine.Traffic.{Delivery};
+    ghost use Rattle.mesh_replay.specs.Traffic.Air.{delivery_of};
+
+    ghost Value = { List Delivery };
+
+    ghost view = { λ a. map delivery_of a.flights.items };
+}
+
+impl Air {
+    /// Nothing.
+    pub(crate) fn new(alloc: Global) -> Air
+        ensures { result ≡ [] }
+    {
+        Air {
+            flights: Vec::new(alloc),
+        }
+    }
+
+    /// Puts a frame in the air behind all others.
+    pub(crate) fn put(
+        &mut self,
+        moment: u64,
+        arc: usize,
+        frame: Rc<Bytes>,
+    ) -> Result<(), AllocError>
+        ensures { OnOk result (self.new ≡ self.old ++ record { moment = moment; arc = arc; frame = frame.value } ∷ []) }
+    {
+        self.flights.push(Delivered { moment, arc, frame })?;
+        Ok(())
+    }
+
+    /// Takes the frame that is heard first, if that is no later than a moment. Looks at each frame in the air.
+    pub(crate) fn take(&mut self, limit: u64) -> Option<Delivered>
+        ensures first { MatchOption result (self.new ≡ self.old) (λ landed. IsHeardFirst self.old (delivery_of landed) self.new) }
+        ensures limit { MatchOption result (All (λ d. limit < d.moment) self.old) (λ landed. landed.moment ≤ limit) }
+    {
+        if self.flights.is_empty() {
+            return None;
+        }
+        let first = first_heard(&self.flights);
+        if self.flights[first].moment > limit {
+            return None;
+        }
+        Some(self.flights.remove(first))
+    }
+}
+
+// Where the frame stands that is heard first: of those of the least moment the first.
+fn first_heard(flights: &Vec<Delivered>) -> usize
+    requires { 0 < length flights.now.items }
+    ensures { IsLeast flights.now.items (length flights.now.items) result }
+{
+    let mut first = 0;
+    for (place, flight) in flights.iter().enumerate() {
+        if flight.moment < flights[first].moment {
+            first = place;
+        }
+    }
+    first
+}
