@@ -10,15 +10,19 @@ use Rattle.mesh_emulate.specs.Emulation.{Emulation, IsRefused}
 use Rattle.mesh_emulate.proofs.Refusals.{emulated_not_refused}
 use Rattle.mesh_io.specs.Faults.{Rose}
 use Rattle.mesh_emulate.specs.Making.Made.{MadeEmulation}
+use Rattle.mesh_replay.specs.declared.answer.Replay.{Replay}
+use Rattle.mesh_replay.specs.declared.answer.Replay.TheVariants.{Yes, No}
+use Rattle.mesh_replay.specs.Command.Replays.{Replays, IsRefusedInput, answer_line}
+use Rattle.mesh_replay.proofs.CommandLemmas.Once.{answers_or_refuses}
 use Rattle.mesh_run.specs.Run.{States, WholeRun, SpendsTurns, FailsToAttach}
 use Rattle.mesh_config.specs.Keys.Faults.{Fault, fault, first}
 use Rattle.mesh_tool.specs.declared.jobs.ending.Ending.{Ending}
 use Rattle.mesh_tool.specs.declared.jobs.ending.Ending.TheVariants as ending
 use Rattle.mesh_tool.specs.declared.jobs.status.Status.{Status}
 use Rattle.mesh_tool.specs.declared.jobs.status.Status.TheVariants as status
-use Rattle.mesh_tool.specs.Answers.Answers.{Due, Wrong_words, Read_fault, Refusal, Attach_fault, Turns_spent, Want_of_memory, Whole, All_well, Some_refused, On_out, On_err, Ends, Is_whole, Is_told, Is_failed, Answers}
+use Rattle.mesh_tool.specs.Answers.Answers.{Due, Wrong_words, Read_fault, Refusal, Attach_fault, Turns_spent, Want_of_memory, Whole, All_well, Some_refused, Is_no_run, On_out, On_err, Ends, Is_whole, Is_told, Is_failed, Answers}
 use Rattle.mesh_tool.specs.Jobs.Calls.{Call, told_in, UsesNoAir, RunsSoFar, Asks, wants_in, most_octets, ReadsInput, ReadsNothing, IsInput, IsTooLong, WorksOn, RefusesOctets, IsAskedText, Refuses, Too_long, By_rule, TakesInput, Finishes, Before_reading, On_the_way}
-use Rattle.mesh_tool.specs.Jobs.Endings.{StopsReading, IsUnattached, IsSpent, Leaves, DoesJob, Unread, Worked, Does, No_command, Did, TellsLine, TellsEnding}
+use Rattle.mesh_tool.specs.Jobs.Endings.{StopsReading, IsUnattached, IsSpent, TellsUnfit, Leaves, DoesJob, Unread, Worked, Does, No_command, Did, TellsLine, TellsEnding}
 use Rattle.mesh_tool.specs.Jobs.Lines.{words_line, read_line, refused_line, attach_line, turns_line, memory_line}
 use Rattle.mesh_tool.specs.declared.words.job.Job.{Job}
 use Rattle.mesh_tool.specs.declared.words.job.Job.TheVariants as job
@@ -48,6 +52,7 @@ whole_packets call (job.Dump recode) octets refused text asks works some is stan
 whole_packets call (job.Run turns) octets refused text asks works some is stands = absurd (omega (arith, some, is.0))
 whole_packets call (job.Emulate trace send probe) octets refused text asks works some is stands = absurd (omega (arith, some, is.0))
 whole_packets call (job.Make kind routers seed) octets refused text asks works some is stands = absurd (omega (arith, some, is.0))
+whole_packets call job.Replay octets refused text asks works some is stands = absurd (omega (arith, some, is.0))
 
 ends_unread : (call : Call) (j : Job) (how : Ending) (answer : Status) → Asks call j → StopsReading (most_octets j) call how → Keeps call.out call.out'
     → TellsEnding call.words call.err call.err' call.err_faults call.err_faults' how answer → Ends call answer
@@ -57,6 +62,7 @@ ends_unread call j ending.TooLong answer asks stops keeps tells =
 ends_unread call j ending.Memory answer asks stops keeps tells = told call memory_line status.Memory answer (Want_of_memory j asks (Before_reading keeps)) tells
 ends_unread call j ending.Done answer asks stops keeps tells = absurd stops
 ends_unread call j ending.Packets answer asks stops keeps tells = absurd stops
+ends_unread call j ending.NotARun answer asks stops keeps tells = absurd stops
 ends_unread call j ending.Words answer asks stops keeps tells = absurd stops
 ends_unread call j (ending.Refused number key) answer asks stops keeps tells = absurd stops
 ends_unread call j (ending.Attach interface) answer asks stops keeps tells = absurd stops
@@ -70,6 +76,7 @@ unattached call (job.Run turns) octets interface answer asks works (rose, fails)
 unattached call (job.Dump recode) octets interface answer asks works is keeps tells = absurd is
 unattached call (job.Emulate trace send probe) octets interface answer asks works is keeps tells = absurd is
 unattached call (job.Make kind routers seed) octets interface answer asks works is keeps tells = absurd is
+unattached call job.Replay octets interface answer asks works is keeps tells = absurd is
 
 spent : (call : Call) (j : Job) (octets : List ℕ) (count greatest end : ℕ) (answer : Status) → Asks call j → WorksOn j call octets → IsSpent call j octets count greatest end → Keeps call.out call.out'
     → TellsLine call.err call.err' call.err_faults call.err_faults' (turns_line count greatest end) status.Turns answer → Ends call answer
@@ -79,6 +86,15 @@ spent call (job.Run turns) octets count greatest end answer asks works (same, sp
 spent call (job.Dump recode) octets count greatest end answer asks works is keeps tells = absurd is
 spent call (job.Emulate trace send probe) octets count greatest end answer asks works is keeps tells = absurd is
 spent call (job.Make kind routers seed) octets count greatest end answer asks works is keeps tells = absurd is
+spent call job.Replay octets count greatest end answer asks works is keeps tells = absurd is
+
+unfit : (call : Call) (j : Job) (octets : List ℕ) (answer : Status) → Asks call j → WorksOn j call octets → TellsUnfit j octets call.out call.out'
+    → answer ≡ status.NotARun → Appends call.err call.err' [] → Ends call answer
+unfit call job.Replay octets answer asks works (line, is, stands) same quiet = Is_whole (rw same (Is_no_run octets line asks works is stands)) quiet
+unfit call (job.Dump recode) octets answer asks works is same quiet = absurd is
+unfit call (job.Run turns) octets answer asks works is same quiet = absurd is
+unfit call (job.Emulate trace send probe) octets answer asks works is same quiet = absurd is
+unfit call (job.Make kind routers seed) octets answer asks works is same quiet = absurd is
 
 ends_worked : (call : Call) (j : Job) (octets : List ℕ) (how : Ending) (answer : Status) → Asks call j → WorksOn j call octets
     → Leaves call j octets call.out call.out' call.out_faults call.out_faults' how → TellsEnding call.words call.err call.err' call.err_faults call.err_faults' how answer → Ends call answer
@@ -86,6 +102,7 @@ ends_worked call j octets ending.Done answer asks works (text, is, stands) (same
     Is_whole (rw same (All_well j asks (record { octets = octets; works_on = works; text = text; is_text = is; stands = stands }))) quiet
 ends_worked call j octets ending.Packets answer asks works (refused, some, text, is, stands) (same, quiet) =
     Is_whole (rw same (whole_packets call j octets refused text asks works some is stands)) quiet
+ends_worked call j octets ending.NotARun answer asks works is (same, quiet) = unfit call j octets answer asks works is same quiet
 ends_worked call j octets (ending.Refused number key) answer asks works (refuses, keeps) tells =
     told call (refused_line number key) status.Refused answer (Refusal number key j asks (By_rule octets works refuses) keeps) tells
 ends_worked call j octets (ending.Attach interface) answer asks works (is, keeps) tells = unattached call j octets interface answer asks works is keeps tells
@@ -117,6 +134,7 @@ no_done (Want_of_memory j asks stops) same = cc
 whole_finishes : (call : Call) {answer : Status} (j : Job) → Whole call answer → answer ≡ status.Done → Asks call j → Finishes call j 0
 whole_finishes call j (All_well i asked fin) same asks = subst (λ (k : Job). Finishes call k 0) (same_job (words_of call.words) i j asked asks) fin
 whole_finishes call j (Some_refused recode refused asked some fin) same asks = let bad : ⊥ = cc in absurd bad
+whole_finishes call j (Is_no_run octets line asked works is stands) same asks = let bad : ⊥ = cc in absurd bad
 
 finishes : (call : Call) (answer : Status) (j : Job) → Ends call answer → answer ≡ status.Done → Asks call j → Finishes call j 0
 finishes call answer j (Is_whole whole quiet) same asks = whole_finishes call j whole same asks
@@ -139,11 +157,61 @@ made : (call : Call) (kind : Kind) (routers seed : ℕ) → Finishes call (job.M
     → (m : MadeEmulation kind routers seed) × Appends call.out call.out' m.text × ReadsNothing call
 made call kind routers seed fin = (fin.is_text.1, rw (← fin.is_text.2) fin.stands, fin.works_on.1)
 
+replayed : (call : Call) → Finishes call job.Replay 0
+    → (octets : List ℕ) × IsInput 67108864 call octets × (lines : ℕ) × Replays octets (Yes lines) × Appends call.out call.out' (answer_line (Yes lines))
+replayed call fin = (fin.octets, fin.works_on, fin.is_text.1, fin.is_text.2, rw (← fin.is_text.3) fin.stands)
+
+-- ---- what `replay` left where it isn't done
+
+unfit_is : {call : Call} {answer : Status} → Whole call answer → answer ≡ status.NotARun → Asks call job.Replay
+    × (octets : List ℕ) × IsInput 67108864 call octets × (line : ℕ) × Replays octets (No line) × Appends call.out call.out' (answer_line (No line))
+unfit_is (All_well j asks fin) same = let bad : ⊥ = cc in absurd bad
+unfit_is (Some_refused recode refused asks some fin) same = let bad : ⊥ = cc in absurd bad
+unfit_is (Is_no_run octets line asks works is stands) same = (asks, octets, works, line, is, stands)
+
+no_unfit : {call : Call} {answer : Status} {line : List ℕ} → Due call answer line → answer ≡ status.NotARun → ⊥
+no_unfit (Wrong_words err reads keeps) same = cc
+no_unfit (Read_fault j asks rose keeps) same = cc
+no_unfit (Refusal number key j asks refuses keeps) same = cc
+no_unfit (Attach_fault turns interface octets asks works fails rose keeps) same = cc
+no_unfit (Turns_spent turns greatest end octets asks works spends keeps) same = cc
+no_unfit (Want_of_memory j asks stops) same = cc
+
+not_a_run : (call : Call) (answer : Status) → Ends call answer → answer ≡ status.NotARun → Asks call job.Replay
+    × (octets : List ℕ) × IsInput 67108864 call octets × (line : ℕ) × Replays octets (No line) × Appends call.out call.out' (answer_line (No line)) × Appends call.err call.err' []
+not_a_run call answer (Is_whole whole quiet) same = let (asks, octets, works, line, is, stands) = unfit_is whole same in (asks, octets, works, line, is, stands, quiet)
+not_a_run call answer (Is_told t) same = absurd (no_unfit t.due same)
+not_a_run call answer (Is_failed failed f) same = let bad : ⊥ = cc in absurd bad
+
+no_refusal : {call : Call} {answer : Status} → Whole call answer → answer ≡ status.Refused → ⊥
+no_refusal (All_well j asks fin) same = cc
+no_refusal (Some_refused recode refused asks some fin) same = cc
+no_refusal (Is_no_run octets line asks works is stands) same = cc
+
+-- a refusal of `replay`, whose line stands on err
+abbrev pub Unreplayed : Call → Type 0
+Unreplayed call = (number : ℕ) × (key : List ℕ) × Refuses job.Replay call number key × Keeps call.out call.out' × Appends call.err call.err' (refused_line number key)
+
+refusal_told : {call : Call} {answer : Status} {line : List ℕ} → Due call answer line → answer ≡ status.Refused → Asks call job.Replay → Appends call.err call.err' line → Unreplayed call
+refusal_told (Wrong_words err reads keeps) same asks stands = let bad : ⊥ = cc in absurd bad
+refusal_told (Read_fault j asked rose keeps) same asks stands = let bad : ⊥ = cc in absurd bad
+refusal_told {call} (Refusal number key j asked refuses keeps) same asks stands =
+    (number, key, subst (λ (k : Job). Refuses k call number key) (same_job (words_of call.words) j job.Replay asked asks) refuses, keeps, stands)
+refusal_told (Attach_fault turns interface octets asked works fails rose keeps) same asks stands = let bad : ⊥ = cc in absurd bad
+refusal_told (Turns_spent turns greatest end octets asked works spends keeps) same asks stands = let bad : ⊥ = cc in absurd bad
+refusal_told (Want_of_memory j asked stops) same asks stands = let bad : ⊥ = cc in absurd bad
+
+not_replayed : (call : Call) (answer : Status) → Ends call answer → answer ≡ status.Refused → Asks call job.Replay → Unreplayed call
+not_replayed call answer (Is_whole whole quiet) same asks = absurd (no_refusal whole same)
+not_replayed call answer (Is_told t) same asks = refusal_told t.due same asks t.stands
+not_replayed call answer (Is_failed failed f) same asks = let bad : ⊥ = cc in absurd bad
+
 -- ---- words that are no command line
 
 whole_asks : {call : Call} {answer : Status} → Whole call answer → (j : Job) × Asks call j
 whole_asks (All_well j asks fin) = (j, asks)
 whole_asks (Some_refused recode refused asks some fin) = (job.Dump recode, asks)
+whole_asks (Is_no_run octets line asks works is stands) = (job.Replay, asks)
 
 wrong_words : {call : Call} {answer : Status} {line : List ℕ} → Due call answer line → IsErr (words_of call.words) → (answer ≡ status.Words) × ReadsNothing call
 wrong_words (Wrong_words err reads keeps) wrong = (refl, reads)
@@ -175,6 +243,7 @@ works_within call (job.Dump recode) octets works long = omega (arith, works.coun
 works_within call (job.Run turns) octets works long = omega (arith, works.count, works.within, long)
 works_within call (job.Emulate trace send probe) octets works long = omega (arith, works.count, works.within, long)
 works_within call (job.Make kind routers seed) octets works long = omega (arith, works.1.taken, long)
+works_within call job.Replay octets works long = omega (arith, works.count, works.within, long)
 
 told_or_failed : (err err' : Option (List ℕ)) (faults faults' : ℕ) (line : List ℕ) (due answer : Status) → TellsLine err err' faults faults' line due answer
     → (answer ≡ due) ⊎ (answer ≡ status.Write)
@@ -188,6 +257,7 @@ long_unread call most ending.Read answer stops tells long = absurd (stops.1 long
 long_unread call most ending.Memory answer stops tells long = absurd (stops long)
 long_unread call most ending.Done answer stops tells long = absurd stops
 long_unread call most ending.Packets answer stops tells long = absurd stops
+long_unread call most ending.NotARun answer stops tells long = absurd stops
 long_unread call most ending.Words answer stops tells long = absurd stops
 long_unread call most (ending.Refused number key) answer stops tells long = absurd stops
 long_unread call most (ending.Attach interface) answer stops tells long = absurd stops
@@ -236,6 +306,7 @@ works_short call (job.Dump recode) octets all reads works is long = omega (arith
 works_short call (job.Run turns) octets all reads works is long = omega (arith, ap length (whole_input all is works), works.within, long)
 works_short call (job.Emulate trace send probe) octets all reads works is long = omega (arith, ap length (whole_input all is works), works.within, long)
 works_short call (job.Make kind routers seed) octets all reads works is long = absurd reads
+works_short call job.Replay octets all reads works is long = omega (arith, ap length (whole_input all is works), works.within, long)
 
 -- no job works on a part of it
 long_works : (call : Call) (j : Job) (all : List ℕ) → Asks call j → ReadsInput j → call.left ≡ Some all → most_octets j < length all →
@@ -246,6 +317,7 @@ long_works call j all asks reads is long i octets asked works =
 whole_not_long : {call : Call} {answer : Status} → Whole call answer → ((i : Job) (octets : List ℕ) → Asks call i → WorksOn i call octets → ⊥) → ⊥
 whole_not_long (All_well i asked fin) none = none i fin.octets asked fin.works_on
 whole_not_long (Some_refused recode refused asked some fin) none = none (job.Dump recode) fin.octets asked fin.works_on
+whole_not_long (Is_no_run octets line asked works is stands) none = none job.Replay octets asked works
 
 long_due : {call : Call} {answer : Status} {line : List ℕ} (j : Job) → Due call answer line → Asks call j →
     ((i : Job) (octets : List ℕ) → Asks call i → WorksOn i call octets → ⊥) → (Rose call.read_faults call.read_faults' → ⊥)
@@ -263,6 +335,12 @@ too_long call answer (Is_whole whole quiet) j all asks reads is long calm = absu
 too_long call answer (Is_told t) j all asks reads is long calm = long_due j t.due asks (long_works call j all asks reads is long) calm
 too_long call answer (Is_failed failed f) j all asks reads is long calm = inr (inl failed)
 
+-- an input that is answered isn't refused
+answered_not_refused : (call : Call) (octets all : List ℕ) (answer : Replay) (number : ℕ) (key : List ℕ) → IsInput 67108864 call octets → Replays octets answer → call.left ≡ Some all →
+    IsRefusedInput all number key → ⊥
+answered_not_refused call octets all answer number key works replays is refuses =
+    answers_or_refuses octets answer number key replays (subst (λ (o : List ℕ). IsRefusedInput o number key) (sym (whole_input all is works)) refuses)
+
 -- one text isn't both done and refused
 not_refused : (call : Call) (j : Job) (refused : ℕ) (all : List ℕ) (number : ℕ) (key : List ℕ) → Finishes call j refused → call.left ≡ Some all → RefusesOctets call.words j all number key → ⊥
 not_refused call (job.Dump recode) refused all number key fin is refuses = refuses
@@ -272,12 +350,17 @@ not_refused call (job.Emulate trace send probe) refused all number key fin is re
     emulated_not_refused fin.octets (wants_in call.words trace send probe) fin.is_text.1 number key
     (subst (λ (o : List ℕ). IsRefused o (wants_in call.words trace send probe) number key) (sym (whole_input all is fin.works_on)) refuses)
 not_refused call (job.Make kind routers seed) refused all number key fin is refuses = refuses
+not_refused call job.Replay refused all number key fin is refuses =
+    answered_not_refused call fin.octets all (Yes fin.is_text.1) number key fin.works_on fin.is_text.2 is refuses
 
 whole_not_refused : {call : Call} {answer : Status} (j : Job) (all : List ℕ) (number : ℕ) (key : List ℕ) → Whole call answer → Asks call j → call.left ≡ Some all → RefusesOctets call.words j all number key → ⊥
 whole_not_refused {call} j all number key (All_well i asked fin) asks is refuses =
     not_refused call j 0 all number key (subst (λ (k : Job). Finishes call k 0) (same_job (words_of call.words) i j asked asks) fin) is refuses
 whole_not_refused {call} j all number key (Some_refused recode refused asked some fin) asks is refuses =
     not_refused call j refused all number key (subst (λ (k : Job). Finishes call k refused) (same_job (words_of call.words) (job.Dump recode) j asked asks) fin) is refuses
+whole_not_refused {call} j all number key (Is_no_run octets line asked works replays stands) asks is refuses =
+    answered_not_refused call octets all (No line) number key works replays is
+    (subst (λ (k : Job). RefusesOctets call.words k all number key) (same_job (words_of call.words) j job.Replay asks asked) refuses)
 
 -- nor are the octets of a router that is run
 run_not_refused : (call : Call) (turns : ℕ) (j : Job) (octets all : List ℕ) (number : ℕ) (key : List ℕ) → Asks call (job.Run turns) → Asks call j → IsInput 1048576 call octets → call.left ≡ Some all →
@@ -319,6 +402,9 @@ takes_all call number key (job.Emulate trace send probe) silent (all, is, few, c
     clear number key (subst (λ (o : List ℕ). IsRefused o (wants_in call.words trace send probe) number key) (whole_input all is works) refused)
 takes_all call number key (job.Make kind routers seed) silent takes (Too_long long) = omega (arith, (silent kind routers seed refl).taken, long.count)
 takes_all call number key (job.Make kind routers seed) silent takes (By_rule octets works refused) = refused
+takes_all call number key job.Replay silent (all, is, few, clear) (Too_long long) = long_not_taken call 67108864 all is few long
+takes_all call number key job.Replay silent (all, is, few, clear) (By_rule octets works refused) =
+    clear number key (subst (λ (o : List ℕ). IsRefusedInput o number key) (whole_input all is works) refused)
 
 -- an input of which each port is attached
 attached_all : (call : Call) (turns : ℕ) (j : Job) (interface : ℕ) (octets : List ℕ) → Asks call (job.Run turns) → Asks call j → TakesInput j call → IsInput 1048576 call octets →
@@ -338,15 +424,24 @@ memory_due {call} j (Attach_fault turns interface octets asked works fails rose 
 memory_due j (Turns_spent turns greatest end octets asked works spends keeps) asks input takes calm = inl refl
 memory_due j (Want_of_memory i asked stops) asks input takes calm = inr refl
 
-whole_status : {call : Call} {answer : Status} → Whole call answer → (answer ≡ status.Done) ⊎ ((answer ≡ status.Packets) ⊎ ((answer ≡ status.Turns) ⊎ (answer ≡ status.Memory)))
-whole_status (All_well j asks fin) = inl refl
-whole_status (Some_refused recode refused asks some fin) = inr (inl refl)
+-- the statuses of a job that ran to its end, or for which memory was wanting
+abbrev pub IsThrough : Job → Status → Type 0
+IsThrough j answer = (answer ≡ status.Done) ⊎ ((answer ≡ status.Packets) ⊎ ((answer ≡ status.Turns) ⊎ (((answer ≡ status.NotARun) × (j ≡ job.Replay)) ⊎ (answer ≡ status.Memory))))
+
+whole_status : {call : Call} {answer : Status} (j : Job) → Asks call j → Whole call answer → IsThrough j answer
+whole_status j asks (All_well i asked fin) = inl refl
+whole_status j asks (Some_refused recode refused asked some fin) = inr (inl refl)
+whole_status {call} j asks (Is_no_run octets line asked works is stands) = inr (inr (inr (inl (refl, same_job (words_of call.words) j job.Replay asks asked))))
+
+due_status : (j : Job) (answer : Status) → (answer ≡ status.Turns) ⊎ (answer ≡ status.Memory) → IsThrough j answer
+due_status j answer (inl turns) = inr (inr (inl turns))
+due_status j answer (inr memory) = inr (inr (inr (inr memory)))
 
 complete : (call : Call) (answer : Status) → Ends call answer → (j : Job) → Asks call j → TakesInput j call → ((number : ℕ) (key : List ℕ) → Refuses j call number key → ⊥)
     → (Rose call.read_faults call.read_faults' → ⊥) → (Rose call.out_faults call.out_faults' → ⊥) → (Rose call.err_faults call.err_faults' → ⊥)
-    → (answer ≡ status.Done) ⊎ ((answer ≡ status.Packets) ⊎ ((answer ≡ status.Turns) ⊎ (answer ≡ status.Memory)))
-complete call answer (Is_whole whole quiet) j asks input takes calm out err = whole_status whole
-complete call answer (Is_told t) j asks input takes calm out err = inr (inr (memory_due j t.due asks input takes calm))
+    → IsThrough j answer
+complete call answer (Is_whole whole quiet) j asks input takes calm out err = whole_status j asks whole
+complete call answer (Is_told t) j asks input takes calm out err = due_status j answer (memory_due j t.due asks input takes calm)
 complete call answer (Is_failed failed (On_out i asked front rose quiet)) j asks input takes calm out err = absurd (out rose)
 complete call answer (Is_failed failed (On_err due line cause rose size stands)) j asks input takes calm out err = absurd (err rose)
 
@@ -368,6 +463,7 @@ airless_worked call how (job.Dump recode) (Worked octets works leaves air) other
 airless_worked call how (job.Run turns) (Worked octets works leaves uses) other = absurd (other turns refl)
 airless_worked call how (job.Emulate trace send probe) (Worked octets works leaves air) other = air
 airless_worked call how (job.Make kind routers seed) (Worked octets works leaves air) other = air
+airless_worked call how job.Replay (Worked octets works leaves air) other = air
 
 airless : (call : Call) (how : Ending) → Does call how → (j : Job) → Asks call j → ((turns : ℕ) → j ≡ job.Run turns → ⊥) → UsesNoAir call
 airless call how (No_command is err reads keeps air) j asks other = air
@@ -419,6 +515,9 @@ answers call how answer does tells later_input later_out later_err later_air =
       airless = λ j asks other. airless call how does j asks other;
       emulated = λ trace send probe same asks. emulated call trace send probe (finishes call answer (job.Emulate trace send probe) e same asks);
       made = λ kind routers seed same asks. made call kind routers seed (finishes call answer (job.Make kind routers seed) e same asks);
+      replayed = λ same asks. replayed call (finishes call answer job.Replay e same asks);
+      not_a_run = λ same. not_a_run call answer e same;
+      not_replayed = λ same asks. not_replayed call answer e same asks;
       unread = λ kind routers seed asks. unread call how does kind routers seed asks;
       no_command = λ wrong. let w = no_command call answer e wrong in (w.0, w.1, no_words_airless call how does wrong);
       too_long = λ j octets asks reads is long calm. too_long call answer e j octets asks reads is long calm;

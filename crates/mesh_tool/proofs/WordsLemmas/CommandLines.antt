@@ -42,6 +42,7 @@ asked_is_read words (job.Emulate trace send probe) asks = ap words_of asks.whole
 asked_is_read words (job.Make kind routers seed) asks =
     let a = asks.are in
     ap words_of asks.whole ∙ made a.0 a.1 a.2 kind routers seed asks.options a.3 a.4 a.5 a.6
+asked_is_read words job.Replay asks = ap words_of (asks.whole ∙ ap (behind (codes "replay")) asks.are)
 
 -- ---- what is read is asked for
 
@@ -99,6 +100,14 @@ emulate_asked word (w ∷ words) j is h =
       | inr (without, (next, option, rest)) ↦ make_asked word (w ∷ words) j is (makes_from None None None 1 (w ∷ words) j (rw option rest))
     ]
 
+no_word : (next : Asked) → (let x : Option Asked = None in x) ≡ Some next → ⊥
+no_word next h = cc
+
+replay_asked : (word : List ℕ) (words : List (List ℕ)) (j : Job) → word ≡ codes "replay" → read_on asked.Replay 1 words ≡ Ok j → AskFor (word ∷ words) j
+replay_asked word words j is h =
+    let end = none_more asked.Replay job.Replay 1 words j (λ v next k. no_word next k) refl h in
+    subst (AskFor (word ∷ words)) (sym end.1) (record { options = []; are = refl; whole = rw (is, end.0) refl })
+
 pub read_is_asked : (words : List (List ℕ)) (j : Job) → words_of words ≡ Ok j → AskFor words j
 read_is_asked [] j h = let bad : ⊥ = cc in absurd bad
 read_is_asked (word ∷ words) j h =
@@ -107,9 +116,12 @@ read_is_asked (word ∷ words) j h =
       | inl (test, e) ↦ dump_asked word words j ((bytes_decides word (codes "dump")).0 test) (subst (λ (next : Asked). read_on next 1 words ≡ Ok j) e step.2)
       | inr (other, rest) ↦ elim (if_some (is_word word (codes "run")) (asked.Run None) _ step.0 rest) [
         | inl (test, e) ↦ run_asked word words j ((bytes_decides word (codes "run")).0 test) (subst (λ (next : Asked). read_on next 1 words ≡ Ok j) e step.2)
-        | inr (other', rest') ↦ elim (if_some (is_word word (codes "emulate")) (asked.Emulate no_emulate_options) None step.0 rest') [
+        | inr (other', rest') ↦ elim (if_some (is_word word (codes "emulate")) (asked.Emulate no_emulate_options) _ step.0 rest') [
           | inl (test, e) ↦ emulate_asked word words j ((bytes_decides word (codes "emulate")).0 test) (subst (λ (next : Asked). read_on next 1 words ≡ Ok j) e step.2)
-          | inr (other'', none) ↦ let bad : ⊥ = cc in absurd bad
+          | inr (other'', rest'') ↦ elim (if_some (is_word word (codes "replay")) asked.Replay None step.0 rest'') [
+            | inl (test, e) ↦ replay_asked word words j ((bytes_decides word (codes "replay")).0 test) (subst (λ (next : Asked). read_on next 1 words ≡ Ok j) e step.2)
+            | inr (other''', none) ↦ let bad : ⊥ = cc in absurd bad
+          ]
         ]
       ]
     ]

@@ -50,6 +50,7 @@ completes (asked.MakeAwaits o value.Routers) place =
     let rest = kind_missing o.kind (Some 2) o.seed (place + 1) in (codes "2" ∷ rest.0, rest.1)
 completes (asked.MakeAwaits o value.Seed) place =
     let rest = kind_missing o.kind o.routers (Some 0) (place + 1) in (codes "0" ∷ rest.0, rest.1)
+completes asked.Replay place = ([], refl)
 
 -- ---- where reading stops
 

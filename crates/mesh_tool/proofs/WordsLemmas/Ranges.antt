@@ -47,6 +47,7 @@ in_range words (job.Make kind routers seed) asks =
     let n = number_in_range 2 64 asks.are.1 routers asks.are.4 in
     let s = number_in_range 0 4294967295 asks.are.2 seed asks.are.5 in
     (record { at_least = n.0; at_most = n.1 }, s.1)
+in_range words job.Replay asks = tt
 
 pub read_in_range : (words : List (List ℕ)) (r : Result Job ℕ) → r ≡ words_of words → IfOk r IsInRange
 read_in_range words (Ok j) h = in_range words j (read_is_asked words j (sym h))

@@ -6,13 +6,15 @@ use Rattle.mesh_dump.specs.Dump.{IsDumpText}
 use Rattle.mesh_emulate.specs.Emulation.{Emulation}
 use Rattle.mesh_io.specs.Faults.{Rose, RoseByOne}
 use Rattle.mesh_emulate.specs.Making.Made.{MadeEmulation}
+use Rattle.mesh_replay.specs.declared.answer.Replay.TheVariants.{Yes, No}
+use Rattle.mesh_replay.specs.Command.Replays.{Replays, answer_line}
 use Rattle.mesh_run.specs.Run.{WholeRun, SpendsTurns, FailsToAttach}
 use Rattle.mesh_tool.specs.declared.jobs.status.Status.{Status}
 use Rattle.mesh_tool.specs.declared.jobs.status.Status.TheVariants as status
 use Rattle.mesh_tool.specs.Jobs.Calls.{Call, told_in, UsesNoAir, RunsSoFar, Asks, wants_in, most_octets, ReadsInput, ReadsNothing, IsInput, RefusesOctets, Refuses, TakesInput, Finishes, StopsShort, LeavesFront}
 use Rattle.mesh_tool.specs.Jobs.Lines.{words_line, read_line, refused_line, attach_line, turns_line, memory_line}
 use Rattle.mesh_tool.specs.declared.words.job.Job.{Job}
-use Rattle.mesh_tool.specs.declared.words.job.Job.TheVariants.{Dump, Run, Emulate, Make}
+use Rattle.mesh_tool.specs.declared.words.job.Job.TheVariants.{Dump, Run, Emulate, Make, Replay}
 use Rattle.mesh_emulate.specs.declared.making.kind.Kind.{Kind}
 use Rattle.mesh_tool.specs.Words.Words.{words_of}
 
@@ -30,11 +32,13 @@ pub data Due (call : Call) : Status → List ℕ → Type 0 where
       SpendsTurns octets turns greatest end (told_in call) → Keeps call.out call.out' → Due call status.Turns (turns_line turns greatest end)
   Want_of_memory : (job : Job) → Asks call job → StopsShort call job → Due call status.Memory memory_line
 
--- the whole text stands on out, of which no line or some line tells a refusal
+-- the whole text stands on out, of which no line or some line tells a refusal, or which says that a trace is none of a run
 pub data Whole (call : Call) : Status → Type 0 where
   All_well : (job : Job) → Asks call job → Finishes call job 0 → Whole call status.Done
   Some_refused : (recode : Bool) (refused : ℕ) → Asks call (Dump recode) → 0 < refused → Finishes call (Dump recode) refused →
       Whole call status.Packets
+  Is_no_run : (octets : List ℕ) (line : ℕ) → Asks call Replay → IsInput 67108864 call octets → Replays octets (No line) →
+      Appends call.out call.out' (answer_line (No line)) → Whole call status.NotARun
 
 -- a write failed: on out, where a front of a text of the job then stands, and nothing on err; or on err, where a front of the line of
 -- the fault that was due then stands
@@ -80,6 +84,20 @@ pub record Answers (call : Call) (answer : Status) : Type 0 where
   -- 0 to `emulate --make`: what is told of a run of the made scenario stands on out, and nothing was read
   pub made : (kind : Kind) (routers seed : ℕ) → answer ≡ status.Done → Asks call (Make kind routers seed) →
       (m : MadeEmulation kind routers seed) × Appends call.out call.out' m.text × ReadsNothing call
+  -- 0 to `replay`: the trace of the input is whole, and the line that says so, with the number of its lines, stands on out
+  pub replayed : answer ≡ status.Done → Asks call Replay →
+      (octets : List ℕ) × IsInput 67108864 call octets × (lines : ℕ) × Replays octets (Yes lines)
+      × Appends call.out call.out' (answer_line (Yes lines))
+  -- 9: the words ask for `replay`, the trace of the input is none of a run, and the line that says so, with the number of the first line
+  -- that doesn't fit, stands on out, and nothing on err
+  pub not_a_run : answer ≡ status.NotARun → Asks call Replay
+      × (octets : List ℕ) × IsInput 67108864 call octets × (line : ℕ) × Replays octets (No line)
+      × Appends call.out call.out' (answer_line (No line)) × Appends call.err call.err' []
+  -- 4 to `replay`: the input is too long, or no line of it is `---`, or its scenario is too long or refused; the line that says so stands
+  -- on err, and nothing on out
+  pub not_replayed : answer ≡ status.Refused → Asks call Replay →
+      (number : ℕ) × (key : List ℕ) × Refuses Replay call number key × Keeps call.out call.out'
+      × Appends call.err call.err' (refused_line number key)
   -- `emulate --make` reads nothing, whatever is answered
   pub unread : (kind : Kind) (routers seed : ℕ) → Asks call (Make kind routers seed) → ReadsNothing call
   -- words that are no command line are told, or their line couldn't be written; nothing is read
@@ -98,11 +116,12 @@ pub record Answers (call : Call) (answer : Status) : Type 0 where
   pub refuses : (job : Job) (octets : List ℕ) (number : ℕ) (key : List ℕ) → Asks call job → call.left ≡ Some octets →
       RefusesOctets call.words job octets number key → (Rose call.read_faults call.read_faults' → ⊥) →
       (answer ≡ status.Refused) ⊎ ((answer ≡ status.Write) ⊎ (answer ≡ status.Memory))
-  -- with right words, an input that the job takes, and no fault of source and sinks, the job is done, or its turns are, or memory was
-  -- wanting
+  -- with right words, an input that the job takes, and no fault of source and sinks, the job is done, or its turns are, or it says that
+  -- the trace is none of a run, or memory was wanting
   pub complete : (job : Job) → Asks call job → TakesInput job call → (Rose call.read_faults call.read_faults' → ⊥) →
       (Rose call.out_faults call.out_faults' → ⊥) → (Rose call.err_faults call.err_faults' → ⊥) →
-      (answer ≡ status.Done) ⊎ ((answer ≡ status.Packets) ⊎ ((answer ≡ status.Turns) ⊎ (answer ≡ status.Memory)))
+      (answer ≡ status.Done) ⊎ ((answer ≡ status.Packets) ⊎ ((answer ≡ status.Turns)
+      ⊎ (((answer ≡ status.NotARun) × (job ≡ Replay)) ⊎ (answer ≡ status.Memory))))
   -- the counts of faults never fall
   pub later_input : call.read_faults ≤ call.read_faults'
   pub later_out : call.out_faults ≤ call.out_faults'

@@ -9,6 +9,9 @@ use Rattle.mesh_emulate.specs.Emulation.{Emulation, IsRefused, IsFirstPart, IsFr
 use Rattle.mesh_emulate.specs.Wants.{Packet, Wants}
 use Rattle.mesh_io.specs.Airs.{Report}
 use Rattle.mesh_emulate.specs.Making.Made.{MadeEmulation}
+use Rattle.mesh_replay.specs.declared.answer.Replay.{Replay}
+use Rattle.mesh_replay.specs.declared.answer.Replay.TheVariants.{Yes}
+use Rattle.mesh_replay.specs.Command.Replays.{Replays, IsRefusedInput, answer_line}
 use Rattle.mesh_run.specs.Run.{Told, told, IsUntold, States, WholeRun, SpendsTurns, FailsToAttach, RunsShort}
 use Rattle.mesh_config.specs.Keys.Faults.{first}
 use Rattle.mesh_tool.specs.declared.words.job.Job.{Job}
@@ -76,6 +79,7 @@ ReadsInput (job.Dump recode) = Unit {0}
 ReadsInput (job.Run turns) = Unit {0}
 ReadsInput (job.Emulate trace send probe) = Unit {0}
 ReadsInput (job.Make kind routers seed) = ⊥
+ReadsInput job.Replay = Unit {0}
 
 -- the most octets that the input of a job may have
 abbrev pub most_octets : Job → ℕ
@@ -83,6 +87,7 @@ most_octets (job.Dump recode) = 67108864
 most_octets (job.Run turns) = 1048576
 most_octets (job.Emulate trace send probe) = 1048576
 most_octets (job.Make kind routers seed) = 0
+most_octets job.Replay = 67108864
 
 -- nothing was read
 pub record ReadsNothing (call : Call) : Type 0 where
@@ -109,6 +114,7 @@ WorksOn (job.Dump recode) call octets = IsInput 67108864 call octets
 WorksOn (job.Run turns) call octets = IsInput 1048576 call octets
 WorksOn (job.Emulate trace send probe) call octets = IsInput 1048576 call octets
 WorksOn (job.Make kind routers seed) call octets = (octets ≡ []) × ReadsNothing call
+WorksOn job.Replay call octets = IsInput 67108864 call octets
 
 -- the job that the words ask for refuses its octets, with that number and key
 abbrev pub RefusesOctets : List (List ℕ) → Job → List ℕ → ℕ → List ℕ → Type 0
@@ -116,6 +122,7 @@ RefusesOctets words (job.Dump recode) octets number key = ⊥
 RefusesOctets words (job.Run turns) octets number key = FirstRunRefusal octets number key
 RefusesOctets words (job.Emulate trace send probe) octets number key = IsRefused octets (wants_in words trace send probe) number key
 RefusesOctets words (job.Make kind routers seed) octets number key = ⊥
+RefusesOctets words job.Replay octets number key = IsRefusedInput octets number key
 
 -- the input is longer than the job takes, or it was read whole and is refused
 pub data Refuses (job : Job) (call : Call) : ℕ → List ℕ → Type 0 where
@@ -133,16 +140,21 @@ TakesInput (job.Emulate trace send probe) call =
     (octets : List ℕ) × (call.left ≡ Some octets) × (length octets ≤ 1048576)
     × ((number : ℕ) (key : List ℕ) → IsRefused octets (wants_in call.words trace send probe) number key → ⊥)
 TakesInput (job.Make kind routers seed) call = Unit {0}
+TakesInput job.Replay call =
+    (octets : List ℕ) × (call.left ≡ Some octets) × (length octets ≤ 67108864)
+    × ((number : ℕ) (key : List ℕ) → IsRefusedInput octets number key → ⊥)
 
 -- What is written on out
 
--- the text of a job that is done, and how many lines of it tell a refusal
+-- the text of a job that is done, and how many lines of it tell a refusal; of `replay` where the trace is whole
 abbrev pub IsAskedText : Call → Job → List ℕ → ℕ → List ℕ → Type 0
 IsAskedText call (job.Dump recode) octets refused text = IsDumpText octets recode refused text
 IsAskedText call (job.Run turns) octets refused text = (refused ≡ 0) × (r : WholeRun octets turns (told_in call)) × (text ≡ r.text)
 IsAskedText call (job.Emulate trace send probe) octets refused text =
     (refused ≡ 0) × (e : Emulation octets (wants_in call.words trace send probe)) × (text ≡ e.text)
 IsAskedText call (job.Make kind routers seed) octets refused text = (refused ≡ 0) × (m : MadeEmulation kind routers seed) × (text ≡ m.text)
+IsAskedText call job.Replay octets refused text =
+    (refused ≡ 0) × (lines : ℕ) × Replays octets (Yes lines) × (text ≡ answer_line (Yes lines))
 
 -- the text of a job that memory stopped on the way: of some first lines of the input, or of some first events of the run, or of
 -- all of it but the trip or the probe; nothing of a router that is run, whose turns were the first of a run
@@ -151,6 +163,7 @@ IsFirstText call (job.Dump recode) octets text = IsFirstLinesText octets recode 
 IsFirstText call (job.Run turns) octets text = (text ≡ []) × RunsShort octets turns (told_in call)
 IsFirstText call (job.Emulate trace send probe) octets text = IsFirstPart octets (wants_in call.words trace send probe) text
 IsFirstText call (job.Make kind routers seed) octets text = text ≡ []
+IsFirstText call job.Replay octets text = text ≡ []
 
 -- a text of which a failed write left a front: of the whole job, or of a first part of it
 abbrev pub IsFrontOf : Call → Job → List ℕ → List ℕ → Type 0
@@ -158,6 +171,7 @@ IsFrontOf call (job.Dump recode) octets text = IsDumpFront octets recode text
 IsFrontOf call (job.Run turns) octets text = (r : WholeRun octets turns (told_in call)) × (text ≡ r.text)
 IsFrontOf call (job.Emulate trace send probe) octets text = IsFront octets (wants_in call.words trace send probe) text
 IsFrontOf call (job.Make kind routers seed) octets text = (m : MadeEmulation kind routers seed) × (text ≡ m.text)
+IsFrontOf call job.Replay octets text = (answer : Replay) × Replays octets answer × (text ≡ answer_line answer)
 
 -- the whole text of the job stands on out, and so many lines of it tell a refusal
 pub record Finishes (call : Call) (job : Job) (refused : ℕ) : Type 0 where
@@ -197,3 +211,4 @@ UsesAir call (job.Dump recode) octets = UsesNoAir call
 UsesAir call (job.Run turns) octets = UsesNoAir call ⊎ RunsSoFar octets turns (told_in call)
 UsesAir call (job.Emulate trace send probe) octets = UsesNoAir call
 UsesAir call (job.Make kind routers seed) octets = UsesNoAir call
+UsesAir call job.Replay octets = UsesNoAir call

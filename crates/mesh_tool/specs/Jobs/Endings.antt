@@ -3,6 +3,8 @@ use Rattle.std.specs.Prelude.{◌≡◌, ◌⊎◌, ℕ, ◌+◌, ◌<◌, List,
 use Rattle.std.specs.Io.KnownBytes.{Appends, Keeps}
 use Rattle.mesh_io.specs.Airs.{Report}
 use Rattle.mesh_io.specs.Faults.{Rose, RoseByOne}
+use Rattle.mesh_replay.specs.declared.answer.Replay.TheVariants.{No}
+use Rattle.mesh_replay.specs.Command.Replays.{Replays, answer_line}
 use Rattle.mesh_run.specs.Run.{SpendsTurns, FailsToAttach}
 use Rattle.mesh_tool.specs.declared.jobs.ending.Ending.{Ending}
 use Rattle.mesh_tool.specs.declared.jobs.ending.Ending.TheVariants as ending
@@ -50,6 +52,7 @@ StopsReading most call ending.TooLong = IsTooLong most call
 StopsReading most call ending.Memory = IsNotLonger most call
 StopsReading most call ending.Done = ⊥
 StopsReading most call ending.Packets = ⊥
+StopsReading most call ending.NotARun = ⊥
 StopsReading most call ending.Words = ⊥
 StopsReading most call (ending.Refused number key) = ⊥
 StopsReading most call (ending.Attach interface) = ⊥
@@ -62,18 +65,29 @@ IsUnattached call (job.Dump recode) octets interface = ⊥
 IsUnattached call (job.Run turns) octets interface = RoseByOne call.air_faults call.air_faults' × FailsToAttach octets interface (told_in call)
 IsUnattached call (job.Emulate trace send probe) octets interface = ⊥
 IsUnattached call (job.Make kind routers seed) octets interface = ⊥
+IsUnattached call job.Replay octets interface = ⊥
 
 abbrev pub IsSpent : Call → Job → List ℕ → ℕ → ℕ → ℕ → Type 0
 IsSpent call (job.Dump recode) octets count greatest end = ⊥
 IsSpent call (job.Run turns) octets count greatest end = (count ≡ turns) × SpendsTurns octets count greatest end (told_in call)
 IsSpent call (job.Emulate trace send probe) octets count greatest end = ⊥
 IsSpent call (job.Make kind routers seed) octets count greatest end = ⊥
+IsSpent call job.Replay octets count greatest end = ⊥
+
+-- the trace that the octets have is none of a run, and the line that says so was put
+abbrev pub TellsUnfit : Job → List ℕ → Option (List ℕ) → Option (List ℕ) → Type 0
+TellsUnfit (job.Dump recode) octets out out' = ⊥
+TellsUnfit (job.Run turns) octets out out' = ⊥
+TellsUnfit (job.Emulate trace send probe) octets out out' = ⊥
+TellsUnfit (job.Make kind routers seed) octets out out' = ⊥
+TellsUnfit job.Replay octets out out' = (line : ℕ) × Replays octets (No line) × Appends out out' (answer_line (No line))
 
 -- what the job that the words ask for leaves on out, by how it ended, where these are the octets that it works on
 abbrev pub Leaves : Call → Job → List ℕ → Option (List ℕ) → Option (List ℕ) → ℕ → ℕ → Ending → Type 0
 Leaves call job octets out out' faults faults' ending.Done = (text : List ℕ) × IsAskedText call job octets 0 text × Appends out out' text
 Leaves call job octets out out' faults faults' ending.Packets =
     (refused : ℕ) × (0 < refused) × (text : List ℕ) × IsAskedText call job octets refused text × Appends out out' text
+Leaves call job octets out out' faults faults' ending.NotARun = TellsUnfit job octets out out'
 Leaves call job octets out out' faults faults' (ending.Refused number key) = RefusesOctets call.words job octets number key × Keeps out out'
 Leaves call job octets out out' faults faults' ending.Write =
     Rose faults faults' × (text : List ℕ) × IsFrontOf call job octets text × (size : ℕ) × Appends out out' (take size text)
@@ -108,6 +122,7 @@ TellsLine err err' faults faults' line due answer =
 abbrev pub TellsEnding : List (List ℕ) → Option (List ℕ) → Option (List ℕ) → ℕ → ℕ → Ending → Status → Type 0
 TellsEnding words err err' faults faults' ending.Done answer = (answer ≡ status.Done) × Appends err err' []
 TellsEnding words err err' faults faults' ending.Packets answer = (answer ≡ status.Packets) × Appends err err' []
+TellsEnding words err err' faults faults' ending.NotARun answer = (answer ≡ status.NotARun) × Appends err err' []
 TellsEnding words err err' faults faults' ending.Words answer = TellsLine err err' faults faults' (words_line words) status.Words answer
 TellsEnding words err err' faults faults' ending.Read answer = TellsLine err err' faults faults' read_line status.Read answer
 TellsEnding words err err' faults faults' ending.TooLong answer =

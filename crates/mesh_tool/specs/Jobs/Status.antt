@@ -14,3 +14,4 @@ code_of status.Packets = 5
 code_of status.Attach = 6
 code_of status.Turns = 7
 code_of status.Memory = 8
+code_of status.NotARun = 9

@@ -73,6 +73,7 @@ AreOptions (job.Emulate trace send probe) options = AreEmulateOptions trace send
 AreOptions (job.Make kind routers seed) options =
     (k : List ℕ) × (n : List ℕ) × (s : List ℕ) × (kind_of k ≡ Some kind) × (routers_of n ≡ Some routers) × (seed_of s ≡ Some seed)
     × InAnyOrder (make_options k n s) options
+AreOptions job.Replay options = options ≡ []
 
 -- the first word
 abbrev pub command_of : Job → List ℕ
@@ -80,6 +81,7 @@ command_of (job.Dump recode) = codes "dump"
 command_of (job.Run turns) = codes "run"
 command_of (job.Emulate trace send probe) = codes "emulate"
 command_of (job.Make kind routers seed) = codes "emulate"
+command_of job.Replay = codes "replay"
 
 -- the words ask for this job: its command, and behind it its options
 pub record AskFor (words : List (List ℕ)) (job : Job) : Type 0 where
@@ -93,6 +95,7 @@ IsInRange (job.Dump recode) = Unit {0}
 IsInRange (job.Run turns) = 1 ≤ turns
 IsInRange (job.Emulate trace send probe) = Unit {0}
 IsInRange (job.Make kind routers seed) = IsCount 2 64 routers × (seed ≤ 4294967295)
+IsInRange job.Replay = Unit {0}
 
 -- words are read as a job exactly where they ask for it
 abbrev pub CommandLinesAreRead : Type 0

@@ -105,7 +105,8 @@ abbrev pub command_word : List ℕ → Option Asked
 command_word word =
     if is_word word (codes "dump") then Some (asked.Dump false)
     else if is_word word (codes "run") then Some (asked.Run None)
-    else only_if (is_word word (codes "emulate")) (asked.Emulate no_emulate_options)
+    else if is_word word (codes "emulate") then Some (asked.Emulate no_emulate_options)
+    else only_if (is_word word (codes "replay")) asked.Replay
 
 -- what is asked for after one more word, which has that place, where it begins a command line with the words before it
 abbrev pub takes : Asked → ℕ → List ℕ → Option Asked
@@ -117,6 +118,7 @@ takes (asked.Emulate o) place word = emulate_option o word
 takes (asked.EmulateAwaits o value) place word = emulate_value o value place word
 takes (asked.Make o) place word = make_option o word
 takes (asked.MakeAwaits o value) place word = option_map asked.Make (make_value o value word)
+takes asked.Replay place word = None
 
 -- the job, where no word is missing
 abbrev pub job_of : Asked → Option Job
@@ -128,6 +130,7 @@ job_of (asked.Emulate o) = Some (job.Emulate o.trace o.send o.probe)
 job_of (asked.EmulateAwaits o value) = None
 job_of (asked.Make o) = make_job o
 job_of (asked.MakeAwaits o value) = None
+job_of asked.Replay = Some job.Replay
 
 -- the job of words behind others that ask for this, where the first of them has that place
 abbrev pub or_at : {A B : Type 0} → ℕ → Option A → (A → Result B ℕ) → Result B ℕ

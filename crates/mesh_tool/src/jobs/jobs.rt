@@ -14,11 +14,12 @@ use mesh_atoms::{Addr4, Bytes};
 use mesh_emulate::{EmulateFault, NamedPacket, Wanted};
 use mesh_expire::Bases;
 use mesh_io::{Air, Clock, ReadFault, Sink, Source, Stop, read_all};
+use mesh_replay::{Replay, ReplayFault};
 use mesh_run::RunFault;
 use std::alloc::Global;
 
-// The most octets that an input may have: of `dump`, and of `run` and `emulate`.
-const MOST_LISTED: usize = 67_108_864;
+// The most octets that an input may have: of `dump` and `replay`, and of `run` and `emulate`.
+const MOST_OCTETS: usize = 67_108_864;
 
 const MOST_STATED: usize = 1_048_576;
 
@@ -162,6 +163,21 @@ fn make<B: Bases, O: Sink>(
     }
 }
 
+// Says whether the trace that these octets have is that of a run.
+fn replay<B: Bases, O: Sink>(alloc: Global, octets: &[u8], out: &mut O) -> Ending
+    ensures leaves { (call : Call) → Leaves call Job.Replay octets.now
+        (O.content out.old) (O.content out.new) (O.faults out.old) (O.faults out.new) result }
+    ensures later { O.faults out.old ≤ O.faults out.new }
+{
+    match mesh_replay::replay_input::<B, O>(alloc, octets, out) {
+        Ok(Replay::Yes { .. }) => Ending::Done,
+        Ok(Replay::No { .. }) => Ending::NotARun,
+        Err(ReplayFault::Refused { number, key }) => Ending::Refused { number, key },
+        Err(ReplayFault::Stopped(Stop::Write)) => Ending::Write,
+        Err(ReplayFault::Stopped(Stop::Memory)) => Ending::Memory,
+    }
+}
+
 fn list_input<S: Source, O: Sink>(alloc: Global, recode: bool, input: &mut S, out: &mut O) -> Ending
     ensures does { (call : Call) → UsesNoAir call → DoesJob (Job.Dump recode) (with_out (with_source call
         (S.left input.old) (S.left input.new) (S.taken input.old) (S.taken input.new) (S.faults input.old) (S.faults input.new))
@@ -169,7 +185,7 @@ fn list_input<S: Source, O: Sink>(alloc: Global, recode: bool, input: &mut S, ou
     ensures later_input { S.faults input.old ≤ S.faults input.new }
     ensures later_out { O.faults out.old ≤ O.faults out.new }
 {
-    match read_input(alloc, input, MOST_LISTED) {
+    match read_input(alloc, input, MOST_OCTETS) {
         Ok(octets) => list(alloc, octets.as_slice(), recode, out),
         Err(how) => how,
     }
@@ -219,6 +235,19 @@ fn run_input<B: Bases, S: Source, O: Sink, A: Air, C: Clock>(
     }
 }
 
+fn replay_input<B: Bases, S: Source, O: Sink>(alloc: Global, input: &mut S, out: &mut O) -> Ending
+    ensures does { (call : Call) → UsesNoAir call → DoesJob Job.Replay (with_out (with_source call
+        (S.left input.old) (S.left input.new) (S.taken input.old) (S.taken input.new) (S.faults input.old) (S.faults input.new))
+        (O.content out.old) (O.content out.new) (O.faults out.old) (O.faults out.new)) result }
+    ensures later_input { S.faults input.old ≤ S.faults input.new }
+    ensures later_out { O.faults out.old ≤ O.faults out.new }
+{
+    match read_input(alloc, input, MOST_OCTETS) {
+        Ok(octets) => replay::<B, O>(alloc, octets.as_slice(), out),
+        Err(how) => how,
+    }
+}
+
 /// Does what the words ask for: the input is read where the job has one, and the job's text is put on `out`; a router is run over the
 /// air, which has no interface yet, and the clock. Nothing is told of a fault.
 pub fn do_asked<B: Bases, S: Source, O: Sink, A: Air, C: Clock>(
@@ -251,6 +280,7 @@ pub fn do_asked<B: Bases, S: Source, O: Sink, A: Air, C: Clock>(
                 seed,
             },
         ) => make::<B, O>(alloc, kind, routers, seed, out),
+        Ok(Job::Replay) => replay_input::<B, S, O>(alloc, input, out),
         Err(_) => Ending::Words,
     }
 }

@@ -135,6 +135,7 @@ pub fn tell<E: Sink>(err: &mut E, words: &[String], how: &Ending) -> Status
     match how {
         Ending::Done => Status::Done,
         Ending::Packets => Status::Packets,
+        Ending::NotARun => Status::NotARun,
         Ending::Words => tell_words(err, words),
         Ending::Read => tell_line(err, &[b"mesh: read fault\n"], Status::Read),
         Ending::TooLong => tell_refusal(err, refusal::TOO_LONG, b"input"),

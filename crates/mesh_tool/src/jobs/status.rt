@@ -4,7 +4,7 @@ ghost use Rattle.mesh_tool.specs.Jobs.Status.{code_of};
 
 /// How the program ended: the whole text was written; the words are no command line; a read or a write failed; the input
 /// was refused; the whole listing was written, and a line of it says a refusal; an interface couldn't be attached; all turns were
-/// done, and the end didn't come; want of memory.
+/// done, and the end didn't come; want of memory; the whole text was written, and it says that a trace is none of a run.
 #[derive(Clone, Copy)]
 pub enum Status {
     Done,
@@ -16,6 +16,7 @@ pub enum Status {
     Attach,
     Turns,
     Memory,
+    NotARun,
 }
 
 impl Status {
@@ -33,6 +34,7 @@ impl Status {
             Status::Attach => 6,
             Status::Turns => 7,
             Status::Memory => 8,
+            Status::NotARun => 9,
         }
     }
 }

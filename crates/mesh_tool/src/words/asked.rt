@@ -50,6 +50,7 @@ pub enum Asked {
     EmulateAwaits(EmulateOptions, EmulateValue),
     Make(MakeOptions),
     MakeAwaits(MakeOptions, MakeValue),
+    Replay,
 }
 
 const NO_EMULATE_OPTIONS: EmulateOptions = EmulateOptions {
@@ -212,6 +213,8 @@ fn command_word(word: &str) -> Option<Asked>
         Some(Asked::Run { turns: None })
     } else if word == "emulate" {
         Some(Asked::Emulate(NO_EMULATE_OPTIONS))
+    } else if word == "replay" {
+        Some(Asked::Replay)
     } else {
         None
     }
@@ -252,6 +255,7 @@ pub fn takes(asked: Asked, place: usize, word: &str) -> Option<Asked>
             Some(options) => Some(Asked::Make(options)),
             None => None,
         },
+        Asked::Replay => None,
     }
 }
 
@@ -271,6 +275,7 @@ pub fn job_of(asked: Asked) -> Option<Job>
             probe: options.probe,
         }),
         Asked::Make(options) => options.job(),
+        Asked::Replay => Some(Job::Replay),
         Asked::Nothing | Asked::Turns | Asked::EmulateAwaits(_, _) | Asked::MakeAwaits(_, _) =>
             None,
     }

@@ -23,3 +23,8 @@ pub returns-in-Ok-Make-clause-does : goal.returns-in-Ok-Make-clause-does
 returns-in-Ok-Make-clause-does g c = λ call.
     Did (job.Make c.in-Ok-Make.kind c.in-Ok-Make.routers c.in-Ok-Make.seed) (sym c.in-Ok-Make.ensures.exact ∙ ap Ok c.in-Ok-Make.field-0-is)
     (Worked [] (refl, record { left = keeps_same _; taken = refl }) (c.make.ensures.leaves call) (record { moments = refl; reports = refl; attached = c.requires }))
+
+pub returns-in-Ok-Replay-clause-does : goal.returns-in-Ok-Replay-clause-does
+returns-in-Ok-Replay-clause-does g c = λ call.
+    Did job.Replay (sym c.in-Ok-Replay.ensures.exact ∙ ap Ok c.in-Ok-Replay.field-0-is)
+    (c.replay_input.ensures.does (with_air (with_words call (texts c.args.words.now)) _ _ _ _ _ _ _) (record { moments = refl; reports = refl; attached = c.requires }))
