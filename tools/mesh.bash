@@ -9,7 +9,7 @@ _mesh() {
     *)
         [ "$COMP_CWORD" -gt 2 ] && [ "${COMP_WORDS[COMP_CWORD - 2]}" = --send ] && return
         case $COMP_CWORD:$command in
-        1:*) words='dump emulate run' ;;
+        1:*) words='dump emulate run replay' ;;
         *:dump) words=--recode ;;
         *:run) words=--turns ;;
         *:emulate)

@@ -1,6 +1,6 @@
 #!/usr/bin/env python3
-"""Reads the texts of `mesh` back, as docs/FORMATS.md has them: what `emulate` (with --trace, --send, --probe or --make), `run` and
-`dump` print on standard input becomes JSON on standard output.
+"""Reads the texts of `mesh` back, as docs/FORMATS.md has them: what `emulate` (with --trace, --send, --probe or --make), `run`,
+`dump` and `replay` print on standard input becomes JSON on standard output.
 
     mesh emulate < scenarios/diamond.toml | tools/mesh_text.py | jq '.routers[0].routes'
 
@@ -59,6 +59,8 @@ FORMS = [
     ("reading", "message", " reading {reading=broken} {number#} {name}"),
     ("recode", "packets", " recode {recode}"),
     ("lines", "", "lines {lines#} refused {refused#}"),
+    ("replay", "", "replay {run?} lines {lines#}"),
+    ("replay", "", "replay {run?} line {line#}"),
 ]
 FIELD = re.compile(r"{(\w+)(=[^}]*|[#?*+]?)}")
 SHAPES = {"": r"\S+", "#": r"\d+|none", "?": "yes|no", "*": r"\S.*", "+": r"\S.*?"}
