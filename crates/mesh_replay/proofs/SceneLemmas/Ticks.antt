@@ -20,7 +20,7 @@ use Rattle.mesh_replay.specs.Checking.Cases.{IsCase, IsProgress}
 use Rattle.mesh_replay.specs.Checking.Going.{at, Goes}
 use Rattle.mesh_replay.specs.Checking.Kept.{AreAtRest}
 use Rattle.mesh_replay.specs.Checking.Scenes.{Comes, IsSoundScene, IsNextHearing, IsTickNext, Is_due, Is_last, net_of}
-use Rattle.mesh_replay.specs.Checking.Ticking.{HasNoTickLeft, IsQuiet, IsTickNext, Due_first, At_end, outcome_of}
+use Rattle.mesh_replay.specs.Checking.Ticking.{HasNoTickLeft, IsQuiet, IsFoundTick, Due_first, At_end, outcome_of}
 use Rattle.mesh_replay.specs.Traffic.Traffic.{SeededTraffic}
 
 -- what holds from the first due moment on holds of each
@@ -62,7 +62,7 @@ module _ (case : Case) (routers : List State) (due : Due) (last_ticks : ℕ) (pr
   }
 
   -- where none is heard before it, the tick is next
-  pub is_next_tick : (next : NextTick) → IsQuiet case.scenario.now due progress.traffic.traffic → IsTickNext case.scenario.now due last_ticks next →
+  pub is_next_tick : (next : NextTick) → IsQuiet case.scenario.now due progress.traffic.traffic → IsFoundTick case.scenario.now due last_ticks next →
       IsTickNext (net_of case routers last_ticks progress) next.router next.moment next.last_ticks
   is_next_tick next quiet (Due_first in_time is) = rw is (Is_due (record {
     first = sound.first;
@@ -74,16 +74,16 @@ module _ (case : Case) (routers : List State) (due : Due) (last_ticks : ℕ) (pr
       rw is (Is_last (only_last quiet late) (omega (arith, some, count)) refl refl refl)
 
   -- it is of a router of the scenario, no later than the end
-  pub tick_within : (next : NextTick) → IsTickNext case.scenario.now due last_ticks next → next.router < length case.scenario.now.routers
+  pub tick_within : (next : NextTick) → IsFoundTick case.scenario.now due last_ticks next → next.router < length case.scenario.now.routers
   tick_within next (Due_first in_time is) = let below = slice_get_within routers due.router sound.first.state sound.first.stands in let count = sound.kept.count in rw is (omega (arith, below, count))
   tick_within next (At_end late some is) = rw is some
 
-  pub tick_in_time : (next : NextTick) → IsTickNext case.scenario.now due last_ticks next → next.moment ≤ case.scenario.now.end
+  pub tick_in_time : (next : NextTick) → IsFoundTick case.scenario.now due last_ticks next → next.moment ≤ case.scenario.now.end
   tick_in_time next (Due_first in_time is) = rw is in_time
   tick_in_time next (At_end late some is) = rw is (omega arith)
 
   -- so many had their last tick then
-  pub still_few : (next : NextTick) → IsTickNext case.scenario.now due last_ticks next → next.last_ticks ≤ length case.scenario.now.routers
+  pub still_few : (next : NextTick) → IsFoundTick case.scenario.now due last_ticks next → next.last_ticks ≤ length case.scenario.now.routers
   still_few next (Due_first in_time is) = let few = sound.few in let count = sound.kept.count in rw is (omega (arith, few, count))
   still_few next (At_end late some is) = rw is (omega (arith, some))
 

@@ -12,12 +12,12 @@ abbrev pub IsQuiet : Scenario → Due → Traffic → Type 0
 IsQuiet s due traffic = All (λ d. min due.moment s.end < d.moment) traffic.air
 
 -- of the router that is due first, no later than the end, or else the next of the ticks at the end
-pub data IsTickNext (s : Scenario) (due : Due) (last_ticks : ℕ) (next : NextTick) : Type 0 where
+pub data IsFoundTick (s : Scenario) (due : Due) (last_ticks : ℕ) (next : NextTick) : Type 0 where
   Due_first : due.moment ≤ s.end → next ≡ record { router = due.router; moment = due.moment; last_ticks = last_ticks } →
-      IsTickNext s due last_ticks next
+      IsFoundTick s due last_ticks next
   At_end : s.end < due.moment → last_ticks < length s.routers →
       next ≡ record { router = last_ticks; moment = s.end; last_ticks = last_ticks + 1 } →
-      IsTickNext s due last_ticks next
+      IsFoundTick s due last_ticks next
 
 -- no tick is left
 abbrev pub HasNoTickLeft : Scenario → Due → ℕ → Type 0

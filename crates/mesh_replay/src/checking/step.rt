@@ -2,7 +2,7 @@
 ghost use Rattle.std.specs.Prelude.{◌≡◌, ◌<◌, length, IfOk, OnOk, IsTrue, MatchOption};
 ghost use Rattle.mesh_trace.specs.machine.Net.{IsFirstDue};
 ghost use Rattle.mesh_replay.specs.Checking.Scenes.{Comes, IsReachedNet, IsSoundScene, net_of};
-ghost use Rattle.mesh_replay.specs.Checking.Ticking.{HasNoTickLeft, IsQuiet, IsTickNext, outcome_of};
+ghost use Rattle.mesh_replay.specs.Checking.Ticking.{HasNoTickLeft, IsQuiet, IsFoundTick, outcome_of};
 ghost use Rattle.mesh_trace.specs.Reading.Readers.{IsReaderOf};
 
 use crate::checking::case::{Case, Progress};
@@ -72,7 +72,7 @@ fn tick_next<B: Bases>(
 
 // The tick that is next: of the router that is due first, up to the end, and then of the routers in order at the end.
 fn next_tick(scenario: &Scenario, due: Due, last_ticks: usize) -> Option<NextTick>
-    ensures { MatchOption result (HasNoTickLeft scenario.now due last_ticks) (IsTickNext scenario.now due last_ticks) }
+    ensures { MatchOption result (HasNoTickLeft scenario.now due last_ticks) (IsFoundTick scenario.now due last_ticks) }
 {
     if due.moment <= scenario.end {
         return Some(NextTick {
