@@ -2,8 +2,8 @@
 ghost use Rattle.std.specs.Prelude.{◌<◌, length, IfOk};
 ghost use Rattle.mesh_atoms.specs.Words.{IsAscending};
 
-use mesh_atoms::{Addr4, Link, LinkKey, RouterKey, RouterTuple, Seq, TwoHop, TwoHopKey};
 use crate::values::cost;
+use mesh_atoms::{Addr4, Link, LinkKey, RouterKey, RouterTuple, Seq, TwoHop, TwoHopKey};
 use std::alloc::{AllocError, Global};
 
 /// The routers 10.0.0.1, 10.0.0.2 and 10.0.0.3.

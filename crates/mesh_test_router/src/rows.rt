@@ -2,10 +2,10 @@
 ghost use Rattle.std.specs.Prelude.{◌≡◌, ◌<◌, ◌^◌, AllPairs, IfOk, IfSome, true};
 ghost use Rattle.mesh_atoms.specs.Nodes.{IsBefore};
 
+use crate::values::{list_of, metric_if};
 use mesh_atoms::{
     Addr4, Hello, HelloRow, LinkStatus, LocalIf, Metrics, Mpr, NetAddr, OtherStatus, Willing,
 };
-use crate::values::{list_of, metric_if};
 use std::alloc::{AllocError, Global};
 
 #[derive(Clone, Copy)]

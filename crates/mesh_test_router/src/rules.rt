@@ -2,8 +2,8 @@
 ghost use Rattle.std.specs.Prelude.{◌≡◌, ◌≤◌, IfOk, IsTrue};
 ghost use Rattle.mesh_atoms.specs.Settings.{are_thresholds};
 
-use mesh_atoms::{Addr4, Admit, QualityStep, SenderQuality, Seq};
 use crate::values::list_of;
+use mesh_atoms::{Addr4, Admit, QualityStep, SenderQuality, Seq};
 use std::alloc::{AllocError, Global};
 
 #[derive(Clone, Copy)]

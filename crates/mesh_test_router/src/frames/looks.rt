@@ -1,9 +1,9 @@
 //! What is seen of a router.
 use crate::fixtures::{LinkHas, TupleHas, link_has, link_key, router_key, tuple_has};
+use crate::values::metric;
 use mesh_atoms::{Addr4, Advertiser, LinkState, NetAddr, Relays, Route, TcRow};
 use mesh_core::RouterView;
 use mesh_expire::Table;
-use crate::values::metric;
 use mesh_flood::Heading;
 
 /// What a router holds: the moments of its last event and of the next one that is due; how many links and 2-hop tuples of its first

@@ -3,8 +3,8 @@ ghost use Rattle.std.specs.Prelude.{◌≡◌, ◌<◌, [], ◌∷◌, length, m
 
 use crate::fixtures::{ONE, TWO};
 use crate::rules::changing;
-use mesh_atoms::{Addr4, Admit, DEFAULT_TIMES, Interface, RouterSettings, SenderMetric, Seq};
 use crate::values::{list_of, metric, one_interface, router, text, two_interfaces};
+use mesh_atoms::{Addr4, Admit, DEFAULT_TIMES, Interface, RouterSettings, SenderMetric, Seq};
 use std::alloc::{AllocError, Global};
 
 // the receiver of what 10.0.0.1 sends, on its first and on its second interface

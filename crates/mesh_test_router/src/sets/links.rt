@@ -3,9 +3,9 @@ use crate::fixtures::{LinkHas, addrs_of, link_has, link_key};
 use crate::rules::{Rule, rule_of};
 use crate::runs::{Case, Run};
 use crate::tried::Tried;
+use crate::values::{metric, metric_if};
 use mesh_atoms::{Addr4, Link, LinkKey, LinkState, LinkStatus, Shown};
 use mesh_expire::Table;
-use crate::values::{metric, metric_if};
 use mesh_links::LinkSet;
 use std::alloc::{AllocError, Global};
 

@@ -6,9 +6,9 @@ ghost use Rattle.mesh_flood.specs.Verdict.{key_of, has_no_hops, process_of, forw
 
 use crate::runs::{Case, Run};
 use crate::tried::Tried;
+use crate::values::{metric, two_interfaces};
 use mesh_atoms::{Addr4, RouterSettings, Times};
 use mesh_expire::Bases;
-use crate::values::{metric, two_interfaces};
 use mesh_flood::{Flood, Forward, Heading, Process, Verdict};
 use std::alloc::{AllocError, Global};
 

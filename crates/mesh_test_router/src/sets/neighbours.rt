@@ -2,9 +2,9 @@
 use crate::fixtures::{addrs_of, link_key};
 use crate::runs::{Case, Run};
 use crate::tried::Tried;
+use crate::values::{cost, metric, metric_if};
 use mesh_atoms::{Addr4, Neighbour, Willing};
 use mesh_expire::Table;
-use crate::values::{cost, metric, metric_if};
 use mesh_nbrs::{LinkNote, NeighbourSet};
 use std::alloc::{AllocError, Global};
 

@@ -2,9 +2,9 @@
 use crate::fixtures::{TwoHopHas, link_key, two_hop_has, two_hop_key};
 use crate::runs::{Case, Run};
 use crate::tried::Tried;
+use crate::values::metric_if;
 use mesh_atoms::{Addr4, TwoHop, TwoHopKey};
 use mesh_expire::Table;
-use crate::values::metric_if;
 use mesh_nbrs::TwoHopSet;
 use std::alloc::{AllocError, Global};
 

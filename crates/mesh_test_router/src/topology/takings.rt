@@ -5,11 +5,11 @@ use crate::fixtures::{TupleHas, router_key, tuple_has};
 use crate::runs::{Case, Run};
 use crate::topology::tcs::{ROUTER, Said, VALIDITY, take, take_and_tell, tc_from};
 use crate::tried::Tried;
+use crate::values::list_of;
 use mesh_atoms::{
     Addr4, Advertiser, Attached4, Base, Metric, NetAddr, RouterKey, RouterTuple, TcRow,
 };
 use mesh_expire::{Bases, Table};
-use crate::values::list_of;
 use mesh_topo::{Selector, TcTaken, Topology, tc_rows};
 use std::alloc::{AllocError, Global};
 use std::test::Fail;
