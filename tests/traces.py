@@ -2,8 +2,8 @@
 """tests/traces.py PROGRAM [DRAWN [SEED]]: whether `replay` takes the traces that `emulate --trace` writes, and refuses spoiled ones.
 
 It takes the scenarios of tests/cases/emulate and of scenarios/, and as many drawn ones (20 where none are asked for; SEED draws others).
-Each trace has to be answered yes with the number of its lines, alone and with the report behind it. Then one line is spoiled, of each kind
-of line and in each way that no trace can have at that place: another moment, router, interface, sender or arc; octets that are none,
+Each trace has to be answered yes with the number of its lines, alone and with the report behind it. Then one line is spoiled, of two kinds
+of line that are drawn, and in each way that no trace can have at that place: another moment, router, interface, sender or arc; octets that are none,
 capital, longer, or of another frame than was sent; a relay too many or too few; a line left out, doubled, exchanged with the next, empty, or
 with a blank or a carriage return behind it. The answer has to name the very line. It prints what differs; the status is 1 where something
 does."""
@@ -130,8 +130,8 @@ def check(program, name, scenario, draw, tell):
     places = {}
     for at, line in enumerate(lines):
         places.setdefault(kind_of(line), []).append(at)
-    for kind, found in sorted(places.items()):
-        at = draw.choice(found)
+    for kind in draw.sample(sorted(places), min(2, len(places))):
+        at = draw.choice(places[kind])
         for what, others, number in spoiled(lines, at):
             ask(f"line {at + 1}, {kind}, {what}", "".join(f"{it}\n" for it in others), (9, f"replay no line {number}\n"))
             count += 1
