@@ -1,5 +1,6 @@
 -- Lemmas for crates above, each file with the crates that cite it.
 pub mod Admitted  -- probe, settled
+pub mod Existing  -- settled
 pub mod LinksStay  -- probe
 pub mod Order  -- data, laws, routes
 pub mod Rows  -- data, probe, routes
@@ -16,6 +17,7 @@ mod Found
 mod FrontierLaw
 mod Index
 mod JoinedParts
+mod NewOffers
 mod RadioLaw
 mod RoundsLaw
 mod SettledArcs

@@ -30,6 +30,33 @@ before_trans a b c f g = elim f [
   ]
 ]
 
+pub at_most_or_before : (a b : NetAddr) → IsAtMost a b ⊎ IsBefore b a
+at_most_or_before a b = elim (cases_lt b.addr.0 a.addr.0) [
+  | inl less ↦ inr (inl less)
+  | inr more ↦ elim (cases_eq b.addr.0 a.addr.0) [
+    | inl same ↦ elim (cases_lt b.prefix a.prefix) [
+      | inl less ↦ inr (inr (same, less))
+      | inr upto ↦ inl (inr (sym same, omega arith))
+    ]
+    | inr off ↦ inl (inl (omega arith))
+  ]
+]
+
+pub before_at_most : (a b : NetAddr) → IsBefore a b → IsAtMost a b
+before_at_most a b f = elim f [ inl less ↦ inl less | inr (same, less) ↦ inr (same, omega arith) ]
+
+pub at_most_trans : (a b c : NetAddr) → IsAtMost a b → IsAtMost b c → IsAtMost a c
+at_most_trans a b c f g = elim f [
+  | inl x ↦ elim g [
+    | inl y ↦ inl (omega arith)
+    | inr (e, y) ↦ inl (omega arith)
+  ]
+  | inr (d, x) ↦ elim g [
+    | inl y ↦ inl (omega arith)
+    | inr (e, y) ↦ inr (omega arith, omega arith)
+  ]
+]
+
 pub not_before_itself : (a b : NetAddr) → a ≡ b → IsBefore a b → ⊥
 not_before_itself a b e f =
     let number : a.addr.0 ≡ b.addr.0 = ap (λ (c : NetAddr). c.addr.0) e in

@@ -18,7 +18,7 @@ use Rattle.mesh_paths.specs.Paths.{HasCosts, IsCertificate}
 use Rattle.mesh_paths.specs.Tree.{OffersBy, IsAsGood}
 use Rattle.mesh_paths.specs.Search.{IsSettledRow, IsKeyed, Settles}
 use Rattle.mesh_paths.specs.Rounds.{RowMap, missing_of, weight_of, missing_in, weight_in, IsMetIn, Betters, IsOfferBy, HasAsGood, IsInRange, Tries, IsLedTo, IsRounds, Goes}
-use Rattle.mesh_paths.proofs.Order.{same_node}
+use Rattle.mesh_paths.proofs.Order.{same_node, at_most_or_before}
 use Rattle.mesh_paths.proofs.Rows.{of_each, item_in}
 use Rattle.mesh_paths.proofs.SearchLaw.{in_tail, head_or_tail}
 use Rattle.mesh_paths.proofs.Found.{tree_found, certificate_of_rows}
@@ -29,7 +29,7 @@ sums_upto : {A : Type 0} (f g : A → ℕ) (xs : List A) → ((x : A) → Contai
 sums_upto f g [] each = omega arith
 sums_upto f g (x ∷ xs) each = omega (arith, sum_by-cons f x xs, sum_by-cons g x xs, each x (0, omega arith, refl), sums_upto f g xs (λ y has. each y (in_tail x xs y has)))
 
-sums_less : {A : Type 0} (f g : A → ℕ) (xs : List A) (a : A) → ((x : A) → Contains xs x → f x ≤ g x) → Contains xs a → f a < g a → sum_by f xs < sum_by g xs
+pub sums_less : {A : Type 0} (f g : A → ℕ) (xs : List A) (a : A) → ((x : A) → Contains xs x → f x ≤ g x) → Contains xs a → f a < g a → sum_by f xs < sum_by g xs
 sums_less f g [] a each has less = absurd (omega (arith, has.1))
 sums_less {A} f g (x ∷ xs) a each has less = elim (head_or_tail x xs a has) [
   | inl same ↦
@@ -202,16 +202,7 @@ gone_met false old new arcs e (_, all) = of_each (IsMetIn new) arcs (length arcs
 -- An arc is tried
 
 not_at_most : (a b : NetAddr) → (IsAtMost a b → ⊥) → IsBefore b a
-not_at_most a b not = elim (cases_lt b.addr.0 a.addr.0) [
-  | inl less ↦ inl less
-  | inr more ↦ elim (cases_eq b.addr.0 a.addr.0) [
-    | inl same ↦ elim (cases_lt b.prefix a.prefix) [
-      | inl less ↦ inr (same, less)
-      | inr upto ↦ absurd (not (inr (sym same, omega arith)))
-    ]
-    | inr off ↦ absurd (not (inl (omega arith)))
-  ]
-]
+not_at_most a b not = elim (at_most_or_before a b) [ inl at_most ↦ absurd (not at_most) | inr before ↦ before ]
 
 -- the row of the node decides whether it is as good
 pub as_good_by : (map : RowMap) (node : NetAddr) (metric cost : ℕ) (parent : NetAddr) (before : PathRow) (b : Bool) → tree.get net_cmp map node ≡ Some before → cost ≡ metric → IsTrue b ↔ IsAsGood before cost parent → IsTrue b ↔ HasAsGood map node metric parent

@@ -11,10 +11,10 @@ use Rattle.mesh_paths.proofs.Order.{same_node, at_most_both, before_later, befor
 use Rattle.mesh_paths.proofs.SearchLaw.{in_tail, head_or_tail}
 use Rattle.mesh_paths.proofs.TreeLaw.{one_least}
 
-tail_ascends : (x : PathRow) (xs : List PathRow) → IsAscending (x ∷ xs) → IsAscending xs
+pub tail_ascends : (x : PathRow) (xs : List PathRow) → IsAscending (x ∷ xs) → IsAscending xs
 tail_ascends x xs up k d l = let e : suc k + 1 ≡ suc (k + 1) = omega arith in rw e at (up (suc k) d (omega arith))
 
-head_before : (x : PathRow) (xs : List PathRow) → IsAscending (x ∷ xs) → (y : PathRow) → Contains xs y → IsBefore x.node y.node
+pub head_before : (x : PathRow) (xs : List PathRow) → IsAscending (x ∷ xs) → (y : PathRow) → Contains xs y → IsBefore x.node y.node
 head_before x xs up y (k, l, is) =
     let e : 0 + (k + 1) ≡ suc k = omega arith in
     let before : IsBefore x.node (slice_index_or xs k y).node = rw e at (before_later (x ∷ xs) up 0 k y (omega arith)) in

@@ -37,3 +37,7 @@ pub record IsCertificate (g : Graph) (from : NetAddr) (certificate : Certificate
 -- a graph has one certificate from a node
 abbrev pub IsOneCertificate : Type 0
 IsOneCertificate = (g : Graph) (from : NetAddr) (c d : Certificate) → IsCertificate g from c → IsCertificate g from d → c.rows ≡ d.rows
+
+-- a graph without free arcs has a certificate from each node
+abbrev pub EveryGraphHasCertificate : Type 0
+EveryGraphHasCertificate = (g : Graph) (from : NetAddr) → HasCosts g → (c : Certificate) × IsCertificate g from c

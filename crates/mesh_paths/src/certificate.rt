@@ -3,7 +3,7 @@ ghost use Rattle.std.specs.Prelude.{IsTrue, ◌↔◌, IfSome, IfNone, Contains,
 ghost use Rattle.mesh_atoms.specs.declared.graphs.PathRow.{PathRow};
 ghost use Rattle.mesh_atoms.specs.declared.graphs.Arc4.{Arc4};
 ghost use Rattle.mesh_atoms.specs.Nodes.{IsBefore};
-ghost use Rattle.mesh_paths.specs.Paths.{HasCosts, IsAscending, IsCertificate, IsOneCertificate};
+ghost use Rattle.mesh_paths.specs.Paths.{HasCosts, IsAscending, IsCertificate, IsOneCertificate, EveryGraphHasCertificate};
 ghost use Rattle.mesh_paths.specs.Tree.{IsOffered, Meets, IsStart, IsReached, IsAsGood, IsArcMet, IsStep, IsClosed, IsGrounded, IsTree};
 
 use mesh_atoms::{Arc4, Certificate, Graph, NetAddr, PathRow};
@@ -206,4 +206,10 @@ fn is_sum(parent: &PathRow, arc: &Arc4, row: &PathRow) -> bool
 /// Does nothing: its clause says that any two certificates of a graph from one node have the same rows.
 pub fn one_certificate()
     ensures { IsOneCertificate }
+{}
+
+/// Does nothing: its clause says that a graph without free arcs has a certificate from each node, whatever the numbers of
+/// its arcs.
+pub fn every_graph_has_certificate()
+    ensures { EveryGraphHasCertificate }
 {}

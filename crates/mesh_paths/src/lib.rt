@@ -9,7 +9,7 @@ mod radio;
 mod rounds;
 mod settled;
 
-pub use certificate::{check, one_certificate};
+pub use certificate::{check, every_graph_has_certificate, one_certificate};
 pub use frontier::search;
 pub use joined::is_joined;
 pub use mesh_atoms::{Arc4, Certificate, Graph, Pair, PathRow, RadioGraph};
