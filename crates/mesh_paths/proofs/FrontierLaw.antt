@@ -6,14 +6,14 @@ use Rattle.std.proofs.lemmas.List.Elements.{AllWithin-more, at_read}
 use Rattle.mesh_atoms.specs.declared.addr.NetAddr.{NetAddr}
 use Rattle.mesh_atoms.specs.declared.graphs.Arc4.{Arc4}
 use Rattle.mesh_atoms.specs.declared.graphs.PathRow.{PathRow}
-use Rattle.mesh_atoms.specs.Nodes.{IsBefore, IsAtMost, net_cmp}
+use Rattle.mesh_atoms.specs.Nodes.{IsBefore, net_cmp}
 use Rattle.mesh_paths.specs.declared.frontier.Run.{Run}
 use Rattle.mesh_paths.specs.declared.frontier.Step.{Step}
 use Rattle.mesh_paths.specs.Tree.{IsAsGood, MeetsBy}
 use Rattle.mesh_paths.specs.Search.{number_of, IsIndex, IsPart, Puts, Settles, IsSettledRow, row_of, step_of}
 use Rattle.mesh_paths.specs.Rounds.{RowMap, IsMetIn, Betters, IsOfferBy, IsInRange, IsRounds}
 use Rattle.mesh_paths.specs.Frontier.{IsMetOrWaits, IsSearch, IsTaking, OffersAll, offered, Offers, work_in}
-use Rattle.mesh_paths.proofs.Order.{same_node, at_most_itself}
+use Rattle.mesh_paths.proofs.Order.{same_node, at_most_itself, at_most_of_before, as_good_trans}
 use Rattle.mesh_paths.proofs.Index.{in_run}
 use Rattle.mesh_paths.proofs.Rows.{of_each}
 use Rattle.mesh_paths.proofs.SearchLaw.{head_or_tail}
@@ -26,24 +26,11 @@ one_row map r t has_r has_t e =
     let h : Some r ≡ Some t = sym at ∙ has_t in
     (cc)
 
-before_at_most : (a b c : NetAddr) → IsBefore a b → IsAtMost b c → IsAtMost a c
-before_at_most a b c f g = elim f [
-  | inl x ↦ elim g [
-    | inl y ↦ inl (omega arith)
-    | inr (e, y) ↦ inl (omega arith)
-  ]
-  | inr (d, x) ↦ elim g [
-    | inl y ↦ inl (omega arith)
-    | inr (e, y) ↦ inr (omega arith, omega arith)
-  ]
-]
-
 -- what is better than a row is as good as what that is as good as
-as_good_still : (row q : PathRow) (metric : ℕ) (parent : NetAddr) → (row.metric < q.metric) ⊎ ((row.metric ≡ q.metric) × IsBefore row.parent q.parent) → IsAsGood q metric parent → IsAsGood row metric parent
-as_good_still row q metric parent better good = elim better [
-  | inl less ↦ elim good [ inl l ↦ inl (omega arith) | inr (e, _) ↦ inl (omega arith) ]
-  | inr (same, before) ↦ elim good [ inl l ↦ inl (omega arith) | inr (e, upto) ↦ inr (omega arith, before_at_most row.parent q.parent parent before upto) ]
-]
+as_good_still : (row q : PathRow) (metric : ℕ) (parent : NetAddr) →
+    (row.metric < q.metric) ⊎ ((row.metric ≡ q.metric) × IsBefore row.parent q.parent) → IsAsGood q metric parent → IsAsGood row metric parent
+as_good_still row q metric parent better good =
+    as_good_trans row q metric parent (elim better [ inl less ↦ inl less | inr (same, before) ↦ inr (same, at_most_of_before row.parent q.parent before) ]) good
 
 one_done : (arc : Arc4) (map : RowMap) (steps : List Step) → IsMetOrWaits map steps arc → (a : Arc4) → Contains (arc ∷ []) a → IsMetOrWaits map steps a
 one_done arc map steps state a has = elim (head_or_tail arc [] a has) [

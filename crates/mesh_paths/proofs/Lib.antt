@@ -1,6 +1,6 @@
 -- Lemmas for crates above, each file with the crates that cite it.
 pub mod Admitted  -- probe, settled
-pub mod Existing  -- settled
+pub mod Existing  -- routes
 pub mod LinksStay  -- probe
 pub mod Order  -- data, laws, routes
 pub mod Rows  -- data, probe, routes

@@ -1,7 +1,5 @@
 -- What arcs offer from rows to nodes without a row, the least of these offers, and a row more.
-use Rattle.std.proofs.Common.{◌≡◌, ℕ, zero, suc, ◌+◌, ◌<◌, ◌≤◌, ◌⊎◌, inl, inr, refl, sym, ◌∙◌, ap, subst, arith, List, [], ◌∷◌, length, slice_index_or, Contains}
-use Rattle.std.proofs.lemmas.Bool.{cases_lt}
-use Rattle.std.proofs.lemmas.List.Elements.{Contains-get_or}
+use Rattle.std.proofs.Common.{◌≡◌, ◌+◌, ◌⊎◌, inl, inr, refl, sym, ◌∙◌, ap, subst, arith, List, [], ◌∷◌, Contains}
 use Rattle.mesh_atoms.specs.declared.addr.NetAddr.{NetAddr}
 use Rattle.mesh_atoms.specs.Nodes.{IsBefore}
 use Rattle.mesh_atoms.specs.declared.graphs.Arc4.{Arc4}
@@ -9,10 +7,10 @@ use Rattle.mesh_atoms.specs.declared.graphs.PathRow.{PathRow}
 use Rattle.mesh_paths.specs.Paths.{IsAscending}
 use Rattle.mesh_paths.specs.Search.{Settles}
 use Rattle.mesh_paths.specs.Tree.{IsAsGood}
-use Rattle.mesh_paths.proofs.Order.{same_node, before_trans, at_most_itself, at_most_or_before, at_most_both, at_most_trans, before_at_most, single}
+use Rattle.mesh_paths.proofs.Order.{same_node, before_trans, at_most_itself, at_most_or_before, at_most_both, as_good_trans, one_as_good}
+use Rattle.mesh_paths.proofs.Order.{single, tail_ascends, head_before, ascends_cons}
 use Rattle.mesh_paths.proofs.SearchLaw.{in_tail, head_or_tail}
 use Rattle.mesh_paths.proofs.ShortLists.{none_of, here}
-use Rattle.mesh_paths.proofs.Unique.{tail_ascends, head_before}
 
 -- Rows at their nodes
 
@@ -37,35 +35,6 @@ row_or_none (r ∷ rows) node = elim (same_node r.node node) [
   ]
 ]
 
--- The order of offers
-
-pub as_good_itself : (row : PathRow) → IsAsGood row row.metric row.parent
-as_good_itself row = inr (refl, at_most_itself row.parent row.parent refl)
-
-pub as_good_trans : (a b c : PathRow) → IsAsGood a b.metric b.parent → IsAsGood b c.metric c.parent → IsAsGood a c.metric c.parent
-as_good_trans a b c f g = elim f [
-  | inl x ↦ elim g [
-    | inl y ↦ inl (omega arith)
-    | inr (e, y) ↦ inl (omega arith)
-  ]
-  | inr (d, x) ↦ elim g [
-    | inl y ↦ inl (omega arith)
-    | inr (e, y) ↦ inr (omega arith, at_most_trans a.parent b.parent c.parent x y)
-  ]
-]
-
-pub one_as_good : (a b : PathRow) → IsAsGood a b.metric b.parent ⊎ IsAsGood b a.metric a.parent
-one_as_good a b = elim (cases_lt a.metric b.metric) [
-  | inl less ↦ inl (inl less)
-  | inr more ↦ elim (cases_lt b.metric a.metric) [
-    | inl less ↦ inr (inl less)
-    | inr upto ↦ elim (at_most_or_before a.parent b.parent) [
-      | inl at_most ↦ inl (inr (omega arith, at_most))
-      | inr before ↦ inr (inr (omega arith, before_at_most b.parent a.parent before))
-    ]
-  ]
-]
-
 -- The least offer
 
 -- the arc leads from a row's node, and offers the row
@@ -73,19 +42,19 @@ abbrev pub LeadsBy : List PathRow → Arc4 → PathRow → Type 0
 LeadsBy rows arc row = (first : PathRow) × Contains rows first × (arc.from ≡ first.node) × (arc.to ≡ row.node)
     × (first.metric + arc.metric ≡ row.metric) × (first.node ≡ row.parent)
 
--- one of the arcs does so
+-- one of the arcs leads from a row's node, and offers the row
 abbrev pub Leads : List Arc4 → List PathRow → PathRow → Type 0
 Leads arcs rows row = (arc : Arc4) × Contains arcs arc × LeadsBy rows arc row
 
--- and leads to a node that has no row
+-- one of the arcs offers the row, and no row has its node
 abbrev pub IsNew : List Arc4 → List PathRow → PathRow → Type 0
 IsNew arcs rows row = Leads arcs rows row × HasNoRow rows row.node
 
--- the least of these offers
+-- the row is offered to a node without a row, and no such offer is better
 abbrev pub IsLeastNew : List Arc4 → List PathRow → PathRow → Type 0
 IsLeastNew arcs rows row = IsNew arcs rows row × ((other : PathRow) → IsNew arcs rows other → IsAsGood row other.metric other.parent)
 
--- there is a least one, or there is none
+-- some offer to a node without a row is the least, or there is no such offer
 abbrev pub IsEither : List Arc4 → List PathRow → Type 0
 IsEither arcs rows = ((row : PathRow) × IsLeastNew arcs rows row) ⊎ ((row : PathRow) → IsNew arcs rows row → ⊥)
 
@@ -98,7 +67,7 @@ module _ (rows : List PathRow) (up : IsAscending rows) where
       let metrics : f.metric ≡ first.metric = ap (λ (x : PathRow). x.metric) same in
       inr (omega arith, at_most_itself first.node other.parent (ap (λ (x : PathRow). x.node) (sym same) ∙ parent))
 
-  -- of one arc
+  -- the least offer of one arc
   of_one : (arc : Arc4) → IsEither (arc ∷ []) rows
   of_one arc = elim (row_or_none rows arc.from) [
     | inr none ↦ inr (λ row new.
@@ -116,16 +85,22 @@ module _ (rows : List PathRow) (up : IsAscending rows) where
           ])
       | inr none ↦
           let row : PathRow = record { node = arc.to; metric = first.metric + arc.metric; parent = first.node } in
-          inl (row, (((arc, here arc [], (first, has, sym at, refl, refl, refl)), none), λ other new.
-          let (a, there, by) = new.0 in
-          elim (head_or_tail arc [] a there) [
-            | inl same ↦ offer_by arc first other has at (subst (λ (x : Arc4). LeadsBy rows x other) (sym same) by)
-            | inr later ↦ absurd (none_of a later)
-          ]))
+          inl (
+            row,
+            (
+              ((arc, here arc [], (first, has, sym at, refl, refl, refl)), none),
+              λ other new.
+                  let (a, there, by) = new.0 in
+                  elim (head_or_tail arc [] a there) [
+                    | inl same ↦ offer_by arc first other has at (subst (λ (x : Arc4). LeadsBy rows x other) (sym same) by)
+                    | inr later ↦ absurd (none_of a later)
+                  ],
+            ),
+          )
     ]
   ]
 
-  -- offers of the first arc or of the others
+  -- an offer is that of the first arc, or of the others
   split : (arc : Arc4) (arcs : List Arc4) (row : PathRow) → IsNew (arc ∷ arcs) rows row → IsNew (arc ∷ []) rows row ⊎ IsNew arcs rows row
   split arc arcs row ((a, there, by), none) = elim (head_or_tail arc arcs a there) [
     | inl same ↦ inl ((a, (0, omega arith, same), by), none)
@@ -142,24 +117,51 @@ module _ (rows : List PathRow) (up : IsAscending rows) where
   of_rest arc arcs row ((a, there, by), none) = ((a, in_tail arc arcs a there, by), none)
 
   both : (arc : Arc4) (arcs : List Arc4) → IsEither (arc ∷ []) rows → IsEither arcs rows → IsEither (arc ∷ arcs) rows
-  both arc arcs (inr none) (inr nothing) = inr (λ row new. elim (split arc arcs row new) [ inl first ↦ none row first | inr rest ↦ nothing row rest ])
-  both arc arcs (inr none) (inl (x, least)) = inl (x, (of_rest arc arcs x least.0, λ other is. elim (split arc arcs other is) [
-    | inl first ↦ absurd (none other first)
-    | inr rest ↦ least.1 other rest
-  ]))
-  both arc arcs (inl (x, least)) (inr nothing) = inl (x, (of_first arc arcs x least.0, λ other is. elim (split arc arcs other is) [
-    | inl first ↦ least.1 other first
-    | inr rest ↦ absurd (nothing other rest)
-  ]))
+  both arc arcs (inr none) (inr nothing) = inr (λ row new. elim (split arc arcs row new) [
+    | inl first ↦ none row first
+    | inr rest ↦ nothing row rest
+  ])
+  both arc arcs (inr none) (inl (x, least)) = inl (
+    x,
+    (
+      of_rest arc arcs x least.0,
+      λ other is. elim (split arc arcs other is) [
+        | inl first ↦ absurd (none other first)
+        | inr rest ↦ least.1 other rest
+      ],
+    ),
+  )
+  both arc arcs (inl (x, least)) (inr nothing) = inl (
+    x,
+    (
+      of_first arc arcs x least.0,
+      λ other is. elim (split arc arcs other is) [
+        | inl first ↦ least.1 other first
+        | inr rest ↦ absurd (nothing other rest)
+      ],
+    ),
+  )
   both arc arcs (inl (x, least_x)) (inl (y, least_y)) = elim (one_as_good x y) [
-    | inl good ↦ inl (x, (of_first arc arcs x least_x.0, λ other is. elim (split arc arcs other is) [
-      | inl first ↦ least_x.1 other first
-      | inr rest ↦ as_good_trans x y other good (least_y.1 other rest)
-    ]))
-    | inr good ↦ inl (y, (of_rest arc arcs y least_y.0, λ other is. elim (split arc arcs other is) [
-      | inl first ↦ as_good_trans y x other good (least_x.1 other first)
-      | inr rest ↦ least_y.1 other rest
-    ]))
+    | inl good ↦ inl (
+      x,
+      (
+        of_first arc arcs x least_x.0,
+        λ other is. elim (split arc arcs other is) [
+          | inl first ↦ least_x.1 other first
+          | inr rest ↦ as_good_trans x y other.metric other.parent good (least_y.1 other rest)
+        ],
+      ),
+    )
+    | inr good ↦ inl (
+      y,
+      (
+        of_rest arc arcs y least_y.0,
+        λ other is. elim (split arc arcs other is) [
+          | inl first ↦ as_good_trans y x other.metric other.parent good (least_x.1 other first)
+          | inr rest ↦ least_y.1 other rest
+        ],
+      ),
+    )
   ]
 
   pub least_new : (arcs : List Arc4) → IsEither arcs rows
@@ -168,46 +170,47 @@ module _ (rows : List PathRow) (up : IsAscending rows) where
 
 -- A row more
 
-ascends_cons : (x : PathRow) (rows : List PathRow) → IsAscending rows → ((y : PathRow) → Contains rows y → IsBefore x.node y.node) → IsAscending (x ∷ rows)
-ascends_cons x rows up before zero d l = before (slice_index_or rows 0 d) (Contains-get_or rows 0 d (omega arith))
-ascends_cons x rows up before (suc k) d l = let e : suc k + 1 ≡ suc (k + 1) = omega arith in rw e (up k d (omega arith))
+-- a row goes in before all others
+put_first : (x : PathRow) (rows : List PathRow) → Settles (Contains rows) x (Contains (x ∷ rows))
+put_first x rows = record { new = here x rows; kept = λ r has. in_tail x rows r has; cases = λ r has. head_or_tail x rows r has }
 
--- at the place of its node
-pub put_in : (x : PathRow) (rows : List PathRow) → IsAscending rows → HasNoRow rows x.node → (more : List PathRow) × IsAscending more × Settles (Contains rows) x (Contains more)
-put_in x [] up none = (x ∷ [], ascends_cons x [] up (λ y has. absurd (none_of y has)), record { new = here x []; kept = λ r has. in_tail x [] r has; cases = λ r has. head_or_tail x [] r has })
+-- a row goes in behind the first
+put_behind : (r x : PathRow) (rows more : List PathRow) → Settles (Contains rows) x (Contains more) →
+    Settles (Contains (r ∷ rows)) x (Contains (r ∷ more))
+put_behind r x rows more settles = record {
+  new = in_tail r more x settles.new;
+  kept = λ t has. elim (head_or_tail r rows t has) [
+    | inl same ↦ (0, omega arith, same)
+    | inr later ↦ in_tail r more t (settles.kept t later)
+  ];
+  cases = λ t has. elim (head_or_tail r more t has) [
+    | inl same ↦ inr (0, omega arith, same)
+    | inr later ↦ elim (settles.cases t later) [
+      | inl same ↦ inl same
+      | inr old ↦ inr (in_tail r rows t old)
+    ]
+  ];
+}
+
+-- a row whose node has none goes in at the place of its node
+pub put_in : (x : PathRow) (rows : List PathRow) → IsAscending rows → HasNoRow rows x.node →
+    (more : List PathRow) × IsAscending more × Settles (Contains rows) x (Contains more)
+put_in x [] up none = (x ∷ [], ascends_cons x [] up (λ y has. absurd (none_of y has)), put_first x [])
 put_in x (r ∷ rows) up none = elim (at_most_or_before x.node r.node) [
   | inl at_most ↦ elim (at_most_or_before r.node x.node) [
     | inl also ↦ absurd (none r (here r rows) (at_most_both r.node x.node also at_most))
-    | inr before ↦ (
-      x ∷ r ∷ rows,
-      ascends_cons x (r ∷ rows) up (λ y has. elim (head_or_tail r rows y has) [
-        | inl same ↦ subst (λ (z : PathRow). IsBefore x.node z.node) same before
-        | inr later ↦ before_trans x.node r.node y.node before (head_before r rows up y later)
-      ]),
-      record { new = here x (r ∷ rows); kept = λ t has. in_tail x (r ∷ rows) t has; cases = λ t has. head_or_tail x (r ∷ rows) t has },
-    )
+    | inr before ↦
+        let later : (y : PathRow) → Contains (r ∷ rows) y → IsBefore x.node y.node = λ y has. elim (head_or_tail r rows y has) [
+          | inl same ↦ subst (λ (z : PathRow). IsBefore x.node z.node) same before
+          | inr behind ↦ before_trans x.node r.node y.node before (head_before r rows up y behind)
+        ] in
+        (x ∷ r ∷ rows, ascends_cons x (r ∷ rows) up later, put_first x (r ∷ rows))
   ]
   | inr before ↦
       let (more, up_more, settles) = put_in x rows (tail_ascends r rows up) (λ t has. none t (in_tail r rows t has)) in
-      (
-        r ∷ more,
-        ascends_cons r more up_more (λ y has. elim (settles.cases y has) [
-          | inl same ↦ subst (λ (z : PathRow). IsBefore r.node z.node) same before
-          | inr old ↦ head_before r rows up y old
-        ]),
-        record {
-          new = in_tail r more x settles.new;
-          kept = λ t has. elim (head_or_tail r rows t has) [
-            | inl same ↦ (0, omega arith, same)
-            | inr later ↦ in_tail r more t (settles.kept t later)
-          ];
-          cases = λ t has. elim (head_or_tail r more t has) [
-            | inl same ↦ inr (0, omega arith, same)
-            | inr later ↦ elim (settles.cases t later) [
-              | inl same ↦ inl same
-              | inr old ↦ inr (in_tail r rows t old)
-            ]
-          ];
-        },
-      )
+      let later : (y : PathRow) → Contains more y → IsBefore r.node y.node = λ y has. elim (settles.cases y has) [
+        | inl same ↦ subst (λ (z : PathRow). IsBefore r.node z.node) same before
+        | inr old ↦ head_before r rows up y old
+      ] in
+      (r ∷ more, ascends_cons r more up_more later, put_behind r x rows more settles)
 ]

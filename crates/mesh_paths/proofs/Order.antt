@@ -1,6 +1,8 @@
--- The order of nodes, and ascending rows.
-use Rattle.std.proofs.Common.{◌≡◌, ℕ, zero, suc, ◌+◌, ◌-◌, ◌<◌, ◌⊎◌, inl, inr, sym, ◌∙◌, ap, arith, List, length, Contains, slice_index_or, Some}
+-- The order of nodes and of offers, and ascending rows.
+use Rattle.std.proofs.Common.{◌≡◌, ℕ, zero, suc, ◌+◌, ◌-◌, ◌<◌, ◌≤◌, ◌⊎◌, inl, inr, refl, sym, ◌∙◌, ap, subst, arith, Some}
+use Rattle.std.proofs.Common.{List, ◌∷◌, length, Contains, slice_index_or}
 use Rattle.std.proofs.lemmas.Bool.{cases_eq, cases_lt}
+use Rattle.std.proofs.lemmas.List.Elements.{Contains-get_or}
 use Rattle.std.proofs.lemmas.Option.{slice_get-get_or, get_or_from_slice_get}
 use Rattle.mesh_atoms.specs.declared.addr.Addr4.{Addr4}
 use Rattle.mesh_atoms.specs.declared.addr.NetAddr.{NetAddr}
@@ -8,6 +10,9 @@ use Rattle.mesh_atoms.specs.Nodes.{IsBefore, IsAtMost}
 use Rattle.mesh_atoms.specs.declared.graphs.PathRow.{PathRow}
 use Rattle.mesh_atoms.proofs.Nets.{same_net}
 use Rattle.mesh_paths.specs.Paths.{IsAscending}
+use Rattle.mesh_paths.specs.Tree.{IsAsGood}
+
+-- Nodes
 
 pub same_node : (a b : NetAddr) → (a ≡ b) ⊎ (a ≡ b → ⊥)
 same_node a b = elim (cases_eq a.addr.0 b.addr.0) [
@@ -42,8 +47,8 @@ at_most_or_before a b = elim (cases_lt b.addr.0 a.addr.0) [
   ]
 ]
 
-pub before_at_most : (a b : NetAddr) → IsBefore a b → IsAtMost a b
-before_at_most a b f = elim f [ inl less ↦ inl less | inr (same, less) ↦ inr (same, omega arith) ]
+pub at_most_of_before : (a b : NetAddr) → IsBefore a b → IsAtMost a b
+at_most_of_before a b before = elim before [ inl less ↦ inl less | inr (same, less) ↦ inr (same, omega arith) ]
 
 pub at_most_trans : (a b c : NetAddr) → IsAtMost a b → IsAtMost b c → IsAtMost a c
 at_most_trans a b c f g = elim f [
@@ -83,6 +88,40 @@ at_most_both a b f g = elim f [
   ]
 ]
 
+-- Offers
+
+pub as_good_itself : (row : PathRow) → IsAsGood row row.metric row.parent
+as_good_itself row = inr (refl, at_most_itself row.parent row.parent refl)
+
+pub as_good_trans : (a b : PathRow) (metric : ℕ) (parent : NetAddr) → IsAsGood a b.metric b.parent → IsAsGood b metric parent →
+    IsAsGood a metric parent
+as_good_trans a b metric parent f g = elim f [
+  | inl x ↦ elim g [
+    | inl y ↦ inl (omega arith)
+    | inr (e, y) ↦ inl (omega arith)
+  ]
+  | inr (d, x) ↦ elim g [
+    | inl y ↦ inl (omega arith)
+    | inr (e, y) ↦ inr (omega arith, at_most_trans a.parent b.parent parent x y)
+  ]
+]
+
+-- one of two rows is as good as the other
+pub one_as_good : (a b : PathRow) → IsAsGood a b.metric b.parent ⊎ IsAsGood b a.metric a.parent
+one_as_good a b = elim (cases_lt a.metric b.metric) [
+  | inl less ↦ inl (inl less)
+  | inr more ↦ elim (cases_lt b.metric a.metric) [
+    | inl less ↦ inr (inl less)
+    | inr upto ↦ elim (at_most_or_before a.parent b.parent) [
+      | inl at_most ↦ inl (inr (omega arith, at_most))
+      | inr before ↦ inr (inr (omega arith, at_most_of_before b.parent a.parent before))
+    ]
+  ]
+]
+
+pub no_dearer : (row : PathRow) (metric : ℕ) (parent : NetAddr) → IsAsGood row metric parent → row.metric ≤ metric
+no_dearer row metric parent good = elim good [ inl less ↦ omega arith | inr (same, _) ↦ omega arith ]
+
 -- Ascending rows
 
 -- each row stands before all later ones
@@ -113,3 +152,18 @@ single rows up r t (i, in_i, is_r) (j, in_j, is_t) e = elim (cases_lt i j) [
         (cc)
   ]
 ]
+
+-- of a row and the rows behind it
+pub tail_ascends : (x : PathRow) (xs : List PathRow) → IsAscending (x ∷ xs) → IsAscending xs
+tail_ascends x xs up k d l = let e : suc k + 1 ≡ suc (k + 1) = omega arith in rw e at (up (suc k) d (omega arith))
+
+pub head_before : (x : PathRow) (xs : List PathRow) → IsAscending (x ∷ xs) → (y : PathRow) → Contains xs y → IsBefore x.node y.node
+head_before x xs up y (k, l, is) =
+    let e : 0 + (k + 1) ≡ suc k = omega arith in
+    let before : IsBefore x.node (slice_index_or xs k y).node = rw e at (before_later (x ∷ xs) up 0 k y (omega arith)) in
+    subst (λ (r : PathRow). IsBefore x.node r.node) is before
+
+pub ascends_cons : (x : PathRow) (xs : List PathRow) → IsAscending xs → ((y : PathRow) → Contains xs y → IsBefore x.node y.node) →
+    IsAscending (x ∷ xs)
+ascends_cons x xs up before zero d l = before (slice_index_or xs 0 d) (Contains-get_or xs 0 d (omega arith))
+ascends_cons x xs up before (suc k) d l = let e : suc k + 1 ≡ suc (k + 1) = omega arith in rw e (up k d (omega arith))

@@ -1,24 +1,14 @@
 -- A graph has one certificate from a node.
-use Rattle.std.proofs.Common.{◌≡◌, ℕ, suc, ◌+◌, ◌⊎◌, inl, inr, refl, sym, ◌∙◌, ap, subst, arith, List, [], ◌∷◌, slice_index_or, Contains}
+use Rattle.std.proofs.Common.{◌≡◌, ℕ, ◌⊎◌, inl, inr, refl, sym, ◌∙◌, ap, subst, arith, List, [], ◌∷◌, Contains}
 use Rattle.mesh_atoms.specs.declared.addr.NetAddr.{NetAddr}
-use Rattle.mesh_atoms.specs.Nodes.{IsBefore}
 use Rattle.mesh_atoms.specs.Walk.{Least, Fits}
 use Rattle.mesh_atoms.specs.declared.graphs.Graph.{Graph}
 use Rattle.mesh_atoms.specs.declared.graphs.PathRow.{PathRow}
 use Rattle.mesh_atoms.specs.declared.graphs.Certificate.{Certificate}
 use Rattle.mesh_paths.specs.Paths.{InGraph, IsPathRow, IsAscending, IsCertificate, IsOneCertificate}
-use Rattle.mesh_paths.proofs.Order.{same_node, at_most_both, before_later, before_trans, not_before_itself}
+use Rattle.mesh_paths.proofs.Order.{same_node, at_most_both, before_trans, not_before_itself, tail_ascends, head_before}
 use Rattle.mesh_paths.proofs.SearchLaw.{in_tail, head_or_tail}
 use Rattle.mesh_paths.proofs.TreeLaw.{one_least}
-
-pub tail_ascends : (x : PathRow) (xs : List PathRow) → IsAscending (x ∷ xs) → IsAscending xs
-tail_ascends x xs up k d l = let e : suc k + 1 ≡ suc (k + 1) = omega arith in rw e at (up (suc k) d (omega arith))
-
-pub head_before : (x : PathRow) (xs : List PathRow) → IsAscending (x ∷ xs) → (y : PathRow) → Contains xs y → IsBefore x.node y.node
-head_before x xs up y (k, l, is) =
-    let e : 0 + (k + 1) ≡ suc k = omega arith in
-    let before : IsBefore x.node (slice_index_or xs k y).node = rw e at (before_later (x ∷ xs) up 0 k y (omega arith)) in
-    subst (λ (r : PathRow). IsBefore x.node r.node) is before
 
 same_tail : (x : PathRow) (xs ys : List PathRow) → IsAscending (x ∷ xs) → ((z : PathRow) → Contains (x ∷ xs) z → Contains (x ∷ ys) z) → (z : PathRow) → Contains xs z → Contains ys z
 same_tail x xs ys up to z has = elim (head_or_tail x ys z (to z (in_tail x xs z has))) [

@@ -208,8 +208,8 @@ pub fn one_certificate()
     ensures { IsOneCertificate }
 {}
 
-/// Does nothing: its clause says that a graph without free arcs has a certificate from each node, whatever the numbers of
-/// its arcs.
+/// Does nothing: its clause says that a graph has a certificate from each node, where no arc is free. It may have any number
+/// of arcs, of any metrics.
 pub fn every_graph_has_certificate()
     ensures { EveryGraphHasCertificate }
 {}
