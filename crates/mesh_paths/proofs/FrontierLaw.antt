@@ -28,9 +28,14 @@ one_row map r t has_r has_t e =
 
 -- what is better than a row is as good as what that is as good as
 as_good_still : (row q : PathRow) (metric : ℕ) (parent : NetAddr) →
-    (row.metric < q.metric) ⊎ ((row.metric ≡ q.metric) × IsBefore row.parent q.parent) → IsAsGood q metric parent → IsAsGood row metric parent
+    (row.metric < q.metric) ⊎ ((row.metric ≡ q.metric) × IsBefore row.parent q.parent) → IsAsGood q metric parent →
+    IsAsGood row metric parent
 as_good_still row q metric parent better good =
-    as_good_trans row q metric parent (elim better [ inl less ↦ inl less | inr (same, before) ↦ inr (same, at_most_of_before row.parent q.parent before) ]) good
+    let no_worse : IsAsGood row q.metric q.parent = elim better [
+      | inl less ↦ inl less
+      | inr (same, before) ↦ inr (same, at_most_of_before row.parent q.parent before)
+    ] in
+    as_good_trans row q metric parent no_worse good
 
 one_done : (arc : Arc4) (map : RowMap) (steps : List Step) → IsMetOrWaits map steps arc → (a : Arc4) → Contains (arc ∷ []) a → IsMetOrWaits map steps a
 one_done arc map steps state a has = elim (head_or_tail arc [] a has) [
