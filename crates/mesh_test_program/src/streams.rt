@@ -71,7 +71,38 @@ to = \"s.w0\"
 metric = 2
 ";
 
-pub(crate) static CASES: [Case; 6] = [
+// A scenario of a router alone for a second, and its whole trace.
+const WHOLE: &str = "end_ms = 1000
+[[router]]
+name = \"s\"
+[[router.interface]]
+name = \"w0\"
+addresses = [\"10.0.0.1\"]
+---
+tick 0 s
+relays s flooding w0 none
+relays s routing none
+sent 0 s w0 00008300220a000001000c01100164001001580710017701000a000001000402100100
+tick 8192 s
+relays s flooding w0 none
+relays s routing none
+";
+
+// The same scenario, and its trace without the last event.
+const BROKEN_OFF: &str = "end_ms = 1000
+[[router]]
+name = \"s\"
+[[router.interface]]
+name = \"w0\"
+addresses = [\"10.0.0.1\"]
+---
+tick 0 s
+relays s flooding w0 none
+relays s routing none
+sent 0 s w0 00008300220a000001000c01100164001001580710017701000a000001000402100100
+";
+
+pub(crate) static CASES: [Case; 10] = [
     Case {
         name: "the second call of the source fails",
         words: &["dump"],
@@ -141,6 +172,40 @@ router s 10.0.0.1
  routing none
 settled yes
 ",
+        ..QUIET
+    },
+    Case {
+        name: "the second call of the source fails, and no trace is checked",
+        words: &["replay"],
+        input: WHOLE,
+        takes: &[2],
+        status: 2,
+        err: "mesh: read fault\n",
+        ..QUIET
+    },
+    Case {
+        name: "the answer to a trace isn't written",
+        words: &["replay"],
+        input: WHOLE,
+        puts: &[1],
+        status: 3,
+        ..QUIET
+    },
+    // Tables that hold nothing are enough for the trace of a router alone.
+    Case {
+        name: "the trace of a router alone needs no room",
+        over: Over::Nothing,
+        words: &["replay"],
+        input: WHOLE,
+        out: "replay yes lines 7\n",
+        ..QUIET
+    },
+    Case {
+        name: "the last event of a trace is missing",
+        words: &["replay"],
+        input: BROKEN_OFF,
+        status: 9,
+        out: "replay no line 5\n",
         ..QUIET
     },
 ];
