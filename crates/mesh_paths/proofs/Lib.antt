@@ -7,10 +7,10 @@ pub mod Rows  -- data, probe, routes
 pub mod Scenarios  -- data, emulate, laws, probe, settled, texts
 pub mod SearchLaw  -- data, probe, routes
 pub mod Sets  -- routes
-pub mod SettledDecisions  -- laws, probe, settled
+pub mod SettledDecisions  -- laws, probe, routes, settled
 pub mod SettledLaw  -- emulate, settled
 pub mod SettledNeighbours  -- data, probe, settled
-pub mod ShortLists  -- data, laws, probe
+pub mod ShortLists  -- data, laws, probe, routes
 pub mod TreeLaw  -- routes
 -- Lemmas of this crate alone.
 mod Found

@@ -81,14 +81,14 @@ module _ (s t : State) (arcs : SameArcs s t) (self : NetAddr) where
   back : (a b : NetAddr) (m : ℕ) → RouteArc t a b m → RouteArc s a b m
   back a b m = (arcs a b m).1
 
-  parent_stays : {p node : NetAddr} → IsParent s self p node → IsParent t self p node
+  pub parent_stays : {p node : NetAddr} → IsParent s self p node → IsParent t self p node
   parent_stays is = record { fits = fits_by to back is.fits; least = λ q fits. is.least q (fits_by back to fits) }
 
   first_stays : {node f : NetAddr} → FirstNode (IsParent s self) self node f → FirstNode (IsParent t self) self node f
   first_stays (AtSelf parent) = AtSelf (parent_stays parent)
   first_stays (Through parent away rest) = Through (parent_stays parent) away (first_stays rest)
 
-  next_hop_stays : (now later : ℕ) → SameWays s now t later → (row : Route) → IsNextHop s now self row → IsNextHop t later self row
+  pub next_hop_stays : (now later : ℕ) → SameWays s now t later → (row : Route) → IsNextHop s now self row → IsNextHop t later self row
   next_hop_stays now later same row hop = record {
     first = hop.first;
     on_the_way = first_stays hop.on_the_way;

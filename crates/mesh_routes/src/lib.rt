@@ -18,6 +18,6 @@ pub use hops::{
     Flooding, Owner, Purpose, Routing, RoutingSet, Way, best_way, is_outside, known_arc, owner_at,
     owner_by, two_hop_arc, way_of,
 };
-pub use laws::routes_and_graphs_stay;
+pub use laws::{routers_have_routes, routes_and_graphs_stay};
 pub use mesh_atoms::Route;
 pub use routes::routes_of;

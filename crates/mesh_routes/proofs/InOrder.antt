@@ -1,0 +1,124 @@
+-- The least of a list, and lists in order.
+use Rattle.std.proofs.Common.{◌≡◌, zero, suc, ◌⊎◌, inl, inr, sym, subst, arith, List, [], ◌∷◌, slice_index_or, Contains}
+use Rattle.std.specs.List.{AllPairs}
+use Rattle.std.proofs.lemmas.List.Elements.{Contains-get_or}
+use Rattle.mesh_paths.proofs.SearchLaw.{head_or_tail, in_tail}
+use Rattle.mesh_paths.proofs.ShortLists.{none_of, here}
+
+-- The least of a list in an order
+
+module _ {X : Type 0} (IsUpto : X → X → Type 0) (total : (a b : X) → IsUpto a b ⊎ IsUpto b a)
+    (further : (a b c : X) → IsUpto a b → IsUpto b c → IsUpto a c) where
+  abbrev pub IsLeastOf : List X → X → Type 0
+  IsLeastOf xs w = Contains xs w × ((v : X) → Contains xs v → IsUpto w v)
+
+  itself : (a : X) → IsUpto a a
+  itself a = elim (total a a) [ inl h ↦ h | inr h ↦ h ]
+
+  least_from : (y : X) (ys : List X) → (w : X) × IsLeastOf (y ∷ ys) w
+  least_from y [] = (
+    y,
+    (
+      here y [],
+      λ v has. elim (head_or_tail y [] v has) [
+        | inl same ↦ subst (IsUpto y) same (itself y)
+        | inr later ↦ absurd (none_of v later)
+      ],
+    ),
+  )
+  least_from y (z ∷ zs) =
+      let (w, (stands, least)) = least_from z zs in
+      elim (total y w) [
+        | inl before ↦ (
+          y,
+          (
+            here y (z ∷ zs),
+            λ v has. elim (head_or_tail y (z ∷ zs) v has) [
+              | inl same ↦ subst (IsUpto y) same (itself y)
+              | inr later ↦ further y w v before (least v later)
+            ],
+          ),
+        )
+        | inr after ↦ (
+          w,
+          (
+            in_tail y (z ∷ zs) w stands,
+            λ v has. elim (head_or_tail y (z ∷ zs) v has) [
+              | inl same ↦ subst (IsUpto w) same after
+              | inr later ↦ least v later
+            ],
+          ),
+        )
+      ]
+
+  pub least_of_list : (xs : List X) (x : X) → Contains xs x → (w : X) × IsLeastOf xs w
+  least_of_list [] x has = absurd (none_of x has)
+  least_of_list (y ∷ ys) x has = least_from y ys
+
+-- Lists in order
+
+pairs_front : {X : Type 0} (R : X → X → Type 0) (x : X) (xs : List X) → ((y : X) → Contains xs y → R x y) →
+    AllPairs R xs → AllPairs R (x ∷ xs)
+pairs_front R x xs front rest zero zero d less low = absurd (omega arith)
+pairs_front R x xs front rest zero (suc j) d less low = front (slice_index_or xs j d) (Contains-get_or xs j d (omega arith))
+pairs_front R x xs front rest (suc i) zero d less low = absurd (omega arith)
+pairs_front R x xs front rest (suc i) (suc j) d less low = rest i j d (omega arith) (omega arith)
+
+pairs_rest : {X : Type 0} (R : X → X → Type 0) (x : X) (xs : List X) → AllPairs R (x ∷ xs) → AllPairs R xs
+pairs_rest R x xs pairs i j d less low = pairs (suc i) (suc j) d (omega arith) (omega arith)
+
+pairs_head : {X : Type 0} (R : X → X → Type 0) (x : X) (xs : List X) → AllPairs R (x ∷ xs) → (y : X) → Contains xs y → R x y
+pairs_head R x xs pairs y (k, l, e) = subst (R x) e (pairs 0 (suc k) y (omega arith) (omega arith))
+
+-- Where each element of a list in order gives another element or is left out, those that are given are in order
+module _ {A B N : Type 0} (of : A → N) (to : B → N) (IsBefore : N → N → Type 0) (Right : B → Type 0) (IsLeftOut : A → Type 0) where
+  pub record Gives (xs : List A) (ys : List B) : Type 0 where
+    pub each : (y : B) → Contains ys y → Right y × ((x : A) × Contains xs x × (to y ≡ of x))
+    pub all : (x : A) → Contains xs x → IsLeftOut x ⊎ ((y : B) × Contains ys y × (to y ≡ of x))
+    pub ordered : AllPairs (λ (y z : B). IsBefore (to y) (to z)) ys
+
+  abbrev pub GivesOne : A → Type 0
+  GivesOne x = IsLeftOut x ⊎ ((y : B) × Right y × (to y ≡ of x))
+
+  gives_none : (x : A) (xs : List A) (ys : List B) → IsLeftOut x → Gives xs ys → Gives (x ∷ xs) ys
+  gives_none x xs ys none are = record {
+    each = λ y has. let (right, (z, within, at)) = are.each y has in (right, (z, in_tail x xs z within, at));
+    all = λ z has. elim (head_or_tail x xs z has) [ inl same ↦ inl (subst IsLeftOut same none) | inr later ↦ are.all z later ];
+    ordered = are.ordered;
+  }
+
+  gives_more : (x : A) (xs : List A) (ys : List B) (y : B) → Right y → to y ≡ of x →
+      AllPairs (λ (a b : A). IsBefore (of a) (of b)) (x ∷ xs) → Gives xs ys → Gives (x ∷ xs) (y ∷ ys)
+  gives_more x xs ys y right at pairs are = record {
+    each = λ z has. elim (head_or_tail y ys z has) [
+      | inl same ↦ (subst Right same right, (x, here x xs, subst (λ (b : B). to b ≡ of x) same at))
+      | inr later ↦ let (fine, (a, within, is)) = are.each z later in (fine, (a, in_tail x xs a within, is))
+    ];
+    all = λ a has. elim (head_or_tail x xs a has) [
+      | inl same ↦ inr (y, here y ys, subst (λ (b : A). to y ≡ of b) same at)
+      | inr later ↦ elim (are.all a later) [ inl none ↦ inl none | inr (z, within, is) ↦ inr (z, in_tail y ys z within, is) ]
+    ];
+    ordered = pairs_front (λ (a b : B). IsBefore (to a) (to b)) y ys
+        (λ z has.
+        let (_, (a, within, is)) = are.each z has in
+        let before : IsBefore (of x) (of a) = pairs_head (λ (a b : A). IsBefore (of a) (of b)) x xs pairs a within in
+        subst (λ (n : N). IsBefore n (to z)) (sym at) (subst (λ (n : N). IsBefore (of x) n) (sym is) before))
+        are.ordered;
+  }
+
+  pub give_each : (xs : List A) → AllPairs (λ (a b : A). IsBefore (of a) (of b)) xs → ((x : A) → Contains xs x → GivesOne x) →
+      (ys : List B) × Gives xs ys
+  give_each [] pairs give = (
+    [],
+    record {
+      each = λ y has. absurd (none_of y has);
+      all = λ x has. absurd (none_of x has);
+      ordered = λ i j d less low. absurd (omega arith);
+    },
+  )
+  give_each (x ∷ xs) pairs give =
+      let (ys, are) = give_each xs (pairs_rest (λ (a b : A). IsBefore (of a) (of b)) x xs pairs) (λ a has. give a (in_tail x xs a has)) in
+      elim (give x (here x xs)) [
+        | inl none ↦ (ys, gives_none x xs ys none are)
+        | inr (y, right, at) ↦ (y ∷ ys, gives_more x xs ys y right at pairs are)
+      ]
