@@ -10,12 +10,14 @@ pub mod EventsOnce
 pub mod Fixed
 pub mod HellosFixed
 pub mod Leading
+pub mod LinesLeft
 pub mod MessagesFixed
 pub mod Named
 pub mod Over
 pub mod Parts
 pub mod RelayTexts
 pub mod RelayWalks
+pub mod RunsOfTraces
 pub mod SendingWalks
 pub mod SoundPositions
 pub mod TcFrames

@@ -14,6 +14,8 @@ ghost use Rattle.mesh_trace.specs.Positions.Laws.{
   NoneIsLonger,
   HasSomeLine,
   RunsAreWhole,
+  WholeTracesAreRuns,
+  WholeExactlyForRuns,
 };
 
 /// What the messages of a frame leave is fixed but for the order of tuples, and so is what they forward. A line leads on from a position
@@ -47,4 +49,11 @@ pub fn whole_traces_end()
 /// The trace of each run of a network from its opening to its end is whole.
 pub fn runs_are_whole()
     ensures { RunsAreWhole }
+{}
+
+/// Each whole trace is, line by line, the trace of a run of the network from its opening to its end; so the whole traces are exactly the
+/// traces of such runs.
+pub fn whole_traces_are_runs()
+    ensures run { WholeTracesAreRuns }
+    ensures exactly { WholeExactlyForRuns }
 {}

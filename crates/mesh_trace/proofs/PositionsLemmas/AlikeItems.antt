@@ -31,31 +31,31 @@ use Rattle.mesh_trace.proofs.PositionsLemmas.TcFrames.{one_part, first_is, furth
 
 -- ---- what a line tells, item by item
 
-record ToldFlooding (net : Net) (x : ℕ) (s : State) (line : List ℕ) (i : ℕ) (new : Net) (more : List Item) : Type 0 where
-  face : Interface
-  relays : List Addr4
-  graph : NeighbourGraph
-  face_is : slice_get s.settings.interfaces i ≡ Some face
-  graph_is : IsFloodingGraph s s.last i graph
-  are : AreRelaysOf graph relays
-  is : IsLineOf line (flooding_text s.settings.name face.name relays)
-  new_is : new ≡ with_state net x (with_flooding s relays)
-  more_is : more ≡ []
+pub record ToldFlooding (net : Net) (x : ℕ) (s : State) (line : List ℕ) (i : ℕ) (new : Net) (more : List Item) : Type 0 where
+  pub face : Interface
+  pub relays : List Addr4
+  pub graph : NeighbourGraph
+  pub face_is : slice_get s.settings.interfaces i ≡ Some face
+  pub graph_is : IsFloodingGraph s s.last i graph
+  pub are : AreRelaysOf graph relays
+  pub is : IsLineOf line (flooding_text s.settings.name face.name relays)
+  pub new_is : new ≡ with_state net x (with_flooding s relays)
+  pub more_is : more ≡ []
 
-tells_flooding : (net : Net) (x : ℕ) (s : State) (line : List ℕ) (i : ℕ) (new : Net) (more : List Item) → Tells net x s line (Flooding i) new more → ToldFlooding net x s line i new more
+pub tells_flooding : (net : Net) (x : ℕ) (s : State) (line : List ℕ) (i : ℕ) (new : Net) (more : List Item) → Tells net x s line (Flooding i) new more → ToldFlooding net x s line i new more
 tells_flooding net x s line i new more (Tells_flooding face relays g at graph are is) =
     record { face = face; relays = relays; graph = g; face_is = at; graph_is = graph; are = are; is = is; new_is = refl; more_is = refl }
 
-record ToldRouting (net : Net) (x : ℕ) (s : State) (line : List ℕ) (new : Net) (more : List Item) : Type 0 where
-  relays : List Addr4
-  graph : NeighbourGraph
-  graph_is : IsRoutingGraph s graph
-  are : AreRelaysOf graph relays
-  is : IsLineOf line (routing_relays_line s.settings.name relays)
-  new_is : new ≡ with_state net x (with_routing s relays)
-  more_is : more ≡ []
+pub record ToldRouting (net : Net) (x : ℕ) (s : State) (line : List ℕ) (new : Net) (more : List Item) : Type 0 where
+  pub relays : List Addr4
+  pub graph : NeighbourGraph
+  pub graph_is : IsRoutingGraph s graph
+  pub are : AreRelaysOf graph relays
+  pub is : IsLineOf line (routing_relays_line s.settings.name relays)
+  pub new_is : new ≡ with_state net x (with_routing s relays)
+  pub more_is : more ≡ []
 
-tells_routing : (net : Net) (x : ℕ) (s : State) (line : List ℕ) (new : Net) (more : List Item) → Tells net x s line Routing new more → ToldRouting net x s line new more
+pub tells_routing : (net : Net) (x : ℕ) (s : State) (line : List ℕ) (new : Net) (more : List Item) → Tells net x s line Routing new more → ToldRouting net x s line new more
 tells_routing net x s line new more (Tells_routing relays g graph are is) = record { relays = relays; graph = g; graph_is = graph; are = are; is = is; new_is = refl; more_is = refl }
 
 pub record ToldHello (net : Net) (x : ℕ) (s : State) (line : List ℕ) (i : ℕ) (new : Net) (more : List Item) : Type 0 where

@@ -5,8 +5,10 @@ use Rattle.std.specs.List.{flat_map, enumerate_from}
 use Rattle.std.proofs.lemmas.List.{append-nil, length-map}
 use Rattle.mesh_atoms.specs.declared.addr.Addr4.{Addr4}
 use Rattle.mesh_atoms.specs.declared.codes.metric.Metric.{Metric}
+use Rattle.mesh_atoms.specs.declared.graphs.Route.{Route}
 use Rattle.mesh_atoms.specs.declared.settings.RadioArc.{RadioArc}
 use Rattle.mesh_atoms.specs.declared.tc.TcRow.{TcRow}
+use Rattle.mesh_atoms.specs.declared.tuples.Relays.{Relays}
 use Rattle.mesh_atoms.specs.Advertised.{Gives, AreTcRows}
 use Rattle.mesh_atoms.specs.RelayGraphs.{AreRelays}
 use Rattle.mesh_atoms.specs.State.{Bases, State}
@@ -40,14 +42,19 @@ use Rattle.mesh_trace.proofs.PositionsLemmas.Walks.{Walks, walks_nowhere, walks_
 abbrev pub untold : State → State
 untold s = record s { relays = none_told }
 
-rows_untold : (s : State) (rows : List TcRow) → AreTcRows s rows → AreTcRows (untold s) rows
-rows_untold s rows are =
-    let to : (a o : Addr4) (m : Metric) → Gives s a o m → Gives (untold s) a o m = λ a o m g. record { neighbour = g.neighbour; symmetric = g.symmetric; selects = g.selects; metric = g.metric; address = g.address } in
-    let back : (a o : Addr4) (m : Metric) → Gives (untold s) a o m → Gives s a o m = λ a o m g. record { neighbour = g.neighbour; symmetric = g.symmetric; selects = g.selects; metric = g.metric; address = g.address } in
+-- the advertised rows depend neither on relays nor on routes
+pub rows_with : (s : State) (relays : Relays) (routes : List Route) (rows : List TcRow) → AreTcRows s rows →
+    AreTcRows (record s { relays = relays; routes = routes }) rows
+rows_with s relays routes rows are =
+    let t : State = record s { relays = relays; routes = routes } in
+    let to : (a o : Addr4) (m : Metric) → Gives s a o m → Gives t a o m = λ a o m g.
+    record { neighbour = g.neighbour; symmetric = g.symmetric; selects = g.selects; metric = g.metric; address = g.address } in
+    let back : (a o : Addr4) (m : Metric) → Gives t a o m → Gives s a o m = λ a o m g.
+    record { neighbour = g.neighbour; symmetric = g.symmetric; selects = g.selects; metric = g.metric; address = g.address } in
     record {
       exactly = λ row. (
-        λ has. same_row (Gives s) (Gives (untold s)) (λ a o m. (to a o m, back a o m)) s.settings.attached row ((are.exactly row).0 has),
-        λ is. (are.exactly row).1 (same_row (Gives (untold s)) (Gives s) (λ a o m. (back a o m, to a o m)) s.settings.attached row is),
+        λ has. same_row (Gives s) (Gives t) (λ a o m. (to a o m, back a o m)) s.settings.attached row ((are.exactly row).0 has),
+        λ is. (are.exactly row).1 (same_row (Gives t) (Gives s) (λ a o m. (back a o m, to a o m)) s.settings.attached row is),
       );
       ordered = are.ordered;
     }
@@ -58,7 +65,7 @@ follows_of old now bases new r = record {
   bases_are = r.bases_are;
   last = r.last;
   relays = refl;
-  rows = rows_untold new new.rows r.rows;
+  rows = rows_with new none_told new.routes new.rows r.rows;
   ansn = r.ansn;
   emptied = r.emptied;
 }

@@ -86,16 +86,33 @@ item_also p q line s item rest more after sound sound' alike left stands tells =
       nets = also.alike;
     }
 
-pub leads_from_alike : LeadsFromAlike
-leads_from_alike p q after line sound sound' alike (To_event none opens) =
-    let also = opens_from p.net q.net (as_nets p q alike) line after opens in
-    (also.new, To_event (alike.left ∙ none) also.opens)
-leads_from_alike p q after line sound sound' alike (To_item {s} {item} {rest} {more} {net} left stands tells leads) =
-    let also = item_also p q line s item rest more net sound sound' alike left stands tells in
-    (record { net = also.new; router = q.router; left = more ++ rest }, To_item also.left also.stands also.tells refl)
+as_same : (m n : Net) (x y : ℕ) (one other : List Item) → AlikeNets m n → y ≡ x → other ≡ one →
+    Alike (record { net = m; router = x; left = one }) (record { net = n; router = y; left = other })
+as_same m n x y one other h router left = record {
+  scenario = h.scenario;
+  count = h.count;
+  routers = h.routers;
+  traffic = h.traffic;
+  last_ticks = h.last_ticks;
+  router = router;
+  left = left;
+}
 
-as_same : (m n : Net) (x y : ℕ) (one other : List Item) → AlikeNets m n → y ≡ x → other ≡ one → Alike (record { net = m; router = x; left = one }) (record { net = n; router = y; left = other })
-as_same m n x y one other h router left = record { scenario = h.scenario; count = h.count; routers = h.routers; traffic = h.traffic; last_ticks = h.last_ticks; router = router; left = left }
+-- a line that leads on from the one leads on from the other, to where it is alike
+pub leads_along : (p q after : TracePosition) (line : List ℕ) → IsSoundPosition p → IsSoundPosition q → Alike p q → Leads p line after →
+    (other : TracePosition) × Leads q line other × Alike after other
+leads_along p q after line sound sound' alike (To_event none opens) =
+    let also = opens_from p.net q.net (as_nets p q alike) line after opens in
+    (also.new, To_event (alike.left ∙ none) also.opens, also.alike)
+leads_along p q after line sound sound' alike (To_item {s} {item} {rest} {more} {net} left stands tells leads) =
+    let also = item_also p q line s item rest more net sound sound' alike left stands tells in
+    let other : TracePosition = record { net = also.new; router = q.router; left = more ++ rest } in
+    let same = as_same net also.new p.router q.router (more ++ rest) (more ++ rest) also.nets alike.router refl in
+    (other, To_item also.left also.stands also.tells refl, subst (λ (z : TracePosition). Alike z other) (sym leads) same)
+
+pub leads_from_alike : LeadsFromAlike
+leads_from_alike p q after line sound sound' alike leads =
+    let (other, led, same) = leads_along p q after line sound sound' alike leads in (other, led)
 
 pub leads_alike : LeadsAlike
 leads_alike p q after other line sound sound' known alike (To_event none opens) (To_event none' opens') =
@@ -180,13 +197,20 @@ one_decides_fit s lines line p here none (q, after, there, leads) =
     let (other, led) = leads_from_alike q p after line (positions_are_sound s lines q there) (positions_are_sound s lines p here) (all_else_is_fixed s lines q p there here) leads in
     none other led
 
+-- so all is done at the other, where it is at the one
+pub done_along : (p q : TracePosition) → Alike p q → IsDone p → IsDone q
+done_along p q alike done = record {
+  over = record {
+    only = last_ticks_from p.net q.net (as_nets p q alike) done.over.only;
+    last_ticks = alike.last_ticks ∙ (done.over.last_ticks ∙ sym alike.count);
+  };
+  none = alike.left ∙ done.none;
+}
+
 pub one_decides_end : OneDecidesEnd
 one_decides_end s lines p here undone (q, there, done) =
     let alike = all_else_is_fixed s lines q p there here in
-    undone (record {
-      over = record { only = last_ticks_from q.net p.net (as_nets q p alike) done.over.only; last_ticks = alike.last_ticks ∙ (done.over.last_ticks ∙ sym alike.count) };
-      none = alike.left ∙ done.none;
-    })
+    undone (done_along q p alike done)
 
 -- ---- a trace with a line that doesn't fit isn't whole
 

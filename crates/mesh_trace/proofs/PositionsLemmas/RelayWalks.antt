@@ -24,7 +24,7 @@ abbrev pub told_so : State → List (List Addr4) → State
 told_so s told = record s { relays = record { flooding = told; routing = [] } }
 
 -- what stands behind some
-behind_some : {A : Type 0} (front : List A) (x : A) (rest : List A) → slice_get (front ++ x ∷ rest) (length front) ≡ Some x
+pub behind_some : {A : Type 0} (front : List A) (x : A) (rest : List A) → slice_get (front ++ x ∷ rest) (length front) ≡ Some x
 behind_some [] x rest = refl
 behind_some (y ∷ ys) x rest = behind_some ys x rest
 
@@ -33,7 +33,7 @@ pub set_again : (net : Net) (x : ℕ) (a b : State) → with_state (with_state n
 set_again net x a b = ap (λ (routers : List State). record net { routers = routers }) (set-set net.routers x a b)
 
 -- the line of an interface, by its relays
-flooding_by : (s : State) (relays : List (List Addr4)) (n : ℕ) (face : Interface) (one : List Addr4) → slice_get relays n ≡ Some one →
+pub flooding_by : (s : State) (relays : List (List Addr4)) (n : ℕ) (face : Interface) (one : List Addr4) → slice_get relays n ≡ Some one →
     flooding_relays_line s.settings.name relays (n, face) ≡ flooding_text s.settings.name face.name one
 unfolding flooding_relays_line
 flooding_by s relays n face one stands =

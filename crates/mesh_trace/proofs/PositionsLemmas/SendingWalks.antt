@@ -23,7 +23,7 @@ use Rattle.mesh_trace.proofs.PositionsLemmas.Walks.{Walks, walks_nowhere, walks_
 
 -- ---- losses
 
-lost_one : (s : Scenario) (moment n : ℕ) → n < length s.arcs → OneLine (lost_line s moment n)
+pub lost_one : (s : Scenario) (moment n : ℕ) → n < length s.arcs → OneLine (lost_line s moment n)
 unfolding lost_line
 lost_one s moment n below =
     let (arc, there) = stands s.arcs n below in

@@ -86,7 +86,7 @@ leads_by_sound old (line ∷ lines) new sound (mid, one, more) = leads_by_sound 
 
 -- ---- from the first
 
-first_sound : (s : Scenario) (p : TracePosition) → IsFirstPosition s p → AreSound p.net.routers
+pub first_sound : (s : Scenario) (p : TracePosition) → IsFirstPosition s p → AreSound p.net.routers
 first_sound s p first x state at =
     let below : x < length s.routers = let h = slice_get_within p.net.routers x state at in let k = first.opening.count in omega (arith, h, k) in
     let (settings, there) = stands s.routers x below in

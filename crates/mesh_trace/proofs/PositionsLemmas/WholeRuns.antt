@@ -53,24 +53,24 @@ step_hears was event sent is arrival bytes (Heard_frame {arrival = a} {bytes = b
 
 -- ---- the text of an event by its parts
 
-abbrev told : Scenario → ℕ → Option (ℕ × Addr4 × List ℕ) → RouterSettings → State → ℕ → List Emission → List ℕ
+abbrev pub told : Scenario → ℕ → Option (ℕ × Addr4 × List ℕ) → RouterSettings → State → ℕ → List Emission → List ℕ
 told s moment what r after last es = (happened_line moment r what ++ relays_lines after) ++ flat_map (sent_lines s last after.settings) es
 
-told_so : (s : Scenario) (event : NetEvent) (after : State) → event_text s event after ≡ told s event.moment event.heard after.settings after event.moment event.sent
+pub told_so : (s : Scenario) (event : NetEvent) (after : State) → event_text s event after ≡ told s event.moment event.heard after.settings after event.moment event.sent
 unfolding event_text event_line
 told_so s event after = refl
 
-told_same : (s s' : Scenario) (moment : ℕ) (what what' : Option (ℕ × Addr4 × List ℕ)) (r r' : RouterSettings) (a a' : State) (n n' : ℕ) (es : List Emission) → s ≡ s' → what ≡ what' → r ≡ r' → a ≡ a' → n ≡ n' →
+pub told_same : (s s' : Scenario) (moment : ℕ) (what what' : Option (ℕ × Addr4 × List ℕ)) (r r' : RouterSettings) (a a' : State) (n n' : ℕ) (es : List Emission) → s ≡ s' → what ≡ what' → r ≡ r' → a ≡ a' → n ≡ n' →
     told s moment what r a n es ≡ told s' moment what' r' a' n' es
 told_same s s' moment what what' r r' a a' n n' es p q t u v =
     ap (λ (z : Scenario). told z moment what r a n es) p ∙ (ap (λ (z : Option (ℕ × Addr4 × List ℕ)). told s' moment z r a n es) q ∙ (ap (λ (z : RouterSettings). told s' moment what' z a n es) t
     ∙ (ap (λ (z : State). told s' moment what' r' z n es) u ∙ ap (λ (z : ℕ). told s' moment what' r' a' z es) v)))
 
-line_so : (event : NetEvent) (r : RouterSettings) → event_line event r ≡ happened_line event.moment r event.heard
+pub line_so : (event : NetEvent) (r : RouterSettings) → event_line event r ≡ happened_line event.moment r event.heard
 unfolding event_line
 line_so event r = refl
 
-line_same : (n n' : ℕ) (what what' : Option (ℕ × Addr4 × List ℕ)) (r r' : RouterSettings) → n ≡ n' → what ≡ what' → r ≡ r' → happened_line n r what ≡ happened_line n' r' what'
+pub line_same : (n n' : ℕ) (what what' : Option (ℕ × Addr4 × List ℕ)) (r r' : RouterSettings) → n ≡ n' → what ≡ what' → r ≡ r' → happened_line n r what ≡ happened_line n' r' what'
 line_same n n' what what' r r' p q t =
     ap (λ (z : ℕ). happened_line z r what) p ∙ (ap (λ (z : Option (ℕ × Addr4 × List ℕ)). happened_line n' r z) q ∙ ap (λ (z : RouterSettings). happened_line n' z what') t)
 
@@ -186,7 +186,7 @@ heard_walk old mid event text x0 d (after, at_after, is_text) =
 
 -- ---- a run
 
-step_walk : (old mid : Net) (event : NetEvent) (text : List ℕ) (x0 : ℕ) → NetStep old event mid → IsTraced mid event text →
+pub step_walk : (old mid : Net) (event : NetEvent) (text : List ℕ) (x0 : ℕ) → NetStep old event mid → IsTraced mid event text →
     Walks (at old x0 []) (at mid event.router []) text
 step_walk old mid event text x0 (By_delivery d) traced = heard_walk old mid event text x0 d traced
 step_walk old mid event text x0 (By_tick h) traced =

@@ -1,5 +1,5 @@
--- That all of a run but its choices is fixed by its trace, and that the trace of each whole run is whole.
-use Rattle.std.specs.Prelude.{◌≡◌, ℕ, ◌<◌, List, [], ◌∷◌, ◌++◌, length, true}
+-- That all of a run but its choices is fixed by its trace, and that whole traces are the traces of whole runs.
+use Rattle.std.specs.Prelude.{◌≡◌, ◌↔◌, ℕ, ◌<◌, List, [], ◌∷◌, ◌++◌, length, true}
 use Rattle.mesh_atoms.specs.declared.settings.Scenario.{Scenario}
 use Rattle.mesh_atoms.specs.declared.addr.Addr4.{Addr4}
 use Rattle.mesh_atoms.specs.declared.settings.RouterSettings.{RouterSettings}
@@ -80,3 +80,13 @@ HasSomeLine = (s : Scenario) → 0 < length s.routers → IsWholeTrace s [] → 
 -- the trace of each run of a scenario's network, from its opening to its end, is whole
 abbrev pub RunsAreWhole : Type 0
 RunsAreWhole = (s : Scenario) (run : WholeRun s) (text : List ℕ) → IsTrace true run text → IsWholeTrace s (lines_of text)
+
+-- each whole trace is the trace of a run of the scenario's network, from its opening to its end, line by line
+abbrev pub WholeTracesAreRuns : Type 0
+WholeTracesAreRuns = (s : Scenario) (lines : List (List ℕ)) → IsWholeTrace s lines →
+    (run : WholeRun s) × (text : List ℕ) × IsTrace true run text × (lines_of text ≡ lines)
+
+-- so lines are a whole trace exactly where they are the lines of the trace of such a run
+abbrev pub WholeExactlyForRuns : Type 0
+WholeExactlyForRuns = (s : Scenario) (lines : List (List ℕ)) →
+    IsWholeTrace s lines ↔ ((run : WholeRun s) × (text : List ℕ) × IsTrace true run text × (lines_of text ≡ lines))
