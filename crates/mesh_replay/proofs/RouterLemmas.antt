@@ -1,4 +1,5 @@
 pub mod Following
 pub mod Parts
+pub mod Quiet
 pub mod Spans
 pub mod Ticking

@@ -6,6 +6,7 @@ ghost use Rattle.mesh_packet.specs.Fields.{fields_of_packet};
 ghost use Rattle.mesh_packet.specs.Grammar.{Spells};
 ghost use Rattle.mesh_atoms.specs.RelayGraphs.{AreRelays};
 ghost use Rattle.mesh_atoms.specs.State.{State};
+ghost use Rattle.mesh_core.specs.Held.Quiet.{IsQuiet};
 ghost use Rattle.mesh_topo.specs.declared.advertised.spans.PartSpan.{PartSpan as SpanValue};
 ghost use Rattle.mesh_trace.specs.machine.Laws.{SoundBases};
 ghost use Rattle.mesh_replay.specs.Checking.Events.{AreRelaysWith, AreRowsWith, Begins, TakesInto};
@@ -126,6 +127,7 @@ fn emptied_with(rows: &[TcRow], before: &[TcRow], emptied: Option<u64>, now: u64
 }
 
 // Takes out what is expired since the last event, and then takes the messages of a packet. What they forward is put at the end of `out`.
+// True only where all of that was quiet.
 fn take_packet<B: Bases>(
     alloc: Global,
     holding: &mut Holding<B>,
@@ -134,7 +136,7 @@ fn take_packet<B: Bases>(
     bytes: &[u8],
     decoded: &Decoded,
     out: &mut Outbox,
-) -> Result<(), AllocError>
+) -> Result<bool, AllocError>
     requires now { arrival.now < 2 ^ 62 }
     requires iface { arrival.iface < length holding.old.settings.interfaces }
     requires sound { SoundBases holding.old.settings last holding.old.bases }
@@ -143,11 +145,12 @@ fn take_packet<B: Bases>(
         × TakesInto holding.old.settings holding.old.bases arrival bytes.now sent holding.new.bases) }
     ensures settings { OnOk result (holding.new.settings ≡ holding.old.settings) }
     ensures sound { OnOk result (SoundBases holding.new.settings arrival.now holding.new.bases) }
+    ensures quiet { IfOk result (λ quiet. IsTrue quiet → IsQuiet holding.old.bases last holding.new.bases arrival.now) }
 {
     let own = holding.settings().originator();
-    holding.expire(last, arrival.now)?;
+    let idle = holding.expire(last, arrival.now)?;
     let mut fates: Seq<Fate> = Seq::new(alloc);
-    holding.take_messages(
+    let quiet = holding.take_messages(
         alloc,
         arrival,
         own,
@@ -157,7 +160,7 @@ fn take_packet<B: Bases>(
         &mut fates,
         out,
     )?;
-    Ok(())
+    Ok(idle & quiet)
 }
 
 impl<B: Bases> CheckedRouter<B> {
@@ -294,9 +297,9 @@ impl<B: Bases> CheckedRouter<B> {
         ensures sound { OnOk result (IsSoundRouter self.new) }
         ensures stand { IfOk result (λ t. IsTrue t.before.stand → AreRelays (with_relays self.new t.before.relays) self.new.last) }
     {
-        self.holding.expire(self.last, now)?;
+        let quiet = self.holding.expire(self.last, now)?;
         let sequence = self.sequence;
-        let before = self.begin(alloc, now, false)?;
+        let before = self.begin(alloc, now, quiet)?;
         let hellos = self.take_hellos();
         let parts = self.take_parts(alloc)?;
         Ok(Ticked {
@@ -326,7 +329,7 @@ impl<B: Bases> CheckedRouter<B> {
         ensures sound { OnOk result (IsSoundRouter self.new) }
         ensures stand { IfOk result (λ b. IsTrue b.stand → AreRelays (with_relays self.new b.relays) self.new.last) }
     {
-        take_packet(
+        let quiet = take_packet(
             alloc,
             &mut self.holding,
             self.last,
@@ -335,6 +338,6 @@ impl<B: Bases> CheckedRouter<B> {
             decoded,
             out,
         )?;
-        self.begin(alloc, arrival.now, false)
+        self.begin(alloc, arrival.now, quiet)
     }
 }

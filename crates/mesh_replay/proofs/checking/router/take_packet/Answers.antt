@@ -4,6 +4,7 @@ use Rattle.mesh_atoms.specs.State.{IsOriginator}
 use Rattle.mesh_packet.specs.declared.packet.Span.{Span}
 use Rattle.mesh_packet.specs.declared.packet.Message.{Message}
 use Rattle.mesh_packet.specs.Fields.{fields_of_message, fields_of_packet}
+use Rattle.mesh_core.proofs.HeldLemmas.Quiet.{both_true, quiet_after}
 use Rattle.mesh_trace.specs.machine.Laws.{SoundBases}
 use Rattle.mesh_trace.specs.machine.Messages.{TakesMessages}
 use Rattle.mesh_trace.proofs.machine.Soundness.{messages_sound}
@@ -13,32 +14,32 @@ use Rattle.mesh_replay.proofs.checking.router.take_packet.Goals as goal
 
 pub take_messages-requires-clause-own : goal.take_messages-requires-clause-own
 take_messages-requires-clause-own g c =
-    subst (λ (r : RouterSettings). IsOriginator r c.originator-own.result) (c.settings.ensures ∙ sym c.in_ok-expire.ensures.settings) c.originator-own.ensures.is
+    subst (λ (r : RouterSettings). IsOriginator r c.originator-own.result) (c.settings.ensures ∙ sym c.in_ok-idle.ensures.settings) c.originator-own.ensures.is
 
 pub take_messages-requires-clause-sound : goal.take_messages-requires-clause-sound
 take_messages-requires-clause-sound g c =
-    live_after c.args.holding.now.settings c.expire.new.self.settings c.args.last c.args.arrival.now c.args.holding.now.bases c.expire.new.self.bases c.requires.sound c.in_ok-expire.ensures.live c.in_ok-expire.ensures.settings
+    live_after c.args.holding.now.settings c.expire.new.self.settings c.args.last c.args.arrival.now c.args.holding.now.bases c.expire.new.self.bases c.requires.sound c.in_ok-idle.ensures.live c.in_ok-idle.ensures.settings
 
 pub take_messages-requires-clause-spelled : goal.take_messages-requires-clause-spelled
 take_messages-requires-clause-spelled g c = rw (c.as_slice.ensures, c.as_slice-2.ensures) (packet_spelled c.args.bytes.now _ _ c.requires.spelled)
 
 pub returns-clause-settings : goal.returns-clause-settings
-returns-clause-settings g c = c.take_messages.ensures.settings ∙ c.in_ok-expire.ensures.settings
+returns-clause-settings g c = c.take_messages.ensures.settings ∙ c.in_ok-idle.ensures.settings
 
 pub returns-clause-sound : goal.returns-clause-sound
 returns-clause-sound g c =
-    let (given, sent, fates, out, takes) = c.in_ok-take_messages.ensures.taken in
+    let (given, sent, fates, out, takes) = c.in_ok-quiet.ensures.taken in
     subst (λ (r : RouterSettings). SoundBases r c.args.arrival.now c.take_messages.new.self.bases) (sym c.take_messages.ensures.settings)
     (messages_sound c.expire.new.self.settings c.originator-own.result c.args.arrival c.args.bytes.now c.expire.new.self.bases _ _ c.take_messages.new.self.bases sent given
-    (subst (λ (r : RouterSettings). IsOriginator r c.originator-own.result) (c.settings.ensures ∙ sym c.in_ok-expire.ensures.settings) c.originator-own.ensures.is)
-    (live_after c.args.holding.now.settings c.expire.new.self.settings c.args.last c.args.arrival.now c.args.holding.now.bases c.expire.new.self.bases c.requires.sound c.in_ok-expire.ensures.live c.in_ok-expire.ensures.settings) takes)
+    (subst (λ (r : RouterSettings). IsOriginator r c.originator-own.result) (c.settings.ensures ∙ sym c.in_ok-idle.ensures.settings) c.originator-own.ensures.is)
+    (live_after c.args.holding.now.settings c.expire.new.self.settings c.args.last c.args.arrival.now c.args.holding.now.bases c.expire.new.self.bases c.requires.sound c.in_ok-idle.ensures.live c.in_ok-idle.ensures.settings) takes)
 
 pub returns-clause-takes : goal.returns-clause-takes
 returns-clause-takes g c =
-    let (given, sent, fates, out, takes) = c.in_ok-take_messages.ensures.taken in
+    let (given, sent, fates, out, takes) = c.in_ok-quiet.ensures.taken in
     let own = c.originator-own.result in
     let by_settings = subst (λ (r : RouterSettings). TakesMessages r own c.args.arrival c.args.bytes.now c.expire.new.self.bases (map fields_of_message c.as_slice.result.now) c.as_slice-2.result.now c.take_messages.new.self.bases sent given)
-    c.in_ok-expire.ensures.settings takes in
+    c.in_ok-idle.ensures.settings takes in
     let by_messages = subst (λ (ms : List Message). TakesMessages c.args.holding.now.settings own c.args.arrival c.args.bytes.now c.expire.new.self.bases (map fields_of_message ms) c.as_slice-2.result.now c.take_messages.new.self.bases sent given)
     c.as_slice.ensures by_settings in
     let by_spans = subst (λ (ss : List Span). TakesMessages c.args.holding.now.settings own c.args.arrival c.args.bytes.now c.expire.new.self.bases (map fields_of_message c.args.decoded.now.packet.messages) ss c.take_messages.new.self.bases sent given)
@@ -52,8 +53,14 @@ returns-clause-takes g c =
         own = own;
         is_own = subst (λ (r : RouterSettings). IsOriginator r own) c.settings.ensures c.originator-own.ensures.is;
         live = c.expire.new.self.bases;
-        is_live = c.in_ok-expire.ensures.live;
+        is_live = c.in_ok-idle.ensures.live;
         fates = given;
         takes = by_spans;
       },
     )
+
+pub returns-clause-quiet : goal.returns-clause-quiet
+returns-clause-quiet g c both =
+    let (idle, quiet) = both_true c.in_ok-idle.idle c.in_ok-quiet.quiet both in
+    quiet_after c.args.holding.now.bases c.args.last c.expire.new.self.bases c.args.arrival.now c.take_messages.new.self.bases c.args.arrival.now
+    (c.in_ok-idle.ensures.quiet idle) (c.in_ok-quiet.ensures.quiet quiet)
