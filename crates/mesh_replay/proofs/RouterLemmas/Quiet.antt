@@ -23,7 +23,8 @@ module _ (old : State) (rest : IsAtRest old) (settings : RouterSettings) (bases 
     settings_same = settings_are ∙ same
 
     sound_now : SoundBases s.settings now s.bases
-    sound_now = subst (λ (r : RouterSettings). SoundBases r now s.bases) (sym settings_are) (subst (λ (b : Bases). SoundBases settings now b) (sym bases_are) sound)
+    sound_now = subst (λ (r : RouterSettings). SoundBases r now s.bases) (sym settings_are)
+        (subst (λ (b : Bases). SoundBases settings now b) (sym bases_are) sound)
 
     quiet_now : IsQuiet old.bases old.last s.bases now
     quiet_now = subst (λ (b : Bases). IsQuiet old.bases old.last b now) (sym bases_are) quiet
@@ -35,9 +36,11 @@ module _ (old : State) (rest : IsAtRest old) (settings : RouterSettings) (bases 
   pub rows_quiet : AreRowsWith settings bases old.rows
   rows_quiet s settings_are bases_are =
       let (own, arcs, ways, two_hops) = given s settings_are bases_are in
-      rows_stay old s ways.neighbours (ap (λ (r : RouterSettings). r.attached) (settings_same s settings_are bases_are)) old.rows rest.sound.rows
+      let attached = ap (λ (r : RouterSettings). r.attached) (settings_same s settings_are bases_are) in
+      rows_stay old s ways.neighbours attached old.rows rest.sound.rows
 
   pub relays_quiet : AreRelaysWith settings bases now old.relays
   relays_quiet s settings_are bases_are relays =
       let (own, arcs, ways, two_hops) = given s settings_are bases_are in
-      relays_stay ways two_hops (ap (λ (r : RouterSettings). length r.interfaces) (settings_same s settings_are bases_are)) relays rest.relays
+      let count = ap (λ (r : RouterSettings). length r.interfaces) (settings_same s settings_are bases_are) in
+      relays_stay ways two_hops count relays rest.relays

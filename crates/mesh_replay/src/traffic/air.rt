@@ -1,7 +1,7 @@
 //! The frames in the air, in the order in which they were sent.
 ghost use Rattle.std.specs.Prelude.{◌≡◌, ◌<◌, ◌≤◌, [], ◌∷◌, ◌++◌, length, All, OnOk, MatchOption};
 ghost use Rattle.mesh_trace.specs.machine.Traffic.{IsHeardFirst};
-ghost use Rattle.mesh_replay.specs.Traffic.Air.{delivery_of, IsLeast};
+ghost use Rattle.mesh_replay.specs.Traffic.Air.{delivery_of, IsLeast, AreNoEarlier};
 
 use mesh_atoms::Bytes;
 use std::alloc::{AllocError, Global};
@@ -17,20 +17,23 @@ pub(crate) struct Delivered {
     pub frame: Rc<Bytes>,
 }
 
-/// The frames in the air, in order of sending and then arc.
+/// The frames in the air, in order of sending and then arc; and a moment before which none of them is heard.
 #[derive(Drop)]
 pub(crate) struct Air {
     flights: Vec<Delivered>,
+    least: u64,
 }
 
 impl Model for Air {
     ghost use Rattle.std.specs.Prelude.{List, map};
     ghost use Rattle.mesh_trace.specs.machine.Traffic.{Delivery};
-    ghost use Rattle.mesh_replay.specs.Traffic.Air.{delivery_of};
+    ghost use Rattle.mesh_replay.specs.Traffic.Air.{delivery_of, AreNoEarlier};
 
     ghost Value = { List Delivery };
 
     ghost view = { λ a. map delivery_of a.flights.items };
+
+    ghost invariant = { λ a. AreNoEarlier a.least a.flights.items };
 }
 
 impl Air {
@@ -40,6 +43,7 @@ impl Air {
     {
         Air {
             flights: Vec::new(alloc),
+            least: 0,
         }
     }
 
@@ -52,11 +56,13 @@ impl Air {
     ) -> Result<(), AllocError>
         ensures { OnOk result (self.new ≡ self.old ++ record { moment = moment; arc = arc; frame = frame.value } ∷ []) }
     {
+        self.least = u64::min(self.least, moment);
         self.flights.push(Delivered { moment, arc, frame })?;
         Ok(())
     }
 
-    /// Takes the frame that is heard first, if that is no later than a moment. Looks at each frame in the air.
+    /// Takes the frame that is heard first, if that is no later than a moment. Looks at the frames in the air up to the first that is heard
+    /// no later than the one that was looked for before, and at all of them where there is none.
     pub(crate) fn take(&mut self, limit: u64) -> Option<Delivered>
         ensures first { MatchOption result (self.new ≡ self.old) (λ landed. IsHeardFirst self.old (delivery_of landed) self.new) }
         ensures limit { MatchOption result (All (λ d. limit < d.moment) self.old) (λ landed. landed.moment ≤ limit) }
@@ -64,21 +70,26 @@ impl Air {
         if self.flights.is_empty() {
             return None;
         }
-        let first = first_heard(&self.flights);
-        if self.flights[first].moment > limit {
+        let first = first_heard(&self.flights, self.least);
+        self.least = self.flights[first].moment;
+        if self.least > limit {
             return None;
         }
         Some(self.flights.remove(first))
     }
 }
 
-// Where the frame stands that is heard first: of those of the least moment the first.
-fn first_heard(flights: &Vec<Delivered>) -> usize
-    requires { 0 < length flights.now.items }
+// Where the frame stands that is heard first: of those of the least moment the first. None of them is heard before `least`.
+fn first_heard(flights: &Vec<Delivered>, least: u64) -> usize
+    requires some { 0 < length flights.now.items }
+    requires least { AreNoEarlier least flights.now.items }
     ensures { IsLeast flights.now.items (length flights.now.items) result }
 {
     let mut first = 0;
     for (place, flight) in flights.iter().enumerate() {
+        if flights[first].moment <= least {
+            return first;
+        }
         if flight.moment < flights[first].moment {
             first = place;
         }

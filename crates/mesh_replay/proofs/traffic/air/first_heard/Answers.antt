@@ -7,7 +7,7 @@ use Rattle.mesh_replay.proofs.traffic.air.first_heard.Goals as goal
 use Rattle.mesh_replay.proofs.traffic.air.first_heard.Goals.{then-flight-index, else-flight-index}
 
 pub loop-place-init : goal.loop-place-init
-loop-place-init c = least_of_none c.args.flights.now.items c.requires
+loop-place-init c = least_of_none c.args.flights.now.items c.requires.some
 
 pub index-requires : goal.index-requires
 index-requires c =
@@ -22,7 +22,7 @@ loop-place-preserved c =
     let one : Delivered = c.flight-item.result in
     let at : slice_get flights c.loop-place.place ≡ Some one =
     slice_get_read flights (length flights) c.loop-place.place one refl (rw (← c.deref-flight-items.ensures.value) c.loop-place-test.true) (rw (← c.deref-flight-items.ensures.value) c.flight-item.is) in
-    let is : least.flight ≡ c.index.result.now = read_as flights c.loop-place.place c.loop-place.first c.index.result.now least c.index.ensures in
+    let is : least.flight ≡ c.index-in-loop-place.result.now = read_as flights c.loop-place.place c.loop-place.first c.index-in-loop-place.result.now least c.index-in-loop-place.ensures in
     elim c.if-flight-index.branch [
       | then-flight-index w ↦ rw w.first-is (is_earlier flights c.loop-place.place c.loop-place.first one at least (rw is w.if-flight-index.true))
       | else-flight-index w ↦ rw w.first-is (is_no_earlier flights c.loop-place.place c.loop-place.first one at least (rw is w.if-flight-index.false))

@@ -6,12 +6,12 @@ use Rattle.mesh_replay.specs.Traffic.Air.{delivery_of}
 use Rattle.mesh_replay.proofs.TrafficLemmas.Hearing.{read_as, heard_first, all_later}
 use Rattle.mesh_replay.proofs.traffic.air.Air.take.Goals as goal
 
-pub returns-then-index-limit-clause-limit : goal.returns-then-index-limit-clause-limit
-returns-then-index-limit-clause-limit c =
+pub returns-then-self-limit-clause-limit : goal.returns-then-self-limit-clause-limit
+returns-then-self-limit-clause-limit c =
     let flights : List Delivered = c.self.inside.flights.items in
     let least = c.first_heard-first.ensures in
     let is : least.flight ≡ c.index.result.now = read_as flights (length flights) c.first_heard-first.result c.index.result.now least c.index.ensures in
-    rw (← c.self.view_is) (all_later c.args.limit flights c.first_heard-first.result least (rw is c.if-index-limit.true))
+    rw (← c.self.view_is) (all_later c.args.limit flights c.first_heard-first.result least (rw is c.if-self-limit.true))
 
 pub remove-requires : goal.remove-requires
 remove-requires c =
