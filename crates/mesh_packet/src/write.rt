@@ -23,6 +23,9 @@ const LONGEST: usize = 65507;
 /// The octets of a message before its body: type, flags and size.
 const FRONT: usize = 4;
 
+/// The octets of a body for which memory is taken at once. Most have fewer.
+const BODY: usize = 512;
+
 /// Appends an octet, where it is there.
 fn put_octet(octet: Option<u8>, out: &mut Bytes) -> Result<(), AllocError>
     ensures { OnOk result (out.new ≡ out.old ++ least_octet octet) }
@@ -146,6 +149,16 @@ fn write_message(message: &Message, body: &mut Bytes, out: &mut Bytes) -> Result
     put_message(message, body, out)
 }
 
+/// No octets, with memory for those of most bodies where it can be had.
+fn body_room(alloc: Global) -> Bytes
+    ensures { result ≡ [] }
+{
+    match Vec::with_capacity(alloc, BODY) {
+        Ok(items) => Bytes::from_vec(items),
+        Err(_) => Bytes::new(alloc),
+    }
+}
+
 /// Appends messages.
 fn write_messages(alloc: Global, messages: &[Message], out: &mut Bytes) -> Result<(), EncodeFault>
     requires encodable { All IsEncodableMessage (map fields_of_message messages.now) }
@@ -153,7 +166,7 @@ fn write_messages(alloc: Global, messages: &[Message], out: &mut Bytes) -> Resul
     ensures ok { OnOk result (Wrote (SpellsItems LeastMessage (map fields_of_message messages.now)) out.old out.new × (length out.new ≤ 65507)) }
     ensures too_long { result ≡ Err EncodeFault.TooLong → Passes (SpellsItems LeastMessage (map fields_of_message messages.now)) (length out.old) }
 {
-    let mut body = Bytes::new(alloc);
+    let mut body = body_room(alloc);
     for message in messages {
         write_message(message, &mut body, out)?;
     }
