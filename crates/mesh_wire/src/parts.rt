@@ -55,29 +55,27 @@ impl One {
     }
 
     // One octet more. It is kept as 256 times the octet, so that its type keeps that to 8 bits.
-    fn also_octet(self, octets: &[u8]) -> One
-        ensures { result ≡ octet_also true octets.now self }
+    fn take_octet(&mut self, octets: &[u8])
+        ensures { self.new ≡ octet_also true octets.now self.old }
     {
         match octets {
-            [octet] => self.also(256 * u16::from(*octet)),
-            _ => self,
+            [octet] => *self = self.also(256 * u16::from(*octet)),
+            _ => {}
         }
     }
 
     // One metric more, where its flags name that kind. It is kept as 16 times its code, so that its type keeps the code to 12 bits.
-    fn also_code(self, flag: u8, octets: &[u8]) -> One
+    fn take_code(&mut self, flag: u8, octets: &[u8])
         requires { flag < 256 }
-        ensures { result ≡ code_also true flag octets.now self }
+        ensures { self.new ≡ code_also true flag octets.now self.old }
     {
         match octets {
             [high, _] => {
                 if *high & flag != 0 {
-                    self.also(16 * (short_of(octets) % 4096))
-                } else {
-                    self
+                    *self = self.also(16 * (short_of(octets) % 4096));
                 }
             }
-            _ => self,
+            _ => {}
         }
     }
 }
@@ -107,36 +105,29 @@ fn has_other_length(octets: &[u8], len: usize) -> bool
     octets.len() != len
 }
 
-// Whether one of them is so.
-fn or(a: bool, b: bool) -> bool
-    ensures { result ≡ (a || b) }
+// Sets a flag where that is so. Else it stays.
+fn set_if(flag: &mut bool, is_so: bool)
+    ensures { flag.new ≡ (flag.old || is_so) }
 {
-    a || b
+    if is_so {
+        *flag = true;
+    }
 }
 
 impl Octets {
     // One value more.
-    fn also(self, low: u16, bound: u16, octets: &[u8]) -> Octets
-        ensures { result ≡ octets_also true low bound octets.now self }
+    fn take(&mut self, low: u16, bound: u16, octets: &[u8])
+        ensures { self.new ≡ octets_also true low bound octets.now self.old }
     {
         match octets {
             [octet] => {
                 if low <= u16::from(*octet) && u16::from(*octet) < bound {
-                    Octets {
-                        wrong: self.wrong,
-                        one: self.one.also(u16::from(*octet)),
-                    }
+                    self.one = self.one.also(u16::from(*octet));
                 } else {
-                    Octets {
-                        wrong: true,
-                        one: self.one,
-                    }
+                    self.wrong = true;
                 }
             }
-            _ => Octets {
-                wrong: true,
-                one: self.one,
-            },
+            _ => self.wrong = true,
         }
     }
 }
@@ -173,20 +164,20 @@ impl RowParts {
     fn take_metric(&mut self, octets: &[u8])
         ensures { self.new ≡ take_part LINK_METRIC octets.now self.old }
     {
-        self.wrong_metric = or(self.wrong_metric, has_other_length(octets, 2));
-        self.link_in = self.link_in.also_code(128, octets);
-        self.link_out = self.link_out.also_code(64, octets);
-        self.near_in = self.near_in.also_code(32, octets);
-        self.near_out = self.near_out.also_code(16, octets);
+        set_if(&mut self.wrong_metric, has_other_length(octets, 2));
+        self.link_in.take_code(128, octets);
+        self.link_out.take_code(64, octets);
+        self.near_in.take_code(32, octets);
+        self.near_out.take_code(16, octets);
     }
 
     // One value more of the type of addresses of routers.
     fn take_type(&mut self, octets: &[u8])
         ensures { self.new ≡ take_part NBR_ADDR_TYPE octets.now self.old }
     {
-        self.addr_type = self.addr_type.also(1, 4, octets);
-        self.origin = or(self.origin, says_flag(octets, 1));
-        self.routable = or(self.routable, says_flag(octets, 2));
+        self.addr_type.take(1, 4, octets);
+        set_if(&mut self.origin, says_flag(octets, 1));
+        set_if(&mut self.routable, says_flag(octets, 2));
     }
 
     // One value more, of a type without extension.
@@ -194,18 +185,18 @@ impl RowParts {
         ensures { self.new ≡ take_part kind octets.now self.old }
     {
         match kind {
-            LOCAL_IF => self.local = self.local.also(0, 2, octets),
-            LINK_STATUS => self.link = self.link.also(0, 3, octets),
-            OTHER_NEIGHB => self.other = self.other.also(0, 2, octets),
+            LOCAL_IF => self.local.take(0, 2, octets),
+            LINK_STATUS => self.link.take(0, 3, octets),
+            OTHER_NEIGHB => self.other.take(0, 2, octets),
             LINK_METRIC => self.take_metric(octets),
             MPR => {
-                self.flooding = or(self.flooding, says_flag(octets, 1));
-                self.routing = or(self.routing, says_flag(octets, 2));
+                set_if(&mut self.flooding, says_flag(octets, 1));
+                set_if(&mut self.routing, says_flag(octets, 2));
             }
             NBR_ADDR_TYPE => self.take_type(octets),
             GATEWAY => {
-                self.wrong_gateway = or(self.wrong_gateway, has_other_length(octets, 1));
-                self.gateway = self.gateway.also_octet(octets);
+                set_if(&mut self.wrong_gateway, has_other_length(octets, 1));
+                self.gateway.take_octet(octets);
             }
             _ => {}
         }
