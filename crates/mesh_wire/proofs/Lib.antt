@@ -18,6 +18,7 @@ pub mod Standing  -- probe, replay
 -- Lemmas of this crate alone.
 mod Addresses
 mod Collected
+mod Counted
 mod Deciding
 mod EachHello
 mod EachTc

@@ -20,3 +20,7 @@ abbrev pub Refuses : {X : Type 0} → ℕ → Option NetAddr → Result X WireFa
 Refuses number addr (Ok y) = ⊥
 Refuses number addr (Err (faults.Memory e)) = Unit {0}
 Refuses number addr (Err (faults.Broken n a)) = (n ≡ number) × (a ≡ addr)
+
+-- the summary of a value of which that holds
+abbrev pub Sums : {X S : Type 0} → (X → S) → (X → Type 0) → S → Type 0
+Sums {X} summary_of Is summary = (value : X) × Is value × (summary ≡ summary_of value)

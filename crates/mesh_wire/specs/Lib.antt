@@ -25,6 +25,7 @@ pub mod Runs
 pub mod Sizes
 pub mod Spellings
 pub mod Standing
+pub mod Summaries
 pub mod Tc
 pub mod TcHeading
 pub mod TcRules

@@ -41,8 +41,8 @@ fn is_other(value: Option<u8>, wanted: u8) -> bool
     }
 }
 
-// What the message says before its rows, or the first rule on it that is broken.
-fn heading_of(message: &Message) -> Result<Heading, u8>
+/// What the message says before its rows, or the first rule on it that is broken.
+pub(crate) fn heading_of(message: &Message) -> Result<Heading, u8>
     ensures heading { IfOk result (HeadingIs (fields_of_message message.now)) }
     ensures bounded { IfOk result (λ heading. heading.validity < 2 ^ 35) }
     ensures broken { IfErr result (λ number. FirstBroken (BreaksHello (fields_of_message message.now)) number None) }

@@ -12,6 +12,7 @@ mod parts;
 mod rows;
 mod rules;
 mod runs;
+mod summary;
 mod tc;
 mod times;
 mod write;
@@ -24,6 +25,7 @@ pub use laws::{
     each_is_read_or_refused, one_reading, worked_readings, worked_spellings,
     written_for_each_distance,
 };
+pub use summary::{HelloSummary, TcSummary, hello_summary, tc_summary};
 pub use tc::tc_of;
 pub use times::only_value;
 pub use write::{write_hello, write_tc};

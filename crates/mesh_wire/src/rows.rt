@@ -3,7 +3,7 @@ ghost use Rattle.std.specs.Prelude.{◌≡◌, map, IfOk, IfErr, None};
 ghost use Rattle.mesh_packet.specs.Fields.{fields_of_block};
 ghost use Rattle.mesh_wire.specs.Answers.{IfBroken};
 ghost use Rattle.mesh_wire.specs.Entries.{of_blocks};
-ghost use Rattle.mesh_wire.specs.Made.{AreMade, HasRows, HasBroken};
+ghost use Rattle.mesh_wire.specs.Made.{AreMade, CanBeMade, HasRows, HasCount, HasBroken};
 ghost use Rattle.mesh_wire.specs.RowRules.{sooner, first_rule};
 
 use crate::collect::{AddressParts, collect};
@@ -85,4 +85,29 @@ pub(crate) fn rows_in<R: Row>(alloc: Global, message: &Message) -> Result<Seq<R>
     }
     let rows = rows_of(alloc, told.as_slice())?;
     Ok(rows)
+}
+
+// A row can be made of each: making one changes nothing, so a compiler leaves the loop out.
+fn can_be_made<R: Row>(told: &[AddressParts])
+    ensures { CanBeMade R.is_from told.now }
+{
+    for i in 0..told.len() {
+        let _row = R::of_told(&told[i]);
+    }
+}
+
+/// How many rows a message has, or the first rule on rows that it breaks, at the first address that breaks it. No row is made.
+pub(crate) fn row_count<R: Row>(alloc: Global, message: &Message) -> Result<usize, WireFault>
+    ensures counted { IfOk result (HasCount R.is_from R.rule (of_blocks (map fields_of_block message.now.blocks))) }
+    ensures broken { IfErr result (IfBroken (HasBroken R.rule (of_blocks (map fields_of_block message.now.blocks)))) }
+{
+    let told = collect(alloc, message)?;
+    if let Some((number, net)) = first_rule::<R>(told.as_slice()) {
+        return Err(WireFault::Broken {
+            number,
+            addr: Some(net),
+        });
+    }
+    can_be_made::<R>(told.as_slice());
+    Ok(told.len())
 }

@@ -92,8 +92,8 @@ fn content_of(message: &Message) -> Option<(u16, bool)>
     }
 }
 
-// What the message says before its rows, or the first rule on it that is broken.
-fn heading_of(message: &Message) -> Result<Heading, u8>
+/// What the message says before its rows, or the first rule on it that is broken.
+pub(crate) fn heading_of(message: &Message) -> Result<Heading, u8>
     ensures heading { IfOk result (TcHeadingIs (fields_of_message message.now)) }
     ensures bounded { IfOk result (λ heading. heading.validity < 2 ^ 35) }
     ensures broken { IfErr result (λ number. FirstBroken (BreaksTc (fields_of_message message.now)) number None) }
