@@ -1,15 +1,15 @@
 -- That what is told of a message that was read is how it reads.
-use Rattle.std.proofs.Common.{ℕ, List, Option, Result, Ok, Err, inl, inr}
+use Rattle.std.proofs.Common.{ℕ, List, Option, Result, Ok, Err, inl, inr, ap, ◌∙◌}
 use Rattle.std.specs.Prelude.{IfOk, IfErr}
 use Rattle.mesh_atoms.specs.declared.addr.NetAddr.{NetAddr}
-use Rattle.mesh_wire.specs.Answers.{IfBroken}
+use Rattle.mesh_wire.specs.Answers.{IfBroken, Sums}
 use Rattle.mesh_wire.specs.Rules.{Keeps, FirstBroken}
 use Rattle.mesh_wire.specs.declared.fault.WireFault.{WireFault}
 use Rattle.mesh_wire.specs.declared.fault.WireFault.TheVariants.{Broken, Memory}
 use Rattle.mesh_report.specs.Readings.{Tells, Reads}
 
-pub told_reads : {X : Type 0} {Breaks : ℕ → Option NetAddr → Type 0} {Is : X → Type 0} {line_of : X → List ℕ} {text : List ℕ} (read : Result X WireFault)
-    → IfOk read Is → IfOk read (λ value. Keeps Breaks) → IfErr read (IfBroken (FirstBroken Breaks)) → Tells line_of read text → Reads Breaks Is line_of text
-told_reads (Ok value) is keeps broken told = inl (value, keeps, is, told)
-told_reads (Err (Broken number addr)) is keeps broken told = inr (number, addr, broken, told)
-told_reads (Err (Memory e)) is keeps broken told = absurd told
+pub told_reads : {X S : Type 0} {Breaks : ℕ → Option NetAddr → Type 0} {Is : X → Type 0} (summary_of : X → S) (line_of : S → List ℕ) {text : List ℕ} (read : Result S WireFault)
+    → IfOk read (Sums summary_of Is) → IfOk read (λ summary. Keeps Breaks) → IfErr read (IfBroken (FirstBroken Breaks)) → Tells line_of read text → Reads Breaks Is (λ value. line_of (summary_of value)) text
+told_reads summary_of line_of (Ok summary) sums keeps broken told = inl (sums.0, keeps, sums.1, told ∙ ap line_of sums.2)
+told_reads summary_of line_of (Err (Broken number addr)) sums keeps broken told = inr (number, addr, broken, told)
+told_reads summary_of line_of (Err (Memory e)) sums keeps broken told = absurd told

@@ -1,5 +1,5 @@
 -- How a HELLO or a TC reads, as the last line of its message.
-use Rattle.std.specs.Prelude.{◌≡◌, ◌≢◌, ◌⊎◌, ℕ, List, [], ◌++◌, length, codes, Option, Result, Ok, Err}
+use Rattle.std.specs.Prelude.{◌≡◌, ◌≢◌, ◌⊎◌, ℕ, List, [], ◌++◌, codes, Option, Result, Ok, Err}
 use Rattle.mesh_atoms.specs.declared.addr.NetAddr.{NetAddr}
 use Rattle.mesh_atoms.specs.declared.hello.Hello.{Hello}
 use Rattle.mesh_atoms.specs.declared.tc.Tc.{Tc}
@@ -7,26 +7,36 @@ use Rattle.mesh_packet.specs.Fields.{MessageFields}
 use Rattle.mesh_wire.specs.Hello.{HelloIs}
 use Rattle.mesh_wire.specs.HelloRules.{BreaksHello}
 use Rattle.mesh_wire.specs.Rules.{Keeps, FirstBroken}
+use Rattle.mesh_wire.specs.Summaries.{hello_summary_of, tc_summary_of}
 use Rattle.mesh_wire.specs.Tc.{TcIs}
 use Rattle.mesh_wire.specs.declared.fault.WireFault.{WireFault}
 use Rattle.mesh_wire.specs.declared.fault.WireFault.TheVariants.{Broken, Memory}
+use Rattle.mesh_wire.specs.declared.summary.HelloSummary.{HelloSummary}
+use Rattle.mesh_wire.specs.declared.summary.TcSummary.{TcSummary}
 use Rattle.mesh_wire.specs.TcRules.{BreaksTc}
 use Rattle.mesh_report.specs.Pieces.{numbered, numbered_or_none, addressed_by_number, chosen, named}
 
--- a HELLO; times are in ticks
-unfoldable pub hello_line : Hello → List ℕ
-hello_line hello =
+-- a HELLO by its summary; times are in ticks
+unfoldable pub hello_summary_line : HelloSummary → List ℕ
+hello_summary_line hello =
     (numbered (codes " reading hello validity ") hello.validity ++ numbered_or_none (codes " interval ") hello.interval)
     ++ (numbered (codes " flooding ") hello.willing.flooding ++ numbered (codes " routing ") hello.willing.routing)
-    ++ (numbered (codes " rows ") (length hello.rows) ++ codes "\n")
+    ++ (numbered (codes " rows ") hello.row_count ++ codes "\n")
 
--- a TC; times are in ticks
-unfoldable pub tc_line : Tc → List ℕ
-tc_line tc =
+-- a TC by its summary; times are in ticks
+unfoldable pub tc_summary_line : TcSummary → List ℕ
+tc_summary_line tc =
     (addressed_by_number (codes " reading tc originator ") tc.originator ++ numbered (codes " sequence ") tc.sequence
     ++ numbered (codes " ansn ") tc.ansn ++ chosen (codes " complete ") tc.complete)
     ++ (numbered (codes " validity ") tc.validity ++ numbered_or_none (codes " interval ") tc.interval)
-    ++ (numbered (codes " rows ") (length tc.rows) ++ codes "\n")
+    ++ (numbered (codes " rows ") tc.row_count ++ codes "\n")
+
+-- a HELLO, and a TC
+abbrev pub hello_line : Hello → List ℕ
+hello_line hello = hello_summary_line (hello_summary_of hello)
+
+abbrev pub tc_line : Tc → List ℕ
+tc_line tc = tc_summary_line (tc_summary_of tc)
 
 -- the rule of a HELLO or a TC that is broken first
 unfoldable pub broken_line : ℕ → List ℕ

@@ -8,9 +8,9 @@ ghost use Rattle.mesh_report.specs.Readings.{broken_line, Tells, IsReading};
 use crate::lines::put_rule;
 use crate::piece::Piece;
 use crate::pieces::{put_choice, put_number_or_none, put_numbered, put_router};
-use mesh_atoms::{Hello, Tc, Willing};
+use mesh_atoms::Willing;
 use mesh_packet::Message;
-use mesh_wire::{WireFault, hello_of, tc_of};
+use mesh_wire::{HelloSummary, TcSummary, WireFault, hello_summary, tc_summary};
 use std::alloc::{AllocError, Global};
 
 // Puts the times that a message tells.
@@ -56,12 +56,12 @@ trait Reading: Sized + Drop {
         ensures len { length line.new ≤ 320 };
 }
 
-impl Reading for Hello {
-    ghost use Rattle.mesh_report.specs.Readings.{hello_line};
+impl Reading for HelloSummary {
+    ghost use Rattle.mesh_report.specs.Readings.{hello_summary_line};
 
-    ghost line_of = { hello_line };
+    ghost line_of = { hello_summary_line };
 
-    #[tactic(auto, unfolding(crate::specs::Readings::hello_line))]
+    #[tactic(auto, unfolding(crate::specs::Readings::hello_summary_line))]
     fn put_line(&self, line: &mut Piece) {
         put_times(
             line,
@@ -70,12 +70,12 @@ impl Reading for Hello {
             self.interval,
         );
         put_willing(line, self.willing);
-        put_rows(line, self.rows.len());
+        put_rows(line, self.row_count);
     }
 }
 
 // Puts who sent a TC, by which numbers, and whether it tells all rows.
-fn put_content(line: &mut Piece, tc: &Tc)
+fn put_content(line: &mut Piece, tc: &TcSummary)
     requires { length line.old ≤ 10 }
     ensures text { line.new ≡ line.old ++ (addressed_by_number (codes " reading tc originator ") tc.now.originator
         ++ numbered (codes " sequence ") tc.now.sequence ++ numbered (codes " ansn ") tc.now.ansn ++ chosen (codes " complete ") tc.now.complete) }
@@ -87,16 +87,16 @@ fn put_content(line: &mut Piece, tc: &Tc)
     put_choice(line, *b" complete ", tc.complete);
 }
 
-impl Reading for Tc {
-    ghost use Rattle.mesh_report.specs.Readings.{tc_line};
+impl Reading for TcSummary {
+    ghost use Rattle.mesh_report.specs.Readings.{tc_summary_line};
 
-    ghost line_of = { tc_line };
+    ghost line_of = { tc_summary_line };
 
-    #[tactic(auto, unfolding(crate::specs::Readings::tc_line))]
+    #[tactic(auto, unfolding(crate::specs::Readings::tc_summary_line))]
     fn put_line(&self, line: &mut Piece) {
         put_content(line, self);
         put_times(line, *b" validity ", self.validity, self.interval);
-        put_rows(line, self.rows.len());
+        put_rows(line, self.row_count);
     }
 }
 
@@ -136,8 +136,8 @@ pub fn put_reading(alloc: Global, line: &mut Piece, message: &Message) -> Result
     ensures len { OnOk result (length line.new ≤ 320) }
 {
     match message.kind {
-        0 => put_read(line, hello_of(alloc, message)),
-        1 => put_read(line, tc_of(alloc, message)),
+        0 => put_read(line, hello_summary(alloc, message)),
+        1 => put_read(line, tc_summary(alloc, message)),
         _ => Ok(()),
     }
 }
