@@ -3,6 +3,7 @@ pub mod HeldLemmas  -- replay
 -- Lemmas of this crate alone.
 mod Emptied
 mod EventLemmas
+mod ReadingLemmas
 mod Seen
 mod SendingLemmas
 mod Spent

@@ -1,4 +1,5 @@
 pub mod Event
 pub mod Held
 pub mod Holding
+pub mod Reading
 pub mod Sending

@@ -6,3 +6,4 @@ mod hear;
 
 pub use crate::event::clock::tick;
 pub use crate::event::hear::hear_frame;
+pub(crate) use crate::event::hear::hear_typed;

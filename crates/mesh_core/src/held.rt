@@ -1,7 +1,6 @@
 //! The bases of a router, what expiry and a message do to them, and the frames that it sends.
 
 mod answers;
-mod heading;
 mod holding;
 mod onward;
 mod outbox;

@@ -4,6 +4,7 @@
 mod event;
 mod held;
 mod machine;
+mod reading;
 mod router;
 mod sending;
 mod steps;
@@ -14,5 +15,6 @@ pub use held::{Holding, Outbox};
 pub use machine::Machine;
 pub use mesh_machine::{Arrival, Fate, Frame, Heard, Read, RouterView, Said};
 pub use mesh_routes::graph_of;
+pub use reading::TypedFrame;
 pub use router::Core;
 pub use sending::{has_to_advertise, next_moment, send_hellos, send_tcs, tc_of_rows};

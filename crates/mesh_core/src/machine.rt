@@ -4,6 +4,7 @@ ghost use Rattle.mesh_machine.specs.Machine.{Event, Step, IsOpening, due};
 ghost use Rattle.mesh_machine.specs.Sendable.{IsSendable};
 
 use crate::held::Outbox;
+use crate::reading::TypedFrame;
 use crate::router::Core;
 use mesh_atoms::RouterSettings;
 use mesh_expire::Bases;
@@ -28,6 +29,23 @@ pub trait Machine: RouterView + Sized + Drop {
         requires later { (Self.state self.old).last ≤ arrival.now }
         requires iface { arrival.iface < length (Self.state self.old).settings.interfaces }
         ensures step { OnOk result (Step (Self.state self.old) (Event.Hear arrival bytes.now) out.new (Self.state self.new)) }
+        // Each frame that is sent is a packet, on an interface.
+        ensures sendable { OnOk result (All (IsSendable (Self.state self.old).settings) out.new) }
+        ensures settings { OnOk result ((Self.state self.new).settings ≡ (Self.state self.old).settings) }
+        ensures last { OnOk result ((Self.state self.new).last ≤ arrival.now) }
+        ensures due { OnOk result (due (Self.state self.new) ≡ due (Self.state self.old)) };
+
+    /// Hears a frame that was read before, as `hear_frame` does.
+    fn hear_typed_frame(
+        &mut self,
+        arrival: Arrival,
+        frame: &TypedFrame,
+        out: &mut Outbox,
+    ) -> Result<(), AllocError>
+        requires now { arrival.now < 2 ^ 62 }
+        requires later { (Self.state self.old).last ≤ arrival.now }
+        requires iface { arrival.iface < length (Self.state self.old).settings.interfaces }
+        ensures step { OnOk result (Step (Self.state self.old) (Event.Hear arrival frame.now) out.new (Self.state self.new)) }
         // Each frame that is sent is a packet, on an interface.
         ensures sendable { OnOk result (All (IsSendable (Self.state self.old).settings) out.new) }
         ensures settings { OnOk result ((Self.state self.new).settings ≡ (Self.state self.old).settings) }
@@ -71,6 +89,16 @@ impl<B: Bases> Machine for Core<B> {
     ) -> Result<(), AllocError> {
         out.clear();
         told(self.hear(arrival.now, arrival.iface, arrival.sender, bytes, out))
+    }
+
+    fn hear_typed_frame(
+        &mut self,
+        arrival: Arrival,
+        frame: &TypedFrame,
+        out: &mut Outbox,
+    ) -> Result<(), AllocError> {
+        out.clear();
+        told(self.hear_typed(arrival.now, arrival.iface, arrival.sender, frame, out))
     }
 
     fn tick_at(&mut self, now: u64, out: &mut Outbox) -> Result<(), AllocError> {

@@ -9,7 +9,7 @@ ghost use Rattle.mesh_radio.specs.Traffic.Ways.{AreWays};
 use crate::routers::{hear, sender_of, tick};
 use crate::traffic::{Landed, Traffic, Ways, send_all};
 use mesh_atoms::{Addr4, Bytes, Emission, NetEvent, RadioArc, Scenario, Seq};
-use mesh_core::{Machine, Outbox};
+use mesh_core::{Machine, Outbox, TypedFrame};
 use std::alloc::{AllocError, Global};
 use std::rc::Rc;
 
@@ -96,11 +96,11 @@ fn told(
 }
 
 /// The octets that are shared: themselves, where nobody else has a share, else a copy.
-fn octets_of(frame: Rc<Bytes>) -> Result<Bytes, AllocError>
+fn octets_of(frame: Rc<TypedFrame>) -> Result<Bytes, AllocError>
     ensures { IfOk result (λ bytes. bytes ≡ frame.value) }
 {
     match Rc::try_unwrap(frame) {
-        Ok(bytes) => Ok(bytes),
-        Err(shared) => shared.as_ref().copy(),
+        Ok(frame) => Ok(frame.into_octets()),
+        Err(shared) => shared.as_ref().octets().copy(),
     }
 }

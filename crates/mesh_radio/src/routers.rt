@@ -46,7 +46,7 @@ pub(crate) fn hear<R: Machine>(
         sender,
     };
     let router = &mut routers[arc.to];
-    router.hear_frame(arrival, landed.frame.as_ref().as_slice(), outbox)
+    router.hear_typed_frame(arrival, landed.frame.as_ref(), outbox)
 }
 
 /// A router ticks. The outbox has what it then sends.

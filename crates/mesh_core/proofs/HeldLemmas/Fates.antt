@@ -10,12 +10,9 @@ use Rattle.mesh_atoms.specs.declared.settings.RouterSettings.{RouterSettings}
 use Rattle.mesh_atoms.specs.State.{Neighbourhood, Topology, NotedMessages, Bases}
 use Rattle.mesh_atoms.specs.TakesHello.{HelloAnswer, TakesHello}
 use Rattle.mesh_packet.specs.Fields.{MessageFields}
-use Rattle.mesh_wire.specs.declared.fault.WireFault.{WireFault}
-use Rattle.mesh_wire.specs.declared.fault.WireFault.TheVariants as faults
-use Rattle.mesh_wire.specs.Answers.{IfBroken}
 use Rattle.mesh_wire.specs.Hello.{HelloIs}
 use Rattle.mesh_wire.specs.HelloRules.{BreaksHello}
-use Rattle.mesh_wire.specs.Rules.{Keeps, FirstBroken}
+use Rattle.mesh_wire.specs.Rules.{Keeps}
 use Rattle.mesh_wire.specs.TcRules.{BreaksTc, ShortPrefix}
 use Rattle.mesh_wire.specs.Kinds.{nbr_addr_type}
 use Rattle.mesh_wire.specs.Rows.{HasType, SaysFlag}
@@ -32,11 +29,8 @@ use Rattle.mesh_machine.specs.declared.fate.Read.{Read}
 use Rattle.mesh_machine.specs.declared.fate.Read.TheVariants as read
 use Rattle.mesh_machine.specs.declared.frame.Frame.{Frame}
 use Rattle.mesh_core.specs.Held.Reading.{ReadsTc, Taken_in, Passed_by}
+use Rattle.mesh_core.specs.Reading.Message.{IsReadAsBroken, Hello_breaks, Tc_breaks}
 use Rattle.mesh_machine.specs.Messages.{ConsidersForwarding, only, hello_read, other_read, IsHeading, ProcessesTc, Tc_taken, Tc_passed, TakesMessage, Hello_read, Hello_broken, Tc_broken, Other_passed}
-
--- the fate of a message that breaks a rule
-pub IsBrokenFate : WireFault → Fate → Type 0
-IsBrokenFate fault fate = (number : ℕ) × (net : Option NetAddr) × (fault ≡ faults.Broken number net) × (fate ≡ only (read.Broken number))
 
 module _ (settings : RouterSettings) (own : Addr4) (arrival : Arrival) (old : Bases) (message : MessageFields) (octets : List ℕ) where
   pub hello_taken : (near : Neighbourhood) (hello : Hello) (answer : HelloAnswer) (r : Read) → message.kind ≡ 0 → Keeps (BreaksHello message) → HelloIs message hello →
@@ -45,17 +39,10 @@ module _ (settings : RouterSettings) (own : Addr4) (arrival : Arrival) (old : Ba
   hello_taken near hello answer r kind keeps reads takes is =
       subst (λ (x : Read). TakesMessage settings own arrival old message octets (record old { neighbourhood = near }) [] (only x)) (sym is) (Hello_read hello kind keeps reads takes)
 
-  pub hello_breaks : (fault : WireFault) (fate : Fate) → message.kind ≡ 0 → IfBroken (FirstBroken (BreaksHello message)) fault → (number : ℕ) (net : Option NetAddr) → fault ≡ faults.Broken number net →
-      fate ≡ only (read.Broken number) → TakesMessage settings own arrival old message octets old [] fate
-  hello_breaks fault fate kind broken number net is fate_is =
-      subst (λ (f : Fate). TakesMessage settings own arrival old message octets old [] f) (sym fate_is)
-      (Hello_broken net kind (subst (λ (f : WireFault). IfBroken (FirstBroken (BreaksHello message)) f) is broken))
-
-  pub tc_breaks : (fault : WireFault) (fate : Fate) → message.kind ≡ 1 → IfBroken (FirstBroken (BreaksTc message)) fault → (number : ℕ) (net : Option NetAddr) → fault ≡ faults.Broken number net →
-      fate ≡ only (read.Broken number) → TakesMessage settings own arrival old message octets old [] fate
-  tc_breaks fault fate kind broken number net is fate_is =
-      subst (λ (f : Fate). TakesMessage settings own arrival old message octets old [] f) (sym fate_is)
-      (Tc_broken net kind (subst (λ (f : WireFault). IfBroken (FirstBroken (BreaksTc message)) f) is broken))
+  -- a message that breaks a rule changes nothing
+  pub breaks : {number : ℕ} → IsReadAsBroken message number → TakesMessage settings own arrival old message octets old [] (only (read.Broken number))
+  breaks (Hello_breaks net kind first) = Hello_broken net kind first
+  breaks (Tc_breaks net kind first) = Tc_broken net kind first
 
   pub other_taken : (heading : Heading) (noted : NotedMessages) (sent : List Frame) (onward : Forward) (p : Process) (r : Read) → message.kind ≢ 0 → message.kind ≢ 1 → IsHeading message heading →
       ConsidersForwarding settings own arrival heading octets false old noted sent onward → p ≡ process_of own heading old.noted → r ≡ other_read p →

@@ -1,20 +1,22 @@
 //! What a frame that is heard does to what a router holds.
 ghost use Rattle.std.specs.Prelude.{◌≡◌, ◌<◌, ◌^◌, ◌++◌, ℕ, List, length, IfOk, OnOk, OnErr};
 ghost use Rattle.mesh_atoms.specs.Sound.{Sound};
-ghost use Rattle.mesh_core.specs.Event.Hearing.{refused};
 ghost use Rattle.mesh_core.specs.Event.Holding.{state_of};
+ghost use Rattle.mesh_core.specs.Reading.Content.{AreReadAs, IsContentOf};
 ghost use Rattle.mesh_machine.specs.declared.fate.Fate.{Fate as FateValue};
 ghost use Rattle.mesh_machine.specs.declared.frame.Frame.{Frame};
 ghost use Rattle.mesh_machine.specs.Machine.{Hears, HearsPacket};
-ghost use Rattle.mesh_packet.specs.Fields.{fields_of_packet};
+ghost use Rattle.mesh_machine.specs.Sendable.{AreOctets};
+ghost use Rattle.mesh_packet.specs.Fields.{PacketFields};
 ghost use Rattle.mesh_packet.specs.Grammar.{FirstFault, Spells};
 
 use crate::event::ending::end_event;
 use crate::held::{Holding, Outbox};
-use mesh_atoms::{DecodeFault, Seq};
+use crate::reading::{FrameContent, TypedFrame, TypedMessage, read_content};
+use mesh_atoms::Seq;
 use mesh_expire::Bases;
 use mesh_machine::{Arrival, Fate, Heard};
-use mesh_packet::{Decoded, decode};
+use mesh_packet::{Span, one_reading};
 use mesh_renewal::Derived;
 use std::alloc::{AllocError, Global};
 
@@ -42,44 +44,89 @@ pub fn hear_frame<B: Bases>(
     ensures wanting { OnErr result (out.new ≡ out.old) }
 {
     let alloc = holding.settings().interfaces.allocator();
-    match decode(alloc, bytes) {
-        Ok(decoded) => take_packet(alloc, holding, derived, arrival, bytes, &decoded, out),
-        Err(fault) => refused(fault),
-    }
+    let content = read_content(alloc, bytes)?;
+    hear_content(holding, derived, arrival, bytes, &content, out)
 }
 
-// What is answered to a frame that isn't read.
-fn refused(fault: DecodeFault) -> Result<Heard, AllocError>
-    ensures { result ≡ refused fault }
-{
-    match fault {
-        DecodeFault::Refused(refusal) => Ok(Heard::Refused(refusal)),
-        DecodeFault::Memory(e) => Err(e),
-    }
-}
-
-// Takes a packet: what is sent is put at the end of `out` where memory suffices.
-fn take_packet<B: Bases>(
-    alloc: Global,
+/// A router hears a frame that reads so, as `hear_frame` does.
+pub(crate) fn hear_content<B: Bases>(
     holding: &mut Holding<B>,
     derived: &mut Derived,
     arrival: Arrival,
     bytes: &[u8],
-    decoded: &Decoded,
+    content: &FrameContent,
     out: &mut Outbox,
 ) -> Result<Heard, AllocError>
     requires now { arrival.now < 2 ^ 62 }
     requires iface { arrival.iface < length holding.old.settings.interfaces }
     requires sound { Sound (state_of holding.old derived.old) }
-    requires spelled { Spells (fields_of_packet decoded.now.packet) decoded.now.spans bytes.now }
+    requires content { IsContentOf bytes.now content.now }
+    ensures hears { IfOk result (λ answer. (sent : List Frame) × (out.new ≡ out.old ++ sent)
+        × Hears (state_of holding.old derived.old) arrival bytes.now answer sent (state_of holding.new derived.new)) }
+    ensures refused { (place reason : ℕ) → FirstFault bytes.now place reason → IfOk result (λ answer. answer ≡ Heard.Refused (record { place = place; reason = reason })) }
+    ensures sound { OnOk result (Sound (state_of holding.new derived.new)) }
+    ensures wanting { OnErr result (out.new ≡ out.old) }
+{
+    one_reading();
+    match content {
+        FrameContent::Refused(refusal) => Ok(Heard::Refused(*refusal)),
+        FrameContent::Messages(typed, spans) => take_packet(
+            holding,
+            derived,
+            arrival,
+            bytes,
+            typed.as_slice(),
+            spans.as_slice(),
+            out,
+        ),
+    }
+}
+
+/// A router hears a frame that was read before, as `hear_frame` does.
+pub(crate) fn hear_typed<B: Bases>(
+    holding: &mut Holding<B>,
+    derived: &mut Derived,
+    arrival: Arrival,
+    frame: &TypedFrame,
+    out: &mut Outbox,
+) -> Result<Heard, AllocError>
+    requires now { arrival.now < 2 ^ 62 }
+    requires iface { arrival.iface < length holding.old.settings.interfaces }
+    requires sound { Sound (state_of holding.old derived.old) }
+    ensures hears { IfOk result (λ answer. (sent : List Frame) × (out.new ≡ out.old ++ sent)
+        × Hears (state_of holding.old derived.old) arrival frame.now answer sent (state_of holding.new derived.new)) }
+    ensures refused { (place reason : ℕ) → FirstFault frame.now place reason → IfOk result (λ answer. answer ≡ Heard.Refused (record { place = place; reason = reason })) }
+    ensures octets { AreOctets frame.now }
+    ensures sound { OnOk result (Sound (state_of holding.new derived.new)) }
+    ensures wanting { OnErr result (out.new ≡ out.old) }
+{
+    let octets = frame.octets().as_slice();
+    hear_content(holding, derived, arrival, octets, frame.content(), out)
+}
+
+// Takes a packet whose messages read so and stand there: what is sent is put at the end of `out` where memory suffices.
+fn take_packet<B: Bases>(
+    holding: &mut Holding<B>,
+    derived: &mut Derived,
+    arrival: Arrival,
+    bytes: &[u8],
+    typed: &[TypedMessage],
+    spans: &[Span],
+    out: &mut Outbox,
+) -> Result<Heard, AllocError>
+    requires now { arrival.now < 2 ^ 62 }
+    requires iface { arrival.iface < length holding.old.settings.interfaces }
+    requires sound { Sound (state_of holding.old derived.old) }
+    requires packet { (packet : PacketFields) × Spells packet spans.now bytes.now × AreReadAs packet.messages typed.now }
     ensures hears { IfOk result (λ answer. (sent : List Frame) × (out.new ≡ out.old ++ sent)
         × Hears (state_of holding.old derived.old) arrival bytes.now answer sent (state_of holding.new derived.new)) }
     ensures wanting { OnErr result (out.new ≡ out.old) }
 {
+    let alloc = holding.settings().interfaces.allocator();
     let mut fates = Seq::new(alloc);
     let mut sent = Outbox::new(alloc);
     take_messages(
-        alloc, holding, derived, arrival, bytes, decoded, &mut fates, &mut sent,
+        holding, derived, arrival, bytes, typed, spans, &mut fates, &mut sent,
     )?;
     out.put_all(sent)?;
     Ok(Heard::Taken(fates))
@@ -87,33 +134,25 @@ fn take_packet<B: Bases>(
 
 // What is expired goes, the messages of a packet are taken, and what follows from the bases is renewed where they changed it.
 fn take_messages<B: Bases>(
-    alloc: Global,
     holding: &mut Holding<B>,
     derived: &mut Derived,
     arrival: Arrival,
     bytes: &[u8],
-    decoded: &Decoded,
+    typed: &[TypedMessage],
+    spans: &[Span],
     fates: &mut Seq<Fate>,
     out: &mut Outbox,
 ) -> Result<(), AllocError>
     requires now { arrival.now < 2 ^ 62 }
     requires iface { arrival.iface < length holding.old.settings.interfaces }
     requires sound { Sound (state_of holding.old derived.old) }
-    requires spelled { Spells (fields_of_packet decoded.now.packet) decoded.now.spans bytes.now }
+    requires packet { (packet : PacketFields) × Spells packet spans.now bytes.now × AreReadAs packet.messages typed.now }
     ensures hears { OnOk result ((given : List FateValue) × (sent : List Frame) × (fates.new ≡ fates.old ++ given) × (out.new ≡ out.old ++ sent)
         × HearsPacket (state_of holding.old derived.old) arrival bytes.now given sent (state_of holding.new derived.new)) }
 {
+    let alloc = holding.settings().interfaces.allocator();
     let own = holding.settings().originator();
     let idle = holding.expire(derived.last, arrival.now)?;
-    let quiet = holding.take_messages(
-        alloc,
-        arrival,
-        own,
-        bytes,
-        decoded.packet.messages.as_slice(),
-        decoded.spans.as_slice(),
-        fates,
-        out,
-    )?;
+    let quiet = holding.take_typed(alloc, arrival, own, bytes, typed, spans, fates, out)?;
     end_event(alloc, holding, arrival.now, idle & quiet, derived)
 }

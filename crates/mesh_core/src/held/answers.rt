@@ -1,7 +1,6 @@
 //! What becomes of a message, by what the bases answered.
-ghost use Rattle.std.specs.Prelude.{◌≡◌, ℕ, Option, IfOk};
+ghost use Rattle.std.specs.Prelude.{◌≡◌, true};
 ghost use Rattle.mesh_atoms.specs.declared.tc.Tc.{Tc as TcValue};
-ghost use Rattle.mesh_atoms.specs.declared.addr.NetAddr.{NetAddr as NetValue};
 ghost use Rattle.mesh_atoms.specs.TakesHello.{HelloAnswer};
 ghost use Rattle.mesh_nhdp.specs.Judged.{IsAnswer};
 ghost use Rattle.mesh_topo.specs.Answers.{answer_of};
@@ -11,23 +10,16 @@ use mesh_flood::{Forward, Process};
 use mesh_machine::{Fate, Read};
 use mesh_nhdp::HelloTaken;
 use mesh_topo::TcTaken;
-use mesh_wire::WireFault;
-use std::alloc::AllocError;
 
-/// The fate of a message that breaks a rule, which is always quiet; want of memory stays that.
-pub(crate) fn broken(fault: WireFault) -> Result<(Fate, bool), AllocError>
-    ensures { IfOk result (λ made. (number : ℕ) × (net : Option NetValue) × (fault ≡ WireFault.Broken number net) × (made.0 ≡ only (Read.Broken number))) }
+/// The fate of a message that breaks the rule of that number, which is always quiet.
+pub(crate) fn broken(number: u8) -> (Fate, bool)
+    ensures { result ≡ (only (Read.Broken number), true) }
 {
-    match fault {
-        WireFault::Broken { number, addr: _ } => {
-            let fate = Fate {
-                read: Read::Broken(number),
-                forward: Forward::NotFlooded,
-            };
-            Ok((fate, true))
-        }
-        WireFault::Memory(e) => Err(e),
-    }
+    let fate = Fate {
+        read: Read::Broken(number),
+        forward: Forward::NotFlooded,
+    };
+    (fate, true)
 }
 
 /// What is made of a HELLO that breaks no rule of its own.

@@ -1,5 +1,5 @@
 //! What a message does to the bases of a router.
-ghost use Rattle.std.specs.Prelude.{◌≡◌, ◌≢◌, ◌<◌, ◌≤◌, ◌+◌, ◌^◌, ◌++◌, ℕ, [], map, List, length, IfOk, OnOk, IsTrue};
+ghost use Rattle.std.specs.Prelude.{◌≡◌, ◌<◌, ◌≤◌, ◌+◌, ◌^◌, ◌++◌, ℕ, [], map, List, length, IfOk, OnOk, IsTrue};
 ghost use Rattle.mesh_atoms.specs.declared.addr.Addr4.{Addr4};
 ghost use Rattle.mesh_atoms.specs.Sound.{SoundNeighbourhood};
 ghost use Rattle.mesh_atoms.specs.State.{IsOriginator, NotedMessages, Topology as TopologyValue};
@@ -10,6 +10,8 @@ ghost use Rattle.mesh_packet.specs.Fields.{MessageFields, fields_of_message};
 ghost use Rattle.mesh_packet.specs.Grammar.{SpellsMessage};
 ghost use Rattle.mesh_core.specs.Held.Quiet.{IsQuiet};
 ghost use Rattle.mesh_core.specs.Held.Reading.{ReadsTc};
+ghost use Rattle.mesh_core.specs.Reading.Content.{AreReadAs};
+ghost use Rattle.mesh_core.specs.Reading.Message.{IsReadAs, IsReadAsHello, IsReadAsOther};
 ghost use Rattle.mesh_machine.specs.declared.fate.Fate.{Fate as FateValue};
 ghost use Rattle.mesh_machine.specs.declared.frame.Frame.{Frame};
 ghost use Rattle.mesh_machine.specs.Frames.{octets_at};
@@ -17,18 +19,17 @@ ghost use Rattle.mesh_machine.specs.Laws.{SoundBases};
 ghost use Rattle.mesh_machine.specs.Messages.{TakesMessage, TakesMessages, ProcessesTc, IsHeading, AreSpelled};
 
 use crate::held::answers::{broken, hello_read, is_processed, other_read, tc_read};
-use crate::held::heading::{heading_of, heading_of_tc};
 use crate::held::holding::Holding;
 use crate::held::onward::{judge, pass_on};
 use crate::held::outbox::Outbox;
-use mesh_atoms::{Addr4, Seq, Tc};
+use crate::reading::{TypedMessage, typed_messages};
+use mesh_atoms::{Addr4, Hello, Seq, Tc};
 use mesh_expire::Bases;
 use mesh_flood::{Flood, Forward, Heading, Process};
 use mesh_machine::{Arrival, Fate, Read};
 use mesh_nhdp::Nhdp;
 use mesh_packet::{Message, Span};
 use mesh_topo::Topology;
-use mesh_wire::{hello_of, tc_of};
 use std::alloc::{AllocError, Global};
 
 // Takes a TC into the topology where it is to be processed: what is made of it, whether it counts as processed, and whether others
@@ -92,73 +93,29 @@ fn process_tc<B: Bases>(
     Ok((fate, quiet))
 }
 
-// Takes a HELLO: its fate, and whether it was quiet.
+// Takes a HELLO that breaks no rule of its own: its fate, and whether it was quiet.
 fn take_hello<B: Bases>(
-    alloc: Global,
     nhdp: &mut Nhdp<B>,
     arrival: Arrival,
-    message: &Message,
+    hello: &Hello,
 ) -> Result<(Fate, bool), AllocError>
-    requires kind { message.now.kind ≡ 0 }
     requires now { arrival.now < 2 ^ 62 }
     requires iface { arrival.iface < length nhdp.old.settings.interfaces }
     requires sound { SoundNeighbourhood nhdp.old.settings arrival.now nhdp.old.near }
-    ensures taken { IfOk result (λ made. (own : Addr4) (octets : List ℕ) (topology : TopologyValue) (noted : NotedMessages) → TakesMessage nhdp.old.settings own arrival
-        (record { neighbourhood = nhdp.old.near; topology = topology; noted = noted }) (fields_of_message message.now) octets
+    requires reads { (message : MessageFields) × IsReadAsHello message hello.now }
+    ensures taken { IfOk result (λ made. (own : Addr4) (octets : List ℕ) (topology : TopologyValue) (noted : NotedMessages) (message : MessageFields)
+        → IsReadAsHello message hello.now → TakesMessage nhdp.old.settings own arrival
+        (record { neighbourhood = nhdp.old.near; topology = topology; noted = noted }) message octets
         (record { neighbourhood = nhdp.new.near; topology = topology; noted = noted }) [] made.0) }
     ensures quiet { IfOk result (λ made. IsTrue made.1 → SameNear nhdp.old.near arrival.now nhdp.new.near arrival.now) }
     ensures settings { nhdp.new.settings ≡ nhdp.old.settings }
 {
-    match hello_of(alloc, message) {
-        Ok(hello) => {
-            let (taken, changed) = nhdp.take_and_tell(
-                arrival.now,
-                arrival.iface,
-                arrival.sender,
-                &hello,
-            )?;
-            let fate = Fate {
-                read: hello_read(taken),
-                forward: Forward::NotFlooded,
-            };
-            Ok((fate, !changed))
-        }
-        Err(fault) => broken(fault),
-    }
-}
-
-// Takes a TC: its fate, and whether it was quiet.
-fn take_tc<B: Bases>(
-    alloc: Global,
-    nhdp: &Nhdp<B>,
-    topology: &mut Topology<B>,
-    flood: &mut Flood<B>,
-    arrival: Arrival,
-    own: Addr4,
-    message: &Message,
-    octets: &[u8],
-    out: &mut Outbox,
-) -> Result<(Fate, bool), AllocError>
-    requires kind { message.now.kind ≡ 1 }
-    requires now { arrival.now < 2 ^ 62 }
-    requires iface { arrival.iface < length flood.old.noted.received }
-    requires times { flood.old.times ≡ nhdp.now.settings.times }
-    requires spelled { SpellsMessage (fields_of_message message.now) octets.now }
-    ensures taken { IfOk result (λ made. (sent : List Frame) × (out.new ≡ out.old ++ sent) × TakesMessage nhdp.now.settings own arrival
-        (record { neighbourhood = nhdp.now.near; topology = topology.old; noted = flood.old.noted }) (fields_of_message message.now) octets.now
-        (record { neighbourhood = nhdp.now.near; topology = topology.new; noted = flood.new.noted }) sent made.0) }
-    ensures quiet { IfOk result (λ made. IsTrue made.1 → SameAdvertised topology.old topology.new) }
-    ensures times { flood.new.times ≡ flood.old.times }
-{
-    match tc_of(alloc, message) {
-        Ok(tc) => {
-            let heading = heading_of_tc(message, &tc);
-            process_tc(
-                alloc, nhdp, topology, flood, arrival, own, &tc, &heading, octets, out,
-            )
-        }
-        Err(fault) => broken(fault),
-    }
+    let (taken, changed) = nhdp.take_and_tell(arrival.now, arrival.iface, arrival.sender, hello)?;
+    let fate = Fate {
+        read: hello_read(taken),
+        forward: Forward::NotFlooded,
+    };
+    Ok((fate, !changed))
 }
 
 // Takes a message of another type, which is always quiet.
@@ -168,84 +125,122 @@ fn take_other<B: Bases>(
     flood: &mut Flood<B>,
     arrival: Arrival,
     own: Addr4,
-    message: &Message,
+    heading: &Option<Heading>,
     octets: &[u8],
     out: &mut Outbox,
 ) -> Result<(Fate, bool), AllocError>
-    requires no_hello { message.now.kind ≢ 0 }
-    requires no_tc { message.now.kind ≢ 1 }
     requires now { arrival.now < 2 ^ 62 }
     requires iface { arrival.iface < length flood.old.noted.received }
     requires times { flood.old.times ≡ nhdp.now.settings.times }
-    requires spelled { SpellsMessage (fields_of_message message.now) octets.now }
-    ensures taken { IfOk result (λ made. (sent : List Frame) × (out.new ≡ out.old ++ sent) × ((topology : TopologyValue) → TakesMessage nhdp.now.settings own arrival
-        (record { neighbourhood = nhdp.now.near; topology = topology; noted = flood.old.noted }) (fields_of_message message.now) octets.now
+    requires message { (message : MessageFields) × SpellsMessage message octets.now × IsReadAsOther message heading.now }
+    ensures taken { IfOk result (λ made. (sent : List Frame) × (out.new ≡ out.old ++ sent) × ((topology : TopologyValue) (message : MessageFields)
+        → IsReadAsOther message heading.now → TakesMessage nhdp.now.settings own arrival
+        (record { neighbourhood = nhdp.now.near; topology = topology; noted = flood.old.noted }) message octets.now
         (record { neighbourhood = nhdp.now.near; topology = topology; noted = flood.new.noted }) sent made.0)) }
     ensures times { flood.new.times ≡ flood.old.times }
 {
-    let Some(heading) = heading_of(message) else {
-        let fate = Fate {
-            read: Read::Other,
-            forward: Forward::NotFlooded,
-        };
-        return Ok((fate, true));
-    };
-    let count = nhdp.settings().interfaces.len();
-    let verdict = judge(nhdp, flood, arrival, own, &heading);
-    pass_on(
-        alloc, flood, count, arrival, &heading, octets, &verdict, false, out,
-    )?;
-    let fate = Fate {
-        read: other_read(verdict.process),
-        forward: verdict.forward,
-    };
-    Ok((fate, true))
+    match heading {
+        None => {
+            let fate = Fate {
+                read: Read::Other,
+                forward: Forward::NotFlooded,
+            };
+            Ok((fate, true))
+        }
+        Some(heading) => {
+            let count = nhdp.settings().interfaces.len();
+            let verdict = judge(nhdp, flood, arrival, own, heading);
+            pass_on(
+                alloc, flood, count, arrival, heading, octets, &verdict, false, out,
+            )?;
+            let fate = Fate {
+                read: other_read(verdict.process),
+                forward: verdict.forward,
+            };
+            Ok((fate, true))
+        }
+    }
 }
 
 impl<B: Bases> Holding<B> {
-    // Takes a message: its fate, and whether it was quiet.
+    // Takes a message that reads so: its fate, and whether it was quiet.
     fn take_message(
         &mut self,
         alloc: Global,
         arrival: Arrival,
         own: Addr4,
-        message: &Message,
+        typed: &TypedMessage,
         octets: &[u8],
         out: &mut Outbox,
     ) -> Result<(Fate, bool), AllocError>
         requires now { arrival.now < 2 ^ 62 }
         requires iface { arrival.iface < length self.old.settings.interfaces }
         requires sound { SoundBases self.old.settings arrival.now self.old.bases }
-        requires spelled { SpellsMessage (fields_of_message message.now) octets.now }
-        ensures taken { IfOk result (λ made. (sent : List Frame) × (out.new ≡ out.old ++ sent)
-            × TakesMessage self.old.settings own arrival self.old.bases (fields_of_message message.now) octets.now self.new.bases sent made.0) }
+        requires message { (message : MessageFields) × SpellsMessage message octets.now × IsReadAs message typed.now }
+        ensures taken { IfOk result (λ made. (sent : List Frame) × (out.new ≡ out.old ++ sent) × ((message : MessageFields) → IsReadAs message typed.now
+            → TakesMessage self.old.settings own arrival self.old.bases message octets.now self.new.bases sent made.0)) }
         ensures quiet { IfOk result (λ made. IsTrue made.1 → IsQuiet self.old.bases arrival.now self.new.bases arrival.now) }
         ensures settings { self.new.settings ≡ self.old.settings }
     {
-        match message.kind {
-            0 => take_hello(alloc, &mut self.nhdp, arrival, message),
-            1 => take_tc(
+        match typed {
+            TypedMessage::Hello(hello) => take_hello(&mut self.nhdp, arrival, hello),
+            TypedMessage::Tc(heading, tc) => process_tc(
                 alloc,
                 &self.nhdp,
                 &mut self.topology,
                 &mut self.flood,
                 arrival,
                 own,
-                message,
+                tc,
+                heading,
                 octets,
                 out,
             ),
-            _ => take_other(
+            TypedMessage::Broken(number) => Ok(broken(*number)),
+            TypedMessage::Other(heading) => take_other(
                 alloc,
                 &self.nhdp,
                 &mut self.flood,
                 arrival,
                 own,
-                message,
+                heading,
                 octets,
                 out,
             ),
         }
+    }
+
+    /// Takes the messages of a frame that read so, as `take_messages` does.
+    pub(crate) fn take_typed(
+        &mut self,
+        alloc: Global,
+        arrival: Arrival,
+        own: Addr4,
+        bytes: &[u8],
+        typed: &[TypedMessage],
+        spans: &[Span],
+        fates: &mut Seq<Fate>,
+        out: &mut Outbox,
+    ) -> Result<bool, AllocError>
+        requires now { arrival.now < 2 ^ 62 }
+        requires iface { arrival.iface < length self.old.settings.interfaces }
+        requires own { IsOriginator self.old.settings own }
+        requires sound { SoundBases self.old.settings arrival.now self.old.bases }
+        requires messages { (messages : List MessageFields) × AreSpelled bytes.now messages spans.now × AreReadAs messages typed.now }
+        ensures taken { OnOk result ((given : List FateValue) × (sent : List Frame) × (fates.new ≡ fates.old ++ given) × (out.new ≡ out.old ++ sent)
+            × ((messages : List MessageFields) → AreSpelled bytes.now messages spans.now → AreReadAs messages typed.now
+            → TakesMessages self.old.settings own arrival bytes.now self.old.bases messages spans.now self.new.bases sent given)) }
+        ensures settings { self.new.settings ≡ self.old.settings }
+        ensures quiet { IfOk result (λ quiet. IsTrue quiet → IsQuiet self.old.bases arrival.now self.new.bases arrival.now) }
+    {
+        let mut quiet = true;
+        for i in 0..typed.len() {
+            let octets = octets_of(bytes, spans[i]);
+            let (fate, same) = self.take_message(alloc, arrival, own, &typed[i], octets, out)?;
+            fates.push(fate)?;
+            quiet &= same;
+        }
+        Ok(quiet)
     }
 
     /// Takes the messages of a frame that is heard at a moment below 2^62 on one of the router's interfaces, in order; `own` is the
@@ -273,15 +268,17 @@ impl<B: Bases> Holding<B> {
         ensures settings { self.new.settings ≡ self.old.settings }
         ensures quiet { IfOk result (λ quiet. IsTrue quiet → IsQuiet self.old.bases arrival.now self.new.bases arrival.now) }
     {
-        let mut quiet = true;
-        for i in 0..messages.len() {
-            let message = &messages[i];
-            let octets = octets_of(bytes, spans[i]);
-            let (fate, same) = self.take_message(alloc, arrival, own, message, octets, out)?;
-            fates.push(fate)?;
-            quiet &= same;
-        }
-        Ok(quiet)
+        let typed = typed_messages(alloc, messages)?;
+        self.take_typed(
+            alloc,
+            arrival,
+            own,
+            bytes,
+            typed.as_slice(),
+            spans,
+            fates,
+            out,
+        )
     }
 }
 

@@ -3,7 +3,7 @@ ghost use Rattle.std.specs.Prelude.{◌≡◌, ◌<◌, ◌≤◌, [], ◌∷◌
 ghost use Rattle.mesh_machine.specs.Traffic.{IsHeardFirst};
 ghost use Rattle.mesh_radio.specs.Traffic.Air.{delivery_of};
 
-use mesh_atoms::Bytes;
+use mesh_core::TypedFrame;
 use std::alloc::{AllocError, Global};
 use std::collections::BTreeMap;
 use std::marker::Model;
@@ -16,11 +16,11 @@ pub struct Turn {
     pub number: u64,
 }
 
-/// The arc by which a frame comes, and its octets, which are kept once for all who hear them.
+/// The arc by which a frame comes, and the frame, which is kept and read once for all who hear it.
 #[derive(Drop)]
 pub struct Flight {
     pub arc: usize,
-    pub frame: Rc<Bytes>,
+    pub frame: Rc<TypedFrame>,
 }
 
 /// A frame that is heard.
@@ -28,7 +28,7 @@ pub struct Flight {
 pub struct Landed {
     pub moment: u64,
     pub arc: usize,
-    pub frame: Rc<Bytes>,
+    pub frame: Rc<TypedFrame>,
 }
 
 /// The frames in the air. Contracts see them in order of sending and then arc.
@@ -64,7 +64,7 @@ impl Air {
 
     /// Puts a frame in the air behind all others. After 2^64 - 1 deliveries it gives up as for want of memory, which
     /// leaves everything as it was.
-    pub fn put(&mut self, moment: u64, arc: usize, frame: Rc<Bytes>) -> Result<(), AllocError>
+    pub fn put(&mut self, moment: u64, arc: usize, frame: Rc<TypedFrame>) -> Result<(), AllocError>
         ensures { OnOk result (self.new ≡ self.old ++ record { moment = moment; arc = arc; frame = frame.value } ∷ []) }
     {
         let Some(made) = self.made.checked_add(1) else {

@@ -11,7 +11,7 @@ use crate::traffic::air::Air;
 use crate::traffic::draws::Draws;
 use crate::traffic::ways::{Ways, leaving_of};
 use mesh_atoms::{Bytes, Counts, Emission, RadioArc, Scenario, Seq};
-use mesh_core::Outbox;
+use mesh_core::{Outbox, TypedFrame};
 use std::alloc::{AllocError, Global};
 use std::rc::Rc;
 
@@ -72,7 +72,7 @@ fn send(
 {
     traffic.counts.sent = traffic.counts.sent.wrapping_add(1);
     let arcs = leaving_of(scenario, ways, router, iface);
-    let shared = Rc::new(alloc, bytes_of(alloc, frame)?)?;
+    let shared = Rc::new(alloc, TypedFrame::new(alloc, bytes_of(alloc, frame)?)?)?;
     let lost = spread(alloc, scenario, now, &shared, arcs, traffic)?;
     Ok(Emission {
         iface,
@@ -86,7 +86,7 @@ fn spread(
     alloc: Global,
     scenario: &Scenario,
     now: u64,
-    frame: &Rc<Bytes>,
+    frame: &Rc<TypedFrame>,
     ways: &[(usize, RadioArc)],
     traffic: &mut Traffic,
 ) -> Result<Seq<usize>, AllocError>

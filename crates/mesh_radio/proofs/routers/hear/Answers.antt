@@ -6,16 +6,16 @@ use Rattle.mesh_radio.specs.Scene.{Stepped}
 use Rattle.mesh_radio.proofs.Steps.{its_state, stepped}
 use Rattle.mesh_radio.proofs.routers.hear.Goals as goal
 
-pub hear_frame-requires-clause-now : goal.hear_frame-requires-clause-now
-hear_frame-requires-clause-now g c = c.requires.early
+pub hear_typed_frame-requires-clause-now : goal.hear_typed_frame-requires-clause-now
+hear_typed_frame-requires-clause-now g c = c.requires.early
 
-pub hear_frame-requires-clause-later : goal.hear_frame-requires-clause-later
-hear_frame-requires-clause-later g c =
+pub hear_typed_frame-requires-clause-later : goal.hear_typed_frame-requires-clause-later
+hear_typed_frame-requires-clause-later g c =
     let (was, at, late, less) = c.requires.stands in
     subst (λ (q : State). q.last ≤ c.args.landed.now.moment) (its_state g.R.RouterView.state c.args.routers.now.items c.args.arc.now.to was at c.index_mut-router.result.now c.index_mut-router.ensures.value) late
 
-pub hear_frame-requires-clause-iface : goal.hear_frame-requires-clause-iface
-hear_frame-requires-clause-iface g c =
+pub hear_typed_frame-requires-clause-iface : goal.hear_typed_frame-requires-clause-iface
+hear_typed_frame-requires-clause-iface g c =
     let (was, at, late, less) = c.requires.stands in
     subst (λ (q : State). c.args.arc.now.to_iface < length q.settings.interfaces)
     (its_state g.R.RouterView.state c.args.routers.now.items c.args.arc.now.to was at c.index_mut-router.result.now c.index_mut-router.ensures.value) less
@@ -26,9 +26,9 @@ returns g c =
     let state = g.R.RouterView.state in
     let x = c.args.arc.now.to in
     let routers = c.args.routers.now.items in
-    let heard = c.hear_frame.ensures in
-    subst (λ (octets : List ℕ). OnOk c.hear_frame.result (Stepped (map state routers) (map state (slice_set routers x c.hear_frame.new.self)) x c.args.landed.now.moment
-    (Hear (record { now = c.args.landed.now.moment; iface = c.args.arc.now.to_iface; sender = c.args.sender }) octets) c.hear_frame.new.out (λ before after. after ≡ before)))
-    (c.as_slice.ensures ∙ c.as_ref.ensures)
-    (stepped state routers x was at c.hear_frame.result c.args.landed.now.moment _ c.hear_frame.new.out c.index_mut-router.result.now c.hear_frame.new.self (λ before after. after ≡ before)
+    let heard = c.hear_typed_frame.ensures in
+    subst (λ (octets : List ℕ). OnOk c.hear_typed_frame.result (Stepped (map state routers) (map state (slice_set routers x c.hear_typed_frame.new.self)) x c.args.landed.now.moment
+    (Hear (record { now = c.args.landed.now.moment; iface = c.args.arc.now.to_iface; sender = c.args.sender }) octets) c.hear_typed_frame.new.out (λ before after. after ≡ before)))
+    c.as_ref.ensures
+    (stepped state routers x was at c.hear_typed_frame.result c.args.landed.now.moment _ c.hear_typed_frame.new.out c.index_mut-router.result.now c.hear_typed_frame.new.self (λ before after. after ≡ before)
     c.index_mut-router.ensures.value heard.step heard.sendable heard.settings heard.last heard.due)

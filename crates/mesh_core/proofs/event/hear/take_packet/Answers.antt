@@ -9,5 +9,5 @@ take_messages-requires-clause-iface g c = c.requires.iface
 pub take_messages-requires-clause-sound : goal.take_messages-requires-clause-sound
 take_messages-requires-clause-sound g c = c.requires.sound
 
-pub take_messages-requires-clause-spelled : goal.take_messages-requires-clause-spelled
-take_messages-requires-clause-spelled g c = c.requires.spelled
+pub take_messages-requires-clause-packet : goal.take_messages-requires-clause-packet
+take_messages-requires-clause-packet g c = c.requires.packet

@@ -1,22 +1,19 @@
-use Rattle.std.proofs.Common.{refl}
-use Rattle.mesh_core.proofs.HeldLemmas.Fates.{hello_taken, hello_breaks, if_ok}
-use Rattle.mesh_core.proofs.HeldLemmas.Quiet.{near_equal, not_true}
+use Rattle.std.proofs.Common.{arith, refl}
+use Rattle.mesh_core.proofs.HeldLemmas.Fates.{hello_taken}
+use Rattle.mesh_core.proofs.HeldLemmas.Quiet.{not_true}
 use Rattle.mesh_core.proofs.held.taking.take_hello.Goals as goal
 
-pub returns-in_ok-taken-in-Ok-clause-taken : goal.returns-in_ok-taken-in-Ok-clause-taken
-returns-in_ok-taken-in-Ok-clause-taken g c = λ own octets topology noted.
-    let (answer, is, takes) = c.in_ok-taken-in-Ok.ensures.ok in
-    hello_taken c.args.nhdp.now.settings own c.args.arrival (record { neighbourhood = c.args.nhdp.now.near; topology = topology; noted = noted }) _ octets c.take_and_tell.new.self.near c.in-Ok.hello answer c.hello_read.result
-    c.requires.kind c.in-Ok.ensures.keeps c.in-Ok.ensures.reads takes (c.hello_read.ensures answer is)
+pub take_and_tell-requires-clause-lasts : goal.take_and_tell-requires-clause-lasts
+take_and_tell-requires-clause-lasts g c = c.requires.reads.1.says.validity.1
 
-pub returns-in_ok-taken-in-Ok-clause-quiet : goal.returns-in_ok-taken-in-Ok-clause-quiet
-returns-in_ok-taken-in-Ok-clause-quiet g c = λ quiet. c.in_ok-taken-in-Ok.ensures.same (not_true c.in_ok-taken-in-Ok.changed _ refl quiet)
+pub take_and_tell-requires-clause-validity : goal.take_and_tell-requires-clause-validity
+take_and_tell-requires-clause-validity g c = let below = c.requires.reads.1.validity in omega (arith, below)
 
-pub returns-in-Err-clause-taken : goal.returns-in-Err-clause-taken
-returns-in-Err-clause-taken g c =
-    if_ok c.broken.result (λ made (number, net, is, fate_is) own octets topology noted.
-    hello_breaks c.args.nhdp.now.settings own c.args.arrival (record { neighbourhood = c.args.nhdp.now.near; topology = topology; noted = noted }) _ octets c.in-Err.fault made.0 c.requires.kind c.in-Err.ensures.broken number net is fate_is)
-    c.broken.ensures
+pub returns-clause-taken : goal.returns-clause-taken
+returns-clause-taken g c = λ own octets topology noted message reads.
+    let (answer, is, takes) = c.in_ok-taken.ensures.ok in
+    hello_taken c.args.nhdp.now.settings own c.args.arrival (record { neighbourhood = c.args.nhdp.now.near; topology = topology; noted = noted }) message octets c.take_and_tell.new.self.near c.args.hello.now answer c.hello_read.result
+    reads.kind reads.keeps reads.says takes (c.hello_read.ensures answer is)
 
-pub returns-in-Err-clause-quiet : goal.returns-in-Err-clause-quiet
-returns-in-Err-clause-quiet g c = if_ok c.broken.result (λ made fate quiet. near_equal _ _ c.args.arrival.now refl) c.broken.ensures
+pub returns-clause-quiet : goal.returns-clause-quiet
+returns-clause-quiet g c = λ quiet. c.in_ok-taken.ensures.same (not_true c.in_ok-taken.changed _ refl quiet)

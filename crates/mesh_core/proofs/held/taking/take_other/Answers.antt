@@ -9,27 +9,30 @@ use Rattle.mesh_machine.specs.Messages.{ConsidersForwarding, forwarding, Other_l
 use Rattle.mesh_core.proofs.HeldLemmas.Fates.{other_taken}
 use Rattle.mesh_core.proofs.held.taking.take_other.Goals as goal
 
-pub returns-in_default-clause-taken : goal.returns-in_default-clause-taken
-returns-in_default-clause-taken g c = ([], sym (append-nil _), λ topology. Other_left c.requires.no_hello c.requires.no_tc (c.in_default.ensures.none refl))
+pub returns-in-None-clause-taken : goal.returns-in-None-clause-taken
+returns-in-None-clause-taken g c = ([], sym (append-nil _), λ topology message reads. Other_left reads.no_hello reads.no_tc (reads.none (rw c.in-None.is refl)))
 
-pub returns-clause-taken : goal.returns-clause-taken
-returns-clause-taken g c =
+pub pass_on-requires-clause-message : goal.pass_on-requires-clause-message
+pass_on-requires-clause-message g c = let (message, spelled, reads) = c.requires.message in (message, spelled, rw c.in-Some.is at reads.some)
+
+pub returns-in_ok-pass_on-in-Some-clause-taken : goal.returns-in_ok-pass_on-in-Some-clause-taken
+returns-in_ok-pass_on-in-Some-clause-taken g c =
     let settings : RouterSettings = c.args.nhdp.now.settings in
     let (link, selector, answered) = c.judge-verdict.ensures.forward in
     let sent : List Frame = forwarding c.len-count.result c.args.octets.now c.judge-verdict.result.forward in
     let count : c.len-count.result ≡ length settings.interfaces = c.len-count.ensures ∙ ap (λ (r : RouterSettings). length r.interfaces) c.settings.ensures in (
       sent,
-      c.in_ok-pass_on.ensures.sent,
-      λ topology.
+      c.in_ok-pass_on-in-Some.ensures.sent,
+      λ topology message reads.
           let old : Bases = record { neighbourhood = c.args.nhdp.now.near; topology = topology; noted = c.args.flood.now.noted } in
           let considered : ConsidersForwarding settings c.args.own c.args.arrival c.in-Some.heading c.args.octets.now false old c.pass_on.new.flood.noted sent c.judge-verdict.result.forward =
           record {
             link = link;
             selector = selector;
             answered = answered;
-            notes = subst (λ (t : Times). AfterNote t c.args.arrival.now c.args.arrival.iface c.in-Some.heading false c.judge-verdict.result.forward c.args.flood.now.noted c.pass_on.new.flood.noted) c.requires.times c.in_ok-pass_on.ensures.noted;
+            notes = subst (λ (t : Times). AfterNote t c.args.arrival.now c.args.arrival.iface c.in-Some.heading false c.judge-verdict.result.forward c.args.flood.now.noted c.pass_on.new.flood.noted) c.requires.times c.in_ok-pass_on-in-Some.ensures.noted;
             sends = ap (λ (n : ℕ). forwarding n c.args.octets.now c.judge-verdict.result.forward) count;
           } in
-          other_taken settings c.args.own c.args.arrival old _ c.args.octets.now c.in-Some.heading c.pass_on.new.flood.noted sent c.judge-verdict.result.forward
-          c.judge-verdict.result.process c.other_read.result c.requires.no_hello c.requires.no_tc c.in-Some.ensures.some considered c.judge-verdict.ensures.process c.other_read.ensures,
+          other_taken settings c.args.own c.args.arrival old message c.args.octets.now c.in-Some.heading c.pass_on.new.flood.noted sent c.judge-verdict.result.forward
+          c.judge-verdict.result.process c.other_read.result reads.no_hello reads.no_tc (rw c.in-Some.is at reads.some) considered c.judge-verdict.ensures.process c.other_read.ensures,
     )

@@ -1,7 +1,7 @@
 use Rattle.std.proofs.Common.{refl, sym, None}
 use Rattle.mesh_wire.specs.TcRules.{AddressWidth}
 use Rattle.mesh_machine.proofs.Originators.{not_other}
-use Rattle.mesh_core.proofs.held.heading.heading_of_tc.Goals as goal
+use Rattle.mesh_core.proofs.reading.heading.heading_of_tc.Goals as goal
 
 pub returns : goal.returns
 returns c = record {
