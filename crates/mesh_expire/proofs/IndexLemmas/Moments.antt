@@ -1,7 +1,7 @@
 -- The moments of a table, in order.
 use Rattle.std.proofs.lemmas.Bool.{lt-ltb, le-ltb, eqb-true}
-use Rattle.std.proofs.Common.{◌≡◌, ℕ, ◌<◌, ◌≤◌, arith, Bool, true, false, cond, ◌&&◌, Option, Some, None, refl, sym, ap, subst, ◌∙◌, nat_eq}
-use Rattle.std.specs.Prelude.{IsTrue}
+use Rattle.std.proofs.Common.{◌≡◌, ℕ, ◌<◌, ◌≤◌, arith, Bool, true, false, cond, ◌&&◌, Option, Some, None, Result, Ok, Err, refl, sym, ap, subst, ◌∙◌, nat_eq}
+use Rattle.std.specs.Prelude.{IsTrue, OnErr}
 use Rattle.std.specs.Ordering.{nat_cmp, is_eq}
 use Rattle.std.specs.declared.cmp.Ordering.{Ordering}
 use Rattle.std.specs.Cmp.{IsEquivalence, both_tied, unsigned_ties, nat_eq_equiv}
@@ -60,6 +60,11 @@ same_until {V} x y h = let same : x ≡ y = cc in ap (λ (z : V × ℕ). z.1) sa
 
 gone : {V : Type 0} (now moment : ℕ) (value : V) → moment ≤ now → None ≡ if_live now (Some (value, moment))
 gone now moment value h = rw (le-ltb now moment h) refl
+
+-- what holds anyway holds after an error
+pub on_err : {A E P : Type 0} (r : Result A E) → P → OnErr r P
+on_err (Ok x) h = tt
+on_err (Err e) h = h
 
 module _ {K : Type 0} (eq : K → K → Bool) (cmp : K → K → Ordering) (agree : (x y : K) → eq x y ≡ is_eq (cmp x y)) where
   at_pair : (moment : ℕ) (key : K) (m : ℕ) (q : K) → is_at (moment_cmp cmp (moment, key)) (m, q) ≡ (nat_eq moment m && eq key q)

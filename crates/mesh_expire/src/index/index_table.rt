@@ -69,13 +69,30 @@ fn move_moment<K: Key + Ord + Drop>(
     Ok(())
 }
 
-fn until_at<K: Key + Hash, V>(map: &IndexMap<K, (V, u64)>, key: &K) -> Option<u64>
-    ensures { result ≡ until_of (find K.eq map.now.entries key.now) }
+// Makes the entry of a key that has none.
+fn add_in<K: Key + Ord + Hash + Drop, V: Drop>(
+    map: &mut IndexMap<K, (V, u64)>,
+    moments: &mut BTreeSet<(u64, K)>,
+    key: K,
+    value: V,
+    until: u64,
+) -> Result<(), AllocError>
+    requires tells { Tells K.eq K.cmp moments.old map.old.entries }
+    requires absent { find K.eq map.old.entries key ≡ None }
+    ensures tells { Tells K.eq K.cmp moments.new map.new.entries }
+    ensures distinct { HasDistinctKeys K.eq map.new.entries }
+    ensures ok { OnOk result (SetsOnly K.eq map.old.entries map.new.entries key (Some (value, until))) }
+    ensures err { OnErr result (map.new.entries ≡ map.old.entries) }
+    ensures count { OnOk result (length map.new.entries ≡ length map.old.entries + 1) }
 {
-    match map.get(key) {
-        Some(entry) => Some(entry.1),
-        None => None,
-    }
+    // Its keys are distinct, which the proof needs.
+    let _count = map.len();
+    move_moment(moments, key, None, until)?;
+    let Err(_) = map.insert(key, (value, until)) else {
+        return Ok(());
+    };
+    moments.remove(&(until, key));
+    Err(AllocError)
 }
 
 fn put_in<K: Key + Ord + Hash + Drop, V: Drop>(
@@ -94,13 +111,12 @@ fn put_in<K: Key + Ord + Hash + Drop, V: Drop>(
 {
     // Its keys are distinct, which the proof needs.
     let _count = map.len();
-    let before = until_at(map, &key);
-    move_moment(moments, key, before, until)?;
-    let Err(_) = map.insert(key, (value, until)) else {
-        return Ok(());
+    let Some(entry) = map.get_mut(&key) else {
+        return add_in(map, moments, key, value, until);
     };
-    moments.remove(&(until, key));
-    Err(AllocError)
+    move_moment(moments, key, Some(entry.1), until)?;
+    *entry = (value, until);
+    Ok(())
 }
 
 fn remove_from<K: Key + Ord + Hash + Drop, V: Drop>(
@@ -181,13 +197,11 @@ fn set_until_in<K: Key + Ord + Hash + Drop, V>(
 {
     // Its keys are distinct, which the proof needs.
     let _count = map.len();
-    let Some(before) = until_at(map, key) else {
+    let Some(entry) = map.get_mut(key) else {
         return Ok(false);
     };
-    move_moment(moments, *key, Some(before), until)?;
-    if let Some(entry) = map.get_mut(key) {
-        entry.1 = until;
-    }
+    move_moment(moments, *key, Some(entry.1), until)?;
+    entry.1 = until;
     Ok(true)
 }
 
