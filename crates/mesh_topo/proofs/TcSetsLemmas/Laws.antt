@@ -1,7 +1,9 @@
 -- What a TC does to one set of tuples.
 use Rattle.std.proofs.Common.{◌≡◌, ℕ, ◌+◌, ◌<◌, ◌≤◌, ◌⊎◌, inl, inr, Bool, true, false, cond, not, ◌&&◌, ◌||◌, List, length, take, Option, Some, None, slice_index_or, refl, sym, ap, subst, ◌∙◌, arith, eq-eqb}
-use Rattle.std.specs.Prelude.{option_map, slice_get, nat_eq, is_some, count_by}
+use Rattle.std.specs.Prelude.{option_map, slice_get, nat_eq, is_some, count_by, IsTrue, ◌↔◌}
+use Rattle.std.specs.BTreeSet.{BTreeSet}
 use Rattle.std.specs.Cmp.{IsEquivalence}
+use Rattle.std.specs.declared.cmp.Ordering.{Ordering}
 use Rattle.std.proofs.lemmas.Bool.{cases_lt, cases_Bool}
 use Rattle.std.proofs.lemmas.List.Sums.{count_by_more_yes, count_by_more_no}
 use Rattle.std.proofs.lemmas.Option.{slice_get-get_or, slice_get_within, get_or_from_slice_get}
@@ -10,6 +12,8 @@ use Rattle.mesh_atoms.specs.declared.codes.metric.Metric.{Metric}
 use Rattle.mesh_atoms.specs.declared.tc.Tc.{Tc}
 use Rattle.mesh_atoms.specs.Base.{Base, find, SetsOnly, addr_eq}
 use Rattle.mesh_atoms.specs.AfterTc.{if_not_dropped, Becomes, BecomesSet, Given, Left}
+use Rattle.mesh_expire.specs.Keyed.{AreKeys}
+use Rattle.mesh_expire.proofs.Laws.{find_same}
 use Rattle.mesh_topo.specs.TcSets.Same.{SaysSame}
 use Rattle.mesh_topo.specs.TcSets.Sets.{GivenBy, GivenBefore, PutsGiven, PutsRows, Put, Stood, has_other_number, is_outdated}
 
@@ -138,6 +142,35 @@ module _ {K V : Type 0} (eq : K → K → Bool) (says : V → Option ℕ × Metr
     by_key : (b : Bool) → eq key q ≡ b → option_map (λ e. says e.0) (cond b (Some (value, until)) (find eq old q)) ≡ option_map (λ e. says e.0) (find eq old q)
     by_key false is = refl
     by_key true is = sym (subst (λ (k : K). option_map (λ e. says e.0) (find eq old k) ≡ Some (says value)) (exact key q is) stood)
+
+  -- at the key stands what is put there
+  says_put : (laws : IsEquivalence eq) (key : K) (value : V) (until : ℕ) (old new : Base K V) → SetsOnly eq old new key (Some (value, until)) → option_map (λ e. says e.0) (find eq new key) ≡ Some (says value)
+  says_put laws key value until old new sets =
+      ap (option_map (λ e. says e.0)) (sets key) ∙ ap (λ b. option_map (λ e. says e.0) (cond b (Some (value, until)) (find eq old key))) (laws.refl key)
+
+  -- all say the same where the tuple that is put says what one said there
+  pub put_same : (laws : IsEquivalence eq) (exact : (a b : K) → eq a b ≡ true → a ≡ b) (key : K) (value : V) (until : ℕ) (old new : Base K V) (same : Bool)
+      → (IsTrue same ↔ (option_map (λ e. says e.0) (find eq old key) ≡ Some (says value))) → SetsOnly eq old new key (Some (value, until)) → (not same ≡ false) ↔ SaysSame eq says old new
+  put_same laws exact key value until old new true is sets = (λ _. same_put exact key value until old new (is.0 refl) sets, λ _. refl)
+  put_same laws exact key value until old new false is sets =
+      (λ apart. absurd cc, λ says_same. let both : false ≡ true = is.1 (sym (says_same key) ∙ says_put laws key value until old new sets) in absurd cc)
+
+  -- a tuple that is put where none stood says something new
+  pub put_new : (laws : IsEquivalence eq) (key : K) (value : V) (until : ℕ) (old new : Base K V) → false ≡ is_some (find eq old key) → SetsOnly eq old new key (Some (value, until)) → (true ≡ false) ↔ SaysSame eq says old new
+  put_new laws key value until old new none sets = (λ apart. absurd cc, λ says_same. absurd (nothing (find eq old key) none (sym (says_same key) ∙ says_put laws key value until old new sets))) where
+    nothing : (o : Option (V × ℕ)) → false ≡ is_some o → option_map (λ e. says e.0) o ≡ Some (says value) → ⊥
+    nothing None absent is = cc
+    nothing (Some e) absent is = cc
+
+-- ---- the set of the keys
+
+-- a new tuple at a key that has one leaves the set of the keys as it is
+pub keys_held : {K V : Type 0} {eq : K → K → Bool} (laws : IsEquivalence eq) (cmp : K → K → Ordering) (key : K) (entry : V × ℕ) (keys : BTreeSet K) (base base' : Base K V)
+    → true ≡ is_some (find eq base key) → SetsOnly eq base base' key (Some entry) → AreKeys eq cmp keys base → AreKeys eq cmp keys base'
+keys_held {eq = eq} laws cmp key entry keys base base' held sets are q = are q ∙ by_key (eq key q) refl ∙ ap is_some (sym (sets q)) where
+  by_key : (b : Bool) → eq key q ≡ b → is_some (find eq base q) ≡ is_some (cond b (Some entry) (find eq base q))
+  by_key true is = ap is_some (find_same laws key q is base) ∙ sym held
+  by_key false is = refl
 
 -- ---- all of it
 

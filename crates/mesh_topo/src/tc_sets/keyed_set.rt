@@ -1,7 +1,8 @@
 //! A table of tuples with its keys in order.
-ghost use Rattle.std.specs.Prelude.{◌≡◌, ◌+◌, ◌≤◌, ◌↔◌, [], false, length, count_by, is_some, option_map, cond, IfOk, OnOk, IsTrue, Some};
-ghost use Rattle.mesh_atoms.specs.Base.{HasDistinctKeys, Expires, find};
+ghost use Rattle.std.specs.Prelude.{◌≡◌, ◌+◌, ◌≤◌, ◌↔◌, [], false, length, count_by, is_some, option_map, cond, IfOk, IfSome, OnOk, IsTrue, Some};
+ghost use Rattle.mesh_atoms.specs.Base.{HasDistinctKeys, Expires, SetsOnly, find};
 ghost use Rattle.mesh_atoms.specs.AfterTc.{BecomesSet};
+ghost use Rattle.mesh_expire.specs.Keyed.{AreKeys};
 ghost use Rattle.mesh_topo.specs.TcSets.Same.{SaysSame};
 ghost use Rattle.mesh_topo.specs.TcSets.Sets.{GivenBy, PutsGiven, PutsRows};
 
@@ -30,6 +31,42 @@ impl<K: Key + Ord, V, T: Table<K, V>> Model for KeyedSet<K, V, T> {
     ghost view = { λ s. T.content s.table };
 
     ghost invariant = { λ s. HasDistinctKeys K.eq (T.content s.table) × AreKeys K.eq K.cmp s.keys (T.content s.table) };
+}
+
+// Whether the tuple of a key says the same as this one, if the key has a tuple.
+fn stands<K: Key + Ord, V: Tuple<K>, T: Table<K, V>>(table: &T, key: &K, tuple: &V) -> Option<bool>
+    ensures held { is_some result ≡ is_some (find K.eq (T.content table.now) key.now) }
+    ensures same { IfSome result (λ same. IsTrue same
+        ↔ (option_map (λ e. V.says e.0) (find K.eq (T.content table.now) key.now) ≡ Some (V.says tuple.now))) }
+{
+    match table.get(key) {
+        Some((old, _)) => Some(old.says_as(tuple)),
+        None => None,
+    }
+}
+
+// Puts a tuple until that moment. Whether none that says the same stood there.
+fn put_tuple<K: Key + Ord + Drop, V: Tuple<K> + Drop, T: Table<K, V>>(
+    table: &mut T,
+    keys: &mut BTreeSet<K>,
+    key: K,
+    tuple: V,
+    until: u64,
+) -> Result<bool, AllocError>
+    requires { AreKeys K.eq K.cmp keys.old (T.content table.old) }
+    ensures keys { AreKeys K.eq K.cmp keys.new (T.content table.new) }
+    ensures distinct { HasDistinctKeys K.eq (T.content table.new) }
+    ensures ok { OnOk result (SetsOnly K.eq (T.content table.old) (T.content table.new) key (Some (tuple, until))) }
+    ensures same { IfOk result (λ changed. changed ≡ false ↔ SaysSame K.eq V.says (T.content table.old) (T.content table.new)) }
+    ensures count { OnOk result (length (T.content table.new) ≤ length (T.content table.old) + 1) }
+{
+    let Some(same) = stands(table, &key, &tuple) else {
+        put_keyed(table, keys, key, tuple, until)?;
+        return Ok(true);
+    };
+    // Its key is among the keys.
+    table.put(key, tuple, until)?;
+    Ok(!same)
 }
 
 impl<K: Key + Ord + Drop, V: Tuple<K> + Drop, T: Table<K, V>> KeyedSet<K, V, T> {
@@ -82,16 +119,6 @@ impl<K: Key + Ord + Drop, V: Tuple<K> + Drop, T: Table<K, V>> KeyedSet<K, V, T> 
         expire_keyed(&mut self.table, &mut self.keys, now) > 0
     }
 
-    // Whether a tuple that says the same stands at the key.
-    fn stands(&self, key: &K, tuple: &V) -> bool
-        ensures { IsTrue result ↔ (option_map (λ e. V.says e.0) (find K.eq self.now key.now) ≡ Some (V.says tuple.now)) }
-    {
-        match self.table.get(key) {
-            Some((old, _)) => old.says_as(tuple),
-            None => false,
-        }
-    }
-
     // Puts a tuple, if there is one, until that moment. Whether none that says the same stood there.
     fn put_given(&mut self, given: Option<(K, V)>, until: u64) -> Result<bool, AllocError>
         ensures put { OnOk result (PutsGiven K.eq given until self.old self.new) }
@@ -101,9 +128,7 @@ impl<K: Key + Ord + Drop, V: Tuple<K> + Drop, T: Table<K, V>> KeyedSet<K, V, T> 
         let Some((key, tuple)) = given else {
             return Ok(false);
         };
-        let stood = self.stands(&key, &tuple);
-        put_keyed(&mut self.table, &mut self.keys, key, tuple, until)?;
-        Ok(!stood)
+        put_tuple(&mut self.table, &mut self.keys, key, tuple, until)
     }
 
     // Puts what the TC's rows give, until that moment. Whether what the tuples say may have changed.
