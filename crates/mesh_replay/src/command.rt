@@ -7,4 +7,4 @@ mod marks;
 mod parts;
 
 pub use crate::command::input::{ReplayFault, replay_input};
-pub use crate::command::laws::{inputs_split_once, worked_inputs_are_split};
+pub use crate::command::laws::{inputs_split_once, traces_are_runs, worked_inputs_are_split};

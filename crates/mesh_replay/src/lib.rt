@@ -9,4 +9,6 @@ mod traffic;
 
 pub use answer::Replay;
 pub use checking::replay;
-pub use command::{ReplayFault, inputs_split_once, replay_input, worked_inputs_are_split};
+pub use command::{
+    ReplayFault, inputs_split_once, replay_input, traces_are_runs, worked_inputs_are_split,
+};

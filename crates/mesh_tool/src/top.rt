@@ -4,6 +4,7 @@ ghost use Rattle.mesh_emulate.specs.Laws.{RunsMachines, TellsSettled, PrintsLeas
 ghost use Rattle.mesh_emulate.specs.Laws.{TripsAreOnly, TripsReachRouters, TripsReachNetworks, TripsNeverStray};
 ghost use Rattle.mesh_emulate.specs.Laws.{ProbesReachJoined, ProbesTellAll, ProbesSendOnce};
 ghost use Rattle.mesh_emulate.specs.Making.Made.{MadeNetworksRunMachines, MadeNetworksTellSettled, TellsLeastRoutes};
+ghost use Rattle.mesh_replay.specs.trace.Positions.Laws.{WholeExactlyForRuns};
 ghost use Rattle.mesh_run.specs.Turns.Laws.{TurnsAreRuns, TurnsKeepSound};
 ghost use Rattle.mesh_tool.specs.Answers.Answers.{Answers};
 ghost use Rattle.mesh_tool.specs.Words.Words.{texts};
@@ -101,6 +102,9 @@ pub fn mesh_top<S: Source, O: Sink, E: Sink, A: Air, C: Clock>(
 
     // Then the text counts the least routes of the radio graph.
     ensures made_routes { TellsLeastRoutes }
+
+    // A trace is whole exactly where it is, line by line, that of a run of the scenario's network, from its opening to its end.
+    ensures traces { WholeExactlyForRuns }
 {
     top_over::<IndexedBases, S, O, E, A, C>(alloc, words, input, out, err, air, clock)
 }

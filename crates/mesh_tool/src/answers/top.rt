@@ -4,6 +4,7 @@ ghost use Rattle.mesh_emulate.specs.Laws.{RunsMachines, TellsSettled, PrintsLeas
 ghost use Rattle.mesh_emulate.specs.Laws.{TripsAreOnly, TripsReachRouters, TripsReachNetworks, TripsNeverStray};
 ghost use Rattle.mesh_emulate.specs.Laws.{ProbesReachJoined, ProbesTellAll, ProbesSendOnce};
 ghost use Rattle.mesh_emulate.specs.Making.Made.{MadeNetworksRunMachines, MadeNetworksTellSettled, TellsLeastRoutes};
+ghost use Rattle.mesh_replay.specs.trace.Positions.Laws.{WholeExactlyForRuns};
 ghost use Rattle.mesh_run.specs.Turns.Laws.{TurnsAreRuns, TurnsKeepSound};
 ghost use Rattle.mesh_tool.specs.Answers.Answers.{Answers};
 ghost use Rattle.mesh_tool.specs.Words.Words.{texts};
@@ -12,6 +13,7 @@ use crate::jobs::{Status, do_asked, tell};
 use mesh_emulate::{emulations_tell, made_networks_tell};
 use mesh_expire::Bases;
 use mesh_io::{Air, Clock, Sink, Source};
+use mesh_replay::traces_are_runs;
 use mesh_run::turns_are_runs;
 use std::alloc::Global;
 
@@ -54,7 +56,7 @@ pub fn top_over<B: Bases, S: Source, O: Sink, E: Sink, A: Air, C: Clock>(
       air_faults' = A.faults air.new;
     }) result }
 
-    // What holds of every emulation, trip, probe, made network and run of a router, clause by clause as at `crate::mesh_top`.
+    // What holds of every emulation, trip, probe, made network, run of a router and trace, clause by clause as at `crate::mesh_top`.
     ensures machines { RunsMachines }
     ensures settled { TellsSettled }
     ensures routes { PrintsLeastRoutes }
@@ -71,10 +73,12 @@ pub fn top_over<B: Bases, S: Source, O: Sink, E: Sink, A: Air, C: Clock>(
     ensures made_machines { MadeNetworksRunMachines }
     ensures made_settled { MadeNetworksTellSettled }
     ensures made_routes { TellsLeastRoutes }
+    ensures traces { WholeExactlyForRuns }
 {
     emulations_tell();
     made_networks_tell();
     turns_are_runs();
+    traces_are_runs();
     let how = do_asked::<B, S, O, A, C>(alloc, words, input, out, air, clock);
     tell(err, words, &how)
 }

@@ -22,4 +22,5 @@ returns g c =
       made_machines = c.made_networks_tell.ensures.machines;
       made_settled = c.made_networks_tell.ensures.settled;
       made_routes = c.made_networks_tell.ensures.routes;
+      traces = c.traces_are_runs.ensures;
     }
