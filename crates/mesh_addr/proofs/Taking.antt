@@ -1,7 +1,7 @@
 -- What is read is spelled so, and what is refused has its first fault there.
 use Rattle.std.proofs.Common.{◌≡◌, ℕ, zero, suc, ◌+◌, ◌-◌, ◌*◌, ◌<◌, ◌≤◌, Bool, true, false, eqb, ltb, List, [], ◌∷◌, ◌++◌, length, take, drop, Option, Some, None, Result, Ok, Err, refl, sym, ap, subst, ◌∙◌, arith, inl, inr, ◌⊎◌}
-use Rattle.std.specs.Prelude.{slice_range, MatchResult, replicate, ◌&&◌, ◌||◌}
-use Rattle.std.proofs.lemmas.Bool.{ltb-false, ltb-true, eqb-true, eqb-false}
+use Rattle.std.specs.Prelude.{slice_range, MatchResult, replicate, ◌&&◌}
+use Rattle.std.proofs.lemmas.Bool.{ltb-false, ltb-true, eqb-true, eqb-false, or_cases as or_true, or_parts as or_false}
 use Rattle.std.proofs.lemmas.List.{length-replicate}
 use Rattle.std.proofs.Math.Nat.{suc-mul}
 use Rattle.mesh_atoms.specs.declared.refusal.Refusal.{Refusal}
@@ -222,14 +222,6 @@ addrs_take (suc n) s shape mid at end le fits room =
       (slice_range s mid (mid + size), slice_range s (mid + size) (mid + size + n * size), range_length s mid (mid + size) (omega arith) ∙ omega arith, refl, k.1, rw (← later) (split_at s mid (mid + size) (mid + size + n * size) (omega arith) (omega arith) (omega arith))),
       (t.0 ++ k.2.0, own_more shape.prefix most x.0 (prefixes y.0) t.0 k.2.0 t.1 k.2.1, takes_both s at t.0 x.1 k.2.0 y.1 end t.2 k.2.2),
     )))
-
-or_true : (a b : Bool) → a || b ≡ true → (a ≡ true) ⊎ (b ≡ true)
-or_true true b e = inl refl
-or_true false b e = inr e
-
-or_false : (a b : Bool) → a || b ≡ false → (a ≡ false) × (b ≡ false)
-or_false true b e = absurd cc
-or_false false b e = (refl, e)
 
 prefixes_spelled : (one each : Bool) (width : ℕ) (o : Option ℕ) (ps text more : List ℕ) → IsCommon one each width o text → AreOwn o (8 * width) ps more → SpellsPrefixes one each (8 * width) ps (text ++ more)
 prefixes_spelled one each width (Some p) ps text more (inl h) k = rw (h.0, h.1) (p, h.2, k.0, rw (h.3, k.1) refl)

@@ -2,7 +2,7 @@
 use Rattle.std.proofs.Common.{◌≡◌, ℕ, nat_eq, inl, inr, ◌≢◌, refl, sym, ◌∙◌, ap, subst, arith, List, [], slice_get, Some}
 use Rattle.std.specs.Prelude.{◌↔◌, Bool, true, false, cond, nat_lt, not, ◌&&◌}
 use Rattle.std.specs.Cmp.{IsEquivalence}
-use Rattle.std.proofs.lemmas.Bool.{eqb-true, false≢true}
+use Rattle.std.proofs.lemmas.Bool.{eqb-true, false≢true, and_parts}
 use Rattle.std.proofs.lemmas.Cmp.{nat_eq_equiv, on_equiv, and_equiv}
 use Rattle.std.proofs.lemmas.Map.Views.{Contains-from_lookup, lookup-from_Contains}
 use Rattle.std.proofs.lemmas.List.{get_or_past}
@@ -73,10 +73,6 @@ link_equiv = on_equiv (λ (k : LinkKey). k.addr.0) nat_eq_equiv
 pub two_hop_equiv : IsEquivalence two_hop_eq
 two_hop_equiv = and_equiv (on_equiv (λ (k : TwoHopKey). k.link.addr.0) nat_eq_equiv) (on_equiv (λ (k : TwoHopKey). k.addr.0) nat_eq_equiv)
 
-both_true : (a b : Bool) → (a && b) ≡ true → (a ≡ true) × (b ≡ true)
-both_true true b h = (refl, h)
-both_true false b h = absurd (false≢true h)
-
 pub same_addr : (a b : Addr4) → addr_eq a b ≡ true → a ≡ b
 same_addr a b h = ap (λ (n : ℕ). let r : Addr4 = record { 0 = n } in r) (eqb-true a.0 b.0 h)
 
@@ -85,13 +81,13 @@ same_link k l h = ap (λ (a : Addr4). let r : LinkKey = record { addr = a } in r
 
 pub same_two_hop : (k l : TwoHopKey) → two_hop_eq k l ≡ true → k ≡ l
 same_two_hop k l h =
-    let (e, f) = both_true (link_eq k.link l.link) (addr_eq k.addr l.addr) h in
+    let (e, f) = and_parts (link_eq k.link l.link) (addr_eq k.addr l.addr) h in
     ap (λ (a : LinkKey). let r : TwoHopKey = record { link = a; addr = k.addr } in r) (same_link k.link l.link e)
     ∙ ap (λ (a : Addr4). let r : TwoHopKey = record { link = l.link; addr = a } in r) (same_addr k.addr l.addr f)
 
 pub same_net : (a b : NetAddr) → net_eq a b ≡ true → a ≡ b
 same_net a b h =
-    let (e, f) = both_true (addr_eq a.addr b.addr) (nat_eq a.prefix b.prefix) h in
+    let (e, f) = and_parts (addr_eq a.addr b.addr) (nat_eq a.prefix b.prefix) h in
     same_parts a b (same_addr a.addr b.addr e) (eqb-true a.prefix b.prefix f)
 
 pub router_equiv : IsEquivalence router_eq
@@ -99,7 +95,7 @@ router_equiv = and_equiv (on_equiv (λ (k : RouterKey). k.from.0) nat_eq_equiv) 
 
 pub same_router : (k l : RouterKey) → router_eq k l ≡ true → k ≡ l
 same_router k l h =
-    let (e, f) = both_true (addr_eq k.from l.from) (addr_eq k.to l.to) h in
+    let (e, f) = and_parts (addr_eq k.from l.from) (addr_eq k.to l.to) h in
     ap (λ (a : Addr4). let r : RouterKey = record { from = a; to = k.to } in r) (same_addr k.from l.from e)
     ∙ ap (λ (a : Addr4). let r : RouterKey = record { from = l.from; to = a } in r) (same_addr k.to l.to f)
 
@@ -108,7 +104,7 @@ address_equiv = and_equiv (on_equiv (λ (k : AddressKey). k.from.0) nat_eq_equiv
 
 pub same_address : (k l : AddressKey) → address_eq k l ≡ true → k ≡ l
 same_address k l h =
-    let (e, f) = both_true (addr_eq k.from l.from) (addr_eq k.addr l.addr) h in
+    let (e, f) = and_parts (addr_eq k.from l.from) (addr_eq k.addr l.addr) h in
     ap (λ (a : Addr4). let r : AddressKey = record { from = a; addr = k.addr } in r) (same_addr k.from l.from e)
     ∙ ap (λ (a : Addr4). let r : AddressKey = record { from = l.from; addr = a } in r) (same_addr k.addr l.addr f)
 
@@ -120,7 +116,7 @@ network_equiv = and_equiv (on_equiv (λ (k : NetworkKey). k.from.0) nat_eq_equiv
 
 pub same_network : (k l : NetworkKey) → network_eq k l ≡ true → k ≡ l
 same_network k l h =
-    let (e, f) = both_true (addr_eq k.from l.from) (net_eq k.net l.net) h in
+    let (e, f) = and_parts (addr_eq k.from l.from) (net_eq k.net l.net) h in
     ap (λ (a : Addr4). let r : NetworkKey = record { from = a; net = k.net } in r) (same_addr k.from l.from e)
     ∙ ap (λ (a : NetAddr). let r : NetworkKey = record { from = l.from; net = a } in r) (same_net k.net l.net f)
 

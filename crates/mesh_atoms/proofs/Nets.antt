@@ -1,12 +1,8 @@
 -- When two networks are the same.
-use Rattle.std.proofs.Common.{◌≡◌, ℕ, ◌-◌, ◌≤◌, ◌^◌, ◌%◌, true, ap, subst, ◌∙◌}
+use Rattle.std.proofs.Common.{◌≡◌, ℕ, ◌-◌, ◌≤◌, ◌^◌, ◌%◌, ap, subst, ◌∙◌}
 use Rattle.std.specs.Coded.{le_prop, Coded-set, coded_ℕ}
-use Rattle.std.proofs.lemmas.Bool.{eqb-true}
 use Rattle.mesh_atoms.specs.declared.addr.Addr4.{Addr4}
 use Rattle.mesh_atoms.specs.declared.addr.NetAddr.{NetAddr}
-use Rattle.mesh_atoms.specs.declared.tuples.NetworkKey.{NetworkKey}
-use Rattle.mesh_atoms.specs.Base.{addr_eq, net_eq, network_eq}
-use Rattle.mesh_atoms.proofs.Kept.{both}
 
 -- the network of an address and a prefix
 abbrev Clear : Addr4 → ℕ → Type 0
@@ -24,15 +20,3 @@ same_net a b e f =
     let by_prefix : (w : b.prefix ≤ 32) (c : Clear a.addr b.prefix) → a ≡ made a.addr b.prefix w c =
     subst (λ (p : ℕ). (w : p ≤ 32) (c : Clear a.addr p) → a ≡ made a.addr p w c) f (λ w c. made_same a.addr a.prefix a.within w a.clear c) in
     subst (λ (x : Addr4). (w : b.prefix ≤ 32) (c : Clear x b.prefix) → a ≡ made x b.prefix w c) e by_prefix b.within b.clear
-
-pub addr_exact : (a b : Addr4) → addr_eq a b ≡ true → a ≡ b
-addr_exact a b h = ap (λ (n : ℕ). record { 0 = n }) (eqb-true a.0 b.0 h)
-
-pub net_exact : (a b : NetAddr) → net_eq a b ≡ true → a ≡ b
-net_exact a b h = let parts = both (addr_eq a.addr b.addr) _ h in same_net a b (addr_exact a.addr b.addr parts.0) (eqb-true a.prefix b.prefix parts.1)
-
-pub network_exact : (a b : NetworkKey) → network_eq a b ≡ true → a ≡ b
-network_exact a b h =
-    let parts = both (addr_eq a.from b.from) (net_eq a.net b.net) h in
-    ap (λ (x : Addr4). record { from = x; net = a.net }) (addr_exact a.from b.from parts.0)
-    ∙ ap (λ (x : NetAddr). record { from = b.from; net = x }) (net_exact a.net b.net parts.1)

@@ -13,16 +13,16 @@ use Rattle.mesh_atoms.specs.declared.codes.metric.Metric.{Metric}
 use Rattle.mesh_atoms.specs.declared.tc.TcRow.{TcRow}
 use Rattle.mesh_atoms.proofs.Nets.{same_net}
 
-decides_so : {P Q : Type 0} (b : Bool) → (P → Q) → (Q → P) → Decides b P → Decides b Q
+pub decides_so : {P Q : Type 0} (b : Bool) → (P → Q) → (Q → P) → Decides b P → Decides b Q
 decides_so b to from d = (λ e. to (d.0 e), λ q. d.1 (from q))
 
-options : {X : Type 0} (test : X → X → Bool) → ((x y : X) → Decides (test x y) (x ≡ y)) → (a b : Option X) → Decides (option_eq test a b) (a ≡ b)
+pub options : {X : Type 0} (test : X → X → Bool) → ((x y : X) → Decides (test x y) (x ≡ y)) → (a b : Option X) → Decides (option_eq test a b) (a ≡ b)
 options test same None None = (λ _. refl, λ _. refl)
 options test same None (Some y) = (λ e. absurd (false≢true e), λ e. absurd (cc))
 options test same (Some x) None = (λ e. absurd (false≢true e), λ e. absurd (cc))
 options test same (Some x) (Some y) = (λ e. ap (λ z. Some z) ((same x y).0 e), λ e. let f : x ≡ y = cc in (same x y).1 f)
 
-nets : (a b : NetAddr) → Decides (eqb a.addr.0 b.addr.0 && eqb a.prefix b.prefix) (a ≡ b)
+pub nets : (a b : NetAddr) → Decides (eqb a.addr.0 b.addr.0 && eqb a.prefix b.prefix) (a ≡ b)
 nets a b = decides_so _ (λ h. same_net a b (ap (λ (n : ℕ). let x : Addr4 = record { 0 = n } in x) h.0) h.1) (λ e. (ap (λ (n : NetAddr). n.addr.0) e, ap (λ (n : NetAddr). n.prefix) e)) (Decides-and _ _ (Decides-eqb a.addr.0 b.addr.0) (Decides-eqb a.prefix b.prefix))
 
 abbrev metric_of : (code : ℕ) → code < 4096 → Metric
@@ -31,7 +31,7 @@ metric_of code in_range = record { code = code; in_range = in_range }
 pub same_metric : (a b : Metric) → a.code ≡ b.code → a ≡ b
 same_metric a b e = subst (λ (k : ℕ). (h : k < 4096) → a ≡ metric_of k h) e (λ h. ap (λ (x : a.code < 4096). metric_of a.code x) (le_prop a.in_range h)) b.in_range
 
-metrics : (a b : Metric) → Decides (eqb a.code b.code) (a ≡ b)
+pub metrics : (a b : Metric) → Decides (eqb a.code b.code) (a ≡ b)
 metrics a b = decides_so _ (same_metric a b) (ap (λ (m : Metric). m.code)) (Decides-eqb a.code b.code)
 
 abbrev made : NetAddr → Bool → Bool → Option ℕ → Option Metric → TcRow

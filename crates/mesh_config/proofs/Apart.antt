@@ -1,7 +1,7 @@
 -- No sender of an interface stands twice: two arcs that lead to it come from two interfaces, whose addresses differ.
 use Rattle.std.proofs.Common.{◌≡◌, ℕ, zero, suc, List, [], ◌∷◌, ◌++◌, map, Bool, true, false, not, ◌&&◌, ◌||◌, cond, nat_eq, Option, Some, None, refl, sym, ap, ◌∙◌, subst, arith}
 use Rattle.std.specs.List.{list_any, flat_map, slice_get}
-use Rattle.std.proofs.lemmas.Bool.{and_parts, eqb-true, eq-eqb}
+use Rattle.std.proofs.lemmas.Bool.{and_parts, eqb-true, eq-eqb, or_parts, false_from_ne_true}
 use Rattle.std.proofs.lemmas.List.{map-append}
 use Rattle.std.proofs.lemmas.List.Folds.{list_any-append, flat_map-map}
 use Rattle.mesh_atoms.specs.declared.addr.Addr4.{Addr4}
@@ -16,7 +16,9 @@ use Rattle.mesh_config.specs.declared.stated.stated.StatedInterface.{StatedInter
 use Rattle.mesh_config.specs.declared.stated.stated.StatedRouter.{StatedRouter}
 use Rattle.mesh_config.specs.Checks.Compared.{all_addrs, stated_lists, ends_of}
 use Rattle.mesh_config.specs.Senders.{AreApart, Lists, first_addr, with_metric, sender_by, sender_pair, senders_to}
-use Rattle.mesh_config.proofs.Builds.{distinct_front, distinct_back, map-then}
+use Rattle.mesh_config.proofs.Builds.{distinct_front, map-then}
+use Rattle.mesh_atoms.proofs.Options.{not_both as no_both}
+use Rattle.mesh_atoms.proofs.Lists.{back_distinct}
 
 -- ---- an address among lists, no address of which stands twice
 any_back : {A : Type 0} (p : A → Bool) (xs ys : List A) → list_any p ys ≡ true → list_any p (xs ++ ys) ≡ true
@@ -24,10 +26,6 @@ any_back p xs ys h = grind (arith, list_any-append p xs ys, h)
 
 any_front : {A : Type 0} (p : A → Bool) (xs ys : List A) → list_any p xs ≡ true → list_any p (xs ++ ys) ≡ true
 any_front p xs ys h = grind (arith, list_any-append p xs ys, h)
-
-no_both : (b : Bool) → b ≡ true → not b ≡ true → ⊥
-no_both true h n = let bad : ⊥ = cc in bad
-no_both false h n = let bad : ⊥ = cc in bad
 
 again : (a x : Addr4) (xs ys : List Addr4) → addr_eq a x ≡ true → list_any (addr_eq a) ys ≡ true → not (list_any (addr_eq x) (xs ++ ys)) ≡ true → ⊥
 again a x xs ys e there none =
@@ -57,12 +55,12 @@ one_list f (z ∷ zs) zero (suc j) x y a apart at bt h k =
     let same : z ≡ x = cc in absurd (crosses a (f z) (flat_map f zs) (rw same h) (among f zs j y a bt k) apart)
 one_list f (z ∷ zs) (suc i) zero x y a apart at bt h k =
     let same : z ≡ y = cc in absurd (crosses a (f z) (flat_map f zs) (rw same k) (among f zs i x a at h) apart)
-one_list f (z ∷ zs) (suc i) (suc j) x y a apart at bt h k = ap suc (one_list f zs i j x y a (distinct_back addr_eq (f z) (flat_map f zs) apart) at bt h k)
+one_list f (z ∷ zs) (suc i) (suc j) x y a apart at bt h k = ap suc (one_list f zs i j x y a (back_distinct addr_eq (f z) (flat_map f zs) apart) at bt h k)
 
 part_apart : {A : Type 0} (f : A → List Addr4) (xs : List A) (i : ℕ) (x : A) → are_distinct addr_eq (flat_map f xs) ≡ true → slice_get xs i ≡ Some x → are_distinct addr_eq (f x) ≡ true
 part_apart f [] i x apart at = let bad : ⊥ = cc in absurd bad
 part_apart f (z ∷ zs) zero x apart at = let same : z ≡ x = cc in rw (← same) (distinct_front addr_eq (f z) (flat_map f zs) apart)
-part_apart f (z ∷ zs) (suc i) x apart at = part_apart f zs i x (distinct_back addr_eq (f z) (flat_map f zs) apart) at
+part_apart f (z ∷ zs) (suc i) x apart at = part_apart f zs i x (back_distinct addr_eq (f z) (flat_map f zs) apart) at
 
 -- ---- the interface that an address is the first of
 abbrev whole : List Addr4 → List Addr4
@@ -152,14 +150,6 @@ ends_same x y router iface from from_iface at bt =
     let to_iface : x.to_iface ≡ y.to_iface = eqb-true x.to_iface iface p.1 ∙ sym (eqb-true y.to_iface iface q.1) in
     rw (eq-eqb x.from y.from from, eq-eqb x.from_iface y.from_iface from_iface, eq-eqb x.to y.to to, eq-eqb x.to_iface y.to_iface to_iface) refl
 
-or_parts : (a b : Bool) → (a || b) ≡ false → (a ≡ false) × (b ≡ false)
-or_parts false b h = (refl, h)
-or_parts true b h = let bad : ⊥ = cc in absurd bad
-
-unless_true : (b : Bool) → (b ≡ true → ⊥) → b ≡ false
-unless_true false h = refl
-unless_true true h = absurd (h refl)
-
 -- an arc's sender is none of those that arcs between other interfaces give
 none_again : (lists : Lists) (arc : RadioArc) (arcs : List RadioArc) (router iface : ℕ) (a : Addr4) → are_distinct addr_eq (flat_map of_faces lists) ≡ true
     → leads_to router iface arc ≡ true → first_addr lists arc.from arc.from_iface ≡ Some a → list_any (ends_eq (ends_of arc)) (map ends_of arcs) ≡ false → list_any (addr_eq a) (addrs_to lists arcs router iface) ≡ false
@@ -177,7 +167,7 @@ none_again lists arc (b ∷ bs) router iface a apart leads is alone =
           let bad : ⊥ = cc in bad
 
       other : (c : Addr4) → leads_to router iface b ≡ true → first_addr lists b.from b.from_iface ≡ Some c → addr_eq a c ≡ false
-      other c here at = unless_true (addr_eq a c) (meets c here at)
+      other c here at = false_from_ne_true (addr_eq a c) (meets c here at)
 
 addrs_apart : (lists : Lists) (arcs : List RadioArc) (router iface : ℕ) → are_distinct addr_eq (flat_map of_faces lists) ≡ true → are_distinct ends_eq (map ends_of arcs) ≡ true
     → are_distinct addr_eq (addrs_to lists arcs router iface) ≡ true
@@ -189,7 +179,7 @@ addrs_apart lists (arc ∷ arcs) router iface apart h =
       parts = and_parts (not (list_any (ends_eq (ends_of arc)) (map ends_of arcs))) (are_distinct ends_eq (map ends_of arcs)) h
 
       none : list_any (ends_eq (ends_of arc)) (map ends_of arcs) ≡ false
-      none = unless_true (list_any (ends_eq (ends_of arc)) (map ends_of arcs)) (λ e. no_both (list_any (ends_eq (ends_of arc)) (map ends_of arcs)) e parts.0)
+      none = false_from_ne_true (list_any (ends_eq (ends_of arc)) (map ends_of arcs)) (λ e. no_both (list_any (ends_eq (ends_of arc)) (map ends_of arcs)) e parts.0)
 
       alone : (c : Addr4) → leads_to router iface arc ≡ true → first_addr lists arc.from arc.from_iface ≡ Some c → list_any (addr_eq c) (addrs_to lists arcs router iface) ≡ false
       alone c leads is = none_again lists arc arcs router iface c apart leads is none

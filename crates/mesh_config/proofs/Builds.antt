@@ -19,6 +19,7 @@ use Rattle.mesh_config.specs.Fields.{interface_fields, IsClear}
 use Rattle.mesh_config.specs.Stated.Router.{InterfaceFields, stated_interface_fields}
 use Rattle.mesh_config.specs.Senders.{Lists, senders_to, sender_pair, HaveSenders, HaveAllSenders}
 use Rattle.mesh_config.proofs.ChecksLemmas.Links.{are_distinct-map}
+use Rattle.mesh_atoms.proofs.Lists.{back_distinct}
 
 -- one more interface, one more router
 pub senders_more : (lists : Lists) (arcs : List RadioArc) (router i n : ℕ) (xs : List Interface) (x : Interface) → HaveSenders lists arcs router i xs → i + length xs ≡ n
@@ -53,14 +54,10 @@ distinct_front eq (x ∷ xs) ys h =
     let parts = and_parts (not (list_any (eq x) (xs ++ ys))) (are_distinct eq (xs ++ ys)) h in
     rw (none_front (eq x) xs ys parts.0, distinct_front eq xs ys parts.1)
 
-pub distinct_back : {A : Type 0} (eq : A → A → Bool) (xs ys : List A) → are_distinct eq (xs ++ ys) ≡ true → are_distinct eq ys ≡ true
-distinct_back eq [] ys h = h
-distinct_back eq (x ∷ xs) ys h = distinct_back eq xs ys (and_parts (not (list_any (eq x) (xs ++ ys))) (are_distinct eq (xs ++ ys)) h).1
-
 distinct_part : {A B : Type 0} (eq : B → B → Bool) (f : A → List B) (xs : List A) (i : ℕ) (d : A) → i < length xs → are_distinct eq (flat_map f xs) ≡ true → are_distinct eq (f (get_or xs i d)) ≡ true
 distinct_part eq f [] i d within h = absurd (omega arith)
 distinct_part eq f (x ∷ xs) zero d within h = distinct_front eq (f x) (flat_map f xs) h
-distinct_part eq f (x ∷ xs) (suc i) d within h = distinct_part eq f xs i d (omega arith) (distinct_back eq (f x) (flat_map f xs) h)
+distinct_part eq f (x ∷ xs) (suc i) d within h = distinct_part eq f xs i d (omega arith) (back_distinct eq (f x) (flat_map f xs) h)
 
 none_part : {A B : Type 0} (p : B → Bool) (f : A → List B) (xs : List A) (i : ℕ) (d : A) → i < length xs → not (list_any p (flat_map f xs)) ≡ true → not (list_any p (f (get_or xs i d))) ≡ true
 none_part p f [] i d within h = absurd (omega arith)

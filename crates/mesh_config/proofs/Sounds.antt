@@ -16,7 +16,7 @@ use Rattle.mesh_config.specs.Checks.Compared.{router_addrs, all_addrs, attaches_
 use Rattle.mesh_config.specs.Fields.{interface_fields, RouterParts, settings_parts, stated_parts}
 use Rattle.mesh_config.specs.Stated.Router.{InterfaceFields, stated_interface_fields}
 use Rattle.mesh_config.specs.Senders.{addr_lists}
-use Rattle.mesh_config.proofs.ChecksLemmas.Links.{are_distinct-map}
+use Rattle.mesh_config.proofs.ChecksLemmas.Links.{are_distinct-map, all_same}
 use Rattle.mesh_config.proofs.JoinFacts.{joins_range, joins_distinct}
 use Rattle.mesh_config.proofs.Builds.{stated_passed, map-then}
 
@@ -40,10 +40,6 @@ flat_congr f g h (x ∷ xs) = rw (h x, flat_congr f g h xs)
 all_flat : {A B : Type 0} (p : B → Bool) (f : A → List B) (xs : List A) → list_all p (flat_map f xs) ≡ list_all (λ x. list_all p (f x)) xs
 all_flat p f [] = refl
 all_flat p f (x ∷ xs) = list_all-append p (f x) (flat_map f xs) ∙ rw (all_flat p f xs)
-
-all_congr : {A : Type 0} (p q : A → Bool) → ((x : A) → p x ≡ q x) → (xs : List A) → list_all p xs ≡ list_all q xs
-all_congr p q h [] = refl
-all_congr p q h (x ∷ xs) = rw (h x, all_congr p q h xs)
 
 -- the addresses of each interface
 pub lists_same : (times : Times) (ss : List RouterSettings) (rs : List StatedRouter) → map settings_parts ss ≡ map (stated_parts times) rs → addr_lists ss ≡ stated_lists rs
@@ -76,7 +72,7 @@ sound_routers times ss rs count none same =
     let free : NetAddr → Bool = λ net. not (list_any (is_host net) (all_addrs rs)) in
     let hosts : list_all free (flat_map (λ (r : StatedRouter). map (λ a. a.net) r.attached) rs) ≡ list_all (attaches_no_host (all_addrs rs)) rs =
     all_flat free (λ (r : StatedRouter). map (λ a. a.net) r.attached) rs
-    ∙ all_congr (λ (r : StatedRouter). list_all free (map (λ a. a.net) r.attached)) (attaches_no_host (all_addrs rs)) (λ r. list_all-map free (λ (a : Attached4). a.net) r.attached) rs in
+    ∙ all_same (λ (r : StatedRouter). list_all free (map (λ a. a.net) r.attached)) (attaches_no_host (all_addrs rs)) (λ r. list_all-map free (λ (a : Attached4). a.net) r.attached) rs in
     rw (names, all_addrs_same times ss rs same, nets) (record {
       routers = rw length-map count;
       distinct_names = are_distinct-map name_eq (λ (r : StatedRouter). r.head.name) rs ∙ passed.in_first;

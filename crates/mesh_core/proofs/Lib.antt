@@ -5,5 +5,5 @@ mod Emptied
 mod EventLemmas
 mod ReadingLemmas
 mod Seen
-mod SendingLemmas
+pub mod SendingLemmas
 mod Spent

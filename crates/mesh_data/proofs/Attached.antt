@@ -9,14 +9,15 @@ use Rattle.mesh_atoms.specs.Base.{net_eq}
 use Rattle.mesh_atoms.specs.Codes.Codes.{metric_value}
 use Rattle.mesh_atoms.specs.Radio.{Attaches}
 use Rattle.mesh_atoms.specs.Settings.{are_distinct}
-use Rattle.mesh_atoms.proofs.Lookups.{net_equiv}
-use Rattle.mesh_paths.proofs.Scenarios.{both_true, not_both, contains_cases, any_of, contains_map}
-use Rattle.mesh_paths.proofs.ShortLists.{none_of}
+use Rattle.mesh_paths.proofs.Scenarios.{not_both, any_of}
+use Rattle.mesh_atoms.proofs.Values.{net_itself}
+use Rattle.std.proofs.lemmas.Bool.{and_parts}
+use Rattle.mesh_atoms.proofs.Lists.{contains_cases, contains_map, contains_none as none_of}
 
 one_attached : (xs : List Attached4) (t u : Attached4) → are_distinct net_eq (map (λ a. a.net) xs) ≡ true → Contains xs t → Contains xs u → net_eq t.net u.net ≡ true → net_eq u.net t.net ≡ true → t ≡ u
 one_attached [] t u h (k, l, e) there same back = absurd (none_of t (k, l, e))
 one_attached (x ∷ xs) t u h here there same back =
-    let (new, rest) = both_true _ (are_distinct net_eq (map (λ a. a.net) xs)) h in
+    let (new, rest) = and_parts _ (are_distinct net_eq (map (λ a. a.net) xs)) h in
     elim (contains_cases x xs t here) [
       | inl e ↦ elim (contains_cases x xs u there) [
         | inl f ↦ sym e ∙ f
@@ -28,17 +29,11 @@ one_attached (x ∷ xs) t u h here there same back =
       ]
     ]
 
-same_net_eq : (m n : NetAddr) → m ≡ n → net_eq m n ≡ true
-same_net_eq m n e = subst (λ (o : NetAddr). net_eq m o ≡ true) e (itself m)
-  where
-    itself : (o : NetAddr) → net_eq o o ≡ true
-    itself o = net_equiv.refl o
-
 -- a router attaches a network at one metric
 pub one_metric : (s : Scenario) (x c k : ℕ) (net : NetAddr) → Attaches s x net c → Attaches s x net k → c ≡ k
 one_metric s x c k net (r, is, t, t_in, t_net, t_cost) (q, at, u, u_in, u_net, u_cost) =
     let same : q ≡ r = (let e : Some q ≡ Some r = sym at ∙ is in cc) in
     let u_here : Contains r.attached u = subst (λ (o : RouterSettings). Contains o.attached u) same u_in in
     let nets : t.net ≡ u.net = t_net ∙ sym u_net in
-    let one : t ≡ u = one_attached r.attached t u r.sound.distinct_nets t_in u_here (same_net_eq t.net u.net nets) (same_net_eq u.net t.net (sym nets)) in
+    let one : t ≡ u = one_attached r.attached t u r.sound.distinct_nets t_in u_here (net_itself t.net u.net nets) (net_itself u.net t.net (sym nets)) in
     sym t_cost ∙ ap (λ (a : Attached4). metric_value a.metric) one ∙ u_cost

@@ -14,14 +14,12 @@ use Rattle.mesh_atoms.specs.State.{State}
 use Rattle.mesh_atoms.specs.Walk.{WillingWalk, Here, Direct, Further, LeastWilling, LeastToNet}
 use Rattle.mesh_atoms.proofs.Nets.{same_net}
 use Rattle.mesh_paths.specs.SettledRoutes.{IsSettledNetwork, HopsTo}
-use Rattle.mesh_paths.proofs.SettledNeighbours.{owner, same_host}
+use Rattle.mesh_paths.proofs.SettledNeighbours.{owner}
 use Rattle.mesh_atoms.specs.NextHop.{Holds}
 use Rattle.mesh_data.specs.Trips.{LeadsToNext}
+use Rattle.mesh_atoms.proofs.Values.{same_addr, same_host}
 
 -- Networks and addresses
-
-addr_from : (a b : Addr4) → a.0 ≡ b.0 → a ≡ b
-addr_from a b e = ap (λ (n : ℕ). let x : Addr4 = record { 0 = n } in x) e
 
 one_each : (n : ℕ) → n / 2 ^ (32 - 32) * 2 ^ (32 - 32) ≡ n
 one_each n = omega arith
@@ -30,13 +28,13 @@ pub host_holds : (a : Addr4) → Holds (host a) a
 host_holds a = one_each a.0
 
 pub host_held : (a b : Addr4) → Holds (host b) a → a ≡ b
-host_held a b h = addr_from a b (sym (one_each a.0) ∙ h)
+host_held a b h = same_addr a b (sym (one_each a.0) ∙ h)
 
 -- two networks of one prefix that have an address are the same
 pub holds_one : (net other : NetAddr) (a : Addr4) → Holds net a → Holds other a → net.prefix ≡ other.prefix → net ≡ other
 holds_one net other a h g e =
     let k : a.0 / 2 ^ (32 - other.prefix) * 2 ^ (32 - other.prefix) ≡ net.addr.0 = subst (λ (p : ℕ). a.0 / 2 ^ (32 - p) * 2 ^ (32 - p) ≡ net.addr.0) e h in
-    same_net net other (addr_from net.addr other.addr (sym k ∙ g)) e
+    same_net net other (same_addr net.addr other.addr (sym k ∙ g)) e
 
 -- Routers
 

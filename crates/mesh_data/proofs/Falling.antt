@@ -1,12 +1,12 @@
 -- A chain of hops on which what is left of the cost falls never comes to a router twice.
-use Rattle.std.proofs.Common.{◌≡◌, ℕ, ◌+◌, ◌<◌, ◌≤◌, ◌⊎◌, inl, inr, refl, sym, subst, arith, List, [], ◌∷◌, length, Contains, Bool, true, false, ◌||◌, eqb}
+use Rattle.std.proofs.Common.{◌≡◌, ℕ, ◌+◌, ◌<◌, ◌≤◌, ◌⊎◌, inl, inr, refl, sym, subst, arith, List, [], ◌∷◌, length, Contains, Bool, true, false, eqb}
 use Rattle.std.specs.List.{IsDistinct, AllByRecursion, list_any, sum_by}
-use Rattle.std.proofs.lemmas.Bool.{eqb-true, cases_Bool}
+use Rattle.std.proofs.lemmas.Bool.{eqb-true, cases_Bool, or_cases, or_parts as neither}
 use Rattle.std.proofs.lemmas.List.Sums.{sum_by-append}
 use Rattle.std.proofs.lemmas.Map.Steps.{length-le_from_distinct_below}
-use Rattle.mesh_paths.proofs.SearchLaw.{in_tail}
 use Rattle.mesh_data.specs.declared.trip.Hop.{Hop}
 use Rattle.mesh_data.specs.Trips.{AreChained}
+use Rattle.mesh_atoms.proofs.Lists.{contains_tail as in_tail}
 
 abbrev pub total : List Hop → ℕ
 total hops = sum_by (λ h. h.metric) hops
@@ -22,14 +22,6 @@ visited x (h ∷ hs) = x ∷ visited h.to hs
 count : (x : ℕ) (hops : List Hop) → length (visited x hops) ≡ length hops + 1
 count x [] = refl
 count x (h ∷ hs) = let r = count h.to hs in omega arith
-
-or_cases : (a b : Bool) → (a || b) ≡ true → (a ≡ true) ⊎ (b ≡ true)
-or_cases true b e = inl refl
-or_cases false b e = inr e
-
-neither : (a b : Bool) → (a || b) ≡ false → (a ≡ false) × (b ≡ false)
-neither true b e = absurd cc
-neither false b e = (refl, e)
 
 none_in : {A : Type 0} (p : A → Bool) (xs : List A) → list_any p xs ≡ false → AllByRecursion (λ x. p x ≡ false) xs
 none_in p [] e = tt

@@ -12,13 +12,14 @@ use Rattle.mesh_atoms.specs.declared.addr.Addr4.{Addr4}
 use Rattle.mesh_atoms.specs.declared.settings.RouterSettings.{RouterSettings}
 use Rattle.mesh_atoms.specs.declared.settings.Scenario.{Scenario}
 use Rattle.mesh_atoms.specs.State.{State}
-use Rattle.mesh_paths.proofs.ShortLists.{none_of, only}
+use Rattle.mesh_paths.proofs.ShortLists.{only}
 use Rattle.mesh_data.specs.declared.trip.End.{End}
 use Rattle.mesh_data.specs.declared.trip.Hop.{Hop}
 use Rattle.mesh_data.specs.declared.trip.Trip.{Trip}
 use Rattle.mesh_data.specs.Laws.{OfEachTrip}
 use Rattle.mesh_data.specs.Trips.{IsHop, AreChained, EndsWith, IsTrip}
 use Rattle.mesh_data.specs.Decisions.{IsOnTheWay}
+use Rattle.mesh_atoms.proofs.Lists.{contains_none as none_of}
 
 chain_on : (hops : List Hop) (from x : ℕ) (hop : Hop) → AreChained from hops x → hop.from ≡ x → AreChained from (hops ++ hop ∷ []) hop.to
 chain_on [] from x hop e at = (at ∙ sym e, refl)

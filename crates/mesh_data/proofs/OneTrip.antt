@@ -11,10 +11,7 @@ use Rattle.mesh_atoms.specs.Codes.Codes.{metric_value}
 use Rattle.mesh_atoms.specs.Nodes.{IsBefore}
 use Rattle.mesh_atoms.specs.Radio.{Leads, AddressOf, Attaches, IsSoundScenario}
 use Rattle.mesh_atoms.specs.State.{State}
-use Rattle.mesh_paths.proofs.Order.{not_before_itself}
 use Rattle.mesh_paths.proofs.Scenarios.{sound_scenario}
-use Rattle.mesh_paths.proofs.SearchLaw.{in_tail}
-use Rattle.mesh_paths.proofs.ShortLists.{here as front}
 use Rattle.mesh_data.specs.declared.trip.End.{End}
 use Rattle.mesh_data.specs.declared.trip.End.TheVariants.{Arrived, NoRoute, NoArc, TooFar}
 use Rattle.mesh_data.specs.declared.trip.Hop.{Hop}
@@ -24,6 +21,8 @@ use Rattle.mesh_data.specs.Trips.{Delivers, TakesRoute, HasNoWay, LeadsToNext, I
 use Rattle.mesh_data.proofs.Attached.{one_metric}
 use Rattle.mesh_data.proofs.Costs.{holds_one, at_one}
 use Rattle.mesh_data.proofs.Falling.{total}
+use Rattle.mesh_atoms.proofs.Values.{not_before_itself}
+use Rattle.mesh_atoms.proofs.Lists.{contains_tail as in_tail, contains_head as front}
 
 -- Of ascending routes one leads to a destination
 

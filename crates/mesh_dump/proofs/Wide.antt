@@ -3,11 +3,11 @@ use Rattle.std.proofs.Common.{◌≡◌, ℕ, ◌+◌, ◌-◌, ◌*◌, ◌%◌
 use Rattle.std.specs.Prelude.{◌||◌, ◌&&◌, nat_eq, nat_lt, slice_index, Some, bit_or}
 use Rattle.std.specs.Option.{option_eq}
 use Rattle.std.specs.Simd.Lanes.{put_chunk}
-use Rattle.std.proofs.lemmas.Bool.{cases_lt, le-ltb, eqb-true}
+use Rattle.std.proofs.lemmas.Bool.{cases_lt, le-ltb, eqb-true, and_parts as both}
 use Rattle.std.proofs.lemmas.Nat.{le_or_l, le_or_r}
 use Rattle.std.proofs.lemmas.Simd.{get_or-put_chunk_below, get_or-put_chunk_at}
 use Rattle.hex.specs.Hex.{hex_digit_value}
-use Rattle.mesh_report.proofs.Tables.{all_below, both, below}
+use Rattle.mesh_report.proofs.Tables.{all_below, below}
 use Rattle.mesh_dump.specs.Pairs.{IsPair, ArePairs}
 use Rattle.mesh_dump.specs.Values.{digit_value}
 use Rattle.mesh_dump.proofs.Pairs.{one_of, same_value}

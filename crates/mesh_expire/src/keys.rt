@@ -25,7 +25,7 @@ impl Key for AddressKey {
 }
 
 impl Key for NetworkKey {
-    ghost use Rattle.mesh_atoms.proofs.Nets.{network_exact};
+    ghost use Rattle.mesh_atoms.proofs.Lookups.{same_network as network_exact};
 
     ghost exact = { network_exact };
 }

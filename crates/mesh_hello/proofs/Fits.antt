@@ -1,10 +1,10 @@
 -- How many addresses a list can have.
-use Rattle.std.proofs.Common.{◌≡◌, ℕ, suc, ◌≤◌, ◌⊎◌, ◌↔◌, inl, inr, refl, sym, ap, arith, List, [], ◌∷◌, length, Contains, Some, IsTrue}
+use Rattle.std.proofs.Common.{◌≡◌, ℕ, suc, ◌≤◌, ◌↔◌, inl, inr, refl, sym, ap, arith, List, [], ◌∷◌, length, Contains, Some, IsTrue}
 use Rattle.std.specs.Prelude.{Bool, true, false, cond, IsSome, ◌||◌, nat_lt}
 use Rattle.std.specs.Cmp.{IsEquivalence}
 use Rattle.std.specs.List.{IsDistinct, list_any}
 use Rattle.std.specs.Map.{lookup}
-use Rattle.std.proofs.lemmas.Bool.{false≢true, lt-ltb, ltb-true}
+use Rattle.std.proofs.lemmas.Bool.{false≢true, lt-ltb, ltb-true, or_cases as either}
 use Rattle.std.proofs.lemmas.Map.Steps.{length-le_from_keys}
 use Rattle.std.proofs.lemmas.Map.Views.{list_any-from_Contains}
 use Rattle.mesh_atoms.specs.declared.addr.Addr4.{Addr4}
@@ -21,10 +21,6 @@ length_entries : {A : Type 0} (xs : List A) → length (entries xs) ≡ length x
 unfolding entries
 length_entries [] = refl
 length_entries (a ∷ rest) = ap suc (length_entries rest)
-
-either : (b c : Bool) → (b || c) ≡ true → (b ≡ true) ⊎ (c ≡ true)
-either true c h = inl refl
-either false c h = inr h
 
 -- a test of equality finds an element
 pub any_contains : {A : Type 0} {eq : A → A → Bool} → ((a b : A) → eq a b ≡ true → a ≡ b) → (xs : List A) (a : A) → list_any (eq a) xs ≡ true → Contains xs a

@@ -1,17 +1,12 @@
 -- What look-ups give.
-use Rattle.std.proofs.Common.{◌≡◌, ℕ, zero, suc, ◌<◌, ◌⊎◌, inl, inr, refl, sym, ◌∙◌, ap, subst, arith, List, [], ◌∷◌, length, Contains, slice_get, slice_index_or, Option, Some, None}
+use Rattle.std.proofs.Common.{◌≡◌, ℕ, zero, suc, ◌<◌, ◌⊎◌, inl, inr, refl, sym, ◌∙◌, ap, subst, arith, List, [], ◌∷◌, length, Contains, slice_index_or, Option, Some, None}
 use Rattle.std.specs.Prelude.{Bool, true, false, cond, nat_lt}
-use Rattle.std.proofs.lemmas.Option.{none-some, slice_get_within, get_or_from_slice_get}
-use Rattle.std.proofs.lemmas.Bool.{cases_eq}
+use Rattle.std.proofs.lemmas.Option.{none-some}
 use Rattle.mesh_atoms.specs.declared.addr.Addr4.{Addr4}
 use Rattle.mesh_atoms.specs.declared.tuples.LinkKey.{LinkKey}
 use Rattle.mesh_atoms.specs.Base.{if_live}
-
-pub Contains_at : {A : Type 0} (xs : List A) (k : ℕ) (a : A) → slice_get xs k ≡ Some a → Contains xs a
-Contains_at xs k a e = (k, slice_get_within xs k a e, get_or_from_slice_get xs k a a e)
-
-pub some_same : {A : Type 0} {o : Option A} {a b : A} → o ≡ Some a → o ≡ Some b → a ≡ b
-some_same e f = cc
+use Rattle.mesh_atoms.proofs.Options.{same_some}
+use Rattle.mesh_atoms.proofs.Values.{same_address}
 
 pub none_not : {A B : Type 0} {o : Option A} {a : A} → o ≡ None → o ≡ Some a → B
 none_not {a = a} e f = absurd (none-some a (sym e ∙ f))
@@ -22,19 +17,8 @@ live_from now None e h = none_not refl h
 live_from {V} now (Some f) e h = by_case (nat_lt now f.1) refl h
   where
     by_case : (b : Bool) → nat_lt now f.1 ≡ b → cond b (Some f) None ≡ Some e → (Some f ≡ Some e) × (nat_lt now e.1 ≡ true)
-    by_case true is h = (h, subst (λ (g : V × ℕ). nat_lt now g.1 ≡ true) (some_same refl h) is)
+    by_case true is h = (h, subst (λ (g : V × ℕ). nat_lt now g.1 ≡ true) (same_some refl h) is)
     by_case false is h = none_not refl h
-
--- what a condition lets through
-pub cond_from : {A : Type 0} (b : Bool) (o : Option A) (a : A) → cond b o None ≡ Some a → (b ≡ true) × (o ≡ Some a)
-cond_from true o a h = (refl, h)
-cond_from false o a h = none_not refl h
-
-pub same_address : (a b : Addr4) → (a ≡ b) ⊎ (a ≡ b → ⊥)
-same_address a b = elim (cases_eq a.0 b.0) [
-  | inl e ↦ inl (ap (λ (n : ℕ). let r : Addr4 = record { 0 = n } in r) e)
-  | inr other ↦ inr (λ e. other (ap (λ (c : Addr4). c.0) e))
-]
 
 pub same_key : (a b : LinkKey) → (a ≡ b) ⊎ (a ≡ b → ⊥)
 same_key a b = elim (same_address a.addr b.addr) [

@@ -1,18 +1,15 @@
 -- Elements of lists by their places.
-use Rattle.std.proofs.Common.{◌≡◌, ℕ, zero, suc, ◌+◌, ◌<◌, ◌≤◌, ◌++◌, List, [], ◌∷◌, drop, length, map, refl, sym, ◌∙◌, ap, subst, arith, add-one}
+use Rattle.std.proofs.Common.{◌≡◌, ℕ, zero, suc, ◌+◌, ◌≤◌, ◌++◌, List, [], ◌∷◌, drop, length, refl, sym, ◌∙◌, ap, subst, arith, add-one}
 use Rattle.std.specs.Prelude.{Contains, Some, slice_get, ◌↔◌}
 use Rattle.std.specs.List.{flat_map}
-use Rattle.std.proofs.lemmas.List.{append_assoc, length-map, get_or-map}
-use Rattle.std.proofs.lemmas.Option.{slice_get-get_or}
-use Rattle.mesh_hello.proofs.Lookups.{some_same, none_not}
-
--- an element stands at a place
-pub place_of : {A : Type 0} (xs : List A) (x : A) → Contains xs x → (k : ℕ) × (k < length xs) × (slice_get xs k ≡ Some x)
-place_of xs x (k, lt, is) = (k, lt, slice_get-get_or xs k x lt ∙ ap Some is)
+use Rattle.std.proofs.lemmas.List.{append_assoc}
+use Rattle.mesh_hello.proofs.Lookups.{none_not}
+use Rattle.mesh_atoms.proofs.Lists.{append_nothing}
+use Rattle.mesh_atoms.proofs.Options.{same_some}
 
 drop_at : {A : Type 0} (xs : List A) (k : ℕ) (x : A) → slice_get xs k ≡ Some x → drop k xs ≡ x ∷ drop (suc k) xs
 drop_at [] k x h = none_not refl h
-drop_at (y ∷ ys) zero x h = ap (λ z. z ∷ ys) (some_same refl h)
+drop_at (y ∷ ys) zero x h = ap (λ z. z ∷ ys) (same_some refl h)
 drop_at (y ∷ ys) (suc k) x h = drop_at ys k x h
 
 -- what a list with the rest gives, with what the next element gives put at its end
@@ -26,22 +23,9 @@ pub put_more : {A B : Type 0} (f : A → List B) (xs : List A) (k : ℕ) (x : A)
     list ++ flat_map f (drop k xs) ≡ whole → new ≡ list ++ f x → new ++ flat_map f (drop (k + 1) xs) ≡ whole
 put_more f xs k x list new whole at h is = subst (λ l. l ++ flat_map f (drop (k + 1) xs) ≡ whole) (sym is) (put_next f xs k x list whole at h)
 
--- what a map of a list has
-pub map_given : {A B : Type 0} (f : A → B) (xs : List A) (y : B) → Contains (map f xs) y → (x : A) × Contains xs x × (f x ≡ y)
-map_given f [] y (k, lt, is) = absurd (omega (arith, lt))
-map_given f (x ∷ xs) y (zero, lt, is) = (x, (0, omega arith, refl), is)
-map_given f (x ∷ xs) y (suc k, lt, is) = let (z, (j, within, at), e) = map_given f xs y (k, omega (arith, lt), is) in (z, (suc j, omega (arith, within), at), e)
-
-pub map_gives : {A B : Type 0} (f : A → B) (xs : List A) (x : A) → Contains xs x → Contains (map f xs) (f x)
-map_gives f xs x (k, lt, is) = (k, (let e : length (map f xs) ≡ length xs = length-map xs f in omega (arith, lt, e)), get_or-map f xs k x (f x) lt ∙ ap f is)
-
-pub append_none : {A : Type 0} (xs : List A) → xs ++ [] ≡ xs
-append_none [] = refl
-append_none (x ∷ xs) = ap (λ rest. x ∷ rest) (append_none xs)
-
 -- past the last place there is no rest
 pub put_all : {A B : Type 0} (f : A → List B) (xs : List A) (k : ℕ) (list whole : List B) → length xs ≤ k → list ++ flat_map f (drop k xs) ≡ whole → list ≡ whole
-put_all f xs k list whole past h = sym (append_none list) ∙ subst (λ rest. list ++ flat_map f rest ≡ whole) (none_left xs k past) h
+put_all f xs k list whole past h = sym (append_nothing list) ∙ subst (λ rest. list ++ flat_map f rest ≡ whole) (none_left xs k past) h
   where
     none_left : {A : Type 0} (xs : List A) (k : ℕ) → length xs ≤ k → drop k xs ≡ []
     none_left [] k past = drop_none k
@@ -58,7 +42,3 @@ pub same_in_turn : {A : Type 0} (once w x y z l0 l1 l2 l3 : List A) → l0 ≡ w
 same_in_turn {A} once w x y z l0 l1 l2 l3 e0 e1 e2 e3 same a =
     let is : l3 ≡ w ++ (x ++ (y ++ z)) = rw (e3, e2, e1, e0) (simp append_assoc) in
     subst (λ (l : List A). Contains once a ↔ Contains l a) is (same a)
-
-pub one_first : {A : Type 0} (xs : List A) → 1 ≤ length xs → (x : A) × (slice_get xs 0 ≡ Some x)
-one_first [] h = absurd (omega arith)
-one_first (x ∷ xs) h = (x, refl)

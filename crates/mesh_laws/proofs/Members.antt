@@ -1,8 +1,7 @@
 -- Items of short lists, and of lists that are made of others.
-use Rattle.std.proofs.Common.{◌≡◌, suc, inl, inr, ap, subst, sym, ◌∙◌, arith, List, [], ◌∷◌, map, Contains, Some}
+use Rattle.std.proofs.Common.{◌≡◌, inl, inr, ap, subst, sym, ◌∙◌, List, [], ◌∷◌, map, Contains, Some}
 use Rattle.mesh_atoms.specs.Base.{Base, Has}
-use Rattle.mesh_paths.proofs.Scenarios.{contains_cases}
-use Rattle.mesh_paths.proofs.ShortLists.{none_of, here}
+use Rattle.mesh_atoms.proofs.Lists.{contains_tail as there, contains_cases, contains_none as none_of, contains_head as here}
 
 -- each item of a list has the property
 abbrev pub Each : {A : Type 0} → (A → Type 0) → List A → Type 0
@@ -15,9 +14,6 @@ each P (x ∷ xs) all a c = elim (contains_cases x xs a c) [
   | inl e ↦ subst P e all.0
   | inr more ↦ each P xs all.1 a more
 ]
-
-pub there : {A : Type 0} (x : A) (xs : List A) (a : A) → Contains xs a → Contains (x ∷ xs) a
-there x xs a c = (suc c.0, omega (arith, c.1), c.2)
 
 -- what stands in a list that is made of another
 pub unmapped : {A B : Type 0} (f : A → B) (xs : List A) (b : B) → Contains (map f xs) b → (a : A) × Contains xs a × (b ≡ f a)

@@ -1,6 +1,6 @@
 -- Options that are both some and none, and choices by what is known.
-use Rattle.std.proofs.Common.{◌≡◌, refl, Option, Some, None}
-use Rattle.std.specs.Prelude.{Bool, true, false, cond}
+use Rattle.std.proofs.Common.{◌≡◌, Option, Some, None}
+use Rattle.std.specs.Prelude.{Bool, true, false}
 
 pub some_none : {A B : Type 0} {o : Option A} {a : A} → o ≡ Some a → o ≡ None → B
 some_none e f = absurd (cc)
@@ -16,7 +16,3 @@ same_some e f = cc
 
 pub true_false : {A : Type 0} {b : Bool} → b ≡ true → b ≡ false → A
 true_false e f = absurd (cc)
-
-pub at_itself : {A : Type 0} (b : Bool) (x y : A) → b ≡ true → cond b x y ≡ x
-at_itself true x y h = refl
-at_itself false x y h = absurd (cc)

@@ -2,11 +2,10 @@
 use Rattle.std.proofs.Common.{◌≡◌, ℕ, ◌+◌, ◌<◌, ◌≤◌, refl, arith, min, Bool, true, false, cond}
 use Rattle.std.specs.Prelude.{not, nat_le, nat_lt, ◌&&◌, ◌||◌}
 use Rattle.std.proofs.Math.Nat.{le_refl, min-le_left, min-le_right}
-use Rattle.std.proofs.lemmas.Bool.{leb-true, lt-leb, lt-ltb}
+use Rattle.std.proofs.lemmas.Bool.{leb-true, lt-leb, lt-ltb, and_parts}
 use Rattle.mesh_atoms.specs.declared.admit.Admit.{Admit}
 use Rattle.mesh_atoms.specs.declared.tuples.Link.{Link}
 use Rattle.mesh_atoms.specs.Quality.{by_quality}
-use Rattle.mesh_paths.proofs.Scenarios.{both_true}
 
 abbrev entry : Link → ℕ → Link × ℕ
 entry link until = (link, until)
@@ -14,10 +13,10 @@ entry link until = (link, until)
 -- The thresholds
 
 pub below_all : (rule : Admit) → rule.accept ≤ 100
-below_all rule = leb-true rule.accept 100 (both_true (nat_le rule.reject rule.accept) (nat_le rule.accept 100) rule.thresholds).1
+below_all rule = leb-true rule.accept 100 (and_parts (nat_le rule.reject rule.accept) (nat_le rule.accept 100) rule.thresholds).1
 
 pub in_order : (rule : Admit) → rule.reject ≤ rule.accept
-in_order rule = leb-true rule.reject rule.accept (both_true (nat_le rule.reject rule.accept) (nat_le rule.accept 100) rule.thresholds).0
+in_order rule = leb-true rule.reject rule.accept (and_parts (nat_le rule.reject rule.accept) (nat_le rule.accept 100) rule.thresholds).0
 
 -- A link
 

@@ -11,8 +11,9 @@ use Rattle.mesh_atoms.specs.Codes.Codes.{metric_value}
 use Rattle.mesh_atoms.specs.Live.{HasSymmetricOf, SettlesLost, Back, Gone, Stays}
 use Rattle.mesh_atoms.specs.Words.{IsLeastMetric}
 use Rattle.mesh_laws.proofs.Members.{some_is}
-use Rattle.mesh_laws.proofs.Options.{some_none, none_is_some, some_is_none, same_some, at_itself}
+use Rattle.mesh_laws.proofs.Options.{some_none, none_is_some, some_is_none, same_some}
 use Rattle.mesh_laws.specs.Spoiled.{RefusesNeighbourOutOfNothing, RefusesNeighbourGone, RefusesSelectorKept, RefusesNeighbourTooShort, RefusesLostThoughBack, RefusesLossUntold, RefusesLostOutOfNothing, RefusesLostAtAnotherMoment, RefusesLostSymmetric, RefusesOwnLost, RefusesNeighbourTooLong, RefusesOtherAddresses, RefusesOtherWillingness, RefusesSelectorCleared, RefusesSymmetricUntold, RefusesSymmetricOutOfNothing, RefusesOtherMetricIn, RefusesOtherMetricOut, RefusesLostGone, RefusesLostMoved}
+use Rattle.mesh_atoms.proofs.Options.{cond_true}
 
 both_true : (a b : Bool) → (a && b) ≡ true → b ≡ true
 both_true true b h = h
@@ -122,7 +123,7 @@ lost_at_another_moment settings now old new a e before some other live = other (
 
 pub lost_gone : RefusesLostGone
 lost_gone settings now old new a e never not_now stood late gone live =
-    some_none (ap (if_live now) stood ∙ at_itself (nat_lt now e.1) (Some e) None (lt-ltb now e.1 late)) (sym (is_left (live.losts a) never not_now) ∙ gone)
+    some_none (ap (if_live now) stood ∙ cond_true (nat_lt now e.1) (Some e) None (lt-ltb now e.1 late)) (sym (is_left (live.losts a) never not_now) ∙ gone)
 
 pub lost_moved : RefusesLostMoved
 lost_moved settings now old new a e f never not_now stood stands other live =

@@ -18,9 +18,10 @@ use Rattle.mesh_atoms.specs.State.{Topology}
 use Rattle.mesh_flood.specs.Noting.{Notes}
 use Rattle.mesh_flood.specs.Verdict.{key_of, is_received, is_forwarded}
 use Rattle.mesh_laws.proofs.Members.{both_same}
-use Rattle.mesh_laws.proofs.Options.{some_none, some_is_none, same_some, at_itself}
+use Rattle.mesh_laws.proofs.Options.{some_none, some_is_none, same_some}
 use Rattle.mesh_laws.proofs.TcSets.{given_so, numbered_so}
 use Rattle.mesh_laws.specs.Spoiled.{RefusesNumberUnnoted, RefusesNumberAtAnotherMoment, RefusesGivenOtherwise, RefusesGivenAtAnotherMoment, RefusesRouterUntaken, RefusesNetworkUntaken, RefusesRouterOfOldNumber, RefusesNetworkOfOldNumber, RefusesTupleGoneByPart, RefusesTupleGoneOfAnother, RefusesProcessedUnnoted, RefusesProcessedOutOfNothing, RefusesProcessedAtAnotherMoment, RefusesReceivedOutOfNothing, RefusesReceivedAtAnotherMoment, RefusesReceivedElsewhere, RefusesForwardedUnsent, RefusesForwardedAtAnotherMoment}
+use Rattle.mesh_atoms.proofs.Options.{cond_true}
 
 -- TCs
 
@@ -28,7 +29,7 @@ use Rattle.mesh_laws.specs.Spoiled.{RefusesNumberUnnoted, RefusesNumberAtAnother
 number_noted : {now : ℕ} {tc : Tc} {old new : Topology} (t : Advertiser × ℕ) → AfterTc now tc old new → find addr_eq new.advertisers tc.originator ≡ Some t →
     t ≡ (record { ansn = tc.ansn }, now + tc.validity)
 number_noted {tc = tc} t after at =
-    same_some at (after.advertisers tc.originator ∙ at_itself (addr_eq tc.originator tc.originator) _ _ (eq-eqb tc.originator.0 tc.originator.0 refl))
+    same_some at (after.advertisers tc.originator ∙ cond_true (addr_eq tc.originator tc.originator) _ _ (eq-eqb tc.originator.0 tc.originator.0 refl))
 
 pub number_unnoted : RefusesNumberUnnoted
 number_unnoted now tc old new t at other after = other (ap (λ (e : Advertiser × ℕ). e.0.ansn) (number_noted t after at))
@@ -113,7 +114,7 @@ flood_itself k =
 
 -- what is noted of a key, by whether it is noted
 noted_at : (k : FloodKey) (until : ℕ) (old new : Base FloodKey Noted) → Notes true k until old new → find flood_eq new k ≡ Some (record {}, until)
-noted_at k until old new notes = notes k ∙ at_itself (flood_eq k k) (Some (record {}, until)) (find flood_eq old k) (flood_itself k)
+noted_at k until old new notes = notes k ∙ cond_true (flood_eq k k) (Some (record {}, until)) (find flood_eq old k) (flood_itself k)
 
 module _ (b : Bool) (k : FloodKey) (until : ℕ) (old new : Base FloodKey Noted) (e : Noted × ℕ) where
   not_noted : b ≡ false → Notes b k until old new → find flood_eq old k ≡ None → find flood_eq new k ≡ Some e → ⊥

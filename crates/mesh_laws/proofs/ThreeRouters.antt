@@ -22,8 +22,7 @@ use Rattle.mesh_atoms.specs.declared.settings.Scenario.{Scenario}
 use Rattle.mesh_atoms.specs.declared.graphs.Route.{Route}
 use Rattle.mesh_atoms.specs.Base.{host}
 use Rattle.mesh_atoms.specs.State.{State, HasLink, HasTwoHop, HasSymmetric, HasAddressOn}
-use Rattle.mesh_paths.proofs.Scenarios.{contains_map}
-use Rattle.mesh_paths.proofs.ShortLists.{none_of, only, here, first_of}
+use Rattle.mesh_paths.proofs.ShortLists.{only, first_of}
 pub use Rattle.mesh_laws.proofs.TwoRoutersInRange.{addr}
 pub use Rattle.mesh_laws.proofs.PlainRouters.{one, arc}
 use Rattle.mesh_laws.proofs.PlainRouters.{face_of, settings_of, link_of, neighbour_of}
@@ -31,6 +30,7 @@ use Rattle.mesh_laws.proofs.TwoRoutersInRange.{is_end, small_seed, no_loss}
 use Rattle.mesh_laws.proofs.Members.{each, unmapped}
 use Rattle.mesh_laws.proofs.ThreeRoutersInRange.{letter, is_interface, is_router, are_routers, are_arcs}
 pub use Rattle.mesh_laws.proofs.ThreeRoutersInRange.{net, attached, given}
+use Rattle.mesh_atoms.proofs.Lists.{contains_map, contains_none as none_of, contains_head as here}
 
 -- Who knows whom
 

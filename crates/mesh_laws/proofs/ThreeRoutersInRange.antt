@@ -7,9 +7,10 @@ use Rattle.mesh_atoms.specs.declared.addr.NetAddr.{NetAddr}
 use Rattle.mesh_atoms.specs.declared.settings.Attached4.{Attached4}
 use Rattle.mesh_atoms.specs.Settings.{IsName, is_name_octet, IsInterface, IsRouter, AreRouters, AreArcs, Ends, are_distinct, are_no_hosts}
 use Rattle.mesh_atoms.specs.Base.{net_eq}
-use Rattle.mesh_paths.proofs.ShortLists.{none_of, only}
+use Rattle.mesh_paths.proofs.ShortLists.{only}
 use Rattle.mesh_laws.proofs.TwoRoutersInRange.{addr}
 use Rattle.mesh_laws.proofs.PlainRouters.{one}
+use Rattle.mesh_atoms.proofs.Lists.{contains_none as none_of}
 
 -- the names are a, b and c
 abbrev pub letter : ℕ → ℕ

@@ -7,9 +7,9 @@ use Rattle.mesh_atoms.specs.Codes.Codes.{metric_value}
 use Rattle.mesh_atoms.specs.Radio.{Leads, IsAdmitted, Joins, Adjacent, IsMetric, Itself, By, Router}
 use Rattle.mesh_atoms.specs.Settled.{At, IsPeer, AreStates}
 use Rattle.mesh_atoms.specs.State.{State}
-use Rattle.mesh_paths.proofs.ShortLists.{here}
 use Rattle.mesh_laws.proofs.Members.{each, Each, some_is}
 use Rattle.mesh_laws.proofs.ThreeRouters.{one, arc, peers, each_pair, peers_back, face, settings, scenario, state, states}
+use Rattle.mesh_atoms.proofs.Lists.{contains_head as here}
 
 -- Arcs
 

@@ -17,12 +17,12 @@ use Rattle.mesh_atoms.specs.Relays.{Offers, IsWilling, IsRelay, IsOtherRelay}
 use Rattle.mesh_atoms.specs.declared.tuples.LinkState.TheVariants.{Symmetric as Is_symmetric}
 use Rattle.mesh_atoms.specs.State.{HasLink, HasTwoHop, HasSymmetric, HasSymmetricWith, state_of}
 use Rattle.mesh_atoms.specs.Words.{IsAscending}
-use Rattle.mesh_paths.proofs.Scenarios.{contains_map}
-use Rattle.mesh_paths.proofs.ShortLists.{here, only, first_of}
+use Rattle.mesh_paths.proofs.ShortLists.{only, first_of}
 use Rattle.mesh_laws.proofs.Members.{unmapped, some_is, both_same}
 use Rattle.mesh_laws.proofs.ThreeRouters.{one, addr, peers, beyond, relays, key, link, neighbour, two_hop_key, far, state, each_beyond, each_relay, same_number, link_is, link_has, symmetric_is, symmetric_has, two_hop_is, two_hop_has}
 use Rattle.mesh_laws.proofs.ThreeRoutersSay.{near, near_has}
 use Rattle.mesh_laws.proofs.ThreeRoutersSettled.{behind}
+use Rattle.mesh_atoms.proofs.Lists.{contains_map, contains_head as here}
 
 -- The graph, for routing and for flooding
 

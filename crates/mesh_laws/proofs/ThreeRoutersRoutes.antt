@@ -24,14 +24,14 @@ use Rattle.mesh_atoms.specs.Nodes.{IsBefore}
 use Rattle.mesh_atoms.specs.Routes.{RouteArc, To_neighbour, To_two_hop, By_router, By_address, By_network, IsOutside, IsParent, IsNextHop, AreRoutes}
 use Rattle.mesh_atoms.specs.Walk.{Walk, Stay, Onward, Least, FirstNode, AtSelf, Through}
 use Rattle.mesh_atoms.proofs.Lookups.{same_net}
-use Rattle.mesh_paths.proofs.Order.{at_most_itself}
-use Rattle.mesh_paths.proofs.Scenarios.{contains_map}
-use Rattle.mesh_paths.proofs.ShortLists.{none_of, only, here}
+use Rattle.mesh_paths.proofs.ShortLists.{only}
 use Rattle.mesh_laws.proofs.Members.{Each, each, unmapped, some_is}
 use Rattle.mesh_laws.proofs.ThreeRouters.{one, addr, net, attached, face, peers, beyond, told, gateways, link, neighbour, router_tuple, router_entry, address_entry, network_entry, network_tuple, route, first_to_second, first_to_third, first_to_net, second_to_first, second_to_third, second_to_net, third_to_first, third_to_second, routes, state, each_pair, each_beyond, each_told, each_gateway, same_number, address_on, has_own, link_is, link_has, two_hop_is}
 use Rattle.mesh_laws.proofs.ThreeRoutersInRange.{attached_is}
 use Rattle.mesh_laws.proofs.ThreeRoutersSay.{near, near_has}
 use Rattle.mesh_laws.proofs.ThreeRoutersSettled.{own_originator}
+use Rattle.mesh_atoms.proofs.Values.{at_most_itself}
+use Rattle.mesh_atoms.proofs.Lists.{contains_map, contains_none as none_of, contains_head as here}
 
 -- Arcs
 

@@ -10,10 +10,10 @@ use Rattle.mesh_atoms.specs.Hello.{Says, SaysSymmetric, HasLinkTo, Link_symmetri
 use Rattle.mesh_atoms.specs.declared.tuples.LinkState.{LinkState}
 use Rattle.mesh_atoms.specs.declared.tuples.LinkState.TheVariants.{Symmetric as Is_symmetric}
 use Rattle.mesh_atoms.specs.State.{HasSymmetricWith}
-use Rattle.mesh_paths.proofs.Scenarios.{contains_map}
-use Rattle.mesh_paths.proofs.ShortLists.{only, here, first_of}
+use Rattle.mesh_paths.proofs.ShortLists.{only, first_of}
 use Rattle.mesh_laws.proofs.Members.{unmapped, some_is}
 use Rattle.mesh_laws.proofs.ThreeRouters.{one, addr, net, given, key, link, neighbour, peers, relays, middle_is, state, same_number, link_is, link_has, symmetric_is, symmetric_has}
+use Rattle.mesh_atoms.proofs.Lists.{contains_map, contains_head as here}
 
 -- HELLOs
 

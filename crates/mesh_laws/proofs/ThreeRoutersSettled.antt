@@ -22,13 +22,13 @@ use Rattle.mesh_atoms.specs.Hello.{Says, IsSaid, Near_in, Near_out, Link_in, Lin
 use Rattle.mesh_atoms.specs.Radio.{Joins, IsMetric}
 use Rattle.mesh_atoms.specs.Settled.{At, IsSettledAt, IsLeastAddress, IsLinkTo, IsNeighbourOf, IsTwoHopBy, IsStray, IsPeer, IsRouterBy, IsAddressBy, IsNetworkBy}
 use Rattle.mesh_atoms.specs.State.{State, HasAddress, IsOriginator, HasTwoHop}
-use Rattle.mesh_paths.proofs.Scenarios.{contains_map}
-use Rattle.mesh_paths.proofs.ShortLists.{none_of, here, first_of}
+use Rattle.mesh_paths.proofs.ShortLists.{first_of}
 use Rattle.mesh_laws.proofs.Members.{each, unmapped, both_same, has_same}
 use Rattle.mesh_laws.proofs.ThreeRouters.{one, addr, attached, face, settings, scenario, peers, beyond, relays, is_middle, told, gateways, key, link, neighbour, two_hop_key, far, router_key, router_tuple, router_entry, address_key, address_tuple, address_entry, network_key, network_tuple, network_entry, state, states, each_pair, each_beyond, each_told, each_gateway, each_relay, peers_back, same_number, address_on, has_own, link_is, link_has, symmetric_is, symmetric_has, two_hop_is, two_hop_has}
 use Rattle.mesh_laws.proofs.ThreeRoutersInRange.{attached_is}
 use Rattle.mesh_laws.proofs.ThreeRoutersSay.{symmetric_said, says_symmetric, flooding_said, says_flooding, routing_said, says_routing, near_in_said, near_out_said, says_near_in, says_near_out, advertises, advertises_is, advertises_originator, advertises_network}
 use Rattle.mesh_laws.proofs.ThreeRoutersRadio.{leads, joins, metric, each_state, state_is, state_at, next_to, two_away}
+use Rattle.mesh_atoms.proofs.Lists.{contains_map, contains_none as none_of, contains_head as here}
 
 -- Links and neighbours
 

@@ -13,11 +13,12 @@ use Rattle.mesh_atoms.specs.declared.graphs.Route.{Route}
 use Rattle.mesh_atoms.specs.Base.{host}
 use Rattle.mesh_atoms.specs.Codes.Codes.{metric_value}
 use Rattle.mesh_atoms.specs.State.{State, HasLink, HasTwoHop, HasSymmetric, HasAddressOn}
-use Rattle.mesh_paths.proofs.ShortLists.{none_of, only, here, first_of}
+use Rattle.mesh_paths.proofs.ShortLists.{only, first_of}
 pub use Rattle.mesh_laws.proofs.TwoRoutersInRange.{addr}
 pub use Rattle.mesh_laws.proofs.PlainRouters.{one, arc}
 use Rattle.mesh_laws.proofs.PlainRouters.{face_of, settings_of, link_of, neighbour_of}
 use Rattle.mesh_laws.proofs.TwoRoutersInRange.{letter, is_interface, is_router, is_end, small_seed, no_loss, are_routers, are_arcs}
+use Rattle.mesh_atoms.proofs.Lists.{contains_none as none_of, contains_head as here}
 
 abbrev pub face : ℕ → Interface
 face x = face_of (letter x ∷ []) (addr x) (is_interface x)

@@ -13,7 +13,8 @@ use Rattle.mesh_atoms.specs.RelayGraphs.{IsRoutingGraph, IsFloodingGraph, IsMetr
 use Rattle.mesh_atoms.specs.declared.tuples.LinkState.TheVariants.{Symmetric as Is_symmetric}
 use Rattle.mesh_atoms.specs.State.{HasLink, HasSymmetric, HasSymmetricWith, state_of}
 use Rattle.mesh_laws.proofs.TwoRouters.{one, addr, link, neighbour, state, symmetric_is, symmetric, link_is, no_two_hop}
-use Rattle.mesh_paths.proofs.ShortLists.{none_of, only, here, first_of}
+use Rattle.mesh_paths.proofs.ShortLists.{only, first_of}
+use Rattle.mesh_atoms.proofs.Lists.{contains_none as none_of, contains_head as here}
 
 abbrev pub graph_of : ℕ → NeighbourGraph
 graph_of y = record { near = record { id = addr y; cost = 1; will = 7 } ∷ []; direct = record { addr = addr y; cost = 1 } ∷ []; far = [] }

@@ -1,6 +1,5 @@
 -- The routes of two routers that hear each other.
 use Rattle.std.proofs.Common.{◌≡◌, ℕ, suc, ◌+◌, ◌⊎◌, ◌≢◌, inl, inr, refl, sym, ◌∙◌, ap, subst, arith, [], Contains, slice_get, Some}
-use Rattle.mesh_atoms.specs.declared.addr.Addr4.{Addr4}
 use Rattle.mesh_atoms.specs.declared.addr.NetAddr.{NetAddr}
 use Rattle.mesh_atoms.specs.declared.tuples.LinkKey.{LinkKey}
 use Rattle.mesh_atoms.specs.declared.tuples.Link.{Link}
@@ -13,7 +12,9 @@ use Rattle.mesh_atoms.specs.Nodes.{IsAtMost}
 use Rattle.mesh_atoms.specs.Routes.{RouteArc, To_neighbour, To_two_hop, By_router, By_address, By_network, IsOutside, IsParent, IsNextHop, AreRoutes}
 use Rattle.mesh_atoms.specs.Walk.{Walk, Stay, Onward, Least, AtSelf}
 use Rattle.mesh_laws.proofs.TwoRouters.{one, addr, face, arc, link, neighbour, route, state, address_on, has_own, apart, symmetric_is, symmetric, link_is, no_two_hop}
-use Rattle.mesh_paths.proofs.ShortLists.{none_of, only, here, first_of}
+use Rattle.mesh_paths.proofs.ShortLists.{only, first_of}
+use Rattle.mesh_atoms.proofs.Values.{same_host}
+use Rattle.mesh_atoms.proofs.Lists.{contains_none as none_of, contains_head as here}
 
 pub arc_is : (x y : ℕ) (m n : NetAddr) (c : ℕ) → RouteArc (state x y) m n c → (m ≡ host (addr x)) × (n ≡ host (addr y)) × (c ≡ 1)
 arc_is x y _ _ _ (To_neighbour {self = self} {a = a} {m = m} o n is has out) =
@@ -31,9 +32,6 @@ arc_is x y _ _ _ (To_two_hop i link t n has with wills out) = absurd (no_two_hop
 arc_is x y _ _ _ (By_router t has) = absurd (none_of _ has.1)
 arc_is x y _ _ _ (By_address t has) = absurd (none_of _ has.1)
 arc_is x y _ _ _ (By_network t has) = absurd (none_of _ has.1)
-
-pub same_host : (a b : Addr4) → host a ≡ host b → a ≡ b
-same_host a b e = ap (λ (n : NetAddr). n.addr) e
 
 pub walk_is : {x y : ℕ} → x ≢ y → (n : NetAddr) (c : ℕ) → Walk (RouteArc (state x y)) (host (addr x)) n c →
     ((n ≡ host (addr x)) × (c ≡ 0)) ⊎ ((n ≡ host (addr y)) × (c ≡ 1))

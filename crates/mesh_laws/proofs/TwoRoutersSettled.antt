@@ -13,7 +13,8 @@ use Rattle.mesh_atoms.specs.Settled.{At, IsSettledAt, IsLinkTo, IsNeighbourOf, I
 use Rattle.mesh_atoms.specs.State.{State, HasAddress}
 use Rattle.mesh_atoms.specs.declared.settings.Attached4.{Attached4}
 use Rattle.mesh_laws.proofs.TwoRouters.{one, addr, face, settings, scenario, link, neighbour, state, states, address_on, has_own, symmetric_is, symmetric, link_is, no_two_hop}
-use Rattle.mesh_paths.proofs.ShortLists.{none_of, only, here, first_of}
+use Rattle.mesh_paths.proofs.ShortLists.{only, first_of}
+use Rattle.mesh_atoms.proofs.Lists.{contains_none as none_of, contains_head as here}
 
 -- one router x of the two, and the other one y
 pub record Side (x y : ℕ) : Type 0 where

@@ -21,10 +21,11 @@ use Rattle.mesh_atoms.specs.State.{Neighbourhood, link_at, two_hop_at, neighbour
 use Rattle.mesh_atoms.specs.TakesHello.{IsHeld}
 use Rattle.mesh_atoms.specs.Words.{AreMoreThan}
 use Rattle.mesh_laws.proofs.TwoRouters.{one, addr, settings, link, neighbour, state, address_on, apart}
-use Rattle.mesh_paths.proofs.ShortLists.{none_of, only, here, same_number, found_one, none_some, empty_within, empties_within, single_distinct, empty_distinct, few_of_one}
+use Rattle.mesh_paths.proofs.ShortLists.{only, same_number, found_one, none_some, empty_within, empties_within, single_distinct, empty_distinct, few_of_one}
 use Rattle.mesh_laws.proofs.TwoRoutersRelays.{relays_are}
 use Rattle.mesh_laws.proofs.TwoRoutersRoutes.{routes_are}
 use Rattle.mesh_laws.proofs.TwoRoutersSettled.{no_selector}
+use Rattle.mesh_atoms.proofs.Lists.{contains_none as none_of, contains_head as here}
 
 -- The neighbourhood
 

@@ -30,9 +30,10 @@ use Rattle.mesh_atoms.specs.State.{link_at, two_hop_at}
 use Rattle.mesh_atoms.proofs.Lookups.{addr_equiv, router_equiv, address_equiv, network_equiv, same_router, same_address, same_network}
 use Rattle.mesh_flood.specs.Verdict.{key_of}
 use Rattle.mesh_laws.proofs.Members.{both_same}
-use Rattle.mesh_paths.proofs.ShortLists.{only, here, none_some, single_distinct, empty_distinct}
+use Rattle.mesh_paths.proofs.ShortLists.{only, none_some, single_distinct, empty_distinct}
 use Rattle.mesh_laws.specs.WorkedHello.{peer, me, third, one, three}
 use Rattle.mesh_laws.specs.Unspoiled.{silent, LostIsKept, heading, quiet, noted, MessageIsNoted, MessageIsPassedOver, row, tc, outdated, TcIsTaken}
+use Rattle.mesh_atoms.proofs.Lists.{contains_head as here}
 
 -- in a base of one tuple for the key at most, one is put at the key
 sets_one : {K V : Type 0} {eq : K → K → Bool} → IsEquivalence eq → (k : K) (e : V × ℕ) (old : Base K V) → ((q : K) → eq q k ≡ false → find eq old q ≡ None) →

@@ -9,7 +9,7 @@ use Rattle.mesh_atoms.specs.Radio.{Leads, IsSoundScenario}
 use Rattle.mesh_atoms.specs.Settled.{At}
 use Rattle.mesh_atoms.specs.State.{State, HasAddressOn, IsOriginator}
 use Rattle.mesh_laws.proofs.TwoRouters.{one, addr, face, settings, arc, scenario, route, state, states, address_on}
-use Rattle.mesh_paths.proofs.ShortLists.{none_of, two, here}
+use Rattle.mesh_paths.proofs.ShortLists.{two}
 use Rattle.mesh_laws.proofs.TwoRoutersSettled.{Side, settled_at, turned, routers_of}
 use Rattle.mesh_atoms.specs.Sound.{Sound}
 use Rattle.mesh_atoms.specs.Radio.{AddressOf}
@@ -17,6 +17,7 @@ use Rattle.mesh_paths.specs.SettledRoutes.{IsSettledNetwork, HasRow}
 use Rattle.mesh_laws.specs.Witnesses.{TwoRoutersSettle}
 use Rattle.mesh_laws.proofs.TwoRoutersSettled.{joins}
 use Rattle.mesh_laws.proofs.TwoRoutersSound.{sound}
+use Rattle.mesh_atoms.proofs.Lists.{contains_none as none_of, contains_head as here}
 
 zero_one : ◌≡◌ {A = ℕ} 0 1 → ⊥
 zero_one e = absurd (omega arith)

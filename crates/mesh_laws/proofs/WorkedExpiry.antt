@@ -13,13 +13,14 @@ use Rattle.mesh_atoms.specs.Base.{HasDistinctKeys, base_of, addr_eq, link_eq, tw
 use Rattle.mesh_atoms.specs.Live.{IsSymmetricAddress, SettlesLost, Back, Stays, is_symmetric_at}
 use Rattle.mesh_atoms.specs.State.{link_at, two_hop_at, neighbour_at}
 use Rattle.mesh_laws.specs.WorkedHello.{peer, third, five, link, neighbour, after, IsReceiver}
-use Rattle.mesh_paths.proofs.SettledDecisions.{same_address}
-use Rattle.mesh_paths.proofs.ShortLists.{only, here, single_distinct, empty_distinct}
+use Rattle.mesh_paths.proofs.ShortLists.{only, single_distinct, empty_distinct}
 use Rattle.mesh_atoms.specs.Live.{LiveNeighbourhood, Restores, trim, is_symmetric_entry}
 use Rattle.mesh_atoms.specs.Base.{if_live}
 use Rattle.mesh_atoms.specs.Quality.{admit_on}
 use Rattle.mesh_laws.proofs.WorkedNeighbourhood.{neighbour_found, by_links}
 use Rattle.mesh_laws.proofs.WorkedQuality.{link_admitted}
+use Rattle.mesh_atoms.proofs.Values.{same_address}
+use Rattle.mesh_atoms.proofs.Lists.{contains_head as here}
 
 abbrev beyond : TwoHop
 beyond = record { metric_in = Some five; metric_out = None }

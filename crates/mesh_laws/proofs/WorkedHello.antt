@@ -17,7 +17,8 @@ use Rattle.mesh_atoms.specs.HelloTold.{Told, Tells, HasRowOf, TellsLocal, IsSend
 use Rattle.mesh_atoms.specs.State.{HasAddress, HasAddressOn}
 use Rattle.mesh_atoms.specs.TakesHello.{IsOwn, Local, Originator, Sender, IsFault, IsHeld, IsFullOfAddresses, FitsTwoHops}
 use Rattle.mesh_laws.specs.WorkedHello.{peer, me, third, one, three, seven, own_row, my_row, third_row, hello, IsReceiver, nothing}
-use Rattle.mesh_paths.proofs.ShortLists.{none_of, only, here, none_some, few_of_one}
+use Rattle.mesh_paths.proofs.ShortLists.{only, none_some, few_of_one}
+use Rattle.mesh_atoms.proofs.Lists.{contains_none as none_of, contains_head as here}
 
 abbrev pub told : Told
 told = record {

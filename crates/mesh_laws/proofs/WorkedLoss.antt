@@ -26,8 +26,7 @@ use Rattle.mesh_atoms.specs.State.{link_at, two_hop_at, neighbour_at, lost_at, i
 use Rattle.mesh_atoms.specs.TakesHello.{IsOwn, Local, Originator, Sender, IsFault, IsHeld, IsFullOfAddresses, FitsTwoHops, Takes}
 use Rattle.mesh_atoms.proofs.Lookups.{same_addr}
 use Rattle.mesh_laws.specs.WorkedHello.{peer, me, one, own_row, IsReceiver, link, neighbour, after}
-use Rattle.mesh_paths.proofs.SettledDecisions.{same_address}
-use Rattle.mesh_paths.proofs.ShortLists.{none_of, only, here, found_one, none_some, single_distinct, empty_distinct, few_of_one}
+use Rattle.mesh_paths.proofs.ShortLists.{only, found_one, none_some, single_distinct, empty_distinct, few_of_one}
 use Rattle.mesh_atoms.specs.Live.{Gone, Restores}
 use Rattle.mesh_atoms.specs.AfterHello.{Stood}
 use Rattle.mesh_atoms.specs.declared.hello.LinkStatus.{LinkStatus}
@@ -37,6 +36,8 @@ use Rattle.mesh_laws.specs.WorkedHello.{lost_row, later_hello, heard_link, heard
 use Rattle.mesh_laws.proofs.WorkedHello.{told, peer_not_me, face_is, mine_is, mine}
 use Rattle.mesh_laws.proofs.WorkedNeighbourhood.{same_peer, no_link, no_neighbour, no_two_hop, kept_none, either_none, neighbour_found}
 use Rattle.mesh_laws.proofs.WorkedExpiry.{was_symmetric_address, peer_symmetric, live}
+use Rattle.mesh_atoms.proofs.Values.{same_address}
+use Rattle.mesh_atoms.proofs.Lists.{contains_none as none_of, contains_head as here}
 
 abbrev told_loss : Told
 told_loss = record told { shown = record told.shown { status = Some Down; link_out = None } }

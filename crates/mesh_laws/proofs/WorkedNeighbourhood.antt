@@ -20,10 +20,11 @@ use Rattle.mesh_atoms.specs.Quality.{rule_of}
 use Rattle.mesh_atoms.specs.TakesHello.{Takes}
 use Rattle.mesh_atoms.proofs.Lookups.{same_addr}
 use Rattle.mesh_laws.specs.WorkedHello.{peer, third, one, three, five, third_row, hello, IsReceiver, nothing, link, neighbour, after, FirstHelloIsTaken}
-use Rattle.mesh_paths.proofs.SettledDecisions.{same_address}
-use Rattle.mesh_paths.proofs.ShortLists.{only, here, found_one, none_some, single_distinct, empty_distinct}
+use Rattle.mesh_paths.proofs.ShortLists.{only, found_one, none_some, single_distinct, empty_distinct}
 use Rattle.mesh_laws.proofs.WorkedQuality.{begun, made_is}
 use Rattle.mesh_laws.proofs.WorkedHello.{told, looks_at, looked_at, tells, no_fault, not_full, fits}
+use Rattle.mesh_atoms.proofs.Values.{same_address}
+use Rattle.mesh_atoms.proofs.Lists.{contains_head as here}
 
 pub same_peer : (a : Addr4) → (a ≡ peer → ⊥) → addr_eq a peer ≡ false
 same_peer a other = by_case (addr_eq a peer) refl

@@ -2,7 +2,7 @@
 use Rattle.std.proofs.Common.{◌≡◌, ℕ, ◌<◌, ◌≤◌, ◌++◌, ◌+◌, take, drop, map, min, arith, inl, inr, refl, sym, ap, subst, ◌∙◌, Bool, true, false, cond, List, [], ◌∷◌, length, Some}
 use Rattle.std.specs.Prelude.{slice_get, nat_eq, nat_le, nat_lt, not, ◌&&◌, ◌||◌}
 use Rattle.std.specs.List.{fold, filter, list_all, list_any}
-use Rattle.std.proofs.lemmas.Bool.{eqb-true}
+use Rattle.std.proofs.lemmas.Bool.{eqb-true, and_parts}
 use Rattle.std.proofs.lemmas.Map.Entries.{lookup_from_place}
 use Rattle.std.proofs.lemmas.Map.Made.{lookup-map_values}
 use Rattle.std.proofs.lemmas.Option.{slice_get_cases}
@@ -24,6 +24,7 @@ use Rattle.mesh_links.specs.Rulings.{is_steady, ruled}
 use Rattle.mesh_links.specs.declared.admittance.Ruling.{Ruling}
 use Rattle.mesh_links.proofs.Room.{room_changed}
 use Rattle.mesh_links.proofs.Tied.{fewer_changed, fewer_twice}
+use Rattle.mesh_atoms.proofs.Lists.{append_nothing}
 
 -- A link keeps its addresses, and the moment up to which it is symmetric
 
@@ -38,7 +39,7 @@ alike rule hold now quality e = by_test (nat_le rule.accept quality) (nat_lt qua
   by_test false true = record { addrs = refl; sym = refl }
   by_test false false = record { addrs = refl; sym = refl }
 
-addrs-admitted : (rule : Admit) (hold now : ℕ) (e : Link × ℕ) → (admitted rule hold now e).0.addrs ≡ e.0.addrs
+pub addrs-admitted : (rule : Admit) (hold now : ℕ) (e : Link × ℕ) → (admitted rule hold now e).0.addrs ≡ e.0.addrs
 addrs-admitted rule hold now e = (alike rule hold now (quality_at rule e.0.addrs now) e).addrs
 
 sym-admitted : (rule : Admit) (hold now : ℕ) (e : Link × ℕ) → (admitted rule hold now e).0.sym ≡ e.0.sym
@@ -85,11 +86,6 @@ admitted_by rule hold now old new place key ruling e distinct at is set q f at_t
     subst (λ (x : Link × ℕ). ruled ruling x.0 ≡ admitted rule hold now x) entry_is is))
     ∙ ap (λ (k : LinkKey). changed_at link_eq old k (admitted rule hold now)) same
 
--- where no sender has a step every quality is 100
-both_true : (a b : Bool) → (a && b) ≡ true → (a ≡ true) × (b ≡ true)
-both_true true b h = (refl, h)
-both_true false b h = absurd cc
-
 no_steps : (steps : List QualityStep) (now : ℕ) → nat_eq (length steps) 0 ≡ true → quality_of steps now ≡ 100
 no_steps [] now h = refl
 no_steps (s ∷ ss) now h = let none : length (s ∷ ss) ≡ 0 = eqb-true (length (s ∷ ss)) 0 h in absurd (omega (arith, none))
@@ -101,16 +97,11 @@ one_more false s ss now is rest = rest
 qualities : (among : SenderQuality → Bool) (now : ℕ) (senders : List SenderQuality) → list_all (λ s. nat_eq (length s.steps) 0) senders ≡ true → fold min 100 (map (λ s. quality_of s.steps now) (filter among senders)) ≡ 100
 qualities among now [] none = refl
 qualities among now (s ∷ ss) none =
-    let both = both_true (nat_eq (length s.steps) 0) (list_all (λ x. nat_eq (length x.steps) 0) ss) none in
+    let both = and_parts (nat_eq (length s.steps) 0) (list_all (λ x. nat_eq (length x.steps) 0) ss) none in
     one_more (among s) s (filter among ss) now (no_steps s.steps now both.0) (qualities among now ss both.1)
 
 pub steady_quality : (rule : Admit) (addrs : List Addr4) (now : ℕ) → is_steady rule ≡ true → quality_at rule addrs now ≡ 100
 steady_quality rule addrs now steady = qualities (λ s. list_any (addr_eq s.sender) addrs) now rule.senders steady
-
--- all links, one after the other
-append_none : {A : Type 0} (xs : List A) → xs ++ [] ≡ xs
-append_none [] = refl
-append_none (x ∷ xs) = ap (λ rest. x ∷ rest) (append_none xs)
 
 none_left : {A : Type 0} (xs : List A) → length xs ≡ 0 → xs ≡ []
 none_left [] h = refl
@@ -121,7 +112,7 @@ admits_links rule hold now old new place all so_far key =
     let whole : take place old ≡ old = take_all place old all in
     let rest : drop place old ≡ [] = none_left (drop place old) (let h = length-drop place old in omega (arith, h, all)) in
     let is : new ≡ map (λ e. (e.0, admitted rule hold now e.1)) old = so_far ∙ ap (λ (l : Base LinkKey Link). map (λ e. (e.0, admitted rule hold now e.1)) (take place old) ++ l) rest
-    ∙ append_none (map (λ e. (e.0, admitted rule hold now e.1)) (take place old)) ∙ ap (λ (l : Base LinkKey Link). map (λ e. (e.0, admitted rule hold now e.1)) l) whole in
+    ∙ append_nothing (map (λ e. (e.0, admitted rule hold now e.1)) (take place old)) ∙ ap (λ (l : Base LinkKey Link). map (λ e. (e.0, admitted rule hold now e.1)) l) whole in
     ap (λ (l : Base LinkKey Link). find link_eq l key) is ∙ lookup-map_values (admitted rule hold now) (link_eq key) old
 
 -- one more link

@@ -1,6 +1,6 @@
-mod Admitted
+pub mod Admitted
 mod Left
-mod Renewed
+pub mod Renewed
 mod Room
 mod Tables
 mod Tied

@@ -10,13 +10,13 @@ use Rattle.mesh_atoms.specs.AfterHello.{by_status, renewed}
 
 -- A link that is renewed keeps its addresses
 
-addrs-trimmed : (now : ℕ) (e : Link × ℕ) → (trimmed now e).0.addrs ≡ e.0.addrs
+pub addrs-trimmed : (now : ℕ) (e : Link × ℕ) → (trimmed now e).0.addrs ≡ e.0.addrs
 addrs-trimmed now e = by_case (is_symmetric e.0 now) where
   by_case : (b : Bool) → (cond b e (record e.0 { link_out = None; selector = false }, e.1)).0.addrs ≡ e.0.addrs
   by_case true = refl
   by_case false = refl
 
-addrs-by_status : (shown : Shown) (hold now : ℕ) (status : Option LinkStatus) (e : Link × ℕ) → (by_status shown hold now status e).0.addrs ≡ e.0.addrs
+pub addrs-by_status : (shown : Shown) (hold now : ℕ) (status : Option LinkStatus) (e : Link × ℕ) → (by_status shown hold now status e).0.addrs ≡ e.0.addrs
 addrs-by_status shown hold now None e = refl
 addrs-by_status shown hold now (Some Lost) e = refl
 addrs-by_status shown hold now (Some Heard) e = refl

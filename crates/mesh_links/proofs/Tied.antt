@@ -1,13 +1,12 @@
 -- The map from addresses to links after each change.
 use Rattle.std.proofs.Common.{◌≡◌, ◌≢◌, ◌⊎◌, ℕ, inl, inr, refl, sym, ap, subst, ◌∙◌, Bool, true, false, cond, List, Option, Some, None}
-use Rattle.std.specs.Prelude.{Contains, slice_get, nat_lt, option_map, OnOk, OnErr, Result, Ok, Err, IsSome}
+use Rattle.std.specs.Prelude.{Contains, slice_get, nat_lt, option_map, IsSome}
 use Rattle.std.proofs.lemmas.List.Elements.{All-contains}
 use Rattle.mesh_atoms.specs.declared.addr.Addr4.{Addr4}
 use Rattle.mesh_atoms.specs.declared.admit.Admit.{Admit}
 use Rattle.mesh_atoms.specs.declared.tuples.Link.{Link}
 use Rattle.mesh_atoms.specs.declared.tuples.LinkKey.{LinkKey}
 use Rattle.mesh_atoms.specs.Base.{Base, find, if_live, link_eq, addr_eq, SetsOnly}
-use Rattle.mesh_atoms.specs.State.{is_symmetric}
 use Rattle.mesh_atoms.specs.Live.{trim, trimmed}
 use Rattle.mesh_atoms.specs.AfterHello.{IsApart, Begins, Stood, Made, renewed}
 use Rattle.mesh_atoms.specs.Words.{IsKept, Meets}
@@ -22,6 +21,7 @@ use Rattle.std.proofs.Common.{Decides, ◌+◌, ◌<◌, length, get_or}
 use Rattle.std.proofs.lemmas.List.{get_or_default}
 use Rattle.std.proofs.lemmas.List.Elements.{AllWithin-more, Contains-get_or}
 use Rattle.mesh_atoms.proofs.Lookups.{link_equiv, same_link, same_addr, addr_equiv}
+use Rattle.mesh_links.proofs.Renewed.{addrs-trimmed}
 
 -- fewer links
 pub owned_fewer : (owners : List (Addr4 × LinkKey)) (old new : Base LinkKey Link) → Owned owners old → IsFewer old new → Owned owners new
@@ -36,12 +36,6 @@ fewer_left Goes old new left key e found = elim (left key) [
   | inl same ↦ (e, sym same ∙ found, refl)
   | inr gone ↦ let both : None ≡ Some e = sym gone.3 ∙ found in absurd cc
 ]
-
-addrs-trimmed : (now : ℕ) (e : Link × ℕ) → (trimmed now e).0.addrs ≡ e.0.addrs
-addrs-trimmed now e = by_case (is_symmetric e.0 now) where
-  by_case : (b : Bool) → (cond b e (record e.0 { link_out = None; selector = false }, e.1)).0.addrs ≡ e.0.addrs
-  by_case true = refl
-  by_case false = refl
 
 -- what expiry leaves
 pub fewer_expired : (now : ℕ) (old new : Base LinkKey Link) → ExpiresLinks now old new → IsFewer old new
@@ -199,11 +193,6 @@ fewer_twice old mid new one two key e found =
 
 pub fewer_same : (old new : Base LinkKey Link) → new ≡ old → IsFewer old new
 fewer_same old new is key e found = (e, ap (λ (l : Base LinkKey Link). find link_eq l key) (sym is) ∙ found, refl)
-
--- what holds whether the result is `Ok` or `Err`
-pub by_result : {A B : Type 0} (P Q C : Type 0) (r : Result A B) → OnOk r P → OnErr r Q → (P → C) → (Q → C) → C
-by_result P Q C (Ok x) p q f g = f p
-by_result P Q C (Err e) p q f g = g q
 
 -- addresses whose link is gone are noted no more
 pub owned_purged : (old new : List (Addr4 × LinkKey)) (links : Base LinkKey Link) → Owned old links → ((a : Addr4) (key : LinkKey) → IsSome (find link_eq links key) → owner_of old a ≡ Some key → owner_of new a ≡ Some key) → Owned new links

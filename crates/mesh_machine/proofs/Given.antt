@@ -2,7 +2,7 @@
 use Rattle.std.proofs.Common.{◌≡◌, ℕ, ◌+◌, ◌≤◌, arith, Bool, true, false, cond, List, [], ◌∷◌, ◌++◌, length, Option, Some, None, refl, sym, ap, ◌∙◌, ◌&&◌, ◌⊎◌, inl, inr, slice_get, zero, suc}
 use Rattle.std.specs.Prelude.{nat_eq, not, is_some, count_by}
 use Rattle.std.specs.Cmp.{IsEquivalence}
-use Rattle.std.proofs.lemmas.Bool.{ltb-false}
+use Rattle.std.proofs.lemmas.Bool.{ltb-false, and_from as both}
 use Rattle.std.proofs.lemmas.Option.{none-some}
 use Rattle.std.proofs.lemmas.List.Sums.{sum_by-cons}
 use Rattle.std.proofs.lemmas.List.{length-append}
@@ -18,12 +18,13 @@ use Rattle.mesh_atoms.proofs.Lookups.{addr_equiv}
 use Rattle.mesh_topo.specs.Sets.{AreFew}
 use Rattle.mesh_nhdp.proofs.Limits.{no_more, found_left, found_right}
 use Rattle.mesh_machine.proofs.Tables.{one_more, net_equiv, router_equiv, address_equiv, network_equiv}
-use Rattle.mesh_wire.proofs.Laid.{place_of}
 use Rattle.mesh_atoms.specs.Base.{net_eq}
 use Rattle.mesh_atoms.specs.declared.addr.NetAddr.{NetAddr}
 use Rattle.mesh_atoms.specs.declared.tuples.RouterKey.{RouterKey}
 use Rattle.mesh_atoms.specs.declared.tuples.AddressKey.{AddressKey}
 use Rattle.mesh_atoms.specs.declared.tuples.NetworkKey.{NetworkKey}
+use Rattle.mesh_topo.proofs.Full.{none_of_four}
+use Rattle.mesh_atoms.proofs.Lists.{place_of}
 
 -- the entries of the rows that pass a test, each with the key and a value of its row
 entries : {K V : Type 0} → (TcRow → Bool) → (TcRow → K) → V → List TcRow → Base K V
@@ -97,9 +98,6 @@ set_within {K} {V} eq laws tc until from number G test key old new gives set = b
 GivenAt : {K : Type 0} → (K → K → Bool) → Tc → (TcRow → Bool) → (TcRow → K) → K → Type 0
 GivenAt eq tc test key k = (place : ℕ) × (row : TcRow) × (slice_get tc.rows place ≡ Some row) × (test row ≡ true) × (eq k (key row) ≡ true)
 
-both : (a b : Bool) → a ≡ true → b ≡ true → (a && b) ≡ true
-both a b p q = rw (p, q) refl
-
 is_there : {A : Type 0} (o : Option A) (a : A) → o ≡ Some a → is_some o ≡ true
 is_there o a e = rw e refl
 
@@ -125,14 +123,6 @@ given_network tc k distance m gives =
     let (from, row, has, dest, gateway, metric) = gives in
     let (place, below, at) = place_of tc.rows row has in
     (place, row, at, both (is_some row.gateway) (is_some row.metric) (is_there row.gateway distance gateway) (is_there row.metric m metric), both (addr_eq k.from tc.originator) (net_eq k.net row.dest) (rw from (addr_equiv.refl tc.originator)) (rw dest (net_equiv.refl k.net)))
-
--- none of four tests holds where none is the first
-none_of_four : {A : Type 0} (x y z w : A) (a b c d : Bool) → cond a (Some x) (cond b (Some y) (cond c (Some z) (cond d (Some w) None))) ≡ None → (a ≡ false) × (b ≡ false) × (c ≡ false) × (d ≡ false)
-none_of_four x y z w true b c d h = absurd cc
-none_of_four x y z w false true c d h = absurd cc
-none_of_four x y z w false false true d h = absurd cc
-none_of_four x y z w false false false true h = absurd cc
-none_of_four x y z w false false false false h = (refl, refl, refl, refl)
 
 -- a TC that is taken leaves each set within its limit
 pub tc_few : (now : ℕ) (tc : Tc) (old new : Topology) → first_overfull old tc ≡ None → AfterTc now tc old new → AreFew new

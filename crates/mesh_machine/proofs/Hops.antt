@@ -1,7 +1,7 @@
 -- A message that is forwarded has a hop left.
 use Rattle.std.proofs.Common.{◌≡◌, ◌≢◌, ◌<◌, ℕ, List, [], ◌∷◌, ◌++◌, length, Option, Some, None, Bool, true, false, cond, not, refl, subst, sym, ap, ◌∙◌, arith, append_assoc}
-use Rattle.std.specs.Prelude.{slice_index, ◌||◌}
-use Rattle.std.proofs.lemmas.Bool.{leb-false, eqb-false}
+use Rattle.std.specs.Prelude.{slice_index}
+use Rattle.std.proofs.lemmas.Bool.{leb-false, eqb-false, or_parts as neither}
 use Rattle.std.proofs.Math.Seq.{get_or-append_seam}
 use Rattle.mesh_atoms.specs.declared.addr.Addr4.{Addr4}
 use Rattle.mesh_atoms.specs.declared.tuples.FloodKey.{FloodKey}
@@ -30,10 +30,6 @@ does true link far seen full stands full' h = absurd cc
 does false None far seen full stands full' h = absurd cc
 does false (Some s) true seen full stands full' h = absurd cc
 does false (Some s) false seen full stands full' h = refl
-
-neither : (a b : Bool) → (a || b) ≡ false → (a ≡ false) × (b ≡ false)
-neither true b h = absurd cc
-neither false b h = (refl, h)
 
 above_one : (o : Option ℕ) → is_last o ≡ false → (limit : ℕ) × (o ≡ Some limit) × (1 < limit)
 above_one None h = absurd cc

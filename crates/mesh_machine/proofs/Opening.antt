@@ -1,9 +1,8 @@
 -- The opening state of a router is sound.
-use Rattle.std.proofs.Common.{◌≡◌, ℕ, zero, suc, inl, inr, refl, sym, ◌∙◌, ap, subst, arith, List, [], ◌∷◌, length, replicate, Contains, Some, Bool}
-use Rattle.std.specs.Prelude.{slice_get, slice_index_or}
+use Rattle.std.proofs.Common.{◌≡◌, ℕ, zero, suc, refl, sym, ◌∙◌, ap, subst, arith, List, [], ◌∷◌, length, replicate, Contains, Some, Bool}
+use Rattle.std.specs.Prelude.{slice_get}
 use Rattle.std.specs.List.{IsDistinct}
-use Rattle.std.proofs.lemmas.List.{get_or-replicate, get_or_past, length-replicate}
-use Rattle.std.proofs.lemmas.Bool.{cases_lt}
+use Rattle.std.proofs.lemmas.List.{length-replicate}
 use Rattle.std.proofs.lemmas.Option.{none-some}
 use Rattle.mesh_atoms.specs.declared.addr.Addr4.{Addr4}
 use Rattle.mesh_atoms.specs.declared.addr.NetAddr.{NetAddr}
@@ -17,12 +16,12 @@ use Rattle.mesh_atoms.specs.Sound.{Sound, SoundNeighbourhood, SoundTopology, Sou
 use Rattle.mesh_atoms.specs.State.{State, Bases, Topology, NotedMessages}
 use Rattle.mesh_atoms.specs.Walk.{Walk, Stay, Onward}
 use Rattle.mesh_nhdp.specs.NhdpState.{empty_near}
-use Rattle.mesh_nhdp.proofs.Empty.{empty_parts}
-use Rattle.mesh_hello.proofs.Lookups.{Contains_at}
+use Rattle.mesh_nhdp.proofs.Empty.{empty_parts, empty_base}
 use Rattle.mesh_machine.specs.declared.frame.Frame.{Frame}
 use Rattle.mesh_machine.specs.Machine.{no_bases, no_relays, IsOpening, Event, Steps, No_events, First_event, Run}
 use Rattle.mesh_machine.proofs.Originators.{some_originator}
 use Rattle.mesh_machine.proofs.Soundness.{step_sound}
+use Rattle.mesh_atoms.proofs.Lists.{contains_at}
 
 none_among : {X B : Type 0} (xs : List X) (x : X) → xs ≡ [] → Contains xs x → B
 none_among xs x empty has = let l = has.1 in let e = ap length empty in absurd (omega (arith, l, e))
@@ -44,12 +43,6 @@ all_empty {K} {V} (set ∷ sets) (suc n) count none =
     let first : set ≡ [] = none 0 in
     let others : sets ≡ replicate n [] = all_empty sets n (omega (arith, count)) (λ i. none (suc i)) in
     ap (λ (s : Base K V). s ∷ sets) first ∙ ap (λ (ss : List (Base K V)). [] ∷ ss) others
-
-empty_base : {K V : Type 0} (count i : ℕ) → slice_index_or (replicate count (let none : Base K V = [] in none)) i [] ≡ []
-empty_base {K} {V} count i = elim (cases_lt i count) [
-  | inl lt ↦ get_or-replicate count i [] [] lt
-  | inr past ↦ get_or_past (replicate count (let none : Base K V = [] in none)) i [] (let e : length (replicate count (let none : Base K V = [] in none)) ≡ count = length-replicate count [] in omega (arith, e, past))
-]
 
 within_none : {K V : Type 0} (eq : K → K → Bool) (now most : ℕ) (base : Base K V) → base ≡ [] → IsWithin eq now most base
 unfolding IsDistinct
@@ -81,7 +74,7 @@ module _ (s : State) (n : ℕ) (bases : s.bases ≡ no_bases n) where
         self,
         record {
           is_self = is;
-          reached = λ node c walk outside. absurd (outside.no_address self (0, (face, at_face, Contains_at face.addrs 0 self at)) (stays (host self) node c walk));
+          reached = λ node c walk outside. absurd (outside.no_address self (0, (face, at_face, contains_at face.addrs 0 self at)) (stays (host self) node c walk));
           outside = λ row has. none_among s.routes row none has;
           least = λ row has. none_among s.routes row none has;
           parent = λ row has. none_among s.routes row none has;

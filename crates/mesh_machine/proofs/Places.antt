@@ -1,27 +1,15 @@
 -- Places of a list that grows at its end, of which one item is replaced, or whose items are turned.
-use Rattle.std.proofs.Common.{◌≡◌, ℕ, ◌<◌, ◌≤◌, ◌⊎◌, inl, inr, List, [], ◌∷◌, ◌++◌, refl, sym, ◌∙◌, ap, zero, suc, length, arith, Some, None, All, map}
+use Rattle.std.proofs.Common.{◌≡◌, ℕ, ◌≤◌, ◌⊎◌, inl, inr, List, [], ◌∷◌, ◌++◌, refl, sym, ◌∙◌, ap, zero, suc, length, arith, Some, None, All, map}
 use Rattle.std.specs.Prelude.{slice_get, slice_set, ◌≢◌}
 use Rattle.std.proofs.lemmas.List.Elements.{All-nil, All-cons, All-head, All-tail}
 use Rattle.std.proofs.lemmas.Option.{slice_get_cases, get_or_from_slice_get}
-
-pub push_at : {A : Type 0} (xs : List A) (x : A) (i : ℕ) (y : A) → slice_get (xs ++ x ∷ []) i ≡ Some y → (slice_get xs i ≡ Some y) ⊎ ((i ≡ length xs) × (x ≡ y))
-push_at [] x zero y h = inr (refl, cc)
-push_at [] x (suc i) y h = absurd (cc)
-push_at (z ∷ xs) x zero y h = inl h
-push_at (z ∷ xs) x (suc i) y h = elim (push_at xs x i y h) [ inl e ↦ inl e | inr (a, b) ↦ inr (ap suc a, b) ]
+use Rattle.mesh_atoms.proofs.Lists.{item_at as stands, get_pushed as push_at}
 
 -- what holds at each place holds with one more item
 pub each_more : {A : Type 0} (P : ℕ → A → Type 0) (xs : List A) (x : A) → ((i : ℕ) (y : A) → slice_get xs i ≡ Some y → P i y) → P (length xs) x → (i : ℕ) (y : A) → slice_get (xs ++ x ∷ []) i ≡ Some y → P i y
 each_more P xs x h p i y at = elim (push_at xs x i y at) [
   | inl e ↦ h i y e
   | inr (a, b) ↦ rw (a, ← b) p
-]
-
--- something stands at each place below the length
-pub stands : {A : Type 0} (xs : List A) (i : ℕ) → i < length xs → (x : A) × (slice_get xs i ≡ Some x)
-stands xs i lt = elim (slice_get_cases xs i).1 [
-  | inl (x, below, e, g) ↦ (x, e)
-  | inr (le, e) ↦ absurd (let no : length xs ≤ i = le in omega (arith, no, lt))
 ]
 
 -- nothing stands from the length on

@@ -1,7 +1,6 @@
 -- What the HELLO of an interface says of an address follows from the link and the neighbour that have it.
 use Rattle.std.proofs.Common.{◌≡◌, ℕ, ◌⊎◌, inl, inr, refl, sym, ◌∙◌, ap, subst, Bool, true, false, cond, ◌||◌, ◌&&◌}
 use Rattle.std.specs.Prelude.{◌↔◌, Contains, List, Option, Some, None, IsTrue, is_some, not, nat_lt}
-use Rattle.std.specs.Borrow.{Bor}
 use Rattle.std.proofs.lemmas.Option.{none-some}
 use Rattle.mesh_atoms.specs.declared.addr.Addr4.{Addr4}
 use Rattle.mesh_atoms.specs.declared.codes.metric.Metric.{Metric}
@@ -17,25 +16,18 @@ use Rattle.mesh_atoms.specs.declared.tuples.LinkState.TheVariants.{Pending as Is
 use Rattle.mesh_atoms.specs.State.{State, state_of, is_symmetric, is_heard, HasSymmetricWith, link_at, neighbour_at}
 use Rattle.mesh_atoms.specs.Words.{IsValue}
 use Rattle.mesh_atoms.proofs.Lookups.{has_found, link_equiv, same_link, looks_up_links, looks_up_neighbours}
-use Rattle.mesh_nhdp.specs.expire.Table.{entry_of}
-use Rattle.mesh_hello.proofs.Lookups.{some_same}
 use Rattle.mesh_machine.specs.declared.said.Said.{Said}
 use Rattle.mesh_machine.specs.Said.{IsSaidOf, IsLinkWith, IsNeighbourWith, IsRelayOf, IsFloodingRelay, shows_symmetric, link_metric_in, link_metric_out, near_metric_in, near_metric_out, or_else}
+use Rattle.mesh_hello.proofs.SayingLemmas.Parts.{lent}
+use Rattle.mesh_atoms.proofs.Options.{same_some}
 
 -- What is lent
-
-pub lent : {K V : Type 0} (o : Option (Bor K × Bor V × ℕ)) (e : Bor K × Bor V × ℕ) → o ≡ Some e → entry_of o ≡ Some (e.0.now, (e.1.now, e.2))
-lent o e is = ap entry_of is
-
-pub lent_some : {K V : Type 0} (o : Option (Bor K × Bor V × ℕ)) → is_some o ≡ is_some (entry_of o)
-lent_some None = refl
-lent_some (Some e) = refl
 
 pub relay_by : (relays : List Addr4) (neighbour : Option (Addr4 × (Neighbour × ℕ))) (e : Addr4 × (Neighbour × ℕ)) (b : Bool) → neighbour ≡ Some e →
     (IsTrue b ↔ Contains relays e.0) → IsTrue b ↔ IsRelayOf relays neighbour
 relay_by relays neighbour e b is tells = (
   λ h. record { entry = e; is = is; has = tells.0 h },
-  λ w. tells.1 (subst (λ (x : Addr4 × (Neighbour × ℕ)). Contains relays x.0) (some_same w.is is) w.has),
+  λ w. tells.1 (subst (λ (x : Addr4 × (Neighbour × ℕ)). Contains relays x.0) (same_some w.is is) w.has),
 )
 
 -- The status of a link, as a choice
@@ -94,14 +86,14 @@ said_is : (near link : Metric → Type 0) → ((m n : Metric) → near m → nea
 said_is near link one_near one_link (Some n) b v w None = (λ h. absurd (h.0 n v), λ e. absurd (none-some n e))
 said_is near link one_near one_link (Some n) b v w (Some m) = (
   λ h. elim h [ inl x ↦ ap (λ (k : Metric). Some k) (one_near m n x v) | inr x ↦ absurd (x.0 n v) ],
-  λ e. inl (subst near (some_same e refl) v),
+  λ e. inl (subst near (same_some e refl) v),
 )
 said_is near link one_near one_link None None v w None = (λ h. refl, λ e. (v, w))
 said_is near link one_near one_link None None v w (Some m) = (λ h. elim h [ inl x ↦ absurd (v m x) | inr x ↦ absurd (w m x.1) ], λ e. absurd (none-some m (sym e)))
 said_is near link one_near one_link None (Some n) v w None = (λ h. absurd (h.1 n w), λ e. absurd (none-some n e))
 said_is near link one_near one_link None (Some n) v w (Some m) = (
   λ h. elim h [ inl x ↦ absurd (v m x) | inr x ↦ ap (λ (k : Metric). Some k) (one_link m n x.1 w) ],
-  λ e. inr (v, subst link (some_same e refl) w),
+  λ e. inr (v, subst link (same_some e refl) w),
 )
 
 module _ (s : State) (settings : RouterSettings) (i now : ℕ) (a : Addr4) (sound : SoundNeighbourhood settings now s.bases.neighbourhood) where
@@ -112,7 +104,7 @@ module _ (s : State) (settings : RouterSettings) (i now : ℕ) (a : Addr4) (soun
       let x = (looks_up_links s i v.0 e (sound.distinct_links i)).0 v.1 in
       let y = (looks_up_links s i w.0 f (sound.distinct_links i)).0 w.1 in
       let same : v.0 ≡ w.0 = sound.links_apart i v.0 w.0 (e, x.0) (f, y.0) a x.1 y.1 v.2 w.2 in
-      ap (λ (z : Link × ℕ). z.0) (some_same (subst (λ (k : LinkKey). link_at s.bases.neighbourhood i k ≡ Some (e, x.0)) same x.1) y.1)
+      ap (λ (z : Link × ℕ). z.0) (same_some (subst (λ (k : LinkKey). link_at s.bases.neighbourhood i k ≡ Some (e, x.0)) same x.1) y.1)
 
   link_to : (e : LinkKey × (Link × ℕ)) (p : LinkState) → IsLinkWith (base_of s.bases.neighbourhood.links i) a e → state_of e.1.0 now ≡ p → HasLinkTo s i now a p e.1.0
   link_to e p with' is =
@@ -170,7 +162,7 @@ module _ (s : State) (settings : RouterSettings) (i now : ℕ) (a : Addr4) (soun
       of (inr p) (inr q) = one_link Is_symmetric Is_symmetric v.0 w.0 p q
 
   one_link_out : (m n : Metric) → Says s i now a (Link_out m) → Says s i now a (Link_out n) → m ≡ n
-  one_link_out m n v w = some_same (sym (ap (λ (l : Link). l.link_out) (one_link Is_symmetric Is_symmetric v.0 w.0 v.1 w.1)) ∙ v.2) w.2
+  one_link_out m n v w = same_some (sym (ap (λ (l : Link). l.link_out) (one_link Is_symmetric Is_symmetric v.0 w.0 v.1 w.1)) ∙ v.2) w.2
 
   -- The symmetric neighbour that has the address
 
@@ -179,7 +171,7 @@ module _ (s : State) (settings : RouterSettings) (i now : ℕ) (a : Addr4) (soun
       let x = (looks_up_neighbours s o m sound.distinct_neighbours).0 v.0.0 in
       let y = (looks_up_neighbours s p n sound.distinct_neighbours).0 w.0.0 in
       let same : o ≡ p = sound.neighbours_apart o p (m, x.0) (n, y.0) a x.1 y.1 v.1 w.1 in
-      (same, ap (λ (z : Neighbour × ℕ). z.0) (some_same (subst (λ (k : Addr4). neighbour_at s.bases.neighbourhood k ≡ Some (m, x.0)) same x.1) y.1))
+      (same, ap (λ (z : Neighbour × ℕ). z.0) (same_some (subst (λ (k : Addr4). neighbour_at s.bases.neighbourhood k ≡ Some (m, x.0)) same x.1) y.1))
 
   near_to : (e : Addr4 × (Neighbour × ℕ)) → IsNeighbourWith s.bases.neighbourhood.neighbours a e → HasSymmetricWith s a e.0 e.1.0
   near_to e with' = (((e.1.1, with'.0), with'.1), with'.2)
@@ -209,16 +201,16 @@ module _ (s : State) (settings : RouterSettings) (i now : ℕ) (a : Addr4) (soun
       by_metric (Some m) q = (e.0, e.1.0, near_to e with', q)
 
   one_near_in : (m n : Metric) → Says s i now a (Near_in m) → Says s i now a (Near_in n) → m ≡ n
-  one_near_in m n v w = some_same (sym (ap (λ (x : Neighbour). x.metric_in) (one_near v.0 w.0 v.1 w.1 v.2 w.2).1) ∙ v.3) w.3
+  one_near_in m n v w = same_some (sym (ap (λ (x : Neighbour). x.metric_in) (one_near v.0 w.0 v.1 w.1 v.2 w.2).1) ∙ v.3) w.3
 
   one_near_out : (m n : Metric) → Says s i now a (Near_out m) → Says s i now a (Near_out n) → m ≡ n
-  one_near_out m n v w = some_same (sym (ap (λ (x : Neighbour). x.metric_out) (one_near v.0 w.0 v.1 w.1 v.2 w.2).1) ∙ v.3) w.3
+  one_near_out m n v w = same_some (sym (ap (λ (x : Neighbour). x.metric_out) (one_near v.0 w.0 v.1 w.1 v.2 w.2).1) ∙ v.3) w.3
 
   -- Relays
 
   near_at : (near : Option (Addr4 × (Neighbour × ℕ))) (e : Addr4 × (Neighbour × ℕ)) → IsValue (IsNeighbourWith s.bases.neighbourhood.neighbours a) near → near ≡ Some e → HasSymmetricWith s a e.0 e.1.0
   near_at None e none is = absurd (none-some e is)
-  near_at (Some f) e with' is = subst (λ (x : Addr4 × (Neighbour × ℕ)). HasSymmetricWith s a x.0 x.1.0) (some_same refl is) (near_to f with')
+  near_at (Some f) e with' is = subst (λ (x : Addr4 × (Neighbour × ℕ)). HasSymmetricWith s a x.0 x.1.0) (same_some refl is) (near_to f with')
 
   relay_at : (relays : List Addr4) (near : Option (Addr4 × (Neighbour × ℕ))) (o : Addr4) (n : Neighbour) → IsValue (IsNeighbourWith s.bases.neighbourhood.neighbours a) near →
       HasSymmetricWith s a o n → Contains relays o → IsRelayOf relays near
@@ -243,7 +235,7 @@ module _ (s : State) (settings : RouterSettings) (i now : ℕ) (a : Addr4) (soun
         let (p, m, u, found, all) = sound.owner i to.0 l x.0 x.1 in
         let y = (looks_up_neighbours s o n sound.distinct_neighbours).0 with'.0.0 in
         let same : o ≡ p = sound.neighbours_apart o p (n, y.0) (m, u) b y.1 found with'.1 (all b in') in
-        let one : n ≡ m = ap (λ (z : Neighbour × ℕ). z.0) (some_same (subst (λ (k : Addr4). neighbour_at s.bases.neighbourhood k ≡ Some (n, y.0)) same y.1) found) in
+        let one : n ≡ m = ap (λ (z : Neighbour × ℕ). z.0) (same_some (subst (λ (k : Addr4). neighbour_at s.bases.neighbourhood k ≡ Some (n, y.0)) same y.1) found) in
         let mine : Contains n.addrs a = subst (λ (z : Neighbour). Contains z.addrs a) (sym one) (all a to.2) in
         record { list = list; at = at; shown = (link_shows link linked).1 (l, to); relay = relay_at list near o n is (with'.0, mine) has },
   )

@@ -1,6 +1,6 @@
 -- What a step of a router keeps: expiry and each message leave sound bases sound.
 use Rattle.std.proofs.Common.{◌≡◌, ℕ, ◌≤◌, ◌<◌, arith, Bool, true, false, List, length, Option, Some, None, refl, sym, ap, subst, ◌∙◌}
-use Rattle.std.specs.Prelude.{nat_eq, slice_get, Ok}
+use Rattle.std.specs.Prelude.{nat_eq, Ok}
 use Rattle.std.proofs.lemmas.Bool.{eqb-true, eqb-false}
 use Rattle.mesh_atoms.specs.declared.addr.Addr4.{Addr4}
 use Rattle.mesh_atoms.specs.declared.hello.Hello.{Hello}
@@ -23,7 +23,6 @@ use Rattle.mesh_flood.specs.declared.verdict.Forward.{Forward}
 use Rattle.mesh_flood.specs.Noting.{AfterNote, AreWithin}
 use Rattle.mesh_flood.specs.Verdict.{key_of, process_of, is_received, is_forwarded, is_full}
 use Rattle.mesh_flood.proofs.Soundness.{sound_after_note, sound_after_expiry}
-use Rattle.mesh_atoms.specs.declared.settings.Interface.{Interface}
 use Rattle.mesh_atoms.specs.RelayGraphs.{AreRelays}
 use Rattle.mesh_atoms.specs.Routes.{AreRoutes}
 use Rattle.mesh_wire.specs.addr.declared.records.RawAddr.{RawAddr}
@@ -43,6 +42,7 @@ use Rattle.mesh_machine.specs.Messages.{ConsidersForwarding, ProcessesTc, Tc_tak
 use Rattle.mesh_machine.proofs.Given.{tc_few}
 use Rattle.mesh_machine.specs.Laws.{SoundBases}
 use Rattle.mesh_machine.proofs.Tables.{fewer, note_fits, router_equiv, address_equiv, network_equiv, flood_equiv}
+use Rattle.mesh_atoms.proofs.Values.{one_originator}
 
 -- ---- expiry
 
@@ -60,10 +60,6 @@ live_within settings before now old new live sound = record {
   processed = let h = fewer flood_eq flood_equiv now old.processed new.processed live.distinct_processed live.processed in let k = sound.processed.limit in omega (arith, h, k);
   forwarded = let h = fewer flood_eq flood_equiv now old.forwarded new.forwarded live.distinct_forwarded live.forwarded in let k = sound.forwarded.limit in omega (arith, h, k);
 }
-
--- sound sets are within their limits
-pub within_of : (settings : RouterSettings) (now : ℕ) (noted : NotedMessages) → SoundNoted settings now noted → AreWithin noted
-within_of settings now noted sound = record { received = λ i. (sound.received i).limit; processed = sound.processed.limit; forwarded = sound.forwarded.limit }
 
 -- expiry keeps sound bases sound
 pub live_bases_sound : (settings : RouterSettings) (before now : ℕ) (old new : Bases) → SoundBases settings before old → Live settings now old new → SoundBases settings now new
@@ -114,16 +110,6 @@ takes_tc_sound settings now tc old new answer lasts other sound (Takes_tc not_ol
 
 -- ---- a message
 
--- a router has one originator
-pub one_originator : (settings : RouterSettings) (a b : Addr4) → IsOriginator settings a → IsOriginator settings b → a ≡ b
-one_originator settings a b p q =
-    let (x, x_at, a_at) = p in
-    let (y, y_at, b_at) = q in
-    let faces : Some x ≡ Some y = sym x_at ∙ y_at in
-    let same : x ≡ y = cc in
-    let firsts : Some a ≡ Some b = sym a_at ∙ (ap (λ (i : Interface). slice_get i.addrs 0) same ∙ b_at) in
-    cc
-
 -- a message that is processed is of another router
 pub not_own : (own : Addr4) (heading : Heading) (noted : NotedMessages) (a : Addr4) → process_of own heading noted ≡ process.Do → a ≡ heading.originator → a ≡ own → ⊥
 not_own own heading noted a does is mine =
@@ -156,7 +142,7 @@ processes_sound settings own arrival old tc heading octets new sent fate mine la
 }
 
 -- the originator that a message reads as
-same_originator : (o : Option RawAddr) (a b : Addr4) → OriginatorIs o (Some a) → OriginatorIs o (Some b) → a ≡ b
+pub same_originator : (o : Option RawAddr) (a b : Addr4) → OriginatorIs o (Some a) → OriginatorIs o (Some b) → a ≡ b
 same_originator (Some x) a b p q = let n : a.0 ≡ b.0 = p ∙ sym q in ap (λ (k : ℕ). let r : Addr4 = record { 0 = k } in r) n
 same_originator None a b p q = absurd p
 

@@ -37,7 +37,7 @@ takes_snoc {settings} {own} {arrival} {bytes} {old} {new = new} {more = more} {m
 -- ---- where messages stand
 
 -- the part behind another one
-part_at : (front text rest : List ℕ) → slice_range (front ++ (text ++ rest)) (length front) (length front + length text) ≡ text
+pub part_at : (front text rest : List ℕ) → slice_range (front ++ (text ++ rest)) (length front) (length front + length text) ≡ text
 part_at front text rest =
     let size : (length front + length text) - length front ≡ length text = omega arith in
     rw (size, drop-append_seam front (text ++ rest)) (take-append_seam text rest)

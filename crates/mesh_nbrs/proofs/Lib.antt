@@ -2,9 +2,9 @@
 pub mod Summaries  -- hello
 -- Lemmas of this crate alone.
 mod ByAddress
-mod Ended
+pub mod Ended
 mod Listed
-mod Owning
+pub mod Owning
 mod Sets
 mod Spoken
 mod TwoHopsLemmas

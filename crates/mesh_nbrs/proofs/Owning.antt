@@ -244,11 +244,6 @@ keeps_changed old new key change same is o =
     by_key true (Some e) = ap Some (same e)
     by_key false p = refl
 
--- what holds whether the result is `Ok` or `Err`
-pub by_result : {A B : Type 0} (P Q C : Type 0) (r : Result A B) → OnOk r P → OnErr r Q → (P → C) → (Q → C) → C
-by_result P Q C (Ok x) p q f g = f p
-by_result P Q C (Err e) p q f g = g q
-
 pub on_err_so : {A B Q : Type 0} (r : Result A B) → is_err r ≡ true → OnErr r Q → Q
 on_err_so (Ok x) is q = absurd cc
 on_err_so (Err e) is q = q

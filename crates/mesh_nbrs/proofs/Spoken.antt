@@ -14,18 +14,12 @@ use Rattle.mesh_nbrs.specs.Neighbours.{IsSpokenOf}
 use Rattle.mesh_nbrs.specs.Owners.{owner_of, is_owner, Owned}
 use Rattle.mesh_nbrs.proofs.Listed.{listed_of, contains_of, listed_where, found_of}
 use Rattle.mesh_nbrs.proofs.Owning.{Owners, Nbrs, from_at, noted_of}
+use Rattle.mesh_atoms.proofs.Options.{some_of}
+use Rattle.std.proofs.lemmas.Bool.{and_parts}
 
 is_owner_so : (p : Option Addr4) (o : Addr4) → is_owner p o ≡ true → p ≡ Some o
 is_owner_so None o h = absurd cc
 is_owner_so (Some p) o h = ap Some (same_addr p o h)
-
-both_true : (a b : Bool) → (a && b) ≡ true → (a ≡ true) × (b ≡ true)
-both_true true b h = (refl, h)
-both_true false b h = absurd cc
-
-what_stands : {A : Type 0} (o : Option A) → is_some o ≡ true → (x : A) × (o ≡ Some x)
-what_stands None h = absurd cc
-what_stands (Some x) h = (x, refl)
 
 true_either : (b r : Bool) → r ≡ true → cond b true r ≡ true
 true_either true r h = refl
@@ -41,8 +35,8 @@ module _ (owners : Owners) (base : Nbrs) (originator : Addr4) (listed keys : Lis
 
   by_test : (o : Addr4) (b : Bool) → (is_some (find addr_eq base originator) && addr_eq originator o) ≡ b → cond b true (list_any (λ x. is_owner (owner_of owners x) o) listed) ≡ true → IsSpokenOf base originator listed o
   by_test o true is h =
-      let (stands, same) = both_true (is_some (find addr_eq base originator)) (addr_eq originator o) is in
-      let (e, found) = what_stands (find addr_eq base originator) stands in
+      let (stands, same) = and_parts (is_some (find addr_eq base originator)) (addr_eq originator o) is in
+      let (e, found) = some_of (find addr_eq base originator) stands in
       let one : originator ≡ o = same_addr originator o same in
       (e, ap (find addr_eq base) (sym one) ∙ found, inl (sym one))
   by_test o false is h = by_note o h

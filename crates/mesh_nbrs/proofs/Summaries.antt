@@ -1,7 +1,7 @@
 -- What notes tell together.
 use Rattle.std.proofs.Common.{◌≡◌, ℕ, ◌≤◌, ◌⊎◌, inl, inr, max, Bool, true, false, List, get_or, Option, Some, None, refl, sym, subst, ◌∙◌, arith}
 use Rattle.std.specs.Prelude.{IsTrue, ◌||◌}
-use Rattle.std.proofs.lemmas.Bool.{cases_lt}
+use Rattle.std.proofs.lemmas.Bool.{cases_lt, or_cases, or_left, or_right}
 use Rattle.mesh_atoms.specs.declared.addr.Addr4.{Addr4}
 use Rattle.mesh_atoms.specs.declared.codes.metric.Metric.{Metric}
 use Rattle.mesh_atoms.specs.declared.tuples.Neighbour.{Neighbour}
@@ -48,17 +48,6 @@ summary_same s to from h = record {
   metric_out = least_same s.metric_out (λ m p. (p.0, (to p.0 p.1.0, p.1.1), p.2)) (λ m q. (q.0, (from q.0 q.1.0, q.1.1), q.2)) h.metric_out;
 }
 
-either_true : (a b : Bool) → (a || b) ≡ true → (a ≡ true) ⊎ (b ≡ true)
-either_true true b h = inl refl
-either_true false b h = inr h
-
-true_first : (a b : Bool) → a ≡ true → (a || b) ≡ true
-true_first a b h = rw h refl
-
-true_second : (a b : Bool) → b ≡ true → (a || b) ≡ true
-true_second true b h = refl
-true_second false b h = h
-
 greater : (a b : ℕ) → (max a b ≡ a) ⊎ (max a b ≡ b)
 greater a b = elim (cases_lt a b) [ inl less ↦ inr (omega arith) | inr more ↦ inl (omega arith) ]
 
@@ -100,13 +89,13 @@ module _ (P Q : LinkNote → Type 0) where
     ];
     no_later = λ n both. elim both [ inl p ↦ omega (arith, h.no_later n p, until) | inr q ↦ omega (arith, k.no_later n q, until) ];
     symmetric = (
-      (λ yes. elim (either_true s.symmetric t.symmetric (sym symmetric ∙ yes)) [
+      (λ yes. elim (or_cases s.symmetric t.symmetric (sym symmetric ∙ yes)) [
         | inl a ↦ let p = h.symmetric.0 a in (p.0, (inl p.1.0, p.1.1))
         | inr b ↦ let q = k.symmetric.0 b in (q.0, (inr q.1.0, q.1.1))
       ]),
       (λ b. symmetric ∙ elim b.1.0 [
-        | inl p ↦ true_first s.symmetric t.symmetric (h.symmetric.1 (b.0, (p, b.1.1)))
-        | inr q ↦ true_second s.symmetric t.symmetric (k.symmetric.1 (b.0, (q, b.1.1)))
+        | inl p ↦ or_left s.symmetric t.symmetric (h.symmetric.1 (b.0, (p, b.1.1)))
+        | inr q ↦ or_right s.symmetric t.symmetric (k.symmetric.1 (b.0, (q, b.1.1)))
       ]),
     );
     metric_in = shown_both (λ n m. n.link_in ≡ m) s.metric_in t.metric_in r.metric_in h.metric_in k.metric_in metric_in;

@@ -12,7 +12,8 @@ use Rattle.mesh_atoms.specs.State.{is_symmetric}
 use Rattle.mesh_atoms.specs.Quality.{quality_at, admitted, rule_of, admit_on}
 use Rattle.mesh_atoms.specs.Live.{trimmed}
 use Rattle.mesh_atoms.specs.AfterHello.{made, by_status, renewed}
-use Rattle.mesh_hello.proofs.Lookups.{some_same, none_not}
+use Rattle.mesh_hello.proofs.Lookups.{none_not}
+use Rattle.mesh_atoms.proofs.Options.{same_some}
 
 -- What quality asks of a link
 
@@ -137,17 +138,10 @@ admit_stays settings i now (Some e) follows = ap (λ (x : Link × ℕ). Some x) 
 pub follows_if_stays : (settings : RouterSettings) (i now : ℕ) (o : Option (Link × ℕ)) (e : Link × ℕ) → admit_on settings i now o ≡ o → o ≡ Some e → FollowsQuality (rule_of settings i) now e.0
 follows_if_stays settings i now None e stays at = none_not refl at
 follows_if_stays settings i now (Some f) e stays at =
-    let h : FollowsQuality (rule_of settings i) now f.0 = follows_same (rule_of settings i) settings.times.link_hold now f (sym (some_same stays refl)) in
-    subst (λ (x : Link × ℕ). FollowsQuality (rule_of settings i) now x.0) (some_same refl at) h
+    let h : FollowsQuality (rule_of settings i) now f.0 = follows_same (rule_of settings i) settings.times.link_hold now f (sym (same_some stays refl)) in
+    subst (λ (x : Link × ℕ). FollowsQuality (rule_of settings i) now x.0) (same_some refl at) h
 
 -- what a link was before
 pub admit_from : (settings : RouterSettings) (i now : ℕ) (o : Option (Link × ℕ)) (e : Link × ℕ) → admit_on settings i now o ≡ Some e → (f : Link × ℕ) × (o ≡ Some f) × (e ≡ admitted (rule_of settings i) settings.times.link_hold now f)
 admit_from settings i now None e h = none_not refl h
-admit_from settings i now (Some f) e h = (f, refl, sym (some_same refl h))
-
-pub admitted_addrs : (rule : Admit) (hold now : ℕ) (e : Link × ℕ) → (admitted rule hold now e).0.addrs ≡ e.0.addrs
-admitted_addrs rule hold now e = by_case (nat_le rule.accept (quality_at rule e.0.addrs now)) (nat_lt (quality_at rule e.0.addrs now) rule.reject && not (e.0.pending || e.0.lost)) where
-  by_case : (b c : Bool) → (cond {A = Link × ℕ} b (record e.0 { quality = quality_at rule e.0.addrs now; pending = false; lost = false }, e.1) (cond c (record e.0 { quality = quality_at rule e.0.addrs now; lost = true }, min e.1 (now + hold)) (record e.0 { quality = quality_at rule e.0.addrs now }, e.1))).0.addrs ≡ e.0.addrs
-  by_case true c = refl
-  by_case false true = refl
-  by_case false false = refl
+admit_from settings i now (Some f) e h = (f, refl, sym (same_some refl h))

@@ -1,7 +1,7 @@
 -- The 2-hop tuples that are expired go, interface by interface.
 use Rattle.std.proofs.Common.{◌≡◌, ℕ, zero, suc, ◌+◌, ◌<◌, ◌≤◌, inl, inr, refl, sym, ◌∙◌, ap, subst, arith, List, [], length}
 use Rattle.std.specs.Prelude.{Bool, true, false, nat_eq, slice_set, ◌&&◌}
-use Rattle.std.proofs.lemmas.Bool.{false≢true, cases_lt, eqb-true, eqb-false}
+use Rattle.std.proofs.lemmas.Bool.{cases_lt, eqb-true, eqb-false, and_parts as both_so}
 use Rattle.std.proofs.lemmas.List.{length-set, set-get_or}
 use Rattle.mesh_atoms.specs.declared.tuples.TwoHopKey.{TwoHopKey}
 use Rattle.mesh_atoms.specs.declared.tuples.TwoHop.{TwoHop}
@@ -15,10 +15,6 @@ pub record GoesOver (now : ℕ) (first sets : List (Base TwoHopKey TwoHop)) (sam
   pub left : (k : ℕ) → i ≤ k → base_of sets k ≡ base_of first k
   pub unchanged : same ≡ true → sets ≡ first
   pub changed : same ≡ false → (k : ℕ) × (k < i) × (length (base_of sets k) < length (base_of first k))
-
-pub both_so : (a b : Bool) → (a && b) ≡ true → (a ≡ true) × (b ≡ true)
-both_so true b h = (refl, h)
-both_so false b h = absurd (false≢true h)
 
 some_of : (n : ℕ) → (n ≡ 0 → ⊥) → 0 < n
 some_of zero not = absurd (not refl)

@@ -18,8 +18,9 @@ use Rattle.mesh_atoms.specs.AfterHello.{GoesOn, IsApart, IsTheirs, Begins, Stood
 use Rattle.mesh_links.specs.Links.{EndsOutside, HearsOn}
 use Rattle.mesh_nbrs.specs.Neighbours.{HasNote, HasSymmetricNote, IsByNotes, RestoresBy, Replaces}
 use Rattle.mesh_nhdp.specs.Calls.{note_of, TellsLinks, TellsLinksOf}
-use Rattle.mesh_hello.proofs.Lookups.{some_same, none_not, contains_or_not}
+use Rattle.mesh_hello.proofs.Lookups.{none_not, contains_or_not}
 use Rattle.mesh_nhdp.proofs.HelloSound.{kept_from}
+use Rattle.mesh_atoms.proofs.Options.{same_some}
 
 -- Neighbours: by the notes of all links is by the links
 
@@ -107,8 +108,8 @@ kept_twice {A} P Q (Some e) mid new (inl k) l = again mid k.1 l
   where
     again : (mid : Option A) → mid ≡ Some e → IsKept Q mid new → IsKept (λ e. P e × Q e) (Some e) new
     again None at l = none_not refl at
-    again (Some f) at (inl l) = let same : f ≡ e = some_same refl at in inl ((k.0, subst Q same l.0), l.1 ∙ at)
-    again (Some f) at (inr l) = let same : f ≡ e = some_same refl at in inr (λ both. l.0 (subst Q (sym same) both.1), l.1)
+    again (Some f) at (inl l) = let same : f ≡ e = same_some refl at in inl ((k.0, subst Q same l.0), l.1 ∙ at)
+    again (Some f) at (inr l) = let same : f ≡ e = same_some refl at in inr (λ both. l.0 (subst Q (sym same) both.1), l.1)
 kept_twice {A} P Q (Some e) mid new (inr k) l = none_kept mid k.1 l
   where
     none_kept : (mid : Option A) → mid ≡ None → IsKept Q mid new → IsKept (λ e. P e × Q e) (Some e) new
@@ -153,8 +154,8 @@ module _ (near : Neighbourhood) (told : Told) (theirs : List Addr4) (is_theirs :
 
       still : (old : Option (Link × ℕ)) → IsKept (λ e. (Meets e.0.addrs theirs × IsBeyond e.0.addrs told.listed) → ⊥) old mid → (e : Link × ℕ) → old ≡ Some e → e.0.addrs ≡ told.shown.sending → ⊥
       still None k e at same = none_not refl at
-      still (Some f) (inl k) e at same = none f k.1 (ap (λ (x : Link × ℕ). x.0.addrs) (some_same refl at) ∙ same)
-      still (Some f) (inr k) e at same = k.0 (λ both. not_beyond f (ap (λ (x : Link × ℕ). x.0.addrs) (some_same refl at) ∙ same) both.1)
+      still (Some f) (inl k) e at same = none f k.1 (ap (λ (x : Link × ℕ). x.0.addrs) (same_some refl at) ∙ same)
+      still (Some f) (inr k) e at same = k.0 (λ both. not_beyond f (ap (λ (x : Link × ℕ). x.0.addrs) (same_some refl at) ∙ same) both.1)
 
   pub hears_link : (rule : Admit) (hold now : ℕ) (old mid new : Base LinkKey Link) → EndsOutside theirs told.listed old mid → HearsOn rule told.shown told.least hold now mid new →
       (start : Link × ℕ) × Begins rule told.shown now (find link_eq old told.least) start × (find link_eq new told.least ≡ Some (renewed told.shown hold now start))
@@ -186,7 +187,7 @@ pub replaced_other : (near : Neighbourhood) (now : ℕ) (told : Told) (o : Addr4
     IsKept (λ e. Matches told.originator told.listed o e.0 → ⊥) old mid → Restores near now mid new → BecomesOther near now told o old new
 replaced_other near now told o None mid new other k r = Remains (λ e at m. none_not refl at) (subst (λ (x : Option (Neighbour × ℕ)). Restores near now x new) k r)
 replaced_other near now told o (Some e) mid new other (inl k) r =
-    Remains (λ f at m. k.0 (subst (λ (x : Neighbour × ℕ). Matches told.originator told.listed o x.0) (some_same at refl) m)) (subst (λ (x : Option (Neighbour × ℕ)). Restores near now x new) k.1 r)
+    Remains (λ f at m. k.0 (subst (λ (x : Neighbour × ℕ). Matches told.originator told.listed o x.0) (same_some at refl) m)) (subst (λ (x : Option (Neighbour × ℕ)). Restores near now x new) k.1 r)
 replaced_other near now told o (Some e) mid new other (inr k) r = elim (meets_or_not e.0.addrs told.listed) [
   | inl meets ↦ Joins e refl (inr meets) (gone mid k.1 r)
   | inr none ↦ absurd (k.0 (λ m. elim m [ inl same ↦ other same | inr meets ↦ none meets ]))

@@ -7,13 +7,10 @@ use Rattle.std.proofs.lemmas.Bool.Decides.{Decides-and, Decides-eqb}
 use Rattle.mesh_atoms.specs.declared.addr.Addr4.{Addr4}
 use Rattle.mesh_atoms.specs.declared.hello.Willing.{Willing}
 use Rattle.mesh_atoms.specs.declared.codes.metric.Metric.{Metric}
-use Rattle.mesh_atoms.proofs.Rows.{same_metric as metric_by_code}
+use Rattle.mesh_atoms.proofs.Rows.{metrics}
 
 pub addrs : (a b : Addr4) → Decides (eqb a.0 b.0) (a ≡ b)
 addrs a b = (λ h. ap (λ (n : ℕ). let x : Addr4 = record { 0 = n } in x) ((Decides-eqb a.0 b.0).0 h), λ e. (Decides-eqb a.0 b.0).1 (ap (λ (x : Addr4). x.0) e))
-
-pub metrics : (a b : Metric) → Decides (eqb a.code b.code) (a ≡ b)
-metrics a b = (λ h. metric_by_code a b ((Decides-eqb a.code b.code).0 h), λ e. (Decides-eqb a.code b.code).1 (ap (λ (m : Metric). m.code) e))
 
 abbrev willing_of : (flooding routing : ℕ) → flooding ≤ 15 → routing ≤ 15 → Willing
 willing_of flooding routing within routing_within = record { flooding = flooding; routing = routing; flooding_within = within; routing_within = routing_within }

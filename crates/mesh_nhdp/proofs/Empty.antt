@@ -21,7 +21,7 @@ use Rattle.mesh_atoms.specs.Words.{AreMoreThan}
 use Rattle.mesh_atoms.specs.Sound.{SoundNeighbourhood}
 use Rattle.mesh_nhdp.specs.NhdpState.{empty_near, near_with}
 
-empty_base : {K V : Type 0} (count i : ℕ) → slice_index_or (replicate count (let none : Base K V = [] in none)) i [] ≡ []
+pub empty_base : {K V : Type 0} (count i : ℕ) → slice_index_or (replicate count (let none : Base K V = [] in none)) i [] ≡ []
 empty_base {K} {V} count i = elim (cases_lt i count) [
   | inl lt ↦ get_or-replicate count i [] [] lt
   | inr past ↦ get_or_past (replicate count (let none : Base K V = [] in none)) i [] (let e : length (replicate count (let none : Base K V = [] in none)) ≡ count = length-replicate count [] in omega (arith, e, past))

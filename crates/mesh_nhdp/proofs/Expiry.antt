@@ -1,6 +1,6 @@
 -- The parts of expiry, interface by interface.
-use Rattle.std.proofs.Common.{◌≡◌, ℕ, ◌+◌, ◌<◌, ◌≤◌, ◌↔◌, inl, inr, refl, sym, ◌∙◌, ap, subst, arith, List, [], ◌∷◌, ◌++◌, length, take, drop, get_or, Contains, Result, Ok, Err}
-use Rattle.std.specs.Prelude.{OnOk, Some, slice_get}
+use Rattle.std.proofs.Common.{◌≡◌, ℕ, ◌+◌, ◌<◌, ◌≤◌, ◌↔◌, inl, inr, refl, sym, ◌∙◌, ap, subst, arith, List, [], ◌∷◌, ◌++◌, length, take, drop, get_or, Contains}
+use Rattle.std.specs.Prelude.{Some, slice_get}
 use Rattle.std.proofs.lemmas.Option.{slice_get_cases}
 use Rattle.std.specs.List.{IsDistinct}
 use Rattle.std.proofs.lemmas.List.{take_all, length-drop}
@@ -27,14 +27,9 @@ use Rattle.mesh_nhdp.specs.Wanted.{IsWantedAddress}
 use Rattle.mesh_nhdp.proofs.Bases.{base_cases}
 use Rattle.mesh_hello.proofs.Collect.{item_at}
 use Rattle.mesh_hello.proofs.Lookups.{none_not}
-use Rattle.mesh_hello.proofs.Places.{append_none}
 use Rattle.mesh_nhdp.proofs.Whole.{live_by_calls}
 use Rattle.mesh_nhdp.proofs.LiveSound.{live_sound}
-
--- what a result that isn't an error tells
-pub on_ok : {T E : Type 0} {P Q : Type 0} (r : Result T E) → (P → Q) → OnOk r P → OnOk r Q
-on_ok (Ok x) to h = to h
-on_ok (Err e) to h = tt
+use Rattle.mesh_atoms.proofs.Lists.{append_nothing}
 
 -- the rule of the interface at a place
 pub face_rule : (settings r : RouterSettings) (i : ℕ) (faces : List Interface) (face : Interface) → faces ≡ settings.interfaces → settings ≡ r → i < length r.interfaces → face ≡ get_or faces i face → face.admit ≡ rule_of r i
@@ -46,7 +41,7 @@ face_rule settings r i faces face faces_are same lt is =
 -- a slice of the whole of a vector is written back whole
 pub written_back : {A : Type 0} (len : ℕ) (new items : List A) → length new ≡ length items → len ≡ length items → take len (new ++ drop (length new) items) ≡ new
 written_back len new items same all =
-    ap (λ rest. take len (new ++ rest)) (none_left (drop (length new) items) (let h = length-drop (length new) items in omega (arith, h, same))) ∙ (ap (λ xs. take len xs) (append_none new) ∙ take_all len new (omega (arith, same, all)))
+    ap (λ rest. take len (new ++ rest)) (none_left (drop (length new) items) (let h = length-drop (length new) items in omega (arith, h, same))) ∙ (ap (λ xs. take len xs) (append_nothing new) ∙ take_all len new (omega (arith, same, all)))
   where
     none_left : {A : Type 0} (xs : List A) → length xs ≡ 0 → xs ≡ []
     none_left [] h = refl

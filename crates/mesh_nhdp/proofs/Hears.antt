@@ -28,9 +28,9 @@ use Rattle.mesh_nhdp.specs.Interfaces.{HearsAt}
 use Rattle.mesh_atoms.specs.AfterHello.{IsTheirs}
 use Rattle.mesh_nhdp.proofs.Bases.{base_cases}
 use Rattle.mesh_nhdp.proofs.HelloSound.{hello_sound}
-use Rattle.mesh_hello.proofs.Lookups.{Contains_at}
 use Rattle.mesh_nhdp.proofs.Touched.{IsTheirSymmetric}
 use Rattle.mesh_nhdp.proofs.Whole.{Starts, hello_by_calls}
+use Rattle.mesh_atoms.proofs.Lists.{contains_at}
 
 -- where there is no interface, nothing ends and nothing is dropped
 ends_none : (theirs listed : List Addr4) → EndsOutside theirs listed [] []
@@ -94,7 +94,7 @@ module _ (settings : RouterSettings) (now i : ℕ) (sender : Addr4) (told : Told
 
   pub hears_is : AfterHello settings now i told hello old (record { links = links; two_hops = two_hops; neighbours = neighbours; losts = losts })
   hears_is = hello_by_calls settings now i told hello old (record { links = links; two_hops = two_hops; neighbours = neighbours; losts = losts })
-      (λ a has. (T.listed.1 a).1 (inl ((T.sending.1 a).0 has))) ((T.listed.1 told.least.addr).1 (inl ((T.sending.1 told.least.addr).0 (Contains_at told.shown.sending 0 told.least.addr T.least)))) S (record {
+      (λ a has. (T.listed.1 a).1 (inl ((T.sending.1 a).0 has))) ((T.listed.1 told.least.addr).1 (inl ((T.sending.1 told.least.addr).0 (contains_at told.shown.sending 0 told.least.addr T.least)))) S (record {
         tables = record { links = links_distinct; two_hops = two_hops_distinct; neighbours = F.distinct; losts = F.distinct_losts };
         interfaces = same;
         two_hop_interfaces = same_two_hops ∙ same_mids;

@@ -17,7 +17,7 @@ use Rattle.mesh_nhdp.specs.declared.near_addresses.Wanted.TheVariants.{Each}
 use Rattle.mesh_nhdp.specs.Wanted.{IsWantedAddress}
 use Rattle.mesh_hello.proofs.Fits.{distinct_fits}
 use Rattle.mesh_nhdp.proofs.Limits.{found_if_key}
-use Rattle.mesh_hello.proofs.Lookups.{Contains_at}
+use Rattle.mesh_atoms.proofs.Lists.{contains_at}
 
 abbrev IsKnown : Neighbourhood → List Addr4 → Addr4 → Addr4 → Type 0
 IsKnown near listed originator a = IsHeld near a ⊎ (Contains listed a ⊎ (a ≡ originator))
@@ -27,7 +27,7 @@ keys_found : {V : Type 0} (base : Base Addr4 V) (a : Addr4) → Contains (keys_o
 keys_found {V} base a = (
   λ c. found_if_key (addr_eq a) base (list_any-from_Contains addr_equiv a (keys_of base) c),
   λ h. let (k, key, at, test) = place_from_lookup (addr_eq a) base h.0 h.1 in
-      Contains_at (keys_of base) k a (slice_get-map (λ (x : Addr4 × (V × ℕ)). x.0) base k ∙ (ap (option_map (λ (x : Addr4 × (V × ℕ)). x.0)) at ∙ ap (λ (x : Addr4). Some x) (sym (same_addr a key test)))),
+      contains_at (keys_of base) k a (slice_get-map (λ (x : Addr4 × (V × ℕ)). x.0) base k ∙ (ap (option_map (λ (x : Addr4 × (V × ℕ)). x.0)) at ∙ ap (λ (x : Addr4). Some x) (sym (same_addr a key test)))),
 )
 
 joined : (all xs ys : List Addr4) → all ≡ xs ++ ys → (a : Addr4) → Contains all a ↔ (Contains xs a ⊎ Contains ys a)

@@ -29,17 +29,13 @@ use Rattle.mesh_atoms.specs.declared.admit.Admit.{Admit}
 use Rattle.mesh_atoms.specs.Quality.{admit_on, rule_of}
 use Rattle.mesh_nhdp.proofs.Admitted.{FollowsQuality, IsAlike, made_follows, follows_alike, follows_if_stays, admit_stays, renewed_alike}
 use Rattle.mesh_nhdp.proofs.Limits.{no_more, found_left, found_right, entries_at, length_entries, found_entry}
-use Rattle.mesh_hello.proofs.Lookups.{Contains_at, some_same, none_not, cond_from, same_address, same_key, contains_or_not}
+use Rattle.mesh_hello.proofs.Lookups.{none_not, same_key, contains_or_not}
 use Rattle.mesh_nhdp.proofs.LiveSound.{is_trimmed, restores_from, restores_to, settles_back, settles_from}
+use Rattle.mesh_atoms.proofs.Lists.{contains_at}
+use Rattle.mesh_atoms.proofs.Options.{same_some, cond_none_some}
+use Rattle.mesh_atoms.proofs.Values.{same_address}
 
 -- The link that the HELLO renews
-
--- a status changes no address, and no moment but to one after the hold time
-status_addrs : (shown : Shown) (hold now : ℕ) (status : Option LinkStatus) (e : Link × ℕ) → (by_status shown hold now status e).0.addrs ≡ e.0.addrs
-status_addrs shown hold now None e = refl
-status_addrs shown hold now (Some Down) e = refl
-status_addrs shown hold now (Some Symmetric) e = refl
-status_addrs shown hold now (Some Heard) e = refl
 
 cond_later : (b : Bool) (now x y : ℕ) → now < x → now < y → now < cond b x y
 cond_later true now x y p q = p
@@ -83,7 +79,7 @@ begins_addrs (Made none) = refl
 -- what a kept entry was
 pub kept_from : {A : Type 0} (P : A → Type 0) (old new : Option A) (e : A) → IsKept P old new → new ≡ Some e → P e × (old ≡ Some e)
 kept_from P None new e k is = none_not k is
-kept_from P (Some f) new e (inl k) is = let same : f ≡ e = some_same refl (sym k.1 ∙ is) in (subst P same k.0, ap (λ x. Some x) same)
+kept_from P (Some f) new e (inl k) is = let same : f ≡ e = same_some refl (sym k.1 ∙ is) in (subst P same k.0, ap (λ x. Some x) same)
 kept_from P (Some f) new e (inr k) is = none_not k.1 is
 
 module _ (settings : RouterSettings) (now i : ℕ) (sender : Addr4) (hello : Hello) (told : Told) (old new : Neighbourhood) (fault : IsFault settings sender hello None) (T : Tells settings i sender hello told)
@@ -99,7 +95,7 @@ module _ (settings : RouterSettings) (now i : ℕ) (sender : Addr4) (hello : Hel
   the_link e is =
       let (start, begins, stands) = A.link in
       let r = is_renewed told.shown settings.times.link_hold now start holds in
-      let same : renewed told.shown settings.times.link_hold now start ≡ e = some_same stands is in
+      let same : renewed told.shown settings.times.link_hold now start ≡ e = same_some stands is in
       subst (λ (x : Link × ℕ). IsLink i told.least x) same
       (One refl refl (r.alike.addrs ∙ begins_addrs begins) (r.later (begins_later begins)) r.link_out r.selector
       (follows_alike (rule_of settings i) now start.0 (renewed told.shown settings.times.link_hold now start).0 r.alike (begins_follows begins)))
@@ -162,7 +158,7 @@ module _ (settings : RouterSettings) (now i : ℕ) (sender : Addr4) (hello : Hel
   meets_one key e a goes was has sends = elim (goes.apart refl) [
     | inl same ↦
         let least : slice_get told.shown.sending 0 ≡ Some key.addr = subst (λ (xs : List Addr4). slice_get xs 0 ≡ Some key.addr) same (S.link i key e.0 e.1 was).least in
-        let addr : key.addr ≡ told.least.addr = some_same least T.least in
+        let addr : key.addr ≡ told.least.addr = same_some least T.least in
         ap (λ (b : Addr4). let k : LinkKey = record { addr = b } in k) addr
     | inr none ↦ absurd (none (a, has, sends))
   ]
@@ -192,7 +188,7 @@ module _ (settings : RouterSettings) (now i : ℕ) (sender : Addr4) (hello : Hel
   neighbour_is o f is = elim (same_address o told.originator) [
     | inl same ↦
         let (e, at, r) = restores_from new now (Some (announced told.listed told.willing told.routing, 0)) (neighbour_at new told.originator) f A.neighbour (subst (λ (a : Addr4). neighbour_at new a ≡ Some f) same is) in
-        Announced same (subst (λ (x : Neighbour × ℕ). Renews new now x.0 f.0 f.1) (some_same at refl) r)
+        Announced same (subst (λ (x : Neighbour × ℕ). Renews new now x.0 f.0 f.1) (same_some at refl) r)
     | inr other ↦ by_case other (A.other_neighbours o other)
   ]
     where
@@ -273,7 +269,7 @@ module _ (settings : RouterSettings) (now i : ℕ) (sender : Addr4) (hello : Hel
   owner j key link until is = by_case (link_is j key (link, until) is)
     where
       has_least : Contains link.addrs key.addr
-      has_least = Contains_at link.addrs 0 key.addr (sound_link j key link until is).least
+      has_least = contains_at link.addrs 0 key.addr (sound_link j key link until is).least
 
       -- a link of a matching neighbour goes on only with listed addresses
       by_matching : GoesOn old told i j link → (o : Addr4) (n : Neighbour) (u : ℕ) → neighbour_at old o ≡ Some (n, u) →
@@ -286,7 +282,7 @@ module _ (settings : RouterSettings) (now i : ℕ) (sender : Addr4) (hello : Hel
       by_other : GoesOn old told i j link → (o : Addr4) (n : Neighbour) (u : ℕ) → neighbour_at old o ≡ Some (n, u) →
           ((a : Addr4) → Contains link.addrs a → Contains n.addrs a) → BecomesOther new now told o (neighbour_at old o) (neighbour_at new o) → IsOwned link
       by_other goes o n u at within (Joins e was matches none) =
-          by_matching goes o n u at within (subst (λ (x : Neighbour × ℕ). Matches told.originator told.listed o x.0) (some_same was at) matches)
+          by_matching goes o n u at within (subst (λ (x : Neighbour × ℕ). Matches told.originator told.listed o x.0) (same_some was at) matches)
       by_other goes o n u at within (Remains not r) =
           let (g, stands, renews) = restores_to new now (neighbour_at old o) (neighbour_at new o) (n, u) j key (link, until) r at (within key.addr has_least, is) in
           (o, g.0, g.1, stands, λ a has. subst (λ (xs : List Addr4). Contains xs a) (sym renews.addrs) (within a has))
@@ -343,7 +339,7 @@ module _ (settings : RouterSettings) (now i : ℕ) (sender : Addr4) (hello : Hel
     Is_two_hop : is_symmetric_at new now j key.link ≡ true → nat_lt now t.1 ≡ true → IsTwoHop j key t
 
   row_later : (b : Bool) (two_hop : TwoHop) (t : TwoHop × ℕ) → cond b (Some (two_hop, now + told.shown.validity)) None ≡ Some t → nat_lt now t.1 ≡ true
-  row_later true two_hop t is = subst (λ (x : TwoHop × ℕ). nat_lt now x.1 ≡ true) (some_same refl is) (lt-ltb now (now + told.shown.validity) (omega (arith, lasts)))
+  row_later true two_hop t is = subst (λ (x : TwoHop × ℕ). nat_lt now x.1 ≡ true) (same_some refl is) (lt-ltb now (now + told.shown.validity) (omega (arith, lasts)))
   row_later false two_hop t is = none_not refl is
 
   stood_later : (a : Addr4) (stood : Option (TwoHop × ℕ)) (t : TwoHop × ℕ) → StoodOn old i told a stood → stood ≡ Some t → nat_lt now t.1 ≡ true
@@ -364,7 +360,7 @@ module _ (settings : RouterSettings) (now i : ℕ) (sender : Addr4) (hello : Hel
 
   other_two_hop : (j : ℕ) (key : TwoHopKey) (t : TwoHop × ℕ) → ((j ≢ i) ⊎ (key.link ≢ told.least)) → two_hop_at new j key ≡ Some t → IsTwoHop j key t
   other_two_hop j key t other is =
-      let (symmetric, was) = cond_from (is_symmetric_at new now j key.link) (two_hop_at old j key) t (sym (A.other_two_hops j key other) ∙ is) in
+      let (symmetric, was) = cond_none_some (is_symmetric_at new now j key.link) (two_hop_at old j key) t (sym (A.other_two_hops j key other) ∙ is) in
       Is_two_hop symmetric ((S.two_hops j).fresh key t.0 t.1 was)
 
   pub two_hop_is : (j : ℕ) (key : TwoHopKey) (t : TwoHop × ℕ) → two_hop_at new j key ≡ Some t → IsTwoHop j key t
@@ -389,7 +385,7 @@ module _ (settings : RouterSettings) (now i : ℕ) (sender : Addr4) (hello : Hel
   -- no more tuples than stood and rows make
   limit_elsewhere : (j : ℕ) → j ≢ i → length (base_of new.two_hops j) ≤ length (base_of old.two_hops j)
   limit_elsewhere j apart = no_more two_hop_equiv (base_of new.two_hops j) (base_of old.two_hops j) (A.tables.two_hops j)
-      (λ key t is. (t, (cond_from (is_symmetric_at new now j key.link) (two_hop_at old j key) t (sym (A.other_two_hops j key (inl apart)) ∙ is)).1))
+      (λ key t is. (t, (cond_none_some (is_symmetric_at new now j key.link) (two_hop_at old j key) t (sym (A.other_two_hops j key (inl apart)) ∙ is)).1))
 
   nothing : TwoHop
   nothing = record { metric_in = None; metric_out = None }
@@ -410,7 +406,7 @@ module _ (settings : RouterSettings) (now i : ℕ) (sender : Addr4) (hello : Hel
           subst (λ (k : TwoHopKey). (f : TwoHop × ℕ) × (find two_hop_eq (base_of old.two_hops i ++ entries_at told.least nothing some) k ≡ Some f)) (sym whole)
           (at_least key.addr (subst (λ (k : TwoHopKey). two_hop_at new i k ≡ Some t) whole is))
       | inr apart ↦ found_left (two_hop_eq key) (base_of old.two_hops i) (entries_at told.least nothing some) t
-          (cond_from (is_symmetric_at new now i key.link) (two_hop_at old i key) t (sym (A.other_two_hops i key (inr apart)) ∙ is)).1
+          (cond_none_some (is_symmetric_at new now i key.link) (two_hop_at old i key) t (sym (A.other_two_hops i key (inr apart)) ∙ is)).1
     ]
       where
         stood_there : (a : Addr4) (stood : Option (TwoHop × ℕ)) → StoodOn old i told a stood → stood ≡ Some t →

@@ -13,6 +13,7 @@ use Rattle.mesh_atoms.specs.declared.tuples.TwoHopKey.{TwoHopKey}
 use Rattle.mesh_atoms.specs.declared.tuples.LinkKey.{LinkKey}
 use Rattle.mesh_atoms.specs.Base.{Base, find, HasDistinctKeys, two_hop_eq}
 use Rattle.mesh_atoms.proofs.Lookups.{two_hop_equiv}
+use Rattle.mesh_atoms.proofs.Options.{cond_true as on_true}
 
 found_step : {X : Type 0} (b : Bool) (first : X) (rest : Option X) (c : Bool) → (c ≡ true → (x : X) × (rest ≡ Some x)) → (b || c) ≡ true → (x : X) × (cond b (Some first) rest ≡ Some x)
 found_step true first rest c more h = (first, refl)
@@ -50,10 +51,6 @@ pub no_more : {K V : Type 0} {eq : K → K → Bool} → IsEquivalence eq → (n
 no_more {eq = eq} laws new old distinct stands =
     subst (λ (n : ℕ). n ≤ length old) (length-keys_of new)
     (length-le_from_keys laws (keys_of new) old distinct (λ key h. let (e, at) = found_if_key (eq key) new h in let (f, was) = stands key e at in some_is (find eq old key) f was))
-
-on_true : {A : Type 0} (b : Bool) (x y : A) → b ≡ true → cond b x y ≡ x
-on_true true x y e = refl
-on_true false x y e = absurd (false≢true e)
 
 -- entries at one link for these addresses
 pub entries_at : {V : Type 0} → LinkKey → V → List Addr4 → Base TwoHopKey V

@@ -9,7 +9,7 @@ use Rattle.mesh_atoms.specs.declared.tuples.Link.{Link}
 use Rattle.mesh_atoms.specs.Base.{Base, find, HasDistinctKeys, link_eq}
 use Rattle.mesh_atoms.proofs.Lookups.{link_equiv, same_link}
 use Rattle.mesh_nhdp.specs.Calls.{TellsKeys}
-use Rattle.mesh_hello.proofs.Lookups.{Contains_at}
+use Rattle.mesh_atoms.proofs.Lists.{contains_at}
 
 key_at : (base : Base LinkKey Link) (k : ℕ) (key : LinkKey) (e : Link × ℕ) → slice_get base k ≡ Some (key, e) → slice_get (keys_of base) k ≡ Some key
 key_at base k key e at = slice_get-map (λ (x : LinkKey × (Link × ℕ)). x.0) base k ∙ ap (option_map (λ (x : LinkKey × (Link × ℕ)). x.0)) at
@@ -24,5 +24,5 @@ tells_keys links base keys same distinct is = subst (λ (b : Base LinkKey Link).
   ];
   all = λ key e found.
       let (k, l, at, test) = place_from_lookup (link_eq key) base e found in
-      Contains_at (keys_of base) k key (key_at base k key e (subst (λ x. slice_get base k ≡ Some (x, e)) (sym (same_link key l test)) at));
+      contains_at (keys_of base) k key (key_at base k key e (subst (λ x. slice_get base k ≡ Some (x, e)) (sym (same_link key l test)) at));
 }))

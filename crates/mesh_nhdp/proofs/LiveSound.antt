@@ -18,9 +18,12 @@ use Rattle.mesh_atoms.specs.TakesHello.{IsHeld}
 use Rattle.mesh_atoms.specs.Sound.{SoundNeighbourhood, IsSoundLink, IsSoundNeighbour}
 use Rattle.mesh_atoms.proofs.Lookups.{two_hop_equiv}
 use Rattle.mesh_atoms.specs.Quality.{admit_on, rule_of}
-use Rattle.mesh_nhdp.proofs.Admitted.{FollowsQuality, IsAlike, admitted_follows, admitted_addrs, follows_alike, admit_from, admit_stays}
+use Rattle.mesh_nhdp.proofs.Admitted.{FollowsQuality, IsAlike, admitted_follows, follows_alike, admit_from, admit_stays}
 use Rattle.mesh_nhdp.proofs.Limits.{no_more}
-use Rattle.mesh_hello.proofs.Lookups.{Contains_at, some_same, none_not, live_from, cond_from}
+use Rattle.mesh_hello.proofs.Lookups.{none_not, live_from}
+use Rattle.mesh_links.proofs.Admitted.{addrs-admitted}
+use Rattle.mesh_atoms.proofs.Lists.{contains_at}
+use Rattle.mesh_atoms.proofs.Options.{same_some, cond_none_some}
 
 -- Links
 
@@ -50,7 +53,7 @@ pub record ComesFrom (settings : RouterSettings) (i now : ℕ) (old : Option (Li
 
 pub trim_from : (now : ℕ) (o : Option (Link × ℕ)) (e : Link × ℕ) → trim now o ≡ Some e → (f : Link × ℕ) × (o ≡ Some f) × IsTrimmed now f e
 trim_from now None e h = none_not refl h
-trim_from now (Some f) e h = (f, refl, subst (λ (g : Link × ℕ). IsTrimmed now f g) (some_same refl h) (is_trimmed now f))
+trim_from now (Some f) e h = (f, refl, subst (λ (g : Link × ℕ). IsTrimmed now f g) (same_some refl h) (is_trimmed now f))
 
 pub link_from : (settings : RouterSettings) (i now : ℕ) (old new : Option (Link × ℕ)) (e : Link × ℕ) → new ≡ trim now (if_live now (admit_on settings i now old)) → new ≡ Some e → ComesFrom settings i now old e
 link_from settings i now old new e is at =
@@ -62,7 +65,7 @@ link_from settings i now old new e is at =
     record {
       was = g;
       stood = stood;
-      addrs = t.alike.addrs ∙ (ap (λ (x : Link × ℕ). x.0.addrs) same ∙ admitted_addrs rule hold now g);
+      addrs = t.alike.addrs ∙ (ap (λ (x : Link × ℕ). x.0.addrs) same ∙ addrs-admitted rule hold now g);
       live = subst (λ (n : ℕ). nat_lt now n ≡ true) (sym t.until) later;
       link_out = t.link_out;
       selector = t.selector;
@@ -75,14 +78,14 @@ pub restores_from : (near : Neighbourhood) (now : ℕ) (old new : Option (Neighb
     (e : Neighbour × ℕ) × (old ≡ Some e) × Renews near now e.0 f.0 f.1
 restores_from near now None new f r is = none_not r is
 restores_from near now (Some e) None f r is = none_not refl is
-restores_from near now (Some e) (Some g) f r is = (e, refl, subst (λ (x : Neighbour × ℕ). Renews near now e.0 x.0 x.1) (some_same refl is) r)
+restores_from near now (Some e) (Some g) f r is = (e, refl, subst (λ (x : Neighbour × ℕ). Renews near now e.0 x.0 x.1) (same_some refl is) r)
 
 pub restores_to : (near : Neighbourhood) (now : ℕ) (old new : Option (Neighbour × ℕ)) (e : Neighbour × ℕ) (i : ℕ) (key : LinkKey) (f : Link × ℕ) →
     Restores near now old new → old ≡ Some e → HasLinkOf near e.0.addrs i key f → (g : Neighbour × ℕ) × (new ≡ Some g) × Renews near now e.0 g.0 g.1
 restores_to near now None new e i key f r is has = none_not refl is
 restores_to near now (Some d) None e i key f r is has =
-    absurd (r i key f (subst (λ (x : Neighbour × ℕ). HasLinkOf near x.0.addrs i key f) (sym (some_same refl is)) has))
-restores_to near now (Some d) (Some g) e i key f r is has = (g, refl, subst (λ (x : Neighbour × ℕ). Renews near now x.0 g.0 g.1) (some_same refl is) r)
+    absurd (r i key f (subst (λ (x : Neighbour × ℕ). HasLinkOf near x.0.addrs i key f) (sym (same_some refl is)) has))
+restores_to near now (Some d) (Some g) e i key f r is has = (g, refl, subst (λ (x : Neighbour × ℕ). Renews near now x.0 g.0 g.1) (same_some refl is) r)
 
 -- Lost addresses
 
@@ -95,7 +98,7 @@ settles_back (Stays not_was not_is same) stands here = not_is here
 pub settles_from : {was is : Type 0} {until : ℕ} {stood new : Option (Lost × ℕ)} {e : Lost × ℕ} → SettlesLost was is until stood new → new ≡ Some e →
     (was × (e.1 ≡ until)) ⊎ (stood ≡ Some e)
 settles_from (Back i none) stands = none_not none stands
-settles_from {e = e} (Gone w not_is set) stands = inl (w, ap (λ (x : Lost × ℕ). x.1) (some_same stands set))
+settles_from {e = e} (Gone w not_is set) stands = inl (w, ap (λ (x : Lost × ℕ). x.1) (same_some stands set))
 settles_from (Stays not_was not_is same) stands = inr (sym same ∙ stands)
 
 module _ (settings : RouterSettings) (before now : ℕ) (old new : Neighbourhood) (S : SoundNeighbourhood settings before old) (L : LiveNeighbourhood settings now old new) where
@@ -133,7 +136,7 @@ module _ (settings : RouterSettings) (before now : ℕ) (old new : Neighbourhood
       let s = S.link i key c.was.0 c.was.1 c.stood in
       let (o, n, u, at, within) = S.owner i key c.was.0 c.was.1 c.stood in
       let (g, stands, r) = restores_to new now (neighbour_at old o) (neighbour_at new o) (n, u) i key (link, until) (L.neighbours o) at
-      (within key.addr (Contains_at c.was.0.addrs 0 key.addr s.least), is) in
+      (within key.addr (contains_at c.was.0.addrs 0 key.addr s.least), is) in
       (o, g.0, g.1, stands, λ a has. subst (λ (addrs : List Addr4). Contains addrs a) (sym r.addrs) (within a (subst (λ (addrs : List Addr4). Contains addrs a) c.addrs has)))
 
   new_neighbour : (o : Addr4) (n : Neighbour) (until : ℕ) → neighbour_at new o ≡ Some (n, until) → IsSoundNeighbour settings new now o n until
@@ -163,7 +166,7 @@ module _ (settings : RouterSettings) (before now : ℕ) (old new : Neighbourhood
   two_hop_was : (i : ℕ) (key : TwoHopKey) (t : TwoHop × ℕ) → two_hop_at new i key ≡ Some t →
       (is_symmetric_at new now i key.link ≡ true) × (two_hop_at old i key ≡ Some t) × (nat_lt now t.1 ≡ true)
   two_hop_was i key t is =
-      let (symmetric, live) = cond_from (is_symmetric_at new now i key.link) (if_live now (two_hop_at old i key)) t (sym (L.two_hops i key) ∙ is) in
+      let (symmetric, live) = cond_none_some (is_symmetric_at new now i key.link) (if_live now (two_hop_at old i key)) t (sym (L.two_hops i key) ∙ is) in
       let (stood, later) = live_from now (two_hop_at old i key) t live in
       (symmetric, stood, later)
 

@@ -27,11 +27,13 @@ use Rattle.mesh_atoms.specs.AfterHello.{AfterHello, Begins, Stood, Made, renewed
 use Rattle.mesh_atoms.proofs.CodesLemmas.CodeLaws.{cost-injective}
 use Rattle.mesh_atoms.proofs.Rows.{same_metric}
 use Rattle.mesh_nbrs.specs.Same.{SameTuples, way_at, SameNear}
-use Rattle.mesh_hello.proofs.Lookups.{some_same, none_not, same_address, same_key}
+use Rattle.mesh_hello.proofs.Lookups.{none_not, same_key}
 use Rattle.mesh_nhdp.specs.Repeats.{RepeatsStatus, RepeatsRow, Repeats}
 use Rattle.mesh_nhdp.proofs.LiveSound.{restores_to}
 use Rattle.mesh_nhdp.proofs.RowWalks.{looks_on}
 use Rattle.mesh_nhdp.proofs.Touched.{and_same}
+use Rattle.mesh_atoms.proofs.Options.{same_some}
+use Rattle.mesh_atoms.proofs.Values.{same_address}
 
 -- What is the only one
 
@@ -68,7 +70,7 @@ same_neighbour a b addrs symmetric metric_in metric_out willing selector =
 kept_to : {A : Type 0} (P : A → Type 0) (old new : Option A) (e : A) → IsKept P old new → old ≡ Some e → P e → new ≡ Some e
 kept_to P None new e k is p = none_not refl is
 kept_to P (Some f) new e (inl k) is p = k.1 ∙ is
-kept_to P (Some f) new e (inr k) is p = absurd (k.0 (subst P (sym (some_same refl is)) p))
+kept_to P (Some f) new e (inr k) is p = absurd (k.0 (subst P (sym (same_some refl is)) p))
 
 kept_none : {A : Type 0} (P : A → Type 0) (old new : Option A) → IsKept P old new → old ≡ None → new ≡ None
 kept_none P None new k is = k
@@ -171,7 +173,7 @@ module _ (shown : Shown) (hold now : ℕ) (e : Link × ℕ) (lasts : 0 < shown.v
       record { symmetric = c.symmetric ∙ symmetric; link_in = c.link_in ∙ link_in; link_out = c.link_out ∙ out }
 
 begins_one : {rule : Admit} {shown : Shown} {now : ℕ} {old : Option (Link × ℕ)} {start : Link × ℕ} (e : Link × ℕ) → Begins rule shown now old start → old ≡ Some e → e.0.addrs ≡ shown.sending → start ≡ e
-begins_one e (Stood f at same) is addrs = some_same at is
+begins_one e (Stood f at same) is addrs = same_some at is
 begins_one e (Made none) is addrs = absurd (none e is addrs)
 
 -- The whole
@@ -187,7 +189,7 @@ module _ (settings : RouterSettings) (now i : ℕ) (told : Told) (hello : Hello)
 
   has_listed : (o : Addr4) (e : Neighbour × ℕ) → neighbour_at old o ≡ Some e → o ≡ told.originator → e.0.addrs ≡ told.listed
   has_listed o e at is =
-      let same : R.neighbour.one ≡ e = some_same R.neighbour.stands (subst (λ (x : Addr4). neighbour_at old x ≡ Some e) is at) in
+      let same : R.neighbour.one ≡ e = same_some R.neighbour.stands (subst (λ (x : Addr4). neighbour_at old x ≡ Some e) is at) in
       ap (λ (x : Neighbour × ℕ). x.0.addrs) (sym same) ∙ R.neighbour.addrs
 
   -- Links
@@ -221,7 +223,7 @@ module _ (settings : RouterSettings) (now i : ℕ) (told : Told) (hello : Hello)
   unfolding Goes
   one_goes e at =
       let (start, begins, stands) = A.link in
-      let same : R.link.one ≡ e = some_same R.link.stands at in
+      let same : R.link.one ≡ e = same_some R.link.stands at in
       let is : start ≡ e = begins_one R.link.one begins R.link.stands R.link.addrs ∙ same in
       let repeats : RepeatsStatus told.shown now e.0 told.shown.status = subst (λ (x : Link × ℕ). RepeatsStatus told.shown now x.0 told.shown.status) same R.link.status in
       let like : IsLike now e.0 (renewed told.shown settings.times.link_hold now e).0 =
@@ -254,7 +256,7 @@ module _ (settings : RouterSettings) (now i : ℕ) (told : Told) (hello : Hello)
     where
       by_old : (o : Option (Link × ℕ)) → link_at old j key ≡ o → (e : Link × ℕ) × (link_at old j key ≡ Some e) × IsLike now e.0 f.0
       by_old None is = none_not (none_comes j key is) at
-      by_old (Some e) is = let (g, stands, like) = link_goes j key e is in (e, is, subst (λ (x : Link × ℕ). IsLike now e.0 x.0) (some_same stands at) like)
+      by_old (Some e) is = let (g, stands, like) = link_goes j key e is in (e, is, subst (λ (x : Link × ℕ). IsLike now e.0 x.0) (same_some stands at) like)
 
   way_stays : (j : ℕ) (key : LinkKey) → (way_at now (link_at new j key) ≡ way_at now (link_at old j key)) × (is_symmetric_at new now j key ≡ is_symmetric_at old now j key)
   unfolding Goes

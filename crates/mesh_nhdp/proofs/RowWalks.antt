@@ -17,8 +17,9 @@ use Rattle.mesh_atoms.proofs.Lookups.{two_hop_equiv, same_two_hop}
 use Rattle.mesh_atoms.proofs.Nets.{same_net}
 use Rattle.mesh_nhdp.specs.Rows.{LooksOn, RowTells, Looked, Passed, TellsSymmetric}
 use Rattle.mesh_hello.proofs.Collect.{SomeBelow, below_here, below_later, below_cases, below_contains}
-use Rattle.mesh_hello.proofs.Lookups.{same_address}
-use Rattle.mesh_nhdp.proofs.TwoHops.{on_true, on_false}
+use Rattle.mesh_nhdp.proofs.TwoHops.{on_false}
+use Rattle.mesh_atoms.proofs.Values.{same_address}
+use Rattle.mesh_atoms.proofs.Options.{cond_true as on_true}
 
 -- what the rows below a place tell of an address
 pub data RowsTell (own listed : List Addr4) (rows : List HelloRow) (n until : ℕ) (a : Addr4) (stood new : Option (TwoHop × ℕ)) : Type 0 where

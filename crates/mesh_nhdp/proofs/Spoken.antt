@@ -7,10 +7,11 @@ use Rattle.mesh_atoms.specs.AfterHello.{Matches}
 use Rattle.mesh_nbrs.specs.Neighbours.{IsSpokenOf}
 use Rattle.mesh_hello.specs.Gathers.{Gathers}
 use Rattle.mesh_hello.proofs.Collect.{adds_so, adds_nothing}
-use Rattle.mesh_hello.proofs.Lookups.{some_same, none_not}
+use Rattle.mesh_hello.proofs.Lookups.{none_not}
 use Rattle.mesh_nhdp.specs.declared.near_addresses.Wanted.{Wanted}
 use Rattle.mesh_nhdp.specs.declared.near_addresses.Wanted.TheVariants.{Each, Symmetric}
 use Rattle.mesh_nhdp.specs.Wanted.{IsWanted, IsWantedAt, IsSpokenAddress, IsSymmetricSpokenAddress}
+use Rattle.mesh_atoms.proofs.Options.{same_some}
 
 -- what is added of the neighbour that is found
 pub adds_found : (base : Base Addr4 Neighbour) (wanted : Wanted) (o : Addr4) (n : Neighbour) (until : ℕ) (old new : List Addr4) → find addr_eq base o ≡ Some (n, until) →
@@ -18,7 +19,7 @@ pub adds_found : (base : Base Addr4 Neighbour) (wanted : Wanted) (o : Addr4) (n 
 adds_found base wanted o n until old new is adds = adds_so old new (λ a. IsWanted wanted n × Contains n.addrs a) (IsWantedAt base wanted o) (λ a. (
   (λ h. (n, until, is, h.0, h.1)),
   (λ h. let (m, moment, at, wants, has) = h in
-      let same : m ≡ n = ap (λ (e : Neighbour × ℕ). e.0) (some_same at is) in
+      let same : m ≡ n = ap (λ (e : Neighbour × ℕ). e.0) (same_some at is) in
       (subst (λ (x : Neighbour). IsWanted wanted x) same wants, subst (λ (x : Neighbour). Contains x.addrs a) same has)),
 )) adds
 
@@ -34,7 +35,7 @@ module _ (base seen : Base Addr4 Neighbour) (told : Addr4) (listed spoken looked
   -- a neighbour that a HELLO speaks of is one that it tells of
   matched : (o : Addr4) (n : Neighbour) (until : ℕ) → Contains spoken o → find addr_eq base o ≡ Some (n, until) → Matches told listed o n
   matched o n until within is = let (e, at, matches) = (spoken_are o).0 within in
-      subst (λ (x : Neighbour). Matches told listed o x) (ap (λ (x : Neighbour × ℕ). x.0) (some_same at is)) matches
+      subst (λ (x : Neighbour). Matches told listed o x) (ap (λ (x : Neighbour × ℕ). x.0) (same_some at is)) matches
 
   wanted_of : (wanted : Wanted) (a : Addr4) → Contains addrs a ↔ IsWantedOf seen looked wanted a → Contains addrs a ↔ IsWantedOf base spoken wanted a
   wanted_of wanted a are = subst (λ (b : Base Addr4 Neighbour). Contains addrs a ↔ IsWantedOf b spoken wanted a) same_base (subst (λ (os : List Addr4). Contains addrs a ↔ IsWantedOf seen os wanted a) same are)

@@ -12,7 +12,7 @@ use Rattle.mesh_atoms.specs.State.{Neighbourhood}
 use Rattle.mesh_atoms.specs.Live.{IsSymmetricAddress}
 use Rattle.mesh_atoms.proofs.Deciding.{Decides-some, Decides-addr, Decides-and}
 use Rattle.mesh_atoms.proofs.Lookups.{addr_equiv}
-use Rattle.mesh_hello.proofs.Lookups.{Contains_at}
+use Rattle.mesh_atoms.proofs.Lists.{contains_at}
 
 module _ (near : Neighbourhood) (distinct : HasDistinctKeys addr_eq near.neighbours) (a : Addr4) where
   IsOf : Addr4 × (Neighbour × ℕ) → Type 0
@@ -35,4 +35,4 @@ module _ (near : Neighbourhood) (distinct : HasDistinctKeys addr_eq near.neighbo
     by_test false is = inr (λ s. (
         let (o, n, until, at, symmetric, has) = s in
         let (k, q, there, test) = place_from_lookup (addr_eq o) near.neighbours (n, until) at in
-        false≢true (sym is ∙ decides.1 ((q, (n, until)), Contains_at near.neighbours k (q, (n, until)) there, (symmetric, (a, has, refl))))))
+        false≢true (sym is ∙ decides.1 ((q, (n, until)), contains_at near.neighbours k (q, (n, until)) there, (symmetric, (a, has, refl))))))

@@ -6,7 +6,6 @@ use Rattle.std.specs.List.{IsDistinct, filter}
 use Rattle.std.proofs.lemmas.Bool.{false≢true}
 use Rattle.std.proofs.lemmas.Cmp.{nat_eq_equiv, on_equiv, and_equiv}
 use Rattle.std.proofs.lemmas.List.{length-map, get_or-map}
-use Rattle.std.proofs.lemmas.List.Elements.{All-filter, All-contains, All-contains_itself, filter_passes}
 use Rattle.std.proofs.lemmas.List.Filters.{length-filter_both}
 use Rattle.std.proofs.lemmas.List.Kept.{AllPairs-filter}
 use Rattle.std.proofs.lemmas.Map.Keys.{IsDistinct-from_apart}
@@ -21,24 +20,20 @@ use Rattle.mesh_atoms.specs.Nodes.{IsBefore}
 use Rattle.mesh_atoms.specs.Sound.{SoundNeighbourhood}
 use Rattle.mesh_atoms.specs.State.{State}
 use Rattle.mesh_atoms.specs.TakesHello.{IsHeld}
-use Rattle.mesh_atoms.proofs.Lookups.{looks_up_neighbours}
-use Rattle.mesh_atoms.proofs.Nets.{net_exact}
+use Rattle.mesh_atoms.proofs.Lookups.{looks_up_neighbours, same_net}
 use Rattle.mesh_hello.proofs.Fits.{distinct_fits}
-use Rattle.mesh_hello.proofs.Places.{map_gives, map_given}
 use Rattle.mesh_hello.proofs.SayingLemmas.RowCounts.{counted, rows_ascend, neighbour_held}
+use Rattle.mesh_atoms.proofs.Lists.{contains_filter_cases, contains_map, contains_map_cases}
 
 -- Lists
 
 net_equiv : IsEquivalence net_eq
 net_equiv = and_equiv (on_equiv (λ (a : NetAddr). a.addr.0) nat_eq_equiv) (on_equiv (λ (a : NetAddr). a.prefix) nat_eq_equiv)
 
-in_filter : {A : Type 0} (p : A → Bool) (xs : List A) (a : A) → Contains (filter p xs) a → Contains xs a × (p a ≡ true)
-in_filter {A} p xs a has = (All-contains (Contains xs) (filter p xs) a (All-filter p (Contains xs) xs (All-contains_itself xs)) has, All-contains (λ (x : A). p x ≡ true) (filter p xs) a (filter_passes p xs) has)
-
 before_apart : (x y : NetAddr) → IsBefore x y → net_eq x y ≡ false
 before_apart x y before = by_test (net_eq x y) refl where
   by_test : (b : Bool) → net_eq x y ≡ b → b ≡ false
-  by_test true is = absurd (by_order (net_exact x y is) before) where
+  by_test true is = absurd (by_order (same_net x y is) before) where
     by_order : x ≡ y → IsBefore x y → ⊥
     by_order e (inl lt) = let f : x.addr.0 ≡ y.addr.0 = ap (λ (n : NetAddr). n.addr.0) e in absurd (omega (arith, f, lt))
     by_order e (inr both) = let f : x.prefix ≡ y.prefix = ap (λ (n : NetAddr). n.prefix) e in absurd (omega (arith, f, both.1))
@@ -85,7 +80,7 @@ row_held s m sound r (Of_network distance c origin routable gateway metric given
 row_attached : (s : State) (r : TcRow) → IsTcRow s r → of_network r ≡ true → Contains (map (λ (a : Attached4). a.net) s.settings.attached) r.dest
 row_attached s r (Of_address a c e origin routable gateway metric given) is = absurd (false≢true (sym (ap (λ g. is_some g) gateway) ∙ is))
 row_attached s r (Of_network distance c origin routable gateway metric given) is =
-    subst (λ (n : NetAddr). Contains (map (λ (a : Attached4). a.net) s.settings.attached) n) given.at_net (map_gives (λ (a : Attached4). a.net) s.settings.attached given.attached given.stands)
+    subst (λ (n : NetAddr). Contains (map (λ (a : Attached4). a.net) s.settings.attached) n) given.at_net (contains_map (λ (a : Attached4). a.net) s.settings.attached given.attached given.stands)
 
 -- a sound router advertises at most 1,088 rows: of 1,024 addresses and 64 networks
 pub tc_rows_few : (s : State) (m : ℕ) (rows : List TcRow) → SoundNeighbourhood s.settings m s.bases.neighbourhood → AreTcRows s rows → length rows ≤ 1088
@@ -94,18 +89,18 @@ tc_rows_few s m rows sound are =
     let nets : List TcRow = filter of_network rows in
     let both = length-filter_both of_network of_address (λ x. refl) rows in
     let addrs : List Addr4 = map (λ (r : TcRow). r.dest.addr) hosts in
-    let whole = λ (r : TcRow) (has : Contains hosts r). let (in', is) = in_filter of_address rows r has in host_row s r ((are.exactly r).0 in') is in
+    let whole = λ (r : TcRow) (has : Contains hosts r). let (in', is) = contains_filter_cases of_address rows r has in host_row s r ((are.exactly r).0 in') is in
     let up = rows_ascend (λ (r : TcRow). r.dest) hosts whole (AllPairs-filter (λ (r t : TcRow). IsBefore r.dest t.dest) of_address rows are.ordered) in
     let held = λ (a : Addr4) (has : Contains addrs a).
-    let (r, in', e) = map_given (λ (r : TcRow). r.dest.addr) hosts a has in
-    let (there, is) = in_filter of_address rows r in' in
+    let (r, in', e) = contains_map_cases (λ (r : TcRow). r.dest.addr) hosts a has in
+    let (there, is) = contains_filter_cases of_address rows r in' in
     subst (λ (x : Addr4). IsHeld s.bases.neighbourhood x) e (row_held s m sound r ((are.exactly r).0 there) is) in
     let few = counted [] addrs (IsHeld s.bases.neighbourhood) 1024 up sound.limit (λ a has. inr (held a has)) in
     let dests : List NetAddr = map (λ (r : TcRow). r.dest) nets in
     let apart = nets_apart nets (AllPairs-filter (λ (r t : TcRow). IsBefore r.dest t.dest) of_network rows are.ordered) in
     let attached = λ (n : NetAddr) (has : Contains dests n).
-    let (r, in', e) = map_given (λ (r : TcRow). r.dest) nets n has in
-    let (there, is) = in_filter of_network rows r in' in
+    let (r, in', e) = contains_map_cases (λ (r : TcRow). r.dest) nets n has in
+    let (there, is) = contains_filter_cases of_network rows r in' in
     subst (λ (x : NetAddr). Contains (map (λ (a : Attached4). a.net) s.settings.attached) x) e (row_attached s r ((are.exactly r).0 there) is) in
-    let fit = distinct_fits net_equiv net_exact dests (map (λ (a : Attached4). a.net) s.settings.attached) apart attached in
+    let fit = distinct_fits net_equiv same_net dests (map (λ (a : Attached4). a.net) s.settings.attached) apart attached in
     omega (arith, both, few, fit, length-map hosts (λ (r : TcRow). r.dest.addr), length-map nets (λ (r : TcRow). r.dest), s.settings.sound.attached)

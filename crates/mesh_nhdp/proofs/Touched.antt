@@ -15,10 +15,13 @@ use Rattle.mesh_atoms.specs.HelloTold.{Told}
 use Rattle.mesh_atoms.specs.AfterHello.{GoesOn, IsTheirs, Matches}
 use Rattle.mesh_atoms.specs.Sound.{SoundNeighbourhood}
 use Rattle.mesh_nhdp.specs.Wanted.{symmetric_at}
-use Rattle.mesh_hello.proofs.Lookups.{Contains_at, some_same, none_not, same_address}
+use Rattle.mesh_hello.proofs.Lookups.{none_not}
 use Rattle.mesh_nhdp.proofs.Composes.{least_metric_iff}
 use Rattle.mesh_nhdp.proofs.HelloSound.{kept_from}
 use Rattle.mesh_nhdp.proofs.SymmetricAddresses.{symmetric_or_not}
+use Rattle.mesh_atoms.proofs.Lists.{contains_at}
+use Rattle.mesh_atoms.proofs.Options.{same_some}
+use Rattle.mesh_atoms.proofs.Values.{same_address}
 
 pub and_same : (a b : Bool) → (IsTrue a → IsTrue b) → a ≡ (a && b)
 and_same true b h = sym (h refl)
@@ -51,13 +54,13 @@ module _ (settings : RouterSettings) (now i : ℕ) (told : Told) (old new : Neig
     its : (p : Addr4) (n : Neighbour) (u : ℕ) (a : Addr4) → neighbour_at old p ≡ Some (n, u) → Contains n.addrs a → Contains e.0.addrs a → (p ≡ o) × ((n, u) ≡ e)
     its p n u a there in_n in_e =
         let same : p ≡ o = S.neighbours_apart p o (n, u) e a there at in_n in_e in
-        (same, some_same (subst (λ (q : Addr4). neighbour_at old q ≡ Some (n, u)) same there) at)
+        (same, same_some (subst (λ (q : Addr4). neighbour_at old q ≡ Some (n, u)) same there) at)
 
     -- a link whose key it has is its own
     its_own : (j : ℕ) (key : LinkKey) (f : Link × ℕ) → link_at old j key ≡ Some f → Contains e.0.addrs key.addr → (a : Addr4) → Contains f.0.addrs a → Contains e.0.addrs a
     its_own j key f there has a in_link =
         let (p, n, u, at_p, all) = S.owner j key f.0 f.1 there in
-        let (same, is) = its p n u key.addr at_p (all key.addr (Contains_at f.0.addrs 0 key.addr (S.link j key f.0 f.1 there).least)) has in
+        let (same, is) = its p n u key.addr at_p (all key.addr (contains_at f.0.addrs 0 key.addr (S.link j key f.0 f.1 there).least)) has in
         subst (λ (x : Neighbour × ℕ). Contains x.0.addrs a) is (all a in_link)
 
     goes_on : (j : ℕ) (key : LinkKey) (f : Link × ℕ) → link_at old j key ≡ Some f → Contains e.0.addrs key.addr → GoesOn old told i j f.0
@@ -113,7 +116,7 @@ module _ (settings : RouterSettings) (now i : ℕ) (told : Told) (old new : Neig
   pub untouched : (j : ℕ) (key : LinkKey) (f : Link × ℕ) → link_at old j key ≡ Some f → (IsTheirs old told key.addr → ⊥) → link_at new j key ≡ link_at old j key
   untouched j key f there not_theirs =
       let (p, n, u, at_p, all) = S.owner j key f.0 f.1 there in
-      let has = all key.addr (Contains_at f.0.addrs 0 key.addr (S.link j key f.0 f.1 there).least) in
+      let has = all key.addr (contains_at f.0.addrs 0 key.addr (S.link j key f.0 f.1 there).least) in
       stands p (n, u) at_p (λ m. not_theirs (p, n, u, at_p, m, has)) j key has
 
   -- Lost addresses: those of the neighbours that the HELLO speaks of alone can change
@@ -133,7 +136,7 @@ module _ (settings : RouterSettings) (now i : ℕ) (told : Told) (old new : Neig
         by_case : (x : Option (Neighbour × ℕ)) → x ≡ Some (n, u) → IsKept (λ e. Matches told.originator told.listed o e.0 → ⊥) x (neighbour_at new o) → ⊥
         by_case None is k = none_not refl is
         by_case (Some e) is (inl k) = not (o, n, u, k.1 ∙ is, symmetric, has)
-        by_case (Some e) is (inr k) = k.0 (λ m. was_theirs (o, n, u, at, (symmetric, subst (λ (x : Neighbour × ℕ). Matches told.originator told.listed o x.0) (some_same refl is) m), has))
+        by_case (Some e) is (inr k) = k.0 (λ m. was_theirs (o, n, u, at, (symmetric, subst (λ (x : Neighbour × ℕ). Matches told.originator told.listed o x.0) (same_some refl is) m), has))
 
     no_lost : (a : Addr4) (n : Neighbour) (p : Addr4) (u : ℕ) → p ≢ told.originator → neighbour_at new p ≡ Some (n, u) → IsTrue n.symmetric → Contains n.addrs a → lost_at old a ≡ None
     no_lost a n p u other at symmetric has = by_case (lost_at old a) refl where

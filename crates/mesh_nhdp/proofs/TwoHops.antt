@@ -11,6 +11,7 @@ use Rattle.mesh_atoms.specs.Words.{IsKept}
 use Rattle.mesh_atoms.proofs.Lookups.{same_link, link_equiv}
 use Rattle.mesh_nbrs.specs.TwoHops.TwoHops.{DropsLink}
 use Rattle.mesh_nhdp.specs.Calls.{TellsKeys, is_symmetric_in, DropsEnded}
+use Rattle.mesh_atoms.proofs.Options.{cond_true as on_true}
 
 pub link_eq_same : (a b : LinkKey) → a ≡ b → link_eq a b ≡ true
 link_eq_same a b e = subst (λ (c : LinkKey). link_eq a c ≡ true) e (link_equiv.refl a)
@@ -21,10 +22,6 @@ link_eq_other a b other = by_case (link_eq a b) refl
     by_case : (c : Bool) → link_eq a b ≡ c → link_eq a b ≡ false
     by_case true is = absurd (other (same_link a b is))
     by_case false is = is
-
-pub on_true : {A : Type 0} (b : Bool) (x y : A) → b ≡ true → cond b x y ≡ x
-on_true true x y e = refl
-on_true false x y e = absurd (false≢true e)
 
 pub on_false : {A : Type 0} (b : Bool) (x y : A) → b ≡ false → cond b x y ≡ y
 on_false true x y e = absurd (false≢true (sym e))

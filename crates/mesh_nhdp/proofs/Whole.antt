@@ -26,10 +26,11 @@ use Rattle.mesh_nbrs.specs.Losts.{SettlesAll}
 use Rattle.mesh_nbrs.specs.TwoHops.TwoHops.{DropsLink}
 use Rattle.mesh_nhdp.specs.Calls.{key_at, TellsLinks, TellsLinksOf, TellsKeys, DropsEnded, TellsTwoHops}
 use Rattle.mesh_nhdp.specs.Wanted.{symmetric_at}
-use Rattle.mesh_hello.proofs.Lookups.{live_from, some_same, contains_or_not}
+use Rattle.mesh_hello.proofs.Lookups.{live_from, contains_or_not}
 use Rattle.mesh_nhdp.proofs.Composes.{restores_by, restores_of, settles_by, goes_on_elsewhere, goes_on_here, hears_link, replaced_one, replaced_other}
 use Rattle.mesh_nhdp.proofs.Touched.{IsTheirSymmetric, rests, untouched, settles}
-use Rattle.mesh_nhdp.proofs.TwoHops.{dropped_here, dropped_elsewhere, left_by_ends, left_by_keys, on_true, on_false}
+use Rattle.mesh_nhdp.proofs.TwoHops.{dropped_here, dropped_elsewhere, left_by_ends, left_by_keys, on_false}
+use Rattle.mesh_atoms.proofs.Options.{same_some, cond_true as on_true}
 
 entry_there : (now : ℕ) (o : Option (Link × ℕ)) → is_symmetric_entry now o ≡ true → (e : Link × ℕ) × (o ≡ Some e)
 entry_there now None h = absurd (false≢true h)
@@ -195,7 +196,7 @@ module _ (settings : RouterSettings) (now i : ℕ) (told : Told) (hello : Hello)
   kept o other = subst (λ (x : Option (Neighbour × ℕ)). IsKept (λ e. Matches told.originator told.listed o e.0 → ⊥) (neighbour_at old o) x) (sym (R.others o other)) (R.replaces.others o other)
 
   announced_addrs : (e : Neighbour × ℕ) → find addr_eq R.replaced told.originator ≡ Some e → e.0.addrs ≡ told.listed
-  announced_addrs e at = ap (λ (x : Neighbour × ℕ). x.0.addrs) (some_same at R.replaces.one)
+  announced_addrs e at = ap (λ (x : Neighbour × ℕ). x.0.addrs) (same_some at R.replaces.one)
 
   -- they are the neighbourhood after the HELLO
   pub hello_by_calls : AfterHello settings now i told hello old new

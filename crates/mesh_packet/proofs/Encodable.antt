@@ -37,7 +37,7 @@ front_octets s a b h e = octets_front a b (subst AreOctets e h)
 pub back_octets : (s a b : List ℕ) → AreOctets s → s ≡ a ++ b → AreOctets b
 back_octets s a b h e = octets_back a b (subst AreOctets e h)
 
-all_of : (s : List ℕ) → slice_range s 0 (length s) ≡ s
+pub all_of : (s : List ℕ) → slice_range s 0 (length s) ≡ s
 all_of s = take_all (length s - 0) s (omega arith)
 
 items_encodable : {A : Type 0} (P : A → Type 0) (Says : A → List ℕ → Type 0) → ((x : A) (text : List ℕ) → AreOctets text → Says x text → P x) → (xs : List A) (text : List ℕ) → AreOctets text → SpellsItems Says xs text → All P xs

@@ -10,6 +10,7 @@ use Rattle.mesh_addr.specs.Grammar.{IsWritable}
 use Rattle.mesh_addr.specs.Least.{IsLeast}
 use Rattle.mesh_addr.specs.Spelling.{tail_len, last_octets, ShareHead, ShareTail, TailFits, IsPossible, weight, text_of, form_of}
 use Rattle.mesh_addr.proofs.Fewest.{least_of_first}
+use Rattle.mesh_atoms.proofs.Lists.{heads_equal, tails_equal}
 
 -- ---- what can be decided
 
@@ -36,15 +37,9 @@ number_decided m n = by (eqb m n) refl where
 no_front : (x : ℕ) (xs : List ℕ) → x ∷ xs ≡ [] → ⊥
 no_front x xs e = absurd (omega (arith, ap length e))
 
-heads_same : (x y : ℕ) (xs ys : List ℕ) → x ∷ xs ≡ y ∷ ys → x ≡ y
-heads_same x y xs ys e = cc
-
-tails_same : (x y : ℕ) (xs ys : List ℕ) → x ∷ xs ≡ y ∷ ys → xs ≡ ys
-tails_same x y xs ys e = cc
-
 cons_decided : (x y : ℕ) (xs ys : List ℕ) → Decided ((x ≡ y) × (xs ≡ ys)) → Decided (x ∷ xs ≡ y ∷ ys)
 cons_decided x y xs ys (inl h) = inl (rw (h.0, h.1) refl)
-cons_decided x y xs ys (inr n) = inr (λ e. n (heads_same x y xs ys e, tails_same x y xs ys e))
+cons_decided x y xs ys (inr n) = inr (λ e. n (heads_equal x y xs ys e, tails_equal x y xs ys e))
 
 list_decided : (xs ys : List ℕ) → Decided (xs ≡ ys)
 list_decided [] [] = inl refl

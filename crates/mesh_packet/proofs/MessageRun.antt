@@ -1,18 +1,18 @@
 -- Messages one after the other, as the loop over them reads them, with where each stands.
-use Rattle.std.proofs.Common.{◌≡◌, ℕ, ◌+◌, ◌-◌, ◌<◌, ◌≤◌, eqb, true, List, [], ◌∷◌, ◌++◌, length, map, Result, Ok, refl, sym, ap, ◌∙◌, arith, length-append}
+use Rattle.std.proofs.Common.{◌≡◌, ℕ, ◌+◌, ◌-◌, ◌<◌, ◌≤◌, eqb, true, List, [], ◌∷◌, ◌++◌, length, map, Ok, refl, sym, ap, ◌∙◌, arith, length-append}
 use Rattle.std.specs.List.{zip}
 use Rattle.std.proofs.lemmas.List.{map_push}
 use native.Mathlib.Nat.{sub-zero}
-use Rattle.mesh_atoms.specs.declared.refusal.Refusal.{Refusal}
 use Rattle.mesh_atoms.specs.declared.refusal.DecodeFault.{DecodeFault}
 use Rattle.mesh_atoms.specs.declared.refusal.DecodeFault.TheVariants as faults
-use Rattle.mesh_atoms.specs.Reading.{◌>>=◌, Fails}
+use Rattle.mesh_atoms.specs.Reading.{Fails}
 use Rattle.mesh_tlv.specs.Items.{items_at}
 use Rattle.mesh_tlv.proofs.Loop.{with_front, none_before, goes_on, fails, is_done, is_at_end}
 use Rattle.mesh_packet.specs.declared.packet.Span.{Span}
 use Rattle.mesh_packet.specs.Fields.{MessageFields}
 use Rattle.mesh_packet.specs.Reading.{message_at, sized_at, spans_from, messages_at}
 use Rattle.mesh_packet.proofs.Sizes.{zip_push, zip_firsts, zip_seconds, spans_push, total, total_push}
+use Rattle.mesh_atoms.proofs.Given.{fails_on}
 
 abbrev pub sizes : List Span → List ℕ
 sizes spans = map (λ (s : Span). s.len) spans
@@ -35,10 +35,6 @@ nothing_yet frame at end = record {
   in_row = refl;
   reached = omega arith;
 }
-
-fails_on : {A B : Type 0} (read : Result A Refusal) (f : A → Result B Refusal) (fault : DecodeFault) → Fails fault read → Fails fault (read >>= f)
-fails_on read f (faults.Memory e) h = tt
-fails_on read f (faults.Refused e) h = rw h refl
 
 module _ (frame : List ℕ) (at end turns : ℕ) (messages : List MessageFields) (spans : List Span) (place : ℕ) (h : SoFar frame at end turns messages spans place) where
   pub one_more : turns < end - at → (place ≡ end → ⊥) → (message : MessageFields) (after : ℕ) → message_at frame place end ≡ Ok (message, after) → place ≤ after → SoFar frame at end (turns + 1) (messages ++ message ∷ []) (spans ++ record { start = place; len = after - place } ∷ []) after

@@ -1,7 +1,7 @@
 -- Messages: read, spelled and refused as their parts are.
 use Rattle.std.proofs.Common.{◌≡◌, ℕ, ◌+◌, ◌-◌, ◌<◌, ◌≤◌, ltb, ◌||◌, true, false, Bool, List, [], ◌∷◌, ◌++◌, length, Ok, refl, sym, ap, subst, ◌∙◌, arith, append_assoc, inl, inr, ◌⊎◌}
 use Rattle.std.specs.Prelude.{MatchResult, slice_range}
-use Rattle.std.proofs.lemmas.Bool.{ltb-false, ltb-true, le-ltb, lt-ltb}
+use Rattle.std.proofs.lemmas.Bool.{ltb-false, ltb-true, le-ltb, lt-ltb, or_cases as either, or_parts as neither}
 use Rattle.std.proofs.lemmas.List.{length-append}
 use Rattle.mesh_atoms.specs.declared.refusal.Refusal.{Refusal}
 use Rattle.mesh_atoms.specs.Grammar.{SpellsShort}
@@ -13,14 +13,6 @@ use Rattle.mesh_packet.specs.Fields.{MessageFields}
 use Rattle.mesh_packet.specs.Grammar.{SpellsMessage, SpellsBody, MessageFault, BodyFault, flags_cut, size_cut, size_wrong, in_body}
 use Rattle.mesh_packet.specs.Reading.{body_at, message_at}
 use Rattle.mesh_packet.proofs.Bodies.{BodyTook, body_takes, body_again, body_fault}
-
-either : (a b : Bool) → a || b ≡ true → (a ≡ true) ⊎ (b ≡ true)
-either true b e = inl refl
-either false b e = inr e
-
-neither : (a b : Bool) → a || b ≡ false → (a ≡ false) × (b ≡ false)
-neither true b e = absurd cc
-neither false b e = (refl, e)
 
 or_is : (a b : Bool) → (a ≡ true) ⊎ (b ≡ true) → a || b ≡ true
 or_is true b h = refl

@@ -2,7 +2,6 @@
 use Rattle.std.proofs.Common.{◌≡◌, ℕ, ◌+◌, ◌-◌, ◌/◌, ◌<◌, ◌≤◌, Bool, true, false, eqb, List, [], ◌∷◌, ◌++◌, length, map, Ok, Err, refl, sym, ap, subst, ◌∙◌, arith, append_assoc}
 use Rattle.std.specs.Prelude.{MatchResult, slice_range}
 use Rattle.std.proofs.lemmas.Bool.{eqb-true, eqb-false, ne_eqb}
-use Rattle.std.proofs.lemmas.List.{take_all}
 use Rattle.mesh_atoms.specs.declared.refusal.Refusal.{Refusal}
 use Rattle.mesh_atoms.specs.Reading.{◌>>=◌, Reading, refuse, has, octet_at}
 use Rattle.mesh_atoms.proofs.Reading.{meets_bind, meets_if, Takes, takes_range, Stands, stands_next, behind, octet_takes, octet_again}
@@ -20,9 +19,7 @@ use Rattle.mesh_packet.specs.Grammar.{SpellsNumber, SpellsMessage, SpellsMessage
 use Rattle.mesh_packet.specs.Reading.{short_if, message_at, sized_at, spans_from, messages_at, flags_at, header_tlvs_at, packet_of}
 use Rattle.mesh_packet.proofs.Fields.{Took, IsCut, number_field}
 use Rattle.mesh_packet.proofs.Messages.{message_reader}
-
-whole_frame : (s : List ℕ) → slice_range s 0 (length s) ≡ s
-whole_frame s = take_all (length s - 0) s (omega arith)
+use Rattle.mesh_packet.proofs.Encodable.{all_of}
 
 -- ---- messages beside their sizes
 
@@ -98,7 +95,7 @@ FlagsTook s x = (x.0 < 16) × Takes s 0 (x.0 ∷ []) x.1 (length s)
 flags_take : (s : List ℕ) → MatchResult (flags_at s (length s)) (FlagsTook s) (IsFault s)
 unfolding flags_at
 flags_take s =
-    let all = whole_frame s in
+    let all = all_of s in
     meets_bind (octet_at 1 s 0 (length s)) _ (λ x. Takes s 0 (x.0 ∷ []) x.1 (length s)) (FlagsTook s) (λ e. (e ≡ record { place = 0; reason = 1 }) × (slice_range s 0 (length s) ≡ [])) (IsFault s) (octet_takes 1 s 0 (length s) (omega arith))
     (λ e h. subst (λ (r : Refusal). grammar.FirstFault s r.place r.reason) (sym h.0) (no_octet (sym all ∙ h.1)))
     (λ x t. meets_if (eqb (x.0 / 16) 0) _ _ (FlagsTook s) (IsFault s)
@@ -124,7 +121,7 @@ packet_takes s =
     let P = IsSpelled s in
     let Q = IsFault s in
     let end : ℕ = length s in
-    let all = whole_frame s in
+    let all = all_of s in
     meets_bind (flags_at s end) _ (FlagsTook s) P Q Q (flags_take s) (λ e h. h) (λ flags t0.
     let one : flags.1 ≡ 1 = omega (arith, t0.1.len) in
     let begun : s ≡ flags.0 ∷ slice_range s flags.1 end = sym all ∙ t0.1.parts in
@@ -171,7 +168,7 @@ flags_again : (s : List ℕ) (flags : ℕ) (rest : List ℕ) → s ≡ flags ∷
 unfolding flags_at
 flags_again s flags rest e lt =
     let one : 0 + 1 ≡ 1 = omega arith in
-    rw (octet_again 1 s 0 (length s) flags rest (omega arith) (whole_frame s ∙ e), small flags lt) refl
+    rw (octet_again 1 s 0 (length s) flags rest (omega arith) (all_of s ∙ e), small flags lt) refl
 
 header_again : (set : Bool) (s : List ℕ) (at : ℕ) (tlvs : List TlvFields) (text rest : List ℕ) → Stands s at text rest (length s) → SpellsHeaderTlvs set tlvs text → header_tlvs_at set s at (length s) ≡ Ok (tlvs, at + length text)
 unfolding header_tlvs_at
@@ -181,7 +178,7 @@ header_again false s at tlvs text rest stands h = let z : at ≡ at + length tex
 -- what stands behind the octet with the flags, up to the end
 pub first_stands : (s : List ℕ) (flags : ℕ) (sequence rest : List ℕ) → s ≡ flags ∷ (sequence ++ rest) → Stands s 1 sequence rest (length s)
 first_stands s flags sequence rest e =
-    let all : Stands s 0 ((flags ∷ []) ++ sequence) rest (length s) = record { parts = whole_frame s ∙ e; at_end = omega arith; fits = omega arith } in
+    let all : Stands s 0 ((flags ∷ []) ++ sequence) rest (length s) = record { parts = all_of s ∙ e; at_end = omega arith; fits = omega arith } in
     stands_next s 0 (flags ∷ []) sequence rest (length s) all
 
 pub packet_again : (s : List ℕ) (p : PacketFields) (spans : List Span) → Spells p spans s → packet_of s ≡ Ok (p, spans)
@@ -207,7 +204,7 @@ pub packet_fault : (s : List ℕ) (place reason : ℕ) → grammar.FirstFault s 
 unfolding packet_of flags_at header_tlvs_at messages_at
 packet_fault s place reason (no_octet e) = rw e refl
 packet_fault s place reason (version flags rest e le) =
-    rw (octet_again 1 s 0 (length s) flags rest (omega arith) (whole_frame s ∙ e), ne_eqb (flags / 16) 0 (λ z. absurd (omega (arith, z, le)))) refl
+    rw (octet_again 1 s 0 (length s) flags rest (omega arith) (all_of s ∙ e), ne_eqb (flags / 16) 0 (λ z. absurd (omega (arith, z, le)))) refl
 packet_fault s place reason (number_cut flags rest e lt is cut) =
     let stands = first_stands s flags [] rest e in
     let short : length (slice_range s 1 (length s)) < size_if (has flags 8) 2 = subst (λ (b : Bool). length (slice_range s 1 (length s)) < size_if b 2) (sym is) (subst (λ (l : List ℕ). length l < 2) (sym stands.parts) cut) in

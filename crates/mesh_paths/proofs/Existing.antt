@@ -13,8 +13,9 @@ use Rattle.mesh_paths.proofs.Order.{as_good_itself, no_dearer}
 use Rattle.mesh_paths.proofs.RoundsLaw.{sums_less}
 use Rattle.mesh_paths.proofs.Rows.{move_offer}
 use Rattle.mesh_paths.proofs.SearchLaw.{offers_more, meets_more}
-use Rattle.mesh_paths.proofs.ShortLists.{here, only}
+use Rattle.mesh_paths.proofs.ShortLists.{only}
 use Rattle.mesh_paths.proofs.TreeLaw.{certificate_of_tree}
+use Rattle.mesh_atoms.proofs.Lists.{contains_head as here}
 
 -- 1 for a node that has no row
 abbrev missing_of : {P Q : Type 0} → P ⊎ Q → ℕ

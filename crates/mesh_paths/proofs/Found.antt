@@ -18,19 +18,20 @@ use Rattle.mesh_paths.specs.Paths.{HasCosts, IsAscending, IsCertificate}
 use Rattle.mesh_paths.specs.Tree.{OffersBy, Offers, MeetsBy, Meets, IsTree}
 use Rattle.mesh_paths.specs.Search.{IsSettledRow, IsKeyed}
 use Rattle.mesh_paths.proofs.Rows.{move_offer}
-use Rattle.mesh_paths.proofs.SearchLaw.{in_tail, head_or_tail, offers_more, meets_more}
+use Rattle.mesh_paths.proofs.SearchLaw.{offers_more, meets_more}
 use Rattle.mesh_paths.proofs.TreeLaw.{certificate_of_tree}
+use Rattle.mesh_atoms.proofs.Lists.{contains_tail as in_tail, contains_cases}
 
 value_in : (es : List (NetAddr × PathRow)) (q : NetAddr) (r : PathRow) → Contains es (q, r) → Contains (values_of es) r
 value_in [] q r has = absurd (omega (arith, has.1))
-value_in (e ∷ es) q r has = elim (head_or_tail e es (q, r) has) [
+value_in (e ∷ es) q r has = elim (contains_cases e es (q, r) has) [
   | inl same ↦ (0, omega arith, ap (λ (x : NetAddr × PathRow). x.1) same)
   | inr later ↦ in_tail e.1 (values_of es) r (value_in es q r later)
 ]
 
 key_of : (es : List (NetAddr × PathRow)) (r : PathRow) → Contains (values_of es) r → (q : NetAddr) × Contains es (q, r)
 key_of [] r has = absurd (omega (arith, has.1))
-key_of (e ∷ es) r has = elim (head_or_tail e.1 (values_of es) r has) [
+key_of (e ∷ es) r has = elim (contains_cases e.1 (values_of es) r has) [
   | inl same ↦ (e.0, (0, omega arith, ap (λ (x : PathRow). (e.0, x)) same))
   | inr later ↦ let (q, found) = key_of es r later in (q, in_tail e es (q, r) found)
 ]

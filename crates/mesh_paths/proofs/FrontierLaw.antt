@@ -13,11 +13,12 @@ use Rattle.mesh_paths.specs.Tree.{IsAsGood, MeetsBy}
 use Rattle.mesh_paths.specs.Search.{number_of, IsIndex, IsPart, Puts, Settles, IsSettledRow, row_of, step_of}
 use Rattle.mesh_paths.specs.Rounds.{RowMap, IsMetIn, Betters, IsOfferBy, IsInRange, IsRounds}
 use Rattle.mesh_paths.specs.Frontier.{IsMetOrWaits, IsSearch, IsTaking, OffersAll, offered, Offers, work_in}
-use Rattle.mesh_paths.proofs.Order.{same_node, at_most_itself, at_most_of_before, as_good_trans}
+use Rattle.mesh_paths.proofs.Order.{same_node, at_most_of_before, as_good_trans}
 use Rattle.mesh_paths.proofs.Index.{in_run}
 use Rattle.mesh_paths.proofs.Rows.{of_each}
-use Rattle.mesh_paths.proofs.SearchLaw.{head_or_tail}
 use Rattle.mesh_paths.proofs.RoundsLaw.{settled_at, lighter_in, rounds_new, met_already}
+use Rattle.mesh_atoms.proofs.Values.{at_most_itself}
+use Rattle.mesh_atoms.proofs.Lists.{contains_cases}
 
 -- a node has one row
 one_row : (map : RowMap) (r t : PathRow) → IsSettledRow map r → IsSettledRow map t → r.node ≡ t.node → r ≡ t
@@ -38,7 +39,7 @@ as_good_still row q metric parent better good =
     as_good_trans row q metric parent no_worse good
 
 one_done : (arc : Arc4) (map : RowMap) (steps : List Step) → IsMetOrWaits map steps arc → (a : Arc4) → Contains (arc ∷ []) a → IsMetOrWaits map steps a
-one_done arc map steps state a has = elim (head_or_tail arc [] a has) [
+one_done arc map steps state a has = elim (contains_cases arc [] a has) [
   | inl same ↦ subst (λ (x : Arc4). IsMetOrWaits map steps x) same state
   | inr later ↦ absurd (omega (arith, later.1))
 ]
@@ -139,7 +140,7 @@ taken map arcs from all rest s first popped found now = record { rounds = now.ro
     others : (a : Arc4) → Contains arcs a → a.from ≢ first.node → IsMetOrWaits map rest a
     others a there off = elim (now.each a there) [
       | inl met ↦ inl met
-      | inr (r, has, at, waits) ↦ elim (head_or_tail s rest (step_of r) (subst (λ (x : List Step). Contains x (step_of r)) popped waits)) [
+      | inr (r, has, at, waits) ↦ elim (contains_cases s rest (step_of r) (subst (λ (x : List Step). Contains x (step_of r)) popped waits)) [
         | inl same ↦ absurd (off (sym at ∙ sym (ap (λ (x : Step). x.node) same) ∙ sym (now.rounds.keyed s.node first found)))
         | inr later ↦ inr (r, has, at, later)
       ]
@@ -152,7 +153,7 @@ passed map arcs from all rest s popped stale now = record { rounds = now.rounds;
     each : (a : Arc4) → Contains arcs a → IsMetOrWaits map rest a
     each a there = elim (now.each a there) [
       | inl met ↦ inl met
-      | inr (r, has, at, waits) ↦ elim (head_or_tail s rest (step_of r) (subst (λ (x : List Step). Contains x (step_of r)) popped waits)) [
+      | inr (r, has, at, waits) ↦ elim (contains_cases s rest (step_of r) (subst (λ (x : List Step). Contains x (step_of r)) popped waits)) [
         | inl same ↦ absurd (stale (subst (λ (x : Step). tree.get net_cmp map x.node ≡ Some (row_of x)) (sym same) has))
         | inr later ↦ inr (r, has, at, later)
       ]

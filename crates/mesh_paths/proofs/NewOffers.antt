@@ -7,10 +7,10 @@ use Rattle.mesh_atoms.specs.declared.graphs.PathRow.{PathRow}
 use Rattle.mesh_paths.specs.Paths.{IsAscending}
 use Rattle.mesh_paths.specs.Search.{Settles}
 use Rattle.mesh_paths.specs.Tree.{IsAsGood}
-use Rattle.mesh_paths.proofs.Order.{same_node, before_trans, at_most_itself, at_most_or_before, at_most_both, as_good_trans, one_as_good}
+use Rattle.mesh_paths.proofs.Order.{same_node, at_most_or_before, at_most_both, as_good_trans, one_as_good}
 use Rattle.mesh_paths.proofs.Order.{single, tail_ascends, head_before, ascends_cons}
-use Rattle.mesh_paths.proofs.SearchLaw.{in_tail, head_or_tail}
-use Rattle.mesh_paths.proofs.ShortLists.{none_of, here}
+use Rattle.mesh_atoms.proofs.Values.{before_trans, at_most_itself}
+use Rattle.mesh_atoms.proofs.Lists.{contains_tail as in_tail, contains_cases, contains_none as none_of, contains_head as here}
 
 -- Rows at their nodes
 
@@ -28,7 +28,7 @@ row_or_none (r ∷ rows) node = elim (same_node r.node node) [
   | inl same ↦ inl (r, here r rows, same)
   | inr off ↦ elim (row_or_none rows node) [
     | inl (t, has, at) ↦ inl (t, in_tail r rows t has, at)
-    | inr none ↦ inr (λ t has at. elim (head_or_tail r rows t has) [
+    | inr none ↦ inr (λ t has at. elim (contains_cases r rows t has) [
       | inl first ↦ off (ap (λ (x : PathRow). x.node) first ∙ at)
       | inr later ↦ none t later at
     ])
@@ -72,14 +72,14 @@ module _ (rows : List PathRow) (up : IsAscending rows) where
   of_one arc = elim (row_or_none rows arc.from) [
     | inr none ↦ inr (λ row new.
         let (a, there, (f, has, begins, _, _, _)) = new.0 in
-        elim (head_or_tail arc [] a there) [
+        elim (contains_cases arc [] a there) [
           | inl same ↦ none f has (sym begins ∙ sym (ap (λ (x : Arc4). x.from) same))
           | inr later ↦ none_of a later
         ])
     | inl (first, has, at) ↦ elim (row_or_none rows arc.to) [
       | inl (row, has', at') ↦ inr (λ other new.
           let (a, there, (f, has_f, begins, ends, _, _)) = new.0 in
-          elim (head_or_tail arc [] a there) [
+          elim (contains_cases arc [] a there) [
             | inl same ↦ new.1 row has' (at' ∙ ap (λ (x : Arc4). x.to) same ∙ ends)
             | inr later ↦ none_of a later
           ])
@@ -91,7 +91,7 @@ module _ (rows : List PathRow) (up : IsAscending rows) where
               ((arc, here arc [], (first, has, sym at, refl, refl, refl)), none),
               λ other new.
                   let (a, there, by) = new.0 in
-                  elim (head_or_tail arc [] a there) [
+                  elim (contains_cases arc [] a there) [
                     | inl same ↦ offer_by arc first other has at (subst (λ (x : Arc4). LeadsBy rows x other) (sym same) by)
                     | inr later ↦ absurd (none_of a later)
                   ],
@@ -102,13 +102,13 @@ module _ (rows : List PathRow) (up : IsAscending rows) where
 
   -- an offer is that of the first arc, or of the others
   split : (arc : Arc4) (arcs : List Arc4) (row : PathRow) → IsNew (arc ∷ arcs) rows row → IsNew (arc ∷ []) rows row ⊎ IsNew arcs rows row
-  split arc arcs row ((a, there, by), none) = elim (head_or_tail arc arcs a there) [
+  split arc arcs row ((a, there, by), none) = elim (contains_cases arc arcs a there) [
     | inl same ↦ inl ((a, (0, omega arith, same), by), none)
     | inr later ↦ inr ((a, later, by), none)
   ]
 
   of_first : (arc : Arc4) (arcs : List Arc4) (row : PathRow) → IsNew (arc ∷ []) rows row → IsNew (arc ∷ arcs) rows row
-  of_first arc arcs row ((a, there, by), none) = elim (head_or_tail arc [] a there) [
+  of_first arc arcs row ((a, there, by), none) = elim (contains_cases arc [] a there) [
     | inl same ↦ ((a, (0, omega arith, same), by), none)
     | inr later ↦ absurd (none_of a later)
   ]
@@ -172,18 +172,18 @@ module _ (rows : List PathRow) (up : IsAscending rows) where
 
 -- a row goes in before all others
 put_first : (x : PathRow) (rows : List PathRow) → Settles (Contains rows) x (Contains (x ∷ rows))
-put_first x rows = record { new = here x rows; kept = λ r has. in_tail x rows r has; cases = λ r has. head_or_tail x rows r has }
+put_first x rows = record { new = here x rows; kept = λ r has. in_tail x rows r has; cases = λ r has. contains_cases x rows r has }
 
 -- a row goes in behind the first
 put_behind : (r x : PathRow) (rows more : List PathRow) → Settles (Contains rows) x (Contains more) →
     Settles (Contains (r ∷ rows)) x (Contains (r ∷ more))
 put_behind r x rows more settles = record {
   new = in_tail r more x settles.new;
-  kept = λ t has. elim (head_or_tail r rows t has) [
+  kept = λ t has. elim (contains_cases r rows t has) [
     | inl same ↦ (0, omega arith, same)
     | inr later ↦ in_tail r more t (settles.kept t later)
   ];
-  cases = λ t has. elim (head_or_tail r more t has) [
+  cases = λ t has. elim (contains_cases r more t has) [
     | inl same ↦ inr (0, omega arith, same)
     | inr later ↦ elim (settles.cases t later) [
       | inl same ↦ inl same
@@ -200,7 +200,7 @@ put_in x (r ∷ rows) up none = elim (at_most_or_before x.node r.node) [
   | inl at_most ↦ elim (at_most_or_before r.node x.node) [
     | inl also ↦ absurd (none r (here r rows) (at_most_both r.node x.node also at_most))
     | inr before ↦
-        let later : (y : PathRow) → Contains (r ∷ rows) y → IsBefore x.node y.node = λ y has. elim (head_or_tail r rows y has) [
+        let later : (y : PathRow) → Contains (r ∷ rows) y → IsBefore x.node y.node = λ y has. elim (contains_cases r rows y has) [
           | inl same ↦ subst (λ (z : PathRow). IsBefore x.node z.node) same before
           | inr behind ↦ before_trans x.node r.node y.node before (head_before r rows up y behind)
         ] in

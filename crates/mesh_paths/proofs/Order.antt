@@ -11,6 +11,7 @@ use Rattle.mesh_atoms.specs.declared.graphs.PathRow.{PathRow}
 use Rattle.mesh_atoms.proofs.Nets.{same_net}
 use Rattle.mesh_paths.specs.Paths.{IsAscending}
 use Rattle.mesh_paths.specs.Tree.{IsAsGood}
+use Rattle.mesh_atoms.proofs.Values.{before_trans, not_before_itself, at_most_itself}
 
 -- Nodes
 
@@ -21,18 +22,6 @@ same_node a b = elim (cases_eq a.addr.0 b.addr.0) [
     | inr other ↦ inr (λ g. other (ap (λ (c : NetAddr). c.prefix) g))
   ]
   | inr other ↦ inr (λ g. other (ap (λ (c : NetAddr). c.addr.0) g))
-]
-
-pub before_trans : (a b c : NetAddr) → IsBefore a b → IsBefore b c → IsBefore a c
-before_trans a b c f g = elim f [
-  | inl x ↦ elim g [
-    | inl y ↦ inl (omega arith)
-    | inr (e, y) ↦ inl (omega arith)
-  ]
-  | inr (d, x) ↦ elim g [
-    | inl y ↦ inl (omega arith)
-    | inr (e, y) ↦ inr (omega arith, omega arith)
-  ]
 ]
 
 pub at_most_or_before : (a b : NetAddr) → IsAtMost a b ⊎ IsBefore b a
@@ -61,20 +50,6 @@ at_most_trans a b c f g = elim f [
     | inr (e, y) ↦ inr (omega arith, omega arith)
   ]
 ]
-
-pub not_before_itself : (a b : NetAddr) → a ≡ b → IsBefore a b → ⊥
-not_before_itself a b e f =
-    let number : a.addr.0 ≡ b.addr.0 = ap (λ (c : NetAddr). c.addr.0) e in
-    let prefix : a.prefix ≡ b.prefix = ap (λ (c : NetAddr). c.prefix) e in
-    elim f [
-      | inl x ↦ omega arith
-      | inr (_, y) ↦ omega arith
-    ]
-
-pub at_most_itself : (a b : NetAddr) → a ≡ b → IsAtMost a b
-at_most_itself a b e =
-    let prefix : a.prefix ≡ b.prefix = ap (λ (c : NetAddr). c.prefix) e in
-    inr (ap (λ (c : NetAddr). c.addr.0) e, omega arith)
 
 pub at_most_both : (a b : NetAddr) → IsAtMost a b → IsAtMost b a → a ≡ b
 at_most_both a b f g = elim f [

@@ -2,7 +2,7 @@
 use Rattle.std.proofs.Common.{◌≡◌, ℕ, zero, suc, ◌+◌, ◌<◌, ◌≤◌, ◌⊎◌, inl, inr, refl, sym, ◌∙◌, ap, subst, arith, Bool, true, false, cond, Decides, List, [], ◌∷◌, map, filter, length, Contains, slice_get, slice_index, slice_index_or, slice_set, get_or-set_same, get_or-set_other, Some}
 use Rattle.std.specs.Prelude.{not}
 use Rattle.std.specs.List.{AllWithin, list_any, range_with_len, sum}
-use Rattle.std.proofs.lemmas.Bool.{cases_eq}
+use Rattle.std.proofs.lemmas.Bool.{cases_eq, and_parts}
 use Rattle.std.proofs.lemmas.List.{length-set}
 use Rattle.std.proofs.lemmas.List.Elements.{AllWithin-more, at_read}
 use Rattle.std.proofs.lemmas.List.FromFn.{get_or-range_with_len, length-range_with_len}
@@ -21,9 +21,9 @@ use Rattle.mesh_paths.proofs.Admitted.{joins_back, admitted_arc, admits_arc}
 use Rattle.mesh_paths.specs.Parts.{pair_of, is_admitted, leads_back, leads_home, is_met, is_joined, Chain, IsInside, IsLevel, IsParts, Lowers, Goes}
 use Rattle.mesh_paths.specs.Parts.Chain.{Start, On}
 use Rattle.mesh_paths.proofs.Rows.{item_in}
-use Rattle.mesh_paths.proofs.Scenarios.{both_true, not_both, contains_cases, any_of, contains_map, ends_of, same_ends, sound_scenario}
-use Rattle.mesh_paths.proofs.SettledDecisions.{Contains_at}
-use Rattle.mesh_paths.proofs.ShortLists.{none_of, none_some}
+use Rattle.mesh_paths.proofs.Scenarios.{not_both, any_of, ends_of, same_ends, sound_scenario}
+use Rattle.mesh_paths.proofs.ShortLists.{none_some}
+use Rattle.mesh_atoms.proofs.Lists.{contains_filter as picked, contains_cases, contains_map, contains_at, contains_none as none_of}
 
 -- Joined routers
 
@@ -62,27 +62,14 @@ picked_from f q (x ∷ xs) y c = elim (picked_by f (q x) x (filter q xs) y c) [
   | inr more ↦ (let (a, (k, l, at), passes, e) = picked_from f q xs y more in (a, (suc k, omega (arith, l), at), passes, e))
 ]
 
-picked_more : {A : Type 0} (b : Bool) (x a : A) (rest : List A) → Contains rest a → Contains (cond b (x ∷ rest) rest) a
-picked_more true x a rest (k, l, at) = (suc k, omega (arith, l), at)
-picked_more false x a rest c = c
-
-picked : {A : Type 0} (q : A → Bool) (xs : List A) (a : A) → Contains xs a → q a ≡ true → Contains (filter q xs) a
-picked q [] a c passes = absurd (none_of a c)
-picked {A} q (x ∷ xs) a c passes = elim (contains_cases x xs a c) [
-  | inl e ↦
-      let here : q x ≡ true = ap q e ∙ passes in
-      subst (λ (b : Bool). Contains (cond b (x ∷ filter q xs) (filter q xs)) a) (sym here) (0, omega arith, e)
-  | inr more ↦ picked_more (q x) x a (filter q xs) (picked q xs a more passes)
-]
-
 -- no value stands at two places
 abbrev Once : {A : Type 0} → List A → Type 0
 Once {A} xs = (k l : ℕ) (a : A) → slice_get xs k ≡ Some a → slice_get xs l ≡ Some a → k ≡ l
 
 once_more : {A : Type 0} (x : A) (xs : List A) → (Contains xs x → ⊥) → Once xs → Once (x ∷ xs)
 once_more x xs new rest zero zero a at to = refl
-once_more x xs new rest zero (suc l) a at to = let e : a ≡ x = cc in absurd (new (subst (λ b. Contains xs b) e (Contains_at xs l a to)))
-once_more x xs new rest (suc k) zero a at to = let e : a ≡ x = cc in absurd (new (subst (λ b. Contains xs b) e (Contains_at xs k a at)))
+once_more x xs new rest zero (suc l) a at to = let e : a ≡ x = cc in absurd (new (subst (λ b. Contains xs b) e (contains_at xs l a to)))
+once_more x xs new rest (suc k) zero a at to = let e : a ≡ x = cc in absurd (new (subst (λ b. Contains xs b) e (contains_at xs k a at)))
 once_more x xs new rest (suc k) (suc l) a at to = let same : k ≡ l = rest k l a at to in ap (λ (n : ℕ). suc n) same
 
 -- Pairs
@@ -129,7 +116,7 @@ IsPairOf s p = (back : Metric) × Joins s p.from p.from_iface p.to p.to_iface p.
 pair_joins : (s : Scenario) (p : Pair) → Contains (pairs_in s) p → IsPairOf s p
 pair_joins s p c =
     let (arc, there, joined, e) = picked_from pair_of (is_joint s) s.arcs p c in
-    let (admitted, met) = both_true (is_admitted s.routers s.end arc) (is_met s.routers s.end s.arcs arc) joined in
+    let (admitted, met) = and_parts (is_admitted s.routers s.end arc) (is_met s.routers s.end s.arcs arc) joined in
     let (back, stands, ((((from, from_iface), to), to_iface), home)) = (Decides-is_met s arc).0 met in
     subst (λ (x : Pair). IsPairOf s x) e (
       back.metric,
@@ -160,7 +147,7 @@ pairs_once_by false arc rest new once = once
 pairs_once : (q : RadioArc → Bool) (arcs : List RadioArc) → are_distinct ends_eq (map ends_of arcs) ≡ true → Once (map pair_of (filter q arcs))
 pairs_once q [] h = λ k l a at to. none_some a at
 pairs_once q (arc ∷ arcs) h =
-    let (new, rest) = both_true (not (list_any (ends_eq (ends_of arc)) (map ends_of arcs))) (are_distinct ends_eq (map ends_of arcs)) h in
+    let (new, rest) = and_parts (not (list_any (ends_eq (ends_of arc)) (map ends_of arcs))) (are_distinct ends_eq (map ends_of arcs)) h in
     pairs_once_by (q arc) arc (filter q arcs) (λ c. again new c) (pairs_once q arcs rest)
   where
     again : not (list_any (ends_eq (ends_of arc)) (map ends_of arcs)) ≡ true → Contains (map pair_of (filter q arcs)) (pair_of arc) → ⊥

@@ -20,8 +20,8 @@ use Rattle.mesh_paths.specs.Search.{IsSettledRow, IsKeyed, Settles}
 use Rattle.mesh_paths.specs.Rounds.{RowMap, missing_of, weight_of, missing_in, weight_in, IsMetIn, Betters, IsOfferBy, HasAsGood, IsInRange, Tries, IsLedTo, IsRounds, Goes}
 use Rattle.mesh_paths.proofs.Order.{same_node, at_most_or_before}
 use Rattle.mesh_paths.proofs.Rows.{of_each, item_in}
-use Rattle.mesh_paths.proofs.SearchLaw.{in_tail, head_or_tail}
 use Rattle.mesh_paths.proofs.Found.{tree_found, certificate_of_rows}
+use Rattle.mesh_atoms.proofs.Lists.{contains_tail as in_tail, contains_cases}
 
 -- Sums over one list
 
@@ -31,7 +31,7 @@ sums_upto f g (x ∷ xs) each = omega (arith, sum_by-cons f x xs, sum_by-cons g 
 
 pub sums_less : {A : Type 0} (f g : A → ℕ) (xs : List A) (a : A) → ((x : A) → Contains xs x → f x ≤ g x) → Contains xs a → f a < g a → sum_by f xs < sum_by g xs
 sums_less f g [] a each has less = absurd (omega (arith, has.1))
-sums_less {A} f g (x ∷ xs) a each has less = elim (head_or_tail x xs a has) [
+sums_less {A} f g (x ∷ xs) a each has less = elim (contains_cases x xs a has) [
   | inl same ↦
       let at : f x < g x = subst (λ (y : A). f y < g y) (sym same) less in
       omega (arith, sum_by-cons f x xs, sum_by-cons g x xs, sums_upto f g xs (λ y h. each y (in_tail x xs y h)))

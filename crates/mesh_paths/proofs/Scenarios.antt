@@ -1,10 +1,10 @@
 -- Each scenario is sound: its type keeps that addresses are distinct, that no network is a router's address, and what arcs join.
-use Rattle.std.proofs.Common.{◌≡◌, ◌≢◌, ℕ, zero, suc, ◌<◌, ◌≤◌, ◌⊎◌, inl, inr, refl, sym, ◌∙◌, ap, subst, arith, List, [], ◌∷◌, ◌++◌, map, length, Contains, slice_get, slice_index_or, Some}
-use Rattle.std.specs.Prelude.{Bool, true, false, not, nat_eq, nat_lt, slice_index, ◌&&◌, ◌||◌}
+use Rattle.std.proofs.Common.{◌≡◌, ◌≢◌, ℕ, zero, suc, ◌<◌, ◌≤◌, inl, inr, refl, sym, ◌∙◌, ap, subst, arith, List, [], ◌∷◌, ◌++◌, map, length, Contains, slice_get, Some}
+use Rattle.std.specs.Prelude.{Bool, true, false, not, nat_eq, nat_lt, slice_index, ◌||◌}
 use Rattle.std.specs.Cmp.{IsEquivalence}
 use Rattle.std.specs.List.{flat_map, list_all, list_any}
-use Rattle.std.proofs.lemmas.Bool.{eq-eqb, ltb-true}
-use Rattle.std.proofs.lemmas.List.Elements.{Contains-append_left, Contains-append_right}
+use Rattle.std.proofs.lemmas.Bool.{eq-eqb, ltb-true, and_parts, or_left, or_right}
+use Rattle.std.proofs.lemmas.List.Elements.{Contains-append_right}
 use Rattle.std.proofs.lemmas.List.Folds.{list_any-append}
 use Rattle.std.proofs.lemmas.Map.Views.{list_any-from_Contains}
 use Rattle.mesh_atoms.specs.declared.addr.Addr4.{Addr4}
@@ -20,13 +20,10 @@ use Rattle.mesh_atoms.specs.Radio.{Leads, Router, AddressOf, Attaches, IsSoundSc
 use Rattle.mesh_atoms.specs.Settings.{are_distinct, is_host, Ends, ends_eq, is_interface}
 use Rattle.mesh_atoms.specs.State.{HasAddressOn, IsOriginator}
 use Rattle.mesh_atoms.proofs.Lookups.{addr_equiv}
-use Rattle.mesh_paths.proofs.ShortLists.{none_of, none_some}
+use Rattle.mesh_paths.proofs.ShortLists.{none_some}
+use Rattle.mesh_atoms.proofs.Lists.{contains_cases, contains_map, first_item, contains_flat_map_at, back_distinct, contains_none as none_of}
 
 -- Tests
-
-pub both_true : (a b : Bool) → (a && b) ≡ true → (a ≡ true) × (b ≡ true)
-both_true true b h = (refl, h)
-both_true false b h = absurd (cc)
 
 pub not_both : {A : Type 0} (b : Bool) → b ≡ true → not b ≡ true → A
 not_both true h g = absurd (let f : false ≡ true = g in cc)
@@ -38,27 +35,12 @@ first_false false b h = refl
 
 -- Elements
 
-pub contains_cases : {A : Type 0} (x : A) (xs : List A) (a : A) → Contains (x ∷ xs) a → (x ≡ a) ⊎ Contains xs a
-contains_cases {A} x xs a c = at c.0 c.1 c.2
-  where
-    at : (k : ℕ) → k < length (x ∷ xs) → slice_index_or (x ∷ xs) k a ≡ a → (x ≡ a) ⊎ Contains xs a
-    at zero l e = inl e
-    at (suc k) l e = inr (k, omega (arith, l), e)
-
 all_of : {A : Type 0} (p : A → Bool) (xs : List A) (a : A) → list_all p xs ≡ true → Contains xs a → p a ≡ true
 all_of p [] a h c = absurd (none_of a c)
 all_of p (x ∷ xs) a h c = elim (contains_cases x xs a c) [
-  | inl e ↦ subst (λ b. p b ≡ true) e (both_true (p x) (list_all p xs) h).0
-  | inr more ↦ all_of p xs a (both_true (p x) (list_all p xs) h).1 more
+  | inl e ↦ subst (λ b. p b ≡ true) e (and_parts (p x) (list_all p xs) h).0
+  | inr more ↦ all_of p xs a (and_parts (p x) (list_all p xs) h).1 more
 ]
-
-or_left : (a b : Bool) → a ≡ true → (a || b) ≡ true
-or_left true b h = refl
-or_left false b h = absurd (cc)
-
-or_right : (a b : Bool) → b ≡ true → (a || b) ≡ true
-or_right true b h = refl
-or_right false b h = h
 
 pub any_of : {A : Type 0} (p : A → Bool) (xs : List A) (a : A) → p a ≡ true → Contains xs a → list_any p xs ≡ true
 any_of p [] a h c = absurd (none_of a c)
@@ -67,28 +49,12 @@ any_of p (x ∷ xs) a h c = elim (contains_cases x xs a c) [
   | inr more ↦ or_right (p x) (list_any p xs) (any_of p xs a h more)
 ]
 
-pub contains_map : {A B : Type 0} (f : A → B) (xs : List A) (a : A) → Contains xs a → Contains (map f xs) (f a)
-contains_map f [] a c = absurd (none_of a c)
-contains_map {A} {B} f (x ∷ xs) a c = elim (contains_cases x xs a c) [
-  | inl e ↦ (0, omega arith, ap f e)
-  | inr more ↦ (let (k, l, e) = contains_map f xs a more in (suc k, omega (arith, l), e))
-]
-
-contains_flat : {A B : Type 0} (f : A → List B) (xs : List A) (k : ℕ) (u : A) (a : B) → slice_get xs k ≡ Some u → Contains (f u) a → Contains (flat_map f xs) a
-contains_flat f [] k u a at c = none_some u at
-contains_flat f (x ∷ xs) zero u a at c = let e : x ≡ u = cc in Contains-append_left (f x) (flat_map f xs) a (subst (λ b. Contains (f b) a) (sym e) c)
-contains_flat f (x ∷ xs) (suc k) u a at c = Contains-append_right (f x) (flat_map f xs) a (contains_flat f xs k u a at c)
-
 -- Distinct values
-
-back_distinct : {A : Type 0} (eq : A → A → Bool) (xs ys : List A) → are_distinct eq (xs ++ ys) ≡ true → are_distinct eq ys ≡ true
-back_distinct eq [] ys h = h
-back_distinct eq (x ∷ xs) ys h = back_distinct eq xs ys (both_true (not (list_any (eq x) (xs ++ ys))) (are_distinct eq (xs ++ ys)) h).1
 
 front_distinct : {A : Type 0} (eq : A → A → Bool) (xs ys : List A) → are_distinct eq (xs ++ ys) ≡ true → are_distinct eq xs ≡ true
 front_distinct eq [] ys h = refl
 front_distinct eq (x ∷ xs) ys h =
-    let (new, rest) = both_true (not (list_any (eq x) (xs ++ ys))) (are_distinct eq (xs ++ ys)) h in
+    let (new, rest) = and_parts (not (list_any (eq x) (xs ++ ys))) (are_distinct eq (xs ++ ys)) h in
     let parts : not (list_any (eq x) xs || list_any (eq x) ys) ≡ true = subst (λ b. not b ≡ true) (list_any-append (eq x) xs ys) new in
     let here : not (list_any (eq x) xs) ≡ true = first_false (list_any (eq x) xs) (list_any (eq x) ys) parts in
     let more : are_distinct eq xs ≡ true = front_distinct eq xs ys rest in
@@ -97,7 +63,7 @@ front_distinct eq (x ∷ xs) ys h =
 apart_parts : {A : Type 0} {eq : A → A → Bool} → IsEquivalence eq → (xs ys : List A) (a : A) → are_distinct eq (xs ++ ys) ≡ true → Contains xs a → Contains ys a → ⊥
 apart_parts equiv [] ys a h c d = none_of a c
 apart_parts {A} {eq} equiv (x ∷ xs) ys a h c d =
-    let (new, rest) = both_true (not (list_any (eq x) (xs ++ ys))) (are_distinct eq (xs ++ ys)) h in
+    let (new, rest) = and_parts (not (list_any (eq x) (xs ++ ys))) (are_distinct eq (xs ++ ys)) h in
     elim (contains_cases x xs a c) [
       | inl e ↦ not_both (list_any (eq x) (xs ++ ys)) (list_any-from_Contains equiv x (xs ++ ys) (subst (λ b. Contains (xs ++ ys) b) (sym e) (Contains-append_right xs ys a d))) new
       | inr more ↦ apart_parts equiv xs ys a rest more d
@@ -110,10 +76,10 @@ one_part equiv f [] k l u v a h at to c d = none_some u at
 one_part equiv f (x ∷ xs) zero zero u v a h at to c d = refl
 one_part equiv f (x ∷ xs) zero (suc l) u v a h at to c d =
     let e : x ≡ u = cc in
-    absurd (apart_parts equiv (f x) (flat_map f xs) a h (subst (λ b. Contains (f b) a) (sym e) c) (contains_flat f xs l v a to d))
+    absurd (apart_parts equiv (f x) (flat_map f xs) a h (subst (λ b. Contains (f b) a) (sym e) c) (contains_flat_map_at f xs l v a to d))
 one_part equiv f (x ∷ xs) (suc k) zero u v a h at to c d =
     let e : x ≡ v = cc in
-    absurd (apart_parts equiv (f x) (flat_map f xs) a h (subst (λ b. Contains (f b) a) (sym e) d) (contains_flat f xs k u a at c))
+    absurd (apart_parts equiv (f x) (flat_map f xs) a h (subst (λ b. Contains (f b) a) (sym e) d) (contains_flat_map_at f xs k u a at c))
 one_part {eq = eq} equiv f (x ∷ xs) (suc k) (suc l) u v a h at to c d =
     let same : k ≡ l = one_part equiv f xs k l u v a (back_distinct eq (f x) (flat_map f xs) h) at to c d in
     ap (λ (n : ℕ). suc n) same
@@ -122,10 +88,6 @@ part_distinct : {A B : Type 0} (eq : B → B → Bool) (f : A → List B) (xs : 
 part_distinct eq f [] k u h at = none_some u at
 part_distinct eq f (x ∷ xs) zero u h at = let e : x ≡ u = cc in subst (λ b. are_distinct eq (f b) ≡ true) e (front_distinct eq (f x) (flat_map f xs) h)
 part_distinct eq f (x ∷ xs) (suc k) u h at = part_distinct eq f xs k u (back_distinct eq (f x) (flat_map f xs) h) at
-
-first_one : {A : Type 0} (xs : List A) → 1 ≤ length xs → (x : A) × (slice_get xs 0 ≡ Some x)
-first_one [] h = absurd (omega (arith, h))
-first_one (x ∷ xs) h = (x, refl)
 
 mapped_length : {A B : Type 0} (f : A → B) (xs : List A) → 1 ≤ length (map f xs) → 1 ≤ length xs
 mapped_length f [] h = h
@@ -149,7 +111,7 @@ one_arc : (xs : List RadioArc) (a b : RadioArc) → are_distinct ends_eq (map en
     ends_eq (ends_of a) (ends_of b) ≡ true → ends_eq (ends_of b) (ends_of a) ≡ true → a ≡ b
 one_arc [] a b h c d there back = absurd (none_of a c)
 one_arc (x ∷ xs) a b h c d there back =
-    let (new, rest) = both_true (not (list_any (ends_eq (ends_of x)) (map ends_of xs))) (are_distinct ends_eq (map ends_of xs)) h in
+    let (new, rest) = and_parts (not (list_any (ends_eq (ends_of x)) (map ends_of xs))) (are_distinct ends_eq (map ends_of xs)) h in
     elim (contains_cases x xs a c) [
       | inl e ↦ elim (contains_cases x xs b d) [
         | inl f ↦ sym e ∙ f
@@ -168,7 +130,7 @@ abbrev nets_of : RouterSettings → List NetAddr
 nets_of r = map (λ a. a.net) r.attached
 
 address_in : (r : RouterSettings) (i : ℕ) (a : Addr4) → HasAddressOn r i a → Contains (addrs_of r) a
-address_in r i a on = contains_flat (λ (f : Interface). f.addrs) r.interfaces i on.0 a on.1 on.2
+address_in r i a on = contains_flat_map_at (λ (f : Interface). f.addrs) r.interfaces i on.0 a on.1 on.2
 
 one_owner : (s : Scenario) (x y i j : ℕ) (r q : RouterSettings) (a : Addr4) → Router s x r → Router s y q → HasAddressOn r i a → HasAddressOn q j a → (x ≡ y) × (i ≡ j)
 one_owner s x y i j r q a at to on from =
@@ -186,8 +148,8 @@ no_host s x y c net a attached of_y e =
     let (q, to, (j, on)) = of_y in
     let nets : List NetAddr = flat_map nets_of s.routers in
     let addrs : List Addr4 = flat_map addrs_of s.routers in
-    let in_nets : Contains nets t.net = contains_flat nets_of s.routers x r t.net at (contains_map (λ (b : Attached4). b.net) r.attached t stands) in
-    let in_addrs : Contains addrs a = contains_flat addrs_of s.routers y q a to (address_in q j a on) in
+    let in_nets : Contains nets t.net = contains_flat_map_at nets_of s.routers x r t.net at (contains_map (λ (b : Attached4). b.net) r.attached t stands) in
+    let in_addrs : Contains addrs a = contains_flat_map_at addrs_of s.routers y q a to (address_in q j a on) in
     let none : not (list_any (is_host t.net) addrs) ≡ true = all_of (λ n. not (list_any (is_host n) addrs)) nets t.net s.sound_routers.no_hosts in_nets in
     let same : t.net ≡ host a = is ∙ e in
     let yes : is_host t.net a ≡ true = subst (λ n. is_host n a ≡ true) (sym same) (eq-eqb a.0 a.0 refl) in
@@ -195,8 +157,8 @@ no_host s x y c net a attached of_y e =
 
 originator : (s : Scenario) (x : ℕ) (r : RouterSettings) → Router s x r → (a : Addr4) × IsOriginator r a
 originator s x r at =
-    let (face, first) = first_one r.interfaces (mapped_length (λ (i : Interface). i.name) r.interfaces r.sound.interfaces.at_least) in
-    let (a, is) = first_one face.addrs face.sound.few.at_least in
+    let (face, first) = first_item r.interfaces (mapped_length (λ (i : Interface). i.name) r.interfaces r.sound.interfaces.at_least) in
+    let (a, is) = first_item face.addrs face.sound.few.at_least in
     (a, (face, first, is))
 
 arc_ends : (s : Scenario) (x i y j : ℕ) (m : Metric) → Leads s x i y j m → (x ≢ y) × ((r : RouterSettings) × Router s x r) × ((q : RouterSettings) × Router s y q)
@@ -204,8 +166,8 @@ arc_ends s x i y j m leads =
     let (arc, stands, from, from_iface, to, to_iface, _) = leads in
     let counts : List ℕ = map (λ (r : RouterSettings). length r.interfaces) s.routers in
     let joins = all_of _ (map ends_of s.arcs) (ends_of arc) s.sound_arcs.join_routers (contains_map ends_of s.arcs arc stands) in
-    let (first, rest) = both_true (is_interface counts arc.from arc.from_iface) _ joins in
-    let (second, other) = both_true (is_interface counts arc.to arc.to_iface) (not (nat_eq arc.from arc.to)) rest in
+    let (first, rest) = and_parts (is_interface counts arc.from arc.from_iface) _ joins in
+    let (second, other) = and_parts (is_interface counts arc.to arc.to_iface) (not (nat_eq arc.from arc.to)) rest in
     let out = counted (λ (r : RouterSettings). length r.interfaces) s.routers arc.from arc.from_iface first in
     let home = counted (λ (r : RouterSettings). length r.interfaces) s.routers arc.to arc.to_iface second in (
       (λ e. not_both (nat_eq arc.from arc.to) (eq-eqb arc.from arc.to (from ∙ (e ∙ sym to))) other),
@@ -218,8 +180,8 @@ pub arc_leads_to : (s : Scenario) (arc : RadioArc) → Contains s.arcs arc → (
 arc_leads_to s arc stands =
     let counts : List ℕ = map (λ (r : RouterSettings). length r.interfaces) s.routers in
     let joins = all_of _ (map ends_of s.arcs) (ends_of arc) s.sound_arcs.join_routers (contains_map ends_of s.arcs arc stands) in
-    let (first, rest) = both_true (is_interface counts arc.from arc.from_iface) _ joins in
-    let (second, other) = both_true (is_interface counts arc.to arc.to_iface) (not (nat_eq arc.from arc.to)) rest in
+    let (first, rest) = and_parts (is_interface counts arc.from arc.from_iface) _ joins in
+    let (second, other) = and_parts (is_interface counts arc.to arc.to_iface) (not (nat_eq arc.from arc.to)) rest in
     counted (λ (r : RouterSettings). length r.interfaces) s.routers arc.to arc.to_iface second
 
 one_metric : (s : Scenario) (x i y j : ℕ) (m n : Metric) → Leads s x i y j m → Leads s x i y j n → m ≡ n

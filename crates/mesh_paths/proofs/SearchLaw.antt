@@ -1,21 +1,11 @@
 -- Elements of a list with a head, and what more rows offer and meet.
-use Rattle.std.proofs.Common.{◌≡◌, ℕ, zero, suc, ◌<◌, ◌⊎◌, inl, inr, arith, List, ◌∷◌, length, slice_index_or, Contains}
+use Rattle.std.proofs.Common.{ℕ, inl, inr, List}
 use Rattle.mesh_atoms.specs.declared.addr.NetAddr.{NetAddr}
 use Rattle.mesh_atoms.specs.declared.graphs.Arc4.{Arc4}
 use Rattle.mesh_atoms.specs.declared.graphs.PathRow.{PathRow}
 use Rattle.mesh_paths.specs.Tree.{OffersBy, MeetsBy}
 
 -- Elements of a list with a head
-
-pub in_tail : {A : Type 0} (x : A) (xs : List A) (y : A) → Contains xs y → Contains (x ∷ xs) y
-in_tail x xs y (k, l, e) = (suc k, omega arith, e)
-
-pub head_or_tail : {A : Type 0} (x : A) (xs : List A) (y : A) → Contains (x ∷ xs) y → (x ≡ y) ⊎ Contains xs y
-head_or_tail x xs y (k, l, e) = by_place x xs y k l e
-  where
-    by_place : {A : Type 0} (x : A) (xs : List A) (y : A) (k : ℕ) → k < length (x ∷ xs) → slice_index_or (x ∷ xs) k y ≡ y → (x ≡ y) ⊎ Contains xs y
-    by_place x xs y zero l e = inl e
-    by_place x xs y (suc k) l e = inr (k, omega arith, e)
 
 -- Offers
 

@@ -17,8 +17,10 @@ use Rattle.mesh_atoms.specs.State.{State, IsOriginator}
 use Rattle.mesh_paths.specs.SettledRoutes.{IsSettledNetwork}
 use Rattle.mesh_paths.proofs.SettledDecisions.{attaches}
 use Rattle.mesh_paths.proofs.SettledWalks.{View}
-use Rattle.mesh_paths.proofs.SettledNeighbours.{metric_above_zero, same_host, originator_address, held, owner, same_settings, address_in, state_there, near_of, apart, same_metric, known, known_address, known_by, neighbouring, has_with, some_one, hop_of, shown_near, shown_out}
+use Rattle.mesh_paths.proofs.SettledNeighbours.{originator_address, held, owner, same_settings, address_in, state_there, near_of, apart, same_metric, known, known_address, known_by, neighbouring, has_with, some_one, hop_of, shown_near, shown_out}
 use Rattle.mesh_paths.proofs.SettledRelays.{IsRelayOf, relays_willing, cover, gives, takes}
+use Rattle.mesh_atoms.proofs.CodesLemmas.CodeLaws.{metric_above_zero}
+use Rattle.mesh_atoms.proofs.Values.{same_host}
 
 module _ (s : Scenario) (states : List State) (now : ℕ) (S : IsSettledNetwork s states now) where
   -- Router x's own graph

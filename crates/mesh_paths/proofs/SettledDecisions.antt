@@ -1,7 +1,6 @@
 -- What can be looked up is there or isn't.
-use Rattle.std.proofs.Common.{◌≡◌, ℕ, zero, suc, ◌<◌, ◌⊎◌, inl, inr, refl, sym, ap, subst, arith, List, [], ◌∷◌, length, Contains, slice_get, slice_index_or, Some, None}
-use Rattle.std.proofs.lemmas.Bool.{cases_eq}
-use Rattle.std.proofs.lemmas.Option.{slice_get_cases, slice_get_within, get_or_from_slice_get}
+use Rattle.std.proofs.Common.{◌≡◌, ℕ, zero, suc, ◌<◌, ◌⊎◌, inl, inr, refl, sym, subst, arith, List, [], ◌∷◌, length, Contains, slice_get, slice_index_or, Some, None}
+use Rattle.std.proofs.lemmas.Option.{slice_get_cases}
 use Rattle.mesh_atoms.specs.declared.addr.Addr4.{Addr4}
 use Rattle.mesh_atoms.specs.declared.addr.NetAddr.{NetAddr}
 use Rattle.mesh_atoms.specs.declared.tuples.Link.{Link}
@@ -17,12 +16,8 @@ use Rattle.mesh_atoms.specs.State.{State, state_of}
 use Rattle.mesh_atoms.specs.declared.settings.Scenario.{Scenario}
 use Rattle.mesh_atoms.specs.declared.settings.RouterSettings.{RouterSettings}
 use Rattle.mesh_paths.proofs.Order.{same_node}
-
-pub Contains_at : {A : Type 0} (xs : List A) (k : ℕ) (a : A) → slice_get xs k ≡ Some a → Contains xs a
-Contains_at xs k a e = (k, slice_get_within xs k a e, get_or_from_slice_get xs k a a e)
-
-Contains_more : {A : Type 0} (x : A) (xs : List A) (t : A) → Contains xs t → Contains (x ∷ xs) t
-Contains_more x xs t c = (suc c.0, omega (arith, c.1), c.2)
+use Rattle.mesh_atoms.proofs.Lists.{contains_tail}
+use Rattle.mesh_atoms.proofs.Values.{same_address}
 
 -- some element has the property, or none has
 pub any_or_none : {A : Type 0} (P : A → Type 0) → ((t : A) → P t ⊎ (P t → ⊥)) → (xs : List A) →
@@ -31,7 +26,7 @@ any_or_none P test [] = inr (λ t c p. absurd (omega (arith, c.1)))
 any_or_none {A} P test (x ∷ xs) = elim (test x) [
   | inl p ↦ inl (x, (0, omega arith, refl), p)
   | inr not_x ↦ elim (any_or_none P test xs) [
-    | inl found ↦ inl (found.0, Contains_more x xs found.0 found.1, found.2)
+    | inl found ↦ inl (found.0, contains_tail x xs found.0 found.1, found.2)
     | inr none ↦ inr (λ t c p. rest x xs not_x none t c.0 c.1 c.2 p)
   ]
 ]
@@ -40,12 +35,6 @@ any_or_none {A} P test (x ∷ xs) = elim (test x) [
         (t : A) (k : ℕ) → k < length (x ∷ xs) → slice_index_or (x ∷ xs) k t ≡ t → P t → ⊥
     rest {P = P} x xs not_x none t zero l e p = not_x (subst P (sym e) p)
     rest x xs not_x none t (suc k) l e p = none t (k, omega arith, e) p
-
-pub same_address : (a b : Addr4) → (a ≡ b) ⊎ (a ≡ b → ⊥)
-same_address a b = elim (cases_eq a.0 b.0) [
-  | inl e ↦ inl (ap (λ (n : ℕ). let r : Addr4 = record { 0 = n } in r) e)
-  | inr other ↦ inr (λ e. other (ap (λ (c : Addr4). c.0) e))
-]
 
 is_symmetric : (x : LinkState) → (x ≡ Is_symmetric) ⊎ (x ≡ Is_symmetric → ⊥)
 is_symmetric Is_pending = inr (λ e. (cc))

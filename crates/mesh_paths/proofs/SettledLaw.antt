@@ -16,8 +16,10 @@ use Rattle.mesh_paths.specs.SettledRoutes.{IsSettledNetwork, HasRow, RowsAreLeas
 use Rattle.mesh_paths.proofs.SettledWalks.{View}
 use Rattle.mesh_paths.proofs.SettledLeast.{row_least, least_row, row_least_net, least_row_net}
 use Rattle.mesh_paths.proofs.SettledHops.{ends_at, same_least, next_hop, next_hop_net, LeadsTo, LeadsToNet}
-use Rattle.mesh_paths.proofs.SettledNeighbours.{held, owner, same_host, address_in, has_address, same_settings, originator_address, known_by, known_address, some_one, same_metric, state_there, near_of, metric_above_zero}
+use Rattle.mesh_paths.proofs.SettledNeighbours.{held, owner, address_in, has_address, same_settings, originator_address, known_by, known_address, some_one, same_metric, state_there, near_of}
 use Rattle.mesh_paths.proofs.SettledArcs.{view}
+use Rattle.mesh_atoms.proofs.Values.{same_host}
+use Rattle.mesh_atoms.proofs.CodesLemmas.CodeLaws.{metric_above_zero}
 
 module _ (s : Scenario) (states : List State) (now : ℕ) (S : IsSettledNetwork s states now) where
   abbrev V : (x : ℕ) (p : State) → At states x p → View NetAddr

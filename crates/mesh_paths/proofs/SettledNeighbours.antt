@@ -1,15 +1,11 @@
 -- What a settled network says of each router's neighbours and HELLOs, in the terms of the radio graph.
-use Rattle.std.proofs.Common.{◌≡◌, ℕ, ◌+◌, ◌*◌, ◌/◌, ◌%◌, ◌^◌, ◌≤◌, ◌<◌, inl, inr, refl, ap, subst, arith, List, Contains, Some, Option}
-use Rattle.std.proofs.lemmas.Nat.{pow_pos}
-use Rattle.std.proofs.Math.Nat.{le-mul_of_pos_right}
+use Rattle.std.proofs.Common.{◌≡◌, ℕ, inl, inr, refl, subst, arith, List, Contains, Some, Option}
 use Rattle.mesh_atoms.specs.declared.addr.Addr4.{Addr4}
-use Rattle.mesh_atoms.specs.declared.addr.NetAddr.{NetAddr}
 use Rattle.mesh_atoms.specs.declared.codes.metric.Metric.{Metric}
 use Rattle.mesh_atoms.specs.declared.tuples.Neighbour.{Neighbour}
 use Rattle.mesh_atoms.specs.declared.graphs.NeighbourGraph.{NeighbourGraph}
 use Rattle.mesh_atoms.specs.declared.settings.RouterSettings.{RouterSettings}
 use Rattle.mesh_atoms.specs.declared.settings.Scenario.{Scenario}
-use Rattle.mesh_atoms.specs.Base.{host}
 use Rattle.mesh_atoms.specs.Codes.Codes.{metric_value}
 use Rattle.mesh_atoms.specs.Hello.{Says, SaysSymmetric, Near_in, Near_out, Link_in, Link_out, IsSaid}
 use Rattle.mesh_atoms.specs.Radio.{Adjacent, IsMetric, Hop, Router, AddressOf}
@@ -21,23 +17,13 @@ use Rattle.mesh_atoms.specs.Sound.{Sound}
 use Rattle.mesh_atoms.specs.State.{State, HasSymmetric, HasAddress, IsOriginator, HasSymmetricWith}
 use Rattle.mesh_paths.specs.SettledRoutes.{IsSettledNetwork}
 use Rattle.mesh_paths.proofs.RadioLaw.{adjacent_back}
-use Rattle.mesh_paths.proofs.SettledDecisions.{shows_link, Contains_at}
-
-pub metric_above_zero : (m : Metric) → 1 ≤ metric_value m
-metric_above_zero m =
-    let k = m.code / 256 in
-    let b = m.code % 256 in
-    let p : 0 < 2 ^ k = pow_pos k in
-    let q : 257 + b ≤ (257 + b) * 2 ^ k = le-mul_of_pos_right (257 + b) p in
-    omega (arith, q)
-
-pub same_host : (a b : Addr4) → host a ≡ host b → a ≡ b
-same_host a b e = ap (λ (n : NetAddr). n.addr) e
+use Rattle.mesh_paths.proofs.SettledDecisions.{shows_link}
+use Rattle.mesh_atoms.proofs.Lists.{contains_at}
 
 pub originator_address : (r : RouterSettings) (a : Addr4) → IsOriginator r a → HasAddress r a
 originator_address r a o =
     let (iface, at, first) = o in
-    (0, (iface, at, Contains_at iface.addrs 0 a first))
+    (0, (iface, at, contains_at iface.addrs 0 a first))
 
 -- what the law needs of a sound state: routing relays that cover, and routes
 pub record Holds (p : State) (now : ℕ) : Type 0 where

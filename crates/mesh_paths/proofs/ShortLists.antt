@@ -6,9 +6,7 @@ use Rattle.std.proofs.lemmas.Bool.{eq-eqb}
 use Rattle.mesh_atoms.specs.declared.addr.Addr4.{Addr4}
 use Rattle.mesh_atoms.specs.Base.{base_of, HasDistinctKeys, addr_eq}
 use Rattle.mesh_atoms.specs.Sound.{IsWithin}
-
-pub none_of : {A : Type 0} (a : A) → Contains [] a → ⊥
-none_of a c = absurd (omega (arith, c.1))
+use Rattle.mesh_atoms.proofs.Lists.{contains_head as here}
 
 pub only_at : {A : Type 0} (a t : A) (k : ℕ) → k < length (a ∷ []) → slice_index_or (a ∷ []) k t ≡ t → t ≡ a
 only_at a t zero l e = sym e
@@ -24,9 +22,6 @@ two_at a b t (suc (suc k)) l e = absurd (omega arith)
 
 pub two : {A : Type 0} (a b t : A) → Contains (a ∷ b ∷ []) t → (t ≡ a) ⊎ (t ≡ b)
 two a b t c = two_at a b t c.0 c.1 c.2
-
-pub here : {A : Type 0} (a : A) (rest : List A) → Contains (a ∷ rest) a
-here a rest = (0, omega arith, refl)
 
 pub first_of : {A : Type 0} (a t : A) (k : ℕ) → slice_get (a ∷ []) k ≡ Some t → (k ≡ 0) × (t ≡ a)
 first_of a t zero e = (refl, (cc))

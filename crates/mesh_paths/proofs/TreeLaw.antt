@@ -10,8 +10,9 @@ use Rattle.mesh_atoms.specs.declared.graphs.PathRow.{PathRow}
 use Rattle.mesh_atoms.specs.declared.graphs.Certificate.{Certificate}
 use Rattle.mesh_paths.specs.Paths.{InGraph, HasCosts, IsPathRow, IsCertificate}
 use Rattle.mesh_paths.specs.Tree.{Offers, Meets, IsTree}
-use Rattle.mesh_paths.proofs.Order.{same_node, at_most_itself, single}
+use Rattle.mesh_paths.proofs.Order.{same_node, single}
 use Rattle.mesh_paths.proofs.Rows.{move_offer, carry}
+use Rattle.mesh_atoms.proofs.Values.{at_most_itself}
 
 -- one node has one least cost
 pub one_least : {N : Type 0} {Arc : N → N → ℕ → Type 0} {a b : N} {c d : ℕ} → Least Arc a b c → Least Arc a b d → c ≡ d

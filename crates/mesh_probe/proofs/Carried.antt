@@ -2,7 +2,6 @@
 use Rattle.std.proofs.Common.{◌≡◌, ℕ, suc, ◌+◌, ◌-◌, ◌≤◌, ◌<◌, refl, sym, ◌∙◌, ap, subst, arith, lit≤, List, [], ◌∷◌, ◌++◌, length, Some, Result, Ok}
 use Rattle.std.specs.Prelude.{slice_range}
 use Rattle.std.proofs.lemmas.List.{append_assoc, append-nil, length-append}
-use Rattle.std.proofs.Math.Seq.{drop-append_seam, take-append_seam}
 use Rattle.mesh_atoms.specs.declared.refusal.Refusal.{Refusal}
 use Rattle.mesh_machine.specs.packet.declared.packet.Span.{Span}
 use Rattle.mesh_machine.specs.packet.Fields.{MessageFields, PacketFields}
@@ -13,6 +12,7 @@ use Rattle.mesh_wire.specs.Rehop.{HasHop, one_hop_on, hopped}
 use Rattle.mesh_wire.specs.Writes.{alone}
 use Rattle.mesh_wire.proofs.Hops.{can_hop, hop_spells}
 use Rattle.mesh_machine.specs.Frames.{octets_at}
+use Rattle.mesh_machine.proofs.Takes.{part_at}
 
 -- the message after so many hops
 abbrev pub at_hop : MessageFields → ℕ → ℕ → MessageFields
@@ -32,11 +32,6 @@ pub same_read : (bytes : List ℕ) (p q : PacketFields) (ss ts : List Span) → 
 same_read bytes p q ss ts a b =
     let e = same_ok (packet_of bytes) (p, ss) (q, ts) (packet_again bytes p ss a) (packet_again bytes q ts b) in
     (ap (λ (x : PacketFields × List Span). x.0) e, ap (λ (x : PacketFields × List Span). x.1) e)
-
-part_at : (front text rest : List ℕ) → slice_range (front ++ (text ++ rest)) (length front) (length front + length text) ≡ text
-part_at front text rest =
-    let size : (length front + length text) - length front ≡ length text = omega arith in
-    rw (size, drop-append_seam front (text ++ rest)) (take-append_seam text rest)
 
 one_span : (m : MessageFields) (spans : List Span) (front bytes : List ℕ) → SpellsMessages (length front) (m ∷ []) spans bytes →
     (span : Span) × (spans ≡ span ∷ []) × SpellsMessage m (octets_at (front ++ bytes) span)

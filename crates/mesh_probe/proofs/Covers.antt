@@ -1,22 +1,15 @@
 -- A message reaches each router that a chain of links leads to.
 use Rattle.std.proofs.Common.{◌≡◌, ℕ, zero, suc, ◌+◌, ◌<◌, ◌≤◌, ◌⊎◌, inl, inr, refl, sym, ◌∙◌, ap, subst, arith, List, [], ◌∷◌, ◌++◌, length, Contains, Option, Some}
-use Rattle.std.specs.Prelude.{Bool, true, false, nat_eq, ◌||◌}
+use Rattle.std.specs.Prelude.{Bool, true, false, nat_eq}
 use Rattle.std.specs.List.{IsDistinct, AllByRecursion}
-use Rattle.std.proofs.lemmas.Bool.{eq-eqb, eqb-true, cases_Bool, cases_lt, cases_eq}
+use Rattle.std.proofs.lemmas.Bool.{eq-eqb, eqb-true, cases_Bool, cases_lt, cases_eq, or_right, or_parts, or_cases}
 use Rattle.std.proofs.lemmas.List.Elements.{Contains-append_left, Contains-append_right, Contains-append_cases, Contains-push, Contains-push_cases}
 use Rattle.std.proofs.lemmas.Map.Keys.{IsDistinct-cons}
 use Rattle.std.proofs.lemmas.Map.Steps.{length-le_from_distinct_below}
-use Rattle.mesh_wire.proofs.HelloRuled.{neither_of}
-use Rattle.mesh_wire.proofs.Slots.{or_cases}
-use Rattle.mesh_paths.proofs.SearchLaw.{in_tail, head_or_tail}
-use Rattle.mesh_paths.proofs.ShortLists.{none_of}
 use Rattle.mesh_probe.proofs.Wave.{has, Spread, Going, frames_on, where_sent, Net, Takes, Deaf, Quiet, Sends, Hears, All_heard, One_hears, Wave, Ends, Goes, WaveFrom, Chain, Itself, On, IsSelected, IsCovering, WaveCovers}
+use Rattle.mesh_atoms.proofs.Lists.{contains_tail as in_tail, contains_cases, contains_none as none_of}
 
 -- Lists
-
-or_right : (b c : Bool) → c ≡ true → (b || c) ≡ true
-or_right true c e = refl
-or_right false c e = e
 
 pub not_both : {A : Type 0} (b : Bool) → b ≡ true → b ≡ false → A
 not_both b e f = absurd (cc)
@@ -39,7 +32,7 @@ none_distinct = tt
 
 pub none_equal : (w : ℕ) (ws : List ℕ) → has ws w ≡ false → AllByRecursion (λ y. nat_eq w y ≡ false) ws
 none_equal w [] h = tt
-none_equal w (x ∷ ws) h = let (e, rest) = neither_of (nat_eq w x) (has ws w) h in (e, none_equal w ws rest)
+none_equal w (x ∷ ws) h = let (e, rest) = or_parts (nat_eq w x) (has ws w) h in (e, none_equal w ws rest)
 
 -- A router's frames
 
@@ -197,7 +190,7 @@ module _ (n : Net) (good : IsCovering n) where
       let (m, told) = one f w j old mid flag sending v sent (are w j (0, omega arith, refl)) by takes in
       let (k, others) = all f (λ x y c. are x y (in_tail (w, j) hearers (x, y) c)) m.valid (sent_on m.grows sent) rest in (
         both f old mid new (where_sent sending (frames_on w (suc f.hops) (n.faces w))) more m k,
-        λ x y c link. elim (head_or_tail (w, j) hearers (x, y) c) [
+        λ x y c link. elim (contains_cases (w, j) hearers (x, y) c) [
           | inl e ↦
               let link_w : n.Link f.from f.iface w j = subst (λ (p : ℕ × ℕ). n.Link f.from f.iface p.0 p.1) (sym e) link in
               k.grows.told x (subst (λ (p : ℕ × ℕ). has mid.told p.0 ≡ true) e (told link_w))
@@ -225,7 +218,7 @@ module _ (n : Net) (good : IsCovering n) where
         | inl told ↦ inl (m.grows.told z told)
         | inr waits ↦
             let (g, i, stands, to_z) = waits in
-            elim (head_or_tail f rest g stands) [
+            elim (contains_cases f rest g stands) [
               | inl e ↦ inl (reaches z i (subst (λ (x : Going). n.Link x.from x.iface z i) (sym e) to_z))
               | inr later ↦ inr (g, i, Contains-append_left rest out g later, to_z)
             ]

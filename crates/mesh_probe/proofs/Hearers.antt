@@ -1,21 +1,21 @@
 -- Who hears a frame: the ends of the arcs of its interface.
 use Rattle.std.proofs.Common.{◌≡◌, ◌≢◌, ℕ, ◌<◌, ◌⊎◌, inl, inr, refl, sym, ◌∙◌, ap, subst, arith, List, [], ◌∷◌, Contains, length}
 use Rattle.std.specs.Prelude.{Bool, true, false, cond, nat_eq}
-use Rattle.std.proofs.lemmas.Bool.{eq-eqb, eqb-true}
+use Rattle.std.proofs.lemmas.Bool.{eq-eqb, eqb-true, and_parts}
 use Rattle.std.proofs.lemmas.Option.{slice_get_within}
 use Rattle.mesh_atoms.specs.declared.settings.RadioArc.{RadioArc}
 use Rattle.mesh_atoms.specs.declared.settings.Scenario.{Scenario}
 use Rattle.mesh_atoms.specs.Radio.{Joined, Itself, By}
-use Rattle.mesh_paths.proofs.Scenarios.{both_true, arc_leads_to}
-use Rattle.mesh_paths.proofs.SearchLaw.{in_tail, head_or_tail}
+use Rattle.mesh_paths.proofs.Scenarios.{arc_leads_to}
 use Rattle.mesh_probe.specs.declared.coverage.Sending.{Sending}
 use Rattle.mesh_probe.specs.Flood.{leads_from, hearers_of}
 use Rattle.mesh_probe.specs.Hearing.{BringsTo}
 use Rattle.mesh_probe.specs.Probes.{HearsOne}
+use Rattle.mesh_atoms.proofs.Lists.{contains_tail as in_tail, contains_cases}
 
 pub hearer : (arcs : List RadioArc) (x i : ℕ) (arc : RadioArc) → Contains arcs arc → arc.from ≡ x → arc.from_iface ≡ i → Contains (hearers_of arcs x i) (arc.to, arc.to_iface)
 hearer [] x i arc c from at = absurd (omega (arith, c.1))
-hearer (first ∷ arcs) x i arc c from at = elim (head_or_tail first arcs arc c) [
+hearer (first ∷ arcs) x i arc c from at = elim (contains_cases first arcs arc c) [
   | inl same ↦
       let e : nat_eq first.from x ≡ true = eq-eqb first.from x (ap (λ (a : RadioArc). a.from) same ∙ from) in
       let f : nat_eq first.from_iface i ≡ true = eq-eqb first.from_iface i (ap (λ (a : RadioArc). a.from_iface) same ∙ at) in
@@ -33,13 +33,13 @@ pub hearer_of : (arcs : List RadioArc) (x i w j : ℕ) → Contains (hearers_of 
 hearer_of [] x i w j c = absurd (omega (arith, c.1))
 hearer_of (first ∷ arcs) x i w j c = elim (which (leads_from first x i) refl (first.to, first.to_iface) (hearers_of arcs x i) (w, j) c) [
   | inl (leads, same) ↦
-      let (from, at) = both_true (nat_eq first.from x) (nat_eq first.from_iface i) leads in
+      let (from, at) = and_parts (nat_eq first.from x) (nat_eq first.from_iface i) leads in
       (first, (0, omega arith, refl), eqb-true first.from x from, eqb-true first.from_iface i at, ap (λ (p : ℕ × ℕ). p.0) same)
   | inr later ↦ let (arc, stands, from, at, to) = hearer_of arcs x i w j later in (arc, in_tail first arcs arc stands, from, at, to)
 ]
   where
     which : (b : Bool) → leads_from first x i ≡ b → (p : ℕ × ℕ) (ps : List (ℕ × ℕ)) (q : ℕ × ℕ) → Contains (cond b (p ∷ ps) ps) q → ((leads_from first x i ≡ true) × (p ≡ q)) ⊎ Contains ps q
-    which true e p ps q c = elim (head_or_tail p ps q c) [ inl same ↦ inl (e, same) | inr later ↦ inr later ]
+    which true e p ps q c = elim (contains_cases p ps q c) [ inl same ↦ inl (e, same) | inr later ↦ inr later ]
     which false e p ps q c = inr c
 
 -- an arc from an interface that sends leads to who hears a frame

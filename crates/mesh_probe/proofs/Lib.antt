@@ -1,4 +1,3 @@
-mod Advertising
 mod Beginning
 mod Carried
 mod Covers

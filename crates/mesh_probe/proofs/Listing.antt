@@ -3,8 +3,8 @@ use Rattle.std.proofs.Common.{ℕ, ◌+◌, ◌<◌, inl, inr, sym, subst, arith
 use Rattle.std.proofs.lemmas.Bool.{cases_eq}
 use Rattle.std.proofs.lemmas.List.Elements.{Contains-append_left, Contains-push, Contains-push_cases, Contains-get_or}
 use Rattle.std.proofs.lemmas.List.Quantifiers.{all_pairs_push}
-use Rattle.mesh_paths.proofs.ShortLists.{none_of}
 use Rattle.mesh_probe.specs.Probes.{Lists}
+use Rattle.mesh_atoms.proofs.Lists.{contains_none as none_of}
 
 module _ (P : ℕ → Type 0) where
   -- those below a number

@@ -23,6 +23,7 @@ use Rattle.mesh_flood.specs.Noting.{AfterNote, Notes}
 use Rattle.mesh_flood.specs.Verdict.{key_of, if_noted, is_full, has_no_hops, forward_by, is_received, is_forwarded}
 use Rattle.mesh_machine.specs.Messages.{forwarding}
 use Rattle.mesh_probe.specs.Laws.{IsUnknown}
+use Rattle.mesh_atoms.proofs.Options.{some_of as some_is}
 
 -- Verdicts
 
@@ -87,10 +88,6 @@ is_do (forward.Full base) e = absurd (let f : false ≡ true = e in cc)
 
 pub flood_equiv : IsEquivalence flood_eq
 flood_equiv = and_equiv (on_equiv (λ (k : FloodKey). k.kind) nat_eq_equiv) (and_equiv (on_equiv (λ (k : FloodKey). k.originator.0) nat_eq_equiv) (on_equiv (λ (k : FloodKey). k.sequence) nat_eq_equiv))
-
-some_is : {A : Type 0} (o : Option A) → is_some o ≡ true → (a : A) × (o ≡ Some a)
-some_is None e = absurd (let f : false ≡ true = e in cc)
-some_is (Some a) e = (a, refl)
 
 -- a base of no more keys is no longer
 pub fewer : (old new : Base FloodKey Noted) → HasDistinctKeys flood_eq new → ((q : FloodKey) (e : Noted × ℕ) → find flood_eq new q ≡ Some e → (f : Noted × ℕ) × (find flood_eq old q ≡ Some f)) →

@@ -5,9 +5,8 @@ use Rattle.std.specs.List.{AllPairs}
 use Rattle.std.proofs.lemmas.Bool.{cases_Bool}
 use Rattle.std.proofs.lemmas.List.Elements.{Contains-append_cases, Contains-push_cases, Contains-get_or}
 use Rattle.mesh_probe.proofs.Wave.{has, Spread, Going, frames_on, where_sent, Net, Takes, Deaf, Quiet, Sends, Hears, All_heard, One_hears, Wave, Ends, Goes, IsApart, WaveSendsOnce}
-use Rattle.mesh_paths.proofs.SearchLaw.{in_tail, head_or_tail}
-use Rattle.mesh_paths.proofs.ShortLists.{none_of, here as front}
 use Rattle.mesh_probe.proofs.Covers.{has_first, frame_is, Grows, grows_on, takes_grow, not_both}
+use Rattle.mesh_atoms.proofs.Lists.{contains_tail as in_tail, contains_cases, contains_none as none_of, contains_head as front}
 
 -- no two frames are of one router and one interface
 pub data Apart : List Going → Type 0 where
@@ -35,7 +34,7 @@ frames_apart w h zero = None_there
 frames_apart w h (suc i) = apart_append (frames_apart w h i) (Then (λ g c. absurd (none_of g c)) None_there)
     (λ f g c d from at.
     (let l = frame_face w h i f c in
-    elim (head_or_tail (record { from = w; iface = i; hops = h }) [] g d) [
+    elim (contains_cases (record { from = w; iface = i; hops = h }) [] g d) [
       | inl same ↦ (let e : i ≡ g.iface = ap (λ (x : Going). x.iface) same in absurd (omega (arith, l, e, at)))
       | inr later ↦ absurd (none_of g later)
     ]))
@@ -96,7 +95,7 @@ module _ (n : Net) where
           | inl waits ↦ first g waits from at
           | inr unsent ↦ not_both (has old.sent g.from) (subst (λ (x : ℕ). has old.sent x ≡ true) from (sent f (front f rest))) unsent
         ]) heard_apart,
-        λ g c. elim (head_or_tail f heard g c) [
+        λ g c. elim (contains_cases f heard g c) [
           | inl same ↦ inl (subst (λ (x : Going). Contains (f ∷ rest) x) same (0, omega arith, refl))
           | inr later ↦ elim (where_from g later) [ inl waits ↦ inl (in_tail f rest g waits) | inr unsent ↦ inr unsent ]
         ],

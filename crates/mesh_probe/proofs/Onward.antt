@@ -15,11 +15,10 @@ use Rattle.mesh_probe.specs.declared.transmission.Transmission.{Transmission}
 use Rattle.mesh_probe.specs.Flood.{hearers_of, IsSender, AllHear, Flood, No_frame_waits, First_frame}
 use Rattle.mesh_probe.specs.Hearing.{CanHear, IsOfInterface, FloodsTo, Nothing_heard, One_more, SendsOnceFrom}
 use Rattle.mesh_probe.specs.Laws.{AreSentApart}
-use Rattle.mesh_paths.proofs.SearchLaw.{in_tail}
-use Rattle.mesh_paths.proofs.ShortLists.{here}
 use Rattle.mesh_probe.proofs.Covers.{has_cases, none_distinct, none_equal}
 use Rattle.mesh_probe.proofs.Queues.{take_more}
 use Rattle.mesh_probe.proofs.Wave.{has}
+use Rattle.mesh_atoms.proofs.Lists.{contains_tail as in_tail, contains_head as here}
 
 -- what is left of a flood makes the whole
 completes : {s : Scenario} {now : ℕ} {old : List State} {first : List Transmission} {new : List State} {more heard waiting : List Transmission} {mid : List State} →

@@ -1,9 +1,9 @@
 -- Frames behind one another.
-use Rattle.std.proofs.Common.{◌≡◌, ℕ, ◌+◌, List, [], ◌∷◌, ◌++◌, sym, ◌∙◌, ap, take, append_assoc, add-one, length, ◌≤◌, inl, inr, Some, None}
+use Rattle.std.proofs.Common.{◌≡◌, ℕ, ◌+◌, List, [], ◌∷◌, ◌++◌, sym, ◌∙◌, ap, take, append_assoc, add-one, Some}
 use Rattle.std.specs.Prelude.{slice_get}
 use Rattle.std.proofs.Math.Seq.{take-suc}
 use Rattle.std.proofs.lemmas.List.{map-append}
-use Rattle.std.proofs.lemmas.Option.{slice_get_within, get_or_from_slice_get, slice_get_cases}
+use Rattle.std.proofs.lemmas.Option.{slice_get_within, get_or_from_slice_get}
 use Rattle.mesh_machine.specs.declared.frame.Frame.{Frame}
 use Rattle.mesh_machine.specs.Frames.{on_each}
 use Rattle.mesh_probe.specs.declared.transmission.Transmission.{Transmission}
@@ -12,13 +12,6 @@ use Rattle.mesh_probe.specs.Flood.{sent_by}
 -- so many items and the next one
 pub take_more : {A : Type 0} (xs : List A) (i : ℕ) (x : A) → slice_get xs i ≡ Some x → take (i + 1) xs ≡ take i xs ++ (x ∷ [])
 take_more xs i x at = ap (λ n. take n xs) (add-one i) ∙ take-suc xs i x (slice_get_within xs i x at) ∙ ap (λ y. take i xs ++ (y ∷ [])) (get_or_from_slice_get xs i x x at)
-
--- nothing stands from the length on
-pub none_past : {A : Type 0} (xs : List A) (i : ℕ) → slice_get xs i ≡ None → length xs ≤ i
-none_past xs i none = elim (slice_get_cases xs i).1 [
-  | inl (x, l, is, g) ↦ absurd (let e : None ≡ Some x = sym none ∙ is in cc)
-  | inr (past, e) ↦ past
-]
 
 -- one frame more
 pub one_sent : (w : ℕ) (sent : List Frame) (frame : Frame) → sent_by w sent ++ (record { router = w; frame = frame } ∷ []) ≡ sent_by w (sent ++ (frame ∷ []))

@@ -12,7 +12,6 @@ use Rattle.mesh_atoms.specs.Settled.{AreStates}
 use Rattle.mesh_atoms.specs.State.{State, NotedMessages}
 use Rattle.mesh_flood.specs.Standing.{HasNoted, HasFullSet}
 use Rattle.mesh_flood.specs.Verdict.{is_full}
-use Rattle.mesh_paths.proofs.Scenarios.{contains_map}
 use Rattle.mesh_probe.specs.declared.coverage.Coverage.{Coverage}
 use Rattle.mesh_probe.specs.declared.coverage.Probe.{Probe}
 use Rattle.mesh_probe.specs.declared.coverage.Probe.TheVariants.{NoNumber, Done}
@@ -21,6 +20,7 @@ use Rattle.mesh_probe.specs.declared.transmission.Transmission.{Transmission}
 use Rattle.mesh_probe.specs.Laws.{AreUnknown, AreSentApart, IsUnknown, FloodReaches, FloodSendsOnce, key_of_tc, tc_key}
 use Rattle.mesh_probe.proofs.Turns.{same_state}
 use Rattle.mesh_probe.specs.Probes.{AreRoutersAt, AreReached, HasLeastNumber, IfDone, ReachesAll, SendsOnce, ProbesReach, ProbesSendOnce, TellsFlood, sending_of}
+use Rattle.mesh_atoms.proofs.Lists.{contains_map}
 
 -- What no router knows
 

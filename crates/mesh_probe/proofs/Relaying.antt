@@ -29,15 +29,16 @@ use Rattle.mesh_machine.specs.links.Links.{SelectorOf, Linked, Unlinked, IsSymme
 use Rattle.mesh_paths.specs.SettledRoutes.{IsSettledNetwork}
 use Rattle.mesh_paths.proofs.Admitted.{joins_back}
 use Rattle.mesh_paths.proofs.SettledNeighbours.{owner, same_state, same_settings, address_in, has_address, state_there, apart, known_address, known_originator, known_by, Known, neighbouring, has_with, shown_near, shows_neighbour}
-use Rattle.mesh_paths.proofs.SettledDecisions.{Contains_at, any_or_none, same_address}
+use Rattle.mesh_paths.proofs.SettledDecisions.{any_or_none}
 use Rattle.mesh_probe.proofs.Wave.{IsCovering, IsSelected}
 use Rattle.mesh_probe.specs.Flood.{hearers_of, IsSender}
 use Rattle.mesh_probe.specs.Laws.{AllWillFlood}
 use Rattle.mesh_probe.proofs.Seen.{faces_in, HoldsFlag, AreJoined, net_of}
 use Rattle.std.proofs.lemmas.Bool.{cases_Bool}
-use Rattle.mesh_paths.proofs.SearchLaw.{in_tail, head_or_tail}
 use Rattle.mesh_probe.proofs.Covers.{not_both}
 use Rattle.mesh_probe.proofs.Hearers.{hearer, hearer_of}
+use Rattle.mesh_atoms.proofs.Lists.{contains_at, contains_tail as in_tail, contains_cases}
+use Rattle.mesh_atoms.proofs.Values.{same_address}
 
 -- The least of what has a property
 
@@ -51,7 +52,7 @@ least_in {A} P cost test (x ∷ xs) = elim (test x) [
         x,
         (0, omega arith, refl),
         p,
-        λ u c q. elim (head_or_tail x xs u c) [
+        λ u c q. elim (contains_cases x xs u c) [
           | inl e ↦ (let f : cost x ≡ cost u = ap cost e in omega (arith, f))
           | inr later ↦ (let g = least u later q in omega (arith, g, le))
         ],
@@ -60,7 +61,7 @@ least_in {A} P cost test (x ∷ xs) = elim (test x) [
         t,
         in_tail x xs t stands,
         has,
-        λ u c q. elim (head_or_tail x xs u c) [
+        λ u c q. elim (contains_cases x xs u c) [
           | inl e ↦ (let f : cost x ≡ cost u = ap cost e in omega (arith, f, gt))
           | inr later ↦ least u later q
         ],
@@ -70,7 +71,7 @@ least_in {A} P cost test (x ∷ xs) = elim (test x) [
       x,
       (0, omega arith, refl),
       p,
-      λ u c q. elim (head_or_tail x xs u c) [
+      λ u c q. elim (contains_cases x xs u c) [
         | inl e ↦ (let f : cost x ≡ cost u = ap cost e in omega (arith, f))
         | inr later ↦ absurd (none u later q)
       ],
@@ -81,12 +82,12 @@ least_in {A} P cost test (x ∷ xs) = elim (test x) [
       t,
       in_tail x xs t stands,
       has,
-      λ u c q. elim (head_or_tail x xs u c) [
+      λ u c q. elim (contains_cases x xs u c) [
         | inl e ↦ absurd (not_x (subst P (sym e) q))
         | inr later ↦ least u later q
       ],
     )
-    | inr none ↦ inr (λ t c q. elim (head_or_tail x xs t c) [
+    | inr none ↦ inr (λ t c q. elim (contains_cases x xs t c) [
       | inl e ↦ not_x (subst P (sym e) q)
       | inr later ↦ none t later q
     ])
@@ -119,7 +120,7 @@ module _ (s : Scenario) (states : List State) (now : ℕ) (S : IsSettledNetwork 
 
   -- the sender's address is on that interface
   sender_on : (x i : ℕ) (a : Addr4) → IsSender s x i a → (r : RouterSettings) × Router s x r × HasAddressOn r i a
-  sender_on x i a (r, is, iface, at, first) = (r, is, (iface, at, Contains_at iface.addrs 0 a first))
+  sender_on x i a (r, is, iface, at, first) = (r, is, (iface, at, contains_at iface.addrs 0 a first))
 
   -- a SYMMETRIC link with the sender's address is one with its interface
   record LinkOf (w j x i : ℕ) (q : State) (link : Link) : Type 0 where

@@ -1,9 +1,8 @@
 -- A flood of the machine's steps is a wave.
 use Rattle.std.proofs.Common.{◌≡◌, ℕ, zero, suc, ◌+◌, ◌-◌, ◌<◌, ◌≤◌, ◌⊎◌, inl, inr, refl, sym, ◌∙◌, ap, subst, arith, List, [], ◌∷◌, ◌++◌, length, Contains, Option, Some, None, slice_get}
 use Rattle.std.specs.Prelude.{Bool, true, false, nat_eq, nat_le, ◌||◌, if◌then◌else◌}
-use Rattle.std.proofs.lemmas.Bool.{eq-eqb, eqb-true, leb-true, cases_eq}
+use Rattle.std.proofs.lemmas.Bool.{eqb-true, leb-true, cases_eq}
 use Rattle.std.proofs.lemmas.List.{map-append}
-use Rattle.mesh_machine.specs.addr.declared.records.RawAddr.{RawAddr}
 use Rattle.mesh_atoms.specs.declared.addr.Addr4.{Addr4}
 use Rattle.mesh_atoms.specs.declared.settings.RouterSettings.{RouterSettings}
 use Rattle.mesh_atoms.specs.declared.settings.Scenario.{Scenario}
@@ -49,15 +48,12 @@ use Rattle.mesh_paths.proofs.LinksStay.{link_stays}
 use Rattle.mesh_probe.proofs.Links.{same_selector}
 use Rattle.mesh_probe.proofs.Noted.{does, never_own, not_twice, deaf, sends_nothing, is_do, unknown_live, unknown_deaf, Stands, stands_live, stands_noted, stands_new}
 use Rattle.std.proofs.lemmas.Bool.{cases_Bool}
-use Rattle.mesh_paths.proofs.SearchLaw.{in_tail, head_or_tail}
-use Rattle.mesh_paths.proofs.ShortLists.{none_of}
 use Rattle.mesh_probe.proofs.Covers.{has_first, has_later, has_cases, not_both}
+use Rattle.mesh_atoms.proofs.Values.{one_originator, addr_itself as same_eq}
+use Rattle.mesh_machine.proofs.Soundness.{same_originator}
+use Rattle.mesh_atoms.proofs.Lists.{contains_tail as in_tail, contains_cases, contains_none as none_of}
 
 -- Keys
-
-same_originator : (o : Option RawAddr) (a b : Addr4) → OriginatorIs o (Some a) → OriginatorIs o (Some b) → a ≡ b
-same_originator None a b e f = absurd e
-same_originator (Some r) a b e f = ap (λ (n : ℕ). let x : Addr4 = record { 0 = n } in x) (e ∙ sym f)
 
 some_same : {A : Type 0} (o : Option A) (a b : A) → o ≡ Some a → o ≡ Some b → a ≡ b
 some_same o a b e f = cc
@@ -67,14 +63,6 @@ same_key heading tc a b c =
     ap (λ (n : ℕ). let k : FloodKey = record { kind = n; originator = heading.originator; sequence = heading.sequence } in k) a
     ∙ ap (λ (n : Addr4). let k : FloodKey = record { kind = 1; originator = n; sequence = heading.sequence } in k) b
     ∙ ap (λ (n : ℕ). let k : FloodKey = record { kind = 1; originator = tc.originator; sequence = n } in k) c
-
-pub one_originator : (r : RouterSettings) (a b : Addr4) → IsOriginator r a → IsOriginator r b → a ≡ b
-one_originator r a b (i, at_i, is_a) (j, at_j, is_b) =
-    let same : i ≡ j = some_same (slice_get r.interfaces 0) i j at_i at_j in
-    some_same (slice_get j.addrs 0) a b (subst (λ k. slice_get k.addrs 0 ≡ Some a) same is_a) is_b
-
-same_eq : (a b : Addr4) → a ≡ b → addr_eq a b ≡ true
-same_eq a b e = eq-eqb a.0 b.0 (ap (λ (x : Addr4). x.0) e)
 
 -- Hops
 
@@ -497,7 +485,7 @@ module _ {s : Scenario} {states : List State} {now origin : ℕ} {tc : Tc} {m : 
 
   pub at_place : {fs : List Transmission} {gs : List Going} → Matches fs gs → (g : Going) → Contains gs g → (f : Transmission) × Contains fs f × (f.router ≡ g.from) × (f.frame.iface ≡ g.iface)
   at_place No_frames g c = absurd (none_of g c)
-  at_place (A_frame {f = f} {fs = fs} {gs = gs} hops carries rest) g c = elim (head_or_tail (record { from = f.router; iface = f.frame.iface; hops = hops }) gs g c) [
+  at_place (A_frame {f = f} {fs = fs} {gs = gs} hops carries rest) g c = elim (contains_cases (record { from = f.router; iface = f.frame.iface; hops = hops }) gs g c) [
     | inl e ↦ (f, (0, omega arith, refl), ap (λ (x : Going). x.from) e, ap (λ (x : Going). x.iface) e)
     | inr later ↦ let (h, stands, a, b) = at_place rest g later in (h, in_tail f fs h stands, a, b)
   ]

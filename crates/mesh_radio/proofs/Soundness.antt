@@ -8,7 +8,8 @@ use Rattle.mesh_machine.specs.declared.frame.Frame.{Frame}
 use Rattle.mesh_machine.specs.Machine.{Event, due}
 use Rattle.mesh_machine.specs.Net.{IsFirstDue}
 use Rattle.mesh_radio.specs.Scene.{AreRouters, Stepped}
-use Rattle.mesh_machine.proofs.Places.{stands, same_at, set_at}
+use Rattle.mesh_machine.proofs.Places.{same_at, set_at}
+use Rattle.mesh_atoms.proofs.Lists.{item_at as stands}
 
 pub same_count : (old new : List State) (x now : ℕ) (event : Event) (frames : List Frame) (change : ℕ → ℕ → Type 0) → Stepped old new x now event frames change → length new ≡ length old
 same_count old new x now event frames change step = ap length step.routers ∙ length-set old x step.is

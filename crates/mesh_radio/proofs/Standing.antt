@@ -10,7 +10,8 @@ use Rattle.mesh_machine.specs.declared.frame.Frame.{Frame}
 use Rattle.mesh_machine.specs.Machine.{Event}
 use Rattle.mesh_machine.specs.Sendable.{IsSendable}
 use Rattle.mesh_radio.specs.Scene.{AreRouters, Stepped, IsTo}
-use Rattle.mesh_machine.proofs.Places.{stands, same_at}
+use Rattle.mesh_machine.proofs.Places.{same_at}
+use Rattle.mesh_atoms.proofs.Lists.{item_at as stands}
 
 pub router_at : (s : Scenario) (now : ℕ) (routers : List State) (x : ℕ) → AreRouters s now routers → x < length s.routers → (was : State) × (slice_get routers x ≡ Some was) × (was.last ≤ now)
 router_at s now routers x h lt = let there = stands routers x (rw h.count lt) in (there.0, there.1, h.lasts x there.0 there.1)

@@ -19,8 +19,10 @@ use Rattle.mesh_relay.specs.Tests.{is_direct_within}
 use Rattle.mesh_relay.specs.Ways.{AreWilling, IsAt, IsDirect, IsCheapest, HasWay, RisesFrom, AreWays, way_at, way_from, adds_nothing}
 use Rattle.mesh_atoms.proofs.Deciding.{Decides-addr}
 use Rattle.mesh_relay.proofs.Decide.{Decides-direct}
-use Rattle.mesh_relay.proofs.Lists.{none_within, cons_cases, cons_more, cons_first, given_by, gives, dedup_within, joined, kept_within}
+use Rattle.mesh_relay.proofs.Lists.{cons_cases, cons_more, given_by, gives, dedup_within, joined, kept_within}
 use Rattle.mesh_relay.proofs.Willing.{one_near}
+use Rattle.mesh_atoms.proofs.Options.{none_is_not_some as no_some, some_equal}
+use Rattle.mesh_atoms.proofs.Lists.{contains_none, contains_head}
 
 -- Ways in order
 
@@ -55,7 +57,7 @@ rises_lower j k (x ∷ xs) le h = (in_order_on j k x le h.0, h.1)
 rises_above : (k : Way) (xs : List Way) (v : Way) → Rises k xs → Contains (k ∷ xs) v → InOrder k v
 rises_above k [] v up w = elim (cons_cases k v [] w) [
   | inl e ↦ subst (InOrder k) e (in_order_itself k)
-  | inr h ↦ absurd (none_within v h)
+  | inr h ↦ absurd (contains_none v h)
 ]
 rises_above k (x ∷ xs) v up w = elim (cons_cases k v (x ∷ xs) w) [
   | inl e ↦ subst (InOrder k) e (in_order_itself k)
@@ -103,11 +105,11 @@ IsLeastIn kept all = (w v : Way) → Contains kept w → Contains all v → v.ad
 
 least_joined : (k x : Way) (xs a : List Way) → adds_nothing x k ≡ true → InOrder k x → IsLeastIn a (k ∷ xs) → IsLeastIn a (k ∷ x ∷ xs)
 least_joined k x xs a e up h w v in' there at = elim (cons_cases k v (x ∷ xs) there) [
-  | inl f ↦ h w v in' (subst (Contains (k ∷ xs)) f (cons_first k xs)) at
+  | inl f ↦ h w v in' (subst (Contains (k ∷ xs)) f (contains_head k xs)) at
   | inr later ↦ elim (cons_cases x v xs later) [
     | inl f ↦
         let here : x.addr ≡ w.addr = ap (λ (y : Way). y.addr) f ∙ at in
-        let low : w.cost ≤ k.cost = h w k in' (cons_first k xs) (sym (same_addr x k e) ∙ here) in
+        let low : w.cost ≤ k.cost = h w k in' (contains_head k xs) (sym (same_addr x k e) ∙ here) in
         let high : k.cost ≤ x.cost = cost_le k x up (sym (same_addr x k e)) in
         let end : x.cost ≡ v.cost = ap (λ (y : Way). y.cost) f in
         omega arith
@@ -134,7 +136,7 @@ least_kept k x xs c e up rises inside h w v in' there at = elim (cons_cases k w 
   | inl f ↦ subst (λ (y : Way). y.cost ≤ v.cost) f (cost_le k v (rises_above k (x ∷ xs) v (up, rises) there) (ap (λ (y : Way). y.addr) f ∙ sym at))
   | inr later ↦ elim (cons_cases k v (x ∷ xs) there) [
     | inl f ↦ subst (λ (y : Way). w.cost ≤ y.cost) f
-        (first_no_dearer k x w xs e up rises (inside w later) (ap (λ (y : Way). y.addr) f ∙ at) (λ here. h w x later (cons_first x xs) here))
+        (first_no_dearer k x w xs e up rises (inside w later) (ap (λ (y : Way). y.addr) f ∙ at) (λ here. h w x later (contains_head x xs) here))
     | inr last ↦ h w v later last at
   ]
 ]
@@ -148,9 +150,9 @@ least_one : (k : Way) → IsLeastIn (k ∷ []) (k ∷ [])
 least_one k w v in' there at = elim (cons_cases k w [] in') [
   | inl e ↦ elim (cons_cases k v [] there) [
     | inl f ↦ let d : w.cost ≡ v.cost = ap (λ (y : Way). y.cost) (sym e ∙ f) in omega arith
-    | inr h ↦ absurd (none_within v h)
+    | inr h ↦ absurd (contains_none v h)
   ]
-  | inr h ↦ absurd (none_within w h)
+  | inr h ↦ absurd (contains_none w h)
 ]
 
 least : (k : Way) (xs : List Way) → Rises k xs → IsLeastIn (dedup_from adds_nothing k xs) (k ∷ xs)
@@ -160,16 +162,10 @@ least k (x ∷ xs) up =
     (λ w h. dedup_within adds_nothing x xs w h) (least k xs (rises_lower k x xs up.0 up.1)) (least x xs up.1)
 
 dedup_least : (sorted : List Way) → IsInOrder sorted → IsLeastIn (dedup adds_nothing sorted) sorted
-dedup_least [] up w v in' there at = absurd (none_within w in')
+dedup_least [] up w v in' there at = absurd (contains_none w in')
 dedup_least (k ∷ xs) up w v in' there at = least k xs up w v in' there at
 
 -- What an entry gives
-
-some_same : {X : Type 0} (x y : X) → Some x ≡ Some y → x ≡ y
-some_same x y e = cc
-
-no_some : {X : Type 0} (x : X) → None ≡ Some x → ⊥
-no_some x e = cc
 
 -- the neighbour that gives the entry its way
 record Found (g : NeighbourGraph) (start : ℕ) (ns : List Near) (f : Far) : Type 0 where
@@ -217,7 +213,7 @@ found_cons g start n ns f false e h =
     ]
 
 found : (g : NeighbourGraph) (start : ℕ) (ns : List Near) (f : Far) → NoneFound g start ns f ⊎ Found g start ns f
-found g start [] f = inl (λ n w e. none_within n w, refl)
+found g start [] f = inl (λ n w e. contains_none n w, refl)
 found g start (n ∷ ns) f = found_cons g start n ns f (addr_eq n.id f.via) refl (found g (start + 1) ns f)
 
 abbrev IsWayBy : NeighbourGraph → ℕ → Near → Far → Way → Type 0
@@ -239,7 +235,7 @@ direct_gives_none g place n f d =
 way_at_is : (g : NeighbourGraph) (place : ℕ) (n : Near) (f : Far) (w : Way) → way_at g place n f ≡ Some w → IsWayBy g place n f w
 way_at_is g place n f w e = elim (way_at_cases g place n f (is_direct_within g f.addr (n.cost + f.cost)) refl) [
   | inl d ↦ absurd (no_some w (sym (direct_gives_none g place n f d) ∙ e))
-  | inr h ↦ subst (IsWayBy g place n f) (some_same h.0 w (sym h.1 ∙ e)) h.2
+  | inr h ↦ subst (IsWayBy g place n f) (some_equal h.0 w (sym h.1 ∙ e)) h.2
 ]
 
 -- The ways of a graph

@@ -59,7 +59,7 @@ before_none y most (d ∷ ds) (suc n) before le =
     before_none y most ds n (λ k e lt. before (suc k) e (omega arith)) (omega (arith, le))
     ∙ sym (ap (λ (x : Bool). x || list_any (is_offer y most) ds) (no_offer y most d (λ e. omega arith)))
 
-not_lower : (a b : ℕ) → nat_lt a b ≡ false → b ≤ a
+pub not_lower : (a b : ℕ) → nat_lt a b ≡ false → b ≤ a
 not_lower a b e = elim (cases_lt a b) [ inl lt ↦ absurd (false≢true (sym e ∙ lt-ltb a b lt)) | inr le ↦ le ]
 
 pub from_point : (y : Addr4) (most : ℕ) (ds rest : List Direct) (n : ℕ) → IsNonDecreasingBy (λ (x : Direct). x.addr.0) ds → n ≤ length ds →

@@ -7,15 +7,13 @@ use Rattle.mesh_atoms.specs.declared.graphs.Far.{Far}
 use Rattle.mesh_atoms.specs.declared.graphs.NeighbourGraph.{NeighbourGraph}
 use Rattle.mesh_relay.specs.Laws.{KeepsDistances}
 use Rattle.mesh_atoms.specs.Relays.{IsDistance, IsAsCheap, HasSameDistance, IsWilling, IsRelay, Covers, HasDistinctIds}
+use Rattle.mesh_atoms.proofs.Options.{some_equal}
 
 no_some : (m : ℕ) → None ≡ Some m → ⊥
 no_some m e = cc
 
 some_no : (m : ℕ) → Some m ≡ None → ⊥
 some_no m e = cc
-
-some_same : (l m : ℕ) → Some l ≡ Some m → l ≡ m
-some_same l m e = cc
 
 equal_from : (l m e f : ℕ) → l ≤ e → e ≤ m → m ≤ f → f ≤ l → l ≡ m
 equal_from l m e f p q r s = omega arith
@@ -35,7 +33,7 @@ tells g A B y (Some l) (Some m) here there = (
       let w = h.0 m there.0 in
       let v = h.1 l here.0 in
       ap (λ (n : ℕ). Some n) (equal_from l m w.0 v.0 (here.1 w.0 w.1) w.2 (there.1 v.0 v.1) v.2),
-  λ e. (λ c o. (l, here.0, through l m c (some_same l m e) (there.1 c o)), λ c o. (m, there.0, through_back l m c (some_same l m e) (here.1 c o))),
+  λ e. (λ c o. (l, here.0, through l m c (some_equal l m e) (there.1 c o)), λ c o. (m, there.0, through_back l m c (some_equal l m e) (here.1 c o))),
 )
 
 relays_are_willing : (g : NeighbourGraph) (relays : List Addr4) (n : Near) → HasDistinctIds g → Covers g relays → Contains g.near n → Contains relays n.id → IsWilling n

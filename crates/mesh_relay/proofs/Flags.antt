@@ -2,7 +2,7 @@
 use Rattle.std.proofs.Common.{◌≡◌, ℕ, ◌+◌, ◌≤◌, ◌<◌, ◌≢◌, ◌⊎◌, Bool, true, false, nat_eq, nat_lt, List, length, get_or, set, sym, ◌∙◌, ap, subst, inl, inr, arith}
 use Rattle.std.specs.Prelude.{◌↔◌, AllPairs, Contains, IsTrue, replicate}
 use Rattle.std.specs.List.Sorted.{IsNonDecreasingBy, IsPartitionPoint}
-use Rattle.std.proofs.lemmas.Bool.{false≢true, cases_Bool, cases_lt, ltb-true, lt-ltb, eqb-true, eq-eqb}
+use Rattle.std.proofs.lemmas.Bool.{false≢true, cases_Bool, cases_lt, ltb-true, eqb-true, eq-eqb}
 use Rattle.std.proofs.lemmas.List.{get_or-set_same, get_or-set_other, get_or_default, get_or-replicate, length-set, length-replicate}
 use Rattle.std.proofs.lemmas.List.Elements.{Contains-get_or}
 use Rattle.mesh_atoms.specs.declared.addr.Addr4.{Addr4}
@@ -14,6 +14,7 @@ use Rattle.mesh_relay.specs.Taken.{ids_of, IsTaken}
 use Rattle.mesh_relay.specs.Ways.{AreWilling, IsAt}
 use Rattle.mesh_relay.proofs.Pruned.{offers_more, same_near}
 use Rattle.mesh_relay.proofs.Taken.{taken_of, id_taken}
+use Rattle.mesh_relay.proofs.Directs.{not_lower}
 
 same_or_before : (ns : List Near) (i j : ℕ) (d : Near) → i ≡ j → (get_or ns i d).id.0 ≤ (get_or ns j d).id.0
 same_or_before ns i j d e = subst (λ (k : ℕ). (get_or ns i d).id.0 ≤ (get_or ns k d).id.0) e (omega arith)
@@ -25,9 +26,6 @@ ids_rise ns order i j d le lt = elim (cases_lt i j) [
 ]
 
 -- The place of an id
-
-not_lower : (a b : ℕ) → nat_lt a b ≡ false → b ≤ a
-not_lower a b e = elim (cases_lt a b) [ inl lt ↦ absurd (false≢true (sym e ∙ lt-ltb a b lt)) | inr le ↦ le ]
 
 -- no neighbour has the id that the one at its place doesn't have
 pub no_place : (ns : List Near) (id : Addr4) (place : ℕ) → AllPairs (λ m n. m.id.0 < n.id.0) ns →
@@ -88,7 +86,7 @@ still_has willing flags place id lt w =
     let h = taken_of willing flags id w in
     subst (Contains (ids_of willing (set flags place true))) h.is (id_taken willing (set flags place true) h.place h.near h.at (set_taken flags place h.place lt h.taken))
 
-below_or_at : (j many : ℕ) → j < many + 1 → (j < many) ⊎ (many ≡ j)
+pub below_or_at : (j many : ℕ) → j < many + 1 → (j < many) ⊎ (many ≡ j)
 below_or_at j many lt = elim (cases_lt j many) [ inl h ↦ inl h | inr h ↦ inr (omega arith) ]
 
 pub one_flagged : (willing : List Near) (ids : List Addr4) (flags : List Bool) (many place : ℕ) (e : Addr4) → many < length ids → HasPlace willing (get_or ids many e) place →

@@ -1,13 +1,12 @@
 -- The neighbour that is taken next.
-use Rattle.std.proofs.Common.{◌≡◌, ℕ, ◌+◌, ◌≤◌, ◌<◌, ◌⊎◌, Bool, true, false, cond, nat_lt, List, [], ◌∷◌, Option, Some, None, get_or, set, zero, suc, refl, sym, ◌∙◌, subst, inl, inr, arith}
+use Rattle.std.proofs.Common.{◌≡◌, ℕ, ◌+◌, ◌≤◌, ◌<◌, ◌⊎◌, Bool, true, false, cond, List, [], ◌∷◌, Option, Some, None, get_or, set, zero, suc, refl, sym, ◌∙◌, subst, inl, inr, arith}
 use Rattle.std.specs.Prelude.{slice_index}
-use Rattle.std.proofs.lemmas.Bool.{false≢true, true≢false, cases_lt, ltb-true, lt-ltb}
+use Rattle.std.proofs.lemmas.Bool.{false≢true, true≢false, cases_lt, ltb-true}
 use Rattle.mesh_relay.specs.Taken.{IsTaken, IsFree, free_count, is_better, IsBest}
+use Rattle.mesh_relay.proofs.Directs.{not_lower as not_less}
+use Rattle.mesh_relay.proofs.Flags.{below_or_at}
 
 -- One more place
-
-below_or_at : (k place : ℕ) → k < place + 1 → (k < place) ⊎ (place ≡ k)
-below_or_at k place lt = elim (cases_lt k place) [ inl h ↦ inl h | inr h ↦ inr (omega arith) ]
 
 all_more : (P : ℕ → Type 0) (place : ℕ) → ((k : ℕ) → k < place → P k) → P place → (k : ℕ) → k < place + 1 → P k
 all_more P place h here k lt = elim (below_or_at k place lt) [ inl below ↦ h k below | inr e ↦ subst P e here ]
@@ -22,9 +21,6 @@ best_if_taken gains taken place None h e = all_more (IsTaken taken) place h e
 best_if_taken gains taken place (Some best) h e =
     let lt : best < place = h.0 in
     (omega arith, h.1, all_more (NoBetter gains taken best) place h.2 (λ free. absurd (false≢true (sym free ∙ e))))
-
-not_less : (a b : ℕ) → nat_lt a b ≡ false → b ≤ a
-not_less a b e = elim (cases_lt a b) [ inl lt ↦ absurd (false≢true (sym e ∙ lt-ltb a b lt)) | inr le ↦ le ]
 
 less_or_same : (a b : ℕ) → a ≤ b → (a < b) ⊎ (a ≡ b)
 less_or_same a b le = elim (cases_lt a b) [ inl lt ↦ inl lt | inr ge ↦ inr (omega arith) ]

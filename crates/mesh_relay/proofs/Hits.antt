@@ -7,7 +7,8 @@ use Rattle.mesh_atoms.specs.Base.{addr_eq}
 use Rattle.mesh_relay.specs.declared.ways.Way.{Way}
 use Rattle.mesh_relay.specs.Ways.{RisesFrom, reached_on, reaches_all}
 use Rattle.mesh_atoms.proofs.Deciding.{Decides-addr}
-use Rattle.mesh_relay.proofs.Lists.{cons_cases, cons_more, cons_first, none_within}
+use Rattle.mesh_relay.proofs.Lists.{cons_cases, cons_more}
+use Rattle.mesh_atoms.proofs.Lists.{contains_head, contains_none}
 
 -- some way to y passes the test
 abbrev pub Hit : (Way → Bool) → Addr4 → List Way → Type 0
@@ -33,7 +34,7 @@ unfolding Reached
 reached_true_cons test y reached w ws true d e goes_on begins =
     let h = goes_on e in (
       elim h.0 [
-        | inl o ↦ elim (or_cases reached (test w) o) [ inl r ↦ inl r | inr t ↦ inr (w, cons_first w ws, d.0 refl, t) ]
+        | inl o ↦ elim (or_cases reached (test w) o) [ inl r ↦ inl r | inr t ↦ inr (w, contains_head w ws, d.0 refl, t) ]
         | inr hit ↦ inr (hit_more test y w ws hit)
       ],
       λ v within. elim (cons_cases w v ws within) [
@@ -44,7 +45,7 @@ reached_true_cons test y reached w ws true d e goes_on begins =
 reached_true_cons test y reached w ws false d e goes_on begins =
     let both = and_parts reached (reached_on test w.addr (test w) ws) e in
     let h = begins both.1 in
-    let here : Hit test w.addr (w ∷ ws) = elim h.0 [ inl t ↦ (w, cons_first w ws, refl, t) | inr hit ↦ hit_more test w.addr w ws hit ] in (
+    let here : Hit test w.addr (w ∷ ws) = elim h.0 [ inl t ↦ (w, contains_head w ws, refl, t) | inr hit ↦ hit_more test w.addr w ws hit ] in (
       inl both.0,
       λ v within. elim (cons_cases w v ws within) [
         | inl same' ↦ inr (subst (λ (f : Way). Hit test f.addr (w ∷ ws)) same' here)
@@ -54,17 +55,17 @@ reached_true_cons test y reached w ws false d e goes_on begins =
 
 reached_true : (test : Way → Bool) (y : Addr4) (reached : Bool) (ws : List Way) → reached_on test y reached ws ≡ true → Reached test y reached ws
 unfolding Reached
-reached_true test y reached [] e = (inl e, λ w within. absurd (none_within w within))
+reached_true test y reached [] e = (inl e, λ w within. absurd (contains_none w within))
 reached_true test y reached (w ∷ ws) e =
     reached_true_cons test y reached w ws (addr_eq w.addr y) (Decides-addr w.addr y) e
     (reached_true test y (reached || test w) ws) (reached_true test w.addr (test w) ws)
 
 pub all_hit : (test : Way → Bool) (ways : List Way) → reaches_all test ways ≡ true → (w : Way) → Contains ways w → Hit test w.addr ways
 unfolding Reached
-all_hit test [] e w within = absurd (none_within w within)
+all_hit test [] e w within = absurd (contains_none w within)
 all_hit test (v ∷ ways) e w within =
     let h = reached_true test v.addr (test v) ways e in
-    let here : Hit test v.addr (v ∷ ways) = elim h.0 [ inl t ↦ (v, cons_first v ways, refl, t) | inr hit ↦ hit_more test v.addr v ways hit ] in
+    let here : Hit test v.addr (v ∷ ways) = elim h.0 [ inl t ↦ (v, contains_head v ways, refl, t) | inr hit ↦ hit_more test v.addr v ways hit ] in
     elim (cons_cases v w ways within) [
       | inl same' ↦ subst (λ (f : Way). Hit test f.addr (v ∷ ways)) same' here
       | inr later ↦ elim (h.1 w later) [ inl at ↦ subst (λ (a : Addr4). Hit test a (v ∷ ways)) (sym at) here | inr hit ↦ hit_more test w.addr v ways hit ]
@@ -73,7 +74,7 @@ all_hit test (v ∷ ways) e w within =
 -- where one is not
 
 rises_above : (low : ℕ) (ws : List Way) → RisesFrom low ws → (v : Way) → Contains ws v → low ≤ v.addr.0
-rises_above low [] up v within = absurd (none_within v within)
+rises_above low [] up v within = absurd (contains_none v within)
 rises_above low (w ∷ ws) up v within = elim (cons_cases w v ws within) [
   | inl same' ↦ subst (λ (f : Way). low ≤ f.addr.0) same' up.0
   | inr later ↦ let first : low ≤ w.addr.0 = up.0 in let above : w.addr.0 ≤ v.addr.0 = rises_above w.addr.0 ws up.1 v later in omega arith
@@ -130,14 +131,14 @@ misses_cons test y reached w ws false d up e goes_on begins =
     elim (and_cases reached (reached_on test w.addr (test w) ws) e) [
       | inl r ↦ inl (r, λ v within at. absurd (not_later y w ws (λ f. false≢true (d.1 f)) up v within at))
       | inr f ↦ elim (begins up.1 f) [
-        | inl h ↦ inr (w, cons_first w ws, (λ at. false≢true (d.1 at)), missed_first test w.addr w ws h.0 h.1)
+        | inl h ↦ inr (w, contains_head w ws, (λ at. false≢true (d.1 at)), missed_first test w.addr w ws h.0 h.1)
         | inr h ↦ inr (h.0, cons_more w h.0 ws h.1, later_differs y w h.0 ws up h.1 h.2, missed_other test h.0.addr w ws (λ f. h.2 (sym f)) h.3)
       ]
     ]
 
 misses_false : (test : Way → Bool) (y : Addr4) (reached : Bool) (ws : List Way) → RisesFrom y.0 ws → reached_on test y reached ws ≡ false → Misses test y reached ws
 unfolding Misses
-misses_false test y reached [] up e = inl (e, λ v within. absurd (none_within v within))
+misses_false test y reached [] up e = inl (e, λ v within. absurd (contains_none v within))
 misses_false test y reached (w ∷ ws) up e =
     misses_cons test y reached w ws (addr_eq w.addr y) (Decides-addr w.addr y) up e
     (misses_false test y (reached || test w) ws) (misses_false test w.addr (test w) ws)
@@ -148,6 +149,6 @@ unfolding Misses
 one_missed test [] up e = absurd (true≢false e)
 one_missed test (v ∷ ways) up e =
     elim (misses_false test v.addr (test v) ways up.1 e) [
-      | inl h ↦ (v, cons_first v ways, missed_first test v.addr v ways h.0 h.1)
+      | inl h ↦ (v, contains_head v ways, missed_first test v.addr v ways h.0 h.1)
       | inr h ↦ (h.0, cons_more v h.0 ways h.1, missed_other test h.0.addr v ways (λ f. h.2 (sym f)) h.3)
     ]

@@ -1,11 +1,9 @@
 -- Elements of lists.
 use Rattle.std.proofs.Common.{◌≡◌, ◌⊎◌, Bool, true, false, cond, List, [], ◌∷◌, Option, Some, None, zero, suc, refl, sym, ap, subst, inl, inr, arith}
-use Rattle.std.specs.Prelude.{Contains, filter, filter_map}
+use Rattle.std.specs.Prelude.{Contains, filter_map}
 use Rattle.std.specs.List.{dedup, dedup_from, cons_option}
 use Rattle.std.proofs.lemmas.Bool.{false≢true}
-
-pub none_within : {X : Type 0} (x : X) → Contains [] x → ⊥
-none_within x w = omega (arith, w.1)
+use Rattle.mesh_atoms.proofs.Lists.{contains_head, contains_none}
 
 pub cons_cases : {X : Type 0} (x a : X) (xs : List X) → Contains (x ∷ xs) a → (x ≡ a) ⊎ Contains xs a
 cons_cases x a xs (zero, lt, at) = inl at
@@ -14,9 +12,6 @@ cons_cases x a xs (suc k, lt, at) = inr (k, omega arith, at)
 pub cons_more : {X : Type 0} (x a : X) (xs : List X) → Contains xs a → Contains (x ∷ xs) a
 cons_more x a xs w = (suc w.0, omega (arith, w.1), w.2)
 
-pub cons_first : {X : Type 0} (x : X) (xs : List X) → Contains (x ∷ xs) x
-cons_first x xs = (0, omega arith, refl)
-
 -- Elements that pass a test
 
 filter_cons : {X : Type 0} (b : Bool) (x y : X) (rest : List X) → Contains (cond b (y ∷ rest) rest) x → ((y ≡ x) × (b ≡ true)) ⊎ Contains rest x
@@ -24,26 +19,12 @@ filter_cons true x y rest w = elim (cons_cases y x rest w) [ inl e ↦ inl (e, r
 filter_cons false x y rest w = inr w
 
 filter_first : {X : Type 0} (b : Bool) (y : X) (rest : List X) → b ≡ true → Contains (cond b (y ∷ rest) rest) y
-filter_first true y rest e = cons_first y rest
+filter_first true y rest e = contains_head y rest
 filter_first false y rest e = absurd (false≢true e)
 
 filter_later : {X : Type 0} (b : Bool) (x y : X) (rest : List X) → Contains rest x → Contains (cond b (y ∷ rest) rest) x
 filter_later true x y rest w = cons_more y x rest w
 filter_later false x y rest w = w
-
-pub passes : {X : Type 0} (p : X → Bool) (xs : List X) (x : X) → Contains (filter p xs) x → Contains xs x × (p x ≡ true)
-passes p [] x w = absurd (none_within x w)
-passes p (y ∷ xs) x w = elim (filter_cons (p y) x y (filter p xs) w) [
-  | inl e ↦ (subst (λ z. Contains (y ∷ xs) z) e.0 (cons_first y xs), subst (λ z. p z ≡ true) e.0 e.1)
-  | inr v ↦ let h = passes p xs x v in (cons_more y x xs h.0, h.1)
-]
-
-pub stays : {X : Type 0} (p : X → Bool) (xs : List X) (x : X) → Contains xs x → p x ≡ true → Contains (filter p xs) x
-stays p [] x w e = absurd (none_within x w)
-stays p (y ∷ xs) x w e = elim (cons_cases y x xs w) [
-  | inl same' ↦ subst (λ z. Contains (filter p (y ∷ xs)) z) same' (filter_first (p y) y (filter p xs) (subst (λ z. p z ≡ true) (sym same') e))
-  | inr later ↦ filter_later (p y) x y (filter p xs) (stays p xs x later e)
-]
 
 -- What a function gives for elements
 
@@ -52,21 +33,21 @@ option_cases None x rest w = inr w
 option_cases (Some y) x rest w = elim (cons_cases y x rest w) [ inl e ↦ inl (ap (λ z. Some z) e) | inr v ↦ inr v ]
 
 option_first : {X : Type 0} (o : Option X) (x : X) (rest : List X) → o ≡ Some x → Contains (cons_option o rest) x
-option_first o x rest e = subst (λ p. Contains (cons_option p rest) x) (sym e) (cons_first x rest)
+option_first o x rest e = subst (λ p. Contains (cons_option p rest) x) (sym e) (contains_head x rest)
 
 option_later : {X : Type 0} (o : Option X) (x : X) (rest : List X) → Contains rest x → Contains (cons_option o rest) x
 option_later None x rest w = w
 option_later (Some y) x rest w = cons_more y x rest w
 
 pub given_by : {X Y : Type 0} (h : X → Option Y) (xs : List X) (y : Y) → Contains (filter_map h xs) y → (x : X) × Contains xs x × (h x ≡ Some y)
-given_by h [] y w = absurd (none_within y w)
+given_by h [] y w = absurd (contains_none y w)
 given_by h (x ∷ xs) y w = elim (option_cases (h x) y (filter_map h xs) w) [
-  | inl e ↦ (x, cons_first x xs, e)
+  | inl e ↦ (x, contains_head x xs, e)
   | inr v ↦ let r = given_by h xs y v in (r.0, cons_more x r.0 xs r.1, r.2)
 ]
 
 pub gives : {X Y : Type 0} (h : X → Option Y) (xs : List X) (x : X) (y : Y) → Contains xs x → h x ≡ Some y → Contains (filter_map h xs) y
-gives h [] x y w e = absurd (none_within x w)
+gives h [] x y w e = absurd (contains_none x w)
 gives h (z ∷ xs) x y w e = elim (cons_cases z x xs w) [
   | inl at ↦ option_first (h z) y (filter_map h xs) (subst (λ v. h v ≡ Some y) (sym at) e)
   | inr later ↦ option_later (h z) y (filter_map h xs) (gives h xs x y later e)
@@ -76,10 +57,10 @@ gives h (z ∷ xs) x y w e = elim (cons_cases z x xs w) [
 
 dedup_first_cons : {X : Type 0} (b : Bool) (k : X) (a c : List X) → Contains a k → Contains (cond b a (k ∷ c)) k
 dedup_first_cons true k a c h = h
-dedup_first_cons false k a c h = cons_first k c
+dedup_first_cons false k a c h = contains_head k c
 
 pub dedup_first : {X : Type 0} (same : X → X → Bool) (k : X) (xs : List X) → Contains (dedup_from same k xs) k
-dedup_first same k [] = cons_first k []
+dedup_first same k [] = contains_head k []
 dedup_first same k (x ∷ xs) = dedup_first_cons (same x k) k (dedup_from same k xs) (dedup_from same x xs) (dedup_first same k xs)
 
 pub dedup_cases : {X : Type 0} (b : Bool) (k w : X) (a c : List X) → Contains (cond b a (k ∷ c)) w →
@@ -92,11 +73,11 @@ pub dedup_within : {X : Type 0} (same : X → X → Bool) (k : X) (xs : List X) 
 dedup_within same k [] w h = h
 dedup_within same k (x ∷ xs) w h = elim (dedup_cases (same x k) k w (dedup_from same k xs) (dedup_from same x xs) h) [
   | inl a ↦ elim (cons_cases k w xs (dedup_within same k xs w a.1)) [
-    | inl e ↦ subst (λ z. Contains (k ∷ x ∷ xs) z) e (cons_first k (x ∷ xs))
+    | inl e ↦ subst (λ z. Contains (k ∷ x ∷ xs) z) e (contains_head k (x ∷ xs))
     | inr v ↦ cons_more k w (x ∷ xs) (cons_more x w xs v)
   ]
   | inr c ↦ elim c.1 [
-    | inl e ↦ subst (λ z. Contains (k ∷ x ∷ xs) z) e (cons_first k (x ∷ xs))
+    | inl e ↦ subst (λ z. Contains (k ∷ x ∷ xs) z) e (contains_head k (x ∷ xs))
     | inr v ↦ cons_more k w (x ∷ xs) (dedup_within same x xs w v)
   ]
 ]
@@ -115,18 +96,18 @@ joined_cons same true k x v xs a c e first h on begins = elim (cons_cases k v (x
   ]
 ]
 joined_cons same false k x v xs a c e first h on begins = elim (cons_cases k v (x ∷ xs) h) [
-  | inl f ↦ (k, cons_first k c, inl f)
+  | inl f ↦ (k, contains_head k c, inl f)
   | inr later ↦ let r = begins later in (r.0, cons_more k r.0 c r.1, r.2)
 ]
 
 kept_or_joined : {X : Type 0} (same : X → X → Bool) (k : X) (xs : List X) (v : X) → Contains (k ∷ xs) v → KeptOrJoined same (dedup_from same k xs) v
-kept_or_joined same k [] v h = elim (cons_cases k v [] h) [ inl e ↦ (k, cons_first k [], inl e) | inr w ↦ absurd (none_within v w) ]
+kept_or_joined same k [] v h = elim (cons_cases k v [] h) [ inl e ↦ (k, contains_head k [], inl e) | inr w ↦ absurd (contains_none v w) ]
 kept_or_joined same k (x ∷ xs) v h =
     joined_cons same (same x k) k x v xs (dedup_from same k xs) (dedup_from same x xs) refl (dedup_first same k xs) h
     (kept_or_joined same k xs v) (kept_or_joined same x xs v)
 
 pub joined : {X : Type 0} (same : X → X → Bool) (xs : List X) (v : X) → Contains xs v → KeptOrJoined same (dedup same xs) v
-joined same [] v h = absurd (none_within v h)
+joined same [] v h = absurd (contains_none v h)
 joined same (x ∷ xs) v h = kept_or_joined same x xs v h
 
 pub kept_within : {X : Type 0} (same : X → X → Bool) (xs : List X) (w : X) → Contains (dedup same xs) w → Contains xs w

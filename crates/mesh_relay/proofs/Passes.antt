@@ -30,9 +30,6 @@ module _ {X : Type 0} (p : X → Bool) (items xs : List X) (same : items ≡ xs)
   pub all_end : length items ≤ i → list_all p (drop i xs) ≡ list_all p xs → true ≡ list_all p xs
   all_end past rest = sym (at_drop_all (list_all p) xs i (subst (λ (l : List X). length l ≤ i) same past)) ∙ rest
 
-pub both : (a b : Bool) → a ≡ true → b ≡ true → (a && b) ≡ true
-both a b ha hb = rw (ha, hb) refl
-
 pub unless_one : (a b : Bool) → a ≡ true → b ≡ false → (not a || b) ≡ false
 unless_one a b ha hb = rw (ha, hb) refl
 

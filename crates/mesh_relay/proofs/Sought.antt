@@ -13,10 +13,6 @@ use Rattle.mesh_relay.specs.declared.ways.Way.{Way}
 use Rattle.mesh_relay.specs.Tests.{is_direct_within}
 use Rattle.mesh_relay.specs.Ways.{way_at, way_from, near_from, is_offer}
 
--- addresses of one number are one
-pub same_addr : (a b : Addr4) → a.0 ≡ b.0 → a ≡ b
-same_addr a b e = ap (λ (n : ℕ). record { 0 = n }) e
-
 -- the way that the entry gives by what was found
 abbrev way_of : NeighbourGraph → Option (ℕ × Near) → Far → Option Way
 way_of g None f = None

@@ -14,9 +14,10 @@ use Rattle.mesh_relay.specs.declared.ways.Way.{Way}
 use Rattle.mesh_relay.specs.Ways.{AreWilling, IsAt, IsCheapest, AreWays}
 use Rattle.mesh_relay.specs.Taken.{ids_of, IsTaken, reaches}
 use Rattle.mesh_relay.proofs.Decide.{OffersWithin}
-use Rattle.mesh_relay.proofs.Lists.{none_within, cons_cases, cons_more, cons_first}
+use Rattle.mesh_relay.proofs.Lists.{cons_cases, cons_more}
 use Rattle.mesh_relay.proofs.Hits.{all_hit, one_missed}
 use Rattle.mesh_relay.proofs.Willing.{one_place, later_order}
+use Rattle.mesh_atoms.proofs.Lists.{contains_none, contains_head}
 
 -- Ids
 
@@ -25,7 +26,7 @@ ids_cond true id x rest w = elim (cons_cases x id rest w) [ inl e ↦ inl (e, re
 ids_cond false id x rest w = inr w
 
 ids_first : (t : Bool) (x : Addr4) (rest : List Addr4) → t ≡ true → Contains (cond t (x ∷ rest) rest) x
-ids_first true x rest e = cons_first x rest
+ids_first true x rest e = contains_head x rest
 ids_first false x rest e = absurd (false≢true e)
 
 ids_later : (t : Bool) (x id : Addr4) (rest : List Addr4) → Contains rest id → Contains (cond t (x ∷ rest) rest) id
@@ -41,8 +42,8 @@ pub record TakenOf (ns : List Near) (ts : List Bool) (id : Addr4) : Type 0 where
   pub taken : IsTaken ts place
 
 pub taken_of : (ns : List Near) (ts : List Bool) (id : Addr4) → Contains (ids_of ns ts) id → TakenOf ns ts id
-taken_of [] ts id w = absurd (none_within id w)
-taken_of (n ∷ ns) [] id w = absurd (none_within id w)
+taken_of [] ts id w = absurd (contains_none id w)
+taken_of (n ∷ ns) [] id w = absurd (contains_none id w)
 taken_of (n ∷ ns) (t ∷ ts) id w = elim (ids_cond t id n.id (ids_of ns ts) w) [
   | inl e ↦ record { near = n; place = 0; at = (omega arith, refl); is = e.0; taken = e.1 }
   | inr v ↦

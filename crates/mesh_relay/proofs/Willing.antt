@@ -13,7 +13,8 @@ use Rattle.mesh_atoms.specs.declared.graphs.NeighbourGraph.{NeighbourGraph}
 use Rattle.mesh_atoms.specs.Relays.{IsWilling, HasDistinctIds}
 use Rattle.mesh_relay.specs.Ways.{AreWilling, IsAt}
 use Rattle.mesh_atoms.proofs.Deciding.{Decides-not, Decides-eqb}
-use Rattle.mesh_relay.proofs.Lists.{none_within, cons_cases, passes, stays, dedup_cases, kept_within, joined}
+use Rattle.mesh_relay.proofs.Lists.{cons_cases, dedup_cases, kept_within, joined}
+use Rattle.mesh_atoms.proofs.Lists.{contains_none, contains_filter_cases as passes, contains_filter as stays}
 
 abbrev pub has_same_id : Near → Near → Bool
 has_same_id next last = nat_eq next.id.0 last.id.0
@@ -41,7 +42,7 @@ unequal_ids x k e le =
 above_first : (k : Near) (xs : List Near) (m : Near) → Rises k xs → Contains (dedup_from has_same_id k xs) m → k.id.0 ≤ m.id.0
 above_first k [] m up w = elim (cons_cases k m [] w) [
   | inl e ↦ subst (λ (z : Near). k.id.0 ≤ z.id.0) e (omega arith)
-  | inr v ↦ absurd (none_within m v)
+  | inr v ↦ absurd (contains_none m v)
 ]
 above_first k (x ∷ xs) m up w = elim (dedup_cases (has_same_id x k) k m (dedup_from has_same_id k xs) (dedup_from has_same_id x xs) w) [
   | inl a ↦ above_first k xs m (rises_lower k x xs up.0 up.1) a.1

@@ -1,10 +1,10 @@
 -- Lists of what is kept of tuples.
-use Rattle.std.proofs.Common.{◌≡◌, ℕ, ◌+◌, ◌<◌, zero, suc, refl, sym, ◌∙◌, ap, subst, arith, List, [], ◌∷◌, ◌++◌, length, take, map, Contains, Bool, Option, Some, None, inl, inr}
+use Rattle.std.proofs.Common.{◌≡◌, ℕ, ◌+◌, ◌<◌, zero, suc, refl, sym, ◌∙◌, ap, subst, arith, List, [], ◌∷◌, ◌++◌, length, take, map, Contains, Bool, Option, Some, None}
 use Rattle.std.specs.Prelude.{◌↔◌, IsTrue, slice_get, option_map}
 use Rattle.std.specs.List.{cons_option}
-use Rattle.std.proofs.lemmas.Option.{slice_get_cases, slice_get-map, slice_get-get_or, get_or_from_slice_get}
+use Rattle.std.proofs.lemmas.Option.{slice_get-map, slice_get-get_or, get_or_from_slice_get}
 use Rattle.mesh_atoms.specs.Base.{Base, base_of}
-use Rattle.mesh_routes.proofs.Passes.{at_place, place_of}
+use Rattle.mesh_atoms.proofs.Lists.{contains_at as at_place, place_in as place_of}
 
 -- lists with the same at each place are the same
 pub same_lists : {A : Type 0} (xs ys : List A) → length xs ≡ length ys → ((k : ℕ) → k < length ys → slice_get xs k ≡ slice_get ys k) → xs ≡ ys
@@ -16,13 +16,6 @@ same_lists (x ∷ xs) (y ∷ ys) long same =
     let first : x ≡ y = cc in
     let others : xs ≡ ys = same_lists xs ys (omega (arith, long)) (λ k low. same (suc k) (omega (arith, low))) in
     ap (λ z. z ∷ xs) first ∙ ap (λ zs. y ∷ zs) others
-
--- at a place within a list stands an item
-pub has_at : {A : Type 0} (xs : List A) (k : ℕ) → k < length xs → (x : A) × (slice_get xs k ≡ Some x)
-has_at xs k low = elim (slice_get_cases xs k).1 [
-  | inl found ↦ (found.0, found.2)
-  | inr past ↦ absurd (let h = past.0 in omega (arith, low, h))
-]
 
 -- one item more from the front of a list, if there is one
 pub take_more : {A : Type 0} (xs : List A) (n : ℕ) (o : Option A) → o ≡ slice_get xs n → take (n + 1) xs ≡ take n xs ++ cons_option o []

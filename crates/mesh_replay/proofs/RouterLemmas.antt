@@ -1,5 +1,4 @@
 pub mod Following
 pub mod Parts
 pub mod Quiet
-pub mod Spans
 pub mod Ticking

@@ -4,7 +4,6 @@ use Rattle.std.proofs.lemmas.Map.Views.{Contains-from_lookup, lookup-from_Contai
 use Rattle.mesh_atoms.specs.declared.addr.Addr4.{Addr4}
 use Rattle.mesh_atoms.specs.declared.addr.NetAddr.{NetAddr}
 use Rattle.mesh_atoms.specs.declared.codes.metric.Metric.{Metric}
-use Rattle.mesh_atoms.specs.declared.settings.RouterSettings.{RouterSettings}
 use Rattle.mesh_atoms.specs.declared.tuples.LinkKey.{LinkKey}
 use Rattle.mesh_atoms.specs.declared.tuples.Link.{Link}
 use Rattle.mesh_atoms.specs.declared.tuples.Neighbour.{Neighbour}
@@ -20,7 +19,7 @@ use Rattle.mesh_atoms.specs.Walk.{FirstNode, AtSelf, Through}
 use Rattle.mesh_atoms.specs.Words.{IsLeastMetric}
 use Rattle.mesh_atoms.proofs.Lookups.{same_link, router_equiv, address_equiv, network_equiv}
 use Rattle.mesh_routes.proofs.KnownOwners.{entry_at}
-use Rattle.mesh_routes.proofs.Passes.{at_place}
+use Rattle.mesh_paths.proofs.SettledNeighbours.{originator_address as is_mine}
 
 -- the entry of a neighbour
 abbrev pub Entry : Type 0
@@ -31,10 +30,6 @@ abbrev pub IsFirst : State → NetAddr → Entry → Type 0
 IsFirst s f e =
     Contains s.bases.neighbourhood.neighbours e
     × (IsTrue e.1.0.symmetric × ((a : Addr4) × Contains e.1.0.addrs a × (f ≡ host a) × ((k : Metric) × (e.1.0.metric_out ≡ Some k))))
-
--- the originator address is the router's own
-pub is_mine : (settings : RouterSettings) (self : Addr4) → IsOriginator settings self → HasAddress settings self
-is_mine settings self (face, at, first) = (0, (face, at, at_place face.addrs 0 self first))
 
 -- parents lead back to an arc from the router itself
 pub first_arc : {s : State} {self node f : NetAddr} → FirstNode (IsParent s self) self node f → (m : ℕ) × RouteArc s self f m

@@ -2,8 +2,7 @@
 use Rattle.std.proofs.Common.{◌≡◌, zero, suc, ◌⊎◌, inl, inr, sym, subst, arith, List, [], ◌∷◌, slice_index_or, Contains}
 use Rattle.std.specs.List.{AllPairs}
 use Rattle.std.proofs.lemmas.List.Elements.{Contains-get_or}
-use Rattle.mesh_paths.proofs.SearchLaw.{head_or_tail, in_tail}
-use Rattle.mesh_paths.proofs.ShortLists.{none_of, here}
+use Rattle.mesh_atoms.proofs.Lists.{all_pairs_tail, contains_cases, contains_tail as in_tail, contains_none as none_of, contains_head as here}
 
 -- The least of a list in an order
 
@@ -20,7 +19,7 @@ module _ {X : Type 0} (IsUpto : X → X → Type 0) (total : (a b : X) → IsUpt
     y,
     (
       here y [],
-      λ v has. elim (head_or_tail y [] v has) [
+      λ v has. elim (contains_cases y [] v has) [
         | inl same ↦ subst (IsUpto y) same (itself y)
         | inr later ↦ absurd (none_of v later)
       ],
@@ -33,7 +32,7 @@ module _ {X : Type 0} (IsUpto : X → X → Type 0) (total : (a b : X) → IsUpt
           y,
           (
             here y (z ∷ zs),
-            λ v has. elim (head_or_tail y (z ∷ zs) v has) [
+            λ v has. elim (contains_cases y (z ∷ zs) v has) [
               | inl same ↦ subst (IsUpto y) same (itself y)
               | inr later ↦ further y w v before (least v later)
             ],
@@ -43,7 +42,7 @@ module _ {X : Type 0} (IsUpto : X → X → Type 0) (total : (a b : X) → IsUpt
           w,
           (
             in_tail y (z ∷ zs) w stands,
-            λ v has. elim (head_or_tail y (z ∷ zs) v has) [
+            λ v has. elim (contains_cases y (z ∷ zs) v has) [
               | inl same ↦ subst (IsUpto w) same after
               | inr later ↦ least v later
             ],
@@ -64,9 +63,6 @@ pairs_front R x xs front rest zero (suc j) d less low = front (slice_index_or xs
 pairs_front R x xs front rest (suc i) zero d less low = absurd (omega arith)
 pairs_front R x xs front rest (suc i) (suc j) d less low = rest i j d (omega arith) (omega arith)
 
-pairs_rest : {X : Type 0} (R : X → X → Type 0) (x : X) (xs : List X) → AllPairs R (x ∷ xs) → AllPairs R xs
-pairs_rest R x xs pairs i j d less low = pairs (suc i) (suc j) d (omega arith) (omega arith)
-
 pairs_head : {X : Type 0} (R : X → X → Type 0) (x : X) (xs : List X) → AllPairs R (x ∷ xs) → (y : X) → Contains xs y → R x y
 pairs_head R x xs pairs y (k, l, e) = subst (R x) e (pairs 0 (suc k) y (omega arith) (omega arith))
 
@@ -83,18 +79,18 @@ module _ {A B N : Type 0} (of : A → N) (to : B → N) (IsBefore : N → N → 
   gives_none : (x : A) (xs : List A) (ys : List B) → IsLeftOut x → Gives xs ys → Gives (x ∷ xs) ys
   gives_none x xs ys none are = record {
     each = λ y has. let (right, (z, within, at)) = are.each y has in (right, (z, in_tail x xs z within, at));
-    all = λ z has. elim (head_or_tail x xs z has) [ inl same ↦ inl (subst IsLeftOut same none) | inr later ↦ are.all z later ];
+    all = λ z has. elim (contains_cases x xs z has) [ inl same ↦ inl (subst IsLeftOut same none) | inr later ↦ are.all z later ];
     ordered = are.ordered;
   }
 
   gives_more : (x : A) (xs : List A) (ys : List B) (y : B) → Right y → to y ≡ of x →
       AllPairs (λ (a b : A). IsBefore (of a) (of b)) (x ∷ xs) → Gives xs ys → Gives (x ∷ xs) (y ∷ ys)
   gives_more x xs ys y right at pairs are = record {
-    each = λ z has. elim (head_or_tail y ys z has) [
+    each = λ z has. elim (contains_cases y ys z has) [
       | inl same ↦ (subst Right same right, (x, here x xs, subst (λ (b : B). to b ≡ of x) same at))
       | inr later ↦ let (fine, (a, within, is)) = are.each z later in (fine, (a, in_tail x xs a within, is))
     ];
-    all = λ a has. elim (head_or_tail x xs a has) [
+    all = λ a has. elim (contains_cases x xs a has) [
       | inl same ↦ inr (y, here y ys, subst (λ (b : A). to y ≡ of b) same at)
       | inr later ↦ elim (are.all a later) [ inl none ↦ inl none | inr (z, within, is) ↦ inr (z, in_tail y ys z within, is) ]
     ];
@@ -117,7 +113,7 @@ module _ {A B N : Type 0} (of : A → N) (to : B → N) (IsBefore : N → N → 
     },
   )
   give_each (x ∷ xs) pairs give =
-      let (ys, are) = give_each xs (pairs_rest (λ (a b : A). IsBefore (of a) (of b)) x xs pairs) (λ a has. give a (in_tail x xs a has)) in
+      let (ys, are) = give_each xs (all_pairs_tail (λ (a b : A). IsBefore (of a) (of b)) x xs pairs) (λ a has. give a (in_tail x xs a has)) in
       elim (give x (here x xs)) [
         | inl none ↦ (ys, gives_none x xs ys none are)
         | inr (y, right, at) ↦ (y ∷ ys, gives_more x xs ys y right at pairs are)

@@ -3,8 +3,7 @@ use Rattle.std.proofs.Common.{◌≡◌, ◌↔◌, ℕ, zero, suc, ◌<◌, ◌
 use Rattle.std.proofs.Common.{List, [], ◌∷◌, ◌++◌, Contains}
 use Rattle.std.proofs.lemmas.Bool.{cases_lt}
 use Rattle.std.proofs.lemmas.List.Elements.{Contains-append_left, Contains-append_right, Contains-append_cases}
-use Rattle.mesh_paths.proofs.SearchLaw.{head_or_tail, in_tail}
-use Rattle.mesh_paths.proofs.ShortLists.{none_of, here}
+use Rattle.mesh_atoms.proofs.Lists.{contains_cases, contains_tail as in_tail, contains_none as none_of, contains_head as here}
 
 -- the list has exactly what has the property
 abbrev pub IsListed : {X : Type 0} → (X → Type 0) → Type 0
@@ -19,7 +18,7 @@ pub listed_one : {X : Type 0} (y : X) → IsListed (λ x. y ≡ x)
 listed_one {X} y = (
   y ∷ [],
   λ x. (
-    λ has. elim (head_or_tail y [] x has) [ inl same ↦ same | inr later ↦ absurd (none_of x later) ],
+    λ has. elim (contains_cases y [] x has) [ inl same ↦ same | inr later ↦ absurd (none_of x later) ],
     λ same. subst (λ (z : X). Contains (y ∷ []) z) same (here y []),
   ),
 )
@@ -62,7 +61,7 @@ listed_each [] each = listed_none (λ x p. none_of p.0 p.1)
 listed_each {E} {F = F} (e ∷ es) each = listed_by
     (λ x. (
       λ p. elim p [ inl f ↦ (e, here e es, f) | inr (d, has, f) ↦ (d, in_tail e es d has, f) ],
-      λ p. elim (head_or_tail e es p.0 p.1) [
+      λ p. elim (contains_cases e es p.0 p.1) [
         | inl same ↦ inl (subst (λ (d : E). F d x) (sym same) p.2)
         | inr later ↦ inr (p.0, later, p.2)
       ],

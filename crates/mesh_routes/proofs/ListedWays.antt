@@ -11,7 +11,6 @@ use Rattle.mesh_atoms.specs.Codes.Codes.{metric_value}
 use Rattle.mesh_atoms.specs.Routes.{IsWayTo}
 use Rattle.mesh_atoms.specs.State.{State, is_symmetric}
 use Rattle.mesh_atoms.proofs.Lookups.{tests_symmetric}
-use Rattle.mesh_paths.proofs.SettledDecisions.{same_address}
 use Rattle.mesh_routes.specs.declared.hops.ways.Way.{Way}
 use Rattle.mesh_routes.specs.Hops.Ways.{IsNoWorse}
 use Rattle.mesh_routes.proofs.FirstNodes.{Entry}
@@ -19,6 +18,7 @@ use Rattle.mesh_routes.proofs.InOrder.{least_of_list}
 use Rattle.mesh_routes.proofs.Listed.{IsListed, listed_one, listed_where, listed_known, listed_each, listed_below}
 use Rattle.mesh_routes.proofs.OwnGraph.{base_at, base_has}
 use Rattle.mesh_routes.proofs.OwnArcs.{is_or_not}
+use Rattle.mesh_atoms.proofs.Values.{same_address}
 
 -- Which of two ways is no worse
 

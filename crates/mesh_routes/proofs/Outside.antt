@@ -11,10 +11,11 @@ use Rattle.mesh_atoms.specs.Routes.{IsOutside}
 use Rattle.mesh_atoms.specs.State.{State, IsOriginator}
 use Rattle.mesh_atoms.proofs.Nets.{same_net}
 use Rattle.mesh_paths.proofs.Order.{same_node}
-use Rattle.mesh_paths.proofs.SettledDecisions.{any_or_none, same_address}
+use Rattle.mesh_paths.proofs.SettledDecisions.{any_or_none}
 use Rattle.mesh_routes.specs.Hops.Own.{HasNetworkIn, IsOutsideOf}
-use Rattle.mesh_routes.proofs.FirstNodes.{is_mine}
-use Rattle.mesh_routes.proofs.Passes.{at_place, place_of}
+use Rattle.mesh_atoms.proofs.Values.{same_address}
+use Rattle.mesh_paths.proofs.SettledNeighbours.{originator_address as is_mine}
+use Rattle.mesh_atoms.proofs.Lists.{contains_at as at_place, place_in as place_of}
 
 module _ (s : State) where
   pub out_of : (node : NetAddr) → IsOutsideOf s.settings node → IsOutside s node

@@ -17,14 +17,13 @@ use Rattle.mesh_atoms.specs.declared.tuples.NetworkTuple.{NetworkTuple}
 use Rattle.mesh_atoms.specs.Base.{Base, host}
 use Rattle.mesh_atoms.specs.Routes.{RouteArc, To_neighbour, To_two_hop, By_router, By_address, By_network}
 use Rattle.mesh_atoms.specs.State.{State, IsOriginator}
-use Rattle.mesh_paths.proofs.SettledDecisions.{same_address}
 use Rattle.mesh_routes.specs.Arcs.{router_arc, address_arc, network_arc, IsGraphOf}
 use Rattle.mesh_routes.specs.Hops.Arcs.{arc_at}
 use Rattle.mesh_routes.proofs.FirstNodes.{Entry}
 use Rattle.mesh_routes.proofs.Listed.{IsListed, listed_one, listed_where, listed_known, listed_either, listed_each}
-use Rattle.mesh_routes.proofs.Originators.{one_originator}
 use Rattle.mesh_routes.proofs.OwnGraph.{graph_by}
-use Rattle.mesh_routes.proofs.Passes.{at_place, place_of}
+use Rattle.mesh_atoms.proofs.Values.{same_address, one_originator}
+use Rattle.mesh_atoms.proofs.Lists.{contains_at as at_place, place_in as place_of}
 
 -- a test holds, or it doesn't
 pub is_or_not : (b : Bool) → (b ≡ true) ⊎ (b ≡ true → ⊥)

@@ -39,7 +39,7 @@ use Rattle.mesh_routes.proofs.KnownOwners.{one_at, owner_of, owner_known}
 use Rattle.mesh_routes.proofs.ListedWays.{IsWayBy, no_worse}
 use Rattle.mesh_routes.proofs.Outside.{out_of, to_out, beyond}
 use Rattle.mesh_routes.proofs.OwnGraph.{is_graph, base_at, base_has}
-use Rattle.mesh_routes.proofs.Passes.{at_place}
+use Rattle.mesh_atoms.proofs.Lists.{contains_at as at_place}
 
 -- what the parts of the making say
 pub record Made (settings : RouterSettings) (near : Neighbourhood) (topology : Topology) (now : ℕ) (self : Addr4) (owners : OwnerMap) (count : ℕ) (g : Graph) (rows : List PathRow) (firsts : NodeMap) (ways : List Way) (routes : List Route) : Type 0 where

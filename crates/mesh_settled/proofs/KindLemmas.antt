@@ -18,12 +18,12 @@ use Rattle.mesh_settled.specs.Kinds.{IsTopologyKey, IsFirstFound, IsFirstAt, IsF
 use Rattle.mesh_settled.specs.Gaps.Links.{IsLinkKey}
 use Rattle.mesh_settled.specs.Gaps.Neighbours.{IsNeighbourKey}
 use Rattle.mesh_settled.specs.Gaps.TwoHops.{IsTwoHopKey}
-use Rattle.mesh_settled.proofs.GapsLemmas.Apart.{some_same}
 use Rattle.mesh_settled.proofs.GapsLemmas.GapLaw.{law}
 use Rattle.mesh_settled.proofs.GapsLemmas.JointLemmas.{same_state}
 use Rattle.mesh_settled.proofs.GapsLemmas.Leasts.{before_cases}
 use Rattle.mesh_settled.proofs.GapsLemmas.PeerLemmas.{within}
 use Rattle.mesh_settled.proofs.GapsLemmas.Sides.{gaps_differ}
+use Rattle.mesh_atoms.proofs.Options.{same_some}
 
 -- Kinds
 
@@ -88,7 +88,7 @@ module _ (s : Scenario) (states : List State) (now : ℕ) where
   pub this_router : (x : ℕ) (g : Option Gap) → true ≡ is_some g → IsFirstAt s states now x g → NoneBefore x → IsFirstOf s states now g
   this_router x None some first before = absurd (false≢true (sym some))
   this_router x (Some g) some (f, is, p, at, first) before =
-      subst (λ (h : Gap). IsFirstOf s states now (Some h)) (sym (some_same refl is)) (
+      subst (λ (h : Gap). IsFirstOf s states now (Some h)) (sym (same_some refl is)) (
         record {
           p = p;
           at = at;

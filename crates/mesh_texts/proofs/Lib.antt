@@ -10,7 +10,7 @@ pub mod RouteLines  -- replay
 pub mod RunStates  -- emulate
 pub mod TraceSteps  -- emulate
 -- Lemmas of this crate alone.
-mod LineLists
+pub mod LineLists
 mod LinesLemmas
 mod SectionTexts
 mod SectionsLemmas

@@ -8,6 +8,7 @@ use Rattle.std.proofs.lemmas.List.{append-nil}
 use Rattle.mesh_texts.specs.Lines.Marks.{joined}
 use Rattle.mesh_texts.specs.Printed.{IsLine, BeginsWith}
 use Rattle.mesh_texts.proofs.Cuts.{lacks, first_cut, inside_lacks}
+use Rattle.mesh_atoms.proofs.Lists.{heads_equal, tails_equal}
 
 -- Lists
 
@@ -35,12 +36,6 @@ each_map P f h (x ∷ xs) = (h x, each_map P f h xs)
 pub each_has : {A : Type 0} (P : A → Type 0) (xs behind : List A) (x : A) → Each P (xs ++ x ∷ behind) → P x
 each_has P xs behind x a = (each_back P xs (x ∷ behind) a).0
 
-pub cons_heads : {A : Type 0} (x y : A) (xs ys : List A) → x ∷ xs ≡ y ∷ ys → x ≡ y
-cons_heads x y xs ys e = cc
-
-pub cons_tails : {A : Type 0} (x y : A) (xs ys : List A) → x ∷ xs ≡ y ∷ ys → xs ≡ ys
-cons_tails x y xs ys e = cc
-
 -- an element of a list, with what stands before and behind it
 pub record Stands {A : Type 0} (xs : List A) (x : A) : Type 0 where
   pub before : List A
@@ -58,10 +53,10 @@ stands_contained {A} (y ∷ xs) x (suc k, lt, at) =
 pub stands_in_two : {A : Type 0} (xs ys before behind : List A) (x : A) → xs ++ ys ≡ before ++ x ∷ behind →
     Stands xs x ⊎ ((between : List A) × (ys ≡ between ++ x ∷ behind) × (before ≡ xs ++ between))
 stands_in_two {A} [] ys before behind x e = inr (before, e, refl)
-stands_in_two {A} (y ∷ xs) ys [] behind x e = inl (record { before = []; behind = xs; whole = ap (λ (z : A). z ∷ xs) (cons_heads y x (xs ++ ys) behind e) })
+stands_in_two {A} (y ∷ xs) ys [] behind x e = inl (record { before = []; behind = xs; whole = ap (λ (z : A). z ∷ xs) (heads_equal y x (xs ++ ys) behind e) })
 stands_in_two {A} (y ∷ xs) ys (z ∷ before) behind x e =
-    let same = cons_heads y z (xs ++ ys) (before ++ x ∷ behind) e in
-    elim (stands_in_two xs ys before behind x (cons_tails y z (xs ++ ys) (before ++ x ∷ behind) e)) [
+    let same = heads_equal y z (xs ++ ys) (before ++ x ∷ behind) e in
+    elim (stands_in_two xs ys before behind x (tails_equal y z (xs ++ ys) (before ++ x ∷ behind) e)) [
       | inl here ↦ inl (record { before = y ∷ here.before; behind = here.behind; whole = ap (λ (l : List A). y ∷ l) here.whole })
       | inr there ↦ inr (there.0, there.1, ap (λ (l : List A). z ∷ l) there.2 ∙ ap (λ (w : A). w ∷ (xs ++ there.0)) (sym same))
     ]
@@ -155,13 +150,13 @@ pub under_past : (Kind : List ℕ → Type 0) → ((l : List ℕ) → Kind l →
 under_past Kind heads [] ys line a u = u
 under_past Kind heads (x ∷ xs) ys line a u = by (under_past Kind heads xs ys line a.1) u.before u.whole where
   by : (Under (xs ++ ys) Kind line → Under ys Kind line) → (before : List (List ℕ)) → x ∷ (xs ++ ys) ≡ before ++ u.heading ∷ (u.between ++ line ∷ u.behind) → Under ys Kind line
-  by again [] e = absurd (a.0 (subst Heads (sym (cons_heads x u.heading (xs ++ ys) (u.between ++ line ∷ u.behind) e)) (heads u.heading u.kind)))
+  by again [] e = absurd (a.0 (subst Heads (sym (heads_equal x u.heading (xs ++ ys) (u.between ++ line ∷ u.behind) e)) (heads u.heading u.kind)))
   by again (b ∷ before) e = again (record {
     before = before;
     heading = u.heading;
     between = u.between;
     behind = u.behind;
-    whole = cons_tails x b (xs ++ ys) (before ++ u.heading ∷ (u.between ++ line ∷ u.behind)) e;
+    whole = tails_equal x b (xs ++ ys) (before ++ u.heading ∷ (u.between ++ line ∷ u.behind)) e;
     kind = u.kind;
     no_other = u.no_other;
   })

@@ -7,9 +7,10 @@ use Rattle.mesh_atoms.specs.State.{State}
 use Rattle.mesh_texts.specs.Lines.Marks.{line_of, dotted}
 use Rattle.mesh_texts.specs.Lines.Lines.{router_line, row_line}
 use Rattle.mesh_texts.specs.Printed.{BeginsWith, IsPlain}
-use Rattle.mesh_texts.proofs.LineLists.{Heads, Stands, Under, each_both, each_front, each_back, each_map, each_weaker, each_has, cons_heads, cons_tails, stands_in_two, under_past, under_behind}
+use Rattle.mesh_texts.proofs.LineLists.{Heads, Stands, Under, each_both, each_front, each_back, each_map, each_weaker, each_has, stands_in_two, under_past, under_behind}
 use Rattle.mesh_texts.proofs.LineTexts.{IsNeither, plain_neither, router_no_route, row_no_heading}
 use Rattle.mesh_texts.proofs.WholeTexts.{AreSectionLines}
+use Rattle.mesh_atoms.proofs.Lists.{heads_equal, tails_equal}
 
 -- a line that begins like a route
 abbrev pub Routes : List ℕ → Type 0
@@ -52,8 +53,8 @@ no_route_first : (states : List State) (lines back between behind : List (List �
 no_route_first [] lines back between behind line are plain e clear route = neither_no_route between behind line back plain (ap (λ (l : List (List ℕ)). l ++ back) (sym are) ∙ e) route
 no_route_first (s ∷ more) lines back between behind line (originator, others, rest, _, _, is) plain e clear route = by between (sym (with_back (heading_of s originator) others (rows_of s) rest back lines is) ∙ e) clear where
   by : (between : List (List ℕ)) → heading_of s originator ∷ (others ++ (rows_of s ++ (rest ++ back))) ≡ between ++ line ∷ behind → Each (λ l. Heads l → ⊥) between → ⊥
-  by [] e clear = router_no_route s.settings.name originator (subst Routes (sym (cons_heads (heading_of s originator) line (others ++ (rows_of s ++ (rest ++ back))) behind e)) route)
-  by (b ∷ before) e clear = clear.0 (subst Heads (cons_heads (heading_of s originator) b (others ++ (rows_of s ++ (rest ++ back))) (before ++ line ∷ behind) e) (router_heads s.settings.name originator))
+  by [] e clear = router_no_route s.settings.name originator (subst Routes (sym (heads_equal (heading_of s originator) line (others ++ (rows_of s ++ (rest ++ back))) behind e)) route)
+  by (b ∷ before) e clear = clear.0 (subst Heads (heads_equal (heading_of s originator) b (others ++ (rows_of s ++ (rest ++ back))) (before ++ line ∷ behind) e) (router_heads s.settings.name originator))
 
 -- where a route stands under a heading
 pub record IsIn (states : List State) (Kind : List ℕ → Type 0) (line : List ℕ) : Type 0 where
@@ -84,13 +85,13 @@ in_sections Kind heads (s ∷ more) lines back line (originator, others, rest, o
       later w = record { x = suc w.x; s = w.s; at = w.at; originator = w.originator; kind = w.kind; row = w.row }
 
       by : (Under (rest ++ back) Kind line → IsIn more Kind line) → (before : List (List ℕ)) → heading_of s originator ∷ (others ++ (rows_of s ++ (rest ++ back))) ≡ before ++ u.heading ∷ (u.between ++ line ∷ u.behind) → IsIn (s ∷ more) Kind line
-      by again [] e = elim (stands_in_two others (rows_of s ++ (rest ++ back)) u.between u.behind line (cons_tails (heading_of s originator) u.heading (others ++ (rows_of s ++ (rest ++ back))) (u.between ++ line ∷ u.behind) e)) [
+      by again [] e = elim (stands_in_two others (rows_of s ++ (rest ++ back)) u.between u.behind line (tails_equal (heading_of s originator) u.heading (others ++ (rows_of s ++ (rest ++ back))) (u.between ++ line ∷ u.behind) e)) [
         | inl here ↦ absurd (neither_no_route here.before here.behind line others (each_weaker IsPlain IsNeither plain_neither others others_plain) here.whole route)
-        | inr there ↦ by_rows (cons_heads (heading_of s originator) u.heading (others ++ (rows_of s ++ (rest ++ back))) (u.between ++ line ∷ u.behind) e) there.0 there.1 there.2
+        | inr there ↦ by_rows (heads_equal (heading_of s originator) u.heading (others ++ (rows_of s ++ (rest ++ back))) (u.between ++ line ∷ u.behind) e) there.0 there.1 there.2
       ]
       by again (b ∷ before) e = later (again
           (under_past Kind heads (rows_of s) (rest ++ back) line (rows_no_headings s) (under_past Kind heads others (rows_of s ++ (rest ++ back)) line (no_headings others others_plain)
-          (record { before = before; heading = u.heading; between = u.between; behind = u.behind; whole = cons_tails (heading_of s originator) b (others ++ (rows_of s ++ (rest ++ back))) (before ++ u.heading ∷ (u.between ++ line ∷ u.behind)) e; kind = u.kind; no_other = u.no_other }))))
+          (record { before = before; heading = u.heading; between = u.between; behind = u.behind; whole = tails_equal (heading_of s originator) b (others ++ (rows_of s ++ (rest ++ back))) (before ++ u.heading ∷ (u.between ++ line ∷ u.behind)) e; kind = u.kind; no_other = u.no_other }))))
 
 -- a heading of a router of that name
 abbrev pub Names : List ℕ → List ℕ → Type 0

@@ -67,7 +67,7 @@ index_spelled count first last le lt true false false p q r = (le, lt, refl)
 index_spelled count first last le lt false b true p q r = (omega arith, sym (eqb-true first last r), refl)
 index_spelled count first last le lt false b false p q r = (le, lt, refl)
 
-short_spelled : (n : ℕ) → SpellsShort n (least_short n)
+pub short_spelled : (n : ℕ) → SpellsShort n (least_short n)
 short_spelled n = (n / 256, n % 256, omega arith, refl)
 
 length_spelled : (n : ℕ) (b : Bool) → ltb 255 n ≡ b → SpellsLength b n (least_length n)

@@ -62,7 +62,7 @@ module _ (topology : Topology) (tc : Tc) where
   none_full a r d n = first_of_four Advertisers Routers Addresses Networks _ _ _ _ false false false false a r d n
 
 -- where none of four tests is the first, none holds
-none_of_four : {A : Type 0} (x y z w : A) (a r d n : Bool) → cond a (Some x) (cond r (Some y) (cond d (Some z) (cond n (Some w) None))) ≡ None → (a ≡ false) × (r ≡ false) × (d ≡ false) × (n ≡ false)
+pub none_of_four : {A : Type 0} (x y z w : A) (a r d n : Bool) → cond a (Some x) (cond r (Some y) (cond d (Some z) (cond n (Some w) None))) ≡ None → (a ≡ false) × (r ≡ false) × (d ≡ false) × (n ≡ false)
 none_of_four x y z w true r d n e = absurd cc
 none_of_four x y z w false true d n e = absurd cc
 none_of_four x y z w false false true n e = absurd cc

@@ -3,5 +3,5 @@ pub mod AdvertisedLemmas  -- renewal, replay
 pub mod Soundness  -- machine
 pub mod TcSetsLemmas  -- core
 -- Lemmas of this crate alone.
-mod Full
+pub mod Full
 mod RowKinds

@@ -13,10 +13,10 @@ use Rattle.mesh_atoms.specs.Live.{LiveTopology}
 use Rattle.mesh_atoms.specs.Sound.{IsWithin, SoundTopology}
 use Rattle.mesh_expire.proofs.Laws.{distinct_none}
 use Rattle.mesh_atoms.specs.State.{Topology, IsOriginator}
-use Rattle.mesh_atoms.proofs.Nets.{addr_exact}
 use Rattle.mesh_topo.specs.declared.topology.TcTaken.{TcTaken}
 use Rattle.mesh_topo.specs.Answers.{answer_of}
 use Rattle.mesh_topo.specs.Sets.{AreFew, AreFresh}
+use Rattle.mesh_atoms.proofs.Lookups.{same_addr}
 
 -- ---- expiry
 
@@ -148,7 +148,7 @@ after_sound settings now tc old new lasts other few after sound =
     }
   where
     not_mine : (o : Addr4) → IsOriginator settings o → (b : Bool) → addr_eq tc.originator o ≡ b → find addr_eq new.advertisers o ≡ None
-    not_mine o mine true is = absurd (other (subst (λ (a : Addr4). IsOriginator settings a) (sym (addr_exact tc.originator o is)) mine))
+    not_mine o mine true is = absurd (other (subst (λ (a : Addr4). IsOriginator settings a) (sym (same_addr tc.originator o is)) mine))
     not_mine o mine false is = after.advertisers o ∙ (ap (λ (b : Bool). cond b (Some (record { ansn = tc.ansn }, now + tc.validity)) (find addr_eq old.advertisers o)) is ∙ sound.not_my_advertiser o mine)
 
 -- a TC that isn't taken changes nothing

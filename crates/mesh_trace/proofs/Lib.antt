@@ -4,4 +4,4 @@ pub use Rattle.mesh_texts.proofs.machine
 pub mod PositionsLemmas  -- replay
 pub mod SpellingLemmas  -- replay
 -- Lemmas of this crate alone.
-mod ReadingLemmas
+pub mod ReadingLemmas

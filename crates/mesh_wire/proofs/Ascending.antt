@@ -1,30 +1,15 @@
 -- Lists in one order that have the same elements are the same.
-use Rattle.std.proofs.Common.{◌≡◌, zero, suc, ◌⊎◌, inl, inr, List, [], ◌∷◌, refl, sym, subst, ◌∙◌, arith}
+use Rattle.std.proofs.Common.{◌≡◌, zero, suc, inl, inr, List, [], ◌∷◌, refl, sym, subst, ◌∙◌, arith}
 use Rattle.std.specs.Prelude.{Contains, AllPairs}
-
-pub at_head : {X : Type 0} (x : X) (xs : List X) → Contains (x ∷ xs) x
-at_head x xs = (0, omega arith, refl)
-
-pub in_tail : {X : Type 0} (x : X) (xs : List X) (z : X) → Contains xs z → Contains (x ∷ xs) z
-in_tail x xs z (k, lt, is) = (suc k, omega arith, is)
-
-pub head_or_tail : {X : Type 0} (x : X) (xs : List X) (z : X) → Contains (x ∷ xs) z → (x ≡ z) ⊎ Contains xs z
-head_or_tail x xs z (zero, lt, is) = inl is
-head_or_tail x xs z (suc k, lt, is) = inr (k, omega arith, is)
-
-pub none_in : {X : Type 0} (z : X) → Contains [] z → ⊥
-none_in z (k, lt, is) = omega arith
+use Rattle.mesh_atoms.proofs.Lists.{contains_head as at_head, contains_tail as in_tail, contains_cases, contains_none as none_in, all_pairs_tail}
 
 pub head_below : {X : Type 0} (R : X → X → Type 0) (x : X) (xs : List X) → AllPairs R (x ∷ xs) → (z : X) → Contains xs z → R x z
 head_below R x xs pairs z (k, lt, is) = subst (R x) is (pairs zero (suc k) z (omega arith) (omega arith))
 
-pub tail_pairs : {X : Type 0} (R : X → X → Type 0) (x : X) (xs : List X) → AllPairs R (x ∷ xs) → AllPairs R xs
-tail_pairs R x xs pairs i j d lt less = pairs (suc i) (suc j) d (omega arith) (omega arith)
-
 -- of two ascending lists, what is in a tail is in the other's
 in_other_tail : {X : Type 0} (R : X → X → Type 0) → ((x y : X) → R x y → R y x → ⊥) → (x : X) (xs : List X) (y : X) (ys : List X) → AllPairs R (x ∷ xs) → x ≡ y →
     ((z : X) → Contains (x ∷ xs) z → Contains (y ∷ ys) z) → (z : X) → Contains xs z → Contains ys z
-in_other_tail R one_way x xs y ys pairs same there z has = elim (head_or_tail y ys z (there z (in_tail x xs z has))) [
+in_other_tail R one_way x xs y ys pairs same there z has = elim (contains_cases y ys z (there z (in_tail x xs z has))) [
   | inl e ↦
       let before : R x z = head_below R x xs pairs z has in
       let itself : R x x = subst (R x) (sym (same ∙ e)) before in
@@ -38,12 +23,12 @@ same_ascending R one_way [] [] p q there back = refl
 same_ascending R one_way [] (y ∷ ys) p q there back = absurd (none_in y (back y (at_head y ys)))
 same_ascending R one_way (x ∷ xs) [] p q there back = absurd (none_in x (there x (at_head x xs)))
 same_ascending R one_way (x ∷ xs) (y ∷ ys) p q there back =
-    let same : x ≡ y = elim (head_or_tail y ys x (there x (at_head x xs))) [
+    let same : x ≡ y = elim (contains_cases y ys x (there x (at_head x xs))) [
       | inl e ↦ sym e
-      | inr later ↦ elim (head_or_tail x xs y (back y (at_head y ys))) [
+      | inr later ↦ elim (contains_cases x xs y (back y (at_head y ys))) [
         | inl e ↦ e
         | inr after ↦ absurd (one_way x y (head_below R x xs p y after) (head_below R y ys q x later))
       ]
     ] in
-    let rest : xs ≡ ys = same_ascending R one_way xs ys (tail_pairs R x xs p) (tail_pairs R y ys q) (in_other_tail R one_way x xs y ys p same there) (in_other_tail R one_way y ys x xs q (sym same) back) in
+    let rest : xs ≡ ys = same_ascending R one_way xs ys (all_pairs_tail R x xs p) (all_pairs_tail R y ys q) (in_other_tail R one_way x xs y ys p same there) (in_other_tail R one_way y ys x xs q (sym same) back) in
     cc

@@ -8,6 +8,7 @@ use Rattle.mesh_packet.specs.Grammar.{SpellsOctet, SpellsNumber, SpellsOriginato
 use Rattle.mesh_tlv.specs.Fields.{TlvFields}
 use Rattle.mesh_tlv.specs.Grammar.{SpellsTlvBlock}
 use Rattle.mesh_wire.specs.Sizes.{size_if, size_before}
+use Rattle.mesh_atoms.proofs.Lists.{heads_equal, tails_equal}
 
 octet_size : (set : Bool) (x : Option ℕ) (text : List ℕ) → SpellsOctet set x text → length text ≡ size_if 1 x
 octet_size true (Some n) text e = ap length e
@@ -53,17 +54,10 @@ behind_head m text is =
     let (front, long, whole) = head_before m text is in
     ap (λ (n : ℕ). drop n text) (sym long) ∙ ap (drop (length front)) whole ∙ drop-append_seam front (is.body_is.tlvs ++ is.body_is.blocks)
 
--- the parts of two lists that are the same
-pub first_same : {A : Type 0} (x y : A) (xs ys : List A) → x ∷ xs ≡ y ∷ ys → x ≡ y
-first_same x y xs ys e = cc
-
-pub rest_same : {A : Type 0} (x y : A) (xs ys : List A) → x ∷ xs ≡ y ∷ ys → xs ≡ ys
-rest_same x y xs ys e = cc
-
 -- behind a TLV block whose length is these two octets
 pub behind_tlvs : (tlvs : List TlvFields) (text blocks rest : List ℕ) (high low : ℕ) → SpellsTlvBlock tlvs text → text ++ blocks ≡ high ∷ low ∷ rest → blocks ≡ drop (256 * high + low) rest
 behind_tlvs tlvs text blocks rest high low (len, items, (a, b, number, two), spelled, parts) same =
     let whole : a ∷ b ∷ (items ++ blocks) ≡ high ∷ low ∷ rest =
     sym (ap (λ (l : List ℕ). l ++ blocks) (parts ∙ ap (λ (l : List ℕ). l ++ items) two)) ∙ same in
-    let size : length items ≡ 256 * high + low = (let h = first_same a high _ _ whole in let k = first_same b low _ _ (rest_same a high _ _ whole) in omega (arith, number, h, k)) in
-    sym (drop-append_seam items blocks) ∙ ap (drop (length items)) (rest_same b low _ _ (rest_same a high _ _ whole)) ∙ ap (λ (n : ℕ). drop n rest) size
+    let size : length items ≡ 256 * high + low = (let h = heads_equal a high _ _ whole in let k = heads_equal b low _ _ (tails_equal a high _ _ whole) in omega (arith, number, h, k)) in
+    sym (drop-append_seam items blocks) ∙ ap (drop (length items)) (tails_equal b low _ _ (tails_equal a high _ _ whole)) ∙ ap (λ (n : ℕ). drop n rest) size

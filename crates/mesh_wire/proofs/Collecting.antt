@@ -1,9 +1,8 @@
 -- Entries of networks, and what is kept after them.
 use Rattle.std.proofs.Common.{◌≡◌, ℕ, zero, suc, slice_range, take, ◌-◌, ◌<◌, ◌≤◌, inl, inr, refl, sym, ◌∙◌, ap, subst, arith, Bool, true, false, cond, List, length, Option, Some, None, [], ◌∷◌, ◌++◌}
 use Rattle.std.specs.Prelude.{drop}
-use Rattle.std.proofs.lemmas.Bool.{eq-eqb, eqb-true}
+use Rattle.std.proofs.lemmas.Bool.{eq-eqb, eqb-true, and_parts as both}
 use Rattle.mesh_atoms.specs.declared.addr.NetAddr.{NetAddr}
-use Rattle.mesh_atoms.proofs.Kept.{both}
 use Rattle.mesh_atoms.proofs.Nets.{same_net}
 use Rattle.mesh_addr.specs.declared.records.RawAddr.{RawAddr}
 use Rattle.mesh_wire.specs.declared.parts.RowParts.{RowParts}
@@ -12,7 +11,8 @@ use Rattle.mesh_wire.specs.Parts.{IsIn}
 use Rattle.mesh_wire.specs.Standing.{after}
 use Rattle.mesh_wire.specs.KeptParts.{no_parts}
 use Rattle.mesh_wire.proofs.Collected.{AnyOf, StandsOf}
-use Rattle.mesh_wire.proofs.Same.{same_addr}
+use Rattle.mesh_atoms.proofs.Options.{cond_same}
+use Rattle.mesh_atoms.proofs.Values.{same_addr}
 
 -- ---- one entry
 
@@ -49,10 +49,6 @@ after_more net (x ∷ xs) ys parts = after_more net xs ys _
 -- one entry, by whether it is of the network
 pub after_one : (net : NetAddr) (e : Entry) (es : List Entry) (parts : RowParts) (b : Bool) → is_of net e ≡ b → after net (e ∷ es) parts ≡ after net es (cond b (put_said e.said (Some parts)) parts)
 after_one net e es parts b is = ap (λ (x : Bool). after net es (cond x (put_said e.said (Some parts)) parts)) is
-
-cond_same : {X : Type 0} (b : Bool) (x : X) → cond b x x ≡ x
-cond_same true x = refl
-cond_same false x = refl
 
 -- that an address stands says nothing
 pub after_standing : (net : NetAddr) (addrs : List RawAddr) (parts : RowParts) → after net (standing addrs) parts ≡ parts

@@ -21,9 +21,9 @@ use Rattle.mesh_wire.specs.Parts.{octets_of, values_of}
 use Rattle.mesh_wire.specs.Rows.{HasValue}
 use Rattle.mesh_wire.specs.Tc.{ContentIs, contents_of}
 use Rattle.mesh_wire.specs.Times.{HasTime, ValidityIs, IntervalIs}
-use Rattle.mesh_wire.proofs.Ascending.{at_head, in_tail, head_or_tail, none_in}
 use Rattle.mesh_wire.proofs.Single.{one_time}
 use Rattle.mesh_wire.proofs.Slots.{OneIs, Shows}
+use Rattle.mesh_atoms.proofs.Lists.{contains_head as at_head, contains_tail as in_tail, contains_cases, contains_none as none_in}
 
 -- there is one, or there is none
 abbrev pub IsThere : (X : Type 0) → (X → Type 0) → Type 0
@@ -90,7 +90,7 @@ value_from : (kind : ℕ) (tlvs : List TlvFields) (v : List ℕ) → Contains (m
     (tlv : TlvFields) × Contains tlvs tlv × (octets_of tlv.value ≡ v)
 value_from kind [] v h = absurd (none_in v h)
 value_from kind (t ∷ tlvs) v h = elim (cases_Bool (t.kind == kind && t.ext == 0)) [
-  | inl y ↦ elim (head_or_tail (octets_of t.value) (values tlvs) v (subst (λ (b : Bool). Contains (cond b (octets_of t.value ∷ values tlvs) (values tlvs)) v) y (spread h))) [
+  | inl y ↦ elim (contains_cases (octets_of t.value) (values tlvs) v (subst (λ (b : Bool). Contains (cond b (octets_of t.value ∷ values tlvs) (values tlvs)) v) y (spread h))) [
     | inl e ↦ (t, at_head t tlvs, e)
     | inr later ↦ let (u, there, is) = value_from kind tlvs v later in (u, in_tail t tlvs u there, is)
   ]

@@ -9,10 +9,10 @@ use Rattle.mesh_packet.specs.Fields.{BlockFields, MessageFields}
 use Rattle.mesh_wire.specs.Entries.{Entry, standing, tellings, of_tlv, of_tlvs, of_block, of_blocks}
 use Rattle.mesh_wire.specs.Parts.{IsIn, octets_of, value_at}
 use Rattle.mesh_wire.specs.Rows.{HoldsAddress, HasValue}
-use Rattle.mesh_wire.proofs.Ascending.{at_head, in_tail, head_or_tail, none_in}
 use Rattle.mesh_wire.proofs.Collected.{AnyOf, StandsOf, SaysOf, any_front, any_back, any_either}
 use Rattle.mesh_wire.proofs.Collecting.{of_one, one_of}
 use Rattle.mesh_wire.proofs.Standing.{get_drop, get_take, covered}
+use Rattle.mesh_atoms.proofs.Lists.{contains_head as at_head, contains_tail as in_tail, contains_cases, contains_none as none_in}
 
 -- ---- addresses
 
@@ -122,7 +122,7 @@ in_tlvs P addrs (t ∷ tlvs) h = elim (any_either P (of_tlv addrs t) (of_tlvs ad
 
 tlvs_in : (P : Entry → Type 0) (addrs : List RawAddr) (tlvs : List AddrTlvFields) (tlv : AddrTlvFields) → Contains tlvs tlv → AnyOf P (of_tlv addrs tlv) → AnyOf P (of_tlvs addrs tlvs)
 tlvs_in P addrs [] tlv has h = absurd (none_in tlv has)
-tlvs_in P addrs (t ∷ tlvs) tlv has h = elim (head_or_tail t tlvs tlv has) [
+tlvs_in P addrs (t ∷ tlvs) tlv has h = elim (contains_cases t tlvs tlv has) [
   | inl e ↦ any_front P (of_tlv addrs t) (of_tlvs addrs tlvs) (subst (λ (s : AddrTlvFields). AnyOf P (of_tlv addrs s)) (sym e) h)
   | inr later ↦ any_back P (of_tlv addrs t) (of_tlvs addrs tlvs) (tlvs_in P addrs tlvs tlv later h)
 ]
@@ -136,7 +136,7 @@ in_blocks P (b ∷ blocks) h = elim (any_either P (of_block b) (of_blocks blocks
 
 blocks_in : (P : Entry → Type 0) (blocks : List BlockFields) (block : BlockFields) → Contains blocks block → AnyOf P (of_block block) → AnyOf P (of_blocks blocks)
 blocks_in P [] block has h = absurd (none_in block has)
-blocks_in P (b ∷ blocks) block has h = elim (head_or_tail b blocks block has) [
+blocks_in P (b ∷ blocks) block has h = elim (contains_cases b blocks block has) [
   | inl e ↦ any_front P (of_block b) (of_blocks blocks) (subst (λ (c : BlockFields). AnyOf P (of_block c)) (sym e) h)
   | inr later ↦ any_back P (of_block b) (of_blocks blocks) (blocks_in P blocks block later h)
 ]

@@ -14,12 +14,9 @@ use Rattle.mesh_wire.specs.HelloRules.{BreaksHello, AddressWidth, HopLimit, HopC
 use Rattle.mesh_wire.specs.Rules.{FirstBroken, IsOctet, Keeps}
 use Rattle.mesh_wire.specs.Examples.{own, own_net, local, own_block, lone, own_row, lone_hello, bare, near, near_net, states, two_near}
 use Rattle.mesh_atoms.proofs.Nets.{same_net}
+use Rattle.mesh_atoms.proofs.Lists.{contains_one as only}
 
 -- ---- lists of one
-
-pub only : {A : Type 0} (x y : A) → Contains (x ∷ []) y → x ≡ y
-only x y (zero, lt, is) = is
-only x y (suc k, lt, is) = absurd (omega arith)
 
 pub first_only : {A : Type 0} (x y : A) (place : ℕ) → slice_get (x ∷ []) place ≡ Some y → x ≡ y
 first_only x y zero e = cc

@@ -11,7 +11,8 @@ use Rattle.mesh_wire.specs.Rows.{HoldsAddressAt, HoldsAddress, HasValue}
 use Rattle.mesh_wire.specs.Rules.{FirstBroken, IsLow, IsOctet}
 use Rattle.mesh_wire.specs.TcRules.{BreaksTc, AddressWidth, NoOriginator, NoSequence, NoValidity, WrongInterval, Content, AddrType, TwoAddrTypes, ShortPrefix, GatewayOctet, TwoGateways, Beside, WrongMetric}
 use Rattle.mesh_wire.specs.Examples.{own, own_net, near, unknown, pair, odd_types}
-use Rattle.mesh_wire.proofs.Examples.{only, says}
+use Rattle.mesh_wire.proofs.Examples.{says}
+use Rattle.mesh_atoms.proofs.Lists.{contains_one as only}
 
 own_at : HoldsAddressAt odd_types pair 1 own_net
 own_at = record { address = own; in_message = (0, lit< tt, refl); in_block = refl; is_in = record { prefix = refl; number = refl } }

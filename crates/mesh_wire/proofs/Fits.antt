@@ -19,9 +19,9 @@ use Rattle.mesh_wire.specs.declared.lines.Line.{Line}
 use Rattle.mesh_wire.specs.Drafts.{whole, saying, heading_of, FitsAlone}
 use Rattle.mesh_wire.specs.Lines.{columns}
 use Rattle.mesh_wire.specs.Runs.{raw_of, IsBlock, AreBlocks}
-use Rattle.mesh_wire.proofs.Ascending.{at_head, in_tail}
 use Rattle.mesh_wire.proofs.Laid.{runs_of_all, all_short, parts_in}
 use Rattle.mesh_wire.proofs.RunLaws.{head_long, length_short}
+use Rattle.mesh_atoms.proofs.Lists.{contains_head as at_head, contains_tail as in_tail}
 
 -- ---- what can be encoded
 

@@ -12,11 +12,11 @@ use Rattle.mesh_wire.specs.Parts.{IsIn}
 use Rattle.mesh_wire.specs.Standing.{addresses, IsRowOf, IsTable, AreAt, Tells, after, tell}
 use Rattle.mesh_wire.specs.KeptParts.{no_parts}
 use Rattle.mesh_wire.proofs.Addresses.{take_front}
-use Rattle.mesh_wire.proofs.Ascending.{head_or_tail, none_in}
 use Rattle.mesh_wire.proofs.Collected.{AnyOf, At, StandsOf, any_front, any_back, collected_is}
 use Rattle.mesh_wire.proofs.Collecting.{one_net, in_none, all_after}
 use Rattle.mesh_wire.proofs.Entries.{there_stands, has_of}
-use Rattle.mesh_wire.proofs.Standing.{get_some, get_within, get_or_index, get_contains, contains_get, at_told, told_at}
+use Rattle.mesh_wire.proofs.Standing.{get_within, get_or_index, at_told, told_at}
+use Rattle.mesh_atoms.proofs.Lists.{contains_cases, contains_none as none_in, item_at as get_some, contains_at, place_in}
 
 either_part : {X : Type 0} (xs ys : List X) (p : ℕ) (x : X) → slice_get (xs ++ ys) p ≡ Some x → (slice_get xs p ≡ Some x) ⊎ ((q : ℕ) × (slice_get ys q ≡ Some x))
 either_part [] ys p x e = inr (p, e)
@@ -42,7 +42,7 @@ stands_in (b ∷ blocks) net p a e is = elim (either_part b.addrs (addresses blo
 
 in_addresses : (blocks : List BlockFields) (b : BlockFields) (p : ℕ) (a : RawAddr) → Contains blocks b → slice_get b.addrs p ≡ Some a → (q : ℕ) × (slice_get (addresses blocks) q ≡ Some a)
 in_addresses [] b p a has e = absurd (none_in b has)
-in_addresses (c ∷ blocks) b p a has e = elim (head_or_tail c blocks b has) [
+in_addresses (c ∷ blocks) b p a has e = elim (contains_cases c blocks b has) [
   | inl same ↦ front_at c.addrs (addresses blocks) p a (subst (λ (x : BlockFields). slice_get x.addrs p ≡ Some a) (sym same) e)
   | inr later ↦ let (q, f) = in_addresses blocks b p a later e in back_at c.addrs (addresses blocks) q a f
 ]
@@ -68,7 +68,7 @@ module _ (m : MessageFields) (old : List AddressParts) (row_of : List ℕ) (tabl
   all_told new told = subst (AreCollected es) (sym told) (record {
     ascending = λ i j d lt less. (at_told es old (addresses m.blocks) row_of table.at).ascending i j _ _ lt (get_or_index (tell es old) i d (omega (arith, lt, less))) (get_or_index (tell es old) j d less);
     each = λ t has. (
-        let (i, at) = contains_get (tell es old) t has in
+        let (i, at) = place_in (tell es old) t has in
         let (s, was, net, parts) = told_at es old i t at in
         let (p, a, there, is) = table.there i s was in
         let all : collected s.net es None ≡ Some (after s.net es no_parts) = all_after s.net es (stands_in m.blocks s.net p a there is) in
@@ -81,7 +81,7 @@ module _ (m : MessageFields) (old : List AddressParts) (row_of : List ℕ) (tabl
         let (row, is_row) = get_some row_of q (let w = get_within (addresses m.blocks) q here.address there in omega (arith, w, table.at.count)) in
         let (t, was, same) = row_there net here.address here.is_in (slice_get old row) (table.at.each q row here.address there is_row) in
         let (s, now, is) = told_to es old row t was in
-        (s, get_contains (tell es old) row s now, is ∙ same));
+        (s, contains_at (tell es old) row s now, is ∙ same));
   })
 
 front_only : (xs ys : List AddressParts) (n : ℕ) → n ≡ length xs → take n (xs ++ ys) ≡ xs

@@ -1,24 +1,23 @@
 -- What is kept of a message's addresses, made by no more than its entries.
 use Rattle.std.proofs.Common.{◌≡◌, ℕ, ◌-◌, ◌%◌, ◌^◌, ◌⊎◌, inl, inr, refl, sym, subst, ◌∙◌, arith, List, [], ◌∷◌}
 use Rattle.std.specs.Prelude.{Contains, AllPairs, Some, None, ◌==◌}
-use Rattle.std.proofs.lemmas.Bool.{cases_lt, cases_eq, eq-eqb, eqb-true}
+use Rattle.std.proofs.lemmas.Bool.{cases_lt, cases_eq, eq-eqb, eqb-true, and_parts as both, and_from as and_both}
 use Rattle.std.proofs.lemmas.List.Elements.{All-contains_itself}
 use Rattle.std.proofs.lemmas.List.Kept.{AllPairs-cons}
 use Rattle.mesh_atoms.specs.declared.addr.NetAddr.{NetAddr}
 use Rattle.mesh_atoms.specs.Nodes.{IsBefore}
-use Rattle.mesh_atoms.proofs.Kept.{both}
 use Rattle.mesh_atoms.proofs.Nets.{same_net}
 use Rattle.mesh_wire.specs.declared.collect.AddressParts.{AddressParts}
 use Rattle.mesh_wire.specs.Collects.{AreCollected}
 use Rattle.mesh_wire.specs.Entries.{Entry, collected}
 use Rattle.mesh_wire.specs.Standing.{after}
 use Rattle.mesh_wire.specs.KeptParts.{no_parts}
-use Rattle.mesh_wire.proofs.Ascending.{at_head, in_tail, head_or_tail, none_in, head_below, tail_pairs}
+use Rattle.mesh_wire.proofs.Ascending.{head_below}
 use Rattle.mesh_wire.proofs.Collected.{AnyOf, StandsOf, SaysOf, collected_is}
 use Rattle.mesh_wire.proofs.Collecting.{all_after}
 use Rattle.mesh_wire.proofs.Gathered.{stands_if}
-use Rattle.mesh_wire.proofs.Same.{same_addr}
-use Rattle.mesh_wire.proofs.Slots.{and_both}
+use Rattle.mesh_atoms.proofs.Values.{before_trans, same_addr}
+use Rattle.mesh_atoms.proofs.Lists.{contains_head as at_head, contains_tail as in_tail, contains_cases, contains_none as none_in, all_pairs_tail}
 
 -- ---- the network of an entry
 
@@ -59,12 +58,6 @@ before_or a b = elim (cases_lt a.addr.0 b.addr.0) [
   ]
 ]
 
-before_all : (a b c : NetAddr) → IsBefore a b → IsBefore b c → IsBefore a c
-before_all a b c (inl l) (inl m) = inl (omega (arith, l, m))
-before_all a b c (inl l) (inr m) = inl (omega (arith, l, m.0))
-before_all a b c (inr l) (inl m) = inl (omega (arith, l.0, m))
-before_all a b c (inr l) (inr m) = inr (omega (arith, l.0, m.0), omega (arith, l.1, m.1))
-
 pairs_cons : {X : Type 0} (R : X → X → Type 0) (x : X) (xs : List X) → ((z : X) → Contains xs z → R x z) → AllPairs R xs → AllPairs R (x ∷ xs)
 pairs_cons R x xs h up = AllPairs-cons R x xs (λ i d lt. h _ (All-contains_itself xs i d lt)) up
 
@@ -79,30 +72,30 @@ inserted : (net : NetAddr) (nets : List NetAddr) → AllPairs IsBefore nets → 
 inserted net [] up = record {
   out = net ∷ [];
   ascending = pairs_cons IsBefore net [] (λ z h. absurd (none_in z h)) up;
-  from = λ z h. head_or_tail net [] z h;
+  from = λ z h. contains_cases net [] z h;
   has = at_head net [];
   keeps = λ z h. absurd (none_in z h);
 }
 inserted net (x ∷ nets) up = elim (before_or net x) [
   | inl before ↦ record {
     out = net ∷ (x ∷ nets);
-    ascending = pairs_cons IsBefore net (x ∷ nets) (λ z h. elim (head_or_tail x nets z h) [ inl e ↦ subst (IsBefore net) e before | inr later ↦ before_all net x z before (head_below IsBefore x nets up z later) ]) up;
-    from = λ z h. head_or_tail net (x ∷ nets) z h;
+    ascending = pairs_cons IsBefore net (x ∷ nets) (λ z h. elim (contains_cases x nets z h) [ inl e ↦ subst (IsBefore net) e before | inr later ↦ before_trans net x z before (head_below IsBefore x nets up z later) ]) up;
+    from = λ z h. contains_cases net (x ∷ nets) z h;
     has = at_head net (x ∷ nets);
     keeps = λ z h. in_tail net (x ∷ nets) z h;
   }
   | inr (inl same) ↦ record { out = x ∷ nets; ascending = up; from = λ z h. inr h; has = subst (Contains (x ∷ nets)) (sym same) (at_head x nets); keeps = λ z h. h }
   | inr (inr behind) ↦
-      let r = inserted net nets (tail_pairs IsBefore x nets up) in
+      let r = inserted net nets (all_pairs_tail IsBefore x nets up) in
       record {
         out = x ∷ r.out;
         ascending = pairs_cons IsBefore x r.out (λ z h. elim (r.from z h) [ inl e ↦ subst (IsBefore x) e behind | inr old ↦ head_below IsBefore x nets up z old ]) r.ascending;
-        from = λ z h. elim (head_or_tail x r.out z h) [
+        from = λ z h. elim (contains_cases x r.out z h) [
           | inl e ↦ inr (subst (Contains (x ∷ nets)) e (at_head x nets))
           | inr later ↦ elim (r.from z later) [ inl e ↦ inl e | inr old ↦ inr (in_tail x nets z old) ]
         ];
         has = in_tail x r.out net r.has;
-        keeps = λ z h. elim (head_or_tail x nets z h) [ inl e ↦ subst (Contains (x ∷ r.out)) e (at_head x r.out) | inr later ↦ in_tail x r.out z (r.keeps z later) ];
+        keeps = λ z h. elim (contains_cases x nets z h) [ inl e ↦ subst (Contains (x ∷ r.out)) e (at_head x r.out) | inr later ↦ in_tail x r.out z (r.keeps z later) ];
       }
 ]
 
@@ -150,15 +143,15 @@ module _ (es : List Entry) where
   unfolding row_of
   rows_of [] up stands = record { rows = []; ascending = λ i j d lt less. absurd (omega (arith, lt)); each = λ t h. absurd (none_in t h); all = λ net h. absurd (none_in net h) }
   rows_of (x ∷ nets) up stands =
-      let rest = rows_of nets (tail_pairs IsBefore x nets up) (λ net h. stands net (in_tail x nets net h)) in
+      let rest = rows_of nets (all_pairs_tail IsBefore x nets up) (λ net h. stands net (in_tail x nets net h)) in
       record {
         rows = row_of x ∷ rest.rows;
         ascending = pairs_cons (λ (a b : AddressParts). IsBefore a.net b.net) (row_of x) rest.rows (λ t h. head_below IsBefore x nets up t.net (rest.each t h).0) rest.ascending;
-        each = λ t h. elim (head_or_tail (row_of x) rest.rows t h) [
+        each = λ t h. elim (contains_cases (row_of x) rest.rows t h) [
           | inl e ↦ subst (λ (u : AddressParts). Contains (x ∷ nets) u.net × (collected u.net es None ≡ Some u.parts)) e (at_head x nets, all_after x es (stands x (at_head x nets)))
           | inr later ↦ let r = rest.each t later in (in_tail x nets t.net r.0, r.1)
         ];
-        all = λ net h. elim (head_or_tail x nets net h) [
+        all = λ net h. elim (contains_cases x nets net h) [
           | inl e ↦ (row_of x, at_head (row_of x) rest.rows, e)
           | inr later ↦ let (t, there, is) = rest.all net later in (t, in_tail (row_of x) rest.rows t there, is)
         ];

@@ -15,8 +15,8 @@ use Rattle.mesh_wire.specs.Parts.{values_of}
 use Rattle.mesh_wire.specs.Times.{ValidityIs, IntervalIs}
 use Rattle.mesh_wire.specs.Values.{values_in}
 use Rattle.mesh_wire.specs.Writes.{HasInterval, IsReadOfHello, IsReadOfTc}
-use Rattle.mesh_wire.proofs.Ascending.{head_or_tail, none_in}
 use Rattle.mesh_wire.proofs.Further.{code_above}
+use Rattle.mesh_atoms.proofs.Lists.{contains_cases, contains_none as none_in}
 
 -- ---- both messages: validity v, interval i and another TLV, of MPR_WILLING or CONT_SEQ_NUM
 
@@ -98,11 +98,11 @@ content_is validity i b m ansn complete e =
 -- of the TLVs of a heading each is one of three
 pub one_of_three : (validity values : List ℕ) (b : Bool) (kind ext : ℕ) (tlv : TlvFields) → Contains (heading_of validity values b kind ext) tlv →
     ((tlv.kind ≡ validity_time) × (tlv.ext ≡ 0)) ⊎ (((tlv.kind ≡ interval_time) × (tlv.ext ≡ 0)) ⊎ ((tlv.kind ≡ kind) × (tlv.ext ≡ ext)))
-one_of_three validity values b kind ext tlv has = elim (head_or_tail (saying validity_time 0 validity) (middle b ++ last ∷ []) tlv has) [
+one_of_three validity values b kind ext tlv has = elim (contains_cases (saying validity_time 0 validity) (middle b ++ last ∷ []) tlv has) [
   | inl e ↦ inl (sym (ap (λ (t : TlvFields). t.kind) e), sym (ap (λ (t : TlvFields). t.ext) e))
   | inr later ↦ elim (Contains-append_cases (middle b) (last ∷ []) tlv later) [
     | inl among ↦ inr (inl (in_middle b among))
-    | inr end ↦ elim (head_or_tail last [] tlv end) [
+    | inr end ↦ elim (contains_cases last [] tlv end) [
       | inl e ↦ inr (inr (sym (ap (λ (t : TlvFields). t.kind) e), sym (ap (λ (t : TlvFields). t.ext) e)))
       | inr none ↦ absurd (none_in tlv none)
     ]
@@ -115,7 +115,7 @@ one_of_three validity values b kind ext tlv has = elim (head_or_tail (saying val
   middle c = cond c (saying interval_time 0 (take 1 values) ∷ []) []
 
   in_middle : (c : Bool) → Contains (middle c) tlv → (tlv.kind ≡ interval_time) × (tlv.ext ≡ 0)
-  in_middle true among = elim (head_or_tail (saying interval_time 0 (take 1 values)) [] tlv among) [
+  in_middle true among = elim (contains_cases (saying interval_time 0 (take 1 values)) [] tlv among) [
     | inl e ↦ (sym (ap (λ (t : TlvFields). t.kind) e), sym (ap (λ (t : TlvFields). t.ext) e))
     | inr none ↦ absurd (none_in tlv none)
   ]

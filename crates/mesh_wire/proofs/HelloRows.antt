@@ -18,10 +18,11 @@ use Rattle.mesh_wire.specs.Made.{AreMade}
 use Rattle.mesh_wire.specs.Metrics.{MetricKind, Link_in, Link_out, Near_in, Near_out, flag_of, ShowsMetric, MetricIs}
 use Rattle.mesh_wire.specs.Rows.{HoldsAddress, HasValue, OctetIs, SaysFlag, AreRows}
 use Rattle.mesh_wire.specs.Rules.{IsOctet}
-use Rattle.mesh_wire.proofs.HelloRuled.{code_of, of_code, neither_of, Sound}
+use Rattle.mesh_wire.proofs.HelloRuled.{code_of, of_code, Sound}
 use Rattle.mesh_wire.proofs.Kept.{AreTold, right_octet, in_range}
 use Rattle.mesh_wire.proofs.Made.{made_from, made_of, ascending_made}
 use Rattle.mesh_wire.proofs.Slots.{OneIs, InRange, OctetsAre, Shows, RowIs}
+use Rattle.std.proofs.lemmas.Bool.{or_parts}
 
 -- ---- one octet
 
@@ -115,13 +116,13 @@ module _ (m : MessageFields) (t : AddressParts) (r : HelloRow) (kept : RowIs (Ha
 -- ---- all rows
 
 parts_of : (a b c : Bool) → (a || (b || c)) ≡ false → (a ≡ false) × (b ≡ false) × (c ≡ false)
-parts_of a b c e = let p = neither_of a (b || c) e in let q = neither_of b c p.1 in (p.0, q.0, q.1)
+parts_of a b c e = let p = or_parts a (b || c) e in let q = or_parts b c p.1 in (p.0, q.0, q.1)
 
 codes_of : (w a b c d : Bool) → (w || ((a || b) || (c || d))) ≡ false → (a ≡ false) × (b ≡ false) × (c ≡ false) × (d ≡ false)
 codes_of w a b c d e =
-    let p = neither_of (a || b) (c || d) (neither_of w ((a || b) || (c || d)) e).1 in
-    let q = neither_of a b p.0 in
-    let r = neither_of c d p.1 in
+    let p = or_parts (a || b) (c || d) (or_parts w ((a || b) || (c || d)) e).1 in
+    let q = or_parts a b p.0 in
+    let r = or_parts c d p.1 in
     (q.0, q.1, r.0, r.1)
 
 pub rows_are : (m : MessageFields) (told : List AddressParts) (are : AreTold m told) (rows : List HelloRow) → ((t : AddressParts) → Contains told t → Sound t) → AreMade HelloRowFrom told rows → AreRows m (λ (row : HelloRow). row.addr) (IsReadHelloRow m) rows

@@ -1,9 +1,8 @@
 -- The rules on the addresses of a HELLO, by tests of what is kept.
 use Rattle.std.proofs.Common.{◌≡◌, ℕ, ◌+◌, ◌*◌, ◌%◌, ◌≤◌, ◌⊎◌, inl, inr, refl, sym, ◌∙◌, ap, subst, arith, Bool, true, false, cond, List, [], ◌∷◌, Contains, lit≤}
 use Rattle.std.specs.Prelude.{◌||◌, ◌&&◌, ◌≢◌, Option, Some, None, nat_lt}
-use Rattle.std.proofs.lemmas.Bool.{cases_Bool, ltb-true, lt-ltb}
+use Rattle.std.proofs.lemmas.Bool.{cases_Bool, ltb-true, lt-ltb, and_parts as both, or_cases, or_left, or_right, and_from as and_both}
 use Rattle.mesh_atoms.specs.declared.addr.NetAddr.{NetAddr}
-use Rattle.mesh_atoms.proofs.Kept.{both}
 use Rattle.mesh_packet.specs.Fields.{MessageFields}
 use Rattle.mesh_wire.specs.declared.collect.AddressParts.{AddressParts}
 use Rattle.mesh_wire.specs.declared.parts.One.{One}
@@ -16,16 +15,12 @@ use Rattle.mesh_wire.specs.Metrics.{MetricKind, Link_in, Link_out, Near_in, Near
 use Rattle.mesh_wire.specs.Rows.{HoldsAddress, HasValue}
 use Rattle.mesh_wire.proofs.Kept.{AreTold, told_of, says_has, right_octet, in_range, differ_several, several_differ, one_said, said_one}
 use Rattle.mesh_wire.proofs.Ruled.{Decides, Reaches}
-use Rattle.mesh_wire.proofs.Slots.{OneIs, InRange, OctetsAre, Shows, RowIs, or_cases, or_left, or_right, and_both}
+use Rattle.mesh_wire.proofs.Slots.{OneIs, InRange, OctetsAre, Shows, RowIs}
 
 -- ---- the three types together
 
 or_three : (a b c : Bool) → (a || (b || c)) ≡ true → (a ≡ true) ⊎ ((b ≡ true) ⊎ (c ≡ true))
 or_three a b c e = elim (or_cases a (b || c) e) [ inl x ↦ inl x | inr x ↦ inr (or_cases b c x) ]
-
-pub neither_of : (a b : Bool) → (a || b) ≡ false → (a ≡ false) × (b ≡ false)
-neither_of true b e = absurd (cc)
-neither_of false b e = (refl, e)
 
 -- what is kept of one of the types
 abbrev kept_of : {kind bound : ℕ} → IsStatusBelow kind bound → RowParts → Octets

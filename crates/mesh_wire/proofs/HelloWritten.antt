@@ -43,8 +43,9 @@ use Rattle.mesh_wire.proofs.Headings.{validity_told, one_validity, interval_is, 
 use Rattle.mesh_wire.proofs.Laid.{whole_number}
 use Rattle.mesh_wire.proofs.LinesSay.{octet_value, metric_octets, has_flag, metric_value, column_of, metric_of}
 use Rattle.mesh_wire.proofs.OneHello.{one_hello}
-use Rattle.mesh_wire.proofs.RowLines.{unmapped, of_value, alone_again}
+use Rattle.mesh_wire.proofs.RowLines.{of_value, alone_again}
 use Rattle.mesh_wire.proofs.RowsSay.{row_stands, row_at, part_there, said_of, row_of, not_two, right_metric, octet_said, flags_said, metric_said}
+use Rattle.mesh_atoms.proofs.Lists.{contains_map_cases as unmapped}
 
 -- ---- fewest parts
 

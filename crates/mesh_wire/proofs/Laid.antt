@@ -1,5 +1,5 @@
 -- Blocks of lines say what the lines say.
-use Rattle.std.proofs.Common.{◌≡◌, ℕ, zero, suc, ◌+◌, ◌-◌, ◌*◌, ◌/◌, ◌%◌, ◌^◌, ◌<◌, ◌≤◌, inl, inr, List, [], ◌∷◌, ◌++◌, length, take, refl, sym, ap, subst, ◌∙◌, arith, length-append}
+use Rattle.std.proofs.Common.{◌≡◌, ℕ, ◌+◌, ◌-◌, ◌*◌, ◌/◌, ◌%◌, ◌^◌, ◌<◌, ◌≤◌, inl, inr, List, [], ◌∷◌, ◌++◌, length, take, refl, sym, ap, subst, ◌∙◌, arith, length-append}
 use Rattle.std.specs.Prelude.{slice_get, Contains, Option, Some, None}
 use Rattle.std.specs.Option.{option_map}
 use Rattle.std.specs.List.{flat_map}
@@ -23,25 +23,11 @@ use Rattle.mesh_wire.specs.Lines.{kind_of, value_of, columns}
 use Rattle.mesh_wire.specs.Parts.{octets_of, IsIn, value_at}
 use Rattle.mesh_wire.specs.Rows.{HoldsAddressAt, HoldsAddress, HasPart, HasValue}
 use Rattle.mesh_wire.specs.Runs.{host_octets, raw_of, present, IsRun, LaysAll, IsBlock, AreBlocks}
-use Rattle.mesh_wire.proofs.Ascending.{at_head, in_tail, head_or_tail, none_in}
-use Rattle.mesh_wire.proofs.Same.{same_addr}
+use Rattle.mesh_atoms.proofs.Lists.{contains_at as at_place, place_of, contains_head as at_head, contains_tail as in_tail, contains_cases, contains_none as none_in}
+use Rattle.mesh_atoms.proofs.Options.{one_some}
+use Rattle.mesh_atoms.proofs.Values.{same_addr}
 
 -- ---- places of lists
-
-pub at_place : {X : Type 0} (xs : List X) (k : ℕ) (x : X) → slice_get xs k ≡ Some x → Contains xs x
-at_place [] k x e = cc
-at_place (y ∷ ys) zero x e = let same : y ≡ x = cc in subst (Contains (y ∷ ys)) same (at_head y ys)
-at_place (y ∷ ys) (suc k) x e = in_tail y ys x (at_place ys k x e)
-
-pub place_of : {X : Type 0} (xs : List X) (x : X) → Contains xs x → (k : ℕ) × (k < length xs) × (slice_get xs k ≡ Some x)
-place_of [] x has = absurd (none_in x has)
-place_of (y ∷ ys) x has = elim (head_or_tail y ys x has) [
-  | inl same ↦ (0, omega arith, ap Some same)
-  | inr later ↦ let (k, lt, at) = place_of ys x later in (suc k, omega arith, at)
-]
-
-same_some : {X : Type 0} (a b : X) (o : Option X) → o ≡ Some a → o ≡ Some b → a ≡ b
-same_some a b o e f = cc
 
 -- ---- addresses as they stand in a block
 
@@ -93,7 +79,7 @@ Covered c lines tlvs place = (tlv : AddrTlvFields) × Contains tlvs tlv × IsRun
 covered_in : (cs : List Column) (lines : List Line) (tlvs : List AddrTlvFields) → LaysAll cs lines tlvs → (c : Column) → Contains cs c → (place : ℕ) (line : Line) (octets : List ℕ) →
     place < length lines → slice_get lines place ≡ Some line → value_of c line ≡ Some octets → Covered c lines tlvs place
 covered_in [] lines tlvs h c among place line octets lt at is = absurd (none_in c among)
-covered_in (d ∷ cs) lines tlvs (first, others, whole, h, k) c among place line octets lt at is = elim (head_or_tail d cs c among) [
+covered_in (d ∷ cs) lines tlvs (first, others, whole, h, k) c among place line octets lt at is = elim (contains_cases d cs c among) [
   | inl same ↦
       let said : value_of d line ≡ Some octets = subst (λ (x : Column). value_of x line ≡ Some octets) (sym same) is in
       let (tlv, has, low, high) = h.all place line octets lt at said in
@@ -120,7 +106,7 @@ all_short (c ∷ cs) lines tlvs (first, others, whole, h, k) count =
 
 pub block_there : (lines : List Line) (blocks : List BlockFields) → AreBlocks lines blocks → (b : BlockFields) → Contains blocks b → (front : List Line) × IsBlock front b × ((line : Line) → Contains front line → Contains lines line)
 block_there lines [] h b has = absurd (none_in b has)
-block_there lines (d ∷ blocks) (front, rest, whole, some, h, k) b has = elim (head_or_tail d blocks b has) [
+block_there lines (d ∷ blocks) (front, rest, whole, some, h, k) b has = elim (contains_cases d blocks b has) [
   | inl same ↦ (front, subst (IsBlock front) same h, λ line at. subst (λ (l : List Line). Contains l line) (sym whole) (Contains-append_left front rest line at))
   | inr later ↦
       let (part, is, up) = block_there rest blocks k b later in
@@ -160,7 +146,7 @@ module _ (m : MessageFields) (lines : List Line) (are : AreBlocks lines m.blocks
       let (line, at, of) = line_at front h.block is h.place h.address.address net h.address.in_block h.address.is_in in
       let (c, run) = runs_of_all columns front h.block.tlvs is.tlvs h.tlv h.in_block in
       let (other, octets, there, value, told) = run.says h.place h.first h.last in
-      let same : other ≡ line = same_some other line (slice_get front h.place) there at in
+      let same : other ≡ line = one_some other line (slice_get front h.place) there at in
       let e : octets_of part.value ≡ octets = ap (λ (p : TlvFields). octets_of p.value) h.part_is ∙ ap octets_of told in (
         line,
         c,
@@ -186,8 +172,8 @@ module _ (m : MessageFields) (lines : List Line) (are : AreBlocks lines m.blocks
       let (place, lt, at) = place_of front line here in
       let (tlv, in_block, run, low, high) = covered_in columns front b.tlvs is.tlvs c (each_column c) place line octets lt at value in
       let (other, told, there, value', is_told) = run.says place low high in
-      let same : other ≡ line = same_some other line (slice_get front place) there at in
-      let e : told ≡ octets = same_some told octets (value_of c line) (ap (value_of c) (sym same) ∙ value') value in (
+      let same : other ≡ line = one_some other line (slice_get front place) there at in
+      let e : told ≡ octets = one_some told octets (value_of c line) (ap (value_of c) (sym same) ∙ value') value in (
         Some octets,
         record {
           block = b;

@@ -26,7 +26,7 @@ mod Entries
 mod Examples
 mod ExamplesTc
 mod Fits
-mod Further
+pub mod Further
 mod Gathered
 mod Gathering
 mod Headings

@@ -7,7 +7,7 @@ use Rattle.mesh_atoms.specs.Nodes.{IsBefore}
 use Rattle.mesh_wire.specs.declared.collect.AddressParts.{AddressParts}
 use Rattle.mesh_wire.specs.Made.{AreMade}
 use Rattle.mesh_wire.specs.KeptParts.{no_parts}
-use Rattle.mesh_wire.proofs.Ascending.{at_head, in_tail, head_or_tail, none_in}
+use Rattle.mesh_atoms.proofs.Lists.{contains_head as at_head, contains_tail as in_tail, contains_cases, contains_none as none_in}
 
 one_row_more : {Row : Type 0} (From : AddressParts → Row → Type 0) (told : List AddressParts) (rows : List Row) (t : AddressParts) (r : Row) → AreMade From told rows → From t r → AreMade From (told ++ t ∷ []) (rows ++ r ∷ [])
 one_row_more From [] [] t r h g = (g, tt)
@@ -21,7 +21,7 @@ row_made {Row} From told rows new i d r lt h g e =
 
 pub made_from : {Row : Type 0} (From : AddressParts → Row → Type 0) (told : List AddressParts) (rows : List Row) → AreMade From told rows → (r : Row) → Contains rows r → (t : AddressParts) × Contains told t × From t r
 made_from From [] [] h r has = absurd (none_in r has)
-made_from From (t ∷ told) (q ∷ rows) h r has = elim (head_or_tail q rows r has) [
+made_from From (t ∷ told) (q ∷ rows) h r has = elim (contains_cases q rows r has) [
   | inl e ↦ (t, at_head t told, subst (From t) e h.0)
   | inr later ↦ let (s, there, is) = made_from From told rows h.1 r later in (s, in_tail t told s there, is)
 ]
@@ -30,7 +30,7 @@ made_from From (t ∷ told) [] h r has = absurd h
 
 pub made_of : {Row : Type 0} (From : AddressParts → Row → Type 0) (told : List AddressParts) (rows : List Row) → AreMade From told rows → (t : AddressParts) → Contains told t → (r : Row) × Contains rows r × From t r
 made_of From [] [] h t has = absurd (none_in t has)
-made_of From (s ∷ told) (r ∷ rows) h t has = elim (head_or_tail s told t has) [
+made_of From (s ∷ told) (r ∷ rows) h t has = elim (contains_cases s told t has) [
   | inl e ↦ (r, at_head r rows, subst (λ (x : AddressParts). From x r) e h.0)
   | inr later ↦ let (q, there, is) = made_of From told rows h.1 t later in (q, in_tail r rows q there, is)
 ]

@@ -64,7 +64,7 @@ other_again other.Symmetric = refl
 abbrev metrics_of : Option Metric → Option Metric → Option Metric → Option Metric → Metrics
 metrics_of a b c d = record { link_in = a; link_out = b; near_in = c; near_out = d }
 
-same_metrics : (m n : Metrics) → m.link_in ≡ n.link_in → m.link_out ≡ n.link_out → m.near_in ≡ n.near_in → m.near_out ≡ n.near_out → m ≡ n
+pub same_metrics : (m n : Metrics) → m.link_in ≡ n.link_in → m.link_out ≡ n.link_out → m.near_in ≡ n.near_in → m.near_out ≡ n.near_out → m ≡ n
 same_metrics m n a b c d =
     ap (λ (x : Option Metric). metrics_of x m.link_out m.near_in m.near_out) a
     ∙ ap (λ (x : Option Metric). metrics_of n.link_in x m.near_in m.near_out) b
@@ -74,7 +74,7 @@ same_metrics m n a b c d =
 abbrev mpr_of : Bool → Bool → Mpr
 mpr_of a b = record { flooding = a; routing = b }
 
-same_mpr : (m n : Mpr) → m.flooding ≡ n.flooding → m.routing ≡ n.routing → m ≡ n
+pub same_mpr : (m n : Mpr) → m.flooding ≡ n.flooding → m.routing ≡ n.routing → m ≡ n
 same_mpr m n a b = ap (λ (x : Bool). mpr_of x m.routing) a ∙ ap (λ (x : Bool). mpr_of n.flooding x) b
 
 -- what rows of one address have in common

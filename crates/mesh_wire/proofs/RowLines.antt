@@ -1,5 +1,5 @@
 -- The lines of rows in ascending order: one for each address.
-use Rattle.std.proofs.Common.{◌≡◌, ℕ, ◌<◌, inl, inr, List, [], ◌∷◌, map, refl, sym, ap, subst, ◌∙◌, arith}
+use Rattle.std.proofs.Common.{◌≡◌, ℕ, ◌<◌, inl, inr, List, [], ◌∷◌, map, refl, sym, ap, ◌∙◌}
 use Rattle.std.specs.Prelude.{Contains, AllPairs, Option, Some, None, IsSome, Result, Ok}
 use Rattle.std.specs.Option.{option_map}
 use Rattle.mesh_atoms.specs.declared.addr.NetAddr.{NetAddr}
@@ -11,40 +11,24 @@ use Rattle.mesh_packet.specs.Reading.{packet_of}
 use Rattle.mesh_packet.proofs.Packets.{packet_again}
 use Rattle.mesh_wire.specs.declared.lines.Line.{Line}
 use Rattle.mesh_wire.specs.Writes.{IsSoleMessage, alone}
-use Rattle.mesh_wire.proofs.Ascending.{at_head, in_tail, head_or_tail, none_in, head_below, tail_pairs}
-
-not_itself : (a b : NetAddr) → a ≡ b → IsBefore a b → ⊥
-not_itself a b e (inl lt) = omega (arith, lt, ap (λ (n : NetAddr). n.addr.0) e)
-not_itself a b e (inr (same, lt)) = omega (arith, lt, ap (λ (n : NetAddr). n.prefix) e)
+use Rattle.mesh_wire.proofs.Ascending.{head_below}
+use Rattle.mesh_atoms.proofs.Lists.{contains_map_cases as unmapped, contains_cases, contains_none as none_in, all_pairs_tail}
+use Rattle.mesh_atoms.proofs.Values.{not_before_itself}
 
 module _ {Row : Type 0} (addr_of : Row → NetAddr) where
   -- an ascending list has one row of an address
   pub one_row : (rows : List Row) → AllPairs (λ a b. IsBefore (addr_of a) (addr_of b)) rows → (r s : Row) → Contains rows r → Contains rows s → addr_of r ≡ addr_of s → r ≡ s
   one_row [] up r s has_r has_s e = absurd (none_in r has_r)
-  one_row (x ∷ rows) up r s has_r has_s e = elim (head_or_tail x rows r has_r) [
-    | inl is_r ↦ elim (head_or_tail x rows s has_s) [
+  one_row (x ∷ rows) up r s has_r has_s e = elim (contains_cases x rows r has_r) [
+    | inl is_r ↦ elim (contains_cases x rows s has_s) [
       | inl is_s ↦ sym is_r ∙ is_s
-      | inr later ↦ absurd (not_itself (addr_of x) (addr_of s) (ap addr_of is_r ∙ e) (head_below (λ a b. IsBefore (addr_of a) (addr_of b)) x rows up s later))
+      | inr later ↦ absurd (not_before_itself (addr_of x) (addr_of s) (ap addr_of is_r ∙ e) (head_below (λ a b. IsBefore (addr_of a) (addr_of b)) x rows up s later))
     ]
-    | inr later_r ↦ elim (head_or_tail x rows s has_s) [
-      | inl is_s ↦ absurd (not_itself (addr_of x) (addr_of r) (ap addr_of is_s ∙ sym e) (head_below (λ a b. IsBefore (addr_of a) (addr_of b)) x rows up r later_r))
-      | inr later_s ↦ one_row rows (tail_pairs (λ a b. IsBefore (addr_of a) (addr_of b)) x rows up) r s later_r later_s e
+    | inr later_r ↦ elim (contains_cases x rows s has_s) [
+      | inl is_s ↦ absurd (not_before_itself (addr_of x) (addr_of r) (ap addr_of is_s ∙ sym e) (head_below (λ a b. IsBefore (addr_of a) (addr_of b)) x rows up r later_r))
+      | inr later_s ↦ one_row rows (all_pairs_tail (λ a b. IsBefore (addr_of a) (addr_of b)) x rows up) r s later_r later_s e
     ]
   ]
-
-pub mapped : {X Y : Type 0} (f : X → Y) (xs : List X) (x : X) → Contains xs x → Contains (map f xs) (f x)
-mapped f [] x has = absurd (none_in x has)
-mapped f (y ∷ xs) x has = elim (head_or_tail y xs x has) [
-  | inl e ↦ subst (λ (z : _). Contains (map f (y ∷ xs)) (f z)) e (at_head (f y) (map f xs))
-  | inr later ↦ in_tail (f y) (map f xs) (f x) (mapped f xs x later)
-]
-
-pub unmapped : {X Y : Type 0} (f : X → Y) (xs : List X) (y : Y) → Contains (map f xs) y → (x : X) × Contains xs x × (f x ≡ y)
-unmapped f [] y has = absurd (none_in y has)
-unmapped f (x ∷ xs) y has = elim (head_or_tail (f x) (map f xs) y has) [
-  | inl e ↦ (x, at_head x xs, e)
-  | inr later ↦ let (z, among, is) = unmapped f xs y later in (z, in_tail x xs z among, is)
-]
 
 -- lines of one address are the same
 pub one_line : {Row : Type 0} (addr_of : Row → NetAddr) (f : Row → Line) (rows : List Row) → ((r : Row) → (f r).net ≡ addr_of r) → AllPairs (λ a b. IsBefore (addr_of a) (addr_of b)) rows →

@@ -17,7 +17,8 @@ use Rattle.mesh_wire.specs.Rows.{HoldsAddress, HasPart, HasValue, HasTwoValues, 
 use Rattle.mesh_wire.specs.Runs.{AreBlocks}
 use Rattle.mesh_wire.proofs.Laid.{said, stands, standing_line}
 use Rattle.mesh_wire.proofs.LinesSay.{says_only, octet_is, flags_are, metric_of, metric_is, two_octets, shown}
-use Rattle.mesh_wire.proofs.RowLines.{one_line, mapped, unmapped}
+use Rattle.mesh_wire.proofs.RowLines.{one_line}
+use Rattle.mesh_atoms.proofs.Lists.{contains_map as mapped, contains_map_cases as unmapped}
 
 module _ {Row : Type 0} (line_of : Row → Line) (rows : List Row) (m : MessageFields) (are : AreBlocks (map line_of rows) m.blocks) (up : AllPairs (λ (a b : Row). IsBefore (line_of a).net (line_of b).net) rows) where
   unique : (a b : Line) → Contains (map line_of rows) a → Contains (map line_of rows) b → a.net ≡ b.net → a ≡ b

@@ -7,10 +7,9 @@ use Rattle.mesh_atoms.specs.Nodes.{IsBefore, IsAtMost}
 use Rattle.mesh_wire.specs.declared.collect.AddressParts.{AddressParts}
 use Rattle.mesh_wire.specs.RowRules.{sooner, first_rule}
 use Rattle.mesh_wire.specs.Rules.{FirstBroken, IsLow, Keeps}
-use Rattle.mesh_wire.proofs.Ascending.{at_head, in_tail, head_or_tail, none_in, head_below, tail_pairs}
-
-at_most_self : (a b : NetAddr) → a ≡ b → IsAtMost a b
-at_most_self a b e = subst (λ (x : NetAddr). IsAtMost a x) e (inr (refl, omega arith))
+use Rattle.mesh_wire.proofs.Ascending.{head_below}
+use Rattle.mesh_atoms.proofs.Values.{at_most_itself}
+use Rattle.mesh_atoms.proofs.Lists.{contains_head as at_head, contains_tail as in_tail, contains_cases, contains_none as none_in, all_pairs_tail}
 
 before_at_most : (a b : NetAddr) → IsBefore a b → IsAtMost a b
 before_at_most a b (inl l) = inl l
@@ -41,8 +40,8 @@ module _ (rule : AddressParts → Option ℕ) where
     there = in_tail t rows f.told f.there;
     is = f.is;
     broken = f.broken;
-    first = λ u k has e. elim (head_or_tail t rows u has) [ inl g ↦ omega (arith, above k (ap rule g ∙ e)) | inr later ↦ f.first u k later e ];
-    least = λ u has e. elim (head_or_tail t rows u has) [ inl g ↦ absurd (omega (arith, above m (ap rule g ∙ e))) | inr later ↦ f.least u later e ];
+    first = λ u k has e. elim (contains_cases t rows u has) [ inl g ↦ omega (arith, above k (ap rule g ∙ e)) | inr later ↦ f.first u k later e ];
+    least = λ u has e. elim (contains_cases t rows u has) [ inl g ↦ absurd (omega (arith, above m (ap rule g ∙ e))) | inr later ↦ f.least u later e ];
   }
 
   same_number : (a b : ℕ) → Some a ≡ Some b → a ≡ b
@@ -55,9 +54,9 @@ module _ (rule : AddressParts → Option ℕ) where
     there = at_head t rows;
     is = refl;
     broken = e;
-    first = λ u j has f. elim (head_or_tail t rows u has) [ inl g ↦ omega (arith, same_number k j (sym e ∙ ap rule g ∙ f)) | inr later ↦ all u j later f ];
-    least = λ u has f. elim (head_or_tail t rows u has) [
-      | inl g ↦ at_most_self t.net u.net (ap (λ (x : AddressParts). x.net) g)
+    first = λ u j has f. elim (contains_cases t rows u has) [ inl g ↦ omega (arith, same_number k j (sym e ∙ ap rule g ∙ f)) | inr later ↦ all u j later f ];
+    least = λ u has f. elim (contains_cases t rows u has) [
+      | inl g ↦ at_most_itself t.net u.net (ap (λ (x : AddressParts). x.net) g)
       | inr later ↦ before_at_most t.net u.net (head_below (λ (a b : AddressParts). IsBefore a.net b.net) t rows up u later)
     ];
   }
@@ -73,7 +72,7 @@ module _ (rule : AddressParts → Option ℕ) where
   one_more t rows n a None up e rest =
       let path = ap (λ (x : Option ℕ). first_rule rule (sooner (Some (n, a)) x t.net) rows) e in
       elim (rest n a) [
-        | inl (is, all) ↦ inl (path ∙ is, λ u k has f. elim (head_or_tail t rows u has) [ inl g ↦ (let no : None ≡ Some k = sym e ∙ ap rule g ∙ f in absurd (cc)) | inr later ↦ all u k later f ])
+        | inl (is, all) ↦ inl (path ∙ is, λ u k has f. elim (contains_cases t rows u has) [ inl g ↦ (let no : None ≡ Some k = sym e ∙ ap rule g ∙ f in absurd (cc)) | inr later ↦ all u k later f ])
         | inr (m, b, lt, is, f) ↦ inr (m, b, lt, path ∙ is, extended t rows m b (λ k g. let no : None ≡ Some k = sym e ∙ g in absurd (cc)) f)
       ]
   one_more t rows n a (Some j) up e rest =
@@ -90,7 +89,7 @@ module _ (rule : AddressParts → Option ℕ) where
             let to : first_rule rule (Some (n, a)) (t ∷ rows) ≡ first_rule rule (Some (n, a)) rows = path ∙ ap (λ (c : Bool). first_rule rule (cond c (Some (j, t.net)) (Some (n, a))) rows) above in
             let le : n ≤ j = at_least j n above in
             elim (rest n a) [
-              | inl (is, all) ↦ inl (to ∙ is, λ u k has f. elim (head_or_tail t rows u has) [ inl g ↦ omega (arith, le, same_number j k (sym e ∙ ap rule g ∙ f)) | inr later ↦ all u k later f ])
+              | inl (is, all) ↦ inl (to ∙ is, λ u k has f. elim (contains_cases t rows u has) [ inl g ↦ omega (arith, le, same_number j k (sym e ∙ ap rule g ∙ f)) | inr later ↦ all u k later f ])
               | inr (m, b, lt, is, f) ↦ inr (m, b, lt, to ∙ is, extended t rows m b (λ k g. omega (arith, lt, le, same_number j k (sym e ∙ g))) f)
             ]
       ]
@@ -100,22 +99,22 @@ module _ (rule : AddressParts → Option ℕ) where
 
   after : (rows : List AddressParts) → AreOrdered rows → (n : ℕ) (a : NetAddr) → Stays n a rows ⊎ Yields n a rows
   after [] up n a = inl (refl, λ u k has e. absurd (none_in u has))
-  after (t ∷ rows) up n a = one_more t rows n a (rule t) up refl (after rows (tail_pairs (λ (a b : AddressParts). IsBefore a.net b.net) t rows up))
+  after (t ∷ rows) up n a = one_more t rows n a (rule t) up refl (after rows (all_pairs_tail (λ (a b : AddressParts). IsBefore a.net b.net) t rows up))
 
   from_head : (t : AddressParts) (rows : List AddressParts) (o : Option ℕ) → AreOrdered (t ∷ rows) → rule t ≡ o → FirstIs rows (first_rule rule None rows) → FirstIs (t ∷ rows) (first_rule rule (sooner None o t.net) rows)
   from_head t rows None up e rest = more (first_rule rule None rows) rest
     where
       more : (r : Option (ℕ × NetAddr)) → FirstIs rows r → FirstIs (t ∷ rows) r
-      more None h = λ u has. elim (head_or_tail t rows u has) [ inl g ↦ ap rule (sym g) ∙ e | inr later ↦ h u later ]
+      more None h = λ u has. elim (contains_cases t rows u has) [ inl g ↦ ap rule (sym g) ∙ e | inr later ↦ h u later ]
       more (Some (m, b)) h = extended t rows m b (λ k g. let no : None ≡ Some k = sym e ∙ g in absurd (cc)) h
-  from_head t rows (Some k) up e rest = elim (after rows (tail_pairs (λ (a b : AddressParts). IsBefore a.net b.net) t rows up) k t.net) [
+  from_head t rows (Some k) up e rest = elim (after rows (all_pairs_tail (λ (a b : AddressParts). IsBefore a.net b.net) t rows up) k t.net) [
     | inl (is, all) ↦ subst (λ (r : Option (ℕ × NetAddr)). FirstIs (t ∷ rows) r) (sym is) (begun t rows k up e all)
     | inr (m, b, lt, is, f) ↦ subst (λ (r : Option (ℕ × NetAddr)). FirstIs (t ∷ rows) r) (sym is) (extended t rows m b (λ j g. omega (arith, lt, same_number k j (sym e ∙ g))) f)
   ]
 
   pub first_is : (rows : List AddressParts) → AreOrdered rows → FirstIs rows (first_rule rule None rows)
   first_is [] up = λ u has. absurd (none_in u has)
-  first_is (t ∷ rows) up = from_head t rows (rule t) up refl (first_is rows (tail_pairs (λ (a b : AddressParts). IsBefore a.net b.net) t rows up))
+  first_is (t ∷ rows) up = from_head t rows (rule t) up refl (first_is rows (all_pairs_tail (λ (a b : AddressParts). IsBefore a.net b.net) t rows up))
 
 -- ---- rules on addresses, by the rules that rows break
 

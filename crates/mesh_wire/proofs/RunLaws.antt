@@ -4,7 +4,7 @@ use Rattle.std.specs.Prelude.{nat_lt, ◌==◌, slice_range, slice_get, nat_eq, 
 use Rattle.std.specs.List.{flat_map}
 use Rattle.std.specs.Option.{option_map, option_eq, is_some}
 use Rattle.std.proofs.Math.Nat.{mul-div_right, mul-mod_right}
-use Rattle.std.proofs.lemmas.Bool.{cases_Bool, cases_lt, eqb-true, lt-ltb, le-ltb}
+use Rattle.std.proofs.lemmas.Bool.{cases_Bool, cases_lt, eqb-true, lt-ltb, le-ltb, and_parts as both}
 use Rattle.std.proofs.lemmas.List.{take_all, map-append, take-append-drop, drop-drop}
 use Rattle.mesh_tlv.specs.declared.tlv.AddrTlv.{AddrTlv}
 use Rattle.mesh_tlv.specs.Fields.{AddrTlvFields, addr_fields}
@@ -19,9 +19,10 @@ use Rattle.mesh_packet.specs.declared.packet.Block.{Block}
 use Rattle.mesh_packet.specs.Fields.{BlockFields, fields_of_block}
 use Rattle.std.proofs.lemmas.List.Elements.{Contains-push, Contains-append_left, Contains-push_cases}
 use Rattle.std.proofs.lemmas.Grind.{flat_map-append}
-use Rattle.mesh_atoms.proofs.Kept.{both}
 use Rattle.mesh_wire.proofs.Standing.{get_drop, get_take, taken}
 use Rattle.mesh_wire.proofs.Texts.{take_more, between, column_wide, column_narrow}
+use Rattle.mesh_atoms.proofs.Lists.{item_at as there}
+use Rattle.mesh_atoms.proofs.Options.{some_of}
 
 -- ---- shares of a text
 
@@ -112,15 +113,6 @@ present_run c lines first =
     omega (arith, one, two)
 
 -- ---- the TLV of a run
-
-some_of : {X : Type 0} (o : Option X) → is_some o ≡ true → (x : X) × (o ≡ Some x)
-some_of None e = cc
-some_of (Some x) e = (x, refl)
-
-pub there : {X : Type 0} (xs : List X) (k : ℕ) → k < length xs → (x : X) × (slice_get xs k ≡ Some x)
-there [] k lt = absurd (omega arith)
-there (x ∷ xs) zero lt = (x, refl)
-there (x ∷ xs) (suc k) lt = there xs k (omega arith)
 
 same_option : (a b : Option ℕ) → option_eq nat_eq a b ≡ true → a ≡ b
 same_option None None e = refl

@@ -1,12 +1,8 @@
 -- Values with the same fields are the same.
 use Rattle.std.proofs.Common.{◌≡◌, ℕ, ◌<◌, ◌≤◌, ap, subst, ◌∙◌}
 use Rattle.std.specs.Coded.{le_prop}
-use Rattle.mesh_atoms.specs.declared.addr.Addr4.{Addr4}
 use Rattle.mesh_atoms.specs.declared.hello.Willing.{Willing}
 use Rattle.mesh_atoms.specs.declared.codes.metric.Metric.{Metric}
-
-pub same_addr : (a b : Addr4) → a.0 ≡ b.0 → a ≡ b
-same_addr a b e = ap (λ (n : ℕ). record { 0 = n }) e
 
 abbrev metric_of : (code : ℕ) → code < 4096 → Metric
 metric_of code in_range = record { code = code; in_range = in_range }

@@ -17,7 +17,8 @@ use Rattle.mesh_wire.specs.Rules.{FirstBroken, IsLow}
 use Rattle.mesh_wire.specs.Times.{HasTime, IntervalIs}
 use Rattle.mesh_wire.proofs.Ascending.{same_ascending}
 use Rattle.mesh_atoms.proofs.Nets.{same_net}
-use Rattle.mesh_wire.proofs.Same.{same_addr, same_metric}
+use Rattle.mesh_wire.proofs.Same.{same_metric}
+use Rattle.mesh_atoms.proofs.Values.{same_addr}
 
 one_value : (v w : List ℕ) (vs : List (List ℕ)) → vs ≡ v ∷ [] → vs ≡ w ∷ [] → v ≡ w
 one_value v w vs e f = cc
@@ -73,7 +74,7 @@ told_by f g back (Some a) (Some b) e =
     let same : f a ≡ f b = cc in
     ap Some (sym (back a) ∙ ap g same ∙ back b)
 
-one_way : (a b : NetAddr) → IsBefore a b → IsBefore b a → ⊥
+pub one_way : (a b : NetAddr) → IsBefore a b → IsBefore b a → ⊥
 one_way a b (inl l) (inl m) = omega arith
 one_way a b (inl l) (inr m) = omega arith
 one_way a b (inr l) (inl m) = omega arith

@@ -1,9 +1,8 @@
 -- What is kept of values, and that one value more is kept too.
 use Rattle.std.proofs.Common.{◌≡◌, ℕ, ◌+◌, ◌*◌, ◌%◌, ◌<◌, ◌≤◌, ◌⊎◌, inl, inr, refl, sym, ◌∙◌, ap, subst, arith, Bool, true, false, List, length, [], ◌∷◌}
 use Rattle.std.specs.Prelude.{◌==◌, ◌&&◌, ◌||◌, ◌↔◌, ◌≢◌, not, nat_le, nat_lt, IsTrue}
-use Rattle.std.proofs.lemmas.Bool.{cases_Bool, eq-eqb, ne_eqb, eqb-true, eqb-false, ltb-true, leb-true, lt-ltb, le-leb}
+use Rattle.std.proofs.lemmas.Bool.{cases_Bool, eq-eqb, ne_eqb, eqb-true, eqb-false, ltb-true, leb-true, lt-ltb, le-leb, or_cases, and_from as and_both, or_left, or_right, and_parts as both}
 use Rattle.mesh_atoms.specs.Reading.{has}
-use Rattle.mesh_atoms.proofs.Kept.{both}
 use Rattle.mesh_wire.specs.declared.parts.One.{One}
 use Rattle.mesh_wire.specs.declared.parts.One.TheVariants.{Unsaid, Said, Several}
 use Rattle.mesh_wire.specs.declared.parts.Octets.{Octets}
@@ -12,26 +11,6 @@ use Rattle.mesh_wire.specs.Rules.{IsOctet}
 use Rattle.mesh_wire.specs.KeptParts.{also, code_also, is_octet_in, says_flag, octets_also, octet_also, has_other_length, no_parts, take_part}
 
 -- ---- booleans
-
-pub or_cases : (a b : Bool) → (a || b) ≡ true → (a ≡ true) ⊎ (b ≡ true)
-or_cases true b e = inl refl
-or_cases false b e = inr e
-
-pub or_left : (a b : Bool) → a ≡ true → (a || b) ≡ true
-or_left true b e = refl
-or_left false b e = absurd (cc)
-
-pub or_right : (a b : Bool) → b ≡ true → (a || b) ≡ true
-or_right true b e = refl
-or_right false b e = e
-
-pub and_both : (a b : Bool) → a ≡ true → b ≡ true → (a && b) ≡ true
-and_both true b e f = f
-and_both false b e f = e
-
-and_left_false : (a b : Bool) → a ≡ false → (a && b) ≡ false
-and_left_false true b e = absurd (cc)
-and_left_false false b e = refl
 
 -- ---- numbers
 
@@ -80,7 +59,7 @@ octets_wrong S U low bound o new split keep said bad h = record {
       (λ n s. (keep (n ∷ []) s.0, s.1, s.2)) h.one;
 }
 
-same_octet : (a b : ℕ) → ◌≡◌ {A = List ℕ} (a ∷ []) (b ∷ []) → a ≡ b
+pub same_octet : (a b : ℕ) → ◌≡◌ {A = List ℕ} (a ∷ []) (b ∷ []) → a ≡ b
 same_octet a b e = cc
 
 octets_right : (S U : List ℕ → Type 0) (low bound : ℕ) (o : Octets) (n : ℕ) → ((x : List ℕ) → U x → S x ⊎ (x ≡ n ∷ [])) → ((x : List ℕ) → S x → U x) → U (n ∷ []) → low ≤ n → n < bound →

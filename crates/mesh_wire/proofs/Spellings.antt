@@ -22,8 +22,9 @@ use Rattle.mesh_wire.specs.Rows.{HasPart, HasValue, HoldsAddressAt}
 use Rattle.mesh_wire.specs.Spellings.{wordy_tlvs, wordy_local, short_block, long_block, message_with, wordy, too_wordy, IsForNone, IsSentForNone, unknown_tlv, beside, two, with_near, status, own_two, status_of_sender}
 use Rattle.mesh_wire.specs.Writes.{HasBriefBlocks, IsSoleMessage, IsReadOfHello, IsReadOfOther, IsReadOfHelloAddress, WritesHello, alone}
 use Rattle.mesh_wire.proofs.Examples.{says, part_only, lone_is, lone_keeps}
-use Rattle.mesh_wire.proofs.Behind.{behind_head, behind_tlvs, first_same, rest_same}
+use Rattle.mesh_wire.proofs.Behind.{behind_head, behind_tlvs}
 use Rattle.mesh_wire.proofs.RowLines.{alone_again}
+use Rattle.mesh_atoms.proofs.Lists.{heads_equal, tails_equal}
 
 -- ---- how it is spelled
 
@@ -250,7 +251,7 @@ blocks_there text is same =
 seven : (text rest : List ℕ) → SpellsBlock 4 (own ∷ []) text → text ++ rest ≡ long_block ++ wordy_local → 7 ≤ length text
 seven text rest is same =
     let whole = sym (ap (λ (l : List ℕ). l ++ rest) is.whole) ∙ same in
-    let flags : is.flags ≡ 128 = first_same _ _ _ _ (rest_same _ _ _ _ whole) in
+    let flags : is.flags ≡ 128 = heads_equal _ _ _ _ (tails_equal _ _ _ _ whole) in
     let head : SpellsHead true is.head is.head_text = subst (λ (n : ℕ). SpellsHead (has n 128) is.head is.head_text) flags is.head_is in
     let tail : SpellsTail false false is.tail is.tail_text = subst (λ (n : ℕ). SpellsTail (has n 64) (has n 32) is.tail is.tail_text) flags is.tail_is in
     let (mid, more, size, octets, none, parts) = is.mids_is in
@@ -277,11 +278,11 @@ no_brief octets is same (first, rest, briefly, none, parts) =
 -- the message of the packet is these octets
 message_there : (m : MessageFields) (span : Span) (is : Spells (alone m) (span ∷ []) too_wordy) → is.messages_is.0 ≡ message_with 39 long_block
 message_there m span is =
-    let flags : is.flags ≡ 7 = sym (first_same _ _ _ _ is.whole) in
+    let flags : is.flags ≡ 7 = sym (heads_equal _ _ _ _ is.whole) in
     let number : is.sequence ≡ [] = subst (λ (n : ℕ). SpellsNumber (has n 8) None is.sequence) flags is.sequence_is in
     let tlvs : SpellsTlvBlock [] is.tlvs = subst (λ (n : ℕ). SpellsHeaderTlvs (has n 4) [] is.tlvs) flags is.tlvs_is in
     let (text, rest, spelled, stands, none, parts) = is.messages_is in
-    let behind = sym (rest_same _ _ _ _ is.whole ∙ ap (λ (l : List ℕ). l ++ (is.tlvs ++ is.messages)) number) in
+    let behind = sym (tails_equal _ _ _ _ is.whole ∙ ap (λ (l : List ℕ). l ++ (is.tlvs ++ is.messages)) number) in
     sym (parts ∙ ap (λ (l : List ℕ). text ++ l) none ∙ append-nil text) ∙ behind_tlvs [] is.tlvs is.messages (message_with 39 long_block) 0 0 tlvs behind
 
 pub too_wordy_never : IsForNone too_wordy

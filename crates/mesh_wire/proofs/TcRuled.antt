@@ -1,9 +1,8 @@
 -- The rules on the addresses of a TC, by tests of what is kept.
 use Rattle.std.proofs.Common.{◌≡◌, ℕ, ◌*◌, ◌<◌, ◌≤◌, ◌⊎◌, inl, inr, refl, sym, ◌∙◌, ap, subst, arith, Bool, true, false, cond, List, [], ◌∷◌, Contains, lit≤}
 use Rattle.std.specs.Prelude.{◌||◌, ◌&&◌, Option, Some, None, nat_lt}
-use Rattle.std.proofs.lemmas.Bool.{cases_Bool, ltb-true, lt-ltb}
+use Rattle.std.proofs.lemmas.Bool.{cases_Bool, ltb-true, lt-ltb, and_parts as both, or_parts, or_cases, or_left, or_right, and_from as and_both}
 use Rattle.mesh_atoms.specs.declared.addr.NetAddr.{NetAddr}
-use Rattle.mesh_atoms.proofs.Kept.{both}
 use Rattle.mesh_packet.specs.Fields.{MessageFields}
 use Rattle.mesh_wire.specs.declared.collect.AddressParts.{AddressParts}
 use Rattle.mesh_wire.specs.declared.parts.RowParts.{RowParts}
@@ -12,14 +11,11 @@ use Rattle.mesh_wire.specs.Kinds.{nbr_addr_type, gateway}
 use Rattle.mesh_wire.specs.Rows.{HasValue, HasType, HasTwoValues}
 use Rattle.mesh_wire.specs.Rules.{HasUndefined, IsOctet}
 use Rattle.mesh_wire.specs.TcRules.{BreaksTc, AddressWidth, NoOriginator, NoSequence, NoValidity, WrongInterval, Content, AddrType, TwoAddrTypes, ShortPrefix, GatewayOctet, TwoGateways, Beside, WrongMetric}
-use Rattle.mesh_wire.proofs.HelloRuled.{neither_of, wrong_metric, metric_wrong, wrong_metric_has}
+use Rattle.mesh_wire.proofs.HelloRuled.{wrong_metric, metric_wrong, wrong_metric_has}
 use Rattle.mesh_wire.proofs.Kept.{AreTold, told_of, says_has, right_octet, in_range, differ_several, several_differ, one_said, said_one}
 use Rattle.mesh_wire.proofs.Ruled.{Decides, Reaches}
-use Rattle.mesh_wire.proofs.Slots.{InRange, Octet, RowIs, or_cases, or_left, or_right, and_both}
+use Rattle.mesh_wire.proofs.Slots.{InRange, Octet, RowIs, same_octet as head_of}
 use Rattle.mesh_wire.proofs.TcRows.{IsSound, right_length, single_of}
-
-head_of : (a b : ℕ) → ◌≡◌ {A = List ℕ} (a ∷ []) (b ∷ []) → a ≡ b
-head_of a b e = cc
 
 -- ---- the type of an address
 
@@ -163,12 +159,12 @@ typed t = has_wrong_type t.net.prefix t.parts
 pub sound_of : (t : AddressParts) → tc_rule t ≡ None → IsSound t
 sound_of t e =
     let (g, w) = none_passed (typed t) (has_wrong_gateway t.parts) (has_wrong_metric t.parts) e in
-    let p = neither_of t.parts.wrong_gateway (is_several t.parts.gateway || (is_said t.parts.gateway && is_said t.parts.addr_type.one)) g in
-    let q = neither_of t.parts.wrong_metric ((is_several t.parts.link_in || is_several t.parts.link_out) || (is_several t.parts.near_in || is_several t.parts.near_out)) w in
+    let p = or_parts t.parts.wrong_gateway (is_several t.parts.gateway || (is_said t.parts.gateway && is_said t.parts.addr_type.one)) g in
+    let q = or_parts t.parts.wrong_metric ((is_several t.parts.link_in || is_several t.parts.link_out) || (is_several t.parts.near_in || is_several t.parts.near_out)) w in
     record {
       gateway = p.0;
-      one = (neither_of (is_several t.parts.gateway) (is_said t.parts.gateway && is_said t.parts.addr_type.one) p.1).0;
-      metric = (neither_of (is_several t.parts.near_in) (is_several t.parts.near_out) (neither_of (is_several t.parts.link_in || is_several t.parts.link_out) (is_several t.parts.near_in || is_several t.parts.near_out) q.1).1).1;
+      one = (or_parts (is_several t.parts.gateway) (is_said t.parts.gateway && is_said t.parts.addr_type.one) p.1).0;
+      metric = (or_parts (is_several t.parts.near_in) (is_several t.parts.near_out) (or_parts (is_several t.parts.link_in || is_several t.parts.link_out) (is_several t.parts.near_in || is_several t.parts.near_out) q.1).1).1;
     }
 
 -- ---- the rules

@@ -35,9 +35,10 @@ use Rattle.mesh_wire.proofs.Headings.{validity_told, interval_is, interval_told,
 use Rattle.mesh_wire.proofs.HelloWritten.{bit_most, originator_is, none_said, flags_octet, metric_flagged}
 use Rattle.mesh_wire.proofs.LinesSay.{octet_value, metric_value}
 use Rattle.mesh_wire.proofs.OneTc.{one_tc}
-use Rattle.mesh_wire.proofs.RowLines.{unmapped, alone_again}
+use Rattle.mesh_wire.proofs.RowLines.{alone_again}
 use Rattle.mesh_wire.proofs.Further.{further}
 use Rattle.mesh_wire.proofs.RowsSay.{row_stands, row_at, part_there, said_of, row_of, not_two, right_metric, octet_said, flags_said, metric_said}
+use Rattle.mesh_atoms.proofs.Lists.{contains_map_cases as unmapped}
 
 few_of : (row : TcRow) → HasFewParts (tc_line row)
 few_of row = let l = tc_line row in omega (arith, bit_most (has_part AddrType l), bit_most (has_part Gateway l), bit_most (has_part NearOut l))

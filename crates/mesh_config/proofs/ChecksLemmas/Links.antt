@@ -22,7 +22,7 @@ pub are_distinct-map : {A B : Type 0} (eq : B → B → Bool) (f : A → B) (xs 
 are_distinct-map eq f [] = refl
 are_distinct-map eq f (x ∷ xs) = rw (list_any-map (eq (f x)) f xs, are_distinct-map eq f xs)
 
-all_same : {A : Type 0} (p q : A → Bool) → ((x : A) → p x ≡ q x) → (xs : List A) → list_all p xs ≡ list_all q xs
+pub all_same : {A : Type 0} (p q : A → Bool) → ((x : A) → p x ≡ q x) → (xs : List A) → list_all p xs ≡ list_all q xs
 all_same p q h [] = refl
 all_same p q h (x ∷ xs) = rw (h x, all_same p q h xs)
 

@@ -1,6 +1,6 @@
 -- What a message comes to, put together from what each call says.
-use Rattle.std.proofs.Common.{◌≡◌, ◌≢◌, ℕ, List, [], Bool, false, Option, Some, Result, Ok, Err, ◌⊎◌, inl, inr, ◌<◌, arith, sym, subst, ap, ◌∙◌}
-use Rattle.std.specs.Prelude.{IfOk, IsTrue}
+use Rattle.std.proofs.Common.{◌≡◌, ◌≢◌, ℕ, List, [], Bool, false, Option, Some, ◌⊎◌, inl, inr, ◌<◌, arith, sym, subst, ap, ◌∙◌}
+use Rattle.std.specs.Prelude.{IsTrue}
 use Rattle.std.proofs.lemmas.Bool.{cases_lt}
 use Rattle.mesh_atoms.specs.declared.addr.Addr4.{Addr4}
 use Rattle.mesh_atoms.specs.declared.addr.NetAddr.{NetAddr}
@@ -67,11 +67,6 @@ module _ (settings : RouterSettings) (own : Addr4) (arrival : Arrival) (old : Ba
       subst (λ (t : Topology). ProcessesTc settings own arrival old tc heading octets (record old { topology = t; noted = noted }) sent (record { read = made; forward = onward })) (sym same)
       (subst (λ (x : Read). ProcessesTc settings own arrival old tc heading octets (record old { noted = noted }) sent (record { read = x; forward = onward })) (sym (made_is ∙ ap (λ (p : Process). read.Passed p) judged))
       (Tc_passed (λ is. not (judged ∙ is)) (subst (λ (b : Bool). ConsidersForwarding settings own arrival heading octets b old noted sent onward) done_is considered)))
-
--- what follows of a value follows of a result
-pub if_ok : {X E : Type 0} {P Q : X → Type 0} (r : Result X E) → ((x : X) → P x → Q x) → IfOk r P → IfOk r Q
-if_ok (Ok x) f h = f x h
-if_ok (Err e) f h = tt
 
 -- a TC that breaks no rule shows routers and their addresses as single addresses
 single : (net : NetAddr) → (net.prefix < 32 → ⊥) → net.prefix ≡ 32

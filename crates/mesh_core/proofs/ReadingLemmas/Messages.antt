@@ -1,7 +1,7 @@
 -- What messages read as, one after the other.
-use Rattle.std.proofs.Common.{◌≡◌, ℕ, ◌+◌, ◌<◌, zero, suc, arith, inl, inr, List, [], ◌∷◌, ◌++◌, length, take, get_or, Some, refl, ap, subst}
+use Rattle.std.proofs.Common.{◌≡◌, ℕ, ◌+◌, ◌<◌, zero, suc, List, [], ◌∷◌, ◌++◌, length, take, get_or, Some, refl, ap, subst}
 use Rattle.std.specs.Prelude.{slice_get}
-use Rattle.std.proofs.lemmas.Option.{none-some, slice_get_cases, slice_get-get_or}
+use Rattle.std.proofs.lemmas.Option.{none-some, slice_get-get_or}
 use Rattle.mesh_atoms.specs.declared.addr.Addr4.{Addr4}
 use Rattle.mesh_atoms.specs.declared.settings.RouterSettings.{RouterSettings}
 use Rattle.mesh_atoms.specs.State.{Bases}
@@ -23,13 +23,6 @@ read_count [] [] are = refl
 read_count (m ∷ messages) (t ∷ typed) are = ap (λ (n : ℕ). suc n) (read_count messages typed are.1)
 read_count [] (t ∷ typed) are = absurd are
 read_count (m ∷ messages) [] are = absurd are
-
--- each place has its message
-pub there_is : {A : Type 0} (xs : List A) (i : ℕ) → i < length xs → (x : A) × (slice_get xs i ≡ Some x)
-there_is xs i within = elim ((slice_get_cases xs i).1) [
-  | inl there ↦ (there.0, there.2)
-  | inr past ↦ let beyond = past.0 in absurd (omega (arith, beyond, within))
-]
 
 -- one message more
 pub read_snoc : (messages : List MessageFields) (typed : List TypedMessage) (m : MessageFields) (t : TypedMessage) → AreReadAs messages typed → IsReadAs m t → AreReadAs (messages ++ m ∷ []) (typed ++ t ∷ [])

@@ -1,6 +1,6 @@
 -- What a router sends can be written.
 use Rattle.mesh_atoms.specs.Writable.{IsSentTime, IsSentIfSome, IsAlone, HaveSenderAlone, HaveStatusWhole, AreOneType, HaveTypeWhole}
-use Rattle.std.proofs.Common.{◌≡◌, ℕ, ◌%◌, ◌⊎◌, refl, arith, inl, inr, sym, ap, subst, ◌∙◌, List, [], ◌∷◌, ◌++◌, length, Option, Some, None, Contains, IsTrue, Result, Ok, Err}
+use Rattle.std.proofs.Common.{◌≡◌, ℕ, ◌⊎◌, inl, inr, sym, ap, subst, ◌∙◌, List, [], ◌∷◌, ◌++◌, length, Option, Some, None, Contains, IsTrue, Result, Ok, Err}
 use Rattle.std.specs.Prelude.{slice_get, IsSome, OnOk, IfOk}
 use Rattle.mesh_atoms.specs.declared.addr.NetAddr.{NetAddr}
 use Rattle.mesh_atoms.specs.declared.hello.Hello.{Hello}
@@ -12,7 +12,6 @@ use Rattle.mesh_atoms.specs.declared.settings.RouterSettings.{RouterSettings}
 use Rattle.mesh_atoms.specs.declared.tuples.Relays.{Relays}
 use Rattle.mesh_atoms.specs.State.{Neighbourhood, State}
 use Rattle.mesh_machine.specs.Machine.{no_bases}
-use Rattle.mesh_atoms.specs.Validity.{IsTimeValue, Everywhere, Up_to}
 use Rattle.mesh_machine.specs.declared.frame.Frame.{Frame}
 use Rattle.mesh_machine.specs.Sending.{IsHelloFrame}
 use Rattle.mesh_renewal.proofs.Pushed.{at_pushed}
@@ -45,7 +44,7 @@ no_other rows alone row has local = let is = alone row has local in record { lin
 pub status_whole : (s : State) (i now : ℕ) (hello : Hello) → IsHelloNow s i now hello → HaveStatusWhole hello.rows
 status_whole s i now hello is row has says = let (a, row_is) = is.rows row has in ap (λ (n : NetAddr). n.prefix) row_is.addr
 
-one_type : (s : State) (row : TcRow) → IsTcRow s row → IsTrue row.origin ⊎ IsTrue row.routable → (row.gateway ≡ None) × (row.dest.prefix ≡ 32)
+pub one_type : (s : State) (row : TcRow) → IsTcRow s row → IsTrue row.origin ⊎ IsTrue row.routable → (row.gateway ≡ None) × (row.dest.prefix ≡ 32)
 one_type s row (Of_address a m dest origin routable gateway metric advertises) says = (gateway, ap (λ (n : NetAddr). n.prefix) dest)
 one_type s row (Of_network distance m origin routable gateway metric advertises) (inl is) = absurd cc
 one_type s row (Of_network distance m origin routable gateway metric advertises) (inr is) = absurd cc
@@ -66,15 +65,6 @@ one_frame_more s sent k frame count before here i f at = elim (at_pushed sent fr
       subst (λ (n : ℕ). IsHelloFrame s n f) place (subst (λ (x : Frame). IsHelloFrame s k x) new.1 here)
 ]
 
-pub on_ok_more : {A E : Type 0} {P Q : Type 0} (r : Result A E) → (P → Q) → OnOk r P → OnOk r Q
-on_ok_more (Ok x) to h = to h
-on_ok_more (Err e) to h = tt
-
 pub on_ok_of : {A E : Type 0} {P : A → Type 0} {Q : Type 0} (r : Result A E) → ((x : A) → P x → Q) → IfOk r P → OnOk r Q
 on_ok_of (Ok x) to h = to x h
 on_ok_of (Err e) to h = tt
-
--- a value of times by distance has an odd number of octets
-pub odd_time : (value : List ℕ) → IsTimeValue value → length value % 2 ≡ 1
-odd_time value (Everywhere sent) = refl
-odd_time value (Up_to {value = rest} hops sent others) = let odd = odd_time rest others in omega (arith, odd)

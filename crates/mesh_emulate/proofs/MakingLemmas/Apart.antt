@@ -14,6 +14,7 @@ use Rattle.mesh_emulate.proofs.MakingLemmas.Growing.{flat_more}
 use Rattle.mesh_emulate.proofs.MakingLemmas.Rows.{two_or_more}
 use Rattle.mesh_emulate.specs.declared.making.kind.Kind.{Kind}
 use Rattle.mesh_emulate.specs.declared.making.kind.Kind.TheVariants as kind
+use Rattle.mesh_texts.proofs.LineLists.{each_weaker}
 
 -- pairs of n routers, at most so many, none of which stands twice
 pub record AreApart (n most : ℕ) (pairs : List Pair) : Type 0 where
@@ -26,10 +27,6 @@ pub record AreApart (n most : ℕ) (pairs : List Pair) : Type 0 where
 each_more : {A : Type 0} (P : A → Type 0) (xs : List A) (x : A) → Each P xs → P x → Each P (xs ++ x ∷ [])
 each_more P [] x all one = (one, tt)
 each_more P (y ∷ xs) x all one = (all.0, each_more P xs x all.1 one)
-
-each_weaker : {A : Type 0} (P Q : A → Type 0) → ((x : A) → P x → Q x) → (xs : List A) → Each P xs → Each Q xs
-each_weaker P Q f [] all = tt
-each_weaker P Q f (x ∷ xs) all = (f x all.0, each_weaker P Q f xs all.1)
 
 each_if : (P : Pair → Type 0) (pairs : List Pair) (p : Pair) (t : Bool) → Each P pairs → P p → Each P (pairs ++ pair_if t p)
 each_if P pairs p true all one = each_more P pairs p all one

@@ -13,6 +13,7 @@ use Rattle.mesh_atoms.specs.Base.{Base, HasDistinctKeys, find, SetsOnly, Expires
 use Rattle.mesh_expire.specs.Index.Moments.{moment_cmp, is_moment, until_of, Tells, SetsMoment}
 use Rattle.mesh_expire.specs.Table.{changed_at, TakesExpired}
 use Rattle.mesh_expire.proofs.Laws.{find_same, find-changed_at, changed_at-set_value}
+use Rattle.mesh_atoms.proofs.Options.{none_is_not_some}
 
 -- one pair comes in, where its key had none, or that one
 comes : (a e x : Bool) (b : Bool) → (a ≡ false → b ≡ false) → x ≡ cond e b x → cond (a && e) true x ≡ cond e a x
@@ -46,9 +47,6 @@ not_both until before moment apart h = grind (arith, apart, h)
 found_moment : {V : Type 0} (entry : Option (V × ℕ)) (moment : ℕ) → is_moment (until_of entry) moment ≡ true → (value : V) × (entry ≡ Some (value, moment))
 found_moment None moment h = absurd cc
 found_moment (Some e) moment h = (e.0, ap (λ n. Some (e.0, n)) (eqb-true e.1 moment h))
-
-nothing_is : {A : Type 0} (x : A) → None ≡ Some x → ⊥
-nothing_is x h = cc
 
 -- what has a moment is there
 pub no_moment : {V : Type 0} (entry : Option (V × ℕ)) (moment : ℕ) → None ≡ entry → Some moment ≡ until_of entry → ⊥
@@ -144,7 +142,7 @@ module _ {K : Type 0} (eq : K → K → Bool) (cmp : K → K → Ordering) where
       taken_entry = of_pair old base taken.0 key tells taken.2
 
       pub never_absent : None ≡ find eq base key → ⊥
-      never_absent none = nothing_is (taken_entry.0, taken.0) (none ∙ taken_entry.1)
+      never_absent none = none_is_not_some (taken_entry.0, taken.0) (none ∙ taken_entry.1)
 
       -- a pair goes, and with it the entry of its key
       pub goes_with : SetsOnly eq base base' key None → Tells eq cmp new base'

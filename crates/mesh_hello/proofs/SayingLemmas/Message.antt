@@ -21,9 +21,9 @@ use Rattle.mesh_atoms.specs.State.{State, Neighbourhood, IsOriginator}
 use Rattle.mesh_atoms.proofs.Lookups.{has_found, addr_equiv, same_addr, link_equiv, same_link}
 use Rattle.mesh_hello.proofs.Collect.{adds_one, taken_more}
 use Rattle.mesh_hello.specs.Saying.Said.{AreDisjoint, IsSeen, IsRowOf, said_addresses}
-use Rattle.mesh_hello.proofs.Lookups.{some_same}
-use Rattle.mesh_hello.proofs.Places.{map_gives, map_given}
 use Rattle.mesh_hello.proofs.SayingLemmas.Somewhere.{told_all}
+use Rattle.mesh_atoms.proofs.Options.{same_some}
+use Rattle.mesh_atoms.proofs.Lists.{contains_map, contains_map_cases}
 
 -- what the HELLO is made of: the addresses of which something is said, and a row for each, in their order
 pub record IsHelloOf (settings : RouterSettings) (links : Base LinkKey Link) (neighbours : Base Addr4 Neighbour) (losts : Base Addr4 Lost) (relays : Relays) (i now : ℕ) (list : List Addr4) (hello : Hello) : Type 0 where
@@ -76,8 +76,8 @@ hello_is settings links neighbours losts relays i now list hello made s seen = r
   all = λ a part shows.
       let told : Contains (said_addresses settings links neighbours losts) a =
       rw (← seen.settings_are, ← seen.neighbours_are, ← seen.losts_are) (told_all s i now a links seen.links_are part shows) in
-      let there : Contains (map (λ (row : HelloRow). row.addr) hello.rows) (host a) = rw made.addrs (map_gives host list a ((made.same a).1 told)) in
-      map_given (λ (row : HelloRow). row.addr) hello.rows (host a) there;
+      let there : Contains (map (λ (row : HelloRow). row.addr) hello.rows) (host a) = rw made.addrs (contains_map host list a ((made.same a).1 told)) in
+      contains_map_cases (λ (row : HelloRow). row.addr) hello.rows (host a) there;
   ordered = rows_before hello.rows list made.addrs made.ascending;
 }
 
@@ -93,12 +93,12 @@ apart_by settings now near i sound =
           let (u, at) = (link_found k e).0 has in
           let (v, at') = (link_found l f).0 has' in
           let same : k ≡ l = sound.links_apart i k l (e, u) (f, v) a at at' in' in'' in
-          ap (λ (x : Link × ℕ). x.0) (some_same (ap (find link_eq links) (sym same) ∙ at) at');
+          ap (λ (x : Link × ℕ). x.0) (same_some (ap (find link_eq links) (sym same) ∙ at) at');
       one_neighbour = λ a o p m n has has' in' in''.
           let (u, at) = (near_found o m).0 has in
           let (v, at') = (near_found p n).0 has' in
           let same : o ≡ p = sound.neighbours_apart o p (m, u) (n, v) a at at' in' in'' in
-          (same, ap (λ (x : Neighbour × ℕ). x.0) (some_same (ap (find addr_eq near.neighbours) (sym same) ∙ at) at'));
+          (same, ap (λ (x : Neighbour × ℕ). x.0) (same_some (ap (find addr_eq near.neighbours) (sym same) ∙ at) at'));
       owner = λ k e has.
           let (u, at) = (link_found k e).0 has in
           let (o, n, v, at', all) = sound.owner i k e u at in

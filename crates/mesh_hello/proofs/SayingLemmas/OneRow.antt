@@ -16,7 +16,7 @@ use Rattle.mesh_atoms.specs.Base.{Base, Has, HasDistinctKeys, addr_eq, link_eq, 
 use Rattle.mesh_expire.specs.Table.{entry_of, value_of}
 use Rattle.std.specs.Borrow.{Bor}
 use Rattle.mesh_atoms.proofs.Lookups.{has_found, addr_equiv, same_addr, link_equiv, same_link}
-use Rattle.mesh_hello.proofs.Lookups.{Contains_at, some_same, none_not}
+use Rattle.mesh_hello.proofs.Lookups.{none_not}
 use Rattle.mesh_links.specs.Links.{HasLinkWith}
 use Rattle.mesh_atoms.specs.Hello.{IsHelloRow}
 use Rattle.mesh_atoms.specs.Words.{IsValue}
@@ -24,6 +24,9 @@ use Rattle.mesh_atoms.specs.State.{State}
 use Rattle.mesh_hello.specs.Saying.Said.{IsLinkWith, IsNeighbourWith, AreDisjoint, IsLocalOn, IsRelayOf, IsFloodingRelay, IsRowOf, said_addresses, link_status_said, other_said, link_in_said, link_out_said, near_in_said, near_out_said}
 use Rattle.mesh_hello.proofs.SayingLemmas.Parts.{IsStatus, is_status, is_only, local_told, link_told, other_told, link_in_told, link_out_told, near_in_told, near_out_told, flooding_told, routing_told}
 use Rattle.mesh_hello.proofs.SayingLemmas.Somewhere.{told_some}
+use Rattle.mesh_hello.proofs.Collect.{iff_on}
+use Rattle.mesh_atoms.proofs.Lists.{contains_at}
+use Rattle.mesh_atoms.proofs.Options.{same_some}
 
 -- what the row is made of: the tuples that have the address, and what they show
 pub record IsMadeOf (settings : RouterSettings) (links : Base LinkKey Link) (neighbours : Base Addr4 Neighbour) (losts : Base Addr4 Lost) (relays : Relays) (i now : ℕ) (row : HelloRow) (a : Addr4) : Type 0 where
@@ -46,9 +49,6 @@ pub record IsMadeOf (settings : RouterSettings) (links : Base LinkKey Link) (nei
   pub flooding : IsTrue row.mpr.flooding ↔ IsFloodingRelay relays.flooding i row.link near
   pub routing : IsTrue row.mpr.routing ↔ IsRelayOf relays.routing near
 
-both_ways : {P Q R : Type 0} → (P ↔ Q) → (Q ↔ R) → P ↔ R
-both_ways p q = ((λ h. q.0 (p.0 h)), (λ h. p.1 (q.1 h)))
-
 row_here : (s : State) (links : Base LinkKey Link) (i now : ℕ) (row : HelloRow) (a : Addr4) → slice_get s.bases.neighbourhood.links i ≡ Some links →
     AreDisjoint links s.bases.neighbourhood.neighbours s.bases.neighbourhood.losts →
     Contains (said_addresses s.settings links s.bases.neighbourhood.neighbours s.bases.neighbourhood.losts) a →
@@ -68,8 +68,8 @@ row_here s links i now row a at apart told made =
       link_out = rw made.link_out (link_out_told s i now a links at apart link row.link is);
       near_in = rw made.near_in (near_in_told s i now a links at apart near only);
       near_out = rw made.near_out (near_out_told s i now a links at apart near only);
-      flooding = both_ways made.flooding (flooding_told s i now a links at apart link row.link near is only);
-      routing = both_ways made.routing (routing_told s i now a links at apart near only);
+      flooding = iff_on made.flooding (flooding_told s i now a links at apart link row.link near is only);
+      routing = iff_on made.routing (routing_told s i now a links at apart near only);
     }
 
 -- in each state that has these settings, tuples and relays
@@ -102,7 +102,7 @@ lent_some (Some e) = refl
 stands : {K V : Type 0} {eq : K → K → Bool} → ((k l : K) → eq k l ≡ true → k ≡ l) → (base : Base K V) (key : K) (e : V × ℕ) → find eq base key ≡ Some e → Contains base (key, e)
 stands {K} {V} {eq} exact base key e is =
     let (k, l, at, same) = place_from_lookup (eq key) base e is in
-    subst (λ (x : K). Contains base (x, e)) (sym (exact key l same)) (Contains_at base k (l, e) at)
+    subst (λ (x : K). Contains base (x, e)) (sym (exact key l same)) (contains_at base k (l, e) at)
 
 -- the link that has the address, or none
 pub link_by : (links : Base LinkKey Link) (a : Addr4) (o : Option (Bor LinkKey × Bor Link × ℕ)) → HasDistinctKeys link_eq links → IfSome o (λ e. HasLinkWith links a e.0.now (e.1.now, e.2)) →
@@ -119,7 +119,7 @@ pub not_near : (neighbours : Base Addr4 Neighbour) (a o : Addr4) (n : Neighbour)
     ((p : Addr4) (f : Neighbour × ℕ) → find addr_eq neighbours p ≡ Some f → Contains f.0.addrs a → p ≡ o) → n.symmetric ≡ false → (e : Addr4 × (Neighbour × ℕ)) → IsNeighbourWith neighbours a e → ⊥
 not_near neighbours a o n until distinct is only not e with =
     let at = lookup-from_Contains addr_equiv e.0 e.1 neighbours distinct with.0 in
-    let same : e.1 ≡ (n, until) = some_same (ap (λ (p : Addr4). find addr_eq neighbours p) (sym (only e.0 e.1 at with.2)) ∙ at) is in
+    let same : e.1 ≡ (n, until) = same_some (ap (λ (p : Addr4). find addr_eq neighbours p) (sym (only e.0 e.1 at with.2)) ∙ at) is in
     false≢true (sym not ∙ (ap (λ (x : Neighbour × ℕ). x.0.symmetric) (sym same) ∙ with.1))
 
 -- nor where none has it

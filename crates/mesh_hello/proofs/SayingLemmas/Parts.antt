@@ -23,8 +23,9 @@ use Rattle.mesh_atoms.specs.declared.tuples.LinkState.{LinkState}
 use Rattle.mesh_atoms.specs.declared.tuples.LinkState.TheVariants.{Pending as Is_pending, Lost as Is_lost, Symmetric as Is_symmetric, Heard as Is_heard}
 use Rattle.mesh_atoms.specs.State.{State, state_of, HasLink, HasSymmetricWith, HasAddressOn}
 use Rattle.mesh_expire.specs.Table.{entry_of}
-use Rattle.mesh_hello.proofs.Lookups.{some_same, none_not}
+use Rattle.mesh_hello.proofs.Lookups.{none_not}
 use Rattle.mesh_hello.specs.Saying.Said.{IsLinkWith, IsNeighbourWith, AreDisjoint, IsLocalOn, IsRelayOf, IsFloodingRelay, link_status_said, other_said, link_in_said, link_out_said, near_in_said, near_out_said}
+use Rattle.mesh_atoms.proofs.Options.{same_some}
 
 pub lent : {K V : Type 0} (o : Option (Bor K × Bor V × ℕ)) (e : Bor K × Bor V × ℕ) → o ≡ Some e → entry_of o ≡ Some (e.0.now, (e.1.now, e.2))
 lent o e is = ap entry_of is
@@ -33,14 +34,14 @@ pub relay_by : (relays : List Addr4) (neighbour : Option (Addr4 × (Neighbour ×
     (IsTrue b ↔ Contains relays e.0) → IsTrue b ↔ IsRelayOf relays neighbour
 relay_by relays neighbour e b is tells = (
   λ h. record { entry = e; is = is; has = tells.0 h },
-  λ w. tells.1 (subst (λ (x : Addr4 × (Neighbour × ℕ)). Contains relays x.0) (some_same w.is is) w.has),
+  λ w. tells.1 (subst (λ (x : Addr4 × (Neighbour × ℕ)). Contains relays x.0) (same_some w.is is) w.has),
 )
 
 pub on_by : (settings : RouterSettings) (i : ℕ) (a : Addr4) (face : Interface) (b : Bool) → slice_get settings.interfaces i ≡ Some face →
     (IsTrue b ↔ Contains face.addrs a) → IsTrue b ↔ HasAddressOn settings i a
 on_by settings i a face b at tells = (
   λ h. (face, at, tells.0 h),
-  λ w. tells.1 (subst (λ (f : Interface). Contains f.addrs a) (some_same w.1 at) w.2),
+  λ w. tells.1 (subst (λ (f : Interface). Contains f.addrs a) (same_some w.1 at) w.2),
 )
 
 -- the state of a link that a LINK_STATUS tells of
@@ -112,7 +113,7 @@ pub record IsOnlyNeighbour (s : State) (a : Addr4) (neighbour : Option (Addr4 ×
 module _ (s : State) (i now : ℕ) (a : Addr4) (links : Base LinkKey Link) (at : slice_get s.bases.neighbourhood.links i ≡ Some links)
     (apart : AreDisjoint links s.bases.neighbourhood.neighbours s.bases.neighbourhood.losts) where
   in_links : (key : LinkKey) (l : Link) → HasLink s i key l → Has links key l
-  in_links key l (base, there, has) = let P : Base LinkKey Link → Type 0 = λ b. Has b key l in subst P (some_same there at) has
+  in_links key l (base, there, has) = let P : Base LinkKey Link → Type 0 = λ b. Has b key l in subst P (same_some there at) has
 
   pub is_status : (link : Option (LinkKey × (Link × ℕ))) → IsValue (IsLinkWith links a) link → IsStatus s i now a link (link_status_said link now)
   is_status None none = record {
@@ -134,7 +135,7 @@ module _ (s : State) (i now : ℕ) (a : Addr4) (links : Base LinkKey Link) (at :
     all = λ o n w. let ((has, is), in') = w in absurd (none (o, (n, has.0)) (has.1, is, in'));
   }
   is_only (Some e) with' = record {
-    told = λ f h. let is : e ≡ f = some_same refl h in subst (λ (x : Addr4 × (Neighbour × ℕ)). HasSymmetricWith s a x.0 x.1.0) is (((e.1.1, with'.0), with'.1), with'.2);
+    told = λ f h. let is : e ≡ f = same_some refl h in subst (λ (x : Addr4 × (Neighbour × ℕ)). HasSymmetricWith s a x.0 x.1.0) is (((e.1.1, with'.0), with'.1), with'.2);
     all = λ o n w. let ((has, is), in') = w in let (x, y) = apart.one_neighbour a o e.0 n e.1.0 has (e.1.1, with'.0) in' with'.2 in (e, refl, x, y);
   }
 
@@ -147,7 +148,7 @@ module _ (s : State) (i now : ℕ) (a : Addr4) (links : Base LinkKey Link) (at :
     link_at : (e : LinkKey × (Link × ℕ)) (v : LinkStatus) → link ≡ Some e → status ≡ Some v → HasLinkTo s i now a (state_for v) e.1.0
     link_at e v there h =
         let (f, there', to) = is.told v h in
-        subst (λ (x : LinkKey × (Link × ℕ)). IsLinkTo s i now a (state_for v) x) (some_same there' there) to
+        subst (λ (x : LinkKey × (Link × ℕ)). IsLinkTo s i now a (state_for v) x) (same_some there' there) to
 
   pub link_told : (link : Option (LinkKey × (Link × ℕ))) (status : Option LinkStatus) → IsStatus s i now a link status → IsValue (λ v. Says s i now a (link_part v)) status
   link_told link None is = λ v w. shows_not link None is v (none_not refl) (part_shows s i now a v w)
@@ -169,7 +170,7 @@ module _ (s : State) (i now : ℕ) (a : Addr4) (links : Base LinkKey Link) (at :
   link_out_of : (e : LinkKey × (Link × ℕ)) (out : Option Metric) → e.1.0.link_out ≡ out → IsStatus s i now a (Some e) (Some Symmetric) → IsValue (λ m. Says s i now a (Link_out m)) out
   link_out_of e None none is = λ m w.
       let (f, there, same') = ((is.all Symmetric w.0 w.1).1) in
-      let one : e ≡ f = some_same refl there in
+      let one : e ≡ f = same_some refl there in
       let both : w.0 ≡ e.1.0 = same' ∙ ap (λ (x : LinkKey × (Link × ℕ)). x.1.0) (sym one) in
       let out : w.0.link_out ≡ None = ap (λ (l : Link). l.link_out) both ∙ none in
       none_not out w.2
@@ -190,7 +191,7 @@ module _ (s : State) (i now : ℕ) (a : Addr4) (links : Base LinkKey Link) (at :
     by_metric : (shown : Option Metric) → e.1.0.metric_in ≡ shown → IsValue (λ m. Says s i now a (Near_in m)) shown
     by_metric None none = λ m w.
         let (f, there, _, same') = is.all w.0 w.1 w.2 in
-        let one : e ≡ f = some_same refl there in
+        let one : e ≡ f = same_some refl there in
         let out : w.1.metric_in ≡ None = ap (λ (n : Neighbour). n.metric_in) (same' ∙ ap (λ (x : Addr4 × (Neighbour × ℕ)). x.1.0) (sym one)) ∙ none in
         none_not out w.3
     by_metric (Some m) some = (e.0, e.1.0, is.told e refl, some)
@@ -201,7 +202,7 @@ module _ (s : State) (i now : ℕ) (a : Addr4) (links : Base LinkKey Link) (at :
     by_metric : (shown : Option Metric) → e.1.0.metric_out ≡ shown → IsValue (λ m. Says s i now a (Near_out m)) shown
     by_metric None none = λ m w.
         let (f, there, _, same') = is.all w.0 w.1 w.2 in
-        let one : e ≡ f = some_same refl there in
+        let one : e ≡ f = same_some refl there in
         let out : w.1.metric_out ≡ None = ap (λ (n : Neighbour). n.metric_out) (same' ∙ ap (λ (x : Addr4 × (Neighbour × ℕ)). x.1.0) (sym one)) ∙ none in
         none_not out w.3
     by_metric (Some m) some = (e.0, e.1.0, is.told e refl, some)

@@ -1,5 +1,5 @@
 -- How many rows a HELLO has.
-use Rattle.std.proofs.Common.{◌≡◌, ℕ, zero, suc, ◌+◌, ◌*◌, ◌<◌, ◌≤◌, ◌⊎◌, inl, inr, refl, sym, ◌∙◌, ap, subst, arith, List, [], ◌∷◌, ◌++◌, length, length-append, map, Contains, Bool, true, false, cond, get_or}
+use Rattle.std.proofs.Common.{◌≡◌, ℕ, zero, suc, ◌+◌, ◌*◌, ◌<◌, ◌≤◌, ◌⊎◌, inl, inr, refl, sym, ◌∙◌, ap, subst, arith, List, [], ◌∷◌, ◌++◌, length, length-append, map, Contains, Bool, true, false, get_or}
 use Rattle.std.specs.Prelude.{not, None, AllPairs}
 use Rattle.std.specs.List.{filter, flat_map, list_any}
 use Rattle.std.proofs.lemmas.Bool.{cases_lt, false≢true}
@@ -27,23 +27,9 @@ use Rattle.mesh_atoms.proofs.Lookups.{addr_equiv, same_addr, has_found, looks_up
 use Rattle.mesh_atoms.specs.declared.tuples.Relays.{Relays}
 use Rattle.mesh_hello.proofs.Sorted.{distinct_ascending}
 use Rattle.mesh_hello.proofs.Fits.{any_contains, distinct_fits}
-use Rattle.mesh_hello.proofs.Lookups.{Contains_at}
-use Rattle.mesh_hello.proofs.SayingLemmas.Somewhere.{cons_cases, flat_gives}
+use Rattle.mesh_atoms.proofs.Lists.{contains_filter as picked, contains_at, contains_flat_map}
 
 -- Lists
-
-picked_more : {A : Type 0} (b : Bool) (x a : A) (rest : List A) → Contains rest a → Contains (cond b (x ∷ rest) rest) a
-picked_more true x a rest (k, l, at) = (suc k, omega (arith, l), at)
-picked_more false x a rest c = c
-
-picked : {A : Type 0} (q : A → Bool) (xs : List A) (a : A) → Contains xs a → q a ≡ true → Contains (filter q xs) a
-picked q [] a c passes = absurd (omega (arith, c.1))
-picked {A} q (x ∷ xs) a c passes = elim (cons_cases x a xs c) [
-  | inl e ↦
-      let here : q x ≡ true = ap q e ∙ passes in
-      subst (λ (b : Bool). Contains (cond b (x ∷ filter q xs) (filter q xs)) a) (sym here) (0, omega arith, e)
-  | inr more ↦ picked_more (q x) x a (filter q xs) (picked q xs a more passes)
-]
 
 -- it is none of these
 abbrev is_beyond : List Addr4 → Addr4 → Bool
@@ -114,7 +100,7 @@ own_few settings =
     omega (arith, few_own settings.interfaces, count, settings.sound.interfaces.at_most)
 
 own_has : (settings : RouterSettings) (a : Addr4) → HasAddress settings a → Contains (own_of settings) a
-own_has settings a (i, (face, at, has)) = flat_gives (λ (f : Interface). f.addrs) settings.interfaces face a (Contains_at settings.interfaces i face at) has
+own_has settings a (i, (face, at, has)) = contains_flat_map (λ (f : Interface). f.addrs) settings.interfaces face a (contains_at settings.interfaces i face at) has
 
 -- Of whom something is said
 

@@ -19,9 +19,9 @@ use Rattle.mesh_atoms.specs.declared.tuples.LinkState.{LinkState}
 use Rattle.mesh_atoms.specs.declared.tuples.LinkState.TheVariants.{Pending as Is_pending, Lost as Is_lost, Symmetric as Is_symmetric, Heard as Is_heard}
 use Rattle.mesh_atoms.specs.State.{State, state_of, HasSymmetricWith, HasAddressOn}
 use Rattle.mesh_hello.specs.Saying.Said.{linked_addresses, symmetric_addresses, said_addresses}
-use Rattle.mesh_hello.proofs.Lookups.{some_same, Contains_at}
-use Rattle.mesh_hello.proofs.Places.{place_of}
 use Rattle.mesh_hello.proofs.SayingLemmas.Parts.{IsStatus, not_symmetric}
+use Rattle.mesh_atoms.proofs.Lists.{contains_head, contains_flat_map_cases, contains_flat_map, contains_at, place_of}
+use Rattle.mesh_atoms.proofs.Options.{same_some}
 
 -- Lists in general
 
@@ -29,37 +29,20 @@ pub cons_cases : {X : Type 0} (x a : X) (xs : List X) → Contains (x ∷ xs) a 
 cons_cases x a xs (zero, lt, at) = inl at
 cons_cases x a xs (suc k, lt, at) = inr (k, omega arith, at)
 
-cons_first : {X : Type 0} (x : X) (xs : List X) → Contains (x ∷ xs) x
-cons_first x xs = (0, omega arith, refl)
-
 cons_more : {X : Type 0} (x a : X) (xs : List X) → Contains xs a → Contains (x ∷ xs) a
 cons_more x a xs w = (suc w.0, omega (arith, w.1), w.2)
-
-pub flat_given : {X Y : Type 0} (f : X → List Y) (xs : List X) (y : Y) → Contains (flat_map f xs) y → (x : X) × Contains xs x × Contains (f x) y
-flat_given f [] y (k, lt, at) = absurd (omega arith)
-flat_given f (x ∷ xs) y w = elim (Contains-append_cases (f x) (flat_map f xs) y w) [
-  | inl here ↦ (x, cons_first x xs, here)
-  | inr later ↦ let (z, in', has) = flat_given f xs y later in (z, cons_more x z xs in', has)
-]
-
-pub flat_gives : {X Y : Type 0} (f : X → List Y) (xs : List X) (x : X) (y : Y) → Contains xs x → Contains (f x) y → Contains (flat_map f xs) y
-flat_gives f [] x y (k, lt, at) has = absurd (omega arith)
-flat_gives {X} {Y} f (z ∷ xs) x y w has = elim (cons_cases z x xs w) [
-  | inl e ↦ Contains-append_left (f z) (flat_map f xs) y (subst (λ (v : X). Contains (f v) y) (sym e) has)
-  | inr later ↦ Contains-append_right (f z) (flat_map f xs) y (flat_gives f xs x y later has)
-]
 
 key_given : {K V : Type 0} (xs : List (K × V)) (k : K) → Contains (keys_of xs) k → (v : V) × Contains xs (k, v)
 key_given [] k (n, lt, at) = absurd (omega arith)
 key_given {K} {V} (x ∷ xs) k w = elim (cons_cases x.0 k (keys_of xs) w) [
-  | inl e ↦ let P : K → Type 0 = λ q. Contains (x ∷ xs) (q, x.1) in (x.1, subst P e (cons_first x xs))
+  | inl e ↦ let P : K → Type 0 = λ q. Contains (x ∷ xs) (q, x.1) in (x.1, subst P e (contains_head x xs))
   | inr later ↦ let (v, in') = key_given xs k later in (v, cons_more x (k, v) xs in')
 ]
 
 key_gives : {K V : Type 0} (xs : List (K × V)) (k : K) (v : V) → Contains xs (k, v) → Contains (keys_of xs) k
 key_gives [] k v (n, lt, at) = absurd (omega arith)
 key_gives {K} {V} (x ∷ xs) k v w = elim (cons_cases x (k, v) xs w) [
-  | inl e ↦ subst (λ (q : K). Contains (x.0 ∷ keys_of xs) q) (ap (λ (q : K × V). q.0) e) (cons_first x.0 (keys_of xs))
+  | inl e ↦ subst (λ (q : K). Contains (x.0 ∷ keys_of xs) q) (ap (λ (q : K × V). q.0) e) (contains_head x.0 (keys_of xs))
   | inr later ↦ cons_more x.0 k (keys_of xs) (key_gives xs k v later)
 ]
 
@@ -123,7 +106,7 @@ module _ (s : State) (i now : ℕ) (a : Addr4) (links : Base LinkKey Link) (at :
   own_in : (j : ℕ) → HasAddressOn s.settings j a → Contains told a
   own_in j (face, there, has) =
       Contains-append_right gone (mine ++ (linked ++ near)) a
-      (Contains-append_left mine (linked ++ near) a (flat_gives (λ (f : Interface). f.addrs) s.settings.interfaces face a (Contains_at s.settings.interfaces j face there) has))
+      (Contains-append_left mine (linked ++ near) a (contains_flat_map (λ (f : Interface). f.addrs) s.settings.interfaces face a (contains_at s.settings.interfaces j face there) has))
 
   link_in : (state : LinkState) (l : Link) → (state ≡ Is_pending → ⊥) → HasLinkTo s i now a state l → Contains told a
   link_in state l not (key, (base, there, (until, stands)), has, is) =
@@ -131,7 +114,7 @@ module _ (s : State) (i now : ℕ) (a : Addr4) (links : Base LinkKey Link) (at :
       Contains-append_right gone (mine ++ (linked ++ near)) a
       (Contains-append_right mine (linked ++ near) a
       (Contains-append_left linked near a
-      (flat_gives (λ (e : LinkKey × (Link × ℕ)). linked_addresses e.1.0) links (key, (l, until)) a (subst P (some_same there at) stands)
+      (contains_flat_map (λ (e : LinkKey × (Link × ℕ)). linked_addresses e.1.0) links (key, (l, until)) a (subst P (same_some there at) stands)
       (linked_so l a l.pending refl (λ p. not (sym is ∙ pending_state l now p)) has))))
 
   near_in : (o : Addr4) (n : Neighbour) → HasSymmetricWith s a o n → Contains told a
@@ -139,7 +122,7 @@ module _ (s : State) (i now : ℕ) (a : Addr4) (links : Base LinkKey Link) (at :
       Contains-append_right gone (mine ++ (linked ++ near)) a
       (Contains-append_right mine (linked ++ near) a
       (Contains-append_right linked near a
-      (flat_gives (λ (e : Addr4 × (Neighbour × ℕ)). symmetric_addresses e.1.0) s.bases.neighbourhood.neighbours (o, (n, until)) a stands
+      (contains_flat_map (λ (e : Addr4 × (Neighbour × ℕ)). symmetric_addresses e.1.0) s.bases.neighbourhood.neighbours (o, (n, until)) a stands
       (symmetric_so n a n.symmetric refl is has))))
 
   gone_in : (lost : Lost) → Has s.bases.neighbourhood.losts a lost → Contains told a
@@ -169,7 +152,7 @@ module _ (s : State) (i now : ℕ) (a : Addr4) (links : Base LinkKey Link) (at :
 
   own_said : Contains mine a → Somewhat
   own_said w =
-      let (face, stands, has) = flat_given (λ (f : Interface). f.addrs) s.settings.interfaces a w in
+      let (face, stands, has) = contains_flat_map_cases (λ (f : Interface). f.addrs) s.settings.interfaces a w in
       let (j, _, there) = place_of s.settings.interfaces face stands in
       elim (cases_eq j i) [
         | inl e ↦ let P : ℕ → Type 0 = λ k. HasAddressOn s.settings k a in (This_if, subst P e (face, there, has))
@@ -178,7 +161,7 @@ module _ (s : State) (i now : ℕ) (a : Addr4) (links : Base LinkKey Link) (at :
 
   link_said : Contains linked a → Somewhat
   link_said w =
-      let (e, stands, has) = flat_given (λ (x : LinkKey × (Link × ℕ)). linked_addresses x.1.0) links a w in
+      let (e, stands, has) = contains_flat_map_cases (λ (x : LinkKey × (Link × ℕ)). linked_addresses x.1.0) links a w in
       let (is, has') = linked_not_pending e.1.0 a e.1.0.pending refl has in
       by_state e has' (not_pending_state e.1.0 now is) stands (state_of e.1.0 now) refl where
         by_state : (e : LinkKey × (Link × ℕ)) → Contains e.1.0.addrs a → (state_of e.1.0 now ≡ Is_pending → ⊥) → Contains links e → (state : LinkState) → state_of e.1.0 now ≡ state → Somewhat
@@ -189,7 +172,7 @@ module _ (s : State) (i now : ℕ) (a : Addr4) (links : Base LinkKey Link) (at :
 
   near_said : (link : Option (LinkKey × (Link × ℕ))) (status : Option LinkStatus) → IsStatus s i now a link status → Contains near a → Somewhat
   near_said link status is w =
-      let (e, stands, has) = flat_given (λ (x : Addr4 × (Neighbour × ℕ)). symmetric_addresses x.1.0) s.bases.neighbourhood.neighbours a w in
+      let (e, stands, has) = contains_flat_map_cases (λ (x : Addr4 × (Neighbour × ℕ)). symmetric_addresses x.1.0) s.bases.neighbourhood.neighbours a w in
       let (so, has') = symmetric_given e.1.0 a e.1.0.symmetric refl has in
       let with' : HasSymmetricWith s a e.0 e.1.0 = (((e.1.1, stands), so), has') in
       by_status status is e with' where

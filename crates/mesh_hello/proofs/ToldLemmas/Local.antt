@@ -16,8 +16,9 @@ use Rattle.mesh_atoms.specs.HelloTold.{TellsLocal, IsListed}
 use Rattle.mesh_atoms.specs.TakesHello.{IsOwn, Local, Originator, Sender, IsNameless, IsFault, IsFaultAt}
 use Rattle.mesh_atoms.proofs.Lookups.{same_addr}
 use Rattle.mesh_atoms.proofs.Nets.{same_net}
-use Rattle.mesh_hello.proofs.Lookups.{same_address}
 use Rattle.mesh_hello.specs.Told.Receive.{IsLocalRow, IsLocalWith, IsBareSender, NamesAsSender}
+use Rattle.mesh_atoms.proofs.Options.{some_of}
+use Rattle.mesh_atoms.proofs.Values.{same_address}
 
 pub host_of : (net : NetAddr) → net.prefix ≡ 32 → net ≡ host net.addr
 host_of net e = same_net net (host net.addr) refl e
@@ -26,12 +27,8 @@ host_of net e = same_net net (host net.addr) refl e
 pub one_host : (net : NetAddr) (a b : Addr4) → net ≡ host a → net ≡ host b → a ≡ b
 one_host net a b e f = ap (λ (n : NetAddr). n.addr) (sym e ∙ f)
 
-some_value : {A : Type 0} (o : Option A) → is_some o ≡ true → (a : A) × (o ≡ Some a)
-some_value None h = absurd cc
-some_value (Some a) h = (a, refl)
-
 pub local_row : (row : HelloRow) → is_some row.local ≡ true → row.addr.prefix ≡ 32 → (local : LocalIf) × IsLocalRow row row.addr.addr local
-local_row row some prefix = let (local, is) = some_value row.local some in (local, record { addr = host_of row.addr prefix; told = is })
+local_row row some prefix = let (local, is) = some_of row.local some in (local, record { addr = host_of row.addr prefix; told = is })
 
 -- the one address that the row shows decides what holds of those that it shows
 pub local_with : (P : Addr4 → Type 0) (row : HelloRow) (a : Addr4) (b : Bool) → ((local : LocalIf) × IsLocalRow row a local) → (IsTrue b ↔ P a) → IsTrue b ↔ IsLocalWith P row

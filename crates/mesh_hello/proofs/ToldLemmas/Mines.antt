@@ -1,5 +1,5 @@
 -- What rows of the receiver's addresses say.
-use Rattle.std.proofs.Common.{◌≡◌, ℕ, ◌<◌, ◌⊎◌, ◌↔◌, inl, inr, refl, sym, ◌∙◌, ap, subst, arith, List, [], ◌∷◌, length, Contains, Some, None, slice_get}
+use Rattle.std.proofs.Common.{◌≡◌, ℕ, ◌<◌, ◌⊎◌, ◌↔◌, inl, inr, refl, sym, ap, subst, arith, List, [], ◌∷◌, length, Contains, Some, None}
 use Rattle.std.proofs.lemmas.Option.{slice_get_within}
 use Rattle.mesh_atoms.specs.declared.addr.Addr4.{Addr4}
 use Rattle.mesh_atoms.specs.declared.addr.NetAddr.{NetAddr}
@@ -7,7 +7,6 @@ use Rattle.mesh_atoms.specs.declared.hello.Hello.{Hello}
 use Rattle.mesh_atoms.specs.declared.hello.HelloRow.{HelloRow}
 use Rattle.mesh_atoms.specs.declared.hello.LinkStatus.{LinkStatus}
 use Rattle.mesh_atoms.specs.declared.hello.LinkStatus.TheVariants.{Lost as Down, Symmetric, Heard}
-use Rattle.mesh_atoms.specs.declared.settings.Interface.{Interface}
 use Rattle.mesh_atoms.specs.declared.settings.RouterSettings.{RouterSettings}
 use Rattle.mesh_atoms.specs.Base.{host}
 use Rattle.mesh_atoms.specs.HelloTold.{HasRowOf, TellsMe, IsMyStatus}
@@ -25,13 +24,6 @@ row_of hello own Q P own_is = (
   λ h. let (a, row, p, of, q) = h in
       let same : row.addr.addr ≡ a = ap (λ (net : NetAddr). net.addr) of.1 in
       (row, of.0, (ap (λ (net : NetAddr). net.prefix) of.1, subst (λ (b : Addr4). Contains own b) (sym same) ((own_is a).1 p)), q),
-)
-
--- the addresses of an interface
-pub on_interface : (settings : RouterSettings) (i : ℕ) (face : Interface) → slice_get settings.interfaces i ≡ Some face → (a : Addr4) → Contains face.addrs a ↔ HasAddressOn settings i a
-on_interface settings i face at a = (
-  λ c. (face, at, c),
-  λ h. let (f, there, c) = h in let same : f ≡ face = (let both : Some f ≡ Some face = sym there ∙ at in cc) in subst (λ (x : Interface). Contains x.addrs a) same c,
 )
 
 -- the addresses of all interfaces

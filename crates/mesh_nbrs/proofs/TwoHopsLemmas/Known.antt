@@ -1,6 +1,6 @@
 -- An ordered set that keeps the keys of tuples.
-use Rattle.std.proofs.Common.{◌≡◌, ℕ, Bool, true, false, cond, List, [], ◌∷◌, Some, None, refl, sym, ap, subst, ◌∙◌, is_some}
-use Rattle.std.specs.Prelude.{IsTrue, Result, Ok, Err, OnOk, OnErr}
+use Rattle.std.proofs.Common.{◌≡◌, ℕ, Bool, true, false, cond, Some, None, refl, sym, ap, subst, ◌∙◌, is_some}
+use Rattle.std.specs.Prelude.{IsTrue}
 use Rattle.std.specs.List.{filter, list_any}
 use Rattle.std.specs.Ordering.{is_eq}
 use Rattle.std.specs.declared.cmp.Ordering.{Ordering}
@@ -8,16 +8,8 @@ use Rattle.std.specs.BTreeMap.{is_at}
 use Rattle.std.specs.BTreeSet.{BTreeSet, contains, Updates}
 use Rattle.mesh_atoms.specs.Base.{Base, find, SetsOnly}
 use Rattle.mesh_nbrs.specs.TwoHops.Keyed.{Knows}
-
--- what passes stays where another test passes it
-any_filter : {K : Type 0} (test p : K → Bool) (xs : List K) → ((x : K) → p x ≡ true → test x ≡ true) → list_any p xs ≡ true → list_any p (filter test xs) ≡ true
-any_filter test p [] both h = h
-any_filter {K} test p (x ∷ xs) both h = by_head (p x) refl (test x) refl (any_filter test p xs both) where
-  by_head : (a : Bool) → p x ≡ a → (b : Bool) → test x ≡ b → (list_any p xs ≡ true → list_any p (filter test xs) ≡ true) → list_any p (filter test (x ∷ xs)) ≡ true
-  by_head true is true passes behind = rw (passes, is) refl
-  by_head true is false fails behind = absurd (let clash : true ≡ false = sym (both x is) ∙ fails in cc)
-  by_head false is true passes behind = rw (passes, is) (behind (rw is at h))
-  by_head false is false fails behind = rw fails (behind (rw is at h))
+use Rattle.mesh_atoms.proofs.Options.{none_is_not_some}
+use Rattle.mesh_atoms.proofs.Lists.{any_filter}
 
 pub knows_kept : {K V : Type 0} (eq : K → K → Bool) (cmp : K → K → Ordering) → ((x y : K) → eq x y ≡ is_eq (cmp x y)) → ((a b : K) → eq a b ≡ true → a ≡ b) → (base : Base K V) (old new : BTreeSet K)
     → Knows eq cmp old base → new.keys ≡ filter (λ k. is_some (find eq base k)) old.keys → Knows eq cmp new base
@@ -26,9 +18,6 @@ knows_kept {K} {V} eq cmp agree exact base old new knows kept q e found =
   where
     there : (x : K) → is_at (cmp q) x ≡ true → is_some (find eq base x) ≡ true
     there x at = subst (λ (k : K). is_some (find eq base k) ≡ true) (exact q x (agree q x ∙ at)) (ap is_some found)
-
-nothing_is : {A : Type 0} (x : A) → None ≡ Some x → ⊥
-nothing_is x h = cc
 
 module _ {K V : Type 0} (eq : K → K → Bool) (cmp : K → K → Ordering) (key : K) (base base' : Base K V) where
   -- the set that has the key has it of a base in which the key is put
@@ -42,11 +31,6 @@ module _ {K V : Type 0} (eq : K → K → Bool) (cmp : K → K → Ordering) (ke
   pub knows_removed : ((x y : K) → eq x y ≡ is_eq (cmp x y)) → (keys keys' : BTreeSet K) → Knows eq cmp keys base → Updates cmp keys keys' key false → SetsOnly eq base base' key None → Knows eq cmp keys' base'
   knows_removed agree keys keys' knows updates only q e found = by_key (eq key q) refl where
     by_key : (b : Bool) → eq key q ≡ b → IsTrue (contains cmp keys' q)
-    by_key true is = absurd (nothing_is e (sym (only q ∙ ap (λ (b : Bool). cond b None (find eq base q)) is) ∙ found))
+    by_key true is = absurd (none_is_not_some e (sym (only q ∙ ap (λ (b : Bool). cond b None (find eq base q)) is) ∙ found))
     by_key false is =
         updates.0 q ∙ ap (λ (b : Bool). cond b false (contains cmp keys q)) (sym (agree key q) ∙ is) ∙ knows q e (sym (only q ∙ ap (λ (b : Bool). cond b None (find eq base q)) is) ∙ found)
-
--- what holds whether the result is `Ok` or `Err`
-pub by_result : {A B : Type 0} (P Q C : Type 0) (r : Result A B) → OnOk r P → OnErr r Q → (P → C) → (Q → C) → C
-by_result P Q C (Ok x) p q f g = f p
-by_result P Q C (Err e) p q f g = g q

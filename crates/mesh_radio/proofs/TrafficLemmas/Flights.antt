@@ -16,13 +16,9 @@ use Rattle.mesh_machine.specs.Traffic.{Delivery, IsHeardFirst}
 use Rattle.mesh_radio.specs.declared.traffic.air.Turn.{Turn}
 use Rattle.mesh_radio.specs.declared.traffic.air.Flight.{Flight}
 use Rattle.mesh_radio.specs.Traffic.Flights.{Entry, flight_of, insert_by_number, by_number, in_order, turn_cmp, AreMade}
+use Rattle.mesh_atoms.proofs.NetOrder.{then_less}
 
 -- Comparing turns
-
-then_less : (o p : Ordering) → ordering_then o p ≡ Less → (o ≡ Less) ⊎ ((o ≡ Equal) × (p ≡ Less))
-then_less Less p e = inl refl
-then_less Equal p e = inr (refl, e)
-then_less Greater p e = absurd (cc)
 
 then_equal : (o p : Ordering) → ordering_then o p ≡ Equal → p ≡ Equal
 then_equal Less p e = absurd (cc)

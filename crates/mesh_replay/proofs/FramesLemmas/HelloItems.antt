@@ -103,7 +103,7 @@ abbrev some_or : List ℕ → Option (List ℕ) → List ℕ
 some_or l None = l
 some_or l (Some k) = k
 
-some_once : (a b : List ℕ) → ◌≡◌ {A = Option (List ℕ)} (Some a) (Some b) → a ≡ b
+pub some_once : (a b : List ℕ) → ◌≡◌ {A = Option (List ℕ)} (Some a) (Some b) → a ≡ b
 some_once a b e = ap (λ (o : Option (List ℕ)). some_or a o) e
 
 -- the octets that the next line tells are no HELLO's

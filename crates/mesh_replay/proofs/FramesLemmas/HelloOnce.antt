@@ -1,6 +1,6 @@
 -- A router has one HELLO on an interface at a moment.
 use Rattle.std.proofs.Common.{◌≡◌, ◌↔◌, ℕ, ◌<◌, ◌≤◌, inl, inr, refl, sym, ◌∙◌, ap, subst, arith, List, [], ◌∷◌, Option, Some, None, Contains, Bool, true, false}
-use Rattle.std.specs.Prelude.{◌⊎◌, ◌≢◌, slice_get, IsTrue}
+use Rattle.std.specs.Prelude.{◌⊎◌, ◌≢◌, IsTrue}
 use Rattle.std.specs.List.{AllPairs, flat_map}
 use Rattle.std.proofs.lemmas.Bool.{false≢true}
 use Rattle.mesh_atoms.specs.declared.addr.Addr4.{Addr4}
@@ -16,8 +16,6 @@ use Rattle.mesh_atoms.specs.declared.hello.OtherStatus.{OtherStatus}
 use Rattle.mesh_atoms.specs.declared.hello.OtherStatus.TheVariants.{Lost as No_more, Symmetric as Still}
 use Rattle.mesh_atoms.specs.declared.hello.Metrics.{Metrics}
 use Rattle.mesh_atoms.specs.declared.hello.Mpr.{Mpr}
-use Rattle.mesh_atoms.specs.declared.settings.Interface.{Interface}
-use Rattle.mesh_atoms.specs.declared.settings.RouterSettings.{RouterSettings}
 use Rattle.mesh_atoms.specs.declared.tuples.LinkKey.{LinkKey}
 use Rattle.mesh_atoms.specs.declared.tuples.LinkState.{LinkState}
 use Rattle.mesh_atoms.specs.declared.tuples.LinkState.TheVariants.{Lost as Is_lost, Symmetric as Is_symmetric, Heard as Is_heard}
@@ -27,15 +25,16 @@ use Rattle.mesh_atoms.specs.Base.{Base, Has, addr_eq, link_eq, host, base_of, fi
 use Rattle.mesh_atoms.specs.Hello.{Part, This_if, Other_if, Link_lost, Link_symmetric, Link_heard, Other_lost, Other_symmetric, Link_in, Link_out, Near_in, Near_out, Flooding, Routing, HasLinkTo, SaysLink, Says, IsHelloRow, IsHelloNow, IsRoundedUp, local_part, link_part, other_part}
 use Rattle.mesh_atoms.specs.Nodes.{IsBefore}
 use Rattle.mesh_atoms.specs.Sound.{SoundNeighbourhood}
-use Rattle.mesh_atoms.specs.State.{State, state_of, link_at, neighbour_at, HasLink, HasSymmetricWith, HasAddressOn, HasAddress, IsOriginator}
+use Rattle.mesh_atoms.specs.State.{State, state_of, link_at, neighbour_at, HasLink, HasSymmetricWith, HasAddressOn, HasAddress}
 use Rattle.mesh_atoms.specs.Words.{IsValue}
 use Rattle.mesh_atoms.specs.declared.hello.Willing.{Willing}
-use Rattle.mesh_trace.proofs.machine.Places.{same_at}
 use Rattle.mesh_atoms.specs.Ascends.{ascends_prop}
 use Rattle.mesh_trace.proofs.PositionsLemmas.AlikeStates.{ordered_once}
 use Rattle.mesh_replay.proofs.FramesLemmas.OneInterface.{one_interface}
-use Rattle.mesh_trace.proofs.SpellingLemmas.SameRows.{same_row, same_metrics, same_mpr}
+use Rattle.mesh_trace.proofs.SpellingLemmas.SameRows.{same_row}
 use Rattle.mesh_atoms.proofs.Lookups.{has_found, has_found_on, addr_equiv, same_addr, link_equiv, same_link}
+use Rattle.mesh_atoms.proofs.Values.{one_originator}
+use Rattle.mesh_wire.proofs.OneHello.{same_metrics, same_mpr}
 
 -- of pairs that are one
 abbrev first_or : {A : Type 0} → A → Option (A × ℕ) → A
@@ -83,11 +82,6 @@ hello_by_parts f g o v i w r =
     ∙ (ap (λ (x : Option ℕ). hello_from g.originator g.validity x f.willing f.rows f.ascending) i
     ∙ (ap (λ (x : Willing). hello_from g.originator g.validity g.interval x f.rows f.ascending) w
     ∙ from_rows g.originator g.validity g.interval g.willing f.rows g.rows f.ascending g.ascending r)))
-
-pub originator_once : (r : RouterSettings) (a b : Addr4) → IsOriginator r a → IsOriginator r b → a ≡ b
-originator_once r a b (f, at, is) (g, at', is') =
-    let faces : g ≡ f = same_at r.interfaces 0 g f at' at in
-    same_at f.addrs 0 a b is (subst (λ (z : Interface). slice_get z.addrs 0 ≡ Some b) faces is')
 
 pub rounded_once : (ticks one other : ℕ) → IsRoundedUp ticks one → IsRoundedUp ticks other → one ≡ other
 rounded_once ticks one other h k =
@@ -192,7 +186,7 @@ module _ (s : State) (i now m : ℕ) (sound : SoundNeighbourhood s.settings m s.
   hello_once f g h k =
       let (o, is, has) = h.originator in
       let (p, is', has') = k.originator in
-      let originators : f.originator ≡ g.originator = has ∙ (ap (λ (a : Addr4). Some a) (originator_once s.settings o p is is') ∙ sym has') in
+      let originators : f.originator ≡ g.originator = has ∙ (ap (λ (a : Addr4). Some a) (one_originator s.settings o p is is') ∙ sym has') in
       let (t, every, rounded) = h.interval in
       let (u, every', rounded') = k.interval in
       let intervals : f.interval ≡ g.interval = every ∙ (ap (λ (n : ℕ). Some n) (rounded_once s.settings.times.hello t u rounded rounded') ∙ sym every') in

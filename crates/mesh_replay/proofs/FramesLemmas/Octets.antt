@@ -16,6 +16,7 @@ use Rattle.mesh_replay.specs.Checking.Sending.{IsSentNext, sent_front}
 use Rattle.mesh_trace.specs.declared.reading.Reader.{Reader}
 use Rattle.mesh_trace.specs.Reading.Lines.{IsLineOf}
 use Rattle.mesh_trace.specs.Reading.Readers.{lines_from, IsRest}
+use Rattle.mesh_trace.proofs.ReadingLemmas.Rests.{same_line as heads}
 
 -- a line of parts and one more
 parts_line : (parts : List (List ℕ)) (last : List ℕ) → line_of (parts ++ last ∷ []) ≡ joined parts ++ (last ++ codes "\n")
@@ -33,9 +34,6 @@ line_to moment router face bytes = append_assoc (sent_front moment router face) 
 line_from : (moment : ℕ) (router face bytes line : List ℕ) → IsLineOf line (sent_line moment router face bytes) → line ≡ sent_front moment router face ++ encode_lower bytes
 line_from moment router face bytes line is =
     append_cancel_right line (sent_front moment router face ++ encode_lower bytes) (codes "\n") (is ∙ sym (line_to moment router face bytes))
-
-heads : (a b : List ℕ) (xs ys : List (List ℕ)) → a ∷ xs ≡ b ∷ ys → a ≡ b
-heads a b xs ys e = cc
 
 -- what a reader finds behind the front of a line
 module _ (trace : List ℕ) (old reader : Reader) (settings : RouterSettings) (now iface : ℕ) (place : reader.at ≡ old.at)

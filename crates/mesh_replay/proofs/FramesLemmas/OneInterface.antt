@@ -1,9 +1,9 @@
 -- An address stands on one interface of a router.
-use Rattle.std.proofs.Common.{◌≡◌, ℕ, zero, suc, ◌<◌, inl, inr, refl, sym, ◌∙◌, ap, subst, arith, List, [], ◌∷◌, ◌++◌, length, Contains, slice_get, Some, None}
-use Rattle.std.specs.Prelude.{◌⊎◌, Bool, true, false, not, ◌&&◌}
+use Rattle.std.proofs.Common.{◌≡◌, ℕ, zero, suc, ◌<◌, inl, inr, refl, sym, ◌∙◌, ap, subst, List, [], ◌∷◌, ◌++◌, length, Contains, slice_get, Some, None}
+use Rattle.std.specs.Prelude.{◌⊎◌, Bool, true, not}
 use Rattle.std.specs.Cmp.{IsEquivalence}
 use Rattle.std.specs.List.{flat_map, list_any}
-use Rattle.std.proofs.lemmas.List.Elements.{Contains-append_left, Contains-append_right}
+use Rattle.std.proofs.lemmas.List.Elements.{Contains-append_right}
 use Rattle.std.proofs.lemmas.Map.Views.{list_any-from_Contains}
 use Rattle.mesh_atoms.specs.declared.addr.Addr4.{Addr4}
 use Rattle.mesh_atoms.specs.declared.settings.Interface.{Interface}
@@ -12,33 +12,15 @@ use Rattle.mesh_atoms.specs.Base.{addr_eq}
 use Rattle.mesh_atoms.specs.Settings.{are_distinct}
 use Rattle.mesh_atoms.specs.State.{HasAddressOn}
 use Rattle.mesh_atoms.proofs.Lookups.{addr_equiv}
-use Rattle.mesh_wire.proofs.Ascending.{head_or_tail}
-
-both_true : (a b : Bool) → (a && b) ≡ true → (a ≡ true) × (b ≡ true)
-both_true true b h = (refl, h)
-both_true false b h = absurd (cc)
-
-not_both : (b : Bool) → b ≡ true → not b ≡ true → ⊥
-not_both true h g = absurd (let f : false ≡ true = g in cc)
-not_both false h g = absurd (cc)
-
-none_of : {A : Type 0} (a : A) → Contains [] a → ⊥
-none_of a c = absurd (omega (arith, c.1))
-
-contains_flat : {A B : Type 0} (f : A → List B) (xs : List A) (k : ℕ) (u : A) (a : B) → slice_get xs k ≡ Some u → Contains (f u) a → Contains (flat_map f xs) a
-contains_flat f [] k u a at c = absurd cc
-contains_flat f (x ∷ xs) zero u a at c = let e : x ≡ u = cc in Contains-append_left (f x) (flat_map f xs) a (subst (λ b. Contains (f b) a) (sym e) c)
-contains_flat f (x ∷ xs) (suc k) u a at c = Contains-append_right (f x) (flat_map f xs) a (contains_flat f xs k u a at c)
-
-back_distinct : {A : Type 0} (eq : A → A → Bool) (xs ys : List A) → are_distinct eq (xs ++ ys) ≡ true → are_distinct eq ys ≡ true
-back_distinct eq [] ys h = h
-back_distinct eq (x ∷ xs) ys h = back_distinct eq xs ys (both_true (not (list_any (eq x) (xs ++ ys))) (are_distinct eq (xs ++ ys)) h).1
+use Rattle.mesh_atoms.proofs.Lists.{contains_none as none_of, contains_flat_map_at, back_distinct, contains_cases}
+use Rattle.mesh_atoms.proofs.Options.{not_both}
+use Rattle.std.proofs.lemmas.Bool.{and_parts}
 
 apart_parts : {A : Type 0} {eq : A → A → Bool} → IsEquivalence eq → (xs ys : List A) (a : A) → are_distinct eq (xs ++ ys) ≡ true → Contains xs a → Contains ys a → ⊥
 apart_parts equiv [] ys a h c d = none_of a c
 apart_parts {A} {eq} equiv (x ∷ xs) ys a h c d =
-    let (new, rest) = both_true (not (list_any (eq x) (xs ++ ys))) (are_distinct eq (xs ++ ys)) h in
-    elim (head_or_tail x xs a c) [
+    let (new, rest) = and_parts (not (list_any (eq x) (xs ++ ys))) (are_distinct eq (xs ++ ys)) h in
+    elim (contains_cases x xs a c) [
       | inl e ↦ not_both (list_any (eq x) (xs ++ ys)) (list_any-from_Contains equiv x (xs ++ ys) (subst (λ b. Contains (xs ++ ys) b) (sym e) (Contains-append_right xs ys a d))) new
       | inr more ↦ apart_parts equiv xs ys a rest more d
     ]
@@ -50,10 +32,10 @@ one_part equiv f [] k l u v a h at to c d = absurd cc
 one_part equiv f (x ∷ xs) zero zero u v a h at to c d = refl
 one_part equiv f (x ∷ xs) zero (suc l) u v a h at to c d =
     let e : x ≡ u = cc in
-    absurd (apart_parts equiv (f x) (flat_map f xs) a h (subst (λ b. Contains (f b) a) (sym e) c) (contains_flat f xs l v a to d))
+    absurd (apart_parts equiv (f x) (flat_map f xs) a h (subst (λ b. Contains (f b) a) (sym e) c) (contains_flat_map_at f xs l v a to d))
 one_part equiv f (x ∷ xs) (suc k) zero u v a h at to c d =
     let e : x ≡ v = cc in
-    absurd (apart_parts equiv (f x) (flat_map f xs) a h (subst (λ b. Contains (f b) a) (sym e) d) (contains_flat f xs k u a at c))
+    absurd (apart_parts equiv (f x) (flat_map f xs) a h (subst (λ b. Contains (f b) a) (sym e) d) (contains_flat_map_at f xs k u a at c))
 one_part {eq = eq} equiv f (x ∷ xs) (suc k) (suc l) u v a h at to c d =
     let same : k ≡ l = one_part equiv f xs k l u v a (back_distinct eq (f x) (flat_map f xs) h) at to c d in
     ap (λ (n : ℕ). suc n) same

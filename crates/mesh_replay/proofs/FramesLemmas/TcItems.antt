@@ -26,7 +26,7 @@ use Rattle.mesh_replay.specs.Checking.Kept.{parts_of, tc_items}
 use Rattle.mesh_replay.specs.Checking.Sending.{GoesOut, IsSentNext, TakesOut}
 use Rattle.mesh_replay.proofs.CheckingLemmas.Going.{goes_on, goes_not, tells_on, tells_not, tells_nothing}
 use Rattle.mesh_replay.proofs.FramesLemmas.Sendings.{told_out, told_not, ReadLine}
-use Rattle.mesh_replay.proofs.FramesLemmas.TcOnce.{tc_once, validity_once}
+use Rattle.mesh_replay.proofs.FramesLemmas.TcOnce.{tc_once}
 use Rattle.mesh_trace.specs.Positions.Due.{part_items}
 use Rattle.mesh_trace.specs.Positions.Items.{AreTcFrames, Tells, Tells_tc, TellsFrame}
 use Rattle.mesh_trace.specs.Positions.Standing.{Item, Sent, Tc, with_traffic}
@@ -34,13 +34,12 @@ use Rattle.mesh_trace.specs.Reading.Lines.{IsLineOf}
 use Rattle.mesh_trace.specs.Reading.Readers.{lines_from}
 use Rattle.mesh_trace.proofs.PositionsLemmas.AlikeItems.{tells_tc}
 use Rattle.mesh_trace.proofs.PositionsLemmas.TcFrames.{on_first, one_part, parts_one, first_is}
+use Rattle.mesh_replay.proofs.FramesLemmas.HelloItems.{some_once}
+use Rattle.mesh_trace.proofs.PositionsLemmas.LinesLeft.{validity_once}
 
 abbrev some_or : List ℕ → Option (List ℕ) → List ℕ
 some_or l None = l
 some_or l (Some k) = k
-
-some_once : (a b : List ℕ) → ◌≡◌ {A = Option (List ℕ)} (Some a) (Some b) → a ≡ b
-some_once a b e = ap (λ (o : Option (List ℕ)). some_or a o) e
 
 -- the octets that the next line tells fail a test
 pub not_read : (P : List ℕ → Type 0) (told : Option (List ℕ)) (octets slice : List ℕ) (fits : Bool) → told ≡ Some octets → slice ≡ octets → IsTrue fits ↔ P slice → fits ≡ false →

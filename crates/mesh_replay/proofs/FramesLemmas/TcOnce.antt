@@ -1,10 +1,9 @@
 -- A router has one TC of some of its rows with a number.
-use Rattle.std.proofs.Common.{◌≡◌, ℕ, ◌≤◌, refl, sym, ◌∙◌, ap, subst, arith, List, [], ◌∷◌, Option, Some, Bool}
+use Rattle.std.proofs.Common.{◌≡◌, ℕ, ◌≤◌, refl, sym, ◌∙◌, ap, subst, List, Option, Some, Bool}
 use Rattle.std.specs.Prelude.{slice_get}
 use Rattle.std.specs.List.{AllPairs}
 use Rattle.mesh_atoms.specs.declared.addr.Addr4.{Addr4}
 use Rattle.mesh_atoms.specs.declared.settings.Interface.{Interface}
-use Rattle.mesh_atoms.specs.declared.settings.NearHold.{NearHold}
 use Rattle.mesh_atoms.specs.declared.settings.RouterSettings.{RouterSettings}
 use Rattle.mesh_atoms.specs.declared.tc.Tc.{Tc}
 use Rattle.mesh_atoms.specs.declared.tc.TcRow.{TcRow}
@@ -12,21 +11,9 @@ use Rattle.mesh_atoms.specs.Ascends.{ascends_prop}
 use Rattle.mesh_atoms.specs.Hello.{IsRoundedUp}
 use Rattle.mesh_atoms.specs.Nodes.{IsBefore}
 use Rattle.mesh_atoms.specs.State.{State, IsOriginator}
-use Rattle.mesh_atoms.specs.Validity.{IsLeastCode, IsValidity, Far, Near}
 use Rattle.mesh_trace.specs.machine.Sending.{IsTcOfRows}
-use Rattle.mesh_replay.proofs.FramesLemmas.HelloOnce.{originator_once, rounded_once}
-
-code_once : (ticks one other : ℕ) → IsLeastCode ticks one → IsLeastCode ticks other → one ≡ other
-code_once ticks one other h k =
-    let a = h.least other k.sent k.enough in
-    let b = k.least one h.sent h.enough in
-    omega (arith, a, b)
-
--- one value of VALIDITY_TIME
-pub validity_once : (hold : ℕ) (nears : List NearHold) (v w : List ℕ) → IsValidity hold nears v → IsValidity hold nears w → v ≡ w
-validity_once hold nears v w (Far {code = a} h) (Far {code = b} k) = ap (λ (n : ℕ). n ∷ []) (code_once hold a b h k)
-validity_once hold nears v w (Near {near} {nears = others} {code = a} {value = p} h more) (Near {code = b} {value = q} k rest) =
-    ap (λ (n : ℕ). n ∷ near.hops ∷ p) (code_once near.hold a b h k) ∙ ap (λ (l : List ℕ). b ∷ near.hops ∷ l) (validity_once hold others p q more rest)
+use Rattle.mesh_replay.proofs.FramesLemmas.HelloOnce.{rounded_once}
+use Rattle.mesh_atoms.proofs.Values.{one_originator}
 
 abbrev Up : List TcRow → Type 0
 Up rows = AllPairs (λ (r t : TcRow). IsBefore r.dest t.dest) rows
@@ -55,5 +42,5 @@ tc_once s validity complete sequence rows a b h k =
     let (t, every, rounded) = h.interval in
     let (u, every', rounded') = k.interval in
     let intervals : a.interval ≡ b.interval = every ∙ (ap (λ (n : ℕ). Some n) (rounded_once s.settings.times.tc t u rounded rounded') ∙ sym every') in
-    tc_by_parts a b (originator_once s.settings a.originator b.originator h.originator k.originator) (h.sequence_is ∙ sym k.sequence_is) (h.ansn ∙ sym k.ansn) (h.complete_is ∙ sym k.complete_is)
+    tc_by_parts a b (one_originator s.settings a.originator b.originator h.originator k.originator) (h.sequence_is ∙ sym k.sequence_is) (h.ansn ∙ sym k.ansn) (h.complete_is ∙ sym k.complete_is)
     (h.validity_is ∙ sym k.validity_is) intervals (h.rows_are ∙ sym k.rows_are)

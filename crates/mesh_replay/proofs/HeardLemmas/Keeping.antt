@@ -1,5 +1,5 @@
 -- One router of the network is replaced, and one has other relays.
-use Rattle.std.proofs.Common.{◌≡◌, ℕ, zero, suc, List, [], ◌∷◌, refl, sym, ◌∙◌, ap, subst, length, Some, inl, inr}
+use Rattle.std.proofs.Common.{◌≡◌, ℕ, zero, suc, List, [], ◌∷◌, refl, sym, ◌∙◌, ap, subst, Some, inl, inr}
 use Rattle.std.specs.Prelude.{slice_get, slice_set}
 use Rattle.mesh_atoms.specs.declared.addr.Addr4.{Addr4}
 use Rattle.mesh_atoms.specs.declared.codes.metric.Metric.{Metric}
@@ -12,6 +12,7 @@ use Rattle.mesh_atoms.specs.State.{State}
 use Rattle.mesh_trace.proofs.machine.Places.{set_at}
 use Rattle.mesh_trace.proofs.machine.topo.AdvertisedLemmas.Advertising.{same_row}
 use Rattle.mesh_replay.specs.Checking.Kept.{AreAtRest, IsAtRest, IsSoundRouter, with_relays}
+use Rattle.mesh_trace.proofs.PositionsLemmas.AlikeNets.{set_length}
 
 -- ---- places
 
@@ -25,14 +26,9 @@ set_itself [] i a at = refl
 set_itself (x ∷ xs) zero a at = let same : x ≡ a = cc in ap (λ z. z ∷ xs) (sym same)
 set_itself (x ∷ xs) (suc i) a at = ap (λ (l : List _). x ∷ l) (set_itself xs i a at)
 
-set_length : {A : Type 0} (xs : List A) (i : ℕ) (a : A) → length (slice_set xs i a) ≡ length xs
-set_length [] i a = refl
-set_length (x ∷ xs) zero a = refl
-set_length (x ∷ xs) (suc i) a = ap suc (set_length xs i a)
-
 -- ---- other relays
 
-rows_with : (s : State) (relays : Relays) (rows : List TcRow) → AreTcRows s rows → AreTcRows (with_relays s relays) rows
+pub rows_with : (s : State) (relays : Relays) (rows : List TcRow) → AreTcRows s rows → AreTcRows (with_relays s relays) rows
 rows_with s relays rows are =
     let t = with_relays s relays in
     let to : (a o : Addr4) (m : Metric) → Gives s a o m → Gives t a o m = λ a o m g. record { neighbour = g.neighbour; symmetric = g.symmetric; selects = g.selects; metric = g.metric; address = g.address } in

@@ -3,9 +3,7 @@ use Rattle.std.proofs.Common.{◌≡◌, ℕ, ◌<◌, ◌≤◌, List, [], ◌�
 use Rattle.std.specs.Prelude.{slice_get}
 use Rattle.std.proofs.lemmas.List.Elements.{All-head, All-tail}
 use Rattle.mesh_atoms.specs.declared.addr.Addr4.{Addr4}
-use Rattle.mesh_atoms.specs.declared.settings.Interface.{Interface}
 use Rattle.mesh_atoms.specs.declared.settings.RadioArc.{RadioArc}
-use Rattle.mesh_atoms.specs.declared.settings.RouterSettings.{RouterSettings}
 use Rattle.mesh_atoms.specs.declared.settings.Scenario.{Scenario}
 use Rattle.mesh_atoms.specs.State.{State}
 use Rattle.mesh_trace.proofs.machine.Places.{same_at, set_here}
@@ -23,14 +21,10 @@ use Rattle.mesh_trace.specs.Positions.Leading.{Leads, To_event, To_item, LeadsBy
 use Rattle.mesh_trace.specs.Positions.Standing.{Item, TracePosition, IsDone, with_state, with_traffic}
 use Rattle.mesh_trace.specs.Reading.Lines.{IsLineOf}
 use Rattle.mesh_trace.proofs.PositionsLemmas.Addresses.{positions_have_addresses}
-use Rattle.mesh_trace.proofs.PositionsLemmas.EventsOnce.{not_tick, not_last}
-use Rattle.mesh_trace.proofs.PositionsLemmas.Over.{all_behind}
+use Rattle.mesh_trace.proofs.PositionsLemmas.EventsOnce.{not_tick, not_last, behind_all as behind, sender_once}
 use Rattle.mesh_trace.proofs.PositionsLemmas.Walks.{leads_on}
 
 -- ---- what is heard first is one frame
-
-behind : (P : Delivery → Type 0) (before after : List Delivery) (e : Delivery) → All P (before ++ e ∷ after) → P e
-behind P before after e all = All-head P e after (all_behind P before (e ∷ after) all)
 
 heard_once : (a b c f : List Delivery) (d e : Delivery) → a ++ d ∷ b ≡ c ++ e ∷ f → All (λ x. d.moment < x.moment) a → All (λ x. d.moment ≤ x.moment) b → All (λ x. e.moment < x.moment) c → All (λ x. e.moment ≤ x.moment) f → d ≡ e
 heard_once [] b [] f d e same p q r t = cc
@@ -55,13 +49,6 @@ heard_once (x ∷ a) b (y ∷ c) f d e same p q r t =
 next_once : (net : Net) (d e : Delivery) (others more : List Delivery) → HearsNext net d others → HearsNext net e more → d ≡ e
 next_once net d e others more h k =
     heard_once h.first.before h.first.behind k.first.before k.first.behind d e (sym h.first.whole ∙ k.first.whole) h.first.later h.first.no_earlier k.first.later k.first.no_earlier
-
-sender_once : (routers : List RouterSettings) (arc : RadioArc) (a b : Addr4) → IsSender routers arc a → IsSender routers arc b → a ≡ b
-sender_once routers arc a b h k =
-    let router : k.router ≡ h.router = same_at routers arc.from k.router h.router k.router_is h.router_is in
-    let face : k.face ≡ h.face =
-    same_at h.router.interfaces arc.from_iface k.face h.face (subst (λ (r : RouterSettings). slice_get r.interfaces arc.from_iface ≡ Some k.face) router k.face_is) h.face_is in
-    same_at h.face.addrs 0 a b h.address (subst (λ (f : Interface). slice_get f.addrs 0 ≡ Some b) face k.address)
 
 -- ---- the scenario stays
 

@@ -1,9 +1,8 @@
 -- The lines of the flooding relays, one after the other, and that of the routing relays.
 use Rattle.std.proofs.Common.{◌≡◌, ℕ, ◌+◌, ◌<◌, inl, inr, List, [], ◌∷◌, ◌++◌, length, length-append, map, drop, get_or, Bool, true, false, Option, Some, None, refl, sym, ◌∙◌, ap, subst, arith, append_assoc}
-use Rattle.std.specs.Prelude.{slice_get, slice_set}
+use Rattle.std.specs.Prelude.{slice_get}
 use Rattle.std.specs.List.{enumerate_from}
-use Rattle.std.proofs.lemmas.List.{drop_all, drop_more, set-get_or}
-use Rattle.std.proofs.lemmas.Option.{get_or_from_slice_get}
+use Rattle.std.proofs.lemmas.List.{drop_all, drop_more}
 use Rattle.mesh_atoms.specs.declared.addr.Addr4.{Addr4}
 use Rattle.mesh_atoms.specs.declared.settings.Interface.{Interface}
 use Rattle.mesh_atoms.specs.declared.settings.RouterSettings.{RouterSettings}
@@ -12,7 +11,7 @@ use Rattle.mesh_atoms.specs.RelayGraphs.{AreRelays, AreRelaysOf, IsFloodingGraph
 use Rattle.mesh_atoms.specs.State.{State}
 use Rattle.mesh_trace.specs.machine.Laws.{SoundBases}
 use Rattle.mesh_trace.specs.machine.Net.{Net}
-use Rattle.mesh_trace.proofs.machine.Places.{each_more, set_here, stands}
+use Rattle.mesh_trace.proofs.machine.Places.{each_more, set_here}
 use Rattle.mesh_replay.specs.Checking.Going.{at, Went, StopsBefore, Goes}
 use Rattle.mesh_replay.specs.Checking.Kept.{with_relays}
 use Rattle.mesh_replay.specs.Checking.RelayLines.{HasFace, MayTell, IsStill, TakesTold, TellsNone, relays_left, HasTold, StopsTelling}
@@ -25,6 +24,8 @@ use Rattle.mesh_trace.specs.Positions.Due.{none_told}
 use Rattle.mesh_trace.specs.Positions.Items.{with_flooding, with_routing}
 use Rattle.mesh_trace.specs.Positions.Standing.{Item, Flooding, Routing, relay_items, with_state}
 use Rattle.mesh_trace.proofs.PositionsLemmas.RelayWalks.{set_again}
+use Rattle.mesh_replay.proofs.HeardLemmas.Keeping.{set_itself}
+use Rattle.mesh_atoms.proofs.Lists.{item_at as stands}
 
 -- ---- what is left
 
@@ -35,10 +36,6 @@ left_more r n inside =
 
 left_last : (r : RouterSettings) (n : ℕ) → n ≡ length r.interfaces → relays_left r n ≡ Routing ∷ []
 left_last r n all = ap (λ (l : List Interface). map (λ f. Flooding f.0) (enumerate_from n l) ++ (Routing ∷ [])) (drop_all n r.interfaces (omega (arith, all)))
-
--- a state that is set where it stands already
-set_itself : {A : Type 0} (xs : List A) (i : ℕ) (x : A) → slice_get xs i ≡ Some x → slice_set xs i x ≡ xs
-set_itself {A = A} xs i x here = ap (λ (y : A). slice_set xs i y) (sym (get_or_from_slice_get xs i x x here)) ∙ set-get_or xs i x
 
 pub state_itself : (net : Net) (x : ℕ) (s : State) → slice_get net.routers x ≡ Some s → with_state net x s ≡ net
 state_itself net x s here = ap (λ (routers : List State). record net { routers = routers }) (set_itself net.routers x s here)

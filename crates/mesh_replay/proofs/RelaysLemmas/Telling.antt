@@ -1,13 +1,13 @@
 -- One relay line.
 use Rattle.std.proofs.Common.{◌≡◌, ℕ, ◌+◌, ◌<◌, List, [], ◌∷◌, ◌++◌, refl, sym, ◌∙◌, ap, subst, arith, append_assoc, codes, Bool, true, false, Option, Some, None, Result, Ok, Err}
-use Rattle.std.specs.Prelude.{slice_get, IsNone, IsTrue, IfOk, IfSome}
+use Rattle.std.specs.Prelude.{slice_get, IsTrue, IfOk, IfSome}
 use Rattle.std.proofs.lemmas.List.{append_cancel_left, append_cancel_right}
 use Rattle.mesh_atoms.specs.declared.addr.Addr4.{Addr4}
 use Rattle.mesh_atoms.specs.declared.settings.Interface.{Interface}
 use Rattle.mesh_atoms.specs.declared.settings.RouterSettings.{RouterSettings}
 use Rattle.mesh_atoms.specs.State.{State}
 use Rattle.mesh_trace.specs.machine.Net.{Net}
-use Rattle.mesh_trace.proofs.machine.Places.{stands, same_at}
+use Rattle.mesh_trace.proofs.machine.Places.{same_at}
 use Rattle.mesh_replay.specs.Checking.Going.{at, Went, StopsBefore}
 use Rattle.mesh_replay.specs.Checking.RelayLines.{HasFace, MayTell, front_text, told_text, item_for, with_told, IsStill, TakesTold, TellsNone}
 use Rattle.mesh_texts.specs.Lines.Marks.{name_of_face, face_name, relays_text}
@@ -19,6 +19,7 @@ use Rattle.mesh_trace.specs.Positions.Standing.{Item, Flooding, Routing, TracePo
 use Rattle.mesh_trace.specs.Reading.Readers.{lines_from}
 use Rattle.mesh_trace.proofs.PositionsLemmas.Leading.{undone, leads_item, to_item}
 use Rattle.mesh_trace.proofs.PositionsLemmas.RelayTexts.{AreAddresses, same_relays}
+use Rattle.mesh_atoms.proofs.Lists.{item_at as stands}
 
 -- ---- its text
 
@@ -52,10 +53,6 @@ rest_is trace reader r iface relays line lines rest others front found is text =
 pub same_told : (s : State) (iface : Option ℕ) (told relays : List Addr4) (rest : List ℕ) → relays_text told ≡ rest → relays_text relays ≡ rest → AreAddresses relays →
     MayTell s iface relays → MayTell s iface told
 same_told s iface told relays rest one other wide may = subst (λ (l : List Addr4). MayTell s iface l) (same_relays relays told wide (other ∙ sym one)) may
-
-pub is_none : {A : Type 0} (o : Option A) → o ≡ None → IsNone o
-is_none None e = refl
-is_none (Some x) e = absurd cc
 
 -- ---- it leads on
 

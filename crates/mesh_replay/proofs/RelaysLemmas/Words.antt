@@ -3,12 +3,11 @@ use Rattle.std.proofs.Common.{◌≡◌, ℕ, zero, suc, ◌+◌, ◌-◌, ◌<�
 use Rattle.std.specs.Prelude.{◌==◌, ◌&&◌, cond, nat_eq, nat_lt, slice_range, slice_index}
 use Rattle.std.specs.Fmt.{digits}
 use Rattle.std.specs.List.{position_from}
-use Rattle.std.proofs.lemmas.Bool.{cases_Bool, eqb-true, ne_eqb, lt-ltb, eq-eqb, ltb-true, ltb-false}
+use Rattle.std.proofs.lemmas.Bool.{cases_Bool, eqb-true, ne_eqb, lt-ltb, eq-eqb, ltb-true, ltb-false, and_parts as both}
 use Rattle.std.proofs.lemmas.Iterator.Adapters.{position_from-zero}
 use Rattle.std.proofs.lemmas.List.{append-nil, take_at, drop_at, take_all}
 use Rattle.mesh_atoms.specs.declared.addr.Addr4.{Addr4}
 use Rattle.mesh_atoms.specs.Literals.{number_of, cut, cut_at, dotted_of, address_of}
-use Rattle.mesh_atoms.proofs.Kept.{both}
 use Rattle.mesh_texts.specs.Lines.Marks.{dotted, spaced}
 use Rattle.mesh_texts.proofs.Cuts.{lacks, lacks_rest, not_here}
 use Rattle.mesh_texts.proofs.Marked.{decimal_lacks, dotted_lacks}

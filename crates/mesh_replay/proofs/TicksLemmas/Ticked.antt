@@ -1,19 +1,11 @@
 -- What is told behind the line of a tick.
-use Rattle.std.proofs.Common.{◌≡◌, ℕ, zero, suc, ◌+◌, ◌<◌, List, [], ◌∷◌, ◌++◌, refl, sym, ◌∙◌, ap, subst, length, Some, Bool, true, false, append-nil, inl, inr}
+use Rattle.std.proofs.Common.{◌≡◌, ℕ, ◌+◌, ◌<◌, List, [], ◌++◌, sym, ◌∙◌, ap, subst, Some, Bool, true, false, append-nil}
 use Rattle.std.specs.Prelude.{slice_get, slice_set, IsTrue, Result, Ok, Err, IfOk, OnOk}
-use Rattle.std.proofs.lemmas.List.{length-set}
-use Rattle.mesh_atoms.specs.declared.addr.Addr4.{Addr4}
-use Rattle.mesh_atoms.specs.declared.codes.metric.Metric.{Metric}
-use Rattle.mesh_atoms.specs.declared.settings.RouterSettings.{RouterSettings}
 use Rattle.mesh_atoms.specs.declared.settings.Scenario.{Scenario}
-use Rattle.mesh_atoms.specs.declared.tc.TcRow.{TcRow}
-use Rattle.mesh_atoms.specs.declared.tuples.Relays.{Relays}
-use Rattle.mesh_atoms.specs.Advertised.{Gives, AreTcRows}
 use Rattle.mesh_atoms.specs.RelayGraphs.{AreRelays}
 use Rattle.mesh_atoms.specs.State.{State}
 use Rattle.mesh_trace.specs.machine.Net.{Net}
-use Rattle.mesh_trace.proofs.machine.Places.{set_here, set_at}
-use Rattle.mesh_trace.proofs.machine.topo.AdvertisedLemmas.Advertising.{same_row}
+use Rattle.mesh_trace.proofs.machine.Places.{set_here}
 use Rattle.mesh_replay.specs.declared.checking.case.Case.{Case}
 use Rattle.mesh_replay.specs.declared.checking.case.Progress.{Progress}
 use Rattle.mesh_replay.specs.declared.checking.router.Ticked.{Ticked}
@@ -28,20 +20,7 @@ use Rattle.mesh_trace.specs.declared.reading.Reader.{Reader}
 use Rattle.mesh_trace.specs.Positions.Alike.{HasAddresses}
 use Rattle.mesh_trace.specs.Positions.Due.{TicksBy}
 use Rattle.mesh_trace.specs.Positions.Standing.{Item, TracePosition, relay_items, with_state, with_traffic}
-
--- its rows don't depend on its relays
-rows_with : (s : State) (relays : Relays) (rows : List TcRow) → AreTcRows s rows → AreTcRows (with_relays s relays) rows
-rows_with s relays rows are =
-    let t = with_relays s relays in
-    let to : (a o : Addr4) (m : Metric) → Gives s a o m → Gives t a o m = λ a o m g. record { neighbour = g.neighbour; symmetric = g.symmetric; selects = g.selects; metric = g.metric; address = g.address } in
-    let back : (a o : Addr4) (m : Metric) → Gives t a o m → Gives s a o m = λ a o m g. record { neighbour = g.neighbour; symmetric = g.symmetric; selects = g.selects; metric = g.metric; address = g.address } in
-    record {
-      exactly = λ row. (
-        λ has. same_row (Gives s) (Gives t) (λ a o m. (to a o m, back a o m)) s.settings.attached row ((are.exactly row).0 has),
-        λ is. (are.exactly row).1 (same_row (Gives t) (Gives s) (λ a o m. (back a o m, to a o m)) s.settings.attached row is),
-      );
-      ordered = are.ordered;
-    }
+use Rattle.mesh_replay.proofs.HeardLemmas.Keeping.{set_again, rows_with, set_kept as are_kept}
 
 -- so it stays sound with relays that are told
 pub sound_with : (s t : State) → t ≡ with_relays s t.relays → IsSoundRouter s → IsSoundRouter t
@@ -49,11 +28,6 @@ sound_with s t is sound = subst IsSoundRouter (sym is) (record { bases = sound.b
 
 pub kept_with : (s t : State) → t ≡ with_relays s t.relays → IsSoundRouter s → AreRelays t t.last → IsAtRest t
 kept_with s t is sound relays = record { sound = sound_with s t is sound; relays = relays }
-
-set_twice : {A : Type 0} (xs : List A) (x : ℕ) (a b : A) → slice_set (slice_set xs x a) x b ≡ slice_set xs x b
-set_twice [] x a b = refl
-set_twice (z ∷ xs) zero a b = refl
-set_twice {A} (z ∷ xs) (suc x) a b = ap (λ (l : List A). z ∷ l) (set_twice xs x a b)
 
 -- the relay lines are told as far as they fit
 abbrev pub TellsRelays : List ℕ → Reader → Reader → State → State → Bool → Type 0
@@ -92,7 +66,7 @@ tick_told case old mid new x now was is t ticked reads fits takes good same tick
     let more : Goes case.trace.now mid.reader new.reader (at began x left) (at (with_traffic (with_state began x t) new.traffic.traffic) x []) fits =
     tells began scenario (flights ∙ ap (λ z. z.traffic) (sym same)) (set_here net.routers x is was stands) in
     subst (λ (r : List State). Goes case.trace.now old.reader new.reader (at net y [])
-    (at (record net { routers = r; traffic = new.traffic.traffic; last_ticks = l }) x []) fits) (set_twice net.routers x is t)
+    (at (record net { routers = r; traffic = new.traffic.traffic; last_ticks = l }) x []) fits) (set_again net.routers x is t)
     (goes_on case.trace.now old.reader mid.reader new.reader (at net y []) (at began x left) (at (with_traffic (with_state began x t) new.traffic.traffic) x []) fits one more)
 
 -- the line of the tick isn't there
@@ -108,21 +82,6 @@ pub began_addresses : (case : Case) (old new : Reader) (x now : ℕ) (was is : S
 began_addresses case old new x now was is ticked reads takes good ticks net l reached stands next =
     let (line, lines, taken, told) = takes.takes good in
     tick_addresses net x now l was next stands case is (relay_items is.settings ++ sent_items is ticked) line reached ticks told
-
--- one router is another, and kept
-are_kept : (scenario : Scenario) (routers : List State) (x : ℕ) (s t : State) → AreAtRest scenario routers → slice_get routers x ≡ Some s → t.settings ≡ s.settings → IsAtRest t → AreAtRest scenario (slice_set routers x t)
-are_kept scenario routers x s t are stands settings kept = record {
-  count = length-set routers x t ∙ are.count;
-  settings = λ y u there. elim (set_at routers x t y u there) [
-    | inl (place, is) ↦ subst (λ (n : ℕ). slice_get scenario.routers n ≡ Some u.settings) (sym place)
-        (subst (λ (r : RouterSettings). slice_get scenario.routers x ≡ Some r) (sym (ap (λ (z : State). z.settings) is ∙ settings)) (are.settings x s stands))
-    | inr (other, there') ↦ are.settings y u there'
-  ];
-  kept = λ y u there. elim (set_at routers x t y u there) [
-    | inl (place, is) ↦ subst IsAtRest (sym is) kept
-    | inr (other, there') ↦ are.kept y u there'
-  ];
-}
 
 pub kept_after : {E : Type 0} (scenario : Scenario) (routers : List State) (x : ℕ) (s t : State) (r : Result Bool E) → AreAtRest scenario routers → slice_get routers x ≡ Some s → OnOk r (t.settings ≡ s.settings) →
     IfOk r (λ fits. IsTrue fits → IsAtRest t) → IfOk r (λ fits. IsTrue fits → AreAtRest scenario (slice_set routers x t))

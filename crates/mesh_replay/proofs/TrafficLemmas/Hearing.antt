@@ -5,9 +5,10 @@ use Rattle.std.specs.List.{remove}
 use Rattle.std.proofs.lemmas.List.Elements.{All-nil, All-cons, All-map}
 use Rattle.std.proofs.lemmas.Option.{slice_get_within, slice_get_read, slice_get-get_or}
 use Rattle.mesh_trace.specs.machine.Traffic.{IsHeardFirst}
-use Rattle.mesh_trace.proofs.machine.Places.{same_at, stands}
+use Rattle.mesh_trace.proofs.machine.Places.{same_at}
 use Rattle.mesh_replay.specs.declared.traffic.air.Delivered.{Delivered}
 use Rattle.mesh_replay.specs.Traffic.Air.{delivery_of, IsLeast}
+use Rattle.mesh_atoms.proofs.Lists.{item_at as stands}
 
 nowhere : (i : ℕ) → i < 0 → ⊥
 nowhere i h = omega (arith, h)

@@ -1,5 +1,5 @@
 -- Arcs by the interfaces that they leave.
-use Rattle.std.proofs.Common.{◌≡◌, ℕ, ◌+◌, ◌<◌, List, [], ◌∷◌, ◌++◌, sym, ◌∙◌, ap, subst, length, get_or, drop, Bool, true, false, append_assoc, append-nil, add-one, suc, drop-cons, length-append, arith, Some}
+use Rattle.std.proofs.Common.{◌≡◌, ℕ, ◌+◌, ◌<◌, List, [], ◌∷◌, ◌++◌, sym, ◌∙◌, ap, subst, length, get_or, drop, Bool, true, false, append_assoc, append-nil, add-one, suc, drop-cons, Some}
 use Rattle.std.specs.Prelude.{cond, slice_get}
 use Rattle.std.specs.List.{filter, enumerate_from}
 use Rattle.mesh_atoms.specs.declared.settings.RadioArc.{RadioArc}
@@ -8,6 +8,7 @@ use Rattle.mesh_atoms.specs.declared.settings.RouterSettings.{RouterSettings}
 use Rattle.mesh_trace.specs.machine.Traffic.{leaves, leaving}
 use Rattle.mesh_replay.specs.Traffic.Ways.{AreLeaving, AreLeavingOf}
 use Rattle.mesh_trace.proofs.machine.Places.{each_more}
+use Rattle.mesh_atoms.proofs.Lists.{length_pushed as longer}
 
 -- the arcs from number k on that leave an interface
 abbrev pub leaving_from : List RadioArc → ℕ → ℕ → ℕ → List (ℕ × RadioArc)
@@ -23,9 +24,6 @@ leaving_more x i k arcs a old new whole lt is p h =
     let front : drop k arcs ≡ a ∷ drop (k + 1) arcs = drop-cons arcs k a lt ∙ ap (λ (b : RadioArc). b ∷ drop (suc k) arcs) (sym is) ∙ ap (λ (n : ℕ). a ∷ drop n arcs) (sym (add-one k)) in
     one_more (leaves x i a) (k, a) old new (leaving_from arcs x i (k + 1)) whole p
     (subst (λ (l : List RadioArc). old ++ filter (λ a. leaves x i a.1) (enumerate_from k l) ≡ whole) front h)
-
-longer : {A : Type 0} (n : ℕ) (xs : List A) (x : A) → length xs ≡ n → length (xs ++ x ∷ []) ≡ n + 1
-longer n xs x h = let e = length-append xs (x ∷ []) in omega (arith, e, h)
 
 pub router_more : (arcs : List RadioArc) (x n : ℕ) (old new : List (List (ℕ × RadioArc))) (list : List (ℕ × RadioArc)) → new ≡ old ++ list ∷ [] → list ≡ leaving arcs x n →
     AreLeavingOf arcs x n old → AreLeavingOf arcs x (n + 1) new

@@ -17,17 +17,17 @@ use Rattle.mesh_atoms.specs.declared.graphs.Route.{Route}
 use Rattle.mesh_atoms.specs.Nodes.{IsBefore, net_cmp}
 use Rattle.mesh_atoms.proofs.NetOrder.{net_total, net_exact, net_less}
 use Rattle.mesh_atoms.proofs.Nets.{same_net}
-use Rattle.mesh_paths.proofs.Order.{before_trans, not_before_itself}
 use Rattle.mesh_atoms.specs.NextHop.{Holds, IsLongest, HasNoRouteTo}
 use Rattle.mesh_routes.specs.Hops.NextHop.{IsPlaceOf, IsLongestAt}
+use Rattle.mesh_atoms.proofs.Values.{before_trans, not_before_itself}
 
-is_less : (o : Ordering) → is_lt o ≡ true → o ≡ Less
+pub is_less : (o : Ordering) → is_lt o ≡ true → o ≡ Less
 is_less Less e = refl
 is_less Equal e = absurd (cc)
 is_less Greater e = absurd (cc)
 
 -- what stands before is not less
-not_less : (a b : NetAddr) → IsBefore a b → is_lt (net_cmp b a) ≡ false
+pub not_less : (a b : NetAddr) → IsBefore a b → is_lt (net_cmp b a) ≡ false
 not_less a b before = elim (cases_Bool (is_lt (net_cmp b a))) [
   | inl t ↦ absurd (not_before_itself a a refl (before_trans a b a before (net_less b a (is_less (net_cmp b a) t))))
   | inr f ↦ f

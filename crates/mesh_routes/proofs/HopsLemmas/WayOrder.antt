@@ -14,14 +14,11 @@ use Rattle.mesh_atoms.specs.declared.addr.Addr4.{Addr4}
 use Rattle.mesh_atoms.proofs.NetOrder.{then_equal}
 use Rattle.mesh_routes.specs.declared.hops.ways.Way.{Way}
 use Rattle.mesh_routes.specs.Hops.Ways.{way_cmp, IsNoWorse, IsBest, IsCutOff}
+use Rattle.mesh_atoms.proofs.Values.{same_addr}
 
 pub way_total : IsTotalOrder way_cmp
 way_total = then_total (on_total (λ (a : Way). a.originator.0) nat_cmp_total)
     (then_total (on_total (λ (a : Way). a.metric) nat_cmp_total) (then_total (on_total (λ (a : Way). a.iface) nat_cmp_total) (on_total (λ (a : Way). a.next.0) nat_cmp_total)))
-
--- an address is its number
-pub same_addr : (a b : Addr4) → a.0 ≡ b.0 → a ≡ b
-same_addr a b e = ap (λ (n : ℕ). let r : Addr4 = record { 0 = n } in r) e
 
 pub way_exact : CmpEqualImpliesEq way_cmp
 way_exact a b e =

@@ -1,5 +1,5 @@
 -- What was done from one position to another, and then more.
-use Rattle.std.proofs.Common.{◌≡◌, ℕ, ◌+◌, ◌-◌, ◌^◌, ◌<◌, ◌≤◌, min, max, List, [], ◌++◌, ◌∷◌, Option, Some, refl, sym, ap, subst, ◌∙◌, append_assoc, arith, cond, Result, Ok, Err, OnOk, OnErr, nat_le}
+use Rattle.std.proofs.Common.{◌≡◌, ℕ, ◌+◌, ◌-◌, ◌^◌, ◌<◌, ◌≤◌, min, max, List, [], ◌++◌, ◌∷◌, Option, Some, refl, sym, ap, subst, ◌∙◌, append_assoc, arith, cond, Result, Ok, Err, OnErr, nat_le}
 use Rattle.std.proofs.lemmas.List.{append-nil, length-append}
 use Rattle.std.proofs.lemmas.Bool.{le-leb, lt-leb}
 use Rattle.mesh_atoms.specs.declared.addr.Addr4.{Addr4}
@@ -14,11 +14,6 @@ use Rattle.mesh_run.specs.Turns.Turns.Goes.{Stays, Then_begins, Then_listens}
 use Rattle.mesh_run.specs.Turns.Turns.IsLost.{A_moment, An_ear}
 use Rattle.mesh_run.specs.Turns.Parts.{Acts, Hears, HearsInVain, Going, Broken, Turning, Stopped, at, counted}
 use Rattle.mesh_run.proofs.TurnsLemmas.Tellings.{tells_nothing, tells_more, counted_nothing, counted_more}
-
--- what holds of an answer, and what follows from it
-pub on_ok : {A E : Type 0} {P Q : Type 0} (r : Result A E) → (P → Q) → OnOk r P → OnOk r Q
-on_ok (Ok x) f p = f p
-on_ok (Err e) f p = tt
 
 pub on_err : {A E : Type 0} {P Q : Type 0} (r : Result A E) → (P → Q) → OnErr r P → OnErr r Q
 on_err (Ok x) f p = tt

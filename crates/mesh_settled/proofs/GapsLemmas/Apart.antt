@@ -2,17 +2,11 @@
 use Rattle.std.proofs.Common.{◌≡◌, ℕ, ◌+◌, ◌<◌, ◌≤◌, ◌⊎◌, inl, inr, refl, sym, ◌∙◌, ap, subst, arith, List, Contains, Option, Some, None, Bool, true, false, cond, nat_lt, length, slice_get}
 use Rattle.std.specs.Prelude.{◌↔◌, IsTrue}
 use Rattle.std.proofs.lemmas.Bool.{false≢true, ltb-true, ltb-false, cases_eq}
-use Rattle.std.proofs.lemmas.Option.{slice_get_read}
 use Rattle.mesh_atoms.specs.declared.addr.Addr4.{Addr4}
-use Rattle.mesh_paths.proofs.SettledDecisions.{Contains_at}
 use Rattle.mesh_settled.specs.Gaps.Fields.{AreApart}
 use Rattle.mesh_settled.specs.Gaps.Found.{IsLeastMissing, lower}
-
-pub place_in : {X : Type 0} (xs : List X) (x : X) → Contains xs x → (k : ℕ) × (k < length xs) × (slice_get xs k ≡ Some x)
-place_in xs x has = (has.0, has.1, slice_get_read xs (length xs) has.0 x refl has.1 (sym has.2))
-
-pub some_same : {A : Type 0} {o : Option A} {a b : A} → o ≡ Some a → o ≡ Some b → a ≡ b
-some_same e f = cc
+use Rattle.mesh_atoms.proofs.Lists.{place_of as place_in, contains_at}
+use Rattle.mesh_atoms.proofs.Options.{same_some}
 
 -- it stands before place i
 abbrev pub IsEarlier : {X : Type 0} → List X → ℕ → X → Type 0
@@ -20,7 +14,7 @@ IsEarlier list i a = (k : ℕ) × (k < i) × (slice_get list k ≡ Some a)
 
 pub earlier_step : {X : Type 0} (list : List X) (i : ℕ) (a b : X) → slice_get list i ≡ Some a → IsEarlier list (i + 1) b → IsEarlier list i b ⊎ (a ≡ b)
 earlier_step list i a b at w = elim (cases_eq w.0 i) [
-  | inl e ↦ inr (some_same at (sym (ap (λ k. slice_get list k) e) ∙ w.2))
+  | inl e ↦ inr (same_some at (sym (ap (λ k. slice_get list k) e) ∙ w.2))
   | inr other ↦ inl (w.0, omega (arith, w.1), w.2)
 ]
 
@@ -74,7 +68,7 @@ module _ (list others : List Addr4) (i : ℕ) (a : Addr4) (at : slice_get list i
 pub all_missing : (list others : List Addr4) (i : ℕ) (best : Option Addr4) → length list ≤ i → IsLeastMissing (IsEarlier list i) others best → IsLeastMissing (λ a. Contains list a) others best
 all_missing list others i None end least = λ a has. let w = place_in list a has in least a (w.0, omega (arith, w.1), w.2)
 all_missing list others i (Some c) end least =
-    (Contains_at list least.0.0 c least.0.2, least.1, λ a has missing. let w = place_in list a has in least.2 a (w.0, omega (arith, w.1), w.2) missing)
+    (contains_at list least.0.0 c least.0.2, least.1, λ a has missing. let w = place_in list a has in least.2 a (w.0, omega (arith, w.1), w.2) missing)
 
 none_missing : (ms ns : List Addr4) {o : Option Addr4} → o ≡ None → IsLeastMissing (λ a. Contains ms a) ns o → (a : Addr4) → Contains ms a → Contains ns a
 none_missing ms ns e least = subst (IsLeastMissing (λ a. Contains ms a) ns) e least

@@ -1,7 +1,7 @@
 -- The interface at the end of an arc has a least address.
 use Rattle.std.proofs.Common.{◌≡◌, ℕ, zero, suc, ◌+◌, ◌<◌, ◌≤◌, inl, inr, ◌∙◌, ap, subst, arith, length, List, [], Contains, Option, Some, None, true, false, map, slice_get, get_or}
 use Rattle.std.specs.Prelude.{option_map, slice_index}
-use Rattle.std.proofs.lemmas.Bool.{ltb-true}
+use Rattle.std.proofs.lemmas.Bool.{ltb-true, and_parts as both}
 use Rattle.std.proofs.lemmas.Option.{slice_get-map, slice_get-get_or, slice_get_cases, get_or_from_slice_get}
 use Rattle.mesh_atoms.specs.declared.addr.Addr4.{Addr4}
 use Rattle.mesh_atoms.specs.declared.codes.metric.Metric.{Metric}
@@ -12,12 +12,13 @@ use Rattle.mesh_atoms.specs.Radio.{Leads, Router}
 use Rattle.mesh_atoms.specs.Settings.{is_interface, joins_routers}
 use Rattle.mesh_atoms.specs.Settled.{IsLeastAddress}
 use Rattle.mesh_atoms.proofs.Deciding.{Decides-each}
-use Rattle.mesh_atoms.proofs.Kept.{both}
-use Rattle.mesh_paths.proofs.Scenarios.{contains_map, ends_of}
+use Rattle.mesh_paths.proofs.Scenarios.{ends_of}
 use Rattle.mesh_settled.specs.Gaps.Found.{IsLeastMissing, lower}
-use Rattle.mesh_paths.proofs.SettledDecisions.{Contains_at}
 use Rattle.mesh_settled.proofs.GapsLemmas.Apart.{IsEarlier, one_more, all_missing}
-use Rattle.mesh_settled.proofs.GapsLemmas.JointLemmas.{never, none_within, on_interface, least_in}
+use Rattle.mesh_settled.proofs.GapsLemmas.JointLemmas.{least_in}
+use Rattle.mesh_atoms.proofs.Lists.{contains_map, contains_at, contains_none}
+use Rattle.mesh_paths.proofs.Rows.{no as never}
+use Rattle.mesh_atoms.proofs.Values.{on_interface}
 
 -- the least of the first addresses of a list
 least_first : (list : List Addr4) (n : ℕ) → n ≤ length list → (o : Option Addr4) × IsLeastMissing (IsEarlier list n) [] o
@@ -27,7 +28,7 @@ least_first list (suc n) few =
     let at : slice_get list n ≡ Some a = slice_get-get_or list n (record { 0 = 0 }) (omega arith) in
     let (o, least) = least_first list n (omega arith) in
     let next : n + 1 ≡ suc n = omega arith in
-    (lower o a false, subst (λ (k : ℕ). IsLeastMissing (IsEarlier list k) [] (lower o a false)) next (one_more list [] n a at o false (never (none_within a)) least))
+    (lower o a false, subst (λ (k : ℕ). IsLeastMissing (IsEarlier list k) [] (lower o a false)) next (one_more list [] n a at o false (never (contains_none a)) least))
 
 least_on : (r : RouterSettings) (j : ℕ) (face : Interface) → slice_get r.interfaces j ≡ Some face → (a : Addr4) × IsLeastAddress r j a
 least_on r j face at =
@@ -39,7 +40,7 @@ least_on r j face at =
     by_case None none =
         let some = face.sound.few.at_least in
         let a = get_or face.addrs 0 (record { 0 = 0 }) in
-        absurd (none_within a (none a (Contains_at face.addrs 0 a (slice_get-get_or face.addrs 0 (record { 0 = 0 }) (omega (arith, some))))))
+        absurd (contains_none a (none a (contains_at face.addrs 0 a (slice_get-get_or face.addrs 0 (record { 0 = 0 }) (omega (arith, some))))))
 
 abbrev count : RouterSettings → ℕ
 count r = length r.interfaces

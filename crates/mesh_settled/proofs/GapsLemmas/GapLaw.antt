@@ -31,7 +31,7 @@ use Rattle.mesh_atoms.specs.Hello.{Says, Flooding, Routing}
 use Rattle.mesh_atoms.specs.Radio.{Joins, Adjacent, IsMetric}
 use Rattle.mesh_atoms.specs.Settled.{At, IsLeastAddress, IsLinkTo, IsNeighbourOf, IsTwoHopBy, IsPeer, IsStray, IsRouterBy, IsAddressBy, IsNetworkBy, IsSettledAt}
 use Rattle.mesh_atoms.specs.declared.tuples.LinkState.TheVariants.{Symmetric as Is_symmetric}
-use Rattle.mesh_atoms.specs.State.{State, state_of, HasLink, HasTwoHop, HasSymmetric, HasAddress, IsOriginator}
+use Rattle.mesh_atoms.specs.State.{State, state_of, HasLink, HasTwoHop, HasSymmetric, HasAddress}
 use Rattle.mesh_atoms.proofs.CodesLemmas.CodeLaws.{cost-injective}
 use Rattle.mesh_atoms.proofs.Deciding.{Decides-some}
 use Rattle.mesh_paths.proofs.Admitted.{joins_back}
@@ -42,17 +42,18 @@ use Rattle.mesh_settled.specs.Gaps.Gaps.{Look, look, AreSame, HasNoGap}
 use Rattle.mesh_settled.specs.Gaps.Joints.{all_addresses}
 use Rattle.mesh_settled.specs.Gaps.Network.{IsNetwork}
 use Rattle.mesh_settled.specs.Gaps.Law.{NoGapIsSettled}
-use Rattle.mesh_settled.proofs.GapsLemmas.Apart.{some_same}
 use Rattle.mesh_settled.proofs.GapsLemmas.FaceLemmas.{end_has_least}
 use Rattle.mesh_settled.proofs.GapsLemmas.LinkLemmas.{same_flags}
 use Rattle.mesh_settled.proofs.GapsLemmas.MetricLemmas.{has_metric}
 use Rattle.mesh_settled.proofs.GapsLemmas.ShownLemmas.{shows_flooding, shows_routing}
 use Rattle.mesh_settled.proofs.GapsLemmas.Sides.{all_self, all_sym}
+use Rattle.mesh_atoms.proofs.Values.{one_originator}
+use Rattle.mesh_atoms.proofs.Options.{some_equal as some_nat, same_some}
 
 -- Values that fields tell
 
 some_is : {A : Type 0} {a b : A} → Some a ≡ Some b → a ≡ b
-some_is e = some_same refl e
+some_is e = same_some refl e
 
 metric_of : (code : ℕ) → code < 4096 → Metric
 metric_of code in_range = record { code = code; in_range = in_range }
@@ -67,9 +68,6 @@ same_metrics None None e = refl
 same_metrics None (Some m) e = absurd (none-some (metric_value m) e)
 same_metrics (Some m) None e = absurd (none-some (metric_value m) (sym e))
 same_metrics (Some m) (Some n) e = ap (λ (k : Metric). Some k) (same_metric m n (some_is e))
-
-some_nat : (m n : ℕ) → Some m ≡ Some n → m ≡ n
-some_nat m n e = some_is e
 
 same_bools : (a b : Bool) → ◌≡◌ {A = Option ℕ} (Some (cond a 1 0)) (Some (cond b 1 0)) → a ≡ b
 same_bools true true e = refl
@@ -111,11 +109,6 @@ of_all (g ∷ faces) (suc k) f a at c = Contains-append_right g.addrs (all_addre
 
 pub all_are : (r : RouterSettings) (a : Addr4) → Contains (all_addresses r.interfaces) a ↔ HasAddress r a
 all_are r a = (λ w. let h = in_all r.interfaces a w in (h.0, (h.1, h.2, h.3)), λ h. of_all r.interfaces h.0 h.1.0 a h.1.1 h.1.2)
-
-pub one_originator : (r : RouterSettings) (a b : Addr4) → IsOriginator r a → IsOriginator r b → a ≡ b
-one_originator r a b v w =
-    let at : slice_get v.0.addrs 0 ≡ Some b = subst (λ (f : Interface). slice_get f.addrs 0 ≡ Some b) (some_same w.1 v.1) w.2 in
-    some_same v.2 at
 
 module _ (s : Scenario) (graph : RadioGraph) (states : List State) (now x : ℕ) (p : State) (net : IsNetwork s graph states now) (at : At states x p) where
   abbrev l : Look
@@ -246,10 +239,10 @@ module _ (s : Scenario) (graph : RadioGraph) (states : List State) (now x : ℕ)
         let link : LinkTuple = record { addrs = theirs.0.addrs; heard = 0; sym = 0; quality = 0; pending = false; lost = false; link_in = back; link_out = Some there; selector = chosen } in
         let is : IsLinkTo p q i j now there back (record { addr = a }) link = record {
           keyed = least;
-          addresses = λ c. (λ w. (theirs.0, theirs.1, w), λ h. subst (λ (f : Interface). Contains f.addrs c) (some_same h.1 theirs.1) h.2);
+          addresses = λ c. (λ w. (theirs.0, theirs.1, w), λ h. subst (λ (f : Interface). Contains f.addrs c) (same_some h.1 theirs.1) h.2);
           link_in = refl;
           link_out = refl;
-          selector = (λ e. let w = test.0 e in (w.0, (face.0, face.1, w.1), w.2), λ w. test.1 (w.0, subst (λ (f : Interface). Contains f.addrs w.0) (some_same w.1.1 face.1) w.1.2, w.2));
+          selector = (λ e. let w = test.0 e in (w.0, (face.0, face.1, w.1), w.2), λ w. test.1 (w.0, subst (λ (f : Interface). Contains f.addrs w.0) (same_some w.1.1 face.1) w.1.2, w.2));
         } in
         let g = (same (Link i (record { addr = a }))).present (link_fields link) (y, j, q, there, back, link, at_y, joins, is, refl) in
         let h = g.1 in

@@ -8,7 +8,6 @@ use Rattle.mesh_atoms.specs.declared.addr.Addr4.{Addr4}
 use Rattle.mesh_atoms.specs.declared.graphs.Pair.{Pair}
 use Rattle.mesh_atoms.specs.declared.graphs.RadioGraph.{RadioGraph}
 use Rattle.mesh_atoms.specs.declared.codes.metric.Metric.{Metric}
-use Rattle.mesh_atoms.specs.declared.settings.Interface.{Interface}
 use Rattle.mesh_atoms.specs.declared.settings.RouterSettings.{RouterSettings}
 use Rattle.mesh_atoms.specs.declared.settings.Scenario.{Scenario}
 use Rattle.mesh_atoms.specs.Words.{IsValue}
@@ -19,26 +18,21 @@ use Rattle.mesh_settled.specs.declared.gaps.joints.Joint.{Joint}
 use Rattle.mesh_settled.specs.Gaps.Found.{IsLeastMissing}
 use Rattle.mesh_settled.specs.Gaps.Joints.{IsBack, IsLeastOf, IsJointBy, IsJointWith, IsOfSome}
 use Rattle.mesh_paths.proofs.Admitted.{joins_back}
-use Rattle.mesh_paths.proofs.SettledDecisions.{Contains_at}
-use Rattle.mesh_settled.proofs.GapsLemmas.Apart.{some_same, place_in}
-
-pub none_within : {X : Type 0} (x : X) → Contains [] x → ⊥
-none_within x w = omega (arith, w.1)
-
-pub on_interface : (settings : RouterSettings) (i : ℕ) (face : Interface) → slice_get settings.interfaces i ≡ Some face → (a : Addr4) → Contains face.addrs a ↔ HasAddressOn settings i a
-on_interface settings i face at a = (λ w. (face, at, w), λ h. subst (λ (f : Interface). Contains f.addrs a) (some_same h.1 at) h.2)
+use Rattle.mesh_atoms.proofs.Lists.{contains_none, contains_at, place_of as place_in}
+use Rattle.mesh_paths.proofs.Rows.{no as never}
+use Rattle.mesh_atoms.proofs.Options.{same_some}
 
 pub on_none : (settings : RouterSettings) (i : ℕ) → slice_get settings.interfaces i ≡ None → (a : Addr4) → Contains [] a ↔ HasAddressOn settings i a
-on_none settings i at a = (λ w. absurd (none_within a w), λ h. absurd (none-some h.0 (sym at ∙ h.1)))
+on_none settings i at a = (λ w. absurd (contains_none a w), λ h. absurd (none-some h.0 (sym at ∙ h.1)))
 
 pub least_in : (settings : RouterSettings) (i : ℕ) (list : List Addr4) (o : Option Addr4) → ((a : Addr4) → Contains list a ↔ HasAddressOn settings i a) →
     IsLeastMissing (λ a. Contains list a) [] o → IsValue (IsLeastAddress settings i) o
-least_in settings i list None on least = λ a h. none_within a (least a ((on a).1 h.0))
-least_in settings i list (Some b) on least = ((on b).0 least.0, λ a h. least.2 a ((on a).1 h) (none_within a))
+least_in settings i list None on least = λ a h. contains_none a (least a ((on a).1 h.0))
+least_in settings i list (Some b) on least = ((on b).0 least.0, λ a h. least.2 a ((on a).1 h) (contains_none a))
 
 pub value_some : {A : Type 0} (P : A → Type 0) (o : Option A) (a : A) → o ≡ Some a → IsValue P o → P a
 value_some P None a e v = absurd (none-some a e)
-value_some P (Some b) a e v = subst P (some_same refl e) v
+value_some P (Some b) a e v = subst P (same_some refl e) v
 
 pub value_none : {A : Type 0} (P : A → Type 0) (o : Option A) → o ≡ None → IsValue P o → (a : A) → P a → ⊥
 value_none P None e v = v
@@ -50,9 +44,6 @@ one_least settings i least a is = (
   λ other. eq-eqb least.0 a.0 (let low = is.1 a other.0 in let high = other.1 least is.0 in omega arith),
 )
 
-pub never : {P : Type 0} → (P → ⊥) → IsTrue false ↔ P
-never none = (λ e. absurd (false≢true e), λ p. absurd (none p))
-
 -- Routers at their places
 module _ {A : Type 0} (f : A → State) where
   pub some_router : (routers : List A) (y : ℕ) (r : A) (b : Bool) → b ≡ true → b ≡ nat_lt y (length routers) → r ≡ slice_index_or routers y r → Some (f r) ≡ slice_get (map f routers) y
@@ -62,7 +53,7 @@ module _ {A : Type 0} (f : A → State) where
   none_router routers y b e past = sym (slice_get-map f routers y ∙ ap (option_map f) (slice_get_past routers y (ltb-false y (length routers) (sym past ∙ e))))
 
 pub same_state : {states : List State} {y : ℕ} {p q : State} → At states y p → At states y q → p ≡ q
-same_state at at' = some_same at.is at'.is
+same_state at at' = same_some at.is at'.is
 
 pub least_there : (states : List State) (y j : ℕ) (p : State) (a : Addr4) (b : Bool) → At states y p → (settings : RouterSettings) → settings ≡ p.settings →
     IsTrue b ↔ IsLeastAddress settings j a → IsTrue b ↔ IsLeastOf states y j a
@@ -104,7 +95,7 @@ module _ (s : Scenario) (g : RadioGraph) (is : IsRadioGraph s g) (states : List 
 module _ (pairs : List Pair) (pair : Pair) where
   pub back_here : (i : ℕ) (back : Pair) → slice_get pairs i ≡ Some back → back.from ≡ pair.to → back.from_iface ≡ pair.to_iface → back.to ≡ pair.from → back.to_iface ≡ pair.from_iface →
       IsBack pairs pair back.metric
-  back_here i back at from from_iface to to_iface = rw (← from, ← from_iface, ← to, ← to_iface) (Contains_at pairs i back at)
+  back_here i back at from from_iface to to_iface = rw (← from, ← from_iface, ← to, ← to_iface) (contains_at pairs i back at)
 
   -- what stands before place i doesn't lead back
   abbrev pub NoBackBefore : ℕ → Type 0
@@ -112,7 +103,7 @@ module _ (pairs : List Pair) (pair : Pair) where
 
   pub not_back : (i : ℕ) (e : Pair) → slice_get pairs i ≡ Some e → (e.from ≡ pair.to → e.from_iface ≡ pair.to_iface → e.to ≡ pair.from → e.to_iface ≡ pair.from_iface → ⊥) → NoBackBefore i → NoBackBefore (i + 1)
   not_back i e at other before k back less there = elim (cases_eq k i) [
-    | inl same ↦ subst (λ (x : Pair). x.from ≡ pair.to → x.from_iface ≡ pair.to_iface → x.to ≡ pair.from → x.to_iface ≡ pair.from_iface → ⊥) (some_same at (ap (λ (n : ℕ). slice_get pairs n) (sym same) ∙ there)) other
+    | inl same ↦ subst (λ (x : Pair). x.from ≡ pair.to → x.from_iface ≡ pair.to_iface → x.to ≡ pair.from → x.to_iface ≡ pair.from_iface → ⊥) (same_some at (ap (λ (n : ℕ). slice_get pairs n) (sym same) ∙ there)) other
     | inr ne ↦ before k back (omega (arith, less, ne)) there
   ]
 
@@ -127,7 +118,7 @@ module _ {A B : Type 0} (P : A → B → Type 0) (list : List A) where
 
   pub none_step : (i : ℕ) (e : A) (o : Option B) → slice_get list i ≡ Some e → o ≡ None → IsValue (P e) o → NoneBefore i → NoneBefore (i + 1)
   none_step i e o at none value before k f less there r p = elim (cases_eq k i) [
-    | inl same ↦ value_none (P e) o none value r (subst (λ (x : A). P x r) (some_same (ap (λ (n : ℕ). slice_get list n) (sym same) ∙ there) at) p)
+    | inl same ↦ value_none (P e) o none value r (subst (λ (x : A). P x r) (same_some (ap (λ (n : ℕ). slice_get list n) (sym same) ∙ there) at) p)
     | inr other ↦ before k f (omega arith) there r p
   ]
 
@@ -136,7 +127,7 @@ module _ {A B : Type 0} (P : A → B → Type 0) (list : List A) where
 
   pub found_one : (i : ℕ) (e : A) (o : Option B) → slice_get list i ≡ Some e → true ≡ is_some o → IsValue (P e) o → IsValue (IsOfSome P list) o
   found_one i e None at some value = absurd (false≢true (sym some))
-  found_one i e (Some r) at some value = (e, Contains_at list i e at, value)
+  found_one i e (Some r) at some value = (e, contains_at list i e at, value)
 
   pub none_one : (i : ℕ) (e : A) (o : Option B) → slice_get list i ≡ Some e → false ≡ is_some o → IsValue (P e) o → NoneBefore i → NoneBefore (i + 1)
   none_one i e None at some value before = none_step i e None at refl value before
@@ -151,11 +142,11 @@ module _ {A : Type 0} (P : A → Type 0) (list : List A) where
   NoBefore i = (k : ℕ) (e : A) → k < i → slice_get list k ≡ Some e → P e → ⊥
 
   pub some_here : (i : ℕ) (e : A) → slice_get list i ≡ Some e → P e → IsTrue true ↔ ((a : A) × Contains list a × P a)
-  some_here i e at p = (λ _. (e, Contains_at list i e at, p), λ _. refl)
+  some_here i e at p = (λ _. (e, contains_at list i e at, p), λ _. refl)
 
   pub no_more : (i : ℕ) (e : A) → slice_get list i ≡ Some e → (P e → ⊥) → NoBefore i → NoBefore (i + 1)
   no_more i e at none before k f less there p = elim (cases_eq k i) [
-    | inl same ↦ none (subst P (some_same (ap (λ (n : ℕ). slice_get list n) (sym same) ∙ there) at) p)
+    | inl same ↦ none (subst P (same_some (ap (λ (n : ℕ). slice_get list n) (sym same) ∙ there) at) p)
     | inr other ↦ before k f (omega arith) there p
   ]
 

@@ -1,7 +1,7 @@
 -- The order of keys, and the lesser of two gaps.
 use Rattle.std.proofs.Common.{◌≡◌, ℕ, ◌+◌, ◌<◌, ◌≤◌, ◌⊎◌, inl, inr, refl, sym, subst, ◌∙◌, arith, Option, Some, None, Bool, true, false, cond, nat_lt, nat_eq, ◌||◌}
 use Rattle.std.specs.Prelude.{◌&&◌, List}
-use Rattle.std.proofs.lemmas.Bool.{false≢true, ltb-true, lt-ltb, ltb-false, eqb-true, eq-eqb, cases_eq}
+use Rattle.std.proofs.lemmas.Bool.{false≢true, ltb-true, lt-ltb, ltb-false, eqb-true, eq-eqb, cases_eq, and_parts, or_cases}
 use Rattle.mesh_settled.specs.declared.gaps.found.Found.{Found}
 use Rattle.mesh_settled.specs.declared.gaps.found.Rank.{Rank}
 use Rattle.mesh_atoms.specs.declared.gap.GapKey.{GapKey}
@@ -12,18 +12,10 @@ use Rattle.mesh_settled.specs.Gaps.Found.{IsLeast, IsTest, lesser, found_at}
 
 -- The order
 
-or_cases : (a b : Bool) → (a || b) ≡ true → (a ≡ true) ⊎ (b ≡ true)
-or_cases true b e = inl refl
-or_cases false b e = inr e
-
-and_cases : (a b : Bool) → (a && b) ≡ true → (a ≡ true) × (b ≡ true)
-and_cases true b e = (refl, e)
-and_cases false b e = absurd (false≢true e)
-
 pub before_cases : (m n : ℕ) (r : Bool) → precedes m n r ≡ true → (m < n) ⊎ ((m ≡ n) × (r ≡ true))
 before_cases m n r e = elim (or_cases (nat_lt m n) (nat_eq m n && r) e) [
   | inl less ↦ inl (ltb-true m n less)
-  | inr same ↦ let (is, rest) = and_cases (nat_eq m n) r same in inr (eqb-true m n is, rest)
+  | inr same ↦ let (is, rest) = and_parts (nat_eq m n) r same in inr (eqb-true m n is, rest)
 ]
 
 before_less : (m n : ℕ) (r : Bool) → m < n → precedes m n r ≡ true

@@ -35,10 +35,11 @@ use Rattle.mesh_settled.specs.Gaps.Gaps.{Look, look, IsHeldTuple, IsPresentTuple
 use Rattle.mesh_settled.specs.Gaps.Joints.{IsJointWith, IsLeastOf}
 use Rattle.mesh_settled.specs.Gaps.Network.{IsNetwork}
 use Rattle.mesh_settled.specs.Gaps.Links.{symmetric_fields, held_fields, given_fields, given_link, IsGivenBy, IsHeldAt, IsHeld, IsGivenAt, IsGiven, IsLinkKey}
-use Rattle.mesh_settled.proofs.GapsLemmas.Apart.{some_same, place_in}
 use Rattle.mesh_settled.proofs.GapsLemmas.JointLemmas.{same_state, no_state}
 use Rattle.mesh_settled.proofs.GapsLemmas.Leasts.{least_as, least_one, least_all, least_lesser}
 use Rattle.mesh_settled.proofs.GapsLemmas.Sides.{all_self, tested}
+use Rattle.mesh_atoms.proofs.Options.{same_some}
+use Rattle.mesh_atoms.proofs.Lists.{place_of as place_in}
 
 module _ (p : State) (now i : ℕ) (key : LinkKey) (distinct : HasDistinctKeys link_eq (base_of p.bases.neighbourhood.links i)) where
   abbrev stands : Option (Link × ℕ)
@@ -46,7 +47,7 @@ module _ (p : State) (now i : ℕ) (key : LinkKey) (distinct : HasDistinctKeys l
 
   -- each link that is held is the one that is found
   found : (e : Link × ℕ) → stands ≡ Some e → (fs : List Field) (w : IsHeldLink p now i key fs) → w.0 ≡ e.0
-  found e is fs w = let f = (looks_up_links p i key w.0 distinct).0 w.1 in ap (λ (x : Link × ℕ). x.0) (some_same f.1 is)
+  found e is fs w = let f = (looks_up_links p i key w.0 distinct).0 w.1 in ap (λ (x : Link × ℕ). x.0) (same_some f.1 is)
 
   by_case : (e : Link × ℕ) → stands ≡ Some e → (b : Bool) → is_symmetric e.0 now ≡ b → IsSide (IsHeldLink p now i key) (cond b (Some (link_fields e.0)) None)
   by_case e is true symmetric = (
@@ -178,7 +179,7 @@ pub held_key : (l : Look) (p : State) (i place : ℕ) (key : LinkKey) (e : Link 
     f ≡ found_at (Of_link i key) v → IsTest l (Of_link i key) v → IsLeast l (IsHeldAt p i place) f
 held_key l p i place key e v f at is test =
     rw is (least_as l (λ k. k ≡ Of_link i key) (IsHeldAt p i place) (λ k same. (key, e, at, same))
-    (λ k w. w.3 ∙ ap (λ (x : LinkKey × (Link × ℕ)). Of_link i x.0) (some_same w.2 at)) (found_at (Of_link i key) v) (least_one l (Of_link i key) v test))
+    (λ k w. w.3 ∙ ap (λ (x : LinkKey × (Link × ℕ)). Of_link i x.0) (same_some w.2 at)) (found_at (Of_link i key) v) (least_one l (Of_link i key) v test))
 
 -- The keys that pairs give
 
@@ -212,7 +213,7 @@ IsGivenByPlace states x pairs place k = (pair : Pair) × (slice_get pairs place 
 pub given_place : (l : Look) (states : List State) (x : ℕ) (pairs : List Pair) (place : ℕ) (pair : Pair) (f : Option Found) → slice_get pairs place ≡ Some pair →
     IsLeast l (IsGivenAt states x pair) f → IsLeast l (IsGivenByPlace states x pairs place) f
 given_place l states x pairs place pair f at least =
-    least_as l (IsGivenAt states x pair) (IsGivenByPlace states x pairs place) (λ k w. (pair, at, w)) (λ k w. subst (λ (p : Pair). IsGivenAt states x p k) (some_same w.1 at) w.2) f least
+    least_as l (IsGivenAt states x pair) (IsGivenByPlace states x pairs place) (λ k w. (pair, at, w)) (λ k w. subst (λ (p : Pair). IsGivenAt states x p k) (same_some w.1 at) w.2) f least
 
 -- All keys of links
 

@@ -11,8 +11,8 @@ use Rattle.mesh_atoms.specs.Codes.Codes.{metric_value}
 use Rattle.mesh_atoms.specs.Words.{IsValue}
 use Rattle.mesh_atoms.specs.Radio.{Joins, IsMetric, IsRadioGraph}
 use Rattle.mesh_settled.specs.Gaps.Metrics.{less, cheaper, IsLeading, IsCheapest}
-use Rattle.mesh_paths.proofs.SettledDecisions.{Contains_at}
-use Rattle.mesh_settled.proofs.GapsLemmas.Apart.{some_same, place_in}
+use Rattle.mesh_atoms.proofs.Lists.{contains_at, place_of as place_in}
+use Rattle.mesh_atoms.proofs.Options.{same_some}
 
 module _ (pairs : List Pair) (y z n : ℕ) (e : Pair) (at : slice_get pairs n ≡ Some e) where
   leads_more : (f : Pair) → IsLeading pairs y z n f → IsLeading pairs y z (n + 1) f
@@ -20,7 +20,7 @@ module _ (pairs : List Pair) (y z n : ℕ) (e : Pair) (at : slice_get pairs n �
 
   leads_less : (f : Pair) → IsLeading pairs y z (n + 1) f → IsLeading pairs y z n f ⊎ (e ≡ f)
   leads_less f w = elim (cases_eq w.0 n) [
-    | inl same ↦ inr (some_same at (subst (λ (k : ℕ). slice_get pairs k ≡ Some f) same w.2))
+    | inl same ↦ inr (same_some at (subst (λ (k : ℕ). slice_get pairs k ≡ Some f) same w.2))
     | inr other ↦ inl (w.0, omega (arith, w.1), w.2, w.3, w.4)
   ]
 
@@ -94,7 +94,7 @@ module _ (s : Scenario) (g : RadioGraph) (is : IsRadioGraph s g) (y z : ℕ) whe
   metric_is (Some m) some =
       let e = some.0.0 in
       let w = some.0.1 in
-      let h = (is.pairs e).0 (Contains_at g.pairs w.0 e w.2) in record {
+      let h = (is.pairs e).0 (contains_at g.pairs w.0 e w.2) in record {
         some = (e.from_iface, e.to_iface, h.0, rw (← w.3, ← w.4, ← some.0.2) h.1);
         least = λ i j there back joins. let o = of_joins i j there back joins in subst (λ (k : Metric). metric_value m ≤ metric_value k) o.2 (some.1 o.0 o.1);
       }

@@ -30,12 +30,14 @@ use Rattle.mesh_settled.specs.Gaps.Joints.{all_addresses}
 use Rattle.mesh_settled.specs.Gaps.Network.{IsNetwork}
 use Rattle.mesh_settled.specs.Gaps.Metrics.{less}
 use Rattle.mesh_settled.specs.Gaps.Neighbours.{held_fields, symmetric_fields, given_tuple, given_fields, IsNear, IsGivenNear, IsGivenAt, IsHeldAt, IsHeld, IsOriginatorOf, IsOriginatorBelow, IsNeighbourKey}
-use Rattle.mesh_settled.proofs.GapsLemmas.Apart.{some_same, place_in}
-use Rattle.mesh_settled.proofs.GapsLemmas.GapLaw.{all_are, one_originator, neighbours_alike}
+use Rattle.mesh_settled.proofs.GapsLemmas.GapLaw.{all_are, neighbours_alike}
 use Rattle.mesh_settled.proofs.GapsLemmas.JointLemmas.{same_state}
 use Rattle.mesh_settled.proofs.GapsLemmas.Leasts.{least_as, least_all, least_lesser}
-use Rattle.mesh_settled.proofs.GapsLemmas.PeerLemmas.{addr_is, within}
+use Rattle.mesh_settled.proofs.GapsLemmas.PeerLemmas.{within}
 use Rattle.mesh_settled.proofs.GapsLemmas.Sides.{all_self, tested}
+use Rattle.mesh_atoms.proofs.Options.{same_some}
+use Rattle.mesh_atoms.proofs.Lists.{place_of as place_in}
+use Rattle.mesh_atoms.proofs.Values.{one_originator, same_addr as addr_is}
 
 -- The least address that a list hasn't
 
@@ -96,7 +98,7 @@ face_end r list n best end p =
 
 module _ (p : State) (o : Addr4) (distinct : HasDistinctKeys addr_eq p.bases.neighbourhood.neighbours) where
   is_it : (e : Neighbour × ℕ) → neighbour_at p.bases.neighbourhood o ≡ Some e → (fs : List Field) (w : IsHeldNeighbour p o fs) → w.0 ≡ e.0
-  is_it e is fs w = let f = (looks_up_neighbours p o w.0 distinct).0 w.1.0 in ap (λ (x : Neighbour × ℕ). x.0) (some_same f.1 is)
+  is_it e is fs w = let f = (looks_up_neighbours p o w.0 distinct).0 w.1.0 in ap (λ (x : Neighbour × ℕ). x.0) (same_some f.1 is)
 
   by_flag : (e : Neighbour × ℕ) → neighbour_at p.bases.neighbourhood o ≡ Some e → (b : Bool) → e.0.symmetric ≡ b → IsSide (IsHeldNeighbour p o) (cond b (Some (neighbour_fields e.0)) None)
   by_flag e is true symmetric = (
@@ -221,7 +223,7 @@ neighbour_tested l o held given d h g h_is g_is held_is given_is test =
 pub key_place : (l : Look) (p : State) (place : ℕ) (o : Addr4) (e : Neighbour × ℕ) (f : Option Found) → slice_get p.bases.neighbourhood.neighbours place ≡ Some (o, e) → IsLeast l (λ k. k ≡ Of_neighbour o) f →
     IsLeast l (IsHeldAt p place) f
 key_place l p place o e f at least =
-    least_as l (λ k. k ≡ Of_neighbour o) (IsHeldAt p place) (λ k same. (o, e, at, same)) (λ k w. w.3 ∙ ap (λ (x : Addr4 × (Neighbour × ℕ)). Of_neighbour x.0) (some_same w.2 at)) f least
+    least_as l (λ k. k ≡ Of_neighbour o) (IsHeldAt p place) (λ k same. (o, e, at, same)) (λ k w. w.3 ∙ ap (λ (x : Addr4 × (Neighbour × ℕ)). Of_neighbour x.0) (same_some w.2 at)) f least
 
 module _ (l : Look) (states : List State) (y : ℕ) (q : State) (at : At states y q) (settings : RouterSettings) (same : settings ≡ q.settings) where
   pub key_of : (o : Addr4) → IsOriginator settings o → (f : Option Found) → IsLeast l (λ k. k ≡ Of_neighbour o) f → IsLeast l (IsOriginatorOf states y) f

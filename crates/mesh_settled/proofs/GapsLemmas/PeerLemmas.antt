@@ -17,11 +17,9 @@ use Rattle.mesh_paths.proofs.Scenarios.{sound_scenario}
 use Rattle.mesh_paths.proofs.SettledNeighbours.{originator_address}
 use Rattle.mesh_settled.specs.Gaps.Network.{IsNetwork}
 use Rattle.mesh_settled.specs.Gaps.Peers.{IsSender, IsStrayAt}
-use Rattle.mesh_settled.proofs.GapsLemmas.Apart.{some_same}
 use Rattle.mesh_settled.proofs.GapsLemmas.JointLemmas.{same_state, denied}
-
-pub addr_is : (a b : Addr4) → a.0 ≡ b.0 → a ≡ b
-addr_is a b e = ap (λ (n : ℕ). let r : Addr4 = record { 0 = n } in r) e
+use Rattle.mesh_atoms.proofs.Values.{same_addr as addr_is}
+use Rattle.mesh_atoms.proofs.Options.{same_some}
 
 module _ (s : Scenario) (graph : RadioGraph) (states : List State) (now x : ℕ) (net : IsNetwork s graph states now) where
   pub not_sender : (from : Addr4) (w : ℕ) (b : Bool) → IsTrue b ↔ ((w ≢ x) × Joined s x w) → b ≡ false → IsTrue false ↔ IsSender s states x from w
@@ -35,8 +33,8 @@ module _ (s : Scenario) (graph : RadioGraph) (states : List State) (now x : ℕ)
         λ e. (q, record { other = j.0; joined = j.1; at = at }, subst (IsOriginator q.settings) (addr_is own from (eqb-true own.0 from.0 e)) mine),
         λ h.
             let theirs : IsOriginator q.settings from = subst (λ (r : State). IsOriginator r.settings from) (same_state h.1.at at) h.2 in
-            let face : slice_get theirs.0.addrs 0 ≡ Some own = subst (λ (f : Interface). slice_get f.addrs 0 ≡ Some own) (some_same mine.1 theirs.1) mine.2 in
-            eq-eqb own.0 from.0 (ap (λ (a : Addr4). a.0) (some_same face theirs.2)),
+            let face : slice_get theirs.0.addrs 0 ≡ Some own = subst (λ (f : Interface). slice_get f.addrs 0 ≡ Some own) (same_some mine.1 theirs.1) mine.2 in
+            eq-eqb own.0 from.0 (ap (λ (a : Addr4). a.0) (same_some face theirs.2)),
       )
 
   pub no_stray_at : (a : Addr4) (v : ℕ) (b : Bool) → IsTrue b ↔ ((v ≢ x) × Joined s x v) → b ≡ true → IsTrue false ↔ IsStrayAt s x a v
@@ -48,7 +46,7 @@ module _ (s : Scenario) (graph : RadioGraph) (states : List State) (now x : ℕ)
     λ e. (other, λ j. false≢true (sym no_join ∙ test.1 (other, j)), (q.settings, net.routers.settings v q at, subst (λ (r : RouterSettings). HasAddress r a) same (has.0 e))),
     λ w.
         let (r, is, mine) = w.2 in
-        has.1 (subst (λ (r' : RouterSettings). HasAddress r' a) (some_same is (net.routers.settings v q at) ∙ sym same) mine),
+        has.1 (subst (λ (r' : RouterSettings). HasAddress r' a) (same_some is (net.routers.settings v q at) ∙ sym same) mine),
   )
 
 pub one_not : (P : ℕ → Type 0) (i : ℕ) (b : Bool) → IsTrue b ↔ P i → b ≡ false → ((k : ℕ) → k < i → P k → ⊥) → (k : ℕ) → k < i + 1 → P k → ⊥

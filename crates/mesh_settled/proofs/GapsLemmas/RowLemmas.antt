@@ -1,7 +1,7 @@
 -- The rows of a router's TC, and what they say.
 use Rattle.std.proofs.Common.{◌≡◌, ℕ, ◌<◌, inl, inr, arith, refl, sym, ◌∙◌, ap, subst, length, List, Option, Some, None, Bool, true, false, cond, slice_get, get_or, nat_eq}
 use Rattle.std.specs.Prelude.{◌↔◌, IsTrue, ◌&&◌, not, Contains, option_map, AllPairs}
-use Rattle.std.proofs.lemmas.Bool.{false≢true, eq-eqb, cases_eq, cases_lt}
+use Rattle.std.proofs.lemmas.Bool.{false≢true, eq-eqb, cases_eq, cases_lt, and_parts as both}
 use Rattle.std.proofs.lemmas.Option.{none-some, get_or_from_slice_get}
 use Rattle.mesh_atoms.specs.declared.addr.Addr4.{Addr4}
 use Rattle.mesh_atoms.specs.declared.addr.NetAddr.{NetAddr}
@@ -14,17 +14,17 @@ use Rattle.mesh_atoms.specs.Words.{IsValue}
 use Rattle.mesh_atoms.specs.Nodes.{IsBefore}
 use Rattle.mesh_atoms.specs.Sound.{Sound}
 use Rattle.mesh_atoms.specs.State.{State, IsOriginator, neighbour_at}
-use Rattle.mesh_atoms.proofs.Kept.{both}
-use Rattle.mesh_atoms.proofs.Lookups.{looks_up_neighbours}
-use Rattle.mesh_atoms.proofs.Nets.{net_exact}
+use Rattle.mesh_atoms.proofs.Lookups.{looks_up_neighbours, same_net}
 use Rattle.mesh_settled.specs.declared.gaps.topics.Claim.{Claim}
 use Rattle.mesh_settled.specs.declared.gaps.topics.Topic.{Topic}
 use Rattle.mesh_settled.specs.declared.gaps.topics.Topic.TheVariants.{Routers, Addresses, Networks}
 use Rattle.mesh_settled.specs.Gaps.Joints.{IsOfSome}
 use Rattle.mesh_settled.specs.Gaps.Peers.{IsValueOf}
 use Rattle.mesh_settled.specs.Gaps.Topics.{dest_of, is_row_of, claim_by, claim_if, key_at, IsClaimBy}
-use Rattle.mesh_settled.proofs.GapsLemmas.Apart.{some_same, place_in}
-use Rattle.mesh_settled.proofs.GapsLemmas.JointLemmas.{never}
+use Rattle.mesh_atoms.proofs.Values.{not_before_itself}
+use Rattle.mesh_atoms.proofs.Options.{same_some}
+use Rattle.mesh_atoms.proofs.Lists.{place_of as place_in}
+use Rattle.mesh_paths.proofs.Rows.{no as never}
 
 -- Whether a row is_row_of
 
@@ -40,9 +40,9 @@ fits_flag true net e = net_self net
 fits_flag false net e = e
 
 pub dest_is : (topic : Topic) (net : NetAddr) (row : TcRow) → is_row_of topic net row ≡ true → row.dest ≡ dest_of topic net
-dest_is Routers net row e = net_exact row.dest (host net.addr) (both row.origin _ e).1
-dest_is Addresses net row e = net_exact row.dest (host net.addr) (both row.routable _ e).1
-dest_is Networks net row e = net_exact row.dest net (both (not row.routable) _ e).1
+dest_is Routers net row e = same_net row.dest (host net.addr) (both row.origin _ e).1
+dest_is Addresses net row e = same_net row.dest (host net.addr) (both row.routable _ e).1
+dest_is Networks net row e = same_net row.dest net (both (not row.routable) _ e).1
 
 pub same_key : (topic : Topic) (from : Addr4) (net dest : NetAddr) → dest ≡ dest_of topic net → key_at topic from net ≡ key_at topic from dest
 same_key Routers from net dest e = ap (λ (n : NetAddr). key_at Routers from n) (sym e)
@@ -58,7 +58,7 @@ says : (ansn : ℕ) (row : TcRow) (m : Metric) (d : Option ℕ) → row.metric �
 says ansn row m d has gateway = ap (λ (o : Option Metric). option_map (λ n. claim ansn n row.gateway) o) has ∙ ap (λ (g : Option ℕ). Some (claim ansn m g)) gateway
 
 claim_is : (ansn : ℕ) (row : TcRow) (t : Claim) (m : Metric) (d : Option ℕ) → claim_by ansn row ≡ Some t → row.metric ≡ Some m → row.gateway ≡ d → t ≡ claim ansn m d
-claim_is ansn row t m d e has gateway = some_same e (says ansn row m d has gateway)
+claim_is ansn row t m d e has gateway = same_some e (says ansn row m d has gateway)
 
 if_some : (b : Bool) (x : Option Claim) (t : Claim) → cond b x None ≡ Some t → (b ≡ true) × (x ≡ Some t)
 if_some true x t e = (refl, e)
@@ -74,12 +74,6 @@ value_self (Some b) w e = sym e
 
 -- Rows in order
 
-not_before : (a b : NetAddr) → a ≡ b → IsBefore a b → ⊥
-not_before a b e before =
-    let addr = ap (λ (n : NetAddr). n.addr.0) e in
-    let prefix = ap (λ (n : NetAddr). n.prefix) e in
-    elim before [ inl less ↦ omega (arith, addr, less) | inr same ↦ let less = same.1 in omega (arith, prefix, less) ]
-
 before_at : (rows : List TcRow) (k l : ℕ) (row other : TcRow) → AllPairs (λ r t. IsBefore r.dest t.dest) rows → slice_get rows k ≡ Some row → slice_get rows l ≡ Some other → k < l → l < length rows → IsBefore row.dest other.dest
 before_at rows k l row other ordered at at' less within =
     subst (λ (r : TcRow). IsBefore r.dest other.dest) (get_or_from_slice_get rows k row row at)
@@ -90,10 +84,10 @@ one_row rows row other ordered has has' same =
     let (k, k_in, at) = place_in rows row has in
     let (l, l_in, at') = place_in rows other has' in
     elim (cases_eq k l) [
-      | inl is ↦ some_same at (subst (λ (n : ℕ). slice_get rows n ≡ Some other) (sym is) at')
+      | inl is ↦ same_some at (subst (λ (n : ℕ). slice_get rows n ≡ Some other) (sym is) at')
       | inr apart ↦ elim (cases_lt k l) [
-        | inl less ↦ absurd (not_before row.dest other.dest same (before_at rows k l row other ordered at at' less l_in))
-        | inr more ↦ absurd (not_before other.dest row.dest (sym same) (before_at rows l k other row ordered at' at (omega (arith, apart, more)) k_in))
+        | inl less ↦ absurd (not_before_itself row.dest other.dest same (before_at rows k l row other ordered at at' less l_in))
+        | inr more ↦ absurd (not_before_itself other.dest row.dest (sym same) (before_at rows l k other row ordered at' at (omega (arith, apart, more)) k_in))
       ]
     ]
 
@@ -106,7 +100,7 @@ module _ (q : State) (sound : Sound q) where
       found w = (looks_up_neighbours q a w.1.neighbour sound.neighbourhood.distinct_neighbours).0 w.1.symmetric.0
 
       is_it : (e : Neighbour × ℕ) → neighbour_at q.bases.neighbourhood a ≡ Some e → (w : AdvertisesOriginator q a) → w.1.neighbour ≡ e.0
-      is_it e is w = ap (λ (x : Neighbour × ℕ). x.0) (some_same (found w).1 is)
+      is_it e is w = ap (λ (x : Neighbour × ℕ). x.0) (same_some (found w).1 is)
 
       by_all : (e : Neighbour × ℕ) → neighbour_at q.bases.neighbourhood a ≡ Some e → (s r : Bool) (m : Option Metric) → e.0.symmetric ≡ s → e.0.selector ≡ r → e.0.metric_out ≡ m →
           (b : Bool) × (IsTrue b ↔ AdvertisesOriginator q a)
@@ -190,5 +184,5 @@ module _ (q : State) (sound : Sound q) where
         λ u w.
             let r = of_row from topic net u w in
             let same : r.0 ≡ row = one_row q.rows r.0 row sound.rows.ordered r.1.0 has (dest_is topic net r.0 r.1.1 ∙ sym (dest_is topic net row fit)) in
-            some_same (subst (λ (x : TcRow). claim_by q.ansn x ≡ Some u) same r.1.2) says_it,
+            same_some (subst (λ (x : TcRow). claim_by q.ansn x ≡ Some u) same r.1.2) says_it,
       )

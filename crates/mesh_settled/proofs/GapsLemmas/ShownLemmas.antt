@@ -13,7 +13,7 @@ use Rattle.mesh_atoms.specs.Hello.{Says, Flooding, Routing}
 use Rattle.mesh_atoms.specs.State.{State, is_symmetric, HasSymmetricWith}
 use Rattle.mesh_atoms.proofs.Deciding.{Decides-some, Decides-addr, Decides-and}
 use Rattle.mesh_atoms.proofs.Lookups.{tests_symmetric}
-use Rattle.mesh_settled.proofs.GapsLemmas.Apart.{some_same}
+use Rattle.mesh_atoms.proofs.Options.{same_some}
 
 -- the property is decided
 abbrev pub Decided : Type 0 → Type 0
@@ -70,8 +70,8 @@ module _ (q : State) (j now : ℕ) (a : Addr4) where
       (e.1.0, (e.0, (base, at, (e.1.1, there)), of_it, (tests_symmetric e.1.0 now).0 symmetric), o, n, b, its, with, relays, has, relay))
       (λ w.
       let (link, (key, (base', at', there), of_it, symmetric), o, n, b, its, with, relays', has', relay) = w in
-      let base_is : base' ≡ base = some_same at' at in
-      let relays_are : relays' ≡ relays = some_same has' has in
+      let base_is : base' ≡ base = same_some at' at in
+      let relays_are : relays' ≡ relays = same_some has' has in
       ((key, (link, there.0)), subst (λ (x : Base LinkKey Link). Contains x (key, (link, there.0))) base_is there.1, (of_it, ((tests_symmetric link now).1 symmetric, (b, its, (o, n, with, subst (λ (x : List Addr4). Contains x o) relays_are relay))))))
       (some_decided (ByLink q relays now a) (link_decided q relays now a) base)
 

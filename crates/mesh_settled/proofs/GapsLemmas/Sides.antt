@@ -8,7 +8,7 @@ use Rattle.mesh_settled.specs.Gaps.Gaps.{Look, IsHeldTuple, IsPresentTuple, IsEx
 use Rattle.mesh_settled.specs.Gaps.Found.{IsTest, IsTestFrom, IsSide, compared}
 use Rattle.mesh_atoms.specs.declared.gap.GapValue.{GapValue}
 use Rattle.std.proofs.lemmas.Option.{none-some}
-use Rattle.mesh_settled.proofs.GapsLemmas.Apart.{some_same}
+use Rattle.mesh_atoms.proofs.Options.{same_some}
 
 -- Fields that say the same
 
@@ -112,5 +112,5 @@ pub gaps_differ : (l : Look) (key : GapKey) (held present : Option GapValue) →
 gaps_differ l key held present (Held_alone fs h e none is none_is) same = none-some (at_field 0 None) (sym none_is ∙ (sym same ∙ is))
 gaps_differ l key held present (Present_alone gs g none none_is is) same = none-some (at_field 0 None) (sym none_is ∙ (same ∙ is))
 gaps_differ l key held present (Unequal fs gs field m n h g differ held_is present_is) same =
-    let values : at_field field m ≡ at_field field n = some_same held_is (same ∙ present_is) in
+    let values : at_field field m ≡ at_field field n = same_some held_is (same ∙ present_is) in
     unequal_from 0 fs gs field m n differ (ap (λ (x : GapValue). x.number) values)

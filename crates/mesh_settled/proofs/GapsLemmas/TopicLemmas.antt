@@ -29,13 +29,14 @@ use Rattle.mesh_settled.specs.Gaps.Gaps.{Look, look, IsHeldTuple, IsPresentTuple
 use Rattle.mesh_settled.specs.Gaps.Network.{IsNetwork}
 use Rattle.mesh_settled.specs.Gaps.Peers.{IsSender, IsValueOf}
 use Rattle.mesh_settled.specs.Gaps.Topics.{of_router, of_address, of_network, claim_fields, router_key, address_key, network_key, key_at, held_key, IsHeldClaim, IsClaimBy, IsPresentClaim, IsHeldAt, IsHeld, IsToRow, IsToRows, IsByRows, IsByAllRows, IsTopicKey}
-use Rattle.mesh_settled.proofs.GapsLemmas.Apart.{some_same, place_in}
-use Rattle.mesh_settled.proofs.GapsLemmas.GapLaw.{one_originator}
 use Rattle.mesh_settled.proofs.GapsLemmas.JointLemmas.{same_state}
 use Rattle.mesh_settled.proofs.GapsLemmas.Leasts.{least_as, least_all, least_lesser}
 use Rattle.mesh_settled.proofs.GapsLemmas.PeerLemmas.{within}
 use Rattle.mesh_settled.proofs.GapsLemmas.RowLemmas.{dest_is, same_key, of_row}
 use Rattle.mesh_settled.proofs.GapsLemmas.Sides.{all_self, tested}
+use Rattle.mesh_atoms.proofs.Options.{same_some}
+use Rattle.mesh_atoms.proofs.Lists.{place_of as place_in}
+use Rattle.mesh_atoms.proofs.Values.{one_originator}
 
 -- What is held
 
@@ -49,7 +50,7 @@ module _ {K V : Type 0} (eq : K → K → Bool) (equiv : IsEquivalence eq) (exac
     (e.0, (has_found equiv exact base key e.0 distinct).1 (e.1, is), refl),
     λ gs w.
         let f = (has_found equiv exact base key w.0 distinct).0 w.1 in
-        let same : w.0 ≡ e.0 = ap (λ (x : V × ℕ). x.0) (some_same f.1 is) in
+        let same : w.0 ≡ e.0 = ap (λ (x : V × ℕ). x.0) (same_some f.1 is) in
         subst (λ (hs : List Field). AllSame hs (claim_fields (claim e.0))) (sym (w.2 ∙ ap (λ (t : V). claim_fields (claim t)) same)) (all_self (claim_fields (claim e.0))),
   )
 
@@ -166,13 +167,13 @@ stray_same s graph states now x net p topic from dest stray =
 pub key_place : (l : Look) (p : State) (topic : Topic) (place : ℕ) (from : Addr4) (net : NetAddr) (f : Option Found) → held_key p topic place ≡ Some (key_at topic from net) →
     IsLeast l (λ k. k ≡ key_at topic from net) f → IsLeast l (IsHeldAt p topic place) f
 key_place l p topic place from net f at least =
-    least_as l (λ k. k ≡ key_at topic from net) (IsHeldAt p topic place) (λ k is. at ∙ ap (λ (x : GapKey). Some x) (sym is)) (λ k w. some_same w at) f least
+    least_as l (λ k. k ≡ key_at topic from net) (IsHeldAt p topic place) (λ k is. at ∙ ap (λ (x : GapKey). Some x) (sym is)) (λ k w. same_some w at) f least
 
 pub row_place : (l : Look) (topic : Topic) (from : Addr4) (rows : List TcRow) (n : ℕ) (row : TcRow) (f : Option Found) → slice_get rows n ≡ Some row → IsLeast l (λ k. k ≡ key_at topic from row.dest) f →
     IsLeast l (IsToRow topic from rows n) f
 row_place l topic from rows n row f at least =
     least_as l (λ k. k ≡ key_at topic from row.dest) (IsToRow topic from rows n) (λ k is. (row, at, is))
-    (λ k w. w.2 ∙ ap (λ (x : TcRow). key_at topic from x.dest) (some_same w.1 at)) f least
+    (λ k w. w.2 ∙ ap (λ (x : TcRow). key_at topic from x.dest) (same_some w.1 at)) f least
 
 module _ (l : Look) (states : List State) (topic : Topic) (w : ℕ) (q : State) (at : At states w q) (settings : RouterSettings) (same : settings ≡ q.settings) where
   pub by_rows : (from : Addr4) → IsOriginator settings from → (f : Option Found) → IsLeast l (IsToRows topic from q.rows) f → IsLeast l (IsByRows states topic w) f
@@ -202,7 +203,7 @@ holds_claim l Networks from net fs w = w
 -- each key that is held is of that kind
 some_kind : {E : Type 0} (topic : Topic) (key : E → GapKey) → ((e : E) → IsTopicKey topic (key e)) → (k : GapKey) (o : Option E) → option_map key o ≡ Some k → IsTopicKey topic k
 some_kind topic key kind k None is = absurd (none-some k is)
-some_kind topic key kind k (Some e) is = subst (IsTopicKey topic) (some_same refl is) (kind e)
+some_kind topic key kind k (Some e) is = subst (IsTopicKey topic) (same_some refl is) (kind e)
 
 held_kind : (p : State) (topic : Topic) (k : GapKey) → IsHeld p topic k → IsTopicKey topic k
 held_kind p Routers k w = some_kind Routers (λ e. router_key e.0) (λ e. (e.0.from, host e.0.to, refl)) k (slice_get p.bases.topology.routers w.0) w.2

@@ -33,11 +33,12 @@ use Rattle.mesh_settled.specs.Gaps.Network.{IsNetwork}
 use Rattle.mesh_settled.specs.Gaps.Links.{IsLinkKey}
 use Rattle.mesh_machine.specs.Said.{IsSaidOf}
 use Rattle.mesh_settled.specs.Gaps.TwoHops.{if_far, key_by, IsEnd, IsTwoHopAt, IsHeldBy, IsKeyIn, IsGivenIn, IsKeyNear, IsGivenBy, IsKeyBy, IsKeyOf, IsKeyOfAt, IsKeyOfSome, IsTwoHopKey}
-use Rattle.mesh_settled.proofs.GapsLemmas.Apart.{some_same, place_in}
 use Rattle.mesh_settled.proofs.GapsLemmas.JointLemmas.{same_state}
 use Rattle.mesh_settled.proofs.GapsLemmas.Leasts.{least_as, least_all, least_lesser}
 use Rattle.mesh_settled.proofs.GapsLemmas.LinkLemmas.{one_end}
 use Rattle.mesh_settled.proofs.GapsLemmas.Sides.{all_self, tested}
+use Rattle.mesh_atoms.proofs.Options.{same_some}
+use Rattle.mesh_atoms.proofs.Lists.{place_of as place_in}
 
 module _ (p : State) (i : ℕ) (key : TwoHopKey) (distinct : HasDistinctKeys two_hop_eq (base_of p.bases.neighbourhood.two_hops i)) where
   abbrev stands : Option (TwoHop × ℕ)
@@ -49,7 +50,7 @@ module _ (p : State) (i : ℕ) (key : TwoHopKey) (distinct : HasDistinctKeys two
     (e.0, (looks_up_two_hops p i key e.0 distinct).1 (e.1, is), refl),
     λ gs w.
         let f = (looks_up_two_hops p i key w.0 distinct).0 w.1 in
-        let same : w.0 ≡ e.0 = ap (λ (x : TwoHop × ℕ). x.0) (some_same f.1 is) in
+        let same : w.0 ≡ e.0 = ap (λ (x : TwoHop × ℕ). x.0) (same_some f.1 is) in
         subst (λ (hs : List Field). AllSame hs (two_hop_fields e.0)) (sym (w.2 ∙ ap two_hop_fields same)) (all_self (two_hop_fields e.0)),
   )
 
@@ -118,13 +119,13 @@ two_hop_tested l i key held given d h g h_is g_is held_is given_is test =
 
 pub one_in : (l : Look) (i : ℕ) (link : Addr4) (addrs : List Addr4) (n : ℕ) (a : Addr4) (f : Option Found) → slice_get addrs n ≡ Some a → IsLeast l (λ k. k ≡ key_by i link a) f → IsLeast l (IsKeyIn i link addrs n) f
 one_in l i link addrs n a f at least =
-    least_as l (λ k. k ≡ key_by i link a) (IsKeyIn i link addrs n) (λ k same. (a, at, same)) (λ k w. w.2 ∙ ap (λ (b : Addr4). key_by i link b) (some_same w.1 at)) f least
+    least_as l (λ k. k ≡ key_by i link a) (IsKeyIn i link addrs n) (λ k same. (a, at, same)) (λ k w. w.2 ∙ ap (λ (b : Addr4). key_by i link b) (same_some w.1 at)) f least
 
 pub near_at : (l : Look) (i : ℕ) (link : Addr4) (q : State) (place : ℕ) (o : Addr4) (e : Neighbour × ℕ) (f : Option Found) → slice_get q.bases.neighbourhood.neighbours place ≡ Some (o, e) →
     IsLeast l (IsGivenIn i link e.0.addrs) f → IsLeast l (IsKeyNear i link q place) f
 near_at l i link q place o e f at least =
     least_as l (IsGivenIn i link e.0.addrs) (IsKeyNear i link q place) (λ k w. (o, e, at, w))
-    (λ k w. subst (λ (x : Addr4 × (Neighbour × ℕ)). IsGivenIn i link x.1.0.addrs k) (some_same w.2 at) w.3) f least
+    (λ k w. subst (λ (x : Addr4 × (Neighbour × ℕ)). IsGivenIn i link x.1.0.addrs k) (same_some w.2 at) w.3) f least
 
 pub held_here : (l : Look) (p : State) (i : ℕ) (link : Addr4) (place : ℕ) (key : TwoHopKey) (e : TwoHop × ℕ) (f : Option Found) →
     slice_get (base_of p.bases.neighbourhood.two_hops i) place ≡ Some (key, e) → key.link.addr.0 ≡ link.0 → IsLeast l (λ k. k ≡ key_by i link key.addr) f → IsLeast l (IsTwoHopAt p i link place) f
@@ -133,11 +134,11 @@ held_here l p i link place key e f at same least =
     let key_is : key ≡ record { link = record { addr = link }; addr = key.addr } = ap (λ (b : Addr4). let r : TwoHopKey = record { link = record { addr = b }; addr = key.addr } in r) link_is in
     least_as l (λ k. k ≡ key_by i link key.addr) (IsTwoHopAt p i link place)
     (λ k is. (key.addr, e, at ∙ ap (λ (t : TwoHopKey). Some (t, e)) key_is, is))
-    (λ k w. w.3 ∙ ap (λ (x : TwoHopKey × (TwoHop × ℕ)). key_by i link x.0.addr) (some_same w.2 at)) f least
+    (λ k w. w.3 ∙ ap (λ (x : TwoHopKey × (TwoHop × ℕ)). key_by i link x.0.addr) (same_some w.2 at)) f least
 
 pub held_other : (l : Look) (p : State) (i : ℕ) (link : Addr4) (place : ℕ) (key : TwoHopKey) (e : TwoHop × ℕ) →
     slice_get (base_of p.bases.neighbourhood.two_hops i) place ≡ Some (key, e) → (key.link.addr.0 ≡ link.0 → ⊥) → IsLeast l (IsTwoHopAt p i link place) None
-held_other l p i link place key e at other = λ k w. absurd (other (ap (λ (x : TwoHopKey × (TwoHop × ℕ)). x.0.link.addr.0) (some_same at w.2)))
+held_other l p i link place key e at other = λ k w. absurd (other (ap (λ (x : TwoHopKey × (TwoHop × ℕ)). x.0.link.addr.0) (same_some at w.2)))
 
 module _ (s : Scenario) (graph : RadioGraph) (states : List State) (now x : ℕ) (p : State) (net : IsNetwork s graph states now) (i y j : ℕ) (q : State) (link : Addr4) (end : IsEnd s states x i y j q link) where
   abbrev seen : Look
@@ -187,7 +188,7 @@ module _ (s : Scenario) (graph : RadioGraph) (states : List State) (now x : ℕ)
 pub key_place : (l : Look) (states : List State) (x : ℕ) (pairs : List Pair) (place : ℕ) (pair : Pair) (f : Option Found) → slice_get pairs place ≡ Some pair →
     IsLeast l (IsKeyOf states x pair) f → IsLeast l (IsKeyOfAt states x pairs place) f
 key_place l states x pairs place pair f at least =
-    least_as l (IsKeyOf states x pair) (IsKeyOfAt states x pairs place) (λ k w. (pair, at, w)) (λ k w. subst (λ (p : Pair). IsKeyOf states x p k) (some_same w.1 at) w.2) f least
+    least_as l (IsKeyOf states x pair) (IsKeyOfAt states x pairs place) (λ k w. (pair, at, w)) (λ k w. subst (λ (p : Pair). IsKeyOf states x p k) (same_some w.1 at) w.2) f least
 
 pub end_by : (s : Scenario) (graph : RadioGraph) (states : List State) (now x : ℕ) → IsNetwork s graph states now → (pair : Pair) → Contains graph.pairs pair → pair.from ≡ x →
     (q : State) → At states pair.to q → (link : Addr4) → IsLeastAddress q.settings pair.to_iface link → IsEnd s states x pair.from_iface pair.to pair.to_iface q link

@@ -1,15 +1,8 @@
 -- Pieces that were put one behind the other.
-use Rattle.std.proofs.Common.{◌≡◌, List, ℕ, [], ◌∷◌, ◌++◌, map, Result, Ok, Err, refl, ap, ◌∙◌, append_assoc, codes}
-use Rattle.std.specs.Prelude.{OnOk}
+use Rattle.std.proofs.Common.{◌≡◌, List, ℕ, [], ◌∷◌, ◌++◌, map, refl, ap, ◌∙◌, append_assoc, codes}
 use Rattle.std.specs.List.{flat_map}
 use Rattle.mesh_texts.specs.Lines.Marks.{line_of}
-
-pub on_ok : {A E P Q : Type 0} (r : Result A E) → (P → Q) → OnOk r P → OnOk r Q
-on_ok (Ok x) f p = f p
-on_ok (Err e) f p = tt
-
-pub two : {new' new'' : List ℕ} (old a b : List ℕ) → new' ≡ old ++ a → new'' ≡ new' ++ b → new'' ≡ old ++ (a ++ b)
-two old a b h k = k ∙ ap (λ (l : List ℕ). l ++ b) h ∙ append_assoc old a b
+use Rattle.mesh_atoms.proofs.Lists.{two_appended as two}
 
 pub three : {new' new'' new''' : List ℕ} (old a b c : List ℕ) → new' ≡ old ++ a → new'' ≡ new' ++ b → new''' ≡ new'' ++ c →
     new''' ≡ old ++ (a ++ b ++ c)

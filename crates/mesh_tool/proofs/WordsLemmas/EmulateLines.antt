@@ -15,6 +15,7 @@ use Rattle.mesh_tool.specs.Words.Words.{is_word, is_without, make_option, no_mak
 use Rattle.mesh_tool.specs.Words.CommandLines.{InAnyOrder, OptionWords, PlacedOption, at_place, placed, IsTrace, IsSend, IsProbe}
 use Rattle.mesh_tool.proofs.WordsLemmas.Orders.{later, last, none_left, taken_out, IsFew, first_or_later}
 use Rattle.mesh_tool.proofs.WordsLemmas.Reading.{or_at_ok, if_some, stands, same_job}
+use Rattle.mesh_atoms.proofs.Lists.{append_none as nothing}
 
 abbrev pub options_of : Bool → Option (ℕ × Addr4) → Option ℕ → EmulateOptions
 options_of trace send probe = record { trace = trace; send = send; probe = probe }
@@ -93,10 +94,6 @@ more_done : {A : Type 0} (Is : Option A → List PlacedOption → Type 0) → ((
     → More Is stood now xs → xs ≡ [] → now ≡ stood
 more_done Is done (Some w) now xs more none = more.0
 more_done Is done None now xs more none = done now xs more none
-
-nothing : {A : Type 0} (xs ys : List A) → xs ++ ys ≡ [] → (xs ≡ []) × (ys ≡ [])
-nothing [] ys e = (refl, e)
-nothing (x ∷ xs) ys e = let bad : ⊥ = cc in absurd bad
 
 not_none : {A : Type 0} (front : List A) (y : A) (back : List A) → [] ≡ front ++ y ∷ back → ⊥
 not_none [] y back e = cc

@@ -1,12 +1,9 @@
 -- Lists in any order.
 use Rattle.std.proofs.Common.{◌≡◌, ◌⊎◌, inl, inr, List, [], ◌∷◌, ◌++◌, refl, sym, ap, subst, ◌∙◌, append_assoc}
 use Rattle.mesh_tool.specs.Words.CommandLines.{InAnyOrder}
+use Rattle.mesh_atoms.proofs.Lists.{append_none as no_parts}
 
 -- ---- the orders of three
-
-no_parts : {A : Type 0} (front back : List A) → front ++ back ≡ [] → (front ≡ []) × (back ≡ [])
-no_parts [] back e = (refl, e)
-no_parts (x ∷ front) back e = let bad : ⊥ = cc in absurd bad
 
 one_part : {A : Type 0} (front back : List A) (p : A) → front ++ back ≡ p ∷ [] → ((front ≡ []) × (back ≡ p ∷ [])) ⊎ ((front ≡ p ∷ []) × (back ≡ []))
 one_part [] back p e = inl (refl, e)

@@ -8,7 +8,7 @@ use Rattle.mesh_tool.specs.declared.words.job.Job.TheVariants as job
 use Rattle.mesh_tool.specs.Words.Words.{number_from, words_of}
 use Rattle.mesh_tool.specs.Words.CommandLines.{AskFor, IsInRange}
 use Rattle.mesh_tool.proofs.WordsLemmas.CommandLines.{read_is_asked}
-use Rattle.mesh_tool.proofs.WordsLemmas.Reading.{if_found}
+use Rattle.mesh_atoms.proofs.Options.{cond_none_some as if_found}
 
 both_within : (a : Bool) (n most : ℕ) → (a && nat_le n most) ≡ true → n ≤ most
 both_within true n most h = leb-true n most h

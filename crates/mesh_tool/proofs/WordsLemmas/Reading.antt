@@ -5,6 +5,7 @@ use Rattle.mesh_atoms.specs.Literals.{only_if}
 use Rattle.mesh_tool.specs.declared.words.job.Job.{Job}
 use Rattle.mesh_tool.specs.declared.words.asked.Asked.{Asked}
 use Rattle.mesh_tool.specs.Words.Words.{is_word, or_at}
+use Rattle.std.proofs.lemmas.Bool.{and_parts}
 
 pub or_at_ok : {A B : Type 0} (place : ℕ) (o : Option A) (f : A → Result B ℕ) (b : B) → or_at place o f ≡ Ok b → (next : A) × (o ≡ Some next) × (f next ≡ Ok b)
 or_at_ok place (Some x) f b h = (x, refl, h)
@@ -14,17 +15,9 @@ pub if_some : {A : Type 0} (b : Bool) (x : A) (rest : Option A) (y : A) → cond
 if_some true x rest y h = let e : x ≡ y = cc in inl (refl, sym e)
 if_some false x rest y h = inr (refl, h)
 
-pub if_found : {A : Type 0} (b : Bool) (x : Option A) (y : A) → cond b x None ≡ Some y → (b ≡ true) × (x ≡ Some y)
-if_found true x y h = (refl, h)
-if_found false x y h = let bad : ⊥ = cc in absurd bad
-
-pub both_true : (a b : Bool) → (a && b) ≡ true → (a ≡ true) × (b ≡ true)
-both_true true b h = (refl, h)
-both_true false b h = let bad : ⊥ = cc in absurd bad
-
 -- a word that may stand where a test holds
 pub stands : (word name : List ℕ) (free : Bool) → (is_word word name && free) ≡ true → (word ≡ name) × (free ≡ true)
-stands word name free h = let both = both_true (is_word word name) free h in ((bytes_decides word name).0 both.0, both.1)
+stands word name free h = let both = and_parts (is_word word name) free h in ((bytes_decides word name).0 both.0, both.1)
 
 pub only_stands : (word name : List ℕ) (free : Bool) (next found : Asked) → only_if (is_word word name && free) next ≡ Some found → (word ≡ name) × (free ≡ true) × (found ≡ next)
 only_stands word name free next found h = elim (if_some (is_word word name && free) next None found h) [

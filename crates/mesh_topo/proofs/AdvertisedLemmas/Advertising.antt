@@ -6,7 +6,7 @@ use Rattle.std.specs.Coded.{le_prop}
 use Rattle.std.specs.Ordering.{is_eq}
 use Rattle.std.specs.BTreeMap.{BTreeMap, get, IsOrdered}
 use Rattle.std.proofs.Math.Bool.{or-true}
-use Rattle.std.proofs.lemmas.Bool.{cases_Bool, eq-eqb}
+use Rattle.std.proofs.lemmas.Bool.{cases_Bool, and_parts as both}
 use Rattle.std.proofs.lemmas.Map.Views.{btree_map_get_iff}
 use Rattle.mesh_atoms.specs.declared.addr.Addr4.{Addr4}
 use Rattle.mesh_atoms.specs.declared.addr.NetAddr.{NetAddr}
@@ -18,7 +18,6 @@ use Rattle.mesh_atoms.specs.Base.{host, net_eq}
 use Rattle.mesh_atoms.specs.Codes.Codes.{metric_value}
 use Rattle.mesh_atoms.specs.Settings.{are_distinct}
 use Rattle.mesh_atoms.specs.State.{State, HasSymmetric}
-use Rattle.mesh_atoms.proofs.Kept.{both}
 use Rattle.mesh_atoms.proofs.CodesLemmas.CodeLaws.{cost-injective}
 use Rattle.mesh_topo.specs.declared.advertised.rows.Offer.{Offer}
 use Rattle.mesh_topo.specs.declared.advertised.rows.Selector.{Selector}
@@ -26,9 +25,10 @@ use Rattle.mesh_atoms.specs.Nodes.{net_cmp}
 use Rattle.mesh_topo.specs.Advertised.Offers.{put_offer, offered, of_address, of_selector, of_network, row_of}
 use Rattle.mesh_topo.specs.Advertised.Selectors.{AreSelectors, SelectorGives}
 use Rattle.mesh_topo.proofs.AdvertisedLemmas.Best.{Best, SumsUp, sums_as, sums_all}
-use Rattle.mesh_topo.proofs.AdvertisedLemmas.Members.{at_head, in_tail, head_or_tail, none_in, in_map, from_map, in_each, from_each}
 use Rattle.mesh_atoms.proofs.NetOrder.{net_total, net_exact, same_at, at_same}
 use Rattle.mesh_topo.proofs.AdvertisedLemmas.RowOrder.{ascending_rows}
+use Rattle.mesh_atoms.proofs.Values.{same_host, net_itself}
+use Rattle.mesh_atoms.proofs.Lists.{contains_head as at_head, contains_tail as in_tail, contains_cases, contains_none as none_in, contains_map as in_map, contains_map_cases as from_map, contains_flat_map as in_each, contains_flat_map_cases}
 
 -- ---- selectors
 
@@ -46,7 +46,7 @@ record OfferedBy (x : Selector) (net : NetAddr) (e : Offer) : Type 0 where
   pub origin : IsTrue e.origin → addr ≡ x.originator
 
 by_selector : (x : Selector) (net : NetAddr) (e : Offer) → Contains (of_selector x) (net, e) → OfferedBy x net e
-by_selector x net e has = elim (head_or_tail (of_address true x.metric x.originator) (map (of_address false x.metric) x.addrs) (net, e) has) [
+by_selector x net e has = elim (contains_cases (of_address true x.metric x.originator) (map (of_address false x.metric) x.addrs) (net, e) has) [
   | inl same ↦ record {
     addr = x.originator;
     node = sym (ap (λ (y : NetAddr × Offer). y.0) same);
@@ -75,9 +75,6 @@ of_addr x a (inr same) = (
   subst (λ (b : Addr4). Contains (of_selector x) (host b, record { origin = true; gateway = None; metric = x.metric })) (sym same) (at_head _ _),
   refl,
 )
-
-pub same_host : (a b : Addr4) → host a ≡ host b → a ≡ b
-same_host a b e = ap (λ (n : NetAddr). n.addr) e
 
 -- what a selector gives
 gives_of : (selectors : List Selector) (x : Selector) → Contains selectors x → (a : Addr4) → HasAddr x a → SelectorGives selectors a x.originator x.metric
@@ -111,18 +108,15 @@ by_network net (x ∷ xs) o e = by_net (is_eq (net_cmp x.net net)) refl (λ h. b
 
 passes : {X : Type 0} (test : X → Bool) (xs : List X) (x : X) → Contains xs x → test x ≡ true → list_any test xs ≡ true
 passes test [] x has t = absurd (none_in x has)
-passes test (y ∷ ys) x has t = elim (head_or_tail y ys x has) [
+passes test (y ∷ ys) x has t = elim (contains_cases y ys x has) [
   | inl same ↦ let first : test y ≡ true = ap test same ∙ t in rw first refl
   | inr later ↦ rw (passes test ys x later t) (or-true (test y))
 ]
 
-net_itself : (a b : NetAddr) → a ≡ b → net_eq a b ≡ true
-net_itself a b e = rw (eq-eqb a.addr.0 b.addr.0 (ap (λ (n : NetAddr). n.addr.0) e), eq-eqb a.prefix b.prefix (ap (λ (n : NetAddr). n.prefix) e)) refl
-
 -- a network among distinct ones is what is offered of it
 of_its_net : (attached : List Attached4) (a : Attached4) → IsTrue (are_distinct net_eq (map (λ x. x.net) attached)) → Contains attached a → offered a.net (map of_network attached) None ≡ Some (of_network a).1
 of_its_net [] a distinct has = absurd (none_in a has)
-of_its_net (x ∷ xs) a distinct has = elim (head_or_tail x xs a has) [
+of_its_net (x ∷ xs) a distinct has = elim (contains_cases x xs a has) [
   | inl same ↦
       let here : is_eq (net_cmp x.net a.net) ≡ true = at_same x.net a.net (ap (λ (y : Attached4). y.net) same) in
       ap (λ (b : Bool). offered a.net (map of_network xs) (cond b (Some (of_network x).1) None)) here ∙ gives_way a.net xs (of_network x).1 ∙ ap (λ (y : Attached4). Some (of_network y).1) same
@@ -174,7 +168,7 @@ module _ (selectors : List Selector) where
   Of net e = Contains (flat_map of_selector selectors) (net, e)
 
   no_gateway : (e : NetAddr × Offer) → Contains (flat_map of_selector selectors) e → e.1.gateway ≡ None
-  no_gateway e has = let (x, there, inside) = from_each of_selector selectors e has in (by_selector x e.0 e.1 inside).gateway
+  no_gateway e has = let (x, there, inside) = contains_flat_map_cases of_selector selectors e has in (by_selector x e.0 e.1 inside).gateway
 
   sums : (net : NetAddr) → SumsUp (Of net) (offered net (flat_map of_selector selectors) None)
   sums net = sums_as (λ e. ⊥ ⊎ Of net e) (Of net) (offered net (flat_map of_selector selectors) None) (λ e has. elim has [ inl never ↦ absurd never | inr inside ↦ inside ]) (λ e inside. inr inside)
@@ -190,7 +184,7 @@ module _ (selectors : List Selector) where
   advertised : (net : NetAddr) (o : Offer) → Best (Of net) o → OfNode selectors net o
   advertised net o best =
       let (e, has, metric) = best.from in
-      let (x, there, inside) = from_each of_selector selectors (net, e) has in
+      let (x, there, inside) = contains_flat_map_cases of_selector selectors (net, e) has in
       let b : OfferedBy x net e = by_selector x net e inside in
       record {
         addr = b.addr;
@@ -205,7 +199,7 @@ module _ (selectors : List Selector) where
         origin = (
           λ t.
               (let (f, among, is) = best.origin.0 t in
-              let (y, stands, within) = from_each of_selector selectors (net, f) among in
+              let (y, stands, within) = contains_flat_map_cases of_selector selectors (net, f) among in
               let d : OfferedBy y net f = by_selector y net f within in
               let same : d.addr ≡ b.addr = same_host d.addr b.addr (sym d.node ∙ b.node) in
               let own : y.originator ≡ b.addr = sym (d.origin is) ∙ same in

@@ -10,8 +10,8 @@ use Rattle.mesh_atoms.proofs.CodesLemmas.CodeLaws.{cost-le}
 use Rattle.mesh_topo.specs.declared.advertised.rows.Offer.{Offer}
 use Rattle.mesh_atoms.specs.Nodes.{net_cmp}
 use Rattle.mesh_topo.specs.Advertised.Offers.{lesser, put_offer, offered}
-use Rattle.mesh_topo.proofs.AdvertisedLemmas.Members.{at_head, in_tail, head_or_tail, none_in}
 use Rattle.mesh_atoms.proofs.NetOrder.{same_at, at_same}
+use Rattle.mesh_atoms.proofs.Lists.{contains_head as at_head, contains_tail as in_tail, contains_cases, contains_none as none_in}
 
 -- the offer sums up these offers of an address
 pub record Best (C : Offer → Type 0) (o : Offer) : Type 0 where
@@ -97,7 +97,7 @@ sums_all net (x ∷ xs) C old no_gateway sums = by_net (is_eq (net_cmp x.0 net))
       ])
       (λ e has. elim has [
         | inl before ↦ inl (inl before)
-        | inr inside ↦ elim (head_or_tail x xs (net, e) inside) [
+        | inr inside ↦ elim (contains_cases x xs (net, e) inside) [
           | inl same ↦ inl (inr (sym (ap (λ (y : NetAddr × Offer). y.1) same)))
           | inr further ↦ inr further
         ]
@@ -108,7 +108,7 @@ sums_all net (x ∷ xs) C old no_gateway sums = by_net (is_eq (net_cmp x.0 net))
       (λ e has. elim has [ inl before ↦ inl before | inr inside ↦ inr (in_tail x xs (net, e) inside) ])
       (λ e has. elim has [
         | inl before ↦ inl before
-        | inr inside ↦ elim (head_or_tail x xs (net, e) inside) [
+        | inr inside ↦ elim (contains_cases x xs (net, e) inside) [
           | inl same ↦ absurd (let t : is_eq (net_cmp x.0 net) ≡ true = at_same x.0 net (ap (λ (y : NetAddr × Offer). y.0) same) in cc)
           | inr further ↦ inr further
         ]

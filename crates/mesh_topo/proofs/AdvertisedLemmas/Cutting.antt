@@ -1,17 +1,18 @@
 -- Rows that are cut into runs.
-use Rattle.std.proofs.Common.{◌≡◌, ℕ, zero, suc, ◌+◌, ◌-◌, ◌*◌, ◌<◌, ◌≤◌, ◌⊎◌, inl, inr, List, [], ◌∷◌, ◌++◌, length, take, drop, map, refl, sym, ap, subst, ◌∙◌, arith, length-append, length-take, length-drop, Some}
+use Rattle.std.proofs.Common.{◌≡◌, ℕ, suc, ◌+◌, ◌-◌, ◌*◌, ◌<◌, ◌≤◌, inl, inr, List, [], ◌∷◌, ◌++◌, length, take, drop, map, refl, sym, ap, subst, ◌∙◌, arith, length-append, length-take, length-drop, Some}
 use Rattle.std.specs.Prelude.{slice_get, slice_range, flat_map, option_map, min}
 use Rattle.std.proofs.lemmas.Bool.{cases_lt}
 use Rattle.std.proofs.lemmas.Grind.{flat_map-append}
 use Rattle.std.proofs.lemmas.List.{take-append-drop, nil_from_length, append-nil, length-map}
 use Rattle.std.proofs.lemmas.List.Folds.{flat_map-map}
-use Rattle.std.proofs.lemmas.Option.{slice_get-map, slice_get_within, slice_get_cases}
+use Rattle.std.proofs.lemmas.Option.{slice_get-map, slice_get_within}
 use Rattle.std.proofs.Math.Nat.{mul-le-mul_right, suc-mul}
 use Rattle.std.proofs.Math.Seq.{take-append-add, take-length}
 use Rattle.mesh_atoms.specs.declared.tc.TcRow.{TcRow}
 use Rattle.mesh_atoms.specs.Advertised.{AreParts}
 use Rattle.mesh_topo.specs.declared.advertised.spans.PartSpan.{PartSpan}
 use Rattle.mesh_topo.specs.Advertised.Spans.{part_of, AreSpans}
+use Rattle.mesh_atoms.proofs.Lists.{item_at as there, get_pushed as push_at}
 
 -- full runs up to a place, which is not the last
 pub record AreFull (rows most first : ℕ) (spans : List PartSpan) : Type 0 where
@@ -31,18 +32,6 @@ none_yet rows most = record {
 }
 
 -- ---- lists
-
-push_at : {A : Type 0} (xs : List A) (x : A) (i : ℕ) (y : A) → slice_get (xs ++ x ∷ []) i ≡ Some y → (slice_get xs i ≡ Some y) ⊎ ((i ≡ length xs) × (x ≡ y))
-push_at [] x zero y h = inr (refl, cc)
-push_at [] x (suc i) y h = absurd (cc)
-push_at (z ∷ xs) x zero y h = inl h
-push_at (z ∷ xs) x (suc i) y h = elim (push_at xs x i y h) [ inl e ↦ inl e | inr (a, b) ↦ inr (ap suc a, b) ]
-
-there : {A : Type 0} (xs : List A) (i : ℕ) → i < length xs → (x : A) × (slice_get xs i ≡ Some x)
-there xs i lt = elim (slice_get_cases xs i).1 [
-  | inl (x, below, e, g) ↦ (x, e)
-  | inr (le, e) ↦ absurd (let no : length xs ≤ i = le in omega (arith, no, lt))
-]
 
 take_on : {A : Type 0} (a n : ℕ) (xs : List A) → a ≤ length xs → take (a + n) xs ≡ take a xs ++ take n (drop a xs)
 take_on a n xs le =

@@ -1,5 +1,5 @@
 -- What a TC does to one set of tuples.
-use Rattle.std.proofs.Common.{◌≡◌, ℕ, ◌+◌, ◌<◌, ◌≤◌, ◌⊎◌, inl, inr, Bool, true, false, cond, not, ◌&&◌, ◌||◌, List, length, take, Option, Some, None, slice_index_or, refl, sym, ap, subst, ◌∙◌, arith, eq-eqb}
+use Rattle.std.proofs.Common.{◌≡◌, ℕ, ◌+◌, ◌<◌, ◌≤◌, ◌⊎◌, inl, inr, Bool, true, false, cond, not, ◌&&◌, List, length, take, Option, Some, None, slice_index_or, refl, sym, ap, subst, ◌∙◌, arith, eq-eqb}
 use Rattle.std.specs.Prelude.{option_map, slice_get, nat_eq, is_some, count_by, IsTrue, ◌↔◌}
 use Rattle.std.specs.BTreeSet.{BTreeSet}
 use Rattle.std.specs.Cmp.{IsEquivalence}
@@ -16,6 +16,7 @@ use Rattle.mesh_expire.specs.Keyed.{AreKeys}
 use Rattle.mesh_expire.proofs.Laws.{find_same}
 use Rattle.mesh_topo.specs.TcSets.Same.{SaysSame}
 use Rattle.mesh_topo.specs.TcSets.Sets.{GivenBy, GivenBefore, PutsGiven, PutsRows, Put, Stood, has_other_number, is_outdated}
+use Rattle.mesh_atoms.proofs.Options.{cond_same}
 
 -- ---- rows that are put one after the other
 
@@ -85,10 +86,6 @@ count_more given rows i row gives before now after here is so_far puts =
 
 -- ---- tuples that are taken out
 
-cond_same : {A : Type 0} (b : Bool) (x : A) → cond b x x ≡ x
-cond_same true x = refl
-cond_same false x = refl
-
 -- what is left of a tuple
 left_of : {V : Type 0} (tc : Tc) (from : Addr4) (number : V → ℕ) → tc.complete ≡ true → (o : Option (V × ℕ)) → cond (addr_eq from tc.originator && has_other_number tc.ansn number o) None o ≡ if_not_dropped tc from number o
 left_of tc from number complete None = cond_same (addr_eq from tc.originator && false) None
@@ -124,10 +121,6 @@ kept_numbered {V} tc from number value until is = ap (λ (n : Bool). cond {A = O
   by_case false b = refl
 
 -- ---- what is said
-
-pub neither : (a b : Bool) → (a || b) ≡ false → (a ≡ false) × (b ≡ false)
-neither false b h = (refl, h)
-neither true b h = absurd cc
 
 module _ {K V : Type 0} (eq : K → K → Bool) (says : V → Option ℕ × Metric) where
   pub same_after : (old mid new : Base K V) → SaysSame eq says old mid → SaysSame eq says mid new → SaysSame eq says old new

@@ -11,18 +11,9 @@ use Rattle.std.specs.BTreeSet.{BTreeSet, contains}
 use Rattle.std.proofs.lemmas.Map.Keys.{sorted_head, sorted_tail}
 use Rattle.mesh_atoms.specs.declared.addr.Addr4.{Addr4}
 use Rattle.mesh_atoms.specs.Base.{Base, find, addr_eq}
-use Rattle.mesh_atoms.proofs.Nets.{addr_exact}
 use Rattle.mesh_topo.specs.TcSets.Sets.{has_other_number, is_outdated}
-
--- what passes stays where another test passes it
-any_filter : {K : Type 0} (test p : K → Bool) (xs : List K) → ((x : K) → p x ≡ true → test x ≡ true) → list_any p xs ≡ true → list_any p (filter test xs) ≡ true
-any_filter test p [] both h = h
-any_filter {K} test p (x ∷ xs) both h = by_head (p x) refl (test x) refl (any_filter test p xs both) where
-  by_head : (a : Bool) → p x ≡ a → (b : Bool) → test x ≡ b → (list_any p xs ≡ true → list_any p (filter test xs) ≡ true) → list_any p (filter test (x ∷ xs)) ≡ true
-  by_head true is true passes behind = rw (passes, is) refl
-  by_head true is false fails behind = absurd (let clash : true ≡ false = sym (both x is) ∙ fails in cc)
-  by_head false is true passes behind = rw (passes, is) (behind (rw is at h))
-  by_head false is false fails behind = rw fails (behind (rw is at h))
+use Rattle.mesh_atoms.proofs.Lists.{any_filter}
+use Rattle.mesh_atoms.proofs.Lookups.{same_addr}
 
 any_last : {K : Type 0} (p : K → Bool) (xs : List K) (k : K) → list_any p (xs ++ k ∷ []) ≡ (list_any p xs || p k)
 any_last p [] k = by_test (p k) where
@@ -150,7 +141,7 @@ module _ {K V : Type 0} (eq : K → K → Bool) (originator : Addr4) (ansn : ℕ
   stands_so false entry h = absurd cc
 
   pub outdated_of : is_outdated eq originator ansn from number base q ≡ true → from q ≡ originator
-  outdated_of h = addr_exact (from q) originator (stands_so (addr_eq (from q) originator) (find eq base q) h).0
+  outdated_of h = same_addr (from q) originator (stands_so (addr_eq (from q) originator) (find eq base q) h).0
 
   pub outdated_there : is_outdated eq originator ansn from number base q ≡ true → is_some (find eq base q) ≡ true
   outdated_there h = (stands_so (addr_eq (from q) originator) (find eq base q) h).1

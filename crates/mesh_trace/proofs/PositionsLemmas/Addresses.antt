@@ -34,12 +34,10 @@ use Rattle.mesh_texts.specs.machine.Messages.{IsHeading, ConsidersForwarding, Pr
 use Rattle.mesh_texts.proofs.machine.Hops.{limit_left}
 use Rattle.mesh_texts.proofs.machine.Takes.{packet_spelled}
 use Rattle.mesh_texts.specs.machine.Traffic.{Delivery, Traffic, Spreads, No_arcs, Loses, Carries, with_loss, with_delivery, with_sent, leaving}
-use Rattle.mesh_texts.proofs.machine.Places.{set_at, stands}
+use Rattle.mesh_texts.proofs.machine.Places.{set_at}
 use Rattle.mesh_texts.specs.machine.wire.Hello.{OriginatorIs}
 use Rattle.mesh_texts.specs.machine.wire.Parts.{number_of}
 use Rattle.mesh_texts.specs.machine.wire.Rehop.{hopped}
-use Rattle.mesh_texts.proofs.machine.wire.Ascending.{head_or_tail, none_in}
-use Rattle.mesh_texts.proofs.machine.wire.RowLines.{unmapped}
 use Rattle.mesh_texts.specs.machine.Net.{Net}
 use Rattle.mesh_trace.specs.Positions.Due.{TakesPacket, HearsBy, Refused, Taken, HellosDue, Hellos_early, Hellos_due, TcsDue, Tcs_early, Tcs_silent, Tcs_due, part_items}
 use Rattle.mesh_trace.specs.Positions.Items.{Tells, Tells_flooding, Tells_routing, Tells_hello, Tells_tc, Tells_frame, Tells_loss, TellsFrame}
@@ -51,6 +49,7 @@ use Rattle.mesh_trace.proofs.PositionsLemmas.TcFrames.{one_part}
 use Rattle.mesh_trace.proofs.PositionsLemmas.Named.{NamesSender, IsNamed, hello_named, tc_named, hopped_named}
 use Rattle.mesh_trace.proofs.PositionsLemmas.SoundPositions.{positions_are_sound}
 use Rattle.mesh_trace.proofs.PositionsLemmas.TcsFixed.{same_or_other}
+use Rattle.mesh_atoms.proofs.Lists.{item_at as stands, contains_cases, contains_none as none_in, contains_map_cases as unmapped}
 
 -- ---- neighbours
 
@@ -104,7 +103,7 @@ both_named : (a b : List Frame) → AllNamed a → AllNamed b → AllNamed (a ++
 both_named a b h k f among = elim (Contains-append_cases a b f among) [ inl x ↦ h f x | inr y ↦ k f y ]
 
 one_named : (f : Frame) → IsNamed f.bytes → AllNamed (f ∷ [])
-one_named f h g among = elim (head_or_tail f [] g among) [ inl same ↦ subst (λ (x : Frame). IsNamed x.bytes) same h | inr past ↦ absurd (none_in g past) ]
+one_named f h g among = elim (contains_cases f [] g among) [ inl same ↦ subst (λ (x : Frame). IsNamed x.bytes) same h | inr past ↦ absurd (none_in g past) ]
 
 each_named : (n : ℕ) (bytes : List ℕ) → IsNamed bytes → AllNamed (on_each n bytes)
 each_named zero bytes h = none_named
@@ -182,7 +181,7 @@ both_left a b h k f among = elim (Contains-append_cases a b (Sent f) among) [ in
 relays_left : (r : RouterSettings) → NoFrames (relay_items r)
 relays_left r = both_left (map (λ f. Flooding f.0) (enumerate_from 0 r.interfaces)) (Routing ∷ [])
     (λ f among. (let (z, has, is) = unmapped (λ f. Flooding f.0) (enumerate_from 0 r.interfaces) (Sent f) among in cc))
-    (λ f among. elim (head_or_tail Routing [] (Sent f) among) [ inl is ↦ cc | inr past ↦ none_in (Sent f) past ])
+    (λ f among. elim (contains_cases Routing [] (Sent f) among) [ inl is ↦ cc | inr past ↦ none_in (Sent f) past ])
 
 hellos_left : (old new : State) (items : List Item) → HellosDue old new items → NoFrames items
 hellos_left old new items (Hellos_early early next) = none_left
@@ -190,7 +189,7 @@ hellos_left old new items (Hellos_due due next) = λ f among. (let (z, has, is) 
 
 parts_left : (complete : Bool) (sequence : ℕ) (parts : List (List TcRow)) → NoFrames (part_items complete sequence parts)
 parts_left complete sequence [] f among = none_left f among
-parts_left complete sequence (rows ∷ parts) f among = elim (head_or_tail (Tc_item complete sequence rows) (part_items complete ((sequence + 1) % 65536) parts) (Sent f) among) [
+parts_left complete sequence (rows ∷ parts) f among = elim (contains_cases (Tc_item complete sequence rows) (part_items complete ((sequence + 1) % 65536) parts) (Sent f) among) [
   | inl is ↦ cc
   | inr more ↦ parts_left complete ((sequence + 1) % 65536) parts f more
 ]
@@ -273,7 +272,7 @@ spread_air s now frame (a ∷ arcs) lost old new (Carries carries rest) named ai
     let one : Delivery = record { moment = now + a.1.delay; arc = a.0; frame = frame } in
     spread_air s now frame arcs lost (with_delivery old one) new rest named (λ d among. elim (Contains-append_cases old.air (one ∷ []) d among) [
       | inl x ↦ air d x
-      | inr y ↦ elim (head_or_tail one [] d y) [ inl same ↦ subst (λ (z : Delivery). IsNamed z.frame) same named | inr past ↦ absurd (none_in d past) ]
+      | inr y ↦ elim (contains_cases one [] d y) [ inl same ↦ subst (λ (z : Delivery). IsNamed z.frame) same named | inr past ↦ absurd (none_in d past) ]
     ])
 
 -- what a line that tells an item leaves

@@ -71,7 +71,7 @@ as_nets p q h = record { scenario = h.scenario; count = h.count; routers = h.rou
 pub as_positions : (m n : Net) (x : ℕ) (left : List Item) → AlikeNets m n → Alike (record { net = m; router = x; left = left }) (record { net = n; router = x; left = left })
 as_positions m n x left h = record { scenario = h.scenario; count = h.count; routers = h.routers; traffic = h.traffic; last_ticks = h.last_ticks; router = refl; left = refl }
 
-set_length : {A : Type 0} (xs : List A) (i : ℕ) (x : A) → length (slice_set xs i x) ≡ length xs
+pub set_length : {A : Type 0} (xs : List A) (i : ℕ) (x : A) → length (slice_set xs i x) ≡ length xs
 set_length [] i x = refl
 set_length (y ∷ ys) zero x = refl
 set_length (y ∷ ys) (suc i) x = let more = set_length ys i x in omega (arith, more)

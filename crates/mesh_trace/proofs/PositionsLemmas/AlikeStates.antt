@@ -31,9 +31,9 @@ use Rattle.mesh_atoms.proofs.Lookups.{has_found, has_found_on, addr_equiv, same_
 use Rattle.mesh_texts.proofs.machine.topo.AdvertisedLemmas.Advertising.{same_row}
 use Rattle.mesh_routes.specs.Staying.{SameWays}
 use Rattle.mesh_routes.proofs.StayingLaw.{graphs_stay}
-use Rattle.mesh_texts.proofs.machine.wire.Ascending.{head_or_tail}
 use Rattle.mesh_trace.specs.Positions.Alike.{AlikeNear, AlikeStates}
 use Rattle.mesh_trace.proofs.PositionsLemmas.AlikeBases.{bases_back}
+use Rattle.mesh_atoms.proofs.Lists.{contains_cases}
 
 pub states_back : (s t : State) → AlikeStates s t → AlikeStates t s
 states_back s t h = record {
@@ -182,7 +182,7 @@ module _ {A : Type 0} (R : A → A → Type 0) (apart : (x y : A) → R x y → 
   before x xs ordered a (k, within, is) = subst (λ (y : A). R x y) is (ordered 0 (suc k) a (omega arith) (omega (arith, within)))
 
   narrowed : (x : A) (xs ys : List A) → AllPairs R (x ∷ xs) → ((a : A) → Contains (x ∷ xs) a → Contains (x ∷ ys) a) → (a : A) → Contains xs a → Contains ys a
-  narrowed x xs ys ordered to a (k, within, is) = elim (head_or_tail x ys a (to a (suc k, omega (arith, within), is))) [
+  narrowed x xs ys ordered to a (k, within, is) = elim (contains_cases x ys a (to a (suc k, omega (arith, within), is))) [
     | inl same ↦
         let self : R a a = subst (λ (y : A). R y a) same (before x xs ordered a (k, within, is)) in
         absurd (apart a a self self)
@@ -194,7 +194,7 @@ module _ {A : Type 0} (R : A → A → Type 0) (apart : (x y : A) → R x y → 
   ordered_once [] (y ∷ ys) p q to back = let (k, within, is) = back y (0, omega arith, refl) in absurd (omega (arith, within))
   ordered_once (x ∷ xs) [] p q to back = let (k, within, is) = to x (0, omega arith, refl) in absurd (omega (arith, within))
   ordered_once (x ∷ xs) (y ∷ ys) p q to back =
-      let heads : x ≡ y = first (head_or_tail y ys x (to x (0, omega arith, refl))) (head_or_tail x xs y (back y (0, omega arith, refl))) in
+      let heads : x ≡ y = first (contains_cases y ys x (to x (0, omega arith, refl))) (contains_cases x xs y (back y (0, omega arith, refl))) in
       let to_x : (a : A) → Contains (x ∷ xs) a → Contains (x ∷ ys) a = λ a has. subst (λ (z : A). Contains (z ∷ ys) a) (sym heads) (to a has) in
       let back_x : (a : A) → Contains (x ∷ ys) a → Contains (x ∷ xs) a = λ a has. back a (subst (λ (z : A). Contains (z ∷ ys) a) heads has) in
       let q_x : AllPairs R (x ∷ ys) = subst (λ (z : A). AllPairs R (z ∷ ys)) (sym heads) q in

@@ -12,7 +12,6 @@ use Rattle.mesh_texts.specs.machine.Machine.{due}
 use Rattle.mesh_texts.specs.machine.Messages.{TakesMessages}
 use Rattle.mesh_texts.specs.machine.Renewal.{IsNextAnsn, IsEmptied}
 use Rattle.mesh_texts.specs.machine.Traffic.{Traffic, Delivery, IsHeardFirst, with_heard}
-use Rattle.mesh_texts.proofs.machine.Places.{stands}
 use Rattle.mesh_texts.specs.Lines.Marks.{face_name}
 use Rattle.mesh_texts.specs.Trace.{heard_line, tick_line}
 use Rattle.mesh_texts.specs.machine.Net.{Net, IsFirstDue, HearsNext, TicksNext, HasOnlyLastTicks, IsSender}
@@ -25,6 +24,7 @@ use Rattle.mesh_trace.proofs.PositionsLemmas.AlikeBases.{live_from}
 use Rattle.mesh_trace.proofs.PositionsLemmas.AlikeNets.{AlikeNets, states_itself, nets_set}
 use Rattle.mesh_trace.proofs.PositionsLemmas.AlikeStates.{states_back}
 use Rattle.mesh_trace.proofs.PositionsLemmas.Over.{all_at}
+use Rattle.mesh_atoms.proofs.Lists.{item_at as stands}
 
 -- ---- which event comes next
 

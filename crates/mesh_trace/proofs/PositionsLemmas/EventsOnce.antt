@@ -10,7 +10,7 @@ use Rattle.mesh_atoms.specs.declared.settings.RadioArc.{RadioArc}
 use Rattle.mesh_atoms.specs.declared.settings.RouterSettings.{RouterSettings}
 use Rattle.mesh_atoms.specs.declared.tc.TcRow.{TcRow}
 use Rattle.mesh_atoms.specs.Advertised.{AreParts}
-use Rattle.mesh_atoms.specs.State.{Bases, State, IsOriginator}
+use Rattle.mesh_atoms.specs.State.{Bases, State}
 use Rattle.mesh_texts.specs.machine.packet.declared.packet.Span.{Span}
 use Rattle.mesh_texts.specs.machine.packet.Fields.{PacketFields}
 use Rattle.mesh_texts.proofs.machine.packet.OneReading.{one_packet, not_both}
@@ -35,6 +35,7 @@ use Rattle.mesh_trace.proofs.PositionsLemmas.MessagesFixed.{messages_are_fixed}
 use Rattle.mesh_trace.proofs.PositionsLemmas.Over.{all_at, all_behind}
 use Rattle.mesh_trace.proofs.PositionsLemmas.Parts.{moment_once, parts_once}
 use Rattle.mesh_trace.proofs.PositionsLemmas.SoundPositions.{SoundState, AreSound, takes_sound, ticks_sound}
+use Rattle.mesh_atoms.proofs.Values.{one_originator}
 
 -- ---- which event comes next
 
@@ -43,7 +44,7 @@ record SameFirst (d e : Delivery) (a b a' b' : List Delivery) : Type 0 where
   first : d ≡ e
   left : a ++ b ≡ a' ++ b'
 
-behind_all : (P : Delivery → Type 0) (before behind : List Delivery) (e : Delivery) → All P (before ++ e ∷ behind) → P e
+pub behind_all : (P : Delivery → Type 0) (before behind : List Delivery) (e : Delivery) → All P (before ++ e ∷ behind) → P e
 behind_all P before behind e all = All-head P e behind (all_behind P before (e ∷ behind) all)
 
 first_once : (a b a' b' : List Delivery) (d e : Delivery) → a ++ d ∷ b ≡ a' ++ e ∷ b' → All (λ x. d.moment < x.moment) a → All (λ x. d.moment ≤ x.moment) b → All (λ x. e.moment < x.moment) a' → All (λ x. e.moment ≤ x.moment) b' →
@@ -90,11 +91,6 @@ due_once routers x y m n h k =
     ]
 
 -- ---- one router
-
-originator_once : (r : RouterSettings) (a b : Addr4) → IsOriginator r a → IsOriginator r b → a ≡ b
-originator_once r a b (f, at, is) (g, at', is') =
-    let faces : g ≡ f = same_at r.interfaces 0 g f at' at in
-    same_at f.addrs 0 a b is (subst (λ (z : Interface). slice_get z.addrs 0 ≡ Some b) faces is')
 
 ansn_once : (old a b : State) → b.rows ≡ a.rows → IsNextAnsn old a → IsNextAnsn old b → b.ansn ≡ a.ansn
 ansn_once old a b rows (inl (same, ansn)) (inl (same', ansn')) = ansn' ∙ sym ansn
@@ -230,7 +226,7 @@ takes_once : (s : State) (arrival : Arrival) (bytes : List ℕ) (one other : Lis
     AlikeStates a b × (other ≡ one)
 takes_once s arrival bytes one other a b sound h k =
     let (packets, spans) = one_packet bytes k.packet h.packet k.spans h.spans k.spelled h.spelled in
-    let own : k.own ≡ h.own = originator_once s.settings k.own h.own k.is_own h.is_own in
+    let own : k.own ≡ h.own = one_originator s.settings k.own h.own k.is_own h.is_own in
     let live = live_only s.settings arrival.now s.bases s.bases h.live k.live (bases_itself s.bases) h.is_live k.is_live in
     let takes : TakesMessages s.settings h.own arrival bytes k.live h.packet.messages h.spans k.bases other k.fates =
     subst (λ (o : Addr4). TakesMessages s.settings o arrival bytes k.live h.packet.messages h.spans k.bases other k.fates) own
@@ -288,7 +284,7 @@ tick_once net x now last_ticks line p q sound h k =
     (subst (λ (z : TracePosition). Alike (record { net = record (with_state net x h.is) { last_ticks = last_ticks }; router = x; left = h.left }) z) (sym k.leads)
     (record { scenario = set.scenario; count = set.count; routers = set.routers; traffic = set.traffic; last_ticks = refl; router = refl; left = once.left }))
 
-sender_once : (routers : List RouterSettings) (arc : RadioArc) (a b : Addr4) → IsSender routers arc a → IsSender routers arc b → a ≡ b
+pub sender_once : (routers : List RouterSettings) (arc : RadioArc) (a b : Addr4) → IsSender routers arc a → IsSender routers arc b → a ≡ b
 sender_once routers arc a b h k =
     let router : k.router ≡ h.router = same_at routers arc.from k.router h.router k.router_is h.router_is in
     let face : k.face ≡ h.face =

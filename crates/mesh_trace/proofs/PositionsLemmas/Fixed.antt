@@ -9,7 +9,7 @@ use Rattle.mesh_atoms.specs.State.{Bases, State}
 use Rattle.mesh_texts.specs.machine.Machine.{IsOpening}
 use Rattle.mesh_texts.proofs.machine.Opening.{opening_sound}
 use Rattle.mesh_texts.proofs.machine.Soundness.{bases_of}
-use Rattle.mesh_texts.proofs.machine.Places.{stands, same_at}
+use Rattle.mesh_texts.proofs.machine.Places.{same_at}
 use Rattle.mesh_texts.specs.machine.Net.{Net}
 use Rattle.mesh_trace.specs.Positions.Alike.{AlikeBases, AlikeStates, Alike, HasAddresses, IsSoundPosition}
 use Rattle.mesh_trace.specs.Positions.Items.{Tells}
@@ -26,6 +26,7 @@ use Rattle.mesh_trace.proofs.PositionsLemmas.EventsOnce.{opens_once}
 use Rattle.mesh_trace.proofs.PositionsLemmas.Over.{over_opens}
 use Rattle.mesh_trace.proofs.PositionsLemmas.SoundPositions.{positions_are_sound}
 use Rattle.mesh_trace.proofs.PositionsLemmas.Walks.{leads_on}
+use Rattle.mesh_atoms.proofs.Lists.{item_at as stands}
 
 alike_on : (p q r : TracePosition) → Alike p q → Alike q r → Alike p r
 alike_on p q r h k = record {

@@ -1,8 +1,8 @@
 -- What is made of a HELLO is fixed but for the order of tuples.
 use Rattle.std.proofs.Common.{◌≡◌, ◌≢◌, ◌⊎◌, ℕ, ◌+◌, ◌<◌, ◌≤◌, inl, inr, refl, sym, ◌∙◌, ap, subst, arith, List, [], ◌∷◌, length, map, Option, Some, None, Contains, slice_get}
-use Rattle.std.specs.Prelude.{Bool, true, false, cond, not}
+use Rattle.std.specs.Prelude.{Bool, true, false, cond}
 use Rattle.std.specs.List.{AllPairs, list_any}
-use Rattle.std.proofs.lemmas.Bool.{and_parts, cases_lt, false≢true, or_left, or_right}
+use Rattle.std.proofs.lemmas.Bool.{and_parts, cases_lt, or_left, or_right}
 use Rattle.std.proofs.lemmas.List.{get_or_past}
 use Rattle.mesh_atoms.specs.declared.addr.Addr4.{Addr4}
 use Rattle.mesh_atoms.specs.declared.admit.Admit.{Admit}
@@ -35,13 +35,14 @@ use Rattle.mesh_atoms.specs.TakesHello.{IsNameless, IsFault, IsHeld, IsFullOfAdd
 use Rattle.mesh_atoms.specs.Words.{Lists, IsKept}
 use Rattle.mesh_atoms.proofs.Lookups.{addr_equiv, same_addr, two_hop_equiv}
 use Rattle.mesh_texts.proofs.machine.hello.Fits.{distinct_fits}
-use Rattle.mesh_texts.proofs.machine.Places.{stands}
-use Rattle.mesh_texts.proofs.machine.wire.Ascending.{head_or_tail, none_in}
 use Rattle.mesh_texts.proofs.machine.wire.RowLines.{one_row}
 use Rattle.mesh_trace.specs.Positions.Alike.{AlikeNear}
 use Rattle.mesh_trace.proofs.PositionsLemmas.AlikeBases.{SameLinks, SameNeighbours, near_back, least_only, flag_only, restores_only, settles_only, symmetric_address}
 use Rattle.mesh_trace.proofs.PositionsLemmas.AlikeStates.{ordered_once}
 use Rattle.mesh_trace.proofs.PositionsLemmas.TcsFixed.{same_size, same_or_other}
+use Rattle.mesh_atoms.proofs.Options.{not_both}
+use Rattle.mesh_atoms.proofs.Values.{same_addr as addr_from, addr_itself as itself}
+use Rattle.mesh_atoms.proofs.Lists.{item_at as stands, contains_cases, contains_none as none_in}
 
 -- ---- what a HELLO tells
 
@@ -49,38 +50,28 @@ use Rattle.mesh_trace.proofs.PositionsLemmas.TcsFixed.{same_size, same_or_other}
 abbrev with_status : Told → Option LinkStatus → Told
 with_status told status = record told { shown = record told.shown { status = status } }
 
-pub addr_from : (a b : Addr4) → a.0 ≡ b.0 → a ≡ b
-addr_from a b e = ap (λ (n : ℕ). let x : Addr4 = record { 0 = n } in x) e
-
 lists_once : (P : Addr4 → Type 0) (xs ys : List Addr4) → Lists xs P → Lists ys P → xs ≡ ys
 lists_once P xs ys (up, are) (up', are') =
     ordered_once (λ (a b : Addr4). a.0 < b.0) (λ a b p q. omega (arith, p, q)) xs ys up up' (λ a has. (are' a).1 ((are a).0 has)) (λ a has. (are a).1 ((are' a).0 has))
 
-not_both : (a : Bool) → a ≡ true → not a ≡ true → ⊥
-not_both true e h = false≢true h
-not_both false e h = false≢true e
-
 any_sender : (a : Addr4) (xs : List SenderMetric) (u : SenderMetric) → Contains xs u → addr_eq a u.sender ≡ true → list_any (addr_eq a) (map (λ s. s.sender) xs) ≡ true
 any_sender a [] u has e = absurd (none_in u has)
-any_sender a (x ∷ xs) u has e = elim (head_or_tail x xs u has) [
+any_sender a (x ∷ xs) u has e = elim (contains_cases x xs u has) [
   | inl same ↦ or_left (addr_eq a x.sender) (list_any (addr_eq a) (map (λ (s : SenderMetric). s.sender) xs)) (subst (λ (z : SenderMetric). addr_eq a z.sender ≡ true) (sym same) e)
   | inr more ↦ or_right (addr_eq a x.sender) (list_any (addr_eq a) (map (λ (s : SenderMetric). s.sender) xs)) (any_sender a xs u more e)
 ]
-
-itself : (a b : Addr4) → a ≡ b → addr_eq a b ≡ true
-itself a b e = subst (λ (c : Addr4). addr_eq a c ≡ true) e (addr_equiv.refl a)
 
 -- an interface has one entry of a sender
 entry_once : (xs : List SenderMetric) (t u : SenderMetric) → are_distinct addr_eq (map (λ s. s.sender) xs) ≡ true → Contains xs t → Contains xs u → t.sender ≡ u.sender → t ≡ u
 entry_once [] t u h has has' e = absurd (none_in t has)
 entry_once (x ∷ xs) t u h has has' e =
     let (new, rest) = and_parts _ (are_distinct addr_eq (map (λ (s : SenderMetric). s.sender) xs)) h in
-    elim (head_or_tail x xs t has) [
-      | inl is ↦ elim (head_or_tail x xs u has') [
+    elim (contains_cases x xs t has) [
+      | inl is ↦ elim (contains_cases x xs u has') [
         | inl is' ↦ sym is ∙ is'
         | inr more' ↦ absurd (not_both _ (any_sender x.sender xs u more' (itself x.sender u.sender (ap (λ (s : SenderMetric). s.sender) is ∙ e))) new)
       ]
-      | inr more ↦ elim (head_or_tail x xs u has') [
+      | inr more ↦ elim (contains_cases x xs u has') [
         | inl is' ↦ absurd (not_both _ (any_sender x.sender xs t more (itself x.sender t.sender (ap (λ (s : SenderMetric). s.sender) is' ∙ sym e))) new)
         | inr more' ↦ entry_once xs t u rest more more' e
       ]

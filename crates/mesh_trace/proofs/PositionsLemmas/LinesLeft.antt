@@ -254,7 +254,7 @@ emits_on net x s mid left end lines P Q R first more both =
           (sym (lines_cut text first.es more.es)) (leaves_on _ _ _ end lines _ _ first.leaves more.leaves);
     }
 
-code_once : (ticks a b : ℕ) → IsLeastCode ticks a → IsLeastCode ticks b → a ≡ b
+pub code_once : (ticks a b : ℕ) → IsLeastCode ticks a → IsLeastCode ticks b → a ≡ b
 code_once ticks a b h k =
     let below = h.least b k.sent k.enough in let above = k.least a h.sent h.enough in omega (arith, below, above)
 

@@ -29,8 +29,9 @@ use Rattle.mesh_texts.proofs.machine.wire.OneTc.{one_tc}
 use Rattle.mesh_trace.specs.Positions.Alike.{AlikeBases}
 use Rattle.mesh_trace.specs.Positions.Laws.{MessagesAreFixed}
 use Rattle.mesh_trace.proofs.PositionsLemmas.AlikeBases.{near_back, topology_back}
-use Rattle.mesh_trace.proofs.PositionsLemmas.HellosFixed.{addr_from, takes_hello_once}
+use Rattle.mesh_trace.proofs.PositionsLemmas.HellosFixed.{takes_hello_once}
 use Rattle.mesh_trace.proofs.PositionsLemmas.TcsFixed.{ForwardOnce, process_once, considers_once, takes_tc_once}
+use Rattle.mesh_atoms.proofs.Values.{same_addr}
 
 not_broken : (Breaks : ℕ → Option NetAddr → Type 0) (number : ℕ) (net : Option NetAddr) → Keeps Breaks → FirstBroken Breaks number net → ⊥
 not_broken Breaks number net keeps broken = keeps number net broken.broken
@@ -40,7 +41,7 @@ zero_one kind zeroth first = omega (arith, zeroth, first)
 
 originator_once : (raw : Option RawAddr) (a b : Addr4) → OriginatorIs raw (Some a) → OriginatorIs raw (Some b) → b ≡ a
 originator_once None a b h k = absurd h
-originator_once (Some raw) a b h k = addr_from b a (k ∙ sym h)
+originator_once (Some raw) a b h k = same_addr b a (k ∙ sym h)
 
 abbrev heading_of : ℕ → Addr4 → ℕ → Option ℕ → Option ℕ → Heading
 heading_of kind originator sequence limit count = record { kind = kind; originator = originator; sequence = sequence; limit = limit; count = count }

@@ -17,7 +17,7 @@ use Rattle.mesh_texts.specs.machine.wire.Parts.{number_of}
 use Rattle.mesh_texts.specs.machine.wire.Rehop.{one_hop_on, hopped, flags_of}
 use Rattle.mesh_texts.specs.machine.wire.Writes.{alone, IsSoleMessage, WritesHello, WritesTc}
 use Rattle.mesh_texts.proofs.machine.wire.Hops.{hop_spells}
-use Rattle.mesh_texts.proofs.machine.wire.Ascending.{head_or_tail, none_in}
+use Rattle.mesh_atoms.proofs.Lists.{contains_cases, contains_none as none_in}
 
 -- ---- octets of parts
 
@@ -46,7 +46,7 @@ sole_named : (m : MessageFields) (spans : List Span) (bytes : List ℕ) → Spel
 sole_named m spans bytes spelled named packet spans' spelled' m' among kind =
     let (packets, places) = one_packet bytes packet (alone m) spans' spans spelled' spelled in
     let there : Contains (m ∷ []) m' = subst (λ (p : PacketFields). Contains p.messages m') packets among in
-    elim (head_or_tail m [] m' there) [
+    elim (contains_cases m [] m' there) [
       | inl same ↦ subst NamesSender same (named (subst (λ (x : MessageFields). x.kind ≡ 0) (sym same) kind))
       | inr past ↦ absurd (none_in m' past)
     ]

@@ -26,7 +26,7 @@ use Rattle.mesh_texts.proofs.machine.Originators.{some_originator}
 use Rattle.mesh_texts.proofs.machine.Places.{set_here}
 use Rattle.mesh_texts.specs.Trace.{happened_line, relays_lines, Of_taken, Of_refused}
 use Rattle.mesh_texts.specs.machine.Net.{Net, NetStep, By_delivery, By_tick, By_last_tick, Moves, happening}
-use Rattle.mesh_texts.specs.machine.NetRun.{IsOver, NetRun}
+use Rattle.mesh_texts.specs.machine.NetRun.{IsOver}
 use Rattle.mesh_texts.specs.Runs.{IsTraced, Traces}
 use Rattle.mesh_trace.specs.Positions.Alike.{Alike, AlikeStates}
 use Rattle.mesh_trace.specs.Positions.Due.{Follows, HearsBy, Refused, Taken, part_items}
@@ -49,6 +49,7 @@ use Rattle.mesh_trace.proofs.PositionsLemmas.SoundPositions.{SoundState, AreSoun
 use Rattle.mesh_trace.proofs.PositionsLemmas.SoundPositions.{leads_sound, leads_by_sound, first_sound, takes_sound, ticks_sound}
 use Rattle.mesh_trace.proofs.PositionsLemmas.TextLines.{OneLine, tick_one, heard_one}
 use Rattle.mesh_trace.proofs.PositionsLemmas.WholeRuns.{told, told_so, told_same, line_so, step_walk, runs_are_whole}
+use Rattle.mesh_texts.proofs.TraceSteps.{traces_run as runs_by}
 
 -- ---- lines along positions that are alike
 
@@ -420,10 +421,6 @@ run_from (suc most) net x (line ∷ lines) end few sound done (mid, To_event non
       traces = (e.new, e.step, e.text, run.text, e.traced, run.traces, refl);
       are = e.leaves.are run.text run.are;
     }
-
-runs_by : (old : Net) (events : List NetEvent) (new : Net) (text : List ℕ) → Traces old events new text → NetRun old events new
-runs_by old [] new text (same, none) = same
-runs_by old (event ∷ events) new text (mid, step, first, rest, traced, more, whole) = (mid, step, runs_by mid events new rest more)
 
 pub runs_of_whole_traces : WholeTracesAreRuns
 runs_of_whole_traces s lines (end, (first, is, leads), done) =

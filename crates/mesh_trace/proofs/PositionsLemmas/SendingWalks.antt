@@ -10,7 +10,6 @@ use Rattle.mesh_texts.specs.machine.declared.frame.Frame.{Frame}
 use Rattle.mesh_atoms.specs.declared.network.Emission.{Emission}
 use Rattle.mesh_texts.specs.machine.Traffic.{Traffic, Sends, SendsAll, frame_of}
 use Rattle.mesh_texts.proofs.machine.Sent.{sent_lost}
-use Rattle.mesh_texts.proofs.machine.Places.{stands}
 use Rattle.mesh_texts.specs.Lines.Marks.{face_name}
 use Rattle.mesh_texts.specs.Trace.{sent_line, lost_line, sent_lines}
 use Rattle.mesh_texts.specs.machine.Net.{Net}
@@ -20,6 +19,7 @@ use Rattle.mesh_trace.specs.Positions.Leading.{Leads}
 use Rattle.mesh_trace.proofs.PositionsLemmas.Leading.{at, to_item}
 use Rattle.mesh_trace.proofs.PositionsLemmas.TextLines.{OneLine, sent_one, loss_one}
 use Rattle.mesh_trace.proofs.PositionsLemmas.Walks.{Walks, walks_nowhere, walks_one, walks_on}
+use Rattle.mesh_atoms.proofs.Lists.{item_at as stands}
 
 -- ---- losses
 

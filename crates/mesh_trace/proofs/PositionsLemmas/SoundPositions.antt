@@ -9,7 +9,7 @@ use Rattle.mesh_texts.specs.machine.declared.frame.Frame.{Frame}
 use Rattle.mesh_texts.specs.machine.Laws.{SoundBases}
 use Rattle.mesh_texts.proofs.machine.Opening.{opening_sound}
 use Rattle.mesh_texts.proofs.machine.Soundness.{bases_of, live_bases_sound, messages_sound}
-use Rattle.mesh_texts.proofs.machine.Places.{set_at, stands}
+use Rattle.mesh_texts.proofs.machine.Places.{set_at}
 use Rattle.mesh_texts.specs.machine.Net.{Net}
 use Rattle.mesh_trace.specs.Positions.Due.{Follows, TakesPacket, TicksBy, HearsBy, Refused, Taken}
 use Rattle.mesh_trace.specs.Positions.Items.{Tells, Tells_flooding, Tells_routing, Tells_hello, Tells_tc, Tells_frame, Tells_loss, TellsFrame}
@@ -17,6 +17,7 @@ use Rattle.mesh_trace.specs.Positions.Laws.{PositionsAreSound}
 use Rattle.mesh_trace.specs.Positions.Events.{OpensEvent, By_delivery, By_tick, By_last_tick}
 use Rattle.mesh_trace.specs.Positions.Standing.{Item, TracePosition, IsFirstPosition}
 use Rattle.mesh_trace.specs.Positions.Leading.{Leads, To_event, To_item, LeadsBy}
+use Rattle.mesh_atoms.proofs.Lists.{item_at as stands}
 
 -- the bases of a router are sound
 abbrev pub SoundState : State → Type 0

@@ -7,7 +7,7 @@ use Rattle.std.specs.Borrow.{Bor}
 use Rattle.mesh_trace.specs.declared.reading.Reader.{Reader}
 use Rattle.mesh_trace.specs.Reading.Readers.{lines_from, IsRest}
 
-same_line : (a b : List ℕ) (xs ys : List (List ℕ)) → a ∷ xs ≡ b ∷ ys → a ≡ b
+pub same_line : (a b : List ℕ) (xs ys : List (List ℕ)) → a ∷ xs ≡ b ∷ ys → a ≡ b
 same_line a b xs ys e = cc
 
 pub rest_is : (trace : List ℕ) (reader : Reader) (front line : List ℕ) (more : List (List ℕ)) (result : Option (Bor (List ℕ))) → front ≡ reader.text →

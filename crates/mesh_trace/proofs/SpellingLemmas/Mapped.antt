@@ -3,17 +3,13 @@ use Rattle.std.proofs.Common.{◌≡◌, ℕ, ◌+◌, ◌<◌, ◌≤◌, ◌�
 use Rattle.std.specs.Prelude.{All, Contains, Some, drop, slice_get}
 use Rattle.std.proofs.lemmas.List.{at_drop_more, drop-map}
 use Rattle.std.proofs.lemmas.List.Elements.{All-contains}
-use Rattle.std.proofs.lemmas.Option.{slice_get_within, slice_get-get_or, get_or_from_slice_get}
+use Rattle.std.proofs.lemmas.Option.{slice_get_within, slice_get-get_or}
 use Rattle.std.proofs.lemmas.Bool.{ltb-true, ltb-false}
-use Rattle.mesh_wire.proofs.RowLines.{mapped, unmapped}
+use Rattle.mesh_atoms.proofs.Lists.{contains_at, contains_map as mapped, contains_map_cases as unmapped}
 
 -- the item at a place, as an index gives it
 pub item_at : {X : Type 0} (xs : List X) (i : ℕ) (x : X) → i < length xs → x ≡ slice_index_or xs i x → slice_get xs i ≡ Some x
 item_at xs i x lt is = slice_get-get_or xs i x lt ∙ ap (λ y. Some y) (sym is)
-
--- it is one of the list
-pub there_item : {X : Type 0} (xs : List X) (i : ℕ) (x : X) → slice_get xs i ≡ Some x → Contains xs x
-there_item xs i x at = (i, slice_get_within xs i x at, get_or_from_slice_get xs i x x at)
 
 module _ {X : Type 0} (P : ℕ → X → Type 0) (xs : List X) where
   -- it holds of the items before a place
@@ -56,7 +52,7 @@ module _ {X Y : Type 0} (f : X → Y) (xs : List X) where
 
   -- what holds of each by its fields holds of the item at a place
   pub one_mapped : (P : Y → Type 0) → All P (map f xs) → (i : ℕ) (x : X) → slice_get xs i ≡ Some x → P (f x)
-  one_mapped P all i x at = All-contains P (map f xs) (f x) all (mapped f xs x (there_item xs i x at))
+  one_mapped P all i x at = All-contains P (map f xs) (f x) all (mapped f xs x (contains_at xs i x at))
 
   pub mapped_item : (i : ℕ) (x : X) → slice_get xs i ≡ Some x → Contains (map f xs) (f x)
-  mapped_item i x at = mapped f xs x (there_item xs i x at)
+  mapped_item i x at = mapped f xs x (contains_at xs i x at)

@@ -1,12 +1,11 @@
 -- When rows of a HELLO are the same, and when HELLOs are.
-use Rattle.std.proofs.Common.{◌≡◌, ℕ, Bool, true, false, eqb, ◌&&◌, refl, ap, sym, ◌∙◌, Decides}
-use Rattle.std.specs.Prelude.{Option, Some, None}
+use Rattle.std.proofs.Common.{◌≡◌, Bool, true, false, eqb, ◌&&◌, refl, ap, sym, ◌∙◌, Decides}
+use Rattle.std.specs.Prelude.{Option}
 use Rattle.std.specs.Option.{option_eq}
 use Rattle.std.specs.Cmp.{booleans_Decides}
 use Rattle.std.proofs.Math.Bool.{beq}
 use Rattle.std.proofs.lemmas.Bool.{false≢true}
-use Rattle.std.proofs.lemmas.Bool.Decides.{Decides-and, Decides-eqb}
-use Rattle.mesh_atoms.specs.declared.addr.Addr4.{Addr4}
+use Rattle.std.proofs.lemmas.Bool.Decides.{Decides-and}
 use Rattle.mesh_atoms.specs.declared.addr.NetAddr.{NetAddr}
 use Rattle.mesh_atoms.specs.declared.codes.metric.Metric.{Metric}
 use Rattle.mesh_atoms.specs.declared.hello.HelloRow.{HelloRow}
@@ -18,23 +17,8 @@ use Rattle.mesh_atoms.specs.declared.hello.Metrics.{Metrics}
 use Rattle.mesh_atoms.specs.declared.hello.Mpr.{Mpr}
 use Rattle.mesh_atoms.specs.declared.hello.OtherStatus.{OtherStatus}
 use Rattle.mesh_atoms.specs.declared.hello.OtherStatus.TheVariants as other
-use Rattle.mesh_atoms.proofs.Nets.{same_net}
-use Rattle.mesh_atoms.proofs.Rows.{same_metric}
-
-decides_so : {P Q : Type 0} (b : Bool) → (P → Q) → (Q → P) → Decides b P → Decides b Q
-decides_so b to from d = (λ e. to (d.0 e), λ q. d.1 (from q))
-
-pub options : {X : Type 0} (test : X → X → Bool) → ((x y : X) → Decides (test x y) (x ≡ y)) → (a b : Option X) → Decides (option_eq test a b) (a ≡ b)
-options test same None None = (λ _. refl, λ _. refl)
-options test same None (Some y) = (λ e. absurd (false≢true e), λ e. absurd (cc))
-options test same (Some x) None = (λ e. absurd (false≢true e), λ e. absurd (cc))
-options test same (Some x) (Some y) = (λ e. ap (λ z. Some z) ((same x y).0 e), λ e. let f : x ≡ y = cc in (same x y).1 f)
-
-nets : (a b : NetAddr) → Decides (eqb a.addr.0 b.addr.0 && eqb a.prefix b.prefix) (a ≡ b)
-nets a b = decides_so _ (λ h. same_net a b (ap (λ (n : ℕ). let x : Addr4 = record { 0 = n } in x) h.0) h.1) (λ e. (ap (λ (n : NetAddr). n.addr.0) e, ap (λ (n : NetAddr). n.prefix) e)) (Decides-and _ _ (Decides-eqb a.addr.0 b.addr.0) (Decides-eqb a.prefix b.prefix))
-
-metrics : (a b : Metric) → Decides (eqb a.code b.code) (a ≡ b)
-metrics a b = decides_so _ (same_metric a b) (ap (λ (m : Metric). m.code)) (Decides-eqb a.code b.code)
+use Rattle.mesh_atoms.proofs.Rows.{decides_so, options, nets, metrics}
+use Rattle.mesh_wire.proofs.OneHello.{same_metrics, same_mpr}
 
 -- what tells variants apart
 
@@ -79,14 +63,6 @@ mpr_of f r = record { flooding = f; routing = r }
 
 abbrev row_of : NetAddr → Option LocalIf → Option LinkStatus → Option OtherStatus → Metrics → Mpr → HelloRow
 row_of n l k o m r = record { addr = n; local = l; link = k; other = o; metrics = m; mpr = r }
-
-pub same_metrics : (a b : Metrics) → a.link_in ≡ b.link_in → a.link_out ≡ b.link_out → a.near_in ≡ b.near_in → a.near_out ≡ b.near_out → a ≡ b
-same_metrics a b w x y z =
-    ap (λ k. metrics_of k a.link_out a.near_in a.near_out) w ∙ (ap (λ k. metrics_of b.link_in k a.near_in a.near_out) x
-    ∙ (ap (λ k. metrics_of b.link_in b.link_out k a.near_out) y ∙ ap (λ k. metrics_of b.link_in b.link_out b.near_in k) z))
-
-pub same_mpr : (a b : Mpr) → a.flooding ≡ b.flooding → a.routing ≡ b.routing → a ≡ b
-same_mpr a b f r = ap (λ k. mpr_of k a.routing) f ∙ ap (λ k. mpr_of b.flooding k) r
 
 pub same_row : (a b : HelloRow) → a.addr ≡ b.addr → a.local ≡ b.local → a.link ≡ b.link → a.other ≡ b.other → a.metrics ≡ b.metrics → a.mpr ≡ b.mpr → a ≡ b
 same_row a b n l k o m r =

@@ -1,34 +1,17 @@
 -- The search for the row of an address.
-use Rattle.std.proofs.Common.{◌≡◌, ◌≢◌, ℕ, ◌+◌, inl, inr, refl, sym, ◌∙◌, subst, arith, List, Ok, Err, slice_index_or, true, false, Contains}
+use Rattle.std.proofs.Common.{◌≡◌, ◌≢◌, ℕ, ◌+◌, inl, inr, sym, ◌∙◌, subst, arith, List, Ok, Err, slice_index_or, Contains}
 use Rattle.std.specs.List.{AllPairs}
 use Rattle.std.specs.List.Sorted.{IsSortedBy, IsBinarySearchResult}
 use Rattle.std.specs.Ordering.{is_lt}
-use Rattle.std.specs.declared.cmp.Ordering.{Ordering}
 use Rattle.std.specs.declared.cmp.Ordering.TheVariants.{Less, Equal, Greater}
-use Rattle.std.proofs.lemmas.Bool.{cases_Bool, cases_lt}
+use Rattle.std.proofs.lemmas.Bool.{cases_lt}
 use Rattle.std.proofs.lemmas.Cmp.{tied_itself}
 use Rattle.std.proofs.lemmas.List.Sorted.{searchable_from_sorted}
 use Rattle.mesh_atoms.specs.declared.addr.NetAddr.{NetAddr}
 use Rattle.mesh_atoms.specs.declared.hello.HelloRow.{HelloRow}
 use Rattle.mesh_atoms.specs.Nodes.{IsBefore, net_cmp}
-use Rattle.mesh_atoms.proofs.NetOrder.{net_total, net_exact, net_less}
-
-is_less : (o : Ordering) → is_lt o ≡ true → o ≡ Less
-is_less Less e = refl
-is_less Equal e = absurd (cc)
-is_less Greater e = absurd (cc)
-
-not_both : (a b : NetAddr) → IsBefore a b → IsBefore b a → ⊥
-not_both a b (inl p) (inl q) = omega (arith, p, q)
-not_both a b (inl p) (inr q) = omega (arith, p, q.0)
-not_both a b (inr p) (inl q) = omega (arith, p.0, q)
-not_both a b (inr p) (inr q) = omega (arith, p.1, q.1)
-
-not_less : (a b : NetAddr) → IsBefore a b → is_lt (net_cmp b a) ≡ false
-not_less a b before = elim (cases_Bool (is_lt (net_cmp b a))) [
-  | inl t ↦ absurd (not_both a b before (net_less b a (is_less (net_cmp b a) t)))
-  | inr f ↦ f
-]
+use Rattle.mesh_atoms.proofs.NetOrder.{net_total, net_exact}
+use Rattle.mesh_routes.proofs.HopsLemmas.Searching.{not_less}
 
 module _ (rows : List HelloRow) (pairs : AllPairs (λ (r t : HelloRow). IsBefore r.addr t.addr) rows) (net : NetAddr) where
   sorted : IsSortedBy (λ (a b : HelloRow). is_lt (net_cmp a.addr b.addr)) rows

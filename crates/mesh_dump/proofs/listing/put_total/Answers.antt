@@ -1,8 +1,8 @@
 use Rattle.std.proofs.Common.{codes, decimal}
 use Rattle.mesh_io.proofs.Fronts.{adds, join}
-use Rattle.mesh_report.proofs.Joined.{on_ok}
 use Rattle.mesh_dump.specs.Dump.{total_text}
 use Rattle.mesh_dump.proofs.listing.put_total.Goals as goal
+use Rattle.mesh_atoms.proofs.Options.{on_ok_weaker as on_ok}
 
 pub returns : goal.returns
 unfolding total_text

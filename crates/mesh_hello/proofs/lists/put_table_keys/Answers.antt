@@ -1,10 +1,10 @@
 use Rattle.std.proofs.Common.{ap, sym, ◌∙◌, ◌++◌, arith}
 use Rattle.mesh_hello.proofs.Collect.{keys_all, keys_put, none_within}
-use Rattle.mesh_hello.proofs.Places.{append_none}
 use Rattle.mesh_hello.proofs.lists.put_table_keys.Goals as goal
+use Rattle.mesh_atoms.proofs.Lists.{append_nothing}
 
 pub loop-place-init : goal.loop-place-init
-loop-place-init g c = sym (append_none c.args.keys.now.items)
+loop-place-init g c = sym (append_nothing c.args.keys.now.items)
 
 pub loop-place-preserved : goal.loop-place-preserved
 loop-place-preserved g c =

@@ -1,6 +1,7 @@
 use Rattle.std.proofs.Common.{arith}
-use Rattle.mesh_nhdp.proofs.Expiry.{on_ok, expiry_runs}
+use Rattle.mesh_nhdp.proofs.Expiry.{expiry_runs}
 use Rattle.mesh_nhdp.proofs.expire.expire_all.Goals as goal
+use Rattle.mesh_atoms.proofs.Options.{on_ok_weaker as on_ok}
 
 pub overflow_add-until : goal.overflow_add-until
 overflow_add-until g c = let most = c.args.settings.now.times.sound.neighbour_hold_range.most in omega (arith, c.requires.now, most)

@@ -7,8 +7,8 @@ use Rattle.mesh_nbrs.specs.Losts.{SettlesAll}
 use Rattle.mesh_nbrs.specs.Neighbours.{RestoresBy}
 use Rattle.mesh_nhdp.specs.declared.near_addresses.Wanted.TheVariants.{Symmetric}
 use Rattle.mesh_nhdp.specs.Wanted.{IsWantedAddress}
-use Rattle.mesh_nhdp.proofs.Expiry.{on_ok}
 use Rattle.mesh_nhdp.proofs.follow.follow_links.Goals as goal
+use Rattle.mesh_atoms.proofs.Options.{on_ok_weaker as on_ok}
 
 pub returns : goal.returns
 returns g c = on_ok c.settle_lost.result (λ settles. record {

@@ -6,8 +6,8 @@ use Rattle.mesh_nbrs.specs.declared.neighbours.LinkNote.{LinkNote}
 use Rattle.mesh_nbrs.specs.Losts.{SettlesAll}
 use Rattle.mesh_nbrs.specs.Neighbours.{RestoresBy}
 use Rattle.mesh_nhdp.specs.Wanted.{symmetric_at}
-use Rattle.mesh_nhdp.proofs.Expiry.{on_ok}
 use Rattle.mesh_nhdp.proofs.follow.follow_links_of.Goals as goal
+use Rattle.mesh_atoms.proofs.Options.{on_ok_weaker as on_ok}
 
 pub returns : goal.returns
 returns g c = on_ok c.settle_lost.result (λ settles. record {

@@ -3,9 +3,9 @@ use Rattle.mesh_atoms.specs.declared.hello.LocalIf.TheVariants.{This}
 use Rattle.mesh_atoms.specs.HelloTold.{TellsLocal}
 use Rattle.mesh_hello.specs.Told.Telling.{told_of}
 use Rattle.mesh_hello.proofs.ToldLemmas.Mines.{sending_some, more_some}
-use Rattle.mesh_nhdp.proofs.Expiry.{on_ok}
 use Rattle.mesh_nhdp.proofs.Receipt.{receipt_runs}
 use Rattle.mesh_nhdp.proofs.hearing.hear.Goals as goal
+use Rattle.mesh_atoms.proofs.Options.{on_ok_weaker as on_ok}
 
 pub overflow_add-until : goal.overflow_add-until
 overflow_add-until g c = let most = c.args.settings.now.times.sound.neighbour_hold_range.most in omega (arith, c.requires.now, most)

@@ -4,8 +4,8 @@ use Rattle.mesh_atoms.specs.declared.addr.Addr4.{Addr4}
 use Rattle.mesh_atoms.specs.declared.tuples.Link.{Link}
 use Rattle.mesh_atoms.specs.Base.{base_of, find, link_eq}
 use Rattle.mesh_nhdp.specs.Hearings.{UpdatesTwoHops}
-use Rattle.mesh_nhdp.proofs.Expiry.{on_ok}
 use Rattle.mesh_nhdp.proofs.hearing.hear_interfaces.Goals as goal
+use Rattle.mesh_atoms.proofs.Options.{on_ok_weaker as on_ok}
 
 pub stands-stood-requires : goal.stands-stood-requires
 stands-stood-requires g c = c.requires.iface

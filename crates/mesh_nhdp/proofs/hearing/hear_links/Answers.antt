@@ -1,9 +1,10 @@
 use Rattle.std.proofs.Common.{refl, arith}
 use Rattle.mesh_atoms.specs.Quality.{rule_of}
 use Rattle.mesh_hello.specs.Told.Telling.{told_of}
-use Rattle.mesh_nhdp.proofs.Expiry.{on_ok, face_rule}
+use Rattle.mesh_nhdp.proofs.Expiry.{face_rule}
 use Rattle.mesh_nhdp.proofs.Receipt.{links_heard}
 use Rattle.mesh_nhdp.proofs.hearing.hear_links.Goals as goal
+use Rattle.mesh_atoms.proofs.Options.{on_ok_weaker as on_ok}
 
 pub hear_interfaces-requires-clause-ready : goal.hear_interfaces-requires-clause-ready
 hear_interfaces-requires-clause-ready g c = c.requires.ready

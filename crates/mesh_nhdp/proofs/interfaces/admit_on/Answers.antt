@@ -4,10 +4,9 @@ use Rattle.std.proofs.lemmas.Option.{slice_get_within}
 use Rattle.mesh_atoms.specs.declared.admit.Admit.{Admit}
 use Rattle.mesh_atoms.specs.declared.settings.Interface.{Interface}
 use Rattle.mesh_hello.proofs.Collect.{item_at}
-use Rattle.mesh_hello.proofs.Lookups.{some_same}
 use Rattle.mesh_links.specs.Links.{AdmitsLinks}
-use Rattle.mesh_nhdp.proofs.Expiry.{on_ok}
 use Rattle.mesh_nhdp.proofs.interfaces.admit_on.Goals as goal
+use Rattle.mesh_atoms.proofs.Options.{same_some, on_ok_weaker as on_ok}
 
 pub admit-requires-clause-now : goal.admit-requires-clause-now
 admit-requires-clause-now g c = c.requires.now
@@ -20,7 +19,7 @@ returns-in-Some g c =
     let lookup = c.in-Some.ensures.lookup in
     on_ok c.admit.result (λ admits face at.
     subst (λ (rule : Admit). AdmitsLinks rule c.args.hold c.args.now c.args.links.now c.admit.new.self)
-    (ap (λ (f : Interface). f.admit) (some_same (item_at c.args.faces.now c.args.iface c.in-Some.face.now lookup.3.0 lookup.1) at)) admits) c.admit.ensures.ok
+    (ap (λ (f : Interface). f.admit) (same_some (item_at c.args.faces.now c.args.iface c.in-Some.face.now lookup.3.0 lookup.1) at)) admits) c.admit.ensures.ok
 
 pub returns-in-None : goal.returns-in-None
 returns-in-None g c face at =

@@ -6,11 +6,11 @@ use Rattle.mesh_atoms.specs.declared.addr.Addr4.{Addr4}
 use Rattle.mesh_atoms.specs.declared.tuples.LinkKey.{LinkKey}
 use Rattle.mesh_nhdp.specs.Calls.{key_at}
 use Rattle.mesh_hello.proofs.Collect.{item_at}
-use Rattle.mesh_hello.proofs.Lookups.{Contains_at}
 use Rattle.mesh_nhdp.proofs.keys.keys_of_both.Goals as goal
+use Rattle.mesh_atoms.proofs.Lists.{contains_at}
 
 has_key : (xs : List Addr4) (a : Addr4) → Contains xs a → Contains (map key_at xs) (key_at a)
-has_key xs a has = Contains_at (map key_at xs) has.0 (key_at a) (slice_get-map key_at xs has.0 ∙ ap (option_map key_at) (item_at xs has.0 a has.1 (sym has.2)))
+has_key xs a has = contains_at (map key_at xs) has.0 (key_at a) (slice_get-map key_at xs has.0 ∙ ap (option_map key_at) (item_at xs has.0 a has.1 (sym has.2)))
 
 pub returns : goal.returns
 returns c a has = subst (λ (ks : List LinkKey). Contains ks (key_at a)) (sym c.in_ok-put_keys-2.ensures) (elim has [

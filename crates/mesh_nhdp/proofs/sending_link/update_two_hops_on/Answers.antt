@@ -6,8 +6,8 @@ use Rattle.mesh_atoms.specs.declared.tuples.TwoHop.{TwoHop}
 use Rattle.mesh_atoms.specs.Base.{Base, base_of}
 use Rattle.mesh_nhdp.specs.Hearings.{UpdatesTwoHops}
 use Rattle.mesh_nhdp.proofs.AllHears.{is_base, written_same, written_other}
-use Rattle.mesh_nhdp.proofs.Expiry.{on_ok}
 use Rattle.mesh_nhdp.proofs.sending_link.update_two_hops_on.Goals as goal
+use Rattle.mesh_atoms.proofs.Options.{on_ok_weaker as on_ok}
 
 pub returns-clause-length : goal.returns-clause-length
 returns-clause-length g c = length-set c.args.two_hops.now c.args.iface c.update_two_hops.new.two_hops

@@ -2,8 +2,9 @@ use Rattle.std.proofs.Common.{◌++◌, ◌≤◌, length, sym, ◌∙◌, ap}
 use Rattle.std.proofs.lemmas.List.{take_all}
 use Rattle.mesh_machine.specs.declared.frame.Frame.{Frame}
 use Rattle.mesh_probe.specs.Flood.{sent_by}
-use Rattle.mesh_probe.proofs.Queues.{none_past, one_put}
+use Rattle.mesh_probe.proofs.Queues.{one_put}
 use Rattle.mesh_probe.proofs.frames.put_sent.Goals as goal
+use Rattle.mesh_machine.proofs.Places.{none_past}
 
 pub loop-i-preserved : goal.loop-i-preserved
 loop-i-preserved c =

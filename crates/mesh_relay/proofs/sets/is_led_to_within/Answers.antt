@@ -1,6 +1,7 @@
 use Rattle.std.proofs.Common.{sym, ◌∙◌, eq-eqb}
-use Rattle.mesh_relay.proofs.Passes.{any_found, both, any_end}
+use Rattle.mesh_relay.proofs.Passes.{any_found, any_end}
 use Rattle.mesh_relay.proofs.sets.is_led_to_within.Goals as goal
+use Rattle.std.proofs.lemmas.Bool.{and_from as both}
 
 pub returns-then-leads : goal.returns-then-leads
 returns-then-leads c = any_found _ c.as_slice-far-items.result.now c.args.graph.now.far c.as_slice-far-items.ensures c.loop-far.far-index _ c.loop-far-test.true

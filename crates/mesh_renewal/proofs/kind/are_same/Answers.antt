@@ -1,7 +1,8 @@
 use Rattle.std.proofs.Common.{◌≡◌, ap, ◌∙◌, length, slice_get, arith, refl}
 use Rattle.std.proofs.lemmas.Bool.{false≢true}
-use Rattle.mesh_renewal.proofs.Lists.{has_at, same_lists}
+use Rattle.mesh_renewal.proofs.Lists.{same_lists}
 use Rattle.mesh_renewal.proofs.kind.are_same.Goals as goal
+use Rattle.mesh_atoms.proofs.Lists.{item_at as has_at}
 
 pub returns-then-not-is_same_at : goal.returns-then-not-is_same_at
 returns-then-not-is_same_at g c = (

@@ -1,8 +1,8 @@
 use Rattle.std.proofs.Common.{arith, refl}
 use Rattle.std.proofs.lemmas.Bool.{false≢true}
 use Rattle.std.proofs.lemmas.Option.{slice_get_within}
-use Rattle.mesh_renewal.proofs.Lists.{has_at}
 use Rattle.mesh_renewal.proofs.near.are_ifaces.Goals as goal
+use Rattle.mesh_atoms.proofs.Lists.{item_at as has_at}
 
 pub returns-then-not-is_iface_at : goal.returns-then-not-is_iface_at
 returns-then-not-is_iface_at g c = (

@@ -7,8 +7,9 @@ use Rattle.mesh_packet.specs.Fields.{fields_of_packet, fields_of_message}
 use Rattle.mesh_packet.specs.Least.{Wrote}
 use Rattle.mesh_report.specs.Lines.{packet_line, tlv_line}
 use Rattle.mesh_report.specs.Packets.{IsMessagesText}
-use Rattle.mesh_report.proofs.Joined.{on_ok, three}
+use Rattle.mesh_report.proofs.Joined.{three}
 use Rattle.mesh_report.proofs.packet.put_decoded.Goals as goal
+use Rattle.mesh_atoms.proofs.Options.{on_ok_weaker as on_ok}
 
 pub returns-clause-ok : goal.returns-clause-ok
 returns-clause-ok c = on_ok c.put_messages.result (λ wrote.

@@ -1,7 +1,7 @@
 use Rattle.std.proofs.Common.{◌++◌, List, ℕ, ap, ◌∙◌}
 use Rattle.std.proofs.lemmas.List.{append-nil}
-use Rattle.mesh_report.proofs.Joined.{on_ok}
 use Rattle.mesh_report.proofs.packet.put_line_text.Goals as goal
+use Rattle.mesh_atoms.proofs.Options.{on_ok_weaker as on_ok}
 
 pub returns-clause-ok : goal.returns-clause-ok
 returns-clause-ok c =

@@ -6,8 +6,9 @@ use Rattle.mesh_tlv.proofs.Grows.{grows_on}
 use Rattle.mesh_packet.specs.Fields.{fields_of_message, fields_of_block}
 use Rattle.mesh_report.specs.Lines.{message_line, tlv_line}
 use Rattle.mesh_report.specs.Packets.{block_text, message_text}
-use Rattle.mesh_report.proofs.Joined.{on_ok, three}
+use Rattle.mesh_report.proofs.Joined.{three}
 use Rattle.mesh_report.proofs.packet.put_parts.Goals as goal
+use Rattle.mesh_atoms.proofs.Options.{on_ok_weaker as on_ok}
 
 pub returns-in_err-put_message_line-clause-kept : goal.returns-in_err-put_message_line-clause-kept
 returns-in_err-put_message_line-clause-kept c = c.put_message_line.ensures.kept

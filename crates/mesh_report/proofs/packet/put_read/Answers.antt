@@ -1,8 +1,9 @@
 use Rattle.std.proofs.Common.{[], refl, sym}
 use Rattle.std.proofs.lemmas.List.{append-nil}
 use Rattle.mesh_report.specs.Lines.{refused_line}
-use Rattle.mesh_report.proofs.Joined.{on_ok, behind}
+use Rattle.mesh_report.proofs.Joined.{behind}
 use Rattle.mesh_report.proofs.packet.put_read.Goals as goal
+use Rattle.mesh_atoms.proofs.Options.{on_ok_weaker as on_ok}
 
 pub returns-then-recode-clause-ok : goal.returns-then-recode-clause-ok
 returns-then-recode-clause-ok c = rw (c.if-recode.true, c.in-Read.is) c.put_recoded.ensures.ok

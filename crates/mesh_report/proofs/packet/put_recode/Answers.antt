@@ -1,7 +1,7 @@
 use Rattle.std.proofs.Common.{codes, Err, inl, inr, refl, ap, ◌∙◌}
 use Rattle.mesh_report.specs.Packets.{recode_line}
-use Rattle.mesh_report.proofs.Joined.{on_ok}
 use Rattle.mesh_report.proofs.packet.put_recode.Goals as goal
+use Rattle.mesh_atoms.proofs.Options.{on_ok_weaker as on_ok}
 
 pub returns-in-Ok-clause-ok : goal.returns-in-Ok-clause-ok
 returns-in-Ok-clause-ok c = on_ok c.put_recode_octets.result (λ h. (recode_line c.as_slice.result.now, h, inl (c.as_slice.result.now, rw (← c.as_slice.ensures) at c.in-Ok.ensures.least, rw (← c.as_slice.ensures) at c.in-Ok.ensures.fits, refl))) c.put_recode_octets.ensures.ok

@@ -1,7 +1,8 @@
 use Rattle.std.proofs.Common.{◌++◌, refl}
-use Rattle.mesh_report.proofs.Joined.{on_ok, two}
 use Rattle.mesh_tlv.proofs.Grows.{grows_on}
 use Rattle.mesh_report.proofs.packet.put_recoded.Goals as goal
+use Rattle.mesh_atoms.proofs.Options.{on_ok_weaker as on_ok}
+use Rattle.mesh_atoms.proofs.Lists.{two_appended as two}
 
 pub returns-clause-ok : goal.returns-clause-ok
 returns-clause-ok c = on_ok c.put_recode.result (λ (last, put, is).

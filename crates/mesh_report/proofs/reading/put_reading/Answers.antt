@@ -1,9 +1,9 @@
 use Rattle.std.proofs.Common.{arith}
 use Rattle.mesh_wire.specs.Summaries.{hello_summary_of, tc_summary_of}
 use Rattle.mesh_report.specs.Readings.{hello_summary_line, tc_summary_line}
-use Rattle.mesh_report.proofs.Joined.{on_ok}
 use Rattle.mesh_report.proofs.Readings.{told_reads}
 use Rattle.mesh_report.proofs.reading.put_reading.Goals as goal
+use Rattle.mesh_atoms.proofs.Options.{on_ok_weaker as on_ok}
 
 pub returns-in-0-clause-text : goal.returns-in-0-clause-text
 returns-in-0-clause-text c = on_ok c.put_read.result (λ wrote. (

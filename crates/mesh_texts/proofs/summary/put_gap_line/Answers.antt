@@ -4,9 +4,10 @@ use Rattle.mesh_atoms.specs.declared.settings.RouterSettings.{RouterSettings}
 use Rattle.mesh_settled.proofs.machine.tlv.Grows.{grows_on}
 use Rattle.mesh_settled.specs.machine.Names.{router_name}
 use Rattle.mesh_texts.specs.Lines.Marks.{joined, line_of, choice_text, faces_of}
-use Rattle.mesh_texts.proofs.LinesLemmas.Joined.{on_ok, three}
+use Rattle.mesh_texts.proofs.LinesLemmas.Joined.{three}
 use Rattle.mesh_texts.specs.Network.{key_text, gap_line}
 use Rattle.mesh_texts.proofs.summary.put_gap_line.Goals as goal
+use Rattle.mesh_atoms.proofs.Options.{on_ok_weaker as on_ok}
 
 pub returns-in_err-put_gap_head-clause-kept : goal.returns-in_err-put_gap_head-clause-kept
 returns-in_err-put_gap_head-clause-kept c = c.put_gap_head.ensures.kept

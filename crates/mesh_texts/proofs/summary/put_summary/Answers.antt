@@ -1,8 +1,9 @@
 use Rattle.std.proofs.Common.{◌++◌, refl}
 use Rattle.mesh_settled.proofs.machine.tlv.Grows.{grows_on}
 use Rattle.mesh_texts.specs.Network.{counts_line, settled_text}
-use Rattle.mesh_texts.proofs.LinesLemmas.Joined.{on_ok, three}
+use Rattle.mesh_texts.proofs.LinesLemmas.Joined.{three}
 use Rattle.mesh_texts.proofs.summary.put_summary.Goals as goal
+use Rattle.mesh_atoms.proofs.Options.{on_ok_weaker as on_ok}
 
 pub put_sections-requires : goal.put_sections-requires
 put_sections-requires g c = c.requires

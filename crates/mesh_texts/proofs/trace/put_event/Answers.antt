@@ -1,7 +1,7 @@
 use Rattle.std.proofs.Common.{refl}
 use Rattle.mesh_texts.specs.Trace.{event_text, Of_taken}
-use Rattle.mesh_texts.proofs.LinesLemmas.Joined.{on_ok}
 use Rattle.mesh_texts.proofs.trace.put_event.Goals as goal
+use Rattle.mesh_atoms.proofs.Options.{on_ok_weaker as on_ok}
 
 pub returns-clause-ok : goal.returns-clause-ok
 returns-clause-ok g c =

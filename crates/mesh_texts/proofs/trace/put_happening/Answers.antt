@@ -1,8 +1,9 @@
 use Rattle.std.specs.List.{flat_map}
 use Rattle.mesh_settled.proofs.machine.tlv.Grows.{grows_on}
-use Rattle.mesh_texts.proofs.LinesLemmas.Joined.{on_ok, three}
+use Rattle.mesh_texts.proofs.LinesLemmas.Joined.{three}
 use Rattle.mesh_texts.specs.Trace.{event_line, relays_lines, sent_lines, event_text}
 use Rattle.mesh_texts.proofs.trace.put_happening.Goals as goal
+use Rattle.mesh_atoms.proofs.Options.{on_ok_weaker as on_ok}
 
 pub returns-in_err-put_event_line-clause-kept : goal.returns-in_err-put_event_line-clause-kept
 returns-in_err-put_event_line-clause-kept g c = c.put_event_line.ensures.kept

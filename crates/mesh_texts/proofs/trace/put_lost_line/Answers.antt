@@ -4,8 +4,8 @@ use Rattle.std.proofs.lemmas.List.{append-nil}
 use Rattle.std.proofs.lemmas.Option.{slice_get_read, slice_get_past}
 use Rattle.mesh_atoms.specs.declared.settings.RadioArc.{RadioArc}
 use Rattle.mesh_texts.specs.Trace.{arc_line, lost_line}
-use Rattle.mesh_texts.proofs.LinesLemmas.Joined.{on_ok}
 use Rattle.mesh_texts.proofs.trace.put_lost_line.Goals as goal
+use Rattle.mesh_atoms.proofs.Options.{on_ok_weaker as on_ok}
 
 pub returns-in-Some-clause-ok : goal.returns-in-Some-clause-ok
 unfolding lost_line

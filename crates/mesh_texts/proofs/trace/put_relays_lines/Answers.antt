@@ -3,9 +3,10 @@ use Rattle.std.specs.List.{flat_map, enumerate_from}
 use Rattle.mesh_atoms.specs.declared.settings.RouterSettings.{RouterSettings}
 use Rattle.mesh_atoms.specs.declared.tuples.Relays.{Relays}
 use Rattle.mesh_settled.proofs.machine.tlv.Grows.{grows_on}
-use Rattle.mesh_texts.proofs.LinesLemmas.Joined.{on_ok, two}
 use Rattle.mesh_texts.specs.Trace.{flooding_relays_line, routing_relays_line, relays_lines}
 use Rattle.mesh_texts.proofs.trace.put_relays_lines.Goals as goal
+use Rattle.mesh_atoms.proofs.Options.{on_ok_weaker as on_ok}
+use Rattle.mesh_atoms.proofs.Lists.{two_appended as two}
 
 pub returns-in_err-put_all_flooding_relays-clause-kept : goal.returns-in_err-put_all_flooding_relays-clause-kept
 returns-in_err-put_all_flooding_relays-clause-kept g c = c.put_all_flooding_relays.ensures.kept

@@ -7,10 +7,10 @@ use Rattle.mesh_renewal.specs.declared.derived.Derived.{Derived}
 use Rattle.mesh_machine.specs.declared.frame.Frame.{Frame}
 use Rattle.mesh_core.specs.Event.Holding.{state_of}
 use Rattle.mesh_nhdp.proofs.TcCounts.{tc_rows_few}
-use Rattle.mesh_core.proofs.SendingLemmas.Written.{on_ok_more}
 use Rattle.mesh_core.proofs.EventLemmas.Derivations.{derived_after, ends_quietly, has_own, live_held}
 use Rattle.mesh_machine.proofs.Soundness.{bases_of}
 use Rattle.mesh_core.proofs.event.clock.do_tick.Goals as goal
+use Rattle.mesh_atoms.proofs.Options.{on_ok_weaker}
 
 pub expire-requires-clause-sound : goal.expire-requires-clause-sound
 expire-requires-clause-sound g c = bases_of (state_of c.args.holding.now c.args.derived.now) c.requires.sound
@@ -53,7 +53,7 @@ returns g c =
     let has = derived_after c.expire.new.self c.end_event.new.derived c.send_hellos.new.derived c.send_tcs.new.derived c.send_hellos.ensures.others c.send_tcs.ensures.others in
     let (hellos, out_hellos, are_hellos) = c.in_ok-send_hellos.ensures.sent in
     record {
-      ticks = on_ok_more c.send_tcs.result (λ (tcs, out_tcs, are_tcs). (
+      ticks = on_ok_weaker c.send_tcs.result (λ (tcs, out_tcs, are_tcs). (
         hellos ++ tcs,
         out_tcs ∙ (ap (λ (f : List Frame). f ++ tcs) out_hellos ∙ append_assoc c.args.out.now hellos tcs),
         record {

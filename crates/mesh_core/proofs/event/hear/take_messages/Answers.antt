@@ -7,9 +7,9 @@ use Rattle.mesh_machine.specs.Laws.{SoundBases}
 use Rattle.mesh_machine.specs.Messages.{TakesMessages}
 use Rattle.mesh_machine.proofs.Soundness.{bases_of, messages_sound}
 use Rattle.mesh_machine.proofs.Takes.{packet_spelled}
-use Rattle.mesh_core.proofs.SendingLemmas.Written.{on_ok_more}
 use Rattle.mesh_core.proofs.EventLemmas.Derivations.{ends_quietly, has_own, live_held}
 use Rattle.mesh_core.proofs.event.hear.take_messages.Goals as goal
+use Rattle.mesh_atoms.proofs.Options.{on_ok_weaker}
 
 pub expire-requires-clause-sound : goal.expire-requires-clause-sound
 expire-requires-clause-sound g c = bases_of (state_of c.args.holding.now c.args.derived.now) c.requires.sound
@@ -51,7 +51,7 @@ returns g c =
     subst (λ (r : RouterSettings). TakesMessages r own c.args.arrival c.args.bytes.now c.expire.new.self.bases packet.messages c.args.spans.now c.take_typed.new.self.bases sent given) same
     (takes packet.messages (packet_spelled c.args.bytes.now packet _ spells) reads) in
     record {
-      hears = on_ok_more c.end_event.result (λ renews. (
+      hears = on_ok_weaker c.end_event.result (λ renews. (
         given,
         sent,
         fates,

@@ -1,5 +1,4 @@
 use Rattle.std.proofs.Common.{length, refl, subst, sym, ◌<◌}
-use Rattle.mesh_routes.proofs.ChoiceLaw.{if_ok_more}
 use Rattle.mesh_machine.specs.Machine.{Heard_frame, Hears}
 use Rattle.mesh_machine.proofs.Effects.{appends, hears_settings, hears_last, hears_due}
 use Rattle.mesh_machine.proofs.Sendables.{hears_sendable}
@@ -9,6 +8,7 @@ use Rattle.mesh_core.proofs.Seen.{heard}
 use Rattle.mesh_core.proofs.Spent.{where_whole}
 use Rattle.mesh_core.specs.Event.Holding.{state_of}
 use Rattle.mesh_core.proofs.router.Core.hear_typed.Goals as goal
+use Rattle.mesh_atoms.proofs.Options.{if_ok_weaker}
 
 pub hear_typed-came-requires-clause-now : goal.hear_typed-came-requires-clause-now
 hear_typed-came-requires-clause-now g c = c.requires.now
@@ -26,7 +26,7 @@ pub returns-clause-answer : goal.returns-clause-answer
 returns-clause-answer g c = heard _ _ _ _ _ c.hear_typed-came.result c.self.view_is c.hear_typed-came.ensures.hears
 
 pub returns-clause-step : goal.returns-clause-step
-returns-clause-step g c = if_ok_more c.hear_typed-came.result (λ answer hears. Heard_frame answer hears) (returns-clause-answer g c)
+returns-clause-step g c = if_ok_weaker c.hear_typed-came.result (λ answer hears. Heard_frame answer hears) (returns-clause-answer g c)
 
 pub returns-clause-refused : goal.returns-clause-refused
 returns-clause-refused g c = c.hear_typed-came.ensures.refused

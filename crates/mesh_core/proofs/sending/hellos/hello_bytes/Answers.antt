@@ -1,7 +1,7 @@
 use Rattle.std.proofs.Common.{arith, refl}
-use Rattle.mesh_routes.proofs.ChoiceLaw.{if_ok_more}
 use Rattle.mesh_core.proofs.SendingLemmas.Written.{state_with, sent_time, sent_if_some, no_other, status_whole}
 use Rattle.mesh_core.proofs.sending.hellos.hello_bytes.Goals as goal
+use Rattle.mesh_atoms.proofs.Options.{if_ok_weaker}
 
 pub write_hello-requires-clause-few : goal.write_hello-requires-clause-few
 write_hello-requires-clause-few g c = let h = c.in_ok-hello.ensures.few in omega (arith, h)
@@ -23,4 +23,4 @@ write_hello-requires-clause-whole g c =
     let is = c.in_ok-hello.ensures.ok (state_with c.args.nhdp.now.settings c.args.nhdp.now.near c.args.relays.now) refl refl refl in status_whole _ _ _ c.in_ok-hello.hello is
 
 pub returns : goal.returns
-returns g c = if_ok_more c.write_hello.result (λ bytes writes s settings near relays. (c.in_ok-hello.hello, c.in_ok-hello.ensures.ok s settings near relays, writes)) c.write_hello.ensures.writes
+returns g c = if_ok_weaker c.write_hello.result (λ bytes writes s settings near relays. (c.in_ok-hello.hello, c.in_ok-hello.ensures.ok s settings near relays, writes)) c.write_hello.ensures.writes

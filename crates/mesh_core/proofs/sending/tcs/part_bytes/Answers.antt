@@ -4,11 +4,11 @@ use Rattle.mesh_atoms.specs.declared.tc.TcRow.{TcRow}
 use Rattle.mesh_atoms.specs.Nodes.{IsBefore}
 use Rattle.mesh_atoms.specs.Writable.{AreOneType, HaveTypeWhole}
 use Rattle.mesh_topo.specs.Advertised.Spans.{part_of}
-use Rattle.mesh_routes.proofs.ChoiceLaw.{if_ok_more}
 use Rattle.mesh_machine.specs.Sending.{IsTcOfRows}
 use Rattle.mesh_core.proofs.SendingLemmas.PartRows.{part_length, part_ordered, part_one_type, part_whole}
 use Rattle.mesh_core.proofs.SendingLemmas.Written.{rows_one_type, rows_whole}
 use Rattle.mesh_core.proofs.sending.tcs.part_bytes.Goals as goal
+use Rattle.mesh_atoms.proofs.Options.{if_ok_weaker}
 
 pub rows_of-rows-requires : goal.rows_of-rows-requires
 rows_of-rows-requires c = let within = c.requires.within in let same = ap (λ (rows : List TcRow). length rows) c.as_slice.ensures in omega (arith, within, same)
@@ -38,7 +38,7 @@ write_tc-requires-clause-whole c =
 pub returns : goal.returns
 returns c =
     let is : c.rows_of-rows.result.now ≡ part_of c.args.derived.now.rows c.args.span = c.rows_of-rows.ensures ∙ ap (λ (rows : List TcRow). part_of rows c.args.span) c.as_slice.ensures in
-    if_ok_more c.write_tc.result (λ bytes writes. (
+    if_ok_weaker c.write_tc.result (λ bytes writes. (
       c.in_ok-tc.tc,
       writes,
       λ s settings has. subst (λ (rows : List TcRow). IsTcOfRows s c.args.validity.now c.args.complete c.args.sequence rows c.in_ok-tc.tc) is (c.in_ok-tc.ensures.is s settings has.ansn),

@@ -8,8 +8,8 @@ use Rattle.mesh_renewal.specs.declared.derived.Derived.{Derived}
 use Rattle.mesh_renewal.specs.Renewed.{HasDerived}
 use Rattle.mesh_machine.specs.Sending.{SendsParts, Tcs_early, Tcs_silent, Tcs_due}
 use Rattle.mesh_core.proofs.SendingLemmas.PartRows.{has_before}
-use Rattle.mesh_core.proofs.SendingLemmas.Written.{on_ok_more}
 use Rattle.mesh_core.proofs.sending.tcs.send_tcs.Goals as goal
+use Rattle.mesh_atoms.proofs.Options.{on_ok_weaker}
 
 pub returns-then-now-derived-clause-sent : goal.returns-then-now-derived-clause-sent
 returns-then-now-derived-clause-sent c = (
@@ -32,7 +32,7 @@ returns-then-not-has_to_advertise-clause-sent c = (
 pub returns-clause-sent : goal.returns-clause-sent
 returns-clause-sent c =
     let tells : c.has_to_advertise.result ≡ true = elim (cases_Bool c.has_to_advertise.result) [ inl t ↦ t | inr f ↦ let n = c.if-not-has_to_advertise.false in absurd cc ] in
-    on_ok_more c.send_parts.result (λ (sent, out, all). (
+    on_ok_weaker c.send_parts.result (λ (sent, out, all). (
       sent,
       out,
       λ before s sequence next settings has sequence_after next_after.

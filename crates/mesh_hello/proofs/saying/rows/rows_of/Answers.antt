@@ -4,9 +4,9 @@ use Rattle.mesh_atoms.specs.declared.addr.Addr4.{Addr4}
 use Rattle.mesh_atoms.specs.declared.hello.HelloRow.{HelloRow}
 use Rattle.mesh_atoms.specs.Base.{host}
 use Rattle.mesh_hello.proofs.Collect.{copied_at}
-use Rattle.mesh_hello.proofs.Lookups.{Contains_at}
 use Rattle.mesh_hello.proofs.SayingLemmas.Message.{addrs_more, rows_more}
 use Rattle.mesh_hello.proofs.saying.rows.rows_of.Goals as goal
+use Rattle.mesh_atoms.proofs.Lists.{contains_at}
 
 pub loop-addr-init : goal.loop-addr-init
 loop-addr-init g c = record {
@@ -18,7 +18,7 @@ pub row_of-requires-clause-apart : goal.row_of-requires-clause-apart
 row_of-requires-clause-apart g c = c.requires.apart
 
 pub row_of-requires-clause-said : goal.row_of-requires-clause-said
-row_of-requires-clause-said g c = c.requires.said _ (Contains_at c.args.addrs.now c.loop-addr.addr-index _ (copied_at c.args.addrs.now c.loop-addr.addr-index _ (omega arith)))
+row_of-requires-clause-said g c = c.requires.said _ (contains_at c.args.addrs.now c.loop-addr.addr-index _ (copied_at c.args.addrs.now c.loop-addr.addr-index _ (omega arith)))
 
 pub loop-addr-preserved : goal.loop-addr-preserved
 loop-addr-preserved g c = record {

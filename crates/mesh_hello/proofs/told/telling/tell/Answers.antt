@@ -5,9 +5,10 @@ use Rattle.mesh_atoms.specs.declared.settings.Interface.{Interface}
 use Rattle.mesh_atoms.specs.HelloTold.{TellsLocal, IsHandedIn}
 use Rattle.mesh_atoms.specs.State.{HasAddress, HasAddressOn}
 use Rattle.mesh_hello.proofs.Collect.{item_at, iff_on}
-use Rattle.mesh_hello.proofs.Lookups.{some_same}
-use Rattle.mesh_hello.proofs.ToldLemmas.Mines.{row_of, on_interface, sending_some, more_some}
+use Rattle.mesh_hello.proofs.ToldLemmas.Mines.{row_of, sending_some, more_some}
 use Rattle.mesh_hello.proofs.told.telling.tell.Goals as goal
+use Rattle.mesh_atoms.proofs.Options.{same_some}
+use Rattle.mesh_atoms.proofs.Values.{on_interface}
 
 pub first_of-requires : goal.first_of-requires
 first_of-requires c = subst (λ (xs : List Addr4). 0 < length xs) (sym c.as_slice-2.ensures)
@@ -36,7 +37,7 @@ returns c =
       willing = refl;
       validity = refl;
       status = c.status_of_mine.ensures c.args.settings.now c.args.iface here;
-      link_in = λ face there. subst (λ (x : Interface). IsHandedIn x c.args.sender c.metric_from.result) (some_same at there) c.metric_from.ensures;
+      link_in = λ face there. subst (λ (x : Interface). IsHandedIn x c.args.sender c.metric_from.result) (same_some at there) c.metric_from.ensures;
       link_out = c.metric_to.ensures c.args.settings.now c.args.iface here;
       flooding = iff_on c.tells_mine.ensures (row_of c.args.hello.now c.as_slice-here.result.now (λ row. IsTrue row.mpr.flooding) (HasAddressOn c.args.settings.now c.args.iface) here);
       routing = iff_on c.tells_mine-2.ensures (row_of c.args.hello.now c.args.own.now (λ row. IsTrue row.mpr.routing) (HasAddress c.args.settings.now) c.requires.own);

@@ -1,5 +1,6 @@
-use Rattle.mesh_nbrs.proofs.TwoHopsLemmas.Known.{knows_put, by_result}
+use Rattle.mesh_nbrs.proofs.TwoHopsLemmas.Known.{knows_put}
 use Rattle.mesh_nbrs.proofs.two_hops.keyed.put_keyed.Goals as goal
+use Rattle.mesh_atoms.proofs.Options.{by_result}
 
 pub returns-in_err-note_key-clause-knows : goal.returns-in_err-note_key-clause-knows
 returns-in_err-note_key-clause-knows g c = c.note_key.ensures.knows

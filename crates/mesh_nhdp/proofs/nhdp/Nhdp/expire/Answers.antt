@@ -2,9 +2,9 @@ use Rattle.std.proofs.Common.{ap, arith}
 use Rattle.mesh_atoms.specs.Live.{LiveNeighbourhood}
 use Rattle.mesh_atoms.specs.Sound.{SoundNeighbourhood}
 use Rattle.mesh_nhdp.specs.NhdpState.{NhdpState}
-use Rattle.mesh_nhdp.proofs.Expiry.{on_ok}
 use Rattle.mesh_nhdp.proofs.Held.{both_on, given, back, carried}
 use Rattle.mesh_nhdp.proofs.nhdp.Nhdp.expire.Goals as goal
+use Rattle.mesh_atoms.proofs.Options.{on_ok_weaker as on_ok}
 
 pub expire_all-requires-clause-now : goal.expire_all-requires-clause-now
 expire_all-requires-clause-now g c = c.requires.now

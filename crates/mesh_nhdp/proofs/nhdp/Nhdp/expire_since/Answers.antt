@@ -5,9 +5,9 @@ use Rattle.mesh_atoms.specs.Live.{LiveNeighbourhood}
 use Rattle.mesh_atoms.specs.Sound.{SoundNeighbourhood}
 use Rattle.mesh_nhdp.specs.NhdpState.{NhdpState}
 use Rattle.mesh_nhdp.specs.Staying.{AllIsAsItWas}
-use Rattle.mesh_nhdp.proofs.Expiry.{on_ok}
 use Rattle.mesh_nhdp.proofs.Held.{both_ok, both_on, given, said, back, carried}
 use Rattle.mesh_nhdp.proofs.nhdp.Nhdp.expire_since.Goals as goal
+use Rattle.mesh_atoms.proofs.Options.{on_ok_weaker as on_ok}
 
 pub expire_or_stay-requires-clause-now : goal.expire_or_stay-requires-clause-now
 expire_or_stay-requires-clause-now g c = c.requires.now

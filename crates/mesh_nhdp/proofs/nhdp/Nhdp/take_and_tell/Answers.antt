@@ -3,9 +3,9 @@ use Rattle.mesh_atoms.specs.Sound.{SoundNeighbourhood}
 use Rattle.mesh_atoms.specs.TakesHello.{TakesHello}
 use Rattle.mesh_nbrs.specs.Same.{SameNear}
 use Rattle.mesh_nhdp.specs.NhdpState.{NhdpState}
-use Rattle.mesh_nhdp.proofs.Expiry.{on_ok}
 use Rattle.mesh_nhdp.proofs.Held.{both_ok, given, back, carried}
 use Rattle.mesh_nhdp.proofs.nhdp.Nhdp.take_and_tell.Goals as goal
+use Rattle.mesh_atoms.proofs.Options.{on_ok_weaker as on_ok}
 
 pub take_in-requires-clause-now : goal.take_in-requires-clause-now
 take_in-requires-clause-now g c = c.requires.now

@@ -7,11 +7,11 @@ use Rattle.mesh_atoms.specs.declared.tuples.NetworkKey.{NetworkKey}
 use Rattle.mesh_atoms.specs.declared.tuples.NetworkTuple.{NetworkTuple}
 use Rattle.mesh_atoms.specs.Base.{Base}
 use Rattle.mesh_renewal.specs.Topologies.{router_reach, address_reach, network_reach}
-use Rattle.mesh_routes.proofs.ChoiceLaw.{if_ok_more}
 use Rattle.mesh_renewal.proofs.topology.TopologyImage.of.Goals as goal
+use Rattle.mesh_atoms.proofs.Options.{if_ok_weaker}
 
 pub returns : goal.returns
-returns g c = if_ok_more c.image_of.result (λ image h. record {
+returns g c = if_ok_weaker c.image_of.result (λ image h. record {
   routers = ap (λ (b : Base RouterKey RouterTuple). map router_reach b) (sym c.routers.ensures) ∙ h.routers_are;
   addresses = ap (λ (b : Base AddressKey AddressTuple). map address_reach b) (sym c.addresses.ensures) ∙ h.addresses_are;
   networks = ap (λ (b : Base NetworkKey NetworkTuple). map network_reach b) (sym c.networks.ensures) ∙ h.networks_are;

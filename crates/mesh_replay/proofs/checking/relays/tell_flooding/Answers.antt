@@ -4,8 +4,8 @@ use Rattle.mesh_atoms.specs.declared.addr.Addr4.{Addr4}
 use Rattle.mesh_atoms.specs.declared.settings.RouterSettings.{RouterSettings}
 use Rattle.mesh_replay.specs.Checking.RelayLines.{MayTell, TakesTold}
 use Rattle.mesh_replay.proofs.RelaysLemmas.Floods.{told_nothing, told_pushed, stops_flooding, sound_after, addresses_after}
-use Rattle.mesh_replay.proofs.RelaysLemmas.Telling.{is_none}
 use Rattle.mesh_replay.proofs.checking.relays.tell_flooding.Goals as goal
+use Rattle.mesh_trace.proofs.SpellingLemmas.Pairs.{is_nothing as is_none}
 
 pub loop-iface-init : goal.loop-iface-init
 loop-iface-init g c = record { reading = c.requires.reading; told = told_nothing c.args.trace.now c.args.router.now c.args.reader.now c.requires.none }

@@ -3,8 +3,8 @@ use Rattle.std.specs.Prelude.{IfSome}
 use Rattle.mesh_atoms.specs.declared.addr.Addr4.{Addr4}
 use Rattle.mesh_replay.specs.Checking.RelayLines.{MayTell, TakesTold}
 use Rattle.mesh_replay.proofs.RelaysLemmas.Floods.{addresses_after, stops_routing, goes_nowhere, chosen_put, went_put}
-use Rattle.mesh_replay.proofs.RelaysLemmas.Telling.{is_none}
 use Rattle.mesh_replay.proofs.checking.relays.tell_relays.Goals as goal
+use Rattle.mesh_trace.proofs.SpellingLemmas.Pairs.{is_nothing as is_none}
 
 pub told_relays-requires-clause-addresses : goal.told_relays-requires-clause-addresses
 told_relays-requires-clause-addresses g c =

@@ -3,8 +3,9 @@ use Rattle.std.specs.Prelude.{IfSome}
 use Rattle.mesh_atoms.specs.declared.addr.Addr4.{Addr4}
 use Rattle.mesh_texts.specs.Lines.Marks.{relays_text}
 use Rattle.mesh_replay.proofs.RelaysLemmas.Chosen.{are_wide, all_wide}
-use Rattle.mesh_replay.proofs.RelaysLemmas.Telling.{line_is, rest_is, same_told, is_none}
+use Rattle.mesh_replay.proofs.RelaysLemmas.Telling.{line_is, rest_is, same_told}
 use Rattle.mesh_replay.proofs.checking.relays.told_next.Goals as goal
+use Rattle.mesh_trace.proofs.SpellingLemmas.Pairs.{is_nothing as is_none}
 
 pub returns-in_default-clause-none : goal.returns-in_default-clause-none
 returns-in_default-clause-none g c none line lines relays is may text =

@@ -1,5 +1,6 @@
-use Rattle.mesh_replay.proofs.RelaysLemmas.Telling.{is_none, takes_later}
+use Rattle.mesh_replay.proofs.RelaysLemmas.Telling.{takes_later}
 use Rattle.mesh_replay.proofs.checking.relays.told_relays.Goals as goal
+use Rattle.mesh_trace.proofs.SpellingLemmas.Pairs.{is_nothing as is_none}
 
 pub returns-clause-some : goal.returns-clause-some
 returns-clause-some g c =

@@ -6,8 +6,9 @@ use Rattle.mesh_tlv.proofs.Grows.{grows_on}
 use Rattle.mesh_packet.specs.Fields.{fields_of_block}
 use Rattle.mesh_report.specs.Lines.{block_line, address_line, addr_tlv_line}
 use Rattle.mesh_report.specs.Packets.{block_text}
-use Rattle.mesh_report.proofs.Joined.{on_ok, three}
+use Rattle.mesh_report.proofs.Joined.{three}
 use Rattle.mesh_report.proofs.packet.BlockListed.put_lines.Goals as goal
+use Rattle.mesh_atoms.proofs.Options.{on_ok_weaker as on_ok}
 
 pub returns-in_err-put_block_line-clause-kept : goal.returns-in_err-put_block_line-clause-kept
 returns-in_err-put_block_line-clause-kept c = c.put_block_line.ensures.kept

@@ -1,5 +1,6 @@
-use Rattle.mesh_run.proofs.TurnsLemmas.Positions.{on_ok, on_err, hears_frame, hears_in_vain}
+use Rattle.mesh_run.proofs.TurnsLemmas.Positions.{on_err, hears_frame, hears_in_vain}
 use Rattle.mesh_run.proofs.turns.listen.listen.Goals as goal
+use Rattle.mesh_atoms.proofs.Options.{on_ok_weaker as on_ok}
 
 pub returns-in_ok-tally-in-Frame-clause-hears : goal.returns-in_ok-tally-in-Frame-clause-hears
 returns-in_ok-tally-in-Frame-clause-hears g c = on_ok c.hear-in-Frame.result (hears_frame _ _ _ _ _ _ _ _ _ _ _ _ c.in_ok-tally-in-Frame.ensures c.in-Frame.ensures.told) c.hear-in-Frame.ensures.acts

@@ -1,7 +1,8 @@
 use Rattle.std.proofs.Common.{sym, ap, map, ◌∙◌}
 use Rattle.std.specs.Prelude.{option_map}
-use Rattle.mesh_settled.proofs.GapsLemmas.JointLemmas.{least_there, no_state, never}
+use Rattle.mesh_settled.proofs.GapsLemmas.JointLemmas.{least_there, no_state}
 use Rattle.mesh_settled.proofs.gaps.joints.is_least_of.Goals as goal
+use Rattle.mesh_paths.proofs.Rows.{no as never}
 
 pub returns-in-Some : goal.returns-in-Some
 returns-in-Some g c =

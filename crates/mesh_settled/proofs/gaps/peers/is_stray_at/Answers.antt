@@ -1,8 +1,9 @@
 use Rattle.std.proofs.Common.{map, sym, ap, ◌∙◌}
 use Rattle.std.specs.Prelude.{option_map}
-use Rattle.mesh_settled.proofs.GapsLemmas.JointLemmas.{never, no_state}
+use Rattle.mesh_settled.proofs.GapsLemmas.JointLemmas.{no_state}
 use Rattle.mesh_settled.proofs.GapsLemmas.PeerLemmas.{stray_at, no_stray_at}
 use Rattle.mesh_settled.proofs.gaps.peers.is_stray_at.Goals as goal
+use Rattle.mesh_paths.proofs.Rows.{no as never}
 
 pub returns-in-Some : goal.returns-in-Some
 returns-in-Some g c =

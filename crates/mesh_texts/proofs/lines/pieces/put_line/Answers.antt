@@ -1,8 +1,10 @@
 use Rattle.std.proofs.Common.{◌++◌, List, ℕ, ap, ◌∙◌, codes}
 use Rattle.std.specs.List.{flat_map}
 use Rattle.mesh_texts.specs.Lines.Pieces.{piece_text}
-use Rattle.mesh_texts.proofs.LinesLemmas.Joined.{on_ok, two, ended}
+use Rattle.mesh_texts.proofs.LinesLemmas.Joined.{ended}
 use Rattle.mesh_texts.proofs.lines.pieces.put_line.Goals as goal
+use Rattle.mesh_atoms.proofs.Options.{on_ok_weaker as on_ok}
+use Rattle.mesh_atoms.proofs.Lists.{two_appended as two}
 
 pub returns-clause-ok : goal.returns-clause-ok
 returns-clause-ok c = on_ok c.put.result (λ last.

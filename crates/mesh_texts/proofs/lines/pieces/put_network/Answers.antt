@@ -1,7 +1,8 @@
 use Rattle.std.proofs.Common.{List, ℕ, ◌++◌, ap, sym, ◌∙◌, codes, decimal, append_assoc}
 use Rattle.mesh_texts.specs.Lines.Marks.{dotted, slashed}
-use Rattle.mesh_texts.proofs.LinesLemmas.Joined.{on_ok, two}
 use Rattle.mesh_texts.proofs.lines.pieces.put_network.Goals as goal
+use Rattle.mesh_atoms.proofs.Options.{on_ok_weaker as on_ok}
+use Rattle.mesh_atoms.proofs.Lists.{two_appended as two}
 
 pub returns-clause-ok : goal.returns-clause-ok
 unfolding slashed

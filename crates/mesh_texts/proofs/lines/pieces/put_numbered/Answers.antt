@@ -1,6 +1,7 @@
 use Rattle.std.proofs.Common.{decimal}
-use Rattle.mesh_texts.proofs.LinesLemmas.Joined.{on_ok, two}
 use Rattle.mesh_texts.proofs.lines.pieces.put_numbered.Goals as goal
+use Rattle.mesh_atoms.proofs.Options.{on_ok_weaker as on_ok}
+use Rattle.mesh_atoms.proofs.Lists.{two_appended as two}
 
 pub returns-clause-ok : goal.returns-clause-ok
 returns-clause-ok c =

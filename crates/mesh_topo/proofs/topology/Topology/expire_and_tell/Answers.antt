@@ -5,9 +5,10 @@ use Rattle.mesh_atoms.specs.State.{Topology}
 use Rattle.mesh_topo.specs.Same.{SameAdvertised}
 use Rattle.mesh_topo.specs.Sets.{AreFew, sets_of}
 use Rattle.mesh_topo.specs.TcSets.Tuples.{router_says, address_says, network_says}
-use Rattle.mesh_topo.proofs.TcSetsLemmas.Laws.{neither, same_equal}
+use Rattle.mesh_topo.proofs.TcSetsLemmas.Laws.{same_equal}
 use Rattle.mesh_topo.proofs.Soundness.{live_fresh, live_sound}
 use Rattle.mesh_topo.proofs.topology.Topology.expire_and_tell.Goals as goal
+use Rattle.std.proofs.lemmas.Bool.{or_parts as neither}
 
 pub returns : goal.returns
 returns g c =

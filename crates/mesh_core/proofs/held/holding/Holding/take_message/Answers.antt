@@ -4,9 +4,10 @@ use Rattle.mesh_atoms.specs.Sound.{SoundNeighbourhood}
 use Rattle.mesh_atoms.specs.State.{Bases}
 use Rattle.mesh_machine.specs.Messages.{Tc_read}
 use Rattle.mesh_core.specs.Held.Held.{Held}
-use Rattle.mesh_core.proofs.HeldLemmas.Fates.{if_ok, breaks, hosts_of}
+use Rattle.mesh_core.proofs.HeldLemmas.Fates.{breaks, hosts_of}
 use Rattle.mesh_core.proofs.HeldLemmas.Quiet.{advertised_equal, near_equal, quiet_equal}
 use Rattle.mesh_core.proofs.held.holding.Holding.take_message.Goals as goal
+use Rattle.mesh_atoms.proofs.Options.{if_ok_weaker as if_ok}
 
 pub take_hello-requires-clause-iface : goal.take_hello-requires-clause-iface
 take_hello-requires-clause-iface g c = subst (λ (h : Held). c.args.arrival.iface < length h.settings.interfaces) (sym c.self.view_is) c.requires.iface

@@ -11,8 +11,9 @@ use Rattle.mesh_machine.specs.Laws.{SoundBases}
 use Rattle.mesh_machine.specs.Messages.{TakesMessage, TakesMessages, No_messages}
 use Rattle.mesh_machine.proofs.Soundness.{messages_sound}
 use Rattle.mesh_core.proofs.HeldLemmas.Quiet.{both_true, quiet_equal, quiet_after}
-use Rattle.mesh_core.proofs.ReadingLemmas.Messages.{read_at, read_count, takes_more, there_is}
+use Rattle.mesh_core.proofs.ReadingLemmas.Messages.{read_at, read_count, takes_more}
 use Rattle.mesh_core.proofs.held.holding.Holding.take_typed.Goals as goal
+use Rattle.mesh_atoms.proofs.Lists.{item_at as there_is}
 
 pub loop-i-init : goal.loop-i-init
 loop-i-init g c = record { taken = ([], [], sym (append-nil _), sym (append-nil _), λ messages spelled reads. No_messages); settings = refl; quiet = λ quiet. quiet_equal c.args.self.now.bases c.args.self.now.bases c.args.arrival.now refl refl }

@@ -2,8 +2,8 @@ use Rattle.std.proofs.Common.{◌≡◌, ◌+◌, ◌%◌, ◌≤◌, ℕ, arith
 use Rattle.std.proofs.lemmas.Bool.{cases_Bool}
 use Rattle.mesh_atoms.specs.declared.settings.RouterSettings.{RouterSettings}
 use Rattle.mesh_replay.proofs.RouterLemmas.Parts.{tcs_due, tcs_early, tcs_silent}
-use Rattle.mesh_replay.proofs.RouterLemmas.Spans.{spans_within}
 use Rattle.mesh_replay.proofs.checking.router.CheckedRouter.take_parts.Goals as goal
+use Rattle.mesh_core.proofs.SendingLemmas.PartRows.{runs_within}
 
 pub returns-then-self-clause-due : goal.returns-then-self-clause-due
 returns-then-self-clause-due g c = rw (← c.self.view_is) (λ old next number. tcs_early old _ _ _ c.new.ensures (rw next c.if-self.true) (sym next) (sym number))
@@ -26,4 +26,4 @@ returns-clause-due g c =
 
 pub returns-clause-within : goal.returns-clause-within
 returns-clause-within g c = λ i span at.
-    subst (λ (n : ℕ). span.first + span.len ≤ n) c.len-2.ensures (spans_within c.len-2.result c.settings-settings.result.now.tc_rows c.in_ok-spans.spans c.in_ok-spans.ensures.spans i span at)
+    subst (λ (n : ℕ). span.first + span.len ≤ n) c.len-2.ensures (runs_within c.len-2.result c.settings-settings.result.now.tc_rows c.in_ok-spans.spans c.in_ok-spans.ensures.spans i span at)

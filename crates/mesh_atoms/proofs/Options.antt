@@ -1,0 +1,52 @@
+-- Options, results and conditions.
+use Rattle.std.proofs.Common.{Bool, Err, None, Ok, OnOk, Option, Result, Some, cond, false, refl, true, ◌≡◌, ◌≢◌}
+use Rattle.std.proofs.lemmas.Bool.{false≢true}
+use Rattle.std.specs.Option.{is_some}
+use Rattle.std.specs.Prelude.{IfOk, OnErr, not}
+
+pub some_of : {X : Type 0} (o : Option X) → is_some o ≡ true → (x : X) × (o ≡ Some x)
+some_of None e = cc
+some_of (Some x) e = (x, refl)
+
+pub none_is_not_some : {X : Type 0} (x : X) → None ≡ Some x → ⊥
+none_is_not_some x e = cc
+
+pub one_some : {X : Type 0} (a b : X) (o : Option X) → o ≡ Some a → o ≡ Some b → a ≡ b
+one_some a b o e f = cc
+
+-- what holds of an answer, and what follows from it
+pub on_ok_weaker : {A E : Type 0} {P Q : Type 0} (r : Result A E) → (P → Q) → OnOk r P → OnOk r Q
+on_ok_weaker (Ok x) f p = f p
+on_ok_weaker (Err e) f p = tt
+
+-- what holds whether the result is `Ok` or `Err`
+pub by_result : {A B : Type 0} (P Q C : Type 0) (r : Result A B) → OnOk r P → OnErr r Q → (P → C) → (Q → C) → C
+by_result P Q C (Ok x) p q f g = f p
+by_result P Q C (Err e) p q f g = g q
+
+-- what follows of a value follows of a result
+pub if_ok_weaker : {X E : Type 0} {P Q : X → Type 0} (r : Result X E) → ((x : X) → P x → Q x) → IfOk r P → IfOk r Q
+if_ok_weaker (Ok x) f h = f x h
+if_ok_weaker (Err e) f h = tt
+
+pub not_both : (a : Bool) → a ≡ true → not a ≡ true → ⊥
+not_both true e h = false≢true h
+not_both false e h = false≢true e
+
+pub cond_true : {A : Type 0} (b : Bool) (x y : A) → b ≡ true → cond b x y ≡ x
+cond_true true x y h = refl
+cond_true false x y h = absurd (cc)
+
+pub same_some : {A : Type 0} {o : Option A} {a b : A} → o ≡ Some a → o ≡ Some b → a ≡ b
+same_some e f = cc
+
+pub cond_none_some : {A : Type 0} (b : Bool) (x : Option A) (y : A) → cond b x None ≡ Some y → (b ≡ true) × (x ≡ Some y)
+cond_none_some true x y h = (refl, h)
+cond_none_some false x y h = let bad : ⊥ = cc in absurd bad
+
+pub cond_same : {A : Type 0} (b : Bool) (x : A) → cond b x x ≡ x
+cond_same true x = refl
+cond_same false x = refl
+
+pub some_equal : {A : Type 0} (x y : A) → Some x ≡ Some y → x ≡ y
+some_equal x y h = cc

@@ -1,0 +1,58 @@
+-- Addresses, metrics, tuples and the order of nodes.
+use Rattle.mesh_atoms.proofs.Options.{same_some}
+use Rattle.mesh_atoms.specs.Base.{addr_eq, host, net_eq}
+use Rattle.mesh_atoms.specs.Nodes.{IsAtMost, IsBefore}
+use Rattle.mesh_atoms.specs.State.{HasAddressOn, IsOriginator}
+use Rattle.mesh_atoms.specs.declared.addr.Addr4.{Addr4}
+use Rattle.mesh_atoms.specs.declared.addr.NetAddr.{NetAddr}
+use Rattle.mesh_atoms.specs.declared.settings.Interface.{Interface}
+use Rattle.mesh_atoms.specs.declared.settings.RouterSettings.{RouterSettings}
+use Rattle.std.proofs.Common.{Contains, Some, ap, arith, inl, inr, refl, slice_get, subst, true, ℕ, ◌-◌, ◌≡◌, ◌⊎◌}
+use Rattle.std.proofs.lemmas.Bool.{cases_eq, eq-eqb}
+use Rattle.std.specs.Prelude.{◌↔◌}
+
+-- addresses of one number are one
+pub same_addr : (a b : Addr4) → a.0 ≡ b.0 → a ≡ b
+same_addr a b e = ap (λ (n : ℕ). record { 0 = n }) e
+
+pub same_host : (a b : Addr4) → host a ≡ host b → a ≡ b
+same_host a b e = ap (λ (n : NetAddr). n.addr) e
+
+pub net_itself : (a b : NetAddr) → a ≡ b → net_eq a b ≡ true
+net_itself a b e = rw (eq-eqb a.addr.0 b.addr.0 (ap (λ (n : NetAddr). n.addr.0) e), eq-eqb a.prefix b.prefix (ap (λ (n : NetAddr). n.prefix) e)) refl
+
+pub before_trans : (a b c : NetAddr) → IsBefore a b → IsBefore b c → IsBefore a c
+before_trans a b c f g = elim f [
+  | inl x ↦ elim g [
+    | inl y ↦ inl (omega arith)
+    | inr (e, y) ↦ inl (omega arith)
+  ]
+  | inr (d, x) ↦ elim g [
+    | inl y ↦ inl (omega arith)
+    | inr (e, y) ↦ inr (omega arith, omega arith)
+  ]
+]
+
+pub not_before_itself : (a b : NetAddr) → a ≡ b → IsBefore a b → ⊥
+not_before_itself a b e (inl lt) = omega (arith, lt, ap (λ (n : NetAddr). n.addr.0) e)
+not_before_itself a b e (inr (same, lt)) = omega (arith, lt, ap (λ (n : NetAddr). n.prefix) e)
+
+pub one_originator : (r : RouterSettings) (a b : Addr4) → IsOriginator r a → IsOriginator r b → a ≡ b
+one_originator r a b v w =
+    let at : slice_get v.0.addrs 0 ≡ Some b = subst (λ (f : Interface). slice_get f.addrs 0 ≡ Some b) (same_some w.1 v.1) w.2 in
+    same_some v.2 at
+
+pub addr_itself : (a b : Addr4) → a ≡ b → addr_eq a b ≡ true
+addr_itself a b e = eq-eqb a.0 b.0 (ap (λ (x : Addr4). x.0) e)
+
+pub same_address : (a b : Addr4) → (a ≡ b) ⊎ (a ≡ b → ⊥)
+same_address a b = elim (cases_eq a.0 b.0) [
+  | inl e ↦ inl (ap (λ (n : ℕ). let r : Addr4 = record { 0 = n } in r) e)
+  | inr other ↦ inr (λ e. other (ap (λ (c : Addr4). c.0) e))
+]
+
+pub at_most_itself : (a b : NetAddr) → a ≡ b → IsAtMost a b
+at_most_itself a b e = subst (λ (x : NetAddr). IsAtMost a x) e (inr (refl, omega arith))
+
+pub on_interface : (settings : RouterSettings) (i : ℕ) (face : Interface) → slice_get settings.interfaces i ≡ Some face → (a : Addr4) → Contains face.addrs a ↔ HasAddressOn settings i a
+on_interface settings i face at a = (λ w. (face, at, w), λ h. subst (λ (f : Interface). Contains f.addrs a) (same_some h.1 at) h.2)
