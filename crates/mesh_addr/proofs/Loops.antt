@@ -7,7 +7,7 @@ use Rattle.std.proofs.Math.Nat.{suc-mul}
 use Rattle.mesh_atoms.specs.declared.refusal.Refusal.{Refusal}
 use Rattle.mesh_atoms.specs.Reading.{◌>>=◌, refuse}
 use Rattle.mesh_addr.specs.declared.records.RawAddr.{RawAddr}
-use Rattle.mesh_addr.specs.Reading.{Shape, mid_of, addr_of, parts_end, own_at, addrs_at}
+use Rattle.mesh_addr.specs.Reading.{ShapeFields, mid_of, addr_of, parts_end, own_at, addrs_at}
 
 -- so many parts and one more
 pub next_part : (i size : ℕ) → (i + 1) * size ≡ i * size + size
@@ -47,7 +47,7 @@ regroup : (front : List RawAddr) (a : RawAddr) (read : Result (List RawAddr × �
 regroup front a (Ok x) = ap (λ (l : List RawAddr). Ok (l, x.1)) (simp append_assoc)
 regroup front a (Err f) = refl
 
-module _ (frame : List ℕ) (shape : Shape) (front : List RawAddr) (limit i mid at end : ℕ) (total : Result (List RawAddr × ℕ) Refusal) (so_far : with_front front (addrs_at (limit - i) frame shape mid at end) ≡ total) where
+module _ (frame : List ℕ) (shape : ShapeFields) (front : List RawAddr) (limit i mid at end : ℕ) (total : Result (List RawAddr × ℕ) Refusal) (so_far : with_front front (addrs_at (limit - i) frame shape mid at end) ≡ total) where
   pub goes_on : i < limit → (prefix after : ℕ) → own_at frame shape.prefix at end shape.width ≡ Ok (prefix, after) → with_front (front ++ addr_of shape (slice_range frame mid (mid + mid_of shape)) prefix ∷ []) (addrs_at (limit - (i + 1)) frame shape (mid + mid_of shape) after end) ≡ total
   unfolding addrs_at
   goes_on lt prefix after h =

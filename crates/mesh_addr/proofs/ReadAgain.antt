@@ -8,7 +8,7 @@ use Rattle.mesh_atoms.specs.Reading.{◌>>=◌, has}
 use Rattle.mesh_atoms.proofs.Reading.{Stands, stands_first, stands_next, octet_again, front_is, piece_again}
 use Rattle.mesh_addr.specs.declared.records.RawAddr.{RawAddr}
 use Rattle.mesh_addr.specs.Grammar.{padded, SpellsHead, SpellsTail, SpellsMids, SpellsPrefixes, AreAll, AreAtMost, prefixes, SpellsBlock}
-use Rattle.mesh_addr.specs.Reading.{Shape, addr_of, count_at, flags_at, number_at, counted_at, head_at, tail_at, parts_end, prefix_at, common_at, addrs_at, block_at}
+use Rattle.mesh_addr.specs.Reading.{ShapeFields, addr_of, count_at, flags_at, number_at, counted_at, head_at, tail_at, parts_end, prefix_at, common_at, addrs_at, block_at}
 
 abbrev done : {A : Type 0} → A → Result A Refusal
 done x = Ok x
@@ -79,7 +79,7 @@ first_all p q qs h = (heads q p qs (replicate (length qs) p) h, tails q p qs (re
   tails x y k l e = cc
 
 module _ (s : List ℕ) (end width : ℕ) (head tail : List ℕ) where
-  abbrev shape : Option ℕ → Shape
+  abbrev shape : Option ℕ → ShapeFields
   shape o = record { width = width; head = head; tail = tail; prefix = o }
 
   abbrev size : ℕ

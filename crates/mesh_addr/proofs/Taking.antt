@@ -11,7 +11,7 @@ use Rattle.mesh_addr.specs.declared.records.RawAddr.{RawAddr}
 use Rattle.mesh_addr.proofs.Padding.{split_at}
 use Rattle.mesh_addr.specs.Grammar.{padded, SpellsHead, SpellsTail, SpellsMids, SpellsPrefixes, AreAll, AreAtMost, prefixes, SpellsBlock, CountedFault, ZerosFault, PrefixFault, BeginsBlock, Shaped, BlockFault, prefix_count}
 use Rattle.mesh_addr.specs.Grammar as fault
-use Rattle.mesh_addr.specs.Reading.{Shape, mid_of, clashes, count_at, flags_at, number_at, counted_at, head_at, tail_at, parts_end, prefix_at, common_at, own_at, addrs_at, block_at}
+use Rattle.mesh_addr.specs.Reading.{ShapeFields, mid_of, clashes, count_at, flags_at, number_at, counted_at, head_at, tail_at, parts_end, prefix_at, common_at, own_at, addrs_at, block_at}
 use Rattle.mesh_addr.proofs.Loops.{next_part}
 
 -- a reading that means more
@@ -188,13 +188,13 @@ prefix_behind : (most q k reason : ℕ) (rest : List ℕ) → q ≤ most → Pre
 prefix_behind most q k reason rest le (fault.PrefixFault.no_prefix h) = fault.PrefixFault.no_prefix (le, h)
 prefix_behind most q k reason rest le (fault.PrefixFault.prefix_above before p more h a lt) = fault.PrefixFault.prefix_above (q ∷ before) p more (ap (λ (l : List ℕ). q ∷ l) h) (le, a) lt
 
-abbrev AreAddrs : List ℕ → Shape → ℕ → ℕ → ℕ → ℕ → List RawAddr × ℕ → Type 0
+abbrev AreAddrs : List ℕ → ShapeFields → ℕ → ℕ → ℕ → ℕ → List RawAddr × ℕ → Type 0
 AreAddrs s shape n mid at end x = (length x.0 ≡ n) × SpellsMids shape.head shape.tail (mid_of shape) x.0 (slice_range s mid (mid + n * mid_of shape)) × Took s at end (λ addrs text. AreOwn shape.prefix (8 * shape.width) (prefixes addrs) text) x
 
-abbrev AddrFault : List ℕ → Shape → ℕ → ℕ → ℕ → Refusal → Type 0
+abbrev AddrFault : List ℕ → ShapeFields → ℕ → ℕ → ℕ → Refusal → Type 0
 AddrFault s shape n at end e = (shape.prefix ≡ None) × Faulty at (λ k reason. (k < n) × PrefixFault (8 * shape.width) (slice_range s at end) k reason) e
 
-addrs_take : (n : ℕ) (s : List ℕ) (shape : Shape) (mid at end : ℕ) → at ≤ end → end ≤ length s → mid + n * mid_of shape ≤ end → MatchResult (addrs_at n s shape mid at end) (AreAddrs s shape n mid at end) (AddrFault s shape n at end)
+addrs_take : (n : ℕ) (s : List ℕ) (shape : ShapeFields) (mid at end : ℕ) → at ≤ end → end ≤ length s → mid + n * mid_of shape ≤ end → MatchResult (addrs_at n s shape mid at end) (AreAddrs s shape n mid at end) (AddrFault s shape n at end)
 unfolding addrs_at
 addrs_take zero s shape mid at end le fits room =
     let z : mid + 0 * mid_of shape - mid ≡ 0 = omega arith in
@@ -314,7 +314,7 @@ block_takes width s at end fits =
     (λ e h. let pos : 0 < prefix_count f.0 n.0 = rw h.0 (omega arith) in
     moved width s at end after (2 + length text + length mids + 0) h.1.0 h.1.1 e (fault.BlockFault.prefix n.0 f.0 0 h.1.1 head.0 tail.0 text mids (slice_range s after end) (shaped (mids ++ slice_range s after end) split) long pos h.1.2.1) h.1.3 (omega (arith, both.len, long, t4.0, h.1.2.0)))
     (λ common t5.
-    let shape : Shape = record { width = width; head = head.0; tail = tail.0; prefix = common.0 } in
+    let shape : ShapeFields = record { width = width; head = head.0; tail = tail.0; prefix = common.0 } in
     meets_ok (addrs_at n.0 s shape tail.1 common.1 end) (AreAddrs s shape n.0 tail.1 common.1 end) P (AddrFault s shape n.0 common.1 end) Q (addrs_take n.0 s shape tail.1 common.1 end t5.2.within fits (omega (arith, t4.0, t4.1)))
     (λ e h.
     let each : (has f.0 16 ≡ false) × (has f.0 8 ≡ true) × (t5.0 ≡ []) = subst (λ (o : Option ℕ). IsCommon (has f.0 16) (has f.0 8) width o t5.0) h.0 t5.1 in

@@ -6,7 +6,7 @@ use Rattle.mesh_addr.specs.declared.records.RawAddr.{RawAddr}
 use Rattle.mesh_addr.specs.Grammar.{padded}
 
 -- what is known of a block before its middle parts are read
-pub record Shape : Type 0 where
+pub record ShapeFields : Type 0 where
   pub width : ℕ
   pub head : List ℕ
   pub tail : List ℕ
@@ -14,7 +14,7 @@ pub record Shape : Type 0 where
   pub prefix : Option ℕ
 
 -- how many octets a middle part has
-abbrev pub mid_of : Shape → ℕ
+abbrev pub mid_of : ShapeFields → ℕ
 mid_of shape = shape.width - (length shape.head + length shape.tail)
 
 -- both tail flags or both prefix flags
@@ -80,11 +80,11 @@ own_at frame None at end width = prefix_at frame at end width
 own_at frame (Some p) at end width = Ok (p, at)
 
 -- the address of a middle part
-abbrev pub addr_of : Shape → List ℕ → ℕ → RawAddr
+abbrev pub addr_of : ShapeFields → List ℕ → ℕ → RawAddr
 addr_of shape mid prefix = record { octets = padded (shape.head ++ (mid ++ shape.tail)); prefix = prefix }
 
 -- so many addresses: middle parts from `mid` on, prefix lengths from `at` on
-unfoldable pub addrs_at : ℕ → List ℕ → Shape → ℕ → ℕ → ℕ → Result (List RawAddr × ℕ) Refusal
+unfoldable pub addrs_at : ℕ → List ℕ → ShapeFields → ℕ → ℕ → ℕ → Result (List RawAddr × ℕ) Refusal
 addrs_at zero frame shape mid at end = Ok ([], at)
 addrs_at (suc n) frame shape mid at end =
     own_at frame shape.prefix at end shape.width >>= λ prefix.

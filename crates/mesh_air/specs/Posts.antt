@@ -1,7 +1,7 @@
 -- What is handed to the operating system for the peers of an interface.
 use Rattle.std.specs.Prelude.{ℕ, [], ◌∷◌, ◌++◌, List, Option}
 use Rattle.mesh_atoms.specs.declared.addr.Endpoint.{Endpoint}
-use Rattle.mesh_io.specs.Told.{Tells}
+use Rattle.mesh_io.specs.Told.{TellsMore}
 use Rattle.mesh_io.specs.declared.airs.Sent.{Sent}
 use Rattle.mesh_io.specs.declared.airs.Sent.TheVariants.{Done, Failed}
 
@@ -21,5 +21,5 @@ both Failed later = Failed
 pub data PostsEach (frame : List ℕ) (log : Option (List Posting)) : List Endpoint → Option (List Posting) → Sent → Type 0 where
   To_none : PostsEach frame log [] log Done
   To_one_more : {peers : List Endpoint} {mid log' : Option (List Posting)} {sent : Sent} (peer : Endpoint) (answer : Sent) →
-      PostsEach frame log peers mid sent → Tells mid log' (record { peer = peer; frame = frame; answer = answer } ∷ []) →
+      PostsEach frame log peers mid sent → TellsMore mid log' (record { peer = peer; frame = frame; answer = answer } ∷ []) →
       PostsEach frame log (peers ++ peer ∷ []) log' (both sent answer)

@@ -1,7 +1,7 @@
 //! A frame for each peer of an interface.
 ghost use Rattle.std.specs.Prelude.{◌≡◌, ◌<◌, ◌≤◌, [], ◌∷◌, List, Option, length};
 ghost use Rattle.mesh_air.specs.Posts.{Posting, PostsEach, both};
-ghost use Rattle.mesh_io.specs.Told.{Tells};
+ghost use Rattle.mesh_io.specs.Told.{TellsMore};
 
 use mesh_atoms::Endpoint;
 use mesh_io::Sent;
@@ -13,7 +13,7 @@ pub(crate) trait Post {
 
     /// Hands a frame over for a peer, without waiting.
     fn post(&mut self, frame: &[u8], peer: Endpoint) -> Sent
-        ensures { Tells (posted self.old) (posted self.new)
+        ensures { TellsMore (posted self.old) (posted self.new)
             (record { peer = peer; frame = frame.now; answer = result } ∷ []) };
 }
 

@@ -50,7 +50,7 @@ pub record AreRowsBy (gives : Addr4 → Addr4 → Metric → Type 0) (networks :
 
 -- a symmetric neighbour that has chosen this router as a routing relay gives its addresses and its originator, at the metric
 -- to it (RFC 7181, section 16.1)
-pub record Gives (s : State) (a o : Addr4) (m : Metric) : Type 0 where
+pub record GivesAsSelector (s : State) (a o : Addr4) (m : Metric) : Type 0 where
   pub neighbour : Neighbour
   pub symmetric : HasSymmetric s o neighbour
   pub selects : IsTrue neighbour.selector
@@ -59,23 +59,23 @@ pub record Gives (s : State) (a o : Addr4) (m : Metric) : Type 0 where
 
 -- the router advertises the address at that metric
 abbrev pub Advertises : State → Addr4 → Metric → Type 0
-Advertises s = AdvertisesBy (Gives s)
+Advertises s = AdvertisesBy (GivesAsSelector s)
 
 -- it advertises the address as an originator's
 abbrev pub AdvertisesOriginator : State → Addr4 → Type 0
-AdvertisesOriginator s = AdvertisesOriginatorBy (Gives s)
+AdvertisesOriginator s = AdvertisesOriginatorBy (GivesAsSelector s)
 
 -- it advertises the attached network
 abbrev pub AdvertisesNetwork : State → NetAddr → ℕ → Metric → Type 0
-AdvertisesNetwork s = AdvertisesNetworkBy (Gives s) s.settings.attached
+AdvertisesNetwork s = AdvertisesNetworkBy (GivesAsSelector s) s.settings.attached
 
 -- a row that it advertises
 abbrev pub IsTcRow : State → TcRow → Type 0
-IsTcRow s = IsRowBy (Gives s) s.settings.attached
+IsTcRow s = IsRowBy (GivesAsSelector s) s.settings.attached
 
 -- the rows that it advertises now, in ascending order
 abbrev pub AreTcRows : State → List TcRow → Type 0
-AreTcRows s = AreRowsBy (Gives s) s.settings.attached
+AreTcRows s = AreRowsBy (GivesAsSelector s) s.settings.attached
 
 -- TCs in parts
 

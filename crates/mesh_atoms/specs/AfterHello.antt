@@ -40,9 +40,9 @@ made rule shown now = (
 )
 
 -- the link that the HELLO renews: the one with the sending list, else a made one
-pub data Begins (rule : Admit) (shown : Shown) (now : ℕ) (old : Option (Link × ℕ)) : Link × ℕ → Type 0 where
-  Stood : (e : Link × ℕ) → old ≡ Some e → e.0.addrs ≡ shown.sending → Begins rule shown now old e
-  Made : ((e : Link × ℕ) → old ≡ Some e → e.0.addrs ≢ shown.sending) → Begins rule shown now old (made rule shown now)
+pub data LinkKeptOrMade (rule : Admit) (shown : Shown) (now : ℕ) (old : Option (Link × ℕ)) : Link × ℕ → Type 0 where
+  Stood : (e : Link × ℕ) → old ≡ Some e → e.0.addrs ≡ shown.sending → LinkKeptOrMade rule shown now old e
+  Made : ((e : Link × ℕ) → old ≡ Some e → e.0.addrs ≢ shown.sending) → LinkKeptOrMade rule shown now old (made rule shown now)
 
 -- what the HELLO says of the link: HEARD or SYMMETRIC makes it symmetric, LOST ends that, and it may say nothing of it
 abbrev pub by_status : Shown → ℕ → ℕ → Option LinkStatus → Link × ℕ → Link × ℕ
@@ -128,7 +128,7 @@ pub record AfterHello (settings : RouterSettings) (now i : ℕ) (told : Told) (h
   pub tables : HasTables new
   pub interfaces : length new.links ≡ length old.links
   pub two_hop_interfaces : length new.two_hops ≡ length old.two_hops
-  pub link : (start : Link × ℕ) × Begins (rule_of settings i) told.shown now (link_at old i told.least) start
+  pub link : (start : Link × ℕ) × LinkKeptOrMade (rule_of settings i) told.shown now (link_at old i told.least) start
       × (link_at new i told.least ≡ Some (renewed told.shown settings.times.link_hold now start))
   pub other_links : (j : ℕ) (key : LinkKey) → ((j ≢ i) ⊎ (key ≢ told.least)) →
       IsKept (λ e. GoesOn old told i j e.0) (link_at old j key) (link_at new j key)

@@ -12,7 +12,7 @@ use Rattle.mesh_atoms.specs.declared.tc.Tc.{Tc}
 use Rattle.mesh_atoms.specs.declared.tc.TcRow.{TcRow}
 use Rattle.mesh_atoms.specs.Base.{Base, HasDistinctKeys, find, SetsOnly, host, addr_eq, router_eq, address_eq, network_eq}
 use Rattle.mesh_atoms.specs.Codes.Codes.{Newer}
-use Rattle.mesh_atoms.specs.State.{Topology}
+use Rattle.mesh_atoms.specs.State.{TopologyBase}
 
 -- What a TC's rows give (RFC 7181, section 16.3.3)
 
@@ -54,7 +54,7 @@ pub record BecomesSet {K V : Type 0} (eq : K → K → Bool) (tc : Tc) (until : 
   pub at : (key : K) → Becomes tc until from number Given_by key (find eq old key) (find eq new key)
 
 -- the topology after a TC (RFC 7181, section 16.3.3)
-pub record AfterTc (now : ℕ) (tc : Tc) (old new : Topology) : Type 0 where
+pub record AfterTc (now : ℕ) (tc : Tc) (old new : TopologyBase) : Type 0 where
   pub distinct : HasDistinctKeys addr_eq new.advertisers
   pub advertisers : SetsOnly addr_eq old.advertisers new.advertisers tc.originator (Some (record { ansn = tc.ansn }, now + tc.validity))
   pub routers : BecomesSet router_eq tc (now + tc.validity) (λ k. k.from) (λ t. t.ansn)
@@ -67,11 +67,11 @@ pub record AfterTc (now : ℕ) (tc : Tc) (old new : Topology) : Type 0 where
 -- What changes nothing
 
 -- the originator's number that is kept is newer than the TC's (RFC 7181, section 16.3.3)
-abbrev pub IsOld : Topology → Tc → ℕ → Type 0
+abbrev pub IsOld : TopologyBase → Tc → ℕ → Type 0
 IsOld topology tc kept = (e : Advertiser × ℕ) × (find addr_eq topology.advertisers tc.originator ≡ Some e) × (e.0.ansn ≡ kept) × Newer kept tc.ansn
 
 -- whether the tuples of a set and the TC's rows for it are more than 16,384
-abbrev pub is_overfull : Topology → Tc → Kind → Bool
+abbrev pub is_overfull : TopologyBase → Tc → Kind → Bool
 is_overfull topology tc Advertisers = nat_lt 16384 (length topology.advertisers + 1)
 is_overfull topology tc Routers = nat_lt 16384 (length topology.routers + count_by (λ row. row.origin && is_some row.metric) tc.rows)
 is_overfull topology tc Addresses = nat_lt 16384 (length topology.addresses + count_by (λ row. row.routable && is_some row.metric) tc.rows)
@@ -79,7 +79,7 @@ is_overfull topology tc Networks = nat_lt 16384 (length topology.networks + coun
 is_overfull topology tc other = false
 
 -- the first of the four sets for which they are too many
-abbrev pub first_overfull : Topology → Tc → Option Kind
+abbrev pub first_overfull : TopologyBase → Tc → Option Kind
 first_overfull topology tc =
     cond (is_overfull topology tc Advertisers) (Some Advertisers)
     (cond (is_overfull topology tc Routers) (Some Routers)
@@ -93,8 +93,8 @@ pub data TcAnswer : Type 0 where
   Full_of : Kind → TcAnswer
 
 -- the taking of a TC, with its answer; only a TC that is taken changes anything
-pub data TakesTc (now : ℕ) (tc : Tc) (old : Topology) : Topology → TcAnswer → Type 0 where
+pub data TakesTc (now : ℕ) (tc : Tc) (old : TopologyBase) : TopologyBase → TcAnswer → Type 0 where
   Is_old : (kept : ℕ) → IsOld old tc kept → TakesTc now tc old old (Too_old kept)
   Overfull : (kind : Kind) → ((kept : ℕ) → IsOld old tc kept → ⊥) → first_overfull old tc ≡ Some kind → TakesTc now tc old old (Full_of kind)
-  Takes : {new : Topology} → ((kept : ℕ) → IsOld old tc kept → ⊥) → first_overfull old tc ≡ None → AfterTc now tc old new →
+  Takes : {new : TopologyBase} → ((kept : ℕ) → IsOld old tc kept → ⊥) → first_overfull old tc ≡ None → AfterTc now tc old new →
       TakesTc now tc old new Taken

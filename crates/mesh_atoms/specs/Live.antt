@@ -9,7 +9,7 @@ use Rattle.mesh_atoms.specs.declared.tuples.Lost.{Lost}
 use Rattle.mesh_atoms.specs.declared.settings.RouterSettings.{RouterSettings}
 use Rattle.mesh_atoms.specs.Base.{HasDistinctKeys, if_live, Expires, base_of, link_eq, two_hop_eq, addr_eq, router_eq, address_eq, network_eq, flood_eq}
 use Rattle.mesh_atoms.specs.Quality.{admit_on}
-use Rattle.mesh_atoms.specs.State.{Neighbourhood, Topology, NotedMessages, Bases, is_symmetric, link_at, two_hop_at, neighbour_at, lost_at}
+use Rattle.mesh_atoms.specs.State.{Neighbourhood, TopologyBase, NotedMessages, Bases, is_symmetric, link_at, two_hop_at, neighbour_at, lost_at}
 use Rattle.mesh_atoms.specs.Words.{IsLeastMetric}
 
 -- Links
@@ -53,7 +53,7 @@ pub record IsByLinks (near : Neighbourhood) (now : ℕ) (n : Neighbour) (until :
   pub metric_out : IsLeastMetric (λ m. (link : Link) × HasSymmetricOf near now n.addrs link × (link.link_out ≡ Some m)) n.metric_out
 
 -- a neighbour that stays has its addresses and willingness, and its selector flag only where it is symmetric
-pub record Renews (near : Neighbourhood) (now : ℕ) (old new : Neighbour) (until : ℕ) : Type 0 where
+pub record KeepsNeighbour (near : Neighbourhood) (now : ℕ) (old new : Neighbour) (until : ℕ) : Type 0 where
   pub addrs : new.addrs ≡ old.addrs
   pub willing : new.willing ≡ old.willing
   pub selector : new.selector ≡ (old.selector && new.symmetric)
@@ -63,7 +63,7 @@ pub record Renews (near : Neighbourhood) (now : ℕ) (old new : Neighbour) (unti
 abbrev pub Restores : Neighbourhood → ℕ → Option (Neighbour × ℕ) → Option (Neighbour × ℕ) → Type 0
 Restores near now None new = new ≡ None
 Restores near now (Some e) None = (i : ℕ) (key : LinkKey) (f : Link × ℕ) → HasLinkOf near e.0.addrs i key f → ⊥
-Restores near now (Some e) (Some f) = Renews near now e.0 f.0 f.1
+Restores near now (Some e) (Some f) = KeepsNeighbour near now e.0 f.0 f.1
 
 -- Lost addresses (RFC 6130, sections 8.2 and 12.4)
 
@@ -102,7 +102,7 @@ pub record LiveNeighbourhood (settings : RouterSettings) (now : ℕ) (old new : 
       (if_live now (lost_at old a)) (lost_at new a)
 
 -- topology tuples that aren't expired
-pub record LiveTopology (now : ℕ) (old new : Topology) : Type 0 where
+pub record LiveTopology (now : ℕ) (old new : TopologyBase) : Type 0 where
   pub distinct_advertisers : HasDistinctKeys addr_eq new.advertisers
   pub distinct_routers : HasDistinctKeys router_eq new.routers
   pub distinct_addresses : HasDistinctKeys address_eq new.addresses

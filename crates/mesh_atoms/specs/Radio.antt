@@ -53,8 +53,8 @@ pub record IsMetric (s : Scenario) (x y : ℕ) (m : Metric) : Type 0 where
   pub least : (i j : ℕ) (there back : Metric) → Joins s x i y j there back → metric_value m ≤ metric_value there
 
 -- the same as a cost
-abbrev pub Hop : Scenario → ℕ → ℕ → ℕ → Type 0
-Hop s x y c = (m : Metric) × IsMetric s x y m × (metric_value m ≡ c)
+abbrev pub HopCosts : Scenario → ℕ → ℕ → ℕ → Type 0
+HopCosts s x y c = (m : Metric) × IsMetric s x y m × (metric_value m ≡ c)
 
 -- a chain of joined interfaces leads from x to the router
 pub data Joined (s : Scenario) (x : ℕ) : ℕ → Type 0 where
@@ -68,8 +68,8 @@ abbrev pub Router : Scenario → ℕ → RouterSettings → Type 0
 Router s x r = slice_get s.routers x ≡ Some r
 
 -- router x is willing to route
-abbrev pub Willing : Scenario → ℕ → Type 0
-Willing s x = (r : RouterSettings) × Router s x r × (r.willing.routing ≢ 0)
+abbrev pub IsWillingRouter : Scenario → ℕ → Type 0
+IsWillingRouter s x = (r : RouterSettings) × Router s x r × (r.willing.routing ≢ 0)
 
 -- an address of router x
 abbrev pub AddressOf : Scenario → ℕ → Addr4 → Type 0
@@ -103,8 +103,8 @@ pub record IsSoundScenario (s : Scenario) : Type 0 where
 -- the least cost from router x over walks whose inner routers are willing to route: to an address of another router, or to a
 -- network that x doesn't attach, by way of a gateway
 pub data RadioLeast (s : Scenario) (x : ℕ) : NetAddr → ℕ → Type 0 where
-  To_router : {y c : ℕ} {a : Addr4} → y ≢ x → AddressOf s y a → LeastWilling (Hop s) (Willing s) x y c → RadioLeast s x (host a) c
-  To_network : {net : NetAddr} {c : ℕ} → ((k : ℕ) → Attaches s x net k → ⊥) → LeastToNet (Hop s) (Willing s) (Attaches s) x net c →
+  To_router : {y c : ℕ} {a : Addr4} → y ≢ x → AddressOf s y a → LeastWilling (HopCosts s) (IsWillingRouter s) x y c → RadioLeast s x (host a) c
+  To_network : {net : NetAddr} {c : ℕ} → ((k : ℕ) → Attaches s x net k → ⊥) → LeastToNet (HopCosts s) (IsWillingRouter s) (Attaches s) x net c →
       RadioLeast s x net c
 
 -- the radio graph as a value: one pair for each direction of two joined interfaces, and for each router the least number among

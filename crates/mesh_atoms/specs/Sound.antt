@@ -12,7 +12,7 @@ use Rattle.mesh_atoms.specs.declared.tuples.Neighbour.{Neighbour}
 use Rattle.mesh_atoms.specs.declared.tuples.Lost.{Lost}
 use Rattle.mesh_atoms.specs.declared.settings.RouterSettings.{RouterSettings}
 use Rattle.mesh_atoms.specs.Base.{Base, find, base_of, HasDistinctKeys, IsFresh, addr_eq, link_eq, two_hop_eq, router_eq, address_eq, network_eq, flood_eq}
-use Rattle.mesh_atoms.specs.State.{Neighbourhood, Topology, NotedMessages, State, is_symmetric, link_at, two_hop_at, neighbour_at, lost_at, HasAddress, IsOriginator}
+use Rattle.mesh_atoms.specs.State.{Neighbourhood, TopologyBase, NotedMessages, State, is_symmetric, link_at, two_hop_at, neighbour_at, lost_at, HasAddress, IsOriginator}
 use Rattle.mesh_atoms.specs.Quality.{admit_on}
 use Rattle.mesh_atoms.specs.Live.{IsByLinks, IsSymmetricAddress, is_symmetric_at}
 use Rattle.mesh_atoms.specs.Words.{IsAscending, AreMoreThan}
@@ -71,7 +71,7 @@ pub record SoundNeighbourhood (settings : RouterSettings) (now : ℕ) (near : Ne
   pub lost_not_mine : (a : Addr4) (e : Lost × ℕ) → lost_at near a ≡ Some e → HasAddress settings a → ⊥
 
 -- a sound topology: no tuple is from the router itself
-pub record SoundTopology (settings : RouterSettings) (now : ℕ) (topology : Topology) : Type 0 where
+pub record SoundTopology (settings : RouterSettings) (now : ℕ) (topology : TopologyBase) : Type 0 where
   pub advertisers : IsWithin addr_eq now 16384 topology.advertisers
   pub routers : IsWithin router_eq now 16384 topology.routers
   pub addresses : IsWithin address_eq now 16384 topology.addresses

@@ -37,7 +37,7 @@ pub record Neighbourhood : Type 0 where
   pub losts : Base Addr4 Lost
 
 -- the topology (RFC 7181, section 10): who advertises, and what
-pub record Topology : Type 0 where
+pub record TopologyBase : Type 0 where
   pub advertisers : Base Addr4 Advertiser
   pub routers : Base RouterKey RouterTuple
   pub addresses : Base AddressKey AddressTuple
@@ -52,7 +52,7 @@ pub record NotedMessages : Type 0 where
 -- all bases of a router
 pub record Bases : Type 0 where
   pub neighbourhood : Neighbourhood
-  pub topology : Topology
+  pub topology : TopologyBase
   pub noted : NotedMessages
 
 -- a router at a moment

@@ -48,16 +48,16 @@ fn write_again<W: Write>(writer: &mut W, bytes: &[u8]) -> io::Result<usize>
 
 /// A source over a reader. It reads 2^64 - 1 octets at most, and counts a fault where more are asked of it.
 #[derive(Drop)]
-pub struct Reading<R> {
+pub struct ReaderSource<R> {
     inner: R,
     taken: u64,
     faults: u64,
 }
 
-impl<R: Read> Reading<R> {
+impl<R: Read> ReaderSource<R> {
     /// A source over that reader, which has taken nothing and counted no fault.
-    pub fn new(inner: R) -> Reading<R> {
-        Reading {
+    pub fn new(inner: R) -> ReaderSource<R> {
+        ReaderSource {
             inner,
             taken: 0,
             faults: 0,
@@ -65,7 +65,7 @@ impl<R: Read> Reading<R> {
     }
 }
 
-impl<R: Read> Source for Reading<R> {
+impl<R: Read> Source for ReaderSource<R> {
     ghost left = { λ s. R.remaining s.inner };
 
     ghost taken = { λ s. s.taken };

@@ -9,7 +9,7 @@ ghost use Rattle.mesh_tool.specs.Words.Words.{texts};
 
 mod adapters;
 
-use adapters::{Reading, Writing};
+use adapters::{ReaderSource, Writing};
 use mesh_air::{SystemClock, UdpAir};
 use mesh_io::{Sink, write_all};
 use mesh_tool::{Status, mesh_top};
@@ -68,7 +68,7 @@ fn run_words<O: Sink, E: Sink>(
       err_faults' = E.faults err.new;
     }) result }
 {
-    let mut input = Reading::new(rt.stdin());
+    let mut input = ReaderSource::new(rt.stdin());
     let mut clock = SystemClock::new(rt);
     match UdpAir::new(rt, rt.alloc()) {
         Ok(mut air) => mesh_top(

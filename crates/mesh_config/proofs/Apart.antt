@@ -15,7 +15,7 @@ use Rattle.mesh_atoms.proofs.Lookups.{same_addr}
 use Rattle.mesh_config.specs.declared.stated.stated.StatedInterface.{StatedInterface}
 use Rattle.mesh_config.specs.declared.stated.stated.StatedRouter.{StatedRouter}
 use Rattle.mesh_config.specs.Checks.Compared.{all_addrs, stated_lists, ends_of}
-use Rattle.mesh_config.specs.Senders.{AreApart, Lists, first_addr, with_metric, sender_by, sender_pair, senders_to}
+use Rattle.mesh_config.specs.Senders.{HaveNoDuplicates, AddressLists, first_addr, with_metric, sender_by, sender_pair, senders_to}
 use Rattle.mesh_config.proofs.Builds.{distinct_front, map-then}
 use Rattle.mesh_atoms.proofs.Options.{not_both as no_both}
 use Rattle.mesh_atoms.proofs.Lists.{back_distinct}
@@ -80,7 +80,7 @@ first_among : (a : Addr4) (xs : List Addr4) → slice_get xs 0 ≡ Some a → li
 first_among a [] h = let bad : ⊥ = cc in absurd bad
 first_among a (x ∷ xs) h = let same : x ≡ a = cc in rw (same, self_eq a) refl
 
-pub record Found (lists : Lists) (router iface : ℕ) (a : Addr4) : Type 0 where
+pub record Found (lists : AddressLists) (router iface : ℕ) (a : Addr4) : Type 0 where
   pub faces : List (List Addr4)
   pub at_router : slice_get lists router ≡ Some faces
   pub addrs : List Addr4
@@ -88,7 +88,7 @@ pub record Found (lists : Lists) (router iface : ℕ) (a : Addr4) : Type 0 where
   pub of_iface : list_any (addr_eq a) addrs ≡ true
   pub of_router : list_any (addr_eq a) (of_faces faces) ≡ true
 
-found : (lists : Lists) (router iface : ℕ) (a : Addr4) → first_addr lists router iface ≡ Some a → Found lists router iface a
+found : (lists : AddressLists) (router iface : ℕ) (a : Addr4) → first_addr lists router iface ≡ Some a → Found lists router iface a
 found lists router iface a h =
     let one = bind_some (slice_get lists router) (λ faces. slice_get faces iface >>= λ addrs. slice_get addrs 0) a h in
     let two = bind_some (slice_get one.0 iface) (λ addrs. slice_get addrs 0) a one.1.1 in
@@ -106,7 +106,7 @@ one_some : {A : Type 0} (o : Option A) (x y : A) → o ≡ Some x → o ≡ Some
 one_some None x y h k = let bad : ⊥ = cc in absurd bad
 one_some (Some z) x y h k = let left : z ≡ x = cc in let right : z ≡ y = cc in sym right ∙ left
 
-one_interface : (lists : Lists) (r i s j : ℕ) (a : Addr4) → are_distinct addr_eq (flat_map of_faces lists) ≡ true → first_addr lists r i ≡ Some a → first_addr lists s j ≡ Some a → (r ≡ s) × (i ≡ j)
+one_interface : (lists : AddressLists) (r i s j : ℕ) (a : Addr4) → are_distinct addr_eq (flat_map of_faces lists) ≡ true → first_addr lists r i ≡ Some a → first_addr lists s j ≡ Some a → (r ≡ s) × (i ≡ j)
 one_interface lists r i s j a apart h k =
     let x = found lists r i a h in let y = found lists s j a k in
     let routers : r ≡ s = one_list of_faces lists r s x.faces y.faces a apart x.at_router y.at_router x.of_router y.of_router in
@@ -136,10 +136,10 @@ apart_given metric true (Some c) rest h apart = rw (h c refl refl, apart) refl
 abbrev leads_to : ℕ → ℕ → RadioArc → Bool
 leads_to router iface arc = nat_eq arc.to router && nat_eq arc.to_iface iface
 
-abbrev addrs_to : Lists → List RadioArc → ℕ → ℕ → List Addr4
+abbrev addrs_to : AddressLists → List RadioArc → ℕ → ℕ → List Addr4
 addrs_to lists arcs router iface = map addr_of (senders_to lists arcs router iface)
 
-addrs_more : (lists : Lists) (arc : RadioArc) (arcs : List RadioArc) (router iface : ℕ)
+addrs_more : (lists : AddressLists) (arc : RadioArc) (arcs : List RadioArc) (router iface : ℕ)
     → addrs_to lists (arc ∷ arcs) router iface ≡ given arc.metric (leads_to router iface arc) (first_addr lists arc.from arc.from_iface) ++ addrs_to lists arcs router iface
 addrs_more lists arc arcs router iface = map-append addr_of (sender_by lists router iface arc) (senders_to lists arcs router iface)
 
@@ -151,7 +151,7 @@ ends_same x y router iface from from_iface at bt =
     rw (eq-eqb x.from y.from from, eq-eqb x.from_iface y.from_iface from_iface, eq-eqb x.to y.to to, eq-eqb x.to_iface y.to_iface to_iface) refl
 
 -- an arc's sender is none of those that arcs between other interfaces give
-none_again : (lists : Lists) (arc : RadioArc) (arcs : List RadioArc) (router iface : ℕ) (a : Addr4) → are_distinct addr_eq (flat_map of_faces lists) ≡ true
+none_again : (lists : AddressLists) (arc : RadioArc) (arcs : List RadioArc) (router iface : ℕ) (a : Addr4) → are_distinct addr_eq (flat_map of_faces lists) ≡ true
     → leads_to router iface arc ≡ true → first_addr lists arc.from arc.from_iface ≡ Some a → list_any (ends_eq (ends_of arc)) (map ends_of arcs) ≡ false → list_any (addr_eq a) (addrs_to lists arcs router iface) ≡ false
 none_again lists arc [] router iface a apart leads is alone = refl
 none_again lists arc (b ∷ bs) router iface a apart leads is alone =
@@ -169,7 +169,7 @@ none_again lists arc (b ∷ bs) router iface a apart leads is alone =
       other : (c : Addr4) → leads_to router iface b ≡ true → first_addr lists b.from b.from_iface ≡ Some c → addr_eq a c ≡ false
       other c here at = false_from_ne_true (addr_eq a c) (meets c here at)
 
-addrs_apart : (lists : Lists) (arcs : List RadioArc) (router iface : ℕ) → are_distinct addr_eq (flat_map of_faces lists) ≡ true → are_distinct ends_eq (map ends_of arcs) ≡ true
+addrs_apart : (lists : AddressLists) (arcs : List RadioArc) (router iface : ℕ) → are_distinct addr_eq (flat_map of_faces lists) ≡ true → are_distinct ends_eq (map ends_of arcs) ≡ true
     → are_distinct addr_eq (addrs_to lists arcs router iface) ≡ true
 addrs_apart lists [] router iface apart h = refl
 addrs_apart lists (arc ∷ arcs) router iface apart h =
@@ -192,7 +192,7 @@ flat_same : (rs : List StatedRouter) → flat_map of_faces (stated_lists rs) ≡
 flat_same [] = refl
 flat_same (r ∷ rs) = rw (faces_same r.interfaces, flat_same rs) refl
 
-pub senders_apart : (routers : List StatedRouter) (arcs : List RadioArc) (router iface : ℕ) (senders : List SenderMetric) → AreApart routers arcs → map sender_pair senders ≡ senders_to (stated_lists routers) arcs router iface
+pub senders_apart : (routers : List StatedRouter) (arcs : List RadioArc) (router iface : ℕ) (senders : List SenderMetric) → HaveNoDuplicates routers arcs → map sender_pair senders ≡ senders_to (stated_lists routers) arcs router iface
     → are_distinct addr_eq (map (λ s. s.sender) senders) ≡ true
 senders_apart routers arcs router iface senders apart met =
     let pairs : map (λ (s : SenderMetric). s.sender) senders ≡ addrs_to (stated_lists routers) arcs router iface = sym (map-then addr_of sender_pair senders) ∙ ap (map addr_of) met in

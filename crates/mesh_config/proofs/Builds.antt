@@ -17,12 +17,12 @@ use Rattle.mesh_config.specs.Checks.Checks.{duplicate_unless}
 use Rattle.mesh_config.specs.Checks.Compared.{same_router, same_interface, same_attached, router_addrs, all_addrs, attaches_no_host, stated_duplicates}
 use Rattle.mesh_config.specs.Fields.{interface_fields, IsClear}
 use Rattle.mesh_config.specs.Stated.Router.{InterfaceFields, stated_interface_fields}
-use Rattle.mesh_config.specs.Senders.{Lists, senders_to, sender_pair, HaveSenders, HaveAllSenders}
+use Rattle.mesh_config.specs.Senders.{AddressLists, senders_to, sender_pair, HaveSenders, HaveAllSenders}
 use Rattle.mesh_config.proofs.ChecksLemmas.Links.{are_distinct-map}
 use Rattle.mesh_atoms.proofs.Lists.{back_distinct}
 
 -- one more interface, one more router
-pub senders_more : (lists : Lists) (arcs : List RadioArc) (router i n : ℕ) (xs : List Interface) (x : Interface) → HaveSenders lists arcs router i xs → i + length xs ≡ n
+pub senders_more : (lists : AddressLists) (arcs : List RadioArc) (router i n : ℕ) (xs : List Interface) (x : Interface) → HaveSenders lists arcs router i xs → i + length xs ≡ n
     → map sender_pair x.senders ≡ senders_to lists arcs router n → x.metric.code ≡ 0 → HaveSenders lists arcs router i (xs ++ x ∷ [])
 senders_more lists arcs router i n [] x all here met own =
     let at : i ≡ n = omega arith in
@@ -31,7 +31,7 @@ senders_more lists arcs router i n (y ∷ ys) x all here met own =
     let at : (i + 1) + length ys ≡ n = omega arith in
     (all.0, senders_more lists arcs router (i + 1) n ys x all.1 at met own)
 
-pub all_senders_more : (lists : Lists) (arcs : List RadioArc) (i n : ℕ) (xs : List RouterSettings) (x : RouterSettings) → HaveAllSenders lists arcs i xs → i + length xs ≡ n
+pub all_senders_more : (lists : AddressLists) (arcs : List RadioArc) (i n : ℕ) (xs : List RouterSettings) (x : RouterSettings) → HaveAllSenders lists arcs i xs → i + length xs ≡ n
     → HaveSenders lists arcs n 0 x.interfaces → HaveAllSenders lists arcs i (xs ++ x ∷ [])
 all_senders_more lists arcs i n [] x all here met =
     let at : i ≡ n = omega arith in

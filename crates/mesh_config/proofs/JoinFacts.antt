@@ -5,9 +5,9 @@ use Rattle.std.proofs.lemmas.Bool.Decides.{nat_tests}
 use Rattle.std.proofs.lemmas.List.Folds.{list_any-append}
 use Rattle.mesh_atoms.specs.Settings.{name_eq, are_distinct, Ends, ends_eq, is_interface, joins_routers}
 use Rattle.mesh_config.specs.declared.keys.refusal.TheConstants.{DUPLICATE}
-use Rattle.mesh_config.specs.Keys.Faults.{Fault, Read, fault, bad_value}
+use Rattle.mesh_config.specs.Keys.Faults.{Fault, ReadValue, fault, bad_value}
 use Rattle.mesh_atoms.specs.Literals.{◌>>=◌}
-use Rattle.mesh_config.specs.Checks.Checks.{Identifiers, Place, find_place, known_place, ends, new_ends, joined, joins, ◌>>?◌}
+use Rattle.mesh_config.specs.Checks.Checks.{Identifiers, NamedInterface, find_place, known_place, ends, new_ends, joined, joins, ◌>>?◌}
 
 abbrev counts : List Identifiers → List ℕ
 counts routers = map (λ (n : Identifiers). length n.interface_names) routers
@@ -45,11 +45,11 @@ place_of : (routers : List Identifiers) (n : List ℕ) (found : Option ℕ) (a :
 place_of routers n None a h = let bad : ⊥ = cc in absurd bad
 place_of routers n (Some router) a h = second routers router n (slice_get routers router) a refl h
 
-place_within : (routers : List Identifiers) (p : Place) (a : ℕ × ℕ) → find_place routers p ≡ Some a → is_interface (counts routers) a.0 a.1 ≡ true
+place_within : (routers : List Identifiers) (p : NamedInterface) (a : ℕ × ℕ) → find_place routers p ≡ Some a → is_interface (counts routers) a.0 a.1 ≡ true
 place_within routers p a h = place_of routers p.1 (position (λ r. name_eq p.0 r.router_name) routers) a h
 
 -- ---- what was read one after the other
-bind_ok : {A B : Type 0} (r : Read A) (f : A → Read B) (y : B) → (r >>? f) ≡ Ok y → (x : A) × ((r ≡ Ok x) × (f x ≡ Ok y))
+bind_ok : {A B : Type 0} (r : ReadValue A) (f : A → ReadValue B) (y : B) → (r >>? f) ≡ Ok y → (x : A) × ((r ≡ Ok x) × (f x ≡ Ok y))
 bind_ok (Ok x) f y h = (x, (refl, h))
 bind_ok (Err e) f y h = let bad : ⊥ = cc in absurd bad
 
@@ -66,7 +66,7 @@ pub record Joins (routers : List Identifiers) (earlier : List Ends) (e : Ends) :
   pub in_range : joins_routers (counts routers) e ≡ true
   pub new : list_any (ends_eq e) earlier ≡ false
 
-joined_ok : (routers : List Identifiers) (earlier : List Ends) (arc : Place × Place) (e : Ends) → joined routers earlier arc ≡ Ok e → Joins routers earlier e
+joined_ok : (routers : List Identifiers) (earlier : List Ends) (arc : NamedInterface × NamedInterface) (e : Ends) → joined routers earlier arc ≡ Ok e → Joins routers earlier e
 joined_ok routers earlier arc e h =
     let one = bind_ok (known_place (codes "from") (find_place routers arc.0)) (λ a. known_place (codes "to") (find_place routers arc.1) >>? λ b. new_ends earlier a b) e h in
     let two = bind_ok (known_place (codes "to") (find_place routers arc.1)) (λ b. new_ends earlier one.0 b) e one.1.1 in
@@ -77,10 +77,10 @@ joined_ok routers earlier arc e h =
     let says : Ends → Type 0 = λ x. Joins routers earlier x in
     subst says (sym made.1.1) (record { in_range = rw (from, to, made.0); new = made.1.0 })
 
-abbrev whole_list : List Ends → Read (List Ends)
+abbrev whole_list : List Ends → ReadValue (List Ends)
 whole_list xs = Ok xs
 
-joins_more : (routers : List Identifiers) (earlier : List Ends) (arc : Place × Place) (arcs : List (Place × Place)) (es : List Ends) → joins routers earlier (arc ∷ arcs) ≡ Ok es
+joins_more : (routers : List Identifiers) (earlier : List Ends) (arc : NamedInterface × NamedInterface) (arcs : List (NamedInterface × NamedInterface)) (es : List Ends) → joins routers earlier (arc ∷ arcs) ≡ Ok es
     → (e : Ends) × ((xs : List Ends) × ((joined routers earlier arc ≡ Ok e) × ((joins routers (earlier ++ e ∷ []) arcs ≡ Ok xs) × (es ≡ e ∷ xs))))
 joins_more routers earlier arc arcs es h =
     let one = bind_ok (joined routers earlier arc) (λ e. joins routers (earlier ++ e ∷ []) arcs >>? λ xs. Ok (e ∷ xs)) es h in
@@ -106,7 +106,7 @@ any_last p xs x h = grind (arith, list_any-append p xs (x ∷ []), h)
 none_of : (es : List Ends) → whole_list [] ≡ Ok es → [] ≡ es
 none_of es h = cc
 
-pub joins_range : (routers : List Identifiers) (earlier : List Ends) (arcs : List (Place × Place)) (es : List Ends) → joins routers earlier arcs ≡ Ok es
+pub joins_range : (routers : List Identifiers) (earlier : List Ends) (arcs : List (NamedInterface × NamedInterface)) (es : List Ends) → joins routers earlier arcs ≡ Ok es
     → list_all (joins_routers (map (λ (n : Identifiers). length n.interface_names) routers)) es ≡ true
 joins_range routers earlier [] es h = rw (← none_of es h)
 joins_range routers earlier (arc ∷ arcs) es h =
@@ -114,7 +114,7 @@ joins_range routers earlier (arc ∷ arcs) es h =
     let e = parts.0 in let xs = parts.1.0 in
     rw (parts.1.1.1.1, (joined_ok routers earlier arc e parts.1.1.0).in_range, joins_range routers (earlier ++ e ∷ []) arcs xs parts.1.1.1.0)
 
-joins_fresh : (routers : List Identifiers) (earlier : List Ends) (arcs : List (Place × Place)) (es : List Ends) (x : Ends) → ((y : Ends) → list_any (ends_eq y) earlier ≡ false → ends_eq y x ≡ false)
+joins_fresh : (routers : List Identifiers) (earlier : List Ends) (arcs : List (NamedInterface × NamedInterface)) (es : List Ends) (x : Ends) → ((y : Ends) → list_any (ends_eq y) earlier ≡ false → ends_eq y x ≡ false)
     → joins routers earlier arcs ≡ Ok es → list_any (ends_eq x) es ≡ false
 joins_fresh routers earlier [] es x apart h = rw (← none_of es h)
 joins_fresh routers earlier (arc ∷ arcs) es x apart h =
@@ -123,7 +123,7 @@ joins_fresh routers earlier (arc ∷ arcs) es x apart h =
     let here : ends_eq x e ≡ false = ends_eq-sym x e ∙ apart e (joined_ok routers earlier arc e parts.1.1.0).new in
     rw (parts.1.1.1.1, here, joins_fresh routers (earlier ++ e ∷ []) arcs xs x (λ y none. apart y (any_front (ends_eq y) earlier (e ∷ []) none)) parts.1.1.1.0)
 
-distinct_from : (routers : List Identifiers) (earlier : List Ends) (arcs : List (Place × Place)) (es : List Ends) → joins routers earlier arcs ≡ Ok es → are_distinct ends_eq es ≡ true
+distinct_from : (routers : List Identifiers) (earlier : List Ends) (arcs : List (NamedInterface × NamedInterface)) (es : List Ends) → joins routers earlier arcs ≡ Ok es → are_distinct ends_eq es ≡ true
 distinct_from routers earlier [] es h = rw (← none_of es h)
 distinct_from routers earlier (arc ∷ arcs) es h =
     let parts = joins_more routers earlier arc arcs es h in
@@ -131,5 +131,5 @@ distinct_from routers earlier (arc ∷ arcs) es h =
     let alone : list_any (ends_eq e) xs ≡ false = joins_fresh routers (earlier ++ e ∷ []) arcs xs e (λ y none. any_last (ends_eq y) earlier e none) parts.1.1.1.0 in
     rw (parts.1.1.1.1, alone, distinct_from routers (earlier ++ e ∷ []) arcs xs parts.1.1.1.0)
 
-pub joins_distinct : (routers : List Identifiers) (arcs : List (Place × Place)) (es : List Ends) → joins routers [] arcs ≡ Ok es → are_distinct ends_eq es ≡ true
+pub joins_distinct : (routers : List Identifiers) (arcs : List (NamedInterface × NamedInterface)) (es : List Ends) → joins routers [] arcs ≡ Ok es → are_distinct ends_eq es ≡ true
 joins_distinct routers arcs es h = distinct_from routers [] arcs es h

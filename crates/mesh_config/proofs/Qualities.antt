@@ -15,7 +15,7 @@ use Rattle.mesh_atoms.specs.declared.settings.RouterSettings.{RouterSettings}
 use Rattle.mesh_atoms.specs.declared.settings.SenderMetric.{SenderMetric}
 use Rattle.mesh_config.specs.declared.stated.stated.StatedArc.{StatedArc}
 use Rattle.mesh_config.specs.Stated.Steps.{quality_pair}
-use Rattle.mesh_config.specs.Senders.{Lists, first_addr, with_metric, sender_by, senders_to, sender_pair, with_steps, with_quality, quality_by, qualities_to, HaveQualities, HaveAllQualities, stated_steps, steps_at}
+use Rattle.mesh_config.specs.Senders.{AddressLists, first_addr, with_metric, sender_by, senders_to, sender_pair, with_steps, with_quality, quality_by, qualities_to, HaveQualities, HaveAllQualities, stated_steps, steps_at}
 
 -- the steps of a stated arc are those at its number
 stated_there : (arcs : List StatedArc) (number : ℕ) (arc : StatedArc) → slice_get arcs number ≡ Some arc → steps_at (stated_steps arcs) number ≡ arc.steps
@@ -44,7 +44,7 @@ with_more (a ∷ arcs) (one ∷ steps) arc (suc number) h = ap (λ (l : List (Ra
 flat_one_more : {A B : Type 0} (f : A → List B) (xs : List A) (x : A) → flat_map f (xs ++ x ∷ []) ≡ flat_map f xs ++ f x
 flat_one_more f xs x = flat_map-append f xs (x ∷ []) ∙ ap (λ (l : List _). flat_map f xs ++ l) (append-nil (f x))
 
-pub qualities_more : (lists : Lists) (arcs : List RadioArc) (steps : List (List QualityStep)) (router iface i : ℕ) (arc : RadioArc) → arc ≡ get_or arcs i arc → i < length arcs
+pub qualities_more : (lists : AddressLists) (arcs : List RadioArc) (steps : List (List QualityStep)) (router iface i : ℕ) (arc : RadioArc) → arc ≡ get_or arcs i arc → i < length arcs
     → qualities_to lists (with_steps (take (i + 1) arcs) steps) router iface
     ≡ qualities_to lists (with_steps (take i arcs) steps) router iface ++ quality_by lists router iface (arc, steps_at steps i)
 qualities_more lists arcs steps router iface i arc here within =
@@ -66,10 +66,10 @@ one_sender metric steps false first = refl
 one_sender metric steps true None = refl
 one_sender metric steps true (Some addr) = refl
 
-arc_sender : (lists : Lists) (router iface : ℕ) (arc : RadioArc) (steps : List QualityStep) → map of_steps (quality_by lists router iface (arc, steps)) ≡ map of_metric (sender_by lists router iface arc)
+arc_sender : (lists : AddressLists) (router iface : ℕ) (arc : RadioArc) (steps : List QualityStep) → map of_steps (quality_by lists router iface (arc, steps)) ≡ map of_metric (sender_by lists router iface arc)
 arc_sender lists router iface arc steps = one_sender arc.metric steps (nat_eq arc.to router && nat_eq arc.to_iface iface) (first_addr lists arc.from arc.from_iface)
 
-addresses : (lists : Lists) (arcs : List RadioArc) (steps : List (List QualityStep)) (router iface : ℕ)
+addresses : (lists : AddressLists) (arcs : List RadioArc) (steps : List (List QualityStep)) (router iface : ℕ)
     → map of_steps (qualities_to lists (with_steps arcs steps) router iface) ≡ map of_metric (senders_to lists arcs router iface)
 addresses lists [] steps router iface = refl
 addresses lists (arc ∷ arcs) [] router iface =
@@ -81,14 +81,14 @@ addresses lists (arc ∷ arcs) (one ∷ steps) router iface =
     ∙ (rw (arc_sender lists router iface arc one, addresses lists arcs steps router iface) refl
     ∙ sym (map-append of_metric (sender_by lists router iface arc) (senders_to lists arcs router iface)))
 
-pub senders_same : (lists : Lists) (arcs : List RadioArc) (steps : List (List QualityStep)) (router iface : ℕ) (senders : List SenderMetric) (qualities : List SenderQuality)
+pub senders_same : (lists : AddressLists) (arcs : List RadioArc) (steps : List (List QualityStep)) (router iface : ℕ) (senders : List SenderMetric) (qualities : List SenderQuality)
     → map sender_pair senders ≡ senders_to lists arcs router iface → map quality_pair qualities ≡ qualities_to lists (with_steps arcs steps) router iface
     → map (λ q. q.sender) qualities ≡ map (λ s. s.sender) senders
 senders_same lists arcs steps router iface senders qualities met also =
     sym (map-map of_steps quality_pair qualities) ∙ (ap (map of_steps) also ∙ (addresses lists arcs steps router iface ∙ (ap (map of_metric) (sym met) ∙ map-map of_metric sender_pair senders)))
 
 -- one more interface, one more router
-pub have_more : (lists : Lists) (arcs : List (RadioArc × List QualityStep)) (router i n : ℕ) (xs : List Interface) (x : Interface) → HaveQualities lists arcs router i xs → i + length xs ≡ n
+pub have_more : (lists : AddressLists) (arcs : List (RadioArc × List QualityStep)) (router i n : ℕ) (xs : List Interface) (x : Interface) → HaveQualities lists arcs router i xs → i + length xs ≡ n
     → map quality_pair x.admit.senders ≡ qualities_to lists arcs router n → HaveQualities lists arcs router i (xs ++ x ∷ [])
 have_more lists arcs router i n [] x all here met =
     let at : i ≡ n = omega arith in
@@ -97,7 +97,7 @@ have_more lists arcs router i n (y ∷ ys) x all here met =
     let at : (i + 1) + length ys ≡ n = omega arith in
     (all.0, have_more lists arcs router (i + 1) n ys x all.1 at met)
 
-pub all_have_more : (lists : Lists) (arcs : List (RadioArc × List QualityStep)) (i n : ℕ) (xs : List RouterSettings) (x : RouterSettings) → HaveAllQualities lists arcs i xs → i + length xs ≡ n
+pub all_have_more : (lists : AddressLists) (arcs : List (RadioArc × List QualityStep)) (i n : ℕ) (xs : List RouterSettings) (x : RouterSettings) → HaveAllQualities lists arcs i xs → i + length xs ≡ n
     → HaveQualities lists arcs n 0 x.interfaces → HaveAllQualities lists arcs i (xs ++ x ∷ [])
 all_have_more lists arcs i n [] x all here met =
     let at : i ≡ n = omega arith in

@@ -20,7 +20,7 @@ use Rattle.mesh_config.specs.declared.stated.stated.StatedRouter.{StatedRouter}
 use Rattle.mesh_config.specs.declared.run_tables.stated.StatedRun.{StatedRun}
 use Rattle.mesh_config.specs.declared.run_tables.stated.StatedRunInterface.{StatedRunInterface}
 use Rattle.mesh_config.specs.declared.run_tables.stated.StatedRunRouter.{StatedRunRouter}
-use Rattle.mesh_config.specs.Keys.Faults.{first, listed, Answers}
+use Rattle.mesh_config.specs.Keys.Faults.{first, listed, ValueOrFault}
 use Rattle.mesh_config.specs.Stated.Router.{InterfaceFields, RouterFields, AreRouterFields, stated_interface_fields, name, addresses, interfaces, attached, net, AttachedIs}
 use Rattle.mesh_config.specs.RunTables.Run.{PortSays, run_table_visits, address, neighbours, NeighbourIs, RunInterfaceIs, RunRouterIs, RunIs}
 use Rattle.mesh_config.specs.Checks.Checks.{Identifiers, table_identifiers, net_in, tables_in, duplicates, duplicate_unless}
@@ -128,8 +128,8 @@ setup_says t d s is from = record {
   are_ports = Each-along RunInterfaceIs PortSays stated_port port_pair (λ table x y same h. port_says table x y same h) (listed (interfaces (the_router t))) d.router.interfaces s.ports from.same_ports is.is_router.are_interfaces;
 }
 
-pub setup_built_answers : (t : Members) (d : StatedRun) (r : Result RunSetup ConfigFault) → first (run_table_visits t) ≡ None → RunIs t d → Answers (SetupFrom d) (first (stated_run_checks d.router)) r
-    → Answers (SetupSays t) (first (setup_visits t)) r
+pub setup_built_answers : (t : Members) (d : StatedRun) (r : Result RunSetup ConfigFault) → first (run_table_visits t) ≡ None → RunIs t d → ValueOrFault (SetupFrom d) (first (stated_run_checks d.router)) r
+    → ValueOrFault (SetupSays t) (first (setup_visits t)) r
 setup_built_answers t d r passed is met =
     let same : first (setup_visits t) ≡ first (stated_run_checks d.router) =
     rw (passed, first_one (first (run_checks (the_router t)))) (checks_same (the_router t) d.router is.is_router) in

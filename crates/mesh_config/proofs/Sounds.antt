@@ -11,7 +11,7 @@ use Rattle.mesh_atoms.specs.declared.settings.Times.{Times}
 use Rattle.mesh_atoms.specs.Settings.{is_host, name_eq, AreRouters, AreArcs, IsCount}
 use Rattle.mesh_config.specs.declared.stated.stated.StatedRouter.{StatedRouter}
 use Rattle.mesh_config.specs.Keys.Faults.{first}
-use Rattle.mesh_config.specs.Checks.Checks.{Identifiers, Place, joins}
+use Rattle.mesh_config.specs.Checks.Checks.{Identifiers, NamedInterface, joins}
 use Rattle.mesh_config.specs.Checks.Compared.{router_addrs, all_addrs, attaches_no_host, stated_duplicates, stated_identifiers, stated_lists, ends_of}
 use Rattle.mesh_config.specs.Fields.{interface_fields, RouterParts, settings_parts, stated_parts}
 use Rattle.mesh_config.specs.Stated.Router.{InterfaceFields, stated_interface_fields}
@@ -81,7 +81,7 @@ sound_routers times ss rs count none same =
     })
 
 -- ---- the arcs
-pub sound_arcs : (times : Times) (ss : List RouterSettings) (rs : List StatedRouter) (places : List (Place × Place)) (arcs : List RadioArc) → map settings_parts ss ≡ map (stated_parts times) rs → length arcs ≤ 4096
+pub sound_arcs : (times : Times) (ss : List RouterSettings) (rs : List StatedRouter) (places : List (NamedInterface × NamedInterface)) (arcs : List RadioArc) → map settings_parts ss ≡ map (stated_parts times) rs → length arcs ≤ 4096
     → joins (map stated_identifiers rs) [] places ≡ Ok (map ends_of arcs) → AreArcs (map (λ r. length r.interfaces) ss) (map ends_of arcs)
 sound_arcs times ss rs places arcs same few h =
     rw (counts_same times ss rs same) (record {

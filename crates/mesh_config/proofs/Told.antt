@@ -11,7 +11,7 @@ use Rattle.mesh_config.specs.declared.stated.stated.StatedInterface.{StatedInter
 use Rattle.mesh_config.specs.declared.stated.stated.StatedRouter.{StatedRouter}
 use Rattle.mesh_config.specs.declared.stated.stated.StatedScenario.{StatedScenario}
 use Rattle.mesh_config.specs.declared.keys.fault.ConfigFault.{ConfigFault}
-use Rattle.mesh_config.specs.Keys.Faults.{Fault, first, listed, Answers}
+use Rattle.mesh_config.specs.Keys.Faults.{Fault, first, listed, ValueOrFault}
 use Rattle.mesh_config.specs.Stated.Tables.{Each}
 use Rattle.mesh_config.specs.Keys.Document.{document}
 use Rattle.mesh_config.specs.Stated.Steps.{StepsAre}
@@ -30,13 +30,13 @@ use Rattle.mesh_config.proofs.KeysLemmas.Parts.{first_one}
 use Rattle.mesh_config.proofs.Said.{all_named_same, places_same, thresholds_say}
 use Rattle.mesh_config.proofs.StatedLemmas.Elements.{Each-along, Each-map}
 
-pub answers_along : {X : Type 0} (Is Says : X → Type 0) (found found' : Option Fault) (r : Result X ConfigFault) → found' ≡ found → ((x : X) → Is x → Says x) → Answers Is found r → Answers Says found' r
+pub answers_along : {X : Type 0} (Is Says : X → Type 0) (found found' : Option Fault) (r : Result X ConfigFault) → found' ≡ found → ((x : X) → Is x → Says x) → ValueOrFault Is found r → ValueOrFault Says found' r
 answers_along Is Says found found' (Ok x) same h met = (same ∙ met.0, h x met.1)
 answers_along Is Says found found' (Err e) same h met = rw same met
 
 -- a text
-pub text_answers : (text : List ℕ) (table : Members) (r : Result Scenario ConfigFault) → document text ≡ Ok table → Answers (ScenarioSays table) (first (scenario_visits table)) r
-    → Answers (SettingsIs text) (first (refusals text)) r
+pub text_answers : (text : List ℕ) (table : Members) (r : Result Scenario ConfigFault) → document text ≡ Ok table → ValueOrFault (ScenarioSays table) (first (scenario_visits table)) r
+    → ValueOrFault (SettingsIs text) (first (refusals text)) r
 text_answers text table r is met =
     let same : first (refusals text) ≡ first (scenario_visits table) = rw is (first_one (first (scenario_visits table))) in
     answers_along (ScenarioSays table) (SettingsIs text) (first (scenario_visits table)) (first (refusals text)) r same (λ s says. (table, (is, says))) met
@@ -73,8 +73,8 @@ built_says t d s is joined built = record {
 }
 
 -- the tables, and the checks after the walk
-pub built_answers : (t : Members) (d : StatedScenario) (r : Result Scenario ConfigFault) → first (scenario_table_visits t) ≡ None → ScenarioIs t d → Answers (BuiltFrom d) (first (stated_visits d)) r
-    → Answers (ScenarioSays t) (first (scenario_visits t)) r
+pub built_answers : (t : Members) (d : StatedScenario) (r : Result Scenario ConfigFault) → first (scenario_table_visits t) ≡ None → ScenarioIs t d → ValueOrFault (BuiltFrom d) (first (stated_visits d)) r
+    → ValueOrFault (ScenarioSays t) (first (scenario_visits t)) r
 built_answers t d r passed is met =
     let routers_same = all_named_same (listed (routers t)) d.routers is.are_routers in
     let arcs_same = places_same (listed (arcs t)) d.arcs is.are_arcs in

@@ -17,7 +17,7 @@ use Rattle.mesh_config.specs.declared.stated.stated.StatedRouter.{StatedRouter}
 use Rattle.mesh_config.specs.declared.run_tables.stated.StatedRun.{StatedRun}
 use Rattle.mesh_config.specs.declared.run_tables.stated.StatedRunInterface.{StatedRunInterface}
 use Rattle.mesh_config.specs.declared.run_tables.stated.StatedRunRouter.{StatedRunRouter}
-use Rattle.mesh_config.specs.Keys.Faults.{Read, Visits, fault, visit, first, listed}
+use Rattle.mesh_config.specs.Keys.Faults.{ReadValue, Visits, fault, visit, first, listed}
 use Rattle.mesh_config.specs.Stated.Tables.{Each}
 use Rattle.mesh_config.specs.Keys.Document.{document}
 use Rattle.mesh_config.specs.Stated.Times.{TimesIs}
@@ -59,7 +59,7 @@ pub record SetupSays (table : Members) (setup : RunSetup) : Type 0 where
 -- ---- the checks after the walk
 
 -- an address that is read; 0.0.0.0 where a fault stands
-abbrev pub addr_in : Read Addr4 → Addr4
+abbrev pub addr_in : ReadValue Addr4 → Addr4
 addr_in (Ok addr) = addr
 addr_in (Err f) = record { 0 = 0 }
 

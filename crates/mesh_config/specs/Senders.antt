@@ -17,15 +17,15 @@ use Rattle.mesh_config.specs.Stated.Steps.{quality_pair}
 use Rattle.mesh_config.specs.Checks.Compared.{all_addrs, ends_of}
 
 -- the addresses of each interface of each router
-abbrev pub Lists : Type 0
-Lists = List (List (List Addr4))
+abbrev pub AddressLists : Type 0
+AddressLists = List (List (List Addr4))
 
 -- these of the settings of routers
-abbrev pub addr_lists : List RouterSettings → Lists
+abbrev pub addr_lists : List RouterSettings → AddressLists
 addr_lists routers = map (λ r. map (λ i. i.addrs) r.interfaces) routers
 
 -- the first address of an interface
-abbrev pub first_addr : Lists → ℕ → ℕ → Option Addr4
+abbrev pub first_addr : AddressLists → ℕ → ℕ → Option Addr4
 first_addr lists router iface = slice_get lists router >>= λ ifaces. slice_get ifaces iface >>= λ addrs. slice_get addrs 0
 
 -- a sender, where there is such an interface, with the metric of what it sends
@@ -34,12 +34,12 @@ with_metric metric None = []
 with_metric metric (Some addr) = (addr, metric) ∷ []
 
 -- an arc that leads to the interface gives the first address of the sending interface, with its metric
-abbrev pub sender_by : Lists → ℕ → ℕ → RadioArc → List (Addr4 × Metric)
+abbrev pub sender_by : AddressLists → ℕ → ℕ → RadioArc → List (Addr4 × Metric)
 sender_by lists router iface arc =
     if nat_eq arc.to router && nat_eq arc.to_iface iface then with_metric arc.metric (first_addr lists arc.from arc.from_iface) else []
 
 -- the senders of an interface, in order of the arcs
-abbrev pub senders_to : Lists → List RadioArc → ℕ → ℕ → List (Addr4 × Metric)
+abbrev pub senders_to : AddressLists → List RadioArc → ℕ → ℕ → List (Addr4 × Metric)
 senders_to lists arcs router iface = flat_map (sender_by lists router iface) arcs
 
 -- a sender with the metric of what it sends
@@ -47,13 +47,13 @@ abbrev pub sender_pair : SenderMetric → Addr4 × Metric
 sender_pair s = (s.sender, s.metric)
 
 -- the interfaces of a router from number `iface` on: their senders, and the metric 1 of their own
-abbrev pub HaveSenders : Lists → List RadioArc → ℕ → ℕ → List Interface → Type 0
+abbrev pub HaveSenders : AddressLists → List RadioArc → ℕ → ℕ → List Interface → Type 0
 HaveSenders lists arcs router iface [] = Unit {0}
 HaveSenders lists arcs router iface (x ∷ xs) =
     ((map sender_pair x.senders ≡ senders_to lists arcs router iface) × (x.metric.code ≡ 0)) × HaveSenders lists arcs router (iface + 1) xs
 
 -- the routers from number `router` on
-abbrev pub HaveAllSenders : Lists → List RadioArc → ℕ → List RouterSettings → Type 0
+abbrev pub HaveAllSenders : AddressLists → List RadioArc → ℕ → List RouterSettings → Type 0
 HaveAllSenders lists arcs router [] = Unit {0}
 HaveAllSenders lists arcs router (r ∷ rs) = HaveSenders lists arcs router 0 r.interfaces × HaveAllSenders lists arcs (router + 1) rs
 
@@ -71,22 +71,22 @@ with_quality steps None = []
 with_quality steps (Some addr) = (addr, steps) ∷ []
 
 -- an arc that leads to the interface gives the first address of the sending interface, with its steps
-abbrev pub quality_by : Lists → ℕ → ℕ → RadioArc × List QualityStep → List (Addr4 × List QualityStep)
+abbrev pub quality_by : AddressLists → ℕ → ℕ → RadioArc × List QualityStep → List (Addr4 × List QualityStep)
 quality_by lists router iface e =
     if nat_eq e.0.to router && nat_eq e.0.to_iface iface then with_quality e.1 (first_addr lists e.0.from e.0.from_iface) else []
 
 -- the qualities of the senders of an interface, in order of the arcs
-abbrev pub qualities_to : Lists → List (RadioArc × List QualityStep) → ℕ → ℕ → List (Addr4 × List QualityStep)
+abbrev pub qualities_to : AddressLists → List (RadioArc × List QualityStep) → ℕ → ℕ → List (Addr4 × List QualityStep)
 qualities_to lists arcs router iface = flat_map (quality_by lists router iface) arcs
 
 -- the interfaces of a router from number `iface` on: the qualities of their senders
-abbrev pub HaveQualities : Lists → List (RadioArc × List QualityStep) → ℕ → ℕ → List Interface → Type 0
+abbrev pub HaveQualities : AddressLists → List (RadioArc × List QualityStep) → ℕ → ℕ → List Interface → Type 0
 HaveQualities lists arcs router iface [] = Unit {0}
 HaveQualities lists arcs router iface (x ∷ xs) =
     (map quality_pair x.admit.senders ≡ qualities_to lists arcs router iface) × HaveQualities lists arcs router (iface + 1) xs
 
 -- the routers from number `router` on
-abbrev pub HaveAllQualities : Lists → List (RadioArc × List QualityStep) → ℕ → List RouterSettings → Type 0
+abbrev pub HaveAllQualities : AddressLists → List (RadioArc × List QualityStep) → ℕ → List RouterSettings → Type 0
 HaveAllQualities lists arcs router [] = Unit {0}
 HaveAllQualities lists arcs router (r ∷ rs) = HaveQualities lists arcs router 0 r.interfaces × HaveAllQualities lists arcs (router + 1) rs
 
@@ -101,6 +101,6 @@ steps_at (one ∷ steps) zero = one
 steps_at (one ∷ steps) (suc number) = steps_at steps number
 
 -- no address stands twice among the routers, and no two arcs join the same interfaces
-pub record AreApart (routers : List StatedRouter) (arcs : List RadioArc) : Type 0 where
+pub record HaveNoDuplicates (routers : List StatedRouter) (arcs : List RadioArc) : Type 0 where
   pub distinct_addrs : are_distinct addr_eq (all_addrs routers) ≡ true
   pub distinct_arcs : are_distinct ends_eq (map ends_of arcs) ≡ true

@@ -4,7 +4,7 @@ ghost use Rattle.mesh_config.specs.Keys.Faults.{first};
 ghost use Rattle.mesh_config.specs.Checks.Compared.{stated_lists, stated_duplicates};
 ghost use Rattle.mesh_config.specs.Fields.{interface_fields, thresholds_of, threshold_pair, router_fields, settings_parts, stated_parts, IsClear};
 ghost use Rattle.mesh_config.specs.Stated.Router.{stated_interface_fields, head_fields};
-ghost use Rattle.mesh_config.specs.Senders.{AreApart, senders_to, sender_pair, HaveSenders, HaveAllSenders, stated_steps, with_steps, qualities_to, HaveQualities, HaveAllQualities};
+ghost use Rattle.mesh_config.specs.Senders.{HaveNoDuplicates, senders_to, sender_pair, HaveSenders, HaveAllSenders, stated_steps, with_steps, qualities_to, HaveQualities, HaveAllQualities};
 ghost use Rattle.mesh_config.specs.Stated.Steps.{quality_pair};
 
 use crate::senders::{qualities_to, senders_to};
@@ -24,7 +24,7 @@ fn make_interface(
     stated: &StatedInterface,
 ) -> Result<Interface, AllocError>
     requires few { length arcs.now ≤ 4096 }
-    requires apart { AreApart routers.now arcs.now }
+    requires apart { HaveNoDuplicates routers.now arcs.now }
     ensures fields { IfOk result (λ i. interface_fields i ≡ stated_interface_fields stated.now) }
     ensures thresholds { IfOk result (λ i. thresholds_of i ≡ threshold_pair thresholds) }
     ensures senders { IfOk result (λ i. map sender_pair i.senders ≡ senders_to (stated_lists routers.now) arcs.now router iface) }
@@ -58,7 +58,7 @@ fn make_interfaces(
     interfaces: &[StatedInterface],
 ) -> Result<Seq<Interface>, AllocError>
     requires few { length arcs.now ≤ 4096 }
-    requires apart { AreApart routers.now arcs.now }
+    requires apart { HaveNoDuplicates routers.now arcs.now }
     ensures interfaces { IfOk result (λ all. map interface_fields all ≡ map stated_interface_fields interfaces.now) }
     ensures thresholds { IfOk result (λ all. map thresholds_of all ≡ map (λ i. threshold_pair thresholds) interfaces.now) }
     ensures senders { IfOk result (λ all. HaveSenders (stated_lists routers.now) arcs.now router 0 all) }
@@ -119,7 +119,7 @@ fn make_router(
     stated: &StatedRouter,
 ) -> Result<RouterSettings, AllocError>
     requires few { length arcs.now ≤ 4096 }
-    requires apart { AreApart routers.now arcs.now }
+    requires apart { HaveNoDuplicates routers.now arcs.now }
     requires clear { IsClear stated.now }
     ensures parts { IfOk result (λ r. settings_parts r ≡ stated_parts times stated.now) }
     ensures senders { IfOk result (λ r. HaveSenders (stated_lists routers.now) arcs.now router 0 r.interfaces) }
@@ -148,7 +148,7 @@ pub fn make_routers(
     times: Times,
 ) -> Result<Seq<RouterSettings>, AllocError>
     requires few { length arcs.now ≤ 4096 }
-    requires apart { AreApart routers.now arcs.now }
+    requires apart { HaveNoDuplicates routers.now arcs.now }
     requires clear { first (stated_duplicates routers.now) ≡ None }
     ensures parts { IfOk result (λ all. map settings_parts all ≡ map (stated_parts times) routers.now) }
     ensures senders { IfOk result (λ all. HaveAllSenders (stated_lists routers.now) arcs.now 0 all) }

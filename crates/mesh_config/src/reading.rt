@@ -1,7 +1,7 @@
 //! A scenario out of its text.
 ghost use Rattle.std.specs.Prelude.{◌≡◌, None, IfOk, IfErr};
 ghost use Rattle.toml.specs.View.{table_view};
-ghost use Rattle.mesh_config.specs.Keys.Faults.{Answers, first, IfRefused};
+ghost use Rattle.mesh_config.specs.Keys.Faults.{ValueOrFault, first, IfSettingRefused};
 ghost use Rattle.mesh_config.specs.Checks.Checks.{scenario_visits};
 ghost use Rattle.mesh_config.specs.Built.{stated_visits, BuiltFrom};
 ghost use Rattle.mesh_config.specs.Settings.{ScenarioSays, SettingsIs, refusals, FirstRefusal};
@@ -16,7 +16,7 @@ use toml::Table;
 
 // The checks after the walk, and the scenario where they hold.
 fn checked(alloc: Global, stated: &StatedScenario) -> Result<Scenario, ConfigFault>
-    ensures { Answers (BuiltFrom stated.now) (first (stated_visits stated.now)) result }
+    ensures { ValueOrFault (BuiltFrom stated.now) (first (stated_visits stated.now)) result }
 {
     let all = stated.routers.as_slice();
     no_duplicates(alloc, all)?;
@@ -33,14 +33,14 @@ fn checked(alloc: Global, stated: &StatedScenario) -> Result<Scenario, ConfigFau
 }
 
 fn scenario_in(alloc: Global, table: &Table) -> Result<Scenario, ConfigFault>
-    ensures { Answers (ScenarioSays (table_view table.now)) (first (scenario_visits (table_view table.now))) result }
+    ensures { ValueOrFault (ScenarioSays (table_view table.now)) (first (scenario_visits (table_view table.now))) result }
 {
     let stated = stated_scenario(alloc, table)?;
     checked(alloc, &stated)
 }
 
 fn scenario_read(alloc: Global, text: &[u8]) -> Result<Scenario, ConfigFault>
-    ensures { Answers (SettingsIs text.now) (first (refusals text.now)) result }
+    ensures { ValueOrFault (SettingsIs text.now) (first (refusals text.now)) result }
 {
     let table = document(alloc, text)?;
     scenario_in(alloc, &table)
@@ -51,7 +51,7 @@ fn scenario_read(alloc: Global, text: &[u8]) -> Result<Scenario, ConfigFault>
 pub fn scenario_of(alloc: Global, text: &[u8]) -> Result<Scenario, ConfigFault>
     ensures says { IfOk result (SettingsIs text.now) }
     ensures clear { IfOk result (λ _. first (refusals text.now) ≡ None) }
-    ensures refused { IfErr result (IfRefused (FirstRefusal text.now)) }
+    ensures refused { IfErr result (IfSettingRefused (FirstRefusal text.now)) }
 {
     scenario_read(alloc, text)
 }

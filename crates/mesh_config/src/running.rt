@@ -1,7 +1,7 @@
 //! The setup of `run` out of its text.
 ghost use Rattle.std.specs.Prelude.{◌≡◌, [], ◌∷◌, None, true, IfOk, IfErr};
 ghost use Rattle.toml.specs.View.{table_view};
-ghost use Rattle.mesh_config.specs.Keys.Faults.{Answers, first, IfRefused};
+ghost use Rattle.mesh_config.specs.Keys.Faults.{ValueOrFault, first, IfSettingRefused};
 ghost use Rattle.mesh_config.specs.Checks.Checks.{duplicates};
 ghost use Rattle.mesh_config.specs.Fields.{IsClear};
 ghost use Rattle.mesh_config.specs.RunSettings.{OutlineOf, run_identifiers, stated_run_checks, SetupFrom, senders_checked, SetupSays, setup_visits, SetupIs, run_refusals, FirstRunRefusal};
@@ -18,7 +18,7 @@ use toml::Table;
 
 // Nothing stands twice; what the router is without what only `run` has.
 fn clear_outline(alloc: Global, stated: &StatedRunRouter) -> Result<StatedRouter, ConfigFault>
-    ensures answer { Answers (OutlineOf stated.now) (first (duplicates (run_identifiers stated.now ∷ []))) result }
+    ensures answer { ValueOrFault (OutlineOf stated.now) (first (duplicates (run_identifiers stated.now ∷ []))) result }
     ensures clear { IfOk result IsClear }
 {
     let outline = outline(alloc, stated)?;
@@ -52,7 +52,7 @@ fn made_run(
 
 // The checks after the walk, and the setup where they hold.
 fn checked_run(alloc: Global, stated: &StatedRun) -> Result<RunSetup, ConfigFault>
-    ensures { Answers (SetupFrom stated.now) (first (stated_run_checks stated.now.router)) result }
+    ensures { ValueOrFault (SetupFrom stated.now) (first (stated_run_checks stated.now.router)) result }
 {
     let outline = clear_outline(alloc, &stated.router)?;
     let distinct = senders_distinct(stated.router.interfaces.as_slice());
@@ -63,14 +63,14 @@ fn checked_run(alloc: Global, stated: &StatedRun) -> Result<RunSetup, ConfigFaul
 }
 
 fn setup_in(alloc: Global, table: &Table) -> Result<RunSetup, ConfigFault>
-    ensures { Answers (SetupSays (table_view table.now)) (first (setup_visits (table_view table.now))) result }
+    ensures { ValueOrFault (SetupSays (table_view table.now)) (first (setup_visits (table_view table.now))) result }
 {
     let stated = stated_run(alloc, table)?;
     checked_run(alloc, &stated)
 }
 
 fn setup_read(alloc: Global, text: &[u8]) -> Result<RunSetup, ConfigFault>
-    ensures { Answers (SetupIs text.now) (first (run_refusals text.now)) result }
+    ensures { ValueOrFault (SetupIs text.now) (first (run_refusals text.now)) result }
 {
     let table = document(alloc, text)?;
     setup_in(alloc, &table)
@@ -80,7 +80,7 @@ fn setup_read(alloc: Global, text: &[u8]) -> Result<RunSetup, ConfigFault>
 pub fn router_of(alloc: Global, text: &[u8]) -> Result<RunSetup, ConfigFault>
     ensures says { IfOk result (SetupIs text.now) }
     ensures clear { IfOk result (λ _. first (run_refusals text.now) ≡ None) }
-    ensures refused { IfErr result (IfRefused (FirstRunRefusal text.now)) }
+    ensures refused { IfErr result (IfSettingRefused (FirstRunRefusal text.now)) }
 {
     setup_read(alloc, text)
 }

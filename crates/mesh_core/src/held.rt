@@ -6,5 +6,5 @@ mod onward;
 mod outbox;
 mod taking;
 
-pub use crate::held::holding::Holding;
+pub use crate::held::holding::InformationBases;
 pub use crate::held::outbox::Outbox;

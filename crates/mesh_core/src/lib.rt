@@ -11,7 +11,7 @@ mod steps;
 mod views;
 
 pub use event::{hear_frame, tick};
-pub use held::{Holding, Outbox};
+pub use held::{InformationBases, Outbox};
 pub use machine::Machine;
 pub use mesh_machine::{Arrival, Fate, Frame, Heard, Read, RouterView, Said};
 pub use mesh_routes::graph_of;

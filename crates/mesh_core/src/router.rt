@@ -3,7 +3,7 @@ ghost use Rattle.std.specs.Prelude.{◌≡◌, IfOk, false};
 ghost use Rattle.mesh_atoms.specs.Sound.{Sound};
 ghost use Rattle.mesh_machine.specs.Machine.{IsOpening, due};
 
-use crate::held::Holding;
+use crate::held::InformationBases;
 use mesh_atoms::RouterSettings;
 use mesh_expire::Bases;
 use mesh_renewal::{Derived, opening};
@@ -13,7 +13,7 @@ use std::marker::Model;
 /// A router: it hears frames, its clock ticks, and it sends frames. Moments are in ticks of 1/8192 s. After want of memory it is
 /// spent, and may only be dropped.
 pub struct Core<B: Bases> {
-    pub(crate) holding: Holding<B>,
+    pub(crate) holding: InformationBases<B>,
     pub(crate) derived: Derived,
     pub(crate) spent: bool,
 }
@@ -78,7 +78,7 @@ fn opened<B: Bases>(alloc: Global, settings: &RouterSettings) -> Result<Core<B>,
     ensures opening { IfOk result (λ core. IsOpening settings.now core.state) }
     ensures whole { IfOk result (λ core. core.is_spent ≡ false) }
 {
-    let holding = Holding::new(alloc, settings)?;
+    let holding = InformationBases::new(alloc, settings)?;
     let derived = opening(alloc, settings)?;
     Ok(Core {
         holding,

@@ -8,7 +8,7 @@ use Rattle.mesh_atoms.specs.declared.graphs.Route.{Route}
 use Rattle.mesh_atoms.specs.declared.settings.Scenario.{Scenario}
 use Rattle.mesh_atoms.specs.Base.{host}
 use Rattle.mesh_atoms.specs.Codes.Codes.{metric_value}
-use Rattle.mesh_atoms.specs.Radio.{Leads, Hop, Joined, By, Willing, AddressOf, Attaches, RadioLeast, To_router, To_network}
+use Rattle.mesh_atoms.specs.Radio.{Leads, HopCosts, Joined, By, IsWillingRouter, AddressOf, Attaches, RadioLeast, To_router, To_network}
 use Rattle.mesh_atoms.specs.Settled.{At}
 use Rattle.mesh_atoms.specs.State.{State}
 use Rattle.mesh_atoms.specs.Walk.{WillingWalk, Here, Direct, Further, LeastWilling, LeastToNet}
@@ -44,7 +44,7 @@ at_one states x p q a b = let e = a.is in let f = b.is in cc
 -- Least costs
 
 module _ (s : Scenario) where
-  pub willing_one : (x y c d : ℕ) → LeastWilling (Hop s) (Willing s) x y c → LeastWilling (Hop s) (Willing s) x y d → c ≡ d
+  pub willing_one : (x y c d : ℕ) → LeastWilling (HopCosts s) (IsWillingRouter s) x y c → LeastWilling (HopCosts s) (IsWillingRouter s) x y d → c ≡ d
   willing_one x y c d p q = omega (arith, p.least d q.reached, q.least c p.reached)
 
   -- a least cost is one to a router, or to a network
@@ -54,18 +54,18 @@ module _ (s : Scenario) where
     pub is : dest ≡ host a
     pub other : y ≢ x
     pub owned : AddressOf s y a
-    pub least : LeastWilling (Hop s) (Willing s) x y c
+    pub least : LeastWilling (HopCosts s) (IsWillingRouter s) x y c
 
   pub record IsToNetwork (x : ℕ) (dest : NetAddr) (c : ℕ) : Type 0 where
     pub not_mine : (k : ℕ) → Attaches s x dest k → ⊥
-    pub least : LeastToNet (Hop s) (Willing s) (Attaches s) x dest c
+    pub least : LeastToNet (HopCosts s) (IsWillingRouter s) (Attaches s) x dest c
 
   pub either : (x : ℕ) (dest : NetAddr) (c : ℕ) → RadioLeast s x dest c → IsToRouter x dest c ⊎ IsToNetwork x dest c
   either x _ c (To_router {y = y} {a = a} other is least) = inl (record { y = y; a = a; is = refl; other = other; owned = is; least = least })
   either x dest c (To_network off least) = inr (record { not_mine = off; least = least })
 
   -- a walk keeps to joined routers
-  pub walk_joined : (f x y c : ℕ) → Joined s f x → WillingWalk (Hop s) (Willing s) x y c → Joined s f y
+  pub walk_joined : (f x y c : ℕ) → Joined s f x → WillingWalk (HopCosts s) (IsWillingRouter s) x y c → Joined s f y
   walk_joined f x y c j Here = j
   walk_joined f x y c j (Direct (m, is, _)) = let (i, k, back, joins) = is.some in By j (i, k, m, back, joins)
   walk_joined f x y _ j (Further {v = v} {c = d} walk t (m, is, _)) = let (i, k, back, joins) = is.some in By (walk_joined f x v d j walk) (i, k, m, back, joins)
@@ -80,7 +80,7 @@ module _ (s : Scenario) (states : List State) (now : ℕ) (S : IsSettledNetwork 
       | inl t ↦
           let e : r.a ≡ t.a = same_host r.a t.a (sym r.is ∙ t.is) in
           let same : r.y ≡ t.y = owner s states now S r.y t.y t.a (subst (λ (b : Addr4). AddressOf s r.y b) e r.owned) t.owned in
-          willing_one s x t.y c d (subst (λ (y : ℕ). LeastWilling (Hop s) (Willing s) x y c) same r.least) t.least
+          willing_one s x t.y c d (subst (λ (y : ℕ). LeastWilling (HopCosts s) (IsWillingRouter s) x y c) same r.least) t.least
       | inr t ↦ absurd (mixed x c d dest r t)
     ]
     | inr r ↦ elim (either s x dest d q) [

@@ -8,7 +8,7 @@ use Rattle.mesh_atoms.specs.declared.graphs.Route.{Route}
 use Rattle.mesh_atoms.specs.declared.settings.RouterSettings.{RouterSettings}
 use Rattle.mesh_atoms.specs.declared.settings.Scenario.{Scenario}
 use Rattle.mesh_atoms.specs.Codes.Codes.{metric_value}
-use Rattle.mesh_atoms.specs.Radio.{Joins, Adjacent, Hop as RadioHop, Joined, Itself, By, Router, Willing, AddressOf, Attaches, IsSoundScenario, RadioLeast, To_network}
+use Rattle.mesh_atoms.specs.Radio.{Joins, Adjacent, HopCosts as RadioHop, Joined, Itself, By, Router, IsWillingRouter, AddressOf, Attaches, IsSoundScenario, RadioLeast, To_network}
 use Rattle.mesh_atoms.specs.Settled.{At}
 use Rattle.mesh_atoms.specs.State.{State}
 use Rattle.mesh_atoms.specs.Walk.{WillingWalk, Here, Further}
@@ -33,7 +33,7 @@ none_below P none (suc n) m l has = none m has (λ e other. elim (cases_lt e m) 
 some_least : (P : ℕ → Type 0) (n : ℕ) → P n → ((m : ℕ) → P m → ((e : ℕ) → P e → m ≤ e) → ⊥) → ⊥
 some_least P n has none = none_below P none (n + 1) n (omega arith) has
 
-module _ (s : Scenario) (scenario : IsSoundScenario s) (willing : (x : ℕ) (r : RouterSettings) → Router s x r → Willing s x) (from : ℕ) where
+module _ (s : Scenario) (scenario : IsSoundScenario s) (willing : (x : ℕ) (r : RouterSettings) → Router s x r → IsWillingRouter s x) (from : ℕ) where
   -- A least cost from `from` to the network exists, unless it attaches it
 
   hop_exists : (v w : ℕ) → Adjacent s v w → ((c : ℕ) → RadioHop s v w c → ⊥) → ⊥
@@ -42,7 +42,7 @@ module _ (s : Scenario) (scenario : IsSoundScenario s) (willing : (x : ℕ) (r :
       some_least P (metric_value there) (i, j, there, back, joins, refl) (λ c (k, l, m, b, is, value) least.
       none c (m, record { some = (k, l, b, is); least = λ x y n d other. omega (arith, value, least (metric_value n) (x, y, n, d, other, refl)) }, value))
 
-  walk_exists : (x : ℕ) → Joined s from x → ((c : ℕ) → WillingWalk (RadioHop s) (Willing s) from x c → ⊥) → ⊥
+  walk_exists : (x : ℕ) → Joined s from x → ((c : ℕ) → WillingWalk (RadioHop s) (IsWillingRouter s) from x c → ⊥) → ⊥
   walk_exists x Itself none = none 0 Here
   walk_exists x (By {v = v} j adjacent) none =
       let (i, k, there, back, joins) = adjacent in
@@ -51,7 +51,7 @@ module _ (s : Scenario) (scenario : IsSoundScenario s) (willing : (x : ℕ) (r :
 
   pub least_exists : (gateway metric : ℕ) (net : NetAddr) → Joined s from gateway → Attaches s gateway net metric → ((k : ℕ) → Attaches s from net k → ⊥) → ((c : ℕ) → RadioLeast s from net c → ⊥) → ⊥
   least_exists gateway metric net joined attaches off none =
-      let P : ℕ → Type 0 = λ e. (g d k : ℕ) × Attaches s g net k × WillingWalk (RadioHop s) (Willing s) from g d × (d + k ≡ e) in
+      let P : ℕ → Type 0 = λ e. (g d k : ℕ) × Attaches s g net k × WillingWalk (RadioHop s) (IsWillingRouter s) from g d × (d + k ≡ e) in
       walk_exists gateway joined (λ d walk. some_least P (d + metric) (gateway, d, metric, attaches, walk, refl) (λ e (g, way, k, att, w, sum) least.
       none e (To_network off (record {
         gateway = g;

@@ -6,7 +6,7 @@ use Rattle.mesh_atoms.specs.declared.addr.NetAddr.{NetAddr}
 use Rattle.mesh_atoms.specs.declared.graphs.Route.{Route}
 use Rattle.mesh_atoms.specs.declared.settings.Scenario.{Scenario}
 use Rattle.mesh_atoms.specs.Codes.Codes.{metric_value}
-use Rattle.mesh_atoms.specs.Radio.{Hop as RadioHop, Joined, Itself, Willing, AddressOf, Attaches, RadioLeast}
+use Rattle.mesh_atoms.specs.Radio.{HopCosts as RadioHop, Joined, Itself, IsWillingRouter, AddressOf, Attaches, RadioLeast}
 use Rattle.mesh_atoms.specs.Settled.{At}
 use Rattle.mesh_atoms.specs.State.{State}
 use Rattle.mesh_atoms.specs.Walk.{LeastWilling}
@@ -90,14 +90,14 @@ module _ (R : RowsAreLeast) (N : NextHopsLead) (s : Scenario) (states : List Sta
   taken x c row l routes = chosen x row l.joined routes (omega (arith, full x c l, routes.longest.longest l.row (stands_in x c l routes.state routes.at) (held_by x c l)))
 
   -- where one router alone attaches the network, the hop to it is on the least way
-  exact : (x n near own c : ℕ) → Left x c → Attaches s n net own → Joined s from n → LeastWilling (RadioHop s) (Willing s) x n near → HasOneGateway s from net → c ≡ near + own
+  exact : (x n near own c : ℕ) → Left x c → Attaches s n net own → Joined s from n → LeastWilling (RadioHop s) (IsWillingRouter s) x n near → HasOneGateway s from net → c ≡ near + own
   exact x n near own c l here there best alone = elim (either s x net c (least_of x c l)) [
     | inl r ↦ absurd (S.scenario.networks O.gateway r.y O.metric net r.a O.attaches r.owned r.is)
     | inr r ↦
         let least = r.least in
         let g : Joined s from least.gateway = walk_joined s from x least.gateway least.way l.joined least.to_gateway.reached in
         let same : least.gateway ≡ n = alone least.gateway n least.metric own g there least.attached here in
-        let way : least.way ≡ near = willing_one s x n least.way near (subst (λ (y : ℕ). LeastWilling (RadioHop s) (Willing s) x y least.way) same least.to_gateway) best in
+        let way : least.way ≡ near = willing_one s x n least.way near (subst (λ (y : ℕ). LeastWilling (RadioHop s) (IsWillingRouter s) x y least.way) same least.to_gateway) best in
         let metric : least.metric ≡ own = one_metric s n least.metric own net (subst (λ (y : ℕ). Attaches s y net least.metric) same least.attached) here in
         let sum : least.way + least.metric ≡ c = least.sum in
         omega arith

@@ -5,7 +5,7 @@ use Rattle.mesh_atoms.specs.declared.addr.NetAddr.{NetAddr}
 use Rattle.mesh_atoms.specs.declared.settings.RouterSettings.{RouterSettings}
 use Rattle.mesh_atoms.specs.declared.settings.Scenario.{Scenario}
 use Rattle.mesh_atoms.specs.Base.{host}
-use Rattle.mesh_atoms.specs.Radio.{Joined, Router, Willing, AddressOf, Attaches, RadioLeast}
+use Rattle.mesh_atoms.specs.Radio.{Joined, Router, IsWillingRouter, AddressOf, Attaches, RadioLeast}
 use Rattle.mesh_atoms.specs.Settled.{At}
 use Rattle.mesh_atoms.specs.Sound.{Sound}
 use Rattle.mesh_atoms.specs.State.{State}
@@ -22,7 +22,7 @@ pub record LiesAt (s : Scenario) (from : ℕ) (a : Addr4) (y c : ℕ) : Type 0 w
 
 -- every router is willing to route, no router has the address, and a router joined with `from` attaches a network that has it
 pub record HasNetwork (s : Scenario) (from : ℕ) (a : Addr4) : Type 0 where
-  pub willing : (x : ℕ) (r : RouterSettings) → Router s x r → Willing s x
+  pub willing : (x : ℕ) (r : RouterSettings) → Router s x r → IsWillingRouter s x
   pub no_router : (x : ℕ) → AddressOf s x a → ⊥
   pub gateway : ℕ
   pub joined : Joined s from gateway
@@ -34,7 +34,7 @@ pub record HasNetwork (s : Scenario) (from : ℕ) (a : Addr4) : Type 0 where
 -- every router is willing to route, no router has the address, and of the networks that have it and that routers joined with
 -- `from` attach, this one has the longest prefix
 pub record IsNetworkOf (s : Scenario) (from : ℕ) (a : Addr4) (net : NetAddr) : Type 0 where
-  pub willing : (x : ℕ) (r : RouterSettings) → Router s x r → Willing s x
+  pub willing : (x : ℕ) (r : RouterSettings) → Router s x r → IsWillingRouter s x
   pub no_router : (x : ℕ) → AddressOf s x a → ⊥
   pub gateway : ℕ
   pub joined : Joined s from gateway

@@ -8,7 +8,7 @@ use Rattle.std.proofs.lemmas.Nat.{le_or_l, le_or_r}
 use Rattle.hex.specs.Hex.{hex_digit_value, decode_pairs, decode_of}
 use Rattle.hex.proofs.HexLemmas.{decode_of-even}
 use Rattle.mesh_dump.specs.declared.digits.TheConstants.{HIGH, LOW}
-use Rattle.mesh_dump.specs.Pairs.{IsPair, ArePairs}
+use Rattle.mesh_dump.specs.Pairs.{IsPair, AreHexPairs}
 use Rattle.mesh_report.proofs.Tables.{all_below, below}
 
 -- ---- the tables
@@ -53,7 +53,7 @@ low_most x fits = leb-true _ _ (both _ _ (below is_low 256 all_low x fits)).0
 
 -- ---- pairs
 
-pub pairs_decode : (at : ℕ) (text octets : List ℕ) → length text ≡ 2 * length octets → ArePairs text octets (length octets) → decode_pairs at text ≡ Ok octets
+pub pairs_decode : (at : ℕ) (text octets : List ℕ) → length text ≡ 2 * length octets → AreHexPairs text octets (length octets) → decode_pairs at text ≡ Ok octets
 unfolding decode_pairs
 pairs_decode at [] [] size are = refl
 pairs_decode at [] (o ∷ octets) size are = absurd (omega (arith, size))
@@ -61,7 +61,7 @@ pairs_decode at (c ∷ []) octets size are = absurd (omega (arith, size))
 pairs_decode at (c ∷ d ∷ text) [] size are = absurd (omega (arith, size))
 pairs_decode at (c ∷ d ∷ text) (o ∷ octets) size are =
     let p = are 0 (omega arith) in
-    let rest : ArePairs text octets (length octets) = λ k lt.
+    let rest : AreHexPairs text octets (length octets) = λ k lt.
     let first : 2 * suc k ≡ suc (suc (2 * k)) = omega arith in
     let second : 2 * suc k + 1 ≡ suc (suc (2 * k + 1)) = omega arith in
     subst (λ (n : ℕ). IsPair (slice_index text (2 * k)) (slice_index (c ∷ d ∷ text) n) (slice_index octets k)) second
@@ -76,8 +76,8 @@ sixteenfold None n e = cc
 sixteenfold (Some value) n e = let same : value * 16 ≡ n = cc in (value, refl, sym same)
 
 -- one pair more
-pub one_more : (text octets : List ℕ) (i all high low : ℕ) → i < length octets → (all < 256 → ArePairs text octets i) → (high < 256 → option_map (λ (value : ℕ). value * 16) (hex_digit_value (slice_index text (2 * i))) ≡ Some high)
-    → (low < 256 → hex_digit_value (slice_index text (2 * i + 1)) ≡ Some low) → bit_or all (high + low) < 256 → ArePairs text (slice_set octets i ((high + low) % 256)) (i + 1)
+pub one_more : (text octets : List ℕ) (i all high low : ℕ) → i < length octets → (all < 256 → AreHexPairs text octets i) → (high < 256 → option_map (λ (value : ℕ). value * 16) (hex_digit_value (slice_index text (2 * i))) ≡ Some high)
+    → (low < 256 → hex_digit_value (slice_index text (2 * i + 1)) ≡ Some low) → bit_or all (high + low) < 256 → AreHexPairs text (slice_set octets i ((high + low) % 256)) (i + 1)
 one_more text octets i all high low there before first second few k lt =
     let in_pair : high + low < 256 = omega (arith, few, le_or_r all (high + low)) in
     let (value, value_is, is) = sixteenfold _ high (first (omega (arith, in_pair))) in

@@ -8,7 +8,7 @@ use Rattle.std.proofs.lemmas.Nat.{le_or_l, le_or_r}
 use Rattle.std.proofs.lemmas.Simd.{get_or-put_chunk_below, get_or-put_chunk_at}
 use Rattle.hex.specs.Hex.{hex_digit_value}
 use Rattle.mesh_report.proofs.Tables.{all_below, below}
-use Rattle.mesh_dump.specs.Pairs.{IsPair, ArePairs}
+use Rattle.mesh_dump.specs.Pairs.{IsPair, AreHexPairs}
 use Rattle.mesh_dump.specs.Values.{digit_value}
 use Rattle.mesh_dump.proofs.Pairs.{one_of, same_value}
 
@@ -72,7 +72,7 @@ both_low a b c is low = (
 pub sixteen_more : (text octets loaded digits v : List ℕ) (i : ℕ) → 16 * i + 16 ≤ length octets → length v ≡ 16 → ((k : ℕ) → slice_index text k < 256)
     → ((k : ℕ) → k < 32 → slice_index loaded k ≡ slice_index text (32 * i + k)) → ((k : ℕ) → k < 32 → slice_index digits k ≡ digit_value (slice_index loaded k))
     → ((k : ℕ) → k < 16 → slice_index v k ≡ (slice_index digits (2 * k) * 16 % 256 + slice_index digits (2 * k + 1)) % 256)
-    → AreLow digits → ArePairs text octets (16 * i) → ArePairs text (put_chunk (16 * i) octets v) (16 * (i + 1))
+    → AreLow digits → AreHexPairs text octets (16 * i) → AreHexPairs text (put_chunk (16 * i) octets v) (16 * (i + 1))
 sixteen_more text octets loaded digits v i room len fits loads values are low before j lt =
     elim (cases_lt j (16 * i)) [
       | inl less ↦ rw (get_or-put_chunk_below (16 * i) octets v j 0 less) (before j less)

@@ -11,8 +11,8 @@ pub record IsPair (high low octet : ℕ) : Type 0 where
   pub octet_is : octet ≡ first * 16 + second
 
 -- so are those before a place
-abbrev pub ArePairs : List ℕ → List ℕ → ℕ → Type 0
-ArePairs text octets end = (k : ℕ) → k < end → IsPair (slice_index text (2 * k)) (slice_index text (2 * k + 1)) (slice_index octets k)
+abbrev pub AreHexPairs : List ℕ → List ℕ → ℕ → Type 0
+AreHexPairs text octets end = (k : ℕ) → k < end → IsPair (slice_index text (2 * k)) (slice_index text (2 * k + 1)) (slice_index octets k)
 
 -- the text writes so many octets, which are the first of these
 abbrev pub AreFirst : ℕ → List ℕ → List ℕ → Type 0

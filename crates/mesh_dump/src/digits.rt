@@ -2,7 +2,7 @@
 ghost use Rattle.std.specs.Prelude.{◌≡◌, ◌*◌, ◌<◌, ◌≤◌, ◌/◌, length, Ok, Some, IfOk, OnOk, IsTrue};
 ghost use Rattle.std.specs.Option.{option_map};
 ghost use Rattle.hex.specs.Hex.{hex_digit_value, decode_pairs};
-ghost use Rattle.mesh_dump.specs.Pairs.{ArePairs, AreFirst};
+ghost use Rattle.mesh_dump.specs.Pairs.{AreHexPairs, AreFirst};
 
 use crate::lanes::put_wide;
 use std::alloc::{AllocError, Global};
@@ -65,7 +65,7 @@ fn low_of(octet: u8) -> u16
 fn put_rest(text: &[u8], out: &mut [u8], from: usize) -> u16
     requires { length text.now ≡ 2 * length out.old }
     ensures len { length out.new ≡ length out.old }
-    ensures octets { result < 256 → ArePairs text.now out.old from → ArePairs text.now out.new (length out.old) }
+    ensures octets { result < 256 → AreHexPairs text.now out.old from → AreHexPairs text.now out.new (length out.old) }
 {
     let mut all = 0;
     for i in from..out.len() {

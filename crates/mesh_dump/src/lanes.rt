@@ -3,7 +3,7 @@ ghost use Rattle.std.specs.Prelude.{◌≡◌, ℕ, ◌+◌, ◌*◌, ◌-◌, �
 ghost use Rattle.std.specs.Simd.Lanes.{put_chunk};
 ghost use Rattle.mesh_dump.specs.Values.{less, digit_value};
 ghost use Rattle.mesh_report.specs.Lanes.{HasLanes};
-ghost use Rattle.mesh_dump.specs.Pairs.{ArePairs};
+ghost use Rattle.mesh_dump.specs.Pairs.{AreHexPairs};
 
 use std::simd::prelude::*;
 
@@ -122,7 +122,7 @@ fn store(v: u8x16, out: &mut [u8], at: usize)
 pub(crate) fn put_wide(text: &[u8], out: &mut [u8]) -> bool
     requires { length text.now ≡ 2 * length out.old }
     ensures len { length out.new ≡ length out.old }
-    ensures octets { IsTrue result → ArePairs text.now out.new (16 * (length out.old / 16)) }
+    ensures octets { IsTrue result → AreHexPairs text.now out.new (16 * (length out.old / 16)) }
 {
     let mut all = u8x32::splat(0);
     for i in 0..out.len() / 16 {

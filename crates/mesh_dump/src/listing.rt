@@ -14,12 +14,12 @@ use std::alloc::{AllocError, Global};
 
 // How many lines there are, and how many of them are refused.
 #[derive(Clone, Copy)]
-struct Counts {
+struct LineCounts {
     lines: u64,
     refused: u64,
 }
 
-fn put_total(out: &mut Bytes, counts: Counts) -> Result<(), AllocError>
+fn put_total(out: &mut Bytes, counts: LineCounts) -> Result<(), AllocError>
     ensures { OnOk result (out.new ≡ out.old ++ total_text counts.lines counts.refused) }
 {
     out.append(b"lines ")?;
@@ -30,7 +30,7 @@ fn put_total(out: &mut Bytes, counts: Counts) -> Result<(), AllocError>
 }
 
 // Writes the line that counts, by one write. What `part` holds is lost.
-fn write_total<O: Sink>(part: &mut Bytes, counts: Counts, out: &mut O) -> Result<(), Stop>
+fn write_total<O: Sink>(part: &mut Bytes, counts: LineCounts, out: &mut O) -> Result<(), Stop>
     ensures text { Writes (λ _ text. text ≡ total_text counts.lines counts.refused) (λ text. text ≡ total_text counts.lines counts.refused)
         (λ text. text ≡ []) (O.content out.old) (O.content out.new) (O.faults out.old) (O.faults out.new) result }
     ensures later { O.faults out.old ≤ O.faults out.new }
@@ -73,7 +73,7 @@ fn write_lines<O: Sink>(
     input: &[u8],
     recode: bool,
     out: &mut O,
-) -> Result<Counts, Stop>
+) -> Result<LineCounts, Stop>
     ensures lines { IfOk result (λ counts. counts.lines ≡ length (lines input.now)) }
     ensures text { Writes (λ counts. IsLinesText recode 1 (lines input.now) counts.refused) (IsFirstLinesText input.now recode)
         (IsFirstLinesText input.now recode) (O.content out.old) (O.content out.new) (O.faults out.old) (O.faults out.new) result }
@@ -88,7 +88,7 @@ fn write_lines<O: Sink>(
         refused += write_line(alloc, desk, number, line, recode, out)?;
         at += used;
     }
-    Ok(Counts {
+    Ok(LineCounts {
         lines: number,
         refused,
     })

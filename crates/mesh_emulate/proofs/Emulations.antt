@@ -11,15 +11,15 @@ use Rattle.mesh_io.specs.Faults.{Rose}
 use Rattle.mesh_io.specs.declared.stop.Stop.{Stop}
 use Rattle.mesh_io.specs.declared.stop.Stop.TheVariants as stop
 use Rattle.mesh_emulate.specs.Emulation.{TellsTrip, TellsProbe, Emulation, StoppedEmulation, IsRefused, without_both, without_probe, IsAllBut, But_the_trip, But_the_probe, IsFirstPart, Of_nothing, Of_first_events, Of_run, IsFront, Front_of_events, Front_of_run, Front_of_whole}
-use Rattle.mesh_emulate.specs.Left.{Leaves, IsTripTold, IsProbeTold, IsWholeText, IsRunAlone, IsTripAlone, IsFirstText, IsFrontText, IsPartText}
+use Rattle.mesh_emulate.specs.Left.{LeavesOut, IsTripTold, IsProbeTold, IsWholeText, IsRunAlone, IsTripAlone, IsFirstEventsText, IsFrontText, IsPartText}
 use Rattle.mesh_emulate.specs.Prepared.{IsPrepared, IsUnbegun}
-use Rattle.mesh_emulate.specs.Wants.{Packet, Wants, IsNamed, Agree, Departs}
+use Rattle.mesh_emulate.specs.Wants.{WantedPacket, Wants, IsNamed, Agree, Departs}
 use Rattle.mesh_emulate.specs.declared.emulation.EmulateFault.{EmulateFault}
 use Rattle.mesh_emulate.specs.declared.emulation.EmulateFault.TheVariants.{Refused, Stopped}
 use Rattle.mesh_emulate.specs.declared.prepared.Prepared.{Prepared}
 use Rattle.mesh_emulate.specs.declared.wanted.Departure.{Departure}
 use Rattle.mesh_texts.specs.Runs.{WholeRun, IsRunText, IsFirstTrace}
-use Rattle.mesh_config.specs.Keys.Faults.{IfRefused}
+use Rattle.mesh_config.specs.Keys.Faults.{IfSettingRefused}
 use Rattle.mesh_config.specs.declared.keys.fault.ConfigFault.{ConfigFault}
 use Rattle.mesh_config.specs.declared.keys.fault.ConfigFault.TheVariants as faults
 
@@ -28,7 +28,7 @@ same_stop a b e = cc
 
 -- Before the first event
 
-pub unbegun_refused : (input : List ℕ) (wants : Wants) (fault : ConfigFault) (ends : EmulateFault) → IsUnbegun fault ends → IfRefused (IsRefused input wants) fault →
+pub unbegun_refused : (input : List ℕ) (wants : Wants) (fault : ConfigFault) (ends : EmulateFault) → IsUnbegun fault ends → IfSettingRefused (IsRefused input wants) fault →
     (number : ℕ) (key : List ℕ) → ◌≡◌ {A = Result (Unit {0}) EmulateFault} (Err ends) (Err (Refused number key)) → IsRefused input wants number key
 unbegun_refused input wants (faults.Refused n k) ends is refused number key e =
     let same : n ≡ number = cc in
@@ -50,7 +50,7 @@ some_wanted R None (Some b) is some = absurd is
 some_wanted R (Some a) None is some = absurd is
 
 module _ (input : List ℕ) (wants : Wants) (p : Prepared) (ready : IsPrepared input wants p) where
-  trip_named : (states : List State) (send : Option Packet) (departs : Option Departure) (text : List ℕ) → Agree (Departs p.scenario) send departs →
+  trip_named : (states : List State) (send : Option WantedPacket) (departs : Option Departure) (text : List ℕ) → Agree (Departs p.scenario) send departs →
       IsTripTold p.scenario states departs text → TellsTrip p.scenario states send text
   trip_named states None None text departs told = told
   trip_named states (Some packet) (Some departure) text departs (trip, is, text_is) = record {
@@ -109,7 +109,7 @@ module _ (input : List ℕ) (wants : Wants) (p : Prepared) (ready : IsPrepared i
       (is ∙ ap (λ (l : List ℕ). told ++ l) (sym (append-nil trip))) in
       But_the_probe (some_wanted (IsNamed p.scenario) wants.probe p.errand.probe ready.errand.origin some) e.0 e.1
 
-  first_events : (text : List ℕ) → IsFirstText p.scenario p.errand.trace text → (e : StoppedEmulation input wants.trace) × (text ≡ e.text)
+  first_events : (text : List ℕ) → IsFirstEventsText p.scenario p.errand.trace text → (e : StoppedEmulation input wants.trace) × (text ≡ e.text)
   first_events text (first, is) =
       (record { scenario = p.scenario; stated = ready.stated; first_events = first; text = text; is_text = subst (λ (b : Bool). IsFirstTrace b first text) ready.errand.trace is }, refl)
 
@@ -130,13 +130,13 @@ module _ (input : List ℕ) (wants : Wants) (p : Prepared) (ready : IsPrepared i
   is_part text (inr (inr (inr alone))) = Of_run (trip_alone text alone)
 
   pub cut_short : (a b : Option (List ℕ)) (f g : ℕ) (why : Stop) → why ≡ stop.Write →
-      Leaves (IsWholeText p.scenario p.errand) (IsFrontText p.scenario p.errand) (IsPartText p.scenario p.errand) a b f g (Err why) →
+      LeavesOut (IsWholeText p.scenario p.errand) (IsFrontText p.scenario p.errand) (IsPartText p.scenario p.errand) a b f g (Err why) →
       Rose f g × (text : List ℕ) × IsFront input wants text × (n : ℕ) × Appends a b (take n text)
   cut_short a b f g stop.Write e (rose, text, is, n, stands) = (rose, text, is_front text is, n, stands)
   cut_short a b f g stop.Memory e left = absurd cc
 
   pub stopped_short : (a b : Option (List ℕ)) (f g : ℕ) (why : Stop) → why ≡ stop.Memory →
-      Leaves (IsWholeText p.scenario p.errand) (IsFrontText p.scenario p.errand) (IsPartText p.scenario p.errand) a b f g (Err why) →
+      LeavesOut (IsWholeText p.scenario p.errand) (IsFrontText p.scenario p.errand) (IsPartText p.scenario p.errand) a b f g (Err why) →
       (text : List ℕ) × IsFirstPart input wants text × Appends a b text
   stopped_short a b f g stop.Write e left = absurd cc
   stopped_short a b f g stop.Memory e (text, is, stands) = (text, is_part text is, stands)

@@ -6,17 +6,17 @@ use Rattle.mesh_atoms.specs.declared.settings.RouterSettings.{RouterSettings}
 use Rattle.mesh_atoms.specs.declared.settings.Scenario.{Scenario}
 use Rattle.mesh_config.specs.Settings.{RouterSays}
 use Rattle.mesh_emulate.specs.Emulation.{States}
-use Rattle.mesh_emulate.specs.Wants.{Wants, HasName, IsNamed, IsUnknown, FirstUnknown, Of_send, Of_probe}
+use Rattle.mesh_emulate.specs.Wants.{Wants, HasName, IsNamed, IsUnknownName, FirstUnknown, Of_send, Of_probe}
 use Rattle.mesh_config.specs.Stated.Router.{name}
 use Rattle.mesh_config.specs.Stated.Scenario.{sub_times, routers}
 use Rattle.mesh_config.specs.Stated.Tables.{Each, table_of}
 use Rattle.mesh_config.specs.Keys.Document.{document}
-use Rattle.mesh_config.specs.Keys.Faults.{Read, listed}
+use Rattle.mesh_config.specs.Keys.Faults.{ReadValue, listed}
 
-same_name : (read : Read (List ℕ)) (a b : List ℕ) → read ≡ Ok a → read ≡ Ok b → a ≡ b
+same_name : (read : ReadValue (List ℕ)) (a b : List ℕ) → read ≡ Ok a → read ≡ Ok b → a ≡ b
 same_name read a b e f = cc
 
-same_table : (read : Read Members) (a b : Members) → read ≡ Ok a → read ≡ Ok b → a ≡ b
+same_table : (read : ReadValue Members) (a b : Members) → read ≡ Ok a → read ≡ Ok b → a ≡ b
 same_table read a b e f = cc
 
 -- of two readings of the same tables, each router has the same name in both
@@ -40,7 +40,7 @@ named_as input s t is it wanted x named =
     (subst (λ (m : Members). Each (RouterSays (sub_times table')) (listed (routers m)) t.routers) (sym same) says'.are_routers) wanted x named
 
 -- so a name that no router of the one has no router of the other has
-unknown_there : (input : List ℕ) (s t : Scenario) → States input s → States input t → (name option : List ℕ) (number : ℕ) (key : List ℕ) → IsUnknown s name option number key → IsUnknown t name option number key
+unknown_there : (input : List ℕ) (s t : Scenario) → States input s → States input t → (name option : List ℕ) (number : ℕ) (key : List ℕ) → IsUnknownName s name option number key → IsUnknownName t name option number key
 unknown_there input s t is it name option number key u =
     record { none = λ x named. u.none x (named_as input t s it is name x named); is_number = u.is_number; is_key = u.is_key }
 

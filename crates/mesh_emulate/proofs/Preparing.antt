@@ -10,9 +10,9 @@ use Rattle.mesh_config.specs.Settings.{FirstRefusal}
 use Rattle.mesh_emulate.specs.declared.wanted.Departure.{Departure}
 use Rattle.mesh_emulate.specs.declared.wanted.Errand.{Errand}
 use Rattle.mesh_emulate.specs.Emulation.{States, IsRefused, By_settings, By_name}
-use Rattle.mesh_emulate.specs.Wants.{Packet, Wants, HasName, IsNamed, Agree, Departs, IsErrand, IsWithin, IsUnknown, NamesUnknown, NamesKnown, start_of, FirstUnknown, Of_send, Of_probe}
+use Rattle.mesh_emulate.specs.Wants.{WantedPacket, Wants, HasName, IsNamed, Agree, Departs, IsErrand, IsWithin, IsUnknownName, NamesUnknown, NamesKnown, start_of, FirstUnknown, Of_send, Of_probe}
 use Rattle.mesh_emulate.proofs.Names.{unknown_as}
-use Rattle.mesh_config.specs.Keys.Faults.{Fault, fault, FailsAt, IfRefused}
+use Rattle.mesh_config.specs.Keys.Faults.{Fault, fault, FailsAt, IfSettingRefused}
 use Rattle.mesh_config.specs.declared.keys.fault.ConfigFault.{ConfigFault}
 use Rattle.mesh_config.specs.declared.keys.fault.ConfigFault.TheVariants as faults
 
@@ -31,7 +31,7 @@ errand_within s wants errand is = record {
 }
 
 -- where the packet's start is known
-pub start_known : (s : Scenario) (send : Option Packet) (departs : Option Departure) → Agree (Departs s) send departs → NamesKnown s (start_of send)
+pub start_known : (s : Scenario) (send : Option WantedPacket) (departs : Option Departure) → Agree (Departs s) send departs → NamesKnown s (start_of send)
 start_known s (Some packet) (Some departure) is name e =
     let same : packet.from ≡ name = cc in
     (departure.from, subst (λ (n : List ℕ). IsNamed s n departure.from) same is.0)
@@ -41,13 +41,13 @@ start_known s (Some packet) None is name e = absurd is
 
 -- Refusals
 
-refused_by : (P Q : ℕ → List ℕ → Type 0) → ((number : ℕ) (key : List ℕ) → P number key → Q number key) → (e : ConfigFault) → IfRefused P e → IfRefused Q e
+refused_by : (P Q : ℕ → List ℕ → Type 0) → ((number : ℕ) (key : List ℕ) → P number key → Q number key) → (e : ConfigFault) → IfSettingRefused P e → IfSettingRefused Q e
 refused_by P Q by (faults.Refused number key) is = by number key is
 refused_by P Q by (faults.Memory a) is = tt
 
 -- no router has the name
 pub is_unknown : (s : Scenario) (name option : List ℕ) (e : ConfigFault) → ((x : ℕ) → IsNamed s name x → ⊥) → FailsAt e (Some (fault 45 option)) →
-    IfRefused (IsUnknown s name option) e
+    IfSettingRefused (IsUnknownName s name option) e
 is_unknown s name option (faults.Refused number key) none is = record {
   none = none;
   is_number = ap (λ (f : Fault). f.number) same;
@@ -58,21 +58,21 @@ is_unknown s name option (faults.Refused number key) none is = record {
 is_unknown s name option (faults.Memory a) none is = tt
 
 -- and it is wanted
-pub names_unknown : (s : Scenario) (wanted : Option (List ℕ)) (name option : List ℕ) (e : ConfigFault) → wanted ≡ Some name → IfRefused (IsUnknown s name option) e →
-    IfRefused (NamesUnknown s wanted option) e
+pub names_unknown : (s : Scenario) (wanted : Option (List ℕ)) (name option : List ℕ) (e : ConfigFault) → wanted ≡ Some name → IfSettingRefused (IsUnknownName s name option) e →
+    IfSettingRefused (NamesUnknown s wanted option) e
 names_unknown s wanted name option e is unknown =
-    refused_by (IsUnknown s name option) (NamesUnknown s wanted option) (λ number key u. (name, is, u)) e unknown
+    refused_by (IsUnknownName s name option) (NamesUnknown s wanted option) (λ number key u. (name, is, u)) e unknown
 
-pub send_refused : (s : Scenario) (wants : Wants) (e : ConfigFault) → IfRefused (NamesUnknown s (start_of wants.send) (codes "send")) e → IfRefused (FirstUnknown s wants) e
+pub send_refused : (s : Scenario) (wants : Wants) (e : ConfigFault) → IfSettingRefused (NamesUnknown s (start_of wants.send) (codes "send")) e → IfSettingRefused (FirstUnknown s wants) e
 send_refused s wants e is = refused_by (NamesUnknown s (start_of wants.send) (codes "send")) (FirstUnknown s wants) (λ number key u. Of_send u) e is
 
-pub probe_refused : (s : Scenario) (wants : Wants) (e : ConfigFault) → NamesKnown s (start_of wants.send) → IfRefused (NamesUnknown s wants.probe (codes "probe")) e → IfRefused (FirstUnknown s wants) e
+pub probe_refused : (s : Scenario) (wants : Wants) (e : ConfigFault) → NamesKnown s (start_of wants.send) → IfSettingRefused (NamesUnknown s wants.probe (codes "probe")) e → IfSettingRefused (FirstUnknown s wants) e
 probe_refused s wants e known is = refused_by (NamesUnknown s wants.probe (codes "probe")) (FirstUnknown s wants) (λ number key u. Of_probe known u) e is
 
-pub settings_refused : (input : List ℕ) (wants : Wants) (e : ConfigFault) → IfRefused (FirstRefusal input) e → IfRefused (IsRefused input wants) e
+pub settings_refused : (input : List ℕ) (wants : Wants) (e : ConfigFault) → IfSettingRefused (FirstRefusal input) e → IfSettingRefused (IsRefused input wants) e
 settings_refused input wants e is = refused_by (FirstRefusal input) (IsRefused input wants) (λ number key r. By_settings r) e is
 
-pub name_refused : (input : List ℕ) (wants : Wants) (s : Scenario) (e : ConfigFault) → States input s → IfRefused (FirstUnknown s wants) e → IfRefused (IsRefused input wants) e
+pub name_refused : (input : List ℕ) (wants : Wants) (s : Scenario) (e : ConfigFault) → States input s → IfSettingRefused (FirstUnknown s wants) e → IfSettingRefused (IsRefused input wants) e
 name_refused input wants s e stated is =
     refused_by (FirstUnknown s wants) (IsRefused input wants) (λ number key u. By_name s stated (λ other it. unknown_as input s other stated it wants number key u)) e is
 

@@ -4,14 +4,14 @@ use Rattle.mesh_atoms.specs.declared.settings.Scenario.{Scenario}
 use Rattle.mesh_atoms.specs.State.{State}
 use Rattle.mesh_config.specs.Settings.{refusals}
 use Rattle.mesh_emulate.specs.Emulation.{TellsTrip, TellsProbe, Emulation, IsRefused, By_settings, By_name}
-use Rattle.mesh_emulate.specs.Wants.{Packet, Wants, IsNamed, start_of, FirstUnknown, Of_send, Of_probe}
+use Rattle.mesh_emulate.specs.Wants.{WantedPacket, Wants, IsNamed, start_of, FirstUnknown, Of_send, Of_probe}
 use Rattle.mesh_config.specs.Keys.Faults.{Fault, fault, first}
 
 no_fault : (found : Option Fault) (f : Fault) → found ≡ None → found ≡ Some f → ⊥
 no_fault found f none some = cc
 
 -- what is told is of routers that have the names
-start_named : (s : Scenario) (states : List State) (send : Option Packet) (text name : List ℕ) → TellsTrip s states send text → start_of send ≡ Some name → (x : ℕ) × IsNamed s name x
+start_named : (s : Scenario) (states : List State) (send : Option WantedPacket) (text name : List ℕ) → TellsTrip s states send text → start_of send ≡ Some name → (x : ℕ) × IsNamed s name x
 start_named s states (Some packet) text name told e =
     let same : packet.from ≡ name = cc in (told.from, subst (λ (n : List ℕ). IsNamed s n told.from) same told.named)
 start_named s states None text name told e = let bad : ⊥ = cc in absurd bad

@@ -8,7 +8,7 @@ use Rattle.std.proofs.lemmas.List.Elements.{Contains-get_or, recursion_from_All}
 use Rattle.std.proofs.lemmas.Map.Views.{list_any-from_Contains}
 use Rattle.mesh_atoms.specs.declared.settings.RouterSettings.{RouterSettings}
 use Rattle.mesh_atoms.specs.declared.settings.Scenario.{Scenario}
-use Rattle.mesh_emulate.specs.Laws.{probing, ReachesJoined, reached_counts, TellsAllReached, ProbesReachJoined, ProbesTellAll, ProbesSendOnce}
+use Rattle.mesh_emulate.specs.Laws.{probing, ReachesJoined, reached_counts, TellsAllReached, ProbesReachJoined, ProbesTellAll, EmulatedProbesSendOnce}
 use Rattle.mesh_emulate.proofs.ToldRoutes.{network, state_of}
 use Rattle.mesh_probe.specs.declared.coverage.Coverage.{Coverage}
 use Rattle.mesh_probe.specs.declared.coverage.Probe.{Probe}
@@ -66,7 +66,7 @@ probes_tell_all law input trace send name e says freely =
 
 -- Whatever the network
 
-pub probes_send_once : probes.ProbesSendOnce → ProbesSendOnce
+pub probes_send_once : probes.ProbesSendOnce → EmulatedProbesSendOnce
 probes_send_once law input trace send name e =
     let told = e.is_probe.is_probe in
     law e.scenario e.run.final.routers told.after e.scenario.end e.is_probe.origin e.is_probe.probe (run_states e.scenario e.run) told.flood

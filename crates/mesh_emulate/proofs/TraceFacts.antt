@@ -10,22 +10,22 @@ use Rattle.mesh_io.specs.declared.stop.Stop.{Stop}
 use Rattle.mesh_io.proofs.Steps.{appends_more}
 use Rattle.mesh_texts.specs.machine.packet.Least.{Wrote}
 use Rattle.mesh_atoms.specs.declared.network.NetEvent.{NetEvent}
-use Rattle.mesh_texts.specs.machine.Net.{Net, NetStep, By_delivery, By_tick, By_last_tick, Moves}
+use Rattle.mesh_texts.specs.machine.Net.{NetState, NetStep, By_delivery, By_tick, By_last_tick, Moves}
 use Rattle.mesh_texts.specs.machine.Traffic.{Traffic, with_heard}
 use Rattle.mesh_texts.specs.machine.NetRun.{IsOfPackets}
 use Rattle.mesh_texts.proofs.TraceSteps.{traces_more, traces_run}
 use Rattle.mesh_texts.specs.Trace.{IsEventText}
 use Rattle.mesh_texts.specs.Runs.{IsTraced}
-use Rattle.mesh_emulate.specs.Left.{Leaves, IsNothing, IsLastEvent, Told, ToldToEnd, ToldSoFar}
+use Rattle.mesh_emulate.specs.Left.{LeavesOut, IsNothing, IsLastEvent, RunWithText, ToldToEnd, ToldSoFar}
 use Rattle.mesh_emulate.proofs.Leaving.{stops_then}
 
-moves_of : (old new : Net) (event : NetEvent) → NetStep old event new → (before : Traffic) × Moves old event before new
+moves_of : (old new : NetState) (event : NetEvent) → NetStep old event new → (before : Traffic) × Moves old event before new
 moves_of old new event (By_delivery d) = (with_heard old.traffic d.others, d.moves)
 moves_of old new event (By_tick t) = (old.traffic, t.moves)
 moves_of old new event (By_last_tick t) = (old.traffic, t.moves)
 
 -- a step that the network takes is one whose text can be told
-pub last_event : (s : Scenario) (old new : Net) (event : NetEvent) → old.scenario ≡ s → NetStep old event new → IsOfPackets event →
+pub last_event : (s : Scenario) (old new : NetState) (event : NetEvent) → old.scenario ≡ s → NetStep old event new → IsOfPackets event →
     IsLastEvent s new event
 last_event s old new event same step packets =
     let moves = (moves_of old new event step).1 in
@@ -34,8 +34,8 @@ last_event s old new event same step packets =
     record { scenario = moves.scenario ∙ same; router = omega (arith, within, count); packet = packets.heard }
 
 -- one event more
-pub told_more : (old mid new : Net) (text : List ℕ) (event : NetEvent) (last : List ℕ) → Told true old mid text →
-    NetStep mid event new → IsTraced new event last → Told true old new (text ++ last)
+pub told_more : (old mid new : NetState) (text : List ℕ) (event : NetEvent) (last : List ℕ) → RunWithText true old mid text →
+    NetStep mid event new → IsTraced new event last → RunWithText true old new (text ++ last)
 told_more old mid new text event last told step is =
     let traced = traces_more old told.events mid new text event last told.is_told step is in
     record { events = told.events ++ event ∷ []; runs = traces_run old (told.events ++ event ∷ []) new (text ++ last) traced; is_told = traced }
@@ -51,7 +51,7 @@ router_at {R} state routers states x router same within is =
     subst (λ (l : List State). slice_get l x ≡ Some (state router)) same (there ∙ ap Some value)
 
 -- the text of the event was put
-pub text_put : {E : Type 0} (s : Scenario) (net : Net) (event : NetEvent) (after : State) (old new : List ℕ) (r : Result (Unit {0}) E) →
+pub text_put : {E : Type 0} (s : Scenario) (net : NetState) (event : NetEvent) (after : State) (old new : List ℕ) (r : Result (Unit {0}) E) →
     IsLastEvent s net event → slice_get net.routers event.router ≡ Some after → old ≡ [] →
     OnOk r (Wrote (IsEventText s event after) old new) → OnOk r (IsTraced net event new)
 text_put s net event after old new (Ok u) last at none (text, put, is) =
@@ -60,19 +60,19 @@ text_put s net event after old new (Ok u) last at none (text, put, is) =
 text_put s net event after old new (Err e) last at none put = tt
 
 -- a run whose next event isn't told whole
-pub event_left : (old mid new end : Net) (event : NetEvent) (a b c : Option (List ℕ)) (f g h : ℕ) (why : Stop) →
-    NetStep mid event new → (text : List ℕ) × Told true old mid text × Appends a b text → f ≤ g →
-    Leaves (IsTraced new event) (IsTraced new event) IsNothing b c g h (Err why) →
-    Leaves (ToldToEnd true old end) (ToldSoFar true old) (ToldSoFar true old) a c f h (Err why)
+pub event_left : (old mid new end : NetState) (event : NetEvent) (a b c : Option (List ℕ)) (f g h : ℕ) (why : Stop) →
+    NetStep mid event new → (text : List ℕ) × RunWithText true old mid text × Appends a b text → f ≤ g →
+    LeavesOut (IsTraced new event) (IsTraced new event) IsNothing b c g h (Err why) →
+    LeavesOut (ToldToEnd true old end) (ToldSoFar true old) (ToldSoFar true old) a c f h (Err why)
 event_left old mid new end event a b c f g h why step (text, told, stands) le left =
     stops_then (IsTraced new event) (IsTraced new event) IsNothing (ToldToEnd true old end) (ToldSoFar true old) (ToldSoFar true old) a b c f g h text why stands le
     (λ t is. (new, told_more old mid new text event t told step is))
-    (λ t none. (mid, subst (Told true old mid) (sym (append-nil text) ∙ ap (λ (l : List ℕ). text ++ l) (sym none)) told))
+    (λ t none. (mid, subst (RunWithText true old mid) (sym (append-nil text) ∙ ap (λ (l : List ℕ). text ++ l) (sym none)) told))
     left
 
 -- a run with one event more that is told
-pub event_told : (old mid new : Net) (event : NetEvent) (a b c : Option (List ℕ)) → NetStep mid event new →
-    (text : List ℕ) × Told true old mid text × Appends a b text → (last : List ℕ) × IsTraced new event last × Appends b c last →
-    (text : List ℕ) × Told true old new text × Appends a c text
+pub event_told : (old mid new : NetState) (event : NetEvent) (a b c : Option (List ℕ)) → NetStep mid event new →
+    (text : List ℕ) × RunWithText true old mid text × Appends a b text → (last : List ℕ) × IsTraced new event last × Appends b c last →
+    (text : List ℕ) × RunWithText true old new text × Appends a c text
 event_told old mid new event a b c step (text, told, stands) (last, is, follows) =
     (text ++ last, told_more old mid new text event last told step is, appends_more a b c text last stands follows)

@@ -6,7 +6,7 @@ use Rattle.mesh_config.specs.Settings.{SettingsIs, FirstRefusal, refusals}
 use Rattle.mesh_data.specs.declared.trip.Trip.{Trip}
 use Rattle.mesh_data.specs.Text.{text_of}
 use Rattle.mesh_data.specs.Trips.{IsTrip}
-use Rattle.mesh_emulate.specs.Wants.{Packet, Wants, IsNamed, FirstUnknown}
+use Rattle.mesh_emulate.specs.Wants.{WantedPacket, Wants, IsNamed, FirstUnknown}
 use Rattle.mesh_probe.specs.declared.coverage.Probe.{Probe}
 use Rattle.mesh_probe.specs.Probes.{HasLeastNumber, TellsFlood, AreReached, IfDone}
 use Rattle.mesh_probe.specs.Text.{IsProbeText}
@@ -19,7 +19,7 @@ pub record States (input : List ℕ) (scenario : Scenario) : Type 0 where
   pub clear : first (refusals input) ≡ None
 
 -- the trip of the packet over the routes of these routers, and its text
-pub record IsSent (s : Scenario) (states : List State) (packet : Packet) (text : List ℕ) : Type 0 where
+pub record IsPacketSent (s : Scenario) (states : List State) (packet : WantedPacket) (text : List ℕ) : Type 0 where
   pub from : ℕ
   pub named : IsNamed s packet.from from
   pub trip : Trip
@@ -43,9 +43,9 @@ pub record IsProbed (s : Scenario) (states : List State) (name text : List ℕ) 
   pub is_text : IsProbeText s origin probe text
 
 -- the trip that is wanted, and the probe; nothing where none is
-abbrev pub TellsTrip : Scenario → List State → Option Packet → List ℕ → Type 0
+abbrev pub TellsTrip : Scenario → List State → Option WantedPacket → List ℕ → Type 0
 TellsTrip s states None text = text ≡ []
-TellsTrip s states (Some packet) text = IsSent s states packet text
+TellsTrip s states (Some packet) text = IsPacketSent s states packet text
 
 abbrev pub TellsProbe : Scenario → List State → Option (List ℕ) → List ℕ → Type 0
 TellsProbe s states None text = text ≡ []

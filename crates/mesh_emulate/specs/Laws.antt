@@ -12,7 +12,7 @@ use Rattle.mesh_data.specs.declared.trip.Trip.{Trip}
 use Rattle.mesh_data.specs.Laws.{LiesAt, HasNetwork, IsNetworkOf, ArrivesAt}
 use Rattle.mesh_data.specs.Trips.{IsTrip}
 use Rattle.mesh_emulate.specs.Emulation.{Emulation}
-use Rattle.mesh_emulate.specs.Wants.{Packet, Wants}
+use Rattle.mesh_emulate.specs.Wants.{WantedPacket, Wants}
 use Rattle.mesh_texts.specs.machine.flood.Standing.{HasFullSet}
 use Rattle.mesh_probe.specs.declared.coverage.Coverage.{Coverage}
 use Rattle.mesh_probe.specs.Laws.{AllWillFlood}
@@ -49,20 +49,20 @@ PrintsNextHops =
 -- Trips
 
 -- the trip of a packet is wanted
-abbrev pub sending : Bool → Packet → Option (List ℕ) → Wants
+abbrev pub sending : Bool → WantedPacket → Option (List ℕ) → Wants
 sending trace packet probe = record { trace = trace; send = Some packet; probe = probe }
 
 -- no other trip leads to the packet's address than the one that is told
 abbrev pub TripsAreOnly : Type 0
 TripsAreOnly =
-    (input : List ℕ) (trace : Bool) (packet : Packet) (probe : Option (List ℕ)) (e : Emulation input (sending trace packet probe)) (other : Trip) →
+    (input : List ℕ) (trace : Bool) (packet : WantedPacket) (probe : Option (List ℕ)) (e : Emulation input (sending trace packet probe)) (other : Trip) →
     IsTrip e.scenario e.run.final.routers e.is_trip.from packet.dest other → other ≡ e.is_trip.trip
 
 -- where a line is `settled yes`, a packet to another router's address, to which the radio graph has a least cost, arrives there, at
 -- that cost
 abbrev pub TripsReachRouters : Type 0
 TripsReachRouters =
-    (input : List ℕ) (trace : Bool) (packet : Packet) (probe : Option (List ℕ)) (e : Emulation input (sending trace packet probe)) → SaysSettled e.text →
+    (input : List ℕ) (trace : Bool) (packet : WantedPacket) (probe : Option (List ℕ)) (e : Emulation input (sending trace packet probe)) → SaysSettled e.text →
     (y c : ℕ) → LiesAt e.scenario e.is_trip.from packet.dest y c →
     (e.is_trip.trip.end ≡ Arrived) × (e.is_trip.trip.last ≡ y) × (e.is_trip.trip.metric ≡ c)
 
@@ -70,21 +70,21 @@ TripsReachRouters =
 -- arrives at a router that attaches the longest such network
 abbrev pub TripsReachNetworks : Type 0
 TripsReachNetworks =
-    (input : List ℕ) (trace : Bool) (packet : Packet) (probe : Option (List ℕ)) (e : Emulation input (sending trace packet probe)) → SaysSettled e.text →
+    (input : List ℕ) (trace : Bool) (packet : WantedPacket) (probe : Option (List ℕ)) (e : Emulation input (sending trace packet probe)) → SaysSettled e.text →
     HasNetwork e.scenario e.is_trip.from packet.dest →
     (net : NetAddr) × IsNetworkOf e.scenario e.is_trip.from packet.dest net × ArrivesAt e.scenario e.is_trip.from net e.is_trip.trip
 
 -- and none of these ends for want of an arc, or goes too far
 abbrev pub TripsNeverStray : Type 0
 TripsNeverStray =
-    (input : List ℕ) (trace : Bool) (packet : Packet) (probe : Option (List ℕ)) (e : Emulation input (sending trace packet probe)) → SaysSettled e.text →
+    (input : List ℕ) (trace : Bool) (packet : WantedPacket) (probe : Option (List ℕ)) (e : Emulation input (sending trace packet probe)) → SaysSettled e.text →
     ((y c : ℕ) × LiesAt e.scenario e.is_trip.from packet.dest y c) ⊎ HasNetwork e.scenario e.is_trip.from packet.dest →
     (e.is_trip.trip.end ≢ NoArc) × (e.is_trip.trip.end ≢ TooFar)
 
 -- Probes
 
 -- the probe of the network by the router of that name is wanted
-abbrev pub probing : Bool → Option Packet → List ℕ → Wants
+abbrev pub probing : Bool → Option WantedPacket → List ℕ → Wants
 probing trace send name = record { trace = trace; send = send; probe = Some name }
 
 -- all routers are willing to flood, the hop limit of router origin is no less than the number of routers, and each router has room
@@ -112,19 +112,19 @@ TellsAllReached s origin text c =
 -- then, where a line is `settled yes`, each router that is joined with the one of that name is reached,
 abbrev pub ProbesReachJoined : Type 0
 ProbesReachJoined =
-    (input : List ℕ) (trace : Bool) (send : Option Packet) (name : List ℕ) (e : Emulation input (probing trace send name)) →
+    (input : List ℕ) (trace : Bool) (send : Option WantedPacket) (name : List ℕ) (e : Emulation input (probing trace send name)) →
     SaysSettled e.text → FloodsFreely e.scenario e.run.final.routers e.is_probe.origin →
     IfDone (ReachesJoined e.scenario e.is_probe.origin) e.is_probe.probe
 
 -- and the text says so
 abbrev pub ProbesTellAll : Type 0
 ProbesTellAll =
-    (input : List ℕ) (trace : Bool) (send : Option Packet) (name : List ℕ) (e : Emulation input (probing trace send name)) →
+    (input : List ℕ) (trace : Bool) (send : Option WantedPacket) (name : List ℕ) (e : Emulation input (probing trace send name)) →
     SaysSettled e.text → FloodsFreely e.scenario e.run.final.routers e.is_probe.origin →
     IfDone (TellsAllReached e.scenario e.is_probe.origin e.probe) e.is_probe.probe
 
 -- whatever the network, no router sends twice on an interface
-abbrev pub ProbesSendOnce : Type 0
-ProbesSendOnce =
-    (input : List ℕ) (trace : Bool) (send : Option Packet) (name : List ℕ) (e : Emulation input (probing trace send name)) →
+abbrev pub EmulatedProbesSendOnce : Type 0
+EmulatedProbesSendOnce =
+    (input : List ℕ) (trace : Bool) (send : Option WantedPacket) (name : List ℕ) (e : Emulation input (probing trace send name)) →
     IfDone SendsOnce e.is_probe.probe

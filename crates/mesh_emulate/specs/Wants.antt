@@ -10,18 +10,18 @@ use Rattle.mesh_emulate.specs.declared.wanted.NamedPacket.{NamedPacket}
 use Rattle.mesh_emulate.specs.declared.wanted.Wanted.{Wanted}
 
 -- a packet to that address, from the router of that name
-pub record Packet : Type 0 where
+pub record WantedPacket : Type 0 where
   pub from : List ℕ
   pub dest : Addr4
 
 -- the trace of the events, the trip of a packet at the end, and the probe of the network by the router of that name
 pub record Wants : Type 0 where
   pub trace : Bool
-  pub send : Option Packet
+  pub send : Option WantedPacket
   pub probe : Option (List ℕ)
 
 -- the same, wherever the names lie
-abbrev pub packet_of : NamedPacket → Packet
+abbrev pub packet_of : NamedPacket → WantedPacket
 packet_of p = record { from = p.from.now; dest = p.dest }
 
 abbrev pub wants_of : Wanted → Wants
@@ -45,7 +45,7 @@ Agree R None (Some b) = ⊥
 Agree R (Some a) None = ⊥
 
 -- the packet, by the number of its router
-abbrev pub Departs : Scenario → Packet → Departure → Type 0
+abbrev pub Departs : Scenario → WantedPacket → Departure → Type 0
 Departs s packet departure = IsNamed s packet.from departure.from × (departure.dest ≡ packet.dest)
 
 -- what is wanted, by numbers of the scenario's routers
@@ -62,22 +62,22 @@ pub record IsWithin (s : Scenario) (errand : Errand) : Type 0 where
 -- Names that no router has
 
 -- no router has the name, which is refused with that number and with the option's name as key
-pub record IsUnknown (s : Scenario) (name option : List ℕ) (number : ℕ) (key : List ℕ) : Type 0 where
+pub record IsUnknownName (s : Scenario) (name option : List ℕ) (number : ℕ) (key : List ℕ) : Type 0 where
   pub none : (x : ℕ) → IsNamed s name x → ⊥
   pub is_number : number ≡ 45
   pub is_key : key ≡ option
 
 -- a name is wanted that no router has
 abbrev pub NamesUnknown : Scenario → Option (List ℕ) → List ℕ → ℕ → List ℕ → Type 0
-NamesUnknown s wanted option number key = (name : List ℕ) × (wanted ≡ Some name) × IsUnknown s name option number key
+NamesUnknown s wanted option number key = (name : List ℕ) × (wanted ≡ Some name) × IsUnknownName s name option number key
 
 -- none is wanted, or some router has it
 abbrev pub NamesKnown : Scenario → Option (List ℕ) → Type 0
 NamesKnown s wanted = (name : List ℕ) → wanted ≡ Some name → (x : ℕ) × IsNamed s name x
 
 -- the name of the router that the packet is to start from
-abbrev pub start_of : Option Packet → Option (List ℕ)
-start_of send = option_map (λ (packet : Packet). packet.from) send
+abbrev pub start_of : Option WantedPacket → Option (List ℕ)
+start_of send = option_map (λ (packet : WantedPacket). packet.from) send
 
 -- the first name that no router has: that of the packet's start, else that of the probe
 pub data FirstUnknown (s : Scenario) (wants : Wants) (number : ℕ) (key : List ℕ) : Type 0 where

@@ -3,7 +3,7 @@ ghost use Rattle.std.specs.Prelude.{◌≡◌, ◌≤◌, ◌<◌, ℕ, List, le
 ghost use Rattle.std.specs.Io.KnownBytes.{Appends, Keeps};
 ghost use Rattle.mesh_atoms.specs.Radio.{IsRadioGraph};
 ghost use Rattle.mesh_emulate.specs.Emulation.{Emulation, IsRefused, IsFirstPart, IsFront};
-ghost use Rattle.mesh_emulate.specs.Left.{Leaves, IsProbeTold, IsUntold, IsRunTold, IsRunFront, IsRunPart, IsWholeText, IsFrontText, IsPartText};
+ghost use Rattle.mesh_emulate.specs.Left.{LeavesOut, IsProbeTold, IsWithoutText, IsRunTold, IsRunFront, IsRunPart, IsWholeText, IsFrontText, IsPartText};
 ghost use Rattle.mesh_emulate.specs.Prepared.{IsUnbegun};
 ghost use Rattle.mesh_emulate.specs.Wants.{wants_of, IsWithin};
 ghost use Rattle.mesh_emulate.specs.declared.emulation.EmulateFault.TheVariants.{Refused, Stopped};
@@ -45,7 +45,7 @@ fn tell_net<N: Network, O: Sink>(
     requires opening { IsOpeningNet scenario.now (N.net net.old) }
     requires graph { IsRadioGraph scenario.now graph.now }
     requires within { IsWithin scenario.now errand }
-    ensures leaves { Leaves (IsRunTold scenario.now errand (N.net net.new)) (IsRunFront scenario.now errand) (IsRunPart scenario.now errand)
+    ensures leaves { LeavesOut (IsRunTold scenario.now errand (N.net net.new)) (IsRunFront scenario.now errand) (IsRunPart scenario.now errand)
         (O.content out.old) (O.content out.new) (O.faults out.old) (O.faults out.new) result }
     ensures later { O.faults out.old ≤ O.faults out.new }
 {
@@ -68,7 +68,7 @@ fn probe_net<N: Network, O: Sink>(
     requires routers { AreRoutersAt scenario.now (N.net net).routers scenario.now.end }
     requires graph { IsRadioGraph scenario.now graph.now }
     requires origin { IfSome probe (λ origin. origin < length scenario.now.routers) }
-    ensures leaves { Leaves (IsProbeTold scenario.now (N.net net).routers probe) (IsProbeTold scenario.now (N.net net).routers probe) (IsUntold probe)
+    ensures leaves { LeavesOut (IsProbeTold scenario.now (N.net net).routers probe) (IsProbeTold scenario.now (N.net net).routers probe) (IsWithoutText probe)
         (O.content out.old) (O.content out.new) (O.faults out.old) (O.faults out.new) result }
     ensures later { O.faults out.old ≤ O.faults out.new }
 {
@@ -88,7 +88,7 @@ fn tell_all<N: Network, O: Sink>(
     requires opening { IsOpeningNet scenario.now (N.net net) }
     requires graph { IsRadioGraph scenario.now graph.now }
     requires within { IsWithin scenario.now errand }
-    ensures leaves { Leaves (IsWholeText scenario.now errand) (IsFrontText scenario.now errand) (IsPartText scenario.now errand)
+    ensures leaves { LeavesOut (IsWholeText scenario.now errand) (IsFrontText scenario.now errand) (IsPartText scenario.now errand)
         (O.content out.old) (O.content out.new) (O.faults out.old) (O.faults out.new) result }
     ensures later { O.faults out.old ≤ O.faults out.new }
 {
@@ -107,7 +107,7 @@ fn tell<B: Bases, O: Sink>(
     out: &mut O,
 ) -> Result<(), Stop>
     requires within { IsWithin scenario.now errand }
-    ensures leaves { Leaves (IsWholeText scenario.now errand) (IsFrontText scenario.now errand) (IsPartText scenario.now errand)
+    ensures leaves { LeavesOut (IsWholeText scenario.now errand) (IsFrontText scenario.now errand) (IsPartText scenario.now errand)
         (O.content out.old) (O.content out.new) (O.faults out.old) (O.faults out.new) result }
     ensures later { O.faults out.old ≤ O.faults out.new }
 {

@@ -1,7 +1,7 @@
 //! What the text of every emulation tells.
 ghost use Rattle.mesh_emulate.specs.Laws.{RunsMachines, TellsSettled, PrintsLeastRoutes, PrintsNextHops};
 ghost use Rattle.mesh_emulate.specs.Laws.{TripsAreOnly, TripsReachRouters, TripsReachNetworks, TripsNeverStray};
-ghost use Rattle.mesh_emulate.specs.Laws.{ProbesReachJoined, ProbesTellAll, ProbesSendOnce};
+ghost use Rattle.mesh_emulate.specs.Laws.{ProbesReachJoined, ProbesTellAll, EmulatedProbesSendOnce};
 
 use mesh_data::settled_trips;
 use mesh_probe::probes_reach;
@@ -26,7 +26,7 @@ pub fn emulations_tell()
     ensures trips_never_stray { TripsNeverStray }
     ensures probes_reach { ProbesReachJoined }
     ensures probes_tell { ProbesTellAll }
-    ensures probes_once { ProbesSendOnce }
+    ensures probes_once { EmulatedProbesSendOnce }
 {
     settled_trips();
     probes_reach();

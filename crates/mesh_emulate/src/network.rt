@@ -1,7 +1,7 @@
 //! An emulated network, whatever tables its routers have.
 ghost use Rattle.std.specs.Prelude.{◌≡◌, List, map, IfOk, OnOk, MatchOption, IfSome};
 ghost use Rattle.mesh_atoms.specs.declared.network.NetEvent.{NetEvent};
-ghost use Rattle.mesh_texts.specs.machine.Net.{Net, NetStep};
+ghost use Rattle.mesh_texts.specs.machine.Net.{NetState, NetStep};
 ghost use Rattle.mesh_texts.specs.machine.NetRun.{IsOver, IsOfPackets, NetRun};
 
 use mesh_expire::Bases;
@@ -12,7 +12,7 @@ use std::alloc::AllocError;
 pub trait Network: Sized + Drop {
     type Router: Machine;
 
-    ghost net: { Self → Net };
+    ghost net: { Self → NetState };
 
     /// Does the next event, and tells it; `None` where none is left.
     fn step(&mut self) -> Result<Option<NetEvent>, AllocError>

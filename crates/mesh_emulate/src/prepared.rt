@@ -4,7 +4,7 @@ ghost use Rattle.mesh_config.specs.Settings.{FirstRefusal};
 ghost use Rattle.mesh_emulate.specs.Emulation.{States, IsRefused};
 ghost use Rattle.mesh_emulate.specs.Prepared.{IsPrepared};
 ghost use Rattle.mesh_emulate.specs.Wants.{wants_of};
-ghost use Rattle.mesh_config.specs.Keys.Faults.{IfRefused};
+ghost use Rattle.mesh_config.specs.Keys.Faults.{IfSettingRefused};
 
 use crate::wanted::{Errand, Wanted, errand_of};
 use mesh_atoms::Scenario;
@@ -21,7 +21,7 @@ pub struct Prepared {
 // The scenario that the input states.
 fn read_scenario(alloc: Global, input: &[u8]) -> Result<Scenario, ConfigFault>
     ensures stated { IfOk result (States input.now) }
-    ensures refused { IfErr result (IfRefused (FirstRefusal input.now)) }
+    ensures refused { IfErr result (IfSettingRefused (FirstRefusal input.now)) }
 {
     scenario_of(alloc, input)
 }
@@ -29,7 +29,7 @@ fn read_scenario(alloc: Global, input: &[u8]) -> Result<Scenario, ConfigFault>
 /// What the input states, and what is wanted of it, or the first refusal.
 pub fn prepare(alloc: Global, input: &[u8], wanted: &Wanted) -> Result<Prepared, ConfigFault>
     ensures ready { IfOk result (IsPrepared input.now (wants_of wanted.now)) }
-    ensures refused { IfErr result (IfRefused (IsRefused input.now (wants_of wanted.now))) }
+    ensures refused { IfErr result (IfSettingRefused (IsRefused input.now (wants_of wanted.now))) }
 {
     let scenario = match read_scenario(alloc, input) {
         Ok(scenario) => scenario,

@@ -3,8 +3,8 @@ ghost use Rattle.std.specs.Option.{option_copied};
 ghost use Rattle.std.specs.Prelude.{◌≡◌, ℕ, codes, option_map, IfOk, IfErr, IfSome, IfNone};
 ghost use Rattle.mesh_atoms.specs.Settings.{name_eq};
 ghost use Rattle.mesh_emulate.specs.Wants.{HasName, IsNamed, packet_of, wants_of, Agree, Departs, IsErrand};
-ghost use Rattle.mesh_emulate.specs.Wants.{IsUnknown, NamesUnknown, start_of, FirstUnknown};
-ghost use Rattle.mesh_config.specs.Keys.Faults.{IfRefused};
+ghost use Rattle.mesh_emulate.specs.Wants.{IsUnknownName, NamesUnknown, start_of, FirstUnknown};
+ghost use Rattle.mesh_config.specs.Keys.Faults.{IfSettingRefused};
 
 use mesh_atoms::{Addr4, RouterSettings, Scenario};
 use mesh_config::refusal::UNKNOWN_NAME;
@@ -69,7 +69,7 @@ fn number_named(
     option: &str,
 ) -> Result<usize, ConfigFault>
     ensures found { IfOk result (IsNamed scenario.now name.now) }
-    ensures unknown { IfErr result (IfRefused (IsUnknown scenario.now name.now option.now)) }
+    ensures unknown { IfErr result (IfSettingRefused (IsUnknownName scenario.now name.now option.now)) }
 {
     match router_named(scenario.routers.as_slice(), name) {
         Some(x) => Ok(x),
@@ -84,7 +84,7 @@ fn departure_of(
     send: &Option<NamedPacket>,
 ) -> Result<Option<Departure>, ConfigFault>
     ensures found { IfOk result (Agree (Departs scenario.now) (option_map packet_of send.now)) }
-    ensures unknown { IfErr result (IfRefused (NamesUnknown scenario.now (start_of (option_map packet_of send.now)) (codes "send"))) }
+    ensures unknown { IfErr result (IfSettingRefused (NamesUnknown scenario.now (start_of (option_map packet_of send.now)) (codes "send"))) }
 {
     match send {
         None => Ok(None),
@@ -105,7 +105,7 @@ fn origin_of(
     probe: Option<&[u8]>,
 ) -> Result<Option<usize>, ConfigFault>
     ensures found { IfOk result (Agree (IsNamed scenario.now) (option_copied probe.entry)) }
-    ensures unknown { IfErr result (IfRefused (NamesUnknown scenario.now (option_copied probe.entry) (codes "probe"))) }
+    ensures unknown { IfErr result (IfSettingRefused (NamesUnknown scenario.now (option_copied probe.entry) (codes "probe"))) }
 {
     match probe {
         None => Ok(None),
@@ -119,7 +119,7 @@ fn origin_of(
 /// What is wanted, by numbers of the scenario's routers, or the refusal of the first name that no router has.
 pub fn errand_of(alloc: Global, scenario: &Scenario, wanted: &Wanted) -> Result<Errand, ConfigFault>
     ensures found { IfOk result (IsErrand scenario.now (wants_of wanted.now)) }
-    ensures unknown { IfErr result (IfRefused (FirstUnknown scenario.now (wants_of wanted.now))) }
+    ensures unknown { IfErr result (IfSettingRefused (FirstUnknown scenario.now (wants_of wanted.now))) }
 {
     let send = match departure_of(alloc, scenario, &wanted.send) {
         Ok(send) => send,

@@ -10,7 +10,7 @@ use Rattle.mesh_flood.specs.declared.verdict.Forward.{Forward}
 use Rattle.mesh_flood.specs.Verdict.{key_of, is_received, is_forwarded}
 
 -- the sets, and the times for which tuples are held
-pub record Held : Type 0 where
+pub record HeldSets : Type 0 where
   pub times : Times
   pub noted : NotedMessages
 

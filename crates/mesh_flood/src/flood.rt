@@ -38,9 +38,9 @@ impl<B: Bases> Drop for Flood<B> {
 }
 
 impl<B: Bases> Model for Flood<B> {
-    ghost use Rattle.mesh_flood.specs.Noting.{Held, AreTables};
+    ghost use Rattle.mesh_flood.specs.Noting.{HeldSets, AreTables};
 
-    ghost Value = { Held };
+    ghost Value = { HeldSets };
 
     ghost view = { λ f. record { times = f.times; noted = record { received = f.received.items; processed = f.processed; forwarded = f.forwarded } } };
 

@@ -8,4 +8,4 @@ mod told;
 
 pub use lists::{ascending, put_table_keys};
 pub use saying::{HasSaid, make_hello};
-pub use told::{Telling, own_addresses, receive_fault, tell};
+pub use told::{HelloInfo, own_addresses, receive_fault, tell};

@@ -7,4 +7,4 @@ mod sender;
 mod telling;
 
 pub use crate::told::receive::receive_fault;
-pub use crate::told::telling::{Telling, own_addresses, tell};
+pub use crate::told::telling::{HelloInfo, own_addresses, tell};

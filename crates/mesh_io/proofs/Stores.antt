@@ -8,8 +8,8 @@ use Rattle.mesh_io.specs.Airs.{Report}
 use Rattle.mesh_io.specs.Airs.Report.{Attached_to, Handed}
 use Rattle.mesh_io.specs.MemAir.{lying, report_of, told_more, Lies, AllLie, IsRoomy, LogState}
 use Rattle.mesh_io.specs.declared.air_room.AirRoom.{AirRoom}
-use Rattle.mesh_io.specs.declared.air_room.Entry.{Entry}
-use Rattle.mesh_io.specs.declared.air_room.Entry.TheVariants as entry
+use Rattle.mesh_io.specs.declared.air_room.LoggedCall.{LoggedCall}
+use Rattle.mesh_io.specs.declared.air_room.LoggedCall.TheVariants as entry
 use Rattle.mesh_io.specs.declared.air_room.MemEar.{MemEar}
 
 -- of a longer frame the first 65,507 octets stand at the buffer's start
@@ -43,21 +43,21 @@ pub lying_at : {A : Type 0} (old new more : List A) (from : ℕ) → new ≡ old
 lying_at old new more from e f = rw (e, f) (lying_last old more)
 
 -- an entry tells the same
-tells_on : (scripts : List (List MemEar)) (peers peers' : List Endpoint) (octets octets' : List ℕ) (e : Entry) → Grew peers peers' → Grew octets octets' → Lies (length peers) (length octets) e
+tells_on : (scripts : List (List MemEar)) (peers peers' : List Endpoint) (octets octets' : List ℕ) (e : LoggedCall) → Grew peers peers' → Grew octets octets' → Lies (length peers) (length octets) e
     → report_of scripts peers' octets' e ≡ report_of scripts peers octets e
 tells_on scripts peers peers' octets octets' (entry.Attached local from count) g h lies = ap (λ (l : List Endpoint). Attached_to local l) (lying_on peers peers' from count g lies)
 tells_on scripts peers peers' octets octets' (entry.Heard iface place) g h lies = refl
 tells_on scripts peers peers' octets octets' (entry.Fault iface) g h lies = refl
 tells_on scripts peers peers' octets octets' (entry.Handed iface from count answer) g h lies = ap (λ (l : List ℕ). Handed iface l answer) (lying_on octets octets' from count h lies)
 
-all_tell_on : (scripts : List (List MemEar)) (peers peers' : List Endpoint) (octets octets' : List ℕ) (es : List Entry) (e : Entry) → Grew peers peers' → Grew octets octets' → AllLie (length peers) (length octets) es
+all_tell_on : (scripts : List (List MemEar)) (peers peers' : List Endpoint) (octets octets' : List ℕ) (es : List LoggedCall) (e : LoggedCall) → Grew peers peers' → Grew octets octets' → AllLie (length peers) (length octets) es
     → map (report_of scripts peers' octets') (es ++ e ∷ []) ≡ map (report_of scripts peers octets) es ++ report_of scripts peers' octets' e ∷ []
 all_tell_on scripts peers peers' octets octets' [] e g h lie = refl
 all_tell_on scripts peers peers' octets octets' (x ∷ es) e g h lie =
     rw (tells_on scripts peers peers' octets octets' x g h lie.0, all_tell_on scripts peers peers' octets octets' es e g h lie.1) refl
 
 -- one more entry is told
-pub told_on : (told : Bool) (scripts : List (List MemEar)) (peers peers' : List Endpoint) (octets octets' : List ℕ) (es es' : List Entry) (e : Entry) (r : Report) → es' ≡ es ++ e ∷ [] → Grew peers peers' → Grew octets octets'
+pub told_on : (told : Bool) (scripts : List (List MemEar)) (peers peers' : List Endpoint) (octets octets' : List ℕ) (es es' : List LoggedCall) (e : LoggedCall) (r : Report) → es' ≡ es ++ e ∷ [] → Grew peers peers' → Grew octets octets'
     → AllLie (length peers) (length octets) es → report_of scripts peers' octets' e ≡ r
     → cond told (Some (map (report_of scripts peers' octets') es')) None ≡ told_more (cond told (Some (map (report_of scripts peers octets) es)) None) r
 told_on false scripts peers peers' octets octets' es es' e r put g h lie is = refl
@@ -65,13 +65,13 @@ told_on true scripts peers peers' octets octets' es es' e r put g h lie is =
     rw (put, all_tell_on scripts peers peers' octets octets' es e g h lie, is) refl
 
 -- all lies in the stores still
-lies_on : (p p' o o' : ℕ) (e : Entry) → p ≤ p' → o ≤ o' → Lies p o e → Lies p' o' e
+lies_on : (p p' o o' : ℕ) (e : LoggedCall) → p ≤ p' → o ≤ o' → Lies p o e → Lies p' o' e
 lies_on p p' o o' (entry.Attached local from count) g h lies = omega (arith, g, lies)
 lies_on p p' o o' (entry.Heard iface place) g h lies = tt
 lies_on p p' o o' (entry.Fault iface) g h lies = tt
 lies_on p p' o o' (entry.Handed iface from count answer) g h lies = omega (arith, h, lies)
 
-pub all_lie_on : (p p' o o' : ℕ) (es : List Entry) (e : Entry) → p ≤ p' → o ≤ o' → Lies p' o' e → AllLie p o es → AllLie p' o' (es ++ e ∷ [])
+pub all_lie_on : (p p' o o' : ℕ) (es : List LoggedCall) (e : LoggedCall) → p ≤ p' → o ≤ o' → Lies p' o' e → AllLie p o es → AllLie p' o' (es ++ e ∷ [])
 all_lie_on p p' o o' [] e g h last lie = (last, tt)
 all_lie_on p p' o o' (x ∷ es) e g h last lie = (lies_on p p' o o' x g h lie.0, all_lie_on p p' o o' es e g h last lie.1)
 
@@ -82,7 +82,7 @@ pub log_with : (attached : ℕ) (told told' : Option (List Report)) (scripts : L
 log_with attached told told' scripts places left e = rw e refl
 
 -- one more entry is kept, and the room that is left for entries is less by one
-pub roomy_on : (es es' : List Entry) (e : Entry) (p p' o o' capacity capacity' peer_capacity peer_capacity' octet_capacity octet_capacity' attached attached' : ℕ) (left left' : AirRoom)
+pub roomy_on : (es es' : List LoggedCall) (e : LoggedCall) (p p' o o' capacity capacity' peer_capacity peer_capacity' octet_capacity octet_capacity' attached attached' : ℕ) (left left' : AirRoom)
     → IsRoomy es p o capacity peer_capacity octet_capacity attached left → es' ≡ es ++ e ∷ [] → capacity ≤ capacity' → p ≤ p' → o ≤ o' → Lies p' o' e
     → left'.attaches + left'.ears + left'.frames + 1 ≤ left.attaches + left.ears + left.frames → left'.peers + p' ≤ peer_capacity' → left'.octets + o' ≤ octet_capacity' → attached' + left'.attaches < 2 ^ 64
     → IsRoomy es' p' o' capacity' peer_capacity' octet_capacity' attached' left'

@@ -5,8 +5,8 @@ use Rattle.mesh_io.specs.Airs.{Report}
 use Rattle.mesh_io.specs.Airs.Report.{Attached_to, Heard_frame, Heard_silence, Heard_fault, Handed}
 use Rattle.mesh_io.specs.declared.air_room.AirFails.{AirFails}
 use Rattle.mesh_io.specs.declared.air_room.AirRoom.{AirRoom}
-use Rattle.mesh_io.specs.declared.air_room.Entry.{Entry}
-use Rattle.mesh_io.specs.declared.air_room.Entry.TheVariants as entry
+use Rattle.mesh_io.specs.declared.air_room.LoggedCall.{LoggedCall}
+use Rattle.mesh_io.specs.declared.air_room.LoggedCall.TheVariants as entry
 use Rattle.mesh_io.specs.declared.air_room.MemEar.{MemEar}
 use Rattle.mesh_io.specs.declared.air_room.MemEar.TheVariants as ear
 use Rattle.mesh_io.specs.declared.airs.Attached.{Attached}
@@ -79,26 +79,26 @@ abbrev pub lying : {A : Type 0} → List A → ℕ → ℕ → List A
 lying store from count = take count (drop from store)
 
 -- what an entry tells
-abbrev pub report_of : List (List MemEar) → List Endpoint → List ℕ → Entry → Report
+abbrev pub report_of : List (List MemEar) → List Endpoint → List ℕ → LoggedCall → Report
 report_of scripts peers octets (entry.Attached local from count) = Attached_to local (lying peers from count)
 report_of scripts peers octets (entry.Heard iface place) = told_ear iface (ear_at scripts iface place)
 report_of scripts peers octets (entry.Fault iface) = Heard_fault iface
 report_of scripts peers octets (entry.Handed iface from count answer) = Handed iface (lying octets from count) answer
 
 -- what an entry names lies in the stores
-abbrev pub Lies : ℕ → ℕ → Entry → Type 0
+abbrev pub Lies : ℕ → ℕ → LoggedCall → Type 0
 Lies peers octets (entry.Attached local from count) = from + count ≤ peers
 Lies peers octets (entry.Heard iface place) = Unit {0}
 Lies peers octets (entry.Fault iface) = Unit {0}
 Lies peers octets (entry.Handed iface from count answer) = from + count ≤ octets
 
 -- the same of all entries
-abbrev pub AllLie : ℕ → ℕ → List Entry → Type 0
+abbrev pub AllLie : ℕ → ℕ → List LoggedCall → Type 0
 AllLie peers octets [] = Unit {0}
 AllLie peers octets (e ∷ es) = Lies peers octets e × AllLie peers octets es
 
 -- all that is kept lies in the stores, which have room for what is left
-pub record IsRoomy (entries : List Entry) (peers octets : ℕ) (capacity peer_capacity octet_capacity attached : ℕ) (left : AirRoom) :
+pub record IsRoomy (entries : List LoggedCall) (peers octets : ℕ) (capacity peer_capacity octet_capacity attached : ℕ) (left : AirRoom) :
     Type 0 where
   pub lie : AllLie peers octets entries
   pub entries_fit : left.attaches + left.ears + left.frames + length entries ≤ capacity

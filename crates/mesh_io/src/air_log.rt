@@ -6,7 +6,7 @@ ghost use Rattle.mesh_io.specs.Airs.{FitsBuffer, report_of_ear};
 ghost use Rattle.mesh_io.specs.Airs.Report.{Heard_fault};
 ghost use Rattle.mesh_io.specs.MemAir.{ear_at, next_ear, told_ear, one_further, fits_attach, fits_ear, fits_frame, with_attach, with_ear, with_frame, with_nothing_told};
 
-use crate::air_room::{AirRoom, Entry, MemEar};
+use crate::air_room::{AirRoom, LoggedCall, MemEar};
 use crate::{Ear, Sent};
 use mesh_atoms::{Endpoint, Seq};
 use std::alloc::{AllocError, Global};
@@ -18,7 +18,7 @@ pub(crate) struct AirLog {
     scripts: Seq<Seq<MemEar>>,
     places: Vec<usize>,
     attached: usize,
-    entries: Vec<Entry>,
+    entries: Vec<LoggedCall>,
     peers: Vec<Endpoint>,
     octets: Vec<u8>,
     left: AirRoom,
@@ -45,7 +45,7 @@ impl Model for AirLog {
 }
 
 // Puts an entry where there is room.
-fn put_entry(entries: &mut Vec<Entry>, entry: Entry)
+fn put_entry(entries: &mut Vec<LoggedCall>, entry: LoggedCall)
     requires { length entries.old.items < vec_capacity entries.old }
     ensures items { entries.new.items ≡ entries.old.items ++ entry ∷ [] }
     ensures capacity { vec_capacity entries.old ≤ vec_capacity entries.new }
@@ -193,7 +193,10 @@ impl AirLog {
         let from = self.peers.len();
         let count = peers.len();
         put_peers(&mut self.peers, peers);
-        put_entry(&mut self.entries, Entry::Attached { local, from, count });
+        put_entry(
+            &mut self.entries,
+            LoggedCall::Attached { local, from, count },
+        );
         self.attached += 1;
         self.left.attaches -= 1;
         self.left.peers -= count;
@@ -204,7 +207,7 @@ impl AirLog {
         requires { 0 < self.old.left.ears }
         ensures { self.new ≡ with_ear self.old (Heard_fault iface) self.old.places }
     {
-        put_entry(&mut self.entries, Entry::Fault { iface });
+        put_entry(&mut self.entries, LoggedCall::Fault { iface });
         self.left.ears -= 1;
     }
 
@@ -224,7 +227,7 @@ impl AirLog {
         let taken = ear.is_some();
         let answer = give(ear, buf);
         advance(self.places.as_mut_slice(), iface, place, taken);
-        put_entry(&mut self.entries, Entry::Heard { iface, place });
+        put_entry(&mut self.entries, LoggedCall::Heard { iface, place });
         self.left.ears -= 1;
         answer
     }
@@ -240,7 +243,7 @@ impl AirLog {
         put_octets(&mut self.octets, bytes);
         put_entry(
             &mut self.entries,
-            Entry::Handed {
+            LoggedCall::Handed {
                 iface,
                 from,
                 count,

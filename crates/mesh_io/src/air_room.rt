@@ -32,7 +32,7 @@ pub struct AirRoom {
 /// What is kept of a call: an attach, its peers lying among all peers; an ear of a script; an ear that failed; and a frame that was
 /// handed over, its octets lying among all octets.
 #[derive(Clone, Copy)]
-pub(crate) enum Entry {
+pub(crate) enum LoggedCall {
     Attached {
         local: Endpoint,
         from: usize,

@@ -1,10 +1,10 @@
 //! An air in memory, which hears by scripts, and whose calls fail by lists.
 ghost use Rattle.std.specs.Prelude.{◌≡◌, ℕ, ◌<◌, [], ◌∷◌, length, replicate, Some, IfOk, if◌then◌else◌};
-ghost use Rattle.mesh_io.specs.Airs.{Attaches, FitsBuffer, report_of_ear, IsAttachCaused, IsEarCaused, IsSentCaused};
+ghost use Rattle.mesh_io.specs.Airs.{AttachesInterface, FitsBuffer, report_of_ear, IsAttachCaused, IsEarCaused, IsSentCaused};
 ghost use Rattle.mesh_io.specs.Airs.Report.{Handed, Heard_fault};
 ghost use Rattle.mesh_io.specs.Faults.{Rose, one_more};
 ghost use Rattle.mesh_io.specs.MemAir.{told_ear, next_ear, IsAttached, IsHeard, IsSent};
-ghost use Rattle.mesh_io.specs.Told.{Tells};
+ghost use Rattle.mesh_io.specs.Told.{TellsMore};
 
 use crate::air_log::AirLog;
 use crate::air_room::{AirFails, AirRoom, MemEar};
@@ -77,7 +77,7 @@ impl Air for MemAir {
 
     /// Makes the next interface, or counts a fault where the call is to fail or there is no room for it.
     fn attach(&mut self, local: Endpoint, peers: &[Endpoint]) -> Attached
-        ensures attaches { Attaches self.old.log.attached self.new.log.attached self.old.log.told self.new.log.told local peers.now result }
+        ensures attaches { AttachesInterface self.old.log.attached self.new.log.attached self.old.log.told self.new.log.told local peers.now result }
         ensures cause { IsAttachCaused self.old.faults self.new.faults result }
         ensures exact { IsAttached self.old local peers.now self.new result }
     {
@@ -99,7 +99,7 @@ impl Air for MemAir {
         requires longest { length buf.old ≡ 65507 }
         ensures attached { self.new.log.attached ≡ self.old.log.attached }
         ensures within { FitsBuffer buf.new result }
-        ensures told { Tells self.old.log.told self.new.log.told (report_of_ear iface buf.new result ∷ []) }
+        ensures told { TellsMore self.old.log.told self.new.log.told (report_of_ear iface buf.new result ∷ []) }
         ensures cause { IsEarCaused self.old.faults self.new.faults result }
         ensures exact { IsHeard self.old iface self.new (report_of_ear iface buf.new result) }
     {
@@ -122,7 +122,7 @@ impl Air for MemAir {
     fn send(&mut self, iface: usize, bytes: &[u8]) -> Sent
         requires iface { iface < self.old.log.attached }
         ensures attached { self.new.log.attached ≡ self.old.log.attached }
-        ensures told { Tells self.old.log.told self.new.log.told (Handed iface bytes.now result ∷ []) }
+        ensures told { TellsMore self.old.log.told self.new.log.told (Handed iface bytes.now result ∷ []) }
         ensures cause { IsSentCaused self.old.faults self.new.faults result }
         ensures exact { IsSent self.old iface bytes.now self.new result }
     {

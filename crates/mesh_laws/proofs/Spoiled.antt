@@ -8,7 +8,7 @@ use Rattle.mesh_atoms.specs.declared.hello.LinkStatus.{LinkStatus}
 use Rattle.mesh_atoms.specs.declared.hello.LinkStatus.TheVariants.{Lost as Down, Symmetric, Heard}
 use Rattle.mesh_atoms.specs.declared.hello.Shown.{Shown}
 use Rattle.mesh_atoms.specs.declared.tuples.Link.{Link}
-use Rattle.mesh_atoms.specs.AfterHello.{GoesOn, Begins, Stood, Made, by_status, renewed}
+use Rattle.mesh_atoms.specs.AfterHello.{GoesOn, LinkKeptOrMade, Stood, Made, by_status, renewed}
 use Rattle.mesh_atoms.specs.Base.{if_live}
 use Rattle.mesh_atoms.specs.Hello.{Says, IsSaid, Near_in, Near_out, Link_in, Link_out}
 use Rattle.mesh_atoms.specs.HelloTold.{or_else}
@@ -108,7 +108,7 @@ made_unadmitted settings now i told hello old new e none low stands admitted aft
     let pending : e.0.pending ≡ true = ap (λ (t : Link × ℕ). t.0.pending) same ∙ (pending_renewed told.shown settings.times.link_hold now start ∙ is_pending start begins) in
     absurd (cc)
   where
-    is_pending : (start : Link × ℕ) → Begins (rule_of settings i) told.shown now (link_at old i told.least) start → start.0.pending ≡ true
+    is_pending : (start : Link × ℕ) → LinkKeptOrMade (rule_of settings i) told.shown now (link_at old i told.least) start → start.0.pending ≡ true
     is_pending start (Stood _ stood same) = some_none stood none
     is_pending start (Made new_one) = lt-ltb (quality_at (rule_of settings i) told.shown.sending now) (rule_of settings i).accept low
 

@@ -14,7 +14,7 @@ use Rattle.mesh_atoms.specs.declared.tuples.Noted.{Noted}
 use Rattle.mesh_atoms.specs.declared.tuples.FloodKey.{FloodKey}
 use Rattle.mesh_atoms.specs.AfterTc.{AfterTc, Becomes, Given, Left, GivesAddress, if_not_dropped}
 use Rattle.mesh_atoms.specs.Base.{Base, base_of, find, addr_eq, address_eq, flood_eq}
-use Rattle.mesh_atoms.specs.State.{Topology}
+use Rattle.mesh_atoms.specs.State.{TopologyBase}
 use Rattle.mesh_flood.specs.Noting.{Notes}
 use Rattle.mesh_flood.specs.Verdict.{key_of, is_received, is_forwarded}
 use Rattle.mesh_laws.proofs.Members.{both_same}
@@ -26,7 +26,7 @@ use Rattle.mesh_atoms.proofs.Options.{cond_true}
 -- TCs
 
 -- a TC's number is noted until its validity is over
-number_noted : {now : ℕ} {tc : Tc} {old new : Topology} (t : Advertiser × ℕ) → AfterTc now tc old new → find addr_eq new.advertisers tc.originator ≡ Some t →
+number_noted : {now : ℕ} {tc : Tc} {old new : TopologyBase} (t : Advertiser × ℕ) → AfterTc now tc old new → find addr_eq new.advertisers tc.originator ≡ Some t →
     t ≡ (record { ansn = tc.ansn }, now + tc.validity)
 number_noted {tc = tc} t after at =
     same_some at (after.advertisers tc.originator ∙ cond_true (addr_eq tc.originator tc.originator) _ _ (eq-eqb tc.originator.0 tc.originator.0 refl))
@@ -38,7 +38,7 @@ pub number_at_another_moment : RefusesNumberAtAnotherMoment
 number_at_another_moment now tc old new t at other after = other (ap (λ (e : Advertiser × ℕ). e.1) (number_noted t after at))
 
 -- a tuple of an address that a row gives is as a row gives it
-address_given : {now : ℕ} {tc : Tc} {old new : Topology} (key : AddressKey) (m : Metric) (t : AddressTuple × ℕ) → AfterTc now tc old new → GivesAddress tc key m →
+address_given : {now : ℕ} {tc : Tc} {old new : TopologyBase} (key : AddressKey) (m : Metric) (t : AddressTuple × ℕ) → AfterTc now tc old new → GivesAddress tc key m →
     find address_eq new.addresses key ≡ Some t → (GivesAddress tc key t.0.metric × (t.0.ansn ≡ tc.ansn)) × (t.1 ≡ now + tc.validity)
 address_given {now} {tc} key m t after given stands =
     let (w, by_row, is) = given_so tc (now + tc.validity) _ _ _ key (after.addresses.at key) (record { ansn = tc.ansn; metric = m }) (given, refl) in

@@ -4,7 +4,7 @@ use Rattle.mesh_atoms.specs.declared.addr.Addr4.{Addr4}
 use Rattle.mesh_atoms.specs.declared.codes.metric.Metric.{Metric}
 use Rattle.mesh_atoms.specs.declared.tuples.Link.{Link}
 use Rattle.mesh_atoms.specs.declared.tuples.Neighbour.{Neighbour}
-use Rattle.mesh_atoms.specs.Advertised.{Gives, Advertises, AdvertisesOriginator, AdvertisesNetwork}
+use Rattle.mesh_atoms.specs.Advertised.{GivesAsSelector, Advertises, AdvertisesOriginator, AdvertisesNetwork}
 use Rattle.mesh_atoms.specs.Codes.Codes.{metric_value}
 use Rattle.mesh_atoms.specs.Hello.{Says, SaysSymmetric, HasLinkTo, Link_symmetric, Flooding, Routing, Near_in, Near_out}
 use Rattle.mesh_atoms.specs.declared.tuples.LinkState.{LinkState}
@@ -107,7 +107,7 @@ says_near_out x y j c = (addr y, neighbour x y, near_has x y c, refl)
 -- TCs
 
 -- the middle router alone has selectors
-pub gives_is : (x : ℕ) (a o : Addr4) (m : Metric) → Gives (state x) a o m → (x ≡ 1) × (y : ℕ) × Contains (peers x) y × (a ≡ addr y) × (o ≡ addr y) × (m ≡ one)
+pub gives_is : (x : ℕ) (a o : Addr4) (m : Metric) → GivesAsSelector (state x) a o m → (x ≡ 1) × (y : ℕ) × Contains (peers x) y × (a ≡ addr y) × (o ≡ addr y) × (m ≡ one)
 gives_is x a o m g =
     let (y, c, e, same) = symmetric_is x o g.neighbour g.symmetric in
     let P : Neighbour → Type 0 = λ b. IsTrue b.selector in
@@ -116,7 +116,7 @@ gives_is x a o m g =
     let a_is : a ≡ addr y = elim g.address [ inl has ↦ only (addr y) a (subst R same has) | inr is ↦ is ∙ e ] in
     (middle_is x (subst P same g.selects), y, c, a_is, e, sym (some_is (subst Q same g.metric)))
 
-pub gives : (y : ℕ) → Contains (peers 1) y → Gives (state 1) (addr y) (addr y) one
+pub gives : (y : ℕ) → Contains (peers 1) y → GivesAsSelector (state 1) (addr y) (addr y) one
 gives y c = record { neighbour = neighbour 1 y; symmetric = symmetric_has 1 y c; selects = refl; metric = refl; address = inr refl }
 
 pub advertises : (y : ℕ) → Contains (peers 1) y → Advertises (state 1) (addr y) one

@@ -5,7 +5,7 @@ use Rattle.mesh_atoms.specs.declared.codes.metric.Metric.{Metric}
 use Rattle.mesh_atoms.specs.declared.tuples.Link.{Link}
 use Rattle.mesh_atoms.specs.declared.tuples.Neighbour.{Neighbour}
 use Rattle.mesh_atoms.specs.declared.settings.RouterSettings.{RouterSettings}
-use Rattle.mesh_atoms.specs.Advertised.{Gives, Advertises}
+use Rattle.mesh_atoms.specs.Advertised.{GivesAsSelector, Advertises}
 use Rattle.mesh_atoms.specs.Codes.Codes.{metric_value}
 use Rattle.mesh_atoms.specs.Hello.{SaysSymmetric}
 use Rattle.mesh_atoms.specs.Radio.{Leads, IsAdmitted, Joins, IsMetric, Router}
@@ -118,7 +118,7 @@ shown_is x y j a shows = elim shows [
       only (addr y) a (subst P e stands)
 ]
 
-pub no_selector : (x y : ℕ) (a o : Addr4) (m : Metric) → Gives (state x y) a o m → ⊥
+pub no_selector : (x y : ℕ) (a o : Addr4) (m : Metric) → GivesAsSelector (state x y) a o m → ⊥
 no_selector x y a o m g =
     let (_, e) = symmetric_is x y o g.neighbour g.symmetric in
     let P : Neighbour → Type 0 = λ b. IsTrue b.selector in
@@ -143,7 +143,7 @@ peer_is {x} {y} f w q who = elim (f.routers w q.settings (routers_of w q who.at)
 
 pub unheard : {x y : ℕ} → Side x y → (w : ℕ) (q : State) (a : Addr4) (m : Metric) → IsPeer scenario states x w q → Advertises q a m → ⊥
 unheard {x} {y} f w q a m who row =
-    let P : State → Type 0 = λ b. Gives b a row.giver m in
+    let P : State → Type 0 = λ b. GivesAsSelector b a row.giver m in
     no_selector y x a row.giver m (subst P (peer_is f w q who) row.given)
 
 pub nothing : {x y : ℕ} → Side x y → (w : ℕ) (q : State) → IsPeer scenario states x w q → (t : Attached4) → Contains q.settings.attached t → ⊥

@@ -15,7 +15,7 @@ use Rattle.mesh_atoms.specs.declared.tuples.Link.{Link}
 use Rattle.mesh_atoms.specs.declared.tuples.TwoHop.{TwoHop}
 use Rattle.mesh_atoms.specs.declared.graphs.Route.{Route}
 use Rattle.mesh_atoms.specs.declared.settings.RouterSettings.{RouterSettings}
-use Rattle.mesh_atoms.specs.Advertised.{Gives, IsTcRow, Of_address, Of_network}
+use Rattle.mesh_atoms.specs.Advertised.{GivesAsSelector, IsTcRow, Of_address, Of_network}
 use Rattle.mesh_atoms.specs.AfterHello.{AfterHello, StoodOn, Same_link, New_link, TellsTwoHop, By_row, By_none}
 use Rattle.mesh_atoms.specs.Base.{host, if_live}
 use Rattle.mesh_atoms.specs.Hello.{Says, Link_symmetric, Other_symmetric, link_part}
@@ -114,7 +114,7 @@ row_of_no_selector s rows row a stands dest routable none are = by_case ((are.ex
     by_case : {row : TcRow} → IsTcRow s row → row.dest ≡ host a → IsTrue row.routable → ⊥
     by_case (Of_address b m to origin on gateway metric is) dest routable =
         let same : b ≡ a = ap (λ (n : NetAddr). n.addr) (sym to ∙ dest) in
-        let P : Addr4 → Type 0 = λ c. Gives s c is.giver m in
+        let P : Addr4 → Type 0 = λ c. GivesAsSelector s c is.giver m in
         none is.giver m (subst P same is.given)
     by_case (Of_network distance m origin off gateway metric is) dest routable = true_false routable off
 

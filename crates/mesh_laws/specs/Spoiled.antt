@@ -31,7 +31,7 @@ use Rattle.mesh_atoms.specs.Live.{HasLinkOf, HasSymmetricOf, Restores, IsSymmetr
 use Rattle.mesh_atoms.specs.Quality.{quality_at, rule_of}
 use Rattle.mesh_atoms.specs.Settled.{IsTwoHopBy}
 use Rattle.mesh_atoms.specs.Sound.{SoundNeighbourhood}
-use Rattle.mesh_atoms.specs.State.{State, Neighbourhood, Topology, NotedMessages, link_at, lost_at, HasAddress}
+use Rattle.mesh_atoms.specs.State.{State, Neighbourhood, TopologyBase, NotedMessages, link_at, lost_at, HasAddress}
 use Rattle.mesh_atoms.specs.TakesHello.{TakesHello, Taken, Full_of_two_hops, IsHeld, IsFullOfAddresses, AreTwoHopRows}
 use Rattle.mesh_atoms.specs.Words.{IsBeyond}
 use Rattle.mesh_flood.specs.declared.verdict.Heading.{Heading}
@@ -267,39 +267,39 @@ RefusesRowWithoutMetric = (row : HelloRow) (m : Metric) → row.metrics.link_out
 -- after a TC, another number of its originator
 abbrev pub RefusesNumberUnnoted : Type 0
 RefusesNumberUnnoted =
-    (now : ℕ) (tc : Tc) (old new : Topology) (t : Advertiser × ℕ) →
+    (now : ℕ) (tc : Tc) (old new : TopologyBase) (t : Advertiser × ℕ) →
     find addr_eq new.advertisers tc.originator ≡ Some t → t.0.ansn ≢ tc.ansn → AfterTc now tc old new → ⊥
 
 -- after a TC, the number of its originator noted until another moment than the validity says
 abbrev pub RefusesNumberAtAnotherMoment : Type 0
 RefusesNumberAtAnotherMoment =
-    (now : ℕ) (tc : Tc) (old new : Topology) (t : Advertiser × ℕ) →
+    (now : ℕ) (tc : Tc) (old new : TopologyBase) (t : Advertiser × ℕ) →
     find addr_eq new.advertisers tc.originator ≡ Some t → t.1 ≢ now + tc.validity → AfterTc now tc old new → ⊥
 
 -- after a TC, a tuple of an address that a row gives, with a metric or number that isn't the TC's
 abbrev pub RefusesGivenOtherwise : Type 0
 RefusesGivenOtherwise =
-    (now : ℕ) (tc : Tc) (old new : Topology) (key : AddressKey) (m : Metric) (t : AddressTuple × ℕ) →
+    (now : ℕ) (tc : Tc) (old new : TopologyBase) (key : AddressKey) (m : Metric) (t : AddressTuple × ℕ) →
     GivesAddress tc key m → find address_eq new.addresses key ≡ Some t → (GivesAddress tc key t.0.metric × (t.0.ansn ≡ tc.ansn) → ⊥) →
     AfterTc now tc old new → ⊥
 
 -- after a TC, a tuple of an address that a row gives, until another moment than the validity says
 abbrev pub RefusesGivenAtAnotherMoment : Type 0
 RefusesGivenAtAnotherMoment =
-    (now : ℕ) (tc : Tc) (old new : Topology) (key : AddressKey) (m : Metric) (t : AddressTuple × ℕ) →
+    (now : ℕ) (tc : Tc) (old new : TopologyBase) (key : AddressKey) (m : Metric) (t : AddressTuple × ℕ) →
     GivesAddress tc key m → find address_eq new.addresses key ≡ Some t → t.1 ≢ now + tc.validity → AfterTc now tc old new → ⊥
 
 -- after a TC, no router tuple as a row gives it
 abbrev pub RefusesRouterUntaken : Type 0
 RefusesRouterUntaken =
-    (now : ℕ) (tc : Tc) (old new : Topology) (key : RouterKey) (m : Metric) →
+    (now : ℕ) (tc : Tc) (old new : TopologyBase) (key : RouterKey) (m : Metric) →
     GivesRouter tc key m → ((k : Metric) → GivesRouter tc key k → k ≡ m) →
     find router_eq new.routers key ≢ Some (record { ansn = tc.ansn; metric = m }, now + tc.validity) → AfterTc now tc old new → ⊥
 
 -- after a TC, no network tuple as a row gives it
 abbrev pub RefusesNetworkUntaken : Type 0
 RefusesNetworkUntaken =
-    (now : ℕ) (tc : Tc) (old new : Topology) (key : NetworkKey) (distance : ℕ) (m : Metric) →
+    (now : ℕ) (tc : Tc) (old new : TopologyBase) (key : NetworkKey) (distance : ℕ) (m : Metric) →
     GivesNetwork tc key distance m → ((d : ℕ) (k : Metric) → GivesNetwork tc key d k → (d ≡ distance) × (k ≡ m)) →
     find network_eq new.networks key ≢ Some (record { ansn = tc.ansn; distance = distance; metric = m }, now + tc.validity) →
     AfterTc now tc old new → ⊥
@@ -307,25 +307,25 @@ RefusesNetworkUntaken =
 -- after a complete TC, a router tuple of its originator with another number
 abbrev pub RefusesRouterOfOldNumber : Type 0
 RefusesRouterOfOldNumber =
-    (now : ℕ) (tc : Tc) (old new : Topology) (key : RouterKey) (t : RouterTuple × ℕ) →
+    (now : ℕ) (tc : Tc) (old new : TopologyBase) (key : RouterKey) (t : RouterTuple × ℕ) →
     tc.complete ≡ true → key.from ≡ tc.originator → find router_eq new.routers key ≡ Some t → t.0.ansn ≢ tc.ansn → AfterTc now tc old new → ⊥
 
 -- and a network tuple
 abbrev pub RefusesNetworkOfOldNumber : Type 0
 RefusesNetworkOfOldNumber =
-    (now : ℕ) (tc : Tc) (old new : Topology) (key : NetworkKey) (t : NetworkTuple × ℕ) →
+    (now : ℕ) (tc : Tc) (old new : TopologyBase) (key : NetworkKey) (t : NetworkTuple × ℕ) →
     tc.complete ≡ true → key.from ≡ tc.originator → find network_eq new.networks key ≡ Some t → t.0.ansn ≢ tc.ansn → AfterTc now tc old new → ⊥
 
 -- after a TC that isn't complete, a tuple gone
 abbrev pub RefusesTupleGoneByPart : Type 0
 RefusesTupleGoneByPart =
-    (now : ℕ) (tc : Tc) (old new : Topology) (key : AddressKey) (t : AddressTuple × ℕ) →
+    (now : ℕ) (tc : Tc) (old new : TopologyBase) (key : AddressKey) (t : AddressTuple × ℕ) →
     tc.complete ≡ false → find address_eq old.addresses key ≡ Some t → find address_eq new.addresses key ≡ None → AfterTc now tc old new → ⊥
 
 -- after a TC, a tuple of another originator gone
 abbrev pub RefusesTupleGoneOfAnother : Type 0
 RefusesTupleGoneOfAnother =
-    (now : ℕ) (tc : Tc) (old new : Topology) (key : AddressKey) (t : AddressTuple × ℕ) →
+    (now : ℕ) (tc : Tc) (old new : TopologyBase) (key : AddressKey) (t : AddressTuple × ℕ) →
     key.from ≢ tc.originator → find address_eq old.addresses key ≡ Some t → find address_eq new.addresses key ≡ None → AfterTc now tc old new → ⊥
 
 -- Messages

@@ -9,7 +9,7 @@ use Rattle.mesh_atoms.specs.Ascends.{one_ascends}
 use Rattle.mesh_atoms.specs.AfterTc.{AfterTc}
 use Rattle.mesh_atoms.specs.Base.{host}
 use Rattle.mesh_atoms.specs.Live.{LiveNeighbourhood}
-use Rattle.mesh_atoms.specs.State.{Neighbourhood, Topology, NotedMessages}
+use Rattle.mesh_atoms.specs.State.{Neighbourhood, TopologyBase, NotedMessages}
 use Rattle.mesh_flood.specs.declared.verdict.Heading.{Heading}
 use Rattle.mesh_flood.specs.declared.verdict.Forward.TheVariants as forward
 use Rattle.mesh_flood.specs.Noting.{AfterNote}
@@ -72,7 +72,7 @@ tc = record {
 }
 
 -- what 10.0.0.1 advertised with the number 6
-abbrev pub outdated : Topology
+abbrev pub outdated : TopologyBase
 outdated = record {
   advertisers = (peer, (record { ansn = 6 }, 500)) ∷ [];
   routers = (record { from = peer; to = me }, (record { ansn = 6; metric = one }, 500)) ∷ [];
@@ -81,7 +81,7 @@ outdated = record {
 }
 
 -- and what its TC leaves
-abbrev pub advertised : Topology
+abbrev pub advertised : TopologyBase
 advertised = record {
   advertisers = (peer, (record { ansn = 7 }, 49352)) ∷ [];
   routers = (record { from = peer; to = third }, (record { ansn = 7; metric = three }, 49352)) ∷ [];

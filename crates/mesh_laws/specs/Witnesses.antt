@@ -6,7 +6,7 @@ use Rattle.mesh_atoms.specs.declared.tuples.TwoHopKey.{TwoHopKey}
 use Rattle.mesh_atoms.specs.declared.tuples.TwoHop.{TwoHop}
 use Rattle.mesh_atoms.specs.declared.settings.Scenario.{Scenario}
 use Rattle.mesh_atoms.specs.Base.{host}
-use Rattle.mesh_atoms.specs.Radio.{Adjacent, Hop, AddressOf, Attaches}
+use Rattle.mesh_atoms.specs.Radio.{Adjacent, HopCosts, AddressOf, Attaches}
 use Rattle.mesh_atoms.specs.Settled.{At}
 use Rattle.mesh_atoms.specs.State.{State, HasTwoHop}
 use Rattle.mesh_paths.specs.SettledRoutes.{IsSettledNetwork, HasRow}
@@ -36,8 +36,8 @@ HasTwoHopTo p a = (i : ℕ) × (key : TwoHopKey) × (t : TwoHop) × HasTwoHop p 
 pub record AreInARow (s : Scenario) (first second third : State) (a b c : Addr4) (net : NetAddr) : Type 0 where
   pub addresses : AddressOf s 0 a × AddressOf s 1 b × AddressOf s 2 c
   pub gateway : Attaches s 2 net 1
-  pub first_step : Hop s 0 1 1
-  pub second_step : Hop s 1 2 1
+  pub first_step : HopCosts s 0 1 1
+  pub second_step : HopCosts s 1 2 1
   pub no_shorter : Adjacent s 0 2 → ⊥
   pub relays : (first.relays.routing ≡ b ∷ []) × (second.relays.routing ≡ []) × (third.relays.routing ≡ b ∷ [])
   pub two_hops : HasTwoHopTo first c × HasTwoHopTo third a

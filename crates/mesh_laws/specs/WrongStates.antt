@@ -21,7 +21,7 @@ use Rattle.mesh_atoms.specs.declared.graphs.NeighbourGraph.{NeighbourGraph}
 use Rattle.mesh_atoms.specs.declared.graphs.Route.{Route}
 use Rattle.mesh_atoms.specs.declared.settings.RouterSettings.{RouterSettings}
 use Rattle.mesh_atoms.specs.declared.settings.Scenario.{Scenario}
-use Rattle.mesh_atoms.specs.Advertised.{Gives, Advertises, AreTcRows}
+use Rattle.mesh_atoms.specs.Advertised.{GivesAsSelector, Advertises, AreTcRows}
 use Rattle.mesh_atoms.specs.AfterHello.{AfterHello}
 use Rattle.mesh_atoms.specs.AfterTc.{AfterTc}
 use Rattle.mesh_atoms.specs.Base.{Has, find, host, address_eq}
@@ -33,7 +33,7 @@ use Rattle.mesh_atoms.specs.Relays.{Offers, IsWilling, IsRelay, Covers}
 use Rattle.mesh_atoms.specs.Routes.{RouteArc, AreRoutes}
 use Rattle.mesh_atoms.specs.Settled.{IsPeer, IsStray, IsSettledAt}
 use Rattle.mesh_atoms.specs.Sound.{SoundNeighbourhood}
-use Rattle.mesh_atoms.specs.State.{State, Neighbourhood, Topology, state_of, link_at, two_hop_at, neighbour_at, HasLink, HasSymmetricWith, HasAddress, IsOriginator}
+use Rattle.mesh_atoms.specs.State.{State, Neighbourhood, TopologyBase, state_of, link_at, two_hop_at, neighbour_at, HasLink, HasSymmetricWith, HasAddress, IsOriginator}
 use Rattle.mesh_atoms.specs.Walk.{Fits}
 
 -- Expiry, HELLOs and TCs
@@ -61,7 +61,7 @@ RefusesTwoHopOfEndedLink =
 -- after a complete TC, a tuple of its originator with another number
 abbrev pub RefusesTupleOfOldNumber : Type 0
 RefusesTupleOfOldNumber =
-    (now : ℕ) (tc : Tc) (old new : Topology) (key : AddressKey) (t : AddressTuple) (until : ℕ) →
+    (now : ℕ) (tc : Tc) (old new : TopologyBase) (key : AddressKey) (t : AddressTuple) (until : ℕ) →
     tc.complete ≡ true → key.from ≡ tc.originator → find address_eq new.addresses key ≡ Some (t, until) → t.ansn ≢ tc.ansn → AfterTc now tc old new → ⊥
 
 -- a HELLO with no row of a symmetric neighbour's address
@@ -74,7 +74,7 @@ RefusesHiddenNeighbour =
 abbrev pub RefusesRowOfNoSelector : Type 0
 RefusesRowOfNoSelector =
     (s : State) (rows : List TcRow) (row : TcRow) (a : Addr4) →
-    Contains rows row → row.dest ≡ host a → IsTrue row.routable → ((o : Addr4) (m : Metric) → Gives s a o m → ⊥) → AreTcRows s rows → ⊥
+    Contains rows row → row.dest ≡ host a → IsTrue row.routable → ((o : Addr4) (m : Metric) → GivesAsSelector s a o m → ⊥) → AreTcRows s rows → ⊥
 
 -- a HELLO that tells a link status of an address whose links on its interface are all PENDING
 abbrev pub RefusesPendingTold : Type 0

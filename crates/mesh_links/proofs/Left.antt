@@ -6,15 +6,15 @@ use Rattle.mesh_atoms.specs.Base.{Base, find, link_eq, SetsOnly}
 use Rattle.mesh_atoms.specs.Words.{IsKept}
 use Rattle.mesh_atoms.proofs.Lookups.{link_equiv}
 use Rattle.mesh_expire.proofs.Laws.{find_same}
-use Rattle.mesh_links.specs.Owners.{IsLeft}
+use Rattle.mesh_links.specs.Owners.{IsKeptOrGone}
 
 -- one more is taken out
 pub left_without : (Goes : Link × ℕ → Type 0) (first before after : Base LinkKey Link) (gone : LinkKey) (e : Link × ℕ)
     → find link_eq before gone ≡ Some e → Goes e → SetsOnly link_eq before after gone None
-    → ((key : LinkKey) → IsLeft Goes (find link_eq first key) (find link_eq before key))
-    → (key : LinkKey) → IsLeft Goes (find link_eq first key) (find link_eq after key)
+    → ((key : LinkKey) → IsKeptOrGone Goes (find link_eq first key) (find link_eq before key))
+    → (key : LinkKey) → IsKeptOrGone Goes (find link_eq first key) (find link_eq after key)
 left_without Goes first before after gone e found goes removed left key = by_key (link_eq gone key) refl where
-  by_key : (b : Bool) → link_eq gone key ≡ b → IsLeft Goes (find link_eq first key) (find link_eq after key)
+  by_key : (b : Bool) → link_eq gone key ≡ b → IsKeptOrGone Goes (find link_eq first key) (find link_eq after key)
   by_key false is = let same : find link_eq after key ≡ find link_eq before key = removed key ∙ rw is refl in rw same (left key)
   by_key true is = elim (left key) [
     | inl stood ↦ inr (e, sym stood ∙ find_same link_equiv gone key is before ∙ found, goes, removed key ∙ rw is refl)
@@ -22,7 +22,7 @@ left_without Goes first before after gone e found goes removed left key = by_key
   ]
 
 -- all that are left stay
-pub left_kept : {A : Type 0} (Stays : A → Type 0) (old new : Option A) → IsLeft (λ e. Stays e → ⊥) old new → ((e : A) → new ≡ Some e → Stays e) → IsKept Stays old new
+pub left_kept : {A : Type 0} (Stays : A → Type 0) (old new : Option A) → IsKeptOrGone (λ e. Stays e → ⊥) old new → ((e : A) → new ≡ Some e → Stays e) → IsKept Stays old new
 left_kept Stays None new left all = elim left [
   | inl same ↦ same
   | inr gone ↦ let both = gone.1 in absurd cc
@@ -33,7 +33,7 @@ left_kept Stays (Some e) new left all = elim left [
 ]
 
 -- taken out in two steps
-pub left_twice : {A : Type 0} (Goes : A → Type 0) (old mid new : Option A) → IsLeft Goes old mid → IsLeft Goes mid new → IsLeft Goes old new
+pub left_twice : {A : Type 0} (Goes : A → Type 0) (old mid new : Option A) → IsKeptOrGone Goes old mid → IsKeptOrGone Goes mid new → IsKeptOrGone Goes old new
 left_twice Goes old mid new (inl one) (inl two) = inl (two ∙ one)
 left_twice Goes old mid new (inl one) (inr gone) = inr (gone.0, sym one ∙ gone.1, gone.2, gone.3)
 left_twice Goes old mid new (inr gone) (inl two) = inr (gone.0, gone.1, gone.2, two ∙ gone.3)

@@ -8,11 +8,11 @@ use Rattle.mesh_atoms.specs.declared.tuples.Link.{Link}
 use Rattle.mesh_atoms.specs.declared.tuples.LinkKey.{LinkKey}
 use Rattle.mesh_atoms.specs.Base.{Base, find, if_live, link_eq, addr_eq, SetsOnly}
 use Rattle.mesh_atoms.specs.Live.{trim, trimmed}
-use Rattle.mesh_atoms.specs.AfterHello.{IsApart, Begins, Stood, Made, renewed}
+use Rattle.mesh_atoms.specs.AfterHello.{IsApart, LinkKeptOrMade, Stood, Made, renewed}
 use Rattle.mesh_atoms.specs.Words.{IsKept, Meets}
 use Rattle.mesh_atoms.specs.declared.hello.Shown.{Shown}
 use Rattle.mesh_links.specs.Links.{ExpiresLinks, HearsOn}
-use Rattle.mesh_links.specs.Owners.{owner_of, Owned, OwnsAll, OwnsMore, IsFewer, IsLeft}
+use Rattle.mesh_links.specs.Owners.{owner_of, HasLinkOwners, OwnsAll, OwnsMore, IsFewer, IsKeptOrGone}
 use Rattle.mesh_expire.specs.Table.{changed_at}
 use Rattle.mesh_expire.proofs.Laws.{find_same, find-changed_at}
 use Rattle.mesh_atoms.proofs.Deciding.{Decides-some, Decides-addr}
@@ -24,14 +24,14 @@ use Rattle.mesh_atoms.proofs.Lookups.{link_equiv, same_link, same_addr, addr_equ
 use Rattle.mesh_links.proofs.Renewed.{addrs-trimmed}
 
 -- fewer links
-pub owned_fewer : (owners : List (Addr4 × LinkKey)) (old new : Base LinkKey Link) → Owned owners old → IsFewer old new → Owned owners new
+pub owned_fewer : (owners : List (Addr4 × LinkKey)) (old new : Base LinkKey Link) → HasLinkOwners owners old → IsFewer old new → HasLinkOwners owners new
 owned_fewer owners old new owned fewer = record {
   owner = λ key e a found has. (let (f, at, same) = fewer key e found in owned.owner key f a at (rw same has));
   first = λ key e found. (let (f, at, same) = fewer key e found in rw (← same) (owned.first key f at));
 }
 
 -- what is left
-pub fewer_left : (Goes : Link × ℕ → Type 0) (old new : Base LinkKey Link) → ((key : LinkKey) → IsLeft Goes (find link_eq old key) (find link_eq new key)) → IsFewer old new
+pub fewer_left : (Goes : Link × ℕ → Type 0) (old new : Base LinkKey Link) → ((key : LinkKey) → IsKeptOrGone Goes (find link_eq old key) (find link_eq new key)) → IsFewer old new
 fewer_left Goes old new left key e found = elim (left key) [
   | inl same ↦ (e, sym same ∙ found, refl)
   | inr gone ↦ let both : None ≡ Some e = sym gone.3 ∙ found in absurd cc
@@ -49,8 +49,8 @@ fewer_expired now old new expired key e found = by_old (find link_eq old key) re
   by_old (Some f) is at = by_live f (nat_lt now f.1) is at
 
 -- one link is set, whose addresses have its key
-pub owned_set : (owners : List (Addr4 × LinkKey)) (old new : Base LinkKey Link) (key : LinkKey) (entry : Link × ℕ) → Owned owners old → SetsOnly link_eq old new key (Some entry)
-    → OwnsAll owners entry.0.addrs key → slice_get entry.0.addrs 0 ≡ Some key.addr → Owned owners new
+pub owned_set : (owners : List (Addr4 × LinkKey)) (old new : Base LinkKey Link) (key : LinkKey) (entry : Link × ℕ) → HasLinkOwners owners old → SetsOnly link_eq old new key (Some entry)
+    → OwnsAll owners entry.0.addrs key → slice_get entry.0.addrs 0 ≡ Some key.addr → HasLinkOwners owners new
 owned_set owners old new key entry owned sets mine first = record {
   owner = λ q e a found has. by_owner q e a found has (link_eq key q) refl;
   first = λ q e found. by_first q e found (link_eq key q) refl;
@@ -68,8 +68,8 @@ owned_set owners old new key entry owned sets mine first = record {
   by_first q e found false is = owned.first q e (rw is at (sym (sets q)) ∙ found)
 
 -- more addresses have a key, of which no other link has one
-pub owned_more : (old new : List (Addr4 × LinkKey)) (links : Base LinkKey Link) (addrs : List Addr4) (key : LinkKey) → Owned old links → slice_get addrs 0 ≡ Some key.addr
-    → ((q : LinkKey) (e : Link × ℕ) → find link_eq links q ≡ Some e → IsApart addrs e.0) → OwnsMore old new addrs key → Owned new links
+pub owned_more : (old new : List (Addr4 × LinkKey)) (links : Base LinkKey Link) (addrs : List Addr4) (key : LinkKey) → HasLinkOwners old links → slice_get addrs 0 ≡ Some key.addr
+    → ((q : LinkKey) (e : Link × ℕ) → find link_eq links q ≡ Some e → IsApart addrs e.0) → OwnsMore old new addrs key → HasLinkOwners new links
 owned_more old new links addrs key owned first apart more = record { owner = by_more; first = owned.first } where
   by_more : (q : LinkKey) (e : Link × ℕ) (a : Addr4) → find link_eq links q ≡ Some e → Contains e.0.addrs a → owner_of new a ≡ Some q
   by_more q e a found has = elim (more a) [
@@ -96,7 +96,7 @@ pub fewer_kept : (Stays : Link × ℕ → Type 0) (old new : Base LinkKey Link) 
 fewer_kept Stays old new kept key e found = (e, (stays_there Stays (find link_eq old key) (find link_eq new key) e (kept key) found).1, refl)
 
 -- the links from which a HELLO begins
-pub begins_before : (rule : Admit) (shown : Shown) (now : ℕ) (o mid : Option (Link × ℕ)) (start : Link × ℕ) → IsKept (λ e. IsApart shown.sending e.0) o mid → Begins rule shown now mid start → Begins rule shown now o start
+pub begins_before : (rule : Admit) (shown : Shown) (now : ℕ) (o mid : Option (Link × ℕ)) (start : Link × ℕ) → IsKept (λ e. IsApart shown.sending e.0) o mid → LinkKeptOrMade rule shown now mid start → LinkKeptOrMade rule shown now o start
 begins_before rule shown now o mid start kept (Stood e at same) = Stood e (stays_there (λ x. IsApart shown.sending x.0) o mid e kept at).1 same
 begins_before rule shown now o mid start kept (Made none) = Made (λ e at same. by_kept o kept e at same) where
   by_kept : (p : Option (Link × ℕ)) → IsKept (λ x. IsApart shown.sending x.0) p mid → (e : Link × ℕ) → p ≡ Some e → e.0.addrs ≡ shown.sending → ⊥
@@ -115,7 +115,7 @@ other_link least key other = by_case (link_eq least key) refl where
 -- the others end, and then the one is renewed or made
 pub hears_after : (rule : Admit) (shown : Shown) (least : LinkKey) (hold now : ℕ) (old mid new : Base LinkKey Link) (start : Link × ℕ)
     → ((key : LinkKey) → IsKept (λ e. IsApart shown.sending e.0) (find link_eq old key) (find link_eq mid key))
-    → Begins rule shown now (find link_eq mid least) start → SetsOnly link_eq mid new least (Some (renewed shown hold now start))
+    → LinkKeptOrMade rule shown now (find link_eq mid least) start → SetsOnly link_eq mid new least (Some (renewed shown hold now start))
     → HearsOn rule shown least hold now old new
 hears_after rule shown least hold now old mid new start kept begins sets = record {
   one = (start, begins_before rule shown now (find link_eq old least) (find link_eq mid least) start (kept least) begins, sets least ∙ rw (link_equiv.refl least) refl);
@@ -123,7 +123,7 @@ hears_after rule shown least hold now old mid new start kept begins sets = recor
 }
 
 -- the link that has an address is the noted one
-pub sole : (owners : List (Addr4 × LinkKey)) (links : Base LinkKey Link) (key : LinkKey) (e : Link × ℕ) (a : Addr4) (k : LinkKey) → Owned owners links → find link_eq links key ≡ Some e → Contains e.0.addrs a
+pub sole : (owners : List (Addr4 × LinkKey)) (links : Base LinkKey Link) (key : LinkKey) (e : Link × ℕ) (a : Addr4) (k : LinkKey) → HasLinkOwners owners links → find link_eq links key ≡ Some e → Contains e.0.addrs a
     → owner_of owners a ≡ Some k → (key ≡ k) × (find link_eq links k ≡ Some e)
 sole owners links key e a k owned found has noted =
     let both : Some key ≡ Some k = sym (owned.owner key e a found has) ∙ noted in
@@ -139,16 +139,16 @@ pub not_both : (b : Bool) → b ≡ true → b ≡ false → ⊥
 not_both b holds fails = let both : true ≡ false = sym holds ∙ fails in absurd cc
 
 -- no link has an address that isn't noted
-pub unowned : (owners : List (Addr4 × LinkKey)) (links : Base LinkKey Link) (key : LinkKey) (e : Link × ℕ) (a : Addr4) → Owned owners links → find link_eq links key ≡ Some e → Contains e.0.addrs a → None ≡ owner_of owners a → ⊥
+pub unowned : (owners : List (Addr4 × LinkKey)) (links : Base LinkKey Link) (key : LinkKey) (e : Link × ℕ) (a : Addr4) → HasLinkOwners owners links → find link_eq links key ≡ Some e → Contains e.0.addrs a → None ≡ owner_of owners a → ⊥
 unowned owners links key e a owned found has none = let both : None ≡ Some key = none ∙ owned.owner key e a found has in absurd cc
 
 -- nor has one an address that is noted for a key with no link
-pub unlinked : (owners : List (Addr4 × LinkKey)) (links : Base LinkKey Link) (key : LinkKey) (e : Link × ℕ) (a : Addr4) (k : LinkKey) → Owned owners links → find link_eq links key ≡ Some e → Contains e.0.addrs a
+pub unlinked : (owners : List (Addr4 × LinkKey)) (links : Base LinkKey Link) (key : LinkKey) (e : Link × ℕ) (a : Addr4) (k : LinkKey) → HasLinkOwners owners links → find link_eq links key ≡ Some e → Contains e.0.addrs a
     → owner_of owners a ≡ Some k → None ≡ find link_eq links k → ⊥
 unlinked owners links key e a k owned found has noted none = let both : None ≡ Some e = none ∙ (sole owners links key e a k owned found has noted).1 in absurd cc
 
 -- the link of a noted address is gone
-pub sole_gone : (Stays : Link × ℕ → Type 0) (owners : List (Addr4 × LinkKey)) (old new : Base LinkKey Link) (a : Addr4) (k : LinkKey) → Owned owners old → owner_of owners a ≡ Some k → SetsOnly link_eq old new k None
+pub sole_gone : (Stays : Link × ℕ → Type 0) (owners : List (Addr4 × LinkKey)) (old new : Base LinkKey Link) (a : Addr4) (k : LinkKey) → HasLinkOwners owners old → owner_of owners a ≡ Some k → SetsOnly link_eq old new k None
     → (key : LinkKey) (e : Link × ℕ) → find link_eq new key ≡ Some e → Contains e.0.addrs a → Stays e
 sole_gone Stays owners old new a k owned noted sets key e found has = by_key (link_eq k key) refl where
   by_key : (b : Bool) → link_eq k key ≡ b → Stays e
@@ -158,7 +158,7 @@ sole_gone Stays owners old new a k owned noted sets key e found has = by_key (li
       let same : link_eq k key ≡ true = rw one (link_equiv.refl k) in
       absurd (let both : true ≡ false = sym same ∙ is in cc)
 
-pub back_left : (Goes : Link × ℕ → Type 0) (o new : Option (Link × ℕ)) (e : Link × ℕ) → IsLeft Goes o new → new ≡ Some e → o ≡ Some e
+pub back_left : (Goes : Link × ℕ → Type 0) (o new : Option (Link × ℕ)) (e : Link × ℕ) → IsKeptOrGone Goes o new → new ≡ Some e → o ≡ Some e
 back_left Goes o new e (inl same) found = sym same ∙ found
 back_left Goes o new e (inr gone) found = let both : None ≡ Some e = sym gone.3 ∙ found in absurd cc
 
@@ -195,7 +195,7 @@ pub fewer_same : (old new : Base LinkKey Link) → new ≡ old → IsFewer old n
 fewer_same old new is key e found = (e, ap (λ (l : Base LinkKey Link). find link_eq l key) (sym is) ∙ found, refl)
 
 -- addresses whose link is gone are noted no more
-pub owned_purged : (old new : List (Addr4 × LinkKey)) (links : Base LinkKey Link) → Owned old links → ((a : Addr4) (key : LinkKey) → IsSome (find link_eq links key) → owner_of old a ≡ Some key → owner_of new a ≡ Some key) → Owned new links
+pub owned_purged : (old new : List (Addr4 × LinkKey)) (links : Base LinkKey Link) → HasLinkOwners old links → ((a : Addr4) (key : LinkKey) → IsSome (find link_eq links key) → owner_of old a ≡ Some key → owner_of new a ≡ Some key) → HasLinkOwners new links
 owned_purged old new links owned kept = record { owner = λ key e a found has. kept a key (rw found refl) (owned.owner key e a found has); first = owned.first }
 
 -- what holds at a place, read with any default

@@ -10,7 +10,7 @@ use Rattle.mesh_atoms.specs.Base.{Base, find, if_live, link_eq}
 use Rattle.mesh_atoms.specs.State.{is_symmetric, state_of}
 use Rattle.mesh_atoms.specs.Quality.{admitted}
 use Rattle.mesh_atoms.specs.Live.{trim}
-use Rattle.mesh_atoms.specs.AfterHello.{IsApart, Begins, renewed}
+use Rattle.mesh_atoms.specs.AfterHello.{IsApart, LinkKeptOrMade, renewed}
 use Rattle.mesh_atoms.specs.Words.{Meets, IsBeyond, IsKept}
 
 -- What is told of links
@@ -35,14 +35,14 @@ pub data SelectorOf (links : Base LinkKey Link) (now : ℕ) (a : Addr4) : Option
   Unlinked : ((link : Link) → IsSymmetricWith links now a link → ⊥) → SelectorOf links now a None
 
 -- nothing becomes of the link at now: its quality has it so, it isn't expired, and it is SYMMETRIC where it was so at last
-pub record Stays (rule : Admit) (hold last now : ℕ) (e : Link × ℕ) : Type 0 where
+pub record IsLinkUnchanged (rule : Admit) (hold last now : ℕ) (e : Link × ℕ) : Type 0 where
   pub by_quality : admitted rule hold now e ≡ e
   pub live : nat_lt now e.1 ≡ true
   pub symmetric : is_symmetric e.0 now ≡ is_symmetric e.0 last
 
 -- nothing becomes of any link
 abbrev pub AllStay : Admit → ℕ → ℕ → ℕ → Base LinkKey Link → Type 0
-AllStay rule hold last now links = (key : LinkKey) (e : Link × ℕ) → find link_eq links key ≡ Some e → Stays rule hold last now e
+AllStay rule hold last now links = (key : LinkKey) (e : Link × ℕ) → find link_eq links key ≡ Some e → IsLinkUnchanged rule hold last now e
 
 -- What becomes of them
 
@@ -62,7 +62,7 @@ EndsOutside before listed old new =
 -- the links after a HELLO: the one with the sending list, keyed by its least address, is renewed or made; each other link that
 -- meets the sending list ends; all others stay (RFC 6130, section 12.5, and RFC 7181, section 15.3)
 pub record HearsOn (rule : Admit) (shown : Shown) (least : LinkKey) (hold now : ℕ) (old new : Base LinkKey Link) : Type 0 where
-  pub one : (start : Link × ℕ) × Begins rule shown now (find link_eq old least) start × (find link_eq new least ≡ Some (renewed shown hold now start))
+  pub one : (start : Link × ℕ) × LinkKeptOrMade rule shown now (find link_eq old least) start × (find link_eq new least ≡ Some (renewed shown hold now start))
   pub others : (key : LinkKey) → key ≢ least → IsKept (λ e. IsApart shown.sending e.0) (find link_eq old key) (find link_eq new key)
 
 -- How far a link reaches

@@ -12,7 +12,7 @@ abbrev pub owner_of : List (Addr4 × LinkKey) → Addr4 → Option LinkKey
 owner_of owners a = lookup (addr_eq a) owners
 
 -- each address of a link has its key, which is the link's first address
-pub record Owned (owners : List (Addr4 × LinkKey)) (links : Base LinkKey Link) : Type 0 where
+pub record HasLinkOwners (owners : List (Addr4 × LinkKey)) (links : Base LinkKey Link) : Type 0 where
   pub owner : (key : LinkKey) (e : Link × ℕ) (a : Addr4) → find link_eq links key ≡ Some e → Contains e.0.addrs a → owner_of owners a ≡ Some key
   pub first : (key : LinkKey) (e : Link × ℕ) → find link_eq links key ≡ Some e → slice_get e.0.addrs 0 ≡ Some key.addr
 
@@ -31,5 +31,5 @@ IsFewer old new =
     (f : Link × ℕ) × (find link_eq old key ≡ Some f) × (f.0.addrs ≡ e.0.addrs)
 
 -- what stood at a key stands there, or had the property and is gone
-abbrev pub IsLeft : {A : Type 0} → (A → Type 0) → Option A → Option A → Type 0
-IsLeft {A} Goes old new = (new ≡ old) ⊎ ((e : A) × (old ≡ Some e) × Goes e × (new ≡ None))
+abbrev pub IsKeptOrGone : {A : Type 0} → (A → Type 0) → Option A → Option A → Type 0
+IsKeptOrGone {A} Goes old new = (new ≡ old) ⊎ ((e : A) × (old ≡ Some e) × Goes e × (new ≡ None))

@@ -5,7 +5,7 @@ ghost use Rattle.mesh_atoms.specs.declared.tuples.Link.{Link};
 ghost use Rattle.mesh_atoms.specs.Base.{HasDistinctKeys, find, link_eq};
 ghost use Rattle.mesh_atoms.specs.Words.{IsKept, Meets};
 ghost use Rattle.mesh_links.specs.Ending.{Spares};
-ghost use Rattle.mesh_links.specs.Owners.{Owned, owner_of, IsLeft};
+ghost use Rattle.mesh_links.specs.Owners.{HasLinkOwners, owner_of, IsKeptOrGone};
 
 use crate::addresses::{is_apart, leaves};
 use indexmap::IndexMap;
@@ -14,7 +14,7 @@ use mesh_expire::Table;
 
 /// Which links end.
 #[derive(Clone, Copy)]
-pub enum Ending<'a> {
+pub enum LinksToEnd<'a> {
     /// Those that have an address of the first list and one outside the second.
     Outside(&'a [Addr4], &'a [Addr4]),
     /// Those that have an address of the list, but for the one that has just this list.
@@ -22,13 +22,13 @@ pub enum Ending<'a> {
 }
 
 /// Whether the link stays.
-fn spares(which: Ending, link: &Link) -> bool
+fn spares(which: LinksToEnd, link: &Link) -> bool
     ensures { IsTrue result ↔ Spares which.entry link.now }
 {
     let addrs = link.addrs.as_slice();
     match which {
-        Ending::Outside(old, new) => !leaves(addrs, old, new),
-        Ending::Beside(sending) => is_apart(addrs, sending),
+        LinksToEnd::Outside(old, new) => !leaves(addrs, old, new),
+        LinksToEnd::Beside(sending) => is_apart(addrs, sending),
     }
 }
 
@@ -37,9 +37,9 @@ fn ended_at<T: Table<LinkKey, Link>>(
     table: &T,
     owners: &IndexMap<Addr4, LinkKey>,
     addr: Addr4,
-    which: Ending,
+    which: LinksToEnd,
 ) -> Option<LinkKey>
-    requires { Owned owners.now.entries (T.content table.now) }
+    requires { HasLinkOwners owners.now.entries (T.content table.now) }
     ensures some { IfSome result (λ key. (e : Link × ℕ) × (find link_eq (T.content table.now) key ≡ Some e) × (Spares which.entry e.0 → ⊥)) }
     ensures owner { IfSome result (λ key. owner_of owners.now.entries addr ≡ Some key) }
     ensures none { IfNone result ((key : LinkKey) (e : Link × ℕ) → find link_eq (T.content table.now) key ≡ Some e → Contains e.0.addrs addr → Spares which.entry e.0) }
@@ -62,11 +62,11 @@ fn end_at<T: Table<LinkKey, Link>>(
     table: &mut T,
     owners: &IndexMap<Addr4, LinkKey>,
     addr: Addr4,
-    which: Ending,
+    which: LinksToEnd,
 )
-    requires owned { Owned owners.now.entries (T.content table.old) }
+    requires owned { HasLinkOwners owners.now.entries (T.content table.old) }
     requires distinct { HasDistinctKeys link_eq (T.content table.old) }
-    ensures left { (key : LinkKey) → IsLeft (λ e. Spares which.entry e.0 → ⊥) (find link_eq (T.content table.old) key) (find link_eq (T.content table.new) key) }
+    ensures left { (key : LinkKey) → IsKeptOrGone (λ e. Spares which.entry e.0 → ⊥) (find link_eq (T.content table.old) key) (find link_eq (T.content table.new) key) }
     ensures done { (key : LinkKey) (e : Link × ℕ) → find link_eq (T.content table.new) key ≡ Some e → Contains e.0.addrs addr → Spares which.entry e.0 }
     ensures distinct { HasDistinctKeys link_eq (T.content table.new) }
     ensures within { length (T.content table.new) ≤ length (T.content table.old) }
@@ -82,14 +82,14 @@ pub fn end_all<T: Table<LinkKey, Link>>(
     table: &mut T,
     owners: &IndexMap<Addr4, LinkKey>,
     addrs: &[Addr4],
-    which: Ending,
+    which: LinksToEnd,
 ) -> usize
-    requires owned { Owned owners.now.entries (T.content table.old) }
+    requires owned { HasLinkOwners owners.now.entries (T.content table.old) }
     requires others { (link : Link) → (Meets link.addrs addrs.now → ⊥) → Spares which link }
     ensures kept { (key : LinkKey) → IsKept (λ e. Spares which.entry e.0) (find link_eq (T.content table.old) key) (find link_eq (T.content table.new) key) }
     ensures count { result + length (T.content table.new) ≡ length (T.content table.old) }
     ensures distinct { HasDistinctKeys link_eq (T.content table.new) }
-    ensures owned { Owned owners.now.entries (T.content table.new) }
+    ensures owned { HasLinkOwners owners.now.entries (T.content table.new) }
 {
     let before = table.len();
     for addr in addrs {

@@ -3,12 +3,12 @@ ghost use Rattle.std.specs.Prelude.{◌≡◌, ◌≢◌, ◌<◌, ◌^◌, ℕ,
 ghost use Rattle.mesh_atoms.specs.declared.tuples.Link.{Link};
 ghost use Rattle.mesh_atoms.specs.declared.tuples.LinkKey.{LinkKey};
 ghost use Rattle.mesh_atoms.specs.Base.{HasDistinctKeys, SetsOnly, find, link_eq};
-ghost use Rattle.mesh_atoms.specs.AfterHello.{Begins, made, renewed};
+ghost use Rattle.mesh_atoms.specs.AfterHello.{LinkKeptOrMade, made, renewed};
 ghost use Rattle.mesh_links.specs.Links.{HasRoom, HearsOn};
-ghost use Rattle.mesh_links.specs.Owners.{Owned, OwnsAll, IsFewer};
+ghost use Rattle.mesh_links.specs.Owners.{HasLinkOwners, OwnsAll, IsFewer};
 
 use crate::addresses::are_same;
-use crate::ending::{Ending, end_all};
+use crate::ending::{LinksToEnd, end_all};
 use crate::owners::own_all;
 use crate::renewal::{make, renew};
 use indexmap::IndexMap;
@@ -117,14 +117,14 @@ fn renew_at<T: Table<LinkKey, Link>>(
     requires validity { shown.now.validity < 2 ^ 62 }
     requires room { HasRoom (T.content table.old) }
     requires distinct { HasDistinctKeys link_eq (T.content table.old) }
-    requires owned { Owned owners.now.entries (T.content table.old) }
+    requires owned { HasLinkOwners owners.now.entries (T.content table.old) }
     requires mine { OwnsAll owners.now.entries shown.now.sending key }
     requires first { slice_get shown.now.sending 0 ≡ Some key.addr }
-    ensures ok { OnOk result ((start : Link × ℕ) × Begins rule.now shown.now now (find link_eq (T.content table.old) key) start
+    ensures ok { OnOk result ((start : Link × ℕ) × LinkKeptOrMade rule.now shown.now now (find link_eq (T.content table.old) key) start
         × SetsOnly link_eq (T.content table.old) (T.content table.new) key (Some (renewed shown.now hold now start))) }
     ensures room { HasRoom (T.content table.new) }
     ensures distinct { HasDistinctKeys link_eq (T.content table.new) }
-    ensures owned { Owned owners.now.entries (T.content table.new) }
+    ensures owned { HasLinkOwners owners.now.entries (T.content table.new) }
 {
     match standing(table, key, shown.sending.as_slice()) {
         Some(until) => renew_standing(table, key, until, now, hold, shown),
@@ -149,17 +149,17 @@ pub fn hear_on<T: Table<LinkKey, Link>>(
     requires some { 0 < length shown.now.sending }
     requires room { HasRoom (T.content table.old) }
     requires distinct { HasDistinctKeys link_eq (T.content table.old) }
-    requires owned { Owned owners.old.entries (T.content table.old) }
+    requires owned { HasLinkOwners owners.old.entries (T.content table.old) }
     ensures ok { OnOk result ((least : LinkKey) → slice_get shown.now.sending 0 ≡ Some least.addr → HearsOn rule.now shown.now least hold now (T.content table.old) (T.content table.new)) }
     ensures room { HasRoom (T.content table.new) }
     ensures distinct { HasDistinctKeys link_eq (T.content table.new) }
-    ensures owned { Owned owners.new.entries (T.content table.new) }
+    ensures owned { HasLinkOwners owners.new.entries (T.content table.new) }
 {
     match shown.sending.get(0) {
         Some(addr) => {
             let key = LinkKey { addr: *addr };
             let sending = shown.sending.as_slice();
-            end_all(table, owners, sending, Ending::Beside(sending));
+            end_all(table, owners, sending, LinksToEnd::Beside(sending));
             own_all(owners, sending, key)?;
             renew_at(table, owners, key, now, hold, shown, rule)
         }

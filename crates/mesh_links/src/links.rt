@@ -7,7 +7,7 @@ ghost use Rattle.mesh_atoms.specs.declared.tuples.Link.{Link};
 ghost use Rattle.mesh_links.specs.Links.{status_at, HasLinkWith, SelectorOf, AllStay, AdmitsLinks, ExpiresLinks, EndsOutside, HearsOn};
 
 use crate::admittance::admit_all;
-use crate::ending::{Ending, end_all};
+use crate::ending::{LinksToEnd, end_all};
 use crate::expiry::expire_all;
 use crate::hearing::hear_on;
 use crate::owners::{link_with, purge_after};
@@ -31,7 +31,7 @@ pub struct LinkSet<T: Table<LinkKey, Link>> {
 impl<T: Table<LinkKey, Link>> Model for LinkSet<T> {
     ghost use Rattle.mesh_atoms.specs.Base.{Base, HasDistinctKeys, link_eq};
     ghost use Rattle.mesh_links.specs.Links.{HasRoom};
-    ghost use Rattle.mesh_links.specs.Owners.{Owned};
+    ghost use Rattle.mesh_links.specs.Owners.{HasLinkOwners};
     ghost use Rattle.mesh_atoms.specs.declared.tuples.LinkKey.{LinkKey};
     ghost use Rattle.mesh_atoms.specs.declared.tuples.Link.{Link};
 
@@ -39,7 +39,7 @@ impl<T: Table<LinkKey, Link>> Model for LinkSet<T> {
 
     ghost view = { λ s. T.content s.table };
 
-    ghost invariant = { λ s. HasDistinctKeys link_eq (T.content s.table) × HasRoom (T.content s.table) × Owned s.owners.entries (T.content s.table) };
+    ghost invariant = { λ s. HasDistinctKeys link_eq (T.content s.table) × HasRoom (T.content s.table) × HasLinkOwners s.owners.entries (T.content s.table) };
 }
 
 impl<T: Table<LinkKey, Link>> LinkSet<T> {
@@ -133,7 +133,7 @@ impl<T: Table<LinkKey, Link>> LinkSet<T> {
             &mut self.table,
             &self.owners,
             old,
-            Ending::Outside(old, new),
+            LinksToEnd::Outside(old, new),
         )
     }
 

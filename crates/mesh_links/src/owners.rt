@@ -6,7 +6,7 @@ ghost use Rattle.mesh_atoms.specs.declared.tuples.LinkKey.{LinkKey};
 ghost use Rattle.mesh_atoms.specs.declared.tuples.Link.{Link};
 ghost use Rattle.mesh_atoms.specs.Base.{HasDistinctKeys, find, link_eq};
 ghost use Rattle.mesh_links.specs.Links.{HasLinkWith};
-ghost use Rattle.mesh_links.specs.Owners.{owner_of, Owned, OwnsAll, OwnsMore};
+ghost use Rattle.mesh_links.specs.Owners.{owner_of, HasLinkOwners, OwnsAll, OwnsMore};
 
 use indexmap::IndexMap;
 use mesh_atoms::{Addr4, Link, LinkKey, contains};
@@ -19,7 +19,7 @@ pub fn link_with<'a, T: Table<LinkKey, Link>>(
     owners: &'a IndexMap<Addr4, LinkKey>,
     addr: Addr4,
 ) -> Option<(&'a LinkKey, &'a Link, u64)>
-    requires { Owned owners.now.entries (T.content table.now) }
+    requires { HasLinkOwners owners.now.entries (T.content table.now) }
     ensures some { IfSome result (λ e. HasLinkWith (T.content table.now) addr e.0.now (e.1.now, e.2)) }
     ensures only { IfSome result (λ e. (key : LinkKey) (other : Link × ℕ) → HasLinkWith (T.content table.now) addr key other → key ≡ e.0.now) }
     ensures none { IfNone result ((key : LinkKey) (e : Link × ℕ) → HasLinkWith (T.content table.now) addr key e → ⊥) }

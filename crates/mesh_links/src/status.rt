@@ -1,6 +1,6 @@
 //! What a link is at a moment (RFC 6130, section 7.1).
 ghost use Rattle.mesh_links.specs.Links.{SelectorOf};
-ghost use Rattle.mesh_links.specs.Owners.{Owned};
+ghost use Rattle.mesh_links.specs.Owners.{HasLinkOwners};
 
 use crate::owners::link_with;
 use indexmap::IndexMap;
@@ -14,7 +14,7 @@ pub fn selector_of<T: Table<LinkKey, Link>>(
     addr: Addr4,
     now: u64,
 ) -> Option<bool>
-    requires { Owned owners.now.entries (T.content table.now) }
+    requires { HasLinkOwners owners.now.entries (T.content table.now) }
     ensures { SelectorOf (T.content table.now) now addr result }
 {
     let Some((_, link, _)) = link_with(table, owners, addr) else {

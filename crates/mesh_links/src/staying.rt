@@ -3,7 +3,7 @@ ghost use Rattle.std.specs.Prelude.{◌≡◌, ◌↔◌, ◌<◌, ◌^◌, ℕ,
 ghost use Rattle.mesh_atoms.specs.declared.tuples.LinkKey.{LinkKey};
 ghost use Rattle.mesh_atoms.specs.declared.tuples.Link.{Link};
 ghost use Rattle.mesh_atoms.specs.Quality.{admitted};
-ghost use Rattle.mesh_links.specs.Links.{Stays, AllStay};
+ghost use Rattle.mesh_links.specs.Links.{IsLinkUnchanged, AllStay};
 ghost use Rattle.mesh_links.specs.Rulings.{is_steady};
 
 use crate::admittance::{is_steady, ruling_on};
@@ -36,7 +36,7 @@ fn stays(
     requires now { now < 2 ^ 62 }
     requires hold { hold < 2 ^ 62 }
     requires steady { steady ≡ is_steady rule.now }
-    ensures { IsTrue result ↔ Stays rule.now hold last now (link.now, until) }
+    ensures { IsTrue result ↔ IsLinkUnchanged rule.now hold last now (link.now, until) }
 {
     now < until
         && link.is_symmetric(now) == link.is_symmetric(last)
@@ -56,7 +56,7 @@ fn stays_at<T: Table<LinkKey, Link>>(
     requires now { now < 2 ^ 62 }
     requires hold { hold < 2 ^ 62 }
     requires steady { steady ≡ is_steady rule.now }
-    ensures { IsTrue result ↔ ((x : LinkKey × (Link × ℕ)) → slice_get (T.content table.now) place ≡ Some x → Stays rule.now hold last now x.1) }
+    ensures { IsTrue result ↔ ((x : LinkKey × (Link × ℕ)) → slice_get (T.content table.now) place ≡ Some x → IsLinkUnchanged rule.now hold last now x.1) }
 {
     match table.at(place) {
         Some((_, link, until)) => stays(link, until, last, now, hold, rule, steady),

@@ -13,7 +13,7 @@ use Rattle.mesh_atoms.specs.declared.codes.metric.Metric.{Metric}
 use Rattle.mesh_atoms.specs.declared.tuples.Base.TheVariants.{Advertisers, Routers, Addresses, Networks}
 use Rattle.mesh_atoms.specs.AfterTc.{Becomes, Given, Left, BecomesSet, AfterTc, if_not_dropped, is_overfull, first_overfull, GivesRouter, GivesAddress, GivesNetwork}
 use Rattle.mesh_atoms.specs.Base.{Base, find, addr_eq, router_eq, address_eq, network_eq}
-use Rattle.mesh_atoms.specs.State.{Topology}
+use Rattle.mesh_atoms.specs.State.{TopologyBase}
 use Rattle.mesh_atoms.proofs.Lookups.{addr_equiv}
 use Rattle.mesh_topo.specs.Sets.{AreFew}
 use Rattle.mesh_nhdp.proofs.Limits.{no_more, found_left, found_right}
@@ -125,7 +125,7 @@ given_network tc k distance m gives =
     (place, row, at, both (is_some row.gateway) (is_some row.metric) (is_there row.gateway distance gateway) (is_there row.metric m metric), both (addr_eq k.from tc.originator) (net_eq k.net row.dest) (rw from (addr_equiv.refl tc.originator)) (rw dest (net_equiv.refl k.net)))
 
 -- a TC that is taken leaves each set within its limit
-pub tc_few : (now : ℕ) (tc : Tc) (old new : Topology) → first_overfull old tc ≡ None → AfterTc now tc old new → AreFew new
+pub tc_few : (now : ℕ) (tc : Tc) (old new : TopologyBase) → first_overfull old tc ≡ None → AfterTc now tc old new → AreFew new
 unfolding GivenAt
 tc_few now tc old new none after =
     let (a, r, d, n) = none_of_four Advertisers Routers Addresses Networks (is_overfull old tc Advertisers) (is_overfull old tc Routers) (is_overfull old tc Addresses) (is_overfull old tc Networks) none in

@@ -13,7 +13,7 @@ use Rattle.mesh_atoms.specs.Base.{Base, Has, base_of, host}
 use Rattle.mesh_atoms.specs.RelayGraphs.{AreRelays, AreRelaysOf, IsFloodingGraph, IsRoutingGraph}
 use Rattle.mesh_atoms.specs.Routes.{AreRoutes, RouteArc, To_neighbour, To_two_hop, By_router, By_address, By_network}
 use Rattle.mesh_atoms.specs.Sound.{Sound, SoundNeighbourhood, SoundTopology, SoundNoted, IsWithin}
-use Rattle.mesh_atoms.specs.State.{State, Bases, Topology, NotedMessages}
+use Rattle.mesh_atoms.specs.State.{State, Bases, TopologyBase, NotedMessages}
 use Rattle.mesh_atoms.specs.Walk.{Walk, Stay, Onward}
 use Rattle.mesh_nhdp.specs.NhdpState.{empty_near}
 use Rattle.mesh_nhdp.proofs.Empty.{empty_parts, empty_base}
@@ -153,10 +153,10 @@ pub empties : (n : ℕ) (bases : Bases) → bases.neighbourhood ≡ empty_near n
     length bases.noted.received ≡ n → ((i : ℕ) → base_of bases.noted.received i ≡ []) → bases.noted.processed ≡ [] → bases.noted.forwarded ≡ [] → bases ≡ no_bases n
 empties n bases near advertisers routers addresses networks counts received processed forwarded =
     let topology : bases.topology ≡ (no_bases n).topology =
-    ap (λ x. let t : Topology = record bases.topology { advertisers = x } in t) advertisers
-    ∙ ap (λ x. let t : Topology = record bases.topology { advertisers = []; routers = x } in t) routers
-    ∙ ap (λ x. let t : Topology = record bases.topology { advertisers = []; routers = []; addresses = x } in t) addresses
-    ∙ ap (λ x. let t : Topology = record { advertisers = []; routers = []; addresses = []; networks = x } in t) networks in
+    ap (λ x. let t : TopologyBase = record bases.topology { advertisers = x } in t) advertisers
+    ∙ ap (λ x. let t : TopologyBase = record bases.topology { advertisers = []; routers = x } in t) routers
+    ∙ ap (λ x. let t : TopologyBase = record bases.topology { advertisers = []; routers = []; addresses = x } in t) addresses
+    ∙ ap (λ x. let t : TopologyBase = record { advertisers = []; routers = []; addresses = []; networks = x } in t) networks in
     let noted : bases.noted ≡ (no_bases n).noted =
     ap (λ x. let t : NotedMessages = record bases.noted { received = x } in t) (all_empty bases.noted.received n counts received)
     ∙ ap (λ x. let t : NotedMessages = record bases.noted { received = replicate n []; processed = x } in t) processed

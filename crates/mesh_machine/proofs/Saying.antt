@@ -17,7 +17,10 @@ use Rattle.mesh_atoms.specs.State.{State, state_of, is_symmetric, is_heard, HasS
 use Rattle.mesh_atoms.specs.Words.{IsValue}
 use Rattle.mesh_atoms.proofs.Lookups.{has_found, link_equiv, same_link, looks_up_links, looks_up_neighbours}
 use Rattle.mesh_machine.specs.declared.said.Said.{Said}
-use Rattle.mesh_machine.specs.Said.{IsSaidOf, IsLinkWith, IsNeighbourWith, IsRelayOf, IsFloodingRelay, shows_symmetric, link_metric_in, link_metric_out, near_metric_in, near_metric_out, or_else}
+use Rattle.mesh_machine.specs.Said.{IsSaidOf, IsFloodingRelay, shows_symmetric, link_metric_in, link_metric_out, near_metric_in, near_metric_out, or_else}
+use Rattle.mesh_hello.specs.Saying.Said.{IsRelayOf}
+use Rattle.mesh_hello.specs.Saying.Said.{IsNeighbourWith}
+use Rattle.mesh_hello.specs.Saying.Said.{IsLinkWith}
 use Rattle.mesh_hello.proofs.SayingLemmas.Parts.{lent}
 use Rattle.mesh_atoms.proofs.Options.{same_some}
 

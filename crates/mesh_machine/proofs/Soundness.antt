@@ -10,7 +10,7 @@ use Rattle.mesh_atoms.specs.AfterTc.{TcAnswer, TakesTc, Is_old, Overfull as Over
 use Rattle.mesh_atoms.specs.Base.{base_of, addr_eq, router_eq, address_eq, network_eq, flood_eq}
 use Rattle.mesh_atoms.specs.Live.{Live, LiveTopology, LiveNoted}
 use Rattle.mesh_atoms.specs.Sound.{Sound, SoundNeighbourhood, SoundTopology, SoundNoted}
-use Rattle.mesh_atoms.specs.State.{Neighbourhood, Topology, NotedMessages, Bases, State, IsOriginator}
+use Rattle.mesh_atoms.specs.State.{Neighbourhood, TopologyBase, NotedMessages, Bases, State, IsOriginator}
 use Rattle.mesh_atoms.specs.TakesHello.{HelloAnswer, TakesHello, Breaks, Overfull, Overfull_two_hops, Takes}
 use Rattle.mesh_atoms.proofs.Lookups.{addr_equiv}
 use Rattle.mesh_topo.specs.declared.topology.TcTaken.TheVariants as taken
@@ -46,7 +46,7 @@ use Rattle.mesh_atoms.proofs.Values.{one_originator}
 
 -- ---- expiry
 
-live_few : (now : ℕ) (old new : Topology) → LiveTopology now old new → AreFew old → AreFew new
+live_few : (now : ℕ) (old new : TopologyBase) → LiveTopology now old new → AreFew old → AreFew new
 live_few now old new live few = record {
   advertisers = let h = fewer addr_eq addr_equiv now old.advertisers new.advertisers live.distinct_advertisers live.advertisers in let k = few.advertisers in omega (arith, h, k);
   routers = let h = fewer router_eq router_equiv now old.routers new.routers live.distinct_routers live.routers in let k = few.routers in omega (arith, h, k);
@@ -101,7 +101,7 @@ note_sound settings now i heading processed answer old new room_processed room_r
 
 -- ---- a TC
 
-pub takes_tc_sound : (settings : RouterSettings) (now : ℕ) (tc : Tc) (old new : Topology) (answer : TcAnswer) → 0 < tc.validity → (IsOriginator settings tc.originator → ⊥) →
+pub takes_tc_sound : (settings : RouterSettings) (now : ℕ) (tc : Tc) (old new : TopologyBase) (answer : TcAnswer) → 0 < tc.validity → (IsOriginator settings tc.originator → ⊥) →
     SoundTopology settings now old → TakesTc now tc old new answer → SoundTopology settings now new
 takes_tc_sound settings now tc old new answer lasts other sound (Is_old kept is) = sound
 takes_tc_sound settings now tc old new answer lasts other sound (Overfull_tc kind not_old first) = sound

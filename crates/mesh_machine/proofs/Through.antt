@@ -12,7 +12,7 @@ use Rattle.mesh_machine.proofs.Opening.{runs_sound}
 use Rattle.mesh_machine.specs.declared.frame.Frame.{Frame}
 use Rattle.mesh_machine.specs.Machine.{Step, Ticked, Tick, Steps, No_events, First_event, due}
 use Rattle.mesh_atoms.specs.declared.network.NetEvent.{NetEvent}
-use Rattle.mesh_machine.specs.Net.{Net, NetStep, By_delivery, By_tick, By_last_tick, Moves, HasOnlyLastTicks, event_of, frames_of, happening}
+use Rattle.mesh_machine.specs.Net.{NetState, NetStep, By_delivery, By_tick, By_last_tick, Moves, HasOnlyLastTicks, event_of, frames_of, happening}
 use Rattle.mesh_machine.specs.Traffic.{Traffic, Delivery, with_heard}
 use Rattle.mesh_machine.specs.NetRun.{NetRun, AreMachines, EndTogether, events_at}
 use Rattle.mesh_machine.proofs.Sent.{first_and_others, sent_later}
@@ -21,17 +21,17 @@ use Rattle.mesh_atoms.proofs.Lists.{item_at as stands}
 
 -- Each event moves one router
 
-moves_of : (old new : Net) (event : NetEvent) → NetStep old event new → (before : Traffic) × Moves old event before new
+moves_of : (old new : NetState) (event : NetEvent) → NetStep old event new → (before : Traffic) × Moves old event before new
 moves_of old new event (By_delivery d) = (with_heard old.traffic d.others, d.moves)
 moves_of old new event (By_tick t) = (old.traffic, t.moves)
 moves_of old new event (By_last_tick t) = (old.traffic, t.moves)
 
 -- what a router comes through
-abbrev Through : ℕ → State → List NetEvent → Net → Type 0
+abbrev Through : ℕ → State → List NetEvent → NetState → Type 0
 Through x was own new = (state : State) × (slice_get new.routers x ≡ Some state) × Steps was (map event_of own) (map frames_of own) state
 
 -- one event more: its own, or another router's
-one_through : (here mid new : Net) (event : NetEvent) (events : List NetEvent) (x : ℕ) (was : State) → NetStep here event mid → slice_get here.routers x ≡ Some was →
+one_through : (here mid new : NetState) (event : NetEvent) (events : List NetEvent) (x : ℕ) (was : State) → NetStep here event mid → slice_get here.routers x ≡ Some was →
     ((s : State) → slice_get mid.routers x ≡ Some s → Through x s (events_at x events) new) → Through x was (events_at x (event ∷ events)) new
 one_through here mid new event events x was step at rest = by (nat_eq event.router x) refl
   where
@@ -49,8 +49,8 @@ one_through here mid new event events x was step at rest = by (nat_eq event.rout
     by false other =
         rest was (subst (λ (l : List State). slice_get l x ≡ Some was) (sym m.routers) (set_there here.routers event.router m.is x was (λ e. true≢false (sym (eq-eqb event.router x (sym e)) ∙ other)) at))
 
-come_through : (events : List NetEvent) (here new : Net) → NetRun here events new → (x : ℕ) (was : State) → slice_get here.routers x ≡ Some was → Through x was (events_at x events) new
-come_through [] here new is x was at = (was, subst (λ (n : Net). slice_get n.routers x ≡ Some was) (sym is) at, No_events)
+come_through : (events : List NetEvent) (here new : NetState) → NetRun here events new → (x : ℕ) (was : State) → slice_get here.routers x ≡ Some was → Through x was (events_at x events) new
+come_through [] here new is x was at = (was, subst (λ (n : NetState). slice_get n.routers x ≡ Some was) (sym is) at, No_events)
 come_through (event ∷ events) here new (mid, step, run) x was at = one_through here mid new event events x was step at (come_through events mid new run x)
 
 pub are_machines : AreMachines
@@ -62,13 +62,13 @@ are_machines scenario opening events net opens run x settings at =
 -- The last ticks
 
 -- what holds of the routers of a network that have had their last tick
-record IsEnding (scenario : Scenario) (net : Net) : Type 0 where
+record IsEnding (scenario : Scenario) (net : NetState) : Type 0 where
   scenario_is : net.scenario ≡ scenario
   count : length net.routers ≡ length scenario.routers
   only : 0 < net.last_ticks → HasOnlyLastTicks net
   ended : (x : ℕ) (s : State) → slice_get net.routers x ≡ Some s → x < net.last_ticks → s.last ≡ scenario.end
 
-module _ (scenario : Scenario) (old : Net) (event : NetEvent) (before : Traffic) (new : Net) (moves : Moves old event before new) where
+module _ (scenario : Scenario) (old : NetState) (event : NetEvent) (before : Traffic) (new : NetState) (moves : Moves old event before new) where
   same_count : length new.routers ≡ length old.routers
   same_count = ap length moves.routers ∙ length-set old.routers event.router moves.is
 
@@ -89,7 +89,7 @@ due_at P routers x s at h = subst (λ (t : State). P (due t)) (get_or_from_slice
 after_tick : (was is : State) (now : ℕ) (sent : List Frame) → Step was (Tick now) sent is → (is.last ≡ now) × (now < due is)
 after_tick was is now sent (Ticked ticks) = (ticks.renews.last, ticks_due was now sent is ticks)
 
-ending_more : (scenario : Scenario) (old new : Net) (event : NetEvent) → NetStep old event new → IsEnding scenario old → IsEnding scenario new
+ending_more : (scenario : Scenario) (old new : NetState) (event : NetEvent) → NetStep old event new → IsEnding scenario old → IsEnding scenario new
 ending_more scenario old new event (By_delivery d) h = still_going scenario old event (with_heard old.traffic d.others) new d.moves h (none new.last_ticks d.last_ticks)
   where
     none : (n : ℕ) → n ≡ old.last_ticks → n ≡ 0
@@ -143,7 +143,7 @@ ending_more scenario old new event (By_last_tick t) h = record {
       | inr (a, b) ↦ let late = due_at (λ m. old.scenario.end < m) old.routers k s b t.only.no_ticks in omega (arith, same_end, late)
     ]
 
-run_ending : (scenario : Scenario) (events : List NetEvent) (here new : Net) → NetRun here events new → IsEnding scenario here → IsEnding scenario new
+run_ending : (scenario : Scenario) (events : List NetEvent) (here new : NetState) → NetRun here events new → IsEnding scenario here → IsEnding scenario new
 run_ending scenario [] here new is h = subst (IsEnding scenario) (sym is) h
 run_ending scenario (event ∷ events) here new (mid, step, run) h = run_ending scenario events mid new run (ending_more scenario here mid event step h)
 

@@ -7,7 +7,7 @@ use Rattle.mesh_atoms.specs.declared.tc.Tc.{Tc}
 use Rattle.mesh_atoms.specs.declared.tuples.Base.TheVariants.{Neighbours, TwoHops}
 use Rattle.mesh_atoms.specs.declared.settings.RouterSettings.{RouterSettings}
 use Rattle.mesh_atoms.specs.Base.{base_of}
-use Rattle.mesh_atoms.specs.State.{Neighbourhood, Topology, NotedMessages, Bases}
+use Rattle.mesh_atoms.specs.State.{Neighbourhood, TopologyBase, NotedMessages, Bases}
 use Rattle.mesh_atoms.specs.TakesHello.{HelloAnswer, Taken, Broken_at, Full_of_addresses, Full_of_two_hops, TakesHello}
 use Rattle.mesh_atoms.specs.AfterTc.{TcAnswer, Taken as Taken_tc, Too_old, Full_of, TakesTc}
 use Rattle.mesh_wire.specs.packet.declared.packet.Span.{Span}
@@ -99,7 +99,7 @@ pub record ConsidersForwarding (settings : RouterSettings) (own : Addr4) (arriva
 -- 16.3), and considered for forwarding by what was noted before
 pub data ProcessesTc (settings : RouterSettings) (own : Addr4) (arrival : Arrival) (old : Bases) (tc : Tc) (heading : Heading)
     (octets : List ℕ) : Bases → List Frame → Fate → Type 0 where
-  Tc_taken : {topology : Topology} {noted : NotedMessages} {answer : TcAnswer} {sent : List Frame} {onward : Forward} →
+  Tc_taken : {topology : TopologyBase} {noted : NotedMessages} {answer : TcAnswer} {sent : List Frame} {onward : Forward} →
       process_of own heading old.noted ≡ process.Do → TakesTc arrival.now tc old.topology topology answer →
       ConsidersForwarding settings own arrival heading octets (is_processed answer) old noted sent onward →
       ProcessesTc settings own arrival old tc heading octets (record old { topology = topology; noted = noted }) sent

@@ -12,7 +12,7 @@ use Rattle.mesh_machine.specs.Traffic.{Delivery, Traffic, frame_of, with_heard, 
 use Rattle.mesh_atoms.specs.declared.network.NetEvent.{NetEvent}
 
 -- a network at a moment
-pub record Net : Type 0 where
+pub record NetState : Type 0 where
   pub scenario : Scenario
   pub routers : List State
   pub traffic : Traffic
@@ -44,26 +44,26 @@ pub record IsFirstDue (routers : List State) (x moment : ℕ) : Type 0 where
   pub later : (y : ℕ) (s : State) → slice_get routers y ≡ Some s → y < x → moment < due s
 
 -- a frame is heard next: no later than the end, and than each tick
-pub record HearsNext (net : Net) (d : Delivery) (others : List Delivery) : Type 0 where
+pub record HearsNext (net : NetState) (d : Delivery) (others : List Delivery) : Type 0 where
   pub first : IsHeardFirst net.traffic.air d others
   pub in_time : d.moment ≤ net.scenario.end
   pub before_ticks : All (λ s. d.moment ≤ due s) net.routers
 
 -- router x ticks next: no later than the end, and before all that is in the air
-pub record TicksNext (net : Net) (x moment : ℕ) : Type 0 where
+pub record TicksNext (net : NetState) (x moment : ℕ) : Type 0 where
   pub first : IsFirstDue net.routers x moment
   pub in_time : moment ≤ net.scenario.end
   pub before_frames : All (λ d. moment < d.moment) net.traffic.air
 
 -- nothing is left up to the end but the last ticks
-pub record HasOnlyLastTicks (net : Net) : Type 0 where
+pub record HasOnlyLastTicks (net : NetState) : Type 0 where
   pub no_frames : All (λ d. net.scenario.end < d.moment) net.traffic.air
   pub no_ticks : All (λ s. net.scenario.end < due s) net.routers
 
 -- One event
 
 -- the router of the event alone takes the step that the event is to it, and what it sends goes into the air
-pub record Moves (old : Net) (event : NetEvent) (before : Traffic) (new : Net) : Type 0 where
+pub record Moves (old : NetState) (event : NetEvent) (before : Traffic) (new : NetState) : Type 0 where
   pub was : State
   pub is : State
   pub stood : slice_get old.routers event.router ≡ Some was
@@ -81,7 +81,7 @@ pub record IsSender (routers : List RouterSettings) (arc : RadioArc) (sender : A
   pub address : slice_get face.addrs 0 ≡ Some sender
 
 -- the frame that is next is heard where its arc leads to
-pub record Delivers (old : Net) (event : NetEvent) (new : Net) : Type 0 where
+pub record Delivers (old : NetState) (event : NetEvent) (new : NetState) : Type 0 where
   pub delivery : Delivery
   pub others : List Delivery
   pub arc : RadioArc
@@ -96,14 +96,14 @@ pub record Delivers (old : Net) (event : NetEvent) (new : Net) : Type 0 where
   pub last_ticks : new.last_ticks ≡ old.last_ticks
 
 -- the router that is next ticks as it is due
-pub record TicksDue (old : Net) (event : NetEvent) (new : Net) : Type 0 where
+pub record TicksDue (old : NetState) (event : NetEvent) (new : NetState) : Type 0 where
   pub next : TicksNext old event.router event.moment
   pub heard : event.heard ≡ None
   pub moves : Moves old event old.traffic new
   pub last_ticks : new.last_ticks ≡ old.last_ticks
 
 -- the next router has its tick at the end
-pub record TicksLast (old : Net) (event : NetEvent) (new : Net) : Type 0 where
+pub record TicksLast (old : NetState) (event : NetEvent) (new : NetState) : Type 0 where
   pub only : HasOnlyLastTicks old
   pub some : old.last_ticks < length old.routers
   pub moment : event.moment ≡ old.scenario.end
@@ -113,7 +113,7 @@ pub record TicksLast (old : Net) (event : NetEvent) (new : Net) : Type 0 where
   pub last_ticks : new.last_ticks ≡ old.last_ticks + 1
 
 -- one event of a network
-pub data NetStep (old : Net) (event : NetEvent) (new : Net) : Type 0 where
+pub data NetStep (old : NetState) (event : NetEvent) (new : NetState) : Type 0 where
   By_delivery : Delivers old event new → NetStep old event new
   By_tick : TicksDue old event new → NetStep old event new
   By_last_tick : TicksLast old event new → NetStep old event new

@@ -8,10 +8,10 @@ use Rattle.mesh_atoms.specs.State.{State}
 use Rattle.mesh_machine.specs.Machine.{IsOpening, Run}
 use Rattle.mesh_machine.specs.Sendable.{IsPacket}
 use Rattle.mesh_atoms.specs.declared.network.NetEvent.{NetEvent}
-use Rattle.mesh_machine.specs.Net.{Net, NetStep, HasOnlyLastTicks, event_of, frames_of}
+use Rattle.mesh_machine.specs.Net.{NetState, NetStep, HasOnlyLastTicks, event_of, frames_of}
 
 -- a network before its first event: each router is in its opening state, nothing is in the air, and all numbers are 0
-pub record IsOpeningNet (scenario : Scenario) (net : Net) : Type 0 where
+pub record IsOpeningNet (scenario : Scenario) (net : NetState) : Type 0 where
   pub scenario_is : net.scenario ≡ scenario
   pub count : length net.routers ≡ length scenario.routers
   pub opening : (x : ℕ) (settings : RouterSettings) (state : State) →
@@ -20,14 +20,14 @@ pub record IsOpeningNet (scenario : Scenario) (net : Net) : Type 0 where
   pub last_ticks : net.last_ticks ≡ 0
 
 -- every event up to the end was done, and each router had its last tick
-pub record IsOver (net : Net) : Type 0 where
+pub record IsOver (net : NetState) : Type 0 where
   pub only : HasOnlyLastTicks net
   pub last_ticks : net.last_ticks ≡ length net.routers
 
 -- these events in order
-abbrev pub NetRun : Net → List NetEvent → Net → Type 0
+abbrev pub NetRun : NetState → List NetEvent → NetState → Type 0
 NetRun old [] new = new ≡ old
-NetRun old (event ∷ events) new = (mid : Net) × NetStep old event mid × NetRun mid events new
+NetRun old (event ∷ events) new = (mid : NetState) × NetStep old event mid × NetRun mid events new
 
 -- What an event names
 
@@ -54,7 +54,7 @@ events_at x events = filter (λ e. nat_eq e.router x) events
 -- come through the events of the network that are its own, in their order, and at each it has sent what the event says
 abbrev pub AreMachines : Type 0
 AreMachines =
-    (scenario : Scenario) (opening : Net) (events : List NetEvent) (net : Net) → IsOpeningNet scenario opening → NetRun opening events net →
+    (scenario : Scenario) (opening : NetState) (events : List NetEvent) (net : NetState) → IsOpeningNet scenario opening → NetRun opening events net →
     (x : ℕ) (settings : RouterSettings) → slice_get scenario.routers x ≡ Some settings →
     (state : State) × (slice_get net.routers x ≡ Some state)
     × Run settings (map event_of (events_at x events)) (map frames_of (events_at x events)) state
@@ -62,5 +62,5 @@ AreMachines =
 -- where such a run is over, all routers are sound at one moment, the end
 abbrev pub EndTogether : Type 0
 EndTogether =
-    (scenario : Scenario) (opening : Net) (events : List NetEvent) (net : Net) → IsOpeningNet scenario opening → NetRun opening events net →
+    (scenario : Scenario) (opening : NetState) (events : List NetEvent) (net : NetState) → IsOpeningNet scenario opening → NetRun opening events net →
     IsOver net → (x : ℕ) (state : State) → slice_get net.routers x ≡ Some state → Sound state × (state.last ≡ scenario.end)

@@ -9,6 +9,7 @@ use Rattle.mesh_atoms.specs.Base.{Base}
 use Rattle.mesh_atoms.specs.Hello.{Says, SaysSymmetric, IsSaid, Flooding, Routing, Near_in, Near_out, Link_in, Link_out}
 use Rattle.mesh_atoms.specs.State.{State, is_symmetric, is_heard}
 use Rattle.mesh_machine.specs.declared.said.Said.{Said}
+use Rattle.mesh_hello.specs.Saying.Said.{IsRelayOf}
 
 -- exactly what the HELLO of interface i at now says of the address to whoever hears it: whether it is shown SYMMETRIC, by
 -- LINK_STATUS or OTHER_NEIGHB; the metrics that are taken from it, a neighbour's before a link's; and whether it is a relay's
@@ -22,14 +23,6 @@ pub record IsSaidOf (s : State) (i now : ℕ) (a : Addr4) (said : Said) : Type 0
   pub routing : IsTrue said.routing ↔ Says s i now a Routing
 
 -- Out of which tuples it is said
-
--- a link that has the address
-abbrev pub IsLinkWith : Base LinkKey Link → Addr4 → LinkKey × (Link × ℕ) → Type 0
-IsLinkWith links a e = Contains links e × Contains e.1.0.addrs a
-
--- a symmetric neighbour that has the address
-abbrev pub IsNeighbourWith : Base Addr4 Neighbour → Addr4 → Addr4 × (Neighbour × ℕ) → Type 0
-IsNeighbourWith neighbours a e = Contains neighbours e × IsTrue e.1.0.symmetric × Contains e.1.0.addrs a
 
 -- whether there is a link, and it is SYMMETRIC
 abbrev pub shows_symmetric : Option (LinkKey × (Link × ℕ)) → ℕ → Bool
@@ -60,12 +53,6 @@ near_metric_out (Some e) = e.1.0.metric_out
 abbrev pub or_else : Option Metric → Option Metric → Option Metric
 or_else None m = m
 or_else (Some n) m = Some n
-
--- the neighbour is among the relays
-pub record IsRelayOf (relays : List Addr4) (neighbour : Option (Addr4 × (Neighbour × ℕ))) : Type 0 where
-  pub entry : Addr4 × (Neighbour × ℕ)
-  pub is : neighbour ≡ Some entry
-  pub has : Contains relays entry.0
 
 -- the neighbour is a flooding relay of interface i, and its link there is SYMMETRIC
 pub record IsFloodingRelay (flooding : List (List Addr4)) (i : ℕ) (symmetric : Bool) (neighbour : Option (Addr4 × (Neighbour × ℕ))) :

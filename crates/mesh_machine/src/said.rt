@@ -6,7 +6,10 @@ ghost use Rattle.mesh_atoms.specs.Sound.{SoundNeighbourhood};
 ghost use Rattle.mesh_atoms.specs.State.{State};
 ghost use Rattle.mesh_atoms.specs.Words.{IsValue};
 ghost use Rattle.mesh_nhdp.specs.expire.Table.{entry_of};
-ghost use Rattle.mesh_machine.specs.Said.{IsSaidOf, IsLinkWith, IsNeighbourWith, IsRelayOf, IsFloodingRelay, shows_symmetric, link_metric_in, link_metric_out, near_metric_in, near_metric_out, or_else};
+ghost use Rattle.mesh_machine.specs.Said.{IsSaidOf, IsFloodingRelay, shows_symmetric, link_metric_in, link_metric_out, near_metric_in, near_metric_out, or_else};
+ghost use Rattle.mesh_hello.specs.Saying.Said.{IsRelayOf};
+ghost use Rattle.mesh_hello.specs.Saying.Said.{IsNeighbourWith};
+ghost use Rattle.mesh_hello.specs.Saying.Said.{IsLinkWith};
 
 use mesh_atoms::{Addr4, Link, LinkKey, Metric, Neighbour, Relays, Seq, contains};
 use mesh_nbrs::Near4;

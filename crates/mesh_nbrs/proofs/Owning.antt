@@ -12,7 +12,7 @@ use Rattle.mesh_atoms.specs.Words.{IsKept, Meets}
 use Rattle.mesh_atoms.proofs.Lookups.{addr_equiv, same_addr}
 use Rattle.mesh_expire.specs.Table.{changed_at}
 use Rattle.mesh_expire.proofs.Laws.{find-changed_at}
-use Rattle.mesh_nbrs.specs.Owners.{owner_of, addrs_at, HasAt, Owned, KeepsAddrs, Leaves, SetsOwner}
+use Rattle.mesh_nbrs.specs.Owners.{owner_of, addrs_at, HasAt, Owned, KeepsAddrs, LeavesNotesOf, SetsOwner}
 use Rattle.mesh_nbrs.proofs.Listed.{contains_of, unlisted_of, any_take}
 use Rattle.mesh_nbrs.proofs.Sets.{set_there, set_elsewhere}
 
@@ -84,14 +84,14 @@ pub owned_same : (first second : Owners) (base : Nbrs) → Owned first base → 
 owned_same first second base owned same a o = ((λ noted. (owned a o).0 (sym (same a) ∙ noted)), (λ has. same a ∙ (owned a o).1 has))
 
 -- some neighbours stay, and their notes
-pub owned_left : (Stays : Addr4 → Type 0) (first second : Owners) (old new : Nbrs) → Owned first old → Leaves Stays first second → ((o : Addr4) → Stays o → addrs_at new o ≡ addrs_at old o)
+pub owned_left : (Stays : Addr4 → Type 0) (first second : Owners) (old new : Nbrs) → Owned first old → LeavesNotesOf Stays first second → ((o : Addr4) → Stays o → addrs_at new o ≡ addrs_at old o)
     → ((o : Addr4) (addrs : List Addr4) → addrs_at new o ≡ Some addrs → Stays o) → Owned second new
 owned_left Stays first second old new owned leaves same there a o = (
   (λ noted. let before = (leaves a o).0 noted in let h = (owned a o).0 before.0 in (h.0, same o before.1 ∙ h.1, h.2)),
   (λ has. let stays = there o has.0 has.1 in (leaves a o).1 ((owned a o).1 (has.0, sym (same o stays) ∙ has.1, has.2), stays)),
 )
 
-pub owned_removed : (first second : Owners) (old new : Nbrs) (originator : Addr4) → Owned first old → Leaves (λ o. o ≢ originator) first second → SetsOnly addr_eq old new originator None → Owned second new
+pub owned_removed : (first second : Owners) (old new : Nbrs) (originator : Addr4) → Owned first old → LeavesNotesOf (λ o. o ≢ originator) first second → SetsOnly addr_eq old new originator None → Owned second new
 owned_removed first second old new originator owned leaves sets = owned_left (λ o. o ≢ originator) first second old new owned leaves
     (λ o apart. ap (option_map (λ (e : Neighbour × ℕ). e.0.addrs)) (set_elsewhere old new originator None sets same_addr o apart))
     (λ o addrs at mine.
@@ -109,7 +109,7 @@ some_of None addrs at = absurd cc
 some_of (Some e) addrs at = refl
 
 pub owned_purged : (Stays : Addr4 → Neighbour × ℕ → Type 0) (first second : Owners) (old new : Nbrs) → Owned first old → ((o : Addr4) → IsKept (Stays o) (find addr_eq old o) (find addr_eq new o))
-    → Leaves (λ o. IsSome (find addr_eq new o)) first second → Owned second new
+    → LeavesNotesOf (λ o. IsSome (find addr_eq new o)) first second → Owned second new
 owned_purged Stays first second old new owned kept leaves = owned_left (λ o. IsSome (find addr_eq new o)) first second old new owned leaves
     (λ o some. ap (option_map (λ (e : Neighbour × ℕ). e.0.addrs)) (kept_there (Stays o) (find addr_eq old o) (find addr_eq new o) (kept o) some))
     (λ o addrs at. some_of (find addr_eq new o) addrs at)
@@ -131,7 +131,7 @@ leaves_tested test (Some p) after o is = by_test (test p) refl where
 -- ---- one neighbour's notes go
 
 module _ (old new : Owners) (base : Nbrs) (originator : Addr4) (owned : Owned old base) where
-  pub disowned : (addrs : List Addr4) → addrs_at base originator ≡ Some addrs → SetsOwner addrs None old new → Leaves (λ o. o ≢ originator) old new
+  pub disowned : (addrs : List Addr4) → addrs_at base originator ≡ Some addrs → SetsOwner addrs None old new → LeavesNotesOf (λ o. o ≢ originator) old new
   disowned addrs at sets a o = by_listed (list_any (λ x. addr_eq x a) addrs) refl where
     not_listed : list_any (λ x. addr_eq x a) addrs ≡ false → owner_of old a ≡ Some o → o ≡ originator → ⊥
     not_listed is noted mine =
@@ -151,7 +151,7 @@ module _ (old new : Owners) (base : Nbrs) (originator : Addr4) (owned : Owned ol
         let same : owner_of new a ≡ owner_of old a = sets a ∙ rw is refl in
         ((λ noted. (sym same ∙ noted, not_listed is (sym same ∙ noted))), (λ was. same ∙ was.0))
 
-  pub not_there : find addr_eq base originator ≡ None → Leaves (λ o. o ≢ originator) old old
+  pub not_there : find addr_eq base originator ≡ None → LeavesNotesOf (λ o. o ≢ originator) old old
   not_there none a o = ((λ noted. (noted, (λ mine. noted_stands old base owned a o noted (ap (find addr_eq base) mine ∙ none)))), (λ was. was.0))
 
 -- ---- a neighbour is put in

@@ -14,7 +14,7 @@ use Rattle.std.proofs.lemmas.List.Folds.{list_any_at}
 use Rattle.mesh_atoms.specs.Codes.Codes.{metric_value}
 use Rattle.mesh_nbrs.specs.declared.neighbours.LinkNote.{LinkNote}
 use Rattle.mesh_nbrs.specs.declared.summary.Summary.{Summary}
-use Rattle.mesh_nbrs.specs.Neighbours.{HasNote, HasNoNote, IsSummary, IsByNotes, RestoresBy, HasSummary, by_summary}
+use Rattle.mesh_nbrs.specs.Neighbours.{HasNote, HasNoNote, IsNotesSummary, IsByNotes, RestoresBy, HasSummary, by_summary}
 
 -- ---- the least metric
 
@@ -39,7 +39,7 @@ least_joined P N (Some x) (Some b) h k = (
 -- ---- all that notes tell
 
 -- the same notes
-pub summary_same : {P Q : LinkNote → Type 0} (s : Summary) → ((n : LinkNote) → P n → Q n) → ((n : LinkNote) → Q n → P n) → IsSummary P s → IsSummary Q s
+pub summary_same : {P Q : LinkNote → Type 0} (s : Summary) → ((n : LinkNote) → P n → Q n) → ((n : LinkNote) → Q n → P n) → IsNotesSummary P s → IsNotesSummary Q s
 summary_same s to from h = record {
   latest = elim h.latest [ inl z ↦ inl z | inr p ↦ inr (p.0, to p.0 p.1, p.2) ];
   no_later = λ n q. h.no_later n (from n q);
@@ -80,8 +80,8 @@ module _ (P Q : LinkNote → Type 0) where
       from : (m : Metric) → (note : LinkNote) × (Both note × IsTrue note.symmetric) × shows note m → ((note : LinkNote) × (P note × IsTrue note.symmetric) × shows note m) ⊎ ((note : LinkNote) × (Q note × IsTrue note.symmetric) × shows note m)
       from m b = elim b.1.0 [ inl p ↦ inl (b.0, (p, b.1.1), b.2) | inr q ↦ inr (b.0, (q, b.1.1), b.2) ]
 
-  pub summary_both : (s t r : Summary) → IsSummary P s → IsSummary Q t → r.symmetric ≡ (s.symmetric || t.symmetric) → IsLeastMetric (λ m. (s.metric_in ≡ Some m) ⊎ (t.metric_in ≡ Some m)) r.metric_in
-      → IsLeastMetric (λ m. (s.metric_out ≡ Some m) ⊎ (t.metric_out ≡ Some m)) r.metric_out → r.until ≡ max s.until t.until → IsSummary Both r
+  pub summary_both : (s t r : Summary) → IsNotesSummary P s → IsNotesSummary Q t → r.symmetric ≡ (s.symmetric || t.symmetric) → IsLeastMetric (λ m. (s.metric_in ≡ Some m) ⊎ (t.metric_in ≡ Some m)) r.metric_in
+      → IsLeastMetric (λ m. (s.metric_out ≡ Some m) ⊎ (t.metric_out ≡ Some m)) r.metric_out → r.until ≡ max s.until t.until → IsNotesSummary Both r
   summary_both s t r h k symmetric metric_in metric_out until = record {
     latest = elim (greater s.until t.until) [
       | inl first ↦ elim h.latest [ inl z ↦ inl (until ∙ first ∙ z) | inr p ↦ inr (p.0, inl p.1, p.2 ∙ sym (until ∙ first)) ]
@@ -111,7 +111,7 @@ module _ (x : LinkNote) where
   is_symmetric_note : (n : LinkNote) → This n → IsTrue n.symmetric → IsTrue x.symmetric
   is_symmetric_note n is so = subst (λ (m : LinkNote). IsTrue m.symmetric) is so
 
-  pub of_symmetric : x.symmetric ≡ true → IsSummary (λ n. n ≡ x) (record { symmetric = true; metric_in = Some x.link_in; metric_out = x.link_out; until = x.until })
+  pub of_symmetric : x.symmetric ≡ true → IsNotesSummary (λ n. n ≡ x) (record { symmetric = true; metric_in = Some x.link_in; metric_out = x.link_out; until = x.until })
   of_symmetric so = record {
     latest = inr (x, refl, refl);
     no_later = λ n is. rw is (omega arith);
@@ -130,7 +130,7 @@ module _ (x : LinkNote) where
           rw same (omega arith),
     )
 
-  pub of_other : x.symmetric ≡ false → IsSummary (λ n. n ≡ x) (record { symmetric = false; metric_in = None; metric_out = None; until = x.until })
+  pub of_other : x.symmetric ≡ false → IsNotesSummary (λ n. n ≡ x) (record { symmetric = false; metric_in = None; metric_out = None; until = x.until })
   of_other not_so = record {
     latest = inr (x, refl, refl);
     no_later = λ n is. rw is (omega arith);
@@ -156,7 +156,7 @@ noted notes addrs = by_test (list_any theirs notes) refl where
       absurd (let clash : true ≡ false = sym (list_any_at theirs notes has.0.0 note has.0.1 passes) ∙ is in cc))
 
 -- what notes tell of a neighbour that has one
-by_notes : (notes : List LinkNote) (n : Neighbour) (s : Summary) (note : LinkNote) → HasNote notes n.addrs note → IsSummary (HasNote notes n.addrs) s → IsByNotes notes (by_summary s n) s.until
+by_notes : (notes : List LinkNote) (n : Neighbour) (s : Summary) (note : LinkNote) → HasNote notes n.addrs note → IsNotesSummary (HasNote notes n.addrs) s → IsByNotes notes (by_summary s n) s.until
 by_notes notes n s note has h = record {
   latest = elim h.latest [ inl zero ↦ (note, has, omega (arith, h.no_later note has, zero)) | inr last ↦ last ];
   no_later = h.no_later;

@@ -55,7 +55,7 @@ RestoresBy notes (Some e) None = HasNoNote notes e.0.addrs
 RestoresBy notes (Some e) (Some f) = RenewsBy notes e.0 f.0 f.1
 
 -- what some notes tell together, by itself: the same, with the moment 0 where there are none
-pub record IsSummary (Is : LinkNote → Type 0) (s : Summary) : Type 0 where
+pub record IsNotesSummary (Is : LinkNote → Type 0) (s : Summary) : Type 0 where
   pub latest : (s.until ≡ 0) ⊎ ((note : LinkNote) × Is note × (note.until ≡ s.until))
   pub no_later : (note : LinkNote) → Is note → note.until ≤ s.until
   pub symmetric : IsTrue s.symmetric ↔ ((note : LinkNote) × (Is note × IsTrue note.symmetric))
@@ -69,4 +69,4 @@ by_summary s n = record n { symmetric = s.symmetric; metric_in = s.metric_in; me
 -- what becomes of a neighbour that has notes or not: it has what they tell
 abbrev pub HasSummary : List LinkNote → Option (Neighbour × ℕ) → Option (Neighbour × ℕ) → Type 0
 HasSummary notes None new = new ≡ None
-HasSummary notes (Some e) new = (s : Summary) × IsSummary (HasNote notes e.0.addrs) s × (new ≡ Some (by_summary s e.0, s.until))
+HasSummary notes (Some e) new = (s : Summary) × IsNotesSummary (HasNote notes e.0.addrs) s × (new ≡ Some (by_summary s e.0, s.until))

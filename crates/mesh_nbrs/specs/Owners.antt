@@ -32,8 +32,8 @@ abbrev pub KeepsAddrs : Base Addr4 Neighbour → Base Addr4 Neighbour → Type 0
 KeepsAddrs old new = (o : Addr4) → addrs_at new o ≡ addrs_at old o
 
 -- the notes of those originators stay, and all others go
-abbrev pub Leaves : (Addr4 → Type 0) → List (Addr4 × Addr4) → List (Addr4 × Addr4) → Type 0
-Leaves Stays old new = (a o : Addr4) → (owner_of new a ≡ Some o) ↔ ((owner_of old a ≡ Some o) × Stays o)
+abbrev pub LeavesNotesOf : (Addr4 → Type 0) → List (Addr4 × Addr4) → List (Addr4 × Addr4) → Type 0
+LeavesNotesOf Stays old new = (a o : Addr4) → (owner_of new a ≡ Some o) ↔ ((owner_of old a ≡ Some o) × Stays o)
 
 -- these addresses have this noted, and each other one what it had
 abbrev pub SetsOwner : List Addr4 → Option Addr4 → List (Addr4 × Addr4) → List (Addr4 × Addr4) → Type 0

@@ -2,7 +2,7 @@
 ghost use Rattle.std.specs.Prelude.{◌≡◌, ◌+◌, ◌<◌, ◌≤◌, IfSome, IfNone, ℕ, length, slice_get, Some};
 ghost use Rattle.mesh_atoms.specs.Base.{find, HasDistinctKeys, addr_eq};
 ghost use Rattle.mesh_atoms.specs.Words.{IsKept};
-ghost use Rattle.mesh_nbrs.specs.Parts.{HasPart};
+ghost use Rattle.mesh_nbrs.specs.Parts.{HasSummaryAt};
 
 use crate::parts::has_part;
 use crate::summary::Summary;
@@ -18,9 +18,9 @@ fn next_in<T: Table<Addr4, Neighbour>>(
     end: usize,
 ) -> Option<(usize, Addr4)>
     requires { HasDistinctKeys addr_eq (T.content table.now) }
-    ensures some { IfSome result (λ next. (e : _) × (find addr_eq (T.content table.now) next.1 ≡ Some e) × (HasPart parts.now.entries e.0.addrs → ⊥)) }
+    ensures some { IfSome result (λ next. (e : _) × (find addr_eq (T.content table.now) next.1 ≡ Some e) × (HasSummaryAt parts.now.entries e.0.addrs → ⊥)) }
     ensures none { IfNone result ((place : ℕ) (e : _) → start ≤ place → place < end → slice_get (T.content table.now) place ≡ Some e
-        → (HasPart parts.now.entries e.1.0.addrs → ⊥) → ⊥) }
+        → (HasSummaryAt parts.now.entries e.1.0.addrs → ⊥) → ⊥) }
 {
     for place in start..end {
         if let Some((originator, neighbour, _)) = table.at(place) {
@@ -39,8 +39,8 @@ fn next_from<T: Table<Addr4, Neighbour>>(
     start: usize,
 ) -> Option<(usize, Addr4)>
     requires { HasDistinctKeys addr_eq (T.content table.now) }
-    ensures some { IfSome result (λ next. (e : _) × (find addr_eq (T.content table.now) next.1 ≡ Some e) × (HasPart parts.now.entries e.0.addrs → ⊥)) }
-    ensures none { IfNone result ((q : Addr4) (e : _) → find addr_eq (T.content table.now) q ≡ Some e → (HasPart parts.now.entries e.0.addrs → ⊥) → ⊥) }
+    ensures some { IfSome result (λ next. (e : _) × (find addr_eq (T.content table.now) next.1 ≡ Some e) × (HasSummaryAt parts.now.entries e.0.addrs → ⊥)) }
+    ensures none { IfNone result ((q : Addr4) (e : _) → find addr_eq (T.content table.now) q ≡ Some e → (HasSummaryAt parts.now.entries e.0.addrs → ⊥) → ⊥) }
 {
     match next_in(table, parts, start, table.len()) {
         Some(next) => Some(next),
@@ -52,7 +52,7 @@ fn next_from<T: Table<Addr4, Neighbour>>(
 /// the place of the one before.
 pub fn end_all<T: Table<Addr4, Neighbour>>(table: &mut T, parts: &IndexMap<Addr4, Summary>) -> usize
     requires { HasDistinctKeys addr_eq (T.content table.old) }
-    ensures kept { (q : Addr4) → IsKept (λ e. (HasPart parts.now.entries e.0.addrs → ⊥) → ⊥) (find addr_eq (T.content table.old) q) (find addr_eq (T.content table.new) q) }
+    ensures kept { (q : Addr4) → IsKept (λ e. (HasSummaryAt parts.now.entries e.0.addrs → ⊥) → ⊥) (find addr_eq (T.content table.old) q) (find addr_eq (T.content table.new) q) }
     ensures count { result + length (T.content table.new) ≡ length (T.content table.old) }
     ensures none { result ≡ 0 → T.content table.new ≡ T.content table.old }
     ensures distinct { HasDistinctKeys addr_eq (T.content table.new) }

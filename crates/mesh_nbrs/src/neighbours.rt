@@ -9,7 +9,7 @@ ghost use Rattle.mesh_expire.specs.Table.{changed_at, entry_of};
 ghost use Rattle.mesh_nbrs.specs.declared.neighbours.LinkNote.{LinkNote};
 ghost use Rattle.mesh_nbrs.specs.Neighbours.{Replaces, RestoresBy, IsSpokenOf, HasSummary, by_summary};
 ghost use Rattle.mesh_nbrs.specs.Owners.{Owned, KeepsAddrs};
-ghost use Rattle.mesh_nbrs.specs.Parts.{AreParts};
+ghost use Rattle.mesh_nbrs.specs.Parts.{AreSummariesOf};
 
 use crate::owners::{all_spoken_of, end_owned, remove_owned};
 use crate::parts::{has_part, parts_of, together};
@@ -167,7 +167,7 @@ fn renew_all<T: Table<Addr4, Neighbour>>(
     parts: &IndexMap<Addr4, Summary>,
 ) -> Result<(), AllocError>
     requires { HasDistinctKeys addr_eq (T.content table.old) }
-    ensures ok { OnOk result ((notes : List LinkNote) → AreParts notes parts.now.entries
+    ensures ok { OnOk result ((notes : List LinkNote) → AreSummariesOf notes parts.now.entries
         → (o : Addr4) → HasSummary notes (find addr_eq (T.content table.old) o) (find addr_eq (T.content table.new) o)) }
     ensures addrs { KeepsAddrs (T.content table.old) (T.content table.new) }
     ensures distinct { HasDistinctKeys addr_eq (T.content table.new) }
@@ -195,7 +195,7 @@ fn follow_parts<T: Table<Addr4, Neighbour>>(
     requires owned { Owned owners.old.entries (T.content table.old) }
     requires distinct { HasDistinctKeys addr_eq (T.content table.old) }
     ensures owned { Owned owners.new.entries (T.content table.new) }
-    ensures one { OnOk result ((notes : List LinkNote) → AreParts notes parts.now.entries
+    ensures one { OnOk result ((notes : List LinkNote) → AreSummariesOf notes parts.now.entries
         → RestoresBy notes (find addr_eq (T.content table.old) originator) (find addr_eq (T.content table.new) originator)) }
     ensures others { OnOk result ((o : Addr4) → o ≢ originator → find addr_eq (T.content table.new) o ≡ find addr_eq (T.content table.old) o) }
     ensures distinct { HasDistinctKeys addr_eq (T.content table.new) }

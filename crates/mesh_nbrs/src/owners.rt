@@ -6,8 +6,8 @@ ghost use Rattle.mesh_atoms.specs.declared.addr.Addr4.{Addr4};
 ghost use Rattle.mesh_atoms.specs.Base.{HasDistinctKeys, SetsOnly, find, addr_eq};
 ghost use Rattle.mesh_atoms.specs.Words.{IsKept};
 ghost use Rattle.mesh_nbrs.specs.Neighbours.{IsSpokenOf};
-ghost use Rattle.mesh_nbrs.specs.Owners.{Owned, Leaves, SetsOwner, owner_of, is_owner};
-ghost use Rattle.mesh_nbrs.specs.Parts.{HasPart};
+ghost use Rattle.mesh_nbrs.specs.Owners.{Owned, LeavesNotesOf, SetsOwner, owner_of, is_owner};
+ghost use Rattle.mesh_nbrs.specs.Parts.{HasSummaryAt};
 
 use crate::ends::end_all;
 use crate::summary::Summary;
@@ -60,7 +60,7 @@ fn disown_at<T: Table<Addr4, Neighbour>>(
     originator: Addr4,
 )
     requires { Owned owners.old.entries (T.content table.now) }
-    ensures { Leaves (λ o. o ≢ originator) owners.old.entries owners.new.entries }
+    ensures { LeavesNotesOf (λ o. o ≢ originator) owners.old.entries owners.new.entries }
 {
     if let Some((neighbour, _)) = table.get(&originator) {
         disown(owners, neighbour.addrs.as_slice());
@@ -92,7 +92,7 @@ fn stands<T: Table<Addr4, Neighbour>>(table: &T, originator: &Addr4) -> bool
 
 // Takes out each address whose neighbour is gone. Goes over the whole map. Takes no memory.
 fn purge<T: Table<Addr4, Neighbour>>(owners: &mut IndexMap<Addr4, Addr4>, table: &T)
-    ensures { Leaves (λ o. IsSome (find addr_eq (T.content table.now) o)) owners.old.entries owners.new.entries }
+    ensures { LeavesNotesOf (λ o. IsSome (find addr_eq (T.content table.now) o)) owners.old.entries owners.new.entries }
 {
     // Its keys are distinct, which the proof needs.
     let _count = owners.len();
@@ -108,7 +108,7 @@ pub fn end_owned<T: Table<Addr4, Neighbour>>(
     requires owned { Owned owners.old.entries (T.content table.old) }
     requires distinct { HasDistinctKeys addr_eq (T.content table.old) }
     ensures owned { Owned owners.new.entries (T.content table.new) }
-    ensures kept { (q : Addr4) → IsKept (λ e. (HasPart parts.now.entries e.0.addrs → ⊥) → ⊥) (find addr_eq (T.content table.old) q) (find addr_eq (T.content table.new) q) }
+    ensures kept { (q : Addr4) → IsKept (λ e. (HasSummaryAt parts.now.entries e.0.addrs → ⊥) → ⊥) (find addr_eq (T.content table.old) q) (find addr_eq (T.content table.new) q) }
     ensures distinct { HasDistinctKeys addr_eq (T.content table.new) }
 {
     if end_all(table, parts) > 0 {

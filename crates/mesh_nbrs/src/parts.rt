@@ -3,8 +3,8 @@ ghost use Rattle.std.specs.Prelude.{◌↔◌, ◌++◌, ◌∷◌, [], List, If
 ghost use Rattle.std.specs.Option.{option_copied};
 ghost use Rattle.mesh_atoms.specs.declared.addr.Addr4.{Addr4};
 ghost use Rattle.mesh_nbrs.specs.declared.neighbours.LinkNote.{LinkNote};
-ghost use Rattle.mesh_nbrs.specs.Neighbours.{HasNote, IsSummary};
-ghost use Rattle.mesh_nbrs.specs.Parts.{IsPart, AreParts, part_of, HasPart};
+ghost use Rattle.mesh_nbrs.specs.Neighbours.{HasNote, IsNotesSummary};
+ghost use Rattle.mesh_nbrs.specs.Parts.{IsSummaryOf, AreSummariesOf, part_of, HasSummaryAt};
 
 use crate::neighbours::LinkNote;
 use crate::summary::{Summary, joined, summary_of};
@@ -14,7 +14,7 @@ use std::alloc::{AllocError, Global};
 
 // What the notes of an address tell, with one more.
 fn with_note(part: Option<&Summary>, note: &LinkNote) -> Summary
-    ensures { (notes : List LinkNote) → IsPart notes note.now.key.addr (option_copied part.entry) → IsPart (notes ++ note.now ∷ []) note.now.key.addr (Some result) }
+    ensures { (notes : List LinkNote) → IsSummaryOf notes note.now.key.addr (option_copied part.entry) → IsSummaryOf (notes ++ note.now ∷ []) note.now.key.addr (Some result) }
 {
     let told = summary_of(note);
     match part {
@@ -25,7 +25,7 @@ fn with_note(part: Option<&Summary>, note: &LinkNote) -> Summary
 
 // Adds a note to those of its address.
 fn add_note(parts: &mut IndexMap<Addr4, Summary>, note: &LinkNote) -> Result<(), AllocError>
-    ensures { OnOk result ((notes : List LinkNote) → AreParts notes parts.old.entries → AreParts (notes ++ note.now ∷ []) parts.new.entries) }
+    ensures { OnOk result ((notes : List LinkNote) → AreSummariesOf notes parts.old.entries → AreSummariesOf (notes ++ note.now ∷ []) parts.new.entries) }
 {
     let addr = note.key.addr;
     let part = with_note(parts.get(&addr), note);
@@ -35,7 +35,7 @@ fn add_note(parts: &mut IndexMap<Addr4, Summary>, note: &LinkNote) -> Result<(),
 
 /// What the notes tell of each address.
 pub fn parts_of(alloc: Global, notes: &[LinkNote]) -> Result<IndexMap<Addr4, Summary>, AllocError>
-    ensures { IfOk result (λ parts. AreParts notes.now parts.entries) }
+    ensures { IfOk result (λ parts. AreSummariesOf notes.now parts.entries) }
 {
     let mut parts = IndexMap::new(alloc);
     for note in notes {
@@ -53,7 +53,7 @@ fn is_noted(parts: &IndexMap<Addr4, Summary>, addr: Addr4) -> bool
 
 /// Whether notes are of one of the addresses.
 pub fn has_part(parts: &IndexMap<Addr4, Summary>, addrs: &[Addr4]) -> bool
-    ensures { IsTrue result ↔ HasPart parts.now.entries addrs.now }
+    ensures { IsTrue result ↔ HasSummaryAt parts.now.entries addrs.now }
 {
     for addr in addrs {
         if is_noted(parts, *addr) {
@@ -65,7 +65,7 @@ pub fn has_part(parts: &IndexMap<Addr4, Summary>, addrs: &[Addr4]) -> bool
 
 // With what the notes of one more address tell.
 fn with_part(so_far: &Summary, parts: &IndexMap<Addr4, Summary>, addr: Addr4) -> Summary
-    ensures { (notes : List LinkNote) (addrs : List Addr4) → AreParts notes parts.now.entries → IsSummary (HasNote notes addrs) so_far.now → IsSummary (HasNote notes (addrs ++ addr ∷ [])) result }
+    ensures { (notes : List LinkNote) (addrs : List Addr4) → AreSummariesOf notes parts.now.entries → IsNotesSummary (HasNote notes addrs) so_far.now → IsNotesSummary (HasNote notes (addrs ++ addr ∷ [])) result }
 {
     match parts.get(&addr) {
         Some(part) => joined(so_far, part),
@@ -76,7 +76,7 @@ fn with_part(so_far: &Summary, parts: &IndexMap<Addr4, Summary>, addr: Addr4) ->
 /// What the notes of the neighbour with these addresses tell together; its moment is 0 where there are none. Looks each
 /// address up once.
 pub fn together(parts: &IndexMap<Addr4, Summary>, addrs: &[Addr4]) -> Summary
-    ensures { (notes : List LinkNote) → AreParts notes parts.now.entries → IsSummary (HasNote notes addrs.now) result }
+    ensures { (notes : List LinkNote) → AreSummariesOf notes parts.now.entries → IsNotesSummary (HasNote notes addrs.now) result }
 {
     let mut summary = Summary {
         symmetric: false,

@@ -1,7 +1,7 @@
 //! What notes of links tell together.
 ghost use Rattle.std.specs.Prelude.{◌≡◌, ◌⊎◌, ◌||◌, Some, max};
 ghost use Rattle.mesh_atoms.specs.Words.{IsLeastMetric};
-ghost use Rattle.mesh_nbrs.specs.Neighbours.{IsSummary};
+ghost use Rattle.mesh_nbrs.specs.Neighbours.{IsNotesSummary};
 
 use crate::neighbours::LinkNote;
 use mesh_atoms::{Metric, least_metric};
@@ -17,7 +17,7 @@ pub struct Summary {
 
 /// What one note tells.
 pub fn summary_of(note: &LinkNote) -> Summary
-    ensures { IsSummary (λ n. n ≡ note.now) result }
+    ensures { IsNotesSummary (λ n. n ≡ note.now) result }
 {
     if note.symmetric {
         Summary {

@@ -14,7 +14,7 @@ use Rattle.mesh_atoms.specs.State.{Neighbourhood, is_symmetric}
 use Rattle.mesh_atoms.specs.Live.{HasLinkOf, HasSymmetricOf, IsByLinks, Restores, SettlesLost, Back, Gone, Stays}
 use Rattle.mesh_atoms.specs.Words.{IsLeastMetric, IsKept, IsBeyond, Meets}
 use Rattle.mesh_atoms.specs.HelloTold.{Told}
-use Rattle.mesh_atoms.specs.AfterHello.{GoesOn, IsApart, IsTheirs, Begins, Stood, Made, renewed, Matches, announced, BecomesOther, Joins, Remains}
+use Rattle.mesh_atoms.specs.AfterHello.{GoesOn, IsApart, IsTheirs, LinkKeptOrMade, Stood, Made, renewed, Matches, announced, BecomesOther, Joins, Remains}
 use Rattle.mesh_links.specs.Links.{EndsOutside, HearsOn}
 use Rattle.mesh_nbrs.specs.Neighbours.{HasNote, HasSymmetricNote, IsByNotes, RestoresBy, Replaces}
 use Rattle.mesh_nhdp.specs.Calls.{note_of, TellsLinks, TellsLinksOf}
@@ -145,7 +145,7 @@ module _ (near : Neighbourhood) (told : Told) (theirs : List Addr4) (is_theirs :
 
   -- the link that is renewed stood before where it stands after `end_outside`
   begins_before : (rule : Admit) (now : ℕ) (old mid : Option (Link × ℕ)) (start : Link × ℕ) →
-      IsKept (λ e. (Meets e.0.addrs theirs × IsBeyond e.0.addrs told.listed) → ⊥) old mid → Begins rule told.shown now mid start → Begins rule told.shown now old start
+      IsKept (λ e. (Meets e.0.addrs theirs × IsBeyond e.0.addrs told.listed) → ⊥) old mid → LinkKeptOrMade rule told.shown now mid start → LinkKeptOrMade rule told.shown now old start
   begins_before rule now old mid start k (Stood e at same) = Stood e (kept_from (λ e. (Meets e.0.addrs theirs × IsBeyond e.0.addrs told.listed) → ⊥) old mid e k at).1 same
   begins_before rule now old mid start k (Made none) = Made (λ e at same. still old k e at same)
     where
@@ -158,7 +158,7 @@ module _ (near : Neighbourhood) (told : Told) (theirs : List Addr4) (is_theirs :
       still (Some f) (inr k) e at same = k.0 (λ both. not_beyond f (ap (λ (x : Link × ℕ). x.0.addrs) (same_some refl at) ∙ same) both.1)
 
   pub hears_link : (rule : Admit) (hold now : ℕ) (old mid new : Base LinkKey Link) → EndsOutside theirs told.listed old mid → HearsOn rule told.shown told.least hold now mid new →
-      (start : Link × ℕ) × Begins rule told.shown now (find link_eq old told.least) start × (find link_eq new told.least ≡ Some (renewed told.shown hold now start))
+      (start : Link × ℕ) × LinkKeptOrMade rule told.shown now (find link_eq old told.least) start × (find link_eq new told.least ≡ Some (renewed told.shown hold now start))
   hears_link rule hold now old mid new ends hears =
       let (start, begins, stands) = hears.one in
       (start, begins_before rule now (find link_eq old told.least) (find link_eq mid told.least) start (ends told.least) begins, stands)

@@ -19,7 +19,7 @@ use Rattle.mesh_atoms.specs.State.{Neighbourhood}
 use Rattle.mesh_atoms.specs.Quality.{rule_in, rule_of}
 use Rattle.mesh_atoms.specs.Live.{LiveNeighbourhood}
 use Rattle.mesh_atoms.specs.Sound.{SoundNeighbourhood}
-use Rattle.mesh_nhdp.specs.declared.near_addresses.Wanted.TheVariants.{Symmetric}
+use Rattle.mesh_nhdp.specs.declared.near_addresses.WantedNeighbours.TheVariants.{Symmetric}
 use Rattle.mesh_nhdp.specs.Follows.{FollowsLinks}
 use Rattle.mesh_nhdp.specs.Interfaces.{ExpiresOn}
 use Rattle.mesh_nhdp.specs.NhdpState.{near_with}

@@ -13,7 +13,7 @@ use Rattle.mesh_atoms.specs.State.{Neighbourhood}
 use Rattle.mesh_atoms.specs.TakesHello.{IsHeld}
 use Rattle.mesh_atoms.specs.Words.{AreMoreThan}
 use Rattle.mesh_atoms.proofs.Lookups.{addr_equiv, same_addr}
-use Rattle.mesh_nhdp.specs.declared.near_addresses.Wanted.TheVariants.{Each}
+use Rattle.mesh_nhdp.specs.declared.near_addresses.WantedNeighbours.TheVariants.{Each}
 use Rattle.mesh_nhdp.specs.Wanted.{IsWantedAddress}
 use Rattle.mesh_hello.proofs.Fits.{distinct_fits}
 use Rattle.mesh_nhdp.proofs.Limits.{found_if_key}

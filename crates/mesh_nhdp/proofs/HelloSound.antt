@@ -18,10 +18,10 @@ use Rattle.mesh_atoms.specs.declared.hello.LinkStatus.TheVariants.{Lost as Down,
 use Rattle.mesh_atoms.specs.declared.settings.RouterSettings.{RouterSettings}
 use Rattle.mesh_atoms.specs.Base.{Base, find, base_of, two_hop_eq}
 use Rattle.mesh_atoms.specs.State.{Neighbourhood, is_symmetric, is_heard, link_at, two_hop_at, neighbour_at, lost_at, HasAddress}
-use Rattle.mesh_atoms.specs.Live.{trimmed, Renews, is_symmetric_at}
+use Rattle.mesh_atoms.specs.Live.{trimmed, KeepsNeighbour, is_symmetric_at}
 use Rattle.mesh_atoms.specs.Words.{IsAscending, IsKept}
 use Rattle.mesh_atoms.specs.HelloTold.{Told, Tells, IsListed, LooksAt, tells_symmetric, two_hop_of}
-use Rattle.mesh_atoms.specs.AfterHello.{AfterHello, Begins, Stood, Made, renewed, by_status, by_hearing, GoesOn, Matches, announced, BecomesOther, Joins, Remains, StoodOn, Same_link, New_link, TellsTwoHop, By_row, By_none}
+use Rattle.mesh_atoms.specs.AfterHello.{AfterHello, LinkKeptOrMade, Stood, Made, renewed, by_status, by_hearing, GoesOn, Matches, announced, BecomesOther, Joins, Remains, StoodOn, Same_link, New_link, TellsTwoHop, By_row, By_none}
 use Rattle.mesh_atoms.specs.TakesHello.{IsHeld, IsFault, Local, Originator, Sender, IsFullOfAddresses, FitsTwoHops}
 use Rattle.mesh_atoms.specs.Sound.{SoundNeighbourhood, IsSoundLink, IsSoundNeighbour}
 use Rattle.mesh_atoms.proofs.Lookups.{two_hop_equiv}
@@ -72,7 +72,7 @@ is_renewed shown hold now e holds =
       selector = t.selector;
     }
 
-begins_addrs : {rule : Admit} {shown : Shown} {now : ℕ} {old : Option (Link × ℕ)} {start : Link × ℕ} → Begins rule shown now old start → start.0.addrs ≡ shown.sending
+begins_addrs : {rule : Admit} {shown : Shown} {now : ℕ} {old : Option (Link × ℕ)} {start : Link × ℕ} → LinkKeptOrMade rule shown now old start → start.0.addrs ≡ shown.sending
 begins_addrs (Stood e at same) = same
 begins_addrs (Made none) = refl
 
@@ -100,11 +100,11 @@ module _ (settings : RouterSettings) (now i : ℕ) (sender : Addr4) (hello : Hel
       (One refl refl (r.alike.addrs ∙ begins_addrs begins) (r.later (begins_later begins)) r.link_out r.selector
       (follows_alike (rule_of settings i) now start.0 (renewed told.shown settings.times.link_hold now start).0 r.alike (begins_follows begins)))
     where
-      begins_follows : {start : Link × ℕ} → Begins (rule_of settings i) told.shown now (link_at old i told.least) start → FollowsQuality (rule_of settings i) now start.0
+      begins_follows : {start : Link × ℕ} → LinkKeptOrMade (rule_of settings i) told.shown now (link_at old i told.least) start → FollowsQuality (rule_of settings i) now start.0
       begins_follows (Stood e at same) = follows_if_stays settings i now (link_at old i told.least) e (S.by_quality i told.least) at
       begins_follows (Made none) = made_follows (rule_of settings i) told.shown now
 
-      begins_later : {start : Link × ℕ} → Begins (rule_of settings i) told.shown now (link_at old i told.least) start → now < start.1
+      begins_later : {start : Link × ℕ} → LinkKeptOrMade (rule_of settings i) told.shown now (link_at old i told.least) start → now < start.1
       begins_later (Stood e at same) = ltb-true now e.1 (S.fresh_links i told.least e.0 e.1 at)
       begins_later (Made none) = omega (arith, lasts)
 
@@ -181,14 +181,14 @@ module _ (settings : RouterSettings) (now i : ℕ) (sender : Addr4) (hello : Hel
 
   -- a neighbour after the HELLO: the one that it announces, or one that doesn't match
   pub data IsNeighbour (o : Addr4) (f : Neighbour × ℕ) : Type 0 where
-    Announced : o ≡ told.originator → Renews new now (announced told.listed told.willing told.routing) f.0 f.1 → IsNeighbour o f
-    Another : (e : Neighbour × ℕ) → o ≢ told.originator → neighbour_at old o ≡ Some e → (Matches told.originator told.listed o e.0 → ⊥) → Renews new now e.0 f.0 f.1 → IsNeighbour o f
+    Announced : o ≡ told.originator → KeepsNeighbour new now (announced told.listed told.willing told.routing) f.0 f.1 → IsNeighbour o f
+    Another : (e : Neighbour × ℕ) → o ≢ told.originator → neighbour_at old o ≡ Some e → (Matches told.originator told.listed o e.0 → ⊥) → KeepsNeighbour new now e.0 f.0 f.1 → IsNeighbour o f
 
   pub neighbour_is : (o : Addr4) (f : Neighbour × ℕ) → neighbour_at new o ≡ Some f → IsNeighbour o f
   neighbour_is o f is = elim (same_address o told.originator) [
     | inl same ↦
         let (e, at, r) = restores_from new now (Some (announced told.listed told.willing told.routing, 0)) (neighbour_at new told.originator) f A.neighbour (subst (λ (a : Addr4). neighbour_at new a ≡ Some f) same is) in
-        Announced same (subst (λ (x : Neighbour × ℕ). Renews new now x.0 f.0 f.1) (same_some at refl) r)
+        Announced same (subst (λ (x : Neighbour × ℕ). KeepsNeighbour new now x.0 f.0 f.1) (same_some at refl) r)
     | inr other ↦ by_case other (A.other_neighbours o other)
   ]
     where

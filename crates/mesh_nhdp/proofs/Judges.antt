@@ -14,7 +14,7 @@ use Rattle.mesh_atoms.specs.declared.tuples.Base.{Base}
 use Rattle.mesh_atoms.specs.declared.tuples.Base.TheVariants.{Neighbours, TwoHops}
 use Rattle.mesh_atoms.specs.AfterHello.{AfterHello}
 use Rattle.mesh_atoms.specs.Sound.{SoundNeighbourhood}
-use Rattle.mesh_nhdp.specs.declared.judge.Judgement.TheVariants.{Overfills}
+use Rattle.mesh_nhdp.specs.declared.judge.HelloCheck.TheVariants.{Overfills}
 use Rattle.mesh_nhdp.specs.declared.take.HelloTaken.TheVariants.{Full}
 use Rattle.mesh_nhdp.specs.Judged.{IsFilledBy, Judges, IsAnswer}
 use Rattle.mesh_nhdp.proofs.HelloSound.{hello_sound}

@@ -12,7 +12,7 @@ use Rattle.mesh_atoms.specs.declared.tuples.Lost.{Lost}
 use Rattle.mesh_atoms.specs.declared.settings.RouterSettings.{RouterSettings}
 use Rattle.mesh_atoms.specs.Base.{base_of, if_live}
 use Rattle.mesh_atoms.specs.State.{Neighbourhood, is_symmetric, link_at, two_hop_at, neighbour_at, lost_at, HasAddress}
-use Rattle.mesh_atoms.specs.Live.{LiveNeighbourhood, trimmed, trim, HasLinkOf, Renews, Restores, SettlesLost, Back, Gone, Stays, is_symmetric_at}
+use Rattle.mesh_atoms.specs.Live.{LiveNeighbourhood, trimmed, trim, HasLinkOf, KeepsNeighbour, Restores, SettlesLost, Back, Gone, Stays, is_symmetric_at}
 use Rattle.mesh_atoms.specs.Words.{IsAscending}
 use Rattle.mesh_atoms.specs.TakesHello.{IsHeld}
 use Rattle.mesh_atoms.specs.Sound.{SoundNeighbourhood, IsSoundLink, IsSoundNeighbour}
@@ -75,17 +75,17 @@ link_from settings i now old new e is at =
 -- Neighbours
 
 pub restores_from : (near : Neighbourhood) (now : ℕ) (old new : Option (Neighbour × ℕ)) (f : Neighbour × ℕ) → Restores near now old new → new ≡ Some f →
-    (e : Neighbour × ℕ) × (old ≡ Some e) × Renews near now e.0 f.0 f.1
+    (e : Neighbour × ℕ) × (old ≡ Some e) × KeepsNeighbour near now e.0 f.0 f.1
 restores_from near now None new f r is = none_not r is
 restores_from near now (Some e) None f r is = none_not refl is
-restores_from near now (Some e) (Some g) f r is = (e, refl, subst (λ (x : Neighbour × ℕ). Renews near now e.0 x.0 x.1) (same_some refl is) r)
+restores_from near now (Some e) (Some g) f r is = (e, refl, subst (λ (x : Neighbour × ℕ). KeepsNeighbour near now e.0 x.0 x.1) (same_some refl is) r)
 
 pub restores_to : (near : Neighbourhood) (now : ℕ) (old new : Option (Neighbour × ℕ)) (e : Neighbour × ℕ) (i : ℕ) (key : LinkKey) (f : Link × ℕ) →
-    Restores near now old new → old ≡ Some e → HasLinkOf near e.0.addrs i key f → (g : Neighbour × ℕ) × (new ≡ Some g) × Renews near now e.0 g.0 g.1
+    Restores near now old new → old ≡ Some e → HasLinkOf near e.0.addrs i key f → (g : Neighbour × ℕ) × (new ≡ Some g) × KeepsNeighbour near now e.0 g.0 g.1
 restores_to near now None new e i key f r is has = none_not refl is
 restores_to near now (Some d) None e i key f r is has =
     absurd (r i key f (subst (λ (x : Neighbour × ℕ). HasLinkOf near x.0.addrs i key f) (sym (same_some refl is)) has))
-restores_to near now (Some d) (Some g) e i key f r is has = (g, refl, subst (λ (x : Neighbour × ℕ). Renews near now x.0 g.0 g.1) (same_some refl is) r)
+restores_to near now (Some d) (Some g) e i key f r is has = (g, refl, subst (λ (x : Neighbour × ℕ). KeepsNeighbour near now x.0 g.0 g.1) (same_some refl is) r)
 
 -- Lost addresses
 
@@ -105,7 +105,7 @@ module _ (settings : RouterSettings) (before now : ℕ) (old new : Neighbourhood
   pub link_was : (i : ℕ) (key : LinkKey) (e : Link × ℕ) → link_at new i key ≡ Some e → ComesFrom settings i now (link_at old i key) e
   link_was i key e is = link_from settings i now (link_at old i key) (link_at new i key) e (L.links i key) is
 
-  pub neighbour_was : (o : Addr4) (f : Neighbour × ℕ) → neighbour_at new o ≡ Some f → (e : Neighbour × ℕ) × (neighbour_at old o ≡ Some e) × Renews new now e.0 f.0 f.1
+  pub neighbour_was : (o : Addr4) (f : Neighbour × ℕ) → neighbour_at new o ≡ Some f → (e : Neighbour × ℕ) × (neighbour_at old o ≡ Some e) × KeepsNeighbour new now e.0 f.0 f.1
   neighbour_was o f is = restores_from new now (neighbour_at old o) (neighbour_at new o) f (L.neighbours o) is
 
   new_link : (i : ℕ) (key : LinkKey) (link : Link) (until : ℕ) → link_at new i key ≡ Some (link, until) → IsSoundLink now key link

@@ -23,7 +23,7 @@ use Rattle.mesh_atoms.specs.Live.{trimmed, is_symmetric_at, is_symmetric_entry, 
 use Rattle.mesh_atoms.specs.Sound.{SoundNeighbourhood}
 use Rattle.mesh_atoms.specs.Words.{IsKept, IsLeastMetric}
 use Rattle.mesh_atoms.specs.HelloTold.{Told, tells_symmetric, two_hop_of}
-use Rattle.mesh_atoms.specs.AfterHello.{AfterHello, Begins, Stood, Made, renewed, by_status, GoesOn, Matches, announced, BecomesOther, Joins, Remains, StoodOn, Same_link, New_link, TellsTwoHop, By_row, By_none}
+use Rattle.mesh_atoms.specs.AfterHello.{AfterHello, LinkKeptOrMade, Stood, Made, renewed, by_status, GoesOn, Matches, announced, BecomesOther, Joins, Remains, StoodOn, Same_link, New_link, TellsTwoHop, By_row, By_none}
 use Rattle.mesh_atoms.proofs.CodesLemmas.CodeLaws.{cost-injective}
 use Rattle.mesh_atoms.proofs.Rows.{same_metric}
 use Rattle.mesh_nbrs.specs.Same.{SameTuples, way_at, SameNear}
@@ -172,7 +172,7 @@ module _ (shown : Shown) (hold now : ℕ) (e : Link × ℕ) (lasts : 0 < shown.v
       let c = cut_by now f in
       record { symmetric = c.symmetric ∙ symmetric; link_in = c.link_in ∙ link_in; link_out = c.link_out ∙ out }
 
-begins_one : {rule : Admit} {shown : Shown} {now : ℕ} {old : Option (Link × ℕ)} {start : Link × ℕ} (e : Link × ℕ) → Begins rule shown now old start → old ≡ Some e → e.0.addrs ≡ shown.sending → start ≡ e
+begins_one : {rule : Admit} {shown : Shown} {now : ℕ} {old : Option (Link × ℕ)} {start : Link × ℕ} (e : Link × ℕ) → LinkKeptOrMade rule shown now old start → old ≡ Some e → e.0.addrs ≡ shown.sending → start ≡ e
 begins_one e (Stood f at same) is addrs = same_some at is
 begins_one e (Made none) is addrs = absurd (none e is addrs)
 

@@ -8,13 +8,13 @@ use Rattle.mesh_nbrs.specs.Neighbours.{IsSpokenOf}
 use Rattle.mesh_hello.specs.Gathers.{Gathers}
 use Rattle.mesh_hello.proofs.Collect.{adds_so, adds_nothing}
 use Rattle.mesh_hello.proofs.Lookups.{none_not}
-use Rattle.mesh_nhdp.specs.declared.near_addresses.Wanted.{Wanted}
-use Rattle.mesh_nhdp.specs.declared.near_addresses.Wanted.TheVariants.{Each, Symmetric}
+use Rattle.mesh_nhdp.specs.declared.near_addresses.WantedNeighbours.{WantedNeighbours}
+use Rattle.mesh_nhdp.specs.declared.near_addresses.WantedNeighbours.TheVariants.{Each, Symmetric}
 use Rattle.mesh_nhdp.specs.Wanted.{IsWanted, IsWantedAt, IsSpokenAddress, IsSymmetricSpokenAddress}
 use Rattle.mesh_atoms.proofs.Options.{same_some}
 
 -- what is added of the neighbour that is found
-pub adds_found : (base : Base Addr4 Neighbour) (wanted : Wanted) (o : Addr4) (n : Neighbour) (until : ℕ) (old new : List Addr4) → find addr_eq base o ≡ Some (n, until) →
+pub adds_found : (base : Base Addr4 Neighbour) (wanted : WantedNeighbours) (o : Addr4) (n : Neighbour) (until : ℕ) (old new : List Addr4) → find addr_eq base o ≡ Some (n, until) →
     Gathers old new (λ a. IsWanted wanted n × Contains n.addrs a) → Gathers old new (IsWantedAt base wanted o)
 adds_found base wanted o n until old new is adds = adds_so old new (λ a. IsWanted wanted n × Contains n.addrs a) (IsWantedAt base wanted o) (λ a. (
   (λ h. (n, until, is, h.0, h.1)),
@@ -24,11 +24,11 @@ adds_found base wanted o n until old new is adds = adds_so old new (λ a. IsWant
 )) adds
 
 -- nothing is, where none is found
-pub adds_unfound : (base : Base Addr4 Neighbour) (wanted : Wanted) (o : Addr4) (old new : List Addr4) → new ≡ old → find addr_eq base o ≡ None → Gathers old new (IsWantedAt base wanted o)
+pub adds_unfound : (base : Base Addr4 Neighbour) (wanted : WantedNeighbours) (o : Addr4) (old new : List Addr4) → new ≡ old → find addr_eq base o ≡ None → Gathers old new (IsWantedAt base wanted o)
 adds_unfound base wanted o old new is none = adds_nothing old new (IsWantedAt base wanted o) is (λ a h. let (n, until, at, wants, has) = h in none_not none at)
 
 -- an address of a neighbour with one of these originators, which is wanted
-abbrev IsWantedOf : Base Addr4 Neighbour → List Addr4 → Wanted → Addr4 → Type 0
+abbrev IsWantedOf : Base Addr4 Neighbour → List Addr4 → WantedNeighbours → Addr4 → Type 0
 IsWantedOf base originators wanted a = (o : Addr4) × Contains originators o × IsWantedAt base wanted o a
 
 module _ (base seen : Base Addr4 Neighbour) (told : Addr4) (listed spoken looked addrs : List Addr4) (spoken_are : (o : Addr4) → Contains spoken o ↔ IsSpokenOf base told listed o) (same_base : seen ≡ base) (same : looked ≡ spoken) where
@@ -37,7 +37,7 @@ module _ (base seen : Base Addr4 Neighbour) (told : Addr4) (listed spoken looked
   matched o n until within is = let (e, at, matches) = (spoken_are o).0 within in
       subst (λ (x : Neighbour). Matches told listed o x) (ap (λ (x : Neighbour × ℕ). x.0) (same_some at is)) matches
 
-  wanted_of : (wanted : Wanted) (a : Addr4) → Contains addrs a ↔ IsWantedOf seen looked wanted a → Contains addrs a ↔ IsWantedOf base spoken wanted a
+  wanted_of : (wanted : WantedNeighbours) (a : Addr4) → Contains addrs a ↔ IsWantedOf seen looked wanted a → Contains addrs a ↔ IsWantedOf base spoken wanted a
   wanted_of wanted a are = subst (λ (b : Base Addr4 Neighbour). Contains addrs a ↔ IsWantedOf b spoken wanted a) same_base (subst (λ (os : List Addr4). Contains addrs a ↔ IsWantedOf seen os wanted a) same are)
 
   pub all_spoken : ((a : Addr4) → Contains addrs a ↔ ((o : Addr4) × Contains looked o × IsWantedAt seen Each o a)) → (a : Addr4) → Contains addrs a ↔ IsSpokenAddress base told listed a

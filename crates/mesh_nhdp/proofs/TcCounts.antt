@@ -14,7 +14,7 @@ use Rattle.mesh_atoms.specs.declared.addr.NetAddr.{NetAddr}
 use Rattle.mesh_atoms.specs.declared.codes.metric.Metric.{Metric}
 use Rattle.mesh_atoms.specs.declared.settings.Attached4.{Attached4}
 use Rattle.mesh_atoms.specs.declared.tc.TcRow.{TcRow}
-use Rattle.mesh_atoms.specs.Advertised.{AreTcRows, IsTcRow, Of_address, Of_network, Gives}
+use Rattle.mesh_atoms.specs.Advertised.{AreTcRows, IsTcRow, Of_address, Of_network, GivesAsSelector}
 use Rattle.mesh_atoms.specs.Base.{net_eq}
 use Rattle.mesh_atoms.specs.Nodes.{IsBefore}
 use Rattle.mesh_atoms.specs.Sound.{SoundNeighbourhood}
@@ -64,7 +64,7 @@ host_row : (s : State) (r : TcRow) → IsTcRow s r → of_address r ≡ true →
 host_row s r (Of_address a m e origin routable gateway metric given) is = ap (λ (n : NetAddr). n.prefix) e
 host_row s r (Of_network distance m origin routable gateway metric given) is = absurd (false≢true (sym (ap (λ g. not (is_some g)) gateway) ∙ is))
 
-giver_held : (s : State) (m : ℕ) → SoundNeighbourhood s.settings m s.bases.neighbourhood → (a o : Addr4) (c : Metric) → Gives s a o c → IsHeld s.bases.neighbourhood a
+giver_held : (s : State) (m : ℕ) → SoundNeighbourhood s.settings m s.bases.neighbourhood → (a o : Addr4) (c : Metric) → GivesAsSelector s a o c → IsHeld s.bases.neighbourhood a
 giver_held s m sound a o c gives = by_address gives.address where
   by_address : Contains gives.neighbour.addrs a ⊎ (a ≡ o) → IsHeld s.bases.neighbourhood a
   by_address (inl in') = neighbour_held s m sound a o gives.neighbour (gives.symmetric, in')

@@ -19,7 +19,7 @@ use Rattle.mesh_atoms.specs.State.{Neighbourhood, is_symmetric, link_at, two_hop
 use Rattle.mesh_atoms.specs.Live.{LiveNeighbourhood, trimmed, trim, is_symmetric_entry, is_symmetric_at, HasSymmetricOf, IsByLinks, Restores, IsSymmetricAddress, SettlesLost, Back, Stays as Still}
 use Rattle.mesh_atoms.specs.Sound.{SoundNeighbourhood}
 use Rattle.mesh_atoms.proofs.Lookups.{addr_equiv, two_hop_equiv}
-use Rattle.mesh_links.specs.Links.{Stays, AllStay}
+use Rattle.mesh_links.specs.Links.{IsLinkUnchanged, AllStay}
 use Rattle.mesh_nhdp.specs.Staying.{LinksStay, AllIsAsItWas, ExpiresBeside}
 use Rattle.mesh_nhdp.proofs.Bases.{base_cases}
 use Rattle.mesh_nhdp.proofs.BesideWalk.{some_gone}
@@ -44,7 +44,7 @@ trimmed_same now e out selector = by_case (is_symmetric e.0 now) refl where
 kept_live : {V : Type 0} (now : ℕ) (e : V × ℕ) → nat_lt now e.1 ≡ true → if_live now (Some e) ≡ Some e
 kept_live now e live = rw live refl
 
-still_there : (settings : RouterSettings) (i last now : ℕ) (o : Option (Link × ℕ)) → ((e : Link × ℕ) → o ≡ Some e → Stays (rule_of settings i) settings.times.link_hold last now e)
+still_there : (settings : RouterSettings) (i last now : ℕ) (o : Option (Link × ℕ)) → ((e : Link × ℕ) → o ≡ Some e → IsLinkUnchanged (rule_of settings i) settings.times.link_hold last now e)
     → ((e : Link × ℕ) → o ≡ Some e → trimmed now e ≡ e) → o ≡ trim now (if_live now (admit_on settings i now o))
 still_there settings i last now None stays same = refl
 still_there settings i last now (Some e) stays same =

@@ -16,7 +16,7 @@ use Rattle.mesh_atoms.specs.State.{Neighbourhood, link_at, two_hop_at, neighbour
 use Rattle.mesh_atoms.specs.Live.{LiveNeighbourhood, IsSymmetricAddress, SettlesLost, is_symmetric_at, is_symmetric_entry, trim, HasTables}
 use Rattle.mesh_atoms.specs.Quality.{admitted, admit_on, rule_of}
 use Rattle.mesh_atoms.specs.HelloTold.{Told}
-use Rattle.mesh_atoms.specs.AfterHello.{AfterHello, GoesOn, IsTheirs, Matches, Begins, renewed, StoodOn, Same_link, New_link}
+use Rattle.mesh_atoms.specs.AfterHello.{AfterHello, GoesOn, IsTheirs, Matches, LinkKeptOrMade, renewed, StoodOn, Same_link, New_link}
 use Rattle.mesh_atoms.specs.Words.{IsKept}
 use Rattle.mesh_atoms.specs.Sound.{SoundNeighbourhood}
 use Rattle.mesh_links.specs.Links.{AdmitsLinks, ExpiresLinks, EndsOutside, HearsOn}
@@ -132,7 +132,7 @@ module _ (settings : RouterSettings) (now i : ℕ) (told : Told) (hello : Hello)
     | inr apart ↦ goes_on_elsewhere old told R.theirs R.theirs_are within i j (base_of old.links j) (base_of new.links j) key apart (R.ends j apart)
   ]
 
-  the_link : (start : Link × ℕ) × Begins (rule_of settings i) told.shown now (link_at old i told.least) start × (link_at new i told.least ≡ Some (renewed told.shown settings.times.link_hold now start))
+  the_link : (start : Link × ℕ) × LinkKeptOrMade (rule_of settings i) told.shown now (link_at old i told.least) start × (link_at new i told.least ≡ Some (renewed told.shown settings.times.link_hold now start))
   the_link =
       let (mid, ends, hears) = R.hears in
       hears_link old told R.theirs R.theirs_are within (rule_of settings i) settings.times.link_hold now (base_of old.links i) mid (base_of new.links i) ends hears

@@ -10,7 +10,7 @@ use Rattle.mesh_atoms.specs.HelloTold.{Told}
 use Rattle.mesh_nbrs.specs.declared.neighbours.LinkNote.{LinkNote}
 use Rattle.mesh_nbrs.specs.Losts.{SettlesAll}
 use Rattle.mesh_nbrs.specs.Neighbours.{Replaces, RestoresBy}
-use Rattle.mesh_nhdp.specs.declared.near_addresses.Wanted.TheVariants.{Symmetric}
+use Rattle.mesh_nhdp.specs.declared.near_addresses.WantedNeighbours.TheVariants.{Symmetric}
 use Rattle.mesh_nhdp.specs.Calls.{TellsLinks, TellsLinksOf}
 use Rattle.mesh_nhdp.specs.Wanted.{IsWantedAddress, symmetric_at}
 

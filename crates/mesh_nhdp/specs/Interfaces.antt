@@ -33,7 +33,7 @@ pub record HearsAt (rule : Admit) (shown : Shown) (least : LinkKey) (theirs list
   pub two_hops : DropsEnded keys new now before after
 
 -- moments and times are in range, and the sending list is an ascending list of one address at least
-pub record CanHear (now hold : ℕ) (shown : Shown) : Type 0 where
+pub record CanHearHello (now hold : ℕ) (shown : Shown) : Type 0 where
   pub now_range : now < 2 ^ 62
   pub hold_range : hold < 2 ^ 62
   pub lasts : 0 < shown.validity

@@ -9,8 +9,8 @@ use Rattle.mesh_atoms.specs.State.{Neighbourhood, HasAddress}
 use Rattle.mesh_atoms.specs.HelloTold.{Told, Tells}
 use Rattle.mesh_atoms.specs.TakesHello.{IsFault, IsFullOfAddresses, IsFullOfTwoHops, FitsTwoHops}
 use Rattle.mesh_atoms.specs.TakesHello.{HelloAnswer, Taken, Broken_at, Full_of_addresses, Full_of_two_hops}
-use Rattle.mesh_nhdp.specs.declared.judge.Judgement.{Judgement}
-use Rattle.mesh_nhdp.specs.declared.judge.Judgement.TheVariants.{Breaks, Overfills, Fits}
+use Rattle.mesh_nhdp.specs.declared.judge.HelloCheck.{HelloCheck}
+use Rattle.mesh_nhdp.specs.declared.judge.HelloCheck.TheVariants.{Breaks, Overfills, Fits}
 use Rattle.mesh_nhdp.specs.declared.take.HelloTaken.{HelloTaken}
 use Rattle.mesh_nhdp.specs.declared.take.HelloTaken.TheVariants.{Done, Broken, Full}
 use Rattle.mesh_hello.specs.Told.Telling.{told_of}
@@ -23,7 +23,7 @@ IsFilledBy settings i hello near told (Some TwoHops) = (IsFullOfAddresses near t
 IsFilledBy settings i hello near told (Some base) = ⊥
 
 -- the HELLO breaks a rule, is too much for a limit, or can be taken
-abbrev pub Judges : RouterSettings → ℕ → Addr4 → Hello → Neighbourhood → Judgement → Type 0
+abbrev pub Judges : RouterSettings → ℕ → Addr4 → Hello → Neighbourhood → HelloCheck → Type 0
 Judges settings i sender hello near (Breaks number) = IsFault settings sender hello (Some number)
 Judges settings i sender hello near (Overfills Neighbours) =
     (told : Told) × IsFault settings sender hello None × Tells settings i sender hello told × IsFullOfAddresses near told

@@ -7,7 +7,7 @@ ghost use Rattle.mesh_nhdp.specs.Staying.{AllIsAsItWas};
 
 use crate::follow::follow_links;
 use crate::interfaces::{Expiry, change_all};
-use crate::near_addresses::{Wanted, wanted_addresses};
+use crate::near_addresses::{WantedNeighbours, wanted_addresses};
 use crate::nhdp::Nhdp;
 use crate::staying::{expire_beside, links_stay};
 use mesh_atoms::{Addr4, Link, LinkKey, Lost, Neighbour, RouterSettings, TwoHop, TwoHopKey};
@@ -83,7 +83,7 @@ fn expire_all<
 {
     let alloc = settings.interfaces.allocator();
     let until = now + settings.times.neighbour_hold;
-    let before = wanted_addresses(alloc, neighbours.table(), Wanted::Symmetric)?;
+    let before = wanted_addresses(alloc, neighbours.table(), WantedNeighbours::Symmetric)?;
     let expiry = Expiry {
         now,
         hold: settings.times.link_hold,

@@ -4,11 +4,11 @@ ghost use Rattle.mesh_atoms.specs.Words.{IsAscending};
 ghost use Rattle.mesh_hello.specs.Told.Telling.{told_of};
 ghost use Rattle.mesh_nhdp.specs.Follows.{FollowsLinks, FollowsLinksOf, RenewsNeighbour};
 
-use crate::near_addresses::{Wanted, symmetric_at, wanted_addresses};
+use crate::near_addresses::{WantedNeighbours, symmetric_at, wanted_addresses};
 use crate::notes::{notes_among, notes_of};
 use mesh_atoms::{Addr4, Link, LinkKey, Lost, Neighbour};
 use mesh_expire::Table;
-use mesh_hello::Telling;
+use mesh_hello::HelloInfo;
 use mesh_links::LinkSet;
 use mesh_nbrs::{LostSet, NeighbourSet};
 use std::alloc::{AllocError, Global};
@@ -28,7 +28,7 @@ pub fn follow_links<L: Table<LinkKey, Link>, N: Table<Addr4, Neighbour>, O: Tabl
 {
     let notes = notes_of(alloc, links, now)?;
     neighbours.expire(&notes)?;
-    let after = wanted_addresses(alloc, neighbours.table(), Wanted::Symmetric)?;
+    let after = wanted_addresses(alloc, neighbours.table(), WantedNeighbours::Symmetric)?;
     losts.settle_lost(before, &after, until)
 }
 
@@ -61,7 +61,7 @@ pub fn renew_neighbour<L: Table<LinkKey, Link>, N: Table<Addr4, Neighbour>, O: T
     alloc: Global,
     links: &[LinkSet<L>],
     now: u64,
-    telling: &Telling,
+    telling: &HelloInfo,
     before: &[Addr4],
     until: u64,
     neighbours: &mut NeighbourSet<N>,

@@ -5,7 +5,7 @@ ghost use Rattle.mesh_atoms.specs.State.{Neighbourhood};
 ghost use Rattle.mesh_atoms.specs.TakesHello.{IsHeld};
 ghost use Rattle.mesh_atoms.specs.Words.{AreMoreThan};
 
-use crate::near_addresses::{Wanted, wanted_addresses};
+use crate::near_addresses::{WantedNeighbours, wanted_addresses};
 use mesh_atoms::{Addr4, Lost, Neighbour};
 use mesh_expire::Table;
 use mesh_hello::{ascending, put_table_keys};
@@ -64,7 +64,7 @@ fn are_many<N: Table<Addr4, Neighbour>, O: Table<Addr4, Lost>>(
     ensures { IfOk result (λ full. (near : Neighbourhood) → near.neighbours ≡ neighbours.now → near.losts ≡ losts.now
         → IsTrue full ↔ AreMoreThan 1024 (λ a. IsHeld near a ⊎ (Contains listed.now a ⊎ (a ≡ originator)))) }
 {
-    let mut addrs = wanted_addresses(alloc, neighbours.table(), Wanted::Each)?;
+    let mut addrs = wanted_addresses(alloc, neighbours.table(), WantedNeighbours::Each)?;
     put_known(&mut addrs, neighbours, losts, originator, listed)?;
     let held = ascending(addrs);
     let count = held.len();

@@ -8,7 +8,7 @@ ghost use Rattle.mesh_atoms.specs.State.{HasAddress};
 ghost use Rattle.mesh_atoms.specs.TakesHello.{IsFault};
 ghost use Rattle.mesh_hello.specs.Told.Telling.{told_of};
 ghost use Rattle.mesh_nhdp.specs.Hearings.{HearsInterfaces, HearsLinks};
-ghost use Rattle.mesh_nhdp.specs.Interfaces.{CanHear};
+ghost use Rattle.mesh_nhdp.specs.Interfaces.{CanHearHello};
 ghost use Rattle.mesh_nhdp.specs.NhdpState.{near_with};
 
 use crate::drops::has_symmetric_on;
@@ -19,7 +19,7 @@ use crate::near_addresses::spoken_addresses;
 use crate::sending_link::{stands, update_two_hops_on};
 use mesh_atoms::{Addr4, Hello, Link, LinkKey, Lost, Neighbour, RouterSettings, TwoHop, TwoHopKey};
 use mesh_expire::Table;
-use mesh_hello::Telling;
+use mesh_hello::HelloInfo;
 use mesh_links::LinkSet;
 use mesh_nbrs::{LostSet, NeighbourSet, TwoHopSet};
 use std::alloc::{AllocError, Global};
@@ -35,7 +35,7 @@ fn hear_interfaces<L: Table<LinkKey, Link>, H: Table<TwoHopKey, TwoHop>>(
     links: &mut [LinkSet<L>],
     two_hops: &mut [TwoHopSet<H>],
 ) -> Result<(), AllocError>
-    requires ready { CanHear hearing.now.moment hearing.now.hold hearing.now.shown.now }
+    requires ready { CanHearHello hearing.now.moment hearing.now.hold hearing.now.shown.now }
     requires least { slice_get hearing.now.shown.now.sending 0 ≡ Some least.addr }
     requires iface { hearing.now.iface < length links.old }
     requires same { length links.old ≡ length two_hops.old }
@@ -73,7 +73,7 @@ fn hear_links<L: Table<LinkKey, Link>, H: Table<TwoHopKey, TwoHop>>(
     iface: usize,
     hello: &Hello,
     own: &[Addr4],
-    telling: &Telling,
+    telling: &HelloInfo,
     theirs: &[Addr4],
     links: &mut [LinkSet<L>],
     two_hops: &mut [TwoHopSet<H>],
@@ -81,7 +81,7 @@ fn hear_links<L: Table<LinkKey, Link>, H: Table<TwoHopKey, TwoHop>>(
     requires iface { iface < length settings.now.interfaces }
     requires links { length links.old ≡ length settings.now.interfaces }
     requires two_hops { length two_hops.old ≡ length settings.now.interfaces }
-    requires ready { CanHear now settings.now.times.link_hold telling.now.shown }
+    requires ready { CanHearHello now settings.now.times.link_hold telling.now.shown }
     requires least { slice_get telling.now.shown.sending 0 ≡ Some telling.now.least.addr }
     ensures { OnOk result (HearsLinks (rule_of settings.now iface) (told_of telling.now) theirs.now own.now settings.now.times.link_hold now iface hello.now links.old links.new two_hops.old two_hops.new) }
 {
@@ -115,7 +115,7 @@ pub fn hear<
     iface: usize,
     hello: &Hello,
     own: &[Addr4],
-    telling: &Telling,
+    telling: &HelloInfo,
     links: &mut [LinkSet<L>],
     two_hops: &mut [TwoHopSet<H>],
     neighbours: &mut NeighbourSet<N>,

@@ -8,7 +8,7 @@ ghost use Rattle.mesh_atoms.specs.declared.tuples.TwoHop.{TwoHop};
 ghost use Rattle.mesh_atoms.specs.declared.settings.Interface.{Interface};
 ghost use Rattle.mesh_links.specs.Links.{AdmitsLinks, HearsOn};
 ghost use Rattle.mesh_nhdp.specs.Calls.{TellsKeys};
-ghost use Rattle.mesh_nhdp.specs.Interfaces.{ExpiresOn, HearsAt, CanHear};
+ghost use Rattle.mesh_nhdp.specs.Interfaces.{ExpiresOn, HearsAt, CanHearHello};
 
 use crate::drops::drop_ended;
 use mesh_atoms::{Addr4, Admit, Interface, Link, LinkKey, Shown, TwoHop, TwoHopKey};
@@ -120,7 +120,7 @@ fn hear_here<L: Table<LinkKey, Link>>(
     links: &mut LinkSet<L>,
     here: bool,
 ) -> Result<(), AllocError>
-    requires ready { CanHear hearing.now.moment hearing.now.hold hearing.now.shown.now }
+    requires ready { CanHearHello hearing.now.moment hearing.now.hold hearing.now.shown.now }
     requires distinct { HasDistinctKeys link_eq links.old }
     ensures elsewhere { OnOk result (here ≡ false → links.new ≡ links.old) }
     ensures here { OnOk result (here ≡ true → (least : LinkKey) → slice_get hearing.now.shown.now.sending 0 ≡ Some least.addr
@@ -135,7 +135,7 @@ fn hear_here<L: Table<LinkKey, Link>>(
 }
 
 impl<'a, L: Table<LinkKey, Link>, H: Table<TwoHopKey, TwoHop>> Change<L, H> for Hearing<'a> {
-    ghost is_ready = { λ s. CanHear s.moment s.hold s.shown.now };
+    ghost is_ready = { λ s. CanHearHello s.moment s.hold s.shown.now };
 
     ghost makes = { λ s i old new before after. (least : LinkKey) → slice_get s.shown.now.sending 0 ≡ Some least.addr
         → HearsAt s.rule.now s.shown.now least s.theirs.now s.listed.now s.keys.now s.hold s.moment (nat_eq i s.iface) old new before after };

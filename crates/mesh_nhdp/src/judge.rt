@@ -14,7 +14,7 @@ use crate::full::is_full_of_addresses;
 use crate::two_hop_rows::count_symmetric;
 use mesh_atoms::{Addr4, Base, Hello, Lost, Neighbour, RouterSettings, Seq, TwoHop, TwoHopKey};
 use mesh_expire::Table;
-use mesh_hello::{Telling, own_addresses, receive_fault, tell};
+use mesh_hello::{HelloInfo, own_addresses, receive_fault, tell};
 use mesh_nbrs::{LostSet, NeighbourSet, TwoHopSet};
 use std::alloc::{AllocError, Global};
 
@@ -24,10 +24,10 @@ const MOST_TWO_HOPS: usize = 16384;
 /// A HELLO breaks the rule of a number, is too much for a base, or can be taken: then with the router's addresses, and with
 /// what it tells.
 #[derive(Drop)]
-pub enum Judgement {
+pub enum HelloCheck {
     Breaks(u8),
     Overfills(Base),
-    Fits(Seq<Addr4>, Telling),
+    Fits(Seq<Addr4>, HelloInfo),
 }
 
 /// How many 2-hop tuples the interface has. Takes no memory.
@@ -47,7 +47,7 @@ fn base_to_fill<H: Table<TwoHopKey, TwoHop>, N: Table<Addr4, Neighbour>, O: Tabl
     iface: usize,
     hello: &Hello,
     own: &[Addr4],
-    telling: &Telling,
+    telling: &HelloInfo,
 ) -> Result<Option<Base>, AllocError>
     requires iface { iface < length two_hops.now }
     requires few { length (base_of two_hops.now iface) ≤ 16384 }
@@ -76,7 +76,7 @@ pub fn judge<H: Table<TwoHopKey, TwoHop>, N: Table<Addr4, Neighbour>, O: Table<A
     iface: usize,
     sender: Addr4,
     hello: &Hello,
-) -> Result<Judgement, AllocError>
+) -> Result<HelloCheck, AllocError>
     requires iface { iface < length settings.now.interfaces }
     requires same { length two_hops.now ≡ length settings.now.interfaces }
     requires few { length (base_of two_hops.now iface) ≤ 16384 }
@@ -86,14 +86,14 @@ pub fn judge<H: Table<TwoHopKey, TwoHop>, N: Table<Addr4, Neighbour>, O: Table<A
     let alloc = settings.interfaces.allocator();
     let own = own_addresses(alloc, settings)?;
     match receive_fault(hello, sender, &own) {
-        Some(number) => return Ok(Judgement::Breaks(number)),
+        Some(number) => return Ok(HelloCheck::Breaks(number)),
         None => {}
     }
     let telling = tell(alloc, settings, iface, sender, hello, &own)?;
     match base_to_fill(
         alloc, two_hops, neighbours, losts, iface, hello, &own, &telling,
     )? {
-        Some(base) => Ok(Judgement::Overfills(base)),
-        None => Ok(Judgement::Fits(Seq::from_vec(own), telling)),
+        Some(base) => Ok(HelloCheck::Overfills(base)),
+        None => Ok(HelloCheck::Fits(Seq::from_vec(own), telling)),
     }
 }

@@ -7,31 +7,31 @@ ghost use Rattle.mesh_nhdp.specs.Wanted.{IsWanted, IsWantedAt, IsWantedAddress, 
 
 use mesh_atoms::{Addr4, Neighbour};
 use mesh_expire::Table;
-use mesh_hello::{HasSaid, Telling};
+use mesh_hello::{HasSaid, HelloInfo};
 use mesh_nbrs::NeighbourSet;
 use std::alloc::{AllocError, Global};
 
 /// The neighbours whose addresses are wanted: all, or the symmetric ones.
 #[derive(Clone, Copy)]
-pub enum Wanted {
+pub enum WantedNeighbours {
     Each,
     Symmetric,
 }
 
 /// Whether the neighbour is wanted.
-fn is_wanted(wanted: Wanted, neighbour: &Neighbour) -> bool
+fn is_wanted(wanted: WantedNeighbours, neighbour: &Neighbour) -> bool
     ensures { IsTrue result ↔ IsWanted wanted neighbour.now }
 {
     match wanted {
-        Wanted::Each => true,
-        Wanted::Symmetric => neighbour.symmetric,
+        WantedNeighbours::Each => true,
+        WantedNeighbours::Symmetric => neighbour.symmetric,
     }
 }
 
 /// Adds the neighbour's addresses where it is wanted.
 fn add_wanted(
     addrs: &mut Vec<Addr4>,
-    wanted: Wanted,
+    wanted: WantedNeighbours,
     neighbour: &Neighbour,
 ) -> Result<(), AllocError>
     ensures { OnOk result (Gathers addrs.old.items addrs.new.items (λ a. IsWanted wanted neighbour.now × Contains neighbour.now.addrs a)) }
@@ -46,7 +46,7 @@ fn add_wanted(
 fn add_wanted_at<T: Table<Addr4, Neighbour>>(
     addrs: &mut Vec<Addr4>,
     table: &T,
-    wanted: Wanted,
+    wanted: WantedNeighbours,
     originator: Addr4,
 ) -> Result<(), AllocError>
     ensures { OnOk result (Gathers addrs.old.items addrs.new.items (IsWantedAt (T.content table.now) wanted originator)) }
@@ -63,7 +63,7 @@ fn addresses_of<T: Table<Addr4, Neighbour>>(
     alloc: Global,
     table: &T,
     originators: &[Addr4],
-    wanted: Wanted,
+    wanted: WantedNeighbours,
 ) -> Result<Vec<Addr4>, AllocError>
     ensures { IfOk result (λ addrs. (a : Addr4) → Contains addrs.items a ↔ ((o : Addr4) × Contains originators.now o × IsWantedAt (T.content table.now) wanted o a)) }
 {
@@ -79,15 +79,15 @@ fn addresses_of<T: Table<Addr4, Neighbour>>(
 pub fn spoken_addresses<N: Table<Addr4, Neighbour>>(
     alloc: Global,
     neighbours: &NeighbourSet<N>,
-    telling: &Telling,
+    telling: &HelloInfo,
 ) -> Result<(Vec<Addr4>, Vec<Addr4>), AllocError>
     ensures all { IfOk result (λ found. (a : Addr4) → Contains found.0.items a ↔ IsSpokenAddress neighbours.now telling.now.originator telling.now.listed a) }
     ensures symmetric { IfOk result (λ found. (a : Addr4) → Contains found.1.items a ↔ IsSymmetricSpokenAddress neighbours.now telling.now.originator telling.now.listed a) }
 {
     let spoken = neighbours.spoken_of(telling.originator, telling.listed.as_slice())?;
     let table = neighbours.table();
-    let all = addresses_of(alloc, table, &spoken, Wanted::Each)?;
-    let symmetric = addresses_of(alloc, table, &spoken, Wanted::Symmetric)?;
+    let all = addresses_of(alloc, table, &spoken, WantedNeighbours::Each)?;
+    let symmetric = addresses_of(alloc, table, &spoken, WantedNeighbours::Symmetric)?;
     Ok((all, symmetric))
 }
 
@@ -95,7 +95,7 @@ pub fn spoken_addresses<N: Table<Addr4, Neighbour>>(
 pub fn wanted_addresses<T: Table<Addr4, Neighbour>>(
     alloc: Global,
     table: &T,
-    wanted: Wanted,
+    wanted: WantedNeighbours,
 ) -> Result<Vec<Addr4>, AllocError>
     ensures { IfOk result (λ addrs. (a : Addr4) → Contains addrs.items a ↔ IsWantedAddress (T.content table.now) wanted a) }
 {

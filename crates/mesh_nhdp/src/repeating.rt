@@ -13,7 +13,7 @@ use mesh_atoms::{
     TwoHopKey, Willing,
 };
 use mesh_expire::Table;
-use mesh_hello::Telling;
+use mesh_hello::HelloInfo;
 use mesh_links::LinkSet;
 use mesh_nbrs::{NeighbourSet, TwoHopSet};
 
@@ -135,7 +135,7 @@ fn repeats_link<L: Table<LinkKey, Link>, H: Table<TwoHopKey, TwoHop>>(
     now: u64,
     hello: &Hello,
     own: &[Addr4],
-    telling: &Telling,
+    telling: &HelloInfo,
     links: &LinkSet<L>,
     two_hops: &TwoHopSet<H>,
 ) -> bool
@@ -155,7 +155,7 @@ fn repeats_link<L: Table<LinkKey, Link>, H: Table<TwoHopKey, TwoHop>>(
 }
 
 /// Whether the neighbour is as the HELLO tells of it, but for what its links say.
-fn is_told(neighbour: &Neighbour, telling: &Telling) -> bool
+fn is_told(neighbour: &Neighbour, telling: &HelloInfo) -> bool
     ensures addrs { IsTrue result → neighbour.now.addrs ≡ telling.now.listed }
     ensures willing { IsTrue result → neighbour.now.willing ≡ telling.now.willing }
     ensures selector { IsTrue result → neighbour.now.selector ≡ (telling.now.routing && neighbour.now.symmetric) }
@@ -173,7 +173,7 @@ fn is_told(neighbour: &Neighbour, telling: &Telling) -> bool
 /// Whether the neighbour that the HELLO tells of stands, with the same addresses, willingness and routing selector flag.
 fn repeats_neighbour<N: Table<Addr4, Neighbour>>(
     neighbours: &NeighbourSet<N>,
-    telling: &Telling,
+    telling: &HelloInfo,
 ) -> bool
     ensures { IsTrue result → RepeatsNeighbour (told_of telling.now) neighbours.now }
 {
@@ -190,7 +190,7 @@ pub fn repeats<L: Table<LinkKey, Link>, H: Table<TwoHopKey, TwoHop>, N: Table<Ad
     iface: usize,
     hello: &Hello,
     own: &[Addr4],
-    telling: &Telling,
+    telling: &HelloInfo,
     links: &[LinkSet<L>],
     two_hops: &[TwoHopSet<H>],
     neighbours: &NeighbourSet<N>,

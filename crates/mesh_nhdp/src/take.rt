@@ -7,7 +7,7 @@ ghost use Rattle.mesh_nhdp.specs.Judged.{IsAnswer};
 ghost use Rattle.mesh_nhdp.specs.NhdpState.{near_with};
 
 use crate::hearing::hear;
-use crate::judge::{Judgement, judge};
+use crate::judge::{HelloCheck, judge};
 use crate::nhdp::Nhdp;
 use crate::repeating::repeats;
 use mesh_atoms::{
@@ -115,9 +115,9 @@ fn take_in<
     ensures sound { OnOk result (SoundNeighbourhood settings.now now (near_with links.new two_hops.new neighbours.new losts.new)) }
 {
     match judge(settings, two_hops, neighbours, losts, iface, sender, hello)? {
-        Judgement::Breaks(number) => Ok((HelloTaken::Broken(number), false)),
-        Judgement::Overfills(base) => Ok((HelloTaken::Full(base), false)),
-        Judgement::Fits(own, telling) => {
+        HelloCheck::Breaks(number) => Ok((HelloTaken::Broken(number), false)),
+        HelloCheck::Overfills(base) => Ok((HelloTaken::Full(base), false)),
+        HelloCheck::Fits(own, telling) => {
             let own = own.as_slice();
             let repeated = repeats(
                 now, iface, hello, own, &telling, links, two_hops, neighbours,

@@ -4,7 +4,7 @@ use Rattle.std.specs.Prelude.{MatchResult, slice_range}
 use Rattle.mesh_atoms.specs.declared.refusal.Refusal.{Refusal}
 use Rattle.mesh_atoms.specs.Reading.{Reading, refuse}
 use Rattle.mesh_atoms.proofs.Reading.{meets_bind, Takes, takes_range, Stands, stands_first, stands_next, behind}
-use Rattle.mesh_tlv.specs.Items.{SpellsItems, ItemsFault, FirstFault, items_at}
+use Rattle.mesh_tlv.specs.Items.{SpellsItems, ItemsFault, FirstFaultAt, items_at}
 use Rattle.mesh_tlv.specs.Grammar.{SpellsTlv, TlvBlockFault, TlvFault}
 use Rattle.mesh_tlv.specs.Reading.{tlv_at, block_at}
 use Rattle.mesh_tlv.proofs.Items.{items_take, items_again, items_fault}
@@ -22,11 +22,11 @@ use Rattle.mesh_packet.proofs.Pairs.{pair_reader}
 abbrev pub BodyTook : ℕ → ℕ → List ℕ → ℕ → ℕ → MessageFields × ℕ → Type 0
 BodyTook kind flags s at end x = (x.1 ≡ end) × SpellsBody flags x.0 (slice_range s at end) × (x.0.kind ≡ kind)
 
-pub body_takes : (kind flags : ℕ) (s : List ℕ) (at end : ℕ) → at ≤ end → end ≤ length s → MatchResult (body_at kind flags s at end) (BodyTook kind flags s at end) (FirstFault (BodyFault flags) s at end)
+pub body_takes : (kind flags : ℕ) (s : List ℕ) (at end : ℕ) → at ≤ end → end ≤ length s → MatchResult (body_at kind flags s at end) (BodyTook kind flags s at end) (FirstFaultAt (BodyFault flags) s at end)
 unfolding body_at
 body_takes kind flags s at end le fits =
     let P = BodyTook kind flags s at end in
-    let Q = FirstFault (BodyFault flags) s at end in
+    let Q = FirstFaultAt (BodyFault flags) s at end in
     let width : ℕ = width_of flags in
     meets_bind (head_at flags s at end) _ (Took s at end (SpellsOpening flags)) P (IsHeadCut flags s at end) Q (head_takes flags s at end le fits)
     (λ e h. (h.0, ap (λ (r : Refusal). r.place) h.1, subst (λ (n : ℕ). BodyFault flags (slice_range s at end) h.0 n) (sym (ap (λ (r : Refusal). r.reason) h.1)) (in_head h.0 h.2)))

@@ -15,7 +15,7 @@ use Rattle.mesh_tlv.proofs.Fit.{all_fit}
 use Rattle.mesh_packet.specs.declared.packet.Span.{Span}
 use Rattle.mesh_packet.specs.Fields.{BlockFields, MessageFields, PacketFields}
 use Rattle.mesh_packet.specs.Grammar.{SpellsOriginator, SpellsPair, SpellsBody, SpellsMessage, SpellsMessages, Spells, width_of}
-use Rattle.mesh_packet.specs.Least.{IsOriginator, IsEncodableBlock, IsEncodableMessage, IsEncodable}
+use Rattle.mesh_packet.specs.Least.{IsPaddedOriginator, IsEncodableBlock, IsEncodableMessage, IsEncodable}
 
 -- each is below 256
 abbrev pub AreOctets : List ℕ → Type 0
@@ -52,7 +52,7 @@ pair_encodable width wide narrow x text octets h = record {
   tlvs = all_fit (length x.addrs) x.tlvs h.tlvs_is.1 h.addrs_is.some h.tlvs_is.3;
 }
 
-originator_whole : (set : Bool) (width : ℕ) (x : Option RawAddr) (text : List ℕ) → SpellsOriginator set width x text → IsOriginator width x
+originator_whole : (set : Bool) (width : ℕ) (x : Option RawAddr) (text : List ℕ) → SpellsOriginator set width x text → IsPaddedOriginator width x
 originator_whole true width (Some a) text h =
     let first : take width a.octets ≡ text = ap (take width) h.1 ∙ take_at text (replicate (16 - length text) 0) width h.0 in
     (h.1 ∙ ap padded (sym first), h.2)
@@ -72,7 +72,7 @@ message_encodable m text octets h =
     record {
       wide = rw body.width_is wide;
       narrow = rw body.width_is narrow;
-      originator = subst (λ (w : ℕ). IsOriginator w m.originator) (sym body.width_is) (originator_whole (has h.flags 128) width m.originator body.head_is.originator_text body.head_is.originator_is);
+      originator = subst (λ (w : ℕ). IsPaddedOriginator w m.originator) (sym body.width_is) (originator_whole (has h.flags 128) width m.originator body.head_is.originator_text body.head_is.originator_is);
       blocks = subst (λ (w : ℕ). All (IsEncodableBlock w) m.blocks) (sym body.width_is) (items_encodable (IsEncodableBlock width) (SpellsPair width) (pair_encodable width wide narrow) m.blocks body.blocks in_blocks body.blocks_is);
     }
 

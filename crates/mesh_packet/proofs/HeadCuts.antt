@@ -5,7 +5,7 @@ use Rattle.std.proofs.lemmas.List.{length-take, length-drop, take-append-drop}
 use Rattle.mesh_atoms.specs.Reading.{Reading, refuse, has}
 use Rattle.mesh_atoms.proofs.Reading.{Stands, behind, range_length}
 use Rattle.mesh_addr.specs.declared.records.RawAddr.{RawAddr}
-use Rattle.mesh_packet.specs.declared.read.Opening.{Opening}
+use Rattle.mesh_packet.specs.declared.read.MessageHeader.{MessageHeader}
 use Rattle.mesh_packet.specs.Grammar.{SpellsMessageHead, HeadCut, originator_cut, limit_cut, count_cut, sequence_cut, width_of, originator_size, limit_size, count_size, head_size}
 use Rattle.mesh_packet.specs.Reading.{head_at}
 use Rattle.mesh_packet.proofs.Fields.{IsField, octet_field, number_field, originator_field}
@@ -71,7 +71,7 @@ pub head_cut_again : (flags : ℕ) (s : List ℕ) (at end place : ℕ) → at �
 unfolding head_at
 head_cut_again flags s at end place le fits (originator_cut cut) =
     let here : at ≡ at + 0 = omega arith in
-    rw ((originator_field (has flags 128) (width_of flags)).cut s at end fits cut) (ap (λ (k : ℕ). refuse {A = Opening × ℕ} k 1) here)
+    rw ((originator_field (has flags 128) (width_of flags)).cut s at end fits cut) (ap (λ (k : ℕ). refuse {A = MessageHeader × ℕ} k 1) here)
 head_cut_again flags s at end place le fits (limit_cut enough cut) =
     let p1 = passes _ _ (originator_size flags) (originator_field (has flags 128) (width_of flags)) s at end le fits enough in
     rw (p1.reads, (octet_field (has flags 64)).cut s (at + originator_size flags) end fits (omega (arith, cut, p1.left))) refl
@@ -81,7 +81,7 @@ head_cut_again flags s at end place le fits (count_cut enough cut) =
     let p1 = passes _ _ n1 (originator_field (has flags 128) (width_of flags)) s at end le fits (omega (arith, enough)) in
     let p2 = passes _ _ n2 (octet_field (has flags 64)) s (at + n1) end p1.within fits (omega (arith, enough, p1.left)) in
     let sum : at + n1 + n2 ≡ at + (n1 + n2) = omega arith in
-    rw (p1.reads, p2.reads, (octet_field (has flags 32)).cut s (at + n1 + n2) end fits (omega (arith, cut, p1.left, p2.left))) (ap (λ (k : ℕ). refuse {A = Opening × ℕ} k 1) sum)
+    rw (p1.reads, p2.reads, (octet_field (has flags 32)).cut s (at + n1 + n2) end fits (omega (arith, cut, p1.left, p2.left))) (ap (λ (k : ℕ). refuse {A = MessageHeader × ℕ} k 1) sum)
 head_cut_again flags s at end place le fits (sequence_cut enough cut) =
     let n1 : ℕ = originator_size flags in
     let n2 : ℕ = limit_size flags in
@@ -90,4 +90,4 @@ head_cut_again flags s at end place le fits (sequence_cut enough cut) =
     let p2 = passes _ _ n2 (octet_field (has flags 64)) s (at + n1) end p1.within fits (omega (arith, enough, p1.left)) in
     let p3 = passes _ _ n3 (octet_field (has flags 32)) s (at + n1 + n2) end p2.within fits (omega (arith, enough, p1.left, p2.left)) in
     let sum : at + n1 + n2 + n3 ≡ at + (n1 + n2 + n3) = omega arith in
-    rw (p1.reads, p2.reads, p3.reads, (number_field (has flags 16)).cut s (at + n1 + n2 + n3) end fits (omega (arith, cut, p1.left, p2.left, p3.left))) (ap (λ (k : ℕ). refuse {A = Opening × ℕ} k 1) sum)
+    rw (p1.reads, p2.reads, p3.reads, (number_field (has flags 16)).cut s (at + n1 + n2 + n3) end fits (omega (arith, cut, p1.left, p2.left, p3.left))) (ap (λ (k : ℕ). refuse {A = MessageHeader × ℕ} k 1) sum)

@@ -6,12 +6,12 @@ use Rattle.mesh_atoms.specs.declared.refusal.Refusal.{Refusal}
 use Rattle.mesh_atoms.specs.Reading.{has}
 use Rattle.mesh_atoms.proofs.Reading.{meets_bind, Takes, takes_both, Stands, stands_first, stands_next}
 use Rattle.mesh_addr.specs.declared.records.RawAddr.{RawAddr}
-use Rattle.mesh_packet.specs.declared.read.Opening.{Opening}
+use Rattle.mesh_packet.specs.declared.read.MessageHeader.{MessageHeader}
 use Rattle.mesh_packet.specs.Grammar.{SpellsMessageHead, HeadCut, originator_cut, limit_cut, count_cut, sequence_cut, width_of, originator_size, limit_size, count_size, sequence_size, head_size}
 use Rattle.mesh_packet.specs.Reading.{octet_if, short_if, originator_if, head_at}
 use Rattle.mesh_packet.proofs.Fields.{Took, octet_field, number_field, originator_field}
 
-abbrev pub SpellsOpening : ℕ → Opening → List ℕ → Type 0
+abbrev pub SpellsOpening : ℕ → MessageHeader → List ℕ → Type 0
 SpellsOpening flags h text = SpellsMessageHead flags h.originator h.limit h.count h.sequence text
 
 -- a part of the head is cut off at that distance

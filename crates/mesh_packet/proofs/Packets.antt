@@ -6,7 +6,7 @@ use Rattle.mesh_atoms.specs.declared.refusal.Refusal.{Refusal}
 use Rattle.mesh_atoms.specs.Reading.{◌>>=◌, Reading, refuse, has, octet_at}
 use Rattle.mesh_atoms.proofs.Reading.{meets_bind, meets_if, Takes, takes_range, Stands, stands_next, behind, octet_takes, octet_again}
 use Rattle.mesh_tlv.specs.Fields.{TlvFields}
-use Rattle.mesh_tlv.specs.Items.{SpellsItems, ItemsFault, FirstFault, items_at}
+use Rattle.mesh_tlv.specs.Items.{SpellsItems, ItemsFault, FirstFaultAt, items_at}
 use Rattle.mesh_tlv.specs.Grammar.{SpellsTlv, SpellsTlvBlock, TlvBlockFault, TlvFault}
 use Rattle.mesh_tlv.specs.Reading.{tlv_at, block_at}
 use Rattle.mesh_tlv.proofs.Items.{IsReader, ItemsTook, items_take, items_again, items_fault}
@@ -29,7 +29,7 @@ SpellsSized m text = SpellsMessage m.0 text × (m.1 ≡ length text)
 sized_reader : IsReader sized_at SpellsSized MessageFault
 unfolding sized_at
 sized_reader = record {
-  takes = λ s at end lt fits. meets_bind (message_at s at end) _ (Took s at end SpellsMessage) (Took s at end SpellsSized) (FirstFault MessageFault s at end) (FirstFault MessageFault s at end) (message_reader.takes s at end lt fits) (λ e h. h) (λ m t. (t.0, (t.1, omega (arith, t.2.len)), t.2));
+  takes = λ s at end lt fits. meets_bind (message_at s at end) _ (Took s at end SpellsMessage) (Took s at end SpellsSized) (FirstFaultAt MessageFault s at end) (FirstFaultAt MessageFault s at end) (message_reader.takes s at end lt fits) (λ e h. h) (λ m t. (t.0, (t.1, omega (arith, t.2.len)), t.2));
   again = λ s at end x bytes rest le fits h e. again s at end x bytes rest le fits h e;
   fault_again = λ s at end distance reason le fits f. rw (message_reader.fault_again s at end distance reason le fits f) refl;
   some = λ x bytes h. message_reader.some x.0 bytes h.0;
@@ -105,10 +105,10 @@ flags_take s =
 abbrev HeaderTook : List ℕ → ℕ → Bool → List TlvFields × ℕ → Type 0
 HeaderTook s at set x = (at ≤ x.1) × (x.1 ≤ length s) × SpellsHeaderTlvs set x.0 (slice_range s at x.1)
 
-header_takes : (set : Bool) (s : List ℕ) (at : ℕ) → at ≤ length s → MatchResult (header_tlvs_at set s at (length s)) (HeaderTook s at set) (λ e. (set ≡ true) × FirstFault TlvBlockFault s at (length s) e)
+header_takes : (set : Bool) (s : List ℕ) (at : ℕ) → at ≤ length s → MatchResult (header_tlvs_at set s at (length s)) (HeaderTook s at set) (λ e. (set ≡ true) × FirstFaultAt TlvBlockFault s at (length s) e)
 unfolding header_tlvs_at
 header_takes true s at le = weaker (block_at tlv_at s at (length s)) (block_takes tlv_at SpellsTlv (TlvFault 100 1) tlv_reader s at (length s) le (omega arith)) where
-  weaker : (r : Reading (List TlvFields)) → MatchResult r (λ x. (at ≤ x.1) × (x.1 ≤ length s) × SpellsTlvBlock x.0 (slice_range s at x.1)) (FirstFault TlvBlockFault s at (length s)) → MatchResult r (HeaderTook s at true) (λ e. (true ≡ true) × FirstFault TlvBlockFault s at (length s) e)
+  weaker : (r : Reading (List TlvFields)) → MatchResult r (λ x. (at ≤ x.1) × (x.1 ≤ length s) × SpellsTlvBlock x.0 (slice_range s at x.1)) (FirstFaultAt TlvBlockFault s at (length s)) → MatchResult r (HeaderTook s at true) (λ e. (true ≡ true) × FirstFaultAt TlvBlockFault s at (length s) e)
   weaker (Ok x) h = h
   weaker (Err e) h = (refl, h)
 header_takes false s at le = (omega arith, le, (refl, none)) where
@@ -130,7 +130,7 @@ packet_takes s =
     subst (λ (r : Refusal). grammar.FirstFault s r.place r.reason) (sym h.0) (subst (λ (n : ℕ). grammar.FirstFault s n 1) (sym one) (cut flags.0 (has flags.0 8) (slice_range s flags.1 end) refl begun t0.0 h.1)))
     (λ number t1.
     let begins : BeginsPacket s flags.0 t1.0 (slice_range s number.1 end) = record { version = t0.0; number = number.0; number_is = t1.1; parts = begun ∙ ap (λ (l : List ℕ). flags.0 ∷ l) t1.2.parts } in
-    meets_bind (header_tlvs_at (has flags.0 4) s number.1 end) _ (HeaderTook s number.1 (has flags.0 4)) P (λ e. (has flags.0 4 ≡ true) × FirstFault TlvBlockFault s number.1 end e) Q (header_takes (has flags.0 4) s number.1 t1.2.within)
+    meets_bind (header_tlvs_at (has flags.0 4) s number.1 end) _ (HeaderTook s number.1 (has flags.0 4)) P (λ e. (has flags.0 4 ≡ true) × FirstFaultAt TlvBlockFault s number.1 end e) Q (header_takes (has flags.0 4) s number.1 t1.2.within)
     (λ e h. subst (λ (n : ℕ). grammar.FirstFault s n e.reason) (omega (arith, h.1.1, t1.2.len, one)) (in_header_tlvs flags.0 t1.0 (slice_range s number.1 end) h.1.0 e.reason begins h.0 h.1.2))
     (λ tlvs t2.
     let text : List ℕ = slice_range s number.1 tlvs.1 in
@@ -140,7 +140,7 @@ packet_takes s =
     let begun2 : BeginsPacket s flags.0 t1.0 (text ++ rest) = subst (λ (l : List ℕ). BeginsPacket s flags.0 t1.0 l) taken.parts begins in
     let spot : tlvs.1 ≡ 1 + length t1.0 + length text = omega (arith, one, t1.2.len, taken.len) in
     meets_bind (items_at (sized_at s) (end - tlvs.1) tlvs.1 end >>= λ x. Ok ((map (λ m. m.0) x.0, spans_from tlvs.1 (map (λ m. m.1) x.0)), x.1)) _ (λ (x : (List MessageFields × List Span) × ℕ). SpellsMessages tlvs.1 x.0.0 x.0.1 rest) P Q Q
-    (meets_bind (items_at (sized_at s) (end - tlvs.1) tlvs.1 end) _ (ItemsTook s tlvs.1 end SpellsSized) (λ (x : (List MessageFields × List Span) × ℕ). SpellsMessages tlvs.1 x.0.0 x.0.1 rest) (FirstFault (ItemsFault SpellsSized MessageFault) s tlvs.1 end) Q (items_take sized_at SpellsSized MessageFault sized_reader (end - tlvs.1) s tlvs.1 end t2.1 (omega arith) (omega arith))
+    (meets_bind (items_at (sized_at s) (end - tlvs.1) tlvs.1 end) _ (ItemsTook s tlvs.1 end SpellsSized) (λ (x : (List MessageFields × List Span) × ℕ). SpellsMessages tlvs.1 x.0.0 x.0.1 rest) (FirstFaultAt (ItemsFault SpellsSized MessageFault) s tlvs.1 end) Q (items_take sized_at SpellsSized MessageFault sized_reader (end - tlvs.1) s tlvs.1 end t2.1 (omega arith) (omega arith))
     (λ e h. subst (λ (n : ℕ). grammar.FirstFault s n e.reason) (omega (arith, h.1, spot)) (in_message flags.0 tlvs.0 t1.0 text rest h.0 e.reason begun2 t2.2 (fault_unsized rest h.0 e.reason h.2)))
     (λ x u. with_spans tlvs.1 x.0 rest u.1))
     (λ e h. h)

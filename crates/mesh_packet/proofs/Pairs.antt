@@ -9,7 +9,7 @@ use Rattle.mesh_addr.specs.Reading as addresses_read
 use Rattle.mesh_addr.proofs.Taking as address_laws
 use Rattle.mesh_addr.proofs.ReadAgain as address_back
 use Rattle.mesh_addr.proofs.Refusing as address_faults
-use Rattle.mesh_tlv.specs.Items.{FirstFault}
+use Rattle.mesh_tlv.specs.Items.{FirstFaultAt}
 use Rattle.mesh_tlv.specs.Grammar.{SpellsAddrTlv, AddrTlvBlockFault, TlvFault}
 use Rattle.mesh_tlv.specs.Reading.{addr_tlv_at, block_at}
 use Rattle.mesh_tlv.proofs.Items.{IsReader, Took}
@@ -20,11 +20,11 @@ use Rattle.mesh_packet.specs.Grammar.{SpellsPair, PairFault, in_addrs, in_addr_t
 use Rattle.mesh_packet.specs.Reading.{pair_at}
 
 module _ (width : ℕ) where
-  pair_takes : (s : List ℕ) (at end : ℕ) → at < end → end ≤ length s → MatchResult (pair_at width s at end) (Took s at end (SpellsPair width)) (FirstFault (PairFault width) s at end)
+  pair_takes : (s : List ℕ) (at end : ℕ) → at < end → end ≤ length s → MatchResult (pair_at width s at end) (Took s at end (SpellsPair width)) (FirstFaultAt (PairFault width) s at end)
   unfolding pair_at
   pair_takes s at end lt fits =
       let P = Took s at end (SpellsPair width) in
-      let Q = FirstFault (PairFault width) s at end in
+      let Q = FirstFaultAt (PairFault width) s at end in
       meets_bind (addresses_read.block_at s at end width) _ (address_laws.IsBlock width s at end) P (address_laws.IsFault width s at end) Q (address_laws.block_takes width s at end fits)
       (λ e h. (h.0, ap (λ (r : Refusal). r.place) h.3, subst (λ (n : ℕ). PairFault width (slice_range s at end) h.0 n) (sym (ap (λ (r : Refusal). r.reason) h.3)) (in_addrs h.0 h.1 h.2)))
       (λ a t1.

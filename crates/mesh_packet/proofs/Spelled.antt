@@ -14,7 +14,7 @@ use Rattle.mesh_tlv.proofs.Spelled.{tlv_block_spelled, addr_tlv_block_spelled, s
 use Rattle.mesh_packet.specs.declared.packet.Span.{Span}
 use Rattle.mesh_packet.specs.Fields.{BlockFields, MessageFields, PacketFields}
 use Rattle.mesh_packet.specs.Grammar.{SpellsOctet, SpellsNumber, SpellsOriginator, SpellsPair, SpellsMessageHead, SpellsBody, SpellsMessage, SpellsMessages, SpellsHeaderTlvs, Spells, width_of}
-use Rattle.mesh_packet.specs.Least.{IsOriginator, IsEncodableBlock, IsEncodableMessage, IsEncodable, least_octet, least_number, least_originator, least_head, message_flags, LeastPair, LeastBody, LeastMessage, has_tlvs, least_header_tlvs, packet_flags, LeastForm}
+use Rattle.mesh_packet.specs.Least.{IsPaddedOriginator, IsEncodableBlock, IsEncodableMessage, IsEncodable, least_octet, least_number, least_originator, least_head, message_flags, LeastPair, LeastBody, LeastMessage, has_tlvs, least_header_tlvs, packet_flags, LeastForm}
 use Rattle.mesh_packet.proofs.FlagSums.{tells_128, tells_64, tells_32, tells_16, tells_width, tells_8, tells_4, version_none}
 
 -- ---- optional parts
@@ -27,7 +27,7 @@ number_spelled : (x : Option ℕ) → SpellsNumber (is_some x) x (least_number x
 number_spelled None = refl
 number_spelled (Some n) = short_spelled n
 
-originator_spelled : (width : ℕ) (x : Option RawAddr) → width ≤ 16 → IsOriginator width x → SpellsOriginator (is_some x) width x (least_originator width x)
+originator_spelled : (width : ℕ) (x : Option RawAddr) → width ≤ 16 → IsPaddedOriginator width x → SpellsOriginator (is_some x) width x (least_originator width x)
 originator_spelled width None le h = refl
 originator_spelled width (Some a) le h =
     let octets : List ℕ = take width a.octets in

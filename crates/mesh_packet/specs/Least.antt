@@ -18,9 +18,9 @@ use Rattle.mesh_packet.specs.Fields.{BlockFields, MessageFields, PacketFields}
 -- ---- which packets can be encoded
 
 -- an originator has zeros behind its octets, and all its bits as prefix
-abbrev pub IsOriginator : ℕ → Option RawAddr → Type 0
-IsOriginator width None = Unit {0}
-IsOriginator width (Some a) = (a.octets ≡ padded (take width a.octets)) × (a.prefix ≡ 8 * width)
+abbrev pub IsPaddedOriginator : ℕ → Option RawAddr → Type 0
+IsPaddedOriginator width None = Unit {0}
+IsPaddedOriginator width (Some a) = (a.octets ≡ padded (take width a.octets)) × (a.prefix ≡ 8 * width)
 
 -- 1 to 255 addresses of that width, and TLVs that cover addresses of the block
 pub record IsEncodableBlock (width : ℕ) (block : BlockFields) : Type 0 where
@@ -32,7 +32,7 @@ pub record IsEncodableBlock (width : ℕ) (block : BlockFields) : Type 0 where
 pub record IsEncodableMessage (message : MessageFields) : Type 0 where
   pub wide : 0 < message.width
   pub narrow : message.width ≤ 16
-  pub originator : IsOriginator message.width message.originator
+  pub originator : IsPaddedOriginator message.width message.originator
   pub blocks : All (IsEncodableBlock message.width) message.blocks
 
 -- each message can be encoded

@@ -9,7 +9,7 @@ use Rattle.mesh_tlv.specs.Fields.{TlvFields}
 use Rattle.mesh_tlv.specs.Items.{items_at}
 use Rattle.mesh_tlv.specs.Reading.{tlv_at, addr_tlv_at, block_at}
 use Rattle.mesh_packet.specs.declared.packet.Span.{Span}
-use Rattle.mesh_packet.specs.declared.read.Opening.{Opening}
+use Rattle.mesh_packet.specs.declared.read.MessageHeader.{MessageHeader}
 use Rattle.mesh_packet.specs.Fields.{BlockFields, MessageFields, PacketFields}
 use Rattle.mesh_packet.specs.Grammar.{width_of}
 
@@ -41,7 +41,7 @@ pair_at width frame at end = do
   Ok (record { width = width; addrs = addrs.0; tlvs = tlvs.0 }, tlvs.1)
 
 -- what a message has before its TLVs
-unfoldable pub head_at : ℕ → List ℕ → ℕ → ℕ → Reading Opening
+unfoldable pub head_at : ℕ → List ℕ → ℕ → ℕ → Reading MessageHeader
 head_at flags frame at end = do
   originator ← originator_if (has flags 128) (width_of flags) frame at end
   limit ← octet_if (has flags 64) frame originator.1 end

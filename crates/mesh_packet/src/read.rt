@@ -70,7 +70,7 @@ fn address(width: u8, frame: &[u8], at: usize, end: usize) -> Result<(RawAddr, u
 
 /// What a message has before its TLVs.
 #[derive(Clone, Copy)]
-struct Opening {
+struct MessageHeader {
     originator: Option<RawAddr>,
     limit: Option<u8>,
     count: Option<u8>,
@@ -88,7 +88,7 @@ fn width_of(flags: u8) -> u8
 
 /// What a message with these flags has before its TLVs, and the place after it.
 #[tactic(auto, unfolding(crate::specs::Reading::head_at))]
-fn head(flags: u8, frame: &[u8], at: usize, end: usize) -> Result<(Opening, usize), Refusal>
+fn head(flags: u8, frame: &[u8], at: usize, end: usize) -> Result<(MessageHeader, usize), Refusal>
     requires at { at ≤ end }
     requires end { end ≤ length frame.now }
     ensures exact { result ≡ head_at flags frame.now at end }
@@ -103,7 +103,7 @@ fn head(flags: u8, frame: &[u8], at: usize, end: usize) -> Result<(Opening, usiz
     let sequence = read_short(frame, at, end, SHORT);
     let (sequence, at) = if_flagged(flags & SEQUENCE != 0, at, sequence)?;
     Ok((
-        Opening {
+        MessageHeader {
             originator,
             limit,
             count,

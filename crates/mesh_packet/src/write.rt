@@ -8,7 +8,7 @@ ghost use Rattle.mesh_packet.specs.declared.packet.EncodeFault.TheVariants as En
 ghost use Rattle.mesh_packet.specs.declared.packet.Span.{Span};
 ghost use Rattle.mesh_packet.specs.Fields.{fields_of_block, fields_of_message, fields_of_packet};
 ghost use Rattle.mesh_packet.specs.Grammar.{Spells};
-ghost use Rattle.mesh_packet.specs.Least.{IsEncodableBlock, IsEncodableMessage, IsEncodable, IsOriginator, least_octet, least_number, least_originator, least_head, message_flags, LeastPair, LeastBody, LeastMessage, least_header_tlvs, packet_flags, LeastForm, Passes, IsTooLong, Wrote};
+ghost use Rattle.mesh_packet.specs.Least.{IsEncodableBlock, IsEncodableMessage, IsEncodable, IsPaddedOriginator, least_octet, least_number, least_originator, least_head, message_flags, LeastPair, LeastBody, LeastMessage, least_header_tlvs, packet_flags, LeastForm, Passes, IsTooLong, Wrote};
 
 use crate::flags::{COUNT, LIMIT, ORIGINATOR, PACKET_SEQUENCE, PACKET_TLVS, SEQUENCE};
 use crate::packet::{Block, EncodeFault, Message, Packet};

@@ -5,9 +5,9 @@ use Rattle.std.specs.List.{sum_by}
 use Rattle.mesh_atoms.specs.declared.addr.NetAddr.{NetAddr}
 use Rattle.mesh_atoms.specs.declared.graphs.Arc4.{Arc4}
 use Rattle.mesh_atoms.specs.declared.graphs.PathRow.{PathRow}
-use Rattle.mesh_paths.specs.Paths.{IsAscending, EveryGraphHasCertificate}
+use Rattle.mesh_paths.specs.Paths.{AreAscendingRows, EveryGraphHasCertificate}
 use Rattle.mesh_paths.specs.Search.{Settles}
-use Rattle.mesh_paths.specs.Tree.{Offers, IsAsGood, Meets, IsGrounded, IsClosed, IsTree}
+use Rattle.mesh_paths.specs.Tree.{OffersTo, IsAsGood, MeetsRow, IsGrounded, IsClosed, IsTree}
 use Rattle.mesh_paths.proofs.NewOffers.{HasRow, HasNoRow, row_or_none, Leads, IsNew, IsLeastNew, least_new, put_in}
 use Rattle.mesh_paths.proofs.Order.{as_good_itself, no_dearer}
 use Rattle.mesh_paths.proofs.RoundsLaw.{sums_less}
@@ -28,8 +28,8 @@ missing_in rows arcs = sum_by (λ (arc : Arc4). missing_of (row_or_none rows arc
 
 -- each row is offered, and is as good as what the rows offer to its node; and none is dearer than what they offer to a node without a row
 record IsGrown (arcs : List Arc4) (from : NetAddr) (rows : List PathRow) : Type 0 where
-  ascending : IsAscending rows
-  start : Meets rows from 0 from
+  ascending : AreAscendingRows rows
+  start : MeetsRow rows from 0 from
   grounded : IsGrounded arcs from rows
   met : (offer row : PathRow) → Leads arcs rows offer → Contains rows row → row.node ≡ offer.node →
       IsAsGood row offer.metric offer.parent
@@ -61,7 +61,7 @@ module _ (arcs : List Arc4) (from : NetAddr) (costs : (arc : Arc4) → Contains 
   }
 
   -- A row more
-  module _ (rows more : List PathRow) (x : PathRow) (now : IsGrown arcs from rows) (least : IsLeastNew arcs rows x) (up : IsAscending more)
+  module _ (rows more : List PathRow) (x : PathRow) (now : IsGrown arcs from rows) (least : IsLeastNew arcs rows x) (up : AreAscendingRows more)
       (settles : Settles (Contains rows) x (Contains more)) where
     -- offers to nodes that still have no row
     still : (node : NetAddr) → HasNoRow more node → HasNoRow rows node
@@ -78,8 +78,8 @@ module _ (arcs : List Arc4) (from : NetAddr) (costs : (arc : Arc4) → Contains 
     grounded_more r has = elim (settles.cases r has) [
       | inl same ↦
           let (a, there, (f, has_f, begins, ends, sum, parent)) = least.0.0 in
-          let offer : Offers arcs from more x.node x.metric x.parent = inr (f, a, settles.kept f has_f, there, begins, ends, sum, parent) in
-          subst (λ (z : PathRow). Offers arcs from more z.node z.metric z.parent) same offer
+          let offer : OffersTo arcs from more x.node x.metric x.parent = inr (f, a, settles.kept f has_f, there, begins, ends, sum, parent) in
+          subst (λ (z : PathRow). OffersTo arcs from more z.node z.metric z.parent) same offer
       | inr old ↦ offers_more arcs from r.node r.metric r.parent settles.kept (now.grounded r old)
     ]
 

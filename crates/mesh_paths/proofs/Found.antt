@@ -14,8 +14,8 @@ use Rattle.mesh_atoms.specs.declared.graphs.Arc4.{Arc4}
 use Rattle.mesh_atoms.specs.declared.graphs.Graph.{Graph}
 use Rattle.mesh_atoms.specs.declared.graphs.PathRow.{PathRow}
 use Rattle.mesh_atoms.proofs.NetOrder.{net_total, net_exact, net_less, is_equal}
-use Rattle.mesh_paths.specs.Paths.{HasCosts, IsAscending, IsCertificate}
-use Rattle.mesh_paths.specs.Tree.{OffersBy, Offers, MeetsBy, Meets, IsTree}
+use Rattle.mesh_paths.specs.Paths.{HasCosts, AreAscendingRows, IsCertificate}
+use Rattle.mesh_paths.specs.Tree.{OffersBy, OffersTo, MeetsBy, MeetsRow, IsTree}
 use Rattle.mesh_paths.specs.Search.{IsSettledRow, IsKeyed}
 use Rattle.mesh_paths.proofs.Rows.{move_offer}
 use Rattle.mesh_paths.proofs.SearchLaw.{offers_more, meets_more}
@@ -36,7 +36,7 @@ key_of (e ∷ es) r has = elim (contains_cases e.1 (values_of es) r has) [
   | inr later ↦ let (q, found) = key_of es r later in (q, in_tail e es (q, r) found)
 ]
 
-ascending_of : (es : List (NetAddr × PathRow)) → IsStrictlySortedBy net_cmp (keys_of es) → ((e : NetAddr × PathRow) → Contains es e → e.1.node ≡ e.0) → IsAscending (values_of es)
+ascending_of : (es : List (NetAddr × PathRow)) → IsStrictlySortedBy net_cmp (keys_of es) → ((e : NetAddr × PathRow) → Contains es e → e.1.node ≡ e.0) → AreAscendingRows (values_of es)
 unfolding IsStrictlySortedBy
 ascending_of [] up keyed k d l = absurd (omega arith)
 ascending_of (e ∷ []) up keyed k d l = absurd (omega arith)
@@ -60,7 +60,7 @@ module _ (m : BTreeMap NetAddr PathRow) (keyed : IsKeyed m) (ordered : tree.IsOr
       let at : tree.get net_cmp m q ≡ Some r = lookup-from_Contains {eq = eq_by_cmp net_cmp} (eq_by_cmp_equiv net_total) q r m.entries (IsDistinct-from_sorted net_cmp (keys_of m.entries) ordered) found in
       subst (λ (n : NetAddr). tree.get net_cmp m n ≡ Some r) (sym (keyed q r at)) at
 
-  in_order : IsAscending (values_of m.entries)
+  in_order : AreAscendingRows (values_of m.entries)
   in_order = ascending_of m.entries ordered (λ e (k, l, is).
       let at : tree.get net_cmp m e.0 ≡ Some e.1 = subst (λ (x : NetAddr × PathRow). tree.get net_cmp m x.0 ≡ Some x.1) is (All-found net_total m ordered k e l) in
       keyed e.0 e.1 at)
@@ -69,7 +69,7 @@ module _ (m : BTreeMap NetAddr PathRow) (keyed : IsKeyed m) (ordered : tree.IsOr
   module _ (arcs : List Arc4) (from : NetAddr) (start : MeetsBy (IsSettledRow m) from 0 from)
       (met : (r : PathRow) (a : Arc4) → IsSettledRow m r → Contains arcs a → a.from ≡ r.node → MeetsBy (IsSettledRow m) a.to (r.metric + a.metric) r.node)
       (offered : (r : PathRow) → IsSettledRow m r → OffersBy (IsSettledRow m) arcs from r.node r.metric r.parent) where
-    closed : (node : NetAddr) (metric : ℕ) (parent : NetAddr) → Offers arcs from (values_of m.entries) node metric parent → Meets (values_of m.entries) node metric parent
+    closed : (node : NetAddr) (metric : ℕ) (parent : NetAddr) → OffersTo arcs from (values_of m.entries) node metric parent → MeetsRow (values_of m.entries) node metric parent
     closed node metric parent offer = elim offer [
       | inl (n, c, p) ↦ move_offer (values_of m.entries) from node 0 metric from parent n c p (meets_more from 0 from listed start)
       | inr (r, a, has, there, begins, ends, sum, p) ↦ move_offer (values_of m.entries) a.to node (r.metric + a.metric) metric r.node parent ends sum p

@@ -7,12 +7,12 @@ use Rattle.mesh_atoms.specs.declared.addr.NetAddr.{NetAddr}
 use Rattle.mesh_atoms.specs.declared.graphs.Arc4.{Arc4}
 use Rattle.mesh_atoms.specs.declared.graphs.PathRow.{PathRow}
 use Rattle.mesh_atoms.specs.Nodes.{IsBefore, net_cmp}
-use Rattle.mesh_paths.specs.declared.frontier.Run.{Run}
-use Rattle.mesh_paths.specs.declared.frontier.Step.{Step}
+use Rattle.mesh_paths.specs.declared.frontier.ArcRun.{ArcRun}
+use Rattle.mesh_paths.specs.declared.frontier.SearchStep.{SearchStep}
 use Rattle.mesh_paths.specs.Tree.{IsAsGood, MeetsBy}
-use Rattle.mesh_paths.specs.Search.{number_of, IsIndex, IsPart, Puts, Settles, IsSettledRow, row_of, step_of}
+use Rattle.mesh_paths.specs.Search.{number_of, IsIndex, IsPart, PutsStep, Settles, IsSettledRow, row_of, step_of}
 use Rattle.mesh_paths.specs.Rounds.{RowMap, IsMetIn, Betters, IsOfferBy, IsInRange, IsRounds}
-use Rattle.mesh_paths.specs.Frontier.{IsMetOrWaits, IsSearch, IsTaking, OffersAll, offered, Offers, work_in}
+use Rattle.mesh_paths.specs.Frontier.{IsMetOrWaits, IsSearch, IsTaking, OffersAll, offered, OffersArc, work_in}
 use Rattle.mesh_paths.proofs.Order.{same_node, at_most_of_before, as_good_trans}
 use Rattle.mesh_paths.proofs.Index.{in_run}
 use Rattle.mesh_paths.proofs.Rows.{of_each}
@@ -38,14 +38,14 @@ as_good_still row q metric parent better good =
     ] in
     as_good_trans row q metric parent no_worse good
 
-one_done : (arc : Arc4) (map : RowMap) (steps : List Step) → IsMetOrWaits map steps arc → (a : Arc4) → Contains (arc ∷ []) a → IsMetOrWaits map steps a
+one_done : (arc : Arc4) (map : RowMap) (steps : List SearchStep) → IsMetOrWaits map steps arc → (a : Arc4) → Contains (arc ∷ []) a → IsMetOrWaits map steps a
 one_done arc map steps state a has = elim (contains_cases arc [] a has) [
   | inl same ↦ subst (λ (x : Arc4). IsMetOrWaits map steps x) same state
   | inr later ↦ absurd (omega (arith, later.1))
 ]
 
 -- A row gets better, and its step waits
-module _ (old new : RowMap) (row : PathRow) (steps steps' : List Step) (betters : Betters old row new) (puts : Puts steps (step_of row) steps') where
+module _ (old new : RowMap) (row : PathRow) (steps steps' : List SearchStep) (betters : Betters old row new) (puts : PutsStep steps (step_of row) steps') where
   met_still : (node : NetAddr) (metric : ℕ) (parent : NetAddr) → MeetsBy (IsSettledRow old) node metric parent → MeetsBy (IsSettledRow new) node metric parent
   met_still node metric parent (q, has, is, good) = elim (same_node q.node row.node) [
     | inl same ↦ (row, betters.has, sym same ∙ is, as_good_still row q metric parent (betters.better q (subst (λ (n : NetAddr). tree.get net_cmp old n ≡ Some q) same has)) good)
@@ -62,11 +62,11 @@ module _ (old new : RowMap) (row : PathRow) (steps steps' : List Step) (betters 
   ]
 
 -- An arc of the row whose step is taken
-module _ (old new : RowMap) (arcs : List Arc4) (from : NetAddr) (first : PathRow) (arc : Arc4) (steps steps' : List Step) (cost : 1 ≤ arc.metric) (there : Contains arcs arc) (begins : arc.from ≡ first.node) (taking : IsTaking old arcs from first steps) where
+module _ (old new : RowMap) (arcs : List Arc4) (from : NetAddr) (first : PathRow) (arc : Arc4) (steps steps' : List SearchStep) (cost : 1 ≤ arc.metric) (there : Contains arcs arc) (begins : arc.from ≡ first.node) (taking : IsTaking old arcs from first steps) where
   offer : IsOfferBy old arc (offered first arc)
   offer = (first, taking.found, sym begins, sym begins, refl, refl)
 
-  module _ (betters : Betters old (offered first arc) new) (fits : IsInRange arc (offered first arc)) (puts : Puts steps (step_of (offered first arc)) steps') where
+  module _ (betters : Betters old (offered first arc) new) (fits : IsInRange arc (offered first arc)) (puts : PutsStep steps (step_of (offered first arc)) steps') where
     -- no arc betters the row that it leaves
     found_new : IsSettledRow new first
     found_new = elim (same_node first.node arc.to) [
@@ -94,12 +94,12 @@ module _ (old new : RowMap) (arcs : List Arc4) (from : NetAddr) (first : PathRow
     work_less = omega (arith, lighter_in old new arc (offered first arc) betters fits arcs from there cost offer taking.rounds, puts.more)
 
   -- is offered in its turn
-  pub offered_next : Offers old steps first arc new steps' → OffersAll old steps arcs from first (arc ∷ []) new steps'
+  pub offered_next : OffersArc old steps first arc new steps' → OffersAll old steps arcs from first (arc ∷ []) new steps'
   offered_next (inl (same, same_steps, good)) =
       let has : tree.get net_cmp old arc.from ≡ Some first = subst (λ (n : NetAddr). tree.get net_cmp old n ≡ Some first) (sym begins) taking.found in
       let met : IsMetIn old arc = met_already old arc first (first.metric + arc.metric) taking.rounds.keyed has refl good in
       let now : OffersAll old steps arcs from first (arc ∷ []) old steps = record { taking = taking; carried = λ a h. h; done = one_done arc old steps (inl met); work = omega arith } in
-      subst (λ (m : RowMap). OffersAll old steps arcs from first (arc ∷ []) m steps') (sym same) (subst (λ (s : List Step). OffersAll old steps arcs from first (arc ∷ []) old s) (sym same_steps) now)
+      subst (λ (m : RowMap). OffersAll old steps arcs from first (arc ∷ []) m steps') (sym same) (subst (λ (s : List SearchStep). OffersAll old steps arcs from first (arc ∷ []) old s) (sym same_steps) now)
   offered_next (inr (betters, fits, puts)) = record {
     taking = taking_new betters fits puts;
     carried = carried old new (offered first arc) steps steps' betters puts;
@@ -108,7 +108,7 @@ module _ (old new : RowMap) (arcs : List Arc4) (from : NetAddr) (first : PathRow
   }
 
 -- a run is offered arc by arc
-pub offered_on : (old now new : RowMap) (steps waits steps' : List Step) (arcs : List Arc4) (from : NetAddr) (first : PathRow) (run : List Arc4) (i : ℕ) (arc : Arc4) → arc ≡ slice_index_or run i arc → i < length run →
+pub offered_on : (old now new : RowMap) (steps waits steps' : List SearchStep) (arcs : List Arc4) (from : NetAddr) (first : PathRow) (run : List Arc4) (i : ℕ) (arc : Arc4) → arc ≡ slice_index_or run i arc → i < length run →
     ((a : Arc4) → IsMetOrWaits old steps a → IsMetOrWaits now waits a) → AllWithin (IsMetOrWaits now waits) run 0 i → work_in now arcs waits ≤ work_in old arcs steps → OffersAll now waits arcs from first (arc ∷ []) new steps' →
     ((a : Arc4) → IsMetOrWaits old steps a → IsMetOrWaits new steps' a) × AllWithin (IsMetOrWaits new steps') run 0 (i + 1) × (work_in new arcs steps' ≤ work_in old arcs steps)
 offered_on old now new steps waits steps' arcs from first run i arc is l carried done work next = (
@@ -120,7 +120,7 @@ offered_on old now new steps waits steps' arcs from first run i arc is l carried
 -- The steps
 
 -- the first step is put in
-pub begun : (old map : RowMap) (arcs : List Arc4) (from : NetAddr) (steps : List Step) → ((r : PathRow) → IsSettledRow old r → ⊥) → Settles (IsSettledRow old) (record { node = from; metric = 0; parent = from }) (IsSettledRow map) → IsRounds map arcs from →
+pub begun : (old map : RowMap) (arcs : List Arc4) (from : NetAddr) (steps : List SearchStep) → ((r : PathRow) → IsSettledRow old r → ⊥) → Settles (IsSettledRow old) (record { node = from; metric = 0; parent = from }) (IsSettledRow map) → IsRounds map arcs from →
     Contains steps (record { metric = 0; node = from; parent = from }) → IsSearch map arcs from steps
 begun old map arcs from steps none settles rounds waits = record {
   rounds = rounds;
@@ -134,34 +134,34 @@ begun old map arcs from steps none settles rounds waits = record {
 }
 
 -- the least step is taken
-pub taken : (map : RowMap) (arcs : List Arc4) (from : NetAddr) (all rest : List Step) (s : Step) (first : PathRow) → all ≡ s ∷ rest → tree.get net_cmp map s.node ≡ Some first → IsSearch map arcs from all → IsTaking map arcs from first rest
+pub taken : (map : RowMap) (arcs : List Arc4) (from : NetAddr) (all rest : List SearchStep) (s : SearchStep) (first : PathRow) → all ≡ s ∷ rest → tree.get net_cmp map s.node ≡ Some first → IsSearch map arcs from all → IsTaking map arcs from first rest
 taken map arcs from all rest s first popped found now = record { rounds = now.rounds; found = settled_at map s.node first now.rounds.keyed found; others = others }
   where
     others : (a : Arc4) → Contains arcs a → a.from ≢ first.node → IsMetOrWaits map rest a
     others a there off = elim (now.each a there) [
       | inl met ↦ inl met
-      | inr (r, has, at, waits) ↦ elim (contains_cases s rest (step_of r) (subst (λ (x : List Step). Contains x (step_of r)) popped waits)) [
-        | inl same ↦ absurd (off (sym at ∙ sym (ap (λ (x : Step). x.node) same) ∙ sym (now.rounds.keyed s.node first found)))
+      | inr (r, has, at, waits) ↦ elim (contains_cases s rest (step_of r) (subst (λ (x : List SearchStep). Contains x (step_of r)) popped waits)) [
+        | inl same ↦ absurd (off (sym at ∙ sym (ap (λ (x : SearchStep). x.node) same) ∙ sym (now.rounds.keyed s.node first found)))
         | inr later ↦ inr (r, has, at, later)
       ]
     ]
 
 -- it is passed over, since a better one has followed it
-pub passed : (map : RowMap) (arcs : List Arc4) (from : NetAddr) (all rest : List Step) (s : Step) → all ≡ s ∷ rest → tree.get net_cmp map s.node ≢ Some (row_of s) → IsSearch map arcs from all → IsSearch map arcs from rest
+pub passed : (map : RowMap) (arcs : List Arc4) (from : NetAddr) (all rest : List SearchStep) (s : SearchStep) → all ≡ s ∷ rest → tree.get net_cmp map s.node ≢ Some (row_of s) → IsSearch map arcs from all → IsSearch map arcs from rest
 passed map arcs from all rest s popped stale now = record { rounds = now.rounds; each = each }
   where
     each : (a : Arc4) → Contains arcs a → IsMetOrWaits map rest a
     each a there = elim (now.each a there) [
       | inl met ↦ inl met
-      | inr (r, has, at, waits) ↦ elim (contains_cases s rest (step_of r) (subst (λ (x : List Step). Contains x (step_of r)) popped waits)) [
-        | inl same ↦ absurd (stale (subst (λ (x : Step). tree.get net_cmp map x.node ≡ Some (row_of x)) (sym same) has))
+      | inr (r, has, at, waits) ↦ elim (contains_cases s rest (step_of r) (subst (λ (x : List SearchStep). Contains x (step_of r)) popped waits)) [
+        | inl same ↦ absurd (stale (subst (λ (x : SearchStep). tree.get net_cmp map x.node ≡ Some (row_of x)) (sym same) has))
         | inr later ↦ inr (r, has, at, later)
       ]
     ]
 
 -- all runs of its node are offered
-pub all_offered : (map : RowMap) (arcs : List Arc4) (runs part : List Run) (from : NetAddr) (first : PathRow) (steps : List Step) (number i : ℕ) → number ≡ number_of first.node → IsIndex arcs runs → IsPart runs number part → IsTaking map arcs from first steps → length part ≤ i →
-    AllWithin (λ (r : Run). (a : Arc4) → Contains (slice_range arcs r.start r.end) a → IsMetOrWaits map steps a) part 0 i → IsSearch map arcs from steps
+pub all_offered : (map : RowMap) (arcs : List Arc4) (runs part : List ArcRun) (from : NetAddr) (first : PathRow) (steps : List SearchStep) (number i : ℕ) → number ≡ number_of first.node → IsIndex arcs runs → IsPart runs number part → IsTaking map arcs from first steps → length part ≤ i →
+    AllWithin (λ (r : ArcRun). (a : Arc4) → Contains (slice_range arcs r.start r.end) a → IsMetOrWaits map steps a) part 0 i → IsSearch map arcs from steps
 all_offered map arcs runs part from first steps number i is_number index is taking end done = record { rounds = taking.rounds; each = each }
   where
     each : (a : Arc4) → Contains arcs a → IsMetOrWaits map steps a
@@ -169,13 +169,13 @@ all_offered map arcs runs part from first steps number i is_number index is taki
       | inl same ↦
           let (r, has, low, high) = index.all k l in
           let at : number_of a.from ≡ r.number = subst (λ (x : Arc4). number_of x.from ≡ r.number) e ((index.each r has).leaves k a low high) in
-          of_each (λ (r : Run). (a : Arc4) → Contains (slice_range arcs r.start r.end) a → IsMetOrWaits map steps a) part i end done r (is.all r has (sym at ∙ (ap number_of same ∙ sym is_number))) a
+          of_each (λ (r : ArcRun). (a : Arc4) → Contains (slice_range arcs r.start r.end) a → IsMetOrWaits map steps a) part i end done r (is.all r has (sym at ∙ (ap number_of same ∙ sym is_number))) a
           (in_run arcs r.start r.end k a low high (index.each r has).inside e)
       | inr off ↦ taking.others a (k, l, e) off
     ]
 
 -- no step waits
-pub all_met : (map : RowMap) (arcs : List Arc4) (from : NetAddr) (steps : List Step) → (0 < length steps → ⊥) → IsSearch map arcs from steps → (a : Arc4) → Contains arcs a → IsMetIn map a
+pub all_met : (map : RowMap) (arcs : List Arc4) (from : NetAddr) (steps : List SearchStep) → (0 < length steps → ⊥) → IsSearch map arcs from steps → (a : Arc4) → Contains arcs a → IsMetIn map a
 all_met map arcs from steps none now a there = elim (now.each a there) [
   | inl met ↦ met
   | inr (r, has, at, (k, l, e)) ↦ absurd (none (omega arith))

@@ -10,7 +10,7 @@ use Rattle.mesh_atoms.specs.declared.addr.Addr4.{Addr4}
 use Rattle.mesh_atoms.specs.declared.addr.NetAddr.{NetAddr}
 use Rattle.mesh_atoms.specs.declared.graphs.Arc4.{Arc4}
 use Rattle.mesh_atoms.proofs.Nets.{same_net}
-use Rattle.mesh_paths.specs.declared.frontier.Run.{Run}
+use Rattle.mesh_paths.specs.declared.frontier.ArcRun.{ArcRun}
 use Rattle.mesh_paths.specs.Search.{number_of, number_from, IsRun, IsIndex, IsPart}
 
 pub at_place : {X : Type 0} (xs : List X) (i : ℕ) (d : X) → i < length xs → slice_index_or xs i d ≡ slice_index_or xs i (slice_index_or xs i d)
@@ -33,35 +33,35 @@ run_begun arcs start number here = run_more arcs start start number number (λ k
 -- The runs of all arcs
 
 -- the runs hold the arcs before a place
-pub record IsUpto (arcs : List Arc4) (runs : List Run) (place : ℕ) : Type 0 where
-  pub each : (r : Run) → Contains runs r → IsRun arcs r
-  pub all : (k : ℕ) → k < place → (r : Run) × Contains runs r × (r.start ≤ k) × (k < r.end)
+pub record IsUpto (arcs : List Arc4) (runs : List ArcRun) (place : ℕ) : Type 0 where
+  pub each : (r : ArcRun) → Contains runs r → IsRun arcs r
+  pub all : (k : ℕ) → k < place → (r : ArcRun) × Contains runs r × (r.start ≤ k) × (k < r.end)
 
-pub upto_none : (arcs : List Arc4) (runs : List Run) → runs ≡ [] → IsUpto arcs runs 0
+pub upto_none : (arcs : List Arc4) (runs : List ArcRun) → runs ≡ [] → IsUpto arcs runs 0
 upto_none arcs runs none = record {
-  each = λ r has. absurd (let e : length runs ≡ 0 = ap (λ (x : List Run). length x) none in omega (arith, has.1));
+  each = λ r has. absurd (let e : length runs ≡ 0 = ap (λ (x : List ArcRun). length x) none in omega (arith, has.1));
   all = λ k l. absurd (omega arith);
 }
 
-pub upto_more : (arcs : List Arc4) (runs runs' : List Run) (run : Run) (place : ℕ) → runs' ≡ runs ++ (run ∷ []) → IsRun arcs run → run.start ≡ place → IsUpto arcs runs place → IsUpto arcs runs' run.end
-upto_more arcs runs runs' run place pushed is begins before = subst (λ (x : List Run). IsUpto arcs x run.end) (sym pushed) (record { each = each; all = all })
+pub upto_more : (arcs : List Arc4) (runs runs' : List ArcRun) (run : ArcRun) (place : ℕ) → runs' ≡ runs ++ (run ∷ []) → IsRun arcs run → run.start ≡ place → IsUpto arcs runs place → IsUpto arcs runs' run.end
+upto_more arcs runs runs' run place pushed is begins before = subst (λ (x : List ArcRun). IsUpto arcs x run.end) (sym pushed) (record { each = each; all = all })
   where
-    each : (r : Run) → Contains (runs ++ (run ∷ [])) r → IsRun arcs r
+    each : (r : ArcRun) → Contains (runs ++ (run ∷ [])) r → IsRun arcs r
     each r has = elim (Contains-push_cases runs run r has) [
       | inl old ↦ before.each r old
-      | inr same ↦ subst (λ (x : Run). IsRun arcs x) same is
+      | inr same ↦ subst (λ (x : ArcRun). IsRun arcs x) same is
     ]
 
-    all : (k : ℕ) → k < run.end → (r : Run) × Contains (runs ++ (run ∷ [])) r × (r.start ≤ k) × (k < r.end)
+    all : (k : ℕ) → k < run.end → (r : ArcRun) × Contains (runs ++ (run ∷ [])) r × (r.start ≤ k) × (k < r.end)
     all k l = elim (cases_lt k place) [
       | inl less ↦ let (r, has, low, high) = before.all k less in (r, Contains-append_left runs (run ∷ []) r has, low, high)
       | inr upto ↦ (run, Contains-append_right runs (run ∷ []) run (0, omega arith, refl), omega arith, l)
     ]
 
-pub index_upto : (arcs : List Arc4) (runs : List Run) (place : ℕ) → length arcs ≤ place → IsUpto arcs runs place → IsIndex arcs runs
+pub index_upto : (arcs : List Arc4) (runs : List ArcRun) (place : ℕ) → length arcs ≤ place → IsUpto arcs runs place → IsIndex arcs runs
 index_upto arcs runs place end upto = record { each = upto.each; all = λ k l. upto.all k (omega arith) }
 
-pub index_moved : (arcs : List Arc4) (runs moved : List Run) → IsPermutation runs moved → IsIndex arcs runs → IsIndex arcs moved
+pub index_moved : (arcs : List Arc4) (runs moved : List ArcRun) → IsPermutation runs moved → IsIndex arcs runs → IsIndex arcs moved
 index_moved arcs runs moved same index = record {
   each = λ r has. index.each r (Contains-permutation moved runs r (IsPermutation-sym runs moved same) has);
   all = λ k l. let (r, has, low, high) = index.all k l in (r, Contains-permutation runs moved r same has, low, high);
@@ -82,7 +82,7 @@ place_in arcs start end a upto inside (k, l, e) =
     let less : k < end - start = omega (arith, length-take (end - start) (drop start arcs), length-drop start arcs) in
     (start + k, omega arith, omega arith, sym (get_or-drop start arcs k a) ∙ (sym (get_or-take (end - start) (drop start arcs) k a less) ∙ e))
 
-pub from_run : (arcs : List Arc4) (run : Run) (a : Arc4) → IsRun arcs run → Contains (slice_range arcs run.start run.end) a → Contains arcs a
+pub from_run : (arcs : List Arc4) (run : ArcRun) (a : Arc4) → IsRun arcs run → Contains (slice_range arcs run.start run.end) a → Contains arcs a
 from_run arcs run a is has = let (k, low, high, e) = place_in arcs run.start run.end a is.upto is.inside has in (k, omega (arith, is.inside), e)
 
 -- nodes are known by their numbers
@@ -91,43 +91,43 @@ node_by_number a b e =
     let number : a.addr.0 ≡ b.addr.0 = omega (arith, a.within, b.within) in
     same_net a b (ap (λ (n : ℕ). let r : Addr4 = record { 0 = n } in r) number) (omega (arith, a.within, b.within))
 
-pub leaves_node : (arcs : List Arc4) (run : Run) (node : NetAddr) (a : Arc4) → IsRun arcs run → run.number ≡ number_of node → Contains (slice_range arcs run.start run.end) a → a.from ≡ node
+pub leaves_node : (arcs : List Arc4) (run : ArcRun) (node : NetAddr) (a : Arc4) → IsRun arcs run → run.number ≡ number_of node → Contains (slice_range arcs run.start run.end) a → a.from ≡ node
 leaves_node arcs run node a is number has =
     let (k, low, high, e) = place_in arcs run.start run.end a is.upto is.inside has in
     node_by_number a.from node (subst (λ (x : Arc4). number_of x.from ≡ run.number) e (is.leaves k a low high) ∙ number)
 
 -- The runs of a number: from the first whose number is no less, as long as none is greater
-module _ (runs rest part : List Run) (number start end : ℕ)
-    (from_start : IsPartitionPoint (λ (r : Run). ltb r.number number ≡ true) (λ (r : Run). ltb r.number number ≡ false) runs start)
-    (to_end : IsPartitionPoint (λ (r : Run). leb r.number number ≡ true) (λ (r : Run). leb r.number number ≡ false) rest end)
+module _ (runs rest part : List ArcRun) (number start end : ℕ)
+    (from_start : IsPartitionPoint (λ (r : ArcRun). ltb r.number number ≡ true) (λ (r : ArcRun). ltb r.number number ≡ false) runs start)
+    (to_end : IsPartitionPoint (λ (r : ArcRun). leb r.number number ≡ true) (λ (r : ArcRun). leb r.number number ≡ false) rest end)
     (bound : start ≤ length runs) (bound_end : end ≤ length rest) (is_rest : rest ≡ drop start runs) (is_part : part ≡ take end rest) where
   long_rest : length rest + start ≡ length runs
-  long_rest = let e : length rest ≡ length (drop start runs) = ap (λ (x : List Run). length x) is_rest in omega (arith, length-drop start runs)
+  long_rest = let e : length rest ≡ length (drop start runs) = ap (λ (x : List ArcRun). length x) is_rest in omega (arith, length-drop start runs)
 
   long_part : length part ≡ end
-  long_part = let e : length part ≡ length (take end rest) = ap (λ (x : List Run). length x) is_part in omega (arith, length-take end rest)
+  long_part = let e : length part ≡ length (take end rest) = ap (λ (x : List ArcRun). length x) is_part in omega (arith, length-take end rest)
 
-  at_rest : (k : ℕ) (d : Run) → slice_index_or rest k d ≡ slice_index_or runs (start + k) d
-  at_rest k d = ap (λ (x : List Run). slice_index_or x k d) is_rest ∙ get_or-drop start runs k d
+  at_rest : (k : ℕ) (d : ArcRun) → slice_index_or rest k d ≡ slice_index_or runs (start + k) d
+  at_rest k d = ap (λ (x : List ArcRun). slice_index_or x k d) is_rest ∙ get_or-drop start runs k d
 
-  at_part : (k : ℕ) (d : Run) → k < end → slice_index_or part k d ≡ slice_index_or rest k d
-  at_part k d l = ap (λ (x : List Run). slice_index_or x k d) is_part ∙ get_or-take end rest k d l
+  at_part : (k : ℕ) (d : ArcRun) → k < end → slice_index_or part k d ≡ slice_index_or rest k d
+  at_part k d l = ap (λ (x : List ArcRun). slice_index_or x k d) is_part ∙ get_or-take end rest k d l
 
-  has : (r : Run) → Contains part r → Contains runs r
+  has : (r : ArcRun) → Contains part r → Contains runs r
   has r (k, l, e) = (start + k, omega (arith, long_part, long_rest), sym (at_rest k r) ∙ (sym (at_part k r (omega (arith, long_part))) ∙ e))
 
-  is : (r : Run) → Contains part r → r.number ≡ number
+  is : (r : ArcRun) → Contains part r → r.number ≡ number
   is r (k, l, e) =
       let here : slice_index_or rest k r ≡ r = sym (at_part k r (omega (arith, long_part))) ∙ e in
       let there : slice_index_or runs (start + k) r ≡ r = sym (at_rest k r) ∙ here in
-      let low : number ≤ r.number = ltb-false r.number number (subst (λ (x : Run). ltb x.number number ≡ false) there (from_start.1 (start + k) r (omega arith) (omega (arith, long_rest, long_part)))) in
-      let high : r.number ≤ number = leb-true r.number number (subst (λ (x : Run). leb x.number number ≡ true) here (to_end.0 k r (omega arith) (omega (arith, long_part)))) in
+      let low : number ≤ r.number = ltb-false r.number number (subst (λ (x : ArcRun). ltb x.number number ≡ false) there (from_start.1 (start + k) r (omega arith) (omega (arith, long_rest, long_part)))) in
+      let high : r.number ≤ number = leb-true r.number number (subst (λ (x : ArcRun). leb x.number number ≡ true) here (to_end.0 k r (omega arith) (omega (arith, long_part)))) in
       omega arith
 
-  all : (r : Run) → Contains runs r → r.number ≡ number → Contains part r
+  all : (r : ArcRun) → Contains runs r → r.number ≡ number → Contains part r
   all r (k, l, e) same = elim (cases_lt k start) [
     | inl before ↦
-        let less : r.number < number = ltb-true r.number number (subst (λ (x : Run). ltb x.number number ≡ true) e (from_start.0 k r (omega arith) before)) in
+        let less : r.number < number = ltb-true r.number number (subst (λ (x : ArcRun). ltb x.number number ≡ true) e (from_start.0 k r (omega arith) before)) in
         absurd (omega arith)
     | inr from ↦
         let place : start + (k - start) ≡ k = omega arith in
@@ -135,7 +135,7 @@ module _ (runs rest part : List Run) (number start end : ℕ)
         elim (cases_lt (k - start) end) [
           | inl inside ↦ (k - start, omega (arith, long_part), at_part (k - start) r inside ∙ here)
           | inr after ↦
-              let more : number < r.number = leb-false r.number number (subst (λ (x : Run). leb x.number number ≡ false) here (to_end.1 (k - start) r after (omega (arith, long_rest)))) in
+              let more : number < r.number = leb-false r.number number (subst (λ (x : ArcRun). leb x.number number ≡ false) here (to_end.1 (k - start) r after (omega (arith, long_rest)))) in
               absurd (omega arith)
         ]
   ]

@@ -4,7 +4,7 @@ use Rattle.mesh_atoms.specs.declared.addr.NetAddr.{NetAddr}
 use Rattle.mesh_atoms.specs.Nodes.{IsBefore}
 use Rattle.mesh_atoms.specs.declared.graphs.Arc4.{Arc4}
 use Rattle.mesh_atoms.specs.declared.graphs.PathRow.{PathRow}
-use Rattle.mesh_paths.specs.Paths.{IsAscending}
+use Rattle.mesh_paths.specs.Paths.{AreAscendingRows}
 use Rattle.mesh_paths.specs.Search.{Settles}
 use Rattle.mesh_paths.specs.Tree.{IsAsGood}
 use Rattle.mesh_paths.proofs.Order.{same_node, at_most_or_before, at_most_both, as_good_trans, one_as_good}
@@ -58,7 +58,7 @@ IsLeastNew arcs rows row = IsNew arcs rows row × ((other : PathRow) → IsNew a
 abbrev pub IsEither : List Arc4 → List PathRow → Type 0
 IsEither arcs rows = ((row : PathRow) × IsLeastNew arcs rows row) ⊎ ((row : PathRow) → IsNew arcs rows row → ⊥)
 
-module _ (rows : List PathRow) (up : IsAscending rows) where
+module _ (rows : List PathRow) (up : AreAscendingRows rows) where
   -- what one arc offers is one row
   offer_by : (arc : Arc4) (first other : PathRow) → Contains rows first → first.node ≡ arc.from → LeadsBy rows arc other →
       IsAsGood (record { node = arc.to; metric = first.metric + arc.metric; parent = first.node }) other.metric other.parent
@@ -193,8 +193,8 @@ put_behind r x rows more settles = record {
 }
 
 -- a row whose node has none goes in at the place of its node
-pub put_in : (x : PathRow) (rows : List PathRow) → IsAscending rows → HasNoRow rows x.node →
-    (more : List PathRow) × IsAscending more × Settles (Contains rows) x (Contains more)
+pub put_in : (x : PathRow) (rows : List PathRow) → AreAscendingRows rows → HasNoRow rows x.node →
+    (more : List PathRow) × AreAscendingRows more × Settles (Contains rows) x (Contains more)
 put_in x [] up none = (x ∷ [], ascends_cons x [] up (λ y has. absurd (none_of y has)), put_first x [])
 put_in x (r ∷ rows) up none = elim (at_most_or_before x.node r.node) [
   | inl at_most ↦ elim (at_most_or_before r.node x.node) [

@@ -9,7 +9,7 @@ use Rattle.mesh_atoms.specs.declared.addr.NetAddr.{NetAddr}
 use Rattle.mesh_atoms.specs.Nodes.{IsBefore, IsAtMost}
 use Rattle.mesh_atoms.specs.declared.graphs.PathRow.{PathRow}
 use Rattle.mesh_atoms.proofs.Nets.{same_net}
-use Rattle.mesh_paths.specs.Paths.{IsAscending}
+use Rattle.mesh_paths.specs.Paths.{AreAscendingRows}
 use Rattle.mesh_paths.specs.Tree.{IsAsGood}
 use Rattle.mesh_atoms.proofs.Values.{before_trans, not_before_itself, at_most_itself}
 
@@ -100,7 +100,7 @@ no_dearer row metric parent good = elim good [ inl less ↦ omega arith | inr (s
 -- Ascending rows
 
 -- each row stands before all later ones
-pub before_later : (rows : List PathRow) → IsAscending rows → (k n : ℕ) (d : PathRow) → k + (n + 1) < length rows → IsBefore (slice_index_or rows k d).node (slice_index_or rows (k + (n + 1)) d).node
+pub before_later : (rows : List PathRow) → AreAscendingRows rows → (k n : ℕ) (d : PathRow) → k + (n + 1) < length rows → IsBefore (slice_index_or rows k d).node (slice_index_or rows (k + (n + 1)) d).node
 before_later rows up k zero d l = up k d l
 before_later rows up k (suc n) d l =
     let same : k + (suc n + 1) ≡ (k + (n + 1)) + 1 = omega arith in
@@ -108,7 +108,7 @@ before_later rows up k (suc n) d l =
     before_trans (slice_index_or rows k d).node (slice_index_or rows (k + (n + 1)) d).node (slice_index_or rows (k + (suc n + 1)) d).node (before_later rows up k n d (omega arith)) next
 
 -- rows at two places, of which the first is the lesser, have different nodes
-apart : (rows : List PathRow) → IsAscending rows → (r t : PathRow) (i j : ℕ) → i < j → j < length rows → slice_index_or rows i r ≡ r → slice_index_or rows j t ≡ t → r.node ≡ t.node → ⊥
+apart : (rows : List PathRow) → AreAscendingRows rows → (r t : PathRow) (i j : ℕ) → i < j → j < length rows → slice_index_or rows i r ≡ r → slice_index_or rows j t ≡ t → r.node ≡ t.node → ⊥
 apart rows up r t i j less in_j is_r is_t e =
     let at_j : slice_index_or rows j r ≡ t = get_or_from_slice_get rows j t r (slice_get-get_or rows j t in_j ∙ ap Some is_t) in
     let place : i + ((j - (i + 1)) + 1) ≡ j = omega arith in
@@ -116,7 +116,7 @@ apart rows up r t i j less in_j is_r is_t e =
     not_before_itself (slice_index_or rows i r).node (slice_index_or rows j r).node (ap (λ (x : PathRow). x.node) is_r ∙ e ∙ sym (ap (λ (x : PathRow). x.node) at_j)) later
 
 -- a row of ascending rows is known by its node
-pub single : (rows : List PathRow) → IsAscending rows → (r t : PathRow) → Contains rows r → Contains rows t → r.node ≡ t.node → r ≡ t
+pub single : (rows : List PathRow) → AreAscendingRows rows → (r t : PathRow) → Contains rows r → Contains rows t → r.node ≡ t.node → r ≡ t
 single rows up r t (i, in_i, is_r) (j, in_j, is_t) e = elim (cases_lt i j) [
   | inl less ↦ absurd (apart rows up r t i j less in_j is_r is_t e)
   | inr more ↦ elim (cases_lt j i) [
@@ -129,16 +129,16 @@ single rows up r t (i, in_i, is_r) (j, in_j, is_t) e = elim (cases_lt i j) [
 ]
 
 -- of a row and the rows behind it
-pub tail_ascends : (x : PathRow) (xs : List PathRow) → IsAscending (x ∷ xs) → IsAscending xs
+pub tail_ascends : (x : PathRow) (xs : List PathRow) → AreAscendingRows (x ∷ xs) → AreAscendingRows xs
 tail_ascends x xs up k d l = let e : suc k + 1 ≡ suc (k + 1) = omega arith in rw e at (up (suc k) d (omega arith))
 
-pub head_before : (x : PathRow) (xs : List PathRow) → IsAscending (x ∷ xs) → (y : PathRow) → Contains xs y → IsBefore x.node y.node
+pub head_before : (x : PathRow) (xs : List PathRow) → AreAscendingRows (x ∷ xs) → (y : PathRow) → Contains xs y → IsBefore x.node y.node
 head_before x xs up y (k, l, is) =
     let e : 0 + (k + 1) ≡ suc k = omega arith in
     let before : IsBefore x.node (slice_index_or xs k y).node = rw e at (before_later (x ∷ xs) up 0 k y (omega arith)) in
     subst (λ (r : PathRow). IsBefore x.node r.node) is before
 
-pub ascends_cons : (x : PathRow) (xs : List PathRow) → IsAscending xs → ((y : PathRow) → Contains xs y → IsBefore x.node y.node) →
-    IsAscending (x ∷ xs)
+pub ascends_cons : (x : PathRow) (xs : List PathRow) → AreAscendingRows xs → ((y : PathRow) → Contains xs y → IsBefore x.node y.node) →
+    AreAscendingRows (x ∷ xs)
 ascends_cons x xs up before zero d l = before (slice_index_or xs 0 d) (Contains-get_or xs 0 d (omega arith))
 ascends_cons x xs up before (suc k) d l = let e : suc k + 1 ≡ suc (k + 1) = omega arith in rw e (up k d (omega arith))

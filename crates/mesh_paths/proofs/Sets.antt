@@ -15,21 +15,21 @@ use Rattle.mesh_atoms.specs.declared.addr.NetAddr.{NetAddr}
 use Rattle.mesh_atoms.specs.Nodes.{net_cmp}
 use Rattle.mesh_atoms.specs.declared.graphs.PathRow.{PathRow}
 use Rattle.mesh_atoms.proofs.NetOrder.{net_total, net_exact, then_equal, is_equal}
-use Rattle.mesh_paths.specs.declared.frontier.Step.{Step}
-use Rattle.mesh_paths.specs.Search.{step_cmp, Puts, IsSettledRow, IsKeyed, Settles, row_of}
+use Rattle.mesh_paths.specs.declared.frontier.SearchStep.{SearchStep}
+use Rattle.mesh_paths.specs.Search.{step_cmp, PutsStep, IsSettledRow, IsKeyed, Settles, row_of}
 
 -- Orders
 
 pub step_total : IsTotalOrder step_cmp
-step_total = then_total (on_total (λ (a : Step). a.metric) nat_cmp_total) (then_total (on_total (λ (a : Step). a.node) net_total) (on_total (λ (a : Step). a.parent) net_total))
+step_total = then_total (on_total (λ (a : SearchStep). a.metric) nat_cmp_total) (then_total (on_total (λ (a : SearchStep). a.node) net_total) (on_total (λ (a : SearchStep). a.parent) net_total))
 
 pub step_exact : CmpEqualImpliesEq step_cmp
 step_exact a b e =
     let (f, rest) = then_equal (nat_cmp a.metric b.metric) (ordering_then (net_cmp a.node b.node) (net_cmp a.parent b.parent)) e in
     let (g, h) = then_equal (net_cmp a.node b.node) (net_cmp a.parent b.parent) rest in
-    ap (λ (m : ℕ). let r : Step = record { metric = m; node = a.node; parent = a.parent } in r) (exact_unsigned a.metric b.metric f)
-    ∙ ap (λ (n : NetAddr). let r : Step = record { metric = b.metric; node = n; parent = a.parent } in r) (net_exact a.node b.node g)
-    ∙ ap (λ (n : NetAddr). let r : Step = record { metric = b.metric; node = b.node; parent = n } in r) (net_exact a.parent b.parent h)
+    ap (λ (m : ℕ). let r : SearchStep = record { metric = m; node = a.node; parent = a.parent } in r) (exact_unsigned a.metric b.metric f)
+    ∙ ap (λ (n : NetAddr). let r : SearchStep = record { metric = b.metric; node = n; parent = a.parent } in r) (net_exact a.node b.node g)
+    ∙ ap (λ (n : NetAddr). let r : SearchStep = record { metric = b.metric; node = b.node; parent = n } in r) (net_exact a.parent b.parent h)
 
 -- Elements
 
@@ -57,7 +57,7 @@ module _ {K : Type 0} {cmp : K → K → Ordering} (o : IsTotalOrder cmp) (exact
       | inr e ↦ inr ((listed s q).0 (sym (ap (λ (b : Bool). cond b true (sorted.contains cmp s q)) e) ∙ (sym (at q) ∙ (listed n q).1 has)))
     ]
 
-pub puts_of : (s n : BTreeSet Step) (step : Step) → ((q : Step) → sorted.contains step_cmp n q ≡ cond (is_eq (step_cmp step q)) true (sorted.contains step_cmp s q)) → length n.keys ≤ length s.keys + 1 → Puts s.keys step n.keys
+pub puts_of : (s n : BTreeSet SearchStep) (step : SearchStep) → ((q : SearchStep) → sorted.contains step_cmp n q ≡ cond (is_eq (step_cmp step q)) true (sorted.contains step_cmp s q)) → length n.keys ≤ length s.keys + 1 → PutsStep s.keys step n.keys
 puts_of s n step at more = record {
   has = added step_total step_exact s n step at;
   kept = stays step_total step_exact s n step at;
@@ -72,7 +72,7 @@ one_more false n m e = omega arith
 
 -- Rows
 
-module _ (m n : BTreeMap NetAddr PathRow) (step : Step) (at : (q : NetAddr) → tree.get net_cmp n q ≡ cond (is_eq (net_cmp step.node q)) (Some (row_of step)) (tree.get net_cmp m q)) where
+module _ (m n : BTreeMap NetAddr PathRow) (step : SearchStep) (at : (q : NetAddr) → tree.get net_cmp n q ≡ cond (is_eq (net_cmp step.node q)) (Some (row_of step)) (tree.get net_cmp m q)) where
   here : (q : NetAddr) → is_eq (net_cmp step.node q) ≡ true → tree.get net_cmp n q ≡ Some (row_of step)
   here q e = at q ∙ ap (λ (b : Bool). cond b (Some (row_of step)) (tree.get net_cmp m q)) e
 

@@ -10,7 +10,7 @@ use Rattle.mesh_atoms.specs.declared.hello.Willing.{Willing as Wills}
 use Rattle.mesh_atoms.specs.Advertised.{Advertises, AdvertisesNetwork}
 use Rattle.mesh_atoms.specs.Base.{host}
 use Rattle.mesh_atoms.specs.Codes.Codes.{metric_value}
-use Rattle.mesh_atoms.specs.Radio.{Hop, Joined, Itself, By, Router, Willing, AddressOf, OriginatorOf, Attaches}
+use Rattle.mesh_atoms.specs.Radio.{HopCosts, Joined, Itself, By, Router, IsWillingRouter, AddressOf, OriginatorOf, Attaches}
 use Rattle.mesh_atoms.specs.Routes.{RouteArc, To_neighbour, To_two_hop, By_router, By_address, By_network}
 use Rattle.mesh_atoms.specs.Settled.{At, IsPeer, IsStray}
 use Rattle.mesh_atoms.specs.State.{State, IsOriginator}
@@ -71,14 +71,14 @@ module _ (s : Scenario) (states : List State) (now : ℕ) (S : IsSettledNetwork 
   pub self_of : (x : ℕ) (p : State) → At states x p → NetAddr
   self_of x p at = host (held s states now S x p at).self
 
-  pub own_arc : (x : ℕ) (p : State) (at : At states x p) (y m : ℕ) (a : NetAddr) → Hop s x y m → NodeOf y a → RouteArc p (host (held s states now S x p at).self) a m
+  pub own_arc : (x : ℕ) (p : State) (at : At states x p) (y m : ℕ) (a : NetAddr) → HopCosts s x y m → NodeOf y a → RouteArc p (host (held s states now S x p at).self) a m
   own_arc x p at y m a hop node =
       let (b, e, is) = node in
       let n = neighbouring s states now S y at (near_of s states now S hop) in
       arc_at p (host (held s states now S x p at).self) a (held s states now S x p at).self b (metric_value n.k.there) m refl e (same_metric s states now S n.k.metric hop.1 ∙ hop.2)
       (To_neighbour n.o n.n (held s states now S x p at).routes.is_self (has_with s states now S n b is) n.k.is.metric_out)
 
-  pub relay_arc : (x : ℕ) (p : State) (at : At states x p) (w z m : ℕ) (o a : NetAddr) → Joined s x w → (w ≡ x → ⊥) → IsRelayOf s states now S z w → Hop s w z m → OriginNode w o → NodeOf z a → RouteArc p o a m
+  pub relay_arc : (x : ℕ) (p : State) (at : At states x p) (w z m : ℕ) (o a : NetAddr) → Joined s x w → (w ≡ x → ⊥) → IsRelayOf s states now S z w → HopCosts s w z m → OriginNode w o → NodeOf z a → RouteArc p o a m
   relay_arc x p at w z m o a joined other relay hop first node =
       let (b, e, is) = node in
       let (c, f, start) = first in
@@ -114,8 +114,8 @@ module _ (s : Scenario) (states : List State) (now : ℕ) (S : IsSettledNetwork 
 
   abbrev pub ArcCase : ℕ → NetAddr → NetAddr → ℕ → Type 0
   ArcCase x m n c =
-      ((y : ℕ) × OriginNode x m × Hop s x y c × NodeOf y n)
-      ⊎ (((w y : ℕ) × (w ≡ x → ⊥) × OriginNode w m × Willing s w × Hop s w y c × NodeOf y n)
+      ((y : ℕ) × OriginNode x m × HopCosts s x y c × NodeOf y n)
+      ⊎ (((w y : ℕ) × (w ≡ x → ⊥) × OriginNode w m × IsWillingRouter s w × HopCosts s w y c × NodeOf y n)
       ⊎ (((g : ℕ) × (g ≡ x → ⊥) × OriginNode g m × Attaches s g n c)
       ⊎ ((v : ℕ) × (v ≡ x → ⊥) × NodeOf v m × (Joined s x v → ⊥))))
 
@@ -136,7 +136,7 @@ module _ (s : Scenario) (states : List State) (now : ℕ) (S : IsSettledNetwork 
       let k = known_by s states now S link.addr o n w at with (address_in s states now S link.addr to_at (j, by.link.0)) in
       let (u, is, adj) = shown_near s states now S j a to_at by.shown in
       let hop = shown_out s states now S j u a m t.metric_out to_at is by.shown out by.metric_out in
-      let will : Willing s w = (k.to.settings, S.routers.settings w k.to k.at, λ none. wills (ap (λ (b : Wills). b.routing) k.is.willing ∙ none)) in
+      let will : IsWillingRouter s w = (k.to.settings, S.routers.settings w k.to k.at, λ none. wills (ap (λ (b : Wills). b.routing) k.is.willing ∙ none)) in
       inr (inl (w, u, (λ e. apart s states now S (i, j, there, home, joins) (sym e)), first_of o k.at k.is.originator_is, will, hop, (a, refl, is)))
   arc_cases x p at _ _ _ (By_router {from = from} {to = to} t has) = elim ((S.settled x p at).router_from (record { from = from; to = to }) t has) [
     | inl stray ↦ stray_case x from (host to) (metric_value t.metric) stray
@@ -156,8 +156,8 @@ module _ (s : Scenario) (states : List State) (now : ℕ) (S : IsSettledNetwork 
   abbrev pub view : (x : ℕ) (p : State) → At states x p → View NetAddr
   view x p at = record {
     x = x;
-    Hop = Hop s;
-    Willing = Willing s;
+    Hop = HopCosts s;
+    Willing = IsWillingRouter s;
     Joined = Joined s x;
     AddressOf = NodeOf;
     Origin = OriginNode;

@@ -7,7 +7,7 @@ use Rattle.mesh_atoms.specs.declared.settings.Scenario.{Scenario}
 use Rattle.mesh_atoms.specs.declared.settings.RouterSettings.{RouterSettings}
 use Rattle.mesh_atoms.specs.Base.{host}
 use Rattle.mesh_atoms.specs.Codes.Codes.{metric_value}
-use Rattle.mesh_atoms.specs.Radio.{Hop, Willing, Joins, AddressOf, Attaches, RadioLeast, To_router, To_network}
+use Rattle.mesh_atoms.specs.Radio.{HopCosts, IsWillingRouter, Joins, AddressOf, Attaches, RadioLeast, To_router, To_network}
 use Rattle.mesh_atoms.specs.Routes.{RouteArc, IsOutside, IsParent, IsNextHop}
 use Rattle.mesh_atoms.specs.Settled.{At}
 use Rattle.mesh_atoms.specs.State.{State}
@@ -101,7 +101,7 @@ module _ (s : Scenario) (states : List State) (now : ℕ) (S : IsSettledNetwork 
 
   -- the least link of the neighbour costs what the neighbour costs
   hop_by_link : (x : ℕ) (p : State) (at : At states x p) (row : Route) (h : IsNextHop p now (self s states now S x p at) row) (n near : ℕ) →
-      Hop s x n near → AddressOf s n h.first → HopsTo s states x row.iface n row.next near
+      HopCosts s x n near → AddressOf s n h.first → HopsTo s states x row.iface n row.next near
   hop_by_link x p at row h n near hop is =
       let k = known_by s states now S h.first h.originator h.neighbour n at h.owner is in
       let (y, j, q, there, back, q_at, joins, by) = (S.settled x p at).link_from row.iface (record { addr = row.next }) h.way.link h.way.stands h.way.state in
@@ -123,7 +123,7 @@ module _ (s : Scenario) (states : List State) (now : ℕ) (S : IsSettledNetwork 
       let Q : ℕ → Type 0 = λ b. At states b q in
       record { j = j; q = q; at = subst Q same q_at; there = there; back = back; joins = joined; on = by.keyed.0; value = omega arith }
 
-  leads_router : (x z : ℕ) (p : State) (at : At states x p) (a : Addr4) (n near : ℕ) (c : ℕ) → AddressOf s z a → Hop s x n near →
+  leads_router : (x z : ℕ) (p : State) (at : At states x p) (a : Addr4) (n near : ℕ) (c : ℕ) → AddressOf s z a → HopCosts s x n near →
       LeadsTo NetAddr (V s states now S x p at) n z c near → LeadsOn s states (host a) n near c
   leads_router x z p at a n near c is hop way = elim way.leads [
     | inl here ↦
@@ -135,7 +135,7 @@ module _ (s : Scenario) (states : List State) (now : ℕ) (S : IsSettledNetwork 
         Goes_on q rest q_at ((settled_rows s states now n q S q_at (host a) rest).1 (To_router other is least)) sum
   ]
 
-  leads_net : (x : ℕ) (p : State) (at : At states x p) (dest : NetAddr) (n near : ℕ) (c : ℕ) → Hop s x n near →
+  leads_net : (x : ℕ) (p : State) (at : At states x p) (dest : NetAddr) (n near : ℕ) (c : ℕ) → HopCosts s x n near →
       LeadsToNet NetAddr (V s states now S x p at) n dest c near → LeadsOn s states dest n near c
   leads_net x p at dest n near c hop way = elim way.leads [
     | inl here ↦ At_gateway here.0 here.1 here.2
@@ -146,7 +146,7 @@ module _ (s : Scenario) (states : List State) (now : ℕ) (S : IsSettledNetwork 
   ]
 
   next_hops_lead : (x : ℕ) (p : State) (at : At states x p) (row : Route) → Contains p.routes row →
-      (n near : ℕ) × Hop s x n near × LeastWilling (Hop s) (Willing s) x n near × HopsTo s states x row.iface n row.next near × LeadsOn s states row.dest n near row.metric
+      (n near : ℕ) × HopCosts s x n near × LeastWilling (HopCosts s) (IsWillingRouter s) x n near × HopsTo s states x row.iface n row.next near × LeadsOn s states row.dest n near row.metric
   next_hops_lead x p at row stands =
       let routes = (held s states now S x p at).routes in
       let h = routes.next_hop row stands in

@@ -8,7 +8,7 @@ use Rattle.mesh_atoms.specs.declared.settings.RouterSettings.{RouterSettings}
 use Rattle.mesh_atoms.specs.declared.settings.Scenario.{Scenario}
 use Rattle.mesh_atoms.specs.Codes.Codes.{metric_value}
 use Rattle.mesh_atoms.specs.Hello.{Says, SaysSymmetric, Near_in, Near_out, Link_in, Link_out, IsSaid}
-use Rattle.mesh_atoms.specs.Radio.{Adjacent, IsMetric, Hop, Router, AddressOf}
+use Rattle.mesh_atoms.specs.Radio.{Adjacent, IsMetric, HopCosts, Router, AddressOf}
 use Rattle.mesh_atoms.specs.RelayGraphs.{IsRoutingGraph}
 use Rattle.mesh_atoms.specs.Relays.{Covers}
 use Rattle.mesh_atoms.specs.Routes.{AreRoutes}
@@ -79,7 +79,7 @@ module _ (s : Scenario) (states : List State) (now : ℕ) (S : IsSettledNetwork 
   pub adjacent : {y z : ℕ} {m : Metric} → IsMetric s y z m → Adjacent s y z
   adjacent {m = m} is = let (i, j, home, joins) = is.some in (i, j, m, home, joins)
 
-  pub near_of : {y z c : ℕ} → Hop s y z c → Adjacent s y z
+  pub near_of : {y z c : ℕ} → HopCosts s y z c → Adjacent s y z
   near_of hop = adjacent hop.1
 
   pub apart : {y z : ℕ} → Adjacent s y z → y ≡ z → ⊥
@@ -152,18 +152,18 @@ module _ (s : Scenario) (states : List State) (now : ℕ) (S : IsSettledNetwork 
   pub some_one : {A : Type 0} (a b : A) (o : Option A) → o ≡ Some a → o ≡ Some b → a ≡ b
   some_one a b o e f = cc
 
-  pub hop_of : {y z : ℕ} (m n : Metric) → IsMetric s y z m → m ≡ n → Hop s y z (metric_value n)
+  pub hop_of : {y z : ℕ} (m n : Metric) → IsMetric s y z m → m ≡ n → HopCosts s y z (metric_value n)
   hop_of {y} {z} m n is e = let P : Metric → Type 0 = λ b. IsMetric s y z b in (n, subst P e is, refl)
 
   -- What a HELLO shows of an address of router u
 
-  pub near_in_is : {w : ℕ} {q : State} (j u : ℕ) (a : Addr4) (m : Metric) → At states w q → AddressOf s u a → Says q j now a (Near_in m) → Hop s u w (metric_value m)
+  pub near_in_is : {w : ℕ} {q : State} (j u : ℕ) (a : Addr4) (m : Metric) → At states w q → AddressOf s u a → Says q j now a (Near_in m) → HopCosts s u w (metric_value m)
   near_in_is j u a m at is shows =
       let (o, n, has, e) = shows in
       let k = known_by a o n u at has is in
       hop_of k.home m k.metric_back (some_one k.home m n.metric_in k.is.metric_in e)
 
-  pub near_out_is : {w : ℕ} {q : State} (j u : ℕ) (a : Addr4) (m : Metric) → At states w q → AddressOf s u a → Says q j now a (Near_out m) → Hop s w u (metric_value m)
+  pub near_out_is : {w : ℕ} {q : State} (j u : ℕ) (a : Addr4) (m : Metric) → At states w q → AddressOf s u a → Says q j now a (Near_out m) → HopCosts s w u (metric_value m)
   near_out_is j u a m at is shows =
       let (o, n, has, e) = shows in
       let k = known_by a o n u at has is in
@@ -182,7 +182,7 @@ module _ (s : Scenario) (states : List State) (now : ℕ) (S : IsSettledNetwork 
   ]
 
   pub shown_in : {w : ℕ} {q : State} (j u : ℕ) (a : Addr4) (m : Metric) (shown : Option Metric) → At states w q → AddressOf s u a → SaysSymmetric q j now a →
-      shown ≡ Some m → IsSaid (λ i. Says q j now a (Near_in i)) (λ i. Says q j now a (Link_in i)) shown → Hop s u w (metric_value m)
+      shown ≡ Some m → IsSaid (λ i. Says q j now a (Near_in i)) (λ i. Says q j now a (Link_in i)) shown → HopCosts s u w (metric_value m)
   shown_in {w} {q} j u a m shown at is shows e given =
       let P : Option Metric → Type 0 = λ b. IsSaid (λ i. Says q j now a (Near_in i)) (λ i. Says q j now a (Link_in i)) b in
       let here : P (Some m) = subst P e given in
@@ -195,7 +195,7 @@ module _ (s : Scenario) (states : List State) (now : ℕ) (S : IsSettledNetwork 
       ]
 
   pub shown_out : {w : ℕ} {q : State} (j u : ℕ) (a : Addr4) (m : Metric) (shown : Option Metric) → At states w q → AddressOf s u a → SaysSymmetric q j now a →
-      shown ≡ Some m → IsSaid (λ i. Says q j now a (Near_out i)) (λ i. Says q j now a (Link_out i)) shown → Hop s w u (metric_value m)
+      shown ≡ Some m → IsSaid (λ i. Says q j now a (Near_out i)) (λ i. Says q j now a (Link_out i)) shown → HopCosts s w u (metric_value m)
   shown_out {w} {q} j u a m shown at is shows e given =
       let P : Option Metric → Type 0 = λ b. IsSaid (λ i. Says q j now a (Near_out i)) (λ i. Says q j now a (Link_out i)) b in
       let here : P (Some m) = subst P e given in

@@ -11,10 +11,10 @@ use Rattle.mesh_atoms.specs.declared.graphs.Far.{Far}
 use Rattle.mesh_atoms.specs.declared.settings.RouterSettings.{RouterSettings}
 use Rattle.mesh_atoms.specs.declared.settings.Scenario.{Scenario}
 use Rattle.mesh_atoms.specs.declared.hello.Willing.{Willing as Wills}
-use Rattle.mesh_atoms.specs.Advertised.{Gives, Advertises}
+use Rattle.mesh_atoms.specs.Advertised.{GivesAsSelector, Advertises}
 use Rattle.mesh_atoms.specs.Codes.Codes.{metric_value}
 use Rattle.mesh_atoms.specs.Hello.{Says, Routing}
-use Rattle.mesh_atoms.specs.Radio.{Adjacent, IsMetric, Hop, Willing, AddressOf}
+use Rattle.mesh_atoms.specs.Radio.{Adjacent, IsMetric, HopCosts, IsWillingRouter, AddressOf}
 use Rattle.mesh_atoms.specs.Relays.{Offers, IsWilling, IsRelay}
 use Rattle.mesh_atoms.specs.Settled.{At, IsTwoHopBy}
 use Rattle.mesh_atoms.specs.State.{State, HasTwoHop, HasSymmetric}
@@ -34,7 +34,7 @@ module _ (s : Scenario) (states : List State) (now : ℕ) (S : IsSettledNetwork 
     pub k : Known s states now S z q w o n
     pub chosen : Contains q.relays.routing o
 
-  pub relays_willing : (z w : ℕ) → IsRelayOf z w → Willing s w
+  pub relays_willing : (z w : ℕ) → IsRelayOf z w → IsWillingRouter s w
   relays_willing z w r =
       let sound = held s states now S z r.q r.at in
       let (e, stands, id, wills) = sound.covers.willing r.o r.chosen in
@@ -80,7 +80,7 @@ module _ (s : Scenario) (states : List State) (now : ℕ) (S : IsSettledNetwork 
         metric = b.k.metric_back;
       }
 
-  pub willing_at : {v : ℕ} {q : State} → At states v q → Willing s v → q.settings.willing.routing ≡ 0 → ⊥
+  pub willing_at : {v : ℕ} {q : State} → At states v q → IsWillingRouter s v → q.settings.willing.routing ≡ 0 → ⊥
   willing_at {v} {q} at wills none =
       let (r, is, positive) = wills in
       positive (ap (λ (b : RouterSettings). b.willing.routing) (same_settings s states now S r at is) ∙ none)
@@ -88,7 +88,7 @@ module _ (s : Scenario) (states : List State) (now : ℕ) (S : IsSettledNetwork 
   -- what a direct entry offers is one hop
   pub by_direct : (u z : ℕ) (q : State) (at : At states z q) (a : Addr4) (e most : ℕ) →
       ((d : Direct) × Contains (held s states now S z q at).graph.direct d × (d.addr ≡ a) × (d.cost ≡ e)) →
-      AddressOf s u a → e ≤ most → (k : ℕ) × Hop s u z k × (k ≤ most)
+      AddressOf s u a → e ≤ most → (k : ℕ) × HopCosts s u z k × (k ≤ most)
   by_direct u z q at a e most offered is under =
       let (d, stands, of_a, cost) = offered in
       let (o, n, m, has, metric_in, value) = ((held s states now S z q at).is_graph.direct d).0 stands in
@@ -100,7 +100,7 @@ module _ (s : Scenario) (states : List State) (now : ℕ) (S : IsSettledNetwork 
   pub by_way : (u z : ℕ) (q : State) (at : At states z q) (a : Addr4) (e most : ℕ) →
       ((near : Near) × Contains (held s states now S z q at).graph.near near × IsRelay q.relays.routing near × (f : Far) × Contains (held s states now S z q at).graph.far f
       × (f.via ≡ near.id) × (f.addr ≡ a) × (near.cost + f.cost ≡ e)) →
-      AddressOf s u a → e ≤ most → (w k l : ℕ) × Hop s u w k × Hop s w z l × IsRelayOf z w × (k + l ≤ most)
+      AddressOf s u a → e ≤ most → (w k l : ℕ) × HopCosts s u w k × HopCosts s w z l × IsRelayOf z w × (k + l ≤ most)
   by_way u z q at a e most offered is under =
       let (near, near_stands, chosen, f, far_stands, via, of_a, cost) = offered in
       let (n, m, has, metric_in, value, will) = ((held s states now S z q at).is_graph.near near).0 near_stands in
@@ -112,13 +112,13 @@ module _ (s : Scenario) (states : List State) (now : ℕ) (S : IsSettledNetwork 
       let k = known_as s states now S near.id n w at has (subst P via (known_originator s states now S far_known)) in
       let Q : Addr4 → Type 0 = λ b. AddressOf s u b in
       let here : AddressOf s u key.addr = subst Q (sym (at_a ∙ of_a)) is in
-      let first : Hop s u w (metric_value m') = shown_in s states now S j u key.addr m' t.metric_in to_at here by.shown shown_m by.metric_in in
-      let second : Hop s w z (metric_value m) = hop_of s states now S k.home m k.metric_back (some_one s states now S k.home m n.metric_in k.is.metric_in metric_in) in
+      let first : HopCosts s u w (metric_value m') = shown_in s states now S j u key.addr m' t.metric_in to_at here by.shown shown_m by.metric_in in
+      let second : HopCosts s w z (metric_value m) = hop_of s states now S k.home m k.metric_back (some_one s states now S k.home m n.metric_in k.is.metric_in metric_in) in
       let relay : IsRelayOf z w = record { q = q; at = at; o = near.id; n = n; has = has; k = k; chosen = chosen } in
       (w, metric_value m', metric_value m, first, second, relay, omega arith)
 
-  pub cover : (u v z m n : ℕ) → Hop s u v m → Willing s v → Hop s v z n → (u ≡ z → ⊥) →
-      ((k : ℕ) × Hop s u z k × (k ≤ m + n)) ⊎ ((w k l : ℕ) × Hop s u w k × Hop s w z l × IsRelayOf z w × (k + l ≤ m + n))
+  pub cover : (u v z m n : ℕ) → HopCosts s u v m → IsWillingRouter s v → HopCosts s v z n → (u ≡ z → ⊥) →
+      ((k : ℕ) × HopCosts s u z k × (k ≤ m + n)) ⊎ ((w k l : ℕ) × HopCosts s u w k × HopCosts s w z l × IsRelayOf z w × (k + l ≤ m + n))
   cover u v z m n first wills second other =
       let adj : Adjacent s z v = back s states now S (near_of s states now S second) in
       let on : Adjacent s v u = back s states now S (near_of s states now S first) in
@@ -155,7 +155,7 @@ module _ (s : Scenario) (states : List State) (now : ℕ) (S : IsSettledNetwork 
     pub is : AddressOf s z a
     pub same : k.there ≡ m
 
-  pub giver : {w : ℕ} {q : State} (a o : Addr4) (m : Metric) → At states w q → (g : Gives q a o m) → Giver w q a m o g.neighbour
+  pub giver : {w : ℕ} {q : State} (a o : Addr4) (m : Metric) → At states w q → (g : GivesAsSelector q a o m) → Giver w q a m o g.neighbour
   giver {w} a o m at g =
       let (z, k) = known s states now S o g.neighbour at g.symmetric in
       let is : AddressOf s z a = elim g.address [
@@ -186,10 +186,10 @@ module _ (s : Scenario) (states : List State) (now : ℕ) (S : IsSettledNetwork 
     pub row : Advertises q a m
     pub value : metric_value m ≡ c
 
-  pub gives : {w z : ℕ} {q : State} (a : Addr4) (c : ℕ) → At states w q → IsRelayOf z w → Hop s w z c → AddressOf s z a → Given w z q a c
+  pub gives : {w z : ℕ} {q : State} (a : Addr4) (c : ℕ) → At states w q → IsRelayOf z w → HopCosts s w z c → AddressOf s z a → Given w z q a c
   gives {w} {z} {q} a c at r hop is =
       let b = neighbouring s states now S z at (near_of s states now S hop) in
-      let given : Gives q a b.o b.k.there = record {
+      let given : GivesAsSelector q a b.o b.k.there = record {
         neighbour = b.n;
         symmetric = b.has;
         selects = selects b.o b.n at b.k r;
@@ -215,7 +215,7 @@ module _ (s : Scenario) (states : List State) (now : ℕ) (S : IsSettledNetwork 
   pub record Taken (w : ℕ) (a : Addr4) (m : Metric) : Type 0 where
     pub z : ℕ
     pub is : AddressOf s z a
-    pub hop : Hop s w z (metric_value m)
+    pub hop : HopCosts s w z (metric_value m)
     pub relay : IsRelayOf z w
 
   pub takes : {w : ℕ} {q : State} (a : Addr4) (m : Metric) → At states w q → Advertises q a m → Taken w a m

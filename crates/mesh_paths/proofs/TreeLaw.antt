@@ -9,7 +9,7 @@ use Rattle.mesh_atoms.specs.declared.graphs.Graph.{Graph}
 use Rattle.mesh_atoms.specs.declared.graphs.PathRow.{PathRow}
 use Rattle.mesh_atoms.specs.declared.graphs.Certificate.{Certificate}
 use Rattle.mesh_paths.specs.Paths.{InGraph, HasCosts, IsPathRow, IsCertificate}
-use Rattle.mesh_paths.specs.Tree.{Offers, Meets, IsTree}
+use Rattle.mesh_paths.specs.Tree.{OffersTo, MeetsRow, IsTree}
 use Rattle.mesh_paths.proofs.Order.{same_node, single}
 use Rattle.mesh_paths.proofs.Rows.{move_offer, carry}
 use Rattle.mesh_atoms.proofs.Values.{at_most_itself}
@@ -21,7 +21,7 @@ one_least {c = c} {d = d} f g = omega (arith, f.least d g.reached, g.least c f.r
 module _ (g : Graph) (from : NetAddr) (costs : HasCosts g) where
   -- What a tree says of walks
   module _ (rows : List PathRow) (t : IsTree g.arcs from rows) where
-    met : (node : NetAddr) (metric : ℕ) (parent : NetAddr) → Offers g.arcs from rows node metric parent → (row : PathRow) × Contains rows row × (row.node ≡ node) × (row.metric ≤ metric)
+    met : (node : NetAddr) (metric : ℕ) (parent : NetAddr) → OffersTo g.arcs from rows node metric parent → (row : PathRow) × Contains rows row × (row.node ≡ node) × (row.metric ≤ metric)
     met node metric parent offer = let (row, has, is, low) = t.closed node metric parent offer in
         (row, has, is, elim low [ inl less ↦ omega arith | inr (same, _) ↦ omega arith ])
 
@@ -117,7 +117,7 @@ module _ (g : Graph) (from : NetAddr) (costs : HasCosts g) where
 
   -- A certificate is a tree
   module _ (certificate : Certificate) (is : IsCertificate g from certificate) where
-    offered : (row : PathRow) → Contains certificate.rows row → Offers g.arcs from certificate.rows row.node row.metric row.parent
+    offered : (row : PathRow) → Contains certificate.rows row → OffersTo g.arcs from certificate.rows row.node row.metric row.parent
     offered row has =
         let good : IsPathRow g from row = is.rows row has in
         elim (same_node row.node from) [
@@ -134,14 +134,14 @@ module _ (g : Graph) (from : NetAddr) (costs : HasCosts g) where
               inr (r, a, has_r, there, begins ∙ sym at, ends, omega arith, at)
         ]
 
-    met_start : Meets certificate.rows from 0 from
+    met_start : MeetsRow certificate.rows from 0 from
     met_start =
         let (row, has, at) = is.all from 0 Stay in
         let good : IsPathRow g from row = is.rows row has in
         let stay : Walk (InGraph g) from row.node 0 = subst (λ (b : NetAddr). Walk (InGraph g) from b 0) (sym at) Stay in
         (row, has, at, inr (omega (arith, good.least.least 0 stay), at_most_itself row.parent from (good.start at)))
 
-    met_arc : (r : PathRow) (a : Arc4) → Contains certificate.rows r → Contains g.arcs a → a.from ≡ r.node → Meets certificate.rows a.to (r.metric + a.metric) r.node
+    met_arc : (r : PathRow) (a : Arc4) → Contains certificate.rows r → Contains g.arcs a → a.from ≡ r.node → MeetsRow certificate.rows a.to (r.metric + a.metric) r.node
     met_arc r a has_r there begins =
         let there_is : InGraph g r.node a.to a.metric = (a, there, begins, refl, refl) in
         let walk : Walk (InGraph g) from a.to (r.metric + a.metric) = Onward (is.rows r has_r).least.reached there_is in
@@ -172,7 +172,7 @@ module _ (g : Graph) (from : NetAddr) (costs : HasCosts g) where
               ]
         ]
 
-    closed : (node : NetAddr) (metric : ℕ) (parent : NetAddr) → Offers g.arcs from certificate.rows node metric parent → Meets certificate.rows node metric parent
+    closed : (node : NetAddr) (metric : ℕ) (parent : NetAddr) → OffersTo g.arcs from certificate.rows node metric parent → MeetsRow certificate.rows node metric parent
     closed node metric parent offer = elim offer [
       | inl (n, m, p) ↦ move_offer certificate.rows from node 0 metric from parent n m p met_start
       | inr (r, a, has_r, there, begins, ends, sum, p) ↦ move_offer certificate.rows a.to node (r.metric + a.metric) metric r.node parent ends sum p (met_arc r a has_r there begins)

@@ -5,19 +5,19 @@ use Rattle.mesh_atoms.specs.Walk.{Least, Fits}
 use Rattle.mesh_atoms.specs.declared.graphs.Graph.{Graph}
 use Rattle.mesh_atoms.specs.declared.graphs.PathRow.{PathRow}
 use Rattle.mesh_atoms.specs.declared.graphs.Certificate.{Certificate}
-use Rattle.mesh_paths.specs.Paths.{InGraph, IsPathRow, IsAscending, IsCertificate, IsOneCertificate}
+use Rattle.mesh_paths.specs.Paths.{InGraph, IsPathRow, AreAscendingRows, IsCertificate, IsOneCertificate}
 use Rattle.mesh_paths.proofs.Order.{same_node, at_most_both, tail_ascends, head_before}
 use Rattle.mesh_paths.proofs.TreeLaw.{one_least}
 use Rattle.mesh_atoms.proofs.Values.{before_trans, not_before_itself}
 use Rattle.mesh_atoms.proofs.Lists.{contains_tail as in_tail, contains_cases}
 
-same_tail : (x : PathRow) (xs ys : List PathRow) → IsAscending (x ∷ xs) → ((z : PathRow) → Contains (x ∷ xs) z → Contains (x ∷ ys) z) → (z : PathRow) → Contains xs z → Contains ys z
+same_tail : (x : PathRow) (xs ys : List PathRow) → AreAscendingRows (x ∷ xs) → ((z : PathRow) → Contains (x ∷ xs) z → Contains (x ∷ ys) z) → (z : PathRow) → Contains xs z → Contains ys z
 same_tail x xs ys up to z has = elim (contains_cases x ys z (to z (in_tail x xs z has))) [
   | inl same ↦ absurd (not_before_itself x.node z.node (ap (λ (r : PathRow). r.node) same) (head_before x xs up z has))
   | inr later ↦ later
 ]
 
-same_head : (x y : PathRow) (xs ys : List PathRow) → IsAscending (x ∷ xs) → IsAscending (y ∷ ys) → Contains (y ∷ ys) x → Contains (x ∷ xs) y → x ≡ y
+same_head : (x y : PathRow) (xs ys : List PathRow) → AreAscendingRows (x ∷ xs) → AreAscendingRows (y ∷ ys) → Contains (y ∷ ys) x → Contains (x ∷ xs) y → x ≡ y
 same_head x y xs ys up_x up_y has_x has_y = elim (contains_cases y ys x has_x) [
   | inl same ↦ sym same
   | inr later ↦ elim (contains_cases x xs y has_y) [
@@ -26,7 +26,7 @@ same_head x y xs ys up_x up_y has_x has_y = elim (contains_cases y ys x has_x) [
   ]
 ]
 
-pub same_rows : (xs ys : List PathRow) → IsAscending xs → IsAscending ys → ((z : PathRow) → Contains xs z → Contains ys z) → ((z : PathRow) → Contains ys z → Contains xs z) → xs ≡ ys
+pub same_rows : (xs ys : List PathRow) → AreAscendingRows xs → AreAscendingRows ys → ((z : PathRow) → Contains xs z → Contains ys z) → ((z : PathRow) → Contains ys z → Contains xs z) → xs ≡ ys
 same_rows [] [] up_x up_y to back = refl
 same_rows [] (y ∷ ys) up_x up_y to back = absurd (omega (arith, (back y (0, omega arith, refl)).1))
 same_rows (x ∷ xs) [] up_x up_y to back = absurd (omega (arith, (to x (0, omega arith, refl)).1))

@@ -25,14 +25,14 @@ pub record IsPathRow (g : Graph) (from : NetAddr) (row : PathRow) : Type 0 where
   pub least_parent : row.node ≢ from → (p : NetAddr) → Fits (InGraph g) from p row.node → IsAtMost row.parent p
 
 -- each row stands before the next in the order of nodes
-abbrev pub IsAscending : List PathRow → Type 0
-IsAscending rows = AllAdjacentBelow (λ r t. IsBefore r.node t.node) rows (length rows)
+abbrev pub AreAscendingRows : List PathRow → Type 0
+AreAscendingRows rows = AllAdjacentBelow (λ r t. IsBefore r.node t.node) rows (length rows)
 
 -- one row for each node that a walk reaches, in ascending order
 pub record IsCertificate (g : Graph) (from : NetAddr) (certificate : Certificate) : Type 0 where
   pub rows : (row : PathRow) → Contains certificate.rows row → IsPathRow g from row
   pub all : (node : NetAddr) (c : ℕ) → Walk (InGraph g) from node c → (row : PathRow) × Contains certificate.rows row × (row.node ≡ node)
-  pub ascending : IsAscending certificate.rows
+  pub ascending : AreAscendingRows certificate.rows
 
 -- a graph has one certificate from a node
 abbrev pub IsOneCertificate : Type 0

@@ -7,7 +7,7 @@ use Rattle.mesh_atoms.specs.declared.graphs.Route.{Route}
 use Rattle.mesh_atoms.specs.declared.settings.Scenario.{Scenario}
 use Rattle.mesh_atoms.specs.Base.{host}
 use Rattle.mesh_atoms.specs.Codes.Codes.{metric_value}
-use Rattle.mesh_atoms.specs.Radio.{Joins, Hop, Willing, AddressOf, Attaches, RadioLeast, IsSoundScenario}
+use Rattle.mesh_atoms.specs.Radio.{Joins, HopCosts, IsWillingRouter, AddressOf, Attaches, RadioLeast, IsSoundScenario}
 use Rattle.mesh_atoms.specs.Settled.{At, AreStates, Settled}
 use Rattle.mesh_atoms.specs.Sound.{Sound}
 use Rattle.mesh_atoms.specs.State.{State, HasAddressOn}
@@ -66,7 +66,7 @@ abbrev pub NextHopsLead : Type 0
 NextHopsLead =
     (s : Scenario) (states : List State) (now x : ℕ) (p : State) → IsSettledNetwork s states now → At states x p →
     (row : Route) → Contains p.routes row →
-    (n near : ℕ) × Hop s x n near × LeastWilling (Hop s) (Willing s) x n near × HopsTo s states x row.iface n row.next near
+    (n near : ℕ) × HopCosts s x n near × LeastWilling (HopCosts s) (IsWillingRouter s) x n near × HopsTo s states x row.iface n row.next near
     × LeadsOn s states row.dest n near row.metric
 
 -- Trips

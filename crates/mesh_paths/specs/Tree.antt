@@ -4,7 +4,7 @@ use Rattle.mesh_atoms.specs.declared.addr.NetAddr.{NetAddr}
 use Rattle.mesh_atoms.specs.Nodes.{IsAtMost}
 use Rattle.mesh_atoms.specs.declared.graphs.Arc4.{Arc4}
 use Rattle.mesh_atoms.specs.declared.graphs.PathRow.{PathRow}
-use Rattle.mesh_paths.specs.Paths.{IsAscending}
+use Rattle.mesh_paths.specs.Paths.{AreAscendingRows}
 
 -- what the start offers itself
 abbrev pub IsStart : NetAddr → NetAddr → ℕ → NetAddr → Type 0
@@ -18,8 +18,8 @@ OffersBy Has arcs from node metric parent =
     × (arc.to ≡ node) × (row.metric + arc.metric ≡ metric) × (row.node ≡ parent))
 
 -- what the start and the rows offer
-abbrev pub Offers : List Arc4 → NetAddr → List PathRow → NetAddr → ℕ → NetAddr → Type 0
-Offers arcs from rows = OffersBy (Contains rows) arcs from
+abbrev pub OffersTo : List Arc4 → NetAddr → List PathRow → NetAddr → ℕ → NetAddr → Type 0
+OffersTo arcs from rows = OffersBy (Contains rows) arcs from
 
 -- a lesser metric, or the same and a parent that is no greater
 abbrev pub IsAsGood : PathRow → ℕ → NetAddr → Type 0
@@ -30,12 +30,12 @@ abbrev pub MeetsBy : (PathRow → Type 0) → NetAddr → ℕ → NetAddr → Ty
 MeetsBy Has node metric parent = (row : PathRow) × Has row × (row.node ≡ node) × IsAsGood row metric parent
 
 -- one of the rows is as good
-abbrev pub Meets : List PathRow → NetAddr → ℕ → NetAddr → Type 0
-Meets rows = MeetsBy (Contains rows)
+abbrev pub MeetsRow : List PathRow → NetAddr → ℕ → NetAddr → Type 0
+MeetsRow rows = MeetsBy (Contains rows)
 
 -- what the arc offers is met
 abbrev pub IsArcMet : List PathRow → Arc4 → Type 0
-IsArcMet rows arc = (row : PathRow) → Contains rows row → row.node ≡ arc.from → Meets rows arc.to (row.metric + arc.metric) row.node
+IsArcMet rows arc = (row : PathRow) → Contains rows row → row.node ≡ arc.from → MeetsRow rows arc.to (row.metric + arc.metric) row.node
 
 -- the arc from the parent's node offers the row
 abbrev pub IsStep : PathRow → PathRow → Arc4 → Type 0
@@ -49,11 +49,11 @@ IsReached arcs rows row =
 
 -- the row is offered
 abbrev pub IsOffered : List Arc4 → NetAddr → List PathRow → PathRow → Type 0
-IsOffered arcs from rows row = Offers arcs from rows row.node row.metric row.parent
+IsOffered arcs from rows row = OffersTo arcs from rows row.node row.metric row.parent
 
 -- what is offered is met
 abbrev pub IsClosed : List Arc4 → NetAddr → List PathRow → Type 0
-IsClosed arcs from rows = (node : NetAddr) (metric : ℕ) (parent : NetAddr) → Offers arcs from rows node metric parent → Meets rows node metric parent
+IsClosed arcs from rows = (node : NetAddr) (metric : ℕ) (parent : NetAddr) → OffersTo arcs from rows node metric parent → MeetsRow rows node metric parent
 
 -- each row is offered
 abbrev pub IsGrounded : List Arc4 → NetAddr → List PathRow → Type 0
@@ -61,6 +61,6 @@ IsGrounded arcs from rows = (row : PathRow) → Contains rows row → IsOffered 
 
 -- ascending rows that hold what is offered, at its best, and nothing else
 pub record IsTree (arcs : List Arc4) (from : NetAddr) (rows : List PathRow) : Type 0 where
-  pub ascending : IsAscending rows
+  pub ascending : AreAscendingRows rows
   pub closed : IsClosed arcs from rows
   pub grounded : IsGrounded arcs from rows

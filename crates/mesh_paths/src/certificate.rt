@@ -3,8 +3,8 @@ ghost use Rattle.std.specs.Prelude.{IsTrue, ◌↔◌, IfSome, IfNone, Contains,
 ghost use Rattle.mesh_atoms.specs.declared.graphs.PathRow.{PathRow};
 ghost use Rattle.mesh_atoms.specs.declared.graphs.Arc4.{Arc4};
 ghost use Rattle.mesh_atoms.specs.Nodes.{IsBefore};
-ghost use Rattle.mesh_paths.specs.Paths.{HasCosts, IsAscending, IsCertificate, IsOneCertificate, EveryGraphHasCertificate};
-ghost use Rattle.mesh_paths.specs.Tree.{IsOffered, Meets, IsStart, IsReached, IsAsGood, IsArcMet, IsStep, IsClosed, IsGrounded, IsTree};
+ghost use Rattle.mesh_paths.specs.Paths.{HasCosts, AreAscendingRows, IsCertificate, IsOneCertificate, EveryGraphHasCertificate};
+ghost use Rattle.mesh_paths.specs.Tree.{IsOffered, MeetsRow, IsStart, IsReached, IsAsGood, IsArcMet, IsStep, IsClosed, IsGrounded, IsTree};
 
 use mesh_atoms::{Arc4, Certificate, Graph, NetAddr, PathRow};
 
@@ -33,7 +33,7 @@ fn is_tree(arcs: &[Arc4], from: NetAddr, rows: &[PathRow]) -> bool
 
 // Whether each row stands before the next in the order of nodes.
 fn is_ascending(rows: &[PathRow]) -> bool
-    ensures { IsTrue result ↔ IsAscending rows.now }
+    ensures { IsTrue result ↔ AreAscendingRows rows.now }
 {
     for i in 1..rows.len() {
         if !is_before(&rows[i - 1], &rows[i]) {
@@ -52,7 +52,7 @@ fn is_before(row: &PathRow, next: &PathRow) -> bool
 
 // Whether the rows hold, at its best, what the start and the arcs from their nodes offer.
 fn is_closed(arcs: &[Arc4], from: NetAddr, rows: &[PathRow]) -> bool
-    requires ascending { IsAscending rows.now }
+    requires ascending { AreAscendingRows rows.now }
     ensures { IsTrue result ↔ IsClosed arcs.now from rows.now }
 {
     if !is_met(rows, from, 0, from) {
@@ -68,7 +68,7 @@ fn is_closed(arcs: &[Arc4], from: NetAddr, rows: &[PathRow]) -> bool
 
 // Whether what the arc offers is met, if it leads from a row's node.
 fn is_arc_met(arc: &Arc4, rows: &[PathRow]) -> bool
-    requires ascending { IsAscending rows.now }
+    requires ascending { AreAscendingRows rows.now }
     ensures { IsTrue result ↔ IsArcMet rows.now arc.now }
 {
     match row_of(rows, arc.from) {
@@ -86,8 +86,8 @@ fn cost_by(row: &PathRow, arc: &Arc4) -> u128
 
 // Whether a row has the node at a lesser metric, or at the same metric with a parent that is no greater.
 fn is_met(rows: &[PathRow], node: NetAddr, metric: u128, parent: NetAddr) -> bool
-    requires ascending { IsAscending rows.now }
-    ensures { IsTrue result ↔ Meets rows.now node metric parent }
+    requires ascending { AreAscendingRows rows.now }
+    ensures { IsTrue result ↔ MeetsRow rows.now node metric parent }
 {
     match row_of(rows, node) {
         Some(row) => is_as_good(row, metric, parent),
@@ -117,7 +117,7 @@ pub(crate) fn is_as_good(row: &PathRow, metric: u128, parent: NetAddr) -> bool
 
 // Whether each row is the start's, or is offered by an arc from another.
 fn is_grounded(arcs: &[Arc4], from: NetAddr, rows: &[PathRow]) -> bool
-    requires ascending { IsAscending rows.now }
+    requires ascending { AreAscendingRows rows.now }
     ensures { IsTrue result ↔ IsGrounded arcs.now from rows.now }
 {
     for row in rows {
@@ -130,7 +130,7 @@ fn is_grounded(arcs: &[Arc4], from: NetAddr, rows: &[PathRow]) -> bool
 
 // Whether the row is that of the start, or some arc from a row's node offers it.
 fn is_offered(arcs: &[Arc4], from: NetAddr, rows: &[PathRow], row: &PathRow) -> bool
-    requires ascending { IsAscending rows.now }
+    requires ascending { AreAscendingRows rows.now }
     ensures { IsTrue result ↔ IsOffered arcs.now from rows.now row.now }
 {
     if is_start(from, row) {
@@ -148,7 +148,7 @@ fn is_start(from: NetAddr, row: &PathRow) -> bool
 
 // Whether some arc from the row of its parent offers the row.
 fn is_reached(arcs: &[Arc4], rows: &[PathRow], row: &PathRow) -> bool
-    requires ascending { IsAscending rows.now }
+    requires ascending { AreAscendingRows rows.now }
     ensures { IsTrue result ↔ IsReached arcs.now rows.now row.now }
 {
     match row_of(rows, row.parent) {

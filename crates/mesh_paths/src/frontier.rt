@@ -7,9 +7,9 @@ ghost use Rattle.mesh_atoms.specs.declared.graphs.Arc4.{Arc4};
 ghost use Rattle.std.specs.BTreeMap.{get, values, IsOrdered};
 ghost use Rattle.mesh_paths.specs.Paths.{HasCosts, IsCertificate};
 ghost use Rattle.mesh_atoms.specs.Nodes.{net_cmp};
-ghost use Rattle.mesh_paths.specs.Search.{number_of, number_from, IsRun, IsIndex, IsPart, Puts, IsSettledRow, IsKeyed, Settles, row_of};
+ghost use Rattle.mesh_paths.specs.Search.{number_of, number_from, IsRun, IsIndex, IsPart, PutsStep, IsSettledRow, IsKeyed, Settles, row_of};
 ghost use Rattle.mesh_paths.specs.Rounds.{IsRounds, IsMetIn};
-ghost use Rattle.mesh_paths.specs.Frontier.{Offers, IsTaking, OffersAll, IsSearch, work_in};
+ghost use Rattle.mesh_paths.specs.Frontier.{OffersArc, IsTaking, OffersAll, IsSearch, work_in};
 
 use crate::rounds::{has_as_good, row_at};
 use mesh_atoms::{Arc4, Certificate, Graph, NetAddr, PathRow, Seq};
@@ -18,7 +18,7 @@ use std::collections::{BTreeMap, BTreeSet};
 
 // Arcs that stand together and leave one node: its number, their first place, and the place behind their last.
 #[derive(Clone, Copy)]
-pub(crate) struct Run {
+pub(crate) struct ArcRun {
     pub(crate) number: u64,
     pub(crate) start: usize,
     pub(crate) end: usize,
@@ -26,7 +26,7 @@ pub(crate) struct Run {
 
 // A step that may be taken: to a node, at a metric, by way of a parent.
 #[derive(Clone, Copy, PartialEq, Eq, PartialOrd, Ord)]
-pub(crate) struct Step {
+pub(crate) struct SearchStep {
     pub(crate) metric: u64,
     pub(crate) node: NetAddr,
     pub(crate) parent: NetAddr,
@@ -48,7 +48,7 @@ pub fn search(alloc: Global, graph: &Graph, from: NetAddr) -> Result<Certificate
 }
 
 // The arcs as runs, in the order of the nodes that they leave.
-fn index_of(alloc: Global, arcs: &[Arc4]) -> Result<Vec<Run>, AllocError>
+fn index_of(alloc: Global, arcs: &[Arc4]) -> Result<Vec<ArcRun>, AllocError>
     ensures all { IfOk result (λ runs. IsIndex arcs.now runs.items) }
     ensures order { IfOk result (λ runs. IsNonDecreasingBy (λ run. run.number) runs.items) }
 {
@@ -58,7 +58,7 @@ fn index_of(alloc: Global, arcs: &[Arc4]) -> Result<Vec<Run>, AllocError>
 }
 
 // The arcs as runs, in their own order.
-fn runs_of(alloc: Global, arcs: &[Arc4]) -> Result<Vec<Run>, AllocError>
+fn runs_of(alloc: Global, arcs: &[Arc4]) -> Result<Vec<ArcRun>, AllocError>
     ensures { IfOk result (λ runs. IsIndex arcs.now runs.items) }
 {
     let mut runs = Vec::new(alloc);
@@ -72,7 +72,7 @@ fn runs_of(alloc: Global, arcs: &[Arc4]) -> Result<Vec<Run>, AllocError>
 }
 
 // The arcs from a place on, as long as they leave one node.
-fn run_at(arcs: &[Arc4], start: usize) -> Run
+fn run_at(arcs: &[Arc4], start: usize) -> ArcRun
     requires { start < length arcs.now }
     ensures run { IsRun arcs.now result }
     ensures start { result.start ≡ start }
@@ -81,14 +81,14 @@ fn run_at(arcs: &[Arc4], start: usize) -> Run
     let number = number_at(arcs, start);
     for place in start + 1..arcs.len() {
         if number_at(arcs, place) != number {
-            return Run {
+            return ArcRun {
                 number,
                 start,
                 end: place,
             };
         }
     }
-    Run {
+    ArcRun {
         number,
         start,
         end: arcs.len(),
@@ -114,7 +114,7 @@ fn number_of(node: NetAddr) -> u64
 fn reach_nearest(
     alloc: Global,
     arcs: &[Arc4],
-    runs: &[Run],
+    runs: &[ArcRun],
     from: NetAddr,
 ) -> Result<BTreeMap<NetAddr, PathRow>, AllocError>
     requires costs { (arc : Arc4) → Contains arcs.now arc → 1 ≤ arc.metric }
@@ -126,7 +126,7 @@ fn reach_nearest(
 {
     let mut reached = BTreeMap::new(alloc);
     let mut frontier = BTreeSet::new(alloc);
-    let start = Step {
+    let start = SearchStep {
         metric: 0,
         node: from,
         parent: from,
@@ -142,7 +142,7 @@ fn reach_nearest(
 }
 
 // The row of the step's node, unless a better one has followed the step.
-fn latest(reached: &BTreeMap<NetAddr, PathRow>, step: Step) -> Option<PathRow>
+fn latest(reached: &BTreeMap<NetAddr, PathRow>, step: SearchStep) -> Option<PathRow>
     ensures row { IfSome result (λ row. get net_cmp reached.now step.node ≡ Some row) }
     ensures passed { IfNone result (get net_cmp reached.now step.node ≢ Some (row_of step)) }
 {
@@ -156,7 +156,7 @@ fn latest(reached: &BTreeMap<NetAddr, PathRow>, step: Step) -> Option<PathRow>
 }
 
 // Whether the row has the step's metric and parent.
-fn is_by(row: &PathRow, step: Step) -> bool
+fn is_by(row: &PathRow, step: SearchStep) -> bool
     ensures { IsTrue result ↔ ((row.now.metric ≡ step.metric) × (row.now.parent ≡ step.parent)) }
 {
     row.metric == step.metric && has_parent(row, step.parent)
@@ -170,13 +170,16 @@ fn has_parent(row: &PathRow, node: NetAddr) -> bool
 }
 
 // Settles the step as a row.
-pub(crate) fn settle(settled: &mut BTreeMap<NetAddr, PathRow>, step: Step) -> Result<(), AllocError>
+pub(crate) fn settle(
+    settled: &mut BTreeMap<NetAddr, PathRow>,
+    step: SearchStep,
+) -> Result<(), AllocError>
     requires fresh { get net_cmp settled.old step.node ≡ None }
     requires keyed { IsKeyed settled.old }
     ensures settled { OnOk result (Settles (IsSettledRow settled.old) (row_of step) (IsSettledRow settled.new)) }
     ensures keyed { OnOk result (IsKeyed settled.new) }
 {
-    let Step {
+    let SearchStep {
         metric,
         node,
         parent,
@@ -210,9 +213,9 @@ pub(crate) fn rows_in_order(
 // Offers the arcs that leave the row's node.
 fn offer_arcs(
     reached: &mut BTreeMap<NetAddr, PathRow>,
-    frontier: &mut BTreeSet<Step>,
+    frontier: &mut BTreeSet<SearchStep>,
     arcs: &[Arc4],
-    runs: &[Run],
+    runs: &[ArcRun],
     from: NetAddr,
     first: PathRow,
 ) -> Result<(), AllocError>
@@ -232,7 +235,7 @@ fn offer_arcs(
 }
 
 // The runs of that number. Takes time near log n in the number n of runs.
-fn leaving(runs: &[Run], number: u64) -> &[Run]
+fn leaving(runs: &[ArcRun], number: u64) -> &[ArcRun]
     requires { IsNonDecreasingBy (λ run. run.number) runs.now }
     ensures { IsPart runs.now number result.now }
 {
@@ -245,9 +248,9 @@ fn leaving(runs: &[Run], number: u64) -> &[Run]
 // Offers the arcs of a run, which leave the row's node.
 fn offer_run(
     reached: &mut BTreeMap<NetAddr, PathRow>,
-    frontier: &mut BTreeSet<Step>,
+    frontier: &mut BTreeSet<SearchStep>,
     arcs: &[Arc4],
-    run: Run,
+    run: ArcRun,
     from: NetAddr,
     first: PathRow,
 ) -> Result<(), AllocError>
@@ -268,15 +271,15 @@ fn offer_run(
 // Puts what the arc offers from the row into the map and its step into the frontier, unless a row is as good.
 fn offer_arc(
     reached: &mut BTreeMap<NetAddr, PathRow>,
-    frontier: &mut BTreeSet<Step>,
+    frontier: &mut BTreeSet<SearchStep>,
     first: PathRow,
     arc: Arc4,
 ) -> Result<(), AllocError>
     requires small { first.metric + 2 ^ 32 ≤ 2 ^ 64 }
-    ensures { OnOk result (Offers reached.old frontier.old.keys first arc reached.new frontier.new.keys) }
+    ensures { OnOk result (OffersArc reached.old frontier.old.keys first arc reached.new frontier.new.keys) }
 {
     let _number = arc.from.addr.0;
-    let step = Step {
+    let step = SearchStep {
         metric: first.metric + u64::from(arc.metric),
         node: arc.to,
         parent: arc.from,
@@ -295,8 +298,8 @@ fn offer_arc(
 }
 
 // Puts a step into the frontier.
-fn put_step(frontier: &mut BTreeSet<Step>, step: Step) -> Result<(), AllocError>
-    ensures { OnOk result (Puts frontier.old.keys step frontier.new.keys) }
+fn put_step(frontier: &mut BTreeSet<SearchStep>, step: SearchStep) -> Result<(), AllocError>
+    ensures { OnOk result (PutsStep frontier.old.keys step frontier.new.keys) }
 {
     frontier.insert(step)?;
     Ok(())

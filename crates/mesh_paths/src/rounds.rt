@@ -9,7 +9,7 @@ ghost use Rattle.mesh_paths.specs.Search.{IsSettledRow, IsKeyed};
 ghost use Rattle.mesh_paths.specs.Rounds.{HasAsGood, IsMetIn, Tries, IsRounds, Goes};
 
 use crate::certificate::is_as_good;
-use crate::frontier::{Step, rows_in_order, settle};
+use crate::frontier::{SearchStep, rows_in_order, settle};
 use mesh_atoms::{Arc4, Certificate, Graph, NetAddr, PathRow};
 use std::alloc::{AllocError, Global};
 use std::collections::BTreeMap;
@@ -43,7 +43,7 @@ fn reach_all(
     ensures met { IfOk result (λ reached. (arc : Arc4) → Contains arcs.now arc → IsMetIn reached arc) }
 {
     let mut reached = BTreeMap::new(alloc);
-    let start = Step {
+    let start = SearchStep {
         metric: 0,
         node: from,
         parent: from,

@@ -17,7 +17,7 @@ use Rattle.mesh_probe.specs.declared.transmission.Transmission.{Transmission}
 use Rattle.mesh_probe.specs.Flood.{sent_by, Flood}
 use Rattle.mesh_probe.specs.Hearing.{CanHear, IsOfInterface, IsLeastUnknown, IsProbeFrame, SendsOnceFrom}
 use Rattle.mesh_probe.specs.Laws.{IsTcOf, tc_key}
-use Rattle.mesh_probe.specs.Probes.{AreRoutersAt, HasLeastNumber, IsKnown, IsProbeFlood, IsTaken}
+use Rattle.mesh_probe.specs.Probes.{AreRoutersAt, HasLeastNumber, IsKnown, IsProbeFlood, IsTcNoted}
 use Rattle.mesh_probe.proofs.Prefix.{sends_once}
 use Rattle.mesh_probe.proofs.Queues.{one_sent}
 use Rattle.mesh_probe.proofs.Turns.{state_there}
@@ -29,17 +29,17 @@ same_settings o a b e f = cc
 
 module _ (s : Scenario) (states : List State) (origin : ℕ) (r : RouterSettings) (is : Router s origin r) (o : Addr4) (own : IsOriginator r o)
     (only : (other : Addr4) → IsOriginator r other → other ≡ o) where
-  taken : (n : ℕ) → IsKnown states (tc_key o n) → IsTaken s states origin n
+  taken : (n : ℕ) → IsKnown states (tc_key o n) → IsTcNoted s states origin n
   taken n known = (o, (r, is, own), known)
 
-  known_of : (n : ℕ) → IsTaken s states origin n → IsKnown states (tc_key o n)
+  known_of : (n : ℕ) → IsTcNoted s states origin n → IsKnown states (tc_key o n)
   known_of n (other, (q, there, its), known) =
       let same : q ≡ r = same_settings (slice_get s.routers origin) q r there is in
       subst (λ (a : Addr4). IsKnown states (tc_key a n)) (only other (subst (λ (t : RouterSettings). IsOriginator t other) same its)) known
 
   pub least_number : (n : ℕ) (c : Coverage) → c.number ≡ n → IsLeastUnknown states o (Some n) → HasLeastNumber s states origin (Done c)
   least_number n c number least =
-      subst (λ (m : ℕ). (IsTaken s states origin m → ⊥) × ((k : ℕ) → k < m → IsTaken s states origin k)) (sym number)
+      subst (λ (m : ℕ). (IsTcNoted s states origin m → ⊥) × ((k : ℕ) → k < m → IsTcNoted s states origin k)) (sym number)
       (λ t. least.0 (known_of n t), λ k less. taken k (least.1 k less))
 
   pub no_number : IsLeastUnknown states o None → HasLeastNumber s states origin NoNumber

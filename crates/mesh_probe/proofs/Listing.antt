@@ -3,7 +3,7 @@ use Rattle.std.proofs.Common.{ℕ, ◌+◌, ◌<◌, inl, inr, sym, subst, arith
 use Rattle.std.proofs.lemmas.Bool.{cases_eq}
 use Rattle.std.proofs.lemmas.List.Elements.{Contains-append_left, Contains-push, Contains-push_cases, Contains-get_or}
 use Rattle.std.proofs.lemmas.List.Quantifiers.{all_pairs_push}
-use Rattle.mesh_probe.specs.Probes.{Lists}
+use Rattle.mesh_probe.specs.Probes.{ListsNumbers}
 use Rattle.mesh_atoms.proofs.Lists.{contains_none as none_of}
 
 module _ (P : ℕ → Type 0) where
@@ -11,14 +11,14 @@ module _ (P : ℕ → Type 0) where
   abbrev pub Below : ℕ → ℕ → Type 0
   Below most n = (n < most) × P n
 
-  pub none_listed : Lists (Below 0) []
+  pub none_listed : ListsNumbers (Below 0) []
   none_listed = record {
     each = λ n. (λ c. absurd (none_of n c), λ h. absurd (let l = h.0 in omega (arith, l)));
     ascending = λ i j d l m. absurd (omega (arith, m));
   }
 
   -- the next number has the property
-  pub one_listed : (n : ℕ) (list : List ℕ) → P n → Lists (Below n) list → Lists (Below (n + 1)) (list ++ (n ∷ []))
+  pub one_listed : (n : ℕ) (list : List ℕ) → P n → ListsNumbers (Below n) list → ListsNumbers (Below (n + 1)) (list ++ (n ∷ []))
   one_listed n list has l = record {
     each = λ m. (
       λ c. elim (Contains-push_cases list n m c) [
@@ -34,7 +34,7 @@ module _ (P : ℕ → Type 0) where
   }
 
   -- the next number hasn't
-  pub one_passed : (n : ℕ) (list : List ℕ) → (P n → ⊥) → Lists (Below n) list → Lists (Below (n + 1)) list
+  pub one_passed : (n : ℕ) (list : List ℕ) → (P n → ⊥) → ListsNumbers (Below n) list → ListsNumbers (Below (n + 1)) list
   one_passed n list never l = record {
     each = λ m. (
       λ c. (let (less, holds) = (l.each m).0 c in (omega (arith, less), holds)),
@@ -47,7 +47,7 @@ module _ (P : ℕ → Type 0) where
   }
 
   -- none has it from there on
-  pub all_listed : (most : ℕ) (list : List ℕ) → ((n : ℕ) → P n → n < most) → Lists (Below most) list → Lists P list
+  pub all_listed : (most : ℕ) (list : List ℕ) → ((n : ℕ) → P n → n < most) → ListsNumbers (Below most) list → ListsNumbers P list
   all_listed most list within l = record {
     each = λ m. (λ c. ((l.each m).0 c).1, λ h. (l.each m).1 (within m h, h));
     ascending = l.ascending;

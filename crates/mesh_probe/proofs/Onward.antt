@@ -12,7 +12,7 @@ use Rattle.mesh_atoms.specs.declared.addr.Addr4.{Addr4}
 use Rattle.mesh_atoms.specs.declared.settings.Scenario.{Scenario}
 use Rattle.mesh_atoms.specs.State.{State}
 use Rattle.mesh_probe.specs.declared.transmission.Transmission.{Transmission}
-use Rattle.mesh_probe.specs.Flood.{hearers_of, IsSender, AllHear, Flood, No_frame_waits, First_frame}
+use Rattle.mesh_probe.specs.Flood.{hearers_of, IsInterfaceSender, AllHear, Flood, No_frame_waits, First_frame}
 use Rattle.mesh_probe.specs.Hearing.{CanHear, IsOfInterface, FloodsTo, Nothing_heard, One_more, SendsOnceFrom}
 use Rattle.mesh_probe.specs.Laws.{AreSentApart}
 use Rattle.mesh_probe.proofs.Covers.{has_cases, none_distinct, none_equal}
@@ -98,7 +98,7 @@ module _ (s : Scenario) (now : ℕ) (old : List State) (first : List Transmissio
   starts can owned = record { to = Nothing_heard; can = can; owned = owned }
 
   pub goes_on : (next : ℕ) (f : Transmission) (sender : Addr4) (states after : List State) (frames more : List Transmission) → slice_get frames next ≡ Some f →
-      IsSender s f.router f.frame.iface sender → AllHear now sender f.frame.bytes (hearers_of s.arcs f.router f.frame.iface) states after more →
+      IsInterfaceSender s f.router f.frame.iface sender → AllHear now sender f.frame.bytes (hearers_of s.arcs f.router f.frame.iface) states after more →
       CanHear s after now → All (IsOfInterface s) more → Onward s now old first next states frames → Onward s now old first (next + 1) after (frames ++ more)
   goes_on next f sender states after frames more at is hear can owned o =
       let less : next < length frames = slice_get_within frames next f at in

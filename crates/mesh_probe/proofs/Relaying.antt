@@ -31,7 +31,7 @@ use Rattle.mesh_paths.proofs.Admitted.{joins_back}
 use Rattle.mesh_paths.proofs.SettledNeighbours.{owner, same_state, same_settings, address_in, has_address, state_there, apart, known_address, known_originator, known_by, Known, neighbouring, has_with, shown_near, shows_neighbour}
 use Rattle.mesh_paths.proofs.SettledDecisions.{any_or_none}
 use Rattle.mesh_probe.proofs.Wave.{IsCovering, IsSelected}
-use Rattle.mesh_probe.specs.Flood.{hearers_of, IsSender}
+use Rattle.mesh_probe.specs.Flood.{hearers_of, IsInterfaceSender}
 use Rattle.mesh_probe.specs.Laws.{AllWillFlood}
 use Rattle.mesh_probe.proofs.Seen.{faces_in, HoldsFlag, AreJoined, net_of}
 use Rattle.std.proofs.lemmas.Bool.{cases_Bool}
@@ -119,7 +119,7 @@ module _ (s : Scenario) (states : List State) (now : ℕ) (S : IsSettledNetwork 
   distinct_links {x} {p} at i = (S.sound x p at).neighbourhood.distinct_links i
 
   -- the sender's address is on that interface
-  sender_on : (x i : ℕ) (a : Addr4) → IsSender s x i a → (r : RouterSettings) × Router s x r × HasAddressOn r i a
+  sender_on : (x i : ℕ) (a : Addr4) → IsInterfaceSender s x i a → (r : RouterSettings) × Router s x r × HasAddressOn r i a
   sender_on x i a (r, is, iface, at, first) = (r, is, (iface, at, contains_at iface.addrs 0 a first))
 
   -- a SYMMETRIC link with the sender's address is one with its interface
@@ -132,7 +132,7 @@ module _ (s : Scenario) (states : List State) (now : ℕ) (S : IsSettledNetwork 
     pub joins : Joins s w j x i there home
     pub is : IsLinkTo q p j i now there home key link
 
-  link_of : (w j x i : ℕ) (q : State) (a : Addr4) (link : Link) → At states w q → IsSender s x i a →
+  link_of : (w j x i : ℕ) (q : State) (a : Addr4) (link : Link) → At states w q → IsInterfaceSender s x i a →
       IsSymmetricWith (base_of q.bases.neighbourhood.links j) now a link → LinkOf w j x i q link
   link_of w j x i q a link at sender (key, until, found, has, symmetric) =
       let stands : HasLink q j key link = (looks_up_links q j key link (distinct_links at j)).1 (until, found) in

@@ -10,7 +10,7 @@ use Rattle.mesh_atoms.specs.Radio.{Joins}
 use Rattle.mesh_atoms.specs.Settled.{At}
 use Rattle.mesh_atoms.specs.State.{State}
 use Rattle.mesh_machine.specs.links.Links.{SelectorOf}
-use Rattle.mesh_probe.specs.Flood.{hearers_of, IsSender}
+use Rattle.mesh_probe.specs.Flood.{hearers_of, IsInterfaceSender}
 use Rattle.mesh_probe.proofs.Wave.{Net}
 
 -- the number of interfaces
@@ -21,7 +21,7 @@ faces_in (Some r) = length r.interfaces
 -- what router w holds on interface j of the frames of interface i of router x
 abbrev pub HoldsFlag : Scenario → List State → ℕ → ℕ → ℕ → ℕ → ℕ → Option Bool → Type 0
 HoldsFlag s states now x i w j flag =
-    (q : State) × (a : Addr4) × At states w q × IsSender s x i a × SelectorOf (base_of q.bases.neighbourhood.links j) now a flag
+    (q : State) × (a : Addr4) × At states w q × IsInterfaceSender s x i a × SelectorOf (base_of q.bases.neighbourhood.links j) now a flag
 
 -- two interfaces are joined
 abbrev pub AreJoined : Scenario → ℕ → ℕ → ℕ → ℕ → Type 0

@@ -38,7 +38,7 @@ use Rattle.mesh_machine.specs.Machine.{Hear, Step}
 use Rattle.mesh_machine.specs.Messages.{forwarding}
 use Rattle.mesh_probe.proofs.Wave.{has, Spread, Going, frames_on, where_sent, Net, Takes, Deaf, Quiet, Sends, Hears, All_heard, One_hears, Wave, Ends, Goes}
 use Rattle.mesh_probe.specs.declared.transmission.Transmission.{Transmission}
-use Rattle.mesh_probe.specs.Flood.{hearers_of, IsSender, sent_by, BecomesAt, AllHear, All_have_heard, Next_hears, Flood}
+use Rattle.mesh_probe.specs.Flood.{hearers_of, IsInterfaceSender, sent_by, BecomesAt, AllHear, All_have_heard, Next_hears, Flood}
 use Rattle.mesh_probe.specs.Laws.{key_of_tc, IsUnknown, AreUnknown}
 use Rattle.mesh_probe.specs.Flood as flood
 use Rattle.mesh_probe.proofs.Carried.{Carries, at_hop, carried_on}
@@ -360,7 +360,7 @@ module _ {s : Scenario} {states : List State} {now origin : ℕ} {tc : Tc} {m : 
 
   one : (w j hops : ℕ) (sender : Addr4) (bytes : List ℕ) (q0 p q : State) (st : Spread) (sent : List Frame) → At states w q0 → IsLike w q0 p st → has st.told origin ≡ true →
       Carries (at_hop m limit hops) bytes → Step p (Hear (record { now = now; iface = j; sender = sender }) bytes) sent q →
-      (flag : Option Bool) × Does w hops q0 q st flag sent × (Prem → (x i : ℕ) → IsSender s x i sender → HoldsFlag s states now x i w j flag)
+      (flag : Option Bool) × Does w hops q0 q st flag sent × (Prem → (x i : ℕ) → IsInterfaceSender s x i sender → HoldsFlag s states now x i w j flag)
   unfolding facts
   one w j hops sender bytes q0 p q st sent at_w like told carries step =
       let arrival : Arrival = record { now = now; iface = j; sender = sender } in
@@ -432,7 +432,7 @@ module _ {s : Scenario} {states : List State} {now origin : ℕ} {tc : Tc} {m : 
     pub frames : Matches more out
     pub like : AreLike new after
 
-  pub all : (f : Transmission) (hops : ℕ) (sender : Addr4) → IsSender s f.router f.frame.iface sender → Carries (at_hop m limit hops) f.frame.bytes →
+  pub all : (f : Transmission) (hops : ℕ) (sender : Addr4) → IsInterfaceSender s f.router f.frame.iface sender → Carries (at_hop m limit hops) f.frame.bytes →
       {hearers : List (ℕ × ℕ)} {cur new : List State} {more : List Transmission} (st : Spread) → AreLike cur st → AllHear now sender f.frame.bytes hearers cur new more → Hearers f hops hearers st new more
   all f hops sender is carries st like All_have_heard = record { after = st; out = []; hears = All_heard; frames = No_frames; like = like }
   all f hops sender is carries st like (Next_hears {w = w} {j = j} {hearers = hearers} {old = cur} {mid = mid} {new = new} {p = p} {q = q} {sent = sent} {more = more} at step replaces rest) =

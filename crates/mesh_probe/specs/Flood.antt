@@ -25,8 +25,8 @@ hearers_of [] x i = []
 hearers_of (arc ∷ arcs) x i = cond (leads_from arc x i) ((arc.to, arc.to_iface) ∷ hearers_of arcs x i) (hearers_of arcs x i)
 
 -- the first address of interface i of router x, which is the sender of its frames
-abbrev pub IsSender : Scenario → ℕ → ℕ → Addr4 → Type 0
-IsSender s x i a =
+abbrev pub IsInterfaceSender : Scenario → ℕ → ℕ → Addr4 → Type 0
+IsInterfaceSender s x i a =
     (r : RouterSettings) × Router s x r × (iface : Interface)
     × (slice_get r.interfaces i ≡ Some iface) × (slice_get iface.addrs 0 ≡ Some a)
 
@@ -55,6 +55,6 @@ pub data AllHear (now : ℕ) (sender : Addr4) (bytes : List ℕ) :
 pub data Flood (s : Scenario) (now : ℕ) : List State → List Transmission → List State → List Transmission → Type 0 where
   No_frame_waits : {states : List State} → Flood s now states [] states []
   First_frame : {f : Transmission} {rest more heard : List Transmission} {old mid new : List State} (sender : Addr4) →
-      IsSender s f.router f.frame.iface sender →
+      IsInterfaceSender s f.router f.frame.iface sender →
       AllHear now sender f.frame.bytes (hearers_of s.arcs f.router f.frame.iface) old mid more →
       Flood s now mid (rest ++ more) new heard → Flood s now old (f ∷ rest) new (f ∷ heard)

@@ -18,7 +18,7 @@ use Rattle.mesh_probe.specs.declared.coverage.Coverage.{Coverage}
 use Rattle.mesh_probe.specs.declared.coverage.Probe.TheVariants.{Done}
 use Rattle.mesh_probe.specs.declared.coverage.Sending.{Sending}
 use Rattle.mesh_probe.specs.declared.transmission.Transmission.{Transmission}
-use Rattle.mesh_probe.specs.Flood.{hearers_of, IsSender, BecomesAt, AllHear, sent_by}
+use Rattle.mesh_probe.specs.Flood.{hearers_of, IsInterfaceSender, BecomesAt, AllHear, sent_by}
 use Rattle.mesh_probe.specs.Laws.{AreSentApart, tc_key}
 use Rattle.mesh_probe.specs.Probes.{IsKnown, IsProbeTc, TellsFlood}
 
@@ -59,7 +59,7 @@ pub data FloodsTo (s : Scenario) (now : ℕ) (old : List State) (first : List Tr
     List Transmission → List State → List Transmission → Type 0 where
   Nothing_heard : FloodsTo s now old first [] old first
   One_more : {heard rest more : List Transmission} {f : Transmission} {mid new : List State} (sender : Addr4) →
-      FloodsTo s now old first heard mid (f ∷ rest) → IsSender s f.router f.frame.iface sender →
+      FloodsTo s now old first heard mid (f ∷ rest) → IsInterfaceSender s f.router f.frame.iface sender →
       AllHear now sender f.frame.bytes (hearers_of s.arcs f.router f.frame.iface) mid new more →
       FloodsTo s now old first (heard ++ (f ∷ [])) new (rest ++ more)
 

@@ -27,7 +27,7 @@ pub record AreRoutersAt (s : Scenario) (states : List State) (now : ℕ) : Type 
   pub moment : (x : ℕ) (p : State) → At states x p → p.last ≡ now
 
 -- the list has exactly the numbers with the property, in ascending order
-pub record Lists (P : ℕ → Type 0) (list : List ℕ) : Type 0 where
+pub record ListsNumbers (P : ℕ → Type 0) (list : List ℕ) : Type 0 where
   pub each : (n : ℕ) → Contains list n ↔ P n
   pub ascending : AllPairs ◌<◌ list
 
@@ -38,15 +38,15 @@ abbrev pub IsKnown : List State → FloodKey → Type 0
 IsKnown states key = (x : ℕ) × (q : State) × At states x q × HasNoted q.bases.noted key
 
 -- some router has noted a TC of router origin's with that number
-abbrev pub IsTaken : Scenario → List State → ℕ → ℕ → Type 0
-IsTaken s states origin number =
+abbrev pub IsTcNoted : Scenario → List State → ℕ → ℕ → Type 0
+IsTcNoted s states origin number =
     (o : Addr4) × OriginatorOf s origin o × IsKnown states (tc_key o number)
 
 -- the number is the least that isn't taken; there is none exactly where all up to 65,535 are
 abbrev pub HasLeastNumber : Scenario → List State → ℕ → Probe → Type 0
-HasLeastNumber s states origin NoNumber = (n : ℕ) → n < 65536 → IsTaken s states origin n
+HasLeastNumber s states origin NoNumber = (n : ℕ) → n < 65536 → IsTcNoted s states origin n
 HasLeastNumber s states origin (Done c) =
-    (IsTaken s states origin c.number → ⊥) × ((n : ℕ) → n < c.number → IsTaken s states origin n)
+    (IsTcNoted s states origin c.number → ⊥) × ((n : ℕ) → n < c.number → IsTcNoted s states origin n)
 
 -- The flood
 
@@ -89,7 +89,7 @@ HearsOne s sends z = (f : Sending) × (j : ℕ) × Contains sends f × Contains 
 
 -- exactly the other routers that hear a frame, in ascending order
 abbrev pub AreReached : Scenario → ℕ → Coverage → Type 0
-AreReached s origin c = Lists (λ z. (z ≢ origin) × HearsOne s c.sends z) c.reached
+AreReached s origin c = ListsNumbers (λ z. (z ≢ origin) × HearsOne s c.sends z) c.reached
 
 -- what holds of a coverage, where there is one
 abbrev pub IfDone : (Coverage → Type 0) → Probe → Type 0

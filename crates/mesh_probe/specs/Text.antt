@@ -7,11 +7,11 @@ use Rattle.mesh_machine.specs.Names.{router_name}
 use Rattle.mesh_probe.specs.declared.coverage.Coverage.{Coverage}
 use Rattle.mesh_probe.specs.declared.coverage.Probe.{Probe}
 use Rattle.mesh_probe.specs.declared.coverage.Probe.TheVariants.{NoNumber, Done}
-use Rattle.mesh_probe.specs.Probes.{Lists}
+use Rattle.mesh_probe.specs.Probes.{ListsNumbers}
 
 -- the other routers that are joined with the origin, in ascending order
 abbrev pub ArePeers : Scenario → ℕ → List ℕ → Type 0
-ArePeers s origin peers = Lists (λ z. (z ≢ origin) × Joined s origin z) peers
+ArePeers s origin peers = ListsNumbers (λ z. (z ≢ origin) × Joined s origin z) peers
 
 -- the router is among those that are reached
 abbrev pub is_reached : Coverage → ℕ → Bool

@@ -2,7 +2,7 @@
 ghost use Rattle.std.specs.Prelude.{◌≡◌, ◌<◌, ◌≤◌, ◌^◌, ℕ, List, All, map, length, IfOk, OnOk};
 ghost use Rattle.mesh_atoms.specs.Settled.{At};
 ghost use Rattle.mesh_atoms.specs.State.{State};
-ghost use Rattle.mesh_probe.specs.Flood.{leads_from, hearers_of, IsSender, AllHear, Flood};
+ghost use Rattle.mesh_probe.specs.Flood.{leads_from, hearers_of, IsInterfaceSender, AllHear, Flood};
 ghost use Rattle.mesh_probe.specs.Hearing.{CanHear, IsOfInterface, HearsFrame, SendsOnceFrom};
 
 use crate::frames::put_sent;
@@ -21,7 +21,7 @@ fn leads_from(arc: &RadioArc, router: usize, iface: usize) -> bool
 // The first address of the interface that sends a frame.
 fn sender_of(scenario: &Scenario, frame: &Transmission) -> Addr4
     requires { IsOfInterface scenario.now frame.now }
-    ensures { IsSender scenario.now frame.now.router frame.now.frame.iface result }
+    ensures { IsInterfaceSender scenario.now frame.now.router frame.now.frame.iface result }
 {
     let settings = &scenario.routers.as_slice()[frame.router];
     let interface = &settings.interfaces.as_slice()[frame.frame.iface];

@@ -2,7 +2,7 @@
 ghost use Rattle.std.specs.Prelude.{◌≡◌, ◌≢◌, ◌<◌, ◌++◌, ◌↔◌, length, filter, not, nat_eq, IsTrue, IfOk, OnOk};
 ghost use Rattle.std.specs.List.{flat_map, list_any};
 ghost use Rattle.mesh_atoms.specs.Radio.{IsRadioGraph, Joined};
-ghost use Rattle.mesh_probe.specs.Probes.{Lists};
+ghost use Rattle.mesh_probe.specs.Probes.{ListsNumbers};
 ghost use Rattle.mesh_probe.specs.Text.{ArePeers, is_reached, probe_start, probe_counts, probe_end, unreached_line, IsProbeText};
 
 use crate::coverage::{Coverage, Probe};

@@ -1,7 +1,7 @@
 //! The routers that hear a flood.
 ghost use Rattle.std.specs.Prelude.{◌≡◌, ◌≢◌, ◌↔◌, Contains, IsTrue, IfOk};
 ghost use Rattle.mesh_probe.specs.Hearing.{BringsTo};
-ghost use Rattle.mesh_probe.specs.Probes.{HearsOne, Lists};
+ghost use Rattle.mesh_probe.specs.Probes.{HearsOne, ListsNumbers};
 
 use crate::coverage::Sending;
 use mesh_atoms::{RadioArc, Scenario, Seq};
@@ -53,7 +53,7 @@ pub(crate) fn reached_of(
     origin: usize,
     sends: &[Sending],
 ) -> Result<Seq<usize>, AllocError>
-    ensures { IfOk result (Lists (λ z. (z ≢ origin) × HearsOne scenario.now sends.now z)) }
+    ensures { IfOk result (ListsNumbers (λ z. (z ≢ origin) × HearsOne scenario.now sends.now z)) }
 {
     let mut reached = Seq::new(alloc);
     for router in 0..scenario.routers.len() {

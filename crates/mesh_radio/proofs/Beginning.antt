@@ -14,9 +14,9 @@ use Rattle.mesh_machine.specs.Net.{IsFirstDue}
 use Rattle.mesh_radio.specs.Opening.{AreOpeningUpTo, AreOpening, IsOpeningScene}
 use Rattle.mesh_machine.specs.NetRun.{IsOpeningNet}
 use Rattle.mesh_radio.specs.Scene.{IsSound, IsFlying, net_of}
-use Rattle.mesh_radio.specs.declared.traffic.traffic.Traffic.{Traffic}
+use Rattle.mesh_radio.specs.declared.traffic.traffic.RadioTraffic.{RadioTraffic}
 use Rattle.mesh_radio.specs.Traffic.Traffic.{traffic_of}
-use Rattle.mesh_radio.specs.Traffic.Ways.{AreWays}
+use Rattle.mesh_radio.specs.Traffic.Ways.{AreArcsOut}
 use Rattle.mesh_machine.proofs.Places.{each_more, same_at}
 
 pub none_opening : {A : Type 0} (state : A → State) (settings : List RouterSettings) (routers : List A) → routers ≡ [] → AreOpeningUpTo settings 0 (map state routers)
@@ -40,14 +40,14 @@ some_router state s routers h =
 
 pub opening_sound : (scenario : Scenario) (routers : List State) (due : Due) (s : Scene) → AreOpening scenario.routers routers → IsFirstDue routers due.router due.moment → IsOpeningScene scenario due s → IsSound routers s
 opening_sound scenario routers due s h first opens = record {
-  ways = subst (λ (t : Scenario). AreWays t.arcs t.routers (length t.routers) s.ways) (sym opens.scenario_is) opens.ways;
+  ways = subst (λ (t : Scenario). AreArcsOut t.arcs t.routers (length t.routers) s.ways) (sym opens.scenario_is) opens.ways;
   are_routers = record {
     count = h.count_is ∙ ap (λ (t : Scenario). length t.routers) (sym opens.scenario_is);
     settings = λ x t at. let (r, stands, fresh) = h.each x t at in rw (opens.scenario_is, fresh.settings_are) stands;
     lasts = λ x t at. let (r, stands, fresh) = h.each x t at in let e = fresh.last in omega (arith, e);
   };
-  seed = ap (λ (t : Traffic). t.draws.seed) opens.traffic ∙ ap (λ (t : Scenario). t.seed) (sym opens.scenario_is);
-  flying = subst (λ (t : Traffic). All (IsFlying s.scenario s.now) t.air) (sym opens.traffic) (All-nil (IsFlying s.scenario s.now));
+  seed = ap (λ (t : RadioTraffic). t.draws.seed) opens.traffic ∙ ap (λ (t : Scenario). t.seed) (sym opens.scenario_is);
+  flying = subst (λ (t : RadioTraffic). All (IsFlying s.scenario s.now) t.air) (sym opens.traffic) (All-nil (IsFlying s.scenario s.now));
   due = subst (λ (d : Due). IsFirstDue routers d.router d.moment) (sym opens.due_is) first;
   due_later = let now = opens.now in omega (arith, now);
   in_time = let now = opens.now in omega (arith, now);

@@ -13,7 +13,7 @@ use Rattle.mesh_machine.specs.declared.frame.Frame.{Frame}
 use Rattle.mesh_machine.specs.Machine.{Hear}
 use Rattle.mesh_machine.specs.Sendable.{IsPacket, IsSendable}
 use Rattle.mesh_atoms.specs.declared.network.Emission.{Emission}
-use Rattle.mesh_radio.specs.declared.traffic.traffic.Traffic.{Traffic as Kept}
+use Rattle.mesh_radio.specs.declared.traffic.traffic.RadioTraffic.{RadioTraffic as Kept}
 use Rattle.mesh_machine.specs.Traffic.{Traffic, Delivery, IsHeardFirst, SendsAll, with_heard, frame_of}
 use Rattle.mesh_radio.specs.Traffic.Traffic.{traffic_of}
 use Rattle.mesh_machine.proofs.Places.{same_at, all_turned}
@@ -21,9 +21,9 @@ use Rattle.mesh_atoms.specs.declared.network.NetEvent.{NetEvent}
 use Rattle.mesh_radio.specs.declared.scene.Due.{Due}
 use Rattle.mesh_radio.specs.declared.scene.Scene.{Scene}
 use Rattle.mesh_radio.specs.declared.scene.Tick.{Tick}
-use Rattle.mesh_machine.specs.Net.{Net, NetStep, By_delivery, By_tick, By_last_tick, IsFirstDue, IsSender, TicksNext, HasOnlyLastTicks, Moves, Delivers, TicksDue, TicksLast, event_of, frames_of}
+use Rattle.mesh_machine.specs.Net.{NetState, NetStep, By_delivery, By_tick, By_last_tick, IsFirstDue, IsSender, TicksNext, HasOnlyLastTicks, Moves, Delivers, TicksDue, TicksLast, event_of, frames_of}
 use Rattle.mesh_machine.specs.NetRun.{IsOver, IsOfScenario, IsOfPackets}
-use Rattle.mesh_radio.specs.Scene.{IsSound, AreRouters, Lands, TicksOne, Stepped, Happens, IsFlying, IsLeft, IsQuiet, IsNextTick, Due_first, At_end, HasNoTick, Stays, Tells, net_of}
+use Rattle.mesh_radio.specs.Scene.{IsSound, AreRouterStates, Lands, TicksOne, Stepped, Happens, IsFlying, IsLeft, IsAirQuiet, IsNextTick, Due_first, At_end, HasNoTick, AllStays, TellsEvent, net_of}
 use Rattle.mesh_radio.proofs.Arcs.{arc_ends}
 use Rattle.mesh_machine.proofs.Sent.{first_and_others, others_later, sent_lost}
 use Rattle.mesh_radio.proofs.Flying.{sent_flying, still_flying}
@@ -40,7 +40,7 @@ abbrev pub left_in_air : Scene → List Delivery → Traffic
 left_in_air s others = record { air = others; counts = s.traffic.counts; draws = s.traffic.draws.drawn }
 
 -- the network after an event
-abbrev network_after : List State → Scene → Traffic → ℕ → Net
+abbrev network_after : List State → Scene → Traffic → ℕ → NetState
 network_after new s traffic last_ticks = record { scenario = s.scenario; routers = new; traffic = traffic; last_ticks = last_ticks }
 
 -- What happens
@@ -104,7 +104,7 @@ ended old new s event then only some ticks = record {
 
 -- What an event names
 
-module _ (s : Scenario) (earlier : ℕ) (old new : List State) (event : NetEvent) (before then : Traffic) (routers : AreRouters s earlier old) where
+module _ (s : Scenario) (earlier : ℕ) (old new : List State) (event : NetEvent) (before then : Traffic) (routers : AreRouterStates s earlier old) where
   of_scenario : (x now : ℕ) (change : ℕ → ℕ → Type 0) → event.router ≡ x → (step : Stepped old new x now (event_of event) (frames_of event) change) → SendsAll s now x event.sent before then →
       IfSome event.heard (λ h. h.0 < length step.was.settings.interfaces) → IsOfScenario s event
   of_scenario x now change router step sends heard = record {
@@ -126,7 +126,7 @@ of_packets settings event may heard = record {
 }
 
 module _ (s : Scenario) (old new : List State) (event : NetEvent) where
-  pub landing_of_scenario : (earlier : ℕ) (d : Delivery) (before then : Traffic) → AreRouters s earlier old → Lands s old new d event before then → IsOfScenario s event
+  pub landing_of_scenario : (earlier : ℕ) (d : Delivery) (before then : Traffic) → AreRouterStates s earlier old → Lands s old new d event before then → IsOfScenario s event
   landing_of_scenario earlier d before then routers lands =
       let to = (arc_ends s d.arc lands.arc lands.arc_is).1 in
       let was = lands.stepped.was in
@@ -182,7 +182,7 @@ hears_next s old new d others event outbox then sound first soon lands seed =
 
 -- A router ticks
 
-module _ (s : Scene) (old : List State) (sound : IsSound old s) (quiet : IsQuiet s) where
+module _ (s : Scene) (old : List State) (sound : IsSound old s) (quiet : IsAirQuiet s) where
   due_next : s.due.moment ≤ s.scenario.end → TicksNext (net_of old s) s.due.router s.due.moment
   due_next soon = record {
     first = sound.due;
@@ -267,42 +267,42 @@ module _ (s : Scene) (old : List State) (sound : IsSound old s) (quiet : IsQuiet
 -- What is told of a network after its next event, if there is one
 
 -- where it stayed as it was before
-pub told_since : {E : Type 0} (old mid new : List State) (before between after : Scene) (r : Result (Option NetEvent) E) → Stays old before mid between → IfOk r (Tells mid between new after) → IfOk r (Tells old before new after)
+pub told_since : {E : Type 0} (old mid new : List State) (before between after : Scene) (r : Result (Option NetEvent) E) → AllStays old before mid between → IfOk r (TellsEvent mid between new after) → IfOk r (TellsEvent old before new after)
 told_since old mid new before between after r stays told =
-    subst (λ (states : List State). IfOk r (Tells states before new after)) stays.routers (subst (λ (s : Scene). IfOk r (Tells mid s new after)) stays.scene told)
+    subst (λ (states : List State). IfOk r (TellsEvent states before new after)) stays.routers (subst (λ (s : Scene). IfOk r (TellsEvent mid s new after)) stays.scene told)
 
 -- and is sound
-pub sound_since : (old mid : List State) (before between : Scene) → Stays old before mid between → IsSound old before → IsSound mid between
+pub sound_since : (old mid : List State) (before between : Scene) → AllStays old before mid between → IsSound old before → IsSound mid between
 sound_since old mid before between stays sound =
     subst (λ (states : List State). IsSound states between) (sym stays.routers) (subst (IsSound old) (sym stays.scene) sound)
 
-pub quiet_since : (old mid : List State) (before between : Scene) → Stays old before mid between → IsQuiet between
-quiet_since old mid before between stays = subst IsQuiet (sym stays.scene) stays.quiet
+pub quiet_since : (old mid : List State) (before between : Scene) → AllStays old before mid between → IsAirQuiet between
+quiet_since old mid before between stays = subst IsAirQuiet (sym stays.scene) stays.quiet
 
-module _ {E : Type 0} (old new : List State) (before after : Scene) (r : Result (Option NetEvent) E) (told : IfOk r (Tells old before new after)) where
-  pub told_step : (was : Net) → net_of old before ≡ was → IfOk r (λ e. MatchOption e (IsOver was × (net_of new after ≡ was)) (λ event. NetStep was event (net_of new after)))
-  told_step was is = subst (λ (n : Net). IfOk r (λ e. MatchOption e (IsOver n × (net_of new after ≡ n)) (λ event. NetStep n event (net_of new after)))) is (IfOk-weaker r (Tells old before new after) _ one told)
+module _ {E : Type 0} (old new : List State) (before after : Scene) (r : Result (Option NetEvent) E) (told : IfOk r (TellsEvent old before new after)) where
+  pub told_step : (was : NetState) → net_of old before ≡ was → IfOk r (λ e. MatchOption e (IsOver was × (net_of new after ≡ was)) (λ event. NetStep was event (net_of new after)))
+  told_step was is = subst (λ (n : NetState). IfOk r (λ e. MatchOption e (IsOver n × (net_of new after ≡ n)) (λ event. NetStep n event (net_of new after)))) is (IfOk-weaker r (TellsEvent old before new after) _ one told)
     where
-      one : (e : Option NetEvent) → Tells old before new after e → MatchOption e (IsOver (net_of old before) × (net_of new after ≡ net_of old before)) (λ event. NetStep (net_of old before) event (net_of new after))
+      one : (e : Option NetEvent) → TellsEvent old before new after e → MatchOption e (IsOver (net_of old before) × (net_of new after ≡ net_of old before)) (λ event. NetStep (net_of old before) event (net_of new after))
       one None h = h.over
       one (Some event) h = h.step
 
-  pub told_named : (was : Net) → net_of old before ≡ was → IfOk r (λ e. IfSome e (IsOfScenario was.scenario))
-  told_named was is = subst (λ (n : Net). IfOk r (λ e. IfSome e (IsOfScenario n.scenario))) is (IfOk-weaker r (Tells old before new after) _ one told)
+  pub told_named : (was : NetState) → net_of old before ≡ was → IfOk r (λ e. IfSome e (IsOfScenario was.scenario))
+  told_named was is = subst (λ (n : NetState). IfOk r (λ e. IfSome e (IsOfScenario n.scenario))) is (IfOk-weaker r (TellsEvent old before new after) _ one told)
     where
-      one : (e : Option NetEvent) → Tells old before new after e → IfSome e (IsOfScenario before.scenario)
+      one : (e : Option NetEvent) → TellsEvent old before new after e → IfSome e (IsOfScenario before.scenario)
       one None h = tt
       one (Some event) h = h.named
 
   pub told_packets : IfOk r (λ e. IfSome e IsOfPackets)
-  told_packets = IfOk-weaker r (Tells old before new after) _ one told
+  told_packets = IfOk-weaker r (TellsEvent old before new after) _ one told
     where
-      one : (e : Option NetEvent) → Tells old before new after e → IfSome e IsOfPackets
+      one : (e : Option NetEvent) → TellsEvent old before new after e → IfSome e IsOfPackets
       one None h = tt
       one (Some event) h = h.packets
 
 -- a network that isn't spent is sound
-pub sound_unless_spent : {E : Type 0} (old new : List State) (before after : Scene) (r : Result (Option NetEvent) E) (spent : Bool) → IfOk r (Tells old before new after) → spent ≡ is_err r → spent ≡ false → IsSound new after
+pub sound_unless_spent : {E : Type 0} (old new : List State) (before after : Scene) (r : Result (Option NetEvent) E) (spent : Bool) → IfOk r (TellsEvent old before new after) → spent ≡ is_err r → spent ≡ false → IsSound new after
 sound_unless_spent old new before after (Ok None) spent told says whole = told.sound
 sound_unless_spent old new before after (Ok (Some event)) spent told says whole = told.sound
 sound_unless_spent old new before after (Err e) spent told says whole = let both : true ≡ false = sym says ∙ whole in absurd cc

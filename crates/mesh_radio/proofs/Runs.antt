@@ -1,15 +1,15 @@
 -- Runs of a network.
 use Rattle.std.proofs.Common.{◌≡◌, List, [], ◌∷◌, subst, sym}
 use Rattle.mesh_atoms.specs.declared.network.NetEvent.{NetEvent}
-use Rattle.mesh_machine.specs.Net.{Net, NetStep}
+use Rattle.mesh_machine.specs.Net.{NetState, NetStep}
 use Rattle.mesh_machine.specs.NetRun.{NetRun, IsOver}
 
 -- whatever run goes on from here, a run from the start leads there
-abbrev pub RunsOn : Net → Net → Type 0
-RunsOn start here = (more : List NetEvent) (new : Net) → NetRun here more new → (all : List NetEvent) × NetRun start all new
+abbrev pub RunsOn : NetState → NetState → Type 0
+RunsOn start here = (more : List NetEvent) (new : NetState) → NetRun here more new → (all : List NetEvent) × NetRun start all new
 
-pub one_step : (start here there : Net) (event : NetEvent) → NetStep here event there → RunsOn start here → RunsOn start there
+pub one_step : (start here there : NetState) (event : NetEvent) → NetStep here event there → RunsOn start here → RunsOn start there
 one_step start here there event step runs more new run = runs (event ∷ more) new (there, step, run)
 
-pub run_over : (start here there : Net) → RunsOn start here → IsOver here × (there ≡ here) → (all : List NetEvent) × NetRun start all there × IsOver there
+pub run_over : (start here there : NetState) → RunsOn start here → IsOver here × (there ≡ here) → (all : List NetEvent) × NetRun start all there × IsOver there
 run_over start here there runs over = let (all, run) = runs [] there over.1 in (all, run, subst IsOver (sym over.1) over.0)

@@ -7,7 +7,7 @@ use Rattle.mesh_atoms.specs.declared.settings.Scenario.{Scenario}
 use Rattle.mesh_machine.specs.declared.frame.Frame.{Frame}
 use Rattle.mesh_machine.specs.Machine.{Event, due}
 use Rattle.mesh_machine.specs.Net.{IsFirstDue}
-use Rattle.mesh_radio.specs.Scene.{AreRouters, Stepped}
+use Rattle.mesh_radio.specs.Scene.{AreRouterStates, Stepped}
 use Rattle.mesh_machine.proofs.Places.{same_at, set_at}
 use Rattle.mesh_atoms.proofs.Lists.{item_at as stands}
 
@@ -19,7 +19,7 @@ pub after_step : (old new : List State) (x now : ℕ) (event : Event) (frames : 
     slice_get new y ≡ Some t → ((y ≡ x) × (t ≡ step.is)) ⊎ ((y ≢ x) × (slice_get old y ≡ Some t))
 after_step old new x now event frames change step y t at = set_at old x step.is y t (subst (λ (l : List State). slice_get l y ≡ Some t) step.routers at)
 
-pub later_routers : (s : Scenario) (earlier now : ℕ) (routers : List State) → earlier ≤ now → AreRouters s earlier routers → AreRouters s now routers
+pub later_routers : (s : Scenario) (earlier now : ℕ) (routers : List State) → earlier ≤ now → AreRouterStates s earlier routers → AreRouterStates s now routers
 later_routers s earlier now routers le h = record {
   count = h.count;
   settings = h.settings;
@@ -27,7 +27,7 @@ later_routers s earlier now routers le h = record {
 }
 
 pub routers_after : (s : Scenario) (now : ℕ) (old new : List State) (x : ℕ) (event : Event) (frames : List Frame) (change : ℕ → ℕ → Type 0) →
-    AreRouters s now old → Stepped old new x now event frames change → AreRouters s now new
+    AreRouterStates s now old → Stepped old new x now event frames change → AreRouterStates s now new
 routers_after s now old new x event frames change h step = record {
   count = same_count old new x now event frames change step ∙ h.count;
   settings = λ y t at. elim (after_step old new x now event frames change step y t at) [

@@ -9,15 +9,15 @@ use Rattle.mesh_atoms.specs.declared.settings.Scenario.{Scenario}
 use Rattle.mesh_machine.specs.declared.frame.Frame.{Frame}
 use Rattle.mesh_machine.specs.Machine.{Event}
 use Rattle.mesh_machine.specs.Sendable.{IsSendable}
-use Rattle.mesh_radio.specs.Scene.{AreRouters, Stepped, IsTo}
+use Rattle.mesh_radio.specs.Scene.{AreRouterStates, Stepped, IsTo}
 use Rattle.mesh_machine.proofs.Places.{same_at}
 use Rattle.mesh_atoms.proofs.Lists.{item_at as stands}
 
-pub router_at : (s : Scenario) (now : ℕ) (routers : List State) (x : ℕ) → AreRouters s now routers → x < length s.routers → (was : State) × (slice_get routers x ≡ Some was) × (was.last ≤ now)
+pub router_at : (s : Scenario) (now : ℕ) (routers : List State) (x : ℕ) → AreRouterStates s now routers → x < length s.routers → (was : State) × (slice_get routers x ≡ Some was) × (was.last ≤ now)
 router_at s now routers x h lt = let there = stands routers x (rw h.count lt) in (there.0, there.1, h.lasts x there.0 there.1)
 
 -- the router to which an arc leads
-pub router_to : (s : Scenario) (now : ℕ) (routers : List State) (arc : RadioArc) → AreRouters s now routers → IsTo s.routers arc →
+pub router_to : (s : Scenario) (now : ℕ) (routers : List State) (arc : RadioArc) → AreRouterStates s now routers → IsTo s.routers arc →
     (was : State) × (slice_get routers arc.to ≡ Some was) × (was.last ≤ now) × (arc.to_iface < length was.settings.interfaces)
 router_to s now routers arc h to =
     let below : arc.to < length s.routers = slice_get_within s.routers arc.to to.router to.stands in
@@ -26,7 +26,7 @@ router_to s now routers arc h to =
     (there.0, there.1, h.lasts arc.to there.0 there.1, subst (λ (r : RouterSettings). arc.to_iface < length r.interfaces) same to.iface)
 
 -- what a router sent goes out by its own interfaces
-pub may_send : (s : Scenario) (earlier now : ℕ) (old new : List State) (x : ℕ) (event : Event) (frames : List Frame) (change : ℕ → ℕ → Type 0) → AreRouters s earlier old → Stepped old new x now event frames change →
+pub may_send : (s : Scenario) (earlier now : ℕ) (old new : List State) (x : ℕ) (event : Event) (frames : List Frame) (change : ℕ → ℕ → Type 0) → AreRouterStates s earlier old → Stepped old new x now event frames change →
     (settings : RouterSettings) × (slice_get s.routers x ≡ Some settings) × All (IsSendable settings) frames
 may_send s earlier now old new x event frames change h step = (step.was.settings, h.settings x step.was step.stood, step.sendable)
 

@@ -6,7 +6,7 @@ use Rattle.mesh_atoms.specs.declared.settings.Scenario.{Scenario}
 use Rattle.mesh_machine.specs.Machine.{IsOpening}
 use Rattle.mesh_radio.specs.declared.scene.Due.{Due}
 use Rattle.mesh_radio.specs.declared.scene.Scene.{Scene}
-use Rattle.mesh_radio.specs.Traffic.Ways.{AreWays}
+use Rattle.mesh_radio.specs.Traffic.Ways.{AreArcsOut}
 
 -- the first routers, one for each settings, so many
 pub record AreOpeningUpTo (settings : List RouterSettings) (count : ℕ) (routers : List State) : Type 0 where
@@ -20,7 +20,7 @@ AreOpening settings routers = AreOpeningUpTo settings (length settings) routers
 -- what the network of a scenario has besides its routers, where this is due first
 pub record IsOpeningScene (scenario : Scenario) (due : Due) (s : Scene) : Type 0 where
   pub scenario_is : s.scenario ≡ scenario
-  pub ways : AreWays scenario.arcs scenario.routers (length scenario.routers) s.ways
+  pub ways : AreArcsOut scenario.arcs scenario.routers (length scenario.routers) s.ways
   pub traffic : s.traffic ≡ record { air = []; counts = record { sent = 0; delivered = 0; lost = 0 }; draws = record { seed = scenario.seed; drawn = 0 } }
   pub due_is : s.due ≡ due
   pub last_ticks : s.last_ticks ≡ 0

@@ -11,14 +11,14 @@ use Rattle.mesh_machine.specs.Sendable.{IsPacket, IsSendable}
 use Rattle.mesh_atoms.specs.declared.network.NetEvent.{NetEvent}
 use Rattle.mesh_radio.specs.declared.scene.Scene.{Scene}
 use Rattle.mesh_radio.specs.declared.scene.Tick.{Tick}
-use Rattle.mesh_machine.specs.Net.{Net, NetStep, IsFirstDue, IsSender, event_of, frames_of}
+use Rattle.mesh_machine.specs.Net.{NetState, NetStep, IsFirstDue, IsSender, event_of, frames_of}
 use Rattle.mesh_machine.specs.Traffic.{Delivery, Traffic, SendsAll, with_heard}
 use Rattle.mesh_machine.specs.NetRun.{IsOver, IsOfScenario, IsOfPackets}
 use Rattle.mesh_radio.specs.Traffic.Traffic.{traffic_of}
-use Rattle.mesh_radio.specs.Traffic.Ways.{AreWays}
+use Rattle.mesh_radio.specs.Traffic.Ways.{AreArcsOut}
 
 -- the network that is meant
-abbrev pub net_of : List State → Scene → Net
+abbrev pub net_of : List State → Scene → NetState
 net_of routers s = record { scenario = s.scenario; routers = routers; traffic = traffic_of s.traffic; last_ticks = s.last_ticks }
 
 -- a frame that is heard no earlier than now, by an arc of the scenario, and spells a packet
@@ -28,15 +28,15 @@ pub record IsFlying (scenario : Scenario) (now : ℕ) (d : Delivery) : Type 0 wh
   pub packet : IsPacket d.frame
 
 -- the routers of a scenario, none of which had an event after now
-pub record AreRouters (scenario : Scenario) (now : ℕ) (routers : List State) : Type 0 where
+pub record AreRouterStates (scenario : Scenario) (now : ℕ) (routers : List State) : Type 0 where
   pub count : length routers ≡ length scenario.routers
   pub settings : (x : ℕ) (s : State) → slice_get routers x ≡ Some s → slice_get scenario.routers x ≡ Some s.settings
   pub lasts : (x : ℕ) (s : State) → slice_get routers x ≡ Some s → s.last ≤ now
 
 -- what is true between events
 pub record IsSound (routers : List State) (s : Scene) : Type 0 where
-  pub ways : AreWays s.scenario.arcs s.scenario.routers (length s.scenario.routers) s.ways
-  pub are_routers : AreRouters s.scenario s.now routers
+  pub ways : AreArcsOut s.scenario.arcs s.scenario.routers (length s.scenario.routers) s.ways
+  pub are_routers : AreRouterStates s.scenario s.now routers
   pub seed : s.traffic.draws.seed ≡ s.scenario.seed
   pub flying : All (IsFlying s.scenario s.now) s.traffic.air
   pub due : IsFirstDue routers s.due.router s.due.moment
@@ -89,8 +89,8 @@ pub record TicksOne (s : Scenario) (old new : List State) (x now : ℕ) (event :
   pub sends : SendsAll s now x event.sent before after
 
 -- nothing that is in the air is heard up to the first tick and the end
-abbrev pub IsQuiet : Scene → Type 0
-IsQuiet s = All (λ d. min s.due.moment s.scenario.end < d.moment) s.traffic.air
+abbrev pub IsAirQuiet : Scene → Type 0
+IsAirQuiet s = All (λ d. min s.due.moment s.scenario.end < d.moment) s.traffic.air
 
 -- a tick that is next: of the router that is due first, no later than the end, or else the next of the ticks at the end
 pub data IsNextTick (s : Scene) (tick : Tick) : Type 0 where
@@ -115,12 +115,12 @@ pub record IsLeft (old : List State) (before : Scene) (new : List State) (after 
   pub sound : IsSound new after
 
 -- what is told of the next event, if there is one
-abbrev pub Tells : List State → Scene → List State → Scene → Option NetEvent → Type 0
-Tells old before new after None = IsLeft old before new after
-Tells old before new after (Some event) = Happens old before event new after
+abbrev pub TellsEvent : List State → Scene → List State → Scene → Option NetEvent → Type 0
+TellsEvent old before new after None = IsLeft old before new after
+TellsEvent old before new after (Some event) = Happens old before event new after
 
 -- nothing is heard next, and all stays as it was
-pub record Stays (old : List State) (before : Scene) (new : List State) (after : Scene) : Type 0 where
+pub record AllStays (old : List State) (before : Scene) (new : List State) (after : Scene) : Type 0 where
   pub routers : new ≡ old
   pub scene : after ≡ before
-  pub quiet : IsQuiet before
+  pub quiet : IsAirQuiet before

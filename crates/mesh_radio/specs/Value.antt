@@ -2,11 +2,11 @@
 use Rattle.std.specs.Prelude.{List, Bool, map}
 use Rattle.mesh_atoms.specs.State.{State}
 use Rattle.mesh_core.specs.Holding.{CoreValue}
-use Rattle.mesh_machine.specs.Net.{Net}
+use Rattle.mesh_machine.specs.Net.{NetState}
 
 -- an emulated network, and whether it has met want of memory
 pub record NetValue : Type 0 where
-  pub net : Net
+  pub net : NetState
   pub is_spent : Bool
 
 -- the state of each core, in order

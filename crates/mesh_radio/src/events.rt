@@ -2,12 +2,12 @@
 ghost use Rattle.std.specs.Prelude.{◌≡◌, ◌<◌, ◌≤◌, length, map, Some, IfOk, OnOk};
 ghost use Rattle.mesh_atoms.specs.Settings.{one_hour};
 ghost use Rattle.mesh_radio.specs.Traffic.Air.{delivery_of};
-ghost use Rattle.mesh_radio.specs.Scene.{AreRouters, Lands, TicksOne};
+ghost use Rattle.mesh_radio.specs.Scene.{AreRouterStates, Lands, TicksOne};
 ghost use Rattle.mesh_radio.specs.Traffic.Traffic.{traffic_of};
-ghost use Rattle.mesh_radio.specs.Traffic.Ways.{AreWays};
+ghost use Rattle.mesh_radio.specs.Traffic.Ways.{AreArcsOut};
 
 use crate::routers::{hear, sender_of, tick};
-use crate::traffic::{Landed, Traffic, Ways, send_all};
+use crate::traffic::{ArcsOut, ArrivedFrame, RadioTraffic, send_all};
 use mesh_atoms::{Addr4, Bytes, Emission, NetEvent, RadioArc, Scenario, Seq};
 use mesh_core::{Machine, Outbox, TypedFrame};
 use std::alloc::{AllocError, Global};
@@ -17,14 +17,14 @@ use std::rc::Rc;
 pub(crate) fn land<R: Machine>(
     alloc: Global,
     scenario: &Scenario,
-    ways: &Seq<Seq<Ways>>,
+    ways: &Seq<Seq<ArcsOut>>,
     routers: &mut Vec<R>,
     outbox: &mut Outbox,
-    traffic: &mut Traffic,
-    landed: Landed,
+    traffic: &mut RadioTraffic,
+    landed: ArrivedFrame,
 ) -> Result<NetEvent, AllocError>
-    requires ways { AreWays scenario.now.arcs scenario.now.routers (length scenario.now.routers) ways.now }
-    requires routers { AreRouters scenario.now landed.moment (map R.state routers.old.items) }
+    requires ways { AreArcsOut scenario.now.arcs scenario.now.routers (length scenario.now.routers) ways.now }
+    requires routers { AreRouterStates scenario.now landed.moment (map R.state routers.old.items) }
     requires seed { traffic.old.draws.seed ≡ scenario.now.seed }
     requires early { landed.moment ≤ one_hour }
     requires arc { landed.arc < length scenario.now.arcs }
@@ -51,15 +51,15 @@ pub(crate) fn land<R: Machine>(
 pub(crate) fn tick_one<R: Machine>(
     alloc: Global,
     scenario: &Scenario,
-    ways: &Seq<Seq<Ways>>,
+    ways: &Seq<Seq<ArcsOut>>,
     routers: &mut Vec<R>,
     outbox: &mut Outbox,
-    traffic: &mut Traffic,
+    traffic: &mut RadioTraffic,
     router: usize,
     now: u64,
 ) -> Result<NetEvent, AllocError>
-    requires ways { AreWays scenario.now.arcs scenario.now.routers (length scenario.now.routers) ways.now }
-    requires routers { AreRouters scenario.now now (map R.state routers.old.items) }
+    requires ways { AreArcsOut scenario.now.arcs scenario.now.routers (length scenario.now.routers) ways.now }
+    requires routers { AreRouterStates scenario.now now (map R.state routers.old.items) }
     requires seed { traffic.old.draws.seed ≡ scenario.now.seed }
     requires early { now ≤ one_hour }
     requires router { router < length scenario.now.routers }
@@ -78,7 +78,7 @@ pub(crate) fn tick_one<R: Machine>(
 
 /// The event at which a frame is heard that comes by an arc from a sender.
 fn told(
-    landed: Landed,
+    landed: ArrivedFrame,
     arc: &RadioArc,
     sender: Addr4,
     sent: Seq<Emission>,

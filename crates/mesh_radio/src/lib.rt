@@ -14,4 +14,6 @@ pub use mesh_atoms::{Counts, Emission, NetEvent};
 pub use mesh_core::{Core, Machine, RouterView};
 pub use mesh_machine::{machines, routers_end_together};
 pub use net::Net;
-pub use traffic::{Air, Draws, Landed, Traffic, Ways, send_all, ways_of, words_of};
+pub use traffic::{
+    ArcsOut, ArrivedFrame, Draws, FramesInAir, RadioTraffic, send_all, ways_of, words_of,
+};

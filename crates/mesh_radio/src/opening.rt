@@ -6,7 +6,7 @@ ghost use Rattle.mesh_radio.specs.Scene.{IsSound, net_of};
 
 use crate::routers::{first_due, routers_of};
 use crate::scene::{Due, Scene};
-use crate::traffic::{Air, Draws, Traffic, ways_of};
+use crate::traffic::{Draws, FramesInAir, RadioTraffic, ways_of};
 use mesh_atoms::{Counts, RouterSettings, Scenario, Seq};
 use mesh_core::{Machine, Outbox};
 use std::alloc::{AllocError, Global};
@@ -50,11 +50,11 @@ fn opening_scene(alloc: Global, scenario: &Scenario, due: Due) -> Result<Scene, 
 }
 
 /// Nothing in the air, no count, and no draw yet.
-fn no_traffic(alloc: Global, seed: u64) -> Traffic
+fn no_traffic(alloc: Global, seed: u64) -> RadioTraffic
     ensures { result ≡ record { air = []; counts = record { sent = 0; delivered = 0; lost = 0 }; draws = record { seed = seed; drawn = 0 } } }
 {
-    Traffic {
-        air: Air::new(alloc),
+    RadioTraffic {
+        air: FramesInAir::new(alloc),
         counts: Counts {
             sent: 0,
             delivered: 0,

@@ -7,7 +7,7 @@ ghost use Rattle.mesh_radio.specs.Opening.{AreOpening};
 ghost use Rattle.mesh_radio.specs.Scene.{Stepped, IsFrom};
 
 use crate::scene::Due;
-use crate::traffic::Landed;
+use crate::traffic::ArrivedFrame;
 use mesh_atoms::{Addr4, RadioArc, RouterSettings, Scenario};
 use mesh_core::{Arrival, Machine, Outbox};
 use std::alloc::{AllocError, Global};
@@ -29,7 +29,7 @@ pub(crate) fn routers_of<R: Machine>(
 /// A router hears what comes by an arc. The outbox has what it then sends.
 pub(crate) fn hear<R: Machine>(
     routers: &mut Vec<R>,
-    landed: &Landed,
+    landed: &ArrivedFrame,
     arc: &RadioArc,
     sender: Addr4,
     outbox: &mut Outbox,

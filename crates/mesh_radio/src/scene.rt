@@ -1,5 +1,5 @@
 //! What an emulated network has besides its routers.
-use crate::traffic::{Traffic, Ways};
+use crate::traffic::{ArcsOut, RadioTraffic};
 use mesh_atoms::{Scenario, Seq};
 use mesh_core::Outbox;
 
@@ -23,10 +23,10 @@ pub(crate) struct Tick {
 pub(crate) struct Scene {
     pub(crate) scenario: Scenario,
     /// The arcs by the interfaces that they leave.
-    pub(crate) ways: Seq<Seq<Ways>>,
+    pub(crate) ways: Seq<Seq<ArcsOut>>,
     /// What a router sends at an event.
     pub(crate) outbox: Outbox,
-    pub(crate) traffic: Traffic,
+    pub(crate) traffic: RadioTraffic,
     pub(crate) due: Due,
     /// How many routers had their tick at the end.
     pub(crate) last_ticks: usize,

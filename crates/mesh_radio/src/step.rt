@@ -1,6 +1,6 @@
 //! The next event of a network.
 ghost use Rattle.std.specs.Prelude.{map, IfOk, MatchOption};
-ghost use Rattle.mesh_radio.specs.Scene.{Happens, HasNoTick, IsNextTick, IsQuiet, IsSound, Stays, Tells};
+ghost use Rattle.mesh_radio.specs.Scene.{Happens, HasNoTick, IsNextTick, IsAirQuiet, IsSound, AllStays, TellsEvent};
 
 use crate::events::{land, tick_one};
 use crate::routers::first_due;
@@ -16,7 +16,7 @@ pub(crate) fn next_event<R: Machine>(
     scene: &mut Scene,
 ) -> Result<Option<NetEvent>, AllocError>
     requires sound { IsSound (map R.state routers.old.items) scene.old }
-    ensures { IfOk result (Tells (map R.state routers.old.items) scene.old (map R.state routers.new.items) scene.new) }
+    ensures { IfOk result (TellsEvent (map R.state routers.old.items) scene.old (map R.state routers.new.items) scene.new) }
 {
     let heard = hear_next(alloc, routers, scene)?;
     match heard {
@@ -32,7 +32,7 @@ fn hear_next<R: Machine>(
     scene: &mut Scene,
 ) -> Result<Option<NetEvent>, AllocError>
     requires sound { IsSound (map R.state routers.old.items) scene.old }
-    ensures { IfOk result (λ e. MatchOption e (Stays (map R.state routers.old.items) scene.old (map R.state routers.new.items) scene.new)
+    ensures { IfOk result (λ e. MatchOption e (AllStays (map R.state routers.old.items) scene.old (map R.state routers.new.items) scene.new)
         (λ event. Happens (map R.state routers.old.items) scene.old event (map R.state routers.new.items) scene.new)) }
 {
     let limit = u64::min(scene.due.moment, scene.scenario.end);
@@ -60,8 +60,8 @@ fn tick_next<R: Machine>(
     scene: &mut Scene,
 ) -> Result<Option<NetEvent>, AllocError>
     requires sound { IsSound (map R.state routers.old.items) scene.old }
-    requires quiet { IsQuiet scene.old }
-    ensures { IfOk result (Tells (map R.state routers.old.items) scene.old (map R.state routers.new.items) scene.new) }
+    requires quiet { IsAirQuiet scene.old }
+    ensures { IfOk result (TellsEvent (map R.state routers.old.items) scene.old (map R.state routers.new.items) scene.new) }
 {
     let Some(tick) = next_tick(scene) else {
         return Ok(None);

@@ -5,7 +5,7 @@ mod draws;
 mod traffic;
 mod ways;
 
-pub use crate::traffic::air::{Air, Landed};
+pub use crate::traffic::air::{ArrivedFrame, FramesInAir};
 pub use crate::traffic::draws::{Draws, words_of};
-pub use crate::traffic::traffic::{Traffic, send_all};
-pub use crate::traffic::ways::{Ways, ways_of};
+pub use crate::traffic::traffic::{RadioTraffic, send_all};
+pub use crate::traffic::ways::{ArcsOut, ways_of};

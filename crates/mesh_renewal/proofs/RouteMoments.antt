@@ -8,7 +8,7 @@ use Rattle.mesh_atoms.specs.declared.tuples.NetworkKey.{NetworkKey}
 use Rattle.mesh_atoms.specs.declared.graphs.Route.{Route}
 use Rattle.mesh_atoms.specs.Routes.{AreRoutes}
 use Rattle.mesh_atoms.specs.Sound.{SoundNeighbourhood}
-use Rattle.mesh_atoms.specs.State.{State, Neighbourhood, Topology, HasAddress, IsOriginator}
+use Rattle.mesh_atoms.specs.State.{State, Neighbourhood, TopologyBase, HasAddress, IsOriginator}
 use Rattle.mesh_routes.specs.Staying.{SameOwn, SameArcs, SameWays}
 use Rattle.mesh_routes.proofs.StayingLaw.{TellsAlso, same_own, arcs_stay, routes_stay}
 use Rattle.mesh_renewal.specs.declared.basis.RouteBasis.{RouteBasis}
@@ -41,7 +41,7 @@ own_again image s t shows shows_later = same_own s t
 
 -- What others advertise
 
-tells_also : (image : TopologyImage) (old new : Topology) → ShowsTopology image old → ShowsTopology image new → TellsAlso old new
+tells_also : (image : TopologyImage) (old new : TopologyBase) → ShowsTopology image old → ShowsTopology image new → TellsAlso old new
 tells_also image old new shows shows_later = record {
   routers = λ key x (until, has).
       let (d, within, is) = carried router_reach old.routers new.routers (shows.routers ∙ sym shows_later.routers) (key, (x, until)) has in
@@ -58,7 +58,7 @@ tells_also image old new shows shows_later = record {
 }
 
 -- routes that fit one router fit each with the same bases and settings
-pub routes_fit_each : (settings : RouterSettings) (near : Neighbourhood) (topology : Topology) (basis : RouteBasis) (now : ℕ) (routes : List Route) → SoundNeighbourhood settings now near → ShowsBasis basis settings near topology →
+pub routes_fit_each : (settings : RouterSettings) (near : Neighbourhood) (topology : TopologyBase) (basis : RouteBasis) (now : ℕ) (routes : List Route) → SoundNeighbourhood settings now near → ShowsBasis basis settings near topology →
     ((s : State) (now : ℕ) → s.settings ≡ settings → s.bases.neighbourhood ≡ near → s.bases.topology ≡ topology → s.routes ≡ routes → SoundNeighbourhood settings now near → (self : Addr4) × AreRoutes s now self) → AreRoutesFor basis routes
 routes_fit_each settings near topology basis now routes sound shows made = λ t later shows_later sound_later is.
     let s : State = record t { settings = settings; bases = record t.bases { neighbourhood = near; topology = topology } } in

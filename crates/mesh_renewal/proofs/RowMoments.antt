@@ -6,29 +6,29 @@ use Rattle.mesh_atoms.specs.declared.settings.Attached4.{Attached4}
 use Rattle.mesh_atoms.specs.declared.settings.RouterSettings.{RouterSettings}
 use Rattle.mesh_atoms.specs.declared.tc.TcRow.{TcRow}
 use Rattle.mesh_atoms.specs.declared.tuples.Neighbour.{Neighbour}
-use Rattle.mesh_atoms.specs.Advertised.{Gives, AreRowsBy, AreTcRows}
+use Rattle.mesh_atoms.specs.Advertised.{GivesAsSelector, AreRowsBy, AreTcRows}
 use Rattle.mesh_atoms.specs.State.{State, Neighbourhood, HasSymmetric}
 use Rattle.mesh_topo.proofs.AdvertisedLemmas.Advertising.{same_row}
 use Rattle.mesh_renewal.specs.declared.rows.Givers.{Givers}
 use Rattle.mesh_renewal.specs.Rows.{ShowsGivers, AreRowsFor}
 use Rattle.mesh_renewal.proofs.Moments.{neighbour_again}
 
-gives_by : (s t : State) → ((o : Addr4) (n : Neighbour) → HasSymmetric s o n → HasSymmetric t o n) → (a o : Addr4) (m : Metric) → Gives s a o m → Gives t a o m
+gives_by : (s t : State) → ((o : Addr4) (n : Neighbour) → HasSymmetric s o n → HasSymmetric t o n) → (a o : Addr4) (m : Metric) → GivesAsSelector s a o m → GivesAsSelector t a o m
 gives_by s t to a o m g = record { neighbour = g.neighbour; symmetric = to o g.neighbour g.symmetric; selects = g.selects; metric = g.metric; address = g.address }
 
 -- the same symmetric neighbours and attached networks keep the rows
 pub rows_stay : (s t : State) → ((o : Addr4) (n : Neighbour) → HasSymmetric s o n ↔ HasSymmetric t o n) → t.settings.attached ≡ s.settings.attached → (rows : List TcRow) → AreTcRows s rows → AreTcRows t rows
 rows_stay s t same attached rows are =
-    let to : (a o : Addr4) (m : Metric) → Gives s a o m → Gives t a o m = gives_by s t (λ o n. (same o n).0) in
-    let back : (a o : Addr4) (m : Metric) → Gives t a o m → Gives s a o m = gives_by t s (λ o n. (same o n).1) in
-    let by : AreRowsBy (Gives t) s.settings.attached rows = record {
+    let to : (a o : Addr4) (m : Metric) → GivesAsSelector s a o m → GivesAsSelector t a o m = gives_by s t (λ o n. (same o n).0) in
+    let back : (a o : Addr4) (m : Metric) → GivesAsSelector t a o m → GivesAsSelector s a o m = gives_by t s (λ o n. (same o n).1) in
+    let by : AreRowsBy (GivesAsSelector t) s.settings.attached rows = record {
       exactly = λ row. (
-        λ has. same_row (Gives s) (Gives t) (λ a o m. (to a o m, back a o m)) s.settings.attached row ((are.exactly row).0 has),
-        λ is. (are.exactly row).1 (same_row (Gives t) (Gives s) (λ a o m. (back a o m, to a o m)) s.settings.attached row is),
+        λ has. same_row (GivesAsSelector s) (GivesAsSelector t) (λ a o m. (to a o m, back a o m)) s.settings.attached row ((are.exactly row).0 has),
+        λ is. (are.exactly row).1 (same_row (GivesAsSelector t) (GivesAsSelector s) (λ a o m. (back a o m, to a o m)) s.settings.attached row is),
       );
       ordered = are.ordered;
     } in
-    subst (λ (l : List Attached4). AreRowsBy (Gives t) l rows) (sym attached) by
+    subst (λ (l : List Attached4). AreRowsBy (GivesAsSelector t) l rows) (sym attached) by
 
 -- rows that one router advertises each does with the same neighbours and networks
 pub rows_fit_each : (settings : RouterSettings) (near : Neighbourhood) (givers : Givers) (rows : List TcRow) → ShowsGivers givers settings near →

@@ -8,7 +8,7 @@ use Rattle.mesh_atoms.specs.Base.{Base}
 use Rattle.mesh_atoms.specs.State.{State}
 use Rattle.mesh_topo.specs.declared.advertised.rows.Selector.{Selector}
 use Rattle.mesh_topo.specs.Advertised.Selectors.{HasSelector, IsSelectorOf, AreSelectors}
-use Rattle.mesh_routes.specs.Passes.{Adds, GivenBy}
+use Rattle.mesh_routes.specs.Passes.{Adds, GivenByElement}
 use Rattle.mesh_routes.proofs.Choosing.{adds_same}
 use Rattle.mesh_routes.proofs.Passes.{adds_start, adds_all}
 use Rattle.mesh_renewal.specs.Selecting.{selector_metric, IsSelectorBy}
@@ -34,7 +34,7 @@ pub no_selector : (o : Addr4) (n : Neighbour) (x : Selector) → None ≡ select
 no_selector o n x none (m, known, is) = let both : None ≡ Some m = none ∙ known in absurd cc
 
 -- all of them
-are : (s : State) (selectors : List Selector) → Adds (GivenBy (λ (e : Addr4 × (Neighbour × ℕ)). IsSelectorBy e.0 e.1.0) s.bases.neighbourhood.neighbours) [] selectors → AreSelectors s selectors
+are : (s : State) (selectors : List Selector) → Adds (GivenByElement (λ (e : Addr4 × (Neighbour × ℕ)). IsSelectorBy e.0 e.1.0) s.bases.neighbourhood.neighbours) [] selectors → AreSelectors s selectors
 are s selectors adds = record {
   each = λ x has. elim (adds.cases x has) [
     | inl none ↦ let l : none.0 < 0 = none.1 in absurd (omega arith)
@@ -49,9 +49,9 @@ are s selectors adds = record {
 }
 
 pub selectors_are : (s : State) (neighbours : Base Addr4 Neighbour) (selectors : List Selector) → s.bases.neighbourhood.neighbours ≡ neighbours →
-    Adds (GivenBy (λ (e : Addr4 × (Neighbour × ℕ)). IsSelectorBy e.0 e.1.0) neighbours) [] selectors → AreSelectors s selectors
+    Adds (GivenByElement (λ (e : Addr4 × (Neighbour × ℕ)). IsSelectorBy e.0 e.1.0) neighbours) [] selectors → AreSelectors s selectors
 selectors_are s neighbours selectors same adds =
-    are s selectors (subst (λ (ns : Base Addr4 Neighbour). Adds (GivenBy (λ (e : Addr4 × (Neighbour × ℕ)). IsSelectorBy e.0 e.1.0) ns) [] selectors) (sym same) adds)
+    are s selectors (subst (λ (ns : Base Addr4 Neighbour). Adds (GivenByElement (λ (e : Addr4 × (Neighbour × ℕ)). IsSelectorBy e.0 e.1.0) ns) [] selectors) (sym same) adds)
 
 -- without neighbours there is none
 pub no_selectors : (s : State) → s.bases.neighbourhood.neighbours ≡ [] → AreSelectors s []

@@ -5,14 +5,14 @@ use Rattle.mesh_atoms.specs.declared.graphs.Route.{Route}
 use Rattle.mesh_atoms.specs.declared.settings.RouterSettings.{RouterSettings}
 use Rattle.mesh_atoms.specs.Routes.{AreRoutes}
 use Rattle.mesh_atoms.specs.Sound.{SoundNeighbourhood}
-use Rattle.mesh_atoms.specs.State.{State, Neighbourhood, Topology}
+use Rattle.mesh_atoms.specs.State.{State, Neighbourhood, TopologyBase}
 use Rattle.mesh_renewal.specs.declared.basis.RouteBasis.{RouteBasis}
 use Rattle.mesh_renewal.specs.Images.{ShowsNear}
 use Rattle.mesh_renewal.specs.Settings.{ShowsOwn}
 use Rattle.mesh_renewal.specs.Topologies.{ShowsTopology}
 
 -- the bases and settings of a router are those that are kept
-pub record ShowsBasis (basis : RouteBasis) (settings : RouterSettings) (near : Neighbourhood) (topology : Topology) : Type 0 where
+pub record ShowsBasis (basis : RouteBasis) (settings : RouterSettings) (near : Neighbourhood) (topology : TopologyBase) : Type 0 where
   pub own : ShowsOwn basis.own settings
   pub near_is : ShowsNear basis.near settings near
   pub topology_is : ShowsTopology basis.topology topology

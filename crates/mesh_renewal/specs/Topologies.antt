@@ -10,7 +10,7 @@ use Rattle.mesh_atoms.specs.declared.tuples.AddressTuple.{AddressTuple}
 use Rattle.mesh_atoms.specs.declared.tuples.NetworkKey.{NetworkKey}
 use Rattle.mesh_atoms.specs.declared.tuples.NetworkTuple.{NetworkTuple}
 use Rattle.mesh_atoms.specs.Base.{Base, host}
-use Rattle.mesh_atoms.specs.State.{Topology}
+use Rattle.mesh_atoms.specs.State.{TopologyBase}
 use Rattle.mesh_renewal.specs.declared.reach.Reach.{Reach}
 use Rattle.mesh_renewal.specs.declared.topology.TopologyImage.{TopologyImage}
 
@@ -37,7 +37,7 @@ pub record ShowsTables (image : TopologyImage) (routers : Base RouterKey RouterT
   pub networks_are : map network_reach networks ≡ image.networks
 
 -- the topology is that of the image
-pub record ShowsTopology (image : TopologyImage) (topology : Topology) : Type 0 where
+pub record ShowsTopology (image : TopologyImage) (topology : TopologyBase) : Type 0 where
   pub routers : map router_reach topology.routers ≡ image.routers
   pub addresses : map address_reach topology.addresses ≡ image.addresses
   pub networks : map network_reach topology.networks ≡ image.networks

@@ -3,7 +3,7 @@ ghost use Rattle.std.specs.Prelude.{◌≡◌, [], OnOk, IfOk};
 ghost use Rattle.mesh_atoms.specs.Advertised.{AreTcRows};
 ghost use Rattle.mesh_atoms.specs.State.{State};
 ghost use Rattle.mesh_renewal.specs.Selecting.{selector_metric, IsSelectorBy};
-ghost use Rattle.mesh_routes.specs.Passes.{Adds, GivenBy};
+ghost use Rattle.mesh_routes.specs.Passes.{Adds, GivenByElement};
 
 use mesh_atoms::{Addr4, Metric, Neighbour, RouterSettings, Seq, TcRow};
 use mesh_nbrs::Near4;
@@ -42,7 +42,7 @@ fn put_selector(
 
 /// The symmetric neighbours that have chosen the router as a routing relay, and to which the metric is known.
 fn selectors_of<N: Near4>(alloc: Global, near: &N) -> Result<Vec<Selector>, AllocError>
-    ensures { IfOk result (λ selectors. Adds (GivenBy (λ e. IsSelectorBy e.0 e.1.0) (N.near near.now).neighbours) [] selectors.items) }
+    ensures { IfOk result (λ selectors. Adds (GivenByElement (λ e. IsSelectorBy e.0 e.1.0) (N.near near.now).neighbours) [] selectors.items) }
 {
     let mut selectors = Vec::new(alloc);
     for place in 0..near.neighbours() {

@@ -7,7 +7,7 @@ use std::alloc::{AllocError, Global};
 
 /// A kind of tuples, which stand at places from 0 up, by what is kept of each. Tuples that belong to no interface are the same
 /// for each.
-pub(crate) trait Kind<S, I>: Sized {
+pub(crate) trait TupleKind<S, I>: Sized {
     ghost items: { S → ℕ → List I };
 
     /// How many there are.
@@ -24,7 +24,7 @@ pub(crate) trait Kind<S, I>: Sized {
 }
 
 // Whether the item at that place of the list is kept of the tuple there.
-fn is_same_at<S, I: Drop, K: Kind<S, I>>(
+fn is_same_at<S, I: Drop, K: TupleKind<S, I>>(
     source: &S,
     iface: usize,
     place: usize,
@@ -40,7 +40,7 @@ fn is_same_at<S, I: Drop, K: Kind<S, I>>(
 }
 
 /// Whether these items are still kept of the tuples of an interface. Takes no memory.
-pub(crate) fn are_same<S, I: Drop, K: Kind<S, I>>(
+pub(crate) fn are_same<S, I: Drop, K: TupleKind<S, I>>(
     source: &S,
     iface: usize,
     items: &Seq<I>,
@@ -70,7 +70,7 @@ fn put_item<I: Drop>(items: &mut Seq<I>, item: Option<I>) -> Result<(), AllocErr
 }
 
 /// What is kept of the tuples of an interface.
-pub(crate) fn items_of<S, I: Drop, K: Kind<S, I>>(
+pub(crate) fn items_of<S, I: Drop, K: TupleKind<S, I>>(
     alloc: Global,
     source: &S,
     iface: usize,

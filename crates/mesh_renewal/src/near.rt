@@ -3,7 +3,7 @@ ghost use Rattle.std.specs.Prelude.{◌≡◌, ◌↔◌, [], length, slice_get,
 ghost use Rattle.mesh_renewal.specs.declared.near.IfaceImage.{IfaceImage as IfaceImageValue};
 ghost use Rattle.mesh_renewal.specs.Images.{link_image, two_hop_image, neighbour_image, IsIface, AreIfaces, ShowsNear};
 
-use crate::kind::{Kind, are_same, items_of};
+use crate::kind::{TupleKind, are_same, items_of};
 use crate::same::{same_addrs, same_metric, same_willing};
 use mesh_atoms::{Addr4, Link, LinkKey, Metric, Neighbour, RouterSettings, Seq, TwoHop, TwoHopKey};
 use mesh_nbrs::Near4;
@@ -64,7 +64,7 @@ fn is_link(key: &LinkKey, link: &Link, image: &LinkImage) -> bool
     same_metric(link.link_out, image.out) && *key == image.key
 }
 
-impl<N: Near4> Kind<N, LinkImage> for Links {
+impl<N: Near4> TupleKind<N, LinkImage> for Links {
     ghost use Rattle.std.specs.Prelude.{map};
     ghost use Rattle.mesh_atoms.specs.Base.{base_of};
     ghost use Rattle.mesh_renewal.specs.Images.{link_image};
@@ -117,7 +117,7 @@ fn is_two_hop(key: &TwoHopKey, tuple: &TwoHop, image: &TwoHopImage) -> bool
     is_same_two_hop(tuple, &image.tuple) && *key == image.key
 }
 
-impl<N: Near4> Kind<N, TwoHopImage> for TwoHops {
+impl<N: Near4> TupleKind<N, TwoHopImage> for TwoHops {
     ghost use Rattle.std.specs.Prelude.{map};
     ghost use Rattle.mesh_atoms.specs.Base.{base_of};
     ghost use Rattle.mesh_renewal.specs.Images.{two_hop_image};
@@ -197,7 +197,7 @@ fn is_neighbour(originator: Addr4, neighbour: &Neighbour, image: &NeighbourImage
     originator == image.originator && is_same_neighbour(neighbour, &image.neighbour)
 }
 
-impl<N: Near4> Kind<N, NeighbourImage> for Neighbours {
+impl<N: Near4> TupleKind<N, NeighbourImage> for Neighbours {
     ghost use Rattle.std.specs.Prelude.{map};
     ghost use Rattle.mesh_renewal.specs.Images.{neighbour_image};
 

@@ -2,7 +2,7 @@
 ghost use Rattle.std.specs.Prelude.{◌≡◌, ◌↔◌, IsTrue, IfOk};
 ghost use Rattle.mesh_renewal.specs.Settings.{ShowsOwn};
 
-use crate::kind::{Kind, are_same, items_of};
+use crate::kind::{TupleKind, are_same, items_of};
 use crate::same::{same_addrs, same_cost, same_net};
 use mesh_atoms::{Addr4, Attached4, RouterSettings, Seq};
 use std::alloc::{AllocError, Global};
@@ -17,7 +17,7 @@ pub(crate) struct OwnImage {
 // The interfaces.
 struct Interfaces {}
 
-impl Kind<RouterSettings, Seq<Addr4>> for Interfaces {
+impl TupleKind<RouterSettings, Seq<Addr4>> for Interfaces {
     ghost use Rattle.std.specs.Prelude.{map};
     ghost use Rattle.mesh_renewal.specs.Settings.{addrs_of};
 
@@ -58,7 +58,7 @@ fn is_network(attached: &Attached4, other: &Attached4) -> bool
 // The attached networks.
 pub(crate) struct Networks {}
 
-impl Kind<Seq<Attached4>, Attached4> for Networks {
+impl TupleKind<Seq<Attached4>, Attached4> for Networks {
     ghost items = { λ attached _. attached };
 
     fn count(attached: &Seq<Attached4>, _iface: usize) -> usize {

@@ -3,7 +3,7 @@ ghost use Rattle.std.specs.Prelude.{◌≡◌, ◌↔◌, IsTrue, IfOk};
 ghost use Rattle.mesh_renewal.specs.declared.reach.Reach.{Reach};
 ghost use Rattle.mesh_renewal.specs.Topologies.{ShowsTables, ShowsTopology};
 
-use crate::kind::{Kind, are_same, items_of};
+use crate::kind::{TupleKind, are_same, items_of};
 use crate::reach::Reach;
 use crate::same::{same_cost, same_net};
 use mesh_atoms::{
@@ -23,7 +23,7 @@ pub(crate) struct TopologyImage {
 }
 
 /// A topology tuple, by what it tells.
-pub(crate) trait Tells<K>: Sized {
+pub(crate) trait TopologyTuple<K>: Sized {
     ghost reach: { K → Self → Reach };
 
     /// What the tuple with that key tells.
@@ -31,7 +31,7 @@ pub(crate) trait Tells<K>: Sized {
         ensures { result ≡ reach key.now self.now };
 }
 
-impl Tells<RouterKey> for RouterTuple {
+impl TopologyTuple<RouterKey> for RouterTuple {
     ghost use Rattle.mesh_renewal.specs.Topologies.{reach_at};
     ghost use Rattle.mesh_atoms.specs.Base.{host};
 
@@ -46,7 +46,7 @@ impl Tells<RouterKey> for RouterTuple {
     }
 }
 
-impl Tells<AddressKey> for AddressTuple {
+impl TopologyTuple<AddressKey> for AddressTuple {
     ghost use Rattle.mesh_renewal.specs.Topologies.{reach_at};
     ghost use Rattle.mesh_atoms.specs.Base.{host};
 
@@ -61,7 +61,7 @@ impl Tells<AddressKey> for AddressTuple {
     }
 }
 
-impl Tells<NetworkKey> for NetworkTuple {
+impl TopologyTuple<NetworkKey> for NetworkTuple {
     ghost use Rattle.mesh_renewal.specs.Topologies.{reach_at};
 
     ghost reach = { λ key tuple. reach_at key.from key.net tuple.metric };
@@ -91,7 +91,7 @@ fn is_same_reach(reach: Reach, other: Reach) -> bool
         && reach.from == other.from
 }
 
-impl<K: Key, V: Tells<K>, T: Table<K, V>> Kind<T, Reach> for Tuples<K, V> {
+impl<K: Key, V: TopologyTuple<K>, T: Table<K, V>> TupleKind<T, Reach> for Tuples<K, V> {
     ghost use Rattle.std.specs.Prelude.{map};
 
     ghost items = { λ table _. map (λ e. V.reach e.0 e.1.0) (T.content table) };
@@ -116,7 +116,7 @@ impl<K: Key, V: Tells<K>, T: Table<K, V>> Kind<T, Reach> for Tuples<K, V> {
 }
 
 // The tuples of a set whose keys and records are of these types.
-fn tuples_of<K: Key, V: Tells<K>>() -> Tuples<K, V> {
+fn tuples_of<K: Key, V: TopologyTuple<K>>() -> Tuples<K, V> {
     Tuples {
         keys: PhantomData,
         values: PhantomData,

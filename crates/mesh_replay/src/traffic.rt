@@ -7,5 +7,5 @@ mod traffic;
 mod ways;
 
 pub(crate) use crate::traffic::air::Delivered;
-pub(crate) use crate::traffic::traffic::Traffic;
+pub(crate) use crate::traffic::traffic::TraceTraffic;
 pub(crate) use crate::traffic::ways::{LeavingArcs, ways_of};

@@ -13,8 +13,8 @@ use Rattle.mesh_wire.proofs.OneHello.{one_hello}
 use Rattle.mesh_wire.proofs.OneTc.{one_tc}
 use Rattle.mesh_wire.proofs.Single.{one_broken}
 use Rattle.mesh_packet.proofs.OneForm.{form_once}
-use Rattle.mesh_report.specs.Packets.{message_text, IsMessagesText, IsListed, recode_line, IsRecodeLine, IsRecode, IsLineText}
-use Rattle.mesh_report.specs.Readings.{hello_line, tc_line, broken_line, Reads, IsReading}
+use Rattle.mesh_report.specs.Packets.{message_text, IsMessagesText, IsPacketListed, recode_line, IsRecodeLine, IsRecode, IsLineText}
+use Rattle.mesh_report.specs.Readings.{hello_line, tc_line, broken_line, ReadsMessage, IsReading}
 
 -- two texts that are each of two parts, and the parts are the same
 pub same_both : {a b x x' y y' : List ℕ} → a ≡ x ++ y → b ≡ x' ++ y' → x ≡ x' → y ≡ y' → a ≡ b
@@ -22,7 +22,7 @@ same_both {a} {b} {x} {x'} {y} {y'} e e' p q = e ∙ ap (λ (l : List ℕ). l ++
 
 -- one typed value at most, and one first rule, have one line
 one_line : {X : Type 0} (Breaks : ℕ → Option NetAddr → Type 0) (Is : X → Type 0) (line_of : X → List ℕ) → (Keeps Breaks → (x y : X) → Is x → Is y → x ≡ y)
-    → (a b : List ℕ) → Reads Breaks Is line_of a → Reads Breaks Is line_of b → a ≡ b
+    → (a b : List ℕ) → ReadsMessage Breaks Is line_of a → ReadsMessage Breaks Is line_of b → a ≡ b
 one_line Breaks Is line_of only a b (inl (x, keeps, is, e)) (inl (y, keeps', is', e')) = e ∙ ap line_of (only keeps x y is is') ∙ sym e'
 one_line Breaks Is line_of only a b (inl (x, keeps, is, e)) (inr (n, at, first, e')) = absurd (keeps n at first.broken)
 one_line Breaks Is line_of only a b (inr (n, at, first, e)) (inl (x, keeps, is, e')) = absurd (keeps n at first.broken)
@@ -42,7 +42,7 @@ one_messages (m ∷ messages) [] a b e e' = absurd e
 one_messages (m ∷ messages) (s ∷ spans) a b (x, y, (r, reads, is), more, e) (x', y', (r', reads', is'), more', e') =
     same_both e e' (is ∙ ap (λ (l : List ℕ). message_text s.len m ++ l) (one_way m r r' reads reads') ∙ sym is') (one_messages messages spans y y' more more')
 
-one_packet : (number : ℕ) (packet : PacketFields) (spans : List Span) (a b : List ℕ) → IsListed number packet spans a → IsListed number packet spans b → a ≡ b
+one_packet : (number : ℕ) (packet : PacketFields) (spans : List Span) (a b : List ℕ) → IsPacketListed number packet spans a → IsPacketListed number packet spans b → a ≡ b
 one_packet number packet spans a b (x, is, e) (x', is', e') = same_both e e' refl (one_messages packet.messages spans x x' is is')
 
 -- a packet has one least form, which is too long or isn't

@@ -32,8 +32,8 @@ IsMessagesText [] (span ∷ spans) text = ⊥
 IsMessagesText (message ∷ messages) [] text = ⊥
 
 -- a packet with its TLVs and its messages
-abbrev pub IsListed : ℕ → PacketFields → List Span → List ℕ → Type 0
-IsListed number packet spans text =
+abbrev pub IsPacketListed : ℕ → PacketFields → List Span → List ℕ → Type 0
+IsPacketListed number packet spans text =
     (messages : List ℕ) × IsMessagesText packet.messages spans messages
     × (text ≡ packet_line number packet ++ flat_map tlv_line packet.tlvs ++ messages)
 
@@ -67,5 +67,5 @@ IsRecode true packet text = IsRecodeLine packet text
 -- what is listed of the line of this number, with the packet written again or without
 abbrev pub IsLineText : Bool → ℕ → Result (PacketFields × List Span) Refusal → List ℕ → Type 0
 IsLineText recode number (Ok read) text =
-    (listing : List ℕ) × (last : List ℕ) × IsListed number read.0 read.1 listing × IsRecode recode read.0 last × (text ≡ listing ++ last)
+    (listing : List ℕ) × (last : List ℕ) × IsPacketListed number read.0 read.1 listing × IsRecode recode read.0 last × (text ≡ listing ++ last)
 IsLineText recode number (Err refusal) text = text ≡ refused_line number refusal

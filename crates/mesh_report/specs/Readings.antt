@@ -43,19 +43,19 @@ unfoldable pub broken_line : ℕ → List ℕ
 broken_line number = numbered (codes " reading broken ") number ++ named (codes " ") number ++ codes "\n"
 
 -- the line of the typed value where no rule is broken, else of the first rule that is
-abbrev pub Reads : {X : Type 0} → (ℕ → Option NetAddr → Type 0) → (X → Type 0) → (X → List ℕ) → List ℕ → Type 0
-Reads {X} Breaks Is line_of text =
+abbrev pub ReadsMessage : {X : Type 0} → (ℕ → Option NetAddr → Type 0) → (X → Type 0) → (X → List ℕ) → List ℕ → Type 0
+ReadsMessage {X} Breaks Is line_of text =
     ((value : X) × Keeps Breaks × Is value × (text ≡ line_of value))
     ⊎ ((number : ℕ) × (addr : Option NetAddr) × FirstBroken Breaks number addr × (text ≡ broken_line number))
 
 -- the line of what was read, or of the rule that is broken
-abbrev pub Tells : {X : Type 0} → (X → List ℕ) → Result X WireFault → List ℕ → Type 0
-Tells line_of (Ok value) text = text ≡ line_of value
-Tells line_of (Err (Broken number addr)) text = text ≡ broken_line number
-Tells line_of (Err (Memory e)) text = ⊥
+abbrev pub TellsRead : {X : Type 0} → (X → List ℕ) → Result X WireFault → List ℕ → Type 0
+TellsRead line_of (Ok value) text = text ≡ line_of value
+TellsRead line_of (Err (Broken number addr)) text = text ≡ broken_line number
+TellsRead line_of (Err (Memory e)) text = ⊥
 
 -- how a message reads, by its type; messages of other types than HELLO and TC have no reading
 pub record IsReading (message : MessageFields) (text : List ℕ) : Type 0 where
-  pub hello : message.kind ≡ 0 → Reads (BreaksHello message) (HelloIs message) hello_line text
-  pub tc : message.kind ≡ 1 → Reads (BreaksTc message) (TcIs message) tc_line text
+  pub hello : message.kind ≡ 0 → ReadsMessage (BreaksHello message) (HelloIs message) hello_line text
+  pub tc : message.kind ≡ 1 → ReadsMessage (BreaksTc message) (TcIs message) tc_line text
   pub other : message.kind ≢ 0 → message.kind ≢ 1 → text ≡ []

@@ -6,7 +6,7 @@ ghost use Rattle.mesh_packet.specs.Fields.{fields_of_packet, fields_of_message, 
 ghost use Rattle.mesh_report.specs.Pieces.{numbered, numbered_or_none, addressed, addressed_or_none, chosen, named};
 ghost use Rattle.mesh_report.specs.Lines.{packet_line, message_line, block_line, address_line, refused_line};
 
-use crate::piece::Piece;
+use crate::piece::TextBuffer;
 use crate::pieces::{
     make_room, put_address, put_address_or_none, put_choice, put_name, put_number_or_none,
     put_numbered, put_value, wide_octet, wide_short,
@@ -26,7 +26,7 @@ pub(crate) trait Listed {
     ghost text: { Self → List ℕ };
 
     /// Puts the lines.
-    fn put_lines(&self, out: &mut Bytes, line: &mut Piece) -> Result<(), AllocError>
+    fn put_lines(&self, out: &mut Bytes, line: &mut TextBuffer) -> Result<(), AllocError>
         ensures ok { OnOk result (out.new ++ line.new ≡ (out.old ++ line.old) ++ text self.now) }
         ensures kept { Grows out.old out.new };
 }
@@ -34,7 +34,7 @@ pub(crate) trait Listed {
 /// Puts the lines of each value, in order.
 pub(crate) fn put_each<T: Listed>(
     out: &mut Bytes,
-    line: &mut Piece,
+    line: &mut TextBuffer,
     items: &[T],
 ) -> Result<(), AllocError>
     ensures ok { OnOk result (out.new ++ line.new ≡ (out.old ++ line.old) ++ flat_map T.text items.now) }
@@ -49,7 +49,7 @@ pub(crate) fn put_each<T: Listed>(
 // Puts two counts, and ends the line.
 #[inline(always)]
 fn put_counts<const N: usize, const M: usize>(
-    line: &mut Piece,
+    line: &mut TextBuffer,
     label: [u8; N],
     first: usize,
     other: [u8; M],
@@ -65,7 +65,7 @@ fn put_counts<const N: usize, const M: usize>(
 }
 
 #[tactic(auto, unfolding(crate::specs::Lines::packet_line))]
-fn put_packet_end(line: &mut Piece, number: u64, packet: &Packet)
+fn put_packet_end(line: &mut TextBuffer, number: u64, packet: &Packet)
     requires { length line.old ≤ 3776 }
     ensures { line.new ≡ line.old ++ packet_line number (fields_of_packet packet.now) }
 {
@@ -83,7 +83,7 @@ fn put_packet_end(line: &mut Piece, number: u64, packet: &Packet)
 /// Puts the line of a packet, the line of this number.
 pub fn put_packet_line(
     out: &mut Bytes,
-    line: &mut Piece,
+    line: &mut TextBuffer,
     number: u64,
     packet: &Packet,
 ) -> Result<(), AllocError>
@@ -97,7 +97,7 @@ pub fn put_packet_line(
 
 // Puts the type and the extension of a TLV.
 #[inline(always)]
-fn put_kind<const N: usize>(line: &mut Piece, label: [u8; N], kind: u8, ext: u8)
+fn put_kind<const N: usize>(line: &mut TextBuffer, label: [u8; N], kind: u8, ext: u8)
     requires { length line.old + (N + 51) ≤ 4096 }
     ensures text { line.new ≡ line.old ++ (numbered label.entry kind ++ numbered (codes " extension ") ext) }
     ensures len { length line.new ≤ length line.old + (N + 51) }
@@ -113,7 +113,7 @@ impl Listed for Tlv<'_> {
     ghost text = { λ tlv. tlv_line (fields tlv) };
 
     #[tactic(auto, unfolding(crate::specs::Lines::tlv_line))]
-    fn put_lines(&self, out: &mut Bytes, line: &mut Piece) -> Result<(), AllocError> {
+    fn put_lines(&self, out: &mut Bytes, line: &mut TextBuffer) -> Result<(), AllocError> {
         make_room(out, line)?;
         put_kind(line, *b"  tlv ", self.kind, self.ext);
         put_value(out, line, self.value)?;
@@ -123,7 +123,7 @@ impl Listed for Tlv<'_> {
 }
 
 // Puts what a message's line says up to its originator.
-fn put_opening(line: &mut Piece, size: usize, message: &Message)
+fn put_opening(line: &mut TextBuffer, size: usize, message: &Message)
     requires { length line.old ≤ 3776 }
     ensures text { line.new ≡ line.old ++ (numbered (codes " message type ") message.now.kind ++ numbered (codes " width ") message.now.width
         ++ numbered (codes " size ") size ++ addressed_or_none (codes " originator ") message.now.width message.now.originator) }
@@ -136,7 +136,7 @@ fn put_opening(line: &mut Piece, size: usize, message: &Message)
 }
 
 // Puts the numbers of a message that may be absent.
-fn put_numbers(line: &mut Piece, message: &Message)
+fn put_numbers(line: &mut TextBuffer, message: &Message)
     requires { length line.old ≤ 3907 }
     ensures text { line.new ≡ line.old ++ (numbered_or_none (codes " limit ") message.now.limit
         ++ numbered_or_none (codes " count ") message.now.count ++ numbered_or_none (codes " sequence ") message.now.sequence) }
@@ -148,7 +148,7 @@ fn put_numbers(line: &mut Piece, message: &Message)
 }
 
 #[tactic(auto, unfolding(crate::specs::Lines::message_line))]
-fn put_message_end(line: &mut Piece, size: usize, message: &Message)
+fn put_message_end(line: &mut TextBuffer, size: usize, message: &Message)
     requires { length line.old ≤ 3776 }
     ensures { line.new ≡ line.old ++ message_line size (fields_of_message message.now) }
 {
@@ -166,7 +166,7 @@ fn put_message_end(line: &mut Piece, size: usize, message: &Message)
 /// Puts the line of a message that takes so many octets of its frame.
 pub fn put_message_line(
     out: &mut Bytes,
-    line: &mut Piece,
+    line: &mut TextBuffer,
     size: usize,
     message: &Message,
 ) -> Result<(), AllocError>
@@ -180,7 +180,11 @@ pub fn put_message_line(
 
 /// Puts the line of an address block.
 #[tactic(auto, unfolding(crate::specs::Lines::block_line))]
-pub fn put_block_line(out: &mut Bytes, line: &mut Piece, block: &Block) -> Result<(), AllocError>
+pub fn put_block_line(
+    out: &mut Bytes,
+    line: &mut TextBuffer,
+    block: &Block,
+) -> Result<(), AllocError>
     ensures ok { OnOk result (out.new ++ line.new ≡ (out.old ++ line.old) ++ block_line (fields_of_block block.now)) }
     ensures kept { Grows out.old out.new }
 {
@@ -197,7 +201,7 @@ pub fn put_block_line(out: &mut Bytes, line: &mut Piece, block: &Block) -> Resul
 
 // Puts the prefix of an address, and ends the line.
 #[inline(always)]
-fn put_prefix_end(line: &mut Piece, prefix: u8)
+fn put_prefix_end(line: &mut TextBuffer, prefix: u8)
     requires { length line.old ≤ 4072 }
     ensures { line.new ≡ line.old ++ (numbered (codes "/") prefix ++ codes "\n") }
 {
@@ -213,7 +217,7 @@ fn put_prefix_end(line: &mut Piece, prefix: u8)
 // Puts the line of an address of that width.
 #[tactic(auto, unfolding(crate::specs::Lines::address_line))]
 #[inline(always)]
-fn put_address_end(line: &mut Piece, width: u8, addr: &RawAddr)
+fn put_address_end(line: &mut TextBuffer, width: u8, addr: &RawAddr)
     requires { length line.old ≤ 3776 }
     ensures { line.new ≡ line.old ++ address_line width addr.now }
 {
@@ -225,7 +229,7 @@ fn put_address_end(line: &mut Piece, width: u8, addr: &RawAddr)
 #[inline(always)]
 pub fn put_address_line(
     out: &mut Bytes,
-    line: &mut Piece,
+    line: &mut TextBuffer,
     width: u8,
     addr: &RawAddr,
 ) -> Result<(), AllocError>
@@ -238,7 +242,7 @@ pub fn put_address_line(
 }
 
 // Puts the addresses that a TLV covers, and whether its value is in parts.
-fn put_cover(line: &mut Piece, first: u8, last: u8, multi: bool)
+fn put_cover(line: &mut TextBuffer, first: u8, last: u8, multi: bool)
     requires { length line.old ≤ 3842 }
     ensures text { line.new ≡ line.old ++ (numbered (codes " first ") first ++ numbered (codes " last ") last ++ chosen (codes " multi ") multi) }
     ensures len { length line.new ≤ 3912 }
@@ -255,7 +259,7 @@ impl Listed for AddrTlv<'_> {
     ghost text = { λ tlv. addr_tlv_line (addr_fields tlv) };
 
     #[tactic(auto, unfolding(crate::specs::Lines::addr_tlv_line))]
-    fn put_lines(&self, out: &mut Bytes, line: &mut Piece) -> Result<(), AllocError> {
+    fn put_lines(&self, out: &mut Bytes, line: &mut TextBuffer) -> Result<(), AllocError> {
         make_room(out, line)?;
         put_kind(line, *b"   tlv ", self.kind, self.ext);
         put_cover(line, self.first, self.last, self.multi);
@@ -266,7 +270,7 @@ impl Listed for AddrTlv<'_> {
 }
 
 /// Puts a label, the number of the rule that is broken, and its name, and ends the line.
-pub fn put_rule<const N: usize>(line: &mut Piece, label: [u8; N], reason: u8)
+pub fn put_rule<const N: usize>(line: &mut TextBuffer, label: [u8; N], reason: u8)
     requires { length line.old + (N + 42) ≤ 4096 }
     ensures text { line.new ≡ line.old ++ (numbered label.entry reason ++ named (codes " ") reason ++ codes "\n") }
     ensures len { length line.new ≤ length line.old + (N + 42) }
@@ -278,7 +282,7 @@ pub fn put_rule<const N: usize>(line: &mut Piece, label: [u8; N], reason: u8)
 
 /// Puts the line of a refusal, the line of this number.
 #[tactic(auto, unfolding(crate::specs::Lines::refused_line))]
-pub fn put_refused_line(line: &mut Piece, number: u64, refusal: Refusal)
+pub fn put_refused_line(line: &mut TextBuffer, number: u64, refusal: Refusal)
     requires { length line.old ≤ 3776 }
     ensures { line.new ≡ line.old ++ refused_line number refusal }
 {

@@ -7,12 +7,12 @@ use std::marker::Model;
 
 /// A text of at most 4,096 octets. Contracts see it as the list.
 #[derive(Drop)]
-pub(crate) struct Piece {
+pub(crate) struct TextBuffer {
     octets: [u8; 4096],
     len: usize,
 }
 
-impl Model for Piece {
+impl Model for TextBuffer {
     ghost use Rattle.std.specs.Prelude.{List, ℕ, ◌≤◌, take};
 
     ghost Value = { List ℕ };
@@ -22,12 +22,12 @@ impl Model for Piece {
     ghost invariant = { λ p. p.len ≤ 4096 };
 }
 
-impl Piece {
+impl TextBuffer {
     /// No octets.
-    pub(crate) fn new() -> Piece
+    pub(crate) fn new() -> TextBuffer
         ensures { result ≡ [] }
     {
-        Piece {
+        TextBuffer {
             octets: [0; 4096],
             len: 0,
         }

@@ -5,14 +5,14 @@ ghost use Rattle.hex.specs.Hex.{encode_lower};
 ghost use Rattle.mesh_tlv.specs.Least.{Grows};
 ghost use Rattle.mesh_report.specs.Pieces.{numbered, numbered_or_none, addressed, addressed_or_none, addressed_by_number, valued, chosen, named, reason_name};
 
-use crate::piece::Piece;
+use crate::piece::TextBuffer;
 use mesh_addr::RawAddr;
 use mesh_atoms::{Addr4, Bytes};
 use std::alloc::AllocError;
 
 /// Puts what `line` holds behind others.
 #[inline(never)]
-pub fn put_held(out: &mut Bytes, line: &mut Piece) -> Result<(), AllocError>
+pub fn put_held(out: &mut Bytes, line: &mut TextBuffer) -> Result<(), AllocError>
     ensures ok { OnOk result (out.new ≡ out.old ++ line.old) }
     ensures none { OnOk result (line.new ≡ []) }
     ensures kept { Grows out.old out.new }
@@ -24,7 +24,7 @@ pub fn put_held(out: &mut Bytes, line: &mut Piece) -> Result<(), AllocError>
 
 /// Puts what `line` holds behind others, where it has no room for 320 octets more.
 #[inline(always)]
-pub fn make_room(out: &mut Bytes, line: &mut Piece) -> Result<(), AllocError>
+pub fn make_room(out: &mut Bytes, line: &mut TextBuffer) -> Result<(), AllocError>
     ensures room { OnOk result (length line.new ≤ 3776) }
     ensures ok { OnOk result (out.new ++ line.new ≡ out.old ++ line.old) }
     ensures kept { Grows out.old out.new }
@@ -38,7 +38,7 @@ pub fn make_room(out: &mut Bytes, line: &mut Piece) -> Result<(), AllocError>
 /// Puts a label, and a number in decimal digits.
 #[tactic(auto, unfolding(crate::specs::Pieces::numbered))]
 #[inline(always)]
-pub fn put_numbered<const N: usize>(line: &mut Piece, label: [u8; N], number: u64)
+pub fn put_numbered<const N: usize>(line: &mut TextBuffer, label: [u8; N], number: u64)
     requires { length line.old + (N + 20) ≤ 4096 }
     ensures text { line.new ≡ line.old ++ numbered label.entry number }
     ensures len { length line.new ≤ length line.old + (N + 20) }
@@ -50,7 +50,11 @@ pub fn put_numbered<const N: usize>(line: &mut Piece, label: [u8; N], number: u6
 /// Puts a label, and a number that may be absent.
 #[tactic(auto, unfolding(crate::specs::Pieces::numbered_or_none))]
 #[inline(always)]
-pub fn put_number_or_none<const N: usize>(line: &mut Piece, label: [u8; N], number: Option<u64>)
+pub fn put_number_or_none<const N: usize>(
+    line: &mut TextBuffer,
+    label: [u8; N],
+    number: Option<u64>,
+)
     requires { length line.old + (N + 20) ≤ 4096 }
     ensures text { line.new ≡ line.old ++ numbered_or_none label.entry number }
     ensures len { length line.new ≤ length line.old + (N + 20) }
@@ -83,7 +87,7 @@ pub fn wide_short(number: Option<u16>) -> Option<u64>
 }
 
 // Puts up to 128 octets in lower-case hexadecimal digits behind what `line` holds.
-fn put_some_hex(out: &mut Bytes, line: &mut Piece, octets: &[u8]) -> Result<(), AllocError>
+fn put_some_hex(out: &mut Bytes, line: &mut TextBuffer, octets: &[u8]) -> Result<(), AllocError>
     requires { length octets.now ≤ 128 }
     ensures ok { OnOk result (out.new ++ line.new ≡ (out.old ++ line.old) ++ encode_lower octets.now) }
     ensures len { OnOk result (length line.new ≤ 4032) }
@@ -95,7 +99,7 @@ fn put_some_hex(out: &mut Bytes, line: &mut Piece, octets: &[u8]) -> Result<(), 
 }
 
 /// Puts octets in lower-case hexadecimal digits behind what `line` holds, which is put behind others where it is long.
-pub fn put_hex(out: &mut Bytes, line: &mut Piece, octets: &[u8]) -> Result<(), AllocError>
+pub fn put_hex(out: &mut Bytes, line: &mut TextBuffer, octets: &[u8]) -> Result<(), AllocError>
     requires { length line.old ≤ 4032 }
     ensures ok { OnOk result (out.new ++ line.new ≡ (out.old ++ line.old) ++ encode_lower octets.now) }
     ensures len { OnOk result (length line.new ≤ 4032) }
@@ -113,7 +117,7 @@ pub fn put_hex(out: &mut Bytes, line: &mut Piece, octets: &[u8]) -> Result<(), A
 /// Puts a label, and the octets of an address of that width.
 #[tactic(auto, unfolding(crate::specs::Pieces::addressed))]
 #[inline(always)]
-pub fn put_address<const N: usize>(line: &mut Piece, label: [u8; N], width: u8, addr: &RawAddr)
+pub fn put_address<const N: usize>(line: &mut TextBuffer, label: [u8; N], width: u8, addr: &RawAddr)
     requires { length line.old + (N + 32) ≤ 4096 }
     ensures text { line.new ≡ line.old ++ addressed label.entry width addr.now }
     ensures len { length line.new ≤ length line.old + (N + 32) }
@@ -130,7 +134,7 @@ pub fn put_address<const N: usize>(line: &mut Piece, label: [u8; N], width: u8, 
 /// Puts a label, and an address of that width that may be absent.
 #[tactic(auto, unfolding(crate::specs::Pieces::addressed_or_none))]
 pub fn put_address_or_none<const N: usize>(
-    line: &mut Piece,
+    line: &mut TextBuffer,
     label: [u8; N],
     width: u8,
     addr: Option<RawAddr>,
@@ -150,7 +154,7 @@ pub fn put_address_or_none<const N: usize>(
 
 /// Puts a label, and the four octets of a router's address.
 #[tactic(auto, unfolding(crate::specs::Pieces::addressed_by_number))]
-pub fn put_router<const N: usize>(line: &mut Piece, label: [u8; N], addr: Addr4)
+pub fn put_router<const N: usize>(line: &mut TextBuffer, label: [u8; N], addr: Addr4)
     requires { length line.old + (N + 8) ≤ 4096 }
     ensures text { line.new ≡ line.old ++ addressed_by_number label.entry addr }
     ensures len { length line.new ≤ length line.old + (N + 8) }
@@ -160,7 +164,7 @@ pub fn put_router<const N: usize>(line: &mut Piece, label: [u8; N], addr: Addr4)
 }
 
 // Puts the octets of a TLV's value.
-fn put_octets(out: &mut Bytes, line: &mut Piece, octets: &[u8]) -> Result<(), AllocError>
+fn put_octets(out: &mut Bytes, line: &mut TextBuffer, octets: &[u8]) -> Result<(), AllocError>
     requires { length line.old ≤ 3972 }
     ensures ok { OnOk result (out.new ++ line.new ≡ (out.old ++ line.old) ++ (if length octets.now == 0 then codes "empty" else encode_lower octets.now)) }
     ensures len { OnOk result (length line.new ≤ 4032) }
@@ -175,7 +179,11 @@ fn put_octets(out: &mut Bytes, line: &mut Piece, octets: &[u8]) -> Result<(), Al
 
 /// Puts a label and the value of a TLV.
 #[tactic(auto, unfolding(crate::specs::Pieces::valued))]
-pub fn put_value(out: &mut Bytes, line: &mut Piece, value: Option<&[u8]>) -> Result<(), AllocError>
+pub fn put_value(
+    out: &mut Bytes,
+    line: &mut TextBuffer,
+    value: Option<&[u8]>,
+) -> Result<(), AllocError>
     requires { length line.old ≤ 3962 }
     ensures ok { OnOk result (out.new ++ line.new ≡ (out.old ++ line.old) ++ valued (codes " value ") (option_copied value.entry)) }
     ensures len { OnOk result (length line.new ≤ 4032) }
@@ -193,7 +201,7 @@ pub fn put_value(out: &mut Bytes, line: &mut Piece, value: Option<&[u8]>) -> Res
 
 /// Puts a label, and a choice.
 #[tactic(auto, unfolding(crate::specs::Pieces::chosen))]
-pub fn put_choice<const N: usize>(line: &mut Piece, label: [u8; N], choice: bool)
+pub fn put_choice<const N: usize>(line: &mut TextBuffer, label: [u8; N], choice: bool)
     requires { length line.old + (N + 3) ≤ 4096 }
     ensures text { line.new ≡ line.old ++ chosen label.entry choice }
     ensures len { length line.new ≤ length line.old + (N + 3) }
@@ -246,7 +254,7 @@ fn reason_name(reason: u8) -> &'static [u8]
 
 /// Puts a label, and the name of a rule.
 #[tactic(auto, unfolding(crate::specs::Pieces::named))]
-pub fn put_name<const N: usize>(line: &mut Piece, label: [u8; N], reason: u8)
+pub fn put_name<const N: usize>(line: &mut TextBuffer, label: [u8; N], reason: u8)
     requires { length line.old + (N + 20) ≤ 4096 }
     ensures text { line.new ≡ line.old ++ named label.entry reason }
     ensures len { length line.new ≤ length line.old + (N + 20) }

@@ -3,10 +3,10 @@ ghost use Rattle.std.specs.Prelude.{◌≡◌, ◌++◌, ◌+◌, ◌≤◌, len
 ghost use Rattle.mesh_packet.specs.Fields.{fields_of_message};
 ghost use Rattle.mesh_packet.specs.Least.{Wrote};
 ghost use Rattle.mesh_report.specs.Pieces.{numbered, numbered_or_none, addressed_by_number, chosen};
-ghost use Rattle.mesh_report.specs.Readings.{broken_line, Tells, IsReading};
+ghost use Rattle.mesh_report.specs.Readings.{broken_line, TellsRead, IsReading};
 
 use crate::lines::put_rule;
-use crate::piece::Piece;
+use crate::piece::TextBuffer;
 use crate::pieces::{put_choice, put_number_or_none, put_numbered, put_router};
 use mesh_atoms::Willing;
 use mesh_packet::Message;
@@ -15,7 +15,12 @@ use std::alloc::{AllocError, Global};
 
 // Puts the times that a message tells.
 #[inline(always)]
-fn put_times<const N: usize>(line: &mut Piece, label: [u8; N], validity: u64, interval: Option<u64>)
+fn put_times<const N: usize>(
+    line: &mut TextBuffer,
+    label: [u8; N],
+    validity: u64,
+    interval: Option<u64>,
+)
     requires { length line.old + (N + 50) ≤ 4096 }
     ensures text { line.new ≡ line.old ++ (numbered label.entry validity ++ numbered_or_none (codes " interval ") interval) }
     ensures len { length line.new ≤ length line.old + (N + 50) }
@@ -25,7 +30,7 @@ fn put_times<const N: usize>(line: &mut Piece, label: [u8; N], validity: u64, in
 }
 
 // Puts how willing the sender of a HELLO is.
-fn put_willing(line: &mut Piece, willing: Willing)
+fn put_willing(line: &mut TextBuffer, willing: Willing)
     requires { length line.old ≤ 100 }
     ensures text { line.new ≡ line.old ++ (numbered (codes " flooding ") willing.flooding ++ numbered (codes " routing ") willing.routing) }
     ensures len { length line.new ≤ 160 }
@@ -35,7 +40,7 @@ fn put_willing(line: &mut Piece, willing: Willing)
 }
 
 // Puts the number of rows, and ends the line.
-fn put_rows(line: &mut Piece, count: usize)
+fn put_rows(line: &mut TextBuffer, count: usize)
     requires { length line.old ≤ 280 }
     ensures text { line.new ≡ line.old ++ (numbered (codes " rows ") count ++ codes "\n") }
     ensures len { length line.new ≤ 320 }
@@ -45,24 +50,24 @@ fn put_rows(line: &mut Piece, count: usize)
 }
 
 /// What a message is read as, which a line tells.
-trait Reading: Sized + Drop {
+trait MessageReading: Sized + Drop {
     ghost use Rattle.std.specs.Prelude.{◌≡◌, ◌++◌, ◌≤◌, ℕ, List, length};
 
     ghost line_of: { Self → List ℕ };
 
-    fn put_line(&self, line: &mut Piece)
+    fn put_line(&self, line: &mut TextBuffer)
         requires { length line.old ≤ 10 }
         ensures text { line.new ≡ line.old ++ line_of self.now }
         ensures len { length line.new ≤ 320 };
 }
 
-impl Reading for HelloSummary {
+impl MessageReading for HelloSummary {
     ghost use Rattle.mesh_report.specs.Readings.{hello_summary_line};
 
     ghost line_of = { hello_summary_line };
 
     #[tactic(auto, unfolding(crate::specs::Readings::hello_summary_line))]
-    fn put_line(&self, line: &mut Piece) {
+    fn put_line(&self, line: &mut TextBuffer) {
         put_times(
             line,
             *b" reading hello validity ",
@@ -75,7 +80,7 @@ impl Reading for HelloSummary {
 }
 
 // Puts who sent a TC, by which numbers, and whether it tells all rows.
-fn put_content(line: &mut Piece, tc: &TcSummary)
+fn put_content(line: &mut TextBuffer, tc: &TcSummary)
     requires { length line.old ≤ 10 }
     ensures text { line.new ≡ line.old ++ (addressed_by_number (codes " reading tc originator ") tc.now.originator
         ++ numbered (codes " sequence ") tc.now.sequence ++ numbered (codes " ansn ") tc.now.ansn ++ chosen (codes " complete ") tc.now.complete) }
@@ -87,13 +92,13 @@ fn put_content(line: &mut Piece, tc: &TcSummary)
     put_choice(line, *b" complete ", tc.complete);
 }
 
-impl Reading for TcSummary {
+impl MessageReading for TcSummary {
     ghost use Rattle.mesh_report.specs.Readings.{tc_summary_line};
 
     ghost line_of = { tc_summary_line };
 
     #[tactic(auto, unfolding(crate::specs::Readings::tc_summary_line))]
-    fn put_line(&self, line: &mut Piece) {
+    fn put_line(&self, line: &mut TextBuffer) {
         put_content(line, self);
         put_times(line, *b" validity ", self.validity, self.interval);
         put_rows(line, self.row_count);
@@ -101,7 +106,7 @@ impl Reading for TcSummary {
 }
 
 #[tactic(auto, unfolding(crate::specs::Readings::broken_line))]
-fn put_broken_line(line: &mut Piece, number: u8)
+fn put_broken_line(line: &mut TextBuffer, number: u8)
     requires { length line.old ≤ 10 }
     ensures text { line.new ≡ line.old ++ broken_line number }
     ensures len { length line.new ≤ 320 }
@@ -110,9 +115,12 @@ fn put_broken_line(line: &mut Piece, number: u8)
 }
 
 // Puts what a message was read as, or the first rule that it breaks.
-fn put_read<R: Reading>(line: &mut Piece, read: Result<R, WireFault>) -> Result<(), AllocError>
+fn put_read<R: MessageReading>(
+    line: &mut TextBuffer,
+    read: Result<R, WireFault>,
+) -> Result<(), AllocError>
     requires { length line.old ≤ 10 }
-    ensures text { OnOk result (Wrote (Tells R.line_of read) line.old line.new) }
+    ensures text { OnOk result (Wrote (TellsRead R.line_of read) line.old line.new) }
     ensures len { OnOk result (length line.new ≤ 320) }
 {
     match read {
@@ -130,7 +138,11 @@ fn put_read<R: Reading>(line: &mut Piece, read: Result<R, WireFault>) -> Result<
 
 /// Puts how a message reads that is a HELLO or a TC by its type: what it says, or the first rule that it breaks. Puts nothing
 /// for other types.
-pub fn put_reading(alloc: Global, line: &mut Piece, message: &Message) -> Result<(), AllocError>
+pub fn put_reading(
+    alloc: Global,
+    line: &mut TextBuffer,
+    message: &Message,
+) -> Result<(), AllocError>
     requires { length line.old ≤ 10 }
     ensures text { OnOk result (Wrote (IsReading (fields_of_message message.now)) line.old line.new) }
     ensures len { OnOk result (length line.new ≤ 320) }

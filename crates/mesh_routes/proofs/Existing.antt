@@ -17,7 +17,7 @@ use Rattle.mesh_atoms.proofs.Lookups.{tests_symmetric}
 use Rattle.mesh_paths.specs.Paths.{IsCertificate}
 use Rattle.mesh_paths.proofs.Existing.{certificate_exists}
 use Rattle.mesh_paths.proofs.Order.{same_node}
-use Rattle.mesh_routes.specs.declared.hops.ways.Way.{Way}
+use Rattle.mesh_routes.specs.declared.hops.ways.NeighbourLink.{NeighbourLink}
 use Rattle.mesh_routes.specs.Arcs.{IsGraphOf}
 use Rattle.mesh_routes.specs.Existing.{RoutersHaveRoutes}
 use Rattle.mesh_routes.specs.Rows.{route_by}
@@ -83,7 +83,7 @@ module _ (s : State) (now : ℕ) (self : Addr4) (near_sound : SoundNeighbourhood
       let state = (tests_symmetric link now).0 symmetric in
       (i, key, k, record { link = link; stands = (base, place, (until, in_base)); state = state; of_it = within; out = known })
 
-  hop_for : (row : PathRow) → Contains rows row → row.node ≢ host self → (way : Way) × IsNextHop s now (host self) (route_by row way)
+  hop_for : (row : PathRow) → Contains rows row → row.node ≢ host self → (way : NeighbourLink) × IsNextHop s now (host self) (route_by row way)
   hop_for row has off =
       let (f, back) = first_for (suc row.metric) row has (omega arith) off in
       let (e, (within, (both_ways, (a, in_e, is, (k, out))))) =

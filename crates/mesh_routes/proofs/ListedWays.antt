@@ -11,7 +11,7 @@ use Rattle.mesh_atoms.specs.Codes.Codes.{metric_value}
 use Rattle.mesh_atoms.specs.Routes.{IsWayTo}
 use Rattle.mesh_atoms.specs.State.{State, is_symmetric}
 use Rattle.mesh_atoms.proofs.Lookups.{tests_symmetric}
-use Rattle.mesh_routes.specs.declared.hops.ways.Way.{Way}
+use Rattle.mesh_routes.specs.declared.hops.ways.NeighbourLink.{NeighbourLink}
 use Rattle.mesh_routes.specs.Hops.Ways.{IsNoWorse}
 use Rattle.mesh_routes.proofs.FirstNodes.{Entry}
 use Rattle.mesh_routes.proofs.InOrder.{least_of_list}
@@ -22,7 +22,7 @@ use Rattle.mesh_atoms.proofs.Values.{same_address}
 
 -- Which of two ways is no worse
 
-pub no_worse : (w v : Way) (k m : Metric) → metric_value k ≡ w.metric → metric_value m ≡ v.metric → IsNoWorse w v →
+pub no_worse : (w v : NeighbourLink) (k m : Metric) → metric_value k ≡ w.metric → metric_value m ≡ v.metric → IsNoWorse w v →
     (metric_value k < metric_value m)
     ⊎ ((metric_value k ≡ metric_value m) × ((w.iface < v.iface) ⊎ ((w.iface ≡ v.iface) × (w.next.0 ≤ v.next.0))))
 no_worse w v k m at_w at_v h = elim h [
@@ -31,10 +31,10 @@ no_worse w v k m at_w at_v h = elim h [
 ]
 
 -- a lesser interface, or at the same no greater address
-abbrev IsEarlier : Way → Way → Type 0
+abbrev IsEarlier : NeighbourLink → NeighbourLink → Type 0
 IsEarlier a b = (a.iface < b.iface) ⊎ ((a.iface ≡ b.iface) × (a.next.0 ≤ b.next.0))
 
-either_earlier : (a b : Way) → IsEarlier a b ⊎ IsEarlier b a
+either_earlier : (a b : NeighbourLink) → IsEarlier a b ⊎ IsEarlier b a
 either_earlier a b = elim (cases_lt a.iface b.iface) [
   | inl less ↦ inl (inl less)
   | inr upto ↦ elim (cases_lt b.iface a.iface) [
@@ -46,7 +46,7 @@ either_earlier a b = elim (cases_lt a.iface b.iface) [
   ]
 ]
 
-either_no_worse : (w v : Way) → IsNoWorse w v ⊎ IsNoWorse v w
+either_no_worse : (w v : NeighbourLink) → IsNoWorse w v ⊎ IsNoWorse v w
 either_no_worse w v = elim (cases_lt w.metric v.metric) [
   | inl less ↦ inl (inl less)
   | inr upto ↦ elim (cases_lt v.metric w.metric) [
@@ -58,7 +58,7 @@ either_no_worse w v = elim (cases_lt w.metric v.metric) [
   ]
 ]
 
-no_worse_further : (a b c : Way) → IsNoWorse a b → IsNoWorse b c → IsNoWorse a c
+no_worse_further : (a b c : NeighbourLink) → IsNoWorse a b → IsNoWorse b c → IsNoWorse a c
 no_worse_further a b c (inl l) (inl m) = inl (omega arith)
 no_worse_further a b c (inl l) (inr (f, _)) = inl (omega arith)
 no_worse_further a b c (inr (e, _)) (inl m) = inl (omega arith)
@@ -71,11 +71,11 @@ no_worse_further a b c (inr (e, inr (h, n))) (inr (f, inr (g, m))) = inr (e ∙ 
 
 module _ (s : State) (now : ℕ) (e : Entry) where
   -- the way of interface i by the link with that least address
-  abbrev pub way_over : ℕ → Addr4 → Metric → Way
+  abbrev pub way_over : ℕ → Addr4 → Metric → NeighbourLink
   way_over i next k = record { originator = e.0; metric = metric_value k; iface = i; next = next }
 
   -- a way by a SYMMETRIC link
-  abbrev IsWay : Way → Type 0
+  abbrev IsWay : NeighbourLink → Type 0
   IsWay w =
       (i : ℕ) × (i < length s.bases.neighbourhood.links)
       × ((le : LinkKey × (Link × ℕ)) × Contains (base_of s.bases.neighbourhood.links i) le × ((is_symmetric le.1.0 now ≡ true)
@@ -89,10 +89,10 @@ module _ (s : State) (now : ℕ) (e : Entry) where
       (listed_known le.1.0.link_out (λ k. listed_one (way_over i le.0.addr k)))))))
 
   -- a way leads by a link of its neighbour
-  abbrev pub IsWayBy : Way → Type 0
+  abbrev pub IsWayBy : NeighbourLink → Type 0
   IsWayBy v = (k : Metric) × IsWayTo s now e.1.0 v.iface (record { addr = v.next }) k × (metric_value k ≡ v.metric)
 
-  way_from : (v : Way) → IsWay v → IsWayBy v
+  way_from : (v : NeighbourLink) → IsWay v → IsWayBy v
   way_from v (i, l, (le, within, (symmetric, (a, has, (at, (k, out, is)))))) =
       let (base, place, in_base) = base_at s.bases.neighbourhood.links i le within in
       let of_it : Contains e.1.0.addrs le.0.addr = subst (λ (b : Addr4). Contains e.1.0.addrs b) at has in
@@ -122,7 +122,7 @@ module _ (s : State) (now : ℕ) (e : Entry) where
 
   -- where there is a way, one is the best
   pub best_of : (i : ℕ) (key : LinkKey) (m : Metric) → IsWayTo s now e.1.0 i key m →
-      (w : Way) × IsWayBy w
+      (w : NeighbourLink) × IsWayBy w
       × ((j : ℕ) (other : LinkKey) (k : Metric) → IsWayTo s now e.1.0 j other k → IsNoWorse w (way_over j other.addr k))
   best_of i key m to =
       let some = way_over i key.addr m in

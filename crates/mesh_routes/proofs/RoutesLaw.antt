@@ -18,13 +18,13 @@ use Rattle.mesh_atoms.specs.Base.{base_of, host}
 use Rattle.mesh_atoms.specs.Codes.Codes.{metric_value}
 use Rattle.mesh_atoms.specs.Routes.{RouteArc, IsOutside, IsParent, IsWayTo, IsNextHop, AreRoutes}
 use Rattle.mesh_atoms.specs.Sound.{SoundNeighbourhood, SoundTopology}
-use Rattle.mesh_atoms.specs.State.{State, Neighbourhood, Topology, IsOriginator, link_at, is_symmetric}
+use Rattle.mesh_atoms.specs.State.{State, Neighbourhood, TopologyBase, IsOriginator, link_at, is_symmetric}
 use Rattle.mesh_atoms.specs.Walk.{Walk, Least, FirstNode, AtSelf, Through}
 use Rattle.mesh_atoms.proofs.Lookups.{link_equiv, tests_symmetric}
 use Rattle.mesh_paths.specs.Paths.{IsCertificate}
 use Rattle.mesh_paths.proofs.Rows.{of_each}
-use Rattle.mesh_routes.specs.declared.hops.owners.Owner.{Owner}
-use Rattle.mesh_routes.specs.declared.hops.ways.Way.{Way}
+use Rattle.mesh_routes.specs.declared.hops.owners.SymmetricNeighbour.{SymmetricNeighbour}
+use Rattle.mesh_routes.specs.declared.hops.ways.NeighbourLink.{NeighbourLink}
 use Rattle.mesh_routes.specs.Arcs.{IsArcOfAll, IsGraphOf}
 use Rattle.mesh_routes.specs.Firsts.{NodeMap, first_at, IsParentIn, AreFirsts}
 use Rattle.mesh_routes.specs.Hops.Owners.{addr_cmp, OwnerMap, owner_at, owner_by}
@@ -42,7 +42,7 @@ use Rattle.mesh_routes.proofs.OwnGraph.{is_graph, base_at, base_has}
 use Rattle.mesh_atoms.proofs.Lists.{contains_at as at_place}
 
 -- what the parts of the making say
-pub record Made (settings : RouterSettings) (near : Neighbourhood) (topology : Topology) (now : ℕ) (self : Addr4) (owners : OwnerMap) (count : ℕ) (g : Graph) (rows : List PathRow) (firsts : NodeMap) (ways : List Way) (routes : List Route) : Type 0 where
+pub record Made (settings : RouterSettings) (near : Neighbourhood) (topology : TopologyBase) (now : ℕ) (self : Addr4) (owners : OwnerMap) (count : ℕ) (g : Graph) (rows : List PathRow) (firsts : NodeMap) (ways : List NeighbourLink) (routes : List Route) : Type 0 where
   pub near_sound : SoundNeighbourhood settings now near
   pub topology_sound : (past : ℕ) × SoundTopology settings past topology
   pub is_self : IsOriginator settings self
@@ -57,13 +57,13 @@ pub record Made (settings : RouterSettings) (near : Neighbourhood) (topology : T
   pub routes_are : AreRoutesOf settings firsts owners ways rows (length rows) routes
 
 -- a way that is known
-pub way_inverse : (i : ℕ) (key : LinkKey) (o : Option Owner) (m : Option Metric) (w : Way) → way_at i key o m ≡ Some w →
-    (owner : Owner) × (o ≡ Some owner) × ((k : Metric) × (m ≡ Some k) × (w ≡ record { originator = owner.originator; metric = metric_value k; iface = i; next = key.addr }))
+pub way_inverse : (i : ℕ) (key : LinkKey) (o : Option SymmetricNeighbour) (m : Option Metric) (w : NeighbourLink) → way_at i key o m ≡ Some w →
+    (owner : SymmetricNeighbour) × (o ≡ Some owner) × ((k : Metric) × (m ≡ Some k) × (w ≡ record { originator = owner.originator; metric = metric_value k; iface = i; next = key.addr }))
 way_inverse i key None m w e = absurd cc
 way_inverse i key (Some owner) None w e = absurd cc
 way_inverse i key (Some owner) (Some k) w e = (owner, refl, (k, refl, cc))
 
-module _ (s : State) (now : ℕ) (self : Addr4) (owners : OwnerMap) (count : ℕ) (g : Graph) (rows : List PathRow) (firsts : NodeMap) (ways : List Way)
+module _ (s : State) (now : ℕ) (self : Addr4) (owners : OwnerMap) (count : ℕ) (g : Graph) (rows : List PathRow) (firsts : NodeMap) (ways : List NeighbourLink)
     (made : Made s.settings s.bases.neighbourhood s.bases.topology now self owners count g rows firsts ways s.routes) where
   same : IsGraphOf s g
   same = is_graph s now self made.is_self made.near_sound owners made.owners_are made.ordered count (omega (arith, made.near_sound.two_hop_interfaces, made.interfaces)) g made.arcs
@@ -92,19 +92,19 @@ module _ (s : State) (now : ℕ) (self : Addr4) (owners : OwnerMap) (count : ℕ
   way_by e has both_ways i key link until k stands within out =
       let (base, at, _) = base_at s.bases.neighbourhood.links i (key, (link, until)) stands in
       let low : i < length s.bases.neighbourhood.links = slice_get_within s.bases.neighbourhood.links i base at in
-      let w : Way = record { originator = e.0; metric = metric_value k; iface = i; next = key.addr } in
+      let w : NeighbourLink = record { originator = e.0; metric = metric_value k; iface = i; next = key.addr } in
       let known : owner_at owners key.addr ≡ Some (owner_by e.0 e.1.0) = owner_known s.settings now s.bases.neighbourhood made.near_sound owners made.owners_are e has both_ways key.addr within in
-      let is : way_at i key (owner_at owners key.addr) link.link_out ≡ Some w = ap (λ (o : Option Owner). way_at i key o link.link_out) known ∙ ap (λ (m : Option Metric). way_at i key (Some (owner_by e.0 e.1.0)) m) out in
+      let is : way_at i key (owner_at owners key.addr) link.link_out ≡ Some w = ap (λ (o : Option SymmetricNeighbour). way_at i key o link.link_out) known ∙ ap (λ (m : Option Metric). way_at i key (Some (owner_by e.0 e.1.0)) m) out in
       made.ways_are.has w (i, omega (arith, made.near_sound.interfaces, made.interfaces), ((key, (link, until)), stands, is))
 
-  way_by_link : (e : Entry) → Contains s.bases.neighbourhood.neighbours e → (v : Way) → Contains ways v → v.originator ≡ e.0 →
+  way_by_link : (e : Entry) → Contains s.bases.neighbourhood.neighbours e → (v : NeighbourLink) → Contains ways v → v.originator ≡ e.0 →
       IsWayBy s now e v
   way_by_link e has v stands leads = elim (made.ways_are.cases v stands) [
     | inl none ↦ let l : none.0 < 0 = none.1 in absurd (omega arith)
     | inr (i, l, (le, within, is)) ↦
         let (owner, known, (k, out, v_is)) = way_inverse i le.0 (owner_at owners le.0.addr) le.1.0.link_out v is in
         let (d, has_d, (_, (in_d, owner_is))) = owner_of s.settings now s.bases.neighbourhood made.near_sound owners made.owners_are le.0.addr owner known in
-        let keys : d.0 ≡ e.0 = ap (λ (o : Owner). o.originator) owner_is ∙ (sym (ap (λ (w : Way). w.originator) v_is) ∙ leads) in
+        let keys : d.0 ≡ e.0 = ap (λ (o : SymmetricNeighbour). o.originator) owner_is ∙ (sym (ap (λ (w : NeighbourLink). w.originator) v_is) ∙ leads) in
         let one : d ≡ e = one_at s.settings now s.bases.neighbourhood made.near_sound d e has_d has keys in
         let of_it : Contains e.1.0.addrs le.0.addr = subst (λ (x : Entry). Contains x.1.0.addrs le.0.addr) one in_d in
         let (base, at, in_base) = base_at s.bases.neighbourhood.links i le within in
@@ -114,13 +114,13 @@ module _ (s : State) (now : ℕ) (self : Addr4) (owners : OwnerMap) (count : ℕ
           | inr f ↦ let none : le.1.0.link_out ≡ None = (made.near_sound.link i le.0 le.1.0 le.1.1 found).link_out f in absurd (let b : None ≡ Some k = sym none ∙ out in cc)
         ] in
         let way : IsWayTo s now e.1.0 i le.0 k = record { link = le.1.0; stands = (base, at, (le.1.1, in_base)); state = (tests_symmetric le.1.0 now).0 symmetric; of_it = of_it; out = out } in
-        let w : Way = record { originator = owner.originator; metric = metric_value k; iface = i; next = le.0.addr } in
+        let w : NeighbourLink = record { originator = owner.originator; metric = metric_value k; iface = i; next = le.0.addr } in
         let by : IsWayBy s now e w = (k, way, refl) in
         subst (IsWayBy s now e) (sym v_is) by
   ]
 
   -- of a neighbour with a known metric some way is known
-  not_cut_off : (e : Entry) → Contains s.bases.neighbourhood.neighbours e → IsTrue e.1.0.symmetric → (k : Metric) → e.1.0.metric_out ≡ Some k → ((v : Way) → Contains ways v → v.originator ≢ e.0) → ⊥
+  not_cut_off : (e : Entry) → Contains s.bases.neighbourhood.neighbours e → IsTrue e.1.0.symmetric → (k : Metric) → e.1.0.metric_out ≡ Some k → ((v : NeighbourLink) → Contains ways v → v.originator ≢ e.0) → ⊥
   not_cut_off e has both_ways k out none =
       let (i, key, link, until, stands, within, _, known) = known_link s now made.near_sound e has k out in
       none (record { originator = e.0; metric = metric_value k; iface = i; next = key.addr }) (way_by e has both_ways i key link until k stands within known) refl
@@ -136,13 +136,13 @@ module _ (s : State) (now : ℕ) (self : Addr4) (owners : OwnerMap) (count : ℕ
 
   -- Next hops
 
-  next_hop : (row : PathRow) → Contains rows row → row.node ≢ host self → (way : Way) → IsHop firsts owners ways row.node way → IsNextHop s now (host self) (route_by row way)
+  next_hop : (row : PathRow) → Contains rows row → row.node ≢ host self → (way : NeighbourLink) → IsHop firsts owners ways row.node way → IsNextHop s now (host self) (route_by row way)
   next_hop row has off way (f, owner, at, known, best) =
       let back : FirstNode (IsParent s (host self)) (host self) row.node f = leads_back off (made.right row.node f at off) in
       let (e, first) = first_of s now made.near_sound self made.is_self made.topology_sound f (first_arc back) in
       let owners_both : Some owner ≡ Some (owner_by e.0 e.1.0) = sym known ∙ owner_first f e first in
       let one : owner ≡ owner_by e.0 e.1.0 = cc in
-      let mine : owner.originator ≡ e.0 = ap (λ (o : Owner). o.originator) one in
+      let mine : owner.originator ≡ e.0 = ap (λ (o : SymmetricNeighbour). o.originator) one in
       let (within, (both_ways, (a, in_e, is, _))) = first in
       let (k, by, cost) = way_by_link e within way best.stands (best.leads ∙ mine) in
       record {
@@ -155,7 +155,7 @@ module _ (s : State) (now : ℕ) (self : Addr4) (owners : OwnerMap) (count : ℕ
         way = by;
         best = λ i key m to.
             let (base, place, (until, stands)) = to.stands in
-            let v : Way = record { originator = e.0; metric = metric_value m; iface = i; next = key.addr } in
+            let v : NeighbourLink = record { originator = e.0; metric = metric_value m; iface = i; next = key.addr } in
             let in_ways : Contains ways v = way_by e within both_ways i key to.link until m (base_has s.bases.neighbourhood.links i base (key, (to.link, until)) place stands) to.of_it to.out in
             no_worse way v k m cost refl (best.best v in_ways (sym mine));
       }

@@ -14,7 +14,7 @@ use Rattle.mesh_atoms.specs.Base.{Base, Has, HasDistinctKeys, find}
 use Rattle.mesh_atoms.specs.Routes.{IsWayTo}
 use Rattle.mesh_atoms.specs.Live.{HasTables}
 use Rattle.mesh_atoms.specs.Sound.{SoundNeighbourhood, SoundTopology}
-use Rattle.mesh_atoms.specs.State.{Neighbourhood, Topology, State, is_symmetric, link_at, two_hop_at, neighbour_at, HasTwoHop, HasSymmetric, HasAddress, IsOriginator}
+use Rattle.mesh_atoms.specs.State.{Neighbourhood, TopologyBase, State, is_symmetric, link_at, two_hop_at, neighbour_at, HasTwoHop, HasSymmetric, HasAddress, IsOriginator}
 use Rattle.mesh_atoms.proofs.Lookups.{tests_symmetric, looks_up_links, looks_up_two_hops, looks_up_neighbours, has_found, router_equiv, same_router, address_equiv, same_address, network_equiv, same_network}
 use Rattle.mesh_nbrs.specs.Same.{SameNear, way_at}
 use Rattle.mesh_topo.specs.Same.{SameAdvertised}
@@ -85,14 +85,14 @@ says_also {K} {V} {eq} laws exact says old new distinct distinct_new same key x 
         let one : says e.0 ≡ says x = cc in
         (e.0, (has_found laws exact new key e.0 distinct_new).1 (e.1, is), ap (λ (p : Option ℕ × Metric). p.1) one)
 
-tells_also : {settings r : RouterSettings} {last now : ℕ} {old new : Topology} → SoundTopology settings last old → SoundTopology r now new → SameAdvertised old new → TellsAlso old new
+tells_also : {settings r : RouterSettings} {last now : ℕ} {old new : TopologyBase} → SoundTopology settings last old → SoundTopology r now new → SameAdvertised old new → TellsAlso old new
 tells_also {old = old} {new = new} sound sound_new same = record {
   routers = says_also router_equiv same_router router_says old.routers new.routers sound.routers.distinct sound_new.routers.distinct same.routers;
   addresses = says_also address_equiv same_address address_says old.addresses new.addresses sound.addresses.distinct sound_new.addresses.distinct same.addresses;
   networks = says_also network_equiv same_network network_says old.networks new.networks sound.networks.distinct sound_new.networks.distinct same.networks;
 }
 
-advertised_back : {old new : Topology} → SameAdvertised old new → SameAdvertised new old
+advertised_back : {old new : TopologyBase} → SameAdvertised old new → SameAdvertised new old
 advertised_back same = record { routers = λ q. sym (same.routers q); addresses = λ q. sym (same.addresses q); networks = λ q. sym (same.networks q) }
 
 -- The whole

@@ -24,7 +24,7 @@ use Rattle.mesh_atoms.specs.Codes.Codes.{metric_value}
 use Rattle.mesh_atoms.specs.Nodes.{IsBefore}
 use Rattle.mesh_atoms.specs.RelayGraphs.{IsMetricOver, IsRoutingGraph, IsFloodingGraph}
 use Rattle.mesh_atoms.specs.Routes.{RouteArc, To_neighbour, To_two_hop, By_router, By_address, By_network, IsOutside, IsParent, IsWayTo, IsNextHop}
-use Rattle.mesh_atoms.specs.State.{State, Topology, state_of, HasLink, HasTwoHop, HasSymmetric, HasAddress, IsOriginator}
+use Rattle.mesh_atoms.specs.State.{State, TopologyBase, state_of, HasLink, HasTwoHop, HasSymmetric, HasAddress, IsOriginator}
 use Rattle.mesh_atoms.specs.Walk.{FirstNode, AtSelf, Through}
 use Rattle.mesh_routes.specs.Staying.{SameOwn, SameArcs, SameWays, SameTwoHops, RoutesStay, GraphsStay}
 use Rattle.mesh_routes.proofs.GraphWalks.{walk_by, least_by, fits_by}
@@ -46,7 +46,7 @@ same_own s t originator address attached = record {
 -- Arcs
 
 -- each tuple of the one topology has one of the other with the same metric
-pub record TellsAlso (old new : Topology) : Type 0 where
+pub record TellsAlso (old new : TopologyBase) : Type 0 where
   pub routers : (key : RouterKey) (x : RouterTuple) → Has old.routers key x → (y : RouterTuple) × Has new.routers key y × (y.metric ≡ x.metric)
   pub addresses : (key : AddressKey) (x : AddressTuple) → Has old.addresses key x → (y : AddressTuple) × Has new.addresses key y × (y.metric ≡ x.metric)
   pub networks : (key : NetworkKey) (x : NetworkTuple) → Has old.networks key x → (y : NetworkTuple) × Has new.networks key y × (y.metric ≡ x.metric)

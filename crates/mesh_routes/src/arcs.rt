@@ -8,9 +8,9 @@ ghost use Rattle.mesh_routes.specs.Hops.Arcs.{two_hop_arc};
 ghost use Rattle.mesh_routes.specs.Hops.Owners.{addr_cmp};
 ghost use Rattle.mesh_routes.specs.Arcs.{own_arc};
 ghost use Rattle.std.specs.BTreeMap.{IsOrdered};
-ghost use Rattle.mesh_routes.specs.Passes.{Adds, GivenBy};
+ghost use Rattle.mesh_routes.specs.Passes.{Adds, GivenByElement};
 
-use crate::hops::{Owner, known_arc, two_hop_arc};
+use crate::hops::{SymmetricNeighbour, known_arc, two_hop_arc};
 use mesh_atoms::{
     Addr4, AddressKey, AddressTuple, Arc4, NetAddr, NetworkKey, NetworkTuple, RouterKey,
     RouterTuple, Seq, host,
@@ -34,7 +34,7 @@ fn put_arc(arcs: &mut Seq<Arc4>, arc: Option<Arc4>) -> Result<(), AllocError>
 pub(crate) fn put_own_arcs(
     arcs: &mut Seq<Arc4>,
     from: NetAddr,
-    owners: &BTreeMap<Addr4, Owner>,
+    owners: &BTreeMap<Addr4, SymmetricNeighbour>,
 ) -> Result<(), AllocError>
     ensures arcs { OnOk result (arcs.new ≡ arcs.old ++ filter_map (own_arc from) owners.now.entries) }
     ensures ordered { IsOrdered addr_cmp owners.now }
@@ -50,9 +50,9 @@ pub(crate) fn put_two_hop_arcs<N: Near4>(
     arcs: &mut Seq<Arc4>,
     near: &N,
     iface: usize,
-    owners: &BTreeMap<Addr4, Owner>,
+    owners: &BTreeMap<Addr4, SymmetricNeighbour>,
 ) -> Result<(), AllocError>
-    ensures adds { OnOk result (Adds (GivenBy (λ e arc. two_hop_arc owners.now e ≡ Some arc) (base_of (N.near near.now).two_hops iface)) arcs.old arcs.new) }
+    ensures adds { OnOk result (Adds (GivenByElement (λ e arc. two_hop_arc owners.now e ≡ Some arc) (base_of (N.near near.now).two_hops iface)) arcs.old arcs.new) }
     ensures few { OnOk result (length arcs.new ≤ length arcs.old + length (base_of (N.near near.now).two_hops iface)) }
 {
     for place in 0..near.two_hops(iface) {
@@ -64,7 +64,7 @@ pub(crate) fn put_two_hop_arcs<N: Near4>(
 }
 
 /// A topology tuple that leads from the router that told of it to what it told.
-pub(crate) trait Leads<K>: Sized {
+pub(crate) trait TopologyArc<K>: Sized {
     ghost leads: { K → Self → Arc4 };
 
     /// The arc of the tuple with that key.
@@ -72,7 +72,7 @@ pub(crate) trait Leads<K>: Sized {
         ensures { result ≡ leads key.now self.now };
 }
 
-impl Leads<RouterKey> for RouterTuple {
+impl TopologyArc<RouterKey> for RouterTuple {
     ghost use Rattle.mesh_atoms.specs.Base.{host};
     ghost use Rattle.mesh_routes.specs.Hops.Arcs.{arc_at};
 
@@ -87,7 +87,7 @@ impl Leads<RouterKey> for RouterTuple {
     }
 }
 
-impl Leads<AddressKey> for AddressTuple {
+impl TopologyArc<AddressKey> for AddressTuple {
     ghost use Rattle.mesh_atoms.specs.Base.{host};
     ghost use Rattle.mesh_routes.specs.Hops.Arcs.{arc_at};
 
@@ -102,7 +102,7 @@ impl Leads<AddressKey> for AddressTuple {
     }
 }
 
-impl Leads<NetworkKey> for NetworkTuple {
+impl TopologyArc<NetworkKey> for NetworkTuple {
     ghost use Rattle.mesh_atoms.specs.Base.{host};
     ghost use Rattle.mesh_routes.specs.Hops.Arcs.{arc_at};
 
@@ -118,11 +118,11 @@ impl Leads<NetworkKey> for NetworkTuple {
 }
 
 /// Puts the arcs of the tuples of a topology set. Takes one pass over it.
-pub(crate) fn put_topology_arcs<K: Key, V: Leads<K>, T: Table<K, V>>(
+pub(crate) fn put_topology_arcs<K: Key, V: TopologyArc<K>, T: Table<K, V>>(
     arcs: &mut Seq<Arc4>,
     table: &T,
 ) -> Result<(), AllocError>
-    ensures adds { OnOk result (Adds (GivenBy (λ e arc. V.leads e.0 e.1.0 ≡ arc) (T.content table.now)) arcs.old arcs.new) }
+    ensures adds { OnOk result (Adds (GivenByElement (λ e arc. V.leads e.0 e.1.0 ≡ arc) (T.content table.now)) arcs.old arcs.new) }
     ensures few { OnOk result (length arcs.new ≤ length arcs.old + length (T.content table.now)) }
 {
     for place in 0..table.len() {

@@ -11,6 +11,6 @@ mod ways;
 pub use crate::hops::arcs::{known_arc, two_hop_arc};
 pub use crate::hops::costs::{Flooding, Purpose, Routing};
 pub use crate::hops::own::is_outside;
-pub use crate::hops::owners::{Owner, owner_at, owner_by};
+pub use crate::hops::owners::{SymmetricNeighbour, owner_at, owner_by};
 pub use crate::hops::set::RoutingSet;
-pub use crate::hops::ways::{Way, best_way, way_of};
+pub use crate::hops::ways::{NeighbourLink, best_way, way_of};

@@ -15,8 +15,8 @@ mod ways;
 
 pub use choice::graph_of;
 pub use hops::{
-    Flooding, Owner, Purpose, Routing, RoutingSet, Way, best_way, is_outside, known_arc, owner_at,
-    owner_by, two_hop_arc, way_of,
+    Flooding, NeighbourLink, Purpose, Routing, RoutingSet, SymmetricNeighbour, best_way,
+    is_outside, known_arc, owner_at, owner_by, two_hop_arc, way_of,
 };
 pub use laws::{routers_have_routes, routes_and_graphs_stay};
 pub use mesh_atoms::Route;

@@ -11,11 +11,11 @@ use Rattle.mesh_config.specs.RunSettings.{run_refusals}
 use Rattle.mesh_io.proofs.Fronts.{keeps_same}
 use Rattle.mesh_io.specs.Airs.{Report}
 use Rattle.mesh_io.specs.Faults.{Rose, RoseByOne}
-use Rattle.mesh_io.specs.Told.{Tells}
+use Rattle.mesh_io.specs.Told.{TellsMore}
 use Rattle.mesh_io.specs.declared.stop.Stop.{Stop}
 use Rattle.mesh_io.specs.declared.stop.Stop.TheVariants as stop
-use Rattle.mesh_run.specs.Ends.{Completes, LeavesText, Finishes, Spends, IsQuiet, RouterEnds, Ends}
-use Rattle.mesh_run.specs.Run.{States, Told, told, IsAttached, IsTold, WholeRun, SpendsTurns, RunsShort}
+use Rattle.mesh_run.specs.Ends.{Completes, LeavesText, FinishesTurns, Spends, ToldNothing, RouterEnds, EndsRun}
+use Rattle.mesh_run.specs.Run.{StatesSetup, ToldInCall, told, ArePortsAttached, IsTold, WholeRouterRun, SpendsTurns, RunsShort}
 use Rattle.mesh_run.specs.Run.RunsShort.{Before_turns, In_turns}
 use Rattle.mesh_run.specs.Text.{IsReport}
 use Rattle.mesh_run.specs.declared.fault.RunFault.{RunFault}
@@ -44,7 +44,7 @@ module _ (setup : RunSetup) (most : ℕ) (state : State) (ended : Ended) (k l : 
 
   -- its turns were done, and its text is put
   finishes : ended.turns ≤ most → setup.end ≤ ended.greatest → (text : List ℕ) → IsReport setup.end ended state text →
-      Finishes setup most k l a b text
+      FinishesTurns setup most k l a b text
   finishes within reached text report = record {
     moments = does.moments;
     reports = does.reports;
@@ -88,17 +88,17 @@ module _ (setup : RunSetup) (most : ℕ) (state : State) (ended : Ended) (k l : 
 
 -- In all
 
-module _ (input : List ℕ) (setup : RunSetup) (stated : States input setup) (most : ℕ) (k l : Option (List ℕ)) (a b c : Option (List Report)) (n : ℕ)
-    (ports_told : Tells a b (map attached_report setup.ports)) (attached : n ≡ length setup.ports) where
+module _ (input : List ℕ) (setup : RunSetup) (stated : StatesSetup input setup) (most : ℕ) (k l : Option (List ℕ)) (a b c : Option (List Report)) (n : ℕ)
+    (ports_told : TellsMore a b (map attached_report setup.ports)) (attached : n ≡ length setup.ports) where
   -- the attaches, and then what was told in the turns
-  is_told : (moments : List ℕ) (reports : List Report) → Tells k l moments → Tells b c reports → IsTold setup moments reports (told k l a c n)
+  is_told : (moments : List ℕ) (reports : List Report) → TellsMore k l moments → TellsMore b c reports → IsTold setup moments reports (told k l a c n)
   is_told moments reports clock air = record {
     clock = clock;
     air = tells_more a b c (map attached_report setup.ports) reports ports_told air;
     attached = attached;
   }
 
-  whole_run : (text : List ℕ) → Finishes setup most k l b c text → WholeRun input most (told k l a c n)
+  whole_run : (text : List ℕ) → FinishesTurns setup most k l b c text → WholeRouterRun input most (told k l a c n)
   whole_run text f = record {
     setup = setup;
     stated = stated;
@@ -126,11 +126,11 @@ module _ (input : List ℕ) (setup : RunSetup) (stated : States input setup) (mo
     greatest_is = s.greatest_is;
   }
 
-  attached_alone : IsQuiet k l b c → IsAttached setup (length setup.ports) (told k l a c n)
+  attached_alone : ToldNothing k l b c → ArePortsAttached setup (length setup.ports) (told k l a c n)
   attached_alone (clock, air) = record {
     moments = clock;
-    reports = subst (λ (ports : List Port). Tells a c (map attached_report ports)) (sym (take-length setup.ports))
-        (subst (λ (now : Option (List Report)). Tells a now (map attached_report setup.ports)) (sym air) ports_told);
+    reports = subst (λ (ports : List Port). TellsMore a c (map attached_report ports)) (sym (take-length setup.ports))
+        (subst (λ (now : Option (List Report)). TellsMore a now (map attached_report setup.ports)) (sym air) ports_told);
     attached = attached;
   }
 
@@ -138,7 +138,7 @@ module _ (input : List ℕ) (setup : RunSetup) (stated : States input setup) (mo
   stops_short s = In_turns setup s.moments s.reports stated (is_told s.moments s.reports s.clock_tells s.air_tells) s.within s.stops
 
   pub ends_behind : (o o' : Option (List ℕ)) (f f' af af' : ℕ) (r : Result (Unit {0}) RunFault) →
-      RouterEnds setup most k l b c o o' f f' r → Ends input most (told k l a c n) o o' f f' af af' r
+      RouterEnds setup most k l b c o o' f f' r → EndsRun input most (told k l a c n) o o' f f' af af' r
   unfolding whole_run
   ends_behind o o' f f' af af' (Ok u) (text, finishes, stands) = (whole_run text finishes, stands)
   ends_behind o o' f f' af af' (Err (fault.Refused number key)) h = absurd h
@@ -150,8 +150,8 @@ module _ (input : List ℕ) (setup : RunSetup) (stated : States input setup) (mo
 
 -- an attach failed
 pub attach_left : (input : List ℕ) (setup : RunSetup) (most : ℕ) (k : Option (List ℕ)) (a b : Option (List Report)) (o : Option (List ℕ)) (n f af af' i : ℕ) →
-    States input setup → i < length setup.ports → n ≡ i → Tells a b (map attached_report (take i setup.ports)) → RoseByOne af af' →
-    Ends input most (told k k a b n) o o f f af af' (Err (fault.Attach i))
+    StatesSetup input setup → i < length setup.ports → n ≡ i → TellsMore a b (map attached_report (take i setup.ports)) → RoseByOne af af' →
+    EndsRun input most (told k k a b n) o o f f af af' (Err (fault.Attach i))
 attach_left input setup most k a b o n f af af' i stated fewer number tells rose = (
   record { setup = setup; stated = stated; fewer = fewer; is_attached = record { moments = refl; reports = tells; attached = number } },
   rose,
@@ -160,16 +160,16 @@ attach_left input setup most k a b o n f af af' i stated fewer number tells rose
 
 -- By the answer
 
-module _ (input : List ℕ) (most : ℕ) (t : Told) (o o' : Option (List ℕ)) (f f' af af' : ℕ) where
-  pub done_left : (r : Result (Unit {0}) RunFault) → Ends input most t o o' f f' af af' r → OnOk r ((w : WholeRun input most t) × Appends o o' w.text)
+module _ (input : List ℕ) (most : ℕ) (t : ToldInCall) (o o' : Option (List ℕ)) (f f' af af' : ℕ) where
+  pub done_left : (r : Result (Unit {0}) RunFault) → EndsRun input most t o o' f f' af af' r → OnOk r ((w : WholeRouterRun input most t) × Appends o o' w.text)
   done_left (Ok u) h = h
   done_left (Err e) h = tt
 
-  pub by_answer : (r s : Result (Unit {0}) RunFault) → r ≡ s → Ends input most t o o' f f' af af' r → Ends input most t o o' f f' af af' s
-  by_answer r s e h = subst (λ (x : Result (Unit {0}) RunFault). Ends input most t o o' f f' af af' x) e h
+  pub by_answer : (r s : Result (Unit {0}) RunFault) → r ≡ s → EndsRun input most t o o' f f' af af' r → EndsRun input most t o o' f f' af af' s
+  by_answer r s e h = subst (λ (x : Result (Unit {0}) RunFault). EndsRun input most t o o' f f' af af' x) e h
 
-  pub completes : (r : Result (Unit {0}) RunFault) → Ends input most t o o' f f' af af' r → first (run_refusals input) ≡ None →
-      ((setup : RunSetup) → States input setup → t.attached' ≡ length setup.ports) → (Rose f f' → ⊥) → Completes r
+  pub completes : (r : Result (Unit {0}) RunFault) → EndsRun input most t o o' f f' af af' r → first (run_refusals input) ≡ None →
+      ((setup : RunSetup) → StatesSetup input setup → t.attached' ≡ length setup.ports) → (Rose f f' → ⊥) → Completes r
   completes (Ok u) h clear attached whole = tt
   completes (Err (fault.Refused number key)) (refused, untold, keeps) clear attached whole = absurd cc
   completes (Err (fault.Attach interface)) (fails, rose, keeps) clear attached whole =

@@ -5,8 +5,8 @@ ghost use Rattle.mesh_atoms.specs.declared.settings.RunSetup.{RunSetup};
 ghost use Rattle.mesh_config.specs.RunSettings.{run_refusals, FirstRunRefusal};
 ghost use Rattle.mesh_io.specs.Faults.{Rose, RoseByOne};
 ghost use Rattle.mesh_run.specs.Attaching.{AttachesAtOnce};
-ghost use Rattle.mesh_run.specs.Ends.{Ends, Completes};
-ghost use Rattle.mesh_run.specs.Run.{States, told, IsUntold, WholeRun, SpendsTurns, FailsToAttach, RunsShort};
+ghost use Rattle.mesh_run.specs.Ends.{EndsRun, Completes};
+ghost use Rattle.mesh_run.specs.Run.{StatesSetup, told, IsUntold, WholeRouterRun, SpendsTurns, FailsToAttach, RunsShort};
 ghost use Rattle.mesh_run.specs.declared.fault.RunFault.TheVariants.{Refused, Attach, Turns, Stopped};
 ghost use Rattle.mesh_config.specs.Keys.Faults.{first};
 
@@ -28,7 +28,7 @@ fn run_stated<M: Machine, O: Sink, A: Air, C: Clock>(
     clock: &mut C,
 ) -> Result<(), RunFault>
     requires { A.attached air.old ≡ 0 }
-    ensures ends { Ends input.now turns
+    ensures ends { EndsRun input.now turns
         (told (C.moments clock.old) (C.moments clock.new) (A.reports air.old) (A.reports air.new) (A.attached air.new))
         (O.content out.old) (O.content out.new) (O.faults out.old) (O.faults out.new) (A.faults air.old) (A.faults air.new) result }
     ensures first_try { AttachesAtOnce A A.attached A.faults air.old air.new }
@@ -56,7 +56,7 @@ pub fn run<B: Bases, O: Sink, A: Air, C: Clock>(
     requires { A.attached air.old ≡ 0 }
 
     // The text of a run, by the moments that the clock told and the reports of the air, was put on `out`.
-    ensures done { OnOk result ((r : WholeRun input.now turns
+    ensures done { OnOk result ((r : WholeRouterRun input.now turns
         (told (C.moments clock.old) (C.moments clock.new) (A.reports air.old) (A.reports air.new) (A.attached air.new)))
         × Appends (O.content out.old) (O.content out.new) r.text) }
 
@@ -81,7 +81,7 @@ pub fn run<B: Bases, O: Sink, A: Air, C: Clock>(
 
     // The sink counted a fault; a front of the text of a run stands on `out`.
     ensures write { result ≡ Err (Stopped Stop.Write) → Rose (O.faults out.old) (O.faults out.new)
-        × (r : WholeRun input.now turns
+        × (r : WholeRouterRun input.now turns
         (told (C.moments clock.old) (C.moments clock.new) (A.reports air.old) (A.reports air.new) (A.attached air.new)))
         × (n : ℕ) × Appends (O.content out.old) (O.content out.new) (take n r.text) }
 
@@ -93,7 +93,7 @@ pub fn run<B: Bases, O: Sink, A: Air, C: Clock>(
     // Where the input states a setup, all its ports are attached, and the sink counts no fault, it is done, or its turns are, or memory
     // was wanting.
     ensures complete { first (run_refusals input.now) ≡ None
-        → ((setup : RunSetup) → States input.now setup → A.attached air.new ≡ length setup.ports)
+        → ((setup : RunSetup) → StatesSetup input.now setup → A.attached air.new ≡ length setup.ports)
         → (Rose (O.faults out.old) (O.faults out.new) → ⊥) → Completes result }
     ensures later_out { O.faults out.old ≤ O.faults out.new }
     ensures later_air { A.faults air.old ≤ A.faults air.new }

@@ -2,8 +2,8 @@
 ghost use Rattle.std.specs.Prelude.{◌≡◌, ◌≤◌, ℕ, List, length, IfOk};
 ghost use Rattle.mesh_texts.specs.machine.Machine.{IsOpening};
 ghost use Rattle.mesh_run.specs.Attaching.{AttachesAtOnce};
-ghost use Rattle.mesh_run.specs.Ends.{RouterEnds, Ends};
-ghost use Rattle.mesh_run.specs.Run.{States, told};
+ghost use Rattle.mesh_run.specs.Ends.{RouterEnds, EndsRun};
+ghost use Rattle.mesh_run.specs.Run.{StatesSetup, told};
 
 use crate::fault::RunFault;
 use crate::report::tell_report;
@@ -89,7 +89,7 @@ pub fn run_setup<M: Machine, O: Sink, A: Air, C: Clock>(
     clock: &mut C,
 ) -> Result<(), RunFault>
     requires { A.attached air.old ≡ 0 }
-    ensures ends { (input : List ℕ) → States input setup.now → Ends input turns
+    ensures ends { (input : List ℕ) → StatesSetup input setup.now → EndsRun input turns
         (told (C.moments clock.old) (C.moments clock.new) (A.reports air.old) (A.reports air.new) (A.attached air.new))
         (O.content out.old) (O.content out.new) (O.faults out.old) (O.faults out.new) (A.faults air.old) (A.faults air.new) result }
     ensures first_try { AttachesAtOnce A A.attached A.faults air.old air.new }

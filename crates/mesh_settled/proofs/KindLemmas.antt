@@ -11,7 +11,7 @@ use Rattle.mesh_settled.specs.declared.gaps.found.Found.{Found}
 use Rattle.mesh_atoms.specs.declared.gap.Gap.{Gap}
 use Rattle.mesh_atoms.specs.declared.gap.GapKey.{GapKey}
 use Rattle.mesh_atoms.specs.declared.gap.GapKey.TheVariants.{Link, Neighbour, TwoHop, Router, Address, Network}
-use Rattle.mesh_settled.specs.Gaps.Found.{IsLeast}
+use Rattle.mesh_settled.specs.Gaps.Found.{IsLeastGap}
 use Rattle.mesh_settled.specs.Gaps.Gaps.{Look, look, AreSame, HasNoGap, IsFirstGap, rank_of}
 use Rattle.mesh_settled.specs.Gaps.Network.{IsNetwork}
 use Rattle.mesh_settled.specs.Kinds.{IsTopologyKey, IsFirstFound, IsFirstAt, IsFirstOf, reported}
@@ -47,12 +47,12 @@ which (Router from to) = inr (inr (inr (inl (from, host to, refl))))
 which (Address from a) = inr (inr (inr (inr (inl (from, host a, refl)))))
 which (Network from net) = inr (inr (inr (inr (inr (from, net, refl)))))
 
-pub none_found : (l : Look) (P : GapKey → Type 0) (o : Option Found) → false ≡ is_some o → IsLeast l P o → IsLeast l P None
+pub none_found : (l : Look) (P : GapKey → Type 0) (o : Option Found) → false ≡ is_some o → IsLeastGap l P o → IsLeastGap l P None
 none_found l P None none least = least
 none_found l P (Some f) none least = absurd (false≢true none)
 
 -- links come first
-pub first_link : (l : Look) (o : Option Found) → true ≡ is_some o → IsLeast l IsLinkKey o → IsFirstFound l o
+pub first_link : (l : Look) (o : Option Found) → true ≡ is_some o → IsLeastGap l IsLinkKey o → IsFirstFound l o
 first_link l None some least = absurd (false≢true (sym some))
 first_link l (Some f) some least =
     let link : (rank_of f.key).kind ≡ 0 = ap (λ (k : GapKey). (rank_of k).kind) least.0.2 in (
@@ -63,7 +63,7 @@ first_link l (Some f) some least =
       ],
     )
 
-pub first_rest : (l : Look) (o : Option Found) → IsLeast l IsLinkKey None → IsLeast l IsRest o → IsFirstFound l o
+pub first_rest : (l : Look) (o : Option Found) → IsLeastGap l IsLinkKey None → IsLeastGap l IsRest o → IsFirstFound l o
 first_rest l None links least = λ k. elim (which k) [ inl link ↦ links k link | inr rest ↦ least k rest ]
 first_rest l (Some f) links least = (least.1, λ k first. elim (which k) [ inl link ↦ links k link | inr rest ↦ least.2 k rest first ])
 

@@ -6,7 +6,7 @@ use Rattle.mesh_atoms.specs.State.{State}
 use Rattle.mesh_settled.specs.declared.gaps.found.Found.{Found}
 use Rattle.mesh_atoms.specs.declared.gap.Gap.{Gap}
 use Rattle.mesh_atoms.specs.declared.gap.GapKey.{GapKey}
-use Rattle.mesh_settled.specs.declared.gaps.topics.Topic.TheVariants.{Routers, Addresses, Networks}
+use Rattle.mesh_settled.specs.declared.gaps.topics.TopologyKind.TheVariants.{Routers, Addresses, Networks}
 use Rattle.mesh_settled.specs.Gaps.Found.{IsGap}
 use Rattle.mesh_settled.specs.Gaps.Gaps.{Look, look, AreSame, HasNoGap, IsFirstGap, rank_of, ranks_before, gap_kind}
 use Rattle.mesh_settled.specs.Gaps.Topics.{IsTopicKey}

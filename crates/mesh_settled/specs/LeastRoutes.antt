@@ -3,7 +3,7 @@ use Rattle.std.specs.Prelude.{ℕ, ◌↔◌, List, Contains}
 use Rattle.mesh_atoms.specs.declared.addr.NetAddr.{NetAddr}
 use Rattle.mesh_atoms.specs.declared.graphs.Route.{Route}
 use Rattle.mesh_atoms.specs.declared.settings.Scenario.{Scenario}
-use Rattle.mesh_atoms.specs.Radio.{Hop, Willing, RadioLeast}
+use Rattle.mesh_atoms.specs.Radio.{HopCosts, IsWillingRouter, RadioLeast}
 use Rattle.mesh_atoms.specs.Settled.{At}
 use Rattle.mesh_atoms.specs.State.{State}
 use Rattle.mesh_atoms.specs.Walk.{LeastWilling}
@@ -18,5 +18,5 @@ AreLeastRoutes s states = (x : ℕ) (p : State) → At states x p → (dest : Ne
 abbrev pub NextHopsLeadOn : Scenario → List State → Type 0
 NextHopsLeadOn s states =
     (x : ℕ) (p : State) → At states x p → (row : Route) → Contains p.routes row →
-    (n near : ℕ) × Hop s x n near × LeastWilling (Hop s) (Willing s) x n near × HopsTo s states x row.iface n row.next near
+    (n near : ℕ) × HopCosts s x n near × LeastWilling (HopCosts s) (IsWillingRouter s) x n near × HopsTo s states x row.iface n row.next near
     × LeadsOn s states row.dest n near row.metric

@@ -18,6 +18,6 @@ pub use crate::gaps::joints::router_at;
 pub use crate::gaps::law::{gaps_differ, no_gap_is_settled};
 pub use crate::gaps::links::link_gap;
 pub use crate::gaps::neighbours::neighbour_gap;
-pub use crate::gaps::site::Site;
-pub use crate::gaps::topics::{Topic, topology_gap};
+pub use crate::gaps::site::RouterAt;
+pub use crate::gaps::topics::{TopologyKind, topology_gap};
 pub use crate::gaps::two_hops::two_hop_gap;

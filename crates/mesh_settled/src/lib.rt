@@ -6,8 +6,8 @@ mod law;
 mod report;
 
 pub use gaps::{
-    Found, Site, Topic, gaps_differ, lesser, link_gap, neighbour_gap, no_gap_is_settled, router_at,
-    topology_gap, two_hop_gap,
+    Found, RouterAt, TopologyKind, gaps_differ, lesser, link_gap, neighbour_gap, no_gap_is_settled,
+    router_at, topology_gap, two_hop_gap,
 };
 pub use law::settled_routers_lead;
 pub use mesh_atoms::{Gap, GapKey, GapKind, GapValue};

@@ -1,7 +1,7 @@
 //! Whether a network is settled.
 ghost use Rattle.std.specs.Prelude.{◌≡◌, ◌≢◌, ◌↔◌, map, IfSome, IsNone};
 ghost use Rattle.mesh_atoms.specs.Settled.{Settled};
-ghost use Rattle.mesh_settled.specs.Gaps.Found.{IsLeast};
+ghost use Rattle.mesh_settled.specs.Gaps.Found.{IsLeastGap};
 ghost use Rattle.mesh_settled.specs.Gaps.Gaps.{gap_kind, IsFirstGap};
 ghost use Rattle.mesh_settled.specs.Gaps.Network.{IsNetwork};
 ghost use Rattle.mesh_settled.specs.LeastRoutes.{AreLeastRoutes, NextHopsLeadOn};
@@ -9,25 +9,26 @@ ghost use Rattle.mesh_settled.specs.Kinds.{IsTopologyKey, IsFirstFound, IsFirstA
 ghost use Rattle.mesh_settled.specs.Gaps.Site.{seen, IsSite};
 
 use crate::gaps::{
-    Found, Site, Topic, lesser, link_gap, neighbour_gap, router_at, topology_gap, two_hop_gap,
+    Found, RouterAt, TopologyKind, lesser, link_gap, neighbour_gap, router_at, topology_gap,
+    two_hop_gap,
 };
 use mesh_atoms::{Gap, GapKey, GapKind, RadioGraph, Scenario};
 use mesh_machine::RouterView;
 
 // The least gap among the topology tuples of all kinds.
-fn topology_gaps<R: RouterView>(site: &Site<'_, R>) -> Option<Found>
+fn topology_gaps<R: RouterView>(site: &RouterAt<'_, R>) -> Option<Found>
     requires { IsSite R.state site.now }
-    ensures { IsLeast (seen R.state site.entry.now) IsTopologyKey result }
+    ensures { IsLeastGap (seen R.state site.entry.now) IsTopologyKey result }
 {
-    let routers = topology_gap(site, Topic::Routers);
-    let addresses = topology_gap(site, Topic::Addresses);
-    let networks = topology_gap(site, Topic::Networks);
+    let routers = topology_gap(site, TopologyKind::Routers);
+    let addresses = topology_gap(site, TopologyKind::Addresses);
+    let networks = topology_gap(site, TopologyKind::Networks);
     let rest = lesser(addresses, networks);
     lesser(routers, rest)
 }
 
 // The first gap of a router. Its 2-hop tuples are by links, so they are looked at where no link has a gap.
-fn first_gap<R: RouterView>(site: &Site<'_, R>) -> Option<Found>
+fn first_gap<R: RouterView>(site: &RouterAt<'_, R>) -> Option<Found>
     requires { IsSite R.state site.now }
     ensures { IsFirstFound (seen R.state site.entry.now) result }
 {
@@ -83,7 +84,7 @@ fn gap_at<R: RouterView>(
 {
     match router_at(routers, x) {
         Some(router) => {
-            let site = Site {
+            let site = RouterAt {
                 scenario,
                 graph,
                 routers,

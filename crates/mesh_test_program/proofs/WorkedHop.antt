@@ -8,7 +8,7 @@ use Rattle.mesh_packet.specs.Grammar.{SpellsMessage}
 use Rattle.mesh_packet.specs.Reading.{message_at, body_at, head_at, if_flagged, address_at}
 use Rattle.mesh_packet.proofs.Messages.{message_reader}
 use Rattle.mesh_tlv.specs.Reading.{flags_at, extension_at, index_octet_at, indexes_at, value_at, tlv_of_at, tlv_at, range_at, block_at}
-use Rattle.mesh_tlv.specs.Items.{items_at, FirstFault}
+use Rattle.mesh_tlv.specs.Items.{items_at, FirstFaultAt}
 use Rattle.mesh_tlv.proofs.Items.{Took}
 use Rattle.mesh_packet.specs.Grammar.{MessageFault}
 use Rattle.mesh_wire.specs.Rehop.{HasHop}
@@ -34,7 +34,7 @@ read = refl
 
 spells : SpellsMessage message octets
 spells =
-    let took : Took octets 0 22 SpellsMessage (message, 22) = subst (λ r. MatchResult r (Took octets 0 22 SpellsMessage) (FirstFault MessageFault octets 0 22)) read (message_reader.takes octets 0 22 (lit< tt) (lit≤ tt)) in
+    let took : Took octets 0 22 SpellsMessage (message, 22) = subst (λ r. MatchResult r (Took octets 0 22 SpellsMessage) (FirstFaultAt MessageFault octets 0 22)) read (message_reader.takes octets 0 22 (lit< tt) (lit≤ tt)) in
     let parts = took.2.parts in
     let whole : octets ≡ took.0 = parts ∙ append-nil took.0 in
     subst (λ (s : List ℕ). SpellsMessage message s) (sym whole) took.1

@@ -12,7 +12,7 @@ use Rattle.mesh_settled.specs.machine.declared.frame.Frame.{Frame}
 use Rattle.mesh_settled.specs.machine.Machine.{Event, Step, Heard_frame, Ticked, Steps, No_events, First_event, Run}
 use Rattle.mesh_settled.proofs.machine.Effects.{hears_settings}
 use Rattle.mesh_atoms.specs.declared.network.NetEvent.{NetEvent}
-use Rattle.mesh_settled.specs.machine.Net.{Net, NetStep, By_delivery, By_tick, By_last_tick, Moves, event_of, frames_of}
+use Rattle.mesh_settled.specs.machine.Net.{NetState, NetStep, By_delivery, By_tick, By_last_tick, Moves, event_of, frames_of}
 use Rattle.mesh_settled.specs.machine.Traffic.{Traffic, with_heard}
 use Rattle.mesh_settled.specs.machine.NetRun.{NetRun, events_at}
 use Rattle.mesh_settled.proofs.paths.Scenarios.{sound_scenario}
@@ -39,16 +39,16 @@ run_settings settings events sent new (opening, is, steps) = steps_settings open
 
 -- No router comes or goes
 
-moved_count : (old new : Net) (event : NetEvent) (before : Traffic) → Moves old event before new → length new.routers ≡ length old.routers
+moved_count : (old new : NetState) (event : NetEvent) (before : Traffic) → Moves old event before new → length new.routers ≡ length old.routers
 moved_count old new event before moves = ap length moves.routers ∙ length-set old.routers event.router moves.is
 
-step_count : (old new : Net) (event : NetEvent) → NetStep old event new → length new.routers ≡ length old.routers
+step_count : (old new : NetState) (event : NetEvent) → NetStep old event new → length new.routers ≡ length old.routers
 step_count old new event (By_delivery d) = moved_count old new event (with_heard old.traffic d.others) d.moves
 step_count old new event (By_tick t) = moved_count old new event old.traffic t.moves
 step_count old new event (By_last_tick t) = moved_count old new event old.traffic t.moves
 
-run_count : (old : Net) (events : List NetEvent) (new : Net) → NetRun old events new → length new.routers ≡ length old.routers
-run_count old [] new is = ap (λ (n : Net). length n.routers) is
+run_count : (old : NetState) (events : List NetEvent) (new : NetState) → NetRun old events new → length new.routers ≡ length old.routers
+run_count old [] new is = ap (λ (n : NetState). length n.routers) is
 run_count old (event ∷ events) new (mid, step, run) = run_count mid events new run ∙ step_count old mid event step
 
 -- The end of a run

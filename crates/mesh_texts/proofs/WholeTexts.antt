@@ -13,7 +13,7 @@ use Rattle.mesh_atoms.specs.declared.settings.Scenario.{Scenario}
 use Rattle.mesh_atoms.specs.State.{State}
 use Rattle.mesh_atoms.specs.declared.network.Emission.{Emission}
 use Rattle.mesh_atoms.specs.declared.network.NetEvent.{NetEvent}
-use Rattle.mesh_settled.specs.machine.Net.{Net}
+use Rattle.mesh_settled.specs.machine.Net.{NetState}
 use Rattle.mesh_atoms.specs.declared.gap.Gap.{Gap}
 use Rattle.mesh_texts.specs.Lines.Marks.{face_name}
 use Rattle.mesh_texts.specs.Lines.Lines.{router_line, link_line, neighbour_line, held_line, flooding_line, routing_line, row_line}
@@ -94,7 +94,7 @@ told_plain : (s : Scenario) (event : NetEvent) (after : State) (text : List ℕ)
 told_plain s event after text (Of_taken packet e) = plain_is text (event_text s event after) e (event_plain s event after)
 told_plain s event after text (Of_refused refused e) = plain_is text (event_line event after.settings) e (event_line_plain event after.settings)
 
-traces_plain : (old : Net) (events : List NetEvent) (new : Net) (text : List ℕ) → Traces old events new text → Plain text
+traces_plain : (old : NetState) (events : List NetEvent) (new : NetState) (text : List ℕ) → Traces old events new text → Plain text
 traces_plain old [] new text t = plain_is text [] t.1 plain_none
 traces_plain old (event ∷ events) new text (mid, step, first, rest, traced, more, e) =
     plain_is text (first ++ rest) e (plain_both first rest (told_plain mid.scenario event traced.0 first traced.2) (traces_plain mid events new rest more))

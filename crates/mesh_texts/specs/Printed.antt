@@ -9,7 +9,7 @@ use Rattle.mesh_atoms.specs.declared.settings.RouterSettings.{RouterSettings}
 use Rattle.mesh_atoms.specs.declared.settings.Interface.{Interface}
 use Rattle.mesh_atoms.specs.Base.{host}
 use Rattle.mesh_atoms.specs.Codes.Codes.{metric_value}
-use Rattle.mesh_atoms.specs.Radio.{Router, Joins, AddressOf, Attaches, Hop, Willing}
+use Rattle.mesh_atoms.specs.Radio.{Router, Joins, AddressOf, Attaches, HopCosts, IsWillingRouter}
 use Rattle.mesh_atoms.specs.State.{HasAddressOn}
 use Rattle.mesh_atoms.specs.Walk.{LeastWilling}
 use Rattle.mesh_texts.specs.Lines.Lines.{route_line}
@@ -87,8 +87,8 @@ pub record NamesHop (s : Scenario) (x : ℕ) (face : List ℕ) (next : Addr4) (n
   pub back : Metric
   pub joins : Joins s x i n j there back
   pub value : metric_value there ≡ near
-  pub least : Hop s x n near
-  pub cheapest : LeastWilling (Hop s) (Willing s) x n near
+  pub least : HopCosts s x n near
+  pub cheapest : LeastWilling (HopCosts s) (IsWillingRouter s) x n near
 
 -- at router n, to which the metric is `near`: the destination is its address, at a route of that metric; or it prints a route
 -- for what is left of the metric; or it attaches the network, and delivers there

@@ -7,7 +7,7 @@ use Rattle.mesh_atoms.specs.Settled.{Settled}
 use Rattle.mesh_atoms.specs.State.{State}
 use Rattle.mesh_settled.specs.machine.Machine.{Run}
 use Rattle.mesh_atoms.specs.declared.network.NetEvent.{NetEvent}
-use Rattle.mesh_settled.specs.machine.Net.{Net, NetStep, event_of, frames_of}
+use Rattle.mesh_settled.specs.machine.Net.{NetState, NetStep, event_of, frames_of}
 use Rattle.mesh_settled.specs.machine.NetRun.{IsOpeningNet, IsOver, NetRun, events_at}
 use Rattle.mesh_atoms.specs.declared.gap.Gap.{Gap}
 use Rattle.mesh_texts.specs.Trace.{IsEventText}
@@ -17,24 +17,24 @@ use Rattle.mesh_texts.specs.Printed.{SaysSettled}
 -- The trace
 
 -- the text of an event after which the network is this
-abbrev pub IsTraced : Net → NetEvent → List ℕ → Type 0
+abbrev pub IsTraced : NetState → NetEvent → List ℕ → Type 0
 IsTraced net event text =
     (after : State) × (slice_get net.routers event.router ≡ Some after) × IsEventText net.scenario event after text
 
 -- a run of a network, and its trace: the text of each event, in order
-abbrev pub Traces : Net → List NetEvent → Net → List ℕ → Type 0
+abbrev pub Traces : NetState → List NetEvent → NetState → List ℕ → Type 0
 Traces old [] new text = (new ≡ old) × (text ≡ [])
 Traces old (event ∷ events) new text =
-    (mid : Net) × NetStep old event mid × (first : List ℕ) × (rest : List ℕ) × IsTraced mid event first
+    (mid : NetState) × NetStep old event mid × (first : List ℕ) × (rest : List ℕ) × IsTraced mid event first
     × Traces mid events new rest × (text ≡ first ++ rest)
 
 -- A whole run
 
 -- a run of the network of a scenario from its opening to its end, the last ticks included
 pub record WholeRun (s : Scenario) : Type 0 where
-  pub opening : Net
+  pub opening : NetState
   pub events : List NetEvent
-  pub final : Net
+  pub final : NetState
   pub is_opening : IsOpeningNet s opening
   pub runs : NetRun opening events final
   pub over : IsOver final
@@ -70,9 +70,9 @@ pub record IsRunText (s : Scenario) (trace : Bool) (run : WholeRun s) (text : Li
 
 -- some first events of the network of a scenario, from its opening on, none left out
 pub record FirstEvents (s : Scenario) : Type 0 where
-  pub opening : Net
+  pub opening : NetState
   pub events : List NetEvent
-  pub stopped : Net
+  pub stopped : NetState
   pub is_opening : IsOpeningNet s opening
   pub runs : NetRun opening events stopped
 

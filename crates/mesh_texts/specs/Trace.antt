@@ -83,11 +83,11 @@ event_text s event after =
     event_line event after.settings ++ relays_lines after ++ flat_map (sent_lines s event.moment after.settings) event.sent
 
 -- the frame that is heard, if one is, spells a packet, so that it is taken
-abbrev pub IsTaken : NetEvent → Type 0
-IsTaken event = IfSome event.heard (λ h. IsPacket h.2)
+abbrev pub IsFrameTaken : NetEvent → Type 0
+IsFrameTaken event = IfSome event.heard (λ h. IsPacket h.2)
 
 -- the frame that is heard has a fault, so that it is refused
-pub record IsRefused (event : NetEvent) : Type 0 where
+pub record IsFrameRefused (event : NetEvent) : Type 0 where
   pub iface : ℕ
   pub sender : Addr4
   pub frame : List ℕ
@@ -98,5 +98,5 @@ pub record IsRefused (event : NetEvent) : Type 0 where
 
 -- the text of an event: a refused frame has its own line alone, as it changes nothing
 pub data IsEventText (s : Scenario) (event : NetEvent) (after : State) (text : List ℕ) : Type 0 where
-  Of_taken : IsTaken event → text ≡ event_text s event after → IsEventText s event after text
-  Of_refused : IsRefused event → text ≡ event_line event after.settings → IsEventText s event after text
+  Of_taken : IsFrameTaken event → text ≡ event_text s event after → IsEventText s event after text
+  Of_refused : IsFrameRefused event → text ≡ event_line event after.settings → IsEventText s event after text

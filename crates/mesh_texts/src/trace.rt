@@ -5,7 +5,7 @@ ghost use Rattle.mesh_settled.specs.machine.packet.Least.{Wrote};
 ghost use Rattle.mesh_settled.specs.machine.tlv.Least.{Grows};
 ghost use Rattle.mesh_settled.specs.machine.Names.{router_name};
 ghost use Rattle.mesh_texts.specs.Lines.Marks.{line_of, face_name, relays_text, faces_of};
-ghost use Rattle.mesh_texts.specs.Trace.{tick_line, heard_line, event_line, flooding_relays_line, routing_relays_line, relays_lines, sent_line, loss_line, arc_line, lost_line, sent_lines, event_text, IsTaken, IsEventText};
+ghost use Rattle.mesh_texts.specs.Trace.{tick_line, heard_line, event_line, flooding_relays_line, routing_relays_line, relays_lines, sent_line, loss_line, arc_line, lost_line, sent_lines, event_text, IsFrameTaken, IsEventText};
 
 use crate::lines::{Piece, face_name, faces_of, put_line, relays_of};
 use mesh_atoms::{
@@ -374,7 +374,7 @@ pub fn put_event<R: RouterView>(
     event: &NetEvent,
     router: &R,
 ) -> Result<(), AllocError>
-    requires { IsTaken event.now }
+    requires { IsFrameTaken event.now }
     ensures ok { OnOk result (Wrote (IsEventText scenario.now event.now (R.state router.now)) out.old out.new) }
     ensures kept { Grows out.old out.new }
 {

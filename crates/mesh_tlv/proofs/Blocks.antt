@@ -7,7 +7,7 @@ use Rattle.mesh_atoms.specs.declared.refusal.Refusal.{Refusal}
 use Rattle.mesh_atoms.specs.Grammar.{SpellsShort}
 use Rattle.mesh_atoms.specs.Reading.{Reading, refuse, short_at}
 use Rattle.mesh_atoms.proofs.Reading.{meets_bind, meets_if, Takes, takes_both, takes_range, range_length, text_is, short_takes, short_again, short_cut, two_long}
-use Rattle.mesh_tlv.specs.Items.{SpellsItems, ItemsFault, FirstFault, items_at}
+use Rattle.mesh_tlv.specs.Items.{SpellsItems, ItemsFault, FirstFaultAt, items_at}
 use Rattle.mesh_tlv.specs.Reading.{range_at, block_at}
 use Rattle.mesh_tlv.specs.Grammar.{SpellsTlvs, TlvsFault, block_cut, block_long, in_block}
 use Rattle.mesh_tlv.proofs.Items.{IsReader, ItemsTook, items_take, items_again, items_fault, meets_weaker}
@@ -19,11 +19,11 @@ BlockTook s at end Spells x = (at ≤ x.1) × (x.1 ≤ end) × SpellsTlvs Spells
 module _ {A : Type 0} (one : List ℕ → ℕ → ℕ → Reading A) (Spells : A → List ℕ → Type 0) (Fault : List ℕ → ℕ → ℕ → Type 0) (reader : IsReader one Spells Fault) where
   -- ---- what is read is spelled so, and what is refused has its first fault there
 
-  range_takes : (s : List ℕ) (at end : ℕ) → at ≤ end → end ≤ length s → MatchResult (range_at s at end) (λ x. (len : List ℕ) × SpellsShort (x.1 - x.0) len × Takes s at len x.0 end × (x.0 ≤ x.1) × (x.1 ≤ end)) (FirstFault (TlvsFault Spells Fault) s at end)
+  range_takes : (s : List ℕ) (at end : ℕ) → at ≤ end → end ≤ length s → MatchResult (range_at s at end) (λ x. (len : List ℕ) × SpellsShort (x.1 - x.0) len × Takes s at len x.0 end × (x.0 ≤ x.1) × (x.1 ≤ end)) (FirstFaultAt (TlvsFault Spells Fault) s at end)
   unfolding range_at
   range_takes s at end le fits =
       let P = λ (x : ℕ × ℕ). (len : List ℕ) × SpellsShort (x.1 - x.0) len × Takes s at len x.0 end × (x.0 ≤ x.1) × (x.1 ≤ end) in
-      let Q = FirstFault (TlvsFault Spells Fault) s at end in
+      let Q = FirstFaultAt (TlvsFault Spells Fault) s at end in
       let here : at ≡ at + 0 = omega arith in
       meets_bind (short_at 1 s at end) _ _ P _ Q (short_takes 1 s at end fits)
       (λ e h. (0, ap (λ (r : Refusal). r.place) h.0 ∙ here, subst (λ (n : ℕ). TlvsFault Spells Fault (slice_range s at end) 0 n) (sym (ap (λ (r : Refusal). r.reason) h.0)) (block_cut h.1)))
@@ -33,11 +33,11 @@ module _ {A : Type 0} (one : List ℕ → ℕ → ℕ → Reading A) (Spells : A
       let n : x.0 ≡ x.1 + x.0 - x.1 = omega arith in
       (t.0, subst (λ (k : ℕ). SpellsShort k t.0) n t.1, t.2, omega arith, omega (arith, ltb-false _ _ p, t.2.within))))
 
-  pub block_takes : (s : List ℕ) (at end : ℕ) → at ≤ end → end ≤ length s → MatchResult (block_at one s at end) (BlockTook s at end Spells) (FirstFault (TlvsFault Spells Fault) s at end)
+  pub block_takes : (s : List ℕ) (at end : ℕ) → at ≤ end → end ≤ length s → MatchResult (block_at one s at end) (BlockTook s at end Spells) (FirstFaultAt (TlvsFault Spells Fault) s at end)
   unfolding block_at
   block_takes s at end le fits =
       let P = BlockTook s at end Spells in
-      let Q = FirstFault (TlvsFault Spells Fault) s at end in
+      let Q = FirstFaultAt (TlvsFault Spells Fault) s at end in
       meets_bind (range_at s at end) _ _ P Q Q (range_takes s at end le fits) (λ e h. h)
       (λ range t.
       let start : ℕ = range.0 in
@@ -50,7 +50,7 @@ module _ {A : Type 0} (one : List ℕ → ℕ → ℕ → Reading A) (Spells : A
       let stopped : start + (stop - start) ≡ stop = omega (arith, t.3) in
       let taken = takes_both s at t.0 start (slice_range s start (start + (stop - start))) (start + (stop - start)) end t.2 (takes_range s start (stop - start) end (omega (arith, t.3, t.4)) fits) in
       let whole : slice_range s at end ≡ (t.0 ++ text) ++ slice_range s stop end = subst (λ (k : ℕ). slice_range s at end ≡ (t.0 ++ slice_range s start k) ++ slice_range s k end) stopped taken.parts in
-      meets_weaker (items_at (one s) (stop - start) start stop) (ItemsTook s start stop Spells) P (FirstFault (ItemsFault Spells Fault) s start stop) Q (items_take one Spells Fault reader (stop - start) s start stop t.3 within (omega arith))
+      meets_weaker (items_at (one s) (stop - start) start stop) (ItemsTook s start stop Spells) P (FirstFaultAt (ItemsFault Spells Fault) s start stop) Q (items_take one Spells Fault reader (stop - start) s start stop t.3 within (omega arith))
       (λ x u.
       let behind = text_is s at end (t.0 ++ text) (slice_range s stop end) le fits whole in
       let place : at + length (t.0 ++ text) ≡ x.1 = omega (arith, u.0, length-append t.0 text, size, t.2.len, t.3) in (
@@ -116,7 +116,7 @@ module _ {A : Type 0} (one : List ℕ → ℕ → ℕ → Reading A) (Spells : A
         sum,
       ) refl
 
-  pub block_refuses : (s : List ℕ) (at end : ℕ) (refusal : Refusal) → at ≤ end → end ≤ length s → FirstFault (TlvsFault Spells Fault) s at end refusal → block_at one s at end ≡ Err refusal
+  pub block_refuses : (s : List ℕ) (at end : ℕ) (refusal : Refusal) → at ≤ end → end ≤ length s → FirstFaultAt (TlvsFault Spells Fault) s at end refusal → block_at one s at end ≡ Err refusal
   block_refuses s at end refusal le fits h =
       block_fault s at end h.0 refusal.reason le fits h.2
       ∙ ap (λ (place : ℕ). refuse {A = List A × ℕ} place refusal.reason) (sym h.1)

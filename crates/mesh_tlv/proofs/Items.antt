@@ -6,7 +6,7 @@ use Rattle.std.proofs.lemmas.List.{length-append}
 use Rattle.mesh_atoms.specs.declared.refusal.Refusal.{Refusal}
 use Rattle.mesh_atoms.specs.Reading.{Reading, refuse}
 use Rattle.mesh_atoms.proofs.Reading.{meets_bind, meets_if, Takes, range_length, range_nil, text_is}
-use Rattle.mesh_tlv.specs.Items.{SpellsItems, ItemsFault, FirstFault, items_at}
+use Rattle.mesh_tlv.specs.Items.{SpellsItems, ItemsFault, FirstFaultAt, items_at}
 
 -- the same reading, and less of it
 pub meets_weaker : {A : Type 0} (r : Result A Refusal) (P P' : A → Type 0) (Q Q' : Refusal → Type 0) → MatchResult r P Q → ((x : A) → P x → P' x) → ((e : Refusal) → Q e → Q' e) → MatchResult r P' Q'
@@ -20,7 +20,7 @@ Took s at end Spells x = (text : List ℕ) × Spells x.0 text × Takes s at text
 -- What the reader of one item keeps: what it reads is spelled there, what it refuses has its first fault there, it reads
 -- again what is spelled, whatever follows, it refuses by the first fault, and no item is empty.
 pub record IsReader {A : Type 0} (one : List ℕ → ℕ → ℕ → Reading A) (Spells : A → List ℕ → Type 0) (Fault : List ℕ → ℕ → ℕ → Type 0) : Type 0 where
-  pub takes : (s : List ℕ) (at end : ℕ) → at < end → end ≤ length s → MatchResult (one s at end) (Took s at end Spells) (FirstFault Fault s at end)
+  pub takes : (s : List ℕ) (at end : ℕ) → at < end → end ≤ length s → MatchResult (one s at end) (Took s at end Spells) (FirstFaultAt Fault s at end)
   pub again : (s : List ℕ) (at end : ℕ) (x : A) (bytes rest : List ℕ) → at ≤ end → end ≤ length s → Spells x bytes → slice_range s at end ≡ bytes ++ rest → one s at end ≡ Ok (x, at + length bytes)
   pub fault_again : (s : List ℕ) (at end distance reason : ℕ) → at ≤ end → end ≤ length s → Fault (slice_range s at end) distance reason → one s at end ≡ refuse (at + distance) reason
   pub some : (x : A) (bytes : List ℕ) → Spells x bytes → 0 < length bytes
@@ -32,12 +32,12 @@ ItemsTook s at end Spells x = (x.1 ≡ end) × SpellsItems Spells x.0 (slice_ran
 module _ {A : Type 0} (one : List ℕ → ℕ → ℕ → Reading A) (Spells : A → List ℕ → Type 0) (Fault : List ℕ → ℕ → ℕ → Type 0) (reader : IsReader one Spells Fault) where
   -- ---- what is read is spelled so, and what is refused has its first fault there
 
-  pub items_take : (n : ℕ) (s : List ℕ) (at end : ℕ) → at ≤ end → end ≤ length s → end - at ≤ n → MatchResult (items_at (one s) n at end) (ItemsTook s at end Spells) (FirstFault (ItemsFault Spells Fault) s at end)
+  pub items_take : (n : ℕ) (s : List ℕ) (at end : ℕ) → at ≤ end → end ≤ length s → end - at ≤ n → MatchResult (items_at (one s) n at end) (ItemsTook s at end Spells) (FirstFaultAt (ItemsFault Spells Fault) s at end)
   unfolding items_at
   items_take zero s at end le fits fuel = let e : at ≡ end = omega arith in (e, range_nil s at end (omega arith))
   items_take (suc n) s at end le fits fuel =
       let P = ItemsTook s at end Spells in
-      let Q = FirstFault (ItemsFault Spells Fault) s at end in
+      let Q = FirstFaultAt (ItemsFault Spells Fault) s at end in
       meets_if (eqb at end) _ _ P Q
       (λ p. let e : at ≡ end = eqb-true _ _ p in (e, range_nil s at end (omega arith)))
       (λ p.

@@ -8,17 +8,17 @@ use Rattle.mesh_atoms.specs.Reading.{Reading, has, refuse, octet_at}
 use Rattle.mesh_atoms.proofs.Reading.{meets_bind, meets_if, Takes, takes_none, takes_both, takes_range, range_length, octet_takes, short_takes}
 use Rattle.mesh_tlv.specs.Reading.{is_sound, flags_at, extension_at, index_octet_at, indexes_at, length_at, value_at, part_count, tlv_of_at}
 use Rattle.mesh_tlv.specs.Grammar.{SpellsExtension, SpellsIndex, SpellsLength, SpellsValue, Divides, HasEqualParts, SpellsTlvOf, IsBroken, two_indexes, wide_nothing, multi_nothing, Opens, Extends, Indexes, IsCut, TlvFault, flags_cut, flags_broken, ext_cut, start_cut, start_high, stop_cut, stop_wrong, length_cut, length_uneven, value_cut}
-use Rattle.mesh_tlv.specs.Items.{FirstFault}
+use Rattle.mesh_tlv.specs.Items.{FirstFaultAt}
 use Rattle.mesh_tlv.proofs.Items.{Took}
 use Rattle.mesh_tlv.proofs.Flags.{not_false, not_not, broken_if, not_broken_if, taken_if}
 
 -- ---- field by field
 
-flags_takes : (barred count : ℕ) (s : List ℕ) (start at end kind : ℕ) → end ≤ length s → Takes s start (kind ∷ []) at end → MatchResult (flags_at barred s at end) (λ x. (IsBroken barred x.0 → ⊥) × Takes s at (x.0 ∷ []) x.1 end) (FirstFault (TlvFault barred count) s start end)
+flags_takes : (barred count : ℕ) (s : List ℕ) (start at end kind : ℕ) → end ≤ length s → Takes s start (kind ∷ []) at end → MatchResult (flags_at barred s at end) (λ x. (IsBroken barred x.0 → ⊥) × Takes s at (x.0 ∷ []) x.1 end) (FirstFaultAt (TlvFault barred count) s start end)
 unfolding flags_at
 flags_takes barred count s start at end kind fits t0 =
     let P = λ (x : ℕ × ℕ). (IsBroken barred x.0 → ⊥) × Takes s at (x.0 ∷ []) x.1 end in
-    let Q = FirstFault (TlvFault barred count) s start end in
+    let Q = FirstFaultAt (TlvFault barred count) s start end in
     meets_bind (octet_at 4 s at end) _ _ P _ Q (octet_takes 4 s at end fits)
     (λ e h. (1, ap (λ (r : Refusal). r.place) h.0 ∙ t0.len, subst (λ (n : ℕ). TlvFault barred count (slice_range s start end) 1 n) (sym (ap (λ (r : Refusal). r.reason) h.0)) (flags_cut kind (t0.parts ∙ ap (λ (l : List ℕ). kind ∷ l) h.1))))
     (λ x t1. meets_if (is_sound barred x.0) _ _ P Q
@@ -56,12 +56,12 @@ place_takes low count s at end fits =
       inside x t false false p q = (ltb-false _ _ p, leb-false _ _ q, t)
 
 module _ (barred count flags : ℕ) (s : List ℕ) (start at end : ℕ) (ext : List ℕ) (fits : end ≤ length s) (pos : 0 < count) (len : at ≡ start + (2 + length ext)) (extends : Extends barred (slice_range s start end) flags ext (slice_range s at end)) where
-  start_fault : (e : Refusal) → ((has flags 64 ≡ true) ⊎ (has flags 32 ≡ true)) → PlaceFault 0 count s at end e → FirstFault (TlvFault barred count) s start end e
+  start_fault : (e : Refusal) → ((has flags 64 ≡ true) ⊎ (has flags 32 ≡ true)) → PlaceFault 0 count s at end e → FirstFaultAt (TlvFault barred count) s start end e
   start_fault e some (place_cut h) = (2 + length ext, len, start_cut flags ext (subst (λ (l : List ℕ). Extends barred (slice_range s start end) flags ext l) h extends) some)
   start_fault e some (place_low x rest h lt) = absurd (omega arith)
   start_fault e some (place_high x rest h le) = (2 + length ext, len, start_high flags x ext rest (subst (λ (l : List ℕ). Extends barred (slice_range s start end) flags ext l) h extends) some le)
 
-  stop_fault : (e : Refusal) (first next : ℕ) → has flags 32 ≡ true → first < count → Takes s at (first ∷ []) next end → PlaceFault first count s next end e → FirstFault (TlvFault barred count) s start end e
+  stop_fault : (e : Refusal) (first next : ℕ) → has flags 32 ≡ true → first < count → Takes s at (first ∷ []) next end → PlaceFault first count s next end e → FirstFaultAt (TlvFault barred count) s start end e
   stop_fault e first next p lt t (place_cut h) = (
     3 + length ext,
     omega (arith, t.len),
@@ -78,11 +78,11 @@ module _ (barred count flags : ℕ) (s : List ℕ) (start at end : ℕ) (ext : L
     stop_wrong flags first x ext rest (subst (λ (l : List ℕ). Extends barred (slice_range s start end) flags ext l) (t.parts ∙ ap (λ (l : List ℕ). first ∷ l) h) extends) p lt (inr le),
   )
 
-  index_takes : at ≤ end → MatchResult (indexes_at flags count s at end) (Took s at end (λ (i : ℕ × ℕ). SpellsIndex (has flags 64) (has flags 32) count i.0 i.1)) (FirstFault (TlvFault barred count) s start end)
+  index_takes : at ≤ end → MatchResult (indexes_at flags count s at end) (Took s at end (λ (i : ℕ × ℕ). SpellsIndex (has flags 64) (has flags 32) count i.0 i.1)) (FirstFaultAt (TlvFault barred count) s start end)
   unfolding indexes_at
   index_takes le =
       let P = Took s at end (λ (i : ℕ × ℕ). SpellsIndex (has flags 64) (has flags 32) count i.0 i.1) in
-      let Q = FirstFault (TlvFault barred count) s start end in
+      let Q = FirstFaultAt (TlvFault barred count) s start end in
       meets_if (has flags 64) _ _ P Q
       (λ p. meets_bind (index_octet_at 0 count s at end) _ _ P _ Q (place_takes 0 count s at end fits) (λ e h. start_fault e (inl p) h)
       (λ x t. let r : has flags 32 ≡ false = not_true (has flags 32) (λ q. extends.opens.not_broken (two_indexes p q)) in (x.0 ∷ [], rw (p, r) (t.1, refl, refl), t.2)))
@@ -112,11 +112,11 @@ divided_if true first last n h = h
 divided_if false first last n h = omega arith
 
 module _ (barred count flags first last : ℕ) (s : List ℕ) (start at end : ℕ) (head : List ℕ) (fits : end ≤ length s) (len : at ≡ start + (2 + length head)) (indexes : Indexes barred count (slice_range s start end) flags first last head (slice_range s at end)) where
-  value_takes : at ≤ end → MatchResult (value_at flags (part_count (has flags 4) first last) s at end) (Took s at end (λ (v : Option (List ℕ)) text. SpellsValue (has flags 16) (has flags 8) v text × HasEqualParts (has flags 4) first last v)) (FirstFault (TlvFault barred count) s start end)
+  value_takes : at ≤ end → MatchResult (value_at flags (part_count (has flags 4) first last) s at end) (Took s at end (λ (v : Option (List ℕ)) text. SpellsValue (has flags 16) (has flags 8) v text × HasEqualParts (has flags 4) first last v)) (FirstFaultAt (TlvFault barred count) s start end)
   unfolding value_at
   value_takes le =
       let P = Took s at end (λ (v : Option (List ℕ)) text. SpellsValue (has flags 16) (has flags 8) v text × HasEqualParts (has flags 4) first last v) in
-      let Q = FirstFault (TlvFault barred count) s start end in
+      let Q = FirstFaultAt (TlvFault barred count) s start end in
       meets_if (has flags 16) _ _ P Q
       (λ p. meets_bind (length_at flags s at end) _ _ P _ Q (length_takes flags s at end fits)
       (λ e h. (
@@ -153,12 +153,12 @@ module _ (barred count flags first last : ℕ) (s : List ℕ) (start at end : �
       let multi : has flags 4 ≡ false = not_true (has flags 4) (λ q. indexes.extends.opens.not_broken (multi_nothing q p)) in
       ([], (rw (p, wide) refl, multi), takes_none s at end le))
 
-pub tlv_of_takes : (barred count : ℕ) (s : List ℕ) (at end : ℕ) → 0 < count → at < end → end ≤ length s → MatchResult (tlv_of_at barred count s at end) (Took s at end (SpellsTlvOf barred count)) (FirstFault (TlvFault barred count) s at end)
+pub tlv_of_takes : (barred count : ℕ) (s : List ℕ) (at end : ℕ) → 0 < count → at < end → end ≤ length s → MatchResult (tlv_of_at barred count s at end) (Took s at end (SpellsTlvOf barred count)) (FirstFaultAt (TlvFault barred count) s at end)
 unfolding tlv_of_at
 tlv_of_takes barred count s at end pos lt fits =
     let B : List ℕ = slice_range s at end in
     let P = Took s at end (SpellsTlvOf barred count) in
-    let Q = FirstFault (TlvFault barred count) s at end in
+    let Q = FirstFaultAt (TlvFault barred count) s at end in
     meets_bind (octet_at 4 s at end) _ _ P _ Q (octet_takes 4 s at end fits) (λ e h. absurd (omega (arith, ap length h.1, range_length s at end fits))) (λ kind t0.
     meets_bind (flags_at barred s kind.1 end) _ _ P _ Q (flags_takes barred count s at kind.1 end kind.0 fits t0) (λ e h. h) (λ flags t1.
     let opens : Opens barred B flags.0 (slice_range s flags.1 end) = record { kind = kind.0; not_broken = t1.0; parts = t0.parts ∙ ap (λ (l : List ℕ). kind.0 ∷ l) t1.1.parts } in

@@ -5,7 +5,7 @@ use Rattle.std.proofs.lemmas.Nat.{and_assoc}
 use Rattle.mesh_atoms.specs.Reading.{has}
 use Rattle.mesh_atoms.proofs.Reading.{meets_bind}
 use Rattle.mesh_tlv.specs.Fields.{AddrTlvFields, indexed, unindexed}
-use Rattle.mesh_tlv.specs.Items.{FirstFault}
+use Rattle.mesh_tlv.specs.Items.{FirstFaultAt}
 use Rattle.mesh_tlv.specs.Reading.{tlv_of_at, tlv_at, addr_tlv_at}
 use Rattle.mesh_tlv.specs.Grammar.{SpellsTlvOf, SpellsTlv, SpellsAddrTlv, HasEqualParts, TlvFault}
 use Rattle.mesh_tlv.proofs.Items.{IsReader, Took}
@@ -58,7 +58,7 @@ unindexed_is tlv bytes h =
 pub tlv_reader : IsReader tlv_at SpellsTlv (TlvFault 100 1)
 unfolding tlv_at
 tlv_reader = record {
-  takes = λ s at end lt fits. meets_bind (tlv_of_at 100 1 s at end) _ _ (Took s at end SpellsTlv) _ (FirstFault (TlvFault 100 1) s at end) (tlv_of_takes 100 1 s at end one lt fits) (λ e h. h) (λ tlv t. (t.0, unindexed_is tlv.0 t.0 t.1, t.2));
+  takes = λ s at end lt fits. meets_bind (tlv_of_at 100 1 s at end) _ _ (Took s at end SpellsTlv) _ (FirstFaultAt (TlvFault 100 1) s at end) (tlv_of_takes 100 1 s at end one lt fits) (λ e h. h) (λ tlv t. (t.0, unindexed_is tlv.0 t.0 t.1, t.2));
   again = λ s at end tlv bytes rest le fits h e. rw (tlv_of_again 100 1 s at end (indexed tlv) bytes rest le fits h e) refl;
   fault_again = λ s at end distance reason le fits h. rw (fault_again 100 1 s at end le fits distance reason h) refl;
   some = λ tlv bytes h. some_tlv 100 1 (indexed tlv) bytes h;

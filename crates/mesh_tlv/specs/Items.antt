@@ -23,8 +23,8 @@ pub record ItemsFault {A : Type 0} (Spells : A → List ℕ → Type 0) (Fault :
   pub distance_is : distance ≡ length front + inside
 
 -- what begins at `at` and may go up to `end` has this first fault, its place counted from the start of the frame
-abbrev pub FirstFault : (List ℕ → ℕ → ℕ → Type 0) → List ℕ → ℕ → ℕ → Refusal → Type 0
-FirstFault Fault frame at end refusal =
+abbrev pub FirstFaultAt : (List ℕ → ℕ → ℕ → Type 0) → List ℕ → ℕ → ℕ → Refusal → Type 0
+FirstFaultAt Fault frame at end refusal =
     (distance : ℕ) × (refusal.place ≡ at + distance) × Fault (slice_range frame at end) distance refusal.reason
 
 -- how items are read, at most so many of them, from a place up to the end of the range

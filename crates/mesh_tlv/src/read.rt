@@ -3,7 +3,7 @@ ghost use Rattle.std.specs.Prelude.{◌≡◌, ◌≤◌, ◌<◌, ◌-◌, ◌+
 ghost use Rattle.mesh_atoms.specs.Reading.{Gives, IfRefused, Reads};
 ghost use Rattle.mesh_atoms.specs.declared.refusal.Refusal.{Refusal};
 ghost use Rattle.mesh_tlv.specs.Fields.{TlvFields, AddrTlvFields, fields, addr_fields, block_fields, addr_block_fields};
-ghost use Rattle.mesh_tlv.specs.Items.{FirstFault, all_by_fields};
+ghost use Rattle.mesh_tlv.specs.Items.{FirstFaultAt, all_by_fields};
 ghost use Rattle.mesh_tlv.specs.Least.{IsFit};
 ghost use Rattle.mesh_tlv.specs.Grammar.{SpellsTlvBlock, SpellsAddrTlvBlock, TlvBlockFault, AddrTlvBlockFault};
 ghost use Rattle.mesh_tlv.specs.Reading.{tlv_of_at, addr_tlv_at, tlv_at, range_at, block_at};
@@ -178,10 +178,10 @@ pub fn read_tlvs<'a>(
     ensures only { (tlvs : List TlvFields) (bytes rest : List ℕ) → SpellsTlvBlock tlvs bytes → slice_range frame.now at end ≡ bytes ++ rest → Gives block_fields result (Ok (tlvs, at + length bytes)) }
 
     // What is refused has its first fault there.
-    ensures refused { IfErr result (IfRefused (FirstFault TlvBlockFault frame.now at end)) }
+    ensures refused { IfErr result (IfRefused (FirstFaultAt TlvBlockFault frame.now at end)) }
 
     // What has a first fault is refused so.
-    ensures first { (refusal : Refusal) → FirstFault TlvBlockFault frame.now at end refusal → Gives block_fields result (Err refusal) }
+    ensures first { (refusal : Refusal) → FirstFaultAt TlvBlockFault frame.now at end refusal → Gives block_fields result (Err refusal) }
 
     // How it is read, field by field.
     ensures exact { Gives block_fields result (block_at tlv_at frame.now at end) }
@@ -214,10 +214,10 @@ pub fn read_addr_tlvs<'a>(
         → Gives addr_block_fields result (Ok (tlvs, at + length bytes)) }
 
     // What is refused has its first fault there.
-    ensures refused { IfErr result (IfRefused (FirstFault (AddrTlvBlockFault count) frame.now at end)) }
+    ensures refused { IfErr result (IfRefused (FirstFaultAt (AddrTlvBlockFault count) frame.now at end)) }
 
     // What has a first fault is refused so.
-    ensures first { (refusal : Refusal) → FirstFault (AddrTlvBlockFault count) frame.now at end refusal → Gives addr_block_fields result (Err refusal) }
+    ensures first { (refusal : Refusal) → FirstFaultAt (AddrTlvBlockFault count) frame.now at end refusal → Gives addr_block_fields result (Err refusal) }
 
     // How it is read, field by field.
     ensures exact { Gives addr_block_fields result (block_at (addr_tlv_at count) frame.now at end) }

@@ -2,7 +2,7 @@
 ghost use Rattle.std.specs.Prelude.{◌≡◌};
 ghost use Rattle.mesh_emulate.specs.Laws.{RunsMachines, TellsSettled, PrintsLeastRoutes, PrintsNextHops};
 ghost use Rattle.mesh_emulate.specs.Laws.{TripsAreOnly, TripsReachRouters, TripsReachNetworks, TripsNeverStray};
-ghost use Rattle.mesh_emulate.specs.Laws.{ProbesReachJoined, ProbesTellAll, ProbesSendOnce};
+ghost use Rattle.mesh_emulate.specs.Laws.{ProbesReachJoined, ProbesTellAll, EmulatedProbesSendOnce};
 ghost use Rattle.mesh_emulate.specs.Making.Made.{MadeNetworksRunMachines, MadeNetworksTellSettled, TellsLeastRoutes};
 ghost use Rattle.mesh_replay.specs.trace.Positions.Laws.{WholeExactlyForRuns};
 ghost use Rattle.mesh_run.specs.Turns.Laws.{TurnsAreRuns, TurnsKeepSound};
@@ -86,7 +86,7 @@ pub fn mesh_top<S: Source, O: Sink, E: Sink, A: Air, C: Clock>(
     ensures probes_tell { ProbesTellAll }
 
     // Whatever the network, no router sends twice on an interface in a probe.
-    ensures probes_once { ProbesSendOnce }
+    ensures probes_once { EmulatedProbesSendOnce }
 
     // Wherever a router stands in its turns, it has come there by a run of its machine, over whatever an air tells,
     ensures turns { TurnsAreRuns }

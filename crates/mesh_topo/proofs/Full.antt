@@ -10,7 +10,7 @@ use Rattle.mesh_atoms.specs.declared.tc.Tc.{Tc}
 use Rattle.mesh_atoms.specs.declared.tc.TcRow.{TcRow}
 use Rattle.mesh_atoms.specs.declared.tuples.Base.TheVariants.{Advertisers, Routers, Addresses, Networks}
 use Rattle.mesh_atoms.specs.AfterTc.{is_overfull, first_overfull}
-use Rattle.mesh_atoms.specs.State.{Topology}
+use Rattle.mesh_atoms.specs.State.{TopologyBase}
 use Rattle.mesh_topo.specs.TcSets.Tuples.{router_of, address_of, network_of, network_with}
 
 -- tests that agree count the same
@@ -51,7 +51,7 @@ first_of_four : {A : Type 0} (x y z w : A) (a r d n : Bool) → (a' r' d' n' : B
     cond a' (Some x) (cond r' (Some y) (cond d' (Some z) (cond n' (Some w) None))) ≡ cond a (Some x) (cond r (Some y) (cond d (Some z) (cond n (Some w) None)))
 first_of_four x y z w a r d n a' r' d' n' p q s t = rw (p, q, s, t) refl
 
-module _ (topology : Topology) (tc : Tc) where
+module _ (topology : TopologyBase) (tc : Tc) where
   pub third_full : is_overfull topology tc Advertisers ≡ false → is_overfull topology tc Routers ≡ false → is_overfull topology tc Addresses ≡ true → Some Addresses ≡ first_overfull topology tc
   third_full a r d = first_of_four Advertisers Routers Addresses Networks _ _ _ (is_overfull topology tc Networks) false false true (is_overfull topology tc Networks) a r d refl
 
@@ -69,7 +69,7 @@ none_of_four x y z w false false true n e = absurd cc
 none_of_four x y z w false false false true e = absurd cc
 none_of_four x y z w false false false false e = (refl, refl, refl, refl)
 
-pub room_in_all : (topology : Topology) (tc : Tc) → first_overfull topology tc ≡ None →
+pub room_in_all : (topology : TopologyBase) (tc : Tc) → first_overfull topology tc ≡ None →
     (is_overfull topology tc Advertisers ≡ false) × (is_overfull topology tc Routers ≡ false) × (is_overfull topology tc Addresses ≡ false) × (is_overfull topology tc Networks ≡ false)
 room_in_all topology tc none = none_of_four Advertisers Routers Addresses Networks _ _ _ _ none
 

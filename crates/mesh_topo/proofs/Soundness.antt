@@ -12,7 +12,7 @@ use Rattle.mesh_atoms.specs.Base.{Base, find, if_live, Expires, IsFresh, SetsOnl
 use Rattle.mesh_atoms.specs.Live.{LiveTopology}
 use Rattle.mesh_atoms.specs.Sound.{IsWithin, SoundTopology}
 use Rattle.mesh_expire.proofs.Laws.{distinct_none}
-use Rattle.mesh_atoms.specs.State.{Topology, IsOriginator}
+use Rattle.mesh_atoms.specs.State.{TopologyBase, IsOriginator}
 use Rattle.mesh_topo.specs.declared.topology.TcTaken.{TcTaken}
 use Rattle.mesh_topo.specs.Answers.{answer_of}
 use Rattle.mesh_topo.specs.Sets.{AreFew, AreFresh}
@@ -34,7 +34,7 @@ expired_fresh eq now old new expires q value until e = live_from now (find eq ol
 none_left : {K V : Type 0} (eq : K → K → Bool) (now : ℕ) (old new : Base K V) (q : K) → Expires eq now old new → find eq old q ≡ None → find eq new q ≡ None
 none_left eq now old new q expires none = expires q ∙ ap (if_live now) none
 
-pub live_fresh : (now : ℕ) (old new : Topology) → LiveTopology now old new → AreFresh now new
+pub live_fresh : (now : ℕ) (old new : TopologyBase) → LiveTopology now old new → AreFresh now new
 live_fresh now old new live = record {
   advertisers = expired_fresh addr_eq now old.advertisers new.advertisers live.advertisers;
   routers = expired_fresh router_eq now old.routers new.routers live.routers;
@@ -42,10 +42,10 @@ live_fresh now old new live = record {
   networks = expired_fresh network_eq now old.networks new.networks live.networks;
 }
 
-few_of : (settings : RouterSettings) (now : ℕ) (topology : Topology) → SoundTopology settings now topology → AreFew topology
+few_of : (settings : RouterSettings) (now : ℕ) (topology : TopologyBase) → SoundTopology settings now topology → AreFew topology
 few_of settings now topology sound = record { advertisers = sound.advertisers.limit; routers = sound.routers.limit; addresses = sound.addresses.limit; networks = sound.networks.limit }
 
-pub live_sound : (now : ℕ) (old new : Topology) → LiveTopology now old new → (AreFew old → AreFew new) → (settings : RouterSettings) (before : ℕ) → SoundTopology settings before old → SoundTopology settings now new
+pub live_sound : (now : ℕ) (old new : TopologyBase) → LiveTopology now old new → (AreFew old → AreFew new) → (settings : RouterSettings) (before : ℕ) → SoundTopology settings before old → SoundTopology settings now new
 live_sound now old new live within settings before sound =
     let few : AreFew new = within (few_of settings before old sound) in
     let fresh : AreFresh now new = live_fresh now old new live in
@@ -68,7 +68,7 @@ none_within eq now base none = rw none (record { distinct = distinct_none eq; li
 none_at : {K V : Type 0} (eq : K → K → Bool) (base : Base K V) (q : K) → base ≡ [] → find eq base q ≡ None
 none_at eq base q none = rw none refl
 
-pub none_sound : (topology : Topology) → topology.advertisers ≡ [] → topology.routers ≡ [] → topology.addresses ≡ [] → topology.networks ≡ [] →
+pub none_sound : (topology : TopologyBase) → topology.advertisers ≡ [] → topology.routers ≡ [] → topology.addresses ≡ [] → topology.networks ≡ [] →
     (settings : RouterSettings) (now : ℕ) → SoundTopology settings now topology
 none_sound topology a r d n settings now = record {
   advertisers = none_within addr_eq now topology.advertisers a;
@@ -122,7 +122,7 @@ advertisers_fresh tc now old new lasts sets fresh q value until e = by_case (add
   by_case true is = later tc now (record { ansn = tc.ansn }) value until (Some (record { ansn = tc.ansn }, now + tc.validity)) lasts refl is
   by_case false is = fresh q value until is
 
-after_fresh : (now : ℕ) (tc : Tc) (old new : Topology) → 0 < tc.validity → AfterTc now tc old new → AreFresh now old → AreFresh now new
+after_fresh : (now : ℕ) (tc : Tc) (old new : TopologyBase) → 0 < tc.validity → AfterTc now tc old new → AreFresh now old → AreFresh now new
 after_fresh now tc old new lasts after fresh = record {
   advertisers = advertisers_fresh tc now old.advertisers new.advertisers lasts after.advertisers fresh.advertisers;
   routers = set_fresh router_eq tc now _ _ _ old.routers new.routers lasts after.routers fresh.routers;
@@ -130,7 +130,7 @@ after_fresh now tc old new lasts after fresh = record {
   networks = set_fresh network_eq tc now _ _ _ old.networks new.networks lasts after.networks fresh.networks;
 }
 
-after_sound : (settings : RouterSettings) (now : ℕ) (tc : Tc) (old new : Topology) → 0 < tc.validity → (IsOriginator settings tc.originator → ⊥) → AreFew new → AfterTc now tc old new → SoundTopology settings now old → SoundTopology settings now new
+after_sound : (settings : RouterSettings) (now : ℕ) (tc : Tc) (old new : TopologyBase) → 0 < tc.validity → (IsOriginator settings tc.originator → ⊥) → AreFew new → AfterTc now tc old new → SoundTopology settings now old → SoundTopology settings now new
 after_sound settings now tc old new lasts other few after sound =
     let fresh : AreFresh now new = after_fresh now tc old new lasts after (record { advertisers = sound.advertisers.fresh; routers = sound.routers.fresh; addresses = sound.addresses.fresh; networks = sound.networks.fresh }) in
     record {
@@ -152,19 +152,19 @@ after_sound settings now tc old new lasts other few after sound =
     not_mine o mine false is = after.advertisers o ∙ (ap (λ (b : Bool). cond b (Some (record { ansn = tc.ansn }, now + tc.validity)) (find addr_eq old.advertisers o)) is ∙ sound.not_my_advertiser o mine)
 
 -- a TC that isn't taken changes nothing
-taken_cases : (now : ℕ) (tc : Tc) (old new : Topology) (answer : TcAnswer) → TakesTc now tc old new answer → (new ≡ old) ⊎ AfterTc now tc old new
+taken_cases : (now : ℕ) (tc : Tc) (old new : TopologyBase) (answer : TcAnswer) → TakesTc now tc old new answer → (new ≡ old) ⊎ AfterTc now tc old new
 taken_cases now tc old new answer (Is_old kept is) = inl refl
 taken_cases now tc old new answer (Overfull kind not_old first) = inl refl
 taken_cases now tc old new answer (Takes not_old none after) = inr after
 
-pub tc_fresh : (now : ℕ) (tc : Tc) (old new : Topology) (r : Result (TcTaken × Bool) AllocError) → IfOk r (λ told. TakesTc now tc old new (answer_of told.0)) → OnOk r (0 < tc.validity → AreFresh now old → AreFresh now new)
+pub tc_fresh : (now : ℕ) (tc : Tc) (old new : TopologyBase) (r : Result (TcTaken × Bool) AllocError) → IfOk r (λ told. TakesTc now tc old new (answer_of told.0)) → OnOk r (0 < tc.validity → AreFresh now old → AreFresh now new)
 tc_fresh now tc old new (Ok told) takes = λ lasts fresh. elim (taken_cases now tc old new (answer_of told.0) takes) [
   | inl same ↦ subst (AreFresh now) (sym same) fresh
   | inr after ↦ after_fresh now tc old new lasts after fresh
 ]
 tc_fresh now tc old new (Err e) takes = tt
 
-pub tc_sound : (now : ℕ) (tc : Tc) (old new : Topology) (r : Result (TcTaken × Bool) AllocError) → IfOk r (λ told. TakesTc now tc old new (answer_of told.0)) → OnOk r (AreFew old → AreFew new) →
+pub tc_sound : (now : ℕ) (tc : Tc) (old new : TopologyBase) (r : Result (TcTaken × Bool) AllocError) → IfOk r (λ told. TakesTc now tc old new (answer_of told.0)) → OnOk r (AreFew old → AreFew new) →
     OnOk r ((settings : RouterSettings) → 0 < tc.validity → (IsOriginator settings tc.originator → ⊥) → SoundTopology settings now old → SoundTopology settings now new)
 tc_sound now tc old new (Ok told) takes within = λ settings lasts other sound. elim (taken_cases now tc old new (answer_of told.0) takes) [
   | inl same ↦ subst (SoundTopology settings now) (sym same) sound

@@ -11,10 +11,10 @@ use Rattle.mesh_atoms.specs.declared.tuples.NetworkKey.{NetworkKey}
 use Rattle.mesh_atoms.specs.declared.tuples.NetworkTuple.{NetworkTuple}
 use Rattle.mesh_atoms.specs.Base.{Base, IsFresh, find, addr_eq, router_eq, address_eq, network_eq}
 use Rattle.mesh_atoms.specs.Codes.Codes.{Newer}
-use Rattle.mesh_atoms.specs.State.{Topology}
+use Rattle.mesh_atoms.specs.State.{TopologyBase}
 
 -- each of the four sets has at most 16,384 tuples
-pub record AreFew (topology : Topology) : Type 0 where
+pub record AreFew (topology : TopologyBase) : Type 0 where
   pub advertisers : length topology.advertisers ≤ 16384
   pub routers : length topology.routers ≤ 16384
   pub addresses : length topology.addresses ≤ 16384
@@ -25,12 +25,12 @@ abbrev pub KeepsNewer : Base Addr4 Advertiser → Tc → ℕ → Type 0
 KeepsNewer advertisers tc kept = (e : Advertiser × ℕ) × (find addr_eq advertisers tc.originator ≡ Some e) × (e.0.ansn ≡ kept) × Newer kept tc.ansn
 
 -- nothing in the four sets is expired
-pub record AreFresh (now : ℕ) (topology : Topology) : Type 0 where
+pub record AreFresh (now : ℕ) (topology : TopologyBase) : Type 0 where
   pub advertisers : IsFresh addr_eq now topology.advertisers
   pub routers : IsFresh router_eq now topology.routers
   pub addresses : IsFresh address_eq now topology.addresses
   pub networks : IsFresh network_eq now topology.networks
 
 -- the four sets together
-abbrev pub sets_of : Base Addr4 Advertiser → Base RouterKey RouterTuple → Base AddressKey AddressTuple → Base NetworkKey NetworkTuple → Topology
+abbrev pub sets_of : Base Addr4 Advertiser → Base RouterKey RouterTuple → Base AddressKey AddressTuple → Base NetworkKey NetworkTuple → TopologyBase
 sets_of advertisers routers addresses networks = record { advertisers = advertisers; routers = routers; addresses = addresses; networks = networks }

@@ -51,7 +51,7 @@ impl<B: Bases> Drop for Topology<B> {
 }
 
 impl<B: Bases> Model for Topology<B> {
-    ghost use Rattle.mesh_atoms.specs.State.{Topology as Sets};
+    ghost use Rattle.mesh_atoms.specs.State.{TopologyBase as Sets};
 
     ghost Value = { Sets };
 

@@ -8,8 +8,8 @@ use Rattle.mesh_atoms.specs.Codes.Codes.{time_at_distance}
 use Rattle.mesh_packet.specs.Fields.{MessageFields}
 use Rattle.mesh_tlv.specs.Fields.{TlvFields}
 use Rattle.mesh_wire.specs.declared.collect.AddressParts.{AddressParts}
-use Rattle.mesh_wire.specs.declared.parts.One.{One}
-use Rattle.mesh_wire.specs.declared.parts.One.TheVariants.{Unsaid, Said, Several}
+use Rattle.mesh_wire.specs.declared.parts.SingleNumber.{SingleNumber}
+use Rattle.mesh_wire.specs.declared.parts.SingleNumber.TheVariants.{Unsaid, Said, Several}
 use Rattle.mesh_wire.specs.Hello.{HasWilling}
 use Rattle.mesh_wire.specs.HelloHeading.{IsOther}
 use Rattle.mesh_wire.specs.HelloRows.{MetricFrom}
@@ -135,7 +135,7 @@ content_or m = by (contents_of m) refl
 -- ---- rows
 
 -- the metric of a code that is kept
-pub metric_of : (m : MessageFields) → HasOctets m → (net : NetAddr) (kind : MetricKind) (one : One) → OneIs (Shows (HasValue m net link_metric) (flag_of kind)) one → (metric : Option Metric) × MetricFrom one metric
+pub metric_of : (m : MessageFields) → HasOctets m → (net : NetAddr) (kind : MetricKind) (one : SingleNumber) → OneIs (Shows (HasValue m net link_metric) (flag_of kind)) one → (metric : Option Metric) × MetricFrom one metric
 metric_of m octets net kind Unsaid h = (None, refl)
 metric_of m octets net kind Several h = (None, refl)
 metric_of m octets net kind (Said n) h =

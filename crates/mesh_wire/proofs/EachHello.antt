@@ -10,7 +10,7 @@ use Rattle.mesh_atoms.specs.Octets.{address_in}
 use Rattle.mesh_addr.specs.declared.records.RawAddr.{RawAddr}
 use Rattle.mesh_packet.specs.Fields.{MessageFields}
 use Rattle.mesh_wire.specs.declared.collect.AddressParts.{AddressParts}
-use Rattle.mesh_wire.specs.declared.hello.Heading.{Heading}
+use Rattle.mesh_wire.specs.declared.hello.HelloHeader.{HelloHeader}
 use Rattle.mesh_wire.specs.Entries.{of_blocks}
 use Rattle.mesh_wire.specs.Hello.{OriginatorIs, HelloIs}
 use Rattle.mesh_wire.specs.HelloHeading.{HeadingIs}
@@ -75,7 +75,7 @@ originator_of (Some address) = (Some (record { 0 = address_in address.octets }),
 -- ---- the rules in order
 
 module _ (m : MessageFields) (octets : HasOctets m) where
-  of_heading : (heading : Heading) → HeadingIs m heading → Outcome (HelloIs m) (BreaksHello m)
+  of_heading : (heading : HelloHeader) → HeadingIs m heading → Outcome (HelloIs m) (BreaksHello m)
   of_heading heading h = of_rows m HelloRowFrom hello_rule (HelloIs m) (BreaksHello m) (λ t is. row_by m octets t is (number_from t.parts.local.one) refl) (rule_found m heading h) value
     where
       value : (rows : List HelloRow) → HasRows HelloRowFrom hello_rule (of_blocks m.blocks) rows → (hello : Hello) × HelloIs m hello × Keeps (BreaksHello m)

@@ -10,7 +10,7 @@ use Rattle.mesh_atoms.specs.Octets.{address_in}
 use Rattle.mesh_addr.specs.declared.records.RawAddr.{RawAddr}
 use Rattle.mesh_packet.specs.Fields.{MessageFields}
 use Rattle.mesh_wire.specs.declared.collect.AddressParts.{AddressParts}
-use Rattle.mesh_wire.specs.declared.tc.Heading.{Heading}
+use Rattle.mesh_wire.specs.declared.tc.TcHeader.{TcHeader}
 use Rattle.mesh_wire.specs.Entries.{of_blocks}
 use Rattle.mesh_wire.specs.Hello.{OriginatorIs}
 use Rattle.mesh_wire.specs.HelloRows.{number_from}
@@ -50,7 +50,7 @@ there_or None = inr refl
 there_or (Some a) = inl (a, refl)
 
 module _ (m : MessageFields) (octets : HasOctets m) where
-  of_heading : (heading : Heading) → TcHeadingIs m heading → Outcome (TcIs m) (BreaksTc m)
+  of_heading : (heading : TcHeader) → TcHeadingIs m heading → Outcome (TcIs m) (BreaksTc m)
   of_heading heading h = of_rows m TcRowFrom tc_rule (TcIs m) (BreaksTc m) (row_of m octets) (rule_found m heading h) value
     where
       value : (rows : List TcRow) → HasRows TcRowFrom tc_rule (of_blocks m.blocks) rows → (tc : Tc) × TcIs m tc × Keeps (BreaksTc m)

@@ -11,11 +11,11 @@ use Rattle.mesh_addr.specs.Grammar.{prefixes, SpellsMids, SpellsBlock, AreAtMost
 use Rattle.mesh_addr.specs.Least.{IsLeast}
 use Rattle.mesh_packet.specs.Fields.{BlockFields, MessageFields}
 use Rattle.mesh_packet.specs.Least as packets
-use Rattle.mesh_packet.specs.Least.{IsOriginator, IsEncodableBlock, IsEncodableMessage, least_octet, least_number, least_originator, message_flags, LeastPair, LeastBody, LeastMessage, LeastForm}
+use Rattle.mesh_packet.specs.Least.{IsPaddedOriginator, IsEncodableBlock, IsEncodableMessage, least_octet, least_number, least_originator, message_flags, LeastPair, LeastBody, LeastMessage, LeastForm}
 use Rattle.mesh_tlv.specs.Items.{SpellsItems}
 use Rattle.mesh_tlv.specs.Least as tlvs
 use Rattle.mesh_tlv.specs.Least.{IsFit, octet_if, least_short, least_length, least_value, least_addr_tlv, least_tlv, least_block}
-use Rattle.mesh_wire.specs.declared.lines.Line.{Line}
+use Rattle.mesh_wire.specs.declared.lines.AddressRecord.{AddressRecord}
 use Rattle.mesh_wire.specs.Drafts.{whole, saying, heading_of, FitsAlone}
 use Rattle.mesh_wire.specs.Lines.{columns}
 use Rattle.mesh_wire.specs.Runs.{raw_of, IsBlock, AreBlocks}
@@ -32,17 +32,17 @@ all_of P xs each = All-from_recursion P xs (go xs each)
     go [] each = tt
     go (y ∷ ys) each = (each y (at_head y ys), go ys (λ x has. each x (in_tail y ys x has)))
 
-abbrev raws : List Line → List RawAddr
-raws lines = map (λ (l : Line). raw_of l.net) lines
+abbrev raws : List AddressRecord → List RawAddr
+raws lines = map (λ (l : AddressRecord). raw_of l.net) lines
 
-raws_raw : (lines : List Line) → AreRaw 4 (raws lines)
+raws_raw : (lines : List AddressRecord) → AreRaw 4 (raws lines)
 raws_raw [] = tt
 raws_raw (l ∷ lines) = (refl, l.net.within, raws_raw lines)
 
-raws_long : (lines : List Line) → length (raws lines) ≡ length lines
-raws_long lines = length-map lines (λ (l : Line). raw_of l.net)
+raws_long : (lines : List AddressRecord) → length (raws lines) ≡ length lines
+raws_long lines = length-map lines (λ (l : AddressRecord). raw_of l.net)
 
-block_fits : (front : List Line) (b : BlockFields) → 0 < length front → IsBlock front b → IsEncodableBlock 4 b
+block_fits : (front : List AddressRecord) (b : BlockFields) → 0 < length front → IsBlock front b → IsEncodableBlock 4 b
 block_fits front b some h =
     let long : length b.addrs ≡ length front = ap length h.addrs ∙ raws_long front in record {
       width_is = h.width;
@@ -56,48 +56,48 @@ block_fits front b some h =
       tlvs = all_of (IsFit (length b.addrs)) b.tlvs (λ tlv has. subst (λ (n : ℕ). IsFit n tlv) (sym long) (runs_of_all columns front b.tlvs h.tlvs tlv has).1.fit);
     }
 
-blocks_fit : (lines : List Line) (blocks : List BlockFields) → AreBlocks lines blocks → AllByRecursion (IsEncodableBlock 4) blocks
+blocks_fit : (lines : List AddressRecord) (blocks : List BlockFields) → AreBlocks lines blocks → AllByRecursion (IsEncodableBlock 4) blocks
 blocks_fit lines [] h = tt
 blocks_fit lines (b ∷ blocks) (front, rest, whole, some, h, k) = (block_fits front b some h, blocks_fit rest blocks k)
 
-originator_fits : (o : Option Addr4) → IsOriginator 4 (option_map whole o)
+originator_fits : (o : Option Addr4) → IsPaddedOriginator 4 (option_map whole o)
 originator_fits None = tt
 originator_fits (Some a) = (refl, refl)
 
-pub message_fits : (m : MessageFields) (lines : List Line) (o : Option Addr4) → m.width ≡ 4 → m.originator ≡ option_map whole o → AreBlocks lines m.blocks → IsEncodableMessage m
+pub message_fits : (m : MessageFields) (lines : List AddressRecord) (o : Option Addr4) → m.width ≡ 4 → m.originator ≡ option_map whole o → AreBlocks lines m.blocks → IsEncodableMessage m
 message_fits m lines o width origin are = record {
   wide = omega (arith, width);
   narrow = omega (arith, width);
-  originator = subst (λ (w : ℕ). IsOriginator w m.originator) (sym width) (subst (IsOriginator 4) (sym origin) (originator_fits o));
+  originator = subst (λ (w : ℕ). IsPaddedOriginator w m.originator) (sym width) (subst (IsPaddedOriginator 4) (sym origin) (originator_fits o));
   blocks = subst (λ (w : ℕ). All (IsEncodableBlock w) m.blocks) (sym width) (All-from_recursion (IsEncodableBlock 4) m.blocks (blocks_fit lines m.blocks are));
 }
 
 -- ---- how long an address block is
 
 -- four octets of each
-mids : List Line → List ℕ
+mids : List AddressRecord → List ℕ
 mids [] = []
 mids (l ∷ lines) = take 4 (raw_of l.net).octets ++ mids lines
 
-mids_spelled : (lines : List Line) → SpellsMids [] [] 4 (raws lines) (mids lines)
+mids_spelled : (lines : List AddressRecord) → SpellsMids [] [] 4 (raws lines) (mids lines)
 unfolding mids
 mids_spelled [] = refl
 mids_spelled (l ∷ lines) = (take 4 (raw_of l.net).octets, mids lines, refl, refl, mids_spelled lines, refl)
 
-mids_long : (lines : List Line) → length (mids lines) ≡ 4 * length lines
+mids_long : (lines : List AddressRecord) → length (mids lines) ≡ 4 * length lines
 unfolding mids
 mids_long [] = refl
 mids_long (l ∷ lines) = omega (arith, mids_long lines)
 
-prefixes_most : (lines : List Line) → AreAtMost 32 (prefixes (raws lines))
+prefixes_most : (lines : List AddressRecord) → AreAtMost 32 (prefixes (raws lines))
 prefixes_most [] = tt
 prefixes_most (l ∷ lines) = (l.net.within, prefixes_most lines)
 
 -- a spelling without a head or a tail, with a prefix length for each address
-plain : List Line → List ℕ
+plain : List AddressRecord → List ℕ
 plain lines = length (raws lines) ∷ (8 ∷ (mids lines ++ prefixes (raws lines)))
 
-plain_spelled : (lines : List Line) → 0 < length lines → SpellsBlock 4 (raws lines) (plain lines)
+plain_spelled : (lines : List AddressRecord) → 0 < length lines → SpellsBlock 4 (raws lines) (plain lines)
 unfolding plain
 plain_spelled lines some = record {
   flags = 8;
@@ -116,7 +116,7 @@ plain_spelled lines some = record {
   whole = refl;
 }
 
-addrs_short : (lines : List Line) (text : List ℕ) → 0 < length lines → IsLeast 4 (raws lines) text → length text ≤ 2 + 5 * length lines
+addrs_short : (lines : List AddressRecord) (text : List ℕ) → 0 < length lines → IsLeast 4 (raws lines) text → length text ≤ 2 + 5 * length lines
 unfolding plain
 addrs_short lines text some h =
     omega (arith, h.least (plain lines) (plain_spelled lines some), length-append (mids lines) (prefixes (raws lines)), mids_long lines, raws_long lines, length-map (raws lines) (λ (a : RawAddr). a.prefix))
@@ -124,14 +124,14 @@ addrs_short lines text some h =
 -- ---- how long blocks are
 
 -- a line has at most seven parts
-abbrev pub HasFewParts : Line → Type 0
+abbrev pub HasFewParts : AddressRecord → Type 0
 HasFewParts line = parts_in columns (line ∷ []) ≤ 7
 
-parts_few : (lines : List Line) → ((line : Line) → Contains lines line → HasFewParts line) → parts_in columns lines ≤ 7 * length lines
+parts_few : (lines : List AddressRecord) → ((line : AddressRecord) → Contains lines line → HasFewParts line) → parts_in columns lines ≤ 7 * length lines
 parts_few [] few = omega arith
 parts_few (l ∷ lines) few = omega (arith, few l (at_head l lines), parts_few lines (λ line has. few line (in_tail l lines line has)))
 
-pair_short : (front : List Line) (b : BlockFields) (text : List ℕ) → 0 < length front → IsBlock front b → parts_in columns front ≤ 7 * length front → LeastPair b text → length text ≤ 58 * length front
+pair_short : (front : List AddressRecord) (b : BlockFields) (text : List ℕ) → 0 < length front → IsBlock front b → parts_in columns front ≤ 7 * length front → LeastPair b text → length text ≤ 58 * length front
 pair_short front b text some h few pair =
     let least : IsLeast 4 (raws front) pair.addrs = subst (λ (a : List RawAddr). IsLeast 4 a pair.addrs) h.addrs (subst (λ (w : ℕ). IsLeast w b.addrs pair.addrs) h.width pair.addrs_is) in
     let one = least_addr_tlv (length b.addrs) in
@@ -145,11 +145,11 @@ pair_short front b text some h few pair =
       length-append (least_short (length (flat_map one b.tlvs))) (flat_map one b.tlvs),
     )
 
-blocks_short : (lines : List Line) (blocks : List BlockFields) (text : List ℕ) → AreBlocks lines blocks → ((line : Line) → Contains lines line → HasFewParts line) → SpellsItems LeastPair blocks text → length text ≤ 58 * length lines
+blocks_short : (lines : List AddressRecord) (blocks : List BlockFields) (text : List ℕ) → AreBlocks lines blocks → ((line : AddressRecord) → Contains lines line → HasFewParts line) → SpellsItems LeastPair blocks text → length text ≤ 58 * length lines
 blocks_short lines [] text h few spelled = omega (arith, ap length spelled)
 blocks_short lines (b ∷ blocks) text (front, rest, whole, some, h, k) few (first, others, is, are, joined) =
-    let up : (line : Line) → Contains front line → HasFewParts line = λ line has. few line (subst (λ (l : List Line). Contains l line) (sym whole) (Contains-append_left front rest line has)) in
-    let on : (line : Line) → Contains rest line → HasFewParts line = λ line has. few line (subst (λ (l : List Line). Contains l line) (sym whole) (Contains-append_right front rest line has)) in
+    let up : (line : AddressRecord) → Contains front line → HasFewParts line = λ line has. few line (subst (λ (l : List AddressRecord). Contains l line) (sym whole) (Contains-append_left front rest line has)) in
+    let on : (line : AddressRecord) → Contains rest line → HasFewParts line = λ line has. few line (subst (λ (l : List AddressRecord). Contains l line) (sym whole) (Contains-append_right front rest line has)) in
     omega (arith, pair_short front b first some h (parts_few front up) is, blocks_short rest blocks others k on are, ap length joined, length-append first others, ap length whole, length-append front rest)
 
 -- ---- how long message TLVs are
@@ -226,8 +226,8 @@ head_short m width =
       length-append (least_octet m.count) (least_number m.sequence),
     )
 
-pub fits_alone : (m : MessageFields) (lines : List Line) (validity values : List ℕ) (b : Bool) (kind ext : ℕ) → m.width ≡ 4 → length validity ≤ 17 → length values ≤ 3 → m.tlvs ≡ heading_of validity values b kind ext → AreBlocks lines m.blocks →
-    length lines ≤ 1100 → ((line : Line) → Contains lines line → HasFewParts line) → FitsAlone m
+pub fits_alone : (m : MessageFields) (lines : List AddressRecord) (validity values : List ℕ) (b : Bool) (kind ext : ℕ) → m.width ≡ 4 → length validity ≤ 17 → length values ≤ 3 → m.tlvs ≡ heading_of validity values b kind ext → AreBlocks lines m.blocks →
+    length lines ≤ 1100 → ((line : AddressRecord) → Contains lines line → HasFewParts line) → FitsAlone m
 fits_alone m lines validity values b kind ext width few_octets short tlvs are most few bytes form =
     let (text, rest, message, none, joined) = form.messages_is in
     let body = message.body_is in

@@ -9,7 +9,7 @@ use Rattle.mesh_wire.specs.declared.parts.RowParts.{RowParts}
 use Rattle.mesh_wire.specs.Collects.{AreCollected}
 use Rattle.mesh_wire.specs.Entries.{Entry, standing, of_tlvs, of_block, of_blocks, collected}
 use Rattle.mesh_wire.specs.Parts.{IsIn}
-use Rattle.mesh_wire.specs.Standing.{addresses, IsRowOf, IsTable, AreAt, Tells, after, tell}
+use Rattle.mesh_wire.specs.Standing.{addresses, IsRowOf, IsTable, AreAt, TellsRows, after, tell}
 use Rattle.mesh_wire.specs.KeptParts.{no_parts}
 use Rattle.mesh_wire.proofs.Addresses.{take_front}
 use Rattle.mesh_wire.proofs.Collected.{AnyOf, At, StandsOf, any_front, any_back, collected_is}
@@ -93,7 +93,7 @@ tell_len entries (r ∷ rows) = let e = tell_len entries rows in omega arith
 
 -- the rows as they are written back
 pub whole : (m : MessageFields) (first second : List BlockFields) (items start new left : List AddressParts) (row_of places : List ℕ) (len : ℕ) → first ≡ m.blocks → second ≡ m.blocks → start ≡ items → places ≡ row_of → length start ≡ len →
-    IsTable (addresses first) items row_of → Tells start (addresses second) places (of_blocks second) new → AreCollected (of_blocks m.blocks) (take len (new ++ left))
+    IsTable (addresses first) items row_of → TellsRows start (addresses second) places (of_blocks second) new → AreCollected (of_blocks m.blocks) (take len (new ++ left))
 whole m first second items start new left row_of places len e f g h size table tells =
     let here : IsTable (addresses m.blocks) items row_of = subst (λ (bs : List BlockFields). IsTable (addresses bs) items row_of) e table in
     let at : AreAt start (addresses second) places = subst (λ (bs : List BlockFields). AreAt start (addresses bs) places) (sym f) (subst (AreAt start (addresses m.blocks)) (sym h) (subst (λ (ts : List AddressParts). AreAt ts (addresses m.blocks) row_of) (sym g) here.at)) in

@@ -6,8 +6,8 @@ use Rattle.mesh_atoms.specs.declared.hello.HelloRow.{HelloRow}
 use Rattle.mesh_packet.specs.Fields.{MessageFields}
 use Rattle.mesh_wire.specs.declared.fault.WireFault.{WireFault}
 use Rattle.mesh_wire.specs.declared.fault.WireFault.TheVariants as faults
-use Rattle.mesh_wire.specs.declared.hello.Heading.{Heading}
-use Rattle.mesh_wire.specs.Answers.{IfBroken, Gives, Refuses}
+use Rattle.mesh_wire.specs.declared.hello.HelloHeader.{HelloHeader}
+use Rattle.mesh_wire.specs.Answers.{IfBroken, GivesValue, RefusesAt}
 use Rattle.mesh_wire.specs.Entries.{of_blocks}
 use Rattle.mesh_wire.specs.Hello.{IsReadHelloRow}
 use Rattle.mesh_wire.specs.HelloHeading.{HeadingIs}
@@ -25,11 +25,11 @@ use Rattle.mesh_wire.proofs.Kept.{are_told}
 use Rattle.mesh_wire.proofs.Single.{one_broken}
 
 -- a message whose heading is read breaks no rule on it
-up_of : (m : MessageFields) (heading : Heading) → HeadingIs m heading → NoneBelow (BreaksHello m) 26
+up_of : (m : MessageFields) (heading : HelloHeader) → HeadingIs m heading → NoneBelow (BreaksHello m) 26
 up_of m heading h =
     past_willing m (past_interval m (past_validity m (past_count m h.width h.limit h.count) heading.validity h.validity) heading.interval h.interval) heading.willing h.willing
 
-module _ (m : MessageFields) (heading : Heading) (h : HeadingIs m heading) where
+module _ (m : MessageFields) (heading : HelloHeader) (h : HeadingIs m heading) where
   -- the rule that rows break is the first
   pub rule_found : (number : ℕ) (addr : Option NetAddr) → HasBroken hello_rule (of_blocks m.blocks) number addr → FirstBroken (BreaksHello m) number addr
   rule_found = rule_broken m (BreaksHello m) hello_rule 26 (hello_decides m) (up_of m heading h)
@@ -47,12 +47,12 @@ if_broken P Q (faults.Broken n a) to h = to n a h
 
 -- ---- the other directions
 
-pub gives_of : {X : Type 0} (Is : X → Type 0) (Breaks : ℕ → Option NetAddr → Type 0) (r : Result X WireFault) → ((a b : X) → Is a → Is b → a ≡ b) → IfOk r Is → IfErr r (IfBroken (FirstBroken Breaks)) → Keeps Breaks → (x : X) → Is x → Gives x r
+pub gives_of : {X : Type 0} (Is : X → Type 0) (Breaks : ℕ → Option NetAddr → Type 0) (r : Result X WireFault) → ((a b : X) → Is a → Is b → a ≡ b) → IfOk r Is → IfErr r (IfBroken (FirstBroken Breaks)) → Keeps Breaks → (x : X) → Is x → GivesValue x r
 gives_of Is Breaks (Ok y) one ok err keeps x is = one y x ok is
 gives_of Is Breaks (Err (faults.Memory e)) one ok err keeps x is = tt
 gives_of Is Breaks (Err (faults.Broken n a)) one ok err keeps x is = keeps n a err.broken
 
-pub refuses_of : {X : Type 0} (Breaks : ℕ → Option NetAddr → Type 0) (r : Result X WireFault) → IfOk r (λ x. Keeps Breaks) → IfErr r (IfBroken (FirstBroken Breaks)) → (n : ℕ) (a : Option NetAddr) → FirstBroken Breaks n a → Refuses n a r
+pub refuses_of : {X : Type 0} (Breaks : ℕ → Option NetAddr → Type 0) (r : Result X WireFault) → IfOk r (λ x. Keeps Breaks) → IfErr r (IfBroken (FirstBroken Breaks)) → (n : ℕ) (a : Option NetAddr) → FirstBroken Breaks n a → RefusesAt n a r
 refuses_of Breaks (Ok y) ok err n a f = ok n a f.broken
 refuses_of Breaks (Err (faults.Memory e)) ok err n a f = tt
 refuses_of Breaks (Err (faults.Broken k b)) ok err n a f = one_broken Breaks k n b a err f

@@ -7,8 +7,8 @@ use Rattle.mesh_atoms.specs.declared.codes.metric.Metric.{Metric}
 use Rattle.mesh_atoms.specs.declared.hello.HelloRow.{HelloRow}
 use Rattle.mesh_packet.specs.Fields.{MessageFields}
 use Rattle.mesh_wire.specs.declared.collect.AddressParts.{AddressParts}
-use Rattle.mesh_wire.specs.declared.parts.One.{One}
-use Rattle.mesh_wire.specs.declared.parts.One.TheVariants.{Unsaid, Said, Several}
+use Rattle.mesh_wire.specs.declared.parts.SingleNumber.{SingleNumber}
+use Rattle.mesh_wire.specs.declared.parts.SingleNumber.TheVariants.{Unsaid, Said, Several}
 use Rattle.mesh_wire.specs.declared.parts.Octets.{Octets}
 use Rattle.mesh_wire.specs.RowRules.{is_several}
 use Rattle.mesh_wire.specs.Hello.{local_value, link_value, other_value, IsReadHelloRow}
@@ -26,7 +26,7 @@ use Rattle.std.proofs.lemmas.Bool.{or_parts}
 
 -- ---- one octet
 
-octet_of : (m : MessageFields) (net : NetAddr) (kind low bound : ℕ) (one : One) → OneIs (InRange (HasValue m net kind) low bound) one → ((x : List ℕ) → HasValue m net kind x → IsOctet low bound x) → is_several one ≡ false → OctetIs m net kind (number_from one)
+octet_of : (m : MessageFields) (net : NetAddr) (kind low bound : ℕ) (one : SingleNumber) → OneIs (InRange (HasValue m net kind) low bound) one → ((x : List ℕ) → HasValue m net kind x → IsOctet low bound x) → is_several one ≡ false → OctetIs m net kind (number_from one)
 octet_of m net kind low bound Unsaid h right e = λ x said. (let i = right x said in h i.0 (in_range (HasValue m net kind) low bound x said i))
 octet_of m net kind low bound (Said n) h right e = h.0.0
 octet_of m net kind low bound Several h right e = absurd (cc)
@@ -39,7 +39,7 @@ abbrev Below : ℕ → Option ℕ → Type 0
 Below bound None = Unit {0}
 Below bound (Some n) = n < bound
 
-below_of : (S : List ℕ → Type 0) (low bound : ℕ) (one : One) → OneIs (InRange S low bound) one → Below bound (number_from one)
+below_of : (S : List ℕ → Type 0) (low bound : ℕ) (one : SingleNumber) → OneIs (InRange S low bound) one → Below bound (number_from one)
 below_of S low bound Unsaid h = tt
 below_of S low bound (Said n) h = h.0.2
 below_of S low bound Several h = tt
@@ -69,7 +69,7 @@ other_back (suc (suc n)) h = absurd (omega arith)
 sixteenth : (n code : ℕ) → n ≡ 16 * code → n / 16 ≡ code
 sixteenth n code e = omega (arith, e)
 
-pub metric_is : (m : MessageFields) (net : NetAddr) (kind : MetricKind) (one : One) (metric : Option Metric) → OneIs (Shows (HasValue m net link_metric) (flag_of kind)) one → is_several one ≡ false → MetricFrom one metric → MetricIs m net kind metric
+pub metric_is : (m : MessageFields) (net : NetAddr) (kind : MetricKind) (one : SingleNumber) (metric : Option Metric) → OneIs (Shows (HasValue m net link_metric) (flag_of kind)) one → is_several one ≡ false → MetricFrom one metric → MetricIs m net kind metric
 metric_is m net kind Unsaid None h e f = λ code shows. h (16 * code) (of_code m net kind code shows)
 metric_is m net kind Unsaid (Some metric) h e f = absurd (cc)
 metric_is m net kind (Said n) None h e f = absurd (cc)

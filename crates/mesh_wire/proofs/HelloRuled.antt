@@ -5,7 +5,7 @@ use Rattle.std.proofs.lemmas.Bool.{cases_Bool, ltb-true, lt-ltb, and_parts as bo
 use Rattle.mesh_atoms.specs.declared.addr.NetAddr.{NetAddr}
 use Rattle.mesh_packet.specs.Fields.{MessageFields}
 use Rattle.mesh_wire.specs.declared.collect.AddressParts.{AddressParts}
-use Rattle.mesh_wire.specs.declared.parts.One.{One}
+use Rattle.mesh_wire.specs.declared.parts.SingleNumber.{SingleNumber}
 use Rattle.mesh_wire.specs.declared.parts.Octets.{Octets}
 use Rattle.mesh_wire.specs.declared.parts.RowParts.{RowParts}
 use Rattle.mesh_wire.specs.RowRules.{is_several, is_said, is_undefined, has_two, has_status, has_wrong_metric, hello_rule}
@@ -61,14 +61,14 @@ code_of m net kind n (high, low, said, on, is) = (256 * (high % 16) + low, (high
 pub of_code : (m : MessageFields) (net : NetAddr) (kind : MetricKind) (code : ℕ) → ShowsMetric m net kind code → Shows (HasValue m net link_metric) (flag_of kind) (16 * code)
 of_code m net kind code (high, low, said, on, is) = (high, low, said, on, ap (λ (k : ℕ). 16 * k) is)
 
-two_codes : (m : MessageFields) (net : NetAddr) (kind : MetricKind) (one : One) → OneIs (Shows (HasValue m net link_metric) (flag_of kind)) one → is_several one ≡ true → HasWrongMetric m net
+two_codes : (m : MessageFields) (net : NetAddr) (kind : MetricKind) (one : SingleNumber) → OneIs (Shows (HasValue m net link_metric) (flag_of kind)) one → is_several one ≡ true → HasWrongMetric m net
 two_codes m net kind one h e =
     let (a, b, x, y, d) = several_differ (Shows (HasValue m net link_metric) (flag_of kind)) one h e in
     let (c, s, f) = code_of m net kind a x in
     let (k, t, g) = code_of m net kind b y in
     inr (kind, c, k, s, t, λ same. d (f ∙ ap (λ (j : ℕ). 16 * j) same ∙ sym g))
 
-codes_two : (m : MessageFields) (net : NetAddr) (kind : MetricKind) (one : One) (a b : ℕ) → OneIs (Shows (HasValue m net link_metric) (flag_of kind)) one → ShowsMetric m net kind a → ShowsMetric m net kind b → a ≢ b → is_several one ≡ true
+codes_two : (m : MessageFields) (net : NetAddr) (kind : MetricKind) (one : SingleNumber) (a b : ℕ) → OneIs (Shows (HasValue m net link_metric) (flag_of kind)) one → ShowsMetric m net kind a → ShowsMetric m net kind b → a ≢ b → is_several one ≡ true
 codes_two m net kind one a b h x y d = differ_several (Shows (HasValue m net link_metric) (flag_of kind)) one (16 * a) (16 * b) h (of_code m net kind a x) (of_code m net kind b y) (λ e. d (omega (arith, e)))
 
 pub wrong_metric : (m : MessageFields) (net : NetAddr) (r : RowParts) → RowIs (HasValue m net) r → has_wrong_metric r ≡ true → HasWrongMetric m net

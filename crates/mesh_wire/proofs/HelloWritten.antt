@@ -24,9 +24,9 @@ use Rattle.mesh_packet.specs.declared.packet.Span.{Span}
 use Rattle.mesh_packet.specs.Grammar.{Spells}
 use Rattle.mesh_packet.specs.Least.{IsEncodableMessage, LeastForm}
 use Rattle.mesh_tlv.specs.Fields.{TlvFields}
-use Rattle.mesh_wire.specs.declared.lines.Column.{Column}
-use Rattle.mesh_wire.specs.declared.lines.Column.TheVariants.{Local, Link, Other, Mpr, AddrType, Gateway, LinkIn, LinkOut, NearIn, NearOut}
-use Rattle.mesh_wire.specs.declared.lines.Line.{Line}
+use Rattle.mesh_wire.specs.declared.lines.AddressTlvKind.{AddressTlvKind}
+use Rattle.mesh_wire.specs.declared.lines.AddressTlvKind.TheVariants.{Local, Link, Other, Mpr, AddrType, Gateway, LinkIn, LinkOut, NearIn, NearOut}
+use Rattle.mesh_wire.specs.declared.lines.AddressRecord.{AddressRecord}
 use Rattle.mesh_wire.specs.Drafts.{octet_of, whole, HasHelloValues, heading_of, IsHelloMessage, FitsAlone}
 use Rattle.mesh_wire.specs.Hello.{local_value, link_value, other_value, OriginatorIs, TellsOther, IsReadHelloRow, HelloIs}
 use Rattle.mesh_wire.specs.HelloRules.{BreaksHello, AddressWidth, HopLimit, HopCount, NoValidity, WrongInterval, WrongWilling, Undefined, TwoValues, ShortPrefix, WrongMetric}
@@ -53,7 +53,7 @@ pub bit_most : (b : Bool) → cond b 1 0 ≤ 1
 bit_most true = omega arith
 bit_most false = omega arith
 
-pub none_there : (c : Column) (l : Line) → number c l ≡ None → ◌≡◌ {A = ℕ} (cond (has_part c l) 1 0) 0
+pub none_there : (c : AddressTlvKind) (l : AddressRecord) → number c l ≡ None → ◌≡◌ {A = ℕ} (cond (has_part c l) 1 0) 0
 none_there c l e = ap (λ (o : Option ℕ). cond (is_some o) 1 0) e
 
 few_of : (row : HelloRow) (local : Option LocalIf) → row.local ≡ local → (IsSome row.local → IsAlone row) → HasFewParts (hello_line row)
@@ -106,7 +106,7 @@ metric_flagged k (Some x) octets e = ((256 * flag_of k + x.code) / 256, (256 * f
 metric_read : (row : HelloRow) (k : MetricKind) (kind : ℕ) (octets : List ℕ) → kind ≡ link_metric → value_of (column_of k) (hello_line row) ≡ Some octets → IsReadOfOther kind octets
 metric_read row k kind octets e v = inr (inr (inr (e, (k, metric_flagged k (metric_of k row.metrics) octets (sym (metric_value k (hello_line row)) ∙ v)))))
 
-other_read : (row : HelloRow) (kind : ℕ) (octets : List ℕ) (c : Column) → kind ≡ kind_of c → value_of c (hello_line row) ≡ Some octets → row.local ≡ None → IsReadOfOther kind octets
+other_read : (row : HelloRow) (kind : ℕ) (octets : List ℕ) (c : AddressTlvKind) → kind ≡ kind_of c → value_of c (hello_line row) ≡ Some octets → row.local ≡ None → IsReadOfOther kind octets
 other_read row kind octets Local e v none =
     absurd (none_said octets (option_map (λ (n : ℕ). n ∷ []) (option_map local_value row.local)) (ap (λ (o : Option LocalIf). option_map (λ (n : ℕ). n ∷ []) (option_map local_value o)) none) (sym (octet_value (hello_line row).local) ∙ v))
 other_read row kind octets Link e v none = inl e
@@ -128,7 +128,7 @@ no_metric row k octets t v = none_said octets (option_map (metric_octets k) (met
     nothing Near_in = refl
     nothing Near_out = refl
 
-only_local : (row : HelloRow) (kind : ℕ) (octets : List ℕ) (c : Column) → kind ≡ kind_of c → value_of c (hello_line row) ≡ Some octets → IsAlone row → kind ≡ local_if
+only_local : (row : HelloRow) (kind : ℕ) (octets : List ℕ) (c : AddressTlvKind) → kind ≡ kind_of c → value_of c (hello_line row) ≡ Some octets → IsAlone row → kind ≡ local_if
 only_local row kind octets Local e v t = e
 only_local row kind octets Link e v t = absurd (none_said octets (option_map (λ (n : ℕ). n ∷ []) (option_map link_value row.link)) (ap (λ (o : Option LinkStatus). option_map (λ (n : ℕ). n ∷ []) (option_map link_value o)) t.link) (sym (octet_value (hello_line row).link) ∙ v))
 only_local row kind octets Other e v t = absurd (none_said octets (option_map (λ (n : ℕ). n ∷ []) (option_map other_value row.other)) (ap (λ (o : Option OtherStatus). option_map (λ (n : ℕ). n ∷ []) (option_map other_value o)) t.other) (sym (octet_value (hello_line row).other) ∙ v))
@@ -260,7 +260,7 @@ module _ (hello : Hello) (values : List ℕ) (m : MessageFields) (h : IsHelloMes
 
   -- ---- the whole
 
-  few : (line : Line) → Contains (map hello_line hello.rows) line → HasFewParts line
+  few : (line : AddressRecord) → Contains (map hello_line hello.rows) line → HasFewParts line
   few line on = let (row, there, is) = unmapped hello_line hello.rows line on in subst HasFewParts is (few_of row row.local refl (sender row there))
 
   pub fits : length hello.rows ≤ 1100 → FitsAlone m

@@ -5,8 +5,8 @@ use Rattle.std.proofs.lemmas.Bool.{cases_lt}
 use Rattle.mesh_atoms.specs.declared.addr.NetAddr.{NetAddr}
 use Rattle.mesh_packet.specs.Fields.{MessageFields}
 use Rattle.mesh_wire.specs.declared.collect.AddressParts.{AddressParts}
-use Rattle.mesh_wire.specs.declared.parts.One.{One}
-use Rattle.mesh_wire.specs.declared.parts.One.TheVariants.{Unsaid, Said, Several}
+use Rattle.mesh_wire.specs.declared.parts.SingleNumber.{SingleNumber}
+use Rattle.mesh_wire.specs.declared.parts.SingleNumber.TheVariants.{Unsaid, Said, Several}
 use Rattle.mesh_wire.specs.declared.parts.Octets.{Octets}
 use Rattle.mesh_wire.specs.declared.parts.RowParts.{RowParts}
 use Rattle.mesh_wire.specs.Collects.{AreCollected}
@@ -78,22 +78,22 @@ pub in_range : (S : List ℕ → Type 0) (low bound : ℕ) (x : List ℕ) → S 
 in_range S low bound x s i = (subst S i.1 s, i.2, i.3)
 
 -- two numbers that differ are several
-pub differ_several : (T : ℕ → Type 0) (one : One) (a b : ℕ) → OneIs T one → T a → T b → a ≢ b → is_several one ≡ true
+pub differ_several : (T : ℕ → Type 0) (one : SingleNumber) (a b : ℕ) → OneIs T one → T a → T b → a ≢ b → is_several one ≡ true
 differ_several T Unsaid a b h x y d = absurd (h a x)
 differ_several T (Said n) a b h x y d = absurd (d (h.1 a x ∙ sym (h.1 b y)))
 differ_several T Several a b h x y d = refl
 
-pub several_differ : (T : ℕ → Type 0) (one : One) → OneIs T one → is_several one ≡ true → (a : ℕ) × (b : ℕ) × T a × T b × (a ≢ b)
+pub several_differ : (T : ℕ → Type 0) (one : SingleNumber) → OneIs T one → is_several one ≡ true → (a : ℕ) × (b : ℕ) × T a × T b × (a ≢ b)
 several_differ T Unsaid h e = absurd (cc)
 several_differ T (Said n) h e = absurd (cc)
 several_differ T Several h e = h
 
-pub one_said : (T : ℕ → Type 0) (one : One) (a : ℕ) → OneIs T one → T a → is_said one ≡ true
+pub one_said : (T : ℕ → Type 0) (one : SingleNumber) (a : ℕ) → OneIs T one → T a → is_said one ≡ true
 one_said T Unsaid a h x = absurd (h a x)
 one_said T (Said n) a h x = refl
 one_said T Several a h x = refl
 
-pub said_one : (T : ℕ → Type 0) (one : One) → OneIs T one → is_said one ≡ true → (a : ℕ) × T a
+pub said_one : (T : ℕ → Type 0) (one : SingleNumber) → OneIs T one → is_said one ≡ true → (a : ℕ) × T a
 said_one T Unsaid h e = absurd (cc)
 said_one T (Said n) h e = (n, h.0)
 said_one T Several (a, b, x, y, d) e = (a, x)

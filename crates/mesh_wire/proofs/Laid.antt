@@ -16,13 +16,13 @@ use Rattle.mesh_addr.specs.declared.records.RawAddr.{RawAddr}
 use Rattle.mesh_packet.specs.Fields.{BlockFields, MessageFields}
 use Rattle.mesh_tlv.specs.Fields.{TlvFields, AddrTlvFields}
 use Rattle.mesh_tlv.specs.Least.{least_addr_tlv}
-use Rattle.mesh_wire.specs.declared.lines.Column.{Column}
-use Rattle.mesh_wire.specs.declared.lines.Column.TheVariants.{Local, Link, Other, Mpr, AddrType, Gateway, LinkIn, LinkOut, NearIn, NearOut}
-use Rattle.mesh_wire.specs.declared.lines.Line.{Line}
+use Rattle.mesh_wire.specs.declared.lines.AddressTlvKind.{AddressTlvKind}
+use Rattle.mesh_wire.specs.declared.lines.AddressTlvKind.TheVariants.{Local, Link, Other, Mpr, AddrType, Gateway, LinkIn, LinkOut, NearIn, NearOut}
+use Rattle.mesh_wire.specs.declared.lines.AddressRecord.{AddressRecord}
 use Rattle.mesh_wire.specs.Lines.{kind_of, value_of, columns}
 use Rattle.mesh_wire.specs.Parts.{octets_of, IsIn, value_at}
 use Rattle.mesh_wire.specs.Rows.{HoldsAddressAt, HoldsAddress, HasPart, HasValue}
-use Rattle.mesh_wire.specs.Runs.{host_octets, raw_of, present, IsRun, LaysAll, IsBlock, AreBlocks}
+use Rattle.mesh_wire.specs.Runs.{host_octets, raw_of, present, IsColumnTlv, LaysAll, IsBlock, AreBlocks}
 use Rattle.mesh_atoms.proofs.Lists.{contains_at as at_place, place_of, contains_head as at_head, contains_tail as in_tail, contains_cases, contains_none as none_in}
 use Rattle.mesh_atoms.proofs.Options.{one_some}
 use Rattle.mesh_atoms.proofs.Values.{same_addr}
@@ -51,7 +51,7 @@ in_same net other h = same_net net other (same_addr net.addr other.addr ((is_in 
 
 -- ---- columns
 
-pub each_column : (c : Column) → Contains columns c
+pub each_column : (c : AddressTlvKind) → Contains columns c
 each_column Local = at_place columns 0 Local refl
 each_column Link = at_place columns 1 Link refl
 each_column Other = at_place columns 2 Other refl
@@ -63,7 +63,7 @@ each_column LinkOut = at_place columns 7 LinkOut refl
 each_column NearIn = at_place columns 8 NearIn refl
 each_column NearOut = at_place columns 9 NearOut refl
 
-pub runs_of_all : (cs : List Column) (lines : List Line) (tlvs : List AddrTlvFields) → LaysAll cs lines tlvs → (tlv : AddrTlvFields) → Contains tlvs tlv → (c : Column) × IsRun c lines tlv
+pub runs_of_all : (cs : List AddressTlvKind) (lines : List AddressRecord) (tlvs : List AddrTlvFields) → LaysAll cs lines tlvs → (tlv : AddrTlvFields) → Contains tlvs tlv → (c : AddressTlvKind) × IsColumnTlv c lines tlv
 runs_of_all [] lines tlvs h tlv has = absurd (none_in tlv (subst (λ (l : List AddrTlvFields). Contains l tlv) h has))
 runs_of_all (c ∷ cs) lines tlvs (first, others, is, h, k) tlv has =
     let there : Contains (first ++ others) tlv = subst (λ (l : List AddrTlvFields). Contains l tlv) is has in
@@ -73,28 +73,28 @@ runs_of_all (c ∷ cs) lines tlvs (first, others, is, h, k) tlv has =
     ]
 
 -- the run that covers a place
-abbrev Covered : Column → List Line → List AddrTlvFields → ℕ → Type 0
-Covered c lines tlvs place = (tlv : AddrTlvFields) × Contains tlvs tlv × IsRun c lines tlv × (tlv.first ≤ place) × (place ≤ tlv.last)
+abbrev Covered : AddressTlvKind → List AddressRecord → List AddrTlvFields → ℕ → Type 0
+Covered c lines tlvs place = (tlv : AddrTlvFields) × Contains tlvs tlv × IsColumnTlv c lines tlv × (tlv.first ≤ place) × (place ≤ tlv.last)
 
-covered_in : (cs : List Column) (lines : List Line) (tlvs : List AddrTlvFields) → LaysAll cs lines tlvs → (c : Column) → Contains cs c → (place : ℕ) (line : Line) (octets : List ℕ) →
+covered_in : (cs : List AddressTlvKind) (lines : List AddressRecord) (tlvs : List AddrTlvFields) → LaysAll cs lines tlvs → (c : AddressTlvKind) → Contains cs c → (place : ℕ) (line : AddressRecord) (octets : List ℕ) →
     place < length lines → slice_get lines place ≡ Some line → value_of c line ≡ Some octets → Covered c lines tlvs place
 covered_in [] lines tlvs h c among place line octets lt at is = absurd (none_in c among)
 covered_in (d ∷ cs) lines tlvs (first, others, whole, h, k) c among place line octets lt at is = elim (contains_cases d cs c among) [
   | inl same ↦
-      let said : value_of d line ≡ Some octets = subst (λ (x : Column). value_of x line ≡ Some octets) (sym same) is in
+      let said : value_of d line ≡ Some octets = subst (λ (x : AddressTlvKind). value_of x line ≡ Some octets) (sym same) is in
       let (tlv, has, low, high) = h.all place line octets lt at said in
-      (tlv, subst (λ (l : List AddrTlvFields). Contains l tlv) (sym whole) (Contains-append_left first others tlv has), subst (λ (x : Column). IsRun x lines tlv) same (h.each tlv has), low, high)
+      (tlv, subst (λ (l : List AddrTlvFields). Contains l tlv) (sym whole) (Contains-append_left first others tlv has), subst (λ (x : AddressTlvKind). IsColumnTlv x lines tlv) same (h.each tlv has), low, high)
   | inr later ↦
       let (tlv, has, run, low, high) = covered_in cs lines others k c later place line octets lt at is in
       (tlv, subst (λ (l : List AddrTlvFields). Contains l tlv) (sym whole) (Contains-append_right first others tlv has), run, low, high)
 ]
 
 -- how many parts lines have in columns
-abbrev pub parts_in : List Column → List Line → ℕ
+abbrev pub parts_in : List AddressTlvKind → List AddressRecord → ℕ
 parts_in [] lines = 0
 parts_in (c ∷ cs) lines = present c lines + parts_in cs lines
 
-pub all_short : (cs : List Column) (lines : List Line) (tlvs : List AddrTlvFields) → LaysAll cs lines tlvs → (count : ℕ) → length (flat_map (least_addr_tlv count) tlvs) ≤ 7 * parts_in cs lines
+pub all_short : (cs : List AddressTlvKind) (lines : List AddressRecord) (tlvs : List AddrTlvFields) → LaysAll cs lines tlvs → (count : ℕ) → length (flat_map (least_addr_tlv count) tlvs) ≤ 7 * parts_in cs lines
 all_short [] lines tlvs h count = rw h (omega arith)
 all_short (c ∷ cs) lines tlvs (first, others, whole, h, k) count =
     let least = least_addr_tlv count in
@@ -104,32 +104,32 @@ all_short (c ∷ cs) lines tlvs (first, others, whole, h, k) count =
 
 -- ---- blocks
 
-pub block_there : (lines : List Line) (blocks : List BlockFields) → AreBlocks lines blocks → (b : BlockFields) → Contains blocks b → (front : List Line) × IsBlock front b × ((line : Line) → Contains front line → Contains lines line)
+pub block_there : (lines : List AddressRecord) (blocks : List BlockFields) → AreBlocks lines blocks → (b : BlockFields) → Contains blocks b → (front : List AddressRecord) × IsBlock front b × ((line : AddressRecord) → Contains front line → Contains lines line)
 block_there lines [] h b has = absurd (none_in b has)
 block_there lines (d ∷ blocks) (front, rest, whole, some, h, k) b has = elim (contains_cases d blocks b has) [
-  | inl same ↦ (front, subst (IsBlock front) same h, λ line at. subst (λ (l : List Line). Contains l line) (sym whole) (Contains-append_left front rest line at))
+  | inl same ↦ (front, subst (IsBlock front) same h, λ line at. subst (λ (l : List AddressRecord). Contains l line) (sym whole) (Contains-append_left front rest line at))
   | inr later ↦
       let (part, is, up) = block_there rest blocks k b later in
-      (part, is, λ line at. subst (λ (l : List Line). Contains l line) (sym whole) (Contains-append_right front rest line (up line at)))
+      (part, is, λ line at. subst (λ (l : List AddressRecord). Contains l line) (sym whole) (Contains-append_right front rest line (up line at)))
 ]
 
-pub line_there : (lines : List Line) (blocks : List BlockFields) → AreBlocks lines blocks → (line : Line) → Contains lines line → (b : BlockFields) × (front : List Line) × Contains blocks b × IsBlock front b × Contains front line
-line_there lines [] h line has = absurd (none_in line (subst (λ (l : List Line). Contains l line) h has))
+pub line_there : (lines : List AddressRecord) (blocks : List BlockFields) → AreBlocks lines blocks → (line : AddressRecord) → Contains lines line → (b : BlockFields) × (front : List AddressRecord) × Contains blocks b × IsBlock front b × Contains front line
+line_there lines [] h line has = absurd (none_in line (subst (λ (l : List AddressRecord). Contains l line) h has))
 line_there lines (d ∷ blocks) (front, rest, whole, some, h, k) line has =
-    let there : Contains (front ++ rest) line = subst (λ (l : List Line). Contains l line) whole has in
+    let there : Contains (front ++ rest) line = subst (λ (l : List AddressRecord). Contains l line) whole has in
     elim (Contains-append_cases front rest line there) [
       | inl here ↦ (d, front, at_head d blocks, h, here)
       | inr later ↦ let (b, part, among, is, at) = line_there rest blocks k line later in (b, part, in_tail d blocks b among, is, at)
     ]
 
 -- the line of the address at a place of a block
-line_at : (front : List Line) (b : BlockFields) → IsBlock front b → (place : ℕ) (address : RawAddr) (net : NetAddr) → slice_get b.addrs place ≡ Some address → IsIn address net → (line : Line) × (slice_get front place ≡ Some line) × (line.net ≡ net)
+line_at : (front : List AddressRecord) (b : BlockFields) → IsBlock front b → (place : ℕ) (address : RawAddr) (net : NetAddr) → slice_get b.addrs place ≡ Some address → IsIn address net → (line : AddressRecord) × (slice_get front place ≡ Some line) × (line.net ≡ net)
 line_at front b h place address net at is =
-    let mapped : option_map (λ (l : Line). raw_of l.net) (slice_get front place) ≡ Some address =
-    sym (slice_get-map (λ (l : Line). raw_of l.net) front place) ∙ ap (λ (l : List RawAddr). slice_get l place) (sym h.addrs) ∙ at in
+    let mapped : option_map (λ (l : AddressRecord). raw_of l.net) (slice_get front place) ≡ Some address =
+    sym (slice_get-map (λ (l : AddressRecord). raw_of l.net) front place) ∙ ap (λ (l : List RawAddr). slice_get l place) (sym h.addrs) ∙ at in
     from (slice_get front place) mapped refl
   where
-    from : (o : Option Line) → option_map (λ (l : Line). raw_of l.net) o ≡ Some address → slice_get front place ≡ o → (line : Line) × (slice_get front place ≡ Some line) × (line.net ≡ net)
+    from : (o : Option AddressRecord) → option_map (λ (l : AddressRecord). raw_of l.net) o ≡ Some address → slice_get front place ≡ o → (line : AddressRecord) × (slice_get front place ≡ Some line) × (line.net ≡ net)
     from None e there = cc
     from (Some line) e there = let same : raw_of line.net ≡ address = cc in (line, there, in_same line.net net (subst (λ (a : RawAddr). IsIn a net) (sym same) is))
 
@@ -138,9 +138,9 @@ line_at front b h place address net at is =
 same_part : (a b x y : ℕ) (v w : Option (List ℕ)) → a ≡ b → x ≡ y → v ≡ w → ◌≡◌ {A = TlvFields} (record { kind = a; ext = x; value = v }) (record { kind = b; ext = y; value = w })
 same_part a b x y v w e f g = ap (λ (k : ℕ). record { kind = k; ext = x; value = v }) e ∙ ap (λ (k : ℕ). record { kind = b; ext = k; value = v }) f ∙ ap (λ (o : Option (List ℕ)). record { kind = b; ext = y; value = o }) g
 
-module _ (m : MessageFields) (lines : List Line) (are : AreBlocks lines m.blocks) where
+module _ (m : MessageFields) (lines : List AddressRecord) (are : AreBlocks lines m.blocks) where
   -- what is said of an address is what its line says
-  pub said : (net : NetAddr) (part : TlvFields) → HasPart m net part → (line : Line) × (c : Column) × Contains lines line × (line.net ≡ net) × (part.kind ≡ kind_of c) × (part.ext ≡ 0) × (value_of c line ≡ Some (octets_of part.value))
+  pub said : (net : NetAddr) (part : TlvFields) → HasPart m net part → (line : AddressRecord) × (c : AddressTlvKind) × Contains lines line × (line.net ≡ net) × (part.kind ≡ kind_of c) × (part.ext ≡ 0) × (value_of c line ≡ Some (octets_of part.value))
   said net part h =
       let (front, is, up) = block_there lines m.blocks are h.block h.address.in_message in
       let (line, at, of) = line_at front h.block is h.place h.address.address net h.address.in_block h.address.is_in in
@@ -157,16 +157,16 @@ module _ (m : MessageFields) (lines : List Line) (are : AreBlocks lines m.blocks
         ap (value_of c) (sym same) ∙ value ∙ ap Some (sym e),
       )
 
-  address_at : (front : List Line) (b : BlockFields) → IsBlock front b → Contains m.blocks b → (place : ℕ) (line : Line) → slice_get front place ≡ Some line → HoldsAddressAt m b place line.net
+  address_at : (front : List AddressRecord) (b : BlockFields) → IsBlock front b → Contains m.blocks b → (place : ℕ) (line : AddressRecord) → slice_get front place ≡ Some line → HoldsAddressAt m b place line.net
   address_at front b is among place line at = record {
     address = raw_of line.net;
     in_message = among;
-    in_block = ap (λ (l : List RawAddr). slice_get l place) is.addrs ∙ slice_get-map (λ (l : Line). raw_of l.net) front place ∙ ap (option_map (λ (l : Line). raw_of l.net)) at;
+    in_block = ap (λ (l : List RawAddr). slice_get l place) is.addrs ∙ slice_get-map (λ (l : AddressRecord). raw_of l.net) front place ∙ ap (option_map (λ (l : AddressRecord). raw_of l.net)) at;
     is_in = is_in line.net;
   }
 
   -- and what the line says is said
-  pub says : (line : Line) (c : Column) (octets : List ℕ) → Contains lines line → value_of c line ≡ Some octets → HasValue m line.net (kind_of c) octets
+  pub says : (line : AddressRecord) (c : AddressTlvKind) (octets : List ℕ) → Contains lines line → value_of c line ≡ Some octets → HasValue m line.net (kind_of c) octets
   says line c octets has value =
       let (b, front, among, is, here) = line_there lines m.blocks are line has in
       let (place, lt, at) = place_of front line here in
@@ -188,13 +188,13 @@ module _ (m : MessageFields) (lines : List Line) (are : AreBlocks lines m.blocks
         refl,
       )
 
-  pub stands : (line : Line) → Contains lines line → HoldsAddress m line.net
+  pub stands : (line : AddressRecord) → Contains lines line → HoldsAddress m line.net
   stands line has =
       let (b, front, among, is, here) = line_there lines m.blocks are line has in
       let (place, lt, at) = place_of front line here in
       (b, place, address_at front b is among place line at)
 
-  pub standing_line : (net : NetAddr) → HoldsAddress m net → (line : Line) × Contains lines line × (line.net ≡ net)
+  pub standing_line : (net : NetAddr) → HoldsAddress m net → (line : AddressRecord) × Contains lines line × (line.net ≡ net)
   standing_line net (b, place, h) =
       let (front, is, up) = block_there lines m.blocks are b h.in_message in
       let (line, at, of) = line_at front b is place h.address net h.in_block h.is_in in

@@ -8,9 +8,9 @@ use Rattle.mesh_atoms.specs.declared.codes.metric.Metric.{Metric}
 use Rattle.mesh_atoms.specs.Reading.{has}
 use Rattle.mesh_packet.specs.Fields.{MessageFields}
 use Rattle.mesh_packet.proofs.FlagSums.{tells_128, tells_64, tells_32, tells_16}
-use Rattle.mesh_wire.specs.declared.lines.Column.{Column}
-use Rattle.mesh_wire.specs.declared.lines.Column.TheVariants.{Local, Link, Other, Mpr, AddrType, Gateway, LinkIn, LinkOut, NearIn, NearOut}
-use Rattle.mesh_wire.specs.declared.lines.Line.{Line}
+use Rattle.mesh_wire.specs.declared.lines.AddressTlvKind.{AddressTlvKind}
+use Rattle.mesh_wire.specs.declared.lines.AddressTlvKind.TheVariants.{Local, Link, Other, Mpr, AddrType, Gateway, LinkIn, LinkOut, NearIn, NearOut}
+use Rattle.mesh_wire.specs.declared.lines.AddressRecord.{AddressRecord}
 use Rattle.mesh_wire.specs.Kinds.{link_metric}
 use Rattle.mesh_wire.specs.Lines.{kind_of, is_wide, high, value_of, flags_number}
 use Rattle.mesh_wire.specs.Metrics.{MetricKind, Link_in, Link_out, Near_in, Near_out, flag_of, ShowsMetric, MetricIs}
@@ -20,10 +20,10 @@ use Rattle.mesh_wire.proofs.Laid.{said, says}
 
 -- ---- the one column of a type whose values are octets
 
-of_kind : ℕ → Column
+of_kind : ℕ → AddressTlvKind
 of_kind n = if n == 2 then Local else if n == 3 then Link else if n == 4 then Other else if n == 8 then Mpr else if n == 9 then AddrType else if n == 10 then Gateway else LinkIn
 
-narrow_told : (c : Column) → is_wide c ≡ false → of_kind (kind_of c) ≡ c
+narrow_told : (c : AddressTlvKind) → is_wide c ≡ false → of_kind (kind_of c) ≡ c
 unfolding of_kind
 narrow_told Local e = refl
 narrow_told Link e = refl
@@ -36,7 +36,7 @@ narrow_told LinkOut e = cc
 narrow_told NearIn e = cc
 narrow_told NearOut e = cc
 
-wide_told : (c : Column) → (is_wide c ≡ false) ⊎ (is_wide (of_kind (kind_of c)) ≡ true)
+wide_told : (c : AddressTlvKind) → (is_wide c ≡ false) ⊎ (is_wide (of_kind (kind_of c)) ≡ true)
 unfolding of_kind
 wide_told Local = inl refl
 wide_told Link = inl refl
@@ -49,7 +49,7 @@ wide_told LinkOut = inr refl
 wide_told NearIn = inr refl
 wide_told NearOut = inr refl
 
-only : (c d : Column) → is_wide c ≡ false → kind_of c ≡ kind_of d → d ≡ c
+only : (c d : AddressTlvKind) → is_wide c ≡ false → kind_of c ≡ kind_of d → d ≡ c
 only c d narrow same = elim (wide_told d) [
   | inl other ↦ sym (narrow_told d other) ∙ ap of_kind (sym same) ∙ narrow_told c narrow
   | inr wide ↦
@@ -65,7 +65,7 @@ octet_value (Some n) = ap (λ (k : ℕ). Some (k ∷ [])) (mul-div_right n {m = 
 
 -- ---- metrics
 
-abbrev pub column_of : MetricKind → Column
+abbrev pub column_of : MetricKind → AddressTlvKind
 column_of Link_in = LinkIn
 column_of Link_out = LinkOut
 column_of Near_in = NearIn
@@ -84,7 +84,7 @@ column_kind Near_in = refl
 column_kind Near_out = refl
 
 -- a column of that type is one of a kind of metric
-pub metric_column : (c : Column) → link_metric ≡ kind_of c → (k : MetricKind) × (c ≡ column_of k)
+pub metric_column : (c : AddressTlvKind) → link_metric ≡ kind_of c → (k : MetricKind) × (c ≡ column_of k)
 metric_column Local e = absurd (omega arith)
 metric_column Link e = absurd (omega arith)
 metric_column Other e = absurd (omega arith)
@@ -100,7 +100,7 @@ metric_column NearOut e = (Near_out, refl)
 abbrev pub metric_octets : MetricKind → Metric → List ℕ
 metric_octets k m = (256 * flag_of k + m.code) / 256 ∷ ((256 * flag_of k + m.code) % 256 ∷ [])
 
-pub metric_value : (k : MetricKind) (l : Line) → value_of (column_of k) l ≡ option_map (metric_octets k) (metric_of k l.metrics)
+pub metric_value : (k : MetricKind) (l : AddressRecord) → value_of (column_of k) l ≡ option_map (metric_octets k) (metric_of k l.metrics)
 metric_value Link_in l = twice Link_in l.metrics.link_in
   where
     twice : (k : MetricKind) (o : Option Metric) → option_map (λ (n : ℕ). n / 256 ∷ (n % 256 ∷ [])) (option_map (λ (m : Metric). 256 * flag_of k + m.code) o) ≡ option_map (metric_octets k) o
@@ -176,29 +176,29 @@ same_one a b e = cc
 
 -- ---- what is said of the address of a line
 
-module _ (m : MessageFields) (lines : List Line) (are : AreBlocks lines m.blocks) (unique : (a b : Line) → Contains lines a → Contains lines b → a.net ≡ b.net → a ≡ b) (line : Line) (among : Contains lines line) where
-  pub line_says : (kind : ℕ) (octets : List ℕ) → HasValue m line.net kind octets → (c : Column) × (kind ≡ kind_of c) × (value_of c line ≡ Some octets)
+module _ (m : MessageFields) (lines : List AddressRecord) (are : AreBlocks lines m.blocks) (unique : (a b : AddressRecord) → Contains lines a → Contains lines b → a.net ≡ b.net → a ≡ b) (line : AddressRecord) (among : Contains lines line) where
+  pub line_says : (kind : ℕ) (octets : List ℕ) → HasValue m line.net kind octets → (c : AddressTlvKind) × (kind ≡ kind_of c) × (value_of c line ≡ Some octets)
   line_says kind octets (value, part, is) =
       let (other, c, there, of, k, ext, v) = said m lines are line.net (record { kind = kind; ext = 0; value = value }) part in
       let same : other ≡ line = unique other line there among of in
       (c, k, ap (value_of c) (sym same) ∙ v ∙ ap Some (sym is))
 
   -- of a type whose values are octets
-  pub says_only : (c : Column) → is_wide c ≡ false → (octets : List ℕ) → HasValue m line.net (kind_of c) octets → value_of c line ≡ Some octets
+  pub says_only : (c : AddressTlvKind) → is_wide c ≡ false → (octets : List ℕ) → HasValue m line.net (kind_of c) octets → value_of c line ≡ Some octets
   says_only c narrow octets s =
       let (d, k, v) = line_says (kind_of c) octets s in
-      subst (λ (x : Column). value_of x line ≡ Some octets) (only c d narrow k) v
+      subst (λ (x : AddressTlvKind). value_of x line ≡ Some octets) (only c d narrow k) v
 
-  pub octet_is : (c : Column) → is_wide c ≡ false → (o : Option ℕ) → value_of c line ≡ option_map (λ (n : ℕ). n ∷ []) o → OctetIs m line.net (kind_of c) o
+  pub octet_is : (c : AddressTlvKind) → is_wide c ≡ false → (o : Option ℕ) → value_of c line ≡ option_map (λ (n : ℕ). n ∷ []) o → OctetIs m line.net (kind_of c) o
   octet_is c narrow None e = λ octets s. (let f = says_only c narrow octets s in cc)
   octet_is c narrow (Some n) e = says m lines are line c (n ∷ []) among e
 
   -- one of two values is said, where the value is known
-  flag_said : (c : Column) → is_wide c ≡ false → (n flag : ℕ) → value_of c line ≡ Some (n ∷ []) → SaysFlag m line.net (kind_of c) flag → (n ≡ flag) ⊎ (n ≡ 3)
+  flag_said : (c : AddressTlvKind) → is_wide c ≡ false → (n flag : ℕ) → value_of c line ≡ Some (n ∷ []) → SaysFlag m line.net (kind_of c) flag → (n ≡ flag) ⊎ (n ≡ 3)
   flag_said c narrow n flag e (inl s) = inl (same_one n flag (sym e ∙ says_only c narrow (flag ∷ []) s))
   flag_said c narrow n flag e (inr s) = inr (same_one n 3 (sym e ∙ says_only c narrow (3 ∷ []) s))
 
-  none_flag : (c : Column) → is_wide c ≡ false → (flag : ℕ) → value_of c line ≡ None → SaysFlag m line.net (kind_of c) flag → ⊥
+  none_flag : (c : AddressTlvKind) → is_wide c ≡ false → (flag : ℕ) → value_of c line ≡ None → SaysFlag m line.net (kind_of c) flag → ⊥
   none_flag c narrow flag e (inl s) = let f = says_only c narrow (flag ∷ []) s in cc
   none_flag c narrow flag e (inr s) = let f = says_only c narrow (3 ∷ []) s in cc
 
@@ -206,7 +206,7 @@ module _ (m : MessageFields) (lines : List Line) (are : AreBlocks lines m.blocks
   apart n flag a b (inl e) = a e
   apart n flag a b (inr e) = b e
 
-  pub flags_are : (c : Column) → is_wide c ≡ false → (a b : Bool) → value_of c line ≡ option_map (λ (n : ℕ). n ∷ []) (flags_number a b) → (IsTrue a ↔ SaysFlag m line.net (kind_of c) 1) × (IsTrue b ↔ SaysFlag m line.net (kind_of c) 2)
+  pub flags_are : (c : AddressTlvKind) → is_wide c ≡ false → (a b : Bool) → value_of c line ≡ option_map (λ (n : ℕ). n ∷ []) (flags_number a b) → (IsTrue a ↔ SaysFlag m line.net (kind_of c) 1) × (IsTrue b ↔ SaysFlag m line.net (kind_of c) 2)
   flags_are c narrow false false e = ((λ t. cc, λ s. absurd (none_flag c narrow 1 e s)), (λ t. cc, λ s. absurd (none_flag c narrow 2 e s)))
   flags_are c narrow true false e = ((λ t. inl (says m lines are line c (1 ∷ []) among e), λ s. refl), (λ t. cc, λ s. absurd (apart 1 2 (λ f. omega (arith, f)) (λ f. omega (arith, f)) (flag_said c narrow 1 2 e s))))
   flags_are c narrow false true e = ((λ t. cc, λ s. absurd (apart 2 1 (λ f. omega (arith, f)) (λ f. omega (arith, f)) (flag_said c narrow 2 1 e s))), (λ t. inl (says m lines are line c (2 ∷ []) among e), λ s. refl))
@@ -229,7 +229,7 @@ module _ (m : MessageFields) (lines : List Line) (are : AreBlocks lines m.blocks
   shown j code (x, y, s, flag, is) =
       let (c, kind, v) = line_says link_metric (x ∷ (y ∷ [])) s in
       let (k, same) = metric_column c kind in
-      let value : value_of (column_of k) line ≡ Some (x ∷ (y ∷ [])) = subst (λ (d : Column). value_of d line ≡ Some (x ∷ (y ∷ []))) same v in
+      let value : value_of (column_of k) line ≡ Some (x ∷ (y ∷ [])) = subst (λ (d : AddressTlvKind). value_of d line ≡ Some (x ∷ (y ∷ []))) same v in
       from_metric k j (metric_of k line.metrics) x y code refl (sym (metric_value k line) ∙ value) flag is
 
   metric_from : (k : MetricKind) (o : Option Metric) → metric_of k line.metrics ≡ o → MetricIs m line.net k o
@@ -251,7 +251,7 @@ module _ (m : MessageFields) (lines : List Line) (are : AreBlocks lines m.blocks
   two_octets octets s =
       let (c, kind, v) = line_says link_metric octets s in
       let (k, same) = metric_column c kind in
-      let value : value_of (column_of k) line ≡ Some octets = subst (λ (d : Column). value_of d line ≡ Some octets) same v in
+      let value : value_of (column_of k) line ≡ Some octets = subst (λ (d : AddressTlvKind). value_of d line ≡ Some octets) same v in
       from k (metric_of k line.metrics) (sym (metric_value k line) ∙ value)
     where
       from : (k : MetricKind) (o : Option Metric) → option_map (metric_octets k) o ≡ Some octets → (x : ℕ) × (y : ℕ) × (octets ≡ x ∷ (y ∷ []))

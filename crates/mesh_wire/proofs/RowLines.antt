@@ -9,7 +9,7 @@ use Rattle.mesh_packet.specs.declared.packet.Span.{Span}
 use Rattle.mesh_packet.specs.Grammar.{Spells}
 use Rattle.mesh_packet.specs.Reading.{packet_of}
 use Rattle.mesh_packet.proofs.Packets.{packet_again}
-use Rattle.mesh_wire.specs.declared.lines.Line.{Line}
+use Rattle.mesh_wire.specs.declared.lines.AddressRecord.{AddressRecord}
 use Rattle.mesh_wire.specs.Writes.{IsSoleMessage, alone}
 use Rattle.mesh_wire.proofs.Ascending.{head_below}
 use Rattle.mesh_atoms.proofs.Lists.{contains_map_cases as unmapped, contains_cases, contains_none as none_in, all_pairs_tail}
@@ -31,12 +31,12 @@ module _ {Row : Type 0} (addr_of : Row → NetAddr) where
   ]
 
 -- lines of one address are the same
-pub one_line : {Row : Type 0} (addr_of : Row → NetAddr) (f : Row → Line) (rows : List Row) → ((r : Row) → (f r).net ≡ addr_of r) → AllPairs (λ a b. IsBefore (addr_of a) (addr_of b)) rows →
-    (a b : Line) → Contains (map f rows) a → Contains (map f rows) b → a.net ≡ b.net → a ≡ b
+pub one_line : {Row : Type 0} (addr_of : Row → NetAddr) (f : Row → AddressRecord) (rows : List Row) → ((r : Row) → (f r).net ≡ addr_of r) → AllPairs (λ a b. IsBefore (addr_of a) (addr_of b)) rows →
+    (a b : AddressRecord) → Contains (map f rows) a → Contains (map f rows) b → a.net ≡ b.net → a ≡ b
 one_line addr_of f rows of up a b has_a has_b e =
     let (r, among_r, is_r) = unmapped f rows a has_a in
     let (s, among_s, is_s) = unmapped f rows b has_b in
-    let same : r ≡ s = one_row addr_of rows up r s among_r among_s (sym (of r) ∙ ap (λ (l : Line). l.net) is_r ∙ e ∙ sym (ap (λ (l : Line). l.net) is_s) ∙ of s) in
+    let same : r ≡ s = one_row addr_of rows up r s among_r among_s (sym (of r) ∙ ap (λ (l : AddressRecord). l.net) is_r ∙ e ∙ sym (ap (λ (l : AddressRecord). l.net) is_s) ∙ of s) in
     sym is_r ∙ ap f same ∙ is_s
 
 -- an octet that is said is that of a value

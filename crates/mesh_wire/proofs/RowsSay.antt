@@ -7,8 +7,8 @@ use Rattle.mesh_atoms.specs.declared.codes.metric.Metric.{Metric}
 use Rattle.mesh_atoms.specs.Nodes.{IsBefore}
 use Rattle.mesh_packet.specs.Fields.{MessageFields}
 use Rattle.mesh_tlv.specs.Fields.{TlvFields}
-use Rattle.mesh_wire.specs.declared.lines.Column.{Column}
-use Rattle.mesh_wire.specs.declared.lines.Line.{Line}
+use Rattle.mesh_wire.specs.declared.lines.AddressTlvKind.{AddressTlvKind}
+use Rattle.mesh_wire.specs.declared.lines.AddressRecord.{AddressRecord}
 use Rattle.mesh_wire.specs.Kinds.{link_metric}
 use Rattle.mesh_wire.specs.Lines.{kind_of, is_wide, value_of, flags_number}
 use Rattle.mesh_wire.specs.Metrics.{MetricKind, ShowsMetric, MetricIs, HasWrongMetric}
@@ -20,8 +20,8 @@ use Rattle.mesh_wire.proofs.LinesSay.{says_only, octet_is, flags_are, metric_of,
 use Rattle.mesh_wire.proofs.RowLines.{one_line}
 use Rattle.mesh_atoms.proofs.Lists.{contains_map as mapped, contains_map_cases as unmapped}
 
-module _ {Row : Type 0} (line_of : Row → Line) (rows : List Row) (m : MessageFields) (are : AreBlocks (map line_of rows) m.blocks) (up : AllPairs (λ (a b : Row). IsBefore (line_of a).net (line_of b).net) rows) where
-  unique : (a b : Line) → Contains (map line_of rows) a → Contains (map line_of rows) b → a.net ≡ b.net → a ≡ b
+module _ {Row : Type 0} (line_of : Row → AddressRecord) (rows : List Row) (m : MessageFields) (are : AreBlocks (map line_of rows) m.blocks) (up : AllPairs (λ (a b : Row). IsBefore (line_of a).net (line_of b).net) rows) where
+  unique : (a b : AddressRecord) → Contains (map line_of rows) a → Contains (map line_of rows) b → a.net ≡ b.net → a ≡ b
   unique = one_line (λ (row : Row). (line_of row).net) line_of rows (λ row. refl) up
 
   among : (row : Row) → Contains rows row → Contains (map line_of rows) (line_of row)
@@ -34,19 +34,19 @@ module _ {Row : Type 0} (line_of : Row → Line) (rows : List Row) (m : MessageF
   row_at net at =
       let (line, on, of) = standing_line m (map line_of rows) are net at in
       let (row, there, is) = unmapped line_of rows line on in
-      (row, there, ap (λ (l : Line). l.net) is ∙ of)
+      (row, there, ap (λ (l : AddressRecord). l.net) is ∙ of)
 
   -- what is said of an address is a part of a row
-  pub part_there : (net : NetAddr) (part : TlvFields) → HasPart m net part → (row : Row) × (c : Column) × Contains rows row × ((line_of row).net ≡ net) × (part.kind ≡ kind_of c) × (part.ext ≡ 0) × (value_of c (line_of row) ≡ Some (octets_of part.value))
+  pub part_there : (net : NetAddr) (part : TlvFields) → HasPart m net part → (row : Row) × (c : AddressTlvKind) × Contains rows row × ((line_of row).net ≡ net) × (part.kind ≡ kind_of c) × (part.ext ≡ 0) × (value_of c (line_of row) ≡ Some (octets_of part.value))
   part_there net part p =
       let (line, c, on, of, k, ext, v) = said m (map line_of rows) are net part p in
       let (row, there, same) = unmapped line_of rows line on in
-      (row, c, there, ap (λ (l : Line). l.net) same ∙ of, k, ext, ap (value_of c) same ∙ v)
+      (row, c, there, ap (λ (l : AddressRecord). l.net) same ∙ of, k, ext, ap (value_of c) same ∙ v)
 
   row_there : (net : NetAddr) (kind : ℕ) (octets : List ℕ) → HasValue m net kind octets → (row : Row) × Contains rows row × ((line_of row).net ≡ net)
   row_there net kind octets (value, part, is) = let (row, c, there, of, k, ext, v) = part_there net (record { kind = kind; ext = 0; value = value }) part in (row, there, of)
 
-  pub said_of : (row : Row) → Contains rows row → (c : Column) → is_wide c ≡ false → (kind : ℕ) → kind ≡ kind_of c → (octets : List ℕ) → HasValue m (line_of row).net kind octets → value_of c (line_of row) ≡ Some octets
+  pub said_of : (row : Row) → Contains rows row → (c : AddressTlvKind) → is_wide c ≡ false → (kind : ℕ) → kind ≡ kind_of c → (octets : List ℕ) → HasValue m (line_of row).net kind octets → value_of c (line_of row) ≡ Some octets
   said_of row there c narrow kind e octets s =
       says_only m (map line_of rows) are unique (line_of row) (among row there) c narrow octets (subst (λ (k : ℕ). HasValue m (line_of row).net k octets) e s)
 
@@ -54,7 +54,7 @@ module _ {Row : Type 0} (line_of : Row → Line) (rows : List Row) (m : MessageF
   at_row row net e kind octets s = subst (λ (n : NetAddr). HasValue m n kind octets) (sym e) s
 
   -- what is said of an address, of a type whose values are octets, is the value of its row
-  pub row_of : (c : Column) → is_wide c ≡ false → (net : NetAddr) (kind : ℕ) → kind ≡ kind_of c → (octets : List ℕ) → HasValue m net kind octets → (row : Row) × Contains rows row × ((line_of row).net ≡ net) × (value_of c (line_of row) ≡ Some octets)
+  pub row_of : (c : AddressTlvKind) → is_wide c ≡ false → (net : NetAddr) (kind : ℕ) → kind ≡ kind_of c → (octets : List ℕ) → HasValue m net kind octets → (row : Row) × Contains rows row × ((line_of row).net ≡ net) × (value_of c (line_of row) ≡ Some octets)
   row_of c narrow net kind k octets s =
       let (row, there, of) = row_there net kind octets s in
       (row, there, of, said_of row there c narrow kind k octets (at_row row net of kind octets s))
@@ -63,7 +63,7 @@ module _ {Row : Type 0} (line_of : Row → Line) (rows : List Row) (m : MessageF
   same_value x y o e f = cc
 
   -- it is one
-  pub not_two : (c : Column) → is_wide c ≡ false → (net : NetAddr) (kind : ℕ) → kind ≡ kind_of c → HasTwoValues m net kind → ⊥
+  pub not_two : (c : AddressTlvKind) → is_wide c ≡ false → (net : NetAddr) (kind : ℕ) → kind ≡ kind_of c → HasTwoValues m net kind → ⊥
   not_two c narrow net kind k (x, y, s, t, other) =
       let (row, there, of, v) = row_of c narrow net kind k x s in
       other (same_value x y (value_of c (line_of row)) v (said_of row there c narrow kind k y (at_row row net of kind y t)))
@@ -92,10 +92,10 @@ module _ {Row : Type 0} (line_of : Row → Line) (rows : List Row) (m : MessageF
   -- ---- what is said of a row
 
   module _ (row : Row) (there : Contains rows row) where
-    pub octet_said : (c : Column) → is_wide c ≡ false → (o : Option ℕ) → value_of c (line_of row) ≡ option_map (λ (n : ℕ). n ∷ []) o → OctetIs m (line_of row).net (kind_of c) o
+    pub octet_said : (c : AddressTlvKind) → is_wide c ≡ false → (o : Option ℕ) → value_of c (line_of row) ≡ option_map (λ (n : ℕ). n ∷ []) o → OctetIs m (line_of row).net (kind_of c) o
     octet_said = octet_is m (map line_of rows) are unique (line_of row) (among row there)
 
-    pub flags_said : (c : Column) → is_wide c ≡ false → (a b : Bool) → value_of c (line_of row) ≡ option_map (λ (n : ℕ). n ∷ []) (flags_number a b) → (IsTrue a ↔ SaysFlag m (line_of row).net (kind_of c) 1) × (IsTrue b ↔ SaysFlag m (line_of row).net (kind_of c) 2)
+    pub flags_said : (c : AddressTlvKind) → is_wide c ≡ false → (a b : Bool) → value_of c (line_of row) ≡ option_map (λ (n : ℕ). n ∷ []) (flags_number a b) → (IsTrue a ↔ SaysFlag m (line_of row).net (kind_of c) 1) × (IsTrue b ↔ SaysFlag m (line_of row).net (kind_of c) 2)
     flags_said = flags_are m (map line_of rows) are unique (line_of row) (among row there)
 
     pub metric_said : (k : MetricKind) → MetricIs m (line_of row).net k (metric_of k (line_of row).metrics)

@@ -10,11 +10,11 @@ use Rattle.mesh_tlv.specs.declared.tlv.AddrTlv.{AddrTlv}
 use Rattle.mesh_tlv.specs.Fields.{AddrTlvFields, addr_fields}
 use Rattle.mesh_tlv.specs.Least.{octet_if, covers_all, is_several, least_short, least_length, least_addr_tlv, least_head, least_value}
 use Rattle.mesh_tlv.specs.Grammar.{HasEqualParts}
-use Rattle.mesh_wire.specs.declared.lines.Column.{Column}
-use Rattle.mesh_wire.specs.declared.lines.Line.{Line}
+use Rattle.mesh_wire.specs.declared.lines.AddressTlvKind.{AddressTlvKind}
+use Rattle.mesh_wire.specs.declared.lines.AddressRecord.{AddressRecord}
 use Rattle.mesh_wire.specs.Lines.{is_wide, width_of, number, octets_of, value_of, laid, column_text}
 use Rattle.mesh_wire.specs.Parts.{share_of, value_at}
-use Rattle.mesh_wire.specs.Runs.{has_part, leading, present, all_are, first_number, run_of, Adds, IsRun, LaysFirst, Lays, LaysAll, IsBlock, AreBlocks}
+use Rattle.mesh_wire.specs.Runs.{has_part, leading, present, all_are, first_number, run_of, Adds, IsColumnTlv, LaysFirst, Lays, LaysAll, IsBlock, AreBlocks}
 use Rattle.mesh_packet.specs.declared.packet.Block.{Block}
 use Rattle.mesh_packet.specs.Fields.{BlockFields, fields_of_block}
 use Rattle.std.proofs.lemmas.List.Elements.{Contains-push, Contains-append_left, Contains-push_cases}
@@ -26,7 +26,7 @@ use Rattle.mesh_atoms.proofs.Options.{some_of}
 
 -- ---- shares of a text
 
-pub column_long : (c : Column) (lines : List Line) → length (column_text c lines) ≡ length lines * width_of c
+pub column_long : (c : AddressTlvKind) (lines : List AddressRecord) → length (column_text c lines) ≡ length lines * width_of c
 column_long c lines = elim (cases_Bool (is_wide c)) [
   | inl e ↦ let two : width_of c ≡ 2 = ap (λ (b : Bool). cond b 2 1) e in rw two (omega (arith, column_wide c lines e))
   | inr e ↦ let one : width_of c ≡ 1 = ap (λ (b : Bool). cond b 2 1) e in rw one (omega (arith, column_narrow c lines e))
@@ -42,7 +42,7 @@ take_long : {X : Type 0} (k : ℕ) (xs : List X) → k ≤ length xs → length 
 take_long k xs le = omega (arith, length-take k xs)
 
 -- a share of the text is what is laid for the line at that place
-share_is : (c : Column) (lines : List Line) (n k : ℕ) (line : Line) → length lines ≡ n → k < n → slice_get lines k ≡ Some line → share_of n k (column_text c lines) ≡ laid c line
+share_is : (c : AddressTlvKind) (lines : List AddressRecord) (n k : ℕ) (line : AddressRecord) → length lines ≡ n → k < n → slice_get lines k ≡ Some line → share_of n k (column_text c lines) ≡ laid c line
 share_is c lines n k line long lt at =
     let text = column_text c lines in
     let w = width_of c in
@@ -58,10 +58,10 @@ share_is c lines n k line long lt at =
 
 -- ---- runs of lines
 
-pub leading_has : (c : Column) (lines : List Line) (k : ℕ) (line : Line) → k < leading c lines → slice_get lines k ≡ Some line → has_part c line ≡ true
+pub leading_has : (c : AddressTlvKind) (lines : List AddressRecord) (k : ℕ) (line : AddressRecord) → k < leading c lines → slice_get lines k ≡ Some line → has_part c line ≡ true
 leading_has c [] k line lt at = absurd (omega arith)
 leading_has c (l ∷ lines) zero line lt at = elim (cases_Bool (has_part c l)) [
-  | inl e ↦ let same : l ≡ line = cc in subst (λ (x : Line). has_part c x ≡ true) same e
+  | inl e ↦ let same : l ≡ line = cc in subst (λ (x : AddressRecord). has_part c x ≡ true) same e
   | inr e ↦ let none : 0 < 0 = subst (λ (b : Bool). 0 < cond b (1 + leading c lines) 0) e lt in absurd (omega arith)
 ]
 leading_has c (l ∷ lines) (suc k) line lt at = elim (cases_Bool (has_part c l)) [
@@ -69,7 +69,7 @@ leading_has c (l ∷ lines) (suc k) line lt at = elim (cases_Bool (has_part c l)
   | inr e ↦ let none : suc k < 0 = subst (λ (b : Bool). suc k < cond b (1 + leading c lines) 0) e lt in absurd (omega arith)
 ]
 
-pub leading_ends : (c : Column) (lines : List Line) (line : Line) → slice_get lines (leading c lines) ≡ Some line → has_part c line ≡ false
+pub leading_ends : (c : AddressTlvKind) (lines : List AddressRecord) (line : AddressRecord) → slice_get lines (leading c lines) ≡ Some line → has_part c line ≡ false
 leading_ends c [] line at = cc
 leading_ends c (l ∷ lines) line at = elim (cases_Bool (has_part c l)) [
   | inl e ↦
@@ -79,18 +79,18 @@ leading_ends c (l ∷ lines) line at = elim (cases_Bool (has_part c l)) [
       leading_ends c lines line there
   | inr e ↦
       let here : slice_get (l ∷ lines) 0 ≡ Some line = subst (λ (b : Bool). slice_get (l ∷ lines) (cond b (1 + leading c lines) 0) ≡ Some line) e at in
-      let same : l ≡ line = cc in subst (λ (x : Line). has_part c x ≡ false) same e
+      let same : l ≡ line = cc in subst (λ (x : AddressRecord). has_part c x ≡ false) same e
 ]
 
-pub leading_within : (c : Column) (lines : List Line) → leading c lines ≤ length lines
+pub leading_within : (c : AddressTlvKind) (lines : List AddressRecord) → leading c lines ≤ length lines
 leading_within c [] = omega arith
 leading_within c (l ∷ lines) = elim (has_part c l) as (λ (b : Bool). cond b (1 + leading c lines) 0 ≤ length (l ∷ lines)) [ true ↦ omega (arith, leading_within c lines) | false ↦ omega arith ]
 
-present_append : (c : Column) (xs ys : List Line) → present c (xs ++ ys) ≡ present c xs + present c ys
+present_append : (c : AddressTlvKind) (xs ys : List AddressRecord) → present c (xs ++ ys) ≡ present c xs + present c ys
 present_append c [] ys = omega arith
 present_append c (x ∷ xs) ys = omega (arith, present_append c xs ys)
 
-pub present_leading : (c : Column) (lines : List Line) → present c (take (leading c lines) lines) ≡ leading c lines
+pub present_leading : (c : AddressTlvKind) (lines : List AddressRecord) → present c (take (leading c lines) lines) ≡ leading c lines
 present_leading c [] = refl
 present_leading c (l ∷ lines) = elim (cases_Bool (has_part c l)) [
   | inl e ↦
@@ -103,7 +103,7 @@ present_leading c (l ∷ lines) = elim (cases_Bool (has_part c l)) [
 ]
 
 -- up to the end of a run, and to what is behind it
-pub present_run : (c : Column) (lines : List Line) (first : ℕ) → present c (take first lines) + leading c (drop first lines) ≤ present c (take (first + leading c (drop first lines) + 1) lines)
+pub present_run : (c : AddressTlvKind) (lines : List AddressRecord) (first : ℕ) → present c (take first lines) + leading c (drop first lines) ≤ present c (take (first + leading c (drop first lines) + 1) lines)
 present_run c lines first =
     let n = leading c (drop first lines) in
     let one : present c (take (first + n) lines) ≡ present c (take first lines) + n =
@@ -120,19 +120,19 @@ same_option None (Some b) e = cc
 same_option (Some a) None e = cc
 same_option (Some a) (Some b) e = ap Some (eqb-true a b e)
 
-all_there : (c : Column) (n : Option ℕ) (lines : List Line) → all_are c n lines ≡ true → (k : ℕ) (line : Line) → slice_get lines k ≡ Some line → number c line ≡ n
+all_there : (c : AddressTlvKind) (n : Option ℕ) (lines : List AddressRecord) → all_are c n lines ≡ true → (k : ℕ) (line : AddressRecord) → slice_get lines k ≡ Some line → number c line ≡ n
 all_there c n [] e k line at = cc
 all_there c n (l ∷ lines) e zero line at =
     let same : l ≡ line = cc in
-    subst (λ (x : Line). number c x ≡ n) same (same_option (number c l) n (both (option_eq nat_eq (number c l) n) (all_are c n lines) e).0)
+    subst (λ (x : AddressRecord). number c x ≡ n) same (same_option (number c l) n (both (option_eq nat_eq (number c l) n) (all_are c n lines) e).0)
 all_there c n (l ∷ lines) e (suc k) line at = all_there c n lines (both (option_eq nat_eq (number c l) n) (all_are c n lines) e).1 k line at
 
 -- lines that all have the part, of a block from a place on
-pub record Stands (c : Column) (lines : List Line) (first : ℕ) (run : List Line) : Type 0 where
+pub record Stands (c : AddressTlvKind) (lines : List AddressRecord) (first : ℕ) (run : List AddressRecord) : Type 0 where
   pub some : 0 < length run
   pub fits : first + length run ≤ length lines
   pub at : (k : ℕ) → k < length run → slice_get lines (first + k) ≡ slice_get run k
-  pub has : (k : ℕ) (line : Line) → slice_get run k ≡ Some line → has_part c line ≡ true
+  pub has : (k : ℕ) (line : AddressRecord) → slice_get run k ≡ Some line → has_part c line ≡ true
 
 value_case : (a : Bool) (one each x : List ℕ) (share : List ℕ → List ℕ) → (a ≡ true → one ≡ x) → (a ≡ false → share each ≡ x) →
     cond (not a) (option_map share (Some (cond a one each))) (Some (cond a one each)) ≡ Some x
@@ -143,15 +143,15 @@ fit_case : (a : Bool) (one each : List ℕ) (first last : ℕ) → length each %
 fit_case true one each first last h = tt
 fit_case false one each first last h = h
 
-laid_number : (c : Column) (line : Line) (n : ℕ) → number c line ≡ Some n → laid c line ≡ octets_of c n
+laid_number : (c : AddressTlvKind) (line : AddressRecord) (n : ℕ) → number c line ≡ Some n → laid c line ≡ octets_of c n
 laid_number c line n e = ap (λ (o : Option ℕ). octets_of c (unwrap_or o 0)) e
 
-one_value : (c : Column) (run : List Line) (k : ℕ) (line : Line) (n : ℕ) → all_are c (first_number c run) run ≡ true → slice_get run k ≡ Some line → number c line ≡ Some n → column_text c (take 1 run) ≡ octets_of c n
+one_value : (c : AddressTlvKind) (run : List AddressRecord) (k : ℕ) (line : AddressRecord) (n : ℕ) → all_are c (first_number c run) run ≡ true → slice_get run k ≡ Some line → number c line ≡ Some n → column_text c (take 1 run) ≡ octets_of c n
 one_value c [] k line n same at is = cc
 one_value c (l ∷ run) k line n same at is =
     append-nil (laid c l) ∙ laid_number c l n (sym (all_there c (number c l) (l ∷ run) same k line at) ∙ is)
 
-pub is_run : (c : Column) (lines : List Line) (first : ℕ) (run : List Line) → Stands c lines first run → IsRun c lines (run_of c first run)
+pub is_run : (c : AddressTlvKind) (lines : List AddressRecord) (first : ℕ) (run : List AddressRecord) → Stands c lines first run → IsColumnTlv c lines (run_of c first run)
 is_run c lines first run s = record {
   kind = refl;
   ext = refl;
@@ -170,7 +170,7 @@ is_run c lines first run s = record {
   even : length (column_text c run) % (last + 1 - first) ≡ 0
   even = rw count (ap (λ (m : ℕ). m % length run) (column_long c run) ∙ mul-mod_right (length run) (width_of c))
 
-  says : (place : ℕ) → first ≤ place → place ≤ last → (line : Line) × (octets : List ℕ) × (slice_get lines place ≡ Some line) × (value_of c line ≡ Some octets) × (value_at (run_of c first run) place ≡ Some octets)
+  says : (place : ℕ) → first ≤ place → place ≤ last → (line : AddressRecord) × (octets : List ℕ) × (slice_get lines place ≡ Some line) × (value_of c line ≡ Some octets) × (value_at (run_of c first run) place ≡ Some octets)
   says place low high =
       let k = place - first in
       let lt : k < length run = omega (arith, s.some) in
@@ -212,13 +212,13 @@ length_short n = elim (cases_lt 255 n) [
   | inr le ↦ let e : nat_lt 255 n ≡ false = le-ltb 255 n le in subst (λ (b : Bool). length (cond b (least_short n) (n ∷ [])) ≤ 1 + n / 256) (sym e) (omega arith)
 ]
 
-text_short : (c : Column) (lines : List Line) → length (column_text c lines) ≤ 2 * length lines
+text_short : (c : AddressTlvKind) (lines : List AddressRecord) → length (column_text c lines) ≤ 2 * length lines
 text_short c lines = elim (cases_Bool (is_wide c)) [
   | inl e ↦ omega (arith, column_wide c lines e)
   | inr e ↦ omega (arith, column_narrow c lines e)
 ]
 
-pub run_short : (c : Column) (first : ℕ) (run : List Line) (count : ℕ) → 0 < length run → length run ≤ 255 → length (least_addr_tlv count (run_of c first run)) ≤ 7 * length run
+pub run_short : (c : AddressTlvKind) (first : ℕ) (run : List AddressRecord) (count : ℕ) → 0 < length run → length run ≤ 255 → length (least_addr_tlv count (run_of c first run)) ≤ 7 * length run
 run_short c first run count some few =
     let tlv = run_of c first run in
     let text = cond (all_are c (first_number c run) run) (column_text c (take 1 run)) (column_text c run) in
@@ -230,14 +230,14 @@ run_short c first run count some few =
 
 -- ---- run after run
 
-pub lays_none : (c : Column) (lines : List Line) → LaysFirst c lines 0 []
+pub lays_none : (c : AddressTlvKind) (lines : List AddressRecord) → LaysFirst c lines 0 []
 lays_none c lines = record {
   each = λ tlv has. absurd (omega (arith, has.1));
   all = λ place line octets lt at is. absurd (omega arith);
   short = λ count. omega arith;
 }
 
-none_said : (c : Column) (line : Line) (octets : List ℕ) → has_part c line ≡ false → value_of c line ≡ Some octets → ⊥
+none_said : (c : AddressTlvKind) (line : AddressRecord) (octets : List ℕ) → has_part c line ≡ false → value_of c line ≡ Some octets → ⊥
 none_said c line octets e is = none (number c line) e is
   where
     none : (o : Option ℕ) → is_some o ≡ false → option_map (octets_of c) o ≡ Some octets → ⊥
@@ -245,7 +245,7 @@ none_said c line octets e is = none (number c line) e is
     none (Some n) e is = cc
 
 -- past a line that hasn't the part
-pub lays_skip : (c : Column) (lines : List Line) (first : ℕ) (tlvs : List AddrTlvFields) → leading c (drop first lines) ≡ 0 → LaysFirst c lines first tlvs → LaysFirst c lines (first + 0 + 1) tlvs
+pub lays_skip : (c : AddressTlvKind) (lines : List AddressRecord) (first : ℕ) (tlvs : List AddrTlvFields) → leading c (drop first lines) ≡ 0 → LaysFirst c lines first tlvs → LaysFirst c lines (first + 0 + 1) tlvs
 lays_skip c lines first tlvs none h = record {
   each = h.each;
   all = λ place line octets lt at is. elim (cases_lt place first) [
@@ -258,7 +258,7 @@ lays_skip c lines first tlvs none h = record {
   short = λ count. let p = present_run c lines first in omega (arith, h.short count, rw none at p);
 }
 
-pub run_stands : (c : Column) (lines : List Line) (first n : ℕ) → first ≤ length lines → leading c (drop first lines) ≡ n → 0 < n → Stands c lines first (slice_range lines first (first + n))
+pub run_stands : (c : AddressTlvKind) (lines : List AddressRecord) (first n : ℕ) → first ≤ length lines → leading c (drop first lines) ≡ n → 0 < n → Stands c lines first (slice_range lines first (first + n))
 run_stands c lines first n le is some = record {
   some = omega (arith, long);
   fits = omega (arith, long, within);
@@ -277,19 +277,19 @@ run_stands c lines first n le is some = record {
   at : (k : ℕ) → k < n → slice_get lines (first + k) ≡ slice_get (slice_range lines first (first + n)) k
   at k lt = rw size (sym (get_drop first lines k) ∙ sym (get_take n (drop first lines) k lt))
 
-  has : (k : ℕ) (line : Line) → slice_get (slice_range lines first (first + n)) k ≡ Some line → has_part c line ≡ true
+  has : (k : ℕ) (line : AddressRecord) → slice_get (slice_range lines first (first + n)) k ≡ Some line → has_part c line ≡ true
   has k line there =
       let there' : slice_get (take n (drop first lines)) k ≡ Some line = rw size at there in
       let lt : k < n = taken n (drop first lines) k line there' in
       leading_has c (drop first lines) k line (omega (arith, is)) (sym (get_take n (drop first lines) k lt) ∙ there')
 
 -- past a run and the line behind it
-pub lays_run : (c : Column) (lines : List Line) (first n : ℕ) (tlvs : List AddrTlvFields) → first ≤ length lines → length lines ≤ 255 → leading c (drop first lines) ≡ n → 0 < n →
+pub lays_run : (c : AddressTlvKind) (lines : List AddressRecord) (first n : ℕ) (tlvs : List AddrTlvFields) → first ≤ length lines → length lines ≤ 255 → leading c (drop first lines) ≡ n → 0 < n →
     LaysFirst c lines first tlvs → LaysFirst c lines (first + n + 1) (tlvs ++ run_of c first (slice_range lines first (first + n)) ∷ [])
 lays_run c lines first n tlvs le few is some h = record {
   each = λ t has. elim (Contains-push_cases tlvs tlv t has) [
     | inl old ↦ h.each t old
-    | inr e ↦ subst (IsRun c lines) e (is_run c lines first run s)
+    | inr e ↦ subst (IsColumnTlv c lines) e (is_run c lines first run s)
   ];
   all = λ place line octets lt at said. elim (cases_lt place first) [
     | inl before ↦ let (t, has, low, high) = h.all place line octets before at said in (t, Contains-append_left tlvs (tlv ∷ []) t has, low, high)
@@ -315,7 +315,7 @@ lays_run c lines first n tlvs le few is some h = record {
         ap length (append-nil (least_addr_tlv count tlv)),
       );
 } where
-  run : List Line
+  run : List AddressRecord
   run = slice_range lines first (first + n)
 
   tlv : AddrTlvFields
@@ -331,7 +331,7 @@ lays_run c lines first n tlvs le few is some h = record {
   long = rw size (take_long n (drop first lines) (omega (arith, length-drop first lines, leading_within c (drop first lines), is)))
 
 -- at the end
-pub lays_all : (c : Column) (lines : List Line) (first : ℕ) (tlvs : List AddrTlvFields) → length lines ≤ first → LaysFirst c lines first tlvs → Lays c lines tlvs
+pub lays_all : (c : AddressTlvKind) (lines : List AddressRecord) (first : ℕ) (tlvs : List AddrTlvFields) → length lines ≤ first → LaysFirst c lines first tlvs → Lays c lines tlvs
 lays_all c lines first tlvs le h = record {
   each = h.each;
   all = λ place line octets lt at is. h.all place line octets (omega arith) at is;
@@ -341,7 +341,7 @@ lays_all c lines first tlvs le h = record {
 
 -- ---- the same of TLVs as they lie in memory
 
-pub adds_run : (old mid new : List AddrTlv) (tlv : AddrTlv) (c : Column) (lines : List Line) (first n : ℕ) → first ≤ length lines → length lines ≤ 255 → leading c (drop first lines) ≡ n → 0 < n →
+pub adds_run : (old mid new : List AddrTlv) (tlv : AddrTlv) (c : AddressTlvKind) (lines : List AddressRecord) (first n : ℕ) → first ≤ length lines → length lines ≤ 255 → leading c (drop first lines) ≡ n → 0 < n →
     addr_fields tlv ≡ run_of c first (slice_range lines first (first + n)) → new ≡ mid ++ tlv ∷ [] →
     Adds (LaysFirst c lines first) (map addr_fields old) (map addr_fields mid) → Adds (LaysFirst c lines (first + n + 1)) (map addr_fields old) (map addr_fields new)
 adds_run old mid new tlv c lines first n le few is some fields added (more, whole, h) =
@@ -351,30 +351,30 @@ adds_run old mid new tlv c lines first n le few is some fields added (more, whol
       lays_run c lines first n more le few is some h,
     )
 
-pub adds_skip : (old mid : List AddrTlv) (c : Column) (lines : List Line) (first n : ℕ) → leading c (drop first lines) ≡ n → n ≡ 0 →
+pub adds_skip : (old mid : List AddrTlv) (c : AddressTlvKind) (lines : List AddressRecord) (first n : ℕ) → leading c (drop first lines) ≡ n → n ≡ 0 →
     Adds (LaysFirst c lines first) (map addr_fields old) (map addr_fields mid) → Adds (LaysFirst c lines (first + n + 1)) (map addr_fields old) (map addr_fields mid)
 adds_skip old mid c lines first n is none (more, whole, h) =
     (more, whole, subst (λ (k : ℕ). LaysFirst c lines (first + k + 1) more) (sym none) (lays_skip c lines first more (is ∙ none) h))
 
-pub adds_none : (old : List AddrTlv) (c : Column) (lines : List Line) → Adds (LaysFirst c lines 0) (map addr_fields old) (map addr_fields old)
+pub adds_none : (old : List AddrTlv) (c : AddressTlvKind) (lines : List AddressRecord) → Adds (LaysFirst c lines 0) (map addr_fields old) (map addr_fields old)
 adds_none old c lines = ([], sym (append-nil (map addr_fields old)), lays_none c lines)
 
-pub adds_all : (old new : List AddrTlvFields) (c : Column) (lines : List Line) (first : ℕ) → length lines ≤ first → Adds (LaysFirst c lines first) old new → Adds (Lays c lines) old new
+pub adds_all : (old new : List AddrTlvFields) (c : AddressTlvKind) (lines : List AddressRecord) (first : ℕ) → length lines ≤ first → Adds (LaysFirst c lines first) old new → Adds (Lays c lines) old new
 adds_all old new c lines first le (more, whole, h) = (more, whole, lays_all c lines first more le h)
 
 -- ---- column after column, and block after block
 
-pub columns_added : (cs : List Column) (lines : List Line) (d : Column) (old mid new : List AddrTlvFields) → 1 ≤ length cs → Adds (Lays (get_or cs 0 d) lines) old mid →
+pub columns_added : (cs : List AddressTlvKind) (lines : List AddressRecord) (d : AddressTlvKind) (old mid new : List AddrTlvFields) → 1 ≤ length cs → Adds (Lays (get_or cs 0 d) lines) old mid →
     Adds (LaysAll (take (length cs - 1) (drop 1 cs)) lines) mid new → Adds (LaysAll cs lines) old new
 columns_added [] lines d old mid new some h k = absurd (omega arith)
 columns_added (c ∷ cs) lines d old mid new some (first, is, h) (others, are, k) =
     let all : take (length (c ∷ cs) - 1) cs ≡ cs = take_all (length (c ∷ cs) - 1) cs (omega arith) in (
       first ++ others,
       are ∙ ap (λ (l : List AddrTlvFields). l ++ others) is ∙ append_assoc old first others,
-      (first, others, refl, h, subst (λ (l : List Column). LaysAll l lines others) all k),
+      (first, others, refl, h, subst (λ (l : List AddressTlvKind). LaysAll l lines others) all k),
     )
 
-pub blocks_added : (lines : List Line) (start n : ℕ) (old mid new : List Block) (block : Block) → start ≤ length lines → (start ≡ length lines → ⊥) → n ≡ min (length lines - start) 255 →
+pub blocks_added : (lines : List AddressRecord) (start n : ℕ) (old mid new : List Block) (block : Block) → start ≤ length lines → (start ≡ length lines → ⊥) → n ≡ min (length lines - start) 255 →
     IsBlock (slice_range lines start (n + start)) (fields_of_block block) → mid ≡ old ++ block ∷ [] → Adds (AreBlocks (drop (n + start) lines)) (map fields_of_block mid) (map fields_of_block new) →
     Adds (AreBlocks (drop start lines)) (map fields_of_block old) (map fields_of_block new)
 blocks_added lines start n old mid new block le other is h added (more, are, k) =
@@ -384,7 +384,7 @@ blocks_added lines start n old mid new block le other is h added (more, are, k) 
     let swap : start + n ≡ n + start = omega arith in
     let long : length front ≡ n = rw size (take_long n (drop start lines) (omega (arith, length-drop start lines, is))) in
     let whole : drop start lines ≡ front ++ drop (n + start) lines =
-    sym (take-append-drop n (drop start lines)) ∙ ap (λ (l : List Line). take n (drop start lines) ++ l) (drop-drop n start lines ∙ ap (λ (m : ℕ). drop m lines) swap) ∙ ap (λ (m : ℕ). take m (drop start lines) ++ drop (n + start) lines) (sym size) in (
+    sym (take-append-drop n (drop start lines)) ∙ ap (λ (l : List AddressRecord). take n (drop start lines) ++ l) (drop-drop n start lines ∙ ap (λ (m : ℕ). drop m lines) swap) ∙ ap (λ (m : ℕ). take m (drop start lines) ++ drop (n + start) lines) (sym size) in (
       b ∷ more,
       are ∙ ap (λ (l : List BlockFields). l ++ more) (ap (map fields_of_block) added ∙ map-append fields_of_block old (block ∷ [])) ∙ append_assoc (map fields_of_block old) (b ∷ []) more,
       (front, drop (n + start) lines, whole, omega (arith, long, is, le, other), h, k),

@@ -3,8 +3,8 @@ use Rattle.std.proofs.Common.{◌≡◌, ℕ, ◌+◌, ◌*◌, ◌%◌, ◌<◌
 use Rattle.std.specs.Prelude.{◌==◌, ◌&&◌, ◌||◌, ◌↔◌, ◌≢◌, not, nat_le, nat_lt, IsTrue}
 use Rattle.std.proofs.lemmas.Bool.{cases_Bool, eq-eqb, ne_eqb, eqb-true, eqb-false, ltb-true, leb-true, lt-ltb, le-leb, or_cases, and_from as and_both, or_left, or_right, and_parts as both}
 use Rattle.mesh_atoms.specs.Reading.{has}
-use Rattle.mesh_wire.specs.declared.parts.One.{One}
-use Rattle.mesh_wire.specs.declared.parts.One.TheVariants.{Unsaid, Said, Several}
+use Rattle.mesh_wire.specs.declared.parts.SingleNumber.{SingleNumber}
+use Rattle.mesh_wire.specs.declared.parts.SingleNumber.TheVariants.{Unsaid, Said, Several}
 use Rattle.mesh_wire.specs.declared.parts.Octets.{Octets}
 use Rattle.mesh_wire.specs.declared.parts.RowParts.{RowParts}
 use Rattle.mesh_wire.specs.Rules.{IsOctet}
@@ -15,17 +15,17 @@ use Rattle.mesh_wire.specs.KeptParts.{also, code_also, is_octet_in, says_flag, o
 -- ---- numbers
 
 -- what is kept of the numbers that are said
-abbrev pub OneIs : (ℕ → Type 0) → One → Type 0
+abbrev pub OneIs : (ℕ → Type 0) → SingleNumber → Type 0
 OneIs T Unsaid = (n : ℕ) → T n → ⊥
 OneIs T (Said n) = T n × ((m : ℕ) → T m → m ≡ n)
 OneIs T Several = (a : ℕ) × (b : ℕ) × T a × T b × (a ≢ b)
 
-pub one_same : (T U : ℕ → Type 0) (one : One) → ((m : ℕ) → U m → T m) → ((m : ℕ) → T m → U m) → OneIs T one → OneIs U one
+pub one_same : (T U : ℕ → Type 0) (one : SingleNumber) → ((m : ℕ) → U m → T m) → ((m : ℕ) → T m → U m) → OneIs T one → OneIs U one
 one_same T U Unsaid back keep h = λ n u. h n (back n u)
 one_same T U (Said k) back keep h = (keep k h.0, λ m u. h.1 m (back m u))
 one_same T U Several back keep (a, b, x, y, d) = (a, b, keep a x, keep b y, d)
 
-one_more : (T U : ℕ → Type 0) (one : One) (n : ℕ) → ((m : ℕ) → U m → T m ⊎ (m ≡ n)) → ((m : ℕ) → T m → U m) → U n → OneIs T one → OneIs U (also one n)
+one_more : (T U : ℕ → Type 0) (one : SingleNumber) (n : ℕ) → ((m : ℕ) → U m → T m ⊎ (m ≡ n)) → ((m : ℕ) → T m → U m) → U n → OneIs T one → OneIs U (also one n)
 one_more T U Unsaid n split keep new h = (new, λ m u. elim (split m u) [ inl t ↦ absurd (h m t) | inr e ↦ e ])
 one_more T U (Said k) n split keep new h = elim (cases_Bool (k == n)) [
   | inl e ↦ rw e (keep k h.0, λ m u. elim (split m u) [ inl t ↦ h.1 m t | inr f ↦ f ∙ sym (eqb-true k n e) ])
@@ -92,12 +92,12 @@ octets_more S U low bound o (n ∷ []) split keep said h = elim (cases_Bool (nat
 abbrev pub Shows : (List ℕ → Type 0) → ℕ → ℕ → Type 0
 Shows S flag code = (high : ℕ) × (low : ℕ) × S (high ∷ low ∷ []) × (has high flag ≡ true) × (code ≡ 16 * (256 * (high % 16) + low))
 
-codes_same : (S U : List ℕ → Type 0) (flag : ℕ) (one : One) → ((x : List ℕ) → U x → S x) → ((x : List ℕ) → S x → U x) → OneIs (Shows S flag) one → OneIs (Shows U flag) one
+codes_same : (S U : List ℕ → Type 0) (flag : ℕ) (one : SingleNumber) → ((x : List ℕ) → U x → S x) → ((x : List ℕ) → S x → U x) → OneIs (Shows S flag) one → OneIs (Shows U flag) one
 codes_same S U flag one back keep h = one_same (Shows S flag) (Shows U flag) one
     (λ m (high, low, u, on, is). (high, low, back (high ∷ low ∷ []) u, on, is)) (λ m (high, low, s, on, is). (high, low, keep (high ∷ low ∷ []) s, on, is)) h
 
 -- a value that shows no code of that kind
-codes_none : (S U : List ℕ → Type 0) (flag : ℕ) (one : One) (new : List ℕ) → ((x : List ℕ) → U x → S x ⊎ (x ≡ new)) → ((x : List ℕ) → S x → U x) →
+codes_none : (S U : List ℕ → Type 0) (flag : ℕ) (one : SingleNumber) (new : List ℕ) → ((x : List ℕ) → U x → S x ⊎ (x ≡ new)) → ((x : List ℕ) → S x → U x) →
     ((high low : ℕ) → high ∷ low ∷ [] ≡ new → has high flag ≡ true → ⊥) → OneIs (Shows S flag) one → OneIs (Shows U flag) one
 codes_none S U flag one new split keep never h = one_same (Shows S flag) (Shows U flag) one
     (λ m (high, low, u, on, is). elim (split (high ∷ low ∷ []) u) [ inl s ↦ (high, low, s, on, is) | inr e ↦ absurd (never high low e on) ])
@@ -106,7 +106,7 @@ codes_none S U flag one new split keep never h = one_same (Shows S flag) (Shows 
 same_two : (a b c d : ℕ) → ◌≡◌ {A = List ℕ} (a ∷ b ∷ []) (c ∷ d ∷ []) → (a ≡ c) × (b ≡ d)
 same_two a b c d e = let x : a ≡ c = cc in let y : b ≡ d = cc in (x, y)
 
-codes_more : (S U : List ℕ → Type 0) (flag : ℕ) (one : One) (new : List ℕ) → ((x : List ℕ) → U x → S x ⊎ (x ≡ new)) → ((x : List ℕ) → S x → U x) → U new →
+codes_more : (S U : List ℕ → Type 0) (flag : ℕ) (one : SingleNumber) (new : List ℕ) → ((x : List ℕ) → U x → S x ⊎ (x ≡ new)) → ((x : List ℕ) → S x → U x) → U new →
     OneIs (Shows S flag) one → OneIs (Shows U flag) (code_also true flag new one)
 codes_more S U flag one [] split keep said h = codes_none S U flag one [] split keep (λ a b e on. cc) h
 codes_more S U flag one (x ∷ []) split keep said h = codes_none S U flag one (x ∷ []) split keep (λ a b e on. cc) h
@@ -127,14 +127,14 @@ codes_more S U flag one (high ∷ low ∷ []) split keep said h = elim (cases_Bo
 abbrev pub Octet : (List ℕ → Type 0) → ℕ → Type 0
 Octet S n = (octet : ℕ) × S (octet ∷ []) × (n ≡ 256 * octet)
 
-octet_same : (S U : List ℕ → Type 0) (one : One) → ((x : List ℕ) → U x → S x) → ((x : List ℕ) → S x → U x) → OneIs (Octet S) one → OneIs (Octet U) one
+octet_same : (S U : List ℕ → Type 0) (one : SingleNumber) → ((x : List ℕ) → U x → S x) → ((x : List ℕ) → S x → U x) → OneIs (Octet S) one → OneIs (Octet U) one
 octet_same S U one back keep h = one_same (Octet S) (Octet U) one (λ m (o, u, is). (o, back (o ∷ []) u, is)) (λ m (o, s, is). (o, keep (o ∷ []) s, is)) h
 
-octet_none : (S U : List ℕ → Type 0) (one : One) (new : List ℕ) → ((x : List ℕ) → U x → S x ⊎ (x ≡ new)) → ((x : List ℕ) → S x → U x) → ((o : ℕ) → o ∷ [] ≡ new → ⊥) → OneIs (Octet S) one → OneIs (Octet U) one
+octet_none : (S U : List ℕ → Type 0) (one : SingleNumber) (new : List ℕ) → ((x : List ℕ) → U x → S x ⊎ (x ≡ new)) → ((x : List ℕ) → S x → U x) → ((o : ℕ) → o ∷ [] ≡ new → ⊥) → OneIs (Octet S) one → OneIs (Octet U) one
 octet_none S U one new split keep never h = one_same (Octet S) (Octet U) one
     (λ m (o, u, is). elim (split (o ∷ []) u) [ inl s ↦ (o, s, is) | inr e ↦ absurd (never o e) ]) (λ m (o, s, is). (o, keep (o ∷ []) s, is)) h
 
-octet_more : (S U : List ℕ → Type 0) (one : One) (new : List ℕ) → ((x : List ℕ) → U x → S x ⊎ (x ≡ new)) → ((x : List ℕ) → S x → U x) → U new → OneIs (Octet S) one → OneIs (Octet U) (octet_also true new one)
+octet_more : (S U : List ℕ → Type 0) (one : SingleNumber) (new : List ℕ) → ((x : List ℕ) → U x → S x ⊎ (x ≡ new)) → ((x : List ℕ) → S x → U x) → U new → OneIs (Octet S) one → OneIs (Octet U) (octet_also true new one)
 octet_more S U one [] split keep said h = octet_none S U one [] split keep (λ o e. cc) h
 octet_more S U one (a ∷ b ∷ rest) split keep said h = octet_none S U one (a ∷ b ∷ rest) split keep (λ o e. cc) h
 octet_more S U one (n ∷ []) split keep said h = one_more (Octet S) (Octet U) one (256 * n)
@@ -165,7 +165,7 @@ module _ (S U : ℕ → List ℕ → Type 0) (kind : ℕ) (new : List ℕ) (more
     | inr e ↦ rw e (octets_same (S K) (U K) low bound o (apart (eqb-false kind K e)) (more.keep K) h)
   ]
 
-  pub codes_at : (flag : ℕ) (one : One) → OneIs (Shows (S K) flag) one → OneIs (Shows (U K) flag) (code_also (kind == K) flag new one)
+  pub codes_at : (flag : ℕ) (one : SingleNumber) → OneIs (Shows (S K) flag) one → OneIs (Shows (U K) flag) (code_also (kind == K) flag new one)
   codes_at flag one h = elim (cases_Bool (kind == K)) [
     | inl e ↦ let f = eqb-true kind K e in rw e (codes_more (S K) (U K) flag one new (here f) (more.keep K) (new_here f) h)
     | inr e ↦ rw e (off new (codes_same (S K) (U K) flag one (apart (eqb-false kind K e)) (more.keep K) h))
@@ -177,7 +177,7 @@ module _ (S U : ℕ → List ℕ → Type 0) (kind : ℕ) (new : List ℕ) (more
       off (x ∷ y ∷ []) g = g
       off (x ∷ y ∷ z ∷ rest) g = g
 
-  pub octet_at : (one : One) → OneIs (Octet (S K)) one → OneIs (Octet (U K)) (octet_also (kind == K) new one)
+  pub octet_at : (one : SingleNumber) → OneIs (Octet (S K)) one → OneIs (Octet (U K)) (octet_also (kind == K) new one)
   octet_at one h = elim (cases_Bool (kind == K)) [
     | inl e ↦ let f = eqb-true kind K e in rw e (octet_more (S K) (U K) one new (here f) (more.keep K) (new_here f) h)
     | inr e ↦ rw e (off new (octet_same (S K) (U K) one (apart (eqb-false kind K e)) (more.keep K) h))

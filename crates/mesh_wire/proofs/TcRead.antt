@@ -4,7 +4,7 @@ use Rattle.std.specs.Prelude.{Option}
 use Rattle.mesh_atoms.specs.declared.addr.NetAddr.{NetAddr}
 use Rattle.mesh_atoms.specs.declared.tc.TcRow.{TcRow}
 use Rattle.mesh_packet.specs.Fields.{MessageFields}
-use Rattle.mesh_wire.specs.declared.tc.Heading.{Heading}
+use Rattle.mesh_wire.specs.declared.tc.TcHeader.{TcHeader}
 use Rattle.mesh_wire.specs.Entries.{of_blocks}
 use Rattle.mesh_wire.specs.Made.{HasRows, HasBroken}
 use Rattle.mesh_wire.specs.RowRules.{tc_rule}
@@ -20,12 +20,12 @@ use Rattle.mesh_wire.proofs.TcRows.{rows_are}
 use Rattle.mesh_wire.proofs.TcRuled.{sound_of, tc_decides}
 
 -- a message whose heading is read breaks no rule on it
-up_of : (m : MessageFields) (heading : Heading) → TcHeadingIs m heading → NoneBelow (BreaksTc m) 37
+up_of : (m : MessageFields) (heading : TcHeader) → TcHeadingIs m heading → NoneBelow (BreaksTc m) 37
 up_of m heading h =
     let header = past_header m h.width (an_originator m.originator heading.originator h.originator) (a_sequence m.sequence heading.sequence h.sequence) in
     past_content m (past_interval m (past_validity m header heading.validity h.validity) heading.interval h.interval) heading.ansn heading.complete h.content
 
-module _ (m : MessageFields) (heading : Heading) (h : TcHeadingIs m heading) where
+module _ (m : MessageFields) (heading : TcHeader) (h : TcHeadingIs m heading) where
   -- the rule that rows break is the first
   pub rule_found : (number : ℕ) (addr : Option NetAddr) → HasBroken tc_rule (of_blocks m.blocks) number addr → FirstBroken (BreaksTc m) number addr
   rule_found = rule_broken m (BreaksTc m) tc_rule 37 (tc_decides m) (up_of m heading h)

@@ -7,8 +7,8 @@ use Rattle.mesh_atoms.specs.declared.addr.NetAddr.{NetAddr}
 use Rattle.mesh_atoms.specs.declared.tc.TcRow.{TcRow}
 use Rattle.mesh_packet.specs.Fields.{MessageFields}
 use Rattle.mesh_wire.specs.declared.collect.AddressParts.{AddressParts}
-use Rattle.mesh_wire.specs.declared.parts.One.{One}
-use Rattle.mesh_wire.specs.declared.parts.One.TheVariants.{Unsaid, Said, Several}
+use Rattle.mesh_wire.specs.declared.parts.SingleNumber.{SingleNumber}
+use Rattle.mesh_wire.specs.declared.parts.SingleNumber.TheVariants.{Unsaid, Said, Several}
 use Rattle.mesh_wire.specs.RowRules.{is_several}
 use Rattle.mesh_wire.specs.HelloRows.{number_from}
 use Rattle.mesh_wire.specs.Kinds.{nbr_addr_type, gateway}
@@ -32,7 +32,7 @@ single_of (a ∷ b ∷ rest) e = absurd (omega (arith, e))
 of_256 : (n octet : ℕ) → n ≡ 256 * octet → n / 256 ≡ octet
 of_256 n octet e = omega (arith, e)
 
-gateway_of : (m : MessageFields) (net : NetAddr) (one : One) → OneIs (Octet (HasValue m net gateway)) one → ((x : List ℕ) → HasValue m net gateway x → length x ≡ 1) → is_several one ≡ false → OctetIs m net gateway (option_map (λ (n : ℕ). n / 256) (number_from one))
+gateway_of : (m : MessageFields) (net : NetAddr) (one : SingleNumber) → OneIs (Octet (HasValue m net gateway)) one → ((x : List ℕ) → HasValue m net gateway x → length x ≡ 1) → is_several one ≡ false → OctetIs m net gateway (option_map (λ (n : ℕ). n / 256) (number_from one))
 gateway_of m net Unsaid h right e = λ x said. (let (n, is) = single_of x (right x said) in h (256 * n) (n, subst (HasValue m net gateway) is said, refl))
 gateway_of m net (Said n) h right e =
     let (octet, said, is) = h.0 in

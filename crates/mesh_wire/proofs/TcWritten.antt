@@ -15,9 +15,9 @@ use Rattle.mesh_packet.specs.Fields.{MessageFields, PacketFields}
 use Rattle.mesh_packet.specs.Grammar.{Spells}
 use Rattle.mesh_packet.specs.Least.{IsEncodableMessage, LeastForm}
 use Rattle.mesh_tlv.specs.Fields.{TlvFields}
-use Rattle.mesh_wire.specs.declared.lines.Column.{Column}
-use Rattle.mesh_wire.specs.declared.lines.Column.TheVariants.{Local, Link, Other, Mpr, AddrType, Gateway, LinkIn, LinkOut, NearIn, NearOut}
-use Rattle.mesh_wire.specs.declared.lines.Line.{Line}
+use Rattle.mesh_wire.specs.declared.lines.AddressTlvKind.{AddressTlvKind}
+use Rattle.mesh_wire.specs.declared.lines.AddressTlvKind.TheVariants.{Local, Link, Other, Mpr, AddrType, Gateway, LinkIn, LinkOut, NearIn, NearOut}
+use Rattle.mesh_wire.specs.declared.lines.AddressRecord.{AddressRecord}
 use Rattle.mesh_wire.specs.Drafts.{HasTcValues, heading_of, IsTcMessage, FitsAlone}
 use Rattle.mesh_wire.specs.Kinds.{validity_time, nbr_addr_type, gateway, link_metric, cont_seq_num}
 use Rattle.mesh_wire.specs.Lines.{kind_of, value_of, flags_number, tc_line}
@@ -54,7 +54,7 @@ distance_octet : (o : Option ℕ) (octets : List ℕ) → option_map (λ (n : �
 distance_octet None octets e = cc
 distance_octet (Some n) octets e = let f : octets ≡ n ∷ [] = cc in ap length f
 
-part_of : (row : TcRow) (kind : ℕ) (octets : List ℕ) (c : Column) → kind ≡ kind_of c → value_of c (tc_line row) ≡ Some octets → (kind ≡ nbr_addr_type) ⊎ ((kind ≡ gateway) ⊎ ((kind ≡ link_metric) × HasFlag Near_out octets))
+part_of : (row : TcRow) (kind : ℕ) (octets : List ℕ) (c : AddressTlvKind) → kind ≡ kind_of c → value_of c (tc_line row) ≡ Some octets → (kind ≡ nbr_addr_type) ⊎ ((kind ≡ gateway) ⊎ ((kind ≡ link_metric) × HasFlag Near_out octets))
 part_of row kind octets Local e v = cc
 part_of row kind octets Link e v = cc
 part_of row kind octets Other e v = cc
@@ -160,7 +160,7 @@ module _ (tc : Tc) (hop_limit : ℕ) (validity values : List ℕ) (m : MessageFi
       let (row, c, there, here, k, ext, value) = part_there tc_line tc.rows m h.blocks up net part p in
       record { kind = part_of row part.kind (octets_of part.value) c k value; ext = ext }
 
-  few : (line : Line) → Contains (map tc_line tc.rows) line → HasFewParts line
+  few : (line : AddressRecord) → Contains (map tc_line tc.rows) line → HasFewParts line
   few line on = let (row, there, is) = unmapped tc_line tc.rows line on in subst HasFewParts is (few_of row)
 
   pub fits : length tc.rows ≤ 1100 → length validity ≤ 17 → FitsAlone m

@@ -5,8 +5,8 @@ use Rattle.std.specs.List.{flat_map}
 use Rattle.std.proofs.lemmas.List.{take-append-drop}
 use Rattle.std.proofs.lemmas.Grind.{flat_map-append}
 use Rattle.std.proofs.Math.Seq.{take-append_seam, drop-append_seam}
-use Rattle.mesh_wire.specs.declared.lines.Column.{Column}
-use Rattle.mesh_wire.specs.declared.lines.Line.{Line}
+use Rattle.mesh_wire.specs.declared.lines.AddressTlvKind.{AddressTlvKind}
+use Rattle.mesh_wire.specs.declared.lines.AddressRecord.{AddressRecord}
 use Rattle.mesh_wire.specs.Lines.{is_wide, width_of, number, laid, column_text}
 
 -- ---- lists
@@ -72,16 +72,16 @@ one_or_two : (b : Bool) (x y : ℕ) → length (x ∷ cond b (y ∷ []) []) ≡ 
 one_or_two true x y = refl
 one_or_two false x y = refl
 
-pub laid_long : (c : Column) (l : Line) → length (laid c l) ≡ width_of c
+pub laid_long : (c : AddressTlvKind) (l : AddressRecord) → length (laid c l) ≡ width_of c
 laid_long c l = one_or_two (is_wide c) (unwrap_or (number c l) 0 / 256) (unwrap_or (number c l) 0 % 256)
 
-pub column_wide : (c : Column) (lines : List Line) → is_wide c ≡ true → length (column_text c lines) ≡ 2 * length lines
+pub column_wide : (c : AddressTlvKind) (lines : List AddressRecord) → is_wide c ≡ true → length (column_text c lines) ≡ 2 * length lines
 column_wide c [] e = refl
 column_wide c (l ∷ lines) e =
     let one : length (laid c l) ≡ 2 = laid_long c l ∙ ap (λ (b : Bool). cond b 2 1) e in
     omega (arith, one, column_wide c lines e, length-append (laid c l) (column_text c lines))
 
-pub column_narrow : (c : Column) (lines : List Line) → is_wide c ≡ false → length (column_text c lines) ≡ length lines
+pub column_narrow : (c : AddressTlvKind) (lines : List AddressRecord) → is_wide c ≡ false → length (column_text c lines) ≡ length lines
 column_narrow c [] e = refl
 column_narrow c (l ∷ lines) e =
     let one : length (laid c l) ≡ 1 = laid_long c l ∙ ap (λ (b : Bool). cond b 2 1) e in

@@ -10,16 +10,16 @@ IfBroken P (faults.Memory e) = Unit {0}
 IfBroken P (faults.Broken number addr) = P number addr
 
 -- that value, or want of memory
-abbrev pub Gives : {X : Type 0} → X → Result X WireFault → Type 0
-Gives x (Ok y) = y ≡ x
-Gives x (Err (faults.Memory e)) = Unit {0}
-Gives x (Err (faults.Broken number addr)) = ⊥
+abbrev pub GivesValue : {X : Type 0} → X → Result X WireFault → Type 0
+GivesValue x (Ok y) = y ≡ x
+GivesValue x (Err (faults.Memory e)) = Unit {0}
+GivesValue x (Err (faults.Broken number addr)) = ⊥
 
 -- that rule at that address, or want of memory
-abbrev pub Refuses : {X : Type 0} → ℕ → Option NetAddr → Result X WireFault → Type 0
-Refuses number addr (Ok y) = ⊥
-Refuses number addr (Err (faults.Memory e)) = Unit {0}
-Refuses number addr (Err (faults.Broken n a)) = (n ≡ number) × (a ≡ addr)
+abbrev pub RefusesAt : {X : Type 0} → ℕ → Option NetAddr → Result X WireFault → Type 0
+RefusesAt number addr (Ok y) = ⊥
+RefusesAt number addr (Err (faults.Memory e)) = Unit {0}
+RefusesAt number addr (Err (faults.Broken n a)) = (n ≡ number) × (a ≡ addr)
 
 -- the summary of a value of which that holds
 abbrev pub Sums : {X S : Type 0} → (X → S) → (X → Type 0) → S → Type 0

@@ -7,8 +7,8 @@ use Rattle.mesh_wire.specs.declared.parts.RowParts.{RowParts}
 use Rattle.mesh_wire.specs.Entries.{Entry, collected}
 
 -- a network, and the place of an address in it
-abbrev pub Key : Type 0
-Key = NetAddr × ℕ
+abbrev pub PlacedNetwork : Type 0
+PlacedNetwork = NetAddr × ℕ
 
 -- what is kept of each network of the entries, in ascending order
 pub record AreCollected (entries : List Entry) (rows : List AddressParts) : Type 0 where

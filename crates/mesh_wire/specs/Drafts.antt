@@ -10,7 +10,7 @@ use Rattle.mesh_addr.specs.declared.records.RawAddr.{RawAddr}
 use Rattle.mesh_packet.specs.Fields.{MessageFields}
 use Rattle.mesh_packet.specs.Least.{LeastForm}
 use Rattle.mesh_tlv.specs.Fields.{TlvFields}
-use Rattle.mesh_wire.specs.declared.lines.Line.{Line}
+use Rattle.mesh_wire.specs.declared.lines.AddressRecord.{AddressRecord}
 use Rattle.mesh_wire.specs.Kinds.{interval_time, validity_time, mpr_willing, cont_seq_num}
 use Rattle.mesh_wire.specs.Lines.{columns, columns_text, hello_line, tc_line}
 use Rattle.mesh_wire.specs.Runs.{AreBlocks, host_octets}
@@ -34,13 +34,13 @@ abbrev pub whole : Addr4 → RawAddr
 whole address = record { octets = host_octets address.0; prefix = 32 }
 
 -- the values of a HELLO: its times, its willingness, and those of its lines
-abbrev pub HasHelloValues : Hello → List Line → List ℕ → Type 0
+abbrev pub HasHelloValues : Hello → List AddressRecord → List ℕ → Type 0
 HasHelloValues hello lines values =
     (validity : ℕ) × (interval : ℕ) × IsCodeOf hello.validity validity × IsCodeIfSome hello.interval interval
     × (values ≡ validity ∷ (interval ∷ (octet_of hello.willing ∷ columns_text columns lines)))
 
 -- the values of a TC behind its validity: its interval, the number of its content, and those of its lines
-abbrev pub HasTcValues : Tc → List Line → List ℕ → Type 0
+abbrev pub HasTcValues : Tc → List AddressRecord → List ℕ → Type 0
 HasTcValues tc lines values =
     (interval : ℕ) × IsCodeIfSome tc.interval interval × (values ≡ interval ∷ (tc.ansn / 256 ∷ (tc.ansn % 256 ∷ columns_text columns lines)))
 
@@ -55,7 +55,7 @@ heading_of validity values has_interval kind ext =
     ∷ ((if has_interval then saying interval_time 0 (take 1 values) ∷ [] else []) ++ saying kind ext (drop 1 values) ∷ [])
 
 -- the message of a HELLO
-pub record IsHelloMessage (hello : Hello) (lines : List Line) (values : List ℕ) (m : MessageFields) : Type 0 where
+pub record IsHelloMessage (hello : Hello) (lines : List AddressRecord) (values : List ℕ) (m : MessageFields) : Type 0 where
   pub kind : m.kind ≡ 0
   pub width : m.width ≡ 4
   pub originator : m.originator ≡ option_map whole hello.originator
@@ -66,7 +66,7 @@ pub record IsHelloMessage (hello : Hello) (lines : List Line) (values : List ℕ
   pub blocks : AreBlocks lines m.blocks
 
 -- the message of a TC
-pub record IsTcMessage (tc : Tc) (hop_limit : ℕ) (validity : List ℕ) (lines : List Line) (values : List ℕ) (m : MessageFields) : Type 0 where
+pub record IsTcMessage (tc : Tc) (hop_limit : ℕ) (validity : List ℕ) (lines : List AddressRecord) (values : List ℕ) (m : MessageFields) : Type 0 where
   pub kind : m.kind ≡ 1
   pub width : m.width ≡ 4
   pub originator : m.originator ≡ Some (whole tc.originator)

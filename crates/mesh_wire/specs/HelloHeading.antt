@@ -1,7 +1,7 @@
 -- What a HELLO says before its rows.
 use Rattle.std.specs.Prelude.{◌≡◌, ℕ, ◌≢◌, Option, Some}
 use Rattle.mesh_packet.specs.Fields.{MessageFields}
-use Rattle.mesh_wire.specs.declared.hello.Heading.{Heading}
+use Rattle.mesh_wire.specs.declared.hello.HelloHeader.{HelloHeader}
 use Rattle.mesh_wire.specs.Hello.{HasWilling}
 use Rattle.mesh_wire.specs.Times.{ValidityIs, IntervalIs}
 
@@ -10,7 +10,7 @@ abbrev pub IsOther : ℕ → Option ℕ → Type 0
 IsOther n value = (m : ℕ) × (value ≡ Some m) × (m ≢ n)
 
 -- no rule on it is broken, and it says this
-pub record HeadingIs (message : MessageFields) (heading : Heading) : Type 0 where
+pub record HeadingIs (message : MessageFields) (heading : HelloHeader) : Type 0 where
   pub width : message.width ≡ 4
   pub limit : IsOther 1 message.limit → ⊥
   pub count : IsOther 0 message.count → ⊥

@@ -12,11 +12,11 @@ use Rattle.mesh_atoms.specs.declared.hello.OtherStatus.TheVariants as other
 use Rattle.mesh_atoms.specs.declared.hello.HelloRow.{HelloRow}
 use Rattle.mesh_atoms.specs.Writable.{IsAlone}
 use Rattle.mesh_wire.specs.declared.collect.AddressParts.{AddressParts}
-use Rattle.mesh_wire.specs.declared.parts.One.{One}
-use Rattle.mesh_wire.specs.declared.parts.One.TheVariants.{Unsaid, Said, Several}
+use Rattle.mesh_wire.specs.declared.parts.SingleNumber.{SingleNumber}
+use Rattle.mesh_wire.specs.declared.parts.SingleNumber.TheVariants.{Unsaid, Said, Several}
 
 -- the one number
-abbrev pub number_from : One → Option ℕ
+abbrev pub number_from : SingleNumber → Option ℕ
 number_from Unsaid = None
 number_from (Said n) = Some n
 number_from Several = None
@@ -38,7 +38,7 @@ other_from zero = other.Lost
 other_from (suc n) = other.Symmetric
 
 -- the metric whose code is kept 16 times
-abbrev pub MetricFrom : One → Option Metric → Type 0
+abbrev pub MetricFrom : SingleNumber → Option Metric → Type 0
 MetricFrom one metric = option_map (λ (m : Metric). m.code) metric ≡ option_map (λ (n : ℕ). n / 16) (number_from one)
 
 -- status, metrics and relays as they are kept

@@ -2,26 +2,26 @@
 use Rattle.std.specs.Prelude.{ℕ, ◌+◌, ◌*◌, ◌%◌, List, [], ◌∷◌, length, Bool, true, false, not, ◌&&◌, ◌||◌, ◌==◌, nat_lt, nat_le, if◌then◌else◌}
 use Rattle.mesh_atoms.specs.Reading.{has}
 use Rattle.mesh_wire.specs.Kinds.{local_if, link_status, other_neighb, link_metric, mpr, nbr_addr_type, gateway}
-use Rattle.mesh_wire.specs.declared.parts.One.{One}
-use Rattle.mesh_wire.specs.declared.parts.One.TheVariants.{Unsaid, Said, Several}
+use Rattle.mesh_wire.specs.declared.parts.SingleNumber.{SingleNumber}
+use Rattle.mesh_wire.specs.declared.parts.SingleNumber.TheVariants.{Unsaid, Said, Several}
 use Rattle.mesh_wire.specs.declared.parts.Octets.{Octets}
 use Rattle.mesh_wire.specs.declared.parts.RowParts.{RowParts}
 
 -- one number more
-abbrev pub also : One → ℕ → One
+abbrev pub also : SingleNumber → ℕ → SingleNumber
 also Unsaid n = Said n
 also (Said m) n = if m == n then Said m else Several
 also Several n = Several
 
 -- one metric more, where it is of that kind, as 16 times its code
-abbrev pub code_also : Bool → ℕ → List ℕ → One → One
+abbrev pub code_also : Bool → ℕ → List ℕ → SingleNumber → SingleNumber
 code_also on flag (high ∷ low ∷ []) one = if on && has high flag then also one (16 * (256 * (high % 16) + low)) else one
 code_also on flag [] one = one
 code_also on flag (a ∷ []) one = one
 code_also on flag (a ∷ b ∷ c ∷ rest) one = one
 
 -- one octet more, where it is of that type, as 256 times the octet
-abbrev pub octet_also : Bool → List ℕ → One → One
+abbrev pub octet_also : Bool → List ℕ → SingleNumber → SingleNumber
 octet_also on (n ∷ []) one = if on then also one (256 * n) else one
 octet_also on [] one = one
 octet_also on (a ∷ b ∷ rest) one = one

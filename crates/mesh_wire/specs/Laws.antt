@@ -39,13 +39,13 @@ BreaksOneTcRule =
     FirstBroken (BreaksTc message) m b → (n ≡ m) × (a ≡ b)
 
 -- a value is of octets
-abbrev pub AreOctets : Option (List ℕ) → Type 0
-AreOctets value = (n : ℕ) → Contains (octets_of value) n → n < 256
+abbrev pub IsOctetValue : Option (List ℕ) → Type 0
+IsOctetValue value = (n : ℕ) → Contains (octets_of value) n → n < 256
 
 -- so are all values that the message has
 pub record HasOctets (message : MessageFields) : Type 0 where
-  pub tlvs : (tlv : TlvFields) → Contains message.tlvs tlv → AreOctets tlv.value
-  pub parts : (net : NetAddr) (part : TlvFields) → HasPart message net part → AreOctets part.value
+  pub tlvs : (tlv : TlvFields) → Contains message.tlvs tlv → IsOctetValue tlv.value
+  pub parts : (net : NetAddr) (part : TlvFields) → HasPart message net part → IsOctetValue part.value
 
 -- a value of which that holds and no rule that is broken, or a first rule that is broken, and not both
 abbrev pub ReadsOrBreaks : {Value : Type 0} → (Value → Type 0) → (ℕ → Option NetAddr → Type 0) → Type 0

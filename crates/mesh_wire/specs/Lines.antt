@@ -7,12 +7,12 @@ use Rattle.mesh_atoms.specs.declared.codes.metric.Metric.{Metric}
 use Rattle.mesh_atoms.specs.declared.tc.TcRow.{TcRow}
 use Rattle.mesh_wire.specs.Hello.{local_value, link_value, other_value}
 use Rattle.mesh_wire.specs.Kinds.{local_if, link_status, other_neighb, mpr, nbr_addr_type, gateway, link_metric}
-use Rattle.mesh_wire.specs.declared.lines.Column.{Column}
-use Rattle.mesh_wire.specs.declared.lines.Column.TheVariants.{Local, Link, Other, Mpr, AddrType, Gateway, LinkIn, LinkOut, NearIn, NearOut}
-use Rattle.mesh_wire.specs.declared.lines.Line.{Line}
+use Rattle.mesh_wire.specs.declared.lines.AddressTlvKind.{AddressTlvKind}
+use Rattle.mesh_wire.specs.declared.lines.AddressTlvKind.TheVariants.{Local, Link, Other, Mpr, AddrType, Gateway, LinkIn, LinkOut, NearIn, NearOut}
+use Rattle.mesh_wire.specs.declared.lines.AddressRecord.{AddressRecord}
 
 -- the type of TLV
-abbrev pub kind_of : Column → ℕ
+abbrev pub kind_of : AddressTlvKind → ℕ
 kind_of Local = local_if
 kind_of Link = link_status
 kind_of Other = other_neighb
@@ -25,7 +25,7 @@ kind_of NearIn = link_metric
 kind_of NearOut = link_metric
 
 -- whether a value has two octets, and not one
-abbrev pub is_wide : Column → Bool
+abbrev pub is_wide : AddressTlvKind → Bool
 is_wide Local = false
 is_wide Link = false
 is_wide Other = false
@@ -38,7 +38,7 @@ is_wide NearIn = true
 is_wide NearOut = true
 
 -- how many octets a value has
-abbrev pub width_of : Column → ℕ
+abbrev pub width_of : AddressTlvKind → ℕ
 width_of c = if is_wide c then 2 else 1
 
 -- a number whose high octet is this one
@@ -50,7 +50,7 @@ abbrev pub flagged : ℕ → Option Metric → Option ℕ
 flagged flag metric = option_map (λ (m : Metric). 256 * flag + m.code) metric
 
 -- what is said of an address, as a number of 16 bits whose high octet is the first of the value
-abbrev pub number : Column → Line → Option ℕ
+abbrev pub number : AddressTlvKind → AddressRecord → Option ℕ
 number Local l = high l.local
 number Link l = high l.link
 number Other l = high l.other
@@ -63,11 +63,11 @@ number NearIn l = flagged 32 l.metrics.near_in
 number NearOut l = flagged 16 l.metrics.near_out
 
 -- the value of a number
-abbrev pub octets_of : Column → ℕ → List ℕ
+abbrev pub octets_of : AddressTlvKind → ℕ → List ℕ
 octets_of c n = n / 256 ∷ (if is_wide c then n % 256 ∷ [] else [])
 
 -- the value that is said of an address
-abbrev pub value_of : Column → Line → Option (List ℕ)
+abbrev pub value_of : AddressTlvKind → AddressRecord → Option (List ℕ)
 value_of c l = option_map (octets_of c) (number c l)
 
 -- two flags, 1 and 2, in one octet; none where neither is set
@@ -78,7 +78,7 @@ flags_number false true = Some 2
 flags_number true true = Some 3
 
 -- what is written of a row of a HELLO
-abbrev pub hello_line : HelloRow → Line
+abbrev pub hello_line : HelloRow → AddressRecord
 hello_line r = record {
   net = r.addr;
   local = option_map local_value r.local;
@@ -91,7 +91,7 @@ hello_line r = record {
 }
 
 -- what is written of a row of a TC
-abbrev pub tc_line : TcRow → Line
+abbrev pub tc_line : TcRow → AddressRecord
 tc_line r = record {
   net = r.dest;
   local = None;
@@ -104,17 +104,17 @@ tc_line r = record {
 }
 
 -- all columns, in the order in which they are written
-abbrev pub columns : List Column
+abbrev pub columns : List AddressTlvKind
 columns = Local ∷ (Link ∷ (Other ∷ (Mpr ∷ (AddrType ∷ (Gateway ∷ (LinkIn ∷ (LinkOut ∷ (NearIn ∷ (NearOut ∷ [])))))))))
 
 -- the octets that are laid for an address: its value, or zeros of that length
-abbrev pub laid : Column → Line → List ℕ
+abbrev pub laid : AddressTlvKind → AddressRecord → List ℕ
 laid c l = octets_of c (unwrap_or (number c l) 0)
 
 -- the octets that are laid for addresses, one after the other
-abbrev pub column_text : Column → List Line → List ℕ
+abbrev pub column_text : AddressTlvKind → List AddressRecord → List ℕ
 column_text c lines = flat_map (laid c) lines
 
 -- the same for several columns, one after the other
-abbrev pub columns_text : List Column → List Line → List ℕ
-columns_text cs lines = flat_map (λ (c : Column). column_text c lines) cs
+abbrev pub columns_text : List AddressTlvKind → List AddressRecord → List ℕ
+columns_text cs lines = flat_map (λ (c : AddressTlvKind). column_text c lines) cs

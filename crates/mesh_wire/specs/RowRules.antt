@@ -4,18 +4,18 @@ use Rattle.mesh_atoms.specs.declared.addr.NetAddr.{NetAddr}
 use Rattle.mesh_atoms.specs.declared.hello_rule.TheConstants.{UNDEFINED, TWO_VALUES, PREFIX, METRIC}
 use Rattle.mesh_atoms.specs.declared.tc_rule.TheConstants as tc
 use Rattle.mesh_wire.specs.declared.collect.AddressParts.{AddressParts}
-use Rattle.mesh_wire.specs.declared.parts.One.{One}
-use Rattle.mesh_wire.specs.declared.parts.One.TheVariants.{Unsaid, Said, Several}
+use Rattle.mesh_wire.specs.declared.parts.SingleNumber.{SingleNumber}
+use Rattle.mesh_wire.specs.declared.parts.SingleNumber.TheVariants.{Unsaid, Said, Several}
 use Rattle.mesh_wire.specs.declared.parts.RowParts.{RowParts}
 
 -- different numbers
-abbrev pub is_several : One → Bool
+abbrev pub is_several : SingleNumber → Bool
 is_several Unsaid = false
 is_several (Said n) = false
 is_several Several = true
 
 -- some number
-abbrev pub is_said : One → Bool
+abbrev pub is_said : SingleNumber → Bool
 is_said Unsaid = false
 is_said (Said n) = true
 is_said Several = true

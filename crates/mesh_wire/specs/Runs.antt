@@ -7,8 +7,8 @@ use Rattle.mesh_addr.specs.declared.records.RawAddr.{RawAddr}
 use Rattle.mesh_packet.specs.Fields.{BlockFields}
 use Rattle.mesh_tlv.specs.Fields.{AddrTlvFields}
 use Rattle.mesh_tlv.specs.Least.{IsFit, least_addr_tlv}
-use Rattle.mesh_wire.specs.declared.lines.Column.{Column}
-use Rattle.mesh_wire.specs.declared.lines.Line.{Line}
+use Rattle.mesh_wire.specs.declared.lines.AddressTlvKind.{AddressTlvKind}
+use Rattle.mesh_wire.specs.declared.lines.AddressRecord.{AddressRecord}
 use Rattle.mesh_wire.specs.Lines.{kind_of, number, value_of, columns, column_text}
 use Rattle.mesh_wire.specs.Parts.{value_at}
 
@@ -22,31 +22,31 @@ abbrev pub raw_of : NetAddr → RawAddr
 raw_of net = record { octets = host_octets net.addr.0; prefix = net.prefix }
 
 -- whether the part is said of the address
-abbrev pub has_part : Column → Line → Bool
+abbrev pub has_part : AddressTlvKind → AddressRecord → Bool
 has_part c l = is_some (number c l)
 
 -- how many lines at the front have the part
-abbrev pub leading : Column → List Line → ℕ
+abbrev pub leading : AddressTlvKind → List AddressRecord → ℕ
 leading c [] = 0
 leading c (l ∷ lines) = if has_part c l then 1 + leading c lines else 0
 
 -- how many lines have the part
-abbrev pub present : Column → List Line → ℕ
+abbrev pub present : AddressTlvKind → List AddressRecord → ℕ
 present c [] = 0
 present c (l ∷ lines) = (if has_part c l then 1 else 0) + present c lines
 
 -- whether all lines have that number
-abbrev pub all_are : Column → Option ℕ → List Line → Bool
+abbrev pub all_are : AddressTlvKind → Option ℕ → List AddressRecord → Bool
 all_are c n [] = true
 all_are c n (l ∷ lines) = option_eq nat_eq (number c l) n && all_are c n lines
 
 -- the number of the first line
-abbrev pub first_number : Column → List Line → Option ℕ
+abbrev pub first_number : AddressTlvKind → List AddressRecord → Option ℕ
 first_number c [] = None
 first_number c (l ∷ lines) = number c l
 
 -- the TLV of a run of lines, from a place of the block on: one value where all are the same, else one for each
-abbrev pub run_of : Column → ℕ → List Line → AddrTlvFields
+abbrev pub run_of : AddressTlvKind → ℕ → List AddressRecord → AddrTlvFields
 run_of c first lines = record {
   kind = kind_of c;
   ext = 0;
@@ -61,41 +61,41 @@ abbrev pub Adds : {A : Type 0} → (List A → Type 0) → List A → List A →
 Adds {A} P old new = (more : List A) × (new ≡ old ++ more) × P more
 
 -- a TLV of the column that says of each address that it covers what the line says
-pub record IsRun (c : Column) (lines : List Line) (tlv : AddrTlvFields) : Type 0 where
+pub record IsColumnTlv (c : AddressTlvKind) (lines : List AddressRecord) (tlv : AddrTlvFields) : Type 0 where
   pub kind : tlv.kind ≡ kind_of c
   pub ext : tlv.ext ≡ 0
   pub fit : IsFit (length lines) tlv
   pub says : (place : ℕ) → tlv.first ≤ place → place ≤ tlv.last →
-      (line : Line) × (octets : List ℕ) × (slice_get lines place ≡ Some line) × (value_of c line ≡ Some octets) × (value_at tlv place ≡ Some octets)
+      (line : AddressRecord) × (octets : List ℕ) × (slice_get lines place ≡ Some line) × (value_of c line ≡ Some octets) × (value_at tlv place ≡ Some octets)
 
 -- TLVs of the column that say of the first lines of a block what these say, and nothing else; a part takes 7 octets at most
-pub record LaysFirst (c : Column) (lines : List Line) (bound : ℕ) (tlvs : List AddrTlvFields) : Type 0 where
-  pub each : (tlv : AddrTlvFields) → Contains tlvs tlv → IsRun c lines tlv
-  pub all : (place : ℕ) (line : Line) (octets : List ℕ) → place < bound → slice_get lines place ≡ Some line → value_of c line ≡ Some octets →
+pub record LaysFirst (c : AddressTlvKind) (lines : List AddressRecord) (bound : ℕ) (tlvs : List AddrTlvFields) : Type 0 where
+  pub each : (tlv : AddrTlvFields) → Contains tlvs tlv → IsColumnTlv c lines tlv
+  pub all : (place : ℕ) (line : AddressRecord) (octets : List ℕ) → place < bound → slice_get lines place ≡ Some line → value_of c line ≡ Some octets →
       (tlv : AddrTlvFields) × Contains tlvs tlv × (tlv.first ≤ place) × (place ≤ tlv.last)
   pub short : (count : ℕ) → length (flat_map (least_addr_tlv count) tlvs) ≤ 7 * present c (take bound lines)
 
 -- the same of all lines of a block
-abbrev pub Lays : Column → List Line → List AddrTlvFields → Type 0
+abbrev pub Lays : AddressTlvKind → List AddressRecord → List AddrTlvFields → Type 0
 Lays c lines tlvs = LaysFirst c lines (length lines) tlvs
 
 -- the TLVs of several columns, one column after the other
-abbrev pub LaysAll : List Column → List Line → List AddrTlvFields → Type 0
+abbrev pub LaysAll : List AddressTlvKind → List AddressRecord → List AddrTlvFields → Type 0
 LaysAll [] lines tlvs = tlvs ≡ []
 LaysAll (c ∷ cs) lines tlvs =
     (first : List AddrTlvFields) × (others : List AddrTlvFields) × (tlvs ≡ first ++ others) × Lays c lines first
     × LaysAll cs lines others
 
 -- the block of some lines, one address for each
-pub record IsBlock (lines : List Line) (block : BlockFields) : Type 0 where
+pub record IsBlock (lines : List AddressRecord) (block : BlockFields) : Type 0 where
   pub width : block.width ≡ 4
   pub few : length lines ≤ 255
-  pub addrs : block.addrs ≡ map (λ (l : Line). raw_of l.net) lines
+  pub addrs : block.addrs ≡ map (λ (l : AddressRecord). raw_of l.net) lines
   pub tlvs : LaysAll columns lines block.tlvs
 
 -- blocks of 1 to 255 addresses that have the lines in their order
-abbrev pub AreBlocks : List Line → List BlockFields → Type 0
+abbrev pub AreBlocks : List AddressRecord → List BlockFields → Type 0
 AreBlocks lines [] = lines ≡ []
 AreBlocks lines (b ∷ blocks) =
-    (front : List Line) × (rest : List Line) × (lines ≡ front ++ rest) × (0 < length front) × IsBlock front b
+    (front : List AddressRecord) × (rest : List AddressRecord) × (lines ≡ front ++ rest) × (0 < length front) × IsBlock front b
     × AreBlocks rest blocks

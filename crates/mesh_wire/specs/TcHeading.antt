@@ -5,9 +5,9 @@ use Rattle.mesh_atoms.specs.declared.tc.TcRow.{TcRow}
 use Rattle.mesh_tlv.specs.Fields.{TlvFields, fields}
 use Rattle.mesh_packet.specs.Fields.{MessageFields}
 use Rattle.mesh_wire.specs.declared.collect.AddressParts.{AddressParts}
-use Rattle.mesh_wire.specs.declared.tc.Contents.{Contents}
-use Rattle.mesh_wire.specs.declared.tc.Contents.TheVariants.{Nothing, Single, More}
-use Rattle.mesh_wire.specs.declared.tc.Heading.{Heading}
+use Rattle.mesh_wire.specs.declared.tc.SingleContent.{SingleContent}
+use Rattle.mesh_wire.specs.declared.tc.SingleContent.TheVariants.{Nothing, Single, More}
+use Rattle.mesh_wire.specs.declared.tc.TcHeader.{TcHeader}
 use Rattle.mesh_wire.specs.Hello.{OriginatorIs}
 use Rattle.mesh_wire.specs.HelloRows.{MetricFrom, number_from}
 use Rattle.mesh_wire.specs.Kinds.{cont_seq_num}
@@ -19,13 +19,13 @@ abbrev pub contents_in : List TlvFields → List TlvFields
 contents_in tlvs = filter (λ (p : TlvFields). p.kind == cont_seq_num && nat_lt p.ext 2) tlvs
 
 -- whether there are none, one or more
-abbrev pub ContentsAre : List TlvFields → Contents → Type 0
+abbrev pub ContentsAre : List TlvFields → SingleContent → Type 0
 ContentsAre tlvs Nothing = tlvs ≡ []
 ContentsAre tlvs (Single tlv) = tlvs ≡ fields tlv ∷ []
 ContentsAre tlvs More = (a : TlvFields) × (b : TlvFields) × (rest : List TlvFields) × (tlvs ≡ a ∷ (b ∷ rest))
 
 -- no rule on it is broken, and it says this
-pub record TcHeadingIs (message : MessageFields) (heading : Heading) : Type 0 where
+pub record TcHeadingIs (message : MessageFields) (heading : TcHeader) : Type 0 where
   pub width : message.width ≡ 4
   pub originator : OriginatorIs message.originator (Some heading.originator)
   pub sequence : message.sequence ≡ Some heading.sequence

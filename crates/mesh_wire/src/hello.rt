@@ -4,7 +4,7 @@ ghost use Rattle.std.specs.Option.{option_map};
 ghost use Rattle.mesh_atoms.specs.declared.addr.NetAddr.{NetAddr};
 ghost use Rattle.mesh_atoms.specs.declared.hello.Hello.{Hello};
 ghost use Rattle.mesh_packet.specs.Fields.{fields_of_message};
-ghost use Rattle.mesh_wire.specs.Answers.{IfBroken, Gives, Refuses};
+ghost use Rattle.mesh_wire.specs.Answers.{IfBroken, GivesValue, RefusesAt};
 ghost use Rattle.mesh_wire.specs.Hello.{OriginatorIs, HelloIs};
 ghost use Rattle.mesh_wire.specs.HelloHeading.{IsOther, HeadingIs};
 ghost use Rattle.mesh_wire.specs.HelloRows.{number_from, local_from, link_from, other_from};
@@ -13,7 +13,7 @@ ghost use Rattle.mesh_wire.specs.Rules.{Keeps, FirstBroken};
 
 use crate::collect::AddressParts;
 use crate::fault::WireFault;
-use crate::parts::One;
+use crate::parts::SingleNumber;
 use crate::rows::{Row, rows_in};
 use crate::times;
 use mesh_atoms::{
@@ -25,7 +25,7 @@ use std::alloc::Global;
 
 /// What a HELLO says before its rows.
 #[derive(Clone, Copy)]
-pub(crate) struct Heading {
+pub(crate) struct HelloHeader {
     pub validity: u64,
     pub interval: Option<u64>,
     pub willing: u8,
@@ -42,7 +42,7 @@ fn is_other(value: Option<u8>, wanted: u8) -> bool
 }
 
 /// What the message says before its rows, or the first rule on it that is broken.
-pub(crate) fn heading_of(message: &Message) -> Result<Heading, u8>
+pub(crate) fn heading_of(message: &Message) -> Result<HelloHeader, u8>
     ensures heading { IfOk result (HeadingIs (fields_of_message message.now)) }
     ensures bounded { IfOk result (λ heading. heading.validity < 2 ^ 35) }
     ensures broken { IfErr result (λ number. FirstBroken (BreaksHello (fields_of_message message.now)) number None) }
@@ -65,14 +65,14 @@ pub(crate) fn heading_of(message: &Message) -> Result<Heading, u8>
     let Some(willing) = times::willing(message) else {
         return Err(hello_rule::WILLING);
     };
-    Ok(Heading {
+    Ok(HelloHeader {
         validity,
         interval,
         willing,
     })
 }
 
-fn local_from(one: One) -> Option<LocalIf>
+fn local_from(one: SingleNumber) -> Option<LocalIf>
     ensures { result ≡ option_map local_from (number_from one) }
 {
     match one.number() {
@@ -82,7 +82,7 @@ fn local_from(one: One) -> Option<LocalIf>
     }
 }
 
-fn link_from(one: One) -> Option<LinkStatus>
+fn link_from(one: SingleNumber) -> Option<LinkStatus>
     ensures { result ≡ option_map link_from (number_from one) }
 {
     match one.number() {
@@ -93,7 +93,7 @@ fn link_from(one: One) -> Option<LinkStatus>
     }
 }
 
-fn other_from(one: One) -> Option<OtherStatus>
+fn other_from(one: SingleNumber) -> Option<OtherStatus>
     ensures { result ≡ option_map other_from (number_from one) }
 {
     match one.number() {
@@ -213,10 +213,10 @@ pub fn hello_of(alloc: Global, message: &Message) -> Result<Hello, WireFault>
 
     // A message that says a HELLO and breaks no rule is read as that.
     ensures only { (hello : Hello) → Keeps (BreaksHello (fields_of_message message.now))
-        → HelloIs (fields_of_message message.now) hello → Gives hello result }
+        → HelloIs (fields_of_message message.now) hello → GivesValue hello result }
     // A message that breaks rules is refused by the first.
     ensures first { (number : ℕ) (addr : Option NetAddr)
-        → FirstBroken (BreaksHello (fields_of_message message.now)) number addr → Refuses number addr result }
+        → FirstBroken (BreaksHello (fields_of_message message.now)) number addr → RefusesAt number addr result }
 {
     read_hello(alloc, message)
 }

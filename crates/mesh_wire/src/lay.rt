@@ -2,26 +2,26 @@
 ghost use Rattle.std.specs.Prelude.{◌≡◌, ◌+◌, ◌*◌, ◌++◌, OnOk};
 ghost use Rattle.mesh_wire.specs.Lines.{octets_of, columns, column_text, columns_text};
 
-use crate::lines::{Column, Line};
+use crate::lines::{AddressRecord, AddressTlvKind};
 use mesh_atoms::{Bytes, octets_of_short};
 use std::alloc::AllocError;
 
 /// All columns, in the order in which they are laid and written.
-pub(crate) const COLUMNS: [Column; 10] = [
-    Column::Local,
-    Column::Link,
-    Column::Other,
-    Column::Mpr,
-    Column::AddrType,
-    Column::Gateway,
-    Column::LinkIn,
-    Column::LinkOut,
-    Column::NearIn,
-    Column::NearOut,
+pub(crate) const COLUMNS: [AddressTlvKind; 10] = [
+    AddressTlvKind::Local,
+    AddressTlvKind::Link,
+    AddressTlvKind::Other,
+    AddressTlvKind::Mpr,
+    AddressTlvKind::AddrType,
+    AddressTlvKind::Gateway,
+    AddressTlvKind::LinkIn,
+    AddressTlvKind::LinkOut,
+    AddressTlvKind::NearIn,
+    AddressTlvKind::NearOut,
 ];
 
 // Appends the value of a number.
-fn put_value(column: Column, number: u16, out: &mut Bytes) -> Result<(), AllocError>
+fn put_value(column: AddressTlvKind, number: u16, out: &mut Bytes) -> Result<(), AllocError>
     ensures { OnOk result (out.new ≡ out.old ++ octets_of column number) }
 {
     let [high, low] = octets_of_short(number);
@@ -33,7 +33,11 @@ fn put_value(column: Column, number: u16, out: &mut Bytes) -> Result<(), AllocEr
 }
 
 // Appends a value for each line: that of the column, or zeros where the line has none.
-fn lay_column(column: Column, lines: &[Line], out: &mut Bytes) -> Result<(), AllocError>
+fn lay_column(
+    column: AddressTlvKind,
+    lines: &[AddressRecord],
+    out: &mut Bytes,
+) -> Result<(), AllocError>
     ensures { OnOk result (out.new ≡ out.old ++ column_text column lines.now) }
 {
     for line in lines {
@@ -43,7 +47,11 @@ fn lay_column(column: Column, lines: &[Line], out: &mut Bytes) -> Result<(), All
 }
 
 // The same for several columns.
-fn lay_columns(columns: &[Column], lines: &[Line], out: &mut Bytes) -> Result<(), AllocError>
+fn lay_columns(
+    columns: &[AddressTlvKind],
+    lines: &[AddressRecord],
+    out: &mut Bytes,
+) -> Result<(), AllocError>
     ensures { OnOk result (out.new ≡ out.old ++ columns_text columns.now lines.now) }
 {
     match columns {
@@ -56,7 +64,7 @@ fn lay_columns(columns: &[Column], lines: &[Line], out: &mut Bytes) -> Result<()
 }
 
 /// Appends the values of all columns.
-pub(crate) fn lay(lines: &[Line], out: &mut Bytes) -> Result<(), AllocError>
+pub(crate) fn lay(lines: &[AddressRecord], out: &mut Bytes) -> Result<(), AllocError>
     ensures { OnOk result (out.new ≡ out.old ++ columns_text columns lines.now) }
 {
     lay_columns(&COLUMNS, lines, out)

@@ -11,7 +11,7 @@ use std::alloc::{AllocError, Global};
 
 /// What a TLV may say of an address: its type, and for LINK_METRIC which metric.
 #[derive(Clone, Copy)]
-pub(crate) enum Column {
+pub(crate) enum AddressTlvKind {
     Local,
     Link,
     Other,
@@ -26,7 +26,7 @@ pub(crate) enum Column {
 
 /// All that is written of one address.
 #[derive(Clone, Copy)]
-pub(crate) struct Line {
+pub(crate) struct AddressRecord {
     pub net: NetAddr,
     pub local: Option<u8>,
     pub link: Option<u8>,
@@ -37,19 +37,22 @@ pub(crate) struct Line {
     pub metrics: Metrics,
 }
 
-impl Column {
+impl AddressTlvKind {
     /// The type of its TLVs.
     pub(crate) fn kind(self) -> u8
         ensures { result ≡ kind_of self }
     {
         match self {
-            Column::Local => 2,
-            Column::Link => 3,
-            Column::Other => 4,
-            Column::Mpr => 8,
-            Column::AddrType => 9,
-            Column::Gateway => 10,
-            Column::LinkIn | Column::LinkOut | Column::NearIn | Column::NearOut => 7,
+            AddressTlvKind::Local => 2,
+            AddressTlvKind::Link => 3,
+            AddressTlvKind::Other => 4,
+            AddressTlvKind::Mpr => 8,
+            AddressTlvKind::AddrType => 9,
+            AddressTlvKind::Gateway => 10,
+            AddressTlvKind::LinkIn
+            | AddressTlvKind::LinkOut
+            | AddressTlvKind::NearIn
+            | AddressTlvKind::NearOut => 7,
         }
     }
 
@@ -59,7 +62,10 @@ impl Column {
     {
         matches!(
             self,
-            Column::LinkIn | Column::LinkOut | Column::NearIn | Column::NearOut
+            AddressTlvKind::LinkIn
+                | AddressTlvKind::LinkOut
+                | AddressTlvKind::NearIn
+                | AddressTlvKind::NearOut
         )
     }
 }
@@ -85,22 +91,22 @@ fn flagged(flag: u16, metric: Option<Metric>) -> Option<u16>
     }
 }
 
-impl Line {
+impl AddressRecord {
     /// What is said of the address, as a number whose high octet is the first of the value.
-    pub(crate) fn number(&self, column: Column) -> Option<u16>
+    pub(crate) fn number(&self, column: AddressTlvKind) -> Option<u16>
         ensures { result ≡ number column self.now }
     {
         match column {
-            Column::Local => high(self.local),
-            Column::Link => high(self.link),
-            Column::Other => high(self.other),
-            Column::Mpr => high(self.mpr),
-            Column::AddrType => high(self.addr_type),
-            Column::Gateway => high(self.gateway),
-            Column::LinkIn => flagged(128, self.metrics.link_in),
-            Column::LinkOut => flagged(64, self.metrics.link_out),
-            Column::NearIn => flagged(32, self.metrics.near_in),
-            Column::NearOut => flagged(16, self.metrics.near_out),
+            AddressTlvKind::Local => high(self.local),
+            AddressTlvKind::Link => high(self.link),
+            AddressTlvKind::Other => high(self.other),
+            AddressTlvKind::Mpr => high(self.mpr),
+            AddressTlvKind::AddrType => high(self.addr_type),
+            AddressTlvKind::Gateway => high(self.gateway),
+            AddressTlvKind::LinkIn => flagged(128, self.metrics.link_in),
+            AddressTlvKind::LinkOut => flagged(64, self.metrics.link_out),
+            AddressTlvKind::NearIn => flagged(32, self.metrics.near_in),
+            AddressTlvKind::NearOut => flagged(16, self.metrics.near_out),
         }
     }
 }
@@ -149,10 +155,10 @@ fn other_value(other: Option<OtherStatus>) -> Option<u8>
 }
 
 // What is written of a row of a HELLO.
-fn hello_line(row: &HelloRow) -> Line
+fn hello_line(row: &HelloRow) -> AddressRecord
     ensures { result ≡ hello_line row.now }
 {
-    Line {
+    AddressRecord {
         net: row.addr,
         local: local_value(row.local),
         link: link_value(row.link),
@@ -165,10 +171,10 @@ fn hello_line(row: &HelloRow) -> Line
 }
 
 // What is written of a row of a TC.
-fn tc_line(row: &TcRow) -> Line
+fn tc_line(row: &TcRow) -> AddressRecord
     ensures { result ≡ tc_line row.now }
 {
-    Line {
+    AddressRecord {
         net: row.dest,
         local: None,
         link: None,
@@ -186,7 +192,10 @@ fn tc_line(row: &TcRow) -> Line
 }
 
 /// What is written of the rows of a HELLO.
-pub(crate) fn hello_lines(alloc: Global, rows: &[HelloRow]) -> Result<Seq<Line>, AllocError>
+pub(crate) fn hello_lines(
+    alloc: Global,
+    rows: &[HelloRow],
+) -> Result<Seq<AddressRecord>, AllocError>
     ensures { IfOk result (λ lines. lines ≡ map hello_line rows.now) }
 {
     let mut lines = Seq::new(alloc);
@@ -197,7 +206,7 @@ pub(crate) fn hello_lines(alloc: Global, rows: &[HelloRow]) -> Result<Seq<Line>,
 }
 
 /// What is written of the rows of a TC.
-pub(crate) fn tc_lines(alloc: Global, rows: &[TcRow]) -> Result<Seq<Line>, AllocError>
+pub(crate) fn tc_lines(alloc: Global, rows: &[TcRow]) -> Result<Seq<AddressRecord>, AllocError>
     ensures { IfOk result (λ lines. lines ≡ map tc_line rows.now) }
 {
     let mut lines = Seq::new(alloc);

@@ -9,7 +9,7 @@ use mesh_atoms::tlv_type::{
 
 /// Of several numbers: none, one, though it may have come more than once, or different ones.
 #[derive(Clone, Copy)]
-pub(crate) enum One {
+pub(crate) enum SingleNumber {
     Unsaid,
     Said(u16),
     Several,
@@ -19,7 +19,7 @@ pub(crate) enum One {
 #[derive(Clone, Copy)]
 pub(crate) struct Octets {
     pub wrong: bool,
-    pub one: One,
+    pub one: SingleNumber,
 }
 
 /// What the TLVs say of one address.
@@ -30,27 +30,33 @@ pub(crate) struct RowParts {
     pub other: Octets,
     pub addr_type: Octets,
     pub wrong_gateway: bool,
-    pub gateway: One,
+    pub gateway: SingleNumber,
     pub wrong_metric: bool,
-    pub link_in: One,
-    pub link_out: One,
-    pub near_in: One,
-    pub near_out: One,
+    pub link_in: SingleNumber,
+    pub link_out: SingleNumber,
+    pub near_in: SingleNumber,
+    pub near_out: SingleNumber,
     pub flooding: bool,
     pub routing: bool,
     pub origin: bool,
     pub routable: bool,
 }
 
-impl One {
+impl SingleNumber {
     // One number more.
-    fn also(self, number: u16) -> One
+    fn also(self, number: u16) -> SingleNumber
         ensures { result ≡ also self number }
     {
         match self {
-            One::Unsaid => One::Said(number),
-            One::Said(first) => { if first == number { self } else { One::Several } }
-            One::Several => self,
+            SingleNumber::Unsaid => SingleNumber::Said(number),
+            SingleNumber::Said(first) => {
+                if first == number {
+                    self
+                } else {
+                    SingleNumber::Several
+                }
+            }
+            SingleNumber::Several => self,
         }
     }
 
@@ -139,7 +145,7 @@ impl RowParts {
     {
         let none = Octets {
             wrong: false,
-            one: One::Unsaid,
+            one: SingleNumber::Unsaid,
         };
         RowParts {
             local: none,
@@ -147,12 +153,12 @@ impl RowParts {
             other: none,
             addr_type: none,
             wrong_gateway: false,
-            gateway: One::Unsaid,
+            gateway: SingleNumber::Unsaid,
             wrong_metric: false,
-            link_in: One::Unsaid,
-            link_out: One::Unsaid,
-            near_in: One::Unsaid,
-            near_out: One::Unsaid,
+            link_in: SingleNumber::Unsaid,
+            link_out: SingleNumber::Unsaid,
+            near_in: SingleNumber::Unsaid,
+            near_out: SingleNumber::Unsaid,
             flooding: false,
             routing: false,
             origin: false,

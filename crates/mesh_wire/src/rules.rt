@@ -4,15 +4,15 @@ ghost use Rattle.mesh_wire.specs.RowRules.{is_several, is_said, is_undefined, ha
 ghost use Rattle.mesh_wire.specs.HelloRows.{number_from, MetricFrom};
 
 use crate::collect::AddressParts;
-use crate::parts::{One, RowParts};
+use crate::parts::{RowParts, SingleNumber};
 use mesh_atoms::{Metric, hello_rule, tc_rule};
 
-impl One {
+impl SingleNumber {
     fn is_several(self) -> bool
         ensures { result ≡ is_several self }
     {
         match self {
-            One::Several => true,
+            SingleNumber::Several => true,
             _ => false,
         }
     }
@@ -21,7 +21,7 @@ impl One {
         ensures { result ≡ is_said self }
     {
         match self {
-            One::Unsaid => false,
+            SingleNumber::Unsaid => false,
             _ => true,
         }
     }
@@ -31,7 +31,7 @@ impl One {
         ensures { result ≡ number_from self }
     {
         match self {
-            One::Said(number) => Some(number),
+            SingleNumber::Said(number) => Some(number),
             _ => None,
         }
     }
@@ -41,7 +41,7 @@ impl One {
         ensures { MetricFrom self result }
     {
         match self {
-            One::Said(number) => Metric::of_code(number / 16),
+            SingleNumber::Said(number) => Metric::of_code(number / 16),
             _ => None,
         }
     }

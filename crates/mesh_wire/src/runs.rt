@@ -6,7 +6,7 @@ ghost use Rattle.mesh_wire.specs.Lines.{columns, column_text, columns_text};
 ghost use Rattle.mesh_wire.specs.Runs.{host_octets, raw_of, leading, all_are, run_of, Adds, Lays, LaysAll, IsBlock, AreBlocks};
 
 use crate::lay::COLUMNS;
-use crate::lines::{Column, Line};
+use crate::lines::{AddressRecord, AddressTlvKind};
 use mesh_addr::{AddrBlock, RawAddr};
 use mesh_atoms::{Addr4, Seq, octets_of_address};
 use mesh_packet::Block;
@@ -28,7 +28,7 @@ pub(crate) fn raw_of(address: Addr4, prefix: u8) -> RawAddr
 }
 
 // The addresses of lines.
-fn raw_addresses(alloc: Global, lines: &[Line]) -> Result<Seq<RawAddr>, AllocError>
+fn raw_addresses(alloc: Global, lines: &[AddressRecord]) -> Result<Seq<RawAddr>, AllocError>
     ensures { IfOk result (λ addrs. addrs ≡ map (λ l. raw_of l.net) lines.now) }
 {
     let mut addrs = Seq::new(alloc);
@@ -39,7 +39,7 @@ fn raw_addresses(alloc: Global, lines: &[Line]) -> Result<Seq<RawAddr>, AllocErr
 }
 
 // How many lines at the front have the part.
-fn leading(column: Column, lines: &[Line]) -> usize
+fn leading(column: AddressTlvKind, lines: &[AddressRecord]) -> usize
     ensures count { result ≡ leading column lines.now }
     ensures within { result ≤ length lines.now }
 {
@@ -56,7 +56,7 @@ fn leading(column: Column, lines: &[Line]) -> usize
 }
 
 // Whether all lines have that number.
-fn all_are(column: Column, number: Option<u16>, lines: &[Line]) -> bool
+fn all_are(column: AddressTlvKind, number: Option<u16>, lines: &[AddressRecord]) -> bool
     ensures { result ≡ all_are column number lines.now }
 {
     match lines {
@@ -66,7 +66,7 @@ fn all_are(column: Column, number: Option<u16>, lines: &[Line]) -> bool
 }
 
 // How many octets the values of lines take.
-fn text_len(column: Column, lines: &[Line]) -> usize
+fn text_len(column: AddressTlvKind, lines: &[AddressRecord]) -> usize
     ensures { result ≡ length (column_text column lines.now) }
 {
     if column.is_wide() {
@@ -78,8 +78,8 @@ fn text_len(column: Column, lines: &[Line]) -> usize
 
 // The values of the lines from `start` to `end`.
 fn text_between<'a>(
-    column: Column,
-    lines: &[Line],
+    column: AddressTlvKind,
+    lines: &[AddressRecord],
     text: &'a [u8],
     start: usize,
     end: usize,
@@ -94,7 +94,12 @@ fn text_between<'a>(
 
 // The TLV of a run of lines that all have the part, of which the first has that place in its block: with one value where
 // all are the same, else with a value for each.
-fn run_of<'a>(column: Column, lines: &[Line], text: &'a [u8], first: u8) -> AddrTlv<'a>
+fn run_of<'a>(
+    column: AddressTlvKind,
+    lines: &[AddressRecord],
+    text: &'a [u8],
+    first: u8,
+) -> AddrTlv<'a>
     requires some { 0 < length lines.now }
     requires room { first + length lines.now ≤ 255 }
     requires text { text.now ≡ column_text column lines.now }
@@ -117,8 +122,8 @@ fn run_of<'a>(column: Column, lines: &[Line], text: &'a [u8], first: u8) -> Addr
 
 // Appends the TLVs of a column: one for each longest run of lines that have the part.
 fn put_runs<'a>(
-    column: Column,
-    lines: &[Line],
+    column: AddressTlvKind,
+    lines: &[AddressRecord],
     text: &'a [u8],
     tlvs: &mut Seq<AddrTlv<'a>>,
 ) -> Result<(), AllocError>
@@ -140,8 +145,8 @@ fn put_runs<'a>(
 
 // Appends the TLVs of several columns over the lines from `start` to `end`. The values are those of all lines.
 fn put_columns<'a>(
-    columns: &[Column],
-    lines: &[Line],
+    columns: &[AddressTlvKind],
+    lines: &[AddressRecord],
     start: usize,
     end: usize,
     values: &'a [u8],
@@ -166,9 +171,9 @@ fn put_columns<'a>(
 
 // The values of the first column, and those of the others.
 fn first_column<'a>(
-    column: Column,
-    others: &[Column],
-    lines: &[Line],
+    column: AddressTlvKind,
+    others: &[AddressTlvKind],
+    lines: &[AddressRecord],
     values: &'a [u8],
 ) -> (&'a [u8], &'a [u8])
     requires values { values.now ≡ column_text column lines.now ++ columns_text others.now lines.now }
@@ -182,7 +187,7 @@ fn first_column<'a>(
 // The block of the lines from `start` to `end`.
 fn block_of<'a>(
     alloc: Global,
-    lines: &[Line],
+    lines: &[AddressRecord],
     start: usize,
     end: usize,
     values: &'a [u8],
@@ -205,7 +210,7 @@ fn block_of<'a>(
 // Appends the blocks of the lines from `start` on.
 fn put_blocks<'a>(
     alloc: Global,
-    lines: &[Line],
+    lines: &[AddressRecord],
     start: usize,
     values: &'a [u8],
     blocks: &mut Seq<Block<'a>>,
@@ -226,7 +231,7 @@ fn put_blocks<'a>(
 /// The blocks of all lines, in their order. The values are those that `lay` lays.
 pub(crate) fn blocks_of<'a>(
     alloc: Global,
-    lines: &[Line],
+    lines: &[AddressRecord],
     values: &'a [u8],
 ) -> Result<Seq<Block<'a>>, AllocError>
     requires { values.now ≡ columns_text columns lines.now }

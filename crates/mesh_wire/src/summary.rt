@@ -4,7 +4,7 @@ ghost use Rattle.mesh_atoms.specs.declared.addr.NetAddr.{NetAddr};
 ghost use Rattle.mesh_atoms.specs.declared.hello.Hello.{Hello};
 ghost use Rattle.mesh_atoms.specs.declared.tc.Tc.{Tc};
 ghost use Rattle.mesh_packet.specs.Fields.{fields_of_message};
-ghost use Rattle.mesh_wire.specs.Answers.{IfBroken, Gives, Refuses, Sums};
+ghost use Rattle.mesh_wire.specs.Answers.{IfBroken, GivesValue, RefusesAt, Sums};
 ghost use Rattle.mesh_wire.specs.Hello.{HelloIs};
 ghost use Rattle.mesh_wire.specs.HelloRules.{BreaksHello};
 ghost use Rattle.mesh_wire.specs.Rules.{Keeps, FirstBroken};
@@ -93,10 +93,10 @@ pub fn hello_summary(alloc: Global, message: &Message) -> Result<HelloSummary, W
 
     // Of a message that says a HELLO and breaks no rule its summary is read.
     ensures only { (hello : Hello) → Keeps (BreaksHello (fields_of_message message.now))
-        → HelloIs (fields_of_message message.now) hello → Gives (hello_summary_of hello) result }
+        → HelloIs (fields_of_message message.now) hello → GivesValue (hello_summary_of hello) result }
     // A message that breaks rules is refused by the first.
     ensures first { (number : ℕ) (addr : Option NetAddr)
-        → FirstBroken (BreaksHello (fields_of_message message.now)) number addr → Refuses number addr result }
+        → FirstBroken (BreaksHello (fields_of_message message.now)) number addr → RefusesAt number addr result }
 {
     read_hello_summary(alloc, message)
 }
@@ -143,10 +143,10 @@ pub fn tc_summary(alloc: Global, message: &Message) -> Result<TcSummary, WireFau
 
     // Of a message that says a TC and breaks no rule its summary is read.
     ensures only { (tc : Tc) → Keeps (BreaksTc (fields_of_message message.now))
-        → TcIs (fields_of_message message.now) tc → Gives (tc_summary_of tc) result }
+        → TcIs (fields_of_message message.now) tc → GivesValue (tc_summary_of tc) result }
     // A message that breaks rules is refused by the first.
     ensures first { (number : ℕ) (addr : Option NetAddr)
-        → FirstBroken (BreaksTc (fields_of_message message.now)) number addr → Refuses number addr result }
+        → FirstBroken (BreaksTc (fields_of_message message.now)) number addr → RefusesAt number addr result }
 {
     read_tc_summary(alloc, message)
 }

@@ -6,7 +6,7 @@ ghost use Rattle.mesh_atoms.specs.declared.tc.Tc.{Tc};
 ghost use Rattle.mesh_tlv.specs.Fields.{fields};
 ghost use Rattle.mesh_atoms.specs.Writable.{HaveTypeWhole};
 ghost use Rattle.mesh_packet.specs.Fields.{fields_of_message};
-ghost use Rattle.mesh_wire.specs.Answers.{IfBroken, Gives, Refuses};
+ghost use Rattle.mesh_wire.specs.Answers.{IfBroken, GivesValue, RefusesAt};
 ghost use Rattle.mesh_wire.specs.HelloRows.{number_from};
 ghost use Rattle.mesh_wire.specs.Rules.{Keeps, FirstBroken};
 ghost use Rattle.mesh_wire.specs.Tc.{ContentIs, TcIs};
@@ -17,7 +17,7 @@ ghost use Rattle.mesh_wire.specs.Times.{distance_of};
 use crate::collect::AddressParts;
 use crate::fault::WireFault;
 use crate::hello::originator_of;
-use crate::parts::One;
+use crate::parts::SingleNumber;
 use crate::rows::{Row, rows_in};
 use crate::times;
 use mesh_atoms::tlv_type::CONT_SEQ_NUM;
@@ -28,7 +28,7 @@ use std::alloc::Global;
 
 /// What a TC says before its rows.
 #[derive(Clone, Copy)]
-pub(crate) struct Heading {
+pub(crate) struct TcHeader {
     pub originator: Addr4,
     pub sequence: u16,
     pub ansn: u16,
@@ -39,7 +39,7 @@ pub(crate) struct Heading {
 
 /// The TLVs CONT_SEQ_NUM: none, one, or more.
 #[derive(Clone, Copy)]
-pub(crate) enum Contents<'a> {
+pub(crate) enum SingleContent<'a> {
     Nothing,
     Single(Tlv<'a>),
     More,
@@ -56,7 +56,7 @@ fn distance_of(count: Option<u8>) -> u16
 }
 
 // The TLVs CONT_SEQ_NUM of extension 0 or 1.
-fn contents_of<'a>(tlvs: &[Tlv<'a>]) -> Contents<'a>
+fn contents_of<'a>(tlvs: &[Tlv<'a>]) -> SingleContent<'a>
     ensures { ContentsAre (contents_in (map fields tlvs.now)) result }
 {
     let mut found = None;
@@ -64,14 +64,14 @@ fn contents_of<'a>(tlvs: &[Tlv<'a>]) -> Contents<'a>
         let tlv = tlvs[i];
         if tlv.kind == CONT_SEQ_NUM && tlv.ext < 2 {
             if found.is_some() {
-                return Contents::More;
+                return SingleContent::More;
             }
             found = Some(tlv);
         }
     }
     match found {
-        Some(tlv) => Contents::Single(tlv),
-        None => Contents::Nothing,
+        Some(tlv) => SingleContent::Single(tlv),
+        None => SingleContent::Nothing,
     }
 }
 
@@ -81,7 +81,7 @@ fn content_of(message: &Message) -> Option<(u16, bool)>
     ensures none { IfNone result ((ansn : ℕ) (complete : Bool) → ContentIs (fields_of_message message.now) ansn complete → ⊥) }
 {
     match contents_of(message.tlvs.as_slice()) {
-        Contents::Single(tlv) => {
+        SingleContent::Single(tlv) => {
             let octets = times::octets_of(&tlv);
             if octets.len() != 2 {
                 return None;
@@ -93,7 +93,7 @@ fn content_of(message: &Message) -> Option<(u16, bool)>
 }
 
 /// What the message says before its rows, or the first rule on it that is broken.
-pub(crate) fn heading_of(message: &Message) -> Result<Heading, u8>
+pub(crate) fn heading_of(message: &Message) -> Result<TcHeader, u8>
     ensures heading { IfOk result (TcHeadingIs (fields_of_message message.now)) }
     ensures bounded { IfOk result (λ heading. heading.validity < 2 ^ 35) }
     ensures broken { IfErr result (λ number. FirstBroken (BreaksTc (fields_of_message message.now)) number None) }
@@ -117,7 +117,7 @@ pub(crate) fn heading_of(message: &Message) -> Result<Heading, u8>
     let Some((ansn, complete)) = content_of(message) else {
         return Err(tc_rule::CONTENT);
     };
-    Ok(Heading {
+    Ok(TcHeader {
         originator,
         sequence,
         ansn,
@@ -128,7 +128,7 @@ pub(crate) fn heading_of(message: &Message) -> Result<Heading, u8>
 }
 
 // The octet that is kept 256 times.
-fn octet_from(one: One) -> Option<u8>
+fn octet_from(one: SingleNumber) -> Option<u8>
     ensures { result ≡ option_map (λ n. n / 256) (number_from one) }
 {
     match one.number() {
@@ -209,10 +209,10 @@ pub fn tc_of(alloc: Global, message: &Message) -> Result<Tc, WireFault>
 
     // A message that says a TC and breaks no rule is read as that.
     ensures only { (tc : Tc) → Keeps (BreaksTc (fields_of_message message.now))
-        → TcIs (fields_of_message message.now) tc → Gives tc result }
+        → TcIs (fields_of_message message.now) tc → GivesValue tc result }
     // A message that breaks rules is refused by the first.
     ensures first { (number : ℕ) (addr : Option NetAddr)
-        → FirstBroken (BreaksTc (fields_of_message message.now)) number addr → Refuses number addr result }
+        → FirstBroken (BreaksTc (fields_of_message message.now)) number addr → RefusesAt number addr result }
 {
     read_tc(alloc, message)
 }

@@ -14,7 +14,7 @@ use mesh_tlv::Tlv;
 
 /// The values of the TLVs of a type: none, one, or more.
 #[derive(Clone, Copy)]
-pub(crate) enum Values<'a> {
+pub(crate) enum SingleValue<'a> {
     Nothing,
     Single(&'a [u8]),
     More,
@@ -31,7 +31,7 @@ pub(crate) fn octets_of<'a>(tlv: &Tlv<'a>) -> &'a [u8]
 }
 
 // The values of the TLVs of that type, without extension.
-fn values_of<'a>(tlvs: &[Tlv<'a>], kind: u8) -> Values<'a>
+fn values_of<'a>(tlvs: &[Tlv<'a>], kind: u8) -> SingleValue<'a>
     ensures { ValuesAre (values_in kind (map fields tlvs.now)) result }
 {
     let mut found = None;
@@ -39,14 +39,14 @@ fn values_of<'a>(tlvs: &[Tlv<'a>], kind: u8) -> Values<'a>
         let tlv = &tlvs[i];
         if tlv.kind == kind && tlv.ext == 0 {
             if found.is_some() {
-                return Values::More;
+                return SingleValue::More;
             }
             found = Some(octets_of(tlv));
         }
     }
     match found {
-        Some(octets) => Values::Single(octets),
-        None => Values::Nothing,
+        Some(octets) => SingleValue::Single(octets),
+        None => SingleValue::Nothing,
     }
 }
 
@@ -57,7 +57,7 @@ pub fn only_value<'a>(tlvs: &[Tlv<'a>], kind: u8) -> Option<&'a [u8]>
     ensures none { IfNone result ((octets : List ℕ) → values_in kind (map fields tlvs.now) ≡ octets ∷ [] → ⊥) }
 {
     match values_of(tlvs, kind) {
-        Values::Single(octets) => Some(octets),
+        SingleValue::Single(octets) => Some(octets),
         _ => None,
     }
 }
@@ -69,7 +69,7 @@ pub(crate) fn validity(message: &Message, distance: u16) -> Option<u64>
     ensures bounded { IfSome result (λ ticks. ticks < 2 ^ 35) }
 {
     match values_of(message.tlvs.as_slice(), VALIDITY_TIME) {
-        Values::Single(value) => match time_at(value, distance) {
+        SingleValue::Single(value) => match time_at(value, distance) {
             Some(ticks) => { if ticks > 0 { Some(ticks) } else { None } }
             None => None,
         },
@@ -83,12 +83,12 @@ pub(crate) fn interval(message: &Message, distance: u16) -> Option<Option<u64>>
     ensures none { IfNone result ((ticks : Option ℕ) → IntervalIs (fields_of_message message.now) distance ticks → ⊥) }
 {
     match values_of(message.tlvs.as_slice(), INTERVAL_TIME) {
-        Values::Nothing => Some(None),
-        Values::Single(value) => match time_at(value, distance) {
+        SingleValue::Nothing => Some(None),
+        SingleValue::Single(value) => match time_at(value, distance) {
             Some(ticks) => Some(Some(ticks)),
             None => None,
         },
-        Values::More => None,
+        SingleValue::More => None,
     }
 }
 
@@ -98,11 +98,11 @@ pub(crate) fn willing(message: &Message) -> Option<u8>
     ensures none { IfNone result ((octet : ℕ) → HasWilling (fields_of_message message.now) octet → ⊥) }
 {
     match values_of(message.tlvs.as_slice(), MPR_WILLING) {
-        Values::Nothing => Some(119),
-        Values::Single(value) => match value {
+        SingleValue::Nothing => Some(119),
+        SingleValue::Single(value) => match value {
             [octet] => Some(*octet),
             _ => None,
         },
-        Values::More => None,
+        SingleValue::More => None,
     }
 }

@@ -14,7 +14,7 @@ ghost use Rattle.mesh_wire.specs.Lines.{columns, columns_text, hello_line, tc_li
 ghost use Rattle.mesh_wire.specs.Writes.{IsSoleMessage, WritesHello, WritesTc, WritesLeastHello, WritesLeastTc, alone, ReadsBackHello, ReadsBackTc};
 
 use crate::lay::lay;
-use crate::lines::{Line, hello_lines, tc_lines};
+use crate::lines::{AddressRecord, hello_lines, tc_lines};
 use crate::runs::{blocks_of, raw_of};
 use mesh_addr::RawAddr;
 use mesh_atoms::tlv_type::{CONT_SEQ_NUM, INTERVAL_TIME, MPR_WILLING, VALIDITY_TIME};
@@ -154,7 +154,7 @@ fn alone(alloc: Global, message: Message) -> Result<Bytes, AllocError>
 }
 
 // Octets, and the values of all columns behind them.
-fn values_of(alloc: Global, first: &[u8], lines: &[Line]) -> Result<Bytes, AllocError>
+fn values_of(alloc: Global, first: &[u8], lines: &[AddressRecord]) -> Result<Bytes, AllocError>
     ensures { IfOk result (λ values. values ≡ first.now ++ columns_text columns lines.now) }
 {
     let mut values = Bytes::new(alloc);
@@ -164,7 +164,7 @@ fn values_of(alloc: Global, first: &[u8], lines: &[Line]) -> Result<Bytes, Alloc
 }
 
 // The values of all TLVs of a HELLO.
-fn hello_values(alloc: Global, hello: &Hello, lines: &[Line]) -> Result<Bytes, AllocError>
+fn hello_values(alloc: Global, hello: &Hello, lines: &[AddressRecord]) -> Result<Bytes, AllocError>
     requires validity { IsSentTime hello.now.validity }
     requires interval { IsSentIfSome hello.now.interval }
     ensures { IfOk result (HasHelloValues hello.now lines.now) }
@@ -181,7 +181,7 @@ fn hello_values(alloc: Global, hello: &Hello, lines: &[Line]) -> Result<Bytes, A
 fn hello_message<'a>(
     alloc: Global,
     hello: &Hello,
-    lines: &[Line],
+    lines: &[AddressRecord],
     values: &'a [u8],
 ) -> Result<Message<'a>, AllocError>
     requires lines { lines.now ≡ map hello_line hello.now.rows }
@@ -210,7 +210,7 @@ fn hello_message<'a>(
 }
 
 // The values of all TLVs of a TC but its validity.
-fn tc_values(alloc: Global, tc: &Tc, lines: &[Line]) -> Result<Bytes, AllocError>
+fn tc_values(alloc: Global, tc: &Tc, lines: &[AddressRecord]) -> Result<Bytes, AllocError>
     requires { IsSentIfSome tc.now.interval }
     ensures { IfOk result (HasTcValues tc.now lines.now) }
 {
@@ -225,7 +225,7 @@ fn tc_message<'a>(
     tc: &Tc,
     hop_limit: u8,
     validity: &'a [u8],
-    lines: &[Line],
+    lines: &[AddressRecord],
     values: &'a [u8],
 ) -> Result<Message<'a>, AllocError>
     requires lines { lines.now ≡ map tc_line tc.now.rows }

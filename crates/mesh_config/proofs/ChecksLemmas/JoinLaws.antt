@@ -1,13 +1,13 @@
 -- Arcs joined one after the other.
 use Rattle.std.proofs.Common.{◌≡◌, List, [], ◌∷◌, ◌++◌, Ok, Err, refl, append_assoc}
-use Rattle.mesh_config.specs.Keys.Faults.{Read}
+use Rattle.mesh_config.specs.Keys.Faults.{ReadValue}
 use Rattle.mesh_config.specs.Checks.Checks.{◌>>?◌}
 
 -- what was read, in front of what is still to be
-abbrev pub after_front : {A : Type 0} → List A → Read (List A) → Read (List A)
+abbrev pub after_front : {A : Type 0} → List A → ReadValue (List A) → ReadValue (List A)
 after_front front (Err f) = Err f
 after_front front (Ok xs) = Ok (front ++ xs)
 
-pub after_more : {A : Type 0} (front : List A) (x : A) (rest : Read (List A)) → after_front front (rest >>? λ xs. Ok (x ∷ xs)) ≡ after_front (front ++ x ∷ []) rest
+pub after_more : {A : Type 0} (front : List A) (x : A) (rest : ReadValue (List A)) → after_front front (rest >>? λ xs. Ok (x ∷ xs)) ≡ after_front (front ++ x ∷ []) rest
 after_more front x (Err f) = refl
 after_more front x (Ok xs) = rw (append_assoc front (x ∷ []) xs)

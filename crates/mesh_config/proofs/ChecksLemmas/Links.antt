@@ -11,7 +11,7 @@ use Rattle.mesh_config.specs.declared.stated.stated.StatedInterface.{StatedInter
 use Rattle.mesh_config.specs.Keys.Faults.{Fault}
 use Rattle.mesh_atoms.specs.Literals.{◌>>=◌}
 use Rattle.mesh_config.specs.Checks.Checks as checks
-use Rattle.mesh_config.specs.Checks.Checks.{Identifiers, Place, duplicates, duplicate_unless, find_place}
+use Rattle.mesh_config.specs.Checks.Checks.{Identifiers, NamedInterface, duplicates, duplicate_unless, find_place}
 use Rattle.mesh_config.specs.Checks.Compared.{same_interface, same_attached, all_addrs, attaches_no_host, stated_duplicates, stated_identifiers, stated_place}
 
 list_any-map : {A B : Type 0} (p : B → Bool) (f : A → B) (xs : List A) → list_any p (map f xs) ≡ list_any (λ x. p (f x)) xs
@@ -66,19 +66,19 @@ duplicates_same rs =
 abbrev both : ℕ → ℕ → Option (ℕ × ℕ)
 both a b = Some (a, b)
 
-iface_same : (p : Place) (router : ℕ) (found : Option StatedRouter)
+iface_same : (p : NamedInterface) (router : ℕ) (found : Option StatedRouter)
     → (option_map stated_identifiers found >>= λ r. position (name_eq p.1) r.interface_names >>= λ iface. both router iface)
     ≡ (found >>= λ r. position (λ i. name_eq p.1 i.name) r.interfaces >>= λ iface. both router iface)
 iface_same p router None = refl
 iface_same p router (Some r) = rw (position-map (name_eq p.1) (λ (i : StatedInterface). i.name) r.interfaces)
 
-router_same : (rs : List StatedRouter) (p : Place) (found : Option ℕ)
+router_same : (rs : List StatedRouter) (p : NamedInterface) (found : Option ℕ)
     → (found >>= λ router. slice_get (map stated_identifiers rs) router >>= λ r. position (name_eq p.1) r.interface_names >>= λ iface. both router iface)
     ≡ (found >>= λ router. slice_get rs router >>= λ r. position (λ i. name_eq p.1 i.name) r.interfaces >>= λ iface. both router iface)
 router_same rs p None = refl
 router_same rs p (Some router) = rw (slice_get-map stated_identifiers rs router) (iface_same p router (slice_get rs router))
 
-pub place_same : (rs : List StatedRouter) (p : Place) → find_place (map stated_identifiers rs) p ≡ stated_place rs p
+pub place_same : (rs : List StatedRouter) (p : NamedInterface) → find_place (map stated_identifiers rs) p ≡ stated_place rs p
 place_same rs p = rw (position-map (λ (r : Identifiers). name_eq p.0 r.router_name) stated_identifiers rs) (router_same rs p (position (λ r. name_eq p.0 r.head.name) rs))
 
 -- a place that was looked up step by step

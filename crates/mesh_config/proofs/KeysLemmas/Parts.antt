@@ -2,7 +2,7 @@
 use Rattle.std.proofs.Common.{◌≡◌, List, [], ◌∷◌, Option, Some, None, Result, Ok, refl}
 use Rattle.toml.specs.Data.{Members}
 use Rattle.mesh_config.specs.declared.keys.fault.ConfigFault.{ConfigFault}
-use Rattle.mesh_config.specs.Keys.Faults.{Fault, Read, visit, first, Answers}
+use Rattle.mesh_config.specs.Keys.Faults.{Fault, ReadValue, visit, first, ValueOrFault}
 use Rattle.mesh_config.specs.Keys.Values.{table_read}
 
 pub first_one : (found : Option Fault) → first (found ∷ []) ≡ found
@@ -10,6 +10,6 @@ first_one None = refl
 first_one (Some f) = refl
 
 -- what is answered for the table within is answered for the part
-pub part_answers : {X : Type 0} (Is : Members → X → Type 0) (entries : Members → List (Option Fault)) (read : Read Members) (table : Members) (r : Result X ConfigFault)
-    → read ≡ Ok table → Answers (Is table) (first (entries table)) r → Answers (Is (table_read read)) (first (visit read ∷ first (entries (table_read read)) ∷ [])) r
+pub part_answers : {X : Type 0} (Is : Members → X → Type 0) (entries : Members → List (Option Fault)) (read : ReadValue Members) (table : Members) (r : Result X ConfigFault)
+    → read ≡ Ok table → ValueOrFault (Is table) (first (entries table)) r → ValueOrFault (Is (table_read read)) (first (visit read ∷ first (entries (table_read read)) ∷ [])) r
 part_answers Is entries read table r is met = rw (is, first_one (first (entries table))) met

@@ -5,14 +5,14 @@ use Rattle.mesh_atoms.specs.declared.admit.QualityStep.{QualityStep}
 use Rattle.mesh_atoms.specs.declared.settings.NearHold.{NearHold}
 use Rattle.mesh_atoms.specs.Settings.{are_ascending}
 use Rattle.mesh_config.specs.declared.keys.fault.ConfigFault.{ConfigFault}
-use Rattle.mesh_config.specs.Keys.Faults.{Read, Answers, first, visit, then_turned}
+use Rattle.mesh_config.specs.Keys.Faults.{ReadValue, ValueOrFault, first, visit, then_turned}
 use Rattle.mesh_config.specs.Keys.Values.{unknown, is_one_of, ticks}
 use Rattle.mesh_config.specs.Stated.Tables.{Each, rising_visits}
 use Rattle.mesh_config.specs.Stated.Steps.{at_ms, quality_value, step_keys, step_visits, StepIs}
 use Rattle.mesh_config.specs.Stated.Rules.{hops, near_hold_ms, near_hold_keys, near_hold_visits, NearHoldIs}
 use Rattle.mesh_config.proofs.StatedLemmas.RisingTables.{Numbered, numbered, rising_ascends, ticks_rise}
 
-one_read : (m n : ℕ) (read : Read ℕ) → read ≡ Ok m → read ≡ Ok n → m ≡ n
+one_read : (m n : ℕ) (read : ReadValue ℕ) → read ≡ Ok m → read ≡ Ok n → m ≡ n
 one_read m n read h k = cc
 
 step_at : (t : Members) (step : QualityStep) (n : ℕ) → at_ms t ≡ Ok n → StepIs t step → step.at ≡ ticks n
@@ -21,7 +21,7 @@ step_at t step n read is = one_read step.at (ticks n) (then_turned ticks (at_ms 
 step_numbered : (least : ℕ) (t : Members) → first (step_visits least t) ≡ None → Numbered least (at_ms t)
 step_numbered least t none = numbered least (codes "at_ms") (unknown (is_one_of step_keys) t) (at_ms t) (visit (quality_value t) ∷ []) none
 
-pub steps_ascend : (ds : List Data) (r : Result (List QualityStep) ConfigFault) → Answers (Each StepIs ds) (first (rising_visits step_visits at_ms (codes "quality") 0 ds)) r
+pub steps_ascend : (ds : List Data) (r : Result (List QualityStep) ConfigFault) → ValueOrFault (Each StepIs ds) (first (rising_visits step_visits at_ms (codes "quality") 0 ds)) r
     → IfOk r (λ steps. IsTrue (are_ascending (map (λ s. s.at) steps)))
 steps_ascend ds (Err e) met = tt
 steps_ascend ds (Ok steps) met =
@@ -33,7 +33,7 @@ near_at t near n read is = one_read near.hops n (hops t) is.is_hops read
 near_numbered : (least : ℕ) (t : Members) → first (near_hold_visits least t) ≡ None → Numbered least (hops t)
 near_numbered least t none = numbered least (codes "hops") (unknown (is_one_of near_hold_keys) t) (hops t) (visit (near_hold_ms t) ∷ []) none
 
-pub near_holds_ascend : (ds : List Data) (r : Result (List NearHold) ConfigFault) → Answers (Each NearHoldIs ds) (first (rising_visits near_hold_visits hops (codes "near_hold") 0 ds)) r
+pub near_holds_ascend : (ds : List Data) (r : Result (List NearHold) ConfigFault) → ValueOrFault (Each NearHoldIs ds) (first (rising_visits near_hold_visits hops (codes "near_hold") 0 ds)) r
     → IfOk r (λ nears. IsTrue (are_ascending (map (λ n. n.hops) nears)))
 near_holds_ascend ds (Err e) met = tt
 near_holds_ascend ds (Ok nears) met =

@@ -8,13 +8,13 @@ use Rattle.toml.specs.View.{view}
 use Rattle.toml.specs.declared.value.Value.{Value}
 use Rattle.mesh_atoms.specs.Settings.{are_ascending}
 use Rattle.mesh_config.specs.declared.keys.fault.ConfigFault.{ConfigFault}
-use Rattle.mesh_config.specs.Keys.Faults.{Fault, Read, first, visit, bad_value, FailsAt}
+use Rattle.mesh_config.specs.Keys.Faults.{Fault, ReadValue, first, visit, bad_value, FailsAt}
 use Rattle.mesh_config.specs.Keys.Values.{ticks}
 use Rattle.mesh_config.specs.Stated.Tables.{Each, table_of, element_visits, no_less, one_above, rising_visits}
 use Rattle.mesh_config.proofs.StatedLemmas.Elements.{first_passes, fails_first}
 
 -- one table after the other
-module _ (visits : ℕ → Members → List (Option Fault)) (number : Members → Read ℕ) (key : List ℕ) where
+module _ (visits : ℕ → Members → List (Option Fault)) (number : Members → ReadValue ℕ) (key : List ℕ) where
   pub rising_fail : (vs : List Value) (i least : ℕ) (v : Value) (e : ConfigFault) → v ≡ get_or vs i v → i < length vs
       → FailsAt e (first (element_visits (visits least) key (view v))) → FailsAt e (first (rising_visits visits number key least (map view (drop i vs))))
   rising_fail vs i least v e here within h =
@@ -27,7 +27,7 @@ module _ (visits : ℕ → Members → List (Option Fault)) (number : Members �
   rising_pass vs i least n v here within h numbered =
       let at : drop i vs ≡ v ∷ drop (i + 1) vs = drop_more vs i v within ∙ ap (λ (w : Value). w ∷ drop (i + 1) vs) (sym here) in
       rw at (first_passes (element_visits (visits least) key (view v)) (rising_visits visits number key (one_above (number (table_of (view v)))) (map view (drop (i + 1) vs))) h
-      ∙ ap (λ (r : Read ℕ). first (rising_visits visits number key (one_above r) (map view (drop (i + 1) vs)))) numbered)
+      ∙ ap (λ (r : ReadValue ℕ). first (rising_visits visits number key (one_above r) (map view (drop (i + 1) vs)))) numbered)
 
 -- no fault in two lists
 none_both : (a b : List (Option Fault)) → first (a ++ b) ≡ None → (first a ≡ None) × (first b ≡ None)
@@ -46,7 +46,7 @@ none_within visits key (datetime t) h = absurd cc
 none_within visits key (array ds) h = absurd cc
 
 -- the number of a table without a fault
-pub record Numbered (least : ℕ) (read : Read ℕ) : Type 0 where
+pub record Numbered (least : ℕ) (read : ReadValue ℕ) : Type 0 where
   pub number : ℕ
   pub is_read : read ≡ Ok number
   pub no_less : least ≤ number
@@ -55,12 +55,12 @@ unless_some : (b : Bool) (f : Fault) → (if b then Some f else None) ≡ None �
 unless_some false f h = refl
 unless_some true f h = absurd cc
 
-number_of : (least : ℕ) (key : List ℕ) (read : Read ℕ) → visit read ≡ None → no_less least key read ≡ None → Numbered least read
+number_of : (least : ℕ) (key : List ℕ) (read : ReadValue ℕ) → visit read ≡ None → no_less least key read ≡ None → Numbered least read
 number_of least key (Err f) h k = absurd cc
 number_of least key (Ok n) h k = record { number = n; is_read = refl; no_less = ltb-false n least (unless_some (nat_lt n least) (bad_value key) k) }
 
 -- the visits of a table: its known keys, its number, that it is no less, and more
-pub numbered : (least : ℕ) (key : List ℕ) (known : Option Fault) (read : Read ℕ) (more : List (Option Fault)) → first (known ∷ visit read ∷ no_less least key read ∷ more) ≡ None → Numbered least read
+pub numbered : (least : ℕ) (key : List ℕ) (known : Option Fault) (read : ReadValue ℕ) (more : List (Option Fault)) → first (known ∷ visit read ∷ no_less least key read ∷ more) ≡ None → Numbered least read
 numbered least key known read more h =
     let a = none_both (known ∷ []) (visit read ∷ no_less least key read ∷ more) h in
     let b = none_both (visit read ∷ []) (no_less least key read ∷ more) a.1 in
@@ -71,7 +71,7 @@ numbered least key known read more h =
       one_none (Some f) h = absurd cc
 
 -- what they stand for ascends, where each stands at a place that rises with the number of its table
-module _ {X : Type 0} (Is : Members → X → Type 0) (visits : ℕ → Members → List (Option Fault)) (number : Members → Read ℕ) (key : List ℕ) (place : X → ℕ) (turn : ℕ → ℕ)
+module _ {X : Type 0} (Is : Members → X → Type 0) (visits : ℕ → Members → List (Option Fault)) (number : Members → ReadValue ℕ) (key : List ℕ) (place : X → ℕ) (turn : ℕ → ℕ)
     (rises : (m n : ℕ) → m < n → turn m < turn n) (placed : (t : Members) (x : X) (n : ℕ) → number t ≡ Ok n → Is t x → place x ≡ turn n)
     (read : (least : ℕ) (t : Members) → first (visits least t) ≡ None → Numbered least (number t)) where
   above : (m least : ℕ) (ds : List Data) (xs : List X) → m < least → first (rising_visits visits number key least ds) ≡ None → Each Is ds xs → list_all (nat_lt (turn m)) (map place xs) ≡ true
@@ -83,7 +83,7 @@ module _ {X : Type 0} (Is : Members → X → Type 0) (visits : ℕ → Members 
       let n = read least (table_of d) (none_within (visits least) key d parts.0) in
       let at : place x ≡ turn n.number = placed (table_of d) x n.number n.is_read all.0 in
       let rest : first (rising_visits visits number key (n.number + 1) ds) ≡ None =
-      sym (ap (λ (r : Read ℕ). first (rising_visits visits number key (one_above r) ds)) n.is_read) ∙ parts.1 in
+      sym (ap (λ (r : ReadValue ℕ). first (rising_visits visits number key (one_above r) ds)) n.is_read) ∙ parts.1 in
       and_from (nat_lt (turn m) (place x)) (list_all (nat_lt (turn m)) (map place xs))
       (rw at (lt-ltb (turn m) (turn n.number) (rises m n.number (omega (arith, less, n.no_less)))))
       (above m (n.number + 1) ds xs (omega (arith, less, n.no_less)) rest all.1)
@@ -97,7 +97,7 @@ module _ {X : Type 0} (Is : Members → X → Type 0) (visits : ℕ → Members 
       let n = read least (table_of d) (none_within (visits least) key d parts.0) in
       let at : place x ≡ turn n.number = placed (table_of d) x n.number n.is_read all.0 in
       let rest : first (rising_visits visits number key (n.number + 1) ds) ≡ None =
-      sym (ap (λ (r : Read ℕ). first (rising_visits visits number key (one_above r) ds)) n.is_read) ∙ parts.1 in
+      sym (ap (λ (r : ReadValue ℕ). first (rising_visits visits number key (one_above r) ds)) n.is_read) ∙ parts.1 in
       and_from (list_all (nat_lt (place x)) (map place xs)) (are_ascending (map place xs))
       (rw at (above n.number (n.number + 1) ds xs (omega arith) rest all.1))
       (rising_ascends (n.number + 1) ds xs rest all.1)

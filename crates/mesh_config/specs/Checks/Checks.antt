@@ -5,7 +5,7 @@ use Rattle.toml.specs.Data.{Data, Members}
 use Rattle.mesh_atoms.specs.declared.addr.Addr4.{Addr4}
 use Rattle.mesh_atoms.specs.Base.{addr_eq}
 use Rattle.mesh_atoms.specs.Settings.{name_eq, are_distinct, Ends, ends_eq}
-use Rattle.mesh_config.specs.Keys.Faults.{Fault, Read, Visits, fault, visit, first, listed, bad_value}
+use Rattle.mesh_config.specs.Keys.Faults.{Fault, ReadValue, Visits, fault, visit, first, listed, bad_value}
 use Rattle.mesh_config.specs.declared.keys.refusal.TheConstants.{DUPLICATE, UNKNOWN_NAME}
 use Rattle.mesh_config.specs.Stated.Tables.{table_of}
 use Rattle.mesh_atoms.specs.Literals.{◌>>=◌}
@@ -20,11 +20,11 @@ pub record Identifiers : Type 0 where
   pub nets : List (Addr4 × ℕ)
 
 -- the tables of an array
-abbrev pub tables_in : Read (List Data) → List Members
+abbrev pub tables_in : ReadValue (List Data) → List Members
 tables_in read = map table_of (listed read)
 
 -- a network that is read; 0.0.0.0/0 where a fault stands
-abbrev pub net_in : Read (Addr4 × ℕ) → Addr4 × ℕ
+abbrev pub net_in : ReadValue (Addr4 × ℕ) → Addr4 × ℕ
 net_in (Ok n) = n
 net_in (Err f) = (record { 0 = 0 }, 0)
 
@@ -70,23 +70,23 @@ duplicates routers =
 -- ---- arcs
 
 -- an end of an arc: the name of a router, and that of one of its interfaces
-abbrev pub Place : Type 0
-Place = List ℕ × List ℕ
+abbrev pub NamedInterface : Type 0
+NamedInterface = List ℕ × List ℕ
 
 -- the numbers of a router and of one of its interfaces, by their names
-abbrev pub find_place : List Identifiers → Place → Option (ℕ × ℕ)
+abbrev pub find_place : List Identifiers → NamedInterface → Option (ℕ × ℕ)
 find_place routers p =
     position (λ r. name_eq p.0 r.router_name) routers >>= λ router. slice_get routers router >>= λ r.
     position (name_eq p.1) r.interface_names >>= λ iface. Some (router, iface)
 
 -- one after the other, up to the first fault
 infixl 10 ◌>>?◌
-abbrev pub ◌>>?◌ : {A B : Type 0} → Read A → (A → Read B) → Read B
+abbrev pub ◌>>?◌ : {A B : Type 0} → ReadValue A → (A → ReadValue B) → ReadValue B
 (Ok x) >>? f = f x
 (Err e) >>? f = Err e
 
 -- the numbers that are found by names; an unknown name at that key where there are none
-abbrev pub known_place : List ℕ → Option (ℕ × ℕ) → Read (ℕ × ℕ)
+abbrev pub known_place : List ℕ → Option (ℕ × ℕ) → ReadValue (ℕ × ℕ)
 known_place key None = Err (fault UNKNOWN_NAME key)
 known_place key (Some p) = Ok p
 
@@ -95,29 +95,29 @@ abbrev pub ends : ℕ × ℕ → ℕ × ℕ → Ends
 ends a b = record { from = a.0; from_iface = a.1; to = b.0; to_iface = b.1 }
 
 -- two interfaces of two routers that no earlier arc joins
-abbrev pub new_ends : List Ends → ℕ × ℕ → ℕ × ℕ → Read Ends
+abbrev pub new_ends : List Ends → ℕ × ℕ → ℕ × ℕ → ReadValue Ends
 new_ends earlier a b =
     if nat_eq a.0 b.0 then Err (bad_value (codes "to"))
     else (if list_any (ends_eq (ends a b)) earlier then Err (fault DUPLICATE (codes "arc")) else Ok (ends a b))
 
 -- what an arc joins, by the names of its ends, of which `from` is looked up first
-abbrev pub joined : List Identifiers → List Ends → Place × Place → Read Ends
+abbrev pub joined : List Identifiers → List Ends → NamedInterface × NamedInterface → ReadValue Ends
 joined routers earlier arc =
     known_place (codes "from") (find_place routers arc.0) >>? λ a.
     known_place (codes "to") (find_place routers arc.1) >>? λ b. new_ends earlier a b
 
 -- what the arcs join, arc by arc
-abbrev pub joins : List Identifiers → List Ends → List (Place × Place) → Read (List Ends)
+abbrev pub joins : List Identifiers → List Ends → List (NamedInterface × NamedInterface) → ReadValue (List Ends)
 joins routers earlier [] = Ok []
 joins routers earlier (arc ∷ arcs) = joined routers earlier arc >>? λ e. joins routers (earlier ++ e ∷ []) arcs >>? λ es. Ok (e ∷ es)
 
 -- a place that is read; empty names where a fault stands
-abbrev pub place_in : Read Place → Place
+abbrev pub place_in : ReadValue NamedInterface → NamedInterface
 place_in (Ok p) = p
 place_in (Err f) = ([], [])
 
 -- the places that the table of an arc names, from which and to which it leads
-abbrev pub places_table : Members → Place × Place
+abbrev pub places_table : Members → NamedInterface × NamedInterface
 places_table table = (place_in (place (codes "from") table), place_in (place (codes "to") table))
 
 -- ---- a scenario
@@ -127,7 +127,7 @@ abbrev pub all_identifiers : Members → List Identifiers
 all_identifiers table = map table_identifiers (tables_in (routers table))
 
 -- what the arcs of the top table join, or the first fault that stands there
-abbrev pub arc_ends : Members → Read (List Ends)
+abbrev pub arc_ends : Members → ReadValue (List Ends)
 arc_ends table = joins (all_identifiers table) [] (map places_table (tables_in (arcs table)))
 
 -- the walk from the top table comes first, then what stands twice, and then the arcs

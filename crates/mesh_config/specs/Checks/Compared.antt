@@ -13,7 +13,7 @@ use Rattle.mesh_config.specs.declared.stated.stated.StatedArc.{StatedArc}
 use Rattle.mesh_config.specs.Stated.Scenario.{ArcFields}
 use Rattle.mesh_atoms.specs.declared.settings.RadioArc.{RadioArc}
 use Rattle.mesh_config.specs.Keys.Faults.{Visits}
-use Rattle.mesh_config.specs.Checks.Checks.{Identifiers, Place, duplicate_unless}
+use Rattle.mesh_config.specs.Checks.Checks.{Identifiers, NamedInterface, duplicate_unless}
 
 -- two of a kind are taken for the same: routers by their names
 abbrev pub same_router : StatedRouter → StatedRouter → Bool
@@ -63,7 +63,7 @@ stated_duplicates routers =
     ∷ []
 
 -- the places that a stated arc names, from which and to which it leads
-abbrev pub arc_places : StatedArc → Place × Place
+abbrev pub arc_places : StatedArc → NamedInterface × NamedInterface
 arc_places arc = ((arc.from.router, arc.from.iface), (arc.to.router, arc.to.iface))
 
 -- what an arc of a scenario joins
@@ -75,7 +75,7 @@ abbrev pub arc_fields : RadioArc → ArcFields
 arc_fields arc = record { metric = arc.metric; loss = arc.loss; delay = arc.delay }
 
 -- the numbers of a router and of one of its interfaces, among stated routers
-abbrev pub stated_place : List StatedRouter → Place → Option (ℕ × ℕ)
+abbrev pub stated_place : List StatedRouter → NamedInterface → Option (ℕ × ℕ)
 stated_place routers p =
     position (λ r. name_eq p.0 r.head.name) routers >>= λ router. slice_get routers router >>= λ r.
     position (λ i. name_eq p.1 i.name) r.interfaces >>= λ iface. Some (router, iface)

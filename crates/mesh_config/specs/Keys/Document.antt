@@ -5,17 +5,17 @@ use Rattle.toml.specs.Data.{Members}
 use Rattle.toml.specs.Parse.{parse_document}
 use Rattle.mesh_config.specs.declared.keys.parse.TheConstants.{MOST_OCTETS}
 use Rattle.mesh_config.specs.declared.keys.refusal.TheConstants.{NOT_TOML, TOO_LONG}
-use Rattle.mesh_config.specs.Keys.Faults.{Read, fault}
+use Rattle.mesh_config.specs.Keys.Faults.{ReadValue, fault}
 
 -- the table that the text spells, where it is text at all
 abbrev pub parsed : List ℕ → Option Members
 parsed octets = if is_utf8 octets then parse_document octets else None
 
 -- the table of a text; NOT_TOML where it spells none
-abbrev pub table_or_fault : Option Members → Read Members
+abbrev pub table_or_fault : Option Members → ReadValue Members
 table_or_fault None = Err (fault NOT_TOML (codes "input"))
 table_or_fault (Some table) = Ok table
 
 -- the top table: of at most so many octets, which are TOML
-abbrev pub document : List ℕ → Read Members
+abbrev pub document : List ℕ → ReadValue Members
 document octets = if nat_lt MOST_OCTETS (length octets) then Err (fault TOO_LONG (codes "input")) else table_or_fault (parsed octets)

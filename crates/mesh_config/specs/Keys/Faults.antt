@@ -10,8 +10,8 @@ pub record Fault : Type 0 where
   pub key : List ℕ
 
 -- what is read at a place of the text: a value, or the fault that stands there
-abbrev pub Read : Type 0 → Type 0
-Read A = Result A Fault
+abbrev pub ReadValue : Type 0 → Type 0
+ReadValue A = Result A Fault
 
 -- the visits of a table, in their order
 abbrev pub Visits : Type 0
@@ -38,7 +38,7 @@ abbrev pub unknown_key : List ℕ → Fault
 unknown_key key = fault UNKNOWN_KEY key
 
 -- a visit of what is read
-abbrev pub visit : {A : Type 0} → Read A → Option Fault
+abbrev pub visit : {A : Type 0} → ReadValue A → Option Fault
 visit (Ok x) = None
 visit (Err f) = Some f
 
@@ -49,26 +49,26 @@ first (None ∷ visits) = first visits
 first (Some f ∷ visits) = Some f
 
 -- a list that is read; empty where a fault stands
-abbrev pub listed : {A : Type 0} → Read (List A) → List A
+abbrev pub listed : {A : Type 0} → ReadValue (List A) → List A
 listed (Ok xs) = xs
 listed (Err f) = []
 
 -- what is read, turned further
-abbrev pub then_turned : {A B : Type 0} → (A → B) → Read A → Read B
+abbrev pub then_turned : {A B : Type 0} → (A → B) → ReadValue A → ReadValue B
 then_turned turn (Ok x) = Ok (turn x)
 then_turned turn (Err f) = Err f
 
 -- ---- what a call gives that may want memory, which may come in place of any answer
 
 -- an error is the fault that is read
-abbrev pub Fails : {A : Type 0} → ConfigFault → Read A → Type 0
-Fails (faults.Memory e) read = Unit {0}
-Fails (faults.Refused number key) read = read ≡ Err (fault number key)
+abbrev pub IsReadFault : {A : Type 0} → ConfigFault → ReadValue A → Type 0
+IsReadFault (faults.Memory e) read = Unit {0}
+IsReadFault (faults.Refused number key) read = read ≡ Err (fault number key)
 
 -- a result gives what is read, where `view` says what its value shows
-abbrev pub Gives : {X A : Type 0} → (X → A) → Result X ConfigFault → Read A → Type 0
-Gives view (Ok x) read = read ≡ Ok (view x)
-Gives view (Err e) read = Fails e read
+abbrev pub GivesSetting : {X A : Type 0} → (X → A) → Result X ConfigFault → ReadValue A → Type 0
+GivesSetting view (Ok x) read = read ≡ Ok (view x)
+GivesSetting view (Err e) read = IsReadFault e read
 
 -- an error is the fault that is found
 abbrev pub FailsAt : ConfigFault → Option Fault → Type 0
@@ -76,11 +76,11 @@ FailsAt (faults.Memory e) found = Unit {0}
 FailsAt (faults.Refused number key) found = found ≡ Some (fault number key)
 
 -- a result is a value of which this holds, where no fault is found, and else the fault
-abbrev pub Answers : {X : Type 0} → (X → Type 0) → Option Fault → Result X ConfigFault → Type 0
-Answers Is found (Ok x) = (found ≡ None) × Is x
-Answers Is found (Err e) = FailsAt e found
+abbrev pub ValueOrFault : {X : Type 0} → (X → Type 0) → Option Fault → Result X ConfigFault → Type 0
+ValueOrFault Is found (Ok x) = (found ≡ None) × Is x
+ValueOrFault Is found (Err e) = FailsAt e found
 
 -- a fact of the number and the key, where the error is a refusal
-abbrev pub IfRefused : (ℕ → List ℕ → Type 0) → ConfigFault → Type 0
-IfRefused P (faults.Memory e) = Unit {0}
-IfRefused P (faults.Refused number key) = P number key
+abbrev pub IfSettingRefused : (ℕ → List ℕ → Type 0) → ConfigFault → Type 0
+IfSettingRefused P (faults.Memory e) = Unit {0}
+IfSettingRefused P (faults.Refused number key) = P number key

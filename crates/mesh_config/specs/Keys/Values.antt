@@ -4,33 +4,33 @@ use Rattle.std.specs.List.{list_any}
 use Rattle.toml.specs.Data.{Data, Members, no_members, member, Items, no_items, item, get_member, as_integer, as_str, as_array}
 use Rattle.mesh_atoms.specs.Settings.{name_eq}
 use Rattle.mesh_atoms.specs.Literals.{◌>>=◌}
-use Rattle.mesh_config.specs.Keys.Faults.{Fault, Read, missing, bad_value, too_many, unknown_key}
+use Rattle.mesh_config.specs.Keys.Faults.{Fault, ReadValue, missing, bad_value, too_many, unknown_key}
 
 -- nothing is said
 abbrev pub SaysNothing : Unit {0} → Type 0
 SaysNothing x = Unit {0}
 
 -- what a value is turned into
-abbrev pub turned : {A : Type 0} → List ℕ → Option A → Read A
+abbrev pub turned : {A : Type 0} → List ℕ → Option A → ReadValue A
 turned key None = Err (bad_value key)
 turned key (Some x) = Ok x
 
 -- a value that must stand
-abbrev pub at : {A : Type 0} → (Data → Option A) → List ℕ → Option Data → Read A
+abbrev pub at : {A : Type 0} → (Data → Option A) → List ℕ → Option Data → ReadValue A
 at turn key None = Err (missing key)
 at turn key (Some d) = turned key (turn d)
 
 -- the value at a key of the table, which must stand
-abbrev pub required : {A : Type 0} → (Data → Option A) → List ℕ → Members → Read A
+abbrev pub required : {A : Type 0} → (Data → Option A) → List ℕ → Members → ReadValue A
 required turn key table = at turn key (get_member key table)
 
 -- a value that may be absent
-abbrev pub or_default : {A : Type 0} → A → (Data → Option A) → List ℕ → Option Data → Read A
+abbrev pub or_default : {A : Type 0} → A → (Data → Option A) → List ℕ → Option Data → ReadValue A
 or_default default turn key None = Ok default
 or_default default turn key (Some d) = turned key (turn d)
 
 -- the value at a key of the table; the default where it is absent
-abbrev pub optional : {A : Type 0} → A → (Data → Option A) → List ℕ → Members → Read A
+abbrev pub optional : {A : Type 0} → A → (Data → Option A) → List ℕ → Members → ReadValue A
 optional default turn key table = or_default default turn key (get_member key table)
 
 -- a whole number of a range
@@ -57,17 +57,17 @@ abbrev pub elements : Data → Option (List Data)
 elements d = option_map items_list (as_array d)
 
 -- so many elements, from `low` to `high`
-abbrev pub counted : ℕ → ℕ → List ℕ → Read (List Data) → Read (List Data)
+abbrev pub counted : ℕ → ℕ → List ℕ → ReadValue (List Data) → ReadValue (List Data)
 counted low high key (Ok ds) =
     if nat_lt high (length ds) then Err (too_many key) else (if nat_lt (length ds) low then Err (bad_value key) else Ok ds)
 counted low high key (Err f) = Err f
 
 -- an array of `low` to `high` elements, which must stand
-abbrev pub array : ℕ → ℕ → List ℕ → Members → Read (List Data)
+abbrev pub array : ℕ → ℕ → List ℕ → Members → ReadValue (List Data)
 array low high key table = counted low high key (required elements key table)
 
 -- an array of at most `high` elements, which is empty where it is absent
-abbrev pub array_or_none : ℕ → List ℕ → Members → Read (List Data)
+abbrev pub array_or_none : ℕ → List ℕ → Members → ReadValue (List Data)
 array_or_none high key table = counted 0 high key (optional [] elements key table)
 
 -- each element turned, where each can be
@@ -76,7 +76,7 @@ all_of turn [] = Some []
 all_of turn (d ∷ ds) = turn d >>= λ x. all_of turn ds >>= λ xs. Some (x ∷ xs)
 
 -- the elements that are read at the key, each turned; a bad value where one can't be
-abbrev pub each_turned : {A : Type 0} → (Data → Option A) → List ℕ → Read (List Data) → Read (List A)
+abbrev pub each_turned : {A : Type 0} → (Data → Option A) → List ℕ → ReadValue (List Data) → ReadValue (List A)
 each_turned turn key (Ok ds) = turned key (all_of turn ds)
 each_turned turn key (Err f) = Err f
 
@@ -98,6 +98,6 @@ abbrev pub ticks : ℕ → ℕ
 ticks ms = (1024 * ms + 124) / 125
 
 -- a table that is read; the empty one where a fault stands
-abbrev pub table_read : Read Members → Members
+abbrev pub table_read : ReadValue Members → Members
 table_read (Ok table) = table
 table_read (Err f) = no_members

@@ -10,21 +10,21 @@ use Rattle.mesh_config.specs.declared.run_tables.stated.StatedNeighbour.{StatedN
 use Rattle.mesh_config.specs.declared.run_tables.stated.StatedRunInterface.{StatedRunInterface}
 use Rattle.mesh_config.specs.declared.run_tables.stated.StatedRunRouter.{StatedRunRouter}
 use Rattle.mesh_config.specs.declared.run_tables.stated.StatedRun.{StatedRun}
-use Rattle.mesh_config.specs.Keys.Faults.{Read, Visits, visit, first, listed}
+use Rattle.mesh_config.specs.Keys.Faults.{ReadValue, Visits, visit, first, listed}
 use Rattle.mesh_config.specs.Keys.Values.{optional, required, whole, text, array_or_none, each_turned, unknown, is_one_of}
 use Rattle.mesh_atoms.specs.Literals.{address_of, endpoint_of}
 use Rattle.mesh_config.specs.Keys.Ports.{port_of}
 use Rattle.mesh_config.specs.Stated.Tables.{tables_visits, Each}
 use Rattle.mesh_config.specs.Stated.Steps.{steps_visits, StepsAre}
 use Rattle.mesh_config.specs.Stated.Times.{TimesIs}
-use Rattle.mesh_config.specs.Stated.Router.{name, addresses, named_visits, metric_asked, IsMetric, head_visits, HeadIs, interfaces, networks_visits, attached, AttachedIs}
+use Rattle.mesh_config.specs.Stated.Router.{name, addresses, named_visits, metric_asked, IsMetricRead, head_visits, HeadIs, interfaces, networks_visits, attached, AttachedIs}
 use Rattle.mesh_config.specs.Stated.Scenario.{end_moment, times_part, sub_times}
 use Rattle.mesh_config.specs.Keys.Values.{table_read}
 
 -- ---- a neighbour
 
 -- the address from which the neighbour sends, other than 0.0.0.0; it must stand
-abbrev pub address : Members → Read Addr4
+abbrev pub address : Members → ReadValue Addr4
 address = required (text address_of) (codes "address")
 
 -- the keys that the table of a neighbour may have
@@ -39,7 +39,7 @@ neighbour_visits table =
 -- the metric of what the neighbour sends
 pub record NeighbourIs (table : Members) (sender : SenderMetric) : Type 0 where
   pub is_sender : address table ≡ Ok sender.sender
-  pub is_metric : IsMetric (metric_asked table) sender.metric
+  pub is_metric : IsMetricRead (metric_asked table) sender.metric
 
 -- the qualities of what the neighbour sends
 pub record QualityIs (table : Members) (quality : SenderQuality) : Type 0 where
@@ -54,19 +54,19 @@ pub record StatedNeighbourIs (table : Members) (neighbour : StatedNeighbour) : T
 -- ---- an interface with its port
 
 -- where it receives: an address with a port from 1 to 65535; it must stand
-abbrev pub local : Members → Read (Addr4 × ℕ)
+abbrev pub local : Members → ReadValue (Addr4 × ℕ)
 local = required (text endpoint_of) (codes "local")
 
 -- where it sends to: at most 64 of these; none where they are absent
-abbrev pub peers : Members → Read (List (Addr4 × ℕ))
+abbrev pub peers : Members → ReadValue (List (Addr4 × ℕ))
 peers table = each_turned (text endpoint_of) (codes "peers") (array_or_none 64 (codes "peers") table)
 
 -- the number that its own metric must be at least: that of what it receives from any but its neighbours; 1 where it is absent
-abbrev pub own_metric_asked : Members → Read ℕ
+abbrev pub own_metric_asked : Members → ReadValue ℕ
 own_metric_asked = optional 1 (whole 1 16776960) (codes "metric")
 
 -- the elements that are to be the tables of its neighbours, at most 1,024; none where they are absent
-abbrev pub neighbours : Members → Read (List Data)
+abbrev pub neighbours : Members → ReadValue (List Data)
 neighbours = array_or_none 1024 (codes "neighbour")
 
 -- the keys that the table of an interface may have, for `run`
@@ -98,7 +98,7 @@ pub record PortSays (table : Members) (port : Port) : Type 0 where
 
 -- the metrics of what an interface receives: its own, and those of its neighbours; and the qualities of these
 pub record AreCosts (table : Members) (metric : Metric) (senders : List SenderMetric) (qualities : List SenderQuality) : Type 0 where
-  pub is_metric : IsMetric (own_metric_asked table) metric
+  pub is_metric : IsMetricRead (own_metric_asked table) metric
   pub are_senders : Each NeighbourIs (listed (neighbours table)) senders
   pub are_qualities : Each QualityIs (listed (neighbours table)) qualities
 
@@ -127,7 +127,7 @@ pub record RunRouterIs (table : Members) (router : StatedRunRouter) : Type 0 whe
   pub are_attached : Each AttachedIs (listed (attached table)) router.attached
 
 -- the table of the router, which is one alone; it must stand
-abbrev pub router_table : Members → Read Members
+abbrev pub router_table : Members → ReadValue Members
 router_table = required as_table (codes "router")
 
 -- it is visited whether the router is a table, and then what stands in it

@@ -12,17 +12,17 @@ use Rattle.mesh_config.specs.declared.stated.stated.StatedRouter.{StatedRouter}
 use Rattle.mesh_config.specs.declared.stated.stated.RouterHead.{RouterHead}
 use Rattle.mesh_config.specs.declared.stated.stated.RouterRules.{RouterRules}
 use Rattle.mesh_config.specs.declared.stated.stated.StatedInterface.{StatedInterface}
-use Rattle.mesh_config.specs.Keys.Faults.{Read, Visits, visit, first, listed, then_turned}
+use Rattle.mesh_config.specs.Keys.Faults.{ReadValue, Visits, visit, first, listed, then_turned}
 use Rattle.mesh_config.specs.Keys.Values.{optional, required, whole, text, array, array_or_none, each_turned, unknown, is_one_of, ticks}
 use Rattle.mesh_config.specs.Stated.Tables.{tables_visits, Each}
 use Rattle.mesh_config.specs.Stated.Rules.{threshold_visits, AreThresholds, tc_visits, AreTcs}
 
 -- a moment up to an hour, in ticks; 0 where it is absent
-abbrev pub moment : List ℕ → Members → Read ℕ
+abbrev pub moment : List ℕ → Members → ReadValue ℕ
 moment key table = then_turned ticks (optional 0 (whole 0 3600000) key table)
 
 -- a name
-abbrev pub name : Members → Read (List ℕ)
+abbrev pub name : Members → ReadValue (List ℕ)
 name = required (text name_of) (codes "name")
 
 -- the metric is the least that is at least the number asked for
@@ -31,18 +31,18 @@ pub record RoundsUp (asked : ℕ) (metric : Metric) : Type 0 where
   pub least : (other : Metric) → asked ≤ metric_value other → metric.code ≤ other.code
 
 -- the metric rounds up the number that is read; none does where a fault stands
-abbrev pub IsMetric : Read ℕ → Metric → Type 0
-IsMetric (Ok asked) metric = RoundsUp asked metric
-IsMetric (Err f) metric = ⊥
+abbrev pub IsMetricRead : ReadValue ℕ → Metric → Type 0
+IsMetricRead (Ok asked) metric = RoundsUp asked metric
+IsMetricRead (Err f) metric = ⊥
 
 -- the number that a metric must be at least; it must stand
-abbrev pub metric_asked : Members → Read ℕ
+abbrev pub metric_asked : Members → ReadValue ℕ
 metric_asked = required (whole 1 16776960) (codes "metric")
 
 -- ---- an interface
 
 -- its 1 to 4 addresses, none of them 0.0.0.0
-abbrev pub addresses : Members → Read (List Addr4)
+abbrev pub addresses : Members → ReadValue (List Addr4)
 addresses table = each_turned (text address_of) (codes "addresses") (array 1 4 (codes "addresses") table)
 
 -- the keys that the table of an interface may have, in a scenario
@@ -78,11 +78,11 @@ InterfaceIs table stated = AreInterfaceFields table (stated_interface_fields sta
 -- ---- an attached network
 
 -- a network: its address, and its prefix of 0 to 32 bits; it must stand
-abbrev pub net : Members → Read (Addr4 × ℕ)
+abbrev pub net : Members → ReadValue (Addr4 × ℕ)
 net = required (text net_of) (codes "net")
 
 -- how far it is behind the router, from 0 to 255 hops (AL_dist of RFC 7181, section 7.2); 1 where it is absent
-abbrev pub distance : Members → Read ℕ
+abbrev pub distance : Members → ReadValue ℕ
 distance = optional 1 (whole 0 255) (codes "distance")
 
 -- the keys that the table of an attached network may have
@@ -97,33 +97,33 @@ attached_visits table =
 -- the attached network is what its table says, with its metric rounded up
 pub record AttachedIs (table : Members) (attached : Attached4) : Type 0 where
   pub is_net : net table ≡ Ok (attached.net.addr, attached.net.prefix)
-  pub is_metric : IsMetric (metric_asked table) attached.metric
+  pub is_metric : IsMetricRead (metric_asked table) attached.metric
   pub is_distance : distance table ≡ Ok attached.distance
 
 -- ---- a router
 
 -- the willingness for flooding, from 0 (WILL_NEVER) to 15 (WILL_ALWAYS); 7 (WILL_DEFAULT) where it is absent
-abbrev pub flooding : Members → Read ℕ
+abbrev pub flooding : Members → ReadValue ℕ
 flooding = optional 7 (whole 0 15) (codes "flooding")
 
 -- the willingness for routing, in the same range and with the same default
-abbrev pub routing : Members → Read ℕ
+abbrev pub routing : Members → ReadValue ℕ
 routing = optional 7 (whole 0 15) (codes "routing")
 
 -- the moment of the first HELLO, in ticks; 0 where it is absent
-abbrev pub hello_at : Members → Read ℕ
+abbrev pub hello_at : Members → ReadValue ℕ
 hello_at = moment (codes "hello_at_ms")
 
 -- the moment of the first TC, in ticks; 0 where it is absent
-abbrev pub tc_at : Members → Read ℕ
+abbrev pub tc_at : Members → ReadValue ℕ
 tc_at = moment (codes "tc_at_ms")
 
 -- the elements that are to be the tables of its interfaces, from 1 to 8; they must stand
-abbrev pub interfaces : Members → Read (List Data)
+abbrev pub interfaces : Members → ReadValue (List Data)
 interfaces = array 1 8 (codes "interface")
 
 -- the elements that are to be the tables of the networks that it attaches, at most 64; none where they are absent
-abbrev pub attached : Members → Read (List Data)
+abbrev pub attached : Members → ReadValue (List Data)
 attached = array_or_none 64 (codes "attached")
 
 -- the keys that the table of a router may have
@@ -171,7 +171,7 @@ pub record RouterFields : Type 0 where
   pub tc_at : ℕ
 
 -- the table says this willingness for flooding and for routing
-pub record IsWilling (table : Members) (willing : Willing) : Type 0 where
+pub record IsWillingnessRead (table : Members) (willing : Willing) : Type 0 where
   pub is_flooding : flooding table ≡ Ok willing.flooding
   pub is_routing : routing table ≡ Ok willing.routing
 
@@ -183,7 +183,7 @@ pub record AreStarts (table : Members) (hello_at_read tc_at_read : ℕ) : Type 0
 -- the table says these fields, each without a fault
 pub record AreRouterFields (table : Members) (fields : RouterFields) : Type 0 where
   pub is_name : name table ≡ Ok fields.router_name
-  pub is_willing : IsWilling table fields.willing
+  pub is_willing : IsWillingnessRead table fields.willing
   pub are_tcs : AreTcs table fields.tc_rows fields.near_hold
   pub are_starts : AreStarts table fields.hello_at fields.tc_at
 
@@ -200,7 +200,7 @@ head_fields head = record {
 
 -- what the table says besides the name
 pub record RulesAre (table : Members) (rules : RouterRules) : Type 0 where
-  pub is_willing : IsWilling table rules.willing
+  pub is_willing : IsWillingnessRead table rules.willing
   pub are_thresholds : AreThresholds table rules.thresholds.accept rules.thresholds.reject
   pub are_tcs : AreTcs table rules.tc_rows rules.near_hold
   pub are_starts : AreStarts table rules.hello_at rules.tc_at

@@ -6,26 +6,26 @@ use Rattle.mesh_config.specs.declared.stated.stated.Place.{Place}
 use Rattle.mesh_config.specs.declared.stated.stated.StatedArc.{StatedArc}
 use Rattle.mesh_config.specs.declared.stated.stated.StatedScenario.{StatedScenario}
 use Rattle.mesh_atoms.specs.declared.codes.metric.Metric.{Metric}
-use Rattle.mesh_config.specs.Keys.Faults.{Read, Visits, visit, first, listed, then_turned}
+use Rattle.mesh_config.specs.Keys.Faults.{ReadValue, Visits, visit, first, listed, then_turned}
 use Rattle.mesh_config.specs.Keys.Values.{optional, required, whole, text, array, array_or_none, unknown, is_one_of, ticks, table_read}
 use Rattle.mesh_atoms.specs.Literals.{place_of}
 use Rattle.mesh_config.specs.Stated.Tables.{tables_visits, Each}
 use Rattle.mesh_config.specs.Stated.Steps.{steps_visits, StepsAre}
 use Rattle.mesh_config.specs.Stated.Times.{times_visits, TimesIs}
-use Rattle.mesh_config.specs.Stated.Router.{metric_asked, IsMetric, router_visits, RouterIs}
+use Rattle.mesh_config.specs.Stated.Router.{metric_asked, IsMetricRead, router_visits, RouterIs}
 
 -- ---- an arc
 
 -- an end of an arc at a key: the name of a router, and that of one of its interfaces; it must stand
-abbrev pub place : List ℕ → Members → Read (List ℕ × List ℕ)
+abbrev pub place : List ℕ → Members → ReadValue (List ℕ × List ℕ)
 place = required (text place_of)
 
 -- how many of a thousand frames are lost over the arc; 0 where it is absent
-abbrev pub loss : Members → Read ℕ
+abbrev pub loss : Members → ReadValue ℕ
 loss = optional 0 (whole 0 1000) (codes "loss")
 
 -- how long a frame is under way, from 1 to 1,000 ms, in ticks; 1 ms where it is absent
-abbrev pub delay : Members → Read ℕ
+abbrev pub delay : Members → ReadValue ℕ
 delay table = then_turned ticks (optional 1 (whole 1 1000) (codes "delay_ms") table)
 
 -- the keys that the table of an arc may have
@@ -53,7 +53,7 @@ pub record ArcFields : Type 0 where
 
 -- the table says this metric, rounded up, this loss and this delay
 pub record AreArcFields (table : Members) (fields : ArcFields) : Type 0 where
-  pub is_metric : IsMetric (metric_asked table) fields.metric
+  pub is_metric : IsMetricRead (metric_asked table) fields.metric
   pub is_loss : loss table ≡ Ok fields.loss
   pub is_delay : delay table ≡ Ok fields.delay
 
@@ -79,11 +79,11 @@ pub record ArcIs (table : Members) (arc : StatedArc) : Type 0 where
 -- ---- the top
 
 -- the moment at which the run ends, from 1 ms to an hour, in ticks; it must stand
-abbrev pub end_moment : Members → Read ℕ
+abbrev pub end_moment : Members → ReadValue ℕ
 end_moment table = then_turned ticks (required (whole 1 3600000) (codes "end_ms") table)
 
 -- the number from which the losses are drawn, less than 2^63; 0 where it is absent
-abbrev pub seed : Members → Read ℕ
+abbrev pub seed : Members → ReadValue ℕ
 seed = optional 0 (whole 0 9223372036854775807) (codes "seed")
 
 -- a whole number from `low` to `high`, of a key that may be absent without a default
@@ -91,11 +91,11 @@ abbrev pub some_whole : ℕ → ℕ → Data → Option (Option ℕ)
 some_whole low high d = option_map Some (whole low high d)
 
 -- the moment from which on nothing is lost, up to an hour, in ticks; none where it is absent, and losses never end
-abbrev pub loss_until : Members → Read (Option ℕ)
+abbrev pub loss_until : Members → ReadValue (Option ℕ)
 loss_until table = then_turned (option_map ticks) (optional None (some_whole 0 3600000) (codes "loss_until_ms") table)
 
 -- the table of times; the empty one, with which all defaults stand, where it is absent
-abbrev pub times_table : Members → Read Members
+abbrev pub times_table : Members → ReadValue Members
 times_table = optional no_members as_table (codes "times")
 
 -- the same, where a fault is taken for the empty table
@@ -103,11 +103,11 @@ abbrev pub sub_times : Members → Members
 sub_times table = table_read (times_table table)
 
 -- the elements that are to be the tables of routers, from 1 to 64; they must stand
-abbrev pub routers : Members → Read (List Data)
+abbrev pub routers : Members → ReadValue (List Data)
 routers = array 1 64 (codes "router")
 
 -- the elements that are to be the tables of arcs, at most 4,096; none where they are absent
-abbrev pub arcs : Members → Read (List Data)
+abbrev pub arcs : Members → ReadValue (List Data)
 arcs = array_or_none 4096 (codes "arc")
 
 -- the keys that the top table of a scenario may have

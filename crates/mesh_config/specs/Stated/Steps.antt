@@ -4,16 +4,16 @@ use Rattle.toml.specs.Data.{Data, Members}
 use Rattle.mesh_atoms.specs.declared.addr.Addr4.{Addr4}
 use Rattle.mesh_atoms.specs.declared.admit.QualityStep.{QualityStep}
 use Rattle.mesh_atoms.specs.declared.admit.SenderQuality.{SenderQuality}
-use Rattle.mesh_config.specs.Keys.Faults.{Read, Visits, visit, listed, then_turned}
+use Rattle.mesh_config.specs.Keys.Faults.{ReadValue, Visits, visit, listed, then_turned}
 use Rattle.mesh_config.specs.Keys.Values.{required, whole, array_or_none, unknown, is_one_of, ticks}
 use Rattle.mesh_config.specs.Stated.Tables.{Each, no_less, rising_visits}
 
 -- the moment of a step, up to an hour, in milliseconds
-abbrev pub at_ms : Members → Read ℕ
+abbrev pub at_ms : Members → ReadValue ℕ
 at_ms = required (whole 0 3600000) (codes "at_ms")
 
 -- the quality from that moment on, from 0 to 100; it must stand
-abbrev pub quality_value : Members → Read ℕ
+abbrev pub quality_value : Members → ReadValue ℕ
 quality_value = required (whole 0 100) (codes "value")
 
 -- the keys that the table of a step may have
@@ -31,7 +31,7 @@ pub record StepIs (table : Members) (step : QualityStep) : Type 0 where
   pub is_quality : quality_value table ≡ Ok step.quality
 
 -- the array of steps
-abbrev pub qualities : Members → Read (List Data)
+abbrev pub qualities : Members → ReadValue (List Data)
 qualities = array_or_none 16 (codes "quality")
 
 -- the number of the steps is visited, and then the table of each, whose moment is to be later than that before

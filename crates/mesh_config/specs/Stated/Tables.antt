@@ -2,7 +2,7 @@
 use Rattle.std.specs.Prelude.{ℕ, ◌+◌, List, [], ◌∷◌, ◌++◌, Option, Some, None, Ok, Err, nat_lt, if◌then◌else◌}
 use Rattle.std.specs.List.{flat_map}
 use Rattle.toml.specs.Data.{Data, table, Members, no_members}
-use Rattle.mesh_config.specs.Keys.Faults.{Fault, Read, Visits, bad_value}
+use Rattle.mesh_config.specs.Keys.Faults.{Fault, ReadValue, Visits, bad_value}
 
 -- the visits of an element: those of a table, and a bad value for any other
 abbrev pub element_visits : (Members → Visits) → List ℕ → Data → Visits
@@ -28,17 +28,17 @@ Each Is (d ∷ ds) (x ∷ xs) = Is (table_of d) x × Each Is ds xs
 -- ---- tables of which each has a number above that of the one before
 
 -- a number that is read is no less than so many
-abbrev pub no_less : ℕ → List ℕ → Read ℕ → Option Fault
+abbrev pub no_less : ℕ → List ℕ → ReadValue ℕ → Option Fault
 no_less least key (Ok n) = if nat_lt n least then Some (bad_value key) else None
 no_less least key (Err f) = None
 
 -- one more than a number that is read; 0 where a fault stands
-abbrev pub one_above : Read ℕ → ℕ
+abbrev pub one_above : ReadValue ℕ → ℕ
 one_above (Ok n) = n + 1
 one_above (Err f) = 0
 
 -- the visits of the tables, where the number of the first is to be no less than `least`
-abbrev pub rising_visits : (ℕ → Members → Visits) → (Members → Read ℕ) → List ℕ → ℕ → List Data → Visits
+abbrev pub rising_visits : (ℕ → Members → Visits) → (Members → ReadValue ℕ) → List ℕ → ℕ → List Data → Visits
 rising_visits visits number key least [] = []
 rising_visits visits number key least (d ∷ ds) =
     element_visits (visits least) key d ++ rising_visits visits number key (one_above (number (table_of d))) ds

@@ -2,55 +2,55 @@
 use Rattle.std.specs.Prelude.{◌≡◌, ℕ, Ok, List, [], ◌∷◌, codes}
 use Rattle.toml.specs.Data.{Members}
 use Rattle.mesh_atoms.specs.declared.settings.Times.{Times}
-use Rattle.mesh_config.specs.Keys.Faults.{Read, Visits, visit, first, then_turned}
+use Rattle.mesh_config.specs.Keys.Faults.{ReadValue, Visits, visit, first, then_turned}
 use Rattle.mesh_config.specs.Keys.Values.{optional, whole, unknown, is_one_of, ticks}
 
 -- an interval or a hold time of 100 ms to an hour, in ticks
-abbrev pub interval : List ℕ → ℕ → Members → Read ℕ
+abbrev pub interval : List ℕ → ℕ → Members → ReadValue ℕ
 interval key default table = then_turned ticks (optional default (whole 100 3600000) key table)
 
 -- between two HELLOs (HELLO_INTERVAL of RFC 6130): 2 s where it is absent
-abbrev pub hello_ms : Members → Read ℕ
+abbrev pub hello_ms : Members → ReadValue ℕ
 hello_ms = interval (codes "hello_ms") 2000
 
 -- the validity of a HELLO (H_HOLD_TIME): 6 s where it is absent
-abbrev pub hold_ms : Members → Read ℕ
+abbrev pub hold_ms : Members → ReadValue ℕ
 hold_ms = interval (codes "hold_ms") 6000
 
 -- how long a link that is not heard any more is told as lost (L_HOLD_TIME): 6 s where it is absent
-abbrev pub link_hold_ms : Members → Read ℕ
+abbrev pub link_hold_ms : Members → ReadValue ℕ
 link_hold_ms = interval (codes "link_hold_ms") 6000
 
 -- how long the address of a lost neighbour is told as lost (N_HOLD_TIME): 6 s where it is absent
-abbrev pub neighbour_hold_ms : Members → Read ℕ
+abbrev pub neighbour_hold_ms : Members → ReadValue ℕ
 neighbour_hold_ms = interval (codes "neighbour_hold_ms") 6000
 
 -- between two TCs (TC_INTERVAL of RFC 7181): 5 s where it is absent
-abbrev pub tc_ms : Members → Read ℕ
+abbrev pub tc_ms : Members → ReadValue ℕ
 tc_ms = interval (codes "tc_ms") 5000
 
 -- the validity of a TC (T_HOLD_TIME): 15 s where it is absent
-abbrev pub topology_hold_ms : Members → Read ℕ
+abbrev pub topology_hold_ms : Members → ReadValue ℕ
 topology_hold_ms = interval (codes "topology_hold_ms") 15000
 
 -- how long TCs without rows are sent (A_HOLD_TIME): 15 s where it is absent
-abbrev pub advertised_hold_ms : Members → Read ℕ
+abbrev pub advertised_hold_ms : Members → ReadValue ℕ
 advertised_hold_ms = interval (codes "advertised_hold_ms") 15000
 
 -- how long a message is known as received on an interface (RX_HOLD_TIME): 30 s where it is absent
-abbrev pub received_hold_ms : Members → Read ℕ
+abbrev pub received_hold_ms : Members → ReadValue ℕ
 received_hold_ms = interval (codes "received_hold_ms") 30000
 
 -- how long a message is known as processed (P_HOLD_TIME): 30 s where it is absent
-abbrev pub processed_hold_ms : Members → Read ℕ
+abbrev pub processed_hold_ms : Members → ReadValue ℕ
 processed_hold_ms = interval (codes "processed_hold_ms") 30000
 
 -- how long a message is known as forwarded (F_HOLD_TIME): 30 s where it is absent
-abbrev pub forwarded_hold_ms : Members → Read ℕ
+abbrev pub forwarded_hold_ms : Members → ReadValue ℕ
 forwarded_hold_ms = interval (codes "forwarded_hold_ms") 30000
 
 -- over how many hops a TC goes at most (TC_HOP_LIMIT), from 1 to 255; 255 where it is absent
-abbrev pub tc_hop_limit : Members → Read ℕ
+abbrev pub tc_hop_limit : Members → ReadValue ℕ
 tc_hop_limit = optional 255 (whole 1 255) (codes "tc_hop_limit")
 
 -- the keys that the table of times may have

@@ -3,7 +3,7 @@ ghost use Rattle.std.specs.Prelude.{◌≡◌, ◌++◌, not, map, OnOk, IfOk};
 ghost use Rattle.std.specs.List.{list_all, list_any, flat_map};
 ghost use Rattle.mesh_atoms.specs.Base.{addr_eq};
 ghost use Rattle.mesh_atoms.specs.Settings.{are_distinct, is_host};
-ghost use Rattle.mesh_config.specs.Keys.Faults.{Answers, first};
+ghost use Rattle.mesh_config.specs.Keys.Faults.{ValueOrFault, first};
 ghost use Rattle.mesh_config.specs.Keys.Values.{SaysNothing};
 ghost use Rattle.mesh_config.specs.Checks.Compared.{same_interface, same_attached, router_addrs, all_addrs, attaches_no_host, stated_duplicates, stated_identifiers};
 ghost use Rattle.mesh_config.specs.Checks.Checks.{duplicate_unless, duplicates};
@@ -17,7 +17,7 @@ use std::alloc::{AllocError, Global};
 
 /// Refuses the key with DUPLICATE unless the check holds.
 pub fn refuse_duplicates(alloc: Global, distinct: bool, key: &str) -> Result<(), ConfigFault>
-    ensures { Answers SaysNothing (duplicate_unless distinct key.now) result }
+    ensures { ValueOrFault SaysNothing (duplicate_unless distinct key.now) result }
 {
     if distinct {
         Ok(())
@@ -118,7 +118,7 @@ fn none_attached(addrs: &[Addr4], routers: &[StatedRouter]) -> bool
 
 // Nothing stands twice among the routers.
 fn distinct_stated(alloc: Global, routers: &[StatedRouter]) -> Result<(), ConfigFault>
-    ensures { Answers SaysNothing (first (stated_duplicates routers.now)) result }
+    ensures { ValueOrFault SaysNothing (first (stated_duplicates routers.now)) result }
 {
     refuse_duplicates(alloc, are_distinct(routers), "name")?;
     refuse_duplicates(alloc, interfaces_distinct(routers), "name")?;
@@ -131,7 +131,7 @@ fn distinct_stated(alloc: Global, routers: &[StatedRouter]) -> Result<(), Config
 /// Refuses with DUPLICATE what stands twice among the routers: a router's name, an interface's within its router, an address, a
 /// network within its router, or a network that is a router's address; the first in this order.
 pub fn no_duplicates(alloc: Global, routers: &[StatedRouter]) -> Result<(), ConfigFault>
-    ensures { Answers SaysNothing (first (duplicates (map stated_identifiers routers.now))) result }
+    ensures { ValueOrFault SaysNothing (first (duplicates (map stated_identifiers routers.now))) result }
 {
     distinct_stated(alloc, routers)
 }

@@ -2,7 +2,7 @@
 ghost use Rattle.std.specs.Prelude.{◌≡◌, [], length, map, position, IfOk};
 ghost use Rattle.std.specs.List.{list_any};
 ghost use Rattle.mesh_atoms.specs.Settings.{name_eq, ends_eq};
-ghost use Rattle.mesh_config.specs.Keys.Faults.{Gives};
+ghost use Rattle.mesh_config.specs.Keys.Faults.{GivesSetting};
 ghost use Rattle.mesh_config.specs.Checks.Checks.{find_place, known_place, ends, new_ends, joined, joins};
 ghost use Rattle.mesh_config.specs.Checks.Compared.{stated_identifiers, arc_places, ends_of, stated_place};
 ghost use Rattle.mesh_config.specs.Stated.Scenario.{stated_arc_fields};
@@ -58,7 +58,7 @@ fn known_place(
     place: &Place,
     key: &str,
 ) -> Result<(usize, usize), ConfigFault>
-    ensures { Gives (λ p. p) result (known_place key.now (find_place (map stated_identifiers routers.now) (place.now.router, place.now.iface))) }
+    ensures { GivesSetting (λ p. p) result (known_place key.now (find_place (map stated_identifiers routers.now) (place.now.router, place.now.iface))) }
 {
     match find_place(routers, place) {
         Some(found) => Ok(found),
@@ -87,7 +87,7 @@ fn joined(
     earlier: &[RadioArc],
     arc: &StatedArc,
 ) -> Result<RadioArc, ConfigFault>
-    ensures read { Gives ends_of result (joined (map stated_identifiers routers.now) (map ends_of earlier.now) (arc_places arc.now)) }
+    ensures read { GivesSetting ends_of result (joined (map stated_identifiers routers.now) (map ends_of earlier.now) (arc_places arc.now)) }
     ensures says { IfOk result (λ a. arc_fields a ≡ stated_arc_fields arc.now) }
 {
     let from = known_place(alloc, routers, &arc.from, "from")?;
@@ -117,7 +117,7 @@ pub fn all_joined(
     routers: &[StatedRouter],
     arcs: &[StatedArc],
 ) -> Result<Seq<RadioArc>, ConfigFault>
-    ensures read { Gives (map ends_of) result (joins (map stated_identifiers routers.now) [] (map arc_places arcs.now)) }
+    ensures read { GivesSetting (map ends_of) result (joins (map stated_identifiers routers.now) [] (map arc_places arcs.now)) }
     ensures says { IfOk result (λ all. map arc_fields all ≡ map stated_arc_fields arcs.now) }
     ensures size { IfOk result (λ all. length all ≡ length arcs.now) }
 {

@@ -2,7 +2,7 @@
 ghost use Rattle.std.specs.Prelude.{◌≡◌, ◌≤◌, ◌<◌, map, option_map, length, IfOk, IfSome, IsTrue};
 ghost use Rattle.std.specs.List.{list_all};
 ghost use Rattle.toml.specs.View.{table_view, view};
-ghost use Rattle.mesh_config.specs.Keys.Faults.{Gives, Answers, first};
+ghost use Rattle.mesh_config.specs.Keys.Faults.{GivesSetting, ValueOrFault, first};
 ghost use Rattle.mesh_config.specs.Keys.Values.{elements, array, array_or_none, each_turned, all_of, text, required};
 ghost use Rattle.mesh_atoms.specs.Literals.{address_of, endpoint_of};
 ghost use Rattle.mesh_config.specs.Keys.Ports.{port_of};
@@ -34,7 +34,7 @@ pub fn array_at<'a>(
     low: usize,
     high: usize,
 ) -> Result<&'a [Value], ConfigFault>
-    ensures read { Gives (λ vs. map view vs.now) result (array low high key.now (table_view table.now)) }
+    ensures read { GivesSetting (λ vs. map view vs.now) result (array low high key.now (table_view table.now)) }
     ensures size { IfOk result (λ vs. IsCount low high (length vs.now)) }
 {
     match found(table, key) {
@@ -62,7 +62,7 @@ pub fn array_or_none<'a>(
     key: &str,
     high: usize,
 ) -> Result<&'a [Value], ConfigFault>
-    ensures read { Gives (λ vs. map view vs.now) result (array_or_none high key.now (table_view table.now)) }
+    ensures read { GivesSetting (λ vs. map view vs.now) result (array_or_none high key.now (table_view table.now)) }
     ensures size { IfOk result (λ vs. length vs.now ≤ high) }
 {
     match found(table, key) {
@@ -88,7 +88,7 @@ fn address_in(value: &Value) -> Option<Addr4>
 }
 
 fn all_addresses(alloc: Global, key: &str, values: &[Value]) -> Result<Seq<Addr4>, ConfigFault>
-    ensures read { Gives (λ addrs. addrs) result (each_turned (text address_of) key.now (Ok (map view values.now))) }
+    ensures read { GivesSetting (λ addrs. addrs) result (each_turned (text address_of) key.now (Ok (map view values.now))) }
     ensures size { IfOk result (λ addrs. length addrs ≡ length values.now) }
     ensures addressed { IfOk result (λ addrs. IsTrue (list_all is_addressed addrs)) }
 {
@@ -104,7 +104,7 @@ fn all_addresses(alloc: Global, key: &str, values: &[Value]) -> Result<Seq<Addr4
 
 /// The 1 to 4 addresses at a key. Refused as an array is, and with BAD_VALUE where an element is no address.
 pub fn addresses_at(alloc: Global, table: &Table, key: &str) -> Result<Seq<Addr4>, ConfigFault>
-    ensures read { Gives (λ addrs. addrs) result (each_turned (text address_of) key.now (array 1 4 key.now (table_view table.now))) }
+    ensures read { GivesSetting (λ addrs. addrs) result (each_turned (text address_of) key.now (array 1 4 key.now (table_view table.now))) }
     ensures size { IfOk result (λ addrs. IsCount 1 4 (length addrs)) }
     ensures addressed { IfOk result (λ addrs. IsTrue (list_all is_addressed addrs)) }
 {
@@ -120,7 +120,7 @@ fn endpoint_in(value: &Value) -> Option<Endpoint>
 
 /// The endpoint at a key. Refused with MISSING where it is absent, with BAD_VALUE where it is none.
 pub fn endpoint_at(alloc: Global, table: &Table, key: &str) -> Result<Endpoint, ConfigFault>
-    ensures { Gives port_of result (required (text endpoint_of) key.now (table_view table.now)) }
+    ensures { GivesSetting port_of result (required (text endpoint_of) key.now (table_view table.now)) }
 {
     match found(table, key) {
         None => Err(refused(alloc, MISSING, key)),
@@ -133,7 +133,7 @@ pub fn endpoint_at(alloc: Global, table: &Table, key: &str) -> Result<Endpoint, 
 
 /// The address at a key. Refused with MISSING where it is absent, with BAD_VALUE where it is none.
 pub fn address_at(alloc: Global, table: &Table, key: &str) -> Result<Addr4, ConfigFault>
-    ensures read { Gives (λ addr. addr) result (required (text address_of) key.now (table_view table.now)) }
+    ensures read { GivesSetting (λ addr. addr) result (required (text address_of) key.now (table_view table.now)) }
     ensures addressed { IfOk result (λ addr. 0 < addr.0) }
 {
     match found(table, key) {
@@ -146,7 +146,7 @@ pub fn address_at(alloc: Global, table: &Table, key: &str) -> Result<Addr4, Conf
 }
 
 fn all_endpoints(alloc: Global, key: &str, values: &[Value]) -> Result<Seq<Endpoint>, ConfigFault>
-    ensures read { Gives (map port_of) result (each_turned (text endpoint_of) key.now (Ok (map view values.now))) }
+    ensures read { GivesSetting (map port_of) result (each_turned (text endpoint_of) key.now (Ok (map view values.now))) }
     ensures size { IfOk result (λ endpoints. length endpoints ≡ length values.now) }
 {
     let mut endpoints = Seq::new(alloc);
@@ -166,7 +166,7 @@ pub fn endpoints_at(
     key: &str,
     high: usize,
 ) -> Result<Seq<Endpoint>, ConfigFault>
-    ensures read { Gives (map port_of) result (each_turned (text endpoint_of) key.now (array_or_none high key.now (table_view table.now))) }
+    ensures read { GivesSetting (map port_of) result (each_turned (text endpoint_of) key.now (array_or_none high key.now (table_view table.now))) }
     ensures size { IfOk result (λ endpoints. length endpoints ≤ high) }
 {
     let values = array_or_none(alloc, table, key, high)?;

@@ -1,6 +1,6 @@
 //! What is wrong with settings.
 ghost use Rattle.std.specs.Prelude.{◌≡◌, Err, Some};
-ghost use Rattle.mesh_config.specs.Keys.Faults.{Fails, FailsAt, fault};
+ghost use Rattle.mesh_config.specs.Keys.Faults.{IsReadFault, FailsAt, fault};
 
 use mesh_atoms::Bytes;
 use std::alloc::{AllocError, Global};
@@ -25,7 +25,7 @@ impl From<AllocError> for ConfigFault {
 
 /// The refusal of that number and key, or want of memory.
 pub fn refused(alloc: Global, number: u8, key: &str) -> ConfigFault
-    ensures read { Fails {A = Unit} result (Err (fault number key.now)) }
+    ensures read { IsReadFault {A = Unit} result (Err (fault number key.now)) }
     ensures answer { FailsAt result (Some (fault number key.now)) }
 {
     let mut octets = Bytes::new(alloc);

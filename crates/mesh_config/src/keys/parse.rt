@@ -2,7 +2,7 @@
 ghost use Rattle.std.specs.Prelude.{◌≡◌, option_map, if◌then◌else◌, Some, None};
 ghost use Rattle.std.specs.Str.{is_utf8};
 ghost use Rattle.toml.specs.View.{table_view};
-ghost use Rattle.mesh_config.specs.Keys.Faults.{Gives};
+ghost use Rattle.mesh_config.specs.Keys.Faults.{GivesSetting};
 ghost use Rattle.mesh_config.specs.Keys.Document.{document, parsed};
 
 use crate::keys::fault::{ConfigFault, refused};
@@ -26,7 +26,7 @@ fn text_of(octets: &[u8]) -> Option<&str>
 /// The top table of the TOML that the octets spell. They are refused with TOO_LONG where they are more than `MOST_OCTETS`,
 /// else with NOT_TOML where they are not UTF-8 or no TOML.
 pub fn document(alloc: Global, octets: &[u8]) -> Result<Table, ConfigFault>
-    ensures { Gives table_view result (document octets.now) }
+    ensures { GivesSetting table_view result (document octets.now) }
 {
     if octets.len() > MOST_OCTETS {
         return Err(refused(alloc, TOO_LONG, "input"));

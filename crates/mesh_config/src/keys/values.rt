@@ -5,7 +5,7 @@ ghost use Rattle.toml.specs.Data.{get_member, as_str, as_table, no_members};
 ghost use Rattle.std.specs.List.{list_any};
 ghost use Rattle.mesh_atoms.specs.Settings.{name_eq, IsName};
 ghost use Rattle.mesh_atoms.specs.Literals.{name_of};
-ghost use Rattle.mesh_config.specs.Keys.Faults.{Gives, Answers};
+ghost use Rattle.mesh_config.specs.Keys.Faults.{GivesSetting, ValueOrFault};
 ghost use Rattle.mesh_config.specs.Keys.Values.{whole, optional, required, unknown, SaysNothing, text};
 ghost use Rattle.mesh_config.specs.Keys.Values.{ticks};
 
@@ -36,7 +36,7 @@ fn is_known(known: &[&str], key: &str) -> bool
 
 /// Refuses with UNKNOWN_KEY the least key of the table that is none of those known, where there is one.
 pub fn known_keys(alloc: Global, table: &Table, known: &[&str]) -> Result<(), ConfigFault>
-    ensures { Answers SaysNothing (unknown (λ key. list_any (λ k. name_eq key k.now) known.now) (table_view table.now)) result }
+    ensures { ValueOrFault SaysNothing (unknown (λ key. list_any (λ k. name_eq key k.now) known.now) (table_view table.now)) result }
 {
     for (key, _) in table.iter() {
         let key = key.as_str();
@@ -72,7 +72,7 @@ pub fn whole_or(
 ) -> Result<u64, ConfigFault>
     requires low { low ≤ default }
     requires high { default ≤ high }
-    ensures read { Gives (λ n. n) result (optional default (whole low high) key.now (table_view table.now)) }
+    ensures read { GivesSetting (λ n. n) result (optional default (whole low high) key.now (table_view table.now)) }
     ensures range { IfOk result (λ n. (low ≤ n) × (n ≤ high)) }
 {
     match found(table, key) {
@@ -92,7 +92,7 @@ pub fn whole_at(
     low: u64,
     high: u64,
 ) -> Result<u64, ConfigFault>
-    ensures read { Gives (λ n. n) result (required (whole low high) key.now (table_view table.now)) }
+    ensures read { GivesSetting (λ n. n) result (required (whole low high) key.now (table_view table.now)) }
     ensures range { IfOk result (λ n. (low ≤ n) × (n ≤ high)) }
 {
     match found(table, key) {
@@ -124,7 +124,7 @@ pub fn string_in(value: &Value) -> Option<&[u8]>
 
 /// The name at a key. Refused with MISSING where it is absent, with BAD_VALUE where it is no name.
 pub fn name_at(alloc: Global, table: &Table, key: &str) -> Result<Bytes, ConfigFault>
-    ensures read { Gives (λ name. name) result (required (text name_of) key.now (table_view table.now)) }
+    ensures read { GivesSetting (λ name. name) result (required (text name_of) key.now (table_view table.now)) }
     ensures named { IfOk result IsName }
 {
     match found(table, key) {
@@ -151,7 +151,7 @@ pub fn table_or<'a>(
     empty: &'a Table,
 ) -> Result<&'a Table, ConfigFault>
     requires { table_view empty.now ≡ no_members }
-    ensures { Gives (λ t. table_view t.now) result (optional no_members as_table key.now (table_view table.now)) }
+    ensures { GivesSetting (λ t. table_view t.now) result (optional no_members as_table key.now (table_view table.now)) }
 {
     match found(table, key) {
         None => Ok(empty),
@@ -164,7 +164,7 @@ pub fn table_or<'a>(
 
 /// The table at a key. Refused with MISSING where it is absent, with BAD_VALUE where the value is no table.
 pub fn table_at<'a>(alloc: Global, table: &'a Table, key: &str) -> Result<&'a Table, ConfigFault>
-    ensures { Gives (λ t. table_view t.now) result (required as_table key.now (table_view table.now)) }
+    ensures { GivesSetting (λ t. table_view t.now) result (required as_table key.now (table_view table.now)) }
 {
     match found(table, key) {
         None => Err(refused(alloc, MISSING, key)),

@@ -1,7 +1,7 @@
 //! The neighbours of an interface: the metrics and the qualities of what they send.
 ghost use Rattle.std.specs.Prelude.{◌≡◌, ◌≤◌, length, map, IfOk};
 ghost use Rattle.toml.specs.View.{table_view};
-ghost use Rattle.mesh_config.specs.Keys.Faults.{Answers, first, listed};
+ghost use Rattle.mesh_config.specs.Keys.Faults.{ValueOrFault, first, listed};
 ghost use Rattle.mesh_config.specs.Stated.Tables.{Each};
 ghost use Rattle.mesh_config.specs.Stated.Steps.{quality_pair};
 ghost use Rattle.mesh_config.specs.RunTables.Neighbours.{stated_quality};
@@ -35,7 +35,7 @@ impl FromTable for StatedNeighbour {
 
 /// The neighbours that the table of an interface says, or the first fault of their visits.
 pub fn neighbours_of(alloc: Global, table: &Table) -> Result<Seq<StatedNeighbour>, ConfigFault>
-    ensures answer { Answers (Each StatedNeighbourIs (listed (neighbours (table_view table.now)))) (first (neighbours_visits (table_view table.now))) result }
+    ensures answer { ValueOrFault (Each StatedNeighbourIs (listed (neighbours (table_view table.now)))) (first (neighbours_visits (table_view table.now))) result }
     ensures size { IfOk result (λ xs. length xs ≤ 1024) }
 {
     let values = array_or_none(alloc, table, "neighbour", 1024)?;

@@ -2,8 +2,8 @@
 ghost use Rattle.std.specs.Prelude.{◌≤◌, ◌≡◌, length, map, IfOk};
 ghost use Rattle.toml.specs.View.{table_view, view};
 ghost use Rattle.mesh_atoms.specs.Settings.{IsCount};
-ghost use Rattle.mesh_config.specs.Keys.Faults.{Gives, Answers, first, visit, listed};
-ghost use Rattle.mesh_config.specs.Stated.Router.{IsMetric, interfaces};
+ghost use Rattle.mesh_config.specs.Keys.Faults.{GivesSetting, ValueOrFault, first, visit, listed};
+ghost use Rattle.mesh_config.specs.Stated.Router.{IsMetricRead, interfaces};
 ghost use Rattle.mesh_config.specs.Keys.Values.{table_read};
 ghost use Rattle.mesh_config.specs.RunTables.Run.{own_metric_asked, PortSays, port_visits, AreCosts, cost_visits, run_interfaces_visits, RunInterfaceIs, run_router_visits, RunRouterIs, router_table, router_part, run_table_visits, RunIs};
 ghost use Rattle.mesh_config.specs.Stated.Tables.{Each};
@@ -23,7 +23,7 @@ use toml::Table;
 
 // The least metric that is at least the whole number at `metric`, or 1.
 fn own_metric(alloc: Global, table: &Table) -> Result<Metric, ConfigFault>
-    ensures { Answers (IsMetric (own_metric_asked (table_view table.now))) (visit (own_metric_asked (table_view table.now))) result }
+    ensures { ValueOrFault (IsMetricRead (own_metric_asked (table_view table.now))) (visit (own_metric_asked (table_view table.now))) result }
 {
     let asked = whole_or(alloc, table, "metric", 1, 16_776_960, 1)?;
     match Metric::at_least(asked as u32) {
@@ -34,7 +34,7 @@ fn own_metric(alloc: Global, table: &Table) -> Result<Metric, ConfigFault>
 
 // Where the table of an interface says that it receives, and where it sends to.
 fn port_said(alloc: Global, table: &Table) -> Result<Port, ConfigFault>
-    ensures { Answers (PortSays (table_view table.now)) (first (port_visits (table_view table.now))) result }
+    ensures { ValueOrFault (PortSays (table_view table.now)) (first (port_visits (table_view table.now))) result }
 {
     let local = endpoint_at(alloc, table, "local")?;
     match endpoints_at(alloc, table, "peers", 64) {
@@ -44,7 +44,7 @@ fn port_said(alloc: Global, table: &Table) -> Result<Port, ConfigFault>
 }
 
 fn costs_said(alloc: Global, table: &Table) -> Result<Costs, ConfigFault>
-    ensures { Answers (λ c. AreCosts (table_view table.now) c.metric c.senders c.qualities) (first (cost_visits (table_view table.now))) result }
+    ensures { ValueOrFault (λ c. AreCosts (table_view table.now) c.metric c.senders c.qualities) (first (cost_visits (table_view table.now))) result }
 {
     let metric = own_metric(alloc, table)?;
     let neighbours = neighbours_of(alloc, table)?;
@@ -88,7 +88,7 @@ impl FromTable for StatedRunInterface {
 }
 
 fn run_interfaces_of(alloc: Global, table: &Table) -> Result<Seq<StatedRunInterface>, ConfigFault>
-    ensures answer { Answers (Each RunInterfaceIs (listed (interfaces (table_view table.now)))) (first (run_interfaces_visits (table_view table.now))) result }
+    ensures answer { ValueOrFault (Each RunInterfaceIs (listed (interfaces (table_view table.now)))) (first (run_interfaces_visits (table_view table.now))) result }
     ensures size { IfOk result (λ xs. IsCount 1 8 (length xs)) }
 {
     let values = array_at(alloc, table, "interface", 1, 8)?;
@@ -96,7 +96,7 @@ fn run_interfaces_of(alloc: Global, table: &Table) -> Result<Seq<StatedRunInterf
 }
 
 fn run_router(alloc: Global, table: &Table) -> Result<StatedRunRouter, ConfigFault>
-    ensures { Answers (RunRouterIs (table_view table.now)) (first (run_router_visits (table_view table.now))) result }
+    ensures { ValueOrFault (RunRouterIs (table_view table.now)) (first (run_router_visits (table_view table.now))) result }
 {
     let head = head(alloc, table)?;
     let interfaces = run_interfaces_of(alloc, table)?;
@@ -111,7 +111,7 @@ fn run_router(alloc: Global, table: &Table) -> Result<StatedRunRouter, ConfigFau
 }
 
 fn router_at(alloc: Global, table: &Table) -> Result<StatedRunRouter, ConfigFault>
-    ensures { Answers (RunRouterIs (table_read (router_table (table_view table.now)))) (first (router_part (table_view table.now))) result }
+    ensures { ValueOrFault (RunRouterIs (table_read (router_table (table_view table.now)))) (first (router_part (table_view table.now))) result }
 {
     let inner = table_at(alloc, table, "router")?;
     run_router(alloc, inner)
@@ -119,7 +119,7 @@ fn router_at(alloc: Global, table: &Table) -> Result<StatedRunRouter, ConfigFaul
 
 /// What the tables of `run` say, or the first fault of their visits.
 pub fn stated_run(alloc: Global, table: &Table) -> Result<StatedRun, ConfigFault>
-    ensures { Answers (RunIs (table_view table.now)) (first (run_table_visits (table_view table.now))) result }
+    ensures { ValueOrFault (RunIs (table_view table.now)) (first (run_table_visits (table_view table.now))) result }
 {
     known_keys(alloc, table, &["end_ms", "times", "router"])?;
     let end = end_moment(alloc, table)?;

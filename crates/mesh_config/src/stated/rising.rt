@@ -1,7 +1,7 @@
 //! Arrays of tables of which each has a number above that of the one before.
 ghost use Rattle.std.specs.Prelude.{◌≡◌, map, Ok, IfOk, length};
 ghost use Rattle.toml.specs.View.{table_view, view};
-ghost use Rattle.mesh_config.specs.Keys.Faults.{Answers, first};
+ghost use Rattle.mesh_config.specs.Keys.Faults.{ValueOrFault, first};
 ghost use Rattle.mesh_config.specs.Keys.Values.{SaysNothing};
 ghost use Rattle.mesh_config.specs.Stated.Tables.{element_visits, table_of, no_less, rising_visits, Each};
 
@@ -28,12 +28,12 @@ pub trait FromRising: Sized + Drop {
 
     /// The value with the number of its table, which is to be no less than `least`, or the first fault of the visits.
     fn from_table(alloc: Global, table: &Table, least: u64) -> Result<(Self, u32), ConfigFault>
-        ensures { Answers (λ x. says (table_view table.now) x.0 × (number (table_view table.now) ≡ Ok x.1)) (first (visits least (table_view table.now))) result };
+        ensures { ValueOrFault (λ x. says (table_view table.now) x.0 × (number (table_view table.now) ≡ Ok x.1)) (first (visits least (table_view table.now))) result };
 }
 
 /// Refuses the key with BAD_VALUE where the number is less than `least`.
 pub fn refuse_below(alloc: Global, number: u64, least: u64, key: &str) -> Result<(), ConfigFault>
-    ensures { Answers SaysNothing (no_less least key.now (Ok number)) result }
+    ensures { ValueOrFault SaysNothing (no_less least key.now (Ok number)) result }
 {
     if number < least {
         Err(refused(alloc, BAD_VALUE, key))
@@ -49,7 +49,7 @@ fn element<T: FromRising>(
     value: &Value,
     least: u64,
 ) -> Result<(T, u32), ConfigFault>
-    ensures { Answers (λ x. T.says (table_of (view value.now)) x.0 × (T.number (table_of (view value.now)) ≡ Ok x.1)) (first (element_visits (T.visits least) key.now (view value.now))) result }
+    ensures { ValueOrFault (λ x. T.says (table_of (view value.now)) x.0 × (T.number (table_of (view value.now)) ≡ Ok x.1)) (first (element_visits (T.visits least) key.now (view value.now))) result }
 {
     match value.as_table() {
         Some(table) => T::from_table(alloc, table, least),
@@ -64,7 +64,7 @@ pub fn all_rising<T: FromRising>(
     key: &str,
     values: &[Value],
 ) -> Result<Seq<T>, ConfigFault>
-    ensures answer { Answers (Each T.says (map view values.now)) (first (rising_visits T.visits T.number key.now 0 (map view values.now))) result }
+    ensures answer { ValueOrFault (Each T.says (map view values.now)) (first (rising_visits T.visits T.number key.now 0 (map view values.now))) result }
     ensures size { IfOk result (λ xs. length xs ≡ length values.now) }
 {
     let mut all = Seq::new(alloc);

@@ -2,9 +2,9 @@
 ghost use Rattle.std.specs.Prelude.{◌≤◌, length, IfOk, IsTrue, map};
 ghost use Rattle.toml.specs.View.{table_view, view};
 ghost use Rattle.mesh_atoms.specs.Settings.{IsCount, one_hour};
-ghost use Rattle.mesh_config.specs.Keys.Faults.{Gives, Answers, first, visit, listed};
+ghost use Rattle.mesh_config.specs.Keys.Faults.{GivesSetting, ValueOrFault, first, visit, listed};
 ghost use Rattle.mesh_config.specs.Keys.Values.{SaysNothing, unknown, is_one_of};
-ghost use Rattle.mesh_config.specs.Stated.Router.{moment, net, metric_asked, IsMetric, named_visits, router_keys, willing_visits, IsWilling, start_visits, AreStarts, rule_visits, RulesAre, interface_visits, InterfaceIs, attached_visits, AttachedIs, head_visits, HeadIs, interfaces_visits, interfaces, networks_visits, attached, router_visits, RouterIs};
+ghost use Rattle.mesh_config.specs.Stated.Router.{moment, net, metric_asked, IsMetricRead, named_visits, router_keys, willing_visits, IsWillingnessRead, start_visits, AreStarts, rule_visits, RulesAre, interface_visits, InterfaceIs, attached_visits, AttachedIs, head_visits, HeadIs, interfaces_visits, interfaces, networks_visits, attached, router_visits, RouterIs};
 ghost use Rattle.mesh_config.specs.Stated.Tables.{Each};
 
 use crate::keys::refusal::{BAD_VALUE, MISSING};
@@ -21,7 +21,7 @@ use toml::Table;
 
 // A moment up to an hour, in ticks; 0 where it is absent.
 fn moment(alloc: Global, table: &Table, key: &str) -> Result<u64, ConfigFault>
-    ensures read { Gives (λ n. n) result (moment key.now (table_view table.now)) }
+    ensures read { GivesSetting (λ n. n) result (moment key.now (table_view table.now)) }
     ensures range { IfOk result (λ n. n ≤ one_hour) }
 {
     let ms = whole_or(alloc, table, key, 0, 3_600_000, 0)?;
@@ -30,7 +30,7 @@ fn moment(alloc: Global, table: &Table, key: &str) -> Result<u64, ConfigFault>
 
 /// The least metric that is at least the whole number at `metric`, from 1 to 16,776,960, which must stand.
 pub fn metric_at(alloc: Global, table: &Table) -> Result<Metric, ConfigFault>
-    ensures { Answers (IsMetric (metric_asked (table_view table.now))) (visit (metric_asked (table_view table.now))) result }
+    ensures { ValueOrFault (IsMetricRead (metric_asked (table_view table.now))) (visit (metric_asked (table_view table.now))) result }
 {
     let asked = whole_at(alloc, table, "metric", 1, 16_776_960)?;
     match Metric::at_least(asked as u32) {
@@ -41,7 +41,7 @@ pub fn metric_at(alloc: Global, table: &Table) -> Result<Metric, ConfigFault>
 
 // The network at `net`, which must stand.
 fn net_at(alloc: Global, table: &Table) -> Result<NetAddr, ConfigFault>
-    ensures { Gives (λ n. (n.addr, n.prefix)) result (net (table_view table.now)) }
+    ensures { GivesSetting (λ n. (n.addr, n.prefix)) result (net (table_view table.now)) }
 {
     match found(table, "net") {
         None => Err(refused(alloc, MISSING, "net")),
@@ -58,7 +58,7 @@ fn net_at(alloc: Global, table: &Table) -> Result<NetAddr, ConfigFault>
 /// What the table of an interface says of its name and its 1 to 4 addresses, or the first fault of these. Other keys aren't
 /// looked at.
 pub fn interface_said(alloc: Global, table: &Table) -> Result<StatedInterface, ConfigFault>
-    ensures { Answers (InterfaceIs (table_view table.now)) (first (named_visits (table_view table.now))) result }
+    ensures { ValueOrFault (InterfaceIs (table_view table.now)) (first (named_visits (table_view table.now))) result }
 {
     let name = name_at(alloc, table, "name")?;
     match addresses_at(alloc, table, "addresses") {
@@ -101,7 +101,7 @@ impl FromTable for Attached4 {
 }
 
 fn willing(alloc: Global, table: &Table) -> Result<Willing, ConfigFault>
-    ensures { Answers (IsWilling (table_view table.now)) (first (willing_visits (table_view table.now))) result }
+    ensures { ValueOrFault (IsWillingnessRead (table_view table.now)) (first (willing_visits (table_view table.now))) result }
 {
     let flooding = whole_or(alloc, table, "flooding", 0, 15, 7)? as u8;
     let routing = whole_or(alloc, table, "routing", 0, 15, 7)? as u8;
@@ -109,7 +109,7 @@ fn willing(alloc: Global, table: &Table) -> Result<Willing, ConfigFault>
 }
 
 fn starts(alloc: Global, table: &Table) -> Result<Starts, ConfigFault>
-    ensures { Answers (λ s. AreStarts (table_view table.now) s.hello_at s.tc_at) (first (start_visits (table_view table.now))) result }
+    ensures { ValueOrFault (λ s. AreStarts (table_view table.now) s.hello_at s.tc_at) (first (start_visits (table_view table.now))) result }
 {
     let hello_at = moment(alloc, table, "hello_at_ms")?;
     let tc_at = moment(alloc, table, "tc_at_ms")?;
@@ -118,7 +118,7 @@ fn starts(alloc: Global, table: &Table) -> Result<Starts, ConfigFault>
 
 // What the table of a router says of itself besides its name.
 fn rules(alloc: Global, table: &Table) -> Result<RouterRules, ConfigFault>
-    ensures { Answers (RulesAre (table_view table.now)) (first (rule_visits (table_view table.now))) result }
+    ensures { ValueOrFault (RulesAre (table_view table.now)) (first (rule_visits (table_view table.now))) result }
 {
     let willing = willing(alloc, table)?;
     let thresholds = thresholds(alloc, table)?;
@@ -137,7 +137,7 @@ fn rules(alloc: Global, table: &Table) -> Result<RouterRules, ConfigFault>
 }
 
 fn known_to_routers(alloc: Global, table: &Table) -> Result<(), ConfigFault>
-    ensures { Answers SaysNothing (unknown (is_one_of router_keys) (table_view table.now)) result }
+    ensures { ValueOrFault SaysNothing (unknown (is_one_of router_keys) (table_view table.now)) result }
 {
     known_keys(
         alloc,
@@ -161,7 +161,7 @@ fn known_to_routers(alloc: Global, table: &Table) -> Result<(), ConfigFault>
 /// What the table of a router says of itself, with its first moments in ticks; or the first fault there: an unknown key comes
 /// before all others. What its interfaces and attached networks are isn't looked at.
 pub fn head(alloc: Global, table: &Table) -> Result<RouterHead, ConfigFault>
-    ensures { Answers (HeadIs (table_view table.now)) (first (head_visits (table_view table.now))) result }
+    ensures { ValueOrFault (HeadIs (table_view table.now)) (first (head_visits (table_view table.now))) result }
 {
     known_to_routers(alloc, table)?;
     let name = name_at(alloc, table, "name")?;
@@ -180,7 +180,7 @@ pub fn head(alloc: Global, table: &Table) -> Result<RouterHead, ConfigFault>
 }
 
 fn interfaces_of(alloc: Global, table: &Table) -> Result<Seq<StatedInterface>, ConfigFault>
-    ensures answer { Answers (Each InterfaceIs (listed (interfaces (table_view table.now)))) (first (interfaces_visits (table_view table.now))) result }
+    ensures answer { ValueOrFault (Each InterfaceIs (listed (interfaces (table_view table.now)))) (first (interfaces_visits (table_view table.now))) result }
     ensures size { IfOk result (λ xs. IsCount 1 8 (length xs)) }
 {
     let values = array_at(alloc, table, "interface", 1, 8)?;
@@ -189,7 +189,7 @@ fn interfaces_of(alloc: Global, table: &Table) -> Result<Seq<StatedInterface>, C
 
 /// The networks that a router attaches (RFC 7181, section 7.2), at most 64, in order of their tables, or the first fault there.
 pub fn attached_of(alloc: Global, table: &Table) -> Result<Seq<Attached4>, ConfigFault>
-    ensures answer { Answers (Each AttachedIs (listed (attached (table_view table.now)))) (first (networks_visits (table_view table.now))) result }
+    ensures answer { ValueOrFault (Each AttachedIs (listed (attached (table_view table.now)))) (first (networks_visits (table_view table.now))) result }
     ensures size { IfOk result (λ xs. length xs ≤ 64) }
 {
     let values = array_or_none(alloc, table, "attached", 64)?;

@@ -2,7 +2,7 @@
 ghost use Rattle.std.specs.Prelude.{◌≤◌, length, map, IfOk, IsTrue};
 ghost use Rattle.toml.specs.View.{table_view};
 ghost use Rattle.mesh_atoms.specs.Settings.{are_ascending, IsInterval};
-ghost use Rattle.mesh_config.specs.Keys.Faults.{Gives, Answers, first};
+ghost use Rattle.mesh_config.specs.Keys.Faults.{GivesSetting, ValueOrFault, first};
 ghost use Rattle.mesh_config.specs.Stated.Rules.{near_hold_ms, threshold_visits, AreThresholds, near_holds_visits, NearHoldsAre, tc_visits, AreTcs};
 
 use crate::keys::{ConfigFault, array_or_none, known_keys, ticks, whole_at, whole_or};
@@ -15,7 +15,7 @@ use toml::Table;
 /// The thresholds of the links of a router (RFC 6130, section 14), up to 100 and 0 where they are absent. The one to reject
 /// below is refused where it is greater than the one to accept from.
 pub fn thresholds(alloc: Global, table: &Table) -> Result<Thresholds, ConfigFault>
-    ensures { Answers (λ t. AreThresholds (table_view table.now) t.accept t.reject) (first (threshold_visits (table_view table.now))) result }
+    ensures { ValueOrFault (λ t. AreThresholds (table_view table.now) t.accept t.reject) (first (threshold_visits (table_view table.now))) result }
 {
     let accept = whole_or(alloc, table, "hyst_accept", 0, 100, 0)?;
     let reject = whole_or(alloc, table, "hyst_reject", 0, accept, 0)?;
@@ -27,7 +27,7 @@ pub fn thresholds(alloc: Global, table: &Table) -> Result<Thresholds, ConfigFaul
 
 // The hold time of a near hold, in ticks.
 fn near_hold(alloc: Global, table: &Table) -> Result<u64, ConfigFault>
-    ensures read { Gives (λ n. n) result (near_hold_ms (table_view table.now)) }
+    ensures read { GivesSetting (λ n. n) result (near_hold_ms (table_view table.now)) }
     ensures range { IfOk result IsInterval }
 {
     let ms = whole_at(alloc, table, "hold_ms", 100, 3_600_000)?;
@@ -62,7 +62,7 @@ impl FromRising for NearHold {
 
 // How long near routers hold what a TC of the router says.
 fn near_holds_of(alloc: Global, table: &Table) -> Result<Seq<NearHold>, ConfigFault>
-    ensures answer { Answers (NearHoldsAre (table_view table.now)) (first (near_holds_visits (table_view table.now))) result }
+    ensures answer { ValueOrFault (NearHoldsAre (table_view table.now)) (first (near_holds_visits (table_view table.now))) result }
     ensures size { IfOk result (λ nears. length nears ≤ 8) }
     ensures order { IfOk result (λ nears. IsTrue (are_ascending (map (λ n. n.hops) nears))) }
 {
@@ -73,7 +73,7 @@ fn near_holds_of(alloc: Global, table: &Table) -> Result<Seq<NearHold>, ConfigFa
 /// The most rows of a TC, from 1 to 1,088, and how long near routers hold it: at most 8 near holds, each of more hops than the
 /// one before; or the first fault there.
 pub fn tc_rules(alloc: Global, table: &Table) -> Result<TcRules, ConfigFault>
-    ensures { Answers (λ t. AreTcs (table_view table.now) t.rows t.near_hold) (first (tc_visits (table_view table.now))) result }
+    ensures { ValueOrFault (λ t. AreTcs (table_view table.now) t.rows t.near_hold) (first (tc_visits (table_view table.now))) result }
 {
     let rows = whole_or(alloc, table, "tc_rows", 1, 1088, 1088)? as usize;
     match near_holds_of(alloc, table) {

@@ -4,7 +4,7 @@ ghost use Rattle.std.specs.Option.{ForSome};
 ghost use Rattle.toml.specs.Data.{no_members};
 ghost use Rattle.toml.specs.View.{table_view, view};
 ghost use Rattle.mesh_atoms.specs.Settings.{IsCount, IsEnd, one_hour, one_millisecond, longest_delay};
-ghost use Rattle.mesh_config.specs.Keys.Faults.{Gives, Answers, first, listed};
+ghost use Rattle.mesh_config.specs.Keys.Faults.{GivesSetting, ValueOrFault, first, listed};
 ghost use Rattle.mesh_config.specs.Keys.Values.{optional};
 ghost use Rattle.mesh_config.specs.Stated.Times.{TimesIs};
 ghost use Rattle.mesh_config.specs.Stated.Router.{RouterIs};
@@ -18,7 +18,7 @@ use crate::keys::{
 };
 use crate::stated::router::metric_at;
 use crate::stated::stated::{
-    ArcNumbers, Ends, Place, ScenarioNumbers, StatedArc, StatedRouter, StatedScenario,
+    ArcNumbers, Place, ScenarioNumbers, StatedArc, StatedEnds, StatedRouter, StatedScenario,
 };
 use crate::stated::steps::steps_of;
 use crate::stated::tables::{FromTable, all_tables};
@@ -39,7 +39,7 @@ fn copied(alloc: Global, router_name: &[u8], iface_name: &[u8]) -> Result<Place,
 
 // An end of an arc, which must stand.
 fn place_at(alloc: Global, table: &Table, key: &str) -> Result<Place, ConfigFault>
-    ensures { Gives (λ p. (p.router, p.iface)) result (place key.now (table_view table.now)) }
+    ensures { GivesSetting (λ p. (p.router, p.iface)) result (place key.now (table_view table.now)) }
 {
     match found(table, key) {
         None => Err(refused(alloc, MISSING, key)),
@@ -53,19 +53,19 @@ fn place_at(alloc: Global, table: &Table, key: &str) -> Result<Place, ConfigFaul
     }
 }
 
-fn ends(alloc: Global, table: &Table) -> Result<Ends, ConfigFault>
-    ensures { Answers (λ e. AreEnds (table_view table.now) e.from e.to) (first (end_visits (table_view table.now))) result }
+fn ends(alloc: Global, table: &Table) -> Result<StatedEnds, ConfigFault>
+    ensures { ValueOrFault (λ e. AreEnds (table_view table.now) e.from e.to) (first (end_visits (table_view table.now))) result }
 {
     let from = place_at(alloc, table, "from")?;
     match place_at(alloc, table, "to") {
-        Ok(to) => Ok(Ends { from, to }),
+        Ok(to) => Ok(StatedEnds { from, to }),
         Err(e) => Err(e),
     }
 }
 
 // The delay of an arc, in ticks.
 fn delay(alloc: Global, table: &Table) -> Result<u64, ConfigFault>
-    ensures read { Gives (λ n. n) result (delay (table_view table.now)) }
+    ensures read { GivesSetting (λ n. n) result (delay (table_view table.now)) }
     ensures least { IfOk result (λ n. one_millisecond ≤ n) }
     ensures most { IfOk result (λ n. n ≤ longest_delay) }
 {
@@ -74,7 +74,7 @@ fn delay(alloc: Global, table: &Table) -> Result<u64, ConfigFault>
 }
 
 fn arc_numbers(alloc: Global, table: &Table) -> Result<ArcNumbers, ConfigFault>
-    ensures { Answers (λ n. AreArcFields (table_view table.now) (arc_number_fields n)) (first (arc_number_visits (table_view table.now))) result }
+    ensures { ValueOrFault (λ n. AreArcFields (table_view table.now) (arc_number_fields n)) (first (arc_number_visits (table_view table.now))) result }
 {
     let metric = metric_at(alloc, table)?;
     let loss = whole_or(alloc, table, "loss", 0, 1000, 0)? as u16;
@@ -117,7 +117,7 @@ impl FromTable for StatedArc {
 
 /// The end of the run, from 1 ms to an hour, in ticks, which must stand.
 pub fn end_moment(alloc: Global, table: &Table) -> Result<u64, ConfigFault>
-    ensures read { Gives (λ n. n) result (end_moment (table_view table.now)) }
+    ensures read { GivesSetting (λ n. n) result (end_moment (table_view table.now)) }
     ensures range { IfOk result IsEnd }
 {
     let ms = whole_at(alloc, table, "end_ms", 1, 3_600_000)?;
@@ -126,7 +126,7 @@ pub fn end_moment(alloc: Global, table: &Table) -> Result<u64, ConfigFault>
 
 // The moment before which frames may be lost, in ticks, where there is one.
 fn loss_until(alloc: Global, table: &Table) -> Result<Option<u64>, ConfigFault>
-    ensures read { Gives (λ n. n) result (loss_until (table_view table.now)) }
+    ensures read { GivesSetting (λ n. n) result (loss_until (table_view table.now)) }
     ensures range { IfOk result (λ n. ForSome n (λ moment. moment ≤ one_hour)) }
 {
     match found(table, "loss_until_ms") {
@@ -140,7 +140,7 @@ fn loss_until(alloc: Global, table: &Table) -> Result<Option<u64>, ConfigFault>
 
 /// The times of the table at `times`, in ticks, or those that stand where it is absent; or the first fault there.
 pub fn times_of(alloc: Global, table: &Table) -> Result<Times, ConfigFault>
-    ensures { Answers (TimesIs (sub_times (table_view table.now))) (first (times_part (table_view table.now))) result }
+    ensures { ValueOrFault (TimesIs (sub_times (table_view table.now))) (first (times_part (table_view table.now))) result }
 {
     let empty = Table::new(alloc);
     let inner = table_or(alloc, table, "times", &empty)?;
@@ -148,7 +148,7 @@ pub fn times_of(alloc: Global, table: &Table) -> Result<Times, ConfigFault>
 }
 
 fn routers_of(alloc: Global, table: &Table) -> Result<Seq<StatedRouter>, ConfigFault>
-    ensures answer { Answers (Each RouterIs (listed (routers (table_view table.now)))) (first (routers_visits (table_view table.now))) result }
+    ensures answer { ValueOrFault (Each RouterIs (listed (routers (table_view table.now)))) (first (routers_visits (table_view table.now))) result }
     ensures size { IfOk result (λ xs. IsCount 1 64 (length xs)) }
 {
     let values = array_at(alloc, table, "router", 1, 64)?;
@@ -156,7 +156,7 @@ fn routers_of(alloc: Global, table: &Table) -> Result<Seq<StatedRouter>, ConfigF
 }
 
 fn arcs_of(alloc: Global, table: &Table) -> Result<Seq<StatedArc>, ConfigFault>
-    ensures answer { Answers (Each ArcIs (listed (arcs (table_view table.now)))) (first (arcs_visits (table_view table.now))) result }
+    ensures answer { ValueOrFault (Each ArcIs (listed (arcs (table_view table.now)))) (first (arcs_visits (table_view table.now))) result }
     ensures size { IfOk result (λ xs. length xs ≤ 4096) }
 {
     let values = array_or_none(alloc, table, "arc", 4096)?;
@@ -164,7 +164,7 @@ fn arcs_of(alloc: Global, table: &Table) -> Result<Seq<StatedArc>, ConfigFault>
 }
 
 fn top_numbers(alloc: Global, table: &Table) -> Result<ScenarioNumbers, ConfigFault>
-    ensures { Answers (λ n. AreTopNumbers (table_view table.now) n.end n.seed n.loss_until) (first (top_visits (table_view table.now))) result }
+    ensures { ValueOrFault (λ n. AreTopNumbers (table_view table.now) n.end n.seed n.loss_until) (first (top_visits (table_view table.now))) result }
 {
     let end = end_moment(alloc, table)?;
     let seed = whole_or(alloc, table, "seed", 0, 9_223_372_036_854_775_807, 0)?;
@@ -178,7 +178,7 @@ fn top_numbers(alloc: Global, table: &Table) -> Result<ScenarioNumbers, ConfigFa
 
 /// What the tables of a scenario say, or the first fault of their visits.
 pub fn stated_scenario(alloc: Global, table: &Table) -> Result<StatedScenario, ConfigFault>
-    ensures { Answers (ScenarioIs (table_view table.now)) (first (scenario_table_visits (table_view table.now))) result }
+    ensures { ValueOrFault (ScenarioIs (table_view table.now)) (first (scenario_table_visits (table_view table.now))) result }
 {
     known_keys(
         alloc,

@@ -2,7 +2,7 @@
 ghost use Rattle.std.specs.Prelude.{◌≤◌, length, map, IfOk, IsTrue};
 ghost use Rattle.toml.specs.View.{table_view};
 ghost use Rattle.mesh_atoms.specs.Settings.{are_ascending};
-ghost use Rattle.mesh_config.specs.Keys.Faults.{Answers, first};
+ghost use Rattle.mesh_config.specs.Keys.Faults.{ValueOrFault, first};
 ghost use Rattle.mesh_config.specs.Stated.Steps.{steps_visits, StepsAre};
 
 use crate::keys::{ConfigFault, array_or_none, known_keys, ticks, whole_at};
@@ -36,7 +36,7 @@ impl FromRising for QualityStep {
 
 /// The qualities that the table of an arc or of a neighbour says, or the first fault of their visits.
 pub fn steps_of(alloc: Global, table: &Table) -> Result<Seq<QualityStep>, ConfigFault>
-    ensures answer { Answers (StepsAre (table_view table.now)) (first (steps_visits (table_view table.now))) result }
+    ensures answer { ValueOrFault (StepsAre (table_view table.now)) (first (steps_visits (table_view table.now))) result }
     ensures size { IfOk result (λ steps. length steps ≤ 16) }
     ensures order { IfOk result (λ steps. IsTrue (are_ascending (map (λ s. s.at) steps))) }
 {

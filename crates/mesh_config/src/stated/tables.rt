@@ -1,7 +1,7 @@
 //! Arrays of tables.
 ghost use Rattle.std.specs.Prelude.{◌≡◌, map, IfOk, length};
 ghost use Rattle.toml.specs.View.{table_view, view};
-ghost use Rattle.mesh_config.specs.Keys.Faults.{Answers, first};
+ghost use Rattle.mesh_config.specs.Keys.Faults.{ValueOrFault, first};
 ghost use Rattle.mesh_config.specs.Stated.Tables.{tables_visits, element_visits, table_of, Each};
 
 use crate::keys::refusal::BAD_VALUE;
@@ -24,12 +24,12 @@ pub trait FromTable: Sized + Drop {
 
     /// The value, or the first fault of the visits.
     fn from_table(alloc: Global, table: &Table) -> Result<Self, ConfigFault>
-        ensures { Answers (says (table_view table.now)) (first (visits (table_view table.now))) result };
+        ensures { ValueOrFault (says (table_view table.now)) (first (visits (table_view table.now))) result };
 }
 
 // The value of an element, which must be a table.
 fn element<T: FromTable>(alloc: Global, key: &str, value: &Value) -> Result<T, ConfigFault>
-    ensures { Answers (T.says (table_of (view value.now))) (first (element_visits T.visits key.now (view value.now))) result }
+    ensures { ValueOrFault (T.says (table_of (view value.now))) (first (element_visits T.visits key.now (view value.now))) result }
 {
     match value.as_table() {
         Some(table) => T::from_table(alloc, table),
@@ -43,7 +43,7 @@ pub fn all_tables<T: FromTable>(
     key: &str,
     values: &[Value],
 ) -> Result<Seq<T>, ConfigFault>
-    ensures answer { Answers (Each T.says (map view values.now)) (first (tables_visits T.visits key.now (map view values.now))) result }
+    ensures answer { ValueOrFault (Each T.says (map view values.now)) (first (tables_visits T.visits key.now (map view values.now))) result }
     ensures size { IfOk result (λ xs. length xs ≡ length values.now) }
 {
     let mut all = Seq::new(alloc);

@@ -1,7 +1,7 @@
 //! The table of times.
 ghost use Rattle.std.specs.Prelude.{◌≤◌, IfOk};
 ghost use Rattle.toml.specs.View.{table_view};
-ghost use Rattle.mesh_config.specs.Keys.Faults.{Gives, Answers, first};
+ghost use Rattle.mesh_config.specs.Keys.Faults.{GivesSetting, ValueOrFault, first};
 ghost use Rattle.mesh_config.specs.Keys.Values.{SaysNothing, unknown, is_one_of};
 ghost use Rattle.mesh_config.specs.Stated.Times.{interval, times_keys, neighbour_visits, topology_visits, message_visits, times_visits, AreNeighbourTimes, AreTopologyTimes, AreMessageTimes, TimesIs};
 ghost use Rattle.mesh_atoms.specs.Settings.{IsInterval};
@@ -15,7 +15,7 @@ use toml::Table;
 fn interval(alloc: Global, table: &Table, key: &str, default: u64) -> Result<u64, ConfigFault>
     requires low { 100 ≤ default }
     requires high { default ≤ 3600000 }
-    ensures read { Gives (λ n. n) result (interval key.now default (table_view table.now)) }
+    ensures read { GivesSetting (λ n. n) result (interval key.now default (table_view table.now)) }
     ensures range { IfOk result IsInterval }
 {
     let ms = whole_or(alloc, table, key, 100, 3_600_000, default)?;
@@ -60,7 +60,7 @@ struct MessageTimes {
 }
 
 fn neighbour_times(alloc: Global, table: &Table) -> Result<NeighbourTimes, ConfigFault>
-    ensures { Answers (λ t. AreNeighbourTimes (table_view table.now) t.hello t.hold t.link_hold t.neighbour_hold) (first (neighbour_visits (table_view table.now))) result }
+    ensures { ValueOrFault (λ t. AreNeighbourTimes (table_view table.now) t.hello t.hold t.link_hold t.neighbour_hold) (first (neighbour_visits (table_view table.now))) result }
 {
     let hello = interval(alloc, table, "hello_ms", 2000)?;
     let hold = interval(alloc, table, "hold_ms", 6000)?;
@@ -75,7 +75,7 @@ fn neighbour_times(alloc: Global, table: &Table) -> Result<NeighbourTimes, Confi
 }
 
 fn topology_times(alloc: Global, table: &Table) -> Result<TopologyTimes, ConfigFault>
-    ensures { Answers (λ t. AreTopologyTimes (table_view table.now) t.tc t.topology_hold t.advertised_hold) (first (topology_visits (table_view table.now))) result }
+    ensures { ValueOrFault (λ t. AreTopologyTimes (table_view table.now) t.tc t.topology_hold t.advertised_hold) (first (topology_visits (table_view table.now))) result }
 {
     let tc = interval(alloc, table, "tc_ms", 5000)?;
     let topology_hold = interval(alloc, table, "topology_hold_ms", 15000)?;
@@ -88,7 +88,7 @@ fn topology_times(alloc: Global, table: &Table) -> Result<TopologyTimes, ConfigF
 }
 
 fn message_times(alloc: Global, table: &Table) -> Result<MessageTimes, ConfigFault>
-    ensures { Answers (λ t. AreMessageTimes (table_view table.now) t.received_hold t.processed_hold t.forwarded_hold t.tc_hop_limit) (first (message_visits (table_view table.now))) result }
+    ensures { ValueOrFault (λ t. AreMessageTimes (table_view table.now) t.received_hold t.processed_hold t.forwarded_hold t.tc_hop_limit) (first (message_visits (table_view table.now))) result }
 {
     let received_hold = interval(alloc, table, "received_hold_ms", 30000)?;
     let processed_hold = interval(alloc, table, "processed_hold_ms", 30000)?;
@@ -103,7 +103,7 @@ fn message_times(alloc: Global, table: &Table) -> Result<MessageTimes, ConfigFau
 }
 
 fn known_to_times(alloc: Global, table: &Table) -> Result<(), ConfigFault>
-    ensures { Answers SaysNothing (unknown (is_one_of times_keys) (table_view table.now)) result }
+    ensures { ValueOrFault SaysNothing (unknown (is_one_of times_keys) (table_view table.now)) result }
 {
     known_keys(
         alloc,
@@ -127,7 +127,7 @@ fn known_to_times(alloc: Global, table: &Table) -> Result<(), ConfigFault>
 /// The times that the table says, in ticks, each from 100 ms to an hour, and the hop limit of TCs; the default for each key that
 /// is absent (RFC 6130, section 5, and RFC 7181, section 5). An unknown key is refused before all others.
 pub fn times_in(alloc: Global, table: &Table) -> Result<Times, ConfigFault>
-    ensures { Answers (TimesIs (table_view table.now)) (first (times_visits (table_view table.now))) result }
+    ensures { ValueOrFault (TimesIs (table_view table.now)) (first (times_visits (table_view table.now))) result }
 {
     known_to_times(alloc, table)?;
     let neighbour = neighbour_times(alloc, table)?;

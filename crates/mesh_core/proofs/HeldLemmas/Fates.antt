@@ -7,7 +7,7 @@ use Rattle.mesh_atoms.specs.declared.addr.NetAddr.{NetAddr}
 use Rattle.mesh_atoms.specs.declared.hello.Hello.{Hello}
 use Rattle.mesh_atoms.specs.declared.tc.Tc.{Tc}
 use Rattle.mesh_atoms.specs.declared.settings.RouterSettings.{RouterSettings}
-use Rattle.mesh_atoms.specs.State.{Neighbourhood, Topology, NotedMessages, Bases}
+use Rattle.mesh_atoms.specs.State.{Neighbourhood, TopologyBase, NotedMessages, Bases}
 use Rattle.mesh_atoms.specs.TakesHello.{HelloAnswer, TakesHello}
 use Rattle.mesh_packet.specs.Fields.{MessageFields}
 use Rattle.mesh_wire.specs.Hello.{HelloIs}
@@ -52,11 +52,11 @@ module _ (settings : RouterSettings) (own : Addr4) (arrival : Arrival) (old : Ba
       subst (λ (x : Read). TakesMessage settings own arrival old message octets (record old { noted = noted }) sent (record { read = x; forward = onward })) (sym same) (Other_passed heading no_hello no_tc is considered)
 
 -- a message that counts as processed was to be processed
-pub done_does : {now : ℕ} {tc : Tc} {does : Process} {old new : Topology} {made : Read} {done : Bool} → ReadsTc now tc does old new made done → IsTrue done → does ≡ process.Do
+pub done_does : {now : ℕ} {tc : Tc} {does : Process} {old new : TopologyBase} {made : Read} {done : Bool} → ReadsTc now tc does old new made done → IsTrue done → does ≡ process.Do
 done_does (Taken_in answer is takes made done) h = is
 done_does (Passed_by not same made done) h = absurd cc
 
-module _ (settings : RouterSettings) (own : Addr4) (arrival : Arrival) (old : Bases) (tc : Tc) (heading : Heading) (octets : List ℕ) (topology : Topology) (noted : NotedMessages) (sent : List Frame) (onward : Forward) (made : Read) (done : Bool) where
+module _ (settings : RouterSettings) (own : Addr4) (arrival : Arrival) (old : Bases) (tc : Tc) (heading : Heading) (octets : List ℕ) (topology : TopologyBase) (noted : NotedMessages) (sent : List Frame) (onward : Forward) (made : Read) (done : Bool) where
   pub tc_processed : (does : Process) → does ≡ process_of own heading old.noted → ReadsTc arrival.now tc does old.topology topology made done →
       ConsidersForwarding settings own arrival heading octets done old noted sent onward →
       ProcessesTc settings own arrival old tc heading octets (record old { topology = topology; noted = noted }) sent (record { read = made; forward = onward })
@@ -64,7 +64,7 @@ module _ (settings : RouterSettings) (own : Addr4) (arrival : Arrival) (old : Ba
       subst (λ (x : Read). ProcessesTc settings own arrival old tc heading octets (record old { topology = topology; noted = noted }) sent (record { read = x; forward = onward })) (sym made_is)
       (Tc_taken (sym judged ∙ is) takes (subst (λ (b : Bool). ConsidersForwarding settings own arrival heading octets b old noted sent onward) done_is considered))
   tc_processed does judged (Passed_by not same made_is done_is) considered =
-      subst (λ (t : Topology). ProcessesTc settings own arrival old tc heading octets (record old { topology = t; noted = noted }) sent (record { read = made; forward = onward })) (sym same)
+      subst (λ (t : TopologyBase). ProcessesTc settings own arrival old tc heading octets (record old { topology = t; noted = noted }) sent (record { read = made; forward = onward })) (sym same)
       (subst (λ (x : Read). ProcessesTc settings own arrival old tc heading octets (record old { noted = noted }) sent (record { read = x; forward = onward })) (sym (made_is ∙ ap (λ (p : Process). read.Passed p) judged))
       (Tc_passed (λ is. not (judged ∙ is)) (subst (λ (b : Bool). ConsidersForwarding settings own arrival heading octets b old noted sent onward) done_is considered)))
 

@@ -4,7 +4,7 @@ use Rattle.std.specs.Prelude.{cond}
 use Rattle.mesh_atoms.specs.declared.settings.RouterSettings.{RouterSettings}
 use Rattle.mesh_atoms.specs.declared.tuples.Link.{Link}
 use Rattle.mesh_atoms.specs.Base.{router_eq, address_eq, network_eq}
-use Rattle.mesh_atoms.specs.State.{Neighbourhood, Topology, Bases, is_symmetric, link_at}
+use Rattle.mesh_atoms.specs.State.{Neighbourhood, TopologyBase, Bases, is_symmetric, link_at}
 use Rattle.mesh_nbrs.specs.Same.{SameNear, way_at}
 use Rattle.mesh_nhdp.specs.Staying.{AllIsAsItWas}
 use Rattle.mesh_topo.specs.Same.{SameAdvertised}
@@ -21,14 +21,14 @@ not_true true q is h = absurd cc
 not_true false q is h = refl
 
 -- what is the same topology advertises the same
-pub advertised_equal : (old new : Topology) → new ≡ old → SameAdvertised old new
+pub advertised_equal : (old new : TopologyBase) → new ≡ old → SameAdvertised old new
 advertised_equal old new is = record {
-  routers = same_equal router_eq router_says old.routers new.routers (ap (λ (t : Topology). t.routers) is);
-  addresses = same_equal address_eq address_says old.addresses new.addresses (ap (λ (t : Topology). t.addresses) is);
-  networks = same_equal network_eq network_says old.networks new.networks (ap (λ (t : Topology). t.networks) is);
+  routers = same_equal router_eq router_says old.routers new.routers (ap (λ (t : TopologyBase). t.routers) is);
+  addresses = same_equal address_eq address_says old.addresses new.addresses (ap (λ (t : TopologyBase). t.addresses) is);
+  networks = same_equal network_eq network_says old.networks new.networks (ap (λ (t : TopologyBase). t.networks) is);
 }
 
-advertised_after : (old mid new : Topology) → SameAdvertised old mid → SameAdvertised mid new → SameAdvertised old new
+advertised_after : (old mid new : TopologyBase) → SameAdvertised old mid → SameAdvertised mid new → SameAdvertised old new
 advertised_after old mid new h k = record {
   routers = same_after router_eq router_says old.routers mid.routers new.routers h.routers k.routers;
   addresses = same_after address_eq address_says old.addresses mid.addresses new.addresses h.addresses k.addresses;

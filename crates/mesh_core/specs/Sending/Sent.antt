@@ -23,7 +23,7 @@ TcsAreSent settings old new sent =
     s.sequence ≡ new.sequence → s.next_tc ≡ new.next_tc → SendsTcs before s sent
 
 -- a TC is sent for each part of the rows
-pub record SendsAll (s : State) (old new : ℕ) (sent : List Frame) : Type 0 where
+pub record SendsAllParts (s : State) (old new : ℕ) (sent : List Frame) : Type 0 where
   pub parts : List (List TcRow)
   pub cut : AreParts s.settings.tc_rows s.rows parts
   pub validity : List ℕ
@@ -33,4 +33,4 @@ pub record SendsAll (s : State) (old new : ℕ) (sent : List Frame) : Type 0 whe
 
 -- the same, whatever the bases are
 abbrev pub PartsAreSent : RouterSettings → Derived → Derived → List Frame → Type 0
-PartsAreSent settings old new sent = (s : State) → s.settings ≡ settings → HasDerived s new → SendsAll s old.sequence new.sequence sent
+PartsAreSent settings old new sent = (s : State) → s.settings ≡ settings → HasDerived s new → SendsAllParts s old.sequence new.sequence sent

@@ -6,7 +6,7 @@ ghost use Rattle.mesh_machine.specs.declared.frame.Frame.{Frame};
 ghost use Rattle.mesh_machine.specs.Machine.{TicksAt};
 
 use crate::event::ending::end_event;
-use crate::held::{Holding, Outbox};
+use crate::held::{InformationBases, Outbox};
 use crate::sending::{send_hellos, send_tcs};
 use mesh_expire::Bases;
 use mesh_renewal::Derived;
@@ -16,7 +16,7 @@ use std::alloc::{AllocError, Global};
 /// bases is renewed (RFC 7181, sections 16.1, 18 and 19), and the HELLOs (RFC 6130, section 11) and TCs (RFC 7181, section 16) that are
 /// due are put at the end of `out`. Want of memory leaves `out` as it was; `holding` and `derived` may then only be dropped.
 pub fn tick<B: Bases>(
-    holding: &mut Holding<B>,
+    holding: &mut InformationBases<B>,
     derived: &mut Derived,
     now: u64,
     out: &mut Outbox,
@@ -38,7 +38,7 @@ pub fn tick<B: Bases>(
 // What is expired goes, what follows from the bases is renewed, and what is due is sent.
 fn do_tick<B: Bases>(
     alloc: Global,
-    holding: &mut Holding<B>,
+    holding: &mut InformationBases<B>,
     derived: &mut Derived,
     now: u64,
     out: &mut Outbox,

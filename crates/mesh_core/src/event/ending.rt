@@ -4,7 +4,7 @@ ghost use Rattle.mesh_core.specs.Event.Holding.{EndsQuietly};
 ghost use Rattle.mesh_machine.specs.Laws.{SoundBases};
 ghost use Rattle.mesh_renewal.specs.Renewed.{RenewsTo};
 
-use crate::held::Holding;
+use crate::held::InformationBases;
 use mesh_expire::Bases;
 use mesh_renewal::{Derived, renew, stay};
 use std::alloc::{AllocError, Global};
@@ -12,7 +12,7 @@ use std::alloc::{AllocError, Global};
 /// Ends an event: what follows from the bases is renewed, by staying as it is where the event was quiet.
 pub(crate) fn end_event<B: Bases>(
     alloc: Global,
-    holding: &Holding<B>,
+    holding: &InformationBases<B>,
     now: u64,
     quiet: bool,
     derived: &mut Derived,

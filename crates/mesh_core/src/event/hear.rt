@@ -11,7 +11,7 @@ ghost use Rattle.mesh_packet.specs.Fields.{PacketFields};
 ghost use Rattle.mesh_packet.specs.Grammar.{FirstFault, Spells};
 
 use crate::event::ending::end_event;
-use crate::held::{Holding, Outbox};
+use crate::held::{InformationBases, Outbox};
 use crate::reading::{FrameContent, TypedFrame, TypedMessage, read_content};
 use mesh_atoms::Seq;
 use mesh_expire::Bases;
@@ -25,7 +25,7 @@ use std::alloc::{AllocError, Global};
 /// order (section 12, and RFC 7181, section 14), and what follows from the bases is renewed (RFC 7181, sections 16.1, 18 and 19). What
 /// is sent is put at the end of `out`. Want of memory leaves `out` as it was; `holding` and `derived` may then only be dropped.
 pub fn hear_frame<B: Bases>(
-    holding: &mut Holding<B>,
+    holding: &mut InformationBases<B>,
     derived: &mut Derived,
     arrival: Arrival,
     bytes: &[u8],
@@ -50,7 +50,7 @@ pub fn hear_frame<B: Bases>(
 
 /// A router hears a frame that reads so, as `hear_frame` does.
 pub(crate) fn hear_content<B: Bases>(
-    holding: &mut Holding<B>,
+    holding: &mut InformationBases<B>,
     derived: &mut Derived,
     arrival: Arrival,
     bytes: &[u8],
@@ -84,7 +84,7 @@ pub(crate) fn hear_content<B: Bases>(
 
 /// A router hears a frame that was read before, as `hear_frame` does.
 pub(crate) fn hear_typed<B: Bases>(
-    holding: &mut Holding<B>,
+    holding: &mut InformationBases<B>,
     derived: &mut Derived,
     arrival: Arrival,
     frame: &TypedFrame,
@@ -106,7 +106,7 @@ pub(crate) fn hear_typed<B: Bases>(
 
 // Takes a packet whose messages read so and stand there: what is sent is put at the end of `out` where memory suffices.
 fn take_packet<B: Bases>(
-    holding: &mut Holding<B>,
+    holding: &mut InformationBases<B>,
     derived: &mut Derived,
     arrival: Arrival,
     bytes: &[u8],
@@ -134,7 +134,7 @@ fn take_packet<B: Bases>(
 
 // What is expired goes, the messages of a packet are taken, and what follows from the bases is renewed where they changed it.
 fn take_messages<B: Bases>(
-    holding: &mut Holding<B>,
+    holding: &mut InformationBases<B>,
     derived: &mut Derived,
     arrival: Arrival,
     bytes: &[u8],

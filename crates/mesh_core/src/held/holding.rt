@@ -16,16 +16,16 @@ use std::marker::Model;
 
 /// The bases of a router: its neighbourhood, its topology, and the messages seen before. Moments are in ticks of 1/8192 s. After
 /// want of memory the value may only be dropped.
-pub struct Holding<B: Bases> {
+pub struct InformationBases<B: Bases> {
     pub(crate) nhdp: Nhdp<B>,
     pub(crate) topology: Topology<B>,
     pub(crate) flood: Flood<B>,
 }
 
 // By hand, so that no crate that lets go of one has to know its parts.
-impl<B: Bases> Drop for Holding<B> {
+impl<B: Bases> Drop for InformationBases<B> {
     fn drop(self) {
-        let Holding {
+        let InformationBases {
             nhdp: _,
             topology: _,
             flood: _,
@@ -33,7 +33,7 @@ impl<B: Bases> Drop for Holding<B> {
     }
 }
 
-impl<B: Bases> Model for Holding<B> {
+impl<B: Bases> Model for InformationBases<B> {
     ghost use Rattle.std.specs.Prelude.{◌≡◌};
     ghost use Rattle.mesh_core.specs.Held.Held.{Held};
 
@@ -44,16 +44,16 @@ impl<B: Bases> Model for Holding<B> {
     ghost invariant = { λ h. h.flood.times ≡ h.nhdp.settings.times };
 }
 
-impl<B: Bases> Holding<B> {
+impl<B: Bases> InformationBases<B> {
     /// The bases of a router with these settings before its first event: they are empty.
-    pub fn new(alloc: Global, settings: &RouterSettings) -> Result<Holding<B>, AllocError>
+    pub fn new(alloc: Global, settings: &RouterSettings) -> Result<InformationBases<B>, AllocError>
         ensures settings { IfOk result (λ holding. holding.settings ≡ settings.now) }
         ensures empty { IfOk result (λ holding. holding.bases ≡ no_bases (length settings.now.interfaces)) }
     {
         let flood = Flood::new(alloc, settings)?;
         let topology = Topology::new(alloc)?;
         let nhdp = Nhdp::new(alloc, settings)?;
-        Ok(Holding {
+        Ok(InformationBases {
             nhdp,
             topology,
             flood,

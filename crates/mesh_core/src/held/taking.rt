@@ -2,7 +2,7 @@
 ghost use Rattle.std.specs.Prelude.{◌≡◌, ◌<◌, ◌≤◌, ◌+◌, ◌^◌, ◌++◌, ℕ, [], map, List, length, IfOk, OnOk, IsTrue};
 ghost use Rattle.mesh_atoms.specs.declared.addr.Addr4.{Addr4};
 ghost use Rattle.mesh_atoms.specs.Sound.{SoundNeighbourhood};
-ghost use Rattle.mesh_atoms.specs.State.{IsOriginator, NotedMessages, Topology as TopologyValue};
+ghost use Rattle.mesh_atoms.specs.State.{IsOriginator, NotedMessages, TopologyBase as TopologyValue};
 ghost use Rattle.mesh_nbrs.specs.Same.{SameNear};
 ghost use Rattle.mesh_topo.specs.Same.{SameAdvertised};
 ghost use Rattle.mesh_topo.specs.Tuples.{HasHosts};
@@ -19,7 +19,7 @@ ghost use Rattle.mesh_machine.specs.Laws.{SoundBases};
 ghost use Rattle.mesh_machine.specs.Messages.{TakesMessage, TakesMessages, ProcessesTc, IsHeading, AreSpelled};
 
 use crate::held::answers::{broken, hello_read, is_processed, other_read, tc_read};
-use crate::held::holding::Holding;
+use crate::held::holding::InformationBases;
 use crate::held::onward::{judge, pass_on};
 use crate::held::outbox::Outbox;
 use crate::reading::{TypedMessage, typed_messages};
@@ -162,7 +162,7 @@ fn take_other<B: Bases>(
     }
 }
 
-impl<B: Bases> Holding<B> {
+impl<B: Bases> InformationBases<B> {
     // Takes a message that reads so: its fate, and whether it was quiet.
     fn take_message(
         &mut self,

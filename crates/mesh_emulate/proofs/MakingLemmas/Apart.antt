@@ -8,7 +8,7 @@ use Rattle.std.proofs.lemmas.List.Folds.{list_any-append}
 use Rattle.std.proofs.lemmas.List.{append-nil}
 use Rattle.std.proofs.lemmas.Nat.{mod_below}
 use Rattle.mesh_atoms.specs.Settings.{are_distinct}
-use Rattle.mesh_emulate.specs.declared.making.pairs.Pair.{Pair}
+use Rattle.mesh_emulate.specs.declared.making.pairs.RouterPair.{RouterPair}
 use Rattle.mesh_emulate.specs.Making.Pairs.{pair, pair_if, grid_pairs_of, ring_pairs, tree_pairs, same_pair, joined_with, more_pairs, word, ArePairs}
 use Rattle.mesh_emulate.proofs.MakingLemmas.Growing.{flat_more}
 use Rattle.mesh_emulate.proofs.MakingLemmas.Rows.{two_or_more}
@@ -17,7 +17,7 @@ use Rattle.mesh_emulate.specs.declared.making.kind.Kind.TheVariants as kind
 use Rattle.mesh_texts.proofs.LineLists.{each_weaker}
 
 -- pairs of n routers, at most so many, none of which stands twice
-pub record AreApart (n most : ℕ) (pairs : List Pair) : Type 0 where
+pub record AreApart (n most : ℕ) (pairs : List RouterPair) : Type 0 where
   pub within : Each (λ p. (p.low < p.high) × (p.high < n)) pairs
   pub distinct : are_distinct same_pair pairs ≡ true
   pub few : length pairs ≤ most
@@ -28,15 +28,15 @@ each_more : {A : Type 0} (P : A → Type 0) (xs : List A) (x : A) → Each P xs 
 each_more P [] x all one = (one, tt)
 each_more P (y ∷ xs) x all one = (all.0, each_more P xs x all.1 one)
 
-each_if : (P : Pair → Type 0) (pairs : List Pair) (p : Pair) (t : Bool) → Each P pairs → P p → Each P (pairs ++ pair_if t p)
+each_if : (P : RouterPair → Type 0) (pairs : List RouterPair) (p : RouterPair) (t : Bool) → Each P pairs → P p → Each P (pairs ++ pair_if t p)
 each_if P pairs p true all one = each_more P pairs p all one
 each_if P pairs p false all one = subst (Each P) (sym (append-nil pairs)) all
 
 -- none of the pairs is this one
-abbrev Lack : List Pair → Pair → Type 0
+abbrev Lack : List RouterPair → RouterPair → Type 0
 Lack pairs p = Each (λ q. same_pair q p ≡ false) pairs
 
-distinct_more : (pairs : List Pair) (p : Pair) → are_distinct same_pair pairs ≡ true → Lack pairs p →
+distinct_more : (pairs : List RouterPair) (p : RouterPair) → are_distinct same_pair pairs ≡ true → Lack pairs p →
     are_distinct same_pair (pairs ++ p ∷ []) ≡ true
 distinct_more [] p d lack = refl
 distinct_more (q ∷ pairs) p d lack =
@@ -44,15 +44,15 @@ distinct_more (q ∷ pairs) p d lack =
     let none : list_any (same_pair q) pairs ≡ false = not-true (list_any (same_pair q) pairs) parts.0 in
     rw (list_any-append (same_pair q) pairs (p ∷ []), none, lack.0, distinct_more pairs p parts.1 lack.1) refl
 
-apart_more : (n most : ℕ) (pairs : List Pair) (p : Pair) → AreApart n most pairs → p.low < p.high → p.high < n → Lack pairs p →
+apart_more : (n most : ℕ) (pairs : List RouterPair) (p : RouterPair) → AreApart n most pairs → p.low < p.high → p.high < n → Lack pairs p →
     AreApart n (most + 1) (pairs ++ p ∷ [])
 apart_more n most pairs p a order below lack = record {
-  within = each_more (λ (q : Pair). (q.low < q.high) × (q.high < n)) pairs p a.within (order, below);
+  within = each_more (λ (q : RouterPair). (q.low < q.high) × (q.high < n)) pairs p a.within (order, below);
   distinct = distinct_more pairs p a.distinct lack;
   few = omega (arith, length-append pairs (p ∷ []), a.few);
 }
 
-apart_if : (n most : ℕ) (pairs : List Pair) (p : Pair) (t : Bool) → AreApart n most pairs →
+apart_if : (n most : ℕ) (pairs : List RouterPair) (p : RouterPair) (t : Bool) → AreApart n most pairs →
     (t ≡ true → (p.low < p.high) × (p.high < n) × Lack pairs p) → AreApart n (most + 1) (pairs ++ pair_if t p)
 apart_if n most pairs p true a so = let is = so refl in apart_more n most pairs p a is.0 is.1 is.2
 apart_if n most pairs p false a so =
@@ -60,16 +60,16 @@ apart_if n most pairs p false a so =
 
 -- In rows
 
-lower_lack : (pairs : List Pair) (p : Pair) → Each (λ q. q.low < p.low) pairs → Lack pairs p
+lower_lack : (pairs : List RouterPair) (p : RouterPair) → Each (λ q. q.low < p.low) pairs → Lack pairs p
 lower_lack pairs p lower =
-    each_weaker (λ (q : Pair). q.low < p.low) (λ (q : Pair). same_pair q p ≡ false)
+    each_weaker (λ (q : RouterPair). q.low < p.low) (λ (q : RouterPair). same_pair q p ≡ false)
     (λ q less. and_left (nat_eq q.low p.low) (nat_eq q.high p.high) (ne_eqb q.low p.low (λ e. omega (arith, less, e)))) pairs lower
 
-record IsRowsFront (n m : ℕ) (pairs : List Pair) : Type 0 where
+record IsRowsFront (n m : ℕ) (pairs : List RouterPair) : Type 0 where
   apart : AreApart n (2 * m) pairs
   lower : Each (λ q. q.low < m) pairs
 
-rows_more : (c n m : ℕ) (pairs : List Pair) → 2 ≤ c → IsRowsFront n m pairs → IsRowsFront n (m + 1) (pairs ++ grid_pairs_of c n m)
+rows_more : (c n m : ℕ) (pairs : List RouterPair) → 2 ≤ c → IsRowsFront n m pairs → IsRowsFront n (m + 1) (pairs ++ grid_pairs_of c n m)
 rows_more c n m pairs two front =
     let t = nat_lt (m + 1) n && not (nat_eq ((m + 1) % c) 0) in
     let u = nat_lt (m + c) n in
@@ -79,10 +79,10 @@ rows_more c n m pairs two front =
     (λ is. (omega arith, ltb-true (m + 1) n (and_parts (nat_lt (m + 1) n) (not (nat_eq ((m + 1) % c) 0)) is).0, lower_lack pairs p front.lower)) in
     let other : same_pair p q ≡ false = and_right (nat_eq m m) (nat_eq (m + 1) (m + c)) (ne_eqb (m + 1) (m + c) (λ e. omega (arith, e, two))) in
     let both : AreApart n (2 * m + 1 + 1) ((pairs ++ pair_if t p) ++ pair_if u q) = apart_if n (2 * m + 1) (pairs ++ pair_if t p) q u first
-    (λ is. (omega (arith, two), ltb-true (m + c) n is, each_if (λ (x : Pair). same_pair x q ≡ false) pairs p t (lower_lack pairs q front.lower) other)) in
-    let Below : Pair → Type 0 = λ x. x.low < m + 1 in
+    (λ is. (omega (arith, two), ltb-true (m + c) n is, each_if (λ (x : RouterPair). same_pair x q ≡ false) pairs p t (lower_lack pairs q front.lower) other)) in
+    let Below : RouterPair → Type 0 = λ x. x.low < m + 1 in
     let here : m < m + 1 = omega arith in
-    let lower : Each Below pairs = each_weaker (λ (x : Pair). x.low < m) Below (λ x less. omega (arith, less)) pairs front.lower in
+    let lower : Each Below pairs = each_weaker (λ (x : RouterPair). x.low < m) Below (λ x less. omega (arith, less)) pairs front.lower in
     let joined = append_assoc pairs (pair_if t p) (pair_if u q) in
     record {
       apart = subst (AreApart n (2 * (m + 1))) joined
@@ -100,12 +100,12 @@ rows_front c n (suc m) two =
 
 -- In a ring
 
-record IsRingFront (n m : ℕ) (pairs : List Pair) : Type 0 where
+record IsRingFront (n m : ℕ) (pairs : List RouterPair) : Type 0 where
   apart : AreApart n m pairs
   lower : Each (λ q. q.low < m) pairs
   next : Each (λ q. q.high ≡ q.low + 1) pairs
 
-abbrev next_pair : ℕ → Pair
+abbrev next_pair : ℕ → RouterPair
 next_pair i = pair i (i + 1)
 
 ring_front : (n m : ℕ) → m < n → IsRingFront n m (map next_pair (range_with_len 0 m))
@@ -115,12 +115,12 @@ ring_front n (suc m) within =
     let front : IsRingFront n m pairs = ring_front n m (omega (arith, within)) in
     let more : m + 1 ≡ suc m = omega arith in
     let p = next_pair m in
-    let Below : Pair → Type 0 = λ x. x.low < m + 1 in
-    let Next : Pair → Type 0 = λ x. x.high ≡ x.low + 1 in
+    let Below : RouterPair → Type 0 = λ x. x.low < m + 1 in
+    let Next : RouterPair → Type 0 = λ x. x.high ≡ x.low + 1 in
     let here : m < m + 1 = omega arith in
     let grown : IsRingFront n (m + 1) (pairs ++ p ∷ []) = record {
       apart = apart_more n m pairs p front.apart here (omega (arith, within)) (lower_lack pairs p front.lower);
-      lower = each_more Below pairs p (each_weaker (λ (x : Pair). x.low < m) Below (λ x less. omega (arith, less)) pairs front.lower) here;
+      lower = each_more Below pairs p (each_weaker (λ (x : RouterPair). x.low < m) Below (λ x less. omega (arith, less)) pairs front.lower) here;
       next = each_more Next pairs p front.next refl;
     } in
     let all : IsRingFront n (m + 1) (map next_pair (range_with_len 0 (m + 1))) =
@@ -137,11 +137,11 @@ ring_apart n two =
     let three : 2 < n = ltb-true 2 n is in (
       omega (arith, three),
       omega (arith, three),
-      each_weaker (λ (q : Pair). q.high ≡ q.low + 1) (λ (q : Pair). same_pair q last ≡ false) (both_differ (n - 1) (omega (arith, three))) pairs front.next,
+      each_weaker (λ (q : RouterPair). q.high ≡ q.low + 1) (λ (q : RouterPair). same_pair q last ≡ false) (both_differ (n - 1) (omega (arith, three))) pairs front.next,
     )) in
     record { within = all.within; distinct = all.distinct; few = omega (arith, all.few, two) }
   where
-    both_differ : (m : ℕ) → 2 ≤ m → (q : Pair) → q.high ≡ q.low + 1 → same_pair q (pair 0 m) ≡ false
+    both_differ : (m : ℕ) → 2 ≤ m → (q : RouterPair) → q.high ≡ q.low + 1 → same_pair q (pair 0 m) ≡ false
     both_differ m far q next = elim (cases_Bool (nat_eq q.low 0)) [
       | inl first ↦ and_right (nat_eq q.low 0) (nat_eq q.high m) (ne_eqb q.high m (λ e. omega (arith, e, next, far, eqb-true q.low 0 first)))
       | inr other ↦ and_left (nat_eq q.low 0) (nat_eq q.high m) other
@@ -149,32 +149,32 @@ ring_apart n two =
 
 -- By draws
 
-record IsTreeFront (n m : ℕ) (pairs : List Pair) : Type 0 where
+record IsTreeFront (n m : ℕ) (pairs : List RouterPair) : Type 0 where
   apart : AreApart n m pairs
   lower : Each (λ q. q.high < m + 1) pairs
 
 tree_front : (seed n m : ℕ) → m < n → IsTreeFront n m (map (λ i. pair (word seed i % (i + 1)) (i + 1)) (range_with_len 0 m))
 tree_front seed n zero within = record { apart = record { within = tt; distinct = refl; few = omega arith }; lower = tt }
 tree_front seed n (suc m) within =
-    let f : ℕ → Pair = λ i. pair (word seed i % (i + 1)) (i + 1) in
+    let f : ℕ → RouterPair = λ i. pair (word seed i % (i + 1)) (i + 1) in
     let pairs = map f (range_with_len 0 m) in
     let front : IsTreeFront n m pairs = tree_front seed n m (omega (arith, within)) in
     let more : m + 1 ≡ suc m = omega arith in
     let p = f m in
-    let Below : Pair → Type 0 = λ x. x.high < (m + 1) + 1 in
+    let Below : RouterPair → Type 0 = λ x. x.high < (m + 1) + 1 in
     let order : p.low < p.high = mod_below (word seed m) (m + 1) (omega arith) in
-    let lack : Lack pairs p = each_weaker (λ (q : Pair). q.high < m + 1) (λ (q : Pair). same_pair q p ≡ false)
+    let lack : Lack pairs p = each_weaker (λ (q : RouterPair). q.high < m + 1) (λ (q : RouterPair). same_pair q p ≡ false)
     (λ q less. and_right (nat_eq q.low p.low) (nat_eq q.high p.high) (ne_eqb q.high p.high (λ e. omega (arith, less, e)))) pairs front.lower in
     let grown : IsTreeFront n (m + 1) (pairs ++ p ∷ []) = record {
       apart = apart_more n m pairs p front.apart order (omega (arith, within)) lack;
-      lower = each_more Below pairs p (each_weaker (λ (x : Pair). x.high < m + 1) Below (λ x less. omega (arith, less)) pairs front.lower) (omega arith);
+      lower = each_more Below pairs p (each_weaker (λ (x : RouterPair). x.high < m + 1) Below (λ x less. omega (arith, less)) pairs front.lower) (omega arith);
     } in
     let all : IsTreeFront n (m + 1) (map f (range_with_len 0 (m + 1))) =
     subst (IsTreeFront n (m + 1)) (sym (map-range_with_len_more f 0 m m (omega arith))) grown in
     subst (λ (k : ℕ). IsTreeFront n k (map f (range_with_len 0 k))) more all
 
 -- the test for a pair looks at both alike
-same_pair-sym : (p q : Pair) → same_pair p q ≡ same_pair q p
+same_pair-sym : (p q : RouterPair) → same_pair p q ≡ same_pair q p
 same_pair-sym p q = rw (eqb-sym p.low q.low, eqb-sym p.high q.high) refl
   where
     eqb-sym : (a b : ℕ) → nat_eq a b ≡ nat_eq b a
@@ -183,20 +183,20 @@ same_pair-sym p q = rw (eqb-sym p.low q.low, eqb-sym p.high q.high) refl
       | inr other ↦ ne_eqb a b (λ e. eqb-false b a other (sym e)) ∙ sym other
     ]
 
-none_lack : (p : Pair) (pairs : List Pair) → list_any (same_pair p) pairs ≡ false → Lack pairs p
+none_lack : (p : RouterPair) (pairs : List RouterPair) → list_any (same_pair p) pairs ≡ false → Lack pairs p
 none_lack p [] none = tt
 none_lack p (q ∷ pairs) none =
     let parts = or_parts (same_pair p q) (list_any (same_pair p) pairs) none in
     (same_pair-sym q p ∙ parts.0, none_lack p pairs parts.1)
 
-joined_apart : (n most : ℕ) (pairs : List Pair) (a b : ℕ) → a < n → b < n → AreApart n most pairs →
+joined_apart : (n most : ℕ) (pairs : List RouterPair) (a b : ℕ) → a < n → b < n → AreApart n most pairs →
     AreApart n (most + 1) (joined_with pairs a b)
 joined_apart n most pairs a b c d apart = elim (cases_Bool (nat_lt a b)) [
   | inl less ↦ rw less (by (pair a b) (λ differ. ltb-true a b less) d)
   | inr more ↦ rw more (by (pair b a) (λ differ. let ge = ltb-false a b more in let ne : a ≢ b = differ in omega (arith, ge, ne)) c)
 ]
   where
-    by : (p : Pair) → (a ≢ b → p.low < p.high) → p.high < n →
+    by : (p : RouterPair) → (a ≢ b → p.low < p.high) → p.high < n →
         AreApart n (most + 1) (pairs ++ pair_if (not (nat_eq a b) && not (list_any (same_pair p) pairs)) p)
     by p order below =
         apart_if n most pairs p (not (nat_eq a b) && not (list_any (same_pair p) pairs)) apart
@@ -207,7 +207,7 @@ joined_apart n most pairs a b c d apart = elim (cases_Bool (nat_lt a b)) [
           none_lack p pairs (not-true (list_any (same_pair p) pairs) parts.1),
         ))
 
-more_apart : (seed n k times most : ℕ) (pairs : List Pair) → 2 ≤ n → AreApart n most pairs →
+more_apart : (seed n k times most : ℕ) (pairs : List RouterPair) → 2 ≤ n → AreApart n most pairs →
     AreApart n (most + times) (more_pairs seed n k times pairs)
 more_apart seed n k zero most pairs two apart = record { within = apart.within; distinct = apart.distinct; few = omega (arith, apart.few) }
 more_apart seed n k (suc times) most pairs two apart =
@@ -220,7 +220,7 @@ more_apart seed n k (suc times) most pairs two apart =
 
 -- All kinds
 
-pub pairs_apart : (k : Kind) (n seed : ℕ) (pairs : List Pair) → 2 ≤ n → ArePairs k n seed pairs → AreApart n (2 * n) pairs
+pub pairs_apart : (k : Kind) (n seed : ℕ) (pairs : List RouterPair) → 2 ≤ n → ArePairs k n seed pairs → AreApart n (2 * n) pairs
 pairs_apart kind.Grid n seed pairs two (c, row, is) =
     subst (AreApart n (2 * n)) (sym is) (rows_front c n n (two_or_more n c two row.enough)).apart
 pairs_apart kind.Ring n seed pairs two is = subst (AreApart n (2 * n)) (sym is) (ring_apart n two)

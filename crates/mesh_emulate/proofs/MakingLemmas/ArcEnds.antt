@@ -7,7 +7,7 @@ use Rattle.std.proofs.lemmas.List.{length-map}
 use Rattle.mesh_atoms.specs.declared.settings.RadioArc.{RadioArc}
 use Rattle.mesh_atoms.specs.Settings.{Ends, AreArcs, are_distinct, ends_eq, joins_routers}
 use Rattle.mesh_config.specs.Checks.Compared.{ends_of}
-use Rattle.mesh_emulate.specs.declared.making.pairs.Pair.{Pair}
+use Rattle.mesh_emulate.specs.declared.making.pairs.RouterPair.{RouterPair}
 use Rattle.mesh_emulate.specs.Making.Pairs.{same_pair}
 use Rattle.mesh_emulate.specs.Making.Scenario.{IsMadeArc, AreMadeArcs}
 use Rattle.mesh_emulate.proofs.MakingLemmas.Apart.{AreApart}
@@ -17,14 +17,14 @@ use Rattle.mesh_emulate.specs.declared.making.kind.Kind.{Kind}
 abbrev way : ℕ → ℕ → Ends
 way from to = record { from = from; from_iface = 0; to = to; to_iface = 0 }
 
-abbrev ways : List Pair → List Ends
+abbrev ways : List RouterPair → List Ends
 ways [] = []
 ways (p ∷ pairs) = way p.low p.high ∷ way p.high p.low ∷ ways pairs
 
 way_of : (k : Kind) (n seed number from to : ℕ) (arc : RadioArc) → IsMadeArc k n seed number from to arc → ends_of arc ≡ way from to
 way_of k n seed number from to arc is = rw (is.leaves, is.leaves_iface, is.reaches, is.reaches_iface) refl
 
-ways_of : (k : Kind) (n seed number : ℕ) (pairs : List Pair) (arcs : List RadioArc) → AreMadeArcs k n seed number pairs arcs →
+ways_of : (k : Kind) (n seed number : ℕ) (pairs : List RouterPair) (arcs : List RadioArc) → AreMadeArcs k n seed number pairs arcs →
     map ends_of arcs ≡ ways pairs
 ways_of k n seed number [] arcs all = ap (map ends_of) all
 ways_of k n seed number (p ∷ pairs) [] all = absurd all
@@ -34,10 +34,10 @@ ways_of k n seed number (p ∷ pairs) (a ∷ b ∷ arcs) all =
 
 -- Of no way twice
 
-abbrev InOrder : Pair → Type 0
+abbrev InOrder : RouterPair → Type 0
 InOrder p = p.low < p.high
 
-none_of : (p : Pair) (pairs : List Pair) → list_any (same_pair p) pairs ≡ false → Each (λ q. same_pair p q ≡ false) pairs
+none_of : (p : RouterPair) (pairs : List RouterPair) → list_any (same_pair p) pairs ≡ false → Each (λ q. same_pair p q ≡ false) pairs
 none_of p [] none = tt
 none_of p (q ∷ pairs) none = let parts = or_parts (same_pair p q) (list_any (same_pair p) pairs) none in (parts.0, none_of p pairs parts.1)
 
@@ -48,7 +48,7 @@ ways_differ a b c d differ = elim (cases_Bool (nat_eq a c)) [
 ]
 
 -- none of the ways of pairs is a way of another pair
-no_way : (p : Pair) (pairs : List Pair) → InOrder p → Each InOrder pairs → Each (λ q. same_pair p q ≡ false) pairs →
+no_way : (p : RouterPair) (pairs : List RouterPair) → InOrder p → Each InOrder pairs → Each (λ q. same_pair p q ≡ false) pairs →
     (list_any (ends_eq (way p.low p.high)) (ways pairs) ≡ false) × (list_any (ends_eq (way p.high p.low)) (ways pairs) ≡ false)
 no_way p [] order orders others = (refl, refl)
 no_way p (q ∷ pairs) order orders others =
@@ -59,10 +59,10 @@ no_way p (q ∷ pairs) order orders others =
       rw (ways_differ p.high p.low q.low q.high (λ e f. omega (arith, e, f, order, here)), ways_differ p.high p.low q.high q.low (λ e f. apart f e), rest.1) refl,
     )
   where
-    not_same : (p q : Pair) → p.low ≡ q.low → p.high ≡ q.high → same_pair p q ≡ false → ⊥
+    not_same : (p q : RouterPair) → p.low ≡ q.low → p.high ≡ q.high → same_pair p q ≡ false → ⊥
     not_same p q e f other = let both : same_pair p q ≡ true = rw (eq-eqb p.low q.low e, eq-eqb p.high q.high f) refl in true≢false (sym both ∙ other)
 
-distinct_ways : (pairs : List Pair) → Each InOrder pairs → are_distinct same_pair pairs ≡ true → are_distinct ends_eq (ways pairs) ≡ true
+distinct_ways : (pairs : List RouterPair) → Each InOrder pairs → are_distinct same_pair pairs ≡ true → are_distinct ends_eq (ways pairs) ≡ true
 distinct_ways [] orders d = refl
 distinct_ways (p ∷ pairs) orders d =
     let parts = and_parts (not (list_any (same_pair p) pairs)) (are_distinct same_pair pairs) d in
@@ -74,7 +74,7 @@ distinct_ways (p ∷ pairs) orders d =
 
 -- Between routers
 
-joining : (counts : List ℕ) (n : ℕ) (pairs : List Pair) → ((x : ℕ) → x < n → slice_index counts x ≡ 1) →
+joining : (counts : List ℕ) (n : ℕ) (pairs : List RouterPair) → ((x : ℕ) → x < n → slice_index counts x ≡ 1) →
     Each (λ p. (p.low < p.high) × (p.high < n)) pairs →
     list_all (joins_routers counts) (ways pairs) ≡ true
 joining counts n [] one within = refl
@@ -85,15 +85,15 @@ joining counts n (p ∷ pairs) one within =
     let high : slice_index counts p.high ≡ 1 = one p.high below in
     rw (low, high, ne_eqb p.low p.high (λ e. omega (arith, e, order)), ne_eqb p.high p.low (λ e. omega (arith, e, order)), joining counts n pairs one within.1) refl
 
-length-ways : (pairs : List Pair) → length (ways pairs) ≡ 2 * length pairs
+length-ways : (pairs : List RouterPair) → length (ways pairs) ≡ 2 * length pairs
 length-ways [] = refl
 length-ways (p ∷ pairs) = omega (arith, length-ways pairs)
 
-orders_of : (n : ℕ) (pairs : List Pair) → Each (λ p. (p.low < p.high) × (p.high < n)) pairs → Each InOrder pairs
+orders_of : (n : ℕ) (pairs : List RouterPair) → Each (λ p. (p.low < p.high) × (p.high < n)) pairs → Each InOrder pairs
 orders_of n [] all = tt
 orders_of n (p ∷ pairs) all = (all.0.0, orders_of n pairs all.1)
 
-module _ (k : Kind) (n seed : ℕ) (pairs : List Pair) (arcs : List RadioArc) (few : n ≤ 64) (apart : AreApart n (2 * n) pairs) (made : AreMadeArcs k n seed 0 pairs arcs) where
+module _ (k : Kind) (n seed : ℕ) (pairs : List RouterPair) (arcs : List RadioArc) (few : n ≤ 64) (apart : AreApart n (2 * n) pairs) (made : AreMadeArcs k n seed 0 pairs arcs) where
   pub arcs_few : length arcs ≤ 4096
   arcs_few =
       let size : length (map ends_of arcs) ≡ length arcs = length-map arcs ends_of in

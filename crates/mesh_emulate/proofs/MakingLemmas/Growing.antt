@@ -4,7 +4,7 @@ use Rattle.std.specs.List.{flat_map, range_with_len}
 use Rattle.std.proofs.lemmas.Grind.{flat_map-append}
 use Rattle.std.proofs.lemmas.List.{append-nil}
 use Rattle.mesh_atoms.specs.declared.settings.RadioArc.{RadioArc}
-use Rattle.mesh_emulate.specs.declared.making.pairs.Pair.{Pair}
+use Rattle.mesh_emulate.specs.declared.making.pairs.RouterPair.{RouterPair}
 use Rattle.mesh_emulate.specs.Making.Pairs.{joined_with, more_pairs, word}
 use Rattle.mesh_emulate.specs.Making.Scenario.{IsMadeArc, AreMadeArcs}
 use Rattle.mesh_emulate.specs.declared.making.kind.Kind.{Kind}
@@ -25,7 +25,7 @@ flat_more f n =
 
 -- Draws
 
-pub drawn_more : (seed n times : ℕ) (pairs : List Pair) → times < n →
+pub drawn_more : (seed n times : ℕ) (pairs : List RouterPair) → times < n →
     more_pairs seed n (n - 1 + 2 * times) (n - times) pairs
     ≡ more_pairs seed n (n - 1 + 2 * (times + 1)) (n - (times + 1)) (joined_with pairs (word seed (n - 1 + 2 * times) % n) (word seed (n - 1 + 2 * times + 1) % n))
 drawn_more seed n times pairs within =
@@ -36,7 +36,7 @@ drawn_more seed n times pairs within =
 
 -- Arcs
 
-pub arcs_more : (k : Kind) (n seed from : ℕ) (pairs : List Pair) (p : Pair) (arcs : List RadioArc) (there back : RadioArc) (at : ℕ) →
+pub arcs_more : (k : Kind) (n seed from : ℕ) (pairs : List RouterPair) (p : RouterPair) (arcs : List RadioArc) (there back : RadioArc) (at : ℕ) →
     from + 2 * length pairs ≡ at → AreMadeArcs k n seed from pairs arcs →
     IsMadeArc k n seed at p.low p.high there → IsMadeArc k n seed (at + 1) p.high p.low back →
     AreMadeArcs k n seed from (pairs ++ p ∷ []) (arcs ++ there ∷ back ∷ [])

@@ -11,9 +11,9 @@ use Rattle.mesh_atoms.specs.declared.settings.Times.{Times}
 use Rattle.mesh_atoms.specs.Settings.{AreArcs}
 use Rattle.mesh_config.specs.Checks.Compared.{ends_of, stated_lists}
 use Rattle.mesh_config.specs.Fields.{RouterParts, settings_parts, stated_parts, thresholds_of, threshold_pair}
-use Rattle.mesh_config.specs.Senders.{Lists, HaveAllSenders, HaveAllQualities, addr_lists}
+use Rattle.mesh_config.specs.Senders.{AddressLists, HaveAllSenders, HaveAllQualities, addr_lists}
 use Rattle.mesh_config.proofs.Sounds.{counts_same, lists_same}
-use Rattle.mesh_emulate.specs.declared.making.pairs.Pair.{Pair}
+use Rattle.mesh_emulate.specs.declared.making.pairs.RouterPair.{RouterPair}
 use Rattle.mesh_emulate.specs.Making.Scenario.{IsMadeRouter, AreMadeArcs}
 use Rattle.mesh_emulate.specs.Making.Stated.{IsStated, AreStated}
 use Rattle.mesh_emulate.proofs.MakingLemmas.Apart.{AreApart}
@@ -75,14 +75,14 @@ module _ (times : Times) (ss : List RouterSettings) (ds : List StatedRouter) (sa
       let parts : length (map settings_parts ss) ≡ length (map (stated_parts times) ds) = ap (λ (l : List RouterParts). length l) same in
       sym (length-map ss settings_parts) ∙ parts ∙ length-map ds (stated_parts times)
 
-  pub made_arcs : (k : Kind) (n seed : ℕ) (pairs : List Pair) (arcs : List RadioArc) → n ≤ 64 → AreApart n (2 * n) pairs →
+  pub made_arcs : (k : Kind) (n seed : ℕ) (pairs : List RouterPair) (arcs : List RadioArc) → n ≤ 64 → AreApart n (2 * n) pairs →
       AreMadeArcs k n seed 0 pairs arcs →
       AreStated 0 ds → length ds ≡ n → AreArcs (map (λ r. length r.interfaces) ss) (map ends_of arcs)
   made_arcs k n seed pairs arcs few apart made all count =
       rw (counts_same times ss ds same) (arcs_sound k n seed pairs arcs few apart made _ (λ x within. one_each 0 ds all x (omega (arith, within, count))))
 
   pub made_senders : (arcs : List RadioArc) → HaveAllSenders (stated_lists ds) arcs 0 ss → HaveAllSenders (addr_lists ss) arcs 0 ss
-  made_senders arcs have = subst (λ (lists : Lists). HaveAllSenders lists arcs 0 ss) (sym (lists_same times ss ds same)) have
+  made_senders arcs have = subst (λ (lists : AddressLists). HaveAllSenders lists arcs 0 ss) (sym (lists_same times ss ds same)) have
 
   pub made_qualities : (arcs : List (RadioArc × List QualityStep)) → HaveAllQualities (stated_lists ds) arcs 0 ss → HaveAllQualities (addr_lists ss) arcs 0 ss
-  made_qualities arcs have = subst (λ (lists : Lists). HaveAllQualities lists arcs 0 ss) (sym (lists_same times ss ds same)) have
+  made_qualities arcs have = subst (λ (lists : AddressLists). HaveAllQualities lists arcs 0 ss) (sym (lists_same times ss ds same)) have

@@ -9,7 +9,7 @@ use Rattle.mesh_emulate.specs.Making.Made.{IsEndText, IsMadeText, MadeEmulation}
 use Rattle.mesh_emulate.specs.Making.Scenario.{IsMade}
 use Rattle.mesh_atoms.specs.declared.network.Counts.{Counts}
 use Rattle.mesh_atoms.specs.declared.network.NetEvent.{NetEvent}
-use Rattle.mesh_texts.specs.machine.Net.{Net}
+use Rattle.mesh_texts.specs.machine.Net.{NetState}
 use Rattle.mesh_texts.specs.machine.NetRun.{IsOpeningNet, IsOver, NetRun}
 use Rattle.mesh_settled.specs.Gaps.Network.{IsNetwork}
 use Rattle.mesh_texts.proofs.RunStates.{end_is_network, final_count}
@@ -17,17 +17,17 @@ use Rattle.mesh_texts.specs.Runs.{WholeRun}
 use Rattle.mesh_emulate.specs.declared.making.kind.Kind.{Kind}
 
 -- a run of the network of a scenario that ends with this one
-abbrev pub EndsWith : Scenario → Net → Type 0
+abbrev pub EndsWith : Scenario → NetState → Type 0
 EndsWith s net = (run : WholeRun s) × (run.final ≡ net)
 
-pub ends_with : (s : Scenario) (opening net : Net) → IsOpeningNet s opening →
+pub ends_with : (s : Scenario) (opening net : NetState) → IsOpeningNet s opening →
     (events : List NetEvent) × NetRun opening events net × IsOver net → EndsWith s net
 ends_with s opening net opens (events, runs, over) =
     (record { opening = opening; events = events; final = net; is_opening = opens; runs = runs; over = over }, refl)
 
-module _ (s : Scenario) (net : Net) (ends : EndsWith s net) (states : List State) (same : states ≡ net.routers) where
+module _ (s : Scenario) (net : NetState) (ends : EndsWith s net) (states : List State) (same : states ≡ net.routers) where
   its_states : ends.0.final.routers ≡ states
-  its_states = ap (λ (n : Net). n.routers) ends.1 ∙ sym same
+  its_states = ap (λ (n : NetState). n.routers) ends.1 ∙ sym same
 
   pub at_end : (g : RadioGraph) → IsRadioGraph s g → IsNetwork s g states s.end
   at_end g graph = subst (λ (l : List State). IsNetwork s g l s.end) its_states (end_is_network s g ends.0 graph)
@@ -40,7 +40,7 @@ module _ (s : Scenario) (net : Net) (ends : EndsWith s net) (states : List State
   pub made_text_is : (k : Kind) (counts : Counts) → counts ≡ net.traffic.counts → (text : List ℕ) → IsEndText k s states counts text → (run : WholeRun s) × IsMadeText k s run text
   made_text_is k counts are text is = (
     ends.0,
-    subst (λ (c : Counts). IsEndText k s ends.0.final.routers c text) (are ∙ ap (λ (n : Net). n.traffic.counts) (sym ends.1))
+    subst (λ (c : Counts). IsEndText k s ends.0.final.routers c text) (are ∙ ap (λ (n : NetState). n.traffic.counts) (sym ends.1))
         (subst (λ (l : List State). IsEndText k s l counts text) (sym its_states) is),
   )
 

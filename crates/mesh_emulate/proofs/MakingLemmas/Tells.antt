@@ -8,7 +8,7 @@ use Rattle.mesh_atoms.specs.declared.settings.Scenario.{Scenario}
 use Rattle.mesh_atoms.specs.Radio.{Router, RadioLeast}
 use Rattle.mesh_atoms.specs.Settled.{At, Settled}
 use Rattle.mesh_emulate.specs.Making.Lines.{kind_text, made_line, greatest_text, routes_line}
-use Rattle.mesh_emulate.specs.Making.Made.{MadeNetworksRunMachines, MadeNetworksTellSettled, Reached, AreLeastRoutes, TellsLeastRoutes}
+use Rattle.mesh_emulate.specs.Making.Made.{MadeNetworksRunMachines, MadeNetworksTellSettled, Reached, AreRadioRoutes, TellsLeastRoutes}
 use Rattle.mesh_emulate.specs.Making.Routes.{metrics_of, IsGreatest}
 use Rattle.mesh_emulate.proofs.MakingLemmas.Reaching.{all_reached, metrics_same, where_from, is_there, all_apart}
 use Rattle.mesh_paths.proofs.SettledLaw.{settled_rows}
@@ -114,7 +114,7 @@ module _ (s : Scenario) (run : WholeRun s) (settled : Settled s run.final.router
       let at_metric : ℕ → Reached = λ c. record { router = x; dest = dest; metric = c } in
       subst (Contains (all_reached 0 ps)) (ap at_dest to ∙ ap at_metric cost) (is_there 0 x ps x p row (omega arith) at.is within)
 
-  pub least_routes : AreLeastRoutes s (all_reached 0 run.final.routers)
+  pub least_routes : AreRadioRoutes s (all_reached 0 run.final.routers)
   least_routes = record {
     each = λ x dest metric. (least_there x dest metric, least_back x dest metric);
     once = all_apart 0 run.final.routers (λ j p at. (network.sound j p (record { is = at })).routes.ordered);

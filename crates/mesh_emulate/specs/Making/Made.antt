@@ -57,7 +57,7 @@ pub record Reached : Type 0 where
   pub metric : ℕ
 
 -- the least routes of the radio graph: of each router to each destination, each once
-pub record AreLeastRoutes (s : Scenario) (reached : List Reached) : Type 0 where
+pub record AreRadioRoutes (s : Scenario) (reached : List Reached) : Type 0 where
   pub each : (x : ℕ) (dest : NetAddr) (metric : ℕ) →
       Contains reached (record { router = x; dest = dest; metric = metric })
       ↔ (((r : RouterSettings) × Router s x r) × RadioLeast s x dest metric)
@@ -73,5 +73,5 @@ SaysRoutes text count greatest =
 abbrev pub TellsLeastRoutes : Type 0
 TellsLeastRoutes =
     (k : Kind) (n seed : ℕ) (m : MadeEmulation k n seed) → SaysSettled m.text →
-    (reached : List Reached) × AreLeastRoutes m.scenario reached
+    (reached : List Reached) × AreRadioRoutes m.scenario reached
     × (greatest : Option ℕ) × IsGreatest (map (λ r. r.metric) reached) greatest × SaysRoutes m.text (length reached) greatest

@@ -7,7 +7,7 @@ use Rattle.mesh_atoms.specs.declared.settings.RouterSettings.{RouterSettings}
 use Rattle.mesh_atoms.specs.declared.settings.Scenario.{Scenario}
 use Rattle.mesh_config.specs.Fields.{interface_fields, thresholds_of}
 use Rattle.mesh_config.specs.Senders.{HaveAllSenders, addr_lists, with_steps, HaveAllQualities}
-use Rattle.mesh_emulate.specs.declared.making.pairs.Pair.{Pair}
+use Rattle.mesh_emulate.specs.declared.making.pairs.RouterPair.{RouterPair}
 use Rattle.mesh_emulate.specs.Making.Pairs.{ArePairs, word}
 use Rattle.mesh_config.specs.Stated.Router.{InterfaceFields}
 use Rattle.mesh_config.specs.Stated.Times.{TimesIs}
@@ -38,7 +38,7 @@ pub record IsMadeArc (k : Kind) (n seed number from to : ℕ) (arc : RadioArc) :
   pub delay : arc.delay ≡ 9
 
 -- the arcs of pairs, the first of that number: of each pair from its lower router to its higher one, and then back
-abbrev pub AreMadeArcs : Kind → ℕ → ℕ → ℕ → List Pair → List RadioArc → Type 0
+abbrev pub AreMadeArcs : Kind → ℕ → ℕ → ℕ → List RouterPair → List RadioArc → Type 0
 AreMadeArcs k n seed number [] arcs = arcs ≡ []
 AreMadeArcs k n seed number (p ∷ pairs) (there ∷ back ∷ arcs) =
     IsMadeArc k n seed number p.low p.high there × IsMadeArc k n seed (number + 1) p.high p.low back
@@ -84,6 +84,6 @@ pub record IsMade (k : Kind) (n seed : ℕ) (s : Scenario) : Type 0 where
   pub routers : (i : ℕ) (r : RouterSettings) → slice_get s.routers i ≡ Some r → IsMadeRouter i r
   pub senders : HaveAllSenders (addr_lists s.routers) s.arcs 0 s.routers
   pub qualities : HaveAllQualities (addr_lists s.routers) (with_steps s.arcs []) 0 s.routers
-  pub pairs : List Pair
+  pub pairs : List RouterPair
   pub are_pairs : ArePairs k n seed pairs
   pub arcs : AreMadeArcs k n seed 0 pairs s.arcs

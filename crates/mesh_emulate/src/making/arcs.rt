@@ -5,7 +5,7 @@ ghost use Rattle.mesh_atoms.specs.Settings.{IsCount};
 ghost use Rattle.mesh_emulate.specs.Making.Scenario.{cost, loss_of, IsMadeArc, AreMadeArcs};
 
 use crate::making::kind::Kind;
-use crate::making::pairs::Pair;
+use crate::making::pairs::RouterPair;
 use crate::making::words::word_below;
 use mesh_atoms::{Metric, RadioArc, Seq};
 use std::alloc::{AllocError, Global};
@@ -54,7 +54,7 @@ pub fn arcs_of(
     kind: Kind,
     routers: usize,
     seed: u64,
-    pairs: &[Pair],
+    pairs: &[RouterPair],
 ) -> Result<Seq<RadioArc>, AllocError>
     requires count { IsCount 2 64 routers }
     requires few { length pairs.now ≤ 128 }

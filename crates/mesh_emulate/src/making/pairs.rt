@@ -2,7 +2,7 @@
 ghost use Rattle.std.specs.Prelude.{◌≡◌, ◌++◌, ◌≤◌, ◌<◌, IfOk, OnOk};
 ghost use Rattle.std.specs.List.{list_any};
 ghost use Rattle.mesh_atoms.specs.Settings.{IsCount};
-ghost use Rattle.mesh_emulate.specs.Making.Pairs.{pair, pair_if, grid_pairs_of, grid_pairs, IsRowOf, ring_pairs, tree_pairs, same_pair, joined_with, random_pairs, ArePairs};
+ghost use Rattle.mesh_emulate.specs.Making.Pairs.{pair, pair_if, grid_pairs_of, grid_pairs, IsGridWidth, ring_pairs, tree_pairs, same_pair, joined_with, random_pairs, ArePairs};
 
 use crate::making::kind::Kind;
 use crate::making::words::word_below;
@@ -11,17 +11,22 @@ use std::alloc::{AllocError, Global};
 
 /// Two routers by their numbers, the lower one first.
 #[derive(Clone, Copy)]
-pub struct Pair {
+pub struct RouterPair {
     pub low: usize,
     pub high: usize,
 }
 
 // Puts a pair where the test holds.
-fn put_if(pairs: &mut Seq<Pair>, test: bool, low: usize, high: usize) -> Result<(), AllocError>
+fn put_if(
+    pairs: &mut Seq<RouterPair>,
+    test: bool,
+    low: usize,
+    high: usize,
+) -> Result<(), AllocError>
     ensures { OnOk result (pairs.new ≡ pairs.old ++ pair_if test (pair low high)) }
 {
     if test {
-        pairs.push(Pair { low, high })?;
+        pairs.push(RouterPair { low, high })?;
     }
     Ok(())
 }
@@ -29,7 +34,7 @@ fn put_if(pairs: &mut Seq<Pair>, test: bool, low: usize, high: usize) -> Result<
 // How long the rows of so many routers are.
 fn row_of(routers: usize) -> usize
     requires { routers ≤ 64 }
-    ensures is { IsRowOf routers result }
+    ensures is { IsGridWidth routers result }
     ensures few { result ≤ 8 }
 {
     for row in 0..8 {
@@ -41,7 +46,12 @@ fn row_of(routers: usize) -> usize
 }
 
 // Puts the pairs of one router of a grid with the next one and with the one below it.
-fn put_grid(pairs: &mut Seq<Pair>, row: usize, routers: usize, i: usize) -> Result<(), AllocError>
+fn put_grid(
+    pairs: &mut Seq<RouterPair>,
+    row: usize,
+    routers: usize,
+    i: usize,
+) -> Result<(), AllocError>
     requires row { 0 < row }
     requires row_fits { row ≤ 64 }
     requires few { routers ≤ 64 }
@@ -52,7 +62,7 @@ fn put_grid(pairs: &mut Seq<Pair>, row: usize, routers: usize, i: usize) -> Resu
     put_if(pairs, i + row < routers, i, i + row)
 }
 
-fn grid_pairs(alloc: Global, row: usize, routers: usize) -> Result<Seq<Pair>, AllocError>
+fn grid_pairs(alloc: Global, row: usize, routers: usize) -> Result<Seq<RouterPair>, AllocError>
     requires row { 0 < row }
     requires row_fits { row ≤ 64 }
     requires few { routers ≤ 64 }
@@ -65,13 +75,13 @@ fn grid_pairs(alloc: Global, row: usize, routers: usize) -> Result<Seq<Pair>, Al
     Ok(pairs)
 }
 
-fn ring_pairs(alloc: Global, routers: usize) -> Result<Seq<Pair>, AllocError>
+fn ring_pairs(alloc: Global, routers: usize) -> Result<Seq<RouterPair>, AllocError>
     requires { IsCount 2 64 routers }
     ensures { IfOk result (λ pairs. pairs ≡ ring_pairs routers) }
 {
     let mut pairs = Seq::new(alloc);
     for i in 0..routers - 1 {
-        pairs.push(Pair {
+        pairs.push(RouterPair {
             low: i,
             high: i + 1,
         })?;
@@ -80,13 +90,13 @@ fn ring_pairs(alloc: Global, routers: usize) -> Result<Seq<Pair>, AllocError>
     Ok(pairs)
 }
 
-fn tree_pairs(alloc: Global, routers: usize, seed: u64) -> Result<Seq<Pair>, AllocError>
+fn tree_pairs(alloc: Global, routers: usize, seed: u64) -> Result<Seq<RouterPair>, AllocError>
     requires { IsCount 2 64 routers }
     ensures { IfOk result (λ pairs. pairs ≡ tree_pairs seed routers) }
 {
     let mut pairs = Seq::new(alloc);
     for i in 0..routers - 1 {
-        pairs.push(Pair {
+        pairs.push(RouterPair {
             low: word_below(seed, i, i + 1),
             high: i + 1,
         })?;
@@ -95,7 +105,7 @@ fn tree_pairs(alloc: Global, routers: usize, seed: u64) -> Result<Seq<Pair>, All
 }
 
 // Whether two routers are joined.
-fn are_joined(pairs: &[Pair], pair: Pair) -> bool
+fn are_joined(pairs: &[RouterPair], pair: RouterPair) -> bool
     ensures { result ≡ list_any (same_pair pair) pairs.now }
 {
     pairs
@@ -104,15 +114,15 @@ fn are_joined(pairs: &[Pair], pair: Pair) -> bool
 }
 
 // Joins two routers, where they differ and aren't joined yet.
-fn join(pairs: &mut Seq<Pair>, a: usize, b: usize) -> Result<(), AllocError>
+fn join(pairs: &mut Seq<RouterPair>, a: usize, b: usize) -> Result<(), AllocError>
     ensures { OnOk result (pairs.new ≡ joined_with pairs.old a b) }
 {
     let (low, high) = if a < b { (a, b) } else { (b, a) };
-    let free = a != b && !are_joined(pairs.as_slice(), Pair { low, high });
+    let free = a != b && !are_joined(pairs.as_slice(), RouterPair { low, high });
     put_if(pairs, free, low, high)
 }
 
-fn random_pairs(alloc: Global, routers: usize, seed: u64) -> Result<Seq<Pair>, AllocError>
+fn random_pairs(alloc: Global, routers: usize, seed: u64) -> Result<Seq<RouterPair>, AllocError>
     requires { IsCount 2 64 routers }
     ensures { IfOk result (λ pairs. pairs ≡ random_pairs seed routers) }
 {
@@ -132,7 +142,7 @@ pub fn pairs_of(
     kind: Kind,
     routers: usize,
     seed: u64,
-) -> Result<Seq<Pair>, AllocError>
+) -> Result<Seq<RouterPair>, AllocError>
     requires { IsCount 2 64 routers }
     ensures { IfOk result (ArePairs kind routers seed) }
 {

@@ -10,7 +10,7 @@ use Rattle.std.specs.BTreeSet.{BTreeSet, contains, Updates}
 use Rattle.std.specs.Map.{set_value}
 use Rattle.std.specs.Prelude.{option_map}
 use Rattle.mesh_atoms.specs.Base.{Base, HasDistinctKeys, find, SetsOnly, Expires, IsFresh, if_live}
-use Rattle.mesh_expire.specs.Index.Moments.{moment_cmp, is_moment, until_of, Tells, SetsMoment}
+use Rattle.mesh_expire.specs.Index.Moments.{moment_cmp, is_moment, until_of, AreMomentsOf, SetsMoment}
 use Rattle.mesh_expire.specs.Table.{changed_at, TakesExpired}
 use Rattle.mesh_expire.proofs.Laws.{find_same, find-changed_at, changed_at-set_value}
 use Rattle.mesh_atoms.proofs.Options.{none_is_not_some}
@@ -109,7 +109,7 @@ module _ {K : Type 0} (eq : K → K → Bool) (cmp : K → K → Ordering) where
 
   module _ {V : Type 0} where
     -- a key's moment and its entry are set together
-    pub tells_set : (old new : BTreeSet (ℕ × K)) (base base' : Base K V) (key : K) (entry : Option (V × ℕ)) → Tells eq cmp old base → SetsMoment eq cmp old new key (until_of entry) → SetsOnly eq base base' key entry → Tells eq cmp new base'
+    pub tells_set : (old new : BTreeSet (ℕ × K)) (base base' : Base K V) (key : K) (entry : Option (V × ℕ)) → AreMomentsOf eq cmp old base → SetsMoment eq cmp old new key (until_of entry) → SetsOnly eq base base' key entry → AreMomentsOf eq cmp new base'
     tells_set old new base base' key entry tells sets only m q =
         sets m q ∙ ap (λ b. cond (eq key q) (is_moment (until_of entry) m) b) (tells m q) ∙ by_key (eq key q) ∙ ap (λ o. is_moment (until_of o) m) (sym (only q)) where
           by_key : (e : Bool) → cond e (is_moment (until_of entry) m) (is_moment (until_of (find eq base q)) m) ≡ is_moment (until_of (cond e entry (find eq base q))) m
@@ -117,14 +117,14 @@ module _ {K : Type 0} (eq : K → K → Bool) (cmp : K → K → Ordering) where
           by_key false = refl
 
     -- a key has the moment of its entry
-    pub told : (laws : IsEquivalence eq) (moments : BTreeSet (ℕ × K)) (base : Base K V) (key : K) → Tells eq cmp moments base → SetsMoment eq cmp moments moments key (until_of (find eq base key))
+    pub told : (laws : IsEquivalence eq) (moments : BTreeSet (ℕ × K)) (base : Base K V) (key : K) → AreMomentsOf eq cmp moments base → SetsMoment eq cmp moments moments key (until_of (find eq base key))
     told laws moments base key tells m q = by_key (eq key q) refl where
       by_key : (e : Bool) → eq key q ≡ e → contains (moment_cmp cmp) moments (m, q) ≡ cond e (is_moment (until_of (find eq base key)) m) (contains (moment_cmp cmp) moments (m, q))
       by_key true is = tells m q ∙ ap (λ o. is_moment (until_of o) m) (find_same laws key q is base)
       by_key false is = refl
 
     -- the entry of a pair
-    pub of_pair : (moments : BTreeSet (ℕ × K)) (base : Base K V) (moment : ℕ) (key : K) → Tells eq cmp moments base → IsTrue (contains (moment_cmp cmp) moments (moment, key)) → (value : V) × (find eq base key ≡ Some (value, moment))
+    pub of_pair : (moments : BTreeSet (ℕ × K)) (base : Base K V) (moment : ℕ) (key : K) → AreMomentsOf eq cmp moments base → IsTrue (contains (moment_cmp cmp) moments (moment, key)) → (value : V) × (find eq base key ≡ Some (value, moment))
     of_pair moments base moment key tells h = found_moment (find eq base key) moment (sym (tells moment key) ∙ h)
 
     -- an expired entry that goes changes nothing of what is live
@@ -135,7 +135,7 @@ module _ {K : Type 0} (eq : K → K → Bool) (cmp : K → K → Ordering) where
       by_key true is = gone now moment value late ∙ ap (if_live now) (sym (find_same laws key q is base ∙ found))
       by_key false is = refl
 
-    module _ (agree : (x y : K) → eq x y ≡ is_eq (cmp x y)) (laws : IsEquivalence eq) (old new : BTreeSet (ℕ × K)) (base base' : Base K V) (now : ℕ) (key : K) (tells : Tells eq cmp old base)
+    module _ (agree : (x y : K) → eq x y ≡ is_eq (cmp x y)) (laws : IsEquivalence eq) (old new : BTreeSet (ℕ × K)) (base base' : Base K V) (now : ℕ) (key : K) (tells : AreMomentsOf eq cmp old base)
         (taken : (moment : ℕ) × (moment ≤ now) × IsTrue (contains (moment_cmp cmp) old (moment, key)) × Updates (moment_cmp cmp) old new (moment, key) false) where
       -- the key of a pair that goes is in the map
       taken_entry : (value : V) × (find eq base key ≡ Some (value, taken.0))
@@ -145,7 +145,7 @@ module _ {K : Type 0} (eq : K → K → Bool) (cmp : K → K → Ordering) where
       never_absent none = none_is_not_some (taken_entry.0, taken.0) (none ∙ taken_entry.1)
 
       -- a pair goes, and with it the entry of its key
-      pub goes_with : SetsOnly eq base base' key None → Tells eq cmp new base'
+      pub goes_with : SetsOnly eq base base' key None → AreMomentsOf eq cmp new base'
       goes_with only =
           let was : SetsMoment eq cmp old old key (Some taken.0) = subst (λ (o : Option (V × ℕ)). SetsMoment eq cmp old old key (until_of o)) taken_entry.1 (told laws old base key tells) in
           tells_set old new base base' key None tells (goes_out eq cmp agree old new key taken.0 was taken.3) only
@@ -158,7 +158,7 @@ module _ {K : Type 0} (eq : K → K → Bool) (cmp : K → K → Ordering) where
           record { until = until; stood = sym is; late = rw (same_until (value, until) (taken_entry.0, taken.0) (is ∙ taken_entry.1)) taken.1; gone = only }
 
     -- where no pair is expired, no entry is
-    pub all_live : (moments : BTreeSet (ℕ × K)) (base old : Base K V) (now : ℕ) → Tells eq cmp moments base → ((moment : ℕ) (key : K) → IsTrue (contains (moment_cmp cmp) moments (moment, key)) → now < moment)
+    pub all_live : (moments : BTreeSet (ℕ × K)) (base old : Base K V) (now : ℕ) → AreMomentsOf eq cmp moments base → ((moment : ℕ) (key : K) → IsTrue (contains (moment_cmp cmp) moments (moment, key)) → now < moment)
         → ((q : K) → if_live now (find eq base q) ≡ if_live now (find eq old q)) → Expires eq now old base
     all_live moments base old now tells later live q = by_entry (find eq base q) refl ∙ live q where
       by_entry : (o : Option (V × ℕ)) → find eq base q ≡ o → find eq base q ≡ if_live now (find eq base q)
@@ -167,7 +167,7 @@ module _ {K : Type 0} (eq : K → K → Bool) (cmp : K → K → Ordering) where
           let has : IsTrue (contains (moment_cmp cmp) moments (e.1, q)) = tells e.1 q ∙ ap (λ o. is_moment (until_of o) e.1) is ∙ nat_eq_equiv.refl e.1 in
           rw (is, lt-ltb now e.1 (later e.1 q has)) refl
 
-    pub none_expired : (moments : BTreeSet (ℕ × K)) (base : Base K V) (now : ℕ) → Tells eq cmp moments base
+    pub none_expired : (moments : BTreeSet (ℕ × K)) (base : Base K V) (now : ℕ) → AreMomentsOf eq cmp moments base
         → ((moment : ℕ) (key : K) → IsTrue (contains (moment_cmp cmp) moments (moment, key)) → now < moment) → IsFresh eq now base
     none_expired moments base now tells later q value until found =
         lt-ltb now until (later until q (tells until q ∙ ap (λ o. is_moment (until_of o) until) found ∙ nat_eq_equiv.refl until))
@@ -182,6 +182,6 @@ module _ {K : Type 0} (eq : K → K → Bool) (cmp : K → K → Ordering) where
     same_moment value false o = refl
 
     -- another record leaves the moments
-    pub still_told : (laws : IsEquivalence eq) (moments : BTreeSet (ℕ × K)) (base new : Base K V) (key : K) (value : V) → Tells eq cmp moments base → new ≡ changed_at eq base key (λ e. (value, e.1)) → Tells eq cmp moments new
+    pub still_told : (laws : IsEquivalence eq) (moments : BTreeSet (ℕ × K)) (base new : Base K V) (key : K) (value : V) → AreMomentsOf eq cmp moments base → new ≡ changed_at eq base key (λ e. (value, e.1)) → AreMomentsOf eq cmp moments new
     still_told laws moments base new key value tells h m q =
         tells m q ∙ ap (λ o. is_moment o m) (same_moment value (eq key q) (find eq base q) ∙ ap until_of (sym (find-changed_at laws key (λ e. (value, e.1)) q base)) ∙ ap (λ (l : Base K V). until_of (find eq l q)) (sym h))

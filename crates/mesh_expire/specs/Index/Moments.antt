@@ -19,8 +19,8 @@ abbrev pub until_of : {V : Type 0} → Option (V × ℕ) → Option ℕ
 until_of entry = option_map (λ e. e.1) entry
 
 -- the set has exactly the pair of each entry
-abbrev pub Tells : {K V : Type 0} → (K → K → Bool) → (K → K → Ordering) → BTreeSet (ℕ × K) → Base K V → Type 0
-Tells {K} eq cmp moments base =
+abbrev pub AreMomentsOf : {K V : Type 0} → (K → K → Bool) → (K → K → Ordering) → BTreeSet (ℕ × K) → Base K V → Type 0
+AreMomentsOf {K} eq cmp moments base =
     (moment : ℕ) (key : K) → contains (moment_cmp cmp) moments (moment, key) ≡ is_moment (until_of (find eq base key)) moment
 
 -- the set has the keys' pairs as before, and at that key those moments

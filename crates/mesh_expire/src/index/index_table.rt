@@ -3,7 +3,7 @@ ghost use Rattle.std.specs.Prelude.{◌≡◌, ◌≤◌, ◌<◌, ℕ, ◌+◌,
 ghost use Rattle.std.specs.BTreeSet.{contains, btree_set_len, Updates, IsUnchanged};
 ghost use Rattle.mesh_atoms.specs.Base.{HasDistinctKeys, find, SetsOnly, Expires, IsFresh};
 ghost use Rattle.mesh_expire.specs.Table.{changed_at, TakesExpired};
-ghost use Rattle.mesh_expire.specs.Index.Moments.{moment_cmp, is_moment, until_of, Tells, SetsMoment};
+ghost use Rattle.mesh_expire.specs.Index.Moments.{moment_cmp, is_moment, until_of, AreMomentsOf, SetsMoment};
 
 use crate::{Key, Table};
 use indexmap::IndexMap;
@@ -21,13 +21,13 @@ pub struct IndexTable<K: Key + Ord + Hash, V> {
 
 impl<K: Key + Ord + Hash, V> Model for IndexTable<K, V> {
     ghost use Rattle.mesh_atoms.specs.Base.{Base};
-    ghost use Rattle.mesh_expire.specs.Index.Moments.{Tells};
+    ghost use Rattle.mesh_expire.specs.Index.Moments.{AreMomentsOf};
 
     ghost Value = { Base K V };
 
     ghost view = { λ t. t.map.entries };
 
-    ghost invariant = { λ t. Tells K.eq K.cmp t.moments t.map.entries };
+    ghost invariant = { λ t. AreMomentsOf K.eq K.cmp t.moments t.map.entries };
 }
 
 // Takes out the pair that ends first, where its moment is at or below now, and gives its key.
@@ -77,9 +77,9 @@ fn add_in<K: Key + Ord + Hash + Drop, V: Drop>(
     value: V,
     until: u64,
 ) -> Result<(), AllocError>
-    requires tells { Tells K.eq K.cmp moments.old map.old.entries }
+    requires tells { AreMomentsOf K.eq K.cmp moments.old map.old.entries }
     requires absent { find K.eq map.old.entries key ≡ None }
-    ensures tells { Tells K.eq K.cmp moments.new map.new.entries }
+    ensures tells { AreMomentsOf K.eq K.cmp moments.new map.new.entries }
     ensures distinct { HasDistinctKeys K.eq map.new.entries }
     ensures ok { OnOk result (SetsOnly K.eq map.old.entries map.new.entries key (Some (value, until))) }
     ensures err { OnErr result (map.new.entries ≡ map.old.entries) }
@@ -102,8 +102,8 @@ fn put_in<K: Key + Ord + Hash + Drop, V: Drop>(
     value: V,
     until: u64,
 ) -> Result<(), AllocError>
-    requires { Tells K.eq K.cmp moments.old map.old.entries }
-    ensures tells { Tells K.eq K.cmp moments.new map.new.entries }
+    requires { AreMomentsOf K.eq K.cmp moments.old map.old.entries }
+    ensures tells { AreMomentsOf K.eq K.cmp moments.new map.new.entries }
     ensures distinct { HasDistinctKeys K.eq map.new.entries }
     ensures ok { OnOk result (SetsOnly K.eq map.old.entries map.new.entries key (Some (value, until))) }
     ensures err { OnErr result (map.new.entries ≡ map.old.entries) }
@@ -124,8 +124,8 @@ fn remove_from<K: Key + Ord + Hash + Drop, V: Drop>(
     moments: &mut BTreeSet<(u64, K)>,
     key: &K,
 ) -> bool
-    requires { Tells K.eq K.cmp moments.old map.old.entries }
-    ensures tells { Tells K.eq K.cmp moments.new map.new.entries }
+    requires { AreMomentsOf K.eq K.cmp moments.old map.old.entries }
+    ensures tells { AreMomentsOf K.eq K.cmp moments.new map.new.entries }
     ensures distinct { HasDistinctKeys K.eq map.new.entries }
     ensures found { IsTrue result ↔ IsSome (find K.eq map.old.entries key.now) }
     ensures removed { SetsOnly K.eq map.old.entries map.new.entries key.now None }
@@ -144,8 +144,8 @@ fn drop_expired<K: Key + Ord + Hash + Drop, V: Drop>(
     moments: &mut BTreeSet<(u64, K)>,
     now: u64,
 ) -> usize
-    requires { Tells K.eq K.cmp moments.old map.old.entries }
-    ensures tells { Tells K.eq K.cmp moments.new map.new.entries }
+    requires { AreMomentsOf K.eq K.cmp moments.old map.old.entries }
+    ensures tells { AreMomentsOf K.eq K.cmp moments.new map.new.entries }
     ensures distinct { HasDistinctKeys K.eq map.new.entries }
     ensures kept { Expires K.eq now map.old.entries map.new.entries }
     ensures count { result + length map.new.entries ≡ length map.old.entries }
@@ -162,8 +162,8 @@ fn take_next<K: Key + Ord + Hash + Drop, V: Drop>(
     moments: &mut BTreeSet<(u64, K)>,
     now: u64,
 ) -> Option<(K, V)>
-    requires { Tells K.eq K.cmp moments.old map.old.entries }
-    ensures tells { Tells K.eq K.cmp moments.new map.new.entries }
+    requires { AreMomentsOf K.eq K.cmp moments.old map.old.entries }
+    ensures tells { AreMomentsOf K.eq K.cmp moments.new map.new.entries }
     ensures distinct { HasDistinctKeys K.eq map.new.entries }
     ensures some { IfSome result (λ e. TakesExpired K.eq now e.0 e.1 map.old.entries map.new.entries) }
     ensures none { IfNone result (map.new.entries ≡ map.old.entries) }
@@ -188,8 +188,8 @@ fn set_until_in<K: Key + Ord + Hash + Drop, V>(
     key: &K,
     until: u64,
 ) -> Result<bool, AllocError>
-    requires { Tells K.eq K.cmp moments.old map.old.entries }
-    ensures tells { Tells K.eq K.cmp moments.new map.new.entries }
+    requires { AreMomentsOf K.eq K.cmp moments.old map.old.entries }
+    ensures tells { AreMomentsOf K.eq K.cmp moments.new map.new.entries }
     ensures distinct { HasDistinctKeys K.eq map.new.entries }
     ensures found { IfOk result (λ was_there. IsTrue was_there ↔ IsSome (find K.eq map.old.entries key.now)) }
     ensures ok { OnOk result (map.new.entries ≡ changed_at K.eq map.old.entries key.now (λ e. (e.0, until))) }

@@ -20,7 +20,7 @@ use Rattle.mesh_atoms.specs.Sound.{SoundNeighbourhood}
 use Rattle.mesh_atoms.specs.State.{State, Neighbourhood, IsOriginator}
 use Rattle.mesh_atoms.proofs.Lookups.{has_found, addr_equiv, same_addr, link_equiv, same_link}
 use Rattle.mesh_hello.proofs.Collect.{adds_one, taken_more}
-use Rattle.mesh_hello.specs.Saying.Said.{AreDisjoint, IsSeen, IsRowOf, said_addresses}
+use Rattle.mesh_hello.specs.Saying.Said.{AreDisjoint, IsSeen, IsHelloRowOf, said_addresses}
 use Rattle.mesh_hello.proofs.SayingLemmas.Somewhere.{told_all}
 use Rattle.mesh_atoms.proofs.Options.{same_some}
 use Rattle.mesh_atoms.proofs.Lists.{contains_map, contains_map_cases}
@@ -30,7 +30,7 @@ pub record IsHelloOf (settings : RouterSettings) (links : Base LinkKey Link) (ne
   pub ascending : IsAscending list
   pub same : (a : Addr4) → Contains list a ↔ Contains (said_addresses settings links neighbours losts) a
   pub addrs : map (λ (row : HelloRow). row.addr) hello.rows ≡ map host list
-  pub says : (row : HelloRow) → Contains hello.rows row → (a : Addr4) × IsRowOf settings links neighbours losts relays i now row a
+  pub says : (row : HelloRow) → Contains hello.rows row → (a : Addr4) × IsHelloRowOf settings links neighbours losts relays i now row a
   pub originator : (o : Addr4) × IsOriginator settings o × (hello.originator ≡ Some o)
   pub validity : IsRoundedUp settings.times.hold hello.validity
   pub interval : (time : ℕ) × (hello.interval ≡ Some time) × IsRoundedUp settings.times.hello time

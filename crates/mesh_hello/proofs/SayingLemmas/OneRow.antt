@@ -21,7 +21,7 @@ use Rattle.mesh_links.specs.Links.{HasLinkWith}
 use Rattle.mesh_atoms.specs.Hello.{IsHelloRow}
 use Rattle.mesh_atoms.specs.Words.{IsValue}
 use Rattle.mesh_atoms.specs.State.{State}
-use Rattle.mesh_hello.specs.Saying.Said.{IsLinkWith, IsNeighbourWith, AreDisjoint, IsLocalOn, IsRelayOf, IsFloodingRelay, IsRowOf, said_addresses, link_status_said, other_said, link_in_said, link_out_said, near_in_said, near_out_said}
+use Rattle.mesh_hello.specs.Saying.Said.{IsLinkWith, IsNeighbourWith, AreDisjoint, IsLocalOn, IsRelayOf, IsFloodingRelayOver, IsHelloRowOf, said_addresses, link_status_said, other_said, link_in_said, link_out_said, near_in_said, near_out_said}
 use Rattle.mesh_hello.proofs.SayingLemmas.Parts.{IsStatus, is_status, is_only, local_told, link_told, other_told, link_in_told, link_out_told, near_in_told, near_out_told, flooding_told, routing_told}
 use Rattle.mesh_hello.proofs.SayingLemmas.Somewhere.{told_some}
 use Rattle.mesh_hello.proofs.Collect.{iff_on}
@@ -46,7 +46,7 @@ pub record IsMadeOf (settings : RouterSettings) (links : Base LinkKey Link) (nei
   pub link_out : row.metrics.link_out ≡ link_out_said row.link linked
   pub near_in : row.metrics.near_in ≡ near_in_said near
   pub near_out : row.metrics.near_out ≡ near_out_said near
-  pub flooding : IsTrue row.mpr.flooding ↔ IsFloodingRelay relays.flooding i row.link near
+  pub flooding : IsTrue row.mpr.flooding ↔ IsFloodingRelayOver relays.flooding i row.link near
   pub routing : IsTrue row.mpr.routing ↔ IsRelayOf relays.routing near
 
 row_here : (s : State) (links : Base LinkKey Link) (i now : ℕ) (row : HelloRow) (a : Addr4) → slice_get s.bases.neighbourhood.links i ≡ Some links →
@@ -75,7 +75,7 @@ row_here s links i now row a at apart told made =
 -- in each state that has these settings, tuples and relays
 pub row_of : (settings : RouterSettings) (links : Base LinkKey Link) (neighbours : Base Addr4 Neighbour) (losts : Base Addr4 Lost) (relays : Relays) (i now : ℕ) (row : HelloRow) (a : Addr4) →
     AreDisjoint links neighbours losts → Contains (said_addresses settings links neighbours losts) a → IsMadeOf settings links neighbours losts relays i now row a →
-    IsRowOf settings links neighbours losts relays i now row a
+    IsHelloRowOf settings links neighbours losts relays i now row a
 row_of settings links neighbours losts relays i now row a apart told made = record {
   says = λ s seen. row_here s links i now row a seen.links_are
       (rw (seen.neighbours_are, seen.losts_are) apart)

@@ -24,7 +24,7 @@ use Rattle.mesh_atoms.specs.declared.tuples.LinkState.TheVariants.{Pending as Is
 use Rattle.mesh_atoms.specs.State.{State, state_of, HasLink, HasSymmetricWith, HasAddressOn}
 use Rattle.mesh_expire.specs.Table.{entry_of}
 use Rattle.mesh_hello.proofs.Lookups.{none_not}
-use Rattle.mesh_hello.specs.Saying.Said.{IsLinkWith, IsNeighbourWith, AreDisjoint, IsLocalOn, IsRelayOf, IsFloodingRelay, link_status_said, other_said, link_in_said, link_out_said, near_in_said, near_out_said}
+use Rattle.mesh_hello.specs.Saying.Said.{IsLinkWith, IsNeighbourWith, AreDisjoint, IsLocalOn, IsRelayOf, IsFloodingRelayOver, link_status_said, other_said, link_in_said, link_out_said, near_in_said, near_out_said}
 use Rattle.mesh_atoms.proofs.Options.{same_some}
 
 pub lent : {K V : Type 0} (o : Option (Bor K × Bor V × ℕ)) (e : Bor K × Bor V × ℕ) → o ≡ Some e → entry_of o ≡ Some (e.0.now, (e.1.now, e.2))
@@ -229,7 +229,7 @@ module _ (s : State) (i now : ℕ) (a : Addr4) (links : Base LinkKey Link) (at :
     other_told (Some Heard) (Some e) false is only tells = still e (Some Heard) only is (not_symmetric refl)
 
     pub flooding_told : (status : Option LinkStatus) (neighbour : Option (Addr4 × (Neighbour × ℕ))) → IsStatus s i now a link status → IsOnlyNeighbour s a neighbour →
-        IsFloodingRelay s.relays.flooding i status neighbour ↔ Says s i now a Flooding
+        IsFloodingRelayOver s.relays.flooding i status neighbour ↔ Says s i now a Flooding
     flooding_told status neighbour is only = (
       (λ w.
           let (e, _, to) = is.told Symmetric w.symmetric in

@@ -85,7 +85,7 @@ pub record IsRelayOf (relays : List Addr4) (neighbour : Option (Addr4 × (Neighb
   pub has : Contains relays entry.0
 
 -- the neighbour is a flooding relay of interface i, and the link with the address is SYMMETRIC
-pub record IsFloodingRelay (flooding : List (List Addr4)) (i : ℕ) (status : Option LinkStatus) (neighbour : Option (Addr4 × (Neighbour × ℕ))) : Type 0 where
+pub record IsFloodingRelayOver (flooding : List (List Addr4)) (i : ℕ) (status : Option LinkStatus) (neighbour : Option (Addr4 × (Neighbour × ℕ))) : Type 0 where
   pub list : List Addr4
   pub at : slice_get flooding i ≡ Some list
   pub symmetric : status ≡ Some Symmetric
@@ -119,6 +119,6 @@ pub record IsSeen (s : State) (settings : RouterSettings) (links : Base LinkKey 
   pub relays_are : s.relays ≡ relays
 
 -- in each such state the row is that of the address in the HELLO of interface i
-pub record IsRowOf (settings : RouterSettings) (links : Base LinkKey Link) (neighbours : Base Addr4 Neighbour)
+pub record IsHelloRowOf (settings : RouterSettings) (links : Base LinkKey Link) (neighbours : Base Addr4 Neighbour)
     (losts : Base Addr4 Lost) (relays : Relays) (i now : ℕ) (row : HelloRow) (a : Addr4) : Type 0 where
   pub says : (s : State) → IsSeen s settings links neighbours losts relays i → IsHelloRow s i now row a

@@ -1,7 +1,7 @@
 //! The rows of a HELLO.
 ghost use Rattle.std.specs.Prelude.{◌≡◌, ◌↔◌, IsTrue, Contains, IfOk, map};
 ghost use Rattle.mesh_atoms.specs.Base.{Has, HasDistinctKeys, addr_eq, host};
-ghost use Rattle.mesh_hello.specs.Saying.Said.{AreDisjoint, IsRowOf, said_addresses};
+ghost use Rattle.mesh_hello.specs.Saying.Said.{AreDisjoint, IsHelloRowOf, said_addresses};
 
 use crate::saying::said_of::{
     is_flooding_relay, is_relay, link_in_said, link_out_said, link_status_said, local_of,
@@ -38,7 +38,7 @@ fn row_of<L: Table<LinkKey, Link>, N: Table<Addr4, Neighbour>, O: Table<Addr4, L
     requires apart { AreDisjoint links.now neighbours.now (O.content losts.now) }
     requires said { Contains (said_addresses settings.now links.now neighbours.now (O.content losts.now)) addr }
     ensures addr { result.addr ≡ host addr }
-    ensures says { IsRowOf settings.now links.now neighbours.now (O.content losts.now) relays.now iface now result addr }
+    ensures says { IsHelloRowOf settings.now links.now neighbours.now (O.content losts.now) relays.now iface now result addr }
 {
     let link = links.with_address(addr);
     let neighbour = neighbour_with(neighbours, addr);
@@ -77,7 +77,7 @@ pub fn rows_of<L: Table<LinkKey, Link>, N: Table<Addr4, Neighbour>, O: Table<Add
     requires said { (a : Addr4) → Contains addrs.now a → Contains (said_addresses settings.now links.now neighbours.now (O.content losts.now)) a }
     ensures addrs { IfOk result (λ rows. map (λ row. row.addr) rows ≡ map host addrs.now) }
     ensures says { IfOk result (λ rows. (row : HelloRow) → Contains rows row → (a : Addr4) ×
-        IsRowOf settings.now links.now neighbours.now (O.content losts.now) relays.now iface now row a) }
+        IsHelloRowOf settings.now links.now neighbours.now (O.content losts.now) relays.now iface now row a) }
 {
     let mut rows = Seq::new(alloc);
     for addr in addrs {

@@ -4,7 +4,7 @@ ghost use Rattle.mesh_atoms.specs.Words.{IsValue};
 ghost use Rattle.mesh_atoms.specs.Base.{HasDistinctKeys, addr_eq};
 ghost use Rattle.mesh_atoms.specs.State.{HasAddressOn};
 ghost use Rattle.mesh_expire.specs.Table.{entry_of};
-ghost use Rattle.mesh_hello.specs.Saying.Said.{IsNeighbourWith, link_status_said, other_said, link_in_said, link_out_said, near_in_said, near_out_said, IsRelayOf, IsFloodingRelay, IsLocalOn};
+ghost use Rattle.mesh_hello.specs.Saying.Said.{IsNeighbourWith, link_status_said, other_said, link_in_said, link_out_said, near_in_said, near_out_said, IsRelayOf, IsFloodingRelayOver, IsLocalOn};
 
 use mesh_atoms::{
     Addr4, Link, LinkKey, LinkStatus, LocalIf, Metric, Neighbour, OtherStatus, RouterSettings, Seq,
@@ -155,7 +155,7 @@ pub fn is_flooding_relay(
     status: Option<LinkStatus>,
     neighbour: Option<(&Addr4, &Neighbour, u64)>,
 ) -> bool
-    ensures { IsTrue result ↔ IsFloodingRelay flooding.now iface status (entry_of neighbour.entry) }
+    ensures { IsTrue result ↔ IsFloodingRelayOver flooding.now iface status (entry_of neighbour.entry) }
 {
     match (status, flooding.get(iface)) {
         (Some(LinkStatus::Symmetric), Some(relays)) => is_relay(relays.as_slice(), neighbour),

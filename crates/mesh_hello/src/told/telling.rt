@@ -11,7 +11,7 @@ use std::alloc::{AllocError, Global};
 
 /// What a HELLO tells: of the link that it came over, with the key of that link, and of its sender.
 #[derive(Drop)]
-pub struct Telling {
+pub struct HelloInfo {
     pub shown: Shown,
     pub least: LinkKey,
     pub listed: Seq<Addr4>,
@@ -59,7 +59,7 @@ pub fn tell(
     sender: Addr4,
     hello: &Hello,
     own: &[Addr4],
-) -> Result<Telling, AllocError>
+) -> Result<HelloInfo, AllocError>
     requires iface { iface < length settings.now.interfaces }
     requires own { (a : Addr4) → Contains own.now a ↔ HasAddress settings.now a }
     ensures { IfOk result (λ telling. Tells settings.now iface sender hello.now (told_of telling)) }
@@ -80,7 +80,7 @@ pub fn tell(
         selector: tells_mine(hello, here, Sign::Flooding),
         validity: hello.validity,
     };
-    Ok(Telling {
+    Ok(HelloInfo {
         shown,
         least,
         listed,

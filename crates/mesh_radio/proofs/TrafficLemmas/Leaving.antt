@@ -6,7 +6,7 @@ use Rattle.mesh_atoms.specs.declared.settings.RadioArc.{RadioArc}
 use Rattle.std.proofs.lemmas.Option.{slice_get_read, get_or_from_slice_get}
 use Rattle.mesh_atoms.specs.declared.settings.RouterSettings.{RouterSettings}
 use Rattle.mesh_machine.specs.Traffic.{leaves, leaving}
-use Rattle.mesh_radio.specs.Traffic.Ways.{AreWays, AreWaysOf}
+use Rattle.mesh_radio.specs.Traffic.Ways.{AreArcsOut, AreWaysOf}
 use Rattle.mesh_machine.proofs.Places.{each_more}
 use Rattle.mesh_atoms.proofs.Lists.{length_pushed as longer}
 
@@ -33,7 +33,7 @@ router_more arcs x n old new list p is h = rw p (record {
 })
 
 pub all_more : (arcs : List RadioArc) (routers : List RouterSettings) (x : ℕ) (router : RouterSettings) (old new : List (List (List (ℕ × RadioArc)))) (list : List (List (ℕ × RadioArc))) →
-    x < length routers → router ≡ get_or routers x router → new ≡ old ++ list ∷ [] → AreWaysOf arcs x (length router.interfaces) list → AreWays arcs routers x old → AreWays arcs routers (x + 1) new
+    x < length routers → router ≡ get_or routers x router → new ≡ old ++ list ∷ [] → AreWaysOf arcs x (length router.interfaces) list → AreArcsOut arcs routers x old → AreArcsOut arcs routers (x + 1) new
 all_more arcs routers x router old new list lt is p ways h = rw p (record {
   count_is = longer x old list h.count_is;
   leave = each_more (λ y l. (r : RouterSettings) → slice_get routers y ≡ Some r → AreWaysOf arcs y (length r.interfaces) l) old list h.leave
@@ -42,7 +42,7 @@ all_more arcs routers x router old new list lt is p ways h = rw p (record {
 
 -- the list at an interface of a router
 pub way_at : (arcs : List RadioArc) (routers : List RouterSettings) (count x i : ℕ) (ways : List (List (List (ℕ × RadioArc)))) (router : RouterSettings) (list : List (List (ℕ × RadioArc))) (way : List (ℕ × RadioArc)) →
-    AreWays arcs routers count ways → slice_get routers x ≡ Some router → x < count → list ≡ get_or ways x list → i < length router.interfaces → way ≡ get_or list i way → way ≡ leaving arcs x i
+    AreArcsOut arcs routers count ways → slice_get routers x ≡ Some router → x < count → list ≡ get_or ways x list → i < length router.interfaces → way ≡ get_or list i way → way ≡ leaving arcs x i
 way_at arcs routers count x i ways router list way h at lt is below there =
     let of = h.leave x list (slice_get_read ways count x list (sym h.count_is) lt is) router at in
     of.leave i way (slice_get_read list (length router.interfaces) i way (sym of.count) below there)

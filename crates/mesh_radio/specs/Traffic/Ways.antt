@@ -10,7 +10,7 @@ pub record AreWaysOf (arcs : List RadioArc) (x interfaces : ℕ) (ways : List (L
   pub leave : (i : ℕ) (list : List (ℕ × RadioArc)) → slice_get ways i ≡ Some list → list ≡ leaving arcs x i
 
 -- the arcs that leave each interface of the first routers, so many
-pub record AreWays (arcs : List RadioArc) (routers : List RouterSettings) (count : ℕ) (ways : List (List (List (ℕ × RadioArc)))) : Type 0 where
+pub record AreArcsOut (arcs : List RadioArc) (routers : List RouterSettings) (count : ℕ) (ways : List (List (List (ℕ × RadioArc)))) : Type 0 where
   pub count_is : length ways ≡ count
   pub leave : (x : ℕ) (list : List (List (ℕ × RadioArc))) → slice_get ways x ≡ Some list → (router : RouterSettings) →
       slice_get routers x ≡ Some router → AreWaysOf arcs x (length router.interfaces) list

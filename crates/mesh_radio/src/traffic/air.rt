@@ -11,21 +11,21 @@ use std::rc::Rc;
 
 /// When a frame is heard, and the number of its delivery in order of sending and then arc.
 #[derive(Clone, Copy, PartialEq, Eq, PartialOrd, Ord)]
-pub struct Turn {
+pub struct DeliveryOrder {
     pub moment: u64,
     pub number: u64,
 }
 
 /// The arc by which a frame comes, and the frame, which is kept and read once for all who hear it.
 #[derive(Drop)]
-pub struct Flight {
+pub struct FrameInFlight {
     pub arc: usize,
     pub frame: Rc<TypedFrame>,
 }
 
 /// A frame that is heard.
 #[derive(Drop)]
-pub struct Landed {
+pub struct ArrivedFrame {
     pub moment: u64,
     pub arc: usize,
     pub frame: Rc<TypedFrame>,
@@ -33,30 +33,30 @@ pub struct Landed {
 
 /// The frames in the air. Contracts see them in order of sending and then arc.
 #[derive(Drop)]
-pub struct Air {
-    flights: BTreeMap<Turn, Flight>,
+pub struct FramesInAir {
+    flights: BTreeMap<DeliveryOrder, FrameInFlight>,
     /// How many deliveries were put in the air so far.
     made: u64,
 }
 
-impl Model for Air {
+impl Model for FramesInAir {
     ghost use Rattle.std.specs.Prelude.{List};
     ghost use Rattle.mesh_machine.specs.Traffic.{Delivery};
-    ghost use Rattle.mesh_radio.specs.Traffic.Flights.{in_order, AreMade};
+    ghost use Rattle.mesh_radio.specs.Traffic.Flights.{in_order, AreNumberedBelow};
 
     ghost Value = { List Delivery };
 
     ghost view = { λ a. in_order a.flights.entries };
 
-    ghost invariant = { λ a. AreMade a.made a.flights.entries };
+    ghost invariant = { λ a. AreNumberedBelow a.made a.flights.entries };
 }
 
-impl Air {
+impl FramesInAir {
     /// Nothing.
-    pub fn new(alloc: Global) -> Air
+    pub fn new(alloc: Global) -> FramesInAir
         ensures { result ≡ [] }
     {
-        Air {
+        FramesInAir {
             flights: BTreeMap::new(alloc),
             made: 0,
         }
@@ -70,17 +70,17 @@ impl Air {
         let Some(made) = self.made.checked_add(1) else {
             return Err(AllocError);
         };
-        let turn = Turn {
+        let turn = DeliveryOrder {
             moment,
             number: self.made,
         };
-        self.flights.insert(turn, Flight { arc, frame })?;
+        self.flights.insert(turn, FrameInFlight { arc, frame })?;
         self.made = made;
         Ok(())
     }
 
     /// Takes the frame that is heard first, if that is no later than a moment.
-    pub fn take(&mut self, limit: u64) -> Option<Landed>
+    pub fn take(&mut self, limit: u64) -> Option<ArrivedFrame>
         ensures first { MatchOption result (self.new ≡ self.old) (λ landed. IsHeardFirst self.old (delivery_of landed) self.new) }
         ensures limit { MatchOption result (All (λ d. limit < d.moment) self.old) (λ landed. landed.moment ≤ limit) }
     {
@@ -88,7 +88,9 @@ impl Air {
         if turn.moment > limit {
             return None;
         }
-        let (Turn { moment, .. }, Flight { arc, frame }) = self.flights.pop_first()?;
-        Some(Landed { moment, arc, frame })
+        let (DeliveryOrder { moment, .. }, FrameInFlight { arc, frame }) = self
+            .flights
+            .pop_first()?;
+        Some(ArrivedFrame { moment, arc, frame })
     }
 }

@@ -5,11 +5,11 @@ ghost use Rattle.mesh_atoms.specs.declared.settings.RouterSettings.{RouterSettin
 ghost use Rattle.mesh_machine.specs.Sendable.{IsSendable};
 ghost use Rattle.mesh_machine.specs.Traffic.{IsLossy, IsLost, Spreads, Sends, SendsAll, frame_of, next_count};
 ghost use Rattle.mesh_radio.specs.Traffic.Traffic.{traffic_of};
-ghost use Rattle.mesh_radio.specs.Traffic.Ways.{AreWays};
+ghost use Rattle.mesh_radio.specs.Traffic.Ways.{AreArcsOut};
 
-use crate::traffic::air::Air;
+use crate::traffic::air::FramesInAir;
 use crate::traffic::draws::Draws;
-use crate::traffic::ways::{Ways, leaving_of};
+use crate::traffic::ways::{ArcsOut, leaving_of};
 use mesh_atoms::{Bytes, Counts, Emission, RadioArc, Scenario, Seq};
 use mesh_core::{Outbox, TypedFrame};
 use std::alloc::{AllocError, Global};
@@ -17,8 +17,8 @@ use std::rc::Rc;
 
 /// What is in the air, what was counted, and the draws.
 #[derive(Drop)]
-pub struct Traffic {
-    pub air: Air,
+pub struct RadioTraffic {
+    pub air: FramesInAir,
     pub counts: Counts,
     pub draws: Draws,
 }
@@ -27,13 +27,13 @@ pub struct Traffic {
 pub fn send_all(
     alloc: Global,
     scenario: &Scenario,
-    ways: &Seq<Seq<Ways>>,
+    ways: &Seq<Seq<ArcsOut>>,
     now: u64,
     router: usize,
     outbox: &Outbox,
-    traffic: &mut Traffic,
+    traffic: &mut RadioTraffic,
 ) -> Result<Seq<Emission>, AllocError>
-    requires ways { AreWays scenario.now.arcs scenario.now.routers (length scenario.now.routers) ways.now }
+    requires ways { AreArcsOut scenario.now.arcs scenario.now.routers (length scenario.now.routers) ways.now }
     requires sendable { (settings : RouterSettings) × (slice_get scenario.now.routers router ≡ Some settings) × All (IsSendable settings) outbox.now }
     requires seed { traffic.old.draws.seed ≡ scenario.now.seed }
     requires early { now ≤ one_hour }
@@ -55,14 +55,14 @@ pub fn send_all(
 fn send(
     alloc: Global,
     scenario: &Scenario,
-    ways: &Seq<Seq<Ways>>,
+    ways: &Seq<Seq<ArcsOut>>,
     now: u64,
     router: usize,
     iface: usize,
     frame: &[u8],
-    traffic: &mut Traffic,
+    traffic: &mut RadioTraffic,
 ) -> Result<Emission, AllocError>
-    requires ways { AreWays scenario.now.arcs scenario.now.routers (length scenario.now.routers) ways.now }
+    requires ways { AreArcsOut scenario.now.arcs scenario.now.routers (length scenario.now.routers) ways.now }
     requires face { (settings : RouterSettings) × (slice_get scenario.now.routers router ≡ Some settings) × (iface < length settings.interfaces) }
     requires seed { traffic.old.draws.seed ≡ scenario.now.seed }
     requires early { now ≤ one_hour }
@@ -88,7 +88,7 @@ fn spread(
     now: u64,
     frame: &Rc<TypedFrame>,
     ways: &[(usize, RadioArc)],
-    traffic: &mut Traffic,
+    traffic: &mut RadioTraffic,
 ) -> Result<Seq<usize>, AllocError>
     requires seed { traffic.old.draws.seed ≡ scenario.now.seed }
     requires early { now ≤ one_hour }

@@ -2,21 +2,21 @@
 ghost use Rattle.std.specs.Prelude.{◌≡◌, ◌<◌, ℕ, length, map, IfOk, Some, slice_get};
 ghost use Rattle.mesh_atoms.specs.declared.settings.RouterSettings.{RouterSettings};
 ghost use Rattle.mesh_machine.specs.Traffic.{leaves, leaving};
-ghost use Rattle.mesh_radio.specs.Traffic.Ways.{AreWays, AreWaysOf};
+ghost use Rattle.mesh_radio.specs.Traffic.Ways.{AreArcsOut, AreWaysOf};
 
 use mesh_atoms::{RadioArc, RouterSettings, Scenario, Seq};
 use std::alloc::{AllocError, Global};
 
 /// Arcs with their numbers, in order.
-pub type Ways = Seq<(usize, RadioArc)>;
+pub type ArcsOut = Seq<(usize, RadioArc)>;
 
 /// The arcs that leave each interface of each router. Looks at each arc once for each interface.
 pub fn ways_of(
     alloc: Global,
     routers: &[RouterSettings],
     arcs: &[RadioArc],
-) -> Result<Seq<Seq<Ways>>, AllocError>
-    ensures { IfOk result (AreWays arcs.now routers.now (length routers.now)) }
+) -> Result<Seq<Seq<ArcsOut>>, AllocError>
+    ensures { IfOk result (AreArcsOut arcs.now routers.now (length routers.now)) }
 {
     let mut ways = Seq::new(alloc);
     for (x, router) in routers.iter().enumerate() {
@@ -28,11 +28,11 @@ pub fn ways_of(
 /// The arcs that leave an interface of a router.
 pub fn leaving_of<'a>(
     scenario: &Scenario,
-    ways: &'a Seq<Seq<Ways>>,
+    ways: &'a Seq<Seq<ArcsOut>>,
     router: usize,
     iface: usize,
 ) -> &'a [(usize, RadioArc)]
-    requires ways { AreWays scenario.now.arcs scenario.now.routers (length scenario.now.routers) ways.now }
+    requires ways { AreArcsOut scenario.now.arcs scenario.now.routers (length scenario.now.routers) ways.now }
     requires face { (settings : RouterSettings) × (slice_get scenario.now.routers router ≡ Some settings) × (iface < length settings.interfaces) }
     ensures { result.now ≡ leaving scenario.now.arcs router iface }
 {
@@ -47,7 +47,7 @@ fn ways_of_router(
     arcs: &[RadioArc],
     router: usize,
     interfaces: usize,
-) -> Result<Seq<Ways>, AllocError>
+) -> Result<Seq<ArcsOut>, AllocError>
     ensures { IfOk result (AreWaysOf arcs.now router interfaces) }
 {
     let mut ways = Seq::new(alloc);
@@ -63,7 +63,7 @@ fn ways_of_interface(
     arcs: &[RadioArc],
     router: usize,
     iface: usize,
-) -> Result<Ways, AllocError>
+) -> Result<ArcsOut, AllocError>
     ensures { IfOk result (λ ways. ways ≡ leaving arcs.now router iface) }
 {
     let mut ways = Seq::new(alloc);

@@ -2,14 +2,14 @@
 use Rattle.std.proofs.Common.{◌≡◌, ℕ, ◌+◌, List, [], ◌∷◌, ◌++◌, refl, sym, ◌∙◌, ap, subst, length, append_assoc, length-append, arith, Bool, true, false}
 use Rattle.std.specs.Prelude.{IsTrue, IsFalse, slice_get, Some}
 use Rattle.mesh_atoms.specs.State.{State}
-use Rattle.mesh_trace.specs.machine.Net.{Net}
+use Rattle.mesh_trace.specs.machine.Net.{NetState}
 use Rattle.mesh_trace.specs.machine.Traffic.{Traffic as Flights}
 use Rattle.mesh_replay.specs.declared.checking.case.Case.{Case}
 use Rattle.mesh_replay.specs.declared.checking.case.Progress.{Progress}
-use Rattle.mesh_replay.specs.Checking.Cases.{Tells}
-use Rattle.mesh_replay.specs.Checking.Going.{at, Went, NothingLeadsOn, StopsBefore, Goes}
+use Rattle.mesh_replay.specs.Checking.Cases.{TellsItems}
+use Rattle.mesh_replay.specs.Checking.Going.{at, Went, NothingLeadsOn, StopsBefore, FitsOrStops}
 use Rattle.mesh_trace.specs.declared.reading.Reader.{Reader}
-use Rattle.mesh_trace.specs.Positions.Leading.{Leads, LeadsBy}
+use Rattle.mesh_trace.specs.Positions.Leading.{LineLeads, LeadsBy}
 use Rattle.mesh_trace.specs.Positions.Standing.{Item, TracePosition, IsDone, with_traffic}
 use Rattle.mesh_trace.specs.Reading.Lines.{IsLineOf}
 use Rattle.mesh_trace.specs.Reading.Readers.{lines_from, TakesLine}
@@ -20,7 +20,7 @@ pub went_nowhere : (trace : List ℕ) (reader : Reader) (p : TracePosition) → 
 went_nowhere trace reader p = record { lines = []; leads = refl; read = refl; taken = omega arith }
 
 -- one line was read, and leads on
-pub went_one : (trace : List ℕ) (old new : Reader) (p q : TracePosition) (line : List ℕ) → TakesLine trace old new line → Leads p line q → Went trace old new p q
+pub went_one : (trace : List ℕ) (old new : Reader) (p q : TracePosition) (line : List ℕ) → TakesLine trace old new line → LineLeads p line q → Went trace old new p q
 went_one trace old new p q line takes leads = record { lines = line ∷ []; leads = (q, leads, refl); read = takes.lines; taken = takes.taken }
 
 -- then more lines
@@ -50,39 +50,39 @@ pub stops_here : (trace : List ℕ) (reader : Reader) (p : TracePosition) → No
 stops_here trace reader p holds undone = record { stop = p; went = went_nowhere trace reader p; holds = holds; undone = undone }
 
 -- lines that fit, then more lines
-pub goes_on : (trace : List ℕ) (old mid new : Reader) (p q r : TracePosition) (fits : Bool) → Went trace old mid p q → Goes trace mid new q r fits → Goes trace old new p r fits
+pub goes_on : (trace : List ℕ) (old mid new : Reader) (p q r : TracePosition) (fits : Bool) → Went trace old mid p q → FitsOrStops trace mid new q r fits → FitsOrStops trace old new p r fits
 goes_on trace old mid new p q r fits went goes = record {
   goes = λ yes. went_on trace old mid new p q r went (goes.goes yes);
   stops = λ no. stops_on trace old mid new p q went (goes.stops no);
 }
 
 -- they fit, so they lead there
-pub goes_there : (trace : List ℕ) (old new : Reader) (p q : TracePosition) → Went trace old new p q → Goes trace old new p q true
+pub goes_there : (trace : List ℕ) (old new : Reader) (p q : TracePosition) → Went trace old new p q → FitsOrStops trace old new p q true
 goes_there trace old new p q went = record { goes = λ yes. went; stops = λ no. absurd cc }
 
 -- they stop on the way to wherever
-pub goes_not : (trace : List ℕ) (old new : Reader) (p q : TracePosition) → StopsBefore trace old new p → Goes trace old new p q false
+pub goes_not : (trace : List ℕ) (old new : Reader) (p q : TracePosition) → StopsBefore trace old new p → FitsOrStops trace old new p q false
 goes_not trace old new p q stops = record { goes = λ yes. absurd cc; stops = λ no. stops }
 
 -- some items are told, then more of the same event
-pub tells_on : (case : Case) (old mid new : Progress) (x : ℕ) (s : State) (items more : List Item) (fits : Bool) → Tells case old mid x s items true → Tells case mid new x s more fits →
-    Tells case old new x s (items ++ more) fits
+pub tells_on : (case : Case) (old mid new : Progress) (x : ℕ) (s : State) (items more : List Item) (fits : Bool) → TellsItems case old mid x s items true → TellsItems case mid new x s more fits →
+    TellsItems case old new x s (items ++ more) fits
 tells_on case old mid new x s items more fits one two net rest is traffic stands =
-    let here : Goes case.trace.now old.reader mid.reader (at net x (items ++ (more ++ rest))) (at (with_traffic net mid.traffic.traffic) x (more ++ rest)) true = one net (more ++ rest) is traffic stands in
-    let there : Goes case.trace.now mid.reader new.reader (at (with_traffic net mid.traffic.traffic) x (more ++ rest)) (at (with_traffic net new.traffic.traffic) x rest) fits =
+    let here : FitsOrStops case.trace.now old.reader mid.reader (at net x (items ++ (more ++ rest))) (at (with_traffic net mid.traffic.traffic) x (more ++ rest)) true = one net (more ++ rest) is traffic stands in
+    let there : FitsOrStops case.trace.now mid.reader new.reader (at (with_traffic net mid.traffic.traffic) x (more ++ rest)) (at (with_traffic net new.traffic.traffic) x rest) fits =
     two (with_traffic net mid.traffic.traffic) rest is refl stands in
-    subst (λ (l : List Item). Goes case.trace.now old.reader new.reader (at net x l) (at (with_traffic net new.traffic.traffic) x rest) fits) (sym (append_assoc items more rest))
+    subst (λ (l : List Item). FitsOrStops case.trace.now old.reader new.reader (at net x l) (at (with_traffic net new.traffic.traffic) x rest) fits) (sym (append_assoc items more rest))
     (goes_on case.trace.now old.reader mid.reader new.reader (at net x (items ++ (more ++ rest))) (at (with_traffic net mid.traffic.traffic) x (more ++ rest)) (at (with_traffic net new.traffic.traffic) x rest)
     fits (here.goes refl) there)
 
 -- some items stop, and so do those behind them
-pub tells_not : (case : Case) (old new : Progress) (x : ℕ) (s : State) (items more : List Item) → Tells case old new x s items false → Tells case old new x s (items ++ more) false
+pub tells_not : (case : Case) (old new : Progress) (x : ℕ) (s : State) (items more : List Item) → TellsItems case old new x s items false → TellsItems case old new x s (items ++ more) false
 tells_not case old new x s items more one net rest is traffic stands =
-    subst (λ (l : List Item). Goes case.trace.now old.reader new.reader (at net x l) (at (with_traffic net new.traffic.traffic) x rest) false) (sym (append_assoc items more rest))
+    subst (λ (l : List Item). FitsOrStops case.trace.now old.reader new.reader (at net x l) (at (with_traffic net new.traffic.traffic) x rest) false) (sym (append_assoc items more rest))
     (goes_not case.trace.now old.reader new.reader (at net x (items ++ (more ++ rest))) (at (with_traffic net new.traffic.traffic) x rest) ((one net (more ++ rest) is traffic stands).stops refl))
 
 -- no items
-pub tells_nothing : (case : Case) (progress : Progress) (x : ℕ) (s : State) → Tells case progress progress x s [] true
+pub tells_nothing : (case : Case) (progress : Progress) (x : ℕ) (s : State) → TellsItems case progress progress x s [] true
 tells_nothing case progress x s net rest is traffic stands =
     goes_there case.trace.now progress.reader progress.reader (at net x rest) (at (with_traffic net progress.traffic.traffic) x rest)
     (subst (λ (t : Flights). Went case.trace.now progress.reader progress.reader (at net x rest) (at (with_traffic net t) x rest)) traffic (went_nowhere case.trace.now progress.reader (at net x rest)))
@@ -110,9 +110,9 @@ stops_read trace old mid new p at taken stays holds undone = record {
 pub expects : (trace : List ℕ) (old mid new : Reader) (p q : TracePosition) (fits : Bool) → mid.at ≡ old.at → mid.taken ≡ old.taken →
     (IsTrue fits → (line : List ℕ) × TakesLine trace mid new line × IsLineOf line mid.text) → (IsFalse fits → new ≡ mid) →
     (IsFalse fits → (line : List ℕ) (rest : List (List ℕ)) → lines_from trace mid.at ≡ line ∷ rest → ¬ IsLineOf line mid.text) →
-    ((line : List ℕ) → IsLineOf line mid.text → Leads p line q) →
-    ((line : List ℕ) (r : TracePosition) → Leads p line r → IsLineOf line mid.text) →
-    (IsDone p → ⊥) → Goes trace old new p q fits
+    ((line : List ℕ) → IsLineOf line mid.text → LineLeads p line q) →
+    ((line : List ℕ) (r : TracePosition) → LineLeads p line r → IsLineOf line mid.text) →
+    (IsDone p → ⊥) → FitsOrStops trace old new p q fits
 expects trace old mid new p q fits at taken took stays other leads only undone = record {
   goes = λ yes. (let (line, takes, is) = took yes in went_here trace old mid new p q at taken (went_one trace mid new p q line takes (leads line is)));
   stops = λ no. stops_read trace old mid new p at taken (stays no) (λ line rest r is step. other no line rest is (only line r step)) undone;

@@ -3,12 +3,12 @@ use Rattle.std.proofs.Common.{◌≡◌, ℕ, false, List, [], ◌∷◌, ◌++�
 use Rattle.std.proofs.lemmas.List.{append-nil}
 use Rattle.mesh_replay.specs.declared.command.marks.Mark.{Mark}
 use Rattle.mesh_replay.specs.declared.command.marks.Mark.TheVariants as mark
-use Rattle.mesh_replay.specs.Command.Marks.{Ends, word_of, TellsNext}
+use Rattle.mesh_replay.specs.Command.Marks.{IsMarkLine, word_of, TellsNext}
 use Rattle.mesh_trace.specs.declared.reading.Reader.{Reader}
 use Rattle.mesh_trace.specs.Reading.Readers.{lines_from}
 
 -- such a line begins with its word
-begins : (m : Mark) (line : List ℕ) → Ends m line → (rest : List ℕ) × (line ≡ word_of m ++ rest)
+begins : (m : Mark) (line : List ℕ) → IsMarkLine m line → (rest : List ℕ) × (line ≡ word_of m ++ rest)
 begins mark.Rule line is = ([], is ∙ sym (append-nil (word_of mark.Rule)))
 begins mark.Report line (rest, is) = (rest, is)
 

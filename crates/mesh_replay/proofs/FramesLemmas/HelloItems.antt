@@ -11,7 +11,7 @@ use Rattle.mesh_atoms.specs.declared.settings.RouterSettings.{RouterSettings}
 use Rattle.mesh_atoms.specs.Hello.{IsHelloNow}
 use Rattle.mesh_atoms.specs.State.{State}
 use Rattle.mesh_trace.specs.machine.declared.frame.Frame.{Frame}
-use Rattle.mesh_trace.specs.machine.Net.{Net}
+use Rattle.mesh_trace.specs.machine.Net.{NetState}
 use Rattle.mesh_trace.specs.machine.Sendable.{AreOctets}
 use Rattle.mesh_trace.specs.machine.Sending.{IsHelloFrame}
 use Rattle.mesh_texts.specs.Lines.Marks.{face_name}
@@ -19,7 +19,7 @@ use Rattle.mesh_texts.specs.Trace.{sent_line}
 use Rattle.mesh_wire.specs.Writes.{WritesHello}
 use Rattle.mesh_replay.specs.declared.checking.case.Case.{Case}
 use Rattle.mesh_replay.specs.declared.checking.case.Progress.{Progress}
-use Rattle.mesh_replay.specs.Checking.Cases.{Tells as Told}
+use Rattle.mesh_replay.specs.Checking.Cases.{TellsItems as Told}
 use Rattle.mesh_replay.specs.Checking.Kept.{IsSoundRouter}
 use Rattle.mesh_replay.specs.Checking.Sending.{GoesOut, IsSentNext, TakesOut}
 use Rattle.mesh_replay.proofs.CheckingLemmas.Going.{tells_on, tells_not, tells_nothing}
@@ -27,7 +27,7 @@ use Rattle.mesh_replay.proofs.FramesLemmas.HelloOnce.{hello_once}
 use Rattle.mesh_replay.proofs.FramesLemmas.Onward.{Onward, onward_next, onward_not, onward_done}
 use Rattle.mesh_replay.proofs.FramesLemmas.Sendings.{told_alone, told_not, ReadLine}
 use Rattle.mesh_trace.specs.declared.reading.Reader.{Reader}
-use Rattle.mesh_trace.specs.Positions.Items.{Tells, Tells_hello, TellsFrame}
+use Rattle.mesh_trace.specs.Positions.Items.{TellsItem, Tells_hello, TellsFrame}
 use Rattle.mesh_trace.specs.Positions.Standing.{Item, Hello}
 use Rattle.mesh_trace.specs.Reading.Lines.{IsLineOf, lines_of}
 use Rattle.mesh_trace.specs.Reading.Readers.{lines_from, TakesLine}
@@ -60,7 +60,7 @@ takes_out case old mid new x settings now frame fits next line takes same out = 
 -- so the item that sends it is told
 pub out_alone : (case : Case) (old here new : Progress) (x : ℕ) (s : State) (item : Item) (settings : RouterSettings) (now : ℕ) (frame : Frame) (fits : Bool) → here.reader.at ≡ old.reader.at →
     here.reader.taken ≡ old.reader.taken → here.traffic ≡ old.traffic → s.settings ≡ settings → s.last ≡ now →
-    ((line : List ℕ) (net after : Net) (losses : List Item) → TellsFrame net x s frame line after losses → Tells net x s line item after losses) →
+    ((line : List ℕ) (net after : NetState) (losses : List Item) → TellsFrame net x s frame line after losses → TellsItem net x s line item after losses) →
     TakesOut case here new x settings now frame fits → Told case old new x s (item ∷ []) fits
 out_alone case old here new x s item settings now frame fits place taken same is last tells out =
     told_alone case old out.mid new x s item frame out.line fits (out.traffic ∙ same)

@@ -2,27 +2,27 @@
 use Rattle.std.proofs.Common.{◌≡◌, ℕ, List, [], ◌∷◌, ◌++◌, refl, sym, ◌∙◌, ap, subst, Bool, true, false}
 use Rattle.std.specs.Prelude.{IsTrue, IsFalse, slice_get, Some, map}
 use Rattle.mesh_atoms.specs.State.{State}
-use Rattle.mesh_trace.specs.machine.Net.{Net}
+use Rattle.mesh_trace.specs.machine.Net.{NetState}
 use Rattle.mesh_texts.specs.Trace.{lost_line}
 use Rattle.mesh_replay.specs.declared.checking.case.Case.{Case}
-use Rattle.mesh_replay.specs.Checking.Going.{at, Goes}
+use Rattle.mesh_replay.specs.Checking.Going.{at, FitsOrStops}
 use Rattle.mesh_replay.specs.Checking.Sending.{TellsLosses}
 use Rattle.mesh_replay.proofs.CheckingLemmas.Going.{expects, goes_on, goes_not, goes_there, went_nowhere}
 use Rattle.mesh_trace.specs.declared.reading.Reader.{Reader}
 use Rattle.mesh_trace.specs.Positions.Items.{Tells_loss}
-use Rattle.mesh_trace.specs.Positions.Leading.{Leads, To_item}
+use Rattle.mesh_trace.specs.Positions.Leading.{LineLeads, To_item}
 use Rattle.mesh_trace.specs.Positions.Standing.{Item, Lost, TracePosition, IsDone}
 use Rattle.mesh_trace.specs.Reading.Lines.{IsLineOf}
 use Rattle.mesh_trace.specs.Reading.Readers.{lines_from, TakesLine}
 use Rattle.mesh_trace.proofs.PositionsLemmas.Leading.{undone, leads_item, to_item, tells_loss, LeadsItem}
 
-module _ (net : Net) (x : ℕ) (s : State) (n : ℕ) (rest : List Item) (stands : slice_get net.routers x ≡ Some s) where
+module _ (net : NetState) (x : ℕ) (s : State) (n : ℕ) (rest : List Item) (stands : slice_get net.routers x ≡ Some s) where
   -- the line of a loss leads on
-  loss_leads : (line : List ℕ) → IsLineOf line (lost_line net.scenario s.last n) → Leads (at net x (Lost n ∷ rest)) line (at net x rest)
+  loss_leads : (line : List ℕ) → IsLineOf line (lost_line net.scenario s.last n) → LineLeads (at net x (Lost n ∷ rest)) line (at net x rest)
   loss_leads line is = to_item net x (Lost n) rest line s net [] stands (Tells_loss is)
 
   -- and no other
-  loss_alone : (line : List ℕ) (r : TracePosition) → Leads (at net x (Lost n ∷ rest)) line r → IsLineOf line (lost_line net.scenario s.last n)
+  loss_alone : (line : List ℕ) (r : TracePosition) → LineLeads (at net x (Lost n ∷ rest)) line r → IsLineOf line (lost_line net.scenario s.last n)
   loss_alone line r leads =
       let item = leads_item net x (Lost n) rest line r leads in
       let same : item.s ≡ s = cc in

@@ -5,19 +5,19 @@ use Rattle.mesh_atoms.specs.declared.settings.RouterSettings.{RouterSettings}
 use Rattle.mesh_atoms.specs.declared.settings.Scenario.{Scenario}
 use Rattle.mesh_atoms.specs.State.{State}
 use Rattle.mesh_trace.specs.machine.declared.frame.Frame.{Frame}
-use Rattle.mesh_trace.specs.machine.Net.{Net}
+use Rattle.mesh_trace.specs.machine.Net.{NetState}
 use Rattle.mesh_trace.specs.machine.Traffic.{Traffic as Flights, Sends}
 use Rattle.mesh_texts.specs.Lines.Marks.{face_name}
 use Rattle.mesh_texts.specs.Trace.{sent_line}
 use Rattle.mesh_replay.specs.declared.checking.case.Case.{Case}
 use Rattle.mesh_replay.specs.declared.checking.case.Progress.{Progress}
-use Rattle.mesh_replay.specs.Checking.Cases.{Tells as Told}
-use Rattle.mesh_replay.specs.Checking.Going.{at, Went, NothingLeadsOn, Goes}
+use Rattle.mesh_replay.specs.Checking.Cases.{TellsItems as Told}
+use Rattle.mesh_replay.specs.Checking.Going.{at, Went, NothingLeadsOn, FitsOrStops}
 use Rattle.mesh_replay.specs.Checking.Sending.{TellsLosses, GoesOut, TakesSent, IsSentNext}
 use Rattle.mesh_replay.proofs.CheckingLemmas.Going.{goes_on, goes_not, stops_read}
 use Rattle.mesh_trace.specs.declared.reading.Reader.{Reader}
-use Rattle.mesh_trace.specs.Positions.Items.{Tells, Tells_frame, TellsFrame}
-use Rattle.mesh_trace.specs.Positions.Leading.{Leads}
+use Rattle.mesh_trace.specs.Positions.Items.{TellsItem, Tells_frame, TellsFrame}
+use Rattle.mesh_trace.specs.Positions.Leading.{LineLeads}
 use Rattle.mesh_trace.specs.Positions.Standing.{Item, Sent, Lost, TracePosition, with_traffic}
 use Rattle.mesh_trace.specs.Reading.Lines.{IsLineOf}
 use Rattle.mesh_trace.specs.Reading.Readers.{lines_from}
@@ -28,11 +28,11 @@ pub record ReadLine (trace : List ℕ) (old new : Reader) (line : List ℕ) : Ty
   pub lines : lines_from trace old.at ≡ line ∷ lines_from trace new.at
   pub taken : new.taken ≡ old.taken + 1
 
-pub went_line : (trace : List ℕ) (old new : Reader) (p q : TracePosition) (line : List ℕ) → ReadLine trace old new line → Leads p line q → Went trace old new p q
+pub went_line : (trace : List ℕ) (old new : Reader) (p q : TracePosition) (line : List ℕ) → ReadLine trace old new line → LineLeads p line q → Went trace old new p q
 went_line trace old new p q line read leads = record { lines = line ∷ []; leads = (q, leads, refl); read = read.lines; taken = read.taken }
 
 -- a frame goes out behind its line
-frame_out : (net : Net) (x : ℕ) (s : State) (frame : Frame) (line : List ℕ) (traffic : Flights) (lost : List ℕ) →
+frame_out : (net : NetState) (x : ℕ) (s : State) (frame : Frame) (line : List ℕ) (traffic : Flights) (lost : List ℕ) →
     IsLineOf line (sent_line s.last s.settings.name (face_name s.settings.interfaces frame.iface) frame.bytes) →
     Sends net.scenario s.last x (record { iface = frame.iface; frame = frame.bytes; lost = lost }) net.traffic traffic →
     TellsFrame net x s frame line (with_traffic net traffic) (map Lost lost)
@@ -41,17 +41,17 @@ frame_out net x s frame line traffic lost is sends = record { line_is = is; lost
 -- the line of an item that sends a frame is told, then the losses of the frame: what is left is what the item leaves behind them
 pub told_out : (case : Case) (old mid new : Progress) (x : ℕ) (s : State) (item : Item) (frame : Frame) (more : List Item) (line : List ℕ) (fits : Bool) →
     mid.traffic ≡ old.traffic → ReadLine case.trace.now old.reader mid.reader line →
-    ((net after : Net) (losses : List Item) → TellsFrame net x s frame line after losses → Tells net x s line item after (losses ++ more)) →
+    ((net after : NetState) (losses : List Item) → TellsFrame net x s frame line after losses → TellsItem net x s line item after (losses ++ more)) →
     IsLineOf line (sent_line s.last s.settings.name (face_name s.settings.interfaces frame.iface) frame.bytes) →
     GoesOut case mid new x s.last frame fits →
-    (net : Net) (rest : List Item) → net.scenario ≡ case.scenario.now → net.traffic ≡ old.traffic.traffic → slice_get net.routers x ≡ Some s →
-    Goes case.trace.now old.reader new.reader (at net x (item ∷ rest)) (at (with_traffic net new.traffic.traffic) x (more ++ rest)) fits
+    (net : NetState) (rest : List Item) → net.scenario ≡ case.scenario.now → net.traffic ≡ old.traffic.traffic → slice_get net.routers x ≡ Some s →
+    FitsOrStops case.trace.now old.reader new.reader (at net x (item ∷ rest)) (at (with_traffic net new.traffic.traffic) x (more ++ rest)) fits
 told_out case old mid new x s item frame more line fits same read tells is out net rest scenario flights stands =
     let sends : Sends net.scenario s.last x (record { iface = frame.iface; frame = frame.bytes; lost = out.lost }) net.traffic new.traffic.traffic =
     subst (λ (t : Flights). Sends net.scenario s.last x (record { iface = frame.iface; frame = frame.bytes; lost = out.lost }) t new.traffic.traffic) (ap (λ t. t.traffic) same ∙ sym flights)
     (subst (λ (z : Scenario). Sends z s.last x (record { iface = frame.iface; frame = frame.bytes; lost = out.lost }) mid.traffic.traffic new.traffic.traffic) (sym scenario) out.sends) in
     let after = with_traffic net new.traffic.traffic in
-    let step : Leads (at net x (item ∷ rest)) line (at after x ((map Lost out.lost ++ more) ++ rest)) =
+    let step : LineLeads (at net x (item ∷ rest)) line (at after x ((map Lost out.lost ++ more) ++ rest)) =
     to_item net x item rest line s after (map Lost out.lost ++ more) stands (tells net after (map Lost out.lost) (frame_out net x s frame line new.traffic.traffic out.lost is sends)) in
     let one : Went case.trace.now old.reader mid.reader (at net x (item ∷ rest)) (at after x (map Lost out.lost ++ (more ++ rest))) =
     subst (λ (l : List Item). Went case.trace.now old.reader mid.reader (at net x (item ∷ rest)) (at after x l)) (append_assoc (map Lost out.lost) more rest)
@@ -62,23 +62,23 @@ told_out case old mid new x s item frame more line fits same read tells is out n
 -- the same of an item that leaves nothing behind the losses
 pub told_alone : (case : Case) (old mid new : Progress) (x : ℕ) (s : State) (item : Item) (frame : Frame) (line : List ℕ) (fits : Bool) →
     mid.traffic ≡ old.traffic → ReadLine case.trace.now old.reader mid.reader line →
-    ((net after : Net) (losses : List Item) → TellsFrame net x s frame line after losses → Tells net x s line item after losses) →
+    ((net after : NetState) (losses : List Item) → TellsFrame net x s frame line after losses → TellsItem net x s line item after losses) →
     IsLineOf line (sent_line s.last s.settings.name (face_name s.settings.interfaces frame.iface) frame.bytes) →
     GoesOut case mid new x s.last frame fits → Told case old new x s (item ∷ []) fits
 told_alone case old mid new x s item frame line fits same read tells is out =
     told_out case old mid new x s item frame [] line fits same read
-    (λ net after losses frame. subst (λ (l : List Item). Tells net x s line item after l) (sym (append-nil losses)) (tells net after losses frame)) is out
+    (λ net after losses frame. subst (λ (l : List Item). TellsItem net x s line item after l) (sym (append-nil losses)) (tells net after losses frame)) is out
 
 -- no line that is there tells the item
 pub told_not : (case : Case) (old new : Progress) (x : ℕ) (s : State) (item : Item) → new.reader.at ≡ old.reader.at → new.reader.taken ≡ old.reader.taken →
-    ((net after : Net) (losses : List Item) (line : List ℕ) (lines : List (List ℕ)) → lines_from case.trace.now old.reader.at ≡ line ∷ lines → Tells net x s line item after losses → ⊥) →
+    ((net after : NetState) (losses : List Item) (line : List ℕ) (lines : List (List ℕ)) → lines_from case.trace.now old.reader.at ≡ line ∷ lines → TellsItem net x s line item after losses → ⊥) →
     Told case old new x s (item ∷ []) false
 told_not case old new x s item place taken none net rest scenario flights stands =
     goes_not case.trace.now old.reader new.reader (at net x (item ∷ rest)) (at (with_traffic net new.traffic.traffic) x rest)
     (stops_read case.trace.now old.reader new.reader new.reader (at net x (item ∷ rest)) place taken refl
     (λ line lines q there leads. (let told = leads_item net x item rest line q leads in
     let same : told.s ≡ s = cc in
-    none net told.new told.more line lines (ap (lines_from case.trace.now) (sym place) ∙ there) (subst (λ (t : State). Tells net x t line item told.new told.more) same told.tells)))
+    none net told.new told.more line lines (ap (lines_from case.trace.now) (sym place) ∙ there) (subst (λ (t : State). TellsItem net x t line item told.new told.more) same told.tells)))
     (undone net x item rest))
 
 -- of a result

@@ -10,7 +10,7 @@ use Rattle.mesh_atoms.specs.State.{State}
 use Rattle.mesh_atoms.specs.Validity.{IsValidity}
 use Rattle.mesh_trace.specs.machine.declared.frame.Frame.{Frame}
 use Rattle.mesh_trace.specs.machine.Frames.{on_each}
-use Rattle.mesh_trace.specs.machine.Net.{Net}
+use Rattle.mesh_trace.specs.machine.Net.{NetState}
 use Rattle.mesh_trace.specs.machine.Sending.{IsTcOfRows}
 use Rattle.mesh_trace.proofs.machine.Originators.{some_interface}
 use Rattle.mesh_texts.specs.Lines.Marks.{face_name}
@@ -20,15 +20,15 @@ use Rattle.mesh_topo.specs.Advertised.Spans.{part_of}
 use Rattle.mesh_wire.specs.Writes.{WritesTc}
 use Rattle.mesh_replay.specs.declared.checking.case.Case.{Case}
 use Rattle.mesh_replay.specs.declared.checking.case.Progress.{Progress}
-use Rattle.mesh_replay.specs.Checking.Cases.{Tells as Told}
-use Rattle.mesh_replay.specs.Checking.Going.{at, Goes}
+use Rattle.mesh_replay.specs.Checking.Cases.{TellsItems as Told}
+use Rattle.mesh_replay.specs.Checking.Going.{at, FitsOrStops}
 use Rattle.mesh_replay.specs.Checking.Kept.{parts_of, tc_items}
 use Rattle.mesh_replay.specs.Checking.Sending.{GoesOut, IsSentNext, TakesOut}
 use Rattle.mesh_replay.proofs.CheckingLemmas.Going.{goes_on, goes_not, tells_on, tells_not, tells_nothing}
 use Rattle.mesh_replay.proofs.FramesLemmas.Sendings.{told_out, told_not, ReadLine}
 use Rattle.mesh_replay.proofs.FramesLemmas.TcOnce.{tc_once}
 use Rattle.mesh_trace.specs.Positions.Due.{part_items}
-use Rattle.mesh_trace.specs.Positions.Items.{AreTcFrames, Tells, Tells_tc, TellsFrame}
+use Rattle.mesh_trace.specs.Positions.Items.{AreTcFrames, TellsItem, Tells_tc, TellsFrame}
 use Rattle.mesh_trace.specs.Positions.Standing.{Item, Sent, Tc, with_traffic}
 use Rattle.mesh_trace.specs.Reading.Lines.{IsLineOf}
 use Rattle.mesh_trace.specs.Reading.Readers.{lines_from}
@@ -73,8 +73,8 @@ module _ (case : Case) (old here mid : Progress) (x : ℕ) (s : State) (settings
     (validity : List ℕ) (complete : Bool) (sequence : ℕ) (rows : List TcRow) (tc : TcValue) (is_validity : IsValidity s.settings.times.topology_hold s.settings.near_hold validity)
     (is_tc : IsTcOfRows s validity complete sequence rows tc) (written : WritesTc tc settings.times.tc_hop_limit validity bytes)
     (out : TakesOut case here mid x settings now (record { iface = 0; bytes = bytes }) fine) where
-  first_goes : (net : Net) (rest : List Item) → net.scenario ≡ case.scenario.now → net.traffic ≡ old.traffic.traffic → slice_get net.routers x ≡ Some s →
-      Goes case.trace.now old.reader mid.reader (at net x (Tc complete sequence rows ∷ rest)) (at (with_traffic net mid.traffic.traffic) x (map Sent (further_of s bytes) ++ rest)) fine
+  first_goes : (net : NetState) (rest : List Item) → net.scenario ≡ case.scenario.now → net.traffic ≡ old.traffic.traffic → slice_get net.routers x ≡ Some s →
+      FitsOrStops case.trace.now old.reader mid.reader (at net x (Tc complete sequence rows ∷ rest)) (at (with_traffic net mid.traffic.traffic) x (map Sent (further_of s bytes) ++ rest)) fine
   first_goes =
       let frame : Frame = record { iface = 0; bytes = bytes } in
       let writes : WritesTc tc s.settings.times.tc_hop_limit validity bytes = subst (λ (r : RouterSettings). WritesTc tc r.times.tc_hop_limit validity bytes) (sym is) written in

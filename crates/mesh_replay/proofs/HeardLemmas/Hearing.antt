@@ -8,13 +8,13 @@ use Rattle.mesh_atoms.specs.declared.settings.RouterSettings.{RouterSettings}
 use Rattle.mesh_atoms.specs.declared.settings.Scenario.{Scenario}
 use Rattle.mesh_atoms.specs.State.{State}
 use Rattle.mesh_trace.proofs.machine.Places.{same_at, set_here}
-use Rattle.mesh_trace.specs.machine.Net.{Net, IsSender}
+use Rattle.mesh_trace.specs.machine.Net.{NetState, IsSender}
 use Rattle.mesh_trace.specs.machine.Traffic.{Delivery}
 use Rattle.mesh_texts.specs.Lines.Marks.{face_name}
 use Rattle.mesh_texts.specs.Trace.{heard_line}
 use Rattle.mesh_replay.specs.declared.checking.case.Case.{Case}
 use Rattle.mesh_replay.specs.declared.checking.case.Progress.{Progress}
-use Rattle.mesh_replay.specs.Checking.Going.{at, Went, Goes}
+use Rattle.mesh_replay.specs.Checking.Going.{at, Went, FitsOrStops}
 use Rattle.mesh_replay.specs.Checking.Hearing.{TakesText, TellsHeard, LeavesAddresses}
 use Rattle.mesh_replay.specs.Checking.Kept.{AreAtRest, IsAtRest}
 use Rattle.mesh_replay.specs.Checking.Scenes.{IsNextHearing, IsReachedNet}
@@ -50,7 +50,7 @@ module _ (case : Case) (routers : List State) (d : Delivery) (arc : RadioArc) (s
   took = subst (λ (r : RouterSettings). TakesText case.trace.now old.reader mid.reader (text_of d arc sender r d.frame) reads) settings_are
       (subst (λ (l : List ℕ). TakesText case.trace.now old.reader mid.reader (text_of d arc sender settings l) reads) bytes_are takes)
 
-  module _ (net : Net) (scenario : net.scenario ≡ case.scenario.now) (next : IsNextHearing net d routers old) where
+  module _ (net : NetState) (scenario : net.scenario ≡ case.scenario.now) (next : IsNextHearing net d routers old) where
     comes : ComesNext net d next.others arc sender was
     comes = record {
       next = next.next;
@@ -60,7 +60,7 @@ module _ (case : Case) (routers : List State) (d : Delivery) (arc : RadioArc) (s
     }
 
     -- the next line is another
-    hears_not : (y : ℕ) (q : TracePosition) → reads ≡ false → Goes case.trace.now old.reader mid.reader (at net y []) q false
+    hears_not : (y : ℕ) (q : TracePosition) → reads ≡ false → FitsOrStops case.trace.now old.reader mid.reader (at net y []) q false
     hears_not y q bad =
         let trace = case.trace.now in
         let place = took.place bad in
@@ -76,7 +76,7 @@ module _ (case : Case) (routers : List State) (d : Delivery) (arc : RadioArc) (s
 
     -- the line was taken
     hears_on : (y : ℕ) (new : Progress) (now : State) (fits : Bool) → reads ≡ true → TellsHeard case mid new arc.to was (its_arrival d arc sender) d.frame now fits →
-        Goes case.trace.now old.reader new.reader (at net y []) (at (record net { routers = slice_set routers arc.to now; traffic = new.traffic.traffic }) arc.to []) fits
+        FitsOrStops case.trace.now old.reader new.reader (at net y []) (at (record net { routers = slice_set routers arc.to now; traffic = new.traffic.traffic }) arc.to []) fits
     hears_on y new now fits good heard =
         let trace = case.trace.now in
         let (line, lines, taken, is) = took.takes good in
@@ -84,26 +84,26 @@ module _ (case : Case) (routers : List State) (d : Delivery) (arc : RadioArc) (s
         let there = at here arc.to heard.left in
         let one : Went trace old.reader mid.reader (at net y []) there =
         went_line trace old.reader mid.reader (at net y []) there line (record { lines = lines; taken = taken }) (heard_leads net y d next.others arc sender was comes line heard.is heard.left is heard.hears) in
-        let told : Goes trace mid.reader new.reader there (at (with_traffic (with_state here arc.to now) new.traffic.traffic) arc.to []) fits =
+        let told : FitsOrStops trace mid.reader new.reader there (at (with_traffic (with_state here arc.to now) new.traffic.traffic) arc.to []) fits =
         heard.tells here scenario (sym (ap (λ t. t.traffic) traffic_is ∙ next.traffic_is)) (set_here net.routers arc.to heard.is was comes.stands) in
         let set : slice_set here.routers arc.to now ≡ slice_set routers arc.to now = set_again net.routers arc.to heard.is now ∙ ap (λ (l : List State). slice_set l arc.to now) next.routers_are in
         goes_on trace old.reader mid.reader new.reader (at net y []) there (at (record net { routers = slice_set routers arc.to now; traffic = new.traffic.traffic }) arc.to []) fits one
-        (subst (λ (l : List State). Goes trace mid.reader new.reader there (at (record net { routers = l; traffic = new.traffic.traffic }) arc.to []) fits) set told)
+        (subst (λ (l : List State). FitsOrStops trace mid.reader new.reader there (at (record net { routers = l; traffic = new.traffic.traffic }) arc.to []) fits) set told)
 
   -- however the frame leaves the router, its neighbours have addresses
-  pub landing_addresses : (net : Net) → IsReachedNet case net → IsNextHearing net d routers old → reads ≡ true → LeavesAddresses was (its_arrival d arc sender) bytes
+  pub landing_addresses : (net : NetState) → IsReachedNet case net → IsNextHearing net d routers old → reads ≡ true → LeavesAddresses was (its_arrival d arc sender) bytes
   landing_addresses net (lines, y, reaches) next good is left hears =
       let (line, rest, taken, line_is) = took.takes good in
       heard_addresses net y d next.others arc sender was (comes net (reached_scenario case.scenario.now lines (at net y []) reaches) next) case.scenario.now lines line reaches line_is is left
       (subst (λ (l : List ℕ). HearsBy was (its_arrival d arc sender) l is left) bytes_are hears)
 
   -- what comes of the event
-  pub landed_not : (after : List State) → reads ≡ false → (net : Net) (y : ℕ) → net.scenario ≡ case.scenario.now → IsNextHearing net d routers old →
-      (x : ℕ) × Goes case.trace.now old.reader mid.reader (at net y []) (at (record net { routers = after; traffic = mid.traffic.traffic }) x []) false
+  pub landed_not : (after : List State) → reads ≡ false → (net : NetState) (y : ℕ) → net.scenario ≡ case.scenario.now → IsNextHearing net d routers old →
+      (x : ℕ) × FitsOrStops case.trace.now old.reader mid.reader (at net y []) (at (record net { routers = after; traffic = mid.traffic.traffic }) x []) false
   landed_not after bad net y scenario next = (0, hears_not net scenario next y (at (record net { routers = after; traffic = mid.traffic.traffic }) 0 []) bad)
 
-  pub landed_on : (new : Progress) (now : State) (fits : Bool) → reads ≡ true → TellsHeard case mid new arc.to was (its_arrival d arc sender) bytes now fits → (net : Net) (y : ℕ) → net.scenario ≡ case.scenario.now →
-      IsNextHearing net d routers old → (x : ℕ) × Goes case.trace.now old.reader new.reader (at net y []) (at (record net { routers = slice_set routers arc.to now; traffic = new.traffic.traffic }) x []) fits
+  pub landed_on : (new : Progress) (now : State) (fits : Bool) → reads ≡ true → TellsHeard case mid new arc.to was (its_arrival d arc sender) bytes now fits → (net : NetState) (y : ℕ) → net.scenario ≡ case.scenario.now →
+      IsNextHearing net d routers old → (x : ℕ) × FitsOrStops case.trace.now old.reader new.reader (at net y []) (at (record net { routers = slice_set routers arc.to now; traffic = new.traffic.traffic }) x []) fits
   landed_on new now fits good heard net y scenario next =
       (arc.to, hears_on net scenario next y new now fits good (subst (λ (l : List ℕ). TellsHeard case mid new arc.to was (its_arrival d arc sender) l now fits) bytes_are heard))
 

@@ -6,7 +6,7 @@ use Rattle.mesh_atoms.specs.declared.codes.metric.Metric.{Metric}
 use Rattle.mesh_atoms.specs.declared.settings.Scenario.{Scenario}
 use Rattle.mesh_atoms.specs.declared.tc.TcRow.{TcRow}
 use Rattle.mesh_atoms.specs.declared.tuples.Relays.{Relays}
-use Rattle.mesh_atoms.specs.Advertised.{Gives, AreTcRows}
+use Rattle.mesh_atoms.specs.Advertised.{GivesAsSelector, AreTcRows}
 use Rattle.mesh_atoms.specs.RelayGraphs.{AreRelays}
 use Rattle.mesh_atoms.specs.State.{State}
 use Rattle.mesh_trace.proofs.machine.Places.{set_at}
@@ -31,12 +31,12 @@ set_itself (x ∷ xs) (suc i) a at = ap (λ (l : List _). x ∷ l) (set_itself x
 pub rows_with : (s : State) (relays : Relays) (rows : List TcRow) → AreTcRows s rows → AreTcRows (with_relays s relays) rows
 rows_with s relays rows are =
     let t = with_relays s relays in
-    let to : (a o : Addr4) (m : Metric) → Gives s a o m → Gives t a o m = λ a o m g. record { neighbour = g.neighbour; symmetric = g.symmetric; selects = g.selects; metric = g.metric; address = g.address } in
-    let back : (a o : Addr4) (m : Metric) → Gives t a o m → Gives s a o m = λ a o m g. record { neighbour = g.neighbour; symmetric = g.symmetric; selects = g.selects; metric = g.metric; address = g.address } in
+    let to : (a o : Addr4) (m : Metric) → GivesAsSelector s a o m → GivesAsSelector t a o m = λ a o m g. record { neighbour = g.neighbour; symmetric = g.symmetric; selects = g.selects; metric = g.metric; address = g.address } in
+    let back : (a o : Addr4) (m : Metric) → GivesAsSelector t a o m → GivesAsSelector s a o m = λ a o m g. record { neighbour = g.neighbour; symmetric = g.symmetric; selects = g.selects; metric = g.metric; address = g.address } in
     record {
       exactly = λ row. (
-        λ has. same_row (Gives s) (Gives t) (λ a o m. (to a o m, back a o m)) s.settings.attached row ((are.exactly row).0 has),
-        λ is. (are.exactly row).1 (same_row (Gives t) (Gives s) (λ a o m. (back a o m, to a o m)) s.settings.attached row is),
+        λ has. same_row (GivesAsSelector s) (GivesAsSelector t) (λ a o m. (to a o m, back a o m)) s.settings.attached row ((are.exactly row).0 has),
+        λ is. (are.exactly row).1 (same_row (GivesAsSelector t) (GivesAsSelector s) (λ a o m. (back a o m, to a o m)) s.settings.attached row is),
       );
       ordered = are.ordered;
     }

@@ -8,7 +8,7 @@ use Rattle.mesh_atoms.specs.declared.settings.Scenario.{Scenario}
 use Rattle.mesh_atoms.specs.State.{State}
 use Rattle.mesh_trace.proofs.machine.Places.{same_at, set_here}
 use Rattle.mesh_trace.specs.machine.declared.arrival.Arrival.{Arrival}
-use Rattle.mesh_trace.specs.machine.Net.{Net, HearsNext, IsSender}
+use Rattle.mesh_trace.specs.machine.Net.{NetState, HearsNext, IsSender}
 use Rattle.mesh_trace.specs.machine.Traffic.{Delivery, with_heard}
 use Rattle.mesh_texts.specs.Lines.Marks.{face_name}
 use Rattle.mesh_texts.specs.Trace.{heard_line}
@@ -16,8 +16,8 @@ use Rattle.mesh_replay.specs.Checking.Going.{at}
 use Rattle.mesh_trace.specs.Positions.Alike.{HasAddresses}
 use Rattle.mesh_trace.specs.Positions.Due.{HearsBy}
 use Rattle.mesh_trace.specs.Positions.Events.{OpensHearing, OpensEvent, By_delivery, By_tick, By_last_tick}
-use Rattle.mesh_trace.specs.Positions.Items.{Tells, Tells_flooding, Tells_routing, Tells_hello, Tells_tc, Tells_frame, Tells_loss}
-use Rattle.mesh_trace.specs.Positions.Leading.{Leads, To_event, To_item, LeadsBy, Reaches}
+use Rattle.mesh_trace.specs.Positions.Items.{TellsItem, Tells_flooding, Tells_routing, Tells_hello, Tells_tc, Tells_frame, Tells_loss}
+use Rattle.mesh_trace.specs.Positions.Leading.{LineLeads, To_event, To_item, LeadsBy, Reaches}
 use Rattle.mesh_trace.specs.Positions.Standing.{Item, TracePosition, IsDone, with_state, with_traffic}
 use Rattle.mesh_trace.specs.Reading.Lines.{IsLineOf}
 use Rattle.mesh_trace.proofs.PositionsLemmas.Addresses.{positions_have_addresses}
@@ -46,26 +46,26 @@ heard_once (x ∷ a) b (y ∷ c) f d e same p q r t =
     let tails : a ++ d ∷ b ≡ c ++ e ∷ f = cc in
     heard_once a b c f d e tails (All-tail (λ (z : Delivery). d.moment < z.moment) x a p) q (All-tail (λ (z : Delivery). e.moment < z.moment) y c r) t
 
-next_once : (net : Net) (d e : Delivery) (others more : List Delivery) → HearsNext net d others → HearsNext net e more → d ≡ e
+next_once : (net : NetState) (d e : Delivery) (others more : List Delivery) → HearsNext net d others → HearsNext net e more → d ≡ e
 next_once net d e others more h k =
     heard_once h.first.before h.first.behind k.first.before k.first.behind d e (sym h.first.whole ∙ k.first.whole) h.first.later h.first.no_earlier k.first.later k.first.no_earlier
 
 -- ---- the scenario stays
 
-opens_scenario : (old : Net) (line : List ℕ) (new : TracePosition) → OpensEvent old line new → new.net.scenario ≡ old.scenario
+opens_scenario : (old : NetState) (line : List ℕ) (new : TracePosition) → OpensEvent old line new → new.net.scenario ≡ old.scenario
 opens_scenario old line new (By_delivery h) = ap (λ (p : TracePosition). p.net.scenario) h.leads
 opens_scenario old line new (By_tick x moment next h) = ap (λ (p : TracePosition). p.net.scenario) h.leads
 opens_scenario old line new (By_last_tick only some h) = ap (λ (p : TracePosition). p.net.scenario) h.leads
 
-tells_scenario : (net : Net) (x : ℕ) (s : State) (line : List ℕ) (item : Item) (new : Net) (more : List Item) → Tells net x s line item new more → new.scenario ≡ net.scenario
+tells_scenario : (net : NetState) (x : ℕ) (s : State) (line : List ℕ) (item : Item) (new : NetState) (more : List Item) → TellsItem net x s line item new more → new.scenario ≡ net.scenario
 tells_scenario net x s line item new more (Tells_flooding face relays g at_face graph are is) = refl
 tells_scenario net x s line item new more (Tells_routing relays g graph are is) = refl
-tells_scenario net x s line item new more (Tells_hello frame is tells) = ap (λ (n : Net). n.scenario) tells.leads
-tells_scenario net x s line item new more (Tells_tc first further are tells) = ap (λ (n : Net). n.scenario) tells.leads
-tells_scenario net x s line item new more (Tells_frame tells) = ap (λ (n : Net). n.scenario) tells.leads
+tells_scenario net x s line item new more (Tells_hello frame is tells) = ap (λ (n : NetState). n.scenario) tells.leads
+tells_scenario net x s line item new more (Tells_tc first further are tells) = ap (λ (n : NetState). n.scenario) tells.leads
+tells_scenario net x s line item new more (Tells_frame tells) = ap (λ (n : NetState). n.scenario) tells.leads
 tells_scenario net x s line item new more (Tells_loss is) = refl
 
-leads_scenario : (old : TracePosition) (line : List ℕ) (new : TracePosition) → Leads old line new → new.net.scenario ≡ old.net.scenario
+leads_scenario : (old : TracePosition) (line : List ℕ) (new : TracePosition) → LineLeads old line new → new.net.scenario ≡ old.net.scenario
 leads_scenario old line new (To_event none opens) = opens_scenario old.net line new opens
 leads_scenario old line new (To_item {s} {item} {rest} {more} {net} left stands tells leads) =
     ap (λ (p : TracePosition). p.net.scenario) leads ∙ tells_scenario old.net old.router s line item net more tells
@@ -79,7 +79,7 @@ reached_scenario s lines p (first, is, leads) = leads_by_scenario first lines p 
 
 -- ---- the frame that is heard next
 
-pub record ComesNext (net : Net) (d : Delivery) (others : List Delivery) (arc : RadioArc) (sender : Addr4) (was : State) : Type 0 where
+pub record ComesNext (net : NetState) (d : Delivery) (others : List Delivery) (arc : RadioArc) (sender : Addr4) (was : State) : Type 0 where
   pub next : HearsNext net d others
   pub arc_is : slice_get net.scenario.arcs d.arc ≡ Some arc
   pub sender_is : IsSender net.scenario.routers arc sender
@@ -91,13 +91,13 @@ its_line d arc sender was = heard_line d.moment was.settings.name (face_name was
 abbrev pub its_arrival : Delivery → RadioArc → Addr4 → Arrival
 its_arrival d arc sender = record { now = d.moment; iface = arc.to_iface; sender = sender }
 
-abbrev pub heard_net : Net → List Delivery → ℕ → State → Net
+abbrev pub heard_net : NetState → List Delivery → ℕ → State → NetState
 heard_net net others x is = with_traffic (with_state net x is) (with_heard net.traffic others)
 
-module _ (net : Net) (y : ℕ) (d : Delivery) (others : List Delivery) (arc : RadioArc) (sender : Addr4) (was : State) (comes : ComesNext net d others arc sender was) where
+module _ (net : NetState) (y : ℕ) (d : Delivery) (others : List Delivery) (arc : RadioArc) (sender : Addr4) (was : State) (comes : ComesNext net d others arc sender was) where
   -- its line leads on, however the frame leaves the router
   pub heard_leads : (line : List ℕ) (is : State) (left : List Item) → IsLineOf line (its_line d arc sender was) → HearsBy was (its_arrival d arc sender) d.frame is left →
-      Leads (at net y []) line (at (heard_net net others arc.to is) arc.to left)
+      LineLeads (at net y []) line (at (heard_net net others arc.to is) arc.to left)
   heard_leads line is left line_is hears =
       To_event refl (By_delivery (record {
         delivery = d;
@@ -133,7 +133,7 @@ module _ (net : Net) (y : ℕ) (d : Delivery) (others : List Delivery) (arc : Ra
   event_alone line after (By_last_tick only some h) = absurd (not_last net d others comes.next only)
 
   -- and no other
-  pub heard_alone : (line : List ℕ) (after : TracePosition) → Leads (at net y []) line after → IsLineOf line (its_line d arc sender was)
+  pub heard_alone : (line : List ℕ) (after : TracePosition) → LineLeads (at net y []) line after → IsLineOf line (its_line d arc sender was)
   heard_alone line after (To_event none opens) = event_alone line after opens
   heard_alone line after (To_item left stands tells leads) = absurd cc
 

@@ -7,13 +7,13 @@ use Rattle.mesh_atoms.specs.State.{State}
 use Rattle.mesh_trace.proofs.machine.Places.{set_here}
 use Rattle.mesh_trace.specs.machine.declared.arrival.Arrival.{Arrival}
 use Rattle.mesh_trace.specs.machine.declared.frame.Frame.{Frame}
-use Rattle.mesh_trace.specs.machine.Net.{Net}
+use Rattle.mesh_trace.specs.machine.Net.{NetState}
 use Rattle.mesh_trace.specs.machine.Traffic.{Traffic as Flights}
 use Rattle.mesh_trace.specs.machine.packet.Grammar.{FirstFault}
 use Rattle.mesh_replay.specs.declared.checking.case.Case.{Case}
 use Rattle.mesh_replay.specs.declared.checking.case.Progress.{Progress}
-use Rattle.mesh_replay.specs.Checking.Cases.{Tells}
-use Rattle.mesh_replay.specs.Checking.Going.{at, Went, Goes}
+use Rattle.mesh_replay.specs.Checking.Cases.{TellsItems}
+use Rattle.mesh_replay.specs.Checking.Going.{at, Went, FitsOrStops}
 use Rattle.mesh_replay.specs.Checking.Hearing.{TellsAll, TellsHeard}
 use Rattle.mesh_replay.proofs.CheckingLemmas.Going.{goes_on, goes_not, goes_there, went_nowhere}
 use Rattle.mesh_replay.proofs.HeardLemmas.Keeping.{set_itself, kept_with}
@@ -25,18 +25,18 @@ use Rattle.mesh_trace.specs.Positions.Standing.{Item, Sent, relay_items, with_st
 
 -- these items are told in any network in which the router stands, which leaves it in another state
 abbrev pub Leaves : List ℕ → Reader → Reader → State → State → List Item → Bool → Type 0
-Leaves trace old new s t items fits = (net : Net) (x : ℕ) (rest : List Item) → slice_get net.routers x ≡ Some s → Goes trace old new (at net x (items ++ rest)) (at (with_state net x t) x rest) fits
+Leaves trace old new s t items fits = (net : NetState) (x : ℕ) (rest : List Item) → slice_get net.routers x ≡ Some s → FitsOrStops trace old new (at net x (items ++ rest)) (at (with_state net x t) x rest) fits
 
 -- then more of the same event
 pub leaves_on : (case : Case) (old mid new : Progress) (x : ℕ) (s t : State) (items more : List Item) (reads fits : Bool) → reads ≡ true → mid.traffic ≡ old.traffic → Leaves case.trace.now old.reader mid.reader s t items reads →
-    Tells case mid new x t more fits → TellsAll case old new x s (items ++ more) t fits
+    TellsItems case mid new x t more fits → TellsAll case old new x s (items ++ more) t fits
 leaves_on case old mid new x s t items more reads fits good same one two net scenario traffic stands =
     let here = with_state net x t in
     let first : Went case.trace.now old.reader mid.reader (at net x (items ++ more)) (at here x more) = (one net x more stands).goes good in
-    let then : Goes case.trace.now mid.reader new.reader (at here x (more ++ [])) (at (with_traffic here new.traffic.traffic) x []) fits =
+    let then : FitsOrStops case.trace.now mid.reader new.reader (at here x (more ++ [])) (at (with_traffic here new.traffic.traffic) x []) fits =
     two here [] scenario (traffic ∙ ap (λ t. t.traffic) (sym same)) (set_here net.routers x t s stands) in
     goes_on case.trace.now old.reader mid.reader new.reader (at net x (items ++ more)) (at here x more) (at (with_traffic here new.traffic.traffic) x []) fits first
-    (subst (λ (l : List Item). Goes case.trace.now mid.reader new.reader (at here x l) (at (with_traffic here new.traffic.traffic) x []) fits) (append-nil more) then)
+    (subst (λ (l : List Item). FitsOrStops case.trace.now mid.reader new.reader (at here x l) (at (with_traffic here new.traffic.traffic) x []) fits) (append-nil more) then)
 
 -- or they stop
 pub leaves_not : (case : Case) (old new : Progress) (x : ℕ) (s t : State) (items more : List Item) (reads : Bool) → reads ≡ false → Leaves case.trace.now old.reader new.reader s t items reads → TellsAll case old new x s (items ++ more) t false

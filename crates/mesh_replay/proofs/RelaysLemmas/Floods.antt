@@ -10,9 +10,9 @@ use Rattle.mesh_atoms.specs.declared.tuples.Relays.{Relays}
 use Rattle.mesh_atoms.specs.RelayGraphs.{AreRelays, AreRelaysOf, IsFloodingGraph, IsRoutingGraph}
 use Rattle.mesh_atoms.specs.State.{State}
 use Rattle.mesh_trace.specs.machine.Laws.{SoundBases}
-use Rattle.mesh_trace.specs.machine.Net.{Net}
+use Rattle.mesh_trace.specs.machine.Net.{NetState}
 use Rattle.mesh_trace.proofs.machine.Places.{each_more, set_here}
-use Rattle.mesh_replay.specs.Checking.Going.{at, Went, StopsBefore, Goes}
+use Rattle.mesh_replay.specs.Checking.Going.{at, Went, StopsBefore, FitsOrStops}
 use Rattle.mesh_replay.specs.Checking.Kept.{with_relays}
 use Rattle.mesh_replay.specs.Checking.RelayLines.{HasFace, MayTell, IsStill, TakesTold, TellsNone, relays_left, HasTold, StopsTelling}
 use Rattle.mesh_replay.proofs.CheckingLemmas.Going.{went_nowhere, went_on, stops_on, goes_there, goes_not}
@@ -37,7 +37,7 @@ left_more r n inside =
 left_last : (r : RouterSettings) (n : ℕ) → n ≡ length r.interfaces → relays_left r n ≡ Routing ∷ []
 left_last r n all = ap (λ (l : List Interface). map (λ f. Flooding f.0) (enumerate_from n l) ++ (Routing ∷ [])) (drop_all n r.interfaces (omega (arith, all)))
 
-pub state_itself : (net : Net) (x : ℕ) (s : State) → slice_get net.routers x ≡ Some s → with_state net x s ≡ net
+pub state_itself : (net : NetState) (x : ℕ) (s : State) → slice_get net.routers x ≡ Some s → with_state net x s ≡ net
 state_itself net x s here = ap (λ (routers : List State). record net { routers = routers }) (set_itself net.routers x s here)
 
 -- ---- none was told yet
@@ -50,7 +50,7 @@ told_nothing trace s reader none = record {
   chosen = λ i relays here. absurd cc;
   went = λ net x rest here.
       let start = at net x (relay_items s.settings ++ rest) in
-      subst (λ (m : Net). Went trace reader reader start (at m x (relays_left s.settings 0 ++ rest))) (sym (state_itself net x s here)) (went_nowhere trace reader start);
+      subst (λ (m : NetState). Went trace reader reader start (at m x (relays_left s.settings 0 ++ rest))) (sym (state_itself net x s here)) (went_nowhere trace reader start);
 }
 
 -- ---- one more
@@ -76,21 +76,21 @@ module _ (trace : List ℕ) (before : State) (old : Reader) (after : State) (mid
   state_after = subst (λ (s : State). s ≡ with_relays before s.relays) (sym so.state) refl
 
   -- the position that was reached
-  here : (net : Net) (x : ℕ) → slice_get net.routers x ≡ Some before → slice_get (with_state net x after).routers x ≡ Some after
+  here : (net : NetState) (x : ℕ) → slice_get net.routers x ≡ Some before → slice_get (with_state net x after).routers x ≡ Some after
   here net x stood = set_here net.routers x after before stood
 
   went_more : (new : Reader) (iface : Option ℕ) (relays : List Addr4) (item : Item) (next : State) (more : List Item) → relays_left before.settings n ≡ item ∷ more →
-      ((net : Net) (rest : List Item) (x : ℕ) → slice_get net.routers x ≡ Some after → Went trace mid new (at net x (item ∷ rest)) (at (with_state net x next) x rest)) →
-      (net : Net) (x : ℕ) (rest : List Item) → slice_get net.routers x ≡ Some before → Went trace old new (at net x (relay_items before.settings ++ rest)) (at (with_state net x next) x (more ++ rest))
+      ((net : NetState) (rest : List Item) (x : ℕ) → slice_get net.routers x ≡ Some after → Went trace mid new (at net x (item ∷ rest)) (at (with_state net x next) x rest)) →
+      (net : NetState) (x : ℕ) (rest : List Item) → slice_get net.routers x ≡ Some before → Went trace old new (at net x (relay_items before.settings ++ rest)) (at (with_state net x next) x (more ++ rest))
   went_more new iface relays item next more left step net x rest stood =
       let was = with_state net x after in
       let one = step was (more ++ rest) x (here net x stood) in
-      let two = subst (λ (m : Net). Went trace mid new (at was x (item ∷ (more ++ rest))) (at m x (more ++ rest))) (set_again net x after next) one in
+      let two = subst (λ (m : NetState). Went trace mid new (at was x (item ∷ (more ++ rest))) (at m x (more ++ rest))) (set_again net x after next) one in
       went_on trace old mid new (at net x (relay_items before.settings ++ rest)) (at was x (item ∷ (more ++ rest))) (at (with_state net x next) x (more ++ rest))
       (subst (λ (l : List Item). Went trace old mid (at net x (relay_items before.settings ++ rest)) (at was x (l ++ rest))) left (so.went net x rest stood)) two
 
   stops_more : (new : Reader) (item : Item) (more : List Item) → relays_left before.settings n ≡ item ∷ more →
-      ((net : Net) (rest : List Item) (x : ℕ) → slice_get net.routers x ≡ Some after → StopsBefore trace mid new (at net x (item ∷ rest))) → StopsTelling trace before old new
+      ((net : NetState) (rest : List Item) (x : ℕ) → slice_get net.routers x ≡ Some after → StopsBefore trace mid new (at net x (item ∷ rest))) → StopsTelling trace before old new
   stops_more new item more left step net x rest stood =
       let was = with_state net x after in
       stops_on trace old mid new (at net x (relay_items before.settings ++ rest)) (at was x (item ∷ (more ++ rest)))
@@ -121,8 +121,8 @@ module _ (trace : List ℕ) (before : State) (old : Reader) (after : State) (mid
     stops_routing new still none = stops_more new Routing [] (left_last before.settings n all) (λ net rest x stood. stops_told trace mid new net x after None rest stood still none)
 
     pub went_all : (new : Reader) (relays : List Addr4) → MayTell after None relays → TakesTold trace mid new after.settings None relays →
-        (net : Net) (x : ℕ) (rest : List Item) → slice_get net.routers x ≡ Some before →
-        Goes trace old new (at net x (relay_items before.settings ++ rest)) (at (with_state net x (with_routing after relays)) x rest) true
+        (net : NetState) (x : ℕ) (rest : List Item) → slice_get net.routers x ≡ Some before →
+        FitsOrStops trace old new (at net x (relay_items before.settings ++ rest)) (at (with_state net x (with_routing after relays)) x rest) true
     went_all new relays may takes net x rest stood =
         goes_there trace old new (at net x (relay_items before.settings ++ rest)) (at (with_state net x (with_routing after relays)) x rest)
         (went_more new None relays Routing (with_routing after relays) [] (left_last before.settings n all)
@@ -148,8 +148,8 @@ told_pushed {u} {v} trace before old after mid n so new relays pushed was is pus
     (told_more trace before old after mid n so new relays inside may takes)
 
 -- they stop wherever they lead
-pub goes_nowhere : (trace : List ℕ) (before : State) (old new : Reader) (after : State) → StopsTelling trace before old new → (net : Net) (x : ℕ) (rest : List Item) → slice_get net.routers x ≡ Some before →
-    Goes trace old new (at net x (relay_items before.settings ++ rest)) (at (with_state net x after) x rest) false
+pub goes_nowhere : (trace : List ℕ) (before : State) (old new : Reader) (after : State) → StopsTelling trace before old new → (net : NetState) (x : ℕ) (rest : List Item) → slice_get net.routers x ≡ Some before →
+    FitsOrStops trace old new (at net x (relay_items before.settings ++ rest)) (at (with_state net x after) x rest) false
 goes_nowhere trace before old new after stops net x rest stood =
     goes_not trace old new (at net x (relay_items before.settings ++ rest)) (at (with_state net x after) x rest) (stops net x rest stood)
 
@@ -163,8 +163,8 @@ chosen_put {u} {v} trace before old after mid n so all relays was is may =
     subst (λ (s : State). AreRelays s s.last) (put_is {u = u} {v = v} after relays was is) (are_chosen trace before old after mid n so all relays may)
 
 pub went_put : {u v : State} (trace : List ℕ) (before : State) (old : Reader) (after : State) (mid : Reader) (n : ℕ) (so : HasTold trace before old after mid n) → n ≡ length before.settings.interfaces → (new : Reader) (relays : List Addr4) →
-    u ≡ after → v ≡ with_routing u relays → MayTell after None relays → TakesTold trace mid new after.settings None relays → (net : Net) (x : ℕ) (rest : List Item) → slice_get net.routers x ≡ Some before →
-    Goes trace old new (at net x (relay_items before.settings ++ rest)) (at (with_state net x v) x rest) true
+    u ≡ after → v ≡ with_routing u relays → MayTell after None relays → TakesTold trace mid new after.settings None relays → (net : NetState) (x : ℕ) (rest : List Item) → slice_get net.routers x ≡ Some before →
+    FitsOrStops trace old new (at net x (relay_items before.settings ++ rest)) (at (with_state net x v) x rest) true
 went_put {u} {v} trace before old after mid n so all new relays was is may takes net x rest stood =
-    subst (λ (s : State). Goes trace old new (at net x (relay_items before.settings ++ rest)) (at (with_state net x s) x rest) true) (put_is {u = u} {v = v} after relays was is)
+    subst (λ (s : State). FitsOrStops trace old new (at net x (relay_items before.settings ++ rest)) (at (with_state net x s) x rest) true) (put_is {u = u} {v = v} after relays was is)
     (went_all trace before old after mid n so all new relays may takes net x rest stood)

@@ -6,15 +6,15 @@ use Rattle.mesh_atoms.specs.declared.addr.Addr4.{Addr4}
 use Rattle.mesh_atoms.specs.declared.settings.Interface.{Interface}
 use Rattle.mesh_atoms.specs.declared.settings.RouterSettings.{RouterSettings}
 use Rattle.mesh_atoms.specs.State.{State}
-use Rattle.mesh_trace.specs.machine.Net.{Net}
+use Rattle.mesh_trace.specs.machine.Net.{NetState}
 use Rattle.mesh_trace.proofs.machine.Places.{same_at}
 use Rattle.mesh_replay.specs.Checking.Going.{at, Went, StopsBefore}
 use Rattle.mesh_replay.specs.Checking.RelayLines.{HasFace, MayTell, front_text, told_text, item_for, with_told, IsStill, TakesTold, TellsNone}
 use Rattle.mesh_texts.specs.Lines.Marks.{name_of_face, face_name, relays_text}
 use Rattle.mesh_texts.specs.Trace.{flooding_text, routing_relays_line}
 use Rattle.mesh_trace.specs.declared.reading.Reader.{Reader}
-use Rattle.mesh_trace.specs.Positions.Items.{Tells, Tells_flooding, Tells_routing, with_flooding, with_routing}
-use Rattle.mesh_trace.specs.Positions.Leading.{Leads}
+use Rattle.mesh_trace.specs.Positions.Items.{TellsItem, Tells_flooding, Tells_routing, with_flooding, with_routing}
+use Rattle.mesh_trace.specs.Positions.Leading.{LineLeads}
 use Rattle.mesh_trace.specs.Positions.Standing.{Item, Flooding, Routing, TracePosition, with_state}
 use Rattle.mesh_trace.specs.Reading.Readers.{lines_from}
 use Rattle.mesh_trace.proofs.PositionsLemmas.Leading.{undone, leads_item, to_item}
@@ -56,8 +56,8 @@ same_told s iface told relays rest one other wide may = subst (λ (l : List Addr
 
 -- ---- it leads on
 
-leads_told : (net : Net) (x : ℕ) (s : State) (iface : Option ℕ) (relays : List Addr4) (rest : List Item) (line : List ℕ) → HasFace s.settings iface → slice_get net.routers x ≡ Some s →
-    MayTell s iface relays → line ++ codes "\n" ≡ told_text s.settings iface relays → Leads (at net x (item_for iface ∷ rest)) line (at (with_state net x (with_told s iface relays)) x rest)
+leads_told : (net : NetState) (x : ℕ) (s : State) (iface : Option ℕ) (relays : List Addr4) (rest : List Item) (line : List ℕ) → HasFace s.settings iface → slice_get net.routers x ≡ Some s →
+    MayTell s iface relays → line ++ codes "\n" ≡ told_text s.settings iface relays → LineLeads (at net x (item_for iface ∷ rest)) line (at (with_state net x (with_told s iface relays)) x rest)
 leads_told net x s (Some i) relays rest line has here may text =
     let (face, face_is) = stands s.settings.interfaces i (has i refl) in
     to_item net x (Flooding i) rest line s (with_state net x (with_flooding s relays)) [] here
@@ -66,7 +66,7 @@ leads_told net x s None relays rest line has here may text =
     to_item net x Routing rest line s (with_state net x (with_routing s relays)) [] here
     (Tells_routing relays may.graph may.is_graph may.are (text ∙ routing_line_is s.settings relays))
 
-pub went_told : (trace : List ℕ) (old new : Reader) (net : Net) (x : ℕ) (s : State) (iface : Option ℕ) (relays : List Addr4) (rest : List Item) → HasFace s.settings iface →
+pub went_told : (trace : List ℕ) (old new : Reader) (net : NetState) (x : ℕ) (s : State) (iface : Option ℕ) (relays : List Addr4) (rest : List Item) → HasFace s.settings iface →
     slice_get net.routers x ≡ Some s → MayTell s iface relays → TakesTold trace old new s.settings iface relays →
     Went trace old new (at net x (item_for iface ∷ rest)) (at (with_state net x (with_told s iface relays)) x rest)
 went_told trace old new net x s iface relays rest has here may takes = record {
@@ -83,32 +83,32 @@ record ToldBy (s : State) (iface : Option ℕ) (line : List ℕ) : Type 0 where
   may : MayTell s iface relays
   text : line ++ codes "\n" ≡ told_text s.settings iface relays
 
-flooding_told : (net : Net) (x : ℕ) (s : State) (line : List ℕ) (i : ℕ) (new : Net) (more : List Item) → Tells net x s line (Flooding i) new more → ToldBy s (Some i) line
+flooding_told : (net : NetState) (x : ℕ) (s : State) (line : List ℕ) (i : ℕ) (new : NetState) (more : List Item) → TellsItem net x s line (Flooding i) new more → ToldBy s (Some i) line
 flooding_told net x s line i new more (Tells_flooding face relays g here graph are is) = record {
   relays = relays;
   may = record { graph = g; is_graph = graph; are = are };
   text = is ∙ sym (flooding_line_is s.settings i face relays here);
 }
 
-routing_told : (net : Net) (x : ℕ) (s : State) (line : List ℕ) (new : Net) (more : List Item) → Tells net x s line Routing new more → ToldBy s None line
+routing_told : (net : NetState) (x : ℕ) (s : State) (line : List ℕ) (new : NetState) (more : List Item) → TellsItem net x s line Routing new more → ToldBy s None line
 routing_told net x s line new more (Tells_routing relays g graph are is) = record {
   relays = relays;
   may = record { graph = g; is_graph = graph; are = are };
   text = is ∙ sym (routing_line_is s.settings relays);
 }
 
-told_by : (net : Net) (x : ℕ) (s : State) (iface : Option ℕ) (rest : List Item) (line : List ℕ) (q : TracePosition) → slice_get net.routers x ≡ Some s →
-    Leads (at net x (item_for iface ∷ rest)) line q → ToldBy s iface line
+told_by : (net : NetState) (x : ℕ) (s : State) (iface : Option ℕ) (rest : List Item) (line : List ℕ) (q : TracePosition) → slice_get net.routers x ≡ Some s →
+    LineLeads (at net x (item_for iface ∷ rest)) line q → ToldBy s iface line
 told_by net x s (Some i) rest line q here leads =
     let item = leads_item net x (Flooding i) rest line q leads in
     flooding_told net x s line i item.new item.more
-    (subst (λ (t : State). Tells net x t line (Flooding i) item.new item.more) (same_at net.routers x item.s s item.stands here) item.tells)
+    (subst (λ (t : State). TellsItem net x t line (Flooding i) item.new item.more) (same_at net.routers x item.s s item.stands here) item.tells)
 told_by net x s None rest line q here leads =
     let item = leads_item net x Routing rest line q leads in
     routing_told net x s line item.new item.more
-    (subst (λ (t : State). Tells net x t line Routing item.new item.more) (same_at net.routers x item.s s item.stands here) item.tells)
+    (subst (λ (t : State). TellsItem net x t line Routing item.new item.more) (same_at net.routers x item.s s item.stands here) item.tells)
 
-pub stops_told : (trace : List ℕ) (old new : Reader) (net : Net) (x : ℕ) (s : State) (iface : Option ℕ) (rest : List Item) → slice_get net.routers x ≡ Some s → IsStill old new →
+pub stops_told : (trace : List ℕ) (old new : Reader) (net : NetState) (x : ℕ) (s : State) (iface : Option ℕ) (rest : List Item) → slice_get net.routers x ≡ Some s → IsStill old new →
     TellsNone trace new s iface → StopsBefore trace old new (at net x (item_for iface ∷ rest))
 stops_told trace old new net x s iface rest here still none = record {
   stop = at net x (item_for iface ∷ rest);

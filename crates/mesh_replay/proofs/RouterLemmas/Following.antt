@@ -12,7 +12,7 @@ use Rattle.mesh_trace.specs.machine.Renewal.{IsNextAnsn, IsEmptied}
 use Rattle.mesh_trace.proofs.machine.Opening.{opening_sound}
 use Rattle.mesh_trace.proofs.machine.Soundness.{bases_of, live_bases_sound}
 use Rattle.mesh_trace.proofs.machine.nhdp.TcCounts.{tc_rows_few}
-use Rattle.mesh_replay.specs.Checking.Events.{AreRowsWith, Begins}
+use Rattle.mesh_replay.specs.Checking.Events.{AreRowsWith, BeginsEvent}
 use Rattle.mesh_replay.specs.Checking.Kept.{IsSoundRouter, IsAtRest}
 use Rattle.mesh_renewal.proofs.RowMoments.{some_or_none}
 use Rattle.mesh_trace.specs.Positions.Due.{none_told}
@@ -42,9 +42,9 @@ few_rows settings bases now s rows is_settings is_bases sound are =
     (are s is_settings is_bases)
 
 -- a quiet event is begun with the rows as they were
-pub begun_quietly : (old : State) (now : ℕ) (relays : Relays) → relays ≡ none_told → AreRowsWith old.settings old.bases old.rows → Begins old now (record old { relays = relays; last = now })
+pub begun_quietly : (old : State) (now : ℕ) (relays : Relays) → relays ≡ none_told → AreRowsWith old.settings old.bases old.rows → BeginsEvent old now (record old { relays = relays; last = now })
 begun_quietly old now relays none rows =
-    subst (λ (r : Relays). Begins old now (record old { relays = r; last = now })) (sym none) (record {
+    subst (λ (r : Relays). BeginsEvent old now (record old { relays = r; last = now })) (sym none) (record {
       rows = rows;
       ansn = inl (refl, refl);
       emptied = inr (some_or_none old.rows, refl);
@@ -53,7 +53,7 @@ begun_quietly old now relays none rows =
 
 -- and another one with rows that are made anew
 pub begun_anew : (old s : State) (now : ℕ) (relays : Relays) → relays ≡ none_told → AreRowsWith old.settings old.bases s.rows → IsNextAnsn (record old { relays = relays; last = now }) s → IsEmptied (record old { relays = relays; last = now }) s →
-    s ≡ record old { relays = relays; rows = s.rows; ansn = s.ansn; emptied = s.emptied; last = now } → Begins old now s
+    s ≡ record old { relays = relays; rows = s.rows; ansn = s.ansn; emptied = s.emptied; last = now } → BeginsEvent old now s
 begun_anew old s now relays none rows ansn emptied others = record {
   rows = rows;
   ansn = ansn;

@@ -10,12 +10,12 @@ use Rattle.mesh_trace.specs.machine.Renewal.{IsNextAnsn, IsEmptied}
 use Rattle.mesh_topo.specs.declared.advertised.spans.PartSpan.{PartSpan}
 use Rattle.mesh_trace.specs.Positions.Due.{Follows, HellosDue, TcsDue, TicksBy, none_told}
 use Rattle.mesh_trace.specs.Positions.Standing.{relay_items}
-use Rattle.mesh_replay.specs.Checking.Events.{AreRelaysWith, AreRowsWith, Begins}
+use Rattle.mesh_replay.specs.Checking.Events.{AreRelaysWith, AreRowsWith, BeginsEvent}
 use Rattle.mesh_replay.specs.Checking.Kept.{IsSoundRouter, hello_items, tc_items, with_relays}
 use Rattle.mesh_replay.proofs.RouterLemmas.Following.{sound_by}
 
 -- bases were changed, and then what follows from them but for relays
-pub follows_by : (old mid s : State) (now : ℕ) → mid.settings ≡ old.settings → mid ≡ record old { settings = mid.settings; bases = mid.bases } → Begins mid now s → Follows old now mid.bases s
+pub follows_by : (old mid s : State) (now : ℕ) → mid.settings ≡ old.settings → mid ≡ record old { settings = mid.settings; bases = mid.bases } → BeginsEvent mid now s → Follows old now mid.bases s
 follows_by old mid s now same from begins = record {
   settings = ap (λ (x : State). x.settings) begins.others ∙ same;
   bases_are = ap (λ (x : State). x.bases) begins.others;
@@ -27,18 +27,18 @@ follows_by old mid s now same from begins = record {
 }
 
 -- and it is sound
-pub sound_begun : (mid s : State) (now : ℕ) → SoundBases mid.settings now mid.bases → Begins mid now s → IsSoundRouter s
+pub sound_begun : (mid s : State) (now : ℕ) → SoundBases mid.settings now mid.bases → BeginsEvent mid now s → IsSoundRouter s
 sound_begun mid s now sound begins =
     sound_by mid.settings mid.bases now s (ap (λ (x : State). x.settings) begins.others) (ap (λ (x : State). x.bases) begins.others) (ap (λ (x : State). x.last) begins.others) sound begins.rows
 
 -- and may have these relays
-pub relays_begun : (mid s : State) (now : ℕ) (relays : Relays) → Begins mid now s → AreRelaysWith mid.settings mid.bases now relays → AreRelays (with_relays s relays) s.last
+pub relays_begun : (mid s : State) (now : ℕ) (relays : Relays) → BeginsEvent mid now s → AreRelaysWith mid.settings mid.bases now relays → AreRelays (with_relays s relays) s.last
 relays_begun mid s now relays begins are =
     subst (λ (n : ℕ). AreRelays (with_relays s relays) n) (sym (ap (λ (x : State). x.last) begins.others))
     (are (with_relays s relays) (ap (λ (x : State). x.settings) begins.others) (ap (λ (x : State). x.bases) begins.others) refl)
 
 -- then the next HELLO and TC
-module _ (mid one two s : State) (now : ℕ) (begins : Begins mid now one) (second : two ≡ record one { next_hello = two.next_hello })
+module _ (mid one two s : State) (now : ℕ) (begins : BeginsEvent mid now one) (second : two ≡ record one { next_hello = two.next_hello })
     (third : s ≡ record two { next_tc = s.next_tc; sequence = s.sequence }) where
   pub settings_after : s.settings ≡ mid.settings
   settings_after = ap (λ (x : State). x.settings) third ∙ (ap (λ (x : State). x.settings) second ∙ ap (λ (x : State). x.settings) begins.others)

@@ -4,7 +4,7 @@ use Rattle.std.specs.Prelude.{if◌then◌else◌, ◌==◌, Bool, true, false}
 use Rattle.std.proofs.lemmas.List.{drop_all, length-drop}
 use Rattle.std.proofs.lemmas.Result.{IfOk-weaker}
 use Rattle.mesh_atoms.specs.declared.settings.Scenario.{Scenario}
-use Rattle.mesh_trace.specs.machine.Net.{Net}
+use Rattle.mesh_trace.specs.machine.Net.{NetState}
 use Rattle.mesh_trace.specs.machine.NetRun.{IsOver}
 use Rattle.mesh_replay.specs.declared.answer.Replay.{Replay}
 use Rattle.mesh_replay.specs.declared.answer.Replay.TheVariants.{Yes, No}
@@ -12,7 +12,7 @@ use Rattle.mesh_replay.specs.declared.checking.case.Case.{Case}
 use Rattle.mesh_replay.specs.declared.checking.case.Progress.{Progress}
 use Rattle.mesh_replay.specs.declared.checking.scene.Outcome.{Outcome}
 use Rattle.mesh_replay.specs.declared.checking.scene.Outcome.TheVariants.{Fits, Unfit, Over}
-use Rattle.mesh_replay.specs.Checking.Answers.{Answers}
+use Rattle.mesh_replay.specs.Checking.Answers.{ReplayAnswers}
 use Rattle.mesh_replay.specs.Checking.Going.{at, Went}
 use Rattle.mesh_replay.specs.Checking.Reached.{HasRead}
 use Rattle.mesh_replay.specs.Checking.Scenes.{Comes, IsReachedNet}
@@ -25,7 +25,7 @@ use Rattle.mesh_trace.proofs.PositionsLemmas.Fixed.{one_decides_fit, one_decides
 use Rattle.mesh_trace.proofs.PositionsLemmas.Walks.{leads_on}
 
 -- the lines lead to the network between events
-pub is_reached : (case : Case) (reader : Reader) (net : Net) → HasRead case reader net → IsReachedNet case net
+pub is_reached : (case : Case) (reader : Reader) (net : NetState) → HasRead case reader net → IsReachedNet case net
 is_reached case reader net h = (h.lines, h.router, h.reaches)
 
 -- lines that were read behind others
@@ -35,7 +35,7 @@ record HasReadTo (case : Case) (reader : Reader) (p : TracePosition) : Type 0 wh
   read : lines_of case.trace.now ≡ lines ++ lines_from case.trace.now reader.at
   taken : reader.taken ≡ length lines
 
-more_read : (case : Case) (old new : Reader) (net : Net) (q : TracePosition) → (h : HasRead case old net) → Went case.trace.now old new (at net h.router []) q → HasReadTo case new q
+more_read : (case : Case) (old new : Reader) (net : NetState) (q : TracePosition) → (h : HasRead case old net) → Went case.trace.now old new (at net h.router []) q → HasReadTo case new q
 more_read case old new net q h went = record {
   lines = h.lines ++ went.lines;
   reaches = let (first, is, leads) = h.reaches in (first, is, leads_on first (at net h.router []) q h.lines went.lines leads went.leads);
@@ -44,14 +44,14 @@ more_read case old new net q h went = record {
 }
 
 -- the lines of an event that fit lead on to the next network between events
-pub read_on : (case : Case) (old new : Progress) (before after : Net) (outcome : Outcome) → HasRead case old.reader before → Comes case old new before after outcome → outcome ≡ Fits → HasRead case new.reader after
+pub read_on : (case : Case) (old new : Progress) (before after : NetState) (outcome : Outcome) → HasRead case old.reader before → Comes case old new before after outcome → outcome ≡ Fits → HasRead case new.reader after
 read_on case old new before after outcome h comes is =
     let (y, went) = subst (Comes case old new before after) is comes h.router in
     let more = more_read case old.reader new.reader before (at after y []) h went in
     record { lines = more.lines; router = y; reaches = more.reaches; read = more.read; taken = more.taken }
 
 -- where no event is left, the lines lead to a network whose run is over
-pub read_to_end : (case : Case) (old new : Progress) (before after : Net) (outcome : Outcome) → HasRead case old.reader before → Comes case old new before after outcome → outcome ≡ Over → (net : Net) × HasRead case new.reader net × IsOver net
+pub read_to_end : (case : Case) (old new : Progress) (before after : NetState) (outcome : Outcome) → HasRead case old.reader before → Comes case old new before after outcome → outcome ≡ Over → (net : NetState) × HasRead case new.reader net × IsOver net
 read_to_end case old new before after outcome h comes is =
     let (over, same, stays) = subst (Comes case old new before after) is comes in
     (before, subst (λ (r : Reader). HasRead case r before) (sym stays) h, over)
@@ -65,7 +65,7 @@ unfit_at s all lines [] p reaches is none undone =
 unfit_at s all lines (line ∷ rest) p reaches is none undone = At_line p lines line rest is reaches (none line rest refl)
 
 -- the lines of an event that don't fit
-pub stopped : (case : Case) (old new : Progress) (before after : Net) (outcome : Outcome) → HasRead case old.reader before → Comes case old new before after outcome → outcome ≡ Unfit →
+pub stopped : (case : Case) (old new : Progress) (before after : NetState) (outcome : Outcome) → HasRead case old.reader before → Comes case old new before after outcome → outcome ≡ Unfit →
     IsUnfit case.scenario.now (lines_of case.trace.now) (new.reader.taken + 1)
 stopped case old new before after outcome h comes is =
     let s = case.scenario.now in
@@ -87,12 +87,12 @@ has_lines octet text = by_cases (octet == 10)
     by_cases false e = begun_not octet (lines_of text) e
 
 -- at the end of a run
-module _ (case : Case) (reader : Reader) (net : Net) (h : HasRead case reader net) (over : IsOver net) where
+module _ (case : Case) (reader : Reader) (net : NetState) (h : HasRead case reader net) (over : IsOver net) where
   whole_there : IsWholeTrace case.scenario.now h.lines
   whole_there = (at net h.router [], h.reaches, record { over = over; none = refl })
 
   -- no line is left
-  pub whole_if_done : (count : ℕ) → length case.trace.now ≡ reader.at → count ≡ reader.taken → Answers case.scenario.now (lines_of case.trace.now) (Yes count)
+  pub whole_if_done : (count : ℕ) → length case.trace.now ≡ reader.at → count ≡ reader.taken → ReplayAnswers case.scenario.now (lines_of case.trace.now) (Yes count)
   whole_if_done count done is =
       let none : lines_from case.trace.now reader.at ≡ [] = ap lines_of (drop_all reader.at case.trace.now (omega (arith, done))) in
       let all : lines_of case.trace.now ≡ h.lines = h.read ∙ (ap (λ (l : List (List ℕ)). h.lines ++ l) none ∙ append-nil h.lines) in
@@ -120,16 +120,16 @@ IsYesExactly s lines answer = (count : ℕ) → (answer ≡ Yes count ↔ IsWhol
 abbrev pub IsNoExactly : Scenario → List (List ℕ) → Replay → Type 0
 IsNoExactly s lines answer = (line : ℕ) → (answer ≡ No line ↔ IsUnfit s lines line)
 
-yes_exactly : (s : Scenario) (lines : List (List ℕ)) (answer : Replay) → Answers s lines answer → IsYesExactly s lines answer
+yes_exactly : (s : Scenario) (lines : List (List ℕ)) (answer : Replay) → ReplayAnswers s lines answer → IsYesExactly s lines answer
 yes_exactly s lines (Yes n) (whole, is) count = ((λ e. (whole, let same : n ≡ count = cc in sym same ∙ is)), (λ both. ap Yes (is ∙ sym both.1)))
 yes_exactly s lines (No k) unfit count = ((λ e. absurd (cc)), (λ both. absurd (unfit_is_not_whole s lines k unfit both.0)))
 
-no_exactly : (s : Scenario) (lines : List (List ℕ)) (answer : Replay) → Answers s lines answer → IsNoExactly s lines answer
+no_exactly : (s : Scenario) (lines : List (List ℕ)) (answer : Replay) → ReplayAnswers s lines answer → IsNoExactly s lines answer
 no_exactly s lines (Yes n) (whole, is) line = ((λ e. absurd (cc)), (λ unfit. absurd (unfit_is_not_whole s lines line unfit whole)))
 no_exactly s lines (No k) unfit line = ((λ e. let same : k ≡ line = cc in subst (IsUnfit s lines) same unfit), (λ other. ap No (one_unfit s lines k line unfit other)))
 
-pub if_yes : {E : Type 0} (s : Scenario) (lines : List (List ℕ)) (r : Result Replay E) → IfOk r (Answers s lines) → IfOk r (IsYesExactly s lines)
-if_yes s lines r h = IfOk-weaker r (Answers s lines) (IsYesExactly s lines) (yes_exactly s lines) h
+pub if_yes : {E : Type 0} (s : Scenario) (lines : List (List ℕ)) (r : Result Replay E) → IfOk r (ReplayAnswers s lines) → IfOk r (IsYesExactly s lines)
+if_yes s lines r h = IfOk-weaker r (ReplayAnswers s lines) (IsYesExactly s lines) (yes_exactly s lines) h
 
-pub if_no : {E : Type 0} (s : Scenario) (lines : List (List ℕ)) (r : Result Replay E) → IfOk r (Answers s lines) → IfOk r (IsNoExactly s lines)
-if_no s lines r h = IfOk-weaker r (Answers s lines) (IsNoExactly s lines) (no_exactly s lines) h
+pub if_no : {E : Type 0} (s : Scenario) (lines : List (List ℕ)) (r : Result Replay E) → IfOk r (ReplayAnswers s lines) → IfOk r (IsNoExactly s lines)
+if_no s lines r h = IfOk-weaker r (ReplayAnswers s lines) (IsNoExactly s lines) (no_exactly s lines) h

@@ -13,7 +13,7 @@ use Rattle.mesh_trace.specs.machine.Traffic as net
 use Rattle.mesh_trace.proofs.machine.Places.{each_more, same_at}
 use Rattle.mesh_replay.specs.declared.checking.case.Case.{Case}
 use Rattle.mesh_replay.specs.declared.checking.case.Progress.{Progress}
-use Rattle.mesh_replay.specs.declared.checking.scene.Due.{Due}
+use Rattle.mesh_replay.specs.declared.checking.scene.FirstTick.{FirstTick}
 use Rattle.mesh_replay.specs.Checking.Cases.{IsCase}
 use Rattle.mesh_replay.specs.Checking.Going.{at}
 use Rattle.mesh_replay.specs.Checking.Kept.{IsAtRest}
@@ -40,7 +40,7 @@ some_router s routers h =
     let least = s.sound_routers.routers.at_least in
     omega (arith, least, h.count_is, length-map s.routers (λ (r : RouterSettings). r.name))
 
-pub opening_sound : (case : Case) (routers : List State) (due : Due) (last_ticks : ℕ) (progress : Progress) → IsCase case → IsOpeningProgress case.scenario.now.seed progress →
+pub opening_sound : (case : Case) (routers : List State) (due : FirstTick) (last_ticks : ℕ) (progress : Progress) → IsCase case → IsOpeningProgress case.scenario.now.seed progress →
     IsAtFirstLine case.scenario.now routers due last_ticks → IsSoundScene case routers due last_ticks progress
 opening_sound case routers due last_ticks progress is begun opens = record {
   case_is = is;
@@ -58,7 +58,7 @@ opening_sound case routers due last_ticks progress is begun opens = record {
   few = let none = opens.none in omega (arith, none);
 }
 
-opening_net : (case : Case) (routers : List State) (due : Due) (last_ticks : ℕ) (progress : Progress) → IsOpeningProgress case.scenario.now.seed progress →
+opening_net : (case : Case) (routers : List State) (due : FirstTick) (last_ticks : ℕ) (progress : Progress) → IsOpeningProgress case.scenario.now.seed progress →
     IsAtFirstLine case.scenario.now routers due last_ticks → IsOpeningNet case.scenario.now (net_of case routers last_ticks progress)
 opening_net case routers due last_ticks progress begun opens = record {
   scenario_is = refl;
@@ -71,7 +71,7 @@ opening_net case routers due last_ticks progress begun opens = record {
 }
 
 -- no line leads to the network before its first event
-pub opening_read : (case : Case) (routers : List State) (due : Due) (last_ticks : ℕ) (progress : Progress) → IsOpeningProgress case.scenario.now.seed progress →
+pub opening_read : (case : Case) (routers : List State) (due : FirstTick) (last_ticks : ℕ) (progress : Progress) → IsOpeningProgress case.scenario.now.seed progress →
     IsAtFirstLine case.scenario.now routers due last_ticks → HasRead case progress.reader (net_of case routers last_ticks progress)
 opening_read case routers due last_ticks progress begun opens =
     let first = at (net_of case routers last_ticks progress) 0 [] in

@@ -3,7 +3,7 @@ use Rattle.std.proofs.Common.{◌≡◌, ℕ, ◌+◌, ◌<◌, List, [], ◌∷
 use Rattle.std.specs.Prelude.{slice_get}
 use Rattle.mesh_atoms.specs.State.{State}
 use Rattle.mesh_trace.specs.machine.Machine.{due}
-use Rattle.mesh_trace.specs.machine.Net.{Net, TicksNext, HasOnlyLastTicks}
+use Rattle.mesh_trace.specs.machine.Net.{NetState, TicksNext, HasOnlyLastTicks}
 use Rattle.mesh_trace.specs.machine.NetRun.{IsOver}
 use Rattle.mesh_trace.proofs.machine.Places.{same_at, set_here}
 use Rattle.mesh_texts.specs.Trace.{tick_line}
@@ -17,7 +17,7 @@ use Rattle.mesh_trace.specs.declared.reading.Reader.{Reader}
 use Rattle.mesh_trace.specs.Positions.Alike.{HasAddresses}
 use Rattle.mesh_trace.specs.Positions.Due.{TicksBy}
 use Rattle.mesh_trace.specs.Positions.Events.{OpensTick, OpensEvent, By_delivery, By_tick, By_last_tick}
-use Rattle.mesh_trace.specs.Positions.Leading.{Leads, To_event, To_item}
+use Rattle.mesh_trace.specs.Positions.Leading.{LineLeads, To_event, To_item}
 use Rattle.mesh_trace.specs.Positions.Standing.{Item, TracePosition, IsDone, with_state}
 use Rattle.mesh_trace.specs.Reading.Lines.{IsLineOf}
 use Rattle.mesh_trace.specs.Reading.Readers.{lines_from}
@@ -27,7 +27,7 @@ use Rattle.mesh_trace.proofs.PositionsLemmas.Over.{all_at}
 use Rattle.mesh_trace.proofs.PositionsLemmas.Walks.{leads_on}
 
 -- the tick that is next opens the next event
-opens_next : (net : Net) (x now l : ℕ) (line : List ℕ) (q : TracePosition) → IsTickNext net x now l → OpensTick net x now l line q → OpensEvent net line q
+opens_next : (net : NetState) (x now l : ℕ) (line : List ℕ) (q : TracePosition) → IsTickNext net x now l → OpensTick net x now l line q → OpensEvent net line q
 opens_next net x now l line q (Is_due next same) h = By_tick x now next (subst (λ (n : ℕ). OpensTick net x now n line q) same h)
 opens_next net x now l line q (Is_last only some router moment last) h =
     By_last_tick only some
@@ -35,7 +35,7 @@ opens_next net x now l line q (Is_last only some router moment last) h =
     (subst (λ (n : ℕ). OpensTick net net.last_ticks n l line q) moment (subst (λ (n : ℕ). OpensTick net n now l line q) router h)))
 
 -- and nothing else does
-only_next : (net : Net) (x now l : ℕ) (line : List ℕ) (q : TracePosition) → IsTickNext net x now l → OpensEvent net line q → OpensTick net x now l line q
+only_next : (net : NetState) (x now l : ℕ) (line : List ℕ) (q : TracePosition) → IsTickNext net x now l → OpensEvent net line q → OpensTick net x now l line q
 only_next net x now l line q (Is_due next same) (By_delivery h) = absurd (not_tick net h.delivery h.others x now h.next next)
 only_next net x now l line q (Is_due next same) (By_tick y moment other h) =
     let (router, moments) = due_once net.routers y x moment now other.first next.first in
@@ -49,23 +49,23 @@ only_next net x now l line q (Is_last only some router moment last) (By_last_tic
     (subst (λ (n : ℕ). OpensTick net net.last_ticks n l line q) (sym moment) (subst (λ (n : ℕ). OpensTick net net.last_ticks net.scenario.end n line q) (sym last) h))
 
 -- where a tick is next, the run isn't over
-not_over : (net : Net) (x now l : ℕ) → IsTickNext net x now l → IsOver net → ⊥
+not_over : (net : NetState) (x now l : ℕ) → IsTickNext net x now l → IsOver net → ⊥
 not_over net x now l (Is_due next same) over = tick_not_last net x now next over.only
 not_over net x now l (Is_last only some router moment last) over = let all = over.last_ticks in omega (arith, some, all)
 
-module _ (net : Net) (x now l : ℕ) (was : State) (next : IsTickNext net x now l) (stands : slice_get net.routers x ≡ Some was) where
+module _ (net : NetState) (x now l : ℕ) (was : State) (next : IsTickNext net x now l) (stands : slice_get net.routers x ≡ Some was) where
   -- the position behind the line of the tick
   abbrev pub ticking : State → List Item → TracePosition
   ticking is left = at (record (with_state net x is) { last_ticks = l }) x left
 
   -- its line leads there
-  pub tick_leads : (y : ℕ) (is : State) (left : List Item) (line : List ℕ) → TicksBy was now is left → IsLineOf line (tick_line now was.settings.name) → Leads (at net y []) line (ticking is left)
+  pub tick_leads : (y : ℕ) (is : State) (left : List Item) (line : List ℕ) → TicksBy was now is left → IsLineOf line (tick_line now was.settings.name) → LineLeads (at net y []) line (ticking is left)
   tick_leads y is left line ticks told =
       To_event refl (opens_next net x now l line (ticking is left) next
       (record { was = was; stands = stands; line_is = told; is = is; left = left; ticks = ticks; leads = refl }))
 
   -- no other line leads on
-  only_tick : (y : ℕ) (line : List ℕ) (q : TracePosition) → Leads (at net y []) line q → IsLineOf line (tick_line now was.settings.name)
+  only_tick : (y : ℕ) (line : List ℕ) (q : TracePosition) → LineLeads (at net y []) line q → IsLineOf line (tick_line now was.settings.name)
   only_tick y line q (To_event none opens) =
       let h = only_next net x now l line q next opens in
       subst (λ (s : State). IsLineOf line (tick_line now s.settings.name)) (same_at net.routers x h.was was h.stands stands) h.line_is

@@ -4,13 +4,13 @@ use Rattle.std.specs.Prelude.{slice_get, slice_set, IsTrue, Result, Ok, Err, IfO
 use Rattle.mesh_atoms.specs.declared.settings.Scenario.{Scenario}
 use Rattle.mesh_atoms.specs.RelayGraphs.{AreRelays}
 use Rattle.mesh_atoms.specs.State.{State}
-use Rattle.mesh_trace.specs.machine.Net.{Net}
+use Rattle.mesh_trace.specs.machine.Net.{NetState}
 use Rattle.mesh_trace.proofs.machine.Places.{set_here}
 use Rattle.mesh_replay.specs.declared.checking.case.Case.{Case}
 use Rattle.mesh_replay.specs.declared.checking.case.Progress.{Progress}
 use Rattle.mesh_replay.specs.declared.checking.router.Ticked.{Ticked}
-use Rattle.mesh_replay.specs.Checking.Cases.{Tells}
-use Rattle.mesh_replay.specs.Checking.Going.{at, Goes, Went}
+use Rattle.mesh_replay.specs.Checking.Cases.{TellsItems}
+use Rattle.mesh_replay.specs.Checking.Going.{at, FitsOrStops, Went}
 use Rattle.mesh_replay.specs.Checking.Kept.{IsSoundRouter, IsAtRest, AreAtRest, with_relays}
 use Rattle.mesh_replay.specs.Checking.Scenes.{IsTickNext, IsReachedNet}
 use Rattle.mesh_replay.specs.Checking.Ticked.{TakesTick, TellsTick, TicksAsTold, sent_items}
@@ -31,20 +31,20 @@ kept_with s t is sound relays = record { sound = sound_with s t is sound; relays
 
 -- the relay lines are told as far as they fit
 abbrev pub TellsRelays : List ℕ → Reader → Reader → State → State → Bool → Type 0
-TellsRelays trace old new s t fits = (net : Net) (x : ℕ) (rest : List Item) → slice_get net.routers x ≡ Some s →
-    Goes trace old new (at net x (relay_items s.settings ++ rest)) (at (with_state net x t) x rest) fits
+TellsRelays trace old new s t fits = (net : NetState) (x : ℕ) (rest : List Item) → slice_get net.routers x ≡ Some s →
+    FitsOrStops trace old new (at net x (relay_items s.settings ++ rest)) (at (with_state net x t) x rest) fits
 
 -- the relays are told, then what is sent
 pub ticked_told : (case : Case) (old mid new : Progress) (x : ℕ) (s t : State) (ticked : Ticked) (reads fits : Bool) → t ≡ with_relays s t.relays → mid.traffic ≡ old.traffic →
-    TellsRelays case.trace.now old.reader mid.reader s t reads → reads ≡ true → Tells case mid new x t (sent_items t ticked) fits → TellsTick case old new x s t ticked fits
+    TellsRelays case.trace.now old.reader mid.reader s t reads → reads ≡ true → TellsItems case mid new x t (sent_items t ticked) fits → TellsTick case old new x s t ticked fits
 ticked_told case old mid new x s t ticked reads fits is same relays good tells net scenario flights stands =
     let items : sent_items t ticked ≡ sent_items s ticked = ap (λ (z : State). sent_items z ticked) is in
     let one = (relays net x (sent_items s ticked) stands).goes good in
-    let here : Goes case.trace.now mid.reader new.reader (at (with_state net x t) x (sent_items t ticked ++ [])) (at (with_traffic (with_state net x t) new.traffic.traffic) x []) fits =
+    let here : FitsOrStops case.trace.now mid.reader new.reader (at (with_state net x t) x (sent_items t ticked ++ [])) (at (with_traffic (with_state net x t) new.traffic.traffic) x []) fits =
     tells (with_state net x t) [] scenario (flights ∙ ap (λ z. z.traffic) (sym same)) (set_here net.routers x t s stands) in
     goes_on case.trace.now old.reader mid.reader new.reader (at net x (relay_items s.settings ++ sent_items s ticked)) (at (with_state net x t) x (sent_items s ticked))
     (at (with_traffic (with_state net x t) new.traffic.traffic) x []) fits one
-    (subst (λ (l : List Item). Goes case.trace.now mid.reader new.reader (at (with_state net x t) x l) (at (with_traffic (with_state net x t) new.traffic.traffic) x []) fits)
+    (subst (λ (l : List Item). FitsOrStops case.trace.now mid.reader new.reader (at (with_state net x t) x l) (at (with_traffic (with_state net x t) new.traffic.traffic) x []) fits)
     (append-nil (sent_items t ticked) ∙ items) here)
 
 -- the relays aren't told
@@ -60,12 +60,12 @@ pub tick_told : (case : Case) (old mid new : Progress) (x now : ℕ) (was is t :
 tick_told case old mid new x now was is t ticked reads fits takes good same ticks tells net y l scenario flights stands next =
     let (line, lines, taken, told) = takes.takes good in
     let left = relay_items is.settings ++ sent_items is ticked in
-    let began : Net = record (with_state net x is) { last_ticks = l } in
+    let began : NetState = record (with_state net x is) { last_ticks = l } in
     let one : Went case.trace.now old.reader mid.reader (at net y []) (at began x left) =
     tick_went net x now l was next stands case.trace.now old.reader mid.reader y is left line (record { lines = lines; taken = taken }) ticks told in
-    let more : Goes case.trace.now mid.reader new.reader (at began x left) (at (with_traffic (with_state began x t) new.traffic.traffic) x []) fits =
+    let more : FitsOrStops case.trace.now mid.reader new.reader (at began x left) (at (with_traffic (with_state began x t) new.traffic.traffic) x []) fits =
     tells began scenario (flights ∙ ap (λ z. z.traffic) (sym same)) (set_here net.routers x is was stands) in
-    subst (λ (r : List State). Goes case.trace.now old.reader new.reader (at net y [])
+    subst (λ (r : List State). FitsOrStops case.trace.now old.reader new.reader (at net y [])
     (at (record net { routers = r; traffic = new.traffic.traffic; last_ticks = l }) x []) fits) (set_again net.routers x is t)
     (goes_on case.trace.now old.reader mid.reader new.reader (at net y []) (at began x left) (at (with_traffic (with_state began x t) new.traffic.traffic) x []) fits one more)
 
@@ -78,7 +78,7 @@ tick_not case old new x now was t reads takes bad net y l scenario flights stand
 
 -- its neighbours have addresses, since lines lead to where it ticks
 pub began_addresses : (case : Case) (old new : Reader) (x now : ℕ) (was is : State) (ticked : Ticked) (reads : Bool) → TakesTick case.trace.now old new now was.settings.name reads → reads ≡ true →
-    TicksBy was now is (relay_items is.settings ++ sent_items is ticked) → (net : Net) (l : ℕ) → IsReachedNet case net → slice_get net.routers x ≡ Some was → IsTickNext net x now l → HasAddresses is
+    TicksBy was now is (relay_items is.settings ++ sent_items is ticked) → (net : NetState) (l : ℕ) → IsReachedNet case net → slice_get net.routers x ≡ Some was → IsTickNext net x now l → HasAddresses is
 began_addresses case old new x now was is ticked reads takes good ticks net l reached stands next =
     let (line, lines, taken, told) = takes.takes good in
     tick_addresses net x now l was next stands case is (relay_items is.settings ++ sent_items is ticked) line reached ticks told
@@ -90,8 +90,8 @@ kept_after scenario routers x s t (Err e) are stands settings kept = tt
 
 -- what is told of one of the routers
 pub goes_after : (case : Case) (old new : Progress) (routers : List State) (x now : ℕ) (s t : State) (fits : Bool) → slice_get routers x ≡ Some s → TicksAsTold case old new x now s t fits →
-    (net : Net) (y l : ℕ) → net.scenario ≡ case.scenario.now → net.routers ≡ routers → net.traffic ≡ old.traffic.traffic → IsTickNext net x now l →
-    Goes case.trace.now old.reader new.reader (at net y []) (at (record net { routers = slice_set routers x t; traffic = new.traffic.traffic; last_ticks = l }) x []) fits
+    (net : NetState) (y l : ℕ) → net.scenario ≡ case.scenario.now → net.routers ≡ routers → net.traffic ≡ old.traffic.traffic → IsTickNext net x now l →
+    FitsOrStops case.trace.now old.reader new.reader (at net y []) (at (record net { routers = slice_set routers x t; traffic = new.traffic.traffic; last_ticks = l }) x []) fits
 goes_after case old new routers x now s t fits stands tells net y l scenario are flights next =
-    subst (λ (r : List State). Goes case.trace.now old.reader new.reader (at net y []) (at (record net { routers = slice_set r x t; traffic = new.traffic.traffic; last_ticks = l }) x []) fits) are
+    subst (λ (r : List State). FitsOrStops case.trace.now old.reader new.reader (at net y []) (at (record net { routers = slice_set r x t; traffic = new.traffic.traffic; last_ticks = l }) x []) fits) are
     (tells net y l scenario flights (subst (λ (r : List State). slice_get r x ≡ Some s) (sym are) stands) next)

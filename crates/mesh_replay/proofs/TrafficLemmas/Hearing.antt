@@ -7,14 +7,14 @@ use Rattle.std.proofs.lemmas.Option.{slice_get_within, slice_get_read, slice_get
 use Rattle.mesh_trace.specs.machine.Traffic.{IsHeardFirst}
 use Rattle.mesh_trace.proofs.machine.Places.{same_at}
 use Rattle.mesh_replay.specs.declared.traffic.air.Delivered.{Delivered}
-use Rattle.mesh_replay.specs.Traffic.Air.{delivery_of, IsLeast}
+use Rattle.mesh_replay.specs.Traffic.Air.{delivery_of, IsNextFrame}
 use Rattle.mesh_atoms.proofs.Lists.{item_at as stands}
 
 nowhere : (i : ℕ) → i < 0 → ⊥
 nowhere i h = omega (arith, h)
 
 -- the first of none
-pub least_of_none : (flights : List Delivered) → 0 < length flights → IsLeast flights 0 0
+pub least_of_none : (flights : List Delivered) → 0 < length flights → IsNextFrame flights 0 0
 least_of_none flights some = let (f, at) = stands flights 0 some in record {
   flight = f;
   stands = at;
@@ -23,12 +23,12 @@ least_of_none flights some = let (f, at) = stands flights 0 some in record {
 }
 
 -- what stands there
-pub read_as : (flights : List Delivered) (count place : ℕ) (e : Delivered) → (h : IsLeast flights count place) → e ≡ get_or flights place e → h.flight ≡ e
+pub read_as : (flights : List Delivered) (count place : ℕ) (e : Delivered) → (h : IsNextFrame flights count place) → e ≡ get_or flights place e → h.flight ≡ e
 read_as flights count place e h is = same_at flights place h.flight e h.stands (slice_get_read flights (length flights) place e refl (slice_get_within flights place h.flight h.stands) is)
 
-module _ (flights : List Delivered) (count place : ℕ) (f : Delivered) (at : slice_get flights count ≡ Some f) (h : IsLeast flights count place) where
+module _ (flights : List Delivered) (count place : ℕ) (f : Delivered) (at : slice_get flights count ≡ Some f) (h : IsNextFrame flights count place) where
   -- one more, which is earlier than all before it
-  pub is_earlier : f.moment < h.flight.moment → IsLeast flights (count + 1) count
+  pub is_earlier : f.moment < h.flight.moment → IsNextFrame flights (count + 1) count
   is_earlier lt = record {
     flight = f;
     stands = at;
@@ -38,7 +38,7 @@ module _ (flights : List Delivered) (count place : ℕ) (f : Delivered) (at : sl
   }
 
   -- one more, which is no earlier
-  pub is_no_earlier : h.flight.moment ≤ f.moment → IsLeast flights (count + 1) place
+  pub is_no_earlier : h.flight.moment ≤ f.moment → IsNextFrame flights (count + 1) place
   is_no_earlier le = record {
     flight = h.flight;
     stands = h.stands;
@@ -74,9 +74,9 @@ heard_at (g ∷ gs) (suc place) f at from later =
       left = ap (λ l. delivery_of g ∷ l) more.left;
     }
 
-pub heard_first : (flights : List Delivered) (place : ℕ) (f : Delivered) → (h : IsLeast flights (length flights) place) → f ≡ h.flight → IsHeardFirst (map delivery_of flights) (delivery_of f) (map delivery_of (remove flights place))
+pub heard_first : (flights : List Delivered) (place : ℕ) (f : Delivered) → (h : IsNextFrame flights (length flights) place) → f ≡ h.flight → IsHeardFirst (map delivery_of flights) (delivery_of f) (map delivery_of (remove flights place))
 heard_first flights place f h is = rw is (heard_at flights place h.flight h.stands (λ i e there. h.no_earlier i e there (slice_get_within flights i e there)) h.later)
 
 -- all are later than a moment where the first is
-pub all_later : (limit : ℕ) (flights : List Delivered) (place : ℕ) → (h : IsLeast flights (length flights) place) → limit < h.flight.moment → All (λ d. limit < d.moment) (map delivery_of flights)
+pub all_later : (limit : ℕ) (flights : List Delivered) (place : ℕ) → (h : IsNextFrame flights (length flights) place) → limit < h.flight.moment → All (λ d. limit < d.moment) (map delivery_of flights)
 all_later limit flights place h late = all_at (λ m. limit < m) flights (λ i e there. let no = h.no_earlier i e there (slice_get_within flights i e there) in omega (arith, no, late))

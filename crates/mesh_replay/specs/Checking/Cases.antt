@@ -1,12 +1,12 @@
 -- What is checked, how far the checking came, and the lines of an event that were told.
 use Rattle.std.specs.Prelude.{◌≡◌, ◌<◌, ℕ, List, ◌++◌, All, Some, length, slice_get, Bool}
 use Rattle.mesh_atoms.specs.State.{State}
-use Rattle.mesh_trace.specs.machine.Net.{Net}
+use Rattle.mesh_trace.specs.machine.Net.{NetState}
 use Rattle.mesh_trace.specs.machine.Traffic as net
 use Rattle.mesh_replay.specs.declared.checking.case.Case.{Case}
 use Rattle.mesh_replay.specs.declared.checking.case.Progress.{Progress}
 use Rattle.mesh_replay.specs.Traffic.Ways.{AreLeaving}
-use Rattle.mesh_replay.specs.Checking.Going.{at, Goes}
+use Rattle.mesh_replay.specs.Checking.Going.{at, FitsOrStops}
 use Rattle.mesh_trace.specs.Positions.Standing.{Item, with_traffic}
 use Rattle.mesh_trace.specs.Reading.Readers.{IsReaderOf}
 
@@ -22,7 +22,7 @@ pub record IsProgress (case : Case) (progress : Progress) : Type 0 where
 
 -- these items of an event of router x, which is in that state, are told as far as they fit: in each network of the scenario with that
 -- traffic, in which the router stands, and whatever is left behind them
-abbrev pub Tells : Case → Progress → Progress → ℕ → State → List Item → Bool → Type 0
-Tells case old new x s items fits = (net : Net) (rest : List Item) → net.scenario ≡ case.scenario.now →
+abbrev pub TellsItems : Case → Progress → Progress → ℕ → State → List Item → Bool → Type 0
+TellsItems case old new x s items fits = (net : NetState) (rest : List Item) → net.scenario ≡ case.scenario.now →
     net.traffic ≡ old.traffic.traffic → slice_get net.routers x ≡ Some s →
-    Goes case.trace.now old.reader new.reader (at net x (items ++ rest)) (at (with_traffic net new.traffic.traffic) x rest) fits
+    FitsOrStops case.trace.now old.reader new.reader (at net x (items ++ rest)) (at (with_traffic net new.traffic.traffic) x rest) fits

@@ -28,7 +28,7 @@ AreRelaysWith settings bases now relays =
     (s : State) → s.settings ≡ settings → s.bases ≡ bases → s.relays ≡ relays → AreRelays s now
 
 -- an event at now is begun: the rows are those that the router advertises, and relays are still to be told
-pub record Begins (old : State) (now : ℕ) (new : State) : Type 0 where
+pub record BeginsEvent (old : State) (now : ℕ) (new : State) : Type 0 where
   pub rows : AreRowsWith old.settings old.bases new.rows
   pub ansn : IsNextAnsn old new
   pub emptied : IsEmptied old new

@@ -1,13 +1,13 @@
 -- How lines that are read lead on.
 use Rattle.std.specs.Prelude.{◌≡◌, ℕ, ◌+◌, List, ◌∷◌, ◌++◌, length, Bool, IsTrue, IsFalse}
-use Rattle.mesh_trace.specs.machine.Net.{Net}
+use Rattle.mesh_trace.specs.machine.Net.{NetState}
 use Rattle.mesh_trace.specs.declared.reading.Reader.{Reader}
-use Rattle.mesh_trace.specs.Positions.Leading.{Leads, LeadsBy}
+use Rattle.mesh_trace.specs.Positions.Leading.{LineLeads, LeadsBy}
 use Rattle.mesh_trace.specs.Positions.Standing.{Item, TracePosition, IsDone}
 use Rattle.mesh_trace.specs.Reading.Readers.{lines_from}
 
 -- a position at which these items of an event of router x are left
-abbrev pub at : Net → ℕ → List Item → TracePosition
+abbrev pub at : NetState → ℕ → List Item → TracePosition
 at net x items = record { net = net; router = x; left = items }
 
 -- the lines that were read lead from a position to a position
@@ -20,7 +20,7 @@ pub record Went (trace : List ℕ) (old new : Reader) (p q : TracePosition) : Ty
 -- the next line, if there is one, doesn't lead on from there
 abbrev pub NothingLeadsOn : List ℕ → Reader → TracePosition → Type 0
 NothingLeadsOn trace reader p =
-    (line : List ℕ) (rest : List (List ℕ)) (q : TracePosition) → lines_from trace reader.at ≡ line ∷ rest → Leads p line q → ⊥
+    (line : List ℕ) (rest : List (List ℕ)) (q : TracePosition) → lines_from trace reader.at ≡ line ∷ rest → LineLeads p line q → ⊥
 
 -- the lines that were read lead to a position from which the next one doesn't, or isn't there though the trace isn't done
 pub record StopsBefore (trace : List ℕ) (old new : Reader) (p : TracePosition) : Type 0 where
@@ -30,6 +30,6 @@ pub record StopsBefore (trace : List ℕ) (old new : Reader) (p : TracePosition)
   pub undone : IsDone stop → ⊥
 
 -- where the lines fit they lead to that position, and else they stop on the way
-pub record Goes (trace : List ℕ) (old new : Reader) (p q : TracePosition) (fits : Bool) : Type 0 where
+pub record FitsOrStops (trace : List ℕ) (old new : Reader) (p q : TracePosition) (fits : Bool) : Type 0 where
   pub goes : IsTrue fits → Went trace old new p q
   pub stops : IsFalse fits → StopsBefore trace old new p

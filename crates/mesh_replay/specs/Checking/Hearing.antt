@@ -5,11 +5,11 @@ use Rattle.mesh_atoms.specs.declared.settings.RouterSettings.{RouterSettings}
 use Rattle.mesh_atoms.specs.State.{State}
 use Rattle.mesh_trace.specs.machine.declared.arrival.Arrival.{Arrival}
 use Rattle.mesh_trace.specs.machine.declared.frame.Frame.{Frame}
-use Rattle.mesh_trace.specs.machine.Net.{Net}
+use Rattle.mesh_trace.specs.machine.Net.{NetState}
 use Rattle.mesh_replay.specs.declared.checking.case.Case.{Case}
 use Rattle.mesh_replay.specs.declared.checking.case.Progress.{Progress}
-use Rattle.mesh_replay.specs.Checking.Cases.{Tells}
-use Rattle.mesh_replay.specs.Checking.Going.{at, Goes}
+use Rattle.mesh_replay.specs.Checking.Cases.{TellsItems}
+use Rattle.mesh_replay.specs.Checking.Going.{at, FitsOrStops}
 use Rattle.mesh_trace.specs.declared.reading.Reader.{Reader}
 use Rattle.mesh_trace.specs.Positions.Alike.{HasAddresses}
 use Rattle.mesh_trace.specs.Positions.Due.{HearsBy}
@@ -45,13 +45,13 @@ pub record TakesText (trace : List ℕ) (old new : Reader) (text : List ℕ) (fi
 
 -- so many of the frames were told
 abbrev pub TellsFirst : Case → Progress → Progress → ℕ → State → List Frame → ℕ → Type 0
-TellsFirst case old new x s frames n = Tells case old new x s (map Sent (take n frames)) true
+TellsFirst case old new x s frames n = TellsItems case old new x s (map Sent (take n frames)) true
 
 -- from one state of router x, in which these items are left, all of them are told as far as they fit, which leaves it in another
 abbrev pub TellsAll : Case → Progress → Progress → ℕ → State → List Item → State → Bool → Type 0
-TellsAll case old new x is left now fits = (net : Net) → net.scenario ≡ case.scenario.now → net.traffic ≡ old.traffic.traffic →
+TellsAll case old new x is left now fits = (net : NetState) → net.scenario ≡ case.scenario.now → net.traffic ≡ old.traffic.traffic →
     slice_get net.routers x ≡ Some is →
-    Goes case.trace.now old.reader new.reader (at net x left) (at (with_traffic (with_state net x now) new.traffic.traffic) x []) fits
+    FitsOrStops case.trace.now old.reader new.reader (at net x left) (at (with_traffic (with_state net x now) new.traffic.traffic) x []) fits
 
 -- router x hears a frame, and what it then is to tell is told as far as it fits
 pub record TellsHeard (case : Case) (old new : Progress) (x : ℕ) (was : State) (arrival : Arrival) (bytes : List ℕ) (now : State)

@@ -6,7 +6,7 @@ use Rattle.mesh_atoms.specs.declared.settings.Scenario.{Scenario}
 use Rattle.mesh_trace.specs.machine.Machine.{IsOpening}
 use Rattle.mesh_trace.specs.machine.Net.{IsFirstDue}
 use Rattle.mesh_replay.specs.declared.checking.case.Progress.{Progress}
-use Rattle.mesh_replay.specs.declared.checking.scene.Due.{Due}
+use Rattle.mesh_replay.specs.declared.checking.scene.FirstTick.{FirstTick}
 use Rattle.mesh_replay.specs.Checking.Kept.{IsAtRest}
 
 -- the first routers, one for each settings, so many
@@ -27,7 +27,7 @@ pub record IsOpeningProgress (seed : ℕ) (progress : Progress) : Type 0 where
   pub traffic_is : progress.traffic.traffic ≡ record { air = []; counts = record { sent = 0; delivered = 0; lost = 0 }; draws = 0 }
 
 -- no router had an event
-pub record IsAtFirstLine (scenario : Scenario) (routers : List State) (due : Due) (last_ticks : ℕ) : Type 0 where
+pub record IsAtFirstLine (scenario : Scenario) (routers : List State) (due : FirstTick) (last_ticks : ℕ) : Type 0 where
   pub are : AreAtOpening scenario.routers routers
   pub first : IsFirstDue routers due.router due.moment
   pub none : last_ticks ≡ 0

@@ -1,6 +1,6 @@
 -- Where the lines that were read lead.
 use Rattle.std.specs.Prelude.{◌≡◌, ℕ, List, [], ◌++◌, length}
-use Rattle.mesh_trace.specs.machine.Net.{Net}
+use Rattle.mesh_trace.specs.machine.Net.{NetState}
 use Rattle.mesh_replay.specs.declared.checking.case.Case.{Case}
 use Rattle.mesh_replay.specs.Checking.Going.{at}
 use Rattle.mesh_trace.specs.declared.reading.Reader.{Reader}
@@ -9,7 +9,7 @@ use Rattle.mesh_trace.specs.Reading.Lines.{lines_of}
 use Rattle.mesh_trace.specs.Reading.Readers.{lines_from}
 
 -- all lines up to where the trace is read lead to the network between events
-pub record HasRead (case : Case) (reader : Reader) (net : Net) : Type 0 where
+pub record HasRead (case : Case) (reader : Reader) (net : NetState) : Type 0 where
   pub lines : List (List ℕ)
   pub router : ℕ
   pub reaches : Reaches case.scenario.now lines (at net router [])

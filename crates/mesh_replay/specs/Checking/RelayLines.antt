@@ -6,7 +6,7 @@ use Rattle.mesh_atoms.specs.declared.graphs.NeighbourGraph.{NeighbourGraph}
 use Rattle.mesh_atoms.specs.declared.settings.RouterSettings.{RouterSettings}
 use Rattle.mesh_atoms.specs.RelayGraphs.{AreRelaysOf, IsFloodingGraph, IsRoutingGraph}
 use Rattle.mesh_atoms.specs.State.{State}
-use Rattle.mesh_trace.specs.machine.Net.{Net}
+use Rattle.mesh_trace.specs.machine.Net.{NetState}
 use Rattle.mesh_replay.specs.Checking.Going.{at, Went, StopsBefore}
 use Rattle.mesh_replay.specs.Checking.Kept.{with_relays}
 use Rattle.mesh_texts.specs.Lines.Marks.{face_name, relays_text}
@@ -55,7 +55,7 @@ pub record IsStill (old new : Reader) : Type 0 where
   pub taken : new.taken ≡ old.taken
 
 -- the next line tells these relays
-pub record IsTold (trace : List ℕ) (reader : Reader) (r : RouterSettings) (iface : Option ℕ) (relays : List Addr4) : Type 0 where
+pub record AreRelaysTold (trace : List ℕ) (reader : Reader) (r : RouterSettings) (iface : Option ℕ) (relays : List Addr4) : Type 0 where
   pub line : List ℕ
   pub others : List (List ℕ)
   pub lines : lines_from trace reader.at ≡ line ∷ others
@@ -84,11 +84,11 @@ pub record HasTold (trace : List ℕ) (before : State) (old : Reader) (after : S
   pub count : length told ≡ n
   pub state : after ≡ with_relays before (record { flooding = told; routing = [] })
   pub chosen : (i : ℕ) (relays : List Addr4) → slice_get told i ≡ Some relays → MayTell before (Some i) relays
-  pub went : (net : Net) (x : ℕ) (rest : List Item) → slice_get net.routers x ≡ Some before →
+  pub went : (net : NetState) (x : ℕ) (rest : List Item) → slice_get net.routers x ≡ Some before →
       Went trace old new (at net x (relay_items before.settings ++ rest)) (at (with_state net x after) x (relays_left before.settings n ++ rest))
 
 -- their telling stops
 abbrev pub StopsTelling : List ℕ → State → Reader → Reader → Type 0
 StopsTelling trace before old new =
-    (net : Net) (x : ℕ) (rest : List Item) → slice_get net.routers x ≡ Some before →
+    (net : NetState) (x : ℕ) (rest : List Item) → slice_get net.routers x ≡ Some before →
     StopsBefore trace old new (at net x (relay_items before.settings ++ rest))

@@ -3,13 +3,13 @@ use Rattle.std.specs.Prelude.{◌≡◌, ℕ, ◌+◌, List, [], ◌∷◌, ◌+
 use Rattle.mesh_atoms.specs.declared.settings.RouterSettings.{RouterSettings}
 use Rattle.mesh_atoms.specs.State.{State}
 use Rattle.mesh_trace.specs.machine.declared.frame.Frame.{Frame}
-use Rattle.mesh_trace.specs.machine.Net.{Net}
+use Rattle.mesh_trace.specs.machine.Net.{NetState}
 use Rattle.mesh_trace.specs.machine.Traffic.{Sends}
 use Rattle.mesh_texts.specs.Lines.Marks.{joined, face_name}
 use Rattle.mesh_texts.specs.Trace.{sent_line}
 use Rattle.mesh_replay.specs.declared.checking.case.Case.{Case}
 use Rattle.mesh_replay.specs.declared.checking.case.Progress.{Progress}
-use Rattle.mesh_replay.specs.Checking.Going.{at, Goes}
+use Rattle.mesh_replay.specs.Checking.Going.{at, FitsOrStops}
 use Rattle.mesh_trace.specs.declared.reading.Reader.{Reader}
 use Rattle.mesh_trace.specs.Positions.Standing.{Item, Lost}
 use Rattle.mesh_trace.specs.Reading.Lines.{IsLineOf}
@@ -17,8 +17,8 @@ use Rattle.mesh_trace.specs.Reading.Readers.{lines_from}
 
 -- losses on these arcs at that moment are told as far as they fit
 abbrev pub TellsLosses : Case → ℕ → List ℕ → Reader → Reader → Bool → Type 0
-TellsLosses case now lost old new fits = (net : Net) (x : ℕ) (s : State) (rest : List Item) → net.scenario ≡ case.scenario.now →
-    slice_get net.routers x ≡ Some s → s.last ≡ now → Goes case.trace.now old new (at net x (map Lost lost ++ rest)) (at net x rest) fits
+TellsLosses case now lost old new fits = (net : NetState) (x : ℕ) (s : State) (rest : List Item) → net.scenario ≡ case.scenario.now →
+    slice_get net.routers x ≡ Some s → s.last ≡ now → FitsOrStops case.trace.now old new (at net x (map Lost lost ++ rest)) (at net x rest) fits
 
 -- router x sends a frame at that moment, and its losses are told as far as they fit
 pub record GoesOut (case : Case) (old new : Progress) (x now : ℕ) (frame : Frame) (fits : Bool) : Type 0 where

@@ -1,12 +1,12 @@
 -- The line of a tick, and what is told behind it.
 use Rattle.std.specs.Prelude.{◌≡◌, ℕ, ◌+◌, List, [], ◌∷◌, ◌++◌, Some, slice_get, Bool, IsTrue, IsFalse}
 use Rattle.mesh_atoms.specs.State.{State}
-use Rattle.mesh_trace.specs.machine.Net.{Net}
+use Rattle.mesh_trace.specs.machine.Net.{NetState}
 use Rattle.mesh_texts.specs.Trace.{tick_line}
 use Rattle.mesh_replay.specs.declared.checking.case.Case.{Case}
 use Rattle.mesh_replay.specs.declared.checking.case.Progress.{Progress}
 use Rattle.mesh_replay.specs.declared.checking.router.Ticked.{Ticked}
-use Rattle.mesh_replay.specs.Checking.Going.{at, Goes}
+use Rattle.mesh_replay.specs.Checking.Going.{at, FitsOrStops}
 use Rattle.mesh_replay.specs.Checking.Kept.{hello_items, tc_items}
 use Rattle.mesh_replay.specs.Checking.Scenes.{IsTickNext}
 use Rattle.mesh_trace.specs.declared.reading.Reader.{Reader}
@@ -34,14 +34,14 @@ sent_items s ticked = hello_items s ticked.hellos ++ tc_items s ticked.sequence 
 
 -- the lines of a tick behind the first are told as far as they fit, which leave the router in that state
 abbrev pub TellsTick : Case → Progress → Progress → ℕ → State → State → Ticked → Bool → Type 0
-TellsTick case old new x s told ticked fits = (net : Net) → net.scenario ≡ case.scenario.now → net.traffic ≡ old.traffic.traffic →
+TellsTick case old new x s told ticked fits = (net : NetState) → net.scenario ≡ case.scenario.now → net.traffic ≡ old.traffic.traffic →
     slice_get net.routers x ≡ Some s →
-    Goes case.trace.now old.reader new.reader (at net x (relay_items s.settings ++ sent_items s ticked))
+    FitsOrStops case.trace.now old.reader new.reader (at net x (relay_items s.settings ++ sent_items s ticked))
     (at (with_traffic (with_state net x told) new.traffic.traffic) x []) fits
 
 -- the lines of the tick of a router in that state are told as far as they fit
 abbrev pub TicksAsTold : Case → Progress → Progress → ℕ → ℕ → State → State → Bool → Type 0
-TicksAsTold case old new x now s told fits = (net : Net) (y last_ticks : ℕ) → net.scenario ≡ case.scenario.now →
+TicksAsTold case old new x now s told fits = (net : NetState) (y last_ticks : ℕ) → net.scenario ≡ case.scenario.now →
     net.traffic ≡ old.traffic.traffic → slice_get net.routers x ≡ Some s → IsTickNext net x now last_ticks →
-    Goes case.trace.now old.reader new.reader (at net y [])
+    FitsOrStops case.trace.now old.reader new.reader (at net y [])
     (at (record (with_state net x told) { traffic = new.traffic.traffic; last_ticks = last_ticks }) x []) fits

@@ -2,17 +2,17 @@
 use Rattle.std.specs.Prelude.{◌≡◌, ℕ, ◌+◌, ◌<◌, ◌≤◌, min, All, Bool, cond, length}
 use Rattle.mesh_atoms.specs.declared.settings.Scenario.{Scenario}
 use Rattle.mesh_trace.specs.machine.Traffic.{Traffic}
-use Rattle.mesh_replay.specs.declared.checking.scene.Due.{Due}
+use Rattle.mesh_replay.specs.declared.checking.scene.FirstTick.{FirstTick}
 use Rattle.mesh_replay.specs.declared.checking.scene.NextTick.{NextTick}
 use Rattle.mesh_replay.specs.declared.checking.scene.Outcome.{Outcome}
 use Rattle.mesh_replay.specs.declared.checking.scene.Outcome.TheVariants.{Fits, Unfit}
 
 -- nothing that is in the air is heard up to the first tick and the end
-abbrev pub IsQuiet : Scenario → Due → Traffic → Type 0
-IsQuiet s due traffic = All (λ d. min due.moment s.end < d.moment) traffic.air
+abbrev pub IsTrafficQuiet : Scenario → FirstTick → Traffic → Type 0
+IsTrafficQuiet s due traffic = All (λ d. min due.moment s.end < d.moment) traffic.air
 
 -- of the router that is due first, no later than the end, or else the next of the ticks at the end
-pub data IsFoundTick (s : Scenario) (due : Due) (last_ticks : ℕ) (next : NextTick) : Type 0 where
+pub data IsFoundTick (s : Scenario) (due : FirstTick) (last_ticks : ℕ) (next : NextTick) : Type 0 where
   Due_first : due.moment ≤ s.end → next ≡ record { router = due.router; moment = due.moment; last_ticks = last_ticks } →
       IsFoundTick s due last_ticks next
   At_end : s.end < due.moment → last_ticks < length s.routers →
@@ -20,7 +20,7 @@ pub data IsFoundTick (s : Scenario) (due : Due) (last_ticks : ℕ) (next : NextT
       IsFoundTick s due last_ticks next
 
 -- no tick is left
-abbrev pub HasNoTickLeft : Scenario → Due → ℕ → Type 0
+abbrev pub HasNoTickLeft : Scenario → FirstTick → ℕ → Type 0
 HasNoTickLeft s due last_ticks = (s.end < due.moment) × (length s.routers ≤ last_ticks)
 
 -- what came of an event whose lines fit or not

@@ -7,9 +7,9 @@ use Rattle.mesh_trace.specs.declared.reading.Reader.{Reader}
 use Rattle.mesh_trace.specs.Reading.Readers.{lines_from}
 
 -- a line of that kind
-abbrev pub Ends : Mark → List ℕ → Type 0
-Ends mark.Rule line = IsRule line
-Ends mark.Report line = BeginsReport line
+abbrev pub IsMarkLine : Mark → List ℕ → Type 0
+IsMarkLine mark.Rule line = IsRule line
+IsMarkLine mark.Report line = BeginsReport line
 
 -- what such a line begins with
 abbrev pub word_of : Mark → List ℕ
@@ -18,5 +18,5 @@ word_of mark.Report = codes "emulate "
 
 -- whether the next line is of that kind
 pub record TellsNext (mark : Mark) (text : List ℕ) (reader : Reader) (yes : Bool) : Type 0 where
-  pub is : IsTrue yes → (line : List ℕ) × (more : List (List ℕ)) × (lines_from text reader.at ≡ line ∷ more) × Ends mark line
-  pub other : IsFalse yes → (line : List ℕ) (more : List (List ℕ)) → lines_from text reader.at ≡ line ∷ more → Ends mark line → ⊥
+  pub is : IsTrue yes → (line : List ℕ) × (more : List (List ℕ)) × (lines_from text reader.at ≡ line ∷ more) × IsMarkLine mark line
+  pub other : IsFalse yes → (line : List ℕ) (more : List (List ℕ)) → lines_from text reader.at ≡ line ∷ more → IsMarkLine mark line → ⊥

@@ -5,7 +5,7 @@ use Rattle.mesh_config.specs.Keys.Faults.{first}
 use Rattle.mesh_config.specs.Settings.{SettingsIs, FirstRefusal, refusals}
 use Rattle.mesh_replay.specs.declared.answer.Replay.{Replay}
 use Rattle.mesh_replay.specs.declared.answer.Replay.TheVariants.{Yes, No}
-use Rattle.mesh_replay.specs.Checking.Answers.{Answers}
+use Rattle.mesh_replay.specs.Checking.Answers.{ReplayAnswers}
 use Rattle.mesh_replay.specs.Command.Parts.{IsSplit, HasNoRule}
 use Rattle.mesh_trace.specs.Reading.Lines.{lines_of}
 
@@ -14,7 +14,7 @@ pub record IsReplayed (settings trace : List ℕ) (answer : Replay) : Type 0 whe
   pub scenario : Scenario
   pub says : SettingsIs settings scenario
   pub clear : first (refusals settings) ≡ None
-  pub answers : Answers scenario (lines_of trace) answer
+  pub answers : ReplayAnswers scenario (lines_of trace) answer
 
 -- the answer to an input: to its trace, over its scenario, which is not too long
 pub record Replays (input : List ℕ) (answer : Replay) : Type 0 where

@@ -12,7 +12,7 @@ abbrev pub AreNoEarlier : ℕ → List Delivered → Type 0
 AreNoEarlier least flights = All (λ f. least ≤ f.moment) flights
 
 -- of the first frames, so many, the one at that place is of the least moment, and of these the first
-pub record IsLeast (flights : List Delivered) (count place : ℕ) : Type 0 where
+pub record IsNextFrame (flights : List Delivered) (count place : ℕ) : Type 0 where
   pub flight : Delivered
   pub stands : slice_get flights place ≡ Some flight
   pub no_earlier : (i : ℕ) (f : Delivered) → slice_get flights i ≡ Some f → i < count → flight.moment ≤ f.moment

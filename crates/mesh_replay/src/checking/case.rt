@@ -1,5 +1,5 @@
 //! What is checked, and how far the checking came.
-use crate::traffic::{LeavingArcs, Traffic};
+use crate::traffic::{LeavingArcs, TraceTraffic};
 use mesh_atoms::{Scenario, Seq};
 use mesh_trace::Reader;
 
@@ -15,5 +15,5 @@ pub(crate) struct Case<'a> {
 #[derive(Drop)]
 pub(crate) struct Progress {
     pub(crate) reader: Reader,
-    pub(crate) traffic: Traffic,
+    pub(crate) traffic: TraceTraffic,
 }

@@ -2,7 +2,7 @@
 ghost use Rattle.std.specs.Prelude.{◌≡◌, ◌++◌, ◌∷◌, [], ◌<◌, ◌≤◌, ℕ, List, Some, None, map, length, slice_get, IfOk, OnOk, IfSome, IsNone};
 ghost use Rattle.mesh_atoms.specs.Settings.{one_hour};
 ghost use Rattle.mesh_atoms.specs.declared.settings.RouterSettings.{RouterSettings as Settings};
-ghost use Rattle.mesh_replay.specs.Checking.Cases.{IsCase, IsProgress, Tells};
+ghost use Rattle.mesh_replay.specs.Checking.Cases.{IsCase, IsProgress, TellsItems};
 ghost use Rattle.mesh_replay.specs.Checking.Sending.{TellsLosses, GoesOut, TakesSent};
 ghost use Rattle.mesh_texts.specs.Lines.Marks.{face_name};
 ghost use Rattle.mesh_texts.specs.Trace.{sent_line};
@@ -146,7 +146,7 @@ fn tell_octets(
     requires early { sender.now.moment ≤ one_hour }
     ensures progress { OnOk result (IsProgress case.now progress.new) }
     ensures tells { IfOk result (λ fits. (s : State) → s.settings ≡ sender.now.settings.now → s.last ≡ sender.now.moment
-        → Tells case.now progress.old progress.new sender.now.number s (Sent (record { iface = iface; bytes = frame.now.value }) ∷ []) fits) }
+        → TellsItems case.now progress.old progress.new sender.now.number s (Sent (record { iface = iface; bytes = frame.now.value }) ∷ []) fits) }
 {
     if !expect_sent(
         case,
@@ -185,7 +185,7 @@ pub(crate) fn tell_frame<B: Bases>(
     requires iface { iface < length router.now.settings.interfaces }
     requires early { router.now.last ≤ one_hour }
     ensures progress { OnOk result (IsProgress case.now progress.new) }
-    ensures tells { IfOk result (Tells case.now progress.old progress.new x router.now (Sent (record { iface = iface; bytes = frame.now.value }) ∷ [])) }
+    ensures tells { IfOk result (TellsItems case.now progress.old progress.new x router.now (Sent (record { iface = iface; bytes = frame.now.value }) ∷ [])) }
 {
     let sender = sender_of(x, router);
     tell_octets(alloc, case, &sender, iface, frame, progress)

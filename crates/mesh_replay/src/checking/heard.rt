@@ -3,14 +3,14 @@ ghost use Rattle.std.specs.Prelude.{◌≡◌, ◌<◌, ◌≤◌, ◌++◌, ◌
 ghost use Rattle.mesh_atoms.specs.RelayGraphs.{AreRelays};
 ghost use Rattle.mesh_atoms.specs.Settings.{one_hour};
 ghost use Rattle.mesh_trace.specs.machine.declared.frame.Frame.{Frame};
-ghost use Rattle.mesh_trace.specs.machine.Net.{Net, IsSender};
+ghost use Rattle.mesh_trace.specs.machine.Net.{NetState, IsSender};
 ghost use Rattle.mesh_packet.specs.Fields.{fields_of_packet};
 ghost use Rattle.mesh_packet.specs.Grammar.{Spells};
 ghost use Rattle.mesh_texts.specs.Lines.Marks.{face_name};
 ghost use Rattle.mesh_texts.specs.Trace.{heard_line};
 ghost use Rattle.mesh_replay.specs.Traffic.Air.{delivery_of};
-ghost use Rattle.mesh_replay.specs.Checking.Cases.{IsCase, IsProgress, Tells};
-ghost use Rattle.mesh_replay.specs.Checking.Going.{at, Goes};
+ghost use Rattle.mesh_replay.specs.Checking.Cases.{IsCase, IsProgress, TellsItems};
+ghost use Rattle.mesh_replay.specs.Checking.Going.{at, FitsOrStops};
 ghost use Rattle.mesh_replay.specs.Checking.Hearing.{LeavesFrom, TakesText, TellsAll, TellsHeard, LeavesAddresses};
 ghost use Rattle.mesh_replay.specs.Checking.Kept.{AreAtRest, IsAtRest, IsSoundRouter, with_relays};
 ghost use Rattle.mesh_replay.specs.Checking.Scenes.{IsNextHearing, IsReachedNet};
@@ -99,7 +99,7 @@ fn tell_forwarded<B: Bases>(
     requires iface { iface < length router.now.settings.interfaces }
     requires early { router.now.last ≤ one_hour }
     ensures progress { OnOk result (IsProgress case.now progress.new) }
-    ensures tells { IfOk result (Tells case.now progress.old progress.new x router.now
+    ensures tells { IfOk result (TellsItems case.now progress.old progress.new x router.now
         (Sent (record { iface = iface; bytes = octets.now }) ∷ [])) }
 {
     let mut bytes = Bytes::new(alloc);
@@ -123,7 +123,7 @@ fn tell_outbox<B: Bases>(
     requires faces { All (λ (f : Frame). f.iface < length router.now.settings.interfaces) out.now }
     requires early { router.now.last ≤ one_hour }
     ensures progress { OnOk result (IsProgress case.now progress.new) }
-    ensures tells { IfOk result (Tells case.now progress.old progress.new x router.now (map Sent out.now)) }
+    ensures tells { IfOk result (TellsItems case.now progress.old progress.new x router.now (map Sent out.now)) }
 {
     for i in 0..out.len() {
         let Some((iface, octets)) = out.frame(i) else {
@@ -238,11 +238,11 @@ pub(crate) fn hear<B: Bases>(
     requires kept { AreAtRest case.now.scenario.now routers.old.items }
     requires arc { landed.arc < length case.now.scenario.now.arcs }
     requires early { landed.moment ≤ one_hour }
-    requires reached { (net : Net) × IsReachedNet case.now net × IsNextHearing net (delivery_of landed) routers.old.items progress.old }
+    requires reached { (net : NetState) × IsReachedNet case.now net × IsNextHearing net (delivery_of landed) routers.old.items progress.old }
     ensures progress { OnOk result (IsProgress case.now progress.new) }
     ensures kept { IfOk result (λ fits. IsTrue fits → AreAtRest case.now.scenario.now routers.new.items) }
-    ensures goes { IfOk result (λ fits. (net : Net) (y : ℕ) → net.scenario ≡ case.now.scenario.now → IsNextHearing net (delivery_of landed) routers.old.items progress.old
-        → (x : ℕ) × Goes case.now.trace.now progress.old.reader progress.new.reader (at net y [])
+    ensures goes { IfOk result (λ fits. (net : NetState) (y : ℕ) → net.scenario ≡ case.now.scenario.now → IsNextHearing net (delivery_of landed) routers.old.items progress.old
+        → (x : ℕ) × FitsOrStops case.now.trace.now progress.old.reader progress.new.reader (at net y [])
         (at (record net { routers = routers.new.items; traffic = progress.new.traffic.traffic }) x []) fits) }
 {
     let arc = case.scenario.arcs.as_slice()[landed.arc];

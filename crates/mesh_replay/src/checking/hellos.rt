@@ -3,7 +3,7 @@ ghost use Rattle.std.specs.Prelude.{◌≡◌, ◌<◌, ◌≤◌, ◌∷◌, �
 ghost use Rattle.mesh_atoms.specs.Settings.{one_hour};
 ghost use Rattle.mesh_atoms.specs.Hello.{IsHelloNow};
 ghost use Rattle.mesh_trace.specs.machine.Sending.{IsHelloFrame};
-ghost use Rattle.mesh_replay.specs.Checking.Cases.{IsCase, IsProgress, Tells};
+ghost use Rattle.mesh_replay.specs.Checking.Cases.{IsCase, IsProgress, TellsItems};
 ghost use Rattle.mesh_replay.specs.Checking.Kept.{IsSoundRouter, hello_items};
 ghost use Rattle.mesh_replay.specs.Checking.Sending.{IsSentNext, TakesOut};
 ghost use Rattle.mesh_trace.specs.Positions.Standing.{Hello};
@@ -96,7 +96,7 @@ fn tell_hello<B: Bases>(
     requires sound { IsSoundRouter router.now }
     requires iface { iface < length router.now.settings.interfaces }
     ensures progress { OnOk result (IsProgress case.now progress.new) }
-    ensures tells { IfOk result (Tells case.now progress.old progress.new x router.now (Hello iface ∷ [])) }
+    ensures tells { IfOk result (TellsItems case.now progress.old progress.new x router.now (Hello iface ∷ [])) }
 {
     let sender = sender_of(x, router);
     let Some(octets) = sent_octets(alloc, case.trace, &sender, iface, &mut progress.reader)? else {
@@ -123,7 +123,7 @@ pub(crate) fn tell_hellos<B: Bases>(
     requires early { router.now.last ≤ one_hour }
     requires sound { IsSoundRouter router.now }
     ensures progress { OnOk result (IsProgress case.now progress.new) }
-    ensures tells { IfOk result (Tells case.now progress.old progress.new x router.now (hello_items router.now true)) }
+    ensures tells { IfOk result (TellsItems case.now progress.old progress.new x router.now (hello_items router.now true)) }
 {
     for iface in 0..router.settings().interfaces.len() {
         if !tell_hello(alloc, case, x, router, iface, progress)? {

@@ -5,8 +5,8 @@ ghost use Rattle.mesh_replay.specs.Checking.Opening.{AreAtOpening, IsOpeningProg
 
 use crate::checking::case::Progress;
 use crate::checking::router::CheckedRouter;
-use crate::checking::scene::{CheckedNet, Due};
-use crate::traffic::Traffic;
+use crate::checking::scene::{CheckedNet, FirstTick};
+use crate::traffic::TraceTraffic;
 use mesh_atoms::{RouterSettings, Scenario};
 use mesh_expire::Bases;
 use mesh_trace::Reader;
@@ -18,7 +18,7 @@ pub(crate) fn opening_progress(alloc: Global, scenario: &Scenario) -> Progress
 {
     Progress {
         reader: Reader::new(alloc),
-        traffic: Traffic::new(alloc, scenario.seed),
+        traffic: TraceTraffic::new(alloc, scenario.seed),
     }
 }
 
@@ -53,18 +53,18 @@ fn routers_of<B: Bases>(
 }
 
 /// The router that ticks first, and when.
-pub(crate) fn first_due<B: Bases>(routers: &Vec<CheckedRouter<B>>) -> Due
+pub(crate) fn first_due<B: Bases>(routers: &Vec<CheckedRouter<B>>) -> FirstTick
     requires { 0 < length routers.now.items }
     ensures { IsFirstDue routers.now.items result.router result.moment }
 {
-    let mut first = Due {
+    let mut first = FirstTick {
         router: 0,
         moment: routers[0].due(),
     };
     for (router, one) in routers.iter().enumerate() {
         let moment = one.due();
         if moment < first.moment {
-            first = Due { router, moment };
+            first = FirstTick { router, moment };
         }
     }
     first

@@ -4,10 +4,10 @@ ghost use Rattle.mesh_atoms.specs.RelayGraphs.{AreRelays};
 ghost use Rattle.mesh_atoms.specs.State.{State};
 ghost use Rattle.mesh_atoms.specs.Words.{IsAscending};
 ghost use Rattle.mesh_trace.specs.machine.Laws.{SoundBases};
-ghost use Rattle.mesh_trace.specs.machine.Net.{Net};
-ghost use Rattle.mesh_replay.specs.Checking.Going.{at, Goes};
+ghost use Rattle.mesh_trace.specs.machine.Net.{NetState};
+ghost use Rattle.mesh_replay.specs.Checking.Going.{at, FitsOrStops};
 ghost use Rattle.mesh_replay.specs.Checking.Kept.{IsSoundRouter, with_relays};
-ghost use Rattle.mesh_replay.specs.Checking.RelayLines.{MayTell, front_text, told_text, IsStill, TakesTold, TellsNone, IsTold, HasTold, StopsTelling};
+ghost use Rattle.mesh_replay.specs.Checking.RelayLines.{MayTell, front_text, told_text, IsStill, TakesTold, TellsNone, AreRelaysTold, HasTold, StopsTelling};
 ghost use Rattle.mesh_trace.specs.Positions.Alike.{HasAddresses};
 ghost use Rattle.mesh_trace.specs.Positions.Due.{none_told};
 ghost use Rattle.mesh_trace.specs.Positions.Standing.{Item, relay_items, with_state};
@@ -128,7 +128,7 @@ fn told_next<B: Bases>(
     requires text { reader.now.text ≡ front_text router.now.settings iface }
     requires sound { SoundBases router.now.settings router.now.last router.now.bases }
     requires addresses { HasAddresses router.now }
-    ensures some { IfOk result (λ told. IfSome told (λ relays. MayTell router.now iface relays × IsTold trace.now reader.now router.now.settings iface relays)) }
+    ensures some { IfOk result (λ told. IfSome told (λ relays. MayTell router.now iface relays × AreRelaysTold trace.now reader.now router.now.settings iface relays)) }
     ensures none { IfOk result (λ told. IsNone told → TellsNone trace.now reader.now router.now iface) }
 {
     let Some(rest) = reader.rest(trace) else {
@@ -273,8 +273,8 @@ pub(crate) fn tell_relays<B: Bases>(
     ensures reading { OnOk result (IsReaderOf trace.now reader.new) }
     ensures state { OnOk result (router.new ≡ with_relays router.old router.new.relays) }
     ensures told { IfOk result (λ fits. IsTrue fits → AreRelays router.new router.new.last) }
-    ensures goes { IfOk result (λ fits. (net : Net) (x : ℕ) (rest : List Item) → slice_get net.routers x ≡ Some router.old
-        → Goes trace.now reader.old reader.new (at net x (relay_items router.old.settings ++ rest)) (at (with_state net x router.new) x rest) fits) }
+    ensures goes { IfOk result (λ fits. (net : NetState) (x : ℕ) (rest : List Item) → slice_get net.routers x ≡ Some router.old
+        → FitsOrStops trace.now reader.old reader.new (at net x (relay_items router.old.settings ++ rest)) (at (with_state net x router.new) x rest) fits) }
 {
     if !tell_flooding(alloc, trace, router, before, reader)? {
         return Ok(false);

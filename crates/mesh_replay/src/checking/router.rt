@@ -9,14 +9,14 @@ ghost use Rattle.mesh_atoms.specs.State.{State};
 ghost use Rattle.mesh_core.specs.Held.Quiet.{IsQuiet};
 ghost use Rattle.mesh_topo.specs.declared.advertised.spans.PartSpan.{PartSpan as SpanValue};
 ghost use Rattle.mesh_trace.specs.machine.Laws.{SoundBases};
-ghost use Rattle.mesh_replay.specs.Checking.Events.{AreRelaysWith, AreRowsWith, Begins, TakesInto};
+ghost use Rattle.mesh_replay.specs.Checking.Events.{AreRelaysWith, AreRowsWith, BeginsEvent, TakesInto};
 ghost use Rattle.mesh_replay.specs.Checking.Kept.{AreFewRows, IsAtRest, IsSoundRouter, hello_items, tc_items, with_relays};
 ghost use Rattle.mesh_trace.specs.machine.Renewal.{IsEmptied, IsNextAnsn};
 ghost use Rattle.mesh_trace.specs.Positions.Due.{HellosDue, TakesPacket, TcsDue, TicksBy, none_told};
 ghost use Rattle.mesh_trace.specs.Positions.Standing.{relay_items};
 
 use mesh_atoms::{Relays, RouterSettings, Seq, TcRow, same_rows};
-use mesh_core::{Arrival, Fate, Holding, Outbox, has_to_advertise, next_moment};
+use mesh_core::{Arrival, Fate, InformationBases, Outbox, has_to_advertise, next_moment};
 use mesh_expire::Bases;
 use mesh_packet::Decoded;
 use mesh_renewal::{advertised_rows, no_relays};
@@ -27,7 +27,7 @@ use std::marker::Model;
 /// A router: its bases; its relays, which are those that were told of the event at hand; its rows, numbers and moments. It has no routes,
 /// since no line depends on them. After an allocation failure it may only be dropped.
 pub(crate) struct CheckedRouter<B: Bases> {
-    pub(crate) holding: Holding<B>,
+    pub(crate) holding: InformationBases<B>,
     pub(crate) relays: Relays,
     pub(crate) rows: Seq<TcRow>,
     pub(crate) ansn: u16,
@@ -130,7 +130,7 @@ fn emptied_with(rows: &[TcRow], before: &[TcRow], emptied: Option<u64>, now: u64
 // True only where all of that was quiet.
 fn take_packet<B: Bases>(
     alloc: Global,
-    holding: &mut Holding<B>,
+    holding: &mut InformationBases<B>,
     last: u64,
     arrival: Arrival,
     bytes: &[u8],
@@ -172,7 +172,7 @@ impl<B: Bases> CheckedRouter<B> {
         ensures opening { IfOk result (IsOpening settings.now) }
         ensures kept { IfOk result IsAtRest }
     {
-        let holding = Holding::new(alloc, settings)?;
+        let holding = InformationBases::new(alloc, settings)?;
         let rows = advertised_rows(alloc, holding.nhdp(), settings)?;
         let relays = no_relays(alloc, settings.interfaces.len())?;
         Ok(CheckedRouter {
@@ -225,7 +225,7 @@ impl<B: Bases> CheckedRouter<B> {
     fn begin(&mut self, alloc: Global, now: u64, quiet: bool) -> Result<Before, AllocError>
         requires rows { IsTrue quiet → AreRowsWith self.old.settings self.old.bases self.old.rows }
         requires relays { IsTrue quiet → AreRelaysWith self.old.settings self.old.bases now self.old.relays }
-        ensures { IfOk result (λ b. Begins self.old now self.new
+        ensures { IfOk result (λ b. BeginsEvent self.old now self.new
             × (IsTrue b.stand → AreRelaysWith self.old.settings self.old.bases now b.relays)) }
     {
         self.last = now;

@@ -4,7 +4,7 @@ use mesh_expire::Bases;
 
 /// The router that ticks first, and when.
 #[derive(Clone, Copy)]
-pub(crate) struct Due {
+pub(crate) struct FirstTick {
     pub(crate) router: usize,
     pub(crate) moment: u64,
 }
@@ -13,7 +13,7 @@ pub(crate) struct Due {
 #[derive(Drop)]
 pub(crate) struct CheckedNet<B: Bases> {
     pub(crate) routers: Vec<CheckedRouter<B>>,
-    pub(crate) due: Due,
+    pub(crate) due: FirstTick,
     pub(crate) last_ticks: usize,
 }
 

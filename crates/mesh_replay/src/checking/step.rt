@@ -2,13 +2,13 @@
 ghost use Rattle.std.specs.Prelude.{◌≡◌, ◌<◌, length, IfOk, OnOk, IsTrue, MatchOption};
 ghost use Rattle.mesh_trace.specs.machine.Net.{IsFirstDue};
 ghost use Rattle.mesh_replay.specs.Checking.Scenes.{Comes, IsReachedNet, IsSoundScene, net_of};
-ghost use Rattle.mesh_replay.specs.Checking.Ticking.{HasNoTickLeft, IsQuiet, IsFoundTick, outcome_of};
+ghost use Rattle.mesh_replay.specs.Checking.Ticking.{HasNoTickLeft, IsTrafficQuiet, IsFoundTick, outcome_of};
 ghost use Rattle.mesh_trace.specs.Reading.Readers.{IsReaderOf};
 
 use crate::checking::case::{Case, Progress};
 use crate::checking::heard::hear;
 use crate::checking::opening::first_due;
-use crate::checking::scene::{CheckedNet, Due, NextTick, Outcome};
+use crate::checking::scene::{CheckedNet, FirstTick, NextTick, Outcome};
 use crate::checking::ticks::tick;
 use mesh_atoms::Scenario;
 use mesh_expire::Bases;
@@ -47,7 +47,7 @@ fn tick_next<B: Bases>(
 ) -> Result<Outcome, AllocError>
     requires sound { IsSoundScene case.now scene.old.routers.items scene.old.due scene.old.last_ticks progress.old }
     requires reached { IsReachedNet case.now (net_of case.now scene.old.routers.items scene.old.last_ticks progress.old) }
-    requires quiet { IsQuiet case.now.scenario.now scene.old.due progress.old.traffic.traffic }
+    requires quiet { IsTrafficQuiet case.now.scenario.now scene.old.due progress.old.traffic.traffic }
     ensures comes { IfOk result (Comes case.now progress.old progress.new
         (net_of case.now scene.old.routers.items scene.old.last_ticks progress.old)
         (net_of case.now scene.new.routers.items scene.new.last_ticks progress.new)) }
@@ -71,7 +71,7 @@ fn tick_next<B: Bases>(
 }
 
 // The tick that is next: of the router that is due first, up to the end, and then of the routers in order at the end.
-fn next_tick(scenario: &Scenario, due: Due, last_ticks: usize) -> Option<NextTick>
+fn next_tick(scenario: &Scenario, due: FirstTick, last_ticks: usize) -> Option<NextTick>
     ensures { MatchOption result (HasNoTickLeft scenario.now due last_ticks) (IsFoundTick scenario.now due last_ticks) }
 {
     if due.moment <= scenario.end {

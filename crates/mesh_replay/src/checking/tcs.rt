@@ -6,7 +6,7 @@ ghost use Rattle.mesh_atoms.specs.declared.tc.TcRow.{TcRow};
 ghost use Rattle.mesh_trace.specs.machine.Frames.{on_each};
 ghost use Rattle.mesh_trace.specs.machine.Sending.{IsTcOfRows};
 ghost use Rattle.mesh_trace.specs.machine.declared.frame.Frame.{Frame};
-ghost use Rattle.mesh_replay.specs.Checking.Cases.{IsCase, IsProgress, Tells};
+ghost use Rattle.mesh_replay.specs.Checking.Cases.{IsCase, IsProgress, TellsItems};
 ghost use Rattle.mesh_replay.specs.Checking.Kept.{IsSoundRouter, tc_items};
 ghost use Rattle.mesh_replay.specs.Checking.Sending.{IsSentNext};
 ghost use Rattle.mesh_topo.specs.Advertised.Spans.{part_of};
@@ -98,7 +98,7 @@ fn tell_further<B: Bases>(
     requires stands { slice_get case.now.scenario.now.routers x ≡ Some router.now.settings }
     requires early { router.now.last ≤ one_hour }
     ensures progress { OnOk result (IsProgress case.now progress.new) }
-    ensures tells { IfOk result (Tells case.now progress.old progress.new x router.now
+    ensures tells { IfOk result (TellsItems case.now progress.old progress.new x router.now
         (map Sent (drop 1 (on_each (length router.now.settings.interfaces) frame.now.value)))) }
 {
     for iface in 1..router.settings().interfaces.len() {
@@ -126,7 +126,7 @@ fn tell_tc<B: Bases>(
     requires validity { IsValidity router.now.settings.times.topology_hold router.now.settings.near_hold validity.now }
     ensures progress { OnOk result (IsProgress case.now progress.new) }
     ensures tells { IfOk result (λ fits. (complete : Bool) (sequence : ℕ) (rows : List TcRow) → IsTcOfRows router.now validity.now complete sequence rows tc.now
-        → Tells case.now progress.old progress.new x router.now (Told_tc complete sequence rows ∷ []) fits) }
+        → TellsItems case.now progress.old progress.new x router.now (Told_tc complete sequence rows ∷ []) fits) }
 {
     let sender = sender_of(x, router);
     let Some(octets) = tc_octets(
@@ -164,7 +164,7 @@ pub(crate) fn tell_parts<B: Bases>(
     requires sound { IsSoundRouter router.now }
     requires within { (i : ℕ) (span : SpanValue) → slice_get spans.now i ≡ Some span → span.first + span.len ≤ length router.now.rows }
     ensures progress { OnOk result (IsProgress case.now progress.new) }
-    ensures tells { IfOk result (Tells case.now progress.old progress.new x router.now (tc_items router.now sequence spans.now)) }
+    ensures tells { IfOk result (TellsItems case.now progress.old progress.new x router.now (tc_items router.now sequence spans.now)) }
 {
     let octets = router.settings().validity()?;
     let validity = octets.as_slice();

@@ -2,9 +2,9 @@
 ghost use Rattle.std.specs.Prelude.{◌≡◌, ◌++◌, ◌<◌, ◌≤◌, ◌+◌, ℕ, [], Some, length, slice_get, IfOk, OnOk, IsTrue};
 ghost use Rattle.mesh_atoms.specs.RelayGraphs.{AreRelays};
 ghost use Rattle.mesh_atoms.specs.Settings.{one_hour};
-ghost use Rattle.mesh_trace.specs.machine.Net.{Net};
-ghost use Rattle.mesh_replay.specs.Checking.Cases.{IsCase, IsProgress, Tells};
-ghost use Rattle.mesh_replay.specs.Checking.Going.{at, Goes};
+ghost use Rattle.mesh_trace.specs.machine.Net.{NetState};
+ghost use Rattle.mesh_replay.specs.Checking.Cases.{IsCase, IsProgress, TellsItems};
+ghost use Rattle.mesh_replay.specs.Checking.Going.{at, FitsOrStops};
 ghost use Rattle.mesh_replay.specs.Checking.Kept.{AreAtRest, IsAtRest, IsSoundRouter, hello_items, with_relays};
 ghost use Rattle.mesh_replay.specs.Checking.Scenes.{IsTickNext, IsReachedNet};
 ghost use Rattle.mesh_replay.specs.Checking.Ticked.{TakesTick, TellsTick, TicksAsTold, sent_items};
@@ -64,7 +64,7 @@ fn tell_due_hellos<B: Bases>(
     requires early { router.now.last ≤ one_hour }
     requires sound { IsSoundRouter router.now }
     ensures progress { OnOk result (IsProgress case.now progress.new) }
-    ensures tells { IfOk result (Tells case.now progress.old progress.new x router.now (hello_items router.now due)) }
+    ensures tells { IfOk result (TellsItems case.now progress.old progress.new x router.now (hello_items router.now due)) }
 {
     if !due {
         return Ok(true);
@@ -88,7 +88,7 @@ fn tell_sent<B: Bases>(
     requires sound { IsSoundRouter router.now }
     requires within { (i : ℕ) (span : SpanValue) → slice_get ticked.now.parts i ≡ Some span → span.first + span.len ≤ length router.now.rows }
     ensures progress { OnOk result (IsProgress case.now progress.new) }
-    ensures tells { IfOk result (Tells case.now progress.old progress.new x router.now (sent_items router.now ticked.now)) }
+    ensures tells { IfOk result (TellsItems case.now progress.old progress.new x router.now (sent_items router.now ticked.now)) }
 {
     if !tell_due_hellos(alloc, case, x, router, ticked.hellos, progress)? {
         return Ok(false);
@@ -153,7 +153,7 @@ fn tick_router<B: Bases>(
     requires stands { slice_get case.now.scenario.now.routers x ≡ Some router.old.settings }
     requires kept { IsAtRest router.old }
     requires early { now ≤ one_hour }
-    requires reached { (net : Net) × (last_ticks : ℕ) × IsReachedNet case.now net × (slice_get net.routers x ≡ Some router.old) × IsTickNext net x now last_ticks }
+    requires reached { (net : NetState) × (last_ticks : ℕ) × IsReachedNet case.now net × (slice_get net.routers x ≡ Some router.old) × IsTickNext net x now last_ticks }
     ensures progress { OnOk result (IsProgress case.now progress.new) }
     ensures settings { OnOk result (router.new.settings ≡ router.old.settings) }
     ensures kept { IfOk result (λ fits. IsTrue fits → IsAtRest router.new) }
@@ -180,13 +180,13 @@ pub(crate) fn tick<B: Bases>(
     requires kept { AreAtRest case.now.scenario.now routers.old.items }
     requires router { x < length case.now.scenario.now.routers }
     requires early { now ≤ one_hour }
-    requires reached { (net : Net) × (last_ticks : ℕ) × IsReachedNet case.now net × (net.routers ≡ routers.old.items)
+    requires reached { (net : NetState) × (last_ticks : ℕ) × IsReachedNet case.now net × (net.routers ≡ routers.old.items)
         × (net.traffic ≡ progress.old.traffic.traffic) × IsTickNext net x now last_ticks }
     ensures progress { OnOk result (IsProgress case.now progress.new) }
     ensures kept { IfOk result (λ fits. IsTrue fits → AreAtRest case.now.scenario.now routers.new.items) }
-    ensures goes { IfOk result (λ fits. (net : Net) (y last_ticks : ℕ) → net.scenario ≡ case.now.scenario.now → net.routers ≡ routers.old.items
+    ensures goes { IfOk result (λ fits. (net : NetState) (y last_ticks : ℕ) → net.scenario ≡ case.now.scenario.now → net.routers ≡ routers.old.items
         → net.traffic ≡ progress.old.traffic.traffic → IsTickNext net x now last_ticks
-        → Goes case.now.trace.now progress.old.reader progress.new.reader (at net y [])
+        → FitsOrStops case.now.trace.now progress.old.reader progress.new.reader (at net y [])
         (at (record net { routers = routers.new.items; traffic = progress.new.traffic.traffic; last_ticks = last_ticks }) x []) fits) }
 {
     let router = &mut routers[x];

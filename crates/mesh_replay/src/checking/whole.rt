@@ -1,8 +1,8 @@
 //! Whether a whole trace is that of a run.
 ghost use Rattle.std.specs.Prelude.{◌≡◌, ◌↔◌, ℕ, length, IfOk};
-ghost use Rattle.mesh_trace.specs.machine.Net.{Net};
+ghost use Rattle.mesh_trace.specs.machine.Net.{NetState};
 ghost use Rattle.mesh_trace.specs.machine.NetRun.{IsOver};
-ghost use Rattle.mesh_replay.specs.Checking.Answers.{Answers};
+ghost use Rattle.mesh_replay.specs.Checking.Answers.{ReplayAnswers};
 ghost use Rattle.mesh_replay.specs.Checking.Reached.{HasRead};
 ghost use Rattle.mesh_replay.specs.Checking.Scenes.{IsSoundScene, net_of};
 ghost use Rattle.mesh_trace.specs.Positions.Leading.{IsUnfit, IsWholeTrace};
@@ -26,7 +26,7 @@ pub fn replay<B: Bases>(
     scenario: &Scenario,
     trace: &[u8],
 ) -> Result<Replay, AllocError>
-    ensures answers { IfOk result (Answers scenario.now (lines_of trace.now)) }
+    ensures answers { IfOk result (ReplayAnswers scenario.now (lines_of trace.now)) }
     ensures yes { IfOk result (λ answer. (lines : ℕ) → answer ≡ Replay.Yes lines
         ↔ IsWholeTrace scenario.now (lines_of trace.now) × (lines ≡ length (lines_of trace.now))) }
     ensures no { IfOk result (λ answer. (line : ℕ) → answer ≡ Replay.No line ↔ IsUnfit scenario.now (lines_of trace.now) line) }
@@ -51,7 +51,7 @@ fn check<B: Bases>(
 ) -> Result<Replay, AllocError>
     requires sound { IsSoundScene case.now scene.old.routers.items scene.old.due scene.old.last_ticks progress.old }
     requires read { HasRead case.now progress.old.reader (net_of case.now scene.old.routers.items scene.old.last_ticks progress.old) }
-    ensures { IfOk result (Answers case.now.scenario.now (lines_of case.now.trace.now)) }
+    ensures { IfOk result (ReplayAnswers case.now.scenario.now (lines_of case.now.trace.now)) }
 {
     for _ in 0..u64::MAX {
         match next_event(alloc, case, scene, progress)? {
@@ -69,8 +69,8 @@ fn check<B: Bases>(
 // The answer where no event is left: no line may be left either.
 fn at_end(case: &Case, progress: &Progress) -> Replay
     requires reading { IsReaderOf case.now.trace.now progress.now.reader }
-    requires over { (net : Net) × HasRead case.now progress.now.reader net × IsOver net }
-    ensures { Answers case.now.scenario.now (lines_of case.now.trace.now) result }
+    requires over { (net : NetState) × HasRead case.now progress.now.reader net × IsOver net }
+    ensures { ReplayAnswers case.now.scenario.now (lines_of case.now.trace.now) result }
 {
     let lines = progress.reader.taken;
     if progress.reader.is_done(case.trace) {

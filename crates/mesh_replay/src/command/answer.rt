@@ -1,6 +1,6 @@
 //! The answer to an input, before anything is told.
 ghost use Rattle.std.specs.Prelude.{◌≡◌, ◌++◌, codes, decimal, IfOk, IfErr, OnOk};
-ghost use Rattle.mesh_config.specs.Keys.Faults.{IfRefused};
+ghost use Rattle.mesh_config.specs.Keys.Faults.{IfSettingRefused};
 ghost use Rattle.mesh_config.specs.Settings.{FirstRefusal};
 ghost use Rattle.mesh_replay.specs.Command.Replays.{Replays, IsRefusedInput, IsReplayed, answer_line};
 ghost use Rattle.mesh_replay.specs.Command.Split.{IsPartsOf};
@@ -19,7 +19,7 @@ const MOST_STATED: usize = 1_048_576;
 // Splits an input that has a line `---`.
 fn split<'a>(alloc: Global, input: &'a [u8]) -> Result<Parts<'a>, ConfigFault>
     ensures split { IfOk result (IsPartsOf input.now) }
-    ensures refused { IfErr result (IfRefused (IsRefusedInput input.now)) }
+    ensures refused { IfErr result (IfSettingRefused (IsRefusedInput input.now)) }
 {
     match parts_of(alloc, input) {
         Ok(Some(parts)) => Ok(parts),
@@ -35,7 +35,7 @@ fn answer_over<B: Bases>(
     trace: &[u8],
 ) -> Result<Replay, ConfigFault>
     ensures answered { IfOk result (IsReplayed settings.now trace.now) }
-    ensures refused { IfErr result (IfRefused (FirstRefusal settings.now)) }
+    ensures refused { IfErr result (IfSettingRefused (FirstRefusal settings.now)) }
 {
     let scenario = match scenario_of(alloc, settings) {
         Ok(scenario) => scenario,
@@ -50,7 +50,7 @@ fn answer_over<B: Bases>(
 /// The answer to an input, or its refusal.
 pub(crate) fn answer_to<B: Bases>(alloc: Global, input: &[u8]) -> Result<Replay, ConfigFault>
     ensures answered { IfOk result (Replays input.now) }
-    ensures refused { IfErr result (IfRefused (IsRefusedInput input.now)) }
+    ensures refused { IfErr result (IfSettingRefused (IsRefusedInput input.now)) }
 {
     let parts = match split(alloc, input) {
         Ok(parts) => parts,

@@ -1,6 +1,6 @@
 //! The lines that end the parts of an input, and the places where the parts end.
 ghost use Rattle.std.specs.Prelude.{◌≡◌, ◌≤◌, length, take, drop, IfOk};
-ghost use Rattle.mesh_replay.specs.Command.Marks.{Ends, word_of, TellsNext};
+ghost use Rattle.mesh_replay.specs.Command.Marks.{IsMarkLine, word_of, TellsNext};
 ghost use Rattle.mesh_replay.specs.Command.Parts.{IsCutAt};
 ghost use Rattle.mesh_trace.specs.Reading.Readers.{IsReaderOf};
 
@@ -42,7 +42,7 @@ fn is_next(reader: &Reader, text: &[u8], mark: Mark) -> bool
 /// How many octets stand in front of the first line of that kind; all where there is none.
 pub(crate) fn front(alloc: Global, text: &[u8], mark: Mark) -> Result<usize, AllocError>
     ensures within { IfOk result (λ end. end ≤ length text.now) }
-    ensures cut { IfOk result (λ end. IsCutAt (Ends mark) text.now (take end text.now) (drop end text.now)) }
+    ensures cut { IfOk result (λ end. IsCutAt (IsMarkLine mark) text.now (take end text.now) (drop end text.now)) }
 {
     let mut reader = Reader::new(alloc);
     reader.text.clear();

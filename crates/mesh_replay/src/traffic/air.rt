@@ -1,7 +1,7 @@
 //! The frames in the air, in the order in which they were sent.
 ghost use Rattle.std.specs.Prelude.{◌≡◌, ◌<◌, ◌≤◌, [], ◌∷◌, ◌++◌, length, All, OnOk, MatchOption};
 ghost use Rattle.mesh_trace.specs.machine.Traffic.{IsHeardFirst};
-ghost use Rattle.mesh_replay.specs.Traffic.Air.{delivery_of, IsLeast, AreNoEarlier};
+ghost use Rattle.mesh_replay.specs.Traffic.Air.{delivery_of, IsNextFrame, AreNoEarlier};
 
 use mesh_atoms::Bytes;
 use std::alloc::{AllocError, Global};
@@ -19,12 +19,12 @@ pub(crate) struct Delivered {
 
 /// The frames in the air, in order of sending and then arc; and a moment before which none of them is heard.
 #[derive(Drop)]
-pub(crate) struct Air {
+pub(crate) struct AwaitedFrames {
     flights: Vec<Delivered>,
     least: u64,
 }
 
-impl Model for Air {
+impl Model for AwaitedFrames {
     ghost use Rattle.std.specs.Prelude.{List, map};
     ghost use Rattle.mesh_trace.specs.machine.Traffic.{Delivery};
     ghost use Rattle.mesh_replay.specs.Traffic.Air.{delivery_of, AreNoEarlier};
@@ -36,12 +36,12 @@ impl Model for Air {
     ghost invariant = { λ a. AreNoEarlier a.least a.flights.items };
 }
 
-impl Air {
+impl AwaitedFrames {
     /// Nothing.
-    pub(crate) fn new(alloc: Global) -> Air
+    pub(crate) fn new(alloc: Global) -> AwaitedFrames
         ensures { result ≡ [] }
     {
-        Air {
+        AwaitedFrames {
             flights: Vec::new(alloc),
             least: 0,
         }
@@ -83,7 +83,7 @@ impl Air {
 fn first_heard(flights: &Vec<Delivered>, least: u64) -> usize
     requires some { 0 < length flights.now.items }
     requires least { AreNoEarlier least flights.now.items }
-    ensures { IsLeast flights.now.items (length flights.now.items) result }
+    ensures { IsNextFrame flights.now.items (length flights.now.items) result }
 {
     let mut first = 0;
     for (place, flight) in flights.iter().enumerate() {

@@ -7,7 +7,7 @@ ghost use Rattle.mesh_replay.specs.Traffic.Air.{delivery_of};
 ghost use Rattle.mesh_replay.specs.Traffic.Traffic.{HasTaken};
 ghost use Rattle.mesh_replay.specs.Traffic.Ways.{AreLeaving};
 
-use crate::traffic::air::{Air, Delivered};
+use crate::traffic::air::{AwaitedFrames, Delivered};
 use crate::traffic::draws::WordStream;
 use crate::traffic::ways::{LeavingArcs, leaving_of};
 use mesh_atoms::{Bytes, Counts, RadioArc, Scenario, Seq};
@@ -17,13 +17,13 @@ use std::rc::Rc;
 
 /// What flies, what was counted, and the draws.
 #[derive(Drop)]
-pub(crate) struct Traffic {
-    air: Air,
+pub(crate) struct TraceTraffic {
+    air: AwaitedFrames,
     counts: Counts,
     draws: WordStream,
 }
 
-impl Model for Traffic {
+impl Model for TraceTraffic {
     ghost use Rattle.mesh_replay.specs.Traffic.Traffic.{SeededTraffic};
 
     ghost Value = { SeededTraffic };
@@ -31,14 +31,14 @@ impl Model for Traffic {
     ghost view = { λ t. record { seed = t.draws.seed; traffic = record { air = t.air; counts = t.counts; draws = t.draws.drawn } } };
 }
 
-impl Traffic {
+impl TraceTraffic {
     /// Nothing flies, nothing was counted, and no word of the seed was drawn.
-    pub(crate) fn new(alloc: Global, seed: u64) -> Traffic
+    pub(crate) fn new(alloc: Global, seed: u64) -> TraceTraffic
         ensures seed { result.seed ≡ seed }
         ensures traffic { result.traffic ≡ record { air = []; counts = record { sent = 0; delivered = 0; lost = 0 }; draws = 0 } }
     {
-        Traffic {
-            air: Air::new(alloc),
+        TraceTraffic {
+            air: AwaitedFrames::new(alloc),
             counts: Counts {
                 sent: 0,
                 delivered: 0,

@@ -12,23 +12,23 @@ use Rattle.std.proofs.lemmas.Map.Lookups.{CmpEqualImpliesEq, exact_unsigned}
 use Rattle.std.proofs.lemmas.Map.Views.{btree_set_contains_iff}
 use Rattle.mesh_atoms.specs.declared.addr.Addr4.{Addr4}
 use Rattle.mesh_atoms.proofs.NetOrder.{then_equal}
-use Rattle.mesh_routes.specs.declared.hops.ways.Way.{Way}
-use Rattle.mesh_routes.specs.Hops.Ways.{way_cmp, IsNoWorse, IsBest, IsCutOff}
+use Rattle.mesh_routes.specs.declared.hops.ways.NeighbourLink.{NeighbourLink}
+use Rattle.mesh_routes.specs.Hops.Ways.{way_cmp, IsNoWorse, IsBestLink, IsCutOff}
 use Rattle.mesh_atoms.proofs.Values.{same_addr}
 
 pub way_total : IsTotalOrder way_cmp
-way_total = then_total (on_total (λ (a : Way). a.originator.0) nat_cmp_total)
-    (then_total (on_total (λ (a : Way). a.metric) nat_cmp_total) (then_total (on_total (λ (a : Way). a.iface) nat_cmp_total) (on_total (λ (a : Way). a.next.0) nat_cmp_total)))
+way_total = then_total (on_total (λ (a : NeighbourLink). a.originator.0) nat_cmp_total)
+    (then_total (on_total (λ (a : NeighbourLink). a.metric) nat_cmp_total) (then_total (on_total (λ (a : NeighbourLink). a.iface) nat_cmp_total) (on_total (λ (a : NeighbourLink). a.next.0) nat_cmp_total)))
 
 pub way_exact : CmpEqualImpliesEq way_cmp
 way_exact a b e =
     let (f, rest) = then_equal (nat_cmp a.originator.0 b.originator.0) (ordering_then (nat_cmp a.metric b.metric) (ordering_then (nat_cmp a.iface b.iface) (nat_cmp a.next.0 b.next.0))) e in
     let (g, last) = then_equal (nat_cmp a.metric b.metric) (ordering_then (nat_cmp a.iface b.iface) (nat_cmp a.next.0 b.next.0)) rest in
     let (h, k) = then_equal (nat_cmp a.iface b.iface) (nat_cmp a.next.0 b.next.0) last in
-    ap (λ (o : Addr4). let r : Way = record { originator = o; metric = a.metric; iface = a.iface; next = a.next } in r) (same_addr a.originator b.originator (exact_unsigned a.originator.0 b.originator.0 f))
-    ∙ ap (λ (m : ℕ). let r : Way = record { originator = b.originator; metric = m; iface = a.iface; next = a.next } in r) (exact_unsigned a.metric b.metric g)
-    ∙ ap (λ (i : ℕ). let r : Way = record { originator = b.originator; metric = b.metric; iface = i; next = a.next } in r) (exact_unsigned a.iface b.iface h)
-    ∙ ap (λ (o : Addr4). let r : Way = record { originator = b.originator; metric = b.metric; iface = b.iface; next = o } in r) (same_addr a.next b.next (exact_unsigned a.next.0 b.next.0 k))
+    ap (λ (o : Addr4). let r : NeighbourLink = record { originator = o; metric = a.metric; iface = a.iface; next = a.next } in r) (same_addr a.originator b.originator (exact_unsigned a.originator.0 b.originator.0 f))
+    ∙ ap (λ (m : ℕ). let r : NeighbourLink = record { originator = b.originator; metric = m; iface = a.iface; next = a.next } in r) (exact_unsigned a.metric b.metric g)
+    ∙ ap (λ (i : ℕ). let r : NeighbourLink = record { originator = b.originator; metric = b.metric; iface = i; next = a.next } in r) (exact_unsigned a.iface b.iface h)
+    ∙ ap (λ (o : Addr4). let r : NeighbourLink = record { originator = b.originator; metric = b.metric; iface = b.iface; next = o } in r) (same_addr a.next b.next (exact_unsigned a.next.0 b.next.0 k))
 
 then_upto : (o p : Ordering) → is_gt (ordering_then o p) ≡ false → (o ≡ Less) ⊎ ((o ≡ Equal) × (is_gt p ≡ false))
 then_upto Less p e = inl refl
@@ -48,10 +48,10 @@ last_upto a b Equal e f = let l : a ≡ b = ranked a b Equal e in omega arith
 last_upto a b Greater e f = absurd (cc)
 
 -- which of two ways in order is the better
-upto_originator : (a b : Way) → is_gt (way_cmp a b) ≡ false → a.originator.0 ≤ b.originator.0
+upto_originator : (a b : NeighbourLink) → is_gt (way_cmp a b) ≡ false → a.originator.0 ≤ b.originator.0
 upto_originator a b e = elim (number_upto a.originator.0 b.originator.0 _ e) [ inl l ↦ omega arith | inr (l, _) ↦ omega arith ]
 
-upto_no_worse : (a b : Way) → a.originator ≡ b.originator → is_gt (way_cmp a b) ≡ false → IsNoWorse a b
+upto_no_worse : (a b : NeighbourLink) → a.originator ≡ b.originator → is_gt (way_cmp a b) ≡ false → IsNoWorse a b
 upto_no_worse a b same e = elim (number_upto a.originator.0 b.originator.0 _ e) [
   | inl l ↦ let s : a.originator.0 ≡ b.originator.0 = ap (λ (o : Addr4). o.0) same in absurd (omega arith)
   | inr (_, rest) ↦ elim (number_upto a.metric b.metric _ rest) [
@@ -79,19 +79,19 @@ last_then a b Equal e l = refl
 last_then a b Greater e l = let m : b < a = ranked a b Greater e in absurd (omega arith)
 
 -- the way to a neighbour whose numbers are 0 is no greater than another to it
-least_upto : (a b : Way) → a.originator ≡ b.originator → a.metric ≡ 0 → a.iface ≡ 0 → a.next.0 ≡ 0 → is_gt (way_cmp a b) ≡ false
+least_upto : (a b : NeighbourLink) → a.originator ≡ b.originator → a.metric ≡ 0 → a.iface ≡ 0 → a.next.0 ≡ 0 → is_gt (way_cmp a b) ≡ false
 least_upto a b same metric iface next =
     let s : a.originator.0 ≡ b.originator.0 = ap (λ (o : Addr4). o.0) same in
     number_then a.originator.0 b.originator.0 _ _ refl (omega arith)
     (number_then a.metric b.metric _ _ refl (omega arith) (number_then a.iface b.iface _ _ refl (omega arith) (last_then a.next.0 b.next.0 _ refl (omega arith))))
 
 -- The ways from the least of a neighbour on
-module _ (s : BTreeSet Way) (lo : Way) (originator : Addr4) (r : List Way) (part : sorted.IsKeyRangeOf way_cmp (Included lo) Unbounded s r)
+module _ (s : BTreeSet NeighbourLink) (lo : NeighbourLink) (originator : Addr4) (r : List NeighbourLink) (part : sorted.IsKeyRangeOf way_cmp (Included lo) Unbounded s r)
     (from : lo.originator ≡ originator) (metric : lo.metric ≡ 0) (iface : lo.iface ≡ 0) (next : lo.next.0 ≡ 0) where
-  least_of : (way : Way) → way.originator ≡ originator → is_gt (way_cmp lo way) ≡ false
+  least_of : (way : NeighbourLink) → way.originator ≡ originator → is_gt (way_cmp lo way) ≡ false
   least_of way is = least_upto lo way (from ∙ sym is) metric iface next
 
-  found : (way : Way) → Contains s.keys way → sorted.contains way_cmp s way ≡ true
+  found : (way : NeighbourLink) → Contains s.keys way → sorted.contains way_cmp s way ≡ true
   found way has = (btree_set_contains_iff way_total way_exact s way).1 has
 
   pub range_none : r ≡ [] → IsCutOff s.keys originator
@@ -100,11 +100,11 @@ module _ (s : BTreeSet Way) (lo : Way) (originator : Addr4) (r : List Way) (part
       let f : sorted.contains way_cmp s way ≡ false = part.5 none way (least_of way is, tt) in
       (cc)
 
-  module _ (k : Way) (t : List Way) (e : r ≡ k ∷ t) where
+  module _ (k : NeighbourLink) (t : List NeighbourLink) (e : r ≡ k ∷ t) where
     front : sorted.IsKeyRangeOf way_cmp (Included lo) Unbounded s (k ∷ t)
-    front = subst (λ (x : List Way). sorted.IsKeyRangeOf way_cmp (Included lo) Unbounded s x) e part
+    front = subst (λ (x : List NeighbourLink). sorted.IsKeyRangeOf way_cmp (Included lo) Unbounded s x) e part
 
-    pub range_best : k.originator ≡ originator → IsBest s.keys originator k
+    pub range_best : k.originator ≡ originator → IsBestLink s.keys originator k
     range_best leads = record {
       stands = (btree_set_contains_iff way_total way_exact s k).0 (front.0 0 k (omega arith)).1;
       leads = leads;

@@ -8,7 +8,7 @@ use Rattle.mesh_atoms.specs.declared.tuples.TwoHopKey.{TwoHopKey}
 use Rattle.mesh_atoms.specs.declared.tuples.TwoHop.{TwoHop}
 use Rattle.mesh_atoms.specs.Base.{host}
 use Rattle.mesh_atoms.specs.Codes.Codes.{metric_value}
-use Rattle.mesh_routes.specs.declared.hops.owners.Owner.{Owner}
+use Rattle.mesh_routes.specs.declared.hops.owners.SymmetricNeighbour.{SymmetricNeighbour}
 use Rattle.mesh_routes.specs.Hops.Owners.{OwnerMap, owner_at}
 
 -- an arc at the cost of a metric
@@ -21,7 +21,7 @@ known_arc from to None = None
 known_arc from to (Some m) = Some (arc_at from to m)
 
 -- the arc from a neighbour to a 2-hop address, if it is willing to route
-abbrev pub willing_arc : Option Owner → Addr4 → Option Metric → Option Arc4
+abbrev pub willing_arc : Option SymmetricNeighbour → Addr4 → Option Metric → Option Arc4
 willing_arc None a m = None
 willing_arc (Some owner) a m = cond (nat_eq owner.willing.routing 0) None (known_arc (host owner.originator) (host a) m)
 

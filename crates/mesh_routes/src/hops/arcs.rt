@@ -2,7 +2,7 @@
 ghost use Rattle.std.specs.Prelude.{◌≡◌};
 ghost use Rattle.mesh_routes.specs.Hops.Arcs.{known_arc, two_hop_arc};
 
-use crate::hops::owners::{Owner, owner_at};
+use crate::hops::owners::{SymmetricNeighbour, owner_at};
 use mesh_atoms::{Addr4, Arc4, Metric, NetAddr, TwoHop, TwoHopKey, host};
 use std::collections::BTreeMap;
 
@@ -20,7 +20,7 @@ pub fn known_arc(from: NetAddr, to: NetAddr, metric: Option<Metric>) -> Option<A
 
 /// The arc of a 2-hop tuple, if its neighbour is willing to route and its metric is known.
 pub fn two_hop_arc(
-    owners: &BTreeMap<Addr4, Owner>,
+    owners: &BTreeMap<Addr4, SymmetricNeighbour>,
     key: &TwoHopKey,
     two_hop: &TwoHop,
 ) -> Option<Arc4>

@@ -5,7 +5,7 @@ ghost use Rattle.mesh_atoms.specs.declared.codes.metric.Metric.{Metric};
 ghost use Rattle.mesh_atoms.specs.declared.tuples.Neighbour.{Neighbour};
 ghost use Rattle.mesh_atoms.specs.declared.tuples.TwoHop.{TwoHop};
 
-use crate::hops::ways::{Way, best_way};
+use crate::hops::ways::{NeighbourLink, best_way};
 use mesh_atoms::{Addr4, Metric, Neighbour, TwoHop};
 use std::collections::BTreeSet;
 
@@ -63,7 +63,7 @@ impl Purpose for Routing {
 /// For flooding on an interface, a neighbour costs the least metric to it over the interface (RFC 7181, section 18.4).
 #[derive(Drop)]
 pub struct Flooding {
-    pub ways: BTreeSet<Way>,
+    pub ways: BTreeSet<NeighbourLink>,
 }
 
 impl Purpose for Flooding {

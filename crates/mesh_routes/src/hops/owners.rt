@@ -7,7 +7,7 @@ use std::collections::BTreeMap;
 
 /// A symmetric neighbour, as whoever has one of its addresses looks at it.
 #[derive(Clone, Copy)]
-pub struct Owner {
+pub struct SymmetricNeighbour {
     pub originator: Addr4,
     pub metric_in: Option<Metric>,
     pub metric_out: Option<Metric>,
@@ -15,10 +15,10 @@ pub struct Owner {
 }
 
 /// The neighbour as an owner.
-pub fn owner_by(originator: Addr4, neighbour: &Neighbour) -> Owner
+pub fn owner_by(originator: Addr4, neighbour: &Neighbour) -> SymmetricNeighbour
     ensures { result ≡ owner_by originator neighbour.now }
 {
-    Owner {
+    SymmetricNeighbour {
         originator,
         metric_in: neighbour.metric_in,
         metric_out: neighbour.metric_out,
@@ -27,7 +27,10 @@ pub fn owner_by(originator: Addr4, neighbour: &Neighbour) -> Owner
 }
 
 /// The owner of an address.
-pub fn owner_at(owners: &BTreeMap<Addr4, Owner>, addr: Addr4) -> Option<Owner>
+pub fn owner_at(
+    owners: &BTreeMap<Addr4, SymmetricNeighbour>,
+    addr: Addr4,
+) -> Option<SymmetricNeighbour>
     ensures { result ≡ owner_at owners.now addr }
 {
     owners.get(&addr).copied()

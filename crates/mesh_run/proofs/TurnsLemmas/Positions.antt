@@ -6,13 +6,13 @@ use Rattle.mesh_atoms.specs.declared.addr.Addr4.{Addr4}
 use Rattle.mesh_atoms.specs.State.{State}
 use Rattle.mesh_io.specs.Airs.{Report}
 use Rattle.mesh_io.specs.Airs.Report.{Heard_frame}
-use Rattle.mesh_io.specs.Told.{Tells}
+use Rattle.mesh_io.specs.Told.{TellsMore}
 use Rattle.mesh_texts.specs.machine.Machine.Event.{Hear}
 use Rattle.mesh_run.specs.declared.turns.tally.Tally.{Tally}
-use Rattle.mesh_run.specs.Turns.Turns.{Position, Goes, tick_of, moment_of, greatest_of}
-use Rattle.mesh_run.specs.Turns.Turns.Goes.{Stays, Then_begins, Then_listens}
-use Rattle.mesh_run.specs.Turns.Turns.IsLost.{A_moment, An_ear}
-use Rattle.mesh_run.specs.Turns.Parts.{Acts, Hears, HearsInVain, Going, Broken, Turning, Stopped, at, counted}
+use Rattle.mesh_run.specs.Turns.Turns.{Position, RunsTurns, tick_of, moment_of, greatest_of}
+use Rattle.mesh_run.specs.Turns.Turns.RunsTurns.{Stays, Then_begins, Then_listens}
+use Rattle.mesh_run.specs.Turns.Turns.CameToNothing.{A_moment, An_ear}
+use Rattle.mesh_run.specs.Turns.Parts.{Acts, HearsInterface, HearsInVain, Going, Broken, Turning, Stopped, at, counted}
 use Rattle.mesh_run.proofs.TurnsLemmas.Tellings.{tells_nothing, tells_more, counted_nothing, counted_more}
 
 pub on_err : {A E : Type 0} {P Q : Type 0} (r : Result A E) → (P → Q) → OnErr r P → OnErr r Q
@@ -35,9 +35,9 @@ heard_one t h iface sender bytes e = rw (e, zero_more t.sent, zero_more t.faults
 
 -- a frame is heard, and then what comes of it
 pub hears_frame : (now iface : ℕ) (sender : Addr4) (bytes : List ℕ) (old new : State) (a b c : Option (List Report)) (t v : Tally) (h : ℕ) →
-    h ≡ t.heard + 1 → Tells a b (Heard_frame iface sender bytes ∷ []) →
+    h ≡ t.heard + 1 → TellsMore a b (Heard_frame iface sender bytes ∷ []) →
     Acts old (Some (Hear (record { now = now; iface = iface; sender = sender }) bytes)) new b c (record { heard = h; sent = t.sent; faults = t.faults }) v →
-    Hears now iface old new a c t v
+    HearsInterface now iface old new a c t v
 hears_frame now iface sender bytes old new a b c t v h more told acts = record {
   ear = Heard_frame iface sender bytes;
   reports = acts.reports;
@@ -49,7 +49,7 @@ hears_frame now iface sender bytes old new a b c t v h more told acts = record {
 
 -- a frame is heard, and nothing comes of it
 pub hears_in_vain : (iface : ℕ) (sender : Addr4) (bytes : List ℕ) (a b c : Option (List Report)) →
-    Tells a b (Heard_frame iface sender bytes ∷ []) → Tells b c [] → HearsInVain iface a c
+    TellsMore a b (Heard_frame iface sender bytes ∷ []) → TellsMore b c [] → HearsInVain iface a c
 hears_in_vain iface sender bytes a b c told silent = record {
   ear = Heard_frame iface sender bytes;
   tells = tells_more a b c (Heard_frame iface sender bytes ∷ []) [] told silent;
@@ -64,7 +64,7 @@ going_nothing end count s a t = record { reports = []; tells = tells_nothing a; 
 
 -- the next interface is heard
 pub going_hears : (end count : ℕ) (s : Position) (ms : List ℕ) (now i : ℕ) (old new : State) (a b c : Option (List Report)) (t u v : Tally) →
-    Going end count s (at old now i) ms a b t u → i < count → Hears now i old new b c u v → Going end count s (at new now (i + 1)) ms a c t v
+    Going end count s (at old now i) ms a b t u → i < count → HearsInterface now i old new b c u v → Going end count s (at new now (i + 1)) ms a c t v
 going_hears end count s ms now i old new a b c t u v g lt h = record {
   reports = g.reports ++ h.ear ∷ h.reports;
   tells = tells_more a b c g.reports (h.ear ∷ h.reports) g.tells h.tells;
@@ -88,8 +88,8 @@ broken_hears end count s ms now i old a b c t u g lt h = record {
 }
 
 -- more is done
-goes_more : (end count : ℕ) (s m p : Position) (ms ns : List ℕ) (rs qs : List Report) → Goes end count s ms rs m → Goes end count m ns qs p →
-    Goes end count s (ms ++ ns) (rs ++ qs) p
+goes_more : (end count : ℕ) (s m p : Position) (ms ns : List ℕ) (rs qs : List Report) → RunsTurns end count s ms rs m → RunsTurns end count m ns qs p →
+    RunsTurns end count s (ms ++ ns) (rs ++ qs) p
 goes_more end count s m p ms ns rs qs g Stays = rw (append-nil ms, append-nil rs) g
 goes_more end count s m p ms ns rs qs g (Then_begins {moments = ks} {reports = js} {more = more} {told = told} h b) =
     rw (← append_assoc ms ks (told ∷ []), ← append_assoc rs js more) (Then_begins (goes_more end count s m _ ms ks rs js g h) b)
@@ -116,7 +116,7 @@ broken_more end count s m ms ns a b c t u g k = record {
   lost_reports = k.lost_reports;
   is_lost = k.is_lost;
   moments_are = ap (λ (l : List ℕ). ms ++ l) k.moments_are ∙ sym (append_assoc ms k.first_moments k.lost_moments);
-  tells = subst (λ (l : List Report). Tells a c l) (sym (append_assoc g.reports k.first_reports k.lost_reports))
+  tells = subst (λ (l : List Report). TellsMore a c l) (sym (append_assoc g.reports k.first_reports k.lost_reports))
       (tells_more a b c g.reports (k.first_reports ++ k.lost_reports) g.tells k.tells);
 }
 
@@ -133,7 +133,7 @@ pub record Begun (end last now told g : ℕ) (old mid : State) (clock clock' : O
   pub going : last < end
   pub greatest : g ≡ max last told
   pub now_is : now ≡ min g (2 ^ 62 - 1)
-  pub tells : Tells clock clock' (told ∷ [])
+  pub tells : TellsMore clock clock' (told ∷ [])
   pub acts : Acts old (tick_of end now old) mid a b t u
 
 begun : (end count last now told g : ℕ) (old mid : State) (clock clock' : Option (List ℕ)) (a b : Option (List Report)) (t u : Tally) (n : ℕ) →
@@ -150,7 +150,7 @@ begun end count last now told g old mid clock clock' a b t u n h e =
 
 -- one turn
 one_turn : (end count last now told g : ℕ) (old new : State) (clock clock' : Option (List ℕ)) (a b : Option (List Report)) (t u : Tally) →
-    g ≡ max last told → now ≡ min g (2 ^ 62 - 1) → Tells clock clock' (told ∷ []) →
+    g ≡ max last told → now ≡ min g (2 ^ 62 - 1) → TellsMore clock clock' (told ∷ []) →
     Going end count (at old last count) (at new now count) (told ∷ []) a b t u →
     Turning end count (at old last count) (at new (moment_of 0 g) count) 1 last g clock clock' a b t u
 one_turn end count last now told g old new clock clock' a b t u greatest now_is tells going =
@@ -179,7 +179,7 @@ turn_goes end count last now told g old mid new clock clock' a b c t u v h lt k 
 
 -- a turn whose tick want of memory stops
 pub turn_stops : (end count last told : ℕ) (old : State) (clock clock' : Option (List ℕ)) (a b : Option (List Report)) →
-    Tells clock clock' (told ∷ []) → Tells a b [] → Stopped 1 end count (at old last count) clock clock' a b
+    TellsMore clock clock' (told ∷ []) → TellsMore a b [] → Stopped 1 end count (at old last count) clock clock' a b
 turn_stops end count last told old clock clock' a b tells silent = record {
   moments = told ∷ [];
   clock_tells = tells;

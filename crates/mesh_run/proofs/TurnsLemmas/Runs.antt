@@ -10,8 +10,8 @@ use Rattle.mesh_texts.proofs.machine.Opening.{runs_sound}
 use Rattle.mesh_texts.specs.machine.declared.frame.Frame.{Frame}
 use Rattle.mesh_texts.specs.machine.Machine.{Event, Tick, Step, Steps, No_events, First_event, due}
 use Rattle.mesh_run.specs.Turns.Laws.{HeardFrame, heard_by, heard_in, TurnsAreRuns, TurnsKeepSound}
-use Rattle.mesh_run.specs.Turns.Turns.{handed, ear_of, heard_at, AreHanded, Does, tick_of, Position, Goes}
-use Rattle.mesh_run.specs.Turns.Turns.Goes.{Stays, Then_begins, Then_listens}
+use Rattle.mesh_run.specs.Turns.Turns.{handed, ear_of, heard_at, AreHanded, DoesEvent, tick_of, Position, RunsTurns}
+use Rattle.mesh_run.specs.Turns.Turns.RunsTurns.{Stays, Then_begins, Then_listens}
 
 -- one step more
 steps_more : (old mid new : State) (events : List Event) (sent : List (List Frame)) (event : Event) (frames : List Frame) →
@@ -60,7 +60,7 @@ told_in f reports first more =
 
 -- an event more, where there is one
 through_more : (start mid new : State) (reports first more : List Report) (event : Option Event) → Through start reports mid →
-    Does mid event more new → flat_map heard_in first ≡ heard_of event → flat_map handed first ≡ [] →
+    DoesEvent mid event more new → flat_map heard_in first ≡ heard_of event → flat_map handed first ≡ [] →
     Through start (reports ++ (first ++ more)) new
 unfolding heard_of
 through_more start mid new reports first more None t does heard none = record {
@@ -97,7 +97,7 @@ ear_hears (Heard_fault i) now iface e = (refl, refl)
 ear_hears (Handed i bytes answer) now iface e = absurd cc
 
 goes_through : (end count : ℕ) (start : Position) (moments : List ℕ) (reports : List Report) (stop : Position) →
-    Goes end count start moments reports stop → Through start.state reports stop.state
+    RunsTurns end count start moments reports stop → Through start.state reports stop.state
 goes_through end count start moments reports stop Stays = record { events = []; sent = []; steps = No_events; heard = refl; are_handed = refl }
 goes_through end count start moments reports stop (Then_begins {moments = ms} {reports = rs} {more = more} {mid = mid} goes begins) =
     through_more start.state mid.state stop.state rs [] more (tick_of end stop.moment mid.state) (goes_through end count start ms rs mid goes)

@@ -5,7 +5,7 @@ use Rattle.std.proofs.lemmas.List.{append-nil, map-append}
 use Rattle.std.proofs.lemmas.List.Sums.{sum_by-append}
 use Rattle.mesh_atoms.specs.declared.settings.RouterSettings.{RouterSettings}
 use Rattle.mesh_io.specs.Airs.{Report}
-use Rattle.mesh_io.specs.Told.{Tells}
+use Rattle.mesh_io.specs.Told.{TellsMore}
 use Rattle.mesh_texts.specs.machine.declared.frame.Frame.{Frame}
 use Rattle.mesh_texts.specs.machine.Sendable.{IsSendable}
 use Rattle.mesh_run.specs.declared.turns.tally.Tally.{Tally}
@@ -13,12 +13,12 @@ use Rattle.mesh_run.specs.Turns.Turns.{handed, is_heard, is_sent, is_fault}
 use Rattle.mesh_run.specs.Turns.Parts.{Hands, counted}
 
 -- nothing was told
-pub tells_nothing : {A : Type 0} (a : Option (List A)) → Tells a a []
+pub tells_nothing : {A : Type 0} (a : Option (List A)) → TellsMore a a []
 tells_nothing None = tt
 tells_nothing (Some l) = sym (append-nil l)
 
 -- what was told, and then more
-pub tells_more : {A : Type 0} (a b c : Option (List A)) (x y : List A) → Tells a b x → Tells b c y → Tells a c (x ++ y)
+pub tells_more : {A : Type 0} (a b c : Option (List A)) (x y : List A) → TellsMore a b x → TellsMore b c y → TellsMore a c (x ++ y)
 tells_more a b None x y h k = tt
 tells_more a None (Some n) x y h k = absurd k
 tells_more None (Some m) (Some n) x y h k = absurd h

@@ -9,8 +9,8 @@ use Rattle.mesh_texts.specs.machine.Machine.{IsOpening}
 use Rattle.mesh_run.specs.declared.turns.tally.Ended.{Ended}
 use Rattle.mesh_run.specs.declared.turns.tally.Tally.{Tally}
 use Rattle.mesh_run.specs.Turns.Turns.{moment_of, greatest_of, is_heard, is_sent, is_fault, tally_of, ended_by, DoesTurns, StopsTurns}
-use Rattle.mesh_run.specs.Turns.Turns.Goes.{Stays}
-use Rattle.mesh_run.specs.Turns.Turns.IsLost.{Nothing}
+use Rattle.mesh_run.specs.Turns.Turns.RunsTurns.{Stays}
+use Rattle.mesh_run.specs.Turns.Turns.CameToNothing.{Nothing}
 use Rattle.mesh_run.specs.Turns.Parts.{Turning, Stopped, at, counted}
 use Rattle.mesh_run.proofs.TurnsLemmas.Tellings.{tells_nothing}
 

@@ -3,18 +3,18 @@ use Rattle.std.specs.Prelude.{◌≡◌, ℕ, ◌+◌, ◌≤◌, max, [], ◌�
 use Rattle.std.specs.List.{count_by}
 use Rattle.mesh_atoms.specs.declared.settings.Port.{Port}
 use Rattle.mesh_atoms.specs.State.{State}
-use Rattle.mesh_io.specs.Airs.{Report, Attaches, IsAttachCaused}
-use Rattle.mesh_io.specs.Told.{Tells}
+use Rattle.mesh_io.specs.Airs.{Report, AttachesInterface, IsAttachCaused}
+use Rattle.mesh_io.specs.Told.{TellsMore}
 use Rattle.mesh_io.specs.declared.airs.Attached.{Attached}
 use Rattle.mesh_texts.specs.machine.declared.frame.Frame.{Frame}
 use Rattle.mesh_texts.specs.machine.Machine.{Event}
 use Rattle.mesh_run.specs.declared.turns.tally.Tally.{Tally}
-use Rattle.mesh_run.specs.Turns.Turns.{ear_of, heard_at, AreHanded, Does, Position, Goes, IsLost, is_heard, is_sent, is_fault, greatest_of}
+use Rattle.mesh_run.specs.Turns.Turns.{ear_of, heard_at, AreHanded, DoesEvent, Position, RunsTurns, CameToNothing, is_heard, is_sent, is_fault, greatest_of}
 
 -- an attach of a port, with its cause
 pub record AttachesPort (before now : ℕ) (log log' : Option (List Report)) (faults faults' : ℕ) (port : Port) (answer : Attached) :
     Type 0 where
-  pub attaches : Attaches before now log log' port.local port.peers answer
+  pub attaches : AttachesInterface before now log log' port.local port.peers answer
   pub cause : IsAttachCaused faults faults' answer
 
 -- a router that can take an event at that moment, over an air with its interfaces
@@ -37,30 +37,30 @@ counted tally reports = record {
 -- these frames were handed over in order
 pub record Hands (frames : List Frame) (log log' : Option (List Report)) (tally tally' : Tally) : Type 0 where
   pub reports : List Report
-  pub tells : Tells log log' reports
+  pub tells : TellsMore log log' reports
   pub are_handed : AreHanded frames reports
   pub counts : tally' ≡ counted tally reports
 
 -- an event was done, where there is one, and its frames were handed over
 pub record Acts (old : State) (event : Option Event) (new : State) (log log' : Option (List Report)) (tally tally' : Tally) : Type 0 where
   pub reports : List Report
-  pub tells : Tells log log' reports
-  pub does : Does old event reports new
+  pub tells : TellsMore log log' reports
+  pub does : DoesEvent old event reports new
   pub counts : tally' ≡ counted tally reports
 
 -- an interface was heard at that moment, and what came of it
-pub record Hears (now iface : ℕ) (old new : State) (log log' : Option (List Report)) (tally tally' : Tally) : Type 0 where
+pub record HearsInterface (now iface : ℕ) (old new : State) (log log' : Option (List Report)) (tally tally' : Tally) : Type 0 where
   pub ear : Report
   pub reports : List Report
-  pub tells : Tells log log' (ear ∷ reports)
+  pub tells : TellsMore log log' (ear ∷ reports)
   pub heard : ear_of ear ≡ Some iface
-  pub does : Does old (heard_at now ear) reports new
+  pub does : DoesEvent old (heard_at now ear) reports new
   pub counts : tally' ≡ counted tally (ear ∷ reports)
 
 -- an interface was heard, and nothing came of it
 pub record HearsInVain (iface : ℕ) (log log' : Option (List Report)) : Type 0 where
   pub ear : Report
-  pub tells : Tells log log' (ear ∷ [])
+  pub tells : TellsMore log log' (ear ∷ [])
   pub heard : ear_of ear ≡ Some iface
 
 -- a position
@@ -71,8 +71,8 @@ at state moment next = record { state = state; moment = moment; next = next }
 pub record Going (end count : ℕ) (start stop : Position) (moments : List ℕ) (log log' : Option (List Report)) (tally tally' : Tally) :
     Type 0 where
   pub reports : List Report
-  pub tells : Tells log log' reports
-  pub goes : Goes end count start moments reports stop
+  pub tells : TellsMore log log' reports
+  pub goes : RunsTurns end count start moments reports stop
   pub counts : tally' ≡ counted tally reports
 
 -- from a position on by the first of these moments, where want of memory stopped it
@@ -80,18 +80,18 @@ pub record Broken (end count : ℕ) (start : Position) (moments : List ℕ) (log
   pub first_moments : List ℕ
   pub first_reports : List Report
   pub position : Position
-  pub goes : Goes end count start first_moments first_reports position
+  pub goes : RunsTurns end count start first_moments first_reports position
   pub lost_moments : List ℕ
   pub lost_reports : List Report
-  pub is_lost : IsLost count position lost_moments lost_reports
+  pub is_lost : CameToNothing count position lost_moments lost_reports
   pub moments_are : moments ≡ first_moments ++ lost_moments
-  pub tells : Tells log log' (first_reports ++ lost_reports)
+  pub tells : TellsMore log log' (first_reports ++ lost_reports)
 
 -- turns in order: their number, and the greatest moment told, before them and after
 pub record Turning (end count : ℕ) (start stop : Position) (turns before after : ℕ) (clock clock' : Option (List ℕ))
     (log log' : Option (List Report)) (tally tally' : Tally) : Type 0 where
   pub moments : List ℕ
-  pub clock_tells : Tells clock clock' moments
+  pub clock_tells : TellsMore clock clock' moments
   pub turns_are : turns ≡ length moments
   pub greatest_is : after ≡ max before (greatest_of moments)
   pub going : Going end count start stop moments log log' tally tally'
@@ -100,6 +100,6 @@ pub record Turning (end count : ℕ) (start stop : Position) (turns before after
 pub record Stopped (most end count : ℕ) (start : Position) (clock clock' : Option (List ℕ)) (log log' : Option (List Report)) :
     Type 0 where
   pub moments : List ℕ
-  pub clock_tells : Tells clock clock' moments
+  pub clock_tells : TellsMore clock clock' moments
   pub within : length moments ≤ most
   pub broken : Broken end count start moments log log'

@@ -7,7 +7,7 @@ use Rattle.mesh_atoms.specs.State.{State}
 use Rattle.mesh_io.specs.Airs.{Report}
 use Rattle.mesh_io.specs.Airs.Report.{Attached_to, Heard_frame, Heard_silence, Heard_fault, Handed}
 use Rattle.mesh_io.specs.declared.airs.Sent.TheVariants as sent
-use Rattle.mesh_io.specs.Told.{Tells}
+use Rattle.mesh_io.specs.Told.{TellsMore}
 use Rattle.mesh_texts.specs.machine.declared.frame.Frame.{Frame}
 use Rattle.mesh_texts.specs.machine.Machine.{Event, Hear, Tick, Step, IsOpening, due}
 use Rattle.mesh_run.specs.declared.turns.tally.Ended.{Ended}
@@ -50,9 +50,9 @@ AreHanded frames reports = map handed reports ≡ map (λ frame. frame ∷ []) f
 -- What a router does
 
 -- an event, where there is one, and then what it sends is handed over
-abbrev pub Does : State → Option Event → List Report → State → Type 0
-Does old None reports new = (reports ≡ []) × (new ≡ old)
-Does old (Some event) reports new = (frames : List Frame) × Step old event frames new × AreHanded frames reports
+abbrev pub DoesEvent : State → Option Event → List Report → State → Type 0
+DoesEvent old None reports new = (reports ≡ []) × (new ≡ old)
+DoesEvent old (Some event) reports new = (frames : List Frame) × Step old event frames new × AreHanded frames reports
 
 -- the moment of a turn: no earlier than that of the last one, and below 2 ^ 62
 abbrev pub moment_of : ℕ → ℕ → ℕ
@@ -73,36 +73,36 @@ pub record Position : Type 0 where
   pub next : ℕ
 
 -- a turn begins: the clock tells a moment, and the router ticks where it is due. The turn at the end hears nothing
-pub record Begins (end count : ℕ) (old : Position) (told : ℕ) (reports : List Report) (new : Position) : Type 0 where
+pub record BeginsTurn (end count : ℕ) (old : Position) (told : ℕ) (reports : List Report) (new : Position) : Type 0 where
   pub between : old.next ≡ count
   pub going : old.moment < end
   pub moment : new.moment ≡ moment_of old.moment told
-  pub does : Does old.state (tick_of end new.moment old.state) reports new.state
+  pub does : DoesEvent old.state (tick_of end new.moment old.state) reports new.state
   pub next : new.next ≡ (if nat_le end new.moment then count else 0)
 
 -- the next interface is heard once; a frame is an event of the router at the moment of the turn
 pub record Listens (count : ℕ) (old : Position) (ear : Report) (reports : List Report) (new : Position) : Type 0 where
   pub within : old.next < count
   pub heard : ear_of ear ≡ Some old.next
-  pub does : Does old.state (heard_at old.moment ear) reports new.state
+  pub does : DoesEvent old.state (heard_at old.moment ear) reports new.state
   pub moment : new.moment ≡ old.moment
   pub next : new.next ≡ old.next + 1
 
 -- from one position to another by these moments that the clock tells, and these reports of the air
-pub data Goes (end count : ℕ) (start : Position) : List ℕ → List Report → Position → Type 0 where
-  Stays : Goes end count start [] [] start
+pub data RunsTurns (end count : ℕ) (start : Position) : List ℕ → List Report → Position → Type 0 where
+  Stays : RunsTurns end count start [] [] start
   Then_begins : {moments : List ℕ} {reports more : List Report} {mid new : Position} {told : ℕ} →
-      Goes end count start moments reports mid → Begins end count mid told more new →
-      Goes end count start (moments ++ told ∷ []) (reports ++ more) new
+      RunsTurns end count start moments reports mid → BeginsTurn end count mid told more new →
+      RunsTurns end count start (moments ++ told ∷ []) (reports ++ more) new
   Then_listens : {moments : List ℕ} {reports more : List Report} {mid new : Position} {ear : Report} →
-      Goes end count start moments reports mid → Listens count mid ear more new →
-      Goes end count start moments (reports ++ ear ∷ more) new
+      RunsTurns end count start moments reports mid → Listens count mid ear more new →
+      RunsTurns end count start moments (reports ++ ear ∷ more) new
 
 -- the router of a setup goes from its opening state, at moment 0, to that position
 pub record GoesTo (setup : RunSetup) (moments : List ℕ) (reports : List Report) (position : Position) : Type 0 where
   pub opening : State
   pub is_opening : IsOpening setup.router opening
-  pub goes : Goes setup.end (length setup.ports) (record { state = opening; moment = 0; next = length setup.ports }) moments reports
+  pub goes : RunsTurns setup.end (length setup.ports) (record { state = opening; moment = 0; next = length setup.ports }) moments reports
       position
 
 -- whole turns of the router of a setup, one for each moment, after which it has that state. The last alone may be at the end
@@ -113,20 +113,20 @@ Turns setup moments reports now state =
 -- Where memory is wanting
 
 -- what was told last and came to nothing: nothing; or the moment of a turn; or what the next interface heard
-pub data IsLost (count : ℕ) (position : Position) : List ℕ → List Report → Type 0 where
-  Nothing : IsLost count position [] []
-  A_moment : (told : ℕ) → position.next ≡ count → IsLost count position (told ∷ []) []
-  An_ear : (ear : Report) → position.next < count → ear_of ear ≡ Some position.next → IsLost count position [] (ear ∷ [])
+pub data CameToNothing (count : ℕ) (position : Position) : List ℕ → List Report → Type 0 where
+  Nothing : CameToNothing count position [] []
+  A_moment : (told : ℕ) → position.next ≡ count → CameToNothing count position (told ∷ []) []
+  An_ear : (ear : Report) → position.next < count → ear_of ear ≡ Some position.next → CameToNothing count position [] (ear ∷ [])
 
 -- the router of a setup goes to some position by the first of these moments and reports; of them the last may be lost
-pub record StopsShort (setup : RunSetup) (moments : List ℕ) (reports : List Report) : Type 0 where
+pub record TurnsStopShort (setup : RunSetup) (moments : List ℕ) (reports : List Report) : Type 0 where
   pub first_moments : List ℕ
   pub first_reports : List Report
   pub position : Position
   pub goes : GoesTo setup first_moments first_reports position
   pub lost_moments : List ℕ
   pub lost_reports : List Report
-  pub is_lost : IsLost (length setup.ports) position lost_moments lost_reports
+  pub is_lost : CameToNothing (length setup.ports) position lost_moments lost_reports
   pub moments_are : moments ≡ first_moments ++ lost_moments
   pub reports_are : reports ≡ first_reports ++ lost_reports
 
@@ -182,8 +182,8 @@ pub record DoesTurns (setup : RunSetup) (state : State) (ended : Ended) (clock c
     (air air' : Option (List Report)) : Type 0 where
   pub moments : List ℕ
   pub reports : List Report
-  pub clock_tells : Tells clock clock' moments
-  pub air_tells : Tells air air' reports
+  pub clock_tells : TellsMore clock clock' moments
+  pub air_tells : TellsMore air air' reports
   pub turns : Turns setup moments reports (moment_of 0 ended.greatest) state
   pub ended_is : ended ≡ ended_by moments reports
 
@@ -191,7 +191,7 @@ pub record DoesTurns (setup : RunSetup) (state : State) (ended : Ended) (clock c
 pub record StopsTurns (setup : RunSetup) (most : ℕ) (clock clock' : Option (List ℕ)) (air air' : Option (List Report)) : Type 0 where
   pub moments : List ℕ
   pub reports : List Report
-  pub clock_tells : Tells clock clock' moments
-  pub air_tells : Tells air air' reports
+  pub clock_tells : TellsMore clock clock' moments
+  pub air_tells : TellsMore air air' reports
   pub within : length moments ≤ most
-  pub stops : StopsShort setup moments reports
+  pub stops : TurnsStopShort setup moments reports

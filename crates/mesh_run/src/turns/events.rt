@@ -1,6 +1,6 @@
 //! Events of a running router, with what it sends handed over.
 ghost use Rattle.std.specs.Prelude.{◌≡◌, ◌<◌, ◌≤◌, ◌^◌, [], Some, OnOk, OnErr};
-ghost use Rattle.mesh_io.specs.Told.{Tells};
+ghost use Rattle.mesh_io.specs.Told.{TellsMore};
 ghost use Rattle.mesh_texts.specs.machine.Machine.{Event};
 ghost use Rattle.mesh_run.specs.Turns.Parts.{IsReady, Acts};
 ghost use Rattle.mesh_run.specs.Turns.Turns.{tick_of};
@@ -24,7 +24,7 @@ fn tick<M: Machine, A: Air>(
     requires ready { IsReady (M.state router.old) (A.attached air.old) now }
     ensures acts { OnOk result (Acts (M.state router.old) (Some (Event.Tick now)) (M.state router.new)
         (A.reports air.old) (A.reports air.new) tally.old tally.new) }
-    ensures silent { OnErr result (Tells (A.reports air.old) (A.reports air.new) []) }
+    ensures silent { OnErr result (TellsMore (A.reports air.old) (A.reports air.new) []) }
     ensures ready { OnOk result (IsReady (M.state router.new) (A.attached air.new) now) }
     ensures attached { A.attached air.new ≡ A.attached air.old }
     ensures later { A.faults air.old ≤ A.faults air.new }
@@ -50,7 +50,7 @@ pub fn tick_due<M: Machine, A: Air>(
     requires ready { IsReady (M.state router.old) (A.attached air.old) now }
     ensures acts { OnOk result (Acts (M.state router.old) (tick_of end now (M.state router.old)) (M.state router.new)
         (A.reports air.old) (A.reports air.new) tally.old tally.new) }
-    ensures silent { OnErr result (Tells (A.reports air.old) (A.reports air.new) []) }
+    ensures silent { OnErr result (TellsMore (A.reports air.old) (A.reports air.new) []) }
     ensures ready { OnOk result (IsReady (M.state router.new) (A.attached air.new) now) }
     ensures attached { A.attached air.new ≡ A.attached air.old }
     ensures later { A.faults air.old ≤ A.faults air.new }
@@ -81,7 +81,7 @@ pub fn hear<M: Machine, A: Air>(
     ensures acts { OnOk result (Acts (M.state router.old)
         (Some (Event.Hear (record { now = now; iface = iface; sender = sender }) bytes.now)) (M.state router.new)
         (A.reports air.old) (A.reports air.new) tally.old tally.new) }
-    ensures silent { OnErr result (Tells (A.reports air.old) (A.reports air.new) []) }
+    ensures silent { OnErr result (TellsMore (A.reports air.old) (A.reports air.new) []) }
     ensures ready { OnOk result (IsReady (M.state router.new) (A.attached air.new) now) }
     ensures attached { A.attached air.new ≡ A.attached air.old }
     ensures later { A.faults air.old ≤ A.faults air.new }

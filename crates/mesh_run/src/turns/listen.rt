@@ -1,6 +1,6 @@
 //! What the interfaces of a running router hear.
 ghost use Rattle.std.specs.Prelude.{◌≡◌, ◌<◌, ◌≤◌, ◌+◌, ◌^◌, [], ℕ, length, OnOk, OnErr, IfOk};
-ghost use Rattle.mesh_run.specs.Turns.Parts.{IsReady, Hears, HearsInVain, Going, Broken, at};
+ghost use Rattle.mesh_run.specs.Turns.Parts.{IsReady, HearsInterface, HearsInVain, Going, Broken, at};
 
 use crate::turns::events::hear;
 use crate::turns::tally::Tally;
@@ -32,7 +32,7 @@ fn listen<M: Machine, A: Air>(
     requires iface { iface < A.attached air.old }
     requires longest { length buf.old ≡ 65507 }
     requires ready { IsReady (M.state router.old) (A.attached air.old) now }
-    ensures hears { OnOk result (Hears now iface (M.state router.old) (M.state router.new)
+    ensures hears { OnOk result (HearsInterface now iface (M.state router.old) (M.state router.new)
         (A.reports air.old) (A.reports air.new) tally.old tally.new) }
     ensures in_vain { OnErr result (HearsInVain iface (A.reports air.old) (A.reports air.new)) }
     ensures ready { OnOk result (IsReady (M.state router.new) (A.attached air.new) now) }

@@ -13,7 +13,7 @@ use std::alloc::{AllocError, Global};
 
 // Where turns stopped: how many there were, and the greatest moment told.
 #[derive(Drop)]
-struct Stop {
+struct StopPoint {
     turns: u32,
     greatest: u64,
 }
@@ -29,7 +29,7 @@ fn turn_on<M: Machine, A: Air, C: Clock>(
     air: &mut A,
     clock: &mut C,
     tally: &mut Tally,
-) -> Result<Stop, AllocError>
+) -> Result<StopPoint, AllocError>
     requires end { end < 2 ^ 62 }
     requires some { 0 < end }
     requires count { count ≡ A.attached air.old }
@@ -49,13 +49,13 @@ fn turn_on<M: Machine, A: Air, C: Clock>(
     for done in 0..most {
         greatest = turn(router, end, greatest, count, buf, out, air, clock, tally)?;
         if end <= greatest {
-            return Ok(Stop {
+            return Ok(StopPoint {
                 turns: done + 1,
                 greatest,
             });
         }
     }
-    Ok(Stop {
+    Ok(StopPoint {
         turns: most,
         greatest,
     })

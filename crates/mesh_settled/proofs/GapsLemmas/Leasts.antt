@@ -5,10 +5,10 @@ use Rattle.std.proofs.lemmas.Bool.{false≢true, ltb-true, lt-ltb, ltb-false, eq
 use Rattle.mesh_settled.specs.declared.gaps.found.Found.{Found}
 use Rattle.mesh_settled.specs.declared.gaps.found.Rank.{Rank}
 use Rattle.mesh_atoms.specs.declared.gap.GapKey.{GapKey}
-use Rattle.mesh_settled.specs.declared.gaps.compare.Values.{Values}
+use Rattle.mesh_settled.specs.declared.gaps.compare.HeldAndPresent.{HeldAndPresent}
 use Rattle.mesh_settled.specs.Gaps.Fields.{Field}
 use Rattle.mesh_settled.specs.Gaps.Gaps.{Look, IsHeldTuple, IsPresentTuple, AreSame, precedes, ranks_before, rank_of}
-use Rattle.mesh_settled.specs.Gaps.Found.{IsLeast, IsTest, lesser, found_at}
+use Rattle.mesh_settled.specs.Gaps.Found.{IsLeastGap, IsTest, lesser, found_at}
 
 -- The order
 
@@ -86,13 +86,13 @@ module _ (l : Look) (P Q : GapKey → Type 0) where
   abbrev Either : GapKey → Type 0
   Either key = P key ⊎ Q key
 
-  pub least_lesser : (f g : Option Found) → IsLeast l P f → IsLeast l Q g → IsLeast l Either (lesser f g)
+  pub least_lesser : (f g : Option Found) → IsLeastGap l P f → IsLeastGap l Q g → IsLeastGap l Either (lesser f g)
   least_lesser None None p q = λ key either. elim either [ inl at ↦ p key at | inr at ↦ q key at ]
   least_lesser None (Some g) p q = (inr q.0, q.1, λ key either first. elim either [ inl at ↦ p key at | inr at ↦ q.2 key at first ])
   least_lesser (Some f) None p q = (inl p.0, p.1, λ key either first. elim either [ inl at ↦ p.2 key at first | inr at ↦ q key at ])
   least_lesser (Some f) (Some g) p q = by_case (ranks_before (rank_of g.key) (rank_of f.key)) refl
     where
-      by_case : (b : Bool) → ranks_before (rank_of g.key) (rank_of f.key) ≡ b → IsLeast l Either (cond b (Some g) (Some f))
+      by_case : (b : Bool) → ranks_before (rank_of g.key) (rank_of f.key) ≡ b → IsLeastGap l Either (cond b (Some g) (Some f))
       by_case true is = (
         inr q.0,
         q.1,
@@ -111,12 +111,12 @@ module _ (l : Look) (P Q : GapKey → Type 0) where
       )
 
   -- the same for keys that are said in another way
-  pub least_as : ((key : GapKey) → P key → Q key) → ((key : GapKey) → Q key → P key) → (f : Option Found) → IsLeast l P f → IsLeast l Q f
+  pub least_as : ((key : GapKey) → P key → Q key) → ((key : GapKey) → Q key → P key) → (f : Option Found) → IsLeastGap l P f → IsLeastGap l Q f
   least_as there back None p = λ key at. p key (back key at)
   least_as there back (Some f) p = (there f.key p.0, p.1, λ key at first. p.2 key (back key at) first)
 
 -- One key
-pub least_one : (l : Look) (key : GapKey) (v : Option Values) → IsTest l key v → IsLeast l (λ k. k ≡ key) (found_at key v)
+pub least_one : (l : Look) (key : GapKey) (v : Option HeldAndPresent) → IsTest l key v → IsLeastGap l (λ k. k ≡ key) (found_at key v)
 least_one l key None test = λ k same. subst (AreSame l) (sym same) test
 least_one l key (Some v) test = (refl, test, λ k same first. absurd (before_self k (subst (λ (j : GapKey). ranks_before (rank_of k) (rank_of j) ≡ true) (sym same) first)))
   where
@@ -137,10 +137,10 @@ least_one l key (Some v) test = (refl, test, λ k same first. absurd (before_sel
 abbrev pub Below : (ℕ → GapKey → Type 0) → ℕ → GapKey → Type 0
 Below P n key = (m : ℕ) × (m < n) × P m key
 
-pub least_none : (l : Look) (P : ℕ → GapKey → Type 0) → IsLeast l (Below P 0) None
+pub least_none : (l : Look) (P : ℕ → GapKey → Type 0) → IsLeastGap l (Below P 0) None
 least_none l P = λ key w. absurd (omega (arith, w.1))
 
-pub least_step : (l : Look) (P : ℕ → GapKey → Type 0) (n : ℕ) (f g : Option Found) → IsLeast l (Below P n) f → IsLeast l (P n) g → IsLeast l (Below P (n + 1)) (lesser f g)
+pub least_step : (l : Look) (P : ℕ → GapKey → Type 0) (n : ℕ) (f g : Option Found) → IsLeastGap l (Below P n) f → IsLeastGap l (P n) g → IsLeastGap l (Below P (n + 1)) (lesser f g)
 least_step l P n f g p q =
     least_as l (λ key. Below P n key ⊎ P n key) (Below P (n + 1))
     (λ key w. elim w [ inl earlier ↦ (earlier.0, omega (arith, earlier.1), earlier.2) | inr here ↦ (n, omega arith, here) ])
@@ -148,15 +148,15 @@ least_step l P n f g p q =
     (lesser f g) (least_lesser l (Below P n) (P n) f g p q)
 
 -- the end of a loop
-pub least_end : (l : Look) (P : ℕ → GapKey → Type 0) (n m : ℕ) (f : Option Found) → m ≤ n → n ≤ m → IsLeast l (Below P n) f → IsLeast l (Below P m) f
-least_end l P n m f up down p = subst (λ (k : ℕ). IsLeast l (Below P k) f) (antisym n m up down) p
+pub least_end : (l : Look) (P : ℕ → GapKey → Type 0) (n m : ℕ) (f : Option Found) → m ≤ n → n ≤ m → IsLeastGap l (Below P n) f → IsLeastGap l (Below P m) f
+least_end l P n m f up down p = subst (λ (k : ℕ). IsLeastGap l (Below P k) f) (antisym n m up down) p
   where
     antisym : (n m : ℕ) → m ≤ n → n ≤ m → n ≡ m
     antisym n m up down = omega arith
 
 -- All keys of a kind, where those that are looked at have all that a side has
 pub least_all : (l : Look) (P Q : GapKey → Type 0) (f : Option Found) → ((key : GapKey) → P key → Q key) → ((key : GapKey) (fs : List Field) → Q key → IsHeldTuple l key fs → P key) →
-    ((key : GapKey) (gs : List Field) → Q key → IsPresentTuple l key gs → P key) → IsLeast l P f → IsLeast l Q f
+    ((key : GapKey) (gs : List Field) → Q key → IsPresentTuple l key gs → P key) → IsLeastGap l P f → IsLeastGap l Q f
 least_all l P Q None in_kind held given p = λ key q. record { held = λ fs h. (p key (held key fs q h)).held fs h; present = λ gs w. (p key (given key gs q w)).present gs w }
 least_all l P Q (Some f) in_kind held given p = (
   in_kind f.key p.0,

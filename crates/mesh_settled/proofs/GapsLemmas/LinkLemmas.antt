@@ -23,18 +23,18 @@ use Rattle.mesh_atoms.specs.State.{State, is_symmetric, state_of, HasAddressOn}
 use Rattle.mesh_atoms.proofs.Lookups.{looks_up_links, tests_symmetric}
 use Rattle.mesh_paths.proofs.Scenarios.{sound_scenario}
 use Rattle.mesh_settled.specs.declared.gaps.compare.Difference.{Difference}
-use Rattle.mesh_settled.specs.declared.gaps.compare.Values.{Values}
+use Rattle.mesh_settled.specs.declared.gaps.compare.HeldAndPresent.{HeldAndPresent}
 use Rattle.mesh_settled.specs.declared.gaps.found.Found.{Found}
 use Rattle.mesh_atoms.specs.declared.gap.GapKey.{GapKey}
 use Rattle.mesh_atoms.specs.declared.gap.GapKey.TheVariants.{Link as Of_link}
 use Rattle.mesh_settled.specs.declared.gaps.joints.Joint.{Joint}
 use Rattle.mesh_settled.specs.declared.gaps.links.GivenLink.{GivenLink}
 use Rattle.mesh_settled.specs.Gaps.Fields.{Field, AllSame, link_fields, known_cost}
-use Rattle.mesh_settled.specs.Gaps.Found.{IsSide, IsTest, IsTestFrom, IsLeast, compared, found_at, lesser}
+use Rattle.mesh_settled.specs.Gaps.Found.{IsSide, IsTest, IsTestFrom, IsLeastGap, compared, found_at, lesser}
 use Rattle.mesh_settled.specs.Gaps.Gaps.{Look, look, IsHeldTuple, IsPresentTuple, IsHeldLink, IsPresentLink}
 use Rattle.mesh_settled.specs.Gaps.Joints.{IsJointWith, IsLeastOf}
 use Rattle.mesh_settled.specs.Gaps.Network.{IsNetwork}
-use Rattle.mesh_settled.specs.Gaps.Links.{symmetric_fields, held_fields, given_fields, given_link, IsGivenBy, IsHeldAt, IsHeld, IsGivenAt, IsGiven, IsLinkKey}
+use Rattle.mesh_settled.specs.Gaps.Links.{symmetric_fields, held_fields, given_fields, given_link, IsGivenBy, IsHeldAt, IsLinkHeld, IsGivenAt, IsGiven, IsLinkKey}
 use Rattle.mesh_settled.proofs.GapsLemmas.JointLemmas.{same_state, no_state}
 use Rattle.mesh_settled.proofs.GapsLemmas.Leasts.{least_as, least_one, least_all, least_lesser}
 use Rattle.mesh_settled.proofs.GapsLemmas.Sides.{all_self, tested}
@@ -175,8 +175,8 @@ given_is p q i now joint addrs own there here selector there_is here_is on mine 
       selector = (λ e. let w = selects.0 e in (w.0, (h w.0).0 w.1, w.2), λ w. selects.1 (w.0, (h w.0).1 w.1, w.2));
     }
 
-pub held_key : (l : Look) (p : State) (i place : ℕ) (key : LinkKey) (e : Link × ℕ) (v : Option Values) (f : Option Found) → slice_get (base_of p.bases.neighbourhood.links i) place ≡ Some (key, e) →
-    f ≡ found_at (Of_link i key) v → IsTest l (Of_link i key) v → IsLeast l (IsHeldAt p i place) f
+pub held_key : (l : Look) (p : State) (i place : ℕ) (key : LinkKey) (e : Link × ℕ) (v : Option HeldAndPresent) (f : Option Found) → slice_get (base_of p.bases.neighbourhood.links i) place ≡ Some (key, e) →
+    f ≡ found_at (Of_link i key) v → IsTest l (Of_link i key) v → IsLeastGap l (IsHeldAt p i place) f
 held_key l p i place key e v f at is test =
     rw is (least_as l (λ k. k ≡ Of_link i key) (IsHeldAt p i place) (λ k same. (key, e, at, same))
     (λ k w. w.3 ∙ ap (λ (x : LinkKey × (Link × ℕ)). Of_link i x.0) (same_some w.2 at)) (found_at (Of_link i key) v) (least_one l (Of_link i key) v test))
@@ -199,8 +199,8 @@ one_end states y j a b v w =
 abbrev pub key_to : ℕ → Addr4 → GapKey
 key_to i a = Of_link i (record { addr = a })
 
-pub given_key : (l : Look) (states : List State) (x : ℕ) (pair : Pair) (a : Addr4) (v : Option Values) (f : Option Found) → pair.from ≡ x → IsLeastOf states pair.to pair.to_iface a →
-    f ≡ found_at (key_to pair.from_iface a) v → IsTest l (key_to pair.from_iface a) v → IsLeast l (IsGivenAt states x pair) f
+pub given_key : (l : Look) (states : List State) (x : ℕ) (pair : Pair) (a : Addr4) (v : Option HeldAndPresent) (f : Option Found) → pair.from ≡ x → IsLeastOf states pair.to pair.to_iface a →
+    f ≡ found_at (key_to pair.from_iface a) v → IsTest l (key_to pair.from_iface a) v → IsLeastGap l (IsGivenAt states x pair) f
 given_key l states x pair a v f from least is test =
     rw is (least_as l (λ k. k ≡ key_to pair.from_iface a) (IsGivenAt states x pair) (λ k same. (from, a, least, same))
     (λ k w. w.3 ∙ ap (λ (b : Addr4). key_to pair.from_iface b) (one_end states pair.to pair.to_iface w.1 a w.2 least)) (found_at (key_to pair.from_iface a) v)
@@ -211,7 +211,7 @@ abbrev pub IsGivenByPlace : List State → ℕ → List Pair → ℕ → GapKey 
 IsGivenByPlace states x pairs place k = (pair : Pair) × (slice_get pairs place ≡ Some pair) × IsGivenAt states x pair k
 
 pub given_place : (l : Look) (states : List State) (x : ℕ) (pairs : List Pair) (place : ℕ) (pair : Pair) (f : Option Found) → slice_get pairs place ≡ Some pair →
-    IsLeast l (IsGivenAt states x pair) f → IsLeast l (IsGivenByPlace states x pairs place) f
+    IsLeastGap l (IsGivenAt states x pair) f → IsLeastGap l (IsGivenByPlace states x pairs place) f
 given_place l states x pairs place pair f at least =
     least_as l (IsGivenAt states x pair) (IsGivenByPlace states x pairs place) (λ k w. (pair, at, w)) (λ k w. subst (λ (p : Pair). IsGivenAt states x p k) (same_some w.1 at) w.2) f least
 
@@ -223,7 +223,7 @@ module _ (s : Scenario) (graph : RadioGraph) (states : List State) (now x : ℕ)
 
   -- the keys that are looked at
   abbrev IsTried : GapKey → Type 0
-  IsTried k = IsHeld p k ⊎ IsGiven states x graph.pairs k
+  IsTried k = IsLinkHeld p k ⊎ IsGiven states x graph.pairs k
 
   in_kind : (k : GapKey) → IsTried k → IsLinkKey k
   in_kind k w = elim w [ inl h ↦ (h.0, h.2.2.0, h.2.2.3) | inr g ↦ (g.2.0.from_iface, record { addr = g.2.2.1 }, g.2.2.3) ]
@@ -245,6 +245,6 @@ module _ (s : Scenario) (graph : RadioGraph) (states : List State) (now x : ℕ)
       let w = place_in graph.pairs pair ((net.graph.pairs pair).1 (g.4, g.7)) in
       inr (w.0, w.1, (pair, w.2, (refl, key.addr, (g.2, g.6, g.8.keyed), same)))
 
-  pub all_links : (f g : Option Found) → IsLeast seen (IsHeld p) f → IsLeast seen (IsGiven states x graph.pairs) g → IsLeast seen IsLinkKey (lesser f g)
+  pub all_links : (f g : Option Found) → IsLeastGap seen (IsLinkHeld p) f → IsLeastGap seen (IsGiven states x graph.pairs) g → IsLeastGap seen IsLinkKey (lesser f g)
   all_links f g held given =
-      least_all seen IsTried IsLinkKey (lesser f g) in_kind held_tried given_tried (least_lesser seen (IsHeld p) (IsGiven states x graph.pairs) f g held given)
+      least_all seen IsTried IsLinkKey (lesser f g) in_kind held_tried given_tried (least_lesser seen (IsLinkHeld p) (IsGiven states x graph.pairs) f g held given)

@@ -10,7 +10,7 @@ use Rattle.mesh_atoms.specs.declared.settings.Scenario.{Scenario}
 use Rattle.mesh_atoms.specs.Codes.Codes.{metric_value}
 use Rattle.mesh_atoms.specs.Words.{IsValue}
 use Rattle.mesh_atoms.specs.Radio.{Joins, IsMetric, IsRadioGraph}
-use Rattle.mesh_settled.specs.Gaps.Metrics.{less, cheaper, IsLeading, IsCheapest}
+use Rattle.mesh_settled.specs.Gaps.Metrics.{less, cheaper, IsLeading, IsLeastMetricOf}
 use Rattle.mesh_atoms.proofs.Lists.{contains_at, place_of as place_in}
 use Rattle.mesh_atoms.proofs.Options.{same_some}
 
@@ -24,21 +24,21 @@ module _ (pairs : List Pair) (y z n : ℕ) (e : Pair) (at : slice_get pairs n �
     | inr other ↦ inl (w.0, omega (arith, w.1), w.2, w.3, w.4)
   ]
 
-  passed : (best : Option Metric) → ((e.from ≡ y) → (e.to ≡ z) → ⊥) → IsCheapest pairs y z n best → IsCheapest pairs y z (n + 1) best
+  passed : (best : Option Metric) → ((e.from ≡ y) → (e.to ≡ z) → ⊥) → IsLeastMetricOf pairs y z n best → IsLeastMetricOf pairs y z (n + 1) best
   passed None none p = λ f w. elim (leads_less f w) [ inl h ↦ p f h | inr same ↦ none (ap (λ (g : Pair). g.from) same ∙ w.3) (ap (λ (g : Pair). g.to) same ∙ w.4) ]
   passed (Some m) none p = (
     (p.0.0, leads_more p.0.0 p.0.1, p.0.2),
     λ f w. elim (leads_less f w) [ inl h ↦ p.1 f h | inr same ↦ absurd (none (ap (λ (g : Pair). g.from) same ∙ w.3) (ap (λ (g : Pair). g.to) same ∙ w.4)) ],
   )
 
-  taken : (best : Option Metric) → e.from ≡ y → e.to ≡ z → IsCheapest pairs y z n best → IsCheapest pairs y z (n + 1) (less best e.metric)
+  taken : (best : Option Metric) → e.from ≡ y → e.to ≡ z → IsLeastMetricOf pairs y z n best → IsLeastMetricOf pairs y z (n + 1) (less best e.metric)
   taken None from to p = (
     (e, (n, omega arith, at, from, to), refl),
     λ f w. elim (leads_less f w) [ inl h ↦ absurd (p f h) | inr same ↦ subst (λ (g : Pair). metric_value e.metric ≤ metric_value g.metric) same (omega arith) ],
   )
   taken (Some m) from to p = by_case (nat_lt (metric_value e.metric) (metric_value m)) refl
     where
-      by_case : (b : Bool) → nat_lt (metric_value e.metric) (metric_value m) ≡ b → IsCheapest pairs y z (n + 1) (cond b (Some e.metric) (Some m))
+      by_case : (b : Bool) → nat_lt (metric_value e.metric) (metric_value m) ≡ b → IsLeastMetricOf pairs y z (n + 1) (cond b (Some e.metric) (Some m))
       by_case true is = (
         (e, (n, omega arith, at, from, to), refl),
         λ f w. elim (leads_less f w) [
@@ -54,31 +54,31 @@ module _ (pairs : List Pair) (y z n : ℕ) (e : Pair) (at : slice_get pairs n �
         ],
       )
 
-  pub one_pair : (best : Option Metric) → IsCheapest pairs y z n best → IsCheapest pairs y z (n + 1) (cheaper best y z e)
+  pub one_pair : (best : Option Metric) → IsLeastMetricOf pairs y z n best → IsLeastMetricOf pairs y z (n + 1) (cheaper best y z e)
   one_pair best p = by_case (nat_eq e.from y) (nat_eq e.to z) refl refl
     where
-      by_case : (a b : Bool) → nat_eq e.from y ≡ a → nat_eq e.to z ≡ b → IsCheapest pairs y z (n + 1) (cond (a && b) (less best e.metric) best)
+      by_case : (a b : Bool) → nat_eq e.from y ≡ a → nat_eq e.to z ≡ b → IsLeastMetricOf pairs y z (n + 1) (cond (a && b) (less best e.metric) best)
       by_case false b is is' = passed best (λ from to. false≢true (sym is ∙ eq-eqb e.from y from)) p
       by_case true false is is' = passed best (λ from to. false≢true (sym is' ∙ eq-eqb e.to z to)) p
       by_case true true is is' = taken best (eqb-true e.from y is) (eqb-true e.to z is') p
 
-pub no_pair : (pairs : List Pair) (y z : ℕ) → IsCheapest pairs y z 0 None
+pub no_pair : (pairs : List Pair) (y z : ℕ) → IsLeastMetricOf pairs y z 0 None
 no_pair pairs y z = λ e w. omega (arith, w.1)
 
-pub all_pairs : (pairs : List Pair) (y z n : ℕ) (best : Option Metric) → length pairs ≤ n → n ≤ length pairs → IsCheapest pairs y z n best → IsCheapest pairs y z (length pairs) best
-all_pairs pairs y z n best up down p = subst (λ (k : ℕ). IsCheapest pairs y z k best) (antisym n (length pairs) up down) p
+pub all_pairs : (pairs : List Pair) (y z n : ℕ) (best : Option Metric) → length pairs ≤ n → n ≤ length pairs → IsLeastMetricOf pairs y z n best → IsLeastMetricOf pairs y z (length pairs) best
+all_pairs pairs y z n best up down p = subst (λ (k : ℕ). IsLeastMetricOf pairs y z k best) (antisym n (length pairs) up down) p
   where
     antisym : (n m : ℕ) → m ≤ n → n ≤ m → n ≡ m
     antisym n m up down = omega arith
 
 -- there is a least metric, or no pair leads there
-cheapest_of : (pairs : List Pair) (y z n : ℕ) → n ≤ length pairs → (o : Option Metric) × IsCheapest pairs y z n o
+cheapest_of : (pairs : List Pair) (y z n : ℕ) → n ≤ length pairs → (o : Option Metric) × IsLeastMetricOf pairs y z n o
 cheapest_of pairs y z zero few = (None, no_pair pairs y z)
 cheapest_of pairs y z (suc n) few =
     let (o, least) = cheapest_of pairs y z n (omega arith) in
     let next : n + 1 ≡ suc n = omega arith in
     elim ((slice_get_cases pairs n).1) [
-      | inl there ↦ let p = cheaper o y z there.0 in (p, subst (λ (k : ℕ). IsCheapest pairs y z k p) next (one_pair pairs y z n there.0 there.2 o least))
+      | inl there ↦ let p = cheaper o y z there.0 in (p, subst (λ (k : ℕ). IsLeastMetricOf pairs y z k p) next (one_pair pairs y z n there.0 there.2 o least))
       | inr past ↦ let end = past.0 in absurd (omega (arith, few, end))
     ]
 
@@ -89,7 +89,7 @@ module _ (s : Scenario) (g : RadioGraph) (is : IsRadioGraph s g) (y z : ℕ) whe
       let w = place_in g.pairs pair ((is.pairs pair).1 (back, joins)) in
       (pair, (w.0, w.1, w.2, refl, refl), refl)
 
-  pub metric_is : (o : Option Metric) → IsCheapest g.pairs y z (length g.pairs) o → IsValue (IsMetric s y z) o
+  pub metric_is : (o : Option Metric) → IsLeastMetricOf g.pairs y z (length g.pairs) o → IsValue (IsMetric s y z) o
   metric_is None none = λ m h. let (i, j, back, joins) = h.some in let w = of_joins i j m back joins in none w.0 w.1
   metric_is (Some m) some =
       let e = some.0.0 in
@@ -103,6 +103,6 @@ module _ (s : Scenario) (g : RadioGraph) (is : IsRadioGraph s g) (y z : ℕ) whe
   pub has_metric : (i j : ℕ) (there back : Metric) → Joins s y i z j there back → (m : Metric) × IsMetric s y z m
   has_metric i j there back joins = let c = cheapest_of g.pairs y z (length g.pairs) (omega arith) in by_case c.0 c.1
     where
-      by_case : (o : Option Metric) → IsCheapest g.pairs y z (length g.pairs) o → (m : Metric) × IsMetric s y z m
+      by_case : (o : Option Metric) → IsLeastMetricOf g.pairs y z (length g.pairs) o → (m : Metric) × IsMetric s y z m
       by_case None none = let w = of_joins i j there back joins in absurd (none w.0 w.1)
       by_case (Some m) some = (m, metric_is (Some m) some)

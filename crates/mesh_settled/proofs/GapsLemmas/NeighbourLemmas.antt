@@ -24,12 +24,12 @@ use Rattle.mesh_atoms.specs.declared.gap.GapKey.{GapKey}
 use Rattle.mesh_atoms.specs.declared.gap.GapKey.TheVariants.{Neighbour as Of_neighbour}
 use Rattle.mesh_settled.specs.declared.gaps.neighbours.GivenNeighbour.{GivenNeighbour}
 use Rattle.mesh_settled.specs.Gaps.Fields.{Field, AllSame, neighbour_fields}
-use Rattle.mesh_settled.specs.Gaps.Found.{IsSide, IsTest, IsTestFrom, IsLeast, IsLeastMissing, compared, lesser, least_of}
+use Rattle.mesh_settled.specs.Gaps.Found.{IsSide, IsTest, IsTestFrom, IsLeastGap, IsLeastMissing, compared, lesser, least_of}
 use Rattle.mesh_settled.specs.Gaps.Gaps.{Look, look, IsHeldTuple, IsPresentTuple, IsHeldNeighbour, IsPresentNeighbour}
 use Rattle.mesh_settled.specs.Gaps.Joints.{all_addresses}
 use Rattle.mesh_settled.specs.Gaps.Network.{IsNetwork}
 use Rattle.mesh_settled.specs.Gaps.Metrics.{less}
-use Rattle.mesh_settled.specs.Gaps.Neighbours.{held_fields, symmetric_fields, given_tuple, given_fields, IsNear, IsGivenNear, IsGivenAt, IsHeldAt, IsHeld, IsOriginatorOf, IsOriginatorBelow, IsNeighbourKey}
+use Rattle.mesh_settled.specs.Gaps.Neighbours.{held_fields, symmetric_fields, given_tuple, given_fields, IsNear, IsGivenNear, IsGivenAt, IsHeldAt, IsNeighbourHeld, IsOriginatorOf, IsOriginatorBelow, IsNeighbourKey}
 use Rattle.mesh_settled.proofs.GapsLemmas.GapLaw.{all_are, neighbours_alike}
 use Rattle.mesh_settled.proofs.GapsLemmas.JointLemmas.{same_state}
 use Rattle.mesh_settled.proofs.GapsLemmas.Leasts.{least_as, least_all, least_lesser}
@@ -220,13 +220,13 @@ neighbour_tested l o held given d h g h_is g_is held_is given_is test =
 
 -- The keys that are looked at
 
-pub key_place : (l : Look) (p : State) (place : ℕ) (o : Addr4) (e : Neighbour × ℕ) (f : Option Found) → slice_get p.bases.neighbourhood.neighbours place ≡ Some (o, e) → IsLeast l (λ k. k ≡ Of_neighbour o) f →
-    IsLeast l (IsHeldAt p place) f
+pub key_place : (l : Look) (p : State) (place : ℕ) (o : Addr4) (e : Neighbour × ℕ) (f : Option Found) → slice_get p.bases.neighbourhood.neighbours place ≡ Some (o, e) → IsLeastGap l (λ k. k ≡ Of_neighbour o) f →
+    IsLeastGap l (IsHeldAt p place) f
 key_place l p place o e f at least =
     least_as l (λ k. k ≡ Of_neighbour o) (IsHeldAt p place) (λ k same. (o, e, at, same)) (λ k w. w.3 ∙ ap (λ (x : Addr4 × (Neighbour × ℕ)). Of_neighbour x.0) (same_some w.2 at)) f least
 
 module _ (l : Look) (states : List State) (y : ℕ) (q : State) (at : At states y q) (settings : RouterSettings) (same : settings ≡ q.settings) where
-  pub key_of : (o : Addr4) → IsOriginator settings o → (f : Option Found) → IsLeast l (λ k. k ≡ Of_neighbour o) f → IsLeast l (IsOriginatorOf states y) f
+  pub key_of : (o : Addr4) → IsOriginator settings o → (f : Option Found) → IsLeastGap l (λ k. k ≡ Of_neighbour o) f → IsLeastGap l (IsOriginatorOf states y) f
   key_of o origin f least =
       let mine : IsOriginator q.settings o = subst (λ (r : RouterSettings). IsOriginator r o) same origin in
       least_as l (λ k. k ≡ Of_neighbour o) (IsOriginatorOf states y) (λ k is. (q, at, o, mine, is))
@@ -240,7 +240,7 @@ module _ {A : Type 0} (f : A → State) (routers : List A) (s : Scenario) (now x
   IsGiven = IsOriginatorBelow (map f routers) (length routers)
 
   abbrev IsTried : GapKey → Type 0
-  IsTried k = IsHeld p k ⊎ IsGiven k
+  IsTried k = IsNeighbourHeld p k ⊎ IsGiven k
 
   held_tried : (k : GapKey) (fs : List Field) → IsNeighbourKey k → IsHeldTuple seen k fs → IsTried k
   held_tried k fs (o, same) holds =
@@ -253,7 +253,7 @@ module _ {A : Type 0} (f : A → State) (routers : List A) (s : Scenario) (now x
       let g : IsPresentNeighbour seen o gs = subst (λ (j : GapKey). IsPresentTuple seen j gs) same gives in
       inr (g.0, within f routers g.0 g.1 g.5, (g.1, g.5, o, g.8.originator_is, same))
 
-  pub all_neighbours : (a b : Option Found) → IsLeast seen (IsHeld p) a → IsLeast seen IsGiven b → IsLeast seen IsNeighbourKey (lesser a b)
+  pub all_neighbours : (a b : Option Found) → IsLeastGap seen (IsNeighbourHeld p) a → IsLeastGap seen IsGiven b → IsLeastGap seen IsNeighbourKey (lesser a b)
   all_neighbours a b held given =
       least_all seen IsTried IsNeighbourKey (lesser a b) (λ k w. elim w [ inl h ↦ (h.2.0, h.2.3) | inr g ↦ (g.2.2, g.2.4) ]) held_tried given_tried
-      (least_lesser seen (IsHeld p) IsGiven a b held given)
+      (least_lesser seen (IsNeighbourHeld p) IsGiven a b held given)

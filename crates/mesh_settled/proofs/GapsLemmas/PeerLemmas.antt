@@ -16,17 +16,17 @@ use Rattle.mesh_atoms.specs.Words.{IsValue}
 use Rattle.mesh_paths.proofs.Scenarios.{sound_scenario}
 use Rattle.mesh_paths.proofs.SettledNeighbours.{originator_address}
 use Rattle.mesh_settled.specs.Gaps.Network.{IsNetwork}
-use Rattle.mesh_settled.specs.Gaps.Peers.{IsSender, IsStrayAt}
+use Rattle.mesh_settled.specs.Gaps.Peers.{IsPeerOriginator, IsStrayAt}
 use Rattle.mesh_settled.proofs.GapsLemmas.JointLemmas.{same_state, denied}
 use Rattle.mesh_atoms.proofs.Values.{same_addr as addr_is}
 use Rattle.mesh_atoms.proofs.Options.{same_some}
 
 module _ (s : Scenario) (graph : RadioGraph) (states : List State) (now x : ℕ) (net : IsNetwork s graph states now) where
-  pub not_sender : (from : Addr4) (w : ℕ) (b : Bool) → IsTrue b ↔ ((w ≢ x) × Joined s x w) → b ≡ false → IsTrue false ↔ IsSender s states x from w
+  pub not_sender : (from : Addr4) (w : ℕ) (b : Bool) → IsTrue b ↔ ((w ≢ x) × Joined s x w) → b ≡ false → IsTrue false ↔ IsPeerOriginator s states x from w
   not_sender from w b test no_join = (λ e. absurd (false≢true e), λ h. let p = h.1 in absurd (false≢true (sym no_join ∙ test.1 (p.other, p.joined))))
 
   pub is_sender : (from own : Addr4) (w : ℕ) (b : Bool) (q : State) → IsTrue b ↔ ((w ≢ x) × Joined s x w) → b ≡ true → At states w q → (settings : RouterSettings) → settings ≡ q.settings → IsOriginator settings own →
-      IsTrue (nat_eq own.0 from.0) ↔ IsSender s states x from w
+      IsTrue (nat_eq own.0 from.0) ↔ IsPeerOriginator s states x from w
   is_sender from own w b q test joins at settings same origin =
       let mine : IsOriginator q.settings own = subst (λ (r : RouterSettings). IsOriginator r own) same origin in
       let j = test.0 joins in (
@@ -59,7 +59,7 @@ module _ {A : Type 0} (f : A → State) (routers : List A) where
   pub within : (w : ℕ) (q : State) → At (map f routers) w q → w < length routers
   within w q at = let less = slice_get_within (map f routers) w q at.is in let same = length-map routers f in omega (arith, less, same)
 
-  pub past_sender : (s : Scenario) (x : ℕ) (from : Addr4) (n : ℕ) → length routers ≤ n → ((k : ℕ) → k < n → IsSender s (map f routers) x from k → ⊥) → (w : ℕ) → IsSender s (map f routers) x from w → ⊥
+  pub past_sender : (s : Scenario) (x : ℕ) (from : Addr4) (n : ℕ) → length routers ≤ n → ((k : ℕ) → k < n → IsPeerOriginator s (map f routers) x from k → ⊥) → (w : ℕ) → IsPeerOriginator s (map f routers) x from w → ⊥
   past_sender s x from n end before w h = let less = within w h.0 h.1.at in before w (omega (arith, less)) h
 
   pub no_stray : (s : Scenario) (graph : RadioGraph) (now : ℕ) → IsNetwork s graph (map f routers) now → (x : ℕ) (a : Addr4) (n : ℕ) → length routers ≤ n → ((k : ℕ) → k < n → IsStrayAt s x a k → ⊥) → IsTrue false ↔ IsStray s x a
@@ -75,7 +75,7 @@ pub some_stray : (s : Scenario) (x : ℕ) (a : Addr4) (v : ℕ) → IsStrayAt s 
 some_stray s x a v h = (λ _. (v, h.0, h.1, h.2), λ _. refl)
 
 -- a sender's originator is no stray router's address
-pub sender_is_near : (s : Scenario) (graph : RadioGraph) (states : List State) (now x : ℕ) → IsNetwork s graph states now → (a : Addr4) (w : ℕ) → IsSender s states x a w → IsStray s x a → ⊥
+pub sender_is_near : (s : Scenario) (graph : RadioGraph) (states : List State) (now x : ℕ) → IsNetwork s graph states now → (a : Addr4) (w : ℕ) → IsPeerOriginator s states x a w → IsStray s x a → ⊥
 sender_is_near s graph states now x net a w sender stray =
     let q = sender.0 in
     let theirs = originator_address q.settings a sender.2 in
@@ -84,7 +84,7 @@ sender_is_near s graph states now x net a w sender stray =
     stray.2 (subst (Joined s x) ends.0 sender.1.joined)
 
 -- the originator of a sender is not stray
-pub sender_known : (s : Scenario) (graph : RadioGraph) (states : List State) (now x : ℕ) → IsNetwork s graph states now → (a : Addr4) (o : Option ℕ) (b : Bool) → is_some o ≡ not b → b ≡ false → IsValue (IsSender s states x a) o → IsTrue b ↔ IsStray s x a
+pub sender_known : (s : Scenario) (graph : RadioGraph) (states : List State) (now x : ℕ) → IsNetwork s graph states now → (a : Addr4) (o : Option ℕ) (b : Bool) → is_some o ≡ not b → b ≡ false → IsValue (IsPeerOriginator s states x a) o → IsTrue b ↔ IsStray s x a
 sender_known s graph states now x net a None b test denies value = absurd (false≢true (test ∙ ap not denies))
 sender_known s graph states now x net a (Some w) b test denies value =
     (λ e. absurd (false≢true (sym denies ∙ e)), λ stray. absurd (sender_is_near s graph states now x net a w value stray))

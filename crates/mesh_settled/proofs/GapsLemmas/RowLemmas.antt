@@ -16,8 +16,8 @@ use Rattle.mesh_atoms.specs.Sound.{Sound}
 use Rattle.mesh_atoms.specs.State.{State, IsOriginator, neighbour_at}
 use Rattle.mesh_atoms.proofs.Lookups.{looks_up_neighbours, same_net}
 use Rattle.mesh_settled.specs.declared.gaps.topics.Claim.{Claim}
-use Rattle.mesh_settled.specs.declared.gaps.topics.Topic.{Topic}
-use Rattle.mesh_settled.specs.declared.gaps.topics.Topic.TheVariants.{Routers, Addresses, Networks}
+use Rattle.mesh_settled.specs.declared.gaps.topics.TopologyKind.{TopologyKind}
+use Rattle.mesh_settled.specs.declared.gaps.topics.TopologyKind.TheVariants.{Routers, Addresses, Networks}
 use Rattle.mesh_settled.specs.Gaps.Joints.{IsOfSome}
 use Rattle.mesh_settled.specs.Gaps.Peers.{IsValueOf}
 use Rattle.mesh_settled.specs.Gaps.Topics.{dest_of, is_row_of, claim_by, claim_if, key_at, IsClaimBy}
@@ -39,12 +39,12 @@ fits_flag : (b : Bool) (net : NetAddr) → b ≡ true → (b && net_eq net net) 
 fits_flag true net e = net_self net
 fits_flag false net e = e
 
-pub dest_is : (topic : Topic) (net : NetAddr) (row : TcRow) → is_row_of topic net row ≡ true → row.dest ≡ dest_of topic net
+pub dest_is : (topic : TopologyKind) (net : NetAddr) (row : TcRow) → is_row_of topic net row ≡ true → row.dest ≡ dest_of topic net
 dest_is Routers net row e = same_net row.dest (host net.addr) (both row.origin _ e).1
 dest_is Addresses net row e = same_net row.dest (host net.addr) (both row.routable _ e).1
 dest_is Networks net row e = same_net row.dest net (both (not row.routable) _ e).1
 
-pub same_key : (topic : Topic) (from : Addr4) (net dest : NetAddr) → dest ≡ dest_of topic net → key_at topic from net ≡ key_at topic from dest
+pub same_key : (topic : TopologyKind) (from : Addr4) (net dest : NetAddr) → dest ≡ dest_of topic net → key_at topic from net ≡ key_at topic from dest
 same_key Routers from net dest e = ap (λ (n : NetAddr). key_at Routers from n) (sym e)
 same_key Addresses from net dest e = ap (λ (n : NetAddr). key_at Addresses from n) (sym e)
 same_key Networks from net dest e = ap (λ (n : NetAddr). key_at Networks from n) (sym e)
@@ -129,7 +129,7 @@ module _ (q : State) (sound : Sound q) where
       by_found (Some e) is = by_all e is e.0.symmetric e.0.selector e.0.metric_out refl refl refl
 
   module _ (from : Addr4) (origin : IsOriginator q.settings from) where
-    by_row : (topic : Topic) (net : NetAddr) (row : TcRow) (t : Claim) → IsTcRow q row → is_row_of topic net row ≡ true → claim_by q.ansn row ≡ Some t → IsClaimBy q topic from net t
+    by_row : (topic : TopologyKind) (net : NetAddr) (row : TcRow) (t : Claim) → IsTcRow q row → is_row_of topic net row ≡ true → claim_by q.ansn row ≡ Some t → IsClaimBy q topic from net t
     by_row Routers net row t (Of_address a n dest is_origin routable gateway metric is) fit says_it =
         let addr : a ≡ net.addr = ap (λ (x : NetAddr). x.addr) (sym dest ∙ dest_is Routers net row fit) in (
           record { ansn = q.ansn; metric = n },
@@ -157,13 +157,13 @@ module _ (q : State) (sound : Sound q) where
       claim_is q.ansn row t n (Some distance) says_it metric gateway,
     )
 
-  abbrev GivesRow : Topic → NetAddr → Claim → TcRow → Type 0
+  abbrev GivesRow : TopologyKind → NetAddr → Claim → TcRow → Type 0
   GivesRow topic net t row = Contains q.rows row × (is_row_of topic net row ≡ true) × (claim_by q.ansn row ≡ Some t)
 
   says_again : (n : ℕ) (m : Metric) (d : Option ℕ) (t : Claim) → n ≡ q.ansn → t ≡ claim n m d → Some (claim q.ansn m d) ≡ Some t
   says_again n m d t ansn is = ap (λ (k : ℕ). Some (claim k m d)) (sym ansn) ∙ ap (λ (u : Claim). Some u) (sym is)
 
-  pub of_row : (from : Addr4) (topic : Topic) (net : NetAddr) (t : Claim) → IsClaimBy q topic from net t → (row : TcRow) × GivesRow topic net t row
+  pub of_row : (from : Addr4) (topic : TopologyKind) (net : NetAddr) (t : Claim) → IsClaimBy q topic from net t → (row : TcRow) × GivesRow topic net t row
   of_row from Routers net t (u, by, is) =
       let row : TcRow = record { dest = host net.addr; origin = true; routable = true; gateway = None; metric = Some u.metric } in
       (row, ((sound.rows.exactly row).1 (Of_address net.addr u.metric refl (λ _. by.to, λ _. refl) refl refl refl by.metric), net_self (host net.addr), says_again u.ansn u.metric None t by.ansn is))
@@ -175,7 +175,7 @@ module _ (q : State) (sound : Sound q) where
       let row : TcRow = record { dest = net; origin = false; routable = false; gateway = Some u.distance; metric = Some u.metric } in
       (row, ((sound.rows.exactly row).1 (Of_network u.distance u.metric refl refl refl refl by.row), net_self net, says_again u.ansn u.metric (Some u.distance) t by.ansn is))
 
-  pub claim_found : (from : Addr4) → IsOriginator q.settings from → (topic : Topic) (net : NetAddr) (o : Option Claim) → IsValue (IsOfSome (λ (row : TcRow) (t : Claim). claim_if topic net q.ansn row ≡ Some t) q.rows) o →
+  pub claim_found : (from : Addr4) → IsOriginator q.settings from → (topic : TopologyKind) (net : NetAddr) (o : Option Claim) → IsValue (IsOfSome (λ (row : TcRow) (t : Claim). claim_if topic net q.ansn row ≡ Some t) q.rows) o →
       IsValueOf (IsClaimBy q topic from net) o
   claim_found from origin topic net None none = λ t w. let r = of_row from topic net t w in none t (r.0, r.1.0, some_if (is_row_of topic net r.0) (claim_by q.ansn r.0) t r.1.1 r.1.2)
   claim_found from origin topic net (Some t) (row, has, is) =

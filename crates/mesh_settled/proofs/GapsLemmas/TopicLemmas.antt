@@ -21,14 +21,14 @@ use Rattle.mesh_settled.specs.declared.gaps.compare.Difference.{Difference}
 use Rattle.mesh_settled.specs.declared.gaps.found.Found.{Found}
 use Rattle.mesh_atoms.specs.declared.gap.GapKey.{GapKey}
 use Rattle.mesh_settled.specs.declared.gaps.topics.Claim.{Claim}
-use Rattle.mesh_settled.specs.declared.gaps.topics.Topic.{Topic}
-use Rattle.mesh_settled.specs.declared.gaps.topics.Topic.TheVariants.{Routers, Addresses, Networks}
+use Rattle.mesh_settled.specs.declared.gaps.topics.TopologyKind.{TopologyKind}
+use Rattle.mesh_settled.specs.declared.gaps.topics.TopologyKind.TheVariants.{Routers, Addresses, Networks}
 use Rattle.mesh_settled.specs.Gaps.Fields.{Field, AllSame}
-use Rattle.mesh_settled.specs.Gaps.Found.{IsSide, IsTest, IsTestFrom, IsLeast, compared, lesser}
+use Rattle.mesh_settled.specs.Gaps.Found.{IsSide, IsTest, IsTestFrom, IsLeastGap, compared, lesser}
 use Rattle.mesh_settled.specs.Gaps.Gaps.{Look, look, IsHeldTuple, IsPresentTuple, IsExcepted, AreSame}
 use Rattle.mesh_settled.specs.Gaps.Network.{IsNetwork}
-use Rattle.mesh_settled.specs.Gaps.Peers.{IsSender, IsValueOf}
-use Rattle.mesh_settled.specs.Gaps.Topics.{of_router, of_address, of_network, claim_fields, router_key, address_key, network_key, key_at, held_key, IsHeldClaim, IsClaimBy, IsPresentClaim, IsHeldAt, IsHeld, IsToRow, IsToRows, IsByRows, IsByAllRows, IsTopicKey}
+use Rattle.mesh_settled.specs.Gaps.Peers.{IsPeerOriginator, IsValueOf}
+use Rattle.mesh_settled.specs.Gaps.Topics.{of_router, of_address, of_network, claim_fields, router_key, address_key, network_key, key_at, held_key, IsHeldClaim, IsClaimBy, IsPresentClaim, IsHeldAt, IsTupleHeld, IsToRow, IsToRows, IsByRows, IsByAllRows, IsTopicKey}
 use Rattle.mesh_settled.proofs.GapsLemmas.JointLemmas.{same_state}
 use Rattle.mesh_settled.proofs.GapsLemmas.Leasts.{least_as, least_all, least_lesser}
 use Rattle.mesh_settled.proofs.GapsLemmas.PeerLemmas.{within}
@@ -69,19 +69,19 @@ module _ (p : State) (sound : Sound p) (from : Addr4) (net : NetAddr) where
 
 -- What is given
 
-origin_of : (q : State) (topic : Topic) (from : Addr4) (net : NetAddr) (t : Claim) → IsClaimBy q topic from net t → IsOriginator q.settings from
+origin_of : (q : State) (topic : TopologyKind) (from : Addr4) (net : NetAddr) (t : Claim) → IsClaimBy q topic from net t → IsOriginator q.settings from
 origin_of q Routers from net t w = w.1.from
 origin_of q Addresses from net t w = w.1.from
 origin_of q Networks from net t w = w.1.from
 
-module _ (s : Scenario) (graph : RadioGraph) (states : List State) (now x : ℕ) (net : IsNetwork s graph states now) (p : State) (topic : Topic) (from : Addr4) (dest : NetAddr) where
+module _ (s : Scenario) (graph : RadioGraph) (states : List State) (now x : ℕ) (net : IsNetwork s graph states now) (p : State) (topic : TopologyKind) (from : Addr4) (dest : NetAddr) where
   abbrev seen : Look
   seen = look s states now x p
 
-  pub none_given : ((w : ℕ) → IsSender s states x from w → ⊥) → IsSide (IsPresentClaim seen topic from dest) None
+  pub none_given : ((w : ℕ) → IsPeerOriginator s states x from w → ⊥) → IsSide (IsPresentClaim seen topic from dest) None
   none_given none = λ gs h. none h.0 (h.1, h.3, origin_of h.1 topic from dest h.2 h.4)
 
-  module _ (w : ℕ) (q : State) (at : At states w q) (sender : IsSender s states x from w) where
+  module _ (w : ℕ) (q : State) (at : At states w q) (sender : IsPeerOriginator s states x from w) where
     pub its_origin : IsOriginator q.settings from
     its_origin = subst (λ (r : State). IsOriginator r.settings from) (same_state sender.1.at at) sender.2
 
@@ -107,31 +107,31 @@ module _ (s : Scenario) (graph : RadioGraph) (states : List State) (now x : ℕ)
 -- Any kind of key
 
 module _ (l : Look) (from : Addr4) (net : NetAddr) where
-  gives_claim : (topic : Topic) (gs : List Field) → IsPresentTuple l (key_at topic from net) gs → IsPresentClaim l topic from net gs
+  gives_claim : (topic : TopologyKind) (gs : List Field) → IsPresentTuple l (key_at topic from net) gs → IsPresentClaim l topic from net gs
   gives_claim Routers gs (w, q, u, peer, by, same) = (w, q, of_router u, peer, (u, by, refl), same)
   gives_claim Addresses gs (w, q, u, peer, by, same) = (w, q, of_address u, peer, (u, by, refl), same)
   gives_claim Networks gs (w, q, u, peer, by, same) = (w, q, of_network u, peer, (u, by, refl), same)
 
-  claim_gives : (topic : Topic) (gs : List Field) → IsPresentClaim l topic from net gs → IsPresentTuple l (key_at topic from net) gs
+  claim_gives : (topic : TopologyKind) (gs : List Field) → IsPresentClaim l topic from net gs → IsPresentTuple l (key_at topic from net) gs
   claim_gives Routers gs (w, q, t, peer, (u, by, is), same) = (w, q, u, peer, by, same ∙ ap claim_fields is)
   claim_gives Addresses gs (w, q, t, peer, (u, by, is), same) = (w, q, u, peer, by, same ∙ ap claim_fields is)
   claim_gives Networks gs (w, q, t, peer, (u, by, is), same) = (w, q, u, peer, by, same ∙ ap claim_fields is)
 
-  given_as : (topic : Topic) (o : Option (List Field)) → IsSide (IsPresentClaim l topic from net) o → IsSide (IsPresentTuple l (key_at topic from net)) o
+  given_as : (topic : TopologyKind) (o : Option (List Field)) → IsSide (IsPresentClaim l topic from net) o → IsSide (IsPresentTuple l (key_at topic from net)) o
   given_as topic None none = λ gs h. none gs (gives_claim topic gs h)
   given_as topic (Some fs) one = (claim_gives topic fs one.0, λ gs h. one.1 gs (gives_claim topic gs h))
 
-  held_as : (topic : Topic) (o : Option (List Field)) → IsSide (IsHeldClaim l.p topic from net) o → IsSide (IsHeldTuple l (key_at topic from net)) o
+  held_as : (topic : TopologyKind) (o : Option (List Field)) → IsSide (IsHeldClaim l.p topic from net) o → IsSide (IsHeldTuple l (key_at topic from net)) o
   held_as Routers o side = side
   held_as Addresses o side = side
   held_as Networks o side = side
 
-  excepted : (topic : Topic) → (IsStray l.s l.x from → ⊥) → IsExcepted l (key_at topic from net) → ⊥
+  excepted : (topic : TopologyKind) → (IsStray l.s l.x from → ⊥) → IsExcepted l (key_at topic from net) → ⊥
   excepted Routers none = none
   excepted Addresses none = none
   excepted Networks none = none
 
-  stray_excepts : (topic : Topic) → IsStray l.s l.x from → IsExcepted l (key_at topic from net)
+  stray_excepts : (topic : TopologyKind) → IsStray l.s l.x from → IsExcepted l (key_at topic from net)
   stray_excepts Routers stray = stray
   stray_excepts Addresses stray = stray
   stray_excepts Networks stray = stray
@@ -140,7 +140,7 @@ some_fields : (o : Option Claim) → is_some (option_map claim_fields o) ≡ is_
 some_fields None = refl
 some_fields (Some t) = refl
 
-pub claim_tested : (l : Look) (topic : Topic) (from : Addr4) (net : NetAddr) → (IsStray l.s l.x from → ⊥) → (held given : Option Claim) (d : Option Difference) (h g : Bool) → h ≡ is_some held → g ≡ is_some given →
+pub claim_tested : (l : Look) (topic : TopologyKind) (from : Addr4) (net : NetAddr) → (IsStray l.s l.x from → ⊥) → (held given : Option Claim) (d : Option Difference) (h g : Bool) → h ≡ is_some held → g ≡ is_some given →
     IsSide (IsHeldClaim l.p topic from net) (option_map claim_fields held) → IsSide (IsPresentClaim l topic from net) (option_map claim_fields given) →
     ((fs gs : List Field) → option_map claim_fields held ≡ Some fs → option_map claim_fields given ≡ Some gs → IsTestFrom 0 fs gs d) → IsTest l (key_at topic from net) (compared h g d)
 claim_tested l topic from net all held given d h g h_is g_is held_is given_is test =
@@ -149,7 +149,7 @@ claim_tested l topic from net all held given d h g h_is g_is held_is given_is te
     rw (h_is, g_is, ← some_fields held, ← some_fields given)
     (tested l (key_at topic from net) (excepted l from net topic all) ours theirs d (held_as l from net topic ours held_is) (given_as l from net topic theirs given_is) test)
 
-pub stray_same : (s : Scenario) (graph : RadioGraph) (states : List State) (now x : ℕ) → IsNetwork s graph states now → (p : State) (topic : Topic) (from : Addr4) (dest : NetAddr) → IsStray s x from →
+pub stray_same : (s : Scenario) (graph : RadioGraph) (states : List State) (now x : ℕ) → IsNetwork s graph states now → (p : State) (topic : TopologyKind) (from : Addr4) (dest : NetAddr) → IsStray s x from →
     AreSame (look s states now x p) (key_at topic from dest)
 stray_same s graph states now x net p topic from dest stray =
     let l = look s states now x p in record {
@@ -164,19 +164,19 @@ stray_same s graph states now x net p topic from dest stray =
 
 -- The keys that are looked at
 
-pub key_place : (l : Look) (p : State) (topic : Topic) (place : ℕ) (from : Addr4) (net : NetAddr) (f : Option Found) → held_key p topic place ≡ Some (key_at topic from net) →
-    IsLeast l (λ k. k ≡ key_at topic from net) f → IsLeast l (IsHeldAt p topic place) f
+pub key_place : (l : Look) (p : State) (topic : TopologyKind) (place : ℕ) (from : Addr4) (net : NetAddr) (f : Option Found) → held_key p topic place ≡ Some (key_at topic from net) →
+    IsLeastGap l (λ k. k ≡ key_at topic from net) f → IsLeastGap l (IsHeldAt p topic place) f
 key_place l p topic place from net f at least =
     least_as l (λ k. k ≡ key_at topic from net) (IsHeldAt p topic place) (λ k is. at ∙ ap (λ (x : GapKey). Some x) (sym is)) (λ k w. same_some w at) f least
 
-pub row_place : (l : Look) (topic : Topic) (from : Addr4) (rows : List TcRow) (n : ℕ) (row : TcRow) (f : Option Found) → slice_get rows n ≡ Some row → IsLeast l (λ k. k ≡ key_at topic from row.dest) f →
-    IsLeast l (IsToRow topic from rows n) f
+pub row_place : (l : Look) (topic : TopologyKind) (from : Addr4) (rows : List TcRow) (n : ℕ) (row : TcRow) (f : Option Found) → slice_get rows n ≡ Some row → IsLeastGap l (λ k. k ≡ key_at topic from row.dest) f →
+    IsLeastGap l (IsToRow topic from rows n) f
 row_place l topic from rows n row f at least =
     least_as l (λ k. k ≡ key_at topic from row.dest) (IsToRow topic from rows n) (λ k is. (row, at, is))
     (λ k w. w.2 ∙ ap (λ (x : TcRow). key_at topic from x.dest) (same_some w.1 at)) f least
 
-module _ (l : Look) (states : List State) (topic : Topic) (w : ℕ) (q : State) (at : At states w q) (settings : RouterSettings) (same : settings ≡ q.settings) where
-  pub by_rows : (from : Addr4) → IsOriginator settings from → (f : Option Found) → IsLeast l (IsToRows topic from q.rows) f → IsLeast l (IsByRows states topic w) f
+module _ (l : Look) (states : List State) (topic : TopologyKind) (w : ℕ) (q : State) (at : At states w q) (settings : RouterSettings) (same : settings ≡ q.settings) where
+  pub by_rows : (from : Addr4) → IsOriginator settings from → (f : Option Found) → IsLeastGap l (IsToRows topic from q.rows) f → IsLeastGap l (IsByRows states topic w) f
   by_rows from origin f least =
       let mine : IsOriginator q.settings from = subst (λ (r : RouterSettings). IsOriginator r from) same origin in
       least_as l (IsToRows topic from q.rows) (IsByRows states topic w) (λ k h. (q, at, from, mine, h))
@@ -190,27 +190,27 @@ module _ (l : Look) (states : List State) (topic : Topic) (w : ℕ) (q : State) 
 key_there : {K V : Type 0} (base : Base K V) (key : K → GapKey) (k : K) (v : V) → Has base k v → (place : ℕ) × (place < length base) × (option_map (λ e. key e.0) (slice_get base place) ≡ Some (key k))
 key_there base key k v has = let w = place_in base (k, (v, has.0)) has.1 in (w.0, w.1, ap (option_map (λ e. key e.0)) w.2)
 
-held_tried : (p : State) (topic : Topic) (from : Addr4) (net : NetAddr) (fs : List Field) → IsHeldClaim p topic from net fs → IsHeld p topic (key_at topic from net)
+held_tried : (p : State) (topic : TopologyKind) (from : Addr4) (net : NetAddr) (fs : List Field) → IsHeldClaim p topic from net fs → IsTupleHeld p topic (key_at topic from net)
 held_tried p Routers from net fs w = key_there p.bases.topology.routers router_key (record { from = from; to = net.addr }) w.0 w.1
 held_tried p Addresses from net fs w = key_there p.bases.topology.addresses address_key (record { from = from; addr = net.addr }) w.0 w.1
 held_tried p Networks from net fs w = key_there p.bases.topology.networks network_key (record { from = from; net = net }) w.0 w.1
 
-holds_claim : (l : Look) (topic : Topic) (from : Addr4) (net : NetAddr) (fs : List Field) → IsHeldTuple l (key_at topic from net) fs → IsHeldClaim l.p topic from net fs
+holds_claim : (l : Look) (topic : TopologyKind) (from : Addr4) (net : NetAddr) (fs : List Field) → IsHeldTuple l (key_at topic from net) fs → IsHeldClaim l.p topic from net fs
 holds_claim l Routers from net fs w = w
 holds_claim l Addresses from net fs w = w
 holds_claim l Networks from net fs w = w
 
 -- each key that is held is of that kind
-some_kind : {E : Type 0} (topic : Topic) (key : E → GapKey) → ((e : E) → IsTopicKey topic (key e)) → (k : GapKey) (o : Option E) → option_map key o ≡ Some k → IsTopicKey topic k
+some_kind : {E : Type 0} (topic : TopologyKind) (key : E → GapKey) → ((e : E) → IsTopicKey topic (key e)) → (k : GapKey) (o : Option E) → option_map key o ≡ Some k → IsTopicKey topic k
 some_kind topic key kind k None is = absurd (none-some k is)
 some_kind topic key kind k (Some e) is = subst (IsTopicKey topic) (same_some refl is) (kind e)
 
-held_kind : (p : State) (topic : Topic) (k : GapKey) → IsHeld p topic k → IsTopicKey topic k
+held_kind : (p : State) (topic : TopologyKind) (k : GapKey) → IsTupleHeld p topic k → IsTopicKey topic k
 held_kind p Routers k w = some_kind Routers (λ e. router_key e.0) (λ e. (e.0.from, host e.0.to, refl)) k (slice_get p.bases.topology.routers w.0) w.2
 held_kind p Addresses k w = some_kind Addresses (λ e. address_key e.0) (λ e. (e.0.from, host e.0.addr, refl)) k (slice_get p.bases.topology.addresses w.0) w.2
 held_kind p Networks k w = some_kind Networks (λ e. network_key e.0) (λ e. (e.0.from, e.0.net, refl)) k (slice_get p.bases.topology.networks w.0) w.2
 
-module _ {A : Type 0} (f : A → State) (routers : List A) (s : Scenario) (graph : RadioGraph) (now x : ℕ) (net : IsNetwork s graph (map f routers) now) (p : State) (topic : Topic) where
+module _ {A : Type 0} (f : A → State) (routers : List A) (s : Scenario) (graph : RadioGraph) (now x : ℕ) (net : IsNetwork s graph (map f routers) now) (p : State) (topic : TopologyKind) where
   abbrev here : Look
   here = look s (map f routers) now x p
 
@@ -218,7 +218,7 @@ module _ {A : Type 0} (f : A → State) (routers : List A) (s : Scenario) (graph
   IsGiven = IsByAllRows (map f routers) topic (length routers)
 
   abbrev IsTried : GapKey → Type 0
-  IsTried k = IsHeld p topic k ⊎ IsGiven k
+  IsTried k = IsTupleHeld p topic k ⊎ IsGiven k
 
   given_tried : (from : Addr4) (dest : NetAddr) (gs : List Field) → IsPresentClaim here topic from dest gs → IsGiven (key_at topic from dest)
   given_tried from dest gs g =
@@ -227,10 +227,10 @@ module _ {A : Type 0} (f : A → State) (routers : List A) (s : Scenario) (graph
       let w = place_in q.rows row.0 row.1.0 in
       (g.0, within f routers g.0 q g.3.at, (q, g.3.at, from, origin_of q topic from dest g.2 g.4, (w.0, w.1, (row.0, w.2, same_key topic from dest row.0.dest (dest_is topic dest row.0 row.1.1)))))
 
-  pub all_claim : (a b : Option Found) → IsLeast here (IsHeld p topic) a → IsLeast here IsGiven b → IsLeast here (IsTopicKey topic) (lesser a b)
+  pub all_claim : (a b : Option Found) → IsLeastGap here (IsTupleHeld p topic) a → IsLeastGap here IsGiven b → IsLeastGap here (IsTopicKey topic) (lesser a b)
   all_claim a b held given =
       least_all here IsTried (IsTopicKey topic) (lesser a b)
       (λ k w. elim w [ inl h ↦ held_kind p topic k h | inr g ↦ let r = g.2.4.2 in (g.2.2, r.0.dest, r.2) ])
-      (λ k fs (from, net, same) h. inl (subst (IsHeld p topic) (sym same) (held_tried p topic from net fs (holds_claim here topic from net fs (subst (λ (j : GapKey). IsHeldTuple here j fs) same h)))))
+      (λ k fs (from, net, same) h. inl (subst (IsTupleHeld p topic) (sym same) (held_tried p topic from net fs (holds_claim here topic from net fs (subst (λ (j : GapKey). IsHeldTuple here j fs) same h)))))
       (λ k gs (from, net, same) g. inr (subst IsGiven (sym same) (given_tried from net gs (gives_claim here from net topic gs (subst (λ (j : GapKey). IsPresentTuple here j gs) same g)))))
-      (least_lesser here (IsHeld p topic) IsGiven a b held given)
+      (least_lesser here (IsTupleHeld p topic) IsGiven a b held given)

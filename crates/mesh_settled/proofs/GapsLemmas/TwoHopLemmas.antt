@@ -26,13 +26,13 @@ use Rattle.mesh_atoms.specs.declared.gap.GapKey.{GapKey}
 use Rattle.mesh_atoms.specs.declared.gap.GapKey.TheVariants.{Link as Of_link, TwoHop as Of_two_hop}
 use Rattle.mesh_machine.specs.declared.said.Said.{Said}
 use Rattle.mesh_settled.specs.Gaps.Fields.{Field, AllSame, link_fields, two_hop_fields}
-use Rattle.mesh_settled.specs.Gaps.Found.{IsSide, IsTest, IsTestFrom, IsLeast, compared, lesser}
+use Rattle.mesh_settled.specs.Gaps.Found.{IsSide, IsTest, IsTestFrom, IsLeastGap, compared, lesser}
 use Rattle.mesh_settled.specs.Gaps.Gaps.{Look, look, IsHeldTuple, IsPresentTuple, IsHeldTwoHop, IsPresentTwoHop}
 use Rattle.mesh_settled.specs.Gaps.Joints.{IsLeastOf}
 use Rattle.mesh_settled.specs.Gaps.Network.{IsNetwork}
 use Rattle.mesh_settled.specs.Gaps.Links.{IsLinkKey}
 use Rattle.mesh_machine.specs.Said.{IsSaidOf}
-use Rattle.mesh_settled.specs.Gaps.TwoHops.{if_far, key_by, IsEnd, IsTwoHopAt, IsHeldBy, IsKeyIn, IsGivenIn, IsKeyNear, IsGivenBy, IsKeyBy, IsKeyOf, IsKeyOfAt, IsKeyOfSome, IsTwoHopKey}
+use Rattle.mesh_settled.specs.Gaps.TwoHops.{if_far, key_by, IsJoinedPeer, IsTwoHopAt, IsHeldBy, IsKeyIn, IsGivenIn, IsKeyNear, IsGivenBy, IsKeyBy, IsKeyOf, IsKeyOfAt, IsKeyOfSome, IsTwoHopKey}
 use Rattle.mesh_settled.proofs.GapsLemmas.JointLemmas.{same_state}
 use Rattle.mesh_settled.proofs.GapsLemmas.Leasts.{least_as, least_all, least_lesser}
 use Rattle.mesh_settled.proofs.GapsLemmas.LinkLemmas.{one_end}
@@ -58,7 +58,7 @@ module _ (p : State) (i : ℕ) (key : TwoHopKey) (distinct : HasDistinctKeys two
   held_two_hop = by_found stands refl
 
 module _ (s : Scenario) (graph : RadioGraph) (states : List State) (now x : ℕ) (p : State) (net : IsNetwork s graph states now) where
-  module _ (i y j : ℕ) (q : State) (key : TwoHopKey) (end : IsEnd s states x i y j q key.link.addr) where
+  module _ (i y j : ℕ) (q : State) (key : TwoHopKey) (end : IsJoinedPeer s states x i y j q key.link.addr) where
     -- each tuple of the key is by this end
     by_end : (gs : List Field) (w : IsPresentTwoHop (look s states now x p) i key gs) → IsTwoHopBy p q j now key w.5
     by_end gs (z, k, r, there, back, t, at, joins, by, same) =
@@ -66,7 +66,7 @@ module _ (s : Scenario) (graph : RadioGraph) (states : List State) (now x : ℕ)
         let r_is : r ≡ q = same_state (subst (λ (n : ℕ). At states n r) ends.0 at) end.at in
         rw (← r_is, ← ends.1) by
 
-  module _ (i y j : ℕ) (q : State) (key : TwoHopKey) (end : IsEnd s states x i y j q key.link.addr) (said : Said) (is_said : IsSaidOf q j now key.addr said) where
+  module _ (i y j : ℕ) (q : State) (key : TwoHopKey) (end : IsJoinedPeer s states x i y j q key.link.addr) (said : Said) (is_said : IsSaidOf q j now key.addr said) where
     abbrev l : Look
     l = look s states now x p
 
@@ -117,18 +117,18 @@ two_hop_tested l i key held given d h g h_is g_is held_is given_is test =
 
 -- The keys that are looked at
 
-pub one_in : (l : Look) (i : ℕ) (link : Addr4) (addrs : List Addr4) (n : ℕ) (a : Addr4) (f : Option Found) → slice_get addrs n ≡ Some a → IsLeast l (λ k. k ≡ key_by i link a) f → IsLeast l (IsKeyIn i link addrs n) f
+pub one_in : (l : Look) (i : ℕ) (link : Addr4) (addrs : List Addr4) (n : ℕ) (a : Addr4) (f : Option Found) → slice_get addrs n ≡ Some a → IsLeastGap l (λ k. k ≡ key_by i link a) f → IsLeastGap l (IsKeyIn i link addrs n) f
 one_in l i link addrs n a f at least =
     least_as l (λ k. k ≡ key_by i link a) (IsKeyIn i link addrs n) (λ k same. (a, at, same)) (λ k w. w.2 ∙ ap (λ (b : Addr4). key_by i link b) (same_some w.1 at)) f least
 
 pub near_at : (l : Look) (i : ℕ) (link : Addr4) (q : State) (place : ℕ) (o : Addr4) (e : Neighbour × ℕ) (f : Option Found) → slice_get q.bases.neighbourhood.neighbours place ≡ Some (o, e) →
-    IsLeast l (IsGivenIn i link e.0.addrs) f → IsLeast l (IsKeyNear i link q place) f
+    IsLeastGap l (IsGivenIn i link e.0.addrs) f → IsLeastGap l (IsKeyNear i link q place) f
 near_at l i link q place o e f at least =
     least_as l (IsGivenIn i link e.0.addrs) (IsKeyNear i link q place) (λ k w. (o, e, at, w))
     (λ k w. subst (λ (x : Addr4 × (Neighbour × ℕ)). IsGivenIn i link x.1.0.addrs k) (same_some w.2 at) w.3) f least
 
 pub held_here : (l : Look) (p : State) (i : ℕ) (link : Addr4) (place : ℕ) (key : TwoHopKey) (e : TwoHop × ℕ) (f : Option Found) →
-    slice_get (base_of p.bases.neighbourhood.two_hops i) place ≡ Some (key, e) → key.link.addr.0 ≡ link.0 → IsLeast l (λ k. k ≡ key_by i link key.addr) f → IsLeast l (IsTwoHopAt p i link place) f
+    slice_get (base_of p.bases.neighbourhood.two_hops i) place ≡ Some (key, e) → key.link.addr.0 ≡ link.0 → IsLeastGap l (λ k. k ≡ key_by i link key.addr) f → IsLeastGap l (IsTwoHopAt p i link place) f
 held_here l p i link place key e f at same least =
     let link_is : key.link.addr ≡ link = ap (λ (n : ℕ). let r : Addr4 = record { 0 = n } in r) same in
     let key_is : key ≡ record { link = record { addr = link }; addr = key.addr } = ap (λ (b : Addr4). let r : TwoHopKey = record { link = record { addr = b }; addr = key.addr } in r) link_is in
@@ -137,10 +137,10 @@ held_here l p i link place key e f at same least =
     (λ k w. w.3 ∙ ap (λ (x : TwoHopKey × (TwoHop × ℕ)). key_by i link x.0.addr) (same_some w.2 at)) f least
 
 pub held_other : (l : Look) (p : State) (i : ℕ) (link : Addr4) (place : ℕ) (key : TwoHopKey) (e : TwoHop × ℕ) →
-    slice_get (base_of p.bases.neighbourhood.two_hops i) place ≡ Some (key, e) → (key.link.addr.0 ≡ link.0 → ⊥) → IsLeast l (IsTwoHopAt p i link place) None
+    slice_get (base_of p.bases.neighbourhood.two_hops i) place ≡ Some (key, e) → (key.link.addr.0 ≡ link.0 → ⊥) → IsLeastGap l (IsTwoHopAt p i link place) None
 held_other l p i link place key e at other = λ k w. absurd (other (ap (λ (x : TwoHopKey × (TwoHop × ℕ)). x.0.link.addr.0) (same_some at w.2)))
 
-module _ (s : Scenario) (graph : RadioGraph) (states : List State) (now x : ℕ) (p : State) (net : IsNetwork s graph states now) (i y j : ℕ) (q : State) (link : Addr4) (end : IsEnd s states x i y j q link) where
+module _ (s : Scenario) (graph : RadioGraph) (states : List State) (now x : ℕ) (p : State) (net : IsNetwork s graph states now) (i y j : ℕ) (q : State) (link : Addr4) (end : IsJoinedPeer s states x i y j q link) where
   abbrev seen : Look
   seen = look s states now x p
 
@@ -181,23 +181,23 @@ module _ (s : Scenario) (graph : RadioGraph) (states : List State) (now x : ℕ)
       let place = place_in n.addrs a of_it in
       inr (at.0, at.1, (o, (n, has.0), at.2, (place.0, place.1, (a, place.2, same))))
 
-  pub all_by : (f g : Option Found) → IsLeast seen (IsHeldBy p i link) f → IsLeast seen (IsGivenBy i link q) g → IsLeast seen (IsKeyBy i link) (lesser f g)
+  pub all_by : (f g : Option Found) → IsLeastGap seen (IsHeldBy p i link) f → IsLeastGap seen (IsGivenBy i link q) g → IsLeastGap seen (IsKeyBy i link) (lesser f g)
   all_by f g held given =
       least_all seen IsTried (IsKeyBy i link) (lesser f g) tried_in_kind held_tried given_tried (least_lesser seen (IsHeldBy p i link) (IsGivenBy i link q) f g held given)
 
 pub key_place : (l : Look) (states : List State) (x : ℕ) (pairs : List Pair) (place : ℕ) (pair : Pair) (f : Option Found) → slice_get pairs place ≡ Some pair →
-    IsLeast l (IsKeyOf states x pair) f → IsLeast l (IsKeyOfAt states x pairs place) f
+    IsLeastGap l (IsKeyOf states x pair) f → IsLeastGap l (IsKeyOfAt states x pairs place) f
 key_place l states x pairs place pair f at least =
     least_as l (IsKeyOf states x pair) (IsKeyOfAt states x pairs place) (λ k w. (pair, at, w)) (λ k w. subst (λ (p : Pair). IsKeyOf states x p k) (same_some w.1 at) w.2) f least
 
 pub end_by : (s : Scenario) (graph : RadioGraph) (states : List State) (now x : ℕ) → IsNetwork s graph states now → (pair : Pair) → Contains graph.pairs pair → pair.from ≡ x →
-    (q : State) → At states pair.to q → (link : Addr4) → IsLeastAddress q.settings pair.to_iface link → IsEnd s states x pair.from_iface pair.to pair.to_iface q link
+    (q : State) → At states pair.to q → (link : Addr4) → IsLeastAddress q.settings pair.to_iface link → IsJoinedPeer s states x pair.from_iface pair.to pair.to_iface q link
 end_by s graph states now x net pair there from q at link least =
     let w = (net.graph.pairs pair).0 there in
     record { at = at; there = pair.metric; back = w.0; joins = rw (← from) w.1; least = least }
 
 pub key_of : (l : Look) (states : List State) (x : ℕ) (pair : Pair) (link : Addr4) (f : Option Found) → pair.from ≡ x → IsLeastOf states pair.to pair.to_iface link →
-    IsLeast l (IsKeyBy pair.from_iface link) f → IsLeast l (IsKeyOf states x pair) f
+    IsLeastGap l (IsKeyBy pair.from_iface link) f → IsLeastGap l (IsKeyOf states x pair) f
 key_of l states x pair link f from least by =
     least_as l (IsKeyBy pair.from_iface link) (IsKeyOf states x pair) (λ k w. (from, link, least, w))
     (λ k w. subst (λ (b : Addr4). IsKeyBy pair.from_iface b k) (one_end states pair.to pair.to_iface w.1 link w.2 least) w.3) f by
@@ -206,7 +206,7 @@ module _ (s : Scenario) (graph : RadioGraph) (states : List State) (now x : ℕ)
   abbrev here : Look
   here = look s states now x p
 
-  module _ (links : IsLeast here IsLinkKey None) where
+  module _ (links : IsLeastGap here IsLinkKey None) where
     abbrev IsKey : GapKey → Type 0
     IsKey k = IsKeyOfSome states x graph.pairs k
 
@@ -243,5 +243,5 @@ module _ (s : Scenario) (graph : RadioGraph) (states : List State) (now x : ℕ)
           | inr given ↦ let w = given.1 in by_pair k i w.0 w.1 w.2 w.3 w.4 key same w.6 w.7 w.8.keyed
         ]
 
-    pub all_two_hops : (f : Option Found) → IsLeast here (IsKeyOfSome states x graph.pairs) f → IsLeast here IsTwoHopKey f
+    pub all_two_hops : (f : Option Found) → IsLeastGap here (IsKeyOfSome states x graph.pairs) f → IsLeastGap here IsTwoHopKey f
     all_two_hops f least = least_all here IsKey IsTwoHopKey f in_kind held_key given_key least

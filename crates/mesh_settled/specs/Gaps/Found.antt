@@ -3,7 +3,7 @@ use Rattle.std.specs.Prelude.{ℕ, ◌≤◌, List, Contains, Option, Some, None
 use Rattle.mesh_atoms.specs.declared.addr.Addr4.{Addr4}
 use Rattle.mesh_settled.specs.declared.gaps.compare.Apart.{Apart}
 use Rattle.mesh_settled.specs.declared.gaps.compare.Difference.{Difference}
-use Rattle.mesh_settled.specs.declared.gaps.compare.Values.{Values}
+use Rattle.mesh_settled.specs.declared.gaps.compare.HeldAndPresent.{HeldAndPresent}
 use Rattle.mesh_settled.specs.declared.gaps.found.Found.{Found}
 use Rattle.mesh_atoms.specs.declared.gap.GapKey.{GapKey}
 use Rattle.mesh_settled.specs.Gaps.Fields.{Field, SaySame, AllSame, Differ, DifferFrom}
@@ -20,7 +20,7 @@ IsTestFrom at fs gs None = AllSame fs gs
 IsTestFrom at fs gs (Some d) = DifferFrom at fs gs d.field d.held d.present
 
 -- the test of a key: it finds a gap with both its values, or that there is none
-abbrev pub IsTest : Look → GapKey → Option Values → Type 0
+abbrev pub IsTest : Look → GapKey → Option HeldAndPresent → Type 0
 IsTest l key None = AreSame l key
 IsTest l key (Some v) = IsGapAt l key v.held v.present × (AreSame l key → ⊥)
 
@@ -40,12 +40,12 @@ least_of best None = best
 least_of best (Some a) = lower best a false
 
 -- both sides have a tuple
-abbrev pub unequal : Option Difference → Option Values
+abbrev pub unequal : Option Difference → Option HeldAndPresent
 unequal None = None
 unequal (Some d) = Some (record { held = Some (at_field d.field d.held); present = Some (at_field d.field d.present) })
 
 -- what the test of a key finds, where the flags say whether a tuple is held and whether there is one at present
-abbrev pub compared : Bool → Bool → Option Difference → Option Values
+abbrev pub compared : Bool → Bool → Option Difference → Option HeldAndPresent
 compared true true difference = unequal difference
 compared true false difference = Some (record { held = Some (at_field 0 None); present = None })
 compared false true difference = Some (record { held = None; present = Some (at_field 0 None) })
@@ -61,9 +61,9 @@ abbrev pub IsGap : Look → Found → Type 0
 IsGap l f = IsGapAt l f.key f.held f.present × (AreSame l f.key → ⊥)
 
 -- the least gap among these keys, if there is one
-abbrev pub IsLeast : Look → (GapKey → Type 0) → Option Found → Type 0
-IsLeast l P None = (key : GapKey) → P key → AreSame l key
-IsLeast l P (Some f) =
+abbrev pub IsLeastGap : Look → (GapKey → Type 0) → Option Found → Type 0
+IsLeastGap l P None = (key : GapKey) → P key → AreSame l key
+IsLeastGap l P (Some f) =
     P f.key × IsGap l f × ((key : GapKey) → P key → IsTrue (ranks_before (rank_of key) (rank_of f.key)) → AreSame l key)
 
 -- the one of the two with the lesser key
@@ -73,6 +73,6 @@ lesser (Some f) None = Some f
 lesser (Some f) (Some g) = cond (ranks_before (rank_of g.key) (rank_of f.key)) (Some g) (Some f)
 
 -- what is found at a key, where its test finds a gap
-abbrev pub found_at : GapKey → Option Values → Option Found
+abbrev pub found_at : GapKey → Option HeldAndPresent → Option Found
 found_at key None = None
 found_at key (Some v) = Some (record { key = key; held = v.held; present = v.present })

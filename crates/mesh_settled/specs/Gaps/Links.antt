@@ -58,8 +58,8 @@ abbrev pub IsHeldOn : State → ℕ → GapKey → Type 0
 IsHeldOn p i k = (place : ℕ) × (place < length (base_of p.bases.neighbourhood.links i)) × IsHeldAt p i place k
 
 -- the key of some link of the router
-abbrev pub IsHeld : State → GapKey → Type 0
-IsHeld p k = (i : ℕ) × (i < length p.settings.interfaces) × IsHeldOn p i k
+abbrev pub IsLinkHeld : State → GapKey → Type 0
+IsLinkHeld p k = (i : ℕ) × (i < length p.settings.interfaces) × IsHeldOn p i k
 
 -- the key that a pair from router x gives
 abbrev pub IsGivenAt : List State → ℕ → Pair → GapKey → Type 0

@@ -18,8 +18,8 @@ abbrev pub IsLeading : List Pair → ℕ → ℕ → ℕ → Pair → Type 0
 IsLeading pairs y z n e = (k : ℕ) × (k < n) × (slice_get pairs k ≡ Some e) × (e.from ≡ y) × (e.to ≡ z)
 
 -- the least metric of these, if there are any
-abbrev pub IsCheapest : List Pair → ℕ → ℕ → ℕ → Option Metric → Type 0
-IsCheapest pairs y z n None = (e : Pair) → IsLeading pairs y z n e → ⊥
-IsCheapest pairs y z n (Some m) =
+abbrev pub IsLeastMetricOf : List Pair → ℕ → ℕ → ℕ → Option Metric → Type 0
+IsLeastMetricOf pairs y z n None = (e : Pair) → IsLeading pairs y z n e → ⊥
+IsLeastMetricOf pairs y z n (Some m) =
     ((e : Pair) × IsLeading pairs y z n e × (e.metric ≡ m))
     × ((e : Pair) → IsLeading pairs y z n e → metric_value m ≤ metric_value e.metric)

@@ -72,8 +72,8 @@ IsHeldAt p place k =
     (o : Addr4) × (e : Neighbour × ℕ) × (slice_get p.bases.neighbourhood.neighbours place ≡ Some (o, e)) × (k ≡ Of_neighbour o)
 
 -- the key of some neighbour of the router
-abbrev pub IsHeld : State → GapKey → Type 0
-IsHeld p k = (place : ℕ) × (place < length p.bases.neighbourhood.neighbours) × IsHeldAt p place k
+abbrev pub IsNeighbourHeld : State → GapKey → Type 0
+IsNeighbourHeld p k = (place : ℕ) × (place < length p.bases.neighbourhood.neighbours) × IsHeldAt p place k
 
 -- the key with the originator of router y
 abbrev pub IsOriginatorOf : List State → ℕ → GapKey → Type 0

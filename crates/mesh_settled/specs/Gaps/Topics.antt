@@ -14,8 +14,8 @@ use Rattle.mesh_atoms.specs.Settled.{At, IsPeer, IsRouterBy, IsAddressBy, IsNetw
 use Rattle.mesh_atoms.specs.State.{State, IsOriginator}
 use Rattle.mesh_atoms.specs.declared.gap.GapKey.{GapKey}
 use Rattle.mesh_atoms.specs.declared.gap.GapKey.TheVariants.{Router as Of_router, Address as Of_address, Network as Of_network}
-use Rattle.mesh_settled.specs.declared.gaps.topics.Topic.{Topic}
-use Rattle.mesh_settled.specs.declared.gaps.topics.Topic.TheVariants.{Routers, Addresses, Networks}
+use Rattle.mesh_settled.specs.declared.gaps.topics.TopologyKind.{TopologyKind}
+use Rattle.mesh_settled.specs.declared.gaps.topics.TopologyKind.TheVariants.{Routers, Addresses, Networks}
 use Rattle.mesh_settled.specs.declared.gaps.topics.Claim.{Claim}
 use Rattle.mesh_settled.specs.Gaps.Fields.{Field, topology_fields}
 use Rattle.mesh_settled.specs.Gaps.Gaps.{Look, IsHeldRouter, IsHeldAddress, IsHeldNetwork}
@@ -53,7 +53,7 @@ abbrev pub network_key : NetworkKey → GapKey
 network_key key = Of_network key.from key.net
 
 -- the key of that kind from an originator to a destination, whose prefix counts for networks alone
-abbrev pub key_at : Topic → Addr4 → NetAddr → GapKey
+abbrev pub key_at : TopologyKind → Addr4 → NetAddr → GapKey
 key_at Routers from net = Of_router from net.addr
 key_at Addresses from net = Of_address from net.addr
 key_at Networks from net = Of_network from net
@@ -61,33 +61,33 @@ key_at Networks from net = Of_network from net
 -- The two sides
 
 -- the router in state p holds a tuple of that kind, from that originator to that destination, with these fields
-abbrev pub IsHeldClaim : State → Topic → Addr4 → NetAddr → List Field → Type 0
+abbrev pub IsHeldClaim : State → TopologyKind → Addr4 → NetAddr → List Field → Type 0
 IsHeldClaim p Routers from net = IsHeldRouter p (record { from = from; to = net.addr })
 IsHeldClaim p Addresses from net = IsHeldAddress p (record { from = from; addr = net.addr })
 IsHeldClaim p Networks from net = IsHeldNetwork p (record { from = from; net = net })
 
 -- the TC of a router in state q says it
-abbrev pub IsClaimBy : State → Topic → Addr4 → NetAddr → Claim → Type 0
+abbrev pub IsClaimBy : State → TopologyKind → Addr4 → NetAddr → Claim → Type 0
 IsClaimBy q Routers from net t = (u : RouterTuple) × IsRouterBy q (record { from = from; to = net.addr }) u × (t ≡ of_router u)
 IsClaimBy q Addresses from net t =
     (u : AddressTuple) × IsAddressBy q (record { from = from; addr = net.addr }) u × (t ≡ of_address u)
 IsClaimBy q Networks from net t = (u : NetworkTuple) × IsNetworkBy q (record { from = from; net = net }) u × (t ≡ of_network u)
 
 -- the TC of another router which is joined with it says one, with these fields
-abbrev pub IsPresentClaim : Look → Topic → Addr4 → NetAddr → List Field → Type 0
+abbrev pub IsPresentClaim : Look → TopologyKind → Addr4 → NetAddr → List Field → Type 0
 IsPresentClaim l topic from net gs =
     (w : ℕ) × (q : State) × (t : Claim) × IsPeer l.s l.states l.x w q × IsClaimBy q topic from net t × (gs ≡ claim_fields t)
 
 -- Rows
 
 -- the destination of a row that gives a tuple of that kind: where it is an address, its prefix is 32
-abbrev pub dest_of : Topic → NetAddr → NetAddr
+abbrev pub dest_of : TopologyKind → NetAddr → NetAddr
 dest_of Routers net = host net.addr
 dest_of Addresses net = host net.addr
 dest_of Networks net = net
 
 -- the row gives a tuple of that kind and destination
-abbrev pub is_row_of : Topic → NetAddr → TcRow → Bool
+abbrev pub is_row_of : TopologyKind → NetAddr → TcRow → Bool
 is_row_of Routers net row = row.origin && net_eq row.dest (host net.addr)
 is_row_of Addresses net row = row.routable && net_eq row.dest (host net.addr)
 is_row_of Networks net row = not row.routable && net_eq row.dest net
@@ -97,48 +97,48 @@ abbrev pub claim_by : ℕ → TcRow → Option Claim
 claim_by ansn row = option_map (λ m. record { ansn = ansn; metric = m; distance = row.gateway }) row.metric
 
 -- the same, where the row gives a tuple of that kind and destination
-abbrev pub claim_if : Topic → NetAddr → ℕ → TcRow → Option Claim
+abbrev pub claim_if : TopologyKind → NetAddr → ℕ → TcRow → Option Claim
 claim_if topic net ansn row = cond (is_row_of topic net row) (claim_by ansn row) None
 
 -- Which keys are looked at
 
 -- a key of that kind
-abbrev pub IsTopicKey : Topic → GapKey → Type 0
+abbrev pub IsTopicKey : TopologyKind → GapKey → Type 0
 IsTopicKey topic k = (from : Addr4) × (net : NetAddr) × (k ≡ key_at topic from net)
 
 -- the number of tuples of that kind that the router holds
-abbrev pub held_count : State → Topic → ℕ
+abbrev pub held_count : State → TopologyKind → ℕ
 held_count p Routers = length p.bases.topology.routers
 held_count p Addresses = length p.bases.topology.addresses
 held_count p Networks = length p.bases.topology.networks
 
 -- the key of the tuple at a place
-abbrev pub held_key : State → Topic → ℕ → Option GapKey
+abbrev pub held_key : State → TopologyKind → ℕ → Option GapKey
 held_key p Routers place = option_map (λ e. router_key e.0) (slice_get p.bases.topology.routers place)
 held_key p Addresses place = option_map (λ e. address_key e.0) (slice_get p.bases.topology.addresses place)
 held_key p Networks place = option_map (λ e. network_key e.0) (slice_get p.bases.topology.networks place)
 
 -- the tuple at a place has the key
-abbrev pub IsHeldAt : State → Topic → ℕ → GapKey → Type 0
+abbrev pub IsHeldAt : State → TopologyKind → ℕ → GapKey → Type 0
 IsHeldAt p topic place k = held_key p topic place ≡ Some k
 
 -- the key of some tuple of that kind which the router holds
-abbrev pub IsHeld : State → Topic → GapKey → Type 0
-IsHeld p topic k = (place : ℕ) × (place < held_count p topic) × IsHeldAt p topic place k
+abbrev pub IsTupleHeld : State → TopologyKind → GapKey → Type 0
+IsTupleHeld p topic k = (place : ℕ) × (place < held_count p topic) × IsHeldAt p topic place k
 
 -- the key from that originator to the destination of the row at a place
-abbrev pub IsToRow : Topic → Addr4 → List TcRow → ℕ → GapKey → Type 0
+abbrev pub IsToRow : TopologyKind → Addr4 → List TcRow → ℕ → GapKey → Type 0
 IsToRow topic from rows n k = (row : TcRow) × (slice_get rows n ≡ Some row) × (k ≡ key_at topic from row.dest)
 
 -- the key from that originator to the destination of some row
-abbrev pub IsToRows : Topic → Addr4 → List TcRow → GapKey → Type 0
+abbrev pub IsToRows : TopologyKind → Addr4 → List TcRow → GapKey → Type 0
 IsToRows topic from rows k = (n : ℕ) × (n < length rows) × IsToRow topic from rows n k
 
 -- one of the keys that the rows of router w give
-abbrev pub IsByRows : List State → Topic → ℕ → GapKey → Type 0
+abbrev pub IsByRows : List State → TopologyKind → ℕ → GapKey → Type 0
 IsByRows states topic w k =
     (q : State) × At states w q × (from : Addr4) × IsOriginator q.settings from × IsToRows topic from q.rows k
 
 -- one of the keys that the rows of some router before router n give
-abbrev pub IsByAllRows : List State → Topic → ℕ → GapKey → Type 0
+abbrev pub IsByAllRows : List State → TopologyKind → ℕ → GapKey → Type 0
 IsByAllRows states topic n k = (w : ℕ) × (w < n) × IsByRows states topic w k

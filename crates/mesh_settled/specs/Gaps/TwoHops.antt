@@ -23,7 +23,7 @@ if_far said mine theirs =
     (Some (record { metric_in = said.metric_in; metric_out = said.metric_out })) None
 
 -- interface i of router x is joined with interface j of router y, which is in state q and has that least address there
-pub record IsEnd (s : Scenario) (states : List State) (x i y j : ℕ) (q : State) (a : Addr4) : Type 0 where
+pub record IsJoinedPeer (s : Scenario) (states : List State) (x i y j : ℕ) (q : State) (a : Addr4) : Type 0 where
   pub at : At states y q
   pub there : Metric
   pub back : Metric

@@ -23,7 +23,7 @@ pub struct Difference {
 
 /// What the two sides say where they differ.
 #[derive(Clone, Copy)]
-pub struct Values {
+pub struct HeldAndPresent {
     pub held: Option<GapValue>,
     pub present: Option<GapValue>,
 }
@@ -154,7 +154,7 @@ pub fn first_of(field: u8, apart: Option<Apart>, rest: Option<Difference>) -> Op
 }
 
 /// What the two sides say, by which of them have a tuple of the key, and where these differ.
-pub fn compared(held: bool, present: bool, difference: Option<Difference>) -> Option<Values>
+pub fn compared(held: bool, present: bool, difference: Option<Difference>) -> Option<HeldAndPresent>
     ensures { result ≡ compared held present difference }
 {
     let there = GapValue {
@@ -162,15 +162,15 @@ pub fn compared(held: bool, present: bool, difference: Option<Difference>) -> Op
         number: None,
     };
     match (held, present, difference) {
-        (true, false, _) => Some(Values {
+        (true, false, _) => Some(HeldAndPresent {
             held: Some(there),
             present: None,
         }),
-        (false, true, _) => Some(Values {
+        (false, true, _) => Some(HeldAndPresent {
             held: None,
             present: Some(there),
         }),
-        (true, true, Some(difference)) => Some(Values {
+        (true, true, Some(difference)) => Some(HeldAndPresent {
             held: Some(GapValue {
                 field: difference.field,
                 number: difference.held,

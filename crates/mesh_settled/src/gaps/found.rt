@@ -3,7 +3,7 @@ ghost use Rattle.std.specs.Prelude.{◌≡◌};
 ghost use Rattle.mesh_settled.specs.Gaps.Found.{lesser, found_at};
 ghost use Rattle.mesh_settled.specs.Gaps.Gaps.{rank_of, ranks_before};
 
-use crate::gaps::compare::Values;
+use crate::gaps::compare::HeldAndPresent;
 use mesh_atoms::{GapKey, GapValue};
 
 /// A gap of a router.
@@ -25,7 +25,7 @@ pub struct Rank {
 }
 
 /// A gap at that key, where the sides say something there.
-pub fn found_at(key: GapKey, values: Option<Values>) -> Option<Found>
+pub fn found_at(key: GapKey, values: Option<HeldAndPresent>) -> Option<Found>
     ensures { result ≡ found_at key values }
 {
     match values {

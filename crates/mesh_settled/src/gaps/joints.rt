@@ -9,7 +9,7 @@ ghost use Rattle.mesh_settled.specs.Gaps.Joints.{IsBack, IsLeastOf, IsJointBy, I
 ghost use Rattle.mesh_settled.specs.Gaps.Site.{states};
 
 use crate::gaps::compare::least_missing;
-use crate::gaps::site::Site;
+use crate::gaps::site::RouterAt;
 use mesh_atoms::{Addr4, Metric, Pair, RouterSettings, contains};
 use mesh_machine::RouterView;
 
@@ -133,7 +133,7 @@ fn joint_in<R: RouterView>(
 }
 
 /// The interface with that least address that interface i of router x is joined with.
-pub fn joint_with<R: RouterView>(site: &Site<'_, R>, i: usize, addr: Addr4) -> Option<Joint>
+pub fn joint_with<R: RouterView>(site: &RouterAt<'_, R>, i: usize, addr: Addr4) -> Option<Joint>
     requires { IsRadioGraph site.now.scenario.now site.now.graph.now }
     ensures { IsValue (IsJointWith site.entry.now.scenario.now (states R.state site.entry.now) site.entry.now.x i addr) result }
 {

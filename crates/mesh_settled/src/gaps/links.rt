@@ -6,19 +6,19 @@ ghost use Rattle.mesh_atoms.specs.Words.{IsValue};
 ghost use Rattle.mesh_atoms.specs.Sound.{Sound};
 ghost use Rattle.mesh_machine.specs.expire.Table.{value_of};
 ghost use Rattle.mesh_atoms.specs.declared.gap.GapKey.TheVariants.{Link as Of_link};
-ghost use Rattle.mesh_settled.specs.Gaps.Found.{IsSide, IsTest, IsTestFrom, IsLeast};
+ghost use Rattle.mesh_settled.specs.Gaps.Found.{IsSide, IsTest, IsTestFrom, IsLeastGap};
 ghost use Rattle.mesh_settled.specs.Gaps.Gaps.{IsHeldLink, IsPresentLink};
 ghost use Rattle.mesh_settled.specs.Gaps.Fields.{Field, link_fields};
 ghost use Rattle.mesh_settled.specs.Gaps.Joints.{IsLeastOf};
-ghost use Rattle.mesh_settled.specs.Gaps.Links.{held_fields, symmetric_fields, given_fields, given_link, IsGivenBy, IsHeldAt, IsHeldOn, IsHeld, IsGivenAt, IsGiven, IsLinkKey};
+ghost use Rattle.mesh_settled.specs.Gaps.Links.{held_fields, symmetric_fields, given_fields, given_link, IsGivenBy, IsHeldAt, IsHeldOn, IsLinkHeld, IsGivenAt, IsGiven, IsLinkKey};
 ghost use Rattle.mesh_settled.specs.Gaps.Site.{states, seen, IsSite};
 
 use crate::gaps::compare::{
-    Difference, Values, addresses, compared, first_of, flags, known_cost, numbers,
+    Difference, HeldAndPresent, addresses, compared, first_of, flags, known_cost, numbers,
 };
 use crate::gaps::found::{Found, found_at, lesser};
 use crate::gaps::joints::{Joint, addrs_of, joint_with, least_address, router_at};
-use crate::gaps::site::Site;
+use crate::gaps::site::RouterAt;
 use mesh_atoms::{Addr4, GapKey, Link, LinkKey, Metric, Pair, RouterSettings};
 use mesh_machine::RouterView;
 
@@ -119,7 +119,7 @@ fn given_by<'a, R: RouterView>(
 
 // The link with that key of interface i with a joined interface.
 fn given_link<'a, R: RouterView>(
-    site: &Site<'a, R>,
+    site: &RouterAt<'a, R>,
     i: usize,
     key: LinkKey,
 ) -> Option<GivenLink<'a>>
@@ -147,7 +147,11 @@ fn difference_of(held: Option<&Link>, given: Option<GivenLink<'_>>) -> Option<Di
 }
 
 // What the two sides say of a link of interface i where they differ.
-fn link_values<R: RouterView>(site: &Site<'_, R>, i: usize, key: LinkKey) -> Option<Values>
+fn link_values<R: RouterView>(
+    site: &RouterAt<'_, R>,
+    i: usize,
+    key: LinkKey,
+) -> Option<HeldAndPresent>
     requires { IsSite R.state site.now }
     ensures { IsTest (seen R.state site.entry.now) (Of_link i key) result }
 {
@@ -158,9 +162,9 @@ fn link_values<R: RouterView>(site: &Site<'_, R>, i: usize, key: LinkKey) -> Opt
 }
 
 // The gap at the link of interface i at that place.
-fn held_at<R: RouterView>(site: &Site<'_, R>, i: usize, place: usize) -> Option<Found>
+fn held_at<R: RouterView>(site: &RouterAt<'_, R>, i: usize, place: usize) -> Option<Found>
     requires { IsSite R.state site.now }
-    ensures { IsLeast (seen R.state site.entry.now) (IsHeldAt (R.state site.entry.now.router.now) i place) result }
+    ensures { IsLeastGap (seen R.state site.entry.now) (IsHeldAt (R.state site.entry.now.router.now) i place) result }
 {
     match site.router.link(i, place) {
         Some((key, _, _)) => found_at(
@@ -175,9 +179,9 @@ fn held_at<R: RouterView>(site: &Site<'_, R>, i: usize, place: usize) -> Option<
 }
 
 // The least gap among the links of interface i.
-fn held_on<R: RouterView>(site: &Site<'_, R>, i: usize) -> Option<Found>
+fn held_on<R: RouterView>(site: &RouterAt<'_, R>, i: usize) -> Option<Found>
     requires { IsSite R.state site.now }
-    ensures { IsLeast (seen R.state site.entry.now) (IsHeldOn (R.state site.entry.now.router.now) i) result }
+    ensures { IsLeastGap (seen R.state site.entry.now) (IsHeldOn (R.state site.entry.now.router.now) i) result }
 {
     let mut best = None;
     for place in 0..site.router.links(i) {
@@ -187,9 +191,9 @@ fn held_on<R: RouterView>(site: &Site<'_, R>, i: usize) -> Option<Found>
 }
 
 // The least gap among the links.
-fn held_links<R: RouterView>(site: &Site<'_, R>) -> Option<Found>
+fn held_links<R: RouterView>(site: &RouterAt<'_, R>) -> Option<Found>
     requires { IsSite R.state site.now }
-    ensures { IsLeast (seen R.state site.entry.now) (IsHeld (R.state site.entry.now.router.now)) result }
+    ensures { IsLeastGap (seen R.state site.entry.now) (IsLinkHeld (R.state site.entry.now.router.now)) result }
 {
     let mut best = None;
     for i in 0..site.router.settings().interfaces.len() {
@@ -209,9 +213,9 @@ fn end_of<R: RouterView>(routers: &[R], pair: &Pair) -> Option<Addr4>
 }
 
 // The gap at the link that a pair gives the router.
-fn given_at<R: RouterView>(site: &Site<'_, R>, pair: &Pair) -> Option<Found>
+fn given_at<R: RouterView>(site: &RouterAt<'_, R>, pair: &Pair) -> Option<Found>
     requires { IsSite R.state site.now }
-    ensures { IsLeast (seen R.state site.entry.now) (IsGivenAt (states R.state site.entry.now) site.entry.now.x pair.now) result }
+    ensures { IsLeastGap (seen R.state site.entry.now) (IsGivenAt (states R.state site.entry.now) site.entry.now.x pair.now) result }
 {
     if pair.from != site.x {
         return None;
@@ -229,9 +233,9 @@ fn given_at<R: RouterView>(site: &Site<'_, R>, pair: &Pair) -> Option<Found>
 }
 
 // The least gap among the links that these pairs give the router.
-fn given_links<R: RouterView>(site: &Site<'_, R>, pairs: &[Pair]) -> Option<Found>
+fn given_links<R: RouterView>(site: &RouterAt<'_, R>, pairs: &[Pair]) -> Option<Found>
     requires { IsSite R.state site.now }
-    ensures { IsLeast (seen R.state site.entry.now) (IsGiven (states R.state site.entry.now) site.entry.now.x pairs.now) result }
+    ensures { IsLeastGap (seen R.state site.entry.now) (IsGiven (states R.state site.entry.now) site.entry.now.x pairs.now) result }
 {
     let mut best = None;
     for place in 0..pairs.len() {
@@ -241,9 +245,9 @@ fn given_links<R: RouterView>(site: &Site<'_, R>, pairs: &[Pair]) -> Option<Foun
 }
 
 /// The least gap among the links.
-pub fn link_gap<R: RouterView>(site: &Site<'_, R>) -> Option<Found>
+pub fn link_gap<R: RouterView>(site: &RouterAt<'_, R>) -> Option<Found>
     requires { IsSite R.state site.now }
-    ensures { IsLeast (seen R.state site.entry.now) IsLinkKey result }
+    ensures { IsLeastGap (seen R.state site.entry.now) IsLinkKey result }
 {
     let held = held_links(site);
     let given = given_links(site, site.graph.pairs.as_slice());

@@ -2,9 +2,9 @@
 ghost use Rattle.std.specs.Prelude.{◌≡◌, length};
 ghost use Rattle.mesh_atoms.specs.Words.{IsValue};
 ghost use Rattle.mesh_atoms.specs.Radio.{IsRadioGraph, IsMetric};
-ghost use Rattle.mesh_settled.specs.Gaps.Metrics.{less, cheaper, IsCheapest};
+ghost use Rattle.mesh_settled.specs.Gaps.Metrics.{less, cheaper, IsLeastMetricOf};
 
-use crate::gaps::site::Site;
+use crate::gaps::site::RouterAt;
 use mesh_atoms::{Metric, Pair};
 
 // The metric of the lesser cost.
@@ -36,7 +36,7 @@ fn cheaper(best: Option<Metric>, y: usize, z: usize, pair: &Pair) -> Option<Metr
 
 // The least metric of the pairs from router y to router z.
 fn cheapest(pairs: &[Pair], y: usize, z: usize) -> Option<Metric>
-    ensures { IsCheapest pairs.now y z (length pairs.now) result }
+    ensures { IsLeastMetricOf pairs.now y z (length pairs.now) result }
 {
     let mut best = None;
     for k in 0..pairs.len() {
@@ -46,7 +46,7 @@ fn cheapest(pairs: &[Pair], y: usize, z: usize) -> Option<Metric>
 }
 
 /// The metric from router y to router z, where they are adjacent.
-pub fn metric_to<R>(site: &Site<'_, R>, y: usize, z: usize) -> Option<Metric>
+pub fn metric_to<R>(site: &RouterAt<'_, R>, y: usize, z: usize) -> Option<Metric>
     requires { IsRadioGraph site.now.scenario.now site.now.graph.now }
     ensures { IsValue (IsMetric site.entry.now.scenario.now y z) result }
 {

@@ -8,17 +8,19 @@ ghost use Rattle.mesh_atoms.specs.State.{HasAddress, IsOriginator};
 ghost use Rattle.mesh_machine.specs.expire.Table.{value_of};
 ghost use Rattle.mesh_atoms.specs.declared.gap.GapKey.TheVariants.{Neighbour as Of_neighbour};
 ghost use Rattle.mesh_settled.specs.Gaps.Fields.{Field, neighbour_fields};
-ghost use Rattle.mesh_settled.specs.Gaps.Found.{IsSide, IsTest, IsTestFrom, IsLeast};
+ghost use Rattle.mesh_settled.specs.Gaps.Found.{IsSide, IsTest, IsTestFrom, IsLeastGap};
 ghost use Rattle.mesh_settled.specs.Gaps.Gaps.{IsHeldNeighbour, IsPresentNeighbour};
-ghost use Rattle.mesh_settled.specs.Gaps.Neighbours.{held_fields, symmetric_fields, given_tuple, given_fields, IsGivenNear, IsGivenAt, IsHeldAt, IsHeld, IsOriginatorOf, IsOriginatorBelow, IsNeighbourKey};
+ghost use Rattle.mesh_settled.specs.Gaps.Neighbours.{held_fields, symmetric_fields, given_tuple, given_fields, IsGivenNear, IsGivenAt, IsHeldAt, IsNeighbourHeld, IsOriginatorOf, IsOriginatorBelow, IsNeighbourKey};
 ghost use Rattle.mesh_settled.specs.Gaps.Site.{states, seen, IsSite};
 
-use crate::gaps::compare::{Difference, Values, compared, first_of, flags, known_cost, numbers};
+use crate::gaps::compare::{
+    Difference, HeldAndPresent, compared, first_of, flags, known_cost, numbers,
+};
 use crate::gaps::found::{Found, found_at, lesser};
 use crate::gaps::joints::{addrs_of, router_at};
 use crate::gaps::metrics::metric_to;
 use crate::gaps::owned::owned;
-use crate::gaps::site::Site;
+use crate::gaps::site::RouterAt;
 use mesh_atoms::{Addr4, GapKey, Metric, Neighbour, RouterSettings, Willing};
 use mesh_machine::RouterView;
 
@@ -94,7 +96,7 @@ fn is_selector<R: RouterView>(other: &R, settings: &RouterSettings, now: u64) ->
 
 // The neighbour that router y is, if it is adjacent.
 fn given_near<'a, R: RouterView>(
-    site: &Site<'a, R>,
+    site: &RouterAt<'a, R>,
     y: usize,
     other: &'a R,
 ) -> Option<GivenNeighbour<'a>>
@@ -122,7 +124,7 @@ fn given_near<'a, R: RouterView>(
 
 // The neighbour that router y is, if it is adjacent and has that originator.
 fn given_at<'a, R: RouterView>(
-    site: &Site<'a, R>,
+    site: &RouterAt<'a, R>,
     addr: Addr4,
     y: usize,
 ) -> Option<GivenNeighbour<'a>>
@@ -143,7 +145,10 @@ fn given_at<'a, R: RouterView>(
 }
 
 // The neighbour with that originator that an adjacent router is.
-fn given_neighbour<'a, R: RouterView>(site: &Site<'a, R>, addr: Addr4) -> Option<GivenNeighbour<'a>>
+fn given_neighbour<'a, R: RouterView>(
+    site: &RouterAt<'a, R>,
+    addr: Addr4,
+) -> Option<GivenNeighbour<'a>>
     requires { IsSite R.state site.now }
     ensures { IsSide (IsPresentNeighbour (seen R.state site.entry.now) addr) (given_fields result) }
 {
@@ -197,7 +202,7 @@ fn difference_of(held: Option<&Neighbour>, given: Option<GivenNeighbour<'_>>) ->
 }
 
 // What the two sides say of the neighbour with that originator, where they differ.
-fn neighbour_values<R: RouterView>(site: &Site<'_, R>, addr: Addr4) -> Option<Values>
+fn neighbour_values<R: RouterView>(site: &RouterAt<'_, R>, addr: Addr4) -> Option<HeldAndPresent>
     requires { IsSite R.state site.now }
     ensures { IsTest (seen R.state site.entry.now) (Of_neighbour addr) result }
 {
@@ -208,17 +213,17 @@ fn neighbour_values<R: RouterView>(site: &Site<'_, R>, addr: Addr4) -> Option<Va
 }
 
 // The gap at the neighbour with that originator.
-fn gap_at<R: RouterView>(site: &Site<'_, R>, addr: Addr4) -> Option<Found>
+fn gap_at<R: RouterView>(site: &RouterAt<'_, R>, addr: Addr4) -> Option<Found>
     requires { IsSite R.state site.now }
-    ensures { IsLeast (seen R.state site.entry.now) (λ k. k ≡ Of_neighbour addr) result }
+    ensures { IsLeastGap (seen R.state site.entry.now) (λ k. k ≡ Of_neighbour addr) result }
 {
     found_at(GapKey::Neighbour(addr), neighbour_values(site, addr))
 }
 
 // The gap at the neighbour at that place.
-fn held_at<R: RouterView>(site: &Site<'_, R>, place: usize) -> Option<Found>
+fn held_at<R: RouterView>(site: &RouterAt<'_, R>, place: usize) -> Option<Found>
     requires { IsSite R.state site.now }
-    ensures { IsLeast (seen R.state site.entry.now) (IsHeldAt (R.state site.entry.now.router.now) place) result }
+    ensures { IsLeastGap (seen R.state site.entry.now) (IsHeldAt (R.state site.entry.now.router.now) place) result }
 {
     match site.router.neighbour(place) {
         Some((addr, _, _)) => gap_at(site, *addr),
@@ -227,9 +232,9 @@ fn held_at<R: RouterView>(site: &Site<'_, R>, place: usize) -> Option<Found>
 }
 
 // The least gap among the neighbours that the router holds.
-fn held_gap<R: RouterView>(site: &Site<'_, R>) -> Option<Found>
+fn held_gap<R: RouterView>(site: &RouterAt<'_, R>) -> Option<Found>
     requires { IsSite R.state site.now }
-    ensures { IsLeast (seen R.state site.entry.now) (IsHeld (R.state site.entry.now.router.now)) result }
+    ensures { IsLeastGap (seen R.state site.entry.now) (IsNeighbourHeld (R.state site.entry.now.router.now)) result }
 {
     let mut best = None;
     for place in 0..site.router.neighbours() {
@@ -239,9 +244,9 @@ fn held_gap<R: RouterView>(site: &Site<'_, R>) -> Option<Found>
 }
 
 // The gap at the neighbour with the originator of router y.
-fn gap_of<R: RouterView>(site: &Site<'_, R>, y: usize) -> Option<Found>
+fn gap_of<R: RouterView>(site: &RouterAt<'_, R>, y: usize) -> Option<Found>
     requires { IsSite R.state site.now }
-    ensures { IsLeast (seen R.state site.entry.now) (IsOriginatorOf (states R.state site.entry.now) y) result }
+    ensures { IsLeastGap (seen R.state site.entry.now) (IsOriginatorOf (states R.state site.entry.now) y) result }
 {
     match router_at(site.routers, y) {
         Some(other) => gap_at(site, other.settings().originator()),
@@ -250,9 +255,9 @@ fn gap_of<R: RouterView>(site: &Site<'_, R>, y: usize) -> Option<Found>
 }
 
 // The least gap among the neighbours with the originators of all routers.
-fn given_gap<R: RouterView>(site: &Site<'_, R>) -> Option<Found>
+fn given_gap<R: RouterView>(site: &RouterAt<'_, R>) -> Option<Found>
     requires { IsSite R.state site.now }
-    ensures { IsLeast (seen R.state site.entry.now) (IsOriginatorBelow (states R.state site.entry.now)
+    ensures { IsLeastGap (seen R.state site.entry.now) (IsOriginatorBelow (states R.state site.entry.now)
         (length site.entry.now.routers.now)) result }
 {
     let mut best = None;
@@ -263,9 +268,9 @@ fn given_gap<R: RouterView>(site: &Site<'_, R>) -> Option<Found>
 }
 
 /// The least gap among the neighbours of router x.
-pub fn neighbour_gap<R: RouterView>(site: &Site<'_, R>) -> Option<Found>
+pub fn neighbour_gap<R: RouterView>(site: &RouterAt<'_, R>) -> Option<Found>
     requires { IsSite R.state site.now }
-    ensures { IsLeast (seen R.state site.entry.now) IsNeighbourKey result }
+    ensures { IsLeastGap (seen R.state site.entry.now) IsNeighbourKey result }
 {
     lesser(held_gap(site), given_gap(site))
 }

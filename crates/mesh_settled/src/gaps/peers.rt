@@ -2,11 +2,11 @@
 ghost use Rattle.std.specs.Prelude.{◌≡◌, ◌↔◌, IsTrue};
 ghost use Rattle.mesh_atoms.specs.Words.{IsValue};
 ghost use Rattle.mesh_atoms.specs.Settled.{IsStray};
-ghost use Rattle.mesh_settled.specs.Gaps.Peers.{IsSender, IsStrayAt, IsOrigin};
+ghost use Rattle.mesh_settled.specs.Gaps.Peers.{IsPeerOriginator, IsStrayAt, IsOrigin};
 ghost use Rattle.mesh_settled.specs.Gaps.Site.{states, IsSite};
 
 use crate::gaps::joints::{is_address_of, router_at};
-use crate::gaps::site::Site;
+use crate::gaps::site::RouterAt;
 use mesh_atoms::Addr4;
 use mesh_machine::RouterView;
 use mesh_paths::is_joined;
@@ -20,9 +20,9 @@ pub struct Origin {
 }
 
 // Whether router w is another one that is joined with router x, and has that originator.
-fn is_sender<R: RouterView>(site: &Site<'_, R>, from: Addr4, w: usize) -> bool
+fn is_sender<R: RouterView>(site: &RouterAt<'_, R>, from: Addr4, w: usize) -> bool
     requires { IsSite R.state site.now }
-    ensures { IsTrue result ↔ IsSender site.entry.now.scenario.now (states R.state site.entry.now) site.entry.now.x from w }
+    ensures { IsTrue result ↔ IsPeerOriginator site.entry.now.scenario.now (states R.state site.entry.now) site.entry.now.x from w }
 {
     if !is_joined(site.graph, site.x, w) {
         return false;
@@ -34,7 +34,7 @@ fn is_sender<R: RouterView>(site: &Site<'_, R>, from: Addr4, w: usize) -> bool
 }
 
 // Whether router v is neither x nor joined with it, and has the address.
-fn is_stray_at<R: RouterView>(site: &Site<'_, R>, v: usize, addr: Addr4) -> bool
+fn is_stray_at<R: RouterView>(site: &RouterAt<'_, R>, v: usize, addr: Addr4) -> bool
     requires { IsSite R.state site.now }
     ensures { IsTrue result ↔ IsStrayAt site.entry.now.scenario.now site.entry.now.x addr v }
 {
@@ -51,9 +51,9 @@ fn is_stray_at<R: RouterView>(site: &Site<'_, R>, v: usize, addr: Addr4) -> bool
 }
 
 // The router that is joined with router x, and has that originator.
-fn sender_of<R: RouterView>(site: &Site<'_, R>, from: Addr4) -> Option<usize>
+fn sender_of<R: RouterView>(site: &RouterAt<'_, R>, from: Addr4) -> Option<usize>
     requires { IsSite R.state site.now }
-    ensures { IsValue (IsSender site.entry.now.scenario.now (states R.state site.entry.now) site.entry.now.x from) result }
+    ensures { IsValue (IsPeerOriginator site.entry.now.scenario.now (states R.state site.entry.now) site.entry.now.x from) result }
 {
     for w in 0..site.routers.len() {
         if is_sender(site, from, w) {
@@ -64,7 +64,7 @@ fn sender_of<R: RouterView>(site: &Site<'_, R>, from: Addr4) -> Option<usize>
 }
 
 // Whether it is an address of a router that is neither x nor joined with it.
-fn is_stray<R: RouterView>(site: &Site<'_, R>, addr: Addr4) -> bool
+fn is_stray<R: RouterView>(site: &RouterAt<'_, R>, addr: Addr4) -> bool
     requires { IsSite R.state site.now }
     ensures { IsTrue result ↔ IsStray site.entry.now.scenario.now site.entry.now.x addr }
 {
@@ -77,7 +77,7 @@ fn is_stray<R: RouterView>(site: &Site<'_, R>, addr: Addr4) -> bool
 }
 
 /// The originator, as router x knows it.
-pub fn origin_of<R: RouterView>(site: &Site<'_, R>, addr: Addr4) -> Origin
+pub fn origin_of<R: RouterView>(site: &RouterAt<'_, R>, addr: Addr4) -> Origin
     requires { IsSite R.state site.now }
     ensures addr { result.addr ≡ addr }
     ensures origin { IsOrigin site.entry.now.scenario.now (states R.state site.entry.now) site.entry.now.x result }
@@ -92,7 +92,7 @@ pub fn origin_of<R: RouterView>(site: &Site<'_, R>, addr: Addr4) -> Origin
 }
 
 /// The originator, which may be the one that was asked for before.
-pub fn next_origin<R: RouterView>(site: &Site<'_, R>, last: Origin, addr: Addr4) -> Origin
+pub fn next_origin<R: RouterView>(site: &RouterAt<'_, R>, last: Origin, addr: Addr4) -> Origin
     requires site { IsSite R.state site.now }
     requires last { IsOrigin site.now.scenario.now (states R.state site.now) site.now.x last }
     ensures addr { result.addr ≡ addr }

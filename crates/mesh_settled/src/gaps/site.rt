@@ -3,7 +3,7 @@ use mesh_atoms::{Addr4, RadioGraph, Scenario};
 
 /// Router x, counted from 0, of the routers of a scenario at a moment, in ticks of 1/8192 s.
 #[derive(Drop)]
-pub struct Site<'a, R> {
+pub struct RouterAt<'a, R> {
     pub scenario: &'a Scenario,
     pub graph: &'a RadioGraph,
     pub routers: &'a [R],
@@ -14,7 +14,7 @@ pub struct Site<'a, R> {
 
 /// Interface j of router y, the one given, with which interface i of router x is joined, and its least address.
 #[derive(Drop)]
-pub struct End<'a, R> {
+pub struct JoinedPeer<'a, R> {
     pub i: usize,
     pub y: usize,
     pub other: &'a R,

@@ -6,17 +6,19 @@ ghost use Rattle.mesh_atoms.specs.Sound.{Sound};
 ghost use Rattle.mesh_atoms.specs.State.{IsOriginator};
 ghost use Rattle.mesh_machine.specs.expire.Table.{entry_of, value_of};
 ghost use Rattle.mesh_settled.specs.Gaps.Fields.{Field, Number};
-ghost use Rattle.mesh_settled.specs.Gaps.Found.{IsSide, IsTest, IsFieldTest, IsTestFrom, IsLeast};
+ghost use Rattle.mesh_settled.specs.Gaps.Found.{IsSide, IsTest, IsFieldTest, IsTestFrom, IsLeastGap};
 ghost use Rattle.mesh_settled.specs.Gaps.Joints.{IsOfSome};
 ghost use Rattle.mesh_settled.specs.Gaps.Peers.{IsOrigin, IsValueOf};
 ghost use Rattle.mesh_settled.specs.Gaps.Site.{states, seen, IsSite};
-ghost use Rattle.mesh_settled.specs.Gaps.Topics.{of_router, of_address, of_network, claim_fields, key_at, router_key, address_key, network_key, is_row_of, claim_if, held_key, held_count, IsHeldClaim, IsPresentClaim, IsClaimBy, IsHeldAt, IsHeld, IsToRows, IsByRows, IsByAllRows, IsTopicKey};
+ghost use Rattle.mesh_settled.specs.Gaps.Topics.{of_router, of_address, of_network, claim_fields, key_at, router_key, address_key, network_key, is_row_of, claim_if, held_key, held_count, IsHeldClaim, IsPresentClaim, IsClaimBy, IsHeldAt, IsTupleHeld, IsToRows, IsByRows, IsByAllRows, IsTopicKey};
 
-use crate::gaps::compare::{Apart, Difference, Values, compared, first_of, known_cost, numbers};
+use crate::gaps::compare::{
+    Apart, Difference, HeldAndPresent, compared, first_of, known_cost, numbers,
+};
 use crate::gaps::found::{Found, found_at, lesser};
 use crate::gaps::joints::router_at;
 use crate::gaps::peers::{Origin, next_origin, origin_of};
-use crate::gaps::site::Site;
+use crate::gaps::site::RouterAt;
 use mesh_atoms::{
     Addr4, AddressKey, AddressTuple, GapKey, Metric, NetAddr, NetworkKey, NetworkTuple, RouterKey,
     RouterTuple, TcRow, host,
@@ -25,7 +27,7 @@ use mesh_machine::RouterView;
 
 /// A kind of topology tuples.
 #[derive(Clone, Copy)]
-pub enum Topic {
+pub enum TopologyKind {
     Routers,
     Addresses,
     Networks,
@@ -40,16 +42,16 @@ pub struct Claim {
 }
 
 // The key of a tuple of that kind.
-fn key_at(topic: Topic, from: Addr4, net: NetAddr) -> GapKey
+fn key_at(topic: TopologyKind, from: Addr4, net: NetAddr) -> GapKey
     ensures { result ≡ key_at topic from net }
 {
     match topic {
-        Topic::Routers => GapKey::Router { from, to: net.addr },
-        Topic::Addresses => GapKey::Address {
+        TopologyKind::Routers => GapKey::Router { from, to: net.addr },
+        TopologyKind::Addresses => GapKey::Address {
             from,
             addr: net.addr,
         },
-        Topic::Networks => GapKey::Network { from, net },
+        TopologyKind::Networks => GapKey::Network { from, net },
     }
 }
 
@@ -60,18 +62,18 @@ fn is_net(dest: NetAddr, addr: Addr4, prefix: u8) -> bool
 }
 
 // Whether the row gives a tuple of that kind and destination.
-fn is_row_of(topic: Topic, net: NetAddr, row: &TcRow) -> bool
+fn is_row_of(topic: TopologyKind, net: NetAddr, row: &TcRow) -> bool
     ensures { result ≡ is_row_of topic net row.now }
 {
     match topic {
-        Topic::Routers => row.origin && is_net(row.dest, net.addr, 32),
-        Topic::Addresses => row.routable && is_net(row.dest, net.addr, 32),
-        Topic::Networks => !row.routable && is_net(row.dest, net.addr, net.prefix),
+        TopologyKind::Routers => row.origin && is_net(row.dest, net.addr, 32),
+        TopologyKind::Addresses => row.routable && is_net(row.dest, net.addr, 32),
+        TopologyKind::Networks => !row.routable && is_net(row.dest, net.addr, net.prefix),
     }
 }
 
 // What the row says of that destination.
-fn claim_if(topic: Topic, net: NetAddr, ansn: u16, row: &TcRow) -> Option<Claim>
+fn claim_if(topic: TopologyKind, net: NetAddr, ansn: u16, row: &TcRow) -> Option<Claim>
     ensures { result ≡ claim_if topic net ansn row.now }
 {
     if is_row_of(topic, net, row) {
@@ -89,7 +91,7 @@ fn claim_if(topic: Topic, net: NetAddr, ansn: u16, row: &TcRow) -> Option<Claim>
 }
 
 // What the first of the rows says that is of that destination.
-fn claim_in(rows: &[TcRow], topic: Topic, net: NetAddr, ansn: u16) -> Option<Claim>
+fn claim_in(rows: &[TcRow], topic: TopologyKind, net: NetAddr, ansn: u16) -> Option<Claim>
     ensures { IsValue (IsOfSome (λ row t. claim_if topic net ansn row ≡ Some t) rows.now) result }
 {
     for k in 0..rows.len() {
@@ -102,7 +104,7 @@ fn claim_in(rows: &[TcRow], topic: Topic, net: NetAddr, ansn: u16) -> Option<Cla
 }
 
 // What the TC of a router says of that destination.
-fn claim_of<R: RouterView>(other: &R, topic: Topic, net: NetAddr) -> Option<Claim>
+fn claim_of<R: RouterView>(other: &R, topic: TopologyKind, net: NetAddr) -> Option<Claim>
     requires { Sound (R.state other.now) }
     ensures { (from : Addr4) → IsOriginator (R.state other.now).settings from →
         IsValueOf (IsClaimBy (R.state other.now) topic from net) result }
@@ -112,8 +114,8 @@ fn claim_of<R: RouterView>(other: &R, topic: Topic, net: NetAddr) -> Option<Clai
 
 // What the TC of a router says of it that is joined with router x, and has that originator.
 fn given_claim<R: RouterView>(
-    site: &Site<'_, R>,
-    topic: Topic,
+    site: &RouterAt<'_, R>,
+    topic: TopologyKind,
     origin: &Origin,
     net: NetAddr,
 ) -> Option<Claim>
@@ -173,17 +175,22 @@ fn network_claim(found: Option<(&NetworkTuple, u64)>) -> Option<Claim>
 }
 
 // What the router's own tuple says.
-fn held_claim<R: RouterView>(router: &R, topic: Topic, from: Addr4, net: NetAddr) -> Option<Claim>
+fn held_claim<R: RouterView>(
+    router: &R,
+    topic: TopologyKind,
+    from: Addr4,
+    net: NetAddr,
+) -> Option<Claim>
     requires { Sound (R.state router.now) }
     ensures { IsSide (IsHeldClaim (R.state router.now) topic from net) (option_map claim_fields result) }
 {
     match topic {
-        Topic::Routers => router_claim(router.router_of(&RouterKey { from, to: net.addr })),
-        Topic::Addresses => address_claim(router.address_of(&AddressKey {
+        TopologyKind::Routers => router_claim(router.router_of(&RouterKey { from, to: net.addr })),
+        TopologyKind::Addresses => address_claim(router.address_of(&AddressKey {
             from,
             addr: net.addr,
         })),
-        Topic::Networks => network_claim(router.network_of(&NetworkKey { from, net })),
+        TopologyKind::Networks => network_claim(router.network_of(&NetworkKey { from, net })),
     }
 }
 
@@ -233,11 +240,11 @@ fn difference_of(held: Option<Claim>, given: Option<Claim>) -> Option<Difference
 
 // What the two sides say of a tuple of that kind, where they differ.
 fn claim_values<R: RouterView>(
-    site: &Site<'_, R>,
-    topic: Topic,
+    site: &RouterAt<'_, R>,
+    topic: TopologyKind,
     origin: &Origin,
     net: NetAddr,
-) -> Option<Values>
+) -> Option<HeldAndPresent>
     requires site { IsSite R.state site.now }
     requires origin { IsOrigin site.now.scenario.now (states R.state site.now) site.now.x origin.now }
     ensures { IsTest (seen R.state site.entry.now) (key_at topic origin.now.addr net) result }
@@ -253,14 +260,14 @@ fn claim_values<R: RouterView>(
 
 // The gap at the tuple of that kind, sender and destination.
 fn gap_at<R: RouterView>(
-    site: &Site<'_, R>,
-    topic: Topic,
+    site: &RouterAt<'_, R>,
+    topic: TopologyKind,
     origin: &Origin,
     net: NetAddr,
 ) -> Option<Found>
     requires site { IsSite R.state site.now }
     requires origin { IsOrigin site.now.scenario.now (states R.state site.now) site.now.x origin.now }
-    ensures { IsLeast (seen R.state site.entry.now) (λ k. k ≡ key_at topic origin.now.addr net) result }
+    ensures { IsLeastGap (seen R.state site.entry.now) (λ k. k ≡ key_at topic origin.now.addr net) result }
 {
     found_at(
         key_at(topic, origin.addr, net),
@@ -269,19 +276,19 @@ fn gap_at<R: RouterView>(
 }
 
 // How many tuples of that kind the router holds.
-fn held_count<R: RouterView>(router: &R, topic: Topic) -> usize
+fn held_count<R: RouterView>(router: &R, topic: TopologyKind) -> usize
     ensures { result ≡ held_count (R.state router.now) topic }
 {
     match topic {
-        Topic::Routers => router.routers(),
-        Topic::Addresses => router.addresses(),
-        Topic::Networks => router.networks(),
+        TopologyKind::Routers => router.routers(),
+        TopologyKind::Addresses => router.addresses(),
+        TopologyKind::Networks => router.networks(),
     }
 }
 
 // The sender and the destination of a router topology tuple.
 fn router_ends(found: Option<(&RouterKey, &RouterTuple, u64)>) -> Option<(Addr4, NetAddr)>
-    ensures { option_map (λ k. key_at Topic.Routers k.0 k.1) result ≡ option_map (λ e. router_key e.0) (entry_of found.entry) }
+    ensures { option_map (λ k. key_at TopologyKind.Routers k.0 k.1) result ≡ option_map (λ e. router_key e.0) (entry_of found.entry) }
 {
     match found {
         Some((key, _, _)) => Some((key.from, host(key.to))),
@@ -291,7 +298,7 @@ fn router_ends(found: Option<(&RouterKey, &RouterTuple, u64)>) -> Option<(Addr4,
 
 // The same of a routable address tuple.
 fn address_ends(found: Option<(&AddressKey, &AddressTuple, u64)>) -> Option<(Addr4, NetAddr)>
-    ensures { option_map (λ k. key_at Topic.Addresses k.0 k.1) result ≡ option_map (λ e. address_key e.0) (entry_of found.entry) }
+    ensures { option_map (λ k. key_at TopologyKind.Addresses k.0 k.1) result ≡ option_map (λ e. address_key e.0) (entry_of found.entry) }
 {
     match found {
         Some((key, _, _)) => Some((key.from, host(key.addr))),
@@ -301,7 +308,7 @@ fn address_ends(found: Option<(&AddressKey, &AddressTuple, u64)>) -> Option<(Add
 
 // The same of an attached network tuple.
 fn network_ends(found: Option<(&NetworkKey, &NetworkTuple, u64)>) -> Option<(Addr4, NetAddr)>
-    ensures { option_map (λ k. key_at Topic.Networks k.0 k.1) result ≡ option_map (λ e. network_key e.0) (entry_of found.entry) }
+    ensures { option_map (λ k. key_at TopologyKind.Networks k.0 k.1) result ≡ option_map (λ e. network_key e.0) (entry_of found.entry) }
 {
     match found {
         Some((key, _, _)) => Some((key.from, key.net)),
@@ -310,26 +317,30 @@ fn network_ends(found: Option<(&NetworkKey, &NetworkTuple, u64)>) -> Option<(Add
 }
 
 // The sender and the destination of the tuple at that place.
-fn held_ends<R: RouterView>(router: &R, topic: Topic, place: usize) -> Option<(Addr4, NetAddr)>
+fn held_ends<R: RouterView>(
+    router: &R,
+    topic: TopologyKind,
+    place: usize,
+) -> Option<(Addr4, NetAddr)>
     ensures { option_map (λ k. key_at topic k.0 k.1) result ≡ held_key (R.state router.now) topic place }
 {
     match topic {
-        Topic::Routers => router_ends(router.router(place)),
-        Topic::Addresses => address_ends(router.address(place)),
-        Topic::Networks => network_ends(router.network(place)),
+        TopologyKind::Routers => router_ends(router.router(place)),
+        TopologyKind::Addresses => address_ends(router.address(place)),
+        TopologyKind::Networks => network_ends(router.network(place)),
     }
 }
 
 // The gap at the tuple at that place, and its originator, which may be that of the tuple before.
 fn held_at<R: RouterView>(
-    site: &Site<'_, R>,
+    site: &RouterAt<'_, R>,
     last: &mut Origin,
-    topic: Topic,
+    topic: TopologyKind,
     place: usize,
 ) -> Option<Found>
     requires site { IsSite R.state site.now }
     requires last { IsOrigin site.now.scenario.now (states R.state site.now) site.now.x last.old }
-    ensures gap { IsLeast (seen R.state site.entry.now) (IsHeldAt (R.state site.entry.now.router.now) topic place) result }
+    ensures gap { IsLeastGap (seen R.state site.entry.now) (IsHeldAt (R.state site.entry.now.router.now) topic place) result }
     ensures last { IsOrigin site.entry.now.scenario.now (states R.state site.entry.now) site.entry.now.x last.new }
 {
     match held_ends(site.router, topic, place) {
@@ -343,9 +354,9 @@ fn held_at<R: RouterView>(
 }
 
 // The least gap at the tuples that the router holds.
-fn held_gap<R: RouterView>(site: &Site<'_, R>, topic: Topic) -> Option<Found>
+fn held_gap<R: RouterView>(site: &RouterAt<'_, R>, topic: TopologyKind) -> Option<Found>
     requires { IsSite R.state site.now }
-    ensures { IsLeast (seen R.state site.entry.now) (IsHeld (R.state site.entry.now.router.now) topic) result }
+    ensures { IsLeastGap (seen R.state site.entry.now) (IsTupleHeld (R.state site.entry.now.router.now) topic) result }
 {
     let mut best = None;
     let mut last = origin_of(site, site.router.settings().originator());
@@ -357,14 +368,14 @@ fn held_gap<R: RouterView>(site: &Site<'_, R>, topic: Topic) -> Option<Found>
 
 // The least gap at the tuples from that originator to the destinations of these rows.
 fn rows_gap<R: RouterView>(
-    site: &Site<'_, R>,
-    topic: Topic,
+    site: &RouterAt<'_, R>,
+    topic: TopologyKind,
     origin: &Origin,
     rows: &[TcRow],
 ) -> Option<Found>
     requires site { IsSite R.state site.now }
     requires origin { IsOrigin site.now.scenario.now (states R.state site.now) site.now.x origin.now }
-    ensures { IsLeast (seen R.state site.entry.now) (IsToRows topic origin.now.addr rows.now) result }
+    ensures { IsLeastGap (seen R.state site.entry.now) (IsToRows topic origin.now.addr rows.now) result }
 {
     let mut best = None;
     for n in 0..rows.len() {
@@ -374,9 +385,9 @@ fn rows_gap<R: RouterView>(
 }
 
 // The least gap at the tuples that the rows of router w give.
-fn gap_by<R: RouterView>(site: &Site<'_, R>, topic: Topic, w: usize) -> Option<Found>
+fn gap_by<R: RouterView>(site: &RouterAt<'_, R>, topic: TopologyKind, w: usize) -> Option<Found>
     requires { IsSite R.state site.now }
-    ensures { IsLeast (seen R.state site.entry.now) (IsByRows (states R.state site.entry.now) topic w) result }
+    ensures { IsLeastGap (seen R.state site.entry.now) (IsByRows (states R.state site.entry.now) topic w) result }
 {
     match router_at(site.routers, w) {
         Some(other) => {
@@ -388,9 +399,9 @@ fn gap_by<R: RouterView>(site: &Site<'_, R>, topic: Topic, w: usize) -> Option<F
 }
 
 // The least gap at the tuples that the rows of all routers give.
-fn given_gap<R: RouterView>(site: &Site<'_, R>, topic: Topic) -> Option<Found>
+fn given_gap<R: RouterView>(site: &RouterAt<'_, R>, topic: TopologyKind) -> Option<Found>
     requires { IsSite R.state site.now }
-    ensures { IsLeast (seen R.state site.entry.now) (IsByAllRows (states R.state site.entry.now) topic
+    ensures { IsLeastGap (seen R.state site.entry.now) (IsByAllRows (states R.state site.entry.now) topic
         (length site.entry.now.routers.now)) result }
 {
     let mut best = None;
@@ -401,9 +412,9 @@ fn given_gap<R: RouterView>(site: &Site<'_, R>, topic: Topic) -> Option<Found>
 }
 
 /// The least gap among the topology tuples of that kind of router x.
-pub fn topology_gap<R: RouterView>(site: &Site<'_, R>, topic: Topic) -> Option<Found>
+pub fn topology_gap<R: RouterView>(site: &RouterAt<'_, R>, topic: TopologyKind) -> Option<Found>
     requires { IsSite R.state site.now }
-    ensures { IsLeast (seen R.state site.entry.now) (IsTopicKey topic) result }
+    ensures { IsLeastGap (seen R.state site.entry.now) (IsTopicKey topic) result }
 {
     lesser(held_gap(site, topic), given_gap(site, topic))
 }

@@ -2,15 +2,15 @@
 ghost use Rattle.std.specs.Prelude.{◌≡◌, List, Some, None, Contains, option_map};
 ghost use Rattle.mesh_machine.specs.expire.Table.{value_of};
 ghost use Rattle.mesh_settled.specs.Gaps.Fields.{Field, two_hop_fields};
-ghost use Rattle.mesh_settled.specs.Gaps.Found.{IsTest, IsTestFrom, IsLeast};
+ghost use Rattle.mesh_settled.specs.Gaps.Found.{IsTest, IsTestFrom, IsLeastGap};
 ghost use Rattle.mesh_settled.specs.Gaps.Links.{IsLinkKey};
 ghost use Rattle.mesh_settled.specs.Gaps.Site.{states, seen, IsSite, IsEndAt};
 ghost use Rattle.mesh_settled.specs.Gaps.TwoHops.{if_far, key_by, IsTwoHopAt, IsHeldBy, IsGivenIn, IsKeyNear, IsGivenBy, IsKeyBy, IsKeyOf, IsKeyOfSome, IsTwoHopKey};
 
-use crate::gaps::compare::{Difference, Values, compared, first_of, known_cost, numbers};
+use crate::gaps::compare::{Difference, HeldAndPresent, compared, first_of, known_cost, numbers};
 use crate::gaps::found::{Found, found_at, lesser};
 use crate::gaps::joints::{is_address_of, least_address, router_at};
-use crate::gaps::site::{End, Site};
+use crate::gaps::site::{JoinedPeer, RouterAt};
 use mesh_atoms::{Addr4, GapKey, LinkKey, Pair, TwoHop, TwoHopKey};
 use mesh_machine::{RouterView, Said};
 
@@ -60,10 +60,10 @@ fn difference_of(held: Option<TwoHop>, given: Option<TwoHop>) -> Option<Differen
 
 // What the two sides say of the 2-hop tuple of that address by the link to that end, where they differ.
 fn two_hop_values<R: RouterView>(
-    site: &Site<'_, R>,
-    end: &End<'_, R>,
+    site: &RouterAt<'_, R>,
+    end: &JoinedPeer<'_, R>,
     addr: Addr4,
-) -> Option<Values>
+) -> Option<HeldAndPresent>
     requires site { IsSite R.state site.now }
     requires end { IsEndAt R.state site.now end.now }
     ensures { IsTest (seen R.state site.entry.now) (key_by end.entry.now.i end.entry.now.link addr) result }
@@ -81,10 +81,14 @@ fn two_hop_values<R: RouterView>(
 }
 
 // The gap at the 2-hop tuple of that address by the link to that end.
-fn gap_at<R: RouterView>(site: &Site<'_, R>, end: &End<'_, R>, addr: Addr4) -> Option<Found>
+fn gap_at<R: RouterView>(
+    site: &RouterAt<'_, R>,
+    end: &JoinedPeer<'_, R>,
+    addr: Addr4,
+) -> Option<Found>
     requires site { IsSite R.state site.now }
     requires end { IsEndAt R.state site.now end.now }
-    ensures { IsLeast (seen R.state site.entry.now) (λ k. k ≡ key_by end.entry.now.i end.entry.now.link addr) result }
+    ensures { IsLeastGap (seen R.state site.entry.now) (λ k. k ≡ key_by end.entry.now.i end.entry.now.link addr) result }
 {
     let key = TwoHopKey {
         link: LinkKey { addr: end.link },
@@ -97,10 +101,14 @@ fn gap_at<R: RouterView>(site: &Site<'_, R>, end: &End<'_, R>, addr: Addr4) -> O
 }
 
 // The gap at the 2-hop tuple that the router holds at that place, if it is by the link to that end.
-fn held_at<R: RouterView>(site: &Site<'_, R>, end: &End<'_, R>, place: usize) -> Option<Found>
+fn held_at<R: RouterView>(
+    site: &RouterAt<'_, R>,
+    end: &JoinedPeer<'_, R>,
+    place: usize,
+) -> Option<Found>
     requires site { IsSite R.state site.now }
     requires end { IsEndAt R.state site.now end.now }
-    ensures { IsLeast (seen R.state site.entry.now) (IsTwoHopAt
+    ensures { IsLeastGap (seen R.state site.entry.now) (IsTwoHopAt
         (R.state site.entry.now.router.now) end.entry.now.i end.entry.now.link place) result }
 {
     match site.router.two_hop(end.i, place) {
@@ -116,10 +124,10 @@ fn held_at<R: RouterView>(site: &Site<'_, R>, end: &End<'_, R>, place: usize) ->
 }
 
 // The least gap at the 2-hop tuples that the router holds by the link to that end.
-fn held_by<R: RouterView>(site: &Site<'_, R>, end: &End<'_, R>) -> Option<Found>
+fn held_by<R: RouterView>(site: &RouterAt<'_, R>, end: &JoinedPeer<'_, R>) -> Option<Found>
     requires site { IsSite R.state site.now }
     requires end { IsEndAt R.state site.now end.now }
-    ensures { IsLeast (seen R.state site.entry.now) (IsHeldBy
+    ensures { IsLeastGap (seen R.state site.entry.now) (IsHeldBy
         (R.state site.entry.now.router.now) end.entry.now.i end.entry.now.link) result }
 {
     let mut best = None;
@@ -130,10 +138,14 @@ fn held_by<R: RouterView>(site: &Site<'_, R>, end: &End<'_, R>) -> Option<Found>
 }
 
 // The least gap at the 2-hop tuples of these addresses by the link to that end.
-fn given_in<R: RouterView>(site: &Site<'_, R>, end: &End<'_, R>, addrs: &[Addr4]) -> Option<Found>
+fn given_in<R: RouterView>(
+    site: &RouterAt<'_, R>,
+    end: &JoinedPeer<'_, R>,
+    addrs: &[Addr4],
+) -> Option<Found>
     requires site { IsSite R.state site.now }
     requires end { IsEndAt R.state site.now end.now }
-    ensures { IsLeast (seen R.state site.entry.now) (IsGivenIn end.entry.now.i end.entry.now.link addrs.now) result }
+    ensures { IsLeastGap (seen R.state site.entry.now) (IsGivenIn end.entry.now.i end.entry.now.link addrs.now) result }
 {
     let mut best = None;
     for n in 0..addrs.len() {
@@ -143,10 +155,14 @@ fn given_in<R: RouterView>(site: &Site<'_, R>, end: &End<'_, R>, addrs: &[Addr4]
 }
 
 // The least gap at the 2-hop tuples of the addresses of the neighbour at that place of the router at that end.
-fn given_near<R: RouterView>(site: &Site<'_, R>, end: &End<'_, R>, place: usize) -> Option<Found>
+fn given_near<R: RouterView>(
+    site: &RouterAt<'_, R>,
+    end: &JoinedPeer<'_, R>,
+    place: usize,
+) -> Option<Found>
     requires site { IsSite R.state site.now }
     requires end { IsEndAt R.state site.now end.now }
-    ensures { IsLeast (seen R.state site.entry.now) (IsKeyNear end.entry.now.i end.entry.now.link
+    ensures { IsLeastGap (seen R.state site.entry.now) (IsKeyNear end.entry.now.i end.entry.now.link
         (R.state end.entry.now.other.now) place) result }
 {
     match end.other.neighbour(place) {
@@ -156,10 +172,10 @@ fn given_near<R: RouterView>(site: &Site<'_, R>, end: &End<'_, R>, place: usize)
 }
 
 // The least gap at the 2-hop tuples of the addresses of all neighbours of the router at that end.
-fn given_by<R: RouterView>(site: &Site<'_, R>, end: &End<'_, R>) -> Option<Found>
+fn given_by<R: RouterView>(site: &RouterAt<'_, R>, end: &JoinedPeer<'_, R>) -> Option<Found>
     requires site { IsSite R.state site.now }
     requires end { IsEndAt R.state site.now end.now }
-    ensures { IsLeast (seen R.state site.entry.now) (IsGivenBy end.entry.now.i end.entry.now.link
+    ensures { IsLeastGap (seen R.state site.entry.now) (IsGivenBy end.entry.now.i end.entry.now.link
         (R.state end.entry.now.other.now)) result }
 {
     let mut best = None;
@@ -170,10 +186,10 @@ fn given_by<R: RouterView>(site: &Site<'_, R>, end: &End<'_, R>) -> Option<Found
 }
 
 // The least gap at the 2-hop tuples by the link to that end.
-fn gap_by<R: RouterView>(site: &Site<'_, R>, end: &End<'_, R>) -> Option<Found>
+fn gap_by<R: RouterView>(site: &RouterAt<'_, R>, end: &JoinedPeer<'_, R>) -> Option<Found>
     requires site { IsSite R.state site.now }
     requires end { IsEndAt R.state site.now end.now }
-    ensures { IsLeast (seen R.state site.entry.now) (IsKeyBy end.entry.now.i end.entry.now.link) result }
+    ensures { IsLeastGap (seen R.state site.entry.now) (IsKeyBy end.entry.now.i end.entry.now.link) result }
 {
     let held = held_by(site, end);
     let given = given_by(site, end);
@@ -181,10 +197,10 @@ fn gap_by<R: RouterView>(site: &Site<'_, R>, end: &End<'_, R>) -> Option<Found>
 }
 
 // The least gap at the 2-hop tuples by the link to the end of that pair.
-fn gap_of<R: RouterView>(site: &Site<'_, R>, pair: &Pair) -> Option<Found>
+fn gap_of<R: RouterView>(site: &RouterAt<'_, R>, pair: &Pair) -> Option<Found>
     requires site { IsSite R.state site.now }
     requires pair { Contains site.now.graph.now.pairs pair.now }
-    ensures { IsLeast (seen R.state site.entry.now) (IsKeyOf (states R.state site.entry.now) site.entry.now.x pair.now) result }
+    ensures { IsLeastGap (seen R.state site.entry.now) (IsKeyOf (states R.state site.entry.now) site.entry.now.x pair.now) result }
 {
     if pair.from != site.x {
         return None;
@@ -192,7 +208,7 @@ fn gap_of<R: RouterView>(site: &Site<'_, R>, pair: &Pair) -> Option<Found>
     match router_at(site.routers, pair.to) {
         Some(other) => match least_address(other.settings(), pair.to_iface) {
             Some(link) => {
-                let end = End {
+                let end = JoinedPeer {
                     i: pair.from_iface,
                     y: pair.to,
                     other,
@@ -208,10 +224,10 @@ fn gap_of<R: RouterView>(site: &Site<'_, R>, pair: &Pair) -> Option<Found>
 }
 
 // The least gap at the 2-hop tuples by the links to the ends of these pairs.
-fn gap_in<R: RouterView>(site: &Site<'_, R>, pairs: &[Pair]) -> Option<Found>
+fn gap_in<R: RouterView>(site: &RouterAt<'_, R>, pairs: &[Pair]) -> Option<Found>
     requires site { IsSite R.state site.now }
     requires pairs { site.now.graph.now.pairs ≡ pairs.now }
-    ensures { IsLeast (seen R.state site.entry.now) (IsKeyOfSome
+    ensures { IsLeastGap (seen R.state site.entry.now) (IsKeyOfSome
         (states R.state site.entry.now) site.entry.now.x pairs.now) result }
 {
     let mut best = None;
@@ -222,10 +238,10 @@ fn gap_in<R: RouterView>(site: &Site<'_, R>, pairs: &[Pair]) -> Option<Found>
 }
 
 /// The least gap among the 2-hop tuples of a router that has no gap among its links.
-pub fn two_hop_gap<R: RouterView>(site: &Site<'_, R>) -> Option<Found>
+pub fn two_hop_gap<R: RouterView>(site: &RouterAt<'_, R>) -> Option<Found>
     requires site { IsSite R.state site.now }
-    requires links { IsLeast (seen R.state site.now) IsLinkKey None }
-    ensures { IsLeast (seen R.state site.entry.now) IsTwoHopKey result }
+    requires links { IsLeastGap (seen R.state site.now) IsLinkKey None }
+    ensures { IsLeastGap (seen R.state site.entry.now) IsTwoHopKey result }
 {
     gap_in(site, site.graph.pairs.as_slice())
 }

@@ -14,14 +14,14 @@ use Rattle.mesh_replay.specs.declared.answer.Replay.{Replay}
 use Rattle.mesh_replay.specs.declared.answer.Replay.TheVariants.{Yes, No}
 use Rattle.mesh_replay.specs.Command.Replays.{Replays, IsRefusedInput, answer_line}
 use Rattle.mesh_replay.proofs.CommandLemmas.Once.{answers_or_refuses}
-use Rattle.mesh_run.specs.Run.{States, WholeRun, SpendsTurns, FailsToAttach}
+use Rattle.mesh_run.specs.Run.{StatesSetup, WholeRouterRun, SpendsTurns, FailsToAttach}
 use Rattle.mesh_config.specs.Keys.Faults.{Fault, fault, first}
 use Rattle.mesh_tool.specs.declared.jobs.ending.Ending.{Ending}
 use Rattle.mesh_tool.specs.declared.jobs.ending.Ending.TheVariants as ending
 use Rattle.mesh_tool.specs.declared.jobs.status.Status.{Status}
 use Rattle.mesh_tool.specs.declared.jobs.status.Status.TheVariants as status
-use Rattle.mesh_tool.specs.Answers.Answers.{Due, Wrong_words, Read_fault, Refusal, Attach_fault, Turns_spent, Want_of_memory, Whole, All_well, Some_refused, Is_no_run, On_out, On_err, Ends, Is_whole, Is_told, Is_failed, Answers}
-use Rattle.mesh_tool.specs.Jobs.Calls.{Call, told_in, UsesNoAir, RunsSoFar, Asks, wants_in, most_octets, ReadsInput, ReadsNothing, IsInput, IsTooLong, WorksOn, RefusesOctets, IsAskedText, Refuses, Too_long, By_rule, TakesInput, Finishes, Before_reading, On_the_way}
+use Rattle.mesh_tool.specs.Answers.Answers.{FaultLine, Wrong_words, Read_fault, Refusal, Attach_fault, Turns_spent, Want_of_memory, Whole, All_well, Some_refused, Is_no_run, On_out, On_err, OutputStands, Is_whole, Is_told, Is_failed, Answers}
+use Rattle.mesh_tool.specs.Jobs.Calls.{Call, told_in, UsesNoAir, RunsSoFar, Asks, wants_in, most_octets, ReadsInput, ReadsNothing, IsInput, IsInputTooLong, WorksOn, RefusesOctets, IsAskedText, Refuses, Too_long, By_rule, TakesInput, Finishes, Before_reading, On_the_way}
 use Rattle.mesh_tool.specs.Jobs.Endings.{StopsReading, IsUnattached, IsSpent, TellsUnfit, Leaves, DoesJob, Unread, Worked, Does, No_command, Did, TellsLine, TellsEnding}
 use Rattle.mesh_tool.specs.Jobs.Lines.{words_line, read_line, refused_line, attach_line, turns_line, memory_line}
 use Rattle.mesh_tool.specs.declared.words.job.Job.{Job}
@@ -41,7 +41,7 @@ none_asked (Err place) j err h = cc
 -- ---- what stands on out and err
 
 -- a line that was told, or a front of it
-told : (call : Call) (line : List ℕ) (due answer : Status) → Due call due line → TellsLine call.err call.err' call.err_faults call.err_faults' line due answer → Ends call answer
+told : (call : Call) (line : List ℕ) (due answer : Status) → FaultLine call due line → TellsLine call.err call.err' call.err_faults call.err_faults' line due answer → OutputStands call answer
 told call line due answer cause (inl (same, stands)) = Is_told (record { line = line; due = rw same cause; stands = stands })
 told call line due answer cause (inr (failed, rose, size, stands)) = Is_failed failed (On_err due line cause rose size stands)
 
@@ -55,7 +55,7 @@ whole_packets call (job.Make kind routers seed) octets refused text asks works s
 whole_packets call job.Replay octets refused text asks works some is stands = absurd (omega (arith, some, is.0))
 
 ends_unread : (call : Call) (j : Job) (how : Ending) (answer : Status) → Asks call j → StopsReading (most_octets j) call how → Keeps call.out call.out'
-    → TellsEnding call.words call.err call.err' call.err_faults call.err_faults' how answer → Ends call answer
+    → TellsEnding call.words call.err call.err' call.err_faults call.err_faults' how answer → OutputStands call answer
 ends_unread call j ending.Read answer asks stops keeps tells = told call read_line status.Read answer (Read_fault j asks stops.0 keeps) tells
 ends_unread call j ending.TooLong answer asks stops keeps tells =
     told call (refused_line 47 (codes "input")) status.Refused answer (Refusal 47 (codes "input") j asks (Too_long stops) keeps) tells
@@ -70,7 +70,7 @@ ends_unread call j (ending.Turns turns moment end) answer asks stops keeps tells
 ends_unread call j ending.Write answer asks stops keeps tells = absurd stops
 
 unattached : (call : Call) (j : Job) (octets : List ℕ) (interface : ℕ) (answer : Status) → Asks call j → WorksOn j call octets → IsUnattached call j octets interface → Keeps call.out call.out'
-    → TellsLine call.err call.err' call.err_faults call.err_faults' (attach_line interface) status.Attach answer → Ends call answer
+    → TellsLine call.err call.err' call.err_faults call.err_faults' (attach_line interface) status.Attach answer → OutputStands call answer
 unattached call (job.Run turns) octets interface answer asks works (rose, fails) keeps tells =
     told call (attach_line interface) status.Attach answer (Attach_fault turns interface octets asks works fails rose keeps) tells
 unattached call (job.Dump recode) octets interface answer asks works is keeps tells = absurd is
@@ -79,17 +79,17 @@ unattached call (job.Make kind routers seed) octets interface answer asks works 
 unattached call job.Replay octets interface answer asks works is keeps tells = absurd is
 
 spent : (call : Call) (j : Job) (octets : List ℕ) (count greatest end : ℕ) (answer : Status) → Asks call j → WorksOn j call octets → IsSpent call j octets count greatest end → Keeps call.out call.out'
-    → TellsLine call.err call.err' call.err_faults call.err_faults' (turns_line count greatest end) status.Turns answer → Ends call answer
+    → TellsLine call.err call.err' call.err_faults call.err_faults' (turns_line count greatest end) status.Turns answer → OutputStands call answer
 spent call (job.Run turns) octets count greatest end answer asks works (same, spends) keeps tells =
     told call (turns_line count greatest end) status.Turns answer
-    (subst (λ (n : ℕ). Due call status.Turns (turns_line n greatest end)) (sym same) (Turns_spent turns greatest end octets asks works (subst (λ (n : ℕ). SpendsTurns octets n greatest end (told_in call)) same spends) keeps)) tells
+    (subst (λ (n : ℕ). FaultLine call status.Turns (turns_line n greatest end)) (sym same) (Turns_spent turns greatest end octets asks works (subst (λ (n : ℕ). SpendsTurns octets n greatest end (told_in call)) same spends) keeps)) tells
 spent call (job.Dump recode) octets count greatest end answer asks works is keeps tells = absurd is
 spent call (job.Emulate trace send probe) octets count greatest end answer asks works is keeps tells = absurd is
 spent call (job.Make kind routers seed) octets count greatest end answer asks works is keeps tells = absurd is
 spent call job.Replay octets count greatest end answer asks works is keeps tells = absurd is
 
 unfit : (call : Call) (j : Job) (octets : List ℕ) (answer : Status) → Asks call j → WorksOn j call octets → TellsUnfit j octets call.out call.out'
-    → answer ≡ status.NotARun → Appends call.err call.err' [] → Ends call answer
+    → answer ≡ status.NotARun → Appends call.err call.err' [] → OutputStands call answer
 unfit call job.Replay octets answer asks works (line, is, stands) same quiet = Is_whole (rw same (Is_no_run octets line asks works is stands)) quiet
 unfit call (job.Dump recode) octets answer asks works is same quiet = absurd is
 unfit call (job.Run turns) octets answer asks works is same quiet = absurd is
@@ -97,7 +97,7 @@ unfit call (job.Emulate trace send probe) octets answer asks works is same quiet
 unfit call (job.Make kind routers seed) octets answer asks works is same quiet = absurd is
 
 ends_worked : (call : Call) (j : Job) (octets : List ℕ) (how : Ending) (answer : Status) → Asks call j → WorksOn j call octets
-    → Leaves call j octets call.out call.out' call.out_faults call.out_faults' how → TellsEnding call.words call.err call.err' call.err_faults call.err_faults' how answer → Ends call answer
+    → Leaves call j octets call.out call.out' call.out_faults call.out_faults' how → TellsEnding call.words call.err call.err' call.err_faults call.err_faults' how answer → OutputStands call answer
 ends_worked call j octets ending.Done answer asks works (text, is, stands) (same, quiet) =
     Is_whole (rw same (All_well j asks (record { octets = octets; works_on = works; text = text; is_text = is; stands = stands }))) quiet
 ends_worked call j octets ending.Packets answer asks works (refused, some, text, is, stands) (same, quiet) =
@@ -115,7 +115,7 @@ ends_worked call j octets ending.Words answer asks works leaves tells = absurd l
 ends_worked call j octets ending.Read answer asks works leaves tells = absurd leaves
 ends_worked call j octets ending.TooLong answer asks works leaves tells = absurd leaves
 
-ends : (call : Call) (how : Ending) (answer : Status) → Does call how → TellsEnding call.words call.err call.err' call.err_faults call.err_faults' how answer → Ends call answer
+ends : (call : Call) (how : Ending) (answer : Status) → Does call how → TellsEnding call.words call.err call.err' call.err_faults call.err_faults' how answer → OutputStands call answer
 ends call how answer (No_command is err reads keeps air) tells =
     told call (words_line call.words) status.Words answer (Wrong_words err reads keeps) (subst (λ (e : Ending). TellsEnding call.words call.err call.err' call.err_faults call.err_faults' e answer) is tells)
 ends call how answer (Did j asks (Unread reads stops keeps air)) tells = ends_unread call j how answer asks stops keeps tells
@@ -123,7 +123,7 @@ ends call how answer (Did j asks (Worked octets works leaves uses)) tells = ends
 
 -- ---- what a job that is done left
 
-no_done : {call : Call} {answer : Status} {line : List ℕ} → Due call answer line → answer ≡ status.Done → ⊥
+no_done : {call : Call} {answer : Status} {line : List ℕ} → FaultLine call answer line → answer ≡ status.Done → ⊥
 no_done (Wrong_words err reads keeps) same = cc
 no_done (Read_fault j asks rose keeps) same = cc
 no_done (Refusal number key j asks refuses keeps) same = cc
@@ -136,7 +136,7 @@ whole_finishes call j (All_well i asked fin) same asks = subst (λ (k : Job). Fi
 whole_finishes call j (Some_refused recode refused asked some fin) same asks = let bad : ⊥ = cc in absurd bad
 whole_finishes call j (Is_no_run octets line asked works is stands) same asks = let bad : ⊥ = cc in absurd bad
 
-finishes : (call : Call) (answer : Status) (j : Job) → Ends call answer → answer ≡ status.Done → Asks call j → Finishes call j 0
+finishes : (call : Call) (answer : Status) (j : Job) → OutputStands call answer → answer ≡ status.Done → Asks call j → Finishes call j 0
 finishes call answer j (Is_whole whole quiet) same asks = whole_finishes call j whole same asks
 finishes call answer j (Is_told t) same asks = absurd (no_done t.due same)
 finishes call answer j (Is_failed failed f) same asks = let bad : ⊥ = cc in absurd bad
@@ -146,7 +146,7 @@ dumped : (call : Call) (recode : Bool) → Finishes call (job.Dump recode) 0
 dumped call recode fin = (fin.octets, fin.works_on, fin.text, fin.is_text, fin.stands)
 
 ran : (call : Call) (turns : ℕ) → Finishes call (job.Run turns) 0
-    → (octets : List ℕ) × IsInput 1048576 call octets × (r : WholeRun octets turns (told_in call)) × Appends call.out call.out' r.text
+    → (octets : List ℕ) × IsInput 1048576 call octets × (r : WholeRouterRun octets turns (told_in call)) × Appends call.out call.out' r.text
 ran call turns fin = (fin.octets, fin.works_on, fin.is_text.1, rw (← fin.is_text.2) fin.stands)
 
 emulated : (call : Call) (trace : Bool) (send : Option (ℕ × Addr4)) (probe : Option ℕ) → Finishes call (job.Emulate trace send probe) 0
@@ -169,7 +169,7 @@ unfit_is (All_well j asks fin) same = let bad : ⊥ = cc in absurd bad
 unfit_is (Some_refused recode refused asks some fin) same = let bad : ⊥ = cc in absurd bad
 unfit_is (Is_no_run octets line asks works is stands) same = (asks, octets, works, line, is, stands)
 
-no_unfit : {call : Call} {answer : Status} {line : List ℕ} → Due call answer line → answer ≡ status.NotARun → ⊥
+no_unfit : {call : Call} {answer : Status} {line : List ℕ} → FaultLine call answer line → answer ≡ status.NotARun → ⊥
 no_unfit (Wrong_words err reads keeps) same = cc
 no_unfit (Read_fault j asks rose keeps) same = cc
 no_unfit (Refusal number key j asks refuses keeps) same = cc
@@ -177,7 +177,7 @@ no_unfit (Attach_fault turns interface octets asks works fails rose keeps) same 
 no_unfit (Turns_spent turns greatest end octets asks works spends keeps) same = cc
 no_unfit (Want_of_memory j asks stops) same = cc
 
-not_a_run : (call : Call) (answer : Status) → Ends call answer → answer ≡ status.NotARun → Asks call job.Replay
+not_a_run : (call : Call) (answer : Status) → OutputStands call answer → answer ≡ status.NotARun → Asks call job.Replay
     × (octets : List ℕ) × IsInput 67108864 call octets × (line : ℕ) × Replays octets (No line) × Appends call.out call.out' (answer_line (No line)) × Appends call.err call.err' []
 not_a_run call answer (Is_whole whole quiet) same = let (asks, octets, works, line, is, stands) = unfit_is whole same in (asks, octets, works, line, is, stands, quiet)
 not_a_run call answer (Is_told t) same = absurd (no_unfit t.due same)
@@ -192,7 +192,7 @@ no_refusal (Is_no_run octets line asks works is stands) same = cc
 abbrev pub Unreplayed : Call → Type 0
 Unreplayed call = (number : ℕ) × (key : List ℕ) × Refuses job.Replay call number key × Keeps call.out call.out' × Appends call.err call.err' (refused_line number key)
 
-refusal_told : {call : Call} {answer : Status} {line : List ℕ} → Due call answer line → answer ≡ status.Refused → Asks call job.Replay → Appends call.err call.err' line → Unreplayed call
+refusal_told : {call : Call} {answer : Status} {line : List ℕ} → FaultLine call answer line → answer ≡ status.Refused → Asks call job.Replay → Appends call.err call.err' line → Unreplayed call
 refusal_told (Wrong_words err reads keeps) same asks stands = let bad : ⊥ = cc in absurd bad
 refusal_told (Read_fault j asked rose keeps) same asks stands = let bad : ⊥ = cc in absurd bad
 refusal_told {call} (Refusal number key j asked refuses keeps) same asks stands =
@@ -201,7 +201,7 @@ refusal_told (Attach_fault turns interface octets asked works fails rose keeps) 
 refusal_told (Turns_spent turns greatest end octets asked works spends keeps) same asks stands = let bad : ⊥ = cc in absurd bad
 refusal_told (Want_of_memory j asked stops) same asks stands = let bad : ⊥ = cc in absurd bad
 
-not_replayed : (call : Call) (answer : Status) → Ends call answer → answer ≡ status.Refused → Asks call job.Replay → Unreplayed call
+not_replayed : (call : Call) (answer : Status) → OutputStands call answer → answer ≡ status.Refused → Asks call job.Replay → Unreplayed call
 not_replayed call answer (Is_whole whole quiet) same asks = absurd (no_refusal whole same)
 not_replayed call answer (Is_told t) same asks = refusal_told t.due same asks t.stands
 not_replayed call answer (Is_failed failed f) same asks = let bad : ⊥ = cc in absurd bad
@@ -213,7 +213,7 @@ whole_asks (All_well j asks fin) = (j, asks)
 whole_asks (Some_refused recode refused asks some fin) = (job.Dump recode, asks)
 whole_asks (Is_no_run octets line asks works is stands) = (job.Replay, asks)
 
-wrong_words : {call : Call} {answer : Status} {line : List ℕ} → Due call answer line → IsErr (words_of call.words) → (answer ≡ status.Words) × ReadsNothing call
+wrong_words : {call : Call} {answer : Status} {line : List ℕ} → FaultLine call answer line → IsErr (words_of call.words) → (answer ≡ status.Words) × ReadsNothing call
 wrong_words (Wrong_words err reads keeps) wrong = (refl, reads)
 wrong_words {call} (Read_fault j asks rose keeps) wrong = absurd (none_asked (words_of call.words) j wrong asks)
 wrong_words {call} (Refusal number key j asks refuses keeps) wrong = absurd (none_asked (words_of call.words) j wrong asks)
@@ -221,7 +221,7 @@ wrong_words {call} (Attach_fault turns interface octets asks works fails rose ke
 wrong_words {call} (Turns_spent turns greatest end octets asks works spends keeps) wrong = absurd (none_asked (words_of call.words) (job.Run turns) wrong asks)
 wrong_words {call} (Want_of_memory j asks stops) wrong = absurd (none_asked (words_of call.words) j wrong asks)
 
-no_command : (call : Call) (answer : Status) → Ends call answer → IsErr (words_of call.words) → ((answer ≡ status.Words) ⊎ (answer ≡ status.Write)) × ReadsNothing call
+no_command : (call : Call) (answer : Status) → OutputStands call answer → IsErr (words_of call.words) → ((answer ≡ status.Words) ⊎ (answer ≡ status.Write)) × ReadsNothing call
 no_command call answer (Is_whole whole quiet) wrong = let asked = whole_asks whole in absurd (none_asked (words_of call.words) asked.0 wrong asked.1)
 no_command call answer (Is_told t) wrong = let w = wrong_words t.due wrong in (inl w.0, w.1)
 no_command call answer (Is_failed failed (On_out j asks front rose quiet)) wrong = absurd (none_asked (words_of call.words) j wrong asks)
@@ -319,7 +319,7 @@ whole_not_long (All_well i asked fin) none = none i fin.octets asked fin.works_o
 whole_not_long (Some_refused recode refused asked some fin) none = none (job.Dump recode) fin.octets asked fin.works_on
 whole_not_long (Is_no_run octets line asked works is stands) none = none job.Replay octets asked works
 
-long_due : {call : Call} {answer : Status} {line : List ℕ} (j : Job) → Due call answer line → Asks call j →
+long_due : {call : Call} {answer : Status} {line : List ℕ} (j : Job) → FaultLine call answer line → Asks call j →
     ((i : Job) (octets : List ℕ) → Asks call i → WorksOn i call octets → ⊥) → (Rose call.read_faults call.read_faults' → ⊥)
     → (answer ≡ status.Refused) ⊎ ((answer ≡ status.Write) ⊎ (answer ≡ status.Memory))
 long_due {call} j (Wrong_words err reads keeps) asks none calm = absurd (none_asked (words_of call.words) j err asks)
@@ -329,7 +329,7 @@ long_due j (Attach_fault turns interface octets asked works fails rose keeps) as
 long_due j (Turns_spent turns greatest end octets asked works spends keeps) asks none calm = absurd (none (job.Run turns) octets asked works)
 long_due j (Want_of_memory i asked stops) asks none calm = inr (inr refl)
 
-too_long : (call : Call) (answer : Status) → Ends call answer → (j : Job) (all : List ℕ) → Asks call j → ReadsInput j → call.left ≡ Some all → most_octets j < length all
+too_long : (call : Call) (answer : Status) → OutputStands call answer → (j : Job) (all : List ℕ) → Asks call j → ReadsInput j → call.left ≡ Some all → most_octets j < length all
     → (Rose call.read_faults call.read_faults' → ⊥) → (answer ≡ status.Refused) ⊎ ((answer ≡ status.Write) ⊎ (answer ≡ status.Memory))
 too_long call answer (Is_whole whole quiet) j all asks reads is long calm = absurd (whole_not_long whole (long_works call j all asks reads is long))
 too_long call answer (Is_told t) j all asks reads is long calm = long_due j t.due asks (long_works call j all asks reads is long) calm
@@ -369,7 +369,7 @@ run_not_refused call turns j octets all number key asked asks works is clear ref
     clear_not_refused octets all number key (whole_input all is works) clear
     (subst (λ (k : Job). RefusesOctets call.words k all number key) (same_job (words_of call.words) j (job.Run turns) asks asked) refused)
 
-refusal_due : {call : Call} {answer : Status} {line : List ℕ} (j : Job) (all : List ℕ) (number : ℕ) (key : List ℕ) → Due call answer line → Asks call j → call.left ≡ Some all →
+refusal_due : {call : Call} {answer : Status} {line : List ℕ} (j : Job) (all : List ℕ) (number : ℕ) (key : List ℕ) → FaultLine call answer line → Asks call j → call.left ≡ Some all →
     RefusesOctets call.words j all number key → (Rose call.read_faults call.read_faults' → ⊥)
     → (answer ≡ status.Refused) ⊎ ((answer ≡ status.Write) ⊎ (answer ≡ status.Memory))
 refusal_due {call} j all number key (Wrong_words err reads keeps) asks is refused calm = absurd (none_asked (words_of call.words) j err asks)
@@ -381,13 +381,13 @@ refusal_due {call} j all number key (Turns_spent turns greatest end octets asked
     absurd (run_not_refused call turns j octets all number key asked asks works is spends.stated.clear refused)
 refusal_due j all number key (Want_of_memory i asked stops) asks is refused calm = inr (inr refl)
 
-refuses : (call : Call) (answer : Status) → Ends call answer → (j : Job) (octets : List ℕ) (number : ℕ) (key : List ℕ) → Asks call j → call.left ≡ Some octets → RefusesOctets call.words j octets number key
+refuses : (call : Call) (answer : Status) → OutputStands call answer → (j : Job) (octets : List ℕ) (number : ℕ) (key : List ℕ) → Asks call j → call.left ≡ Some octets → RefusesOctets call.words j octets number key
     → (Rose call.read_faults call.read_faults' → ⊥) → (answer ≡ status.Refused) ⊎ ((answer ≡ status.Write) ⊎ (answer ≡ status.Memory))
 refuses call answer (Is_whole whole quiet) j octets number key asks is refused calm = absurd (whole_not_refused j octets number key whole asks is refused)
 refuses call answer (Is_told t) j octets number key asks is refused calm = refusal_due j octets number key t.due asks is refused calm
 refuses call answer (Is_failed failed f) j octets number key asks is refused calm = inr (inl failed)
 
-long_not_taken : (call : Call) (most : ℕ) (all : List ℕ) → call.left ≡ Some all → length all ≤ most → IsTooLong most call → ⊥
+long_not_taken : (call : Call) (most : ℕ) (all : List ℕ) → call.left ≡ Some all → length all ≤ most → IsInputTooLong most call → ⊥
 long_not_taken call most all is few long = omega (arith, part_taken call.left call.left' all long.octets is long.read, long.long)
 
 takes_all : (call : Call) (number : ℕ) (key : List ℕ) (j : Job) → ((kind : Kind) (routers seed : ℕ) → j ≡ job.Make kind routers seed → ReadsNothing call)
@@ -411,10 +411,10 @@ attached_all : (call : Call) (turns : ℕ) (j : Job) (interface : ℕ) (octets :
     FailsToAttach octets interface (told_in call) → ⊥
 attached_all call turns j interface octets asked asks takes works fails =
     let (all, is, few, clear, attached) = subst (λ (k : Job). TakesInput k call) (same_job (words_of call.words) j (job.Run turns) asks asked) takes in
-    let stated : States all fails.setup = subst (λ (o : List ℕ). States o fails.setup) (whole_input all is works) fails.stated in
+    let stated : StatesSetup all fails.setup = subst (λ (o : List ℕ). StatesSetup o fails.setup) (whole_input all is works) fails.stated in
     omega (arith, attached fails.setup stated, fails.is_attached.attached, fails.fewer)
 
-memory_due : {call : Call} {answer : Status} {line : List ℕ} (j : Job) → Due call answer line → Asks call j → TakesInput j call → ((number : ℕ) (key : List ℕ) → Refuses j call number key → ⊥)
+memory_due : {call : Call} {answer : Status} {line : List ℕ} (j : Job) → FaultLine call answer line → Asks call j → TakesInput j call → ((number : ℕ) (key : List ℕ) → Refuses j call number key → ⊥)
     → (Rose call.read_faults call.read_faults' → ⊥) → (answer ≡ status.Turns) ⊎ (answer ≡ status.Memory)
 memory_due {call} j (Wrong_words err reads keeps) asks input takes calm = absurd (none_asked (words_of call.words) j err asks)
 memory_due j (Read_fault i asked rose keeps) asks input takes calm = absurd (calm rose)
@@ -437,7 +437,7 @@ due_status : (j : Job) (answer : Status) → (answer ≡ status.Turns) ⊎ (answ
 due_status j answer (inl turns) = inr (inr (inl turns))
 due_status j answer (inr memory) = inr (inr (inr (inr memory)))
 
-complete : (call : Call) (answer : Status) → Ends call answer → (j : Job) → Asks call j → TakesInput j call → ((number : ℕ) (key : List ℕ) → Refuses j call number key → ⊥)
+complete : (call : Call) (answer : Status) → OutputStands call answer → (j : Job) → Asks call j → TakesInput j call → ((number : ℕ) (key : List ℕ) → Refuses j call number key → ⊥)
     → (Rose call.read_faults call.read_faults' → ⊥) → (Rose call.out_faults call.out_faults' → ⊥) → (Rose call.err_faults call.err_faults' → ⊥)
     → IsThrough j answer
 complete call answer (Is_whole whole quiet) j asks input takes calm out err = whole_status j asks whole
@@ -506,7 +506,7 @@ with_err err err' faults faults' = record {
 pub answers : (call : Call) (how : Ending) (answer : Status) → Does call how → TellsEnding call.words call.err call.err' call.err_faults call.err_faults' how answer
     → call.read_faults ≤ call.read_faults' → call.out_faults ≤ call.out_faults' → call.err_faults ≤ call.err_faults' → call.air_faults ≤ call.air_faults' → Answers call answer
 answers call how answer does tells later_input later_out later_err later_air =
-    let e : Ends call answer = ends call how answer does tells in
+    let e : OutputStands call answer = ends call how answer does tells in
     record {
       ends = e;
       dumped = λ recode same asks. dumped call recode (finishes call answer (job.Dump recode) e same asks);

@@ -8,8 +8,8 @@ use Rattle.mesh_atoms.specs.Literals.{only_if}
 use Rattle.mesh_tool.specs.declared.words.job.Job.{Job}
 use Rattle.mesh_tool.specs.declared.words.job.Job.TheVariants as job
 use Rattle.mesh_emulate.specs.declared.making.kind.Kind.{Kind}
-use Rattle.mesh_tool.specs.declared.words.asked.Asked.{Asked}
-use Rattle.mesh_tool.specs.declared.words.asked.Asked.TheVariants as asked
+use Rattle.mesh_tool.specs.declared.words.asked.Parsing.{Parsing}
+use Rattle.mesh_tool.specs.declared.words.asked.Parsing.TheVariants as asked
 use Rattle.mesh_tool.specs.Words.Words.{is_word, turns_of, kind_of, routers_of, seed_of, no_emulate_options, command_word, takes, or_at, read_on, words_of}
 use Rattle.mesh_tool.specs.Words.CommandLines.{InAnyOrder, OptionWords, make_options, AreEmulateOptions, AskFor}
 use Rattle.mesh_tool.proofs.WordsLemmas.EmulateLines.{ReadFrom, comes_read, all_read, option_on, reads_on}
@@ -47,13 +47,13 @@ asked_is_read words job.Replay asks = ap words_of (asks.whole ∙ ap (behind (co
 -- ---- what is read is asked for
 
 -- where nothing more is taken
-none_more : (asked : Asked) (j : Job) (place : ℕ) (words : List (List ℕ)) (got : Job) → ((word : List ℕ) (next : Asked) → takes asked place word ≡ Some next → ⊥)
+none_more : (asked : Parsing) (j : Job) (place : ℕ) (words : List (List ℕ)) (got : Job) → ((word : List ℕ) (next : Parsing) → takes asked place word ≡ Some next → ⊥)
     → or_at place (Some j) Ok ≡ read_on asked place [] → read_on asked place words ≡ Ok got → (words ≡ []) × (got ≡ j)
 none_more asked j place [] got none is h = (refl, sym (same_job j got (is ∙ h)))
 none_more asked j place (word ∷ words) got none is h =
     let step = or_at_ok place (takes asked place word) (λ next. read_on next (place + 1) words) got h in absurd (none word step.0 step.1)
 
-never : (word name : List ℕ) (next found : Asked) → only_if (is_word word name && false) next ≡ Some found → ⊥
+never : (word name : List ℕ) (next found : Parsing) → only_if (is_word word name && false) next ≡ Some found → ⊥
 never word name next found h = let s = only_stands word name false next found h in let bad : false ≡ true = s.1 in cc
 
 dump_asked : (word : List ℕ) (words : List (List ℕ)) (j : Job) → word ≡ codes "dump" → read_on (asked.Dump false) 1 words ≡ Ok j → AskFor (word ∷ words) j
@@ -61,10 +61,10 @@ dump_asked word [] j is h = subst (AskFor (word ∷ [])) (same_job _ j h) (recor
 dump_asked word (w ∷ words) j is h =
     let step = or_at_ok 1 (takes (asked.Dump false) 1 w) (λ next. read_on next 2 words) j h in
     let s = only_stands w (codes "--recode") true (asked.Dump true) step.0 step.1 in
-    let end = none_more (asked.Dump true) (job.Dump true) 2 words j (λ v next k. never v (codes "--recode") (asked.Dump true) next k) refl (subst (λ (next : Asked). read_on next 2 words ≡ Ok j) s.2 step.2) in
+    let end = none_more (asked.Dump true) (job.Dump true) 2 words j (λ v next k. never v (codes "--recode") (asked.Dump true) next k) refl (subst (λ (next : Parsing). read_on next 2 words ≡ Ok j) s.2 step.2) in
     subst (AskFor (word ∷ w ∷ words)) (sym end.1) (record { options = (codes "--recode" ∷ []) ∷ []; are = refl; whole = rw (is, s.0, end.0) refl })
 
-turns_read : (place : ℕ) (read : Option ℕ) (f : Asked → Result Job ℕ) (j : Job) → or_at place (option_map (λ turns. asked.Run (Some turns)) read) f ≡ Ok j
+turns_read : (place : ℕ) (read : Option ℕ) (f : Parsing → Result Job ℕ) (j : Job) → or_at place (option_map (λ turns. asked.Run (Some turns)) read) f ≡ Ok j
     → (turns : ℕ) × (read ≡ Some turns) × (f (asked.Run (Some turns)) ≡ Ok j)
 turns_read place (Some turns) f j h = (turns, refl, h)
 turns_read place None f j h = let bad : ⊥ = cc in absurd bad
@@ -81,7 +81,7 @@ run_asked word [] j is h = let bad : ⊥ = cc in absurd bad
 run_asked word (w ∷ words) j is h =
     let step = or_at_ok 1 (takes (asked.Run None) 1 w) (λ next. read_on next 2 words) j h in
     let s = only_stands w (codes "--turns") true asked.Turns step.0 step.1 in
-    turns_asked word w words j is s.0 (subst (λ (next : Asked). read_on next 2 words ≡ Ok j) s.2 step.2)
+    turns_asked word w words j is s.0 (subst (λ (next : Parsing). read_on next 2 words ≡ Ok j) s.2 step.2)
 
 read_asked : (word : List ℕ) (words : List (List ℕ)) (j : Job) → word ≡ codes "emulate" → ReadFrom false None None 1 words j → AskFor (word ∷ words) j
 read_asked word words j is r =
@@ -100,7 +100,7 @@ emulate_asked word (w ∷ words) j is h =
       | inr (without, (next, option, rest)) ↦ make_asked word (w ∷ words) j is (makes_from None None None 1 (w ∷ words) j (rw option rest))
     ]
 
-no_word : (next : Asked) → (let x : Option Asked = None in x) ≡ Some next → ⊥
+no_word : (next : Parsing) → (let x : Option Parsing = None in x) ≡ Some next → ⊥
 no_word next h = cc
 
 replay_asked : (word : List ℕ) (words : List (List ℕ)) (j : Job) → word ≡ codes "replay" → read_on asked.Replay 1 words ≡ Ok j → AskFor (word ∷ words) j
@@ -113,13 +113,13 @@ read_is_asked [] j h = let bad : ⊥ = cc in absurd bad
 read_is_asked (word ∷ words) j h =
     let step = or_at_ok 0 (command_word word) (λ next. read_on next 1 words) j h in
     elim (if_some (is_word word (codes "dump")) (asked.Dump false) _ step.0 step.1) [
-      | inl (test, e) ↦ dump_asked word words j ((bytes_decides word (codes "dump")).0 test) (subst (λ (next : Asked). read_on next 1 words ≡ Ok j) e step.2)
+      | inl (test, e) ↦ dump_asked word words j ((bytes_decides word (codes "dump")).0 test) (subst (λ (next : Parsing). read_on next 1 words ≡ Ok j) e step.2)
       | inr (other, rest) ↦ elim (if_some (is_word word (codes "run")) (asked.Run None) _ step.0 rest) [
-        | inl (test, e) ↦ run_asked word words j ((bytes_decides word (codes "run")).0 test) (subst (λ (next : Asked). read_on next 1 words ≡ Ok j) e step.2)
+        | inl (test, e) ↦ run_asked word words j ((bytes_decides word (codes "run")).0 test) (subst (λ (next : Parsing). read_on next 1 words ≡ Ok j) e step.2)
         | inr (other', rest') ↦ elim (if_some (is_word word (codes "emulate")) (asked.Emulate no_emulate_options) _ step.0 rest') [
-          | inl (test, e) ↦ emulate_asked word words j ((bytes_decides word (codes "emulate")).0 test) (subst (λ (next : Asked). read_on next 1 words ≡ Ok j) e step.2)
+          | inl (test, e) ↦ emulate_asked word words j ((bytes_decides word (codes "emulate")).0 test) (subst (λ (next : Parsing). read_on next 1 words ≡ Ok j) e step.2)
           | inr (other'', rest'') ↦ elim (if_some (is_word word (codes "replay")) asked.Replay None step.0 rest'') [
-            | inl (test, e) ↦ replay_asked word words j ((bytes_decides word (codes "replay")).0 test) (subst (λ (next : Asked). read_on next 1 words ≡ Ok j) e step.2)
+            | inl (test, e) ↦ replay_asked word words j ((bytes_decides word (codes "replay")).0 test) (subst (λ (next : Parsing). read_on next 1 words ≡ Ok j) e step.2)
             | inr (other''', none) ↦ let bad : ⊥ = cc in absurd bad
           ]
         ]

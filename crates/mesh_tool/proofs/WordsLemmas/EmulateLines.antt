@@ -7,12 +7,12 @@ use Rattle.mesh_atoms.specs.declared.addr.Addr4.{Addr4}
 use Rattle.mesh_atoms.specs.Literals.{◌>>=◌, address_of}
 use Rattle.mesh_tool.specs.declared.words.job.Job.{Job}
 use Rattle.mesh_tool.specs.declared.words.job.Job.TheVariants as job
-use Rattle.mesh_tool.specs.declared.words.asked.Asked.{Asked}
-use Rattle.mesh_tool.specs.declared.words.asked.Asked.TheVariants as asked
+use Rattle.mesh_tool.specs.declared.words.asked.Parsing.{Parsing}
+use Rattle.mesh_tool.specs.declared.words.asked.Parsing.TheVariants as asked
 use Rattle.mesh_tool.specs.declared.words.asked.EmulateOptions.{EmulateOptions}
 use Rattle.mesh_tool.specs.declared.words.asked.EmulateValue.TheVariants as value
 use Rattle.mesh_tool.specs.Words.Words.{is_word, is_without, make_option, no_make_options, emulate_option, or_at, read_on}
-use Rattle.mesh_tool.specs.Words.CommandLines.{InAnyOrder, OptionWords, PlacedOption, at_place, placed, IsTrace, IsSend, IsProbe}
+use Rattle.mesh_tool.specs.Words.CommandLines.{InAnyOrder, OptionWords, PlacedOption, at_place, placed, IsTraceOption, IsSend, IsProbe}
 use Rattle.mesh_tool.proofs.WordsLemmas.Orders.{later, last, none_left, taken_out, IsFew, first_or_later}
 use Rattle.mesh_tool.proofs.WordsLemmas.Reading.{or_at_ok, if_some, stands, same_job}
 use Rattle.mesh_atoms.proofs.Lists.{append_none as nothing}
@@ -32,7 +32,7 @@ probe_words name = codes "--probe" ∷ name ∷ []
 -- what is still to come of an option, where it stood before, or not
 abbrev MoreTrace : Bool → Bool → List PlacedOption → Type 0
 MoreTrace true trace options = (trace ≡ true) × (options ≡ [])
-MoreTrace false trace options = IsTrace trace options
+MoreTrace false trace options = IsTraceOption trace options
 
 abbrev More : {A : Type 0} → (Option A → List PlacedOption → Type 0) → Option A → Option A → List PlacedOption → Type 0
 More Is (Some stood) now options = (now ≡ Some stood) × (options ≡ [])
@@ -226,7 +226,7 @@ with_trace false s p place w words j is free r =
         traces = at_place place option ∷ [];
         sends = c.sends;
         probes = c.probes;
-        is_trace = subst (λ (b : Bool). IsTrace b (at_place place option ∷ [])) (sym stood) (place, refl);
+        is_trace = subst (λ (b : Bool). IsTraceOption b (at_place place option ∷ [])) (sym stood) (place, refl);
         is_send = c.is_send;
         is_probe = c.is_probe;
         any = ([], placed (place + 1) r.options, refl, subst (λ l. InAnyOrder (l ++ (c.sends ++ c.probes)) (placed (place + 1) r.options)) c.is_trace.1 c.any);
@@ -284,7 +284,7 @@ with_probe t s place w name words j is r =
     }
 
 -- the words behind an option's own
-dest_read : (place : ℕ) (read : Option Addr4) (g : Addr4 → EmulateOptions) (f : Asked → Result Job ℕ) (j : Job) → or_at place (read >>= λ x. Some (asked.Emulate (g x))) f ≡ Ok j
+dest_read : (place : ℕ) (read : Option Addr4) (g : Addr4 → EmulateOptions) (f : Parsing → Result Job ℕ) (j : Job) → or_at place (read >>= λ x. Some (asked.Emulate (g x))) f ≡ Ok j
     → (x : Addr4) × (read ≡ Some x) × (f (asked.Emulate (g x)) ≡ Ok j)
 dest_read place (Some x) g f j h = (x, refl, h)
 dest_read place None g f j h = let bad : ⊥ = cc in absurd bad
@@ -321,30 +321,30 @@ probes_on n j t s place w (name ∷ words) short is h on =
 abbrev pub IsOption : ℕ → Job → Bool → Option (ℕ × Addr4) → Option ℕ → ℕ → List ℕ → List (List ℕ) → Type 0
 IsOption n j t s p place w words =
     ReadFrom t s p place (w ∷ words) j
-    ⊎ ((is_without (options_of t s p) ≡ true) × ((next : Asked) × (make_option no_make_options w ≡ Some next) × (read_on next (place + 1) words ≡ Ok j)))
+    ⊎ ((is_without (options_of t s p) ≡ true) × ((next : Parsing) × (make_option no_make_options w ≡ Some next) × (read_on next (place + 1) words ≡ Ok j)))
 
-made_or_none : (b : Bool) (read : Option Asked) (next : Asked) → cond b read None ≡ Some next → (b ≡ true) × (read ≡ Some next)
+made_or_none : (b : Bool) (read : Option Parsing) (next : Parsing) → cond b read None ≡ Some next → (b ≡ true) × (read ≡ Some next)
 made_or_none true read next h = (refl, h)
 made_or_none false read next h = let bad : ⊥ = cc in absurd bad
 
-trace_next : (n : ℕ) (j : Job) (t : Bool) (s : Option (ℕ × Addr4)) (p : Option ℕ) (place : ℕ) (w : List ℕ) (words : List (List ℕ)) (next : Asked) → length words ≤ n
+trace_next : (n : ℕ) (j : Job) (t : Bool) (s : Option (ℕ × Addr4)) (p : Option ℕ) (place : ℕ) (w : List ℕ) (words : List (List ℕ)) (next : Parsing) → length words ≤ n
     → (is_word w (codes "--trace") && not t) ≡ true → next ≡ asked.Emulate (options_of true s p) → read_on next (place + 1) words ≡ Ok j → ReadsOn n j → ReadFrom t s p place (w ∷ words) j
 trace_next n j t s p place w words next short test is h on =
     let free = stands w (codes "--trace") (not t) test in
-    with_trace t s p place w words j free.0 free.1 (on true s p (place + 1) words short refl (subst (λ (a : Asked). read_on a (place + 1) words ≡ Ok j) is h))
+    with_trace t s p place w words j free.0 free.1 (on true s p (place + 1) words short refl (subst (λ (a : Parsing). read_on a (place + 1) words ≡ Ok j) is h))
 
-send_next : (n : ℕ) (j : Job) (t : Bool) (s : Option (ℕ × Addr4)) (p : Option ℕ) (place : ℕ) (w : List ℕ) (words : List (List ℕ)) (next : Asked) → length words ≤ n
+send_next : (n : ℕ) (j : Job) (t : Bool) (s : Option (ℕ × Addr4)) (p : Option ℕ) (place : ℕ) (w : List ℕ) (words : List (List ℕ)) (next : Parsing) → length words ≤ n
     → (is_word w (codes "--send") && is_none s) ≡ true → next ≡ asked.EmulateAwaits (options_of t s p) value.From → read_on next (place + 1) words ≡ Ok j → ReadsOn n j → ReadFrom t s p place (w ∷ words) j
 send_next n j t None p place w words next short test is h on =
     let free = stands w (codes "--send") true test in
-    sends_on n j t p place w words short free.0 (subst (λ (a : Asked). read_on a (place + 1) words ≡ Ok j) is h) on
+    sends_on n j t p place w words short free.0 (subst (λ (a : Parsing). read_on a (place + 1) words ≡ Ok j) is h) on
 send_next n j t (Some k) p place w words next short test is h on = let free = stands w (codes "--send") false test in let bad : false ≡ true = free.1 in absurd cc
 
-probe_next : (n : ℕ) (j : Job) (t : Bool) (s : Option (ℕ × Addr4)) (p : Option ℕ) (place : ℕ) (w : List ℕ) (words : List (List ℕ)) (next : Asked) → length words ≤ n
+probe_next : (n : ℕ) (j : Job) (t : Bool) (s : Option (ℕ × Addr4)) (p : Option ℕ) (place : ℕ) (w : List ℕ) (words : List (List ℕ)) (next : Parsing) → length words ≤ n
     → (is_word w (codes "--probe") && is_none p) ≡ true → next ≡ asked.EmulateAwaits (options_of t s p) value.Name → read_on next (place + 1) words ≡ Ok j → ReadsOn n j → ReadFrom t s p place (w ∷ words) j
 probe_next n j t s None place w words next short test is h on =
     let free = stands w (codes "--probe") true test in
-    probes_on n j t s place w words short free.0 (subst (λ (a : Asked). read_on a (place + 1) words ≡ Ok j) is h) on
+    probes_on n j t s place w words short free.0 (subst (λ (a : Parsing). read_on a (place + 1) words ≡ Ok j) is h) on
 probe_next n j t s (Some k) place w words next short test is h on = let free = stands w (codes "--probe") false test in let bad : false ≡ true = free.1 in absurd cc
 
 pub option_on : (n : ℕ) (j : Job) (t : Bool) (s : Option (ℕ × Addr4)) (p : Option ℕ) (place : ℕ) (w : List ℕ) (words : List (List ℕ)) → length words ≤ n

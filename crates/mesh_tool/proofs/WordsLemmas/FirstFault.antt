@@ -7,8 +7,8 @@ use Rattle.std.proofs.Math.Seq.{take-append_seam, take-append-add}
 use Rattle.mesh_tool.specs.declared.words.job.Job.{Job}
 use Rattle.mesh_emulate.specs.declared.making.kind.Kind.{Kind}
 use Rattle.mesh_emulate.specs.declared.making.kind.Kind.TheVariants as kind
-use Rattle.mesh_tool.specs.declared.words.asked.Asked.{Asked}
-use Rattle.mesh_tool.specs.declared.words.asked.Asked.TheVariants as asked
+use Rattle.mesh_tool.specs.declared.words.asked.Parsing.{Parsing}
+use Rattle.mesh_tool.specs.declared.words.asked.Parsing.TheVariants as asked
 use Rattle.mesh_tool.specs.declared.words.asked.EmulateValue.TheVariants as emulates
 use Rattle.mesh_tool.specs.declared.words.asked.MakeValue.TheVariants as value
 use Rattle.mesh_tool.specs.Words.Words.{read_on, takes, or_at, job_of, words_of}
@@ -16,7 +16,7 @@ use Rattle.mesh_tool.specs.Words.FirstFault.{IsCommandLine, BeginACommandLine, I
 
 -- ---- whatever is asked for, some words complete it
 
-abbrev Completes : Asked → ℕ → Type 0
+abbrev Completes : Parsing → ℕ → Type 0
 Completes asked place = (more : List (List ℕ)) × IsOk (read_on asked place more)
 
 seed_missing : (k : Kind) (n : ℕ) (seed : Option ℕ) (place : ℕ) → Completes (asked.Make (record { kind = Some k; routers = Some n; seed = seed })) place
@@ -33,7 +33,7 @@ kind_missing (Some k) routers seed place = routers_missing k routers seed place
 kind_missing None routers seed place =
     let rest = routers_missing kind.Grid routers seed (place + 1 + 1) in (codes "--make" ∷ codes "grid" ∷ rest.0, rest.1)
 
-completes : (asked : Asked) (place : ℕ) → Completes asked place
+completes : (asked : Parsing) (place : ℕ) → Completes asked place
 completes asked.Nothing place = (codes "dump" ∷ [], refl)
 completes (asked.Dump recode) place = ([], refl)
 completes (asked.Run (Some turns)) place = ([], refl)
@@ -55,12 +55,12 @@ completes asked.Replay place = ([], refl)
 -- ---- where reading stops
 
 -- no words behind these and the next one are right
-abbrev Ends : Asked → ℕ → List (List ℕ) → List (List ℕ) → Type 0
+abbrev Ends : Parsing → ℕ → List (List ℕ) → List (List ℕ) → Type 0
 Ends asked place front [] = Unit {0}
 Ends asked place front (word ∷ rest) = (more : List (List ℕ)) → IsErr (read_on asked place (front ++ word ∷ more))
 
 -- the words before the place at fault can be completed, and no longer with the word there
-record Stops (asked : Asked) (place : ℕ) (words : List (List ℕ)) (fault : ℕ) : Type 0 where
+record Stops (asked : Parsing) (place : ℕ) (words : List (List ℕ)) (fault : ℕ) : Type 0 where
   front : List (List ℕ)
   rest : List (List ℕ)
   whole : words ≡ front ++ rest
@@ -68,10 +68,10 @@ record Stops (asked : Asked) (place : ℕ) (words : List (List ℕ)) (fault : �
   goes : (more : List (List ℕ)) × IsOk (read_on asked place (front ++ more))
   ends : Ends asked place front rest
 
-fails_on : (asked : Asked) (place : ℕ) (word : List ℕ) (more : List (List ℕ)) → takes asked place word ≡ None → IsErr (read_on asked place (word ∷ more))
+fails_on : (asked : Parsing) (place : ℕ) (word : List ℕ) (more : List (List ℕ)) → takes asked place word ≡ None → IsErr (read_on asked place (word ∷ more))
 fails_on asked place word more taken = rw taken refl
 
-ends_on : (asked next : Asked) (place : ℕ) (word : List ℕ) (front rest : List (List ℕ)) → takes asked place word ≡ Some next → Ends next (place + 1) front rest → Ends asked place (word ∷ front) rest
+ends_on : (asked next : Parsing) (place : ℕ) (word : List ℕ) (front rest : List (List ℕ)) → takes asked place word ≡ Some next → Ends next (place + 1) front rest → Ends asked place (word ∷ front) rest
 ends_on asked next place word front [] taken ends = tt
 ends_on asked next place word front (w ∷ rest) taken ends = λ more. rw taken (ends more)
 
@@ -82,9 +82,9 @@ missing_at : (place fault : ℕ) (job : Option Job) → or_at place job Ok ≡ E
 missing_at place fault None h = same_place place fault h
 missing_at place fault (Some j) h = let bad : ⊥ = cc in absurd bad
 
-stops_on : (asked : Asked) (place : ℕ) (word : List ℕ) (words : List (List ℕ)) (fault : ℕ) (next : Option Asked) → takes asked place word ≡ next
+stops_on : (asked : Parsing) (place : ℕ) (word : List ℕ) (words : List (List ℕ)) (fault : ℕ) (next : Option Parsing) → takes asked place word ≡ next
     → or_at place next (λ n. read_on n (place + 1) words) ≡ Err fault
-    → ((n : Asked) → read_on n (place + 1) words ≡ Err fault → Stops n (place + 1) words fault) → Stops asked place (word ∷ words) fault
+    → ((n : Parsing) → read_on n (place + 1) words ≡ Err fault → Stops n (place + 1) words fault) → Stops asked place (word ∷ words) fault
 stops_on asked place word words fault None taken h on = record {
   front = [];
   rest = word ∷ words;
@@ -104,7 +104,7 @@ stops_on asked place word words fault (Some next) taken h on =
       ends = ends_on asked next place word s.front s.rest taken s.ends;
     }
 
-stops : (asked : Asked) (place : ℕ) (words : List (List ℕ)) (fault : ℕ) → read_on asked place words ≡ Err fault → Stops asked place words fault
+stops : (asked : Parsing) (place : ℕ) (words : List (List ℕ)) (fault : ℕ) → read_on asked place words ≡ Err fault → Stops asked place words fault
 stops asked place [] fault h = record {
   front = [];
   rest = [];

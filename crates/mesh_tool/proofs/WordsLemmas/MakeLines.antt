@@ -6,8 +6,8 @@ use Rattle.mesh_atoms.specs.Literals.{◌>>=◌}
 use Rattle.mesh_tool.specs.declared.words.job.Job.{Job}
 use Rattle.mesh_tool.specs.declared.words.job.Job.TheVariants as job
 use Rattle.mesh_emulate.specs.declared.making.kind.Kind.{Kind}
-use Rattle.mesh_tool.specs.declared.words.asked.Asked.{Asked}
-use Rattle.mesh_tool.specs.declared.words.asked.Asked.TheVariants as asked
+use Rattle.mesh_tool.specs.declared.words.asked.Parsing.{Parsing}
+use Rattle.mesh_tool.specs.declared.words.asked.Parsing.TheVariants as asked
 use Rattle.mesh_tool.specs.declared.words.asked.MakeOptions.{MakeOptions}
 use Rattle.mesh_tool.specs.declared.words.asked.MakeValue.{MakeValue}
 use Rattle.mesh_tool.specs.declared.words.asked.MakeValue.TheVariants as value
@@ -72,7 +72,7 @@ Chosen value.Kind kind routers seed word = (word ≡ codes "--make") × (is_none
 Chosen value.Routers kind routers seed word = (word ≡ codes "--routers") × (is_none routers ≡ true)
 Chosen value.Seed kind routers seed word = (word ≡ codes "--seed") × (is_none seed ≡ true)
 
-chosen : (kind : Option Kind) (routers seed : Option ℕ) (word : List ℕ) (next : Asked) → make_option (opts kind routers seed) word ≡ Some next
+chosen : (kind : Option Kind) (routers seed : Option ℕ) (word : List ℕ) (next : Parsing) → make_option (opts kind routers seed) word ≡ Some next
     → (v : MakeValue) × (next ≡ asked.MakeAwaits (opts kind routers seed) v) × Chosen v kind routers seed word
 chosen kind routers seed word next h = elim (if_some (is_word word (codes "--make") && is_none kind) (asked.MakeAwaits (opts kind routers seed) value.Kind) _ next h) [
   | inl (test, is) ↦ (value.Kind, is, stands word (codes "--make") (is_none kind) test)
@@ -82,7 +82,7 @@ chosen kind routers seed word next h = elim (if_some (is_word word (codes "--mak
   ]
 ]
 
-value_read : {A : Type 0} (place : ℕ) (read : Option A) (g : A → MakeOptions) (f : Asked → Result Job ℕ) (j : Job) → or_at place (option_map asked.Make (read >>= λ x. Some (g x))) f ≡ Ok j
+value_read : {A : Type 0} (place : ℕ) (read : Option A) (g : A → MakeOptions) (f : Parsing → Result Job ℕ) (j : Job) → or_at place (option_map asked.Make (read >>= λ x. Some (g x))) f ≡ Ok j
     → (x : A) × (read ≡ Some x) × (f (asked.Make (g x)) ≡ Ok j)
 value_read place (Some x) g f j h = (x, refl, h)
 value_read place None g f j h = let bad : ⊥ = cc in absurd bad
@@ -157,12 +157,12 @@ makes_from kind routers seed place [] j h =
 makes_from kind routers seed place (word ∷ []) j h =
     let step = or_at_ok place (make_option (opts kind routers seed) word) (λ next. read_on next (place + 1) []) j h in
     let c = chosen kind routers seed word step.0 step.1 in
-    let end = subst (λ (next : Asked). read_on next (place + 1) [] ≡ Ok j) c.1 step.2 in
+    let end = subst (λ (next : Parsing). read_on next (place + 1) [] ≡ Ok j) c.1 step.2 in
     let bad : ⊥ = cc in absurd bad
 makes_from kind routers seed place (word ∷ v ∷ words) j h =
     let step = or_at_ok place (make_option (opts kind routers seed) word) (λ next. read_on next (place + 1) (v ∷ words)) j h in
     let c = chosen kind routers seed word step.0 step.1 in
-    two_on kind routers seed place word v words j c.0 c.2 (subst (λ (next : Asked). read_on next (place + 1) (v ∷ words) ≡ Ok j) c.1 step.2)
+    two_on kind routers seed place word v words j c.0 c.2 (subst (λ (next : Parsing). read_on next (place + 1) (v ∷ words) ≡ Ok j) c.1 step.2)
     (λ a b d k. makes_from a b d (place + 1 + 1) words j k)
 
 pub make_asked : (word : List ℕ) (words : List (List ℕ)) (j : Job) → word ≡ codes "emulate" → MakesFrom None None None words j → AskFor (word ∷ words) j

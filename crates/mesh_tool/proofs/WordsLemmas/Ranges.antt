@@ -6,7 +6,7 @@ use Rattle.mesh_atoms.specs.Literals.{◌>>=◌, only_if, is_digit, digits_of, b
 use Rattle.mesh_tool.specs.declared.words.job.Job.{Job}
 use Rattle.mesh_tool.specs.declared.words.job.Job.TheVariants as job
 use Rattle.mesh_tool.specs.Words.Words.{number_from, words_of}
-use Rattle.mesh_tool.specs.Words.CommandLines.{AskFor, IsInRange}
+use Rattle.mesh_tool.specs.Words.CommandLines.{AskFor, IsJobInRange}
 use Rattle.mesh_tool.proofs.WordsLemmas.CommandLines.{read_is_asked}
 use Rattle.mesh_atoms.proofs.Options.{cond_none_some as if_found}
 
@@ -39,7 +39,7 @@ from_within least most None n within h = let bad : ⊥ = cc in absurd bad
 number_in_range : (least most : ℕ) (word : List ℕ) (n : ℕ) → number_from least most word ≡ Some n → (least ≤ n) × (n ≤ most)
 number_in_range least most word n h = from_within least most (number_of most word) n (λ m k. number_within most word m k) h
 
-in_range : (words : List (List ℕ)) (j : Job) → AskFor words j → IsInRange j
+in_range : (words : List (List ℕ)) (j : Job) → AskFor words j → IsJobInRange j
 in_range words (job.Dump recode) asks = tt
 in_range words (job.Run turns) asks = (number_in_range 1 4294967295 asks.are.0 turns asks.are.1).0
 in_range words (job.Emulate trace send probe) asks = tt
@@ -49,6 +49,6 @@ in_range words (job.Make kind routers seed) asks =
     (record { at_least = n.0; at_most = n.1 }, s.1)
 in_range words job.Replay asks = tt
 
-pub read_in_range : (words : List (List ℕ)) (r : Result Job ℕ) → r ≡ words_of words → IfOk r IsInRange
+pub read_in_range : (words : List (List ℕ)) (r : Result Job ℕ) → r ≡ words_of words → IfOk r IsJobInRange
 read_in_range words (Ok j) h = in_range words j (read_is_asked words j (sym h))
 read_in_range words (Err place) h = tt

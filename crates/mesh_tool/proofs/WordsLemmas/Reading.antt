@@ -3,7 +3,7 @@ use Rattle.std.proofs.Common.{◌≡◌, ℕ, ◌⊎◌, inl, inr, List, Option,
 use Rattle.std.specs.Cmp.Lexicographic.{bytes_decides}
 use Rattle.mesh_atoms.specs.Literals.{only_if}
 use Rattle.mesh_tool.specs.declared.words.job.Job.{Job}
-use Rattle.mesh_tool.specs.declared.words.asked.Asked.{Asked}
+use Rattle.mesh_tool.specs.declared.words.asked.Parsing.{Parsing}
 use Rattle.mesh_tool.specs.Words.Words.{is_word, or_at}
 use Rattle.std.proofs.lemmas.Bool.{and_parts}
 
@@ -19,7 +19,7 @@ if_some false x rest y h = inr (refl, h)
 pub stands : (word name : List ℕ) (free : Bool) → (is_word word name && free) ≡ true → (word ≡ name) × (free ≡ true)
 stands word name free h = let both = and_parts (is_word word name) free h in ((bytes_decides word name).0 both.0, both.1)
 
-pub only_stands : (word name : List ℕ) (free : Bool) (next found : Asked) → only_if (is_word word name && free) next ≡ Some found → (word ≡ name) × (free ≡ true) × (found ≡ next)
+pub only_stands : (word name : List ℕ) (free : Bool) (next found : Parsing) → only_if (is_word word name && free) next ≡ Some found → (word ≡ name) × (free ≡ true) × (found ≡ next)
 only_stands word name free next found h = elim (if_some (is_word word name && free) next None found h) [
   | inl (test, is) ↦ let s = stands word name free test in (s.0, s.1, is)
   | inr (test, none) ↦ let bad : ⊥ = cc in absurd bad

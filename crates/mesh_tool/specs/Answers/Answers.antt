@@ -8,7 +8,7 @@ use Rattle.mesh_io.specs.Faults.{Rose, RoseByOne}
 use Rattle.mesh_emulate.specs.Making.Made.{MadeEmulation}
 use Rattle.mesh_replay.specs.declared.answer.Replay.TheVariants.{Yes, No}
 use Rattle.mesh_replay.specs.Command.Replays.{Replays, answer_line}
-use Rattle.mesh_run.specs.Run.{WholeRun, SpendsTurns, FailsToAttach}
+use Rattle.mesh_run.specs.Run.{WholeRouterRun, SpendsTurns, FailsToAttach}
 use Rattle.mesh_tool.specs.declared.jobs.status.Status.{Status}
 use Rattle.mesh_tool.specs.declared.jobs.status.Status.TheVariants as status
 use Rattle.mesh_tool.specs.Jobs.Calls.{Call, told_in, UsesNoAir, RunsSoFar, Asks, wants_in, most_octets, ReadsInput, ReadsNothing, IsInput, RefusesOctets, Refuses, TakesInput, Finishes, StopsShort, LeavesFront}
@@ -19,18 +19,18 @@ use Rattle.mesh_emulate.specs.declared.making.kind.Kind.{Kind}
 use Rattle.mesh_tool.specs.Words.Words.{words_of}
 
 -- a fault that is told on err: its cause, what stands on out, and its line
-pub data Due (call : Call) : Status → List ℕ → Type 0 where
-  Wrong_words : IsErr (words_of call.words) → ReadsNothing call → Keeps call.out call.out' → Due call status.Words (words_line call.words)
+pub data FaultLine (call : Call) : Status → List ℕ → Type 0 where
+  Wrong_words : IsErr (words_of call.words) → ReadsNothing call → Keeps call.out call.out' → FaultLine call status.Words (words_line call.words)
   Read_fault : (job : Job) → Asks call job → Rose call.read_faults call.read_faults' → Keeps call.out call.out' →
-      Due call status.Read read_line
+      FaultLine call status.Read read_line
   Refusal : (number : ℕ) (key : List ℕ) (job : Job) → Asks call job → Refuses job call number key → Keeps call.out call.out' →
-      Due call status.Refused (refused_line number key)
+      FaultLine call status.Refused (refused_line number key)
   Attach_fault : (turns interface : ℕ) (octets : List ℕ) → Asks call (Run turns) → IsInput 1048576 call octets →
       FailsToAttach octets interface (told_in call) → RoseByOne call.air_faults call.air_faults' → Keeps call.out call.out' →
-      Due call status.Attach (attach_line interface)
+      FaultLine call status.Attach (attach_line interface)
   Turns_spent : (turns greatest end : ℕ) (octets : List ℕ) → Asks call (Run turns) → IsInput 1048576 call octets →
-      SpendsTurns octets turns greatest end (told_in call) → Keeps call.out call.out' → Due call status.Turns (turns_line turns greatest end)
-  Want_of_memory : (job : Job) → Asks call job → StopsShort call job → Due call status.Memory memory_line
+      SpendsTurns octets turns greatest end (told_in call) → Keeps call.out call.out' → FaultLine call status.Turns (turns_line turns greatest end)
+  Want_of_memory : (job : Job) → Asks call job → StopsShort call job → FaultLine call status.Memory memory_line
 
 -- the whole text stands on out, of which no line or some line tells a refusal, or which says that a trace is none of a run
 pub data Whole (call : Call) : Status → Type 0 where
@@ -42,34 +42,34 @@ pub data Whole (call : Call) : Status → Type 0 where
 
 -- a write failed: on out, where a front of a text of the job then stands, and nothing on err; or on err, where a front of the line of
 -- the fault that was due then stands
-pub data Fails (call : Call) : Type 0 where
+pub data FailsWriting (call : Call) : Type 0 where
   On_out : (job : Job) → Asks call job → LeavesFront call job → Rose call.out_faults call.out_faults' → Appends call.err call.err' [] →
-      Fails call
-  On_err : (due : Status) (line : List ℕ) → Due call due line → Rose call.err_faults call.err_faults' → (size : ℕ) →
-      Appends call.err call.err' (take size line) → Fails call
+      FailsWriting call
+  On_err : (due : Status) (line : List ℕ) → FaultLine call due line → Rose call.err_faults call.err_faults' → (size : ℕ) →
+      Appends call.err call.err' (take size line) → FailsWriting call
 
 -- a fault's line stands on err
-pub record Tells (call : Call) (answer : Status) : Type 0 where
+pub record TellsFault (call : Call) (answer : Status) : Type 0 where
   pub line : List ℕ
-  pub due : Due call answer line
+  pub due : FaultLine call answer line
   pub stands : Appends call.err call.err' line
 
 -- what is answered, and then stands on out and err
-pub data Ends (call : Call) (answer : Status) : Type 0 where
-  Is_whole : Whole call answer → Appends call.err call.err' [] → Ends call answer
-  Is_told : Tells call answer → Ends call answer
-  Is_failed : answer ≡ status.Write → Fails call → Ends call answer
+pub data OutputStands (call : Call) (answer : Status) : Type 0 where
+  Is_whole : Whole call answer → Appends call.err call.err' [] → OutputStands call answer
+  Is_told : TellsFault call answer → OutputStands call answer
+  Is_failed : answer ≡ status.Write → FailsWriting call → OutputStands call answer
 
 -- of what the program does, a fact each
 pub record Answers (call : Call) (answer : Status) : Type 0 where
   -- what stands on out and err, by the status
-  pub ends : Ends call answer
+  pub ends : OutputStands call answer
   -- 0 to `dump`: the listing of the whole input stands on out, and none of its lines is refused
   pub dumped : (recode : Bool) → answer ≡ status.Done → Asks call (Dump recode) →
       (octets : List ℕ) × IsInput 67108864 call octets × (text : List ℕ) × IsDumpText octets recode 0 text × Appends call.out call.out' text
   -- 0 to `run`: the input states a router, and the report of its run, by the moments and the reports told, stands on out
   pub ran : (turns : ℕ) → answer ≡ status.Done → Asks call (Run turns) →
-      (octets : List ℕ) × IsInput 1048576 call octets × (r : WholeRun octets turns (told_in call)) × Appends call.out call.out' r.text
+      (octets : List ℕ) × IsInput 1048576 call octets × (r : WholeRouterRun octets turns (told_in call)) × Appends call.out call.out' r.text
   -- whatever is answered to `run`: the clock and the air weren't used, or they told a run of the router that the input states, or some
   -- first turns of one, with all frames that were handed over
   pub hands : (turns : ℕ) → Asks call (Run turns) →

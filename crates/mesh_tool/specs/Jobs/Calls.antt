@@ -6,13 +6,13 @@ use Rattle.mesh_atoms.specs.declared.settings.RunSetup.{RunSetup}
 use Rattle.mesh_config.specs.RunSettings.{run_refusals, FirstRunRefusal}
 use Rattle.mesh_dump.specs.Dump.{IsDumpText, IsDumpFront, IsFirstLinesText}
 use Rattle.mesh_emulate.specs.Emulation.{Emulation, IsRefused, IsFirstPart, IsFront}
-use Rattle.mesh_emulate.specs.Wants.{Packet, Wants}
+use Rattle.mesh_emulate.specs.Wants.{WantedPacket, Wants}
 use Rattle.mesh_io.specs.Airs.{Report}
 use Rattle.mesh_emulate.specs.Making.Made.{MadeEmulation}
 use Rattle.mesh_replay.specs.declared.answer.Replay.{Replay}
 use Rattle.mesh_replay.specs.declared.answer.Replay.TheVariants.{Yes}
 use Rattle.mesh_replay.specs.Command.Replays.{Replays, IsRefusedInput, answer_line}
-use Rattle.mesh_run.specs.Run.{Told, told, IsUntold, States, WholeRun, SpendsTurns, FailsToAttach, RunsShort}
+use Rattle.mesh_run.specs.Run.{ToldInCall, told, IsUntold, StatesSetup, WholeRouterRun, SpendsTurns, FailsToAttach, RunsShort}
 use Rattle.mesh_config.specs.Keys.Faults.{first}
 use Rattle.mesh_tool.specs.declared.words.job.Job.{Job}
 use Rattle.mesh_tool.specs.declared.words.job.Job.TheVariants as job
@@ -46,7 +46,7 @@ pub record Call : Type 0 where
   pub air_faults' : ℕ
 
 -- what the clock and the air told
-abbrev pub told_in : Call → Told
+abbrev pub told_in : Call → ToldInCall
 told_in call = told call.moments call.moments' call.reports call.reports' call.attached'
 
 -- the clock and the air weren't used
@@ -64,7 +64,7 @@ abbrev pub word_at : List (List ℕ) → ℕ → List ℕ
 word_at words place = unwrap_or (slice_get words place) []
 
 -- the packet, from the router that the word at its place names
-abbrev pub packet_in : List (List ℕ) → ℕ × Addr4 → Packet
+abbrev pub packet_in : List (List ℕ) → ℕ × Addr4 → WantedPacket
 packet_in words packet = record { from = word_at words packet.0; dest = packet.1 }
 
 abbrev pub wants_in : List (List ℕ) → Bool → Option (ℕ × Addr4) → Option ℕ → Wants
@@ -102,7 +102,7 @@ pub record IsInput (most : ℕ) (call : Call) (octets : List ℕ) : Type 0 where
   pub within : length octets ≤ most
 
 -- one octet more than the most was taken
-pub record IsTooLong (most : ℕ) (call : Call) : Type 0 where
+pub record IsInputTooLong (most : ℕ) (call : Call) : Type 0 where
   pub octets : List ℕ
   pub read : Consumes call.left call.left' octets
   pub long : length octets ≡ most + 1
@@ -126,7 +126,7 @@ RefusesOctets words job.Replay octets number key = IsRefusedInput octets number 
 
 -- the input is longer than the job takes, or it was read whole and is refused
 pub data Refuses (job : Job) (call : Call) : ℕ → List ℕ → Type 0 where
-  Too_long : IsTooLong (most_octets job) call → Refuses job call 47 (codes "input")
+  Too_long : IsInputTooLong (most_octets job) call → Refuses job call 47 (codes "input")
   By_rule : {number : ℕ} {key : List ℕ} (octets : List ℕ) → WorksOn job call octets → RefusesOctets call.words job octets number key →
       Refuses job call number key
 
@@ -135,7 +135,7 @@ abbrev pub TakesInput : Job → Call → Type 0
 TakesInput (job.Dump recode) call = (octets : List ℕ) × (call.left ≡ Some octets) × (length octets ≤ 67108864)
 TakesInput (job.Run turns) call =
     (octets : List ℕ) × (call.left ≡ Some octets) × (length octets ≤ 1048576) × (first (run_refusals octets) ≡ None)
-    × ((setup : RunSetup) → States octets setup → call.attached' ≡ length setup.ports)
+    × ((setup : RunSetup) → StatesSetup octets setup → call.attached' ≡ length setup.ports)
 TakesInput (job.Emulate trace send probe) call =
     (octets : List ℕ) × (call.left ≡ Some octets) × (length octets ≤ 1048576)
     × ((number : ℕ) (key : List ℕ) → IsRefused octets (wants_in call.words trace send probe) number key → ⊥)
@@ -149,7 +149,7 @@ TakesInput job.Replay call =
 -- the text of a job that is done, and how many lines of it tell a refusal; of `replay` where the trace is whole
 abbrev pub IsAskedText : Call → Job → List ℕ → ℕ → List ℕ → Type 0
 IsAskedText call (job.Dump recode) octets refused text = IsDumpText octets recode refused text
-IsAskedText call (job.Run turns) octets refused text = (refused ≡ 0) × (r : WholeRun octets turns (told_in call)) × (text ≡ r.text)
+IsAskedText call (job.Run turns) octets refused text = (refused ≡ 0) × (r : WholeRouterRun octets turns (told_in call)) × (text ≡ r.text)
 IsAskedText call (job.Emulate trace send probe) octets refused text =
     (refused ≡ 0) × (e : Emulation octets (wants_in call.words trace send probe)) × (text ≡ e.text)
 IsAskedText call (job.Make kind routers seed) octets refused text = (refused ≡ 0) × (m : MadeEmulation kind routers seed) × (text ≡ m.text)
@@ -168,7 +168,7 @@ IsFirstText call job.Replay octets text = text ≡ []
 -- a text of which a failed write left a front: of the whole job, or of a first part of it
 abbrev pub IsFrontOf : Call → Job → List ℕ → List ℕ → Type 0
 IsFrontOf call (job.Dump recode) octets text = IsDumpFront octets recode text
-IsFrontOf call (job.Run turns) octets text = (r : WholeRun octets turns (told_in call)) × (text ≡ r.text)
+IsFrontOf call (job.Run turns) octets text = (r : WholeRouterRun octets turns (told_in call)) × (text ≡ r.text)
 IsFrontOf call (job.Emulate trace send probe) octets text = IsFront octets (wants_in call.words trace send probe) text
 IsFrontOf call (job.Make kind routers seed) octets text = (m : MadeEmulation kind routers seed) × (text ≡ m.text)
 IsFrontOf call job.Replay octets text = (answer : Replay) × Replays octets answer × (text ≡ answer_line answer)
@@ -199,9 +199,9 @@ pub record LeavesFront (call : Call) (job : Job) : Type 0 where
 -- What the clock and the air tell
 
 -- a whole run, or all its turns, below the end; or the attaches before one that failed; or some first turns
-abbrev pub RunsSoFar : List ℕ → ℕ → Told → Type 0
+abbrev pub RunsSoFar : List ℕ → ℕ → ToldInCall → Type 0
 RunsSoFar octets turns told =
-    WholeRun octets turns told
+    WholeRouterRun octets turns told
     ⊎ (((greatest : ℕ) × (end : ℕ) × SpendsTurns octets turns greatest end told)
     ⊎ (((interface : ℕ) × FailsToAttach octets interface told) ⊎ RunsShort octets turns told))
 

@@ -10,7 +10,7 @@ use Rattle.mesh_tool.specs.declared.jobs.ending.Ending.{Ending}
 use Rattle.mesh_tool.specs.declared.jobs.ending.Ending.TheVariants as ending
 use Rattle.mesh_tool.specs.declared.jobs.status.Status.{Status}
 use Rattle.mesh_tool.specs.declared.jobs.status.Status.TheVariants as status
-use Rattle.mesh_tool.specs.Jobs.Calls.{Call, told_in, UsesNoAir, UsesAir, Asks, most_octets, ReadsInput, ReadsNothing, IsTooLong, WorksOn, RefusesOctets, IsAskedText, IsFirstText, IsFrontOf}
+use Rattle.mesh_tool.specs.Jobs.Calls.{Call, told_in, UsesNoAir, UsesAir, Asks, most_octets, ReadsInput, ReadsNothing, IsInputTooLong, WorksOn, RefusesOctets, IsAskedText, IsFirstText, IsFrontOf}
 use Rattle.mesh_tool.specs.Jobs.Lines.{words_line, read_line, refused_line, attach_line, turns_line, memory_line}
 use Rattle.mesh_tool.specs.declared.words.job.Job.{Job}
 use Rattle.mesh_tool.specs.declared.words.job.Job.TheVariants as job
@@ -48,7 +48,7 @@ IsNotLonger most call = call.taken' ≡ call.taken + (most + 1) → ⊥
 -- why an input of at most so many octets wasn't read whole: a fault of the source, an octet too many, or want of memory
 abbrev pub StopsReading : ℕ → Call → Ending → Type 0
 StopsReading most call ending.Read = Rose call.read_faults call.read_faults' × IsNotLonger most call
-StopsReading most call ending.TooLong = IsTooLong most call
+StopsReading most call ending.TooLong = IsInputTooLong most call
 StopsReading most call ending.Memory = IsNotLonger most call
 StopsReading most call ending.Done = ⊥
 StopsReading most call ending.Packets = ⊥

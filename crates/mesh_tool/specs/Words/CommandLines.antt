@@ -32,9 +32,9 @@ placed place [] = []
 placed place (option ∷ options) = at_place place option ∷ placed (place + length option) options
 
 -- `--trace`, where it is asked for
-abbrev pub IsTrace : Bool → List PlacedOption → Type 0
-IsTrace false options = options ≡ []
-IsTrace true options = (place : ℕ) × (options ≡ at_place place (codes "--trace" ∷ []) ∷ [])
+abbrev pub IsTraceOption : Bool → List PlacedOption → Type 0
+IsTraceOption false options = options ≡ []
+IsTraceOption true options = (place : ℕ) × (options ≡ at_place place (codes "--trace" ∷ []) ∷ [])
 
 -- `--send` with FROM and DEST, where a packet is asked for: FROM has the packet's place, and DEST is its address
 abbrev pub IsSend : Option (ℕ × Addr4) → List PlacedOption → Type 0
@@ -54,7 +54,7 @@ pub record AreEmulateOptions (trace : Bool) (send : Option (ℕ × Addr4)) (prob
   pub traces : List PlacedOption
   pub sends : List PlacedOption
   pub probes : List PlacedOption
-  pub is_trace : IsTrace trace traces
+  pub is_trace : IsTraceOption trace traces
   pub is_send : IsSend send sends
   pub is_probe : IsProbe probe probes
   pub any : InAnyOrder (traces ++ (sends ++ probes)) (placed 1 options)
@@ -90,12 +90,12 @@ pub record AskFor (words : List (List ℕ)) (job : Job) : Type 0 where
   pub whole : words ≡ command_of job ∷ flat_map (λ option. option) options
 
 -- so many turns, so many routers, and such a seed, as command lines ask for
-abbrev pub IsInRange : Job → Type 0
-IsInRange (job.Dump recode) = Unit {0}
-IsInRange (job.Run turns) = 1 ≤ turns
-IsInRange (job.Emulate trace send probe) = Unit {0}
-IsInRange (job.Make kind routers seed) = IsCount 2 64 routers × (seed ≤ 4294967295)
-IsInRange job.Replay = Unit {0}
+abbrev pub IsJobInRange : Job → Type 0
+IsJobInRange (job.Dump recode) = Unit {0}
+IsJobInRange (job.Run turns) = 1 ≤ turns
+IsJobInRange (job.Emulate trace send probe) = Unit {0}
+IsJobInRange (job.Make kind routers seed) = IsCount 2 64 routers × (seed ≤ 4294967295)
+IsJobInRange job.Replay = Unit {0}
 
 -- words are read as a job exactly where they ask for it
 abbrev pub CommandLinesAreRead : Type 0

@@ -7,8 +7,8 @@ use Rattle.mesh_tool.specs.declared.words.job.Job.{Job}
 use Rattle.mesh_tool.specs.declared.words.job.Job.TheVariants as job
 use Rattle.mesh_emulate.specs.declared.making.kind.Kind.{Kind}
 use Rattle.mesh_emulate.specs.declared.making.kind.Kind.TheVariants as kind
-use Rattle.mesh_tool.specs.declared.words.asked.Asked.{Asked}
-use Rattle.mesh_tool.specs.declared.words.asked.Asked.TheVariants as asked
+use Rattle.mesh_tool.specs.declared.words.asked.Parsing.{Parsing}
+use Rattle.mesh_tool.specs.declared.words.asked.Parsing.TheVariants as asked
 use Rattle.mesh_tool.specs.declared.words.asked.EmulateOptions.{EmulateOptions}
 use Rattle.mesh_tool.specs.declared.words.asked.EmulateValue.{EmulateValue}
 use Rattle.mesh_tool.specs.declared.words.asked.EmulateValue.TheVariants as emulates
@@ -56,7 +56,7 @@ abbrev pub no_make_options : MakeOptions
 no_make_options = record { kind = None; routers = None; seed = None }
 
 -- an option's own word
-abbrev pub make_option : MakeOptions → List ℕ → Option Asked
+abbrev pub make_option : MakeOptions → List ℕ → Option Parsing
 make_option o word =
     if is_word word (codes "--make") && is_none o.kind then Some (asked.MakeAwaits o value.Kind)
     else if is_word word (codes "--routers") && is_none o.routers then Some (asked.MakeAwaits o value.Routers)
@@ -83,7 +83,7 @@ abbrev pub is_without : EmulateOptions → Bool
 is_without o = (not o.trace && is_none o.send) && is_none o.probe
 
 -- an option's own word
-abbrev pub emulate_option : EmulateOptions → List ℕ → Option Asked
+abbrev pub emulate_option : EmulateOptions → List ℕ → Option Parsing
 emulate_option o word =
     if is_word word (codes "--trace") && not o.trace then Some (asked.Emulate (record { trace = true; send = o.send; probe = o.probe }))
     else if is_word word (codes "--send") && is_none o.send then Some (asked.EmulateAwaits o emulates.From)
@@ -92,7 +92,7 @@ emulate_option o word =
     else None
 
 -- an option's value, which has that place: FROM and NAME are any word, and DEST is an address
-abbrev pub emulate_value : EmulateOptions → EmulateValue → ℕ → List ℕ → Option Asked
+abbrev pub emulate_value : EmulateOptions → EmulateValue → ℕ → List ℕ → Option Parsing
 emulate_value o emulates.From place word = Some (asked.EmulateAwaits o (emulates.Dest place))
 emulate_value o (emulates.Dest from) place word =
     address_of word >>= λ dest. Some (asked.Emulate (record { trace = o.trace; send = Some (from, dest); probe = o.probe }))
@@ -101,7 +101,7 @@ emulate_value o emulates.Name place word = Some (asked.Emulate (record { trace =
 -- ---- command lines
 
 -- the first word
-abbrev pub command_word : List ℕ → Option Asked
+abbrev pub command_word : List ℕ → Option Parsing
 command_word word =
     if is_word word (codes "dump") then Some (asked.Dump false)
     else if is_word word (codes "run") then Some (asked.Run None)
@@ -109,7 +109,7 @@ command_word word =
     else only_if (is_word word (codes "replay")) asked.Replay
 
 -- what is asked for after one more word, which has that place, where it begins a command line with the words before it
-abbrev pub takes : Asked → ℕ → List ℕ → Option Asked
+abbrev pub takes : Parsing → ℕ → List ℕ → Option Parsing
 takes asked.Nothing place word = command_word word
 takes (asked.Dump recode) place word = only_if (is_word word (codes "--recode") && not recode) (asked.Dump true)
 takes (asked.Run turns) place word = only_if (is_word word (codes "--turns") && is_none turns) asked.Turns
@@ -121,7 +121,7 @@ takes (asked.MakeAwaits o value) place word = option_map asked.Make (make_value 
 takes asked.Replay place word = None
 
 -- the job, where no word is missing
-abbrev pub job_of : Asked → Option Job
+abbrev pub job_of : Parsing → Option Job
 job_of asked.Nothing = None
 job_of (asked.Dump recode) = Some (job.Dump recode)
 job_of (asked.Run turns) = option_map job.Run turns
@@ -138,7 +138,7 @@ or_at place (Some x) f = f x
 or_at place None f = Err place
 
 -- the job of more words, behind others that ask for this; the next word has that place
-abbrev pub read_on : Asked → ℕ → List (List ℕ) → Result Job ℕ
+abbrev pub read_on : Parsing → ℕ → List (List ℕ) → Result Job ℕ
 read_on asked place [] = or_at place (job_of asked) Ok
 read_on asked place (word ∷ more) = or_at place (takes asked place word) (λ next. read_on next (place + 1) more)
 

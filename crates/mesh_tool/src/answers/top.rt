@@ -2,7 +2,7 @@
 ghost use Rattle.std.specs.Prelude.{◌≡◌};
 ghost use Rattle.mesh_emulate.specs.Laws.{RunsMachines, TellsSettled, PrintsLeastRoutes, PrintsNextHops};
 ghost use Rattle.mesh_emulate.specs.Laws.{TripsAreOnly, TripsReachRouters, TripsReachNetworks, TripsNeverStray};
-ghost use Rattle.mesh_emulate.specs.Laws.{ProbesReachJoined, ProbesTellAll, ProbesSendOnce};
+ghost use Rattle.mesh_emulate.specs.Laws.{ProbesReachJoined, ProbesTellAll, EmulatedProbesSendOnce};
 ghost use Rattle.mesh_emulate.specs.Making.Made.{MadeNetworksRunMachines, MadeNetworksTellSettled, TellsLeastRoutes};
 ghost use Rattle.mesh_replay.specs.trace.Positions.Laws.{WholeExactlyForRuns};
 ghost use Rattle.mesh_run.specs.Turns.Laws.{TurnsAreRuns, TurnsKeepSound};
@@ -67,7 +67,7 @@ pub fn top_over<B: Bases, S: Source, O: Sink, E: Sink, A: Air, C: Clock>(
     ensures trips_never_stray { TripsNeverStray }
     ensures probes_reach { ProbesReachJoined }
     ensures probes_tell { ProbesTellAll }
-    ensures probes_once { ProbesSendOnce }
+    ensures probes_once { EmulatedProbesSendOnce }
     ensures turns { TurnsAreRuns }
     ensures sound_turns { TurnsKeepSound }
     ensures made_machines { MadeNetworksRunMachines }

@@ -41,7 +41,7 @@ pub enum MakeValue {
 
 /// What is asked for as far as the words were read; with `Turns`, `EmulateAwaits` and `MakeAwaits` a value comes next.
 #[derive(Clone, Copy)]
-pub enum Asked {
+pub enum Parsing {
     Nothing,
     Dump { recode: bool },
     Run { turns: Option<u32> },
@@ -98,15 +98,15 @@ fn kind_of(word: &str) -> Option<Kind>
 
 impl MakeOptions {
     // An option's own word.
-    fn option(self, word: &str) -> Option<Asked>
+    fn option(self, word: &str) -> Option<Parsing>
         ensures { result ≡ make_option self word.now }
     {
         if word == "--make" && self.kind.is_none() {
-            Some(Asked::MakeAwaits(self, MakeValue::Kind))
+            Some(Parsing::MakeAwaits(self, MakeValue::Kind))
         } else if word == "--routers" && self.routers.is_none() {
-            Some(Asked::MakeAwaits(self, MakeValue::Routers))
+            Some(Parsing::MakeAwaits(self, MakeValue::Routers))
         } else if word == "--seed" && self.seed.is_none() {
-            Some(Asked::MakeAwaits(self, MakeValue::Seed))
+            Some(Parsing::MakeAwaits(self, MakeValue::Seed))
         } else {
             None
         }
@@ -164,18 +164,18 @@ impl EmulateOptions {
     }
 
     // An option's own word.
-    fn option(self, word: &str) -> Option<Asked>
+    fn option(self, word: &str) -> Option<Parsing>
         ensures { result ≡ emulate_option self word.now }
     {
         if word == "--trace" && !self.trace {
-            Some(Asked::Emulate(EmulateOptions {
+            Some(Parsing::Emulate(EmulateOptions {
                 trace: true,
                 ..self
             }))
         } else if word == "--send" && self.send.is_none() {
-            Some(Asked::EmulateAwaits(self, EmulateValue::From))
+            Some(Parsing::EmulateAwaits(self, EmulateValue::From))
         } else if word == "--probe" && self.probe.is_none() {
-            Some(Asked::EmulateAwaits(self, EmulateValue::Name))
+            Some(Parsing::EmulateAwaits(self, EmulateValue::Name))
         } else if self.is_without() {
             NO_MAKE_OPTIONS.option(word)
         } else {
@@ -184,19 +184,19 @@ impl EmulateOptions {
     }
 
     // An option's value, which is the word at that place.
-    fn value(self, value: EmulateValue, place: usize, word: &str) -> Option<Asked>
+    fn value(self, value: EmulateValue, place: usize, word: &str) -> Option<Parsing>
         ensures { result ≡ emulate_value self value place word.now }
     {
         match value {
-            EmulateValue::From => Some(Asked::EmulateAwaits(self, EmulateValue::Dest(place))),
+            EmulateValue::From => Some(Parsing::EmulateAwaits(self, EmulateValue::Dest(place))),
             EmulateValue::Dest(from) => {
                 let dest = address_of(word.as_bytes())?;
-                Some(Asked::Emulate(EmulateOptions {
+                Some(Parsing::Emulate(EmulateOptions {
                     send: Some((from, dest)),
                     ..self
                 }))
             }
-            EmulateValue::Name => Some(Asked::Emulate(EmulateOptions {
+            EmulateValue::Name => Some(Parsing::Emulate(EmulateOptions {
                 probe: Some(place),
                 ..self
             })),
@@ -204,24 +204,24 @@ impl EmulateOptions {
     }
 }
 
-fn command_word(word: &str) -> Option<Asked>
+fn command_word(word: &str) -> Option<Parsing>
     ensures { result ≡ command_word word.now }
 {
     if word == "dump" {
-        Some(Asked::Dump { recode: false })
+        Some(Parsing::Dump { recode: false })
     } else if word == "run" {
-        Some(Asked::Run { turns: None })
+        Some(Parsing::Run { turns: None })
     } else if word == "emulate" {
-        Some(Asked::Emulate(NO_EMULATE_OPTIONS))
+        Some(Parsing::Emulate(NO_EMULATE_OPTIONS))
     } else if word == "replay" {
-        Some(Asked::Replay)
+        Some(Parsing::Replay)
     } else {
         None
     }
 }
 
 // The one option of a command, which may stand where it didn't yet.
-fn only_option(word: &str, name: &str, free: bool, next: Asked) -> Option<Asked>
+fn only_option(word: &str, name: &str, free: bool, next: Parsing) -> Option<Parsing>
     ensures { result ≡ only_if (is_word word.now name.now && free) next }
 {
     if word == name && free {
@@ -232,51 +232,53 @@ fn only_option(word: &str, name: &str, free: bool, next: Asked) -> Option<Asked>
 }
 
 /// What is asked for after one more word, which has that place, where it begins a command line with the words before it.
-pub fn takes(asked: Asked, place: usize, word: &str) -> Option<Asked>
+pub fn takes(asked: Parsing, place: usize, word: &str) -> Option<Parsing>
     ensures { result ≡ takes asked place word.now }
 {
     match asked {
-        Asked::Nothing => command_word(word),
-        Asked::Dump { recode } => only_option(
+        Parsing::Nothing => command_word(word),
+        Parsing::Dump { recode } => only_option(
             word,
             "--recode",
             !recode,
-            Asked::Dump { recode: true },
+            Parsing::Dump { recode: true },
         ),
-        Asked::Run { turns } => only_option(word, "--turns", turns.is_none(), Asked::Turns),
-        Asked::Turns => match turns_of(word) {
-            Some(turns) => Some(Asked::Run { turns: Some(turns) }),
+        Parsing::Run { turns } => only_option(word, "--turns", turns.is_none(), Parsing::Turns),
+        Parsing::Turns => match turns_of(word) {
+            Some(turns) => Some(Parsing::Run { turns: Some(turns) }),
             None => None,
         },
-        Asked::Emulate(options) => options.option(word),
-        Asked::EmulateAwaits(options, value) => options.value(value, place, word),
-        Asked::Make(options) => options.option(word),
-        Asked::MakeAwaits(options, value) => match options.value(value, word) {
-            Some(options) => Some(Asked::Make(options)),
+        Parsing::Emulate(options) => options.option(word),
+        Parsing::EmulateAwaits(options, value) => options.value(value, place, word),
+        Parsing::Make(options) => options.option(word),
+        Parsing::MakeAwaits(options, value) => match options.value(value, word) {
+            Some(options) => Some(Parsing::Make(options)),
             None => None,
         },
-        Asked::Replay => None,
+        Parsing::Replay => None,
     }
 }
 
 /// The job, where no word is missing.
-pub fn job_of(asked: Asked) -> Option<Job>
+pub fn job_of(asked: Parsing) -> Option<Job>
     ensures { result ≡ job_of asked }
 {
     match asked {
-        Asked::Dump { recode } => Some(Job::Dump { recode }),
-        Asked::Run { turns } => match turns {
+        Parsing::Dump { recode } => Some(Job::Dump { recode }),
+        Parsing::Run { turns } => match turns {
             Some(turns) => Some(Job::Run { turns }),
             None => None,
         },
-        Asked::Emulate(options) => Some(Job::Emulate {
+        Parsing::Emulate(options) => Some(Job::Emulate {
             trace: options.trace,
             send: options.send,
             probe: options.probe,
         }),
-        Asked::Make(options) => options.job(),
-        Asked::Replay => Some(Job::Replay),
-        Asked::Nothing | Asked::Turns | Asked::EmulateAwaits(_, _) | Asked::MakeAwaits(_, _) =>
-            None,
+        Parsing::Make(options) => options.job(),
+        Parsing::Replay => Some(Job::Replay),
+        Parsing::Nothing
+        | Parsing::Turns
+        | Parsing::EmulateAwaits(_, _)
+        | Parsing::MakeAwaits(_, _) => None,
     }
 }

@@ -1,15 +1,15 @@
 //! The words of a command line, one after the other.
 ghost use Rattle.std.specs.Prelude.{◌≡◌, IfOk};
-ghost use Rattle.mesh_tool.specs.Words.CommandLines.{IsInRange};
+ghost use Rattle.mesh_tool.specs.Words.CommandLines.{IsJobInRange};
 ghost use Rattle.mesh_tool.specs.Words.Words.{words_of, texts};
 
 use crate::words::Job;
-use crate::words::asked::{Asked, job_of, takes};
+use crate::words::asked::{Parsing, job_of, takes};
 
 fn job_in(words: &[String]) -> Result<Job, usize>
     ensures { result ≡ words_of (texts words.now) }
 {
-    let mut asked = Asked::Nothing;
+    let mut asked = Parsing::Nothing;
     for place in 0..words.len() {
         match takes(asked, place, words[place].as_str()) {
             Some(next) => asked = next,
@@ -26,7 +26,7 @@ fn job_in(words: &[String]) -> Result<Job, usize>
 /// missing. Takes no memory.
 pub fn read_words(words: &[String]) -> Result<Job, usize>
     ensures exact { result ≡ words_of (texts words.now) }
-    ensures range { IfOk result IsInRange }
+    ensures range { IfOk result IsJobInRange }
 {
     job_in(words)
 }

@@ -13,7 +13,7 @@ use Rattle.mesh_atoms.specs.declared.addr.NetAddr.{NetAddr}
 use Rattle.mesh_atoms.specs.declared.codes.metric.Metric.{Metric}
 use Rattle.mesh_atoms.specs.declared.settings.Attached4.{Attached4}
 use Rattle.mesh_atoms.specs.declared.tc.TcRow.{TcRow}
-use Rattle.mesh_atoms.specs.Advertised.{Gives, AdvertisesBy, AdvertisesOriginatorBy, IsRowBy, Of_address, Of_network, AreRowsBy, AreTcRows}
+use Rattle.mesh_atoms.specs.Advertised.{GivesAsSelector, AdvertisesBy, AdvertisesOriginatorBy, IsRowBy, Of_address, Of_network, AreRowsBy, AreTcRows}
 use Rattle.mesh_atoms.specs.Base.{host, net_eq}
 use Rattle.mesh_atoms.specs.Codes.Codes.{metric_value}
 use Rattle.mesh_atoms.specs.Settings.{are_distinct}
@@ -312,7 +312,7 @@ module _ (gives gives' : Addr4 → Addr4 → Metric → Type 0) (same : (a o : A
   })
 
 -- what a router's neighbours give is what its selectors give
-router_gives : (s : State) (selectors : List Selector) → AreSelectors s selectors → (a o : Addr4) (m : Metric) → SelectorGives selectors a o m ↔ Gives s a o m
+router_gives : (s : State) (selectors : List Selector) → AreSelectors s selectors → (a o : Addr4) (m : Metric) → SelectorGives selectors a o m ↔ GivesAsSelector s a o m
 router_gives s selectors are a o m = (
   λ g.
       (let (neighbour, (symmetric, selects, metric), (_, _, addrs)) = are.each g.selector g.stands in
@@ -331,10 +331,10 @@ router_gives s selectors are a o m = (
 -- the rows by a router's selectors and its networks are the rows that it advertises
 pub router_rows : (s : State) (selectors : List Selector) (attached : List Attached4) (rows : List TcRow) → AreRowsBy (SelectorGives selectors) attached rows →
     AreSelectors s selectors → s.settings.attached ≡ attached → AreTcRows s rows
-router_rows s selectors attached rows are_by are attaches = subst (λ (l : List Attached4). AreRowsBy (Gives s) l rows) (sym attaches) (record {
+router_rows s selectors attached rows are_by are attaches = subst (λ (l : List Attached4). AreRowsBy (GivesAsSelector s) l rows) (sym attaches) (record {
   exactly = λ row. (
-    λ among. same_row (SelectorGives selectors) (Gives s) (router_gives s selectors are) attached row ((are_by.exactly row).0 among),
-    λ is. (are_by.exactly row).1 (same_row (Gives s) (SelectorGives selectors) (back (SelectorGives selectors) (Gives s) (router_gives s selectors are) attached) attached row is),
+    λ among. same_row (SelectorGives selectors) (GivesAsSelector s) (router_gives s selectors are) attached row ((are_by.exactly row).0 among),
+    λ is. (are_by.exactly row).1 (same_row (GivesAsSelector s) (SelectorGives selectors) (back (SelectorGives selectors) (GivesAsSelector s) (router_gives s selectors are) attached) attached row is),
   );
   ordered = are_by.ordered;
 })

@@ -6,7 +6,7 @@ use Rattle.std.specs.BTreeMap.{BTreeMap, get}
 use Rattle.mesh_atoms.specs.declared.addr.NetAddr.{NetAddr}
 use Rattle.mesh_topo.specs.declared.advertised.rows.Offer.{Offer}
 use Rattle.mesh_atoms.specs.Nodes.{net_cmp}
-use Rattle.mesh_topo.specs.Advertised.Offers.{offered, Keeps}
+use Rattle.mesh_topo.specs.Advertised.Offers.{offered, KeepsWithOffers}
 
 pub offered_all : (net : NetAddr) (xs ys : List (NetAddr × Offer)) (offer : Option Offer) → offered net (xs ++ ys) offer ≡ offered net ys (offered net xs offer)
 offered_all net [] ys offer = refl
@@ -16,7 +16,7 @@ offered_all net (x ∷ xs) ys offer = offered_all net xs ys _
 abbrev pub Leaves : BTreeMap NetAddr Offer → List (NetAddr × Offer) → BTreeMap NetAddr Offer → List (NetAddr × Offer) → Type 0
 Leaves now left old all = (net : NetAddr) → offered net left (get net_cmp now net) ≡ offered net all (get net_cmp old net)
 
-pub keeps_more : (old now next : BTreeMap NetAddr Offer) (some left before all : List (NetAddr × Offer)) → before ≡ some ++ left → Leaves now before old all → Keeps now some next → Leaves next left old all
+pub keeps_more : (old now next : BTreeMap NetAddr Offer) (some left before all : List (NetAddr × Offer)) → before ≡ some ++ left → Leaves now before old all → KeepsWithOffers now some next → Leaves next left old all
 keeps_more old now next some left before all e h k net =
     ap (λ (o : Option Offer). offered net left o) (k net)
     ∙ sym (offered_all net some left (get net_cmp now net))
@@ -24,7 +24,7 @@ keeps_more old now next some left before all e h k net =
     ∙ h net
 
 -- one list of offers after another, from an empty map
-pub starting : (old mid new : BTreeMap NetAddr Offer) (xs ys : List (NetAddr × Offer)) → old.entries ≡ [] → Keeps old xs mid → Keeps mid ys new → (net : NetAddr) → get net_cmp new net ≡ offered net ys (offered net xs None)
+pub starting : (old mid new : BTreeMap NetAddr Offer) (xs ys : List (NetAddr × Offer)) → old.entries ≡ [] → KeepsWithOffers old xs mid → KeepsWithOffers mid ys new → (net : NetAddr) → get net_cmp new net ≡ offered net ys (offered net xs None)
 starting old mid new xs ys empty h k net =
     let none : get net_cmp old net ≡ None = ap (λ (es : List (NetAddr × Offer)). lookup (λ (q : NetAddr). is_eq (net_cmp net q)) es) empty in
     k net ∙ ap (offered net ys) (h net ∙ ap (offered net xs) none)

@@ -27,8 +27,8 @@ offered net [] offer = offer
 offered net (e ∷ es) offer = offered net es (cond (is_eq (net_cmp e.0 net)) (Some (put_offer offer e.1)) offer)
 
 -- the new map has what the old one has with these offers
-abbrev pub Keeps : BTreeMap NetAddr Offer → List (NetAddr × Offer) → BTreeMap NetAddr Offer → Type 0
-Keeps old offers new = (net : NetAddr) → get net_cmp new net ≡ offered net offers (get net_cmp old net)
+abbrev pub KeepsWithOffers : BTreeMap NetAddr Offer → List (NetAddr × Offer) → BTreeMap NetAddr Offer → Type 0
+KeepsWithOffers old offers new = (net : NetAddr) → get net_cmp new net ≡ offered net offers (get net_cmp old net)
 
 -- the offer of an address, maybe as an originator
 abbrev pub of_address : Bool → Metric → Addr4 → NetAddr × Offer

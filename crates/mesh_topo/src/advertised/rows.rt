@@ -6,7 +6,7 @@ ghost use Rattle.mesh_atoms.specs.Base.{net_eq};
 ghost use Rattle.mesh_atoms.specs.Settings.{are_distinct};
 ghost use Rattle.mesh_atoms.specs.State.{State};
 ghost use Rattle.mesh_atoms.specs.Nodes.{net_cmp};
-ghost use Rattle.mesh_topo.specs.Advertised.Offers.{lesser, put_offer, of_selector, of_network, of_address, row_of, Keeps};
+ghost use Rattle.mesh_topo.specs.Advertised.Offers.{lesser, put_offer, of_selector, of_network, of_address, row_of, KeepsWithOffers};
 ghost use Rattle.mesh_topo.specs.Advertised.Selectors.{AreSelectors, SelectorGives};
 
 use mesh_atoms::{Addr4, Attached4, Metric, NetAddr, Seq, TcRow, host};
@@ -84,7 +84,7 @@ fn offer_with(offers: &BTreeMap<NetAddr, Offer>, net: NetAddr, offer: Offer) -> 
 
 // Puts one offer.
 fn put(offers: &mut BTreeMap<NetAddr, Offer>, net: NetAddr, offer: Offer) -> Result<(), AllocError>
-    ensures { OnOk result (Keeps offers.old ((net, offer) ∷ []) offers.new) }
+    ensures { OnOk result (KeepsWithOffers offers.old ((net, offer) ∷ []) offers.new) }
 {
     let offer = offer_with(offers, net, offer);
     offers.insert(net, offer)?;
@@ -98,7 +98,7 @@ fn put_address(
     origin: bool,
     metric: Metric,
 ) -> Result<(), AllocError>
-    ensures { OnOk result (Keeps offers.old (of_address origin metric addr ∷ []) offers.new) }
+    ensures { OnOk result (KeepsWithOffers offers.old (of_address origin metric addr ∷ []) offers.new) }
 {
     let offer = Offer {
         origin,
@@ -114,7 +114,7 @@ fn put_addresses(
     addrs: &[Addr4],
     metric: Metric,
 ) -> Result<(), AllocError>
-    ensures { OnOk result (Keeps offers.old (map (of_address false metric) addrs.now) offers.new) }
+    ensures { OnOk result (KeepsWithOffers offers.old (map (of_address false metric) addrs.now) offers.new) }
 {
     for i in 0..addrs.len() {
         put_address(offers, addrs[i], false, metric)?;
@@ -127,7 +127,7 @@ fn put_selector(
     offers: &mut BTreeMap<NetAddr, Offer>,
     selector: &Selector,
 ) -> Result<(), AllocError>
-    ensures { OnOk result (Keeps offers.old (of_selector selector.now) offers.new) }
+    ensures { OnOk result (KeepsWithOffers offers.old (of_selector selector.now) offers.new) }
 {
     put_address(offers, selector.originator, true, selector.metric)?;
     put_addresses(offers, selector.addrs.as_slice(), selector.metric)?;
@@ -139,7 +139,7 @@ fn put_selectors(
     offers: &mut BTreeMap<NetAddr, Offer>,
     selectors: &[Selector],
 ) -> Result<(), AllocError>
-    ensures { OnOk result (Keeps offers.old (flat_map of_selector selectors.now) offers.new) }
+    ensures { OnOk result (KeepsWithOffers offers.old (flat_map of_selector selectors.now) offers.new) }
 {
     for i in 0..selectors.len() {
         put_selector(offers, &selectors[i])?;
@@ -149,7 +149,7 @@ fn put_selectors(
 
 // Puts an attached network.
 fn put_network(offers: &mut BTreeMap<NetAddr, Offer>, attached: Attached4) -> Result<(), AllocError>
-    ensures { OnOk result (Keeps offers.old (of_network attached ∷ []) offers.new) }
+    ensures { OnOk result (KeepsWithOffers offers.old (of_network attached ∷ []) offers.new) }
 {
     let offer = Offer {
         origin: false,
@@ -164,7 +164,7 @@ fn put_networks(
     offers: &mut BTreeMap<NetAddr, Offer>,
     attached: &[Attached4],
 ) -> Result<(), AllocError>
-    ensures { OnOk result (Keeps offers.old (map of_network attached.now) offers.new) }
+    ensures { OnOk result (KeepsWithOffers offers.old (map of_network attached.now) offers.new) }
 {
     for i in 0..attached.len() {
         put_network(offers, attached[i])?;

@@ -38,13 +38,13 @@ use Rattle.mesh_texts.proofs.machine.Places.{set_at}
 use Rattle.mesh_texts.specs.machine.wire.Hello.{OriginatorIs}
 use Rattle.mesh_texts.specs.machine.wire.Parts.{number_of}
 use Rattle.mesh_texts.specs.machine.wire.Rehop.{hopped}
-use Rattle.mesh_texts.specs.machine.Net.{Net}
+use Rattle.mesh_texts.specs.machine.Net.{NetState}
 use Rattle.mesh_trace.specs.Positions.Due.{TakesPacket, HearsBy, Refused, Taken, HellosDue, Hellos_early, Hellos_due, TcsDue, Tcs_early, Tcs_silent, Tcs_due, part_items}
-use Rattle.mesh_trace.specs.Positions.Items.{Tells, Tells_flooding, Tells_routing, Tells_hello, Tells_tc, Tells_frame, Tells_loss, TellsFrame}
+use Rattle.mesh_trace.specs.Positions.Items.{TellsItem, Tells_flooding, Tells_routing, Tells_hello, Tells_tc, Tells_frame, Tells_loss, TellsFrame}
 use Rattle.mesh_trace.specs.Positions.Laws.{PositionsHaveAddresses}
 use Rattle.mesh_trace.specs.Positions.Events.{OpensEvent, By_delivery, By_tick, By_last_tick, OpensTick, OpensHearing}
 use Rattle.mesh_trace.specs.Positions.Standing.{Item, Flooding, Routing, Hello as Hello_item, Tc as Tc_item, Sent, Lost, TracePosition, IsFirstPosition, relay_items}
-use Rattle.mesh_trace.specs.Positions.Leading.{Leads, To_event, To_item, LeadsBy}
+use Rattle.mesh_trace.specs.Positions.Leading.{LineLeads, To_event, To_item, LeadsBy}
 use Rattle.mesh_trace.proofs.PositionsLemmas.TcFrames.{one_part}
 use Rattle.mesh_trace.proofs.PositionsLemmas.Named.{NamesSender, IsNamed, hello_named, tc_named, hopped_named}
 use Rattle.mesh_trace.proofs.PositionsLemmas.SoundPositions.{positions_are_sound}
@@ -276,7 +276,7 @@ spread_air s now frame (a ∷ arcs) lost old new (Carries carries rest) named ai
     ])
 
 -- what a line that tells an item leaves
-record TellsNamed (routers : List State) (new : Net) (more : List Item) : Type 0 where
+record TellsNamed (routers : List State) (new : NetState) (more : List Item) : Type 0 where
   near : (x : ℕ) (s : State) → slice_get new.routers x ≡ Some s → HasBound s.bases.neighbourhood
   air : (d : Delivery) → Contains new.traffic.air d → IsNamed d.frame
   left : (f : Frame) → Contains more (Sent f) → IsNamed f.bytes
@@ -285,15 +285,15 @@ losses_left : (lost : List ℕ) → NoFrames (map Lost lost)
 losses_left lost f among = let (z, has, is) = unmapped Lost lost (Sent f) among in cc
 
 module _ (p : TracePosition) (named : IsNamedPosition p) (s : State) (stood : slice_get p.net.routers p.router ≡ Some s) (line : List ℕ) where
-  frame_named : (frame : Frame) (new : Net) (losses : List Item) → IsNamed frame.bytes → TellsFrame p.net p.router s frame line new losses → TellsNamed p.net.routers new losses
+  frame_named : (frame : Frame) (new : NetState) (losses : List Item) → IsNamed frame.bytes → TellsFrame p.net p.router s frame line new losses → TellsNamed p.net.routers new losses
   frame_named frame new losses good h =
-      subst (λ (n : Net). TellsNamed p.net.routers n losses) (sym h.leads) (record {
+      subst (λ (n : NetState). TellsNamed p.net.routers n losses) (sym h.leads) (record {
         near = named.near;
         air = spread_air p.net.scenario s.last frame.bytes (leaving p.net.scenario.arcs p.router frame.iface) h.lost (with_sent p.net.traffic) h.traffic h.sends good named.air;
         left = λ f among. absurd (losses_left h.lost f (subst (λ (l : List Item). Contains l (Sent f)) h.losses_are among));
       })
 
-  tells_named : (item : Item) (new : Net) (more : List Item) → ((f : Frame) → item ≡ Sent f → IsNamed f.bytes) → Tells p.net p.router s line item new more → TellsNamed p.net.routers new more
+  tells_named : (item : Item) (new : NetState) (more : List Item) → ((f : Frame) → item ≡ Sent f → IsNamed f.bytes) → TellsItem p.net p.router s line item new more → TellsNamed p.net.routers new more
   tells_named item new more good (Tells_flooding face relays g at graph are is) =
       record { near = set_bound p.net.routers p.router _ named.near (named.near p.router s stood); air = named.air; left = λ f among. absurd (none_left f among) }
   tells_named item new more good (Tells_routing relays g graph are is) =
@@ -318,7 +318,7 @@ module _ (p : TracePosition) (named : IsNamedPosition p) (s : State) (stood : sl
   tells_named item new more good (Tells_frame {frame} tells) = frame_named frame new more (good frame refl) tells
   tells_named item new more good (Tells_loss is) = record { near = named.near; air = named.air; left = λ f among. absurd (none_left f among) }
 
-leads_named : (p : TracePosition) (line : List ℕ) (q : TracePosition) → IsNamedPosition p → Leads p line q → IsNamedPosition q
+leads_named : (p : TracePosition) (line : List ℕ) (q : TracePosition) → IsNamedPosition p → LineLeads p line q → IsNamedPosition q
 leads_named p line q named (To_event none opens) = opens_named p line q named opens
 leads_named p line q named (To_item {s} {item} {rest} {more} {net} left stood tells leads) =
     let here : (f : Frame) → Contains (item ∷ rest) (Sent f) → IsNamed f.bytes = λ f among. named.left f (subst (λ (l : List Item). Contains l (Sent f)) (sym left) among) in

@@ -13,9 +13,9 @@ use Rattle.mesh_atoms.specs.declared.tuples.Lost.{Lost}
 use Rattle.mesh_atoms.specs.declared.tuples.Neighbour.{Neighbour}
 use Rattle.mesh_atoms.specs.declared.tuples.TwoHop.{TwoHop}
 use Rattle.mesh_atoms.specs.Base.{Base, Expires, Same, if_live, base_of, addr_eq, router_eq, address_eq, network_eq, flood_eq}
-use Rattle.mesh_atoms.specs.Live.{HasLinkOf, HasSymmetricOf, Renews, Restores, IsSymmetricAddress, SettlesLost, Back, Gone, Stays, LiveNeighbourhood, LiveTopology, LiveNoted, Live, trim, is_symmetric_at, is_symmetric_entry}
+use Rattle.mesh_atoms.specs.Live.{HasLinkOf, HasSymmetricOf, KeepsNeighbour, Restores, IsSymmetricAddress, SettlesLost, Back, Gone, Stays, LiveNeighbourhood, LiveTopology, LiveNoted, Live, trim, is_symmetric_at, is_symmetric_entry}
 use Rattle.mesh_atoms.specs.Quality.{admit_on}
-use Rattle.mesh_atoms.specs.State.{Neighbourhood, Topology, NotedMessages, Bases, link_at, two_hop_at, neighbour_at, lost_at}
+use Rattle.mesh_atoms.specs.State.{Neighbourhood, TopologyBase, NotedMessages, Bases, link_at, two_hop_at, neighbour_at, lost_at}
 use Rattle.mesh_atoms.specs.Words.{IsLeastMetric}
 use Rattle.mesh_atoms.proofs.Rows.{same_metric}
 use Rattle.mesh_trace.specs.Positions.Alike.{AlikeNear, AlikeTopology, AlikeNoted, AlikeBases}
@@ -32,7 +32,7 @@ near_back a b h = record {
   losts = λ o. sym (h.losts o);
 }
 
-pub topology_back : (a b : Topology) → AlikeTopology a b → AlikeTopology b a
+pub topology_back : (a b : TopologyBase) → AlikeTopology a b → AlikeTopology b a
 topology_back a b h = record {
   advertisers = λ o. sym (h.advertisers o);
   routers = λ key. sym (h.routers key);
@@ -65,7 +65,7 @@ near_itself a = record {
   losts = λ o. refl;
 }
 
-pub topology_itself : (a : Topology) → AlikeTopology a a
+pub topology_itself : (a : TopologyBase) → AlikeTopology a a
 topology_itself a = record {
   advertisers = λ o. refl;
   routers = λ key. refl;
@@ -163,7 +163,7 @@ has_symmetric : (a b : Neighbourhood) → SameLinks a b → (now : ℕ) (xs ys :
 has_symmetric a b alike now xs ys same link (i, key, until, has, symmetric) = (i, key, until, has_link a b alike xs ys same i key (link, until) has, symmetric)
 
 -- with what stood, there is one neighbour
-renews_only : (a b : Neighbourhood) → SameLinks a b → (now : ℕ) (old m n : Neighbour) (u v : ℕ) → Renews a now old m u → Renews b now old n v → (m ≡ n) × (u ≡ v)
+renews_only : (a b : Neighbourhood) → SameLinks a b → (now : ℕ) (old m n : Neighbour) (u v : ℕ) → KeepsNeighbour a now old m u → KeepsNeighbour b now old n v → (m ≡ n) × (u ≡ v)
 renews_only a b alike now old m n u v h k =
     let same : m.addrs ≡ n.addrs = h.addrs ∙ sym k.addrs in
     let back : SameLinks b a = λ i key. sym (alike i key) in
@@ -273,7 +273,7 @@ expires_only eq now a b a' b' alike h k q = k q ∙ (ap (if_live now) (alike q) 
 expires_from : {K V : Type 0} (eq : K → K → Bool) (now : ℕ) (a b a' : Base K V) → Same eq a b → Expires eq now a a' → Expires eq now b a'
 expires_from eq now a b a' alike h q = h q ∙ sym (ap (if_live now) (alike q))
 
-pub live_topology_only : (now : ℕ) (a b a' b' : Topology) → AlikeTopology a b → LiveTopology now a a' → LiveTopology now b b' → AlikeTopology a' b'
+pub live_topology_only : (now : ℕ) (a b a' b' : TopologyBase) → AlikeTopology a b → LiveTopology now a a' → LiveTopology now b b' → AlikeTopology a' b'
 live_topology_only now a b a' b' alike h k = record {
   advertisers = expires_only addr_eq now a.advertisers b.advertisers a'.advertisers b'.advertisers alike.advertisers h.advertisers k.advertisers;
   routers = expires_only router_eq now a.routers b.routers a'.routers b'.routers alike.routers h.routers k.routers;

@@ -20,9 +20,9 @@ use Rattle.mesh_texts.proofs.machine.packet.Encodable.{AreOctets}
 use Rattle.mesh_texts.proofs.machine.Places.{same_at}
 use Rattle.mesh_texts.specs.Lines.Marks.{face_name}
 use Rattle.mesh_texts.specs.Trace.{flooding_text, routing_relays_line, sent_line}
-use Rattle.mesh_texts.specs.machine.Net.{Net}
+use Rattle.mesh_texts.specs.machine.Net.{NetState}
 use Rattle.mesh_trace.specs.Positions.Alike.{HasAddresses}
-use Rattle.mesh_trace.specs.Positions.Items.{Tells, Tells_flooding, Tells_routing, Tells_hello, Tells_tc, TellsFrame, AreTcFrames, with_flooding, with_routing}
+use Rattle.mesh_trace.specs.Positions.Items.{TellsItem, Tells_flooding, Tells_routing, Tells_hello, Tells_tc, TellsFrame, AreTcFrames, with_flooding, with_routing}
 use Rattle.mesh_trace.specs.Reading.Lines.{IsLineOf}
 use Rattle.mesh_trace.specs.Positions.Standing.{Item, Flooding, Routing, Hello, Tc, Sent, Lost, with_state, with_traffic}
 use Rattle.mesh_trace.proofs.PositionsLemmas.Leading.{tells_loss, tells_frame}
@@ -31,7 +31,7 @@ use Rattle.mesh_trace.proofs.PositionsLemmas.TcFrames.{one_part, first_is, furth
 
 -- ---- what a line tells, item by item
 
-pub record ToldFlooding (net : Net) (x : ℕ) (s : State) (line : List ℕ) (i : ℕ) (new : Net) (more : List Item) : Type 0 where
+pub record ToldFlooding (net : NetState) (x : ℕ) (s : State) (line : List ℕ) (i : ℕ) (new : NetState) (more : List Item) : Type 0 where
   pub face : Interface
   pub relays : List Addr4
   pub graph : NeighbourGraph
@@ -42,11 +42,11 @@ pub record ToldFlooding (net : Net) (x : ℕ) (s : State) (line : List ℕ) (i :
   pub new_is : new ≡ with_state net x (with_flooding s relays)
   pub more_is : more ≡ []
 
-pub tells_flooding : (net : Net) (x : ℕ) (s : State) (line : List ℕ) (i : ℕ) (new : Net) (more : List Item) → Tells net x s line (Flooding i) new more → ToldFlooding net x s line i new more
+pub tells_flooding : (net : NetState) (x : ℕ) (s : State) (line : List ℕ) (i : ℕ) (new : NetState) (more : List Item) → TellsItem net x s line (Flooding i) new more → ToldFlooding net x s line i new more
 tells_flooding net x s line i new more (Tells_flooding face relays g at graph are is) =
     record { face = face; relays = relays; graph = g; face_is = at; graph_is = graph; are = are; is = is; new_is = refl; more_is = refl }
 
-pub record ToldRouting (net : Net) (x : ℕ) (s : State) (line : List ℕ) (new : Net) (more : List Item) : Type 0 where
+pub record ToldRouting (net : NetState) (x : ℕ) (s : State) (line : List ℕ) (new : NetState) (more : List Item) : Type 0 where
   pub relays : List Addr4
   pub graph : NeighbourGraph
   pub graph_is : IsRoutingGraph s graph
@@ -55,18 +55,18 @@ pub record ToldRouting (net : Net) (x : ℕ) (s : State) (line : List ℕ) (new 
   pub new_is : new ≡ with_state net x (with_routing s relays)
   pub more_is : more ≡ []
 
-pub tells_routing : (net : Net) (x : ℕ) (s : State) (line : List ℕ) (new : Net) (more : List Item) → Tells net x s line Routing new more → ToldRouting net x s line new more
+pub tells_routing : (net : NetState) (x : ℕ) (s : State) (line : List ℕ) (new : NetState) (more : List Item) → TellsItem net x s line Routing new more → ToldRouting net x s line new more
 tells_routing net x s line new more (Tells_routing relays g graph are is) = record { relays = relays; graph = g; graph_is = graph; are = are; is = is; new_is = refl; more_is = refl }
 
-pub record ToldHello (net : Net) (x : ℕ) (s : State) (line : List ℕ) (i : ℕ) (new : Net) (more : List Item) : Type 0 where
+pub record ToldHello (net : NetState) (x : ℕ) (s : State) (line : List ℕ) (i : ℕ) (new : NetState) (more : List Item) : Type 0 where
   pub frame : Frame
   pub is : IsHelloFrame s i frame
   pub tells : TellsFrame net x s frame line new more
 
-pub tells_hello : (net : Net) (x : ℕ) (s : State) (line : List ℕ) (i : ℕ) (new : Net) (more : List Item) → Tells net x s line (Hello i) new more → ToldHello net x s line i new more
+pub tells_hello : (net : NetState) (x : ℕ) (s : State) (line : List ℕ) (i : ℕ) (new : NetState) (more : List Item) → TellsItem net x s line (Hello i) new more → ToldHello net x s line i new more
 tells_hello net x s line i new more (Tells_hello frame is tells) = record { frame = frame; is = is; tells = tells }
 
-pub record ToldTc (net : Net) (x : ℕ) (s : State) (line : List ℕ) (complete : Bool) (sequence : ℕ) (rows : List TcRow) (new : Net) (more : List Item) : Type 0 where
+pub record ToldTc (net : NetState) (x : ℕ) (s : State) (line : List ℕ) (complete : Bool) (sequence : ℕ) (rows : List TcRow) (new : NetState) (more : List Item) : Type 0 where
   pub first : Frame
   pub further : List Frame
   pub losses : List Item
@@ -74,7 +74,7 @@ pub record ToldTc (net : Net) (x : ℕ) (s : State) (line : List ℕ) (complete 
   pub tells : TellsFrame net x s first line new losses
   pub more_is : more ≡ losses ++ map Sent further
 
-pub tells_tc : (net : Net) (x : ℕ) (s : State) (line : List ℕ) (complete : Bool) (sequence : ℕ) (rows : List TcRow) (new : Net) (more : List Item) → Tells net x s line (Tc complete sequence rows) new more →
+pub tells_tc : (net : NetState) (x : ℕ) (s : State) (line : List ℕ) (complete : Bool) (sequence : ℕ) (rows : List TcRow) (new : NetState) (more : List Item) → TellsItem net x s line (Tc complete sequence rows) new more →
     ToldTc net x s line complete sequence rows new more
 tells_tc net x s line complete sequence rows new more (Tells_tc {losses} first further are tells) = record { first = first; further = further; losses = losses; are = are; tells = tells; more_is = refl }
 
@@ -90,7 +90,7 @@ spreads_once s now frame (a ∷ arcs) lost (n' ∷ lost') old new new' (Carries 
 spreads_once s now frame (a ∷ arcs) lost lost' old new new' (Carries carries rest) (Carries carries' rest') =
     spreads_once s now frame arcs lost lost' (with_delivery old (record { moment = now + a.1.delay; arc = a.0; frame = frame })) new new' rest rest'
 
-frame_once : (net : Net) (x : ℕ) (s : State) (frame : Frame) (line : List ℕ) (new new' : Net) (losses losses' : List Item) → TellsFrame net x s frame line new losses → TellsFrame net x s frame line new' losses' →
+frame_once : (net : NetState) (x : ℕ) (s : State) (frame : Frame) (line : List ℕ) (new new' : NetState) (losses losses' : List Item) → TellsFrame net x s frame line new losses → TellsFrame net x s frame line new' losses' →
     (new ≡ new') × (losses ≡ losses')
 frame_once net x s frame line new new' losses losses' one other =
     let (lost, traffic) = spreads_once net.scenario s.last frame.bytes (leaving net.scenario.arcs x frame.iface) one.lost other.lost (with_sent net.traffic) one.traffic other.traffic one.sends other.sends in
@@ -141,7 +141,7 @@ routing_addresses s known g relays graph are id has =
     let at = (graph.near near).0 inside in
     subst (λ (a : Addr4). a.0 < 2 ^ 32) same (known near.id at.0 at.2)
 
-pub tells_once : (net : Net) (x : ℕ) (s : State) (line : List ℕ) (item : Item) (new new' : Net) (more more' : List Item) → HasAddresses s → Tells net x s line item new more → Tells net x s line item new' more' →
+pub tells_once : (net : NetState) (x : ℕ) (s : State) (line : List ℕ) (item : Item) (new new' : NetState) (more more' : List Item) → HasAddresses s → TellsItem net x s line item new more → TellsItem net x s line item new' more' →
     (new ≡ new') × (more ≡ more')
 tells_once net x s line (Flooding i) new new' more more' known one other =
     let a = tells_flooding net x s line i new more one in

@@ -18,10 +18,10 @@ use Rattle.mesh_texts.specs.machine.Traffic.{Traffic, Sends}
 use Rattle.mesh_texts.proofs.machine.Places.{set_at}
 use Rattle.mesh_texts.specs.Lines.Marks.{face_name}
 use Rattle.mesh_texts.specs.Trace.{flooding_text, routing_relays_line, sent_line, lost_line}
-use Rattle.mesh_texts.specs.machine.Net.{Net}
+use Rattle.mesh_texts.specs.machine.Net.{NetState}
 use Rattle.mesh_texts.specs.machine.wire.Writes.{WritesTc}
 use Rattle.mesh_trace.specs.Positions.Alike.{AlikeStates, Alike}
-use Rattle.mesh_trace.specs.Positions.Items.{Tells, Tells_flooding, Tells_routing, Tells_hello, Tells_tc, Tells_frame, Tells_loss, TellsFrame, AreTcFrames, with_flooding, with_routing}
+use Rattle.mesh_trace.specs.Positions.Items.{TellsItem, Tells_flooding, Tells_routing, Tells_hello, Tells_tc, Tells_frame, Tells_loss, TellsFrame, AreTcFrames, with_flooding, with_routing}
 use Rattle.mesh_trace.specs.Reading.Lines.{IsLineOf}
 use Rattle.mesh_trace.specs.Positions.Standing.{Item, TracePosition, with_state, with_traffic}
 use Rattle.mesh_trace.proofs.PositionsLemmas.AlikeBases.{bases_itself, bases_on}
@@ -58,7 +58,7 @@ states_on r s t h k = record {
 
 -- ---- networks
 
-pub record AlikeNets (m n : Net) : Type 0 where
+pub record AlikeNets (m n : NetState) : Type 0 where
   pub scenario : n.scenario ≡ m.scenario
   pub count : length n.routers ≡ length m.routers
   pub routers : (x : ℕ) (s t : State) → slice_get m.routers x ≡ Some s → slice_get n.routers x ≡ Some t → AlikeStates s t
@@ -68,7 +68,7 @@ pub record AlikeNets (m n : Net) : Type 0 where
 pub as_nets : (p q : TracePosition) → Alike p q → AlikeNets p.net q.net
 as_nets p q h = record { scenario = h.scenario; count = h.count; routers = h.routers; traffic = h.traffic; last_ticks = h.last_ticks }
 
-pub as_positions : (m n : Net) (x : ℕ) (left : List Item) → AlikeNets m n → Alike (record { net = m; router = x; left = left }) (record { net = n; router = x; left = left })
+pub as_positions : (m n : NetState) (x : ℕ) (left : List Item) → AlikeNets m n → Alike (record { net = m; router = x; left = left }) (record { net = n; router = x; left = left })
 as_positions m n x left h = record { scenario = h.scenario; count = h.count; routers = h.routers; traffic = h.traffic; last_ticks = h.last_ticks; router = refl; left = refl }
 
 pub set_length : {A : Type 0} (xs : List A) (i : ℕ) (x : A) → length (slice_set xs i x) ≡ length xs
@@ -76,7 +76,7 @@ set_length [] i x = refl
 set_length (y ∷ ys) zero x = refl
 set_length (y ∷ ys) (suc i) x = let more = set_length ys i x in omega (arith, more)
 
-pub nets_set : (m n : Net) (x : ℕ) (s t : State) → AlikeNets m n → AlikeStates s t → AlikeNets (with_state m x s) (with_state n x t)
+pub nets_set : (m n : NetState) (x : ℕ) (s t : State) → AlikeNets m n → AlikeStates s t → AlikeNets (with_state m x s) (with_state n x t)
 nets_set m n x s t h states = record {
   scenario = h.scenario;
   count = set_length n.routers x t ∙ (h.count ∙ sym (set_length m.routers x s));
@@ -91,23 +91,23 @@ nets_set m n x s t h states = record {
     one y u v (inr (there, stands)) (inl (here, is)) = absurd (there here)
     one y u v (inr (there, stands)) (inr (there', stands')) = h.routers y u v stands stands'
 
-pub nets_traffic : (m n : Net) (t : Traffic) → AlikeNets m n → AlikeNets (with_traffic m t) (with_traffic n t)
+pub nets_traffic : (m n : NetState) (t : Traffic) → AlikeNets m n → AlikeNets (with_traffic m t) (with_traffic n t)
 nets_traffic m n t h = record { scenario = h.scenario; count = h.count; routers = h.routers; traffic = refl; last_ticks = h.last_ticks }
 
 -- ---- what a line tells at the one, it tells at the other
 
 -- with a network that is alike that after the one
-pub record TellsAlso (n : Net) (x : ℕ) (t : State) (line : List ℕ) (item : Item) (after : Net) (more : List Item) : Type 0 where
-  pub new : Net
-  pub tells : Tells n x t line item new more
+pub record TellsAlso (n : NetState) (x : ℕ) (t : State) (line : List ℕ) (item : Item) (after : NetState) (more : List Item) : Type 0 where
+  pub new : NetState
+  pub tells : TellsItem n x t line item new more
   pub alike : AlikeNets after new
 
-record FrameAlso (n : Net) (x : ℕ) (t : State) (frame : Frame) (line : List ℕ) (after : Net) (losses : List Item) : Type 0 where
-  new : Net
+record FrameAlso (n : NetState) (x : ℕ) (t : State) (frame : Frame) (line : List ℕ) (after : NetState) (losses : List Item) : Type 0 where
+  new : NetState
   tells : TellsFrame n x t frame line new losses
   alike : AlikeNets after new
 
-frame_from : (m n : Net) (x : ℕ) (s t : State) (frame : Frame) (line : List ℕ) (after : Net) (losses : List Item) → AlikeNets m n → AlikeStates s t → TellsFrame m x s frame line after losses →
+frame_from : (m n : NetState) (x : ℕ) (s t : State) (frame : Frame) (line : List ℕ) (after : NetState) (losses : List Item) → AlikeNets m n → AlikeStates s t → TellsFrame m x s frame line after losses →
     FrameAlso n x t frame line after losses
 frame_from m n x s t frame line after losses nets states tells =
     let e : Emission = record { iface = frame.iface; frame = frame.bytes; lost = tells.lost } in
@@ -124,7 +124,7 @@ frame_from m n x s t frame line after losses nets states tells =
         leads = refl;
         losses_are = tells.losses_are;
       };
-      alike = subst (λ (z : Net). AlikeNets z (with_traffic n tells.traffic)) (sym tells.leads) (nets_traffic m n tells.traffic nets);
+      alike = subst (λ (z : NetState). AlikeNets z (with_traffic n tells.traffic)) (sym tells.leads) (nets_traffic m n tells.traffic nets);
     }
 
 frames_from : (s t : State) (complete : Bool) (sequence : ℕ) (rows : List TcRow) (first : Frame) (further : List Frame) → AlikeStates s t → AreTcFrames s complete sequence rows first further → AreTcFrames t complete sequence rows first further
@@ -176,11 +176,11 @@ routing_states s t relays h = record {
   last = h.last;
 }
 
-module _ (m n : Net) (x : ℕ) (s t : State) (line : List ℕ) (nets : AlikeNets m n) (states : AlikeStates s t) (h : HoldsAlso s t) (k : HoldsAlso t s) where
+module _ (m n : NetState) (x : ℕ) (s t : State) (line : List ℕ) (nets : AlikeNets m n) (states : AlikeStates s t) (h : HoldsAlso s t) (k : HoldsAlso t s) where
   back : s.settings ≡ t.settings
   back = sym states.settings
 
-  pub tells_from : (item : Item) (after : Net) (more : List Item) → Tells m x s line item after more → TellsAlso n x t line item after more
+  pub tells_from : (item : Item) (after : NetState) (more : List Item) → TellsItem m x s line item after more → TellsAlso n x t line item after more
   tells_from item after more (Tells_flooding {i} face relays g at graph are is) = record {
     new = with_state n x (with_flooding t relays);
     tells = Tells_flooding face relays g (subst (λ (r : RouterSettings). slice_get r.interfaces i ≡ Some face) back at)

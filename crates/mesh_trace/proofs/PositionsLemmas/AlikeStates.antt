@@ -19,7 +19,7 @@ use Rattle.mesh_atoms.specs.declared.tuples.Neighbour.{Neighbour}
 use Rattle.mesh_atoms.specs.declared.tuples.Relays.{Relays}
 use Rattle.mesh_atoms.specs.declared.tuples.TwoHop.{TwoHop}
 use Rattle.mesh_atoms.specs.declared.tuples.TwoHopKey.{TwoHopKey}
-use Rattle.mesh_atoms.specs.Advertised.{Gives, IsRowBy, AreTcRows}
+use Rattle.mesh_atoms.specs.Advertised.{GivesAsSelector, IsRowBy, AreTcRows}
 use Rattle.mesh_atoms.specs.Base.{Base, Has, HasDistinctKeys, Same, base_of}
 use Rattle.mesh_atoms.specs.Hello.{Part, This_if, Other_if, Link_lost, Link_symmetric, Link_heard, Other_lost, Other_symmetric, Link_in, Link_out, Near_in, Near_out, Flooding, Routing, HasLinkTo, SaysLink, Says, IsHelloRow, IsHelloNow, local_part, link_part, other_part}
 use Rattle.mesh_atoms.specs.Nodes.{IsBefore}
@@ -212,14 +212,14 @@ row_apart x y (inl p) (inr (same, q)) = omega (arith, p, same)
 row_apart x y (inr (same, p)) (inl q) = omega (arith, q, same)
 row_apart x y (inr (same, p)) (inr (same', q)) = omega (arith, p, q)
 
-gives_by : (s t : State) → HoldsAlso s t → (a o : Addr4) (m : Metric) → Gives s a o m → Gives t a o m
+gives_by : (s t : State) → HoldsAlso s t → (a o : Addr4) (m : Metric) → GivesAsSelector s a o m → GivesAsSelector t a o m
 gives_by s t h a o m g = record { neighbour = g.neighbour; symmetric = h.neighbours o g.neighbour g.symmetric; selects = g.selects; metric = g.metric; address = g.address }
 
 pub rows_only : (s t : State) → HoldsAlso s t → HoldsAlso t s → (xs ys : List TcRow) → AreTcRows s xs → AreTcRows t ys → xs ≡ ys
 rows_only s t h k xs ys one other =
-    let there : (a o : Addr4) (m : Metric) → Gives s a o m ↔ Gives t a o m = λ a o m. (gives_by s t h a o m, gives_by t s k a o m) in
-    let here : (a o : Addr4) (m : Metric) → Gives t a o m ↔ Gives s a o m = λ a o m. (gives_by t s k a o m, gives_by s t h a o m) in
+    let there : (a o : Addr4) (m : Metric) → GivesAsSelector s a o m ↔ GivesAsSelector t a o m = λ a o m. (gives_by s t h a o m, gives_by t s k a o m) in
+    let here : (a o : Addr4) (m : Metric) → GivesAsSelector t a o m ↔ GivesAsSelector s a o m = λ a o m. (gives_by t s k a o m, gives_by s t h a o m) in
     let attached : t.settings.attached ≡ s.settings.attached = ap (λ (r : RouterSettings). r.attached) h.settings in
     ordered_once (λ (x y : TcRow). IsBefore x.dest y.dest) row_apart xs ys one.ordered other.ordered
-    (λ row has. (other.exactly row).1 (subst (λ (l : List Attached4). IsRowBy (Gives t) l row) (sym attached) (same_row (Gives s) (Gives t) there s.settings.attached row ((one.exactly row).0 has))))
-    (λ row has. (one.exactly row).1 (subst (λ (l : List Attached4). IsRowBy (Gives s) l row) attached (same_row (Gives t) (Gives s) here t.settings.attached row ((other.exactly row).0 has))))
+    (λ row has. (other.exactly row).1 (subst (λ (l : List Attached4). IsRowBy (GivesAsSelector t) l row) (sym attached) (same_row (GivesAsSelector s) (GivesAsSelector t) there s.settings.attached row ((one.exactly row).0 has))))
+    (λ row has. (one.exactly row).1 (subst (λ (l : List Attached4). IsRowBy (GivesAsSelector s) l row) attached (same_row (GivesAsSelector t) (GivesAsSelector s) here t.settings.attached row ((other.exactly row).0 has))))

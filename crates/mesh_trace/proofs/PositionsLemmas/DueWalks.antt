@@ -16,9 +16,9 @@ use Rattle.mesh_atoms.specs.declared.network.Emission.{Emission}
 use Rattle.mesh_texts.specs.machine.Traffic.{Traffic, SendsAll, frame_of}
 use Rattle.mesh_texts.specs.machine.wire.Writes.{WritesTc}
 use Rattle.mesh_texts.specs.Trace.{sent_lines}
-use Rattle.mesh_texts.specs.machine.Net.{Net}
+use Rattle.mesh_texts.specs.machine.Net.{NetState}
 use Rattle.mesh_trace.specs.Positions.Due.{part_items}
-use Rattle.mesh_trace.specs.Positions.Items.{Tells, Tells_hello, Tells_tc, TellsFrame, AreTcFrames}
+use Rattle.mesh_trace.specs.Positions.Items.{TellsItem, Tells_hello, Tells_tc, TellsFrame, AreTcFrames}
 use Rattle.mesh_trace.specs.Positions.Standing.{Item, Hello, Tc, Sent, Lost, with_traffic}
 use Rattle.mesh_trace.proofs.PositionsLemmas.Leading.{at}
 use Rattle.mesh_trace.proofs.PositionsLemmas.SendingWalks.{frame_walk, frames_walk}
@@ -49,7 +49,7 @@ cut_of (e ∷ es) (f ∷ a) b same =
       behind_is = more.behind_is;
     }
 
-pub sends_cut : (net : Net) (now x : ℕ) (front behind : List Emission) (before after : Traffic) → SendsAll net.scenario now x (front ++ behind) before after →
+pub sends_cut : (net : NetState) (now x : ℕ) (front behind : List Emission) (before after : Traffic) → SendsAll net.scenario now x (front ++ behind) before after →
     (mid : Traffic) × SendsAll net.scenario now x front before mid × SendsAll net.scenario now x behind mid after
 sends_cut net now x [] behind before after sends = (before, refl, sends)
 sends_cut net now x (e ∷ es) behind before after (one, first, more) =
@@ -61,7 +61,7 @@ lines_cut f (e ∷ es) behind = ap (λ (l : List ℕ). f e ++ l) (lines_cut f es
 
 -- ---- HELLOs
 
-pub hellos_walk : (net : Net) (x : ℕ) (s : State) (rest : List Item) (faces : List Interface) (n : ℕ) (es : List Emission) (before after : Traffic) → slice_get net.routers x ≡ Some s →
+pub hellos_walk : (net : NetState) (x : ℕ) (s : State) (rest : List Item) (faces : List Interface) (n : ℕ) (es : List Emission) (before after : Traffic) → slice_get net.routers x ≡ Some s →
     length es ≡ length faces → ((k : ℕ) (e : Emission) → slice_get es k ≡ Some e → IsHelloFrame s (n + k) (frame_of e)) →
     SendsAll net.scenario s.last x es before after →
     Walks (at (with_traffic net before) x (map (λ f. Hello f.0) (enumerate_from n faces) ++ rest)) (at (with_traffic net after) x rest) (flat_map (sent_lines net.scenario s.last s.settings) es)
@@ -75,7 +75,7 @@ hellos_walk net x s rest (face ∷ faces) n (e ∷ es) before after stood same h
     let zero_more : n + 0 ≡ n = omega arith in
     walks_on _ (at (with_traffic net mid) x items) _ (sent_lines net.scenario s.last s.settings e) (flat_map (sent_lines net.scenario s.last s.settings) es)
     (frame_walk (with_traffic net before) x s (Hello n) e mid [] items stood one
-    (λ line tells. subst (λ (l : List Item). Tells (with_traffic net before) x s line (Hello n) (with_traffic net mid) l) (sym (append-nil (map Lost e.lost)))
+    (λ line tells. subst (λ (l : List Item). TellsItem (with_traffic net before) x s line (Hello n) (with_traffic net mid) l) (sym (append-nil (map Lost e.lost)))
     (Tells_hello (frame_of e) (subst (λ (i : ℕ). IsHelloFrame s i (frame_of e)) zero_more frame) tells)))
     (hellos_walk net x s rest faces (n + 1) es mid after stood (omega (arith, same))
     (λ k f there. let longer : (n + 1) + k ≡ n + suc k = omega arith in subst (λ (i : ℕ). IsHelloFrame s i (frame_of f)) (sym longer) (hellos (suc k) f there)) more)
@@ -83,7 +83,7 @@ hellos_walk net x s rest (face ∷ faces) n (e ∷ es) before after stood same h
 -- ---- TCs
 
 -- a TC on each interface
-each_walk : (net : Net) (x : ℕ) (s : State) (complete : Bool) (sequence : ℕ) (rows : List TcRow) (validity : List ℕ) (tc : TcValue) (bytes : List ℕ) (es : List Emission) (rest : List Item) (before after : Traffic) →
+each_walk : (net : NetState) (x : ℕ) (s : State) (complete : Bool) (sequence : ℕ) (rows : List TcRow) (validity : List ℕ) (tc : TcValue) (bytes : List ℕ) (es : List Emission) (rest : List Item) (before after : Traffic) →
     slice_get net.routers x ≡ Some s → IsValidity s.settings.times.topology_hold s.settings.near_hold validity → IsTcOfRows s validity complete sequence rows tc →
     WritesTc tc s.settings.times.tc_hop_limit validity bytes → map frame_of es ≡ record { iface = 0; bytes = bytes } ∷ drop 1 (on_each (length s.settings.interfaces) bytes) →
     SendsAll net.scenario s.last x es before after →
@@ -105,7 +105,7 @@ each_walk net x s complete sequence rows validity tc bytes (e ∷ es) rest befor
     (λ line tells. Tells_tc zeroth further frames (subst (λ (f : Frame). TellsFrame (with_traffic net before) x s f line (with_traffic net mid) (map Lost e.lost)) first tells)))
     (frames_walk net x s rest es further mid after stood others more)
 
-pub parts_walk : (net : Net) (x : ℕ) (s : State) (rest : List Item) (validity : List ℕ) (complete : Bool) (sequence : ℕ) (parts : List (List TcRow)) (frames : List Frame) (es : List Emission) (before after : Traffic) →
+pub parts_walk : (net : NetState) (x : ℕ) (s : State) (rest : List Item) (validity : List ℕ) (complete : Bool) (sequence : ℕ) (parts : List (List TcRow)) (frames : List Frame) (es : List Emission) (before after : Traffic) →
     slice_get net.routers x ≡ Some s → IsValidity s.settings.times.topology_hold s.settings.near_hold validity → SendsParts s validity complete sequence parts frames → map frame_of es ≡ frames →
     SendsAll net.scenario s.last x es before after →
     Walks (at (with_traffic net before) x (part_items complete sequence parts ++ rest)) (at (with_traffic net after) x rest) (flat_map (sent_lines net.scenario s.last s.settings) es)

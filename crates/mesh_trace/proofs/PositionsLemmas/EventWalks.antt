@@ -9,7 +9,7 @@ use Rattle.mesh_atoms.specs.declared.graphs.Route.{Route}
 use Rattle.mesh_atoms.specs.declared.settings.RadioArc.{RadioArc}
 use Rattle.mesh_atoms.specs.declared.tc.TcRow.{TcRow}
 use Rattle.mesh_atoms.specs.declared.tuples.Relays.{Relays}
-use Rattle.mesh_atoms.specs.Advertised.{Gives, AreTcRows}
+use Rattle.mesh_atoms.specs.Advertised.{GivesAsSelector, AreTcRows}
 use Rattle.mesh_atoms.specs.RelayGraphs.{AreRelays}
 use Rattle.mesh_atoms.specs.State.{Bases, State}
 use Rattle.mesh_texts.proofs.machine.topo.AdvertisedLemmas.Advertising.{same_row}
@@ -24,7 +24,7 @@ use Rattle.mesh_texts.specs.machine.Traffic.{Traffic, Delivery, SendsAll, frame_
 use Rattle.mesh_texts.proofs.machine.Places.{set_here}
 use Rattle.mesh_texts.specs.Lines.Marks.{face_name}
 use Rattle.mesh_texts.specs.Trace.{tick_line, heard_line, relays_lines, sent_lines}
-use Rattle.mesh_texts.specs.machine.Net.{Net, HearsNext, IsSender}
+use Rattle.mesh_texts.specs.machine.Net.{NetState, HearsNext, IsSender}
 use Rattle.mesh_trace.specs.Positions.Due.{Follows, TakesPacket, Taken, HellosDue, Hellos_early, Hellos_due, TcsDue, Tcs_early, Tcs_silent, Tcs_due, none_told, part_items}
 use Rattle.mesh_trace.specs.Positions.Events.{OpensEvent, OpensTick, By_delivery}
 use Rattle.mesh_trace.specs.Positions.Standing.{Item, Hello, Sent, TracePosition, with_state, with_traffic, relay_items}
@@ -47,14 +47,14 @@ pub rows_with : (s : State) (relays : Relays) (routes : List Route) (rows : List
     AreTcRows (record s { relays = relays; routes = routes }) rows
 rows_with s relays routes rows are =
     let t : State = record s { relays = relays; routes = routes } in
-    let to : (a o : Addr4) (m : Metric) → Gives s a o m → Gives t a o m = λ a o m g.
+    let to : (a o : Addr4) (m : Metric) → GivesAsSelector s a o m → GivesAsSelector t a o m = λ a o m g.
     record { neighbour = g.neighbour; symmetric = g.symmetric; selects = g.selects; metric = g.metric; address = g.address } in
-    let back : (a o : Addr4) (m : Metric) → Gives t a o m → Gives s a o m = λ a o m g.
+    let back : (a o : Addr4) (m : Metric) → GivesAsSelector t a o m → GivesAsSelector s a o m = λ a o m g.
     record { neighbour = g.neighbour; symmetric = g.symmetric; selects = g.selects; metric = g.metric; address = g.address } in
     record {
       exactly = λ row. (
-        λ has. same_row (Gives s) (Gives t) (λ a o m. (to a o m, back a o m)) s.settings.attached row ((are.exactly row).0 has),
-        λ is. (are.exactly row).1 (same_row (Gives t) (Gives s) (λ a o m. (back a o m, to a o m)) s.settings.attached row is),
+        λ has. same_row (GivesAsSelector s) (GivesAsSelector t) (λ a o m. (to a o m, back a o m)) s.settings.attached row ((are.exactly row).0 has),
+        λ is. (are.exactly row).1 (same_row (GivesAsSelector t) (GivesAsSelector s) (λ a o m. (back a o m, to a o m)) s.settings.attached row is),
       );
       ordered = are.ordered;
     }
@@ -95,7 +95,7 @@ relays_now old now bases new r = subst (AreRelays new) (sym r.last) r.relays
 -- ---- behind the relay lines
 
 -- the items of HELLOs
-record HellosBy (old new : State) (sent : List Frame) (net : Net) (x : ℕ) : Type 0 where
+record HellosBy (old new : State) (sent : List Frame) (net : NetState) (x : ℕ) : Type 0 where
   items : List Item
   are : HellosDue old new items
   walks : (rest : List Item) (es : List Emission) (before after : Traffic) → slice_get net.routers x ≡ Some new → map frame_of es ≡ sent →
@@ -103,7 +103,7 @@ record HellosBy (old new : State) (sent : List Frame) (net : Net) (x : ℕ) : Ty
       Walks (at (with_traffic net before) x (items ++ rest)) (at (with_traffic net after) x rest) (flat_map (sent_lines net.scenario new.last new.settings) es)
 
 -- nothing is sent
-none_walk : (net : Net) (x : ℕ) (s : State) (rest : List Item) (es : List Emission) (before after : Traffic) → map frame_of es ≡ [] → SendsAll net.scenario s.last x es before after →
+none_walk : (net : NetState) (x : ℕ) (s : State) (rest : List Item) (es : List Emission) (before after : Traffic) → map frame_of es ≡ [] → SendsAll net.scenario s.last x es before after →
     Walks (at (with_traffic net before) x rest) (at (with_traffic net after) x rest) (flat_map (sent_lines net.scenario s.last s.settings) es)
 none_walk net x s rest [] before after none sends = subst (λ (t : Traffic). Walks (at (with_traffic net before) x rest) (at (with_traffic net t) x rest) []) (sym sends) (walks_nowhere _)
 none_walk net x s rest (e ∷ es) before after none sends = absurd cc
@@ -115,7 +115,7 @@ stands_of es fs k e are at = subst (λ (l : List Frame). slice_get l k ≡ Some 
   mapped (y ∷ ys) zero there = let same : y ≡ e = cc in ap (λ (z : Emission). Some (frame_of z)) same
   mapped (y ∷ ys) (suc i) there = mapped ys i there
 
-hellos_by : (old new : State) (sent : List Frame) (net : Net) (x : ℕ) → SendsHellos old new sent → HellosBy old new sent net x
+hellos_by : (old new : State) (sent : List Frame) (net : NetState) (x : ℕ) → SendsHellos old new sent → HellosBy old new sent net x
 hellos_by old new sent net x (Early_hellos early same) = record {
   items = [];
   are = Hellos_early early same;
@@ -130,14 +130,14 @@ hellos_by old new sent net x (Due_hellos due next frames) = record {
       (λ k e there. let none : k ≡ 0 + k = omega arith in subst (λ (i : ℕ). IsHelloFrame new i (frame_of e)) none (frames.each k (frame_of e) (stands_of es sent k e are there))) sends;
 }
 
-record TcsBy (old new : State) (sent : List Frame) (net : Net) (x : ℕ) : Type 0 where
+record TcsBy (old new : State) (sent : List Frame) (net : NetState) (x : ℕ) : Type 0 where
   items : List Item
   are : TcsDue old new items
   walks : (rest : List Item) (es : List Emission) (before after : Traffic) → slice_get net.routers x ≡ Some new → map frame_of es ≡ sent →
       SendsAll net.scenario new.last x es before after →
       Walks (at (with_traffic net before) x (items ++ rest)) (at (with_traffic net after) x rest) (flat_map (sent_lines net.scenario new.last new.settings) es)
 
-tcs_by : (old new : State) (sent : List Frame) (net : Net) (x : ℕ) → SendsTcs old new sent → TcsBy old new sent net x
+tcs_by : (old new : State) (sent : List Frame) (net : NetState) (x : ℕ) → SendsTcs old new sent → TcsBy old new sent net x
 tcs_by old new sent net x (Early_tcs early next sequence) = record {
   items = [];
   are = Tcs_early early next sequence;
@@ -166,13 +166,13 @@ tcs_untold old new items (Tcs_due late next has parts cut sequence) = Tcs_due la
 
 -- ---- a tick
 
-pub tick_walk : (old : Net) (x0 x now l : ℕ) (was is : State) (sent : List Frame) (es : List Emission) (after : Traffic) → slice_get old.routers x ≡ Some was → TicksAt was now sent is →
+pub tick_walk : (old : NetState) (x0 x now l : ℕ) (was is : State) (sent : List Frame) (es : List Emission) (after : Traffic) → slice_get old.routers x ≡ Some was → TicksAt was now sent is →
     map frame_of es ≡ sent → SendsAll old.scenario now x es old.traffic after →
     ((line : List ℕ) (p : TracePosition) → OpensTick old x now l line p → OpensEvent old line p) →
     Walks (at old x0 []) (at (record old { routers = slice_set old.routers x is; traffic = after; last_ticks = l }) x [])
     ((tick_line now was.settings.name ++ relays_lines is) ++ flat_map (sent_lines old.scenario is.last is.settings) es)
 tick_walk old x0 x now l was is sent es after stood ticks frames sends opens =
-    let base : Net = record old { last_ticks = l } in
+    let base : NetState = record old { last_ticks = l } in
     let hellos = hellos_by was is ticks.hellos (with_state base x is) x ticks.sends_hellos in
     let tcs = tcs_by was is ticks.tcs (with_state base x is) x ticks.sends_tcs in
     let left : List Item = hellos.items ++ tcs.items in
@@ -214,7 +214,7 @@ tick_walk old x0 x now l was is sent es after stood ticks frames sends opens =
 
 -- ---- a frame is heard
 
-pub hear_walk : (old : Net) (x0 : ℕ) (delivery : Delivery) (others : List Delivery) (arc : RadioArc) (sender : Addr4) (was is : State) (fates : List Fate) (es : List Emission) (after : Traffic) →
+pub hear_walk : (old : NetState) (x0 : ℕ) (delivery : Delivery) (others : List Delivery) (arc : RadioArc) (sender : Addr4) (was is : State) (fates : List Fate) (es : List Emission) (after : Traffic) →
     HearsNext old delivery others → slice_get old.scenario.arcs delivery.arc ≡ Some arc → IsSender old.scenario.routers arc sender → slice_get old.routers arc.to ≡ Some was →
     HearsPacket was (record { now = delivery.moment; iface = arc.to_iface; sender = sender }) delivery.frame fates (map frame_of es) is →
     SendsAll old.scenario delivery.moment arc.to es (with_heard old.traffic others) after →
@@ -222,7 +222,7 @@ pub hear_walk : (old : Net) (x0 : ℕ) (delivery : Delivery) (others : List Deli
     ((heard_line delivery.moment was.settings.name (face_name was.settings.interfaces arc.to_iface) sender delivery.frame ++ relays_lines is) ++ flat_map (sent_lines old.scenario is.last is.settings) es)
 hear_walk old x0 delivery others arc sender was is fates es after next arc_is sender_is stood hears sends =
     let arrival : Arrival = record { now = delivery.moment; iface = arc.to_iface; sender = sender } in
-    let base : Net = with_traffic old (with_heard old.traffic others) in
+    let base : NetState = with_traffic old (with_heard old.traffic others) in
     let left : List Item = map Sent (map frame_of es) in
     let line_text = heard_line delivery.moment was.settings.name (face_name was.settings.interfaces arc.to_iface) sender delivery.frame in
     let by_last : SendsAll old.scenario is.last arc.to es (with_heard old.traffic others) after = subst (λ (n : ℕ). SendsAll old.scenario n arc.to es (with_heard old.traffic others) after) (sym hears.renews.last) sends in

@@ -14,7 +14,7 @@ use Rattle.mesh_texts.specs.machine.Renewal.{IsNextAnsn, IsEmptied}
 use Rattle.mesh_texts.specs.machine.Traffic.{Traffic, Delivery, IsHeardFirst, with_heard}
 use Rattle.mesh_texts.specs.Lines.Marks.{face_name}
 use Rattle.mesh_texts.specs.Trace.{heard_line, tick_line}
-use Rattle.mesh_texts.specs.machine.Net.{Net, IsFirstDue, HearsNext, TicksNext, HasOnlyLastTicks, IsSender}
+use Rattle.mesh_texts.specs.machine.Net.{NetState, IsFirstDue, HearsNext, TicksNext, HasOnlyLastTicks, IsSender}
 use Rattle.mesh_trace.specs.Positions.Alike.{AlikeStates, Alike}
 use Rattle.mesh_trace.specs.Positions.Due.{Follows, TakesPacket, HearsBy, Refused, Taken, HellosDue, Hellos_early, Hellos_due, TcsDue, Tcs_early, Tcs_silent, Tcs_due, TicksBy, part_items}
 use Rattle.mesh_trace.specs.Reading.Lines.{IsLineOf}
@@ -28,7 +28,7 @@ use Rattle.mesh_atoms.proofs.Lists.{item_at as stands}
 
 -- ---- which event comes next
 
-pub nets_back : (m n : Net) → AlikeNets m n → AlikeNets n m
+pub nets_back : (m n : NetState) → AlikeNets m n → AlikeNets n m
 nets_back m n h = record {
   scenario = sym h.scenario;
   count = sym h.count;
@@ -38,12 +38,12 @@ nets_back m n h = record {
 }
 
 -- the router of that number in the other network
-pub record RouterAlso (n : Net) (x : ℕ) (s : State) : Type 0 where
+pub record RouterAlso (n : NetState) (x : ℕ) (s : State) : Type 0 where
   pub t : State
   pub stands : slice_get n.routers x ≡ Some t
   pub alike : AlikeStates s t
 
-pub router_also : (m n : Net) → AlikeNets m n → (x : ℕ) (s : State) → slice_get m.routers x ≡ Some s → RouterAlso n x s
+pub router_also : (m n : NetState) → AlikeNets m n → (x : ℕ) (s : State) → slice_get m.routers x ≡ Some s → RouterAlso n x s
 router_also m n nets x s at =
     let below : x < length n.routers = let h = slice_get_within m.routers x s at in let k = nets.count in omega (arith, h, k) in
     let (t, there) = stands n.routers x below in
@@ -53,17 +53,17 @@ due_same : (s t : State) → AlikeStates s t → due t ≡ due s
 due_same s t h = ap (λ (k : ℕ). min k t.next_tc) h.next_hello ∙ ap (λ (k : ℕ). min s.next_hello k) h.next_tc
 
 -- what holds of each moment at which a router is due
-each_due : (P : ℕ → Type 0) (m n : Net) → AlikeNets m n → All (λ s. P (due s)) m.routers → (x : ℕ) (t : State) → slice_get n.routers x ≡ Some t → P (due t)
+each_due : (P : ℕ → Type 0) (m n : NetState) → AlikeNets m n → All (λ s. P (due s)) m.routers → (x : ℕ) (t : State) → slice_get n.routers x ≡ Some t → P (due t)
 each_due P m n nets all x t at =
     let one = router_also n m (nets_back m n nets) x t at in
     subst P (due_same t one.t one.alike) (all_at (λ (s : State). P (due s)) m.routers x one.t all one.stands)
 
-all_due : (P : ℕ → Type 0) (m n : Net) → AlikeNets m n → All (λ s. P (due s)) m.routers → All (λ s. P (due s)) n.routers
+all_due : (P : ℕ → Type 0) (m n : NetState) → AlikeNets m n → All (λ s. P (due s)) m.routers → All (λ s. P (due s)) n.routers
 all_due P m n nets all i d within =
     let (t, at) = stands n.routers i within in
     subst (λ (s : State). P (due s)) (sym (get_or_from_slice_get n.routers i t d at)) (each_due P m n nets all i t at)
 
-first_due_from : (m n : Net) → AlikeNets m n → (x moment : ℕ) → IsFirstDue m.routers x moment → IsFirstDue n.routers x moment
+first_due_from : (m n : NetState) → AlikeNets m n → (x moment : ℕ) → IsFirstDue m.routers x moment → IsFirstDue n.routers x moment
 first_due_from m n nets x moment h =
     let here = router_also m n nets x h.state h.stands in
     let back = nets_back m n nets in
@@ -75,21 +75,21 @@ first_due_from m n nets x moment h =
       later = λ y v at less. (let one = router_also n m back y v at in subst (λ (k : ℕ). moment < k) (due_same v one.t one.alike) (h.later y one.t one.stands less));
     }
 
-hears_next_from : (m n : Net) → AlikeNets m n → (d : Delivery) (others : List Delivery) → HearsNext m d others → HearsNext n d others
+hears_next_from : (m n : NetState) → AlikeNets m n → (d : Delivery) (others : List Delivery) → HearsNext m d others → HearsNext n d others
 hears_next_from m n nets d others h = record {
   first = subst (λ (t : Traffic). IsHeardFirst t.air d others) (sym nets.traffic) h.first;
   in_time = subst (λ (c : Scenario). d.moment ≤ c.end) (sym nets.scenario) h.in_time;
   before_ticks = all_due (λ k. d.moment ≤ k) m n nets h.before_ticks;
 }
 
-ticks_next_from : (m n : Net) → AlikeNets m n → (x moment : ℕ) → TicksNext m x moment → TicksNext n x moment
+ticks_next_from : (m n : NetState) → AlikeNets m n → (x moment : ℕ) → TicksNext m x moment → TicksNext n x moment
 ticks_next_from m n nets x moment h = record {
   first = first_due_from m n nets x moment h.first;
   in_time = subst (λ (c : Scenario). moment ≤ c.end) (sym nets.scenario) h.in_time;
   before_frames = subst (λ (t : Traffic). All (λ d. moment < d.moment) t.air) (sym nets.traffic) h.before_frames;
 }
 
-pub last_ticks_from : (m n : Net) → AlikeNets m n → HasOnlyLastTicks m → HasOnlyLastTicks n
+pub last_ticks_from : (m n : NetState) → AlikeNets m n → HasOnlyLastTicks m → HasOnlyLastTicks n
 last_ticks_from m n nets h = record {
   no_frames = subst (λ (c : Scenario). All (λ d. c.end < d.moment) n.traffic.air) (sym nets.scenario) (subst (λ (t : Traffic). All (λ d. m.scenario.end < d.moment) t.air) (sym nets.traffic) h.no_frames);
   no_ticks = subst (λ (c : Scenario). All (λ s. c.end < due s) n.routers) (sym nets.scenario) (all_due (λ k. m.scenario.end < k) m n nets h.no_ticks);
@@ -173,17 +173,17 @@ hears_from s t h arrival bytes new left (Taken {sent} takes) = record { new = ne
 
 -- ---- the line
 
-pub record OpensAlso (n : Net) (line : List ℕ) (after : TracePosition) : Type 0 where
+pub record OpensAlso (n : NetState) (line : List ℕ) (after : TracePosition) : Type 0 where
   pub new : TracePosition
   pub opens : OpensEvent n line new
   pub alike : Alike after new
 
-record TickAlso (n : Net) (x now last_ticks : ℕ) (line : List ℕ) (after : TracePosition) : Type 0 where
+record TickAlso (n : NetState) (x now last_ticks : ℕ) (line : List ℕ) (after : TracePosition) : Type 0 where
   new : TracePosition
   opens : OpensTick n x now last_ticks line new
   alike : Alike after new
 
-tick_from : (m n : Net) → AlikeNets m n → (x now last_ticks : ℕ) (line : List ℕ) (after : TracePosition) → OpensTick m x now last_ticks line after → TickAlso n x now last_ticks line after
+tick_from : (m n : NetState) → AlikeNets m n → (x now last_ticks : ℕ) (line : List ℕ) (after : TracePosition) → OpensTick m x now last_ticks line after → TickAlso n x now last_ticks line after
 tick_from m n nets x now last_ticks line after h =
     let here = router_also m n nets x h.was h.stands in
     let set = nets_set m n x h.is h.is nets (states_itself h.is) in
@@ -202,7 +202,7 @@ tick_from m n nets x now last_ticks line after h =
           (record { scenario = set.scenario; count = set.count; routers = set.routers; traffic = set.traffic; last_ticks = refl; router = refl; left = refl });
     }
 
-hearing_from : (m n : Net) → AlikeNets m n → (line : List ℕ) (after : TracePosition) → OpensHearing m line after → OpensAlso n line after
+hearing_from : (m n : NetState) → AlikeNets m n → (line : List ℕ) (after : TracePosition) → OpensHearing m line after → OpensAlso n line after
 hearing_from m n nets line after h =
     let here = router_also m n nets h.arc.to h.was h.stands in
     let arrival : Arrival = record { now = h.delivery.moment; iface = h.arc.to_iface; sender = h.sender } in
@@ -238,7 +238,7 @@ hearing_from m n nets line after h =
       });
     }
 
-pub opens_from : (m n : Net) → AlikeNets m n → (line : List ℕ) (after : TracePosition) → OpensEvent m line after → OpensAlso n line after
+pub opens_from : (m n : NetState) → AlikeNets m n → (line : List ℕ) (after : TracePosition) → OpensEvent m line after → OpensAlso n line after
 opens_from m n nets line after (By_delivery h) = hearing_from m n nets line after h
 opens_from m n nets line after (By_tick x moment next h) =
     let also = tick_from m n nets x moment m.last_ticks line after h in

@@ -23,7 +23,7 @@ use Rattle.mesh_texts.specs.machine.Sending.{HasToAdvertise, IsNextMoment}
 use Rattle.mesh_texts.proofs.machine.Soundness.{live_bases_sound}
 use Rattle.mesh_texts.specs.machine.Traffic.{Delivery, with_heard}
 use Rattle.mesh_texts.proofs.machine.Places.{same_at}
-use Rattle.mesh_texts.specs.machine.Net.{Net, IsFirstDue, HearsNext, TicksNext, HasOnlyLastTicks, IsSender}
+use Rattle.mesh_texts.specs.machine.Net.{NetState, IsFirstDue, HearsNext, TicksNext, HasOnlyLastTicks, IsSender}
 use Rattle.mesh_trace.specs.Positions.Alike.{AlikeBases, AlikeStates, Alike}
 use Rattle.mesh_trace.specs.Positions.Due.{Follows, TakesPacket, HearsBy, Refused, Taken, HellosDue, Hellos_early, Hellos_due, TcsDue, Tcs_early, Tcs_silent, Tcs_due, TicksBy, part_items}
 use Rattle.mesh_trace.specs.Positions.Events.{OpensHearing, OpensTick, OpensEvent, By_delivery, By_tick, By_last_tick}
@@ -263,10 +263,10 @@ hears_once s arrival bytes a b one other sound (Taken {sent} h) (Taken {sent = m
 
 -- ---- the line
 
-placed : (m n : Net) (x : ℕ) (one other : List Item) → AlikeNets m n → other ≡ one → Alike (record { net = m; router = x; left = one }) (record { net = n; router = x; left = other })
+placed : (m n : NetState) (x : ℕ) (one other : List Item) → AlikeNets m n → other ≡ one → Alike (record { net = m; router = x; left = one }) (record { net = n; router = x; left = other })
 placed m n x one other h left = record { scenario = h.scenario; count = h.count; routers = h.routers; traffic = h.traffic; last_ticks = h.last_ticks; router = refl; left = left }
 
-pub nets_itself : (n : Net) → AlikeNets n n
+pub nets_itself : (n : NetState) → AlikeNets n n
 nets_itself n = record {
   scenario = refl;
   count = refl;
@@ -275,7 +275,7 @@ nets_itself n = record {
   last_ticks = refl;
 }
 
-tick_once : (net : Net) (x now last_ticks : ℕ) (line : List ℕ) (p q : TracePosition) → AreSound net.routers → OpensTick net x now last_ticks line p → OpensTick net x now last_ticks line q → Alike p q
+tick_once : (net : NetState) (x now last_ticks : ℕ) (line : List ℕ) (p q : TracePosition) → AreSound net.routers → OpensTick net x now last_ticks line p → OpensTick net x now last_ticks line q → Alike p q
 tick_once net x now last_ticks line p q sound h k =
     let was : k.was ≡ h.was = same_at net.routers x k.was h.was k.stands h.stands in
     let once = ticks_once h.was now h.is k.is h.left k.left (sound x h.was h.stands) h.ticks (subst (λ (z : State). TicksBy z now k.is k.left) was k.ticks) in
@@ -291,7 +291,7 @@ sender_once routers arc a b h k =
     same_at h.router.interfaces arc.from_iface k.face h.face (subst (λ (r : RouterSettings). slice_get r.interfaces arc.from_iface ≡ Some k.face) router k.face_is) h.face_is in
     same_at h.face.addrs 0 a b h.address (subst (λ (f : Interface). slice_get f.addrs 0 ≡ Some b) face k.address)
 
-hearing_once : (net : Net) (line : List ℕ) (p q : TracePosition) → AreSound net.routers → OpensHearing net line p → OpensHearing net line q → Alike p q
+hearing_once : (net : NetState) (line : List ℕ) (p q : TracePosition) → AreSound net.routers → OpensHearing net line p → OpensHearing net line q → Alike p q
 hearing_once net line p q sound h k =
     let f = h.next.first in
     let g = k.next.first in
@@ -317,27 +317,27 @@ hearing_once net line p q sound h k =
     (record { scenario = set.scenario; count = set.count; routers = set.routers; traffic = refl; last_ticks = set.last_ticks; router = refl; left = once.left }))
 
 -- a frame isn't next where a tick is, nor is either where only last ticks are left
-pub not_tick : (net : Net) (d : Delivery) (others : List Delivery) (x moment : ℕ) → HearsNext net d others → TicksNext net x moment → ⊥
+pub not_tick : (net : NetState) (d : Delivery) (others : List Delivery) (x moment : ℕ) → HearsNext net d others → TicksNext net x moment → ⊥
 not_tick net d others x moment h k =
     let early : d.moment ≤ due k.first.state = all_at (λ (s : State). d.moment ≤ due s) net.routers x k.first.state h.before_ticks k.first.stands in
     let late : moment < d.moment = behind_all (λ (e : Delivery). moment < e.moment) h.first.before h.first.behind d (subst (All (λ (e : Delivery). moment < e.moment)) h.first.whole k.before_frames) in
     let is = k.first.is in
     omega (arith, early, late, is)
 
-pub not_last : (net : Net) (d : Delivery) (others : List Delivery) → HearsNext net d others → HasOnlyLastTicks net → ⊥
+pub not_last : (net : NetState) (d : Delivery) (others : List Delivery) → HearsNext net d others → HasOnlyLastTicks net → ⊥
 not_last net d others h k =
     let late : net.scenario.end < d.moment = behind_all (λ (e : Delivery). net.scenario.end < e.moment) h.first.before h.first.behind d (subst (All (λ (e : Delivery). net.scenario.end < e.moment)) h.first.whole k.no_frames) in
     let early = h.in_time in
     omega (arith, early, late)
 
-pub tick_not_last : (net : Net) (x moment : ℕ) → TicksNext net x moment → HasOnlyLastTicks net → ⊥
+pub tick_not_last : (net : NetState) (x moment : ℕ) → TicksNext net x moment → HasOnlyLastTicks net → ⊥
 tick_not_last net x moment h k =
     let late : net.scenario.end < due h.first.state = all_at (λ (s : State). net.scenario.end < due s) net.routers x h.first.state k.no_ticks h.first.stands in
     let early = h.in_time in
     let is = h.first.is in
     omega (arith, early, late, is)
 
-pub opens_once : (net : Net) (line : List ℕ) (p q : TracePosition) → AreSound net.routers → OpensEvent net line p → OpensEvent net line q → Alike p q
+pub opens_once : (net : NetState) (line : List ℕ) (p q : TracePosition) → AreSound net.routers → OpensEvent net line p → OpensEvent net line q → Alike p q
 opens_once net line p q sound (By_delivery h) (By_delivery k) = hearing_once net line p q sound h k
 opens_once net line p q sound (By_delivery h) (By_tick x moment next k) = absurd (not_tick net h.delivery h.others x moment h.next next)
 opens_once net line p q sound (By_delivery h) (By_last_tick only some k) = absurd (not_last net h.delivery h.others h.next only)

@@ -10,12 +10,12 @@ use Rattle.mesh_texts.specs.machine.Machine.{IsOpening}
 use Rattle.mesh_texts.proofs.machine.Opening.{opening_sound}
 use Rattle.mesh_texts.proofs.machine.Soundness.{bases_of}
 use Rattle.mesh_texts.proofs.machine.Places.{same_at}
-use Rattle.mesh_texts.specs.machine.Net.{Net}
+use Rattle.mesh_texts.specs.machine.Net.{NetState}
 use Rattle.mesh_trace.specs.Positions.Alike.{AlikeBases, AlikeStates, Alike, HasAddresses, IsSoundPosition}
-use Rattle.mesh_trace.specs.Positions.Items.{Tells}
+use Rattle.mesh_trace.specs.Positions.Items.{TellsItem}
 use Rattle.mesh_trace.specs.Positions.Laws.{NothingFollows, NoneIsLonger, HasSomeLine, AllElseIsFixed, LeadsAlike, LeadsFromAlike, OneDecidesFit, OneDecidesEnd, UnfitIsNotWhole, OneUnfit}
 use Rattle.mesh_trace.specs.Positions.Standing.{Item, TracePosition, IsFirstPosition, IsDone}
-use Rattle.mesh_trace.specs.Positions.Leading.{Fits, Leads, To_event, To_item, LeadsBy, Reaches, At_line, Behind_all}
+use Rattle.mesh_trace.specs.Positions.Leading.{Fits, LineLeads, To_event, To_item, LeadsBy, Reaches, At_line, Behind_all}
 use Rattle.mesh_trace.proofs.PositionsLemmas.Addresses.{positions_have_addresses}
 use Rattle.mesh_trace.proofs.PositionsLemmas.AlikeBases.{bases_itself}
 use Rattle.mesh_trace.proofs.PositionsLemmas.AlikeItems.{tells_once}
@@ -53,19 +53,19 @@ alike_back p q h = record {
 -- ---- items
 
 -- an item that is told at the one is told at the other
-record ItemAlso (p q : TracePosition) (line : List ℕ) (s : State) (item : Item) (rest more : List Item) (after : Net) : Type 0 where
+record ItemAlso (p q : TracePosition) (line : List ℕ) (s : State) (item : Item) (rest more : List Item) (after : NetState) : Type 0 where
   t : State
   stands : slice_get q.net.routers q.router ≡ Some t
   left : q.left ≡ item ∷ rest
   alike : AlikeStates s t
   one : HoldsAlso s t
   other : HoldsAlso t s
-  new : Net
-  tells : Tells q.net q.router t line item new more
+  new : NetState
+  tells : TellsItem q.net q.router t line item new more
   nets : AlikeNets after new
 
-item_also : (p q : TracePosition) (line : List ℕ) (s : State) (item : Item) (rest more : List Item) (after : Net) → IsSoundPosition p → IsSoundPosition q → Alike p q → p.left ≡ item ∷ rest →
-    slice_get p.net.routers p.router ≡ Some s → Tells p.net p.router s line item after more → ItemAlso p q line s item rest more after
+item_also : (p q : TracePosition) (line : List ℕ) (s : State) (item : Item) (rest more : List Item) (after : NetState) → IsSoundPosition p → IsSoundPosition q → Alike p q → p.left ≡ item ∷ rest →
+    slice_get p.net.routers p.router ≡ Some s → TellsItem p.net p.router s line item after more → ItemAlso p q line s item rest more after
 item_also p q line s item rest more after sound sound' alike left stands tells =
     let nets = as_nets p q alike in
     let there = router_also p.net q.net nets p.router s stands in
@@ -83,11 +83,11 @@ item_also p q line s item rest more after sound sound' alike left stands tells =
       one = to;
       other = back;
       new = also.new;
-      tells = subst (λ (x : ℕ). Tells q.net x t line item also.new more) (sym alike.router) also.tells;
+      tells = subst (λ (x : ℕ). TellsItem q.net x t line item also.new more) (sym alike.router) also.tells;
       nets = also.alike;
     }
 
-as_same : (m n : Net) (x y : ℕ) (one other : List Item) → AlikeNets m n → y ≡ x → other ≡ one →
+as_same : (m n : NetState) (x y : ℕ) (one other : List Item) → AlikeNets m n → y ≡ x → other ≡ one →
     Alike (record { net = m; router = x; left = one }) (record { net = n; router = y; left = other })
 as_same m n x y one other h router left = record {
   scenario = h.scenario;
@@ -100,8 +100,8 @@ as_same m n x y one other h router left = record {
 }
 
 -- a line that leads on from the one leads on from the other, to where it is alike
-pub leads_along : (p q after : TracePosition) (line : List ℕ) → IsSoundPosition p → IsSoundPosition q → Alike p q → Leads p line after →
-    (other : TracePosition) × Leads q line other × Alike after other
+pub leads_along : (p q after : TracePosition) (line : List ℕ) → IsSoundPosition p → IsSoundPosition q → Alike p q → LineLeads p line after →
+    (other : TracePosition) × LineLeads q line other × Alike after other
 leads_along p q after line sound sound' alike (To_event none opens) =
     let also = opens_from p.net q.net (as_nets p q alike) line after opens in
     (also.new, To_event (alike.left ∙ none) also.opens, also.alike)
@@ -130,13 +130,13 @@ leads_alike p q after other line sound sound' known alike (To_item {s} {item} {r
     let items : item' ≡ item = cc in
     let rests : rest' ≡ rest = cc in
     let states : u ≡ also.t = same_at q.net.routers q.router u also.t stands' also.stands in
-    let told : Tells q.net q.router also.t line item net' more' =
-    subst (λ (i : Item). Tells q.net q.router also.t line i net' more') items (subst (λ (z : State). Tells q.net q.router z line item' net' more') states tells') in
+    let told : TellsItem q.net q.router also.t line item net' more' =
+    subst (λ (i : Item). TellsItem q.net q.router also.t line i net' more') items (subst (λ (z : State). TellsItem q.net q.router z line item' net' more') states tells') in
     let known_there : HasAddresses also.t = λ o n has. known.addresses p.router s stands o n (also.other.neighbours o n has) in
     let (nets, mores) = tells_once q.net q.router also.t line item also.new net' more more' known_there also.tells told in
     subst (λ (z : TracePosition). Alike z other) (sym leads)
     (subst (λ (z : TracePosition). Alike (record { net = net; router = p.router; left = more ++ rest }) z) (sym leads')
-    (as_same net net' p.router q.router (more ++ rest) (more' ++ rest') (subst (λ (n : Net). AlikeNets net n) nets also.nets) alike.router
+    (as_same net net' p.router q.router (more ++ rest) (more' ++ rest') (subst (λ (n : NetState). AlikeNets net n) nets also.nets) alike.router
     (ap (λ (l : List Item). l ++ rest') (sym mores) ∙ ap (λ (l : List Item). more ++ l) rests)))
 
 -- ---- before the first event
@@ -179,7 +179,7 @@ first_alike s p q h k = record {
 
 -- ---- whole lists of lines
 
-reaches_on : (s : Scenario) (front : List (List ℕ)) (p : TracePosition) (line : List ℕ) (q : TracePosition) → Reaches s front p → Leads p line q → Reaches s (front ++ line ∷ []) q
+reaches_on : (s : Scenario) (front : List (List ℕ)) (p : TracePosition) (line : List ℕ) (q : TracePosition) → Reaches s front p → LineLeads p line q → Reaches s (front ++ line ∷ []) q
 reaches_on s front p line q (first, is, leads) one = (first, is, leads_on first p q front (line ∷ []) leads (q, one, refl))
 
 alike_by : (s : Scenario) (front lines : List (List ℕ)) (p q after other : TracePosition) → Reaches s front p → Reaches s front q → Alike p q → LeadsBy p lines after → LeadsBy q lines other → Alike after other
@@ -215,7 +215,7 @@ one_decides_end s lines p here undone (q, there, done) =
 
 -- ---- a trace with a line that doesn't fit isn't whole
 
-split : (front : List (List ℕ)) (line : List ℕ) (rest : List (List ℕ)) (p q : TracePosition) → LeadsBy p (front ++ line ∷ rest) q → (mid : TracePosition) × (next : TracePosition) × LeadsBy p front mid × Leads mid line next
+split : (front : List (List ℕ)) (line : List ℕ) (rest : List (List ℕ)) (p q : TracePosition) → LeadsBy p (front ++ line ∷ rest) q → (mid : TracePosition) × (next : TracePosition) × LeadsBy p front mid × LineLeads mid line next
 split [] line rest p q (mid, one, more) = (p, mid, refl, one)
 split (l ∷ front) line rest p q (mid, one, more) = let (a, b, before, leads) = split front line rest mid q more in (a, b, (mid, one, before), leads)
 
@@ -254,7 +254,7 @@ one_unfit s lines k j (Behind_all p reaches none) (Behind_all p' reaches' none')
 
 -- ---- behind a whole trace
 
-closed : (p : TracePosition) (line : List ℕ) (q : TracePosition) → IsDone p → Leads p line q → ⊥
+closed : (p : TracePosition) (line : List ℕ) (q : TracePosition) → IsDone p → LineLeads p line q → ⊥
 closed p line q done (To_event none opens) = over_opens p.net line q done.over opens
 closed p line q done (To_item {item} {rest} left stands tells leads) = absurd (let no : [] ≡ item ∷ rest = sym done.none ∙ left in cc)
 

@@ -22,7 +22,7 @@ use Rattle.mesh_atoms.specs.declared.tuples.Lost.{Lost}
 use Rattle.mesh_atoms.specs.declared.tuples.Neighbour.{Neighbour}
 use Rattle.mesh_atoms.specs.declared.tuples.TwoHop.{TwoHop}
 use Rattle.mesh_atoms.specs.declared.tuples.TwoHopKey.{TwoHopKey}
-use Rattle.mesh_atoms.specs.AfterHello.{by_status, by_hearing, renewed, Begins, Stood, Made, IsTheirs, GoesOn, announced, BecomesOther, Joins, Remains, row_makes, StoodOn, Same_link, New_link, TellsTwoHop, By_row, By_none, AfterHello}
+use Rattle.mesh_atoms.specs.AfterHello.{by_status, by_hearing, renewed, LinkKeptOrMade, Stood, Made, IsTheirs, GoesOn, announced, BecomesOther, Joins, Remains, row_makes, StoodOn, Same_link, New_link, TellsTwoHop, By_row, By_none, AfterHello}
 use Rattle.mesh_atoms.specs.Base.{Base, base_of, find, addr_eq, link_eq}
 use Rattle.mesh_atoms.specs.HelloTold.{IsSending, IsListed, IsMyStatus, IsHandedIn, Told, Tells, LooksAt}
 use Rattle.mesh_atoms.specs.Live.{trimmed, Restores, IsSymmetricAddress, SettlesLost, is_symmetric_at, is_symmetric_entry}
@@ -184,7 +184,7 @@ module _ (settings : RouterSettings) (now i : ℕ) (told : Told) (status : Optio
     (ordered : AllPairs (λ (r : HelloRow) (t : HelloRow). IsBefore r.addr t.addr) hello.rows)
     (says : (hold : ℕ) (e : Link × ℕ) → by_status told.shown hold now status e ≡ by_status told.shown hold now told.shown.status e)
     (h : AfterHello settings now i told hello a a') (k : AfterHello settings now i (with_status told status) hello b b') where
-  begins_once : (rule : Admit) (x y : Link × ℕ) → Begins rule told.shown now (link_at a i told.least) x → Begins rule (record told.shown { status = status }) now (link_at b i told.least) y → y ≡ x
+  begins_once : (rule : Admit) (x y : Link × ℕ) → LinkKeptOrMade rule told.shown now (link_at a i told.least) x → LinkKeptOrMade rule (record told.shown { status = status }) now (link_at b i told.least) y → y ≡ x
   begins_once rule x y (Stood e is same) (Stood f is' same') = let both : Some y ≡ Some x = sym is' ∙ (alike.links i told.least ∙ is) in cc
   begins_once rule x y (Stood e is same) (Made other) = absurd (other x (alike.links i told.least ∙ is) same)
   begins_once rule x y (Made other) (Stood e is same) = absurd (other y (sym (alike.links i told.least) ∙ is) same)

@@ -23,9 +23,9 @@ use Rattle.mesh_texts.proofs.machine.Places.{set_here, same_at, each_more}
 use Rattle.mesh_texts.proofs.machine.Sent.{sent_lost}
 use Rattle.mesh_texts.specs.Lines.Marks.{face_name}
 use Rattle.mesh_texts.specs.Trace.{flooding_text, flooding_relays_line, routing_relays_line, relays_lines, sent_line, lost_line, sent_lines}
-use Rattle.mesh_texts.specs.machine.Net.{Net}
+use Rattle.mesh_texts.specs.machine.Net.{NetState}
 use Rattle.mesh_trace.specs.Positions.Due.{none_told, part_items}
-use Rattle.mesh_trace.specs.Positions.Items.{Tells, TellsFrame, AreTcFrames}
+use Rattle.mesh_trace.specs.Positions.Items.{TellsItem, TellsFrame, AreTcFrames}
 use Rattle.mesh_trace.specs.Positions.Leading.{LeadsBy}
 use Rattle.mesh_trace.specs.Positions.Standing.{Item, Flooding, Routing, Hello, Tc, Sent, Lost}
 use Rattle.mesh_trace.specs.Positions.Standing.{TracePosition, IsDone, with_state, with_traffic, relay_items}
@@ -70,17 +70,17 @@ leaves_on p q mid end lines a b one more = record {
 }
 
 -- the next line, where an item is left to be told of an event that is told whole
-record NextLine (net : Net) (x : ℕ) (s : State) (item : Item) (left : List Item) (end : TracePosition) (lines : List (List ℕ)) :
+record NextLine (net : NetState) (x : ℕ) (s : State) (item : Item) (left : List Item) (end : TracePosition) (lines : List (List ℕ)) :
     Type 0 where
   line : List ℕ
   others : List (List ℕ)
   whole : lines ≡ line ∷ others
-  new : Net
+  new : NetState
   more : List Item
-  tells : Tells net x s line item new more
+  tells : TellsItem net x s line item new more
   leads : LeadsBy (at new x (more ++ left)) others end
 
-next_line : (net : Net) (x : ℕ) (s : State) (item : Item) (left : List Item) (end : TracePosition) (lines : List (List ℕ)) → IsDone end →
+next_line : (net : NetState) (x : ℕ) (s : State) (item : Item) (left : List Item) (end : TracePosition) (lines : List (List ℕ)) → IsDone end →
     slice_get net.routers x ≡ Some s → LeadsBy (at net x (item ∷ left)) lines end → NextLine net x s item left end lines
 next_line net x s item left end [] done stood same = absurd (undone net x item left (subst IsDone same done))
 next_line net x s item left end (line ∷ lines) done stood (mid, one, more) =
@@ -92,14 +92,14 @@ next_line net x s item left end (line ∷ lines) done stood (mid, one, more) =
       whole = refl;
       new = told.new;
       more = told.more;
-      tells = subst (λ (z : State). Tells net x z line item told.new told.more) states told.tells;
+      tells = subst (λ (z : State). TellsItem net x z line item told.new told.more) states told.tells;
       leads = subst (λ (z : TracePosition). LeadsBy z lines end) told.leads more;
     }
 
-onward : (x : ℕ) (left : List Item) (end : TracePosition) (lines : List (List ℕ)) (m n : Net) (more items : List Item) → m ≡ n →
+onward : (x : ℕ) (left : List Item) (end : TracePosition) (lines : List (List ℕ)) (m n : NetState) (more items : List Item) → m ≡ n →
     more ≡ items → LeadsBy (at m x (more ++ left)) lines end → LeadsBy (at n x (items ++ left)) lines end
 onward x left end lines m n more items net same leads =
-    subst (λ (k : Net). LeadsBy (at k x (items ++ left)) lines end) net
+    subst (λ (k : NetState). LeadsBy (at k x (items ++ left)) lines end) net
     (subst (λ (l : List Item). LeadsBy (at m x (l ++ left)) lines end) same leads)
 
 -- ---- relays
@@ -109,7 +109,7 @@ abbrev Chosen : State → ℕ → List Addr4 → Type 0
 Chosen s i relays = (g : NeighbourGraph) × IsFloodingGraph s s.last i g × AreRelaysOf g relays
 
 -- the relays of all interfaces, by the lines of those from n on
-record FloodsLeft (net : Net) (x : ℕ) (u : State) (left : List Item) (end : TracePosition) (lines : List (List ℕ))
+record FloodsLeft (net : NetState) (x : ℕ) (u : State) (left : List Item) (end : TracePosition) (lines : List (List ℕ))
     (told : List (List Addr4)) (n : ℕ) (faces : List Interface) : Type 0 where
   flooding : List (List Addr4)
   todo : List (List Addr4)
@@ -120,7 +120,7 @@ record FloodsLeft (net : Net) (x : ℕ) (u : State) (left : List Item) (end : Tr
       (flat_map (flooding_relays_line u.settings.name flooding) (enumerate_from n faces))
 
 -- the relays, by the lines of all
-pub record RelaysLeft (net : Net) (x : ℕ) (u : State) (left : List Item) (end : TracePosition) (lines : List (List ℕ)) : Type 0 where
+pub record RelaysLeft (net : NetState) (x : ℕ) (u : State) (left : List Item) (end : TracePosition) (lines : List (List ℕ)) : Type 0 where
   pub relays : Relays
   pub are : (routes : List Route) → AreRelays (record u { relays = relays; routes = routes }) u.last
   pub leaves : Leaves (at (with_state net x (record u { relays = relays })) x left) end lines (relays_lines (record u { relays = relays }))
@@ -130,7 +130,7 @@ at_behind : {A : Type 0} (whole front : List A) (x : A) (rest : List A) (n : ℕ
     slice_get whole n ≡ Some x
 at_behind whole front x rest n is long = rw (is, ← long) (behind_some front x rest)
 
-module _ (net : Net) (x : ℕ) (was u : State) (end : TracePosition) (done : IsDone end) (stood : slice_get net.routers x ≡ Some was) where
+module _ (net : NetState) (x : ℕ) (was u : State) (end : TracePosition) (done : IsDone end) (stood : slice_get net.routers x ≡ Some was) where
   floods_left : (left : List Item) (front faces : List Interface) (n : ℕ) (told : List (List Addr4)) (lines : List (List ℕ)) →
       u.settings.interfaces ≡ front ++ faces → length front ≡ n → length told ≡ n →
       ((i : ℕ) (relays : List Addr4) → slice_get told i ≡ Some relays → Chosen u i relays) →
@@ -154,7 +154,7 @@ module _ (net : Net) (x : ℕ) (was u : State) (end : TracePosition) (done : IsD
       let face_at = at_behind u.settings.interfaces front face faces n faces_are front_is in
       let face_is : t.face ≡ face = same_at u.settings.interfaces n t.face face t.face_is face_at in
       let on : LeadsBy (at (with_state net x there) x items) next.others end =
-      subst (λ (m : Net). LeadsBy (at m x items) next.others end) (set_again net x here there)
+      subst (λ (m : NetState). LeadsBy (at m x items) next.others end) (set_again net x here there)
       (onward x items end next.others next.new (with_state (with_state net x here) x there) next.more [] t.new_is t.more_is next.leads) in
       let graph = t.graph_is in
       let chosen : Chosen u n t.relays = (t.graph, record { near = graph.near; direct = graph.direct; far = graph.far }, t.are) in
@@ -194,7 +194,7 @@ module _ (net : Net) (x : ℕ) (was u : State) (end : TracePosition) (done : IsD
       let relays : Relays = record { flooding = f.flooding; routing = t.relays } in
       let is : State = record u { relays = relays } in
       let on : LeadsBy (at (with_state net x is) x left) next.others end =
-      subst (λ (m : Net). LeadsBy (at m x left) next.others end) (set_again net x here is)
+      subst (λ (m : NetState). LeadsBy (at m x left) next.others end) (set_again net x here is)
       (onward x left end next.others next.new (with_state old x is) next.more [] t.new_is t.more_is next.leads) in
       record {
         relays = relays;
@@ -213,7 +213,7 @@ module _ (net : Net) (x : ℕ) (was u : State) (end : TracePosition) (done : IsD
 -- ---- frames
 
 -- the lines are first those of frames that are sent, of which that holds
-pub record Emits (net : Net) (x : ℕ) (s : State) (left : List Item) (end : TracePosition) (lines : List (List ℕ))
+pub record Emits (net : NetState) (x : ℕ) (s : State) (left : List Item) (end : TracePosition) (lines : List (List ℕ))
     (P : List Frame → Type 0) : Type 0 where
   pub es : List Emission
   pub after : Traffic
@@ -221,24 +221,24 @@ pub record Emits (net : Net) (x : ℕ) (s : State) (left : List Item) (end : Tra
   pub sends : SendsAll net.scenario s.last x es net.traffic after
   pub leaves : Leaves (at (with_traffic net after) x left) end lines (flat_map (sent_lines net.scenario s.last s.settings) es)
 
-pub emits_none : (net : Net) (x : ℕ) (s : State) (left : List Item) (end : TracePosition) (lines : List (List ℕ))
+pub emits_none : (net : NetState) (x : ℕ) (s : State) (left : List Item) (end : TracePosition) (lines : List (List ℕ))
     (P : List Frame → Type 0) → P [] → LeadsBy (at net x left) lines end → Emits net x s left end lines P
 emits_none net x s left end lines P none leads =
     record { es = []; after = net.traffic; are = none; sends = refl; leaves = leaves_all (at net x left) end lines leads }
 
-pub emits_as : (net : Net) (x : ℕ) (s : State) (left : List Item) (end : TracePosition) (lines : List (List ℕ))
+pub emits_as : (net : NetState) (x : ℕ) (s : State) (left : List Item) (end : TracePosition) (lines : List (List ℕ))
     (P Q : List Frame → Type 0) → ((fs : List Frame) → P fs → Q fs) → Emits net x s left end lines P → Emits net x s left end lines Q
 emits_as net x s left end lines P Q to h =
     record { es = h.es; after = h.after; are = to (map frame_of h.es) h.are; sends = h.sends; leaves = h.leaves }
 
-sends_on : (net : Net) (now x : ℕ) (front behind : List Emission) (before mid after : Traffic) →
+sends_on : (net : NetState) (now x : ℕ) (front behind : List Emission) (before mid after : Traffic) →
     SendsAll net.scenario now x front before mid → SendsAll net.scenario now x behind mid after →
     SendsAll net.scenario now x (front ++ behind) before after
 sends_on net now x [] behind before mid after same more = subst (λ (t : Traffic). SendsAll net.scenario now x behind t after) same more
 sends_on net now x (e ∷ es) behind before mid after (one, first, others) more =
     (one, first, sends_on net now x es behind one mid after others more)
 
-pub emits_on : (net : Net) (x : ℕ) (s : State) (mid left : List Item) (end : TracePosition) (lines : List (List ℕ))
+pub emits_on : (net : NetState) (x : ℕ) (s : State) (mid left : List Item) (end : TracePosition) (lines : List (List ℕ))
     (P Q R : List Frame → Type 0) → (first : Emits net x s mid end lines P) →
     Emits (with_traffic net first.after) x s left end first.leaves.rest Q → ((a b : List Frame) → P a → Q b → R (a ++ b)) →
     Emits net x s left end lines R
@@ -302,7 +302,7 @@ hellos_more s n count f fs is (long, each) = (omega (arith, long), by) where
       let further : (n + 1) + k ≡ n + suc k = omega arith in subst (λ (i : ℕ). IsHelloFrame s i g) further (each k g there)
 
 module _ (x : ℕ) (s : State) (end : TracePosition) (done : IsDone end) where
-  losses_left : (net : Net) (left : List Item) (lost : List ℕ) (lines : List (List ℕ)) → slice_get net.routers x ≡ Some s →
+  losses_left : (net : NetState) (left : List Item) (lost : List ℕ) (lines : List (List ℕ)) → slice_get net.routers x ≡ Some s →
       All (λ n. n < length net.scenario.arcs) lost → LeadsBy (at net x (map Lost lost ++ left)) lines end →
       Leaves (at net x left) end lines (flat_map (lost_line net.scenario s.last) lost)
   losses_left net left [] lines stood below leads = leaves_all (at net x left) end lines leads
@@ -316,7 +316,7 @@ module _ (x : ℕ) (s : State) (end : TracePosition) (done : IsDone end) where
       leaves_on _ _ _ end lines _ _ (leaves_one _ end (lost_line net.scenario s.last n) next.line lines next.others one is next.whole on)
       (losses_left net left lost next.others stood (All-tail P n lost below) on)
 
-  frame_left : (net : Net) (left : List Item) (frame : Frame) (line : List ℕ) (lines others : List (List ℕ)) (new : Net)
+  frame_left : (net : NetState) (left : List Item) (frame : Frame) (line : List ℕ) (lines others : List (List ℕ)) (new : NetState)
       (losses : List Item) → slice_get net.routers x ≡ Some s → lines ≡ line ∷ others →
       TellsFrame net x s frame line new losses → LeadsBy (at new x (losses ++ left)) others end →
       Emits net x s left end lines (λ fs. fs ≡ frame ∷ [])
@@ -340,7 +340,7 @@ module _ (x : ℕ) (s : State) (end : TracePosition) (done : IsDone end) where
             (leaves_on _ _ _ end lines text _ first (losses_left after left t.lost others stood below on));
       }
 
-  pub frames_left : (net : Net) (left : List Item) (fs : List Frame) (lines : List (List ℕ)) → slice_get net.routers x ≡ Some s →
+  pub frames_left : (net : NetState) (left : List Item) (fs : List Frame) (lines : List (List ℕ)) → slice_get net.routers x ≡ Some s →
       LeadsBy (at net x (map Sent fs ++ left)) lines end → Emits net x s left end lines (λ l. l ≡ fs)
   frames_left net left [] lines stood leads = emits_none net x s left end lines (λ l. l ≡ []) refl leads
   frames_left net left (f ∷ fs) lines stood leads =
@@ -351,7 +351,7 @@ module _ (x : ℕ) (s : State) (end : TracePosition) (done : IsDone end) where
       emits_on net x s items left end lines (λ l. l ≡ f ∷ []) (λ l. l ≡ fs) (λ l. l ≡ f ∷ fs) one
       (frames_left (with_traffic net one.after) left fs one.leaves.rest stood one.leaves.leads) (λ a b h k. rw (h, k) refl)
 
-  pub hellos_left : (net : Net) (left : List Item) (faces : List Interface) (n : ℕ) (lines : List (List ℕ)) →
+  pub hellos_left : (net : NetState) (left : List Item) (faces : List Interface) (n : ℕ) (lines : List (List ℕ)) →
       slice_get net.routers x ≡ Some s → LeadsBy (at net x (map (λ f. Hello f.0) (enumerate_from n faces) ++ left)) lines end →
       Emits net x s left end lines (AreHellosFrom s n (length faces))
   hellos_left net left [] n lines stood leads =
@@ -366,7 +366,7 @@ module _ (x : ℕ) (s : State) (end : TracePosition) (done : IsDone end) where
       (hellos_left (with_traffic net one.after) left faces (n + 1) one.leaves.rest stood one.leaves.leads)
       (λ a b is more. subst (λ (l : List Frame). P (l ++ b)) (sym is) (hellos_more s n (length faces) t.frame b t.is more))
 
-  pub parts_left : (net : Net) (left : List Item) (complete : Bool) (sequence : ℕ) (parts : List (List TcRow)) (lines : List (List ℕ)) →
+  pub parts_left : (net : NetState) (left : List Item) (complete : Bool) (sequence : ℕ) (parts : List (List TcRow)) (lines : List (List ℕ)) →
       slice_get net.routers x ≡ Some s → LeadsBy (at net x (part_items complete sequence parts ++ left)) lines end →
       Emits net x s left end lines (SendsWhole s complete sequence parts)
   parts_left net left complete sequence [] lines stood leads =

@@ -6,7 +6,7 @@ use Rattle.std.proofs.lemmas.Option.{slice_get_within, get_or_from_slice_get}
 use Rattle.mesh_atoms.specs.State.{State}
 use Rattle.mesh_texts.specs.machine.Machine.{due}
 use Rattle.mesh_texts.specs.machine.Traffic.{Delivery}
-use Rattle.mesh_texts.specs.machine.Net.{Net}
+use Rattle.mesh_texts.specs.machine.Net.{NetState}
 use Rattle.mesh_texts.specs.machine.NetRun.{IsOver}
 use Rattle.mesh_trace.specs.Positions.Events.{OpensEvent, By_delivery, By_tick, By_last_tick}
 use Rattle.mesh_trace.specs.Positions.Standing.{TracePosition}
@@ -20,7 +20,7 @@ all_behind P (x ∷ xs) ys h = all_behind P xs ys (All-tail P x (xs ++ ys) h)
 pub all_at : {A : Type 0} (P : A → Type 0) (xs : List A) (i : ℕ) (x : A) → All P xs → slice_get xs i ≡ Some x → P x
 all_at P xs i x h at = subst P (get_or_from_slice_get xs i x x at) (h i x (slice_get_within xs i x at))
 
-pub over_opens : (net : Net) (line : List ℕ) (after : TracePosition) → IsOver net → OpensEvent net line after → ⊥
+pub over_opens : (net : NetState) (line : List ℕ) (after : TracePosition) → IsOver net → OpensEvent net line after → ⊥
 over_opens net line after over (By_delivery h) =
     let late : net.scenario.end < h.delivery.moment =
     All-head (λ (d : Delivery). net.scenario.end < d.moment) h.delivery h.next.first.behind

@@ -10,11 +10,11 @@ use Rattle.mesh_atoms.specs.RelayGraphs.{AreRelays, IsFloodingGraph, IsRoutingGr
 use Rattle.mesh_atoms.specs.State.{State}
 use Rattle.mesh_texts.proofs.machine.Places.{set_here}
 use Rattle.mesh_texts.specs.Trace.{flooding_text, flooding_relays_line, routing_relays_line, relays_lines}
-use Rattle.mesh_texts.specs.machine.Net.{Net}
+use Rattle.mesh_texts.specs.machine.Net.{NetState}
 use Rattle.mesh_trace.specs.Positions.Due.{none_told}
 use Rattle.mesh_trace.specs.Positions.Items.{Tells_flooding, Tells_routing}
 use Rattle.mesh_trace.specs.Positions.Standing.{Item, Flooding, Routing, with_state, relay_items}
-use Rattle.mesh_trace.specs.Positions.Leading.{Leads}
+use Rattle.mesh_trace.specs.Positions.Leading.{LineLeads}
 use Rattle.mesh_trace.proofs.PositionsLemmas.Leading.{at, to_item}
 use Rattle.mesh_trace.proofs.PositionsLemmas.TextLines.{flooding_one, routing_one}
 use Rattle.mesh_trace.proofs.PositionsLemmas.Walks.{Walks, walks_nowhere, walks_one, walks_on}
@@ -29,7 +29,7 @@ behind_some [] x rest = refl
 behind_some (y ∷ ys) x rest = behind_some ys x rest
 
 -- a state that is set twice
-pub set_again : (net : Net) (x : ℕ) (a b : State) → with_state (with_state net x a) x b ≡ with_state net x b
+pub set_again : (net : NetState) (x : ℕ) (a b : State) → with_state (with_state net x a) x b ≡ with_state net x b
 set_again net x a b = ap (λ (routers : List State). record net { routers = routers }) (set-set net.routers x a b)
 
 -- the line of an interface, by its relays
@@ -39,7 +39,7 @@ unfolding flooding_relays_line
 flooding_by s relays n face one stands =
     ap (λ (l : List Addr4). flooding_text s.settings.name face.name l) (get_or_from_slice_get relays n one [] stands)
 
-module _ (net : Net) (x : ℕ) (was is : State) (stood : slice_get net.routers x ≡ Some was) (are : AreRelays is is.last) where
+module _ (net : NetState) (x : ℕ) (was is : State) (stood : slice_get net.routers x ≡ Some was) (are : AreRelays is is.last) where
   floods_walk : (rest : List Item) (front faces : List Interface) (n : ℕ) (told todo : List (List Addr4)) → is.settings.interfaces ≡ front ++ faces → length front ≡ n →
       is.relays.flooding ≡ told ++ todo → length told ≡ n → length todo ≡ length faces →
       Walks (at (with_state net x (told_so is told)) x (map (λ f. Flooding f.0) (enumerate_from n faces) ++ rest)) (at (with_state net x (told_so is (told ++ todo))) x rest)
@@ -65,7 +65,7 @@ module _ (net : Net) (x : ℕ) (was is : State) (stood : slice_get net.routers x
       (flooding_is ∙ sym longer) (let h = length-append told (one ∷ []) in omega (arith, h, told_is)) (omega (arith, same)) in
       walks_on (at here x (Flooding n ∷ items)) (at (with_state net x there) x items) (at (with_state net x (told_so is (told ++ one ∷ todo))) x rest) text _
       (walks_one _ _ text (flooding_one is.settings is.relays.flooding (n, face))
-      (λ line line_is. subst (λ (m : Net). Leads (at here x (Flooding n ∷ items)) line (at m x items)) (set_again net x (told_so is told) there)
+      (λ line line_is. subst (λ (m : NetState). LineLeads (at here x (Flooding n ∷ items)) line (at m x items)) (set_again net x (told_so is told) there)
       (to_item here x (Flooding n) items line (told_so is told) (with_state here x there) [] stands_here
       (Tells_flooding face one g face_at graph_too chosen (line_is ∙ flooding_by is is.relays.flooding n face one one_at)))))
       (subst (λ (l : List (List Addr4)). Walks (at (with_state net x there) x items) (at (with_state net x (told_so is l)) x rest) (flat_map (flooding_relays_line is.settings.name is.relays.flooding) (enumerate_from (n + 1) faces))) longer more)
@@ -79,7 +79,7 @@ module _ (net : Net) (x : ℕ) (was is : State) (stood : slice_get net.routers x
       let graph_too : IsRoutingGraph s g = record { near = graph.near; direct = graph.direct; far = graph.far } in
       let stands_here : slice_get here.routers x ≡ Some s = set_here net.routers x s was stood in
       walks_one _ _ (routing_relays_line is.settings.name is.relays.routing) (routing_one is.settings is.relays.routing)
-      (λ line line_is. subst (λ (m : Net). Leads (at here x (Routing ∷ rest)) line (at m x rest)) (set_again net x s is)
+      (λ line line_is. subst (λ (m : NetState). LineLeads (at here x (Routing ∷ rest)) line (at m x rest)) (set_again net x s is)
       (to_item here x Routing rest line s (with_state here x is) [] stands_here (Tells_routing is.relays.routing g graph_too chosen line_is)))
 
   pub relays_walk : (rest : List Item) → Walks (at (with_state net x (record is { relays = none_told })) x (relay_items is.settings ++ rest)) (at (with_state net x is) x rest) (relays_lines is)

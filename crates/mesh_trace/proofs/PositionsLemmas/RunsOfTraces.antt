@@ -25,7 +25,7 @@ use Rattle.mesh_texts.specs.machine.Traffic.{Traffic, SendsAll, frame_of, with_h
 use Rattle.mesh_texts.proofs.machine.Originators.{some_originator}
 use Rattle.mesh_texts.proofs.machine.Places.{set_here}
 use Rattle.mesh_texts.specs.Trace.{happened_line, relays_lines, Of_taken, Of_refused}
-use Rattle.mesh_texts.specs.machine.Net.{Net, NetStep, By_delivery, By_tick, By_last_tick, Moves, happening}
+use Rattle.mesh_texts.specs.machine.Net.{NetState, NetStep, By_delivery, By_tick, By_last_tick, Moves, happening}
 use Rattle.mesh_texts.specs.machine.NetRun.{IsOver}
 use Rattle.mesh_texts.specs.Runs.{IsTraced, Traces}
 use Rattle.mesh_trace.specs.Positions.Alike.{Alike, AlikeStates}
@@ -66,7 +66,7 @@ along_by p q end (line ∷ lines) sound sound' alike (mid, one, more) =
 -- ---- an event behind its first line
 
 -- the router after an event, with its relays and routes; the lines are first those of its relays and of what it sends
-record RouterAfter (net : Net) (x : ℕ) (was u : State) (now : ℕ) (bases : Bases) (left : List Item) (lines : List (List ℕ))
+record RouterAfter (net : NetState) (x : ℕ) (was u : State) (now : ℕ) (bases : Bases) (left : List Item) (lines : List (List ℕ))
     (P : State → List Frame → Type 0) : Type 0 where
   is : State
   renews : Renews was now bases is
@@ -80,7 +80,7 @@ abbrev with_renewal : State → Relays → List Route → State
 with_renewal u relays routes = record u { relays = relays; routes = routes }
 
 -- what is left to be told in that state of the router is told by what it sends
-abbrev SendsLeft : Net → ℕ → State → List Item → (State → List Frame → Type 0) → Type 0
+abbrev SendsLeft : NetState → ℕ → State → List Item → (State → List Frame → Type 0) → Type 0
 SendsLeft net x u left P = (relays : Relays) (routes : List Route) (end : TracePosition) (lines : List (List ℕ)) → IsDone end →
     LeadsBy (at (with_state net x (with_renewal u relays routes)) x left) lines end →
     Emits (with_state net x (with_renewal u relays routes)) x (with_renewal u relays routes) [] end lines (P (with_renewal u relays routes))
@@ -99,7 +99,7 @@ routes_alike s routes = record {
   last = refl;
 }
 
-router_after : (net : Net) (x : ℕ) (was u : State) (now : ℕ) (bases : Bases) (left : List Item) (lines : List (List ℕ))
+router_after : (net : NetState) (x : ℕ) (was u : State) (now : ℕ) (bases : Bases) (left : List Item) (lines : List (List ℕ))
     (end : TracePosition) (P : State → List Frame → Type 0) → slice_get net.routers x ≡ Some was → AreSound net.routers → SoundState u →
     Follows was now bases u → IsDone end → LeadsBy (at (with_state net x u) x (relay_items u.settings ++ left)) lines end →
     SendsLeft net x u left P → RouterAfter net x was u now bases left lines P
@@ -137,9 +137,9 @@ router_after net x was u now bases left lines end P stood sound sound_u follows 
 -- ---- a whole event
 
 -- an event of the network; the lines are first those of its text, and those that are left are fewer
-record EventBack (old : Net) (lines : List (List ℕ)) : Type 0 where
+record EventBack (old : NetState) (lines : List (List ℕ)) : Type 0 where
   event : NetEvent
-  new : Net
+  new : NetState
   step : NetStep old event new
   text : List ℕ
   traced : IsTraced new event text
@@ -149,16 +149,16 @@ record EventBack (old : Net) (lines : List (List ℕ)) : Type 0 where
   less : length leaves.rest < length lines
 
 -- that happens next to router x, and leaves that traffic before what is sent
-abbrev IsNext : Net → ℕ → ℕ → Option (ℕ × Addr4 × List ℕ) → Traffic → ℕ → Type 0
-IsNext old x now what t l = (es : List Emission) (new : Net) →
+abbrev IsNext : NetState → ℕ → ℕ → Option (ℕ × Addr4 × List ℕ) → Traffic → ℕ → Type 0
+IsNext old x now what t l = (es : List Emission) (new : NetState) →
     Moves old (record { moment = now; router = x; heard = what; sent = es }) t new → new.last_ticks ≡ l →
     NetStep old (record { moment = now; router = x; heard = what; sent = es }) new
 
-abbrev before_sending : Net → Traffic → ℕ → Net
+abbrev before_sending : NetState → Traffic → ℕ → NetState
 before_sending old t l = record old { traffic = t; last_ticks = l }
 
 -- a tick, or a frame that is taken
-taken_back : (old : Net) (x now : ℕ) (what : Option (ℕ × Addr4 × List ℕ)) (t : Traffic) (l : ℕ) (was u : State) (bases : Bases)
+taken_back : (old : NetState) (x now : ℕ) (what : Option (ℕ × Addr4 × List ℕ)) (t : Traffic) (l : ℕ) (was u : State) (bases : Bases)
     (left : List Item) (line : List ℕ) (lines : List (List ℕ)) (end : TracePosition) (P : State → List Frame → Type 0) →
     IsNext old x now what t l → slice_get old.routers x ≡ Some was → IfSome what (λ h. IsPacket h.2) →
     OneLine (happened_line now was.settings what) → IsLineOf line (happened_line now was.settings what) →
@@ -194,7 +194,7 @@ taken_back old x now what t l was u bases left line lines end P may stood whole 
 
 -- ---- a tick
 
-hellos_back : (old u : State) (net : Net) (x : ℕ) (relays : Relays) (routes : List Route) (end : TracePosition) (items left : List Item)
+hellos_back : (old u : State) (net : NetState) (x : ℕ) (relays : Relays) (routes : List Route) (end : TracePosition) (items left : List Item)
     (lines : List (List ℕ)) → IsDone end → slice_get net.routers x ≡ Some (with_renewal u relays routes) → HellosDue old u items →
     LeadsBy (at net x (items ++ left)) lines end →
     Emits net x (with_renewal u relays routes) left end lines (SendsHellos old (with_renewal u relays routes))
@@ -211,7 +211,7 @@ hellos_back old u net x relays routes end items left lines done stood (Hellos_du
     }))
     (hellos_left x is end done net left faces 0 lines stood leads)
 
-tcs_back : (old u : State) (net : Net) (x : ℕ) (relays : Relays) (routes : List Route) (end : TracePosition) (items : List Item)
+tcs_back : (old u : State) (net : NetState) (x : ℕ) (relays : Relays) (routes : List Route) (end : TracePosition) (items : List Item)
     (lines : List (List ℕ)) → IsDone end → slice_get net.routers x ≡ Some (with_renewal u relays routes) → TcsDue old u items →
     LeadsBy (at net x items) lines end →
     Emits net x (with_renewal u relays routes) [] end lines (SendsTcs old (with_renewal u relays routes))
@@ -239,7 +239,7 @@ record TickFrames (old is : State) (fs : List Frame) : Type 0 where
   sends_tcs : SendsTcs old is tcs
   whole : fs ≡ hellos ++ tcs
 
-tick_sends : (net : Net) (x : ℕ) (was u : State) (hellos tcs : List Item) → slice_get net.routers x ≡ Some was → HellosDue was u hellos →
+tick_sends : (net : NetState) (x : ℕ) (was u : State) (hellos tcs : List Item) → slice_get net.routers x ≡ Some was → HellosDue was u hellos →
     TcsDue was u tcs → SendsLeft net x u (hellos ++ tcs) (TickFrames was)
 tick_sends net x was u hellos tcs stood are_hellos are_tcs relays routes end lines done leads =
     let is = with_renewal u relays routes in
@@ -250,7 +250,7 @@ tick_sends net x was u hellos tcs stood are_hellos are_tcs relays routes end lin
     (tcs_back was u (with_traffic here one.after) x relays routes end tcs one.leaves.rest done stands are_tcs one.leaves.leads)
     (λ a b h k. record { hellos = a; sends_hellos = h; tcs = b; sends_tcs = k; whole = refl })
 
-tick_back : (old : Net) (x now l : ℕ) (line : List ℕ) (lines : List (List ℕ)) (mid end : TracePosition) →
+tick_back : (old : NetState) (x now l : ℕ) (line : List ℕ) (lines : List (List ℕ)) (mid end : TracePosition) →
     opens.OpensTick old x now l line mid → AreSound old.routers → IsDone end → LeadsBy mid lines end → IsNext old x now None old.traffic l →
     EventBack old (line ∷ lines)
 tick_back old x now l line lines mid end o sound done leads may =
@@ -277,7 +277,7 @@ tick_back old x now l line lines mid end o sound done leads may =
 
 -- ---- a frame is heard
 
-hears_next : (old : Net) (line : List ℕ) (mid : TracePosition) (o : opens.OpensHearing old line mid) →
+hears_next : (old : NetState) (line : List ℕ) (mid : TracePosition) (o : opens.OpensHearing old line mid) →
     IsNext old o.arc.to o.delivery.moment (Some (o.arc.to_iface, o.sender, o.delivery.frame))
     (with_heard old.traffic o.others) old.last_ticks
 hears_next old line mid o es new moves last = By_delivery (record {
@@ -295,7 +295,7 @@ hears_next old line mid o es new moves last = By_delivery (record {
   last_ticks = last;
 })
 
-hear_back : (old : Net) (line : List ℕ) (lines : List (List ℕ)) (mid end : TracePosition)
+hear_back : (old : NetState) (line : List ℕ) (lines : List (List ℕ)) (mid end : TracePosition)
     (o : opens.OpensHearing old line mid) → AreSound old.routers → IsDone end → (is : State) (left : List Item) →
     HearsBy o.was (record { now = o.delivery.moment; iface = o.arc.to_iface; sender = o.sender }) o.delivery.frame is left →
     LeadsBy (at (with_traffic (with_state old o.arc.to is) (with_heard old.traffic o.others)) o.arc.to left) lines end →
@@ -371,7 +371,7 @@ hear_back old line lines mid end o sound done is left (Taken {sent} {new = u} t)
 
 -- ---- an event
 
-event_back : (old : Net) (line : List ℕ) (lines : List (List ℕ)) (mid end : TracePosition) →
+event_back : (old : NetState) (line : List ℕ) (lines : List (List ℕ)) (mid end : TracePosition) →
     opens.OpensEvent old line mid → AreSound old.routers → IsDone end → LeadsBy mid lines end → EventBack old (line ∷ lines)
 event_back old line lines mid end (opens.By_delivery o) sound done leads =
     hear_back old line lines mid end o sound done o.is o.left o.hears
@@ -387,15 +387,15 @@ event_back old line lines mid end (opens.By_last_tick only some o) sound done le
 -- ---- a run
 
 -- a run to the end, and the lines of its trace
-record RunFrom (net : Net) (lines : List (List ℕ)) : Type 0 where
+record RunFrom (net : NetState) (lines : List (List ℕ)) : Type 0 where
   events : List NetEvent
-  final : Net
+  final : NetState
   over : IsOver final
   text : List ℕ
   traces : Traces net events final text
   are : lines_of text ≡ lines
 
-run_from : (most : ℕ) (net : Net) (x : ℕ) (lines : List (List ℕ)) (end : TracePosition) → length lines ≤ most →
+run_from : (most : ℕ) (net : NetState) (x : ℕ) (lines : List (List ℕ)) (end : TracePosition) → length lines ≤ most →
     AreSound net.routers → IsDone end → LeadsBy (at net x []) lines end → RunFrom net lines
 run_from most net x [] end few sound done same = record {
   events = [];

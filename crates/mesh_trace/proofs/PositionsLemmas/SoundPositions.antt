@@ -10,13 +10,13 @@ use Rattle.mesh_texts.specs.machine.Laws.{SoundBases}
 use Rattle.mesh_texts.proofs.machine.Opening.{opening_sound}
 use Rattle.mesh_texts.proofs.machine.Soundness.{bases_of, live_bases_sound, messages_sound}
 use Rattle.mesh_texts.proofs.machine.Places.{set_at}
-use Rattle.mesh_texts.specs.machine.Net.{Net}
+use Rattle.mesh_texts.specs.machine.Net.{NetState}
 use Rattle.mesh_trace.specs.Positions.Due.{Follows, TakesPacket, TicksBy, HearsBy, Refused, Taken}
-use Rattle.mesh_trace.specs.Positions.Items.{Tells, Tells_flooding, Tells_routing, Tells_hello, Tells_tc, Tells_frame, Tells_loss, TellsFrame}
+use Rattle.mesh_trace.specs.Positions.Items.{TellsItem, Tells_flooding, Tells_routing, Tells_hello, Tells_tc, Tells_frame, Tells_loss, TellsFrame}
 use Rattle.mesh_trace.specs.Positions.Laws.{PositionsAreSound}
 use Rattle.mesh_trace.specs.Positions.Events.{OpensEvent, By_delivery, By_tick, By_last_tick}
 use Rattle.mesh_trace.specs.Positions.Standing.{Item, TracePosition, IsFirstPosition}
-use Rattle.mesh_trace.specs.Positions.Leading.{Leads, To_event, To_item, LeadsBy}
+use Rattle.mesh_trace.specs.Positions.Leading.{LineLeads, To_event, To_item, LeadsBy}
 use Rattle.mesh_atoms.proofs.Lists.{item_at as stands}
 
 -- the bases of a router are sound
@@ -53,7 +53,7 @@ set_sound routers x new sound is y s at = elim (set_at routers x new y s at) [
   | inr (there, stood) ↦ sound y s stood
 ]
 
-opens_sound : (old : Net) (line : List ℕ) (new : TracePosition) → AreSound old.routers → OpensEvent old line new → AreSound new.net.routers
+opens_sound : (old : NetState) (line : List ℕ) (new : TracePosition) → AreSound old.routers → OpensEvent old line new → AreSound new.net.routers
 opens_sound old line new sound (By_delivery h) =
     subst (λ (p : TracePosition). AreSound p.net.routers) (sym h.leads)
     (set_sound old.routers h.arc.to h.is sound (hears_sound h.was _ h.delivery.frame h.is h.left (sound h.arc.to h.was h.stands) h.hears))
@@ -64,11 +64,11 @@ opens_sound old line new sound (By_last_tick only some h) =
     subst (λ (p : TracePosition). AreSound p.net.routers) (sym h.leads)
     (set_sound old.routers old.last_ticks h.is sound (ticks_sound h.was old.scenario.end h.is h.left (sound old.last_ticks h.was h.stands) h.ticks))
 
-frame_sound : (net : Net) (x : ℕ) (s : State) (frame : Frame) (line : List ℕ) (new : Net) (losses : List Item) → AreSound net.routers → TellsFrame net x s frame line new losses → AreSound new.routers
-frame_sound net x s frame line new losses sound tells = subst (λ (n : Net). AreSound n.routers) (sym tells.leads) sound
+frame_sound : (net : NetState) (x : ℕ) (s : State) (frame : Frame) (line : List ℕ) (new : NetState) (losses : List Item) → AreSound net.routers → TellsFrame net x s frame line new losses → AreSound new.routers
+frame_sound net x s frame line new losses sound tells = subst (λ (n : NetState). AreSound n.routers) (sym tells.leads) sound
 
-tells_sound : (net : Net) (x : ℕ) (s : State) (line : List ℕ) (item : Item) (new : Net) (more : List Item) → slice_get net.routers x ≡ Some s → AreSound net.routers →
-    Tells net x s line item new more → AreSound new.routers
+tells_sound : (net : NetState) (x : ℕ) (s : State) (line : List ℕ) (item : Item) (new : NetState) (more : List Item) → slice_get net.routers x ≡ Some s → AreSound net.routers →
+    TellsItem net x s line item new more → AreSound new.routers
 tells_sound net x s line item new more stands sound (Tells_flooding face relays g at graph are is) = set_sound net.routers x _ sound (sound x s stands)
 tells_sound net x s line item new more stands sound (Tells_routing relays g graph are is) = set_sound net.routers x _ sound (sound x s stands)
 tells_sound net x s line item new more stands sound (Tells_hello frame is tells) = frame_sound net x s _ line new _ sound tells
@@ -76,7 +76,7 @@ tells_sound net x s line item new more stands sound (Tells_tc first further are 
 tells_sound net x s line item new more stands sound (Tells_frame tells) = frame_sound net x s _ line new _ sound tells
 tells_sound net x s line item new more stands sound (Tells_loss is) = sound
 
-pub leads_sound : (old : TracePosition) (line : List ℕ) (new : TracePosition) → AreSound old.net.routers → Leads old line new → AreSound new.net.routers
+pub leads_sound : (old : TracePosition) (line : List ℕ) (new : TracePosition) → AreSound old.net.routers → LineLeads old line new → AreSound new.net.routers
 leads_sound old line new sound (To_event none opens) = opens_sound old.net line new sound opens
 leads_sound old line new sound (To_item {s} {item} {rest} {more} {net} left stands tells leads) =
     subst (λ (p : TracePosition). AreSound p.net.routers) (sym leads) (tells_sound old.net old.router s line item net more stands sound tells)

@@ -29,7 +29,7 @@ use Rattle.mesh_atoms.specs.AfterTc.{GivesRouter, GivesAddress, GivesNetwork, if
 use Rattle.mesh_atoms.specs.Base.{Base, HasDistinctKeys, Same, find, base_of, host, addr_eq, flood_eq}
 use Rattle.mesh_atoms.specs.Nodes.{IsBefore}
 use Rattle.mesh_atoms.specs.Sound.{SoundNeighbourhood, SoundTopology, SoundNoted}
-use Rattle.mesh_atoms.specs.State.{Neighbourhood, Topology, NotedMessages, Bases, link_at}
+use Rattle.mesh_atoms.specs.State.{Neighbourhood, TopologyBase, NotedMessages, Bases, link_at}
 use Rattle.mesh_atoms.proofs.Lookups.{addr_equiv, router_equiv, address_equiv, network_equiv}
 use Rattle.mesh_texts.specs.machine.flood.declared.verdict.Heading.{Heading}
 use Rattle.mesh_texts.specs.machine.flood.declared.verdict.Process.{Process}
@@ -197,7 +197,7 @@ module _ (now : ℕ) (tc : Tc) (ordered : AllPairs (λ (r : TcRow) (t : TcRow). 
       ∙ (ap (λ (d : ℕ). let z : NetworkTuple = record { ansn = y.ansn; distance = d; metric = x.metric } in z) distances
       ∙ ap (λ (m : Metric). let z : NetworkTuple = record { ansn = y.ansn; distance = y.distance; metric = m } in z) metrics)
 
-  after_tc_once : (a b a' b' : Topology) → AlikeTopology a b → AfterTc now tc a a' → AfterTc now tc b b' → AlikeTopology a' b'
+  after_tc_once : (a b a' b' : TopologyBase) → AlikeTopology a b → AfterTc now tc a a' → AfterTc now tc b b' → AlikeTopology a' b'
   after_tc_once a b a' b' alike h k = record {
     advertisers = λ o. k.advertisers o ∙ (ap (λ (e : Option (Advertiser × ℕ)). cond (addr_eq tc.originator o) (Some (record { ansn = tc.ansn }, now + tc.validity)) e) (alike.advertisers o) ∙ sym (h.advertisers o));
     routers = λ key. becomes_once tc (now + tc.validity) (λ (q : RouterKey). q.from) (λ (t : RouterTuple). t.ansn) (λ (q : RouterKey) (t : RouterTuple). GivesRouter tc q t.metric × (t.ansn ≡ tc.ansn)) key
@@ -208,16 +208,16 @@ module _ (now : ℕ) (tc : Tc) (ordered : AllPairs (λ (r : TcRow) (t : TcRow). 
         _ _ _ _ (network_once key) (alike.networks key) (h.networks.at key) (k.networks.at key);
   }
 
-  old_by : (a b : Topology) → AlikeTopology a b → (kept : ℕ) → IsOld a tc kept → IsOld b tc kept
+  old_by : (a b : TopologyBase) → AlikeTopology a b → (kept : ℕ) → IsOld a tc kept → IsOld b tc kept
   old_by a b alike kept (e, at, is, newer) = (e, alike.advertisers tc.originator ∙ at, is, newer)
 
-  old_once : (a : Topology) (one other : ℕ) → IsOld a tc one → IsOld a tc other → one ≡ other
+  old_once : (a : TopologyBase) (one other : ℕ) → IsOld a tc one → IsOld a tc other → one ≡ other
   old_once a one other (e, at, is, newer) (f, at', is', newer') =
       let both : Some e ≡ Some f = sym at ∙ at' in
       let same : e ≡ f = cc in
       sym is ∙ (ap (λ (x : Advertiser × ℕ). x.0.ansn) same ∙ is')
 
-  module _ (settings : RouterSettings) (a b : Topology) (sound : SoundTopology settings now a) (sound' : SoundTopology settings now b) (alike : AlikeTopology a b) (back : AlikeTopology b a) where
+  module _ (settings : RouterSettings) (a b : TopologyBase) (sound : SoundTopology settings now a) (sound' : SoundTopology settings now b) (alike : AlikeTopology a b) (back : AlikeTopology b a) where
     overfull_once : first_overfull b tc ≡ first_overfull a tc
     overfull_once =
         let p = same_size addr_equiv a.advertisers b.advertisers sound.advertisers.distinct sound'.advertisers.distinct alike.advertisers in
@@ -229,7 +229,7 @@ module _ (now : ℕ) (tc : Tc) (ordered : AllPairs (λ (r : TcRow) (t : TcRow). 
         ∙ (ap (λ (n : ℕ). overfull_by tc (length a.advertisers) (length a.routers) n (length b.networks)) r
         ∙ ap (λ (n : ℕ). overfull_by tc (length a.advertisers) (length a.routers) (length a.addresses) n) s))
 
-    pub takes_tc_once : (a' b' : Topology) (one other : TcAnswer) → TakesTc now tc a a' one → TakesTc now tc b b' other → AlikeTopology a' b' × (other ≡ one)
+    pub takes_tc_once : (a' b' : TopologyBase) (one other : TcAnswer) → TakesTc now tc a a' one → TakesTc now tc b b' other → AlikeTopology a' b' × (other ≡ one)
     takes_tc_once a' b' one other (Is_old kept old) (Is_old kept' old') = (alike, ap (λ (n : ℕ). Too_old n) (old_once a kept' kept (old_by b a back kept' old') old))
     takes_tc_once a' b' one other (Is_old kept old) (Overfull kind young full) = absurd (young kept (old_by a b alike kept old))
     takes_tc_once a' b' one other (Is_old kept old) (Takes young few after) = absurd (young kept (old_by a b alike kept old))

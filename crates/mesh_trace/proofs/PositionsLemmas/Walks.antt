@@ -2,7 +2,7 @@
 use Rattle.std.proofs.Common.{◌≡◌, ℕ, List, [], ◌∷◌, ◌++◌, refl, sym, ap, ◌∙◌, subst, append_assoc}
 use Rattle.mesh_trace.specs.Reading.Lines.{lines_of, IsLineOf}
 use Rattle.mesh_trace.specs.Positions.Standing.{TracePosition}
-use Rattle.mesh_trace.specs.Positions.Leading.{Leads, LeadsBy}
+use Rattle.mesh_trace.specs.Positions.Leading.{LineLeads, LeadsBy}
 use Rattle.mesh_trace.proofs.PositionsLemmas.TextLines.{OneLine, lines_more}
 
 pub leads_on : (p q r : TracePosition) (xs ys : List (List ℕ)) → LeadsBy p xs q → LeadsBy q ys r → LeadsBy p (xs ++ ys) r
@@ -18,7 +18,7 @@ pub record Walks (p q : TracePosition) (text : List ℕ) : Type 0 where
 pub walks_nowhere : (p : TracePosition) → Walks p p []
 walks_nowhere p = record { lines = []; leads = refl; are = λ rest. refl }
 
-pub walks_one : (p q : TracePosition) (text : List ℕ) → OneLine text → ((line : List ℕ) → IsLineOf line text → Leads p line q) → Walks p q text
+pub walks_one : (p q : TracePosition) (text : List ℕ) → OneLine text → ((line : List ℕ) → IsLineOf line text → LineLeads p line q) → Walks p q text
 walks_one p q text one leads = record {
   lines = one.inside ∷ [];
   leads = (q, leads one.inside one.whole, refl);

@@ -21,7 +21,7 @@ use Rattle.mesh_texts.proofs.machine.Places.{set_here, same_at}
 use Rattle.mesh_texts.specs.Lines.Marks.{face_name}
 use Rattle.mesh_atoms.specs.declared.network.NetEvent.{NetEvent}
 use Rattle.mesh_texts.specs.Trace.{happened_line, event_line, heard_line, relays_lines, sent_lines, event_text, IsEventText, Of_taken, Of_refused}
-use Rattle.mesh_texts.specs.machine.Net.{Net, NetStep, By_delivery, By_tick, By_last_tick, Moves, Delivers, happening, event_of, frames_of}
+use Rattle.mesh_texts.specs.machine.Net.{NetState, NetStep, By_delivery, By_tick, By_last_tick, Moves, Delivers, happening, event_of, frames_of}
 use Rattle.mesh_texts.specs.Runs.{IsTraced, Traces}
 use Rattle.mesh_trace.specs.Positions.Due.{Refused}
 use Rattle.mesh_trace.specs.Positions.Laws.{RunsAreWhole}
@@ -74,22 +74,22 @@ pub line_same : (n n' : ℕ) (what what' : Option (ℕ × Addr4 × List ℕ)) (r
 line_same n n' what what' r r' p q t =
     ap (λ (z : ℕ). happened_line z r what) p ∙ (ap (λ (z : Option (ℕ × Addr4 × List ℕ)). happened_line n' r z) q ∙ ap (λ (z : RouterSettings). happened_line n' z what') t)
 
-nothing_sent : (net : Net) (now x : ℕ) (es : List Emission) (before after : Traffic) → map frame_of es ≡ [] → SendsAll net.scenario now x es before after → after ≡ before
+nothing_sent : (net : NetState) (now x : ℕ) (es : List Emission) (before after : Traffic) → map frame_of es ≡ [] → SendsAll net.scenario now x es before after → after ≡ before
 nothing_sent net now x [] before after none sends = sends
 nothing_sent net now x (e ∷ es) before after none sends = absurd cc
 
-net_is : (m : Net) (s : Scenario) (r : List State) (l : ℕ) → m.scenario ≡ s → m.routers ≡ r → m.last_ticks ≡ l → record { scenario = s; routers = r; traffic = m.traffic; last_ticks = l } ≡ m
+net_is : (m : NetState) (s : Scenario) (r : List State) (l : ℕ) → m.scenario ≡ s → m.routers ≡ r → m.last_ticks ≡ l → record { scenario = s; routers = r; traffic = m.traffic; last_ticks = l } ≡ m
 net_is m s r l a b c = rw (← a, ← b, ← c) refl
 
 -- the router of the event, after it
-after_is : (old mid : Net) (event : NetEvent) (before : Traffic) (m : Moves old event before mid) (after : State) → slice_get mid.routers event.router ≡ Some after → after ≡ m.is
+after_is : (old mid : NetState) (event : NetEvent) (before : Traffic) (m : Moves old event before mid) (after : State) → slice_get mid.routers event.router ≡ Some after → after ≡ m.is
 after_is old mid event before m after at_after =
     same_at mid.routers event.router after m.is at_after
     (subst (λ (l : List State). slice_get l event.router ≡ Some m.is) (sym m.routers) (set_here old.routers event.router m.is m.was m.stood))
 
 -- ---- ticks
 
-ticked_walk : (old mid : Net) (event : NetEvent) (text : List ℕ) (x0 l : ℕ) (m : Moves old event old.traffic mid) → event.heard ≡ None → mid.last_ticks ≡ l → IsTraced mid event text →
+ticked_walk : (old mid : NetState) (event : NetEvent) (text : List ℕ) (x0 l : ℕ) (m : Moves old event old.traffic mid) → event.heard ≡ None → mid.last_ticks ≡ l → IsTraced mid event text →
     ((line : List ℕ) (p : TracePosition) → opens.OpensTick old event.router event.moment l line p → opens.OpensEvent old line p) →
     Walks (at old x0 []) (at mid event.router []) text
 ticked_walk old mid event text x0 l m silent last (after, at_after, Of_refused refused is) may =
@@ -98,7 +98,7 @@ ticked_walk old mid event text x0 l m silent last (after, at_after, Of_taken tak
     let ticks = step_ticks m.was (event_of event) (frames_of event) m.is event.moment m.step (ap (happening event.moment) silent) in
     let same = after_is old mid event old.traffic m after at_after in
     let settings : after.settings ≡ m.was.settings = ap (λ (s : State). s.settings) same ∙ ticks.renews.settings in
-    walks_as (at old x0 []) _ (at mid event.router []) _ text (ap (λ (n : Net). at n event.router []) (net_is mid old.scenario (slice_set old.routers event.router m.is) l m.scenario m.routers last))
+    walks_as (at old x0 []) _ (at mid event.router []) _ text (ap (λ (n : NetState). at n event.router []) (net_is mid old.scenario (slice_set old.routers event.router m.is) l m.scenario m.routers last))
     (sym (is ∙ (told_so mid.scenario event after ∙ told_same mid.scenario old.scenario event.moment event.heard None after.settings m.was.settings after m.is event.moment m.is.last event.sent
     m.scenario silent settings same (sym ticks.renews.last))))
     (tick_walk old x0 event.router event.moment l m.was m.is (frames_of event) event.sent mid.traffic m.stood ticks refl m.sends may)
@@ -117,7 +117,7 @@ not_taken : (event : NetEvent) (iface : ℕ) (sender : Addr4) (frame : List ℕ)
 not_taken event iface sender frame place reason same whole fault =
     packet_apart frame place reason (subst (λ (h : Option (ℕ × Addr4 × List ℕ)). IfSome h (λ h. IsPacket h.2)) same whole) fault
 
-heard_walk : (old mid : Net) (event : NetEvent) (text : List ℕ) (x0 : ℕ) → Delivers old event mid → IsTraced mid event text →
+heard_walk : (old mid : NetState) (event : NetEvent) (text : List ℕ) (x0 : ℕ) → Delivers old event mid → IsTraced mid event text →
     Walks (at old x0 []) (at mid event.router []) text
 heard_walk old mid event text x0 d (after, at_after, is_text) =
     let m = d.moves in
@@ -137,7 +137,7 @@ heard_walk old mid event text x0 d (after, at_after, is_text) =
 
     end : at (record old { routers = slice_set old.routers d.arc.to d.moves.is; traffic = mid.traffic }) d.arc.to [] ≡ at mid event.router []
     end = subst (λ (x : ℕ). at (record old { routers = slice_set old.routers x d.moves.is; traffic = mid.traffic }) x [] ≡ at mid event.router []) d.router
-        (ap (λ (n : Net). at n event.router []) (net_is mid old.scenario (slice_set old.routers event.router d.moves.is) old.last_ticks d.moves.scenario d.moves.routers d.last_ticks))
+        (ap (λ (n : NetState). at n event.router []) (net_is mid old.scenario (slice_set old.routers event.router d.moves.is) old.last_ticks d.moves.scenario d.moves.routers d.last_ticks))
 
     by : (answer : Heard) → Hears d.moves.was (record { now = event.moment; iface = d.arc.to_iface; sender = d.sender }) d.delivery.frame answer (frames_of event) d.moves.is → Walks (at old x0 []) (at mid event.router []) text
     by (heard.Taken fates) hears = taken is_text where
@@ -186,7 +186,7 @@ heard_walk old mid event text x0 d (after, at_after, is_text) =
 
 -- ---- a run
 
-pub step_walk : (old mid : Net) (event : NetEvent) (text : List ℕ) (x0 : ℕ) → NetStep old event mid → IsTraced mid event text →
+pub step_walk : (old mid : NetState) (event : NetEvent) (text : List ℕ) (x0 : ℕ) → NetStep old event mid → IsTraced mid event text →
     Walks (at old x0 []) (at mid event.router []) text
 step_walk old mid event text x0 (By_delivery d) traced = heard_walk old mid event text x0 d traced
 step_walk old mid event text x0 (By_tick h) traced =
@@ -196,14 +196,14 @@ step_walk old mid event text x0 (By_last_tick h) traced =
     (λ line p o. opens.By_last_tick h.only h.some
     (subst (λ (n : ℕ). opens.OpensTick old old.last_ticks n (old.last_ticks + 1) line p) h.moment (subst (λ (x : ℕ). opens.OpensTick old x event.moment (old.last_ticks + 1) line p) h.router o)))
 
-record Arrives (old : Net) (x0 : ℕ) (new : Net) (text : List ℕ) : Type 0 where
+record Arrives (old : NetState) (x0 : ℕ) (new : NetState) (text : List ℕ) : Type 0 where
   router : ℕ
   walks : Walks (at old x0 []) (at new router []) text
 
-traces_walk : (old : Net) (events : List NetEvent) (new : Net) (text : List ℕ) (x0 : ℕ) → Traces old events new text → Arrives old x0 new text
+traces_walk : (old : NetState) (events : List NetEvent) (new : NetState) (text : List ℕ) (x0 : ℕ) → Traces old events new text → Arrives old x0 new text
 traces_walk old [] new text x0 (same, none) = record {
   router = x0;
-  walks = walks_as (at old x0 []) (at old x0 []) (at new x0 []) [] text (ap (λ (n : Net). at n x0 []) (sym same)) (sym none) (walks_nowhere (at old x0 []));
+  walks = walks_as (at old x0 []) (at old x0 []) (at new x0 []) [] text (ap (λ (n : NetState). at n x0 []) (sym same)) (sym none) (walks_nowhere (at old x0 []));
 }
 traces_walk old (event ∷ events) new text x0 (mid, step, first, rest, traced, more, whole) =
     let here = step_walk old mid event first x0 step traced in

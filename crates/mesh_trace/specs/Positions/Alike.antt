@@ -3,7 +3,7 @@ use Rattle.std.specs.Prelude.{◌≡◌, ℕ, ◌<◌, ◌^◌, Some, slice_get,
 use Rattle.mesh_atoms.specs.declared.addr.Addr4.{Addr4}
 use Rattle.mesh_atoms.specs.declared.tuples.Neighbour.{Neighbour}
 use Rattle.mesh_atoms.specs.Base.{Same, base_of, link_eq, two_hop_eq, addr_eq, router_eq, address_eq, network_eq, flood_eq}
-use Rattle.mesh_atoms.specs.State.{Neighbourhood, Topology, NotedMessages, Bases, State, HasSymmetric}
+use Rattle.mesh_atoms.specs.State.{Neighbourhood, TopologyBase, NotedMessages, Bases, State, HasSymmetric}
 use Rattle.mesh_texts.specs.machine.Laws.{SoundBases}
 use Rattle.mesh_trace.specs.Positions.Standing.{TracePosition}
 
@@ -17,7 +17,7 @@ pub record AlikeNear (a b : Neighbourhood) : Type 0 where
   pub losts : Same addr_eq a.losts b.losts
 
 -- the same tuples of the topology
-pub record AlikeTopology (a b : Topology) : Type 0 where
+pub record AlikeTopology (a b : TopologyBase) : Type 0 where
   pub advertisers : Same addr_eq a.advertisers b.advertisers
   pub routers : Same router_eq a.routers b.routers
   pub addresses : Same address_eq a.addresses b.addresses

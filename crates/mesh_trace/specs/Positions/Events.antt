@@ -6,13 +6,13 @@ use Rattle.mesh_atoms.specs.State.{State}
 use Rattle.mesh_texts.specs.machine.Traffic.{Delivery, with_heard}
 use Rattle.mesh_texts.specs.Lines.Marks.{face_name}
 use Rattle.mesh_texts.specs.Trace.{heard_line, tick_line}
-use Rattle.mesh_texts.specs.machine.Net.{Net, HearsNext, TicksNext, HasOnlyLastTicks, IsSender}
+use Rattle.mesh_texts.specs.machine.Net.{NetState, HearsNext, TicksNext, HasOnlyLastTicks, IsSender}
 use Rattle.mesh_trace.specs.Positions.Due.{HearsBy, TicksBy}
 use Rattle.mesh_trace.specs.Reading.Lines.{IsLineOf}
 use Rattle.mesh_trace.specs.Positions.Standing.{Item, TracePosition, with_state, with_traffic}
 
 -- the line tells that the frame is heard that is next, where its arc leads to
-pub record OpensHearing (old : Net) (line : List ℕ) (new : TracePosition) : Type 0 where
+pub record OpensHearing (old : NetState) (line : List ℕ) (new : TracePosition) : Type 0 where
   pub delivery : Delivery
   pub others : List Delivery
   pub arc : RadioArc
@@ -34,7 +34,7 @@ pub record OpensHearing (old : Net) (line : List ℕ) (new : TracePosition) : Ty
   }
 
 -- the line tells that router x ticks at now, and then so many routers had their last tick
-pub record OpensTick (old : Net) (x now last_ticks : ℕ) (line : List ℕ) (new : TracePosition) : Type 0 where
+pub record OpensTick (old : NetState) (x now last_ticks : ℕ) (line : List ℕ) (new : TracePosition) : Type 0 where
   pub was : State
   pub stands : slice_get old.routers x ≡ Some was
   pub line_is : IsLineOf line (tick_line now was.settings.name)
@@ -44,7 +44,7 @@ pub record OpensTick (old : Net) (x now last_ticks : ℕ) (line : List ℕ) (new
   pub leads : new ≡ record { net = record (with_state old x is) { last_ticks = last_ticks }; router = x; left = left }
 
 -- the line tells the next event of the network
-pub data OpensEvent (old : Net) (line : List ℕ) (new : TracePosition) : Type 0 where
+pub data OpensEvent (old : NetState) (line : List ℕ) (new : TracePosition) : Type 0 where
   By_delivery : OpensHearing old line new → OpensEvent old line new
   By_tick : (x moment : ℕ) → TicksNext old x moment → OpensTick old x moment old.last_ticks line new → OpensEvent old line new
   By_last_tick : HasOnlyLastTicks old → old.last_ticks < length old.routers →

@@ -12,7 +12,7 @@ use Rattle.mesh_texts.specs.machine.Sending.{IsHelloFrame, SendsParts}
 use Rattle.mesh_texts.specs.machine.Traffic.{Traffic, Sends}
 use Rattle.mesh_texts.specs.Lines.Marks.{face_name}
 use Rattle.mesh_texts.specs.Trace.{flooding_text, routing_relays_line, sent_line, lost_line}
-use Rattle.mesh_texts.specs.machine.Net.{Net}
+use Rattle.mesh_texts.specs.machine.Net.{NetState}
 use Rattle.mesh_trace.specs.Reading.Lines.{IsLineOf}
 use Rattle.mesh_trace.specs.Positions.Standing.{Item, Flooding, Routing, Hello, Tc, Sent, Lost, with_state, with_traffic}
 
@@ -24,7 +24,7 @@ abbrev pub with_routing : State → List Addr4 → State
 with_routing s relays = record s { relays = record s.relays { routing = relays } }
 
 -- the line tells that router x, in that state, sends the frame: it goes out on the arcs, and these losses are then to be told
-pub record TellsFrame (net : Net) (x : ℕ) (s : State) (frame : Frame) (line : List ℕ) (new : Net) (losses : List Item) : Type 0 where
+pub record TellsFrame (net : NetState) (x : ℕ) (s : State) (frame : Frame) (line : List ℕ) (new : NetState) (losses : List Item) : Type 0 where
   pub line_is : IsLineOf line (sent_line s.last s.settings.name (face_name s.settings.interfaces frame.iface) frame.bytes)
   pub lost : List ℕ
   pub traffic : Traffic
@@ -40,21 +40,21 @@ pub record AreTcFrames (s : State) (complete : Bool) (sequence : ℕ) (rows : Li
 
 -- one line for what is to be told next of an event of router x, in that state: the network after it, and what is to be told before
 -- the rest
-pub data Tells (net : Net) (x : ℕ) (s : State) (line : List ℕ) : Item → Net → List Item → Type 0 where
+pub data TellsItem (net : NetState) (x : ℕ) (s : State) (line : List ℕ) : Item → NetState → List Item → Type 0 where
   -- relays that cover, of which each is needed (RFC 7181, section 18.3), in ascending order
   Tells_flooding : {i : ℕ} (face : Interface) (relays : List Addr4) (g : NeighbourGraph) → slice_get s.settings.interfaces i ≡ Some face →
       IsFloodingGraph s s.last i g → AreRelaysOf g relays → IsLineOf line (flooding_text s.settings.name face.name relays) →
-      Tells net x s line (Flooding i) (with_state net x (with_flooding s relays)) []
+      TellsItem net x s line (Flooding i) (with_state net x (with_flooding s relays)) []
   Tells_routing : (relays : List Addr4) (g : NeighbourGraph) → IsRoutingGraph s g → AreRelaysOf g relays →
-      IsLineOf line (routing_relays_line s.settings.name relays) → Tells net x s line Routing (with_state net x (with_routing s relays)) []
+      IsLineOf line (routing_relays_line s.settings.name relays) → TellsItem net x s line Routing (with_state net x (with_routing s relays)) []
   -- the HELLO that is due, however it is spelled
-  Tells_hello : {i : ℕ} {new : Net} {losses : List Item} (frame : Frame) → IsHelloFrame s i frame →
-      TellsFrame net x s frame line new losses → Tells net x s line (Hello i) new losses
+  Tells_hello : {i : ℕ} {new : NetState} {losses : List Item} (frame : Frame) → IsHelloFrame s i frame →
+      TellsFrame net x s frame line new losses → TellsItem net x s line (Hello i) new losses
   -- the TC that is due, however it is spelled; then the same octets on each further interface
-  Tells_tc : {complete : Bool} {sequence : ℕ} {rows : List TcRow} {new : Net} {losses : List Item} (first : Frame) (further : List Frame) →
+  Tells_tc : {complete : Bool} {sequence : ℕ} {rows : List TcRow} {new : NetState} {losses : List Item} (first : Frame) (further : List Frame) →
       AreTcFrames s complete sequence rows first further → TellsFrame net x s first line new losses →
-      Tells net x s line (Tc complete sequence rows) new (losses ++ map Sent further)
+      TellsItem net x s line (Tc complete sequence rows) new (losses ++ map Sent further)
   -- these very octets
-  Tells_frame : {frame : Frame} {new : Net} {losses : List Item} → TellsFrame net x s frame line new losses →
-      Tells net x s line (Sent frame) new losses
-  Tells_loss : {n : ℕ} → IsLineOf line (lost_line net.scenario s.last n) → Tells net x s line (Lost n) net []
+  Tells_frame : {frame : Frame} {new : NetState} {losses : List Item} → TellsFrame net x s frame line new losses →
+      TellsItem net x s line (Sent frame) new losses
+  Tells_loss : {n : ℕ} → IsLineOf line (lost_line net.scenario s.last n) → TellsItem net x s line (Lost n) net []

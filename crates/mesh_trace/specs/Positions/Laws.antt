@@ -15,7 +15,7 @@ use Rattle.mesh_texts.specs.Runs.{WholeRun, IsTrace}
 use Rattle.mesh_trace.specs.Positions.Alike.{Alike, AlikeBases, IsSoundPosition, IsOfAddresses}
 use Rattle.mesh_trace.specs.Reading.Lines.{lines_of}
 use Rattle.mesh_trace.specs.Positions.Standing.{TracePosition, IsDone}
-use Rattle.mesh_trace.specs.Positions.Leading.{Leads, Reaches, Fits, IsWholeTrace, IsUnfit}
+use Rattle.mesh_trace.specs.Positions.Leading.{LineLeads, Reaches, Fits, IsWholeTrace, IsUnfit}
 
 -- wherever lines lead, the bases of each router are sound
 abbrev pub PositionsAreSound : Type 0
@@ -37,12 +37,12 @@ PositionsHaveAddresses = (s : Scenario) (lines : List (List ℕ)) (p : TracePosi
 -- one line leads from positions that are alike to positions that are alike
 abbrev pub LeadsAlike : Type 0
 LeadsAlike = (p q after other : TracePosition) (line : List ℕ) → IsSoundPosition p → IsSoundPosition q → IsOfAddresses p → Alike p q →
-    Leads p line after → Leads q line other → Alike after other
+    LineLeads p line after → LineLeads q line other → Alike after other
 
 -- where a line leads on from one position, it does from each that is alike
 abbrev pub LeadsFromAlike : Type 0
 LeadsFromAlike = (p q after : TracePosition) (line : List ℕ) → IsSoundPosition p → IsSoundPosition q → Alike p q →
-    Leads p line after → (other : TracePosition) × Leads q line other
+    LineLeads p line after → (other : TracePosition) × LineLeads q line other
 
 -- all else is fixed: wherever the same lines lead is alike
 abbrev pub AllElseIsFixed : Type 0
@@ -51,7 +51,7 @@ AllElseIsFixed = (s : Scenario) (lines : List (List ℕ)) (p q : TracePosition) 
 -- so one position to which lines lead decides whether a line fits behind them, and whether they are a whole trace
 abbrev pub OneDecidesFit : Type 0
 OneDecidesFit = (s : Scenario) (lines : List (List ℕ)) (line : List ℕ) (p : TracePosition) → Reaches s lines p →
-    ((q : TracePosition) → Leads p line q → ⊥) → Fits s lines line → ⊥
+    ((q : TracePosition) → LineLeads p line q → ⊥) → Fits s lines line → ⊥
 
 abbrev pub OneDecidesEnd : Type 0
 OneDecidesEnd = (s : Scenario) (lines : List (List ℕ)) (p : TracePosition) → Reaches s lines p → (IsDone p → ⊥) → IsWholeTrace s lines → ⊥

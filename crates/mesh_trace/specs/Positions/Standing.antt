@@ -7,7 +7,7 @@ use Rattle.mesh_atoms.specs.declared.tc.TcRow.{TcRow}
 use Rattle.mesh_atoms.specs.State.{State}
 use Rattle.mesh_texts.specs.machine.declared.frame.Frame.{Frame}
 use Rattle.mesh_texts.specs.machine.Traffic.{Traffic}
-use Rattle.mesh_texts.specs.machine.Net.{Net}
+use Rattle.mesh_texts.specs.machine.Net.{NetState}
 use Rattle.mesh_texts.specs.machine.NetRun.{IsOpeningNet, IsOver}
 
 -- one thing that is told of an event behind its first line, in a line of its own
@@ -23,15 +23,15 @@ pub data Item : Type 0 where
 -- numbers that it has after the event; its relays are those that were told so far. Its routes are any, since nothing that is told depends
 -- on them
 pub record TracePosition : Type 0 where
-  pub net : Net
+  pub net : NetState
   pub router : ℕ  -- whose event it is
   pub left : List Item  -- what of it is still to be told, in order
 
 -- the network with that state of router x, and with that traffic
-abbrev pub with_state : Net → ℕ → State → Net
+abbrev pub with_state : NetState → ℕ → State → NetState
 with_state net x s = record net { routers = slice_set net.routers x s }
 
-abbrev pub with_traffic : Net → Traffic → Net
+abbrev pub with_traffic : NetState → Traffic → NetState
 with_traffic net t = record net { traffic = t }
 
 -- the relays that each event tells: of each interface, then for routing

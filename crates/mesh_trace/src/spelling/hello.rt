@@ -86,11 +86,11 @@ fn looks_at_other(kind: u8, octets: &[u8]) -> bool
 
 // A HELLO whose rows were read.
 #[derive(Drop)]
-struct Read {
+struct ReadHello {
     hello: Hello,
 }
 
-impl Looks for Read {
+impl Looks for ReadHello {
     ghost use Rattle.mesh_wire.specs.Writes.{IsReadOfHello};
     ghost use Rattle.mesh_trace.specs.Spelling.Looks.{LooksHello};
 
@@ -111,7 +111,7 @@ impl Looks for Read {
 }
 
 // Whether a message that was read says the HELLO, and nothing that the reading ignores.
-fn says_hello(hello: &Hello, read: &Read, message: &Message) -> bool
+fn says_hello(hello: &Hello, read: &ReadHello, message: &Message) -> bool
     requires encodable { IsEncodableMessage (fields_of_message message.now) }
     requires header { HasHelloHeader (fields_of_message message.now) }
     requires reads { HelloIs (fields_of_message message.now) read.now.hello }
@@ -146,7 +146,7 @@ fn tells_hello(
         return Ok(false);
     }
     let read = match hello_of(alloc, message) {
-        Ok(hello) => Read { hello },
+        Ok(hello) => ReadHello { hello },
         Err(WireFault::Broken { .. }) => {
             return Ok(false);
         }

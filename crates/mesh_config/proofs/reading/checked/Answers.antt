@@ -10,7 +10,7 @@ use Rattle.mesh_config.specs.Checks.Compared.{stated_duplicates, stated_identifi
 use Rattle.mesh_config.specs.Stated.Scenario.{stated_arc_fields}
 use Rattle.mesh_config.specs.Fields.{settings_parts, stated_parts}
 use Rattle.mesh_atoms.specs.declared.admit.QualityStep.{QualityStep}
-use Rattle.mesh_config.specs.Senders.{HaveAllSenders, Lists, addr_lists, with_steps, stated_steps, HaveAllQualities}
+use Rattle.mesh_config.specs.Senders.{HaveAllSenders, AddressLists, addr_lists, with_steps, stated_steps, HaveAllQualities}
 use Rattle.mesh_config.proofs.ChecksLemmas.Links.{duplicates_same}
 use Rattle.mesh_config.proofs.Builds.{stated_passed}
 use Rattle.mesh_config.proofs.JoinFacts.{joins_distinct}
@@ -63,14 +63,14 @@ returns c =
     rw (← c.as_slice-all.ensures, ← c.as_slice-stated_arcs.ensures) c.in_ok-arcs.ensures.read in
     let found : first (stated_visits d) ≡ None = rw (dups, joined) in
     let lists : stated_lists c.as_slice-all.result.now ≡ addr_lists ss = ap stated_lists c.as_slice-all.ensures ∙ sym (lists_same d.times ss d.routers same) in
-    let says : Lists → List RadioArc → Type 0 = λ ls xs. HaveAllSenders ls xs 0 ss in
+    let says : AddressLists → List RadioArc → Type 0 = λ ls xs. HaveAllSenders ls xs 0 ss in
     let senders : HaveAllSenders (addr_lists ss) arcs 0 ss =
-    subst (says (addr_lists ss)) c.as_slice.ensures (subst (λ (ls : Lists). says ls c.as_slice.result.now) lists c.in_ok-routers.ensures.senders) in
-    let admits : Lists → List (RadioArc × List QualityStep) → Type 0 = λ ls xs. HaveAllQualities ls xs 0 ss in
+    subst (says (addr_lists ss)) c.as_slice.ensures (subst (λ (ls : AddressLists). says ls c.as_slice.result.now) lists c.in_ok-routers.ensures.senders) in
+    let admits : AddressLists → List (RadioArc × List QualityStep) → Type 0 = λ ls xs. HaveAllQualities ls xs 0 ss in
     let with_all : with_steps c.as_slice.result.now (stated_steps c.as_slice-stated_arcs.result.now) ≡ with_steps arcs (stated_steps d.arcs) =
     ap (λ (xs : List RadioArc). with_steps xs (stated_steps c.as_slice-stated_arcs.result.now)) c.as_slice.ensures ∙ ap (λ (xs : List StatedArc). with_steps arcs (stated_steps xs)) c.as_slice-stated_arcs.ensures in
     let qualities : HaveAllQualities (addr_lists ss) (with_steps arcs (stated_steps d.arcs)) 0 ss =
-    subst (admits (addr_lists ss)) with_all (subst (λ (ls : Lists). admits ls (with_steps c.as_slice.result.now (stated_steps c.as_slice-stated_arcs.result.now))) lists c.in_ok-routers.ensures.qualities) in (
+    subst (admits (addr_lists ss)) with_all (subst (λ (ls : AddressLists). admits ls (with_steps c.as_slice.result.now (stated_steps c.as_slice-stated_arcs.result.now))) lists c.in_ok-routers.ensures.qualities) in (
       found,
       record {
         same_end = refl;

@@ -1,6 +1,6 @@
 use Rattle.std.proofs.Common.{◌≡◌, ◌+◌, ◌*◌, ◌/◌, ◌≤◌, length, subst, ap, ◌∙◌, arith}
 use Rattle.std.proofs.lemmas.Simd.{length-put_chunk}
-use Rattle.mesh_dump.specs.Pairs.{ArePairs}
+use Rattle.mesh_dump.specs.Pairs.{AreHexPairs}
 use Rattle.mesh_dump.proofs.Wide.{both_low, sixteen_more}
 use Rattle.mesh_dump.proofs.lanes.put_wide.Goals as goal
 
@@ -19,4 +19,4 @@ pub returns-clause-octets : goal.returns-clause-octets
 returns-clause-octets c = λ yes.
     let all : c.loop-i.i ≡ length c.loop-i.out / 16 = omega (arith, c.loop-i-test.false, c.loop-i.auto.i-end, c.loop-i.invariant.size) in
     let same : length c.loop-i.out ≡ length c.args.out.now = c.loop-i.invariant.size in
-    subst (λ n. ArePairs c.args.text.now c.loop-i.out (16 * (n / 16))) same (subst (λ n. ArePairs c.args.text.now c.loop-i.out (16 * n)) all (c.loop-i.invariant.pairs (c.are_low.ensures yes)))
+    subst (λ n. AreHexPairs c.args.text.now c.loop-i.out (16 * (n / 16))) same (subst (λ n. AreHexPairs c.args.text.now c.loop-i.out (16 * n)) all (c.loop-i.invariant.pairs (c.are_low.ensures yes)))

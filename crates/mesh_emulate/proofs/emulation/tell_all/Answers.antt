@@ -2,13 +2,13 @@ use Rattle.std.proofs.Common.{subst}
 use Rattle.mesh_emulate.proofs.Ends.{end_routers}
 use Rattle.mesh_emulate.proofs.Parts.{run_left, probe_left}
 use Rattle.mesh_probe.specs.Probes.{AreRoutersAt}
-use Rattle.mesh_texts.specs.machine.Net.{Net}
+use Rattle.mesh_texts.specs.machine.Net.{NetState}
 use Rattle.mesh_emulate.proofs.emulation.tell_all.Goals as goal
 
 pub probe_net-requires-clause-routers : goal.probe_net-requires-clause-routers
 probe_net-requires-clause-routers g c =
     let (text, (run, same, tripped), stands) = c.in-Ok.ensures.leaves in
-    subst (λ (n : Net). AreRoutersAt c.args.scenario.now n.routers c.args.scenario.now.end) same (end_routers c.args.scenario.now run)
+    subst (λ (n : NetState). AreRoutersAt c.args.scenario.now n.routers c.args.scenario.now.end) same (end_routers c.args.scenario.now run)
 
 pub returns-in-Ok-clause-leaves : goal.returns-in-Ok-clause-leaves
 returns-in-Ok-clause-leaves g c =

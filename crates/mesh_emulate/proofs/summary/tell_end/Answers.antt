@@ -1,7 +1,7 @@
 use Rattle.std.proofs.Common.{List, sym, subst}
 use Rattle.mesh_atoms.specs.Settled.{AreStates}
 use Rattle.mesh_atoms.specs.State.{State}
-use Rattle.mesh_emulate.specs.Left.{Leaves, IsTripTold, IsUntold}
+use Rattle.mesh_emulate.specs.Left.{LeavesOut, IsTripTold, IsWithoutText}
 use Rattle.mesh_emulate.proofs.Parts.{trip_left}
 use Rattle.mesh_emulate.proofs.summary.tell_end.Goals as goal
 
@@ -13,5 +13,5 @@ returns-in-Ok-clause-leaves g c =
     let net = g.N.Network.net c.args.net.now in
     trip_left c.args.scenario.now c.args.send net (g.O.Sink.content c.args.out.now) (g.O.Sink.content c.tell_summary.new.out) (g.O.Sink.content c.tell_trip.new.out)
     (g.O.Sink.faults c.args.out.now) (g.O.Sink.faults c.tell_summary.new.out) (g.O.Sink.faults c.tell_trip.new.out) c.tell_trip.result c.in-Ok.ensures.leaves c.tell_summary.ensures.later
-    (subst (λ (states : List State). Leaves (IsTripTold c.args.scenario.now states c.args.send) (IsTripTold c.args.scenario.now states c.args.send) (IsUntold c.args.send) (g.O.Sink.content c.tell_summary.new.out) (g.O.Sink.content c.tell_trip.new.out) (g.O.Sink.faults c.tell_summary.new.out) (g.O.Sink.faults c.tell_trip.new.out) c.tell_trip.result)
+    (subst (λ (states : List State). LeavesOut (IsTripTold c.args.scenario.now states c.args.send) (IsTripTold c.args.scenario.now states c.args.send) (IsWithoutText c.args.send) (g.O.Sink.content c.tell_summary.new.out) (g.O.Sink.content c.tell_trip.new.out) (g.O.Sink.faults c.tell_summary.new.out) (g.O.Sink.faults c.tell_trip.new.out) c.tell_trip.result)
     c.routers.ensures c.tell_trip.ensures.leaves)

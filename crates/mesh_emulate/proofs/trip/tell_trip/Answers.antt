@@ -1,6 +1,6 @@
 use Rattle.std.proofs.Common.{[], Some, map, refl, subst, sym}
 use Rattle.mesh_io.proofs.Fronts.{appends_none}
-use Rattle.mesh_emulate.specs.Left.{IsTripText, IsUntold}
+use Rattle.mesh_emulate.specs.Left.{IsTripText, IsWithoutText}
 use Rattle.mesh_emulate.proofs.Leaving.{leaves_exactly}
 use Rattle.mesh_emulate.proofs.trip.tell_trip.Goals as goal
 
@@ -11,7 +11,7 @@ pub returns-in-Ok-clause-leaves : goal.returns-in-Ok-clause-leaves
 returns-in-Ok-clause-leaves g c =
     let is = IsTripText c.args.scenario.now (map g.R.RouterView.state c.args.routers.now) c.in-Some.departure in
     rw c.in-Some.is
-    (leaves_exactly is (IsUntold (Some c.in-Some.departure)) (g.O.Sink.content c.args.out.now) (g.O.Sink.content c.write_text.new.out) (g.O.Sink.faults c.args.out.now) (g.O.Sink.faults c.write_text.new.out)
+    (leaves_exactly is (IsWithoutText (Some c.in-Some.departure)) (g.O.Sink.content c.args.out.now) (g.O.Sink.content c.write_text.new.out) (g.O.Sink.faults c.args.out.now) (g.O.Sink.faults c.write_text.new.out)
     c.as_slice.result.now c.write_text.result (subst is (sym c.as_slice.ensures) c.in-Ok.ensures) (refl, refl) c.write_text.ensures.leaves)
 
 pub returns-in-Err-clause-leaves : goal.returns-in-Err-clause-leaves

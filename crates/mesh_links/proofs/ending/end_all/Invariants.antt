@@ -5,7 +5,7 @@ use Rattle.mesh_atoms.specs.declared.tuples.Link.{Link}
 use Rattle.mesh_atoms.specs.declared.tuples.LinkKey.{LinkKey}
 use Rattle.mesh_atoms.specs.Base.{link_eq, find, HasDistinctKeys}
 use Rattle.mesh_links.specs.Ending.{Spares}
-use Rattle.mesh_links.specs.Owners.{IsLeft}
+use Rattle.mesh_links.specs.Owners.{IsKeptOrGone}
 use Rattle.mesh_links.proofs.ending.end_all.Given as goal
 
 abbrev pub invariant-loop-addr : goal.invariant-loop-addr
@@ -15,6 +15,6 @@ invariant-loop-addr g l =
     record {
       within : length now ≤ length before;
       distinct : HasDistinctKeys link_eq now;
-      left : (key : LinkKey) → IsLeft (λ e. Spares l.fn.which e.0 → ⊥) (find link_eq before key) (find link_eq now key);
+      left : (key : LinkKey) → IsKeptOrGone (λ e. Spares l.fn.which e.0 → ⊥) (find link_eq before key) (find link_eq now key);
       done : AllWithin (λ a. (key : LinkKey) (e : Link × ℕ) → find link_eq now key ≡ Some e → Contains e.0.addrs a → Spares l.fn.which e.0) l.addrs 0 l.addr-index;
     }

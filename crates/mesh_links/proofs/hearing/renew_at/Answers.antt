@@ -2,7 +2,7 @@ use Rattle.std.proofs.Common.{◌≡◌, sym, ◌∙◌, Some}
 use Rattle.std.proofs.lemmas.Result.{on_ok_weaker}
 use Rattle.mesh_atoms.specs.AfterHello.{Stood, Made, made, renewed}
 use Rattle.mesh_atoms.specs.Base.{SetsOnly, link_eq}
-use Rattle.mesh_links.specs.Owners.{Owned}
+use Rattle.mesh_links.specs.Owners.{HasLinkOwners}
 use Rattle.mesh_links.proofs.Renewed.{addrs-renewed}
 use Rattle.mesh_links.proofs.Tied.{owned_fewer, owned_set, fewer_same}
 use Rattle.mesh_links.proofs.hearing.renew_at.Goals as goal
@@ -27,6 +27,6 @@ returns-in-None-clause-owned g c =
     let new = g.T.Table.content c.put_made.new.table in
     let entry = renewed c.args.shown.now c.args.hold c.args.now (made c.args.rule.now c.args.shown.now c.args.now) in
     let addrs = addrs-renewed c.args.shown.now c.args.hold c.args.now (made c.args.rule.now c.args.shown.now c.args.now) in
-    by_result (SetsOnly link_eq old new c.args.key (Some entry)) (new ≡ old) (Owned owners new) c.put_made.result c.put_made.ensures.ok c.put_made.ensures.err
+    by_result (SetsOnly link_eq old new c.args.key (Some entry)) (new ≡ old) (HasLinkOwners owners new) c.put_made.result c.put_made.ensures.ok c.put_made.ensures.err
     (λ sets. owned_set owners old new c.args.key entry c.requires.owned sets (rw addrs c.requires.mine) (rw addrs c.requires.first))
     (λ same. owned_fewer owners old new c.requires.owned (fewer_same old new same))

@@ -1,7 +1,7 @@
 use Rattle.std.proofs.Common.{◌≡◌, ◌∙◌, ℕ, Some, None, sym, subst, refl}
 use Rattle.mesh_atoms.specs.declared.tuples.LinkKey.{LinkKey}
 use Rattle.mesh_atoms.specs.declared.tuples.Link.{Link}
-use Rattle.mesh_links.specs.Links.{Stays}
+use Rattle.mesh_links.specs.Links.{IsLinkUnchanged}
 use Rattle.mesh_links.proofs.staying.stays_at.Goals as goal
 
 some_is : {A : Type 0} (x y : A) → Some x ≡ Some y → x ≡ y
@@ -12,7 +12,7 @@ none_is x e = absurd cc
 
 pub returns-in-Some : goal.returns-in-Some
 returns-in-Some g c = (
-  λ yes x at. subst (λ (y : LinkKey × (Link × ℕ)). Stays c.args.rule.now c.args.hold c.args.last c.args.now y.1) (some_is _ x (c.in-Some.ensures ∙ at)) (c.stays.ensures.0 yes),
+  λ yes x at. subst (λ (y : LinkKey × (Link × ℕ)). IsLinkUnchanged c.args.rule.now c.args.hold c.args.last c.args.now y.1) (some_is _ x (c.in-Some.ensures ∙ at)) (c.stays.ensures.0 yes),
   λ all. c.stays.ensures.1 (all _ (sym c.in-Some.ensures)),
 )
 

@@ -4,7 +4,8 @@ use Rattle.mesh_atoms.specs.declared.addr.Addr4.{Addr4}
 use Rattle.mesh_atoms.specs.Sound.{SoundNeighbourhood}
 use Rattle.mesh_atoms.specs.State.{Neighbourhood}
 use Rattle.mesh_nhdp.specs.expire.Table.{entry_of}
-use Rattle.mesh_machine.specs.Said.{IsFloodingRelay, IsRelayOf, or_else, shows_symmetric, near_metric_in, near_metric_out}
+use Rattle.mesh_machine.specs.Said.{IsFloodingRelay, or_else, shows_symmetric, near_metric_in, near_metric_out}
+use Rattle.mesh_hello.specs.Saying.Said.{IsRelayOf}
 use Rattle.mesh_machine.proofs.Saying.{said_by}
 use Rattle.mesh_machine.proofs.said.said_of.Goals as goal
 use Rattle.mesh_hello.proofs.SayingLemmas.OneRow.{lent_some}

@@ -1,7 +1,7 @@
 use Rattle.std.proofs.Common.{◌≡◌, true, ap, is_some, arith}
 use Rattle.mesh_atoms.specs.Base.{addr_eq}
 use Rattle.mesh_atoms.proofs.Lookups.{same_addr}
-use Rattle.mesh_nbrs.specs.Parts.{HasPart}
+use Rattle.mesh_nbrs.specs.Parts.{HasSummaryAt}
 use Rattle.mesh_nbrs.proofs.Ended.{ended_more, all_ended}
 use Rattle.mesh_nbrs.proofs.ends.end_all.Goals as goal
 
@@ -10,14 +10,14 @@ loop-next-preserved g c =
     let next = c.in-Some.ensures.some in
     let found : c.remove.result ≡ true = c.remove.ensures.found.1 (ap is_some next.1) in
     record {
-      kept = ended_more addr_eq same_addr (λ o n. HasPart c.args.parts.now.entries n.addrs → ⊥) (g.T.Table.content c.args.table.now) (g.T.Table.content c.loop-next.table) (g.T.Table.content c.remove.new.self) c.in-Some.next.1 next.0 c.loop-next.invariant.kept next.1 next.2 c.remove.ensures.removed;
+      kept = ended_more addr_eq same_addr (λ o n. HasSummaryAt c.args.parts.now.entries n.addrs → ⊥) (g.T.Table.content c.args.table.now) (g.T.Table.content c.loop-next.table) (g.T.Table.content c.remove.new.self) c.in-Some.next.1 next.0 c.loop-next.invariant.kept next.1 next.2 c.remove.ensures.removed;
       none = λ many. absurd (omega (arith, many, c.loop-next.invariant.within, rw found at c.remove.ensures.count));
       within = omega (arith, c.loop-next.invariant.within, rw found at c.remove.ensures.count);
       distinct = c.remove.ensures.distinct;
     }
 
 pub returns-clause-kept : goal.returns-clause-kept
-returns-clause-kept g c = all_ended addr_eq (λ o n. HasPart c.args.parts.now.entries n.addrs → ⊥) (g.T.Table.content c.args.table.now) (g.T.Table.content c.loop-next.table) c.loop-next.invariant.kept c.in_default.ensures.none
+returns-clause-kept g c = all_ended addr_eq (λ o n. HasSummaryAt c.args.parts.now.entries n.addrs → ⊥) (g.T.Table.content c.args.table.now) (g.T.Table.content c.loop-next.table) c.loop-next.invariant.kept c.in_default.ensures.none
 
 pub returns-clause-none : goal.returns-clause-none
 returns-clause-none g c none = c.loop-next.invariant.none (omega (arith, none, c.loop-next.invariant.within, c.len-before.ensures.value, c.len.ensures.value))

@@ -1,7 +1,7 @@
 use Rattle.std.proofs.Common.{◌≡◌, ◌≤◌, length}
 use Rattle.mesh_atoms.specs.declared.tuples.Neighbour.{Neighbour}
 use Rattle.mesh_atoms.specs.Base.{HasDistinctKeys, addr_eq}
-use Rattle.mesh_nbrs.specs.Parts.{HasPart}
+use Rattle.mesh_nbrs.specs.Parts.{HasSummaryAt}
 use Rattle.mesh_nbrs.proofs.Ended.{HasEnded}
 use Rattle.mesh_nbrs.proofs.ends.end_all.Given as goal
 
@@ -10,7 +10,7 @@ invariant-loop-next g l =
     let before = g.T.Table.content l.initial.table in
     let now = g.T.Table.content l.table in
     record {
-      kept : (q : _) → HasEnded addr_eq (λ o (n : Neighbour). HasPart l.parts.entries n.addrs → ⊥) before now q;
+      kept : (q : _) → HasEnded addr_eq (λ o (n : Neighbour). HasSummaryAt l.parts.entries n.addrs → ⊥) before now q;
       none : length before ≤ length now → now ≡ before;
       within : length now ≤ length before;
       distinct : HasDistinctKeys addr_eq now;

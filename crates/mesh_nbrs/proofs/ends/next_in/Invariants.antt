@@ -1,7 +1,7 @@
 use Rattle.std.proofs.Common.{◌≡◌, ℕ, ◌<◌, ◌≤◌}
 use Rattle.std.specs.Prelude.{Some, slice_get}
-use Rattle.mesh_nbrs.specs.Parts.{HasPart}
+use Rattle.mesh_nbrs.specs.Parts.{HasSummaryAt}
 use Rattle.mesh_nbrs.proofs.ends.next_in.Given as goal
 
 abbrev pub invariant-loop-place : goal.invariant-loop-place
-invariant-loop-place g l = (k : ℕ) (e : _) → l.start ≤ k → k < l.place → slice_get (g.T.Table.content l.table) k ≡ Some e → (HasPart l.parts.entries e.1.0.addrs → ⊥) → ⊥
+invariant-loop-place g l = (k : ℕ) (e : _) → l.start ≤ k → k < l.place → slice_get (g.T.Table.content l.table) k ≡ Some e → (HasSummaryAt l.parts.entries e.1.0.addrs → ⊥) → ⊥

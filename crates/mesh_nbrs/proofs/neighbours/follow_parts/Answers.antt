@@ -9,19 +9,19 @@ use Rattle.mesh_expire.specs.Table.{changed_at}
 use Rattle.mesh_expire.proofs.Laws.{sets-changed_at}
 use Rattle.mesh_nbrs.specs.declared.neighbours.LinkNote.{LinkNote}
 use Rattle.mesh_nbrs.specs.declared.summary.Summary.{Summary}
-use Rattle.mesh_nbrs.specs.Neighbours.{by_summary, HasNote, IsSummary, RestoresBy}
-use Rattle.mesh_nbrs.specs.Parts.{AreParts, HasPart}
+use Rattle.mesh_nbrs.specs.Neighbours.{by_summary, HasNote, IsNotesSummary, RestoresBy}
+use Rattle.mesh_nbrs.specs.Parts.{AreSummariesOf, HasSummaryAt}
 use Rattle.mesh_nbrs.proofs.ByAddress.{kept_noted}
 use Rattle.mesh_nbrs.proofs.Owning.{owned_kept}
 use Rattle.mesh_nbrs.proofs.Sets.{set_there, set_elsewhere}
 use Rattle.mesh_nbrs.proofs.Summaries.{restored}
 use Rattle.mesh_nbrs.proofs.neighbours.follow_parts.Goals as goal
 
-module _ (parts : List (Addr4 × Summary)) (e : Neighbour × ℕ) (notes : List LinkNote) (are : AreParts notes parts) (old new : Option (Neighbour × ℕ)) (is : Some e ≡ old) where
-  goes : (HasPart parts e.0.addrs → ⊥) → new ≡ None → RestoresBy notes old new
+module _ (parts : List (Addr4 × Summary)) (e : Neighbour × ℕ) (notes : List LinkNote) (are : AreSummariesOf notes parts) (old new : Option (Neighbour × ℕ)) (is : Some e ≡ old) where
+  goes : (HasSummaryAt parts e.0.addrs → ⊥) → new ≡ None → RestoresBy notes old new
   goes no_part gone = rw (← is, gone) (restored notes (Some e) None None (kept_noted notes parts are (Some e) None (inr ((λ some. some no_part), refl))) refl)
 
-  stays : (s : Summary) → HasPart parts e.0.addrs → IsSummary (HasNote notes e.0.addrs) s → new ≡ Some (by_summary s e.0, s.until) → RestoresBy notes old new
+  stays : (s : Summary) → HasSummaryAt parts e.0.addrs → IsNotesSummary (HasNote notes e.0.addrs) s → new ≡ Some (by_summary s e.0, s.until) → RestoresBy notes old new
   stays s has told set = rw (← is, set) (restored notes (Some e) (Some e) (Some (by_summary s e.0, s.until)) (kept_noted notes parts are (Some e) (Some e) (inl ((λ no_part. no_part has), refl))) (s, told, refl))
 
 set : (s : Summary) (old new : Base Addr4 Neighbour) (o : Addr4) (e : Neighbour × ℕ) → Some e ≡ find addr_eq old o → new ≡ changed_at addr_eq old o (λ e. (by_summary s e.0, s.until)) → SetsOnly addr_eq old new o (Some (by_summary s e.0, s.until))

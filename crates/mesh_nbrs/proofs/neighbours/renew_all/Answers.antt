@@ -7,7 +7,7 @@ use Rattle.mesh_atoms.specs.Base.{Base, find, addr_eq}
 use Rattle.mesh_nbrs.specs.declared.neighbours.LinkNote.{LinkNote}
 use Rattle.mesh_nbrs.specs.declared.summary.Summary.{Summary}
 use Rattle.mesh_nbrs.specs.Neighbours.{by_summary, HasSummary}
-use Rattle.mesh_nbrs.specs.Parts.{AreParts}
+use Rattle.mesh_nbrs.specs.Parts.{AreSummariesOf}
 use Rattle.mesh_nbrs.proofs.Owning.{keeps_twice}
 use Rattle.mesh_nbrs.proofs.Walks.{IsWalked, walk_begins, walk_on, walk_ends}
 use Rattle.mesh_nbrs.proofs.neighbours.renew_all.Goals as goal
@@ -15,11 +15,11 @@ use Rattle.mesh_nbrs.proofs.neighbours.renew_all.Goals as goal
 module _ (parts : List (Addr4 × Summary)) where
   -- what becomes of a neighbour, whatever the notes that the parts are of
   abbrev May : Neighbour × ℕ → Neighbour × ℕ → Type 0
-  May old new = (notes : List LinkNote) → AreParts notes parts → HasSummary notes (Some old) (Some new)
+  May old new = (notes : List LinkNote) → AreSummariesOf notes parts → HasSummary notes (Some old) (Some new)
 
   -- after a walk over all places
   all_walked : (before now : Base Addr4 Neighbour) (place : ℕ) → length now ≤ place → IsWalked addr_eq May before now place
-      → (notes : List LinkNote) → AreParts notes parts → (o : Addr4) → HasSummary notes (find addr_eq before o) (find addr_eq now o)
+      → (notes : List LinkNote) → AreSummariesOf notes parts → (o : Addr4) → HasSummary notes (find addr_eq before o) (find addr_eq now o)
   all_walked before now place all h notes are o = by_case (find addr_eq now o) refl where
     by_case : (new : Option (Neighbour × ℕ)) → find addr_eq now o ≡ new → HasSummary notes (find addr_eq before o) new
     by_case None is = rw (h.none o is) refl

@@ -1,6 +1,6 @@
 use Rattle.std.proofs.Common.{take}
-use Rattle.mesh_nbrs.specs.Parts.{AreParts}
+use Rattle.mesh_nbrs.specs.Parts.{AreSummariesOf}
 use Rattle.mesh_nbrs.proofs.parts.parts_of.Given as goal
 
 abbrev pub invariant-loop-note : goal.invariant-loop-note
-invariant-loop-note l = AreParts (take l.note-index l.notes) l.parts.entries
+invariant-loop-note l = AreSummariesOf (take l.note-index l.notes) l.parts.entries

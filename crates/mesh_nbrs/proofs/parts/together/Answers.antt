@@ -1,7 +1,7 @@
 use Rattle.std.proofs.Common.{take, subst, List}
 use Rattle.std.proofs.lemmas.List.{take_all}
 use Rattle.mesh_atoms.specs.declared.addr.Addr4.{Addr4}
-use Rattle.mesh_nbrs.specs.Neighbours.{HasNote, IsSummary}
+use Rattle.mesh_nbrs.specs.Neighbours.{HasNote, IsNotesSummary}
 use Rattle.mesh_nbrs.proofs.ByAddress.{summary_next}
 use Rattle.mesh_nbrs.proofs.parts.together.Goals as goal
 
@@ -11,4 +11,4 @@ loop-addr-preserved c = λ notes are.
     (c.with_part-summary.ensures notes (take c.loop-addr.addr-index c.args.addrs.now) are (c.loop-addr.invariant notes are))
 
 pub returns : goal.returns
-returns c = λ notes are. subst (λ (xs : List Addr4). IsSummary (HasNote notes xs) c.loop-addr.summary) (take_all c.loop-addr.addr-index c.args.addrs.now c.loop-addr-test.false) (c.loop-addr.invariant notes are)
+returns c = λ notes are. subst (λ (xs : List Addr4). IsNotesSummary (HasNote notes xs) c.loop-addr.summary) (take_all c.loop-addr.addr-index c.args.addrs.now c.loop-addr-test.false) (c.loop-addr.invariant notes are)

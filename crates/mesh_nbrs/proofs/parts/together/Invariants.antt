@@ -1,8 +1,8 @@
 use Rattle.std.proofs.Common.{take, List}
 use Rattle.mesh_nbrs.specs.declared.neighbours.LinkNote.{LinkNote}
-use Rattle.mesh_nbrs.specs.Neighbours.{HasNote, IsSummary}
-use Rattle.mesh_nbrs.specs.Parts.{AreParts}
+use Rattle.mesh_nbrs.specs.Neighbours.{HasNote, IsNotesSummary}
+use Rattle.mesh_nbrs.specs.Parts.{AreSummariesOf}
 use Rattle.mesh_nbrs.proofs.parts.together.Given as goal
 
 abbrev pub invariant-loop-addr : goal.invariant-loop-addr
-invariant-loop-addr l = (notes : List LinkNote) → AreParts notes l.parts.entries → IsSummary (HasNote notes (take l.addr-index l.addrs)) l.summary
+invariant-loop-addr l = (notes : List LinkNote) → AreSummariesOf notes l.parts.entries → IsNotesSummary (HasNote notes (take l.addr-index l.addrs)) l.summary

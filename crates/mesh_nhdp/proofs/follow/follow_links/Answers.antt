@@ -5,7 +5,7 @@ use Rattle.mesh_atoms.specs.Base.{Base, find, addr_eq}
 use Rattle.mesh_nbrs.specs.declared.neighbours.LinkNote.{LinkNote}
 use Rattle.mesh_nbrs.specs.Losts.{SettlesAll}
 use Rattle.mesh_nbrs.specs.Neighbours.{RestoresBy}
-use Rattle.mesh_nhdp.specs.declared.near_addresses.Wanted.TheVariants.{Symmetric}
+use Rattle.mesh_nhdp.specs.declared.near_addresses.WantedNeighbours.TheVariants.{Symmetric}
 use Rattle.mesh_nhdp.specs.Wanted.{IsWantedAddress}
 use Rattle.mesh_nhdp.proofs.follow.follow_links.Goals as goal
 use Rattle.mesh_atoms.proofs.Options.{on_ok_weaker as on_ok}

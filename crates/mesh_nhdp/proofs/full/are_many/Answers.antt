@@ -7,7 +7,7 @@ use Rattle.mesh_atoms.specs.declared.tuples.Lost.{Lost}
 use Rattle.mesh_atoms.specs.Base.{Base}
 use Rattle.mesh_atoms.specs.TakesHello.{IsHeld}
 use Rattle.mesh_atoms.specs.Words.{AreMoreThan}
-use Rattle.mesh_nhdp.specs.declared.near_addresses.Wanted.TheVariants.{Each}
+use Rattle.mesh_nhdp.specs.declared.near_addresses.WantedNeighbours.TheVariants.{Each}
 use Rattle.mesh_nhdp.specs.Wanted.{IsWantedAddress}
 use Rattle.mesh_hello.proofs.Collect.{iff_on}
 use Rattle.mesh_hello.proofs.Fits.{are_more}

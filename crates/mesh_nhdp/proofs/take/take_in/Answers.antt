@@ -2,7 +2,7 @@ use Rattle.std.proofs.Common.{◌≡◌, ◌<◌, refl, sym, subst, Bool, true, 
 use Rattle.std.specs.Prelude.{not}
 use Rattle.mesh_atoms.specs.TakesHello.{Taken, Broken_at, Breaks, Takes}
 use Rattle.mesh_hello.specs.Told.Telling.{told_of}
-use Rattle.mesh_nhdp.specs.declared.judge.Judgement.{Judgement}
+use Rattle.mesh_nhdp.specs.declared.judge.HelloCheck.{HelloCheck}
 use Rattle.mesh_nhdp.specs.Judged.{Judges}
 use Rattle.mesh_nhdp.specs.NhdpState.{near_with}
 use Rattle.mesh_nhdp.proofs.Judges.{own_at, overfull, taken_sound}
@@ -27,7 +27,7 @@ returns-in-Breaks-clause-ok g c =
     let near = near_with c.args.links.now c.args.two_hops.now c.args.neighbours.now c.args.losts.now in (
       Broken_at c.in-Breaks.number,
       refl,
-      Breaks c.in-Breaks.number (subst (λ (j : Judgement). Judges c.args.settings.now c.args.iface c.args.sender c.args.hello.now near j) c.in-Breaks.is (c.in_ok-number.ensures c.args.links.now)),
+      Breaks c.in-Breaks.number (subst (λ (j : HelloCheck). Judges c.args.settings.now c.args.iface c.args.sender c.args.hello.now near j) c.in-Breaks.is (c.in_ok-number.ensures c.args.links.now)),
     )
 
 pub returns-in-Breaks-clause-sound : goal.returns-in-Breaks-clause-sound
@@ -37,7 +37,7 @@ pub returns-in-Overfills-clause-ok : goal.returns-in-Overfills-clause-ok
 returns-in-Overfills-clause-ok g c =
     let near = near_with c.args.links.now c.args.two_hops.now c.args.neighbours.now c.args.losts.now in
     overfull c.args.settings.now c.args.now c.args.iface c.args.sender c.args.hello.now near c.in-Overfills.base
-    (subst (λ (j : Judgement). Judges c.args.settings.now c.args.iface c.args.sender c.args.hello.now near j) c.in-Overfills.is (c.in_ok-number.ensures c.args.links.now))
+    (subst (λ (j : HelloCheck). Judges c.args.settings.now c.args.iface c.args.sender c.args.hello.now near j) c.in-Overfills.is (c.in_ok-number.ensures c.args.links.now))
 
 pub returns-in-Overfills-clause-sound : goal.returns-in-Overfills-clause-sound
 returns-in-Overfills-clause-sound g c = c.requires.sound
@@ -58,12 +58,12 @@ pub hear-requires-clause-own : goal.hear-requires-clause-own
 hear-requires-clause-own g c =
     let near = near_with c.args.links.now c.args.two_hops.now c.args.neighbours.now c.args.losts.now in
     own_at c.args.settings.now c.args.settings.now c.in-Fits.own c.as_slice-own.result.now refl c.as_slice-own.ensures
-    (subst (λ (j : Judgement). Judges c.args.settings.now c.args.iface c.args.sender c.args.hello.now near j) c.in-Fits.is (c.in_ok-number.ensures c.args.links.now)).4
+    (subst (λ (j : HelloCheck). Judges c.args.settings.now c.args.iface c.args.sender c.args.hello.now near j) c.in-Fits.is (c.in_ok-number.ensures c.args.links.now)).4
 
 pub hear-requires-clause-told : goal.hear-requires-clause-told
 hear-requires-clause-told g c =
     let near = near_with c.args.links.now c.args.two_hops.now c.args.neighbours.now c.args.losts.now in
-    let judged = (subst (λ (j : Judgement). Judges c.args.settings.now c.args.iface c.args.sender c.args.hello.now near j) c.in-Fits.is (c.in_ok-number.ensures c.args.links.now)) in
+    let judged = (subst (λ (j : HelloCheck). Judges c.args.settings.now c.args.iface c.args.sender c.args.hello.now near j) c.in-Fits.is (c.in_ok-number.ensures c.args.links.now)) in
     (c.args.sender, judged.1, judged.0)
 
 pub hear-requires-clause-sound : goal.hear-requires-clause-sound
@@ -72,14 +72,14 @@ hear-requires-clause-sound g c = c.requires.sound
 pub returns-in_ok-hear-in-Fits-clause-ok : goal.returns-in_ok-hear-in-Fits-clause-ok
 returns-in_ok-hear-in-Fits-clause-ok g c =
     let near = near_with c.args.links.now c.args.two_hops.now c.args.neighbours.now c.args.losts.now in
-    let judged = (subst (λ (j : Judgement). Judges c.args.settings.now c.args.iface c.args.sender c.args.hello.now near j) c.in-Fits.is (c.in_ok-number.ensures c.args.links.now)) in
+    let judged = (subst (λ (j : HelloCheck). Judges c.args.settings.now c.args.iface c.args.sender c.args.hello.now near j) c.in-Fits.is (c.in_ok-number.ensures c.args.links.now)) in
     (Taken, refl, Takes (told_of c.in-Fits.telling) judged.0 judged.1 judged.2 judged.3 c.in_ok-hear-in-Fits.ensures)
 
 pub returns-in_ok-hear-in-Fits-clause-sound : goal.returns-in_ok-hear-in-Fits-clause-sound
 returns-in_ok-hear-in-Fits-clause-sound g c =
     let near = near_with c.args.links.now c.args.two_hops.now c.args.neighbours.now c.args.losts.now in
     let after = near_with c.hear.new.links c.hear.new.two_hops c.hear.new.neighbours c.hear.new.losts in
-    let judged = (subst (λ (j : Judgement). Judges c.args.settings.now c.args.iface c.args.sender c.args.hello.now near j) c.in-Fits.is (c.in_ok-number.ensures c.args.links.now)) in
+    let judged = (subst (λ (j : HelloCheck). Judges c.args.settings.now c.args.iface c.args.sender c.args.hello.now near j) c.in-Fits.is (c.in_ok-number.ensures c.args.links.now)) in
     taken_sound c.args.settings.now c.args.settings.now c.args.now c.args.iface c.args.sender c.args.hello.now (told_of c.in-Fits.telling) near after judged.0 judged.1 c.requires.lasts
     c.requires.sound c.in_ok-hear-in-Fits.ensures judged.2 judged.3 refl
 
@@ -93,7 +93,7 @@ pub returns-in_ok-hear-in-Fits-clause-same : goal.returns-in_ok-hear-in-Fits-cla
 returns-in_ok-hear-in-Fits-clause-same g c = λ unchanged.
     let near = near_with c.args.links.now c.args.two_hops.now c.args.neighbours.now c.args.losts.now in
     let after = near_with c.hear.new.links c.hear.new.two_hops c.hear.new.neighbours c.hear.new.losts in
-    let judged = (subst (λ (j : Judgement). Judges c.args.settings.now c.args.iface c.args.sender c.args.hello.now near j) c.in-Fits.is (c.in_ok-number.ensures c.args.links.now)) in
+    let judged = (subst (λ (j : HelloCheck). Judges c.args.settings.now c.args.iface c.args.sender c.args.hello.now near j) c.in-Fits.is (c.in_ok-number.ensures c.args.links.now)) in
     let own_is = own_at c.args.settings.now c.args.settings.now c.in-Fits.own c.as_slice-own.result.now refl c.as_slice-own.ensures judged.4 in
     repeats_same c.args.settings.now c.args.now c.args.iface (told_of c.in-Fits.telling) c.args.hello.now c.as_slice-own.result.now own_is near after
     (subst (λ n. 0 < n) (sym judged.1.validity) c.requires.lasts) c.requires.sound c.in_ok-hear-in-Fits.ensures (c.repeats-repeated.ensures (not_false c.repeats-repeated.result unchanged) c.args.losts.now)

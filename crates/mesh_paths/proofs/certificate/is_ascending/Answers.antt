@@ -4,7 +4,7 @@ use Rattle.std.proofs.lemmas.List.Sorted.{all_adjacent_more}
 use Rattle.std.proofs.lemmas.Option.{slice_get-get_or, get_or_from_slice_get}
 use Rattle.mesh_atoms.specs.declared.graphs.PathRow.{PathRow}
 use Rattle.mesh_atoms.specs.Nodes.{IsBefore}
-use Rattle.mesh_paths.specs.Paths.{IsAscending}
+use Rattle.mesh_paths.specs.Paths.{AreAscendingRows}
 use Rattle.mesh_paths.proofs.certificate.is_ascending.Goals as goal
 
 -- two rows, read at a place and at the one before
@@ -15,7 +15,7 @@ module _ (rows : List PathRow) (i : ℕ) (row next : PathRow) (from : 0 < i) (wi
   at_second : (d : PathRow) → get_or rows i d ≡ next
   at_second d = get_or_from_slice_get rows i next d (slice_get-get_or rows i next within ∙ ap Some (sym second))
 
-  rises : IsAscending rows → IsBefore row.node next.node
+  rises : AreAscendingRows rows → IsBefore row.node next.node
   rises rise =
       let here : IsBefore (get_or rows (i - 1) row).node (get_or rows i row).node = subst (λ (n : ℕ). IsBefore (get_or rows (i - 1) row).node (get_or rows n row).node) (omega arith) (rise (i - 1) row (omega arith)) in
       rw (at_first row, at_second row) at here

@@ -1,6 +1,6 @@
 use Rattle.std.proofs.Common.{rules}
 use Rattle.std.proofs.lemmas.List.Sorted.{IsNonDecreasingBy-from_sort_by_key}
-use Rattle.mesh_paths.specs.declared.frontier.Run.{Run}
+use Rattle.mesh_paths.specs.declared.frontier.ArcRun.{ArcRun}
 use Rattle.mesh_paths.proofs.Index.{index_moved}
 use Rattle.mesh_paths.proofs.frontier.index_of.Goals as goal
 
@@ -8,4 +8,4 @@ pub returns-clause-all : goal.returns-clause-all
 returns-clause-all c = index_moved c.args.arcs.now _ _ c.sort_unstable_by_key.ensures.permutation c.in_ok-runs.ensures
 
 pub returns-clause-order : goal.returns-clause-order
-returns-clause-order c = IsNonDecreasingBy-from_sort_by_key (λ (r : Run). r.number) _ c.sort_unstable_by_key.ensures.sorted (λ a r q k. search rules)
+returns-clause-order c = IsNonDecreasingBy-from_sort_by_key (λ (r : ArcRun). r.number) _ c.sort_unstable_by_key.ensures.sorted (λ a r q k. search rules)

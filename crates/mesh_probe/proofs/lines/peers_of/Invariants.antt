@@ -1,7 +1,7 @@
 use Rattle.std.proofs.Common.{◌≢◌, ◌<◌}
 use Rattle.mesh_atoms.specs.Radio.{Joined}
-use Rattle.mesh_probe.specs.Probes.{Lists}
+use Rattle.mesh_probe.specs.Probes.{ListsNumbers}
 use Rattle.mesh_probe.proofs.lines.peers_of.Given as goal
 
 abbrev pub invariant-loop-router : goal.invariant-loop-router
-invariant-loop-router l = Lists (λ z. (z < l.router) × ((z ≢ l.origin) × Joined l.scenario l.origin z)) l.peers.items
+invariant-loop-router l = ListsNumbers (λ z. (z < l.router) × ((z ≢ l.origin) × Joined l.scenario l.origin z)) l.peers.items

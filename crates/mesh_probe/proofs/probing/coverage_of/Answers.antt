@@ -1,8 +1,8 @@
 use Rattle.std.proofs.Common.{◌≢◌, List, subst}
 use Rattle.mesh_probe.specs.declared.coverage.Sending.{Sending}
-use Rattle.mesh_probe.specs.Probes.{HearsOne, Lists}
+use Rattle.mesh_probe.specs.Probes.{HearsOne, ListsNumbers}
 use Rattle.mesh_probe.proofs.probing.coverage_of.Goals as goal
 
 pub returns-clause-reached : goal.returns-clause-reached
 returns-clause-reached g c =
-    subst (λ (sends : List Sending). Lists (λ z. (z ≢ c.args.origin) × HearsOne c.args.scenario.now sends z) c.in_ok-reached.reached) c.as_slice-2.ensures c.in_ok-reached.ensures
+    subst (λ (sends : List Sending). ListsNumbers (λ z. (z ≢ c.args.origin) × HearsOne c.args.scenario.now sends z) c.in_ok-reached.reached) c.as_slice-2.ensures c.in_ok-reached.ensures

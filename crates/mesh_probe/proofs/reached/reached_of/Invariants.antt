@@ -1,6 +1,6 @@
 use Rattle.std.proofs.Common.{◌≢◌, ◌<◌}
-use Rattle.mesh_probe.specs.Probes.{HearsOne, Lists}
+use Rattle.mesh_probe.specs.Probes.{HearsOne, ListsNumbers}
 use Rattle.mesh_probe.proofs.reached.reached_of.Given as goal
 
 abbrev pub invariant-loop-router : goal.invariant-loop-router
-invariant-loop-router l = Lists (λ z. (z < l.router) × ((z ≢ l.origin) × HearsOne l.scenario l.sends z)) l.reached
+invariant-loop-router l = ListsNumbers (λ z. (z < l.router) × ((z ≢ l.origin) × HearsOne l.scenario l.sends z)) l.reached

@@ -15,7 +15,7 @@ returns-then-not-is_same_at g c = (
 pub returns : goal.returns
 returns g c =
     let differ = c.if-count-len.false in
-    let long : length (g.K.Kind.items c.args.source.now c.args.iface) ≡ length c.args.items.now = omega (arith, differ, c.count.ensures, c.len.ensures) in (
-      λ _. same_lists (g.K.Kind.items c.args.source.now c.args.iface) c.args.items.now long (λ k low. c.loop-place.invariant k (omega (arith, low, c.loop-place-test.false, c.loop-place.auto.place-end, c.len-place-end.ensures))),
+    let long : length (g.K.TupleKind.items c.args.source.now c.args.iface) ≡ length c.args.items.now = omega (arith, differ, c.count.ensures, c.len.ensures) in (
+      λ _. same_lists (g.K.TupleKind.items c.args.source.now c.args.iface) c.args.items.now long (λ k low. c.loop-place.invariant k (omega (arith, low, c.loop-place-test.false, c.loop-place.auto.place-end, c.len-place-end.ensures))),
       λ _. refl,
     )

@@ -1,7 +1,7 @@
 use Rattle.std.proofs.Common.{ℕ, List}
 use Rattle.std.specs.Prelude.{All}
 use Rattle.mesh_tlv.specs.Fields.{AddrTlvFields, addr_block_fields}
-use Rattle.mesh_tlv.specs.Items.{FirstFault}
+use Rattle.mesh_tlv.specs.Items.{FirstFaultAt}
 use Rattle.mesh_tlv.specs.Reading.{addr_tlv_at, block_at}
 use Rattle.mesh_tlv.specs.Grammar.{SpellsAddrTlv, TlvFault, AddrTlvBlockFault}
 use Rattle.mesh_tlv.specs.Least.{IsFit}
@@ -15,12 +15,12 @@ use Rattle.mesh_tlv.proofs.read.read_addr_tlvs.Goals as goal
 pub returns-clause-value : goal.returns-clause-value
 returns-clause-value c =
     let frame = c.args.frame.now in
-    (given addr_block_fields (BlockTook frame c.args.at c.args.end (SpellsAddrTlv c.args.count)) (FirstFault (AddrTlvBlockFault c.args.count) frame c.args.at c.args.end) c.read_block.result _ c.read_block.ensures (block_takes (addr_tlv_at c.args.count) (SpellsAddrTlv c.args.count) (TlvFault 0 c.args.count) (addr_tlv_reader c.args.count c.requires.count) frame c.args.at c.args.end c.requires.at c.requires.end)).0
+    (given addr_block_fields (BlockTook frame c.args.at c.args.end (SpellsAddrTlv c.args.count)) (FirstFaultAt (AddrTlvBlockFault c.args.count) frame c.args.at c.args.end) c.read_block.result _ c.read_block.ensures (block_takes (addr_tlv_at c.args.count) (SpellsAddrTlv c.args.count) (TlvFault 0 c.args.count) (addr_tlv_reader c.args.count c.requires.count) frame c.args.at c.args.end c.requires.at c.requires.end)).0
 
 pub returns-clause-refused : goal.returns-clause-refused
 returns-clause-refused c =
     let frame = c.args.frame.now in
-    (given addr_block_fields (BlockTook frame c.args.at c.args.end (SpellsAddrTlv c.args.count)) (FirstFault (AddrTlvBlockFault c.args.count) frame c.args.at c.args.end) c.read_block.result _ c.read_block.ensures (block_takes (addr_tlv_at c.args.count) (SpellsAddrTlv c.args.count) (TlvFault 0 c.args.count) (addr_tlv_reader c.args.count c.requires.count) frame c.args.at c.args.end c.requires.at c.requires.end)).1
+    (given addr_block_fields (BlockTook frame c.args.at c.args.end (SpellsAddrTlv c.args.count)) (FirstFaultAt (AddrTlvBlockFault c.args.count) frame c.args.at c.args.end) c.read_block.result _ c.read_block.ensures (block_takes (addr_tlv_at c.args.count) (SpellsAddrTlv c.args.count) (TlvFault 0 c.args.count) (addr_tlv_reader c.args.count c.requires.count) frame c.args.at c.args.end c.requires.at c.requires.end)).1
 
 pub returns-clause-only : goal.returns-clause-only
 returns-clause-only c = λ tlvs bytes rest h e. given_so addr_block_fields c.read_block.result _ _ c.read_block.ensures (block_again (addr_tlv_at c.args.count) (SpellsAddrTlv c.args.count) (TlvFault 0 c.args.count) (addr_tlv_reader c.args.count c.requires.count) c.args.frame.now c.args.at c.args.end tlvs bytes rest c.requires.at c.requires.end h e)
@@ -33,6 +33,6 @@ returns-clause-fit c =
     let frame = c.args.frame.now in
     let Spelled = BlockTook frame c.args.at c.args.end (SpellsAddrTlv c.args.count) in
     let Fit = λ (x : List AddrTlvFields × ℕ). All (IsFit c.args.count) x.0 in
-    let Fault = FirstFault (AddrTlvBlockFault c.args.count) frame c.args.at c.args.end in
+    let Fault = FirstFaultAt (AddrTlvBlockFault c.args.count) frame c.args.at c.args.end in
     let reads = (block_takes (addr_tlv_at c.args.count) (SpellsAddrTlv c.args.count) (TlvFault 0 c.args.count) (addr_tlv_reader c.args.count c.requires.count) frame c.args.at c.args.end c.requires.at c.requires.end) in
     (given addr_block_fields Fit Fault c.read_block.result _ c.read_block.ensures (meets_weaker (block_at (addr_tlv_at c.args.count) frame c.args.at c.args.end) Spelled Fit Fault Fault reads (λ x (h : Spelled x). all_fit c.args.count x.0 h.2.1 c.requires.count h.2.3) (λ e h. h))).0

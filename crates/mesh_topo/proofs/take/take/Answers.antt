@@ -1,6 +1,6 @@
 use Rattle.std.proofs.Common.{◌+◌, ◌||◌, refl, sym}
 use Rattle.mesh_atoms.specs.AfterTc.{Is_old, Overfull, Takes}
-use Rattle.mesh_atoms.specs.State.{Topology}
+use Rattle.mesh_atoms.specs.State.{TopologyBase}
 use Rattle.mesh_topo.specs.Sets.{sets_of}
 use Rattle.mesh_topo.proofs.Full.{room_in_all, few_after, put_few, router_rows, address_rows, network_rows}
 use Rattle.mesh_topo.proofs.RowKinds.{router_set, address_set, network_set}
@@ -36,7 +36,7 @@ returns-clause-ok g c =
 pub returns-clause-within : goal.returns-clause-within
 returns-clause-within g c _ =
     let tc = c.args.tc.now in
-    let before : Topology = sets_of (g.A.Table.content c.args.advertisers.now) c.args.routers.now c.args.addresses.now c.args.networks.now in
+    let before : TopologyBase = sets_of (g.A.Table.content c.args.advertisers.now) c.args.routers.now c.args.addresses.now c.args.networks.now in
     let (a, r, d, n) = room_in_all before tc (sym c.in_default-first_full.ensures) in
     record {
       advertisers = put_few _ _ _ a c.in_ok-put.ensures.count;

@@ -1,7 +1,7 @@
 use Rattle.std.proofs.Common.{refl, ap, subst, ◌∙◌, List, map, Bool}
 use Rattle.std.specs.Prelude.{take, slice_range}
 use Rattle.mesh_packet.specs.Fields.{fields_of_block}
-use Rattle.mesh_wire.specs.declared.lines.Line.{Line}
+use Rattle.mesh_wire.specs.declared.lines.AddressRecord.{AddressRecord}
 use Rattle.mesh_wire.specs.Drafts.{HasHelloValues, heading_of}
 use Rattle.mesh_wire.specs.Runs.{AreBlocks}
 use Rattle.mesh_wire.proofs.write.hello_message.Goals as goal
@@ -10,7 +10,7 @@ pub returns : goal.returns
 returns c =
     let values = c.args.values.now in (
       values,
-      subst (λ (lines : List Line). HasHelloValues c.args.hello.now lines values) c.requires.lines c.requires.values,
+      subst (λ (lines : List AddressRecord). HasHelloValues c.args.hello.now lines values) c.requires.lines c.requires.values,
       record {
         kind = refl;
         width = refl;
@@ -19,6 +19,6 @@ returns c =
         count = refl;
         sequence = refl;
         tlvs = c.in_ok-tlvs.ensures ∙ ap (λ (b : Bool). heading_of (take 1 values) (slice_range values 1 3) b 7 0) c.is_some.ensures;
-        blocks = subst (λ (lines : List Line). AreBlocks lines (map fields_of_block c.in_ok-blocks.blocks)) c.requires.lines c.in_ok-blocks.ensures;
+        blocks = subst (λ (lines : List AddressRecord). AreBlocks lines (map fields_of_block c.in_ok-blocks.blocks)) c.requires.lines c.in_ok-blocks.ensures;
       },
     )

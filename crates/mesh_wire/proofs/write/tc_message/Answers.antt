@@ -2,7 +2,7 @@ use Rattle.std.proofs.Common.{◌≡◌, refl, sym, ap, subst, ◌∙◌, List, 
 use Rattle.std.specs.Option.{is_some}
 use Rattle.std.specs.Prelude.{take}
 use Rattle.mesh_packet.specs.Fields.{fields_of_block}
-use Rattle.mesh_wire.specs.declared.lines.Line.{Line}
+use Rattle.mesh_wire.specs.declared.lines.AddressRecord.{AddressRecord}
 use Rattle.mesh_wire.specs.Drafts.{HasTcValues, heading_of}
 use Rattle.mesh_wire.specs.Runs.{AreBlocks}
 use Rattle.mesh_wire.proofs.write.tc_message.Goals.{then-tc, else-tc}
@@ -17,7 +17,7 @@ returns c =
       | else-tc w ↦ w.ext-is ∙ sym (ap (λ (b : Bool). cond b 0 1) w.if-tc.false)
     ] in (
       values,
-      subst (λ (lines : List Line). HasTcValues c.args.tc.now lines values) c.requires.lines c.requires.values,
+      subst (λ (lines : List AddressRecord). HasTcValues c.args.tc.now lines values) c.requires.lines c.requires.values,
       record {
         kind = refl;
         width = refl;
@@ -26,6 +26,6 @@ returns c =
         count = refl;
         sequence = refl;
         tlvs = c.in_ok-tlvs.ensures ∙ ap (λ (b : Bool). heading_of c.args.validity.now (take 3 values) b 8 c.if-tc.ext) c.is_some.ensures ∙ ap (λ (n : ℕ). heading_of c.args.validity.now (take 3 values) (is_some c.args.tc.now.interval) 8 n) ext;
-        blocks = subst (λ (lines : List Line). AreBlocks lines (map fields_of_block c.in_ok-blocks.blocks)) c.requires.lines c.in_ok-blocks.ensures;
+        blocks = subst (λ (lines : List AddressRecord). AreBlocks lines (map fields_of_block c.in_ok-blocks.blocks)) c.requires.lines c.in_ok-blocks.ensures;
       },
     )

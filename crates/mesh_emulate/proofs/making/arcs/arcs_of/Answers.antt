@@ -1,6 +1,6 @@
 use Rattle.std.proofs.Common.{◌≡◌, ◌+◌, ◌*◌, ◌∷◌, [], ◌++◌, length, take, get_or, arith, append_assoc, length-take}
 use Rattle.std.proofs.lemmas.List.{take_more}
-use Rattle.mesh_emulate.specs.declared.making.pairs.Pair.{Pair}
+use Rattle.mesh_emulate.specs.declared.making.pairs.RouterPair.{RouterPair}
 use Rattle.mesh_emulate.specs.Making.Scenario.{AreMadeArcs}
 use Rattle.mesh_emulate.proofs.MakingLemmas.Growing.{arcs_more}
 use Rattle.mesh_emulate.proofs.making.arcs.arcs_of.Goals as goal
@@ -9,7 +9,7 @@ pub loop-i-preserved : goal.loop-i-preserved
 loop-i-preserved c =
     let pairs = c.args.pairs.now in
     let i = c.loop-i.i in
-    let none : Pair = record { low = 0; high = 0 } in
+    let none : RouterPair = record { low = 0; high = 0 } in
     let place : 0 + 2 * length (take i pairs) ≡ 2 * i = omega (arith, length-take i pairs, c.loop-i-test.true) in
     let grown : AreMadeArcs c.args.kind c.args.routers c.args.seed 0 (take i pairs ++ get_or pairs i none ∷ []) (c.loop-i.arcs ++ c.arc_of-there.result ∷ c.arc_of-back.result ∷ []) =
     arcs_more c.args.kind c.args.routers c.args.seed 0 (take i pairs) (get_or pairs i none) c.loop-i.arcs c.arc_of-there.result c.arc_of-back.result (2 * i) place

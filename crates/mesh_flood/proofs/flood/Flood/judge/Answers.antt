@@ -2,19 +2,19 @@ use Rattle.std.proofs.Common.{◌≡◌, ◌<◌, length, sym, subst}
 use Rattle.mesh_atoms.specs.declared.tuples.FloodKey.{FloodKey}
 use Rattle.mesh_atoms.specs.declared.tuples.Noted.{Noted}
 use Rattle.mesh_atoms.specs.Base.{Base}
-use Rattle.mesh_flood.specs.Noting.{Held}
+use Rattle.mesh_flood.specs.Noting.{HeldSets}
 use Rattle.mesh_flood.specs.Verdict.{process_of, forward_of, forward_by}
 use Rattle.mesh_flood.proofs.Room.{base_there, is_flooded_by}
 use Rattle.mesh_flood.proofs.flood.Flood.judge.Goals as goal
 
 pub returns-clause-process : goal.returns-clause-process
-returns-clause-process g c = subst (λ (h : Held). c.process.result ≡ process_of c.args.own c.args.heading.now h.noted) c.self.view_is c.process.ensures
+returns-clause-process g c = subst (λ (h : HeldSets). c.process.result ≡ process_of c.args.own c.args.heading.now h.noted) c.self.view_is c.process.ensures
 
 pub returns-clause-forward : goal.returns-clause-forward
 returns-clause-forward g c =
-    let here = subst (λ (h : Held). c.args.iface < length h.noted.received) (sym c.self.view_is) c.requires in
+    let here = subst (λ (h : HeldSets). c.args.iface < length h.noted.received) (sym c.self.view_is) c.requires in
     let there = base_there c.self.inside.received.items c.args.iface c.index.result.now here c.index.ensures in
-    subst (λ (h : Held). c.forward.result ≡ forward_of c.args.iface c.args.own c.args.heading.now c.args.link h.noted) c.self.view_is
+    subst (λ (h : HeldSets). c.forward.result ≡ forward_of c.args.iface c.args.own c.args.heading.now c.args.link h.noted) c.self.view_is
     (subst (λ (b : Base FloodKey Noted). c.forward.result ≡ forward_by c.args.own c.args.heading.now c.args.link b c.self.inside.forwarded) (sym there) c.forward.ensures)
 
 pub returns-clause-flooded : goal.returns-clause-flooded

@@ -5,7 +5,7 @@ use Rattle.std.specs.declared.alloc.AllocError.{AllocError}
 use Rattle.mesh_atoms.specs.declared.settings.RouterSettings.{RouterSettings}
 use Rattle.mesh_atoms.specs.Sound.{SoundNoted}
 use Rattle.mesh_atoms.specs.Base.{base_of, flood_eq}
-use Rattle.mesh_flood.specs.Noting.{Held}
+use Rattle.mesh_flood.specs.Noting.{HeldSets}
 use Rattle.mesh_flood.proofs.Soundness.{none_sound}
 use Rattle.mesh_flood.proofs.flood.Flood.new.Goals as goal
 
@@ -35,7 +35,7 @@ pub returns-clause-forwarded : goal.returns-clause-forwarded
 returns-clause-forwarded g c = c.in_ok-new-2.ensures
 
 -- nothing holds of a value that isn't made
-not_made : (settings : RouterSettings) (Q : AllocError → Type 0) (r : Result Held AllocError) → IsErrAnd r Q
+not_made : (settings : RouterSettings) (Q : AllocError → Type 0) (r : Result HeldSets AllocError) → IsErrAnd r Q
     → IfOk r (λ flood. flood.times ≡ settings.times) × IfOk r (λ flood. length flood.noted.received ≡ length settings.interfaces) × IfOk r (λ flood. (i : ℕ) → base_of flood.noted.received i ≡ [])
     × IfOk r (λ flood. flood.noted.processed ≡ []) × IfOk r (λ flood. flood.noted.forwarded ≡ []) × IfOk r (λ flood. (now : ℕ) → SoundNoted settings now flood.noted)
 not_made settings Q (Err e) stopped = (tt, tt, tt, tt, tt, tt)

@@ -7,7 +7,7 @@ use Rattle.mesh_atoms.specs.declared.tuples.FloodKey.{FloodKey}
 use Rattle.mesh_atoms.specs.declared.tuples.Noted.{Noted}
 use Rattle.mesh_atoms.specs.Base.{Base, HasDistinctKeys, base_of, find, flood_eq}
 use Rattle.mesh_atoms.specs.State.{NotedMessages}
-use Rattle.mesh_flood.specs.Noting.{Held, Notes, AfterNote, AreWithin}
+use Rattle.mesh_flood.specs.Noting.{HeldSets, Notes, AfterNote, AreWithin}
 use Rattle.mesh_flood.specs.Verdict.{process_of, forward_of, is_full, key_of, is_received, is_forwarded}
 use Rattle.mesh_flood.proofs.Soundness.{sound_by_times, within_of}
 use Rattle.mesh_flood.proofs.Room.{has_room_processed, has_room_received, has_room_forwarded, each_set, noted_at, base_there, on_ok_if, on_ok_both}
@@ -24,7 +24,7 @@ pub invariant_of-self-in_err-note-2 : goal.invariant_of-self-in_err-note-2
 invariant_of-self-in_err-note-2 g c =
     let sets = c.self.inside.received.items in
     let found = c.index_mut.result.now in
-    let here = subst (λ (h : Held). c.args.iface < length h.noted.received) (sym c.self.view_is) c.requires.iface in
+    let here = subst (λ (h : HeldSets). c.args.iface < length h.noted.received) (sym c.self.view_is) c.requires.iface in
     let there = base_there sets c.args.iface found here c.index_mut.ensures.value in
     record {
       received = each_set (λ b. HasDistinctKeys flood_eq b) sets c.args.iface c.note-2.new.self here c.self.invariant.received
@@ -37,7 +37,7 @@ pub invariant_of-self-2 : goal.invariant_of-self-2
 invariant_of-self-2 g c =
     let sets = c.self.inside.received.items in
     let found = c.index_mut.result.now in
-    let here = subst (λ (h : Held). c.args.iface < length h.noted.received) (sym c.self.view_is) c.requires.iface in
+    let here = subst (λ (h : HeldSets). c.args.iface < length h.noted.received) (sym c.self.view_is) c.requires.iface in
     let there = base_there sets c.args.iface found here c.index_mut.ensures.value in
     record {
       received = each_set (λ b. HasDistinctKeys flood_eq b) sets c.args.iface c.note-2.new.self here c.self.invariant.received
@@ -62,8 +62,8 @@ returns g c =
     let old : NotedMessages = record { received = sets; processed = c.self.inside.processed; forwarded = forwarded } in
     let new : NotedMessages = record { received = slice_set sets i c.note-2.new.self; processed = c.note.new.self; forwarded = c.note-3.new.self } in
     let found = c.index_mut.result.now in
-    let (own, link, process, forward) = subst (λ (h : Held). (own : Addr4) × (link : Option Bool) × (c.args.verdict.now.process ≡ process_of own heading h.noted) × (c.args.verdict.now.forward ≡ forward_of i own heading link h.noted)) (sym c.self.view_is) c.requires.judged in
-    let here = subst (λ (h : Held). i < length h.noted.received) (sym c.self.view_is) c.requires.iface in
+    let (own, link, process, forward) = subst (λ (h : HeldSets). (own : Addr4) × (link : Option Bool) × (c.args.verdict.now.process ≡ process_of own heading h.noted) × (c.args.verdict.now.forward ≡ forward_of i own heading link h.noted)) (sym c.self.view_is) c.requires.judged in
+    let here = subst (λ (h : HeldSets). i < length h.noted.received) (sym c.self.view_is) c.requires.iface in
     let there = base_there sets i found here c.index_mut.ensures.value in
     let room_received = λ (does : IsTrue c.is_received.result). subst (λ (b : Base FloodKey Noted). is_full b ≡ false) there (has_room_received own heading link (base_of sets i) forwarded c.args.verdict.now.forward forward (sym c.is_received.ensures ∙ does)) in
     let answer = c.args.verdict.now.forward in

@@ -2,7 +2,7 @@ use Rattle.std.proofs.Common.{rules, ◌≡◌, arith, subst, Bool, true, false,
 use Rattle.std.specs.Prelude.{slice_get}
 use Rattle.mesh_trace.specs.machine.declared.frame.Frame.{Frame}
 use Rattle.mesh_trace.proofs.machine.Places.{none_past}
-use Rattle.mesh_replay.specs.Checking.Cases.{Tells}
+use Rattle.mesh_replay.specs.Checking.Cases.{TellsItems}
 use Rattle.mesh_replay.proofs.HeardLemmas.Forwarded.{none_first, one_further, one_wrong, all_told}
 use Rattle.mesh_trace.specs.Positions.Standing.{Sent}
 use Rattle.mesh_replay.proofs.checking.heard.tell_outbox.Goals as goal
@@ -15,7 +15,7 @@ returns-then-not-branch-clause-tells g c =
     let bad : c.in_ok-tell_forwarded.field-0 ≡ false = search rules in
     let frame : Frame = record { iface = c.in-Some.iface; bytes = c.in-Some.octets.now } in
     one_wrong c.args.case.now c.args.progress.now c.loop-i.progress c.tell_forwarded.new.progress c.args.x c.args.router.now c.args.out.now c.loop-i.i frame c.in-Some.ensures c.loop-i.invariant.told
-    (subst (λ (b : Bool). Tells c.args.case.now c.loop-i.progress c.tell_forwarded.new.progress c.args.x c.args.router.now (Sent frame ∷ []) b) bad c.in_ok-tell_forwarded.ensures.tells)
+    (subst (λ (b : Bool). TellsItems c.args.case.now c.loop-i.progress c.tell_forwarded.new.progress c.args.x c.args.router.now (Sent frame ∷ []) b) bad c.in_ok-tell_forwarded.ensures.tells)
 
 pub loop-i-preserved : goal.loop-i-preserved
 loop-i-preserved g c =
@@ -24,7 +24,7 @@ loop-i-preserved g c =
     record {
       progress = c.in_ok-tell_forwarded.ensures.progress;
       told = one_further c.args.case.now c.args.progress.now c.loop-i.progress c.tell_forwarded.new.progress c.args.x c.args.router.now c.args.out.now c.loop-i.i frame c.in-Some.ensures c.loop-i.invariant.told
-          (subst (λ (b : Bool). Tells c.args.case.now c.loop-i.progress c.tell_forwarded.new.progress c.args.x c.args.router.now (Sent frame ∷ []) b) good c.in_ok-tell_forwarded.ensures.tells);
+          (subst (λ (b : Bool). TellsItems c.args.case.now c.loop-i.progress c.tell_forwarded.new.progress c.args.x c.args.router.now (Sent frame ∷ []) b) good c.in_ok-tell_forwarded.ensures.tells);
     }
 
 pub returns-after-loop-i-clause-tells : goal.returns-after-loop-i-clause-tells

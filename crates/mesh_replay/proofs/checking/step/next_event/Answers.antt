@@ -1,7 +1,7 @@
 use Rattle.std.proofs.Common.{◌≤◌, List, IfOk, refl, sym, subst, arith}
 use Rattle.std.specs.Prelude.{min}
 use Rattle.mesh_atoms.specs.State.{State}
-use Rattle.mesh_trace.specs.machine.Net.{Net}
+use Rattle.mesh_trace.specs.machine.Net.{NetState}
 use Rattle.mesh_replay.specs.declared.checking.case.Progress.{Progress}
 use Rattle.mesh_replay.specs.Traffic.Air.{delivery_of}
 use Rattle.mesh_replay.specs.Traffic.Traffic.{SeededTraffic}
@@ -20,7 +20,7 @@ returns-in_default-clause-comes g c =
     let scene = c.args.scene.now in
     let old : List State = scene.routers.items in
     let new : List State = c.tick_next.new.scene.routers.items in
-    let after : Net = net_of c.args.case.now new c.tick_next.new.scene.last_ticks c.tick_next.new.progress in
+    let after : NetState = net_of c.args.case.now new c.tick_next.new.scene.last_ticks c.tick_next.new.progress in
     subst (λ (t : SeededTraffic). IfOk c.tick_next.result (Comes c.args.case.now c.args.progress.now c.tick_next.new.progress (net_of c.args.case.now old scene.last_ticks (record { reader = c.args.progress.now.reader; traffic = t })) after))
     c.in_default.ensures.first c.tick_next.ensures.comes
 
@@ -52,7 +52,7 @@ returns-clause-comes g c =
     let old : List State = scene.routers.items in
     let routers : List State = c.hear.new.routers.items in
     let settled : List State = c.settle.new.scene.routers.items in
-    let before : Net = net_of c.args.case.now old scene.last_ticks c.args.progress.now in
+    let before : NetState = net_of c.args.case.now old scene.last_ticks c.args.progress.now in
     let taken : Progress = record { reader = c.args.progress.now.reader; traffic = c.take.new.self } in
     let soon : c.in-Some.landed.moment ≤ min scene.due.moment c.args.case.now.scenario.now.end = rw (← c.min-limit.ensures) c.in-Some.ensures.limit in
     let next : IsNextHearing before (delivery_of c.in-Some.landed) old taken =

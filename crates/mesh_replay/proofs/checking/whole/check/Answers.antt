@@ -1,6 +1,6 @@
 use Rattle.std.proofs.Common.{List}
 use Rattle.mesh_atoms.specs.State.{State}
-use Rattle.mesh_trace.specs.machine.Net.{Net}
+use Rattle.mesh_trace.specs.machine.Net.{NetState}
 use Rattle.mesh_replay.specs.Checking.Scenes.{net_of}
 use Rattle.mesh_replay.proofs.SceneLemmas.Answering.{read_on, read_to_end, stopped}
 use Rattle.mesh_replay.proofs.checking.whole.check.Goals as goal
@@ -9,24 +9,24 @@ pub returns-in-Unfit : goal.returns-in-Unfit
 returns-in-Unfit g c =
     let old : List State = c.loop.scene.routers.items in
     let new : List State = c.next_event.new.scene.routers.items in
-    let before : Net = net_of c.args.case.now old c.loop.scene.last_ticks c.loop.progress in
-    let after : Net = net_of c.args.case.now new c.next_event.new.scene.last_ticks c.next_event.new.progress in
+    let before : NetState = net_of c.args.case.now old c.loop.scene.last_ticks c.loop.progress in
+    let after : NetState = net_of c.args.case.now new c.next_event.new.scene.last_ticks c.next_event.new.progress in
     stopped c.args.case.now c.loop.progress c.next_event.new.progress before after c.in_ok-next_event.field-0 c.loop.invariant.read c.in_ok-next_event.ensures.comes c.in-Unfit.is
 
 pub at_end-requires-clause-over : goal.at_end-requires-clause-over
 at_end-requires-clause-over g c =
     let old : List State = c.loop.scene.routers.items in
     let new : List State = c.next_event.new.scene.routers.items in
-    let before : Net = net_of c.args.case.now old c.loop.scene.last_ticks c.loop.progress in
-    let after : Net = net_of c.args.case.now new c.next_event.new.scene.last_ticks c.next_event.new.progress in
+    let before : NetState = net_of c.args.case.now old c.loop.scene.last_ticks c.loop.progress in
+    let after : NetState = net_of c.args.case.now new c.next_event.new.scene.last_ticks c.next_event.new.progress in
     read_to_end c.args.case.now c.loop.progress c.next_event.new.progress before after c.in_ok-next_event.field-0 c.loop.invariant.read c.in_ok-next_event.ensures.comes c.in-Over.is
 
 pub loop-preserved : goal.loop-preserved
 loop-preserved g c =
     let old : List State = c.loop.scene.routers.items in
     let new : List State = c.next_event.new.scene.routers.items in
-    let before : Net = net_of c.args.case.now old c.loop.scene.last_ticks c.loop.progress in
-    let after : Net = net_of c.args.case.now new c.next_event.new.scene.last_ticks c.next_event.new.progress in
+    let before : NetState = net_of c.args.case.now old c.loop.scene.last_ticks c.loop.progress in
+    let after : NetState = net_of c.args.case.now new c.next_event.new.scene.last_ticks c.next_event.new.progress in
     record {
       sound = c.in_ok-next_event.ensures.sound c.in-Fits.is;
       read = read_on c.args.case.now c.loop.progress c.next_event.new.progress before after c.in_ok-next_event.field-0 c.loop.invariant.read c.in_ok-next_event.ensures.comes c.in-Fits.is;

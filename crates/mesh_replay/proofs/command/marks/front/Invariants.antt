@@ -1,5 +1,5 @@
 use Rattle.std.proofs.Common.{◌≡◌, length}
-use Rattle.mesh_replay.specs.Command.Marks.{Ends, word_of}
+use Rattle.mesh_replay.specs.Command.Marks.{IsMarkLine, word_of}
 use Rattle.mesh_replay.proofs.CommandLemmas.Cuts.{Passed}
 use Rattle.mesh_trace.specs.Reading.Readers.{lines_from, IsReaderOf}
 use Rattle.mesh_replay.proofs.command.marks.front.Given as goal
@@ -9,7 +9,7 @@ abbrev pub invariant-loop-mark : goal.invariant-loop-mark
 invariant-loop-mark l = record {
   reading : IsReaderOf l.text l.reader;
   word : l.reader.text ≡ word_of l.mark;
-  passed : Passed (Ends l.mark) l.text l.reader.at;
+  passed : Passed (IsMarkLine l.mark) l.text l.reader.at;
 }
 
 abbrev pub decreases-loop-mark : goal.decreases-loop-mark

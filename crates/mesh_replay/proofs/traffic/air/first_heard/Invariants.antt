@@ -1,5 +1,5 @@
-use Rattle.mesh_replay.specs.Traffic.Air.{IsLeast}
+use Rattle.mesh_replay.specs.Traffic.Air.{IsNextFrame}
 use Rattle.mesh_replay.proofs.traffic.air.first_heard.Given as goal
 
 abbrev pub invariant-loop-place : goal.invariant-loop-place
-invariant-loop-place l = IsLeast l.flights.items l.place l.first
+invariant-loop-place l = IsNextFrame l.flights.items l.place l.first

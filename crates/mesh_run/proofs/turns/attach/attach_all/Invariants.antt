@@ -1,5 +1,5 @@
 use Rattle.std.proofs.Common.{◌≡◌, map, take}
-use Rattle.mesh_io.specs.Told.{Tells}
+use Rattle.mesh_io.specs.Told.{TellsMore}
 use Rattle.mesh_run.specs.Turns.Turns.{attached_report}
 use Rattle.mesh_run.proofs.turns.attach.attach_all.Given as goal
 
@@ -7,6 +7,6 @@ use Rattle.mesh_run.proofs.turns.attach.attach_all.Given as goal
 abbrev pub invariant-loop-i : goal.invariant-loop-i
 invariant-loop-i g l = record {
   attached : g.A.Air.attached l.air ≡ l.i;
-  told : Tells (g.A.Air.reports l.fn.air) (g.A.Air.reports l.air) (map attached_report (take l.i l.ports));
+  told : TellsMore (g.A.Air.reports l.fn.air) (g.A.Air.reports l.air) (map attached_report (take l.i l.ports));
   no_fault : g.A.Air.faults l.air ≡ g.A.Air.faults l.fn.air;
 }

@@ -1,8 +1,8 @@
-use Rattle.mesh_settled.specs.Gaps.Found.{IsLeast}
+use Rattle.mesh_settled.specs.Gaps.Found.{IsLeastGap}
 use Rattle.mesh_settled.specs.Gaps.Neighbours.{IsHeldAt}
 use Rattle.mesh_settled.specs.Gaps.Site.{seen}
 use Rattle.mesh_settled.proofs.GapsLemmas.Leasts.{Below}
 use Rattle.mesh_settled.proofs.gaps.neighbours.held_gap.Given as goal
 
 abbrev pub invariant-loop-place : goal.invariant-loop-place
-invariant-loop-place g l = IsLeast (seen g.R.RouterView.state l.site) (Below (IsHeldAt (g.R.RouterView.state l.site.router.now)) l.place) l.best
+invariant-loop-place g l = IsLeastGap (seen g.R.RouterView.state l.site) (Below (IsHeldAt (g.R.RouterView.state l.site.router.now)) l.place) l.best

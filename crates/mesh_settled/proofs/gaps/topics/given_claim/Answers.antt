@@ -1,6 +1,6 @@
 use Rattle.std.proofs.Common.{sym, ap, ◌∙◌}
 use Rattle.std.specs.Prelude.{option_map}
-use Rattle.mesh_settled.specs.Gaps.Peers.{IsSender}
+use Rattle.mesh_settled.specs.Gaps.Peers.{IsPeerOriginator}
 use Rattle.mesh_settled.specs.Gaps.Site.{states}
 use Rattle.mesh_settled.proofs.GapsLemmas.JointLemmas.{value_some, value_none}
 use Rattle.mesh_settled.proofs.GapsLemmas.TopicLemmas.{given_side, none_given, its_origin}
@@ -15,7 +15,7 @@ returns-in-Some-router_at g c =
     let all = states g.R.RouterView.state site in
     let q = g.R.RouterView.state c.in-Some-router_at.other.now in
     let p = g.R.RouterView.state site.router.now in
-    let sender = value_some (IsSender site.scenario.now all site.x c.args.origin.now.addr) c.args.origin.now.sender c.in-Some.w c.in-Some.is c.requires.origin.sender in
+    let sender = value_some (IsPeerOriginator site.scenario.now all site.x c.args.origin.now.addr) c.args.origin.now.sender c.in-Some.w c.in-Some.is c.requires.origin.sender in
     let origin = its_origin site.scenario.now site.graph.now all site.moment site.x c.requires.site.network p c.args.topic c.args.origin.now.addr c.args.net c.in-Some.w q (record { is = sym c.router_at.ensures ∙ ap (option_map (λ r. g.R.RouterView.state r.now)) c.in-Some-router_at.is }) sender in
     given_side site.scenario.now site.graph.now all site.moment site.x c.requires.site.network p c.args.topic c.args.origin.now.addr c.args.net c.in-Some.w q (record { is = sym c.router_at.ensures ∙ ap (option_map (λ r. g.R.RouterView.state r.now)) c.in-Some-router_at.is }) sender c.claim_of.result (c.claim_of.ensures c.args.origin.now.addr origin)
 
@@ -24,4 +24,4 @@ returns-in-None g c =
     let site = c.args.site.now in
     let all = states g.R.RouterView.state site in
     none_given site.scenario.now site.graph.now all site.moment site.x c.requires.site.network (g.R.RouterView.state site.router.now) c.args.topic c.args.origin.now.addr c.args.net
-    (value_none (IsSender site.scenario.now all site.x c.args.origin.now.addr) c.args.origin.now.sender c.in-None.is c.requires.origin.sender)
+    (value_none (IsPeerOriginator site.scenario.now all site.x c.args.origin.now.addr) c.args.origin.now.sender c.in-None.is c.requires.origin.sender)

@@ -1,8 +1,8 @@
-use Rattle.mesh_settled.specs.Gaps.Found.{IsLeast}
+use Rattle.mesh_settled.specs.Gaps.Found.{IsLeastGap}
 use Rattle.mesh_settled.specs.Gaps.Site.{states, seen}
 use Rattle.mesh_settled.specs.Gaps.Topics.{IsByRows}
 use Rattle.mesh_settled.proofs.GapsLemmas.Leasts.{Below}
 use Rattle.mesh_settled.proofs.gaps.topics.given_gap.Given as goal
 
 abbrev pub invariant-loop-w : goal.invariant-loop-w
-invariant-loop-w g l = IsLeast (seen g.R.RouterView.state l.site) (Below (IsByRows (states g.R.RouterView.state l.site) l.topic) l.w) l.best
+invariant-loop-w g l = IsLeastGap (seen g.R.RouterView.state l.site) (Below (IsByRows (states g.R.RouterView.state l.site) l.topic) l.w) l.best

@@ -1,4 +1,4 @@
-use Rattle.mesh_settled.specs.Gaps.Found.{IsLeast}
+use Rattle.mesh_settled.specs.Gaps.Found.{IsLeastGap}
 use Rattle.mesh_settled.specs.Gaps.Peers.{IsOrigin}
 use Rattle.mesh_settled.specs.Gaps.Site.{states, seen}
 use Rattle.mesh_settled.specs.Gaps.Topics.{IsHeldAt}
@@ -7,6 +7,6 @@ use Rattle.mesh_settled.proofs.gaps.topics.held_gap.Given as goal
 
 abbrev pub invariant-loop-place : goal.invariant-loop-place
 invariant-loop-place g l = record {
-  best : IsLeast (seen g.R.RouterView.state l.site) (Below (IsHeldAt (g.R.RouterView.state l.site.router.now) l.topic) l.place) l.best;
+  best : IsLeastGap (seen g.R.RouterView.state l.site) (Below (IsHeldAt (g.R.RouterView.state l.site.router.now) l.topic) l.place) l.best;
   last : IsOrigin l.site.scenario.now (states g.R.RouterView.state l.site) l.site.x l.last;
 }

@@ -1,8 +1,8 @@
-use Rattle.mesh_settled.specs.Gaps.Found.{IsLeast}
+use Rattle.mesh_settled.specs.Gaps.Found.{IsLeastGap}
 use Rattle.mesh_settled.specs.Gaps.Site.{seen}
 use Rattle.mesh_settled.specs.Gaps.Topics.{IsToRow}
 use Rattle.mesh_settled.proofs.GapsLemmas.Leasts.{Below}
 use Rattle.mesh_settled.proofs.gaps.topics.rows_gap.Given as goal
 
 abbrev pub invariant-loop-n : goal.invariant-loop-n
-invariant-loop-n g l = IsLeast (seen g.R.RouterView.state l.site) (Below (IsToRow l.topic l.origin.addr l.rows) l.n) l.best
+invariant-loop-n g l = IsLeastGap (seen g.R.RouterView.state l.site) (Below (IsToRow l.topic l.origin.addr l.rows) l.n) l.best

@@ -2,7 +2,7 @@ use Rattle.std.proofs.Common.{◌≡◌, ℕ, ◌+◌, ◌<◌, List, ◌∷◌,
 use Rattle.std.specs.Prelude.{String, string_bytes}
 use Rattle.std.specs.declared.alloc.Global.{Global}
 use Rattle.std.proofs.lemmas.List.{drop-map, drop_more}
-use Rattle.mesh_tool.specs.declared.words.asked.Asked.{Asked}
+use Rattle.mesh_tool.specs.declared.words.asked.Parsing.{Parsing}
 use Rattle.mesh_tool.specs.Words.Words.{read_on, takes, texts, or_at}
 use Rattle.mesh_tool.proofs.words.words.job_in.Goals as goal
 
@@ -11,9 +11,9 @@ word_at words i d within is =
     drop-map string_bytes i words ∙ ap (map string_bytes) (drop_more words i d within) ∙ ap (λ (s : String Global). string_bytes s ∷ map string_bytes (drop (i + 1) words)) (sym is)
     ∙ ap (λ (l : List (List ℕ)). string_bytes d ∷ l) (sym (drop-map string_bytes (i + 1) words))
 
-one_on : (asked : Asked) (place : ℕ) (word : List ℕ) (more : List (List ℕ)) (next : Option Asked) → next ≡ takes asked place word →
+one_on : (asked : Parsing) (place : ℕ) (word : List ℕ) (more : List (List ℕ)) (next : Option Parsing) → next ≡ takes asked place word →
     read_on asked place (word ∷ more) ≡ or_at place next (λ n. read_on n (place + 1) more)
-one_on asked place word more next is = ap (λ (o : Option Asked). or_at place o (λ n. read_on n (place + 1) more)) (sym is)
+one_on asked place word more next is = ap (λ (o : Option Parsing). or_at place o (λ n. read_on n (place + 1) more)) (sym is)
 
 pub returns-in-None : goal.returns-in-None
 returns-in-None c =

@@ -1,7 +1,7 @@
 use Rattle.std.proofs.Common.{arith, ◌≡◌, ◌||◌, false}
 use Rattle.mesh_atoms.specs.Base.{router_eq, address_eq, network_eq}
 use Rattle.mesh_atoms.specs.Live.{LiveTopology}
-use Rattle.mesh_atoms.specs.State.{Topology}
+use Rattle.mesh_atoms.specs.State.{TopologyBase}
 use Rattle.mesh_topo.specs.Same.{SameAdvertised}
 use Rattle.mesh_topo.specs.Sets.{AreFew, sets_of}
 use Rattle.mesh_topo.specs.TcSets.Tuples.{router_says, address_says, network_says}
@@ -12,8 +12,8 @@ use Rattle.std.proofs.lemmas.Bool.{or_parts as neither}
 
 pub returns : goal.returns
 returns g c =
-    let old : Topology = sets_of (g.B.Advertisers.Table.content c.self.inside.advertisers) c.self.inside.routers c.self.inside.addresses c.self.inside.networks in
-    let new : Topology = sets_of (g.B.Advertisers.Table.content c.expire.new.self) c.expire-changed.new.self c.expire-changed-2.new.self c.expire-changed-3.new.self in
+    let old : TopologyBase = sets_of (g.B.Advertisers.Table.content c.self.inside.advertisers) c.self.inside.routers c.self.inside.addresses c.self.inside.networks in
+    let new : TopologyBase = sets_of (g.B.Advertisers.Table.content c.expire.new.self) c.expire-changed.new.self c.expire-changed-2.new.self c.expire-changed-3.new.self in
     let live : LiveTopology c.args.now old new = record {
       distinct_advertisers = c.expire.ensures.distinct;
       distinct_routers = c.expire-changed.ensures.distinct;

@@ -1,0 +1,29 @@
+use Rattle.std.proofs.Common.{◌≡◌, rules, inl, inr, List, Bool, true, false, refl, subst, not}
+use Rattle.std.specs.Prelude.{IsTrue, ◌↔◌}
+use Rattle.std.proofs.lemmas.Bool.{false≢true}
+use Rattle.mesh_atoms.specs.declared.hello.HelloRow.{HelloRow}
+use Rattle.mesh_wire.specs.Kinds.{local_if}
+use Rattle.mesh_trace.specs.Spelling.Looks.{IsLocal}
+use Rattle.mesh_trace.proofs.spelling.hello.ReadHelloLooks.looks_at.Goals as goal
+
+when_not : (b : Bool) → IsTrue (not b) → IsTrue b → ⊥
+when_not true h b = false≢true h
+when_not false h b = false≢true b
+
+if_never : (b : Bool) → (IsTrue b → ⊥) → IsTrue (not b)
+if_never true none = absurd (none refl)
+if_never false none = refl
+
+pub returns-then-looks_at_other : goal.returns-then-looks_at_other
+returns-then-looks_at_other c =
+    let ext : c.args.ext ≡ 0 = search rules in
+    let other : c.args.kind ≡ local_if → ⊥ = search rules in
+    let iff : IsTrue c.is_local.result ↔ IsLocal c.args.self.now.hello.rows c.args.net =
+    subst (λ (rows : List HelloRow). IsTrue c.is_local.result ↔ IsLocal rows c.args.net) c.as_slice.ensures c.is_local.ensures in
+    let read = c.looks_at_other.ensures.0 (search rules) in (
+      λ yes. (ext, inr (λ local. when_not c.is_local.result yes (iff.1 local), read)),
+      λ looks. if_never c.is_local.result (λ yes. elim looks.1 [
+        | inl kind ↦ other kind
+        | inr h ↦ h.0 (iff.0 yes)
+      ]),
+    )
