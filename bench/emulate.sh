@@ -1,6 +1,6 @@
 #!/usr/bin/env bash
-# bench/emulate.sh [KIND ROUTERS [SEED]]: what a minute of `mesh emulate` costs, on a grid of 64 routers, or on the made network that
-# is given, or, where KIND is `full`, on so many routers that all hear each other (full_mesh.py).
+# bench/emulate.sh [KIND ROUTERS [SEED]], bench/emulate.sh full ROUTERS [INTERFACES [LOSS]]: what a minute of `mesh emulate` costs, on a
+# grid of 64 routers, or on the made network that is given, or on so many routers that all hear each other (full_mesh.py).
 #
 # It tells the machine; the end of the text; the least processor time and the least time on the clock of three runs; the greatest memory; and, by
 # callgrind, the instructions.
@@ -17,7 +17,7 @@ trap 'rm -rf "$folder"' EXIT
 input=$folder/input
 if [ "$kind" = full ]; then
     words=(emulate)
-    python3 "$bench/full_mesh.py" "$count" > "$input"
+    python3 "$bench/full_mesh.py" "$count" "${@:3}" > "$input"
 else
     words=(emulate --make "$kind" --routers "$count" --seed "${3:-1}")
     : > "$input"
