@@ -1,9 +1,7 @@
+pub mod HelloItems
 pub mod HelloOnce
-pub mod Losses
+pub mod Items
 pub mod Octets
 pub mod OneInterface
-pub mod HelloItems
-pub mod Onward
-pub mod Sendings
-pub mod TcOnce
 pub mod TcItems
+pub mod TcOnce

@@ -1,4 +1,3 @@
 pub mod Following
 pub mod Parts
 pub mod Quiet
-pub mod Ticking

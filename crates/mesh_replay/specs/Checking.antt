@@ -1,5 +1,6 @@
 pub mod Answers
 pub mod Cases
+pub mod Ending
 pub mod Events
 pub mod Going
 pub mod Hearing
@@ -9,5 +10,5 @@ pub mod Reached
 pub mod RelayLines
 pub mod Scenes
 pub mod Sending
-pub mod Ticked
+pub mod Texts
 pub mod Ticking

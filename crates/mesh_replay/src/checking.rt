@@ -1,9 +1,11 @@
 //! The checking of a trace, event by event and line by line.
 
 mod case;
+mod events;
 mod frames;
 mod heard;
 mod hellos;
+mod lines;
 mod octets;
 mod opening;
 mod relays;

@@ -5,7 +5,7 @@ use Rattle.std.proofs.lemmas.List.Elements.{All-nil, All-push, All-append}
 use Rattle.mesh_atoms.specs.declared.addr.Addr4.{Addr4}
 use Rattle.mesh_atoms.specs.declared.settings.RouterSettings.{RouterSettings}
 use Rattle.mesh_atoms.specs.declared.tc.Tc.{Tc}
-use Rattle.mesh_atoms.specs.State.{Bases, NotedMessages, State}
+use Rattle.mesh_atoms.specs.State.{Bases, NotedMessages}
 use Rattle.mesh_trace.specs.machine.packet.declared.packet.Span.{Span}
 use Rattle.mesh_trace.specs.machine.packet.Fields.{MessageFields}
 use Rattle.mesh_trace.specs.machine.flood.declared.verdict.Heading.{Heading}
@@ -16,7 +16,6 @@ use Rattle.mesh_trace.specs.machine.declared.fate.Fate.{Fate}
 use Rattle.mesh_trace.specs.machine.declared.frame.Frame.{Frame}
 use Rattle.mesh_trace.specs.machine.Frames.{octets_at, on_each}
 use Rattle.mesh_trace.specs.machine.Messages.{ConsidersForwarding, ProcessesTc, Tc_taken, Tc_passed, TakesMessage, Hello_read, Hello_broken, Tc_read, Tc_broken, Other_passed, Other_left, TakesMessages, No_messages, First_message, forwarding}
-use Rattle.mesh_trace.specs.Positions.Due.{TakesPacket}
 
 -- on one of so many interfaces
 abbrev Within : ℕ → Frame → Type 0
@@ -61,11 +60,8 @@ module _ (settings : RouterSettings) (own : Addr4) (arrival : Arrival) where
       considered_within heading octets _ old noted frames onward considered
   message_within old message octets new sent fate (Other_left no_hello no_tc none) = All-nil (Within (length settings.interfaces))
 
-  messages_within : (bytes : List ℕ) (old : Bases) (messages : List MessageFields) (spans : List Span) (new : Bases) (sent : List Frame) (fates : List Fate) →
+  pub messages_within : (bytes : List ℕ) (old : Bases) (messages : List MessageFields) (spans : List Span) (new : Bases) (sent : List Frame) (fates : List Fate) →
       TakesMessages settings own arrival bytes old messages spans new sent fates → All (Within (length settings.interfaces)) sent
   messages_within bytes old messages spans new sent fates No_messages = All-nil (Within (length settings.interfaces))
   messages_within bytes old messages spans new sent fates (First_message {mid = mid} {message = message} {messages = rest} {span = span} {spans = ends} {sent = one} {more = more} {fate = fate} {fates = others} takes takes_rest) =
       All-append (Within (length settings.interfaces)) one more (message_within old message (octets_at bytes span) mid one fate takes) (messages_within bytes mid rest ends new more others takes_rest)
-
-pub sent_within : (old : State) (arrival : Arrival) (bytes : List ℕ) (sent : List Frame) (new : State) → TakesPacket old arrival bytes sent new → All (λ (f : Frame). f.iface < length old.settings.interfaces) sent
-sent_within old arrival bytes sent new t = messages_within old.settings t.own arrival bytes t.live t.packet.messages t.spans t.bases sent t.fates t.takes

@@ -12,17 +12,15 @@ use Rattle.mesh_trace.specs.machine.Net.{NetState, HearsNext, IsSender}
 use Rattle.mesh_trace.specs.machine.Traffic.{Delivery, with_heard}
 use Rattle.mesh_texts.specs.Lines.Marks.{face_name}
 use Rattle.mesh_texts.specs.Trace.{heard_line}
-use Rattle.mesh_replay.specs.Checking.Going.{at}
-use Rattle.mesh_trace.specs.Positions.Alike.{HasAddresses}
 use Rattle.mesh_trace.specs.Positions.Due.{HearsBy}
 use Rattle.mesh_trace.specs.Positions.Events.{OpensHearing, OpensEvent, By_delivery, By_tick, By_last_tick}
 use Rattle.mesh_trace.specs.Positions.Items.{TellsItem, Tells_flooding, Tells_routing, Tells_hello, Tells_tc, Tells_frame, Tells_loss}
 use Rattle.mesh_trace.specs.Positions.Leading.{LineLeads, To_event, To_item, LeadsBy, Reaches}
 use Rattle.mesh_trace.specs.Positions.Standing.{Item, TracePosition, IsDone, with_state, with_traffic}
 use Rattle.mesh_trace.specs.Reading.Lines.{IsLineOf}
-use Rattle.mesh_trace.proofs.PositionsLemmas.Addresses.{positions_have_addresses}
 use Rattle.mesh_trace.proofs.PositionsLemmas.EventsOnce.{not_tick, not_last, behind_all as behind, sender_once}
-use Rattle.mesh_trace.proofs.PositionsLemmas.Walks.{leads_on}
+use Rattle.mesh_replay.specs.Checking.Going.{at}
+use Rattle.mesh_replay.proofs.CheckingLemmas.Opened.{Opens}
 
 -- ---- what is heard first is one frame
 
@@ -95,27 +93,6 @@ abbrev pub heard_net : NetState → List Delivery → ℕ → State → NetState
 heard_net net others x is = with_traffic (with_state net x is) (with_heard net.traffic others)
 
 module _ (net : NetState) (y : ℕ) (d : Delivery) (others : List Delivery) (arc : RadioArc) (sender : Addr4) (was : State) (comes : ComesNext net d others arc sender was) where
-  -- its line leads on, however the frame leaves the router
-  pub heard_leads : (line : List ℕ) (is : State) (left : List Item) → IsLineOf line (its_line d arc sender was) → HearsBy was (its_arrival d arc sender) d.frame is left →
-      LineLeads (at net y []) line (at (heard_net net others arc.to is) arc.to left)
-  heard_leads line is left line_is hears =
-      To_event refl (By_delivery (record {
-        delivery = d;
-        others = others;
-        arc = arc;
-        sender = sender;
-        next = comes.next;
-        arc_is = comes.arc_is;
-        sender_is = comes.sender_is;
-        was = was;
-        stands = comes.stands;
-        line_is = line_is;
-        is = is;
-        left = left;
-        hears = hears;
-        leads = refl;
-      }))
-
   opens_alone : (line : List ℕ) (after : TracePosition) → OpensHearing net line after → IsLineOf line (its_line d arc sender was)
   opens_alone line after h =
       let one : h.delivery ≡ d = next_once net h.delivery d h.others others h.next comes.next in
@@ -132,19 +109,30 @@ module _ (net : NetState) (y : ℕ) (d : Delivery) (others : List Delivery) (arc
   event_alone line after (By_tick x moment next h) = absurd (not_tick net d others x moment comes.next next)
   event_alone line after (By_last_tick only some h) = absurd (not_last net d others comes.next only)
 
-  -- and no other
-  pub heard_alone : (line : List ℕ) (after : TracePosition) → LineLeads (at net y []) line after → IsLineOf line (its_line d arc sender was)
+  heard_alone : (line : List ℕ) (after : TracePosition) → LineLeads (at net y []) line after → IsLineOf line (its_line d arc sender was)
   heard_alone line after (To_event none opens) = event_alone line after opens
   heard_alone line after (To_item left stands tells leads) = absurd cc
 
-  -- the run isn't over
-  pub heard_undone : IsDone (at net y []) → ⊥
-  heard_undone done = not_last net d others comes.next done.over.only
-
-  -- behind its line the router's neighbours have addresses of 32 bits
-  pub heard_addresses : (s : Scenario) (lines : List (List ℕ)) (line : List ℕ) → Reaches s lines (at net y []) → IsLineOf line (its_line d arc sender was) →
-      (is : State) (left : List Item) → HearsBy was (its_arrival d arc sender) d.frame is left → HasAddresses is
-  heard_addresses s lines line (first, is_first, leads) line_is is left hears =
-      let q : TracePosition = at (heard_net net others arc.to is) arc.to left in
-      (positions_have_addresses s (lines ++ line ∷ []) q (first, is_first, leads_on first (at net y []) q lines (line ∷ []) leads (q, heard_leads line is left line_is hears, refl))).addresses
-      arc.to is (set_here net.routers arc.to is was comes.stands)
+  -- its line leads on, however the frame leaves the router, and no other does
+  pub heard_opens : Opens net y (its_line d arc sender was) arc.to (HearsBy was (its_arrival d arc sender) d.frame) (heard_net net others arc.to)
+  heard_opens = record {
+    leads = λ line is left line_is hears. To_event refl (By_delivery (record {
+      delivery = d;
+      others = others;
+      arc = arc;
+      sender = sender;
+      next = comes.next;
+      arc_is = comes.arc_is;
+      sender_is = comes.sender_is;
+      was = was;
+      stands = comes.stands;
+      line_is = line_is;
+      is = is;
+      left = left;
+      hears = hears;
+      leads = refl;
+    }));
+    only = heard_alone;
+    undone = λ done. not_last net d others comes.next done.over.only;
+    stands = λ is. set_here net.routers arc.to is was comes.stands;
+  }

@@ -1,6 +1,6 @@
 -- Which relays a router may choose.
 use Rattle.std.proofs.Common.{◌≡◌, ℕ, ◌<◌, ◌^◌, inl, inr, refl, sym, ◌∙◌, subst, Bool, true, false, List, All, Contains, Option, Some, None, Result, Ok, Err}
-use Rattle.std.specs.Prelude.{◌↔◌, IfOk, IfSome, IsNone, IsTrue, slice_get}
+use Rattle.std.specs.Prelude.{◌↔◌, IfOk, IsTrue, cond, slice_get}
 use Rattle.std.proofs.lemmas.List.Elements.{All-weaker, All-contains_itself}
 use Rattle.mesh_atoms.specs.declared.addr.Addr4.{Addr4}
 use Rattle.mesh_atoms.specs.declared.graphs.Direct.{Direct}
@@ -12,8 +12,9 @@ use Rattle.mesh_atoms.specs.RelayGraphs.{AreRelays, AreRelaysOf, IsFloodingGraph
 use Rattle.mesh_atoms.specs.Relays.{Covers, Needed, Offers, IsWilling, IsRelay, IsOtherRelay, IsAsCheap}
 use Rattle.mesh_atoms.specs.State.{State}
 use Rattle.mesh_atoms.specs.Words.{IsAscending}
-use Rattle.mesh_replay.specs.Checking.Kept.{with_relays}
-use Rattle.mesh_replay.specs.Checking.RelayLines.{IsGraphFor, MayTell}
+use Rattle.mesh_replay.specs.declared.checking.router.Before.{Before}
+use Rattle.mesh_replay.specs.Checking.Kept.{StandAgain, with_relays}
+use Rattle.mesh_replay.specs.Checking.RelayLines.{AreWide, IsAgain, IsGraphFor, MayTell, relays_for}
 use Rattle.mesh_trace.specs.Positions.Alike.{HasAddresses}
 use Rattle.mesh_trace.proofs.PositionsLemmas.RelayTexts.{AreAddresses}
 
@@ -23,18 +24,21 @@ pub graph_for : (s : State) (iface : Option ℕ) (g : NeighbourGraph) → (iface
 graph_for s None g routing flooding = routing refl
 graph_for s (Some i) g routing flooding = flooding i refl
 
--- the relays that were told aren't looked at
+-- relays are chosen whatever relays there are
+pub told_with : (s : State) (r : Relays) (iface : Option ℕ) (relays : List Addr4) → MayTell s iface relays → MayTell (with_relays s r) iface relays
+told_with s r (Some i) relays may = record {
+  graph = may.graph;
+  is_graph = record { near = may.is_graph.near; direct = may.is_graph.direct; far = may.is_graph.far };
+  are = may.are;
+}
+told_with s r None relays may = record {
+  graph = may.graph;
+  is_graph = record { near = may.is_graph.near; direct = may.is_graph.direct; far = may.is_graph.far };
+  are = may.are;
+}
+
 pub told_apart : (s : State) (r : Relays) (iface : Option ℕ) (relays : List Addr4) → MayTell (with_relays s r) iface relays → MayTell s iface relays
-told_apart s r (Some i) relays may = record {
-  graph = may.graph;
-  is_graph = record { near = may.is_graph.near; direct = may.is_graph.direct; far = may.is_graph.far };
-  are = may.are;
-}
-told_apart s r None relays may = record {
-  graph = may.graph;
-  is_graph = record { near = may.is_graph.near; direct = may.is_graph.direct; far = may.is_graph.far };
-  are = may.are;
-}
+told_apart s r iface relays may = told_with (with_relays s r) s.relays iface relays may
 
 -- ---- graphs with the same members
 
@@ -124,5 +128,23 @@ are_wide s None relays known may id has =
     let at = (may.is_graph.near near).0 inside in
     subst (λ (a : Addr4). a.0 < 2 ^ 32) same (known near.id at.0 at.2)
 
-pub all_wide : (relays : List Addr4) → AreAddresses relays → All (λ a. a.0 < 2 ^ 32) relays
+pub all_wide : (relays : List Addr4) → AreAddresses relays → AreWide relays
 all_wide relays are = All-weaker (λ (a : Addr4). Contains relays a) (λ (a : Addr4). a.0 < 2 ^ 32) are relays (All-contains_itself relays)
+
+-- ---- those of the event before
+
+pub again_may : (s : State) (before : Before) (iface : Option ℕ) (relays : List Addr4) → StandAgain s before → IsAgain before iface relays → MayTell s iface relays
+again_may s before iface relays stand is = by_cases before.stand refl
+  where
+    by_iface : (i : Option ℕ) → AreRelays (with_relays s before.relays) s.last → relays_for before.relays i ≡ Some relays → MayTell s i relays
+    by_iface (Some i) are here =
+        let (graph, is_graph, chosen) = are.flooding i relays here in
+        record { graph = graph; is_graph = record { near = is_graph.near; direct = is_graph.direct; far = is_graph.far }; are = chosen }
+    by_iface None are here =
+        let (graph, is_graph, chosen) = are.routing in
+        let same : before.relays.routing ≡ relays = cc in
+        record { graph = graph; is_graph = record { near = is_graph.near; direct = is_graph.direct; far = is_graph.far }; are = subst (AreRelaysOf graph) same chosen }
+
+    by_cases : (b : Bool) → before.stand ≡ b → MayTell s iface relays
+    by_cases true stands = by_iface iface (stand stands) (subst (λ (b : Bool). cond b (relays_for before.relays iface) None ≡ Some relays) stands is)
+    by_cases false stands = absurd (let no : None ≡ Some relays = subst (λ (b : Bool). cond b (relays_for before.relays iface) None ≡ Some relays) stands is in cc)

@@ -5,7 +5,9 @@ use Rattle.std.proofs.lemmas.Bool.{eqb-true}
 use Rattle.std.proofs.lemmas.List.{append-nil}
 use Rattle.std.proofs.lemmas.List.Elements.{All-head, All-tail}
 use Rattle.mesh_atoms.specs.declared.addr.Addr4.{Addr4}
+use Rattle.mesh_atoms.proofs.Lists.{contains_none}
 use Rattle.mesh_texts.specs.Lines.Marks.{dotted, spaced, relays_text}
+use Rattle.mesh_trace.proofs.PositionsLemmas.RelayTexts.{same_relays}
 
 -- what is left of the addresses when some were read
 pub record IsLeft (addrs read : List Addr4) (text : List ℕ) : Type 0 where
@@ -52,6 +54,9 @@ none_left addrs read text left nothing = by left.more left.whole left.text_is wh
 pub none_text : relays_text [] ≡ codes " none"
 unfolding relays_text
 none_text = refl
+
+pub none_alone : (relays : List Addr4) → relays_text relays ≡ codes " none" → [] ≡ relays
+none_alone relays is = same_relays [] relays (λ a has. absurd (contains_none a has)) (none_text ∙ sym is)
 
 pub spaced_text : (relays : List Addr4) (text : List ℕ) → relays_text relays ≡ text → (text ≡ codes " none" → ⊥) → text ≡ spaced relays
 unfolding relays_text

@@ -1,30 +1,28 @@
 -- The line of the tick that is next.
-use Rattle.std.proofs.Common.{◌≡◌, ℕ, ◌+◌, ◌<◌, List, [], ◌∷◌, ◌++◌, refl, sym, ◌∙◌, ap, subst, length, arith, Some}
-use Rattle.std.specs.Prelude.{slice_get}
+use Rattle.std.proofs.Common.{◌≡◌, ℕ, ◌+◌, ◌<◌, List, [], refl, sym, ◌∙◌, ap, subst, length, arith, Some, Bool, true, false, set-set}
+use Rattle.std.specs.Prelude.{slice_get, slice_set}
+use Rattle.mesh_atoms.specs.declared.settings.RouterSettings.{RouterSettings}
 use Rattle.mesh_atoms.specs.State.{State}
-use Rattle.mesh_trace.specs.machine.Machine.{due}
-use Rattle.mesh_trace.specs.machine.Net.{NetState, TicksNext, HasOnlyLastTicks}
+use Rattle.mesh_trace.specs.machine.Net.{NetState}
 use Rattle.mesh_trace.specs.machine.NetRun.{IsOver}
-use Rattle.mesh_trace.proofs.machine.Places.{same_at, set_here}
-use Rattle.mesh_texts.specs.Trace.{tick_line}
-use Rattle.mesh_replay.specs.declared.checking.case.Case.{Case}
-use Rattle.mesh_replay.specs.Checking.Going.{at, Went, StopsBefore}
-use Rattle.mesh_replay.specs.Checking.Scenes.{IsTickNext, Is_due, Is_last, IsReachedNet}
-use Rattle.mesh_replay.specs.Checking.Ticked.{IsTickLineNext}
-use Rattle.mesh_replay.proofs.CheckingLemmas.Going.{stops_read}
-use Rattle.mesh_replay.proofs.FramesLemmas.Sendings.{ReadLine, went_line}
 use Rattle.mesh_trace.specs.declared.reading.Reader.{Reader}
-use Rattle.mesh_trace.specs.Positions.Alike.{HasAddresses}
 use Rattle.mesh_trace.specs.Positions.Due.{TicksBy}
 use Rattle.mesh_trace.specs.Positions.Events.{OpensTick, OpensEvent, By_delivery, By_tick, By_last_tick}
 use Rattle.mesh_trace.specs.Positions.Leading.{LineLeads, To_event, To_item}
-use Rattle.mesh_trace.specs.Positions.Standing.{Item, TracePosition, IsDone, with_state}
+use Rattle.mesh_trace.specs.Positions.Standing.{Item, TracePosition, with_state}
 use Rattle.mesh_trace.specs.Reading.Lines.{IsLineOf}
-use Rattle.mesh_trace.specs.Reading.Readers.{lines_from}
-use Rattle.mesh_trace.proofs.PositionsLemmas.Addresses.{positions_have_addresses}
+use Rattle.mesh_trace.proofs.machine.Places.{same_at, set_here}
 use Rattle.mesh_trace.proofs.PositionsLemmas.EventsOnce.{due_once, not_tick, not_last, tick_not_last}
-use Rattle.mesh_trace.proofs.PositionsLemmas.Over.{all_at}
-use Rattle.mesh_trace.proofs.PositionsLemmas.Walks.{leads_on}
+use Rattle.mesh_texts.specs.Trace.{tick_line}
+use Rattle.mesh_replay.specs.declared.checking.case.Case.{Case}
+use Rattle.mesh_replay.specs.declared.checking.case.CheckedEvent.{CheckedEvent}
+use Rattle.mesh_replay.specs.declared.checking.case.Progress.{Progress}
+use Rattle.mesh_replay.specs.Checking.Ending.{EndsEvent, MayBegin}
+use Rattle.mesh_replay.specs.Checking.Going.{at, FitsOrStops}
+use Rattle.mesh_replay.specs.Checking.Kept.{AreAtRest}
+use Rattle.mesh_replay.specs.Checking.Scenes.{IsTickNext, Is_due, Is_last, IsReachedNet}
+use Rattle.mesh_replay.specs.Checking.Texts.{TakesText}
+use Rattle.mesh_replay.proofs.CheckingLemmas.Opened.{Opens, opened_addresses, opened_not, opened_on, settings_same}
 
 -- the tick that is next opens the next event
 opens_next : (net : NetState) (x now l : ℕ) (line : List ℕ) (q : TracePosition) → IsTickNext net x now l → OpensTick net x now l line q → OpensEvent net line q
@@ -53,39 +51,45 @@ not_over : (net : NetState) (x now l : ℕ) → IsTickNext net x now l → IsOve
 not_over net x now l (Is_due next same) over = tick_not_last net x now next over.only
 not_over net x now l (Is_last only some router moment last) over = let all = over.last_ticks in omega (arith, some, all)
 
-module _ (net : NetState) (x now l : ℕ) (was : State) (next : IsTickNext net x now l) (stands : slice_get net.routers x ≡ Some was) where
-  -- the position behind the line of the tick
-  abbrev pub ticking : State → List Item → TracePosition
-  ticking is left = at (record (with_state net x is) { last_ticks = l }) x left
-
-  -- its line leads there
-  pub tick_leads : (y : ℕ) (is : State) (left : List Item) (line : List ℕ) → TicksBy was now is left → IsLineOf line (tick_line now was.settings.name) → LineLeads (at net y []) line (ticking is left)
-  tick_leads y is left line ticks told =
-      To_event refl (opens_next net x now l line (ticking is left) next
-      (record { was = was; stands = stands; line_is = told; is = is; left = left; ticks = ticks; leads = refl }))
-
-  -- no other line leads on
-  only_tick : (y : ℕ) (line : List ℕ) (q : TracePosition) → LineLeads (at net y []) line q → IsLineOf line (tick_line now was.settings.name)
-  only_tick y line q (To_event none opens) =
+-- its line leads on, however the tick leaves the router, and no other does
+tick_opens : (net : NetState) (y x now l : ℕ) (was : State) → IsTickNext net x now l → slice_get net.routers x ≡ Some was →
+    Opens net y (tick_line now was.settings.name) x (TicksBy was now) (λ is. record (with_state net x is) { last_ticks = l })
+tick_opens net y x now l was next stands = record {
+  leads = λ line is left told ticks. To_event refl (opens_next net x now l line (at (record (with_state net x is) { last_ticks = l }) x left) next
+      (record { was = was; stands = stands; line_is = told; is = is; left = left; ticks = ticks; leads = refl }));
+  only = only_tick;
+  undone = λ done. not_over net x now l next done.over;
+  stands = λ is. set_here net.routers x is was stands;
+} where
+  only_tick : (line : List ℕ) (q : TracePosition) → LineLeads (at net y []) line q → IsLineOf line (tick_line now was.settings.name)
+  only_tick line q (To_event none opens) =
       let h = only_next net x now l line q next opens in
       subst (λ (s : State). IsLineOf line (tick_line now s.settings.name)) (same_at net.routers x h.was was h.stands stands) h.line_is
-  only_tick y line q (To_item left stood tells leads) = absurd cc
+  only_tick line q (To_item left stood tells leads) = absurd cc
 
-  -- the line was read
-  pub tick_went : (trace : List ℕ) (old new : Reader) (y : ℕ) (is : State) (left : List Item) (line : List ℕ) → ReadLine trace old new line → TicksBy was now is left →
-      IsLineOf line (tick_line now was.settings.name) → Went trace old new (at net y []) (ticking is left)
-  tick_went trace old new y is left line read ticks told = went_line trace old new (at net y []) (ticking is left) line read (tick_leads y is left line ticks told)
+module _ (case : Case) (old : Progress) (x now : ℕ) (settings : RouterSettings) {routers : List State} {was : State} {reader : Reader} {reads : Bool} (kept : AreAtRest case.scenario.now routers)
+    (there : slice_get case.scenario.now.routers x ≡ Some settings) (stands : slice_get routers x ≡ Some was) (takes : TakesText case.trace.now old.reader reader (tick_line now settings.name) reads)
+    (net : NetState) (l : ℕ) (are : net.routers ≡ routers) (next : IsTickNext net x now l) where
+  opens : (y : ℕ) → Opens net y (tick_line now settings.name) x (TicksBy was now) (λ is. record (with_state net x is) { last_ticks = l })
+  opens y = subst (λ (r : RouterSettings). Opens net y (tick_line now r.name) x (TicksBy was now) (λ is. record (with_state net x is) { last_ticks = l })) (settings_same x kept there stands)
+      (tick_opens net y x now l was next (subst (λ (r : List State). slice_get r x ≡ Some was) (sym are) stands))
 
-  -- it isn't there
-  pub tick_stops : (trace : List ℕ) (old new : Reader) (y : ℕ) → new.at ≡ old.at → new.taken ≡ old.taken → (IsTickLineNext trace old now was.settings.name → ⊥) → StopsBefore trace old new (at net y [])
-  tick_stops trace old new y place taken other =
-      stops_read trace old new new (at net y []) place taken refl
-      (λ line rest q there leads. other (record { line = line; lines = rest; next = ap (lines_from trace) (sym place) ∙ there; is = only_tick y line q leads }))
-      (λ done. not_over net x now l next done.over)
+  -- what comes of the event: the line isn't there
+  pub ticked_not : (y : ℕ) (q : TracePosition) → reads ≡ false → FitsOrStops case.trace.now old.reader reader (at net y []) q false
+  ticked_not y q bad = opened_not (opens y) takes q bad
 
-  -- lines that lead to the network lead there behind it
-  pub tick_addresses : (case : Case) (is : State) (left : List Item) (line : List ℕ) → IsReachedNet case net → TicksBy was now is left → IsLineOf line (tick_line now was.settings.name) → HasAddresses is
-  tick_addresses case is left line (lines, y, (first, is_first, leads)) ticks told =
-      (positions_have_addresses case.scenario.now (lines ++ line ∷ []) (ticking is left)
-      (first, is_first, leads_on first (at net y []) (ticking is left) lines (line ∷ []) leads (ticking is left, tick_leads y is left line ticks told, refl))).addresses
-      x is (set_here net.routers x is was stands)
+  -- the router may begin, since lines lead there
+  pub ticked_begins : {event : CheckedEvent} → event.settings.now ≡ settings → reads ≡ true → IsReachedNet case net → MayBegin event was (TicksBy was now)
+  ticked_begins same good (lines, y, reaches) = record {
+    settings = settings_same x kept there stands ∙ sym same;
+    kept = kept.kept x was stands;
+    addresses = opened_addresses (opens y) takes good case.scenario.now lines reaches;
+  }
+
+  pub ticked_on : {event : CheckedEvent} {new : Progress} {t : State} {fits : Bool} → event.router ≡ x → reads ≡ true → EndsEvent case (record old { reader = reader }) new event (TicksBy was now) t fits → (y : ℕ) →
+      net.scenario ≡ case.scenario.now → net.traffic ≡ old.traffic.traffic →
+      FitsOrStops case.trace.now old.reader new.reader (at net y []) (at (record net { routers = slice_set routers x t; traffic = new.traffic.traffic; last_ticks = l }) x []) fits
+  ticked_on {new = new} {t = t} place good ends y scenario flights =
+      opened_on (opens y) takes good place ends (record net { routers = slice_set routers x t; traffic = new.traffic.traffic; last_ticks = l }) (λ is. scenario) (λ is. flights)
+      (λ is. ap (λ (r : List State). let n : NetState = record net { routers = r; traffic = new.traffic.traffic; last_ticks = l } in n)
+      (set-set net.routers x is t ∙ ap (λ (r : List State). slice_set r x t) are))

@@ -1,25 +1,35 @@
 -- The relay lines of an event, one by one: of an interface, or for routing where there is none.
-use Rattle.std.specs.Prelude.{◌≡◌, ◌<◌, ◌+◌, ℕ, List, [], ◌∷◌, ◌++◌, Option, Some, None, map, drop, length, slice_get, codes}
+use Rattle.std.specs.Prelude.{◌≡◌, ◌<◌, ◌^◌, ℕ, List, [], ◌∷◌, ◌++◌, All, Bool, true, false, cond, Option, Some, None, map, drop, length, slice_get}
 use Rattle.std.specs.List.{enumerate_from}
 use Rattle.mesh_atoms.specs.declared.addr.Addr4.{Addr4}
 use Rattle.mesh_atoms.specs.declared.graphs.NeighbourGraph.{NeighbourGraph}
 use Rattle.mesh_atoms.specs.declared.settings.RouterSettings.{RouterSettings}
-use Rattle.mesh_atoms.specs.RelayGraphs.{AreRelaysOf, IsFloodingGraph, IsRoutingGraph}
+use Rattle.mesh_atoms.specs.declared.tuples.Relays.{Relays}
+use Rattle.mesh_atoms.specs.RelayGraphs.{AreRelays, AreRelaysOf, IsFloodingGraph, IsRoutingGraph}
 use Rattle.mesh_atoms.specs.State.{State}
-use Rattle.mesh_trace.specs.machine.Net.{NetState}
-use Rattle.mesh_replay.specs.Checking.Going.{at, Went, StopsBefore}
-use Rattle.mesh_replay.specs.Checking.Kept.{with_relays}
-use Rattle.mesh_texts.specs.Lines.Marks.{face_name, relays_text}
-use Rattle.mesh_trace.specs.declared.reading.Reader.{Reader}
-use Rattle.mesh_trace.specs.Positions.Items.{with_flooding, with_routing}
-use Rattle.mesh_trace.specs.Positions.Standing.{Item, Flooding, Routing, relay_items, with_state}
-use Rattle.mesh_trace.specs.Reading.Readers.{lines_from}
+use Rattle.mesh_trace.specs.Positions.Alike.{HasAddresses}
+use Rattle.mesh_trace.specs.Positions.Due.{none_told}
+use Rattle.mesh_trace.specs.Positions.Standing.{Item, Flooding, Routing, relay_items}
+use Rattle.mesh_replay.specs.declared.checking.case.Case.{Case}
+use Rattle.mesh_replay.specs.declared.checking.case.CheckedEvent.{CheckedEvent}
+use Rattle.mesh_replay.specs.declared.checking.case.Progress.{Progress}
+use Rattle.mesh_replay.specs.declared.checking.router.Before.{Before}
+use Rattle.mesh_replay.specs.Checking.Cases.{MayBeIn, IsProgress, LeadsPast}
+use Rattle.mesh_replay.specs.Checking.Kept.{IsSoundRouter, StandAgain, with_relays}
 
--- the interface, if it is of one, is one of the router's
-abbrev pub HasFace : RouterSettings → Option ℕ → Type 0
-HasFace r iface = (i : ℕ) → iface ≡ Some i → i < length r.interfaces
+-- an event has begun, of which no relays were told yet
+pub record IsBegun (event : CheckedEvent) (s : State) (before : Before) : Type 0 where
+  pub is_in : MayBeIn event s
+  pub sound : IsSoundRouter s
+  pub addresses : HasAddresses s
+  pub none : s.relays ≡ none_told
+  pub stand : StandAgain s before
 
--- the graph from which they are chosen
+-- addresses of 32 bits
+abbrev pub AreWide : List Addr4 → Type 0
+AreWide addrs = All (λ a. a.0 < 2 ^ 32) addrs
+
+-- the graph from which relays are chosen
 abbrev pub IsGraphFor : State → Option ℕ → NeighbourGraph → Type 0
 IsGraphFor s (Some i) g = IsFloodingGraph s s.last i g
 IsGraphFor s None g = IsRoutingGraph s g
@@ -30,65 +40,50 @@ pub record MayTell (s : State) (iface : Option ℕ) (relays : List Addr4) : Type
   pub is_graph : IsGraphFor s iface graph
   pub are : AreRelaysOf graph relays
 
--- what stands before them in their line
-abbrev pub front_text : RouterSettings → Option ℕ → List ℕ
-front_text r (Some i) = codes "relays " ++ (r.name ++ (codes " flooding " ++ face_name r.interfaces i))
-front_text r None = codes "relays " ++ (r.name ++ codes " routing")
+-- relays of a router for an interface, or for routing
+abbrev pub relays_for : Relays → Option ℕ → Option (List Addr4)
+relays_for relays (Some i) = slice_get relays.flooding i
+relays_for relays None = Some relays.routing
 
--- their line
-abbrev pub told_text : RouterSettings → Option ℕ → List Addr4 → List ℕ
-told_text r iface relays = front_text r iface ++ (relays_text relays ++ codes "\n")
+-- the relays of the event before, where they are for sure good again
+abbrev pub again : Before → Option ℕ → Option (List Addr4)
+again before iface = cond before.stand (relays_for before.relays iface) None
 
--- what is told
-abbrev pub item_for : Option ℕ → Item
-item_for (Some i) = Flooding i
-item_for None = Routing
-
--- the router after it
-abbrev pub with_told : State → Option ℕ → List Addr4 → State
-with_told s (Some i) relays = with_flooding s relays
-with_told s None relays = with_routing s relays
-
--- nothing was read
-pub record IsStill (old new : Reader) : Type 0 where
-  pub place : new.at ≡ old.at
-  pub taken : new.taken ≡ old.taken
-
--- the next line tells these relays
-pub record AreRelaysTold (trace : List ℕ) (reader : Reader) (r : RouterSettings) (iface : Option ℕ) (relays : List Addr4) : Type 0 where
-  pub line : List ℕ
-  pub others : List (List ℕ)
-  pub lines : lines_from trace reader.at ≡ line ∷ others
-  pub text : line ++ codes "\n" ≡ told_text r iface relays
-
--- the same, and it was read
-pub record TakesTold (trace : List ℕ) (old new : Reader) (r : RouterSettings) (iface : Option ℕ) (relays : List Addr4) : Type 0 where
-  pub line : List ℕ
-  pub lines : lines_from trace old.at ≡ line ∷ lines_from trace new.at
-  pub taken : new.taken ≡ old.taken + 1
-  pub text : line ++ codes "\n" ≡ told_text r iface relays
-
--- the next line, if there is one, tells no relays that may be chosen
-abbrev pub TellsNone : List ℕ → Reader → State → Option ℕ → Type 0
-TellsNone trace reader s iface =
-    (line : List ℕ) (lines : List (List ℕ)) (relays : List Addr4) → lines_from trace reader.at ≡ line ∷ lines → MayTell s iface relays
-    → line ++ codes "\n" ≡ told_text s.settings iface relays → ⊥
+abbrev pub IsAgain : Before → Option ℕ → List Addr4 → Type 0
+IsAgain before iface relays = again before iface ≡ Some relays
 
 -- what is left to be told when the relays of so many interfaces were
 abbrev pub relays_left : RouterSettings → ℕ → List Item
 relays_left r n = map (λ f. Flooding f.0) (enumerate_from n (drop n r.interfaces)) ++ (Routing ∷ [])
 
--- the relays of so many interfaces were told
-pub record HasTold (trace : List ℕ) (before : State) (old : Reader) (after : State) (new : Reader) (n : ℕ) : Type 0 where
-  pub told : List (List Addr4)
-  pub count : length told ≡ n
-  pub state : after ≡ with_relays before (record { flooding = told; routing = [] })
-  pub chosen : (i : ℕ) (relays : List Addr4) → slice_get told i ≡ Some relays → MayTell before (Some i) relays
-  pub went : (net : NetState) (x : ℕ) (rest : List Item) → slice_get net.routers x ≡ Some before →
-      Went trace old new (at net x (relay_items before.settings ++ rest)) (at (with_state net x after) x (relays_left before.settings n ++ rest))
+-- the router of which flooding relays were told
+abbrev pub with_flooded : State → List (List Addr4) → State
+with_flooded s told = with_relays s (record { flooding = told; routing = [] })
 
--- their telling stops
-abbrev pub StopsTelling : List ℕ → State → Reader → Reader → Type 0
-StopsTelling trace before old new =
-    (net : NetState) (x : ℕ) (rest : List Item) → slice_get net.routers x ≡ Some before →
-    StopsBefore trace old new (at net x (relay_items before.settings ++ rest))
+-- the relays of the first interfaces, so many, were told, and may be chosen
+pub record HasTold (case : Case) (old new : Progress) (x : ℕ) (s : State) (n : ℕ) (told : List (List Addr4)) : Type 0 where
+  pub progress : IsProgress case new
+  pub count : length told ≡ n
+  pub chosen : (i : ℕ) (relays : List Addr4) → slice_get told i ≡ Some relays → MayTell s (Some i) relays
+  pub leads : LeadsPast case old new x s (with_flooded s told) (relay_items s.settings) (relays_left s.settings n) true
+
+-- the relay lines don't all fit
+pub record StopsRelays (case : Case) (old new : Progress) (x : ℕ) (s : State) : Type 0 where
+  pub progress : IsProgress case new
+  pub stops : LeadsPast case old new x s s (relay_items s.settings) [] false
+
+-- the flooding relays are told as far as their lines fit
+abbrev pub TellsFlooding : Case → Progress → Progress → CheckedEvent → State → Option (List (List Addr4)) → Type 0
+TellsFlooding case old new event s None = StopsRelays case old new event.router s
+TellsFlooding case old new event s (Some told) = HasTold case old new event.router s (length s.settings.interfaces) told
+
+-- all relays were told, and may be chosen
+pub record HasRelays (case : Case) (old new : Progress) (x : ℕ) (s : State) (relays : Relays) : Type 0 where
+  pub progress : IsProgress case new
+  pub chosen : AreRelays (with_relays s relays) s.last
+  pub leads : LeadsPast case old new x s (with_relays s relays) (relay_items s.settings) [] true
+
+-- the relays are told as far as their lines fit
+abbrev pub TellsRelays : Case → Progress → Progress → CheckedEvent → State → Option Relays → Type 0
+TellsRelays case old new event s None = StopsRelays case old new event.router s
+TellsRelays case old new event s (Some relays) = HasRelays case old new event.router s relays

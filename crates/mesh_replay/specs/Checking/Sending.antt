@@ -1,55 +1,69 @@
--- What is told of a frame that is sent.
-use Rattle.std.specs.Prelude.{◌≡◌, ℕ, ◌+◌, List, [], ◌∷◌, ◌++◌, map, codes, decimal, Some, slice_get, Bool, IsTrue, IsFalse}
+-- What is told of frames that an event sends.
+use Rattle.std.specs.Prelude.{◌≡◌, ◌<◌, ℕ, List, [], ◌∷◌, map, length, codes, decimal, All, Bool}
+use Rattle.std.specs.List.{AllPairs}
+use Rattle.mesh_atoms.specs.declared.hello.Hello.{Hello}
 use Rattle.mesh_atoms.specs.declared.settings.RouterSettings.{RouterSettings}
+use Rattle.mesh_atoms.specs.declared.tc.Tc.{Tc}
+use Rattle.mesh_atoms.specs.Hello.{IsHelloNow}
+use Rattle.mesh_atoms.specs.Nodes.{IsBefore}
+use Rattle.mesh_atoms.specs.Validity.{IsTimeValue, IsValidity}
 use Rattle.mesh_atoms.specs.State.{State}
+use Rattle.mesh_texts.specs.Lines.Marks.{joined}
 use Rattle.mesh_trace.specs.machine.declared.frame.Frame.{Frame}
-use Rattle.mesh_trace.specs.machine.Net.{NetState}
+use Rattle.mesh_trace.specs.machine.Sending.{IsTcOfRows}
 use Rattle.mesh_trace.specs.machine.Traffic.{Sends}
-use Rattle.mesh_texts.specs.Lines.Marks.{joined, face_name}
-use Rattle.mesh_texts.specs.Trace.{sent_line}
+use Rattle.mesh_trace.specs.Positions.Standing.{Item, Sent, Lost}
+use Rattle.mesh_wire.specs.Writes.{WritesHello, WritesTc}
 use Rattle.mesh_replay.specs.declared.checking.case.Case.{Case}
+use Rattle.mesh_replay.specs.declared.checking.case.CheckedEvent.{CheckedEvent}
 use Rattle.mesh_replay.specs.declared.checking.case.Progress.{Progress}
-use Rattle.mesh_replay.specs.Checking.Going.{at, FitsOrStops}
-use Rattle.mesh_trace.specs.declared.reading.Reader.{Reader}
-use Rattle.mesh_trace.specs.Positions.Standing.{Item, Lost}
-use Rattle.mesh_trace.specs.Reading.Lines.{IsLineOf}
-use Rattle.mesh_trace.specs.Reading.Readers.{lines_from}
-
--- losses on these arcs at that moment are told as far as they fit
-abbrev pub TellsLosses : Case → ℕ → List ℕ → Reader → Reader → Bool → Type 0
-TellsLosses case now lost old new fits = (net : NetState) (x : ℕ) (s : State) (rest : List Item) → net.scenario ≡ case.scenario.now →
-    slice_get net.routers x ≡ Some s → s.last ≡ now → FitsOrStops case.trace.now old new (at net x (map Lost lost ++ rest)) (at net x rest) fits
-
--- router x sends a frame at that moment, and its losses are told as far as they fit
-pub record GoesOut (case : Case) (old new : Progress) (x now : ℕ) (frame : Frame) (fits : Bool) : Type 0 where
-  pub lost : List ℕ
-  pub sends : Sends case.scenario.now now x (record { iface = frame.iface; frame = frame.bytes; lost = lost }) old.traffic.traffic new.traffic.traffic
-  pub tells : TellsLosses case now lost old.reader new.reader fits
-
--- the next line tells that the router sends the frame
-pub record IsSentNext (trace : List ℕ) (reader : Reader) (settings : RouterSettings) (now : ℕ) (frame : Frame) : Type 0 where
-  pub line : List ℕ
-  pub lines : List (List ℕ)
-  pub next : lines_from trace reader.at ≡ line ∷ lines
-  pub is : IsLineOf line (sent_line now settings.name (face_name settings.interfaces frame.iface) frame.bytes)
-
--- where it fits, a line was taken that tells that the router sends the frame; and else the next line is another, or there is none
-pub record TakesSent (trace : List ℕ) (old new : Reader) (settings : RouterSettings) (now : ℕ) (frame : Frame) (fits : Bool) : Type 0 where
-  pub takes : IsTrue fits → (line : List ℕ) × (lines_from trace old.at ≡ line ∷ lines_from trace new.at) × (new.taken ≡ old.taken + 1)
-      × IsLineOf line (sent_line now settings.name (face_name settings.interfaces frame.iface) frame.bytes)
-  pub place : IsFalse fits → (new.at ≡ old.at) × (new.taken ≡ old.taken)
-  pub other : IsFalse fits → IsSentNext trace old settings now frame → ⊥
+use Rattle.mesh_replay.specs.declared.checking.octets.DueMessage.{DueMessage}
+use Rattle.mesh_replay.specs.declared.checking.octets.DueMessage.TheVariants as due
+use Rattle.mesh_replay.specs.declared.checking.tcs.DueRows.{DueRows}
+use Rattle.mesh_replay.specs.Traffic.Traffic.{SeededTraffic}
+use Rattle.mesh_replay.specs.Checking.Cases.{AnyState, IsProgress, TellsItems}
+use Rattle.mesh_replay.specs.Checking.Kept.{IsSoundRouter}
 
 -- what stands before the octets in the line of a frame that is sent
 abbrev pub sent_front : ℕ → List ℕ → List ℕ → List ℕ
 sent_front moment router face = joined (codes "sent " ∷ decimal moment ∷ codes " " ∷ router ∷ codes " " ∷ face ∷ codes " " ∷ [])
 
--- the next line, which tells that router x sends the frame, was taken; the frame went out, and its losses are told as far as they fit
-pub record TakesOut (case : Case) (old new : Progress) (x : ℕ) (settings : RouterSettings) (now : ℕ) (frame : Frame) (fits : Bool) : Type 0 where
-  pub mid : Progress
-  pub traffic : mid.traffic ≡ old.traffic
-  pub line : List ℕ
-  pub lines : lines_from case.trace.now old.reader.at ≡ line ∷ lines_from case.trace.now mid.reader.at
-  pub taken : mid.reader.taken ≡ old.reader.taken + 1
-  pub is : IsLineOf line (sent_line now settings.name (face_name settings.interfaces frame.iface) frame.bytes)
-  pub out : GoesOut case mid new x now frame fits
+-- octets spell a message of a router with these settings
+abbrev pub WritesSent : RouterSettings → DueMessage → List ℕ → Type 0
+WritesSent r (due.Hello hello) bytes = WritesHello hello.now bytes
+WritesSent r (due.Tc tc validity) bytes = WritesTc tc.now r.times.tc_hop_limit validity.now bytes
+
+-- frames are on interfaces of a router with these settings
+abbrev pub AreOnFaces : RouterSettings → List Frame → Type 0
+AreOnFaces r frames = All (λ (f : Frame). f.iface < length r.interfaces) frames
+
+-- frames of these very octets are told
+abbrev pub TellsSentFrames : Case → Progress → Progress → CheckedEvent → List Frame → Bool → Type 0
+TellsSentFrames case old new event frames fits = TellsItems case old new event AnyState (λ s. map Sent frames) (λ s. []) fits
+
+-- the event sends a frame, and its losses are told as far as they fit
+pub record GoesOut (case : Case) (old new : Progress) (event : CheckedEvent) (frame : Frame) (fits : Bool) : Type 0 where
+  pub lost : List ℕ
+  pub flights : SeededTraffic
+  pub sends : Sends case.scenario.now event.moment event.router (record { iface = frame.iface; frame = frame.bytes; lost = lost })
+      old.traffic.traffic flights.traffic
+  pub tells : TellsItems case (record old { traffic = flights }) new event AnyState (λ s. map Lost lost) (λ s. []) fits
+
+-- the router has this HELLO on an interface
+pub record HasHello (iface : ℕ) (hello : Hello) (s : State) : Type 0 where
+  pub sound : IsSoundRouter s
+  pub is : IsHelloNow s iface s.last hello
+
+-- the router has this TC
+abbrev pub HasTc : List ℕ → Tc → State → Type 0
+HasTc validity tc s = IsTcOfRows s validity tc.complete tc.sequence tc.rows tc
+
+-- the router has this ANSN
+abbrev pub HasAnsn : ℕ → State → Type 0
+HasAnsn ansn s = s.ansn ≡ ansn
+
+-- rows that may be advertised, with the value of VALIDITY_TIME that the router of the event has
+pub record AreDueRows (event : CheckedEvent) (due : DueRows) : Type 0 where
+  pub ordered : AllPairs (λ r t. IsBefore r.dest t.dest) due.rows.now
+  pub is_value : IsTimeValue due.validity.now
+  pub is_validity : IsValidity event.settings.now.times.topology_hold event.settings.now.near_hold due.validity.now

@@ -1,192 +1,153 @@
-//! The lines of frames that are sent, and of the arcs on which they are lost.
-ghost use Rattle.std.specs.Prelude.{◌≡◌, ◌++◌, ◌∷◌, [], ◌<◌, ◌≤◌, ℕ, List, Some, None, map, length, slice_get, IfOk, OnOk, IfSome, IsNone};
-ghost use Rattle.mesh_atoms.specs.Settings.{one_hour};
-ghost use Rattle.mesh_atoms.specs.declared.settings.RouterSettings.{RouterSettings as Settings};
-ghost use Rattle.mesh_replay.specs.Checking.Cases.{IsCase, IsProgress, TellsItems};
-ghost use Rattle.mesh_replay.specs.Checking.Sending.{TellsLosses, GoesOut, TakesSent};
-ghost use Rattle.mesh_texts.specs.Lines.Marks.{face_name};
-ghost use Rattle.mesh_texts.specs.Trace.{sent_line};
-ghost use Rattle.mesh_atoms.specs.State.{State};
-ghost use Rattle.mesh_trace.specs.Positions.Standing.{Sent};
-ghost use Rattle.mesh_trace.specs.Reading.Readers.{IsReaderOf};
+//! Frames that an event sends: the lines of those whose octets are fixed, and of the arcs on which frames are lost.
+ghost use Rattle.std.specs.Prelude.{◌∷◌, ◌<◌, [], map, drop, length, IfOk};
+ghost use Rattle.mesh_trace.specs.machine.Frames.{on_each};
+ghost use Rattle.mesh_trace.specs.Positions.Standing.{Lost};
+ghost use Rattle.mesh_replay.specs.Checking.Cases.{AnyState, IsEventOf, IsProgress, TellsItems};
+ghost use Rattle.mesh_replay.specs.Checking.Sending.{AreOnFaces, GoesOut, TellsSentFrames};
 
-use crate::checking::case::{Case, Progress};
-use crate::checking::router::CheckedRouter;
-use mesh_atoms::{Bytes, RouterSettings};
-use mesh_expire::Bases;
-use mesh_texts::{face_name, put_lost_line, put_sent_line};
-use mesh_trace::Reader;
+use crate::checking::case::{Case, CheckedEvent, Progress};
+use crate::checking::lines::{DueLine, take_due};
+use mesh_atoms::Bytes;
+use mesh_core::Outbox;
 use std::alloc::{AllocError, Global};
 use std::rc::Rc;
-
-// Takes the line of the loss of a frame on an arc.
-fn tell_loss(case: &Case, now: u64, arc: usize, reader: &mut Reader) -> Result<bool, AllocError>
-    requires { IsReaderOf case.now.trace.now reader.old }
-    ensures reading { OnOk result (IsReaderOf case.now.trace.now reader.new) }
-    ensures tells { IfOk result (TellsLosses case.now now (arc ∷ []) reader.old reader.new) }
-{
-    reader.text.clear();
-    put_lost_line(&mut reader.text, case.scenario, now, arc)?;
-    Ok(reader.expect(case.trace))
-}
 
 // Takes the lines of the losses of a frame on these arcs.
 fn tell_losses(
     case: &Case,
-    now: u64,
+    event: &CheckedEvent,
     lost: &[usize],
-    reader: &mut Reader,
+    progress: &mut Progress,
 ) -> Result<bool, AllocError>
-    requires { IsReaderOf case.now.trace.now reader.old }
-    ensures reading { OnOk result (IsReaderOf case.now.trace.now reader.new) }
-    ensures tells { IfOk result (TellsLosses case.now now lost.now reader.old reader.new) }
+    requires { IsProgress case.now progress.old }
+    ensures { IfOk result (TellsItems case.now progress.old progress.new event.now AnyState (λ s. map Lost lost.now) (λ s. [])) }
 {
     for arc in lost {
-        if !tell_loss(case, now, *arc, reader)? {
+        let line = DueLine::Lost {
+            moment: event.moment,
+            scenario: case.scenario,
+            arc: *arc,
+        };
+        if !take_due(case.trace, &line, &mut progress.reader)? {
             return Ok(false);
         }
     }
     Ok(true)
 }
 
-/// Sends a frame, and takes the lines of the arcs on which it is lost.
+/// Sends a frame on an interface, and takes the lines of the arcs on which it is lost.
 pub(crate) fn send_out(
     alloc: Global,
     case: &Case,
-    now: u64,
-    x: usize,
+    event: &CheckedEvent,
     iface: usize,
     frame: &Rc<Bytes>,
     progress: &mut Progress,
 ) -> Result<bool, AllocError>
-    requires case { IsCase case.now }
+    requires event { IsEventOf case.now event.now }
     requires progress { IsProgress case.now progress.old }
-    requires face { (settings : Settings) × (slice_get case.now.scenario.now.routers x ≡ Some settings) × (iface < length settings.interfaces) }
-    requires early { now ≤ one_hour }
-    ensures progress { OnOk result (IsProgress case.now progress.new) }
-    ensures goes { IfOk result (GoesOut case.now progress.old progress.new x now (record { iface = iface; bytes = frame.now.value })) }
+    requires iface { iface < length event.now.settings.now.interfaces }
+    ensures { IfOk result (GoesOut case.now progress.old progress.new event.now (record { iface = iface; bytes = frame.now.value })) }
 {
-    let lost = progress
-        .traffic
-        .send(alloc, case.scenario, &case.ways, now, x, iface, frame)?;
-    tell_losses(case, now, lost.as_slice(), &mut progress.reader)
-}
-
-/// The router whose event it is: its number, its settings, and the moment of the event.
-#[derive(Clone, Copy)]
-pub(crate) struct Sender<'a> {
-    pub(crate) number: usize,
-    pub(crate) settings: &'a RouterSettings,
-    pub(crate) moment: u64,
-}
-
-/// The router with that number as it sends.
-pub(crate) fn sender_of<'a, B: Bases>(number: usize, router: &'a CheckedRouter<B>) -> Sender<'a>
-    ensures number { result.number ≡ number }
-    ensures settings { result.settings.now ≡ router.now.settings }
-    ensures moment { result.moment ≡ router.now.last }
-{
-    Sender {
-        number,
-        settings: router.settings(),
-        moment: router.last,
-    }
-}
-
-// Looks for the line of a frame that is sent.
-fn look_for_sent(
-    sender: &Sender,
-    iface: usize,
-    frame: &[u8],
-    reader: &mut Reader,
-) -> Result<(), AllocError>
-    ensures text { OnOk result (reader.new.text ≡ sent_line sender.now.moment sender.now.settings.now.name (face_name sender.now.settings.now.interfaces iface) frame.now) }
-    ensures place { OnOk result ((reader.new.at ≡ reader.old.at) × (reader.new.taken ≡ reader.old.taken)) }
-{
-    let face = face_name(sender.settings.interfaces.as_slice(), iface);
-    reader.text.clear();
-    put_sent_line(
-        &mut reader.text,
-        sender.moment,
-        sender.settings.name.as_slice(),
-        face,
+    let lost = progress.traffic.send(
+        alloc,
+        case.scenario,
+        &case.ways,
+        event.moment,
+        event.router,
+        iface,
         frame,
-    )
+    )?;
+    tell_losses(case, event, lost.as_slice(), progress)
 }
 
-// Takes the line of a frame that is sent.
-fn expect_sent(
-    case: &Case,
-    sender: &Sender,
-    iface: usize,
-    frame: &[u8],
-    reader: &mut Reader,
-) -> Result<bool, AllocError>
-    requires { IsReaderOf case.now.trace.now reader.old }
-    ensures reading { OnOk result (IsReaderOf case.now.trace.now reader.new) }
-    ensures takes { IfOk result (TakesSent case.now.trace.now reader.old reader.new sender.now.settings.now sender.now.moment (record { iface = iface; bytes = frame.now })) }
-{
-    look_for_sent(sender, iface, frame, reader)?;
-    Ok(reader.expect(case.trace))
-}
-
-// Takes the lines of a frame of these very octets: the line of the frame, and those of the arcs on which it is lost.
-fn tell_octets(
+// Takes the lines of a frame of these very octets on an interface: the line of the frame, and those of the arcs on which it is lost.
+fn tell_frame(
     alloc: Global,
     case: &Case,
-    sender: &Sender,
+    event: &CheckedEvent,
     iface: usize,
     frame: &Rc<Bytes>,
     progress: &mut Progress,
 ) -> Result<bool, AllocError>
-    requires case { IsCase case.now }
+    requires event { IsEventOf case.now event.now }
     requires progress { IsProgress case.now progress.old }
-    requires stands { slice_get case.now.scenario.now.routers sender.now.number ≡ Some sender.now.settings.now }
-    requires iface { iface < length sender.now.settings.now.interfaces }
-    requires early { sender.now.moment ≤ one_hour }
-    ensures progress { OnOk result (IsProgress case.now progress.new) }
-    ensures tells { IfOk result (λ fits. (s : State) → s.settings ≡ sender.now.settings.now → s.last ≡ sender.now.moment
-        → TellsItems case.now progress.old progress.new sender.now.number s (Sent (record { iface = iface; bytes = frame.now.value }) ∷ []) fits) }
+    requires iface { iface < length event.now.settings.now.interfaces }
+    ensures { IfOk result (TellsSentFrames case.now progress.old progress.new event.now (record { iface = iface; bytes = frame.now.value } ∷ [])) }
 {
-    if !expect_sent(
-        case,
-        sender,
+    let line = DueLine::Sent {
+        moment: event.moment,
+        settings: event.settings,
         iface,
-        frame.as_ref().as_slice(),
-        &mut progress.reader,
-    )? {
+        bytes: frame.as_ref().as_slice(),
+    };
+    if !take_due(case.trace, &line, &mut progress.reader)? {
         return Ok(false);
     }
-    send_out(
-        alloc,
-        case,
-        sender.moment,
-        sender.number,
-        iface,
-        frame,
-        progress,
-    )
+    send_out(alloc, case, event, iface, frame, progress)
 }
 
-/// Takes the lines of a frame of these very octets, which router `x` sends on an interface: the line of the frame, and those of the arcs
-/// on which it is lost.
-pub(crate) fn tell_frame<B: Bases>(
+/// Takes the lines of a frame of these very octets on each interface but the first.
+pub(crate) fn tell_further(
     alloc: Global,
     case: &Case,
-    x: usize,
-    router: &CheckedRouter<B>,
-    iface: usize,
+    event: &CheckedEvent,
     frame: &Rc<Bytes>,
     progress: &mut Progress,
 ) -> Result<bool, AllocError>
-    requires case { IsCase case.now }
+    requires event { IsEventOf case.now event.now }
     requires progress { IsProgress case.now progress.old }
-    requires stands { slice_get case.now.scenario.now.routers x ≡ Some router.now.settings }
-    requires iface { iface < length router.now.settings.interfaces }
-    requires early { router.now.last ≤ one_hour }
-    ensures progress { OnOk result (IsProgress case.now progress.new) }
-    ensures tells { IfOk result (TellsItems case.now progress.old progress.new x router.now (Sent (record { iface = iface; bytes = frame.now.value }) ∷ [])) }
+    ensures { IfOk result (TellsSentFrames case.now progress.old progress.new event.now
+        (drop 1 (on_each (length event.now.settings.now.interfaces) frame.now.value))) }
 {
-    let sender = sender_of(x, router);
-    tell_octets(alloc, case, &sender, iface, frame, progress)
+    for iface in 1..event.settings.interfaces.len() {
+        if !tell_frame(alloc, case, event, iface, frame, progress)? {
+            return Ok(false);
+        }
+    }
+    Ok(true)
+}
+
+// Takes the lines of a frame of these octets, which the router forwards.
+fn tell_forwarded(
+    alloc: Global,
+    case: &Case,
+    event: &CheckedEvent,
+    iface: usize,
+    octets: &[u8],
+    progress: &mut Progress,
+) -> Result<bool, AllocError>
+    requires event { IsEventOf case.now event.now }
+    requires progress { IsProgress case.now progress.old }
+    requires iface { iface < length event.now.settings.now.interfaces }
+    ensures { IfOk result (TellsSentFrames case.now progress.old progress.new event.now (record { iface = iface; bytes = octets.now } ∷ [])) }
+{
+    let mut bytes = Bytes::new(alloc);
+    bytes.append(octets)?;
+    let frame = Rc::new(alloc, bytes)?;
+    tell_frame(alloc, case, event, iface, &frame, progress)
+}
+
+/// Takes the lines of the frames that the router forwards.
+pub(crate) fn tell_outbox(
+    alloc: Global,
+    case: &Case,
+    event: &CheckedEvent,
+    out: &Outbox,
+    progress: &mut Progress,
+) -> Result<bool, AllocError>
+    requires event { IsEventOf case.now event.now }
+    requires progress { IsProgress case.now progress.old }
+    requires faces { AreOnFaces event.now.settings.now out.now }
+    ensures { IfOk result (TellsSentFrames case.now progress.old progress.new event.now out.now) }
+{
+    for i in 0..out.len() {
+        let Some((iface, octets)) = out.frame(i) else {
+            break;
+        };
+        if !tell_forwarded(alloc, case, event, iface, octets, progress)? {
+            return Ok(false);
+        }
+    }
+    Ok(true)
 }

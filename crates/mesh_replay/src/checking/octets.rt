@@ -1,19 +1,26 @@
-//! The octets that the line of a frame tells.
-ghost use Rattle.std.specs.Prelude.{◌≡◌, ◌++◌, List, ℕ, Some, IfOk, OnOk, IfSome, ◌↔◌, ◌≢◌, None, IsTrue};
+//! Frames of which the octets aren't fixed: those that the next line tells are read, and compared with the message that is due.
+ghost use Rattle.std.specs.Prelude.{◌≡◌, ◌++◌, ◌↔◌, ◌≢◌, None, IfOk, OnOk, IsTrue};
 ghost use Rattle.hex.specs.Hex.{encode_lower};
 ghost use Rattle.hex.specs.declared.error.FromHexError.TheVariants.{OutOfMemory};
-ghost use Rattle.mesh_trace.specs.machine.declared.frame.Frame.{Frame};
 ghost use Rattle.mesh_trace.specs.machine.Sendable.{AreOctets};
-ghost use Rattle.mesh_replay.specs.Checking.Sending.{IsSentNext, sent_front};
 ghost use Rattle.mesh_texts.specs.Lines.Marks.{face_name};
 ghost use Rattle.mesh_trace.specs.Reading.Readers.{IsReaderOf};
+ghost use Rattle.mesh_replay.specs.Checking.Sending.{WritesSent, sent_front};
+ghost use Rattle.mesh_replay.specs.Checking.Texts.{IsStill, ReadsNext, ReadsText, TakesNext, sent_text};
 
-use crate::checking::frames::Sender;
+use crate::checking::case::CheckedEvent;
 use hex::FromHexError;
-use mesh_atoms::Bytes;
+use mesh_atoms::{Bytes, Hello, Tc};
 use mesh_texts::{Piece, face_name, put_all};
-use mesh_trace::Reader;
+use mesh_trace::{Reader, spells_hello, spells_tc};
 use std::alloc::{AllocError, Global};
+
+/// A message that a frame is to spell, in whichever way; a TC with the value of its VALIDITY_TIME.
+#[derive(Clone, Copy)]
+pub(crate) enum DueMessage<'a> {
+    Hello { hello: &'a Hello },
+    Tc { tc: &'a Tc, validity: &'a [u8] },
+}
 
 // Puts what stands before the octets in the line of a frame that is sent.
 fn put_sent_front<'a>(
@@ -38,18 +45,17 @@ fn put_sent_front<'a>(
     )
 }
 
-// Looks for a line that begins as that of a frame that is sent.
-fn look_for_front(sender: &Sender, iface: usize, reader: &mut Reader) -> Result<(), AllocError>
-    ensures text { OnOk result (reader.new.text ≡ sent_front sender.now.moment sender.now.settings.now.name (face_name sender.now.settings.now.interfaces iface)) }
-    ensures at { OnOk result (reader.new.at ≡ reader.old.at) }
-    ensures taken { OnOk result (reader.new.taken ≡ reader.old.taken) }
+// Looks for a line that begins as that of a frame which the event sends on an interface.
+fn look_for_sent(event: &CheckedEvent, iface: usize, reader: &mut Reader) -> Result<(), AllocError>
+    ensures text { OnOk result (reader.new.text ≡ sent_front event.now.moment event.now.settings.now.name (face_name event.now.settings.now.interfaces iface)) }
+    ensures still { OnOk result (IsStill reader.old reader.new) }
 {
-    let face = face_name(sender.settings.interfaces.as_slice(), iface);
+    let face = face_name(event.settings.interfaces.as_slice(), iface);
     reader.text.clear();
     put_sent_front(
         &mut reader.text,
-        sender.moment,
-        sender.settings.name.as_slice(),
+        event.moment,
+        event.settings.name.as_slice(),
         face,
     )
 }
@@ -64,8 +70,7 @@ fn tells(alloc: Global, octets: &[u8], digits: &[u8]) -> Result<bool, AllocError
 
 // No octets, unless memory was wanting.
 fn none_for(fault: FromHexError) -> Result<Option<Bytes>, AllocError>
-    ensures none { IfOk result (λ told. told ≡ None) }
-    ensures memory { IfOk result (λ told. fault ≢ OutOfMemory) }
+    ensures { IfOk result (λ told. (told ≡ None) × (fault ≢ OutOfMemory)) }
 {
     match fault {
         FromHexError::OutOfMemory => Err(AllocError),
@@ -77,8 +82,7 @@ fn none_for(fault: FromHexError) -> Result<Option<Bytes>, AllocError>
 
 // The octets that hexadecimal digits of lower case tell; `None` where a text tells none.
 fn octets_in(alloc: Global, digits: &[u8]) -> Result<Option<Bytes>, AllocError>
-    ensures some { IfOk result (λ told. IfSome told (λ octets. encode_lower octets ≡ digits.now)) }
-    ensures only { IfOk result (λ told. (octets : List ℕ) → AreOctets octets → encode_lower octets ≡ digits.now → told ≡ Some octets) }
+    ensures { IfOk result (ReadsText AreOctets encode_lower digits.now) }
 {
     match hex::decode(alloc, digits) {
         Ok(octets) => {
@@ -93,26 +97,64 @@ fn octets_in(alloc: Global, digits: &[u8]) -> Result<Option<Bytes>, AllocError>
     }
 }
 
-/// The octets of the next line, where it tells that the router sends a frame on the interface.
-pub(crate) fn sent_octets(
+// The octets of the next line, where it tells that the event sends a frame on the interface.
+fn sent_octets(
     alloc: Global,
     trace: &[u8],
-    sender: &Sender,
+    event: &CheckedEvent,
     iface: usize,
     reader: &mut Reader,
 ) -> Result<Option<Bytes>, AllocError>
     requires { IsReaderOf trace.now reader.old }
-    ensures reading { OnOk result (IsReaderOf trace.now reader.new) }
-    ensures at { OnOk result (reader.new.at ≡ reader.old.at) }
-    ensures taken { OnOk result (reader.new.taken ≡ reader.old.taken) }
-    ensures some { IfOk result (λ told. IfSome told (λ octets.
-        IsSentNext trace.now reader.old sender.now.settings.now sender.now.moment (record { iface = iface; bytes = octets }))) }
-    ensures only { IfOk result (λ told. (frame : Frame) → frame.iface ≡ iface → AreOctets frame.bytes
-        → IsSentNext trace.now reader.old sender.now.settings.now sender.now.moment frame → told ≡ Some frame.bytes) }
+    ensures { IfOk result (ReadsNext AreOctets (sent_text event.now.settings.now event.now.moment iface) trace.now reader.old reader.new) }
 {
-    look_for_front(sender, iface, reader)?;
+    look_for_sent(event, iface, reader)?;
     match reader.rest(trace) {
         Some(digits) => octets_in(alloc, digits),
         None => Ok(None),
     }
+}
+
+// Whether octets spell a message of the event's router.
+fn spells(
+    alloc: Global,
+    event: &CheckedEvent,
+    message: &DueMessage,
+    octets: &[u8],
+) -> Result<bool, AllocError>
+    ensures { IfOk result (λ yes. IsTrue yes ↔ WritesSent event.now.settings.now message.now octets.now) }
+{
+    match *message {
+        DueMessage::Hello { hello } => spells_hello(alloc, hello, octets),
+        DueMessage::Tc { tc, validity } => spells_tc(
+            alloc,
+            tc,
+            event.settings.times.tc_hop_limit,
+            validity,
+            octets,
+        ),
+    }
+}
+
+/// Takes the next line, where it tells that the event sends a frame on the interface that spells the message, and gives its octets.
+pub(crate) fn take_message(
+    alloc: Global,
+    trace: &[u8],
+    event: &CheckedEvent,
+    iface: usize,
+    message: &DueMessage,
+    reader: &mut Reader,
+) -> Result<Option<Bytes>, AllocError>
+    requires { IsReaderOf trace.now reader.old }
+    ensures { IfOk result (TakesNext (WritesSent event.now.settings.now message.now) (sent_text event.now.settings.now event.now.moment iface)
+        trace.now reader.old reader.new) }
+{
+    let Some(octets) = sent_octets(alloc, trace, event, iface, reader)? else {
+        return Ok(None);
+    };
+    if !spells(alloc, event, message, octets.as_slice())? {
+        return Ok(None);
+    }
+    reader.take(trace);
+    Ok(Some(octets))
 }

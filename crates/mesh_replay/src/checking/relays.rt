@@ -1,25 +1,21 @@
 //! The relay lines of an event.
-ghost use Rattle.std.specs.Prelude.{◌≡◌, ◌++◌, ◌↔◌, ℕ, List, Some, length, slice_get, IfOk, OnOk, IfSome, IsNone, IsTrue, IsFalse};
-ghost use Rattle.mesh_atoms.specs.RelayGraphs.{AreRelays};
-ghost use Rattle.mesh_atoms.specs.State.{State};
+ghost use Rattle.std.specs.Prelude.{◌≡◌, ◌↔◌, IfOk, IsTrue, option_copied};
 ghost use Rattle.mesh_atoms.specs.Words.{IsAscending};
-ghost use Rattle.mesh_trace.specs.machine.Laws.{SoundBases};
-ghost use Rattle.mesh_trace.specs.machine.Net.{NetState};
-ghost use Rattle.mesh_replay.specs.Checking.Going.{at, FitsOrStops};
-ghost use Rattle.mesh_replay.specs.Checking.Kept.{IsSoundRouter, with_relays};
-ghost use Rattle.mesh_replay.specs.Checking.RelayLines.{MayTell, front_text, told_text, IsStill, TakesTold, TellsNone, AreRelaysTold, HasTold, StopsTelling};
 ghost use Rattle.mesh_trace.specs.Positions.Alike.{HasAddresses};
-ghost use Rattle.mesh_trace.specs.Positions.Due.{none_told};
-ghost use Rattle.mesh_trace.specs.Positions.Standing.{Item, relay_items, with_state};
 ghost use Rattle.mesh_trace.specs.Reading.Readers.{IsReaderOf};
+ghost use Rattle.mesh_replay.specs.Checking.Cases.{IsProgress};
+ghost use Rattle.mesh_replay.specs.Checking.Kept.{IsSoundRouter};
+ghost use Rattle.mesh_replay.specs.Checking.RelayLines.{AreWide, IsAgain, IsBegun, MayTell, TellsFlooding, TellsRelays, again};
+ghost use Rattle.mesh_replay.specs.Checking.Texts.{ReadsNext, TakesNext, told_text};
 
+use crate::checking::case::{Case, CheckedEvent, Progress};
+use crate::checking::lines::{DueLine, put_front, take_due};
 use crate::checking::router::{Before, CheckedRouter};
 use crate::checking::words::relays_in;
-use mesh_atoms::{Addr4, Bytes, RouterSettings, Seq};
+use mesh_atoms::{Addr4, Relays, RouterSettings, Seq};
 use mesh_expire::Bases;
 use mesh_relay::serves;
 use mesh_routes::graph_of;
-use mesh_texts::{Piece, face_name, put_all};
 use mesh_trace::Reader;
 use std::alloc::{AllocError, Global};
 
@@ -42,7 +38,7 @@ fn may_be<B: Bases>(
     iface: Option<usize>,
     relays: &[Addr4],
 ) -> Result<bool, AllocError>
-    requires { SoundBases router.now.settings router.now.last router.now.bases }
+    requires { IsSoundRouter router.now }
     ensures { IfOk result (λ b. IsTrue b ↔ MayTell router.now iface relays.now) }
 {
     if !is_ascending(relays) {
@@ -52,95 +48,22 @@ fn may_be<B: Bases>(
     serves(alloc, &graph, relays)
 }
 
-// Puts what stands before the relays in a relay line: of an interface, or for routing.
-fn put_front(
-    out: &mut Bytes,
-    settings: &RouterSettings,
-    iface: Option<usize>,
-) -> Result<(), AllocError>
-    ensures { OnOk result (out.new ≡ out.old ++ front_text settings.now iface) }
-{
-    let name = settings.name.as_slice();
-    match iface {
-        Some(iface) => {
-            let face = face_name(settings.interfaces.as_slice(), iface);
-            put_all(
-                out,
-                &[
-                    Piece::Text(b"relays "),
-                    Piece::Text(name),
-                    Piece::Text(b" flooding "),
-                    Piece::Text(face),
-                ],
-            )
-        }
-        None => put_all(
-            out,
-            &[
-                Piece::Text(b"relays "),
-                Piece::Text(name),
-                Piece::Text(b" routing"),
-            ],
-        ),
-    }
-}
-
-// Puts a relay line.
-fn put_told(
-    out: &mut Bytes,
-    settings: &RouterSettings,
-    iface: Option<usize>,
-    relays: &[Addr4],
-) -> Result<(), AllocError>
-    ensures { OnOk result (out.new ≡ out.old ++ told_text settings.now iface relays.now) }
-{
-    put_front(out, settings, iface)?;
-    put_all(out, &[Piece::Relays(relays), Piece::Text(b"\n")])
-}
-
-// Takes the next line if it tells these relays.
-fn tells_again(
-    trace: &[u8],
-    settings: &RouterSettings,
-    iface: Option<usize>,
-    relays: &[Addr4],
-    reader: &mut Reader,
-) -> Result<bool, AllocError>
-    requires { IsReaderOf trace.now reader.old }
-    ensures reading { OnOk result (IsReaderOf trace.now reader.new) }
-    ensures told { IfOk result (λ again. IsTrue again → TakesTold trace.now reader.old reader.new settings.now iface relays.now) }
-    ensures still { IfOk result (λ again. IsFalse again → IsStill reader.old reader.new) }
-{
-    reader.text.clear();
-    put_told(&mut reader.text, settings, iface, relays)?;
-    Ok(reader.expect(trace))
-}
-
-// The relays that the next line tells, where the router may choose them.
-fn told_next<B: Bases>(
+// The relays that the next line tells, for an interface or for routing.
+fn relays_next(
     alloc: Global,
     trace: &[u8],
-    router: &CheckedRouter<B>,
+    settings: &RouterSettings,
     iface: Option<usize>,
-    reader: &Reader,
+    reader: &mut Reader,
 ) -> Result<Option<Seq<Addr4>>, AllocError>
-    requires reading { IsReaderOf trace.now reader.now }
-    requires text { reader.now.text ≡ front_text router.now.settings iface }
-    requires sound { SoundBases router.now.settings router.now.last router.now.bases }
-    requires addresses { HasAddresses router.now }
-    ensures some { IfOk result (λ told. IfSome told (λ relays. MayTell router.now iface relays × AreRelaysTold trace.now reader.now router.now.settings iface relays)) }
-    ensures none { IfOk result (λ told. IsNone told → TellsNone trace.now reader.now router.now iface) }
+    requires { IsReaderOf trace.now reader.old }
+    ensures { IfOk result (ReadsNext AreWide (told_text settings.now iface) trace.now reader.old reader.new) }
 {
-    let Some(rest) = reader.rest(trace) else {
-        return Ok(None);
-    };
-    let Some(relays) = relays_in(alloc, rest)? else {
-        return Ok(None);
-    };
-    if may_be(alloc, router, iface, relays.as_slice())? {
-        Ok(Some(relays))
-    } else {
-        Ok(None)
+    reader.text.clear();
+    put_front(&mut reader.text, settings, iface)?;
+    match reader.rest(trace) {
+        Some(rest) => relays_in(alloc, rest),
+        None => Ok(None),
     }
 }
 
@@ -148,30 +71,29 @@ fn told_next<B: Bases>(
 fn other_relays<B: Bases>(
     alloc: Global,
     trace: &[u8],
+    event: &CheckedEvent,
     router: &CheckedRouter<B>,
     iface: Option<usize>,
     reader: &mut Reader,
 ) -> Result<Option<Seq<Addr4>>, AllocError>
     requires reading { IsReaderOf trace.now reader.old }
-    requires sound { SoundBases router.now.settings router.now.last router.now.bases }
+    requires sound { IsSoundRouter router.now }
     requires addresses { HasAddresses router.now }
-    ensures reading { OnOk result (IsReaderOf trace.now reader.new) }
-    ensures some { IfOk result (λ told. IfSome told (λ relays. MayTell router.now iface relays × TakesTold trace.now reader.old reader.new router.now.settings iface relays)) }
-    ensures still { IfOk result (λ told. IsNone told → IsStill reader.old reader.new) }
-    ensures none { IfOk result (λ told. IsNone told → TellsNone trace.now reader.new router.now iface) }
+    ensures { IfOk result (TakesNext (MayTell router.now iface) (told_text event.now.settings.now iface) trace.now reader.old reader.new) }
 {
-    reader.text.clear();
-    put_front(&mut reader.text, router.settings(), iface)?;
-    let Some(relays) = told_next(alloc, trace, router, iface, reader)? else {
+    let Some(relays) = relays_next(alloc, trace, event.settings, iface, reader)? else {
         return Ok(None);
     };
+    if !may_be(alloc, router, iface, relays.as_slice())? {
+        return Ok(None);
+    }
     reader.take(trace);
     Ok(Some(relays))
 }
 
 // The relays of the event before, for an interface or for routing, where they are for sure good again.
 fn relays_again(before: &Before, iface: Option<usize>) -> Option<&Seq<Addr4>>
-    ensures { (s : State) → (IsTrue before.now.stand → AreRelays (with_relays s before.now.relays) s.last) → IfSome result (λ relays. MayTell s iface relays.now) }
+    ensures { option_copied result ≡ again before.now iface }
 {
     if !before.stand {
         return None;
@@ -183,23 +105,25 @@ fn relays_again(before: &Before, iface: Option<usize>) -> Option<&Seq<Addr4>>
 }
 
 // Takes the next line, where it tells the relays of the event before again, and these are for sure good.
-fn same_relays<B: Bases>(
+fn same_relays(
     trace: &[u8],
-    router: &CheckedRouter<B>,
+    event: &CheckedEvent,
     before: &Before,
     iface: Option<usize>,
     reader: &mut Reader,
 ) -> Result<Option<Seq<Addr4>>, AllocError>
-    requires reading { IsReaderOf trace.now reader.old }
-    requires stand { IsTrue before.now.stand → AreRelays (with_relays router.now before.now.relays) router.now.last }
-    ensures reading { OnOk result (IsReaderOf trace.now reader.new) }
-    ensures some { IfOk result (λ told. IfSome told (λ relays. MayTell router.now iface relays × TakesTold trace.now reader.old reader.new router.now.settings iface relays)) }
-    ensures still { IfOk result (λ told. IsNone told → IsStill reader.old reader.new) }
+    requires { IsReaderOf trace.now reader.old }
+    ensures { IfOk result (TakesNext (IsAgain before.now iface) (told_text event.now.settings.now iface) trace.now reader.old reader.new) }
 {
     let Some(relays) = relays_again(before, iface) else {
         return Ok(None);
     };
-    if tells_again(trace, router.settings(), iface, relays.as_slice(), reader)? {
+    let line = DueLine::Relays {
+        settings: event.settings,
+        iface,
+        relays: relays.as_slice(),
+    };
+    if take_due(trace, &line, reader)? {
         Ok(Some(relays.copy()?))
     } else {
         Ok(None)
@@ -210,78 +134,81 @@ fn same_relays<B: Bases>(
 fn told_relays<B: Bases>(
     alloc: Global,
     trace: &[u8],
+    event: &CheckedEvent,
     router: &CheckedRouter<B>,
     before: &Before,
     iface: Option<usize>,
     reader: &mut Reader,
 ) -> Result<Option<Seq<Addr4>>, AllocError>
     requires reading { IsReaderOf trace.now reader.old }
-    requires sound { SoundBases router.now.settings router.now.last router.now.bases }
-    requires addresses { HasAddresses router.now }
-    requires stand { IsTrue before.now.stand → AreRelays (with_relays router.now before.now.relays) router.now.last }
-    ensures reading { OnOk result (IsReaderOf trace.now reader.new) }
-    ensures some { IfOk result (λ told. IfSome told (λ relays. MayTell router.now iface relays × TakesTold trace.now reader.old reader.new router.now.settings iface relays)) }
-    ensures still { IfOk result (λ told. IsNone told → IsStill reader.old reader.new) }
-    ensures none { IfOk result (λ told. IsNone told → TellsNone trace.now reader.new router.now iface) }
+    requires begun { IsBegun event.now router.now before.now }
+    ensures { IfOk result (TakesNext (MayTell router.now iface) (told_text event.now.settings.now iface) trace.now reader.old reader.new) }
 {
-    if let Some(relays) = same_relays(trace, router, before, iface, reader)? {
+    if let Some(relays) = same_relays(trace, event, before, iface, reader)? {
         return Ok(Some(relays));
     }
-    other_relays(alloc, trace, router, iface, reader)
+    other_relays(alloc, trace, event, router, iface, reader)
 }
 
-// Takes the lines of the flooding relays.
+// Takes the lines of the flooding relays, and gives the relays of each interface; `None` where a line doesn't fit.
 fn tell_flooding<B: Bases>(
     alloc: Global,
-    trace: &[u8],
-    router: &mut CheckedRouter<B>,
+    case: &Case,
+    event: &CheckedEvent,
+    router: &CheckedRouter<B>,
     before: &Before,
-    reader: &mut Reader,
-) -> Result<bool, AllocError>
-    requires reading { IsReaderOf trace.now reader.old }
-    requires sound { IsSoundRouter router.old }
-    requires addresses { HasAddresses router.old }
-    requires none { router.old.relays ≡ none_told }
-    requires stand { IsTrue before.now.stand → AreRelays (with_relays router.old before.now.relays) router.old.last }
-    ensures reading { OnOk result (IsReaderOf trace.now reader.new) }
-    ensures state { OnOk result (router.new ≡ with_relays router.old router.new.relays) }
-    ensures told { IfOk result (λ fits. IsTrue fits → HasTold trace.now router.old reader.old router.new reader.new (length router.old.settings.interfaces)) }
-    ensures stops { IfOk result (λ fits. IsFalse fits → StopsTelling trace.now router.old reader.old reader.new) }
+    progress: &mut Progress,
+) -> Result<Option<Seq<Seq<Addr4>>>, AllocError>
+    requires progress { IsProgress case.now progress.old }
+    requires begun { IsBegun event.now router.now before.now }
+    ensures { IfOk result (TellsFlooding case.now progress.old progress.new event.now router.now) }
 {
-    for iface in 0..router.settings().interfaces.len() {
-        match told_relays(alloc, trace, router, before, Some(iface), reader)? {
-            Some(relays) => router.relays.flooding.push(relays)?,
-            None => return Ok(false),
+    let mut flooding = Seq::new(alloc);
+    for iface in 0..event.settings.interfaces.len() {
+        let iface = Some(iface);
+        match told_relays(
+            alloc,
+            case.trace,
+            event,
+            router,
+            before,
+            iface,
+            &mut progress.reader,
+        )? {
+            Some(relays) => flooding.push(relays)?,
+            None => return Ok(None),
         }
     }
-    Ok(true)
+    Ok(Some(flooding))
 }
 
-/// Takes the relay lines of an event. The router has the relays that were told from then on.
+/// Takes the relay lines of an event, and gives the relays that they tell; `None` where one doesn't fit.
 pub(crate) fn tell_relays<B: Bases>(
     alloc: Global,
-    trace: &[u8],
-    router: &mut CheckedRouter<B>,
+    case: &Case,
+    event: &CheckedEvent,
+    router: &CheckedRouter<B>,
     before: &Before,
-    reader: &mut Reader,
-) -> Result<bool, AllocError>
-    requires reading { IsReaderOf trace.now reader.old }
-    requires sound { IsSoundRouter router.old }
-    requires addresses { HasAddresses router.old }
-    requires none { router.old.relays ≡ none_told }
-    requires stand { IsTrue before.now.stand → AreRelays (with_relays router.old before.now.relays) router.old.last }
-    ensures reading { OnOk result (IsReaderOf trace.now reader.new) }
-    ensures state { OnOk result (router.new ≡ with_relays router.old router.new.relays) }
-    ensures told { IfOk result (λ fits. IsTrue fits → AreRelays router.new router.new.last) }
-    ensures goes { IfOk result (λ fits. (net : NetState) (x : ℕ) (rest : List Item) → slice_get net.routers x ≡ Some router.old
-        → FitsOrStops trace.now reader.old reader.new (at net x (relay_items router.old.settings ++ rest)) (at (with_state net x router.new) x rest) fits) }
+    progress: &mut Progress,
+) -> Result<Option<Relays>, AllocError>
+    requires progress { IsProgress case.now progress.old }
+    requires begun { IsBegun event.now router.now before.now }
+    ensures { IfOk result (TellsRelays case.now progress.old progress.new event.now router.now) }
 {
-    if !tell_flooding(alloc, trace, router, before, reader)? {
-        return Ok(false);
-    }
-    let Some(relays) = told_relays(alloc, trace, router, before, None, reader)? else {
-        return Ok(false);
+    let Some(flooding) = tell_flooding(alloc, case, event, router, before, progress)? else {
+        return Ok(None);
     };
-    router.relays.routing = relays;
-    Ok(true)
+    let routing = told_relays(
+        alloc,
+        case.trace,
+        event,
+        router,
+        before,
+        None,
+        &mut progress.reader,
+    )?;
+    match routing {
+        Some(routing) => Ok(Some(Relays { flooding, routing })),
+        None => Ok(None),
+    }
 }

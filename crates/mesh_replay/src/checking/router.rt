@@ -1,19 +1,16 @@
 //! A router as the checker keeps it: its bases, and what follows from them but for routes.
-ghost use Rattle.std.specs.Prelude.{◌≡◌, ◌≢◌, ◌⊎◌, ◌<◌, ◌≤◌, ◌^◌, ◌++◌, ◌+◌, ◌%◌, ℕ, List, [], map, length, slice_get, Some, IfOk, OnOk, IsTrue};
+ghost use Rattle.std.specs.Prelude.{◌≡◌, ◌≢◌, ◌⊎◌, ◌<◌, ◌^◌, ◌++◌, ◌+◌, ◌%◌, List, [], length, Some, IfOk, OnOk, IsTrue};
 ghost use Rattle.mesh_trace.specs.machine.Machine.{IsOpening, due};
 ghost use Rattle.mesh_trace.specs.machine.declared.frame.Frame.{Frame};
 ghost use Rattle.mesh_packet.specs.Fields.{fields_of_packet};
 ghost use Rattle.mesh_packet.specs.Grammar.{Spells};
-ghost use Rattle.mesh_atoms.specs.RelayGraphs.{AreRelays};
 ghost use Rattle.mesh_atoms.specs.State.{State};
 ghost use Rattle.mesh_core.specs.Held.Quiet.{IsQuiet};
-ghost use Rattle.mesh_topo.specs.declared.advertised.spans.PartSpan.{PartSpan as SpanValue};
 ghost use Rattle.mesh_trace.specs.machine.Laws.{SoundBases};
-ghost use Rattle.mesh_replay.specs.Checking.Events.{AreRelaysWith, AreRowsWith, BeginsEvent, TakesInto};
-ghost use Rattle.mesh_replay.specs.Checking.Kept.{AreFewRows, IsAtRest, IsSoundRouter, hello_items, tc_items, with_relays};
 ghost use Rattle.mesh_trace.specs.machine.Renewal.{IsEmptied, IsNextAnsn};
-ghost use Rattle.mesh_trace.specs.Positions.Due.{HellosDue, TakesPacket, TcsDue, TicksBy, none_told};
-ghost use Rattle.mesh_trace.specs.Positions.Standing.{relay_items};
+ghost use Rattle.mesh_trace.specs.Positions.Due.{HearsBy, HellosDue, TcsDue, TicksBy, none_told};
+ghost use Rattle.mesh_replay.specs.Checking.Events.{AreRowsWith, BeginsEvent, ChangesBases, RenewsRouter, TakesInto};
+ghost use Rattle.mesh_replay.specs.Checking.Kept.{AreFewRows, AreWithinRows, IsAtRest, event_items, hello_items, tc_items};
 
 use mesh_atoms::{Relays, RouterSettings, Seq, TcRow, same_rows};
 use mesh_core::{Arrival, Fate, InformationBases, Outbox, has_to_advertise, next_moment};
@@ -83,14 +80,15 @@ pub(crate) struct Before {
     pub(crate) stand: bool,
 }
 
-/// What a tick is to tell: the relays, whether HELLOs are due, the parts of the rows for which TCs are, and the sequence number of the
-/// first of these.
+/// What is to be told of an event behind its line: relays, of which those of the event before are known; whether HELLOs are due; the parts
+/// of the rows for which TCs are, and the sequence number of the first of these; and the frames that are forwarded.
 #[derive(Drop)]
-pub(crate) struct Ticked {
+pub(crate) struct EventLines {
     pub(crate) before: Before,
     pub(crate) hellos: bool,
     pub(crate) parts: Seq<PartSpan>,
     pub(crate) sequence: u16,
+    pub(crate) out: Outbox,
 }
 
 // The relays of an event of which none were told yet.
@@ -221,12 +219,10 @@ impl<B: Bases> CheckedRouter<B> {
         Ok(())
     }
 
-    // Begins what an event at `now` ends with: the rows, and the relays of the event before. Where it was quiet, rows and relays stay.
+    // Begins what an event at `now` ends with, whose bases are changed: the rows, and the relays of the event before. Where it was quiet, rows
+    // and relays stay.
     fn begin(&mut self, alloc: Global, now: u64, quiet: bool) -> Result<Before, AllocError>
-        requires rows { IsTrue quiet → AreRowsWith self.old.settings self.old.bases self.old.rows }
-        requires relays { IsTrue quiet → AreRelaysWith self.old.settings self.old.bases now self.old.relays }
-        ensures { IfOk result (λ b. BeginsEvent self.old now self.new
-            × (IsTrue b.stand → AreRelaysWith self.old.settings self.old.bases now b.relays)) }
+        ensures { IfOk result (λ before. (old : State) → ChangesBases old self.old now quiet → RenewsRouter old now self.old self.new before) }
     {
         self.last = now;
         let relays = std::mem::replace(&mut self.relays, nothing_told(alloc));
@@ -264,8 +260,7 @@ impl<B: Bases> CheckedRouter<B> {
         requires few { AreFewRows self.old.rows }
         ensures due { IfOk result (λ parts. (old : State) → old.next_tc ≡ self.old.next_tc → old.sequence ≡ self.old.sequence
             → TcsDue old self.new (tc_items self.new self.old.sequence parts)) }
-        ensures within { IfOk result (λ parts. (i : ℕ) (span : SpanValue) → slice_get parts i ≡ Some span
-            → span.first + span.len ≤ length self.new.rows) }
+        ensures within { IfOk result (λ parts. AreWithinRows parts self.new.rows) }
         ensures others { self.new ≡ record self.old { next_tc = self.new.next_tc; sequence = self.new.sequence } }
     {
         if self.last < self.next_tc {
@@ -287,48 +282,42 @@ impl<B: Bases> CheckedRouter<B> {
     }
 
     /// The clock ticks: what is expired goes, and what follows but relays is renewed.
-    pub(crate) fn tick(&mut self, alloc: Global, now: u64) -> Result<Ticked, AllocError>
+    pub(crate) fn tick(&mut self, alloc: Global, now: u64) -> Result<EventLines, AllocError>
         requires now { now < 2 ^ 62 }
         requires kept { IsAtRest self.old }
-        ensures ticks { IfOk result (λ t. TicksBy self.old now self.new
-            (relay_items self.new.settings ++ (hello_items self.new t.hellos ++ tc_items self.new t.sequence t.parts))) }
-        ensures within { IfOk result (λ t. (i : ℕ) (span : SpanValue) → slice_get t.parts i ≡ Some span → span.first + span.len ≤ length self.new.rows) }
-        ensures relays { OnOk result (self.new.relays ≡ none_told) }
-        ensures sound { OnOk result (IsSoundRouter self.new) }
-        ensures stand { IfOk result (λ t. IsTrue t.before.stand → AreRelays (with_relays self.new t.before.relays) self.new.last) }
+        ensures ticks { IfOk result (λ lines. TicksBy self.old now self.new (event_items self.new lines)) }
+        ensures begins { IfOk result (BeginsEvent self.old now self.new) }
     {
         let quiet = self.holding.expire(self.last, now)?;
         let sequence = self.sequence;
         let before = self.begin(alloc, now, quiet)?;
         let hellos = self.take_hellos();
         let parts = self.take_parts(alloc)?;
-        Ok(Ticked {
+        Ok(EventLines {
             before,
             hellos,
             parts,
             sequence,
+            out: Outbox::new(alloc),
         })
     }
 
-    /// A frame is heard that was read: what is expired goes, its messages are taken, and what follows but relays is renewed. What it
-    /// forwards is put at the end of `out`.
+    /// A frame is heard that was read: what is expired goes, its messages are taken, and what follows but relays is renewed.
     pub(crate) fn hear(
         &mut self,
         alloc: Global,
         arrival: Arrival,
         bytes: &[u8],
         decoded: &Decoded,
-        out: &mut Outbox,
-    ) -> Result<Before, AllocError>
+    ) -> Result<EventLines, AllocError>
         requires now { arrival.now < 2 ^ 62 }
         requires iface { arrival.iface < length self.old.settings.interfaces }
         requires kept { IsAtRest self.old }
         requires spelled { Spells (fields_of_packet decoded.now.packet) decoded.now.spans bytes.now }
-        ensures takes { OnOk result ((sent : List Frame) × (out.new ≡ out.old ++ sent) × TakesPacket self.old arrival bytes.now sent self.new) }
-        ensures relays { OnOk result (self.new.relays ≡ none_told) }
-        ensures sound { OnOk result (IsSoundRouter self.new) }
-        ensures stand { IfOk result (λ b. IsTrue b.stand → AreRelays (with_relays self.new b.relays) self.new.last) }
+        ensures hears { IfOk result (λ lines. HearsBy self.old arrival bytes.now self.new (event_items self.new lines)) }
+        ensures begins { IfOk result (BeginsEvent self.old arrival.now self.new) }
     {
+        let mut out = Outbox::new(alloc);
         let quiet = take_packet(
             alloc,
             &mut self.holding,
@@ -336,8 +325,15 @@ impl<B: Bases> CheckedRouter<B> {
             arrival,
             bytes,
             decoded,
-            out,
+            &mut out,
         )?;
-        self.begin(alloc, arrival.now, quiet)
+        let before = self.begin(alloc, arrival.now, quiet)?;
+        Ok(EventLines {
+            before,
+            hellos: false,
+            parts: Seq::new(alloc),
+            sequence: self.sequence,
+            out,
+        })
     }
 }

@@ -34,7 +34,7 @@ pub(crate) fn next_event<B: Bases>(
     let Some(landed) = progress.traffic.take(limit) else {
         return tick_next(alloc, case, scene, progress);
     };
-    let fits = hear(alloc, case, &mut scene.routers, landed, progress)?;
+    let fits = hear(alloc, case, &mut scene.routers, &landed, progress)?;
     Ok(settle(scene, fits))
 }
 

@@ -1,7 +1,9 @@
 //! The relays that the end of a relay line tells.
-ghost use Rattle.std.specs.Prelude.{◌≡◌, ◌∷◌, ◌++◌, ◌<◌, ◌≤◌, ◌^◌, ◌↔◌, All, List, length, Some, IfOk, IfSome, IsNone, IsTrue};
+ghost use Rattle.std.specs.Prelude.{◌≡◌, ◌∷◌, ◌++◌, ◌<◌, ◌≤◌, ◌^◌, ◌↔◌, List, length, Some, IfOk, IfSome, IsNone, IsTrue};
 ghost use Rattle.mesh_atoms.specs.declared.addr.Addr4.{Addr4 as Address};
 ghost use Rattle.mesh_texts.specs.Lines.Marks.{dotted, spaced, relays_text};
+ghost use Rattle.mesh_replay.specs.Checking.RelayLines.{AreWide};
+ghost use Rattle.mesh_replay.specs.Checking.Texts.{ReadsText};
 
 use memchr::memchr;
 use mesh_atoms::{Addr4, Bytes, Seq, address_of};
@@ -46,7 +48,7 @@ fn first_address(text: &[u8]) -> Option<(Addr4, &[u8])>
 
 // The addresses of a text, each behind a blank. Of a text that they don't spell, it may be any.
 fn addresses_in(alloc: Global, text: &[u8]) -> Result<Option<Seq<Addr4>>, AllocError>
-    ensures { IfOk result (λ read. (addrs : List Address) → All (λ a. a.0 < 2 ^ 32) addrs → text.now ≡ spaced addrs → read ≡ Some addrs) }
+    ensures { IfOk result (λ read. (addrs : List Address) → AreWide addrs → text.now ≡ spaced addrs → read ≡ Some addrs) }
 {
     let mut addrs = Seq::new(alloc);
     let mut left = text;
@@ -71,8 +73,7 @@ fn tells(alloc: Global, text: &[u8], relays: &[Addr4]) -> Result<bool, AllocErro
 
 /// The relays that the end of a relay line tells: ` none`, or addresses, each behind a blank; `None` where it tells none.
 pub(crate) fn relays_in(alloc: Global, text: &[u8]) -> Result<Option<Seq<Addr4>>, AllocError>
-    ensures some { IfOk result (λ told. IfSome told (λ relays. relays_text relays ≡ text.now)) }
-    ensures none { IfOk result (λ told. IsNone told → (relays : List Address) → All (λ a. a.0 < 2 ^ 32) relays → relays_text relays ≡ text.now → ⊥) }
+    ensures { IfOk result (ReadsText AreWide relays_text text.now) }
 {
     if text == b" none".as_slice() {
         return Ok(Some(Seq::new(alloc)));

@@ -1,67 +1,45 @@
-use Rattle.std.proofs.Common.{rules, ◌≡◌, ◌∙◌, ◌<◌, refl, length, true, arith}
-use Rattle.std.specs.Prelude.{slice_set}
-use Rattle.mesh_replay.specs.Traffic.Air.{delivery_of}
-use Rattle.mesh_replay.proofs.FramesLemmas.Sendings.{if_ok_by}
-use Rattle.mesh_replay.proofs.HeardLemmas.Arcs.{arc_ends}
-use Rattle.mesh_replay.proofs.HeardLemmas.Hearing.{arc_at, landing_face, landing_of, landing_within, landing_addresses, landed_not, landed_on, landed_kept}
+use Rattle.std.proofs.Common.{arith, ◌≡◌, ◌<◌, List, Some, length, refl, true, rules}
+use Rattle.std.specs.Prelude.{slice_get}
+use Rattle.mesh_atoms.specs.State.{State}
+use Rattle.mesh_atoms.proofs.Lists.{item_at}
+use Rattle.mesh_atoms.proofs.Options.{if_ok_weaker}
+use Rattle.mesh_replay.proofs.CheckingLemmas.Opened.{routers_kept, settings_same}
+use Rattle.mesh_replay.proofs.HeardLemmas.Arcs.{read_at}
+use Rattle.mesh_replay.proofs.HeardLemmas.Hearing.{comes_by, event_is, landed_begins, landed_not, landed_on, landing_within}
 use Rattle.mesh_replay.proofs.checking.heard.hear.Goals as goal
-
-pub sender_of-sender-requires : goal.sender_of-sender-requires
-sender_of-sender-requires g c =
-    let arc_is = arc_at c.args.case.now.scenario.now c.as_slice.result.now c.args.landed.arc c.index-as_slice-landed.result c.as_slice.ensures c.requires.arc c.index-as_slice-landed.is in
-    (arc_ends c.args.case.now.scenario.now c.args.landed.arc c.index-as_slice-landed.result arc_is).0
-
-pub index_mut-router-requires : goal.index_mut-router-requires
-index_mut-router-requires g c =
-    let arc_is = arc_at c.args.case.now.scenario.now c.as_slice.result.now c.args.landed.arc c.index-as_slice-landed.result c.as_slice.ensures c.requires.arc c.index-as_slice-landed.is in
-    let below : c.index-as_slice-landed.result.to < length c.args.routers.now.items = landing_within c.args.case.now.scenario.now c.args.routers.now.items c.args.landed.arc c.index-as_slice-landed.result c.requires.kept arc_is in
-    omega (arith, below)
 
 pub returns-then-not-branch-clause-goes : goal.returns-then-not-branch-clause-goes
 returns-then-not-branch-clause-goes g c =
-    let arc_is = arc_at c.args.case.now.scenario.now c.as_slice.result.now c.args.landed.arc c.index-as_slice-landed.result c.as_slice.ensures c.requires.arc c.index-as_slice-landed.is in
-    let landing = landing_of c.args.case.now.scenario.now c.args.routers.now.items (delivery_of c.args.landed) c.index-as_slice-landed.result c.sender_of-sender.result c.index_mut-router.result.now c.requires.kept arc_is c.sender_of-sender.ensures c.index_mut-router.ensures.value in
-    landed_not c.args.case.now c.args.routers.now.items (delivery_of c.args.landed) c.index-as_slice-landed.result c.sender_of-sender.result c.index_mut-router.result.now landing c.args.progress.now (record { reader = c.tell_heard.new.reader; traffic = c.args.progress.now.traffic }) c.settings.result.now c.as_slice-2.result.now
-    c.settings.ensures (c.as_slice-2.ensures ∙ c.as_ref.ensures) refl c.in_ok-tell_heard.field-0 c.in_ok-tell_heard.ensures.takes (slice_set c.args.routers.now.items c.index-as_slice-landed.result.to c.index_mut-router.result.now) c.if-not-branch.true
+    let routers : List State = c.args.routers.now.items in
+    let (was, stands) = item_at routers c.coming_of-coming.result.event.router (landing_within routers c.requires.kept c.coming_of-coming.ensures) in
+    landed_not c.args.case.now c.args.progress.now c.requires.kept c.coming_of-coming.ensures stands c.in_ok-take_due.ensures routers c.if-not-branch.true
 
-pub hear_frame-requires-clause-stands : goal.hear_frame-requires-clause-stands
-hear_frame-requires-clause-stands g c =
-    let arc_is = arc_at c.args.case.now.scenario.now c.as_slice.result.now c.args.landed.arc c.index-as_slice-landed.result c.as_slice.ensures c.requires.arc c.index-as_slice-landed.is in
-    let landing = landing_of c.args.case.now.scenario.now c.args.routers.now.items (delivery_of c.args.landed) c.index-as_slice-landed.result c.sender_of-sender.result c.index_mut-router.result.now c.requires.kept arc_is c.sender_of-sender.ensures c.index_mut-router.ensures.value in
-    c.requires.kept.settings c.index-as_slice-landed.result.to c.index_mut-router.result.now landing.stands
+pub index_mut-router-requires : goal.index_mut-router-requires
+index_mut-router-requires g c =
+    let below : c.coming_of-coming.result.event.router < length c.args.routers.now.items = landing_within c.args.routers.now.items c.requires.kept c.coming_of-coming.ensures in
+    omega (arith, below)
 
-pub hear_frame-requires-clause-iface : goal.hear_frame-requires-clause-iface
-hear_frame-requires-clause-iface g c =
-    let arc_is = arc_at c.args.case.now.scenario.now c.as_slice.result.now c.args.landed.arc c.index-as_slice-landed.result c.as_slice.ensures c.requires.arc c.index-as_slice-landed.is in
-    let landing = landing_of c.args.case.now.scenario.now c.args.routers.now.items (delivery_of c.args.landed) c.index-as_slice-landed.result c.sender_of-sender.result c.index_mut-router.result.now c.requires.kept arc_is c.sender_of-sender.ensures c.index_mut-router.ensures.value in
-    landing_face c.args.case.now.scenario.now c.args.routers.now.items c.args.landed.arc c.index-as_slice-landed.result c.index_mut-router.result.now c.requires.kept arc_is landing.stands
+pub hear_frame-requires-clause-event : goal.hear_frame-requires-clause-event
+hear_frame-requires-clause-event g c = event_is c.requires.case c.coming_of-coming.ensures c.requires.early
 
-pub hear_frame-requires-clause-kept : goal.hear_frame-requires-clause-kept
-hear_frame-requires-clause-kept g c =
-    let arc_is = arc_at c.args.case.now.scenario.now c.as_slice.result.now c.args.landed.arc c.index-as_slice-landed.result c.as_slice.ensures c.requires.arc c.index-as_slice-landed.is in
-    let landing = landing_of c.args.case.now.scenario.now c.args.routers.now.items (delivery_of c.args.landed) c.index-as_slice-landed.result c.sender_of-sender.result c.index_mut-router.result.now c.requires.kept arc_is c.sender_of-sender.ensures c.index_mut-router.ensures.value in
-    c.requires.kept.kept c.index-as_slice-landed.result.to c.index_mut-router.result.now landing.stands
+pub hear_frame-requires-clause-comes : goal.hear_frame-requires-clause-comes
+hear_frame-requires-clause-comes g c = comes_by c.coming_of-coming.ensures
 
-pub hear_frame-requires-clause-addresses : goal.hear_frame-requires-clause-addresses
-hear_frame-requires-clause-addresses g c =
-    let good : c.in_ok-tell_heard.field-0 ≡ true = search rules in
-    let arc_is = arc_at c.args.case.now.scenario.now c.as_slice.result.now c.args.landed.arc c.index-as_slice-landed.result c.as_slice.ensures c.requires.arc c.index-as_slice-landed.is in
-    let landing = landing_of c.args.case.now.scenario.now c.args.routers.now.items (delivery_of c.args.landed) c.index-as_slice-landed.result c.sender_of-sender.result c.index_mut-router.result.now c.requires.kept arc_is c.sender_of-sender.ensures c.index_mut-router.ensures.value in
+pub hear_frame-requires-clause-begins : goal.hear_frame-requires-clause-begins
+hear_frame-requires-clause-begins g c =
+    let good : c.in_ok-take_due.field-0 ≡ true = search rules in
     let (net, reached, next) = c.requires.reached in
-    landing_addresses c.args.case.now c.args.routers.now.items (delivery_of c.args.landed) c.index-as_slice-landed.result c.sender_of-sender.result c.index_mut-router.result.now landing c.args.progress.now (record { reader = c.tell_heard.new.reader; traffic = c.args.progress.now.traffic }) c.settings.result.now c.as_slice-2.result.now
-    c.settings.ensures (c.as_slice-2.ensures ∙ c.as_ref.ensures) refl c.in_ok-tell_heard.field-0 c.in_ok-tell_heard.ensures.takes net reached next good
+    let stands = read_at refl (landing_within c.args.routers.now.items c.requires.kept c.coming_of-coming.ensures) c.index_mut-router.ensures.value in
+    landed_begins c.args.case.now c.args.progress.now c.requires.kept c.coming_of-coming.ensures stands c.in_ok-take_due.ensures good net reached next
 
 pub returns-clause-kept : goal.returns-clause-kept
 returns-clause-kept g c =
-    let arc_is = arc_at c.args.case.now.scenario.now c.as_slice.result.now c.args.landed.arc c.index-as_slice-landed.result c.as_slice.ensures c.requires.arc c.index-as_slice-landed.is in
-    let landing = landing_of c.args.case.now.scenario.now c.args.routers.now.items (delivery_of c.args.landed) c.index-as_slice-landed.result c.sender_of-sender.result c.index_mut-router.result.now c.requires.kept arc_is c.sender_of-sender.ensures c.index_mut-router.ensures.value in
-    landed_kept c.hear_frame.result c.args.case.now.scenario.now c.args.routers.now.items c.index-as_slice-landed.result.to c.index_mut-router.result.now c.hear_frame.new.router c.requires.kept landing.stands c.hear_frame.ensures.settings c.hear_frame.ensures.kept
+    let stands = read_at refl (landing_within c.args.routers.now.items c.requires.kept c.coming_of-coming.ensures) c.index_mut-router.ensures.value in
+    if_ok_weaker c.hear_frame.result (λ fits ends. routers_kept c.args.routers.now.items c.index_mut-router.result.now c.requires.kept stands
+    (settings_same c.coming_of-coming.result.event.router c.requires.kept c.coming_of-coming.ensures.stands stands) ends) c.hear_frame.ensures
 
 pub returns-clause-goes : goal.returns-clause-goes
 returns-clause-goes g c =
-    let good : c.in_ok-tell_heard.field-0 ≡ true = search rules in
-    let arc_is = arc_at c.args.case.now.scenario.now c.as_slice.result.now c.args.landed.arc c.index-as_slice-landed.result c.as_slice.ensures c.requires.arc c.index-as_slice-landed.is in
-    let landing = landing_of c.args.case.now.scenario.now c.args.routers.now.items (delivery_of c.args.landed) c.index-as_slice-landed.result c.sender_of-sender.result c.index_mut-router.result.now c.requires.kept arc_is c.sender_of-sender.ensures c.index_mut-router.ensures.value in
-    if_ok_by c.hear_frame.result c.hear_frame.ensures.tells
-    (λ fits told. landed_on c.args.case.now c.args.routers.now.items (delivery_of c.args.landed) c.index-as_slice-landed.result c.sender_of-sender.result c.index_mut-router.result.now landing c.args.progress.now (record { reader = c.tell_heard.new.reader; traffic = c.args.progress.now.traffic }) c.settings.result.now c.as_slice-2.result.now
-    c.settings.ensures (c.as_slice-2.ensures ∙ c.as_ref.ensures) refl c.in_ok-tell_heard.field-0 c.in_ok-tell_heard.ensures.takes c.hear_frame.new.progress c.hear_frame.new.router fits good told)
+    let good : c.in_ok-take_due.field-0 ≡ true = search rules in
+    let stands = read_at refl (landing_within c.args.routers.now.items c.requires.kept c.coming_of-coming.ensures) c.index_mut-router.ensures.value in
+    if_ok_weaker c.hear_frame.result (λ fits ends. landed_on c.args.case.now c.args.progress.now c.requires.kept c.coming_of-coming.ensures stands c.in_ok-take_due.ensures good ends) c.hear_frame.ensures

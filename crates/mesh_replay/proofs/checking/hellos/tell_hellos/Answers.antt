@@ -1,29 +1,40 @@
-use Rattle.std.proofs.Common.{◌≡◌, ◌<◌, ◌≤◌, length, rules, true, false, arith}
-use Rattle.mesh_replay.proofs.FramesLemmas.HelloItems.{hellos_next, hellos_not, hellos_done}
+use Rattle.std.proofs.Common.{◌≡◌, ◌<◌, ◌≤◌, List, [], length, rules, refl, ap, subst, sym, Bool, true, false, arith}
+use Rattle.mesh_atoms.specs.declared.settings.RouterSettings.{RouterSettings}
+use Rattle.mesh_atoms.specs.State.{State}
+use Rattle.mesh_trace.specs.Positions.Standing.{Item}
+use Rattle.mesh_replay.specs.Checking.Cases.{TellsItems}
+use Rattle.mesh_replay.specs.Checking.Kept.{hello_items}
+use Rattle.mesh_replay.proofs.CheckingLemmas.Telling.{tells_more, tells_nowhere, tells_stop, tells_to}
+use Rattle.mesh_replay.proofs.FramesLemmas.HelloItems.{hellos_done, hellos_more}
 use Rattle.mesh_replay.proofs.checking.hellos.tell_hellos.Goals as goal
 
-pub returns-then-not-branch-clause-tells : goal.returns-then-not-branch-clause-tells
-returns-then-not-branch-clause-tells g c =
-    let bad : c.in_ok-tell_hello.field-0 ≡ false = search rules in
-    let end : c.len-iface-end.result ≡ length c.args.router.now.settings.interfaces = search rules in
-    let here = c.loop-iface-test.true in
-    let lt : c.loop-iface.iface < length c.args.router.now.settings.interfaces = omega (arith, here, end) in
-    hellos_not c.args.case.now c.args.x c.args.router.now c.loop-iface.iface lt c.args.progress.now c.loop-iface.progress c.tell_hello.new.progress c.in_ok-tell_hello.field-0 c.in_ok-tell_hello.ensures.tells bad c.loop-iface.invariant.1
+pub returns-then-not-due : goal.returns-then-not-due
+returns-then-not-due g c =
+    let off : c.args.due ≡ false = search rules in
+    subst (λ (b : Bool). TellsItems c.args.case.now c.args.progress.now c.args.progress.now c.args.event.now (λ s. s ≡ c.args.router.now) (λ s. hello_items c.args.router.now b) (λ s. []) true) (sym off)
+    (tells_nowhere c.requires.progress)
+
+pub loop-iface-init : goal.loop-iface-init
+loop-iface-init g c = tells_nowhere c.requires.progress
 
 pub loop-iface-preserved : goal.loop-iface-preserved
 loop-iface-preserved g c =
-    let good : c.in_ok-tell_hello.field-0 ≡ true = search rules in
-    let end : c.len-iface-end.result ≡ length c.args.router.now.settings.interfaces = search rules in
-    let here = c.loop-iface-test.true in
-    let lt : c.loop-iface.iface < length c.args.router.now.settings.interfaces = omega (arith, here, end) in (
-      c.in_ok-tell_hello.ensures.progress,
-      hellos_next c.args.case.now c.args.x c.args.router.now c.loop-iface.iface lt c.args.progress.now c.loop-iface.progress c.tell_hello.new.progress c.in_ok-tell_hello.field-0 c.in_ok-tell_hello.ensures.tells good
-          c.loop-iface.invariant.1,
-    )
+    let good : c.in_ok-tell_hello_of.field-0 ≡ true = search rules in
+    let lt : c.loop-iface.iface < length c.args.router.now.settings.interfaces =
+    (let a = c.loop-iface-test.true in let b = c.len-iface-end.ensures in let d = ap (λ (r : RouterSettings). length r.interfaces) c.requires.router.settings in omega (arith, a, b, d)) in
+    tells_more c.loop-iface.invariant (λ s. hellos_more c.args.router.now.settings.interfaces c.loop-iface.iface lt) c.in_ok-tell_hello_of.ensures good
 
-pub returns-clause-tells : goal.returns-clause-tells
-returns-clause-tells g c =
-    let end : c.len-iface-end.result ≡ length c.args.router.now.settings.interfaces = search rules in
-    let there = c.loop-iface-test.false in
-    let past : length c.args.router.now.settings.interfaces ≤ c.loop-iface.iface = omega (arith, there, end) in
-    hellos_done c.args.case.now c.args.x c.args.router.now c.loop-iface.iface c.args.progress.now c.loop-iface.progress past c.loop-iface.invariant.1
+pub returns-then-not-branch : goal.returns-then-not-branch
+returns-then-not-branch g c =
+    let bad : c.in_ok-tell_hello_of.field-0 ≡ false = search rules in
+    let lt : c.loop-iface.iface < length c.args.router.now.settings.interfaces =
+    (let a = c.loop-iface-test.true in let b = c.len-iface-end.ensures in let d = ap (λ (r : RouterSettings). length r.interfaces) c.requires.router.settings in omega (arith, a, b, d)) in
+    subst (λ (b : Bool). TellsItems c.args.case.now c.args.progress.now c.tell_hello_of.new.progress c.args.event.now (λ s. s ≡ c.args.router.now) (λ s. hello_items c.args.router.now b) (λ s. []) false) (sym c.if-not-due.false)
+    (tells_stop c.loop-iface.invariant (λ s. hellos_more c.args.router.now.settings.interfaces c.loop-iface.iface lt) c.in_ok-tell_hello_of.ensures bad)
+
+pub returns : goal.returns
+returns g c =
+    let past : length c.args.router.now.settings.interfaces ≤ c.loop-iface.iface =
+    (let a = c.loop-iface-test.false in let b = c.len-iface-end.ensures in let d = ap (λ (r : RouterSettings). length r.interfaces) c.requires.router.settings in omega (arith, a, b, d)) in
+    subst (λ (b : Bool). TellsItems c.args.case.now c.args.progress.now c.loop-iface.progress c.args.event.now (λ s. s ≡ c.args.router.now) (λ s. hello_items c.args.router.now b) (λ s. []) true) (sym c.if-not-due.false)
+    (tells_to c.loop-iface.invariant (λ s. hellos_done c.args.router.now.settings.interfaces c.loop-iface.iface past))

@@ -1,8 +1,10 @@
+use Rattle.std.proofs.Common.{◌≡◌, map, drop, true}
 use Rattle.std.specs.List.{enumerate_from}
-use Rattle.mesh_replay.specs.Checking.Cases.{IsProgress}
-use Rattle.mesh_replay.proofs.FramesLemmas.HelloItems.{TellsHellos}
-use Rattle.mesh_replay.proofs.FramesLemmas.Onward.{Onward}
+use Rattle.mesh_trace.specs.Positions.Standing.{Hello}
+use Rattle.mesh_replay.specs.Checking.Cases.{TellsItems}
+use Rattle.mesh_replay.specs.Checking.Kept.{hello_items}
 use Rattle.mesh_replay.proofs.checking.hellos.tell_hellos.Given as goal
 
 abbrev pub invariant-loop-iface : goal.invariant-loop-iface
-invariant-loop-iface g l = IsProgress l.case l.progress × Onward (TellsHellos l.case l.x l.router) (enumerate_from 0 l.router.settings.interfaces) l.iface l.fn.progress l.progress
+invariant-loop-iface g l = TellsItems l.case l.fn.progress l.progress l.event (λ s. s ≡ l.router) (λ s. hello_items l.router true)
+    (λ s. map (λ f. Hello f.0) (enumerate_from l.iface (drop l.iface l.router.settings.interfaces))) true

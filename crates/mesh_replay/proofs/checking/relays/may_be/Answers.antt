@@ -11,7 +11,7 @@ returns g c =
     let near = c.nhdp.result.now.near in
     let near_is : s.bases.neighbourhood ≡ near = sym (c.nhdp.ensures.near ∙ ap (λ (t : State). t.bases.neighbourhood) c.router.view_is) in
     let sound = subst (λ (r : RouterSettings). SoundNeighbourhood r s.last near) (sym c.settings.ensures)
-    (subst (λ (n : Neighbourhood). SoundNeighbourhood s.settings s.last n) near_is c.requires.neighbourhood) in
+    (subst (λ (n : Neighbourhood). SoundNeighbourhood s.settings s.last n) near_is c.requires.bases.neighbourhood) in
     let is = graph_for s c.args.iface c.in_ok-graph.graph (λ none. c.in_ok-graph.ensures.routing none s near_is)
     (λ i some. c.in_ok-graph.ensures.flooding i some s s.last near_is sound) in
     judged s c.args.iface c.in_ok-graph.graph c.args.relays.now c.serves.result is (c.is_ascending.ensures.0 c.if-not-is_ascending.false) c.serves.ensures

@@ -1,5 +1,22 @@
+use Rattle.std.proofs.Common.{◌≡◌, rules, false, true, subst}
+use Rattle.std.specs.Prelude.{◌↔◌, IsTrue}
+use Rattle.mesh_replay.specs.Checking.RelayLines.{MayTell}
+use Rattle.mesh_replay.proofs.CheckingLemmas.Texts.{takes_none, takes_not, takes_one}
+use Rattle.mesh_replay.proofs.RelaysLemmas.Chosen.{all_wide, are_wide}
 use Rattle.mesh_replay.proofs.checking.relays.other_relays.Goals as goal
-use Rattle.mesh_trace.proofs.SpellingLemmas.Pairs.{is_nothing as is_none}
 
-pub returns-in_default-clause-none : goal.returns-in_default-clause-none
-returns-in_default-clause-none g c none = c.in_ok-relays.ensures.none (is_none c.in_ok-relays.field-0 c.in_default.is)
+pub returns-in_default : goal.returns-in_default
+returns-in_default g c =
+    takes_none (λ relays may. all_wide relays (are_wide c.args.router.now c.args.iface relays c.requires.addresses may)) c.in_ok-relays.ensures c.in_default.is
+
+pub returns-then-not-branch : goal.returns-then-not-branch
+returns-then-not-branch g c =
+    let bad : c.in_ok-may_be.field-0 ≡ false = search rules in
+    takes_not (λ relays may. all_wide relays (are_wide c.args.router.now c.args.iface relays c.requires.addresses may)) c.in_ok-relays.ensures c.in-Some.relays c.in-Some.is
+    (subst (λ l. IsTrue c.in_ok-may_be.field-0 ↔ MayTell c.args.router.now c.args.iface l) c.as_slice.ensures c.in_ok-may_be.ensures) bad
+
+pub returns : goal.returns
+returns g c =
+    let good : c.in_ok-may_be.field-0 ≡ true = search rules in
+    takes_one (λ relays may. all_wide relays (are_wide c.args.router.now c.args.iface relays c.requires.addresses may)) c.in_ok-relays.ensures c.in-Some.relays c.in-Some.is
+    (subst (λ l. MayTell c.args.router.now c.args.iface l) c.as_slice.ensures (c.in_ok-may_be.ensures.0 good)) c.take.ensures.took.0 c.take.ensures.took.1 c.take.ensures.reading

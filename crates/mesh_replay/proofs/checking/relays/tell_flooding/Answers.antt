@@ -1,39 +1,30 @@
-use Rattle.std.proofs.Common.{ℕ, ◌<◌, length, List, ap, subst, sym, refl, ◌≡◌, arith, Option, Some}
-use Rattle.std.specs.Prelude.{IfSome}
+use Rattle.std.proofs.Common.{◌≡◌, ◌<◌, ◌≤◌, ℕ, length, List, ap, subst, sym, refl, arith, Option, None, Some}
 use Rattle.mesh_atoms.specs.declared.addr.Addr4.{Addr4}
 use Rattle.mesh_atoms.specs.declared.settings.RouterSettings.{RouterSettings}
-use Rattle.mesh_replay.specs.Checking.RelayLines.{MayTell, TakesTold}
-use Rattle.mesh_replay.proofs.RelaysLemmas.Floods.{told_nothing, told_pushed, stops_flooding, sound_after, addresses_after}
+use Rattle.mesh_replay.specs.Checking.RelayLines.{HasTold, MayTell}
+use Rattle.mesh_replay.specs.Checking.Texts.{TakesNext, told_text}
+use Rattle.mesh_replay.proofs.CheckingLemmas.Telling.{progress_read}
+use Rattle.mesh_replay.proofs.RelaysLemmas.Floods.{stops_flooding, told_more, told_nothing}
 use Rattle.mesh_replay.proofs.checking.relays.tell_flooding.Goals as goal
-use Rattle.mesh_trace.proofs.SpellingLemmas.Pairs.{is_nothing as is_none}
 
 pub loop-iface-init : goal.loop-iface-init
-loop-iface-init g c = record { reading = c.requires.reading; told = told_nothing c.args.trace.now c.args.router.now c.args.reader.now c.requires.none }
+loop-iface-init g c = told_nothing c.requires.begun.none c.requires.progress _ c.new-flooding.ensures
 
-pub told_relays-requires-clause-sound : goal.told_relays-requires-clause-sound
-told_relays-requires-clause-sound g c =
-    sound_after c.args.trace.now c.args.router.now c.args.reader.now c.loop-iface.router c.loop-iface.reader c.loop-iface.iface c.loop-iface.invariant.told c.requires.sound.bases
-
-pub told_relays-requires-clause-addresses : goal.told_relays-requires-clause-addresses
-told_relays-requires-clause-addresses g c =
-    addresses_after c.args.trace.now c.args.router.now c.args.reader.now c.loop-iface.router c.loop-iface.reader c.loop-iface.iface c.loop-iface.invariant.told c.requires.addresses
-
-pub returns-in-None-clause-stops : goal.returns-in-None-clause-stops
-returns-in-None-clause-stops g c stop =
-    let none = is_none c.in_ok-relays.field-0 c.in-None.is in
+pub returns-in-None : goal.returns-in-None
+returns-in-None g c =
     let inside : c.loop-iface.iface < length c.args.router.now.settings.interfaces =
-    (let a = c.loop-iface-test.true in let b = c.len-iface-end.ensures in let d = ap (λ (r : RouterSettings). length r.interfaces) c.settings.ensures in omega (arith, a, b, d)) in
-    stops_flooding c.args.trace.now c.args.router.now c.args.reader.now c.loop-iface.router c.loop-iface.reader c.loop-iface.iface c.loop-iface.invariant.told c.told_relays.new.reader
-    inside (c.in_ok-relays.ensures.still none) (c.in_ok-relays.ensures.none none)
+    (let a = c.loop-iface-test.true in let b = c.len-iface-end.ensures in let d = ap (λ (r : RouterSettings). length r.interfaces) c.requires.begun.is_in.settings in omega (arith, a, b, d)) in
+    stops_flooding c.requires.begun.is_in c.loop-iface.invariant inside c.in_ok-relays.ensures c.in-None.is
 
 pub loop-iface-preserved : goal.loop-iface-preserved
 loop-iface-preserved g c =
     let inside : c.loop-iface.iface < length c.args.router.now.settings.interfaces =
-    (let a = c.loop-iface-test.true in let b = c.len-iface-end.ensures in let d = ap (λ (r : RouterSettings). length r.interfaces) c.settings.ensures in omega (arith, a, b, d)) in
-    let told = subst (λ (o : Option (List Addr4)). IfSome o (λ list. MayTell c.loop-iface.router (Some c.loop-iface.iface) list
-    × TakesTold c.args.trace.now c.loop-iface.reader c.told_relays.new.reader c.loop-iface.router.settings (Some c.loop-iface.iface) list)) c.in-Some.is c.in_ok-relays.ensures.some in
-    record {
-      reading = c.in_ok-relays.ensures.reading;
-      told = told_pushed c.args.trace.now c.args.router.now c.args.reader.now c.loop-iface.router c.loop-iface.reader c.loop-iface.iface c.loop-iface.invariant.told c.told_relays.new.reader c.in-Some.relays c.push.new.self
-          c.router.view_is refl c.in_ok-push-in-Some.ensures.ok inside told.0 told.1;
-    }
+    (let a = c.loop-iface-test.true in let b = c.len-iface-end.ensures in let d = ap (λ (r : RouterSettings). length r.interfaces) c.requires.begun.is_in.settings in omega (arith, a, b, d)) in
+    told_more c.requires.begun.is_in c.loop-iface.invariant inside c.in_ok-relays.ensures c.in-Some.is c.in_ok-push-in-Some.ensures.ok
+
+pub returns : goal.returns
+returns g c =
+    let all : c.loop-iface.iface ≡ length c.args.router.now.settings.interfaces =
+    (let a = c.loop-iface-test.false in let b = c.len-iface-end.ensures in let d = ap (λ (r : RouterSettings). length r.interfaces) c.requires.begun.is_in.settings in
+    let e = c.loop-iface.auto.iface-end in omega (arith, a, b, d, e)) in
+    subst (λ (n : ℕ). HasTold c.args.case.now c.args.progress.now c.loop-iface.progress c.args.event.now.router c.args.router.now n c.loop-iface.flooding) all c.loop-iface.invariant

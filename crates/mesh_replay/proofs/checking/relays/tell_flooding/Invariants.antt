@@ -1,9 +1,5 @@
 use Rattle.mesh_replay.specs.Checking.RelayLines.{HasTold}
-use Rattle.mesh_trace.specs.Reading.Readers.{IsReaderOf}
 use Rattle.mesh_replay.proofs.checking.relays.tell_flooding.Given as goal
 
 abbrev pub invariant-loop-iface : goal.invariant-loop-iface
-invariant-loop-iface g l = record {
-  reading : IsReaderOf l.trace l.reader;
-  told : HasTold l.trace l.fn.router l.fn.reader l.router l.reader l.iface;
-}
+invariant-loop-iface g l = HasTold l.case l.fn.progress l.progress l.event.router l.router l.iface l.flooding

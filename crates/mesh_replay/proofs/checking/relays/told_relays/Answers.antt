@@ -1,8 +1,14 @@
-use Rattle.mesh_replay.proofs.RelaysLemmas.Telling.{takes_later}
+use Rattle.mesh_atoms.proofs.Options.{if_ok_weaker}
+use Rattle.mesh_trace.proofs.SpellingLemmas.Pairs.{is_nothing}
+use Rattle.mesh_replay.specs.Checking.RelayLines.{MayTell}
+use Rattle.mesh_replay.proofs.CheckingLemmas.Texts.{takes_later, takes_so}
+use Rattle.mesh_replay.proofs.RelaysLemmas.Chosen.{again_may}
 use Rattle.mesh_replay.proofs.checking.relays.told_relays.Goals as goal
-use Rattle.mesh_trace.proofs.SpellingLemmas.Pairs.{is_nothing as is_none}
 
-pub returns-clause-some : goal.returns-clause-some
-returns-clause-some g c =
-    takes_later c.args.trace.now c.args.reader.now c.same_relays.new.reader c.other_relays.new.reader c.args.router.now c.args.iface c.other_relays.result
-    (c.in_ok-relays.ensures.still (is_none c.in_ok-relays.field-0 c.in_default.is)) c.other_relays.ensures.some
+pub returns-in-Some : goal.returns-in-Some
+returns-in-Some g c =
+    takes_so (MayTell c.args.router.now c.args.iface) c.in-Some.relays c.in_ok-relays.ensures c.in-Some.is
+    (again_may c.args.router.now c.args.before.now c.args.iface c.in-Some.relays c.requires.begun.stand)
+
+pub returns : goal.returns
+returns g c = if_ok_weaker c.other_relays.result (λ told takes. takes_later (c.in_ok-relays.ensures.still (is_nothing c.in_ok-relays.field-0 c.in_default.is)) takes) c.other_relays.ensures

@@ -67,4 +67,4 @@ returns-clause-sound g c =
     let few = c.requires.sound.few in
     let count = c.requires.sound.kept.count in
     sound_after c.args.case.now c.hear.new.progress routers settled c.settle.new.scene.due c.args.scene.now.last_ticks c.settle.new.scene.last_ticks c.in_ok-fits.fits c.settle.result c.settle.ensures.outcome c.settle.ensures.routers c.settle.ensures.last_ticks
-    c.requires.sound.case_is c.in_ok-fits.ensures.progress c.in_ok-fits.ensures.kept c.settle.ensures.first (omega (arith, few, count))
+    c.requires.sound.case_is c.in_ok-fits.ensures.kept.progress_is c.in_ok-fits.ensures.kept.kept c.settle.ensures.first (omega (arith, few, count))

@@ -36,5 +36,5 @@ returns-clause-sound g c =
     let routers : List State = c.tick.new.routers.items in
     let settled : List State = c.settle.new.scene.routers.items in
     sound_after c.args.case.now c.tick.new.progress routers settled c.settle.new.scene.due c.in-Some.next.last_ticks c.settle.new.scene.last_ticks c.in_ok-fits.fits c.settle.result c.settle.ensures.outcome c.settle.ensures.routers c.settle.ensures.last_ticks
-    c.requires.sound.case_is c.in_ok-fits.ensures.progress c.in_ok-fits.ensures.kept c.settle.ensures.first
+    c.requires.sound.case_is c.in_ok-fits.ensures.kept.progress_is c.in_ok-fits.ensures.kept.kept c.settle.ensures.first
     (still_few c.args.case.now old scene.due scene.last_ticks c.args.progress.now c.requires.sound c.in-Some.next c.in-Some.ensures)

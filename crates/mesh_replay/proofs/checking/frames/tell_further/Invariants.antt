@@ -1,0 +1,10 @@
+use Rattle.std.specs.Prelude.{map, drop, length, true}
+use Rattle.mesh_trace.specs.machine.Frames.{on_each}
+use Rattle.mesh_trace.specs.Positions.Standing.{Sent}
+use Rattle.mesh_replay.specs.Checking.Cases.{AnyState, TellsItems}
+use Rattle.mesh_replay.proofs.checking.frames.tell_further.Given as goal
+
+abbrev pub invariant-loop-iface : goal.invariant-loop-iface
+invariant-loop-iface l =
+    TellsItems l.case l.fn.progress l.progress l.event AnyState (λ s. map Sent (drop 1 (on_each (length l.event.settings.now.interfaces) l.frame.value)))
+    (λ s. map Sent (drop l.iface (on_each (length l.event.settings.now.interfaces) l.frame.value))) true

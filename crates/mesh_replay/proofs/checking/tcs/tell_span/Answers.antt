@@ -1,0 +1,8 @@
+use Rattle.std.proofs.Common.{◌≡◌, List, [], ◌∷◌, sym, subst}
+use Rattle.mesh_atoms.proofs.Options.{if_ok_weaker}
+use Rattle.mesh_atoms.specs.State.{State}
+use Rattle.mesh_replay.proofs.FramesLemmas.TcItems.{tc_named}
+use Rattle.mesh_replay.proofs.checking.tcs.tell_span.Goals as goal
+
+pub returns : goal.returns
+returns c = if_ok_weaker c.tell_tc.result (λ fits tells. tc_named (λ s is ansn. c.in_ok-tc.ensures.is s is.settings ansn) tells) c.tell_tc.ensures

@@ -1,0 +1,33 @@
+use Rattle.std.proofs.Common.{◌≡◌, rules, true, false, ap, List, get_or, arith}
+use Rattle.std.proofs.lemmas.List.{drop_all}
+use Rattle.std.proofs.lemmas.Option.{slice_get-get_or}
+use Rattle.mesh_topo.specs.declared.advertised.spans.PartSpan.{PartSpan}
+use Rattle.mesh_replay.specs.Checking.Kept.{span_items}
+use Rattle.mesh_replay.proofs.CheckingLemmas.Telling.{tells_more, tells_nowhere, tells_stop, tells_to}
+use Rattle.mesh_replay.proofs.FramesLemmas.TcItems.{spans_more}
+use Rattle.mesh_replay.proofs.checking.tcs.tell_spans.Goals as goal
+
+pub loop-span-init : goal.loop-span-init
+loop-span-init c = tells_nowhere c.requires.progress
+
+pub tell_span-requires-clause-within : goal.tell_span-requires-clause-within
+tell_span-requires-clause-within c =
+    let d : PartSpan = record { first = 0; len = 0 } in
+    c.requires.within c.loop-span.span-index (get_or c.args.spans.now c.loop-span.span-index d) (slice_get-get_or c.args.spans.now c.loop-span.span-index d c.loop-span-test.true)
+
+pub loop-span-preserved : goal.loop-span-preserved
+loop-span-preserved c =
+    let good : c.in_ok-tell_span.field-0 ≡ true = search rules in
+    let due = c.args.due.now in
+    tells_more c.loop-span.invariant (λ s. spans_more due.complete c.loop-span.number due.rows.now c.args.spans.now c.loop-span.span-index (record { first = 0; len = 0 }) c.loop-span-test.true) c.in_ok-tell_span.ensures good
+
+pub returns-then-not-branch : goal.returns-then-not-branch
+returns-then-not-branch c =
+    let bad : c.in_ok-tell_span.field-0 ≡ false = search rules in
+    let due = c.args.due.now in
+    tells_stop c.loop-span.invariant (λ s. spans_more due.complete c.loop-span.number due.rows.now c.args.spans.now c.loop-span.span-index (record { first = 0; len = 0 }) c.loop-span-test.true) c.in_ok-tell_span.ensures bad
+
+pub returns : goal.returns
+returns c =
+    let due = c.args.due.now in
+    tells_to c.loop-span.invariant (λ s. ap (λ (l : List PartSpan). span_items due.complete c.loop-span.number due.rows.now l) (drop_all c.loop-span.span-index c.args.spans.now (let there = c.loop-span-test.false in omega (arith, there))))

@@ -1,0 +1,18 @@
+use Rattle.std.proofs.Common.{◌≡◌, ℕ, sym, ◌∙◌, ap, List, length}
+use Rattle.std.specs.Prelude.{nat_eq}
+use Rattle.mesh_atoms.specs.declared.tc.TcRow.{TcRow}
+use Rattle.mesh_atoms.specs.State.{State}
+use Rattle.mesh_atoms.proofs.Options.{if_ok_weaker}
+use Rattle.mesh_topo.specs.declared.advertised.spans.PartSpan.{PartSpan}
+use Rattle.mesh_replay.specs.Checking.Kept.{span_items}
+use Rattle.mesh_replay.proofs.CheckingLemmas.Telling.{tells_as, tells_where}
+use Rattle.mesh_replay.proofs.checking.tcs.tell_tcs.Goals as goal
+
+pub returns : goal.returns
+returns g c =
+    let lines = c.args.lines.now in
+    if_ok_weaker c.tell_spans.result (λ fits tells. tells_where (tells_as tells (λ s.
+    ap (λ (n : ℕ). span_items (nat_eq n 1) lines.sequence c.as_slice.result.now c.as_slice-3.result.now) c.len.ensures
+    ∙ (ap (λ (l : List TcRow). span_items (nat_eq (length lines.parts) 1) lines.sequence l c.as_slice-3.result.now) (c.as_slice.ensures ∙ ap (λ (s : State). s.rows) c.router.view_is)
+    ∙ ap (λ (l : List PartSpan). span_items (nat_eq (length lines.parts) 1) lines.sequence c.args.router.now.rows l) c.as_slice-3.ensures)))
+    (λ s is same. ap (λ (t : State). t.ansn) same ∙ sym (ap (λ (t : State). t.ansn) c.router.view_is))) c.tell_spans.ensures
