@@ -1,9 +1,10 @@
 -- Lemmas for crates above, each file with the crates that cite it.
 pub mod HeldLemmas  -- replay
 -- Lemmas of this crate alone.
+mod Clauses
 mod Emptied
 mod EventLemmas
 mod ReadingLemmas
-mod Seen
 pub mod SendingLemmas
 mod Spent
+mod Until

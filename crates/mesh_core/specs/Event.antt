@@ -1,1 +1,4 @@
+pub mod Ending
 pub mod Holding
+pub mod Outdated
+pub mod Promises

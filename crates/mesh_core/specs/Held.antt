@@ -1,4 +1,4 @@
 pub mod Held
 pub mod Outbox
-pub mod Quiet
 pub mod Reading
+pub mod Taking

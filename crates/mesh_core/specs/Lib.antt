@@ -1,3 +1,4 @@
+pub mod Deferred
 pub mod Event
 pub mod Held
 pub mod Holding

@@ -3,7 +3,8 @@
 mod clock;
 mod ending;
 mod hear;
+mod outdated;
 
-pub use crate::event::clock::tick;
-pub use crate::event::hear::hear_frame;
-pub(crate) use crate::event::hear::hear_typed;
+pub(crate) use crate::event::clock::tick;
+pub(crate) use crate::event::hear::{hear_frame, hear_typed};
+pub(crate) use crate::event::outdated::{EventWants, Outdated};

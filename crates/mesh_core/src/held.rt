@@ -4,7 +4,9 @@ mod answers;
 mod holding;
 mod onward;
 mod outbox;
+mod quiet;
 mod taking;
 
 pub use crate::held::holding::InformationBases;
 pub use crate::held::outbox::Outbox;
+pub use crate::held::quiet::Quiet;

@@ -4,7 +4,6 @@ ghost use Rattle.mesh_machine.specs.Machine.{Event, Step, IsOpening, due};
 ghost use Rattle.mesh_machine.specs.Sendable.{IsSendable};
 
 use crate::held::Outbox;
-use crate::reading::TypedFrame;
 use crate::router::Core;
 use mesh_atoms::RouterSettings;
 use mesh_expire::Bases;
@@ -35,23 +34,6 @@ pub trait Machine: RouterView + Sized + Drop {
         ensures last { OnOk result ((Self.state self.new).last ≤ arrival.now) }
         ensures due { OnOk result (due (Self.state self.new) ≡ due (Self.state self.old)) };
 
-    /// Hears a frame that was read before, as `hear_frame` does.
-    fn hear_typed_frame(
-        &mut self,
-        arrival: Arrival,
-        frame: &TypedFrame,
-        out: &mut Outbox,
-    ) -> Result<(), AllocError>
-        requires now { arrival.now < 2 ^ 62 }
-        requires later { (Self.state self.old).last ≤ arrival.now }
-        requires iface { arrival.iface < length (Self.state self.old).settings.interfaces }
-        ensures step { OnOk result (Step (Self.state self.old) (Event.Hear arrival frame.now) out.new (Self.state self.new)) }
-        // Each frame that is sent is a packet, on an interface.
-        ensures sendable { OnOk result (All (IsSendable (Self.state self.old).settings) out.new) }
-        ensures settings { OnOk result ((Self.state self.new).settings ≡ (Self.state self.old).settings) }
-        ensures last { OnOk result ((Self.state self.new).last ≤ arrival.now) }
-        ensures due { OnOk result (due (Self.state self.new) ≡ due (Self.state self.old)) };
-
     /// The clock ticks, at a moment below 2^62 that isn't before the last event. What is sent stands in `out` alone.
     fn tick_at(&mut self, now: u64, out: &mut Outbox) -> Result<(), AllocError>
         requires now { now < 2 ^ 62 }
@@ -69,7 +51,7 @@ pub trait Machine: RouterView + Sized + Drop {
 }
 
 // Whether a frame was heard, whatever is answered to it.
-fn told(came: Result<Heard, AllocError>) -> Result<(), AllocError>
+pub(crate) fn told(came: Result<Heard, AllocError>) -> Result<(), AllocError>
     ensures { is_err result ≡ is_err came }
 {
     let _ = came?;
@@ -89,16 +71,6 @@ impl<B: Bases> Machine for Core<B> {
     ) -> Result<(), AllocError> {
         out.clear();
         told(self.hear(arrival.now, arrival.iface, arrival.sender, bytes, out))
-    }
-
-    fn hear_typed_frame(
-        &mut self,
-        arrival: Arrival,
-        frame: &TypedFrame,
-        out: &mut Outbox,
-    ) -> Result<(), AllocError> {
-        out.clear();
-        told(self.hear_typed(arrival.now, arrival.iface, arrival.sender, frame, out))
     }
 
     fn tick_at(&mut self, now: u64, out: &mut Outbox) -> Result<(), AllocError> {

@@ -1,8 +1,11 @@
 //! The router core: a router with its bases, and what follows from them.
 ghost use Rattle.std.specs.Prelude.{◌≡◌, IfOk, false};
 ghost use Rattle.mesh_atoms.specs.Sound.{Sound};
+ghost use Rattle.mesh_core.specs.Event.Holding.{state_of};
 ghost use Rattle.mesh_machine.specs.Machine.{IsOpening, due};
 
+use crate::deferred::DeferredCore;
+use crate::event::Outdated;
 use crate::held::InformationBases;
 use mesh_atoms::RouterSettings;
 use mesh_expire::Bases;
@@ -10,11 +13,17 @@ use mesh_renewal::{Derived, opening};
 use std::alloc::{AllocError, Global};
 use std::marker::Model;
 
+/// What a router holds: its bases, what follows from them, and what of that may be outdated.
+pub(crate) struct RouterState<B: Bases> {
+    pub(crate) holding: InformationBases<B>,
+    pub(crate) derived: Derived,
+    pub(crate) outdated: Outdated,
+}
+
 /// A router: it hears frames, its clock ticks, and it sends frames. Moments are in ticks of 1/8192 s. After want of memory it is
 /// spent, and may only be dropped.
 pub struct Core<B: Bases> {
-    pub(crate) holding: InformationBases<B>,
-    pub(crate) derived: Derived,
+    pub(crate) router: RouterState<B>,
     pub(crate) spent: bool,
 }
 
@@ -24,14 +33,33 @@ fn let_go(derived: Derived) {
 }
 
 // By hand, so that no crate that lets go of one has to know its parts.
+impl<B: Bases> Drop for RouterState<B> {
+    fn drop(self) {
+        let RouterState {
+            holding: _,
+            derived,
+            outdated: _,
+        } = self;
+        let_go(derived);
+    }
+}
+
+// By hand, so that no crate that lets go of one has to know its parts.
 impl<B: Bases> Drop for Core<B> {
     fn drop(self) {
         let Core {
-            holding: _,
-            derived,
+            router: _,
             spent: _,
         } = self;
-        let_go(derived);
+    }
+}
+
+impl<B: Bases> RouterState<B> {
+    /// The moment at which the next HELLO or TC is due.
+    pub(crate) fn due(&self) -> u64
+        ensures { result ≡ due (state_of self.now.holding self.now.derived) }
+    {
+        u64::min(self.derived.next_hello, self.derived.next_tc)
     }
 }
 
@@ -43,9 +71,9 @@ impl<B: Bases> Model for Core<B> {
 
     ghost Value = { CoreValue };
 
-    ghost view = { λ c. record { state = state_of c.holding c.derived; is_spent = c.spent } };
+    ghost view = { λ c. record { state = state_of c.router.holding c.router.derived; is_spent = c.spent } };
 
-    ghost invariant = { λ c. c.spent ≡ false → Sound (state_of c.holding c.derived) };
+    ghost invariant = { λ c. c.spent ≡ false → Sound (state_of c.router.holding c.router.derived) };
 }
 
 impl<B: Bases> Core<B> {
@@ -62,7 +90,7 @@ impl<B: Bases> Core<B> {
     pub fn due(&self) -> u64
         ensures { result ≡ due self.now.state }
     {
-        u64::min(self.derived.next_hello, self.derived.next_tc)
+        self.router.due()
     }
 
     /// Whether the router has met want of memory.
@@ -70,6 +98,22 @@ impl<B: Bases> Core<B> {
         ensures { result ≡ self.now.is_spent }
     {
         self.spent
+    }
+
+    /// The router as one that may put off relays and routes. A spent router refuses, as for want of memory.
+    pub fn defer(self) -> Result<DeferredCore<B>, AllocError>
+        ensures state { IfOk result (λ deferred. deferred.state ≡ self.state) }
+        ensures sound { IfOk result (λ deferred. Sound deferred.state) }
+        ensures unspent { IfOk result (λ deferred. deferred.is_spent ≡ false) }
+    {
+        let Core { router, spent } = self;
+        if spent {
+            return Err(AllocError);
+        }
+        Ok(DeferredCore {
+            router,
+            spent: false,
+        })
     }
 }
 
@@ -80,9 +124,16 @@ fn opened<B: Bases>(alloc: Global, settings: &RouterSettings) -> Result<Core<B>,
 {
     let holding = InformationBases::new(alloc, settings)?;
     let derived = opening(alloc, settings)?;
-    Ok(Core {
+    let router = RouterState {
         holding,
         derived,
+        outdated: Outdated {
+            relays: false,
+            routes: false,
+        },
+    };
+    Ok(Core {
+        router,
         spent: false,
     })
 }

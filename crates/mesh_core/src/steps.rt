@@ -6,7 +6,7 @@ ghost use Rattle.mesh_machine.specs.Machine.{Event, Step, Hears, due};
 ghost use Rattle.mesh_machine.specs.Sendable.{IsSendable};
 ghost use Rattle.mesh_packet.specs.Grammar.{FirstFault};
 
-use crate::event::{hear_frame, hear_typed, tick};
+use crate::event::{EventWants, hear_frame, hear_typed, tick};
 use crate::held::Outbox;
 use crate::reading::TypedFrame;
 use crate::router::Core;
@@ -50,7 +50,11 @@ impl<B: Bases> Core<B> {
             return Err(AllocError);
         }
         let arrival = Arrival { now, iface, sender };
-        let came = hear_frame(&mut self.holding, &mut self.derived, arrival, bytes, out);
+        let wants = EventWants {
+            relays: true,
+            routes: true,
+        };
+        let came = hear_frame(&mut self.router, wants, arrival, bytes, out);
         self.spent = came.is_err();
         came
     }
@@ -87,7 +91,11 @@ impl<B: Bases> Core<B> {
             return Err(AllocError);
         }
         let arrival = Arrival { now, iface, sender };
-        let came = hear_typed(&mut self.holding, &mut self.derived, arrival, frame, out);
+        let wants = EventWants {
+            relays: true,
+            routes: true,
+        };
+        let came = hear_typed(&mut self.router, wants, arrival, frame, out);
         self.spent = came.is_err();
         came
     }
@@ -113,7 +121,11 @@ impl<B: Bases> Core<B> {
         if self.spent {
             return Err(AllocError);
         }
-        let came = tick(&mut self.holding, &mut self.derived, now, out);
+        let wants = EventWants {
+            relays: true,
+            routes: true,
+        };
+        let came = tick(&mut self.router, wants, now, out);
         self.spent = came.is_err();
         came
     }

@@ -19,28 +19,28 @@ impl<B: Bases> Core<B> {
     pub fn last(&self) -> u64
         ensures { result ≡ self.now.state.last }
     {
-        self.derived.last
+        self.router.derived.last
     }
 
     /// The settings.
     pub fn settings(&self) -> &RouterSettings
         ensures { result.now ≡ self.now.state.settings }
     {
-        self.holding.settings()
+        self.router.holding.settings()
     }
 
     /// The relays.
     pub fn relays(&self) -> &Relays
         ensures { result.now ≡ self.now.state.relays }
     {
-        self.derived.relays.get()
+        &self.router.derived.relays
     }
 
     /// The routes.
     pub fn routes(&self) -> &RoutingSet
         ensures { result.now ≡ self.now.state.routes }
     {
-        self.derived.routes.get()
+        &self.router.derived.routes
     }
 
     /// The neighbourhood.
@@ -48,21 +48,21 @@ impl<B: Bases> Core<B> {
         ensures near { result.now.near ≡ self.now.state.bases.neighbourhood }
         ensures settings { result.now.settings ≡ self.now.state.settings }
     {
-        self.holding.nhdp()
+        self.router.holding.nhdp()
     }
 
     /// The topology.
     pub fn topology(&self) -> &Topology<B>
         ensures { result.now ≡ self.now.state.bases.topology }
     {
-        self.holding.topology()
+        self.router.holding.topology()
     }
 
     /// The messages seen before.
     pub fn flood(&self) -> &Flood<B>
         ensures { result.now.noted ≡ self.now.state.bases.noted }
     {
-        self.holding.flood()
+        self.router.holding.flood()
     }
 
     /// The advertised rows, and their ANSN.
@@ -70,7 +70,10 @@ impl<B: Bases> Core<B> {
         ensures rows { result.0.now ≡ self.now.state.rows }
         ensures ansn { result.1 ≡ self.now.state.ansn }
     {
-        (self.derived.rows.as_slice(), self.derived.ansn)
+        (
+            self.router.derived.rows.as_slice(),
+            self.router.derived.ansn,
+        )
     }
 }
 
@@ -78,55 +81,55 @@ impl<B: Bases> RouterView for Core<B> {
     ghost state = { λ c. c.state };
 
     fn settings(&self) -> &RouterSettings {
-        self.holding.settings()
+        self.router.holding.settings()
     }
 
     fn last(&self) -> u64 {
-        self.derived.last
+        self.router.derived.last
     }
 
     fn links(&self, iface: usize) -> usize {
-        self.holding.nhdp().links(iface)
+        self.router.holding.nhdp().links(iface)
     }
 
     fn link(&self, iface: usize, place: usize) -> Option<(&LinkKey, &Link, u64)> {
-        self.holding.nhdp().link(iface, place)
+        self.router.holding.nhdp().link(iface, place)
     }
 
     fn link_of(&self, iface: usize, key: &LinkKey) -> Option<(&Link, u64)> {
-        self.holding.nhdp().link_of(iface, key)
+        self.router.holding.nhdp().link_of(iface, key)
     }
 
     fn two_hops(&self, iface: usize) -> usize {
-        self.holding.nhdp().two_hops(iface)
+        self.router.holding.nhdp().two_hops(iface)
     }
 
     fn two_hop(&self, iface: usize, place: usize) -> Option<(&TwoHopKey, &TwoHop, u64)> {
-        self.holding.nhdp().two_hop(iface, place)
+        self.router.holding.nhdp().two_hop(iface, place)
     }
 
     fn two_hop_of(&self, iface: usize, key: &TwoHopKey) -> Option<(&TwoHop, u64)> {
-        self.holding.nhdp().two_hop_of(iface, key)
+        self.router.holding.nhdp().two_hop_of(iface, key)
     }
 
     fn all_two_hops(&self) -> usize {
-        two_hops_of(self.holding.nhdp(), self.holding.settings())
+        two_hops_of(self.router.holding.nhdp(), self.router.holding.settings())
     }
 
     fn neighbours(&self) -> usize {
-        self.holding.nhdp().neighbours()
+        self.router.holding.nhdp().neighbours()
     }
 
     fn neighbour(&self, place: usize) -> Option<(&Addr4, &Neighbour, u64)> {
-        self.holding.nhdp().neighbour(place)
+        self.router.holding.nhdp().neighbour(place)
     }
 
     fn neighbour_of(&self, originator: &Addr4) -> Option<(&Neighbour, u64)> {
-        self.holding.nhdp().neighbour_of(originator)
+        self.router.holding.nhdp().neighbour_of(originator)
     }
 
     fn losts(&self) -> usize {
-        self.holding.nhdp().lost()
+        self.router.holding.nhdp().lost()
     }
 
     fn routers(&self) -> usize {
@@ -166,37 +169,37 @@ impl<B: Bases> RouterView for Core<B> {
     }
 
     fn has_noted(&self, heading: &Heading) -> bool {
-        self.holding.flood().stands(heading)
+        self.router.holding.flood().stands(heading)
     }
 
     fn has_full_set(&self) -> bool {
-        self.holding.flood().full()
+        self.router.holding.flood().full()
     }
 
     fn relays(&self) -> &Relays {
-        self.derived.relays.get()
+        &self.router.derived.relays
     }
 
     fn routes(&self) -> &[Route] {
-        self.derived.routes.get().rows()
+        self.router.derived.routes.rows()
     }
 
     fn next_hop(&self, dest: Addr4) -> Option<&Route> {
-        self.derived.routes.get().next_hop(dest)
+        self.router.derived.routes.next_hop(dest)
     }
 
     fn rows(&self) -> &[TcRow] {
-        self.derived.rows.as_slice()
+        self.router.derived.rows.as_slice()
     }
 
     fn ansn(&self) -> u16 {
-        self.derived.ansn
+        self.router.derived.ansn
     }
 
     fn said(&self, iface: usize, now: u64, addr: Addr4) -> Said {
         said_of(
-            self.holding.nhdp(),
-            self.derived.relays.get(),
+            self.router.holding.nhdp(),
+            &self.router.derived.relays,
             iface,
             now,
             addr,

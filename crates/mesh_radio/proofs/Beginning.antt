@@ -52,6 +52,7 @@ opening_sound scenario routers due s h first opens = record {
   due_later = let now = opens.now in omega (arith, now);
   in_time = let now = opens.now in omega (arith, now);
   few = let none = opens.last_ticks in omega (arith, none);
+  ended = λ x t at lt. let none = opens.last_ticks in omega (arith, none, lt);
 }
 
 pub opening_net : (scenario : Scenario) (routers : List State) (due : Due) (s : Scene) → AreOpening scenario.routers routers → IsOpeningScene scenario due s → IsOpeningNet scenario (net_of routers s)

@@ -3,8 +3,12 @@ mod Beginning
 mod FirstDue
 mod Flying
 mod Happenings
+mod Keeping
 mod Runs
+mod RunsOff
+mod SameSteps
 mod Soundness
 mod Standing
 mod Steps
 mod TrafficLemmas
+mod Turning

@@ -26,9 +26,9 @@ router_to s now routers arc h to =
     (there.0, there.1, h.lasts arc.to there.0 there.1, subst (λ (r : RouterSettings). arc.to_iface < length r.interfaces) same to.iface)
 
 -- what a router sent goes out by its own interfaces
-pub may_send : (s : Scenario) (earlier now : ℕ) (old new : List State) (x : ℕ) (event : Event) (frames : List Frame) (change : ℕ → ℕ → Type 0) → AreRouterStates s earlier old → Stepped old new x now event frames change →
+pub may_send : {until now x : ℕ} {old new : List State} {event : Event} {frames : List Frame} {Change : State → State → Type 0} (s : Scenario) (earlier : ℕ) → AreRouterStates s earlier old → (step : Stepped until old new x now event frames Change) →
     (settings : RouterSettings) × (slice_get s.routers x ≡ Some settings) × All (IsSendable settings) frames
-may_send s earlier now old new x event frames change h step = (step.was.settings, h.settings x step.was step.stood, step.sendable)
+may_send {x} s earlier h step = (step.was.settings, h.settings x step.was step.stood, step.sendable)
 
 -- the item of an index
 pub item_at : {A : Type 0} (xs ys : List A) (i : ℕ) (x : A) → ys ≡ xs → i < length xs → x ≡ get_or ys i x → slice_get xs i ≡ Some x

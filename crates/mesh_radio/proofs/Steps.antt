@@ -7,7 +7,8 @@ use Rattle.mesh_atoms.specs.State.{State}
 use Rattle.mesh_machine.specs.declared.frame.Frame.{Frame}
 use Rattle.mesh_machine.specs.Machine.{Event, Step, due}
 use Rattle.mesh_machine.specs.Sendable.{IsSendable}
-use Rattle.mesh_radio.specs.Scene.{Stepped}
+use Rattle.mesh_core.specs.Deferred.{IsKeptOf}
+use Rattle.mesh_radio.specs.Scene.{Stepped, KeepsDue, IsAfterTick}
 use Rattle.mesh_machine.proofs.Places.{mapped_at, same_at}
 
 module _ {A : Type 0} (state : A → State) (routers : List A) (x : ℕ) (here : State) (at : slice_get (map state routers) x ≡ Some here) where
@@ -19,19 +20,39 @@ module _ {A : Type 0} (state : A → State) (routers : List A) (x : ℕ) (here :
   its_state was is = same_at (map state routers) x here (state was) at (mapped_at state routers x was (slice_get_read routers (length routers) x was refl within is))
 
   -- where that router takes a step, it alone does
-  pub stepped : {U E : Type 0} (came : Result U E) (now : ℕ) (event : Event) (sent : List Frame) (was then : A) (change : ℕ → ℕ → Type 0) → was ≡ get_or routers x was →
-      OnOk came (Step (state was) event sent (state then)) → OnOk came (All (IsSendable (state was).settings) sent) → OnOk came ((state then).settings ≡ (state was).settings) →
-      OnOk came ((state then).last ≤ now) → OnOk came (change (due (state was)) (due (state then))) →
-      OnOk came (Stepped (map state routers) (map state (slice_set routers x then)) x now event sent change)
-  stepped (Ok one) now event sent was then change is step sendable settings last due_is = record {
+  stepped : (until now : ℕ) (event : Event) (sent : List Frame) (was then : A) (Change : State → State → Type 0) → was ≡ get_or routers x was →
+      (whole : State) × Step (state was) event sent whole × IsKeptOf until whole (state then) → All (IsSendable (state was).settings) sent → (state then).settings ≡ (state was).settings →
+      (state then).last ≤ now → (state was).last ≤ (state then).last → Change (state was) (state then) →
+      Stepped until (map state routers) (map state (slice_set routers x then)) x now event sent Change
+  stepped until now event sent was then Change is step sendable settings last no_earlier change = record {
     was = state was;
+    whole = step.0;
     is = state then;
     stood = mapped_at state routers x was (slice_get_read routers (length routers) x was refl within is);
     routers = map-set state routers x then;
-    step = step;
+    step = step.1;
+    rest = step.2;
     sendable = sendable;
     settings = settings;
     last = last;
-    due_is = due_is;
+    no_earlier = no_earlier;
+    change = change;
   }
-  stepped (Err wanting) now event sent was then change is step sendable settings last due_is = tt
+
+  -- where it hears a frame
+  pub hears : {U E : Type 0} (came : Result U E) (until now : ℕ) (event : Event) (sent : List Frame) (was then : A) → was ≡ get_or routers x was →
+      OnOk came ((whole : State) × Step (state was) event sent whole × IsKeptOf until whole (state then)) → OnOk came (All (IsSendable (state was).settings) sent) → OnOk came ((state then).settings ≡ (state was).settings) →
+      OnOk came ((state then).last ≤ now) → OnOk came ((state was).last ≤ (state then).last) → OnOk came (due (state then) ≡ due (state was)) →
+      OnOk came (Stepped until (map state routers) (map state (slice_set routers x then)) x now event sent KeepsDue)
+  hears (Ok one) until now event sent was then is step sendable settings last no_earlier due_is =
+      stepped until now event sent was then KeepsDue is step sendable settings last no_earlier due_is
+  hears (Err wanting) until now event sent was then is step sendable settings last no_earlier due_is = tt
+
+  -- where it ticks
+  pub ticks : {U E : Type 0} (came : Result U E) (until now : ℕ) (event : Event) (sent : List Frame) (was then : A) → was ≡ get_or routers x was → (state was).last ≤ now →
+      OnOk came ((whole : State) × Step (state was) event sent whole × IsKeptOf until whole (state then)) → OnOk came (All (IsSendable (state was).settings) sent) → OnOk came ((state then).settings ≡ (state was).settings) →
+      OnOk came ((state then).last ≡ now) → OnOk came (now < due (state then)) →
+      OnOk came (Stepped until (map state routers) (map state (slice_set routers x then)) x now event sent (IsAfterTick now))
+  ticks (Ok one) until now event sent was then is later step sendable settings last due_later =
+      stepped until now event sent was then (IsAfterTick now) is step sendable settings (omega (arith, last)) (omega (arith, last, later)) (record { due_later = due_later; last_is = last })
+  ticks (Err wanting) until now event sent was then is later step sendable settings last due_later = tt

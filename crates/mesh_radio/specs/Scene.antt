@@ -4,16 +4,18 @@ use Rattle.mesh_atoms.specs.declared.settings.Scenario.{Scenario}
 use Rattle.mesh_atoms.specs.declared.addr.Addr4.{Addr4}
 use Rattle.mesh_atoms.specs.declared.settings.RadioArc.{RadioArc}
 use Rattle.mesh_atoms.specs.declared.settings.RouterSettings.{RouterSettings}
+use Rattle.mesh_atoms.specs.Sound.{Sound}
 use Rattle.mesh_atoms.specs.State.{State}
 use Rattle.mesh_machine.specs.declared.frame.Frame.{Frame}
 use Rattle.mesh_machine.specs.Machine.{Event, Step, due}
 use Rattle.mesh_machine.specs.Sendable.{IsPacket, IsSendable}
+use Rattle.mesh_core.specs.Deferred.{IsKeptOf}
 use Rattle.mesh_atoms.specs.declared.network.NetEvent.{NetEvent}
 use Rattle.mesh_radio.specs.declared.scene.Scene.{Scene}
 use Rattle.mesh_radio.specs.declared.scene.Tick.{Tick}
 use Rattle.mesh_machine.specs.Net.{NetState, NetStep, IsFirstDue, IsSender, event_of, frames_of}
 use Rattle.mesh_machine.specs.Traffic.{Delivery, Traffic, SendsAll, with_heard}
-use Rattle.mesh_machine.specs.NetRun.{IsOver, IsOfScenario, IsOfPackets}
+use Rattle.mesh_machine.specs.NetRun.{IsOver, IsOfScenario, IsOfPackets, NetRun}
 use Rattle.mesh_radio.specs.Traffic.Traffic.{traffic_of}
 use Rattle.mesh_radio.specs.Traffic.Ways.{AreArcsOut}
 
@@ -33,6 +35,15 @@ pub record AreRouterStates (scenario : Scenario) (now : ℕ) (routers : List Sta
   pub settings : (x : ℕ) (s : State) → slice_get routers x ≡ Some s → slice_get scenario.routers x ≡ Some s.settings
   pub lasts : (x : ℕ) (s : State) → slice_get routers x ≡ Some s → s.last ≤ now
 
+-- routers with all that follows from their bases, and what is kept of them, router by router
+pub record AreKeptOf (until : ℕ) (wholes rests : List State) : Type 0 where
+  pub count : length wholes ≡ length rests
+  pub each : (x : ℕ) (whole rest : State) → slice_get wholes x ≡ Some whole → slice_get rests x ≡ Some rest → IsKeptOf until whole rest
+
+-- the first routers, so many, had their tick at the end
+abbrev pub HadLastTicks : ℕ → ℕ → List State → Type 0
+HadLastTicks end count routers = (x : ℕ) (state : State) → slice_get routers x ≡ Some state → x < count → end ≤ state.last
+
 -- what is true between events
 pub record IsSound (routers : List State) (s : Scene) : Type 0 where
   pub ways : AreArcsOut s.scenario.arcs s.scenario.routers (length s.scenario.routers) s.ways
@@ -43,18 +54,32 @@ pub record IsSound (routers : List State) (s : Scene) : Type 0 where
   pub due_later : s.now ≤ s.due.moment
   pub in_time : s.now ≤ s.scenario.end
   pub few : s.last_ticks ≤ length routers
+  pub ended : HadLastTicks s.scenario.end s.last_ticks routers
 
--- router x alone took a step, and sent these frames; how its due moment changed
-pub record Stepped (old new : List State) (x now : ℕ) (event : Event) (frames : List Frame) (change : ℕ → ℕ → Type 0) : Type 0 where
+-- how the moments of a router change where it hears a frame
+abbrev pub KeepsDue : State → State → Type 0
+KeepsDue was is = due is ≡ due was
+
+-- and where it ticks
+pub record IsAfterTick (now : ℕ) (was is : State) : Type 0 where
+  pub due_later : now < due is
+  pub last_is : is.last ≡ now
+
+-- router x alone took a step, and sent these frames; what is kept of it from that moment on, and how its moments changed
+pub record Stepped (until : ℕ) (old new : List State) (x now : ℕ) (event : Event) (frames : List Frame) (Change : State → State → Type 0) :
+    Type 0 where
   pub was : State
+  pub whole : State
   pub is : State
   pub stood : slice_get old x ≡ Some was
   pub routers : new ≡ slice_set old x is
-  pub step : Step was event frames is
+  pub step : Step was event frames whole
+  pub rest : IsKeptOf until whole is
   pub sendable : All (IsSendable was.settings) frames
   pub settings : is.settings ≡ was.settings
   pub last : is.last ≤ now
-  pub due_is : change (due was) (due is)
+  pub no_earlier : was.last ≤ is.last
+  pub change : Change was is
 
 -- an arc leaves an interface of a router
 pub record IsFrom (routers : List RouterSettings) (arc : RadioArc) : Type 0 where
@@ -69,7 +94,7 @@ pub record IsTo (routers : List RouterSettings) (arc : RadioArc) : Type 0 where
   pub iface : arc.to_iface < length router.interfaces
 
 -- what a frame that was in the air does, where the traffic is what is left
-pub record Lands (s : Scenario) (old new : List State) (d : Delivery) (event : NetEvent) (before after : Traffic) : Type 0 where
+pub record Lands (until : ℕ) (s : Scenario) (old new : List State) (d : Delivery) (event : NetEvent) (before after : Traffic) : Type 0 where
   pub arc : RadioArc
   pub sender : Addr4
   pub arc_is : slice_get s.arcs d.arc ≡ Some arc
@@ -77,16 +102,20 @@ pub record Lands (s : Scenario) (old new : List State) (d : Delivery) (event : N
   pub moment : event.moment ≡ d.moment
   pub router : event.router ≡ arc.to
   pub heard : event.heard ≡ Some (arc.to_iface, sender, d.frame)
-  pub stepped : Stepped old new arc.to d.moment (event_of event) (frames_of event) (λ was is. is ≡ was)
+  pub stepped : Stepped until old new arc.to d.moment (event_of event) (frames_of event) KeepsDue
   pub sends : SendsAll s d.moment arc.to event.sent (with_heard before before.air) after
 
 -- what the tick of router x does
-pub record TicksOne (s : Scenario) (old new : List State) (x now : ℕ) (event : NetEvent) (before after : Traffic) : Type 0 where
+pub record TicksOne (until : ℕ) (s : Scenario) (old new : List State) (x now : ℕ) (event : NetEvent) (before after : Traffic) : Type 0 where
   pub moment : event.moment ≡ now
   pub router : event.router ≡ x
   pub heard : event.heard ≡ None
-  pub stepped : Stepped old new x now (event_of event) (frames_of event) (λ was is. now < is)
+  pub stepped : Stepped until old new x now (event_of event) (frames_of event) (IsAfterTick now)
   pub sends : SendsAll s now x event.sent before after
+
+-- but for what a router sent and the traffic all stays
+abbrev pub SendsAlone : Scene → Scene → Type 0
+SendsAlone before after = after ≡ record before { outbox = after.outbox; traffic = after.traffic }
 
 -- nothing that is in the air is heard up to the first tick and the end
 abbrev pub IsAirQuiet : Scene → Type 0
@@ -102,9 +131,11 @@ pub data IsNextTick (s : Scene) (tick : Tick) : Type 0 where
 abbrev pub HasNoTick : Scene → Type 0
 HasNoTick s = (s.scenario.end < s.due.moment) × (length s.scenario.routers ≤ s.last_ticks)
 
--- an event of a network: what it does and names, and that the network is sound after it
-pub record Happens (old : List State) (before : Scene) (event : NetEvent) (new : List State) (after : Scene) : Type 0 where
-  pub step : NetStep (net_of old before) event (net_of new after)
+-- an event of a network: what it does and names, what is kept of the routers to which it leads, and that the network is sound after it
+pub record Happens (until : ℕ) (old : List State) (before : Scene) (event : NetEvent) (new : List State) (after : Scene) : Type 0 where
+  pub reached : List State
+  pub step : NetStep (net_of old before) event (net_of reached after)
+  pub rest : AreKeptOf until reached new
   pub named : IsOfScenario before.scenario event
   pub packets : IsOfPackets event
   pub sound : IsSound new after
@@ -114,10 +145,22 @@ pub record IsLeft (old : List State) (before : Scene) (new : List State) (after 
   pub over : IsOver (net_of old before) × (net_of new after ≡ net_of old before)
   pub sound : IsSound new after
 
+-- each router is sound
+abbrev pub AreSoundStates : List State → Type 0
+AreSoundStates routers = (x : ℕ) (state : State) → slice_get routers x ≡ Some state → Sound state
+
+-- some events lead from a network to one whose run is over, which is sound, and so is each of its routers
+pub record RunsOver (old : List State) (before : Scene) (new : List State) (after : Scene) : Type 0 where
+  pub events : List NetEvent
+  pub run : NetRun (net_of old before) events (net_of new after)
+  pub over : IsOver (net_of new after)
+  pub sound : IsSound new after
+  pub sounds : AreSoundStates new
+
 -- what is told of the next event, if there is one
-abbrev pub TellsEvent : List State → Scene → List State → Scene → Option NetEvent → Type 0
-TellsEvent old before new after None = IsLeft old before new after
-TellsEvent old before new after (Some event) = Happens old before event new after
+abbrev pub TellsEvent : ℕ → List State → Scene → List State → Scene → Option NetEvent → Type 0
+TellsEvent until old before new after None = IsLeft old before new after
+TellsEvent until old before new after (Some event) = Happens until old before event new after
 
 -- nothing is heard next, and all stays as it was
 pub record AllStays (old : List State) (before : Scene) (new : List State) (after : Scene) : Type 0 where

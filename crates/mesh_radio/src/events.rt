@@ -2,72 +2,82 @@
 ghost use Rattle.std.specs.Prelude.{◌≡◌, ◌<◌, ◌≤◌, length, map, Some, IfOk, OnOk};
 ghost use Rattle.mesh_atoms.specs.Settings.{one_hour};
 ghost use Rattle.mesh_radio.specs.Traffic.Air.{delivery_of};
-ghost use Rattle.mesh_radio.specs.Scene.{AreRouterStates, Lands, TicksOne};
+ghost use Rattle.mesh_radio.specs.Scene.{AreRouterStates, Lands, SendsAlone, TicksOne};
 ghost use Rattle.mesh_radio.specs.Traffic.Traffic.{traffic_of};
 ghost use Rattle.mesh_radio.specs.Traffic.Ways.{AreArcsOut};
 
 use crate::routers::{hear, sender_of, tick};
-use crate::traffic::{ArcsOut, ArrivedFrame, RadioTraffic, send_all};
-use mesh_atoms::{Addr4, Bytes, Emission, NetEvent, RadioArc, Scenario, Seq};
-use mesh_core::{Machine, Outbox, TypedFrame};
+use crate::scene::Scene;
+use crate::traffic::{ArrivedFrame, send_all};
+use mesh_atoms::{Addr4, Bytes, Emission, NetEvent, RadioArc, Seq};
+use mesh_core::{NetworkRouter, TypedFrame};
 use std::alloc::{AllocError, Global};
 use std::rc::Rc;
 
 /// A frame is heard by the router to which its arc leads, and what that sends goes into the air.
-pub(crate) fn land<R: Machine>(
+pub(crate) fn land<R: NetworkRouter>(
     alloc: Global,
-    scenario: &Scenario,
-    ways: &Seq<Seq<ArcsOut>>,
+    until: u64,
     routers: &mut Vec<R>,
-    outbox: &mut Outbox,
-    traffic: &mut RadioTraffic,
+    scene: &mut Scene,
     landed: ArrivedFrame,
 ) -> Result<NetEvent, AllocError>
-    requires ways { AreArcsOut scenario.now.arcs scenario.now.routers (length scenario.now.routers) ways.now }
-    requires routers { AreRouterStates scenario.now landed.moment (map R.state routers.old.items) }
-    requires seed { traffic.old.draws.seed ≡ scenario.now.seed }
+    requires ways { AreArcsOut scene.old.scenario.arcs scene.old.scenario.routers (length scene.old.scenario.routers) scene.old.ways }
+    requires routers { AreRouterStates scene.old.scenario landed.moment (map R.state routers.old.items) }
+    requires seed { scene.old.traffic.draws.seed ≡ scene.old.scenario.seed }
     requires early { landed.moment ≤ one_hour }
-    requires arc { landed.arc < length scenario.now.arcs }
-    ensures lands { IfOk result (λ event. Lands scenario.now (map R.state routers.old.items) (map R.state routers.new.items) (delivery_of landed) event (traffic_of traffic.old) (traffic_of traffic.new)) }
-    ensures seed { OnOk result (traffic.new.draws.seed ≡ traffic.old.draws.seed) }
+    requires arc { landed.arc < length scene.old.scenario.arcs }
+    ensures lands { IfOk result (λ event. Lands until scene.old.scenario (map R.state routers.old.items) (map R.state routers.new.items)
+        (delivery_of landed) event (traffic_of scene.old.traffic) (traffic_of scene.new.traffic)) }
+    ensures seed { OnOk result (scene.new.traffic.draws.seed ≡ scene.old.traffic.draws.seed) }
+    ensures scene { OnOk result (SendsAlone scene.old scene.new) }
 {
-    let arc = scenario.arcs.as_slice()[landed.arc];
-    let sender = sender_of(scenario, &arc);
-    traffic.counts.delivered = traffic.counts.delivered.wrapping_add(1);
-    hear(routers, &landed, &arc, sender, outbox)?;
+    let now = landed.moment;
+    let arc = scene.scenario.arcs.as_slice()[landed.arc];
+    let sender = sender_of(&scene.scenario, &arc);
+    scene.traffic.counts.delivered = scene.traffic.counts.delivered.wrapping_add(1);
+    hear(until, routers, &landed, &arc, sender, &mut scene.outbox)?;
     let sent = send_all(
         alloc,
-        scenario,
-        ways,
-        landed.moment,
+        &scene.scenario,
+        &scene.ways,
+        now,
         arc.to,
-        outbox,
-        traffic,
+        &scene.outbox,
+        &mut scene.traffic,
     )?;
     told(landed, &arc, sender, sent)
 }
 
 /// A router ticks, and what it sends goes into the air.
-pub(crate) fn tick_one<R: Machine>(
+pub(crate) fn tick_one<R: NetworkRouter>(
     alloc: Global,
-    scenario: &Scenario,
-    ways: &Seq<Seq<ArcsOut>>,
+    until: u64,
     routers: &mut Vec<R>,
-    outbox: &mut Outbox,
-    traffic: &mut RadioTraffic,
+    scene: &mut Scene,
     router: usize,
     now: u64,
 ) -> Result<NetEvent, AllocError>
-    requires ways { AreArcsOut scenario.now.arcs scenario.now.routers (length scenario.now.routers) ways.now }
-    requires routers { AreRouterStates scenario.now now (map R.state routers.old.items) }
-    requires seed { traffic.old.draws.seed ≡ scenario.now.seed }
+    requires ways { AreArcsOut scene.old.scenario.arcs scene.old.scenario.routers (length scene.old.scenario.routers) scene.old.ways }
+    requires routers { AreRouterStates scene.old.scenario now (map R.state routers.old.items) }
+    requires seed { scene.old.traffic.draws.seed ≡ scene.old.scenario.seed }
     requires early { now ≤ one_hour }
-    requires router { router < length scenario.now.routers }
-    ensures ticks { IfOk result (λ event. TicksOne scenario.now (map R.state routers.old.items) (map R.state routers.new.items) router now event (traffic_of traffic.old) (traffic_of traffic.new)) }
-    ensures seed { OnOk result (traffic.new.draws.seed ≡ traffic.old.draws.seed) }
+    requires router { router < length scene.old.scenario.routers }
+    ensures ticks { IfOk result (λ event. TicksOne until scene.old.scenario (map R.state routers.old.items) (map R.state routers.new.items)
+        router now event (traffic_of scene.old.traffic) (traffic_of scene.new.traffic)) }
+    ensures seed { OnOk result (scene.new.traffic.draws.seed ≡ scene.old.traffic.draws.seed) }
+    ensures scene { OnOk result (SendsAlone scene.old scene.new) }
 {
-    tick(routers, router, now, outbox)?;
-    let sent = send_all(alloc, scenario, ways, now, router, outbox, traffic)?;
+    tick(until, routers, router, now, &mut scene.outbox)?;
+    let sent = send_all(
+        alloc,
+        &scene.scenario,
+        &scene.ways,
+        now,
+        router,
+        &scene.outbox,
+        &mut scene.traffic,
+    )?;
     Ok(NetEvent {
         moment: now,
         router,

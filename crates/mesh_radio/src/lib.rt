@@ -2,6 +2,7 @@
 //! run of the machine.
 #![tactic(auto)]
 
+mod deferring;
 mod events;
 mod net;
 mod opening;

@@ -5,6 +5,7 @@ ghost use Rattle.mesh_machine.specs.Net.{NetStep};
 ghost use Rattle.mesh_machine.specs.NetRun.{IsOpeningNet, IsOver, IsOfScenario, IsOfPackets, NetRun};
 ghost use Rattle.mesh_radio.specs.Value.{states_of};
 
+use crate::deferring::run_to_end;
 use crate::opening::{Opening, opening_of};
 use crate::scene::Scene;
 use crate::step::next_event;
@@ -85,24 +86,26 @@ impl<B: Bases> Net<B> {
         if self.spent {
             return Err(AllocError);
         }
-        let came = next_event(self.alloc, &mut self.cores, &mut self.scene);
+        let came = next_event(self.alloc, 0, &mut self.cores, &mut self.scene);
         self.spent = came.is_err();
         came
     }
 
-    /// Does all events that are left. After 2^64 - 1 events it gives up as for want of memory, which leaves the network spent.
+    /// Does all events that are left. Until the end the routers put relays and routes off. After 2^64 - 1 events it gives up as for want
+    /// of memory, which leaves the network spent.
     pub fn run_until_end(&mut self) -> Result<(), AllocError>
         ensures over { OnOk result ((events : List NetEvent) × NetRun self.old.net events self.new.net × IsOver self.new.net) }
         ensures spent { self.new.is_spent ≡ is_err result }
         ensures stays { IsTrue self.old.is_spent → IsErr result }
     {
-        for _ in 0..u64::MAX {
-            let Some(_event) = self.step()? else {
-                return Ok(());
-            };
+        if self.spent {
+            return Err(AllocError);
         }
         self.spent = true;
-        Err(AllocError)
+        let cores = std::mem::replace(&mut self.cores, Vec::new(self.alloc));
+        self.cores = run_to_end(self.alloc, cores, &mut self.scene)?;
+        self.spent = false;
+        Ok(())
     }
 
     /// The routers, in the order of the scenario.

@@ -4,12 +4,12 @@ ghost use Rattle.mesh_atoms.specs.State.{State};
 ghost use Rattle.mesh_machine.specs.Machine.{Hear, Tick};
 ghost use Rattle.mesh_machine.specs.Net.{IsFirstDue, IsSender};
 ghost use Rattle.mesh_radio.specs.Opening.{AreOpening};
-ghost use Rattle.mesh_radio.specs.Scene.{Stepped, IsFrom};
+ghost use Rattle.mesh_radio.specs.Scene.{Stepped, KeepsDue, IsAfterTick, IsFrom};
 
 use crate::scene::Due;
 use crate::traffic::ArrivedFrame;
 use mesh_atoms::{Addr4, RadioArc, RouterSettings, Scenario};
-use mesh_core::{Arrival, Machine, Outbox};
+use mesh_core::{Arrival, Machine, NetworkRouter, Outbox};
 use std::alloc::{AllocError, Global};
 
 /// The routers with these settings before their first events.
@@ -27,7 +27,8 @@ pub(crate) fn routers_of<R: Machine>(
 }
 
 /// A router hears what comes by an arc. The outbox has what it then sends.
-pub(crate) fn hear<R: Machine>(
+pub(crate) fn hear<R: NetworkRouter>(
+    until: u64,
     routers: &mut Vec<R>,
     landed: &ArrivedFrame,
     arc: &RadioArc,
@@ -36,9 +37,9 @@ pub(crate) fn hear<R: Machine>(
 ) -> Result<(), AllocError>
     requires stands { (was : State) × (slice_get (map R.state routers.old.items) arc.now.to ≡ Some was) × (was.last ≤ landed.now.moment) × (arc.now.to_iface < length was.settings.interfaces) }
     requires early { landed.now.moment < 2 ^ 62 }
-    ensures { OnOk result (Stepped (map R.state routers.old.items) (map R.state routers.new.items) arc.now.to landed.now.moment
+    ensures { OnOk result (Stepped until (map R.state routers.old.items) (map R.state routers.new.items) arc.now.to landed.now.moment
         (Hear (record { now = landed.now.moment; iface = arc.now.to_iface; sender = sender }) landed.now.frame.value)
-        outbox.new (λ before after. after ≡ before)) }
+        outbox.new KeepsDue) }
 {
     let arrival = Arrival {
         now: landed.moment,
@@ -46,11 +47,12 @@ pub(crate) fn hear<R: Machine>(
         sender,
     };
     let router = &mut routers[arc.to];
-    router.hear_typed_frame(arrival, landed.frame.as_ref(), outbox)
+    router.hear_until(until, arrival, landed.frame.as_ref(), outbox)
 }
 
 /// A router ticks. The outbox has what it then sends.
-pub(crate) fn tick<R: Machine>(
+pub(crate) fn tick<R: NetworkRouter>(
+    until: u64,
     routers: &mut Vec<R>,
     router: usize,
     now: u64,
@@ -58,23 +60,24 @@ pub(crate) fn tick<R: Machine>(
 ) -> Result<(), AllocError>
     requires stands { (was : State) × (slice_get (map R.state routers.old.items) router ≡ Some was) × (was.last ≤ now) }
     requires early { now < 2 ^ 62 }
-    ensures { OnOk result (Stepped (map R.state routers.old.items) (map R.state routers.new.items) router now (Tick now) outbox.new (λ before after. now < after)) }
+    ensures { OnOk result (Stepped until (map R.state routers.old.items) (map R.state routers.new.items) router now (Tick now) outbox.new
+        (IsAfterTick now)) }
 {
     let ticking = &mut routers[router];
-    ticking.tick_at(now, outbox)
+    ticking.tick_until(until, now, outbox)
 }
 
 /// The router that ticks first, and when.
-pub(crate) fn first_due<R: Machine>(routers: &Vec<R>) -> Due
+pub(crate) fn first_due<R: NetworkRouter>(routers: &Vec<R>) -> Due
     requires { 0 < length routers.now.items }
     ensures { IsFirstDue (map R.state routers.now.items) result.router result.moment }
 {
     let mut first = Due {
         router: 0,
-        moment: routers[0].next_due(),
+        moment: routers[0].due_next(),
     };
     for (router, one) in routers.iter().enumerate() {
-        let moment = one.next_due();
+        let moment = one.due_next();
         if moment < first.moment {
             first = Due { router, moment };
         }

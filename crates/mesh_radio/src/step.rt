@@ -6,76 +6,62 @@ use crate::events::{land, tick_one};
 use crate::routers::first_due;
 use crate::scene::{Scene, Tick};
 use mesh_atoms::NetEvent;
-use mesh_core::Machine;
+use mesh_core::NetworkRouter;
 use std::alloc::{AllocError, Global};
 
-/// Does the next event, and tells it; `None` where none is left.
-pub(crate) fn next_event<R: Machine>(
+/// Does the next event, and tells it; `None` where none is left. From the moment `until` on no router puts anything off.
+pub(crate) fn next_event<R: NetworkRouter>(
     alloc: Global,
+    until: u64,
     routers: &mut Vec<R>,
     scene: &mut Scene,
 ) -> Result<Option<NetEvent>, AllocError>
     requires sound { IsSound (map R.state routers.old.items) scene.old }
-    ensures { IfOk result (TellsEvent (map R.state routers.old.items) scene.old (map R.state routers.new.items) scene.new) }
+    ensures { IfOk result (TellsEvent until (map R.state routers.old.items) scene.old (map R.state routers.new.items) scene.new) }
 {
-    let heard = hear_next(alloc, routers, scene)?;
+    let heard = hear_next(alloc, until, routers, scene)?;
     match heard {
         Some(event) => Ok(Some(event)),
-        None => tick_next(alloc, routers, scene),
+        None => tick_next(alloc, until, routers, scene),
     }
 }
 
 /// Lets the frame be heard that is due no later than the first tick and the end, if there is one.
-fn hear_next<R: Machine>(
+fn hear_next<R: NetworkRouter>(
     alloc: Global,
+    until: u64,
     routers: &mut Vec<R>,
     scene: &mut Scene,
 ) -> Result<Option<NetEvent>, AllocError>
     requires sound { IsSound (map R.state routers.old.items) scene.old }
     ensures { IfOk result (λ e. MatchOption e (AllStays (map R.state routers.old.items) scene.old (map R.state routers.new.items) scene.new)
-        (λ event. Happens (map R.state routers.old.items) scene.old event (map R.state routers.new.items) scene.new)) }
+        (λ event. Happens until (map R.state routers.old.items) scene.old event (map R.state routers.new.items) scene.new)) }
 {
     let limit = u64::min(scene.due.moment, scene.scenario.end);
     let Some(landed) = scene.traffic.air.take(limit) else {
         return Ok(None);
     };
     let now = landed.moment;
-    let event = land(
-        alloc,
-        &scene.scenario,
-        &scene.ways,
-        routers,
-        &mut scene.outbox,
-        &mut scene.traffic,
-        landed,
-    )?;
+    let event = land(alloc, until, routers, scene, landed)?;
     scene.now = now;
     Ok(Some(event))
 }
 
 /// Lets the router tick that ticks next, if there is one.
-fn tick_next<R: Machine>(
+fn tick_next<R: NetworkRouter>(
     alloc: Global,
+    until: u64,
     routers: &mut Vec<R>,
     scene: &mut Scene,
 ) -> Result<Option<NetEvent>, AllocError>
     requires sound { IsSound (map R.state routers.old.items) scene.old }
     requires quiet { IsAirQuiet scene.old }
-    ensures { IfOk result (TellsEvent (map R.state routers.old.items) scene.old (map R.state routers.new.items) scene.new) }
+    ensures { IfOk result (TellsEvent until (map R.state routers.old.items) scene.old (map R.state routers.new.items) scene.new) }
 {
     let Some(tick) = next_tick(scene) else {
         return Ok(None);
     };
-    let event = tick_one(
-        alloc,
-        &scene.scenario,
-        &scene.ways,
-        routers,
-        &mut scene.outbox,
-        &mut scene.traffic,
-        tick.router,
-        tick.moment,
-    )?;
+    let event = tick_one(alloc, until, routers, scene, tick.router, tick.moment)?;
     scene.now = tick.moment;
     scene.last_ticks = tick.last_ticks;
     scene.due = first_due(routers);

@@ -1,17 +1,13 @@
 -- The rows that a router advertises depend on no moment.
-use Rattle.std.proofs.Common.{◌≡◌, ◌≢◌, ◌↔◌, ◌⊎◌, inl, inr, refl, sym, ◌∙◌, subst, List, [], ◌∷◌}
+use Rattle.std.proofs.Common.{◌≡◌, ◌≢◌, ◌↔◌, ◌⊎◌, inl, inr, refl, sym, subst, List, [], ◌∷◌}
 use Rattle.mesh_atoms.specs.declared.addr.Addr4.{Addr4}
 use Rattle.mesh_atoms.specs.declared.codes.metric.Metric.{Metric}
 use Rattle.mesh_atoms.specs.declared.settings.Attached4.{Attached4}
-use Rattle.mesh_atoms.specs.declared.settings.RouterSettings.{RouterSettings}
 use Rattle.mesh_atoms.specs.declared.tc.TcRow.{TcRow}
 use Rattle.mesh_atoms.specs.declared.tuples.Neighbour.{Neighbour}
 use Rattle.mesh_atoms.specs.Advertised.{GivesAsSelector, AreRowsBy, AreTcRows}
-use Rattle.mesh_atoms.specs.State.{State, Neighbourhood, HasSymmetric}
+use Rattle.mesh_atoms.specs.State.{State, HasSymmetric}
 use Rattle.mesh_topo.proofs.AdvertisedLemmas.Advertising.{same_row}
-use Rattle.mesh_renewal.specs.declared.rows.Givers.{Givers}
-use Rattle.mesh_renewal.specs.Rows.{ShowsGivers, AreRowsFor}
-use Rattle.mesh_renewal.proofs.Moments.{neighbour_again}
 
 gives_by : (s t : State) → ((o : Addr4) (n : Neighbour) → HasSymmetric s o n → HasSymmetric t o n) → (a o : Addr4) (m : Metric) → GivesAsSelector s a o m → GivesAsSelector t a o m
 gives_by s t to a o m g = record { neighbour = g.neighbour; symmetric = to o g.neighbour g.symmetric; selects = g.selects; metric = g.metric; address = g.address }
@@ -29,15 +25,6 @@ rows_stay s t same attached rows are =
       ordered = are.ordered;
     } in
     subst (λ (l : List Attached4). AreRowsBy (GivesAsSelector t) l rows) (sym attached) by
-
--- rows that one router advertises each does with the same neighbours and networks
-pub rows_fit_each : (settings : RouterSettings) (near : Neighbourhood) (givers : Givers) (rows : List TcRow) → ShowsGivers givers settings near →
-    ((s : State) → s.settings ≡ settings → s.bases.neighbourhood ≡ near → AreTcRows s rows) → AreRowsFor givers rows
-rows_fit_each settings near givers rows shows made = λ t shows_later.
-    let s : State = record t { settings = settings; bases = record t.bases { neighbourhood = near } } in
-    let same = shows.neighbours ∙ sym shows_later.neighbours in
-    rows_stay s t (λ o n. (λ (has, is). (neighbour_again near.neighbours t.bases.neighbourhood.neighbours same o n has, is), λ (has, is). (neighbour_again t.bases.neighbourhood.neighbours near.neighbours (sym same) o n has, is)))
-    (shows_later.attached ∙ sym shows.attached) rows (made s refl refl)
 
 -- a list has elements or none
 pub some_or_none : {A : Type 0} (xs : List A) → (xs ≢ []) ⊎ (xs ≡ [])

@@ -1,9 +1,3 @@
-pub mod Images
-pub mod Kept
+pub mod Existing
 pub mod Renewed
-pub mod Routing
-pub mod Rows
 pub mod Selecting
-pub mod Settings
-pub mod Staying
-pub mod Topologies

@@ -1,8 +1,6 @@
 -- What follows from the bases of a router, and the states that have it.
 use Rattle.std.specs.Prelude.{◌≡◌, ◌≢◌, ℕ, ◌+◌, ◌%◌, ◌⊎◌, [], Some}
-use Rattle.mesh_atoms.specs.declared.settings.RouterSettings.{RouterSettings}
-use Rattle.mesh_atoms.specs.State.{Neighbourhood, TopologyBase, State}
-use Rattle.mesh_machine.specs.Renewal.{Renews}
+use Rattle.mesh_atoms.specs.State.{State}
 use Rattle.mesh_renewal.specs.declared.derived.Derived.{Derived}
 
 -- the state has these relays, routes and advertised rows, their ANSN, and these moments
@@ -29,9 +27,3 @@ abbrev pub IsEmptiedAt : ℕ → Derived → Derived → Type 0
 IsEmptiedAt now old new =
     ((new.rows ≡ []) × (old.rows ≢ []) × (new.emptied ≡ Some now))
     ⊎ (((new.rows ≢ []) ⊎ (old.rows ≡ [])) × (new.emptied ≡ old.emptied))
-
--- an event that begins with `old` and leaves this neighbourhood and this topology ends in each state that has `new`
-abbrev pub RenewsTo : RouterSettings → Neighbourhood → TopologyBase → Derived → ℕ → Derived → Type 0
-RenewsTo settings near topology old now new =
-    (before s : State) → before.settings ≡ settings → before.rows ≡ old.rows → before.ansn ≡ old.ansn → before.emptied ≡ old.emptied →
-    s.settings ≡ settings → s.bases.neighbourhood ≡ near → s.bases.topology ≡ topology → HasDerived s new → Renews before now s.bases s

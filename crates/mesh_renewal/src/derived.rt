@@ -4,19 +4,18 @@ ghost use Rattle.mesh_atoms.specs.Advertised.{AreTcRows};
 ghost use Rattle.mesh_atoms.specs.State.{State};
 ghost use Rattle.mesh_renewal.specs.Renewed.{IsAnsnAfter, IsEmptiedAt};
 
-use crate::relays::KeptRelays;
-use crate::routes::KeptRoutes;
-use crate::rows::KeptRows;
-use mesh_atoms::{RouterSettings, same_rows};
+use crate::advertise::advertised_rows;
+use mesh_atoms::{Relays, RouterSettings, Seq, TcRow, same_rows};
 use mesh_nbrs::Near4;
+use mesh_routes::RoutingSet;
 use std::alloc::{AllocError, Global};
 
 /// Relays, routes, advertised rows with their ANSN and the moment at which they became empty; the sequence number of the next
 /// TC; the moments of the next HELLO and TC, and that of the last event. Moments are in ticks of 1/8192 s.
 pub struct Derived {
-    pub relays: KeptRelays,
-    pub routes: KeptRoutes,
-    pub rows: KeptRows,
+    pub relays: Relays,
+    pub routes: RoutingSet,
+    pub rows: Seq<TcRow>,
     pub ansn: u16,
     pub emptied: Option<u64>,
     pub sequence: u16,
@@ -44,7 +43,7 @@ impl Drop for Derived {
 
 impl Derived {
     // Takes the advertised rows at the end of an event. The ANSN rises where the rows change.
-    fn take_rows(&mut self, now: u64, rows: KeptRows)
+    fn take_rows(&mut self, now: u64, rows: Seq<TcRow>)
         ensures rows { self.new.rows ≡ rows }
         ensures ansn { IsAnsnAfter self.old self.new }
         ensures emptied { IsEmptiedAt now self.old self.new }
@@ -56,11 +55,11 @@ impl Derived {
         if rows.len() == 0 && self.rows.len() != 0 {
             self.emptied = Some(now);
         }
-        let _old = std::mem::replace(&mut self.rows, rows);
+        self.rows = rows;
     }
 
-    // Renews the advertised rows at the end of an event: they are made anew where other neighbours or networks give them.
-    pub(crate) fn renew_rows<N: Near4>(
+    /// Renews the advertised rows at the end of an event at `now` (RFC 7181, section 16.1): the ANSN rises where they change.
+    pub fn renew_rows<N: Near4>(
         &mut self,
         alloc: Global,
         near: &N,
@@ -72,10 +71,7 @@ impl Derived {
         ensures emptied { OnOk result (IsEmptiedAt now self.old self.new) }
         ensures others { self.new ≡ record self.old { rows = self.new.rows; ansn = self.new.ansn; emptied = self.new.emptied } }
     {
-        if self.rows.stand(near, settings) {
-            return Ok(());
-        }
-        let rows = KeptRows::of(alloc, near, settings)?;
+        let rows = advertised_rows(alloc, near, settings)?;
         self.take_rows(now, rows);
         Ok(())
     }

@@ -2,24 +2,13 @@
 #![tactic(auto)]
 
 mod advertise;
-mod basis;
 mod derived;
-mod kind;
-mod near;
-mod own;
-mod reach;
+mod laws;
 mod relays;
-mod renewal;
-mod routes;
-mod rows;
-mod same;
-mod staying;
-mod topology;
+mod start;
 
 pub use advertise::advertised_rows;
 pub use derived::Derived;
-pub use relays::{KeptRelays, no_relays};
-pub use renewal::{opening, renew};
-pub use routes::KeptRoutes;
-pub use rows::KeptRows;
-pub use staying::{stay, still_follows};
+pub use laws::routers_have_relays;
+pub use relays::{no_relays, relays_of};
+pub use start::opening;

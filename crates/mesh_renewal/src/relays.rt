@@ -1,45 +1,16 @@
 //! The relays that a router chooses.
-ghost use Rattle.std.specs.Prelude.{◌≡◌, ℕ, Some, None, IfOk, OnOk};
+ghost use Rattle.std.specs.Prelude.{◌≡◌, ℕ, Some, None, IfOk};
 ghost use Rattle.mesh_atoms.specs.declared.graphs.NeighbourGraph.{NeighbourGraph as Graph};
 ghost use Rattle.mesh_atoms.specs.RelayGraphs.{AreRelays, AreRelaysOf, IsFloodingGraph, IsRoutingGraph};
 ghost use Rattle.mesh_atoms.specs.Sound.{SoundNeighbourhood};
 ghost use Rattle.mesh_atoms.specs.State.{State};
 ghost use Rattle.mesh_machine.specs.Machine.{no_relays};
 
-use crate::near::NearImage;
 use mesh_atoms::{Addr4, Relays, RouterSettings, Seq};
 use mesh_nbrs::Near4;
 use mesh_relay::choose;
 use mesh_routes::graph_of;
 use std::alloc::{AllocError, Global};
-use std::marker::Model;
-
-/// The relays of a router, and what is kept of the neighbourhood from which they were chosen. Contracts see them as the relays.
-pub struct KeptRelays {
-    relays: Relays,
-    image: NearImage,
-}
-
-// By hand, so that no crate that lets go of one has to know its parts.
-impl Drop for KeptRelays {
-    fn drop(self) {
-        let KeptRelays {
-            relays: _,
-            image: _,
-        } = self;
-    }
-}
-
-impl Model for KeptRelays {
-    ghost use Rattle.mesh_atoms.specs.declared.tuples.Relays.{Relays as Chosen};
-    ghost use Rattle.mesh_renewal.specs.Kept.{AreRelaysFor};
-
-    ghost Value = { Chosen };
-
-    ghost view = { λ k. k.relays };
-
-    ghost invariant = { λ k. AreRelaysFor k.image k.relays };
-}
 
 // The flooding relays on an interface of a router with this neighbourhood, or where there is none its routing relays.
 fn relays_on<N: Near4>(
@@ -58,8 +29,9 @@ fn relays_on<N: Near4>(
     choose(alloc, &graph)
 }
 
-// The relays of a router with this neighbourhood.
-fn relays_of<N: Near4>(
+/// The relays of a router with this neighbourhood (RFC 7181, section 18), at each moment at which it is sound. Only an allocation
+/// failure refuses.
+pub fn relays_of<N: Near4>(
     alloc: Global,
     near: &N,
     settings: &RouterSettings,
@@ -89,58 +61,4 @@ pub fn no_relays(alloc: Global, count: usize) -> Result<Relays, AllocError>
         flooding,
         routing: Seq::new(alloc),
     })
-}
-
-impl KeptRelays {
-    /// No relays on so many interfaces.
-    pub(crate) fn none(alloc: Global, count: usize) -> Result<KeptRelays, AllocError>
-        ensures { IfOk result (λ relays. relays ≡ no_relays count) }
-    {
-        Ok(KeptRelays {
-            relays: no_relays(alloc, count)?,
-            image: NearImage::nothing(alloc),
-        })
-    }
-
-    // The relays of a router with this neighbourhood.
-    fn of<N: Near4>(
-        alloc: Global,
-        near: &N,
-        settings: &RouterSettings,
-    ) -> Result<KeptRelays, AllocError>
-        requires sound { (now : ℕ) × SoundNeighbourhood settings.now now (N.near near.now) }
-        ensures { IfOk result (λ kept. (s : State) (now : ℕ) → s.settings ≡ settings.now → s.bases.neighbourhood ≡ N.near near.now → s.relays ≡ kept
-            → SoundNeighbourhood settings.now now (N.near near.now) → AreRelays s now) }
-    {
-        let relays = relays_of(alloc, near, settings)?;
-        let image = NearImage::of(alloc, near, settings)?;
-        Ok(KeptRelays { relays, image })
-    }
-
-    /// Makes them the relays of a router with this neighbourhood, at each moment at which it is sound: they are chosen anew where it
-    /// isn't the one from which they were chosen, but for moments.
-    pub(crate) fn renew<N: Near4>(
-        &mut self,
-        alloc: Global,
-        near: &N,
-        settings: &RouterSettings,
-    ) -> Result<(), AllocError>
-        requires sound { (now : ℕ) × SoundNeighbourhood settings.now now (N.near near.now) }
-        ensures { OnOk result ((s : State) (now : ℕ) → s.settings ≡ settings.now → s.bases.neighbourhood ≡ N.near near.now → s.relays ≡ self.new
-            → SoundNeighbourhood settings.now now (N.near near.now) → AreRelays s now) }
-    {
-        if self.image.shows(near, settings) {
-            return Ok(());
-        }
-        let kept = KeptRelays::of(alloc, near, settings)?;
-        let _old = std::mem::replace(self, kept);
-        Ok(())
-    }
-
-    /// The relays.
-    pub fn get(&self) -> &Relays
-        ensures { result.now ≡ self.now }
-    {
-        &self.relays
-    }
 }

@@ -1,17 +1,41 @@
--- What a tick changes after the end of its event, and what an event at the core's bases leaves.
-use Rattle.std.proofs.Common.{◌≡◌, ap, refl, sym, subst, ◌∙◌, ℕ}
-use Rattle.mesh_atoms.specs.declared.settings.RouterSettings.{RouterSettings}
-use Rattle.mesh_atoms.specs.Live.{Live}
-use Rattle.mesh_atoms.specs.Sound.{Sound}
-use Rattle.mesh_machine.specs.Laws.{SoundBases}
-use Rattle.mesh_machine.proofs.Soundness.{bases_of, live_bases_sound}
+-- What a router has before an event, at its end and after a tick.
+use Rattle.std.proofs.Common.{◌≡◌, ℕ, IsTrue, ap, refl, subst, ◌∙◌}
+use Rattle.mesh_atoms.specs.Advertised.{AreTcRows}
+use Rattle.mesh_atoms.specs.State.{Bases, State}
+use Rattle.mesh_core.specs.declared.event.outdated.EventWants.{EventWants}
+use Rattle.mesh_core.specs.declared.event.outdated.Outdated.{Outdated}
+use Rattle.mesh_core.specs.declared.held.quiet.Quiet.{Quiet}
+use Rattle.mesh_core.specs.Deferred.{IsButForDerived, IsSoundButForDerived}
+use Rattle.mesh_core.specs.Event.Ending.{IsBeforeEvent}
+use Rattle.mesh_core.specs.Event.Holding.{state_of}
+use Rattle.mesh_core.specs.Event.Outdated.{IsCurrent, KeepsWanted}
 use Rattle.mesh_core.specs.Held.Held.{Held}
-use Rattle.mesh_core.specs.Held.Quiet.{IsQuiet}
+use Rattle.mesh_core.specs.Sending.Sent.{HasRowsOf}
+use Rattle.mesh_machine.specs.Renewal.{Renews}
+use Rattle.mesh_nbrs.specs.Same.{SameNear}
 use Rattle.mesh_renewal.specs.declared.derived.Derived.{Derived}
 use Rattle.mesh_renewal.specs.Renewed.{HasDerived}
-use Rattle.mesh_core.specs.Event.Holding.{state_of, EndsQuietly}
+use Rattle.mesh_renewal.proofs.RowMoments.{rows_stay}
+use Rattle.mesh_topo.specs.Same.{SameAdvertised}
 
--- only the moments and the number of the next HELLO and TC
+-- a state has what it is made of
+pub has_own : (held : Held) (derived : Derived) → HasDerived (state_of held derived) derived
+has_own held derived = record { relays = refl; routes = refl; rows = refl; ansn = refl; emptied = refl; last = refl }
+
+-- the state before an event
+pub before_event : (old new : Held) (derived : Derived) (outdated : Outdated) (quiet : Quiet) (now : ℕ) → IsSoundButForDerived (state_of old derived) → IsCurrent outdated (state_of old derived) →
+    new.settings ≡ old.settings → (IsTrue quiet.near → SameNear old.bases.neighbourhood derived.last new.bases.neighbourhood now) → (IsTrue quiet.advertised → SameAdvertised old.bases.topology new.bases.topology) →
+    IsBeforeEvent outdated derived quiet new now (state_of old derived)
+before_event old new derived outdated quiet now sound current settings near advertised =
+    record { has = has_own old derived; sound = sound; current = current; settings = settings; near = near; advertised = advertised }
+
+-- the rows at the end of an event
+pub rows_at_end : (before : State) (now : ℕ) (wants : EventWants) (outdated : Outdated) (s : State) → KeepsWanted (Renews before now s.bases) wants outdated s → AreTcRows s s.rows
+rows_at_end before now wants outdated s ends =
+    let other : State = record s { relays = ends.whole.relays; routes = ends.whole.routes } in
+    rows_stay other s (λ o n. (λ h. h, λ h. h)) refl s.rows (subst (λ (w : State). AreTcRows w w.rows) ends.rest.same ends.leads.rows)
+
+-- what a tick sends changes only the moments and the number of the next HELLO and TC
 pub derived_after : (held : Held) (closed hellos tc : Derived) → hellos ≡ record closed { next_hello = hellos.next_hello } → tc ≡ record hellos { next_tc = tc.next_tc; sequence = tc.sequence } →
     HasDerived (state_of held tc) closed
 derived_after held closed hellos tc one two = record {
@@ -23,16 +47,11 @@ derived_after held closed hellos tc one two = record {
   last = ap (λ (d : Derived). d.last) two ∙ ap (λ (d : Derived). d.last) one;
 }
 
--- a state has what it is made of
-pub has_own : (held : Held) (derived : Derived) → HasDerived (state_of held derived) derived
-has_own held derived = record { relays = refl; routes = refl; rows = refl; ansn = refl; emptied = refl; last = refl }
-
--- sound bases after expiry
-pub live_held : (old new : Held) (derived : Derived) (now : ℕ) → Sound (state_of old derived) → Live old.settings now old.bases new.bases → new.settings ≡ old.settings → SoundBases new.settings now new.bases
-live_held old new derived now sound live same =
-    subst (λ (r : RouterSettings). SoundBases r now new.bases) (sym same)
-    (live_bases_sound old.settings derived.last now old.bases new.bases (bases_of (state_of old derived) sound) live)
-
--- an event that leaves all as it was at the last one, but for moments, ends quietly
-pub ends_quietly : (old new : Held) (derived : Derived) (now : ℕ) → Sound (state_of old derived) → new.settings ≡ old.settings → IsQuiet old.bases derived.last new.bases now → EndsQuietly new now derived
-ends_quietly old new derived now sound same quiet = record { before = state_of old derived; sound = sound; has = has_own old derived; settings = sym same; quiet = quiet }
+-- the rows of a state are those of what is kept of it
+pub rows_but_for : (held : Held) (derived : Derived) (whole : State) → IsButForDerived whole (state_of held derived) → HasRowsOf whole derived
+rows_but_for held derived whole same = record {
+  rows = ap (λ (w : State). w.rows) same;
+  ansn = ap (λ (w : State). w.ansn) same;
+  emptied = ap (λ (w : State). w.emptied) same;
+  last = ap (λ (w : State). w.last) same;
+}

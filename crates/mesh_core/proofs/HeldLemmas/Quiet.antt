@@ -4,13 +4,12 @@ use Rattle.std.specs.Prelude.{cond}
 use Rattle.mesh_atoms.specs.declared.settings.RouterSettings.{RouterSettings}
 use Rattle.mesh_atoms.specs.declared.tuples.Link.{Link}
 use Rattle.mesh_atoms.specs.Base.{router_eq, address_eq, network_eq}
-use Rattle.mesh_atoms.specs.State.{Neighbourhood, TopologyBase, Bases, is_symmetric, link_at}
+use Rattle.mesh_atoms.specs.State.{Neighbourhood, TopologyBase, is_symmetric, link_at}
 use Rattle.mesh_nbrs.specs.Same.{SameNear, way_at}
 use Rattle.mesh_nhdp.specs.Staying.{AllIsAsItWas}
 use Rattle.mesh_topo.specs.Same.{SameAdvertised}
 use Rattle.mesh_topo.specs.TcSets.Tuples.{router_says, address_says, network_says}
 use Rattle.mesh_topo.proofs.TcSetsLemmas.Laws.{same_after, same_equal}
-use Rattle.mesh_core.specs.Held.Quiet.{IsQuiet}
 
 pub both_true : (a b : Bool) → IsTrue (a && b) → (a ≡ true) × (b ≡ true)
 both_true true b h = (refl, h)
@@ -28,28 +27,18 @@ advertised_equal old new is = record {
   networks = same_equal network_eq network_says old.networks new.networks (ap (λ (t : TopologyBase). t.networks) is);
 }
 
-advertised_after : (old mid new : TopologyBase) → SameAdvertised old mid → SameAdvertised mid new → SameAdvertised old new
+pub advertised_after : (old mid new : TopologyBase) → SameAdvertised old mid → SameAdvertised mid new → SameAdvertised old new
 advertised_after old mid new h k = record {
   routers = same_after router_eq router_says old.routers mid.routers new.routers h.routers k.routers;
   addresses = same_after address_eq address_says old.addresses mid.addresses new.addresses h.addresses k.addresses;
   networks = same_after network_eq network_says old.networks mid.networks new.networks h.networks k.networks;
 }
 
-near_after : (old : Neighbourhood) (last : ℕ) (mid : Neighbourhood) (then : ℕ) (new : Neighbourhood) (now : ℕ) → SameNear old last mid then → SameNear mid then new now → SameNear old last new now
+pub near_after : (old : Neighbourhood) (last : ℕ) (mid : Neighbourhood) (then : ℕ) (new : Neighbourhood) (now : ℕ) → SameNear old last mid then → SameNear mid then new now → SameNear old last new now
 near_after old last mid then new now h k = record { neighbours = λ q. k.neighbours q ∙ h.neighbours q; two_hops = λ i q. k.two_hops i q ∙ h.two_hops i q; ways = λ i key. k.ways i key ∙ h.ways i key }
 
 pub near_equal : (old new : Neighbourhood) (now : ℕ) → new ≡ old → SameNear old now new now
 near_equal old new now is = subst (λ (n : Neighbourhood). SameNear old now n now) (sym is) (record { neighbours = λ q. refl; two_hops = λ i q. refl; ways = λ i key. refl })
-
-pub quiet_equal : (old new : Bases) (now : ℕ) → new.neighbourhood ≡ old.neighbourhood → new.topology ≡ old.topology → IsQuiet old now new now
-quiet_equal old new now near topology = record { near = near_equal old.neighbourhood new.neighbourhood now near; advertised = advertised_equal old.topology new.topology topology }
-
--- one quiet change after the other
-pub quiet_after : (old : Bases) (last : ℕ) (mid : Bases) (then : ℕ) (new : Bases) (now : ℕ) → IsQuiet old last mid then → IsQuiet mid then new now → IsQuiet old last new now
-quiet_after old last mid then new now h k = record {
-  near = near_after old.neighbourhood last mid.neighbourhood then new.neighbourhood now h.near k.near;
-  advertised = advertised_after old.topology mid.topology new.topology h.advertised k.advertised;
-}
 
 -- a neighbourhood of which nothing has become: each link is SYMMETRIC where it was so
 way_stays : (last now : ℕ) (o : Option (Link × ℕ)) → ((e : Link × ℕ) → o ≡ Some e → is_symmetric e.0 now ≡ is_symmetric e.0 last) → way_at now o ≡ way_at last o

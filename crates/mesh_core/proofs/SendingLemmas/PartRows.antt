@@ -13,7 +13,7 @@ use Rattle.mesh_atoms.specs.Writable.{AreOneType, HaveTypeWhole}
 use Rattle.mesh_topo.specs.declared.advertised.spans.PartSpan.{PartSpan}
 use Rattle.mesh_topo.specs.Advertised.Spans.{part_of, AreSpans}
 use Rattle.mesh_renewal.specs.declared.derived.Derived.{Derived}
-use Rattle.mesh_renewal.specs.Renewed.{HasDerived}
+use Rattle.mesh_core.specs.Sending.Sent.{HasRowsOf}
 
 run_size : (first len : ℕ) → (first + len) - first ≡ len
 run_size first len = omega arith
@@ -69,5 +69,5 @@ pub next_number : (first n number next : ℕ) → number ≡ (first + n) % 65536
 next_number first n number next is one = omega (arith, is, one)
 
 -- what a TC takes its number from is nothing that an event ends with
-pub has_before : (s : State) (derived : Derived) (number : ℕ) → HasDerived s (record derived { sequence = number }) → HasDerived s derived
-has_before s derived number has = record { relays = has.relays; routes = has.routes; rows = has.rows; ansn = has.ansn; emptied = has.emptied; last = has.last }
+pub has_before : (s : State) (derived : Derived) (number : ℕ) → HasRowsOf s (record derived { sequence = number }) → HasRowsOf s derived
+has_before s derived number has = record { rows = has.rows; ansn = has.ansn; emptied = has.emptied; last = has.last }

@@ -6,7 +6,6 @@ use Rattle.mesh_atoms.specs.Advertised.{AreParts}
 use Rattle.mesh_atoms.specs.Validity.{IsValidity}
 use Rattle.mesh_atoms.specs.State.{Neighbourhood, State}
 use Rattle.mesh_renewal.specs.declared.derived.Derived.{Derived}
-use Rattle.mesh_renewal.specs.Renewed.{HasDerived}
 use Rattle.mesh_machine.specs.declared.frame.Frame.{Frame}
 use Rattle.mesh_machine.specs.Sending.{SendsHellos, SendsParts, SendsTcs}
 
@@ -16,10 +15,17 @@ HellosAreSent settings near old new sent =
     (before s : State) → before.next_hello ≡ old.next_hello → s.settings ≡ settings → s.bases.neighbourhood ≡ near →
     s.relays ≡ new.relays → s.last ≡ new.last → s.next_hello ≡ new.next_hello → SendsHellos before s sent
 
--- the TCs that a tick sends, whatever the bases are
+-- the state has these advertised rows, their ANSN, and these moments
+pub record HasRowsOf (s : State) (derived : Derived) : Type 0 where
+  pub rows : s.rows ≡ derived.rows
+  pub ansn : s.ansn ≡ derived.ansn
+  pub emptied : s.emptied ≡ derived.emptied
+  pub last : s.last ≡ derived.last
+
+-- the TCs that a tick sends, whatever bases, relays and routes are
 abbrev pub TcsAreSent : RouterSettings → Derived → Derived → List Frame → Type 0
 TcsAreSent settings old new sent =
-    (before s : State) → before.sequence ≡ old.sequence → before.next_tc ≡ old.next_tc → s.settings ≡ settings → HasDerived s new →
+    (before s : State) → before.sequence ≡ old.sequence → before.next_tc ≡ old.next_tc → s.settings ≡ settings → HasRowsOf s new →
     s.sequence ≡ new.sequence → s.next_tc ≡ new.next_tc → SendsTcs before s sent
 
 -- a TC is sent for each part of the rows
@@ -31,6 +37,6 @@ pub record SendsAllParts (s : State) (old new : ℕ) (sent : List Frame) : Type 
   pub number : new ≡ (old + length parts) % 65536
   pub sends : SendsParts s validity (nat_eq (length parts) 1) old parts sent
 
--- the same, whatever the bases are
+-- the same, whatever bases, relays and routes are
 abbrev pub PartsAreSent : RouterSettings → Derived → Derived → List Frame → Type 0
-PartsAreSent settings old new sent = (s : State) → s.settings ≡ settings → HasDerived s new → SendsAllParts s old.sequence new.sequence sent
+PartsAreSent settings old new sent = (s : State) → s.settings ≡ settings → HasRowsOf s new → SendsAllParts s old.sequence new.sequence sent

@@ -1,54 +1,70 @@
 //! What the clock's tick does to what a router holds.
-ghost use Rattle.std.specs.Prelude.{◌≡◌, ◌<◌, ◌^◌, ◌++◌, List, OnOk, OnErr};
-ghost use Rattle.mesh_atoms.specs.Sound.{Sound};
+ghost use Rattle.std.specs.Prelude.{◌≡◌, ◌<◌, ◌^◌, ◌++◌, List, OnOk, OnErr, IsTrue};
+ghost use Rattle.mesh_core.specs.Deferred.{IsSoundButForDerived};
 ghost use Rattle.mesh_core.specs.Event.Holding.{state_of};
+ghost use Rattle.mesh_core.specs.Event.Outdated.{IsCurrent, KeepsWanted};
+ghost use Rattle.mesh_core.specs.Event.Promises.{TicksTo};
 ghost use Rattle.mesh_machine.specs.declared.frame.Frame.{Frame};
 ghost use Rattle.mesh_machine.specs.Machine.{TicksAt};
 
 use crate::event::ending::end_event;
-use crate::held::{InformationBases, Outbox};
+use crate::event::outdated::EventWants;
+use crate::held::Outbox;
+use crate::router::RouterState;
 use crate::sending::{send_hellos, send_tcs};
 use mesh_expire::Bases;
-use mesh_renewal::Derived;
-use std::alloc::{AllocError, Global};
+use std::alloc::AllocError;
 
 /// A router's clock ticks, at a moment below 2^62 in ticks of 1/8192 s: what is expired goes (RFC 6130, section 13), what follows from the
-/// bases is renewed (RFC 7181, sections 16.1, 18 and 19), and the HELLOs (RFC 6130, section 11) and TCs (RFC 7181, section 16) that are
-/// due are put at the end of `out`. Want of memory leaves `out` as it was; `holding` and `derived` may then only be dropped.
-pub fn tick<B: Bases>(
-    holding: &mut InformationBases<B>,
-    derived: &mut Derived,
+/// bases is renewed (RFC 7181, sections 16.1, 18 and 19), but for routes that aren't wanted, and the HELLOs (RFC 6130, section 11) and TCs
+/// (RFC 7181, section 16) that are due are put at the end of `out`. Relays are wanted at each tick, since HELLOs say them. Want of memory
+/// leaves `out` as it was; `router` may then only be dropped.
+pub(crate) fn tick<B: Bases>(
+    router: &mut RouterState<B>,
+    wants: EventWants,
     now: u64,
     out: &mut Outbox,
 ) -> Result<(), AllocError>
     requires now { now < 2 ^ 62 }
-    requires sound { Sound (state_of holding.old derived.old) }
+    requires relays { IsTrue wants.relays }
+    requires sound { IsSoundButForDerived (state_of router.old.holding router.old.derived) }
+    requires current { IsCurrent router.old.outdated (state_of router.old.holding router.old.derived) }
     // What is sent, and the state after it, are the machine's.
-    ensures ticks { OnOk result ((sent : List Frame) × (out.new ≡ out.old ++ sent) × TicksAt (state_of holding.old derived.old) now sent (state_of holding.new derived.new)) }
-    // A sound router stays sound.
-    ensures sound { OnOk result (Sound (state_of holding.new derived.new)) }
+    ensures ticks { OnOk result (TicksTo wants (state_of router.old.holding router.old.derived) now out.old out.new
+        router.new.outdated (state_of router.new.holding router.new.derived)) }
     ensures wanting { OnErr result (out.new ≡ out.old) }
 {
-    let alloc = holding.settings().interfaces.allocator();
+    let alloc = router.holding.settings().interfaces.allocator();
     let mut sent = Outbox::new(alloc);
-    do_tick(alloc, holding, derived, now, &mut sent)?;
+    do_tick(router, wants, now, &mut sent)?;
     out.put_all(sent)
 }
 
 // What is expired goes, what follows from the bases is renewed, and what is due is sent.
 fn do_tick<B: Bases>(
-    alloc: Global,
-    holding: &mut InformationBases<B>,
-    derived: &mut Derived,
+    router: &mut RouterState<B>,
+    wants: EventWants,
     now: u64,
     out: &mut Outbox,
 ) -> Result<(), AllocError>
     requires now { now < 2 ^ 62 }
-    requires sound { Sound (state_of holding.old derived.old) }
-    ensures ticks { OnOk result ((sent : List Frame) × (out.new ≡ out.old ++ sent) × TicksAt (state_of holding.old derived.old) now sent (state_of holding.new derived.new)) }
+    requires relays { IsTrue wants.relays }
+    requires sound { IsSoundButForDerived (state_of router.old.holding router.old.derived) }
+    requires current { IsCurrent router.old.outdated (state_of router.old.holding router.old.derived) }
+    ensures { OnOk result ((sent : List Frame) × (out.new ≡ out.old ++ sent)
+        × KeepsWanted (TicksAt (state_of router.old.holding router.old.derived) now sent) wants router.new.outdated (state_of router.new.holding router.new.derived)) }
 {
-    let quiet = holding.expire(derived.last, now)?;
-    end_event(alloc, holding, now, quiet, derived)?;
-    send_hellos(alloc, holding.nhdp(), derived, out)?;
-    send_tcs(alloc, holding.settings(), derived, out)
+    let alloc = router.holding.settings().interfaces.allocator();
+    let quiet = router.holding.expire(router.derived.last, now)?;
+    end_event(
+        alloc,
+        &router.holding,
+        now,
+        quiet,
+        wants,
+        &mut router.derived,
+        &mut router.outdated,
+    )?;
+    send_hellos(alloc, router.holding.nhdp(), &mut router.derived, out)?;
+    send_tcs(alloc, router.holding.settings(), &mut router.derived, out)
 }

@@ -1,5 +1,5 @@
 //! What becomes of a message, by what the bases answered.
-ghost use Rattle.std.specs.Prelude.{◌≡◌, true};
+ghost use Rattle.std.specs.Prelude.{◌≡◌};
 ghost use Rattle.mesh_atoms.specs.declared.tc.Tc.{Tc as TcValue};
 ghost use Rattle.mesh_atoms.specs.TakesHello.{HelloAnswer};
 ghost use Rattle.mesh_nhdp.specs.Judged.{IsAnswer};
@@ -11,15 +11,14 @@ use mesh_machine::{Fate, Read};
 use mesh_nhdp::HelloTaken;
 use mesh_topo::TcTaken;
 
-/// The fate of a message that breaks the rule of that number, which is always quiet.
-pub(crate) fn broken(number: u8) -> (Fate, bool)
-    ensures { result ≡ (only (Read.Broken number), true) }
+/// The fate of a message that breaks the rule of that number.
+pub(crate) fn broken(number: u8) -> Fate
+    ensures { result ≡ only (Read.Broken number) }
 {
-    let fate = Fate {
+    Fate {
         read: Read::Broken(number),
         forward: Forward::NotFlooded,
-    };
-    (fate, true)
+    }
 }
 
 /// What is made of a HELLO that breaks no rule of its own.

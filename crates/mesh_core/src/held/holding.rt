@@ -1,11 +1,13 @@
 //! The bases of a router, with its settings.
 ghost use Rattle.std.specs.Prelude.{◌≡◌, ◌<◌, ◌^◌, length, IfOk, OnOk, IsTrue};
 ghost use Rattle.mesh_atoms.specs.Live.{Live};
-ghost use Rattle.mesh_core.specs.Held.Quiet.{IsQuiet};
 ghost use Rattle.mesh_machine.specs.Laws.{SoundBases};
 ghost use Rattle.mesh_machine.specs.Machine.{no_bases};
+ghost use Rattle.mesh_nbrs.specs.Same.{SameNear};
 ghost use Rattle.mesh_nhdp.specs.Staying.{AllIsAsItWas};
+ghost use Rattle.mesh_topo.specs.Same.{SameAdvertised};
 
+use crate::held::quiet::Quiet;
 use mesh_atoms::RouterSettings;
 use mesh_expire::Bases;
 use mesh_flood::Flood;
@@ -90,19 +92,23 @@ impl<B: Bases> InformationBases<B> {
     }
 
     /// Takes out what is expired at a moment below 2^62, where the last event was at `last` (RFC 6130, section 13, and RFC 7181,
-    /// sections 10 and 14). True only where the neighbourhood is just as it was then, and others advertise the same.
-    pub fn expire(&mut self, last: u64, now: u64) -> Result<bool, AllocError>
+    /// sections 10 and 14). The answer is what that has left as it was, the neighbourhood with its moments.
+    pub fn expire(&mut self, last: u64, now: u64) -> Result<Quiet, AllocError>
         requires now { now < 2 ^ 62 }
         requires sound { SoundBases self.old.settings last self.old.bases }
         ensures live { OnOk result (Live self.old.settings now self.old.bases self.new.bases) }
         ensures settings { self.new.settings ≡ self.old.settings }
-        ensures quiet { IfOk result (λ quiet. IsTrue quiet → IsQuiet self.old.bases last self.new.bases now) }
-        ensures same { IfOk result (λ quiet. IsTrue quiet → self.new.bases.neighbourhood ≡ self.old.bases.neighbourhood) }
-        ensures links { IfOk result (λ quiet. IsTrue quiet → AllIsAsItWas self.old.settings last now self.old.bases.neighbourhood) }
+        ensures near { IfOk result (λ quiet. IsTrue quiet.near → SameNear self.old.bases.neighbourhood last self.new.bases.neighbourhood now) }
+        ensures advertised { IfOk result (λ quiet. IsTrue quiet.advertised → SameAdvertised self.old.bases.topology self.new.bases.topology) }
+        ensures same { IfOk result (λ quiet. IsTrue quiet.near → self.new.bases.neighbourhood ≡ self.old.bases.neighbourhood) }
+        ensures links { IfOk result (λ quiet. IsTrue quiet.near → AllIsAsItWas self.old.settings last now self.old.bases.neighbourhood) }
     {
-        let same = self.nhdp.expire_since(last, now)?;
+        let near = self.nhdp.expire_since(last, now)?;
         let changed = self.topology.expire_and_tell(now);
         self.flood.expire(now);
-        Ok(same & !changed)
+        Ok(Quiet {
+            near,
+            advertised: !changed,
+        })
     }
 }

@@ -6,10 +6,10 @@ ghost use Rattle.mesh_atoms.specs.State.{IsOriginator, NotedMessages, TopologyBa
 ghost use Rattle.mesh_nbrs.specs.Same.{SameNear};
 ghost use Rattle.mesh_topo.specs.Same.{SameAdvertised};
 ghost use Rattle.mesh_topo.specs.Tuples.{HasHosts};
-ghost use Rattle.mesh_packet.specs.Fields.{MessageFields, fields_of_message};
-ghost use Rattle.mesh_packet.specs.Grammar.{SpellsMessage};
-ghost use Rattle.mesh_core.specs.Held.Quiet.{IsQuiet};
+ghost use Rattle.mesh_packet.specs.Fields.{MessageFields, PacketFields, fields_of_message};
+ghost use Rattle.mesh_packet.specs.Grammar.{Spells, SpellsMessage};
 ghost use Rattle.mesh_core.specs.Held.Reading.{ReadsTc};
+ghost use Rattle.mesh_core.specs.Held.Taking.{TakesFrame};
 ghost use Rattle.mesh_core.specs.Reading.Content.{AreReadAs};
 ghost use Rattle.mesh_core.specs.Reading.Message.{IsReadAs, IsReadAsHello, IsReadAsOther};
 ghost use Rattle.mesh_machine.specs.declared.fate.Fate.{Fate as FateValue};
@@ -22,6 +22,7 @@ use crate::held::answers::{broken, hello_read, is_processed, other_read, tc_read
 use crate::held::holding::InformationBases;
 use crate::held::onward::{judge, pass_on};
 use crate::held::outbox::Outbox;
+use crate::held::quiet::Quiet;
 use crate::reading::{TypedMessage, typed_messages};
 use mesh_atoms::{Addr4, Hello, Seq, Tc};
 use mesh_expire::Bases;
@@ -55,7 +56,7 @@ fn read_tc<B: Bases>(
     }
 }
 
-// Takes a TC that breaks no rule: its fate, and whether others advertise the same.
+// Takes a TC that breaks no rule: its fate, and what it has left as it was.
 fn process_tc<B: Bases>(
     alloc: Global,
     nhdp: &Nhdp<B>,
@@ -67,7 +68,7 @@ fn process_tc<B: Bases>(
     heading: &Heading,
     octets: &[u8],
     out: &mut Outbox,
-) -> Result<(Fate, bool), AllocError>
+) -> Result<(Fate, Quiet), AllocError>
     requires now { arrival.now < 2 ^ 62 }
     requires iface { arrival.iface < length flood.old.noted.received }
     requires times { flood.old.times ≡ nhdp.now.settings.times }
@@ -77,12 +78,12 @@ fn process_tc<B: Bases>(
     ensures taken { IfOk result (λ made. (sent : List Frame) × (out.new ≡ out.old ++ sent) × ProcessesTc nhdp.now.settings own arrival
         (record { neighbourhood = nhdp.now.near; topology = topology.old; noted = flood.old.noted }) tc.now heading.now octets.now
         (record { neighbourhood = nhdp.now.near; topology = topology.new; noted = flood.new.noted }) sent made.0) }
-    ensures quiet { IfOk result (λ made. IsTrue made.1 → SameAdvertised topology.old topology.new) }
+    ensures advertised { IfOk result (λ made. IsTrue made.1.advertised → SameAdvertised topology.old topology.new) }
     ensures times { flood.new.times ≡ flood.old.times }
 {
     let count = nhdp.settings().interfaces.len();
     let verdict = judge(nhdp, flood, arrival, own, heading);
-    let (read, processed, quiet) = read_tc(topology, arrival.now, tc, verdict.process)?;
+    let (read, processed, advertised) = read_tc(topology, arrival.now, tc, verdict.process)?;
     pass_on(
         alloc, flood, count, arrival, heading, octets, &verdict, processed, out,
     )?;
@@ -90,15 +91,19 @@ fn process_tc<B: Bases>(
         read,
         forward: verdict.forward,
     };
+    let quiet = Quiet {
+        near: true,
+        advertised,
+    };
     Ok((fate, quiet))
 }
 
-// Takes a HELLO that breaks no rule of its own: its fate, and whether it was quiet.
+// Takes a HELLO that breaks no rule of its own: its fate, and what it has left as it was.
 fn take_hello<B: Bases>(
     nhdp: &mut Nhdp<B>,
     arrival: Arrival,
     hello: &Hello,
-) -> Result<(Fate, bool), AllocError>
+) -> Result<(Fate, Quiet), AllocError>
     requires now { arrival.now < 2 ^ 62 }
     requires iface { arrival.iface < length nhdp.old.settings.interfaces }
     requires sound { SoundNeighbourhood nhdp.old.settings arrival.now nhdp.old.near }
@@ -107,7 +112,7 @@ fn take_hello<B: Bases>(
         → IsReadAsHello message hello.now → TakesMessage nhdp.old.settings own arrival
         (record { neighbourhood = nhdp.old.near; topology = topology; noted = noted }) message octets
         (record { neighbourhood = nhdp.new.near; topology = topology; noted = noted }) [] made.0) }
-    ensures quiet { IfOk result (λ made. IsTrue made.1 → SameNear nhdp.old.near arrival.now nhdp.new.near arrival.now) }
+    ensures near { IfOk result (λ made. IsTrue made.1.near → SameNear nhdp.old.near arrival.now nhdp.new.near arrival.now) }
     ensures settings { nhdp.new.settings ≡ nhdp.old.settings }
 {
     let (taken, changed) = nhdp.take_and_tell(arrival.now, arrival.iface, arrival.sender, hello)?;
@@ -115,10 +120,14 @@ fn take_hello<B: Bases>(
         read: hello_read(taken),
         forward: Forward::NotFlooded,
     };
-    Ok((fate, !changed))
+    let quiet = Quiet {
+        near: !changed,
+        advertised: true,
+    };
+    Ok((fate, quiet))
 }
 
-// Takes a message of another type, which is always quiet.
+// Takes a message of another type, which leaves the neighbourhood and what others advertise as they were.
 fn take_other<B: Bases>(
     alloc: Global,
     nhdp: &Nhdp<B>,
@@ -128,7 +137,7 @@ fn take_other<B: Bases>(
     heading: &Option<Heading>,
     octets: &[u8],
     out: &mut Outbox,
-) -> Result<(Fate, bool), AllocError>
+) -> Result<(Fate, Quiet), AllocError>
     requires now { arrival.now < 2 ^ 62 }
     requires iface { arrival.iface < length flood.old.noted.received }
     requires times { flood.old.times ≡ nhdp.now.settings.times }
@@ -145,7 +154,7 @@ fn take_other<B: Bases>(
                 read: Read::Other,
                 forward: Forward::NotFlooded,
             };
-            Ok((fate, true))
+            Ok((fate, Quiet::both()))
         }
         Some(heading) => {
             let count = nhdp.settings().interfaces.len();
@@ -157,13 +166,13 @@ fn take_other<B: Bases>(
                 read: other_read(verdict.process),
                 forward: verdict.forward,
             };
-            Ok((fate, true))
+            Ok((fate, Quiet::both()))
         }
     }
 }
 
 impl<B: Bases> InformationBases<B> {
-    // Takes a message that reads so: its fate, and whether it was quiet.
+    // Takes a message that reads so: its fate, and what it has left as it was.
     fn take_message(
         &mut self,
         alloc: Global,
@@ -172,14 +181,15 @@ impl<B: Bases> InformationBases<B> {
         typed: &TypedMessage,
         octets: &[u8],
         out: &mut Outbox,
-    ) -> Result<(Fate, bool), AllocError>
+    ) -> Result<(Fate, Quiet), AllocError>
         requires now { arrival.now < 2 ^ 62 }
         requires iface { arrival.iface < length self.old.settings.interfaces }
         requires sound { SoundBases self.old.settings arrival.now self.old.bases }
         requires message { (message : MessageFields) × SpellsMessage message octets.now × IsReadAs message typed.now }
         ensures taken { IfOk result (λ made. (sent : List Frame) × (out.new ≡ out.old ++ sent) × ((message : MessageFields) → IsReadAs message typed.now
             → TakesMessage self.old.settings own arrival self.old.bases message octets.now self.new.bases sent made.0)) }
-        ensures quiet { IfOk result (λ made. IsTrue made.1 → IsQuiet self.old.bases arrival.now self.new.bases arrival.now) }
+        ensures near { IfOk result (λ made. IsTrue made.1.near → SameNear self.old.bases.neighbourhood arrival.now self.new.bases.neighbourhood arrival.now) }
+        ensures advertised { IfOk result (λ made. IsTrue made.1.advertised → SameAdvertised self.old.bases.topology self.new.bases.topology) }
         ensures settings { self.new.settings ≡ self.old.settings }
     {
         match typed {
@@ -196,7 +206,7 @@ impl<B: Bases> InformationBases<B> {
                 octets,
                 out,
             ),
-            TypedMessage::Broken(number) => Ok(broken(*number)),
+            TypedMessage::Broken(number) => Ok((broken(*number), Quiet::both())),
             TypedMessage::Other(heading) => take_other(
                 alloc,
                 &self.nhdp,
@@ -221,7 +231,7 @@ impl<B: Bases> InformationBases<B> {
         spans: &[Span],
         fates: &mut Seq<Fate>,
         out: &mut Outbox,
-    ) -> Result<bool, AllocError>
+    ) -> Result<Quiet, AllocError>
         requires now { arrival.now < 2 ^ 62 }
         requires iface { arrival.iface < length self.old.settings.interfaces }
         requires own { IsOriginator self.old.settings own }
@@ -231,22 +241,22 @@ impl<B: Bases> InformationBases<B> {
             × ((messages : List MessageFields) → AreSpelled bytes.now messages spans.now → AreReadAs messages typed.now
             → TakesMessages self.old.settings own arrival bytes.now self.old.bases messages spans.now self.new.bases sent given)) }
         ensures settings { self.new.settings ≡ self.old.settings }
-        ensures quiet { IfOk result (λ quiet. IsTrue quiet → IsQuiet self.old.bases arrival.now self.new.bases arrival.now) }
+        ensures near { IfOk result (λ quiet. IsTrue quiet.near → SameNear self.old.bases.neighbourhood arrival.now self.new.bases.neighbourhood arrival.now) }
+        ensures advertised { IfOk result (λ quiet. IsTrue quiet.advertised → SameAdvertised self.old.bases.topology self.new.bases.topology) }
     {
-        let mut quiet = true;
+        let mut quiet = Quiet::both();
         for i in 0..typed.len() {
             let octets = octets_of(bytes, spans[i]);
             let (fate, same) = self.take_message(alloc, arrival, own, &typed[i], octets, out)?;
             fates.push(fate)?;
-            quiet &= same;
+            quiet = quiet.and(same);
         }
         Ok(quiet)
     }
 
     /// Takes the messages of a frame that is heard at a moment below 2^62 on one of the router's interfaces, in order; `own` is the
     /// router's originator, and each message is spelled at its place in the octets. The fate of each message is put at the end of
-    /// `fates`, and what is sent at the end of `out` (RFC 7181, sections 14 to 16). True only where all of them were quiet: the
-    /// neighbourhood is as it was but for moments, and others advertise the same.
+    /// `fates`, and what is sent at the end of `out` (RFC 7181, sections 14 to 16). The answer is what they have left as it was.
     pub fn take_messages(
         &mut self,
         alloc: Global,
@@ -257,7 +267,7 @@ impl<B: Bases> InformationBases<B> {
         spans: &[Span],
         fates: &mut Seq<Fate>,
         out: &mut Outbox,
-    ) -> Result<bool, AllocError>
+    ) -> Result<Quiet, AllocError>
         requires now { arrival.now < 2 ^ 62 }
         requires iface { arrival.iface < length self.old.settings.interfaces }
         requires own { IsOriginator self.old.settings own }
@@ -266,7 +276,8 @@ impl<B: Bases> InformationBases<B> {
         ensures taken { OnOk result ((given : List FateValue) × (sent : List Frame) × (fates.new ≡ fates.old ++ given) × (out.new ≡ out.old ++ sent)
             × TakesMessages self.old.settings own arrival bytes.now self.old.bases (map fields_of_message messages.now) spans.now self.new.bases sent given) }
         ensures settings { self.new.settings ≡ self.old.settings }
-        ensures quiet { IfOk result (λ quiet. IsTrue quiet → IsQuiet self.old.bases arrival.now self.new.bases arrival.now) }
+        ensures near { IfOk result (λ quiet. IsTrue quiet.near → SameNear self.old.bases.neighbourhood arrival.now self.new.bases.neighbourhood arrival.now) }
+        ensures advertised { IfOk result (λ quiet. IsTrue quiet.advertised → SameAdvertised self.old.bases.topology self.new.bases.topology) }
     {
         let typed = typed_messages(alloc, messages)?;
         self.take_typed(
@@ -279,6 +290,39 @@ impl<B: Bases> InformationBases<B> {
             fates,
             out,
         )
+    }
+}
+
+impl<B: Bases> InformationBases<B> {
+    /// Takes a frame that spells a packet whose messages read so, at a moment below 2^62, where the last event was at `last`: what is
+    /// expired goes (RFC 6130, section 13), and the messages are taken in order (section 12, and RFC 7181, section 14). The answer is the
+    /// fate of each message, and what all of that has left as it was. What is sent is put at the end of `out`.
+    pub(crate) fn take_frame(
+        &mut self,
+        last: u64,
+        arrival: Arrival,
+        bytes: &[u8],
+        typed: &[TypedMessage],
+        spans: &[Span],
+        out: &mut Outbox,
+    ) -> Result<(Seq<Fate>, Quiet), AllocError>
+        requires now { arrival.now < 2 ^ 62 }
+        requires iface { arrival.iface < length self.old.settings.interfaces }
+        requires sound { SoundBases self.old.settings last self.old.bases }
+        requires packet { (packet : PacketFields) × Spells packet spans.now bytes.now × AreReadAs packet.messages typed.now }
+        ensures taken { IfOk result (λ made. (sent : List Frame) × (out.new ≡ out.old ++ sent)
+            × TakesFrame self.old.settings self.old.bases arrival bytes.now made.0 sent self.new.bases) }
+        ensures settings { OnOk result (self.new.settings ≡ self.old.settings) }
+        ensures sound { OnOk result (SoundBases self.new.settings arrival.now self.new.bases) }
+        ensures near { IfOk result (λ made. IsTrue made.1.near → SameNear self.old.bases.neighbourhood last self.new.bases.neighbourhood arrival.now) }
+        ensures advertised { IfOk result (λ made. IsTrue made.1.advertised → SameAdvertised self.old.bases.topology self.new.bases.topology) }
+    {
+        let alloc = self.settings().interfaces.allocator();
+        let own = self.settings().originator();
+        let mut fates = Seq::new(alloc);
+        let idle = self.expire(last, arrival.now)?;
+        let quiet = self.take_typed(alloc, arrival, own, bytes, typed, spans, &mut fates, out)?;
+        Ok((fates, idle.and(quiet)))
     }
 }
 

@@ -53,7 +53,7 @@ pub fn send_hellos<B: Bases>(
     let settings = nhdp.settings();
     derived.next_hello = next_moment(settings.hello_at, settings.times.hello, now);
     for iface in 0..settings.interfaces.len() {
-        let bytes = hello_bytes(alloc, nhdp, iface, now, derived.relays.get())?;
+        let bytes = hello_bytes(alloc, nhdp, iface, now, &derived.relays)?;
         out.send(iface, bytes)?;
     }
     Ok(())

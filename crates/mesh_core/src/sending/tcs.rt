@@ -10,8 +10,7 @@ ghost use Rattle.mesh_atoms.specs.Validity.{IsTimeValue};
 ghost use Rattle.mesh_atoms.specs.Writable.{IsSentIfSome};
 ghost use Rattle.mesh_topo.specs.declared.advertised.spans.PartSpan.{PartSpan as SpanValue};
 ghost use Rattle.mesh_topo.specs.Advertised.Spans.{part_of};
-ghost use Rattle.mesh_core.specs.Sending.Sent.{TcsAreSent, PartsAreSent};
-ghost use Rattle.mesh_renewal.specs.Renewed.{HasDerived};
+ghost use Rattle.mesh_core.specs.Sending.Sent.{HasRowsOf, TcsAreSent, PartsAreSent};
 ghost use Rattle.mesh_machine.specs.declared.frame.Frame.{Frame};
 ghost use Rattle.mesh_machine.specs.Sending.{HasToAdvertise, IsTcOfRows, SendsParts};
 ghost use Rattle.mesh_wire.specs.Writes.{WritesTc};
@@ -109,7 +108,7 @@ fn send_spans(
     requires few { length derived.now.rows ≤ 1088 }
     requires rows { (s : State) × AreTcRows s derived.now.rows }
     ensures { IfOk result (λ next. (sent : List Frame) × (out.new ≡ out.old ++ sent) × (next ≡ (derived.now.sequence + length spans.now) % 65536)
-        × ((s : State) → s.settings ≡ settings.now → HasDerived s derived.now →
+        × ((s : State) → s.settings ≡ settings.now → HasRowsOf s derived.now →
         SendsParts s validity.now (nat_eq (length spans.now) 1) derived.now.sequence (map (part_of derived.now.rows) spans.now) sent)) }
 {
     let complete = spans.len() == 1;
@@ -140,7 +139,7 @@ fn part_bytes(
     requires few { length derived.now.rows ≤ 1088 }
     requires rows { (s : State) × AreTcRows s derived.now.rows }
     ensures { IfOk result (λ bytes. (tc : TcValue) × WritesTc tc settings.now.times.tc_hop_limit validity.now bytes × ((s : State) → s.settings ≡ settings.now →
-        HasDerived s derived.now → IsTcOfRows s validity.now complete sequence (part_of derived.now.rows span) tc)) }
+        HasRowsOf s derived.now → IsTcOfRows s validity.now complete sequence (part_of derived.now.rows span) tc)) }
 {
     let rows = rows_of(derived.rows.as_slice(), span);
     let tc = tc_of_rows(

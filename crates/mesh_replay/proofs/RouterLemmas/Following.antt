@@ -9,7 +9,7 @@ use Rattle.mesh_atoms.specs.Advertised.{AreTcRows}
 use Rattle.mesh_atoms.specs.Live.{Live}
 use Rattle.mesh_atoms.specs.RelayGraphs.{AreRelays}
 use Rattle.mesh_atoms.specs.State.{Bases, State}
-use Rattle.mesh_core.specs.Held.Quiet.{IsQuiet}
+use Rattle.mesh_nbrs.specs.Same.{SameNear}
 use Rattle.mesh_renewal.proofs.RowMoments.{some_or_none}
 use Rattle.mesh_topo.specs.declared.advertised.spans.PartSpan.{PartSpan}
 use Rattle.mesh_trace.specs.machine.declared.arrival.Arrival.{Arrival}
@@ -41,12 +41,12 @@ live_after settings r last now old new sound live same =
 
 -- the bases of a router between events were changed
 pub changed : {old was : State} {now : ℕ} {quiet : Bool} {settings : RouterSettings} {bases : Bases} → was ≡ old → IsAtRest old → settings ≡ was.settings → SoundBases settings now bases →
-    (IsTrue quiet → IsQuiet was.bases was.last bases now) → ChangesBases was (record was { settings = settings; bases = bases }) now quiet
+    (IsTrue quiet → SameNear was.bases.neighbourhood was.last bases.neighbourhood now) → ChangesBases was (record was { settings = settings; bases = bases }) now quiet
 changed same rest settings_are sound quiet = record { rest = subst IsAtRest (sym same) rest; settings = settings_are; others = refl; sound = sound; quiet_is = quiet }
 
 -- what is expired went out of them
 pub expired : {old was : State} {now : ℕ} {quiet : Bool} {settings : RouterSettings} {bases : Bases} → was ≡ old → IsAtRest old → settings ≡ was.settings → Live was.settings now was.bases bases →
-    (IsTrue quiet → IsQuiet was.bases was.last bases now) → ChangesBases was (record was { settings = settings; bases = bases }) now quiet
+    (IsTrue quiet → SameNear was.bases.neighbourhood was.last bases.neighbourhood now) → ChangesBases was (record was { settings = settings; bases = bases }) now quiet
 expired {old} {was} {now} {settings = settings} {bases = bases} same rest settings_are live quiet =
     let sound = subst (λ (s : State). SoundBases s.settings s.last s.bases) (sym same) rest.sound.bases in
     changed same rest settings_are (live_after was.settings settings was.last now was.bases bases sound live settings_are) quiet

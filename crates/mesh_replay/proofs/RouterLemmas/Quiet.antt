@@ -2,11 +2,12 @@
 use Rattle.std.proofs.Common.{◌≡◌, ◌∙◌, ℕ, length, Bool, true, refl, sym, ap, subst}
 use Rattle.mesh_atoms.specs.declared.settings.RouterSettings.{RouterSettings}
 use Rattle.mesh_atoms.specs.State.{Bases, State}
-use Rattle.mesh_core.specs.Held.Quiet.{IsQuiet}
+use Rattle.mesh_nbrs.specs.Same.{SameNear}
 use Rattle.mesh_renewal.proofs.Moments.{relays_stay}
 use Rattle.mesh_renewal.proofs.RowMoments.{rows_stay}
-use Rattle.mesh_routes.specs.Staying.{SameArcs, SameOwn, SameTwoHops, SameWays}
-use Rattle.mesh_routes.proofs.SameBases.{bases_give_same, tables_of}
+use Rattle.mesh_renewal.proofs.Staying.{near_gives_same}
+use Rattle.mesh_routes.specs.Staying.{SameTwoHops, SameWays}
+use Rattle.mesh_routes.proofs.SameBases.{tables_of}
 use Rattle.mesh_trace.specs.machine.Laws.{SoundBases}
 use Rattle.mesh_replay.specs.Checking.Events.{AreRelaysWith, AreRowsWith, ChangesBases}
 
@@ -20,20 +21,19 @@ module _ {old mid : State} {now : ℕ} {quiet : Bool} (changes : ChangesBases ol
     sound_now = subst (λ (r : RouterSettings). SoundBases r now s.bases) (sym settings_are)
         (subst (λ (b : Bases). SoundBases mid.settings now b) (sym bases_are) changes.sound)
 
-    given : SameOwn old s × SameArcs old s × SameWays old old.last s now × SameTwoHops old s
+    given : SameWays old old.last s now × SameTwoHops old s
     given =
-        let quiet_now = subst (λ (b : Bases). IsQuiet old.bases old.last b now) (sym bases_are) (changes.quiet_is is) in
-        bases_give_same old s old.last now changes.rest.sound.bases.neighbourhood (tables_of sound_now.neighbourhood) changes.rest.sound.bases.topology
-        sound_now.topology settings_same quiet_now.near quiet_now.advertised
+        let quiet_now = subst (λ (b : Bases). SameNear old.bases.neighbourhood old.last b.neighbourhood now) (sym bases_are) (changes.quiet_is is) in
+        near_gives_same old s old.last now changes.rest.sound.bases.neighbourhood (tables_of sound_now.neighbourhood) settings_same quiet_now
 
   pub rows_quiet : AreRowsWith mid.settings mid.bases old.rows
   rows_quiet s settings_are bases_are =
-      let (own, arcs, ways, two_hops) = given s settings_are bases_are in
+      let (ways, two_hops) = given s settings_are bases_are in
       let attached = ap (λ (r : RouterSettings). r.attached) (settings_same s settings_are bases_are) in
       rows_stay old s ways.neighbours attached old.rows changes.rest.sound.rows
 
   pub relays_quiet : AreRelaysWith mid.settings mid.bases now old.relays
   relays_quiet s settings_are bases_are relays =
-      let (own, arcs, ways, two_hops) = given s settings_are bases_are in
+      let (ways, two_hops) = given s settings_are bases_are in
       let count = ap (λ (r : RouterSettings). length r.interfaces) (settings_same s settings_are bases_are) in
       relays_stay ways two_hops count relays changes.rest.relays

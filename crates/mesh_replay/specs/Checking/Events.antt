@@ -8,7 +8,7 @@ use Rattle.mesh_atoms.specs.Advertised.{AreTcRows}
 use Rattle.mesh_atoms.specs.Live.{Live}
 use Rattle.mesh_atoms.specs.RelayGraphs.{AreRelays}
 use Rattle.mesh_atoms.specs.State.{Bases, State, IsOriginator}
-use Rattle.mesh_core.specs.Held.Quiet.{IsQuiet}
+use Rattle.mesh_nbrs.specs.Same.{SameNear}
 use Rattle.mesh_trace.specs.machine.packet.declared.packet.Span.{Span}
 use Rattle.mesh_trace.specs.machine.packet.Fields.{PacketFields}
 use Rattle.mesh_trace.specs.machine.packet.Grammar.{Spells}
@@ -27,13 +27,13 @@ use Rattle.mesh_replay.specs.Checking.Kept.{HasLines, IsAtRest, IsSoundRouter, S
 abbrev pub AreRowsWith : RouterSettings → Bases → List TcRow → Type 0
 AreRowsWith settings bases rows = (s : State) → s.settings ≡ settings → s.bases ≡ bases → AreTcRows s rows
 
--- of a router between events the bases were changed, and are sound at now; where that was quiet, they changed by moments alone
+-- of a router between events the bases were changed, and are sound at now; where that was quiet, the neighbourhood changed by moments alone
 pub record ChangesBases (old mid : State) (now : ℕ) (quiet : Bool) : Type 0 where
   pub rest : IsAtRest old
   pub settings : mid.settings ≡ old.settings
   pub others : mid ≡ record old { settings = mid.settings; bases = mid.bases }
   pub sound : SoundBases mid.settings now mid.bases
-  pub quiet_is : IsTrue quiet → IsQuiet old.bases old.last mid.bases now
+  pub quiet_is : IsTrue quiet → SameNear old.bases.neighbourhood old.last mid.bases.neighbourhood now
 
 -- each router with these settings and bases may have chosen these relays at now
 abbrev pub AreRelaysWith : RouterSettings → Bases → ℕ → Relays → Type 0

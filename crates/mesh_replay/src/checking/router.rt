@@ -5,7 +5,7 @@ ghost use Rattle.mesh_trace.specs.machine.declared.frame.Frame.{Frame};
 ghost use Rattle.mesh_packet.specs.Fields.{fields_of_packet};
 ghost use Rattle.mesh_packet.specs.Grammar.{Spells};
 ghost use Rattle.mesh_atoms.specs.State.{State};
-ghost use Rattle.mesh_core.specs.Held.Quiet.{IsQuiet};
+ghost use Rattle.mesh_nbrs.specs.Same.{SameNear};
 ghost use Rattle.mesh_trace.specs.machine.Laws.{SoundBases};
 ghost use Rattle.mesh_trace.specs.machine.Renewal.{IsEmptied, IsNextAnsn};
 ghost use Rattle.mesh_trace.specs.Positions.Due.{HearsBy, HellosDue, TcsDue, TicksBy, none_told};
@@ -125,7 +125,7 @@ fn emptied_with(rows: &[TcRow], before: &[TcRow], emptied: Option<u64>, now: u64
 }
 
 // Takes out what is expired since the last event, and then takes the messages of a packet. What they forward is put at the end of `out`.
-// True only where all of that was quiet.
+// True only where all of that has left the neighbourhood as it was but for moments.
 fn take_packet<B: Bases>(
     alloc: Global,
     holding: &mut InformationBases<B>,
@@ -143,7 +143,7 @@ fn take_packet<B: Bases>(
         × TakesInto holding.old.settings holding.old.bases arrival bytes.now sent holding.new.bases) }
     ensures settings { OnOk result (holding.new.settings ≡ holding.old.settings) }
     ensures sound { OnOk result (SoundBases holding.new.settings arrival.now holding.new.bases) }
-    ensures quiet { IfOk result (λ quiet. IsTrue quiet → IsQuiet holding.old.bases last holding.new.bases arrival.now) }
+    ensures quiet { IfOk result (λ quiet. IsTrue quiet → SameNear holding.old.bases.neighbourhood last holding.new.bases.neighbourhood arrival.now) }
 {
     let own = holding.settings().originator();
     let idle = holding.expire(last, arrival.now)?;
@@ -158,7 +158,7 @@ fn take_packet<B: Bases>(
         &mut fates,
         out,
     )?;
-    Ok(idle & quiet)
+    Ok(idle.near & quiet.near)
 }
 
 impl<B: Bases> CheckedRouter<B> {
@@ -290,7 +290,7 @@ impl<B: Bases> CheckedRouter<B> {
     {
         let quiet = self.holding.expire(self.last, now)?;
         let sequence = self.sequence;
-        let before = self.begin(alloc, now, quiet)?;
+        let before = self.begin(alloc, now, quiet.near)?;
         let hellos = self.take_hellos();
         let parts = self.take_parts(alloc)?;
         Ok(EventLines {

@@ -9,22 +9,22 @@ use Rattle.mesh_radio.proofs.events.land.Goals as goal
 
 pub sender_of-sender-requires : goal.sender_of-sender-requires
 sender_of-sender-requires g c =
-    let scenario = c.args.scenario.now in
+    let scenario = c.args.scene.now.scenario in
     let arc = c.index-as_slice-landed.result in
     (arc_ends scenario c.args.landed.arc arc (item_at scenario.arcs c.as_slice.result.now c.args.landed.arc arc c.as_slice.ensures c.requires.arc c.index-as_slice-landed.is)).0
 
 pub hear-requires-clause-stands : goal.hear-requires-clause-stands
 hear-requires-clause-stands g c =
-    let scenario = c.args.scenario.now in
+    let scenario = c.args.scene.now.scenario in
     let arc = c.index-as_slice-landed.result in
-    router_to scenario c.args.landed.moment (map g.R.RouterView.state c.args.routers.now.items) arc c.requires.routers
+    router_to scenario c.args.landed.moment (map g.R.NetworkRouter.state c.args.routers.now.items) arc c.requires.routers
     (arc_ends scenario c.args.landed.arc arc (item_at scenario.arcs c.as_slice.result.now c.args.landed.arc arc c.as_slice.ensures c.requires.arc c.index-as_slice-landed.is)).1
 
 pub send_all-requires-clause-ways : goal.send_all-requires-clause-ways
 send_all-requires-clause-ways g c = c.requires.ways
 
 pub send_all-requires-clause-sendable : goal.send_all-requires-clause-sendable
-send_all-requires-clause-sendable g c = may_send _ _ _ _ _ _ _ _ _ c.requires.routers c.in_ok-hear.ensures
+send_all-requires-clause-sendable g c = may_send _ _ c.requires.routers c.in_ok-hear.ensures
 
 pub send_all-requires-clause-seed : goal.send_all-requires-clause-seed
 send_all-requires-clause-seed g c = c.requires.seed
@@ -34,10 +34,10 @@ send_all-requires-clause-early g c = c.requires.early
 
 pub returns-clause-lands : goal.returns-clause-lands
 returns-clause-lands g c =
-    let scenario = c.args.scenario.now in
+    let scenario = c.args.scene.now.scenario in
     let arc = c.index-as_slice-landed.result in
-    let state = g.R.RouterView.state in
+    let state = g.R.NetworkRouter.state in
     IfOk-weaker c.told.result _ _
-    (lands scenario (map state c.args.routers.now.items) (map state c.hear.new.routers.items) (delivery_of c.args.landed) arc c.sender_of-sender.result c.hear.new.outbox c.in_ok-sent.sent (traffic_of c.args.traffic.now) (traffic_of c.send_all.new.traffic)
+    (lands c.args.until scenario (map state c.args.routers.now.items) (map state c.hear.new.routers.items) (delivery_of c.args.landed) arc c.sender_of-sender.result c.hear.new.outbox c.in_ok-sent.sent (traffic_of c.args.scene.now.traffic) (traffic_of c.send_all.new.traffic)
     (item_at scenario.arcs c.as_slice.result.now c.args.landed.arc arc c.as_slice.ensures c.requires.arc c.index-as_slice-landed.is) c.sender_of-sender.ensures c.in_ok-hear.ensures c.in_ok-sent.ensures.frames c.in_ok-sent.ensures.sends)
     c.told.ensures

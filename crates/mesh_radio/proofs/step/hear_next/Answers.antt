@@ -1,7 +1,8 @@
-use Rattle.std.proofs.Common.{◌≤◌, map}
+use Rattle.std.proofs.Common.{◌≤◌, map, subst, sym}
 use Rattle.std.specs.Prelude.{min}
 use Rattle.mesh_radio.specs.Traffic.Air.{delivery_of}
-use Rattle.mesh_radio.specs.Scene.{IsFlying}
+use Rattle.mesh_radio.specs.declared.scene.Scene.{Scene}
+use Rattle.mesh_radio.specs.Scene.{Happens, IsFlying}
 use Rattle.mesh_radio.proofs.Happenings.{hears_next}
 use Rattle.mesh_machine.proofs.Sent.{first_and_others}
 use Rattle.mesh_radio.proofs.Soundness.{later_routers}
@@ -14,7 +15,7 @@ pub land-requires-clause-routers : goal.land-requires-clause-routers
 land-requires-clause-routers g c =
     let s = c.args.scene.now in
     let flies = (first_and_others (IsFlying s.scenario s.now) s.traffic.air (delivery_of c.in-Some.landed) c.take.new.self c.in-Some.ensures.first c.requires.sound.flying).0 in
-    later_routers s.scenario s.now c.in-Some.landed.moment (map g.R.RouterView.state c.args.routers.now.items) flies.later c.requires.sound.are_routers
+    later_routers s.scenario s.now c.in-Some.landed.moment (map g.R.NetworkRouter.state c.args.routers.now.items) flies.later c.requires.sound.are_routers
 
 pub land-requires-clause-seed : goal.land-requires-clause-seed
 land-requires-clause-seed g c = c.requires.sound.seed
@@ -27,7 +28,12 @@ land-requires-clause-arc g c =
 pub returns : goal.returns
 returns g c =
     let s = c.args.scene.now in
-    let state = g.R.RouterView.state in
+    let state = g.R.NetworkRouter.state in
     let d = delivery_of c.in-Some.landed in
     let soon : d.moment ≤ min s.due.moment s.scenario.end = rw (← c.min-limit.ensures) c.in-Some.ensures.limit in
-    hears_next s (map state c.args.routers.now.items) (map state c.land.new.routers.items) d c.take.new.self c.in_ok-event.event c.land.new.outbox c.land.new.traffic c.requires.sound c.in-Some.ensures.first soon c.in_ok-event.ensures.lands c.in_ok-event.ensures.seed
+    let old = map state c.args.routers.now.items in
+    let new = map state c.land.new.routers.items in
+    let event = c.in_ok-event.event in
+    let after = c.land.new.scene in
+    subst (λ (t : Scene). Happens c.args.until old s event new (record t { now = d.moment })) (sym c.in_ok-event.ensures.scene)
+    (hears_next c.args.until s old new d c.take.new.self event after.outbox after.traffic c.requires.sound c.in-Some.ensures.first soon c.in_ok-event.ensures.lands c.in_ok-event.ensures.seed)

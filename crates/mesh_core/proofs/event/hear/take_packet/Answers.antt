@@ -1,13 +1,12 @@
+use Rattle.std.proofs.Common.{◌++◌, List, arith, ap, ◌∙◌}
+use Rattle.mesh_core.specs.Event.Holding.{state_of}
+use Rattle.mesh_machine.specs.declared.frame.Frame.{Frame}
+use Rattle.mesh_core.proofs.EventLemmas.Hearing.{packet_to}
 use Rattle.mesh_core.proofs.event.hear.take_packet.Goals as goal
 
-pub take_messages-requires-clause-now : goal.take_messages-requires-clause-now
-take_messages-requires-clause-now g c = c.requires.now
-
-pub take_messages-requires-clause-iface : goal.take_messages-requires-clause-iface
-take_messages-requires-clause-iface g c = c.requires.iface
-
-pub take_messages-requires-clause-sound : goal.take_messages-requires-clause-sound
-take_messages-requires-clause-sound g c = c.requires.sound
-
-pub take_messages-requires-clause-packet : goal.take_messages-requires-clause-packet
-take_messages-requires-clause-packet g c = c.requires.packet
+pub returns-clause-hears : goal.returns-clause-hears
+returns-clause-hears g c =
+    let (sent, out, leaves) = c.in_ok-fates.ensures in
+    packet_to c.args.wants (state_of c.args.router.now.holding c.args.router.now.derived) c.args.arrival c.args.bytes.now c.args.out.now c.put_all.new.self c.take_messages.new.router.outdated
+    (state_of c.take_messages.new.router.holding c.take_messages.new.router.derived) c.requires.sound c.requires.later (λ i. omega (arith, c.type_inv.bytes i)) c.in_ok-fates.fates sent
+    (c.in_ok-put_all.ensures.ok ∙ (ap (λ (f : List Frame). c.args.out.now ++ f) out ∙ ap (λ (f : List Frame). c.args.out.now ++ (f ++ sent)) c.new-sent.ensures)) leaves

@@ -15,5 +15,5 @@ returns-clause-taken g c = λ own octets topology noted message reads.
     hello_taken c.args.nhdp.now.settings own c.args.arrival (record { neighbourhood = c.args.nhdp.now.near; topology = topology; noted = noted }) message octets c.take_and_tell.new.self.near c.args.hello.now answer c.hello_read.result
     reads.kind reads.keeps reads.says takes (c.hello_read.ensures answer is)
 
-pub returns-clause-quiet : goal.returns-clause-quiet
-returns-clause-quiet g c = λ quiet. c.in_ok-taken.ensures.same (not_true c.in_ok-taken.changed _ refl quiet)
+pub returns-clause-near : goal.returns-clause-near
+returns-clause-near g c = λ quiet. c.in_ok-taken.ensures.same (not_true c.in_ok-taken.changed _ refl quiet)

@@ -28,7 +28,7 @@ loop-iface-preserved g c =
         c.in_ok-send.ensures.ok ∙ (ap (λ (o : List Frame). o ++ frame ∷ []) out ∙ append_assoc c.args.out.now sent (frame ∷ [])),
         length_push sent frame ∙ ap (λ (n : ℕ). n + 1) count,
         λ s settings near relays last.
-            let (hello, is_now, writes) = c.in_ok-bytes.ensures s settings near (relays ∙ sym c.get.ensures) in
+            let (hello, is_now, writes) = c.in_ok-bytes.ensures s settings near relays in
             let here : IsHelloFrame s c.loop-iface.iface frame = record {
               iface = refl;
               hello = hello;

@@ -5,7 +5,7 @@ use Rattle.std.proofs.lemmas.Bool.{cases_Bool}
 use Rattle.mesh_atoms.specs.declared.settings.RouterSettings.{RouterSettings}
 use Rattle.mesh_atoms.specs.declared.tc.TcRow.{TcRow}
 use Rattle.mesh_renewal.specs.declared.derived.Derived.{Derived}
-use Rattle.mesh_renewal.specs.Renewed.{HasDerived}
+use Rattle.mesh_core.specs.Sending.Sent.{HasRowsOf}
 use Rattle.mesh_machine.specs.Sending.{SendsParts, Tcs_early, Tcs_silent, Tcs_due}
 use Rattle.mesh_core.proofs.SendingLemmas.PartRows.{has_before}
 use Rattle.mesh_core.proofs.sending.tcs.send_tcs.Goals as goal
@@ -36,7 +36,7 @@ returns-clause-sent c =
       sent,
       out,
       λ before s sequence next settings has sequence_after next_after.
-          let had = has_before s (record c.args.derived.now { next_tc = c.next_moment-derived.result }) c.send_parts.new.derived.sequence (subst (λ (d : Derived). HasDerived s d) c.send_parts.ensures.others has) in
+          let had = has_before s (record c.args.derived.now { next_tc = c.next_moment-derived.result }) c.send_parts.new.derived.sequence (subst (λ (d : Derived). HasRowsOf s d) c.send_parts.ensures.others has) in
           let sends = all s settings has in
           Tcs_due (let late = c.if-now-derived.false in rw (next, has.last, ap (λ (d : Derived). d.last) c.send_parts.ensures.others) (omega (arith, late)))
           (rw (settings, has.last, next_after, ap (λ (d : Derived). d.last) c.send_parts.ensures.others, ap (λ (d : Derived). d.next_tc) c.send_parts.ensures.others) c.next_moment-derived.ensures)

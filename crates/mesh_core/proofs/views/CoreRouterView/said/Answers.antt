@@ -17,4 +17,4 @@ pub returns : goal.returns
 returns g c =
     c.said_of.ensures c.args.self.now.state
     (ap (λ (v : CoreValue). v.state.bases.neighbourhood) (sym c.self.view_is) ∙ sym c.nhdp.ensures.near)
-    (ap (λ (v : CoreValue). v.state.relays) (sym c.self.view_is) ∙ sym c.get.ensures)
+    (ap (λ (v : CoreValue). v.state.relays) (sym c.self.view_is))

@@ -11,7 +11,7 @@ next_event-came-requires g c = record { sound = c.self.invariant c.if-self.false
 
 pub invariant_of-self : goal.invariant_of-self
 invariant_of-self g c =
-    sound_unless_spent (states_of c.self.inside.cores.items) (states_of c.next_event-came.new.routers.items) c.self.inside.scene c.next_event-came.new.scene c.next_event-came.result _ c.next_event-came.ensures c.is_err-self-inside.ensures.value
+    sound_unless_spent 0 (states_of c.self.inside.cores.items) (states_of c.next_event-came.new.routers.items) c.self.inside.scene c.next_event-came.new.scene c.next_event-came.result _ c.next_event-came.ensures c.is_err-self-inside.ensures.value
 
 pub returns-clause-step : goal.returns-clause-step
 returns-clause-step g c =

@@ -4,7 +4,7 @@ use Rattle.mesh_atoms.specs.State.{IsOriginator}
 use Rattle.mesh_packet.specs.declared.packet.Span.{Span}
 use Rattle.mesh_packet.specs.declared.packet.Message.{Message}
 use Rattle.mesh_packet.specs.Fields.{fields_of_message, fields_of_packet}
-use Rattle.mesh_core.proofs.HeldLemmas.Quiet.{both_true, quiet_after}
+use Rattle.mesh_core.proofs.HeldLemmas.Quiet.{both_true, near_after}
 use Rattle.mesh_trace.specs.machine.Laws.{SoundBases}
 use Rattle.mesh_trace.specs.machine.Messages.{TakesMessages}
 use Rattle.mesh_trace.proofs.machine.Soundness.{messages_sound}
@@ -61,6 +61,6 @@ returns-clause-takes g c =
 
 pub returns-clause-quiet : goal.returns-clause-quiet
 returns-clause-quiet g c both =
-    let (idle, quiet) = both_true c.in_ok-idle.idle c.in_ok-quiet.quiet both in
-    quiet_after c.args.holding.now.bases c.args.last c.expire.new.self.bases c.args.arrival.now c.take_messages.new.self.bases c.args.arrival.now
-    (c.in_ok-idle.ensures.quiet idle) (c.in_ok-quiet.ensures.quiet quiet)
+    let (idle, quiet) = both_true c.in_ok-idle.idle.near c.in_ok-quiet.quiet.near both in
+    near_after c.args.holding.now.bases.neighbourhood c.args.last c.expire.new.self.bases.neighbourhood c.args.arrival.now
+    c.take_messages.new.self.bases.neighbourhood c.args.arrival.now (c.in_ok-idle.ensures.near idle) (c.in_ok-quiet.ensures.near quiet)

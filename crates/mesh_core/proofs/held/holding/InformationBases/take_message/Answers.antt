@@ -5,7 +5,7 @@ use Rattle.mesh_atoms.specs.State.{Bases}
 use Rattle.mesh_machine.specs.Messages.{Tc_read}
 use Rattle.mesh_core.specs.Held.Held.{Held}
 use Rattle.mesh_core.proofs.HeldLemmas.Fates.{breaks, hosts_of}
-use Rattle.mesh_core.proofs.HeldLemmas.Quiet.{advertised_equal, near_equal, quiet_equal}
+use Rattle.mesh_core.proofs.HeldLemmas.Quiet.{advertised_equal, near_equal}
 use Rattle.mesh_core.proofs.held.holding.InformationBases.take_message.Goals as goal
 use Rattle.mesh_atoms.proofs.Options.{if_ok_weaker as if_ok}
 
@@ -48,9 +48,11 @@ pub returns-in-Hello-clause-taken : goal.returns-in-Hello-clause-taken
 returns-in-Hello-clause-taken g c =
     rw (← c.self.view_is) (if_ok c.take_hello.result (λ made h. ([], sym (append-nil _), λ message reads. h c.args.own c.args.octets.now c.self.inside.topology c.self.inside.flood.noted message (rw c.in-Hello.is at reads))) c.take_hello.ensures.taken)
 
-pub returns-in-Hello-clause-quiet : goal.returns-in-Hello-clause-quiet
-returns-in-Hello-clause-quiet g c =
-    rw (← c.self.view_is) (if_ok c.take_hello.result (λ made h quiet. record { near = h quiet; advertised = advertised_equal c.self.inside.topology c.self.inside.topology refl }) c.take_hello.ensures.quiet)
+pub returns-in-Hello-clause-near : goal.returns-in-Hello-clause-near
+returns-in-Hello-clause-near g c = rw (← c.self.view_is) c.take_hello.ensures.near
+
+pub returns-in-Hello-clause-advertised : goal.returns-in-Hello-clause-advertised
+returns-in-Hello-clause-advertised g c = rw (← c.self.view_is) (if_ok c.take_hello.result (λ made h quiet. advertised_equal c.self.inside.topology c.self.inside.topology refl) c.take_hello.ensures.near)
 
 pub returns-in-Hello-clause-settings : goal.returns-in-Hello-clause-settings
 returns-in-Hello-clause-settings g c = c.take_hello.ensures.settings ∙ ap (λ (h : Held). h.settings) c.self.view_is
@@ -62,9 +64,11 @@ returns-in-Tc-clause-taken g c =
     (λ made (sent, out, processes). (sent, out, λ message reads. let is = rw c.in-Tc.is at reads in Tc_read {new = after} c.in-Tc.tc c.in-Tc.heading is.kind is.keeps is.says is.heading_is processes))
     c.process_tc.ensures.taken)
 
-pub returns-in-Tc-clause-quiet : goal.returns-in-Tc-clause-quiet
-returns-in-Tc-clause-quiet g c =
-    rw (← c.self.view_is) (if_ok c.process_tc.result (λ made h quiet. record { near = near_equal _ _ c.args.arrival.now refl; advertised = h quiet }) c.process_tc.ensures.quiet)
+pub returns-in-Tc-clause-near : goal.returns-in-Tc-clause-near
+returns-in-Tc-clause-near g c = rw (← c.self.view_is) (if_ok c.process_tc.result (λ made h quiet. near_equal _ _ c.args.arrival.now refl) c.process_tc.ensures.advertised)
+
+pub returns-in-Tc-clause-advertised : goal.returns-in-Tc-clause-advertised
+returns-in-Tc-clause-advertised g c = rw (← c.self.view_is) c.process_tc.ensures.advertised
 
 pub returns-in-Tc-clause-settings : goal.returns-in-Tc-clause-settings
 returns-in-Tc-clause-settings g c = ap (λ (h : Held). h.settings) c.self.view_is
@@ -73,16 +77,22 @@ pub returns-in-Broken-clause-taken : goal.returns-in-Broken-clause-taken
 returns-in-Broken-clause-taken g c =
     rw c.broken.ensures ([], sym (append-nil _), λ message reads. breaks c.args.self.now.settings c.args.own c.args.arrival c.args.self.now.bases message c.args.octets.now (rw c.in-Broken.is at reads))
 
-pub returns-in-Broken-clause-quiet : goal.returns-in-Broken-clause-quiet
-returns-in-Broken-clause-quiet g c = λ quiet. quiet_equal _ _ c.args.arrival.now refl refl
+pub returns-in-Broken-clause-near : goal.returns-in-Broken-clause-near
+returns-in-Broken-clause-near g c = λ quiet. near_equal _ _ c.args.arrival.now refl
+
+pub returns-in-Broken-clause-advertised : goal.returns-in-Broken-clause-advertised
+returns-in-Broken-clause-advertised g c = λ quiet. advertised_equal _ _ refl
 
 pub returns-in-Other-clause-taken : goal.returns-in-Other-clause-taken
 returns-in-Other-clause-taken g c =
     rw (← c.self.view_is) (if_ok c.take_other.result (λ made (sent, out, takes). (sent, out, λ message reads. takes c.self.inside.topology message (rw c.in-Other.is at reads))) c.take_other.ensures.taken)
 
-pub returns-in-Other-clause-quiet : goal.returns-in-Other-clause-quiet
-returns-in-Other-clause-quiet g c =
-    rw (← c.self.view_is) (if_ok c.take_other.result (λ made (sent, out, takes) quiet. record { near = near_equal _ _ c.args.arrival.now refl; advertised = advertised_equal c.self.inside.topology c.self.inside.topology refl }) c.take_other.ensures.taken)
+pub returns-in-Other-clause-near : goal.returns-in-Other-clause-near
+returns-in-Other-clause-near g c = rw (← c.self.view_is) (if_ok c.take_other.result (λ made (sent, out, takes) quiet. near_equal _ _ c.args.arrival.now refl) c.take_other.ensures.taken)
+
+pub returns-in-Other-clause-advertised : goal.returns-in-Other-clause-advertised
+returns-in-Other-clause-advertised g c =
+    rw (← c.self.view_is) (if_ok c.take_other.result (λ made (sent, out, takes) quiet. advertised_equal c.self.inside.topology c.self.inside.topology refl) c.take_other.ensures.taken)
 
 pub returns-in-Other-clause-settings : goal.returns-in-Other-clause-settings
 returns-in-Other-clause-settings g c = ap (λ (h : Held). h.settings) c.self.view_is

@@ -1,4 +1,4 @@
-use Rattle.std.proofs.Common.{◌<◌, ℕ, sym, subst, refl, [], ◌∷◌, ◌++◌, List, length, take, arith, ap, ◌∙◌}
+use Rattle.std.proofs.Common.{◌<◌, ℕ, IsTrue, sym, subst, refl, [], ◌∷◌, ◌++◌, List, length, take, arith, ap, ◌∙◌}
 use Rattle.std.proofs.lemmas.List.{append-nil, append_assoc, take_all}
 use Rattle.std.proofs.lemmas.Option.{slice_get-get_or}
 use Rattle.mesh_atoms.specs.declared.settings.RouterSettings.{RouterSettings}
@@ -10,13 +10,13 @@ use Rattle.mesh_machine.specs.declared.frame.Frame.{Frame}
 use Rattle.mesh_machine.specs.Laws.{SoundBases}
 use Rattle.mesh_machine.specs.Messages.{TakesMessage, TakesMessages, No_messages}
 use Rattle.mesh_machine.proofs.Soundness.{messages_sound}
-use Rattle.mesh_core.proofs.HeldLemmas.Quiet.{both_true, quiet_equal, quiet_after}
+use Rattle.mesh_core.proofs.HeldLemmas.Quiet.{advertised_after, advertised_equal, both_true, near_after, near_equal}
 use Rattle.mesh_core.proofs.ReadingLemmas.Messages.{read_at, read_count, takes_more}
 use Rattle.mesh_core.proofs.held.holding.InformationBases.take_typed.Goals as goal
 use Rattle.mesh_atoms.proofs.Lists.{item_at as there_is}
 
 pub loop-i-init : goal.loop-i-init
-loop-i-init g c = record { taken = ([], [], sym (append-nil _), sym (append-nil _), λ messages spelled reads. No_messages); settings = refl; quiet = λ quiet. quiet_equal c.args.self.now.bases c.args.self.now.bases c.args.arrival.now refl refl }
+loop-i-init g c = record { taken = ([], [], sym (append-nil _), sym (append-nil _), λ messages spelled reads. No_messages); settings = refl; near = λ quiet. near_equal _ _ c.args.arrival.now refl; advertised = λ quiet. advertised_equal _ _ refl }
 
 pub bounds-spans-i : goal.bounds-spans-i
 bounds-spans-i g c =
@@ -70,9 +70,12 @@ loop-i-preserved g c =
             sent more given c.in_ok-fate.fate at within (takes messages spelled reads) there,
       );
       settings = c.take_message.ensures.settings ∙ c.loop-i.invariant.settings;
-      quiet = λ quiet.
-          let (before, here) = both_true c.loop-i.quiet c.in_ok-fate.same quiet in
-          quiet_after c.args.self.now.bases c.args.arrival.now c.loop-i.self.bases c.args.arrival.now c.take_message.new.self.bases c.args.arrival.now (c.loop-i.invariant.quiet before) (c.in_ok-fate.ensures.quiet here);
+      near = λ quiet.
+          let (before, here) = both_true c.loop-i.quiet.near c.in_ok-fate.same.near (subst IsTrue c.and-quiet.ensures.near quiet) in
+          near_after c.args.self.now.bases.neighbourhood c.args.arrival.now c.loop-i.self.bases.neighbourhood c.args.arrival.now c.take_message.new.self.bases.neighbourhood c.args.arrival.now (c.loop-i.invariant.near before) (c.in_ok-fate.ensures.near here);
+      advertised = λ quiet.
+          let (before, here) = both_true c.loop-i.quiet.advertised c.in_ok-fate.same.advertised (subst IsTrue c.and-quiet.ensures.advertised quiet) in
+          advertised_after c.args.self.now.bases.topology c.loop-i.self.bases.topology c.take_message.new.self.bases.topology (c.loop-i.invariant.advertised before) (c.in_ok-fate.ensures.advertised here);
     }
 
 pub take_message-requires-clause-now : goal.take_message-requires-clause-now
@@ -100,8 +103,11 @@ returns-clause-taken g c =
 pub returns-clause-settings : goal.returns-clause-settings
 returns-clause-settings g c = c.loop-i.invariant.settings
 
-pub returns-clause-quiet : goal.returns-clause-quiet
-returns-clause-quiet g c = c.loop-i.invariant.quiet
+pub returns-clause-near : goal.returns-clause-near
+returns-clause-near g c = c.loop-i.invariant.near
+
+pub returns-clause-advertised : goal.returns-clause-advertised
+returns-clause-advertised g c = c.loop-i.invariant.advertised
 
 pub returns-in_err-fate-clause-settings : goal.returns-in_err-fate-clause-settings
 returns-in_err-fate-clause-settings g c = c.take_message.ensures.settings ∙ c.loop-i.invariant.settings

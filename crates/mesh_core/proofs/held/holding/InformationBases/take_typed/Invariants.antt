@@ -3,7 +3,8 @@ use Rattle.mesh_packet.specs.Fields.{MessageFields}
 use Rattle.mesh_machine.specs.declared.fate.Fate.{Fate}
 use Rattle.mesh_machine.specs.declared.frame.Frame.{Frame}
 use Rattle.mesh_machine.specs.Messages.{AreSpelled, TakesMessages}
-use Rattle.mesh_core.specs.Held.Quiet.{IsQuiet}
+use Rattle.mesh_nbrs.specs.Same.{SameNear}
+use Rattle.mesh_topo.specs.Same.{SameAdvertised}
 use Rattle.mesh_core.specs.Reading.Content.{AreReadAs}
 use Rattle.mesh_core.proofs.held.holding.InformationBases.take_typed.Given as goal
 
@@ -13,5 +14,6 @@ invariant-loop-i g l = record {
       × ((messages : List MessageFields) → AreSpelled l.bytes messages l.spans → AreReadAs messages l.typed
       → TakesMessages l.initial.self.settings l.own l.arrival l.bytes l.initial.self.bases (take l.i messages) (take l.i l.spans) l.self.bases sent given);
   settings : l.self.settings ≡ l.initial.self.settings;
-  quiet : IsTrue l.quiet → IsQuiet l.initial.self.bases l.arrival.now l.self.bases l.arrival.now;
+  near : IsTrue l.quiet.near → SameNear l.initial.self.bases.neighbourhood l.arrival.now l.self.bases.neighbourhood l.arrival.now;
+  advertised : IsTrue l.quiet.advertised → SameAdvertised l.initial.self.bases.topology l.self.bases.topology;
 }

@@ -15,23 +15,23 @@ expire-requires-clause-sound g c = subst (λ (s : State). SoundBases s.settings 
 
 pub take_hellos-hellos-requires : goal.take_hellos-hellos-requires
 take_hellos-hellos-requires g c =
-    let renews = c.in_ok-before.ensures _ (expired c.self.view_is c.requires.kept c.in_ok-quiet.ensures.settings c.in_ok-quiet.ensures.live c.in_ok-quiet.ensures.quiet) in
+    let renews = c.in_ok-before.ensures _ (expired c.self.view_is c.requires.kept c.in_ok-quiet.ensures.settings c.in_ok-quiet.ensures.live c.in_ok-quiet.ensures.near) in
     record { now = rw (ap (λ (s : State). s.last) renews.others) c.requires.now }
 
 pub take_parts-requires-clause-now : goal.take_parts-requires-clause-now
 take_parts-requires-clause-now g c =
-    let renews = c.in_ok-before.ensures _ (expired c.self.view_is c.requires.kept c.in_ok-quiet.ensures.settings c.in_ok-quiet.ensures.live c.in_ok-quiet.ensures.quiet) in
+    let renews = c.in_ok-before.ensures _ (expired c.self.view_is c.requires.kept c.in_ok-quiet.ensures.settings c.in_ok-quiet.ensures.live c.in_ok-quiet.ensures.near) in
     rw (ap (λ (s : State). s.last) c.take_hellos-hellos.ensures.others, ap (λ (s : State). s.last) renews.others) c.requires.now
 
 pub take_parts-requires-clause-few : goal.take_parts-requires-clause-few
 take_parts-requires-clause-few g c =
-    let changes = expired c.self.view_is c.requires.kept c.in_ok-quiet.ensures.settings c.in_ok-quiet.ensures.live c.in_ok-quiet.ensures.quiet in
+    let changes = expired c.self.view_is c.requires.kept c.in_ok-quiet.ensures.settings c.in_ok-quiet.ensures.live c.in_ok-quiet.ensures.near in
     rw (ap (λ (s : State). s.rows) c.take_hellos-hellos.ensures.others) (few_rows {s = c.begin.new.self} changes (c.in_ok-before.ensures _ changes) refl)
 
 pub returns-clause-ticks : goal.returns-clause-ticks
 returns-clause-ticks g c =
     let s : State = c.take_parts.new.self in
-    let changes = expired c.self.view_is c.requires.kept c.in_ok-quiet.ensures.settings c.in_ok-quiet.ensures.live c.in_ok-quiet.ensures.quiet in
+    let changes = expired c.self.view_is c.requires.kept c.in_ok-quiet.ensures.settings c.in_ok-quiet.ensures.live c.in_ok-quiet.ensures.near in
     let lines : EventLines = record { before = c.in_ok-before.before; hellos = c.take_hellos-hellos.result; parts = c.in_ok-parts.parts; sequence = c.self.inside.sequence; out = c.new.result } in
     subst (λ (old : State). TicksBy old c.args.now s (event_items s lines)) c.self.view_is
     (ticks_so lines changes (c.in_ok-before.ensures _ changes) c.take_hellos-hellos.ensures.others c.take_parts.ensures.others c.in_ok-quiet.ensures.live c.new.ensures refl
@@ -40,7 +40,7 @@ returns-clause-ticks g c =
 pub returns-clause-begins : goal.returns-clause-begins
 returns-clause-begins g c =
     let s : State = c.take_parts.new.self in
-    let changes = expired c.self.view_is c.requires.kept c.in_ok-quiet.ensures.settings c.in_ok-quiet.ensures.live c.in_ok-quiet.ensures.quiet in
+    let changes = expired c.self.view_is c.requires.kept c.in_ok-quiet.ensures.settings c.in_ok-quiet.ensures.live c.in_ok-quiet.ensures.near in
     let lines : EventLines = record { before = c.in_ok-before.before; hellos = c.take_hellos-hellos.result; parts = c.in_ok-parts.parts; sequence = c.self.inside.sequence; out = c.new.result } in
     subst (λ (old : State). BeginsEvent old c.args.now s lines) c.self.view_is
     (begins_so changes (c.in_ok-before.ensures _ changes) (ticked_others c.begin.new.self c.take_hellos-hellos.new.self s c.take_hellos-hellos.ensures.others c.take_parts.ensures.others) {lines = lines}

@@ -1,0 +1,96 @@
+-- What the clauses of an event say of a core to which all is kept, put together.
+use Rattle.std.proofs.Common.{◌≡◌, ◌<◌, ◌≤◌, ◌++◌, ℕ, List, Result, Ok, Err, IsTrue, true, refl, sym, subst, ap, ◌∙◌}
+use Rattle.std.specs.Prelude.{All, IfOk, OnOk, OnErr}
+use Rattle.mesh_atoms.specs.declared.graphs.Route.{Route}
+use Rattle.mesh_atoms.specs.declared.tuples.Relays.{Relays}
+use Rattle.mesh_atoms.specs.Sound.{Sound}
+use Rattle.mesh_atoms.specs.State.{State}
+use Rattle.mesh_machine.specs.declared.arrival.Arrival.{Arrival}
+use Rattle.mesh_machine.specs.declared.fate.Heard.{Heard}
+use Rattle.mesh_machine.specs.declared.frame.Frame.{Frame}
+use Rattle.mesh_machine.specs.Frames.{sent_since}
+use Rattle.mesh_machine.specs.Machine.{Hear, Tick, Step, Heard_frame, Ticked, Hears, TicksAt, due}
+use Rattle.mesh_machine.specs.Sendable.{IsSendable}
+use Rattle.mesh_machine.proofs.Effects.{since_same}
+use Rattle.mesh_machine.proofs.Soundness.{step_sound}
+use Rattle.mesh_core.specs.declared.event.outdated.EventWants.{EventWants}
+use Rattle.mesh_core.specs.declared.event.outdated.Outdated.{Outdated}
+use Rattle.mesh_core.specs.Event.Outdated.{IsKeptFor, KeepsWanted}
+use Rattle.mesh_core.specs.Event.Promises.{HearsTo, TicksTo}
+use Rattle.mesh_core.specs.Holding.{CoreValue}
+
+-- a core has heard a frame, or met want of memory
+pub record HearClauses {E : Type 0} (came : Result Heard E) (old : State) (arrival : Arrival) (bytes : List ℕ) (before after : List Frame) (new : State) : Type 0 where
+  pub step : IfOk came (λ answer. Step old (Hear arrival bytes) (sent_since before after) new)
+  pub answer : IfOk came (λ answer. Hears old arrival bytes answer (sent_since before after) new)
+  pub appended : after ≡ before ++ sent_since before after
+  pub sendable : OnOk came (All (IsSendable old.settings) (sent_since before after))
+  pub settings : OnOk came (new.settings ≡ old.settings)
+  pub last : OnOk came (new.last ≤ arrival.now)
+  pub due : OnOk came (due new ≡ due old)
+  pub sound : OnOk came (Sound new)
+
+-- its clock has ticked, or it met want of memory
+pub record TickClauses {A E : Type 0} (came : Result A E) (old : State) (now : ℕ) (before after : List Frame) (new : State) : Type 0 where
+  pub step : OnOk came (Step old (Tick now) (sent_since before after) new)
+  pub appended : after ≡ before ++ sent_since before after
+  pub sendable : OnOk came (All (IsSendable old.settings) (sent_since before after))
+  pub settings : OnOk came (new.settings ≡ old.settings)
+  pub last : OnOk came (new.last ≡ now)
+  pub due : OnOk came (now < due new)
+  pub sound : OnOk came (Sound new)
+
+-- where both are wanted, all is kept
+pub all_kept : (wants : EventWants) (whole rest : State) → wants.relays ≡ true → wants.routes ≡ true → IsKeptFor wants whole rest → whole ≡ rest
+all_kept wants whole rest relays routes kept =
+    let with_relays : Relays → State = λ r. record rest { relays = r; routes = whole.routes } in
+    let with_routes : List Route → State = λ r. record rest { routes = r } in
+    kept.same ∙ (ap with_relays (kept.relays relays) ∙ ap with_routes (kept.routes routes))
+
+pub keeps_all : (LeadsTo : State → Type 0) (wants : EventWants) (outdated : Outdated) (new : State) → wants.relays ≡ true → wants.routes ≡ true → KeepsWanted LeadsTo wants outdated new → LeadsTo new
+keeps_all LeadsTo wants outdated new relays routes keeps = subst LeadsTo (all_kept wants keeps.whole new relays routes keeps.rest) keeps.leads
+
+module _ {E : Type 0} (wants : EventWants) (arrival : Arrival) (bytes : List ℕ) (before after : List Frame) (outdated : Outdated) (new : State) where
+  hears_here : (came : Result Heard E) → wants.relays ≡ true → wants.routes ≡ true → (old : State) → Sound old → OnErr came (after ≡ before) →
+      IfOk came (λ answer. HearsTo wants old arrival bytes answer before after outdated new) → HearClauses came old arrival bytes before after new
+  hears_here (Ok answer) relays routes old sound wanting to =
+      let hears : Hears old arrival bytes answer (sent_since before after) new = keeps_all (Hears old arrival bytes answer (sent_since before after)) wants outdated new relays routes to.leaves in
+      let step : Step old (Hear arrival bytes) (sent_since before after) new = Heard_frame answer hears in
+      record {
+        step = step;
+        answer = hears;
+        appended = to.appended;
+        sendable = to.sendable;
+        settings = to.settings;
+        last = to.last;
+        due = to.due;
+        sound = step_sound old (Hear arrival bytes) (sent_since before after) new sound step;
+      }
+  hears_here (Err e) relays routes old sound wanting to =
+      record { step = tt; answer = tt; appended = since_same before after wanting; sendable = tt; settings = tt; last = tt; due = tt; sound = tt }
+
+  pub hear_clauses : {shown core : CoreValue} (came : Result Heard E) → wants.relays ≡ true → wants.routes ≡ true → shown ≡ core → Sound shown.state → OnErr came (after ≡ before) →
+      IfOk came (λ answer. HearsTo wants shown.state arrival bytes answer before after outdated new) → HearClauses came core.state arrival bytes before after new
+  hear_clauses {shown} {core} came relays routes is sound wanting to =
+      subst (λ (v : CoreValue). HearClauses came v.state arrival bytes before after new) is (hears_here came relays routes shown.state sound wanting to)
+
+module _ {A E : Type 0} (wants : EventWants) (now : ℕ) (before after : List Frame) (outdated : Outdated) (new : State) where
+  ticks_here : (came : Result A E) → wants.relays ≡ true → wants.routes ≡ true → (old : State) → Sound old → OnErr came (after ≡ before) →
+      OnOk came (TicksTo wants old now before after outdated new) → TickClauses came old now before after new
+  ticks_here (Ok x) relays routes old sound wanting to =
+      let step : Step old (Tick now) (sent_since before after) new = Ticked (keeps_all (TicksAt old now (sent_since before after)) wants outdated new relays routes to.leaves) in
+      record {
+        step = step;
+        appended = to.appended;
+        sendable = to.sendable;
+        settings = to.settings;
+        last = to.last;
+        due = to.due;
+        sound = step_sound old (Tick now) (sent_since before after) new sound step;
+      }
+  ticks_here (Err e) relays routes old sound wanting to = record { step = tt; appended = since_same before after wanting; sendable = tt; settings = tt; last = tt; due = tt; sound = tt }
+
+  pub tick_clauses : {shown core : CoreValue} (came : Result A E) → wants.relays ≡ true → wants.routes ≡ true → shown ≡ core → Sound shown.state → OnErr came (after ≡ before) →
+      OnOk came (TicksTo wants shown.state now before after outdated new) → TickClauses came core.state now before after new
+  tick_clauses {shown} {core} came relays routes is sound wanting to =
+      subst (λ (v : CoreValue). TickClauses came v.state now before after new) is (ticks_here came relays routes shown.state sound wanting to)

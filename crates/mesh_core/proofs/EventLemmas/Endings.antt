@@ -1,0 +1,119 @@
+-- How an event ends.
+use Rattle.std.proofs.Common.{◌≡◌, ◌⊎◌, ℕ, Bool, true, false, IsTrue, not, ◌||◌, List, inl, inr, refl, sym, subst, ap, ◌∙◌}
+use Rattle.std.proofs.lemmas.Bool.{true≢false}
+use Rattle.mesh_atoms.specs.declared.addr.Addr4.{Addr4}
+use Rattle.mesh_atoms.specs.declared.settings.RouterSettings.{RouterSettings}
+use Rattle.mesh_atoms.specs.declared.tc.TcRow.{TcRow}
+use Rattle.mesh_atoms.specs.Advertised.{AreTcRows}
+use Rattle.mesh_atoms.specs.declared.tuples.Relays.{Relays}
+use Rattle.mesh_atoms.specs.RelayGraphs.{AreRelays}
+use Rattle.mesh_atoms.specs.Routes.{AreRoutes}
+use Rattle.mesh_atoms.specs.State.{Bases, State, IsOriginator}
+use Rattle.mesh_atoms.specs.Sound.{SoundNeighbourhood, SoundTopology}
+use Rattle.mesh_machine.specs.Laws.{SoundBases}
+use Rattle.mesh_machine.specs.Renewal.{Renews}
+use Rattle.mesh_routes.proofs.SameBases.{tables_of}
+use Rattle.mesh_renewal.specs.declared.derived.Derived.{Derived}
+use Rattle.mesh_renewal.specs.Renewed.{HasDerived, IsAnsnAfter, IsEmptiedAt}
+use Rattle.mesh_renewal.proofs.RowMoments.{rows_stay}
+use Rattle.mesh_renewal.proofs.Staying.{relays_kept, routes_kept, rows_kept}
+use Rattle.mesh_core.specs.declared.event.outdated.Outdated.{Outdated}
+use Rattle.mesh_core.specs.declared.event.outdated.EventWants.{EventWants}
+use Rattle.mesh_core.specs.declared.held.quiet.Quiet.{Quiet}
+use Rattle.mesh_core.specs.Event.Ending.{IsBeforeEvent, GivesRelays, GivesRoutes, GivesRows}
+use Rattle.mesh_core.specs.Event.Outdated.{IsCurrent, KeepsWanted}
+use Rattle.mesh_core.specs.Held.Held.{Held}
+use Rattle.mesh_core.proofs.EventLemmas.Wholes.{bases_but, originator_but, rows_but, there_are}
+
+-- what the end of an event has done to what a router had: rows, relays and routes stay, or are made anew
+pub record RenewsWanted (wants : EventWants) (old new : Outdated) (quiet : Quiet) (held : Held) (now : ℕ) (was is : Derived) : Type 0 where
+  pub near : SoundNeighbourhood held.settings now held.bases.neighbourhood
+  pub topology : SoundTopology held.settings now held.bases.topology
+  pub last : is.last ≡ now
+  pub rows : (IsTrue quiet.near × (is.rows ≡ was.rows)) ⊎ GivesRows held.settings held.bases.neighbourhood is.rows
+  pub ansn : IsAnsnAfter was is
+  pub emptied : IsEmptiedAt now was is
+  pub wants_relays : IsTrue wants.relays → new.relays ≡ false
+  pub relays : new.relays ≡ false → (((old.relays || not quiet.near) ≡ false) × (is.relays ≡ was.relays)) ⊎ GivesRelays held.settings held.bases.neighbourhood is.relays
+  pub wants_routes : IsTrue wants.routes → new.routes ≡ false
+  pub routes : new.routes ≡ false → ((((old.routes || not quiet.near) || not quiet.advertised) ≡ false) × (is.routes ≡ was.routes)) ⊎ GivesRoutes held.settings held.bases is.routes
+
+-- what holds where neither of two does, of which the second is a negation
+neither_true : (a b : Bool) → (a || not b) ≡ false → (a ≡ false) × IsTrue b
+neither_true true b is = absurd (true≢false is)
+neither_true false true is = (refl, refl)
+neither_true false false is = absurd (true≢false is)
+
+-- an event at now began with the state `before`, and s has the bases that it leaves
+module _ (wants : EventWants) (old new : Outdated) (quiet : Quiet) (now : ℕ) (was is : Derived) (before s : State) (last : s.last ≡ now) (has : HasDerived s is)
+    (does : RenewsWanted wants old new quiet (record { settings = s.settings; bases = s.bases }) now was is) (begins : IsBeforeEvent old was quiet (record { settings = s.settings; bases = s.bases }) now before) where
+  sound_before : SoundBases before.settings before.last before.bases
+  sound_before = bases_but before begins.sound
+
+  relays_end : new.relays ≡ false → AreRelays s now
+  relays_end current = elim (does.relays current) [
+    | inl (not_old, same) ↦
+        let (of_old, stays) = neither_true old.relays quiet.near not_old in
+        relays_kept before s now sound_before.neighbourhood (tables_of does.near) begins.settings (begins.near stays) (has.relays ∙ same ∙ sym begins.has.relays) (begins.current.relays of_old)
+    | inr give ↦ give s now refl refl has.relays does.near
+  ]
+
+  routes_end : new.routes ≡ false → (self : Addr4) × AreRoutes s now self
+  routes_end current = elim (does.routes current) [
+    | inl (not_old, same) ↦
+        let (of_near, advertised) = neither_true (old.routes || not quiet.near) quiet.advertised not_old in
+        let (of_old, stays) = neither_true old.routes quiet.near of_near in
+        let (self, are) = begins.current.routes of_old in (
+          self,
+          routes_kept before s now self sound_before.neighbourhood (tables_of does.near) sound_before.topology does.topology begins.settings (begins.near stays) (begins.advertised advertised)
+              (has.routes ∙ same ∙ sym begins.has.routes) are,
+        )
+    | inr give ↦ give s now refl refl refl has.routes does.near
+  ]
+
+  rows_end : AreTcRows s s.rows
+  rows_end = elim does.rows [
+    | inl (stays, same) ↦
+        rows_kept before s now sound_before.neighbourhood (tables_of does.near) begins.settings (begins.near stays) (has.rows ∙ same ∙ sym begins.has.rows) (rows_but before begins.sound)
+    | inr give ↦ subst (λ (rows : List TcRow). AreTcRows s rows) (sym has.rows) (give s refl refl)
+  ]
+
+  current_end : IsCurrent new s
+  current_end = record {
+    relays = λ current. subst (λ (n : ℕ). AreRelays s n) (sym last) (relays_end current);
+    routes = λ current. subst (λ (n : ℕ). (self : Addr4) × AreRoutes s n self) (sym last) (routes_end current);
+  }
+
+  ends_in : KeepsWanted (Renews before now s.bases) wants new s
+  ends_in =
+      let (self, is_self) = originator_but before begins.sound in
+      let near : SoundNeighbourhood s.settings s.last s.bases.neighbourhood = subst (λ (n : ℕ). SoundNeighbourhood s.settings n s.bases.neighbourhood) (sym last) does.near in
+      let topology : SoundTopology s.settings s.last s.bases.topology = subst (λ (n : ℕ). SoundTopology s.settings n s.bases.topology) (sym last) does.topology in
+      let (relays, routes, are_relays, (origin, are_routes), own_relays, own_routes) = there_are new s self near topology (subst (λ (r : RouterSettings). IsOriginator r self) (sym begins.settings) is_self) current_end in
+      let whole : State = record s { relays = relays; routes = routes } in
+      record {
+        whole = whole;
+        leads = record {
+          settings = begins.settings;
+          bases_are = refl;
+          last = last;
+          relays = subst (λ (n : ℕ). AreRelays whole n) last are_relays;
+          rows = rows_stay s whole (λ o n. (λ h. h, λ h. h)) refl s.rows rows_end;
+          ansn = rw (has.rows, has.ansn, begins.has.rows, begins.has.ansn) does.ansn;
+          emptied = rw (has.rows, has.emptied, last, begins.has.rows, begins.has.emptied) does.emptied;
+          self = origin;
+          routes = subst (λ (n : ℕ). AreRoutes whole n origin) last are_routes;
+        };
+        rest = record { same = refl; relays = λ wanted. own_relays (does.wants_relays wanted); routes = λ wanted. own_routes (does.wants_routes wanted) };
+        current = current_end;
+      }
+
+-- the same in each state with the bases and settings that the router then holds
+pub ends_each : (wants : EventWants) (old new : Outdated) (quiet : Quiet) (held : Held) (now : ℕ) (was is : Derived) → RenewsWanted wants old new quiet held now was is →
+    (before s : State) → IsBeforeEvent old was quiet held now before → s.settings ≡ held.settings → s.bases ≡ held.bases → HasDerived s is → KeepsWanted (Renews before now s.bases) wants new s
+ends_each wants old new quiet held now was is does before s begins settings bases has =
+    let with_settings : RouterSettings → Held = λ r. record { settings = r; bases = held.bases } in
+    let with_bases : Bases → Held = λ b. record { settings = s.settings; bases = b } in
+    let here : held ≡ record { settings = s.settings; bases = s.bases } = ap with_settings (sym settings) ∙ ap with_bases (sym bases) in
+    let (begins_here, does_here) = subst (λ (h : Held). IsBeforeEvent old was quiet h now before × RenewsWanted wants old new quiet h now was is) here (begins, does) in
+    ends_in wants old new quiet now was is before s (has.last ∙ does.last) has does_here begins_here

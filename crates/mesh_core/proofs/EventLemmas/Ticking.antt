@@ -1,0 +1,31 @@
+-- What is promised of a tick of the clock.
+use Rattle.std.proofs.Common.{◌≡◌, ◌++◌, ℕ, ◌<◌, List, sym, ap, subst, arith, ◌∙◌}
+use Rattle.mesh_atoms.specs.State.{State}
+use Rattle.mesh_machine.specs.declared.frame.Frame.{Frame}
+use Rattle.mesh_machine.specs.Machine.{TicksAt, due}
+use Rattle.mesh_machine.proofs.Effects.{since_appends, since_is, ticks_due}
+use Rattle.mesh_machine.proofs.Sendables.{ticks_sendable}
+use Rattle.mesh_machine.proofs.Soundness.{live_bases_sound, renews_sound}
+use Rattle.mesh_core.specs.declared.event.outdated.EventWants.{EventWants}
+use Rattle.mesh_core.specs.declared.event.outdated.Outdated.{Outdated}
+use Rattle.mesh_core.specs.Deferred.{IsSoundButForDerived}
+use Rattle.mesh_core.specs.Event.Outdated.{KeepsWanted}
+use Rattle.mesh_core.specs.Event.Promises.{TicksTo}
+use Rattle.mesh_core.proofs.EventLemmas.Wholes.{bases_but, but_through, sound_but}
+
+pub ticks_to : (wants : EventWants) (old : State) (now : ℕ) (before after : List Frame) (outdated : Outdated) (new : State) → IsSoundButForDerived old →
+    (sent : List Frame) → after ≡ before ++ sent → KeepsWanted (TicksAt old now sent) wants outdated new → TicksTo wants old now before after outdated new
+ticks_to wants old now before after outdated new sound sent out leaves =
+    let whole : State = leaves.whole in
+    let ticks : TicksAt old now sent whole = leaves.leads in
+    let same = leaves.rest.same in
+    record {
+      appended = since_appends before after sent out;
+      leaves = subst (λ (f : List Frame). KeepsWanted (TicksAt old now f) wants outdated new) (sym (since_is before after sent out)) leaves;
+      sound = but_through whole new
+          (sound_but whole (renews_sound old now ticks.live whole (live_bases_sound old.settings old.last now old.bases ticks.live (bases_but old sound) ticks.is_live) ticks.renews)) same;
+      sendable = rw (since_is before after sent out) (ticks_sendable _ _ _ _ ticks);
+      settings = sym (ap (λ (s : State). s.settings) same) ∙ ticks.renews.settings;
+      last = sym (ap (λ (s : State). s.last) same) ∙ ticks.renews.last;
+      due = subst (λ (n : ℕ). now < n) (ap (λ (s : State). due s) same) (ticks_due old now sent whole ticks);
+    }

@@ -1,0 +1,42 @@
+use Rattle.std.proofs.Common.{refl}
+use Rattle.std.proofs.lemmas.Bool.{le-leb}
+use Rattle.mesh_core.proofs.Spent.{where_whole}
+use Rattle.mesh_core.proofs.Until.{tick_until}
+use Rattle.mesh_core.proofs.network_router.DeferredCoreNetworkRouter.tick_until.Goals as goal
+
+pub tick-came-requires-clause-now : goal.tick-came-requires-clause-now
+tick-came-requires-clause-now g c = c.requires.now
+
+pub tick-came-requires-clause-relays : goal.tick-came-requires-clause-relays
+tick-came-requires-clause-relays g c = refl
+
+pub tick-came-requires-clause-sound : goal.tick-came-requires-clause-sound
+tick-came-requires-clause-sound g c = (c.self.invariant c.if-self.false).0
+
+pub tick-came-requires-clause-current : goal.tick-came-requires-clause-current
+tick-came-requires-clause-current g c = (c.self.invariant c.if-self.false).1
+
+pub returns-clause-step : goal.returns-clause-step
+returns-clause-step g c =
+    (tick_until _ c.args.until c.args.now _ _ (λ late. refl) (le-leb c.args.until c.args.now) c.tick-came.result c.clear.new.self _ c.clear.ensures c.self.view_is c.tick-came.ensures.ticks).step
+
+pub returns-clause-sendable : goal.returns-clause-sendable
+returns-clause-sendable g c =
+    (tick_until _ c.args.until c.args.now _ _ (λ late. refl) (le-leb c.args.until c.args.now) c.tick-came.result c.clear.new.self _ c.clear.ensures c.self.view_is c.tick-came.ensures.ticks).sendable
+
+pub returns-clause-settings : goal.returns-clause-settings
+returns-clause-settings g c =
+    (tick_until _ c.args.until c.args.now _ _ (λ late. refl) (le-leb c.args.until c.args.now) c.tick-came.result c.clear.new.self _ c.clear.ensures c.self.view_is c.tick-came.ensures.ticks).settings
+
+pub returns-clause-last : goal.returns-clause-last
+returns-clause-last g c =
+    (tick_until _ c.args.until c.args.now _ _ (λ late. refl) (le-leb c.args.until c.args.now) c.tick-came.result c.clear.new.self _ c.clear.ensures c.self.view_is c.tick-came.ensures.ticks).last
+
+pub returns-clause-due : goal.returns-clause-due
+returns-clause-due g c =
+    (tick_until _ c.args.until c.args.now _ _ (λ late. refl) (le-leb c.args.until c.args.now) c.tick-came.result c.clear.new.self _ c.clear.ensures c.self.view_is c.tick-came.ensures.ticks).due
+
+pub invariant_of-self : goal.invariant_of-self
+invariant_of-self g c =
+    where_whole c.tick-came.result c.is_err-self-inside.ensures.value
+    (tick_until _ c.args.until c.args.now _ _ (λ late. refl) (le-leb c.args.until c.args.now) c.tick-came.result c.clear.new.self _ c.clear.ensures c.self.view_is c.tick-came.ensures.ticks).rest

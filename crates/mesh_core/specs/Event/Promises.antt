@@ -1,0 +1,36 @@
+-- What an event promises of a router of which not all may have been wanted.
+use Rattle.std.specs.Prelude.{◌≡◌, ◌<◌, ◌≤◌, ◌++◌, ℕ, List, All}
+use Rattle.mesh_atoms.specs.State.{State}
+use Rattle.mesh_core.specs.declared.event.outdated.Outdated.{Outdated}
+use Rattle.mesh_core.specs.declared.event.outdated.EventWants.{EventWants}
+use Rattle.mesh_core.specs.Deferred.{IsSoundButForDerived}
+use Rattle.mesh_core.specs.Event.Outdated.{KeepsWanted}
+use Rattle.mesh_machine.specs.declared.arrival.Arrival.{Arrival}
+use Rattle.mesh_machine.specs.declared.fate.Heard.{Heard}
+use Rattle.mesh_machine.specs.declared.frame.Frame.{Frame}
+use Rattle.mesh_machine.specs.Frames.{sent_since}
+use Rattle.mesh_machine.specs.Machine.{Hears, TicksAt, due}
+use Rattle.mesh_machine.specs.Sendable.{IsSendable}
+
+-- a router with the state `old` has heard a frame and answered it; `out`, which had the frames `before`, has the frames `after`; and `new` is
+-- left, of which so much is outdated
+pub record HearsTo (wants : EventWants) (old : State) (arrival : Arrival) (bytes : List ℕ) (answer : Heard) (before after : List Frame)
+    (outdated : Outdated) (new : State) : Type 0 where
+  pub appended : after ≡ before ++ sent_since before after
+  pub leaves : KeepsWanted (Hears old arrival bytes answer (sent_since before after)) wants outdated new
+  pub sound : IsSoundButForDerived new
+  pub sendable : All (IsSendable old.settings) (sent_since before after)
+  pub settings : new.settings ≡ old.settings
+  pub last : new.last ≤ arrival.now
+  pub no_earlier : old.last ≤ new.last
+  pub due : due new ≡ due old
+
+-- its clock has ticked
+pub record TicksTo (wants : EventWants) (old : State) (now : ℕ) (before after : List Frame) (outdated : Outdated) (new : State) : Type 0 where
+  pub appended : after ≡ before ++ sent_since before after
+  pub leaves : KeepsWanted (TicksAt old now (sent_since before after)) wants outdated new
+  pub sound : IsSoundButForDerived new
+  pub sendable : All (IsSendable old.settings) (sent_since before after)
+  pub settings : new.settings ≡ old.settings
+  pub last : new.last ≡ now
+  pub due : now < due new

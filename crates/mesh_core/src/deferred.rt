@@ -1,0 +1,58 @@
+//! A router that may put off relays and routes.
+ghost use Rattle.std.specs.Prelude.{◌≡◌};
+ghost use Rattle.mesh_atoms.specs.Sound.{Sound};
+ghost use Rattle.mesh_machine.specs.Machine.{due};
+
+use crate::router::{Core, RouterState};
+use mesh_expire::Bases;
+use std::marker::Model;
+
+/// A router that may put off relays and routes. Contracts see it as a core: the state of which relays and routes may be outdated.
+pub struct DeferredCore<B: Bases> {
+    pub(crate) router: RouterState<B>,
+    pub(crate) spent: bool,
+}
+
+// By hand, so that no crate that lets go of one has to know its parts.
+impl<B: Bases> Drop for DeferredCore<B> {
+    fn drop(self) {
+        let DeferredCore {
+            router: _,
+            spent: _,
+        } = self;
+    }
+}
+
+impl<B: Bases> Model for DeferredCore<B> {
+    ghost use Rattle.std.specs.Prelude.{◌≡◌, false};
+    ghost use Rattle.mesh_core.specs.Deferred.{IsSoundButForDerived};
+    ghost use Rattle.mesh_core.specs.Holding.{CoreValue};
+    ghost use Rattle.mesh_core.specs.Event.Holding.{state_of};
+    ghost use Rattle.mesh_core.specs.Event.Outdated.{IsCurrent};
+
+    ghost Value = { CoreValue };
+
+    ghost view = { λ c. record { state = state_of c.router.holding c.router.derived; is_spent = c.spent } };
+
+    ghost invariant = { λ c. c.spent ≡ false → IsSoundButForDerived (state_of c.router.holding c.router.derived)
+        × IsCurrent c.router.outdated (state_of c.router.holding c.router.derived) };
+}
+
+impl<B: Bases> DeferredCore<B> {
+    /// The router as a core, where its relays and routes are those of its bases.
+    pub fn into_core(self) -> Core<B>
+        requires { Sound self.state }
+        ensures state { result.state ≡ self.state }
+        ensures spent { result.is_spent ≡ self.is_spent }
+    {
+        let DeferredCore { router, spent } = self;
+        Core { router, spent }
+    }
+
+    // The moment at which the next HELLO or TC is due.
+    pub(crate) fn due(&self) -> u64
+        ensures { result ≡ due self.now.state }
+    {
+        self.router.due()
+    }
+}

@@ -1,0 +1,125 @@
+//! A router of an emulated network.
+ghost use Rattle.std.specs.Prelude.{◌≡◌, ◌<◌, ◌≤◌, ◌^◌, length, All, OnOk};
+ghost use Rattle.mesh_atoms.specs.State.{State};
+ghost use Rattle.mesh_core.specs.Deferred.{IsKeptOf};
+ghost use Rattle.mesh_machine.specs.Machine.{Event, Step, due};
+ghost use Rattle.mesh_machine.specs.Sendable.{IsSendable};
+
+use crate::deferred::DeferredCore;
+use crate::event::{EventWants, hear_typed, tick};
+use crate::held::Outbox;
+use crate::machine::told;
+use crate::reading::TypedFrame;
+use crate::router::Core;
+use mesh_expire::Bases;
+use mesh_machine::Arrival;
+use std::alloc::AllocError;
+
+/// A router of an emulated network: each event is one step of its machine. Of what follows from its bases it may put off relays and
+/// routes up to a moment. After want of memory it may only be dropped.
+pub trait NetworkRouter: Sized + Drop {
+    ghost state: { Self → State };
+
+    /// Hears a frame that was read before, at a moment below 2^62 that isn't before the last event. From the moment `until` on nothing
+    /// is put off. What is sent stands in `out` alone.
+    fn hear_until(
+        &mut self,
+        until: u64,
+        arrival: Arrival,
+        frame: &TypedFrame,
+        out: &mut Outbox,
+    ) -> Result<(), AllocError>
+        requires now { arrival.now < 2 ^ 62 }
+        requires later { (state self.old).last ≤ arrival.now }
+        requires iface { arrival.iface < length (state self.old).settings.interfaces }
+        ensures step { OnOk result ((whole : State) × Step (state self.old) (Event.Hear arrival frame.now) out.new whole × IsKeptOf until whole (state self.new)) }
+        ensures sendable { OnOk result (All (IsSendable (state self.old).settings) out.new) }
+        ensures settings { OnOk result ((state self.new).settings ≡ (state self.old).settings) }
+        ensures last { OnOk result ((state self.new).last ≤ arrival.now) }
+        ensures no_earlier { OnOk result ((state self.old).last ≤ (state self.new).last) }
+        ensures due { OnOk result (due (state self.new) ≡ due (state self.old)) };
+
+    /// The clock ticks, at a moment below 2^62 that isn't before the last event. From the moment `until` on nothing is put off. What is
+    /// sent stands in `out` alone.
+    fn tick_until(&mut self, until: u64, now: u64, out: &mut Outbox) -> Result<(), AllocError>
+        requires now { now < 2 ^ 62 }
+        requires later { (state self.old).last ≤ now }
+        ensures step { OnOk result ((whole : State) × Step (state self.old) (Event.Tick now) out.new whole × IsKeptOf until whole (state self.new)) }
+        ensures sendable { OnOk result (All (IsSendable (state self.old).settings) out.new) }
+        ensures settings { OnOk result ((state self.new).settings ≡ (state self.old).settings) }
+        ensures last { OnOk result ((state self.new).last ≡ now) }
+        ensures due { OnOk result (now < due (state self.new)) };
+
+    /// The moment at which the next HELLO or TC is due.
+    fn due_next(&self) -> u64
+        ensures { result ≡ due (state self.now) };
+}
+
+// A core puts nothing off.
+impl<B: Bases> NetworkRouter for Core<B> {
+    ghost state = { λ c. c.state };
+
+    fn hear_until(
+        &mut self,
+        until: u64,
+        arrival: Arrival,
+        frame: &TypedFrame,
+        out: &mut Outbox,
+    ) -> Result<(), AllocError> {
+        let _ = until;
+        out.clear();
+        told(self.hear_typed(arrival.now, arrival.iface, arrival.sender, frame, out))
+    }
+
+    fn tick_until(&mut self, until: u64, now: u64, out: &mut Outbox) -> Result<(), AllocError> {
+        let _ = until;
+        out.clear();
+        self.tick(now, out)
+    }
+
+    fn due_next(&self) -> u64 {
+        self.due()
+    }
+}
+
+impl<B: Bases> NetworkRouter for DeferredCore<B> {
+    ghost state = { λ c. c.state };
+
+    fn hear_until(
+        &mut self,
+        until: u64,
+        arrival: Arrival,
+        frame: &TypedFrame,
+        out: &mut Outbox,
+    ) -> Result<(), AllocError> {
+        out.clear();
+        if self.spent {
+            return Err(AllocError);
+        }
+        let wants = EventWants {
+            relays: until <= arrival.now,
+            routes: until <= arrival.now,
+        };
+        let came = hear_typed(&mut self.router, wants, arrival, frame, out);
+        self.spent = came.is_err();
+        told(came)
+    }
+
+    fn tick_until(&mut self, until: u64, now: u64, out: &mut Outbox) -> Result<(), AllocError> {
+        out.clear();
+        if self.spent {
+            return Err(AllocError);
+        }
+        let wants = EventWants {
+            relays: true,
+            routes: until <= now,
+        };
+        let came = tick(&mut self.router, wants, now, out);
+        self.spent = came.is_err();
+        came
+    }
+
+    fn due_next(&self) -> u64 {
+        self.due()
+    }
+}

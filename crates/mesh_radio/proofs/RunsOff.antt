@@ -1,0 +1,65 @@
+-- Runs to the end in which routers put off relays and routes up to it.
+use Rattle.std.proofs.Common.{◌≡◌, ◌∙◌, List, refl, sym, ap, subst, arith}
+use Rattle.std.proofs.lemmas.Option.{slice_get_within}
+use Rattle.mesh_atoms.specs.State.{State}
+use Rattle.mesh_atoms.specs.declared.network.NetEvent.{NetEvent}
+use Rattle.mesh_atoms.specs.declared.settings.Scenario.{Scenario}
+use Rattle.mesh_machine.specs.Net.{NetState, NetStep, By_delivery, By_tick, By_last_tick}
+use Rattle.mesh_machine.specs.NetRun.{IsOver}
+use Rattle.mesh_radio.specs.declared.scene.Scene.{Scene}
+use Rattle.mesh_radio.specs.Scene.{AreKeptOf, AreSoundStates, Happens, IsLeft, IsSound, RunsOver, net_of}
+use Rattle.mesh_machine.proofs.Places.{same_at}
+use Rattle.mesh_radio.proofs.SameSteps.{net_step_from}
+use Rattle.mesh_radio.proofs.Keeping.{all_kept}
+use Rattle.mesh_radio.proofs.Runs.{RunsOn, one_step, run_over}
+
+-- what is true between the events: those that were done lead to sound routers, of which these are kept
+pub record RunsOff (start : NetState) (rests : List State) (s : Scene) : Type 0 where
+  pub reached : List State
+  pub runs : RunsOn start (net_of reached s)
+  pub kept : AreKeptOf s.scenario.end reached rests
+  pub sounds : AreSoundStates reached
+  pub sound : IsSound rests s
+
+-- before the first event
+pub none_put_off : (routers : List State) (s : Scene) → IsSound routers s → AreSoundStates routers → RunsOff (net_of routers s) routers s
+none_put_off routers s sound sounds = record {
+  reached = routers;
+  runs = λ more new run. (more, run);
+  kept = record { count = refl; each = λ x whole rest at there. rw (same_at routers x whole rest at there) (record { same = refl; from_then = λ late. refl }) };
+  sounds = sounds;
+  sound = sound;
+}
+
+same_scenario : (old : NetState) (event : NetEvent) (new : NetState) → NetStep old event new → new.scenario ≡ old.scenario
+same_scenario old event new (By_delivery delivers) = delivers.moves.scenario
+same_scenario old event new (By_tick ticks) = ticks.moves.scenario
+same_scenario old event new (By_last_tick ticks) = ticks.moves.scenario
+
+-- one event more
+pub one_put_off : (start : NetState) (old new : List State) (before after : Scene) (event : NetEvent) → RunsOff start old before → Happens before.scenario.end old before event new after → RunsOff start new after
+one_put_off start old new before after event runs happens =
+    let (reached, step, kept, sounds) = net_step_from before.scenario.end runs.reached old happens.reached new before after event runs.kept happens.rest runs.sounds happens.step in
+    record {
+      reached = reached;
+      runs = one_step start (net_of runs.reached before) (net_of reached after) event step runs.runs;
+      kept = subst (λ (s : Scenario). AreKeptOf s.end reached new) (sym (same_scenario _ event _ happens.step)) kept;
+      sounds = sounds;
+      sound = happens.sound;
+    }
+
+-- where no event is left, nothing is put off any more
+pub none_left_off : (opening : List State) (first : Scene) (old new : List State) (before after : Scene) → RunsOff (net_of opening first) old before → IsLeft old before new after → RunsOver opening first new after
+none_left_off opening first old new before after runs left =
+    let count = left.over.0.last_ticks in
+    let same : runs.reached ≡ old = all_kept before.scenario.end runs.reached old runs.kept (λ x rest at. let less = slice_get_within old x rest at in runs.sound.ended x rest at (omega (arith, less, count))) in
+    let stays : net_of new after ≡ net_of runs.reached before = left.over.1 ∙ ap (λ (l : List State). net_of l before) (sym same) in
+    let over : IsOver (net_of runs.reached before) = subst (λ (l : List State). IsOver (net_of l before)) (sym same) left.over.0 in
+    let (events, run, done) = run_over (net_of opening first) (net_of runs.reached before) (net_of new after) runs.runs (over, stays) in
+    record {
+      events = events;
+      run = run;
+      over = done;
+      sound = left.sound;
+      sounds = subst AreSoundStates (sym (ap (λ (n : NetState). n.routers) stays)) runs.sounds;
+    }

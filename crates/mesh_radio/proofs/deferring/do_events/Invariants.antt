@@ -1,0 +1,7 @@
+use Rattle.std.specs.Prelude.{map}
+use Rattle.mesh_radio.specs.Scene.{net_of}
+use Rattle.mesh_radio.proofs.RunsOff.{RunsOff}
+use Rattle.mesh_radio.proofs.deferring.do_events.Given as goal
+
+abbrev pub invariant-loop : goal.invariant-loop
+invariant-loop g l = RunsOff (net_of (map g.R.NetworkRouter.state l.fn.routers.items) l.fn.scene) (map g.R.NetworkRouter.state l.routers.items) l.scene

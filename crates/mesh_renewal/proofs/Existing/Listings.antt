@@ -1,0 +1,130 @@
+-- Lists of all that has a property, and statements that hold or don't.
+use Rattle.std.proofs.Common.{◌≡◌, ◌↔◌, ℕ, zero, suc, ◌<◌, ◌≤◌, ◌⊎◌, inl, inr, refl, sym, subst, arith, Bool, true, false}
+use Rattle.std.proofs.Common.{List, [], ◌∷◌, ◌++◌, Contains, Option, Some, None}
+use Rattle.std.specs.List.{flat_map}
+use Rattle.std.proofs.lemmas.Bool.{cases_lt, false≢true}
+use Rattle.std.proofs.lemmas.List.Elements.{Contains-append_left, Contains-append_right, Contains-append_cases}
+use Rattle.mesh_atoms.proofs.Lists.{contains_cases, contains_head, contains_none, contains_one, contains_tail}
+use Rattle.mesh_atoms.proofs.Lists.{contains_flat_map, contains_flat_map_cases}
+
+-- Statements that hold or don't
+
+abbrev pub HoldsOrNot : Type 0 → Type 0
+HoldsOrNot D = D ⊎ (D → ⊥)
+
+pub opposite_or_not : {D : Type 0} → HoldsOrNot D → HoldsOrNot (D → ⊥)
+opposite_or_not (inl d) = inr (λ fails. fails d)
+opposite_or_not (inr fails) = inl fails
+
+pub both_or_not : {D E : Type 0} → HoldsOrNot D → HoldsOrNot E → HoldsOrNot (D × E)
+both_or_not (inl d) (inl e) = inl (d, e)
+both_or_not (inl d) (inr fails) = inr (λ both. fails both.1)
+both_or_not (inr fails) _ = inr (λ both. fails both.0)
+
+pub true_or_not : (b : Bool) → HoldsOrNot (b ≡ true)
+true_or_not true = inl refl
+true_or_not false = inr (λ e. false≢true e)
+
+pub upto_or_not : (a b : ℕ) → HoldsOrNot (a ≤ b)
+upto_or_not a b = elim (cases_lt b a) [ inl more ↦ inr (λ upto. omega arith) | inr upto ↦ inl upto ]
+
+-- Lists
+
+-- the list has exactly what has the property
+abbrev pub IsListed : {X : Type 0} → (X → Type 0) → Type 0
+IsListed {X} P = (xs : List X) × ((x : X) → Contains xs x ↔ P x)
+
+pub list_by : {X : Type 0} {P Q : X → Type 0} → ((x : X) → P x ↔ Q x) → IsListed P → IsListed Q
+list_by both (xs, are) = (xs, λ x. (λ has. (both x).0 ((are x).0 has), λ q. (are x).1 ((both x).1 q)))
+
+pub list_elements : {X : Type 0} (xs : List X) → IsListed (Contains xs)
+list_elements xs = (xs, λ x. (λ has. has, λ has. has))
+
+pub list_one : {X : Type 0} (y : X) → IsListed (λ x. y ≡ x)
+list_one {X} y = (
+  y ∷ [],
+  λ x. (λ has. contains_one y x has, λ is. subst (λ (z : X). Contains (y ∷ []) z) is (contains_head y [])),
+)
+
+pub list_value : {X : Type 0} (o : Option X) → IsListed (λ x. o ≡ Some x)
+list_value None = ([], λ x. (λ has. absurd (contains_none x has), λ is. absurd cc))
+list_value {X} (Some y) = list_by (λ (x : X). (λ is. cc, λ is. cc)) (list_one y)
+
+pub list_below : (n : ℕ) → IsListed (λ i. i < n)
+list_below zero = ([], λ i. (λ has. absurd (contains_none i has), λ less. absurd (omega arith)))
+list_below (suc n) =
+    let (xs, are) = list_below n in (
+      n ∷ xs,
+      λ i. (
+        λ has. elim (contains_cases n xs i has) [
+          | inl same ↦ omega arith
+          | inr later ↦ let less : i < n = (are i).0 later in omega arith
+        ],
+        λ less. elim (cases_lt i n) [
+          | inl lower ↦ contains_tail n xs i ((are i).1 lower)
+          | inr upto ↦ let same : n ≡ i = omega arith in subst (λ (j : ℕ). Contains (n ∷ xs) j) same (contains_head n xs)
+        ],
+      ),
+    )
+
+pub list_either : {X : Type 0} {P Q : X → Type 0} → IsListed P → IsListed Q → IsListed (λ x. P x ⊎ Q x)
+list_either (xs, are) (ys, others) = (
+  xs ++ ys,
+  λ x. (
+    λ has. elim (Contains-append_cases xs ys x has) [ inl left ↦ inl ((are x).0 left) | inr right ↦ inr ((others x).0 right) ],
+    λ p. elim p [
+      | inl left ↦ Contains-append_left xs ys x ((are x).1 left)
+      | inr right ↦ Contains-append_right xs ys x ((others x).1 right)
+    ],
+  ),
+)
+
+-- where a statement holds
+pub list_where : {X D : Type 0} {P : X → Type 0} → HoldsOrNot D → IsListed P → IsListed (λ x. D × P x)
+list_where (inl d) listed = list_by (λ x. (λ p. (d, p), λ both. both.1)) listed
+list_where (inr fails) listed = ([], λ x. (λ has. absurd (contains_none x has), λ both. absurd (fails both.0)))
+
+-- of each that is listed
+pub list_of : {A X : Type 0} {P : A → Type 0} {F : A → X → Type 0} → IsListed P → ((a : A) → IsListed (F a)) →
+    IsListed (λ x. (a : A) × P a × F a x)
+list_of {A} {X} (of, are) each =
+    let list : A → List X = λ a. (each a).0 in (
+      flat_map list of,
+      λ x. (
+        λ has. let (a, within, inside) = contains_flat_map_cases list of x has in (a, (are a).0 within, ((each a).1 x).0 inside),
+        λ (a, p, f). contains_flat_map list of a x ((are a).1 p) (((each a).1 x).1 f),
+      ),
+    )
+
+-- what is listed and has another property
+pub list_such : {X : Type 0} {P D : X → Type 0} → IsListed P → ((x : X) → HoldsOrNot (D x)) → IsListed (λ x. P x × D x)
+list_such {X} {P} {D} listed decide = list_by
+    (λ (x : X). (λ (y, p, (d, is)). subst (λ (z : X). P z × D z) is (p, d), λ (p, d). (x, p, (d, refl))))
+    (list_of listed (λ y. list_where (decide y) (list_one y)))
+
+-- Some of a list, and all of it
+
+some_element : {X : Type 0} {Q : X → Type 0} (xs : List X) → ((x : X) → HoldsOrNot (Q x)) → HoldsOrNot ((x : X) × Contains xs x × Q x)
+some_element [] decide = inr (λ (x, has, q). contains_none x has)
+some_element {X} {Q} (y ∷ ys) decide = elim (decide y) [
+  | inl q ↦ inl (y, contains_head y ys, q)
+  | inr fails ↦ elim (some_element ys decide) [
+    | inl (x, has, q) ↦ inl (x, contains_tail y ys x has, q)
+    | inr none ↦ inr (λ (x, has, q). elim (contains_cases y ys x has) [
+      | inl same ↦ fails (subst Q (sym same) q)
+      | inr later ↦ none (x, later, q)
+    ])
+  ]
+]
+
+pub some_or_none : {X : Type 0} {P Q : X → Type 0} → IsListed P → ((x : X) → HoldsOrNot (Q x)) → HoldsOrNot ((x : X) × P x × Q x)
+some_or_none (xs, are) decide = elim (some_element xs decide) [
+  | inl (x, has, q) ↦ inl (x, (are x).0 has, q)
+  | inr none ↦ inr (λ (x, p, q). none (x, (are x).1 p, q))
+]
+
+pub each_or_not : {X : Type 0} {P Q : X → Type 0} → IsListed P → ((x : X) → HoldsOrNot (Q x)) → HoldsOrNot ((x : X) → P x → Q x)
+each_or_not listed decide = elim (some_or_none listed (λ x. opposite_or_not (decide x))) [
+  | inl (x, p, fails) ↦ inr (λ each. fails (each x p))
+  | inr none ↦ inl (λ x p. elim (decide x) [ inl q ↦ q | inr fails ↦ absurd (none (x, p, fails)) ])
+]
