@@ -8,7 +8,7 @@ use mesh_atoms::{
 };
 use mesh_expire::{Bases, Table};
 use mesh_flood::{Flood, Heading};
-use mesh_machine::{RouterView, Said, said_of, two_hops_of};
+use mesh_machine::{RouterView, Said, all_two_hop_count, said_of};
 use mesh_nbrs::Near4;
 use mesh_nhdp::Nhdp;
 use mesh_routes::RoutingSet;
@@ -89,7 +89,7 @@ impl<B: Bases> RouterView for Core<B> {
     }
 
     fn links(&self, iface: usize) -> usize {
-        self.router.holding.nhdp().links(iface)
+        self.router.holding.nhdp().link_count(iface)
     }
 
     fn link(&self, iface: usize, place: usize) -> Option<(&LinkKey, &Link, u64)> {
@@ -101,7 +101,7 @@ impl<B: Bases> RouterView for Core<B> {
     }
 
     fn two_hops(&self, iface: usize) -> usize {
-        self.router.holding.nhdp().two_hops(iface)
+        self.router.holding.nhdp().two_hop_count(iface)
     }
 
     fn two_hop(&self, iface: usize, place: usize) -> Option<(&TwoHopKey, &TwoHop, u64)> {
@@ -113,11 +113,11 @@ impl<B: Bases> RouterView for Core<B> {
     }
 
     fn all_two_hops(&self) -> usize {
-        two_hops_of(self.router.holding.nhdp(), self.router.holding.settings())
+        all_two_hop_count(self.router.holding.nhdp(), self.router.holding.settings())
     }
 
     fn neighbours(&self) -> usize {
-        self.router.holding.nhdp().neighbours()
+        self.router.holding.nhdp().neighbour_count()
     }
 
     fn neighbour(&self, place: usize) -> Option<(&Addr4, &Neighbour, u64)> {
@@ -129,7 +129,7 @@ impl<B: Bases> RouterView for Core<B> {
     }
 
     fn losts(&self) -> usize {
-        self.router.holding.nhdp().lost()
+        self.router.holding.nhdp().lost_count()
     }
 
     fn routers(&self) -> usize {

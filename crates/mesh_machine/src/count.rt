@@ -7,13 +7,13 @@ use mesh_atoms::RouterSettings;
 use mesh_nbrs::Near4;
 
 /// How many 2-hop tuples there are, over all interfaces. Takes no memory.
-pub fn two_hops_of<N: Near4>(near: &N, settings: &RouterSettings) -> usize
+pub fn all_two_hop_count<N: Near4>(near: &N, settings: &RouterSettings) -> usize
     requires { (now : ℕ) × SoundNeighbourhood settings.now now (N.near near.now) }
     ensures { result ≡ sum (map length (N.near near.now).two_hops) }
 {
     let mut count = 0;
     for iface in 0..settings.interfaces.len() {
-        count += near.two_hops(iface);
+        count += near.two_hop_count(iface);
     }
     count
 }

@@ -12,7 +12,7 @@ mod said;
 mod view;
 
 pub use arrival::Arrival;
-pub use count::two_hops_of;
+pub use count::all_two_hop_count;
 pub use fate::{Fate, Heard, Read};
 pub use frame::Frame;
 pub use laws::{

@@ -29,7 +29,7 @@ pub struct Said {
 fn link_with<N: Near4>(near: &N, iface: usize, addr: Addr4) -> Option<(&LinkKey, &Link, u64)>
     ensures { IsValue (IsLinkWith (base_of (N.near near.now).links iface) addr) (entry_of result) }
 {
-    for place in 0..near.links(iface) {
+    for place in 0..near.link_count(iface) {
         if let Some((key, link, until)) = near.link(iface, place) {
             if contains(link.addrs.as_slice(), addr) {
                 return Some((key, link, until));
@@ -43,7 +43,7 @@ fn link_with<N: Near4>(near: &N, iface: usize, addr: Addr4) -> Option<(&LinkKey,
 fn neighbour_with<N: Near4>(near: &N, addr: Addr4) -> Option<(&Addr4, &Neighbour, u64)>
     ensures { IsValue (IsNeighbourWith (N.near near.now).neighbours addr) (entry_of result) }
 {
-    for place in 0..near.neighbours() {
+    for place in 0..near.neighbour_count() {
         if let Some((originator, neighbour, until)) = near.neighbour(place) {
             if neighbour.symmetric && contains(neighbour.addrs.as_slice(), addr) {
                 return Some((originator, neighbour, until));

@@ -12,7 +12,7 @@ pub trait Near4 {
     ghost near: { Self → Neighbourhood };
 
     /// How many links interface `iface` has.
-    fn links(&self, iface: usize) -> usize
+    fn link_count(&self, iface: usize) -> usize
         ensures { result ≡ length (base_of (near self.now).links iface) };
 
     /// The link of interface `iface` at a place, with its key and moment.
@@ -20,7 +20,7 @@ pub trait Near4 {
         ensures { entry_of result ≡ slice_get (base_of (near self.now).links iface) place };
 
     /// How many neighbours there are.
-    fn neighbours(&self) -> usize
+    fn neighbour_count(&self) -> usize
         ensures { result ≡ length (near self.now).neighbours };
 
     /// The neighbour at a place, with its originator and moment.
@@ -28,7 +28,7 @@ pub trait Near4 {
         ensures { entry_of result ≡ slice_get (near self.now).neighbours place };
 
     /// How many 2-hop tuples interface `iface` has.
-    fn two_hops(&self, iface: usize) -> usize
+    fn two_hop_count(&self, iface: usize) -> usize
         ensures { result ≡ length (base_of (near self.now).two_hops iface) };
 
     /// The 2-hop tuple of interface `iface` at a place, with its key and moment.
@@ -36,6 +36,6 @@ pub trait Near4 {
         ensures { entry_of result ≡ slice_get (base_of (near self.now).two_hops iface) place };
 
     /// How many lost addresses there are.
-    fn lost(&self) -> usize
+    fn lost_count(&self) -> usize
         ensures { result ≡ length (near self.now).losts };
 }

@@ -7,7 +7,7 @@ use mesh_nbrs::Near4;
 impl<B: Bases> Near4 for Nhdp<B> {
     ghost near = { λ n. n.near };
 
-    fn links(&self, iface: usize) -> usize {
+    fn link_count(&self, iface: usize) -> usize {
         match self.links.as_slice().get(iface) {
             Some(set) => set.table().len(),
             None => 0,
@@ -21,7 +21,7 @@ impl<B: Bases> Near4 for Nhdp<B> {
         }
     }
 
-    fn neighbours(&self) -> usize {
+    fn neighbour_count(&self) -> usize {
         self.neighbours.table().len()
     }
 
@@ -29,7 +29,7 @@ impl<B: Bases> Near4 for Nhdp<B> {
         self.neighbours.table().at(place)
     }
 
-    fn two_hops(&self, iface: usize) -> usize {
+    fn two_hop_count(&self, iface: usize) -> usize {
         match self.two_hops.as_slice().get(iface) {
             Some(set) => set.table().len(),
             None => 0,
@@ -43,7 +43,7 @@ impl<B: Bases> Near4 for Nhdp<B> {
         }
     }
 
-    fn lost(&self) -> usize {
+    fn lost_count(&self) -> usize {
         self.losts.table().len()
     }
 }

@@ -45,7 +45,7 @@ fn selectors_of<N: Near4>(alloc: Global, near: &N) -> Result<Vec<Selector>, Allo
     ensures { IfOk result (λ selectors. Adds (GivenByElement (λ e. IsSelectorBy e.0 e.1.0) (N.near near.now).neighbours) [] selectors.items) }
 {
     let mut selectors = Vec::new(alloc);
-    for place in 0..near.neighbours() {
+    for place in 0..near.neighbour_count() {
         if let Some((originator, neighbour, _)) = near.neighbour(place) {
             put_selector(&mut selectors, *originator, neighbour)?;
         }

@@ -55,7 +55,7 @@ pub(crate) fn put_two_hop_arcs<N: Near4>(
     ensures adds { OnOk result (Adds (GivenByElement (λ e arc. two_hop_arc owners.now e ≡ Some arc) (base_of (N.near near.now).two_hops iface)) arcs.old arcs.new) }
     ensures few { OnOk result (length arcs.new ≤ length arcs.old + length (base_of (N.near near.now).two_hops iface)) }
 {
-    for place in 0..near.two_hops(iface) {
+    for place in 0..near.two_hop_count(iface) {
         if let Some((key, two_hop, _)) = near.two_hop(iface, place) {
             put_arc(arcs, two_hop_arc(owners, key, two_hop))?;
         }

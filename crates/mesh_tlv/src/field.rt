@@ -98,12 +98,7 @@ pub fn indexes(
 }
 
 /// The length of a value.
-pub fn value_length(
-    flags: u8,
-    frame: &[u8],
-    at: usize,
-    end: usize,
-) -> Result<(usize, usize), Refusal>
+pub fn value_len(flags: u8, frame: &[u8], at: usize, end: usize) -> Result<(usize, usize), Refusal>
     requires at { at ≤ end }
     requires end { end ≤ length frame.now }
     ensures exact { result ≡ length_at flags frame.now at end }
@@ -136,7 +131,7 @@ pub fn value<'a>(
     if flags & VALUE == 0 {
         return Ok((None, at));
     }
-    let (len, start) = value_length(flags, frame, at, end)?;
+    let (len, start) = value_len(flags, frame, at, end)?;
     if len % parts != 0 {
         return Err(refuse(at, TLV_VALUE));
     }

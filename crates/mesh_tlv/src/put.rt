@@ -169,7 +169,7 @@ pub fn put_addr_tlv(tlv: AddrTlv, count: u8, out: &mut Bytes) -> Result<(), Allo
 }
 
 /// How long a value is behind its length.
-pub fn value_length(value: Option<&[u8]>) -> usize
+pub fn value_len(value: Option<&[u8]>) -> usize
     ensures { result ≡ length (least_value (option_copied value.entry)) }
 {
     match value {
@@ -185,7 +185,7 @@ pub fn value_length(value: Option<&[u8]>) -> usize
 }
 
 /// How long the indexes are.
-pub fn index_length(tlv: AddrTlv, count: u8) -> usize
+pub fn index_len(tlv: AddrTlv, count: u8) -> usize
     requires { 0 < count }
     ensures exact { result ≡ length (least_index count tlv.entry.first tlv.entry.last) }
     ensures most { result ≤ 2 }
@@ -201,21 +201,21 @@ pub fn index_length(tlv: AddrTlv, count: u8) -> usize
 
 /// How long what stands before the value is.
 #[tactic(auto, unfolding(crate::specs::Least::least_head))]
-pub fn head_length(tlv: AddrTlv, count: u8) -> usize
+pub fn head_len(tlv: AddrTlv, count: u8) -> usize
     requires { 0 < count }
     ensures exact { result ≡ length (least_head count (addr_fields tlv.entry)) }
     ensures most { result ≤ 5 }
 {
     let ext = if tlv.ext == 0 { 0 } else { 1 };
-    2 + ext + index_length(tlv, count)
+    2 + ext + index_len(tlv, count)
 }
 
 /// How long a TLV of a block of `count` addresses is.
-pub fn addr_tlv_length(tlv: AddrTlv, count: u8) -> usize
+pub fn addr_tlv_len(tlv: AddrTlv, count: u8) -> usize
     requires { 0 < count }
     ensures { result ≡ length (least_addr_tlv count (addr_fields tlv.entry)) }
 {
-    head_length(tlv, count) + value_length(tlv.value)
+    head_len(tlv, count) + value_len(tlv.value)
 }
 
 /// A TLV as it is written: one of a packet or a message as one of a block of one address, which it covers.

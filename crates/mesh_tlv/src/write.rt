@@ -6,7 +6,7 @@ ghost use Rattle.mesh_tlv.specs.declared.tlv.WriteTlv.TheVariants as WriteTlv;
 ghost use Rattle.mesh_tlv.specs.Grammar.{SpellsTlvBlock, SpellsAddrTlvBlock};
 ghost use Rattle.mesh_tlv.specs.Least.{IsFit, least_addr_tlv, least_tlv, least_block, length_within, AreTooLong, Grows};
 
-use crate::put::{Indexed, addr_tlv_length, put_addr_tlv, put_short};
+use crate::put::{Indexed, addr_tlv_len, put_addr_tlv, put_short};
 use crate::tlv::{AddrTlv, Tlv, WriteTlv};
 use mesh_atoms::Bytes;
 use std::alloc::AllocError;
@@ -21,7 +21,7 @@ fn tlvs_length<'a, T: Indexed<'a>>(tlvs: &[T], count: u8) -> Option<u16>
 {
     let mut total = 0;
     for tlv in tlvs {
-        let len = addr_tlv_length((*tlv).indexed(), count);
+        let len = addr_tlv_len((*tlv).indexed(), count);
         if len > LONGEST - total {
             return None;
         }

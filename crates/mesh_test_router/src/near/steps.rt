@@ -16,7 +16,7 @@ use std::mem::swap;
 
 /// The link of an interface that has that least address.
 fn link_with<N: Near4>(near: &N, iface: usize, addr: u32) -> Option<(&Link, u64)> {
-    for place in 0..near.links(iface) {
+    for place in 0..near.link_count(iface) {
         if let Some((key, link, until)) = near.link(iface, place) {
             if key.addr == Addr4(addr) {
                 return Some((link, until));
@@ -42,7 +42,7 @@ fn link_of<N: Near4>(near: &N, iface: usize, addr: u32) -> Option<LinkHas> {
 
 /// The 2-hop tuple of an interface that has that key.
 fn two_hop_with<N: Near4>(near: &N, iface: usize, wanted: TwoHopKey) -> Option<(&TwoHop, u64)> {
-    for place in 0..near.two_hops(iface) {
+    for place in 0..near.two_hop_count(iface) {
         if let Some((key, two_hop, until)) = near.two_hop(iface, place) {
             if *key == wanted {
                 return Some((two_hop, until));
@@ -69,7 +69,7 @@ pub(crate) struct NeighbourHas {
 }
 
 fn neighbour_with<N: Near4>(near: &N, originator: Addr4) -> Option<&Neighbour> {
-    for place in 0..near.neighbours() {
+    for place in 0..near.neighbour_count() {
         if let Some((key, neighbour, _)) = near.neighbour(place) {
             if *key == originator {
                 return Some(neighbour);
@@ -96,12 +96,12 @@ type Counts = [usize; 6];
 
 fn counts_of<N: Near4>(near: &N) -> Counts {
     [
-        near.links(0),
-        near.links(1),
-        near.two_hops(0),
-        near.two_hops(1),
-        near.neighbours(),
-        near.lost(),
+        near.link_count(0),
+        near.link_count(1),
+        near.two_hop_count(0),
+        near.two_hop_count(1),
+        near.neighbour_count(),
+        near.lost_count(),
     ]
 }
 

@@ -20,8 +20,8 @@ loop-place-preserved g c =
       | in-Some+in_ok-put_selector w ↦
           let e : Addr4 × (Neighbour × ℕ) = (w.in-Some.originator.now, (w.in-Some.neighbour.now, w.in-Some.field-0-2)) in
           rw w.selectors-is (adds_more (λ (d : Addr4 × (Neighbour × ℕ)). IsSelectorBy d.0 d.1.0) base k e [] c.loop-place.selectors.items w.put_selector.new.selectors.items (sym w.in-Some.ensures) c.loop-place.invariant w.in_ok-put_selector.ensures)
-      | in_default w ↦ absurd (nothing_there base k (omega (arith, c.neighbours-place-end.ensures)) w.in_default.ensures)
+      | in_default w ↦ absurd (nothing_there base k (omega (arith, c.neighbour_count-place-end.ensures)) w.in_default.ensures)
     ]
 
 pub returns : goal.returns
-returns g c = adds_all _ _ c.loop-place.place _ _ (omega (arith, c.neighbours-place-end.ensures)) c.loop-place.invariant
+returns g c = adds_all _ _ c.loop-place.place _ _ (omega (arith, c.neighbour_count-place-end.ensures)) c.loop-place.invariant

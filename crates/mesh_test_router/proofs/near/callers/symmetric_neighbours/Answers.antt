@@ -27,5 +27,5 @@ pub loop-place-preserved : goal.loop-place-preserved
 loop-place-preserved g c = elim c.match-neighbour.branch [
   | in-Some+then-neighbour w ↦ counted _ (g.N.Near4.near c.args.near.now).neighbours c.loop-place.place _ c.loop-place.count _ (sym w.in-Some.ensures) c.loop-place.invariant (w.count-is ∙ rw (w.if-neighbour.true) refl)
   | in-Some+else-neighbour w ↦ counted _ (g.N.Near4.near c.args.near.now).neighbours c.loop-place.place _ c.loop-place.count _ (sym w.in-Some.ensures) c.loop-place.invariant (w.count-is ∙ rw (w.if-neighbour.false) refl)
-  | in_default w ↦ absurd (stands (g.N.Near4.near c.args.near.now).neighbours c.loop-place.place (omega (arith, c.loop-place-test.true, c.neighbours-place-end.ensures)) w.in_default.ensures)
+  | in_default w ↦ absurd (stands (g.N.Near4.near c.args.near.now).neighbours c.loop-place.place (omega (arith, c.loop-place-test.true, c.neighbour_count-place-end.ensures)) w.in_default.ensures)
 ]

@@ -4,7 +4,7 @@ use Rattle.mesh_atoms.specs.declared.tuples.Link.{Link}
 use Rattle.mesh_atoms.specs.Base.{Base, base_of}
 use Rattle.mesh_nhdp.specs.NhdpState.{NhdpState}
 use Rattle.mesh_nhdp.proofs.AllHears.{found_base, past_base}
-use Rattle.mesh_nhdp.proofs.near.NhdpNear4.links.Goals as goal
+use Rattle.mesh_nhdp.proofs.near.NhdpNear4.link_count.Goals as goal
 
 pub returns-in-Some : goal.returns-in-Some
 returns-in-Some g c =

@@ -1,6 +1,6 @@
 use Rattle.std.proofs.Common.{◌≡◌, ◌≤◌, ◌*◌, length, map, take}
 use Rattle.std.specs.List.{sum}
-use Rattle.mesh_machine.proofs.count.two_hops_of.Given as goal
+use Rattle.mesh_machine.proofs.count.all_two_hop_count.Given as goal
 
 abbrev pub invariant-loop-iface : goal.invariant-loop-iface
 invariant-loop-iface g l = record {
