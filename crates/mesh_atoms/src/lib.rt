@@ -53,7 +53,7 @@ pub use octets::{
 };
 pub use quality::quality_at;
 pub use refusal::{DecodeFault, Refusal};
-pub use same::same_rows;
+pub use same::are_same_rows;
 pub use seq::Seq;
 pub use settings::{
     Attached4, DEFAULT_TC_ROWS, DEFAULT_TIMES, Interface, NearHold, Port, RadioArc, RouterSettings,

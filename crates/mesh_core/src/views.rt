@@ -173,7 +173,7 @@ impl<B: Bases> RouterView for Core<B> {
     }
 
     fn has_full_set(&self) -> bool {
-        self.router.holding.flood().full()
+        self.router.holding.flood().is_full()
     }
 
     fn relays(&self) -> &Relays {

@@ -91,7 +91,7 @@ impl<B: Bases> Flood<B> {
     }
 
     /// Whether the received set of some interface, the processed or the forwarded set has 16,384 tuples. Takes no memory.
-    pub fn full(&self) -> bool
+    pub fn is_full(&self) -> bool
         ensures { IsTrue result ↔ HasFullSet self.now.noted }
     {
         let received = has_full(&self.received);

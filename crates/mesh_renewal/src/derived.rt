@@ -5,7 +5,7 @@ ghost use Rattle.mesh_atoms.specs.State.{State};
 ghost use Rattle.mesh_renewal.specs.Renewed.{IsAnsnAfter, IsEmptiedAt};
 
 use crate::advertise::advertised_rows;
-use mesh_atoms::{Relays, RouterSettings, Seq, TcRow, same_rows};
+use mesh_atoms::{Relays, RouterSettings, Seq, TcRow, are_same_rows};
 use mesh_nbrs::Near4;
 use mesh_routes::RoutingSet;
 use std::alloc::{AllocError, Global};
@@ -49,7 +49,7 @@ impl Derived {
         ensures emptied { IsEmptiedAt now self.old self.new }
         ensures others { self.new ≡ record self.old { rows = self.new.rows; ansn = self.new.ansn; emptied = self.new.emptied } }
     {
-        if !same_rows(rows.as_slice(), self.rows.as_slice()) {
+        if !are_same_rows(rows.as_slice(), self.rows.as_slice()) {
             self.ansn = self.ansn.wrapping_add(1);
         }
         if rows.len() == 0 && self.rows.len() != 0 {

@@ -12,7 +12,7 @@ ghost use Rattle.mesh_trace.specs.Positions.Due.{HearsBy, HellosDue, TcsDue, Tic
 ghost use Rattle.mesh_replay.specs.Checking.Events.{AreRowsWith, BeginsEvent, ChangesBases, RenewsRouter, TakesInto};
 ghost use Rattle.mesh_replay.specs.Checking.Kept.{AreFewRows, AreWithinRows, IsAtRest, event_items, hello_items, tc_items};
 
-use mesh_atoms::{Relays, RouterSettings, Seq, TcRow, same_rows};
+use mesh_atoms::{Relays, RouterSettings, Seq, TcRow, are_same_rows};
 use mesh_core::{Arrival, Fate, InformationBases, Outbox, has_to_advertise, next_moment};
 use mesh_expire::Bases;
 use mesh_packet::Decoded;
@@ -105,7 +105,7 @@ fn nothing_told(alloc: Global) -> Relays
 fn ansn_with(rows: &[TcRow], before: &[TcRow], ansn: u16) -> u16
     ensures { ((rows.now ≡ before.now) × (result ≡ ansn)) ⊎ ((rows.now ≢ before.now) × (result ≡ (ansn + 1) % 65536)) }
 {
-    if same_rows(rows, before) {
+    if are_same_rows(rows, before) {
         ansn
     } else {
         ansn.wrapping_add(1)

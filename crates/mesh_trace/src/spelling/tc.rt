@@ -19,7 +19,7 @@ use crate::spelling::sole::sole_message;
 use mesh_atoms::tlv_type::{
     CONT_SEQ_NUM, GATEWAY, INTERVAL_TIME, LINK_METRIC, NBR_ADDR_TYPE, VALIDITY_TIME,
 };
-use mesh_atoms::{DecodeFault, NetAddr, Tc, same_rows};
+use mesh_atoms::{DecodeFault, NetAddr, Tc, are_same_rows};
 use mesh_packet::{Decoded, Message, Span, decode};
 use mesh_tlv::Tlv;
 use mesh_wire::{WireFault, only_value, tc_of};
@@ -35,7 +35,7 @@ fn same_tc(one: &Tc, other: &Tc) -> bool
         && one.complete == other.complete
         && one.validity == other.validity
         && one.interval == other.interval
-        && same_rows(one.rows.as_slice(), other.rows.as_slice())
+        && are_same_rows(one.rows.as_slice(), other.rows.as_slice())
 }
 
 // Whether a message has the header of a TC with that hop limit, which has come no hop.
