@@ -60,6 +60,26 @@ fn put_in<K: Key + Drop, V: Drop>(
     }
 }
 
+fn renew_in<K: Key, V: Drop>(
+    entries: &mut Vec<(K, (V, u64))>,
+    key: &K,
+    value: V,
+    until: u64,
+) -> Option<V>
+    requires { HasDistinctKeys K.eq entries.old.items }
+    ensures distinct { HasDistinctKeys K.eq entries.new.items }
+    ensures before { result ≡ option_map (λ e. e.0) (find K.eq entries.old.items key.now) }
+    ensures changed { entries.new.items ≡ changed_at K.eq entries.old.items key.now (λ _. (value, until)) }
+{
+    match place_of(entries, key) {
+        Some(i) => {
+            let before = std::mem::replace(&mut entries[i].1, (value, until));
+            Some(before.0)
+        }
+        None => None,
+    }
+}
+
 fn remove_from<K: Key + Drop, V: Drop>(entries: &mut Vec<(K, (V, u64))>, key: &K) -> bool
     requires { HasDistinctKeys K.eq entries.old.items }
     ensures distinct { HasDistinctKeys K.eq entries.new.items }
@@ -162,6 +182,10 @@ impl<K: Key + Drop, V: Drop> Table<K, V> for ListTable<K, V> {
 
     fn put(&mut self, key: K, value: V, until: u64) -> Result<(), AllocError> {
         put_in(&mut self.entries, key, value, until)
+    }
+
+    fn renew(&mut self, key: &K, value: V, until: u64) -> Result<Option<V>, AllocError> {
+        Ok(renew_in(&mut self.entries, key, value, until))
     }
 
     fn remove(&mut self, key: &K) -> bool {

@@ -32,6 +32,10 @@ impl<K: Key, V: Drop> Table<K, V> for NoTable {
         Err(AllocError)
     }
 
+    fn renew(&mut self, _key: &K, _value: V, _until: u64) -> Result<Option<V>, AllocError> {
+        Ok(None)
+    }
+
     fn remove(&mut self, _key: &K) -> bool {
         false
     }

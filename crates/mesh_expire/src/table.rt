@@ -44,6 +44,14 @@ pub trait Table<K: Key, V>: Sized + Drop {
         ensures err { OnErr result (content self.new ≡ content self.old) }
         ensures distinct { HasDistinctKeys K.eq (content self.new) };
 
+    /// Gives the entry of a key a record and a moment, and gives back its record before; `None`, changing nothing, where the key isn't
+    /// there. No entry comes to another place. Want of memory leaves the table unchanged.
+    fn renew(&mut self, key: &K, value: V, until: u64) -> Result<Option<V>, AllocError>
+        ensures before { IfOk result (λ before. before ≡ option_map (λ e. e.0) (find K.eq (content self.old) key.now)) }
+        ensures ok { OnOk result (content self.new ≡ changed_at K.eq (content self.old) key.now (λ _. (value, until))) }
+        ensures err { OnErr result (content self.new ≡ content self.old) }
+        ensures distinct { HasDistinctKeys K.eq (content self.new) };
+
     /// Takes out the entry of a key; false, changing nothing, where the key isn't there. Takes no memory.
     fn remove(&mut self, key: &K) -> bool
         ensures found { IsTrue result ↔ IsSome (find K.eq (content self.old) key.now) }

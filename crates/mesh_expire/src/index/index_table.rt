@@ -1,5 +1,5 @@
 //! A table with an index of its keys, and one of its moments.
-ghost use Rattle.std.specs.Prelude.{◌≡◌, ◌≤◌, ◌<◌, ℕ, ◌+◌, length, true, false, if◌then◌else◌, is_some, IfOk, OnOk, OnErr, IfSome, IfNone, IsTrue, IsSome, ◌↔◌, Some, None};
+ghost use Rattle.std.specs.Prelude.{◌≡◌, ◌≤◌, ◌<◌, ℕ, ◌+◌, length, true, false, if◌then◌else◌, is_some, IfOk, OnOk, OnErr, IfSome, IfNone, IsTrue, IsSome, ◌↔◌, option_map, Some, None};
 ghost use Rattle.std.specs.BTreeSet.{contains, btree_set_len, Updates, IsUnchanged};
 ghost use Rattle.mesh_atoms.specs.Base.{HasDistinctKeys, find, SetsOnly, Expires, IsFresh};
 ghost use Rattle.mesh_expire.specs.Table.{changed_at, TakesExpired};
@@ -119,6 +119,30 @@ fn put_in<K: Key + Ord + Hash + Drop, V: Drop>(
     Ok(())
 }
 
+fn renew_in<K: Key + Ord + Hash + Drop, V: Drop>(
+    map: &mut IndexMap<K, (V, u64)>,
+    moments: &mut BTreeSet<(u64, K)>,
+    key: &K,
+    value: V,
+    until: u64,
+) -> Result<Option<V>, AllocError>
+    requires { AreMomentsOf K.eq K.cmp moments.old map.old.entries }
+    ensures tells { AreMomentsOf K.eq K.cmp moments.new map.new.entries }
+    ensures distinct { HasDistinctKeys K.eq map.new.entries }
+    ensures before { IfOk result (λ before. before ≡ option_map (λ e. e.0) (find K.eq map.old.entries key.now)) }
+    ensures ok { OnOk result (map.new.entries ≡ changed_at K.eq map.old.entries key.now (λ _. (value, until))) }
+    ensures err { OnErr result (map.new.entries ≡ map.old.entries) }
+{
+    // Its keys are distinct, which the proof needs.
+    let _count = map.len();
+    let Some(entry) = map.get_mut(key) else {
+        return Ok(None);
+    };
+    move_moment(moments, *key, Some(entry.1), until)?;
+    let before = std::mem::replace(entry, (value, until));
+    Ok(Some(before.0))
+}
+
 fn remove_from<K: Key + Ord + Hash + Drop, V: Drop>(
     map: &mut IndexMap<K, (V, u64)>,
     moments: &mut BTreeSet<(u64, K)>,
@@ -235,6 +259,10 @@ impl<K: Key + Ord + Hash + Drop, V: Drop> Table<K, V> for IndexTable<K, V> {
 
     fn put(&mut self, key: K, value: V, until: u64) -> Result<(), AllocError> {
         put_in(&mut self.map, &mut self.moments, key, value, until)
+    }
+
+    fn renew(&mut self, key: &K, value: V, until: u64) -> Result<Option<V>, AllocError> {
+        renew_in(&mut self.map, &mut self.moments, key, value, until)
     }
 
     fn remove(&mut self, key: &K) -> bool {
