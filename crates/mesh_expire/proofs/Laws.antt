@@ -25,6 +25,11 @@ found_none f (Some x) h = absurd cc
 pub found_some : {A B : Type 0} (f : A → B) (o : Option A) (x : A) (y : B) → Some y ≡ option_map f o → o ≡ Some x → y ≡ f x
 found_some f o x y h is = let both : Some y ≡ Some (f x) = h ∙ ap (option_map f) is in cc
 
+-- what is given back was there
+given_back : {A B : Type 0} (f : A → B) (o : Option A) (y : B) → Some y ≡ option_map f o → (x : A) × (o ≡ Some x)
+given_back f None y h = absurd cc
+given_back f (Some x) y h = (x, refl)
+
 module _ {K V : Type 0} (eq : K → K → Bool) (key : K) (change : V × ℕ → V × ℕ) where
   -- a change keeps the keys, and each at its place
   pub keys-changed_at : (base : Base K V) → keys_of (changed_at eq base key change) ≡ keys_of base
@@ -98,6 +103,17 @@ module _ {K V : Type 0} {eq : K → K → Bool} (laws : IsEquivalence eq) where
     by_key : (b : Bool) → eq key q ≡ b → cond b (option_map change (find eq base q)) (find eq base q) ≡ cond b (Some (change entry)) (find eq base q)
     by_key false is = refl
     by_key true is = ap (option_map change) (find_same key q is base ∙ found)
+
+  -- a renewal that gives something back sets the entry of the key alone
+  pub renewed : (key : K) (entry : V × ℕ) (before : V) (old new : Base K V) → Some before ≡ option_map (λ e. e.0) (find eq old key) → new ≡ changed_at eq old key (λ _. entry)
+      → (was : V × ℕ) × (find eq old key ≡ Some was) × SetsOnly eq old new key (Some entry)
+  renewed key entry before old new stood is =
+      let (was, found) = given_back (λ (e : V × ℕ). e.0) (find eq old key) before stood in
+      (was, found, subst (λ (b : Base K V). SetsOnly eq old b key (Some entry)) (sym is) (sets-changed_at key (λ _. entry) old was found))
+
+  -- a renewal that gives nothing back leaves all as it was
+  pub renewed-none : (key : K) (entry : V × ℕ) (old new : Base K V) → None ≡ option_map (λ e. e.0) (find eq old key) → new ≡ changed_at eq old key (λ _. entry) → new ≡ old
+  renewed-none key entry old new none is = is ∙ changed_at-absent eq key (λ _. entry) old (found_none (λ (e : V × ℕ). e.0) (find eq old key) none)
 
   -- the tail of a base has not the key of its head
   absent_behind : (key : K) (e : K × (V × ℕ)) (es : Base K V) → HasDistinctKeys eq (e ∷ es) → eq key e.0 ≡ true → find eq es key ≡ None
