@@ -2,6 +2,7 @@
 
 mod bases;
 mod index_table;
+mod moments;
 
 pub use crate::index::bases::IndexedBases;
 pub use crate::index::index_table::IndexTable;

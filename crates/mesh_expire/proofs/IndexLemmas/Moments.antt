@@ -1,57 +1,55 @@
--- The moments of a table, in order.
+-- The moments of a table, in order, and at each the keys of the entries that end at it.
 use Rattle.std.proofs.lemmas.Bool.{lt-ltb, le-ltb, eqb-true}
-use Rattle.std.proofs.Common.{◌≡◌, ℕ, ◌<◌, ◌≤◌, arith, Bool, true, false, cond, ◌&&◌, Option, Some, None, Result, Ok, Err, refl, sym, ap, subst, ◌∙◌, nat_eq}
-use Rattle.std.specs.Prelude.{IsTrue, OnErr}
-use Rattle.std.specs.Ordering.{nat_cmp, is_eq}
+use Rattle.std.proofs.lemmas.List.{at_drop_more}
+use Rattle.std.proofs.Common.{◌≡◌, ℕ, zero, suc, ◌+◌, ◌-◌, ◌<◌, ◌≤◌, arith, Bool, true, false, cond, ◌&&◌, List, [], ◌∷◌, ◌++◌, length, drop, get_or, Option, Some, None, Result, Ok, Err, refl, sym, ap, subst, ◌∙◌, nat_eq}
+use Rattle.std.specs.Prelude.{if◌then◌else◌, is_some, IsSome, OnErr, OnOk, option_map, remove, slice_get, unwrap_or}
+use Rattle.std.specs.Ordering.{nat_cmp, is_eq, is_gt}
 use Rattle.std.specs.declared.cmp.Ordering.{Ordering}
-use Rattle.std.specs.Cmp.{IsEquivalence, both_tied, unsigned_ties, nat_eq_equiv}
-use Rattle.std.specs.BTreeMap.{is_at}
-use Rattle.std.specs.BTreeSet.{BTreeSet, contains, Updates}
-use Rattle.std.specs.Map.{set_value}
-use Rattle.std.specs.Prelude.{option_map}
+use Rattle.std.specs.declared.cmp.Ordering.TheVariants.{Less, Equal, Greater}
+use Rattle.std.specs.Cmp.{IsEquivalence, ranked, unsigned_ties, nat_eq_equiv}
+use Rattle.std.specs.BTreeMap.{BTreeMap, get, is_at}
+use Rattle.std.specs.Map.{lookup, set_value}
 use Rattle.mesh_atoms.specs.Base.{Base, HasDistinctKeys, find, SetsOnly, Expires, IsFresh, if_live}
-use Rattle.mesh_expire.specs.Index.Moments.{moment_cmp, is_moment, until_of, AreMomentsOf, SetsMoment}
+use Rattle.mesh_expire.specs.Index.Moments.{once_if, times_in, times_at, PutsAt, TakesAt, is_moment, until_of, AreMomentsOf, SetsMoment}
 use Rattle.mesh_expire.specs.Table.{changed_at, TakesExpired}
 use Rattle.mesh_expire.proofs.Laws.{find_same, find-changed_at, changed_at-set_value}
 use Rattle.mesh_atoms.proofs.Options.{none_is_not_some}
 
--- one pair comes in, where its key had none, or that one
-comes : (a e x : Bool) (b : Bool) → (a ≡ false → b ≡ false) → x ≡ cond e b x → cond (a && e) true x ≡ cond e a x
-comes true true x b f h = refl
-comes false true x b f h = h ∙ f refl
-comes true false x b f h = refl
-comes false false x b f h = refl
+-- one pair comes in, where its key had none
+comes : (a e : Bool) (x : ℕ) → x ≡ cond e 0 x → x + once_if (a && e) ≡ cond e (once_if a) x
+comes true true x h = omega (arith, h)
+comes false true x h = omega (arith, h)
+comes true false x h = omega arith
+comes false false x h = omega arith
 
 -- one pair comes in and another goes
-moves : (a b e x : Bool) → (a ≡ true → b ≡ false) → x ≡ cond e b x → cond (b && e) false (cond (a && e) true x) ≡ cond e a x
+moves : (a b e : Bool) (x : ℕ) → (a ≡ true → b ≡ false) → x ≡ cond e (once_if b) x → (x + once_if (a && e)) - once_if (b && e) ≡ cond e (once_if a) x
 moves true true true x f h = absurd (let no : true ≡ false = f refl in cc)
-moves true false true x f h = refl
-moves false true true x f h = refl
-moves false false true x f h = h
-moves true true false x f h = refl
-moves true false false x f h = refl
-moves false true false x f h = refl
-moves false false false x f h = refl
+moves true false true x f h = omega (arith, h)
+moves false true true x f h = omega (arith, h)
+moves false false true x f h = omega (arith, h)
+moves true true false x f h = omega arith
+moves true false false x f h = omega arith
+moves false true false x f h = omega arith
+moves false false false x f h = omega arith
 
-goes : (b e x : Bool) → x ≡ cond e b x → cond (b && e) false x ≡ cond e false x
-goes true true x h = refl
-goes false true x h = h
-goes true false x h = refl
-goes false false x h = refl
+goes : (b e : Bool) (x : ℕ) → x ≡ cond e (once_if b) x → x - once_if (b && e) ≡ cond e 0 x
+goes true true x h = omega (arith, h)
+goes false true x h = omega (arith, h)
+goes true false x h = omega arith
+goes false false x h = omega arith
 
 -- two numbers are not both equal to a third where they differ
 not_both : (until before moment : ℕ) → nat_eq before until ≡ false → nat_eq until moment ≡ true → nat_eq before moment ≡ false
 not_both until before moment apart h = grind (arith, apart, h)
 
 -- what has a moment is an entry
-found_moment : {V : Type 0} (entry : Option (V × ℕ)) (moment : ℕ) → is_moment (until_of entry) moment ≡ true → (value : V) × (entry ≡ Some (value, moment))
-found_moment None moment h = absurd cc
-found_moment (Some e) moment h = (e.0, ap (λ n. Some (e.0, n)) (eqb-true e.1 moment h))
-
--- what has a moment is there
-pub no_moment : {V : Type 0} (entry : Option (V × ℕ)) (moment : ℕ) → None ≡ entry → Some moment ≡ until_of entry → ⊥
-no_moment None moment none some = cc
-no_moment (Some e) moment none some = cc
+found_moment : {V : Type 0} (entry : Option (V × ℕ)) (moment : ℕ) → 0 < once_if (is_moment (until_of entry) moment) → (value : V) × (entry ≡ Some (value, moment))
+found_moment None moment h = absurd (omega (arith, h))
+found_moment {V} (Some e) moment h = by_case (nat_eq e.1 moment) refl h where
+  by_case : (b : Bool) → nat_eq e.1 moment ≡ b → 0 < once_if b → (value : V) × (◌≡◌ {A = Option (V × ℕ)} (Some e) (Some (value, moment)))
+  by_case true is k = (e.0, ap (λ n. Some (e.0, n)) (eqb-true e.1 moment is))
+  by_case false is k = absurd (omega (arith, k))
 
 same_until : {V : Type 0} (x y : V × ℕ) → Some x ≡ Some y → x.1 ≡ y.1
 same_until {V} x y h = let same : x ≡ y = cc in ap (λ (z : V × ℕ). z.1) same
@@ -64,91 +62,194 @@ pub on_err : {A E P : Type 0} (r : Result A E) → P → OnErr r P
 on_err (Ok x) h = tt
 on_err (Err e) h = h
 
-module _ {K : Type 0} (eq : K → K → Bool) (cmp : K → K → Ordering) (agree : (x y : K) → eq x y ≡ is_eq (cmp x y)) where
-  at_pair : (moment : ℕ) (key : K) (m : ℕ) (q : K) → is_at (moment_cmp cmp (moment, key)) (m, q) ≡ (nat_eq moment m && eq key q)
-  at_pair moment key m q = sym (both_tied (nat_eq moment m) (eq key q) (nat_cmp moment m) (cmp key q) (unsigned_ties moment m) (agree key q))
+-- what follows after a success
+pub ok_then : {A E P Q : Type 0} (r : Result A E) → OnOk r P → (P → Q) → OnOk r Q
+ok_then (Ok x) h f = f h
+ok_then (Err e) h f = tt
 
-  -- a first pair of a key
-  pub comes_in : (old new : BTreeSet (ℕ × K)) (key : K) (until : ℕ) → SetsMoment eq cmp old old key None → Updates (moment_cmp cmp) old new (until, key) true → SetsMoment eq cmp old new key (Some until)
-  comes_in old new key until was h m q =
-      h.0 (m, q) ∙ ap (λ b. cond b true (contains (moment_cmp cmp) old (m, q))) (at_pair until key m q) ∙ comes (nat_eq until m) (eq key q) (contains (moment_cmp cmp) old (m, q)) false (λ _. refl) (was m q)
+-- what follows after an error
+pub err_then : {A E P Q : Type 0} (r : Result A E) → OnErr r P → (P → Q) → OnErr r Q
+err_then (Ok x) h f = tt
+err_then (Err e) h f = f h
 
-  -- the pair that was there already
-  pub stays_in : (old new : BTreeSet (ℕ × K)) (key : K) (until : ℕ) → SetsMoment eq cmp old old key (Some until) → Updates (moment_cmp cmp) old new (until, key) true → SetsMoment eq cmp old new key (Some until)
-  stays_in old new key until was h m q =
-      h.0 (m, q) ∙ ap (λ b. cond b true (contains (moment_cmp cmp) old (m, q))) (at_pair until key m q) ∙ comes (nat_eq until m) (eq key q) (contains (moment_cmp cmp) old (m, q)) (nat_eq until m) (λ i. i) (was m q)
+-- a number that is not above another
+not_above : (x y : ℕ) (r : Ordering) → r ≡ nat_cmp x y → is_gt r ≡ false → x ≤ y
+not_above x y Less is h = omega (arith, ranked x y Less is)
+not_above x y Equal is h = omega (arith, ranked x y Equal is)
+not_above x y Greater is h = absurd cc
 
-  -- another pair of a key in place of its first
-  pub moves_in : (old mid new : BTreeSet (ℕ × K)) (key : K) (before until : ℕ) → nat_eq before until ≡ false → SetsMoment eq cmp old old key (Some before)
-      → Updates (moment_cmp cmp) old mid (until, key) true → Updates (moment_cmp cmp) mid new (before, key) false → SetsMoment eq cmp old new key (Some until)
+-- of two settings of one place the later holds
+cond_twice : {A : Type 0} (b : Bool) (x y z : A) → cond b x (cond b y z) ≡ cond b x z
+cond_twice true x y z = refl
+cond_twice false x y z = refl
+
+module _ {K : Type 0} (eq : K → K → Bool) where
+  -- a key behind a list
+  pub times_push : (keys : List K) (key q : K) → times_in eq (keys ++ key ∷ []) q ≡ times_in eq keys q + once_if (eq key q)
+  times_push [] key q = omega arith
+  times_push (k ∷ ks) key q = omega (arith, times_push ks key q)
+
+  -- the key of a place goes
+  pub times_remove : (keys : List K) (i : ℕ) (key q : K) → slice_get keys i ≡ Some key → times_in eq (remove keys i) q + once_if (eq key q) ≡ times_in eq keys q
+  times_remove [] i key q at = absurd cc
+  times_remove (k ∷ ks) zero key q at = let is : k ≡ key = cc in rw is (omega arith)
+  times_remove (k ∷ ks) (suc i) key q at = omega (arith, times_remove ks i key q at)
+
+  -- a look for a key from the front goes on
+  pub goes_by : (keys : List K) (i : ℕ) (other key : K) → times_in eq keys key ≡ times_in eq (drop i keys) key → i < length keys → other ≡ get_or keys i other → eq other key ≡ false
+      → times_in eq keys key ≡ times_in eq (drop (i + 1) keys) key
+  goes_by keys i other key so_far within is apart =
+      so_far ∙ at_drop_more (λ l. times_in eq l key) keys i other within ∙ ap (λ k. times_in eq (k ∷ drop (i + 1) keys) key) (sym is) ∙ rw apart (omega arith)
+
+  -- the first of the keys stands there
+  pub first_stands : (laws : IsEquivalence eq) (keys : List K) (key : K) → slice_get keys 0 ≡ Some key → 0 < times_in eq keys key
+  first_stands laws [] key at = absurd cc
+  first_stands laws (k ∷ ks) key at = let is : k ≡ key = cc in rw (is, laws.refl key) (omega arith)
+
+  module _ (exact : (a b : K) → eq a b ≡ true → a ≡ b) where
+    -- a key that does not stand there leaves the keys as they are
+    pub none_goes : (keys : List K) (key q : K) → times_in eq keys key ≡ 0 → times_in eq keys q ≡ times_in eq keys q - once_if (eq key q)
+    none_goes keys key q h = by_key (eq key q) refl where
+      by_key : (b : Bool) → eq key q ≡ b → times_in eq keys q ≡ times_in eq keys q - once_if b
+      by_key true is = let same : times_in eq keys q ≡ 0 = ap (times_in eq keys) (sym (exact key q is)) ∙ h in omega (arith, same)
+      by_key false is = omega arith
+
+  -- at one moment the keys change, and at no other
+  changes_at : (op : ℕ → ℕ → ℕ) (neutral : (x : ℕ) → op x 0 ≡ x) (old new : BTreeMap ℕ (List K)) (moment : ℕ) (key : K) (bucket : Option (List K))
+      → ((m : ℕ) → get nat_cmp new m ≡ cond (is_at (nat_cmp moment) m) bucket (get nat_cmp old m))
+      → ((q : K) → times_in eq (unwrap_or bucket []) q ≡ op (times_at eq old moment q) (once_if (eq key q)))
+      → (m : ℕ) (q : K) → times_at eq new m q ≡ op (times_at eq old m q) (once_if (nat_eq moment m && eq key q))
+  changes_at op neutral old new moment key bucket sets there m q =
+      ap (λ (o : Option (List K)). times_in eq (unwrap_or o []) q) (sets m ∙ ap (λ (b : Bool). cond b bucket (get nat_cmp old m)) (sym (unsigned_ties moment m))) ∙ by_moment (nat_eq moment m) refl where
+        by_moment : (b : Bool) → nat_eq moment m ≡ b → times_in eq (unwrap_or (cond b bucket (get nat_cmp old m)) []) q ≡ op (times_at eq old m q) (once_if (b && eq key q))
+        by_moment true is = there q ∙ ap (λ n. op (times_at eq old n q) (once_if (eq key q))) (eqb-true moment m is)
+        by_moment false is = sym (neutral (times_at eq old m q))
+
+  -- the keys of a bucket
+  at_bucket : (moments : BTreeMap ℕ (List K)) (moment : ℕ) (bucket : Option (List K)) (q : K) → bucket ≡ get nat_cmp moments moment → times_in eq (unwrap_or bucket []) q ≡ times_at eq moments moment q
+  at_bucket moments moment bucket q is = ap (λ (o : Option (List K)). times_in eq (unwrap_or o []) q) is
+
+  -- a key comes to a bucket
+  pub puts_behind : (old new : BTreeMap ℕ (List K)) (moment : ℕ) (key : K) (keys : List K) → Some keys ≡ get nat_cmp old moment
+      → ((m : ℕ) → get nat_cmp new m ≡ cond (is_at (nat_cmp moment) m) (Some (keys ++ key ∷ [])) (get nat_cmp old m)) → PutsAt eq old new moment key
+  puts_behind old new moment key keys is sets =
+      changes_at (λ x y. x + y) (λ x. omega arith) old new moment key (Some (keys ++ key ∷ [])) sets (λ q. times_push keys key q ∙ ap (λ n. n + once_if (eq key q)) (at_bucket old moment (Some keys) q is))
+
+  -- a first key of its moment
+  pub puts_first : (old new : BTreeMap ℕ (List K)) (moment : ℕ) (key : K) → None ≡ get nat_cmp old moment
+      → ((m : ℕ) → get nat_cmp new m ≡ cond (is_at (nat_cmp moment) m) (Some (key ∷ [])) (get nat_cmp old m)) → PutsAt eq old new moment key
+  puts_first old new moment key is sets =
+      changes_at (λ x y. x + y) (λ x. omega arith) old new moment key (Some (key ∷ [])) sets (λ q. let none : 0 ≡ times_at eq old moment q = at_bucket old moment None q is in omega (arith, none))
+
+  -- a key goes from its bucket
+  pub takes_out : (old new : BTreeMap ℕ (List K)) (moment : ℕ) (key : K) (keys left : List K) → Some keys ≡ get nat_cmp old moment
+      → ((m : ℕ) → get nat_cmp new m ≡ cond (is_at (nat_cmp moment) m) (Some left) (get nat_cmp old m))
+      → ((q : K) → times_in eq left q ≡ times_in eq keys q - once_if (eq key q)) → TakesAt eq old new moment key
+  takes_out old new moment key keys left is sets there =
+      changes_at (λ x y. x - y) (λ x. omega arith) old new moment key (Some left) sets (λ q. there q ∙ ap (λ n. n - once_if (eq key q)) (at_bucket old moment (Some keys) q is))
+
+  -- a bucket goes with its only key
+  pub takes_last : (old mid new : BTreeMap ℕ (List K)) (moment : ℕ) (key : K) (left : List K) → Some (key ∷ []) ≡ get nat_cmp old moment
+      → ((m : ℕ) → get nat_cmp mid m ≡ cond (is_at (nat_cmp moment) m) (Some left) (get nat_cmp old m))
+      → ((m : ℕ) → get nat_cmp new m ≡ cond (is_at (nat_cmp moment) m) None (get nat_cmp mid m)) → TakesAt eq old new moment key
+  takes_last old mid new moment key left is sets gone =
+      changes_at (λ x y. x - y) (λ x. omega arith) old new moment key None
+      (λ m. gone m ∙ ap (λ (o : Option (List K)). cond (is_at (nat_cmp moment) m) None o) (sets m) ∙ cond_twice (is_at (nat_cmp moment) m) None (Some left) (get nat_cmp old m))
+      (λ q. let one : once_if (eq key q) + 0 ≡ times_at eq old moment q = at_bucket old moment (Some (key ∷ [])) q is in omega (arith, one))
+
+  -- where no bucket is, no key goes
+  pub takes_none : (moments : BTreeMap ℕ (List K)) (moment : ℕ) (key : K) → None ≡ get nat_cmp moments moment → TakesAt eq moments moments moment key
+  takes_none moments moment key is m q = by_moment (nat_eq moment m) refl where
+    by_moment : (b : Bool) → nat_eq moment m ≡ b → times_at eq moments m q ≡ times_at eq moments m q - once_if (b && eq key q)
+    by_moment true at = let none : 0 ≡ times_at eq moments m q = at_bucket moments moment None q is ∙ ap (λ n. times_at eq moments n q) (eqb-true moment m at) in omega (arith, none)
+    by_moment false at = omega arith
+
+  -- what stands at a moment has a bucket there
+  has_bucket : (o : Option (List K)) (key : K) → 0 < times_in eq (unwrap_or o []) key → IsSome o
+  has_bucket None key h = absurd (omega (arith, h))
+  has_bucket (Some keys) key h = refl
+
+  -- no key stands below the least moment
+  pub none_below : (moments : BTreeMap ℕ (List K)) (least : ℕ) → ((m : ℕ) → IsSome (get nat_cmp moments m) → is_gt (nat_cmp least m) ≡ false) → (m : ℕ) (key : K) → 0 < times_at eq moments m key → least ≤ m
+  none_below moments least lower m key h = not_above least m (nat_cmp least m) refl (lower m (has_bucket (get nat_cmp moments m) key h))
+
+  has_any : (es : List (ℕ × List K)) (m : ℕ) (key : K) → 0 < times_in eq (unwrap_or (lookup (is_at (nat_cmp m)) es) []) key → 0 < length es
+  has_any [] m key h = absurd (omega (arith, h))
+  has_any (e ∷ es) m key h = omega arith
+
+  -- no key stands where no bucket is
+  pub none_stands : (moments : BTreeMap ℕ (List K)) (now : ℕ) → (0 < length moments.entries → ⊥) → (m : ℕ) (key : K) → 0 < times_at eq moments m key → now < m
+  none_stands moments now empty m key h = absurd (empty (has_any moments.entries m key h))
+
+  -- a first moment of a key
+  pub comes_in : (old new : BTreeMap ℕ (List K)) (key : K) (until : ℕ) → SetsMoment eq old old key None → PutsAt eq old new until key → SetsMoment eq old new key (Some until)
+  comes_in old new key until was h m q = h m q ∙ comes (nat_eq until m) (eq key q) (times_at eq old m q) (was m q)
+
+  -- another moment of a key in place of its first
+  pub moves_in : (old mid new : BTreeMap ℕ (List K)) (key : K) (before until : ℕ) → nat_eq before until ≡ false → SetsMoment eq old old key (Some before)
+      → PutsAt eq old mid until key → TakesAt eq mid new before key → SetsMoment eq old new key (Some until)
   moves_in old mid new key before until apart was h k m q =
-      k.0 (m, q) ∙ ap (λ b. cond b false (contains (moment_cmp cmp) mid (m, q))) (at_pair before key m q)
-      ∙ ap (λ b. cond (nat_eq before m && eq key q) false b) (h.0 (m, q) ∙ ap (λ b. cond b true (contains (moment_cmp cmp) old (m, q))) (at_pair until key m q))
-      ∙ moves (nat_eq until m) (nat_eq before m) (eq key q) (contains (moment_cmp cmp) old (m, q)) (not_both until before m apart) (was m q)
+      k m q ∙ ap (λ n. n - once_if (nat_eq before m && eq key q)) (h m q) ∙ moves (nat_eq until m) (nat_eq before m) (eq key q) (times_at eq old m q) (not_both until before m apart) (was m q)
 
-  -- the pair of a key goes
-  pub goes_out : (old new : BTreeSet (ℕ × K)) (key : K) (before : ℕ) → SetsMoment eq cmp old old key (Some before) → Updates (moment_cmp cmp) old new (before, key) false → SetsMoment eq cmp old new key None
-  goes_out old new key before was h m q =
-      h.0 (m, q) ∙ ap (λ b. cond b false (contains (moment_cmp cmp) old (m, q))) (at_pair before key m q) ∙ goes (nat_eq before m) (eq key q) (contains (moment_cmp cmp) old (m, q)) (was m q)
+  -- the moment of a key goes
+  pub goes_out : (old new : BTreeMap ℕ (List K)) (key : K) (before : ℕ) → SetsMoment eq old old key (Some before) → TakesAt eq old new before key → SetsMoment eq old new key None
+  goes_out old new key before was h m q = h m q ∙ goes (nat_eq before m) (eq key q) (times_at eq old m q) (was m q)
 
-module _ {K : Type 0} (eq : K → K → Bool) (cmp : K → K → Ordering) where
   -- what a key's moment is set to, it has
-  pub set_once : (old new : BTreeSet (ℕ × K)) (key : K) (until : Option ℕ) → SetsMoment eq cmp old new key until → SetsMoment eq cmp new new key until
+  pub set_once : (old new : BTreeMap ℕ (List K)) (key : K) (until : Option ℕ) → SetsMoment eq old new key until → SetsMoment eq new new key until
   set_once old new key until h m q = by_key (eq key q) (h m q) where
-    by_key : (e : Bool) → contains (moment_cmp cmp) new (m, q) ≡ cond e (is_moment until m) (contains (moment_cmp cmp) old (m, q)) → contains (moment_cmp cmp) new (m, q) ≡ cond e (is_moment until m) (contains (moment_cmp cmp) new (m, q))
+    by_key : (e : Bool) → times_at eq new m q ≡ cond e (once_if (is_moment until m)) (times_at eq old m q) → times_at eq new m q ≡ cond e (once_if (is_moment until m)) (times_at eq new m q)
     by_key true is = is
     by_key false is = refl
 
   -- of two settings of one key the later holds
-  pub set_twice : (old mid new : BTreeSet (ℕ × K)) (key : K) (first last : Option ℕ) → SetsMoment eq cmp old mid key first → SetsMoment eq cmp mid new key last → SetsMoment eq cmp old new key last
-  set_twice old mid new key first last h k m q = k m q ∙ by_key (eq key q) (h m q) where
-    by_key : (e : Bool) → contains (moment_cmp cmp) mid (m, q) ≡ cond e (is_moment first m) (contains (moment_cmp cmp) old (m, q))
-        → cond e (is_moment last m) (contains (moment_cmp cmp) mid (m, q)) ≡ cond e (is_moment last m) (contains (moment_cmp cmp) old (m, q))
-    by_key true is = refl
-    by_key false is = is
+  pub set_twice : (old mid new : BTreeMap ℕ (List K)) (key : K) (first last : Option ℕ) → SetsMoment eq old mid key first → SetsMoment eq mid new key last → SetsMoment eq old new key last
+  set_twice old mid new key first last h k m q =
+      k m q ∙ ap (λ n. cond (eq key q) (once_if (is_moment last m)) n) (h m q) ∙ cond_twice (eq key q) (once_if (is_moment last m)) (once_if (is_moment first m)) (times_at eq old m q)
 
   module _ {V : Type 0} where
     -- a key's moment and its entry are set together
-    pub tells_set : (old new : BTreeSet (ℕ × K)) (base base' : Base K V) (key : K) (entry : Option (V × ℕ)) → AreMomentsOf eq cmp old base → SetsMoment eq cmp old new key (until_of entry) → SetsOnly eq base base' key entry → AreMomentsOf eq cmp new base'
+    pub tells_set : (old new : BTreeMap ℕ (List K)) (base base' : Base K V) (key : K) (entry : Option (V × ℕ)) → AreMomentsOf eq old base → SetsMoment eq old new key (until_of entry) → SetsOnly eq base base' key entry → AreMomentsOf eq new base'
     tells_set old new base base' key entry tells sets only m q =
-        sets m q ∙ ap (λ b. cond (eq key q) (is_moment (until_of entry) m) b) (tells m q) ∙ by_key (eq key q) ∙ ap (λ o. is_moment (until_of o) m) (sym (only q)) where
-          by_key : (e : Bool) → cond e (is_moment (until_of entry) m) (is_moment (until_of (find eq base q)) m) ≡ is_moment (until_of (cond e entry (find eq base q))) m
+        sets m q ∙ ap (λ n. cond (eq key q) (once_if (is_moment (until_of entry) m)) n) (tells m q) ∙ by_key (eq key q) ∙ ap (λ o. once_if (is_moment (until_of o) m)) (sym (only q)) where
+          by_key : (e : Bool) → cond e (once_if (is_moment (until_of entry) m)) (once_if (is_moment (until_of (find eq base q)) m)) ≡ once_if (is_moment (until_of (cond e entry (find eq base q))) m)
           by_key true = refl
           by_key false = refl
 
     -- a key has the moment of its entry
-    pub told : (laws : IsEquivalence eq) (moments : BTreeSet (ℕ × K)) (base : Base K V) (key : K) → AreMomentsOf eq cmp moments base → SetsMoment eq cmp moments moments key (until_of (find eq base key))
+    pub told : (laws : IsEquivalence eq) (moments : BTreeMap ℕ (List K)) (base : Base K V) (key : K) → AreMomentsOf eq moments base → SetsMoment eq moments moments key (until_of (find eq base key))
     told laws moments base key tells m q = by_key (eq key q) refl where
-      by_key : (e : Bool) → eq key q ≡ e → contains (moment_cmp cmp) moments (m, q) ≡ cond e (is_moment (until_of (find eq base key)) m) (contains (moment_cmp cmp) moments (m, q))
-      by_key true is = tells m q ∙ ap (λ o. is_moment (until_of o) m) (find_same laws key q is base)
+      by_key : (e : Bool) → eq key q ≡ e → times_at eq moments m q ≡ cond e (once_if (is_moment (until_of (find eq base key)) m)) (times_at eq moments m q)
+      by_key true is = tells m q ∙ ap (λ o. once_if (is_moment (until_of o) m)) (find_same laws key q is base)
       by_key false is = refl
 
-    -- the entry of a pair
-    pub of_pair : (moments : BTreeSet (ℕ × K)) (base : Base K V) (moment : ℕ) (key : K) → AreMomentsOf eq cmp moments base → IsTrue (contains (moment_cmp cmp) moments (moment, key)) → (value : V) × (find eq base key ≡ Some (value, moment))
-    of_pair moments base moment key tells h = found_moment (find eq base key) moment (sym (tells moment key) ∙ h)
-
     -- an expired entry that goes changes nothing of what is live
-    pub still_live : (laws : IsEquivalence eq) (now moment : ℕ) (value : V) (key : K) (old base base' : Base K V) → moment ≤ now → find eq base key ≡ Some (value, moment) → SetsOnly eq base base' key None
+    still_live : (laws : IsEquivalence eq) (now moment : ℕ) (value : V) (key : K) (old base base' : Base K V) → moment ≤ now → find eq base key ≡ Some (value, moment) → SetsOnly eq base base' key None
         → ((q : K) → if_live now (find eq base q) ≡ if_live now (find eq old q)) → (q : K) → if_live now (find eq base' q) ≡ if_live now (find eq old q)
     still_live laws now moment value key old base base' late found only live q = ap (if_live now) (only q) ∙ by_key (eq key q) refl ∙ live q where
       by_key : (e : Bool) → eq key q ≡ e → if_live now (cond e None (find eq base q)) ≡ if_live now (find eq base q)
       by_key true is = gone now moment value late ∙ ap (if_live now) (sym (find_same laws key q is base ∙ found))
       by_key false is = refl
 
-    module _ (agree : (x y : K) → eq x y ≡ is_eq (cmp x y)) (laws : IsEquivalence eq) (old new : BTreeSet (ℕ × K)) (base base' : Base K V) (now : ℕ) (key : K) (tells : AreMomentsOf eq cmp old base)
-        (taken : (moment : ℕ) × (moment ≤ now) × IsTrue (contains (moment_cmp cmp) old (moment, key)) × Updates (moment_cmp cmp) old new (moment, key) false) where
-      -- the key of a pair that goes is in the map
+    module _ (laws : IsEquivalence eq) (old new : BTreeMap ℕ (List K)) (base base' : Base K V) (now : ℕ) (key : K) (tells : AreMomentsOf eq old base)
+        (taken : (moment : ℕ) × (moment ≤ now) × (0 < times_at eq old moment key) × TakesAt eq old new moment key) where
+      -- the key that goes is in the map
       taken_entry : (value : V) × (find eq base key ≡ Some (value, taken.0))
-      taken_entry = of_pair old base taken.0 key tells taken.2
+      taken_entry = found_moment (find eq base key) taken.0 (subst (λ n. 0 < n) (tells taken.0 key) taken.2)
 
       pub never_absent : None ≡ find eq base key → ⊥
       never_absent none = none_is_not_some (taken_entry.0, taken.0) (none ∙ taken_entry.1)
 
-      -- a pair goes, and with it the entry of its key
-      pub goes_with : SetsOnly eq base base' key None → AreMomentsOf eq cmp new base'
+      -- with it one entry goes
+      pub one_fewer : (few many : ℕ) (entry : Option (V × ℕ)) → entry ≡ find eq base key → few + (if is_some entry then 1 else 0) ≡ many → few < many
+      one_fewer few many None is h = absurd (never_absent is)
+      one_fewer few many (Some e) is h = omega (arith, h)
+
+      -- a key goes, and with it its entry
+      pub goes_with : SetsOnly eq base base' key None → AreMomentsOf eq new base'
       goes_with only =
-          let was : SetsMoment eq cmp old old key (Some taken.0) = subst (λ (o : Option (V × ℕ)). SetsMoment eq cmp old old key (until_of o)) taken_entry.1 (told laws old base key tells) in
-          tells_set old new base base' key None tells (goes_out eq cmp agree old new key taken.0 was taken.3) only
+          let was : SetsMoment eq old old key (Some taken.0) = subst (λ (o : Option (V × ℕ)). SetsMoment eq old old key (until_of o)) taken_entry.1 (told laws old base key tells) in
+          tells_set old new base base' key None tells (goes_out old new key taken.0 was taken.3) only
 
       pub live_after : (first : Base K V) → SetsOnly eq base base' key None → ((q : K) → if_live now (find eq base q) ≡ if_live now (find eq first q)) → (q : K) → if_live now (find eq base' q) ≡ if_live now (find eq first q)
       live_after first only live = still_live laws now taken.0 taken_entry.0 key first base base' taken.1 taken_entry.1 only live
@@ -157,20 +258,22 @@ module _ {K : Type 0} (eq : K → K → Bool) (cmp : K → K → Ordering) where
       takes_pair value until is only =
           record { until = until; stood = sym is; late = rw (same_until (value, until) (taken_entry.0, taken.0) (is ∙ taken_entry.1)) taken.1; gone = only }
 
-    -- where no pair is expired, no entry is
-    pub all_live : (moments : BTreeSet (ℕ × K)) (base old : Base K V) (now : ℕ) → AreMomentsOf eq cmp moments base → ((moment : ℕ) (key : K) → IsTrue (contains (moment_cmp cmp) moments (moment, key)) → now < moment)
+    -- the moment of an entry has its key
+    stands : (moments : BTreeMap ℕ (List K)) (base : Base K V) (q : K) (value : V) (until : ℕ) → AreMomentsOf eq moments base → find eq base q ≡ Some (value, until) → 0 < times_at eq moments until q
+    stands moments base q value until tells found =
+        let one : times_at eq moments until q ≡ 1 = tells until q ∙ ap (λ o. once_if (is_moment (until_of o) until)) found ∙ ap once_if (nat_eq_equiv.refl until) in omega (arith, one)
+
+    -- where no moment is past, no entry is expired
+    pub all_live : (moments : BTreeMap ℕ (List K)) (base old : Base K V) (now : ℕ) → AreMomentsOf eq moments base → ((moment : ℕ) (key : K) → 0 < times_at eq moments moment key → now < moment)
         → ((q : K) → if_live now (find eq base q) ≡ if_live now (find eq old q)) → Expires eq now old base
     all_live moments base old now tells later live q = by_entry (find eq base q) refl ∙ live q where
       by_entry : (o : Option (V × ℕ)) → find eq base q ≡ o → find eq base q ≡ if_live now (find eq base q)
       by_entry None is = rw is refl
-      by_entry (Some e) is =
-          let has : IsTrue (contains (moment_cmp cmp) moments (e.1, q)) = tells e.1 q ∙ ap (λ o. is_moment (until_of o) e.1) is ∙ nat_eq_equiv.refl e.1 in
-          rw (is, lt-ltb now e.1 (later e.1 q has)) refl
+      by_entry (Some e) is = rw (is, lt-ltb now e.1 (later e.1 q (stands moments base q e.0 e.1 tells is))) refl
 
-    pub none_expired : (moments : BTreeSet (ℕ × K)) (base : Base K V) (now : ℕ) → AreMomentsOf eq cmp moments base
-        → ((moment : ℕ) (key : K) → IsTrue (contains (moment_cmp cmp) moments (moment, key)) → now < moment) → IsFresh eq now base
-    none_expired moments base now tells later q value until found =
-        lt-ltb now until (later until q (tells until q ∙ ap (λ o. is_moment (until_of o) until) found ∙ nat_eq_equiv.refl until))
+    pub none_expired : (moments : BTreeMap ℕ (List K)) (base : Base K V) (now : ℕ) → AreMomentsOf eq moments base
+        → ((moment : ℕ) (key : K) → 0 < times_at eq moments moment key → now < moment) → IsFresh eq now base
+    none_expired moments base now tells later q value until found = lt-ltb now until (later until q (stands moments base q value until tells found))
 
     -- what is written to the record of a key
     pub written : (laws : IsEquivalence eq) (base new : Base K V) (key : K) (change : V × ℕ → V × ℕ) (entry : V × ℕ) → HasDistinctKeys eq base → find eq base key ≡ Some entry → new ≡ set_value (eq key) base (change entry) → new ≡ changed_at eq base key change
@@ -182,6 +285,6 @@ module _ {K : Type 0} (eq : K → K → Bool) (cmp : K → K → Ordering) where
     same_moment value false o = refl
 
     -- another record leaves the moments
-    pub still_told : (laws : IsEquivalence eq) (moments : BTreeSet (ℕ × K)) (base new : Base K V) (key : K) (value : V) → AreMomentsOf eq cmp moments base → new ≡ changed_at eq base key (λ e. (value, e.1)) → AreMomentsOf eq cmp moments new
+    pub still_told : (laws : IsEquivalence eq) (moments : BTreeMap ℕ (List K)) (base new : Base K V) (key : K) (value : V) → AreMomentsOf eq moments base → new ≡ changed_at eq base key (λ e. (value, e.1)) → AreMomentsOf eq moments new
     still_told laws moments base new key value tells h m q =
-        tells m q ∙ ap (λ o. is_moment o m) (same_moment value (eq key q) (find eq base q) ∙ ap until_of (sym (find-changed_at laws key (λ e. (value, e.1)) q base)) ∙ ap (λ (l : Base K V). until_of (find eq l q)) (sym h))
+        tells m q ∙ ap (λ o. once_if (is_moment o m)) (same_moment value (eq key q) (find eq base q) ∙ ap until_of (sym (find-changed_at laws key (λ e. (value, e.1)) q base)) ∙ ap (λ (l : Base K V). until_of (find eq l q)) (sym h))

@@ -1,14 +1,14 @@
 //! A table with an index of its keys, and one of its moments.
 ghost use Rattle.std.specs.Prelude.{◌≡◌, ◌≤◌, ◌<◌, ℕ, ◌+◌, length, true, false, if◌then◌else◌, is_some, IfOk, OnOk, OnErr, IfSome, IfNone, IsTrue, IsSome, ◌↔◌, option_map, Some, None};
-ghost use Rattle.std.specs.BTreeSet.{contains, btree_set_len, Updates, IsUnchanged};
 ghost use Rattle.mesh_atoms.specs.Base.{HasDistinctKeys, find, SetsOnly, Expires, IsFresh};
 ghost use Rattle.mesh_expire.specs.Table.{changed_at, TakesExpired};
-ghost use Rattle.mesh_expire.specs.Index.Moments.{moment_cmp, is_moment, until_of, AreMomentsOf, SetsMoment};
+ghost use Rattle.mesh_expire.specs.Index.Moments.{AreMomentsOf};
 
+use crate::index::moments::{Bucket, move_moment, put_key, take_expired, take_key};
 use crate::{Key, Table};
 use indexmap::IndexMap;
 use std::alloc::{AllocError, Global};
-use std::collections::BTreeSet;
+use std::collections::BTreeMap;
 use std::hash::Hash;
 use std::marker::Model;
 
@@ -16,7 +16,7 @@ use std::marker::Model;
 #[derive(Drop)]
 pub struct IndexTable<K: Key + Ord + Hash, V> {
     map: IndexMap<K, (V, u64)>,
-    moments: BTreeSet<(u64, K)>,
+    moments: BTreeMap<u64, Bucket<K>>,
 }
 
 impl<K: Key + Ord + Hash, V> Model for IndexTable<K, V> {
@@ -27,59 +27,20 @@ impl<K: Key + Ord + Hash, V> Model for IndexTable<K, V> {
 
     ghost view = { λ t. t.map.entries };
 
-    ghost invariant = { λ t. AreMomentsOf K.eq K.cmp t.moments t.map.entries };
-}
-
-// Takes out the pair that ends first, where its moment is at or below now, and gives its key.
-fn take_expired<K: Key + Ord + Drop>(moments: &mut BTreeSet<(u64, K)>, now: u64) -> Option<K>
-    ensures some { IfSome result (λ key. (moment : ℕ) × (moment ≤ now) × IsTrue (contains (moment_cmp K.cmp) moments.old (moment, key))
-        × Updates (moment_cmp K.cmp) moments.old moments.new (moment, key) false) }
-    ensures none { IfNone result (IsUnchanged moments.old moments.new) }
-    ensures rest { IfNone result ((moment : ℕ) (key : K) → IsTrue (contains (moment_cmp K.cmp) moments.old (moment, key)) → now < moment) }
-    ensures len { btree_set_len moments.new + (if is_some result then 1 else 0) ≡ btree_set_len moments.old }
-{
-    let least = *moments.first()?;
-    if now < least.0 {
-        return None;
-    }
-    moments.remove(&least);
-    Some(least.1)
-}
-
-// Gives a key a moment in place of the one that it had; the same one changes nothing.
-fn move_moment<K: Key + Ord + Drop>(
-    moments: &mut BTreeSet<(u64, K)>,
-    key: K,
-    before: Option<u64>,
-    until: u64,
-) -> Result<(), AllocError>
-    requires { SetsMoment K.eq K.cmp moments.old moments.old key before }
-    ensures ok { OnOk result (SetsMoment K.eq K.cmp moments.old moments.new key (Some until)) }
-    ensures err { OnErr result (IsUnchanged moments.old moments.new) }
-{
-    let Some(moment) = before else {
-        moments.insert((until, key))?;
-        return Ok(());
-    };
-    if moment == until {
-        return Ok(());
-    }
-    moments.insert((until, key))?;
-    moments.remove(&(moment, key));
-    Ok(())
+    ghost invariant = { λ t. AreMomentsOf K.eq t.moments t.map.entries };
 }
 
 // Makes the entry of a key that has none.
-fn add_in<K: Key + Ord + Hash + Drop, V: Drop>(
+fn add_in<K: Key + Hash + Drop, V: Drop>(
     map: &mut IndexMap<K, (V, u64)>,
-    moments: &mut BTreeSet<(u64, K)>,
+    moments: &mut BTreeMap<u64, Bucket<K>>,
     key: K,
     value: V,
     until: u64,
 ) -> Result<(), AllocError>
-    requires tells { AreMomentsOf K.eq K.cmp moments.old map.old.entries }
+    requires tells { AreMomentsOf K.eq moments.old map.old.entries }
     requires absent { find K.eq map.old.entries key ≡ None }
-    ensures tells { AreMomentsOf K.eq K.cmp moments.new map.new.entries }
+    ensures tells { AreMomentsOf K.eq moments.new map.new.entries }
     ensures distinct { HasDistinctKeys K.eq map.new.entries }
     ensures ok { OnOk result (SetsOnly K.eq map.old.entries map.new.entries key (Some (value, until))) }
     ensures err { OnErr result (map.new.entries ≡ map.old.entries) }
@@ -87,23 +48,23 @@ fn add_in<K: Key + Ord + Hash + Drop, V: Drop>(
 {
     // Its keys are distinct, which the proof needs.
     let _count = map.len();
-    move_moment(moments, key, None, until)?;
+    put_key(moments, *map.allocator(), until, key)?;
     let Err(_) = map.insert(key, (value, until)) else {
         return Ok(());
     };
-    moments.remove(&(until, key));
+    take_key(moments, until, &key);
     Err(AllocError)
 }
 
-fn put_in<K: Key + Ord + Hash + Drop, V: Drop>(
+fn put_in<K: Key + Hash + Drop, V: Drop>(
     map: &mut IndexMap<K, (V, u64)>,
-    moments: &mut BTreeSet<(u64, K)>,
+    moments: &mut BTreeMap<u64, Bucket<K>>,
     key: K,
     value: V,
     until: u64,
 ) -> Result<(), AllocError>
-    requires { AreMomentsOf K.eq K.cmp moments.old map.old.entries }
-    ensures tells { AreMomentsOf K.eq K.cmp moments.new map.new.entries }
+    requires { AreMomentsOf K.eq moments.old map.old.entries }
+    ensures tells { AreMomentsOf K.eq moments.new map.new.entries }
     ensures distinct { HasDistinctKeys K.eq map.new.entries }
     ensures ok { OnOk result (SetsOnly K.eq map.old.entries map.new.entries key (Some (value, until))) }
     ensures err { OnErr result (map.new.entries ≡ map.old.entries) }
@@ -111,23 +72,24 @@ fn put_in<K: Key + Ord + Hash + Drop, V: Drop>(
 {
     // Its keys are distinct, which the proof needs.
     let _count = map.len();
+    let alloc = *map.allocator();
     let Some(entry) = map.get_mut(&key) else {
         return add_in(map, moments, key, value, until);
     };
-    move_moment(moments, key, Some(entry.1), until)?;
+    move_moment(moments, alloc, key, Some(entry.1), until)?;
     *entry = (value, until);
     Ok(())
 }
 
-fn renew_in<K: Key + Ord + Hash + Drop, V: Drop>(
+fn renew_in<K: Key + Hash + Drop, V: Drop>(
     map: &mut IndexMap<K, (V, u64)>,
-    moments: &mut BTreeSet<(u64, K)>,
+    moments: &mut BTreeMap<u64, Bucket<K>>,
     key: &K,
     value: V,
     until: u64,
 ) -> Result<Option<V>, AllocError>
-    requires { AreMomentsOf K.eq K.cmp moments.old map.old.entries }
-    ensures tells { AreMomentsOf K.eq K.cmp moments.new map.new.entries }
+    requires { AreMomentsOf K.eq moments.old map.old.entries }
+    ensures tells { AreMomentsOf K.eq moments.new map.new.entries }
     ensures distinct { HasDistinctKeys K.eq map.new.entries }
     ensures before { IfOk result (λ before. before ≡ option_map (λ e. e.0) (find K.eq map.old.entries key.now)) }
     ensures ok { OnOk result (map.new.entries ≡ changed_at K.eq map.old.entries key.now (λ _. (value, until))) }
@@ -135,21 +97,22 @@ fn renew_in<K: Key + Ord + Hash + Drop, V: Drop>(
 {
     // Its keys are distinct, which the proof needs.
     let _count = map.len();
+    let alloc = *map.allocator();
     let Some(entry) = map.get_mut(key) else {
         return Ok(None);
     };
-    move_moment(moments, *key, Some(entry.1), until)?;
+    move_moment(moments, alloc, *key, Some(entry.1), until)?;
     let before = std::mem::replace(entry, (value, until));
     Ok(Some(before.0))
 }
 
-fn remove_from<K: Key + Ord + Hash + Drop, V: Drop>(
+fn remove_from<K: Key + Hash + Drop, V: Drop>(
     map: &mut IndexMap<K, (V, u64)>,
-    moments: &mut BTreeSet<(u64, K)>,
+    moments: &mut BTreeMap<u64, Bucket<K>>,
     key: &K,
 ) -> bool
-    requires { AreMomentsOf K.eq K.cmp moments.old map.old.entries }
-    ensures tells { AreMomentsOf K.eq K.cmp moments.new map.new.entries }
+    requires { AreMomentsOf K.eq moments.old map.old.entries }
+    ensures tells { AreMomentsOf K.eq moments.new map.new.entries }
     ensures distinct { HasDistinctKeys K.eq map.new.entries }
     ensures found { IsTrue result ↔ IsSome (find K.eq map.old.entries key.now) }
     ensures removed { SetsOnly K.eq map.old.entries map.new.entries key.now None }
@@ -159,17 +122,17 @@ fn remove_from<K: Key + Ord + Hash + Drop, V: Drop>(
     let Some((_, until)) = map.swap_remove(key) else {
         return false;
     };
-    moments.remove(&(until, *key));
+    take_key(moments, until, key);
     true
 }
 
-fn drop_expired<K: Key + Ord + Hash + Drop, V: Drop>(
+fn drop_expired<K: Key + Hash + Drop, V: Drop>(
     map: &mut IndexMap<K, (V, u64)>,
-    moments: &mut BTreeSet<(u64, K)>,
+    moments: &mut BTreeMap<u64, Bucket<K>>,
     now: u64,
 ) -> usize
-    requires { AreMomentsOf K.eq K.cmp moments.old map.old.entries }
-    ensures tells { AreMomentsOf K.eq K.cmp moments.new map.new.entries }
+    requires { AreMomentsOf K.eq moments.old map.old.entries }
+    ensures tells { AreMomentsOf K.eq moments.new map.new.entries }
     ensures distinct { HasDistinctKeys K.eq map.new.entries }
     ensures kept { Expires K.eq now map.old.entries map.new.entries }
     ensures count { result + length map.new.entries ≡ length map.old.entries }
@@ -181,13 +144,13 @@ fn drop_expired<K: Key + Ord + Hash + Drop, V: Drop>(
     before - map.len()
 }
 
-fn take_next<K: Key + Ord + Hash + Drop, V: Drop>(
+fn take_next<K: Key + Hash + Drop, V: Drop>(
     map: &mut IndexMap<K, (V, u64)>,
-    moments: &mut BTreeSet<(u64, K)>,
+    moments: &mut BTreeMap<u64, Bucket<K>>,
     now: u64,
 ) -> Option<(K, V)>
-    requires { AreMomentsOf K.eq K.cmp moments.old map.old.entries }
-    ensures tells { AreMomentsOf K.eq K.cmp moments.new map.new.entries }
+    requires { AreMomentsOf K.eq moments.old map.old.entries }
+    ensures tells { AreMomentsOf K.eq moments.new map.new.entries }
     ensures distinct { HasDistinctKeys K.eq map.new.entries }
     ensures some { IfSome result (λ e. TakesExpired K.eq now e.0 e.1 map.old.entries map.new.entries) }
     ensures none { IfNone result (map.new.entries ≡ map.old.entries) }
@@ -206,14 +169,14 @@ fn take_next<K: Key + Ord + Hash + Drop, V: Drop>(
     Some((key, value))
 }
 
-fn set_until_in<K: Key + Ord + Hash + Drop, V>(
+fn set_until_in<K: Key + Hash + Drop, V>(
     map: &mut IndexMap<K, (V, u64)>,
-    moments: &mut BTreeSet<(u64, K)>,
+    moments: &mut BTreeMap<u64, Bucket<K>>,
     key: &K,
     until: u64,
 ) -> Result<bool, AllocError>
-    requires { AreMomentsOf K.eq K.cmp moments.old map.old.entries }
-    ensures tells { AreMomentsOf K.eq K.cmp moments.new map.new.entries }
+    requires { AreMomentsOf K.eq moments.old map.old.entries }
+    ensures tells { AreMomentsOf K.eq moments.new map.new.entries }
     ensures distinct { HasDistinctKeys K.eq map.new.entries }
     ensures found { IfOk result (λ was_there. IsTrue was_there ↔ IsSome (find K.eq map.old.entries key.now)) }
     ensures ok { OnOk result (map.new.entries ≡ changed_at K.eq map.old.entries key.now (λ e. (e.0, until))) }
@@ -221,10 +184,11 @@ fn set_until_in<K: Key + Ord + Hash + Drop, V>(
 {
     // Its keys are distinct, which the proof needs.
     let _count = map.len();
+    let alloc = *map.allocator();
     let Some(entry) = map.get_mut(key) else {
         return Ok(false);
     };
-    move_moment(moments, *key, Some(entry.1), until)?;
+    move_moment(moments, alloc, *key, Some(entry.1), until)?;
     entry.1 = until;
     Ok(true)
 }
@@ -235,7 +199,7 @@ impl<K: Key + Ord + Hash + Drop, V: Drop> Table<K, V> for IndexTable<K, V> {
     fn new(alloc: Global) -> Result<IndexTable<K, V>, AllocError> {
         Ok(IndexTable {
             map: IndexMap::new(alloc),
-            moments: BTreeSet::new(alloc),
+            moments: BTreeMap::new(alloc),
         })
     }
 

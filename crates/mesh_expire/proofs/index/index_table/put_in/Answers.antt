@@ -28,8 +28,7 @@ returns-in_default-clause-count g c =
 pub move_moment-requires : goal.move_moment-requires
 move_moment-requires g c =
     let eq = g.K.PartialEq.eq in
-    let cmp = g.K.Ord.cmp in
-    subst (λ o. SetsMoment eq cmp c.args.moments.now c.args.moments.now c.args.key (until_of o)) (sym c.in-Some.ensures.value) (told eq cmp g.met.K.Eq.laws c.args.moments.now c.args.map.now.entries c.args.key c.requires)
+    subst (λ o. SetsMoment eq c.args.moments.now c.args.moments.now c.args.key (until_of o)) (sym c.in-Some.ensures.value) (told eq g.met.K.Eq.laws c.args.moments.now c.args.map.now.entries c.args.key c.requires)
 
 pub returns-in_err-move_moment-clause-err : goal.returns-in_err-move_moment-clause-err
 returns-in_err-move_moment-clause-err g c =
@@ -43,14 +42,14 @@ returns-in_err-move_moment-clause-tells g c moment key =
 pub returns-clause-ok : goal.returns-clause-ok
 returns-clause-ok g c =
     let found = sym c.in-Some.ensures.value in
-    rw (written g.K.PartialEq.eq g.K.Ord.cmp g.met.K.Eq.laws c.args.map.now.entries _ c.args.key (λ e. (c.args.value, c.args.until)) c.in-Some.entry.now c.in-Some.ensures.unique found (c.get_mut.follows.holds (c.args.value, c.args.until)).0)
+    rw (written g.K.PartialEq.eq g.met.K.Eq.laws c.args.map.now.entries _ c.args.key (λ e. (c.args.value, c.args.until)) c.in-Some.entry.now c.in-Some.ensures.unique found (c.get_mut.follows.holds (c.args.value, c.args.until)).0)
     (sets-changed_at g.met.K.Eq.laws c.args.key (λ e. (c.args.value, c.args.until)) c.args.map.now.entries c.in-Some.entry.now found)
 
 pub returns-clause-tells : goal.returns-clause-tells
 returns-clause-tells g c =
     let found = sym c.in-Some.ensures.value in
-    tells_set g.K.PartialEq.eq g.K.Ord.cmp c.args.moments.now c.move_moment.new.moments c.args.map.now.entries _ c.args.key (Some (c.args.value, c.args.until)) c.requires c.in_ok-move_moment.ensures.ok
-    (rw (written g.K.PartialEq.eq g.K.Ord.cmp g.met.K.Eq.laws c.args.map.now.entries _ c.args.key (λ e. (c.args.value, c.args.until)) c.in-Some.entry.now c.in-Some.ensures.unique found (c.get_mut.follows.holds (c.args.value, c.args.until)).0)
+    tells_set g.K.PartialEq.eq c.args.moments.now c.move_moment.new.moments c.args.map.now.entries _ c.args.key (Some (c.args.value, c.args.until)) c.requires c.in_ok-move_moment.ensures.ok
+    (rw (written g.K.PartialEq.eq g.met.K.Eq.laws c.args.map.now.entries _ c.args.key (λ e. (c.args.value, c.args.until)) c.in-Some.entry.now c.in-Some.ensures.unique found (c.get_mut.follows.holds (c.args.value, c.args.until)).0)
     (sets-changed_at g.met.K.Eq.laws c.args.key (λ e. (c.args.value, c.args.until)) c.args.map.now.entries c.in-Some.entry.now found))
 
 pub returns-clause-count : goal.returns-clause-count

@@ -12,8 +12,7 @@ returns-in_default-clause-ok g c =
 pub move_moment-requires : goal.move_moment-requires
 move_moment-requires g c =
     let eq = g.K.PartialEq.eq in
-    let cmp = g.K.Ord.cmp in
-    subst (λ o. SetsMoment eq cmp c.args.moments.now c.args.moments.now c.args.key.now (until_of o)) (sym c.in-Some.ensures.value) (told eq cmp g.met.K.Eq.laws c.args.moments.now c.args.map.now.entries c.args.key.now c.requires)
+    subst (λ o. SetsMoment eq c.args.moments.now c.args.moments.now c.args.key.now (until_of o)) (sym c.in-Some.ensures.value) (told eq g.met.K.Eq.laws c.args.moments.now c.args.map.now.entries c.args.key.now c.requires)
 
 pub returns-in_err-move_moment-clause-err : goal.returns-in_err-move_moment-clause-err
 returns-in_err-move_moment-clause-err g c =
@@ -26,15 +25,15 @@ returns-in_err-move_moment-clause-tells g c moment key =
 
 pub returns-clause-ok : goal.returns-clause-ok
 returns-clause-ok g c =
-    written g.K.PartialEq.eq g.K.Ord.cmp g.met.K.Eq.laws c.args.map.now.entries _ c.args.key.now (λ e. (e.0, c.args.until)) c.in-Some.entry.now c.in-Some.ensures.unique
+    written g.K.PartialEq.eq g.met.K.Eq.laws c.args.map.now.entries _ c.args.key.now (λ e. (e.0, c.args.until)) c.in-Some.entry.now c.in-Some.ensures.unique
     (sym c.in-Some.ensures.value) (c.get_mut.follows.holds (c.in-Some.entry.now.0, c.args.until)).0
 
 pub returns-clause-tells : goal.returns-clause-tells
 returns-clause-tells g c =
     let entry = c.in-Some.entry.now in
     let found = sym c.in-Some.ensures.value in
-    tells_set g.K.PartialEq.eq g.K.Ord.cmp c.args.moments.now c.move_moment.new.moments c.args.map.now.entries _ c.args.key.now (Some (entry.0, c.args.until)) c.requires c.in_ok-move_moment.ensures.ok
-    (rw (written g.K.PartialEq.eq g.K.Ord.cmp g.met.K.Eq.laws c.args.map.now.entries _ c.args.key.now (λ e. (e.0, c.args.until)) entry c.in-Some.ensures.unique found (c.get_mut.follows.holds (entry.0, c.args.until)).0)
+    tells_set g.K.PartialEq.eq c.args.moments.now c.move_moment.new.moments c.args.map.now.entries _ c.args.key.now (Some (entry.0, c.args.until)) c.requires c.in_ok-move_moment.ensures.ok
+    (rw (written g.K.PartialEq.eq g.met.K.Eq.laws c.args.map.now.entries _ c.args.key.now (λ e. (e.0, c.args.until)) entry c.in-Some.ensures.unique found (c.get_mut.follows.holds (entry.0, c.args.until)).0)
     (sets-changed_at g.met.K.Eq.laws c.args.key.now (λ e. (e.0, c.args.until)) c.args.map.now.entries entry found))
 
 pub returns-clause-found : goal.returns-clause-found

@@ -6,13 +6,13 @@ use Rattle.mesh_expire.proofs.index.index_table.IndexTableTable.value_mut.Goals 
 
 pub invariant_of-self-lent : goal.invariant_of-self-lent
 invariant_of-self-lent g c w =
-    still_told g.K.PartialEq.eq g.K.Ord.cmp g.met.K.Eq.laws c.self.inside.moments c.self.inside.map.entries _ c.args.key.now w c.self.invariant
-    (written g.K.PartialEq.eq g.K.Ord.cmp g.met.K.Eq.laws c.self.inside.map.entries _ c.args.key.now (λ e. (w, e.1)) c.in-Some.entry.now c.in-Some.ensures.unique (sym c.in-Some.ensures.value) (c.get_mut.follows.holds (w, c.in-Some.entry.now.1)).0)
+    still_told g.K.PartialEq.eq g.met.K.Eq.laws c.self.inside.moments c.self.inside.map.entries _ c.args.key.now w c.self.invariant
+    (written g.K.PartialEq.eq g.met.K.Eq.laws c.self.inside.map.entries _ c.args.key.now (λ e. (w, e.1)) c.in-Some.entry.now c.in-Some.ensures.unique (sym c.in-Some.ensures.value) (c.get_mut.follows.holds (w, c.in-Some.entry.now.1)).0)
 
 pub returns-in-Some : goal.returns-in-Some
 returns-in-Some g c =
     rw (← c.self.view_is) (
-      (refl, λ w. written g.K.PartialEq.eq g.K.Ord.cmp g.met.K.Eq.laws c.self.inside.map.entries _ c.args.key.now (λ e. (w, e.1)) c.in-Some.entry.now c.in-Some.ensures.unique (sym c.in-Some.ensures.value) (c.get_mut.follows.holds (w, c.in-Some.entry.now.1)).0, refl),
+      (refl, λ w. written g.K.PartialEq.eq g.met.K.Eq.laws c.self.inside.map.entries _ c.args.key.now (λ e. (w, e.1)) c.in-Some.entry.now c.in-Some.ensures.unique (sym c.in-Some.ensures.value) (c.get_mut.follows.holds (w, c.in-Some.entry.now.1)).0, refl),
       record { lends = tt; value = ap (option_map (λ e. e.0)) c.in-Some.ensures.value; distinct = c.in-Some.ensures.unique },
     )
 
