@@ -2,7 +2,7 @@
 use Rattle.std.proofs.lemmas.Bool.{lt-ltb, le-ltb, eqb-true}
 use Rattle.std.proofs.lemmas.List.{at_drop_more}
 use Rattle.std.proofs.Common.{◌≡◌, ℕ, zero, suc, ◌+◌, ◌-◌, ◌<◌, ◌≤◌, arith, Bool, true, false, cond, ◌&&◌, List, [], ◌∷◌, ◌++◌, length, drop, get_or, Option, Some, None, Result, Ok, Err, refl, sym, ap, subst, ◌∙◌, nat_eq}
-use Rattle.std.specs.Prelude.{if◌then◌else◌, is_some, IsSome, OnErr, OnOk, option_map, remove, slice_get, unwrap_or}
+use Rattle.std.specs.Prelude.{if◌then◌else◌, is_some, IsSome, OnErr, OnOk, OnSome, option_map, remove, slice_get, unwrap_or}
 use Rattle.std.specs.Ordering.{nat_cmp, is_eq, is_gt}
 use Rattle.std.specs.declared.cmp.Ordering.{Ordering}
 use Rattle.std.specs.declared.cmp.Ordering.TheVariants.{Less, Equal, Greater}
@@ -61,6 +61,11 @@ gone now moment value h = rw (le-ltb now moment h) refl
 pub on_err : {A E P : Type 0} (r : Result A E) → P → OnErr r P
 on_err (Ok x) h = tt
 on_err (Err e) h = h
+
+-- what holds where there is something
+pub on_some : {A P : Type 0} (o : Option A) → IsSome o → OnSome o P → P
+on_some None some h = absurd cc
+on_some (Some x) some h = h
 
 -- what follows after a success
 pub ok_then : {A E P Q : Type 0} (r : Result A E) → OnOk r P → (P → Q) → OnOk r Q
@@ -156,6 +161,19 @@ module _ {K : Type 0} (eq : K → K → Bool) where
       changes_at (λ x y. x - y) (λ x. omega arith) old new moment key None
       (λ m. gone m ∙ ap (λ (o : Option (List K)). cond (is_at (nat_cmp moment) m) None o) (sets m) ∙ cond_twice (is_at (nat_cmp moment) m) None (Some left) (get nat_cmp old m))
       (λ q. let one : once_if (eq key q) + 0 ≡ times_at eq old moment q = at_bucket old moment (Some (key ∷ [])) q is in omega (arith, one))
+
+  -- a list of one key
+  alone : (keys : List K) (key : K) → slice_get keys 0 ≡ Some key → length keys ≡ 1 → keys ≡ key ∷ []
+  alone [] key at one = absurd cc
+  alone (k ∷ []) key at one = let is : k ≡ key = cc in ap (λ x. x ∷ []) is
+  alone (k ∷ l ∷ ls) key at one = absurd (omega (arith, one))
+
+  -- the only key of a bucket goes with it
+  pub takes_only : (old new : BTreeMap ℕ (List K)) (moment : ℕ) (key : K) (keys : List K) → get nat_cmp old moment ≡ Some keys → slice_get keys 0 ≡ Some key → length keys ≡ 1
+      → ((m : ℕ) → get nat_cmp new m ≡ cond (is_at (nat_cmp moment) m) None (get nat_cmp old m)) → TakesAt eq old new moment key
+  takes_only old new moment key keys is at one gone =
+      changes_at (λ x y. x - y) (λ x. omega arith) old new moment key None gone
+      (λ q. let one : once_if (eq key q) + 0 ≡ times_at eq old moment q = at_bucket old moment (Some (key ∷ [])) q (ap Some (sym (alone keys key at one)) ∙ sym is) in omega (arith, one))
 
   -- where no bucket is, no key goes
   pub takes_none : (moments : BTreeMap ℕ (List K)) (moment : ℕ) (key : K) → None ≡ get nat_cmp moments moment → TakesAt eq moments moments moment key

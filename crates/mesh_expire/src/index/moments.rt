@@ -1,11 +1,11 @@
 //! The moments of a table, in order, and at each a bucket of the keys whose entries end at it.
-ghost use Rattle.std.specs.Prelude.{◌≡◌, ◌≤◌, ◌<◌, ℕ, ◌-◌, [], ◌∷◌, ◌++◌, false, IfSome, IfNone, OnOk, OnErr, IsTrue, Some, slice_get};
+ghost use Rattle.std.specs.Prelude.{◌≡◌, ◌≤◌, ◌<◌, ℕ, ◌-◌, [], ◌∷◌, ◌++◌, false, IfSome, IfNone, OnOk, OnErr, IsTrue, Some, length, slice_get};
 ghost use Rattle.std.specs.BTreeMap.{IsUnchanged};
 ghost use Rattle.mesh_expire.specs.Index.Moments.{once_if, times_in, times_at, PutsAt, TakesAt, SetsMoment};
 
 use crate::Key;
 use std::alloc::{AllocError, Global};
-use std::collections::BTreeMap;
+use std::collections::{BTreeMap, VecDeque};
 use std::marker::Model;
 
 /// The keys of the entries that end at one moment: one at least, in the order in which they came.
@@ -13,7 +13,7 @@ use std::marker::Model;
 pub struct Bucket<K> {
     first: K,
     // Takes no memory while it is empty.
-    rest: Vec<K>,
+    rest: VecDeque<K>,
 }
 
 impl<K> Model for Bucket<K> {
@@ -25,12 +25,12 @@ impl<K> Model for Bucket<K> {
 }
 
 // The place of a key, which is looked for from the front.
-fn place_of<K: Key>(keys: &Vec<K>, key: &K) -> Option<usize>
+fn place_of<K: Key>(keys: &VecDeque<K>, key: &K) -> Option<usize>
     ensures some { IfSome result (λ i. slice_get keys.now.items i ≡ Some key.now) }
     ensures none { IfNone result (times_in K.eq keys.now.items key.now ≡ 0) }
 {
-    for (i, other) in keys.iter().enumerate() {
-        if *other == *key {
+    for i in 0..keys.len() {
+        if keys[i] == *key {
             return Some(i);
         }
     }
@@ -43,7 +43,7 @@ impl<K: Key + Drop> Bucket<K> {
     {
         Bucket {
             first: key,
-            rest: Vec::new(alloc),
+            rest: VecDeque::new(alloc),
         }
     }
 
@@ -53,11 +53,18 @@ impl<K: Key + Drop> Bucket<K> {
         self.first
     }
 
+    // Whether its first key is its only one.
+    fn has_one(&self) -> bool
+        ensures { IsTrue result → length self.now ≡ 1 }
+    {
+        self.rest.is_empty()
+    }
+
     fn push(&mut self, key: K) -> Result<(), AllocError>
         ensures ok { OnOk result (self.new ≡ self.old ++ key ∷ []) }
         ensures err { OnErr result (self.new ≡ self.old) }
     {
-        self.rest.push(key)?;
+        self.rest.push_back(key)?;
         Ok(())
     }
 
@@ -67,10 +74,10 @@ impl<K: Key + Drop> Bucket<K> {
         ensures left { result ≡ false → (q : K) → times_in K.eq self.new q ≡ times_in K.eq self.old q - once_if (K.eq key.now q) }
     {
         if self.first == *key {
-            if self.rest.is_empty() {
+            let Some(next) = self.rest.pop_front() else {
                 return true;
-            }
-            self.first = self.rest.remove(0);
+            };
+            self.first = next;
             return false;
         }
         if let Some(place) = place_of(&self.rest, key) {
@@ -122,6 +129,10 @@ pub fn take_expired<K: Key + Drop>(moments: &mut BTreeMap<u64, Bucket<K>>, now: 
         return None;
     }
     let key = bucket.first();
+    if bucket.has_one() {
+        moments.remove(&least);
+        return Some(key);
+    }
     take_key(moments, least, &key);
     Some(key)
 }

@@ -3,4 +3,4 @@ use Rattle.mesh_expire.specs.Index.Moments.{times_in}
 use Rattle.mesh_expire.proofs.index.moments.place_of.Given as goal
 
 abbrev pub invariant-loop-i : goal.invariant-loop-i
-invariant-loop-i g l = times_in g.K.PartialEq.eq l.other-items l.key ≡ times_in g.K.PartialEq.eq (drop l.i l.other-items) l.key
+invariant-loop-i g l = times_in g.K.PartialEq.eq l.keys.items l.key ≡ times_in g.K.PartialEq.eq (drop l.i l.keys.items) l.key
