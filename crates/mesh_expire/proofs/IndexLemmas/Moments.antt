@@ -1,14 +1,11 @@
 -- The moments of a table, in order, and at each the keys of the entries that end at it.
 use Rattle.std.proofs.lemmas.Bool.{lt-ltb, le-ltb, eqb-true}
-use Rattle.std.proofs.lemmas.List.{at_drop_more}
-use Rattle.std.proofs.Common.{◌≡◌, ℕ, zero, suc, ◌+◌, ◌-◌, ◌<◌, ◌≤◌, arith, Bool, true, false, cond, ◌&&◌, List, [], ◌∷◌, ◌++◌, length, drop, get_or, Option, Some, None, Result, Ok, Err, refl, sym, ap, subst, ◌∙◌, nat_eq}
+use Rattle.std.proofs.Common.{◌≡◌, ℕ, zero, suc, ◌+◌, ◌-◌, ◌<◌, ◌≤◌, arith, Bool, true, false, cond, ◌&&◌, List, [], ◌∷◌, ◌++◌, length, Option, Some, None, Result, Ok, Err, refl, sym, ap, subst, ◌∙◌, nat_eq}
 use Rattle.std.specs.Prelude.{if◌then◌else◌, is_some, IsSome, OnErr, OnOk, OnSome, option_map, remove, slice_get, unwrap_or}
-use Rattle.std.specs.Ordering.{nat_cmp, is_eq, is_gt}
-use Rattle.std.specs.declared.cmp.Ordering.{Ordering}
-use Rattle.std.specs.declared.cmp.Ordering.TheVariants.{Less, Equal, Greater}
-use Rattle.std.specs.Cmp.{IsEquivalence, ranked, unsigned_ties, nat_eq_equiv}
+use Rattle.std.specs.Ordering.{nat_cmp}
+use Rattle.std.specs.Cmp.{IsEquivalence, unsigned_ties, nat_eq_equiv}
 use Rattle.std.specs.BTreeMap.{BTreeMap, get, is_at}
-use Rattle.std.specs.Map.{lookup, set_value}
+use Rattle.std.specs.Map.{set_value}
 use Rattle.mesh_atoms.specs.Base.{Base, HasDistinctKeys, find, SetsOnly, Expires, IsFresh, if_live}
 use Rattle.mesh_expire.specs.Index.Moments.{once_if, times_in, times_at, PutsAt, TakesAt, is_moment, until_of, AreMomentsOf, SetsMoment}
 use Rattle.mesh_expire.specs.Table.{changed_at, TakesExpired}
@@ -77,12 +74,6 @@ pub err_then : {A E P Q : Type 0} (r : Result A E) → OnErr r P → (P → Q) �
 err_then (Ok x) h f = tt
 err_then (Err e) h f = f h
 
--- a number that is not above another
-not_above : (x y : ℕ) (r : Ordering) → r ≡ nat_cmp x y → is_gt r ≡ false → x ≤ y
-not_above x y Less is h = omega (arith, ranked x y Less is)
-not_above x y Equal is h = omega (arith, ranked x y Equal is)
-not_above x y Greater is h = absurd cc
-
 -- of two settings of one place the later holds
 cond_twice : {A : Type 0} (b : Bool) (x y z : A) → cond b x (cond b y z) ≡ cond b x z
 cond_twice true x y z = refl
@@ -100,24 +91,10 @@ module _ {K : Type 0} (eq : K → K → Bool) where
   times_remove (k ∷ ks) zero key q at = let is : k ≡ key = cc in rw is (omega arith)
   times_remove (k ∷ ks) (suc i) key q at = omega (arith, times_remove ks i key q at)
 
-  -- a look for a key from the front goes on
-  pub goes_by : (keys : List K) (i : ℕ) (other key : K) → times_in eq keys key ≡ times_in eq (drop i keys) key → i < length keys → other ≡ get_or keys i other → eq other key ≡ false
-      → times_in eq keys key ≡ times_in eq (drop (i + 1) keys) key
-  goes_by keys i other key so_far within is apart =
-      so_far ∙ at_drop_more (λ l. times_in eq l key) keys i other within ∙ ap (λ k. times_in eq (k ∷ drop (i + 1) keys) key) (sym is) ∙ rw apart (omega arith)
-
   -- the first of the keys stands there
   pub first_stands : (laws : IsEquivalence eq) (keys : List K) (key : K) → slice_get keys 0 ≡ Some key → 0 < times_in eq keys key
   first_stands laws [] key at = absurd cc
   first_stands laws (k ∷ ks) key at = let is : k ≡ key = cc in rw (is, laws.refl key) (omega arith)
-
-  module _ (exact : (a b : K) → eq a b ≡ true → a ≡ b) where
-    -- a key that does not stand there leaves the keys as they are
-    pub none_goes : (keys : List K) (key q : K) → times_in eq keys key ≡ 0 → times_in eq keys q ≡ times_in eq keys q - once_if (eq key q)
-    none_goes keys key q h = by_key (eq key q) refl where
-      by_key : (b : Bool) → eq key q ≡ b → times_in eq keys q ≡ times_in eq keys q - once_if b
-      by_key true is = let same : times_in eq keys q ≡ 0 = ap (times_in eq keys) (sym (exact key q is)) ∙ h in omega (arith, same)
-      by_key false is = omega arith
 
   -- at one moment the keys change, and at no other
   changes_at : (op : ℕ → ℕ → ℕ) (neutral : (x : ℕ) → op x 0 ≡ x) (old new : BTreeMap ℕ (List K)) (moment : ℕ) (key : K) (bucket : Option (List K))
@@ -140,28 +117,6 @@ module _ {K : Type 0} (eq : K → K → Bool) where
   puts_behind old new moment key keys is sets =
       changes_at (λ x y. x + y) (λ x. omega arith) old new moment key (Some (keys ++ key ∷ [])) sets (λ q. times_push keys key q ∙ ap (λ n. n + once_if (eq key q)) (at_bucket old moment (Some keys) q is))
 
-  -- a first key of its moment
-  pub puts_first : (old new : BTreeMap ℕ (List K)) (moment : ℕ) (key : K) → None ≡ get nat_cmp old moment
-      → ((m : ℕ) → get nat_cmp new m ≡ cond (is_at (nat_cmp moment) m) (Some (key ∷ [])) (get nat_cmp old m)) → PutsAt eq old new moment key
-  puts_first old new moment key is sets =
-      changes_at (λ x y. x + y) (λ x. omega arith) old new moment key (Some (key ∷ [])) sets (λ q. let none : 0 ≡ times_at eq old moment q = at_bucket old moment None q is in omega (arith, none))
-
-  -- a key goes from its bucket
-  pub takes_out : (old new : BTreeMap ℕ (List K)) (moment : ℕ) (key : K) (keys left : List K) → Some keys ≡ get nat_cmp old moment
-      → ((m : ℕ) → get nat_cmp new m ≡ cond (is_at (nat_cmp moment) m) (Some left) (get nat_cmp old m))
-      → ((q : K) → times_in eq left q ≡ times_in eq keys q - once_if (eq key q)) → TakesAt eq old new moment key
-  takes_out old new moment key keys left is sets there =
-      changes_at (λ x y. x - y) (λ x. omega arith) old new moment key (Some left) sets (λ q. there q ∙ ap (λ n. n - once_if (eq key q)) (at_bucket old moment (Some keys) q is))
-
-  -- a bucket goes with its only key
-  pub takes_last : (old mid new : BTreeMap ℕ (List K)) (moment : ℕ) (key : K) (left : List K) → Some (key ∷ []) ≡ get nat_cmp old moment
-      → ((m : ℕ) → get nat_cmp mid m ≡ cond (is_at (nat_cmp moment) m) (Some left) (get nat_cmp old m))
-      → ((m : ℕ) → get nat_cmp new m ≡ cond (is_at (nat_cmp moment) m) None (get nat_cmp mid m)) → TakesAt eq old new moment key
-  takes_last old mid new moment key left is sets gone =
-      changes_at (λ x y. x - y) (λ x. omega arith) old new moment key None
-      (λ m. gone m ∙ ap (λ (o : Option (List K)). cond (is_at (nat_cmp moment) m) None o) (sets m) ∙ cond_twice (is_at (nat_cmp moment) m) None (Some left) (get nat_cmp old m))
-      (λ q. let one : once_if (eq key q) + 0 ≡ times_at eq old moment q = at_bucket old moment (Some (key ∷ [])) q is in omega (arith, one))
-
   -- a list of one key
   alone : (keys : List K) (key : K) → slice_get keys 0 ≡ Some key → length keys ≡ 1 → keys ≡ key ∷ []
   alone [] key at one = absurd cc
@@ -174,30 +129,6 @@ module _ {K : Type 0} (eq : K → K → Bool) where
   takes_only old new moment key keys is at one gone =
       changes_at (λ x y. x - y) (λ x. omega arith) old new moment key None gone
       (λ q. let one : once_if (eq key q) + 0 ≡ times_at eq old moment q = at_bucket old moment (Some (key ∷ [])) q (ap Some (sym (alone keys key at one)) ∙ sym is) in omega (arith, one))
-
-  -- where no bucket is, no key goes
-  pub takes_none : (moments : BTreeMap ℕ (List K)) (moment : ℕ) (key : K) → None ≡ get nat_cmp moments moment → TakesAt eq moments moments moment key
-  takes_none moments moment key is m q = by_moment (nat_eq moment m) refl where
-    by_moment : (b : Bool) → nat_eq moment m ≡ b → times_at eq moments m q ≡ times_at eq moments m q - once_if (b && eq key q)
-    by_moment true at = let none : 0 ≡ times_at eq moments m q = at_bucket moments moment None q is ∙ ap (λ n. times_at eq moments n q) (eqb-true moment m at) in omega (arith, none)
-    by_moment false at = omega arith
-
-  -- what stands at a moment has a bucket there
-  has_bucket : (o : Option (List K)) (key : K) → 0 < times_in eq (unwrap_or o []) key → IsSome o
-  has_bucket None key h = absurd (omega (arith, h))
-  has_bucket (Some keys) key h = refl
-
-  -- no key stands below the least moment
-  pub none_below : (moments : BTreeMap ℕ (List K)) (least : ℕ) → ((m : ℕ) → IsSome (get nat_cmp moments m) → is_gt (nat_cmp least m) ≡ false) → (m : ℕ) (key : K) → 0 < times_at eq moments m key → least ≤ m
-  none_below moments least lower m key h = not_above least m (nat_cmp least m) refl (lower m (has_bucket (get nat_cmp moments m) key h))
-
-  has_any : (es : List (ℕ × List K)) (m : ℕ) (key : K) → 0 < times_in eq (unwrap_or (lookup (is_at (nat_cmp m)) es) []) key → 0 < length es
-  has_any [] m key h = absurd (omega (arith, h))
-  has_any (e ∷ es) m key h = omega arith
-
-  -- no key stands where no bucket is
-  pub none_stands : (moments : BTreeMap ℕ (List K)) (now : ℕ) → (0 < length moments.entries → ⊥) → (m : ℕ) (key : K) → 0 < times_at eq moments m key → now < m
-  none_stands moments now empty m key h = absurd (empty (has_any moments.entries m key h))
 
   -- a first moment of a key
   pub comes_in : (old new : BTreeMap ℕ (List K)) (key : K) (until : ℕ) → SetsMoment eq old old key None → PutsAt eq old new until key → SetsMoment eq old new key (Some until)
