@@ -63,7 +63,8 @@ fn tell_row<H: Table<TwoHopKey, TwoHop>>(
     if tells_symmetric(row) {
         let metric_in = or_else(row.metrics.near_in, row.metrics.link_in);
         let metric_out = or_else(row.metrics.near_out, row.metrics.link_out);
-        two_hops.renew(link, row.addr.addr, metric_in, metric_out, until)
+        two_hops.renew(link, row.addr.addr, metric_in, metric_out, until)?;
+        Ok(())
     } else {
         two_hops.drop_row(link, row.addr.addr);
         Ok(())

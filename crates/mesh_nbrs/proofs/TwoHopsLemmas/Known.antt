@@ -27,6 +27,13 @@ module _ {K V : Type 0} (eq : K → K → Bool) (cmp : K → K → Ordering) (ke
     by_key true is = subst (λ (k : K). IsTrue (contains cmp keys k)) (exact key q is) has
     by_key false is = knows q e (sym (only q ∙ ap (λ (b : Bool). cond b (Some entry) (find eq base q)) is) ∙ found)
 
+  -- a set that gets one key more still has the keys
+  pub knows_more : (keys keys' : BTreeSet K) → Knows eq cmp keys base → Updates cmp keys keys' key true → Knows eq cmp keys' base
+  knows_more keys keys' knows updates q e found = updates.0 q ∙ stays (is_at (cmp key) q) (contains cmp keys q) (knows q e found) where
+    stays : (b was : Bool) → was ≡ true → cond b true was ≡ true
+    stays true was h = refl
+    stays false was h = h
+
   -- the key goes from both
   pub knows_removed : ((x y : K) → eq x y ≡ is_eq (cmp x y)) → (keys keys' : BTreeSet K) → Knows eq cmp keys base → Updates cmp keys keys' key false → SetsOnly eq base base' key None → Knows eq cmp keys' base'
   knows_removed agree keys keys' knows updates only q e found = by_key (eq key q) refl where

@@ -1,5 +1,5 @@
 //! A table with the ordered set of its keys.
-ghost use Rattle.std.specs.Prelude.{◌≡◌, ◌+◌, ◌<◌, length, false, if◌then◌else◌, is_some, OnOk, OnErr, IsTrue, IsSome, ◌↔◌, Some, None};
+ghost use Rattle.std.specs.Prelude.{◌≡◌, ◌+◌, ◌<◌, length, false, if◌then◌else◌, is_some, option_map, IfOk, OnOk, OnErr, IsTrue, IsSome, ◌↔◌, Some, None};
 ghost use Rattle.mesh_atoms.specs.Base.{HasDistinctKeys, find, SetsOnly};
 ghost use Rattle.std.specs.BTreeSet.{contains, btree_set_len};
 ghost use Rattle.mesh_nbrs.specs.TwoHops.Keyed.{Knows};
@@ -15,42 +15,30 @@ fn stands<K: Key, V, T: Table<K, V>>(table: &T, key: &K) -> bool
     table.get(key).is_some()
 }
 
-// Puts a key into the set, which has it already where the table does.
-fn note_key<K: Key + Ord + Drop, V, T: Table<K, V>>(
-    table: &T,
-    keys: &mut BTreeSet<K>,
-    key: K,
-) -> Result<(), AllocError>
-    requires { Knows K.eq K.cmp keys.old (T.content table.now) }
-    ensures known { OnOk result (IsTrue (contains K.cmp keys.new key)) }
-    ensures knows { Knows K.eq K.cmp keys.new (T.content table.now) }
-{
-    if stands(table, &key) {
-        return Ok(());
-    }
-    keys.insert(key)?;
-    Ok(())
-}
-
-/// Makes the tuple of a key. Want of memory leaves the table unchanged.
-pub(crate) fn put_keyed<K: Key + Ord + Drop, V: Drop, T: Table<K, V>>(
+/// Makes the tuple of a key, and gives back the one that stood there. Want of memory leaves the table unchanged.
+pub(crate) fn put_keyed<K: Key + Ord + Drop, V: Copy, T: Table<K, V>>(
     table: &mut T,
     keys: &mut BTreeSet<K>,
     key: K,
     value: V,
     until: u64,
-) -> Result<(), AllocError>
+) -> Result<Option<V>, AllocError>
     requires knows { Knows K.eq K.cmp keys.old (T.content table.old) }
     requires distinct { HasDistinctKeys K.eq (T.content table.old) }
     ensures knows { Knows K.eq K.cmp keys.new (T.content table.new) }
+    ensures before { IfOk result (λ before. before ≡ option_map (λ e. e.0) (find K.eq (T.content table.old) key)) }
     ensures ok { OnOk result (SetsOnly K.eq (T.content table.old) (T.content table.new) key (Some (value, until))) }
     ensures count { OnOk result (length (T.content table.new)
         ≡ length (T.content table.old) + (if is_some (find K.eq (T.content table.old) key) then 0 else 1)) }
     ensures err { OnErr result (T.content table.new ≡ T.content table.old) }
     ensures distinct { HasDistinctKeys K.eq (T.content table.new) }
 {
-    note_key(table, keys, key)?;
-    table.put(key, value, until)
+    if let Some(before) = table.renew(&key, value, until)? {
+        return Ok(Some(before));
+    }
+    keys.insert(key)?;
+    table.put(key, value, until)?;
+    Ok(None)
 }
 
 /// Takes out the tuple of a key.

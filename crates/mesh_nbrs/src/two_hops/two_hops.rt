@@ -1,5 +1,5 @@
 //! The set of the 2-hop tuples of one interface.
-ghost use Rattle.std.specs.Prelude.{◌≡◌, ◌+◌, ◌↔◌, [], length, false, if◌then◌else◌, is_some, IfOk, OnOk, OnErr, IsTrue, IsSome, Some, None};
+ghost use Rattle.std.specs.Prelude.{◌≡◌, ◌+◌, ◌↔◌, [], length, false, if◌then◌else◌, is_some, option_map, IfOk, OnOk, OnErr, IsTrue, IsSome, Some, None};
 ghost use Rattle.mesh_atoms.specs.Base.{Base, HasDistinctKeys, find, SetsOnly, Expires, two_hop_eq, link_eq};
 ghost use Rattle.mesh_nbrs.specs.TwoHops.TwoHops.{DropsLink};
 
@@ -33,6 +33,13 @@ impl<T: Table<TwoHopKey, TwoHop>> Model for TwoHopSet<T> {
     ghost invariant = { λ s. HasDistinctKeys two_hop_eq (T.content s.table) × Knows two_hop_eq ⟦<TwoHopKey as Ord>⟧.cmp s.keys (T.content s.table) };
 }
 
+// Whether that tuple stood there.
+fn stood(before: Option<TwoHop>, tuple: TwoHop) -> bool
+    ensures { IsTrue result ↔ (before ≡ Some tuple) }
+{
+    before == Some(tuple)
+}
+
 impl<T: Table<TwoHopKey, TwoHop>> TwoHopSet<T> {
     /// No tuples.
     pub fn new(alloc: Global) -> Result<TwoHopSet<T>, AllocError>
@@ -53,7 +60,8 @@ impl<T: Table<TwoHopKey, TwoHop>> TwoHopSet<T> {
     }
 
     /// Makes the tuple of a link and an address, in place of the one that stood there: the metrics are the neighbour's, from
-    /// and to the address (RFC 6130, section 12.6, and RFC 7181, section 15.3). Want of memory leaves the set unchanged.
+    /// and to the address (RFC 6130, section 12.6, and RFC 7181, section 15.3). Whether it stood with these metrics, so that its
+    /// moment alone changed. Want of memory leaves the set unchanged.
     pub fn renew(
         &mut self,
         link: LinkKey,
@@ -61,24 +69,24 @@ impl<T: Table<TwoHopKey, TwoHop>> TwoHopSet<T> {
         metric_in: Option<Metric>,
         metric_out: Option<Metric>,
         until: u64,
-    ) -> Result<(), AllocError>
+    ) -> Result<bool, AllocError>
         ensures ok { OnOk result (SetsOnly two_hop_eq self.old self.new (record { link = link; addr = addr })
             (Some (record { metric_in = metric_in; metric_out = metric_out }, until))) }
         ensures count { OnOk result (length self.new
             ≡ length self.old + (if is_some (find two_hop_eq self.old (record { link = link; addr = addr })) then 0 else 1)) }
         ensures err { OnErr result (self.new ≡ self.old) }
         ensures distinct { HasDistinctKeys two_hop_eq self.new }
+        ensures same { IfOk result (λ is_same. IsTrue is_same
+            ↔ (option_map (λ e. e.0) (find two_hop_eq self.old (record { link = link; addr = addr }))
+            ≡ Some (record { metric_in = metric_in; metric_out = metric_out }))) }
     {
-        put_keyed(
-            &mut self.table,
-            &mut self.keys,
-            TwoHopKey { link, addr },
-            TwoHop {
-                metric_in,
-                metric_out,
-            },
-            until,
-        )
+        let key = TwoHopKey { link, addr };
+        let tuple = TwoHop {
+            metric_in,
+            metric_out,
+        };
+        let before = put_keyed(&mut self.table, &mut self.keys, key, tuple, until)?;
+        Ok(stood(before, tuple))
     }
 
     /// Takes out the tuple of a link and an address (RFC 6130, section 12.6); false, changing nothing, where there is none.

@@ -10,8 +10,8 @@ use std::alloc::{AllocError, Global};
 
 #[derive(Clone, Copy)]
 pub(crate) enum Call {
-    // of a link and an address; the costs of the metrics, 0 for none, and the moment
-    Renew(u32, u32, u16, u16, u64),
+    // of a link and an address; the costs of the metrics, 0 for none, and the moment; whether it stood with these metrics
+    Renew(u32, u32, u16, u16, u64, bool),
     // whether it was there
     DropRow(u32, u32, bool),
     // how many go
@@ -59,10 +59,9 @@ impl<T: Table<TwoHopKey, TwoHop>> Tried for TwoHopSet<T> {
 
     fn answers(&mut self, _alloc: Global, call: &Call) -> Result<bool, AllocError> {
         match *call {
-            Call::Renew(link, addr, metric_in, metric_out, until) => {
+            Call::Renew(link, addr, metric_in, metric_out, until, is_same) => {
                 let (metric_in, metric_out) = (metric_if(metric_in), metric_if(metric_out));
-                self.renew(link_key(link), Addr4(addr), metric_in, metric_out, until)?;
-                Ok(true)
+                Ok(self.renew(link_key(link), Addr4(addr), metric_in, metric_out, until)? == is_same)
             }
             _ => Ok(shows(self, call)),
         }
@@ -72,16 +71,20 @@ impl<T: Table<TwoHopKey, TwoHop>> Tried for TwoHopSet<T> {
 pub(crate) static CASES: [Case; 1] = [(
     "2-hop tuples come and go",
     Run::TwoHops(&[
-        Call::Renew(1, 7, 2, 0, 100),
-        Call::Renew(1, 8, 0, 0, 200),
-        Call::Renew(2, 7, 2, 0, 300),
-        Call::Renew(1, 9, 2, 0, 400),
+        Call::Renew(1, 7, 2, 0, 100, false),
+        Call::Renew(1, 8, 0, 0, 200, false),
+        Call::Renew(2, 7, 2, 0, 300, false),
+        Call::Renew(1, 9, 2, 0, 400, false),
         Call::Len(4),
         Call::Get(1, 7, Some((Some(2), None, 100))),
         // another value and moment for a tuple that is there
-        Call::Renew(1, 7, 10, 2, 500),
+        Call::Renew(1, 7, 10, 2, 500, false),
         Call::Len(4),
         Call::Get(1, 7, Some((Some(10), Some(2), 500))),
+        // another moment alone
+        Call::Renew(1, 7, 10, 2, 600, true),
+        Call::Len(4),
+        Call::Get(1, 7, Some((Some(10), Some(2), 600))),
         Call::DropRow(1, 8, true),
         Call::DropRow(1, 8, false),
         Call::Len(3),
@@ -97,4 +100,4 @@ pub(crate) static CASES: [Case; 1] = [(
 
 pub(crate) const NOTHING: &[Call] = &[Call::DropLink(1, 0), Call::Len(0)];
 
-pub(crate) const SOMETHING: &[Call] = &[Call::Renew(1, 7, 0, 0, 5)];
+pub(crate) const SOMETHING: &[Call] = &[Call::Renew(1, 7, 0, 0, 5, false)];

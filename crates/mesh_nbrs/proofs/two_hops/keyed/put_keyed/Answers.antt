@@ -1,31 +1,55 @@
-use Rattle.mesh_nbrs.proofs.TwoHopsLemmas.Known.{knows_put}
+use Rattle.std.proofs.Common.{Result, Ok, Err, OnErr, sym, ◌∙◌}
+use Rattle.mesh_expire.proofs.Laws.{renewed, renewed-none}
+use Rattle.mesh_nbrs.proofs.TwoHopsLemmas.Known.{knows_more, knows_put}
 use Rattle.mesh_nbrs.proofs.two_hops.keyed.put_keyed.Goals as goal
-use Rattle.mesh_atoms.proofs.Options.{by_result}
 
-pub returns-in_err-note_key-clause-knows : goal.returns-in_err-note_key-clause-knows
-returns-in_err-note_key-clause-knows g c = c.note_key.ensures.knows
+on_err : {A E P : Type 0} (r : Result A E) → P → OnErr r P
+on_err (Ok x) h = tt
+on_err (Err e) h = h
 
-pub note_key-requires : goal.note_key-requires
-note_key-requires g c = c.requires.knows
+pub returns-in-Some-clause-knows : goal.returns-in-Some-clause-knows
+returns-in-Some-clause-knows g c =
+    let base = g.T.Table.content c.args.table.now in
+    let (was, found, sets) = renewed g.met.K.Eq.laws c.args.key (c.args.value, c.args.until) c.in-Some.before base _ (sym c.in-Some.is ∙ c.in_ok-before.ensures.before) c.in_ok-before.ensures.ok in
+    knows_put g.K.PartialEq.eq g.K.Ord.cmp c.args.key base _ g.met.K.Key.exact c.args.keys.now (c.args.value, c.args.until) c.requires.knows (c.requires.knows c.args.key was found) sets
 
-pub returns-in_err-note_key-clause-distinct : goal.returns-in_err-note_key-clause-distinct
-returns-in_err-note_key-clause-distinct g c = c.requires.distinct
+pub returns-in-Some-clause-ok : goal.returns-in-Some-clause-ok
+returns-in-Some-clause-ok g c =
+    (renewed g.met.K.Eq.laws c.args.key (c.args.value, c.args.until) c.in-Some.before (g.T.Table.content c.args.table.now) _ (sym c.in-Some.is ∙ c.in_ok-before.ensures.before) c.in_ok-before.ensures.ok).2
+
+pub returns-in_err-insert-clause-knows : goal.returns-in_err-insert-clause-knows
+returns-in_err-insert-clause-knows g c =
+    let same = renewed-none g.met.K.Eq.laws c.args.key (c.args.value, c.args.until) (g.T.Table.content c.args.table.now) _ (sym c.in_default.is ∙ c.in_ok-before.ensures.before) c.in_ok-before.ensures.ok in
+    rw (same, c.in_err-insert.ensures.err) c.requires.knows
+
+pub returns-in_err-insert-clause-err : goal.returns-in_err-insert-clause-err
+returns-in_err-insert-clause-err g c =
+    on_err c.from_residual-in_err-insert.result (renewed-none g.met.K.Eq.laws c.args.key (c.args.value, c.args.until) (g.T.Table.content c.args.table.now) _ (sym c.in_default.is ∙ c.in_ok-before.ensures.before) c.in_ok-before.ensures.ok)
+
+pub returns-in_err-put-clause-knows : goal.returns-in_err-put-clause-knows
+returns-in_err-put-clause-knows g c =
+    let base = g.T.Table.content c.args.table.now in
+    let same = renewed-none g.met.K.Eq.laws c.args.key (c.args.value, c.args.until) base _ (sym c.in_default.is ∙ c.in_ok-before.ensures.before) c.in_ok-before.ensures.ok in
+    rw (c.in_err-put.ensures.err, same) (knows_more g.K.PartialEq.eq g.K.Ord.cmp c.args.key base base c.args.keys.now c.insert.new.self c.requires.knows c.in_ok-insert.ensures.updates)
+
+pub returns-in_err-put-clause-err : goal.returns-in_err-put-clause-err
+returns-in_err-put-clause-err g c =
+    on_err c.from_residual-in_err-put.result
+    (c.in_err-put.ensures.err ∙ renewed-none g.met.K.Eq.laws c.args.key (c.args.value, c.args.until) (g.T.Table.content c.args.table.now) _ (sym c.in_default.is ∙ c.in_ok-before.ensures.before) c.in_ok-before.ensures.ok)
 
 pub returns-clause-knows : goal.returns-clause-knows
 returns-clause-knows g c =
-    by_result _ _ _ c.put.result c.put.ensures.ok c.put.ensures.err
-    (λ put. knows_put g.K.PartialEq.eq g.K.Ord.cmp c.args.key (g.T.Table.content c.args.table.now) (g.T.Table.content c.put.new.self) g.met.K.Key.exact c.note_key.new.keys (c.args.value, c.args.until) c.note_key.ensures.knows
-    c.in_ok-note_key.ensures.known put)
-    (λ same. rw same c.note_key.ensures.knows)
+    let base = g.T.Table.content c.args.table.now in
+    let same = renewed-none g.met.K.Eq.laws c.args.key (c.args.value, c.args.until) base _ (sym c.in_default.is ∙ c.in_ok-before.ensures.before) c.in_ok-before.ensures.ok in
+    let more = knows_more g.K.PartialEq.eq g.K.Ord.cmp c.args.key base base c.args.keys.now c.insert.new.self c.requires.knows c.in_ok-insert.ensures.updates in
+    knows_put g.K.PartialEq.eq g.K.Ord.cmp c.args.key base _ g.met.K.Key.exact c.insert.new.self (c.args.value, c.args.until) more c.in_ok-insert.ensures.updates.1 (rw (← same) c.in_ok-put.ensures.ok)
 
 pub returns-clause-ok : goal.returns-clause-ok
-returns-clause-ok g c = c.put.ensures.ok
+returns-clause-ok g c =
+    let same = renewed-none g.met.K.Eq.laws c.args.key (c.args.value, c.args.until) (g.T.Table.content c.args.table.now) _ (sym c.in_default.is ∙ c.in_ok-before.ensures.before) c.in_ok-before.ensures.ok in
+    rw (← same) c.in_ok-put.ensures.ok
 
 pub returns-clause-count : goal.returns-clause-count
-returns-clause-count g c = c.put.ensures.count
-
-pub returns-clause-err : goal.returns-clause-err
-returns-clause-err g c = c.put.ensures.err
-
-pub returns-clause-distinct : goal.returns-clause-distinct
-returns-clause-distinct g c = c.put.ensures.distinct
+returns-clause-count g c =
+    let same = renewed-none g.met.K.Eq.laws c.args.key (c.args.value, c.args.until) (g.T.Table.content c.args.table.now) _ (sym c.in_default.is ∙ c.in_ok-before.ensures.before) c.in_ok-before.ensures.ok in
+    rw (← same) c.in_ok-put.ensures.count
