@@ -4,7 +4,7 @@ use Rattle.std.specs.Prelude.{option_map, slice_get, nat_eq, is_some, count_by, 
 use Rattle.std.specs.BTreeSet.{BTreeSet}
 use Rattle.std.specs.Cmp.{IsEquivalence}
 use Rattle.std.specs.declared.cmp.Ordering.{Ordering}
-use Rattle.std.proofs.lemmas.Bool.{cases_lt, cases_Bool}
+use Rattle.std.proofs.lemmas.Bool.{cases_lt, cases_Bool, false≢true}
 use Rattle.std.proofs.lemmas.List.Sums.{count_by_more_yes, count_by_more_no}
 use Rattle.std.proofs.lemmas.Option.{slice_get-get_or, slice_get_within, get_or_from_slice_get}
 use Rattle.mesh_atoms.specs.declared.addr.Addr4.{Addr4}
@@ -16,7 +16,7 @@ use Rattle.mesh_expire.specs.Keyed.{AreKeys}
 use Rattle.mesh_expire.proofs.Laws.{find_same}
 use Rattle.mesh_topo.specs.TcSets.Same.{SaysSame}
 use Rattle.mesh_topo.specs.TcSets.Sets.{GivenBy, GivenBefore, PutsGiven, PutsRows, Put, Stood, has_other_number, is_outdated}
-use Rattle.mesh_atoms.proofs.Options.{cond_same}
+use Rattle.mesh_atoms.proofs.Options.{cond_same, none_is_not_some}
 
 -- ---- rows that are put one after the other
 
@@ -141,19 +141,32 @@ module _ {K V : Type 0} (eq : K → K → Bool) (says : V → Option ℕ × Metr
   says_put laws key value until old new sets =
       ap (option_map (λ e. says e.0)) (sets key) ∙ ap (λ b. option_map (λ e. says e.0) (cond b (Some (value, until)) (find eq old key))) (laws.refl key)
 
-  -- all say the same where the tuple that is put says what one said there
-  pub put_same : (laws : IsEquivalence eq) (exact : (a b : K) → eq a b ≡ true → a ≡ b) (key : K) (value : V) (until : ℕ) (old new : Base K V) (same : Bool)
-      → (IsTrue same ↔ (option_map (λ e. says e.0) (find eq old key) ≡ Some (says value))) → SetsOnly eq old new key (Some (value, until)) → (not same ≡ false) ↔ SaysSame eq says old new
-  put_same laws exact key value until old new true is sets = (λ _. same_put exact key value until old new (is.0 refl) sets, λ _. refl)
-  put_same laws exact key value until old new false is sets =
-      (λ apart. absurd cc, λ says_same. let both : false ≡ true = is.1 (sym (says_same key) ∙ says_put laws key value until old new sets) in absurd cc)
+  says_of : (o : Option (V × ℕ)) → option_map (λ e. says e.0) o ≡ option_map says (option_map (λ e. e.0) o)
+  says_of None = refl
+  says_of (Some e) = refl
+
+  -- all say the same where the tuple that is put says what the one before said
+  pub put_same : (laws : IsEquivalence eq) (exact : (a b : K) → eq a b ≡ true → a ≡ b) (key : K) (before value : V) (until : ℕ) (old new : Base K V) (same : Bool)
+      → Some before ≡ option_map (λ e. e.0) (find eq old key) → (IsTrue same ↔ (says before ≡ says value)) → SetsOnly eq old new key (Some (value, until)) → (not same ≡ false) ↔ SaysSame eq says old new
+  put_same laws exact key before value until old new same stood is sets = by_case same is where
+    said : option_map (λ e. says e.0) (find eq old key) ≡ Some (says before)
+    said = says_of (find eq old key) ∙ ap (option_map says) (sym stood)
+
+    by_case : (b : Bool) → (IsTrue b ↔ (says before ≡ says value)) → (not b ≡ false) ↔ SaysSame eq says old new
+    by_case true is = (λ _. same_put exact key value until old new (said ∙ ap Some (is.0 refl)) sets, λ _. refl)
+    by_case false is = (
+      λ apart. absurd cc,
+      λ says_same. let both : Some (says before) ≡ Some (says value) = sym said ∙ sym (says_same key) ∙ says_put laws key value until old new sets in
+          let one : says before ≡ says value = cc in
+          absurd (false≢true (is.1 one)),
+    )
 
   -- a tuple that is put where none stood says something new
-  pub put_new : (laws : IsEquivalence eq) (key : K) (value : V) (until : ℕ) (old new : Base K V) → false ≡ is_some (find eq old key) → SetsOnly eq old new key (Some (value, until)) → (true ≡ false) ↔ SaysSame eq says old new
-  put_new laws key value until old new none sets = (λ apart. absurd cc, λ says_same. absurd (nothing (find eq old key) none (sym (says_same key) ∙ says_put laws key value until old new sets))) where
-    nothing : (o : Option (V × ℕ)) → false ≡ is_some o → option_map (λ e. says e.0) o ≡ Some (says value) → ⊥
-    nothing None absent is = cc
-    nothing (Some e) absent is = cc
+  pub put_new : (laws : IsEquivalence eq) (key : K) (value : V) (until : ℕ) (old new : Base K V) → None ≡ option_map (λ e. e.0) (find eq old key) → SetsOnly eq old new key (Some (value, until)) → (true ≡ false) ↔ SaysSame eq says old new
+  put_new laws key value until old new none sets = (
+    λ apart. absurd cc,
+    λ says_same. absurd (none_is_not_some (says value) (ap (option_map says) none ∙ sym (says_of (find eq old key)) ∙ sym (says_same key) ∙ says_put laws key value until old new sets)),
+  )
 
 -- ---- the set of the keys
 

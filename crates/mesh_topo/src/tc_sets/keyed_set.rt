@@ -1,5 +1,5 @@
 //! A table of tuples with its keys in order.
-ghost use Rattle.std.specs.Prelude.{◌≡◌, ◌+◌, ◌≤◌, ◌↔◌, [], false, length, count_by, is_some, option_map, cond, IfOk, IfSome, OnOk, IsTrue, Some};
+ghost use Rattle.std.specs.Prelude.{◌≡◌, ◌+◌, ◌≤◌, ◌↔◌, [], false, length, count_by, is_some, cond, IfOk, OnOk, Some};
 ghost use Rattle.mesh_atoms.specs.Base.{HasDistinctKeys, Expires, SetsOnly, find};
 ghost use Rattle.mesh_atoms.specs.AfterTc.{BecomesSet};
 ghost use Rattle.mesh_expire.specs.Keyed.{AreKeys};
@@ -33,18 +33,6 @@ impl<K: Key + Ord, V, T: Table<K, V>> Model for KeyedSet<K, V, T> {
     ghost invariant = { λ s. HasDistinctKeys K.eq (T.content s.table) × AreKeys K.eq K.cmp s.keys (T.content s.table) };
 }
 
-// Whether the tuple of a key says the same as this one, if the key has a tuple.
-fn stands<K: Key + Ord, V: Tuple<K>, T: Table<K, V>>(table: &T, key: &K, tuple: &V) -> Option<bool>
-    ensures held { is_some result ≡ is_some (find K.eq (T.content table.now) key.now) }
-    ensures same { IfSome result (λ same. IsTrue same
-        ↔ (option_map (λ e. V.says e.0) (find K.eq (T.content table.now) key.now) ≡ Some (V.says tuple.now))) }
-{
-    match table.get(key) {
-        Some((old, _)) => Some(old.says_as(tuple)),
-        None => None,
-    }
-}
-
 // Puts a tuple until that moment. Whether none that says the same stood there.
 fn put_tuple<K: Key + Ord + Drop, V: Tuple<K> + Drop, T: Table<K, V>>(
     table: &mut T,
@@ -60,13 +48,12 @@ fn put_tuple<K: Key + Ord + Drop, V: Tuple<K> + Drop, T: Table<K, V>>(
     ensures same { IfOk result (λ changed. changed ≡ false ↔ SaysSame K.eq V.says (T.content table.old) (T.content table.new)) }
     ensures count { OnOk result (length (T.content table.new) ≤ length (T.content table.old) + 1) }
 {
-    let Some(same) = stands(table, &key, &tuple) else {
-        put_keyed(table, keys, key, tuple, until)?;
-        return Ok(true);
-    };
-    // Its key is among the keys.
-    table.put(key, tuple, until)?;
-    Ok(!same)
+    // Where it stands, its key is among the keys.
+    if let Some(before) = table.renew(&key, tuple, until)? {
+        return Ok(!before.says_as(&tuple));
+    }
+    put_keyed(table, keys, key, tuple, until)?;
+    Ok(true)
 }
 
 impl<K: Key + Ord + Drop, V: Tuple<K> + Drop, T: Table<K, V>> KeyedSet<K, V, T> {

@@ -11,7 +11,7 @@ use mesh_atoms::{
 };
 
 /// A kind of tuple that a row of a TC may give.
-pub trait Tuple<K: Ord>: Sized {
+pub trait Tuple<K: Ord>: Copy {
     ghost origin: { K → Addr4 };
 
     ghost number: { Self → ℕ };
