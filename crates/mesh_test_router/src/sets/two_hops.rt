@@ -61,7 +61,10 @@ impl<T: Table<TwoHopKey, TwoHop>> Tried for TwoHopSet<T> {
         match *call {
             Call::Renew(link, addr, metric_in, metric_out, until, is_same) => {
                 let (metric_in, metric_out) = (metric_if(metric_in), metric_if(metric_out));
-                Ok(self.renew(link_key(link), Addr4(addr), metric_in, metric_out, until)? == is_same)
+                Ok(
+                    self.renew(link_key(link), Addr4(addr), metric_in, metric_out, until)?
+                        == is_same,
+                )
             }
             _ => Ok(shows(self, call)),
         }

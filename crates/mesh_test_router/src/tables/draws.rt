@@ -11,6 +11,7 @@ use std::test::Fail;
 #[derive(Clone, Copy, PartialEq, Eq)]
 enum Reply {
     Put,
+    Renewed(Option<u64>),
     Removed(bool),
     Set(bool),
     Expired(usize),
@@ -27,9 +28,9 @@ struct Draw {
 
 fn draw_of(word: u32, value: u64) -> Draw {
     Draw {
-        kind: word % 4,
-        key: Addr4(word / 4 % 32),
-        moment: u64::from(word / 128 % 64),
+        kind: word % 5,
+        key: Addr4(word / 5 % 32),
+        moment: u64::from(word / 160 % 64),
         value,
     }
 }
@@ -40,8 +41,9 @@ fn call<T: Table<Addr4, u64>>(table: &mut T, draw: Draw) -> Result<Reply, AllocE
             table.put(draw.key, draw.value, draw.moment)?;
             Ok(Reply::Put)
         }
-        1 => Ok(Reply::Removed(table.remove(&draw.key))),
-        2 => Ok(Reply::Set(table.set_until(&draw.key, draw.moment)?)),
+        1 => Ok(Reply::Renewed(table.renew(&draw.key, draw.value, draw.moment)?)),
+        2 => Ok(Reply::Removed(table.remove(&draw.key))),
+        3 => Ok(Reply::Set(table.set_until(&draw.key, draw.moment)?)),
         _ => Ok(Reply::Expired(table.expire(draw.moment))),
     }
 }

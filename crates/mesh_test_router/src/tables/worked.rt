@@ -9,6 +9,8 @@ use std::alloc::{AllocError, Global};
 pub(crate) enum Call {
     // key, value, moment; whether it succeeds
     Put(u32, u16, u64),
+    // key, value, moment; the value before, if the key is there
+    Renew(u32, u16, u64, Option<u16>),
     // whether the key was there
     Remove(u32, bool),
     // how many go
@@ -23,6 +25,19 @@ pub(crate) enum Call {
     HasFiveAndNine,
     // a place where nothing is
     Past(usize),
+}
+
+/// Renews the entry of a key that is there, and gives the value before.
+fn renew<T: Table<Addr4, Advertiser>>(
+    table: &mut T,
+    key: u32,
+    ansn: u16,
+    until: u64,
+) -> Result<Option<u16>, AllocError> {
+    match table.renew(&Addr4(key), Advertiser { ansn }, until)? {
+        Some(before) => Ok(Some(before.ansn)),
+        None => Ok(None),
+    }
 }
 
 /// Writes a value where the key is there, and gives the one before.
@@ -67,7 +82,7 @@ fn shows<T: Table<Addr4, Advertiser>>(table: &mut T, call: &Call) -> bool {
         Call::Len(count) => table.len() == count,
         Call::HasFiveAndNine => has_five_and_nine(table),
         Call::Past(place) => table.at(place).is_none(),
-        Call::Put(..) | Call::SetUntil(..) => false,
+        Call::Put(..) | Call::Renew(..) | Call::SetUntil(..) => false,
     }
 }
 
@@ -95,6 +110,7 @@ impl<T: Table<Addr4, Advertiser>> Tried for Numbers<T> {
                 table.put(Addr4(key), Advertiser { ansn }, until)?;
                 Ok(true)
             }
+            Call::Renew(key, ansn, until, before) => Ok(renew(table, key, ansn, until)? == before),
             Call::SetUntil(key, until, was) => Ok(table.set_until(&Addr4(key), until)? == was),
             _ => Ok(shows(table, call)),
         }
@@ -115,6 +131,12 @@ const LAWS: &[Call] = &[
     Call::Len(3),
     Call::Get(2, Some((21, 250))),
     Call::Get(1, Some((10, 100))),
+    // a key that is there is renewed, and no other comes
+    Call::Renew(2, 22, 260, Some(21)),
+    Call::Renew(4, 42, 260, None),
+    Call::Len(3),
+    Call::Get(2, Some((22, 260))),
+    Call::Get(4, None),
     // a written value, and no other
     Call::Write(3, 31, Some(30)),
     Call::Write(4, 41, None),
@@ -132,7 +154,7 @@ const LAWS: &[Call] = &[
     Call::Expire(119, 0),
     Call::Expire(121, 1),
     Call::Get(3, None),
-    Call::Get(2, Some((21, 250))),
+    Call::Get(2, Some((22, 260))),
     Call::Remove(3, false),
     Call::Remove(2, true),
     Call::Len(0),
@@ -158,6 +180,7 @@ pub(crate) const NOTHING: &[Call] = &[
     Call::Remove(1, false),
     Call::Expire(100, 0),
     Call::Write(1, 11, None),
+    Call::Renew(1, 11, 200, None),
     Call::SetUntil(1, 200, false),
     Call::Len(0),
     Call::Past(0),
