@@ -23,6 +23,7 @@ mod LinkKeys
 mod Receipt
 mod RepeatsLaw
 mod RowWalks
+mod RowsRepeat
 mod Spoken
 mod SymmetricAddresses
 mod Touched

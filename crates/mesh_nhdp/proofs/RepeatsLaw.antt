@@ -28,9 +28,10 @@ use Rattle.mesh_atoms.proofs.CodesLemmas.CodeLaws.{cost-injective}
 use Rattle.mesh_atoms.proofs.Rows.{same_metric}
 use Rattle.mesh_nbrs.specs.Same.{SameTuples, way_at, SameNear}
 use Rattle.mesh_hello.proofs.Lookups.{none_not, same_key}
-use Rattle.mesh_nhdp.specs.Repeats.{RepeatsStatus, RepeatsRow, Repeats}
+use Rattle.mesh_nhdp.specs.Repeats.{RepeatsStatus, RepeatsRow, RepeatsRows, Repeats}
 use Rattle.mesh_nhdp.proofs.LiveSound.{restores_to}
 use Rattle.mesh_nhdp.proofs.RowWalks.{looks_on}
+use Rattle.mesh_nhdp.proofs.RowsRepeat.{row_value}
 use Rattle.mesh_nhdp.proofs.Touched.{and_same}
 use Rattle.mesh_atoms.proofs.Options.{same_some}
 use Rattle.mesh_atoms.proofs.Values.{same_address}
@@ -80,10 +81,6 @@ cond_kept : {A : Type 0} (b : Bool) (o : Option A) → ((t : A) → o ≡ Some t
 cond_kept true o all = refl
 cond_kept false None all = refl
 cond_kept false (Some t) all = absurd (false≢true (all t refl))
-
-row_value : (b : Bool) (x : TwoHop) (u : ℕ) → option_map (λ (t : TwoHop × ℕ). t.0) (cond b (Some (x, u)) None) ≡ cond b (Some x) None
-row_value true x u = refl
-row_value false x u = refl
 
 -- The link that the HELLO renews
 
@@ -179,7 +176,8 @@ begins_one e (Made none) is addrs = absurd (none e is addrs)
 -- The whole
 
 module _ (settings : RouterSettings) (now i : ℕ) (told : Told) (hello : Hello) (own : List Addr4) (own_is : (a : Addr4) → Contains own a ↔ HasAddress settings a) (old new : Neighbourhood) (lasts : 0 < told.shown.validity)
-    (S : SoundNeighbourhood settings now old) (A : AfterHello settings now i told hello old new) (R : Repeats now i own told hello old) where
+    (S : SoundNeighbourhood settings now old) (A : AfterHello settings now i told hello old new) (R : Repeats now i told old)
+    (rows : is_symmetric_at new now i told.least ≡ true → RepeatsRows own told.listed (base_of old.two_hops i) told.least hello) where
   -- Neighbours that the HELLO speaks of
 
   speaks_of_one : (o : Addr4) (e : Neighbour × ℕ) → neighbour_at old o ≡ Some e → Matches told.originator told.listed o e.0 → o ≡ told.originator
@@ -350,8 +348,7 @@ module _ (settings : RouterSettings) (now i : ℕ) (told : Told) (hello : Hello)
       by_row is stood (Same_link e at same) (By_none none stays) = ap (option_map (λ (t : TwoHop × ℕ). t.0)) stays
       by_row is stood (Same_link e at same) (By_row row looks makes) =
           let (on, of) = looks_on settings told hello own told.listed own_is refl row a looks in
-          let was : is_symmetric R.link.one.0 now ≡ true = sym (ap (is_symmetric_entry now) R.link.stands) ∙ (sym (way_stays i told.least).1 ∙ is) in
-          let repeats : RepeatsRow (base_of old.two_hops i) told.least row = R.link.rows was row looks.stands.0 on in
+          let repeats : RepeatsRow (base_of old.two_hops i) told.least row = rows is row looks.stands.0 on in
           ap (option_map (λ (t : TwoHop × ℕ). t.0)) makes
           ∙ (row_value (tells_symmetric row.link row.other) (two_hop_of row) (now + told.shown.validity)
           ∙ sym (subst (λ (b : Addr4). option_map (λ (t : TwoHop × ℕ). t.0) (two_hop_at old i (record { link = told.least; addr = b })) ≡ cond (tells_symmetric row.link row.other) (Some (two_hop_of row)) None) of repeats))

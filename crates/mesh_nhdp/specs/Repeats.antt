@@ -34,13 +34,12 @@ abbrev pub RepeatsRows : List Addr4 → List Addr4 → Base TwoHopKey TwoHop →
 RepeatsRows own listed two_hops link hello =
     (row : HelloRow) → Contains hello.rows row → LooksOn own listed row → RepeatsRow two_hops link row
 
--- the link that it came over stands, and its 2-hop tuples where it is SYMMETRIC
-pub record RepeatsLink (now : ℕ) (own : List Addr4) (told : Told) (hello : Hello) (links : Base LinkKey Link) (two_hops : Base TwoHopKey TwoHop) : Type 0 where
+-- the link that it came over stands
+pub record RepeatsLink (now : ℕ) (told : Told) (links : Base LinkKey Link) : Type 0 where
   pub one : Link × ℕ
   pub stands : find link_eq links told.least ≡ Some one
   pub addrs : one.0.addrs ≡ told.shown.sending
   pub status : RepeatsStatus told.shown now one.0 told.shown.status
-  pub rows : is_symmetric one.0 now ≡ true → RepeatsRows own told.listed two_hops told.least hello
 
 -- the neighbour that it tells of stands, with these addresses, as willing, and a selector where it is symmetric and the HELLO says so
 pub record RepeatsNeighbour (told : Told) (neighbours : Base Addr4 Neighbour) : Type 0 where
@@ -50,7 +49,7 @@ pub record RepeatsNeighbour (told : Told) (neighbours : Base Addr4 Neighbour) : 
   pub willing : one.0.willing ≡ told.willing
   pub selector : one.0.selector ≡ (told.routing && one.0.symmetric)
 
--- all that it tells on interface i is held, but for moments
-pub record Repeats (now i : ℕ) (own : List Addr4) (told : Told) (hello : Hello) (near : Neighbourhood) : Type 0 where
-  pub link : RepeatsLink now own told hello (base_of near.links i) (base_of near.two_hops i)
+-- all that it tells on interface i of its link and its neighbour is held, but for moments
+pub record Repeats (now i : ℕ) (told : Told) (near : Neighbourhood) : Type 0 where
+  pub link : RepeatsLink now told (base_of near.links i)
   pub neighbour : RepeatsNeighbour told near.neighbours

@@ -1,15 +1,18 @@
 //! What a HELLO that isn't refused makes of the links, the 2-hop tuples, the neighbours and the lost addresses.
-ghost use Rattle.std.specs.Prelude.{◌≡◌, ◌<◌, ◌^◌, ◌↔◌, Contains, Some, None, length, slice_get, OnOk};
+ghost use Rattle.std.specs.Prelude.{◌≡◌, ◌<◌, ◌^◌, ◌↔◌, Contains, Some, None, length, slice_get, true, IsTrue, IfOk, OnOk};
 ghost use Rattle.mesh_atoms.specs.AfterHello.{AfterHello};
+ghost use Rattle.mesh_atoms.specs.Base.{base_of};
 ghost use Rattle.mesh_atoms.specs.HelloTold.{Tells};
 ghost use Rattle.mesh_atoms.specs.Quality.{rule_of};
 ghost use Rattle.mesh_atoms.specs.Sound.{SoundNeighbourhood};
 ghost use Rattle.mesh_atoms.specs.State.{HasAddress};
 ghost use Rattle.mesh_atoms.specs.TakesHello.{IsFault};
 ghost use Rattle.mesh_hello.specs.Told.Telling.{told_of};
+ghost use Rattle.mesh_nhdp.specs.Calls.{is_symmetric_in};
 ghost use Rattle.mesh_nhdp.specs.Hearings.{HearsInterfaces, HearsLinks};
 ghost use Rattle.mesh_nhdp.specs.Interfaces.{CanHearHello};
 ghost use Rattle.mesh_nhdp.specs.NhdpState.{near_with};
+ghost use Rattle.mesh_nhdp.specs.Repeats.{RepeatsRows};
 
 use crate::drops::has_symmetric_on;
 use crate::follow::renew_neighbour;
@@ -25,7 +28,8 @@ use mesh_nbrs::{LostSet, NeighbourSet, TwoHopSet};
 use std::alloc::{AllocError, Global};
 
 /// Takes the HELLO in on all interfaces; `least` is the key of the link that it came over, and `own` has the router's addresses.
-/// After want of memory links and tuples may only be dropped.
+/// Answers true only where that link isn't SYMMETRIC then, or all rows repeat what was held. After want of memory links and tuples may
+/// only be dropped.
 fn hear_interfaces<L: Table<LinkKey, Link>, H: Table<TwoHopKey, TwoHop>>(
     alloc: Global,
     hearing: &Hearing,
@@ -34,7 +38,7 @@ fn hear_interfaces<L: Table<LinkKey, Link>, H: Table<TwoHopKey, TwoHop>>(
     own: &[Addr4],
     links: &mut [LinkSet<L>],
     two_hops: &mut [TwoHopSet<H>],
-) -> Result<(), AllocError>
+) -> Result<bool, AllocError>
     requires ready { CanHearHello hearing.now.moment hearing.now.hold hearing.now.shown.now }
     requires least { slice_get hearing.now.shown.now.sending 0 ≡ Some least.addr }
     requires iface { hearing.now.iface < length links.old }
@@ -42,6 +46,9 @@ fn hear_interfaces<L: Table<LinkKey, Link>, H: Table<TwoHopKey, TwoHop>>(
     ensures links { length links.new ≡ length links.old }
     ensures hears { OnOk result (HearsInterfaces hearing.now.rule.now hearing.now.shown.now least hearing.now.theirs.now hearing.now.listed.now hearing.now.keys.now own.now hearing.now.hold hearing.now.moment hearing.now.iface hello.now
         links.old links.new two_hops.old two_hops.new) }
+    ensures repeats { IfOk result (λ repeats. IsTrue repeats
+        → is_symmetric_in (base_of links.new hearing.now.iface) hearing.now.moment least ≡ true
+        → RepeatsRows own.now hearing.now.listed.now (base_of two_hops.old hearing.now.iface) least hello.now) }
 {
     let stood = stands(
         links,
@@ -66,7 +73,7 @@ fn hear_interfaces<L: Table<LinkKey, Link>, H: Table<TwoHopKey, TwoHop>>(
 }
 
 /// Takes a HELLO in on all interfaces; `own` has the router's addresses, and `theirs` those of the neighbours that it speaks of.
-/// After want of memory links and tuples may only be dropped.
+/// Answers as `hear_interfaces`. After want of memory links and tuples may only be dropped.
 fn hear_links<L: Table<LinkKey, Link>, H: Table<TwoHopKey, TwoHop>>(
     settings: &RouterSettings,
     now: u64,
@@ -77,13 +84,16 @@ fn hear_links<L: Table<LinkKey, Link>, H: Table<TwoHopKey, TwoHop>>(
     theirs: &[Addr4],
     links: &mut [LinkSet<L>],
     two_hops: &mut [TwoHopSet<H>],
-) -> Result<(), AllocError>
+) -> Result<bool, AllocError>
     requires iface { iface < length settings.now.interfaces }
     requires links { length links.old ≡ length settings.now.interfaces }
     requires two_hops { length two_hops.old ≡ length settings.now.interfaces }
     requires ready { CanHearHello now settings.now.times.link_hold telling.now.shown }
     requires least { slice_get telling.now.shown.sending 0 ≡ Some telling.now.least.addr }
-    ensures { OnOk result (HearsLinks (rule_of settings.now iface) (told_of telling.now) theirs.now own.now settings.now.times.link_hold now iface hello.now links.old links.new two_hops.old two_hops.new) }
+    ensures hears { OnOk result (HearsLinks (rule_of settings.now iface) (told_of telling.now) theirs.now own.now
+        settings.now.times.link_hold now iface hello.now links.old links.new two_hops.old two_hops.new) }
+    ensures repeats { IfOk result (λ repeats. IsTrue repeats → is_symmetric_in (base_of links.new iface) now telling.now.least ≡ true
+        → RepeatsRows own.now telling.now.listed (base_of two_hops.old iface) telling.now.least hello.now) }
 {
     let alloc = settings.interfaces.allocator();
     let listed = telling.listed.as_slice();
@@ -102,8 +112,8 @@ fn hear_links<L: Table<LinkKey, Link>, H: Table<TwoHopKey, TwoHop>>(
     hear_interfaces(alloc, &hearing, telling.least, hello, own, links, two_hops)
 }
 
-/// Takes in a HELLO that isn't refused and isn't too much; `own` has the router's addresses. After want of memory the
-/// neighbourhood may only be dropped.
+/// Takes in a HELLO that isn't refused and isn't too much; `own` has the router's addresses. Answers true only where the link that it came
+/// over isn't SYMMETRIC then, or all rows repeat what was held. After want of memory the neighbourhood may only be dropped.
 pub fn hear<
     L: Table<LinkKey, Link>,
     H: Table<TwoHopKey, TwoHop>,
@@ -120,7 +130,7 @@ pub fn hear<
     two_hops: &mut [TwoHopSet<H>],
     neighbours: &mut NeighbourSet<N>,
     losts: &mut LostSet<O>,
-) -> Result<(), AllocError>
+) -> Result<bool, AllocError>
     requires now { now < 2 ^ 62 }
     requires iface { iface < length settings.now.interfaces }
     requires lasts { 0 < hello.now.validity }
@@ -128,16 +138,19 @@ pub fn hear<
     requires own { (a : Addr4) → Contains own.now a ↔ HasAddress settings.now a }
     requires told { (sender : Addr4) × Tells settings.now iface sender hello.now (told_of telling.now) × IsFault settings.now sender hello.now None }
     requires sound { SoundNeighbourhood settings.now now (near_with links.old two_hops.old neighbours.old losts.old) }
-    ensures { OnOk result (AfterHello settings.now now iface (told_of telling.now) hello.now
+    ensures after { OnOk result (AfterHello settings.now now iface (told_of telling.now) hello.now
         (near_with links.old two_hops.old neighbours.old losts.old) (near_with links.new two_hops.new neighbours.new losts.new)) }
+    ensures repeats { IfOk result (λ repeats. IsTrue repeats → is_symmetric_in (base_of links.new iface) now telling.now.least ≡ true
+        → RepeatsRows own.now telling.now.listed (base_of two_hops.old iface) telling.now.least hello.now) }
 {
     let alloc = settings.interfaces.allocator();
     let until = now + settings.times.neighbour_hold;
     let (theirs, before) = spoken_addresses(alloc, neighbours, telling)?;
-    hear_links(
+    let repeats = hear_links(
         settings, now, iface, hello, own, telling, &theirs, links, two_hops,
     )?;
     renew_neighbour(
         alloc, links, now, telling, &before, until, neighbours, losts,
-    )
+    )?;
+    Ok(repeats)
 }

@@ -1,16 +1,15 @@
 //! Whether a HELLO repeats what is held already, so that its taking changes nothing but moments.
-ghost use Rattle.std.specs.Prelude.{◌≡◌, ◌↔◌, ◌<◌, ◌&&◌, length, IsTrue};
-ghost use Rattle.mesh_atoms.specs.Base.{Base, base_of};
+ghost use Rattle.std.specs.Prelude.{◌≡◌, ◌↔◌, ◌<◌, ◌&&◌, List, length, IsTrue};
+ghost use Rattle.mesh_atoms.specs.Base.{Base};
 ghost use Rattle.mesh_atoms.specs.HelloTold.{two_hop_of};
 ghost use Rattle.mesh_hello.specs.Told.Telling.{told_of};
 ghost use Rattle.mesh_nhdp.specs.NhdpState.{near_with};
-ghost use Rattle.mesh_nhdp.specs.Repeats.{Repeats, RepeatsLink, RepeatsNeighbour, RepeatsRow, RepeatsRows, RepeatsStatus};
-ghost use Rattle.mesh_nhdp.specs.Rows.{LooksOn};
+ghost use Rattle.mesh_nhdp.specs.Repeats.{Repeats, RepeatsLink, RepeatsNeighbour, RepeatsRow, RepeatsStatus};
 
-use crate::two_hop_rows::{is_looked_at, or_else, tells_symmetric};
+use crate::two_hop_rows::{or_else, tells_symmetric};
 use mesh_atoms::{
-    Addr4, Hello, HelloRow, Link, LinkKey, LinkStatus, Lost, Metric, Neighbour, Shown, TwoHop,
-    TwoHopKey, Willing,
+    Addr4, HelloRow, Link, LinkKey, LinkStatus, Lost, Metric, Neighbour, Shown, TwoHop, TwoHopKey,
+    Willing,
 };
 use mesh_expire::Table;
 use mesh_hello::HelloInfo;
@@ -74,7 +73,7 @@ fn repeats_metrics(tuple: &TwoHop, row: &HelloRow) -> bool
 }
 
 /// Whether the 2-hop tuple of the row's address stands as the row makes it, but for its moment.
-fn repeats_row<H: Table<TwoHopKey, TwoHop>>(
+pub fn repeats_row<H: Table<TwoHopKey, TwoHop>>(
     two_hops: &TwoHopSet<H>,
     link: LinkKey,
     row: &HelloRow,
@@ -88,37 +87,6 @@ fn repeats_row<H: Table<TwoHopKey, TwoHop>>(
     }
 }
 
-/// The same, where the row tells of a neighbour of the sender.
-fn repeats_if_looked_at<H: Table<TwoHopKey, TwoHop>>(
-    two_hops: &TwoHopSet<H>,
-    link: LinkKey,
-    row: &HelloRow,
-    own: &[Addr4],
-    listed: &[Addr4],
-) -> bool
-    ensures { IsTrue result → LooksOn own.now listed.now row.now → RepeatsRow two_hops.now link row.now }
-{
-    !is_looked_at(row, own, listed) || repeats_row(two_hops, link, row)
-}
-
-/// The same of all rows. Looks up a tuple for each, up to the first that tells something new.
-fn repeats_rows<H: Table<TwoHopKey, TwoHop>>(
-    two_hops: &TwoHopSet<H>,
-    link: LinkKey,
-    hello: &Hello,
-    own: &[Addr4],
-    listed: &[Addr4],
-) -> bool
-    ensures { IsTrue result → RepeatsRows own.now listed.now two_hops.now link hello.now }
-{
-    for row in hello.rows.as_slice() {
-        if !repeats_if_looked_at(two_hops, link, row, own, listed) {
-            return false;
-        }
-    }
-    true
-}
-
 /// Whether the link has the sending list, and what the HELLO shows of it leaves it SYMMETRIC, at the same metric, or not SYMMETRIC.
 fn is_shown(link: &Link, shown: &Shown, now: u64) -> bool
     ensures addrs { IsTrue result → link.now.addrs ≡ shown.now.sending }
@@ -130,28 +98,14 @@ fn is_shown(link: &Link, shown: &Shown, now: u64) -> bool
     same_addrs(link.addrs.as_slice(), shown.sending.as_slice())
 }
 
-/// Whether the link that the HELLO came over stands, and its 2-hop tuples where it is SYMMETRIC.
-fn repeats_link<L: Table<LinkKey, Link>, H: Table<TwoHopKey, TwoHop>>(
-    now: u64,
-    hello: &Hello,
-    own: &[Addr4],
-    telling: &HelloInfo,
-    links: &LinkSet<L>,
-    two_hops: &TwoHopSet<H>,
-) -> bool
-    ensures { IsTrue result → RepeatsLink now own.now (told_of telling.now) hello.now links.now two_hops.now }
+/// Whether the link that the HELLO came over stands.
+fn repeats_link<L: Table<LinkKey, Link>>(now: u64, telling: &HelloInfo, links: &LinkSet<L>) -> bool
+    ensures { IsTrue result → RepeatsLink now (told_of telling.now) links.now }
 {
     let Some((link, _)) = links.table().get(&telling.least) else {
         return false;
     };
-    if !is_shown(link, &telling.shown, now) {
-        return false;
-    }
-    if !link.is_symmetric(now) {
-        return true;
-    }
-    let listed = telling.listed.as_slice();
-    repeats_rows(two_hops, telling.least, hello, own, listed)
+    is_shown(link, &telling.shown, now)
 }
 
 /// Whether the neighbour is as the HELLO tells of it, but for what its links say.
@@ -183,24 +137,20 @@ fn repeats_neighbour<N: Table<Addr4, Neighbour>>(
     is_told(neighbour, telling)
 }
 
-/// Whether the HELLO repeats what is held already, but for moments; `own` has the router's addresses. Looks up the neighbour and the link
-/// that it tells of, and a 2-hop tuple for each row. Takes no memory.
-pub fn repeats<L: Table<LinkKey, Link>, H: Table<TwoHopKey, TwoHop>, N: Table<Addr4, Neighbour>>(
+/// Whether what the HELLO tells of its link and its neighbour is held already, but for moments. Looks up these two alone. Takes no memory.
+pub fn repeats<L: Table<LinkKey, Link>, N: Table<Addr4, Neighbour>>(
     now: u64,
     iface: usize,
-    hello: &Hello,
-    own: &[Addr4],
     telling: &HelloInfo,
     links: &[LinkSet<L>],
-    two_hops: &[TwoHopSet<H>],
     neighbours: &NeighbourSet<N>,
 ) -> bool
-    requires links { iface < length links.now }
-    requires two_hops { iface < length two_hops.now }
-    ensures { IsTrue result → (losts : Base Addr4 Lost) → Repeats now iface own.now (told_of telling.now) hello.now (near_with links.now two_hops.now neighbours.now losts) }
+    requires { iface < length links.now }
+    ensures { IsTrue result → (two_hops : List (Base TwoHopKey TwoHop)) (losts : Base Addr4 Lost)
+        → Repeats now iface (told_of telling.now) (near_with links.now two_hops neighbours.now losts) }
 {
     if !repeats_neighbour(neighbours, telling) {
         return false;
     }
-    repeats_link(now, hello, own, telling, &links[iface], &two_hops[iface])
+    repeats_link(now, telling, &links[iface])
 }

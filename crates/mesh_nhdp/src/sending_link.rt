@@ -1,5 +1,5 @@
 //! The 2-hop tuples of the link that a HELLO came over.
-ghost use Rattle.std.specs.Prelude.{◌≡◌, ◌≢◌, ◌↔◌, ◌<◌, ℕ, length, Contains, Some, IsTrue, true, false, OnOk};
+ghost use Rattle.std.specs.Prelude.{◌≡◌, ◌≢◌, ◌↔◌, ◌<◌, ℕ, length, Contains, Some, IsTrue, true, false, IfOk, OnOk};
 ghost use Rattle.mesh_atoms.specs.Base.{base_of, find, link_eq};
 ghost use Rattle.mesh_atoms.specs.State.{HasAddress};
 ghost use Rattle.mesh_atoms.specs.HelloTold.{Told};
@@ -8,6 +8,7 @@ ghost use Rattle.mesh_atoms.specs.declared.settings.RouterSettings.{RouterSettin
 ghost use Rattle.mesh_nbrs.specs.TwoHops.TwoHops.{DropsLink};
 ghost use Rattle.mesh_nhdp.specs.Calls.{TellsTwoHops};
 ghost use Rattle.mesh_nhdp.specs.Hearings.{UpdatesTwoHops};
+ghost use Rattle.mesh_nhdp.specs.Repeats.{RepeatsRows};
 
 use crate::two_hop_rows::tell_two_hops;
 use mesh_atoms::{Addr4, Hello, Link, LinkKey, TwoHop, TwoHopKey};
@@ -46,7 +47,7 @@ fn start_two_hops<H: Table<TwoHopKey, TwoHop>>(
     }
 }
 
-/// Makes of the tuples of the link what the rows of the HELLO tell, where it is SYMMETRIC.
+/// Makes of the tuples of the link what the rows of the HELLO tell, where it is SYMMETRIC; whether all those rows repeat what was held.
 fn tell_if_symmetric<H: Table<TwoHopKey, TwoHop>>(
     two_hops: &mut TwoHopSet<H>,
     link: LinkKey,
@@ -55,20 +56,22 @@ fn tell_if_symmetric<H: Table<TwoHopKey, TwoHop>>(
     own: &[Addr4],
     listed: &[Addr4],
     symmetric: bool,
-) -> Result<(), AllocError>
+) -> Result<bool, AllocError>
     ensures rows { OnOk result (symmetric ≡ true → (settings : RouterSettings) (told : Told) → ((a : Addr4) → Contains own.now a ↔ HasAddress settings a)
         → told.listed ≡ listed.now → TellsTwoHops settings told hello.now link until two_hops.old two_hops.new) }
     ensures no_rows { OnOk result (symmetric ≡ false → two_hops.new ≡ two_hops.old) }
+    ensures repeats { IfOk result (λ repeats. IsTrue repeats → symmetric ≡ true
+        → RepeatsRows own.now listed.now two_hops.old link hello.now) }
 {
     if symmetric {
         tell_two_hops(two_hops, link, until, hello, own, listed)
     } else {
-        Ok(())
+        Ok(true)
     }
 }
 
 /// Brings the tuples of the link that the HELLO came over up to date: where it is a new one they go, and where it is SYMMETRIC
-/// they are made as the rows tell.
+/// they are made as the rows tell; whether it stood, and all those rows repeat what was held.
 fn update_two_hops<H: Table<TwoHopKey, TwoHop>>(
     two_hops: &mut TwoHopSet<H>,
     link: LinkKey,
@@ -78,14 +81,16 @@ fn update_two_hops<H: Table<TwoHopKey, TwoHop>>(
     listed: &[Addr4],
     stood: bool,
     symmetric: bool,
-) -> Result<(), AllocError>
-    ensures { OnOk result (UpdatesTwoHops stood symmetric own.now listed.now hello.now link until two_hops.old two_hops.new) }
+) -> Result<bool, AllocError>
+    ensures updates { OnOk result (UpdatesTwoHops stood symmetric own.now listed.now hello.now link until two_hops.old two_hops.new) }
+    ensures repeats { IfOk result (λ repeats. IsTrue repeats → symmetric ≡ true
+        → RepeatsRows own.now listed.now two_hops.old link hello.now) }
 {
     start_two_hops(two_hops, link, stood);
-    tell_if_symmetric(two_hops, link, until, hello, own, listed, symmetric)?;
+    let repeats = tell_if_symmetric(two_hops, link, until, hello, own, listed, symmetric)?;
     // Its keys are distinct, which the proof needs.
     let _table = two_hops.table();
-    Ok(())
+    Ok(stood & repeats)
 }
 
 /// The same of the interface of that number.
@@ -99,11 +104,13 @@ pub fn update_two_hops_on<H: Table<TwoHopKey, TwoHop>>(
     listed: &[Addr4],
     stood: bool,
     symmetric: bool,
-) -> Result<(), AllocError>
+) -> Result<bool, AllocError>
     requires { iface < length two_hops.old }
     ensures length { length two_hops.new ≡ length two_hops.old }
     ensures elsewhere { (j : ℕ) → j ≢ iface → base_of two_hops.new j ≡ base_of two_hops.old j }
     ensures here { OnOk result (UpdatesTwoHops stood symmetric own.now listed.now hello.now link until (base_of two_hops.old iface) (base_of two_hops.new iface)) }
+    ensures repeats { IfOk result (λ repeats. IsTrue repeats → symmetric ≡ true
+        → RepeatsRows own.now listed.now (base_of two_hops.old iface) link hello.now) }
 {
     update_two_hops(
         &mut two_hops[iface],

@@ -119,13 +119,11 @@ fn take_in<
         HelloCheck::Overfills(base) => Ok((HelloTaken::Full(base), false)),
         HelloCheck::Fits(own, telling) => {
             let own = own.as_slice();
-            let repeated = repeats(
-                now, iface, hello, own, &telling, links, two_hops, neighbours,
-            );
-            hear(
+            let repeated = repeats(now, iface, &telling, links, neighbours);
+            let rows = hear(
                 settings, now, iface, hello, own, &telling, links, two_hops, neighbours, losts,
             )?;
-            Ok((HelloTaken::Done, !repeated))
+            Ok((HelloTaken::Done, !(repeated & rows)))
         }
     }
 }

@@ -7,9 +7,11 @@ ghost use Rattle.mesh_atoms.specs.AfterHello.{row_makes};
 ghost use Rattle.mesh_atoms.specs.TakesHello.{AreTwoHopRows};
 ghost use Rattle.mesh_atoms.specs.declared.settings.RouterSettings.{RouterSettings};
 ghost use Rattle.mesh_nhdp.specs.Calls.{TellsTwoHops};
+ghost use Rattle.mesh_nhdp.specs.Repeats.{RepeatsRow, RepeatsRows};
 ghost use Rattle.mesh_hello.specs.Gathers.{Gathers};
 ghost use Rattle.mesh_nhdp.specs.Rows.{LooksOn, RowTells, TellsSymmetric};
 
+use crate::repeating::repeats_row;
 use mesh_atoms::{
     Addr4, Hello, HelloRow, LinkKey, LinkStatus, Metric, OtherStatus, TwoHop, TwoHopKey, contains,
 };
@@ -51,27 +53,29 @@ pub fn or_else(near: Option<Metric>, link: Option<Metric>) -> Option<Metric>
     }
 }
 
-/// Makes of the tuple of its address what the row tells.
+/// Makes of the tuple of its address what the row tells; whether that repeats what was held.
 fn tell_row<H: Table<TwoHopKey, TwoHop>>(
     two_hops: &mut TwoHopSet<H>,
     link: LinkKey,
     until: u64,
     row: &HelloRow,
-) -> Result<(), AllocError>
-    ensures { OnOk result (SetsOnly two_hop_eq two_hops.old two_hops.new (record { link = link; addr = row.now.addr.addr }) (row_makes until row.now)) }
+) -> Result<bool, AllocError>
+    ensures sets { OnOk result (SetsOnly two_hop_eq two_hops.old two_hops.new
+        (record { link = link; addr = row.now.addr.addr }) (row_makes until row.now)) }
+    ensures repeats { IfOk result (λ repeats. IsTrue repeats → RepeatsRow two_hops.old link row.now) }
 {
+    let repeats = repeats_row(two_hops, link, row);
     if tells_symmetric(row) {
         let metric_in = or_else(row.metrics.near_in, row.metrics.link_in);
         let metric_out = or_else(row.metrics.near_out, row.metrics.link_out);
         two_hops.renew(link, row.addr.addr, metric_in, metric_out, until)?;
-        Ok(())
     } else {
         two_hops.drop_row(link, row.addr.addr);
-        Ok(())
     }
+    Ok(repeats)
 }
 
-/// The same, where the row tells of a neighbour of the sender.
+/// The same, where the row tells of a neighbour of the sender; another repeats what was held.
 fn tell_if_looked_at<H: Table<TwoHopKey, TwoHop>>(
     two_hops: &mut TwoHopSet<H>,
     link: LinkKey,
@@ -79,17 +83,19 @@ fn tell_if_looked_at<H: Table<TwoHopKey, TwoHop>>(
     row: &HelloRow,
     own: &[Addr4],
     listed: &[Addr4],
-) -> Result<(), AllocError>
-    ensures { OnOk result (RowTells own.now listed.now link until row.now two_hops.old two_hops.new) }
+) -> Result<bool, AllocError>
+    ensures tells { OnOk result (RowTells own.now listed.now link until row.now two_hops.old two_hops.new) }
+    ensures repeats { IfOk result (λ repeats. IsTrue repeats → LooksOn own.now listed.now row.now → RepeatsRow two_hops.old link row.now) }
 {
     if is_looked_at(row, own, listed) {
         tell_row(two_hops, link, until, row)
     } else {
-        Ok(())
+        Ok(true)
     }
 }
 
-/// Makes of the 2-hop tuples of a link what the rows of the HELLO tell (RFC 6130, section 12.6, and RFC 7181, section 15.3).
+/// Makes of the 2-hop tuples of a link what the rows of the HELLO tell (RFC 6130, section 12.6, and RFC 7181, section 15.3); whether all
+/// rows repeat what was held, so that nothing but moments changes.
 pub fn tell_two_hops<H: Table<TwoHopKey, TwoHop>>(
     two_hops: &mut TwoHopSet<H>,
     link: LinkKey,
@@ -97,14 +103,17 @@ pub fn tell_two_hops<H: Table<TwoHopKey, TwoHop>>(
     hello: &Hello,
     own: &[Addr4],
     listed: &[Addr4],
-) -> Result<(), AllocError>
-    ensures { OnOk result ((settings : RouterSettings) (told : Told) → ((a : Addr4) → Contains own.now a ↔ HasAddress settings a) → told.listed ≡ listed.now
-        → TellsTwoHops settings told hello.now link until two_hops.old two_hops.new) }
+) -> Result<bool, AllocError>
+    ensures tells { OnOk result ((settings : RouterSettings) (told : Told) → ((a : Addr4) → Contains own.now a ↔ HasAddress settings a)
+        → told.listed ≡ listed.now → TellsTwoHops settings told hello.now link until two_hops.old two_hops.new) }
+    ensures repeats { IfOk result (λ repeats. IsTrue repeats → RepeatsRows own.now listed.now two_hops.old link hello.now) }
 {
+    let mut repeated = true;
     for row in hello.rows.as_slice() {
-        tell_if_looked_at(two_hops, link, until, row, own, listed)?;
+        let repeats = tell_if_looked_at(two_hops, link, until, row, own, listed)?;
+        repeated &= repeats;
     }
-    Ok(())
+    Ok(repeated)
 }
 
 /// Adds the row's address, where the row tells of a SYMMETRIC neighbour of the sender.

@@ -5,7 +5,6 @@ use Rattle.mesh_hello.specs.Told.Telling.{told_of}
 use Rattle.mesh_hello.proofs.ToldLemmas.Mines.{sending_some, more_some}
 use Rattle.mesh_nhdp.proofs.Receipt.{receipt_runs}
 use Rattle.mesh_nhdp.proofs.hearing.hear.Goals as goal
-use Rattle.mesh_atoms.proofs.Options.{on_ok_weaker as on_ok}
 
 pub overflow_add-until : goal.overflow_add-until
 overflow_add-until g c = let most = c.args.settings.now.times.sound.neighbour_hold_range.most in omega (arith, c.requires.now, most)
@@ -44,11 +43,13 @@ renew_neighbour-requires-clause-some g c =
     more_some c.args.telling.now.shown.sending c.args.telling.now.listed (sending_some c.args.telling.now.shown.sending (λ b. TellsLocal c.args.hello.now b This) sender told.sending.1)
     (λ a has. (told.listed.1 a).1 (inl ((told.sending.1 a).0 has)))
 
-pub returns : goal.returns
-returns g c =
+pub returns-clause-after : goal.returns-clause-after
+returns-clause-after g c =
     let (sender, told, fault) = c.requires.told in
-    on_ok c.renew_neighbour.result
-    (λ R. receipt_runs c.args.settings.now c.args.now c.args.iface sender (told_of c.args.telling.now) c.args.hello.now c.args.links.now c.hear_links.new.links c.args.two_hops.now c.hear_links.new.two_hops
+    receipt_runs c.args.settings.now c.args.now c.args.iface sender (told_of c.args.telling.now) c.args.hello.now c.args.links.now c.hear_links.new.links c.args.two_hops.now c.hear_links.new.two_hops
     c.args.neighbours.now c.renew_neighbour.new.neighbours c.args.losts.now c.renew_neighbour.new.losts c.in_ok-theirs.theirs.items c.deref.result.now c.args.own.now c.in_ok-theirs.before.items c.deref-2.result.now told fault
     (subst (λ n. 0 < n) (sym told.validity) c.requires.lasts) c.requires.sound c.requires.iface c.requires.own c.in_ok-theirs.ensures.symmetric c.in_ok-theirs.ensures.all c.deref.ensures.value c.deref-2.ensures.value
-    c.in_ok-hear_links.ensures R) c.renew_neighbour.ensures
+    c.in_ok-repeats.ensures.hears c.in_ok-renew_neighbour.ensures
+
+pub returns-clause-repeats : goal.returns-clause-repeats
+returns-clause-repeats g c = c.in_ok-repeats.ensures.repeats

@@ -1,11 +1,12 @@
-use Rattle.std.proofs.Common.{◌≡◌, ◌+◌, arith, subst, ◌↔◌, ℕ, List, IsTrue, Some}
+use Rattle.std.proofs.Common.{◌≡◌, ◌∙◌, ◌+◌, arith, subst, ◌↔◌, ℕ, List, IsTrue, Some}
 use Rattle.std.specs.Prelude.{Bool}
 use Rattle.mesh_atoms.specs.declared.addr.Addr4.{Addr4}
 use Rattle.mesh_atoms.specs.declared.tuples.Link.{Link}
 use Rattle.mesh_atoms.specs.Base.{base_of, find, link_eq}
 use Rattle.mesh_nhdp.specs.Hearings.{UpdatesTwoHops}
+use Rattle.mesh_nhdp.proofs.RowsRepeat.{repeated_before}
 use Rattle.mesh_nhdp.proofs.hearing.hear_interfaces.Goals as goal
-use Rattle.mesh_atoms.proofs.Options.{on_ok_weaker as on_ok}
+use Rattle.mesh_atoms.proofs.Options.{on_ok_weaker as on_ok, if_ok_weaker as if_ok}
 
 pub stands-stood-requires : goal.stands-stood-requires
 stands-stood-requires g c = c.requires.iface
@@ -44,3 +45,10 @@ returns-clause-hears g c =
       updates = subst (λ (s : Bool). UpdatesTwoHops c.stands-stood.result s c.args.own.now c.args.hearing.now.listed.now c.args.hello.now c.args.least
           (c.args.hearing.now.moment + c.args.hearing.now.shown.now.validity) (base_of c.change_all.new.two_hops c.args.hearing.now.iface) (base_of c.update_two_hops_on.new.two_hops c.args.hearing.now.iface)) c.has_symmetric_on-symmetric.ensures U;
     }) c.update_two_hops_on.ensures.here
+
+pub returns-clause-repeats : goal.returns-clause-repeats
+returns-clause-repeats g c =
+    if_ok c.update_two_hops_on.result (λ r same is symmetric.
+    repeated_before c.args.own.now c.args.hearing.now.listed.now c.args.least c.args.hearing.now.keys.now (base_of c.change_all.new.links c.args.hearing.now.iface) c.args.hearing.now.moment c.args.hello.now
+    (base_of c.args.two_hops.now c.args.hearing.now.iface) (base_of c.change_all.new.two_hops c.args.hearing.now.iface)
+    (c.in_ok-change_all.ensures.each c.args.hearing.now.iface c.requires.iface c.args.least c.requires.least).two_hops symmetric (same is (c.has_symmetric_on-symmetric.ensures ∙ symmetric))) c.update_two_hops_on.ensures.repeats

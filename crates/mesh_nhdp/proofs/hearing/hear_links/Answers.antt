@@ -1,10 +1,13 @@
-use Rattle.std.proofs.Common.{refl, arith}
+use Rattle.std.proofs.Common.{List, refl, subst, arith}
+use Rattle.mesh_atoms.specs.declared.addr.Addr4.{Addr4}
+use Rattle.mesh_atoms.specs.Base.{base_of}
 use Rattle.mesh_atoms.specs.Quality.{rule_of}
 use Rattle.mesh_hello.specs.Told.Telling.{told_of}
+use Rattle.mesh_nhdp.specs.Repeats.{RepeatsRows}
 use Rattle.mesh_nhdp.proofs.Expiry.{face_rule}
 use Rattle.mesh_nhdp.proofs.Receipt.{links_heard}
 use Rattle.mesh_nhdp.proofs.hearing.hear_links.Goals as goal
-use Rattle.mesh_atoms.proofs.Options.{on_ok_weaker as on_ok}
+use Rattle.mesh_atoms.proofs.Options.{on_ok_weaker as on_ok, if_ok_weaker as if_ok}
 
 pub hear_interfaces-requires-clause-ready : goal.hear_interfaces-requires-clause-ready
 hear_interfaces-requires-clause-ready g c = c.requires.ready
@@ -18,10 +21,15 @@ hear_interfaces-requires-clause-iface g c = omega (arith, c.requires.links, c.re
 pub hear_interfaces-requires-clause-same : goal.hear_interfaces-requires-clause-same
 hear_interfaces-requires-clause-same g c = omega (arith, c.requires.links, c.requires.two_hops)
 
-pub returns : goal.returns
-returns g c =
+pub returns-clause-hears : goal.returns-clause-hears
+returns-clause-hears g c =
     on_ok c.hear_interfaces.result
     (λ H. links_heard c.index-as_slice-iface.result.admit (rule_of c.args.settings.now c.args.iface) (told_of c.args.telling.now) c.args.theirs.now c.as_slice-listed.result.now c.args.own.now c.in_ok-keys.keys.items c.deref.result.now
     c.args.settings.now.times.link_hold c.args.now c.args.iface c.args.hello.now c.args.links.now c.hear_interfaces.new.links c.args.two_hops.now c.hear_interfaces.new.two_hops
     (face_rule c.args.settings.now c.args.settings.now c.args.iface c.as_slice.result.now c.index-as_slice-iface.result c.as_slice.ensures refl c.requires.iface c.index-as_slice-iface.is) c.as_slice-listed.ensures c.deref.ensures.value
     c.in_ok-keys.ensures c.hear_interfaces.ensures.links H) c.hear_interfaces.ensures.hears
+
+pub returns-clause-repeats : goal.returns-clause-repeats
+returns-clause-repeats g c =
+    if_ok c.hear_interfaces.result (λ r same is symmetric.
+    subst (λ (listed : List Addr4). RepeatsRows c.args.own.now listed (base_of c.args.two_hops.now c.args.iface) c.args.telling.now.least c.args.hello.now) c.as_slice-listed.ensures (same is symmetric)) c.hear_interfaces.ensures.repeats

@@ -1,11 +1,22 @@
+use Rattle.std.proofs.Common.{subst}
+use Rattle.mesh_atoms.specs.declared.tuples.TwoHopKey.{TwoHopKey}
+use Rattle.mesh_atoms.specs.declared.tuples.TwoHop.{TwoHop}
+use Rattle.mesh_atoms.specs.Base.{Base}
+use Rattle.mesh_nhdp.specs.Repeats.{RepeatsRows}
+use Rattle.mesh_nhdp.proofs.RowsRepeat.{both_true}
 use Rattle.mesh_nhdp.proofs.sending_link.update_two_hops.Goals as goal
 
-pub returns : goal.returns
-returns g c = record {
+pub returns-clause-updates : goal.returns-clause-updates
+returns-clause-updates g c = record {
   distinct = c.table-table.ensures.distinct;
   started = c.start_two_hops.new.two_hops;
   goes_on = c.start_two_hops.ensures.stood;
   anew = c.start_two_hops.ensures.anew;
-  rows = c.in_ok-tell_if_symmetric.ensures.rows;
-  no_rows = c.in_ok-tell_if_symmetric.ensures.no_rows;
+  rows = c.in_ok-repeats.ensures.rows;
+  no_rows = c.in_ok-repeats.ensures.no_rows;
 }
+
+pub returns-clause-repeats : goal.returns-clause-repeats
+returns-clause-repeats g c = λ both symmetric.
+    let (stood, repeats) = both_true c.args.stood c.in_ok-repeats.repeats both in
+    subst (λ (b : Base TwoHopKey TwoHop). RepeatsRows c.args.own.now c.args.listed.now b c.args.link c.args.hello.now) (c.start_two_hops.ensures.stood stood) (c.in_ok-repeats.ensures.repeats repeats symmetric)

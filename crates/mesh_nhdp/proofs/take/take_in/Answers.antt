@@ -6,6 +6,7 @@ use Rattle.mesh_nhdp.specs.declared.judge.HelloCheck.{HelloCheck}
 use Rattle.mesh_nhdp.specs.Judged.{Judges}
 use Rattle.mesh_nhdp.specs.NhdpState.{near_with}
 use Rattle.mesh_nhdp.proofs.Judges.{own_at, overfull, taken_sound}
+use Rattle.mesh_nhdp.proofs.RowsRepeat.{both_true}
 use Rattle.mesh_nhdp.proofs.RepeatsLaw.{repeats_same, unchanged_same}
 use Rattle.mesh_nhdp.proofs.take.take_in.Goals as goal
 
@@ -69,19 +70,19 @@ hear-requires-clause-told g c =
 pub hear-requires-clause-sound : goal.hear-requires-clause-sound
 hear-requires-clause-sound g c = c.requires.sound
 
-pub returns-in_ok-hear-in-Fits-clause-ok : goal.returns-in_ok-hear-in-Fits-clause-ok
-returns-in_ok-hear-in-Fits-clause-ok g c =
+pub returns-in_ok-rows-in-Fits-clause-ok : goal.returns-in_ok-rows-in-Fits-clause-ok
+returns-in_ok-rows-in-Fits-clause-ok g c =
     let near = near_with c.args.links.now c.args.two_hops.now c.args.neighbours.now c.args.losts.now in
     let judged = (subst (λ (j : HelloCheck). Judges c.args.settings.now c.args.iface c.args.sender c.args.hello.now near j) c.in-Fits.is (c.in_ok-number.ensures c.args.links.now)) in
-    (Taken, refl, Takes (told_of c.in-Fits.telling) judged.0 judged.1 judged.2 judged.3 c.in_ok-hear-in-Fits.ensures)
+    (Taken, refl, Takes (told_of c.in-Fits.telling) judged.0 judged.1 judged.2 judged.3 c.in_ok-rows-in-Fits.ensures.after)
 
-pub returns-in_ok-hear-in-Fits-clause-sound : goal.returns-in_ok-hear-in-Fits-clause-sound
-returns-in_ok-hear-in-Fits-clause-sound g c =
+pub returns-in_ok-rows-in-Fits-clause-sound : goal.returns-in_ok-rows-in-Fits-clause-sound
+returns-in_ok-rows-in-Fits-clause-sound g c =
     let near = near_with c.args.links.now c.args.two_hops.now c.args.neighbours.now c.args.losts.now in
     let after = near_with c.hear.new.links c.hear.new.two_hops c.hear.new.neighbours c.hear.new.losts in
     let judged = (subst (λ (j : HelloCheck). Judges c.args.settings.now c.args.iface c.args.sender c.args.hello.now near j) c.in-Fits.is (c.in_ok-number.ensures c.args.links.now)) in
     taken_sound c.args.settings.now c.args.settings.now c.args.now c.args.iface c.args.sender c.args.hello.now (told_of c.in-Fits.telling) near after judged.0 judged.1 c.requires.lasts
-    c.requires.sound c.in_ok-hear-in-Fits.ensures judged.2 judged.3 refl
+    c.requires.sound c.in_ok-rows-in-Fits.ensures.after judged.2 judged.3 refl
 
 pub returns-in-Breaks-clause-same : goal.returns-in-Breaks-clause-same
 returns-in-Breaks-clause-same g c = λ unchanged. unchanged_same _ c.args.now
@@ -89,11 +90,12 @@ returns-in-Breaks-clause-same g c = λ unchanged. unchanged_same _ c.args.now
 pub returns-in-Overfills-clause-same : goal.returns-in-Overfills-clause-same
 returns-in-Overfills-clause-same g c = λ unchanged. unchanged_same _ c.args.now
 
-pub returns-in_ok-hear-in-Fits-clause-same : goal.returns-in_ok-hear-in-Fits-clause-same
-returns-in_ok-hear-in-Fits-clause-same g c = λ unchanged.
+pub returns-in_ok-rows-in-Fits-clause-same : goal.returns-in_ok-rows-in-Fits-clause-same
+returns-in_ok-rows-in-Fits-clause-same g c = λ unchanged.
     let near = near_with c.args.links.now c.args.two_hops.now c.args.neighbours.now c.args.losts.now in
     let after = near_with c.hear.new.links c.hear.new.two_hops c.hear.new.neighbours c.hear.new.losts in
     let judged = (subst (λ (j : HelloCheck). Judges c.args.settings.now c.args.iface c.args.sender c.args.hello.now near j) c.in-Fits.is (c.in_ok-number.ensures c.args.links.now)) in
     let own_is = own_at c.args.settings.now c.args.settings.now c.in-Fits.own c.as_slice-own.result.now refl c.as_slice-own.ensures judged.4 in
+    let both = both_true c.repeats-repeated.result c.in_ok-rows-in-Fits.rows (not_false _ unchanged) in
     repeats_same c.args.settings.now c.args.now c.args.iface (told_of c.in-Fits.telling) c.args.hello.now c.as_slice-own.result.now own_is near after
-    (subst (λ n. 0 < n) (sym judged.1.validity) c.requires.lasts) c.requires.sound c.in_ok-hear-in-Fits.ensures (c.repeats-repeated.ensures (not_false c.repeats-repeated.result unchanged) c.args.losts.now)
+    (subst (λ n. 0 < n) (sym judged.1.validity) c.requires.lasts) c.requires.sound c.in_ok-rows-in-Fits.ensures.after (c.repeats-repeated.ensures both.0 c.args.two_hops.now c.args.losts.now) (c.in_ok-rows-in-Fits.ensures.repeats both.1)

@@ -1,13 +1,17 @@
-use Rattle.std.proofs.Common.{◌≡◌}
+use Rattle.std.proofs.Common.{◌≡◌, IsTrue}
 use Rattle.std.specs.Prelude.{◌≢◌}
 use Rattle.mesh_atoms.specs.declared.addr.Addr4.{Addr4}
 use Rattle.mesh_atoms.specs.declared.tuples.TwoHopKey.{TwoHopKey}
 use Rattle.mesh_atoms.specs.Base.{find, two_hop_eq}
+use Rattle.mesh_nbrs.specs.Same.{SameTuples}
 use Rattle.mesh_nhdp.proofs.RowWalks.{RowsTell}
+use Rattle.mesh_nhdp.proofs.RowsRepeat.{RowsRepeat}
 use Rattle.mesh_nhdp.proofs.two_hop_rows.tell_two_hops.Given as goal
 
 abbrev pub invariant-loop-row : goal.invariant-loop-row
 invariant-loop-row g l = record {
   one : (a : Addr4) → RowsTell l.own l.listed l.hello.rows l.row-index l.until a (find two_hop_eq l.initial.two_hops (record { link = l.link; addr = a })) (find two_hop_eq l.two_hops (record { link = l.link; addr = a }));
   others : (key : TwoHopKey) → key.link ≢ l.link → find two_hop_eq l.two_hops key ≡ find two_hop_eq l.initial.two_hops key;
+  same : IsTrue l.repeated → SameTuples two_hop_eq l.initial.two_hops l.two_hops;
+  repeats : IsTrue l.repeated → RowsRepeat l.own l.listed l.link l.hello.rows l.row-index l.initial.two_hops;
 }
