@@ -14,6 +14,7 @@ mod BesideWalk
 mod Composes
 mod Ends
 mod Expiry
+mod FewRows
 mod Hears
 mod Held
 mod HeldAddresses

@@ -38,7 +38,8 @@ fn count_on<H: Table<TwoHopKey, TwoHop>>(sets: &[TwoHopSet<H>], iface: usize) ->
     sets[iface].table().len()
 }
 
-/// The base that the HELLO would fill, if there is one; `own` has the router's addresses.
+/// The base that the HELLO would fill, if there is one; `own` has the router's addresses. Counts the addresses that the HELLO tells as
+/// SYMMETRIC neighbours only where all its rows would be too many; else it looks at the counts alone.
 fn base_to_fill<H: Table<TwoHopKey, TwoHop>, N: Table<Addr4, Neighbour>, O: Table<Addr4, Lost>>(
     alloc: Global,
     two_hops: &[TwoHopSet<H>],
@@ -58,9 +59,12 @@ fn base_to_fill<H: Table<TwoHopKey, TwoHop>, N: Table<Addr4, Neighbour>, O: Tabl
     if is_full_of_addresses(alloc, neighbours, losts, telling.originator, listed)? {
         return Ok(Some(Base::Neighbours));
     }
+    let room = MOST_TWO_HOPS - count_on(two_hops, iface);
+    if hello.rows.len() <= room {
+        return Ok(None);
+    }
     let count = count_symmetric(alloc, hello, own, listed)?;
-    let held = count_on(two_hops, iface);
-    if count > MOST_TWO_HOPS - held {
+    if count > room {
         Ok(Some(Base::TwoHops))
     } else {
         Ok(None)
