@@ -1,20 +1,17 @@
-//! Whether a HELLO repeats what is held already, so that its taking changes nothing but moments.
+//! Whether what a HELLO tells of its link and its neighbour is held already, so that its taking changes nothing of them but moments.
 ghost use Rattle.std.specs.Prelude.{◌≡◌, ◌↔◌, ◌<◌, ◌&&◌, List, length, IsTrue};
 ghost use Rattle.mesh_atoms.specs.Base.{Base};
-ghost use Rattle.mesh_atoms.specs.HelloTold.{two_hop_of};
 ghost use Rattle.mesh_hello.specs.Told.Telling.{told_of};
 ghost use Rattle.mesh_nhdp.specs.NhdpState.{near_with};
-ghost use Rattle.mesh_nhdp.specs.Repeats.{Repeats, RepeatsLink, RepeatsNeighbour, RepeatsRow, RepeatsStatus};
+ghost use Rattle.mesh_nhdp.specs.Repeats.{Repeats, RepeatsLink, RepeatsNeighbour, RepeatsStatus};
 
-use crate::two_hop_rows::{or_else, tells_symmetric};
 use mesh_atoms::{
-    Addr4, HelloRow, Link, LinkKey, LinkStatus, Lost, Metric, Neighbour, Shown, TwoHop, TwoHopKey,
-    Willing,
+    Addr4, Link, LinkKey, LinkStatus, Lost, Metric, Neighbour, Shown, TwoHop, TwoHopKey, Willing,
 };
 use mesh_expire::Table;
 use mesh_hello::HelloInfo;
 use mesh_links::LinkSet;
-use mesh_nbrs::{NeighbourSet, TwoHopSet};
+use mesh_nbrs::NeighbourSet;
 
 /// Whether two metrics, which may be unknown, are the same.
 fn same_metric(metric: Option<Metric>, other: Option<Metric>) -> bool
@@ -56,34 +53,6 @@ fn repeats_status(link: &Link, shown: &Shown, now: u64) -> bool
                 || link.lost
                 || link.is_symmetric(now) && same_metric(link.link_out, shown.link_out)
         }
-    }
-}
-
-/// Whether the 2-hop tuple has the metrics that the row shows.
-fn repeats_metrics(tuple: &TwoHop, row: &HelloRow) -> bool
-    ensures { IsTrue result → tuple.now ≡ two_hop_of row.now }
-{
-    same_metric(
-        tuple.metric_in,
-        or_else(row.metrics.near_in, row.metrics.link_in),
-    ) && same_metric(
-        tuple.metric_out,
-        or_else(row.metrics.near_out, row.metrics.link_out),
-    )
-}
-
-/// Whether the 2-hop tuple of the row's address stands as the row makes it, but for its moment.
-pub fn repeats_row<H: Table<TwoHopKey, TwoHop>>(
-    two_hops: &TwoHopSet<H>,
-    link: LinkKey,
-    row: &HelloRow,
-) -> bool
-    ensures { IsTrue result → RepeatsRow two_hops.now link row.now }
-{
-    let addr = row.addr.addr;
-    match two_hops.table().get(&TwoHopKey { link, addr }) {
-        Some((tuple, _)) => tells_symmetric(row) && repeats_metrics(tuple, row),
-        None => !tells_symmetric(row),
     }
 }
 

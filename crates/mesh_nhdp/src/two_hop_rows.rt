@@ -11,7 +11,6 @@ ghost use Rattle.mesh_nhdp.specs.Repeats.{RepeatsRow, RepeatsRows};
 ghost use Rattle.mesh_hello.specs.Gathers.{Gathers};
 ghost use Rattle.mesh_nhdp.specs.Rows.{LooksOn, RowTells, TellsSymmetric};
 
-use crate::repeating::repeats_row;
 use mesh_atoms::{
     Addr4, Hello, HelloRow, LinkKey, LinkStatus, Metric, OtherStatus, TwoHop, TwoHopKey, contains,
 };
@@ -64,15 +63,13 @@ fn tell_row<H: Table<TwoHopKey, TwoHop>>(
         (record { link = link; addr = row.now.addr.addr }) (row_makes until row.now)) }
     ensures repeats { IfOk result (λ repeats. IsTrue repeats → RepeatsRow two_hops.old link row.now) }
 {
-    let repeats = repeats_row(two_hops, link, row);
     if tells_symmetric(row) {
         let metric_in = or_else(row.metrics.near_in, row.metrics.link_in);
         let metric_out = or_else(row.metrics.near_out, row.metrics.link_out);
-        two_hops.renew(link, row.addr.addr, metric_in, metric_out, until)?;
+        two_hops.renew(link, row.addr.addr, metric_in, metric_out, until)
     } else {
-        two_hops.drop_row(link, row.addr.addr);
+        Ok(!two_hops.drop_row(link, row.addr.addr))
     }
-    Ok(repeats)
 }
 
 /// The same, where the row tells of a neighbour of the sender; another repeats what was held.
