@@ -7,7 +7,7 @@ use Rattle.std.proofs.lemmas.Option.{slice_get_within, slice_get_read, slice_get
 use Rattle.mesh_trace.specs.machine.Traffic.{IsHeardFirst}
 use Rattle.mesh_trace.proofs.machine.Places.{same_at}
 use Rattle.mesh_replay.specs.declared.traffic.air.Delivered.{Delivered}
-use Rattle.mesh_replay.specs.Traffic.Air.{delivery_of, IsNextFrame}
+use Rattle.mesh_replay.specs.Traffic.Air.{delivery_of, IsNextFrame, AreNoEarlier}
 use Rattle.mesh_atoms.proofs.Lists.{item_at as stands}
 
 nowhere : (i : ℕ) → i < 0 → ⊥
@@ -25,6 +25,23 @@ least_of_none flights some = let (f, at) = stands flights 0 some in record {
 -- what stands there
 pub read_as : (flights : List Delivered) (count place : ℕ) (e : Delivered) → (h : IsNextFrame flights count place) → e ≡ get_or flights place e → h.flight ≡ e
 read_as flights count place e h is = same_at flights place h.flight e h.stands (slice_get_read flights (length flights) place e refl (slice_get_within flights place h.flight h.stands) is)
+
+-- reading at its place gives it
+pub read_there : (flights : List Delivered) (count place : ℕ) → (h : IsNextFrame flights count place) → get_or flights place h.flight ≡ h.flight
+read_there flights count place h =
+    same_at flights place (get_or flights place h.flight) h.flight (slice_get-get_or flights place h.flight (slice_get_within flights place h.flight h.stands)) h.stands
+
+-- the first of some that is heard no later than any of all is the first of all
+pub is_first_of_all : (least : ℕ) (flights : List Delivered) (count place : ℕ) → AreNoEarlier least flights → (h : IsNextFrame flights count place) → h.flight.moment ≤ least → IsNextFrame flights (length flights) place
+is_first_of_all least flights count place all h le = record {
+  flight = h.flight;
+  stands = h.stands;
+  no_earlier = λ i g there within.
+      let is : get_or flights i g ≡ g = same_at flights i (get_or flights i g) g (slice_get-get_or flights i g within) there in
+      let no : least ≤ g.moment = rw (← is) (all i g within) in
+      omega (arith, no, le);
+  later = h.later;
+}
 
 module _ (flights : List Delivered) (count place : ℕ) (f : Delivered) (at : slice_get flights count ≡ Some f) (h : IsNextFrame flights count place) where
   -- one more, which is earlier than all before it

@@ -5,6 +5,7 @@ ghost use Rattle.mesh_replay.specs.Traffic.Air.{delivery_of, IsNextFrame, AreNoE
 
 use mesh_atoms::Bytes;
 use std::alloc::{AllocError, Global};
+use std::collections::VecDeque;
 use std::marker::Model;
 use std::rc::Rc;
 
@@ -20,7 +21,7 @@ pub(crate) struct Delivered {
 /// The frames in the air, in order of sending and then arc; and a moment before which none of them is heard.
 #[derive(Drop)]
 pub(crate) struct AwaitedFrames {
-    flights: Vec<Delivered>,
+    flights: VecDeque<Delivered>,
     least: u64,
 }
 
@@ -42,7 +43,7 @@ impl AwaitedFrames {
         ensures { result ≡ [] }
     {
         AwaitedFrames {
-            flights: Vec::new(alloc),
+            flights: VecDeque::new(alloc),
             least: 0,
         }
     }
@@ -57,7 +58,7 @@ impl AwaitedFrames {
         ensures { OnOk result (self.new ≡ self.old ++ record { moment = moment; arc = arc; frame = frame.value } ∷ []) }
     {
         self.least = u64::min(self.least, moment);
-        self.flights.push(Delivered { moment, arc, frame })?;
+        self.flights.push_back(Delivered { moment, arc, frame })?;
         Ok(())
     }
 
@@ -75,22 +76,22 @@ impl AwaitedFrames {
         if self.least > limit {
             return None;
         }
-        Some(self.flights.remove(first))
+        self.flights.remove(first)
     }
 }
 
 // Where the frame stands that is heard first: of those of the least moment the first. None of them is heard before `least`.
-fn first_heard(flights: &Vec<Delivered>, least: u64) -> usize
+fn first_heard(flights: &VecDeque<Delivered>, least: u64) -> usize
     requires some { 0 < length flights.now.items }
     requires least { AreNoEarlier least flights.now.items }
     ensures { IsNextFrame flights.now.items (length flights.now.items) result }
 {
     let mut first = 0;
-    for (place, flight) in flights.iter().enumerate() {
+    for place in 0..flights.len() {
         if flights[first].moment <= least {
             return first;
         }
-        if flight.moment < flights[first].moment {
+        if flights[place].moment < flights[first].moment {
             first = place;
         }
     }

@@ -1,9 +1,11 @@
-use Rattle.std.proofs.Common.{◌≡◌, length, List, map, subst, sym}
+use Rattle.std.proofs.Common.{◌≡◌, ◌∙◌, ap, refl, length, List, map, subst, sym, Option, Some}
+use Rattle.std.specs.Prelude.{OnSome}
+use Rattle.std.specs.List.{remove}
 use Rattle.std.proofs.lemmas.Option.{slice_get_within}
 use Rattle.mesh_trace.specs.machine.Traffic.{IsHeardFirst}
 use Rattle.mesh_replay.specs.declared.traffic.air.Delivered.{Delivered}
 use Rattle.mesh_replay.specs.Traffic.Air.{delivery_of}
-use Rattle.mesh_replay.proofs.TrafficLemmas.Hearing.{read_as, heard_first, all_later}
+use Rattle.mesh_replay.proofs.TrafficLemmas.Hearing.{read_as, read_there, heard_first, all_later}
 use Rattle.mesh_replay.proofs.traffic.air.AwaitedFrames.take.Goals as goal
 
 pub returns-then-self-limit-clause-limit : goal.returns-then-self-limit-clause-limit
@@ -13,16 +15,12 @@ returns-then-self-limit-clause-limit c =
     let is : least.flight ≡ c.index.result.now = read_as flights (length flights) c.first_heard-first.result c.index.result.now least c.index.ensures in
     rw (← c.self.view_is) (all_later c.args.limit flights c.first_heard-first.result least (rw is c.if-self-limit.true))
 
-pub remove-requires : goal.remove-requires
-remove-requires c =
-    let least = c.first_heard-first.ensures in
-    let within = slice_get_within c.self.inside.flights.items c.first_heard-first.result least.flight least.stands in
-    rw c.self.inside.flights.ok.0 within
-
 pub returns-clause-first : goal.returns-clause-first
 returns-clause-first c =
     let flights : List Delivered = c.self.inside.flights.items in
+    let first = c.first_heard-first.result in
     let least = c.first_heard-first.ensures in
-    let is : least.flight ≡ c.remove.result = read_as flights (length flights) c.first_heard-first.result c.remove.result least c.remove.ensures.value in
-    subst (λ (l : List Delivered). IsHeardFirst c.args.self.now (delivery_of c.remove.result) (map delivery_of l)) (sym c.remove.ensures.items)
-    (rw (← c.self.view_is) (heard_first flights c.first_heard-first.result c.remove.result least (sym is)))
+    let is : c.remove.result ≡ Some least.flight =
+    c.remove.ensures.succeeds least.flight (rw c.self.inside.flights.ok.0 (slice_get_within flights first least.flight least.stands)) ∙ ap (λ (f : Delivered). Some f) (read_there flights (length flights) first least) in
+    let left : c.remove.new.self.items ≡ remove flights first = subst (λ (r : Option Delivered). OnSome r (c.remove.new.self.items ≡ remove flights first)) is c.remove.ensures.items in
+    rw is (subst (λ (l : List Delivered). IsHeardFirst c.args.self.now (delivery_of least.flight) (map delivery_of l)) (sym left) (rw (← c.self.view_is) (heard_first flights first least.flight least refl)))
