@@ -1,6 +1,6 @@
 -- The events of a network, put together.
 use Rattle.std.proofs.Common.{◌≡◌, ℕ, ◌+◌, ◌<◌, ◌≤◌, ◌∙◌, List, refl, sym, length, map, arith, subst, All, Option, Some, None, Result, Ok, Err, Bool, true, false, is_err, IfOk}
-use Rattle.std.specs.Prelude.{min, slice_get, slice_set, IfSome, MatchOption}
+use Rattle.std.specs.Prelude.{min, slice_get, slice_set, IfSome, MatchOption, option_map}
 use Rattle.std.proofs.lemmas.List.Elements.{All-weaker}
 use Rattle.std.proofs.lemmas.Option.{slice_get_within}
 use Rattle.std.proofs.lemmas.Result.{IfOk-weaker}
@@ -18,11 +18,13 @@ use Rattle.mesh_machine.specs.Traffic.{Traffic, Delivery, IsHeardFirst, SendsAll
 use Rattle.mesh_radio.specs.Traffic.Traffic.{traffic_of}
 use Rattle.mesh_machine.proofs.Places.{same_at, all_turned}
 use Rattle.mesh_atoms.specs.declared.network.NetEvent.{NetEvent}
+use Rattle.mesh_radio.specs.declared.occurrences.Occurrence.{Occurrence}
 use Rattle.mesh_radio.specs.declared.scene.Due.{Due}
 use Rattle.mesh_radio.specs.declared.scene.Scene.{Scene}
 use Rattle.mesh_radio.specs.declared.scene.Tick.{Tick}
 use Rattle.mesh_machine.specs.Net.{NetState, NetStep, By_delivery, By_tick, By_last_tick, IsFirstDue, IsSender, TicksNext, HasOnlyLastTicks, Moves, Delivers, TicksDue, TicksLast, event_of, frames_of}
 use Rattle.mesh_machine.specs.NetRun.{IsOver, IsOfScenario, IsOfPackets}
+use Rattle.mesh_radio.specs.Occurrences.{net_event_of}
 use Rattle.mesh_radio.specs.Scene.{IsSound, AreRouterStates, HadLastTicks, KeepsDue, IsAfterTick, Lands, TicksOne, Stepped, Happens, IsFlying, IsLeft, IsAirQuiet, IsNextTick, Due_first, At_end, HasNoTick, AllStays, TellsEvent, net_of}
 use Rattle.mesh_radio.proofs.Arcs.{arc_ends}
 use Rattle.mesh_machine.proofs.Sent.{first_and_others, others_later, sent_lost}
@@ -146,8 +148,8 @@ module _ (s : Scenario) (until : ℕ) (old new : List State) (event : NetEvent) 
 -- what is told where a router has heard a frame
 pub lands : (until : ℕ) (s : Scenario) (old new : List State) (d : Delivery) (arc : RadioArc) (sender : Addr4) (frames : List Frame) (sent : List Emission) (before then : Traffic) → slice_get s.arcs d.arc ≡ Some arc → IsSender s.routers arc sender →
     Stepped until old new arc.to d.moment (Hear (record { now = d.moment; iface = arc.to_iface; sender = sender }) d.frame) frames KeepsDue → map frame_of sent ≡ frames → SendsAll s d.moment arc.to sent (with_heard before before.air) then →
-    (event : NetEvent) → event ≡ record { moment = d.moment; router = arc.to; heard = Some (arc.to_iface, sender, d.frame); sent = sent } → Lands until s old new d event before then
-lands until s old new d arc sender frames sent before then arc_is sender_is stepped are sends event is = subst (λ (e : NetEvent). Lands until s old new d e before then) (sym is) (record {
+    Lands until s old new d (record { moment = d.moment; router = arc.to; heard = Some (arc.to_iface, sender, d.frame); sent = sent }) before then
+lands until s old new d arc sender frames sent before then arc_is sender_is stepped are sends = record {
   arc = arc;
   sender = sender;
   arc_is = arc_is;
@@ -157,7 +159,7 @@ lands until s old new d arc sender frames sent before then arc_is sender_is step
   heard = refl;
   stepped = subst (λ (fs : List Frame). Stepped until old new arc.to d.moment (Hear (record { now = d.moment; iface = arc.to_iface; sender = sender }) d.frame) fs KeepsDue) (sym are) stepped;
   sends = sends;
-})
+}
 
 -- the network after it
 pub hears_next : (until : ℕ) (s : Scene) (old new : List State) (d : Delivery) (others : List Delivery) (event : NetEvent) (outbox : List Frame) (then : Kept) → IsSound old s → IsHeardFirst s.traffic.air d others →
@@ -282,10 +284,11 @@ module _ (s : Scene) (old : List State) (sound : IsSound old s) (quiet : IsAirQu
 -- What is told of a network after its next event, if there is one
 
 -- where it stayed as it was before
-pub told_since : {E : Type 0} (until : ℕ) (old mid new : List State) (before between after : Scene) (r : Result (Option NetEvent) E) → AllStays old before mid between →
-    IfOk r (TellsEvent until mid between new after) → IfOk r (TellsEvent until old before new after)
+pub told_since : {E : Type 0} (until : ℕ) (old mid new : List State) (before between after : Scene) (r : Result (Option Occurrence) E) → AllStays old before mid between →
+    IfOk r (λ e. TellsEvent until mid between new after (option_map net_event_of e)) → IfOk r (λ e. TellsEvent until old before new after (option_map net_event_of e))
 told_since until old mid new before between after r stays told =
-    subst (λ (states : List State). IfOk r (TellsEvent until states before new after)) stays.routers (subst (λ (s : Scene). IfOk r (TellsEvent until mid s new after)) stays.scene told)
+    subst (λ (states : List State). IfOk r (λ e. TellsEvent until states before new after (option_map net_event_of e))) stays.routers
+    (subst (λ (s : Scene). IfOk r (λ e. TellsEvent until mid s new after (option_map net_event_of e))) stays.scene told)
 
 -- and is sound
 pub sound_since : (old mid : List State) (before between : Scene) → AllStays old before mid between → IsSound old before → IsSound mid between

@@ -1,3 +1,4 @@
+pub mod Occurrences
 pub mod Opening
 pub mod Scene
 pub mod Traffic

@@ -1,18 +1,18 @@
 //! The events of a network: a frame is heard, or a router ticks.
-ghost use Rattle.std.specs.Prelude.{◌≡◌, ◌<◌, ◌≤◌, length, map, Some, IfOk, OnOk};
+ghost use Rattle.std.specs.Prelude.{◌≡◌, ◌<◌, ◌≤◌, length, map, IfOk, OnOk};
 ghost use Rattle.mesh_atoms.specs.Settings.{one_hour};
+ghost use Rattle.mesh_radio.specs.Occurrences.{net_event_of};
 ghost use Rattle.mesh_radio.specs.Traffic.Air.{delivery_of};
 ghost use Rattle.mesh_radio.specs.Scene.{AreRouterStates, Lands, SendsAlone, TicksOne};
 ghost use Rattle.mesh_radio.specs.Traffic.Traffic.{traffic_of};
 ghost use Rattle.mesh_radio.specs.Traffic.Ways.{AreArcsOut};
 
+use crate::occurrences::Occurrence;
 use crate::routers::{hear, sender_of, tick};
 use crate::scene::Scene;
 use crate::traffic::{ArrivedFrame, send_all};
-use mesh_atoms::{Addr4, Bytes, Emission, NetEvent, RadioArc, Seq};
-use mesh_core::{NetworkRouter, TypedFrame};
+use mesh_core::NetworkRouter;
 use std::alloc::{AllocError, Global};
-use std::rc::Rc;
 
 /// A frame is heard by the router to which its arc leads, and what that sends goes into the air.
 pub(crate) fn land<R: NetworkRouter>(
@@ -21,14 +21,15 @@ pub(crate) fn land<R: NetworkRouter>(
     routers: &mut Vec<R>,
     scene: &mut Scene,
     landed: ArrivedFrame,
-) -> Result<NetEvent, AllocError>
+) -> Result<Occurrence, AllocError>
     requires ways { AreArcsOut scene.old.scenario.arcs scene.old.scenario.routers (length scene.old.scenario.routers) scene.old.ways }
     requires routers { AreRouterStates scene.old.scenario landed.moment (map R.state routers.old.items) }
     requires seed { scene.old.traffic.draws.seed ≡ scene.old.scenario.seed }
     requires early { landed.moment ≤ one_hour }
     requires arc { landed.arc < length scene.old.scenario.arcs }
-    ensures lands { IfOk result (λ event. Lands until scene.old.scenario (map R.state routers.old.items) (map R.state routers.new.items)
-        (delivery_of landed) event (traffic_of scene.old.traffic) (traffic_of scene.new.traffic)) }
+    ensures lands { IfOk result (λ occurrence. Lands until scene.old.scenario
+        (map R.state routers.old.items) (map R.state routers.new.items) (delivery_of landed) (net_event_of occurrence)
+        (traffic_of scene.old.traffic) (traffic_of scene.new.traffic)) }
     ensures seed { OnOk result (scene.new.traffic.draws.seed ≡ scene.old.traffic.draws.seed) }
     ensures scene { OnOk result (SendsAlone scene.old scene.new) }
 {
@@ -46,7 +47,12 @@ pub(crate) fn land<R: NetworkRouter>(
         &scene.outbox,
         &mut scene.traffic,
     )?;
-    told(landed, &arc, sender, sent)
+    Ok(Occurrence {
+        moment: now,
+        router: arc.to,
+        heard: Some((arc.to_iface, sender, landed.frame)),
+        sent,
+    })
 }
 
 /// A router ticks, and what it sends goes into the air.
@@ -57,14 +63,15 @@ pub(crate) fn tick_one<R: NetworkRouter>(
     scene: &mut Scene,
     router: usize,
     now: u64,
-) -> Result<NetEvent, AllocError>
+) -> Result<Occurrence, AllocError>
     requires ways { AreArcsOut scene.old.scenario.arcs scene.old.scenario.routers (length scene.old.scenario.routers) scene.old.ways }
     requires routers { AreRouterStates scene.old.scenario now (map R.state routers.old.items) }
     requires seed { scene.old.traffic.draws.seed ≡ scene.old.scenario.seed }
     requires early { now ≤ one_hour }
     requires router { router < length scene.old.scenario.routers }
-    ensures ticks { IfOk result (λ event. TicksOne until scene.old.scenario (map R.state routers.old.items) (map R.state routers.new.items)
-        router now event (traffic_of scene.old.traffic) (traffic_of scene.new.traffic)) }
+    ensures ticks { IfOk result (λ occurrence. TicksOne until scene.old.scenario
+        (map R.state routers.old.items) (map R.state routers.new.items) router now (net_event_of occurrence)
+        (traffic_of scene.old.traffic) (traffic_of scene.new.traffic)) }
     ensures seed { OnOk result (scene.new.traffic.draws.seed ≡ scene.old.traffic.draws.seed) }
     ensures scene { OnOk result (SendsAlone scene.old scene.new) }
 {
@@ -78,39 +85,10 @@ pub(crate) fn tick_one<R: NetworkRouter>(
         &scene.outbox,
         &mut scene.traffic,
     )?;
-    Ok(NetEvent {
+    Ok(Occurrence {
         moment: now,
         router,
         heard: None,
         sent,
     })
-}
-
-/// The event at which a frame is heard that comes by an arc from a sender.
-fn told(
-    landed: ArrivedFrame,
-    arc: &RadioArc,
-    sender: Addr4,
-    sent: Seq<Emission>,
-) -> Result<NetEvent, AllocError>
-    ensures { IfOk result (λ event. event ≡ record { moment = landed.moment; router = arc.now.to; heard = Some (arc.now.to_iface, sender, landed.frame.value); sent = sent }) }
-{
-    let now = landed.moment;
-    let frame = octets_of(landed.frame)?;
-    Ok(NetEvent {
-        moment: now,
-        router: arc.to,
-        heard: Some((arc.to_iface, sender, frame)),
-        sent,
-    })
-}
-
-/// The octets that are shared: themselves, where nobody else has a share, else a copy.
-fn octets_of(frame: Rc<TypedFrame>) -> Result<Bytes, AllocError>
-    ensures { IfOk result (λ bytes. bytes ≡ frame.value) }
-{
-    match Rc::try_unwrap(frame) {
-        Ok(frame) => Ok(frame.into_octets()),
-        Err(shared) => shared.as_ref().octets().copy(),
-    }
 }

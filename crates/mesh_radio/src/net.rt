@@ -8,7 +8,7 @@ ghost use Rattle.mesh_radio.specs.Value.{states_of};
 use crate::deferring::run_to_end;
 use crate::opening::{Opening, opening_of};
 use crate::scene::Scene;
-use crate::step::next_event;
+use crate::step::tell_next;
 use mesh_atoms::{Counts, NetEvent, Scenario};
 use mesh_core::Core;
 use mesh_expire::Bases;
@@ -86,7 +86,7 @@ impl<B: Bases> Net<B> {
         if self.spent {
             return Err(AllocError);
         }
-        let came = next_event(self.alloc, 0, &mut self.cores, &mut self.scene);
+        let came = tell_next(self.alloc, &mut self.cores, &mut self.scene);
         self.spent = came.is_err();
         came
     }

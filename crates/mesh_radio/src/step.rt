@@ -1,13 +1,34 @@
 //! The next event of a network.
-ghost use Rattle.std.specs.Prelude.{map, IfOk, MatchOption};
+ghost use Rattle.std.specs.Prelude.{map, IfOk, MatchOption, option_map};
+ghost use Rattle.mesh_radio.specs.Occurrences.{net_event_of};
 ghost use Rattle.mesh_radio.specs.Scene.{Happens, HasNoTick, IsNextTick, IsAirQuiet, IsSound, AllStays, TellsEvent};
 
 use crate::events::{land, tick_one};
+use crate::occurrences::{Occurrence, event_told};
 use crate::routers::first_due;
 use crate::scene::{Scene, Tick};
 use mesh_atoms::NetEvent;
 use mesh_core::NetworkRouter;
 use std::alloc::{AllocError, Global};
+
+/// Does the next event, in which no router puts anything off, and tells it with octets; `None` where none is left.
+pub(crate) fn tell_next<R: NetworkRouter>(
+    alloc: Global,
+    routers: &mut Vec<R>,
+    scene: &mut Scene,
+) -> Result<Option<NetEvent>, AllocError>
+    requires sound { IsSound (map R.state routers.old.items) scene.old }
+    ensures { IfOk result (TellsEvent 0 (map R.state routers.old.items) scene.old (map R.state routers.new.items) scene.new) }
+{
+    let came = next_event(alloc, 0, routers, scene)?;
+    match came {
+        Some(occurrence) => {
+            let event = event_told(alloc, occurrence)?;
+            Ok(Some(event))
+        }
+        None => Ok(None),
+    }
+}
 
 /// Does the next event, and tells it; `None` where none is left. From the moment `until` on no router puts anything off.
 pub(crate) fn next_event<R: NetworkRouter>(
@@ -15,9 +36,10 @@ pub(crate) fn next_event<R: NetworkRouter>(
     until: u64,
     routers: &mut Vec<R>,
     scene: &mut Scene,
-) -> Result<Option<NetEvent>, AllocError>
+) -> Result<Option<Occurrence>, AllocError>
     requires sound { IsSound (map R.state routers.old.items) scene.old }
-    ensures { IfOk result (TellsEvent until (map R.state routers.old.items) scene.old (map R.state routers.new.items) scene.new) }
+    ensures { IfOk result (λ e. TellsEvent until (map R.state routers.old.items) scene.old (map R.state routers.new.items) scene.new
+        (option_map net_event_of e)) }
 {
     let heard = hear_next(alloc, until, routers, scene)?;
     match heard {
@@ -32,10 +54,11 @@ fn hear_next<R: NetworkRouter>(
     until: u64,
     routers: &mut Vec<R>,
     scene: &mut Scene,
-) -> Result<Option<NetEvent>, AllocError>
+) -> Result<Option<Occurrence>, AllocError>
     requires sound { IsSound (map R.state routers.old.items) scene.old }
     ensures { IfOk result (λ e. MatchOption e (AllStays (map R.state routers.old.items) scene.old (map R.state routers.new.items) scene.new)
-        (λ event. Happens until (map R.state routers.old.items) scene.old event (map R.state routers.new.items) scene.new)) }
+        (λ occurrence. Happens until (map R.state routers.old.items) scene.old (net_event_of occurrence) (map R.state routers.new.items)
+        scene.new)) }
 {
     let limit = u64::min(scene.due.moment, scene.scenario.end);
     let Some(landed) = scene.traffic.air.take(limit) else {
@@ -53,10 +76,11 @@ fn tick_next<R: NetworkRouter>(
     until: u64,
     routers: &mut Vec<R>,
     scene: &mut Scene,
-) -> Result<Option<NetEvent>, AllocError>
+) -> Result<Option<Occurrence>, AllocError>
     requires sound { IsSound (map R.state routers.old.items) scene.old }
     requires quiet { IsAirQuiet scene.old }
-    ensures { IfOk result (TellsEvent until (map R.state routers.old.items) scene.old (map R.state routers.new.items) scene.new) }
+    ensures { IfOk result (λ e. TellsEvent until (map R.state routers.old.items) scene.old (map R.state routers.new.items) scene.new
+        (option_map net_event_of e)) }
 {
     let Some(tick) = next_tick(scene) else {
         return Ok(None);

@@ -7,5 +7,6 @@ mod ways;
 
 pub use crate::traffic::air::{ArrivedFrame, FramesInAir};
 pub use crate::traffic::draws::{Draws, words_of};
-pub use crate::traffic::traffic::{RadioTraffic, send_all};
+pub use crate::traffic::traffic::RadioTraffic;
+pub(crate) use crate::traffic::traffic::send_all;
 pub use crate::traffic::ways::{ArcsOut, ways_of};

@@ -8,6 +8,8 @@ use Rattle.mesh_atoms.specs.declared.settings.Scenario.{Scenario}
 use Rattle.mesh_machine.specs.declared.frame.Frame.{Frame}
 use Rattle.mesh_atoms.specs.declared.network.Emission.{Emission}
 use Rattle.mesh_machine.specs.Traffic.{Traffic, Sends, SendsAll, frame_of}
+use Rattle.mesh_radio.specs.declared.occurrences.SentFrame.{SentFrame}
+use Rattle.mesh_radio.specs.Occurrences.{emission_of}
 
 -- whatever is sent from here on, the whole is sent
 abbrev pub SendsOn : Scenario → ℕ → ℕ → List Emission → Traffic → Traffic → Type 0
@@ -18,6 +20,14 @@ pub record Sending (s : Scenario) (now x : ℕ) (frames : List Frame) (at : ℕ)
   pub goes : SendsOn s now x sent start here
   pub are : map frame_of sent ≡ take at frames
   pub seeded : seed ≡ s.seed
+
+-- one frame more, as what is told of it
+pub sent_more : (made more : List SentFrame) (one : SentFrame) → more ≡ made ++ one ∷ [] → map emission_of more ≡ map emission_of made ++ emission_of one ∷ []
+sent_more made more one is = rw is (map-append emission_of made (one ∷ []))
+
+-- one told emission more
+pub one_told : (taken : List SentFrame) (told more : List Emission) (one : SentFrame) (e : Emission) → e ≡ emission_of one → more ≡ told ++ e ∷ [] → told ≡ map emission_of taken → more ≡ map emission_of (taken ++ one ∷ [])
+one_told taken told more one e same is all = rw (is, all, same) (sym (map-append emission_of taken (one ∷ [])))
 
 pub one_sent : (s : Scenario) (now x : ℕ) (sent : List Emission) (start here there : Traffic) (e : Emission) → Sends s now x e here there → SendsOn s now x sent start here → SendsOn s now x (sent ++ e ∷ []) start there
 one_sent s now x sent start here there e sends goes more new rest = rw (append_assoc sent (e ∷ []) more) (goes (e ∷ more) new (there, sends, rest))

@@ -4,13 +4,15 @@ ghost use Rattle.mesh_atoms.specs.Settings.{one_hour};
 ghost use Rattle.mesh_atoms.specs.declared.settings.RouterSettings.{RouterSettings};
 ghost use Rattle.mesh_machine.specs.Sendable.{IsSendable};
 ghost use Rattle.mesh_machine.specs.Traffic.{IsLossy, IsLost, Spreads, Sends, SendsAll, frame_of, next_count};
+ghost use Rattle.mesh_radio.specs.Occurrences.{emission_of};
 ghost use Rattle.mesh_radio.specs.Traffic.Traffic.{traffic_of};
 ghost use Rattle.mesh_radio.specs.Traffic.Ways.{AreArcsOut};
 
+use crate::occurrences::SentFrame;
 use crate::traffic::air::FramesInAir;
 use crate::traffic::draws::Draws;
 use crate::traffic::ways::{ArcsOut, leaving_of};
-use mesh_atoms::{Bytes, Counts, Emission, RadioArc, Scenario, Seq};
+use mesh_atoms::{Bytes, Counts, RadioArc, Scenario, Seq};
 use mesh_core::{Outbox, TypedFrame};
 use std::alloc::{AllocError, Global};
 use std::rc::Rc;
@@ -24,7 +26,7 @@ pub struct RadioTraffic {
 }
 
 /// Sends what is in an outbox, in order.
-pub fn send_all(
+pub(crate) fn send_all(
     alloc: Global,
     scenario: &Scenario,
     ways: &Seq<Seq<ArcsOut>>,
@@ -32,16 +34,17 @@ pub fn send_all(
     router: usize,
     outbox: &Outbox,
     traffic: &mut RadioTraffic,
-) -> Result<Seq<Emission>, AllocError>
+) -> Result<Vec<SentFrame>, AllocError>
     requires ways { AreArcsOut scenario.now.arcs scenario.now.routers (length scenario.now.routers) ways.now }
     requires sendable { (settings : RouterSettings) × (slice_get scenario.now.routers router ≡ Some settings) × All (IsSendable settings) outbox.now }
     requires seed { traffic.old.draws.seed ≡ scenario.now.seed }
     requires early { now ≤ one_hour }
-    ensures frames { IfOk result (λ sent. map frame_of sent ≡ outbox.now) }
-    ensures sends { IfOk result (λ sent. SendsAll scenario.now now router sent (traffic_of traffic.old) (traffic_of traffic.new)) }
+    ensures frames { IfOk result (λ sent. map frame_of (map emission_of sent.items) ≡ outbox.now) }
+    ensures sends { IfOk result (λ sent. SendsAll scenario.now now router (map emission_of sent.items)
+        (traffic_of traffic.old) (traffic_of traffic.new)) }
     ensures seed { OnOk result (traffic.new.draws.seed ≡ traffic.old.draws.seed) }
 {
-    let mut sent = Seq::new(alloc);
+    let mut sent = Vec::new(alloc);
     for i in 0..outbox.len() {
         let Some((iface, frame)) = outbox.frame(i) else {
             break;
@@ -61,22 +64,23 @@ fn send(
     iface: usize,
     frame: &[u8],
     traffic: &mut RadioTraffic,
-) -> Result<Emission, AllocError>
+) -> Result<SentFrame, AllocError>
     requires ways { AreArcsOut scenario.now.arcs scenario.now.routers (length scenario.now.routers) ways.now }
     requires face { (settings : RouterSettings) × (slice_get scenario.now.routers router ≡ Some settings) × (iface < length settings.interfaces) }
     requires seed { traffic.old.draws.seed ≡ scenario.now.seed }
     requires early { now ≤ one_hour }
-    ensures frame { IfOk result (λ e. frame_of e ≡ record { iface = iface; bytes = frame.now }) }
-    ensures sends { IfOk result (λ e. Sends scenario.now now router e (traffic_of traffic.old) (traffic_of traffic.new)) }
+    ensures frame { IfOk result (λ sent. frame_of (emission_of sent) ≡ record { iface = iface; bytes = frame.now }) }
+    ensures sends { IfOk result (λ sent. Sends scenario.now now router (emission_of sent)
+        (traffic_of traffic.old) (traffic_of traffic.new)) }
     ensures seed { OnOk result (traffic.new.draws.seed ≡ traffic.old.draws.seed) }
 {
     traffic.counts.sent = traffic.counts.sent.wrapping_add(1);
     let arcs = leaving_of(scenario, ways, router, iface);
     let shared = Rc::new(alloc, TypedFrame::new(alloc, bytes_of(alloc, frame)?)?)?;
     let lost = spread(alloc, scenario, now, &shared, arcs, traffic)?;
-    Ok(Emission {
+    Ok(SentFrame {
         iface,
-        frame: bytes_of(alloc, frame)?,
+        frame: shared,
         lost,
     })
 }

@@ -1,5 +1,5 @@
 use Rattle.std.proofs.Common.{map}
-use Rattle.std.proofs.lemmas.Result.{IfOk-weaker}
+use Rattle.mesh_radio.specs.Occurrences.{emission_of}
 use Rattle.mesh_radio.specs.Traffic.Air.{delivery_of}
 use Rattle.mesh_radio.specs.Traffic.Traffic.{traffic_of}
 use Rattle.mesh_radio.proofs.Arcs.{arc_ends}
@@ -37,7 +37,5 @@ returns-clause-lands g c =
     let scenario = c.args.scene.now.scenario in
     let arc = c.index-as_slice-landed.result in
     let state = g.R.NetworkRouter.state in
-    IfOk-weaker c.told.result _ _
-    (lands c.args.until scenario (map state c.args.routers.now.items) (map state c.hear.new.routers.items) (delivery_of c.args.landed) arc c.sender_of-sender.result c.hear.new.outbox c.in_ok-sent.sent (traffic_of c.args.scene.now.traffic) (traffic_of c.send_all.new.traffic)
-    (item_at scenario.arcs c.as_slice.result.now c.args.landed.arc arc c.as_slice.ensures c.requires.arc c.index-as_slice-landed.is) c.sender_of-sender.ensures c.in_ok-hear.ensures c.in_ok-sent.ensures.frames c.in_ok-sent.ensures.sends)
-    c.told.ensures
+    lands c.args.until scenario (map state c.args.routers.now.items) (map state c.hear.new.routers.items) (delivery_of c.args.landed) arc c.sender_of-sender.result c.hear.new.outbox (map emission_of c.in_ok-sent.sent.items) (traffic_of c.args.scene.now.traffic) (traffic_of c.send_all.new.traffic)
+    (item_at scenario.arcs c.as_slice.result.now c.args.landed.arc arc c.as_slice.ensures c.requires.arc c.index-as_slice-landed.is) c.sender_of-sender.ensures c.in_ok-hear.ensures c.in_ok-sent.ensures.frames c.in_ok-sent.ensures.sends

@@ -1,5 +1,6 @@
 use Rattle.std.proofs.Common.{◌≤◌, map, subst, sym}
 use Rattle.std.specs.Prelude.{min}
+use Rattle.mesh_radio.specs.Occurrences.{net_event_of}
 use Rattle.mesh_radio.specs.Traffic.Air.{delivery_of}
 use Rattle.mesh_radio.specs.declared.scene.Scene.{Scene}
 use Rattle.mesh_radio.specs.Scene.{Happens, IsFlying}
@@ -33,7 +34,7 @@ returns g c =
     let soon : d.moment ≤ min s.due.moment s.scenario.end = rw (← c.min-limit.ensures) c.in-Some.ensures.limit in
     let old = map state c.args.routers.now.items in
     let new = map state c.land.new.routers.items in
-    let event = c.in_ok-event.event in
+    let event = net_event_of c.in_ok-event.event in
     let after = c.land.new.scene in
     subst (λ (t : Scene). Happens c.args.until old s event new (record t { now = d.moment })) (sym c.in_ok-event.ensures.scene)
     (hears_next c.args.until s old new d c.take.new.self event after.outbox after.traffic c.requires.sound c.in-Some.ensures.first soon c.in_ok-event.ensures.lands c.in_ok-event.ensures.seed)

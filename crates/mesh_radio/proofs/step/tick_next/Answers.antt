@@ -2,6 +2,7 @@ use Rattle.std.proofs.Common.{arith, map, subst, sym}
 use Rattle.std.proofs.lemmas.List.{length-map}
 use Rattle.std.proofs.lemmas.Option.{slice_get_within}
 use Rattle.mesh_radio.specs.declared.scene.Scene.{Scene}
+use Rattle.mesh_radio.specs.Occurrences.{net_event_of}
 use Rattle.mesh_radio.specs.Scene.{Happens}
 use Rattle.mesh_radio.proofs.Happenings.{tick_within, tick_in_time, tick_later, ticks_next, nothing_left}
 use Rattle.mesh_radio.proofs.Soundness.{later_routers, same_count}
@@ -36,7 +37,7 @@ returns g c =
     let s = c.args.scene.now in
     let old = map state c.args.routers.now.items in
     let new = map state c.tick_one.new.routers.items in
-    let event = c.in_ok-event.event in
+    let event = net_event_of c.in_ok-event.event in
     let tick = c.in-Some.tick in
     let after = c.tick_one.new.scene in
     let due = c.first_due-scene.result in

@@ -5,7 +5,7 @@ use Rattle.std.proofs.lemmas.Option.{slice_get_within, get_or_from_slice_get}
 use Rattle.mesh_machine.specs.declared.frame.Frame.{Frame}
 use Rattle.mesh_machine.specs.Sendable.{IsSendable}
 use Rattle.mesh_machine.proofs.Places.{none_past}
-use Rattle.mesh_radio.proofs.TrafficLemmas.Sending.{one_sent, one_taken, all_sent}
+use Rattle.mesh_radio.proofs.TrafficLemmas.Sending.{sent_more, one_sent, one_taken, all_sent}
 use Rattle.mesh_radio.proofs.traffic.traffic.send_all.Goals as goal
 use Rattle.mesh_radio.proofs.traffic.traffic.send_all.Goals.{else-loop-i-test, then-loop-i-test+in_default}
 
@@ -13,8 +13,8 @@ pub loop-i-preserved : goal.loop-i-preserved
 loop-i-preserved c =
     let frame : Frame = record { iface = c.in-Some.iface; bytes = c.in-Some.frame.now } in
     record {
-      goes = rw c.in_ok-push.ensures.ok (one_sent _ _ _ _ _ _ _ _ c.in_ok-send.ensures.sends c.loop-i.invariant.goes);
-      are = rw c.in_ok-push.ensures.ok (one_taken c.args.outbox.now c.loop-i.i _ frame _ (sym c.in-Some.ensures) c.in_ok-send.ensures.frame c.loop-i.invariant.are);
+      goes = rw (sent_more _ _ _ c.in_ok-push.ensures.items) (one_sent _ _ _ _ _ _ _ _ c.in_ok-send.ensures.sends c.loop-i.invariant.goes);
+      are = rw (sent_more _ _ _ c.in_ok-push.ensures.items) (one_taken c.args.outbox.now c.loop-i.i _ frame _ (sym c.in-Some.ensures) c.in_ok-send.ensures.frame c.loop-i.invariant.are);
       seeded = c.in_ok-send.ensures.seed ∙ c.loop-i.invariant.seeded;
     }
 
