@@ -3,7 +3,7 @@ ghost use Rattle.std.specs.Prelude.{◌<◌};
 
 use crate::codes::codes::rounded_up;
 
-/// A link metric by its 12-bit code; the cost that the code stands for, by this project's reading, is 1 to 16,776,960. A
+/// A link metric by its 12-bit code; the cost that the code stands for (RFC 7181, section 6.2) is 1 to 16,776,960. A
 /// greater code stands for a greater cost.
 #[derive(Clone, Copy, PartialEq, Eq, PartialOrd, Ord)]
 pub struct Metric {
