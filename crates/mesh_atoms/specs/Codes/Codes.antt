@@ -2,7 +2,7 @@
 use Rattle.std.specs.Prelude.{ℕ, ◌+◌, ◌-◌, ◌*◌, ◌/◌, ◌%◌, ◌^◌, ◌<◌, ◌≤◌, ◌⊎◌, List, [], ◌∷◌, ◌==◌, nat_lt, if◌then◌else◌}
 use Rattle.mesh_atoms.specs.declared.codes.metric.Metric.{Metric}
 
--- the cost that a metric code stands for, by this project's reading
+-- the cost that a metric code stands for (RFC 7181, section 6.2)
 abbrev pub cost_of : ℕ → ℕ
 cost_of code = (257 + code % 256) * 2 ^ (code / 256) - 256
 
