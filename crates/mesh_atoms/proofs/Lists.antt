@@ -1,10 +1,15 @@
 -- Elements of lists.
+use Rattle.mesh_atoms.proofs.Options.{not_both}
 use Rattle.mesh_atoms.specs.Settings.{are_distinct}
 use Rattle.std.proofs.Common.{Bool, Contains, List, Some, [], ap, append_assoc, arith, cond, false, filter, get_or, inl, inr, length, length-append, map, refl, slice_get, subst, suc, sym, true, zero, ℕ, ◌++◌, ◌+◌, ◌<◌, ◌∙◌, ◌∷◌, ◌≡◌, ◌≤◌, ◌⊎◌}
 use Rattle.std.proofs.lemmas.Bool.{and_parts}
 use Rattle.std.proofs.lemmas.List.{get_or-map, length-map}
 use Rattle.std.proofs.lemmas.List.Elements.{All-contains, All-contains_itself, All-filter, Contains-append_cases, Contains-append_left, Contains-append_right, filter_passes}
+use Rattle.std.proofs.lemmas.List.Folds.{list_any-append}
+use Rattle.std.proofs.lemmas.List.Kept.{AllPairs-cons}
+use Rattle.std.proofs.lemmas.Map.Views.{list_any-from_Contains}
 use Rattle.std.proofs.lemmas.Option.{get_or_from_slice_get, slice_get-get_or, slice_get_read, slice_get_within}
+use Rattle.std.specs.Cmp.{IsEquivalence}
 use Rattle.std.specs.List.{AllPairs, flat_map, list_all, list_any}
 use Rattle.std.specs.Prelude.{not}
 
@@ -51,6 +56,12 @@ get_pushed (z ∷ xs) x (suc i) y h = elim (get_pushed xs x i y h) [ inl e ↦ i
 
 pub all_pairs_tail : {X : Type 0} (R : X → X → Type 0) (x : X) (xs : List X) → AllPairs R (x ∷ xs) → AllPairs R xs
 all_pairs_tail R x xs pairs i j d less low = pairs (suc i) (suc j) d (omega arith) (omega arith)
+
+pub all_pairs_head : {X : Type 0} (R : X → X → Type 0) (x : X) (xs : List X) → AllPairs R (x ∷ xs) → (y : X) → Contains xs y → R x y
+all_pairs_head R x xs pairs y (k, lt, is) = subst (R x) is (pairs zero (suc k) y (omega arith) (omega arith))
+
+pub all_pairs_cons : {X : Type 0} (R : X → X → Type 0) (x : X) (xs : List X) → ((y : X) → Contains xs y → R x y) → AllPairs R xs → AllPairs R (x ∷ xs)
+all_pairs_cons R x xs front rest = AllPairs-cons R x xs (λ i d lt. front _ (All-contains_itself xs i d lt)) rest
 
 pub append_none : {A : Type 0} (xs ys : List A) → xs ++ ys ≡ [] → (xs ≡ []) × (ys ≡ [])
 append_none [] ys e = (refl, e)
@@ -140,6 +151,46 @@ contains_one x y (suc k, lt, is) = absurd (omega arith)
 pub two_appended : {new' new'' : List ℕ} (old a b : List ℕ) → new' ≡ old ++ a → new'' ≡ new' ++ b → new'' ≡ old ++ (a ++ b)
 two_appended old a b h k = k ∙ ap (λ (l : List ℕ). l ++ b) h ∙ append_assoc old a b
 
+pub three_appended : {new' new'' new''' : List ℕ} (old a b c : List ℕ) → new' ≡ old ++ a → new'' ≡ new' ++ b → new''' ≡ new'' ++ c → new''' ≡ old ++ (a ++ b ++ c)
+three_appended old a b c h k l = two_appended old (a ++ b) c (two_appended old a b h k) l
+
+pub four_appended : {new' new'' new''' new'''' : List ℕ} (old a b c d : List ℕ) → new' ≡ old ++ a → new'' ≡ new' ++ b → new''' ≡ new'' ++ c → new'''' ≡ new''' ++ d → new'''' ≡ old ++ (a ++ b ++ c ++ d)
+four_appended old a b c d h k l m = two_appended old (a ++ b ++ c) d (three_appended old a b c h k l) m
+
 pub back_distinct : {A : Type 0} (eq : A → A → Bool) (xs ys : List A) → are_distinct eq (xs ++ ys) ≡ true → are_distinct eq ys ≡ true
 back_distinct eq [] ys h = h
 back_distinct eq (x ∷ xs) ys h = back_distinct eq xs ys (and_parts (not (list_any (eq x) (xs ++ ys))) (are_distinct eq (xs ++ ys)) h).1
+
+none_front : {A : Type 0} (p : A → Bool) (xs ys : List A) → not (list_any p (xs ++ ys)) ≡ true → not (list_any p xs) ≡ true
+none_front p xs ys h = grind (arith, list_any-append p xs ys, h)
+
+pub front_distinct : {A : Type 0} (eq : A → A → Bool) (xs ys : List A) → are_distinct eq (xs ++ ys) ≡ true → are_distinct eq xs ≡ true
+front_distinct eq [] ys h = refl
+front_distinct eq (x ∷ xs) ys h =
+    let parts = and_parts (not (list_any (eq x) (xs ++ ys))) (are_distinct eq (xs ++ ys)) h in
+    rw (none_front (eq x) xs ys parts.0, front_distinct eq xs ys parts.1)
+
+-- two parts of a list without repeats have nothing in common
+pub parts_apart : {A : Type 0} {eq : A → A → Bool} → IsEquivalence eq → (xs ys : List A) (a : A) → are_distinct eq (xs ++ ys) ≡ true → Contains xs a → Contains ys a → ⊥
+parts_apart equiv [] ys a h c d = contains_none a c
+parts_apart {A} {eq} equiv (x ∷ xs) ys a h c d =
+    let (new, rest) = and_parts (not (list_any (eq x) (xs ++ ys))) (are_distinct eq (xs ++ ys)) h in
+    elim (contains_cases x xs a c) [
+      | inl e ↦ not_both (list_any (eq x) (xs ++ ys)) (list_any-from_Contains equiv x (xs ++ ys) (subst (λ b. Contains (xs ++ ys) b) (sym e) (Contains-append_right xs ys a d))) new
+      | inr more ↦ parts_apart equiv xs ys a rest more d
+    ]
+
+-- what two of such parts have in common they have at one place
+pub one_part : {A B : Type 0} {eq : B → B → Bool} → IsEquivalence eq → (f : A → List B) (xs : List A) (k l : ℕ) (u v : A) (a : B) → are_distinct eq (flat_map f xs) ≡ true →
+    slice_get xs k ≡ Some u → slice_get xs l ≡ Some v → Contains (f u) a → Contains (f v) a → k ≡ l
+one_part equiv f [] k l u v a h at to c d = absurd cc
+one_part equiv f (x ∷ xs) zero zero u v a h at to c d = refl
+one_part equiv f (x ∷ xs) zero (suc l) u v a h at to c d =
+    let e : x ≡ u = cc in
+    absurd (parts_apart equiv (f x) (flat_map f xs) a h (subst (λ b. Contains (f b) a) (sym e) c) (contains_flat_map_at f xs l v a to d))
+one_part equiv f (x ∷ xs) (suc k) zero u v a h at to c d =
+    let e : x ≡ v = cc in
+    absurd (parts_apart equiv (f x) (flat_map f xs) a h (subst (λ b. Contains (f b) a) (sym e) d) (contains_flat_map_at f xs k u a at c))
+one_part {eq = eq} equiv f (x ∷ xs) (suc k) (suc l) u v a h at to c d =
+    let same : k ≡ l = one_part equiv f xs k l u v a (back_distinct eq (f x) (flat_map f xs) h) at to c d in
+    ap (λ (n : ℕ). suc n) same

@@ -1,5 +1,5 @@
 -- Options, results and conditions.
-use Rattle.std.proofs.Common.{Bool, Err, None, Ok, OnOk, Option, Result, Some, cond, false, refl, true, ◌≡◌, ◌≢◌}
+use Rattle.std.proofs.Common.{Bool, Err, None, Ok, OnOk, Option, Result, Some, cond, false, refl, sym, true, ◌∙◌, ◌≡◌}
 use Rattle.std.proofs.lemmas.Bool.{false≢true}
 use Rattle.std.specs.Option.{is_some}
 use Rattle.std.specs.Prelude.{IfOk, OnErr, not}
@@ -10,6 +10,12 @@ some_of (Some x) e = (x, refl)
 
 pub none_is_not_some : {X : Type 0} (x : X) → None ≡ Some x → ⊥
 none_is_not_some x e = cc
+
+pub none_is_some : {A B : Type 0} {a : A} → None ≡ Some a → B
+none_is_some e = absurd (cc)
+
+pub none_not : {A B : Type 0} {o : Option A} {a : A} → o ≡ None → o ≡ Some a → B
+none_not {a = a} e f = absurd (none_is_not_some a (sym e ∙ f))
 
 pub one_some : {X : Type 0} (a b : X) (o : Option X) → o ≡ Some a → o ≡ Some b → a ≡ b
 one_some a b o e f = cc
@@ -32,6 +38,9 @@ if_ok_weaker (Err e) f h = tt
 pub not_both : (a : Bool) → a ≡ true → not a ≡ true → ⊥
 not_both true e h = false≢true h
 not_both false e h = false≢true e
+
+pub true_false : {A : Type 0} {b : Bool} → b ≡ true → b ≡ false → A
+true_false e f = absurd (false≢true (sym f ∙ e))
 
 pub cond_true : {A : Type 0} (b : Bool) (x y : A) → b ≡ true → cond b x y ≡ x
 cond_true true x y h = refl

@@ -1,4 +1,5 @@
 -- Addresses, metrics, tuples and the order of nodes.
+use Rattle.mesh_atoms.proofs.Lists.{contains_cases, contains_none, contains_tail}
 use Rattle.mesh_atoms.proofs.Options.{same_some}
 use Rattle.mesh_atoms.specs.Base.{addr_eq, host, net_eq}
 use Rattle.mesh_atoms.specs.Nodes.{IsAtMost, IsBefore}
@@ -7,7 +8,7 @@ use Rattle.mesh_atoms.specs.declared.addr.Addr4.{Addr4}
 use Rattle.mesh_atoms.specs.declared.addr.NetAddr.{NetAddr}
 use Rattle.mesh_atoms.specs.declared.settings.Interface.{Interface}
 use Rattle.mesh_atoms.specs.declared.settings.RouterSettings.{RouterSettings}
-use Rattle.std.proofs.Common.{Contains, Some, ap, arith, inl, inr, refl, slice_get, subst, true, ℕ, ◌-◌, ◌≡◌, ◌⊎◌}
+use Rattle.std.proofs.Common.{Contains, List, Some, [], ap, arith, inl, inr, refl, slice_get, subst, true, ℕ, ◌∷◌, ◌≡◌, ◌⊎◌}
 use Rattle.std.proofs.lemmas.Bool.{cases_eq, eq-eqb}
 use Rattle.std.specs.Prelude.{◌↔◌}
 
@@ -50,6 +51,20 @@ same_address a b = elim (cases_eq a.0 b.0) [
   | inl e ↦ inl (ap (λ (n : ℕ). let r : Addr4 = record { 0 = n } in r) e)
   | inr other ↦ inr (λ e. other (ap (λ (c : Addr4). c.0) e))
 ]
+
+-- the address is in the list, or it isn't
+pub contains_or_not : (xs : List Addr4) (a : Addr4) → Contains xs a ⊎ (Contains xs a → ⊥)
+contains_or_not [] a = inr (contains_none a)
+contains_or_not (x ∷ xs) a = elim (same_address x a) [
+  | inl e ↦ inl (0, omega arith, e)
+  | inr other ↦ elim (contains_or_not xs a) [
+    | inl later ↦ inl (contains_tail x xs a later)
+    | inr none ↦ inr (λ has. elim (contains_cases x xs a has) [ inl e ↦ other e | inr later ↦ none later ])
+  ]
+]
+
+pub at_most_of_before : (a b : NetAddr) → IsBefore a b → IsAtMost a b
+at_most_of_before a b before = elim before [ inl less ↦ inl less | inr (same, less) ↦ inr (same, omega arith) ]
 
 pub at_most_itself : (a b : NetAddr) → a ≡ b → IsAtMost a b
 at_most_itself a b e = subst (λ (x : NetAddr). IsAtMost a x) e (inr (refl, omega arith))
