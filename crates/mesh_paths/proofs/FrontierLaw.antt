@@ -13,11 +13,11 @@ use Rattle.mesh_paths.specs.Tree.{IsAsGood, MeetsBy}
 use Rattle.mesh_paths.specs.Search.{number_of, IsIndex, IsPart, PutsStep, Settles, IsSettledRow, row_of, step_of}
 use Rattle.mesh_paths.specs.Rounds.{RowMap, IsMetIn, Betters, IsOfferBy, IsInRange, IsRounds}
 use Rattle.mesh_paths.specs.Frontier.{IsMetOrWaits, IsSearch, IsTaking, OffersAll, offered, OffersArc, work_in}
-use Rattle.mesh_paths.proofs.Order.{same_node, at_most_of_before, as_good_trans}
+use Rattle.mesh_paths.proofs.Order.{same_node, as_good_trans}
 use Rattle.mesh_paths.proofs.Index.{in_run}
 use Rattle.mesh_paths.proofs.Rows.{of_each}
 use Rattle.mesh_paths.proofs.RoundsLaw.{settled_at, lighter_in, rounds_new, met_already}
-use Rattle.mesh_atoms.proofs.Values.{at_most_itself}
+use Rattle.mesh_atoms.proofs.Values.{at_most_itself, at_most_of_before}
 use Rattle.mesh_atoms.proofs.Lists.{contains_cases}
 
 -- a node has one row

@@ -11,7 +11,7 @@ use Rattle.mesh_atoms.specs.declared.graphs.PathRow.{PathRow}
 use Rattle.mesh_atoms.proofs.Nets.{same_net}
 use Rattle.mesh_paths.specs.Paths.{AreAscendingRows}
 use Rattle.mesh_paths.specs.Tree.{IsAsGood}
-use Rattle.mesh_atoms.proofs.Values.{before_trans, not_before_itself, at_most_itself}
+use Rattle.mesh_atoms.proofs.Values.{before_trans, not_before_itself, at_most_itself, at_most_of_before}
 
 -- Nodes
 
@@ -35,9 +35,6 @@ at_most_or_before a b = elim (cases_lt b.addr.0 a.addr.0) [
     | inr off ↦ inl (inl (omega arith))
   ]
 ]
-
-pub at_most_of_before : (a b : NetAddr) → IsBefore a b → IsAtMost a b
-at_most_of_before a b before = elim before [ inl less ↦ inl less | inr (same, less) ↦ inr (same, omega arith) ]
 
 pub at_most_trans : (a b c : NetAddr) → IsAtMost a b → IsAtMost b c → IsAtMost a c
 at_most_trans a b c f g = elim f [

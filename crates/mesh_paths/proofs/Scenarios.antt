@@ -21,17 +21,13 @@ use Rattle.mesh_atoms.specs.Settings.{are_distinct, is_host, Ends, ends_eq, is_i
 use Rattle.mesh_atoms.specs.State.{HasAddressOn, IsOriginator}
 use Rattle.mesh_atoms.proofs.Lookups.{addr_equiv}
 use Rattle.mesh_paths.proofs.ShortLists.{none_some}
-use Rattle.mesh_atoms.proofs.Lists.{contains_cases, contains_map, first_item, contains_flat_map_at, back_distinct, contains_none as none_of}
+use Rattle.mesh_atoms.proofs.Lists.{contains_cases, contains_map, first_item, contains_flat_map_at, back_distinct, contains_none as none_of, front_distinct, one_part}
 
 -- Tests
 
 pub not_both : {A : Type 0} (b : Bool) → b ≡ true → not b ≡ true → A
 not_both true h g = absurd (let f : false ≡ true = g in cc)
 not_both false h g = absurd (cc)
-
-first_false : (a b : Bool) → not (a || b) ≡ true → not a ≡ true
-first_false true b h = h
-first_false false b h = refl
 
 -- Elements
 
@@ -50,39 +46,6 @@ any_of p (x ∷ xs) a h c = elim (contains_cases x xs a c) [
 ]
 
 -- Distinct values
-
-front_distinct : {A : Type 0} (eq : A → A → Bool) (xs ys : List A) → are_distinct eq (xs ++ ys) ≡ true → are_distinct eq xs ≡ true
-front_distinct eq [] ys h = refl
-front_distinct eq (x ∷ xs) ys h =
-    let (new, rest) = and_parts (not (list_any (eq x) (xs ++ ys))) (are_distinct eq (xs ++ ys)) h in
-    let parts : not (list_any (eq x) xs || list_any (eq x) ys) ≡ true = subst (λ b. not b ≡ true) (list_any-append (eq x) xs ys) new in
-    let here : not (list_any (eq x) xs) ≡ true = first_false (list_any (eq x) xs) (list_any (eq x) ys) parts in
-    let more : are_distinct eq xs ≡ true = front_distinct eq xs ys rest in
-    rw (here, more) refl
-
-apart_parts : {A : Type 0} {eq : A → A → Bool} → IsEquivalence eq → (xs ys : List A) (a : A) → are_distinct eq (xs ++ ys) ≡ true → Contains xs a → Contains ys a → ⊥
-apart_parts equiv [] ys a h c d = none_of a c
-apart_parts {A} {eq} equiv (x ∷ xs) ys a h c d =
-    let (new, rest) = and_parts (not (list_any (eq x) (xs ++ ys))) (are_distinct eq (xs ++ ys)) h in
-    elim (contains_cases x xs a c) [
-      | inl e ↦ not_both (list_any (eq x) (xs ++ ys)) (list_any-from_Contains equiv x (xs ++ ys) (subst (λ b. Contains (xs ++ ys) b) (sym e) (Contains-append_right xs ys a d))) new
-      | inr more ↦ apart_parts equiv xs ys a rest more d
-    ]
-
--- what two parts have in common they have at one place
-one_part : {A B : Type 0} {eq : B → B → Bool} → IsEquivalence eq → (f : A → List B) (xs : List A) (k l : ℕ) (u v : A) (a : B) → are_distinct eq (flat_map f xs) ≡ true →
-    slice_get xs k ≡ Some u → slice_get xs l ≡ Some v → Contains (f u) a → Contains (f v) a → k ≡ l
-one_part equiv f [] k l u v a h at to c d = none_some u at
-one_part equiv f (x ∷ xs) zero zero u v a h at to c d = refl
-one_part equiv f (x ∷ xs) zero (suc l) u v a h at to c d =
-    let e : x ≡ u = cc in
-    absurd (apart_parts equiv (f x) (flat_map f xs) a h (subst (λ b. Contains (f b) a) (sym e) c) (contains_flat_map_at f xs l v a to d))
-one_part equiv f (x ∷ xs) (suc k) zero u v a h at to c d =
-    let e : x ≡ v = cc in
-    absurd (apart_parts equiv (f x) (flat_map f xs) a h (subst (λ b. Contains (f b) a) (sym e) d) (contains_flat_map_at f xs k u a at c))
-one_part {eq = eq} equiv f (x ∷ xs) (suc k) (suc l) u v a h at to c d =
-    let same : k ≡ l = one_part equiv f xs k l u v a (back_distinct eq (f x) (flat_map f xs) h) at to c d in
-    ap (λ (n : ℕ). suc n) same
 
 part_distinct : {A B : Type 0} (eq : B → B → Bool) (f : A → List B) (xs : List A) (k : ℕ) (u : A) → are_distinct eq (flat_map f xs) ≡ true → slice_get xs k ≡ Some u → are_distinct eq (f u) ≡ true
 part_distinct eq f [] k u h at = none_some u at

@@ -19,10 +19,10 @@ use Rattle.mesh_relay.specs.Tests.{is_direct_within}
 use Rattle.mesh_relay.specs.Ways.{AreWilling, IsAt, IsDirect, IsCheapest, HasWay, RisesFrom, AreWays, way_at, way_from, adds_nothing}
 use Rattle.mesh_atoms.proofs.Deciding.{Decides-addr}
 use Rattle.mesh_relay.proofs.Decide.{Decides-direct}
-use Rattle.mesh_relay.proofs.Lists.{cons_cases, cons_more, given_by, gives, dedup_within, joined, kept_within}
+use Rattle.mesh_relay.proofs.Lists.{given_by, gives, dedup_within, joined, kept_within}
 use Rattle.mesh_relay.proofs.Willing.{one_near}
 use Rattle.mesh_atoms.proofs.Options.{none_is_not_some as no_some, some_equal}
-use Rattle.mesh_atoms.proofs.Lists.{contains_none, contains_head}
+use Rattle.mesh_atoms.proofs.Lists.{contains_none, contains_head, contains_cases, contains_tail}
 
 -- Ways in order
 
@@ -55,11 +55,11 @@ rises_lower j k [] le h = tt
 rises_lower j k (x ∷ xs) le h = (in_order_on j k x le h.0, h.1)
 
 rises_above : (k : Way) (xs : List Way) (v : Way) → Rises k xs → Contains (k ∷ xs) v → InOrder k v
-rises_above k [] v up w = elim (cons_cases k v [] w) [
+rises_above k [] v up w = elim (contains_cases k [] v w) [
   | inl e ↦ subst (InOrder k) e (in_order_itself k)
   | inr h ↦ absurd (contains_none v h)
 ]
-rises_above k (x ∷ xs) v up w = elim (cons_cases k v (x ∷ xs) w) [
+rises_above k (x ∷ xs) v up w = elim (contains_cases k (x ∷ xs) v w) [
   | inl e ↦ subst (InOrder k) e (in_order_itself k)
   | inr h ↦ in_order_on k x v up.0 (rises_above x xs v up.1 h)
 ]
@@ -104,16 +104,16 @@ abbrev IsLeastIn : List Way → List Way → Type 0
 IsLeastIn kept all = (w v : Way) → Contains kept w → Contains all v → v.addr ≡ w.addr → w.cost ≤ v.cost
 
 least_joined : (k x : Way) (xs a : List Way) → adds_nothing x k ≡ true → InOrder k x → IsLeastIn a (k ∷ xs) → IsLeastIn a (k ∷ x ∷ xs)
-least_joined k x xs a e up h w v in' there at = elim (cons_cases k v (x ∷ xs) there) [
+least_joined k x xs a e up h w v in' there at = elim (contains_cases k (x ∷ xs) v there) [
   | inl f ↦ h w v in' (subst (Contains (k ∷ xs)) f (contains_head k xs)) at
-  | inr later ↦ elim (cons_cases x v xs later) [
+  | inr later ↦ elim (contains_cases x xs v later) [
     | inl f ↦
         let here : x.addr ≡ w.addr = ap (λ (y : Way). y.addr) f ∙ at in
         let low : w.cost ≤ k.cost = h w k in' (contains_head k xs) (sym (same_addr x k e) ∙ here) in
         let high : k.cost ≤ x.cost = cost_le k x up (sym (same_addr x k e)) in
         let end : x.cost ≡ v.cost = ap (λ (y : Way). y.cost) f in
         omega arith
-    | inr last ↦ h w v in' (cons_more k v xs last) at
+    | inr last ↦ h w v in' (contains_tail k xs v last) at
   ]
 ]
 
@@ -132,9 +132,9 @@ first_no_dearer k x w xs e up rises there at h =
 
 least_kept : (k x : Way) (xs c : List Way) → adds_nothing x k ≡ false → InOrder k x → Rises x xs → ((w : Way) → Contains c w → Contains (x ∷ xs) w) →
     IsLeastIn c (x ∷ xs) → IsLeastIn (k ∷ c) (k ∷ x ∷ xs)
-least_kept k x xs c e up rises inside h w v in' there at = elim (cons_cases k w c in') [
+least_kept k x xs c e up rises inside h w v in' there at = elim (contains_cases k c w in') [
   | inl f ↦ subst (λ (y : Way). y.cost ≤ v.cost) f (cost_le k v (rises_above k (x ∷ xs) v (up, rises) there) (ap (λ (y : Way). y.addr) f ∙ sym at))
-  | inr later ↦ elim (cons_cases k v (x ∷ xs) there) [
+  | inr later ↦ elim (contains_cases k (x ∷ xs) v there) [
     | inl f ↦ subst (λ (y : Way). w.cost ≤ y.cost) f
         (first_no_dearer k x w xs e up rises (inside w later) (ap (λ (y : Way). y.addr) f ∙ at) (λ here. h w x later (contains_head x xs) here))
     | inr last ↦ h w v later last at
@@ -147,8 +147,8 @@ least_cond true k x xs a c e up rises inside h h' = least_joined k x xs a e up h
 least_cond false k x xs a c e up rises inside h h' = least_kept k x xs c e up rises inside h'
 
 least_one : (k : Way) → IsLeastIn (k ∷ []) (k ∷ [])
-least_one k w v in' there at = elim (cons_cases k w [] in') [
-  | inl e ↦ elim (cons_cases k v [] there) [
+least_one k w v in' there at = elim (contains_cases k [] w in') [
+  | inl e ↦ elim (contains_cases k [] v there) [
     | inl f ↦ let d : w.cost ≡ v.cost = ap (λ (y : Way). y.cost) (sym e ∙ f) in omega arith
     | inr h ↦ absurd (contains_none v h)
   ]
@@ -195,7 +195,7 @@ found_cons g start n ns f false e h =
     let on : way_from g start (n ∷ ns) f ≡ way_from g (start + 1) ns f = ap (λ (t : Bool). cond t (way_at g start n f) (way_from g (start + 1) ns f)) e in
     elim h [
       | inl none ↦ inl (
-        λ m w id. elim (cons_cases n m ns w) [
+        λ m w id. elim (contains_cases n ns m w) [
           | inl is ↦ false≢true (sym e ∙ (Decides-addr n.id f.via).1 (ap (λ (x : Near). x.id) is ∙ id))
           | inr later ↦ none.0 m later id
         ],

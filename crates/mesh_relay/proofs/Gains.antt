@@ -1,15 +1,9 @@
 -- The neighbour that is taken next.
-use Rattle.std.proofs.Common.{◌≡◌, ℕ, ◌+◌, ◌≤◌, ◌<◌, ◌⊎◌, Bool, true, false, cond, List, [], ◌∷◌, Option, Some, None, get_or, set, zero, suc, refl, sym, ◌∙◌, subst, inl, inr, arith}
+use Rattle.std.proofs.Common.{◌≡◌, ℕ, ◌+◌, ◌≤◌, ◌<◌, ◌⊎◌, Bool, true, false, cond, List, [], ◌∷◌, Option, Some, None, get_or, set, zero, suc, refl, sym, ◌∙◌, subst, inl, inr, arith, below_more}
 use Rattle.std.specs.Prelude.{slice_index}
 use Rattle.std.proofs.lemmas.Bool.{false≢true, true≢false, cases_lt, ltb-true}
 use Rattle.mesh_relay.specs.Taken.{IsTaken, IsFree, free_count, is_better, IsBest}
 use Rattle.mesh_relay.proofs.Directs.{not_lower as not_less}
-use Rattle.mesh_relay.proofs.Flags.{below_or_at}
-
--- One more place
-
-all_more : (P : ℕ → Type 0) (place : ℕ) → ((k : ℕ) → k < place → P k) → P place → (k : ℕ) → k < place + 1 → P k
-all_more P place h here k lt = elim (below_or_at k place lt) [ inl below ↦ h k below | inr e ↦ subst P e here ]
 
 -- the neighbour's gain is no greater than the best one's, or it comes first
 abbrev NoBetter : List ℕ → List Bool → ℕ → ℕ → Type 0
@@ -17,10 +11,10 @@ NoBetter gains taken best k =
     get_or taken k false ≡ false → (slice_index gains k < slice_index gains best) ⊎ ((slice_index gains k ≡ slice_index gains best) × (best ≤ k))
 
 pub best_if_taken : (gains : List ℕ) (taken : List Bool) (place : ℕ) (best : Option ℕ) → IsBest gains taken place best → get_or taken place false ≡ true → IsBest gains taken (place + 1) best
-best_if_taken gains taken place None h e = all_more (IsTaken taken) place h e
+best_if_taken gains taken place None h e = below_more (IsTaken taken) place h e
 best_if_taken gains taken place (Some best) h e =
     let lt : best < place = h.0 in
-    (omega arith, h.1, all_more (NoBetter gains taken best) place h.2 (λ free. absurd (false≢true (sym free ∙ e))))
+    (omega arith, h.1, below_more (NoBetter gains taken best) place h.2 (λ free. absurd (false≢true (sym free ∙ e))))
 
 less_or_same : (a b : ℕ) → a ≤ b → (a < b) ⊎ (a ≡ b)
 less_or_same a b le = elim (cases_lt a b) [ inl lt ↦ inl lt | inr ge ↦ inr (omega arith) ]
@@ -31,7 +25,7 @@ best_if_no_better gains taken place (Some best) h e =
     let lt : best < place = h.0 in (
       omega arith,
       h.1,
-      all_more (NoBetter gains taken best) place h.2 (λ free.
+      below_more (NoBetter gains taken best) place h.2 (λ free.
           elim (less_or_same (slice_index gains place) (slice_index gains best) (not_less (slice_index gains best) (slice_index gains place) e)) [
             | inl less ↦ inl less
             | inr same' ↦ inr (same', omega arith)
@@ -51,9 +45,9 @@ le-same n = omega arith
 pub best_if_better : (gains : List ℕ) (taken : List Bool) (place : ℕ) (best : Option ℕ) → IsBest gains taken place best → get_or taken place false ≡ false → is_better gains place best ≡ true →
     IsBest gains taken (place + 1) (Some place)
 best_if_better gains taken place None h free e =
-    (omega arith, free, all_more (NoBetter gains taken place) place (λ k lt free'. absurd (false≢true (sym free' ∙ h k lt))) (λ _. inr (refl, le-same place)))
+    (omega arith, free, below_more (NoBetter gains taken place) place (λ k lt free'. absurd (false≢true (sym free' ∙ h k lt))) (λ _. inr (refl, le-same place)))
 best_if_better gains taken place (Some best) h free e =
-    (omega arith, free, all_more (NoBetter gains taken place) place (worse_before gains taken place best (ltb-true _ _ e) h.2) (λ _. inr (refl, le-same place)))
+    (omega arith, free, below_more (NoBetter gains taken place) place (worse_before gains taken place best (ltb-true _ _ e) h.2) (λ _. inr (refl, le-same place)))
 
 -- Fewer are left
 

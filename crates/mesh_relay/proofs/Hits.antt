@@ -7,8 +7,7 @@ use Rattle.mesh_atoms.specs.Base.{addr_eq}
 use Rattle.mesh_relay.specs.declared.ways.Way.{Way}
 use Rattle.mesh_relay.specs.Ways.{RisesFrom, reached_on, reaches_all}
 use Rattle.mesh_atoms.proofs.Deciding.{Decides-addr}
-use Rattle.mesh_relay.proofs.Lists.{cons_cases, cons_more}
-use Rattle.mesh_atoms.proofs.Lists.{contains_head, contains_none}
+use Rattle.mesh_atoms.proofs.Lists.{contains_head, contains_none, contains_cases, contains_tail}
 
 -- some way to y passes the test
 abbrev pub Hit : (Way → Bool) → Addr4 → List Way → Type 0
@@ -19,7 +18,7 @@ abbrev pub Missed : (Way → Bool) → Addr4 → List Way → Type 0
 Missed test y ws = (v : Way) → Contains ws v → v.addr ≡ y → test v ≡ false
 
 hit_more : (test : Way → Bool) (y : Addr4) (w : Way) (ws : List Way) → Hit test y ws → Hit test y (w ∷ ws)
-hit_more test y w ws h = (h.0, cons_more w h.0 ws h.1, h.2, h.3)
+hit_more test y w ws h = (h.0, contains_tail w ws h.0 h.1, h.2, h.3)
 
 -- where each is reached
 
@@ -37,7 +36,7 @@ reached_true_cons test y reached w ws true d e goes_on begins =
         | inl o ↦ elim (or_cases reached (test w) o) [ inl r ↦ inl r | inr t ↦ inr (w, contains_head w ws, d.0 refl, t) ]
         | inr hit ↦ inr (hit_more test y w ws hit)
       ],
-      λ v within. elim (cons_cases w v ws within) [
+      λ v within. elim (contains_cases w ws v within) [
         | inl same' ↦ inl (sym (ap (λ (f : Way). f.addr) same') ∙ d.0 refl)
         | inr later ↦ elim (h.1 v later) [ inl at ↦ inl at | inr hit ↦ inr (hit_more test v.addr w ws hit) ]
       ],
@@ -47,7 +46,7 @@ reached_true_cons test y reached w ws false d e goes_on begins =
     let h = begins both.1 in
     let here : Hit test w.addr (w ∷ ws) = elim h.0 [ inl t ↦ (w, contains_head w ws, refl, t) | inr hit ↦ hit_more test w.addr w ws hit ] in (
       inl both.0,
-      λ v within. elim (cons_cases w v ws within) [
+      λ v within. elim (contains_cases w ws v within) [
         | inl same' ↦ inr (subst (λ (f : Way). Hit test f.addr (w ∷ ws)) same' here)
         | inr later ↦ elim (h.1 v later) [ inl at ↦ inr (subst (λ (a : Addr4). Hit test a (w ∷ ws)) (sym at) here) | inr hit ↦ inr (hit_more test v.addr w ws hit) ]
       ],
@@ -66,7 +65,7 @@ all_hit test [] e w within = absurd (contains_none w within)
 all_hit test (v ∷ ways) e w within =
     let h = reached_true test v.addr (test v) ways e in
     let here : Hit test v.addr (v ∷ ways) = elim h.0 [ inl t ↦ (v, contains_head v ways, refl, t) | inr hit ↦ hit_more test v.addr v ways hit ] in
-    elim (cons_cases v w ways within) [
+    elim (contains_cases v ways w within) [
       | inl same' ↦ subst (λ (f : Way). Hit test f.addr (v ∷ ways)) same' here
       | inr later ↦ elim (h.1 w later) [ inl at ↦ subst (λ (a : Addr4). Hit test a (v ∷ ways)) (sym at) here | inr hit ↦ hit_more test w.addr v ways hit ]
     ]
@@ -75,7 +74,7 @@ all_hit test (v ∷ ways) e w within =
 
 rises_above : (low : ℕ) (ws : List Way) → RisesFrom low ws → (v : Way) → Contains ws v → low ≤ v.addr.0
 rises_above low [] up v within = absurd (contains_none v within)
-rises_above low (w ∷ ws) up v within = elim (cons_cases w v ws within) [
+rises_above low (w ∷ ws) up v within = elim (contains_cases w ws v within) [
   | inl same' ↦ subst (λ (f : Way). low ≤ f.addr.0) same' up.0
   | inr later ↦ let first : low ≤ w.addr.0 = up.0 in let above : w.addr.0 ≤ v.addr.0 = rises_above w.addr.0 ws up.1 v later in omega arith
 ]
@@ -85,13 +84,13 @@ Misses : (Way → Bool) → Addr4 → Bool → List Way → Type 0
 Misses test y reached ws = ((reached ≡ false) × Missed test y ws) ⊎ ((w : Way) × Contains ws w × (w.addr ≢ y) × Missed test w.addr ws)
 
 missed_first : (test : Way → Bool) (y : Addr4) (w : Way) (ws : List Way) → test w ≡ false → Missed test y ws → Missed test y (w ∷ ws)
-missed_first test y w ws t h v within at = elim (cons_cases w v ws within) [
+missed_first test y w ws t h v within at = elim (contains_cases w ws v within) [
   | inl same' ↦ subst (λ (f : Way). test f ≡ false) same' t
   | inr later ↦ h v later at
 ]
 
 missed_other : (test : Way → Bool) (y : Addr4) (w : Way) (ws : List Way) → w.addr ≢ y → Missed test y ws → Missed test y (w ∷ ws)
-missed_other test y w ws other h v within at = elim (cons_cases w v ws within) [
+missed_other test y w ws other h v within at = elim (contains_cases w ws v within) [
   | inl same' ↦ absurd (other (ap (λ (f : Way). f.addr) same' ∙ at))
   | inr later ↦ h v later at
 ]
@@ -103,7 +102,7 @@ le-same n = omega arith
 not_later : (y : Addr4) (w : Way) (ws : List Way) → w.addr ≢ y → RisesFrom y.0 (w ∷ ws) → (v : Way) → Contains (w ∷ ws) v → v.addr ≡ y → ⊥
 not_later y w ws other up v within at =
     let low : y.0 ≤ w.addr.0 = up.0 in
-    let high : w.addr.0 ≤ v.addr.0 = elim (cons_cases w v ws within) [
+    let high : w.addr.0 ≤ v.addr.0 = elim (contains_cases w ws v within) [
       | inl same' ↦ subst (λ (f : Way). w.addr.0 ≤ f.addr.0) same' (le-same w.addr.0)
       | inr later ↦ rises_above w.addr.0 ws up.1 v later
     ] in
@@ -125,14 +124,14 @@ unfolding Misses
 misses_cons test y reached w ws true d up e goes_on begins =
     elim (goes_on (subst (λ (a : Addr4). RisesFrom a.0 ws) (d.0 refl) up.1) e) [
       | inl h ↦ let parts = or_parts reached (test w) h.0 in inl (parts.0, missed_first test y w ws parts.1 h.1)
-      | inr h ↦ inr (h.0, cons_more w h.0 ws h.1, h.2, missed_other test h.0.addr w ws (λ f. h.2 (sym f ∙ d.0 refl)) h.3)
+      | inr h ↦ inr (h.0, contains_tail w ws h.0 h.1, h.2, missed_other test h.0.addr w ws (λ f. h.2 (sym f ∙ d.0 refl)) h.3)
     ]
 misses_cons test y reached w ws false d up e goes_on begins =
     elim (and_cases reached (reached_on test w.addr (test w) ws) e) [
       | inl r ↦ inl (r, λ v within at. absurd (not_later y w ws (λ f. false≢true (d.1 f)) up v within at))
       | inr f ↦ elim (begins up.1 f) [
         | inl h ↦ inr (w, contains_head w ws, (λ at. false≢true (d.1 at)), missed_first test w.addr w ws h.0 h.1)
-        | inr h ↦ inr (h.0, cons_more w h.0 ws h.1, later_differs y w h.0 ws up h.1 h.2, missed_other test h.0.addr w ws (λ f. h.2 (sym f)) h.3)
+        | inr h ↦ inr (h.0, contains_tail w ws h.0 h.1, later_differs y w h.0 ws up h.1 h.2, missed_other test h.0.addr w ws (λ f. h.2 (sym f)) h.3)
       ]
     ]
 
@@ -150,5 +149,5 @@ one_missed test [] up e = absurd (true≢false e)
 one_missed test (v ∷ ways) up e =
     elim (misses_false test v.addr (test v) ways up.1 e) [
       | inl h ↦ (v, contains_head v ways, missed_first test v.addr v ways h.0 h.1)
-      | inr h ↦ (h.0, cons_more v h.0 ways h.1, missed_other test h.0.addr v ways (λ f. h.2 (sym f)) h.3)
+      | inr h ↦ (h.0, contains_tail v ways h.0 h.1, missed_other test h.0.addr v ways (λ f. h.2 (sym f)) h.3)
     ]

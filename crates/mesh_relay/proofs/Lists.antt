@@ -3,19 +3,12 @@ use Rattle.std.proofs.Common.{◌≡◌, ◌⊎◌, Bool, true, false, cond, Lis
 use Rattle.std.specs.Prelude.{Contains, filter_map}
 use Rattle.std.specs.List.{dedup, dedup_from, cons_option}
 use Rattle.std.proofs.lemmas.Bool.{false≢true}
-use Rattle.mesh_atoms.proofs.Lists.{contains_head, contains_none}
-
-pub cons_cases : {X : Type 0} (x a : X) (xs : List X) → Contains (x ∷ xs) a → (x ≡ a) ⊎ Contains xs a
-cons_cases x a xs (zero, lt, at) = inl at
-cons_cases x a xs (suc k, lt, at) = inr (k, omega arith, at)
-
-pub cons_more : {X : Type 0} (x a : X) (xs : List X) → Contains xs a → Contains (x ∷ xs) a
-cons_more x a xs w = (suc w.0, omega (arith, w.1), w.2)
+use Rattle.mesh_atoms.proofs.Lists.{contains_head, contains_none, contains_cases, contains_tail}
 
 -- Elements that pass a test
 
 filter_cons : {X : Type 0} (b : Bool) (x y : X) (rest : List X) → Contains (cond b (y ∷ rest) rest) x → ((y ≡ x) × (b ≡ true)) ⊎ Contains rest x
-filter_cons true x y rest w = elim (cons_cases y x rest w) [ inl e ↦ inl (e, refl) | inr v ↦ inr v ]
+filter_cons true x y rest w = elim (contains_cases y rest x w) [ inl e ↦ inl (e, refl) | inr v ↦ inr v ]
 filter_cons false x y rest w = inr w
 
 filter_first : {X : Type 0} (b : Bool) (y : X) (rest : List X) → b ≡ true → Contains (cond b (y ∷ rest) rest) y
@@ -23,32 +16,32 @@ filter_first true y rest e = contains_head y rest
 filter_first false y rest e = absurd (false≢true e)
 
 filter_later : {X : Type 0} (b : Bool) (x y : X) (rest : List X) → Contains rest x → Contains (cond b (y ∷ rest) rest) x
-filter_later true x y rest w = cons_more y x rest w
+filter_later true x y rest w = contains_tail y rest x w
 filter_later false x y rest w = w
 
 -- What a function gives for elements
 
 option_cases : {X : Type 0} (o : Option X) (x : X) (rest : List X) → Contains (cons_option o rest) x → (o ≡ Some x) ⊎ Contains rest x
 option_cases None x rest w = inr w
-option_cases (Some y) x rest w = elim (cons_cases y x rest w) [ inl e ↦ inl (ap (λ z. Some z) e) | inr v ↦ inr v ]
+option_cases (Some y) x rest w = elim (contains_cases y rest x w) [ inl e ↦ inl (ap (λ z. Some z) e) | inr v ↦ inr v ]
 
 option_first : {X : Type 0} (o : Option X) (x : X) (rest : List X) → o ≡ Some x → Contains (cons_option o rest) x
 option_first o x rest e = subst (λ p. Contains (cons_option p rest) x) (sym e) (contains_head x rest)
 
 option_later : {X : Type 0} (o : Option X) (x : X) (rest : List X) → Contains rest x → Contains (cons_option o rest) x
 option_later None x rest w = w
-option_later (Some y) x rest w = cons_more y x rest w
+option_later (Some y) x rest w = contains_tail y rest x w
 
 pub given_by : {X Y : Type 0} (h : X → Option Y) (xs : List X) (y : Y) → Contains (filter_map h xs) y → (x : X) × Contains xs x × (h x ≡ Some y)
 given_by h [] y w = absurd (contains_none y w)
 given_by h (x ∷ xs) y w = elim (option_cases (h x) y (filter_map h xs) w) [
   | inl e ↦ (x, contains_head x xs, e)
-  | inr v ↦ let r = given_by h xs y v in (r.0, cons_more x r.0 xs r.1, r.2)
+  | inr v ↦ let r = given_by h xs y v in (r.0, contains_tail x xs r.0 r.1, r.2)
 ]
 
 pub gives : {X Y : Type 0} (h : X → Option Y) (xs : List X) (x : X) (y : Y) → Contains xs x → h x ≡ Some y → Contains (filter_map h xs) y
 gives h [] x y w e = absurd (contains_none x w)
-gives h (z ∷ xs) x y w e = elim (cons_cases z x xs w) [
+gives h (z ∷ xs) x y w e = elim (contains_cases z xs x w) [
   | inl at ↦ option_first (h z) y (filter_map h xs) (subst (λ v. h v ≡ Some y) (sym at) e)
   | inr later ↦ option_later (h z) y (filter_map h xs) (gives h xs x y later e)
 ]
@@ -66,19 +59,19 @@ dedup_first same k (x ∷ xs) = dedup_first_cons (same x k) k (dedup_from same k
 pub dedup_cases : {X : Type 0} (b : Bool) (k w : X) (a c : List X) → Contains (cond b a (k ∷ c)) w →
     ((b ≡ true) × Contains a w) ⊎ ((b ≡ false) × ((k ≡ w) ⊎ Contains c w))
 dedup_cases true k w a c h = inl (refl, h)
-dedup_cases false k w a c h = inr (refl, cons_cases k w c h)
+dedup_cases false k w a c h = inr (refl, contains_cases k c w h)
 
 -- what is kept was there
 pub dedup_within : {X : Type 0} (same : X → X → Bool) (k : X) (xs : List X) (w : X) → Contains (dedup_from same k xs) w → Contains (k ∷ xs) w
 dedup_within same k [] w h = h
 dedup_within same k (x ∷ xs) w h = elim (dedup_cases (same x k) k w (dedup_from same k xs) (dedup_from same x xs) h) [
-  | inl a ↦ elim (cons_cases k w xs (dedup_within same k xs w a.1)) [
+  | inl a ↦ elim (contains_cases k xs w (dedup_within same k xs w a.1)) [
     | inl e ↦ subst (λ z. Contains (k ∷ x ∷ xs) z) e (contains_head k (x ∷ xs))
-    | inr v ↦ cons_more k w (x ∷ xs) (cons_more x w xs v)
+    | inr v ↦ contains_tail k (x ∷ xs) w (contains_tail x xs w v)
   ]
   | inr c ↦ elim c.1 [
     | inl e ↦ subst (λ z. Contains (k ∷ x ∷ xs) z) e (contains_head k (x ∷ xs))
-    | inr v ↦ cons_more k w (x ∷ xs) (dedup_within same x xs w v)
+    | inr v ↦ contains_tail k (x ∷ xs) w (dedup_within same x xs w v)
   ]
 ]
 
@@ -88,20 +81,20 @@ KeptOrJoined {X} same kept v = (w : X) × Contains kept w × ((w ≡ v) ⊎ (sam
 
 joined_cons : {X : Type 0} (same : X → X → Bool) (b : Bool) (k x v : X) (xs a c : List X) → same x k ≡ b → Contains a k → Contains (k ∷ x ∷ xs) v →
     (Contains (k ∷ xs) v → KeptOrJoined same a v) → (Contains (x ∷ xs) v → KeptOrJoined same c v) → KeptOrJoined same (cond b a (k ∷ c)) v
-joined_cons same true k x v xs a c e first h on begins = elim (cons_cases k v (x ∷ xs) h) [
+joined_cons same true k x v xs a c e first h on begins = elim (contains_cases k (x ∷ xs) v h) [
   | inl f ↦ (k, first, inl f)
-  | inr later ↦ elim (cons_cases x v xs later) [
+  | inr later ↦ elim (contains_cases x xs v later) [
     | inl f ↦ (k, first, inr (subst (λ z. same z k ≡ true) f e))
-    | inr last ↦ on (cons_more k v xs last)
+    | inr last ↦ on (contains_tail k xs v last)
   ]
 ]
-joined_cons same false k x v xs a c e first h on begins = elim (cons_cases k v (x ∷ xs) h) [
+joined_cons same false k x v xs a c e first h on begins = elim (contains_cases k (x ∷ xs) v h) [
   | inl f ↦ (k, contains_head k c, inl f)
-  | inr later ↦ let r = begins later in (r.0, cons_more k r.0 c r.1, r.2)
+  | inr later ↦ let r = begins later in (r.0, contains_tail k c r.0 r.1, r.2)
 ]
 
 kept_or_joined : {X : Type 0} (same : X → X → Bool) (k : X) (xs : List X) (v : X) → Contains (k ∷ xs) v → KeptOrJoined same (dedup_from same k xs) v
-kept_or_joined same k [] v h = elim (cons_cases k v [] h) [ inl e ↦ (k, contains_head k [], inl e) | inr w ↦ absurd (contains_none v w) ]
+kept_or_joined same k [] v h = elim (contains_cases k [] v h) [ inl e ↦ (k, contains_head k [], inl e) | inr w ↦ absurd (contains_none v w) ]
 kept_or_joined same k (x ∷ xs) v h =
     joined_cons same (same x k) k x v xs (dedup_from same k xs) (dedup_from same x xs) refl (dedup_first same k xs) h
     (kept_or_joined same k xs v) (kept_or_joined same x xs v)

@@ -14,15 +14,14 @@ use Rattle.mesh_relay.specs.declared.ways.Way.{Way}
 use Rattle.mesh_relay.specs.Ways.{AreWilling, IsAt, IsCheapest, AreWays}
 use Rattle.mesh_relay.specs.Taken.{ids_of, IsTaken, reaches}
 use Rattle.mesh_relay.proofs.Decide.{OffersWithin}
-use Rattle.mesh_relay.proofs.Lists.{cons_cases, cons_more}
 use Rattle.mesh_relay.proofs.Hits.{all_hit, one_missed}
 use Rattle.mesh_relay.proofs.Willing.{one_place, later_order}
-use Rattle.mesh_atoms.proofs.Lists.{contains_none, contains_head}
+use Rattle.mesh_atoms.proofs.Lists.{contains_none, contains_head, contains_cases, contains_tail}
 
 -- Ids
 
 ids_cond : (t : Bool) (id x : Addr4) (rest : List Addr4) → Contains (cond t (x ∷ rest) rest) id → ((x ≡ id) × (t ≡ true)) ⊎ Contains rest id
-ids_cond true id x rest w = elim (cons_cases x id rest w) [ inl e ↦ inl (e, refl) | inr v ↦ inr v ]
+ids_cond true id x rest w = elim (contains_cases x rest id w) [ inl e ↦ inl (e, refl) | inr v ↦ inr v ]
 ids_cond false id x rest w = inr w
 
 ids_first : (t : Bool) (x : Addr4) (rest : List Addr4) → t ≡ true → Contains (cond t (x ∷ rest) rest) x
@@ -30,7 +29,7 @@ ids_first true x rest e = contains_head x rest
 ids_first false x rest e = absurd (false≢true e)
 
 ids_later : (t : Bool) (x id : Addr4) (rest : List Addr4) → Contains rest id → Contains (cond t (x ∷ rest) rest) id
-ids_later true x id rest w = cons_more x id rest w
+ids_later true x id rest w = contains_tail x rest id w
 ids_later false x id rest w = w
 
 -- the neighbour of that id that is taken

@@ -13,8 +13,8 @@ use Rattle.mesh_atoms.specs.declared.graphs.NeighbourGraph.{NeighbourGraph}
 use Rattle.mesh_atoms.specs.Relays.{IsWilling, HasDistinctIds}
 use Rattle.mesh_relay.specs.Ways.{AreWilling, IsAt}
 use Rattle.mesh_atoms.proofs.Deciding.{Decides-not, Decides-eqb}
-use Rattle.mesh_relay.proofs.Lists.{cons_cases, dedup_cases, kept_within, joined}
-use Rattle.mesh_atoms.proofs.Lists.{contains_none, contains_filter_cases as passes, contains_filter as stays}
+use Rattle.mesh_relay.proofs.Lists.{dedup_cases, kept_within, joined}
+use Rattle.mesh_atoms.proofs.Lists.{contains_none, contains_filter_cases as passes, contains_filter as stays, contains_cases}
 
 abbrev pub has_same_id : Near → Near → Bool
 has_same_id next last = nat_eq next.id.0 last.id.0
@@ -40,7 +40,7 @@ unequal_ids x k e le =
     let other : x.id.0 ≡ k.id.0 → ⊥ = λ f. false≢true (sym e ∙ eq-eqb _ _ f) in omega arith
 
 above_first : (k : Near) (xs : List Near) (m : Near) → Rises k xs → Contains (dedup_from has_same_id k xs) m → k.id.0 ≤ m.id.0
-above_first k [] m up w = elim (cons_cases k m [] w) [
+above_first k [] m up w = elim (contains_cases k [] m w) [
   | inl e ↦ subst (λ (z : Near). k.id.0 ≤ z.id.0) e (omega arith)
   | inr v ↦ absurd (contains_none m v)
 ]

@@ -1,22 +1,14 @@
 -- What is told of flags by trying all of them.
 use Rattle.std.proofs.Common.{◌≡◌, Bool, true, false, not, ◌&&◌, refl}
-use Rattle.std.proofs.lemmas.Bool.{false≢true}
-
-pub and_left : (a b : Bool) → (a && b) ≡ true → a ≡ true
-and_left true b h = refl
-and_left false b h = absurd (false≢true h)
-
-pub and_right : (a b : Bool) → (a && b) ≡ true → b ≡ true
-and_right true b h = h
-and_right false b h = absurd (false≢true h)
+use Rattle.std.proofs.lemmas.Bool.{and_parts}
 
 -- of both
 abbrev pub both : (Bool → Bool) → Bool
 both f = f true && f false
 
 pub both_is : (f : Bool → Bool) → both f ≡ true → (b : Bool) → f b ≡ true
-both_is f h true = and_left (f true) (f false) h
-both_is f h false = and_right (f true) (f false) h
+both_is f h true = (and_parts (f true) (f false) h).0
+both_is f h false = (and_parts (f true) (f false) h).1
 
 abbrev pub same : Bool → Bool → Bool
 same true b = b
