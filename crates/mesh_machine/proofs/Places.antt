@@ -2,8 +2,9 @@
 use Rattle.std.proofs.Common.{◌≡◌, ℕ, ◌≤◌, ◌⊎◌, inl, inr, List, [], ◌∷◌, ◌++◌, refl, sym, ◌∙◌, ap, zero, suc, length, arith, Some, None, All, map}
 use Rattle.std.specs.Prelude.{slice_get, slice_set, ◌≢◌}
 use Rattle.std.proofs.lemmas.List.Elements.{All-nil, All-cons, All-head, All-tail}
-use Rattle.std.proofs.lemmas.Option.{slice_get_cases, get_or_from_slice_get}
-use Rattle.mesh_atoms.proofs.Lists.{item_at as stands, get_pushed as push_at}
+use Rattle.std.proofs.lemmas.Option.{slice_get_cases}
+use Rattle.mesh_atoms.proofs.Lists.{get_pushed as push_at}
+pub use Rattle.mesh_wire.proofs.Standing.{same_at}
 
 -- what holds at each place holds with one more item
 pub each_more : {A : Type 0} (P : ℕ → A → Type 0) (xs : List A) (x : A) → ((i : ℕ) (y : A) → slice_get xs i ≡ Some y → P i y) → P (length xs) x → (i : ℕ) (y : A) → slice_get (xs ++ x ∷ []) i ≡ Some y → P i y
@@ -18,10 +19,6 @@ none_past xs i h = elim (slice_get_cases xs i).1 [
   | inl (x, lt, e, g) ↦ absurd (let no : None ≡ Some x = sym h ∙ e in cc)
   | inr (le, e) ↦ le
 ]
-
--- one thing stands at a place
-pub same_at : {A : Type 0} (xs : List A) (i : ℕ) (x y : A) → slice_get xs i ≡ Some x → slice_get xs i ≡ Some y → x ≡ y
-same_at xs i x y a b = sym (get_or_from_slice_get xs i x x a) ∙ get_or_from_slice_get xs i y x b
 
 -- One item is replaced
 

@@ -21,17 +21,7 @@ use Rattle.mesh_machine.specs.Said.{IsSaidOf, IsFloodingRelay, shows_symmetric, 
 use Rattle.mesh_hello.specs.Saying.Said.{IsRelayOf}
 use Rattle.mesh_hello.specs.Saying.Said.{IsNeighbourWith}
 use Rattle.mesh_hello.specs.Saying.Said.{IsLinkWith}
-use Rattle.mesh_hello.proofs.SayingLemmas.Parts.{lent}
 use Rattle.mesh_atoms.proofs.Options.{same_some}
-
--- What is lent
-
-pub relay_by : (relays : List Addr4) (neighbour : Option (Addr4 × (Neighbour × ℕ))) (e : Addr4 × (Neighbour × ℕ)) (b : Bool) → neighbour ≡ Some e →
-    (IsTrue b ↔ Contains relays e.0) → IsTrue b ↔ IsRelayOf relays neighbour
-relay_by relays neighbour e b is tells = (
-  λ h. record { entry = e; is = is; has = tells.0 h },
-  λ w. tells.1 (subst (λ (x : Addr4 × (Neighbour × ℕ)). Contains relays x.0) (same_some w.is is) w.has),
-)
 
 -- The status of a link, as a choice
 

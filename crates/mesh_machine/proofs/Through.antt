@@ -21,7 +21,7 @@ use Rattle.mesh_atoms.proofs.Lists.{item_at as stands}
 
 -- Each event moves one router
 
-moves_of : (old new : NetState) (event : NetEvent) → NetStep old event new → (before : Traffic) × Moves old event before new
+pub moves_of : (old new : NetState) (event : NetEvent) → NetStep old event new → (before : Traffic) × Moves old event before new
 moves_of old new event (By_delivery d) = (with_heard old.traffic d.others, d.moves)
 moves_of old new event (By_tick t) = (old.traffic, t.moves)
 moves_of old new event (By_last_tick t) = (old.traffic, t.moves)

@@ -12,8 +12,7 @@ use Rattle.mesh_atoms.specs.State.{is_symmetric}
 use Rattle.mesh_atoms.specs.Quality.{quality_at, admitted, rule_of, admit_on}
 use Rattle.mesh_atoms.specs.Live.{trimmed}
 use Rattle.mesh_atoms.specs.AfterHello.{made, by_status, renewed}
-use Rattle.mesh_hello.proofs.Lookups.{none_not}
-use Rattle.mesh_atoms.proofs.Options.{same_some}
+use Rattle.mesh_atoms.proofs.Options.{same_some, none_not}
 
 -- What quality asks of a link
 

@@ -18,9 +18,9 @@ use Rattle.mesh_atoms.specs.AfterHello.{GoesOn, IsApart, IsTheirs, LinkKeptOrMad
 use Rattle.mesh_links.specs.Links.{EndsOutside, HearsOn}
 use Rattle.mesh_nbrs.specs.Neighbours.{HasNote, HasSymmetricNote, IsByNotes, RestoresBy, Replaces}
 use Rattle.mesh_nhdp.specs.Calls.{note_of, TellsLinks, TellsLinksOf}
-use Rattle.mesh_hello.proofs.Lookups.{none_not, contains_or_not}
 use Rattle.mesh_nhdp.proofs.HelloSound.{kept_from}
-use Rattle.mesh_atoms.proofs.Options.{same_some}
+use Rattle.mesh_atoms.proofs.Options.{same_some, none_not}
+use Rattle.mesh_atoms.proofs.Values.{contains_or_not}
 
 -- Neighbours: by the notes of all links is by the links
 

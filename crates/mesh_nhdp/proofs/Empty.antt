@@ -1,10 +1,9 @@
 -- The empty neighbourhood is sound.
-use Rattle.std.proofs.Common.{◌≡◌, ℕ, zero, suc, ◌+◌, ◌<◌, inl, inr, refl, sym, ◌∙◌, ap, subst, arith, List, [], ◌∷◌, ◌++◌, length, replicate, Contains, Some, None}
+use Rattle.std.proofs.Common.{◌≡◌, ℕ, zero, suc, ◌+◌, ◌<◌, inl, inr, refl, sym, ◌∙◌, ap, subst, arith, List, [], ◌∷◌, ◌++◌, length, replicate, Contains, Some}
 use Rattle.std.specs.Prelude.{slice_index_or}
 use Rattle.std.specs.List.{IsDistinct}
 use Rattle.std.proofs.lemmas.List.{get_or-replicate, get_or_past, length-replicate}
 use Rattle.std.proofs.lemmas.Bool.{cases_lt}
-use Rattle.std.proofs.lemmas.Option.{none-some}
 use Rattle.mesh_atoms.specs.declared.addr.Addr4.{Addr4}
 use Rattle.mesh_atoms.specs.declared.settings.RouterSettings.{RouterSettings}
 use Rattle.mesh_atoms.specs.declared.tuples.TwoHopKey.{TwoHopKey}
@@ -19,6 +18,7 @@ use Rattle.mesh_atoms.specs.State.{Neighbourhood}
 use Rattle.mesh_atoms.specs.TakesHello.{IsHeld}
 use Rattle.mesh_atoms.specs.Words.{AreMoreThan}
 use Rattle.mesh_atoms.specs.Sound.{SoundNeighbourhood}
+use Rattle.mesh_atoms.proofs.Options.{none_is_some}
 use Rattle.mesh_nhdp.specs.NhdpState.{empty_near, near_with}
 
 pub empty_base : {K V : Type 0} (count i : ℕ) → slice_index_or (replicate count (let none : Base K V = [] in none)) i [] ≡ []
@@ -27,12 +27,9 @@ empty_base {K} {V} count i = elim (cases_lt i count) [
   | inr past ↦ get_or_past (replicate count (let none : Base K V = [] in none)) i [] (let e : length (replicate count (let none : Base K V = [] in none)) ≡ count = length-replicate count [] in omega (arith, e, past))
 ]
 
-not_there : {A B : Type 0} {a : A} → None ≡ Some a → B
-not_there {a = a} e = absurd (none-some a e)
-
 -- nothing stands in an empty base
 none_in : {K V B : Type 0} (eq : K → K → _) (base : Base K V) (key : K) (e : V × ℕ) → base ≡ [] → find eq base key ≡ Some e → B
-none_in eq base key e empty at = not_there (sym (ap (λ b. find eq b key) empty) ∙ at)
+none_in eq base key e empty at = none_is_some (sym (ap (λ b. find eq b key) empty) ∙ at)
 
 no_addresses : (count : ℕ) → AreMoreThan 1024 (IsHeld (empty_near count)) → ⊥
 no_addresses count more =
@@ -40,9 +37,9 @@ no_addresses count more =
     first some all many
   where
     none_held : (a : Addr4) → IsHeld (empty_near count) a → ⊥
-    none_held a (inl h) = not_there h.1
-    none_held a (inr (inl h)) = not_there h.3
-    none_held a (inr (inr h)) = not_there h.1
+    none_held a (inl h) = none_is_some h.1
+    none_held a (inr (inl h)) = none_is_some h.3
+    none_held a (inr (inr h)) = none_is_some h.1
 
     first : (some : List Addr4) → ((a : Addr4) → Contains some a → IsHeld (empty_near count) a) → 1024 < length some → ⊥
     first [] all many = absurd (omega (arith, many))
@@ -57,8 +54,8 @@ empty_sound settings moment count near counts is = subst (λ (n : Neighbourhood)
   distinct_neighbours = tt;
   distinct_losts = tt;
   fresh_links = λ i key link until at. none_in link_eq (base_of (replicate count []) i) key (link, until) (empty_base count i) at;
-  fresh_neighbours = λ key n until at. not_there at;
-  fresh_losts = λ key e until at. not_there at;
+  fresh_neighbours = λ key n until at. none_is_some at;
+  fresh_losts = λ key e until at. none_is_some at;
   two_hops = λ i. record {
     distinct = subst (λ base. HasDistinctKeys two_hop_eq base) (sym (empty_base count i)) tt;
     limit = let e : length (base_of (replicate count (let none : Base TwoHopKey TwoHop = [] in none)) i) ≡ 0 = ap (λ (base : Base TwoHopKey TwoHop). length base) (empty_base count i) in omega (arith, e);
@@ -69,11 +66,11 @@ empty_sound settings moment count near counts is = subst (λ (n : Neighbourhood)
   by_quality = λ i key. subst (λ (base : Base LinkKey Link). admit_on settings i moment (find link_eq base key) ≡ find link_eq base key) (sym (empty_base count i)) refl;
   links_apart = λ i k l e f a at to has as_well. none_in link_eq (base_of (replicate count []) i) k e (empty_base count i) at;
   owner = λ i key link until at. none_in link_eq (base_of (replicate count []) i) key (link, until) (empty_base count i) at;
-  neighbour = λ o n until at. not_there at;
-  neighbours_apart = λ o p e f a at to has as_well. not_there at;
+  neighbour = λ o n until at. none_is_some at;
+  neighbours_apart = λ o p e f a at to has as_well. none_is_some at;
   two_hop = λ i key t at. none_in two_hop_eq (base_of (replicate count []) i) key t (empty_base count i) at;
-  lost = λ a e at is. not_there at;
-  lost_not_mine = λ a e at mine. not_there at;
+  lost = λ a e at is. none_is_some at;
+  lost_not_mine = λ a e at mine. none_is_some at;
 })
 
 -- the empty neighbourhood is that of nothing

@@ -26,10 +26,10 @@ use Rattle.mesh_nhdp.specs.NhdpState.{near_with}
 use Rattle.mesh_nhdp.specs.Wanted.{IsWantedAddress}
 use Rattle.mesh_nhdp.proofs.Bases.{base_cases}
 use Rattle.mesh_hello.proofs.Collect.{item_at}
-use Rattle.mesh_hello.proofs.Lookups.{none_not}
 use Rattle.mesh_nhdp.proofs.Whole.{live_by_calls}
 use Rattle.mesh_nhdp.proofs.LiveSound.{live_sound}
 use Rattle.mesh_atoms.proofs.Lists.{append_nothing}
+use Rattle.mesh_atoms.proofs.Options.{none_not}
 
 -- the rule of the interface at a place
 pub face_rule : (settings r : RouterSettings) (i : ℕ) (faces : List Interface) (face : Interface) → faces ≡ settings.interfaces → settings ≡ r → i < length r.interfaces → face ≡ get_or faces i face → face.admit ≡ rule_of r i

@@ -14,8 +14,8 @@ use Rattle.mesh_atoms.specs.HelloTold.{Told, tells_symmetric}
 use Rattle.mesh_atoms.specs.TakesHello.{AreTwoHopRows}
 use Rattle.mesh_atoms.proofs.Lists.{contains_head, contains_tail, contains_cases, contains_none}
 use Rattle.mesh_atoms.proofs.Lookups.{same_addr}
+use Rattle.mesh_atoms.proofs.Values.{contains_or_not}
 use Rattle.mesh_hello.proofs.Collect.{below_contains}
-use Rattle.mesh_hello.proofs.Lookups.{contains_or_not}
 use Rattle.mesh_nhdp.specs.Rows.{TellsSymmetric}
 use Rattle.mesh_nhdp.proofs.RowWalks.{symmetric_rows}
 

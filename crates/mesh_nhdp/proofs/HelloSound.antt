@@ -29,11 +29,11 @@ use Rattle.mesh_atoms.specs.declared.admit.Admit.{Admit}
 use Rattle.mesh_atoms.specs.Quality.{admit_on, rule_of}
 use Rattle.mesh_nhdp.proofs.Admitted.{FollowsQuality, IsAlike, made_follows, follows_alike, follows_if_stays, admit_stays, renewed_alike}
 use Rattle.mesh_nhdp.proofs.Limits.{no_more, found_left, found_right, entries_at, length_entries, found_entry}
-use Rattle.mesh_hello.proofs.Lookups.{none_not, same_key, contains_or_not}
+use Rattle.mesh_hello.proofs.Lookups.{same_key}
 use Rattle.mesh_nhdp.proofs.LiveSound.{is_trimmed, restores_from, restores_to, settles_back, settles_from}
 use Rattle.mesh_atoms.proofs.Lists.{contains_at}
-use Rattle.mesh_atoms.proofs.Options.{same_some, cond_none_some}
-use Rattle.mesh_atoms.proofs.Values.{same_address}
+use Rattle.mesh_atoms.proofs.Options.{same_some, cond_none_some, none_not}
+use Rattle.mesh_atoms.proofs.Values.{same_address, contains_or_not}
 
 -- The link that the HELLO renews
 

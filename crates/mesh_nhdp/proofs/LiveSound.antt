@@ -20,10 +20,10 @@ use Rattle.mesh_atoms.proofs.Lookups.{two_hop_equiv}
 use Rattle.mesh_atoms.specs.Quality.{admit_on, rule_of}
 use Rattle.mesh_nhdp.proofs.Admitted.{FollowsQuality, IsAlike, admitted_follows, follows_alike, admit_from, admit_stays}
 use Rattle.mesh_nhdp.proofs.Limits.{no_more}
-use Rattle.mesh_hello.proofs.Lookups.{none_not, live_from}
+use Rattle.mesh_hello.proofs.Lookups.{live_from}
 use Rattle.mesh_links.proofs.Admitted.{addrs-admitted}
 use Rattle.mesh_atoms.proofs.Lists.{contains_at}
-use Rattle.mesh_atoms.proofs.Options.{same_some, cond_none_some}
+use Rattle.mesh_atoms.proofs.Options.{same_some, cond_none_some, none_not}
 
 -- Links
 

@@ -1,5 +1,5 @@
 -- A HELLO that repeats what is held already changes nothing but moments.
-use Rattle.std.proofs.Common.{◌≡◌, ℕ, ◌+◌, ◌<◌, ◌≤◌, ◌≢◌, ◌⊎◌, ◌↔◌, inl, inr, refl, sym, ◌∙◌, ap, subst, arith, List, Contains, Option, Some, None, IsTrue}
+use Rattle.std.proofs.Common.{◌≡◌, ℕ, ◌+◌, ◌<◌, ◌≢◌, ◌⊎◌, ◌↔◌, inl, inr, refl, sym, ◌∙◌, ap, subst, arith, List, Contains, Option, Some, None, IsTrue}
 use Rattle.std.specs.Prelude.{Bool, true, false, cond, nat_lt, ◌&&◌, option_map}
 use Rattle.std.proofs.lemmas.Bool.{false≢true, lt-ltb, ltb-true, cases_eq}
 use Rattle.mesh_atoms.specs.declared.addr.Addr4.{Addr4}
@@ -8,7 +8,6 @@ use Rattle.mesh_atoms.specs.declared.hello.Hello.{Hello}
 use Rattle.mesh_atoms.specs.declared.hello.LinkStatus.{LinkStatus}
 use Rattle.mesh_atoms.specs.declared.hello.LinkStatus.TheVariants.{Lost as Down, Symmetric, Heard}
 use Rattle.mesh_atoms.specs.declared.hello.Shown.{Shown}
-use Rattle.mesh_atoms.specs.declared.hello.Willing.{Willing}
 use Rattle.mesh_atoms.specs.declared.admit.Admit.{Admit}
 use Rattle.mesh_atoms.specs.declared.settings.RouterSettings.{RouterSettings}
 use Rattle.mesh_atoms.specs.declared.tuples.Link.{Link}
@@ -17,54 +16,29 @@ use Rattle.mesh_atoms.specs.declared.tuples.Neighbour.{Neighbour}
 use Rattle.mesh_atoms.specs.declared.tuples.TwoHop.{TwoHop}
 use Rattle.mesh_atoms.specs.declared.tuples.TwoHopKey.{TwoHopKey}
 use Rattle.mesh_atoms.specs.Base.{base_of, addr_eq, two_hop_eq}
-use Rattle.mesh_atoms.specs.Codes.Codes.{metric_value}
 use Rattle.mesh_atoms.specs.State.{Neighbourhood, is_symmetric, link_at, two_hop_at, neighbour_at, HasAddress}
 use Rattle.mesh_atoms.specs.Live.{trimmed, is_symmetric_at, is_symmetric_entry, HasSymmetricOf, IsByLinks, Restores}
 use Rattle.mesh_atoms.specs.Sound.{SoundNeighbourhood}
-use Rattle.mesh_atoms.specs.Words.{IsKept, IsLeastMetric}
+use Rattle.mesh_atoms.specs.Words.{IsKept}
 use Rattle.mesh_atoms.specs.HelloTold.{Told, tells_symmetric, two_hop_of}
 use Rattle.mesh_atoms.specs.AfterHello.{AfterHello, LinkKeptOrMade, Stood, Made, renewed, by_status, GoesOn, Matches, announced, BecomesOther, Joins, Remains, StoodOn, Same_link, New_link, TellsTwoHop, By_row, By_none}
-use Rattle.mesh_atoms.proofs.CodesLemmas.CodeLaws.{cost-injective}
-use Rattle.mesh_atoms.proofs.Rows.{same_metric}
 use Rattle.mesh_nbrs.specs.Same.{SameTuples, way_at, SameNear}
-use Rattle.mesh_hello.proofs.Lookups.{none_not, same_key}
+use Rattle.mesh_hello.proofs.Lookups.{same_key}
 use Rattle.mesh_nhdp.specs.Repeats.{RepeatsStatus, RepeatsRow, RepeatsRows, Repeats}
 use Rattle.mesh_nhdp.proofs.LiveSound.{restores_to}
 use Rattle.mesh_nhdp.proofs.RowWalks.{looks_on}
 use Rattle.mesh_nhdp.proofs.RowsRepeat.{row_value}
 use Rattle.mesh_nhdp.proofs.Touched.{and_same}
-use Rattle.mesh_atoms.proofs.Options.{same_some}
+use Rattle.mesh_atoms.proofs.Options.{same_some, none_not}
 use Rattle.mesh_atoms.proofs.Values.{same_address}
+use Rattle.mesh_atoms.proofs.Equal.{least_only, same_neighbour}
 
 -- What is the only one
-
-pub least_only : (P Q : Metric → Type 0) (x y : Option Metric) → ((m : Metric) → P m → Q m) → ((m : Metric) → Q m → P m) → IsLeastMetric P x → IsLeastMetric Q y → x ≡ y
-least_only P Q None None to back h k = refl
-least_only P Q None (Some n) to back h k = absurd (h n (back n k.0))
-least_only P Q (Some m) None to back h k = absurd (k m (to m h.0))
-least_only P Q (Some m) (Some n) to back h k =
-    let below : metric_value m ≤ metric_value n = h.1 n (back n k.0) in
-    let above : metric_value n ≤ metric_value m = k.1 m (to m h.0) in
-    let same : metric_value m ≡ metric_value n = omega (arith, below, above) in
-    ap (λ (z : Metric). Some z) (same_metric m n (cost-injective m.code n.code same))
 
 same_truth : (a b : Bool) → (IsTrue a → IsTrue b) → (IsTrue b → IsTrue a) → a ≡ b
 same_truth true b to back = sym (to refl)
 same_truth false true to back = back refl
 same_truth false false to back = refl
-
-abbrev neighbour_with : List Addr4 → Bool → Option Metric → Option Metric → Willing → Bool → Neighbour
-neighbour_with addrs symmetric metric_in metric_out willing selector =
-    record { addrs = addrs; symmetric = symmetric; metric_in = metric_in; metric_out = metric_out; willing = willing; selector = selector }
-
-same_neighbour : (a b : Neighbour) → a.addrs ≡ b.addrs → a.symmetric ≡ b.symmetric → a.metric_in ≡ b.metric_in → a.metric_out ≡ b.metric_out → a.willing ≡ b.willing → a.selector ≡ b.selector → a ≡ b
-same_neighbour a b addrs symmetric metric_in metric_out willing selector =
-    ap (λ x. neighbour_with x a.symmetric a.metric_in a.metric_out a.willing a.selector) addrs
-    ∙ (ap (λ x. neighbour_with b.addrs x a.metric_in a.metric_out a.willing a.selector) symmetric
-    ∙ (ap (λ x. neighbour_with b.addrs b.symmetric x a.metric_out a.willing a.selector) metric_in
-    ∙ (ap (λ x. neighbour_with b.addrs b.symmetric b.metric_in x a.willing a.selector) metric_out
-    ∙ (ap (λ x. neighbour_with b.addrs b.symmetric b.metric_in b.metric_out x a.selector) willing
-    ∙ ap (λ x. neighbour_with b.addrs b.symmetric b.metric_in b.metric_out b.willing x) selector))))
 
 -- What is kept
 

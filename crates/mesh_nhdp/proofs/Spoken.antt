@@ -7,11 +7,10 @@ use Rattle.mesh_atoms.specs.AfterHello.{Matches}
 use Rattle.mesh_nbrs.specs.Neighbours.{IsSpokenOf}
 use Rattle.mesh_hello.specs.Gathers.{Gathers}
 use Rattle.mesh_hello.proofs.Collect.{adds_so, adds_nothing}
-use Rattle.mesh_hello.proofs.Lookups.{none_not}
 use Rattle.mesh_nhdp.specs.declared.near_addresses.WantedNeighbours.{WantedNeighbours}
 use Rattle.mesh_nhdp.specs.declared.near_addresses.WantedNeighbours.TheVariants.{Each, Symmetric}
 use Rattle.mesh_nhdp.specs.Wanted.{IsWanted, IsWantedAt, IsSpokenAddress, IsSymmetricSpokenAddress}
-use Rattle.mesh_atoms.proofs.Options.{same_some}
+use Rattle.mesh_atoms.proofs.Options.{same_some, none_not}
 
 -- what is added of the neighbour that is found
 pub adds_found : (base : Base Addr4 Neighbour) (wanted : WantedNeighbours) (o : Addr4) (n : Neighbour) (until : ℕ) (old new : List Addr4) → find addr_eq base o ≡ Some (n, until) →

@@ -15,12 +15,11 @@ use Rattle.mesh_atoms.specs.HelloTold.{Told}
 use Rattle.mesh_atoms.specs.AfterHello.{GoesOn, IsTheirs, Matches}
 use Rattle.mesh_atoms.specs.Sound.{SoundNeighbourhood}
 use Rattle.mesh_nhdp.specs.Wanted.{symmetric_at}
-use Rattle.mesh_hello.proofs.Lookups.{none_not}
 use Rattle.mesh_nhdp.proofs.Composes.{least_metric_iff}
 use Rattle.mesh_nhdp.proofs.HelloSound.{kept_from}
 use Rattle.mesh_nhdp.proofs.SymmetricAddresses.{symmetric_or_not}
 use Rattle.mesh_atoms.proofs.Lists.{contains_at}
-use Rattle.mesh_atoms.proofs.Options.{same_some}
+use Rattle.mesh_atoms.proofs.Options.{same_some, none_not}
 use Rattle.mesh_atoms.proofs.Values.{same_address}
 
 pub and_same : (a b : Bool) → (IsTrue a → IsTrue b) → a ≡ (a && b)

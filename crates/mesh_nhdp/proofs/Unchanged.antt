@@ -3,7 +3,7 @@ use Rattle.std.proofs.Common.{◌≡◌, ℕ, ◌+◌, ◌<◌, ◌≤◌, ◌�
 use Rattle.std.specs.Prelude.{Bool, true, false, cond, nat_lt, nat_eq, ◌&&◌}
 use Rattle.std.specs.List.{IsDistinct}
 use Rattle.std.specs.Cmp.{IsEquivalence}
-use Rattle.std.proofs.lemmas.Bool.{false≢true, cases_lt, eqb-true, and_parts as both_so}
+use Rattle.std.proofs.lemmas.Bool.{false≢true, eqb-true, and_parts as both_so}
 use Rattle.mesh_atoms.specs.declared.addr.Addr4.{Addr4}
 use Rattle.mesh_atoms.specs.declared.codes.metric.Metric.{Metric}
 use Rattle.mesh_atoms.specs.declared.tuples.LinkKey.{LinkKey}
@@ -19,6 +19,7 @@ use Rattle.mesh_atoms.specs.State.{Neighbourhood, is_symmetric, link_at, two_hop
 use Rattle.mesh_atoms.specs.Live.{LiveNeighbourhood, trimmed, trim, is_symmetric_entry, is_symmetric_at, HasSymmetricOf, IsByLinks, Restores, IsSymmetricAddress, SettlesLost, Back, Stays as Still}
 use Rattle.mesh_atoms.specs.Sound.{SoundNeighbourhood}
 use Rattle.mesh_atoms.proofs.Lookups.{addr_equiv, two_hop_equiv}
+use Rattle.mesh_atoms.proofs.Options.{none_not}
 use Rattle.mesh_links.specs.Links.{IsLinkUnchanged, AllStay}
 use Rattle.mesh_nhdp.specs.Staying.{LinksStay, AllIsAsItWas, ExpiresBeside}
 use Rattle.mesh_nhdp.proofs.Bases.{base_cases}
@@ -28,7 +29,7 @@ use Rattle.mesh_nhdp.proofs.Limits.{no_more}
 use Rattle.mesh_nhdp.proofs.LiveSound.{live_sound}
 use Rattle.mesh_nhdp.proofs.SymmetricAddresses.{symmetric_or_not}
 use Rattle.mesh_nhdp.proofs.Touched.{and_same}
-use Rattle.mesh_hello.proofs.Lookups.{none_not, live_from}
+use Rattle.mesh_hello.proofs.Lookups.{live_from}
 
 -- A link of which nothing becomes
 
@@ -115,12 +116,6 @@ module _ (settings : RouterSettings) (last now : ℕ) (old : Neighbourhood) (S :
     }
 
 -- Interface by interface
-
-pub one_more : (P : ℕ → Type 0) (i : ℕ) → ((k : ℕ) → k < i → P k) → P i → (k : ℕ) → k < i + 1 → P k
-one_more P i before here k lt = elim (cases_lt k i) [
-  | inl less ↦ before k less
-  | inr past ↦ (let same : i ≡ k = omega (arith, past, lt) in subst P same here)
-]
 
 pub links_stay_all : (settings : RouterSettings) (last now : ℕ) (links : List (Base LinkKey Link)) (i : ℕ) → length links ≤ i
     → ((k : ℕ) → k < i → AllStay (rule_of settings k) settings.times.link_hold last now (base_of links k)) → LinksStay settings last now links

@@ -26,11 +26,12 @@ use Rattle.mesh_nbrs.specs.Losts.{SettlesAll}
 use Rattle.mesh_nbrs.specs.TwoHops.TwoHops.{DropsLink}
 use Rattle.mesh_nhdp.specs.Calls.{key_at, TellsLinks, TellsLinksOf, TellsKeys, DropsEnded, TellsTwoHops}
 use Rattle.mesh_nhdp.specs.Wanted.{symmetric_at}
-use Rattle.mesh_hello.proofs.Lookups.{live_from, contains_or_not}
+use Rattle.mesh_hello.proofs.Lookups.{live_from}
 use Rattle.mesh_nhdp.proofs.Composes.{restores_by, restores_of, settles_by, goes_on_elsewhere, goes_on_here, hears_link, replaced_one, replaced_other}
 use Rattle.mesh_nhdp.proofs.Touched.{IsTheirSymmetric, rests, untouched, settles}
 use Rattle.mesh_nhdp.proofs.TwoHops.{dropped_here, dropped_elsewhere, left_by_ends, left_by_keys, on_false}
 use Rattle.mesh_atoms.proofs.Options.{same_some, cond_true as on_true}
+use Rattle.mesh_atoms.proofs.Values.{contains_or_not}
 
 entry_there : (now : ℕ) (o : Option (Link × ℕ)) → is_symmetric_entry now o ≡ true → (e : Link × ℕ) × (o ≡ Some e)
 entry_there now None h = absurd (false≢true h)

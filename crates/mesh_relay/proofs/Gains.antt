@@ -1,5 +1,5 @@
 -- The neighbour that is taken next.
-use Rattle.std.proofs.Common.{◌≡◌, ℕ, ◌+◌, ◌≤◌, ◌<◌, ◌⊎◌, Bool, true, false, cond, List, [], ◌∷◌, Option, Some, None, get_or, set, zero, suc, refl, sym, ◌∙◌, subst, inl, inr, arith, below_more}
+use Rattle.std.proofs.Common.{◌≡◌, ℕ, ◌+◌, ◌≤◌, ◌<◌, ◌⊎◌, Bool, true, false, cond, List, [], ◌∷◌, Option, Some, None, get_or, set, zero, suc, refl, sym, ◌∙◌, inl, inr, arith, below_more}
 use Rattle.std.specs.Prelude.{slice_index}
 use Rattle.std.proofs.lemmas.Bool.{false≢true, true≢false, cases_lt, ltb-true}
 use Rattle.mesh_relay.specs.Taken.{IsTaken, IsFree, free_count, is_better, IsBest}

@@ -1,8 +1,7 @@
 -- The least of a list, and lists in order.
-use Rattle.std.proofs.Common.{◌≡◌, zero, suc, ◌⊎◌, inl, inr, sym, subst, arith, List, [], ◌∷◌, slice_index_or, Contains}
+use Rattle.std.proofs.Common.{◌≡◌, ◌⊎◌, inl, inr, sym, subst, arith, List, [], ◌∷◌, Contains}
 use Rattle.std.specs.List.{AllPairs}
-use Rattle.std.proofs.lemmas.List.Elements.{Contains-get_or}
-use Rattle.mesh_atoms.proofs.Lists.{all_pairs_tail, contains_cases, contains_tail as in_tail, contains_none as none_of, contains_head as here}
+use Rattle.mesh_atoms.proofs.Lists.{all_pairs_tail, contains_cases, contains_tail as in_tail, contains_none as none_of, contains_head as here, all_pairs_cons, all_pairs_head}
 
 -- The least of a list in an order
 
@@ -56,16 +55,6 @@ module _ {X : Type 0} (IsUpto : X → X → Type 0) (total : (a b : X) → IsUpt
 
 -- Lists in order
 
-pairs_front : {X : Type 0} (R : X → X → Type 0) (x : X) (xs : List X) → ((y : X) → Contains xs y → R x y) →
-    AllPairs R xs → AllPairs R (x ∷ xs)
-pairs_front R x xs front rest zero zero d less low = absurd (omega arith)
-pairs_front R x xs front rest zero (suc j) d less low = front (slice_index_or xs j d) (Contains-get_or xs j d (omega arith))
-pairs_front R x xs front rest (suc i) zero d less low = absurd (omega arith)
-pairs_front R x xs front rest (suc i) (suc j) d less low = rest i j d (omega arith) (omega arith)
-
-pairs_head : {X : Type 0} (R : X → X → Type 0) (x : X) (xs : List X) → AllPairs R (x ∷ xs) → (y : X) → Contains xs y → R x y
-pairs_head R x xs pairs y (k, l, e) = subst (R x) e (pairs 0 (suc k) y (omega arith) (omega arith))
-
 -- Where each element of a list in order gives another element or is left out, those that are given are in order
 module _ {A B N : Type 0} (of : A → N) (to : B → N) (IsBefore : N → N → Type 0) (Right : B → Type 0) (IsLeftOut : A → Type 0) where
   pub record Gives (xs : List A) (ys : List B) : Type 0 where
@@ -94,10 +83,10 @@ module _ {A B N : Type 0} (of : A → N) (to : B → N) (IsBefore : N → N → 
       | inl same ↦ inr (y, here y ys, subst (λ (b : A). to y ≡ of b) same at)
       | inr later ↦ elim (are.all a later) [ inl none ↦ inl none | inr (z, within, is) ↦ inr (z, in_tail y ys z within, is) ]
     ];
-    ordered = pairs_front (λ (a b : B). IsBefore (to a) (to b)) y ys
+    ordered = all_pairs_cons (λ (a b : B). IsBefore (to a) (to b)) y ys
         (λ z has.
         let (_, (a, within, is)) = are.each z has in
-        let before : IsBefore (of x) (of a) = pairs_head (λ (a b : A). IsBefore (of a) (of b)) x xs pairs a within in
+        let before : IsBefore (of x) (of a) = all_pairs_head (λ (a b : A). IsBefore (of a) (of b)) x xs pairs a within in
         subst (λ (n : N). IsBefore n (to z)) (sym at) (subst (λ (n : N). IsBefore (of x) n) (sym is) before))
         are.ordered;
   }

@@ -13,7 +13,7 @@ use Rattle.mesh_atoms.proofs.Nets.{same_net}
 use Rattle.mesh_paths.proofs.Order.{same_node}
 use Rattle.mesh_paths.proofs.SettledDecisions.{any_or_none}
 use Rattle.mesh_routes.specs.Hops.Own.{HasNetworkIn, IsOutsideOf}
-use Rattle.mesh_atoms.proofs.Values.{same_address}
+use Rattle.mesh_atoms.proofs.Values.{contains_or_not}
 use Rattle.mesh_paths.proofs.SettledNeighbours.{originator_address as is_mine}
 use Rattle.mesh_atoms.proofs.Lists.{contains_at as at_place, place_in as place_of}
 
@@ -41,12 +41,6 @@ module _ (s : State) where
   beyond self is_self node out at = out.no_address self (is_mine s.settings self is_self) at
 
 -- A node is outside, or it isn't
-
-contains_or_not : (xs : List Addr4) (a : Addr4) → Contains xs a ⊎ (Contains xs a → ⊥)
-contains_or_not xs a = elim (any_or_none (λ (x : Addr4). x ≡ a) (λ x. same_address x a) xs) [
-  | inl (x, has, same) ↦ inl (subst (λ (y : Addr4). Contains xs y) same has)
-  | inr none ↦ inr (λ has. none a has refl)
-]
 
 address_or_not : (faces : List Interface) (a : Addr4) → HasAddressIn faces a ⊎ (HasAddressIn faces a → ⊥)
 address_or_not faces a = elim (any_or_none (λ (face : Interface). Contains face.addrs a) (λ face. contains_or_not face.addrs a) faces) [

@@ -2,8 +2,6 @@
 use Rattle.std.proofs.Common.{◌≡◌, ℕ, ◌-◌, ◌%◌, ◌^◌, ◌⊎◌, inl, inr, refl, sym, subst, ◌∙◌, arith, List, [], ◌∷◌}
 use Rattle.std.specs.Prelude.{Contains, AllPairs, Some, None, ◌==◌}
 use Rattle.std.proofs.lemmas.Bool.{cases_lt, cases_eq, eq-eqb, eqb-true, and_parts as both, and_from as and_both}
-use Rattle.std.proofs.lemmas.List.Elements.{All-contains_itself}
-use Rattle.std.proofs.lemmas.List.Kept.{AllPairs-cons}
 use Rattle.mesh_atoms.specs.declared.addr.NetAddr.{NetAddr}
 use Rattle.mesh_atoms.specs.Nodes.{IsBefore}
 use Rattle.mesh_atoms.proofs.Nets.{same_net}
@@ -12,12 +10,11 @@ use Rattle.mesh_wire.specs.Collects.{AreCollected}
 use Rattle.mesh_wire.specs.Entries.{Entry, collected}
 use Rattle.mesh_wire.specs.Standing.{after}
 use Rattle.mesh_wire.specs.KeptParts.{no_parts}
-use Rattle.mesh_wire.proofs.Ascending.{head_below}
 use Rattle.mesh_wire.proofs.Collected.{AnyOf, StandsOf, SaysOf, collected_is}
 use Rattle.mesh_wire.proofs.Collecting.{all_after}
 use Rattle.mesh_wire.proofs.Gathered.{stands_if}
 use Rattle.mesh_atoms.proofs.Values.{before_trans, same_addr}
-use Rattle.mesh_atoms.proofs.Lists.{contains_head as at_head, contains_tail as in_tail, contains_cases, contains_none as none_in, all_pairs_tail}
+use Rattle.mesh_atoms.proofs.Lists.{contains_head as at_head, contains_tail as in_tail, contains_cases, contains_none as none_in, all_pairs_tail, all_pairs_head, all_pairs_cons}
 
 -- ---- the network of an entry
 
@@ -58,9 +55,6 @@ before_or a b = elim (cases_lt a.addr.0 b.addr.0) [
   ]
 ]
 
-pairs_cons : {X : Type 0} (R : X → X → Type 0) (x : X) (xs : List X) → ((z : X) → Contains xs z → R x z) → AllPairs R xs → AllPairs R (x ∷ xs)
-pairs_cons R x xs h up = AllPairs-cons R x xs (λ i d lt. h _ (All-contains_itself xs i d lt)) up
-
 record Inserted (net : NetAddr) (nets : List NetAddr) : Type 0 where
   pub out : List NetAddr
   pub ascending : AllPairs IsBefore out
@@ -71,7 +65,7 @@ record Inserted (net : NetAddr) (nets : List NetAddr) : Type 0 where
 inserted : (net : NetAddr) (nets : List NetAddr) → AllPairs IsBefore nets → Inserted net nets
 inserted net [] up = record {
   out = net ∷ [];
-  ascending = pairs_cons IsBefore net [] (λ z h. absurd (none_in z h)) up;
+  ascending = all_pairs_cons IsBefore net [] (λ z h. absurd (none_in z h)) up;
   from = λ z h. contains_cases net [] z h;
   has = at_head net [];
   keeps = λ z h. absurd (none_in z h);
@@ -79,7 +73,7 @@ inserted net [] up = record {
 inserted net (x ∷ nets) up = elim (before_or net x) [
   | inl before ↦ record {
     out = net ∷ (x ∷ nets);
-    ascending = pairs_cons IsBefore net (x ∷ nets) (λ z h. elim (contains_cases x nets z h) [ inl e ↦ subst (IsBefore net) e before | inr later ↦ before_trans net x z before (head_below IsBefore x nets up z later) ]) up;
+    ascending = all_pairs_cons IsBefore net (x ∷ nets) (λ z h. elim (contains_cases x nets z h) [ inl e ↦ subst (IsBefore net) e before | inr later ↦ before_trans net x z before (all_pairs_head IsBefore x nets up z later) ]) up;
     from = λ z h. contains_cases net (x ∷ nets) z h;
     has = at_head net (x ∷ nets);
     keeps = λ z h. in_tail net (x ∷ nets) z h;
@@ -89,7 +83,7 @@ inserted net (x ∷ nets) up = elim (before_or net x) [
       let r = inserted net nets (all_pairs_tail IsBefore x nets up) in
       record {
         out = x ∷ r.out;
-        ascending = pairs_cons IsBefore x r.out (λ z h. elim (r.from z h) [ inl e ↦ subst (IsBefore x) e behind | inr old ↦ head_below IsBefore x nets up z old ]) r.ascending;
+        ascending = all_pairs_cons IsBefore x r.out (λ z h. elim (r.from z h) [ inl e ↦ subst (IsBefore x) e behind | inr old ↦ all_pairs_head IsBefore x nets up z old ]) r.ascending;
         from = λ z h. elim (contains_cases x r.out z h) [
           | inl e ↦ inr (subst (Contains (x ∷ nets)) e (at_head x nets))
           | inr later ↦ elim (r.from z later) [ inl e ↦ inl e | inr old ↦ inr (in_tail x nets z old) ]
@@ -146,7 +140,7 @@ module _ (es : List Entry) where
       let rest = rows_of nets (all_pairs_tail IsBefore x nets up) (λ net h. stands net (in_tail x nets net h)) in
       record {
         rows = row_of x ∷ rest.rows;
-        ascending = pairs_cons (λ (a b : AddressParts). IsBefore a.net b.net) (row_of x) rest.rows (λ t h. head_below IsBefore x nets up t.net (rest.each t h).0) rest.ascending;
+        ascending = all_pairs_cons (λ (a b : AddressParts). IsBefore a.net b.net) (row_of x) rest.rows (λ t h. all_pairs_head IsBefore x nets up t.net (rest.each t h).0) rest.ascending;
         each = λ t h. elim (contains_cases (row_of x) rest.rows t h) [
           | inl e ↦ subst (λ (u : AddressParts). Contains (x ∷ nets) u.net × (collected u.net es None ≡ Some u.parts)) e (at_head x nets, all_after x es (stands x (at_head x nets)))
           | inr later ↦ let r = rest.each t later in (in_tail x nets t.net r.0, r.1)

@@ -43,7 +43,6 @@ mod Ranks
 mod RowsSay
 mod Ruled
 mod RunLaws
-mod Same
 mod Spellings
 mod TcHeading
 mod TcRead

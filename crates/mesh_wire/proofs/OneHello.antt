@@ -18,6 +18,7 @@ use Rattle.mesh_atoms.specs.declared.hello.HelloRow.{HelloRow}
 use Rattle.mesh_atoms.specs.declared.hello.Hello.{Hello}
 use Rattle.mesh_atoms.specs.declared.codes.metric.Metric.{Metric}
 use Rattle.mesh_atoms.specs.Writable.{IsAlone}
+use Rattle.mesh_atoms.proofs.Equal.{same_willing}
 use Rattle.mesh_wire.specs.Hello.{local_value, link_value, other_value, HasWilling, WillingIs, TellsOther, IsReadHelloRow, HelloIs}
 use Rattle.mesh_wire.specs.HelloRules.{BreaksHello, TwoValues, WrongMetric}
 use Rattle.mesh_wire.specs.Kinds.{local_if, link_status, other_neighb, IsStatusBelow}
@@ -25,7 +26,6 @@ use Rattle.mesh_packet.specs.Fields.{MessageFields}
 use Rattle.mesh_wire.specs.Metrics.{Link_in, Link_out, Near_in, Near_out, HasTwoMetrics}
 use Rattle.mesh_wire.specs.Rows.{HasTwoValues}
 use Rattle.mesh_wire.specs.Rules.{Keeps}
-use Rattle.mesh_wire.proofs.Same.{same_willing}
 use Rattle.mesh_wire.proofs.Single.{one_time, one_interval, one_originator, one_octet, one_metric, one_flag, told_by, one_rows}
 
 -- ---- enumerations by their values
@@ -157,13 +157,13 @@ one_willing message a b (x, is_x, flooding_x, routing_x) (y, is_y, flooding_y, r
     let same : x ≡ y = one_octet_of_willing message x y is_x is_y in
     same_willing a b (flooding_x ∙ ap (λ (n : ℕ). n / 16) same ∙ sym flooding_y) (routing_x ∙ ap (λ (n : ℕ). n % 16) same ∙ sym routing_y)
 
-abbrev Up : List HelloRow → Type 0
+abbrev pub Up : List HelloRow → Type 0
 Up rows = AllPairs (λ (r t : HelloRow). IsBefore r.addr t.addr) rows
 
-abbrev hello_from : Option Addr4 → ℕ → Option ℕ → Willing → (rows : List HelloRow) → Up rows → Hello
+abbrev pub hello_from : Option Addr4 → ℕ → Option ℕ → Willing → (rows : List HelloRow) → Up rows → Hello
 hello_from o v i w r up = record { originator = o; validity = v; interval = i; willing = w; rows = r; ascending = up }
 
-from_rows : (o : Option Addr4) (v : ℕ) (i : Option ℕ) (w : Willing) (r t : List HelloRow) (up : Up r) (up' : Up t) → r ≡ t → hello_from o v i w r up ≡ hello_from o v i w t up'
+pub from_rows : (o : Option Addr4) (v : ℕ) (i : Option ℕ) (w : Willing) (r t : List HelloRow) (up : Up r) (up' : Up t) → r ≡ t → hello_from o v i w r up ≡ hello_from o v i w t up'
 from_rows o v i w r t up up' e =
     subst (λ (x : List HelloRow). (h : Up x) → hello_from o v i w r up ≡ hello_from o v i w x h) e
     (λ h. ap (hello_from o v i w r) (ascends_prop (λ (row : HelloRow). row.addr) r up h)) up'

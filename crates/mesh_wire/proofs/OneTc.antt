@@ -57,13 +57,13 @@ one_content message a b x y (p, high, low, is_p, octets_p, ansn_p, complete_p) (
     let octets : octets_of p.value ≡ high' ∷ low' ∷ [] = ap (λ (r : TlvFields). octets_of r.value) same ∙ octets_q in
     (ansn_p ∙ one_short high low high' low' _ octets_p octets ∙ sym ansn_q, complete_p ∙ ap (λ (r : TlvFields). r.ext == 0) same ∙ sym complete_q)
 
-abbrev Up : List TcRow → Type 0
+abbrev pub Up : List TcRow → Type 0
 Up rows = AllPairs (λ (r t : TcRow). IsBefore r.dest t.dest) rows
 
-abbrev tc_from : Addr4 → ℕ → ℕ → Bool → ℕ → Option ℕ → (rows : List TcRow) → Up rows → Tc
+abbrev pub tc_from : Addr4 → ℕ → ℕ → Bool → ℕ → Option ℕ → (rows : List TcRow) → Up rows → Tc
 tc_from o s n c v i r up = record { originator = o; sequence = s; ansn = n; complete = c; validity = v; interval = i; rows = r; ascending = up }
 
-from_rows : (o : Addr4) (s n : ℕ) (c : Bool) (v : ℕ) (i : Option ℕ) (r t : List TcRow) (up : Up r) (up' : Up t) → r ≡ t → tc_from o s n c v i r up ≡ tc_from o s n c v i t up'
+pub from_rows : (o : Addr4) (s n : ℕ) (c : Bool) (v : ℕ) (i : Option ℕ) (r t : List TcRow) (up : Up r) (up' : Up t) → r ≡ t → tc_from o s n c v i r up ≡ tc_from o s n c v i t up'
 from_rows o s n c v i r t up up' e =
     subst (λ (x : List TcRow). (h : Up x) → tc_from o s n c v i r up ≡ tc_from o s n c v i x h) e
     (λ h. ap (tc_from o s n c v i r) (ascends_prop (λ (row : TcRow). row.dest) r up h)) up'

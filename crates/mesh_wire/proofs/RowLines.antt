@@ -11,8 +11,7 @@ use Rattle.mesh_packet.specs.Reading.{packet_of}
 use Rattle.mesh_packet.proofs.Packets.{packet_again}
 use Rattle.mesh_wire.specs.declared.lines.AddressRecord.{AddressRecord}
 use Rattle.mesh_wire.specs.Writes.{IsSoleMessage, alone}
-use Rattle.mesh_wire.proofs.Ascending.{head_below}
-use Rattle.mesh_atoms.proofs.Lists.{contains_map_cases as unmapped, contains_cases, contains_none as none_in, all_pairs_tail}
+use Rattle.mesh_atoms.proofs.Lists.{contains_map_cases as unmapped, contains_cases, contains_none as none_in, all_pairs_tail, all_pairs_head}
 use Rattle.mesh_atoms.proofs.Values.{not_before_itself}
 
 module _ {Row : Type 0} (addr_of : Row → NetAddr) where
@@ -22,10 +21,10 @@ module _ {Row : Type 0} (addr_of : Row → NetAddr) where
   one_row (x ∷ rows) up r s has_r has_s e = elim (contains_cases x rows r has_r) [
     | inl is_r ↦ elim (contains_cases x rows s has_s) [
       | inl is_s ↦ sym is_r ∙ is_s
-      | inr later ↦ absurd (not_before_itself (addr_of x) (addr_of s) (ap addr_of is_r ∙ e) (head_below (λ a b. IsBefore (addr_of a) (addr_of b)) x rows up s later))
+      | inr later ↦ absurd (not_before_itself (addr_of x) (addr_of s) (ap addr_of is_r ∙ e) (all_pairs_head (λ a b. IsBefore (addr_of a) (addr_of b)) x rows up s later))
     ]
     | inr later_r ↦ elim (contains_cases x rows s has_s) [
-      | inl is_s ↦ absurd (not_before_itself (addr_of x) (addr_of r) (ap addr_of is_s ∙ sym e) (head_below (λ a b. IsBefore (addr_of a) (addr_of b)) x rows up r later_r))
+      | inl is_s ↦ absurd (not_before_itself (addr_of x) (addr_of r) (ap addr_of is_s ∙ sym e) (all_pairs_head (λ a b. IsBefore (addr_of a) (addr_of b)) x rows up r later_r))
       | inr later_s ↦ one_row rows (all_pairs_tail (λ a b. IsBefore (addr_of a) (addr_of b)) x rows up) r s later_r later_s e
     ]
   ]

@@ -7,13 +7,8 @@ use Rattle.mesh_atoms.specs.Nodes.{IsBefore, IsAtMost}
 use Rattle.mesh_wire.specs.declared.collect.AddressParts.{AddressParts}
 use Rattle.mesh_wire.specs.RowRules.{sooner, first_rule}
 use Rattle.mesh_wire.specs.Rules.{FirstBroken, IsLow, Keeps}
-use Rattle.mesh_wire.proofs.Ascending.{head_below}
-use Rattle.mesh_atoms.proofs.Values.{at_most_itself}
-use Rattle.mesh_atoms.proofs.Lists.{contains_head as at_head, contains_tail as in_tail, contains_cases, contains_none as none_in, all_pairs_tail}
-
-before_at_most : (a b : NetAddr) → IsBefore a b → IsAtMost a b
-before_at_most a b (inl l) = inl l
-before_at_most a b (inr (e, l)) = inr (e, omega arith)
+use Rattle.mesh_atoms.proofs.Values.{at_most_itself, at_most_of_before}
+use Rattle.mesh_atoms.proofs.Lists.{contains_head as at_head, contains_tail as in_tail, contains_cases, contains_none as none_in, all_pairs_tail, all_pairs_head}
 
 abbrev pub AreOrdered : List AddressParts → Type 0
 AreOrdered rows = AllPairs (λ (a b : AddressParts). IsBefore a.net b.net) rows
@@ -57,7 +52,7 @@ module _ (rule : AddressParts → Option ℕ) where
     first = λ u j has f. elim (contains_cases t rows u has) [ inl g ↦ omega (arith, same_number k j (sym e ∙ ap rule g ∙ f)) | inr later ↦ all u j later f ];
     least = λ u has f. elim (contains_cases t rows u has) [
       | inl g ↦ at_most_itself t.net u.net (ap (λ (x : AddressParts). x.net) g)
-      | inr later ↦ before_at_most t.net u.net (head_below (λ (a b : AddressParts). IsBefore a.net b.net) t rows up u later)
+      | inr later ↦ at_most_of_before t.net u.net (all_pairs_head (λ (a b : AddressParts). IsBefore a.net b.net) t rows up u later)
     ];
   }
 

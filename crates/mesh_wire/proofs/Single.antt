@@ -17,8 +17,8 @@ use Rattle.mesh_wire.specs.Rules.{FirstBroken, IsLow}
 use Rattle.mesh_wire.specs.Times.{HasTime, IntervalIs}
 use Rattle.mesh_wire.proofs.Ascending.{same_ascending}
 use Rattle.mesh_atoms.proofs.Nets.{same_net}
-use Rattle.mesh_wire.proofs.Same.{same_metric}
 use Rattle.mesh_atoms.proofs.Values.{same_addr}
+use Rattle.mesh_atoms.proofs.Rows.{same_metric}
 
 one_value : (v w : List ℕ) (vs : List (List ℕ)) → vs ≡ v ∷ [] → vs ≡ w ∷ [] → v ≡ w
 one_value v w vs e f = cc

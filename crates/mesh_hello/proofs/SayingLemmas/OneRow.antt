@@ -16,7 +16,6 @@ use Rattle.mesh_atoms.specs.Base.{Base, Has, HasDistinctKeys, addr_eq, link_eq, 
 use Rattle.mesh_expire.specs.Table.{entry_of, value_of}
 use Rattle.std.specs.Borrow.{Bor}
 use Rattle.mesh_atoms.proofs.Lookups.{has_found, addr_equiv, same_addr, link_equiv, same_link}
-use Rattle.mesh_hello.proofs.Lookups.{none_not}
 use Rattle.mesh_links.specs.Links.{HasLinkWith}
 use Rattle.mesh_atoms.specs.Hello.{IsHelloRow}
 use Rattle.mesh_atoms.specs.Words.{IsValue}
@@ -26,7 +25,7 @@ use Rattle.mesh_hello.proofs.SayingLemmas.Parts.{IsStatus, is_status, is_only, l
 use Rattle.mesh_hello.proofs.SayingLemmas.Somewhere.{told_some}
 use Rattle.mesh_hello.proofs.Collect.{iff_on}
 use Rattle.mesh_atoms.proofs.Lists.{contains_at}
-use Rattle.mesh_atoms.proofs.Options.{same_some}
+use Rattle.mesh_atoms.proofs.Options.{same_some, none_not}
 
 -- what the row is made of: the tuples that have the address, and what they show
 pub record IsMadeOf (settings : RouterSettings) (links : Base LinkKey Link) (neighbours : Base Addr4 Neighbour) (losts : Base Addr4 Lost) (relays : Relays) (i now : ℕ) (row : HelloRow) (a : Addr4) : Type 0 where

@@ -23,9 +23,8 @@ use Rattle.mesh_atoms.specs.declared.tuples.LinkState.{LinkState}
 use Rattle.mesh_atoms.specs.declared.tuples.LinkState.TheVariants.{Pending as Is_pending, Lost as Is_lost, Symmetric as Is_symmetric, Heard as Is_heard}
 use Rattle.mesh_atoms.specs.State.{State, state_of, HasLink, HasSymmetricWith, HasAddressOn}
 use Rattle.mesh_expire.specs.Table.{entry_of}
-use Rattle.mesh_hello.proofs.Lookups.{none_not}
 use Rattle.mesh_hello.specs.Saying.Said.{IsLinkWith, IsNeighbourWith, AreDisjoint, IsLocalOn, IsRelayOf, IsFloodingRelayOver, link_status_said, other_said, link_in_said, link_out_said, near_in_said, near_out_said}
-use Rattle.mesh_atoms.proofs.Options.{same_some}
+use Rattle.mesh_atoms.proofs.Options.{same_some, none_not}
 
 pub lent : {K V : Type 0} (o : Option (Bor K × Bor V × ℕ)) (e : Bor K × Bor V × ℕ) → o ≡ Some e → entry_of o ≡ Some (e.0.now, (e.1.now, e.2))
 lent o e is = ap entry_of is

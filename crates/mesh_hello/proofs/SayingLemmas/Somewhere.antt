@@ -1,5 +1,5 @@
 -- The addresses of which something is said are those that are put into the list.
-use Rattle.std.proofs.Common.{◌≡◌, ◌⊎◌, ◌++◌, ℕ, Bool, true, false, cond, nat_lt, zero, suc, inl, inr, List, [], ◌∷◌, refl, sym, ◌∙◌, ap, subst, slice_get, arith}
+use Rattle.std.proofs.Common.{◌≡◌, ◌++◌, ℕ, Bool, true, false, cond, nat_lt, inl, inr, List, [], ◌∷◌, refl, sym, ◌∙◌, ap, subst, slice_get, arith}
 use Rattle.std.specs.Prelude.{Contains, Option, Some, None, IsTrue}
 use Rattle.std.specs.List.{flat_map}
 use Rattle.std.specs.Map.{keys_of}
@@ -20,30 +20,23 @@ use Rattle.mesh_atoms.specs.declared.tuples.LinkState.TheVariants.{Pending as Is
 use Rattle.mesh_atoms.specs.State.{State, state_of, HasSymmetricWith, HasAddressOn}
 use Rattle.mesh_hello.specs.Saying.Said.{linked_addresses, symmetric_addresses, said_addresses}
 use Rattle.mesh_hello.proofs.SayingLemmas.Parts.{IsStatus, not_symmetric}
-use Rattle.mesh_atoms.proofs.Lists.{contains_head, contains_flat_map_cases, contains_flat_map, contains_at, place_of}
+use Rattle.mesh_atoms.proofs.Lists.{contains_head, contains_flat_map_cases, contains_flat_map, contains_at, place_of, contains_cases, contains_tail}
 use Rattle.mesh_atoms.proofs.Options.{same_some}
 
 -- Lists in general
 
-pub cons_cases : {X : Type 0} (x a : X) (xs : List X) → Contains (x ∷ xs) a → (x ≡ a) ⊎ Contains xs a
-cons_cases x a xs (zero, lt, at) = inl at
-cons_cases x a xs (suc k, lt, at) = inr (k, omega arith, at)
-
-cons_more : {X : Type 0} (x a : X) (xs : List X) → Contains xs a → Contains (x ∷ xs) a
-cons_more x a xs w = (suc w.0, omega (arith, w.1), w.2)
-
 key_given : {K V : Type 0} (xs : List (K × V)) (k : K) → Contains (keys_of xs) k → (v : V) × Contains xs (k, v)
 key_given [] k (n, lt, at) = absurd (omega arith)
-key_given {K} {V} (x ∷ xs) k w = elim (cons_cases x.0 k (keys_of xs) w) [
+key_given {K} {V} (x ∷ xs) k w = elim (contains_cases x.0 (keys_of xs) k w) [
   | inl e ↦ let P : K → Type 0 = λ q. Contains (x ∷ xs) (q, x.1) in (x.1, subst P e (contains_head x xs))
-  | inr later ↦ let (v, in') = key_given xs k later in (v, cons_more x (k, v) xs in')
+  | inr later ↦ let (v, in') = key_given xs k later in (v, contains_tail x xs (k, v) in')
 ]
 
 key_gives : {K V : Type 0} (xs : List (K × V)) (k : K) (v : V) → Contains xs (k, v) → Contains (keys_of xs) k
 key_gives [] k v (n, lt, at) = absurd (omega arith)
-key_gives {K} {V} (x ∷ xs) k v w = elim (cons_cases x (k, v) xs w) [
+key_gives {K} {V} (x ∷ xs) k v w = elim (contains_cases x xs (k, v) w) [
   | inl e ↦ subst (λ (q : K). Contains (x.0 ∷ keys_of xs) q) (ap (λ (q : K × V). q.0) e) (contains_head x.0 (keys_of xs))
-  | inr later ↦ cons_more x.0 k (keys_of xs) (key_gives xs k v later)
+  | inr later ↦ contains_tail x.0 (keys_of xs) k (key_gives xs k v later)
 ]
 
 -- The addresses of one tuple

@@ -7,7 +7,7 @@ use Rattle.mesh_atoms.specs.declared.addr.Addr4.{Addr4}
 use Rattle.mesh_atoms.specs.Words.{IsAscending, Lists}
 use Rattle.mesh_atoms.proofs.Lists.{all_pairs_tail, contains_cases, contains_head, contains_none, contains_tail}
 use Rattle.mesh_atoms.proofs.Values.{same_addr}
-use Rattle.mesh_renewal.proofs.Existing.Listings.{IsListed}
+use Rattle.mesh_routes.proofs.Listed.{IsListed}
 
 none_ascends : IsAscending []
 none_ascends i j d less low = absurd (omega arith)

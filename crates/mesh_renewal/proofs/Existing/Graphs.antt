@@ -21,8 +21,9 @@ use Rattle.mesh_atoms.specs.Relays.{HasDistinctIds}
 use Rattle.mesh_atoms.specs.State.{State, HasLink, HasSymmetric, HasSymmetricWith, HasTwoHop, is_symmetric, neighbour_at, state_of}
 use Rattle.mesh_atoms.proofs.Lookups.{addr_equiv, tests_symmetric}
 use Rattle.mesh_atoms.proofs.Options.{one_some, some_equal}
+use Rattle.mesh_routes.proofs.Listed.{IsListed, listed_by, listed_one}
 use Rattle.mesh_renewal.proofs.Existing.Listings.{each_or_not, list_such, true_or_not, upto_or_not}
-use Rattle.mesh_renewal.proofs.Existing.Listings.{IsListed, list_by, list_elements, list_one, list_value, list_below, list_where, list_of}
+use Rattle.mesh_renewal.proofs.Existing.Listings.{list_elements, list_value, list_below, list_where, list_of}
 use Rattle.mesh_renewal.proofs.Existing.Offers.{has_or_not}
 
 abbrev Entry : Type 0
@@ -48,7 +49,7 @@ module _ (s : State) (CostIs : Neighbour → Metric → Type 0) (costs : (n : Ne
   near_of o n m = record { id = o; cost = metric_value m; will = will n }
 
   list_near : IsListed NearIs
-  list_near = list_by
+  list_near = listed_by
       (λ (x : Near). (
         λ (e, has, (both_ways, (m, cost, is))). subst NearIs is (e.1.0, m, ((e.1.1, has), both_ways), cost, refl, refl),
         λ (n, m, ((until, has), both_ways), cost, at, willing).
@@ -57,7 +58,7 @@ module _ (s : State) (CostIs : Neighbour → Metric → Type 0) (costs : (n : Ne
             ∙ ap (λ (w : ℕ). let r : Near = record { id = x.id; cost = x.cost; will = w } in r) willing in
             ((x.id, (n, until)), has, (both_ways, (m, cost, is))),
       ))
-      (list_symmetric (λ e. list_of (costs e.1.0) (λ m. list_one (near_of e.0 e.1.0 m))))
+      (list_symmetric (λ e. list_of (costs e.1.0) (λ m. listed_one (near_of e.0 e.1.0 m))))
 
   abbrev DirectIs : Direct → Type 0
   DirectIs x = (o : Addr4) × (n : Neighbour) × (m : Metric) × HasSymmetricWith s x.addr o n × CostIs n m × (metric_value m ≡ x.cost)
@@ -66,7 +67,7 @@ module _ (s : State) (CostIs : Neighbour → Metric → Type 0) (costs : (n : Ne
   direct_of a m = record { addr = a; cost = metric_value m }
 
   list_direct : IsListed DirectIs
-  list_direct = list_by
+  list_direct = listed_by
       (λ (x : Direct). (
         λ (e, has, (both_ways, (m, cost, (a, within, is)))).
             subst DirectIs is (e.0, e.1.0, m, (((e.1.1, has), both_ways), within), cost, refl),
@@ -74,7 +75,7 @@ module _ (s : State) (CostIs : Neighbour → Metric → Type 0) (costs : (n : Ne
             let is : direct_of x.addr m ≡ x = ap (λ (c : ℕ). let r : Direct = record { addr = x.addr; cost = c } in r) at in
             ((o, (n, until)), has, (both_ways, (m, cost, (x.addr, within, is)))),
       ))
-      (list_symmetric (λ e. list_of (costs e.1.0) (λ m. list_of (list_elements e.1.0.addrs) (λ a. list_one (direct_of a m)))))
+      (list_symmetric (λ e. list_of (costs e.1.0) (λ m. list_of (list_elements e.1.0.addrs) (λ a. listed_one (direct_of a m)))))
 
   -- a far entry by a 2-hop tuple of interface i
   abbrev FarIs : ℕ → Far → Type 0
@@ -87,7 +88,7 @@ module _ (s : State) (CostIs : Neighbour → Metric → Type 0) (costs : (n : Ne
   far_of via a m = record { via = via; addr = a; cost = metric_value m }
 
   list_far : (i : ℕ) → IsListed (FarIs i)
-  list_far i = list_by
+  list_far i = listed_by
       (λ (x : Far). (
         λ (base, stands, (t, has_t, (e, has, (both_ways, (within, (k, cost, (m, out, is))))))).
             let two_hop : HasTwoHop s i t.0 t.1.0 = (base, stands, (t.1.1, has_t)) in
@@ -101,7 +102,7 @@ module _ (s : State) (CostIs : Neighbour → Metric → Type 0) (costs : (n : Ne
       ))
       (list_of (list_value (slice_get s.bases.neighbourhood.two_hops i)) (λ base. list_of (list_elements base)
       (λ t. list_symmetric (λ e. list_where (has_or_not e.1.0.addrs t.0.link.addr) (list_of (costs e.1.0)
-      (λ k. list_of (list_value (hop t.1.0)) (λ m. list_one (far_of e.0 t.0.addr m))))))))
+      (λ k. list_of (list_value (hop t.1.0)) (λ m. listed_one (far_of e.0 t.0.addr m))))))))
 
   -- where the metrics of a neighbour have one value, an id stands for one near entry
   one_near : HasDistinctKeys addr_eq (neighbours_of s) →
@@ -138,7 +139,7 @@ module _ (s : State) where
   routing_graph distinct =
       let (near, are_near) = list_near s CostsIn costs_in to_route hop_in in
       let (direct, are_direct) = list_direct s CostsIn costs_in to_route hop_in in
-      let (far, are_far) = list_by
+      let (far, are_far) = listed_by
       (λ (x : Far). (
         λ (i, low, (key, t, n, k, m, stands, owner, cost, to, out, at)). (i, key, t, n, k, m, stands, owner, cost, to, out, at),
         λ (i, key, t, n, k, m, stands, owner, cost, to, out, at).
@@ -163,7 +164,7 @@ module _ (s : State) (now i : ℕ) where
       × (state_of link now ≡ Is_symmetric) × (link.link_out ≡ Some k)
 
   list_links : (n : Neighbour) → IsListed (LinkIs n)
-  list_links n = list_by
+  list_links n = listed_by
       (λ (k : Metric). (
         λ (base, stands, (l, has, (within, (both_ways, out)))).
             (l.0, l.1.0, (base, stands, (l.1.1, has)), within, (tests_symmetric l.1.0 now).0 both_ways, out),

@@ -1,11 +1,11 @@
 -- Lists of all that has a property, and statements that hold or don't.
-use Rattle.std.proofs.Common.{◌≡◌, ◌↔◌, ℕ, zero, suc, ◌<◌, ◌≤◌, ◌⊎◌, inl, inr, refl, sym, subst, arith, Bool, true, false}
-use Rattle.std.proofs.Common.{List, [], ◌∷◌, ◌++◌, Contains, Option, Some, None}
+use Rattle.std.proofs.Common.{◌≡◌, ℕ, zero, suc, ◌<◌, ◌≤◌, ◌⊎◌, inl, inr, refl, sym, subst, arith, Bool, true, false}
+use Rattle.std.proofs.Common.{List, [], ◌∷◌, Contains, Option, Some, None}
 use Rattle.std.specs.List.{flat_map}
 use Rattle.std.proofs.lemmas.Bool.{cases_lt, false≢true}
-use Rattle.std.proofs.lemmas.List.Elements.{Contains-append_left, Contains-append_right, Contains-append_cases}
-use Rattle.mesh_atoms.proofs.Lists.{contains_cases, contains_head, contains_none, contains_one, contains_tail}
+use Rattle.mesh_atoms.proofs.Lists.{contains_cases, contains_head, contains_none, contains_tail}
 use Rattle.mesh_atoms.proofs.Lists.{contains_flat_map, contains_flat_map_cases}
+use Rattle.mesh_routes.proofs.Listed.{IsListed, listed_by, listed_one}
 
 -- Statements that hold or don't
 
@@ -30,25 +30,12 @@ upto_or_not a b = elim (cases_lt b a) [ inl more ↦ inr (λ upto. omega arith) 
 
 -- Lists
 
--- the list has exactly what has the property
-abbrev pub IsListed : {X : Type 0} → (X → Type 0) → Type 0
-IsListed {X} P = (xs : List X) × ((x : X) → Contains xs x ↔ P x)
-
-pub list_by : {X : Type 0} {P Q : X → Type 0} → ((x : X) → P x ↔ Q x) → IsListed P → IsListed Q
-list_by both (xs, are) = (xs, λ x. (λ has. (both x).0 ((are x).0 has), λ q. (are x).1 ((both x).1 q)))
-
 pub list_elements : {X : Type 0} (xs : List X) → IsListed (Contains xs)
 list_elements xs = (xs, λ x. (λ has. has, λ has. has))
 
-pub list_one : {X : Type 0} (y : X) → IsListed (λ x. y ≡ x)
-list_one {X} y = (
-  y ∷ [],
-  λ x. (λ has. contains_one y x has, λ is. subst (λ (z : X). Contains (y ∷ []) z) is (contains_head y [])),
-)
-
 pub list_value : {X : Type 0} (o : Option X) → IsListed (λ x. o ≡ Some x)
 list_value None = ([], λ x. (λ has. absurd (contains_none x has), λ is. absurd cc))
-list_value {X} (Some y) = list_by (λ (x : X). (λ is. cc, λ is. cc)) (list_one y)
+list_value {X} (Some y) = listed_by (λ (x : X). (λ is. cc, λ is. cc)) (listed_one y)
 
 pub list_below : (n : ℕ) → IsListed (λ i. i < n)
 list_below zero = ([], λ i. (λ has. absurd (contains_none i has), λ less. absurd (omega arith)))
@@ -67,21 +54,9 @@ list_below (suc n) =
       ),
     )
 
-pub list_either : {X : Type 0} {P Q : X → Type 0} → IsListed P → IsListed Q → IsListed (λ x. P x ⊎ Q x)
-list_either (xs, are) (ys, others) = (
-  xs ++ ys,
-  λ x. (
-    λ has. elim (Contains-append_cases xs ys x has) [ inl left ↦ inl ((are x).0 left) | inr right ↦ inr ((others x).0 right) ],
-    λ p. elim p [
-      | inl left ↦ Contains-append_left xs ys x ((are x).1 left)
-      | inr right ↦ Contains-append_right xs ys x ((others x).1 right)
-    ],
-  ),
-)
-
 -- where a statement holds
 pub list_where : {X D : Type 0} {P : X → Type 0} → HoldsOrNot D → IsListed P → IsListed (λ x. D × P x)
-list_where (inl d) listed = list_by (λ x. (λ p. (d, p), λ both. both.1)) listed
+list_where (inl d) listed = listed_by (λ x. (λ p. (d, p), λ both. both.1)) listed
 list_where (inr fails) listed = ([], λ x. (λ has. absurd (contains_none x has), λ both. absurd (fails both.0)))
 
 -- of each that is listed
@@ -98,9 +73,9 @@ list_of {A} {X} (of, are) each =
 
 -- what is listed and has another property
 pub list_such : {X : Type 0} {P D : X → Type 0} → IsListed P → ((x : X) → HoldsOrNot (D x)) → IsListed (λ x. P x × D x)
-list_such {X} {P} {D} listed decide = list_by
+list_such {X} {P} {D} listed decide = listed_by
     (λ (x : X). (λ (y, p, (d, is)). subst (λ (z : X). P z × D z) is (p, d), λ (p, d). (x, p, (d, refl))))
-    (list_of listed (λ y. list_where (decide y) (list_one y)))
+    (list_of listed (λ y. list_where (decide y) (listed_one y)))
 
 -- Some of a list, and all of it
 

@@ -7,8 +7,9 @@ use Rattle.mesh_atoms.specs.declared.graphs.Far.{Far}
 use Rattle.mesh_atoms.specs.declared.graphs.NeighbourGraph.{NeighbourGraph}
 use Rattle.mesh_atoms.specs.Relays.{Offers, IsWilling, IsOtherRelay, IsAsCheap, HasSameDistance, Covers, IsMissed, HasDistinctIds}
 use Rattle.mesh_atoms.proofs.Values.{same_address}
+use Rattle.mesh_routes.proofs.Listed.{IsListed, listed_by, listed_one, listed_either}
 use Rattle.mesh_renewal.proofs.Existing.Listings.{HoldsOrNot, both_or_not, opposite_or_not, upto_or_not, some_or_none, each_or_not}
-use Rattle.mesh_renewal.proofs.Existing.Listings.{IsListed, list_by, list_elements, list_one, list_either, list_where, list_of}
+use Rattle.mesh_renewal.proofs.Existing.Listings.{list_elements, list_where, list_of}
 
 -- Whether a neighbour is in a set
 
@@ -39,18 +40,18 @@ module _ (g : NeighbourGraph) where
   -- the costs at which a set offers an address
   list_offers : (A : Near → Type 0) → ((n : Near) → HoldsOrNot (A n)) → (y : Addr4) → IsListed (Offers g A y)
   list_offers A decide y =
-      let direct = list_by
+      let direct = listed_by
       (λ (c : ℕ). (λ (d, has, (at, cost)). (d, has, at, cost), λ (d, has, at, cost). (d, has, (at, cost))))
-      (list_of (list_elements g.direct) (λ d. list_where (same_address d.addr y) (list_one d.cost))) in
-      let by_neighbour = list_by
+      (list_of (list_elements g.direct) (λ d. list_where (same_address d.addr y) (listed_one d.cost))) in
+      let by_neighbour = listed_by
       (λ (c : ℕ). (
         λ (n, near, (a, (f, far, (via, (at, cost))))). (n, near, a, f, far, via, at, cost),
         λ (n, near, a, f, far, via, at, cost). (n, near, (a, (f, far, (via, (at, cost))))),
       ))
       (list_of (list_elements g.near) (λ n. list_where (decide n)
       (list_of (list_elements g.far) (λ f. list_where (same_address f.via n.id)
-      (list_where (same_address f.addr y) (list_one (n.cost + f.cost))))))) in
-      list_either direct by_neighbour
+      (list_where (same_address f.addr y) (listed_one (n.cost + f.cost))))))) in
+      listed_either direct by_neighbour
 
   as_cheap_or_not : (A B : Near → Type 0) → ((n : Near) → HoldsOrNot (A n)) → ((n : Near) → HoldsOrNot (B n)) →
       (y : Addr4) → HoldsOrNot (IsAsCheap g A B y)

@@ -11,8 +11,9 @@ use Rattle.mesh_atoms.specs.Relays.{IsWilling, IsRelay, IsOtherRelay, Covers, Is
 use Rattle.mesh_atoms.specs.Words.{IsAscending}
 use Rattle.mesh_atoms.proofs.Deciding.{Decides-addr, Decides-not}
 use Rattle.mesh_atoms.proofs.Lists.{contains_cases, contains_filter, contains_filter_cases, contains_head, contains_none, contains_tail}
+use Rattle.mesh_routes.proofs.Listed.{listed_one}
 use Rattle.mesh_renewal.proofs.Existing.Ascending.{list_ascending}
-use Rattle.mesh_renewal.proofs.Existing.Listings.{list_elements, list_of, list_one, list_where}
+use Rattle.mesh_renewal.proofs.Existing.Listings.{list_elements, list_of, list_where}
 use Rattle.mesh_renewal.proofs.Existing.Offers.{larger_as_cheap, offers_more, willing_or_not}
 use Rattle.mesh_renewal.proofs.Existing.Offers.{missed_among_fewer, missed_or_not, same_without}
 
@@ -43,7 +44,7 @@ module _ (g : NeighbourGraph) (distinct : HasDistinctIds g) where
   -- all willing neighbours, before one is tried
   all_willing : (relays : List Addr4) × IsReduced [] relays
   all_willing =
-      let ids = list_of (list_elements g.near) (λ n. list_where (willing_or_not n) (list_one n.id)) in
+      let ids = list_of (list_elements g.near) (λ n. list_where (willing_or_not n) (listed_one n.id)) in
       let (relays, (up, are)) = list_ascending ids in
       let has : (n : Near) → Contains g.near n → IsWilling n → Contains relays n.id =
       λ n near willing. (are n.id).1 (n, near, (willing, refl)) in (

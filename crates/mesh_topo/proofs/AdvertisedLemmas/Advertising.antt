@@ -1,8 +1,7 @@
 -- The rows of what is offered are the rows that a router advertises.
-use Rattle.std.proofs.Common.{◌≡◌, ℕ, ◌<◌, ◌≤◌, not, ◌⊎◌, ◌↔◌, inl, inr, Bool, true, false, cond, List, [], ◌∷◌, map, Option, Some, None, refl, sym, ap, subst, ◌∙◌, arith}
+use Rattle.std.proofs.Common.{◌≡◌, ℕ, ◌≤◌, not, ◌⊎◌, ◌↔◌, inl, inr, Bool, true, false, cond, List, [], ◌∷◌, map, Option, Some, None, refl, sym, ap, subst, ◌∙◌, arith}
 use Rattle.std.specs.Prelude.{Contains, IsTrue, flat_map, is_none}
 use Rattle.std.specs.List.{list_any}
-use Rattle.std.specs.Coded.{le_prop}
 use Rattle.std.specs.Ordering.{is_eq}
 use Rattle.std.specs.BTreeMap.{BTreeMap, get, IsOrdered}
 use Rattle.std.proofs.Math.Bool.{or-true}
@@ -29,6 +28,7 @@ use Rattle.mesh_atoms.proofs.NetOrder.{net_total, net_exact, same_at, at_same}
 use Rattle.mesh_topo.proofs.AdvertisedLemmas.RowOrder.{ascending_rows}
 use Rattle.mesh_atoms.proofs.Values.{same_host, net_itself}
 use Rattle.mesh_atoms.proofs.Lists.{contains_head as at_head, contains_tail as in_tail, contains_cases, contains_none as none_in, contains_map as in_map, contains_map_cases as from_map, contains_flat_map as in_each, contains_flat_map_cases}
+use Rattle.mesh_atoms.proofs.Rows.{same_metric}
 
 -- ---- selectors
 
@@ -132,12 +132,6 @@ of_its_net (x ∷ xs) a distinct has = elim (contains_cases x xs a has) [
 ]
 
 -- ---- rows
-
-abbrev metric_of : (code : ℕ) → code < 4096 → Metric
-metric_of code in_range = record { code = code; in_range = in_range }
-
-same_metric : (a b : Metric) → a.code ≡ b.code → a ≡ b
-same_metric a b e = subst (λ (k : ℕ). (h : k < 4096) → a ≡ metric_of k h) e (λ h. ap (λ (x : a.code < 4096). metric_of a.code x) (le_prop a.in_range h)) b.in_range
 
 -- metrics of one cost are one
 same_cost : (a b : Metric) → metric_value a ≤ metric_value b → metric_value b ≤ metric_value a → a ≡ b

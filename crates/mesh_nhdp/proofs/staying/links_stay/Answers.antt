@@ -1,4 +1,4 @@
-use Rattle.std.proofs.Common.{refl, sym, subst, ◌∙◌}
+use Rattle.std.proofs.Common.{refl, sym, subst, ◌∙◌, below_more}
 use Rattle.std.proofs.lemmas.Bool.{false≢true}
 use Rattle.mesh_atoms.specs.declared.tuples.LinkKey.{LinkKey}
 use Rattle.mesh_atoms.specs.declared.tuples.Link.{Link}
@@ -6,7 +6,7 @@ use Rattle.mesh_atoms.specs.Base.{Base, base_of}
 use Rattle.mesh_atoms.specs.Quality.{rule_of}
 use Rattle.mesh_links.specs.Links.{AllStay}
 use Rattle.mesh_nhdp.proofs.AllHears.{is_base}
-use Rattle.mesh_nhdp.proofs.Unchanged.{links_stay_all, one_more}
+use Rattle.mesh_nhdp.proofs.Unchanged.{links_stay_all}
 use Rattle.mesh_nhdp.proofs.staying.links_stay.Goals as goal
 
 pub returns-then-not-stay_on : goal.returns-then-not-stay_on
@@ -23,7 +23,7 @@ pub loop-i-preserved : goal.loop-i-preserved
 loop-i-preserved g c =
     let settings = c.args.settings.now in
     let here = is_base c.args.links.now c.loop-i.i c.index-links-i.result c.loop-i-test.true c.index-links-i.is in
-    one_more (λ k. AllStay (rule_of settings k) settings.times.link_hold c.args.last c.args.now (base_of c.args.links.now k)) c.loop-i.i c.loop-i.invariant
+    below_more (λ k. AllStay (rule_of settings k) settings.times.link_hold c.args.last c.args.now (base_of c.args.links.now k)) c.loop-i.i c.loop-i.invariant
     (subst (λ (b : Base LinkKey Link). AllStay (rule_of settings c.loop-i.i) settings.times.link_hold c.args.last c.args.now b) (sym here) (c.stay_on.ensures.0 c.if-not-stay_on.false))
 
 pub returns : goal.returns
