@@ -7,13 +7,16 @@ pub use Rattle.mesh_topo.proofs as topo
 pub use Rattle.mesh_wire.proofs as wire
 -- Lemmas for crates above, each file with the crates that cite it.
 pub mod Effects  -- core, texts
+pub mod FirstDue  -- radio, replay
 pub mod Hops  -- core, replay
+pub mod Leaving  -- radio, replay
 pub mod Opening  -- core, replay, run
 pub mod Originators  -- core, renewal, replay
 pub mod Places  -- radio, replay
 pub mod Sendables  -- core
 pub mod Sent  -- radio, replay
 pub mod Soundness  -- core, replay
+pub mod Spreading  -- radio, replay
 pub mod Tables  -- replay
 pub mod Takes  -- core, replay
 pub mod Through  -- emulate, texts

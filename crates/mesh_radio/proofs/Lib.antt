@@ -1,6 +1,5 @@
 mod Arcs
 mod Beginning
-mod FirstDue
 mod Flying
 mod Happenings
 mod Keeping

@@ -1,4 +1,3 @@
 pub mod Flights
 pub mod Leaving
 pub mod Sending
-pub mod Spreading

@@ -1,4 +1,3 @@
 pub mod Answering
 pub mod Beginning
-pub mod FirstDue
 pub mod Ticks

@@ -1,4 +1,3 @@
 pub mod Flying
 pub mod Hearing
 pub mod Leaving
-pub mod Spreading

@@ -14,7 +14,7 @@ pub mod OneTc  -- replay, report
 pub mod RowLines  -- replay
 pub mod Single  -- report
 pub mod Slots  -- probe
-pub mod Standing  -- probe, replay
+pub mod Standing  -- machine, probe, replay, trace
 -- Lemmas of this crate alone.
 mod Addresses
 mod Collected

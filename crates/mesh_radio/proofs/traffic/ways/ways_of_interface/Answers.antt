@@ -2,9 +2,9 @@ use Rattle.std.proofs.Common.{sym, ◌∙◌, ◌≡◌, ◌++◌, append-nil, d
 use Rattle.std.specs.List.{filter, enumerate_from}
 use Rattle.std.proofs.lemmas.List.{drop_all}
 use Rattle.mesh_machine.specs.Traffic.{leaves, leaving}
-use Rattle.mesh_radio.proofs.TrafficLemmas.Leaving.{leaving_more}
 use Rattle.mesh_radio.proofs.traffic.ways.ways_of_interface.Goals as goal
 use Rattle.mesh_radio.proofs.traffic.ways.ways_of_interface.Goals.{then-leaves+in_ok-push, else-leaves}
+use Rattle.mesh_machine.proofs.Leaving.{leaving_more}
 
 pub loop-number-preserved : goal.loop-number-preserved
 loop-number-preserved c =

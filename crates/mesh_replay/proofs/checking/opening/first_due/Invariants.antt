@@ -1,4 +1,4 @@
-use Rattle.mesh_replay.proofs.SceneLemmas.FirstDue.{IsFirstOf}
+use Rattle.mesh_trace.proofs.machine.FirstDue.{IsFirstOf}
 use Rattle.mesh_replay.proofs.checking.opening.first_due.Given as goal
 
 abbrev pub invariant-loop-router : goal.invariant-loop-router
