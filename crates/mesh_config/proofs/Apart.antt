@@ -16,9 +16,9 @@ use Rattle.mesh_config.specs.declared.stated.stated.StatedInterface.{StatedInter
 use Rattle.mesh_config.specs.declared.stated.stated.StatedRouter.{StatedRouter}
 use Rattle.mesh_config.specs.Checks.Compared.{all_addrs, stated_lists, ends_of}
 use Rattle.mesh_config.specs.Senders.{HaveNoDuplicates, AddressLists, first_addr, with_metric, sender_by, sender_pair, senders_to}
-use Rattle.mesh_config.proofs.Builds.{distinct_front, map-then}
+use Rattle.mesh_config.proofs.Builds.{map-then}
 use Rattle.mesh_atoms.proofs.Options.{not_both as no_both}
-use Rattle.mesh_atoms.proofs.Lists.{back_distinct}
+use Rattle.mesh_atoms.proofs.Lists.{back_distinct, front_distinct}
 
 -- ---- an address among lists, no address of which stands twice
 any_back : {A : Type 0} (p : A → Bool) (xs ys : List A) → list_any p ys ≡ true → list_any p (xs ++ ys) ≡ true
@@ -59,7 +59,7 @@ one_list f (z ∷ zs) (suc i) (suc j) x y a apart at bt h k = ap suc (one_list f
 
 part_apart : {A : Type 0} (f : A → List Addr4) (xs : List A) (i : ℕ) (x : A) → are_distinct addr_eq (flat_map f xs) ≡ true → slice_get xs i ≡ Some x → are_distinct addr_eq (f x) ≡ true
 part_apart f [] i x apart at = let bad : ⊥ = cc in absurd bad
-part_apart f (z ∷ zs) zero x apart at = let same : z ≡ x = cc in rw (← same) (distinct_front addr_eq (f z) (flat_map f zs) apart)
+part_apart f (z ∷ zs) zero x apart at = let same : z ≡ x = cc in rw (← same) (front_distinct addr_eq (f z) (flat_map f zs) apart)
 part_apart f (z ∷ zs) (suc i) x apart at = part_apart f zs i x (back_distinct addr_eq (f z) (flat_map f zs) apart) at
 
 -- ---- the interface that an address is the first of

@@ -19,7 +19,7 @@ use Rattle.mesh_config.specs.Fields.{interface_fields, IsClear}
 use Rattle.mesh_config.specs.Stated.Router.{InterfaceFields, stated_interface_fields}
 use Rattle.mesh_config.specs.Senders.{AddressLists, senders_to, sender_pair, HaveSenders, HaveAllSenders}
 use Rattle.mesh_config.proofs.ChecksLemmas.Links.{are_distinct-map}
-use Rattle.mesh_atoms.proofs.Lists.{back_distinct}
+use Rattle.mesh_atoms.proofs.Lists.{back_distinct, front_distinct}
 
 -- one more interface, one more router
 pub senders_more : (lists : AddressLists) (arcs : List RadioArc) (router i n : ℕ) (xs : List Interface) (x : Interface) → HaveSenders lists arcs router i xs → i + length xs ≡ n
@@ -42,27 +42,18 @@ all_senders_more lists arcs i n (y ∷ ys) x all here met =
     (all.0, all_senders_more lists arcs (i + 1) n ys x all.1 at met)
 
 -- ---- what holds of all holds of a part
-none_front : {A : Type 0} (p : A → Bool) (xs ys : List A) → not (list_any p (xs ++ ys)) ≡ true → not (list_any p xs) ≡ true
-none_front p xs ys h = grind (arith, list_any-append p xs ys, h)
-
-none_back : {A : Type 0} (p : A → Bool) (xs ys : List A) → not (list_any p (xs ++ ys)) ≡ true → not (list_any p ys) ≡ true
-none_back p xs ys h = grind (arith, list_any-append p xs ys, h)
-
-pub distinct_front : {A : Type 0} (eq : A → A → Bool) (xs ys : List A) → are_distinct eq (xs ++ ys) ≡ true → are_distinct eq xs ≡ true
-distinct_front eq [] ys h = refl
-distinct_front eq (x ∷ xs) ys h =
-    let parts = and_parts (not (list_any (eq x) (xs ++ ys))) (are_distinct eq (xs ++ ys)) h in
-    rw (none_front (eq x) xs ys parts.0, distinct_front eq xs ys parts.1)
+none_parts : {A : Type 0} (p : A → Bool) (xs ys : List A) → not (list_any p (xs ++ ys)) ≡ true → (not (list_any p xs) ≡ true) × (not (list_any p ys) ≡ true)
+none_parts p xs ys h = (grind (arith, list_any-append p xs ys, h), grind (arith, list_any-append p xs ys, h))
 
 distinct_part : {A B : Type 0} (eq : B → B → Bool) (f : A → List B) (xs : List A) (i : ℕ) (d : A) → i < length xs → are_distinct eq (flat_map f xs) ≡ true → are_distinct eq (f (get_or xs i d)) ≡ true
 distinct_part eq f [] i d within h = absurd (omega arith)
-distinct_part eq f (x ∷ xs) zero d within h = distinct_front eq (f x) (flat_map f xs) h
+distinct_part eq f (x ∷ xs) zero d within h = front_distinct eq (f x) (flat_map f xs) h
 distinct_part eq f (x ∷ xs) (suc i) d within h = distinct_part eq f xs i d (omega arith) (back_distinct eq (f x) (flat_map f xs) h)
 
 none_part : {A B : Type 0} (p : B → Bool) (f : A → List B) (xs : List A) (i : ℕ) (d : A) → i < length xs → not (list_any p (flat_map f xs)) ≡ true → not (list_any p (f (get_or xs i d))) ≡ true
 none_part p f [] i d within h = absurd (omega arith)
-none_part p f (x ∷ xs) zero d within h = none_front p (f x) (flat_map f xs) h
-none_part p f (x ∷ xs) (suc i) d within h = none_part p f xs i d (omega arith) (none_back p (f x) (flat_map f xs) h)
+none_part p f (x ∷ xs) zero d within h = (none_parts p (f x) (flat_map f xs) h).0
+none_part p f (x ∷ xs) (suc i) d within h = none_part p f xs i d (omega arith) (none_parts p (f x) (flat_map f xs) h).1
 
 pub all_at : {A : Type 0} (p : A → Bool) (xs : List A) (i : ℕ) (d : A) → i < length xs → list_all p xs ≡ true → p (get_or xs i d) ≡ true
 all_at p [] i d within h = absurd (omega arith)

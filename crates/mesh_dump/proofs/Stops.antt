@@ -1,12 +1,11 @@
 -- Writing that stops on the way, behind what was written before.
-use Rattle.std.proofs.Common.{◌≡◌, ℕ, ◌+◌, ◌≤◌, List, ◌++◌, length, take, Option, Result, Ok, Err, sym, subst, arith}
+use Rattle.std.proofs.Common.{◌≡◌, ℕ, ◌+◌, ◌≤◌, List, ◌++◌, length, take, Option, Result, Ok, Err, sym, subst}
 use Rattle.std.specs.Prelude.{IsErrAnd}
 use Rattle.std.specs.Io.KnownBytes.{Appends}
 use Rattle.std.proofs.Math.Seq.{take-append-add}
-use Rattle.mesh_io.specs.Faults.{Rose}
 use Rattle.mesh_io.specs.declared.stop.Stop.{Stop}
 use Rattle.mesh_io.specs.declared.stop.Stop.TheVariants as stop
-use Rattle.mesh_io.proofs.Steps.{appends_more}
+use Rattle.mesh_io.proofs.Steps.{appends_more, rose_before}
 use Rattle.mesh_dump.specs.Writes.{Stops, Writes}
 
 -- an answer of this fault
@@ -14,9 +13,6 @@ pub answers : {A : Type 0} (Whole : A → List ℕ → Type 0) (Cut Part : List 
     → IsErrAnd r (λ x. x ≡ e) → Stops Cut Part a b f g e → Writes Whole Cut Part a b f g r
 answers Whole Cut Part a b f g e (Ok x) is h = absurd is
 answers Whole Cut Part a b f g e (Err x) is h = subst (λ (s : Stop). Stops Cut Part a b f g s) (sym is) h
-
-rose_before : (f g h : ℕ) → f ≤ g → Rose g h → Rose f h
-rose_before f g h le rose = omega (arith, le, rose)
 
 -- a text was written, and what was to follow stopped
 pub stops_behind : (first : List ℕ) (Cut Part Cut' Part' : List ℕ → Type 0) (a b c : Option (List ℕ)) (f g h : ℕ) (e : Stop) → Appends a b first → f ≤ g

@@ -1,22 +1,18 @@
 -- What is left on out, one part after the other.
-use Rattle.std.proofs.Common.{◌≡◌, ℕ, ◌+◌, ◌≤◌, List, [], ◌++◌, length, take, Option, Result, Ok, Err, sym, subst, arith}
+use Rattle.std.proofs.Common.{◌≡◌, ℕ, ◌+◌, ◌≤◌, List, [], ◌++◌, length, take, Option, Result, Ok, Err, sym, subst}
 use Rattle.std.specs.Io.KnownBytes.{Appends}
 use Rattle.std.proofs.Math.Seq.{take-append-add}
-use Rattle.mesh_io.specs.Faults.{Rose}
 use Rattle.mesh_io.specs.declared.stop.Stop.{Stop}
 use Rattle.mesh_io.specs.declared.stop.Stop.TheVariants as stop
-use Rattle.mesh_io.proofs.Steps.{appends_more}
+use Rattle.mesh_io.proofs.Steps.{appends_more, rose_before}
 use Rattle.mesh_emulate.specs.Left.{LeavesOut, IsNothing}
-
-rose_later : (f g h : ℕ) → f ≤ g → Rose g h → Rose f h
-rose_later f g h le rose = omega (arith, le, rose)
 
 -- a text, and then what is left behind it where it stops
 pub stops_then : (W F P W' F' P' : List ℕ → Type 0) (a b c : Option (List ℕ)) (f g h : ℕ) (first : List ℕ) (why : Stop) →
     Appends a b first → f ≤ g → ((t : List ℕ) → F t → F' (first ++ t)) → ((t : List ℕ) → P t → P' (first ++ t)) →
     LeavesOut W F P b c g h (Err why) → LeavesOut W' F' P' a c f h (Err why)
 stops_then W F P W' F' P' a b c f g h first stop.Write stood le front part (rose, text, is, n, stands) = (
-  rose_later f g h le rose,
+  rose_before f g h le rose,
   first ++ text,
   front text is,
   length first + n,

@@ -2,13 +2,11 @@
 use Rattle.std.proofs.Common.{◌≡◌, ℕ, List, Option, Some, None, subst}
 use Rattle.mesh_atoms.specs.declared.settings.Scenario.{Scenario}
 use Rattle.mesh_atoms.specs.State.{State}
+use Rattle.mesh_atoms.proofs.Options.{none_not}
 use Rattle.mesh_config.specs.Settings.{refusals}
 use Rattle.mesh_emulate.specs.Emulation.{TellsTrip, TellsProbe, Emulation, IsRefused, By_settings, By_name}
 use Rattle.mesh_emulate.specs.Wants.{WantedPacket, Wants, IsNamed, start_of, FirstUnknown, Of_send, Of_probe}
-use Rattle.mesh_config.specs.Keys.Faults.{Fault, fault, first}
-
-no_fault : (found : Option Fault) (f : Fault) → found ≡ None → found ≡ Some f → ⊥
-no_fault found f none some = cc
+use Rattle.mesh_config.specs.Keys.Faults.{fault, first}
 
 -- what is told is of routers that have the names
 start_named : (s : Scenario) (states : List State) (send : Option WantedPacket) (text name : List ℕ) → TellsTrip s states send text → start_of send ≡ Some name → (x : ℕ) × IsNamed s name x
@@ -28,5 +26,5 @@ not_unknown input wants e number key (Of_probe known (name, wanted, u)) =
     let (x, named) = origin_named e.scenario e.run.final.routers wants.probe e.probe name e.is_probe wanted in u.none x named
 
 pub emulated_not_refused : (input : List ℕ) (wants : Wants) → Emulation input wants → (number : ℕ) (key : List ℕ) → IsRefused input wants number key → ⊥
-emulated_not_refused input wants e number key (By_settings refused) = no_fault (first (refusals input)) (fault number key) e.stated.clear refused
+emulated_not_refused input wants e number key (By_settings refused) = none_not {o = first (refusals input)} {a = fault number key} e.stated.clear refused
 emulated_not_refused input wants e number key (By_name scenario stated unknown) = not_unknown input wants e number key (unknown e.scenario e.stated)

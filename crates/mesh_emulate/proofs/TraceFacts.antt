@@ -10,19 +10,14 @@ use Rattle.mesh_io.specs.declared.stop.Stop.{Stop}
 use Rattle.mesh_io.proofs.Steps.{appends_more}
 use Rattle.mesh_texts.specs.machine.packet.Least.{Wrote}
 use Rattle.mesh_atoms.specs.declared.network.NetEvent.{NetEvent}
-use Rattle.mesh_texts.specs.machine.Net.{NetState, NetStep, By_delivery, By_tick, By_last_tick, Moves}
-use Rattle.mesh_texts.specs.machine.Traffic.{Traffic, with_heard}
+use Rattle.mesh_texts.proofs.machine.Through.{moves_of}
+use Rattle.mesh_texts.specs.machine.Net.{NetState, NetStep}
 use Rattle.mesh_texts.specs.machine.NetRun.{IsOfPackets}
 use Rattle.mesh_texts.proofs.TraceSteps.{traces_more, traces_run}
 use Rattle.mesh_texts.specs.Trace.{IsEventText}
 use Rattle.mesh_texts.specs.Runs.{IsTraced}
 use Rattle.mesh_emulate.specs.Left.{LeavesOut, IsNothing, IsLastEvent, RunWithText, ToldToEnd, ToldSoFar}
 use Rattle.mesh_emulate.proofs.Leaving.{stops_then}
-
-moves_of : (old new : NetState) (event : NetEvent) → NetStep old event new → (before : Traffic) × Moves old event before new
-moves_of old new event (By_delivery d) = (with_heard old.traffic d.others, d.moves)
-moves_of old new event (By_tick t) = (old.traffic, t.moves)
-moves_of old new event (By_last_tick t) = (old.traffic, t.moves)
 
 -- a step that the network takes is one whose text can be told
 pub last_event : (s : Scenario) (old new : NetState) (event : NetEvent) → old.scenario ≡ s → NetStep old event new → IsOfPackets event →

@@ -17,9 +17,10 @@ use Rattle.mesh_atoms.specs.Quality.{quality_at, rule_of, admitted, admit_on}
 use Rattle.mesh_atoms.specs.State.{link_at, is_symmetric}
 use Rattle.mesh_atoms.specs.TakesHello.{IsHeld, Takes, Overfull_two_hops}
 use Rattle.mesh_atoms.specs.Words.{IsKept}
+use Rattle.mesh_atoms.proofs.Options.{none_is_some}
 use Rattle.mesh_paths.proofs.ShortLists.{few_of_one}
 use Rattle.mesh_laws.proofs.Members.{some_is}
-use Rattle.mesh_laws.proofs.Options.{some_none, none_is_some, some_is_none, same_some}
+use Rattle.mesh_laws.proofs.Options.{some_none, some_is_none, same_some}
 use Rattle.mesh_laws.proofs.Qualities.{quality_by, cut}
 use Rattle.mesh_laws.specs.Spoiled.{RefusesLinksTogether, RefusesLinkOfUnlisted, RefusesLinkOfSharedAddress, RefusesLinkGone, RefusesOtherQuality, RefusesLostLinkKept, RefusesMadeUnadmitted, RefusesFullOfOne, RefusesTakenThoughFull, RefusesTakenThoughManyRows, RefusesFullThoughFits, RefusesLinkMetricFirst, RefusesMetricUnsaid, RefusesRowByLinkMetric, RefusesRowWithoutMetric}
 

@@ -1,7 +1,7 @@
 -- The definitions refuse spoiled neighbours and lost addresses.
 use Rattle.std.proofs.Common.{◌≡◌, ◌≢◌, ℕ, ◌≤◌, refl, sym, ◌∙◌, ap, subst, arith, Option, Some, None}
 use Rattle.std.specs.Prelude.{Bool, true, false, cond, nat_lt, ◌&&◌}
-use Rattle.std.proofs.lemmas.Bool.{lt-ltb}
+use Rattle.std.proofs.lemmas.Bool.{and_parts, lt-ltb}
 use Rattle.std.proofs.Math.Nat.{le_antisymm}
 use Rattle.mesh_atoms.specs.declared.codes.metric.Metric.{Metric}
 use Rattle.mesh_atoms.specs.declared.tuples.Link.{Link}
@@ -11,13 +11,9 @@ use Rattle.mesh_atoms.specs.Codes.Codes.{metric_value}
 use Rattle.mesh_atoms.specs.Live.{HasSymmetricOf, SettlesLost, Back, Gone, Stays}
 use Rattle.mesh_atoms.specs.Words.{IsLeastMetric}
 use Rattle.mesh_laws.proofs.Members.{some_is}
-use Rattle.mesh_laws.proofs.Options.{some_none, none_is_some, some_is_none, same_some}
+use Rattle.mesh_laws.proofs.Options.{some_none, some_is_none, same_some}
 use Rattle.mesh_laws.specs.Spoiled.{RefusesNeighbourOutOfNothing, RefusesNeighbourGone, RefusesSelectorKept, RefusesNeighbourTooShort, RefusesLostThoughBack, RefusesLossUntold, RefusesLostOutOfNothing, RefusesLostAtAnotherMoment, RefusesLostSymmetric, RefusesOwnLost, RefusesNeighbourTooLong, RefusesOtherAddresses, RefusesOtherWillingness, RefusesSelectorCleared, RefusesSymmetricUntold, RefusesSymmetricOutOfNothing, RefusesOtherMetricIn, RefusesOtherMetricOut, RefusesLostGone, RefusesLostMoved}
-use Rattle.mesh_atoms.proofs.Options.{cond_true}
-
-both_true : (a b : Bool) → (a && b) ≡ true → b ≡ true
-both_true true b h = h
-both_true false b h = absurd (cc)
+use Rattle.mesh_atoms.proofs.Options.{cond_true, none_is_some}
 
 -- Neighbours as their links have them
 
@@ -29,7 +25,7 @@ neighbour_gone near now i e key f has h = h i key f has
 
 pub selector_kept : RefusesSelectorKept
 selector_kept near now e f off on h =
-    let symmetric : f.0.symmetric ≡ true = both_true e.0.selector f.0.symmetric (sym h.selector ∙ on) in
+    let symmetric : f.0.symmetric ≡ true = (and_parts e.0.selector f.0.symmetric (sym h.selector ∙ on)).1 in
     absurd (cc)
 
 pub neighbour_too_short : RefusesNeighbourTooShort

@@ -6,7 +6,8 @@ use Rattle.mesh_atoms.specs.declared.addr.Addr4.{Addr4}
 use Rattle.mesh_atoms.specs.declared.tc.Tc.{Tc}
 use Rattle.mesh_atoms.specs.AfterTc.{Becomes, Given, Left, if_not_dropped}
 use Rattle.mesh_atoms.specs.Base.{addr_eq}
-use Rattle.mesh_laws.proofs.Options.{some_none, true_false, same_some}
+use Rattle.mesh_atoms.proofs.Options.{true_false}
+use Rattle.mesh_laws.proofs.Options.{some_none, same_some}
 
 -- a complete TC leaves of its originator's tuples those of its number
 left_by : {A : Type 0} (mine complete same : Bool) (e f : A) → mine ≡ true → complete ≡ true → cond (mine && (complete && not same)) None (Some e) ≡ Some f → (same ≡ true) × (e ≡ f)

@@ -1,7 +1,7 @@
 -- The definitions of a router refuse wrong states.
-use Rattle.std.proofs.Common.{◌≡◌, ℕ, ◌+◌, ◌<◌, ◌≤◌, ◌⊎◌, inl, inr, refl, sym, ◌∙◌, ap, subst, arith, slice_index_or, length, Option, Some, None, IsTrue}
-use Rattle.std.specs.Prelude.{Bool, true, false, cond, nat_lt, Contains}
-use Rattle.std.proofs.lemmas.Bool.{le-ltb}
+use Rattle.std.proofs.Common.{◌≡◌, ℕ, ◌+◌, ◌<◌, ◌≤◌, inl, inr, refl, sym, ◌∙◌, ap, subst, arith, slice_index_or, length, Option, Some, None, IsTrue}
+use Rattle.std.specs.Prelude.{Bool, false, cond, nat_lt, Contains}
+use Rattle.std.proofs.lemmas.Bool.{cases_Bool, le-ltb}
 use Rattle.std.proofs.lemmas.Option.{slice_get_within, get_or_from_slice_get}
 use Rattle.mesh_atoms.specs.declared.addr.Addr4.{Addr4}
 use Rattle.mesh_atoms.specs.declared.addr.NetAddr.{NetAddr}
@@ -25,16 +25,12 @@ use Rattle.mesh_atoms.specs.Nodes.{IsBefore, IsAtMost}
 use Rattle.mesh_atoms.specs.Quality.{quality_at, rule_of, admitted, admit_on}
 use Rattle.mesh_atoms.specs.State.{State, Neighbourhood, link_at, two_hop_at, state_of, HasLink}
 use Rattle.mesh_atoms.specs.Words.{IsValue}
-use Rattle.mesh_laws.proofs.Options.{some_none, true_false}
+use Rattle.mesh_atoms.proofs.Options.{true_false}
+use Rattle.mesh_laws.proofs.Options.{some_none}
 use Rattle.mesh_laws.proofs.Qualities.{no_later}
 use Rattle.mesh_laws.proofs.TcSets.{numbered_so}
 use Rattle.mesh_laws.specs.WrongStates.{RefusesExpiredLink, RefusesOwnTwoHop, RefusesTwoHopOfEndedLink, RefusesTupleOfOldNumber, RefusesHiddenNeighbour, RefusesPendingTold, RefusesRowOfNoSelector, RefusesTwoHopOnHeardLink, RefusesNeighbourWithoutLink, RefusesDearerRelays, RefusesGreaterParent, RefusesRouteTwice, RefusesTupleTooMany, RefusesStaleTuple}
 use Rattle.mesh_paths.proofs.SettledDecisions.{shows_link}
-
--- a test that decides
-tested : (b : Bool) → (b ≡ true) ⊎ (b ≡ false)
-tested true = inl refl
-tested false = inr refl
 
 -- Expiry, HELLOs and TCs
 
@@ -53,7 +49,7 @@ after : {settings : RouterSettings} {now i : ℕ} {told : Told} {hello : Hello} 
     two_hop_at new i (record { link = told.least; addr = a }) ≡ Some t → AfterHello settings now i told hello old new →
     (stood : Option (TwoHop × ℕ)) × StoodOn old i told a stood
     × TellsTwoHop settings told hello (now + told.shown.validity) a stood (two_hop_at new i (record { link = told.least; addr = a }))
-after {now = now} {i = i} {told = told} {new = new} a t stands hello = elim (tested (is_symmetric_at new now i told.least)) [
+after {now = now} {i = i} {told = told} {new = new} a t stands hello = elim (cases_Bool (is_symmetric_at new now i told.least)) [
   | inl h ↦ hello.two_hops h a
   | inr h ↦ some_none stands (hello.no_two_hops h a)
 ]

@@ -1,12 +1,10 @@
 -- Frames that carry one message alone.
-use Rattle.std.proofs.Common.{◌≡◌, ℕ, suc, ◌+◌, ◌-◌, ◌≤◌, ◌<◌, refl, sym, ◌∙◌, ap, subst, arith, lit≤, List, [], ◌∷◌, ◌++◌, length, Some, Result, Ok}
+use Rattle.std.proofs.Common.{◌≡◌, ℕ, suc, ◌+◌, ◌-◌, ◌≤◌, ◌<◌, refl, sym, ◌∙◌, ap, subst, arith, lit≤, List, [], ◌∷◌, ◌++◌, length, Some}
 use Rattle.std.specs.Prelude.{slice_range}
 use Rattle.std.proofs.lemmas.List.{append_assoc, append-nil, length-append}
-use Rattle.mesh_atoms.specs.declared.refusal.Refusal.{Refusal}
 use Rattle.mesh_machine.specs.packet.declared.packet.Span.{Span}
 use Rattle.mesh_machine.specs.packet.Fields.{MessageFields, PacketFields}
 use Rattle.mesh_machine.specs.packet.Grammar.{Spells, SpellsMessage, SpellsMessages, FirstFault}
-use Rattle.mesh_machine.specs.packet.Reading.{packet_of}
 use Rattle.mesh_machine.proofs.packet.Packets.{packet_again, packet_fault}
 use Rattle.mesh_wire.specs.Rehop.{HasHop, one_hop_on, hopped}
 use Rattle.mesh_wire.specs.Writes.{alone}
@@ -24,14 +22,6 @@ pub record Carries (m : MessageFields) (bytes : List ℕ) : Type 0 where
   pub spans : List Span
   pub spelled : Spells packet spans bytes
   pub one : packet.messages ≡ m ∷ []
-
-same_ok : {A : Type 0} (r : Result A Refusal) (x y : A) → r ≡ Ok x → r ≡ Ok y → x ≡ y
-same_ok r x y e f = cc
-
-pub same_read : (bytes : List ℕ) (p q : PacketFields) (ss ts : List Span) → Spells p ss bytes → Spells q ts bytes → (p ≡ q) × (ss ≡ ts)
-same_read bytes p q ss ts a b =
-    let e = same_ok (packet_of bytes) (p, ss) (q, ts) (packet_again bytes p ss a) (packet_again bytes q ts b) in
-    (ap (λ (x : PacketFields × List Span). x.0) e, ap (λ (x : PacketFields × List Span). x.1) e)
 
 one_span : (m : MessageFields) (spans : List Span) (front bytes : List ℕ) → SpellsMessages (length front) (m ∷ []) spans bytes →
     (span : Span) × (spans ≡ span ∷ []) × SpellsMessage m (octets_at (front ++ bytes) span)

@@ -7,6 +7,7 @@ use Rattle.mesh_atoms.specs.declared.settings.RouterSettings.{RouterSettings}
 use Rattle.mesh_atoms.specs.declared.tc.Tc.{Tc}
 use Rattle.mesh_atoms.specs.Live.{Live}
 use Rattle.mesh_atoms.specs.State.{State, Bases, NotedMessages, IsOriginator}
+use Rattle.mesh_machine.proofs.packet.OneReading.{one_packet}
 use Rattle.mesh_machine.specs.packet.declared.packet.Span.{Span}
 use Rattle.mesh_machine.specs.packet.Fields.{MessageFields, PacketFields}
 use Rattle.mesh_machine.specs.packet.Grammar.{SpellsMessage}
@@ -22,7 +23,7 @@ use Rattle.mesh_machine.specs.declared.frame.Frame.{Frame}
 use Rattle.mesh_machine.specs.Frames.{octets_at}
 use Rattle.mesh_machine.specs.Machine.{Hear, Step, Heard_frame, HearsPacket, Hears}
 use Rattle.mesh_machine.specs.Messages.{IsHeading, ConsidersForwarding, ProcessesTc, Tc_taken, Tc_passed, TakesMessage, Hello_read, Hello_broken, Tc_read, Tc_broken, Other_passed, Other_left, TakesMessages, No_messages, First_message}
-use Rattle.mesh_probe.proofs.Carried.{Carries, same_read, spanned, no_fault}
+use Rattle.mesh_probe.proofs.Carried.{Carries, spanned, no_fault}
 
 -- a TC is flooded
 pub record TookTc (settings : RouterSettings) (own : Addr4) (arrival : Arrival) (old : Bases) (m : MessageFields) (octets : List ℕ) (new : Bases) (sent : List Frame) : Type 0 where
@@ -69,7 +70,7 @@ pub record Hearing (m : MessageFields) (arrival : Arrival) (p q : State) (sent :
 packet_heard : (m : MessageFields) (arrival : Arrival) (bytes : List ℕ) (p q : State) (sent : List Frame) (fates : List Fate) → Carries m bytes → m.kind ≡ 1 → Keeps (BreaksTc m) →
     HearsPacket p arrival bytes fates sent q → Hearing m arrival p q sent
 packet_heard m arrival bytes p q sent fates c kind keeps h =
-    let (e, f) = same_read bytes h.packet c.packet h.spans c.spans h.spelled c.spelled in
+    let (e, f) = one_packet bytes h.packet c.packet h.spans c.spans h.spelled c.spelled in
     let (span, one, spells) = spanned m bytes c in
     let messages : h.packet.messages ≡ m ∷ [] = ap (λ (x : PacketFields). x.messages) e ∙ c.one in
     let alone : TakesMessages p.settings h.own arrival bytes h.live (m ∷ []) (span ∷ []) h.bases sent fates =

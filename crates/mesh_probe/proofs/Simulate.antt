@@ -1,7 +1,7 @@
 -- A flood of the machine's steps is a wave.
 use Rattle.std.proofs.Common.{◌≡◌, ℕ, zero, suc, ◌+◌, ◌-◌, ◌<◌, ◌≤◌, ◌⊎◌, inl, inr, refl, sym, ◌∙◌, ap, subst, arith, List, [], ◌∷◌, ◌++◌, length, Contains, Option, Some, None, slice_get}
 use Rattle.std.specs.Prelude.{Bool, true, false, nat_eq, nat_le, ◌||◌, if◌then◌else◌}
-use Rattle.std.proofs.lemmas.Bool.{eqb-true, leb-true, cases_eq}
+use Rattle.std.proofs.lemmas.Bool.{eqb-true, cases_eq}
 use Rattle.std.proofs.lemmas.List.{map-append}
 use Rattle.mesh_atoms.specs.declared.addr.Addr4.{Addr4}
 use Rattle.mesh_atoms.specs.declared.settings.RouterSettings.{RouterSettings}
@@ -47,7 +47,7 @@ use Rattle.mesh_probe.proofs.Heard.{Hearing, hearing}
 use Rattle.mesh_paths.proofs.LinksStay.{link_stays}
 use Rattle.mesh_probe.proofs.Links.{same_selector}
 use Rattle.mesh_probe.proofs.Noted.{does, never_own, not_twice, deaf, sends_nothing, is_do, unknown_live, unknown_deaf, Stands, stands_live, stands_noted, stands_new}
-use Rattle.std.proofs.lemmas.Bool.{cases_Bool}
+use Rattle.std.proofs.lemmas.Bool.{cases_Bool, lt-leb}
 use Rattle.mesh_probe.proofs.Covers.{has_first, has_later, has_cases, not_both}
 use Rattle.mesh_atoms.proofs.Values.{one_originator, addr_itself as same_eq}
 use Rattle.mesh_machine.proofs.Soundness.{same_originator}
@@ -66,9 +66,6 @@ same_key heading tc a b c =
 
 -- Hops
 
-le_false : (a b : ℕ) → b < a → nat_le a b ≡ false
-le_false a b l = elim (cases_Bool (nat_le a b)) [ inl e ↦ absurd (let f = leb-true a b e in omega (arith, f, l)) | inr e ↦ e ]
-
 above_one : (n : ℕ) → nat_le n 1 ≡ false → 1 < n
 above_one zero e = absurd (let f : true ≡ false = e in cc)
 above_one (suc zero) e = absurd (let f : true ≡ false = e in cc)
@@ -76,7 +73,7 @@ above_one (suc (suc n)) e = omega arith
 
 pub few_hops : (heading : Heading) (l c : ℕ) → heading.limit ≡ Some l → heading.count ≡ Some c → 1 < l → c < 255 → has_no_hops heading ≡ false
 few_hops heading l c e f low far =
-    let a : nat_le l 1 ≡ false = le_false l 1 low in
+    let a : nat_le l 1 ≡ false = lt-leb l 1 low in
     let b : nat_eq c 255 ≡ false = elim (cases_Bool (nat_eq c 255)) [ inl t ↦ absurd (let g = eqb-true c 255 t in omega (arith, g, far)) | inr t ↦ t ] in
     rw (e, f, a, b) refl
 
@@ -289,7 +286,7 @@ module _ {s : Scenario} {states : List State} {now origin : ℕ} {tc : Tc} {m : 
       subst (λ (k : FloodKey). find flood_eq f.live.noted.forwarded k ≡ None) (sym f.key) u.forwarded in
       let answer : forward_by f.own f.heading (Some true) (base_of f.live.noted.received j) f.live.noted.forwarded ≡ forward.Do =
       does f.own f.heading (base_of f.live.noted.received j) f.live.noted.forwarded other left received
-      (le_false 16384 (length (base_of f.live.noted.received j)) (u.room_received j)) forwarded (le_false 16384 (length f.live.noted.forwarded) u.room_forwarded) in
+      (lt-leb 16384 (length (base_of f.live.noted.received j)) (u.room_received j)) forwarded (lt-leb 16384 (length f.live.noted.forwarded) u.room_forwarded) in
       ap is_forwarded (f.answered ∙ ap (λ (b : Bool). forward_by f.own f.heading (Some b) (base_of f.live.noted.received j) f.live.noted.forwarded) chosen ∙ answer)
 
   -- a router that has sent the message doesn't send it again

@@ -1,7 +1,7 @@
 -- Lemmas of crates below, for the crates above.
 pub use Rattle.mesh_settled.proofs.machine
 -- Lemmas for crates above, each file with the crates that cite it.
-pub mod Cuts  -- emulate, replay
+pub mod Cuts  -- emulate, replay, trace
 pub mod Gaps  -- emulate
 pub mod LineTexts  -- emulate, replay
 pub mod Marked  -- emulate, replay

@@ -1,8 +1,8 @@
 -- Which marks the parts of a line lack: a part has letters, digits, dots and slashes at most.
 use Rattle.std.proofs.Common.{◌≡◌, ℕ, zero, suc, ◌+◌, ◌<◌, ◌/◌, ◌%◌, Bool, true, false, not, ◌&&◌, cond, List, [], ◌∷◌, ◌++◌, Option, Some, None, refl, ap, ◌∙◌, arith, codes, decimal}
-use Rattle.std.specs.Prelude.{nat_eq, nat_lt, nat_le, slice_get, slice_index, ◌==◌}
+use Rattle.std.specs.Prelude.{nat_eq, nat_lt, slice_get, slice_index, ◌==◌}
 use Rattle.std.specs.Fmt.{digits, digits_onto, digit_glyph}
-use Rattle.std.proofs.lemmas.Bool.{ne_eqb, leb-true}
+use Rattle.std.proofs.lemmas.Bool.{ne_eqb, lt-leb}
 use Rattle.hex.specs.Hex.{encode_with, encode_lower, lower_digits}
 use Rattle.mesh_atoms.specs.declared.addr.Addr4.{Addr4}
 use Rattle.mesh_atoms.specs.declared.addr.NetAddr.{NetAddr}
@@ -110,14 +110,8 @@ relays_lack (a ∷ more) = spaced_lacks (a ∷ more)
 
 -- Names
 
-over : (n mark : ℕ) → mark < n → nat_le n mark ≡ false
-over n mark low = by (nat_le n mark) refl where
-  by : (b : Bool) → nat_le n mark ≡ b → nat_le n mark ≡ false
-  by true e = absurd (let le = leb-true n mark e in omega (arith, le, low))
-  by false e = e
-
 no_letter : (mark : ℕ) → mark < 48 → is_name_octet mark ≡ false
-no_letter mark low = rw (over 97 mark (omega (arith, low)), over 48 mark low) refl
+no_letter mark low = rw (lt-leb 97 mark (omega (arith, low)), lt-leb 48 mark low) refl
 
 pub name_lacks : (mark : ℕ) → mark < 48 → (name : List ℕ) → IsName name → lacks mark name ≡ true
 name_lacks mark low name is = lacks_by mark is_name_octet (no_letter mark low) name is.octets

@@ -1,12 +1,13 @@
 -- An input is split in one way.
-use Rattle.std.proofs.Common.{◌≡◌, ℕ, suc, ◌+◌, ◌<◌, ◌≤◌, ◌⊎◌, inl, inr, Bool, true, false, cond, eqb, List, [], ◌∷◌, ◌++◌, None, Some, Option, length, drop, refl, sym, ap, subst, ◌∙◌, arith}
+use Rattle.std.proofs.Common.{◌≡◌, ℕ, suc, ◌+◌, ◌<◌, ◌≤◌, ◌⊎◌, inl, inr, Bool, true, false, cond, eqb, List, [], ◌∷◌, ◌++◌, Some, length, drop, refl, sym, ap, subst, ◌∙◌, arith}
 use Rattle.std.proofs.lemmas.List.Elements.{All-head, All-tail}
-use Rattle.mesh_config.specs.Keys.Faults.{Fault, fault, first}
+use Rattle.mesh_config.specs.Keys.Faults.{fault, first}
 use Rattle.mesh_config.specs.Settings.{refusals}
 use Rattle.mesh_replay.specs.declared.answer.Replay.{Replay}
 use Rattle.mesh_replay.specs.Command.Parts.{HaveNone, IsCutAt, IsRule, BeginsReport, IsRuled, IsSplit, HasNoRule}
 use Rattle.mesh_replay.specs.Command.Replays.{Replays, IsRefusedInput, No_trace, Long_scenario, By_settings}
 use Rattle.mesh_trace.specs.Reading.Lines.{lines_of, begun}
+use Rattle.mesh_atoms.proofs.Options.{none_not}
 
 -- ---- a text with more in front has other lines
 
@@ -109,13 +110,10 @@ splits_at_rule input scenario trace s none = by s.stated.next where
       no_such IsRule s.stated.lines more line
       (subst (HaveNone IsRule) (s.stated.between ∙ ap (λ (l : List (List ℕ)). s.stated.lines ++ l) here) none) kind
 
-no_fault : (found : Option Fault) (f : Fault) → found ≡ None → found ≡ Some f → ⊥
-no_fault found f none some = cc
-
 pub answers_or_refuses : (input : List ℕ) (answer : Replay) (number : ℕ) (key : List ℕ) → Replays input answer → IsRefusedInput input number key → ⊥
 answers_or_refuses input answer number key r (No_trace none) = splits_at_rule input r.settings r.trace r.split none
 answers_or_refuses input answer number key r (Long_scenario settings trace split long) =
     omega (arith, ap length (splits_once input settings trace r.settings r.trace split r.split).0, long, r.within)
 answers_or_refuses input answer number key r (By_settings settings trace split within refused) =
-    no_fault (first (refusals r.settings)) (fault number key) r.replayed.clear
+    none_not {o = first (refusals r.settings)} {a = fault number key} r.replayed.clear
     (subst (λ (t : List ℕ). first (refusals t) ≡ Some (fault number key)) (splits_once input settings trace r.settings r.trace split r.split).0 refused)

@@ -1,7 +1,6 @@
 -- A router has one HELLO on an interface at a moment.
-use Rattle.std.proofs.Common.{◌≡◌, ◌↔◌, ℕ, ◌<◌, ◌≤◌, inl, inr, refl, sym, ◌∙◌, ap, subst, arith, List, [], ◌∷◌, Option, Some, None, Contains, Bool, true, false}
-use Rattle.std.specs.Prelude.{◌⊎◌, ◌≢◌, IsTrue}
-use Rattle.std.specs.List.{AllPairs, flat_map}
+use Rattle.std.proofs.Common.{◌≡◌, ◌↔◌, ℕ, ◌≤◌, inl, inr, refl, sym, ◌∙◌, ap, subst, arith, Option, Some, None, Contains, Bool, true, false}
+use Rattle.std.specs.Prelude.{◌≢◌, IsTrue}
 use Rattle.std.proofs.lemmas.Bool.{false≢true}
 use Rattle.mesh_atoms.specs.declared.addr.Addr4.{Addr4}
 use Rattle.mesh_atoms.specs.declared.addr.NetAddr.{NetAddr}
@@ -14,27 +13,23 @@ use Rattle.mesh_atoms.specs.declared.hello.LinkStatus.{LinkStatus}
 use Rattle.mesh_atoms.specs.declared.hello.LinkStatus.TheVariants.{Lost as Down, Symmetric, Heard}
 use Rattle.mesh_atoms.specs.declared.hello.OtherStatus.{OtherStatus}
 use Rattle.mesh_atoms.specs.declared.hello.OtherStatus.TheVariants.{Lost as No_more, Symmetric as Still}
-use Rattle.mesh_atoms.specs.declared.hello.Metrics.{Metrics}
-use Rattle.mesh_atoms.specs.declared.hello.Mpr.{Mpr}
 use Rattle.mesh_atoms.specs.declared.tuples.LinkKey.{LinkKey}
 use Rattle.mesh_atoms.specs.declared.tuples.LinkState.{LinkState}
 use Rattle.mesh_atoms.specs.declared.tuples.LinkState.TheVariants.{Lost as Is_lost, Symmetric as Is_symmetric, Heard as Is_heard}
 use Rattle.mesh_atoms.specs.declared.tuples.Link.{Link}
 use Rattle.mesh_atoms.specs.declared.tuples.Neighbour.{Neighbour}
-use Rattle.mesh_atoms.specs.Base.{Base, Has, addr_eq, link_eq, host, base_of, find}
-use Rattle.mesh_atoms.specs.Hello.{Part, This_if, Other_if, Link_lost, Link_symmetric, Link_heard, Other_lost, Other_symmetric, Link_in, Link_out, Near_in, Near_out, Flooding, Routing, HasLinkTo, SaysLink, Says, IsHelloRow, IsHelloNow, IsRoundedUp, local_part, link_part, other_part}
+use Rattle.mesh_atoms.specs.Hello.{Other_lost, Other_symmetric, Link_in, Link_out, Near_in, Near_out, Flooding, Routing, HasLinkTo, SaysLink, Says, IsHelloRow, IsHelloNow, IsRoundedUp, local_part, link_part, other_part}
 use Rattle.mesh_atoms.specs.Nodes.{IsBefore}
 use Rattle.mesh_atoms.specs.Sound.{SoundNeighbourhood}
-use Rattle.mesh_atoms.specs.State.{State, state_of, link_at, neighbour_at, HasLink, HasSymmetricWith, HasAddressOn, HasAddress}
+use Rattle.mesh_atoms.specs.State.{State, state_of, link_at, neighbour_at, HasSymmetricWith}
 use Rattle.mesh_atoms.specs.Words.{IsValue}
 use Rattle.mesh_atoms.specs.declared.hello.Willing.{Willing}
-use Rattle.mesh_atoms.specs.Ascends.{ascends_prop}
 use Rattle.mesh_trace.proofs.PositionsLemmas.AlikeStates.{ordered_once}
 use Rattle.mesh_replay.proofs.FramesLemmas.OneInterface.{one_interface}
 use Rattle.mesh_trace.proofs.SpellingLemmas.SameRows.{same_row}
 use Rattle.mesh_atoms.proofs.Lookups.{has_found, has_found_on, addr_equiv, same_addr, link_equiv, same_link}
 use Rattle.mesh_atoms.proofs.Values.{one_originator}
-use Rattle.mesh_wire.proofs.OneHello.{same_metrics, same_mpr}
+use Rattle.mesh_wire.proofs.OneHello.{same_metrics, same_mpr, hello_from, from_rows}
 
 -- of pairs that are one
 abbrev first_or : {A : Type 0} → A → Option (A × ℕ) → A
@@ -64,17 +59,6 @@ row_apart x y (inr (same, p)) (inl q) = omega (arith, q, same)
 row_apart x y (inr (same, p)) (inr (same', q)) = omega (arith, p, q)
 
 -- HELLOs by their parts
-abbrev Up : List HelloRow → Type 0
-Up rows = AllPairs (λ (r t : HelloRow). IsBefore r.addr t.addr) rows
-
-abbrev hello_from : Option Addr4 → ℕ → Option ℕ → Willing → (rows : List HelloRow) → Up rows → Hello
-hello_from o v i w r up = record { originator = o; validity = v; interval = i; willing = w; rows = r; ascending = up }
-
-from_rows : (o : Option Addr4) (v : ℕ) (i : Option ℕ) (w : Willing) (r t : List HelloRow) (up : Up r) (up' : Up t) → r ≡ t → hello_from o v i w r up ≡ hello_from o v i w t up'
-from_rows o v i w r t up up' e =
-    subst (λ (x : List HelloRow). (h : Up x) → hello_from o v i w r up ≡ hello_from o v i w x h) e
-    (λ h. ap (hello_from o v i w r) (ascends_prop (λ (row : HelloRow). row.addr) r up h)) up'
-
 hello_by_parts : (f g : Hello) → f.originator ≡ g.originator → f.validity ≡ g.validity → f.interval ≡ g.interval → f.willing ≡ g.willing → f.rows ≡ g.rows → f ≡ g
 hello_by_parts f g o v i w r =
     ap (λ (x : Option Addr4). hello_from x f.validity f.interval f.willing f.rows f.ascending) o

@@ -1,30 +1,13 @@
 -- A router has one TC of some of its rows with a number.
-use Rattle.std.proofs.Common.{◌≡◌, ℕ, ◌≤◌, refl, sym, ◌∙◌, ap, subst, List, Option, Some, Bool}
-use Rattle.std.specs.Prelude.{slice_get}
-use Rattle.std.specs.List.{AllPairs}
+use Rattle.std.proofs.Common.{◌≡◌, ℕ, sym, ◌∙◌, ap, List, Option, Some, Bool}
 use Rattle.mesh_atoms.specs.declared.addr.Addr4.{Addr4}
-use Rattle.mesh_atoms.specs.declared.settings.Interface.{Interface}
-use Rattle.mesh_atoms.specs.declared.settings.RouterSettings.{RouterSettings}
 use Rattle.mesh_atoms.specs.declared.tc.Tc.{Tc}
 use Rattle.mesh_atoms.specs.declared.tc.TcRow.{TcRow}
-use Rattle.mesh_atoms.specs.Ascends.{ascends_prop}
-use Rattle.mesh_atoms.specs.Hello.{IsRoundedUp}
-use Rattle.mesh_atoms.specs.Nodes.{IsBefore}
-use Rattle.mesh_atoms.specs.State.{State, IsOriginator}
+use Rattle.mesh_atoms.specs.State.{State}
 use Rattle.mesh_trace.specs.machine.Sending.{IsTcOfRows}
 use Rattle.mesh_replay.proofs.FramesLemmas.HelloOnce.{rounded_once}
 use Rattle.mesh_atoms.proofs.Values.{one_originator}
-
-abbrev Up : List TcRow → Type 0
-Up rows = AllPairs (λ (r t : TcRow). IsBefore r.dest t.dest) rows
-
-abbrev tc_from : Addr4 → ℕ → ℕ → Bool → ℕ → Option ℕ → (rows : List TcRow) → Up rows → Tc
-tc_from o s n c v i r up = record { originator = o; sequence = s; ansn = n; complete = c; validity = v; interval = i; rows = r; ascending = up }
-
-from_rows : (o : Addr4) (s n : ℕ) (c : Bool) (v : ℕ) (i : Option ℕ) (r t : List TcRow) (up : Up r) (up' : Up t) → r ≡ t → tc_from o s n c v i r up ≡ tc_from o s n c v i t up'
-from_rows o s n c v i r t up up' e =
-    subst (λ (x : List TcRow). (h : Up x) → tc_from o s n c v i r up ≡ tc_from o s n c v i x h) e
-    (λ h. ap (tc_from o s n c v i r) (ascends_prop (λ (row : TcRow). row.dest) r up h)) up'
+use Rattle.mesh_wire.proofs.OneTc.{tc_from, from_rows}
 
 -- TCs by their parts
 tc_by_parts : (a b : Tc) → a.originator ≡ b.originator → a.sequence ≡ b.sequence → a.ansn ≡ b.ansn → a.complete ≡ b.complete → a.validity ≡ b.validity → a.interval ≡ b.interval → a.rows ≡ b.rows → a ≡ b

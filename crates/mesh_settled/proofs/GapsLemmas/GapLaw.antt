@@ -52,9 +52,6 @@ use Rattle.mesh_atoms.proofs.Options.{some_equal as some_nat, same_some}
 
 -- Values that fields tell
 
-some_is : {A : Type 0} {a b : A} → Some a ≡ Some b → a ≡ b
-some_is e = same_some refl e
-
 metric_of : (code : ℕ) → code < 4096 → Metric
 metric_of code in_range = record { code = code; in_range = in_range }
 
@@ -67,7 +64,7 @@ pub same_metrics : (a b : Option Metric) → known_cost a ≡ known_cost b → a
 same_metrics None None e = refl
 same_metrics None (Some m) e = absurd (none-some (metric_value m) e)
 same_metrics (Some m) None e = absurd (none-some (metric_value m) (sym e))
-same_metrics (Some m) (Some n) e = ap (λ (k : Metric). Some k) (same_metric m n (some_is e))
+same_metrics (Some m) (Some n) e = ap (λ (k : Metric). Some k) (same_metric m n (same_some refl e))
 
 same_bools : (a b : Bool) → ◌≡◌ {A = Option ℕ} (Some (cond a 1 0)) (Some (cond b 1 0)) → a ≡ b
 same_bools true true e = refl
@@ -104,7 +101,7 @@ in_all (f ∷ faces) a w = elim (Contains-append_cases f.addrs (all_addresses fa
 
 of_all : (faces : List Interface) (k : ℕ) (f : Interface) (a : Addr4) → slice_get faces k ≡ Some f → Contains f.addrs a → Contains (all_addresses faces) a
 of_all [] k f a at c = absurd (none-some f at)
-of_all (g ∷ faces) zero f a at c = Contains-append_left g.addrs (all_addresses faces) a (subst (λ (h : Interface). Contains h.addrs a) (sym (some_is at)) c)
+of_all (g ∷ faces) zero f a at c = Contains-append_left g.addrs (all_addresses faces) a (subst (λ (h : Interface). Contains h.addrs a) (sym (same_some refl at)) c)
 of_all (g ∷ faces) (suc k) f a at c = Contains-append_right g.addrs (all_addresses faces) a (of_all faces k f a at c)
 
 pub all_are : (r : RouterSettings) (a : Addr4) → Contains (all_addresses r.interfaces) a ↔ HasAddress r a
@@ -135,7 +132,7 @@ module _ (s : Scenario) (graph : RadioGraph) (states : List State) (now x : ℕ)
   link_as t t' is all = record {
     keyed = is.keyed;
     addresses = λ a. (λ w. (is.addresses a).0 ((all.0 a).0 w), λ w. (all.0 a).1 ((is.addresses a).1 w));
-    link_in = same_metric t.link_in t'.link_in (some_is all.1.0) ∙ is.link_in;
+    link_in = same_metric t.link_in t'.link_in (same_some refl all.1.0) ∙ is.link_in;
     link_out = same_metrics t.link_out t'.link_out all.1.1.0 ∙ is.link_out;
     selector = let e = same_bools t.selector t'.selector all.1.1.1.0 in (λ h. is.selector.0 (sym e ∙ h), λ w. e ∙ is.selector.1 w);
   }
@@ -278,7 +275,7 @@ module _ (s : Scenario) (graph : RadioGraph) (states : List State) (now x : ℕ)
     neighbour_as t t' is all = record {
       originator_is = is.originator_is;
       addresses = λ a. (λ w. (is.addresses a).0 ((all.0 a).0 w), λ w. (all.0 a).1 ((is.addresses a).1 w));
-      willing = same_willing t.willing t'.willing (some_is all.1.0) ∙ is.willing;
+      willing = same_willing t.willing t'.willing (same_some refl all.1.0) ∙ is.willing;
       metric_in = same_metrics t.metric_in t'.metric_in all.1.1.0 ∙ is.metric_in;
       metric_out = same_metrics t.metric_out t'.metric_out all.1.1.1.0 ∙ is.metric_out;
       selector = λ j. let e = same_bools t.selector t'.selector all.1.1.1.1.0 in (λ h. (is.selector j).0 (sym e ∙ h), λ w. e ∙ (is.selector j).1 w);
@@ -319,7 +316,7 @@ module _ (s : Scenario) (graph : RadioGraph) (states : List State) (now x : ℕ)
     router_is : (t t' : RouterTuple) → AllSame (router_fields t) (router_fields t') → t' ≡ t
     router_is t t' all =
         let m = sym (some_nat t.ansn t'.ansn all.0) in
-        let n = sym (same_metric t.metric t'.metric (some_is all.1.0)) in
+        let n = sym (same_metric t.metric t'.metric (same_some refl all.1.0)) in
         λ d. record { ansn = m d; metric = n d }
 
     router_from : (key : RouterKey) (t : RouterTuple) → Has p.bases.topology.routers key t → IsStray s x key.from ⊎ ((w : ℕ) × (q : State) × IsPeer s states x w q × IsRouterBy q key t)
@@ -337,7 +334,7 @@ module _ (s : Scenario) (graph : RadioGraph) (states : List State) (now x : ℕ)
     address_is : (t t' : AddressTuple) → AllSame (address_fields t) (address_fields t') → t' ≡ t
     address_is t t' all =
         let m = sym (some_nat t.ansn t'.ansn all.0) in
-        let n = sym (same_metric t.metric t'.metric (some_is all.1.0)) in
+        let n = sym (same_metric t.metric t'.metric (same_some refl all.1.0)) in
         λ d. record { ansn = m d; metric = n d }
 
     address_from : (key : AddressKey) (t : AddressTuple) → Has p.bases.topology.addresses key t → IsStray s x key.from ⊎ ((w : ℕ) × (q : State) × IsPeer s states x w q × IsAddressBy q key t)
@@ -355,7 +352,7 @@ module _ (s : Scenario) (graph : RadioGraph) (states : List State) (now x : ℕ)
     network_is : (t t' : NetworkTuple) → AllSame (network_fields t) (network_fields t') → t' ≡ t
     network_is t t' all =
         let m = sym (some_nat t.ansn t'.ansn all.0) in
-        let n = sym (same_metric t.metric t'.metric (some_is all.1.0)) in
+        let n = sym (same_metric t.metric t'.metric (same_some refl all.1.0)) in
         let k = sym (some_nat t.distance t'.distance all.1.1.0) in
         λ d. record { ansn = m d; distance = k d; metric = n d }
 

@@ -1,10 +1,11 @@
 -- The order of keys, and the lesser of two gaps.
-use Rattle.std.proofs.Common.{◌≡◌, ℕ, ◌+◌, ◌<◌, ◌≤◌, ◌⊎◌, inl, inr, refl, sym, subst, ◌∙◌, arith, Option, Some, None, Bool, true, false, cond, nat_lt, nat_eq, ◌||◌}
+use Rattle.std.proofs.Common.{◌≡◌, ℕ, ◌+◌, ◌<◌, ◌≤◌, ◌⊎◌, inl, inr, refl, sym, subst, arith, Option, Some, None, Bool, true, false, cond, nat_lt, nat_eq, ◌||◌}
 use Rattle.std.specs.Prelude.{◌&&◌, List}
-use Rattle.std.proofs.lemmas.Bool.{false≢true, ltb-true, lt-ltb, ltb-false, eqb-true, eq-eqb, cases_eq, and_parts, or_cases}
+use Rattle.std.proofs.lemmas.Bool.{false≢true, ltb-true, lt-ltb, ltb-false, eqb-true, eq-eqb, cases_eq, cases_Bool, and_parts, or_cases}
 use Rattle.mesh_settled.specs.declared.gaps.found.Found.{Found}
 use Rattle.mesh_settled.specs.declared.gaps.found.Rank.{Rank}
 use Rattle.mesh_atoms.specs.declared.gap.GapKey.{GapKey}
+use Rattle.mesh_atoms.proofs.Options.{true_false}
 use Rattle.mesh_settled.specs.declared.gaps.compare.HeldAndPresent.{HeldAndPresent}
 use Rattle.mesh_settled.specs.Gaps.Fields.{Field}
 use Rattle.mesh_settled.specs.Gaps.Gaps.{Look, IsHeldTuple, IsPresentTuple, AreSame, precedes, ranks_before, rank_of}
@@ -39,20 +40,13 @@ then_before k l m r s t next e f = elim (before_cases k l r e) [
   | inr same ↦ elim (before_cases l m s f) [ inl more ↦ before_less k m t (let h = same.0 in omega arith) | inr last ↦ before_same k m t (let h = same.0 in let g = last.0 in omega arith) (next same.1 last.1) ]
 ]
 
-true_false : {X : Type 0} {b : Bool} → b ≡ true → b ≡ false → X
-true_false e f = absurd (false≢true (sym f ∙ e))
-
-either : (b : Bool) → (b ≡ true) ⊎ (b ≡ false)
-either true = inl refl
-either false = inr refl
-
 not_before : (k l m : ℕ) (r s t : Bool) → (r ≡ true → s ≡ false → t ≡ true) → precedes k l r ≡ true → precedes m l s ≡ false → precedes k m t ≡ true
 not_before k l m r s t next e f = elim (cases_lt m l) [
   | inl less ↦ true_false (before_less m l s less) f
   | inr more ↦ elim (before_cases k l r e) [
     | inl less ↦ before_less k m t (omega arith)
     | inr same ↦ elim (cases_eq m l) [
-      | inl equal ↦ elim (either s) [
+      | inl equal ↦ elim (cases_Bool s) [
         | inl same_s ↦ true_false (before_same m l s equal same_s) f
         | inr other_s ↦ before_same k m t (let h = same.0 in omega arith) (next same.1 other_s)
       ]
@@ -62,7 +56,7 @@ not_before k l m r s t next e f = elim (cases_lt m l) [
 ]
   where
     cases_lt : (a b : ℕ) → (a < b) ⊎ (b ≤ a)
-    cases_lt a b = elim (either (nat_lt a b)) [ inl less ↦ inl (ltb-true a b less) | inr more ↦ inr (ltb-false a b more) ]
+    cases_lt a b = elim (cases_Bool (nat_lt a b)) [ inl less ↦ inl (ltb-true a b less) | inr more ↦ inr (ltb-false a b more) ]
 
 below : (k l m : ℕ) → nat_lt k l ≡ true → nat_lt l m ≡ true → nat_lt k m ≡ true
 below k l m e f = let g = ltb-true k l e in let h = ltb-true l m f in lt-ltb k m (omega arith)

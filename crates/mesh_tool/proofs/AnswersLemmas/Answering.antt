@@ -4,6 +4,7 @@ use Rattle.std.specs.Prelude.{IsErr, codes}
 use Rattle.std.specs.Io.KnownBytes.{Appends, Consumes, IsAtEnd, Keeps}
 use Rattle.std.proofs.lemmas.List.{append-nil}
 use Rattle.mesh_atoms.specs.declared.addr.Addr4.{Addr4}
+use Rattle.mesh_atoms.proofs.Options.{none_not}
 use Rattle.mesh_config.specs.RunSettings.{run_refusals, FirstRunRefusal}
 use Rattle.mesh_dump.specs.Dump.{IsDumpText}
 use Rattle.mesh_emulate.specs.Emulation.{Emulation, IsRefused}
@@ -15,7 +16,7 @@ use Rattle.mesh_replay.specs.declared.answer.Replay.TheVariants.{Yes, No}
 use Rattle.mesh_replay.specs.Command.Replays.{Replays, IsRefusedInput, answer_line}
 use Rattle.mesh_replay.proofs.CommandLemmas.Once.{answers_or_refuses}
 use Rattle.mesh_run.specs.Run.{StatesSetup, WholeRouterRun, SpendsTurns, FailsToAttach}
-use Rattle.mesh_config.specs.Keys.Faults.{Fault, fault, first}
+use Rattle.mesh_config.specs.Keys.Faults.{fault, first}
 use Rattle.mesh_tool.specs.declared.jobs.ending.Ending.{Ending}
 use Rattle.mesh_tool.specs.declared.jobs.ending.Ending.TheVariants as ending
 use Rattle.mesh_tool.specs.declared.jobs.status.Status.{Status}
@@ -289,15 +290,12 @@ part_taken (Some l) None all octets is took = absurd took
 part_taken (Some l) (Some rest) all octets is took =
     let same : l ≡ all = cc in omega (arith, ap length (sym same ∙ took), length-append octets rest)
 
-no_fault : (found : Option Fault) (f : Fault) → found ≡ None → found ≡ Some f → ⊥
-no_fault found f none some = cc
-
 whole_input : {call : Call} {most : ℕ} {octets : List ℕ} (all : List ℕ) → call.left ≡ Some all → IsInput most call octets → octets ≡ all
 whole_input {call} {most} {octets} all is input = whole_taken call.left call.left' all octets is input.read input.whole
 
 clear_not_refused : (octets all : List ℕ) (number : ℕ) (key : List ℕ) → octets ≡ all → first (run_refusals octets) ≡ None → FirstRunRefusal all number key → ⊥
 clear_not_refused octets all number key same clear refused =
-    no_fault (first (run_refusals all)) (fault number key) (subst (λ (o : List ℕ). first (run_refusals o) ≡ None) same clear) refused
+    none_not {o = first (run_refusals all)} {a = fault number key} (subst (λ (o : List ℕ). first (run_refusals o) ≡ None) same clear) refused
 
 -- ---- an input that has more octets than its job takes
 

@@ -3,9 +3,6 @@ use Rattle.std.proofs.Common.{◌≡◌, ◌↔◌, ℕ, ◌≤◌, ◌+◌, ◌
 use Rattle.std.specs.Prelude.{Bool, true, false, cond, IsTrue, Contains}
 use Rattle.mesh_atoms.specs.declared.addr.Addr4.{Addr4}
 use Rattle.mesh_atoms.specs.declared.codes.metric.Metric.{Metric}
-use Rattle.mesh_atoms.specs.Codes.Codes.{metric_value}
-use Rattle.mesh_atoms.proofs.CodesLemmas.CodeLaws.{cost-injective}
-use Rattle.mesh_atoms.specs.declared.hello.Willing.{Willing}
 use Rattle.mesh_atoms.specs.declared.settings.RouterSettings.{RouterSettings}
 use Rattle.mesh_atoms.specs.declared.tuples.LinkKey.{LinkKey}
 use Rattle.mesh_atoms.specs.declared.tuples.Link.{Link}
@@ -17,7 +14,7 @@ use Rattle.mesh_atoms.specs.Live.{HasLinkOf, HasSymmetricOf, KeepsNeighbour, Res
 use Rattle.mesh_atoms.specs.Quality.{admit_on}
 use Rattle.mesh_atoms.specs.State.{Neighbourhood, TopologyBase, NotedMessages, Bases, link_at, two_hop_at, neighbour_at, lost_at}
 use Rattle.mesh_atoms.specs.Words.{IsLeastMetric}
-use Rattle.mesh_atoms.proofs.Rows.{same_metric}
+use Rattle.mesh_atoms.proofs.Equal.{least_only, same_neighbour}
 use Rattle.mesh_trace.specs.Positions.Alike.{AlikeNear, AlikeTopology, AlikeNoted, AlikeBases}
 
 -- ---- alike is alike both ways, and each is alike itself
@@ -114,16 +111,6 @@ bases_on a b c h k = record {
 
 -- ---- what is the only one
 
-pub least_only : (P Q : Metric → Type 0) (x y : Option Metric) → ((m : Metric) → P m → Q m) → ((m : Metric) → Q m → P m) → IsLeastMetric P x → IsLeastMetric Q y → x ≡ y
-least_only P Q None None to back h k = refl
-least_only P Q None (Some n) to back h k = absurd (h n (back n k.0))
-least_only P Q (Some m) None to back h k = absurd (k m (to m h.0))
-least_only P Q (Some m) (Some n) to back h k =
-    let below : metric_value m ≤ metric_value n = h.1 n (back n k.0) in
-    let above : metric_value n ≤ metric_value m = k.1 m (to m h.0) in
-    let same : metric_value m ≡ metric_value n = omega (arith, below, above) in
-    ap (λ (z : Metric). Some z) (same_metric m n (cost-injective m.code n.code same))
-
 pub least_by : (P Q : Metric → Type 0) (x : Option Metric) → ((m : Metric) → P m → Q m) → ((m : Metric) → Q m → P m) → IsLeastMetric P x → IsLeastMetric Q x
 least_by P Q None to back h = λ m q. h m (back m q)
 least_by P Q (Some m) to back h = (to m h.0, λ n q. h.1 n (back n q))
@@ -133,19 +120,6 @@ flag_only true true P Q h k to back = refl
 flag_only false false P Q h k to back = refl
 flag_only true false P Q h k to back = sym (k.1 (to (h.0 refl)))
 flag_only false true P Q h k to back = h.1 (back (k.0 refl))
-
-abbrev neighbour_of : List Addr4 → Bool → Option Metric → Option Metric → Willing → Bool → Neighbour
-neighbour_of addrs symmetric metric_in metric_out willing selector =
-    record { addrs = addrs; symmetric = symmetric; metric_in = metric_in; metric_out = metric_out; willing = willing; selector = selector }
-
-same_neighbour : (m n : Neighbour) → m.addrs ≡ n.addrs → m.symmetric ≡ n.symmetric → m.metric_in ≡ n.metric_in → m.metric_out ≡ n.metric_out → m.willing ≡ n.willing → m.selector ≡ n.selector → m ≡ n
-same_neighbour m n a s i o w f =
-    ap (λ (x : List Addr4). neighbour_of x m.symmetric m.metric_in m.metric_out m.willing m.selector) a
-    ∙ (ap (λ (x : Bool). neighbour_of n.addrs x m.metric_in m.metric_out m.willing m.selector) s
-    ∙ (ap (λ (x : Option Metric). neighbour_of n.addrs n.symmetric x m.metric_out m.willing m.selector) i
-    ∙ (ap (λ (x : Option Metric). neighbour_of n.addrs n.symmetric n.metric_in x m.willing m.selector) o
-    ∙ (ap (λ (x : Willing). neighbour_of n.addrs n.symmetric n.metric_in n.metric_out x m.selector) w
-    ∙ ap (λ (x : Bool). neighbour_of n.addrs n.symmetric n.metric_in n.metric_out n.willing x) f))))
 
 -- ---- neighbours by links that are the same
 

@@ -37,12 +37,13 @@ use Rattle.mesh_atoms.proofs.Lookups.{addr_equiv, same_addr, two_hop_equiv}
 use Rattle.mesh_texts.proofs.machine.hello.Fits.{distinct_fits}
 use Rattle.mesh_texts.proofs.machine.wire.RowLines.{one_row}
 use Rattle.mesh_trace.specs.Positions.Alike.{AlikeNear}
-use Rattle.mesh_trace.proofs.PositionsLemmas.AlikeBases.{SameLinks, SameNeighbours, near_back, least_only, flag_only, restores_only, settles_only, symmetric_address}
+use Rattle.mesh_trace.proofs.PositionsLemmas.AlikeBases.{SameLinks, SameNeighbours, near_back, flag_only, restores_only, settles_only, symmetric_address}
 use Rattle.mesh_trace.proofs.PositionsLemmas.AlikeStates.{ordered_once}
 use Rattle.mesh_trace.proofs.PositionsLemmas.TcsFixed.{same_size, same_or_other}
 use Rattle.mesh_atoms.proofs.Options.{not_both}
 use Rattle.mesh_atoms.proofs.Values.{same_addr as addr_from, addr_itself as itself}
 use Rattle.mesh_atoms.proofs.Lists.{item_at as stands, contains_cases, contains_none as none_in}
+use Rattle.mesh_atoms.proofs.Equal.{least_only}
 
 -- ---- what a HELLO tells
 

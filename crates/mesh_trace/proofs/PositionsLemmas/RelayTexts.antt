@@ -3,7 +3,7 @@ use Rattle.std.proofs.Common.{◌≡◌, ℕ, suc, ◌<◌, ◌^◌, ◌/◌, �
 use Rattle.std.proofs.lemmas.List.{append_cancel_left, append_cancel_right}
 use Rattle.mesh_atoms.specs.declared.addr.Addr4.{Addr4}
 use Rattle.mesh_texts.specs.Lines.Marks.{dotted, spaced, relays_text}
-use Rattle.mesh_texts.proofs.Cuts.{lacks, lacks_rest, not_here, first_cut}
+use Rattle.mesh_texts.proofs.Cuts.{lacks, first_cut, has_mark}
 use Rattle.mesh_texts.proofs.Marked.{dotted_lacks}
 use Rattle.mesh_texts.proofs.RouteLines.{in_order, same_dotted}
 use Rattle.mesh_texts.specs.Trace.{flooding_text, routing_relays_line}
@@ -19,10 +19,6 @@ first_address a list are = are a (0, omega arith, refl)
 
 more_addresses : (a : Addr4) (list : List Addr4) → AreAddresses (a ∷ list) → AreAddresses list
 more_addresses a list are b (k, within, is) = are b (suc k, omega (arith, within), is)
-
-marked : (mark : ℕ) (a x : List ℕ) → lacks mark (a ++ mark ∷ x) ≡ true → ⊥
-marked mark [] x h = not_here mark mark x h refl
-marked mark (c ∷ a) x h = marked mark a x (lacks_rest mark c (a ++ mark ∷ x) h)
 
 -- with a space behind it, what follows an address begins with a space
 record Begins (text : List ℕ) : Type 0 where
@@ -58,7 +54,7 @@ not_none y ys e =
     append_cancel_left (codes " ") (codes "none") ((first ++ 46 ∷ rest) ++ spaced ys) (e ∙ ap (λ (l : List ℕ). codes " " ++ (l ++ spaced ys)) (in_order y)) in
     let text : codes "none" ≡ first ++ 46 ∷ (rest ++ spaced ys) = inside ∙ append_assoc first (46 ∷ rest) (spaced ys) in
     let none : lacks 46 (codes "none") ≡ true = refl in
-    marked 46 first (rest ++ spaced ys) (subst (λ (l : List ℕ). lacks 46 l ≡ true) text none)
+    has_mark 46 first (rest ++ spaced ys) (subst (λ (l : List ℕ). lacks 46 l ≡ true) text none)
 
 pub same_relays : (xs ys : List Addr4) → AreAddresses xs → relays_text xs ≡ relays_text ys → xs ≡ ys
 unfolding relays_text

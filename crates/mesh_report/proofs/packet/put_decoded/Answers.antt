@@ -7,9 +7,9 @@ use Rattle.mesh_packet.specs.Fields.{fields_of_packet, fields_of_message}
 use Rattle.mesh_packet.specs.Least.{Wrote}
 use Rattle.mesh_report.specs.Lines.{packet_line, tlv_line}
 use Rattle.mesh_report.specs.Packets.{IsMessagesText}
-use Rattle.mesh_report.proofs.Joined.{three}
 use Rattle.mesh_report.proofs.packet.put_decoded.Goals as goal
 use Rattle.mesh_atoms.proofs.Options.{on_ok_weaker as on_ok}
+use Rattle.mesh_atoms.proofs.Lists.{three_appended}
 
 pub returns-clause-ok : goal.returns-clause-ok
 returns-clause-ok c = on_ok c.put_messages.result (λ wrote.
@@ -20,7 +20,7 @@ returns-clause-ok c = on_ok c.put_messages.result (λ wrote.
     let standing : List ℕ = c.put_each.new.out ++ c.put_each.new.line in
     let put_tlvs : standing ≡ (c.put_packet_line.new.out ++ c.put_packet_line.new.line) ++ tlvs = rw (← c.as_slice.ensures, flat_map-map tlv_line fields c.as_slice.result.now) c.in_ok-put_each.ensures.ok in
     let messages : Wrote (IsMessagesText (map fields_of_message packet.messages) c.args.decoded.now.spans) standing (c.put_messages.new.out ++ c.put_messages.new.room.line) = rw (← c.as_slice-2.ensures, ← c.as_slice-3.ensures) wrote in
-    (first ++ tlvs ++ messages.0, three old first tlvs messages.0 c.in_ok-put_packet_line.ensures.ok put_tlvs messages.1, (messages.0, messages.2, refl))) c.put_messages.ensures.ok
+    (first ++ tlvs ++ messages.0, three_appended old first tlvs messages.0 c.in_ok-put_packet_line.ensures.ok put_tlvs messages.1, (messages.0, messages.2, refl))) c.put_messages.ensures.ok
 
 pub returns-clause-kept : goal.returns-clause-kept
 returns-clause-kept c = grows_on c.put_packet_line.ensures.kept (grows_on c.put_each.ensures.kept c.put_messages.ensures.kept)

@@ -1,6 +1,6 @@
-use Rattle.mesh_report.proofs.Joined.{four}
 use Rattle.mesh_report.proofs.reading.put_content.Goals as goal
+use Rattle.mesh_atoms.proofs.Lists.{four_appended}
 
 pub returns-clause-text : goal.returns-clause-text
 returns-clause-text c =
-    four c.args.line.now _ _ _ _ c.put_router.ensures.text (rw c.from.ensures at c.put_numbered.ensures.text) (rw c.from-2.ensures at c.put_numbered-2.ensures.text) c.put_choice.ensures.text
+    four_appended c.args.line.now _ _ _ _ c.put_router.ensures.text (rw c.from.ensures at c.put_numbered.ensures.text) (rw c.from-2.ensures at c.put_numbered-2.ensures.text) c.put_choice.ensures.text

@@ -1,9 +1,9 @@
 use Rattle.std.proofs.Common.{◌++◌, refl}
 use Rattle.mesh_settled.proofs.machine.tlv.Grows.{grows_on}
 use Rattle.mesh_texts.specs.Network.{counts_line, settled_text}
-use Rattle.mesh_texts.proofs.LinesLemmas.Joined.{three}
 use Rattle.mesh_texts.proofs.summary.put_summary.Goals as goal
 use Rattle.mesh_atoms.proofs.Options.{on_ok_weaker as on_ok}
+use Rattle.mesh_atoms.proofs.Lists.{three_appended}
 
 pub put_sections-requires : goal.put_sections-requires
 put_sections-requires g c = c.requires
@@ -25,6 +25,6 @@ returns-clause-ok g c =
     let sections = c.in_ok-put_sections.ensures.ok in
     on_ok c.put_settled.result (λ put. (
       first ++ sections.0 ++ last,
-      three c.args.out.now first sections.0 last c.in_ok-put_counts_line.ensures.ok sections.1 put,
+      three_appended c.args.out.now first sections.0 last c.in_ok-put_counts_line.ensures.ok sections.1 put,
       record { sections = sections.0; are_sections = sections.2; whole = refl },
     )) c.put_settled.ensures.ok

@@ -2,10 +2,10 @@ use Rattle.std.proofs.Common.{ℕ, List, ◌++◌, codes, ap, ◌∙◌}
 use Rattle.mesh_tlv.specs.Fields.{addr_fields}
 use Rattle.mesh_report.specs.Lines.{addr_tlv_line}
 use Rattle.mesh_report.specs.Pieces.{numbered, valued, chosen}
-use Rattle.mesh_report.proofs.Joined.{behind, three}
+use Rattle.mesh_report.proofs.Joined.{behind}
 use Rattle.mesh_tlv.proofs.Grows.{grows_on}
 use Rattle.mesh_report.proofs.lines.AddrTlvListed.put_lines.Goals as goal
-use Rattle.mesh_atoms.proofs.Lists.{two_appended as two}
+use Rattle.mesh_atoms.proofs.Lists.{two_appended as two, three_appended}
 
 pub returns-clause-ok : goal.returns-clause-ok
 unfolding addr_tlv_line
@@ -17,7 +17,7 @@ returns-clause-ok c =
     let first = behind c.make_room.new.out c.make_room.new.line kind c.put_kind.ensures.text ∙ ap (λ (l : List ℕ). l ++ kind) c.in_ok-make_room.ensures.ok in
     let second = behind c.make_room.new.out c.put_kind.new.line cover c.put_cover.ensures.text in
     let last = two (c.make_room.new.out ++ c.put_cover.new.line) value (codes "\n") c.in_ok-put_value.ensures.ok (behind c.put_value.new.out c.put_value.new.line (codes "\n") c.put_text.ensures.text) in
-    three (c.args.out.now ++ c.args.line.now) kind cover (value ++ codes "\n") first second last
+    three_appended (c.args.out.now ++ c.args.line.now) kind cover (value ++ codes "\n") first second last
 
 pub returns-clause-kept : goal.returns-clause-kept
 returns-clause-kept c = grows_on c.make_room.ensures.kept c.put_value.ensures.kept
