@@ -1,6 +1,6 @@
 //! The set of the 2-hop tuples of one interface.
 ghost use Rattle.std.specs.Prelude.{◌≡◌, ◌+◌, ◌↔◌, [], length, false, if◌then◌else◌, is_some, option_map, IfOk, OnOk, OnErr, IsTrue, IsSome, Some, None};
-ghost use Rattle.mesh_atoms.specs.Base.{Base, HasDistinctKeys, find, SetsOnly, Expires, two_hop_eq, link_eq};
+ghost use Rattle.mesh_atoms.specs.Base.{Base, HasDistinctKeys, find, SetsOnly, Expires, two_hop_eq};
 ghost use Rattle.mesh_nbrs.specs.TwoHops.TwoHops.{DropsLink};
 
 use crate::two_hops::keyed::{purge_after, put_keyed, remove_keyed};

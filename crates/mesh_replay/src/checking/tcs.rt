@@ -1,8 +1,6 @@
 //! The lines of TCs that are sent.
 ghost use Rattle.std.specs.Prelude.{◌≡◌, ◌∷◌, [], ◌+◌, ◌≤◌, ℕ, Some, length, slice_get, IfOk};
-ghost use Rattle.std.specs.List.{AllPairs};
-ghost use Rattle.mesh_atoms.specs.Nodes.{IsBefore};
-ghost use Rattle.mesh_atoms.specs.Validity.{IsTimeValue, IsValidity};
+ghost use Rattle.mesh_atoms.specs.Validity.{IsValidity};
 ghost use Rattle.mesh_topo.specs.Advertised.Spans.{part_of};
 ghost use Rattle.mesh_trace.specs.Positions.Standing.{Tc as Told_tc};
 ghost use Rattle.mesh_replay.specs.Checking.Cases.{IsEventOf, MayBeIn, IsProgress, TellsItems};

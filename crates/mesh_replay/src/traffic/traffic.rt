@@ -2,7 +2,7 @@
 ghost use Rattle.std.specs.Prelude.{◌≡◌, ◌+◌, ◌≤◌, ◌<◌, ◌↔◌, [], length, slice_get, All, IfOk, OnOk, IsTrue, Some, MatchOption};
 ghost use Rattle.mesh_atoms.specs.Settings.{one_hour};
 ghost use Rattle.mesh_atoms.specs.declared.settings.RouterSettings.{RouterSettings};
-ghost use Rattle.mesh_trace.specs.machine.Traffic.{Spreads, Sends, IsHeardFirst, IsLost, IsLossy, next_count};
+ghost use Rattle.mesh_trace.specs.machine.Traffic.{Spreads, Sends, IsLost, IsLossy, next_count};
 ghost use Rattle.mesh_replay.specs.Traffic.Air.{delivery_of};
 ghost use Rattle.mesh_replay.specs.Traffic.Traffic.{HasTaken};
 ghost use Rattle.mesh_replay.specs.Traffic.Ways.{AreLeaving};
