@@ -1,8 +1,8 @@
 -- Each flag and the width are told from the sum that is written, by trying all sums.
 use Rattle.std.proofs.Common.{◌≡◌, ℕ, zero, suc, ◌+◌, ◌%◌, ◌<◌, ◌≤◌, Bool, true, false, ◌&&◌, eqb, refl, sym, subst, arith}
-use Rattle.std.proofs.lemmas.Bool.{eqb-true, eqb-false}
+use Rattle.std.proofs.lemmas.Bool.{and_parts, eqb-true, eqb-false}
 use Rattle.mesh_atoms.specs.Reading.{has}
-use Rattle.mesh_tlv.proofs.Trying.{and_left, and_right, both, both_is, same, same_is}
+use Rattle.mesh_tlv.proofs.Trying.{both, both_is, same, same_is}
 use Rattle.mesh_tlv.specs.Least.{flag}
 
 -- of all numbers below
@@ -16,7 +16,7 @@ at_last n f i lt last before false e = before (omega (arith, lt, eqb-false i n e
 
 below_is : (n : ℕ) (f : ℕ → Bool) → below n f ≡ true → (i : ℕ) → i < n → f i ≡ true
 below_is zero f h i lt = absurd (omega (arith, lt))
-below_is (suc n) f h i lt = at_last n f i lt (and_left (f n) (below n f) h) (λ k. below_is n f (and_right (f n) (below n f) h) i k) (eqb i n) refl
+below_is (suc n) f h i lt = at_last n f i lt (and_parts (f n) (below n f) h).0 (λ k. below_is n f (and_parts (f n) (below n f) h).1 i k) (eqb i n) refl
 
 -- ---- the flags of a message
 
