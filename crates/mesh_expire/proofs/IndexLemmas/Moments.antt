@@ -1,7 +1,7 @@
 -- The moments of a table, in order, and at each the keys of the entries that end at it.
 use Rattle.std.proofs.lemmas.Bool.{lt-ltb, le-ltb, eqb-true}
-use Rattle.std.proofs.Common.{◌≡◌, ℕ, zero, suc, ◌+◌, ◌-◌, ◌<◌, ◌≤◌, arith, Bool, true, false, cond, ◌&&◌, List, [], ◌∷◌, ◌++◌, length, Option, Some, None, Result, Ok, Err, refl, sym, ap, subst, ◌∙◌, nat_eq}
-use Rattle.std.specs.Prelude.{if◌then◌else◌, is_some, IsSome, OnErr, OnOk, OnSome, option_map, remove, slice_get, unwrap_or}
+use Rattle.std.proofs.Common.{◌≡◌, ℕ, zero, suc, ◌+◌, ◌-◌, ◌<◌, ◌≤◌, arith, Bool, true, false, cond, ◌&&◌, List, [], ◌∷◌, ◌++◌, length, drop, take, Option, Some, None, Result, Ok, Err, refl, sym, ap, subst, ◌∙◌, nat_eq}
+use Rattle.std.specs.Prelude.{if◌then◌else◌, is_some, IsSome, OnErr, OnOk, OnSome, option_map, slice_get, unwrap_or}
 use Rattle.std.specs.Ordering.{nat_cmp}
 use Rattle.std.specs.Cmp.{IsEquivalence, unsigned_ties, nat_eq_equiv}
 use Rattle.std.specs.BTreeMap.{BTreeMap, get, is_at}
@@ -85,11 +85,22 @@ module _ {K : Type 0} (eq : K → K → Bool) where
   times_push [] key q = omega arith
   times_push (k ∷ ks) key q = omega (arith, times_push ks key q)
 
-  -- the key of a place goes
-  pub times_remove : (keys : List K) (i : ℕ) (key q : K) → slice_get keys i ≡ Some key → times_in eq (remove keys i) q + once_if (eq key q) ≡ times_in eq keys q
-  times_remove [] i key q at = absurd cc
-  times_remove (k ∷ ks) zero key q at = let is : k ≡ key = cc in rw is (omega arith)
-  times_remove (k ∷ ks) (suc i) key q at = omega (arith, times_remove ks i key q at)
+  -- two lists behind each other
+  times_append : (xs ys : List K) (q : K) → times_in eq (xs ++ ys) q ≡ times_in eq xs q + times_in eq ys q
+  times_append [] ys q = omega arith
+  times_append (x ∷ xs) ys q = omega (arith, times_append xs ys q)
+
+  -- a key, and those before and behind it
+  times_split : (keys : List K) (i : ℕ) (key q : K) → slice_get keys i ≡ Some key → times_in eq (drop (suc i) keys) q + times_in eq (take i keys) q + once_if (eq key q) ≡ times_in eq keys q
+  times_split [] i key q at = absurd cc
+  times_split (k ∷ ks) zero key q at = let is : k ≡ key = cc in rw is (omega arith)
+  times_split (k ∷ ks) (suc i) key q at = omega (arith, times_split ks i key q at)
+
+  -- the key of a place goes, and those before it come behind
+  pub times_turned : (keys : List K) (i : ℕ) (key q : K) → slice_get keys i ≡ Some key → times_in eq (drop (i + 1) keys ++ take i keys) q + once_if (eq key q) ≡ times_in eq keys q
+  times_turned keys i key q at =
+      let next : i + 1 ≡ suc i = omega arith in
+      rw next (omega (arith, times_append (drop (suc i) keys) (take i keys) q, times_split keys i key q at))
 
   -- the first of the keys stands there
   pub first_stands : (laws : IsEquivalence eq) (keys : List K) (key : K) → slice_get keys 0 ≡ Some key → 0 < times_in eq keys key

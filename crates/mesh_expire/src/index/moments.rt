@@ -1,5 +1,5 @@
 //! The moments of a table, in order, and at each a bucket of the keys whose entries end at it.
-ghost use Rattle.std.specs.Prelude.{◌≡◌, ◌≤◌, ◌<◌, ℕ, ◌-◌, [], ◌∷◌, ◌++◌, false, IfSome, IfNone, OnOk, OnErr, IsTrue, Some, length, slice_get};
+ghost use Rattle.std.specs.Prelude.{◌≡◌, ◌≤◌, ◌<◌, ℕ, ◌-◌, [], ◌∷◌, ◌++◌, false, IfSome, IfNone, OnOk, OnErr, IsTrue, Some, ◌+◌, length, drop, take, slice_get};
 ghost use Rattle.std.specs.BTreeMap.{IsUnchanged};
 ghost use Rattle.mesh_expire.specs.Index.Moments.{once_if, times_in, times_at, PutsAt, TakesAt, SetsMoment};
 
@@ -8,7 +8,7 @@ use std::alloc::{AllocError, Global};
 use std::collections::{BTreeMap, VecDeque};
 use std::marker::Model;
 
-/// The keys of the entries that end at one moment: one at least, in the order in which they came.
+/// The keys of the entries that end at one moment: one at least, in a ring, in the order in which they came.
 #[derive(Drop)]
 pub struct Bucket<K> {
     first: K,
@@ -35,6 +35,16 @@ fn place_of<K: Key>(keys: &VecDeque<K>, key: &K) -> Option<usize>
         }
     }
     None
+}
+
+// Takes the key at a place out, and turns the ring so that the key behind it is the next in front: keys mostly go in the order in which they
+// came.
+fn take_at<K: Drop>(keys: &mut VecDeque<K>, place: usize)
+    requires { place < length keys.old.items }
+    ensures { keys.new.items ≡ drop (place + 1) keys.old.items ++ take place keys.old.items }
+{
+    keys.rotate_left(place);
+    keys.pop_front();
 }
 
 impl<K: Key + Drop> Bucket<K> {
@@ -81,7 +91,7 @@ impl<K: Key + Drop> Bucket<K> {
             return false;
         }
         if let Some(place) = place_of(&self.rest, key) {
-            self.rest.remove(place);
+            take_at(&mut self.rest, place);
         }
         false
     }
