@@ -4,6 +4,7 @@ ghost use Rattle.std.specs.Prelude.{◌≡◌};
 ghost use Rattle.mesh_atoms.specs.State.{is_symmetric, is_heard};
 
 use crate::{Addr4, Metric, NetAddr, Seq, Willing};
+use std::hash::{Hash, Hasher};
 
 /// A link of an interface, by the least address of the neighbour's interface.
 #[derive(Clone, Copy, PartialEq, Eq, PartialOrd, Ord, Hash)]
@@ -12,10 +13,25 @@ pub struct LinkKey {
 }
 
 /// An address that the neighbour at the other end of a link reaches.
-#[derive(Clone, Copy, PartialEq, Eq, PartialOrd, Ord, Hash)]
+#[derive(Clone, Copy, PartialEq, Eq, PartialOrd, Ord)]
 pub struct TwoHopKey {
     pub link: LinkKey,
     pub addr: Addr4,
+}
+
+// By hand, so that a hasher is fed both addresses at once: no other key is looked up as often.
+impl Hash for TwoHopKey {
+    ghost use Rattle.std.specs.Prelude.{◌+◌, ◌*◌};
+    ghost use Rattle.std.specs.Hash as fed;
+    ghost use Rattle.std.proofs.Common.{rules};
+
+    ghost hash_input = { λ key. fed.u64 (key.link.addr.0 * 4294967296 + key.addr.0) };
+
+    ghost respects_eq = { Prim.search rules };
+
+    fn hash<H: Hasher>(&self, state: &mut H) {
+        state.write_u64(self.link.addr.0 as u64 * 4_294_967_296 + self.addr.0 as u64);
+    }
 }
 
 /// From a router's originator to another router's.
