@@ -8,7 +8,12 @@ use crate::Addr4;
 pub fn contains(addrs: &[Addr4], addr: Addr4) -> bool
     ensures { IsTrue result ↔ Contains addrs.now addr }
 {
-    addrs.contains(&addr)
+    for other in addrs {
+        if *other == addr {
+            return true;
+        }
+    }
+    false
 }
 
 /// Whether two lists have an address in common. Takes no memory, and time by the product of their lengths.
