@@ -49,7 +49,7 @@ pub fn tells_mine(hello: &Hello, own: &[Addr4], sign: Sign) -> bool
     ensures { IsTrue result ↔ TellsMine hello.now own.now sign }
 {
     for row in hello.rows.as_slice() {
-        if is_row_of(row, own) && bears(row, sign) {
+        if bears(row, sign) && is_row_of(row, own) {
             return true;
         }
     }

@@ -1,8 +1,8 @@
 use Rattle.std.proofs.Common.{Contains, refl, sym, subst}
 use Rattle.mesh_hello.proofs.told.mine.tells_mine.Goals as goal
 
-pub returns-then-bears : goal.returns-then-bears
-returns-then-bears c = (
+pub returns-then-is_row_of : goal.returns-then-is_row_of
+returns-then-is_row_of c = (
   λ h. (
     c.row-item.result,
     subst (λ rows. Contains rows c.row-item.result) c.as_slice-row-items.ensures (c.loop-row.row-index, c.loop-row-test.true, sym c.row-item.is),
