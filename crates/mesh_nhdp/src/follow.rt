@@ -32,62 +32,59 @@ pub fn follow_links<L: Table<LinkKey, Link>, N: Table<Addr4, Neighbour>, O: Tabl
     losts.settle_lost(before, &after, until)
 }
 
-/// Sets the neighbour with that originator, which has these addresses, as its links have it, and the addresses as lost until that
-/// moment that were a symmetric neighbour's, of those that became this one, and aren't this one's now. Looks at no other neighbour.
+/// The neighbour that a HELLO speaks of: what the HELLO tells of it, the addresses of those symmetric neighbours that become this
+/// one, and the moment until which such an address is lost that isn't this one's then.
+#[derive(Clone, Copy)]
+pub struct SendingNeighbour<'a> {
+    pub telling: &'a HelloInfo,
+    pub before: &'a [Addr4],
+    pub until: u64,
+}
+
+/// Sets the neighbour that the HELLO speaks of, which has the listed addresses, as its links have it, and the addresses as lost that
+/// were a symmetric neighbour's, of those that became this one, and aren't this one's now. Looks at no other neighbour.
 /// After want of memory both sets may only be dropped.
 fn follow_links_of<L: Table<LinkKey, Link>, N: Table<Addr4, Neighbour>, O: Table<Addr4, Lost>>(
     alloc: Global,
     links: &[LinkSet<L>],
     now: u64,
-    originator: Addr4,
-    addrs: &[Addr4],
-    before: &[Addr4],
-    until: u64,
+    neighbour: &SendingNeighbour,
     neighbours: &mut NeighbourSet<N>,
     losts: &mut LostSet<O>,
 ) -> Result<(), AllocError>
-    ensures { OnOk result (FollowsLinksOf links.now now originator addrs.now before.now until neighbours.old neighbours.new losts.old losts.new) }
+    ensures { OnOk result (FollowsLinksOf links.now now neighbour.now.telling.now.originator neighbour.now.telling.now.listed neighbour.now.before.now neighbour.now.until
+        neighbours.old neighbours.new losts.old losts.new) }
 {
-    let notes = notes_among(alloc, links, addrs, now)?;
+    let originator = neighbour.telling.originator;
+    let notes = notes_among(alloc, links, neighbour.telling.listed.as_slice(), now)?;
     neighbours.follow(originator, &notes)?;
     let after = symmetric_at(neighbours.table(), originator);
-    losts.settle_lost(before, after, until)
+    losts.settle_lost(neighbour.before, after, neighbour.until)
 }
 
-/// Makes one neighbour of all that a HELLO speaks of, and sets it as its links have it, with the addresses as lost until that moment
-/// that were a symmetric neighbour's, of those that became this one, and aren't this one's now. Looks at no other neighbour. After
-/// want of memory both sets may only be dropped.
+/// Makes one neighbour of all that a HELLO speaks of, and sets it as its links have it, with the addresses as lost that were a
+/// symmetric neighbour's, of those that became this one, and aren't this one's now. Looks at no other neighbour. After want of memory
+/// both sets may only be dropped.
 pub fn renew_neighbour<L: Table<LinkKey, Link>, N: Table<Addr4, Neighbour>, O: Table<Addr4, Lost>>(
     alloc: Global,
     links: &[LinkSet<L>],
     now: u64,
-    telling: &HelloInfo,
-    before: &[Addr4],
-    until: u64,
+    neighbour: &SendingNeighbour,
     neighbours: &mut NeighbourSet<N>,
     losts: &mut LostSet<O>,
 ) -> Result<(), AllocError>
-    requires ascending { IsAscending telling.now.listed }
-    requires some { 0 < length telling.now.listed }
-    ensures { OnOk result (RenewsNeighbour links.now now (told_of telling.now) before.now until neighbours.old neighbours.new losts.old losts.new) }
+    requires ascending { IsAscending neighbour.now.telling.now.listed }
+    requires some { 0 < length neighbour.now.telling.now.listed }
+    ensures { OnOk result (RenewsNeighbour links.now now (told_of neighbour.now.telling.now) neighbour.now.before.now neighbour.now.until
+        neighbours.old neighbours.new losts.old losts.new) }
 {
-    let listed = telling.listed.as_slice();
+    let telling = neighbour.telling;
     neighbours.replace(
         telling.originator,
-        listed,
+        telling.listed.as_slice(),
         telling.willing,
         telling.routing,
         now,
     )?;
-    follow_links_of(
-        alloc,
-        links,
-        now,
-        telling.originator,
-        listed,
-        before,
-        until,
-        neighbours,
-        losts,
-    )
+    follow_links_of(alloc, links, now, neighbour, neighbours, losts)
 }

@@ -15,17 +15,29 @@ ghost use Rattle.mesh_nhdp.specs.NhdpState.{near_with};
 ghost use Rattle.mesh_nhdp.specs.Repeats.{RepeatsRows};
 
 use crate::drops::has_symmetric_on;
-use crate::follow::renew_neighbour;
+use crate::follow::{SendingNeighbour, renew_neighbour};
 use crate::interfaces::{Hearing, change_all};
 use crate::keys::keys_of_both;
 use crate::near_addresses::spoken_addresses;
 use crate::sending_link::{stands, update_two_hops_on};
+use crate::two_hop_rows::TwoHopRows;
 use mesh_atoms::{Addr4, Hello, Link, LinkKey, Lost, Neighbour, RouterSettings, TwoHop, TwoHopKey};
 use mesh_expire::Table;
 use mesh_hello::HelloInfo;
 use mesh_links::LinkSet;
 use mesh_nbrs::{LostSet, NeighbourSet, TwoHopSet};
 use std::alloc::{AllocError, Global};
+
+/// The receipt of a HELLO that isn't refused and isn't too much, on an interface at a moment in ticks of 1/8192 s: the HELLO, the
+/// router's own addresses, and what the HELLO tells.
+#[derive(Clone, Copy)]
+pub struct HelloReceipt<'a> {
+    pub moment: u64,
+    pub iface: usize,
+    pub hello: &'a Hello,
+    pub own: &'a [Addr4],
+    pub telling: &'a HelloInfo,
+}
 
 /// Takes the HELLO in on all interfaces; `least` is the key of the link that it came over, and `own` has the router's addresses.
 /// Answers true only where that link isn't SYMMETRIC then, or all rows repeat what was held. After want of memory links and tuples may
@@ -59,60 +71,64 @@ fn hear_interfaces<L: Table<LinkKey, Link>, H: Table<TwoHopKey, TwoHop>>(
     change_all(alloc, hearing, links, two_hops)?;
     let symmetric = has_symmetric_on(links, hearing.iface, least, hearing.moment);
     let until = hearing.moment + hearing.shown.validity;
-    update_two_hops_on(
-        two_hops,
-        hearing.iface,
-        least,
+    let rows = TwoHopRows {
+        link: least,
         until,
         hello,
         own,
-        hearing.listed,
-        stood,
-        symmetric,
-    )
+        listed: hearing.listed,
+    };
+    update_two_hops_on(two_hops, hearing.iface, &rows, stood, symmetric)
 }
 
-/// Takes a HELLO in on all interfaces; `own` has the router's addresses, and `theirs` those of the neighbours that it speaks of.
-/// Answers as `hear_interfaces`. After want of memory links and tuples may only be dropped.
+/// Takes a HELLO in on all interfaces; `theirs` has the addresses of the neighbours that it speaks of. Answers as `hear_interfaces`.
+/// After want of memory links and tuples may only be dropped.
 fn hear_links<L: Table<LinkKey, Link>, H: Table<TwoHopKey, TwoHop>>(
     settings: &RouterSettings,
-    now: u64,
-    iface: usize,
-    hello: &Hello,
-    own: &[Addr4],
-    telling: &HelloInfo,
+    receipt: &HelloReceipt,
     theirs: &[Addr4],
     links: &mut [LinkSet<L>],
     two_hops: &mut [TwoHopSet<H>],
 ) -> Result<bool, AllocError>
-    requires iface { iface < length settings.now.interfaces }
+    requires iface { receipt.now.iface < length settings.now.interfaces }
     requires links { length links.old ≡ length settings.now.interfaces }
     requires two_hops { length two_hops.old ≡ length settings.now.interfaces }
-    requires ready { CanHearHello now settings.now.times.link_hold telling.now.shown }
-    requires least { slice_get telling.now.shown.sending 0 ≡ Some telling.now.least.addr }
-    ensures hears { OnOk result (HearsLinks (rule_of settings.now iface) (told_of telling.now) theirs.now own.now
-        settings.now.times.link_hold now iface hello.now links.old links.new two_hops.old two_hops.new) }
-    ensures repeats { IfOk result (λ repeats. IsTrue repeats → is_symmetric_in (base_of links.new iface) now telling.now.least ≡ true
-        → RepeatsRows own.now telling.now.listed (base_of two_hops.old iface) telling.now.least hello.now) }
+    requires ready { CanHearHello receipt.now.moment settings.now.times.link_hold receipt.now.telling.now.shown }
+    requires least { slice_get receipt.now.telling.now.shown.sending 0 ≡ Some receipt.now.telling.now.least.addr }
+    ensures hears { OnOk result (HearsLinks (rule_of settings.now receipt.now.iface) (told_of receipt.now.telling.now) theirs.now receipt.now.own.now
+        settings.now.times.link_hold receipt.now.moment receipt.now.iface receipt.now.hello.now links.old links.new two_hops.old two_hops.new) }
+    ensures repeats { IfOk result (λ repeats. IsTrue repeats
+        → is_symmetric_in (base_of links.new receipt.now.iface) receipt.now.moment receipt.now.telling.now.least ≡ true
+        → RepeatsRows receipt.now.own.now receipt.now.telling.now.listed (base_of two_hops.old receipt.now.iface)
+        receipt.now.telling.now.least receipt.now.hello.now) }
 {
     let alloc = settings.interfaces.allocator();
+    let telling = receipt.telling;
     let listed = telling.listed.as_slice();
     let keys = keys_of_both(alloc, theirs, listed)?;
-    let face = &settings.interfaces.as_slice()[iface];
+    let face = &settings.interfaces.as_slice()[receipt.iface];
     let hearing = Hearing {
-        moment: now,
+        moment: receipt.moment,
         hold: settings.times.link_hold,
-        iface,
+        iface: receipt.iface,
         rule: &face.admit,
         shown: &telling.shown,
         theirs,
         listed,
         keys: &keys,
     };
-    hear_interfaces(alloc, &hearing, telling.least, hello, own, links, two_hops)
+    hear_interfaces(
+        alloc,
+        &hearing,
+        telling.least,
+        receipt.hello,
+        receipt.own,
+        links,
+        two_hops,
+    )
 }
 
-/// Takes in a HELLO that isn't refused and isn't too much; `own` has the router's addresses. Answers true only where the link that it came
+/// Takes in a HELLO that isn't refused and isn't too much. Answers true only where the link that it came
 /// over isn't SYMMETRIC then, or all rows repeat what was held. After want of memory the neighbourhood may only be dropped.
 pub fn hear<
     L: Table<LinkKey, Link>,
@@ -121,36 +137,36 @@ pub fn hear<
     O: Table<Addr4, Lost>,
 >(
     settings: &RouterSettings,
-    now: u64,
-    iface: usize,
-    hello: &Hello,
-    own: &[Addr4],
-    telling: &HelloInfo,
+    receipt: &HelloReceipt,
     links: &mut [LinkSet<L>],
     two_hops: &mut [TwoHopSet<H>],
     neighbours: &mut NeighbourSet<N>,
     losts: &mut LostSet<O>,
 ) -> Result<bool, AllocError>
-    requires now { now < 2 ^ 62 }
-    requires iface { iface < length settings.now.interfaces }
-    requires lasts { 0 < hello.now.validity }
-    requires validity { hello.now.validity < 2 ^ 62 }
-    requires own { (a : Addr4) → Contains own.now a ↔ HasAddress settings.now a }
-    requires told { (sender : Addr4) × Tells settings.now iface sender hello.now (told_of telling.now) × IsFault settings.now sender hello.now None }
-    requires sound { SoundNeighbourhood settings.now now (near_with links.old two_hops.old neighbours.old losts.old) }
-    ensures after { OnOk result (AfterHello settings.now now iface (told_of telling.now) hello.now
+    requires now { receipt.now.moment < 2 ^ 62 }
+    requires iface { receipt.now.iface < length settings.now.interfaces }
+    requires lasts { 0 < receipt.now.hello.now.validity }
+    requires validity { receipt.now.hello.now.validity < 2 ^ 62 }
+    requires own { (a : Addr4) → Contains receipt.now.own.now a ↔ HasAddress settings.now a }
+    requires told { (sender : Addr4) × Tells settings.now receipt.now.iface sender receipt.now.hello.now (told_of receipt.now.telling.now)
+        × IsFault settings.now sender receipt.now.hello.now None }
+    requires sound { SoundNeighbourhood settings.now receipt.now.moment (near_with links.old two_hops.old neighbours.old losts.old) }
+    ensures after { OnOk result (AfterHello settings.now receipt.now.moment receipt.now.iface (told_of receipt.now.telling.now) receipt.now.hello.now
         (near_with links.old two_hops.old neighbours.old losts.old) (near_with links.new two_hops.new neighbours.new losts.new)) }
-    ensures repeats { IfOk result (λ repeats. IsTrue repeats → is_symmetric_in (base_of links.new iface) now telling.now.least ≡ true
-        → RepeatsRows own.now telling.now.listed (base_of two_hops.old iface) telling.now.least hello.now) }
+    ensures repeats { IfOk result (λ repeats. IsTrue repeats
+        → is_symmetric_in (base_of links.new receipt.now.iface) receipt.now.moment receipt.now.telling.now.least ≡ true
+        → RepeatsRows receipt.now.own.now receipt.now.telling.now.listed (base_of two_hops.old receipt.now.iface)
+        receipt.now.telling.now.least receipt.now.hello.now) }
 {
     let alloc = settings.interfaces.allocator();
-    let until = now + settings.times.neighbour_hold;
-    let (theirs, before) = spoken_addresses(alloc, neighbours, telling)?;
-    let repeats = hear_links(
-        settings, now, iface, hello, own, telling, &theirs, links, two_hops,
-    )?;
-    renew_neighbour(
-        alloc, links, now, telling, &before, until, neighbours, losts,
-    )?;
+    let until = receipt.moment + settings.times.neighbour_hold;
+    let (theirs, before) = spoken_addresses(alloc, neighbours, receipt.telling)?;
+    let repeats = hear_links(settings, receipt, &theirs, links, two_hops)?;
+    let neighbour = SendingNeighbour {
+        telling: receipt.telling,
+        before: &before,
+        until,
+    };
+    renew_neighbour(alloc, links, receipt.moment, &neighbour, neighbours, losts)?;
     Ok(repeats)
 }

@@ -16,10 +16,19 @@ use mesh_atoms::{Addr4, Base, Hello, Lost, Neighbour, RouterSettings, Seq, TwoHo
 use mesh_expire::Table;
 use mesh_hello::{HelloInfo, own_addresses, receive_fault, tell};
 use mesh_nbrs::{LostSet, NeighbourSet, TwoHopSet};
-use std::alloc::{AllocError, Global};
+use std::alloc::AllocError;
 
 /// How many 2-hop tuples an interface holds at most.
 const MOST_TWO_HOPS: usize = 16384;
+
+/// A HELLO from that sender, which arrives on an interface at a moment in ticks of 1/8192 s.
+#[derive(Clone, Copy)]
+pub struct HelloArrival<'a> {
+    pub moment: u64,
+    pub iface: usize,
+    pub sender: Addr4,
+    pub hello: &'a Hello,
+}
 
 /// A HELLO breaks the rule of a number, is too much for a base, or can be taken: then with the router's addresses, and with
 /// what it tells.
@@ -41,7 +50,6 @@ fn count_on<H: Table<TwoHopKey, TwoHop>>(sets: &[TwoHopSet<H>], iface: usize) ->
 /// The base that the HELLO would fill, if there is one; `own` has the router's addresses. Counts the addresses that the HELLO tells as
 /// SYMMETRIC neighbours only where all its rows would be too many; else it looks at the counts alone.
 fn base_to_fill<H: Table<TwoHopKey, TwoHop>, N: Table<Addr4, Neighbour>, O: Table<Addr4, Lost>>(
-    alloc: Global,
     two_hops: &[TwoHopSet<H>],
     neighbours: &NeighbourSet<N>,
     losts: &LostSet<O>,
@@ -55,6 +63,7 @@ fn base_to_fill<H: Table<TwoHopKey, TwoHop>, N: Table<Addr4, Neighbour>, O: Tabl
     ensures { IfOk result (λ base. (settings : RouterSettings) (links : List (Links LinkKey Link)) → ((a : Addr4) → Contains own.now a ↔ HasAddress settings a)
         → IsFilledBy settings iface hello.now (near_with links two_hops.now neighbours.now losts.now) (told_of telling.now) base) }
 {
+    let alloc = telling.listed.allocator();
     let listed = telling.listed.as_slice();
     if is_full_of_addresses(alloc, neighbours, losts, telling.originator, listed)? {
         return Ok(Some(Base::Neighbours));
@@ -71,31 +80,36 @@ fn base_to_fill<H: Table<TwoHopKey, TwoHop>, N: Table<Addr4, Neighbour>, O: Tabl
     }
 }
 
-/// Judges the HELLO from that sender on an interface (RFC 6130, section 12.1, and the limits of the bases).
+/// Judges a HELLO (RFC 6130, section 12.1, and the limits of the bases).
 pub fn judge<H: Table<TwoHopKey, TwoHop>, N: Table<Addr4, Neighbour>, O: Table<Addr4, Lost>>(
     settings: &RouterSettings,
     two_hops: &[TwoHopSet<H>],
     neighbours: &NeighbourSet<N>,
     losts: &LostSet<O>,
-    iface: usize,
-    sender: Addr4,
-    hello: &Hello,
+    arrival: &HelloArrival,
 ) -> Result<HelloCheck, AllocError>
-    requires iface { iface < length settings.now.interfaces }
+    requires iface { arrival.now.iface < length settings.now.interfaces }
     requires same { length two_hops.now ≡ length settings.now.interfaces }
-    requires few { length (base_of two_hops.now iface) ≤ 16384 }
+    requires few { length (base_of two_hops.now arrival.now.iface) ≤ 16384 }
     ensures { IfOk result (λ judgement. (links : List (Links LinkKey Link)) →
-        Judges settings.now iface sender hello.now (near_with links two_hops.now neighbours.now losts.now) judgement) }
+        Judges settings.now arrival.now.iface arrival.now.sender arrival.now.hello.now (near_with links two_hops.now neighbours.now losts.now) judgement) }
 {
     let alloc = settings.interfaces.allocator();
+    let hello = arrival.hello;
     let own = own_addresses(alloc, settings)?;
-    match receive_fault(hello, sender, &own) {
+    match receive_fault(hello, arrival.sender, &own) {
         Some(number) => return Ok(HelloCheck::Breaks(number)),
         None => {}
     }
-    let telling = tell(alloc, settings, iface, sender, hello, &own)?;
+    let telling = tell(alloc, settings, arrival.iface, arrival.sender, hello, &own)?;
     match base_to_fill(
-        alloc, two_hops, neighbours, losts, iface, hello, &own, &telling,
+        two_hops,
+        neighbours,
+        losts,
+        arrival.iface,
+        hello,
+        &own,
+        &telling,
     )? {
         Some(base) => Ok(HelloCheck::Overfills(base)),
         None => Ok(HelloCheck::Fits(Seq::from_vec(own), telling)),

@@ -10,8 +10,8 @@ ghost use Rattle.mesh_nhdp.specs.Calls.{TellsTwoHops};
 ghost use Rattle.mesh_nhdp.specs.Hearings.{UpdatesTwoHops};
 ghost use Rattle.mesh_nhdp.specs.Repeats.{RepeatsRows};
 
-use crate::two_hop_rows::tell_two_hops;
-use mesh_atoms::{Addr4, Hello, Link, LinkKey, TwoHop, TwoHopKey};
+use crate::two_hop_rows::{TwoHopRows, tell_two_hops};
+use mesh_atoms::{Addr4, Link, LinkKey, TwoHop, TwoHopKey};
 use mesh_expire::Table;
 use mesh_links::LinkSet;
 use mesh_nbrs::TwoHopSet;
@@ -50,21 +50,17 @@ fn start_two_hops<H: Table<TwoHopKey, TwoHop>>(
 /// Makes of the tuples of the link what the rows of the HELLO tell, where it is SYMMETRIC; whether all those rows repeat what was held.
 fn tell_if_symmetric<H: Table<TwoHopKey, TwoHop>>(
     two_hops: &mut TwoHopSet<H>,
-    link: LinkKey,
-    until: u64,
-    hello: &Hello,
-    own: &[Addr4],
-    listed: &[Addr4],
+    rows: &TwoHopRows,
     symmetric: bool,
 ) -> Result<bool, AllocError>
-    ensures rows { OnOk result (symmetric ≡ true → (settings : RouterSettings) (told : Told) → ((a : Addr4) → Contains own.now a ↔ HasAddress settings a)
-        → told.listed ≡ listed.now → TellsTwoHops settings told hello.now link until two_hops.old two_hops.new) }
+    ensures rows { OnOk result (symmetric ≡ true → (settings : RouterSettings) (told : Told) → ((a : Addr4) → Contains rows.now.own.now a ↔ HasAddress settings a)
+        → told.listed ≡ rows.now.listed.now → TellsTwoHops settings told rows.now.hello.now rows.now.link rows.now.until two_hops.old two_hops.new) }
     ensures no_rows { OnOk result (symmetric ≡ false → two_hops.new ≡ two_hops.old) }
     ensures repeats { IfOk result (λ repeats. IsTrue repeats → symmetric ≡ true
-        → RepeatsRows own.now listed.now two_hops.old link hello.now) }
+        → RepeatsRows rows.now.own.now rows.now.listed.now two_hops.old rows.now.link rows.now.hello.now) }
 {
     if symmetric {
-        tell_two_hops(two_hops, link, until, hello, own, listed)
+        tell_two_hops(two_hops, rows)
     } else {
         Ok(true)
     }
@@ -74,20 +70,17 @@ fn tell_if_symmetric<H: Table<TwoHopKey, TwoHop>>(
 /// they are made as the rows tell; whether it stood, and all those rows repeat what was held.
 fn update_two_hops<H: Table<TwoHopKey, TwoHop>>(
     two_hops: &mut TwoHopSet<H>,
-    link: LinkKey,
-    until: u64,
-    hello: &Hello,
-    own: &[Addr4],
-    listed: &[Addr4],
+    rows: &TwoHopRows,
     stood: bool,
     symmetric: bool,
 ) -> Result<bool, AllocError>
-    ensures updates { OnOk result (UpdatesTwoHops stood symmetric own.now listed.now hello.now link until two_hops.old two_hops.new) }
+    ensures updates { OnOk result (UpdatesTwoHops stood symmetric rows.now.own.now rows.now.listed.now rows.now.hello.now rows.now.link rows.now.until
+        two_hops.old two_hops.new) }
     ensures repeats { IfOk result (λ repeats. IsTrue repeats → symmetric ≡ true
-        → RepeatsRows own.now listed.now two_hops.old link hello.now) }
+        → RepeatsRows rows.now.own.now rows.now.listed.now two_hops.old rows.now.link rows.now.hello.now) }
 {
-    start_two_hops(two_hops, link, stood);
-    let repeats = tell_if_symmetric(two_hops, link, until, hello, own, listed, symmetric)?;
+    start_two_hops(two_hops, rows.link, stood);
+    let repeats = tell_if_symmetric(two_hops, rows, symmetric)?;
     // Its keys are distinct, which the proof needs.
     let _table = two_hops.table();
     Ok(stood & repeats)
@@ -97,29 +90,17 @@ fn update_two_hops<H: Table<TwoHopKey, TwoHop>>(
 pub fn update_two_hops_on<H: Table<TwoHopKey, TwoHop>>(
     two_hops: &mut [TwoHopSet<H>],
     iface: usize,
-    link: LinkKey,
-    until: u64,
-    hello: &Hello,
-    own: &[Addr4],
-    listed: &[Addr4],
+    rows: &TwoHopRows,
     stood: bool,
     symmetric: bool,
 ) -> Result<bool, AllocError>
     requires { iface < length two_hops.old }
     ensures length { length two_hops.new ≡ length two_hops.old }
     ensures elsewhere { (j : ℕ) → j ≢ iface → base_of two_hops.new j ≡ base_of two_hops.old j }
-    ensures here { OnOk result (UpdatesTwoHops stood symmetric own.now listed.now hello.now link until (base_of two_hops.old iface) (base_of two_hops.new iface)) }
+    ensures here { OnOk result (UpdatesTwoHops stood symmetric rows.now.own.now rows.now.listed.now rows.now.hello.now rows.now.link rows.now.until
+        (base_of two_hops.old iface) (base_of two_hops.new iface)) }
     ensures repeats { IfOk result (λ repeats. IsTrue repeats → symmetric ≡ true
-        → RepeatsRows own.now listed.now (base_of two_hops.old iface) link hello.now) }
+        → RepeatsRows rows.now.own.now rows.now.listed.now (base_of two_hops.old iface) rows.now.link rows.now.hello.now) }
 {
-    update_two_hops(
-        &mut two_hops[iface],
-        link,
-        until,
-        hello,
-        own,
-        listed,
-        stood,
-        symmetric,
-    )
+    update_two_hops(&mut two_hops[iface], rows, stood, symmetric)
 }

@@ -6,8 +6,8 @@ ghost use Rattle.mesh_nbrs.specs.Same.{SameNear};
 ghost use Rattle.mesh_nhdp.specs.Judged.{IsAnswer};
 ghost use Rattle.mesh_nhdp.specs.NhdpState.{near_with};
 
-use crate::hearing::hear;
-use crate::judge::{HelloCheck, judge};
+use crate::hearing::{HelloReceipt, hear};
+use crate::judge::{HelloArrival, HelloCheck, judge};
 use crate::nhdp::Nhdp;
 use crate::repeating::repeats;
 use mesh_atoms::{
@@ -72,12 +72,15 @@ impl<B: Bases> Nhdp<B> {
         ensures sound { OnOk result (SoundNeighbourhood self.new.settings now self.new.near) }
         ensures settings { self.new.settings ≡ self.old.settings }
     {
-        take_in(
-            &self.settings,
-            now,
+        let arrival = HelloArrival {
+            moment: now,
             iface,
             sender,
             hello,
+        };
+        take_in(
+            &self.settings,
+            &arrival,
             &mut self.links,
             &mut self.two_hops,
             &mut self.neighbours,
@@ -86,7 +89,7 @@ impl<B: Bases> Nhdp<B> {
     }
 }
 
-/// Takes in a HELLO from that sender on an interface, as `take_and_tell` does.
+/// Takes in a HELLO, as `take_and_tell` does.
 fn take_in<
     L: Table<LinkKey, Link>,
     H: Table<TwoHopKey, TwoHop>,
@@ -94,35 +97,37 @@ fn take_in<
     O: Table<Addr4, Lost>,
 >(
     settings: &RouterSettings,
-    now: u64,
-    iface: usize,
-    sender: Addr4,
-    hello: &Hello,
+    arrival: &HelloArrival,
     links: &mut [LinkSet<L>],
     two_hops: &mut [TwoHopSet<H>],
     neighbours: &mut NeighbourSet<N>,
     losts: &mut LostSet<O>,
 ) -> Result<(HelloTaken, bool), AllocError>
-    requires now { now < 2 ^ 62 }
-    requires iface { iface < length settings.now.interfaces }
-    requires lasts { 0 < hello.now.validity }
-    requires validity { hello.now.validity < 2 ^ 62 }
-    requires sound { SoundNeighbourhood settings.now now (near_with links.old two_hops.old neighbours.old losts.old) }
+    requires now { arrival.now.moment < 2 ^ 62 }
+    requires iface { arrival.now.iface < length settings.now.interfaces }
+    requires lasts { 0 < arrival.now.hello.now.validity }
+    requires validity { arrival.now.hello.now.validity < 2 ^ 62 }
+    requires sound { SoundNeighbourhood settings.now arrival.now.moment (near_with links.old two_hops.old neighbours.old losts.old) }
     ensures ok { IfOk result (λ told. (answer : HelloAnswer) × IsAnswer told.0 answer ×
-        TakesHello settings.now now iface sender hello.now (near_with links.old two_hops.old neighbours.old losts.old) (near_with links.new two_hops.new neighbours.new losts.new) answer) }
-    ensures same { IfOk result (λ told. told.1 ≡ false →
-        SameNear (near_with links.old two_hops.old neighbours.old losts.old) now (near_with links.new two_hops.new neighbours.new losts.new) now) }
-    ensures sound { OnOk result (SoundNeighbourhood settings.now now (near_with links.new two_hops.new neighbours.new losts.new)) }
+        TakesHello settings.now arrival.now.moment arrival.now.iface arrival.now.sender arrival.now.hello.now
+        (near_with links.old two_hops.old neighbours.old losts.old) (near_with links.new two_hops.new neighbours.new losts.new) answer) }
+    ensures same { IfOk result (λ told. told.1 ≡ false → SameNear (near_with links.old two_hops.old neighbours.old losts.old) arrival.now.moment
+        (near_with links.new two_hops.new neighbours.new losts.new) arrival.now.moment) }
+    ensures sound { OnOk result (SoundNeighbourhood settings.now arrival.now.moment (near_with links.new two_hops.new neighbours.new losts.new)) }
 {
-    match judge(settings, two_hops, neighbours, losts, iface, sender, hello)? {
+    match judge(settings, two_hops, neighbours, losts, arrival)? {
         HelloCheck::Breaks(number) => Ok((HelloTaken::Broken(number), false)),
         HelloCheck::Overfills(base) => Ok((HelloTaken::Full(base), false)),
         HelloCheck::Fits(own, telling) => {
-            let own = own.as_slice();
-            let repeated = repeats(now, iface, &telling, links, neighbours);
-            let rows = hear(
-                settings, now, iface, hello, own, &telling, links, two_hops, neighbours, losts,
-            )?;
+            let receipt = HelloReceipt {
+                moment: arrival.moment,
+                iface: arrival.iface,
+                hello: arrival.hello,
+                own: own.as_slice(),
+                telling: &telling,
+            };
+            let repeated = repeats(arrival.moment, arrival.iface, &telling, links, neighbours);
+            let rows = hear(settings, &receipt, links, two_hops, neighbours, losts)?;
             Ok((HelloTaken::Done, !(repeated & rows)))
         }
     }

@@ -52,6 +52,17 @@ pub fn or_else(near: Option<Metric>, link: Option<Metric>) -> Option<Metric>
     }
 }
 
+/// The rows of a HELLO as they are told to the 2-hop tuples of the link with this key, which stand until that moment. Rows of the
+/// router's own addresses and of those that the HELLO lists as its sender's are passed over.
+#[derive(Clone, Copy)]
+pub struct TwoHopRows<'a> {
+    pub link: LinkKey,
+    pub until: u64,
+    pub hello: &'a Hello,
+    pub own: &'a [Addr4],
+    pub listed: &'a [Addr4],
+}
+
 /// Makes of the tuple of its address what the row tells; whether that repeats what was held.
 fn tell_row<H: Table<TwoHopKey, TwoHop>>(
     two_hops: &mut TwoHopSet<H>,
@@ -75,17 +86,15 @@ fn tell_row<H: Table<TwoHopKey, TwoHop>>(
 /// The same, where the row tells of a neighbour of the sender; another repeats what was held.
 fn tell_if_looked_at<H: Table<TwoHopKey, TwoHop>>(
     two_hops: &mut TwoHopSet<H>,
-    link: LinkKey,
-    until: u64,
+    rows: &TwoHopRows,
     row: &HelloRow,
-    own: &[Addr4],
-    listed: &[Addr4],
 ) -> Result<bool, AllocError>
-    ensures tells { OnOk result (RowTells own.now listed.now link until row.now two_hops.old two_hops.new) }
-    ensures repeats { IfOk result (λ repeats. IsTrue repeats → LooksOn own.now listed.now row.now → RepeatsRow two_hops.old link row.now) }
+    ensures tells { OnOk result (RowTells rows.now.own.now rows.now.listed.now rows.now.link rows.now.until row.now two_hops.old two_hops.new) }
+    ensures repeats { IfOk result (λ repeats. IsTrue repeats → LooksOn rows.now.own.now rows.now.listed.now row.now
+        → RepeatsRow two_hops.old rows.now.link row.now) }
 {
-    if is_looked_at(row, own, listed) {
-        tell_row(two_hops, link, until, row)
+    if is_looked_at(row, rows.own, rows.listed) {
+        tell_row(two_hops, rows.link, rows.until, row)
     } else {
         Ok(true)
     }
@@ -95,19 +104,16 @@ fn tell_if_looked_at<H: Table<TwoHopKey, TwoHop>>(
 /// rows repeat what was held, so that nothing but moments changes.
 pub fn tell_two_hops<H: Table<TwoHopKey, TwoHop>>(
     two_hops: &mut TwoHopSet<H>,
-    link: LinkKey,
-    until: u64,
-    hello: &Hello,
-    own: &[Addr4],
-    listed: &[Addr4],
+    rows: &TwoHopRows,
 ) -> Result<bool, AllocError>
-    ensures tells { OnOk result ((settings : RouterSettings) (told : Told) → ((a : Addr4) → Contains own.now a ↔ HasAddress settings a)
-        → told.listed ≡ listed.now → TellsTwoHops settings told hello.now link until two_hops.old two_hops.new) }
-    ensures repeats { IfOk result (λ repeats. IsTrue repeats → RepeatsRows own.now listed.now two_hops.old link hello.now) }
+    ensures tells { OnOk result ((settings : RouterSettings) (told : Told) → ((a : Addr4) → Contains rows.now.own.now a ↔ HasAddress settings a)
+        → told.listed ≡ rows.now.listed.now → TellsTwoHops settings told rows.now.hello.now rows.now.link rows.now.until two_hops.old two_hops.new) }
+    ensures repeats { IfOk result (λ repeats. IsTrue repeats
+        → RepeatsRows rows.now.own.now rows.now.listed.now two_hops.old rows.now.link rows.now.hello.now) }
 {
     let mut repeated = true;
-    for row in hello.rows.as_slice() {
-        let repeats = tell_if_looked_at(two_hops, link, until, row, own, listed)?;
+    for row in rows.hello.rows.as_slice() {
+        let repeats = tell_if_looked_at(two_hops, rows, row)?;
         repeated &= repeats;
     }
     Ok(repeated)

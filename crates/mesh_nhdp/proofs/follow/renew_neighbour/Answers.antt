@@ -2,19 +2,18 @@ use Rattle.std.proofs.Common.{List, subst}
 use Rattle.std.proofs.lemmas.Result.{on_ok_weaker}
 use Rattle.mesh_atoms.specs.declared.addr.Addr4.{Addr4}
 use Rattle.mesh_nbrs.specs.Neighbours.{Replaces}
-use Rattle.mesh_nhdp.specs.Follows.{FollowsLinksOf}
 use Rattle.mesh_nhdp.proofs.follow.renew_neighbour.Goals as goal
 
 pub replace-requires-clause-ascending : goal.replace-requires-clause-ascending
-replace-requires-clause-ascending g c = rw c.as_slice-listed.ensures c.requires.ascending
+replace-requires-clause-ascending g c = rw c.as_slice.ensures c.requires.ascending
 
 pub replace-requires-clause-some : goal.replace-requires-clause-some
-replace-requires-clause-some g c = rw c.as_slice-listed.ensures c.requires.some
+replace-requires-clause-some g c = rw c.as_slice.ensures c.requires.some
 
 pub returns : goal.returns
 returns g c =
     on_ok_weaker c.follow_links_of.result (λ F. record {
       replaced = c.replace.new.self;
-      replaces = subst (λ (xs : List Addr4). Replaces c.args.telling.now.originator xs c.args.telling.now.willing c.args.telling.now.routing c.args.now c.args.neighbours.now c.replace.new.self) c.as_slice-listed.ensures c.in_ok-replace.ensures.ok;
-      follows = subst (λ (xs : List Addr4). FollowsLinksOf c.args.links.now c.args.now c.args.telling.now.originator xs c.args.before.now c.args.until c.replace.new.self c.follow_links_of.new.neighbours c.args.losts.now c.follow_links_of.new.losts) c.as_slice-listed.ensures F;
+      replaces = subst (λ (xs : List Addr4). Replaces c.args.neighbour.now.telling.now.originator xs c.args.neighbour.now.telling.now.willing c.args.neighbour.now.telling.now.routing c.args.now c.args.neighbours.now c.replace.new.self) c.as_slice.ensures c.in_ok-replace.ensures.ok;
+      follows = F;
     }) c.follow_links_of.ensures

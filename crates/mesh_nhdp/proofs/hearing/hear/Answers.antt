@@ -28,7 +28,7 @@ hear_links-requires-clause-ready g c =
       lasts = subst (λ n. 0 < n) (sym told.validity) c.requires.lasts;
       validity_range = subst (λ n. n < 2 ^ 62) (sym told.validity) c.requires.validity;
       ascending = told.sending.0;
-      some = sending_some c.args.telling.now.shown.sending (λ b. TellsLocal c.args.hello.now b This) sender told.sending.1;
+      some = sending_some c.args.receipt.now.telling.now.shown.sending (λ b. TellsLocal c.args.receipt.now.hello.now b This) sender told.sending.1;
     }
 
 pub hear_links-requires-clause-least : goal.hear_links-requires-clause-least
@@ -40,14 +40,14 @@ renew_neighbour-requires-clause-ascending g c = let (sender, told, fault) = c.re
 pub renew_neighbour-requires-clause-some : goal.renew_neighbour-requires-clause-some
 renew_neighbour-requires-clause-some g c =
     let (sender, told, fault) = c.requires.told in
-    more_some c.args.telling.now.shown.sending c.args.telling.now.listed (sending_some c.args.telling.now.shown.sending (λ b. TellsLocal c.args.hello.now b This) sender told.sending.1)
+    more_some c.args.receipt.now.telling.now.shown.sending c.args.receipt.now.telling.now.listed (sending_some c.args.receipt.now.telling.now.shown.sending (λ b. TellsLocal c.args.receipt.now.hello.now b This) sender told.sending.1)
     (λ a has. (told.listed.1 a).1 (inl ((told.sending.1 a).0 has)))
 
 pub returns-clause-after : goal.returns-clause-after
 returns-clause-after g c =
     let (sender, told, fault) = c.requires.told in
-    receipt_runs c.args.settings.now c.args.now c.args.iface sender (told_of c.args.telling.now) c.args.hello.now c.args.links.now c.hear_links.new.links c.args.two_hops.now c.hear_links.new.two_hops
-    c.args.neighbours.now c.renew_neighbour.new.neighbours c.args.losts.now c.renew_neighbour.new.losts c.in_ok-theirs.theirs.items c.deref.result.now c.args.own.now c.in_ok-theirs.before.items c.deref-2.result.now told fault
+    receipt_runs c.args.settings.now c.args.receipt.now.moment c.args.receipt.now.iface sender (told_of c.args.receipt.now.telling.now) c.args.receipt.now.hello.now c.args.links.now c.hear_links.new.links c.args.two_hops.now c.hear_links.new.two_hops
+    c.args.neighbours.now c.renew_neighbour.new.neighbours c.args.losts.now c.renew_neighbour.new.losts c.in_ok-theirs.theirs.items c.deref.result.now c.args.receipt.now.own.now c.in_ok-theirs.before.items c.deref-2.result.now told fault
     (subst (λ n. 0 < n) (sym told.validity) c.requires.lasts) c.requires.sound c.requires.iface c.requires.own c.in_ok-theirs.ensures.symmetric c.in_ok-theirs.ensures.all c.deref.ensures.value c.deref-2.ensures.value
     c.in_ok-repeats.ensures.hears c.in_ok-renew_neighbour.ensures
 

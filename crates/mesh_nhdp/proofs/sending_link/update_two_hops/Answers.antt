@@ -19,4 +19,4 @@ returns-clause-updates g c = record {
 pub returns-clause-repeats : goal.returns-clause-repeats
 returns-clause-repeats g c = λ both symmetric.
     let (stood, repeats) = both_true c.args.stood c.in_ok-repeats.repeats both in
-    subst (λ (b : Base TwoHopKey TwoHop). RepeatsRows c.args.own.now c.args.listed.now b c.args.link c.args.hello.now) (c.start_two_hops.ensures.stood stood) (c.in_ok-repeats.ensures.repeats repeats symmetric)
+    subst (λ (b : Base TwoHopKey TwoHop). RepeatsRows c.args.rows.now.own.now c.args.rows.now.listed.now b c.args.rows.now.link c.args.rows.now.hello.now) (c.start_two_hops.ensures.stood stood) (c.in_ok-repeats.ensures.repeats repeats symmetric)

@@ -20,12 +20,12 @@ pub returns-clause-here : goal.returns-clause-here
 returns-clause-here g c =
     let here = is_base c.args.two_hops.now c.args.iface c.index-two_hops-iface.result c.requires c.index-two_hops-iface.is ∙ c.index-two_hops-iface.is in
     on_ok c.update_two_hops.result (λ U.
-    subst (λ (b : Base TwoHopKey TwoHop). UpdatesTwoHops c.args.stood c.args.symmetric c.args.own.now c.args.listed.now c.args.hello.now c.args.link c.args.until b (base_of (slice_set c.args.two_hops.now c.args.iface c.update_two_hops.new.two_hops) c.args.iface)) (sym here)
-    (subst (λ (b : Base TwoHopKey TwoHop). UpdatesTwoHops c.args.stood c.args.symmetric c.args.own.now c.args.listed.now c.args.hello.now c.args.link c.args.until (get_or c.args.two_hops.now c.args.iface c.index-two_hops-iface.result) b)
+    subst (λ (b : Base TwoHopKey TwoHop). UpdatesTwoHops c.args.stood c.args.symmetric c.args.rows.now.own.now c.args.rows.now.listed.now c.args.rows.now.hello.now c.args.rows.now.link c.args.rows.now.until b (base_of (slice_set c.args.two_hops.now c.args.iface c.update_two_hops.new.two_hops) c.args.iface)) (sym here)
+    (subst (λ (b : Base TwoHopKey TwoHop). UpdatesTwoHops c.args.stood c.args.symmetric c.args.rows.now.own.now c.args.rows.now.listed.now c.args.rows.now.hello.now c.args.rows.now.link c.args.rows.now.until (get_or c.args.two_hops.now c.args.iface c.index-two_hops-iface.result) b)
     (sym (written_same c.args.two_hops.now c.args.iface c.update_two_hops.new.two_hops c.requires)) U)) c.update_two_hops.ensures.updates
 
 pub returns-clause-repeats : goal.returns-clause-repeats
 returns-clause-repeats g c =
     let here = is_base c.args.two_hops.now c.args.iface c.index-two_hops-iface.result c.requires c.index-two_hops-iface.is ∙ c.index-two_hops-iface.is in
     if_ok c.update_two_hops.result (λ r same is symmetric.
-    subst (λ (b : Base TwoHopKey TwoHop). RepeatsRows c.args.own.now c.args.listed.now b c.args.link c.args.hello.now) (sym here) (same is symmetric)) c.update_two_hops.ensures.repeats
+    subst (λ (b : Base TwoHopKey TwoHop). RepeatsRows c.args.rows.now.own.now c.args.rows.now.listed.now b c.args.rows.now.link c.args.rows.now.hello.now) (sym here) (same is symmetric)) c.update_two_hops.ensures.repeats

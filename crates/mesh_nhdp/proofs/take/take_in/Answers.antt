@@ -21,14 +21,14 @@ pub judge-requires-clause-same : goal.judge-requires-clause-same
 judge-requires-clause-same g c = c.requires.sound.two_hop_interfaces
 
 pub judge-requires-clause-few : goal.judge-requires-clause-few
-judge-requires-clause-few g c = (c.requires.sound.two_hops c.args.iface).limit
+judge-requires-clause-few g c = (c.requires.sound.two_hops c.args.arrival.now.iface).limit
 
 pub returns-in-Breaks-clause-ok : goal.returns-in-Breaks-clause-ok
 returns-in-Breaks-clause-ok g c =
     let near = near_with c.args.links.now c.args.two_hops.now c.args.neighbours.now c.args.losts.now in (
       Broken_at c.in-Breaks.number,
       refl,
-      Breaks c.in-Breaks.number (subst (λ (j : HelloCheck). Judges c.args.settings.now c.args.iface c.args.sender c.args.hello.now near j) c.in-Breaks.is (c.in_ok-number.ensures c.args.links.now)),
+      Breaks c.in-Breaks.number (subst (λ (j : HelloCheck). Judges c.args.settings.now c.args.arrival.now.iface c.args.arrival.now.sender c.args.arrival.now.hello.now near j) c.in-Breaks.is (c.in_ok-number.ensures c.args.links.now)),
     )
 
 pub returns-in-Breaks-clause-sound : goal.returns-in-Breaks-clause-sound
@@ -37,8 +37,8 @@ returns-in-Breaks-clause-sound g c = c.requires.sound
 pub returns-in-Overfills-clause-ok : goal.returns-in-Overfills-clause-ok
 returns-in-Overfills-clause-ok g c =
     let near = near_with c.args.links.now c.args.two_hops.now c.args.neighbours.now c.args.losts.now in
-    overfull c.args.settings.now c.args.now c.args.iface c.args.sender c.args.hello.now near c.in-Overfills.base
-    (subst (λ (j : HelloCheck). Judges c.args.settings.now c.args.iface c.args.sender c.args.hello.now near j) c.in-Overfills.is (c.in_ok-number.ensures c.args.links.now))
+    overfull c.args.settings.now c.args.arrival.now.moment c.args.arrival.now.iface c.args.arrival.now.sender c.args.arrival.now.hello.now near c.in-Overfills.base
+    (subst (λ (j : HelloCheck). Judges c.args.settings.now c.args.arrival.now.iface c.args.arrival.now.sender c.args.arrival.now.hello.now near j) c.in-Overfills.is (c.in_ok-number.ensures c.args.links.now))
 
 pub returns-in-Overfills-clause-sound : goal.returns-in-Overfills-clause-sound
 returns-in-Overfills-clause-sound g c = c.requires.sound
@@ -58,14 +58,14 @@ hear-requires-clause-validity g c = c.requires.validity
 pub hear-requires-clause-own : goal.hear-requires-clause-own
 hear-requires-clause-own g c =
     let near = near_with c.args.links.now c.args.two_hops.now c.args.neighbours.now c.args.losts.now in
-    own_at c.args.settings.now c.args.settings.now c.in-Fits.own c.as_slice-own.result.now refl c.as_slice-own.ensures
-    (subst (λ (j : HelloCheck). Judges c.args.settings.now c.args.iface c.args.sender c.args.hello.now near j) c.in-Fits.is (c.in_ok-number.ensures c.args.links.now)).4
+    own_at c.args.settings.now c.args.settings.now c.in-Fits.own c.as_slice.result.now refl c.as_slice.ensures
+    (subst (λ (j : HelloCheck). Judges c.args.settings.now c.args.arrival.now.iface c.args.arrival.now.sender c.args.arrival.now.hello.now near j) c.in-Fits.is (c.in_ok-number.ensures c.args.links.now)).4
 
 pub hear-requires-clause-told : goal.hear-requires-clause-told
 hear-requires-clause-told g c =
     let near = near_with c.args.links.now c.args.two_hops.now c.args.neighbours.now c.args.losts.now in
-    let judged = (subst (λ (j : HelloCheck). Judges c.args.settings.now c.args.iface c.args.sender c.args.hello.now near j) c.in-Fits.is (c.in_ok-number.ensures c.args.links.now)) in
-    (c.args.sender, judged.1, judged.0)
+    let judged = (subst (λ (j : HelloCheck). Judges c.args.settings.now c.args.arrival.now.iface c.args.arrival.now.sender c.args.arrival.now.hello.now near j) c.in-Fits.is (c.in_ok-number.ensures c.args.links.now)) in
+    (c.args.arrival.now.sender, judged.1, judged.0)
 
 pub hear-requires-clause-sound : goal.hear-requires-clause-sound
 hear-requires-clause-sound g c = c.requires.sound
@@ -73,29 +73,29 @@ hear-requires-clause-sound g c = c.requires.sound
 pub returns-in_ok-rows-in-Fits-clause-ok : goal.returns-in_ok-rows-in-Fits-clause-ok
 returns-in_ok-rows-in-Fits-clause-ok g c =
     let near = near_with c.args.links.now c.args.two_hops.now c.args.neighbours.now c.args.losts.now in
-    let judged = (subst (λ (j : HelloCheck). Judges c.args.settings.now c.args.iface c.args.sender c.args.hello.now near j) c.in-Fits.is (c.in_ok-number.ensures c.args.links.now)) in
+    let judged = (subst (λ (j : HelloCheck). Judges c.args.settings.now c.args.arrival.now.iface c.args.arrival.now.sender c.args.arrival.now.hello.now near j) c.in-Fits.is (c.in_ok-number.ensures c.args.links.now)) in
     (Taken, refl, Takes (told_of c.in-Fits.telling) judged.0 judged.1 judged.2 judged.3 c.in_ok-rows-in-Fits.ensures.after)
 
 pub returns-in_ok-rows-in-Fits-clause-sound : goal.returns-in_ok-rows-in-Fits-clause-sound
 returns-in_ok-rows-in-Fits-clause-sound g c =
     let near = near_with c.args.links.now c.args.two_hops.now c.args.neighbours.now c.args.losts.now in
     let after = near_with c.hear.new.links c.hear.new.two_hops c.hear.new.neighbours c.hear.new.losts in
-    let judged = (subst (λ (j : HelloCheck). Judges c.args.settings.now c.args.iface c.args.sender c.args.hello.now near j) c.in-Fits.is (c.in_ok-number.ensures c.args.links.now)) in
-    taken_sound c.args.settings.now c.args.settings.now c.args.now c.args.iface c.args.sender c.args.hello.now (told_of c.in-Fits.telling) near after judged.0 judged.1 c.requires.lasts
+    let judged = (subst (λ (j : HelloCheck). Judges c.args.settings.now c.args.arrival.now.iface c.args.arrival.now.sender c.args.arrival.now.hello.now near j) c.in-Fits.is (c.in_ok-number.ensures c.args.links.now)) in
+    taken_sound c.args.settings.now c.args.settings.now c.args.arrival.now.moment c.args.arrival.now.iface c.args.arrival.now.sender c.args.arrival.now.hello.now (told_of c.in-Fits.telling) near after judged.0 judged.1 c.requires.lasts
     c.requires.sound c.in_ok-rows-in-Fits.ensures.after judged.2 judged.3 refl
 
 pub returns-in-Breaks-clause-same : goal.returns-in-Breaks-clause-same
-returns-in-Breaks-clause-same g c = λ unchanged. unchanged_same _ c.args.now
+returns-in-Breaks-clause-same g c = λ unchanged. unchanged_same _ c.args.arrival.now.moment
 
 pub returns-in-Overfills-clause-same : goal.returns-in-Overfills-clause-same
-returns-in-Overfills-clause-same g c = λ unchanged. unchanged_same _ c.args.now
+returns-in-Overfills-clause-same g c = λ unchanged. unchanged_same _ c.args.arrival.now.moment
 
 pub returns-in_ok-rows-in-Fits-clause-same : goal.returns-in_ok-rows-in-Fits-clause-same
 returns-in_ok-rows-in-Fits-clause-same g c = λ unchanged.
     let near = near_with c.args.links.now c.args.two_hops.now c.args.neighbours.now c.args.losts.now in
     let after = near_with c.hear.new.links c.hear.new.two_hops c.hear.new.neighbours c.hear.new.losts in
-    let judged = (subst (λ (j : HelloCheck). Judges c.args.settings.now c.args.iface c.args.sender c.args.hello.now near j) c.in-Fits.is (c.in_ok-number.ensures c.args.links.now)) in
-    let own_is = own_at c.args.settings.now c.args.settings.now c.in-Fits.own c.as_slice-own.result.now refl c.as_slice-own.ensures judged.4 in
+    let judged = (subst (λ (j : HelloCheck). Judges c.args.settings.now c.args.arrival.now.iface c.args.arrival.now.sender c.args.arrival.now.hello.now near j) c.in-Fits.is (c.in_ok-number.ensures c.args.links.now)) in
+    let own_is = own_at c.args.settings.now c.args.settings.now c.in-Fits.own c.as_slice.result.now refl c.as_slice.ensures judged.4 in
     let both = both_true c.repeats-repeated.result c.in_ok-rows-in-Fits.rows (not_false _ unchanged) in
-    repeats_same c.args.settings.now c.args.now c.args.iface (told_of c.in-Fits.telling) c.args.hello.now c.as_slice-own.result.now own_is near after
+    repeats_same c.args.settings.now c.args.arrival.now.moment c.args.arrival.now.iface (told_of c.in-Fits.telling) c.args.arrival.now.hello.now c.as_slice.result.now own_is near after
     (subst (λ n. 0 < n) (sym judged.1.validity) c.requires.lasts) c.requires.sound c.in_ok-rows-in-Fits.ensures.after (c.repeats-repeated.ensures both.0 c.args.two_hops.now c.args.losts.now) (c.in_ok-rows-in-Fits.ensures.repeats both.1)
