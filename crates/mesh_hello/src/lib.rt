@@ -7,5 +7,5 @@ mod saying;
 mod told;
 
 pub use lists::{ascending, put_table_keys};
-pub use saying::{HasSaid, make_hello};
+pub use saying::{HasSaid, HelloBasis, make_hello};
 pub use told::{HelloInfo, own_addresses, receive_fault, tell};

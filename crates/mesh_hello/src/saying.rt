@@ -6,5 +6,6 @@ mod said_addresses;
 mod said_of;
 mod say;
 
+pub use crate::saying::rows::HelloBasis;
 pub use crate::saying::said_addresses::HasSaid;
 pub use crate::saying::say::make_hello;

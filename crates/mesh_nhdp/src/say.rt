@@ -10,7 +10,7 @@ ghost use Rattle.mesh_links.specs.Links.{SelectorOf};
 use crate::nhdp::Nhdp;
 use mesh_atoms::{Addr4, Hello, Relays};
 use mesh_expire::Bases;
-use mesh_hello::make_hello;
+use mesh_hello::{HelloBasis, make_hello};
 use std::alloc::{AllocError, Global};
 
 impl<B: Bases> Nhdp<B> {
@@ -35,16 +35,16 @@ impl<B: Bases> Nhdp<B> {
         // An address of its own has no status, no metric and no relay.
         ensures own { IfOk result (λ hello. HaveSenderAlone hello.rows) }
     {
-        make_hello(
-            alloc,
-            &self.settings,
-            &self.links[iface],
-            &self.neighbours,
-            self.losts.table(),
+        let basis = HelloBasis {
+            settings: &self.settings,
+            links: &self.links[iface],
+            neighbours: &self.neighbours,
+            losts: self.losts.table(),
             relays,
             iface,
-            now,
-        )
+            moment: now,
+        };
+        make_hello(alloc, &basis)
     }
 
     /// The selector flag of the SYMMETRIC link of interface `iface` that has the sender's address; `None` where there is no such

@@ -16,6 +16,19 @@ use mesh_links::LinkSet;
 use mesh_nbrs::NeighbourSet;
 use std::alloc::{AllocError, Global};
 
+/// What the HELLO of an interface is made of at a moment in ticks of 1/8192 s: the settings, the links of that interface, the
+/// neighbours, the lost addresses and the relays.
+#[derive(Drop)]
+pub struct HelloBasis<'a, L: Table<LinkKey, Link>, N: Table<Addr4, Neighbour>, O> {
+    pub settings: &'a RouterSettings,
+    pub links: &'a LinkSet<L>,
+    pub neighbours: &'a NeighbourSet<N>,
+    pub losts: &'a O,
+    pub relays: &'a Relays,
+    pub iface: usize,
+    pub moment: u64,
+}
+
 /// Whether the address is lost.
 fn is_lost<T: Table<Addr4, Lost>>(losts: &T, addr: Addr4) -> bool
     requires { HasDistinctKeys addr_eq (T.content losts.now) }
@@ -26,28 +39,23 @@ fn is_lost<T: Table<Addr4, Lost>>(losts: &T, addr: Addr4) -> bool
 
 /// The row of an address of which something is said.
 fn row_of<L: Table<LinkKey, Link>, N: Table<Addr4, Neighbour>, O: Table<Addr4, Lost>>(
-    settings: &RouterSettings,
-    links: &LinkSet<L>,
-    neighbours: &NeighbourSet<N>,
-    losts: &O,
-    relays: &Relays,
-    iface: usize,
-    now: u64,
+    basis: &HelloBasis<'_, L, N, O>,
     addr: Addr4,
 ) -> HelloRow
-    requires apart { AreDisjoint links.now neighbours.now (O.content losts.now) }
-    requires said { Contains (said_addresses settings.now links.now neighbours.now (O.content losts.now)) addr }
+    requires apart { AreDisjoint basis.now.links.now basis.now.neighbours.now (O.content basis.now.losts.now) }
+    requires said { Contains (said_addresses basis.now.settings.now basis.now.links.now basis.now.neighbours.now (O.content basis.now.losts.now)) addr }
     ensures addr { result.addr ≡ host addr }
-    ensures says { IsHelloRowOf settings.now links.now neighbours.now (O.content losts.now) relays.now iface now result addr }
+    ensures says { IsHelloRowOf basis.now.settings.now basis.now.links.now basis.now.neighbours.now (O.content basis.now.losts.now)
+        basis.now.relays.now basis.now.iface basis.now.moment result addr }
 {
-    let link = links.with_address(addr);
-    let neighbour = neighbour_with(neighbours, addr);
-    let status = link_status_said(link, now);
+    let link = basis.links.with_address(addr);
+    let neighbour = neighbour_with(basis.neighbours, addr);
+    let status = link_status_said(link, basis.moment);
     HelloRow {
         addr: host(addr),
-        local: local_of(settings, iface, addr),
+        local: local_of(basis.settings, basis.iface, addr),
         link: status,
-        other: other_said(status, neighbour.is_some(), is_lost(losts, addr)),
+        other: other_said(status, neighbour.is_some(), is_lost(basis.losts, addr)),
         metrics: Metrics {
             link_in: link_in_said(status, link),
             link_out: link_out_said(status, link),
@@ -55,8 +63,8 @@ fn row_of<L: Table<LinkKey, Link>, N: Table<Addr4, Neighbour>, O: Table<Addr4, L
             near_out: near_out_said(neighbour),
         },
         mpr: Mpr {
-            flooding: is_flooding_relay(&relays.flooding, iface, status, neighbour),
-            routing: is_relay(relays.routing.as_slice(), neighbour),
+            flooding: is_flooding_relay(&basis.relays.flooding, basis.iface, status, neighbour),
+            routing: is_relay(basis.relays.routing.as_slice(), neighbour),
         },
     }
 }
@@ -64,26 +72,20 @@ fn row_of<L: Table<LinkKey, Link>, N: Table<Addr4, Neighbour>, O: Table<Addr4, L
 /// The rows of those addresses, in their order. Each address is looked up among the links, the neighbours and the lost ones.
 pub fn rows_of<L: Table<LinkKey, Link>, N: Table<Addr4, Neighbour>, O: Table<Addr4, Lost>>(
     alloc: Global,
-    settings: &RouterSettings,
-    links: &LinkSet<L>,
-    neighbours: &NeighbourSet<N>,
-    losts: &O,
-    relays: &Relays,
-    iface: usize,
-    now: u64,
+    basis: &HelloBasis<'_, L, N, O>,
     addrs: &[Addr4],
 ) -> Result<Seq<HelloRow>, AllocError>
-    requires apart { AreDisjoint links.now neighbours.now (O.content losts.now) }
-    requires said { (a : Addr4) → Contains addrs.now a → Contains (said_addresses settings.now links.now neighbours.now (O.content losts.now)) a }
+    requires apart { AreDisjoint basis.now.links.now basis.now.neighbours.now (O.content basis.now.losts.now) }
+    requires said { (a : Addr4) → Contains addrs.now a
+        → Contains (said_addresses basis.now.settings.now basis.now.links.now basis.now.neighbours.now (O.content basis.now.losts.now)) a }
     ensures addrs { IfOk result (λ rows. map (λ row. row.addr) rows ≡ map host addrs.now) }
     ensures says { IfOk result (λ rows. (row : HelloRow) → Contains rows row → (a : Addr4) ×
-        IsHelloRowOf settings.now links.now neighbours.now (O.content losts.now) relays.now iface now row a) }
+        IsHelloRowOf basis.now.settings.now basis.now.links.now basis.now.neighbours.now (O.content basis.now.losts.now)
+        basis.now.relays.now basis.now.iface basis.now.moment row a) }
 {
     let mut rows = Seq::new(alloc);
     for addr in addrs {
-        rows.push(row_of(
-            settings, links, neighbours, losts, relays, iface, now, *addr,
-        ))?;
+        rows.push(row_of(basis, *addr))?;
     }
     Ok(rows)
 }

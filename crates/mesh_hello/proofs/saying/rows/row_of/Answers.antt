@@ -14,14 +14,14 @@ returns-clause-addr g c = c.host.ensures
 
 pub returns-clause-says : goal.returns-clause-says
 returns-clause-says g c =
-    row_of c.args.settings.now c.args.links.now c.args.neighbours.now (g.O.Table.content c.args.losts.now) c.args.relays.now c.args.iface c.args.now _ c.args.addr
+    row_of c.args.basis.now.settings.now c.args.basis.now.links.now c.args.basis.now.neighbours.now (g.O.Table.content c.args.basis.now.losts.now) c.args.basis.now.relays.now c.args.basis.now.iface c.args.basis.now.moment _ c.args.addr
     c.requires.apart c.requires.said
     (record {
       linked = entry_of c.with_address-link.result;
       near = entry_of c.neighbour_with-neighbour.result;
       is_near = c.is_some.result;
       is_lost = c.is_lost.result;
-      linked_is = link_by c.args.links.now c.args.addr c.with_address-link.result c.with_address-link.ensures.distinct c.with_address-link.ensures.some c.with_address-link.ensures.none;
+      linked_is = link_by c.args.basis.now.links.now c.args.addr c.with_address-link.result c.with_address-link.ensures.distinct c.with_address-link.ensures.some c.with_address-link.ensures.none;
       near_is = c.neighbour_with-neighbour.ensures;
       is_near_so = c.is_some.ensures ∙ lent_some c.neighbour_with-neighbour.result;
       is_lost_so = c.is_lost.ensures;

@@ -4,14 +4,14 @@ use Rattle.mesh_hello.proofs.saying.say.make_hello.Goals as goal
 
 pub rows_of-requires-clause-said : goal.rows_of-requires-clause-said
 rows_of-requires-clause-said g c = λ a.
-    rw c.as_slice.ensures ((said_same c.args.settings.now c.args.links.now _ c.args.neighbours.now _ (g.O.Table.content c.args.losts.now) c.in_ok-addrs.addrs c.table.ensures.content c.table-2.ensures.content c.in_ok-addrs.ensures.same a).0)
+    rw c.as_slice.ensures ((said_same c.args.basis.now.settings.now c.args.basis.now.links.now _ c.args.basis.now.neighbours.now _ (g.O.Table.content c.args.basis.now.losts.now) c.in_ok-addrs.addrs c.table-links.ensures.content c.table-neighbours.ensures.content c.in_ok-addrs.ensures.same a).0)
 
 pub returns : goal.returns
 returns g c =
-    hello_is c.args.settings.now c.args.links.now c.args.neighbours.now (g.O.Table.content c.args.losts.now) c.args.relays.now c.args.iface c.args.now
+    hello_is c.args.basis.now.settings.now c.args.basis.now.links.now c.args.basis.now.neighbours.now (g.O.Table.content c.args.basis.now.losts.now) c.args.basis.now.relays.now c.args.basis.now.iface c.args.basis.now.moment
     c.in_ok-addrs.addrs _ (record {
       ascending = c.in_ok-addrs.ensures.ascending;
-      same = said_same c.args.settings.now c.args.links.now _ c.args.neighbours.now _ (g.O.Table.content c.args.losts.now) c.in_ok-addrs.addrs c.table.ensures.content c.table-2.ensures.content c.in_ok-addrs.ensures.same;
+      same = said_same c.args.basis.now.settings.now c.args.basis.now.links.now _ c.args.basis.now.neighbours.now _ (g.O.Table.content c.args.basis.now.losts.now) c.in_ok-addrs.addrs c.table-links.ensures.content c.table-neighbours.ensures.content c.in_ok-addrs.ensures.same;
       addrs = rw (← c.as_slice.ensures) c.in_ok-rows.ensures.addrs;
       says = c.in_ok-rows.ensures.says;
       originator = (_, c.originator.ensures.is, refl);
