@@ -32,8 +32,8 @@ pub fn follow_links<L: Table<LinkKey, Link>, N: Table<Addr4, Neighbour>, O: Tabl
     losts.settle_lost(before, &after, until)
 }
 
-/// The neighbour that a HELLO speaks of: what the HELLO tells of it, the addresses of those symmetric neighbours that become this
-/// one, and the moment until which such an address is lost that isn't this one's then.
+/// The neighbour that a HELLO speaks of (RFC 6130, section 12.3): what the HELLO tells of it, the addresses of the symmetric neighbours
+/// that become this one, and the moment, in ticks of 1/8192 s, until which those of these addresses are lost that it doesn't have.
 #[derive(Clone, Copy)]
 pub struct SendingNeighbour<'a> {
     pub telling: &'a HelloInfo,
@@ -52,8 +52,8 @@ fn follow_links_of<L: Table<LinkKey, Link>, N: Table<Addr4, Neighbour>, O: Table
     neighbours: &mut NeighbourSet<N>,
     losts: &mut LostSet<O>,
 ) -> Result<(), AllocError>
-    ensures { OnOk result (FollowsLinksOf links.now now neighbour.now.telling.now.originator neighbour.now.telling.now.listed neighbour.now.before.now neighbour.now.until
-        neighbours.old neighbours.new losts.old losts.new) }
+    ensures { OnOk result (FollowsLinksOf links.now now neighbour.now.telling.now.originator neighbour.now.telling.now.listed
+        neighbour.now.before.now neighbour.now.until neighbours.old neighbours.new losts.old losts.new) }
 {
     let originator = neighbour.telling.originator;
     let notes = notes_among(alloc, links, neighbour.telling.listed.as_slice(), now)?;

@@ -128,8 +128,8 @@ fn hear_links<L: Table<LinkKey, Link>, H: Table<TwoHopKey, TwoHop>>(
     )
 }
 
-/// Takes in a HELLO that isn't refused and isn't too much. Answers true only where the link that it came
-/// over isn't SYMMETRIC then, or all rows repeat what was held. After want of memory the neighbourhood may only be dropped.
+/// Takes in a HELLO that isn't refused and isn't too much. Answers true only where the link that it came over isn't SYMMETRIC then,
+/// or all rows repeat what was held. After want of memory the neighbourhood may only be dropped.
 pub fn hear<
     L: Table<LinkKey, Link>,
     H: Table<TwoHopKey, TwoHop>,
