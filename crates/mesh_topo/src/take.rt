@@ -8,7 +8,7 @@ ghost use Rattle.mesh_topo.specs.Same.{SameAdvertised};
 ghost use Rattle.mesh_topo.specs.Sets.{AreFew, KeepsNewer, sets_of};
 ghost use Rattle.mesh_topo.specs.Tuples.{HasHosts};
 
-use crate::tc_sets::{KeyedSet, Tuple};
+use crate::tc_sets::{KeyedSet, TopologyTuple};
 use crate::topology::TcTaken;
 use mesh_atoms::{
     Addr4, AddressKey, AddressTuple, Advertiser, Base, NetworkKey, NetworkTuple, RouterKey,
@@ -80,7 +80,7 @@ fn is_overfull(held: usize, rows: usize) -> bool
 }
 
 // How many rows of the TC give a tuple.
-fn count_given<K: Ord + Drop, V: Tuple<K> + Drop>(tc: &Tc) -> usize
+fn count_given<K: Ord + Drop, V: TopologyTuple<K>>(tc: &Tc) -> usize
     ensures value { result ≡ count_by (λ row. is_some (V.given tc.now.originator tc.now.ansn row)) tc.now.rows }
 {
     let mut count = 0;

@@ -1,9 +1,12 @@
 -- Whether two tuples say the same.
-use Rattle.std.proofs.Common.{◌≡◌, eqb, eq-eqb, ap, Decides}
-use Rattle.std.proofs.lemmas.Bool.{eqb-true}
+use Rattle.std.proofs.Common.{◌≡◌, ℕ, eqb, ap, ◌∙◌, Decides}
+use Rattle.std.specs.Prelude.{Option, ◌&&◌}
+use Rattle.std.specs.Option.{option_eq}
+use Rattle.std.proofs.lemmas.Bool.Decides.{Decides-and, Decides-eqb}
 use Rattle.mesh_atoms.specs.declared.codes.metric.Metric.{Metric}
-use Rattle.mesh_atoms.proofs.Rows.{same_metric}
+use Rattle.mesh_atoms.proofs.Rows.{decides_so, options, metrics}
 
--- beside the same distance, or none, it is as their metrics are
-pub says_same : {D : Type 0} (d : D) (a b : Metric) → Decides (eqb a.code b.code) (◌≡◌ {A = D × Metric} (d, a) (d, b))
-says_same {D} d a b = (λ is. ap (λ m. (d, m)) (same_metric a b (eqb-true a.code b.code is)), λ e. eq-eqb a.code b.code (ap (λ (p : D × Metric). p.1.code) e))
+-- it is as their distances and their metrics are
+pub says_same : (a b : Option ℕ × Metric) → Decides (option_eq eqb a.0 b.0 && eqb a.1.code b.1.code) (a ≡ b)
+says_same a b = decides_so _ (λ h. ap (λ d. (d, a.1)) h.0 ∙ ap (λ m. (b.0, m)) h.1) (λ e. (ap (λ p. p.0) e, ap (λ p. p.1) e))
+    (Decides-and _ _ (options eqb Decides-eqb a.0 b.0) (metrics a.1 b.1))

@@ -7,7 +7,7 @@ ghost use Rattle.mesh_topo.specs.TcSets.Same.{SaysSame};
 ghost use Rattle.mesh_topo.specs.TcSets.Sets.{GivenBy, PutsGiven, PutsRows};
 
 use crate::tc_sets::outdated::drop_outdated;
-use crate::tc_sets::tuple::Tuple;
+use crate::tc_sets::tuple::TopologyTuple;
 use mesh_atoms::Tc;
 use mesh_expire::{Key, Table, expire_keyed, put_keyed};
 use std::alloc::{AllocError, Global};
@@ -34,7 +34,7 @@ impl<K: Key + Ord, V, T: Table<K, V>> Model for KeyedSet<K, V, T> {
 }
 
 // Puts a tuple until that moment. Whether none that says the same stood there.
-fn put_tuple<K: Key + Ord + Drop, V: Tuple<K> + Drop, T: Table<K, V>>(
+fn put_tuple<K: Key + Ord + Drop, V: TopologyTuple<K>, T: Table<K, V>>(
     table: &mut T,
     keys: &mut BTreeSet<K>,
     key: K,
@@ -56,7 +56,7 @@ fn put_tuple<K: Key + Ord + Drop, V: Tuple<K> + Drop, T: Table<K, V>>(
     Ok(true)
 }
 
-impl<K: Key + Ord + Drop, V: Tuple<K> + Drop, T: Table<K, V>> KeyedSet<K, V, T> {
+impl<K: Key + Ord + Drop, V: TopologyTuple<K>, T: Table<K, V>> KeyedSet<K, V, T> {
     /// No tuples.
     pub fn new(alloc: Global) -> Result<KeyedSet<K, V, T>, AllocError>
         ensures { IfOk result (λ set. set ≡ []) }

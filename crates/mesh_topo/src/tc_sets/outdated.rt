@@ -6,14 +6,14 @@ ghost use Rattle.mesh_atoms.specs.AfterTc.{if_not_dropped};
 ghost use Rattle.mesh_expire.specs.Keyed.{AreKeys};
 ghost use Rattle.mesh_topo.specs.TcSets.Sets.{has_other_number, is_outdated};
 
-use crate::tc_sets::tuple::Tuple;
+use crate::tc_sets::tuple::TopologyTuple;
 use mesh_atoms::{Addr4, Seq, Tc};
 use mesh_expire::{Key, Table, remove_keyed};
 use std::alloc::{AllocError, Global};
 use std::collections::BTreeSet;
 
 /// If the TC is complete, takes out the tuples of its originator with another number. Whether there were some.
-pub(crate) fn drop_outdated<K: Key + Ord + Drop, V: Tuple<K> + Drop, T: Table<K, V>>(
+pub(crate) fn drop_outdated<K: Key + Ord + Drop, V: TopologyTuple<K>, T: Table<K, V>>(
     table: &mut T,
     keys: &mut BTreeSet<K>,
     tc: &Tc,
@@ -39,7 +39,7 @@ pub(crate) fn drop_outdated<K: Key + Ord + Drop, V: Tuple<K> + Drop, T: Table<K,
 }
 
 // Whether the tuple of a key has another number.
-fn has_other_number<K: Key + Ord, V: Tuple<K>, T: Table<K, V>>(
+fn has_other_number<K: Key + Ord, V: TopologyTuple<K>, T: Table<K, V>>(
     table: &T,
     key: &K,
     ansn: u16,
@@ -53,7 +53,7 @@ fn has_other_number<K: Key + Ord, V: Tuple<K>, T: Table<K, V>>(
 }
 
 // The keys of the tuples of an originator with another number. Looks at the originator's tuples alone.
-fn outdated<K: Key + Ord + Drop, V: Tuple<K> + Drop, T: Table<K, V>>(
+fn outdated<K: Key + Ord + Drop, V: TopologyTuple<K>, T: Table<K, V>>(
     alloc: Global,
     table: &T,
     keys: &BTreeSet<K>,

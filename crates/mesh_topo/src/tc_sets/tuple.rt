@@ -1,18 +1,21 @@
-//! The tuples that the rows of a TC give (RFC 7181, section 16.3.3).
+//! The topology tuples (RFC 7181, sections 10.2 to 10.4), and which of them the rows of a TC give (section 16.3.3).
 ghost use Rattle.std.specs.Prelude.{◌≡◌, ◌≤◌, ◌↔◌, ℕ, Option, Some, IsTrue, false};
 ghost use Rattle.std.specs.Ordering.{is_gt};
 ghost use Rattle.mesh_atoms.specs.declared.addr.Addr4.{Addr4};
+ghost use Rattle.mesh_atoms.specs.declared.addr.NetAddr.{NetAddr};
 ghost use Rattle.mesh_atoms.specs.declared.codes.metric.Metric.{Metric};
 ghost use Rattle.mesh_atoms.specs.declared.tc.TcRow.{TcRow};
 
 use mesh_atoms::{
-    Addr4, AddressKey, AddressTuple, NetAddr, NetworkKey, NetworkTuple, RouterKey, RouterTuple,
-    TcRow,
+    Addr4, AddressKey, AddressTuple, Metric, NetAddr, NetworkKey, NetworkTuple, RouterKey,
+    RouterTuple, TcRow, host,
 };
 
-/// A kind of tuple that a row of a TC may give.
-pub trait Tuple<K: Ord>: Copy {
+/// A topology tuple: the originator of a TC leads to a router, a routable address or an attached network.
+pub trait TopologyTuple<K: Ord>: Copy {
     ghost origin: { K → Addr4 };
+
+    ghost dest: { K → NetAddr };
 
     ghost number: { Self → ℕ };
 
@@ -24,13 +27,31 @@ pub trait Tuple<K: Ord>: Copy {
     fn origin_of(key: &K) -> Addr4
         ensures { result ≡ origin key.now };
 
+    /// The router, address or network to which the originator leads.
+    fn dest_of(key: &K) -> NetAddr
+        ensures { result ≡ dest key.now };
+
     /// The number of the TC that gave the tuple.
     fn number_of(&self) -> u16
         ensures { result ≡ number self.now };
 
+    /// What the tuple says beside its number: the distance of a network, and the metric.
+    fn distance_and_metric(&self) -> (Option<u8>, Metric)
+        ensures { result ≡ says self.now };
+
+    /// The metric at which the originator leads there.
+    final fn metric(&self) -> Metric
+        ensures { result ≡ (says self.now).1 }
+    {
+        self.distance_and_metric().1
+    }
+
     /// Whether two tuples say the same, whatever their numbers.
-    fn says_as(&self, other: &Self) -> bool
-        ensures { IsTrue result ↔ (says self.now ≡ says other.now) };
+    final fn says_as(&self, other: &Self) -> bool
+        ensures { IsTrue result ↔ (says self.now ≡ says other.now) }
+    {
+        self.distance_and_metric() == other.distance_and_metric()
+    }
 
     /// No key of the originator is before this one.
     fn first_key(originator: Addr4) -> K
@@ -46,13 +67,16 @@ pub trait Tuple<K: Ord>: Copy {
     ghost by_origin: { (a b : K) → is_gt (K.cmp a b) ≡ false → (origin a).0 ≤ (origin b).0 };
 }
 
-impl Tuple<RouterKey> for RouterTuple {
+impl TopologyTuple<RouterKey> for RouterTuple {
+    ghost use Rattle.mesh_atoms.specs.Base.{host};
     ghost use Rattle.mesh_topo.specs.TcSets.Tuples.{router_of, router_says};
     ghost use Rattle.std.specs.Prelude.{refl};
     ghost use Rattle.mesh_expire.proofs.KeyOrder.{no_later};
     ghost use Rattle.mesh_topo.specs.TcSets.Given.{router_numbered};
 
     ghost origin = { λ key. key.from };
+
+    ghost dest = { λ key. host key.to };
 
     ghost number = { λ tuple. tuple.ansn };
 
@@ -64,12 +88,16 @@ impl Tuple<RouterKey> for RouterTuple {
         key.from
     }
 
+    fn dest_of(key: &RouterKey) -> NetAddr {
+        host(key.to)
+    }
+
     fn number_of(&self) -> u16 {
         self.ansn
     }
 
-    fn says_as(&self, other: &RouterTuple) -> bool {
-        self.metric == other.metric
+    fn distance_and_metric(&self) -> (Option<u8>, Metric) {
+        (None, self.metric)
     }
 
     fn first_key(originator: Addr4) -> RouterKey {
@@ -96,13 +124,16 @@ impl Tuple<RouterKey> for RouterTuple {
     }
 }
 
-impl Tuple<AddressKey> for AddressTuple {
+impl TopologyTuple<AddressKey> for AddressTuple {
+    ghost use Rattle.mesh_atoms.specs.Base.{host};
     ghost use Rattle.mesh_topo.specs.TcSets.Tuples.{address_of, address_says};
     ghost use Rattle.std.specs.Prelude.{refl};
     ghost use Rattle.mesh_expire.proofs.KeyOrder.{no_later};
     ghost use Rattle.mesh_topo.specs.TcSets.Given.{address_numbered};
 
     ghost origin = { λ key. key.from };
+
+    ghost dest = { λ key. host key.addr };
 
     ghost number = { λ tuple. tuple.ansn };
 
@@ -114,12 +145,16 @@ impl Tuple<AddressKey> for AddressTuple {
         key.from
     }
 
+    fn dest_of(key: &AddressKey) -> NetAddr {
+        host(key.addr)
+    }
+
     fn number_of(&self) -> u16 {
         self.ansn
     }
 
-    fn says_as(&self, other: &AddressTuple) -> bool {
-        self.metric == other.metric
+    fn distance_and_metric(&self) -> (Option<u8>, Metric) {
+        (None, self.metric)
     }
 
     fn first_key(originator: Addr4) -> AddressKey {
@@ -146,13 +181,15 @@ impl Tuple<AddressKey> for AddressTuple {
     }
 }
 
-impl Tuple<NetworkKey> for NetworkTuple {
+impl TopologyTuple<NetworkKey> for NetworkTuple {
     ghost use Rattle.mesh_topo.specs.TcSets.Tuples.{network_of, network_says};
     ghost use Rattle.std.specs.Prelude.{refl};
     ghost use Rattle.mesh_expire.proofs.KeyOrder.{no_later};
     ghost use Rattle.mesh_topo.specs.TcSets.Given.{network_numbered};
 
     ghost origin = { λ key. key.from };
+
+    ghost dest = { λ key. key.net };
 
     ghost number = { λ tuple. tuple.ansn };
 
@@ -164,12 +201,16 @@ impl Tuple<NetworkKey> for NetworkTuple {
         key.from
     }
 
+    fn dest_of(key: &NetworkKey) -> NetAddr {
+        key.net
+    }
+
     fn number_of(&self) -> u16 {
         self.ansn
     }
 
-    fn says_as(&self, other: &NetworkTuple) -> bool {
-        self.metric == other.metric && self.distance == other.distance
+    fn distance_and_metric(&self) -> (Option<u8>, Metric) {
+        (Some(self.distance), self.metric)
     }
 
     fn first_key(originator: Addr4) -> NetworkKey {

@@ -14,7 +14,7 @@ pub returns-then-not-tc : goal.returns-then-not-tc
 returns-then-not-tc g c = record {
   keys = c.requires.keys;
   distinct = c.requires.distinct;
-  dropped = λ q. sym (left_all c.args.tc.now (g.V.Tuple.origin q) g.V.Tuple.number (find g.K.PartialEq.eq (g.T.Table.content c.args.table.now) q) c.if-not-tc.true);
+  dropped = λ q. sym (left_all c.args.tc.now (g.V.TopologyTuple.origin q) g.V.TopologyTuple.number (find g.K.PartialEq.eq (g.T.Table.content c.args.table.now) q) c.if-not-tc.true);
   same = λ _. refl;
   count = omega arith;
 }
@@ -30,7 +30,7 @@ returns-then-len-eq0 g c =
       keys = c.requires.keys;
       distinct = c.requires.distinct;
       dropped = λ q. ap (λ out. cond out None (find eq before q)) (sym (none_of (eq q) c.in_ok-found.found (sym c.len.ensures ∙ c.if-len-eq0.true)) ∙ c.in_ok-found.ensures q)
-          ∙ left_at eq c.args.tc.now g.V.Tuple.origin g.V.Tuple.number c.if-not-tc.false before q;
+          ∙ left_at eq c.args.tc.now g.V.TopologyTuple.origin g.V.TopologyTuple.number c.if-not-tc.false before q;
       same = λ _. refl;
       count = omega arith;
     }
@@ -48,7 +48,7 @@ returns g c =
       dropped = λ q. c.remove_all.ensures.removed q
           ∙ ap (λ keys. cond (list_any (eq q) keys) None (find eq before q)) c.as_slice.ensures
           ∙ ap (λ out. cond out None (find eq before q)) (c.in_ok-found.ensures q)
-          ∙ left_at eq c.args.tc.now g.V.Tuple.origin g.V.Tuple.number c.if-not-tc.false before q;
+          ∙ left_at eq c.args.tc.now g.V.TopologyTuple.origin g.V.TopologyTuple.number c.if-not-tc.false before q;
       same = λ e. absurd (false≢true (sym e));
       count = c.remove_all.ensures.count;
     }

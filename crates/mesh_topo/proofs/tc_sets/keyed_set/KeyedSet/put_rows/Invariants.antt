@@ -8,7 +8,7 @@ abbrev pub invariant-loop-row : goal.invariant-loop-row
 invariant-loop-row g l =
     let eq = g.K.PartialEq.eq in
     record {
-      put : (q : _) → PutsRows (g.V.Tuple.given l.tc.originator l.tc.ansn) l.until l.tc.rows l.row-index q (find eq l.initial.self q) (find eq l.self q);
-      same : l.changed ≡ false → SaysSame eq g.V.Tuple.says l.initial.self l.self;
-      count : length l.self ≤ length l.initial.self + count_by (λ row. is_some (g.V.Tuple.given l.tc.originator l.tc.ansn row)) (take l.row-index l.tc.rows);
+      put : (q : _) → PutsRows (g.V.TopologyTuple.given l.tc.originator l.tc.ansn) l.until l.tc.rows l.row-index q (find eq l.initial.self q) (find eq l.self q);
+      same : l.changed ≡ false → SaysSame eq g.V.TopologyTuple.says l.initial.self l.self;
+      count : length l.self ≤ length l.initial.self + count_by (λ row. is_some (g.V.TopologyTuple.given l.tc.originator l.tc.ansn row)) (take l.row-index l.tc.rows);
     }

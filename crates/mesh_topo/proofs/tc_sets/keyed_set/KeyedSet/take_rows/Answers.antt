@@ -6,6 +6,6 @@ returns-clause-becomes g c =
     let tc = c.args.tc.now in
     record {
       distinct = c.drop_outdated.ensures.distinct;
-      at = λ key. becomes g.V.Tuple.given tc c.args.until g.V.Tuple.origin g.V.Tuple.number key _ _ _ (λ value gives. g.met.V.Tuple.numbered tc.originator tc.ansn gives.0 key value gives.2)
+      at = λ key. becomes g.V.TopologyTuple.given tc c.args.until g.V.TopologyTuple.origin g.V.TopologyTuple.number key _ _ _ (λ value gives. g.met.V.TopologyTuple.numbered tc.originator tc.ansn gives.0 key value gives.2)
           (c.in_ok-changed.ensures.put key) (rw (← c.self.view_is) (c.in_ok-changed-2.ensures.dropped key));
     }
