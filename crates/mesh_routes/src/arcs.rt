@@ -3,20 +3,18 @@ ghost use Rattle.std.specs.Prelude.{◌≡◌, ◌+◌, ◌++◌, ◌≤◌, len
 ghost use Rattle.std.specs.List.{filter_map, cons_option};
 ghost use Rattle.std.specs.Prelude.{[]};
 ghost use Rattle.mesh_atoms.specs.declared.graphs.Arc4.{Arc4};
-ghost use Rattle.mesh_atoms.specs.Base.{base_of};
-ghost use Rattle.mesh_routes.specs.Hops.Arcs.{two_hop_arc};
+ghost use Rattle.mesh_atoms.specs.Base.{base_of, host};
+ghost use Rattle.mesh_routes.specs.Hops.Arcs.{arc_at, two_hop_arc};
 ghost use Rattle.mesh_routes.specs.Hops.Owners.{addr_cmp};
 ghost use Rattle.mesh_routes.specs.Arcs.{own_arc};
 ghost use Rattle.std.specs.BTreeMap.{IsOrdered};
 ghost use Rattle.mesh_routes.specs.Passes.{Adds, GivenByElement};
 
 use crate::hops::{SymmetricNeighbour, known_arc, two_hop_arc};
-use mesh_atoms::{
-    Addr4, AddressKey, AddressTuple, Arc4, NetAddr, NetworkKey, NetworkTuple, RouterKey,
-    RouterTuple, Seq, host,
-};
+use mesh_atoms::{Addr4, Arc4, NetAddr, Seq, host};
 use mesh_expire::{Key, Table};
 use mesh_nbrs::Near4;
+use mesh_topo::TopologyTuple;
 use std::alloc::AllocError;
 use std::collections::BTreeMap;
 
@@ -63,71 +61,28 @@ pub(crate) fn put_two_hop_arcs<N: Near4>(
     Ok(())
 }
 
-/// A topology tuple that leads from the router that told of it to what it told.
-pub(crate) trait TopologyArc<K>: Sized {
-    ghost leads: { K → Self → Arc4 };
-
-    /// The arc of the tuple with that key.
-    fn arc_by(&self, key: &K) -> Arc4
-        ensures { result ≡ leads key.now self.now };
-}
-
-impl TopologyArc<RouterKey> for RouterTuple {
-    ghost use Rattle.mesh_atoms.specs.Base.{host};
-    ghost use Rattle.mesh_routes.specs.Hops.Arcs.{arc_at};
-
-    ghost leads = { λ key tuple. arc_at (host key.from) (host key.to) tuple.metric };
-
-    fn arc_by(&self, key: &RouterKey) -> Arc4 {
-        Arc4 {
-            from: host(key.from),
-            to: host(key.to),
-            metric: self.metric.value(),
-        }
-    }
-}
-
-impl TopologyArc<AddressKey> for AddressTuple {
-    ghost use Rattle.mesh_atoms.specs.Base.{host};
-    ghost use Rattle.mesh_routes.specs.Hops.Arcs.{arc_at};
-
-    ghost leads = { λ key tuple. arc_at (host key.from) (host key.addr) tuple.metric };
-
-    fn arc_by(&self, key: &AddressKey) -> Arc4 {
-        Arc4 {
-            from: host(key.from),
-            to: host(key.addr),
-            metric: self.metric.value(),
-        }
-    }
-}
-
-impl TopologyArc<NetworkKey> for NetworkTuple {
-    ghost use Rattle.mesh_atoms.specs.Base.{host};
-    ghost use Rattle.mesh_routes.specs.Hops.Arcs.{arc_at};
-
-    ghost leads = { λ key tuple. arc_at (host key.from) key.net tuple.metric };
-
-    fn arc_by(&self, key: &NetworkKey) -> Arc4 {
-        Arc4 {
-            from: host(key.from),
-            to: key.net,
-            metric: self.metric.value(),
-        }
+// The arc from the originator that told of a topology tuple to what it told.
+fn topology_arc<K: Ord, V: TopologyTuple<K>>(key: &K, tuple: &V) -> Arc4
+    ensures { result ≡ arc_at (host (V.origin key.now)) (V.dest key.now) (V.says tuple.now).1 }
+{
+    Arc4 {
+        from: host(V::origin_of(key)),
+        to: V::dest_of(key),
+        metric: tuple.metric().value(),
     }
 }
 
 /// Puts the arcs of the tuples of a topology set. Takes one pass over it.
-pub(crate) fn put_topology_arcs<K: Key, V: TopologyArc<K>, T: Table<K, V>>(
+pub(crate) fn put_topology_arcs<K: Key + Ord, V: TopologyTuple<K>, T: Table<K, V>>(
     arcs: &mut Seq<Arc4>,
     table: &T,
 ) -> Result<(), AllocError>
-    ensures adds { OnOk result (Adds (GivenByElement (λ e arc. V.leads e.0 e.1.0 ≡ arc) (T.content table.now)) arcs.old arcs.new) }
+    ensures adds { OnOk result (Adds (GivenByElement (λ e arc. arc_at (host (V.origin e.0)) (V.dest e.0) (V.says e.1.0).1 ≡ arc) (T.content table.now)) arcs.old arcs.new) }
     ensures few { OnOk result (length arcs.new ≤ length arcs.old + length (T.content table.now)) }
 {
     for place in 0..table.len() {
         if let Some((key, tuple, _)) = table.at(place) {
-            arcs.push(tuple.arc_by(key))?;
+            arcs.push(topology_arc(key, tuple))?;
         }
     }
     Ok(())
