@@ -76,7 +76,7 @@ fn outdated<K: Key + Ord + Drop, V: TopologyTuple<K>, T: Table<K, V>>(
 }
 
 // Takes out the tuples of these keys.
-fn remove_all<K: Key + Ord + Drop, V: Drop, T: Table<K, V>>(
+fn remove_all<K: Key + Ord + Drop, V, T: Table<K, V>>(
     table: &mut T,
     keys: &mut BTreeSet<K>,
     gone: &[K],
