@@ -12,27 +12,41 @@ use crate::stated::{StatedArc, StatedInterface, StatedRouter, Thresholds};
 use mesh_atoms::{Admit, Interface, Metric, RadioArc, RouterSettings, Seq, Times};
 use std::alloc::{AllocError, Global};
 
+// The network that a scenario states: its routers, its arcs by the numbers of their ends, and the tables of these arcs, one by one.
+#[derive(Clone, Copy)]
+struct StatedNetwork<'a> {
+    routers: &'a [StatedRouter],
+    arcs: &'a [RadioArc],
+    stated_arcs: &'a [StatedArc],
+}
+
 // An interface, with its senders; its own metric is 1.
 fn make_interface(
     alloc: Global,
-    routers: &[StatedRouter],
-    arcs: &[RadioArc],
-    stated_arcs: &[StatedArc],
+    network: &StatedNetwork,
     thresholds: Thresholds,
     router: usize,
     iface: usize,
     stated: &StatedInterface,
 ) -> Result<Interface, AllocError>
-    requires few { length arcs.now ≤ 4096 }
-    requires apart { HaveNoDuplicates routers.now arcs.now }
+    requires few { length network.now.arcs.now ≤ 4096 }
+    requires apart { HaveNoDuplicates network.now.routers.now network.now.arcs.now }
     ensures fields { IfOk result (λ i. interface_fields i ≡ stated_interface_fields stated.now) }
     ensures thresholds { IfOk result (λ i. thresholds_of i ≡ threshold_pair thresholds) }
-    ensures senders { IfOk result (λ i. map sender_pair i.senders ≡ senders_to (stated_lists routers.now) arcs.now router iface) }
-    ensures qualities { IfOk result (λ i. map quality_pair i.admit.senders ≡ qualities_to (stated_lists routers.now) (with_steps arcs.now (stated_steps stated_arcs.now)) router iface) }
+    ensures senders { IfOk result (λ i. map sender_pair i.senders ≡ senders_to (stated_lists network.now.routers.now) network.now.arcs.now router iface) }
+    ensures qualities { IfOk result (λ i. map quality_pair i.admit.senders
+        ≡ qualities_to (stated_lists network.now.routers.now) (with_steps network.now.arcs.now (stated_steps network.now.stated_arcs.now)) router iface) }
     ensures own { IfOk result (λ i. i.metric.code ≡ 0) }
 {
-    let senders = senders_to(alloc, routers, arcs, router, iface)?;
-    let qualities = qualities_to(alloc, routers, arcs, stated_arcs, router, iface)?;
+    let senders = senders_to(alloc, network.routers, network.arcs, router, iface)?;
+    let qualities = qualities_to(
+        alloc,
+        network.routers,
+        network.arcs,
+        network.stated_arcs,
+        router,
+        iface,
+    )?;
     let name = stated.name.copy()?;
     let addrs = stated.addrs.copy()?;
     Ok(Interface {
@@ -50,32 +64,22 @@ fn make_interface(
 
 fn make_interfaces(
     alloc: Global,
-    routers: &[StatedRouter],
-    arcs: &[RadioArc],
-    stated_arcs: &[StatedArc],
+    network: &StatedNetwork,
     thresholds: Thresholds,
     router: usize,
     interfaces: &[StatedInterface],
 ) -> Result<Seq<Interface>, AllocError>
-    requires few { length arcs.now ≤ 4096 }
-    requires apart { HaveNoDuplicates routers.now arcs.now }
+    requires few { length network.now.arcs.now ≤ 4096 }
+    requires apart { HaveNoDuplicates network.now.routers.now network.now.arcs.now }
     ensures interfaces { IfOk result (λ all. map interface_fields all ≡ map stated_interface_fields interfaces.now) }
     ensures thresholds { IfOk result (λ all. map thresholds_of all ≡ map (λ i. threshold_pair thresholds) interfaces.now) }
-    ensures senders { IfOk result (λ all. HaveSenders (stated_lists routers.now) arcs.now router 0 all) }
-    ensures qualities { IfOk result (λ all. HaveQualities (stated_lists routers.now) (with_steps arcs.now (stated_steps stated_arcs.now)) router 0 all) }
+    ensures senders { IfOk result (λ all. HaveSenders (stated_lists network.now.routers.now) network.now.arcs.now router 0 all) }
+    ensures qualities { IfOk result (λ all.
+        HaveQualities (stated_lists network.now.routers.now) (with_steps network.now.arcs.now (stated_steps network.now.stated_arcs.now)) router 0 all) }
 {
     let mut all = Seq::new(alloc);
     for (iface, stated) in interfaces.iter().enumerate() {
-        all.push(make_interface(
-            alloc,
-            routers,
-            arcs,
-            stated_arcs,
-            thresholds,
-            router,
-            iface,
-            stated,
-        )?)?;
+        all.push(make_interface(alloc, network, thresholds, router, iface, stated)?)?;
     }
     Ok(all)
 }
@@ -111,25 +115,22 @@ pub fn router_from(
 
 fn make_router(
     alloc: Global,
-    routers: &[StatedRouter],
-    arcs: &[RadioArc],
-    stated_arcs: &[StatedArc],
+    network: &StatedNetwork,
     times: Times,
     router: usize,
     stated: &StatedRouter,
 ) -> Result<RouterSettings, AllocError>
-    requires few { length arcs.now ≤ 4096 }
-    requires apart { HaveNoDuplicates routers.now arcs.now }
+    requires few { length network.now.arcs.now ≤ 4096 }
+    requires apart { HaveNoDuplicates network.now.routers.now network.now.arcs.now }
     requires clear { IsClear stated.now }
     ensures parts { IfOk result (λ r. settings_parts r ≡ stated_parts times stated.now) }
-    ensures senders { IfOk result (λ r. HaveSenders (stated_lists routers.now) arcs.now router 0 r.interfaces) }
-    ensures qualities { IfOk result (λ r. HaveQualities (stated_lists routers.now) (with_steps arcs.now (stated_steps stated_arcs.now)) router 0 r.interfaces) }
+    ensures senders { IfOk result (λ r. HaveSenders (stated_lists network.now.routers.now) network.now.arcs.now router 0 r.interfaces) }
+    ensures qualities { IfOk result (λ r.
+        HaveQualities (stated_lists network.now.routers.now) (with_steps network.now.arcs.now (stated_steps network.now.stated_arcs.now)) router 0 r.interfaces) }
 {
     let interfaces = make_interfaces(
         alloc,
-        routers,
-        arcs,
-        stated_arcs,
+        network,
         stated.head.thresholds,
         router,
         stated.interfaces.as_slice(),
@@ -154,9 +155,14 @@ pub fn make_routers(
     ensures senders { IfOk result (λ all. HaveAllSenders (stated_lists routers.now) arcs.now 0 all) }
     ensures qualities { IfOk result (λ all. HaveAllQualities (stated_lists routers.now) (with_steps arcs.now (stated_steps stated_arcs.now)) 0 all) }
 {
+    let network = StatedNetwork {
+        routers,
+        arcs,
+        stated_arcs,
+    };
     let mut all = Seq::new(alloc);
     for (at, stated) in routers.iter().enumerate() {
-        all.push(make_router(alloc, routers, arcs, stated_arcs, times, at, stated)?)?;
+        all.push(make_router(alloc, &network, times, at, stated)?)?;
     }
     Ok(all)
 }

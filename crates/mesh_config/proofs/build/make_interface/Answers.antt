@@ -6,8 +6,8 @@ use Rattle.mesh_config.proofs.build.make_interface.Goals as goal
 
 pub invariant_of-result-3-clause-distinct_senders : goal.invariant_of-result-3-clause-distinct_senders
 invariant_of-result-3-clause-distinct_senders c =
-    senders_apart c.args.routers.now c.args.arcs.now c.args.router c.args.iface c.in_ok-senders.senders c.requires.apart c.in_ok-senders.ensures.exact
+    senders_apart c.args.network.now.routers.now c.args.network.now.arcs.now c.args.router c.args.iface c.in_ok-senders.senders c.requires.apart c.in_ok-senders.ensures.exact
 
 pub invariant_of-result-3-clause-same_senders : goal.invariant_of-result-3-clause-same_senders
 invariant_of-result-3-clause-same_senders c =
-    senders_same (stated_lists c.args.routers.now) c.args.arcs.now (stated_steps c.args.stated_arcs.now) c.args.router c.args.iface c.in_ok-senders.senders c.in_ok-qualities.qualities c.in_ok-senders.ensures.exact c.in_ok-qualities.ensures
+    senders_same (stated_lists c.args.network.now.routers.now) c.args.network.now.arcs.now (stated_steps c.args.network.now.stated_arcs.now) c.args.router c.args.iface c.in_ok-senders.senders c.in_ok-qualities.qualities c.in_ok-senders.ensures.exact c.in_ok-qualities.ensures

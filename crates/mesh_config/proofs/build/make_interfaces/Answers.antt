@@ -16,7 +16,7 @@ loop-iface-preserved c =
     rw c.in_ok-push.ensures.ok (record {
       interfaces = maps_more interface_fields stated_interface_fields all c.args.interfaces.now i x c.index-interfaces-iface.result c.index-interfaces-iface.is c.loop-iface-test.true c.loop-iface.invariant.interfaces made.fields;
       thresholds = maps_more thresholds_of (λ (d : StatedInterface). threshold_pair c.args.thresholds) all c.args.interfaces.now i x c.index-interfaces-iface.result c.index-interfaces-iface.is c.loop-iface-test.true c.loop-iface.invariant.thresholds made.thresholds;
-      qualities = have_more (stated_lists c.args.routers.now) (with_steps c.args.arcs.now (stated_steps c.args.stated_arcs.now)) c.args.router 0 i all x c.loop-iface.invariant.qualities size made.qualities;
-      senders = senders_more (stated_lists c.args.routers.now) c.args.arcs.now c.args.router 0 i all x c.loop-iface.invariant.senders size made.senders made.own;
+      qualities = have_more (stated_lists c.args.network.now.routers.now) (with_steps c.args.network.now.arcs.now (stated_steps c.args.network.now.stated_arcs.now)) c.args.router 0 i all x c.loop-iface.invariant.qualities size made.qualities;
+      senders = senders_more (stated_lists c.args.network.now.routers.now) c.args.network.now.arcs.now c.args.router 0 i all x c.loop-iface.invariant.senders size made.senders made.own;
       size = one_longer all x i c.loop-iface.invariant.size;
     })
