@@ -1,17 +1,22 @@
-use Rattle.std.proofs.Common.{◌≤◌, ◌+◌, ◌*◌, length, ap, arith}
-use Rattle.mesh_atoms.specs.declared.graphs.Graph.{Graph}
+use Rattle.std.proofs.Common.{◌≤◌, length, ap, arith}
+use Rattle.mesh_routes.proofs.Adding.{all_adds, length_own}
 use Rattle.mesh_routes.proofs.bases.graph_of_topology.Goals as goal
-use Rattle.mesh_atoms.proofs.Options.{if_ok_weaker}
+
+pub put_all_two_hop_arcs-requires : goal.put_all_two_hop_arcs-requires
+put_all_two_hop_arcs-requires g c = c.requires
 
 pub returns-clause-arcs : goal.returns-clause-arcs
-returns-clause-arcs g c = if_ok_weaker c.graph_of_bases.result (λ graph told. told c.args.topology.now c.routers.ensures c.addresses.ensures c.networks.ensures) c.graph_of_bases.ensures.arcs
+returns-clause-arcs g c =
+    all_adds (g.N.Near4.near c.args.near.now) c.args.topology.now c.args.count c.args.from c.args.owners.now
+    (g.B.Routers.Table.content c.routers.result.now) (g.B.Addresses.Table.content c.addresses.result.now) (g.B.Networks.Table.content c.networks.result.now)
+    c.new-arcs.result c.put_own_arcs.new.arcs c.put_all_two_hop_arcs.new.arcs c.put_told_arcs.new.arcs
+    c.new-arcs.ensures c.in_ok-put_own_arcs.ensures.arcs c.in_ok-put_all_two_hop_arcs.ensures.adds c.in_ok-put_told_arcs.ensures.adds
+    c.routers.ensures c.addresses.ensures c.networks.ensures
 
 pub returns-clause-ordered : goal.returns-clause-ordered
-returns-clause-ordered g c = c.graph_of_bases.ensures.ordered
+returns-clause-ordered g c = c.put_own_arcs.ensures.ordered
 
 pub returns-clause-few : goal.returns-clause-few
-returns-clause-few g c = if_ok_weaker c.graph_of_bases.result
-    (λ (graph : Graph) (few : length graph.arcs
-    ≤ length c.args.owners.now.entries + 16384 * c.args.count + length (g.B.Routers.Table.content c.routers.result.now) + length (g.B.Addresses.Table.content c.addresses.result.now) + length (g.B.Networks.Table.content c.networks.result.now)).
-    omega (arith, few, ap length c.routers.ensures, ap length c.addresses.ensures, ap length c.networks.ensures))
-    c.graph_of_bases.ensures.few
+returns-clause-few g c =
+    let own : length c.put_own_arcs.new.arcs ≤ length c.args.owners.now.entries = length_own c.args.from c.args.owners.now c.new-arcs.result c.put_own_arcs.new.arcs c.new-arcs.ensures c.in_ok-put_own_arcs.ensures.arcs in
+    omega (arith, c.in_ok-put_all_two_hop_arcs.ensures.few, c.in_ok-put_told_arcs.ensures.few, ap length c.routers.ensures, ap length c.addresses.ensures, ap length c.networks.ensures)
