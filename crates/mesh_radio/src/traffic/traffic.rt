@@ -49,14 +49,13 @@ pub(crate) fn send_all(
         let Some((iface, frame)) = outbox.frame(i) else {
             break;
         };
-        sent.push(send(alloc, scenario, ways, now, router, iface, frame, traffic)?)?;
+        sent.push(send(scenario, ways, now, router, iface, frame, traffic)?)?;
     }
     Ok(sent)
 }
 
 /// Sends a frame by an interface: once on each arc that leaves it, in order.
 fn send(
-    alloc: Global,
     scenario: &Scenario,
     ways: &Seq<Seq<ArcsOut>>,
     now: u64,
@@ -76,6 +75,7 @@ fn send(
 {
     traffic.counts.sent = traffic.counts.sent.wrapping_add(1);
     let arcs = leaving_of(scenario, ways, router, iface);
+    let alloc = ways.allocator();
     let shared = Rc::new(alloc, TypedFrame::new(alloc, bytes_of(alloc, frame)?)?)?;
     let lost = spread(alloc, scenario, now, &shared, arcs, traffic)?;
     Ok(SentFrame {
