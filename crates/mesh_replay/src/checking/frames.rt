@@ -37,7 +37,6 @@ fn tell_losses(
 
 /// Sends a frame on an interface, and takes the lines of the arcs on which it is lost.
 pub(crate) fn send_out(
-    alloc: Global,
     case: &Case,
     event: &CheckedEvent,
     iface: usize,
@@ -50,7 +49,6 @@ pub(crate) fn send_out(
     ensures { IfOk result (GoesOut case.now progress.old progress.new event.now (record { iface = iface; bytes = frame.now.value })) }
 {
     let lost = progress.traffic.send(
-        alloc,
         case.scenario,
         &case.ways,
         event.moment,
@@ -63,7 +61,6 @@ pub(crate) fn send_out(
 
 // Takes the lines of a frame of these very octets on an interface: the line of the frame, and those of the arcs on which it is lost.
 fn tell_frame(
-    alloc: Global,
     case: &Case,
     event: &CheckedEvent,
     iface: usize,
@@ -84,12 +81,11 @@ fn tell_frame(
     if !take_due(case.trace, &line, &mut progress.reader)? {
         return Ok(false);
     }
-    send_out(alloc, case, event, iface, frame, progress)
+    send_out(case, event, iface, frame, progress)
 }
 
 /// Takes the lines of a frame of these very octets on each interface but the first.
 pub(crate) fn tell_further(
-    alloc: Global,
     case: &Case,
     event: &CheckedEvent,
     frame: &Rc<Bytes>,
@@ -101,7 +97,7 @@ pub(crate) fn tell_further(
         (drop 1 (on_each (length event.now.settings.now.interfaces) frame.now.value))) }
 {
     for iface in 1..event.settings.interfaces.len() {
-        if !tell_frame(alloc, case, event, iface, frame, progress)? {
+        if !tell_frame(case, event, iface, frame, progress)? {
             return Ok(false);
         }
     }
@@ -125,7 +121,7 @@ fn tell_forwarded(
     let mut bytes = Bytes::new(alloc);
     bytes.append(octets)?;
     let frame = Rc::new(alloc, bytes)?;
-    tell_frame(alloc, case, event, iface, &frame, progress)
+    tell_frame(case, event, iface, &frame, progress)
 }
 
 /// Takes the lines of the frames that the router forwards.

@@ -41,7 +41,7 @@ fn tell_hello(
         return Ok(false);
     };
     let frame = Rc::new(alloc, octets)?;
-    send_out(alloc, case, event, iface, &frame, progress)
+    send_out(case, event, iface, &frame, progress)
 }
 
 // Takes the lines of the HELLO that the router has on an interface.

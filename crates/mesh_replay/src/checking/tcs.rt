@@ -48,10 +48,10 @@ fn tell_tc(
         return Ok(false);
     };
     let frame = Rc::new(alloc, octets)?;
-    if !send_out(alloc, case, event, 0, &frame, progress)? {
+    if !send_out(case, event, 0, &frame, progress)? {
         return Ok(false);
     }
-    tell_further(alloc, case, event, &frame, progress)
+    tell_further(case, event, &frame, progress)
 }
 
 // Takes the lines of the TC of a run of the rows.

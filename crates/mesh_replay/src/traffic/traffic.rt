@@ -64,7 +64,6 @@ impl TraceTraffic {
     /// lost.
     pub(crate) fn send(
         &mut self,
-        alloc: Global,
         scenario: &Scenario,
         ways: &Seq<Seq<LeavingArcs>>,
         now: u64,
@@ -85,7 +84,7 @@ impl TraceTraffic {
     {
         self.counts.sent = self.counts.sent.wrapping_add(1);
         let arcs = leaving_of(scenario, ways, router, iface);
-        self.spread(alloc, scenario, now, frame, arcs)
+        self.spread(ways.allocator(), scenario, now, frame, arcs)
     }
 
     // Sends a frame on arcs in order, and gives the numbers of those on which it is lost.
