@@ -1,6 +1,7 @@
 //! The turns of a router over a network: its interfaces are attached, and then it does what a clock and an air tell it.
 
 mod attach;
+mod buffers;
 mod events;
 mod hand;
 mod laws;

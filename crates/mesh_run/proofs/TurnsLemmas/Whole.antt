@@ -1,5 +1,5 @@
 -- Turns from the opening of a router on.
-use Rattle.std.proofs.Common.{◌≡◌, ℕ, ◌+◌, ◌≤◌, max, List, [], ◌++◌, length, Option, refl, sym, ap, subst, ◌∙◌, arith}
+use Rattle.std.proofs.Common.{◌≡◌, ℕ, ◌+◌, ◌≤◌, max, List, [], ◌++◌, length, Option, refl, sym, ap, ◌∙◌, arith}
 use Rattle.std.specs.List.{count_by}
 use Rattle.std.proofs.lemmas.List.{append-nil}
 use Rattle.mesh_atoms.specs.declared.settings.RunSetup.{RunSetup}
@@ -31,41 +31,39 @@ ended_is n g u ms rs e f h =
     let h' : u ≡ tally_of rs = h ∙ counted_all rs in
     rw (e, f', h') refl
 
-pub does_turns : (setup : RunSetup) (count : ℕ) (old new : State) (n g : ℕ) (k l : Option (List ℕ)) (a b : Option (List Report)) (u : Tally) →
-    IsOpening setup.router old → count ≡ length setup.ports →
-    Turning setup.end count (at old 0 count) (at new (moment_of 0 g) count) n 0 g k l a b no_tally u →
+pub does_turns : (setup : RunSetup) (old new : State) (n g : ℕ) (k l : Option (List ℕ)) (a b : Option (List Report)) (u : Tally) →
+    IsOpening setup.router old →
+    Turning setup.end (length setup.ports) (at old 0 (length setup.ports)) (at new (moment_of 0 g) (length setup.ports)) n 0 g k l a b no_tally u →
     DoesTurns setup new (record { turns = n; greatest = g; tally = u }) k l a b
-does_turns setup count old new n g k l a b u opening e h =
-    let t = subst (λ (c : ℕ). Turning setup.end c (at old 0 c) (at new (moment_of 0 g) c) n 0 g k l a b no_tally u) e h in record {
-      moments = t.moments;
-      reports = t.going.reports;
-      clock_tells = t.clock_tells;
-      air_tells = t.going.tells;
-      turns = record { opening = old; is_opening = opening; goes = t.going.goes };
-      ended_is = ended_is n g u t.moments t.going.reports t.turns_are t.greatest_is t.going.counts;
-    }
+does_turns setup old new n g k l a b u opening t = record {
+  moments = t.moments;
+  reports = t.going.reports;
+  clock_tells = t.clock_tells;
+  air_tells = t.going.tells;
+  turns = record { opening = old; is_opening = opening; goes = t.going.goes };
+  ended_is = ended_is n g u t.moments t.going.reports t.turns_are t.greatest_is t.going.counts;
+}
 
-pub stops_turns : (setup : RunSetup) (most count : ℕ) (old : State) (k l : Option (List ℕ)) (a b : Option (List Report)) →
-    IsOpening setup.router old → count ≡ length setup.ports → Stopped most setup.end count (at old 0 count) k l a b → StopsTurns setup most k l a b
-stops_turns setup most count old k l a b opening e h =
-    let s = subst (λ (c : ℕ). Stopped most setup.end c (at old 0 c) k l a b) e h in record {
-      moments = s.moments;
-      reports = s.broken.first_reports ++ s.broken.lost_reports;
-      clock_tells = s.clock_tells;
-      air_tells = s.broken.tells;
-      within = s.within;
-      stops = record {
-        first_moments = s.broken.first_moments;
-        first_reports = s.broken.first_reports;
-        position = s.broken.position;
-        goes = record { opening = old; is_opening = opening; goes = s.broken.goes };
-        lost_moments = s.broken.lost_moments;
-        lost_reports = s.broken.lost_reports;
-        is_lost = s.broken.is_lost;
-        moments_are = s.broken.moments_are;
-        reports_are = refl;
-      };
-    }
+pub stops_turns : (setup : RunSetup) (most : ℕ) (old : State) (k l : Option (List ℕ)) (a b : Option (List Report)) →
+    IsOpening setup.router old → Stopped most setup.end (length setup.ports) (at old 0 (length setup.ports)) k l a b → StopsTurns setup most k l a b
+stops_turns setup most old k l a b opening s = record {
+  moments = s.moments;
+  reports = s.broken.first_reports ++ s.broken.lost_reports;
+  clock_tells = s.clock_tells;
+  air_tells = s.broken.tells;
+  within = s.within;
+  stops = record {
+    first_moments = s.broken.first_moments;
+    first_reports = s.broken.first_reports;
+    position = s.broken.position;
+    goes = record { opening = old; is_opening = opening; goes = s.broken.goes };
+    lost_moments = s.broken.lost_moments;
+    lost_reports = s.broken.lost_reports;
+    is_lost = s.broken.is_lost;
+    moments_are = s.broken.moments_are;
+    reports_are = refl;
+  };
+}
 
 -- where nothing was told yet
 pub stops_before : (setup : RunSetup) (most : ℕ) (old : State) (k : Option (List ℕ)) (a : Option (List Report)) → IsOpening setup.router old →

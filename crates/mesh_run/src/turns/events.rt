@@ -7,7 +7,6 @@ ghost use Rattle.mesh_run.specs.Turns.Turns.{tick_of};
 
 use crate::turns::hand::{hand_over, has_room};
 use crate::turns::tally::Tally;
-use mesh_atoms::Addr4;
 use mesh_core::{Arrival, Machine, Outbox};
 use mesh_io::Air;
 use std::alloc::AllocError;
@@ -64,29 +63,25 @@ pub fn tick_due<M: Machine, A: Air>(
     Ok(())
 }
 
-/// The router hears a frame from that sender at a moment in ticks, and what it sends is handed over.
+/// The router hears a frame, and what it sends is handed over.
 pub fn hear<M: Machine, A: Air>(
     router: &mut M,
-    now: u64,
-    iface: usize,
-    sender: Addr4,
+    arrival: Arrival,
     bytes: &[u8],
     out: &mut Outbox,
     air: &mut A,
     tally: &mut Tally,
 ) -> Result<(), AllocError>
-    requires now { now < 2 ^ 62 }
-    requires iface { iface < A.attached air.old }
-    requires ready { IsReady (M.state router.old) (A.attached air.old) now }
-    ensures acts { OnOk result (Acts (M.state router.old)
-        (Some (Event.Hear (record { now = now; iface = iface; sender = sender }) bytes.now)) (M.state router.new)
+    requires now { arrival.now < 2 ^ 62 }
+    requires iface { arrival.iface < A.attached air.old }
+    requires ready { IsReady (M.state router.old) (A.attached air.old) arrival.now }
+    ensures acts { OnOk result (Acts (M.state router.old) (Some (Event.Hear arrival bytes.now)) (M.state router.new)
         (A.reports air.old) (A.reports air.new) tally.old tally.new) }
     ensures silent { OnErr result (TellsMore (A.reports air.old) (A.reports air.new) []) }
-    ensures ready { OnOk result (IsReady (M.state router.new) (A.attached air.new) now) }
+    ensures ready { OnOk result (IsReady (M.state router.new) (A.attached air.new) arrival.now) }
     ensures attached { A.attached air.new ≡ A.attached air.old }
     ensures later { A.faults air.old ≤ A.faults air.new }
 {
-    let arrival = Arrival { now, iface, sender };
     router.hear_frame(arrival, bytes, out)?;
     has_room(tally, out.len())?;
     hand_over(air, out, tally);

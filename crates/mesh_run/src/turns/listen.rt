@@ -4,7 +4,7 @@ ghost use Rattle.mesh_run.specs.Turns.Parts.{IsReady, HearsInterface, HearsInVai
 
 use crate::turns::events::hear;
 use crate::turns::tally::Tally;
-use mesh_core::{Machine, Outbox};
+use mesh_core::{Arrival, Machine, Outbox};
 use mesh_io::{Air, Ear};
 use std::alloc::AllocError;
 
@@ -43,7 +43,8 @@ fn listen<M: Machine, A: Air>(
     match air.hear(iface, buf) {
         Ear::Frame { len, sender } => {
             tally.heard = one_more(tally.heard)?;
-            hear(router, now, iface, sender, &buf[..len], out, air, tally)
+            let arrival = Arrival { now, iface, sender };
+            hear(router, arrival, &buf[..len], out, air, tally)
         }
         Ear::Silence => Ok(()),
         Ear::Failed => {

@@ -3,10 +3,12 @@ ghost use Rattle.std.specs.Prelude.{◌≡◌, ◌<◌, ◌≤◌, ◌^◌, leng
 ghost use Rattle.mesh_run.specs.Turns.Parts.{IsReady, Turning, Stopped, at};
 ghost use Rattle.mesh_run.specs.Turns.Turns.{moment_of};
 
+use crate::turns::buffers::Buffers;
 use crate::turns::events::tick_due;
 use crate::turns::listen::listen_all;
 use crate::turns::tally::Tally;
-use mesh_core::{Machine, Outbox};
+use mesh_atoms::RunSetup;
+use mesh_core::Machine;
 use mesh_io::{Air, Clock};
 use std::alloc::AllocError;
 
@@ -17,37 +19,36 @@ const LAST_MOMENT: u64 = 4_611_686_018_427_387_903;
 /// The answer is the greatest moment told, in ticks. `greatest` is that of the turns before, which is before the end.
 pub fn turn<M: Machine, A: Air, C: Clock>(
     router: &mut M,
-    end: u64,
+    setup: &RunSetup,
     greatest: u64,
-    count: usize,
-    buf: &mut [u8],
-    out: &mut Outbox,
+    buffers: &mut Buffers,
     air: &mut A,
     clock: &mut C,
     tally: &mut Tally,
 ) -> Result<u64, AllocError>
-    requires end { end < 2 ^ 62 }
-    requires going { greatest < end }
-    requires count { count ≡ A.attached air.old }
-    requires longest { length buf.old ≡ 65507 }
+    requires going { greatest < setup.now.end }
+    requires attached { A.attached air.old ≡ length setup.now.ports }
+    requires longest { length buffers.old.frame.items ≡ 65507 }
     requires ready { IsReady (M.state router.old) (A.attached air.old) greatest }
-    ensures turns { IfOk result (λ new. Turning end count (at (M.state router.old) greatest count)
-        (at (M.state router.new) (moment_of 0 new) count) 1 greatest new
+    ensures turns { IfOk result (λ new. Turning setup.now.end (length setup.now.ports) (at (M.state router.old) greatest (length setup.now.ports))
+        (at (M.state router.new) (moment_of 0 new) (length setup.now.ports)) 1 greatest new
         (C.moments clock.old) (C.moments clock.new) (A.reports air.old) (A.reports air.new) tally.old tally.new) }
-    ensures stops { OnErr result (Stopped 1 end count (at (M.state router.old) greatest count)
+    ensures stops { OnErr result (Stopped 1 setup.now.end (length setup.now.ports) (at (M.state router.old) greatest (length setup.now.ports))
         (C.moments clock.old) (C.moments clock.new) (A.reports air.old) (A.reports air.new)) }
     ensures ready { IfOk result (λ new. IsReady (M.state router.new) (A.attached air.new) (moment_of 0 new)) }
     ensures attached { A.attached air.new ≡ A.attached air.old }
     ensures later { A.faults air.old ≤ A.faults air.new }
-    ensures longest { length buf.new ≡ 65507 }
+    ensures longest { length buffers.new.frame.items ≡ 65507 }
 {
     let told = clock.now();
     let greatest = u64::max(greatest, told);
     let now = u64::min(greatest, LAST_MOMENT);
-    tick_due(router, end, now, out, air, tally)?;
-    if end <= now {
+    tick_due(router, setup.end, now, &mut buffers.outbox, air, tally)?;
+    if setup.end <= now {
         return Ok(greatest);
     }
-    listen_all(router, now, count, buf, out, air, tally)?;
+    let count = setup.ports.len();
+    let buf = buffers.frame.as_mut_slice();
+    listen_all(router, now, count, buf, &mut buffers.outbox, air, tally)?;
     Ok(greatest)
 }

@@ -4,6 +4,7 @@ ghost use Rattle.mesh_texts.specs.machine.Machine.{IsOpening};
 ghost use Rattle.mesh_run.specs.Turns.Parts.{IsReady, Turning, Stopped, at};
 ghost use Rattle.mesh_run.specs.Turns.Turns.{moment_of, DoesTurns, StopsTurns};
 
+use crate::turns::buffers::Buffers;
 use crate::turns::tally::{Ended, Tally};
 use crate::turns::turn::turn;
 use mesh_atoms::RunSetup;
@@ -21,34 +22,30 @@ struct StopPoint {
 // At most so many turns, up to the first at or behind the end.
 fn turn_on<M: Machine, A: Air, C: Clock>(
     router: &mut M,
-    end: u64,
+    setup: &RunSetup,
     most: u32,
-    count: usize,
-    buf: &mut [u8],
-    out: &mut Outbox,
+    buffers: &mut Buffers,
     air: &mut A,
     clock: &mut C,
     tally: &mut Tally,
 ) -> Result<StopPoint, AllocError>
-    requires end { end < 2 ^ 62 }
-    requires some { 0 < end }
-    requires count { count ≡ A.attached air.old }
-    requires longest { length buf.old ≡ 65507 }
+    requires attached { A.attached air.old ≡ length setup.now.ports }
+    requires longest { length buffers.old.frame.items ≡ 65507 }
     requires ready { IsReady (M.state router.old) (A.attached air.old) 0 }
-    ensures turns { IfOk result (λ stop. Turning end count (at (M.state router.old) 0 count)
-        (at (M.state router.new) (moment_of 0 stop.greatest) count) stop.turns 0 stop.greatest
+    ensures turns { IfOk result (λ stop. Turning setup.now.end (length setup.now.ports) (at (M.state router.old) 0 (length setup.now.ports))
+        (at (M.state router.new) (moment_of 0 stop.greatest) (length setup.now.ports)) stop.turns 0 stop.greatest
         (C.moments clock.old) (C.moments clock.new) (A.reports air.old) (A.reports air.new) tally.old tally.new) }
     ensures most { IfOk result (λ stop. stop.turns ≤ most) }
-    ensures spent { IfOk result (λ stop. stop.greatest < end → stop.turns ≡ most) }
-    ensures stops { OnErr result (Stopped most end count (at (M.state router.old) 0 count)
+    ensures spent { IfOk result (λ stop. stop.greatest < setup.now.end → stop.turns ≡ most) }
+    ensures stops { OnErr result (Stopped most setup.now.end (length setup.now.ports) (at (M.state router.old) 0 (length setup.now.ports))
         (C.moments clock.old) (C.moments clock.new) (A.reports air.old) (A.reports air.new)) }
     ensures attached { A.attached air.new ≡ A.attached air.old }
     ensures later { A.faults air.old ≤ A.faults air.new }
 {
     let mut greatest = 0;
     for done in 0..most {
-        greatest = turn(router, end, greatest, count, buf, out, air, clock, tally)?;
-        if end <= greatest {
+        greatest = turn(router, setup, greatest, buffers, air, clock, tally)?;
+        if setup.end <= greatest {
             return Ok(StopPoint {
                 turns: done + 1,
                 greatest,
@@ -84,24 +81,17 @@ pub fn do_turns<M: Machine, A: Air, C: Clock>(
     ensures attached { A.attached air.new ≡ A.attached air.old }
     ensures later { A.faults air.old ≤ A.faults air.new }
 {
-    let mut buf = vec![in alloc; 0; 65507]?;
-    let mut out = Outbox::new(alloc);
+    let frame = vec![in alloc; 0; 65507]?;
+    let mut buffers = Buffers {
+        frame,
+        outbox: Outbox::new(alloc),
+    };
     let mut tally = Tally {
         heard: 0,
         sent: 0,
         faults: 0,
     };
-    let stop = turn_on(
-        router,
-        setup.end,
-        most,
-        setup.ports.len(),
-        buf.as_mut_slice(),
-        &mut out,
-        air,
-        clock,
-        &mut tally,
-    )?;
+    let stop = turn_on(router, setup, most, &mut buffers, air, clock, &mut tally)?;
     Ok(Ended {
         turns: stop.turns,
         greatest: stop.greatest,
