@@ -1,5 +1,5 @@
 -- What the clauses of an event say of a core to which all is kept, put together.
-use Rattle.std.proofs.Common.{◌≡◌, ◌<◌, ◌≤◌, ◌++◌, ℕ, List, Result, Ok, Err, IsTrue, true, refl, sym, subst, ap, ◌∙◌}
+use Rattle.std.proofs.Common.{◌≡◌, ◌<◌, ◌≤◌, ◌++◌, ℕ, List, Result, Ok, Err, IsTrue, Bool, true, refl, sym, subst, ap, ◌∙◌}
 use Rattle.std.specs.Prelude.{All, IfOk, OnOk, OnErr}
 use Rattle.mesh_atoms.specs.declared.graphs.Route.{Route}
 use Rattle.mesh_atoms.specs.declared.tuples.Relays.{Relays}
@@ -7,6 +7,7 @@ use Rattle.mesh_atoms.specs.Sound.{Sound}
 use Rattle.mesh_atoms.specs.State.{State}
 use Rattle.mesh_machine.specs.declared.arrival.Arrival.{Arrival}
 use Rattle.mesh_machine.specs.declared.fate.Heard.{Heard}
+use Rattle.mesh_machine.specs.declared.fate.Heard.TheVariants as heard
 use Rattle.mesh_machine.specs.declared.frame.Frame.{Frame}
 use Rattle.mesh_machine.specs.Frames.{sent_since}
 use Rattle.mesh_machine.specs.Machine.{Hear, Tick, Step, Heard_frame, Ticked, Hears, TicksAt, due}
@@ -16,13 +17,13 @@ use Rattle.mesh_machine.proofs.Soundness.{step_sound}
 use Rattle.mesh_core.specs.declared.event.outdated.EventWants.{EventWants}
 use Rattle.mesh_core.specs.declared.event.outdated.Outdated.{Outdated}
 use Rattle.mesh_core.specs.Event.Outdated.{IsKeptFor, KeepsWanted}
-use Rattle.mesh_core.specs.Event.Promises.{HearsTo, TicksTo}
+use Rattle.mesh_core.specs.Event.Promises.{HearsAndTells, HearsTo, TicksTo, told_of}
 use Rattle.mesh_core.specs.Holding.{CoreValue}
 
 -- a core has heard a frame, or met want of memory
-pub record HearClauses {E : Type 0} (came : Result Heard E) (old : State) (arrival : Arrival) (bytes : List ℕ) (before after : List Frame) (new : State) : Type 0 where
+pub record HearClauses {E : Type 0} (came : Result Heard E) (fates : Bool) (old : State) (arrival : Arrival) (bytes : List ℕ) (before after : List Frame) (new : State) : Type 0 where
   pub step : IfOk came (λ answer. Step old (Hear arrival bytes) (sent_since before after) new)
-  pub answer : IfOk came (λ answer. Hears old arrival bytes answer (sent_since before after) new)
+  pub answer : IfOk came (λ told. (answer : Heard) × (told ≡ told_of fates answer) × Hears old arrival bytes answer (sent_since before after) new)
   pub appended : after ≡ before ++ sent_since before after
   pub sendable : OnOk came (All (IsSendable old.settings) (sent_since before after))
   pub settings : OnOk came (new.settings ≡ old.settings)
@@ -40,6 +41,15 @@ pub record TickClauses {A E : Type 0} (came : Result A E) (old : State) (now : �
   pub due : OnOk came (now < due new)
   pub sound : OnOk came (Sound new)
 
+-- where fates are wanted, all of an answer is told
+told_all : (told answer : Heard) → told ≡ told_of true answer → told ≡ answer
+told_all told (heard.Refused refusal) is = is
+told_all told (heard.Taken fates) is = is
+
+pub answer_told : {E : Type 0} (came : Result Heard E) (P : Heard → Type 0) → IfOk came (λ told. (answer : Heard) × (told ≡ told_of true answer) × P answer) → IfOk came P
+answer_told (Ok told) P (answer, is, holds) = subst P (sym (told_all told answer is)) holds
+answer_told (Err e) P holds = tt
+
 -- where both are wanted, all is kept
 pub all_kept : (wants : EventWants) (whole rest : State) → wants.relays ≡ true → wants.routes ≡ true → IsKeptFor wants whole rest → whole ≡ rest
 all_kept wants whole rest relays routes kept =
@@ -52,13 +62,15 @@ keeps_all LeadsTo wants outdated new relays routes keeps = subst LeadsTo (all_ke
 
 module _ {E : Type 0} (wants : EventWants) (arrival : Arrival) (bytes : List ℕ) (before after : List Frame) (outdated : Outdated) (new : State) where
   hears_here : (came : Result Heard E) → wants.relays ≡ true → wants.routes ≡ true → (old : State) → Sound old → OnErr came (after ≡ before) →
-      IfOk came (λ answer. HearsTo wants old arrival bytes answer before after outdated new) → HearClauses came old arrival bytes before after new
-  hears_here (Ok answer) relays routes old sound wanting to =
+      IfOk came (λ told. HearsAndTells wants old arrival bytes told before after outdated new) → HearClauses came wants.fates old arrival bytes before after new
+  hears_here (Ok told) relays routes old sound wanting heard =
+      let answer : Heard = heard.answer in
+      let to : HearsTo wants old arrival bytes answer before after outdated new = heard.hears in
       let hears : Hears old arrival bytes answer (sent_since before after) new = keeps_all (Hears old arrival bytes answer (sent_since before after)) wants outdated new relays routes to.leaves in
       let step : Step old (Hear arrival bytes) (sent_since before after) new = Heard_frame answer hears in
       record {
         step = step;
-        answer = hears;
+        answer = (answer, heard.tells, hears);
         appended = to.appended;
         sendable = to.sendable;
         settings = to.settings;
@@ -70,9 +82,9 @@ module _ {E : Type 0} (wants : EventWants) (arrival : Arrival) (bytes : List ℕ
       record { step = tt; answer = tt; appended = since_same before after wanting; sendable = tt; settings = tt; last = tt; due = tt; sound = tt }
 
   pub hear_clauses : {shown core : CoreValue} (came : Result Heard E) → wants.relays ≡ true → wants.routes ≡ true → shown ≡ core → Sound shown.state → OnErr came (after ≡ before) →
-      IfOk came (λ answer. HearsTo wants shown.state arrival bytes answer before after outdated new) → HearClauses came core.state arrival bytes before after new
+      IfOk came (λ told. HearsAndTells wants shown.state arrival bytes told before after outdated new) → HearClauses came wants.fates core.state arrival bytes before after new
   hear_clauses {shown} {core} came relays routes is sound wanting to =
-      subst (λ (v : CoreValue). HearClauses came v.state arrival bytes before after new) is (hears_here came relays routes shown.state sound wanting to)
+      subst (λ (v : CoreValue). HearClauses came wants.fates v.state arrival bytes before after new) is (hears_here came relays routes shown.state sound wanting to)
 
 module _ {A E : Type 0} (wants : EventWants) (now : ℕ) (before after : List Frame) (outdated : Outdated) (new : State) where
   ticks_here : (came : Result A E) → wants.relays ≡ true → wants.routes ≡ true → (old : State) → Sound old → OnErr came (after ≡ before) →

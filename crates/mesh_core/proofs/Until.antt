@@ -1,17 +1,19 @@
 -- What the clauses of an event say of a router that may put off relays and routes, put together.
 use Rattle.std.proofs.Common.{◌≡◌, ◌<◌, ◌≤◌, ℕ, List, [], Result, Ok, Err, true, refl, sym, subst, ap, arith, ◌∙◌}
 use Rattle.std.specs.Prelude.{All, IfOk, OnOk, is_err}
+use Rattle.mesh_atoms.specs.Sound.{Sound}
 use Rattle.mesh_atoms.specs.State.{State}
 use Rattle.mesh_machine.specs.declared.arrival.Arrival.{Arrival}
 use Rattle.mesh_machine.specs.declared.fate.Heard.{Heard}
 use Rattle.mesh_machine.specs.declared.frame.Frame.{Frame}
 use Rattle.mesh_machine.specs.Machine.{Hear, Tick, Step, Heard_frame, Ticked, due}
 use Rattle.mesh_machine.specs.Sendable.{IsSendable}
+use Rattle.mesh_machine.proofs.Soundness.{step_sound}
 use Rattle.mesh_core.specs.declared.event.outdated.EventWants.{EventWants}
 use Rattle.mesh_core.specs.declared.event.outdated.Outdated.{Outdated}
 use Rattle.mesh_core.specs.Deferred.{IsKeptOf, IsSoundButForDerived}
 use Rattle.mesh_core.specs.Event.Outdated.{IsCurrent, IsKeptFor}
-use Rattle.mesh_core.specs.Event.Promises.{HearsTo, TicksTo}
+use Rattle.mesh_core.specs.Event.Promises.{HearsAndTells, HearsTo, TicksTo}
 use Rattle.mesh_core.specs.Holding.{CoreValue}
 use Rattle.mesh_core.proofs.Clauses.{all_kept}
 
@@ -24,6 +26,18 @@ pub record HearUntil {E : Type 0} (came : Result Heard E) (until : ℕ) (old : S
   pub no_earlier : OnOk came (old.last ≤ new.last)
   pub due : OnOk came (due new ≡ due old)
   pub rest : OnOk came (IsSoundButForDerived new × IsCurrent outdated new)
+
+-- a router that puts nothing off takes the machine's step, and stays sound
+module _ {E : Type 0} (old : State) (arrival : Arrival) (bytes : List ℕ) (sent : List Frame) (outdated : Outdated) (new : State) where
+  pub step_whole : (came : Result Heard E) → HearUntil came 0 old arrival bytes sent outdated new → OnOk came (Step old (Hear arrival bytes) sent new)
+  step_whole (Ok told) heard =
+      let (whole, step, kept) = heard.step in
+      let then : 0 ≤ new.last = omega arith in subst (λ (s : State). Step old (Hear arrival bytes) sent s) (kept.from_then then) step
+  step_whole (Err e) heard = tt
+
+  pub sound_whole : (came : Result Heard E) → Sound old → HearUntil came 0 old arrival bytes sent outdated new → OnOk came (Sound new)
+  sound_whole (Ok told) sound heard = step_sound old (Hear arrival bytes) sent new sound (step_whole (Ok told) heard)
+  sound_whole (Err e) sound heard = tt
 
 -- its clock has ticked, or it met want of memory
 pub record TickUntil {A E : Type 0} (came : Result A E) (until : ℕ) (old : State) (now : ℕ) (sent : List Frame) (outdated : Outdated) (new : State) : Type 0 where
@@ -43,23 +57,25 @@ module _ (wants : EventWants) (until now : ℕ) (relays : until ≤ now → want
 
 module _ {E : Type 0} (wants : EventWants) (until : ℕ) (arrival : Arrival) (bytes : List ℕ) (outdated : Outdated) (new : State)
     (relays : until ≤ arrival.now → wants.relays ≡ true) (routes : until ≤ arrival.now → wants.routes ≡ true) where
-  heard_until : (came : Result Heard E) (old : State) (sent : List Frame) → IfOk came (λ answer. HearsTo wants old arrival bytes answer [] sent outdated new) → HearUntil came until old arrival bytes sent outdated new
-  heard_until (Ok answer) old sent to = record {
-    step = (to.leaves.whole, Heard_frame answer to.leaves.leads, kept_until wants until arrival.now relays routes to.leaves.whole new to.last to.leaves.rest);
-    sendable = to.sendable;
-    settings = to.settings;
-    last = to.last;
-    no_earlier = to.no_earlier;
-    due = to.due;
-    rest = (to.sound, to.leaves.current);
-  }
+  heard_until : (came : Result Heard E) (old : State) (sent : List Frame) → IfOk came (λ told. HearsAndTells wants old arrival bytes told [] sent outdated new) → HearUntil came until old arrival bytes sent outdated new
+  heard_until (Ok told) old sent heard =
+      let to : HearsTo wants old arrival bytes heard.answer [] sent outdated new = heard.hears in
+      record {
+        step = (to.leaves.whole, Heard_frame heard.answer to.leaves.leads, kept_until wants until arrival.now relays routes to.leaves.whole new to.last to.leaves.rest);
+        sendable = to.sendable;
+        settings = to.settings;
+        last = to.last;
+        no_earlier = to.no_earlier;
+        due = to.due;
+        rest = (to.sound, to.leaves.current);
+      }
   heard_until (Err e) old sent to = record { step = tt; sendable = tt; settings = tt; last = tt; no_earlier = tt; due = tt; rest = tt }
 
-  pub hear_until : {shown core : CoreValue} (came : Result Heard E) (before sent : List Frame) → before ≡ [] → shown ≡ core → IfOk came (λ answer. HearsTo wants shown.state arrival bytes answer before sent outdated new) →
+  pub hear_until : {shown core : CoreValue} (came : Result Heard E) (before sent : List Frame) → before ≡ [] → shown ≡ core → IfOk came (λ told. HearsAndTells wants shown.state arrival bytes told before sent outdated new) →
       HearUntil came until core.state arrival bytes sent outdated new
   hear_until {shown} {core} came before sent none is to =
       subst (λ (v : CoreValue). HearUntil came until v.state arrival bytes sent outdated new) is
-      (heard_until came shown.state sent (subst (λ (b : List Frame). IfOk came (λ answer. HearsTo wants shown.state arrival bytes answer b sent outdated new)) none to))
+      (heard_until came shown.state sent (subst (λ (b : List Frame). IfOk came (λ told. HearsAndTells wants shown.state arrival bytes told b sent outdated new)) none to))
 
 module _ {A E : Type 0} (wants : EventWants) (until now : ℕ) (outdated : Outdated) (new : State) (relays : until ≤ now → wants.relays ≡ true) (routes : until ≤ now → wants.routes ≡ true) where
   ticked_until : (came : Result A E) (old : State) (sent : List Frame) → OnOk came (TicksTo wants old now [] sent outdated new) → TickUntil came until old now sent outdated new

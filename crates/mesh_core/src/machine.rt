@@ -3,6 +3,7 @@ ghost use Rattle.std.specs.Prelude.{◌≡◌, ◌<◌, ◌≤◌, ◌^◌, leng
 ghost use Rattle.mesh_machine.specs.Machine.{Event, Step, IsOpening, due};
 ghost use Rattle.mesh_machine.specs.Sendable.{IsSendable};
 
+use crate::event::{EventWants, hear_frame};
 use crate::held::Outbox;
 use crate::router::Core;
 use mesh_atoms::RouterSettings;
@@ -70,7 +71,17 @@ impl<B: Bases> Machine for Core<B> {
         out: &mut Outbox,
     ) -> Result<(), AllocError> {
         out.clear();
-        told(self.hear(arrival.now, arrival.iface, arrival.sender, bytes, out))
+        if self.spent {
+            return Err(AllocError);
+        }
+        let wants = EventWants {
+            relays: true,
+            routes: true,
+            fates: false,
+        };
+        let came = hear_frame(&mut self.router, wants, arrival, bytes, out);
+        self.spent = came.is_err();
+        told(came)
     }
 
     fn tick_at(&mut self, now: u64, out: &mut Outbox) -> Result<(), AllocError> {

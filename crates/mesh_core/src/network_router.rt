@@ -68,7 +68,17 @@ impl<B: Bases> NetworkRouter for Core<B> {
     ) -> Result<(), AllocError> {
         let _ = until;
         out.clear();
-        told(self.hear_typed(arrival.now, arrival.iface, arrival.sender, frame, out))
+        if self.spent {
+            return Err(AllocError);
+        }
+        let wants = EventWants {
+            relays: true,
+            routes: true,
+            fates: false,
+        };
+        let came = hear_typed(&mut self.router, wants, arrival, frame, out);
+        self.spent = came.is_err();
+        told(came)
     }
 
     fn tick_until(&mut self, until: u64, now: u64, out: &mut Outbox) -> Result<(), AllocError> {
@@ -99,6 +109,7 @@ impl<B: Bases> NetworkRouter for DeferredCore<B> {
         let wants = EventWants {
             relays: until <= arrival.now,
             routes: until <= arrival.now,
+            fates: false,
         };
         let came = hear_typed(&mut self.router, wants, arrival, frame, out);
         self.spent = came.is_err();
@@ -113,6 +124,7 @@ impl<B: Bases> NetworkRouter for DeferredCore<B> {
         let wants = EventWants {
             relays: true,
             routes: until <= now,
+            fates: false,
         };
         let came = tick(&mut self.router, wants, now, out);
         self.spent = came.is_err();

@@ -5,6 +5,6 @@ mod heading;
 mod message;
 mod typed_frame;
 
-pub(crate) use crate::reading::content::{FrameContent, read_content, typed_messages};
+pub(crate) use crate::reading::content::{FrameContent, ReadPacket, read_content, typed_messages};
 pub(crate) use crate::reading::message::TypedMessage;
 pub use crate::reading::typed_frame::TypedFrame;

@@ -53,6 +53,7 @@ impl<B: Bases> Core<B> {
         let wants = EventWants {
             relays: true,
             routes: true,
+            fates: true,
         };
         let came = hear_frame(&mut self.router, wants, arrival, bytes, out);
         self.spent = came.is_err();
@@ -94,6 +95,7 @@ impl<B: Bases> Core<B> {
         let wants = EventWants {
             relays: true,
             routes: true,
+            fates: true,
         };
         let came = hear_typed(&mut self.router, wants, arrival, frame, out);
         self.spent = came.is_err();
@@ -124,6 +126,7 @@ impl<B: Bases> Core<B> {
         let wants = EventWants {
             relays: true,
             routes: true,
+            fates: false,
         };
         let came = tick(&mut self.router, wants, now, out);
         self.spent = came.is_err();

@@ -1,17 +1,20 @@
 -- What a message comes to, put together from what each call says.
-use Rattle.std.proofs.Common.{◌≡◌, ◌≢◌, ℕ, List, [], Bool, false, Option, Some, ◌⊎◌, inl, inr, ◌<◌, arith, sym, subst, ap, ◌∙◌}
-use Rattle.std.specs.Prelude.{IsTrue}
+use Rattle.std.proofs.Common.{◌≡◌, ◌≢◌, ◌++◌, ℕ, List, [], Bool, true, false, refl, Option, Some, ◌⊎◌, inl, inr, ◌<◌, arith, sym, subst, ap, ◌∙◌}
+use Rattle.std.specs.Prelude.{IsTrue, slice_index}
 use Rattle.std.proofs.lemmas.Bool.{cases_lt}
 use Rattle.mesh_atoms.specs.declared.addr.Addr4.{Addr4}
 use Rattle.mesh_atoms.specs.declared.addr.NetAddr.{NetAddr}
 use Rattle.mesh_atoms.specs.declared.hello.Hello.{Hello}
 use Rattle.mesh_atoms.specs.declared.tc.Tc.{Tc}
 use Rattle.mesh_atoms.specs.declared.settings.RouterSettings.{RouterSettings}
+use Rattle.mesh_atoms.specs.Base.{base_of}
 use Rattle.mesh_atoms.specs.State.{Neighbourhood, TopologyBase, NotedMessages, Bases}
 use Rattle.mesh_atoms.specs.TakesHello.{HelloAnswer, TakesHello}
 use Rattle.mesh_packet.specs.Fields.{MessageFields}
+use Rattle.mesh_packet.specs.Grammar.{SpellsMessage}
 use Rattle.mesh_wire.specs.Hello.{HelloIs}
 use Rattle.mesh_wire.specs.HelloRules.{BreaksHello}
+use Rattle.mesh_wire.specs.Rehop.{HasHop}
 use Rattle.mesh_wire.specs.Rules.{Keeps}
 use Rattle.mesh_wire.specs.TcRules.{BreaksTc, ShortPrefix}
 use Rattle.mesh_wire.specs.Kinds.{nbr_addr_type}
@@ -22,13 +25,16 @@ use Rattle.mesh_flood.specs.declared.verdict.Heading.{Heading}
 use Rattle.mesh_flood.specs.declared.verdict.Process.{Process}
 use Rattle.mesh_flood.specs.declared.verdict.Process.TheVariants as process
 use Rattle.mesh_flood.specs.declared.verdict.Forward.{Forward}
-use Rattle.mesh_flood.specs.Verdict.{process_of}
+use Rattle.mesh_flood.specs.declared.verdict.Forward.TheVariants as forward
+use Rattle.mesh_flood.specs.Verdict.{process_of, forward_of}
 use Rattle.mesh_machine.specs.declared.arrival.Arrival.{Arrival}
 use Rattle.mesh_machine.specs.declared.fate.Fate.{Fate}
 use Rattle.mesh_machine.specs.declared.fate.Read.{Read}
 use Rattle.mesh_machine.specs.declared.fate.Read.TheVariants as read
 use Rattle.mesh_machine.specs.declared.frame.Frame.{Frame}
+use Rattle.mesh_machine.proofs.Hops.{forwarded_hop}
 use Rattle.mesh_core.specs.Held.Reading.{ReadsTc, Taken_in, Passed_by}
+use Rattle.mesh_core.specs.Held.Taking.{kept_fates}
 use Rattle.mesh_core.specs.Reading.Message.{IsReadAsBroken, Hello_breaks, Tc_breaks}
 use Rattle.mesh_machine.specs.Messages.{ConsidersForwarding, only, hello_read, other_read, IsHeading, ProcessesTc, Tc_taken, Tc_passed, TakesMessage, Hello_read, Hello_broken, Tc_broken, Other_passed}
 
@@ -50,6 +56,13 @@ module _ (settings : RouterSettings) (own : Addr4) (arrival : Arrival) (old : Ba
   other_taken heading noted sent onward p r no_hello no_tc is considered p_is r_is =
       let same : r ≡ other_read (process_of own heading old.noted) = r_is ∙ ap (λ (q : Process). other_read q) p_is in
       subst (λ (x : Read). TakesMessage settings own arrival old message octets (record old { noted = noted }) sent (record { read = x; forward = onward })) (sym same) (Other_passed heading no_hello no_tc is considered)
+
+-- a message that is sent on has a hop left
+pub spelled_hop : (octets : List ℕ) (heading : Heading) (iface : ℕ) (own : Addr4) (link : Option Bool) (noted : NotedMessages) (answer : Forward) → ((i : ℕ) → slice_index octets i < 256) →
+    (message : MessageFields) × SpellsMessage message octets × IsHeading message heading → answer ≡ forward_of iface own heading link noted → answer ≡ forward.Do →
+    (message : MessageFields) × SpellsMessage message octets × HasHop message
+spelled_hop octets heading iface own link noted answer bytes (message, spells, is) answered does =
+    (message, spells, forwarded_hop message octets heading own link (base_of noted.received iface) noted.forwarded spells bytes is (sym answered ∙ does))
 
 -- a message that counts as processed was to be processed
 pub done_does : {now : ℕ} {tc : Tc} {does : Process} {old new : TopologyBase} {made : Read} {done : Bool} → ReadsTc now tc does old new made done → IsTrue done → does ≡ process.Do
@@ -82,3 +95,12 @@ hosts_of message tc keeps reads row has kind = single row.dest (λ short. keeps 
     typed : IsTrue row.origin ⊎ IsTrue row.routable → HasType message row.dest nbr_addr_type
     typed (inl origin) = flagged 1 ((reads.rows.each row has).1.origin.0 origin)
     typed (inr routable) = flagged 2 ((reads.rows.each row has).1.routable.0 routable)
+
+-- fates that are kept, and some more
+pub none_kept : (keeps : Bool) → [] ≡ kept_fates keeps []
+none_kept true = refl
+none_kept false = refl
+
+pub kept_more : (keeps : Bool) (fates more : List Fate) → kept_fates keeps fates ++ kept_fates keeps more ≡ kept_fates keeps (fates ++ more)
+kept_more true fates more = refl
+kept_more false fates more = refl

@@ -1,12 +1,14 @@
 -- What an event promises of a router of which not all may have been wanted.
-use Rattle.std.specs.Prelude.{◌≡◌, ◌<◌, ◌≤◌, ◌++◌, ℕ, List, All}
+use Rattle.std.specs.Prelude.{◌≡◌, ◌<◌, ◌≤◌, ◌++◌, ℕ, List, Bool, All}
 use Rattle.mesh_atoms.specs.State.{State}
 use Rattle.mesh_core.specs.declared.event.outdated.Outdated.{Outdated}
 use Rattle.mesh_core.specs.declared.event.outdated.EventWants.{EventWants}
 use Rattle.mesh_core.specs.Deferred.{IsSoundButForDerived}
 use Rattle.mesh_core.specs.Event.Outdated.{KeepsWanted}
+use Rattle.mesh_core.specs.Held.Taking.{kept_fates}
 use Rattle.mesh_machine.specs.declared.arrival.Arrival.{Arrival}
 use Rattle.mesh_machine.specs.declared.fate.Heard.{Heard}
+use Rattle.mesh_machine.specs.declared.fate.Heard.TheVariants as heard
 use Rattle.mesh_machine.specs.declared.frame.Frame.{Frame}
 use Rattle.mesh_machine.specs.Frames.{sent_since}
 use Rattle.mesh_machine.specs.Machine.{Hears, TicksAt, due}
@@ -24,6 +26,17 @@ pub record HearsTo (wants : EventWants) (old : State) (arrival : Arrival) (bytes
   pub last : new.last ≤ arrival.now
   pub no_earlier : old.last ≤ new.last
   pub due : due new ≡ due old
+
+-- what is told of an answer: all of it but for fates that nobody wants
+abbrev pub told_of : Bool → Heard → Heard
+told_of wanted (heard.Refused refusal) = heard.Refused refusal
+told_of wanted (heard.Taken fates) = heard.Taken (kept_fates wanted fates)
+
+-- a router has heard a frame, and of what it answered it has told what was wanted
+pub record HearsAndTells (wants : EventWants) (old : State) (arrival : Arrival) (bytes : List ℕ) (told : Heard) (before after : List Frame) (outdated : Outdated) (new : State) : Type 0 where
+  pub answer : Heard
+  pub tells : told ≡ told_of wants.fates answer
+  pub hears : HearsTo wants old arrival bytes answer before after outdated new
 
 -- its clock has ticked
 pub record TicksTo (wants : EventWants) (old : State) (now : ℕ) (before after : List Frame) (outdated : Outdated) (new : State) : Type 0 where

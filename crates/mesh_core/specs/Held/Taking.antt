@@ -1,5 +1,5 @@
 -- What a frame that spells a packet does to the bases.
-use Rattle.std.specs.Prelude.{ℕ, List}
+use Rattle.std.specs.Prelude.{ℕ, List, [], Bool, true, false}
 use Rattle.mesh_atoms.specs.declared.addr.Addr4.{Addr4}
 use Rattle.mesh_atoms.specs.declared.settings.RouterSettings.{RouterSettings}
 use Rattle.mesh_atoms.specs.Live.{Live}
@@ -11,6 +11,11 @@ use Rattle.mesh_machine.specs.Messages.{TakesMessages}
 use Rattle.mesh_packet.specs.declared.packet.Span.{Span}
 use Rattle.mesh_packet.specs.Fields.{PacketFields}
 use Rattle.mesh_packet.specs.Grammar.{Spells}
+
+-- the fates that are kept: all, or none where nobody wants them
+abbrev pub kept_fates : Bool → List Fate → List Fate
+kept_fates true fates = fates
+kept_fates false fates = []
 
 -- what is expired goes, then the messages of the packet are taken in order, and what is sent is what they have forwarded
 pub record TakesFrame (settings : RouterSettings) (old : Bases) (arrival : Arrival) (bytes : List ℕ) (fates : List Fate) (sent : List Frame) (new : Bases) : Type 0 where

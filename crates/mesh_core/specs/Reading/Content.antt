@@ -2,6 +2,7 @@
 use Rattle.std.specs.Prelude.{ℕ, List, [], ◌∷◌}
 use Rattle.mesh_core.specs.declared.reading.content.FrameContent.{FrameContent}
 use Rattle.mesh_core.specs.declared.reading.content.FrameContent.TheVariants as content
+use Rattle.mesh_core.specs.declared.reading.content.ReadPacket.{ReadPacket}
 use Rattle.mesh_core.specs.declared.reading.message.TypedMessage.{TypedMessage}
 use Rattle.mesh_core.specs.Reading.Message.{IsReadAs}
 use Rattle.mesh_packet.specs.Fields.{MessageFields, PacketFields}
@@ -14,7 +15,11 @@ AreReadAs (message ∷ messages) (one ∷ typed) = IsReadAs message one × AreRe
 AreReadAs [] (one ∷ typed) = ⊥
 AreReadAs (message ∷ messages) [] = ⊥
 
--- the octets have their first fault there, or spell a packet whose messages stand there and read so
+-- the octets spell a packet whose messages stand there and read so
+abbrev pub IsPacketOf : List ℕ → ReadPacket → Type 0
+IsPacketOf bytes read = (packet : PacketFields) × Spells packet read.spans bytes × AreReadAs packet.messages read.typed
+
+-- the octets have their first fault there, or spell such a packet
 abbrev pub IsContentOf : List ℕ → FrameContent → Type 0
 IsContentOf bytes (content.Refused refusal) = FirstFault bytes refusal.place refusal.reason
-IsContentOf bytes (content.Messages typed spans) = (packet : PacketFields) × Spells packet spans bytes × AreReadAs packet.messages typed
+IsContentOf bytes (content.Packet read) = IsPacketOf bytes read

@@ -11,15 +11,22 @@ use mesh_atoms::{DecodeFault, Refusal, Seq};
 use mesh_packet::{Decoded, Message, Span, decode};
 use std::alloc::{AllocError, Global};
 
-/// What a frame reads as: its first fault, or each message of the packet that it spells, and where that stands in the frame.
-pub(crate) enum FrameContent {
-    Refused(Refusal),
-    Messages(Seq<TypedMessage>, Seq<Span>),
+/// What each message of a packet reads as, and where it stands in the frame.
+#[derive(Drop)]
+pub(crate) struct ReadPacket {
+    pub(crate) typed: Seq<TypedMessage>,
+    pub(crate) spans: Seq<Span>,
 }
 
-// Lets go of messages.
-fn let_go(messages: Seq<TypedMessage>) {
-    let _ = messages;
+/// What a frame reads as: its first fault, or the packet that it spells.
+pub(crate) enum FrameContent {
+    Refused(Refusal),
+    Packet(ReadPacket),
+}
+
+// Lets go of a packet.
+fn let_go(packet: ReadPacket) {
+    let _ = packet;
 }
 
 // By hand, so that no crate that lets go of one has to know its parts.
@@ -27,7 +34,7 @@ impl Drop for FrameContent {
     fn drop(self) {
         match self {
             FrameContent::Refused(_) => {}
-            FrameContent::Messages(messages, _) => let_go(messages),
+            FrameContent::Packet(packet) => let_go(packet),
         }
     }
 }
@@ -61,8 +68,8 @@ fn messages_of(alloc: Global, decoded: Decoded) -> Result<FrameContent, AllocErr
     ensures { (bytes : List ℕ) → Spells (fields_of_packet decoded.entry.packet) decoded.entry.spans bytes → IfOk result (IsContentOf bytes) }
 {
     let Decoded { packet, spans } = decoded;
-    let messages = typed_messages(alloc, packet.messages.as_slice())?;
-    Ok(FrameContent::Messages(messages, spans))
+    let typed = typed_messages(alloc, packet.messages.as_slice())?;
+    Ok(FrameContent::Packet(ReadPacket { typed, spans }))
 }
 
 /// Reads a frame (RFC 5444), and each of its messages (RFC 6130 and RFC 7181). Only want of memory refuses.

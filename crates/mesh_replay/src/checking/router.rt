@@ -13,7 +13,7 @@ ghost use Rattle.mesh_replay.specs.Checking.Events.{AreRowsWith, BeginsEvent, Ch
 ghost use Rattle.mesh_replay.specs.Checking.Kept.{AreFewRows, AreWithinRows, IsAtRest, event_items, hello_items, tc_items};
 
 use mesh_atoms::{Relays, RouterSettings, Seq, TcRow, are_same_rows};
-use mesh_core::{Arrival, Fate, InformationBases, Outbox, has_to_advertise, next_moment};
+use mesh_core::{Arrival, InformationBases, Outbox, has_to_advertise, next_moment};
 use mesh_expire::Bases;
 use mesh_packet::Decoded;
 use mesh_renewal::{advertised_rows, no_relays};
@@ -127,7 +127,6 @@ fn emptied_with(rows: &[TcRow], before: &[TcRow], emptied: Option<u64>, now: u64
 // Takes out what is expired since the last event, and then takes the messages of a packet. What they forward is put at the end of `out`.
 // True only where all of that has left the neighbourhood as it was but for moments.
 fn take_packet<B: Bases>(
-    alloc: Global,
     holding: &mut InformationBases<B>,
     last: u64,
     arrival: Arrival,
@@ -145,17 +144,12 @@ fn take_packet<B: Bases>(
     ensures sound { OnOk result (SoundBases holding.new.settings arrival.now holding.new.bases) }
     ensures quiet { IfOk result (λ quiet. IsTrue quiet → SameNear holding.old.bases.neighbourhood last holding.new.bases.neighbourhood arrival.now) }
 {
-    let own = holding.settings().originator();
     let idle = holding.expire(last, arrival.now)?;
-    let mut fates: Seq<Fate> = Seq::new(alloc);
     let quiet = holding.take_messages(
-        alloc,
         arrival,
-        own,
         bytes,
         decoded.packet.messages.as_slice(),
         decoded.spans.as_slice(),
-        &mut fates,
         out,
     )?;
     Ok(idle.near & quiet.near)
@@ -319,7 +313,6 @@ impl<B: Bases> CheckedRouter<B> {
     {
         let mut out = Outbox::new(alloc);
         let quiet = take_packet(
-            alloc,
             &mut self.holding,
             self.last,
             arrival,

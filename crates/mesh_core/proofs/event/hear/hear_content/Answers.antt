@@ -1,13 +1,17 @@
-use Rattle.std.proofs.Common.{arith}
+use Rattle.std.proofs.Common.{arith, refl}
 use Rattle.mesh_core.specs.Event.Holding.{state_of}
+use Rattle.mesh_machine.specs.declared.fate.Heard.TheVariants as heard
 use Rattle.mesh_core.proofs.EventLemmas.Hearing.{refused_to}
 use Rattle.mesh_core.proofs.EventLemmas.Refusals.{refused_at}
 use Rattle.mesh_core.proofs.event.hear.hear_content.Goals as goal
 
 pub returns-in-Refused-clause-hears : goal.returns-in-Refused-clause-hears
-returns-in-Refused-clause-hears g c =
-    refused_to c.args.wants (state_of c.args.router.now.holding c.args.router.now.derived) c.args.arrival c.args.bytes.now c.args.out.now c.args.router.now.outdated c.requires.sound c.requires.later
-    (λ i. omega (arith, c.type_inv.bytes i)) c.requires.current c.in-Refused.refusal (rw c.in-Refused.is at c.requires.content)
+returns-in-Refused-clause-hears g c = record {
+  answer = heard.Refused c.in-Refused.refusal;
+  tells = refl;
+  hears = refused_to c.args.wants (state_of c.args.router.now.holding c.args.router.now.derived) c.args.arrival c.args.bytes.now c.args.out.now c.args.router.now.outdated c.requires.sound c.requires.later
+      (λ i. omega (arith, c.type_inv.bytes i)) c.requires.current c.in-Refused.refusal (rw c.in-Refused.is at c.requires.content);
+}
 
 pub returns-in-Refused-clause-refused : goal.returns-in-Refused-clause-refused
 returns-in-Refused-clause-refused g c = λ place reason fault.
@@ -17,9 +21,9 @@ pub returns-in-Refused-clause-wanting : goal.returns-in-Refused-clause-wanting
 returns-in-Refused-clause-wanting g c = tt
 
 pub take_packet-requires-clause-packet : goal.take_packet-requires-clause-packet
-take_packet-requires-clause-packet g c = rw (c.as_slice.ensures, c.as_slice-in-Messages.ensures) (rw c.in-Messages.is at c.requires.content)
+take_packet-requires-clause-packet g c = rw c.in-Packet.is at c.requires.content
 
-pub returns-in-Messages-clause-refused : goal.returns-in-Messages-clause-refused
-returns-in-Messages-clause-refused g c = λ place reason fault.
-    let (packet, spells, reads) = rw c.in-Messages.is at c.requires.content in
+pub returns-in-Packet-clause-refused : goal.returns-in-Packet-clause-refused
+returns-in-Packet-clause-refused g c = λ place reason fault.
+    let (packet, spells, reads) = rw c.in-Packet.is at c.requires.content in
     absurd (c.one_reading.ensures.apart c.args.bytes.now packet _ place reason spells fault)

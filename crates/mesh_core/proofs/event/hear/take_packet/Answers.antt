@@ -1,12 +1,57 @@
-use Rattle.std.proofs.Common.{◌++◌, List, arith, ap, ◌∙◌}
-use Rattle.mesh_core.specs.Event.Holding.{state_of}
+use Rattle.std.proofs.Common.{◌++◌, List, arith, refl, ap, ◌∙◌}
+use Rattle.mesh_atoms.specs.State.{State}
+use Rattle.mesh_machine.specs.declared.fate.Fate.{Fate}
+use Rattle.mesh_machine.specs.declared.fate.Heard.TheVariants as heard
 use Rattle.mesh_machine.specs.declared.frame.Frame.{Frame}
+use Rattle.mesh_machine.specs.Machine.{HearsPacket}
+use Rattle.mesh_core.specs.Event.Holding.{state_of}
+use Rattle.mesh_core.specs.Event.Outdated.{KeepsWanted}
+use Rattle.mesh_core.proofs.EventLemmas.Derivations.{before_event, has_own}
 use Rattle.mesh_core.proofs.EventLemmas.Hearing.{packet_to}
+use Rattle.mesh_core.proofs.EventLemmas.Wholes.{bases_but}
 use Rattle.mesh_core.proofs.event.hear.take_packet.Goals as goal
+
+pub take_frame-requires-clause-sound : goal.take_frame-requires-clause-sound
+take_frame-requires-clause-sound g c = bases_but (state_of c.args.router.now.holding c.args.router.now.derived) c.requires.sound
+
+pub end_event-requires-clause-near : goal.end_event-requires-clause-near
+end_event-requires-clause-near g c = c.in_ok-fates.ensures.sound.neighbourhood
+
+pub end_event-requires-clause-topology : goal.end_event-requires-clause-topology
+end_event-requires-clause-topology g c = c.in_ok-fates.ensures.sound.topology
 
 pub returns-clause-hears : goal.returns-clause-hears
 returns-clause-hears g c =
-    let (sent, out, leaves) = c.in_ok-fates.ensures in
-    packet_to c.args.wants (state_of c.args.router.now.holding c.args.router.now.derived) c.args.arrival c.args.bytes.now c.args.out.now c.put_all.new.self c.take_messages.new.router.outdated
-    (state_of c.take_messages.new.router.holding c.take_messages.new.router.derived) c.requires.sound c.requires.later (λ i. omega (arith, c.type_inv.bytes i)) c.in_ok-fates.fates sent
-    (c.in_ok-put_all.ensures.ok ∙ (ap (λ (f : List Frame). c.args.out.now ++ f) out ∙ ap (λ (f : List Frame). c.args.out.now ++ (f ++ sent)) c.new-sent.ensures)) leaves
+    let before : State = state_of c.args.router.now.holding c.args.router.now.derived in
+    let after : State = state_of c.take_frame.new.self c.end_event.new.derived in
+    let (given, sent, fates, out, taken) = c.in_ok-fates.ensures.taken in
+    let begins = before_event c.args.router.now.holding c.take_frame.new.self c.args.router.now.derived c.args.router.now.outdated c.in_ok-fates.quiet c.args.arrival.now c.requires.sound c.requires.current
+    c.in_ok-fates.ensures.settings c.in_ok-fates.ensures.near c.in_ok-fates.ensures.advertised in
+    let ends = c.in_ok-end_event.ensures.ends before after begins refl refl (has_own c.take_frame.new.self c.end_event.new.derived) in
+    let leaves : KeepsWanted (HearsPacket before c.args.arrival c.args.bytes.now given sent) c.args.wants c.end_event.new.outdated after =
+    record {
+      whole = ends.whole;
+      leads = record {
+        packet = taken.packet;
+        spans = taken.spans;
+        spelled = taken.spelled;
+        own = taken.own;
+        is_own = taken.is_own;
+        live = taken.live;
+        is_live = taken.is_live;
+        bases = c.take_frame.new.self.bases;
+        takes = taken.takes;
+        renews = ends.leads;
+        sequence = ap (λ (s : State). s.sequence) ends.rest.same ∙ c.end_event.ensures.sequence;
+        next_hello = ap (λ (s : State). s.next_hello) ends.rest.same ∙ c.end_event.ensures.next_hello;
+        next_tc = ap (λ (s : State). s.next_tc) ends.rest.same ∙ c.end_event.ensures.next_tc;
+      };
+      rest = ends.rest;
+      current = ends.current;
+    } in
+    record {
+      answer = heard.Taken given;
+      tells = ap (λ (f : List Fate). heard.Taken f) fates;
+      hears = packet_to c.args.wants before c.args.arrival c.args.bytes.now c.args.out.now c.put_all.new.self c.end_event.new.outdated after c.requires.sound c.requires.later (λ i. omega (arith, c.type_inv.bytes i)) given sent
+          (c.in_ok-put_all.ensures.ok ∙ (ap (λ (f : List Frame). c.args.out.now ++ f) out ∙ ap (λ (f : List Frame). c.args.out.now ++ (f ++ sent)) c.new-sent.ensures)) leaves;
+    }

@@ -1,46 +1,59 @@
-use Rattle.std.proofs.Common.{List, OnOk}
-use Rattle.std.specs.Prelude.{All}
-use Rattle.std.proofs.lemmas.Result.{on_ok_weaker}
-use Rattle.mesh_machine.specs.declared.frame.Frame.{Frame}
-use Rattle.mesh_machine.specs.Machine.{Hear, Step}
-use Rattle.mesh_machine.specs.Sendable.{IsSendable}
-use Rattle.mesh_core.proofs.Emptied.{alone}
-use Rattle.mesh_core.proofs.EventLemmas.Hearing.{no_earlier}
-use Rattle.mesh_core.proofs.EventLemmas.Wholes.{kept_whole}
-use Rattle.mesh_core.proofs.SendingLemmas.Written.{on_ok_of}
-use Rattle.mesh_core.proofs.Spent.{where_told}
+use Rattle.std.proofs.Common.{length, refl, subst, sym, ◌<◌, ◌≤◌}
+use Rattle.mesh_atoms.specs.Sound.{Sound}
+use Rattle.mesh_core.specs.Event.Holding.{state_of}
+use Rattle.mesh_core.specs.Holding.{CoreValue}
+use Rattle.mesh_core.proofs.EventLemmas.Wholes.{current_of, sound_but}
+use Rattle.mesh_core.proofs.Spent.{where_told, where_whole}
+use Rattle.mesh_core.proofs.Until.{hear_until, sound_whole}
 use Rattle.mesh_core.proofs.network_router.CoreNetworkRouter.hear_until.Goals as goal
 
-pub hear_typed-requires-clause-now : goal.hear_typed-requires-clause-now
-hear_typed-requires-clause-now g c = c.requires.now
+pub hear_typed-came-requires-clause-now : goal.hear_typed-came-requires-clause-now
+hear_typed-came-requires-clause-now g c = c.requires.now
 
-pub hear_typed-requires-clause-later : goal.hear_typed-requires-clause-later
-hear_typed-requires-clause-later g c = c.requires.later
+pub hear_typed-came-requires-clause-later : goal.hear_typed-came-requires-clause-later
+hear_typed-came-requires-clause-later g c = subst (λ (v : CoreValue). v.state.last ≤ c.args.arrival.now) (sym c.self.view_is) c.requires.later
 
-pub hear_typed-requires-clause-iface : goal.hear_typed-requires-clause-iface
-hear_typed-requires-clause-iface g c = c.requires.iface
+pub hear_typed-came-requires-clause-iface : goal.hear_typed-came-requires-clause-iface
+hear_typed-came-requires-clause-iface g c = subst (λ (v : CoreValue). c.args.arrival.iface < length v.state.settings.interfaces) (sym c.self.view_is) c.requires.iface
+
+pub hear_typed-came-requires-clause-sound : goal.hear_typed-came-requires-clause-sound
+hear_typed-came-requires-clause-sound g c = sound_but (state_of c.self.inside.router.holding c.self.inside.router.derived) (c.self.invariant c.if-self.false)
+
+pub hear_typed-came-requires-clause-current : goal.hear_typed-came-requires-clause-current
+hear_typed-came-requires-clause-current g c = current_of c.self.inside.router.outdated (state_of c.self.inside.router.holding c.self.inside.router.derived) (c.self.invariant c.if-self.false)
 
 pub returns-clause-step : goal.returns-clause-step
 returns-clause-step g c =
-    where_told _ c.hear_typed.result c.told.result c.told.ensures
-    (on_ok_weaker c.hear_typed.result (λ step. (c.hear_typed.new.self.state, step, kept_whole c.args.until c.hear_typed.new.self.state))
-    (alone (λ (sent : List Frame). OnOk c.hear_typed.result (Step c.args.self.now.state (Hear c.args.arrival c.args.frame.now) sent c.hear_typed.new.self.state)) c.clear.new.self c.hear_typed.new.out c.clear.ensures c.hear_typed.ensures.step))
+    where_told _ c.hear_typed-came.result c.told.result c.told.ensures
+    (hear_until _ c.args.until _ _ _ _ (λ late. refl) (λ late. refl) c.hear_typed-came.result c.clear.new.self _ c.clear.ensures c.self.view_is c.hear_typed-came.ensures.hears).step
 
 pub returns-clause-sendable : goal.returns-clause-sendable
 returns-clause-sendable g c =
-    where_told _ c.hear_typed.result c.told.result c.told.ensures
-    (alone (λ (sent : List Frame). OnOk c.hear_typed.result (All (IsSendable c.args.self.now.state.settings) sent)) c.clear.new.self c.hear_typed.new.out c.clear.ensures c.hear_typed.ensures.sendable)
+    where_told _ c.hear_typed-came.result c.told.result c.told.ensures
+    (hear_until _ c.args.until _ _ _ _ (λ late. refl) (λ late. refl) c.hear_typed-came.result c.clear.new.self _ c.clear.ensures c.self.view_is c.hear_typed-came.ensures.hears).sendable
 
 pub returns-clause-settings : goal.returns-clause-settings
-returns-clause-settings g c = where_told _ c.hear_typed.result c.told.result c.told.ensures c.hear_typed.ensures.settings
+returns-clause-settings g c =
+    where_told _ c.hear_typed-came.result c.told.result c.told.ensures
+    (hear_until _ c.args.until _ _ _ _ (λ late. refl) (λ late. refl) c.hear_typed-came.result c.clear.new.self _ c.clear.ensures c.self.view_is c.hear_typed-came.ensures.hears).settings
 
 pub returns-clause-last : goal.returns-clause-last
-returns-clause-last g c = where_told _ c.hear_typed.result c.told.result c.told.ensures c.hear_typed.ensures.last
+returns-clause-last g c =
+    where_told _ c.hear_typed-came.result c.told.result c.told.ensures
+    (hear_until _ c.args.until _ _ _ _ (λ late. refl) (λ late. refl) c.hear_typed-came.result c.clear.new.self _ c.clear.ensures c.self.view_is c.hear_typed-came.ensures.hears).last
 
 pub returns-clause-no_earlier : goal.returns-clause-no_earlier
 returns-clause-no_earlier g c =
-    where_told _ c.hear_typed.result c.told.result c.told.ensures
-    (on_ok_of c.hear_typed.result (λ answer hears. no_earlier _ _ _ answer _ _ c.requires.later hears) c.hear_typed.ensures.answer)
+    where_told _ c.hear_typed-came.result c.told.result c.told.ensures
+    (hear_until _ c.args.until _ _ _ _ (λ late. refl) (λ late. refl) c.hear_typed-came.result c.clear.new.self _ c.clear.ensures c.self.view_is c.hear_typed-came.ensures.hears).no_earlier
 
 pub returns-clause-due : goal.returns-clause-due
-returns-clause-due g c = where_told _ c.hear_typed.result c.told.result c.told.ensures c.hear_typed.ensures.due
+returns-clause-due g c =
+    where_told _ c.hear_typed-came.result c.told.result c.told.ensures
+    (hear_until _ c.args.until _ _ _ _ (λ late. refl) (λ late. refl) c.hear_typed-came.result c.clear.new.self _ c.clear.ensures c.self.view_is c.hear_typed-came.ensures.hears).due
+
+pub invariant_of-self : goal.invariant_of-self
+invariant_of-self g c =
+    where_whole c.hear_typed-came.result c.is_err-self-inside.ensures.value
+    (sound_whole _ _ _ _ _ _ c.hear_typed-came.result (subst (λ (v : CoreValue). Sound v.state) c.self.view_is (c.self.invariant c.if-self.false))
+    (hear_until _ 0 _ _ _ _ (λ late. refl) (λ late. refl) c.hear_typed-came.result c.clear.new.self _ c.clear.ensures c.self.view_is c.hear_typed-came.ensures.hears))

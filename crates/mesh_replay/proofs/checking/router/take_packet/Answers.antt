@@ -12,10 +12,6 @@ use Rattle.mesh_trace.proofs.machine.Takes.{packet_spelled}
 use Rattle.mesh_replay.proofs.RouterLemmas.Following.{live_after}
 use Rattle.mesh_replay.proofs.checking.router.take_packet.Goals as goal
 
-pub take_messages-requires-clause-own : goal.take_messages-requires-clause-own
-take_messages-requires-clause-own g c =
-    subst (λ (r : RouterSettings). IsOriginator r c.originator-own.result) (c.settings.ensures ∙ sym c.in_ok-idle.ensures.settings) c.originator-own.ensures.is
-
 pub take_messages-requires-clause-sound : goal.take_messages-requires-clause-sound
 take_messages-requires-clause-sound g c =
     live_after c.args.holding.now.settings c.expire.new.self.settings c.args.last c.args.arrival.now c.args.holding.now.bases c.expire.new.self.bases c.requires.sound c.in_ok-idle.ensures.live c.in_ok-idle.ensures.settings
@@ -28,16 +24,14 @@ returns-clause-settings g c = c.take_messages.ensures.settings ∙ c.in_ok-idle.
 
 pub returns-clause-sound : goal.returns-clause-sound
 returns-clause-sound g c =
-    let (given, sent, fates, out, takes) = c.in_ok-quiet.ensures.taken in
+    let (own, given, sent, is_own, out, takes) = c.in_ok-quiet.ensures.taken in
     subst (λ (r : RouterSettings). SoundBases r c.args.arrival.now c.take_messages.new.self.bases) (sym c.take_messages.ensures.settings)
-    (messages_sound c.expire.new.self.settings c.originator-own.result c.args.arrival c.args.bytes.now c.expire.new.self.bases _ _ c.take_messages.new.self.bases sent given
-    (subst (λ (r : RouterSettings). IsOriginator r c.originator-own.result) (c.settings.ensures ∙ sym c.in_ok-idle.ensures.settings) c.originator-own.ensures.is)
+    (messages_sound c.expire.new.self.settings own c.args.arrival c.args.bytes.now c.expire.new.self.bases _ _ c.take_messages.new.self.bases sent given is_own
     (live_after c.args.holding.now.settings c.expire.new.self.settings c.args.last c.args.arrival.now c.args.holding.now.bases c.expire.new.self.bases c.requires.sound c.in_ok-idle.ensures.live c.in_ok-idle.ensures.settings) takes)
 
 pub returns-clause-takes : goal.returns-clause-takes
 returns-clause-takes g c =
-    let (given, sent, fates, out, takes) = c.in_ok-quiet.ensures.taken in
-    let own = c.originator-own.result in
+    let (own, given, sent, is_own, out, takes) = c.in_ok-quiet.ensures.taken in
     let by_settings = subst (λ (r : RouterSettings). TakesMessages r own c.args.arrival c.args.bytes.now c.expire.new.self.bases (map fields_of_message c.as_slice.result.now) c.as_slice-2.result.now c.take_messages.new.self.bases sent given)
     c.in_ok-idle.ensures.settings takes in
     let by_messages = subst (λ (ms : List Message). TakesMessages c.args.holding.now.settings own c.args.arrival c.args.bytes.now c.expire.new.self.bases (map fields_of_message ms) c.as_slice-2.result.now c.take_messages.new.self.bases sent given)
@@ -51,7 +45,7 @@ returns-clause-takes g c =
         spans = c.args.decoded.now.spans;
         spelled = c.requires.spelled;
         own = own;
-        is_own = subst (λ (r : RouterSettings). IsOriginator r own) c.settings.ensures c.originator-own.ensures.is;
+        is_own = subst (λ (r : RouterSettings). IsOriginator r own) c.in_ok-idle.ensures.settings is_own;
         live = c.expire.new.self.bases;
         is_live = c.in_ok-idle.ensures.live;
         fates = given;

@@ -1,9 +1,10 @@
-use Rattle.std.proofs.Common.{◌≡◌, ◌++◌, IsTrue, List, length, sym, subst, ap, ◌∙◌, ◌<◌}
+use Rattle.std.proofs.Common.{◌<◌, ◌∙◌, IsTrue, length, subst, sym}
 use Rattle.mesh_atoms.specs.declared.settings.RouterSettings.{RouterSettings}
 use Rattle.mesh_atoms.specs.State.{IsOriginator}
+use Rattle.mesh_packet.specs.Grammar.{Spells}
+use Rattle.mesh_core.specs.Reading.Content.{AreReadAs}
 use Rattle.mesh_core.proofs.HeldLemmas.Quiet.{advertised_after, both_true, near_after}
 use Rattle.mesh_core.proofs.HeldLemmas.Taken.{live_held, taken_held}
-use Rattle.mesh_machine.specs.declared.fate.Fate.{Fate}
 use Rattle.mesh_machine.specs.Messages.{TakesMessages}
 use Rattle.mesh_machine.proofs.Takes.{packet_spelled}
 use Rattle.mesh_core.proofs.held.holding.InformationBases.take_frame.Goals as goal
@@ -20,15 +21,15 @@ take_typed-requires-clause-now g c = c.requires.now
 pub take_typed-requires-clause-iface : goal.take_typed-requires-clause-iface
 take_typed-requires-clause-iface g c = subst (λ (r : RouterSettings). c.args.arrival.iface < length r.interfaces) (sym c.in_ok-idle.ensures.settings) c.requires.iface
 
-pub take_typed-requires-clause-own : goal.take_typed-requires-clause-own
-take_typed-requires-clause-own g c =
-    subst (λ (r : RouterSettings). IsOriginator r c.originator-own.result) (c.settings-2.ensures ∙ sym c.in_ok-idle.ensures.settings) c.originator-own.ensures.is
-
 pub take_typed-requires-clause-sound : goal.take_typed-requires-clause-sound
 take_typed-requires-clause-sound g c = live_held c.args.self.now c.expire.new.self c.args.last c.args.arrival.now c.requires.sound c.in_ok-idle.ensures.live c.in_ok-idle.ensures.settings
 
 pub take_typed-requires-clause-messages : goal.take_typed-requires-clause-messages
-take_typed-requires-clause-messages g c = let (packet, spells, reads) = c.requires.packet in (packet.messages, packet_spelled c.args.bytes.now packet _ spells, reads)
+take_typed-requires-clause-messages g c =
+    let (packet, spells, reads) = c.requires.packet in
+    let spelled : Spells packet c.as_slice-spans.result.now c.args.bytes.now = rw c.as_slice-spans.ensures spells in
+    let read : AreReadAs packet.messages c.as_slice-typed.result.now = rw c.as_slice-typed.ensures reads in
+    (packet.messages, packet_spelled c.args.bytes.now packet c.as_slice-spans.result.now spelled, read)
 
 pub returns-clause-settings : goal.returns-clause-settings
 returns-clause-settings g c = c.take_typed.ensures.settings ∙ c.in_ok-idle.ensures.settings
@@ -36,39 +37,42 @@ returns-clause-settings g c = c.take_typed.ensures.settings ∙ c.in_ok-idle.ens
 pub returns-clause-taken : goal.returns-clause-taken
 returns-clause-taken g c =
     let (packet, spells, reads) = c.requires.packet in
-    let (given, sent, fates, out, takes) = c.in_ok-quiet.ensures.taken in
-    let own = c.originator-own.result in
-    let all : c.take_typed.new.fates ≡ given = fates ∙ ap (λ (f : List Fate). f ++ given) c.new-fates.ensures in
-    let by_settings = subst (λ (r : RouterSettings). TakesMessages r own c.args.arrival c.args.bytes.now c.expire.new.self.bases packet.messages c.args.spans.now c.take_typed.new.self.bases sent given)
-    c.in_ok-idle.ensures.settings (takes packet.messages (packet_spelled c.args.bytes.now packet c.args.spans.now spells) reads) in (
+    let spelled : Spells packet c.as_slice-spans.result.now c.args.bytes.now = rw c.as_slice-spans.ensures spells in
+    let read : AreReadAs packet.messages c.as_slice-typed.result.now = rw c.as_slice-typed.ensures reads in
+    let (own, given, sent, is_own, fates, out, takes) = c.in_ok-fates.ensures.taken in (
+      given,
       sent,
+      fates,
       out,
       record {
         packet = packet;
-        spans = c.args.spans.now;
-        spelled = spells;
+        spans = c.as_slice-spans.result.now;
+        spelled = spelled;
         own = own;
-        is_own = subst (λ (r : RouterSettings). IsOriginator r own) c.settings-2.ensures c.originator-own.ensures.is;
+        is_own = subst (λ (r : RouterSettings). IsOriginator r own) c.in_ok-idle.ensures.settings is_own;
         live = c.expire.new.self.bases;
         is_live = c.in_ok-idle.ensures.live;
-        takes = subst (λ (f : List Fate). TakesMessages c.args.self.now.settings own c.args.arrival c.args.bytes.now c.expire.new.self.bases packet.messages c.args.spans.now c.take_typed.new.self.bases sent f) (sym all) by_settings;
+        takes = subst (λ (r : RouterSettings). TakesMessages r own c.args.arrival c.args.bytes.now c.expire.new.self.bases packet.messages c.as_slice-spans.result.now c.take_typed.new.self.bases sent given) c.in_ok-idle.ensures.settings
+            (takes packet.messages (packet_spelled c.args.bytes.now packet c.as_slice-spans.result.now spelled) read);
       },
     )
 
 pub returns-clause-sound : goal.returns-clause-sound
 returns-clause-sound g c =
     let (packet, spells, reads) = c.requires.packet in
-    let (given, sent, fates, out, takes) = c.in_ok-quiet.ensures.taken in
-    taken_held c.args.self.now c.expire.new.self c.take_typed.new.self c.args.last c.originator-own.result c.args.arrival c.args.bytes.now packet.messages c.args.spans.now sent given
-    c.requires.sound c.in_ok-idle.ensures.live c.in_ok-idle.ensures.settings (subst (λ (r : RouterSettings). IsOriginator r c.originator-own.result) c.settings-2.ensures c.originator-own.ensures.is) c.take_typed.ensures.settings
-    (takes packet.messages (packet_spelled c.args.bytes.now packet c.args.spans.now spells) reads)
+    let spelled : Spells packet c.as_slice-spans.result.now c.args.bytes.now = rw c.as_slice-spans.ensures spells in
+    let read : AreReadAs packet.messages c.as_slice-typed.result.now = rw c.as_slice-typed.ensures reads in
+    let (own, given, sent, is_own, fates, out, takes) = c.in_ok-fates.ensures.taken in
+    taken_held c.args.self.now c.expire.new.self c.take_typed.new.self c.args.last own c.args.arrival c.args.bytes.now packet.messages c.as_slice-spans.result.now sent given
+    c.requires.sound c.in_ok-idle.ensures.live c.in_ok-idle.ensures.settings (subst (λ (r : RouterSettings). IsOriginator r own) c.in_ok-idle.ensures.settings is_own) c.take_typed.ensures.settings
+    (takes packet.messages (packet_spelled c.args.bytes.now packet c.as_slice-spans.result.now spelled) read)
 
 pub returns-clause-near : goal.returns-clause-near
 returns-clause-near g c = λ both.
-    let (idle, quiet) = both_true c.in_ok-idle.idle.near c.in_ok-quiet.quiet.near (subst IsTrue c.and.ensures.near both) in
-    near_after c.args.self.now.bases.neighbourhood c.args.last c.expire.new.self.bases.neighbourhood c.args.arrival.now c.take_typed.new.self.bases.neighbourhood c.args.arrival.now (c.in_ok-idle.ensures.near idle) (c.in_ok-quiet.ensures.near quiet)
+    let (idle, quiet) = both_true c.in_ok-idle.idle.near c.in_ok-fates.quiet.near (subst IsTrue c.and.ensures.near both) in
+    near_after c.args.self.now.bases.neighbourhood c.args.last c.expire.new.self.bases.neighbourhood c.args.arrival.now c.take_typed.new.self.bases.neighbourhood c.args.arrival.now (c.in_ok-idle.ensures.near idle) (c.in_ok-fates.ensures.near quiet)
 
 pub returns-clause-advertised : goal.returns-clause-advertised
 returns-clause-advertised g c = λ both.
-    let (idle, quiet) = both_true c.in_ok-idle.idle.advertised c.in_ok-quiet.quiet.advertised (subst IsTrue c.and.ensures.advertised both) in
-    advertised_after c.args.self.now.bases.topology c.expire.new.self.bases.topology c.take_typed.new.self.bases.topology (c.in_ok-idle.ensures.advertised idle) (c.in_ok-quiet.ensures.advertised quiet)
+    let (idle, quiet) = both_true c.in_ok-idle.idle.advertised c.in_ok-fates.quiet.advertised (subst IsTrue c.and.ensures.advertised both) in
+    advertised_after c.args.self.now.bases.topology c.expire.new.self.bases.topology c.take_typed.new.self.bases.topology (c.in_ok-idle.ensures.advertised idle) (c.in_ok-fates.ensures.advertised quiet)

@@ -28,6 +28,9 @@ process_tc-requires-clause-times g c = c.self.invariant
 pub process_tc-requires-clause-message : goal.process_tc-requires-clause-message
 process_tc-requires-clause-message g c = let (message, spelled, reads) = c.requires.message in (message, spelled, (rw c.in-Tc.is at reads).heading_is)
 
+pub process_tc-requires-clause-octets : goal.process_tc-requires-clause-octets
+process_tc-requires-clause-octets g c = λ i. omega (arith, c.type_inv.octets i)
+
 pub process_tc-requires-clause-validity : goal.process_tc-requires-clause-validity
 process_tc-requires-clause-validity g c = let (message, spelled, reads) = c.requires.message in let below = (rw c.in-Tc.is at reads).validity in omega (arith, below)
 

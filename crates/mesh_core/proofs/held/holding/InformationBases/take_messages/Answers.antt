@@ -3,11 +3,11 @@ use Rattle.mesh_packet.specs.Fields.{fields_of_message}
 use Rattle.mesh_core.specs.declared.reading.message.TypedMessage.{TypedMessage}
 use Rattle.mesh_core.specs.Reading.Content.{AreReadAs}
 use Rattle.mesh_core.proofs.held.holding.InformationBases.take_messages.Goals as goal
-use Rattle.mesh_atoms.proofs.Options.{on_ok_weaker}
 
 pub take_typed-requires-clause-messages : goal.take_typed-requires-clause-messages
 take_typed-requires-clause-messages g c = (map fields_of_message c.args.messages.now, c.requires.spelled, rw c.as_slice.ensures c.in_ok-typed.ensures)
 
 pub returns-clause-taken : goal.returns-clause-taken
 returns-clause-taken g c =
-    on_ok_weaker c.take_typed.result (λ (given, sent, fates, out, takes). (given, sent, fates, out, takes (map fields_of_message c.args.messages.now) c.requires.spelled (rw c.as_slice.ensures c.in_ok-typed.ensures))) c.take_typed.ensures.taken
+    let (own, given, sent, is_own, fates, out, takes) = c.in_ok-quiet.ensures.taken in
+    (own, given, sent, is_own, out, takes (map fields_of_message c.args.messages.now) c.requires.spelled (rw c.as_slice.ensures c.in_ok-typed.ensures))
