@@ -66,11 +66,7 @@ returns c =
       loss_until = refl;
       seed_is = refl;
       count = made_count _ ss ds same ∙ c.in_ok-stated.ensures.count;
-      routers = made_routers _ (record {
-        are_neighbour = record { is_hello = refl; is_hold = refl; is_link_hold = refl; is_neighbour_hold = refl };
-        are_topology = record { is_tc = refl; is_topology_hold = refl; is_advertised_hold = refl };
-        are_message = record { is_received_hold = refl; is_processed_hold = refl; is_forwarded_hold = refl; is_hop_limit = refl };
-      }) ss ds same c.in_ok-stated.ensures.stated;
+      routers = made_routers _ (record { are_intervals = refl; is_hop_limit = refl }) ss ds same c.in_ok-stated.ensures.stated;
       senders = made_senders _ ss ds same arcs have;
       qualities = made_qualities _ ss ds same (with_steps arcs []) admit;
       pairs = c.in_ok-pairs.pairs;
