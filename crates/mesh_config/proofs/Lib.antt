@@ -12,4 +12,3 @@ mod RunTablesLemmas
 mod Said
 mod StatedLemmas
 mod Told
-mod ToldRun

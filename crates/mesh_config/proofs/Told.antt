@@ -13,7 +13,6 @@ use Rattle.mesh_config.specs.declared.stated.stated.StatedScenario.{StatedScenar
 use Rattle.mesh_config.specs.declared.keys.fault.ConfigFault.{ConfigFault}
 use Rattle.mesh_config.specs.Keys.Faults.{Fault, first, listed, ValueOrFault}
 use Rattle.mesh_config.specs.Stated.Tables.{Each}
-use Rattle.mesh_config.specs.Keys.Document.{document}
 use Rattle.mesh_config.specs.Stated.Steps.{StepsAre}
 use Rattle.mesh_config.specs.Stated.Times.{TimesIs}
 use Rattle.mesh_config.specs.Stated.Router.{interfaces, InterfaceIs, RouterIs, AreInterfaceFields, AreRouterFields, stated_interface_fields}
@@ -25,21 +24,13 @@ use Rattle.mesh_config.specs.Checks.Compared.{arc_fields}
 use Rattle.mesh_config.specs.Fields.{interface_fields, RouterParts, settings_parts, stated_parts}
 use Rattle.mesh_config.specs.Built.{stated_visits, BuiltFrom}
 use Rattle.mesh_config.specs.Senders.{stated_steps}
-use Rattle.mesh_config.specs.Settings.{InterfaceSays, RouterSays, ArcSays, ScenarioSays, SettingsIs, refusals}
-use Rattle.mesh_config.proofs.KeysLemmas.Parts.{first_one}
+use Rattle.mesh_config.specs.Settings.{InterfaceSays, RouterSays, ArcSays, ScenarioSays}
 use Rattle.mesh_config.proofs.Said.{all_named_same, places_same, thresholds_say}
 use Rattle.mesh_config.proofs.StatedLemmas.Elements.{Each-along, Each-map}
 
 pub answers_along : {X : Type 0} (Is Says : X → Type 0) (found found' : Option Fault) (r : Result X ConfigFault) → found' ≡ found → ((x : X) → Is x → Says x) → ValueOrFault Is found r → ValueOrFault Says found' r
 answers_along Is Says found found' (Ok x) same h met = (same ∙ met.0, h x met.1)
 answers_along Is Says found found' (Err e) same h met = rw same met
-
--- a text
-pub text_answers : (text : List ℕ) (table : Members) (r : Result Scenario ConfigFault) → document text ≡ Ok table → ValueOrFault (ScenarioSays table) (first (scenario_visits table)) r
-    → ValueOrFault (SettingsIs text) (first (refusals text)) r
-text_answers text table r is met =
-    let same : first (refusals text) ≡ first (scenario_visits table) = rw is (first_one (first (scenario_visits table))) in
-    answers_along (ScenarioSays table) (SettingsIs text) (first (scenario_visits table)) (first (refusals text)) r same (λ s says. (table, (is, says))) met
 
 -- an interface, a router, an arc
 interfaces_say : (ds : List Data) (xs : List StatedInterface) (ys : List Interface) → map interface_fields ys ≡ map stated_interface_fields xs → Each InterfaceIs ds xs → Each InterfaceSays ds ys

@@ -17,9 +17,9 @@ use Rattle.mesh_config.specs.declared.stated.stated.StatedRouter.{StatedRouter}
 use Rattle.mesh_config.specs.declared.run_tables.stated.StatedRun.{StatedRun}
 use Rattle.mesh_config.specs.declared.run_tables.stated.StatedRunInterface.{StatedRunInterface}
 use Rattle.mesh_config.specs.declared.run_tables.stated.StatedRunRouter.{StatedRunRouter}
-use Rattle.mesh_config.specs.Keys.Faults.{ReadValue, Visits, fault, visit, first, listed}
+use Rattle.mesh_config.specs.Keys.Faults.{ReadValue, Visits, fault, first, listed}
 use Rattle.mesh_config.specs.Stated.Tables.{Each}
-use Rattle.mesh_config.specs.Keys.Document.{document}
+use Rattle.mesh_config.specs.Keys.Document.{TextSays, text_visits}
 use Rattle.mesh_config.specs.Stated.Times.{TimesIs}
 use Rattle.mesh_config.specs.Stated.Router.{InterfaceFields, stated_interface_fields, AreRouterFields, head_fields, name, addresses, interfaces, attached, AttachedIs}
 use Rattle.mesh_config.specs.Stated.Scenario.{end_moment, sub_times}
@@ -80,11 +80,11 @@ setup_visits table = first (run_table_visits table) ∷ first (run_checks (the_r
 
 -- the setup is what the text says
 abbrev pub SetupIs : List ℕ → RunSetup → Type 0
-SetupIs text setup = (table : Members) × ((document text ≡ Ok table) × SetupSays table setup)
+SetupIs = TextSays SetupSays
 
 -- the visits of a text, as a list
 abbrev pub run_refusals : List ℕ → Visits
-run_refusals text = visit (document text) ∷ first (setup_visits (table_read (document text))) ∷ []
+run_refusals = text_visits setup_visits
 
 -- the first fault of a text has that number and that key
 abbrev pub FirstRunRefusal : List ℕ → ℕ → List ℕ → Type 0

@@ -1,20 +1,19 @@
 -- What the text says of a scenario, and its first refusal.
-use Rattle.std.specs.Prelude.{◌≡◌, ℕ, List, [], ◌∷◌, map, All, Some, Ok}
+use Rattle.std.specs.Prelude.{◌≡◌, ℕ, List, map, All, Some, Ok}
 use Rattle.toml.specs.Data.{Members}
 use Rattle.mesh_atoms.specs.declared.admit.QualityStep.{QualityStep}
 use Rattle.mesh_atoms.specs.declared.settings.Interface.{Interface}
 use Rattle.mesh_atoms.specs.declared.settings.RadioArc.{RadioArc}
 use Rattle.mesh_atoms.specs.declared.settings.RouterSettings.{RouterSettings}
 use Rattle.mesh_atoms.specs.declared.settings.Scenario.{Scenario}
-use Rattle.mesh_config.specs.Keys.Faults.{Visits, fault, visit, first, listed}
+use Rattle.mesh_config.specs.Keys.Faults.{Visits, fault, first, listed}
 use Rattle.mesh_config.specs.Stated.Tables.{Each}
-use Rattle.mesh_config.specs.Keys.Document.{document}
+use Rattle.mesh_config.specs.Keys.Document.{TextSays, text_visits}
 use Rattle.mesh_config.specs.Stated.Times.{TimesIs}
 use Rattle.mesh_config.specs.Stated.Rules.{AreThresholds}
 use Rattle.mesh_config.specs.Stated.Steps.{StepsAre}
 use Rattle.mesh_config.specs.Stated.Router.{AreInterfaceFields, AreRouterFields, interfaces, attached, AttachedIs}
 use Rattle.mesh_config.specs.Stated.Scenario.{end_moment, seed, loss_until, sub_times, routers, arcs, AreArcFields}
-use Rattle.mesh_config.specs.Keys.Values.{table_read}
 use Rattle.mesh_config.specs.Checks.Checks.{arc_ends, scenario_visits}
 use Rattle.mesh_config.specs.Checks.Compared.{ends_of}
 use Rattle.mesh_config.specs.Checks.Compared.{arc_fields}
@@ -56,11 +55,11 @@ pub record ScenarioSays (table : Members) (scenario : Scenario) : Type 0 where
 
 -- the scenario is what the text says
 abbrev pub SettingsIs : List ℕ → Scenario → Type 0
-SettingsIs text scenario = (table : Members) × ((document text ≡ Ok table) × ScenarioSays table scenario)
+SettingsIs = TextSays ScenarioSays
 
 -- the visits of a text, as a list
 abbrev pub refusals : List ℕ → Visits
-refusals text = visit (document text) ∷ first (scenario_visits (table_read (document text))) ∷ []
+refusals = text_visits scenario_visits
 
 -- the first fault of a text has that number and that key
 abbrev pub FirstRefusal : List ℕ → ℕ → List ℕ → Type 0

@@ -10,6 +10,7 @@ mod running;
 mod senders;
 mod setup;
 mod stated;
+mod text;
 
 pub use build::make_routers;
 pub use checks::{Compared, all_joined, are_distinct, no_duplicates, refuse_duplicates};

@@ -1,15 +1,14 @@
 //! A scenario out of its text.
 ghost use Rattle.std.specs.Prelude.{◌≡◌, None, IfOk, IfErr};
-ghost use Rattle.toml.specs.View.{table_view};
 ghost use Rattle.mesh_config.specs.Keys.Faults.{ValueOrFault, first, IfSettingRefused};
-ghost use Rattle.mesh_config.specs.Checks.Checks.{scenario_visits};
 ghost use Rattle.mesh_config.specs.Built.{stated_visits, BuiltFrom};
-ghost use Rattle.mesh_config.specs.Settings.{ScenarioSays, SettingsIs, refusals, FirstRefusal};
+ghost use Rattle.mesh_config.specs.Settings.{SettingsIs, refusals, FirstRefusal};
 
 use crate::build::make_routers;
 use crate::checks::{all_joined, no_duplicates};
-use crate::keys::{ConfigFault, document};
-use crate::stated::{StatedScenario, stated_scenario};
+use crate::keys::ConfigFault;
+use crate::stated::{FromTable, StatedScenario, stated_scenario};
+use crate::text::from_text;
 use mesh_atoms::Scenario;
 use std::alloc::Global;
 use toml::Table;
@@ -32,18 +31,18 @@ fn checked(alloc: Global, stated: &StatedScenario) -> Result<Scenario, ConfigFau
     })
 }
 
-fn scenario_in(alloc: Global, table: &Table) -> Result<Scenario, ConfigFault>
-    ensures { ValueOrFault (ScenarioSays (table_view table.now)) (first (scenario_visits (table_view table.now))) result }
-{
-    let stated = stated_scenario(alloc, table)?;
-    checked(alloc, &stated)
-}
+impl FromTable for Scenario {
+    ghost use Rattle.mesh_config.specs.Checks.Checks.{scenario_visits};
+    ghost use Rattle.mesh_config.specs.Settings.{ScenarioSays};
 
-fn scenario_read(alloc: Global, text: &[u8]) -> Result<Scenario, ConfigFault>
-    ensures { ValueOrFault (SettingsIs text.now) (first (refusals text.now)) result }
-{
-    let table = document(alloc, text)?;
-    scenario_in(alloc, &table)
+    ghost visits = { scenario_visits };
+
+    ghost says = { ScenarioSays };
+
+    fn from_table(alloc: Global, table: &Table) -> Result<Scenario, ConfigFault> {
+        let stated = stated_scenario(alloc, table)?;
+        checked(alloc, &stated)
+    }
 }
 
 /// The scenario that the text says, or the first refusal: the number of the fault and the key that it is printed with.
@@ -53,5 +52,5 @@ pub fn scenario_of(alloc: Global, text: &[u8]) -> Result<Scenario, ConfigFault>
     ensures clear { IfOk result (λ _. first (refusals text.now) ≡ None) }
     ensures refused { IfErr result (IfSettingRefused (FirstRefusal text.now)) }
 {
-    scenario_read(alloc, text)
+    from_text(alloc, text)
 }

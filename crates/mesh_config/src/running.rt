@@ -1,17 +1,17 @@
 //! The setup of `run` out of its text.
 ghost use Rattle.std.specs.Prelude.{◌≡◌, [], ◌∷◌, None, true, IfOk, IfErr};
-ghost use Rattle.toml.specs.View.{table_view};
 ghost use Rattle.mesh_config.specs.Keys.Faults.{ValueOrFault, first, IfSettingRefused};
 ghost use Rattle.mesh_config.specs.Checks.Checks.{duplicates};
 ghost use Rattle.mesh_config.specs.Fields.{IsClear};
-ghost use Rattle.mesh_config.specs.RunSettings.{OutlineOf, run_identifiers, stated_run_checks, SetupFrom, senders_checked, SetupSays, setup_visits, SetupIs, run_refusals, FirstRunRefusal};
+ghost use Rattle.mesh_config.specs.RunSettings.{OutlineOf, run_identifiers, stated_run_checks, SetupFrom, senders_checked, SetupIs, run_refusals, FirstRunRefusal};
 
 use crate::build::router_from;
 use crate::checks::{no_duplicates, refuse_duplicates};
-use crate::keys::{ConfigFault, document};
+use crate::keys::ConfigFault;
 use crate::run_tables::{StatedRun, StatedRunRouter, stated_run};
 use crate::setup::{outline, run_interfaces, run_ports, senders_distinct};
-use crate::stated::StatedRouter;
+use crate::stated::{FromTable, StatedRouter};
+use crate::text::from_text;
 use mesh_atoms::RunSetup;
 use std::alloc::{AllocError, Global};
 use toml::Table;
@@ -62,18 +62,17 @@ fn checked_run(alloc: Global, stated: &StatedRun) -> Result<RunSetup, ConfigFaul
     }
 }
 
-fn setup_in(alloc: Global, table: &Table) -> Result<RunSetup, ConfigFault>
-    ensures { ValueOrFault (SetupSays (table_view table.now)) (first (setup_visits (table_view table.now))) result }
-{
-    let stated = stated_run(alloc, table)?;
-    checked_run(alloc, &stated)
-}
+impl FromTable for RunSetup {
+    ghost use Rattle.mesh_config.specs.RunSettings.{setup_visits, SetupSays};
 
-fn setup_read(alloc: Global, text: &[u8]) -> Result<RunSetup, ConfigFault>
-    ensures { ValueOrFault (SetupIs text.now) (first (run_refusals text.now)) result }
-{
-    let table = document(alloc, text)?;
-    setup_in(alloc, &table)
+    ghost visits = { setup_visits };
+
+    ghost says = { SetupSays };
+
+    fn from_table(alloc: Global, table: &Table) -> Result<RunSetup, ConfigFault> {
+        let stated = stated_run(alloc, table)?;
+        checked_run(alloc, &stated)
+    }
 }
 
 /// The setup of `run` that the text says, or the first refusal: the number of the fault and the key that it is printed with.
@@ -82,5 +81,5 @@ pub fn router_of(alloc: Global, text: &[u8]) -> Result<RunSetup, ConfigFault>
     ensures clear { IfOk result (λ _. first (run_refusals text.now) ≡ None) }
     ensures refused { IfErr result (IfSettingRefused (FirstRunRefusal text.now)) }
 {
-    setup_read(alloc, text)
+    from_text(alloc, text)
 }

@@ -1,11 +1,12 @@
 -- A text, read as TOML.
-use Rattle.std.specs.Prelude.{ℕ, List, length, codes, Option, Some, None, Ok, Err, nat_lt, if◌then◌else◌}
+use Rattle.std.specs.Prelude.{◌≡◌, ℕ, List, [], ◌∷◌, length, codes, Option, Some, None, Ok, Err, nat_lt, if◌then◌else◌}
 use Rattle.std.specs.Str.{is_utf8}
 use Rattle.toml.specs.Data.{Members}
 use Rattle.toml.specs.Parse.{parse_document}
 use Rattle.mesh_config.specs.declared.keys.parse.TheConstants.{MOST_OCTETS}
 use Rattle.mesh_config.specs.declared.keys.refusal.TheConstants.{NOT_TOML, TOO_LONG}
-use Rattle.mesh_config.specs.Keys.Faults.{ReadValue, fault}
+use Rattle.mesh_config.specs.Keys.Faults.{ReadValue, Visits, fault, visit, first}
+use Rattle.mesh_config.specs.Keys.Values.{table_read}
 
 -- the table that the text spells, where it is text at all
 abbrev pub parsed : List ℕ → Option Members
@@ -19,3 +20,11 @@ table_or_fault (Some table) = Ok table
 -- the top table: of at most so many octets, which are TOML
 abbrev pub document : List ℕ → ReadValue Members
 document octets = if nat_lt MOST_OCTETS (length octets) then Err (fault TOO_LONG (codes "input")) else table_or_fault (parsed octets)
+
+-- the value is what the text says, where its top table says it
+abbrev pub TextSays : {X : Type 0} → (Members → X → Type 0) → List ℕ → X → Type 0
+TextSays Says text x = (table : Members) × ((document text ≡ Ok table) × Says table x)
+
+-- the text is visited, and then its top table
+abbrev pub text_visits : (Members → Visits) → List ℕ → Visits
+text_visits visits text = visit (document text) ∷ first (visits (table_read (document text))) ∷ []
