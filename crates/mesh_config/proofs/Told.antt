@@ -1,5 +1,5 @@
 -- What the top calls tell.
-use Rattle.std.proofs.Common.{◌≡◌, ℕ, List, [], map, Option, None, Result, Ok, Err, sym, ap, ◌∙◌, subst}
+use Rattle.std.proofs.Common.{◌≡◌, List, [], map, Option, None, Result, Ok, Err, sym, ap, ◌∙◌, subst}
 use Rattle.toml.specs.Data.{Data, Members}
 use Rattle.mesh_atoms.specs.declared.settings.Interface.{Interface}
 use Rattle.mesh_atoms.specs.declared.settings.RadioArc.{RadioArc}

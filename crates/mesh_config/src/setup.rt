@@ -9,7 +9,7 @@ ghost use Rattle.mesh_config.specs.RunSettings.{run_interface_fields, stated_run
 
 use crate::checks::are_distinct;
 use crate::run_tables::{StatedRunInterface, StatedRunRouter};
-use crate::stated::{RouterHead, StatedInterface, StatedRouter, Thresholds};
+use crate::stated::{StatedInterface, StatedRouter, Thresholds};
 use mesh_atoms::{Admit, Interface, Port, SenderQuality, Seq};
 use std::alloc::{AllocError, Global};
 
@@ -34,19 +34,10 @@ pub fn outline(alloc: Global, stated: &StatedRunRouter) -> Result<StatedRouter, 
     ensures { IfOk result (OutlineOf stated.now) }
 {
     let interfaces = outline_interfaces(alloc, stated.interfaces.as_slice())?;
-    let name = stated.head.name.copy()?;
+    let head = stated.head.copy()?;
     let attached = stated.attached.copy()?;
-    let near_hold = stated.head.near_hold.copy()?;
     Ok(StatedRouter {
-        head: RouterHead {
-            name,
-            willing: stated.head.willing,
-            thresholds: stated.head.thresholds,
-            tc_rows: stated.head.tc_rows,
-            near_hold,
-            hello_at: stated.head.hello_at,
-            tc_at: stated.head.tc_at,
-        },
+        head,
         interfaces,
         attached,
     })

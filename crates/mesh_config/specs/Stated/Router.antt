@@ -10,12 +10,11 @@ use Rattle.mesh_atoms.specs.Codes.Codes.{metric_value}
 use Rattle.mesh_atoms.specs.Literals.{name_of, address_of, net_of}
 use Rattle.mesh_config.specs.declared.stated.stated.StatedRouter.{StatedRouter}
 use Rattle.mesh_config.specs.declared.stated.stated.RouterHead.{RouterHead}
-use Rattle.mesh_config.specs.declared.stated.stated.RouterRules.{RouterRules}
 use Rattle.mesh_config.specs.declared.stated.stated.StatedInterface.{StatedInterface}
 use Rattle.mesh_config.specs.Keys.Faults.{ReadValue, Visits, visit, first, listed, then_turned}
 use Rattle.mesh_config.specs.Keys.Values.{optional, required, whole, text, array, array_or_none, each_turned, unknown, is_one_of, ticks}
 use Rattle.mesh_config.specs.Stated.Tables.{tables_visits, Each}
-use Rattle.mesh_config.specs.Stated.Rules.{threshold_visits, AreThresholds, tc_visits, AreTcs}
+use Rattle.mesh_config.specs.Stated.Rules.{threshold_visits, AreThresholds, tc_rows, near_holds_visits, NearHoldsAre}
 
 -- a moment up to an hour, in ticks; 0 where it is absent
 abbrev pub moment : List ℕ → Members → ReadValue ℕ
@@ -132,22 +131,19 @@ router_keys =
     codes "name" ∷ codes "flooding" ∷ codes "routing" ∷ codes "hyst_accept" ∷ codes "hyst_reject" ∷ codes "tc_rows" ∷ codes "near_hold"
     ∷ codes "hello_at_ms" ∷ codes "tc_at_ms" ∷ codes "interface" ∷ codes "attached" ∷ []
 
--- the willingness for flooding is visited, and then that for routing
-abbrev pub willing_visits : Members → Visits
-willing_visits table = visit (flooding table) ∷ visit (routing table) ∷ []
-
--- the moment of the first HELLO is visited, and then that of the first TC
-abbrev pub start_visits : Members → Visits
-start_visits table = visit (hello_at table) ∷ visit (tc_at table) ∷ []
-
--- the keys of a router between its name and its interfaces
-abbrev pub rule_visits : Members → Visits
-rule_visits table =
-    first (willing_visits table) ∷ first (threshold_visits table) ∷ first (tc_visits table) ∷ first (start_visits table) ∷ []
-
--- what comes before the interfaces is visited: the least unknown key of the table, the name, and the rules
+-- what comes before the interfaces is visited: the least unknown key of the table, and then its keys in their order
 abbrev pub head_visits : Members → Visits
-head_visits table = unknown (is_one_of router_keys) table ∷ visit (name table) ∷ first (rule_visits table) ∷ []
+head_visits table =
+    unknown (is_one_of router_keys) table
+    ∷ visit (name table)
+    ∷ visit (flooding table)
+    ∷ visit (routing table)
+    ∷ first (threshold_visits table)
+    ∷ visit (tc_rows table)
+    ∷ first (near_holds_visits table)
+    ∷ visit (hello_at table)
+    ∷ visit (tc_at table)
+    ∷ []
 
 -- the number of the interfaces is visited, and then the table of each
 abbrev pub interfaces_visits : Members → Visits
@@ -170,22 +166,15 @@ pub record RouterFields : Type 0 where
   pub hello_at : ℕ
   pub tc_at : ℕ
 
--- the table says this willingness for flooding and for routing
-pub record IsWillingnessRead (table : Members) (willing : Willing) : Type 0 where
-  pub is_flooding : flooding table ≡ Ok willing.flooding
-  pub is_routing : routing table ≡ Ok willing.routing
-
--- the moments of the first HELLO and of the first TC
-pub record AreStarts (table : Members) (hello_at_read tc_at_read : ℕ) : Type 0 where
-  pub is_hello_at : hello_at table ≡ Ok hello_at_read
-  pub is_tc_at : tc_at table ≡ Ok tc_at_read
-
 -- the table says these fields, each without a fault
 pub record AreRouterFields (table : Members) (fields : RouterFields) : Type 0 where
   pub is_name : name table ≡ Ok fields.router_name
-  pub is_willing : IsWillingnessRead table fields.willing
-  pub are_tcs : AreTcs table fields.tc_rows fields.near_hold
-  pub are_starts : AreStarts table fields.hello_at fields.tc_at
+  pub is_flooding : flooding table ≡ Ok fields.willing.flooding
+  pub is_routing : routing table ≡ Ok fields.willing.routing
+  pub is_tc_rows : tc_rows table ≡ Ok fields.tc_rows
+  pub are_near_holds : NearHoldsAre table fields.near_hold
+  pub is_hello_at : hello_at table ≡ Ok fields.hello_at
+  pub is_tc_at : tc_at table ≡ Ok fields.tc_at
 
 -- the fields of what a stated router keeps of itself
 abbrev pub head_fields : RouterHead → RouterFields
@@ -197,13 +186,6 @@ head_fields head = record {
   hello_at = head.hello_at;
   tc_at = head.tc_at;
 }
-
--- what the table says besides the name
-pub record RulesAre (table : Members) (rules : RouterRules) : Type 0 where
-  pub is_willing : IsWillingnessRead table rules.willing
-  pub are_thresholds : AreThresholds table rules.thresholds.accept rules.thresholds.reject
-  pub are_tcs : AreTcs table rules.tc_rows rules.near_hold
-  pub are_starts : AreStarts table rules.hello_at rules.tc_at
 
 -- what is kept of the router itself is what the table says: its fields, and the thresholds of its links
 pub record HeadIs (table : Members) (head : RouterHead) : Type 0 where

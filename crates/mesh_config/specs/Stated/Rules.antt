@@ -2,7 +2,7 @@
 use Rattle.std.specs.Prelude.{◌≡◌, ℕ, List, [], ◌∷◌, codes, Ok, Err}
 use Rattle.toml.specs.Data.{Data, Members}
 use Rattle.mesh_atoms.specs.declared.settings.NearHold.{NearHold}
-use Rattle.mesh_config.specs.Keys.Faults.{ReadValue, Visits, visit, first, listed, then_turned}
+use Rattle.mesh_config.specs.Keys.Faults.{ReadValue, Visits, visit, listed, then_turned}
 use Rattle.mesh_config.specs.Keys.Values.{optional, required, whole, array_or_none, unknown, is_one_of, ticks}
 use Rattle.mesh_config.specs.Stated.Tables.{Each, no_less, rising_visits}
 
@@ -68,15 +68,6 @@ near_holds = array_or_none 8 (codes "near_hold")
 abbrev pub near_holds_visits : Members → Visits
 near_holds_visits table = visit (near_holds table) ∷ rising_visits near_hold_visits hops (codes "near_hold") 0 (listed (near_holds table))
 
--- the most rows are visited, and then the near holds
-abbrev pub tc_visits : Members → Visits
-tc_visits table = visit (tc_rows table) ∷ first (near_holds_visits table) ∷ []
-
 -- the near holds are what their tables say, in the order of the tables
 abbrev pub NearHoldsAre : Members → List NearHold → Type 0
 NearHoldsAre table nears = Each NearHoldIs (listed (near_holds table)) nears
-
--- the table says these rows of a TC and these near holds
-pub record AreTcs (table : Members) (rows : ℕ) (nears : List NearHold) : Type 0 where
-  pub is_rows : tc_rows table ≡ Ok rows
-  pub are_near_holds : NearHoldsAre table nears

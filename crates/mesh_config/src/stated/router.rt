@@ -1,10 +1,10 @@
 //! The tables of a router: its interfaces, and the networks that it attaches.
-ghost use Rattle.std.specs.Prelude.{◌≤◌, length, IfOk, IsTrue, map};
+ghost use Rattle.std.specs.Prelude.{◌≡◌, ◌≤◌, length, IfOk, IsTrue, map};
 ghost use Rattle.toml.specs.View.{table_view, view};
 ghost use Rattle.mesh_atoms.specs.Settings.{IsCount, one_hour};
 ghost use Rattle.mesh_config.specs.Keys.Faults.{GivesSetting, ValueOrFault, first, visit, listed};
 ghost use Rattle.mesh_config.specs.Keys.Values.{SaysNothing, unknown, is_one_of};
-ghost use Rattle.mesh_config.specs.Stated.Router.{moment, net, metric_asked, IsMetricRead, named_visits, router_keys, willing_visits, IsWillingnessRead, start_visits, AreStarts, rule_visits, RulesAre, interface_visits, InterfaceIs, attached_visits, AttachedIs, head_visits, HeadIs, interfaces_visits, interfaces, networks_visits, attached, router_visits, RouterIs};
+ghost use Rattle.mesh_config.specs.Stated.Router.{moment, net, metric_asked, IsMetricRead, named_visits, router_keys, interface_visits, InterfaceIs, attached_visits, AttachedIs, head_fields, head_visits, HeadIs, interfaces_visits, interfaces, networks_visits, attached, router_visits, RouterIs};
 ghost use Rattle.mesh_config.specs.Stated.Tables.{Each};
 
 use crate::keys::refusal::{BAD_VALUE, MISSING};
@@ -12,11 +12,11 @@ use crate::keys::{
     ConfigFault, addresses_at, array_at, array_or_none, found, known_keys, name_at, refused,
     string_in, ticks, whole_at, whole_or,
 };
-use crate::stated::rules::{tc_rules, thresholds};
-use crate::stated::stated::{RouterHead, RouterRules, Starts, StatedInterface, StatedRouter};
+use crate::stated::rules::{near_holds_of, thresholds};
+use crate::stated::stated::{RouterHead, StatedInterface, StatedRouter};
 use crate::stated::tables::{FromTable, all_tables};
 use mesh_atoms::{Attached4, Metric, NetAddr, Seq, Willing, net_of};
-use std::alloc::Global;
+use std::alloc::{AllocError, Global};
 use toml::Table;
 
 // A moment up to an hour, in ticks; 0 where it is absent.
@@ -100,42 +100,6 @@ impl FromTable for Attached4 {
     }
 }
 
-fn willing(alloc: Global, table: &Table) -> Result<Willing, ConfigFault>
-    ensures { ValueOrFault (IsWillingnessRead (table_view table.now)) (first (willing_visits (table_view table.now))) result }
-{
-    let flooding = whole_or(alloc, table, "flooding", 0, 15, 7)? as u8;
-    let routing = whole_or(alloc, table, "routing", 0, 15, 7)? as u8;
-    Ok(Willing { flooding, routing })
-}
-
-fn starts(alloc: Global, table: &Table) -> Result<Starts, ConfigFault>
-    ensures { ValueOrFault (λ s. AreStarts (table_view table.now) s.hello_at s.tc_at) (first (start_visits (table_view table.now))) result }
-{
-    let hello_at = moment(alloc, table, "hello_at_ms")?;
-    let tc_at = moment(alloc, table, "tc_at_ms")?;
-    Ok(Starts { hello_at, tc_at })
-}
-
-// What the table of a router says of itself besides its name.
-fn rules(alloc: Global, table: &Table) -> Result<RouterRules, ConfigFault>
-    ensures { ValueOrFault (RulesAre (table_view table.now)) (first (rule_visits (table_view table.now))) result }
-{
-    let willing = willing(alloc, table)?;
-    let thresholds = thresholds(alloc, table)?;
-    let tcs = tc_rules(alloc, table)?;
-    match starts(alloc, table) {
-        Ok(starts) => Ok(RouterRules {
-            willing,
-            thresholds,
-            tc_rows: tcs.rows,
-            near_hold: tcs.near_hold,
-            hello_at: starts.hello_at,
-            tc_at: starts.tc_at,
-        }),
-        Err(e) => Err(e),
-    }
-}
-
 fn known_to_routers(alloc: Global, table: &Table) -> Result<(), ConfigFault>
     ensures { ValueOrFault SaysNothing (unknown (is_one_of router_keys) (table_view table.now)) result }
 {
@@ -165,17 +129,40 @@ pub fn head(alloc: Global, table: &Table) -> Result<RouterHead, ConfigFault>
 {
     known_to_routers(alloc, table)?;
     let name = name_at(alloc, table, "name")?;
-    match rules(alloc, table) {
-        Ok(rules) => Ok(RouterHead {
+    let flooding = whole_or(alloc, table, "flooding", 0, 15, 7)? as u8;
+    let routing = whole_or(alloc, table, "routing", 0, 15, 7)? as u8;
+    let thresholds = thresholds(alloc, table)?;
+    let tc_rows = whole_or(alloc, table, "tc_rows", 1, 1088, 1088)? as usize;
+    let near_hold = near_holds_of(alloc, table)?;
+    let hello_at = moment(alloc, table, "hello_at_ms")?;
+    let tc_at = moment(alloc, table, "tc_at_ms")?;
+    Ok(RouterHead {
+        name,
+        willing: Willing { flooding, routing },
+        thresholds,
+        tc_rows,
+        near_hold,
+        hello_at,
+        tc_at,
+    })
+}
+
+impl RouterHead {
+    /// A copy.
+    pub fn copy(&self) -> Result<RouterHead, AllocError>
+        ensures { IfOk result (λ head. head_fields head ≡ head_fields self.now) }
+    {
+        let name = self.name.copy()?;
+        let near_hold = self.near_hold.copy()?;
+        Ok(RouterHead {
             name,
-            willing: rules.willing,
-            thresholds: rules.thresholds,
-            tc_rows: rules.tc_rows,
-            near_hold: rules.near_hold,
-            hello_at: rules.hello_at,
-            tc_at: rules.tc_at,
-        }),
-        Err(e) => Err(e),
+            willing: self.willing,
+            thresholds: self.thresholds,
+            tc_rows: self.tc_rows,
+            near_hold,
+            hello_at: self.hello_at,
+            tc_at: self.tc_at,
+        })
     }
 }
 

@@ -3,11 +3,11 @@ ghost use Rattle.std.specs.Prelude.{◌≤◌, length, map, IfOk, IsTrue};
 ghost use Rattle.toml.specs.View.{table_view};
 ghost use Rattle.mesh_atoms.specs.Settings.{are_ascending, IsInterval};
 ghost use Rattle.mesh_config.specs.Keys.Faults.{GivesSetting, ValueOrFault, first};
-ghost use Rattle.mesh_config.specs.Stated.Rules.{near_hold_ms, threshold_visits, AreThresholds, near_holds_visits, NearHoldsAre, tc_visits, AreTcs};
+ghost use Rattle.mesh_config.specs.Stated.Rules.{near_hold_ms, threshold_visits, AreThresholds, near_holds_visits, NearHoldsAre};
 
 use crate::keys::{ConfigFault, array_or_none, known_keys, ticks, whole_at, whole_or};
 use crate::stated::rising::{FromRising, all_rising, refuse_below};
-use crate::stated::stated::{TcRules, Thresholds};
+use crate::stated::stated::Thresholds;
 use mesh_atoms::{NearHold, Seq};
 use std::alloc::Global;
 use toml::Table;
@@ -60,24 +60,13 @@ impl FromRising for NearHold {
     }
 }
 
-// How long near routers hold what a TC of the router says.
-fn near_holds_of(alloc: Global, table: &Table) -> Result<Seq<NearHold>, ConfigFault>
+/// How long near routers hold what a TC of the router says: at most 8 near holds, each of more hops than the one before; or the
+/// first fault there.
+pub fn near_holds_of(alloc: Global, table: &Table) -> Result<Seq<NearHold>, ConfigFault>
     ensures answer { ValueOrFault (NearHoldsAre (table_view table.now)) (first (near_holds_visits (table_view table.now))) result }
     ensures size { IfOk result (λ nears. length nears ≤ 8) }
     ensures order { IfOk result (λ nears. IsTrue (are_ascending (map (λ n. n.hops) nears))) }
 {
     let values = array_or_none(alloc, table, "near_hold", 8)?;
     all_rising(alloc, "near_hold", values)
-}
-
-/// The most rows of a TC, from 1 to 1,088, and how long near routers hold it: at most 8 near holds, each of more hops than the
-/// one before; or the first fault there.
-pub fn tc_rules(alloc: Global, table: &Table) -> Result<TcRules, ConfigFault>
-    ensures { ValueOrFault (λ t. AreTcs (table_view table.now) t.rows t.near_hold) (first (tc_visits (table_view table.now))) result }
-{
-    let rows = whole_or(alloc, table, "tc_rows", 1, 1088, 1088)? as usize;
-    match near_holds_of(alloc, table) {
-        Ok(near_hold) => Ok(TcRules { rows, near_hold }),
-        Err(e) => Err(e),
-    }
 }
