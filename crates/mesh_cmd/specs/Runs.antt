@@ -25,14 +25,14 @@ pub record Sinks : Type 0 where
 -- the sinks of a call of the program
 abbrev pub sinks_of : Call → Sinks
 sinks_of call = record {
-  out = call.out;
-  out' = call.out';
-  out_faults = call.out_faults;
-  out_faults' = call.out_faults';
-  err = call.err;
-  err' = call.err';
-  err_faults = call.err_faults;
-  err_faults' = call.err_faults';
+  out = call.out.content;
+  out' = call.out.content';
+  out_faults = call.out.faults;
+  out_faults' = call.out.faults';
+  err = call.err.content;
+  err' = call.err.content';
+  err_faults = call.err.faults;
+  err_faults' = call.err.faults';
 }
 
 -- want of memory is told: its line stands on err, or a front of it, where the write failed

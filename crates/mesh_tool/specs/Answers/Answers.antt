@@ -1,6 +1,5 @@
 -- What the program answers.
 use Rattle.std.specs.Prelude.{◌≡◌, ◌⊎◌, ℕ, ◌+◌, ◌<◌, ◌≤◌, List, [], length, take, Bool, Option, Some, IsErr}
-use Rattle.std.specs.Io.KnownBytes.{Appends, Keeps}
 use Rattle.mesh_atoms.specs.declared.addr.Addr4.{Addr4}
 use Rattle.mesh_dump.specs.Dump.{IsDumpText}
 use Rattle.mesh_emulate.specs.Emulation.{Emulation}
@@ -11,8 +10,10 @@ use Rattle.mesh_replay.specs.Command.Replays.{Replays, answer_line}
 use Rattle.mesh_run.specs.Run.{WholeRouterRun, SpendsTurns, FailsToAttach}
 use Rattle.mesh_tool.specs.declared.jobs.status.Status.{Status}
 use Rattle.mesh_tool.specs.declared.jobs.status.Status.TheVariants as status
-use Rattle.mesh_tool.specs.Jobs.Calls.{Call, told_in, UsesNoAir, RunsSoFar, Asks, wants_in, most_octets, ReadsInput, ReadsNothing, IsInput, RefusesOctets, Refuses, TakesInput, Finishes, StopsShort, LeavesFront}
+use Rattle.mesh_tool.specs.Jobs.Calls.{Call, UsesNoAir, Asks, ReadsNothing, IsInput, PutsText, PutsNothing}
+use Rattle.mesh_tool.specs.Jobs.Commands.{RunsSoFar, wants_in, command_in}
 use Rattle.mesh_tool.specs.Jobs.Lines.{words_line, read_line, refused_line, attach_line, turns_line, memory_line}
+use Rattle.mesh_tool.specs.Jobs.Works.{Refuses, TakesInput, Finishes, StopsShort, LeavesFront}
 use Rattle.mesh_tool.specs.declared.words.job.Job.{Job}
 use Rattle.mesh_tool.specs.declared.words.job.Job.TheVariants.{Dump, Run, Emulate, Make, Replay}
 use Rattle.mesh_emulate.specs.declared.making.kind.Kind.{Kind}
@@ -20,16 +21,16 @@ use Rattle.mesh_tool.specs.Words.Words.{words_of}
 
 -- a fault that is told on err: its cause, what stands on out, and its line
 pub data FaultLine (call : Call) : Status → List ℕ → Type 0 where
-  Wrong_words : IsErr (words_of call.words) → ReadsNothing call → Keeps call.out call.out' → FaultLine call status.Words (words_line call.words)
-  Read_fault : (job : Job) → Asks call job → Rose call.read_faults call.read_faults' → Keeps call.out call.out' →
+  Wrong_words : IsErr (words_of call.words) → ReadsNothing call.input → PutsNothing call.out → FaultLine call status.Words (words_line call.words)
+  Read_fault : (job : Job) → Asks call job → Rose call.input.faults call.input.faults' → PutsNothing call.out →
       FaultLine call status.Read read_line
-  Refusal : (number : ℕ) (key : List ℕ) (job : Job) → Asks call job → Refuses job call number key → Keeps call.out call.out' →
+  Refusal : (number : ℕ) (key : List ℕ) (job : Job) → Asks call job → Refuses job call number key → PutsNothing call.out →
       FaultLine call status.Refused (refused_line number key)
-  Attach_fault : (turns interface : ℕ) (octets : List ℕ) → Asks call (Run turns) → IsInput 1048576 call octets →
-      FailsToAttach octets interface (told_in call) → RoseByOne call.air_faults call.air_faults' → Keeps call.out call.out' →
+  Attach_fault : (turns interface : ℕ) (octets : List ℕ) → Asks call (Run turns) → IsInput 1048576 call.input octets →
+      FailsToAttach octets interface call.air.told → RoseByOne call.air.faults call.air.faults' → PutsNothing call.out →
       FaultLine call status.Attach (attach_line interface)
-  Turns_spent : (turns greatest end : ℕ) (octets : List ℕ) → Asks call (Run turns) → IsInput 1048576 call octets →
-      SpendsTurns octets turns greatest end (told_in call) → Keeps call.out call.out' → FaultLine call status.Turns (turns_line turns greatest end)
+  Turns_spent : (turns greatest end : ℕ) (octets : List ℕ) → Asks call (Run turns) → IsInput 1048576 call.input octets →
+      SpendsTurns octets turns greatest end call.air.told → PutsNothing call.out → FaultLine call status.Turns (turns_line turns greatest end)
   Want_of_memory : (job : Job) → Asks call job → StopsShort call job → FaultLine call status.Memory memory_line
 
 -- the whole text stands on out, of which no line or some line tells a refusal, or which says that a trace is none of a run
@@ -37,26 +38,26 @@ pub data Whole (call : Call) : Status → Type 0 where
   All_well : (job : Job) → Asks call job → Finishes call job 0 → Whole call status.Done
   Some_refused : (recode : Bool) (refused : ℕ) → Asks call (Dump recode) → 0 < refused → Finishes call (Dump recode) refused →
       Whole call status.Packets
-  Is_no_run : (octets : List ℕ) (line : ℕ) → Asks call Replay → IsInput 67108864 call octets → Replays octets (No line) →
-      Appends call.out call.out' (answer_line (No line)) → Whole call status.NotARun
+  Is_no_run : (octets : List ℕ) (line : ℕ) → Asks call Replay → IsInput 67108864 call.input octets → Replays octets (No line) →
+      PutsText call.out (answer_line (No line)) → Whole call status.NotARun
 
 -- a write failed: on out, where a front of a text of the job then stands, and nothing on err; or on err, where a front of the line of
 -- the fault that was due then stands
 pub data FailsWriting (call : Call) : Type 0 where
-  On_out : (job : Job) → Asks call job → LeavesFront call job → Rose call.out_faults call.out_faults' → Appends call.err call.err' [] →
+  On_out : (job : Job) → Asks call job → LeavesFront call job → Rose call.out.faults call.out.faults' → PutsText call.err [] →
       FailsWriting call
-  On_err : (due : Status) (line : List ℕ) → FaultLine call due line → Rose call.err_faults call.err_faults' → (size : ℕ) →
-      Appends call.err call.err' (take size line) → FailsWriting call
+  On_err : (due : Status) (line : List ℕ) → FaultLine call due line → Rose call.err.faults call.err.faults' → (size : ℕ) →
+      PutsText call.err (take size line) → FailsWriting call
 
 -- a fault's line stands on err
 pub record TellsFault (call : Call) (answer : Status) : Type 0 where
   pub line : List ℕ
   pub due : FaultLine call answer line
-  pub stands : Appends call.err call.err' line
+  pub stands : PutsText call.err line
 
 -- what is answered, and then stands on out and err
 pub data OutputStands (call : Call) (answer : Status) : Type 0 where
-  Is_whole : Whole call answer → Appends call.err call.err' [] → OutputStands call answer
+  Is_whole : Whole call answer → PutsText call.err [] → OutputStands call answer
   Is_told : TellsFault call answer → OutputStands call answer
   Is_failed : answer ≡ status.Write → FailsWriting call → OutputStands call answer
 
@@ -66,64 +67,64 @@ pub record Answers (call : Call) (answer : Status) : Type 0 where
   pub ends : OutputStands call answer
   -- 0 to `dump`: the listing of the whole input stands on out, and none of its lines is refused
   pub dumped : (recode : Bool) → answer ≡ status.Done → Asks call (Dump recode) →
-      (octets : List ℕ) × IsInput 67108864 call octets × (text : List ℕ) × IsDumpText octets recode 0 text × Appends call.out call.out' text
+      (octets : List ℕ) × IsInput 67108864 call.input octets × (text : List ℕ) × IsDumpText octets recode 0 text × PutsText call.out text
   -- 0 to `run`: the input states a router, and the report of its run, by the moments and the reports told, stands on out
   pub ran : (turns : ℕ) → answer ≡ status.Done → Asks call (Run turns) →
-      (octets : List ℕ) × IsInput 1048576 call octets × (r : WholeRouterRun octets turns (told_in call)) × Appends call.out call.out' r.text
+      (octets : List ℕ) × IsInput 1048576 call.input octets × (r : WholeRouterRun octets turns call.air.told) × PutsText call.out r.text
   -- whatever is answered to `run`: the clock and the air weren't used, or they told a run of the router that the input states, or some
   -- first turns of one, with all frames that were handed over
   pub hands : (turns : ℕ) → Asks call (Run turns) →
-      UsesNoAir call ⊎ ((octets : List ℕ) × IsInput 1048576 call octets × RunsSoFar octets turns (told_in call))
+      UsesNoAir call.air ⊎ ((octets : List ℕ) × IsInput 1048576 call.input octets × RunsSoFar octets turns call.air.told)
   -- no other command uses the clock or the air
-  pub airless : (job : Job) → Asks call job → ((turns : ℕ) → job ≡ Run turns → ⊥) → UsesNoAir call
+  pub airless : (job : Job) → Asks call job → ((turns : ℕ) → job ≡ Run turns → ⊥) → UsesNoAir call.air
   -- 0 to `emulate`: the input states a scenario, and the text of a run of its network, from its opening to its end, stands on out,
   -- and behind it the trip and the probe that the words ask for
   pub emulated : (trace : Bool) (send : Option (ℕ × Addr4)) (probe : Option ℕ) → answer ≡ status.Done → Asks call (Emulate trace send probe) →
-      (octets : List ℕ) × IsInput 1048576 call octets × (e : Emulation octets (wants_in call.words trace send probe))
-      × Appends call.out call.out' e.text
+      (octets : List ℕ) × IsInput 1048576 call.input octets × (e : Emulation octets (wants_in call.words trace send probe))
+      × PutsText call.out e.text
   -- 0 to `emulate --make`: what is told of a run of the made scenario stands on out, and nothing was read
   pub made : (kind : Kind) (routers seed : ℕ) → answer ≡ status.Done → Asks call (Make kind routers seed) →
-      (m : MadeEmulation kind routers seed) × Appends call.out call.out' m.text × ReadsNothing call
+      (m : MadeEmulation kind routers seed) × PutsText call.out m.text × ReadsNothing call.input
   -- 0 to `replay`: the trace of the input is whole, and the line that says so, with the number of its lines, stands on out
   pub replayed : answer ≡ status.Done → Asks call Replay →
-      (octets : List ℕ) × IsInput 67108864 call octets × (lines : ℕ) × Replays octets (Yes lines)
-      × Appends call.out call.out' (answer_line (Yes lines))
+      (octets : List ℕ) × IsInput 67108864 call.input octets × (lines : ℕ) × Replays octets (Yes lines)
+      × PutsText call.out (answer_line (Yes lines))
   -- 9: the words ask for `replay`, the trace of the input is none of a run, and the line that says so, with the number of the first line
   -- that doesn't fit, stands on out, and nothing on err
   pub not_a_run : answer ≡ status.NotARun → Asks call Replay
-      × (octets : List ℕ) × IsInput 67108864 call octets × (line : ℕ) × Replays octets (No line)
-      × Appends call.out call.out' (answer_line (No line)) × Appends call.err call.err' []
+      × (octets : List ℕ) × IsInput 67108864 call.input octets × (line : ℕ) × Replays octets (No line)
+      × PutsText call.out (answer_line (No line)) × PutsText call.err []
   -- 4 to `replay`: the input is too long, or no line of it is `---`, or its scenario is too long or refused; the line that says so stands
   -- on err, and nothing on out
   pub not_replayed : answer ≡ status.Refused → Asks call Replay →
-      (number : ℕ) × (key : List ℕ) × Refuses Replay call number key × Keeps call.out call.out'
-      × Appends call.err call.err' (refused_line number key)
+      (number : ℕ) × (key : List ℕ) × Refuses Replay call number key × PutsNothing call.out
+      × PutsText call.err (refused_line number key)
   -- `emulate --make` reads nothing, whatever is answered
-  pub unread : (kind : Kind) (routers seed : ℕ) → Asks call (Make kind routers seed) → ReadsNothing call
+  pub unread : (kind : Kind) (routers seed : ℕ) → Asks call (Make kind routers seed) → ReadsNothing call.input
   -- words that are no command line are told, or their line couldn't be written; nothing is read
   pub no_command : IsErr (words_of call.words) →
-      ((answer ≡ status.Words) ⊎ (answer ≡ status.Write)) × ReadsNothing call × UsesNoAir call
+      ((answer ≡ status.Words) ⊎ (answer ≡ status.Write)) × ReadsNothing call.input × UsesNoAir call.air
   -- with right words, an input that the source tells and that has more octets than its job takes, and no fault of the source, that is
   -- told, or a line couldn't be written, or memory was wanting
-  pub too_long : (job : Job) (octets : List ℕ) → Asks call job → ReadsInput job → call.left ≡ Some octets →
-      most_octets job < length octets → (Rose call.read_faults call.read_faults' → ⊥) →
+  pub too_long : (job : Job) (most : ℕ) (octets : List ℕ) → Asks call job → (command_in call job).most ≡ Some most →
+      call.input.left ≡ Some octets → most < length octets → (Rose call.input.faults call.input.faults' → ⊥) →
       (answer ≡ status.Refused) ⊎ ((answer ≡ status.Write) ⊎ (answer ≡ status.Memory))
   -- whatever the source tells: where one octet more than the most was taken, that is told, or its line couldn't be written
-  pub one_too_many : (job : Job) → Asks call job → call.taken' ≡ call.taken + (most_octets job + 1) →
-      (answer ≡ status.Refused) ⊎ (answer ≡ status.Write)
+  pub one_too_many : (job : Job) (most : ℕ) → Asks call job → (command_in call job).most ≡ Some most →
+      call.input.taken' ≡ call.input.taken + (most + 1) → (answer ≡ status.Refused) ⊎ (answer ≡ status.Write)
   -- with right words, an input that the source tells and the job refuses, and no fault of the source, the refusal is told, or a line
   -- couldn't be written, or memory was wanting
-  pub refuses : (job : Job) (octets : List ℕ) (number : ℕ) (key : List ℕ) → Asks call job → call.left ≡ Some octets →
-      RefusesOctets call.words job octets number key → (Rose call.read_faults call.read_faults' → ⊥) →
+  pub refuses : (job : Job) (octets : List ℕ) (number : ℕ) (key : List ℕ) → Asks call job →
+      call.input.left ≡ Some octets → (command_in call job).refuses octets number key → (Rose call.input.faults call.input.faults' → ⊥) →
       (answer ≡ status.Refused) ⊎ ((answer ≡ status.Write) ⊎ (answer ≡ status.Memory))
   -- with right words, an input that the job takes, and no fault of source and sinks, the job is done, or its turns are, or it says that
   -- the trace is none of a run, or memory was wanting
-  pub complete : (job : Job) → Asks call job → TakesInput job call → (Rose call.read_faults call.read_faults' → ⊥) →
-      (Rose call.out_faults call.out_faults' → ⊥) → (Rose call.err_faults call.err_faults' → ⊥) →
+  pub complete : (job : Job) → Asks call job → TakesInput job call → (Rose call.input.faults call.input.faults' → ⊥) →
+      (Rose call.out.faults call.out.faults' → ⊥) → (Rose call.err.faults call.err.faults' → ⊥) →
       (answer ≡ status.Done) ⊎ ((answer ≡ status.Packets) ⊎ ((answer ≡ status.Turns)
       ⊎ (((answer ≡ status.NotARun) × (job ≡ Replay)) ⊎ (answer ≡ status.Memory))))
   -- the counts of faults never fall
-  pub later_input : call.read_faults ≤ call.read_faults'
-  pub later_out : call.out_faults ≤ call.out_faults'
-  pub later_err : call.err_faults ≤ call.err_faults'
-  pub later_air : call.air_faults ≤ call.air_faults'
+  pub later_input : call.input.faults ≤ call.input.faults'
+  pub later_out : call.out.faults ≤ call.out.faults'
+  pub later_err : call.err.faults ≤ call.err.faults'
+  pub later_air : call.air.faults ≤ call.air.faults'

@@ -1,12 +1,8 @@
 //! The top call, over any bases.
 ghost use Rattle.std.specs.Prelude.{◌≡◌};
-ghost use Rattle.mesh_emulate.specs.Laws.{RunsMachines, TellsSettled, PrintsLeastRoutes, PrintsNextHops};
-ghost use Rattle.mesh_emulate.specs.Laws.{TripsAreOnly, TripsReachRouters, TripsReachNetworks, TripsNeverStray};
-ghost use Rattle.mesh_emulate.specs.Laws.{ProbesReachJoined, ProbesTellAll, EmulatedProbesSendOnce};
-ghost use Rattle.mesh_emulate.specs.Making.Made.{MadeNetworksRunMachines, MadeNetworksTellSettled, TellsLeastRoutes};
-ghost use Rattle.mesh_replay.specs.trace.Positions.Laws.{WholeExactlyForRuns};
-ghost use Rattle.mesh_run.specs.Turns.Laws.{TurnsAreRuns, TurnsKeepSound};
 ghost use Rattle.mesh_tool.specs.Answers.Answers.{Answers};
+ghost use Rattle.mesh_tool.specs.Answers.Laws.{ProgramLaws};
+ghost use Rattle.mesh_tool.specs.Jobs.Calls.{source_use, sink_use, air_use};
 ghost use Rattle.mesh_tool.specs.Words.Words.{texts};
 
 use crate::jobs::{Status, do_asked, tell};
@@ -33,47 +29,13 @@ pub fn top_over<B: Bases, S: Source, O: Sink, E: Sink, A: Air, C: Clock>(
     requires { A.attached air.old ≡ 0 }
     ensures answers { Answers (record {
       words = texts words.now;
-      left = S.left input.old;
-      left' = S.left input.new;
-      taken = S.taken input.old;
-      taken' = S.taken input.new;
-      read_faults = S.faults input.old;
-      read_faults' = S.faults input.new;
-      out = O.content out.old;
-      out' = O.content out.new;
-      out_faults = O.faults out.old;
-      out_faults' = O.faults out.new;
-      err = E.content err.old;
-      err' = E.content err.new;
-      err_faults = E.faults err.old;
-      err_faults' = E.faults err.new;
-      moments = C.moments clock.old;
-      moments' = C.moments clock.new;
-      reports = A.reports air.old;
-      reports' = A.reports air.new;
-      attached' = A.attached air.new;
-      air_faults = A.faults air.old;
-      air_faults' = A.faults air.new;
+      input = source_use S.left S.taken S.faults input.old input.new;
+      out = sink_use O.content O.faults out.old out.new;
+      err = sink_use E.content E.faults err.old err.new;
+      air = air_use C.moments clock.old clock.new A.reports A.attached A.faults air.old air.new;
     }) result }
 
-    // What holds of every emulation, trip, probe, made network, run of a router and trace, clause by clause as at `crate::mesh_top`.
-    ensures machines { RunsMachines }
-    ensures settled { TellsSettled }
-    ensures routes { PrintsLeastRoutes }
-    ensures next_hops { PrintsNextHops }
-    ensures trips { TripsAreOnly }
-    ensures trips_reach_routers { TripsReachRouters }
-    ensures trips_reach_networks { TripsReachNetworks }
-    ensures trips_never_stray { TripsNeverStray }
-    ensures probes_reach { ProbesReachJoined }
-    ensures probes_tell { ProbesTellAll }
-    ensures probes_once { EmulatedProbesSendOnce }
-    ensures turns { TurnsAreRuns }
-    ensures sound_turns { TurnsKeepSound }
-    ensures made_machines { MadeNetworksRunMachines }
-    ensures made_settled { MadeNetworksTellSettled }
-    ensures made_routes { TellsLeastRoutes }
-    ensures traces { WholeExactlyForRuns }
+    ensures laws { ProgramLaws }
 {
     emulations_tell();
     made_networks_tell();

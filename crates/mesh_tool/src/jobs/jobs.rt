@@ -1,10 +1,12 @@
 //! The jobs of command lines: what each reads and puts, before anything is told of a fault.
-ghost use Rattle.std.specs.Prelude.{◌≡◌, ◌≤◌, ℕ, List, [], option_map, IfOk, IfErr};
+ghost use Rattle.std.specs.Prelude.{◌≡◌, ◌≤◌, ℕ, List, option_map, IfOk, IfErr};
 ghost use Rattle.mesh_atoms.specs.Settings.{IsCount};
 ghost use Rattle.std.specs.Option.{option_copied};
 ghost use Rattle.mesh_emulate.specs.Wants.{packet_of, wants_of};
-ghost use Rattle.mesh_tool.specs.Jobs.Calls.{Call, UsesNoAir, UsesAir, word_at, packet_in, wants_in, IsInput};
-ghost use Rattle.mesh_tool.specs.Jobs.Endings.{with_words, with_source, with_air, with_out, StopsReading, Leaves, DoesJob, Does};
+ghost use Rattle.mesh_tool.specs.Jobs.Calls.{SinkUse, AirUse, source_use, sink_use, air_use, IsInput};
+ghost use Rattle.mesh_tool.specs.Jobs.Commands.{command_of, word_at, packet_in, wants_in};
+ghost use Rattle.mesh_tool.specs.Jobs.Endings.{StopsReading, Leaves, Works, DoesJob, Does};
+ghost use Rattle.mesh_tool.specs.Words.CommandLines.{IsJobInRange};
 ghost use Rattle.mesh_tool.specs.Words.Words.{texts};
 
 use crate::jobs::ending::Ending;
@@ -25,10 +27,8 @@ const MOST_STATED: usize = 1_048_576;
 
 // The whole input, or why it wasn't read whole.
 fn read_input<S: Source>(alloc: Global, input: &mut S, most: usize) -> Result<Bytes, Ending>
-    ensures whole { IfOk result (λ octets. (call : Call) → IsInput most (with_source call
-        (S.left input.old) (S.left input.new) (S.taken input.old) (S.taken input.new) (S.faults input.old) (S.faults input.new)) octets) }
-    ensures stopped { IfErr result (λ how. (call : Call) → StopsReading most (with_source call
-        (S.left input.old) (S.left input.new) (S.taken input.old) (S.taken input.new) (S.faults input.old) (S.faults input.new)) how) }
+    ensures whole { IfOk result (λ octets. IsInput most (source_use S.left S.taken S.faults input.old input.new) octets) }
+    ensures stopped { IfErr result (λ how. StopsReading most (source_use S.left S.taken S.faults input.old input.new) how) }
     ensures later { S.faults input.old ≤ S.faults input.new }
 {
     match read_all(alloc, input, most) {
@@ -41,8 +41,8 @@ fn read_input<S: Source>(alloc: Global, input: &mut S, most: usize) -> Result<By
 
 // Lists the lines of these octets.
 fn list<O: Sink>(alloc: Global, octets: &[u8], recode: bool, out: &mut O) -> Ending
-    ensures leaves { (call : Call) → Leaves call (Job.Dump recode) octets.now
-        (O.content out.old) (O.content out.new) (O.faults out.old) (O.faults out.new) result }
+    ensures leaves { (words : List (List ℕ)) (air : AirUse) → Leaves (command_of words air (Job.Dump recode)) octets.now
+        (sink_use O.content O.faults out.old out.new) result }
     ensures later { O.faults out.old ≤ O.faults out.new }
 {
     match mesh_dump::dump(alloc, octets, recode, out) {
@@ -102,8 +102,8 @@ fn emulate<B: Bases, O: Sink>(
     probe: Option<usize>,
     out: &mut O,
 ) -> Ending
-    ensures leaves { (call : Call) → Leaves (with_words call (texts words.now)) (Job.Emulate trace send probe) octets.now
-        (O.content out.old) (O.content out.new) (O.faults out.old) (O.faults out.new) result }
+    ensures leaves { (air : AirUse) → Leaves (command_of (texts words.now) air (Job.Emulate trace send probe)) octets.now
+        (sink_use O.content O.faults out.old out.new) result }
     ensures later { O.faults out.old ≤ O.faults out.new }
 {
     match mesh_emulate::emulate::<B, O>(alloc, octets, &wanted(words, trace, send, probe), out) {
@@ -124,11 +124,9 @@ fn run<B: Bases, O: Sink, A: Air, C: Clock>(
     clock: &mut C,
 ) -> Ending
     requires { A.attached air.old ≡ 0 }
-    ensures leaves { (call : Call) → Leaves (with_air call (C.moments clock.old) (C.moments clock.new) (A.reports air.old) (A.reports air.new)
-        (A.attached air.new) (A.faults air.old) (A.faults air.new)) (Job.Run turns) octets.now
-        (O.content out.old) (O.content out.new) (O.faults out.old) (O.faults out.new) result
-        × UsesAir (with_air call (C.moments clock.old) (C.moments clock.new) (A.reports air.old) (A.reports air.new)
-        (A.attached air.new) (A.faults air.old) (A.faults air.new)) (Job.Run turns) octets.now }
+    ensures works { (words : List (List ℕ)) → Works
+        (command_of words (air_use C.moments clock.old clock.new A.reports A.attached A.faults air.old air.new) (Job.Run turns)) octets.now
+        (sink_use O.content O.faults out.old out.new) result }
     ensures later { O.faults out.old ≤ O.faults out.new }
     ensures later_air { A.faults air.old ≤ A.faults air.new }
 {
@@ -152,8 +150,8 @@ fn make<B: Bases, O: Sink>(
 ) -> Ending
     requires count { IsCount 2 64 routers }
     requires seed { seed ≤ 4294967295 }
-    ensures leaves { (call : Call) → Leaves call (Job.Make kind routers seed) []
-        (O.content out.old) (O.content out.new) (O.faults out.old) (O.faults out.new) result }
+    ensures leaves { (words : List (List ℕ)) (air : AirUse) (octets : List ℕ) → Leaves (command_of words air (Job.Make kind routers seed)) octets
+        (sink_use O.content O.faults out.old out.new) result }
     ensures later { O.faults out.old ≤ O.faults out.new }
 {
     match mesh_emulate::make::<B, O>(alloc, kind, routers, seed, out) {
@@ -165,8 +163,8 @@ fn make<B: Bases, O: Sink>(
 
 // Says whether the trace that these octets have is that of a run.
 fn replay<B: Bases, O: Sink>(alloc: Global, octets: &[u8], out: &mut O) -> Ending
-    ensures leaves { (call : Call) → Leaves call Job.Replay octets.now
-        (O.content out.old) (O.content out.new) (O.faults out.old) (O.faults out.new) result }
+    ensures leaves { (words : List (List ℕ)) (air : AirUse) → Leaves (command_of words air Job.Replay) octets.now
+        (sink_use O.content O.faults out.old out.new) result }
     ensures later { O.faults out.old ≤ O.faults out.new }
 {
     match mesh_replay::replay_input::<B, O>(alloc, octets, out) {
@@ -178,73 +176,82 @@ fn replay<B: Bases, O: Sink>(alloc: Global, octets: &[u8], out: &mut O) -> Endin
     }
 }
 
-fn list_input<S: Source, O: Sink>(alloc: Global, recode: bool, input: &mut S, out: &mut O) -> Ending
-    ensures does { (call : Call) → UsesNoAir call → DoesJob (Job.Dump recode) (with_out (with_source call
-        (S.left input.old) (S.left input.new) (S.taken input.old) (S.taken input.new) (S.faults input.old) (S.faults input.new))
-        (O.content out.old) (O.content out.new) (O.faults out.old) (O.faults out.new)) result }
-    ensures later_input { S.faults input.old ≤ S.faults input.new }
-    ensures later_out { O.faults out.old ≤ O.faults out.new }
-{
-    match read_input(alloc, input, MOST_OCTETS) {
-        Ok(octets) => list(alloc, octets.as_slice(), recode, out),
-        Err(how) => how,
-    }
-}
-
-fn emulate_input<B: Bases, S: Source, O: Sink>(
+// Does a job with these octets.
+fn work_on<B: Bases, O: Sink, A: Air, C: Clock>(
     alloc: Global,
     words: &[String],
-    trace: bool,
-    send: Option<(usize, Addr4)>,
-    probe: Option<usize>,
-    input: &mut S,
+    job: Job,
+    octets: &[u8],
     out: &mut O,
+    air: &mut A,
+    clock: &mut C,
 ) -> Ending
-    ensures does { (call : Call) → UsesNoAir call → DoesJob (Job.Emulate trace send probe) (with_out (with_source (with_words call (texts words.now))
-        (S.left input.old) (S.left input.new) (S.taken input.old) (S.taken input.new) (S.faults input.old) (S.faults input.new))
-        (O.content out.old) (O.content out.new) (O.faults out.old) (O.faults out.new)) result }
-    ensures later_input { S.faults input.old ≤ S.faults input.new }
+    requires unattached { A.attached air.old ≡ 0 }
+    requires range { IsJobInRange job }
+    ensures works { Works (command_of (texts words.now) (air_use C.moments clock.old clock.new A.reports A.attached A.faults air.old air.new)
+        job) octets.now (sink_use O.content O.faults out.old out.new) result }
     ensures later_out { O.faults out.old ≤ O.faults out.new }
+    ensures later_air { A.faults air.old ≤ A.faults air.new }
 {
-    match read_input(alloc, input, MOST_STATED) {
-        Ok(octets) => emulate::<B, O>(alloc, words, octets.as_slice(), trace, send, probe, out),
-        Err(how) => how,
+    match job {
+        Job::Dump { recode } => list(alloc, octets, recode, out),
+        Job::Run { turns } => run::<B, O, A, C>(alloc, octets, turns, out, air, clock),
+        Job::Emulate { trace, send, probe } => {
+            emulate::<B, O>(alloc, words, octets, trace, send, probe, out)
+        }
+        Job::Make {
+            kind,
+            routers,
+            seed,
+        } => make::<B, O>(alloc, kind, routers, seed, out),
+        Job::Replay => replay::<B, O>(alloc, octets, out),
     }
 }
 
-fn run_input<B: Bases, S: Source, O: Sink, A: Air, C: Clock>(
+// The most octets that the input of a job may have; `None` where it reads none.
+fn most_octets(job: Job) -> Option<usize>
+    ensures { (words : List (List ℕ)) (air : AirUse) → result ≡ (command_of words air job).most }
+{
+    match job {
+        Job::Dump { .. } => Some(MOST_OCTETS),
+        Job::Run { .. } => Some(MOST_STATED),
+        Job::Emulate { .. } => Some(MOST_STATED),
+        Job::Make { .. } => None,
+        Job::Replay => Some(MOST_OCTETS),
+    }
+}
+
+// Does a job: its input is read where it has one, and its text is put on `out`.
+fn do_job<B: Bases, S: Source, O: Sink, A: Air, C: Clock>(
     alloc: Global,
-    turns: u32,
+    words: &[String],
+    job: Job,
     input: &mut S,
     out: &mut O,
     air: &mut A,
     clock: &mut C,
 ) -> Ending
-    requires { A.attached air.old ≡ 0 }
-    ensures does { (call : Call) → DoesJob (Job.Run turns) (with_out (with_source (with_air call (C.moments clock.old) (C.moments clock.new)
-        (A.reports air.old) (A.reports air.new) (A.attached air.new) (A.faults air.old) (A.faults air.new))
-        (S.left input.old) (S.left input.new) (S.taken input.old) (S.taken input.new) (S.faults input.old) (S.faults input.new))
-        (O.content out.old) (O.content out.new) (O.faults out.old) (O.faults out.new)) result }
+    requires unattached { A.attached air.old ≡ 0 }
+    requires range { IsJobInRange job }
+    ensures does { (err : SinkUse) → DoesJob job (record {
+      words = texts words.now;
+      input = source_use S.left S.taken S.faults input.old input.new;
+      out = sink_use O.content O.faults out.old out.new;
+      err = err;
+      air = air_use C.moments clock.old clock.new A.reports A.attached A.faults air.old air.new;
+    }) result }
     ensures later_input { S.faults input.old ≤ S.faults input.new }
     ensures later_out { O.faults out.old ≤ O.faults out.new }
     ensures later_air { A.faults air.old ≤ A.faults air.new }
 {
-    match read_input(alloc, input, MOST_STATED) {
-        Ok(octets) => run::<B, O, A, C>(alloc, octets.as_slice(), turns, out, air, clock),
-        Err(how) => how,
-    }
-}
-
-fn replay_input<B: Bases, S: Source, O: Sink>(alloc: Global, input: &mut S, out: &mut O) -> Ending
-    ensures does { (call : Call) → UsesNoAir call → DoesJob Job.Replay (with_out (with_source call
-        (S.left input.old) (S.left input.new) (S.taken input.old) (S.taken input.new) (S.faults input.old) (S.faults input.new))
-        (O.content out.old) (O.content out.new) (O.faults out.old) (O.faults out.new)) result }
-    ensures later_input { S.faults input.old ≤ S.faults input.new }
-    ensures later_out { O.faults out.old ≤ O.faults out.new }
-{
-    match read_input(alloc, input, MOST_OCTETS) {
-        Ok(octets) => replay::<B, O>(alloc, octets.as_slice(), out),
-        Err(how) => how,
+    match most_octets(job) {
+        Some(most) => match read_input(alloc, input, most) {
+            Ok(octets) => {
+                work_on::<B, O, A, C>(alloc, words, job, octets.as_slice(), out, air, clock)
+            }
+            Err(how) => how,
+        },
+        None => work_on::<B, O, A, C>(alloc, words, job, b"", out, air, clock),
     }
 }
 
@@ -259,28 +266,19 @@ pub fn do_asked<B: Bases, S: Source, O: Sink, A: Air, C: Clock>(
     clock: &mut C,
 ) -> Ending
     requires { A.attached air.old ≡ 0 }
-    ensures does { (call : Call) → Does (with_out (with_source (with_air (with_words call (texts words.now))
-        (C.moments clock.old) (C.moments clock.new) (A.reports air.old) (A.reports air.new) (A.attached air.new) (A.faults air.old) (A.faults air.new))
-        (S.left input.old) (S.left input.new) (S.taken input.old) (S.taken input.new) (S.faults input.old) (S.faults input.new))
-        (O.content out.old) (O.content out.new) (O.faults out.old) (O.faults out.new)) result }
+    ensures does { (err : SinkUse) → Does (record {
+      words = texts words.now;
+      input = source_use S.left S.taken S.faults input.old input.new;
+      out = sink_use O.content O.faults out.old out.new;
+      err = err;
+      air = air_use C.moments clock.old clock.new A.reports A.attached A.faults air.old air.new;
+    }) result }
     ensures later_input { S.faults input.old ≤ S.faults input.new }
     ensures later_out { O.faults out.old ≤ O.faults out.new }
     ensures later_air { A.faults air.old ≤ A.faults air.new }
 {
     match read_words(words) {
-        Ok(Job::Dump { recode }) => list_input(alloc, recode, input, out),
-        Ok(Job::Run { turns }) => run_input::<B, S, O, A, C>(alloc, turns, input, out, air, clock),
-        Ok(Job::Emulate { trace, send, probe }) => {
-            emulate_input::<B, S, O>(alloc, words, trace, send, probe, input, out)
-        }
-        Ok(
-            Job::Make {
-                kind,
-                routers,
-                seed,
-            },
-        ) => make::<B, O>(alloc, kind, routers, seed, out),
-        Ok(Job::Replay) => replay_input::<B, S, O>(alloc, input, out),
+        Ok(job) => do_job::<B, S, O, A, C>(alloc, words, job, input, out, air, clock),
         Err(_) => Ending::Words,
     }
 }

@@ -3,29 +3,29 @@ use Rattle.std.proofs.KnownBytes.{Appends-nil, Appends-kept}
 use Rattle.mesh_run.specs.declared.fault.RunFault.TheVariants.{Stopped}
 use Rattle.mesh_tool.proofs.jobs.jobs.run.Goals as goal
 
-pub returns-in-Ok-clause-leaves : goal.returns-in-Ok-clause-leaves
-returns-in-Ok-clause-leaves g c = λ call. let done = c.in-Ok.ensures.done in ((done.0.text, (refl, done.0, refl), done.1), inr (inl done.0))
+pub returns-in-Ok-clause-works : goal.returns-in-Ok-clause-works
+returns-in-Ok-clause-works g c = λ words. let done = c.in-Ok.ensures.done in ((done.0.text, (refl, done.0, refl), done.1), inr (inl done.0))
 
-pub returns-in-Err-Refused-clause-leaves : goal.returns-in-Err-Refused-clause-leaves
-returns-in-Err-Refused-clause-leaves g c = λ call.
+pub returns-in-Err-Refused-clause-works : goal.returns-in-Err-Refused-clause-works
+returns-in-Err-Refused-clause-works g c = λ words.
     let refused = c.in-Err-Refused.ensures.refused c.in-Err-Refused.number c.in-Err-Refused.key (ap (λ fault. Err fault) c.in-Err-Refused.field-0-is) in ((refused.0, refused.2), inl refused.1)
 
-pub returns-in-Err-Attach-clause-leaves : goal.returns-in-Err-Attach-clause-leaves
-returns-in-Err-Attach-clause-leaves g c = λ call.
+pub returns-in-Err-Attach-clause-works : goal.returns-in-Err-Attach-clause-works
+returns-in-Err-Attach-clause-works g c = λ words.
     let failed = c.in-Err-Attach.ensures.attach c.in-Err-Attach.interface (ap (λ fault. Err fault) c.in-Err-Attach.field-0-is) in
     (((failed.1, failed.0), failed.2), inr (inr (inr (inl (c.in-Err-Attach.interface, failed.0)))))
 
-pub returns-in-Err-Turns-clause-leaves : goal.returns-in-Err-Turns-clause-leaves
-returns-in-Err-Turns-clause-leaves g c = λ call.
+pub returns-in-Err-Turns-clause-works : goal.returns-in-Err-Turns-clause-works
+returns-in-Err-Turns-clause-works g c = λ words.
     let spent = c.in-Err-Turns.ensures.turns c.in-Err-Turns.turns c.in-Err-Turns.moment c.in-Err-Turns.end (ap (λ fault. Err fault) c.in-Err-Turns.field-0-is) in
     (((spent.0, spent.1), spent.2), inr (inr (inl (c.in-Err-Turns.moment, c.in-Err-Turns.end, rw spent.0 at spent.1))))
 
-pub returns-in-Err-Stopped-Write-clause-leaves : goal.returns-in-Err-Stopped-Write-clause-leaves
-returns-in-Err-Stopped-Write-clause-leaves g c = λ call.
+pub returns-in-Err-Stopped-Write-clause-works : goal.returns-in-Err-Stopped-Write-clause-works
+returns-in-Err-Stopped-Write-clause-works g c = λ words.
     let (rose, r, n, stands) = c.in-Err-Stopped-Write.ensures.write (ap (λ fault. Err fault) (c.in-Err-Stopped-Write.field-0-is ∙ ap (λ stop. Stopped stop) c.in-Err-Stopped-Write.field-0-0-is)) in
     ((rose, r.text, (r, refl), n, stands), inr (inl r))
 
-pub returns-in-Err-Stopped-Memory-clause-leaves : goal.returns-in-Err-Stopped-Memory-clause-leaves
-returns-in-Err-Stopped-Memory-clause-leaves g c = λ call.
+pub returns-in-Err-Stopped-Memory-clause-works : goal.returns-in-Err-Stopped-Memory-clause-works
+returns-in-Err-Stopped-Memory-clause-works g c = λ words.
     let (short, keeps) = c.in-Err-Stopped-Memory.ensures.memory (ap (λ fault. Err fault) (c.in-Err-Stopped-Memory.field-0-is ∙ ap (λ stop. Stopped stop) c.in-Err-Stopped-Memory.field-0-0-is)) in
     (([], (refl, short), Appends-kept _ _ _ [] (Appends-nil _) keeps), inr (inr (inr (inr short))))

@@ -1,0 +1,26 @@
+use Rattle.std.proofs.Common.{[], refl, sym, ◌∙◌}
+use Rattle.mesh_io.proofs.Fronts.{keeps_same}
+use Rattle.mesh_tool.specs.Jobs.Calls.{air_use}
+use Rattle.mesh_tool.specs.Jobs.Commands.{command_of}
+use Rattle.mesh_tool.specs.Jobs.Endings.{Unread, Worked}
+use Rattle.mesh_tool.specs.Words.Words.{texts}
+use Rattle.mesh_tool.proofs.AnswersLemmas.Reads.{works_whole, works_on_none}
+use Rattle.mesh_tool.proofs.jobs.jobs.do_job.Goals as goal
+
+pub returns-in-Ok-clause-does : goal.returns-in-Ok-clause-does
+returns-in-Ok-clause-does g c = λ err.
+    let air = air_use g.C.Clock.moments c.args.clock.now c.work_on.new.clock g.A.Air.reports g.A.Air.attached g.A.Air.faults c.args.air.now c.work_on.new.air in
+    let reads = sym (c.most_octets.ensures (texts c.args.words.now) air) ∙ c.in-Some.is in
+    Worked c.in-Ok.octets (works_whole (command_of (texts c.args.words.now) air c.args.job).most reads c.in-Ok.ensures.whole) (rw c.as_slice.ensures at c.work_on.ensures.works)
+
+pub returns-in-Err-clause-does : goal.returns-in-Err-clause-does
+returns-in-Err-clause-does g c = λ err.
+    let air = air_use g.C.Clock.moments c.args.clock.now c.args.clock.now g.A.Air.reports g.A.Air.attached g.A.Air.faults c.args.air.now c.args.air.now in
+    let reads = sym (c.most_octets.ensures (texts c.args.words.now) air) ∙ c.in-Some.is in
+    Unread c.in-Some.most reads c.in-Err.ensures.stopped (keeps_same _) (record { moments = refl; reports = refl; attached = c.requires.unattached })
+
+pub returns-in-None-clause-does : goal.returns-in-None-clause-does
+returns-in-None-clause-does g c = λ err.
+    let air = air_use g.C.Clock.moments c.args.clock.now c.work_on-in-None.new.clock g.A.Air.reports g.A.Air.attached g.A.Air.faults c.args.air.now c.work_on-in-None.new.air in
+    let reads = sym (c.most_octets.ensures (texts c.args.words.now) air) ∙ c.in-None.is in
+    Worked [] (works_on_none (command_of (texts c.args.words.now) air c.args.job).most reads refl (record { left = keeps_same _; taken = refl })) c.work_on-in-None.ensures.works

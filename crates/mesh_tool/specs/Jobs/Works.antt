@@ -1,0 +1,53 @@
+-- What a call did for the job that its words ask for.
+use Rattle.std.specs.Prelude.{◌≡◌, ℕ, ◌≤◌, List, [], length, take, Option, Some, None, codes}
+use Rattle.mesh_tool.specs.Jobs.Calls.{SourceUse, Call, IsInputTooLong, IsWorkedOn, PutsText, PutsNothing}
+use Rattle.mesh_tool.specs.Jobs.Commands.{Command, command_in}
+use Rattle.mesh_tool.specs.declared.words.job.Job.{Job}
+
+-- the octets that the job works on
+abbrev pub WorksOn : Job → Call → List ℕ → Type 0
+WorksOn job call octets = IsWorkedOn (command_in call job).most call.input octets
+
+-- the input is longer than the job takes, or it was read whole and is refused
+pub data Refuses (job : Job) (call : Call) : ℕ → List ℕ → Type 0 where
+  Too_long : (most : ℕ) → (command_in call job).most ≡ Some most → IsInputTooLong most call.input → Refuses job call 47 (codes "input")
+  By_rule : {number : ℕ} {key : List ℕ} (octets : List ℕ) → WorksOn job call octets → (command_in call job).refuses octets number key →
+      Refuses job call number key
+
+-- the command refuses none of these octets, and can come to its end
+abbrev pub TakesOctets : Command → List ℕ → Type 0
+TakesOctets command octets = ((number : ℕ) (key : List ℕ) → command.refuses octets number key → ⊥) × command.attaches octets
+
+-- the source tells what it has left, which is no more than the most, and the command takes it; or nothing is read
+abbrev pub TakesUpTo : Option ℕ → Command → SourceUse → Type 0
+TakesUpTo (Some most) command input = (octets : List ℕ) × (input.left ≡ Some octets) × (length octets ≤ most) × TakesOctets command octets
+TakesUpTo None command input = TakesOctets command []
+
+-- the job takes the input
+abbrev pub TakesInput : Job → Call → Type 0
+TakesInput job call = TakesUpTo (command_in call job).most (command_in call job) call.input
+
+-- What is written on out
+
+-- the whole text of the job stands on out, and so many lines of it tell a refusal
+pub record Finishes (call : Call) (job : Job) (refused : ℕ) : Type 0 where
+  pub octets : List ℕ
+  pub works_on : WorksOn job call octets
+  pub text : List ℕ
+  pub is_text : (command_in call job).is_text octets refused text
+  pub stands : PutsText call.out text
+
+-- what stands on out where memory is wanting: nothing, where the input wasn't read whole; else a first part of the text
+pub data StopsShort (call : Call) (job : Job) : Type 0 where
+  Before_reading : PutsNothing call.out → StopsShort call job
+  On_the_way : (octets text : List ℕ) → WorksOn job call octets → (command_in call job).is_first_text octets text →
+      PutsText call.out text → StopsShort call job
+
+-- a write on out failed, and a front of a text of the job stands there
+pub record LeavesFront (call : Call) (job : Job) : Type 0 where
+  pub octets : List ℕ
+  pub works_on : WorksOn job call octets
+  pub text : List ℕ
+  pub is_text : (command_in call job).is_front octets text
+  pub size : ℕ
+  pub stands : PutsText call.out (take size text)
