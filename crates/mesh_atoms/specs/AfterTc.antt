@@ -2,6 +2,7 @@
 use Rattle.std.specs.Prelude.{◌≡◌, ℕ, ◌+◌, not, Contains, Option, Some, None, length, count_by, is_some, IsTrue, Bool, false, cond, nat_lt, nat_eq, ◌&&◌}
 use Rattle.mesh_atoms.specs.declared.addr.Addr4.{Addr4}
 use Rattle.mesh_atoms.specs.declared.codes.metric.Metric.{Metric}
+use Rattle.mesh_atoms.specs.declared.limits.TheConstants.{MOST_TUPLES}
 use Rattle.mesh_atoms.specs.declared.tuples.RouterKey.{RouterKey}
 use Rattle.mesh_atoms.specs.declared.tuples.AddressKey.{AddressKey}
 use Rattle.mesh_atoms.specs.declared.tuples.NetworkKey.{NetworkKey}
@@ -72,10 +73,10 @@ IsOld topology tc kept = (e : Advertiser × ℕ) × (find addr_eq topology.adver
 
 -- whether the tuples of a set and the TC's rows for it are more than 16,384
 abbrev pub is_overfull : TopologyBase → Tc → Kind → Bool
-is_overfull topology tc Advertisers = nat_lt 16384 (length topology.advertisers + 1)
-is_overfull topology tc Routers = nat_lt 16384 (length topology.routers + count_by (λ row. row.origin && is_some row.metric) tc.rows)
-is_overfull topology tc Addresses = nat_lt 16384 (length topology.addresses + count_by (λ row. row.routable && is_some row.metric) tc.rows)
-is_overfull topology tc Networks = nat_lt 16384 (length topology.networks + count_by (λ row. is_some row.gateway && is_some row.metric) tc.rows)
+is_overfull topology tc Advertisers = nat_lt MOST_TUPLES (length topology.advertisers + 1)
+is_overfull topology tc Routers = nat_lt MOST_TUPLES (length topology.routers + count_by (λ row. row.origin && is_some row.metric) tc.rows)
+is_overfull topology tc Addresses = nat_lt MOST_TUPLES (length topology.addresses + count_by (λ row. row.routable && is_some row.metric) tc.rows)
+is_overfull topology tc Networks = nat_lt MOST_TUPLES (length topology.networks + count_by (λ row. is_some row.gateway && is_some row.metric) tc.rows)
 is_overfull topology tc other = false
 
 -- the first of the four sets for which they are too many

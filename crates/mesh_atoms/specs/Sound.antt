@@ -1,6 +1,7 @@
 -- What holds of a router after every event.
 use Rattle.std.specs.Prelude.{◌≡◌, ℕ, ◌≤◌, Contains, Some, None, slice_get, length, IsTrue, Bool, true, false}
 use Rattle.mesh_atoms.specs.declared.addr.Addr4.{Addr4}
+use Rattle.mesh_atoms.specs.declared.limits.TheConstants.{MOST_TUPLES}
 use Rattle.mesh_atoms.specs.declared.tuples.LinkKey.{LinkKey}
 use Rattle.mesh_atoms.specs.declared.tuples.TwoHopKey.{TwoHopKey}
 use Rattle.mesh_atoms.specs.declared.tuples.RouterKey.{RouterKey}
@@ -55,7 +56,7 @@ pub record SoundNeighbourhood (settings : RouterSettings) (now : ℕ) (near : Ne
   pub fresh_links : (i : ℕ) → IsFresh link_eq now (base_of near.links i)
   pub fresh_neighbours : IsFresh addr_eq now near.neighbours
   pub fresh_losts : IsFresh addr_eq now near.losts
-  pub two_hops : (i : ℕ) → IsWithin two_hop_eq now 16384 (base_of near.two_hops i)
+  pub two_hops : (i : ℕ) → IsWithin two_hop_eq now MOST_TUPLES (base_of near.two_hops i)
   pub limit : AreMoreThan 1024 (IsHeld near) → ⊥
   pub link : (i : ℕ) (key : LinkKey) (link : Link) (until : ℕ) → link_at near i key ≡ Some (link, until) → IsSoundLink now key link
   pub by_quality : (i : ℕ) (key : LinkKey) → admit_on settings i now (link_at near i key) ≡ link_at near i key
@@ -72,10 +73,10 @@ pub record SoundNeighbourhood (settings : RouterSettings) (now : ℕ) (near : Ne
 
 -- a sound topology: no tuple is from the router itself
 pub record SoundTopology (settings : RouterSettings) (now : ℕ) (topology : TopologyBase) : Type 0 where
-  pub advertisers : IsWithin addr_eq now 16384 topology.advertisers
-  pub routers : IsWithin router_eq now 16384 topology.routers
-  pub addresses : IsWithin address_eq now 16384 topology.addresses
-  pub networks : IsWithin network_eq now 16384 topology.networks
+  pub advertisers : IsWithin addr_eq now MOST_TUPLES topology.advertisers
+  pub routers : IsWithin router_eq now MOST_TUPLES topology.routers
+  pub addresses : IsWithin address_eq now MOST_TUPLES topology.addresses
+  pub networks : IsWithin network_eq now MOST_TUPLES topology.networks
   pub not_my_advertiser : (o : Addr4) → IsOriginator settings o → find addr_eq topology.advertisers o ≡ None
   pub not_my_router : (key : RouterKey) → IsOriginator settings key.from → find router_eq topology.routers key ≡ None
   pub not_my_address : (key : AddressKey) → IsOriginator settings key.from → find address_eq topology.addresses key ≡ None
@@ -84,9 +85,9 @@ pub record SoundTopology (settings : RouterSettings) (now : ℕ) (topology : Top
 -- sound sets of messages seen before
 pub record SoundNoted (settings : RouterSettings) (now : ℕ) (noted : NotedMessages) : Type 0 where
   pub interfaces : length noted.received ≡ length settings.interfaces
-  pub received : (i : ℕ) → IsWithin flood_eq now 16384 (base_of noted.received i)
-  pub processed : IsWithin flood_eq now 16384 noted.processed
-  pub forwarded : IsWithin flood_eq now 16384 noted.forwarded
+  pub received : (i : ℕ) → IsWithin flood_eq now MOST_TUPLES (base_of noted.received i)
+  pub processed : IsWithin flood_eq now MOST_TUPLES noted.processed
+  pub forwarded : IsWithin flood_eq now MOST_TUPLES noted.forwarded
 
 -- a sound router: its bases, relays, routes and advertised rows at the moment of its last event
 pub record Sound (s : State) : Type 0 where

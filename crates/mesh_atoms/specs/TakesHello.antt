@@ -6,6 +6,7 @@ use Rattle.mesh_atoms.specs.declared.hello.LocalIf.{LocalIf}
 use Rattle.mesh_atoms.specs.declared.hello.LocalIf.TheVariants.{This}
 use Rattle.mesh_atoms.specs.declared.hello.HelloRow.{HelloRow}
 use Rattle.mesh_atoms.specs.declared.hello.Hello.{Hello}
+use Rattle.mesh_atoms.specs.declared.limits.TheConstants.{MOST_TUPLES}
 use Rattle.mesh_atoms.specs.declared.tuples.Neighbour.{Neighbour}
 use Rattle.mesh_atoms.specs.declared.tuples.Lost.{Lost}
 use Rattle.mesh_atoms.specs.declared.settings.RouterSettings.{RouterSettings}
@@ -59,11 +60,11 @@ AreTwoHopRows settings told hello count =
 -- with the 2-hop tuples of interface i these are more than 16,384
 abbrev pub IsFullOfTwoHops : RouterSettings → ℕ → Neighbourhood → Told → Hello → Type 0
 IsFullOfTwoHops settings i near told hello =
-    (count : ℕ) × AreTwoHopRows settings told hello count × (16384 < length (base_of near.two_hops i) + count)
+    (count : ℕ) × AreTwoHopRows settings told hello count × (MOST_TUPLES < length (base_of near.two_hops i) + count)
 
 -- they are no more than that
 abbrev pub FitsTwoHops : RouterSettings → ℕ → Neighbourhood → Told → Hello → Type 0
-FitsTwoHops settings i near told hello = (count : ℕ) × AreTwoHopRows settings told hello count × (length (base_of near.two_hops i) + count ≤ 16384)
+FitsTwoHops settings i near told hello = (count : ℕ) × AreTwoHopRows settings told hello count × (length (base_of near.two_hops i) + count ≤ MOST_TUPLES)
 
 -- The answer
 

@@ -14,6 +14,7 @@ mod hello;
 pub mod hello_rule;
 mod hosts;
 mod least;
+mod limits;
 mod literals;
 mod network;
 mod octets;
@@ -46,6 +47,7 @@ pub use graphs::{
 pub use hello::{Hello, HelloRow, LinkStatus, LocalIf, Metrics, Mpr, OtherStatus, Shown, Willing};
 pub use hosts::host;
 pub use least::least_metric;
+pub use limits::{LONGEST_DATAGRAM, MOST_TC_ROWS, MOST_TUPLES};
 pub use literals::{address_of, endpoint_of, name_of, net_of, number_of, place_of};
 pub use network::{Counts, Emission, NetEvent};
 pub use octets::{

@@ -2,10 +2,11 @@
 ghost use Rattle.std.specs.Prelude.{◌≡◌, ◌≤◌, ◌<◌, ◌^◌, length, map, IsTrue, IfOk};
 ghost use Rattle.std.specs.Option.{ForSome};
 ghost use Rattle.std.specs.List.{flat_map, list_all};
+ghost use Rattle.mesh_atoms.specs.declared.limits.TheConstants.{MOST_TC_ROWS};
 ghost use Rattle.mesh_atoms.specs.Base.{addr_eq};
 ghost use Rattle.mesh_atoms.specs.Settings.{are_distinct, are_ascending, one_millisecond, one_hour, longest_delay, IsTimes, IsEnd, IsInterface, IsRouter, IsCount, IsNearHold, are_senders, AreRouters, AreArcs};
 
-use crate::{Addr4, Admit, Bytes, Endpoint, Metric, NetAddr, Seq, Willing};
+use crate::{Addr4, Admit, Bytes, Endpoint, MOST_TC_ROWS, Metric, NetAddr, Seq, Willing};
 use std::alloc::AllocError;
 
 /// The intervals and hold times of a router, in ticks of 1/8192 s, each from 820 (100 ms) to 29,491,200 (an hour)
@@ -50,7 +51,7 @@ pub const DEFAULT_TIMES: Times = Times {
 };
 
 /// The most rows of a TC where a setting says no other number: all that a router advertises.
-pub const DEFAULT_TC_ROWS: usize = 1088;
+pub const DEFAULT_TC_ROWS: usize = MOST_TC_ROWS;
 
 /// The metric of what is received from a sender other than 0.0.0.0.
 #[derive(Clone, Copy)]
@@ -135,7 +136,7 @@ pub struct RouterSettings {
     pub tc_rows: usize,
     pub near_hold: Seq<NearHold>,
     pub ghost sound: { IsRouter name hello_at tc_at (map (λ i. i.name) interfaces) (flat_map (λ i. i.addrs) interfaces) (map (λ a. a.net) attached) },
-    pub ghost rows_in_range: { IsCount 1 1088 tc_rows },
+    pub ghost rows_in_range: { IsCount 1 MOST_TC_ROWS tc_rows },
     pub ghost few_near_holds: { length near_hold ≤ 8 },
     pub ghost near_holds_in_order: { IsTrue (are_ascending (map (λ n. n.hops) near_hold)) },
 }
