@@ -3,6 +3,7 @@ use Rattle.std.specs.Prelude.{◌≡◌, ◌≢◌, ◌≤◌, ◌+◌, ℕ, Som
 use Rattle.mesh_atoms.specs.declared.tuples.FloodKey.{FloodKey}
 use Rattle.mesh_atoms.specs.declared.tuples.Noted.{Noted}
 use Rattle.mesh_atoms.specs.declared.settings.Times.{Times}
+use Rattle.mesh_atoms.specs.declared.limits.TheConstants.{MOST_TUPLES}
 use Rattle.mesh_atoms.specs.Base.{Base, HasDistinctKeys, SetsOnly, Same, base_of, flood_eq}
 use Rattle.mesh_atoms.specs.State.{NotedMessages}
 use Rattle.mesh_flood.specs.declared.verdict.Heading.{Heading}
@@ -22,9 +23,9 @@ pub record AreTables (noted : NotedMessages) : Type 0 where
 
 -- each set has at most 16,384 tuples
 pub record AreWithin (noted : NotedMessages) : Type 0 where
-  pub received : (i : ℕ) → length (base_of noted.received i) ≤ 16384
-  pub processed : length noted.processed ≤ 16384
-  pub forwarded : length noted.forwarded ≤ 16384
+  pub received : (i : ℕ) → length (base_of noted.received i) ≤ MOST_TUPLES
+  pub processed : length noted.processed ≤ MOST_TUPLES
+  pub forwarded : length noted.forwarded ≤ MOST_TUPLES
 
 -- the set has the tuple until the moment, where it is noted; all else stays
 abbrev pub Notes : Bool → FloodKey → ℕ → Base FloodKey Noted → Base FloodKey Noted → Type 0

@@ -4,6 +4,7 @@ use Rattle.mesh_atoms.specs.declared.addr.Addr4.{Addr4}
 use Rattle.mesh_atoms.specs.declared.tuples.FloodKey.{FloodKey}
 use Rattle.mesh_atoms.specs.declared.tuples.Noted.{Noted}
 use Rattle.mesh_atoms.specs.declared.tuples.Base.TheVariants.{Received, Forwarded}
+use Rattle.mesh_atoms.specs.declared.limits.TheConstants.{MOST_TUPLES}
 use Rattle.mesh_atoms.specs.Base.{Base, find, base_of, addr_eq, flood_eq}
 use Rattle.mesh_atoms.specs.State.{NotedMessages}
 use Rattle.mesh_flood.specs.declared.verdict.Heading.{Heading}
@@ -23,7 +24,7 @@ if_noted (Some e) found other = found e.1
 
 -- a set has 16,384 tuples
 abbrev pub is_full : Base FloodKey Noted → Bool
-is_full base = nat_le 16384 (length base)
+is_full base = nat_le MOST_TUPLES (length base)
 
 -- whether a message is processed, the first that holds (RFC 7181, section 14.2)
 abbrev pub process_of : Addr4 → Heading → NotedMessages → Process

@@ -5,7 +5,7 @@ ghost use Rattle.mesh_flood.specs.Verdict.{is_full};
 ghost use Rattle.mesh_flood.specs.Noting.{Notes};
 ghost use Rattle.mesh_flood.specs.Standing.{HasKey};
 
-use mesh_atoms::{FloodKey, Noted};
+use mesh_atoms::{FloodKey, MOST_TUPLES, Noted};
 use mesh_expire::Table;
 use std::alloc::{AllocError, Global};
 use std::marker::Model;
@@ -60,14 +60,14 @@ impl<T: Table<FloodKey, Noted>> FloodSet<T> {
     pub fn is_full(&self) -> bool
         ensures { result ≡ is_full self.now }
     {
-        self.table.len() >= 16384
+        self.table.len() >= MOST_TUPLES
     }
 
     /// Where `wanted`, makes the tuple with that key until the moment.
     pub fn note(&mut self, wanted: bool, key: FloodKey, until: u64) -> Result<(), AllocError>
         ensures ok { OnOk result (Notes wanted key until self.old self.new) }
         ensures distinct { HasDistinctKeys flood_eq self.old → HasDistinctKeys flood_eq self.new }
-        ensures room { (IsTrue wanted → is_full self.old ≡ false) → length self.old ≤ 16384 → OnOk result (length self.new ≤ 16384) }
+        ensures room { (IsTrue wanted → is_full self.old ≡ false) → length self.old ≤ MOST_TUPLES → OnOk result (length self.new ≤ MOST_TUPLES) }
     {
         if wanted {
             self.table.put(key, Noted {}, until)

@@ -21,6 +21,7 @@ use Rattle.mesh_atoms.specs.declared.tuples.Lost.{Lost}
 use Rattle.mesh_atoms.specs.declared.tuples.Noted.{Noted}
 use Rattle.mesh_atoms.specs.declared.settings.Times.{Times}
 use Rattle.mesh_atoms.specs.declared.settings.RouterSettings.{RouterSettings}
+use Rattle.mesh_atoms.specs.declared.limits.TheConstants.{MOST_TUPLES}
 use Rattle.mesh_atoms.specs.AfterHello.{AfterHello, IsTheirs, IsApart, GoesOn}
 use Rattle.mesh_atoms.specs.AfterTc.{AfterTc, GivesRouter, GivesAddress, GivesNetwork}
 use Rattle.mesh_atoms.specs.Base.{find, base_of, addr_eq, router_eq, address_eq, network_eq, flood_eq}
@@ -229,14 +230,14 @@ RefusesTakenThoughFull =
 abbrev pub RefusesTakenThoughManyRows : Type 0
 RefusesTakenThoughManyRows =
     (settings : RouterSettings) (now i : ℕ) (sender : Addr4) (hello : Hello) (old new : Neighbourhood) →
-    ((told : Told) (count : ℕ) → AreTwoHopRows settings told hello count → 16384 < length (base_of old.two_hops i) + count) →
+    ((told : Told) (count : ℕ) → AreTwoHopRows settings told hello count → MOST_TUPLES < length (base_of old.two_hops i) + count) →
     TakesHello settings now i sender hello old new Taken → ⊥
 
 -- a HELLO that is refused for its rows though they are no more
 abbrev pub RefusesFullThoughFits : Type 0
 RefusesFullThoughFits =
     (settings : RouterSettings) (now i : ℕ) (sender : Addr4) (hello : Hello) (old new : Neighbourhood) →
-    ((told : Told) (count : ℕ) → AreTwoHopRows settings told hello count → length (base_of old.two_hops i) + count ≤ 16384) →
+    ((told : Told) (count : ℕ) → AreTwoHopRows settings told hello count → length (base_of old.two_hops i) + count ≤ MOST_TUPLES) →
     TakesHello settings now i sender hello old new Full_of_two_hops → ⊥
 
 -- Metrics of 2-hop tuples

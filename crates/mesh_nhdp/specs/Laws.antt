@@ -1,6 +1,7 @@
 -- What follows from the limits of a neighbourhood.
 use Rattle.std.specs.Prelude.{ℕ, ◌≤◌, List, length}
 use Rattle.mesh_atoms.specs.declared.tc.TcRow.{TcRow}
+use Rattle.mesh_atoms.specs.declared.limits.TheConstants.{MOST_TC_ROWS}
 use Rattle.mesh_atoms.specs.Advertised.{AreTcRows}
 use Rattle.mesh_atoms.specs.Sound.{SoundNeighbourhood}
 use Rattle.mesh_atoms.specs.State.{State}
@@ -9,4 +10,4 @@ use Rattle.mesh_atoms.specs.State.{State}
 -- at most, and of the networks that it attaches, which are 64 at most
 abbrev pub AdvertisesFew : Type 0
 AdvertisesFew = (s : State) (now : ℕ) (rows : List TcRow)
-    → SoundNeighbourhood s.settings now s.bases.neighbourhood → AreTcRows s rows → length rows ≤ 1088
+    → SoundNeighbourhood s.settings now s.bases.neighbourhood → AreTcRows s rows → length rows ≤ MOST_TC_ROWS

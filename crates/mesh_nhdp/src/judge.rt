@@ -12,14 +12,13 @@ ghost use Rattle.mesh_nhdp.specs.NhdpState.{near_with};
 
 use crate::full::is_full_of_addresses;
 use crate::two_hop_rows::count_symmetric;
-use mesh_atoms::{Addr4, Base, Hello, Lost, Neighbour, RouterSettings, Seq, TwoHop, TwoHopKey};
+use mesh_atoms::{
+    Addr4, Base, Hello, Lost, MOST_TUPLES, Neighbour, RouterSettings, Seq, TwoHop, TwoHopKey,
+};
 use mesh_expire::Table;
 use mesh_hello::{HelloInfo, own_addresses, receive_fault, tell};
 use mesh_nbrs::{LostSet, NeighbourSet, TwoHopSet};
 use std::alloc::AllocError;
-
-/// How many 2-hop tuples an interface holds at most.
-const MOST_TWO_HOPS: usize = 16384;
 
 /// A HELLO from that sender, which arrives on an interface at a moment in ticks of 1/8192 s.
 #[derive(Clone, Copy)]
@@ -59,7 +58,7 @@ fn base_to_fill<H: Table<TwoHopKey, TwoHop>, N: Table<Addr4, Neighbour>, O: Tabl
     telling: &HelloInfo,
 ) -> Result<Option<Base>, AllocError>
     requires iface { iface < length two_hops.now }
-    requires few { length (base_of two_hops.now iface) ≤ 16384 }
+    requires few { length (base_of two_hops.now iface) ≤ MOST_TUPLES }
     ensures { IfOk result (λ base. (settings : RouterSettings) (links : List (Links LinkKey Link)) → ((a : Addr4) → Contains own.now a ↔ HasAddress settings a)
         → IsFilledBy settings iface hello.now (near_with links two_hops.now neighbours.now losts.now) (told_of telling.now) base) }
 {
@@ -68,7 +67,7 @@ fn base_to_fill<H: Table<TwoHopKey, TwoHop>, N: Table<Addr4, Neighbour>, O: Tabl
     if is_full_of_addresses(alloc, neighbours, losts, telling.originator, listed)? {
         return Ok(Some(Base::Neighbours));
     }
-    let room = MOST_TWO_HOPS - count_on(two_hops, iface);
+    let room = MOST_TUPLES - count_on(two_hops, iface);
     if hello.rows.len() <= room {
         return Ok(None);
     }
@@ -90,7 +89,7 @@ pub fn judge<H: Table<TwoHopKey, TwoHop>, N: Table<Addr4, Neighbour>, O: Table<A
 ) -> Result<HelloCheck, AllocError>
     requires iface { arrival.now.iface < length settings.now.interfaces }
     requires same { length two_hops.now ≡ length settings.now.interfaces }
-    requires few { length (base_of two_hops.now arrival.now.iface) ≤ 16384 }
+    requires few { length (base_of two_hops.now arrival.now.iface) ≤ MOST_TUPLES }
     ensures { IfOk result (λ judgement. (links : List (Links LinkKey Link)) →
         Judges settings.now arrival.now.iface arrival.now.sender arrival.now.hello.now (near_with links two_hops.now neighbours.now losts.now) judgement) }
 {

@@ -6,6 +6,7 @@ use Rattle.mesh_atoms.specs.declared.settings.RouterSettings.{RouterSettings}
 use Rattle.mesh_atoms.specs.declared.settings.Scenario.{Scenario}
 use Rattle.mesh_atoms.specs.declared.tc.Tc.{Tc}
 use Rattle.mesh_atoms.specs.declared.tuples.FloodKey.{FloodKey}
+use Rattle.mesh_atoms.specs.declared.limits.TheConstants.{MOST_TUPLES}
 use Rattle.mesh_atoms.specs.Base.{base_of, find, flood_eq}
 use Rattle.mesh_atoms.specs.Radio.{Joined, Router}
 use Rattle.mesh_atoms.specs.Settled.{At, AreStates}
@@ -50,8 +51,8 @@ key_of_tc tc = tc_key tc.originator tc.sequence
 pub record IsUnknown (key : FloodKey) (noted : NotedMessages) : Type 0 where
   pub received : (j : ℕ) → find flood_eq (base_of noted.received j) key ≡ None
   pub forwarded : find flood_eq noted.forwarded key ≡ None
-  pub room_received : (j : ℕ) → length (base_of noted.received j) < 16384
-  pub room_forwarded : length noted.forwarded < 16384
+  pub room_received : (j : ℕ) → length (base_of noted.received j) < MOST_TUPLES
+  pub room_forwarded : length noted.forwarded < MOST_TUPLES
 
 -- no router knows the message, and each has room for it
 abbrev pub AreUnknown : List State → Tc → Type 0

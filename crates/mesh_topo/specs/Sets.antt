@@ -9,16 +9,17 @@ use Rattle.mesh_atoms.specs.declared.tuples.AddressKey.{AddressKey}
 use Rattle.mesh_atoms.specs.declared.tuples.AddressTuple.{AddressTuple}
 use Rattle.mesh_atoms.specs.declared.tuples.NetworkKey.{NetworkKey}
 use Rattle.mesh_atoms.specs.declared.tuples.NetworkTuple.{NetworkTuple}
+use Rattle.mesh_atoms.specs.declared.limits.TheConstants.{MOST_TUPLES}
 use Rattle.mesh_atoms.specs.Base.{Base, IsFresh, find, addr_eq, router_eq, address_eq, network_eq}
 use Rattle.mesh_atoms.specs.Codes.Codes.{Newer}
 use Rattle.mesh_atoms.specs.State.{TopologyBase}
 
 -- each of the four sets has at most 16,384 tuples
 pub record AreFew (topology : TopologyBase) : Type 0 where
-  pub advertisers : length topology.advertisers ≤ 16384
-  pub routers : length topology.routers ≤ 16384
-  pub addresses : length topology.addresses ≤ 16384
-  pub networks : length topology.networks ≤ 16384
+  pub advertisers : length topology.advertisers ≤ MOST_TUPLES
+  pub routers : length topology.routers ≤ MOST_TUPLES
+  pub addresses : length topology.addresses ≤ MOST_TUPLES
+  pub networks : length topology.networks ≤ MOST_TUPLES
 
 -- the number that is kept of the TC's originator is newer than the TC's (RFC 7181, section 16.3.3)
 abbrev pub KeepsNewer : Base Addr4 Advertiser → Tc → ℕ → Type 0

@@ -11,8 +11,8 @@ ghost use Rattle.mesh_topo.specs.Tuples.{HasHosts};
 use crate::tc_sets::{KeyedSet, TopologyTuple};
 use crate::topology::TcTaken;
 use mesh_atoms::{
-    Addr4, AddressKey, AddressTuple, Advertiser, Base, NetworkKey, NetworkTuple, RouterKey,
-    RouterTuple, Tc, seq_newer,
+    Addr4, AddressKey, AddressTuple, Advertiser, Base, MOST_TUPLES, NetworkKey, NetworkTuple,
+    RouterKey, RouterTuple, Tc, seq_newer,
 };
 use mesh_expire::Table;
 use std::alloc::AllocError;
@@ -74,9 +74,9 @@ fn newer_kept<A: Table<Addr4, Advertiser>>(advertisers: &A, tc: &Tc) -> Option<u
 
 // Whether the tuples of a set and the rows for it are more than 16,384.
 fn is_overfull(held: usize, rows: usize) -> bool
-    ensures { result ≡ nat_lt 16384 (held + rows) }
+    ensures { result ≡ nat_lt MOST_TUPLES (held + rows) }
 {
-    held > 16384 || rows > 16384 - held
+    held > MOST_TUPLES || rows > MOST_TUPLES - held
 }
 
 // How many rows of the TC give a tuple.

@@ -2,6 +2,8 @@
 use Rattle.std.specs.Prelude.{◌≡◌, ℕ, List, [], ◌∷◌, codes, Ok, Err}
 use Rattle.toml.specs.Data.{Data, Members}
 use Rattle.mesh_atoms.specs.declared.settings.NearHold.{NearHold}
+use Rattle.mesh_atoms.specs.declared.settings.TheConstants.{DEFAULT_TC_ROWS}
+use Rattle.mesh_atoms.specs.declared.limits.TheConstants.{MOST_TC_ROWS}
 use Rattle.mesh_config.specs.Keys.Faults.{ReadValue, Visits, visit, listed, then_turned}
 use Rattle.mesh_config.specs.Keys.Values.{optional, required, whole, array_or_none, unknown, is_one_of, ticks}
 use Rattle.mesh_config.specs.Stated.Tables.{Each, no_less, rising_visits}
@@ -58,7 +60,7 @@ pub record NearHoldIs (table : Members) (near : NearHold) : Type 0 where
 
 -- the most rows of a TC, from 1 to 1,088; 1,088, which is all that a router advertises, where it is absent
 abbrev pub tc_rows : Members → ReadValue ℕ
-tc_rows = optional 1088 (whole 1 1088) (codes "tc_rows")
+tc_rows = optional DEFAULT_TC_ROWS (whole 1 MOST_TC_ROWS) (codes "tc_rows")
 
 -- the elements that are to be the tables of near holds, at most 8; none where they are absent
 abbrev pub near_holds : Members → ReadValue (List Data)

@@ -15,7 +15,7 @@ use crate::keys::{
 use crate::stated::rules::{near_holds_of, thresholds};
 use crate::stated::stated::{RouterHead, StatedInterface, StatedRouter};
 use crate::stated::tables::{FromTable, all_tables};
-use mesh_atoms::{Attached4, Metric, NetAddr, Seq, Willing, net_of};
+use mesh_atoms::{Attached4, DEFAULT_TC_ROWS, MOST_TC_ROWS, Metric, NetAddr, Seq, Willing, net_of};
 use std::alloc::{AllocError, Global};
 use toml::Table;
 
@@ -132,7 +132,14 @@ pub fn head(alloc: Global, table: &Table) -> Result<RouterHead, ConfigFault>
     let flooding = whole_or(alloc, table, "flooding", 0, 15, 7)? as u8;
     let routing = whole_or(alloc, table, "routing", 0, 15, 7)? as u8;
     let thresholds = thresholds(alloc, table)?;
-    let tc_rows = whole_or(alloc, table, "tc_rows", 1, 1088, 1088)? as usize;
+    let tc_rows = whole_or(
+        alloc,
+        table,
+        "tc_rows",
+        1,
+        MOST_TC_ROWS as u64,
+        DEFAULT_TC_ROWS as u64,
+    )? as usize;
     let near_hold = near_holds_of(alloc, table)?;
     let hello_at = moment(alloc, table, "hello_at_ms")?;
     let tc_at = moment(alloc, table, "tc_at_ms")?;

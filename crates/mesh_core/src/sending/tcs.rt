@@ -1,6 +1,7 @@
 //! The TCs that a router sends when its clock ticks, one for each part of its rows.
 ghost use Rattle.std.specs.Prelude.{◌≡◌, ◌<◌, ◌≤◌, ◌+◌, ◌%◌, ◌^◌, ◌++◌, ◌↔◌, ℕ, List, Some, length, map, nat_eq, slice_get, IfOk, OnOk, IsTrue};
 ghost use Rattle.std.specs.List.{AllPairs};
+ghost use Rattle.mesh_atoms.specs.declared.limits.TheConstants.{MOST_TC_ROWS};
 ghost use Rattle.mesh_atoms.specs.declared.tc.Tc.{Tc as TcValue};
 ghost use Rattle.mesh_atoms.specs.Advertised.{AreTcRows};
 ghost use Rattle.mesh_atoms.specs.Codes.Codes.{time_at_distance};
@@ -31,7 +32,7 @@ pub fn send_tcs(
     out: &mut Outbox,
 ) -> Result<(), AllocError>
     requires now { derived.old.last < 2 ^ 62 }
-    requires few { length derived.old.rows ≤ 1088 }
+    requires few { length derived.old.rows ≤ MOST_TC_ROWS }
     requires rows { (s : State) × AreTcRows s derived.old.rows }
     ensures sent { OnOk result ((sent : List Frame) × (out.new ≡ out.old ++ sent) × TcsAreSent settings.now derived.old derived.new sent) }
     ensures others { derived.new ≡ record derived.old { next_tc = derived.new.next_tc; sequence = derived.new.sequence } }
@@ -74,7 +75,7 @@ fn send_parts(
     derived: &mut Derived,
     out: &mut Outbox,
 ) -> Result<(), AllocError>
-    requires few { length derived.old.rows ≤ 1088 }
+    requires few { length derived.old.rows ≤ MOST_TC_ROWS }
     requires rows { (s : State) × AreTcRows s derived.old.rows }
     ensures sent { OnOk result ((sent : List Frame) × (out.new ≡ out.old ++ sent) × PartsAreSent settings.now derived.old derived.new sent) }
     ensures others { derived.new ≡ record derived.old { sequence = derived.new.sequence } }
@@ -105,7 +106,7 @@ fn send_spans(
     requires value { IsTimeValue validity.now }
     requires short { length validity.now ≤ 17 }
     requires within { (i : ℕ) (span : SpanValue) → slice_get spans.now i ≡ Some span → span.first + span.len ≤ length derived.now.rows }
-    requires few { length derived.now.rows ≤ 1088 }
+    requires few { length derived.now.rows ≤ MOST_TC_ROWS }
     requires rows { (s : State) × AreTcRows s derived.now.rows }
     ensures { IfOk result (λ next. (sent : List Frame) × (out.new ≡ out.old ++ sent) × (next ≡ (derived.now.sequence + length spans.now) % 65536)
         × ((s : State) → s.settings ≡ settings.now → HasRowsOf s derived.now →
@@ -136,7 +137,7 @@ fn part_bytes(
     requires value { IsTimeValue validity.now }
     requires short { length validity.now ≤ 17 }
     requires within { span.first + span.len ≤ length derived.now.rows }
-    requires few { length derived.now.rows ≤ 1088 }
+    requires few { length derived.now.rows ≤ MOST_TC_ROWS }
     requires rows { (s : State) × AreTcRows s derived.now.rows }
     ensures { IfOk result (λ bytes. (tc : TcValue) × WritesTc tc settings.now.times.tc_hop_limit validity.now bytes × ((s : State) → s.settings ≡ settings.now →
         HasRowsOf s derived.now → IsTcOfRows s validity.now complete sequence (part_of derived.now.rows span) tc)) }

@@ -5,6 +5,7 @@ use Rattle.mesh_atoms.specs.declared.addr.Addr4.{Addr4}
 use Rattle.mesh_atoms.specs.declared.settings.RadioArc.{RadioArc}
 use Rattle.mesh_atoms.specs.declared.settings.RouterSettings.{RouterSettings}
 use Rattle.mesh_atoms.specs.declared.settings.Scenario.{Scenario}
+use Rattle.mesh_atoms.specs.declared.settings.TheConstants.{DEFAULT_TC_ROWS}
 use Rattle.mesh_config.specs.Fields.{interface_fields, thresholds_of}
 use Rattle.mesh_config.specs.Senders.{HaveAllSenders, addr_lists, with_steps, HaveAllQualities}
 use Rattle.mesh_emulate.specs.declared.making.pairs.RouterPair.{RouterPair}
@@ -66,7 +67,7 @@ pub record IsMadeRouter (i : ℕ) (r : RouterSettings) : Type 0 where
   pub routing : r.willing.routing ≡ 7
   pub hello_at : r.hello_at ≡ 0
   pub tc_at : r.tc_at ≡ 0
-  pub tc_rows : r.tc_rows ≡ 1088
+  pub tc_rows : r.tc_rows ≡ DEFAULT_TC_ROWS
   pub near_hold : r.near_hold ≡ []
   pub times : TimesIs no_members r.times
   pub interfaces : map interface_fields r.interfaces ≡ face_of i ∷ []

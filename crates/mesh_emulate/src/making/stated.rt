@@ -29,7 +29,7 @@ fn head_of(alloc: Global, i: usize) -> Result<RouterHead, AllocError>
     ensures tc_at { IfOk result (λ head. head.tc_at ≡ 0) }
     ensures accept { IfOk result (λ head. head.thresholds.accept ≡ 0) }
     ensures reject { IfOk result (λ head. head.thresholds.reject ≡ 0) }
-    ensures tc_rows { IfOk result (λ head. head.tc_rows ≡ 1088) }
+    ensures tc_rows { IfOk result (λ head. head.tc_rows ≡ DEFAULT_TC_ROWS) }
     ensures near_hold { IfOk result (λ head. head.near_hold ≡ []) }
 {
     Ok(RouterHead {

@@ -4,6 +4,7 @@ use Rattle.std.specs.List.{enumerate_from}
 use Rattle.mesh_atoms.specs.declared.settings.Scenario.{Scenario}
 use Rattle.mesh_atoms.specs.declared.tc.TcRow.{TcRow}
 use Rattle.mesh_atoms.specs.declared.tuples.Relays.{Relays}
+use Rattle.mesh_atoms.specs.declared.limits.TheConstants.{MOST_TC_ROWS}
 use Rattle.mesh_atoms.specs.Advertised.{AreTcRows}
 use Rattle.mesh_atoms.specs.RelayGraphs.{AreRelays}
 use Rattle.mesh_atoms.specs.State.{State}
@@ -38,7 +39,7 @@ pub record AreAtRest (scenario : Scenario) (routers : List State) : Type 0 where
 
 -- rows are at most as many as a router may advertise
 abbrev pub AreFewRows : List TcRow → Type 0
-AreFewRows rows = length rows ≤ 1088
+AreFewRows rows = length rows ≤ MOST_TC_ROWS
 
 -- the HELLO of each interface, or none
 abbrev pub hello_items : State → Bool → List Item
