@@ -1,6 +1,7 @@
 -- An air in memory, as callers see it.
 use Rattle.std.specs.Prelude.{◌≡◌, ℕ, ◌+◌, ◌-◌, ◌^◌, ◌<◌, ◌≤◌, ◌&&◌, ◌||◌, not, nat_lt, nat_le, Bool, [], ◌∷◌, ◌++◌, List, length, take, drop, slice_get, slice_index_or, slice_set, Option, Some, None, is_some, if◌then◌else◌}
 use Rattle.mesh_atoms.specs.declared.addr.Endpoint.{Endpoint}
+use Rattle.mesh_atoms.specs.declared.limits.TheConstants.{LONGEST_DATAGRAM}
 use Rattle.mesh_io.specs.Airs.{Report}
 use Rattle.mesh_io.specs.Airs.Report.{Attached_to, Heard_frame, Heard_silence, Heard_fault, Handed}
 use Rattle.mesh_io.specs.declared.air_room.AirFails.{AirFails}
@@ -35,7 +36,7 @@ next_ear scripts places iface = ear_at scripts iface (slice_index_or places ifac
 abbrev pub told_ear : ℕ → Option MemEar → Report
 told_ear iface None = Heard_silence iface
 told_ear iface (Some ear.Silence) = Heard_silence iface
-told_ear iface (Some (ear.Frame sender bytes)) = Heard_frame iface sender (take 65507 bytes)
+told_ear iface (Some (ear.Frame sender bytes)) = Heard_frame iface sender (take LONGEST_DATAGRAM bytes)
 
 -- how many of each script were heard, where an interface took one more
 abbrev pub one_further : List ℕ → ℕ → Option MemEar → List ℕ

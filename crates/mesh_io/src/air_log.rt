@@ -2,6 +2,7 @@
 ghost use Rattle.std.specs.Prelude.{◌≡◌, ℕ, ◌+◌, ◌^◌, ◌≤◌, ◌<◌, [], ◌∷◌, ◌++◌, length, replicate, take, Some, IsTrue, IsSome, IfOk, IfSome, slice_index_or, slice_set, if◌then◌else◌};
 ghost use Rattle.std.specs.Option.{option_copied};
 ghost use Rattle.std.specs.Vec.{vec_capacity};
+ghost use Rattle.mesh_atoms.specs.declared.limits.TheConstants.{LONGEST_DATAGRAM};
 ghost use Rattle.mesh_io.specs.Airs.{FitsBuffer, report_of_ear};
 ghost use Rattle.mesh_io.specs.Airs.Report.{Heard_fault};
 ghost use Rattle.mesh_io.specs.MemAir.{ear_at, next_ear, told_ear, one_further, fits_attach, fits_ear, fits_frame, with_attach, with_ear, with_frame, with_nothing_told};
@@ -89,10 +90,10 @@ fn script_ear(scripts: &Seq<Seq<MemEar>>, iface: usize, place: usize) -> Option<
 
 // Puts a frame at the buffer's start, of a longer one the first octets.
 fn give_frame(bytes: &[u8], buf: &mut [u8]) -> usize
-    requires { length buf.old ≡ 65507 }
+    requires { length buf.old ≡ LONGEST_DATAGRAM }
     ensures within { result ≤ length buf.new }
-    ensures front { take result buf.new ≡ take 65507 bytes.now }
-    ensures longest { length buf.new ≡ 65507 }
+    ensures front { take result buf.new ≡ take LONGEST_DATAGRAM bytes.now }
+    ensures longest { length buf.new ≡ LONGEST_DATAGRAM }
 {
     let len = usize::min(bytes.len(), buf.len());
     buf[..len].copy_from_slice(&bytes[..len]);
@@ -101,10 +102,10 @@ fn give_frame(bytes: &[u8], buf: &mut [u8]) -> usize
 
 // Gives an ear: a frame at the buffer's start.
 fn give(ear: Option<&MemEar>, buf: &mut [u8]) -> Ear
-    requires { length buf.old ≡ 65507 }
+    requires { length buf.old ≡ LONGEST_DATAGRAM }
     ensures within { FitsBuffer buf.new result }
     ensures heard { (iface : ℕ) → report_of_ear iface buf.new result ≡ told_ear iface (option_copied ear.entry) }
-    ensures longest { length buf.new ≡ 65507 }
+    ensures longest { length buf.new ≡ LONGEST_DATAGRAM }
     ensures no_fault { result ≡ Ear.Failed → ⊥ }
 {
     match ear {
@@ -214,12 +215,12 @@ impl AirLog {
     /// Gives the next ear of an interface and tells it, for which there is room.
     pub fn hear(&mut self, iface: usize, buf: &mut [u8]) -> Ear
         requires ears { 0 < self.old.left.ears }
-        requires longest { length buf.old ≡ 65507 }
+        requires longest { length buf.old ≡ LONGEST_DATAGRAM }
         ensures kept { self.new ≡ with_ear self.old (told_ear iface (next_ear self.old.scripts self.old.places iface))
             (one_further self.old.places iface (next_ear self.old.scripts self.old.places iface)) }
         ensures within { FitsBuffer buf.new result }
         ensures heard { report_of_ear iface buf.new result ≡ told_ear iface (next_ear self.old.scripts self.old.places iface) }
-        ensures longest { length buf.new ≡ 65507 }
+        ensures longest { length buf.new ≡ LONGEST_DATAGRAM }
         ensures no_fault { result ≡ Ear.Failed → ⊥ }
     {
         let place = place_of(self.places.as_slice(), iface);

@@ -1,5 +1,6 @@
 //! An air in memory, which hears by scripts, and whose calls fail by lists.
 ghost use Rattle.std.specs.Prelude.{◌≡◌, ℕ, ◌<◌, [], ◌∷◌, length, replicate, Some, IfOk, if◌then◌else◌};
+ghost use Rattle.mesh_atoms.specs.declared.limits.TheConstants.{LONGEST_DATAGRAM};
 ghost use Rattle.mesh_io.specs.Airs.{AttachesInterface, FitsBuffer, report_of_ear, IsAttachCaused, IsEarCaused, IsSentCaused};
 ghost use Rattle.mesh_io.specs.Airs.Report.{Handed, Heard_fault};
 ghost use Rattle.mesh_io.specs.Faults.{Rose, one_more};
@@ -96,7 +97,7 @@ impl Air for MemAir {
     /// there is none, nothing is told any more.
     fn hear(&mut self, iface: usize, buf: &mut [u8]) -> Ear
         requires iface { iface < self.old.log.attached }
-        requires longest { length buf.old ≡ 65507 }
+        requires longest { length buf.old ≡ LONGEST_DATAGRAM }
         ensures attached { self.new.log.attached ≡ self.old.log.attached }
         ensures within { FitsBuffer buf.new result }
         ensures told { TellsMore self.old.log.told self.new.log.told (report_of_ear iface buf.new result ∷ []) }

@@ -3,6 +3,7 @@
 -- The order of messages, address blocks, addresses and TLVs stays.
 use Rattle.std.specs.Prelude.{◌≡◌, ℕ, ◌+◌, ◌*◌, ◌-◌, ◌<◌, ◌≤◌, List, [], ◌∷◌, ◌++◌, length, take, Option, Some, None, Bool, true, false, All}
 use Rattle.std.specs.Option.{is_some}
+use Rattle.mesh_atoms.specs.declared.limits.TheConstants.{LONGEST_DATAGRAM}
 use Rattle.mesh_addr.specs.declared.records.RawAddr.{RawAddr}
 use Rattle.mesh_addr.specs.Grammar.{padded, IsWritable}
 use Rattle.mesh_addr.specs.Least.{IsLeast}
@@ -107,13 +108,13 @@ pub record LeastForm (packet : PacketFields) (bytes : List ℕ) : Type 0 where
 -- The packet has a least form of more than 65,507 octets, the most that a datagram of UDP over IPv4 takes. So it is where a
 -- message, a TLV block or a value has more than 65,535. A packet has one least form.
 abbrev pub IsTooLong : PacketFields → Type 0
-IsTooLong packet = (bytes : List ℕ) × LeastForm packet bytes × (65507 < length bytes)
+IsTooLong packet = (bytes : List ℕ) × LeastForm packet bytes × (LONGEST_DATAGRAM < length bytes)
 
 -- ---- words of the writers
 
 -- each text of this kind, behind so many octets, passes 65,507
 abbrev pub Passes : (List ℕ → Type 0) → ℕ → Type 0
-Passes Least before = (text : List ℕ) → Least text → 65507 < before + length text
+Passes Least before = (text : List ℕ) → Least text → LONGEST_DATAGRAM < before + length text
 
 -- a text of this kind was put behind the old octets
 abbrev pub Wrote : (List ℕ → Type 0) → List ℕ → List ℕ → Type 0

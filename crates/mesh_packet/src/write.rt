@@ -13,12 +13,9 @@ ghost use Rattle.mesh_packet.specs.Least.{IsEncodableBlock, IsEncodableMessage, 
 use crate::flags::{COUNT, LIMIT, ORIGINATOR, PACKET_SEQUENCE, PACKET_TLVS, SEQUENCE};
 use crate::packet::{Block, EncodeFault, Message, Packet};
 use mesh_addr::{RawAddr, write_least};
-use mesh_atoms::Bytes;
+use mesh_atoms::{Bytes, LONGEST_DATAGRAM};
 use mesh_tlv::{Tlv, flag, put_short, write_addr_tlvs, write_tlvs};
 use std::alloc::{AllocError, Global};
-
-/// The most octets of a packet, which a datagram of UDP over IPv4 takes.
-const LONGEST: usize = 65507;
 
 /// The octets of a message before its body: type, flags and size.
 const FRONT: usize = 4;
@@ -122,11 +119,11 @@ fn put_message(message: &Message, body: &Bytes, out: &mut Bytes) -> Result<(), E
     requires some { 0 < message.now.width }
     requires most { message.now.width ≤ 16 }
     requires body { LeastBody (fields_of_message message.now) body.now }
-    requires room { length out.old ≤ 65507 }
-    ensures ok { OnOk result (Wrote (LeastMessage (fields_of_message message.now)) out.old out.new × (length out.new ≤ 65507)) }
-    ensures too_long { result ≡ Err EncodeFault.TooLong → 65507 < length out.old + (4 + length body.now) }
+    requires room { length out.old ≤ LONGEST_DATAGRAM }
+    ensures ok { OnOk result (Wrote (LeastMessage (fields_of_message message.now)) out.old out.new × (length out.new ≤ LONGEST_DATAGRAM)) }
+    ensures too_long { result ≡ Err EncodeFault.TooLong → LONGEST_DATAGRAM < length out.old + (4 + length body.now) }
 {
-    let room = LONGEST - out.len();
+    let room = LONGEST_DATAGRAM - out.len();
     if room < FRONT || room - FRONT < body.len() {
         return Err(EncodeFault::TooLong);
     }
@@ -140,8 +137,8 @@ fn put_message(message: &Message, body: &Bytes, out: &mut Bytes) -> Result<(), E
 /// Appends a message. Its body is first written into `body`, since its size stands before it.
 fn write_message(message: &Message, body: &mut Bytes, out: &mut Bytes) -> Result<(), EncodeFault>
     requires encodable { IsEncodableMessage (fields_of_message message.now) }
-    requires room { length out.old ≤ 65507 }
-    ensures ok { OnOk result (Wrote (LeastMessage (fields_of_message message.now)) out.old out.new × (length out.new ≤ 65507)) }
+    requires room { length out.old ≤ LONGEST_DATAGRAM }
+    ensures ok { OnOk result (Wrote (LeastMessage (fields_of_message message.now)) out.old out.new × (length out.new ≤ LONGEST_DATAGRAM)) }
     ensures too_long { result ≡ Err EncodeFault.TooLong → Passes (LeastMessage (fields_of_message message.now)) (length out.old) }
 {
     body.clear();
@@ -162,8 +159,8 @@ fn body_room(alloc: Global) -> Bytes
 /// Appends messages.
 fn write_messages(alloc: Global, messages: &[Message], out: &mut Bytes) -> Result<(), EncodeFault>
     requires encodable { All IsEncodableMessage (map fields_of_message messages.now) }
-    requires room { length out.old ≤ 65507 }
-    ensures ok { OnOk result (Wrote (SpellsItems LeastMessage (map fields_of_message messages.now)) out.old out.new × (length out.new ≤ 65507)) }
+    requires room { length out.old ≤ LONGEST_DATAGRAM }
+    ensures ok { OnOk result (Wrote (SpellsItems LeastMessage (map fields_of_message messages.now)) out.old out.new × (length out.new ≤ LONGEST_DATAGRAM)) }
     ensures too_long { result ≡ Err EncodeFault.TooLong → Passes (SpellsItems LeastMessage (map fields_of_message messages.now)) (length out.old) }
 {
     let mut body = body_room(alloc);
@@ -176,7 +173,7 @@ fn write_messages(alloc: Global, messages: &[Message], out: &mut Bytes) -> Resul
 /// Appends the TLV block of a packet's header, where it isn't empty.
 fn write_header_tlvs(tlvs: &[Tlv], out: &mut Bytes) -> Result<(), EncodeFault>
     ensures ok { OnOk result (out.new ≡ out.old ++ least_header_tlvs (map fields tlvs.now)) }
-    ensures too_long { result ≡ Err EncodeFault.TooLong → 65507 < length (least_header_tlvs (map fields tlvs.now)) }
+    ensures too_long { result ≡ Err EncodeFault.TooLong → LONGEST_DATAGRAM < length (least_header_tlvs (map fields tlvs.now)) }
 {
     match tlvs {
         [] => Ok(()),
@@ -197,13 +194,13 @@ fn packet_flags(packet: &Packet) -> u8
 /// Appends what a packet has before its messages.
 fn write_header(packet: &Packet, out: &mut Bytes) -> Result<(), EncodeFault>
     requires { out.old ≡ [] }
-    ensures ok { OnOk result ((out.new ≡ packet_flags (fields_of_packet packet.now) ∷ (least_number packet.now.sequence ++ least_header_tlvs (map fields packet.now.tlvs))) × (length out.new ≤ 65507)) }
-    ensures too_long { result ≡ Err EncodeFault.TooLong → 65507 < 1 + length (least_number packet.now.sequence) + length (least_header_tlvs (map fields packet.now.tlvs)) }
+    ensures ok { OnOk result ((out.new ≡ packet_flags (fields_of_packet packet.now) ∷ (least_number packet.now.sequence ++ least_header_tlvs (map fields packet.now.tlvs))) × (length out.new ≤ LONGEST_DATAGRAM)) }
+    ensures too_long { result ≡ Err EncodeFault.TooLong → LONGEST_DATAGRAM < 1 + length (least_number packet.now.sequence) + length (least_header_tlvs (map fields packet.now.tlvs)) }
 {
     out.push(packet_flags(packet))?;
     put_number(packet.sequence, out)?;
     write_header_tlvs(packet.tlvs.as_slice(), out)?;
-    if out.len() > LONGEST {
+    if out.len() > LONGEST_DATAGRAM {
         return Err(EncodeFault::TooLong);
     }
     Ok(())
@@ -212,7 +209,7 @@ fn write_header(packet: &Packet, out: &mut Bytes) -> Result<(), EncodeFault>
 /// The least form, if it fits.
 fn least_form(alloc: Global, packet: &Packet) -> Result<Bytes, EncodeFault>
     requires { IsEncodable (fields_of_packet packet.now) }
-    ensures ok { IfOk result (λ bytes. LeastForm (fields_of_packet packet.now) bytes × (length bytes ≤ 65507)) }
+    ensures ok { IfOk result (λ bytes. LeastForm (fields_of_packet packet.now) bytes × (length bytes ≤ LONGEST_DATAGRAM)) }
     ensures too_long { result ≡ Err EncodeFault.TooLong → Passes (LeastForm (fields_of_packet packet.now)) 0 }
 {
     let mut out = Bytes::new(alloc);
@@ -230,7 +227,7 @@ pub fn encode(alloc: Global, packet: &Packet) -> Result<Bytes, EncodeFault>
 
     // What is written.
     ensures least { IfOk result (LeastForm (fields_of_packet packet.now)) }
-    ensures fits { IfOk result (λ bytes. length bytes ≤ 65507) }
+    ensures fits { IfOk result (λ bytes. length bytes ≤ LONGEST_DATAGRAM) }
 
     // It spells the packet.
     ensures spelled { IfOk result (λ bytes. (spans : List Span) × Spells (fields_of_packet packet.now) spans bytes) }

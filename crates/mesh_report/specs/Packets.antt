@@ -2,6 +2,7 @@
 use Rattle.std.specs.Prelude.{◌≡◌, ℕ, ◌≤◌, ◌⊎◌, List, [], ◌∷◌, ◌++◌, length, Result, Ok, Err, Bool, true, false, codes}
 use Rattle.std.specs.List.{flat_map}
 use Rattle.mesh_atoms.specs.declared.refusal.Refusal.{Refusal}
+use Rattle.mesh_atoms.specs.declared.limits.TheConstants.{LONGEST_DATAGRAM}
 use Rattle.mesh_packet.specs.Fields.{BlockFields, MessageFields, PacketFields, fields_of_decoded}
 use Rattle.mesh_packet.specs.Least.{IsEncodable, LeastForm, IsTooLong}
 use Rattle.mesh_packet.specs.declared.packet.Span.{Span}
@@ -51,7 +52,7 @@ recode_line octets = codes " recode " ++ encode_lower octets ++ codes "\n"
 -- the last line of a packet: the packet in its least form, or `none` where that has more than 65,507 octets
 abbrev pub IsRecodeLine : PacketFields → List ℕ → Type 0
 IsRecodeLine packet line =
-    ((octets : List ℕ) × LeastForm packet octets × (length octets ≤ 65507) × (line ≡ recode_line octets))
+    ((octets : List ℕ) × LeastForm packet octets × (length octets ≤ LONGEST_DATAGRAM) × (line ≡ recode_line octets))
     ⊎ (IsTooLong packet × (line ≡ codes " recode none\n"))
 
 -- what can be listed: a packet that has a place for each message and can be written again, or a refusal

@@ -5,6 +5,7 @@ use Rattle.mesh_atoms.specs.declared.addr.Addr4.{Addr4}
 use Rattle.mesh_atoms.specs.declared.hello.Hello.{Hello}
 use Rattle.mesh_atoms.specs.declared.hello.Willing.{Willing}
 use Rattle.mesh_atoms.specs.declared.tc.Tc.{Tc}
+use Rattle.mesh_atoms.specs.declared.limits.TheConstants.{LONGEST_DATAGRAM}
 use Rattle.mesh_atoms.specs.Codes.Codes.{time_value, IsSentCode}
 use Rattle.mesh_addr.specs.declared.records.RawAddr.{RawAddr}
 use Rattle.mesh_packet.specs.Fields.{MessageFields}
@@ -90,4 +91,4 @@ DraftsTc tc hop_limit validity m =
 
 -- each least form of a packet of the message alone fits a datagram
 abbrev pub FitsAlone : MessageFields → Type 0
-FitsAlone message = (bytes : List ℕ) → LeastForm (alone message) bytes → length bytes ≤ 65507
+FitsAlone message = (bytes : List ℕ) → LeastForm (alone message) bytes → length bytes ≤ LONGEST_DATAGRAM

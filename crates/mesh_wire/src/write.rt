@@ -1,6 +1,7 @@
 //! Writing HELLO and TC messages, each as a packet of its own.
 ghost use Rattle.std.specs.Prelude.{◌≡◌, ◌<◌, ◌≤◌, ◌++◌, [], ℕ, length, map, slice_index, List, IfOk, OnOk};
 ghost use Rattle.std.specs.Option.{option_map};
+ghost use Rattle.mesh_atoms.specs.declared.limits.TheConstants.{LONGEST_DATAGRAM};
 ghost use Rattle.mesh_tlv.specs.Fields.{fields};
 ghost use Rattle.mesh_atoms.specs.Codes.Codes.{time_at_distance};
 ghost use Rattle.mesh_atoms.specs.Validity.{IsTimeValue};
@@ -120,7 +121,7 @@ fn heading_of<'a>(
 // The octets of a packet whose least form fits a datagram.
 fn encoded(alloc: Global, packet: &Packet) -> Result<Bytes, AllocError>
     requires encodable { IsEncodable (fields_of_packet packet.now) }
-    requires fits { (bytes : List ℕ) → LeastForm (fields_of_packet packet.now) bytes → length bytes ≤ 65507 }
+    requires fits { (bytes : List ℕ) → LeastForm (fields_of_packet packet.now) bytes → length bytes ≤ LONGEST_DATAGRAM }
     ensures { IfOk result (LeastForm (fields_of_packet packet.now)) }
 {
     match encode(alloc, packet) {

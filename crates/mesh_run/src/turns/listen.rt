@@ -1,5 +1,6 @@
 //! What the interfaces of a running router hear.
 ghost use Rattle.std.specs.Prelude.{◌≡◌, ◌<◌, ◌≤◌, ◌+◌, ◌^◌, [], ℕ, length, OnOk, OnErr, IfOk};
+ghost use Rattle.mesh_atoms.specs.declared.limits.TheConstants.{LONGEST_DATAGRAM};
 ghost use Rattle.mesh_run.specs.Turns.Parts.{IsReady, HearsInterface, HearsInVain, Going, Broken, at};
 
 use crate::turns::events::hear;
@@ -30,7 +31,7 @@ fn listen<M: Machine, A: Air>(
 ) -> Result<(), AllocError>
     requires now { now < 2 ^ 62 }
     requires iface { iface < A.attached air.old }
-    requires longest { length buf.old ≡ 65507 }
+    requires longest { length buf.old ≡ LONGEST_DATAGRAM }
     requires ready { IsReady (M.state router.old) (A.attached air.old) now }
     ensures hears { OnOk result (HearsInterface now iface (M.state router.old) (M.state router.new)
         (A.reports air.old) (A.reports air.new) tally.old tally.new) }
@@ -38,7 +39,7 @@ fn listen<M: Machine, A: Air>(
     ensures ready { OnOk result (IsReady (M.state router.new) (A.attached air.new) now) }
     ensures attached { A.attached air.new ≡ A.attached air.old }
     ensures later { A.faults air.old ≤ A.faults air.new }
-    ensures longest { length buf.new ≡ 65507 }
+    ensures longest { length buf.new ≡ LONGEST_DATAGRAM }
 {
     match air.hear(iface, buf) {
         Ear::Frame { len, sender } => {
@@ -66,7 +67,7 @@ pub fn listen_all<M: Machine, A: Air>(
 ) -> Result<(), AllocError>
     requires now { now < 2 ^ 62 }
     requires count { count ≡ A.attached air.old }
-    requires longest { length buf.old ≡ 65507 }
+    requires longest { length buf.old ≡ LONGEST_DATAGRAM }
     requires ready { IsReady (M.state router.old) (A.attached air.old) now }
     ensures goes { (end : ℕ) → OnOk result (Going end count (at (M.state router.old) now 0) (at (M.state router.new) now count) []
         (A.reports air.old) (A.reports air.new) tally.old tally.new) }
@@ -75,7 +76,7 @@ pub fn listen_all<M: Machine, A: Air>(
     ensures ready { OnOk result (IsReady (M.state router.new) (A.attached air.new) now) }
     ensures attached { A.attached air.new ≡ A.attached air.old }
     ensures later { A.faults air.old ≤ A.faults air.new }
-    ensures longest { length buf.new ≡ 65507 }
+    ensures longest { length buf.new ≡ LONGEST_DATAGRAM }
 {
     for iface in 0..count {
         listen(router, now, iface, buf, out, air, tally)?;

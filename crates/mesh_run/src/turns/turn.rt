@@ -1,5 +1,6 @@
 //! One turn of a running router.
 ghost use Rattle.std.specs.Prelude.{◌≡◌, ◌<◌, ◌≤◌, ◌^◌, length, OnErr, IfOk};
+ghost use Rattle.mesh_atoms.specs.declared.limits.TheConstants.{LONGEST_DATAGRAM};
 ghost use Rattle.mesh_run.specs.Turns.Parts.{IsReady, Turning, Stopped, at};
 ghost use Rattle.mesh_run.specs.Turns.Turns.{moment_of};
 
@@ -28,7 +29,7 @@ pub fn turn<M: Machine, A: Air, C: Clock>(
 ) -> Result<u64, AllocError>
     requires going { greatest < setup.now.end }
     requires attached { A.attached air.old ≡ length setup.now.ports }
-    requires longest { length buffers.old.frame.items ≡ 65507 }
+    requires longest { length buffers.old.frame.items ≡ LONGEST_DATAGRAM }
     requires ready { IsReady (M.state router.old) (A.attached air.old) greatest }
     ensures turns { IfOk result (λ new. Turning setup.now.end (length setup.now.ports) (at (M.state router.old) greatest (length setup.now.ports))
         (at (M.state router.new) (moment_of 0 new) (length setup.now.ports)) 1 greatest new
@@ -38,7 +39,7 @@ pub fn turn<M: Machine, A: Air, C: Clock>(
     ensures ready { IfOk result (λ new. IsReady (M.state router.new) (A.attached air.new) (moment_of 0 new)) }
     ensures attached { A.attached air.new ≡ A.attached air.old }
     ensures later { A.faults air.old ≤ A.faults air.new }
-    ensures longest { length buffers.new.frame.items ≡ 65507 }
+    ensures longest { length buffers.new.frame.items ≡ LONGEST_DATAGRAM }
 {
     let told = clock.now();
     let greatest = u64::max(greatest, told);

@@ -7,7 +7,7 @@ ghost use Rattle.mesh_run.specs.Turns.Turns.{moment_of, DoesTurns, StopsTurns};
 use crate::turns::buffers::Buffers;
 use crate::turns::tally::{Ended, Tally};
 use crate::turns::turn::turn;
-use mesh_atoms::RunSetup;
+use mesh_atoms::{LONGEST_DATAGRAM, RunSetup};
 use mesh_core::{Machine, Outbox};
 use mesh_io::{Air, Clock};
 use std::alloc::{AllocError, Global};
@@ -30,7 +30,7 @@ fn turn_on<M: Machine, A: Air, C: Clock>(
     tally: &mut Tally,
 ) -> Result<StopPoint, AllocError>
     requires attached { A.attached air.old ≡ length setup.now.ports }
-    requires longest { length buffers.old.frame.items ≡ 65507 }
+    requires longest { length buffers.old.frame.items ≡ LONGEST_DATAGRAM }
     requires ready { IsReady (M.state router.old) (A.attached air.old) 0 }
     ensures turns { IfOk result (λ stop. Turning setup.now.end (length setup.now.ports) (at (M.state router.old) 0 (length setup.now.ports))
         (at (M.state router.new) (moment_of 0 stop.greatest) (length setup.now.ports)) stop.turns 0 stop.greatest
@@ -81,7 +81,7 @@ pub fn do_turns<M: Machine, A: Air, C: Clock>(
     ensures attached { A.attached air.new ≡ A.attached air.old }
     ensures later { A.faults air.old ≤ A.faults air.new }
 {
-    let frame = vec![in alloc; 0; 65507]?;
+    let frame = vec![in alloc; 0; LONGEST_DATAGRAM]?;
     let mut buffers = Buffers {
         frame,
         outbox: Outbox::new(alloc),
