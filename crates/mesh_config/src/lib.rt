@@ -15,9 +15,9 @@ mod text;
 pub use build::make_routers;
 pub use checks::{Compared, all_joined, are_distinct, no_duplicates, refuse_duplicates};
 pub use keys::{
-    ConfigFault, address_at, addresses_at, array_at, array_or_none, document, endpoint_at,
-    endpoints_at, found, known_keys, name_at, refusal, refused, string_in, table_at, table_or,
-    ticks, whole_at, whole_or,
+    ConfigFault, LONGEST_SETTINGS, address_at, addresses_at, array_at, array_or_none, document,
+    endpoint_at, endpoints_at, found, known_keys, name_at, refusal, refused, string_in, table_at,
+    table_or, ticks, whole_at, whole_or,
 };
 pub use reading::scenario_of;
 pub use run_tables::{StatedRun, StatedRunInterface, StatedRunRouter, stated_run};

@@ -3,7 +3,7 @@ use Rattle.std.specs.Prelude.{◌≡◌, ℕ, List, [], ◌∷◌, length, codes
 use Rattle.std.specs.Str.{is_utf8}
 use Rattle.toml.specs.Data.{Members}
 use Rattle.toml.specs.Parse.{parse_document}
-use Rattle.mesh_config.specs.declared.keys.parse.TheConstants.{MOST_OCTETS}
+use Rattle.mesh_config.specs.declared.keys.parse.TheConstants.{LONGEST_SETTINGS}
 use Rattle.mesh_config.specs.declared.keys.refusal.TheConstants.{NOT_TOML, TOO_LONG}
 use Rattle.mesh_config.specs.Keys.Faults.{ReadValue, Visits, fault, visit, first}
 use Rattle.mesh_config.specs.Keys.Values.{table_read}
@@ -19,7 +19,7 @@ table_or_fault (Some table) = Ok table
 
 -- the top table: of at most so many octets, which are TOML
 abbrev pub document : List ℕ → ReadValue Members
-document octets = if nat_lt MOST_OCTETS (length octets) then Err (fault TOO_LONG (codes "input")) else table_or_fault (parsed octets)
+document octets = if nat_lt LONGEST_SETTINGS (length octets) then Err (fault TOO_LONG (codes "input")) else table_or_fault (parsed octets)
 
 -- the value is what the text says, where its top table says it
 abbrev pub TextSays : {X : Type 0} → (Members → X → Type 0) → List ℕ → X → Type 0

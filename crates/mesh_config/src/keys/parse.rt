@@ -10,8 +10,8 @@ use crate::keys::refusal::{NOT_TOML, TOO_LONG};
 use std::alloc::{AllocError, Global};
 use toml::Table;
 
-/// The longest text that is read, in octets.
-pub const MOST_OCTETS: usize = 1_048_576;
+/// The longest text of settings that is read, in octets: 1 MiB. Own.
+pub const LONGEST_SETTINGS: usize = 1_048_576;
 
 // The octets as text, where they are UTF-8.
 fn text_of(octets: &[u8]) -> Option<&str>
@@ -23,12 +23,12 @@ fn text_of(octets: &[u8]) -> Option<&str>
     }
 }
 
-/// The top table of the TOML that the octets spell. They are refused with TOO_LONG where they are more than `MOST_OCTETS`,
+/// The top table of the TOML that the octets spell. They are refused with TOO_LONG where they are more than `LONGEST_SETTINGS`,
 /// else with NOT_TOML where they are not UTF-8 or no TOML.
 pub fn document(alloc: Global, octets: &[u8]) -> Result<Table, ConfigFault>
     ensures { GivesSetting table_view result (document octets.now) }
 {
-    if octets.len() > MOST_OCTETS {
+    if octets.len() > LONGEST_SETTINGS {
         return Err(refused(alloc, TOO_LONG, "input"));
     }
     match text_of(octets) {

@@ -1,6 +1,7 @@
 -- What `replay` answers to an input, and which inputs it refuses.
 use Rattle.std.specs.Prelude.{◌≡◌, ◌<◌, ◌≤◌, ℕ, List, ◌++◌, length, codes, decimal, None}
 use Rattle.mesh_atoms.specs.declared.settings.Scenario.{Scenario}
+use Rattle.mesh_config.specs.declared.keys.parse.TheConstants.{LONGEST_SETTINGS}
 use Rattle.mesh_config.specs.Keys.Faults.{first}
 use Rattle.mesh_config.specs.Settings.{SettingsIs, FirstRefusal, refusals}
 use Rattle.mesh_replay.specs.declared.answer.Replay.{Replay}
@@ -21,15 +22,15 @@ pub record Replays (input : List ℕ) (answer : Replay) : Type 0 where
   pub settings : List ℕ
   pub trace : List ℕ
   pub split : IsSplit input settings trace
-  pub within : length settings ≤ 1048576
+  pub within : length settings ≤ LONGEST_SETTINGS
   pub replayed : IsReplayed settings trace answer
 
 -- an input that is refused, with that number and key: no line is `---`, or the scenario has too many octets, or its settings are refused
 pub data IsRefusedInput (input : List ℕ) : ℕ → List ℕ → Type 0 where
   No_trace : HasNoRule input → IsRefusedInput input 41 (codes "trace")
-  Long_scenario : (settings trace : List ℕ) → IsSplit input settings trace → 1048576 < length settings →
+  Long_scenario : (settings trace : List ℕ) → IsSplit input settings trace → LONGEST_SETTINGS < length settings →
       IsRefusedInput input 47 (codes "scenario")
-  By_settings : {number : ℕ} {key : List ℕ} (settings trace : List ℕ) → IsSplit input settings trace → length settings ≤ 1048576 →
+  By_settings : {number : ℕ} {key : List ℕ} (settings trace : List ℕ) → IsSplit input settings trace → length settings ≤ LONGEST_SETTINGS →
       FirstRefusal settings number key → IsRefusedInput input number key
 
 -- the line that tells an answer

@@ -9,12 +9,9 @@ use crate::answer::Replay;
 use crate::checking::replay;
 use crate::command::parts::{Parts, parts_of};
 use mesh_atoms::{Bytes, put_decimal};
-use mesh_config::{ConfigFault, refusal, refused, scenario_of};
+use mesh_config::{ConfigFault, LONGEST_SETTINGS, refusal, refused, scenario_of};
 use mesh_expire::Bases;
 use std::alloc::{AllocError, Global};
-
-// The most octets of a scenario.
-const MOST_STATED: usize = 1_048_576;
 
 // Splits an input that has a line `---`.
 fn split<'a>(alloc: Global, input: &'a [u8]) -> Result<Parts<'a>, ConfigFault>
@@ -56,7 +53,7 @@ pub(crate) fn answer_to<B: Bases>(alloc: Global, input: &[u8]) -> Result<Replay,
         Ok(parts) => parts,
         Err(fault) => return Err(fault),
     };
-    if parts.scenario.len() > MOST_STATED {
+    if parts.scenario.len() > LONGEST_SETTINGS {
         return Err(refused(alloc, refusal::TOO_LONG, "scenario"));
     }
     answer_over::<B>(alloc, parts.scenario, parts.trace)

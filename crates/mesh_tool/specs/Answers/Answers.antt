@@ -1,5 +1,6 @@
 -- What the program answers.
 use Rattle.std.specs.Prelude.{◌≡◌, ◌⊎◌, ℕ, ◌+◌, ◌<◌, ◌≤◌, List, [], length, take, Bool, Option, Some, IsErr}
+use Rattle.mesh_config.specs.declared.keys.parse.TheConstants.{LONGEST_SETTINGS}
 use Rattle.mesh_atoms.specs.declared.addr.Addr4.{Addr4}
 use Rattle.mesh_dump.specs.Dump.{IsDumpText}
 use Rattle.mesh_emulate.specs.Emulation.{Emulation}
@@ -16,6 +17,7 @@ use Rattle.mesh_tool.specs.Jobs.Lines.{words_line, read_line, refused_line, atta
 use Rattle.mesh_tool.specs.Jobs.Works.{Refuses, TakesInput, Finishes, StopsShort, LeavesFront}
 use Rattle.mesh_tool.specs.declared.words.job.Job.{Job}
 use Rattle.mesh_tool.specs.declared.words.job.Job.TheVariants.{Dump, Run, Emulate, Make, Replay}
+use Rattle.mesh_tool.specs.declared.jobs.jobs.TheConstants.{LONGEST_INPUT}
 use Rattle.mesh_emulate.specs.declared.making.kind.Kind.{Kind}
 use Rattle.mesh_tool.specs.Words.Words.{words_of}
 
@@ -26,10 +28,10 @@ pub data FaultLine (call : Call) : Status → List ℕ → Type 0 where
       FaultLine call status.Read read_line
   Refusal : (number : ℕ) (key : List ℕ) (job : Job) → Asks call job → Refuses job call number key → PutsNothing call.out →
       FaultLine call status.Refused (refused_line number key)
-  Attach_fault : (turns interface : ℕ) (octets : List ℕ) → Asks call (Run turns) → IsInput 1048576 call.input octets →
+  Attach_fault : (turns interface : ℕ) (octets : List ℕ) → Asks call (Run turns) → IsInput LONGEST_SETTINGS call.input octets →
       FailsToAttach octets interface call.air.told → RoseByOne call.air.faults call.air.faults' → PutsNothing call.out →
       FaultLine call status.Attach (attach_line interface)
-  Turns_spent : (turns greatest end : ℕ) (octets : List ℕ) → Asks call (Run turns) → IsInput 1048576 call.input octets →
+  Turns_spent : (turns greatest end : ℕ) (octets : List ℕ) → Asks call (Run turns) → IsInput LONGEST_SETTINGS call.input octets →
       SpendsTurns octets turns greatest end call.air.told → PutsNothing call.out → FaultLine call status.Turns (turns_line turns greatest end)
   Want_of_memory : (job : Job) → Asks call job → StopsShort call job → FaultLine call status.Memory memory_line
 
@@ -38,7 +40,7 @@ pub data Whole (call : Call) : Status → Type 0 where
   All_well : (job : Job) → Asks call job → Finishes call job 0 → Whole call status.Done
   Some_refused : (recode : Bool) (refused : ℕ) → Asks call (Dump recode) → 0 < refused → Finishes call (Dump recode) refused →
       Whole call status.Packets
-  Is_no_run : (octets : List ℕ) (line : ℕ) → Asks call Replay → IsInput 67108864 call.input octets → Replays octets (No line) →
+  Is_no_run : (octets : List ℕ) (line : ℕ) → Asks call Replay → IsInput LONGEST_INPUT call.input octets → Replays octets (No line) →
       PutsText call.out (answer_line (No line)) → Whole call status.NotARun
 
 -- a write failed: on out, where a front of a text of the job then stands, and nothing on err; or on err, where a front of the line of
@@ -67,32 +69,32 @@ pub record Answers (call : Call) (answer : Status) : Type 0 where
   pub ends : OutputStands call answer
   -- 0 to `dump`: the listing of the whole input stands on out, and none of its lines is refused
   pub dumped : (recode : Bool) → answer ≡ status.Done → Asks call (Dump recode) →
-      (octets : List ℕ) × IsInput 67108864 call.input octets × (text : List ℕ) × IsDumpText octets recode 0 text × PutsText call.out text
+      (octets : List ℕ) × IsInput LONGEST_INPUT call.input octets × (text : List ℕ) × IsDumpText octets recode 0 text × PutsText call.out text
   -- 0 to `run`: the input states a router, and the report of its run, by the moments and the reports told, stands on out
   pub ran : (turns : ℕ) → answer ≡ status.Done → Asks call (Run turns) →
-      (octets : List ℕ) × IsInput 1048576 call.input octets × (r : WholeRouterRun octets turns call.air.told) × PutsText call.out r.text
+      (octets : List ℕ) × IsInput LONGEST_SETTINGS call.input octets × (r : WholeRouterRun octets turns call.air.told) × PutsText call.out r.text
   -- whatever is answered to `run`: the clock and the air weren't used, or they told a run of the router that the input states, or some
   -- first turns of one, with all frames that were handed over
   pub hands : (turns : ℕ) → Asks call (Run turns) →
-      UsesNoAir call.air ⊎ ((octets : List ℕ) × IsInput 1048576 call.input octets × RunsSoFar octets turns call.air.told)
+      UsesNoAir call.air ⊎ ((octets : List ℕ) × IsInput LONGEST_SETTINGS call.input octets × RunsSoFar octets turns call.air.told)
   -- no other command uses the clock or the air
   pub airless : (job : Job) → Asks call job → ((turns : ℕ) → job ≡ Run turns → ⊥) → UsesNoAir call.air
   -- 0 to `emulate`: the input states a scenario, and the text of a run of its network, from its opening to its end, stands on out,
   -- and behind it the trip and the probe that the words ask for
   pub emulated : (trace : Bool) (send : Option (ℕ × Addr4)) (probe : Option ℕ) → answer ≡ status.Done → Asks call (Emulate trace send probe) →
-      (octets : List ℕ) × IsInput 1048576 call.input octets × (e : Emulation octets (wants_in call.words trace send probe))
+      (octets : List ℕ) × IsInput LONGEST_SETTINGS call.input octets × (e : Emulation octets (wants_in call.words trace send probe))
       × PutsText call.out e.text
   -- 0 to `emulate --make`: what is told of a run of the made scenario stands on out, and nothing was read
   pub made : (kind : Kind) (routers seed : ℕ) → answer ≡ status.Done → Asks call (Make kind routers seed) →
       (m : MadeEmulation kind routers seed) × PutsText call.out m.text × ReadsNothing call.input
   -- 0 to `replay`: the trace of the input is whole, and the line that says so, with the number of its lines, stands on out
   pub replayed : answer ≡ status.Done → Asks call Replay →
-      (octets : List ℕ) × IsInput 67108864 call.input octets × (lines : ℕ) × Replays octets (Yes lines)
+      (octets : List ℕ) × IsInput LONGEST_INPUT call.input octets × (lines : ℕ) × Replays octets (Yes lines)
       × PutsText call.out (answer_line (Yes lines))
   -- 9: the words ask for `replay`, the trace of the input is none of a run, and the line that says so, with the number of the first line
   -- that doesn't fit, stands on out, and nothing on err
   pub not_a_run : answer ≡ status.NotARun → Asks call Replay
-      × (octets : List ℕ) × IsInput 67108864 call.input octets × (line : ℕ) × Replays octets (No line)
+      × (octets : List ℕ) × IsInput LONGEST_INPUT call.input octets × (line : ℕ) × Replays octets (No line)
       × PutsText call.out (answer_line (No line)) × PutsText call.err []
   -- 4 to `replay`: the input is too long, or no line of it is `---`, or its scenario is too long or refused; the line that says so stands
   -- on err, and nothing on out

@@ -2,6 +2,7 @@
 use Rattle.std.specs.Prelude.{◌≡◌, ◌⊎◌, ℕ, List, [], length, Bool, Option, Some, None, option_map, slice_get, unwrap_or}
 use Rattle.mesh_atoms.specs.declared.addr.Addr4.{Addr4}
 use Rattle.mesh_atoms.specs.declared.settings.RunSetup.{RunSetup}
+use Rattle.mesh_config.specs.declared.keys.parse.TheConstants.{LONGEST_SETTINGS}
 use Rattle.mesh_config.specs.RunSettings.{FirstRunRefusal}
 use Rattle.mesh_dump.specs.Dump.{IsDumpText, IsDumpFront, IsFirstLinesText}
 use Rattle.mesh_emulate.specs.Emulation.{Emulation, IsRefused, IsFirstPart, IsFront}
@@ -15,6 +16,7 @@ use Rattle.mesh_run.specs.Run.{ToldInCall, StatesSetup, WholeRouterRun, SpendsTu
 use Rattle.mesh_tool.specs.Jobs.Calls.{AirUse, UsesNoAir, Call}
 use Rattle.mesh_tool.specs.declared.words.job.Job.{Job}
 use Rattle.mesh_tool.specs.declared.words.job.Job.TheVariants as job
+use Rattle.mesh_tool.specs.declared.jobs.jobs.TheConstants.{LONGEST_INPUT}
 
 -- what a command does, by the octets that it works on
 pub record Command : Type 1 where
@@ -82,14 +84,14 @@ RunsSoFar octets turns told =
 abbrev pub command_of : List (List ℕ) → AirUse → Job → Command
 -- `dump`: the listing of the lines; of some first ones
 command_of words air (job.Dump recode) = record (idle_command air) {
-  most = Some 67108864;
+  most = Some LONGEST_INPUT;
   is_text = λ octets refused text. IsDumpText octets recode refused text;
   is_first_text = λ octets text. IsFirstLinesText octets recode text;
   is_front = λ octets text. IsDumpFront octets recode text;
 }
 -- `run`: the report of a run of the router, each port of which is attached; nothing of some first turns
 command_of words air (job.Run turns) = record (idle_command air) {
-  most = Some 1048576;
+  most = Some LONGEST_SETTINGS;
   refuses = λ octets number key. FirstRunRefusal octets number key;
   attaches = λ octets. (setup : RunSetup) → StatesSetup octets setup → air.told.attached' ≡ length setup.ports;
   is_text = λ octets refused text. (refused ≡ 0) × (r : WholeRouterRun octets turns air.told) × (text ≡ r.text);
@@ -101,7 +103,7 @@ command_of words air (job.Run turns) = record (idle_command air) {
 }
 -- `emulate`: the text of an emulation; of some first events of the run, or of all but the trip or the probe
 command_of words air (job.Emulate trace send probe) = record (idle_command air) {
-  most = Some 1048576;
+  most = Some LONGEST_SETTINGS;
   refuses = λ octets number key. IsRefused octets (wants_in words trace send probe) number key;
   is_text = λ octets refused text. (refused ≡ 0) × (e : Emulation octets (wants_in words trace send probe)) × (text ≡ e.text);
   is_first_text = λ octets text. IsFirstPart octets (wants_in words trace send probe) text;
@@ -114,7 +116,7 @@ command_of words air (job.Make kind routers seed) = record (idle_command air) {
 }
 -- `replay`: the line of the answer to the input
 command_of words air job.Replay = record (idle_command air) {
-  most = Some 67108864;
+  most = Some LONGEST_INPUT;
   refuses = λ octets number key. IsRefusedInput octets number key;
   is_text = λ octets refused text. (refused ≡ 0) × (lines : ℕ) × Replays octets (Yes lines) × (text ≡ answer_line (Yes lines));
   is_unfit = λ octets text. (line : ℕ) × Replays octets (No line) × (text ≡ answer_line (No line));

@@ -13,6 +13,7 @@ use crate::jobs::ending::Ending;
 use crate::jobs::words::word_or;
 use crate::words::{Job, Kind, read_words};
 use mesh_atoms::{Addr4, Bytes};
+use mesh_config::LONGEST_SETTINGS;
 use mesh_emulate::{EmulateFault, NamedPacket, Wanted};
 use mesh_expire::Bases;
 use mesh_io::{Air, Clock, ReadFault, Sink, Source, Stop, read_all};
@@ -20,10 +21,8 @@ use mesh_replay::{Replay, ReplayFault};
 use mesh_run::RunFault;
 use std::alloc::Global;
 
-// The most octets that an input may have: of `dump` and `replay`, and of `run` and `emulate`.
-const MOST_OCTETS: usize = 67_108_864;
-
-const MOST_STATED: usize = 1_048_576;
+/// The longest input of `dump` and `replay`, in octets: 64 MiB. Own.
+pub const LONGEST_INPUT: usize = 67_108_864;
 
 // The whole input, or why it wasn't read whole.
 fn read_input<S: Source>(alloc: Global, input: &mut S, most: usize) -> Result<Bytes, Ending>
@@ -213,11 +212,11 @@ fn most_octets(job: Job) -> Option<usize>
     ensures { (words : List (List ℕ)) (air : AirUse) → result ≡ (command_of words air job).most }
 {
     match job {
-        Job::Dump { .. } => Some(MOST_OCTETS),
-        Job::Run { .. } => Some(MOST_STATED),
-        Job::Emulate { .. } => Some(MOST_STATED),
+        Job::Dump { .. } => Some(LONGEST_INPUT),
+        Job::Run { .. } => Some(LONGEST_SETTINGS),
+        Job::Emulate { .. } => Some(LONGEST_SETTINGS),
         Job::Make { .. } => None,
-        Job::Replay => Some(MOST_OCTETS),
+        Job::Replay => Some(LONGEST_INPUT),
     }
 }
 

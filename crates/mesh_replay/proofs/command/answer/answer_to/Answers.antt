@@ -3,13 +3,13 @@ use Rattle.mesh_replay.specs.Command.Replays.{IsRefusedInput, Long_scenario}
 use Rattle.mesh_replay.proofs.CommandLemmas.Refusing.{refused_so, settings_refused}
 use Rattle.mesh_replay.proofs.command.answer.answer_to.Goals as goal
 
-pub returns-then-parts-gt-MOST_STATED-clause-refused : goal.returns-then-parts-gt-MOST_STATED-clause-refused
-returns-then-parts-gt-MOST_STATED-clause-refused g c =
+pub returns-then-parts-gt-LONGEST_SETTINGS-clause-refused : goal.returns-then-parts-gt-LONGEST_SETTINGS-clause-refused
+returns-then-parts-gt-LONGEST_SETTINGS-clause-refused g c =
     let parts = c.in-Ok.parts in
     refused_so (IsRefusedInput c.args.input.now) c.refused.result 47 (codes "scenario") c.refused.ensures.answer
-    (Long_scenario parts.scenario.now parts.trace.now c.in-Ok.ensures.split c.if-parts-gt-MOST_STATED.true)
+    (Long_scenario parts.scenario.now parts.trace.now c.in-Ok.ensures.split c.if-parts-gt-LONGEST_SETTINGS.true)
 
 pub returns-clause-refused : goal.returns-clause-refused
 returns-clause-refused g c =
     let parts = c.in-Ok.parts in
-    settings_refused c.args.input.now parts.scenario.now parts.trace.now c.answer_over.result c.in-Ok.ensures.split c.if-parts-gt-MOST_STATED.false c.answer_over.ensures.refused
+    settings_refused c.args.input.now parts.scenario.now parts.trace.now c.answer_over.result c.in-Ok.ensures.split c.if-parts-gt-LONGEST_SETTINGS.false c.answer_over.ensures.refused
