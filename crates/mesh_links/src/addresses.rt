@@ -24,7 +24,7 @@ pub fn are_same(addrs: &[Addr4], others: &[Addr4]) -> bool
 }
 
 /// Whether a list has an address among the old ones and one outside the new ones.
-pub fn leaves(addrs: &[Addr4], old: &[Addr4], new: &[Addr4]) -> bool
+pub fn are_outside(addrs: &[Addr4], old: &[Addr4], new: &[Addr4]) -> bool
     ensures { IsTrue result ↔ (Meets addrs.now old.now × IsBeyond addrs.now new.now) }
 {
     meets(addrs, old) && is_beyond(addrs, new)

@@ -53,7 +53,7 @@ fn rule_on(link: &Link, until: u64, quality: u8, now: u64, hold: u64, rule: &Adm
 }
 
 /// Whether the link with that moment is already as the ruling has it.
-fn conforms(link: &Link, until: u64, ruling: Ruling) -> bool
+fn is_as_ruled(link: &Link, until: u64, ruling: Ruling) -> bool
     ensures { IsTrue result ↔ (ruled ruling link.now ≡ (link.now, until)) }
 {
     link.quality == ruling.quality
@@ -104,7 +104,7 @@ pub fn ruling_on(
 {
     let quality = quality_of(link, now, rule, steady);
     let ruling = rule_on(link, until, quality, now, hold, rule);
-    if conforms(link, until, ruling) {
+    if is_as_ruled(link, until, ruling) {
         None
     } else {
         Some(ruling)

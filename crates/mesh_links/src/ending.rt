@@ -7,7 +7,7 @@ ghost use Rattle.mesh_atoms.specs.Words.{IsKept, Meets};
 ghost use Rattle.mesh_links.specs.Ending.{Spares};
 ghost use Rattle.mesh_links.specs.Owners.{HasLinkOwners, owner_of, IsKeptOrGone};
 
-use crate::addresses::{is_apart, leaves};
+use crate::addresses::{are_outside, is_apart};
 use indexmap::IndexMap;
 use mesh_atoms::{Addr4, Link, LinkKey};
 use mesh_expire::Table;
@@ -22,12 +22,12 @@ pub enum LinksToEnd<'a> {
 }
 
 /// Whether the link stays.
-fn spares(which: LinksToEnd, link: &Link) -> bool
+fn is_spared(which: LinksToEnd, link: &Link) -> bool
     ensures { IsTrue result ↔ Spares which.entry link.now }
 {
     let addrs = link.addrs.as_slice();
     match which {
-        LinksToEnd::Outside(old, new) => !leaves(addrs, old, new),
+        LinksToEnd::Outside(old, new) => !are_outside(addrs, old, new),
         LinksToEnd::Beside(sending) => is_apart(addrs, sending),
     }
 }
@@ -50,7 +50,7 @@ fn ended_at<T: Table<LinkKey, Link>>(
     let Some((link, _until)) = table.get(key) else {
         return None;
     };
-    if spares(which, link) {
+    if is_spared(which, link) {
         None
     } else {
         Some(*key)

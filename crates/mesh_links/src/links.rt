@@ -12,7 +12,7 @@ use crate::expiry::expire_all;
 use crate::hearing::hear_on;
 use crate::owners::{link_with, purge_after};
 use crate::status::selector_of;
-use crate::staying::all_stay;
+use crate::staying::are_all_unchanged;
 use indexmap::IndexMap;
 use mesh_atoms::{Addr4, Admit, Link, LinkKey, LinkState, Shown};
 use mesh_expire::Table;
@@ -90,12 +90,12 @@ impl<T: Table<LinkKey, Link>> LinkSet<T> {
 
     /// Whether nothing becomes of any link at a moment: each is as its quality has it, none is expired, and each is SYMMETRIC
     /// where it was so at the last moment. The moment and the hold time are below 2^62. Looks at each link once. Takes no memory.
-    pub fn stay(&self, last: u64, now: u64, hold: u64, rule: &Admit) -> bool
+    pub fn are_unchanged(&self, last: u64, now: u64, hold: u64, rule: &Admit) -> bool
         requires now { now < 2 ^ 62 }
         requires hold { hold < 2 ^ 62 }
         ensures { IsTrue result ↔ AllStay rule.now hold last now self.now }
     {
-        all_stay(&self.table, last, now, hold, rule)
+        are_all_unchanged(&self.table, last, now, hold, rule)
     }
 
     /// Takes in what a HELLO shows of its link: the link with the sending list is renewed or made, PENDING where the rule

@@ -53,7 +53,7 @@ pub fn own_all(
 }
 
 /// Whether a link has the key.
-fn stands<T: Table<LinkKey, Link>>(table: &T, key: LinkKey) -> bool
+fn has_key<T: Table<LinkKey, Link>>(table: &T, key: LinkKey) -> bool
     ensures { result ≡ is_some (find link_eq (T.content table.now) key) }
 {
     table.get(&key).is_some()
@@ -65,7 +65,7 @@ fn purge<T: Table<LinkKey, Link>>(owners: &mut IndexMap<Addr4, LinkKey>, table: 
 {
     // Its keys are distinct, which the proof needs.
     let _count = owners.len();
-    owners.retain(|_, key| stands(table, *key));
+    owners.retain(|_, key| has_key(table, *key));
 }
 
 /// Takes out each address whose link is gone, where some are.

@@ -24,7 +24,7 @@ fn is_admitted_so(link: &Link, until: u64, now: u64, hold: u64, rule: &Admit, st
 }
 
 /// Whether nothing becomes of a link with that moment.
-fn stays(
+fn is_unchanged(
     link: &Link,
     until: u64,
     last: u64,
@@ -44,7 +44,7 @@ fn stays(
 }
 
 /// Whether nothing becomes of the link at a place.
-fn stays_at<T: Table<LinkKey, Link>>(
+fn is_unchanged_at<T: Table<LinkKey, Link>>(
     table: &T,
     place: usize,
     last: u64,
@@ -59,14 +59,14 @@ fn stays_at<T: Table<LinkKey, Link>>(
     ensures { IsTrue result ↔ ((x : LinkKey × (Link × ℕ)) → slice_get (T.content table.now) place ≡ Some x → IsLinkUnchanged rule.now hold last now x.1) }
 {
     match table.at(place) {
-        Some((_, link, until)) => stays(link, until, last, now, hold, rule, steady),
+        Some((_, link, until)) => is_unchanged(link, until, last, now, hold, rule, steady),
         None => true,
     }
 }
 
 /// Whether nothing becomes of any link. Looks at each of them once, up to the first of which something becomes. Takes no
 /// memory.
-pub fn all_stay<T: Table<LinkKey, Link>>(
+pub fn are_all_unchanged<T: Table<LinkKey, Link>>(
     table: &T,
     last: u64,
     now: u64,
@@ -79,7 +79,7 @@ pub fn all_stay<T: Table<LinkKey, Link>>(
 {
     let steady = is_steady(rule);
     for place in 0..table.len() {
-        if !stays_at(table, place, last, now, hold, rule, steady) {
+        if !is_unchanged_at(table, place, last, now, hold, rule, steady) {
             return false;
         }
     }

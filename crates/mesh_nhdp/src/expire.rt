@@ -9,7 +9,7 @@ use crate::follow::follow_links;
 use crate::interfaces::{Expiry, change_all};
 use crate::near_addresses::{WantedNeighbours, wanted_addresses};
 use crate::nhdp::Nhdp;
-use crate::staying::{expire_beside, links_stay};
+use crate::staying::{are_links_unchanged, expire_beside};
 use mesh_atoms::{Addr4, Link, LinkKey, Lost, Neighbour, RouterSettings, TwoHop, TwoHopKey};
 use mesh_expire::{Bases, Table};
 use mesh_links::LinkSet;
@@ -117,7 +117,7 @@ fn expire_or_stay<
     ensures same { IfOk result (λ same. IsTrue same → near_with links.new two_hops.new neighbours.new losts.new ≡ near_with links.old two_hops.old neighbours.old losts.old) }
     ensures when { IfOk result (λ same. IsTrue same ↔ AllIsAsItWas settings.now last now (near_with links.old two_hops.old neighbours.old losts.old)) }
 {
-    if links_stay(settings, links, last, now) {
+    if are_links_unchanged(settings, links, last, now) {
         Ok(expire_beside(two_hops, losts, now))
     } else {
         expire_all(settings, now, links, two_hops, neighbours, losts)?;

@@ -19,7 +19,7 @@ use crate::follow::{SendingNeighbour, renew_neighbour};
 use crate::interfaces::{Hearing, change_all};
 use crate::keys::keys_of_both;
 use crate::near_addresses::spoken_addresses;
-use crate::sending_link::{stands, update_two_hops_on};
+use crate::sending_link::{has_link, update_two_hops_on};
 use crate::two_hop_rows::TwoHopRows;
 use mesh_atoms::{Addr4, Hello, Link, LinkKey, Lost, Neighbour, RouterSettings, TwoHop, TwoHopKey};
 use mesh_expire::Table;
@@ -62,7 +62,7 @@ fn hear_interfaces<L: Table<LinkKey, Link>, H: Table<TwoHopKey, TwoHop>>(
         → is_symmetric_in (base_of links.new hearing.now.iface) hearing.now.moment least ≡ true
         → RepeatsRows own.now hearing.now.listed.now (base_of two_hops.old hearing.now.iface) least hello.now) }
 {
-    let stood = stands(
+    let stood = has_link(
         links,
         hearing.iface,
         least,

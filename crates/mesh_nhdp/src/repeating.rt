@@ -14,35 +14,35 @@ use mesh_links::LinkSet;
 use mesh_nbrs::NeighbourSet;
 
 /// Whether two metrics, which may be unknown, are the same.
-fn same_metric(metric: Option<Metric>, other: Option<Metric>) -> bool
+fn is_metric_same(metric: Option<Metric>, other: Option<Metric>) -> bool
     ensures { IsTrue result ↔ (metric ≡ other) }
 {
     metric == other
 }
 
 /// Whether two routers are as willing.
-fn same_willing(willing: Willing, other: Willing) -> bool
+fn is_willing_same(willing: Willing, other: Willing) -> bool
     ensures { IsTrue result ↔ (willing ≡ other) }
 {
     willing == other
 }
 
 /// Whether two lists of addresses are the same.
-fn same_addrs(addrs: &[Addr4], others: &[Addr4]) -> bool
+fn are_addrs_same(addrs: &[Addr4], others: &[Addr4]) -> bool
     ensures { IsTrue result ↔ (addrs.now ≡ others.now) }
 {
     addrs == others
 }
 
 /// Whether two flags are the same.
-fn same_flag(flag: bool, other: bool) -> bool
+fn is_flag_same(flag: bool, other: bool) -> bool
     ensures { IsTrue result ↔ (flag ≡ other) }
 {
     flag == other
 }
 
 /// Whether what a HELLO shows of the link leaves that SYMMETRIC, at the same metric, or not SYMMETRIC.
-fn repeats_status(link: &Link, shown: &Shown, now: u64) -> bool
+fn is_status_repeated(link: &Link, shown: &Shown, now: u64) -> bool
     ensures { IsTrue result → RepeatsStatus shown.now now link.now shown.now.status }
 {
     match shown.status {
@@ -51,7 +51,7 @@ fn repeats_status(link: &Link, shown: &Shown, now: u64) -> bool
         Some(_) => {
             link.pending
                 || link.lost
-                || link.is_symmetric(now) && same_metric(link.link_out, shown.link_out)
+                || link.is_symmetric(now) && is_metric_same(link.link_out, shown.link_out)
         }
     }
 }
@@ -61,14 +61,18 @@ fn is_shown(link: &Link, shown: &Shown, now: u64) -> bool
     ensures addrs { IsTrue result → link.now.addrs ≡ shown.now.sending }
     ensures status { IsTrue result → RepeatsStatus shown.now now link.now shown.now.status }
 {
-    if !repeats_status(link, shown, now) {
+    if !is_status_repeated(link, shown, now) {
         return false;
     }
-    same_addrs(link.addrs.as_slice(), shown.sending.as_slice())
+    are_addrs_same(link.addrs.as_slice(), shown.sending.as_slice())
 }
 
 /// Whether the link that the HELLO came over stands.
-fn repeats_link<L: Table<LinkKey, Link>>(now: u64, telling: &HelloInfo, links: &LinkSet<L>) -> bool
+fn is_link_repeated<L: Table<LinkKey, Link>>(
+    now: u64,
+    telling: &HelloInfo,
+    links: &LinkSet<L>,
+) -> bool
     ensures { IsTrue result → RepeatsLink now (told_of telling.now) links.now }
 {
     let Some((link, _)) = links.table().get(&telling.least) else {
@@ -84,17 +88,17 @@ fn is_told(neighbour: &Neighbour, telling: &HelloInfo) -> bool
     ensures selector { IsTrue result → neighbour.now.selector ≡ (telling.now.routing && neighbour.now.symmetric) }
 {
     let selector = telling.routing && neighbour.symmetric;
-    if !same_flag(neighbour.selector, selector) {
+    if !is_flag_same(neighbour.selector, selector) {
         return false;
     }
-    if !same_willing(neighbour.willing, telling.willing) {
+    if !is_willing_same(neighbour.willing, telling.willing) {
         return false;
     }
-    same_addrs(neighbour.addrs.as_slice(), telling.listed.as_slice())
+    are_addrs_same(neighbour.addrs.as_slice(), telling.listed.as_slice())
 }
 
 /// Whether the neighbour that the HELLO tells of stands, with the same addresses, willingness and routing selector flag.
-fn repeats_neighbour<N: Table<Addr4, Neighbour>>(
+fn is_neighbour_repeated<N: Table<Addr4, Neighbour>>(
     neighbours: &NeighbourSet<N>,
     telling: &HelloInfo,
 ) -> bool
@@ -107,7 +111,7 @@ fn repeats_neighbour<N: Table<Addr4, Neighbour>>(
 }
 
 /// Whether what the HELLO tells of its link and its neighbour is held already, but for moments. Looks up these two alone. Takes no memory.
-pub fn repeats<L: Table<LinkKey, Link>, N: Table<Addr4, Neighbour>>(
+pub fn is_repeated<L: Table<LinkKey, Link>, N: Table<Addr4, Neighbour>>(
     now: u64,
     iface: usize,
     telling: &HelloInfo,
@@ -118,8 +122,8 @@ pub fn repeats<L: Table<LinkKey, Link>, N: Table<Addr4, Neighbour>>(
     ensures { IsTrue result → (two_hops : List (Base TwoHopKey TwoHop)) (losts : Base Addr4 Lost)
         → Repeats now iface (told_of telling.now) (near_with links.now two_hops neighbours.now losts) }
 {
-    if !repeats_neighbour(neighbours, telling) {
+    if !is_neighbour_repeated(neighbours, telling) {
         return false;
     }
-    repeats_link(now, telling, &links[iface])
+    is_link_repeated(now, telling, &links[iface])
 }

@@ -18,7 +18,7 @@ use mesh_nbrs::TwoHopSet;
 use std::alloc::AllocError;
 
 /// Whether the link of the interface of that number with that key has exactly these addresses.
-pub fn stands<L: Table<LinkKey, Link>>(
+pub fn has_link<L: Table<LinkKey, Link>>(
     links: &[LinkSet<L>],
     iface: usize,
     key: LinkKey,

@@ -16,7 +16,7 @@ use mesh_links::LinkSet;
 use mesh_nbrs::{LostSet, TwoHopSet};
 
 /// Whether nothing becomes of the links of the interface of that number.
-fn stay_on<L: Table<LinkKey, Link>>(
+fn are_unchanged_on<L: Table<LinkKey, Link>>(
     settings: &RouterSettings,
     links: &LinkSet<L>,
     iface: usize,
@@ -28,11 +28,11 @@ fn stay_on<L: Table<LinkKey, Link>>(
     ensures { IsTrue result ↔ AllStay (rule_of settings.now iface) settings.now.times.link_hold last now links.now }
 {
     let face = &settings.interfaces.as_slice()[iface];
-    links.stay(last, now, settings.times.link_hold, &face.admit)
+    links.are_unchanged(last, now, settings.times.link_hold, &face.admit)
 }
 
 /// Whether nothing becomes of the links of any interface. Looks at each link once. Takes no memory.
-pub fn links_stay<L: Table<LinkKey, Link>>(
+pub fn are_links_unchanged<L: Table<LinkKey, Link>>(
     settings: &RouterSettings,
     links: &[LinkSet<L>],
     last: u64,
@@ -43,7 +43,7 @@ pub fn links_stay<L: Table<LinkKey, Link>>(
     ensures { IsTrue result ↔ LinksStay settings.now last now links.now }
 {
     for i in 0..links.len() {
-        if !stay_on(settings, &links[i], i, last, now) {
+        if !are_unchanged_on(settings, &links[i], i, last, now) {
             return false;
         }
     }
@@ -51,7 +51,7 @@ pub fn links_stay<L: Table<LinkKey, Link>>(
 }
 
 /// Whether nothing went before, and nothing now.
-fn none_went(before: bool, gone: usize) -> bool
+fn is_none_gone(before: bool, gone: usize) -> bool
     ensures { result ≡ (before && nat_eq gone 0) }
 {
     before && gone == 0
@@ -68,7 +68,7 @@ fn expire_two_hops<H: Table<TwoHopKey, TwoHop>>(sets: &mut [TwoHopSet<H>], now: 
     let mut same = true;
     for i in 0..sets.len() {
         let gone = sets[i].expire_and_count(now);
-        same = none_went(same, gone);
+        same = is_none_gone(same, gone);
     }
     same
 }
@@ -84,5 +84,5 @@ pub fn expire_beside<H: Table<TwoHopKey, TwoHop>, O: Table<Addr4, Lost>>(
 {
     let same = expire_two_hops(two_hops, now);
     let gone = losts.expire_and_count(now);
-    none_went(same, gone)
+    is_none_gone(same, gone)
 }

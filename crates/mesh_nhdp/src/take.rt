@@ -9,7 +9,7 @@ ghost use Rattle.mesh_nhdp.specs.NhdpState.{near_with};
 use crate::hearing::{HelloReceipt, hear};
 use crate::judge::{HelloArrival, HelloCheck, judge};
 use crate::nhdp::Nhdp;
-use crate::repeating::repeats;
+use crate::repeating::is_repeated;
 use mesh_atoms::{
     Addr4, Base, Hello, Link, LinkKey, Lost, Neighbour, RouterSettings, TwoHop, TwoHopKey,
 };
@@ -126,7 +126,7 @@ fn take_in<
                 own: own.as_slice(),
                 telling: &telling,
             };
-            let repeated = repeats(arrival.moment, arrival.iface, &telling, links, neighbours);
+            let repeated = is_repeated(arrival.moment, arrival.iface, &telling, links, neighbours);
             let rows = hear(settings, &receipt, links, two_hops, neighbours, losts)?;
             Ok((HelloTaken::Done, !(repeated & rows)))
         }

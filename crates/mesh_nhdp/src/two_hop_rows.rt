@@ -30,7 +30,7 @@ pub fn is_looked_at(row: &HelloRow, own: &[Addr4], listed: &[Addr4]) -> bool
 }
 
 /// Whether the row says that it is a SYMMETRIC neighbour.
-pub fn tells_symmetric(row: &HelloRow) -> bool
+pub fn is_symmetric_row(row: &HelloRow) -> bool
     ensures { result ≡ tells_symmetric row.now.link row.now.other }
 {
     match row.link {
@@ -74,7 +74,7 @@ fn tell_row<H: Table<TwoHopKey, TwoHop>>(
         (record { link = link; addr = row.now.addr.addr }) (row_makes until row.now)) }
     ensures repeats { IfOk result (λ repeats. IsTrue repeats → RepeatsRow two_hops.old link row.now) }
 {
-    if tells_symmetric(row) {
+    if is_symmetric_row(row) {
         let metric_in = or_else(row.metrics.near_in, row.metrics.link_in);
         let metric_out = or_else(row.metrics.near_out, row.metrics.link_out);
         two_hops.renew(link, row.addr.addr, metric_in, metric_out, until)
@@ -128,7 +128,7 @@ fn add_symmetric(
 ) -> Result<(), AllocError>
     ensures { OnOk result (Gathers addrs.old.items addrs.new.items (TellsSymmetric own.now listed.now row.now)) }
 {
-    if is_looked_at(row, own, listed) && tells_symmetric(row) {
+    if is_looked_at(row, own, listed) && is_symmetric_row(row) {
         addrs.push(row.addr.addr)?;
     }
     Ok(())

@@ -5,28 +5,28 @@ use Rattle.std.proofs.Common.{refl}
 use Rattle.std.proofs.lemmas.Bool.{false≢true}
 use Rattle.mesh_nhdp.proofs.expire.expire_or_stay.Goals as goal
 
-pub links_stay-requires-clause-now : goal.links_stay-requires-clause-now
-links_stay-requires-clause-now g c = c.requires.now
+pub are_links_unchanged-requires-clause-now : goal.are_links_unchanged-requires-clause-now
+are_links_unchanged-requires-clause-now g c = c.requires.now
 
-pub links_stay-requires-clause-same : goal.links_stay-requires-clause-same
-links_stay-requires-clause-same g c = c.requires.sound.interfaces
+pub are_links_unchanged-requires-clause-same : goal.are_links_unchanged-requires-clause-same
+are_links_unchanged-requires-clause-same g c = c.requires.sound.interfaces
 
-pub returns-then-links_stay-clause-live : goal.returns-then-links_stay-clause-live
-returns-then-links_stay-clause-live g c =
-    beside_live c.args.settings.now c.args.last c.args.now c.expire_beside.result (near_with c.args.links.now c.args.two_hops.now c.args.neighbours.now c.args.losts.now) (near_with c.args.links.now c.expire_beside.new.two_hops c.args.neighbours.now c.expire_beside.new.losts) c.requires.sound (c.links_stay.ensures.0 c.if-links_stay.true)
+pub returns-then-are_links_unchanged-clause-live : goal.returns-then-are_links_unchanged-clause-live
+returns-then-are_links_unchanged-clause-live g c =
+    beside_live c.args.settings.now c.args.last c.args.now c.expire_beside.result (near_with c.args.links.now c.args.two_hops.now c.args.neighbours.now c.args.losts.now) (near_with c.args.links.now c.expire_beside.new.two_hops c.args.neighbours.now c.expire_beside.new.losts) c.requires.sound (c.are_links_unchanged.ensures.0 c.if-are_links_unchanged.true)
     (c.expire_beside.ensures c.args.links.now c.args.neighbours.now)
 
-pub returns-then-links_stay-clause-sound : goal.returns-then-links_stay-clause-sound
-returns-then-links_stay-clause-sound g c =
-    beside_sound c.args.settings.now c.args.settings.now c.args.last c.args.now c.expire_beside.result (near_with c.args.links.now c.args.two_hops.now c.args.neighbours.now c.args.losts.now) (near_with c.args.links.now c.expire_beside.new.two_hops c.args.neighbours.now c.expire_beside.new.losts) c.requires.sound (c.links_stay.ensures.0 c.if-links_stay.true)
+pub returns-then-are_links_unchanged-clause-sound : goal.returns-then-are_links_unchanged-clause-sound
+returns-then-are_links_unchanged-clause-sound g c =
+    beside_sound c.args.settings.now c.args.settings.now c.args.last c.args.now c.expire_beside.result (near_with c.args.links.now c.args.two_hops.now c.args.neighbours.now c.args.losts.now) (near_with c.args.links.now c.expire_beside.new.two_hops c.args.neighbours.now c.expire_beside.new.losts) c.requires.sound (c.are_links_unchanged.ensures.0 c.if-are_links_unchanged.true)
     (c.expire_beside.ensures c.args.links.now c.args.neighbours.now) refl
 
-pub returns-then-links_stay-clause-same : goal.returns-then-links_stay-clause-same
-returns-then-links_stay-clause-same g c same = (c.expire_beside.ensures c.args.links.now c.args.neighbours.now).unchanged same
+pub returns-then-are_links_unchanged-clause-same : goal.returns-then-are_links_unchanged-clause-same
+returns-then-are_links_unchanged-clause-same g c same = (c.expire_beside.ensures c.args.links.now c.args.neighbours.now).unchanged same
 
-pub returns-then-links_stay-clause-when : goal.returns-then-links_stay-clause-when
-returns-then-links_stay-clause-when g c =
-    as_it_was c.args.settings.now c.args.last c.args.now c.expire_beside.result (near_with c.args.links.now c.args.two_hops.now c.args.neighbours.now c.args.losts.now) (near_with c.args.links.now c.expire_beside.new.two_hops c.args.neighbours.now c.expire_beside.new.losts) c.requires.sound (c.links_stay.ensures.0 c.if-links_stay.true)
+pub returns-then-are_links_unchanged-clause-when : goal.returns-then-are_links_unchanged-clause-when
+returns-then-are_links_unchanged-clause-when g c =
+    as_it_was c.args.settings.now c.args.last c.args.now c.expire_beside.result (near_with c.args.links.now c.args.two_hops.now c.args.neighbours.now c.args.losts.now) (near_with c.args.links.now c.expire_beside.new.two_hops c.args.neighbours.now c.expire_beside.new.losts) c.requires.sound (c.are_links_unchanged.ensures.0 c.if-are_links_unchanged.true)
     (c.expire_beside.ensures c.args.links.now c.args.neighbours.now)
 
 pub expire_all-requires-clause-now : goal.expire_all-requires-clause-now
@@ -45,4 +45,4 @@ pub returns-in_ok-expire_all-clause-same : goal.returns-in_ok-expire_all-clause-
 returns-in_ok-expire_all-clause-same g c same = absurd (false≢true same)
 
 pub returns-in_ok-expire_all-clause-when : goal.returns-in_ok-expire_all-clause-when
-returns-in_ok-expire_all-clause-when g c = ((λ same. absurd (false≢true same)), (λ all. absurd (fails_so _ c.links_stay.ensures c.if-links_stay.false all.links)))
+returns-in_ok-expire_all-clause-when g c = ((λ same. absurd (false≢true same)), (λ all. absurd (fails_so _ c.are_links_unchanged.ensures c.if-are_links_unchanged.false all.links)))

@@ -40,9 +40,9 @@ returns-clause-hears g c =
       same = c.update_two_hops_on.ensures.length;
       each = λ j lt. c.in_ok-change_all.ensures.each j lt c.args.least c.requires.least;
       elsewhere = c.update_two_hops_on.ensures.elsewhere;
-      stood = c.stands-stood.result;
-      stood_is = subst (λ (xs : List Addr4). IsTrue c.stands-stood.result ↔ ((e : Link × ℕ) × (find link_eq (base_of c.args.links.now c.args.hearing.now.iface) c.args.least ≡ Some e) × (e.0.addrs ≡ xs))) c.as_slice.ensures c.stands-stood.ensures;
-      updates = subst (λ (s : Bool). UpdatesTwoHops c.stands-stood.result s c.args.own.now c.args.hearing.now.listed.now c.args.hello.now c.args.least
+      stood = c.has_link-stood.result;
+      stood_is = subst (λ (xs : List Addr4). IsTrue c.has_link-stood.result ↔ ((e : Link × ℕ) × (find link_eq (base_of c.args.links.now c.args.hearing.now.iface) c.args.least ≡ Some e) × (e.0.addrs ≡ xs))) c.as_slice.ensures c.has_link-stood.ensures;
+      updates = subst (λ (s : Bool). UpdatesTwoHops c.has_link-stood.result s c.args.own.now c.args.hearing.now.listed.now c.args.hello.now c.args.least
           (c.args.hearing.now.moment + c.args.hearing.now.shown.now.validity) (base_of c.change_all.new.two_hops c.args.hearing.now.iface) (base_of c.update_two_hops_on.new.two_hops c.args.hearing.now.iface)) c.has_symmetric_on-symmetric.ensures U;
     }) c.update_two_hops_on.ensures.here
 

@@ -8,7 +8,7 @@ use Rattle.mesh_atoms.specs.Base.{addr_eq}
 use Rattle.mesh_atoms.proofs.Lookups.{addr_equiv, same_addr}
 use Rattle.std.proofs.lemmas.Option.{none-some}
 use Rattle.mesh_nhdp.proofs.AllHears.{found_on}
-use Rattle.mesh_nhdp.proofs.sending_link.stands.Goals as goal
+use Rattle.mesh_nhdp.proofs.sending_link.has_link.Goals as goal
 use Rattle.mesh_atoms.proofs.Options.{same_some}
 
 addr_decides : (a b : Addr4) → Decides (addr_eq a b) (a ≡ b)

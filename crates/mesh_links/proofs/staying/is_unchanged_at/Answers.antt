@@ -2,7 +2,7 @@ use Rattle.std.proofs.Common.{◌≡◌, ◌∙◌, ℕ, Some, None, sym, subst,
 use Rattle.mesh_atoms.specs.declared.tuples.LinkKey.{LinkKey}
 use Rattle.mesh_atoms.specs.declared.tuples.Link.{Link}
 use Rattle.mesh_links.specs.Links.{IsLinkUnchanged}
-use Rattle.mesh_links.proofs.staying.stays_at.Goals as goal
+use Rattle.mesh_links.proofs.staying.is_unchanged_at.Goals as goal
 
 some_is : {A : Type 0} (x y : A) → Some x ≡ Some y → x ≡ y
 some_is x y e = cc
@@ -12,8 +12,8 @@ none_is x e = absurd cc
 
 pub returns-in-Some : goal.returns-in-Some
 returns-in-Some g c = (
-  λ yes x at. subst (λ (y : LinkKey × (Link × ℕ)). IsLinkUnchanged c.args.rule.now c.args.hold c.args.last c.args.now y.1) (some_is _ x (c.in-Some.ensures ∙ at)) (c.stays.ensures.0 yes),
-  λ all. c.stays.ensures.1 (all _ (sym c.in-Some.ensures)),
+  λ yes x at. subst (λ (y : LinkKey × (Link × ℕ)). IsLinkUnchanged c.args.rule.now c.args.hold c.args.last c.args.now y.1) (some_is _ x (c.in-Some.ensures ∙ at)) (c.is_unchanged.ensures.0 yes),
+  λ all. c.is_unchanged.ensures.1 (all _ (sym c.in-Some.ensures)),
 )
 
 pub returns-in-None : goal.returns-in-None
