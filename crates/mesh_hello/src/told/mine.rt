@@ -28,7 +28,7 @@ fn is_status(link: Option<LinkStatus>, status: LinkStatus) -> bool
     }
 }
 
-fn bears(row: &HelloRow, sign: Sign) -> bool
+fn has_sign(row: &HelloRow, sign: Sign) -> bool
     ensures { IsTrue result ↔ Bears sign row.now }
 {
     match sign {
@@ -44,12 +44,12 @@ fn is_row_of(row: &HelloRow, own: &[Addr4]) -> bool
     row.addr.prefix == 32 && contains(own, row.addr.addr)
 }
 
-/// Whether a row tells that of one of these addresses.
-pub fn tells_mine(hello: &Hello, own: &[Addr4], sign: Sign) -> bool
+/// Whether a row of one of these addresses has the sign.
+pub fn has_own_row(hello: &Hello, own: &[Addr4], sign: Sign) -> bool
     ensures { IsTrue result ↔ TellsMine hello.now own.now sign }
 {
     for row in hello.rows.as_slice() {
-        if bears(row, sign) && is_row_of(row, own) {
+        if has_sign(row, sign) && is_row_of(row, own) {
             return true;
         }
     }
@@ -60,13 +60,13 @@ pub fn tells_mine(hello: &Hello, own: &[Addr4], sign: Sign) -> bool
 pub fn status_of_mine(hello: &Hello, own: &[Addr4]) -> Option<LinkStatus>
     ensures { (settings : RouterSettings) (i : ℕ) → ((a : Addr4) → Contains own.now a ↔ HasAddressOn settings i a) → IsMyStatus settings i hello.now result }
 {
-    if tells_mine(hello, own, Sign::Status(LinkStatus::Heard)) {
+    if has_own_row(hello, own, Sign::Status(LinkStatus::Heard)) {
         return Some(LinkStatus::Heard);
     }
-    if tells_mine(hello, own, Sign::Status(LinkStatus::Symmetric)) {
+    if has_own_row(hello, own, Sign::Status(LinkStatus::Symmetric)) {
         return Some(LinkStatus::Symmetric);
     }
-    if tells_mine(hello, own, Sign::Status(LinkStatus::Lost)) {
+    if has_own_row(hello, own, Sign::Status(LinkStatus::Lost)) {
         return Some(LinkStatus::Lost);
     }
     None

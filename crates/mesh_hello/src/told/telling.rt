@@ -4,7 +4,7 @@ ghost use Rattle.mesh_atoms.specs.State.{HasAddress};
 ghost use Rattle.mesh_atoms.specs.HelloTold.{Tells};
 ghost use Rattle.mesh_hello.specs.Told.Telling.{told_of};
 
-use crate::told::mine::{Sign, metric_from, metric_to, status_of_mine, tells_mine};
+use crate::told::mine::{Sign, has_own_row, metric_from, metric_to, status_of_mine};
 use crate::told::sender::{listed_list, sending_list};
 use mesh_atoms::{Addr4, Hello, LinkKey, RouterSettings, Seq, Shown, Willing};
 use std::alloc::{AllocError, Global};
@@ -77,7 +77,7 @@ pub fn tell(
         status: status_of_mine(hello, here),
         link_in: metric_from(face, sender),
         link_out: metric_to(hello, here),
-        selector: tells_mine(hello, here, Sign::Flooding),
+        selector: has_own_row(hello, here, Sign::Flooding),
         validity: hello.validity,
     };
     Ok(HelloInfo {
@@ -86,6 +86,6 @@ pub fn tell(
         listed,
         originator,
         willing: hello.willing,
-        routing: tells_mine(hello, own, Sign::Routing),
+        routing: has_own_row(hello, own, Sign::Routing),
     })
 }

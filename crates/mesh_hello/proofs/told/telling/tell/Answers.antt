@@ -39,6 +39,6 @@ returns c =
       status = c.status_of_mine.ensures c.args.settings.now c.args.iface here;
       link_in = λ face there. subst (λ (x : Interface). IsHandedIn x c.args.sender c.metric_from.result) (same_some at there) c.metric_from.ensures;
       link_out = c.metric_to.ensures c.args.settings.now c.args.iface here;
-      flooding = iff_on c.tells_mine.ensures (row_of c.args.hello.now c.as_slice-here.result.now (λ row. IsTrue row.mpr.flooding) (HasAddressOn c.args.settings.now c.args.iface) here);
-      routing = iff_on c.tells_mine-2.ensures (row_of c.args.hello.now c.args.own.now (λ row. IsTrue row.mpr.routing) (HasAddress c.args.settings.now) c.requires.own);
+      flooding = iff_on c.has_own_row.ensures (row_of c.args.hello.now c.as_slice-here.result.now (λ row. IsTrue row.mpr.flooding) (HasAddressOn c.args.settings.now c.args.iface) here);
+      routing = iff_on c.has_own_row-2.ensures (row_of c.args.hello.now c.args.own.now (λ row. IsTrue row.mpr.routing) (HasAddress c.args.settings.now) c.requires.own);
     }

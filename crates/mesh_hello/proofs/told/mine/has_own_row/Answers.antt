@@ -1,5 +1,5 @@
 use Rattle.std.proofs.Common.{Contains, refl, sym, subst}
-use Rattle.mesh_hello.proofs.told.mine.tells_mine.Goals as goal
+use Rattle.mesh_hello.proofs.told.mine.has_own_row.Goals as goal
 
 pub returns-then-is_row_of : goal.returns-then-is_row_of
 returns-then-is_row_of c = (
@@ -7,7 +7,7 @@ returns-then-is_row_of c = (
     c.row-item.result,
     subst (λ rows. Contains rows c.row-item.result) c.as_slice-row-items.ensures (c.loop-row.row-index, c.loop-row-test.true, sym c.row-item.is),
     c.if-is_row_of.ensures.0 refl,
-    c.if-bears.ensures.0 refl,
+    c.if-has_sign.ensures.0 refl,
   ),
   λ h. refl,
 )
