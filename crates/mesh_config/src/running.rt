@@ -9,7 +9,7 @@ use crate::build::router_from;
 use crate::checks::{no_duplicates, refuse_duplicates};
 use crate::keys::ConfigFault;
 use crate::run_tables::{StatedRun, StatedRunRouter, stated_run};
-use crate::setup::{outline, run_interfaces, run_ports, senders_distinct};
+use crate::setup::{are_senders_distinct, outline, run_interfaces, run_ports};
 use crate::stated::{FromTable, StatedRouter};
 use crate::text::from_text;
 use mesh_atoms::RunSetup;
@@ -55,7 +55,7 @@ fn checked_run(alloc: Global, stated: &StatedRun) -> Result<RunSetup, ConfigFaul
     ensures { ValueOrFault (SetupFrom stated.now) (first (stated_run_checks stated.now.router)) result }
 {
     let outline = clear_outline(alloc, &stated.router)?;
-    let distinct = senders_distinct(stated.router.interfaces.as_slice());
+    let distinct = are_senders_distinct(stated.router.interfaces.as_slice());
     match refuse_duplicates(alloc, distinct, "address") {
         Ok(()) => Ok(made_run(alloc, stated, &outline)?),
         Err(e) => Err(e),

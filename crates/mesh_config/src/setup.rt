@@ -44,7 +44,7 @@ pub fn outline(alloc: Global, stated: &StatedRunRouter) -> Result<StatedRouter, 
 }
 
 /// Whether no interface has two senders of one address.
-pub fn senders_distinct(interfaces: &[StatedRunInterface]) -> bool
+pub fn are_senders_distinct(interfaces: &[StatedRunInterface]) -> bool
     ensures { result ≡ list_all (λ i. are_distinct same_sender i.senders) interfaces.now }
 {
     for interface in interfaces {

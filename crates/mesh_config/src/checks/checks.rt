@@ -26,7 +26,7 @@ pub fn refuse_duplicates(alloc: Global, distinct: bool, key: &str) -> Result<(),
     }
 }
 
-fn interfaces_distinct(routers: &[StatedRouter]) -> bool
+fn are_interfaces_distinct(routers: &[StatedRouter]) -> bool
     ensures { result ≡ list_all (λ r. are_distinct same_interface r.interfaces) routers.now }
 {
     for router in routers {
@@ -37,7 +37,7 @@ fn interfaces_distinct(routers: &[StatedRouter]) -> bool
     true
 }
 
-fn nets_distinct(routers: &[StatedRouter]) -> bool
+fn are_nets_distinct(routers: &[StatedRouter]) -> bool
     ensures { result ≡ list_all (λ r. are_distinct same_attached r.attached) routers.now }
 {
     for router in routers {
@@ -94,7 +94,7 @@ fn is_host_among(attached: &Attached4, addrs: &[Addr4]) -> bool
     false
 }
 
-fn attaches_none(addrs: &[Addr4], router: &StatedRouter) -> bool
+fn has_no_attached(addrs: &[Addr4], router: &StatedRouter) -> bool
     ensures { result ≡ attaches_no_host addrs.now router.now }
 {
     for attached in router.attached.as_slice() {
@@ -105,11 +105,11 @@ fn attaches_none(addrs: &[Addr4], router: &StatedRouter) -> bool
     true
 }
 
-fn none_attached(addrs: &[Addr4], routers: &[StatedRouter]) -> bool
+fn have_no_attached(addrs: &[Addr4], routers: &[StatedRouter]) -> bool
     ensures { result ≡ list_all (attaches_no_host addrs.now) routers.now }
 {
     for router in routers {
-        if !attaches_none(addrs, router) {
+        if !has_no_attached(addrs, router) {
             return false;
         }
     }
@@ -121,11 +121,11 @@ fn distinct_stated(alloc: Global, routers: &[StatedRouter]) -> Result<(), Config
     ensures { ValueOrFault SaysNothing (first (stated_duplicates routers.now)) result }
 {
     refuse_duplicates(alloc, are_distinct(routers), "name")?;
-    refuse_duplicates(alloc, interfaces_distinct(routers), "name")?;
+    refuse_duplicates(alloc, are_interfaces_distinct(routers), "name")?;
     let addrs = all_addrs(alloc, routers)?;
     refuse_duplicates(alloc, are_distinct(addrs.as_slice()), "addresses")?;
-    refuse_duplicates(alloc, nets_distinct(routers), "net")?;
-    refuse_duplicates(alloc, none_attached(addrs.as_slice(), routers), "net")
+    refuse_duplicates(alloc, are_nets_distinct(routers), "net")?;
+    refuse_duplicates(alloc, have_no_attached(addrs.as_slice(), routers), "net")
 }
 
 /// Refuses with DUPLICATE what stands twice among the routers: a router's name, an interface's within its router, an address, a

@@ -13,14 +13,14 @@ made_run-requires c = record {
   outline = c.in_ok-outline.ensures.answer.1;
   clear = c.in_ok-outline.ensures.clear;
   senders = let checks : StatedRunInterface → Bool = λ i. are_distinct same_sender i.senders in
-      sym (c.senders_distinct-distinct.ensures ∙ ap (list_all checks) c.as_slice.ensures) ∙ unless_passed c.senders_distinct-distinct.result (codes "address") c.in-Ok.ensures.0;
+      sym (c.are_senders_distinct-distinct.ensures ∙ ap (list_all checks) c.as_slice.ensures) ∙ unless_passed c.are_senders_distinct-distinct.result (codes "address") c.in-Ok.ensures.0;
 }
 
 pub returns-in-Ok : goal.returns-in-Ok
 returns-in-Ok c =
     let d = c.args.stated.now in let outline = c.in_ok-outline.ensures.answer in
     let checks : StatedRunInterface → Bool = λ i. are_distinct same_sender i.senders in
-    let same : c.senders_distinct-distinct.result ≡ senders_checked d.router = c.senders_distinct-distinct.ensures ∙ ap (list_all checks) c.as_slice.ensures in
+    let same : c.are_senders_distinct-distinct.result ≡ senders_checked d.router = c.are_senders_distinct-distinct.ensures ∙ ap (list_all checks) c.as_slice.ensures in
     let apart : duplicate_unless (senders_checked d.router) (codes "address") ≡ None =
     subst (λ (b : Bool). duplicate_unless b (codes "address") ≡ None) same c.in-Ok.ensures.0 in
     (rw (outline.0, apart) refl, c.in_ok-made_run-in-Ok.ensures)

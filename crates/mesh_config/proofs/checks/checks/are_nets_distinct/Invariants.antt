@@ -2,7 +2,7 @@ use Rattle.std.proofs.Common.{◌≡◌, drop}
 use Rattle.std.specs.List.{list_all}
 use Rattle.mesh_atoms.specs.Settings.{are_distinct}
 use Rattle.mesh_config.specs.Checks.Compared.{same_attached}
-use Rattle.mesh_config.proofs.checks.checks.nets_distinct.Given as goal
+use Rattle.mesh_config.proofs.checks.checks.are_nets_distinct.Given as goal
 
 abbrev pub invariant-loop-router : goal.invariant-loop-router
 invariant-loop-router l = list_all (λ r. are_distinct same_attached r.attached) l.routers ≡ list_all (λ r. are_distinct same_attached r.attached) (drop l.router-index l.routers)

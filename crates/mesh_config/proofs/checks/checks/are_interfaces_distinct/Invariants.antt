@@ -2,7 +2,7 @@ use Rattle.std.proofs.Common.{◌≡◌, drop}
 use Rattle.std.specs.List.{list_all}
 use Rattle.mesh_atoms.specs.Settings.{are_distinct}
 use Rattle.mesh_config.specs.Checks.Compared.{same_interface}
-use Rattle.mesh_config.proofs.checks.checks.interfaces_distinct.Given as goal
+use Rattle.mesh_config.proofs.checks.checks.are_interfaces_distinct.Given as goal
 
 abbrev pub invariant-loop-router : goal.invariant-loop-router
 invariant-loop-router l = list_all (λ r. are_distinct same_interface r.interfaces) l.routers ≡ list_all (λ r. are_distinct same_interface r.interfaces) (drop l.router-index l.routers)

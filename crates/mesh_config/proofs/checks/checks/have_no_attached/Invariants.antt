@@ -1,7 +1,7 @@
 use Rattle.std.proofs.Common.{◌≡◌, drop}
 use Rattle.std.specs.List.{list_all}
 use Rattle.mesh_config.specs.Checks.Compared.{attaches_no_host}
-use Rattle.mesh_config.proofs.checks.checks.none_attached.Given as goal
+use Rattle.mesh_config.proofs.checks.checks.have_no_attached.Given as goal
 
 abbrev pub invariant-loop-router : goal.invariant-loop-router
 invariant-loop-router l = list_all (attaches_no_host l.addrs) l.routers ≡ list_all (attaches_no_host l.addrs) (drop l.router-index l.routers)
