@@ -35,11 +35,11 @@ pub(crate) fn take<
     requires now { now < 2 ^ 62 }
     requires validity { tc.now.validity < 2 ^ 62 }
     requires hosts { HasHosts tc.now }
-    ensures ok { IfOk result (λ told. TakesTc now tc.now
+    ensures ok { IfOk result (λ answer. TakesTc now tc.now
         (sets_of (A.content advertisers.old) routers.old addresses.old networks.old)
         (sets_of (A.content advertisers.new) routers.new addresses.new networks.new)
-        (answer_of told.0)) }
-    ensures same { IfOk result (λ told. told.1 ≡ false → SameAdvertised
+        (answer_of answer.0)) }
+    ensures same { IfOk result (λ answer. answer.1 ≡ false → SameAdvertised
         (sets_of (A.content advertisers.old) routers.old addresses.old networks.old)
         (sets_of (A.content advertisers.new) routers.new addresses.new networks.new)) }
     ensures within { OnOk result (AreFew (sets_of (A.content advertisers.old) routers.old addresses.old networks.old)

@@ -106,8 +106,8 @@ impl<B: Bases> Topology<B> {
         requires now { now < 2 ^ 62 }
         requires validity { tc.now.validity < 2 ^ 62 }
         requires hosts { HasHosts tc.now }
-        ensures ok { IfOk result (λ told. TakesTc now tc.now self.old self.new (answer_of told.0)) }
-        ensures same { IfOk result (λ told. told.1 ≡ false → SameAdvertised self.old self.new) }
+        ensures ok { IfOk result (λ answer. TakesTc now tc.now self.old self.new (answer_of answer.0)) }
+        ensures same { IfOk result (λ answer. answer.1 ≡ false → SameAdvertised self.old self.new) }
         ensures within { OnOk result (AreFew self.old → AreFew self.new) }
         ensures fresh { OnOk result (0 < tc.now.validity → AreFresh now self.old → AreFresh now self.new) }
         ensures sound { OnOk result ((settings : RouterSettings) → 0 < tc.now.validity → (IsOriginator settings tc.now.originator → ⊥)

@@ -50,7 +50,7 @@ fn put_tuple<K: Key + Ord + Drop, V: TopologyTuple<K>, T: Table<K, V>>(
 {
     // Where it stands, its key is among the keys.
     if let Some(before) = table.renew(&key, tuple, until)? {
-        return Ok(!before.says_as(&tuple));
+        return Ok(!before.is_same_but_number(&tuple));
     }
     put_keyed(table, keys, key, tuple, until)?;
     Ok(true)

@@ -47,7 +47,7 @@ pub trait TopologyTuple<K: Ord>: Copy {
     }
 
     /// Whether two tuples say the same, whatever their numbers.
-    final fn says_as(&self, other: &Self) -> bool
+    final fn is_same_but_number(&self, other: &Self) -> bool
         ensures { IsTrue result ↔ (says self.now ≡ says other.now) }
     {
         self.distance_and_metric() == other.distance_and_metric()

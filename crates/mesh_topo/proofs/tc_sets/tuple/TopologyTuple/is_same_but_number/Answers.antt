@@ -1,5 +1,5 @@
 use Rattle.mesh_topo.proofs.TcSetsLemmas.Saying.{says_same}
-use Rattle.mesh_topo.proofs.tc_sets.tuple.TopologyTuple.says_as.Goals as goal
+use Rattle.mesh_topo.proofs.tc_sets.tuple.TopologyTuple.is_same_but_number.Goals as goal
 
 pub returns : goal.returns
 returns g c = rw (c.eq.ensures, ← c.distance_and_metric.ensures, ← c.distance_and_metric-2.ensures) (says_same _ _)
