@@ -17,13 +17,13 @@ use Rattle.mesh_machine.proofs.Soundness.{step_sound}
 use Rattle.mesh_core.specs.declared.event.outdated.EventWants.{EventWants}
 use Rattle.mesh_core.specs.declared.event.outdated.Outdated.{Outdated}
 use Rattle.mesh_core.specs.Event.Outdated.{IsKeptFor, KeepsWanted}
-use Rattle.mesh_core.specs.Event.Promises.{HearsAndTells, HearsTo, TicksTo, told_of}
+use Rattle.mesh_core.specs.Event.Promises.{HearsAndKeeps, HearsTo, TicksTo, kept_answer}
 use Rattle.mesh_core.specs.Holding.{CoreValue}
 
 -- a core has heard a frame, or met want of memory
 pub record HearClauses {E : Type 0} (came : Result Heard E) (fates : Bool) (old : State) (arrival : Arrival) (bytes : List ℕ) (before after : List Frame) (new : State) : Type 0 where
   pub step : IfOk came (λ answer. Step old (Hear arrival bytes) (sent_since before after) new)
-  pub answer : IfOk came (λ told. (answer : Heard) × (told ≡ told_of fates answer) × Hears old arrival bytes answer (sent_since before after) new)
+  pub answer : IfOk came (λ kept. (answer : Heard) × (kept ≡ kept_answer fates answer) × Hears old arrival bytes answer (sent_since before after) new)
   pub appended : after ≡ before ++ sent_since before after
   pub sendable : OnOk came (All (IsSendable old.settings) (sent_since before after))
   pub settings : OnOk came (new.settings ≡ old.settings)
@@ -41,14 +41,14 @@ pub record TickClauses {A E : Type 0} (came : Result A E) (old : State) (now : �
   pub due : OnOk came (now < due new)
   pub sound : OnOk came (Sound new)
 
--- where fates are wanted, all of an answer is told
-told_all : (told answer : Heard) → told ≡ told_of true answer → told ≡ answer
-told_all told (heard.Refused refusal) is = is
-told_all told (heard.Taken fates) is = is
+-- where fates are wanted, all of an answer is kept
+all_of_kept : (kept answer : Heard) → kept ≡ kept_answer true answer → kept ≡ answer
+all_of_kept kept (heard.Refused refusal) is = is
+all_of_kept kept (heard.Taken fates) is = is
 
-pub answer_told : {E : Type 0} (came : Result Heard E) (P : Heard → Type 0) → IfOk came (λ told. (answer : Heard) × (told ≡ told_of true answer) × P answer) → IfOk came P
-answer_told (Ok told) P (answer, is, holds) = subst P (sym (told_all told answer is)) holds
-answer_told (Err e) P holds = tt
+pub whole_answer : {E : Type 0} (came : Result Heard E) (P : Heard → Type 0) → IfOk came (λ kept. (answer : Heard) × (kept ≡ kept_answer true answer) × P answer) → IfOk came P
+whole_answer (Ok kept) P (answer, is, holds) = subst P (sym (all_of_kept kept answer is)) holds
+whole_answer (Err e) P holds = tt
 
 -- where both are wanted, all is kept
 pub all_kept : (wants : EventWants) (whole rest : State) → wants.relays ≡ true → wants.routes ≡ true → IsKeptFor wants whole rest → whole ≡ rest
@@ -62,15 +62,15 @@ keeps_all LeadsTo wants outdated new relays routes keeps = subst LeadsTo (all_ke
 
 module _ {E : Type 0} (wants : EventWants) (arrival : Arrival) (bytes : List ℕ) (before after : List Frame) (outdated : Outdated) (new : State) where
   hears_here : (came : Result Heard E) → wants.relays ≡ true → wants.routes ≡ true → (old : State) → Sound old → OnErr came (after ≡ before) →
-      IfOk came (λ told. HearsAndTells wants old arrival bytes told before after outdated new) → HearClauses came wants.fates old arrival bytes before after new
-  hears_here (Ok told) relays routes old sound wanting heard =
+      IfOk came (λ kept. HearsAndKeeps wants old arrival bytes kept before after outdated new) → HearClauses came wants.fates old arrival bytes before after new
+  hears_here (Ok kept) relays routes old sound wanting heard =
       let answer : Heard = heard.answer in
       let to : HearsTo wants old arrival bytes answer before after outdated new = heard.hears in
       let hears : Hears old arrival bytes answer (sent_since before after) new = keeps_all (Hears old arrival bytes answer (sent_since before after)) wants outdated new relays routes to.leaves in
       let step : Step old (Hear arrival bytes) (sent_since before after) new = Heard_frame answer hears in
       record {
         step = step;
-        answer = (answer, heard.tells, hears);
+        answer = (answer, heard.kept_is, hears);
         appended = to.appended;
         sendable = to.sendable;
         settings = to.settings;
@@ -82,7 +82,7 @@ module _ {E : Type 0} (wants : EventWants) (arrival : Arrival) (bytes : List ℕ
       record { step = tt; answer = tt; appended = since_same before after wanting; sendable = tt; settings = tt; last = tt; due = tt; sound = tt }
 
   pub hear_clauses : {shown core : CoreValue} (came : Result Heard E) → wants.relays ≡ true → wants.routes ≡ true → shown ≡ core → Sound shown.state → OnErr came (after ≡ before) →
-      IfOk came (λ told. HearsAndTells wants shown.state arrival bytes told before after outdated new) → HearClauses came wants.fates core.state arrival bytes before after new
+      IfOk came (λ kept. HearsAndKeeps wants shown.state arrival bytes kept before after outdated new) → HearClauses came wants.fates core.state arrival bytes before after new
   hear_clauses {shown} {core} came relays routes is sound wanting to =
       subst (λ (v : CoreValue). HearClauses came wants.fates v.state arrival bytes before after new) is (hears_here came relays routes shown.state sound wanting to)
 

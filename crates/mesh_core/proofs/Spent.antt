@@ -8,9 +8,9 @@ pub where_whole : {A E : Type 0} {P : Type 0} {spent : Bool} (came : Result A E)
 where_whole (Ok x) says holds whole = holds
 where_whole (Err e) says holds whole = absurd (true≢false (sym says ∙ whole))
 
--- what holds where a frame was heard holds where that is told alone
-pub where_told : {A B E F : Type 0} (P : Type 0) (came : Result A E) (told : Result B F) → is_err told ≡ is_err came → OnOk came P → OnOk told P
-where_told P (Ok x) (Ok y) says holds = holds
-where_told P (Ok x) (Err f) says holds = absurd (true≢false says)
-where_told P (Err e) (Ok y) says holds = absurd (false≢true says)
-where_told P (Err e) (Err f) says holds = tt
+-- what holds where a frame was heard holds where its answer is left out
+pub where_unanswered : {A B E F : Type 0} (P : Type 0) (came : Result A E) (kept : Result B F) → is_err kept ≡ is_err came → OnOk came P → OnOk kept P
+where_unanswered P (Ok x) (Ok y) says holds = holds
+where_unanswered P (Ok x) (Err f) says holds = absurd (true≢false says)
+where_unanswered P (Err e) (Ok y) says holds = absurd (false≢true says)
+where_unanswered P (Err e) (Err f) says holds = tt

@@ -13,7 +13,7 @@ use Rattle.mesh_core.specs.declared.event.outdated.EventWants.{EventWants}
 use Rattle.mesh_core.specs.declared.event.outdated.Outdated.{Outdated}
 use Rattle.mesh_core.specs.Deferred.{IsKeptOf, IsSoundButForDerived}
 use Rattle.mesh_core.specs.Event.Outdated.{IsCurrent, IsKeptFor}
-use Rattle.mesh_core.specs.Event.Promises.{HearsAndTells, HearsTo, TicksTo}
+use Rattle.mesh_core.specs.Event.Promises.{HearsAndKeeps, HearsTo, TicksTo}
 use Rattle.mesh_core.specs.Holding.{CoreValue}
 use Rattle.mesh_core.proofs.Clauses.{all_kept}
 
@@ -30,13 +30,13 @@ pub record HearUntil {E : Type 0} (came : Result Heard E) (until : ℕ) (old : S
 -- a router that puts nothing off takes the machine's step, and stays sound
 module _ {E : Type 0} (old : State) (arrival : Arrival) (bytes : List ℕ) (sent : List Frame) (outdated : Outdated) (new : State) where
   pub step_whole : (came : Result Heard E) → HearUntil came 0 old arrival bytes sent outdated new → OnOk came (Step old (Hear arrival bytes) sent new)
-  step_whole (Ok told) heard =
+  step_whole (Ok kept) heard =
       let (whole, step, kept) = heard.step in
       let then : 0 ≤ new.last = omega arith in subst (λ (s : State). Step old (Hear arrival bytes) sent s) (kept.from_then then) step
   step_whole (Err e) heard = tt
 
   pub sound_whole : (came : Result Heard E) → Sound old → HearUntil came 0 old arrival bytes sent outdated new → OnOk came (Sound new)
-  sound_whole (Ok told) sound heard = step_sound old (Hear arrival bytes) sent new sound (step_whole (Ok told) heard)
+  sound_whole (Ok kept) sound heard = step_sound old (Hear arrival bytes) sent new sound (step_whole (Ok kept) heard)
   sound_whole (Err e) sound heard = tt
 
 -- its clock has ticked, or it met want of memory
@@ -57,8 +57,8 @@ module _ (wants : EventWants) (until now : ℕ) (relays : until ≤ now → want
 
 module _ {E : Type 0} (wants : EventWants) (until : ℕ) (arrival : Arrival) (bytes : List ℕ) (outdated : Outdated) (new : State)
     (relays : until ≤ arrival.now → wants.relays ≡ true) (routes : until ≤ arrival.now → wants.routes ≡ true) where
-  heard_until : (came : Result Heard E) (old : State) (sent : List Frame) → IfOk came (λ told. HearsAndTells wants old arrival bytes told [] sent outdated new) → HearUntil came until old arrival bytes sent outdated new
-  heard_until (Ok told) old sent heard =
+  heard_until : (came : Result Heard E) (old : State) (sent : List Frame) → IfOk came (λ kept. HearsAndKeeps wants old arrival bytes kept [] sent outdated new) → HearUntil came until old arrival bytes sent outdated new
+  heard_until (Ok kept) old sent heard =
       let to : HearsTo wants old arrival bytes heard.answer [] sent outdated new = heard.hears in
       record {
         step = (to.leaves.whole, Heard_frame heard.answer to.leaves.leads, kept_until wants until arrival.now relays routes to.leaves.whole new to.last to.leaves.rest);
@@ -71,11 +71,11 @@ module _ {E : Type 0} (wants : EventWants) (until : ℕ) (arrival : Arrival) (by
       }
   heard_until (Err e) old sent to = record { step = tt; sendable = tt; settings = tt; last = tt; no_earlier = tt; due = tt; rest = tt }
 
-  pub hear_until : {shown core : CoreValue} (came : Result Heard E) (before sent : List Frame) → before ≡ [] → shown ≡ core → IfOk came (λ told. HearsAndTells wants shown.state arrival bytes told before sent outdated new) →
+  pub hear_until : {shown core : CoreValue} (came : Result Heard E) (before sent : List Frame) → before ≡ [] → shown ≡ core → IfOk came (λ kept. HearsAndKeeps wants shown.state arrival bytes kept before sent outdated new) →
       HearUntil came until core.state arrival bytes sent outdated new
   hear_until {shown} {core} came before sent none is to =
       subst (λ (v : CoreValue). HearUntil came until v.state arrival bytes sent outdated new) is
-      (heard_until came shown.state sent (subst (λ (b : List Frame). IfOk came (λ told. HearsAndTells wants shown.state arrival bytes told b sent outdated new)) none to))
+      (heard_until came shown.state sent (subst (λ (b : List Frame). IfOk came (λ kept. HearsAndKeeps wants shown.state arrival bytes kept b sent outdated new)) none to))
 
 module _ {A E : Type 0} (wants : EventWants) (until now : ℕ) (outdated : Outdated) (new : State) (relays : until ≤ now → wants.relays ≡ true) (routes : until ≤ now → wants.routes ≡ true) where
   ticked_until : (came : Result A E) (old : State) (sent : List Frame) → OnOk came (TicksTo wants old now [] sent outdated new) → TickUntil came until old now sent outdated new

@@ -52,7 +52,7 @@ pub trait Machine: RouterView + Sized + Drop {
 }
 
 // Whether a frame was heard, whatever is answered to it.
-pub(crate) fn told(came: Result<Heard, AllocError>) -> Result<(), AllocError>
+pub(crate) fn without_answer(came: Result<Heard, AllocError>) -> Result<(), AllocError>
     ensures { is_err result ≡ is_err came }
 {
     let _ = came?;
@@ -81,7 +81,7 @@ impl<B: Bases> Machine for Core<B> {
         };
         let came = hear_frame(&mut self.router, wants, arrival, bytes, out);
         self.spent = came.is_err();
-        told(came)
+        without_answer(came)
     }
 
     fn tick_at(&mut self, now: u64, out: &mut Outbox) -> Result<(), AllocError> {

@@ -8,7 +8,7 @@ ghost use Rattle.mesh_machine.specs.Sendable.{IsSendable};
 use crate::deferred::DeferredCore;
 use crate::event::{EventWants, hear_typed, tick};
 use crate::held::Outbox;
-use crate::machine::told;
+use crate::machine::without_answer;
 use crate::reading::TypedFrame;
 use crate::router::Core;
 use mesh_expire::Bases;
@@ -78,7 +78,7 @@ impl<B: Bases> NetworkRouter for Core<B> {
         };
         let came = hear_typed(&mut self.router, wants, arrival, frame, out);
         self.spent = came.is_err();
-        told(came)
+        without_answer(came)
     }
 
     fn tick_until(&mut self, until: u64, now: u64, out: &mut Outbox) -> Result<(), AllocError> {
@@ -113,7 +113,7 @@ impl<B: Bases> NetworkRouter for DeferredCore<B> {
         };
         let came = hear_typed(&mut self.router, wants, arrival, frame, out);
         self.spent = came.is_err();
-        told(came)
+        without_answer(came)
     }
 
     fn tick_until(&mut self, until: u64, now: u64, out: &mut Outbox) -> Result<(), AllocError> {

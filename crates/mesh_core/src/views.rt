@@ -169,7 +169,7 @@ impl<B: Bases> RouterView for Core<B> {
     }
 
     fn has_noted(&self, heading: &Heading) -> bool {
-        self.router.holding.flood().stands(heading)
+        self.router.holding.flood().has_noted(heading)
     }
 
     fn has_full_set(&self) -> bool {

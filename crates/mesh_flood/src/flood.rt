@@ -82,12 +82,16 @@ impl<B: Bases> Flood<B> {
 
     /// Whether a received tuple of some interface, a processed or a forwarded tuple has the message's type, originator and
     /// sequence number, also one that is expired. Takes no memory.
-    pub fn stands(&self, heading: &Heading) -> bool
+    pub fn has_noted(&self, heading: &Heading) -> bool
         ensures { IsTrue result ↔ HasNoted self.now.noted (key_of heading.now) }
     {
         let key = heading.key();
         let received = has_one(&self.received, &key);
-        any_of(received, self.processed.has(&key), self.forwarded.has(&key))
+        is_any_true(
+            received,
+            self.processed.has_key(&key),
+            self.forwarded.has_key(&key),
+        )
     }
 
     /// Whether the received set of some interface, the processed or the forwarded set has 16,384 tuples. Takes no memory.
@@ -95,7 +99,7 @@ impl<B: Bases> Flood<B> {
         ensures { IsTrue result ↔ HasFullSet self.now.noted }
     {
         let received = has_full(&self.received);
-        any_of(received, self.processed.is_full(), self.forwarded.is_full())
+        is_any_true(received, self.processed.is_full(), self.forwarded.is_full())
     }
 
     /// Makes the tuples of a message on which that verdict was given: until now plus the hold time of the set. `processed`
@@ -164,7 +168,7 @@ fn empty_sets<T: Table<FloodKey, Noted>>(
 }
 
 // Whether one of these is true.
-fn any_of(first: bool, second: bool, third: bool) -> bool
+fn is_any_true(first: bool, second: bool, third: bool) -> bool
     ensures { IsTrue result ↔ (IsTrue first ⊎ (IsTrue second ⊎ IsTrue third)) }
 {
     first || second || third
@@ -175,7 +179,7 @@ fn has_one<T: Table<FloodKey, Noted>>(sets: &[FloodSet<T>], key: &FloodKey) -> b
     ensures { IsTrue result ↔ ((i : ℕ) × HasKey (base_of sets.now i) key.now) }
 {
     for set in sets {
-        if set.has(key) {
+        if set.has_key(key) {
             return true;
         }
     }

@@ -47,7 +47,7 @@ impl<T: Table<FloodKey, Noted>> FloodSet<T> {
     }
 
     /// Whether there is a tuple with that key.
-    pub fn has(&self, key: &FloodKey) -> bool
+    pub fn has_key(&self, key: &FloodKey) -> bool
         ensures { IsTrue result ↔ HasKey self.now key.now }
     {
         match self.table.get(key) {

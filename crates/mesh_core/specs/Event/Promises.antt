@@ -27,15 +27,15 @@ pub record HearsTo (wants : EventWants) (old : State) (arrival : Arrival) (bytes
   pub no_earlier : old.last ≤ new.last
   pub due : due new ≡ due old
 
--- what is told of an answer: all of it but for fates that nobody wants
-abbrev pub told_of : Bool → Heard → Heard
-told_of wanted (heard.Refused refusal) = heard.Refused refusal
-told_of wanted (heard.Taken fates) = heard.Taken (kept_fates wanted fates)
+-- what is kept of an answer: all of it but for fates that nobody wants
+abbrev pub kept_answer : Bool → Heard → Heard
+kept_answer wanted (heard.Refused refusal) = heard.Refused refusal
+kept_answer wanted (heard.Taken fates) = heard.Taken (kept_fates wanted fates)
 
--- a router has heard a frame, and of what it answered it has told what was wanted
-pub record HearsAndTells (wants : EventWants) (old : State) (arrival : Arrival) (bytes : List ℕ) (told : Heard) (before after : List Frame) (outdated : Outdated) (new : State) : Type 0 where
+-- a router has heard a frame, and has kept of its answer what was wanted
+pub record HearsAndKeeps (wants : EventWants) (old : State) (arrival : Arrival) (bytes : List ℕ) (kept : Heard) (before after : List Frame) (outdated : Outdated) (new : State) : Type 0 where
   pub answer : Heard
-  pub tells : told ≡ told_of wants.fates answer
+  pub kept_is : kept ≡ kept_answer wants.fates answer
   pub hears : HearsTo wants old arrival bytes answer before after outdated new
 
 -- its clock has ticked

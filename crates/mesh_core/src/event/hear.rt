@@ -3,7 +3,7 @@ ghost use Rattle.std.specs.Prelude.{◌≡◌, ◌<◌, ◌≤◌, ◌^◌, ℕ,
 ghost use Rattle.mesh_core.specs.Deferred.{IsSoundButForDerived};
 ghost use Rattle.mesh_core.specs.Event.Holding.{state_of};
 ghost use Rattle.mesh_core.specs.Event.Outdated.{IsCurrent};
-ghost use Rattle.mesh_core.specs.Event.Promises.{HearsAndTells};
+ghost use Rattle.mesh_core.specs.Event.Promises.{HearsAndKeeps};
 ghost use Rattle.mesh_core.specs.Reading.Content.{IsContentOf, IsPacketOf};
 ghost use Rattle.mesh_packet.specs.Grammar.{FirstFault};
 
@@ -34,11 +34,11 @@ pub(crate) fn hear_frame<B: Bases>(
     requires iface { arrival.iface < length router.old.holding.settings.interfaces }
     requires sound { IsSoundButForDerived (state_of router.old.holding router.old.derived) }
     requires current { IsCurrent router.old.outdated (state_of router.old.holding router.old.derived) }
-    // What is answered and sent, and the state after it, are the machine's; fates are told where they are wanted.
-    ensures hears { IfOk result (λ told. HearsAndTells wants (state_of router.old.holding router.old.derived) arrival bytes.now told out.old out.new
+    // What is answered and sent, and the state after it, are the machine's; the answer has fates where they are wanted.
+    ensures hears { IfOk result (λ kept. HearsAndKeeps wants (state_of router.old.holding router.old.derived) arrival bytes.now kept out.old out.new
         router.new.outdated (state_of router.new.holding router.new.derived)) }
     // A frame with a fault is refused.
-    ensures refused { (place reason : ℕ) → FirstFault bytes.now place reason → IfOk result (λ told. told ≡ Heard.Refused (record { place = place; reason = reason })) }
+    ensures refused { (place reason : ℕ) → FirstFault bytes.now place reason → IfOk result (λ kept. kept ≡ Heard.Refused (record { place = place; reason = reason })) }
     ensures wanting { OnErr result (out.new ≡ out.old) }
 {
     let alloc = router.holding.settings().interfaces.allocator();
@@ -59,9 +59,9 @@ pub(crate) fn hear_typed<B: Bases>(
     requires iface { arrival.iface < length router.old.holding.settings.interfaces }
     requires sound { IsSoundButForDerived (state_of router.old.holding router.old.derived) }
     requires current { IsCurrent router.old.outdated (state_of router.old.holding router.old.derived) }
-    ensures hears { IfOk result (λ told. HearsAndTells wants (state_of router.old.holding router.old.derived) arrival frame.now told out.old out.new
+    ensures hears { IfOk result (λ kept. HearsAndKeeps wants (state_of router.old.holding router.old.derived) arrival frame.now kept out.old out.new
         router.new.outdated (state_of router.new.holding router.new.derived)) }
-    ensures refused { (place reason : ℕ) → FirstFault frame.now place reason → IfOk result (λ told. told ≡ Heard.Refused (record { place = place; reason = reason })) }
+    ensures refused { (place reason : ℕ) → FirstFault frame.now place reason → IfOk result (λ kept. kept ≡ Heard.Refused (record { place = place; reason = reason })) }
     ensures wanting { OnErr result (out.new ≡ out.old) }
 {
     let octets = frame.octets().as_slice();
@@ -83,9 +83,9 @@ fn hear_content<B: Bases>(
     requires sound { IsSoundButForDerived (state_of router.old.holding router.old.derived) }
     requires current { IsCurrent router.old.outdated (state_of router.old.holding router.old.derived) }
     requires content { IsContentOf bytes.now content.now }
-    ensures hears { IfOk result (λ told. HearsAndTells wants (state_of router.old.holding router.old.derived) arrival bytes.now told out.old out.new
+    ensures hears { IfOk result (λ kept. HearsAndKeeps wants (state_of router.old.holding router.old.derived) arrival bytes.now kept out.old out.new
         router.new.outdated (state_of router.new.holding router.new.derived)) }
-    ensures refused { (place reason : ℕ) → FirstFault bytes.now place reason → IfOk result (λ told. told ≡ Heard.Refused (record { place = place; reason = reason })) }
+    ensures refused { (place reason : ℕ) → FirstFault bytes.now place reason → IfOk result (λ kept. kept ≡ Heard.Refused (record { place = place; reason = reason })) }
     ensures wanting { OnErr result (out.new ≡ out.old) }
 {
     one_reading();
@@ -111,7 +111,7 @@ fn take_packet<B: Bases>(
     requires sound { IsSoundButForDerived (state_of router.old.holding router.old.derived) }
     requires current { IsCurrent router.old.outdated (state_of router.old.holding router.old.derived) }
     requires packet { IsPacketOf bytes.now packet.now }
-    ensures hears { IfOk result (λ told. HearsAndTells wants (state_of router.old.holding router.old.derived) arrival bytes.now told out.old out.new
+    ensures hears { IfOk result (λ kept. HearsAndKeeps wants (state_of router.old.holding router.old.derived) arrival bytes.now kept out.old out.new
         router.new.outdated (state_of router.new.holding router.new.derived)) }
     ensures wanting { OnErr result (out.new ≡ out.old) }
 {

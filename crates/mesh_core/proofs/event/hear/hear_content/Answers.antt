@@ -8,7 +8,7 @@ use Rattle.mesh_core.proofs.event.hear.hear_content.Goals as goal
 pub returns-in-Refused-clause-hears : goal.returns-in-Refused-clause-hears
 returns-in-Refused-clause-hears g c = record {
   answer = heard.Refused c.in-Refused.refusal;
-  tells = refl;
+  kept_is = refl;
   hears = refused_to c.args.wants (state_of c.args.router.now.holding c.args.router.now.derived) c.args.arrival c.args.bytes.now c.args.out.now c.args.router.now.outdated c.requires.sound c.requires.later
       (λ i. omega (arith, c.type_inv.bytes i)) c.requires.current c.in-Refused.refusal (rw c.in-Refused.is at c.requires.content);
 }

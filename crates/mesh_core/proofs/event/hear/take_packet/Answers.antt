@@ -51,7 +51,7 @@ returns-clause-hears g c =
     } in
     record {
       answer = heard.Taken given;
-      tells = ap (λ (f : List Fate). heard.Taken f) fates;
+      kept_is = ap (λ (f : List Fate). heard.Taken f) fates;
       hears = packet_to c.args.wants before c.args.arrival c.args.bytes.now c.args.out.now c.put_all.new.self c.end_event.new.outdated after c.requires.sound c.requires.later (λ i. omega (arith, c.type_inv.bytes i)) given sent
           (c.in_ok-put_all.ensures.ok ∙ (ap (λ (f : List Frame). c.args.out.now ++ f) out ∙ ap (λ (f : List Frame). c.args.out.now ++ (f ++ sent)) c.new-sent.ensures)) leaves;
     }

@@ -3,7 +3,7 @@ use Rattle.mesh_atoms.specs.Sound.{Sound}
 use Rattle.mesh_core.specs.Event.Holding.{state_of}
 use Rattle.mesh_core.specs.Holding.{CoreValue}
 use Rattle.mesh_core.proofs.EventLemmas.Wholes.{current_of, sound_but}
-use Rattle.mesh_core.proofs.Spent.{where_told, where_whole}
+use Rattle.mesh_core.proofs.Spent.{where_unanswered, where_whole}
 use Rattle.mesh_core.proofs.Until.{hear_until, sound_whole}
 use Rattle.mesh_core.proofs.network_router.CoreNetworkRouter.hear_until.Goals as goal
 
@@ -24,32 +24,32 @@ hear_typed-came-requires-clause-current g c = current_of c.self.inside.router.ou
 
 pub returns-clause-step : goal.returns-clause-step
 returns-clause-step g c =
-    where_told _ c.hear_typed-came.result c.told.result c.told.ensures
+    where_unanswered _ c.hear_typed-came.result c.without_answer.result c.without_answer.ensures
     (hear_until _ c.args.until _ _ _ _ (λ late. refl) (λ late. refl) c.hear_typed-came.result c.clear.new.self _ c.clear.ensures c.self.view_is c.hear_typed-came.ensures.hears).step
 
 pub returns-clause-sendable : goal.returns-clause-sendable
 returns-clause-sendable g c =
-    where_told _ c.hear_typed-came.result c.told.result c.told.ensures
+    where_unanswered _ c.hear_typed-came.result c.without_answer.result c.without_answer.ensures
     (hear_until _ c.args.until _ _ _ _ (λ late. refl) (λ late. refl) c.hear_typed-came.result c.clear.new.self _ c.clear.ensures c.self.view_is c.hear_typed-came.ensures.hears).sendable
 
 pub returns-clause-settings : goal.returns-clause-settings
 returns-clause-settings g c =
-    where_told _ c.hear_typed-came.result c.told.result c.told.ensures
+    where_unanswered _ c.hear_typed-came.result c.without_answer.result c.without_answer.ensures
     (hear_until _ c.args.until _ _ _ _ (λ late. refl) (λ late. refl) c.hear_typed-came.result c.clear.new.self _ c.clear.ensures c.self.view_is c.hear_typed-came.ensures.hears).settings
 
 pub returns-clause-last : goal.returns-clause-last
 returns-clause-last g c =
-    where_told _ c.hear_typed-came.result c.told.result c.told.ensures
+    where_unanswered _ c.hear_typed-came.result c.without_answer.result c.without_answer.ensures
     (hear_until _ c.args.until _ _ _ _ (λ late. refl) (λ late. refl) c.hear_typed-came.result c.clear.new.self _ c.clear.ensures c.self.view_is c.hear_typed-came.ensures.hears).last
 
 pub returns-clause-no_earlier : goal.returns-clause-no_earlier
 returns-clause-no_earlier g c =
-    where_told _ c.hear_typed-came.result c.told.result c.told.ensures
+    where_unanswered _ c.hear_typed-came.result c.without_answer.result c.without_answer.ensures
     (hear_until _ c.args.until _ _ _ _ (λ late. refl) (λ late. refl) c.hear_typed-came.result c.clear.new.self _ c.clear.ensures c.self.view_is c.hear_typed-came.ensures.hears).no_earlier
 
 pub returns-clause-due : goal.returns-clause-due
 returns-clause-due g c =
-    where_told _ c.hear_typed-came.result c.told.result c.told.ensures
+    where_unanswered _ c.hear_typed-came.result c.without_answer.result c.without_answer.ensures
     (hear_until _ c.args.until _ _ _ _ (λ late. refl) (λ late. refl) c.hear_typed-came.result c.clear.new.self _ c.clear.ensures c.self.view_is c.hear_typed-came.ensures.hears).due
 
 pub invariant_of-self : goal.invariant_of-self

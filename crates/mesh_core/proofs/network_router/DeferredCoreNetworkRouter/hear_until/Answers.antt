@@ -1,7 +1,7 @@
 use Rattle.std.proofs.Common.{length, subst, sym, ◌<◌, ◌≤◌}
 use Rattle.std.proofs.lemmas.Bool.{le-leb}
 use Rattle.mesh_core.specs.Holding.{CoreValue}
-use Rattle.mesh_core.proofs.Spent.{where_told, where_whole}
+use Rattle.mesh_core.proofs.Spent.{where_unanswered, where_whole}
 use Rattle.mesh_core.proofs.Until.{hear_until}
 use Rattle.mesh_core.proofs.network_router.DeferredCoreNetworkRouter.hear_until.Goals as goal
 
@@ -22,32 +22,32 @@ hear_typed-came-requires-clause-current g c = (c.self.invariant c.if-self.false)
 
 pub returns-clause-step : goal.returns-clause-step
 returns-clause-step g c =
-    where_told _ c.hear_typed-came.result c.told.result c.told.ensures
+    where_unanswered _ c.hear_typed-came.result c.without_answer.result c.without_answer.ensures
     (hear_until _ c.args.until _ _ _ _ (le-leb c.args.until c.args.arrival.now) (le-leb c.args.until c.args.arrival.now) c.hear_typed-came.result c.clear.new.self _ c.clear.ensures c.self.view_is c.hear_typed-came.ensures.hears).step
 
 pub returns-clause-sendable : goal.returns-clause-sendable
 returns-clause-sendable g c =
-    where_told _ c.hear_typed-came.result c.told.result c.told.ensures
+    where_unanswered _ c.hear_typed-came.result c.without_answer.result c.without_answer.ensures
     (hear_until _ c.args.until _ _ _ _ (le-leb c.args.until c.args.arrival.now) (le-leb c.args.until c.args.arrival.now) c.hear_typed-came.result c.clear.new.self _ c.clear.ensures c.self.view_is c.hear_typed-came.ensures.hears).sendable
 
 pub returns-clause-settings : goal.returns-clause-settings
 returns-clause-settings g c =
-    where_told _ c.hear_typed-came.result c.told.result c.told.ensures
+    where_unanswered _ c.hear_typed-came.result c.without_answer.result c.without_answer.ensures
     (hear_until _ c.args.until _ _ _ _ (le-leb c.args.until c.args.arrival.now) (le-leb c.args.until c.args.arrival.now) c.hear_typed-came.result c.clear.new.self _ c.clear.ensures c.self.view_is c.hear_typed-came.ensures.hears).settings
 
 pub returns-clause-last : goal.returns-clause-last
 returns-clause-last g c =
-    where_told _ c.hear_typed-came.result c.told.result c.told.ensures
+    where_unanswered _ c.hear_typed-came.result c.without_answer.result c.without_answer.ensures
     (hear_until _ c.args.until _ _ _ _ (le-leb c.args.until c.args.arrival.now) (le-leb c.args.until c.args.arrival.now) c.hear_typed-came.result c.clear.new.self _ c.clear.ensures c.self.view_is c.hear_typed-came.ensures.hears).last
 
 pub returns-clause-no_earlier : goal.returns-clause-no_earlier
 returns-clause-no_earlier g c =
-    where_told _ c.hear_typed-came.result c.told.result c.told.ensures
+    where_unanswered _ c.hear_typed-came.result c.without_answer.result c.without_answer.ensures
     (hear_until _ c.args.until _ _ _ _ (le-leb c.args.until c.args.arrival.now) (le-leb c.args.until c.args.arrival.now) c.hear_typed-came.result c.clear.new.self _ c.clear.ensures c.self.view_is c.hear_typed-came.ensures.hears).no_earlier
 
 pub returns-clause-due : goal.returns-clause-due
 returns-clause-due g c =
-    where_told _ c.hear_typed-came.result c.told.result c.told.ensures
+    where_unanswered _ c.hear_typed-came.result c.without_answer.result c.without_answer.ensures
     (hear_until _ c.args.until _ _ _ _ (le-leb c.args.until c.args.arrival.now) (le-leb c.args.until c.args.arrival.now) c.hear_typed-came.result c.clear.new.self _ c.clear.ensures c.self.view_is c.hear_typed-came.ensures.hears).due
 
 pub invariant_of-self : goal.invariant_of-self

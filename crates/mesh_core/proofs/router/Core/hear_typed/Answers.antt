@@ -1,7 +1,7 @@
 use Rattle.std.proofs.Common.{length, refl, subst, sym, ◌<◌, ◌≤◌}
 use Rattle.mesh_core.specs.Event.Holding.{state_of}
 use Rattle.mesh_core.specs.Holding.{CoreValue}
-use Rattle.mesh_core.proofs.Clauses.{answer_told, hear_clauses}
+use Rattle.mesh_core.proofs.Clauses.{whole_answer, hear_clauses}
 use Rattle.mesh_core.proofs.EventLemmas.Wholes.{current_of, sound_but}
 use Rattle.mesh_core.proofs.Spent.{where_whole}
 use Rattle.mesh_core.proofs.router.Core.hear_typed.Goals as goal
@@ -27,7 +27,7 @@ returns-clause-step g c =
 
 pub returns-clause-answer : goal.returns-clause-answer
 returns-clause-answer g c =
-    answer_told c.hear_typed-came.result _
+    whole_answer c.hear_typed-came.result _
     (hear_clauses _ _ _ _ _ _ _ c.hear_typed-came.result refl refl c.self.view_is (c.self.invariant c.if-self.false) c.hear_typed-came.ensures.wanting c.hear_typed-came.ensures.hears).answer
 
 pub returns-clause-appended : goal.returns-clause-appended

@@ -1,7 +1,7 @@
 use Rattle.std.proofs.Common.{◌≡◌, Option, None, subst, sym}
 use Rattle.std.specs.Prelude.{IsSome, IsTrue, false}
 use Rattle.std.proofs.lemmas.Bool.{false≢true}
-use Rattle.mesh_flood.proofs.set.FloodSet.has.Goals as goal
+use Rattle.mesh_flood.proofs.set.FloodSet.has_key.Goals as goal
 
 nothing : {A : Type 0} (o : Option A) → None ≡ o → IsSome o → IsTrue false
 nothing {A} o is some = subst (λ (p : Option A). IsSome p) (sym is) some

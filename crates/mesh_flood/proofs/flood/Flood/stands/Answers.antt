@@ -1,7 +1,0 @@
-use Rattle.mesh_flood.proofs.Choices.{one_of}
-use Rattle.mesh_flood.proofs.flood.Flood.stands.Goals as goal
-
-pub returns : goal.returns
-returns g c =
-    let key = c.key-key.ensures in
-    rw (← c.self.view_is, ← key) (one_of c.any_of.ensures (rw (← c.deref.ensures.value) c.has_one-received.ensures) c.has.ensures c.has-2.ensures)
