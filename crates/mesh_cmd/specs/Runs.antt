@@ -35,14 +35,14 @@ sinks_of call = record {
   err_faults' = call.err.faults';
 }
 
--- want of memory is told: its line stands on err, or a front of it, where the write failed
+-- the line that says want of memory stands on err, or a front of it, where the write failed
 abbrev pub TellsNoMemory : Option (List ℕ) → Option (List ℕ) → ℕ → ℕ → Status → Type 0
 TellsNoMemory err err' faults faults' answer =
     ((answer ≡ Memory) × Appends err err' memory_line)
     ⊎ ((answer ≡ Write) × Rose faults faults' × (size : ℕ) × Appends err err' (take size memory_line))
 
 -- the answer and what stands on the sinks are those of the program's top call to these words, over some input, clock and air; or
--- memory was wanting before the call, which is told, and nothing was put on out
+-- memory was wanting before the call, the line that says so stands on err, or a front of it, and nothing was put on out
 pub data Runs (words : List (List ℕ)) (sinks : Sinks) (answer : Status) : Type 0 where
   Calls : (call : Call) → call.words ≡ words → sinks_of call ≡ sinks → Answers call answer → Runs words sinks answer
   Lacks_memory : sinks.out' ≡ sinks.out → TellsNoMemory sinks.err sinks.err' sinks.err_faults sinks.err_faults' answer →

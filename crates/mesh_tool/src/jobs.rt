@@ -1,4 +1,4 @@
-//! The jobs of command lines: what the words ask for is done, and how it ended is told.
+//! The jobs of command lines: what the words ask for is done, and the line of a fault is put on `err`.
 
 mod ending;
 mod jobs;

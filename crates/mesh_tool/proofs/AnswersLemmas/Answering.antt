@@ -1,4 +1,4 @@
--- What the program answers, from what was done and what was told.
+-- What the program answers, from what was done and the line that was put on err.
 use Rattle.std.proofs.Common.{◌≡◌, ℕ, ◌+◌, ◌<◌, ◌≤◌, ◌⊎◌, inl, inr, List, [], length, Option, Some, None, Result, Ok, Err, Bool, refl, sym, subst, arith}
 use Rattle.std.specs.Prelude.{IsErr, codes}
 use Rattle.mesh_atoms.specs.declared.addr.Addr4.{Addr4}
@@ -42,7 +42,7 @@ none_asked (Err place) j err h = cc
 
 -- ---- what stands on out and err
 
--- a line that was told, or a front of it
+-- a line stands on err, or a front of it
 told : (call : Call) (line : List ℕ) (due answer : Status) → FaultLine call due line → TellsLine call.err line due answer → OutputStands call answer
 told call line due answer cause (inl (same, stands)) = Is_told (record { line = line; due = rw same cause; stands = stands })
 told call line due answer cause (inr (failed, rose, size, stands)) = Is_failed failed (On_err due line cause rose size stands)

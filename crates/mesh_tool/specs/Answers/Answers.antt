@@ -21,7 +21,7 @@ use Rattle.mesh_tool.specs.declared.jobs.jobs.TheConstants.{LONGEST_INPUT}
 use Rattle.mesh_emulate.specs.declared.making.kind.Kind.{Kind}
 use Rattle.mesh_tool.specs.Words.Words.{words_of}
 
--- a fault that is told on err: its cause, what stands on out, and its line
+-- a fault that has a line on err: its cause, what stands on out, and its line
 pub data FaultLine (call : Call) : Status → List ℕ → Type 0 where
   Wrong_words : IsErr (words_of call.words) → ReadsNothing call.input → PutsNothing call.out → FaultLine call status.Words (words_line call.words)
   Read_fault : (job : Job) → Asks call job → Rose call.input.faults call.input.faults' → PutsNothing call.out →
@@ -69,11 +69,11 @@ pub record Answers (call : Call) (answer : Status) : Type 0 where
   pub ends : OutputStands call answer
   -- 0 to `dump`: the listing of the whole input stands on out, and none of its lines is refused
   pub dumped : (recode : Bool) → answer ≡ status.Done → Asks call (Dump recode) →
-      (octets : List ℕ) × IsInput LONGEST_INPUT call.input octets × (text : List ℕ) × IsDumpText octets recode 0 text × PutsText call.out text
-  -- 0 to `run`: the input states a router, and the report of its run, by the moments and the reports told, stands on out
+      (octets : List ℕ) × IsInput 67108864 call.input octets × (text : List ℕ) × IsDumpText octets recode 0 text × PutsText call.out text
+  -- 0 to `run`: the input states a router, and the report of its run, by the moments and the reports that were given, stands on out
   pub ran : (turns : ℕ) → answer ≡ status.Done → Asks call (Run turns) →
-      (octets : List ℕ) × IsInput LONGEST_SETTINGS call.input octets × (r : WholeRouterRun octets turns call.air.told) × PutsText call.out r.text
-  -- whatever is answered to `run`: the clock and the air weren't used, or they told a run of the router that the input states, or some
+      (octets : List ℕ) × IsInput 1048576 call.input octets × (r : WholeRouterRun octets turns call.air.told) × PutsText call.out r.text
+  -- whatever is answered to `run`: the clock and the air weren't used, or they gave a run of the router that the input states, or some
   -- first turns of one, with all frames that were handed over
   pub hands : (turns : ℕ) → Asks call (Run turns) →
       UsesNoAir call.air ⊎ ((octets : List ℕ) × IsInput LONGEST_SETTINGS call.input octets × RunsSoFar octets turns call.air.told)
@@ -84,7 +84,7 @@ pub record Answers (call : Call) (answer : Status) : Type 0 where
   pub emulated : (trace : Bool) (send : Option (ℕ × Addr4)) (probe : Option ℕ) → answer ≡ status.Done → Asks call (Emulate trace send probe) →
       (octets : List ℕ) × IsInput LONGEST_SETTINGS call.input octets × (e : Emulation octets (wants_in call.words trace send probe))
       × PutsText call.out e.text
-  -- 0 to `emulate --make`: what is told of a run of the made scenario stands on out, and nothing was read
+  -- 0 to `emulate --make`: the text of a run of the made scenario stands on out, and nothing was read
   pub made : (kind : Kind) (routers seed : ℕ) → answer ≡ status.Done → Asks call (Make kind routers seed) →
       (m : MadeEmulation kind routers seed) × PutsText call.out m.text × ReadsNothing call.input
   -- 0 to `replay`: the trace of the input is whole, and the line that says so, with the number of its lines, stands on out
@@ -103,19 +103,19 @@ pub record Answers (call : Call) (answer : Status) : Type 0 where
       × PutsText call.err (refused_line number key)
   -- `emulate --make` reads nothing, whatever is answered
   pub unread : (kind : Kind) (routers seed : ℕ) → Asks call (Make kind routers seed) → ReadsNothing call.input
-  -- words that are no command line are told, or their line couldn't be written; nothing is read
+  -- the status of words that are no command line, or their line couldn't be written; nothing is read
   pub no_command : IsErr (words_of call.words) →
       ((answer ≡ status.Words) ⊎ (answer ≡ status.Write)) × ReadsNothing call.input × UsesNoAir call.air
-  -- with right words, an input that the source tells and that has more octets than its job takes, and no fault of the source, that is
-  -- told, or a line couldn't be written, or memory was wanting
+  -- with right words, an input that the source tells and that has more octets than its job takes, and no fault of the source, the
+  -- status says so, or a line couldn't be written, or memory was wanting
   pub too_long : (job : Job) (most : ℕ) (octets : List ℕ) → Asks call job → (command_in call job).most ≡ Some most →
       call.input.left ≡ Some octets → most < length octets → (Rose call.input.faults call.input.faults' → ⊥) →
       (answer ≡ status.Refused) ⊎ ((answer ≡ status.Write) ⊎ (answer ≡ status.Memory))
-  -- whatever the source tells: where one octet more than the most was taken, that is told, or its line couldn't be written
+  -- whatever the source tells: where one octet more than the most was taken, the status says so, or its line couldn't be written
   pub one_too_many : (job : Job) (most : ℕ) → Asks call job → (command_in call job).most ≡ Some most →
       call.input.taken' ≡ call.input.taken + (most + 1) → (answer ≡ status.Refused) ⊎ (answer ≡ status.Write)
-  -- with right words, an input that the source tells and the job refuses, and no fault of the source, the refusal is told, or a line
-  -- couldn't be written, or memory was wanting
+  -- with right words, an input that the source tells and the job refuses, and no fault of the source, the status is that
+  -- of a refusal, or a line couldn't be written, or memory was wanting
   pub refuses : (job : Job) (octets : List ℕ) (number : ℕ) (key : List ℕ) → Asks call job →
       call.input.left ≡ Some octets → (command_in call job).refuses octets number key → (Rose call.input.faults call.input.faults' → ⊥) →
       (answer ≡ status.Refused) ⊎ ((answer ≡ status.Write) ⊎ (answer ≡ status.Memory))

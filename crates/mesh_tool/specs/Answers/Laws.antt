@@ -14,7 +14,7 @@ pub record ProgramLaws : Type 0 where
   pub routes : PrintsLeastRoutes
   -- and the next hop of each leads there.
   pub next_hops : PrintsNextHops
-  -- The trip that is told is the only one over the routes of the network's routers.
+  -- The trip that the text states is the only one over the routes of the network's routers.
   pub trips : TripsAreOnly
   -- In a settled network a packet to another router's address, to which the radio graph has a way over routers that are willing to
   -- route, arrives there, at the least metric;

@@ -24,7 +24,7 @@ pub record SinkUse : Type 0 where
   pub faults : ℕ
   pub faults' : ℕ
 
--- of an air without interfaces, and a clock: what they told, and the air's count of faults
+-- of an air without interfaces, and a clock: the moments and reports that they gave, and the air's count of faults
 pub record AirUse : Type 0 where
   pub told : ToldInCall
   pub faults : ℕ

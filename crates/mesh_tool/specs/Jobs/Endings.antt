@@ -1,4 +1,4 @@
--- What was done before anything is told on err, and what is told then.
+-- What was done before anything is put on err, and what is put there then.
 use Rattle.std.specs.Prelude.{◌≡◌, ◌⊎◌, ℕ, ◌+◌, ◌<◌, List, [], take, codes, Some, IsErr}
 use Rattle.mesh_io.specs.Faults.{Rose}
 use Rattle.mesh_tool.specs.declared.jobs.ending.Ending.{Ending}
@@ -56,15 +56,15 @@ pub data Does (call : Call) (how : Ending) : Type 0 where
       UsesNoAir call.air → Does call how
   Did : (job : Job) → Asks call job → DoesJob job call how → Does call how
 
--- What is told
+-- What is put on err
 
--- a line was told, and the status that is due is answered; or a front of it, and that of a failed write
+-- a line was put on err, and the status that is due is answered; or a front of it, and that of a failed write
 abbrev pub TellsLine : SinkUse → List ℕ → Status → Status → Type 0
 TellsLine err line due answer =
     ((answer ≡ due) × PutsText err line)
     ⊎ ((answer ≡ status.Write) × Rose err.faults err.faults' × (size : ℕ) × PutsText err (take size line))
 
--- what is told of an ending, and answered
+-- the line that an ending puts on err, and the status that it answers
 abbrev pub TellsEnding : List (List ℕ) → SinkUse → Ending → Status → Type 0
 TellsEnding words err ending.Done answer = (answer ≡ status.Done) × PutsText err []
 TellsEnding words err ending.Packets answer = (answer ≡ status.Packets) × PutsText err []

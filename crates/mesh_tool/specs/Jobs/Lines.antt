@@ -29,7 +29,7 @@ refused_line number key = codes "mesh: refused " ++ decimal number ++ codes " " 
 unfoldable pub attach_line : ℕ → List ℕ
 attach_line interface = codes "mesh: attach " ++ (decimal interface ++ codes "\n")
 
--- so many turns were done, the greatest moment told, and the end, which none came to
+-- so many turns were done, the greatest moment of the clock, and the end, which none came to
 unfoldable pub turns_line : ℕ → ℕ → ℕ → List ℕ
 turns_line turns moment end =
     codes "mesh: turns " ++ (decimal turns ++ (codes " moment " ++ (decimal moment ++ (codes " below " ++ (decimal end ++ codes "\n")))))

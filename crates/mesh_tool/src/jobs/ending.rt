@@ -1,4 +1,4 @@
-//! How a job ended, before anything is told of it.
+//! How a job ended, before its line is put on `err`.
 use mesh_atoms::Bytes;
 
 /// How a job ended. `Done` and `Packets`: its whole text was written, and no line of it, or some line, says a refusal. `NotARun`: it was,

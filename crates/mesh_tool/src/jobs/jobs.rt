@@ -1,4 +1,4 @@
-//! The jobs of command lines: what each reads and puts, before anything is told of a fault.
+//! The jobs of command lines: what each reads and puts, before the line of a fault is put on `err`.
 ghost use Rattle.std.specs.Prelude.{◌≡◌, ◌≤◌, ℕ, List, option_map, IfOk, IfErr};
 ghost use Rattle.mesh_atoms.specs.Settings.{IsCount};
 ghost use Rattle.std.specs.Option.{option_copied};
@@ -255,7 +255,7 @@ fn do_job<B: Bases, S: Source, O: Sink, A: Air, C: Clock>(
 }
 
 /// Does what the words ask for: the input is read where the job has one, and the job's text is put on `out`; a router is run over the
-/// air, which has no interface yet, and the clock. Nothing is told of a fault.
+/// air, which has no interface yet, and the clock. Nothing is put on `err`.
 pub fn do_asked<B: Bases, S: Source, O: Sink, A: Air, C: Clock>(
     alloc: Global,
     words: &[String],

@@ -126,7 +126,7 @@ fn tell_turns<E: Sink>(err: &mut E, turns: u32, moment: u64, end: u64) -> Status
     )
 }
 
-/// Tells how a job of these words ended: a fault is told by its line on `err`. Answers the status that is due, or that of a failed
+/// Tells how a job of these words ended: a fault's line is put on `err`. Answers the status that is due, or that of a failed
 /// write of that line. Takes no memory.
 pub fn tell<E: Sink>(err: &mut E, words: &[String], how: &Ending) -> Status
     ensures tells { TellsEnding (texts words.now) (sink_use E.content E.faults err.old err.new) how.now result }
