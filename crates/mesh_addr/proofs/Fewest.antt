@@ -15,7 +15,7 @@ use Rattle.mesh_addr.specs.declared.choices.TailForm.TheVariants as tails
 use Rattle.mesh_addr.specs.declared.choices.PrefixForm.{PrefixForm}
 use Rattle.mesh_addr.specs.declared.choices.PrefixForm.TheVariants as forms
 use Rattle.mesh_addr.specs.Grammar.{padded, SpellsHead, SpellsTail, SpellsMids, SpellsPrefixes, AreAll, AreAtMost, prefixes, SpellsBlock, AreRaw, IsWritable}
-use Rattle.mesh_addr.specs.Spelling.{tail_len, last_octets, ShareHead, ShareTail, TailFits, IsPossible, head_cost, tail_cost, cost, tail_rank, choice_rank, weight, IsBestOf, all_have, form_of, tail_flag, form_flag, flags_of, head_text, tail_text, mids_text, prefixes_text, text_of}
+use Rattle.mesh_addr.specs.Spelling.{tail_len, last_octets, ShareHead, ShareTail, TailFits, IsPossible, head_cost, tail_cost, cost, tail_rank, choice_rank, weight, IsBestOf, have_prefix, form_of, tail_flag, form_flag, flags_of, head_text, tail_text, mids_text, prefixes_text, text_of}
 use Rattle.mesh_addr.specs.Least.{IsLeast, known_flags, rank, IsFirst}
 use Rattle.mesh_addr.proofs.ReadAgain.{mids_long, first_all}
 
@@ -149,15 +149,15 @@ module _ (w head tail : ℕ) (first : RawAddr) (small : w ≤ 16) (fits : head +
       let split : take w a.octets ≡ take head a.octets ++ (mid ++ last_octets w tail a) = three_parts w head tail a.octets fits long in
       (mid, mids_text head (w - tail) addrs, omega (arith, size, one, two), raw.0 ∙ ap padded (split ∙ ap (λ (l : List ℕ). l ++ (mid ++ last_octets w tail a)) (sym heads.0) ∙ ap (λ (l : List ℕ). take head first.octets ++ (mid ++ l)) (sym tails.0)), mids_spelled addrs raw.2 heads.1 tails.1, refl)
 
-all_have_so : (p : ℕ) (addrs : List RawAddr) → all_have p addrs ≡ true → AreAll p (prefixes addrs)
+all_have_so : (p : ℕ) (addrs : List RawAddr) → have_prefix p addrs ≡ true → AreAll p (prefixes addrs)
 all_have_so p [] e = refl
 all_have_so p (a ∷ addrs) e =
-    let both = both_are (eqb a.prefix p) (all_have p addrs) e in
+    let both = both_are (eqb a.prefix p) (have_prefix p addrs) e in
     rw (eqb-true _ _ both.0) (ap (λ (l : List ℕ). p ∷ l) (all_have_so p addrs both.1))
 
-so_all_have : (p : ℕ) (addrs : List RawAddr) → AreAll p (prefixes addrs) → all_have p addrs ≡ true
+so_all_have : (p : ℕ) (addrs : List RawAddr) → AreAll p (prefixes addrs) → have_prefix p addrs ≡ true
 so_all_have p [] h = refl
-so_all_have p (a ∷ addrs) h = let all = first_all p a.prefix (prefixes addrs) h in both_true (eqb a.prefix p) (all_have p addrs) (eq-eqb _ _ all.0) (so_all_have p addrs all.1)
+so_all_have p (a ∷ addrs) h = let all = first_all p a.prefix (prefixes addrs) h in both_true (eqb a.prefix p) (have_prefix p addrs) (eq-eqb _ _ all.0) (so_all_have p addrs all.1)
 
 raw_most : (w : ℕ) (addrs : List RawAddr) → AreRaw w addrs → AreAtMost (8 * w) (prefixes addrs)
 raw_most w [] raw = tt
@@ -177,15 +177,15 @@ is_each forms.One = false
 is_each forms.Each = true
 
 -- the form of the prefix lengths is one of the block, and the shortest one
-form_spelled : (w : ℕ) (first : RawAddr) (more : List RawAddr) (none one : Bool) → AreRaw w (first ∷ more) → all_have (8 * w) (first ∷ more) ≡ none → all_have first.prefix (first ∷ more) ≡ one
+form_spelled : (w : ℕ) (first : RawAddr) (more : List RawAddr) (none one : Bool) → AreRaw w (first ∷ more) → have_prefix (8 * w) (first ∷ more) ≡ none → have_prefix first.prefix (first ∷ more) ≡ one
     → SpellsPrefixes (is_one (form_for none one)) (is_each (form_for none one)) (8 * w) (prefixes (first ∷ more)) (prefixes_text (form_for none one) first (first ∷ more))
 form_spelled w first more true one raw is is' = (all_have_so (8 * w) (first ∷ more) is, refl)
 form_spelled w first more false true raw is is' = (first.prefix, raw.1, all_have_so first.prefix (first ∷ more) is', refl)
 form_spelled w first more false false raw is is' = (raw_most w (first ∷ more) raw, refl)
 
-form_least : (w : ℕ) (first : RawAddr) (more : List RawAddr) (none one b16 b8 : Bool) (text : List ℕ) → all_have (8 * w) (first ∷ more) ≡ none → all_have first.prefix (first ∷ more) ≡ one → SpellsPrefixes b16 b8 (8 * w) (prefixes (first ∷ more)) text → length (prefixes_text (form_for none one) first (first ∷ more)) ≤ length text
+form_least : (w : ℕ) (first : RawAddr) (more : List RawAddr) (none one b16 b8 : Bool) (text : List ℕ) → have_prefix (8 * w) (first ∷ more) ≡ none → have_prefix first.prefix (first ∷ more) ≡ one → SpellsPrefixes b16 b8 (8 * w) (prefixes (first ∷ more)) text → length (prefixes_text (form_for none one) first (first ∷ more)) ≤ length text
 form_least w first more true one b16 b8 text is is' h = omega arith
-form_least w first more false one false false text is is' h = let no : all_have (8 * w) (first ∷ more) ≡ true = so_all_have (8 * w) (first ∷ more) h.0 in absurd (false_true (sym is ∙ no))
+form_least w first more false one false false text is is' h = let no : have_prefix (8 * w) (first ∷ more) ≡ true = so_all_have (8 * w) (first ∷ more) h.0 in absurd (false_true (sym is ∙ no))
 form_least w first more false true true false text is is' h = rw h.3 (omega arith)
 form_least w first more false false true false text is is' h =
     let all = first_all h.0 first.prefix (prefixes more) h.2 in
@@ -234,10 +234,10 @@ tail_text_long w first (tails.Full n) long = omega (arith, long)
 
 module _ (w : ℕ) (first : RawAddr) (more : List RawAddr) (choice : Choice) (small : w ≤ 16) (raw : AreRaw w (first ∷ more)) (can : IsPossible w first (first ∷ more) choice) where
   abbrev none : Bool
-  none = all_have (8 * w) (first ∷ more)
+  none = have_prefix (8 * w) (first ∷ more)
 
   abbrev one : Bool
-  one = all_have first.prefix (first ∷ more)
+  one = have_prefix first.prefix (first ∷ more)
 
   abbrev text : List ℕ
   text = text_of w first (first ∷ more) choice (form_for none one)
@@ -299,9 +299,9 @@ abbrev rank_of_form : PrefixForm → ℕ
 rank_of_form form = form_rank (is_one form) (is_each form)
 
 -- no form that comes before is one of the block
-form_first : (w : ℕ) (first : RawAddr) (more : List RawAddr) (none one b16 b8 : Bool) (text : List ℕ) → all_have (8 * w) (first ∷ more) ≡ none → all_have first.prefix (first ∷ more) ≡ one → SpellsPrefixes b16 b8 (8 * w) (prefixes (first ∷ more)) text → rank_of_form (form_for none one) ≤ form_rank b16 b8
+form_first : (w : ℕ) (first : RawAddr) (more : List RawAddr) (none one b16 b8 : Bool) (text : List ℕ) → have_prefix (8 * w) (first ∷ more) ≡ none → have_prefix first.prefix (first ∷ more) ≡ one → SpellsPrefixes b16 b8 (8 * w) (prefixes (first ∷ more)) text → rank_of_form (form_for none one) ≤ form_rank b16 b8
 form_first w first more true one b16 b8 text is is' h = omega arith
-form_first w first more false one false false text is is' h = let no : all_have (8 * w) (first ∷ more) ≡ true = so_all_have (8 * w) (first ∷ more) h.0 in absurd (false_true (sym is ∙ no))
+form_first w first more false one false false text is is' h = let no : have_prefix (8 * w) (first ∷ more) ≡ true = so_all_have (8 * w) (first ∷ more) h.0 in absurd (false_true (sym is ∙ no))
 form_first w first more false true true false text is is' h = omega arith
 form_first w first more false false true false text is is' h =
     let all = first_all h.0 first.prefix (prefixes more) h.2 in
@@ -312,17 +312,17 @@ form_first w first more false false false true text is is' h = omega arith
 form_first w first more false one true true text is is' h = absurd h
 
 text_rank : (w : ℕ) (first : RawAddr) (more : List RawAddr) (choice : Choice) (small : w ≤ 16) (raw : AreRaw w (first ∷ more)) (can : IsPossible w first (first ∷ more) choice)
-    → rank (text_spelled w first more choice small raw can) ≡ choice_rank choice * 3 + rank_of_form (form_for (all_have (8 * w) (first ∷ more)) (all_have first.prefix (first ∷ more)))
+    → rank (text_spelled w first more choice small raw can) ≡ choice_rank choice * 3 + rank_of_form (form_for (have_prefix (8 * w) (first ∷ more)) (have_prefix first.prefix (first ∷ more)))
 unfolding text_spelled
 text_rank w first more choice small raw can =
-    let form : PrefixForm = form_for (all_have (8 * w) (first ∷ more)) (all_have first.prefix (first ∷ more)) in
+    let form : PrefixForm = form_for (have_prefix (8 * w) (first ∷ more)) (have_prefix first.prefix (first ∷ more)) in
     let are = bits_are (eqb choice.head 0) choice.tail form in
     rw (are.1, are.2, are.3, are.4, tail_bits choice.tail, head_long w first more choice small raw can, tail_long w first more choice small raw can) (omega arith)
 
 -- what a spelling tells of a choice that is best
 module _ (w : ℕ) (first : RawAddr) (more : List RawAddr) (choice : Choice) (small : w ≤ 16) (raw : AreRaw w (first ∷ more)) (best : IsBestOf w (length (first ∷ more)) (IsPossible w first (first ∷ more)) choice) (other : List ℕ) (h : SpellsBlock w (first ∷ more) other) where
   abbrev best_form : PrefixForm
-  best_form = form_for (all_have (8 * w) (first ∷ more)) (all_have first.prefix (first ∷ more))
+  best_form = form_for (have_prefix (8 * w) (first ∷ more)) (have_prefix first.prefix (first ∷ more))
 
   abbrev best_text : List ℕ
   best_text = text_of w first (first ∷ more) choice best_form
@@ -338,14 +338,14 @@ module _ (w : ℕ) (first : RawAddr) (more : List RawAddr) (choice : Choice) (sm
   rank_small = let c = spelled_choice in rank_below w c.choice small c.is_possible.fits
 
   prefixes_short : length (prefixes_text best_form first (first ∷ more)) ≤ length h.prefixes_text
-  prefixes_short = form_least w first more (all_have (8 * w) (first ∷ more)) (all_have first.prefix (first ∷ more)) (has h.flags 16) (has h.flags 8) h.prefixes_text refl refl h.prefixes_is
+  prefixes_short = form_least w first more (have_prefix (8 * w) (first ∷ more)) (have_prefix first.prefix (first ∷ more)) (has h.flags 16) (has h.flags 8) h.prefixes_text refl refl h.prefixes_is
 
   not_longer : length best_text ≤ length other
   not_longer = omega (arith, text_long w first more choice small raw best.among, spelled_choice.costs, no_lighter, rank_small, prefixes_short)
 
   not_later : length other ≡ length best_text → rank (text_spelled w first more choice small raw best.among) ≤ rank h
   not_later same =
-      let form = form_first w first more (all_have (8 * w) (first ∷ more)) (all_have first.prefix (first ∷ more)) (has h.flags 16) (has h.flags 8) h.prefixes_text refl refl h.prefixes_is in
+      let form = form_first w first more (have_prefix (8 * w) (first ∷ more)) (have_prefix first.prefix (first ∷ more)) (has h.flags 16) (has h.flags 8) h.prefixes_text refl refl h.prefixes_is in
       let cheap : cost w (length (first ∷ more)) spelled_choice.choice ≤ cost w (length (first ∷ more)) choice = omega (arith, text_long w first more choice small raw best.among, spelled_choice.costs, prefixes_short, same) in
       let ranked : choice_rank choice ≤ choice_rank spelled_choice.choice = omega (arith, cheap, no_lighter) in
       rw (text_rank w first more choice small raw best.among) (omega (arith, ranked, form, spelled_choice.ranked))
@@ -375,7 +375,7 @@ unfolding form_of text_spelled
 least_text w first more choice small raw best = record {
   spelled = text_spelled w first more choice small raw best.among;
   narrow = small;
-  unreserved = unreserved_flags choice (form_for (all_have (8 * w) (first ∷ more)) (all_have first.prefix (first ∷ more)));
+  unreserved = unreserved_flags choice (form_for (have_prefix (8 * w) (first ∷ more)) (have_prefix first.prefix (first ∷ more)));
   least = not_longer w first more choice small raw best;
   preferred = not_later w first more choice small raw best;
 }

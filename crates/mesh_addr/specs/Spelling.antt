@@ -122,13 +122,13 @@ HasHeadBelow width limits head choice = (choice.head + 1 ≤ head) × IsWithinLi
 -- ---- prefix lengths
 
 -- all have this prefix length
-abbrev pub all_have : ℕ → List RawAddr → Bool
-all_have p [] = true
-all_have p (a ∷ addrs) = (a.prefix == p) && all_have p addrs
+abbrev pub have_prefix : ℕ → List RawAddr → Bool
+have_prefix p [] = true
+have_prefix p (a ∷ addrs) = (a.prefix == p) && have_prefix p addrs
 
 -- the shortest form of the prefix lengths
 unfoldable pub form_of : ℕ → RawAddr → List RawAddr → PrefixForm
-form_of width first addrs = if all_have (8 * width) addrs then forms.Absent else if all_have first.prefix addrs then forms.One else forms.Each
+form_of width first addrs = if have_prefix (8 * width) addrs then forms.Absent else if have_prefix first.prefix addrs then forms.One else forms.Each
 
 -- ---- what is written
 

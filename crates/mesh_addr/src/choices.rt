@@ -203,12 +203,12 @@ pub fn best(width: usize, count: usize, limits: Limits) -> Choice
 }
 
 /// Have all that prefix length?
-fn all_have(prefix: u8, addrs: &[RawAddr]) -> bool
-    ensures { result ≡ spelling.all_have prefix addrs.now }
+fn have_prefix(prefix: u8, addrs: &[RawAddr]) -> bool
+    ensures { result ≡ spelling.have_prefix prefix addrs.now }
 {
     match addrs {
         [] => true,
-        [a, rest @ ..] => a.prefix == prefix && all_have(prefix, rest),
+        [a, rest @ ..] => a.prefix == prefix && have_prefix(prefix, rest),
     }
 }
 
@@ -218,9 +218,9 @@ pub fn form_of(width: u8, first: &RawAddr, addrs: &[RawAddr]) -> PrefixForm
     requires { width ≤ 16 }
     ensures { result ≡ spelling.form_of width first.now addrs.now }
 {
-    if all_have(8 * width, addrs) {
+    if have_prefix(8 * width, addrs) {
         PrefixForm::Absent
-    } else if all_have(first.prefix, addrs) {
+    } else if have_prefix(first.prefix, addrs) {
         PrefixForm::One
     } else {
         PrefixForm::Each

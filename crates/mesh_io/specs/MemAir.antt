@@ -50,16 +50,16 @@ told_more (Some reports) report = Some (reports ++ report ∷ [])
 -- For what there is room
 
 -- there is room for an attach with so many peers
-abbrev pub fits_attach : AirRoom → ℕ → Bool
-fits_attach left peers = nat_lt 0 left.attaches && nat_le peers left.peers
+abbrev pub has_room_for_attach : AirRoom → ℕ → Bool
+has_room_for_attach left peers = nat_lt 0 left.attaches && nat_le peers left.peers
 
 -- there is room for an ear
-abbrev pub fits_ear : AirRoom → Bool
-fits_ear left = nat_lt 0 left.ears
+abbrev pub has_room_for_ear : AirRoom → Bool
+has_room_for_ear left = nat_lt 0 left.ears
 
 -- there is room for a frame of so many octets
-abbrev pub fits_frame : AirRoom → ℕ → Bool
-fits_frame left octets = nat_lt 0 left.frames && nat_le octets left.octets
+abbrev pub has_room_for_frame : AirRoom → ℕ → Bool
+has_room_for_frame left octets = nat_lt 0 left.frames && nat_le octets left.octets
 
 -- the room that is left behind an attach with so many peers
 abbrev pub after_attach : AirRoom → ℕ → AirRoom
@@ -152,7 +152,7 @@ pub record AirState : Type 0 where
 
 -- an attach fails where it is to, or where there is no room for it
 abbrev pub refuses_attach : AirState → ℕ → Bool
-refuses_attach a peers = fails_at a.fails.attach (one_more a.attaches) || not (fits_attach a.log.left peers)
+refuses_attach a peers = fails_at a.fails.attach (one_more a.attaches) || not (has_room_for_attach a.log.left peers)
 
 -- an attach is counted; where it isn't refused, it makes an interface and is told, and else it is a fault
 pub record IsAttached (old : AirState) (local : Endpoint) (peers : List Endpoint) (new : AirState) (answer : Attached) : Type 0 where
@@ -163,9 +163,9 @@ pub record IsAttached (old : AirState) (local : Endpoint) (peers : List Endpoint
 
 -- an ear fails where there is no room for it, and then nothing is told any more, or where it is to; else the script's next is given
 pub record IsHeard (old : AirState) (iface : ℕ) (new : AirState) (heard : Report) : Type 0 where
-  pub heard_is : heard ≡ (if not (fits_ear old.log.left) || fails_at old.fails.hear (one_more old.hears)
+  pub heard_is : heard ≡ (if not (has_room_for_ear old.log.left) || fails_at old.fails.hear (one_more old.hears)
       then Heard_fault iface else told_ear iface (next_ear old.log.scripts old.log.places iface))
-  pub state : new ≡ (if not (fits_ear old.log.left)
+  pub state : new ≡ (if not (has_room_for_ear old.log.left)
       then record old { hears = one_more old.hears; log = with_nothing_told old.log; faults = one_more old.faults }
       else if fails_at old.fails.hear (one_more old.hears)
       then record old {
@@ -180,9 +180,9 @@ pub record IsHeard (old : AirState) (iface : ℕ) (new : AirState) (heard : Repo
 
 -- a frame isn't sent where there is no room for it, and then nothing is told any more, or where the call is to fail
 pub record IsSent (old : AirState) (iface : ℕ) (bytes : List ℕ) (new : AirState) (answer : Sent) : Type 0 where
-  pub answer_is : answer ≡ (if not (fits_frame old.log.left (length bytes)) || fails_at old.fails.send (one_more old.sends)
+  pub answer_is : answer ≡ (if not (has_room_for_frame old.log.left (length bytes)) || fails_at old.fails.send (one_more old.sends)
       then sent.Failed else sent.Done)
-  pub state : new ≡ (if not (fits_frame old.log.left (length bytes))
+  pub state : new ≡ (if not (has_room_for_frame old.log.left (length bytes))
       then record old { sends = one_more old.sends; log = with_nothing_told old.log; faults = one_more old.faults }
       else if fails_at old.fails.send (one_more old.sends)
       then record old { sends = one_more old.sends; log = with_frame old.log iface bytes answer; faults = one_more old.faults }

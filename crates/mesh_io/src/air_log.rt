@@ -5,7 +5,7 @@ ghost use Rattle.std.specs.Vec.{vec_capacity};
 ghost use Rattle.mesh_atoms.specs.declared.limits.TheConstants.{LONGEST_DATAGRAM};
 ghost use Rattle.mesh_io.specs.Airs.{FitsBuffer, report_of_ear};
 ghost use Rattle.mesh_io.specs.Airs.Report.{Heard_fault};
-ghost use Rattle.mesh_io.specs.MemAir.{ear_at, next_ear, told_ear, one_further, fits_attach, fits_ear, fits_frame, with_attach, with_ear, with_frame, with_nothing_told};
+ghost use Rattle.mesh_io.specs.MemAir.{ear_at, next_ear, told_ear, one_further, has_room_for_attach, has_room_for_ear, has_room_for_frame, with_attach, with_ear, with_frame, with_nothing_told};
 
 use crate::air_room::{AirRoom, LoggedCall, MemEar};
 use crate::{Ear, Sent};
@@ -158,22 +158,22 @@ impl AirLog {
     }
 
     /// Whether there is room for an attach with so many peers.
-    pub fn fits_attach(&self, peers: usize) -> bool
-        ensures { result ≡ fits_attach self.now.left peers }
+    pub fn has_room_for_attach(&self, peers: usize) -> bool
+        ensures { result ≡ has_room_for_attach self.now.left peers }
     {
         0 < self.left.attaches && peers <= self.left.peers
     }
 
     /// Whether there is room for an ear.
-    pub fn fits_ear(&self) -> bool
-        ensures { result ≡ fits_ear self.now.left }
+    pub fn has_room_for_ear(&self) -> bool
+        ensures { result ≡ has_room_for_ear self.now.left }
     {
         0 < self.left.ears
     }
 
     /// Whether there is room for a frame of so many octets.
-    pub fn fits_frame(&self, octets: usize) -> bool
-        ensures { result ≡ fits_frame self.now.left octets }
+    pub fn has_room_for_frame(&self, octets: usize) -> bool
+        ensures { result ≡ has_room_for_frame self.now.left octets }
     {
         0 < self.left.frames && octets <= self.left.octets
     }

@@ -84,7 +84,7 @@ impl Air for MemAir {
     {
         self.attaches = self.attaches.saturating_add(1);
         if self.fails.attach.as_slice().contains(&self.attaches)
-            || !self.log.fits_attach(peers.len())
+            || !self.log.has_room_for_attach(peers.len())
         {
             self.faults = self.faults.saturating_add(1);
             return Attached::Failed;
@@ -105,7 +105,7 @@ impl Air for MemAir {
         ensures exact { IsHeard self.old iface self.new (report_of_ear iface buf.new result) }
     {
         self.hears = self.hears.saturating_add(1);
-        if !self.log.fits_ear() {
+        if !self.log.has_room_for_ear() {
             self.log.tell_nothing();
             self.faults = self.faults.saturating_add(1);
             return Ear::Failed;
@@ -128,7 +128,7 @@ impl Air for MemAir {
         ensures exact { IsSent self.old iface bytes.now self.new result }
     {
         self.sends = self.sends.saturating_add(1);
-        if !self.log.fits_frame(bytes.len()) {
+        if !self.log.has_room_for_frame(bytes.len()) {
             self.log.tell_nothing();
             self.faults = self.faults.saturating_add(1);
             return Sent::Failed;

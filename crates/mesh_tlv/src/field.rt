@@ -9,7 +9,7 @@ use mesh_atoms::reason::{BLOCK_LENGTH, TLV_FLAGS, TLV_INDEX, TLV_VALUE};
 use mesh_atoms::{Refusal, read_octet, read_short, refuse};
 
 /// Whether flags break no rule, where those of `barred` aren't taken.
-pub fn flags_are_sound(barred: u8, flags: u8) -> bool
+pub fn are_flags_sound(barred: u8, flags: u8) -> bool
     ensures { result ≡ is_sound barred flags }
 {
     (flags & barred == 0)
@@ -25,7 +25,7 @@ pub fn flags(barred: u8, frame: &[u8], at: usize, end: usize) -> Result<(u8, usi
     ensures after { IfOk result (λ x. (x.1 ≤ end) × (at < x.1)) }
 {
     let (flags, after) = read_octet(frame, at, end, BLOCK_LENGTH)?;
-    if flags_are_sound(barred, flags) {
+    if are_flags_sound(barred, flags) {
         Ok((flags, after))
     } else {
         Err(refuse(at, TLV_FLAGS))

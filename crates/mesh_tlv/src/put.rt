@@ -18,7 +18,7 @@ pub fn flag(set: bool, bit: u8) -> u8
 }
 
 /// Whether all addresses are covered, so that no index is written.
-pub fn covers_all(count: u8, first: u8, last: u8) -> bool
+pub fn are_all_covered(count: u8, first: u8, last: u8) -> bool
     requires { 0 < count }
     ensures { result ≡ covers_all count first last }
 {
@@ -30,7 +30,7 @@ pub fn is_single(count: u8, first: u8, last: u8) -> bool
     requires { 0 < count }
     ensures { result ≡ is_single count first last }
 {
-    !covers_all(count, first, last) && first == last
+    !are_all_covered(count, first, last) && first == last
 }
 
 /// Whether a multi index is written.
@@ -38,7 +38,7 @@ pub fn is_several(count: u8, first: u8, last: u8) -> bool
     requires { 0 < count }
     ensures { result ≡ is_several count first last }
 {
-    !covers_all(count, first, last) && first != last
+    !are_all_covered(count, first, last) && first != last
 }
 
 /// Whether a value's length is written with 16 bits.
@@ -140,7 +140,7 @@ pub fn put_index(tlv: AddrTlv, count: u8, out: &mut Bytes) -> Result<(), AllocEr
     ensures ok { OnOk result (out.new ≡ out.old ++ least_index count tlv.entry.first tlv.entry.last) }
     ensures kept { Grows out.old out.new }
 {
-    put_if(!covers_all(count, tlv.first, tlv.last), tlv.first, out)?;
+    put_if(!are_all_covered(count, tlv.first, tlv.last), tlv.first, out)?;
     put_if(is_several(count, tlv.first, tlv.last), tlv.last, out)
 }
 
@@ -190,7 +190,7 @@ pub fn index_len(tlv: AddrTlv, count: u8) -> usize
     ensures exact { result ≡ length (least_index count tlv.entry.first tlv.entry.last) }
     ensures most { result ≤ 2 }
 {
-    if covers_all(count, tlv.first, tlv.last) {
+    if are_all_covered(count, tlv.first, tlv.last) {
         0
     } else if tlv.first == tlv.last {
         1

@@ -14,7 +14,7 @@ use Rattle.mesh_wire.specs.declared.lines.AddressTlvKind.{AddressTlvKind}
 use Rattle.mesh_wire.specs.declared.lines.AddressRecord.{AddressRecord}
 use Rattle.mesh_wire.specs.Lines.{is_wide, width_of, number, octets_of, value_of, laid, column_text}
 use Rattle.mesh_wire.specs.Parts.{share_of, value_at}
-use Rattle.mesh_wire.specs.Runs.{has_part, leading, present, all_are, first_number, run_of, Adds, IsColumnTlv, LaysFirst, Lays, LaysAll, IsBlock, AreBlocks}
+use Rattle.mesh_wire.specs.Runs.{has_part, leading, present, have_number, first_number, run_of, Adds, IsColumnTlv, LaysFirst, Lays, LaysAll, IsBlock, AreBlocks}
 use Rattle.mesh_packet.specs.declared.packet.Block.{Block}
 use Rattle.mesh_packet.specs.Fields.{BlockFields, fields_of_block}
 use Rattle.std.proofs.lemmas.List.Elements.{Contains-push, Contains-append_left, Contains-push_cases}
@@ -120,12 +120,12 @@ same_option None (Some b) e = cc
 same_option (Some a) None e = cc
 same_option (Some a) (Some b) e = ap Some (eqb-true a b e)
 
-all_there : (c : AddressTlvKind) (n : Option ℕ) (lines : List AddressRecord) → all_are c n lines ≡ true → (k : ℕ) (line : AddressRecord) → slice_get lines k ≡ Some line → number c line ≡ n
+all_there : (c : AddressTlvKind) (n : Option ℕ) (lines : List AddressRecord) → have_number c n lines ≡ true → (k : ℕ) (line : AddressRecord) → slice_get lines k ≡ Some line → number c line ≡ n
 all_there c n [] e k line at = cc
 all_there c n (l ∷ lines) e zero line at =
     let same : l ≡ line = cc in
-    subst (λ (x : AddressRecord). number c x ≡ n) same (same_option (number c l) n (both (option_eq nat_eq (number c l) n) (all_are c n lines) e).0)
-all_there c n (l ∷ lines) e (suc k) line at = all_there c n lines (both (option_eq nat_eq (number c l) n) (all_are c n lines) e).1 k line at
+    subst (λ (x : AddressRecord). number c x ≡ n) same (same_option (number c l) n (both (option_eq nat_eq (number c l) n) (have_number c n lines) e).0)
+all_there c n (l ∷ lines) e (suc k) line at = all_there c n lines (both (option_eq nat_eq (number c l) n) (have_number c n lines) e).1 k line at
 
 -- lines that all have the part, of a block from a place on
 pub record Stands (c : AddressTlvKind) (lines : List AddressRecord) (first : ℕ) (run : List AddressRecord) : Type 0 where
@@ -146,7 +146,7 @@ fit_case false one each first last h = h
 laid_number : (c : AddressTlvKind) (line : AddressRecord) (n : ℕ) → number c line ≡ Some n → laid c line ≡ octets_of c n
 laid_number c line n e = ap (λ (o : Option ℕ). octets_of c (unwrap_or o 0)) e
 
-one_value : (c : AddressTlvKind) (run : List AddressRecord) (k : ℕ) (line : AddressRecord) (n : ℕ) → all_are c (first_number c run) run ≡ true → slice_get run k ≡ Some line → number c line ≡ Some n → column_text c (take 1 run) ≡ octets_of c n
+one_value : (c : AddressTlvKind) (run : List AddressRecord) (k : ℕ) (line : AddressRecord) (n : ℕ) → have_number c (first_number c run) run ≡ true → slice_get run k ≡ Some line → number c line ≡ Some n → column_text c (take 1 run) ≡ octets_of c n
 one_value c [] k line n same at is = cc
 one_value c (l ∷ run) k line n same at is =
     append-nil (laid c l) ∙ laid_number c l n (sym (all_there c (number c l) (l ∷ run) same k line at) ∙ is)
@@ -159,7 +159,7 @@ is_run c lines first run s = record {
   says = says;
 } where
   same : Bool
-  same = all_are c (first_number c run) run
+  same = have_number c (first_number c run) run
 
   last : ℕ
   last = first + (length run - 1)
@@ -221,8 +221,8 @@ text_short c lines = elim (cases_Bool (is_wide c)) [
 pub run_short : (c : AddressTlvKind) (first : ℕ) (run : List AddressRecord) (count : ℕ) → 0 < length run → length run ≤ 255 → length (least_addr_tlv count (run_of c first run)) ≤ 7 * length run
 run_short c first run count some few =
     let tlv = run_of c first run in
-    let text = cond (all_are c (first_number c run) run) (column_text c (take 1 run)) (column_text c run) in
-    let long : length text ≤ 2 * length run = elim (all_are c (first_number c run) run) as (λ (b : Bool). length (cond b (column_text c (take 1 run)) (column_text c run)) ≤ 2 * length run) [
+    let text = cond (have_number c (first_number c run) run) (column_text c (take 1 run)) (column_text c run) in
+    let long : length text ≤ 2 * length run = elim (have_number c (first_number c run) run) as (λ (b : Bool). length (cond b (column_text c (take 1 run)) (column_text c run)) ≤ 2 * length run) [
       | true ↦ omega (arith, text_short c (take 1 run), length-take 1 run)
       | false ↦ text_short c run
     ] in

@@ -8,7 +8,7 @@ use Rattle.mesh_wire.specs.declared.parts.SingleNumber.TheVariants.{Unsaid, Said
 use Rattle.mesh_wire.specs.declared.parts.Octets.{Octets}
 use Rattle.mesh_wire.specs.declared.parts.RowParts.{RowParts}
 use Rattle.mesh_wire.specs.Rules.{IsOctet}
-use Rattle.mesh_wire.specs.KeptParts.{also, code_also, is_octet_in, says_flag, octets_also, octet_also, has_other_length, no_parts, take_part}
+use Rattle.mesh_wire.specs.KeptParts.{also, code_also, is_octet_in, is_flag_set, octets_also, octet_also, has_other_length, no_parts, take_part}
 
 -- ---- booleans
 
@@ -225,17 +225,17 @@ octet_is n (a ∷ []) e =
 is_octet : (n : ℕ) → is_octet_in n (n + 1) (n ∷ []) ≡ true
 is_octet n = and_both (nat_le n n) (nat_lt n (n + 1)) (le-leb n n (omega arith)) (lt-ltb n (n + 1) (omega arith))
 
-flag_said : (flag : ℕ) (x : List ℕ) → says_flag flag x ≡ true → IsFlag flag x
+flag_said : (flag : ℕ) (x : List ℕ) → is_flag_set flag x ≡ true → IsFlag flag x
 flag_said flag x e = elim (or_cases (is_octet_in flag (flag + 1) x) (is_octet_in 3 4 x) e) [ inl t ↦ inl (octet_is flag x t) | inr t ↦ inr (octet_is 3 x t) ]
 
-said_flag : (flag : ℕ) (x : List ℕ) → IsFlag flag x → says_flag flag x ≡ true
+said_flag : (flag : ℕ) (x : List ℕ) → IsFlag flag x → is_flag_set flag x ≡ true
 said_flag flag x (inl e) = or_left (is_octet_in flag (flag + 1) x) (is_octet_in 3 4 x) (rw e (is_octet flag))
 said_flag flag x (inr e) = or_right (is_octet_in flag (flag + 1) x) (is_octet_in 3 4 x) (rw e refl)
 
 module _ (S U : ℕ → List ℕ → Type 0) (kind : ℕ) (new : List ℕ) (more : IsMore S U kind new) (K : ℕ) where
-  pub flag_at : (flag : ℕ) (b : Bool) → (IsTrue b ↔ (S K (flag ∷ []) ⊎ S K (3 ∷ []))) → IsTrue (b || (kind == K && says_flag flag new)) ↔ (U K (flag ∷ []) ⊎ U K (3 ∷ []))
+  pub flag_at : (flag : ℕ) (b : Bool) → (IsTrue b ↔ (S K (flag ∷ []) ⊎ S K (3 ∷ []))) → IsTrue (b || (kind == K && is_flag_set flag new)) ↔ (U K (flag ∷ []) ⊎ U K (3 ∷ []))
   flag_at flag b h =
-      let t = test_at S U kind new more K (IsFlag flag) b (says_flag flag new) (flag_said flag new) (said_flag flag new) (
+      let t = test_at S U kind new more K (IsFlag flag) b (is_flag_set flag new) (flag_said flag new) (said_flag flag new) (
         λ e. elim (h.0 e) [ inl s ↦ (flag ∷ [], s, inl refl) | inr s ↦ (3 ∷ [], s, inr refl) ],
         λ (x, s, f). h.1 (elim f [ inl e ↦ inl (subst (S K) e s) | inr e ↦ inr (subst (S K) e s) ]),
       ) in (

@@ -33,8 +33,8 @@ is_octet_in low bound [] = false
 is_octet_in low bound (a ∷ b ∷ rest) = false
 
 -- whether a value sets the flag, by itself or beside the other one
-abbrev pub says_flag : ℕ → List ℕ → Bool
-says_flag flag octets = is_octet_in flag (flag + 1) octets || is_octet_in 3 4 octets
+abbrev pub is_flag_set : ℕ → List ℕ → Bool
+is_flag_set flag octets = is_octet_in flag (flag + 1) octets || is_octet_in 3 4 octets
 
 -- one value more, where it is of that type
 abbrev pub octets_also : Bool → ℕ → ℕ → List ℕ → Octets → Octets
@@ -82,8 +82,8 @@ take_part kind octets r = record {
   link_out = code_also (kind == link_metric) 64 octets r.link_out;
   near_in = code_also (kind == link_metric) 32 octets r.near_in;
   near_out = code_also (kind == link_metric) 16 octets r.near_out;
-  flooding = r.flooding || (kind == mpr && says_flag 1 octets);
-  routing = r.routing || (kind == mpr && says_flag 2 octets);
-  origin = r.origin || (kind == nbr_addr_type && says_flag 1 octets);
-  routable = r.routable || (kind == nbr_addr_type && says_flag 2 octets);
+  flooding = r.flooding || (kind == mpr && is_flag_set 1 octets);
+  routing = r.routing || (kind == mpr && is_flag_set 2 octets);
+  origin = r.origin || (kind == nbr_addr_type && is_flag_set 1 octets);
+  routable = r.routable || (kind == nbr_addr_type && is_flag_set 2 octets);
 }

@@ -36,9 +36,9 @@ present c [] = 0
 present c (l ∷ lines) = (if has_part c l then 1 else 0) + present c lines
 
 -- whether all lines have that number
-abbrev pub all_are : AddressTlvKind → Option ℕ → List AddressRecord → Bool
-all_are c n [] = true
-all_are c n (l ∷ lines) = option_eq nat_eq (number c l) n && all_are c n lines
+abbrev pub have_number : AddressTlvKind → Option ℕ → List AddressRecord → Bool
+have_number c n [] = true
+have_number c n (l ∷ lines) = option_eq nat_eq (number c l) n && have_number c n lines
 
 -- the number of the first line
 abbrev pub first_number : AddressTlvKind → List AddressRecord → Option ℕ
@@ -52,8 +52,8 @@ run_of c first lines = record {
   ext = 0;
   first = first;
   last = first + (length lines - 1);
-  multi = not (all_are c (first_number c lines) lines);
-  value = Some (if all_are c (first_number c lines) lines then column_text c (take 1 lines) else column_text c lines);
+  multi = not (have_number c (first_number c lines) lines);
+  value = Some (if have_number c (first_number c lines) lines then column_text c (take 1 lines) else column_text c lines);
 }
 
 -- more of this kind were put behind the old ones

@@ -1,6 +1,6 @@
 //! What is kept of all that the TLVs of a message say of one address.
 ghost use Rattle.std.specs.Prelude.{◌≡◌, true, ◌<◌, ◌||◌};
-ghost use Rattle.mesh_wire.specs.KeptParts.{also, is_octet_in, octets_also, octet_also, code_also, has_other_length, says_flag, take_part, no_parts};
+ghost use Rattle.mesh_wire.specs.KeptParts.{also, is_octet_in, octets_also, octet_also, code_also, has_other_length, is_flag_set, take_part, no_parts};
 
 use mesh_atoms::short_of;
 use mesh_atoms::tlv_type::{
@@ -97,9 +97,9 @@ fn is_octet_in(octets: &[u8], low: u16, bound: u16) -> bool
 }
 
 // Whether a value sets the flag, by itself or beside the other one.
-fn says_flag(octets: &[u8], flag: u16) -> bool
+fn is_flag_set(octets: &[u8], flag: u16) -> bool
     requires { flag < 256 }
-    ensures { result ≡ says_flag flag octets.now }
+    ensures { result ≡ is_flag_set flag octets.now }
 {
     is_octet_in(octets, flag, flag + 1) || is_octet_in(octets, 3, 4)
 }
@@ -182,8 +182,8 @@ impl RowParts {
         ensures { self.new ≡ take_part NBR_ADDR_TYPE octets.now self.old }
     {
         self.addr_type.take(1, 4, octets);
-        set_if(&mut self.origin, says_flag(octets, 1));
-        set_if(&mut self.routable, says_flag(octets, 2));
+        set_if(&mut self.origin, is_flag_set(octets, 1));
+        set_if(&mut self.routable, is_flag_set(octets, 2));
     }
 
     // One value more, of a type without extension.
@@ -196,8 +196,8 @@ impl RowParts {
             OTHER_NEIGHB => self.other.take(0, 2, octets),
             LINK_METRIC => self.take_metric(octets),
             MPR => {
-                set_if(&mut self.flooding, says_flag(octets, 1));
-                set_if(&mut self.routing, says_flag(octets, 2));
+                set_if(&mut self.flooding, is_flag_set(octets, 1));
+                set_if(&mut self.routing, is_flag_set(octets, 2));
             }
             NBR_ADDR_TYPE => self.take_type(octets),
             GATEWAY => {

@@ -3,7 +3,7 @@ ghost use Rattle.std.specs.Prelude.{◌≡◌, ◌+◌, ◌++◌, ◌*◌, ◌<�
 ghost use Rattle.mesh_tlv.specs.Fields.{addr_fields};
 ghost use Rattle.mesh_packet.specs.Fields.{fields_of_block};
 ghost use Rattle.mesh_wire.specs.Lines.{columns, column_text, columns_text};
-ghost use Rattle.mesh_wire.specs.Runs.{host_octets, raw_of, leading, all_are, run_of, Adds, Lays, LaysAll, IsBlock, AreBlocks};
+ghost use Rattle.mesh_wire.specs.Runs.{host_octets, raw_of, leading, have_number, run_of, Adds, Lays, LaysAll, IsBlock, AreBlocks};
 
 use crate::lay::COLUMNS;
 use crate::lines::{AddressRecord, AddressTlvKind};
@@ -56,12 +56,12 @@ fn leading(column: AddressTlvKind, lines: &[AddressRecord]) -> usize
 }
 
 // Whether all lines have that number.
-fn all_are(column: AddressTlvKind, number: Option<u16>, lines: &[AddressRecord]) -> bool
-    ensures { result ≡ all_are column number lines.now }
+fn have_number(column: AddressTlvKind, number: Option<u16>, lines: &[AddressRecord]) -> bool
+    ensures { result ≡ have_number column number lines.now }
 {
     match lines {
         [] => true,
-        [line, rest @ ..] => line.number(column) == number && all_are(column, number, rest),
+        [line, rest @ ..] => line.number(column) == number && have_number(column, number, rest),
     }
 }
 
@@ -105,7 +105,7 @@ fn run_of<'a>(
     requires text { text.now ≡ column_text column lines.now }
     ensures { addr_fields result ≡ run_of column first lines.now }
 {
-    let same = all_are(column, lines[0].number(column), lines);
+    let same = have_number(column, lines[0].number(column), lines);
     AddrTlv {
         kind: column.kind(),
         ext: 0,
