@@ -8,7 +8,7 @@ use Rattle.mesh_atoms.specs.declared.settings.RouterSettings.{RouterSettings}
 use Rattle.mesh_atoms.specs.declared.settings.Scenario.{Scenario}
 use Rattle.mesh_atoms.specs.Quality.{quality_at}
 use Rattle.mesh_atoms.specs.Radio.{IsAdmitted, Joins}
-use Rattle.mesh_paths.specs.Parts.{face_in, face_of, accepts, is_admitted}
+use Rattle.mesh_paths.specs.Parts.{face_in, face_of, can_accept, is_admitted}
 
 -- interfaces that are joined are so from both sides
 pub joins_back : {s : Scenario} {x i y j : ℕ} {there back : Metric} → Joins s x i y j there back → Joins s y j x i back there
@@ -18,7 +18,7 @@ face_found : (o : Option RouterSettings) (i : ℕ) (f : Interface) → face_in o
 face_found None i f e = absurd (let no : None ≡ Some f = e in cc)
 face_found (Some r) i f e = (r, refl, e)
 
-accepts_both : (end : ℕ) (to from : Option Interface) → accepts end to from ≡ true →
+accepts_both : (end : ℕ) (to from : Option Interface) → can_accept end to from ≡ true →
     (t f : Interface) × (to ≡ Some t) × (from ≡ Some f) × (t.admit.accept ≤ quality_at t.admit f.addrs end)
 accepts_both end None from e = absurd (let no : false ≡ true = e in cc)
 accepts_both end (Some t) None e = absurd (let no : false ≡ true = e in cc)
@@ -36,12 +36,12 @@ pub admitted_arc : (s : Scenario) (x i y j : ℕ) (arc : RadioArc) → arc.from 
     is_admitted s.routers s.end arc ≡ true → IsAdmitted s x i y j
 admitted_arc s x i y j arc from from_iface to to_iface e = rw (← from, ← from_iface, ← to, ← to_iface) (admitted_by s arc e)
 
-admits : (s : Scenario) (x i y j : ℕ) → IsAdmitted s x i y j → accepts s.end (face_of s.routers y j) (face_of s.routers x i) ≡ true
+admits : (s : Scenario) (x i y j : ℕ) → IsAdmitted s x i y j → can_accept s.end (face_of s.routers y j) (face_of s.routers x i) ≡ true
 admits s x i y j a =
     let to : face_of s.routers y j ≡ Some a.to = ap (λ (o : Option RouterSettings). face_in o j) a.receives ∙ a.is_to in
     let from : face_of s.routers x i ≡ Some a.from = ap (λ (o : Option RouterSettings). face_in o i) a.sends ∙ a.is_from in
-    ap (λ (o : Option Interface). accepts s.end o (face_of s.routers x i)) to
-    ∙ ap (λ (o : Option Interface). accepts s.end (Some a.to) o) from
+    ap (λ (o : Option Interface). can_accept s.end o (face_of s.routers x i)) to
+    ∙ ap (λ (o : Option Interface). can_accept s.end (Some a.to) o) from
     ∙ le-leb a.to.admit.accept (quality_at a.to.admit a.from.addrs s.end) a.accepted
 
 pub admits_arc : (s : Scenario) (x i y j : ℕ) (arc : RadioArc) → arc.from ≡ x → arc.from_iface ≡ i → arc.to ≡ y → arc.to_iface ≡ j →

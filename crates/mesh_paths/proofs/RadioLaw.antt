@@ -18,7 +18,7 @@ use Rattle.mesh_atoms.specs.Radio.Joined.{Itself, By}
 use Rattle.mesh_atoms.specs.Settings.{are_distinct, ends_eq}
 use Rattle.mesh_atoms.proofs.Deciding.{Decides-and, Decides-eqb, Decides-some}
 use Rattle.mesh_paths.proofs.Admitted.{joins_back, admitted_arc, admits_arc}
-use Rattle.mesh_paths.specs.Parts.{pair_of, is_admitted, leads_back, leads_home, is_met, is_joined, Chain, IsInside, IsLevel, IsParts, Lowers, Goes}
+use Rattle.mesh_paths.specs.Parts.{pair_of, is_admitted, is_arc_back, is_admitted_back, is_met, is_joined, Chain, IsInside, IsLevel, IsParts, Lowers, Goes}
 use Rattle.mesh_paths.specs.Parts.Chain.{Start, On}
 use Rattle.mesh_paths.proofs.Rows.{item_in}
 use Rattle.mesh_paths.proofs.Scenarios.{not_both, any_of, ends_of, same_ends, sound_scenario}
@@ -78,18 +78,18 @@ once_more x xs new rest (suc k) (suc l) a at to = let same : k ≡ l = rest k l 
 abbrev LeadsBack : RadioArc → RadioArc → Type 0
 LeadsBack arc back = (((back.from ≡ arc.to) × (back.from_iface ≡ arc.to_iface)) × (back.to ≡ arc.from)) × (back.to_iface ≡ arc.from_iface)
 
-Decides-leads_back : (arc back : RadioArc) → Decides (leads_back arc back) (LeadsBack arc back)
-Decides-leads_back arc back = Decides-and _ _ (Decides-and _ _ (Decides-and _ _ (Decides-eqb back.from arc.to) (Decides-eqb back.from_iface arc.to_iface)) (Decides-eqb back.to arc.from)) (Decides-eqb back.to_iface arc.from_iface)
+Decides-is_arc_back : (arc back : RadioArc) → Decides (is_arc_back arc back) (LeadsBack arc back)
+Decides-is_arc_back arc back = Decides-and _ _ (Decides-and _ _ (Decides-and _ _ (Decides-eqb back.from arc.to) (Decides-eqb back.from_iface arc.to_iface)) (Decides-eqb back.to arc.from)) (Decides-eqb back.to_iface arc.from_iface)
 
 -- the same, and it is admitted
 abbrev LeadsHome : Scenario → RadioArc → RadioArc → Type 0
 LeadsHome s arc back = LeadsBack arc back × (is_admitted s.routers s.end back ≡ true)
 
-Decides-leads_home : (s : Scenario) (arc back : RadioArc) → Decides (leads_home s.routers s.end arc back) (LeadsHome s arc back)
-Decides-leads_home s arc back = Decides-and _ _ (Decides-leads_back arc back) (λ e. e, λ e. e)
+Decides-is_admitted_back : (s : Scenario) (arc back : RadioArc) → Decides (is_admitted_back s.routers s.end arc back) (LeadsHome s arc back)
+Decides-is_admitted_back s arc back = Decides-and _ _ (Decides-is_arc_back arc back) (λ e. e, λ e. e)
 
 Decides-is_met : (s : Scenario) (arc : RadioArc) → Decides (is_met s.routers s.end s.arcs arc) ((back : RadioArc) × Contains s.arcs back × LeadsHome s arc back)
-Decides-is_met s arc = Decides-some (leads_home s.routers s.end arc) (LeadsHome s arc) (Decides-leads_home s arc) s.arcs
+Decides-is_met s arc = Decides-some (is_admitted_back s.routers s.end arc) (LeadsHome s arc) (Decides-is_admitted_back s arc) s.arcs
 
 same_pair : (arc : RadioArc) (p : Pair) → arc.from ≡ p.from → arc.from_iface ≡ p.from_iface → arc.to ≡ p.to → arc.to_iface ≡ p.to_iface → arc.metric ≡ p.metric → pair_of arc ≡ p
 same_pair arc p from from_iface to to_iface metric = λ i. record { from = from i; from_iface = from_iface i; to = to i; to_iface = to_iface i; metric = metric i }

@@ -12,8 +12,8 @@ abbrev pub pair_of : RadioArc → Pair
 pair_of arc = record { from = arc.from; from_iface = arc.from_iface; to = arc.to; to_iface = arc.to_iface; metric = arc.metric }
 
 -- the second arc leads back between the interfaces of the first
-abbrev pub leads_back : RadioArc → RadioArc → Bool
-leads_back arc back = nat_eq back.from arc.to && nat_eq back.from_iface arc.to_iface && nat_eq back.to arc.from && nat_eq back.to_iface arc.from_iface
+abbrev pub is_arc_back : RadioArc → RadioArc → Bool
+is_arc_back arc back = nat_eq back.from arc.to && nat_eq back.from_iface arc.to_iface && nat_eq back.to arc.from && nat_eq back.to_iface arc.from_iface
 
 -- the interface of the router, where there is one
 abbrev pub face_in : Option RouterSettings → ℕ → Option Interface
@@ -25,22 +25,22 @@ abbrev pub face_of : List RouterSettings → ℕ → ℕ → Option Interface
 face_of routers x i = face_in (slice_get routers x) i
 
 -- the first interface accepts the quality of what the second sends
-abbrev pub accepts : ℕ → Option Interface → Option Interface → Bool
-accepts end None from = false
-accepts end (Some to) None = false
-accepts end (Some to) (Some from) = nat_le to.admit.accept (quality_at to.admit from.addrs end)
+abbrev pub can_accept : ℕ → Option Interface → Option Interface → Bool
+can_accept end None from = false
+can_accept end (Some to) None = false
+can_accept end (Some to) (Some from) = nat_le to.admit.accept (quality_at to.admit from.addrs end)
 
 -- what the arc brings is admitted where it leads to
 abbrev pub is_admitted : List RouterSettings → ℕ → RadioArc → Bool
-is_admitted routers end arc = accepts end (face_of routers arc.to arc.to_iface) (face_of routers arc.from arc.from_iface)
+is_admitted routers end arc = can_accept end (face_of routers arc.to arc.to_iface) (face_of routers arc.from arc.from_iface)
 
 -- the second arc leads back between the interfaces of the first, and is admitted
-abbrev pub leads_home : List RouterSettings → ℕ → RadioArc → RadioArc → Bool
-leads_home routers end arc back = leads_back arc back && is_admitted routers end back
+abbrev pub is_admitted_back : List RouterSettings → ℕ → RadioArc → RadioArc → Bool
+is_admitted_back routers end arc back = is_arc_back arc back && is_admitted routers end back
 
 -- some admitted arc leads back between the interfaces of this
 abbrev pub is_met : List RouterSettings → ℕ → List RadioArc → RadioArc → Bool
-is_met routers end arcs arc = list_any (leads_home routers end arc) arcs
+is_met routers end arcs arc = list_any (is_admitted_back routers end arc) arcs
 
 -- the arc joins its interfaces: it and one that leads back are admitted
 abbrev pub is_joined : List RouterSettings → ℕ → List RadioArc → RadioArc → Bool

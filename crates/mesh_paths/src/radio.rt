@@ -4,7 +4,7 @@ ghost use Rattle.std.specs.Option.{option_copied};
 ghost use Rattle.std.specs.List.{range_with_len};
 ghost use Rattle.mesh_atoms.specs.declared.graphs.Pair.{Pair};
 ghost use Rattle.mesh_atoms.specs.Radio.{IsRadioGraph};
-ghost use Rattle.mesh_paths.specs.Parts.{pair_of, face_of, accepts, is_admitted, leads_back, leads_home, is_met, is_joined, IsInside, IsLevel, IsParts, Lowers, Goes};
+ghost use Rattle.mesh_paths.specs.Parts.{pair_of, face_of, can_accept, is_admitted, is_arc_back, is_admitted_back, is_met, is_joined, IsInside, IsLevel, IsParts, Lowers, Goes};
 
 use mesh_atoms::{
     Interface, Pair, RadioArc, RadioGraph, RouterSettings, Scenario, Seq, quality_at,
@@ -69,7 +69,7 @@ fn is_joined(routers: &[RouterSettings], end: u64, arcs: &[RadioArc], arc: &Radi
 fn is_admitted(routers: &[RouterSettings], end: u64, arc: &RadioArc) -> bool
     ensures { result ≡ is_admitted routers.now end arc.now }
 {
-    accepts(
+    can_accept(
         end,
         face_of(routers, arc.to, arc.to_iface),
         face_of(routers, arc.from, arc.from_iface),
@@ -87,8 +87,8 @@ fn face_of(routers: &[RouterSettings], router: usize, iface: usize) -> Option<&I
 }
 
 // Whether the first interface accepts the quality of what the second sends, at that moment.
-fn accepts(end: u64, to: Option<&Interface>, from: Option<&Interface>) -> bool
-    ensures { result ≡ accepts end (option_copied to.entry) (option_copied from.entry) }
+fn can_accept(end: u64, to: Option<&Interface>, from: Option<&Interface>) -> bool
+    ensures { result ≡ can_accept end (option_copied to.entry) (option_copied from.entry) }
 {
     match (to, from) {
         (Some(to), Some(from)) => {
@@ -103,7 +103,7 @@ fn is_met(routers: &[RouterSettings], end: u64, arcs: &[RadioArc], arc: &RadioAr
     ensures { result ≡ is_met routers.now end arcs.now arc.now }
 {
     for back in arcs {
-        if leads_home(routers, end, arc, back) {
+        if is_admitted_back(routers, end, arc, back) {
             return true;
         }
     }
@@ -111,15 +111,15 @@ fn is_met(routers: &[RouterSettings], end: u64, arcs: &[RadioArc], arc: &RadioAr
 }
 
 // Whether the second arc leads back between the interfaces of the first, and is admitted.
-fn leads_home(routers: &[RouterSettings], end: u64, arc: &RadioArc, back: &RadioArc) -> bool
-    ensures { result ≡ leads_home routers.now end arc.now back.now }
+fn is_admitted_back(routers: &[RouterSettings], end: u64, arc: &RadioArc, back: &RadioArc) -> bool
+    ensures { result ≡ is_admitted_back routers.now end arc.now back.now }
 {
-    leads_back(arc, back) && is_admitted(routers, end, back)
+    is_arc_back(arc, back) && is_admitted(routers, end, back)
 }
 
 // Whether the second arc leads back between the interfaces of the first.
-fn leads_back(arc: &RadioArc, back: &RadioArc) -> bool
-    ensures { result ≡ leads_back arc.now back.now }
+fn is_arc_back(arc: &RadioArc, back: &RadioArc) -> bool
+    ensures { result ≡ is_arc_back arc.now back.now }
 {
     back.from == arc.to
         && back.from_iface == arc.to_iface

@@ -16,7 +16,7 @@ use Rattle.mesh_atoms.specs.Relays.{Offers, IsWilling}
 use Rattle.mesh_atoms.specs.Base.{addr_eq}
 use Rattle.mesh_relay.specs.declared.ways.Way.{Way}
 use Rattle.mesh_relay.specs.Tests.{is_direct_within}
-use Rattle.mesh_relay.specs.Ways.{AreWilling, IsAt, IsDirect, IsCheapest, HasWay, RisesFrom, AreWays, way_at, way_from, adds_nothing}
+use Rattle.mesh_relay.specs.Ways.{AreWilling, IsAt, IsDirect, IsCheapest, HasWay, RisesFrom, AreWays, way_at, way_from, is_no_better}
 use Rattle.mesh_atoms.proofs.Deciding.{Decides-addr}
 use Rattle.mesh_relay.proofs.Decide.{Decides-direct}
 use Rattle.mesh_relay.proofs.Lists.{given_by, gives, dedup_within, joined, kept_within}
@@ -79,23 +79,23 @@ rises_cond : (b : Bool) (low : ℕ) (a c : List Way) → RisesFrom low a → Ris
 rises_cond true low a c h h' = h
 rises_cond false low a c h h' = h'
 
-kept_rises : (low : ℕ) (k : Way) (xs : List Way) → low ≤ k.addr.0 → Rises k xs → RisesFrom low (dedup_from adds_nothing k xs)
+kept_rises : (low : ℕ) (k : Way) (xs : List Way) → low ≤ k.addr.0 → Rises k xs → RisesFrom low (dedup_from is_no_better k xs)
 kept_rises low k [] le up = (le, tt)
 kept_rises low k (x ∷ xs) le up =
-    rises_cond (adds_nothing x k) low (dedup_from adds_nothing k xs) (k ∷ dedup_from adds_nothing x xs)
+    rises_cond (is_no_better x k) low (dedup_from is_no_better k xs) (k ∷ dedup_from is_no_better x xs)
     (kept_rises low k xs le (rises_lower k x xs up.0 up.1))
     (le, kept_rises k.addr.0 x xs (addr_le k x up.0) up.1)
 
-dedup_rises : (sorted : List Way) → IsInOrder sorted → RisesFrom 0 (dedup adds_nothing sorted)
+dedup_rises : (sorted : List Way) → IsInOrder sorted → RisesFrom 0 (dedup is_no_better sorted)
 dedup_rises [] up = tt
 dedup_rises (k ∷ xs) up = kept_rises 0 k xs (omega arith) up
 
 -- What is kept is cheapest
 
-same_addr : (x k : Way) → adds_nothing x k ≡ true → x.addr ≡ k.addr
+same_addr : (x k : Way) → is_no_better x k ≡ true → x.addr ≡ k.addr
 same_addr x k e = (Decides-addr x.addr k.addr).0 (and_parts _ _ e).0
 
-no_cheaper : (x k : Way) → adds_nothing x k ≡ false → x.addr ≡ k.addr → k.cost < x.cost → ⊥
+no_cheaper : (x k : Way) → is_no_better x k ≡ false → x.addr ≡ k.addr → k.cost < x.cost → ⊥
 no_cheaper x k e at lt =
     true≢false (sym (and_from (addr_eq x.addr k.addr) (nat_lt k.cost x.cost || nat_eq x.place k.place) ((Decides-addr x.addr k.addr).1 at)
     (or_left (nat_lt k.cost x.cost) (nat_eq x.place k.place) (lt-ltb k.cost x.cost lt))) ∙ e)
@@ -103,7 +103,7 @@ no_cheaper x k e at lt =
 abbrev IsLeastIn : List Way → List Way → Type 0
 IsLeastIn kept all = (w v : Way) → Contains kept w → Contains all v → v.addr ≡ w.addr → w.cost ≤ v.cost
 
-least_joined : (k x : Way) (xs a : List Way) → adds_nothing x k ≡ true → InOrder k x → IsLeastIn a (k ∷ xs) → IsLeastIn a (k ∷ x ∷ xs)
+least_joined : (k x : Way) (xs a : List Way) → is_no_better x k ≡ true → InOrder k x → IsLeastIn a (k ∷ xs) → IsLeastIn a (k ∷ x ∷ xs)
 least_joined k x xs a e up h w v in' there at = elim (contains_cases k (x ∷ xs) v there) [
   | inl f ↦ h w v in' (subst (Contains (k ∷ xs)) f (contains_head k xs)) at
   | inr later ↦ elim (contains_cases x xs v later) [
@@ -118,7 +118,7 @@ least_joined k x xs a e up h w v in' there at = elim (contains_cases k (x ∷ xs
 ]
 
 -- a way that is kept later has a later address, or no other cost
-first_no_dearer : (k x w : Way) (xs : List Way) → adds_nothing x k ≡ false → InOrder k x → Rises x xs → Contains (x ∷ xs) w → k.addr ≡ w.addr →
+first_no_dearer : (k x w : Way) (xs : List Way) → is_no_better x k ≡ false → InOrder k x → Rises x xs → Contains (x ∷ xs) w → k.addr ≡ w.addr →
     (x.addr ≡ w.addr → w.cost ≤ x.cost) → w.cost ≤ k.cost
 first_no_dearer k x w xs e up rises there at h =
     let low : k.addr.0 ≤ x.addr.0 = addr_le k x up in
@@ -130,7 +130,7 @@ first_no_dearer k x w xs e up rises there at h =
     let not_less : k.cost < x.cost → ⊥ = no_cheaper x k e here in
     omega arith
 
-least_kept : (k x : Way) (xs c : List Way) → adds_nothing x k ≡ false → InOrder k x → Rises x xs → ((w : Way) → Contains c w → Contains (x ∷ xs) w) →
+least_kept : (k x : Way) (xs c : List Way) → is_no_better x k ≡ false → InOrder k x → Rises x xs → ((w : Way) → Contains c w → Contains (x ∷ xs) w) →
     IsLeastIn c (x ∷ xs) → IsLeastIn (k ∷ c) (k ∷ x ∷ xs)
 least_kept k x xs c e up rises inside h w v in' there at = elim (contains_cases k c w in') [
   | inl f ↦ subst (λ (y : Way). y.cost ≤ v.cost) f (cost_le k v (rises_above k (x ∷ xs) v (up, rises) there) (ap (λ (y : Way). y.addr) f ∙ sym at))
@@ -141,7 +141,7 @@ least_kept k x xs c e up rises inside h w v in' there at = elim (contains_cases 
   ]
 ]
 
-least_cond : (b : Bool) (k x : Way) (xs a c : List Way) → adds_nothing x k ≡ b → InOrder k x → Rises x xs → ((w : Way) → Contains c w → Contains (x ∷ xs) w) →
+least_cond : (b : Bool) (k x : Way) (xs a c : List Way) → is_no_better x k ≡ b → InOrder k x → Rises x xs → ((w : Way) → Contains c w → Contains (x ∷ xs) w) →
     IsLeastIn a (k ∷ xs) → IsLeastIn c (x ∷ xs) → IsLeastIn (cond b a (k ∷ c)) (k ∷ x ∷ xs)
 least_cond true k x xs a c e up rises inside h h' = least_joined k x xs a e up h
 least_cond false k x xs a c e up rises inside h h' = least_kept k x xs c e up rises inside h'
@@ -155,13 +155,13 @@ least_one k w v in' there at = elim (contains_cases k [] w in') [
   | inr h ↦ absurd (contains_none w h)
 ]
 
-least : (k : Way) (xs : List Way) → Rises k xs → IsLeastIn (dedup_from adds_nothing k xs) (k ∷ xs)
+least : (k : Way) (xs : List Way) → Rises k xs → IsLeastIn (dedup_from is_no_better k xs) (k ∷ xs)
 least k [] up = least_one k
 least k (x ∷ xs) up =
-    least_cond (adds_nothing x k) k x xs (dedup_from adds_nothing k xs) (dedup_from adds_nothing x xs) refl up.0 up.1
-    (λ w h. dedup_within adds_nothing x xs w h) (least k xs (rises_lower k x xs up.0 up.1)) (least x xs up.1)
+    least_cond (is_no_better x k) k x xs (dedup_from is_no_better k xs) (dedup_from is_no_better x xs) refl up.0 up.1
+    (λ w h. dedup_within is_no_better x xs w h) (least k xs (rises_lower k x xs up.0 up.1)) (least x xs up.1)
 
-dedup_least : (sorted : List Way) → IsInOrder sorted → IsLeastIn (dedup adds_nothing sorted) sorted
+dedup_least : (sorted : List Way) → IsInOrder sorted → IsLeastIn (dedup is_no_better sorted) sorted
 dedup_least [] up w v in' there at = absurd (contains_none w in')
 dedup_least (k ∷ xs) up w v in' there at = least k xs up w v in' there at
 
@@ -343,7 +343,7 @@ cheapest_from g willing w h least' =
     }
 
 -- a way that another makes up for
-way_or_cheaper : (willing : List Near) (ways : List Way) (n : Near) (f : Far) (v w : Way) → Contains ways w → (w ≡ v) ⊎ (adds_nothing v w ≡ true) →
+way_or_cheaper : (willing : List Near) (ways : List Way) (n : Near) (f : Far) (v w : Way) → Contains ways w → (w ≡ v) ⊎ (is_no_better v w ≡ true) →
     v.addr ≡ f.addr → v.cost ≡ n.cost + f.cost → IsAt willing v.place n → HasWay willing ways n f
 way_or_cheaper willing ways n f v w within same' addr cost at = elim same' [
   | inl e ↦ (w, within, ap (λ (x : Way). x.addr) e ∙ addr, inr (subst (λ (x : Way). IsAt willing x.place n) (sym e) at))
@@ -359,7 +359,7 @@ way_or_cheaper willing ways n f v w within same' addr cost at = elim same' [
 ]
 
 pub are_ways : (g : NeighbourGraph) (willing : List Near) (offers sorted ways : List Way) → AreWilling g willing →
-    offers ≡ filter_map (λ f. way_from g 0 willing f) g.far → IsPermutation offers sorted → IsInOrder sorted → ways ≡ dedup adds_nothing sorted → AreWays g willing ways
+    offers ≡ filter_map (λ f. way_from g 0 willing f) g.far → IsPermutation offers sorted → IsInOrder sorted → ways ≡ dedup is_no_better sorted → AreWays g willing ways
 are_ways g willing offers sorted ways are is moved up kept =
     let was = λ (v : Way) (h : Contains sorted v).
     subst (λ (l : List Way). Contains l v) is (Contains-permutation sorted offers v (IsPermutation-sym offers sorted moved) h) in
@@ -367,12 +367,12 @@ are_ways g willing offers sorted ways are is moved up kept =
     Contains-permutation offers sorted v moved (subst (λ (l : List Way). Contains l v) (sym is) h) in
     let least' : IsLeastIn ways sorted = subst (λ (l : List Way). IsLeastIn l sorted) (sym kept) (dedup_least sorted up) in
     record {
-      each = λ w h. cheapest_from g willing w (given g willing w (was w (kept_within adds_nothing sorted w (subst (λ (l : List Way). Contains l w) kept h))))
+      each = λ w h. cheapest_from g willing w (given g willing w (was w (kept_within is_no_better sorted w (subst (λ (l : List Way). Contains l w) kept h))))
           (kept_least g willing sorted ways are has least' w h);
       rest = λ n f within far via. elim (complete g willing n f are within far via) [
         | inl d ↦ inl d
         | inr v ↦
-            let r = joined adds_nothing sorted v.0 (has v.0 v.1) in
+            let r = joined is_no_better sorted v.0 (has v.0 v.1) in
             inr (way_or_cheaper willing ways n f v.0 r.0 (subst (λ (l : List Way). Contains l r.0) (sym kept) r.1) r.2 v.2.0 v.2.1.0 v.2.1.1)
       ];
       order = subst (RisesFrom 0) (sym kept) (dedup_rises sorted up);

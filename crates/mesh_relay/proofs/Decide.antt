@@ -12,7 +12,7 @@ use Rattle.mesh_atoms.specs.Base.{addr_eq}
 use Rattle.mesh_relay.specs.declared.sets.Among.{Among}
 use Rattle.mesh_relay.specs.declared.sets.Among.TheVariants.{Willing, Relays, Others}
 use Rattle.mesh_relay.specs.Ways.{IsDirect}
-use Rattle.mesh_relay.specs.Tests.{contains, counts, leads, is_direct_within, is_led_to_within, offers_within, is_matched, is_as_cheap, keeps_costs, has_always, are_willing, is_missed, irredundant, covers, are_distinct, are_all_distinct}
+use Rattle.mesh_relay.specs.Tests.{contains, is_in_set, has_way_within, is_direct_within, is_led_to_within, is_offered_within, is_matched, is_as_cheap, are_costs_kept, has_always, are_willing, is_missed, irredundant, covers, are_distinct, are_all_distinct}
 
 le-refl : (n : ℕ) → n ≤ n
 le-refl n = omega arith
@@ -30,19 +30,19 @@ Decides-contains ids id =
     let d = Decides-some (λ (r : Addr4). addr_eq r id) (λ r. r ≡ id) (λ (r : Addr4). Decides-addr r id) ids in
     (λ e. let w = d.0 e in subst (Contains ids) w.2 w.1, λ w. d.1 (id, w, refl))
 
-pub Decides-counts : (among : Among) (n : Near) → Decides (counts among n) (IsIn among n)
-Decides-counts Willing n = Decides-not (nat_eq n.will 0) (Decides-eqb n.will 0)
-Decides-counts (Relays relays) n = Decides-contains relays.now n.id
-Decides-counts (Others relays id) n =
+pub Decides-is_in_set : (among : Among) (n : Near) → Decides (is_in_set among n) (IsIn among n)
+Decides-is_in_set Willing n = Decides-not (nat_eq n.will 0) (Decides-eqb n.will 0)
+Decides-is_in_set (Relays relays) n = Decides-contains relays.now n.id
+Decides-is_in_set (Others relays id) n =
     Decides-and (contains relays.now n.id) (not (addr_eq n.id id)) (Decides-contains relays.now n.id) (Decides-not (addr_eq n.id id) (Decides-addr n.id id))
 
 abbrev pub Leads : NeighbourGraph → (Near → Type 0) → Far → ℕ → Type 0
 Leads g A f most = (n : Near) × Contains g.near n × (((n.id ≡ f.via) × A n) × (n.cost + f.cost ≤ most))
 
-pub Decides-leads : (g : NeighbourGraph) (among : Among) (f : Far) (most : ℕ) → Decides (leads g among f most) (Leads g (IsIn among) f most)
-Decides-leads g among f most =
+pub Decides-has_way_within : (g : NeighbourGraph) (among : Among) (f : Far) (most : ℕ) → Decides (has_way_within g among f most) (Leads g (IsIn among) f most)
+Decides-has_way_within g among f most =
     Decides-some _ (λ n. ((n.id ≡ f.via) × IsIn among n) × (n.cost + f.cost ≤ most))
-    (λ n. Decides-and _ _ (Decides-and _ _ (Decides-addr n.id f.via) (Decides-counts among n)) (Decides-leb (n.cost + f.cost) most)) g.near
+    (λ n. Decides-and _ _ (Decides-and _ _ (Decides-addr n.id f.via) (Decides-is_in_set among n)) (Decides-leb (n.cost + f.cost) most)) g.near
 
 -- some offer of the set is no dearer than that
 abbrev pub OffersWithin : NeighbourGraph → (Near → Type 0) → Addr4 → ℕ → Type 0
@@ -55,9 +55,9 @@ Decides-direct g y most =
 pub Decides-led : (g : NeighbourGraph) (among : Among) (y : Addr4) (most : ℕ) →
     Decides (is_led_to_within g among y most) ((f : Far) × Contains g.far f × ((f.addr ≡ y) × Leads g (IsIn among) f most))
 Decides-led g among y most =
-    Decides-some _ (λ f. (f.addr ≡ y) × Leads g (IsIn among) f most) (λ f. Decides-and _ _ (Decides-addr f.addr y) (Decides-leads g among f most)) g.far
+    Decides-some _ (λ f. (f.addr ≡ y) × Leads g (IsIn among) f most) (λ f. Decides-and _ _ (Decides-addr f.addr y) (Decides-has_way_within g among f most)) g.far
 
-pub Decides-offers : (g : NeighbourGraph) (among : Among) (y : Addr4) (most : ℕ) → Decides (offers_within g among y most) (OffersWithin g (IsIn among) y most)
+pub Decides-offers : (g : NeighbourGraph) (among : Among) (y : Addr4) (most : ℕ) → Decides (is_offered_within g among y most) (OffersWithin g (IsIn among) y most)
 Decides-offers g among y most =
     let d = Decides-or _ _ (Decides-direct g y most) (Decides-led g among y most) in (
       λ e. elim (d.0 e) [
@@ -76,7 +76,7 @@ Decides-matched : (g : NeighbourGraph) (among other : Among) (f : Far) →
     Decides (is_matched g among other f) ((n : Near) → Contains g.near n → n.id ≡ f.via → IsIn other n → OffersWithin g (IsIn among) f.addr (n.cost + f.cost))
 Decides-matched g among other f =
     Decides-each _ (λ n. n.id ≡ f.via → IsIn other n → OffersWithin g (IsIn among) f.addr (n.cost + f.cost))
-    (λ n. Decides-if_both _ _ _ (Decides-addr n.id f.via) (Decides-counts other n) (Decides-offers g among f.addr (n.cost + f.cost))) g.near
+    (λ n. Decides-if_both _ _ _ (Decides-addr n.id f.via) (Decides-is_in_set other n) (Decides-offers g among f.addr (n.cost + f.cost))) g.near
 
 pub Decides-as_cheap : (g : NeighbourGraph) (among other : Among) (y : Addr4) → Decides (is_as_cheap g among other y) (IsAsCheap g (IsIn among) (IsIn other) y)
 Decides-as_cheap g among other y =
@@ -92,14 +92,14 @@ Decides-as_cheap g among other y =
           subst (λ (z : Addr4). OffersWithin g (IsIn among) z (n.cost + f.cost)) (sym at) (h (n.cost + f.cost) (inr (n, near, in', f, within, sym id, at, refl)))),
     )
 
-pub Decides-keeps_costs : (g : NeighbourGraph) (among : Among) → Decides (keeps_costs g among) ((f : Far) → Contains g.far f → IsAsCheap g (IsIn among) IsWilling f.addr)
-Decides-keeps_costs g among = Decides-each _ (λ f. IsAsCheap g (IsIn among) IsWilling f.addr) (λ f. Decides-as_cheap g among Willing f.addr) g.far
+pub Decides-are_costs_kept : (g : NeighbourGraph) (among : Among) → Decides (are_costs_kept g among) ((f : Far) → Contains g.far f → IsAsCheap g (IsIn among) IsWilling f.addr)
+Decides-are_costs_kept g among = Decides-each _ (λ f. IsAsCheap g (IsIn among) IsWilling f.addr) (λ f. Decides-as_cheap g among Willing f.addr) g.far
 
 -- Covers
 
 pub Decides-always : (g : NeighbourGraph) (among : Among) → Decides (has_always g among) ((n : Near) → Contains g.near n → n.will ≡ 15 → IsIn among n)
 Decides-always g among =
-    Decides-each _ (λ n. n.will ≡ 15 → IsIn among n) (λ n. Decides-if _ _ (Decides-eqb n.will 15) (Decides-counts among n)) g.near
+    Decides-each _ (λ n. n.will ≡ 15 → IsIn among n) (λ n. Decides-if _ _ (Decides-eqb n.will 15) (Decides-is_in_set among n)) g.near
 
 Decides-willing : (g : NeighbourGraph) (relays : List Addr4) →
     Decides (are_willing g relays) ((id : Addr4) → Contains relays id → (n : Near) × Contains g.near n × ((n.id ≡ id) × IsWilling n))
@@ -109,7 +109,7 @@ Decides-willing g relays =
 
 pub Decides-covers : (g : NeighbourGraph) (relays : Bor (List Addr4)) → Decides (covers g relays) (Covers g relays.now)
 Decides-covers g relays =
-    let d = Decides-and _ _ (Decides-and _ _ (Decides-always g (Relays relays)) (Decides-willing g relays.now)) (Decides-keeps_costs g (Relays relays)) in (
+    let d = Decides-and _ _ (Decides-and _ _ (Decides-always g (Relays relays)) (Decides-willing g relays.now)) (Decides-are_costs_kept g (Relays relays)) in (
       λ e. let w = d.0 e in record {
         always = w.0.0;
         willing = λ id within. let v = w.0.1 id within in (v.0, v.1, v.2.0, v.2.1);

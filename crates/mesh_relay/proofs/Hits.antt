@@ -5,7 +5,7 @@ use Rattle.std.proofs.lemmas.Bool.{false≢true, true≢false, and_cases, and_pa
 use Rattle.mesh_atoms.specs.declared.addr.Addr4.{Addr4}
 use Rattle.mesh_atoms.specs.Base.{addr_eq}
 use Rattle.mesh_relay.specs.declared.ways.Way.{Way}
-use Rattle.mesh_relay.specs.Ways.{RisesFrom, reached_on, reaches_all}
+use Rattle.mesh_relay.specs.Ways.{RisesFrom, are_all_reached_on, are_all_reached}
 use Rattle.mesh_atoms.proofs.Deciding.{Decides-addr}
 use Rattle.mesh_atoms.proofs.Lists.{contains_head, contains_none, contains_cases, contains_tail}
 
@@ -26,9 +26,9 @@ Reached : (Way → Bool) → Addr4 → Bool → List Way → Type 0
 Reached test y reached ws = ((reached ≡ true) ⊎ Hit test y ws) × ((w : Way) → Contains ws w → (w.addr ≡ y) ⊎ Hit test w.addr ws)
 
 reached_true_cons : (test : Way → Bool) (y : Addr4) (reached : Bool) (w : Way) (ws : List Way) (b : Bool) → Decides b (w.addr ≡ y) →
-    cond b (reached_on test y (reached || test w) ws) (reached && reached_on test w.addr (test w) ws) ≡ true →
-    (reached_on test y (reached || test w) ws ≡ true → Reached test y (reached || test w) ws) →
-    (reached_on test w.addr (test w) ws ≡ true → Reached test w.addr (test w) ws) → Reached test y reached (w ∷ ws)
+    cond b (are_all_reached_on test y (reached || test w) ws) (reached && are_all_reached_on test w.addr (test w) ws) ≡ true →
+    (are_all_reached_on test y (reached || test w) ws ≡ true → Reached test y (reached || test w) ws) →
+    (are_all_reached_on test w.addr (test w) ws ≡ true → Reached test w.addr (test w) ws) → Reached test y reached (w ∷ ws)
 unfolding Reached
 reached_true_cons test y reached w ws true d e goes_on begins =
     let h = goes_on e in (
@@ -42,7 +42,7 @@ reached_true_cons test y reached w ws true d e goes_on begins =
       ],
     )
 reached_true_cons test y reached w ws false d e goes_on begins =
-    let both = and_parts reached (reached_on test w.addr (test w) ws) e in
+    let both = and_parts reached (are_all_reached_on test w.addr (test w) ws) e in
     let h = begins both.1 in
     let here : Hit test w.addr (w ∷ ws) = elim h.0 [ inl t ↦ (w, contains_head w ws, refl, t) | inr hit ↦ hit_more test w.addr w ws hit ] in (
       inl both.0,
@@ -52,14 +52,14 @@ reached_true_cons test y reached w ws false d e goes_on begins =
       ],
     )
 
-reached_true : (test : Way → Bool) (y : Addr4) (reached : Bool) (ws : List Way) → reached_on test y reached ws ≡ true → Reached test y reached ws
+reached_true : (test : Way → Bool) (y : Addr4) (reached : Bool) (ws : List Way) → are_all_reached_on test y reached ws ≡ true → Reached test y reached ws
 unfolding Reached
 reached_true test y reached [] e = (inl e, λ w within. absurd (contains_none w within))
 reached_true test y reached (w ∷ ws) e =
     reached_true_cons test y reached w ws (addr_eq w.addr y) (Decides-addr w.addr y) e
     (reached_true test y (reached || test w) ws) (reached_true test w.addr (test w) ws)
 
-pub all_hit : (test : Way → Bool) (ways : List Way) → reaches_all test ways ≡ true → (w : Way) → Contains ways w → Hit test w.addr ways
+pub all_hit : (test : Way → Bool) (ways : List Way) → are_all_reached test ways ≡ true → (w : Way) → Contains ways w → Hit test w.addr ways
 unfolding Reached
 all_hit test [] e w within = absurd (contains_none w within)
 all_hit test (v ∷ ways) e w within =
@@ -117,9 +117,9 @@ later_differs y w v ws up within other at =
     other (ap (λ (n : ℕ). record { 0 = n }) (let e : v.addr.0 ≡ w.addr.0 = omega arith in e))
 
 misses_cons : (test : Way → Bool) (y : Addr4) (reached : Bool) (w : Way) (ws : List Way) (b : Bool) → Decides b (w.addr ≡ y) → RisesFrom y.0 (w ∷ ws) →
-    cond b (reached_on test y (reached || test w) ws) (reached && reached_on test w.addr (test w) ws) ≡ false →
-    (RisesFrom y.0 ws → reached_on test y (reached || test w) ws ≡ false → Misses test y (reached || test w) ws) →
-    (RisesFrom w.addr.0 ws → reached_on test w.addr (test w) ws ≡ false → Misses test w.addr (test w) ws) → Misses test y reached (w ∷ ws)
+    cond b (are_all_reached_on test y (reached || test w) ws) (reached && are_all_reached_on test w.addr (test w) ws) ≡ false →
+    (RisesFrom y.0 ws → are_all_reached_on test y (reached || test w) ws ≡ false → Misses test y (reached || test w) ws) →
+    (RisesFrom w.addr.0 ws → are_all_reached_on test w.addr (test w) ws ≡ false → Misses test w.addr (test w) ws) → Misses test y reached (w ∷ ws)
 unfolding Misses
 misses_cons test y reached w ws true d up e goes_on begins =
     elim (goes_on (subst (λ (a : Addr4). RisesFrom a.0 ws) (d.0 refl) up.1) e) [
@@ -127,7 +127,7 @@ misses_cons test y reached w ws true d up e goes_on begins =
       | inr h ↦ inr (h.0, contains_tail w ws h.0 h.1, h.2, missed_other test h.0.addr w ws (λ f. h.2 (sym f ∙ d.0 refl)) h.3)
     ]
 misses_cons test y reached w ws false d up e goes_on begins =
-    elim (and_cases reached (reached_on test w.addr (test w) ws) e) [
+    elim (and_cases reached (are_all_reached_on test w.addr (test w) ws) e) [
       | inl r ↦ inl (r, λ v within at. absurd (not_later y w ws (λ f. false≢true (d.1 f)) up v within at))
       | inr f ↦ elim (begins up.1 f) [
         | inl h ↦ inr (w, contains_head w ws, (λ at. false≢true (d.1 at)), missed_first test w.addr w ws h.0 h.1)
@@ -135,14 +135,14 @@ misses_cons test y reached w ws false d up e goes_on begins =
       ]
     ]
 
-misses_false : (test : Way → Bool) (y : Addr4) (reached : Bool) (ws : List Way) → RisesFrom y.0 ws → reached_on test y reached ws ≡ false → Misses test y reached ws
+misses_false : (test : Way → Bool) (y : Addr4) (reached : Bool) (ws : List Way) → RisesFrom y.0 ws → are_all_reached_on test y reached ws ≡ false → Misses test y reached ws
 unfolding Misses
 misses_false test y reached [] up e = inl (e, λ v within. absurd (contains_none v within))
 misses_false test y reached (w ∷ ws) up e =
     misses_cons test y reached w ws (addr_eq w.addr y) (Decides-addr w.addr y) up e
     (misses_false test y (reached || test w) ws) (misses_false test w.addr (test w) ws)
 
-pub one_missed : (test : Way → Bool) (ways : List Way) → RisesFrom 0 ways → reaches_all test ways ≡ false →
+pub one_missed : (test : Way → Bool) (ways : List Way) → RisesFrom 0 ways → are_all_reached test ways ≡ false →
     (w : Way) × Contains ways w × Missed test w.addr ways
 unfolding Misses
 one_missed test [] up e = absurd (true≢false e)

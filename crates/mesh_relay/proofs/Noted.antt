@@ -8,7 +8,7 @@ use Rattle.mesh_relay.specs.declared.ways.Way.{Way}
 use Rattle.mesh_relay.specs.declared.soles.Pass.{Pass}
 use Rattle.mesh_relay.specs.declared.soles.Takers.{Takers}
 use Rattle.mesh_relay.specs.declared.soles.Takers.TheVariants.{Nobody, One, Several}
-use Rattle.mesh_relay.specs.Ways.{reached_on}
+use Rattle.mesh_relay.specs.Ways.{are_all_reached_on}
 use Rattle.mesh_relay.specs.Soles.{with_taker, counted, is_within, others_reach, tells}
 
 -- Truth values
@@ -72,13 +72,13 @@ others_counted ts t w k lt = counted_cases t w.place k (get_or ts w.place false)
 -- The pass over the ways
 
 on_cons : (p : Way → Bool) (y : Addr4) (r : Bool) (w : Way) (ws : List Way) (b : Bool) → addr_eq w.addr y ≡ b →
-    reached_on p y r (w ∷ ws) ≡ cond b (reached_on p y (r || p w) ws) (r && reached_on p w.addr (p w) ws)
-on_cons p y r w ws b e = ap (λ x. cond x (reached_on p y (r || p w) ws) (r && reached_on p w.addr (p w) ws)) e
+    are_all_reached_on p y r (w ∷ ws) ≡ cond b (are_all_reached_on p y (r || p w) ws) (r && are_all_reached_on p w.addr (p w) ws)
+on_cons p y r w ws b e = ap (λ x. cond x (are_all_reached_on p y (r || p w) ws) (r && are_all_reached_on p w.addr (p w) ws)) e
 
 pub same_address : (ts soles : List Bool) (pass : Pass) (w : Way) (takers : Takers) (k : ℕ) (rest : List Way) → w.place < length ts → addr_eq w.addr pass.addr ≡ true →
     takers ≡ counted pass.takers w.place ts → tells ts soles (record { addr = pass.addr; takers = takers; reached = pass.reached }) k rest ≡ tells ts soles pass k (w ∷ rest)
 same_address ts soles pass w takers k rest lt at is =
-    ap (λ x. (pass.reached && not (get_or soles k false)) && reached_on (test ts k) pass.addr x rest)
+    ap (λ x. (pass.reached && not (get_or soles k false)) && are_all_reached_on (test ts k) pass.addr x rest)
     (ap (λ t. others_reach t k) is ∙ others_counted ts pass.takers w k lt)
     ∙ sym (ap (λ x. (pass.reached && not (get_or soles k false)) && x) (on_cons (test ts k) pass.addr (others_reach pass.takers k) w rest true at))
 
@@ -86,10 +86,10 @@ pub next_address : (ts soles soles' : List Bool) (pass : Pass) (w : Way) (takers
     takers ≡ counted Nobody w.place ts → (reached && not (get_or soles' k false)) ≡ ((pass.reached && not (get_or soles k false)) && others_reach pass.takers k) →
     tells ts soles' (record { addr = w.addr; takers = takers; reached = reached }) k rest ≡ tells ts soles pass k (w ∷ rest)
 next_address ts soles soles' pass w takers reached k rest lt at is ended =
-    ap (λ x. (reached && not (get_or soles' k false)) && reached_on (test ts k) w.addr x rest)
+    ap (λ x. (reached && not (get_or soles' k false)) && are_all_reached_on (test ts k) w.addr x rest)
     (ap (λ t. others_reach t k) is ∙ others_counted ts Nobody w k lt)
-    ∙ (ap (λ x. x && reached_on (test ts k) w.addr (test ts k w) rest) ended
-    ∙ (and_assoc (pass.reached && not (get_or soles k false)) (others_reach pass.takers k) (reached_on (test ts k) w.addr (test ts k w) rest)
+    ∙ (ap (λ x. x && are_all_reached_on (test ts k) w.addr (test ts k w) rest) ended
+    ∙ (and_assoc (pass.reached && not (get_or soles k false)) (others_reach pass.takers k) (are_all_reached_on (test ts k) w.addr (test ts k w) rest)
     ∙ sym (ap (λ x. (pass.reached && not (get_or soles k false)) && x) (on_cons (test ts k) pass.addr (others_reach pass.takers k) w rest false at))))
 
 within_cond : (t : Takers) (p n : ℕ) (b : Bool) → p < n → is_within t n → is_within (cond b (with_taker t p) t) n
@@ -106,9 +106,9 @@ pub counted_within : (ts : List Bool) (t t' : Takers) (p : ℕ) → p < length t
 counted_within ts t t' p lt h is = subst (λ (x : Takers). is_within x (length ts)) (sym is) (within_cond t p (length ts) (get_or ts p false) lt h)
 
 pub begins : (ts soles : List Bool) (w : Way) (takers : Takers) (k : ℕ) (rest : List Way) → w.place < length ts → takers ≡ counted Nobody w.place ts →
-    tells ts soles (record { addr = w.addr; takers = takers; reached = true }) k rest ≡ (not (get_or soles k false) && reached_on (test ts k) w.addr (test ts k w) rest)
+    tells ts soles (record { addr = w.addr; takers = takers; reached = true }) k rest ≡ (not (get_or soles k false) && are_all_reached_on (test ts k) w.addr (test ts k w) rest)
 begins ts soles w takers k rest lt is =
-    ap (λ x. not (get_or soles k false) && reached_on (test ts k) w.addr x rest) (ap (λ t. others_reach t k) is ∙ others_counted ts Nobody w k lt)
+    ap (λ x. not (get_or soles k false) && are_all_reached_on (test ts k) w.addr x rest) (ap (λ t. others_reach t k) is ∙ others_counted ts Nobody w k lt)
 
 pub none_noted : (s : Bool) → (true && not s) ≡ (not s && true)
 none_noted s = and_true (not s) true refl

@@ -5,7 +5,7 @@ use Rattle.mesh_relay.specs.declared.soles.Takers.{Takers}
 use Rattle.mesh_relay.specs.declared.soles.Takers.TheVariants.{Nobody, One, Several}
 use Rattle.mesh_relay.specs.declared.soles.Pass.{Pass}
 use Rattle.mesh_relay.specs.declared.ways.Way.{Way}
-use Rattle.mesh_relay.specs.Ways.{IsAt, reached_on}
+use Rattle.mesh_relay.specs.Ways.{IsAt, are_all_reached_on}
 
 -- the takers and the one at that place
 abbrev pub with_taker : Takers → ℕ → Takers
@@ -32,7 +32,7 @@ others_reach Several k = true
 -- without the neighbour at k, what a pass and its notes tell together with the ways that are left: each address is reached
 abbrev pub tells : List Bool → List Bool → Pass → ℕ → List Way → Bool
 tells taken soles pass k ways =
-    (pass.reached && not (slice_index_or soles k false)) && reached_on (λ w. slice_index_or (slice_set taken k false) w.place false) pass.addr (others_reach pass.takers k) ways
+    (pass.reached && not (slice_index_or soles k false)) && are_all_reached_on (λ w. slice_index_or (slice_set taken k false) w.place false) pass.addr (others_reach pass.takers k) ways
 
 -- a neighbour that is taken has willingness 15 or alone reaches an address, and one that isn't has another willingness
 abbrev pub is_fit : Near → Bool → Bool → Bool

@@ -6,7 +6,7 @@ use Rattle.mesh_atoms.specs.declared.graphs.Far.{Far}
 use Rattle.mesh_atoms.specs.declared.graphs.NeighbourGraph.{NeighbourGraph}
 use Rattle.mesh_atoms.specs.Relays.{IsWilling, IsOtherRelay, IsAsCheap, Covers}
 use Rattle.mesh_relay.specs.declared.ways.Way.{Way}
-use Rattle.mesh_relay.specs.Ways.{IsAt, reaches_all}
+use Rattle.mesh_relay.specs.Ways.{IsAt, are_all_reached}
 
 -- the ids of the neighbours that are taken
 abbrev pub ids_of : List Near → List Bool → List Addr4
@@ -42,7 +42,7 @@ IsBest gains taken many (Some best) =
 
 -- each address has a way by a neighbour that is taken
 abbrev pub reaches : List Way → List Bool → Bool
-reaches ways taken = reaches_all (λ w. slice_index_or taken w.place false) ways
+reaches ways taken = are_all_reached (λ w. slice_index_or taken w.place false) ways
 
 -- by way of the ids but that one, some address is dearer than by way of all willing neighbours
 abbrev pub IsDearer : NeighbourGraph → List Addr4 → Addr4 → Type 0

@@ -81,16 +81,16 @@ is_first_within y most [] = false
 is_first_within y most (d ∷ ds) = cond (addr_eq d.addr y) (nat_le d.cost most || is_first_within y most ds) false
 
 -- of ways in order, the next one is dearer than the last one to its address, or by the same neighbour
-abbrev pub adds_nothing : Way → Way → Bool
-adds_nothing next last = addr_eq next.addr last.addr && (nat_lt last.cost next.cost || nat_eq next.place last.place)
+abbrev pub is_no_better : Way → Way → Bool
+is_no_better next last = addr_eq next.addr last.addr && (nat_lt last.cost next.cost || nat_eq next.place last.place)
 
 -- the address is reached, or one of the ways that go on to it passes the test; and each later address has a way that passes
-abbrev pub reached_on : (Way → Bool) → Addr4 → Bool → List Way → Bool
-reached_on test y reached [] = reached
-reached_on test y reached (w ∷ ws) =
-    cond (addr_eq w.addr y) (reached_on test y (reached || test w) ws) (reached && reached_on test w.addr (test w) ws)
+abbrev pub are_all_reached_on : (Way → Bool) → Addr4 → Bool → List Way → Bool
+are_all_reached_on test y reached [] = reached
+are_all_reached_on test y reached (w ∷ ws) =
+    cond (addr_eq w.addr y) (are_all_reached_on test y (reached || test w) ws) (reached && are_all_reached_on test w.addr (test w) ws)
 
 -- each address has a way that passes the test
-abbrev pub reaches_all : (Way → Bool) → List Way → Bool
-reaches_all test [] = true
-reaches_all test (w ∷ ws) = reached_on test w.addr (test w) ws
+abbrev pub are_all_reached : (Way → Bool) → List Way → Bool
+are_all_reached test [] = true
+are_all_reached test (w ∷ ws) = are_all_reached_on test w.addr (test w) ws

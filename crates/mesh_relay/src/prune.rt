@@ -4,7 +4,7 @@ ghost use Rattle.mesh_atoms.specs.Relays.{Covers, Needed, HasDistinctIds};
 ghost use Rattle.mesh_relay.specs.Ways.{AreWilling, AreWays};
 ghost use Rattle.mesh_relay.specs.Taken.{ids_of, IsTaken, reaches, IsPruned};
 
-use crate::ways::{Way, reaches_all};
+use crate::ways::{Way, are_all_reached};
 use mesh_atoms::{Near, NeighbourGraph};
 
 /// Leaves out the neighbour at that place where each address is reached without it.
@@ -15,7 +15,7 @@ fn leave_out(ways: &[Way], taken: &mut [bool], place: usize)
     ensures { ((taken.new ≡ slice_set taken.old place false) × (reaches ways.now taken.new ≡ true)) ⊎ ((taken.new ≡ taken.old) × (reaches ways.now (slice_set taken.old place false) ≡ false)) }
 {
     taken[place] = false;
-    if !reaches_all(ways, taken) {
+    if !are_all_reached(ways, taken) {
         taken[place] = true;
     }
 }

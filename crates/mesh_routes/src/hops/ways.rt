@@ -51,7 +51,7 @@ fn least_way(originator: Addr4) -> NeighbourLink
 }
 
 // Whether the way leads to the neighbour.
-fn leads_to(way: &NeighbourLink, originator: Addr4) -> bool
+fn is_way_to(way: &NeighbourLink, originator: Addr4) -> bool
     ensures { IsTrue result ↔ (way.now.originator ≡ originator) }
 {
     way.originator == originator
@@ -65,7 +65,7 @@ pub fn best_way(ways: &BTreeSet<NeighbourLink>, originator: Addr4) -> Option<Nei
     let Some(&way) = ways.range(least_way(originator)..).next() else {
         return None;
     };
-    if leads_to(&way, originator) {
+    if is_way_to(&way, originator) {
         return Some(way);
     }
     None

@@ -1,7 +1,7 @@
 use Rattle.std.proofs.Common.{◌≡◌, ◌||◌, not, nat_eq, drop}
 use Rattle.std.specs.List.{list_all}
-use Rattle.mesh_relay.specs.Tests.{counts}
+use Rattle.mesh_relay.specs.Tests.{is_in_set}
 use Rattle.mesh_relay.proofs.sets.has_always.Given as goal
 
 abbrev pub invariant-loop-near : goal.invariant-loop-near
-invariant-loop-near l = list_all (λ n. not (nat_eq n.will 15) || counts l.among n) (drop l.near-index l.graph.near) ≡ list_all (λ n. not (nat_eq n.will 15) || counts l.among n) l.graph.near
+invariant-loop-near l = list_all (λ n. not (nat_eq n.will 15) || is_in_set l.among n) (drop l.near-index l.graph.near) ≡ list_all (λ n. not (nat_eq n.will 15) || is_in_set l.among n) l.graph.near

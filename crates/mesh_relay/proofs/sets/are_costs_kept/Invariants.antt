@@ -2,7 +2,7 @@ use Rattle.std.proofs.Common.{◌≡◌, drop}
 use Rattle.std.specs.List.{list_all}
 use Rattle.mesh_relay.specs.declared.sets.Among.TheVariants.{Willing}
 use Rattle.mesh_relay.specs.Tests.{is_as_cheap}
-use Rattle.mesh_relay.proofs.sets.keeps_costs.Given as goal
+use Rattle.mesh_relay.proofs.sets.are_costs_kept.Given as goal
 
 abbrev pub invariant-loop-far : goal.invariant-loop-far
 invariant-loop-far l = list_all (λ f. is_as_cheap l.graph l.among Willing f.addr) (drop l.far-index l.graph.far) ≡ list_all (λ f. is_as_cheap l.graph l.among Willing f.addr) l.graph.far

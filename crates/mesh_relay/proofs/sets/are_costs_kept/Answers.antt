@@ -1,6 +1,6 @@
 use Rattle.std.proofs.Common.{sym, ◌∙◌}
 use Rattle.mesh_relay.proofs.Passes.{all_failed, all_next, all_end}
-use Rattle.mesh_relay.proofs.sets.keeps_costs.Goals as goal
+use Rattle.mesh_relay.proofs.sets.are_costs_kept.Goals as goal
 
 pub returns-then-not-is_as_cheap : goal.returns-then-not-is_as_cheap
 returns-then-not-is_as_cheap c = all_failed _ c.as_slice-far-items.result.now c.args.graph.now.far c.as_slice-far-items.ensures c.loop-far.far-index _ c.loop-far-test.true (sym c.is_as_cheap.ensures ∙ c.if-not-is_as_cheap.true)
