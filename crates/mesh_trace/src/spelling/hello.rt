@@ -14,7 +14,7 @@ ghost use Rattle.mesh_wire.specs.Writes.{IsReadOfHello, IsReadOfOther, HasBriefB
 ghost use Rattle.mesh_trace.specs.Spelling.Looks.{IsLocal, LooksHello, HasHelloHeader, SaysHello};
 
 use crate::spelling::brief::is_brief;
-use crate::spelling::parts::{Looks, looks_at_all, looks_at_tlvs};
+use crate::spelling::parts::{Looks, are_tlvs_read, is_all_read};
 use crate::spelling::sole::sole_message;
 use mesh_atoms::tlv_type::{
     INTERVAL_TIME, LINK_METRIC, LINK_STATUS, LOCAL_IF, MPR, MPR_WILLING, OTHER_NEIGHB,
@@ -27,21 +27,21 @@ use mesh_wire::{WireFault, hello_of};
 use std::alloc::{AllocError, Global};
 
 // Whether two lists of rows are the same.
-fn same_rows(rows: &[HelloRow], others: &[HelloRow]) -> bool
+fn are_same_hello_rows(rows: &[HelloRow], others: &[HelloRow]) -> bool
     ensures { IsTrue result ↔ (rows.now ≡ others.now) }
 {
     rows == others
 }
 
 // Whether two HELLOs say the same.
-fn same_hello(one: &Hello, other: &Hello) -> bool
+fn is_same_hello(one: &Hello, other: &Hello) -> bool
     ensures { IsTrue result ↔ (one.now ≡ other.now) }
 {
     one.originator == other.originator
         && one.validity == other.validity
         && one.interval == other.interval
         && one.willing == other.willing
-        && same_rows(one.rows.as_slice(), other.rows.as_slice())
+        && are_same_hello_rows(one.rows.as_slice(), other.rows.as_slice())
 }
 
 // Whether a message has the header of a HELLO.
@@ -66,7 +66,7 @@ fn is_local(rows: &[HelloRow], net: NetAddr) -> bool
 }
 
 // Whether the reading looks at what is said so of an address that isn't the sender's.
-fn looks_at_other(kind: u8, octets: &[u8]) -> bool
+fn is_read_of_other(kind: u8, octets: &[u8]) -> bool
     ensures { IsTrue result ↔ IsReadOfOther kind octets.now }
 {
     match kind {
@@ -98,33 +98,33 @@ impl Looks for ReadHello {
 
     ghost reads_tlv = { λ read. IsReadOfHello };
 
-    fn looks_at(&self, net: NetAddr, kind: u8, ext: u8, octets: &[u8]) -> bool {
+    fn is_read(&self, net: NetAddr, kind: u8, ext: u8, octets: &[u8]) -> bool {
         ext == 0
             && (kind == LOCAL_IF
-                || (looks_at_other(kind, octets) && !is_local(self.hello.rows.as_slice(), net)))
+                || (is_read_of_other(kind, octets) && !is_local(self.hello.rows.as_slice(), net)))
     }
 
-    fn looks_at_tlv(&self, tlv: &Tlv) -> bool {
+    fn is_tlv_read(&self, tlv: &Tlv) -> bool {
         tlv.ext == 0
             && (tlv.kind == VALIDITY_TIME || tlv.kind == INTERVAL_TIME || tlv.kind == MPR_WILLING)
     }
 }
 
 // Whether a message that was read says the HELLO, and nothing that the reading ignores.
-fn says_hello(hello: &Hello, read: &ReadHello, message: &Message) -> bool
+fn is_message_of_hello(hello: &Hello, read: &ReadHello, message: &Message) -> bool
     requires encodable { IsEncodableMessage (fields_of_message message.now) }
     requires header { HasHelloHeader (fields_of_message message.now) }
     requires reads { HelloIs (fields_of_message message.now) read.now.hello }
     requires keeps { Keeps (BreaksHello (fields_of_message message.now)) }
     ensures { IsTrue result ↔ SaysHello hello.now (fields_of_message message.now) }
 {
-    if !same_hello(&read.hello, hello) {
+    if !is_same_hello(&read.hello, hello) {
         return false;
     }
-    if !looks_at_tlvs(read, message.tlvs.as_slice()) {
+    if !are_tlvs_read(read, message.tlvs.as_slice()) {
         return false;
     }
-    looks_at_all(read, message)
+    is_all_read(read, message)
 }
 
 // Whether a message that stands there says the HELLO, and has each address block in the fewest octets.
@@ -154,7 +154,7 @@ fn tells_hello(
             return Err(e);
         }
     };
-    if !says_hello(hello, &read, message) {
+    if !is_message_of_hello(hello, &read, message) {
         return Ok(false);
     }
     is_brief(alloc, message, bytes, span)

@@ -28,11 +28,11 @@ pub(crate) trait Looks {
     ghost reads_tlv: { Self → TlvFields → Type 0 };
 
     /// Whether it looks at these octets that a TLV of that type and extension says of an address.
-    fn looks_at(&self, net: NetAddr, kind: u8, ext: u8, octets: &[u8]) -> bool
+    fn is_read(&self, net: NetAddr, kind: u8, ext: u8, octets: &[u8]) -> bool
         ensures { IsTrue result ↔ reads self.now net kind ext octets.now };
 
     /// Whether it looks at the message TLV.
-    fn looks_at_tlv(&self, tlv: &Tlv) -> bool
+    fn is_tlv_read(&self, tlv: &Tlv) -> bool
         ensures { IsTrue result ↔ reads_tlv self.now (fields tlv.now) };
 }
 
@@ -45,18 +45,18 @@ fn covered_by<'a>(addrs: &'a [RawAddr], tlv: &AddrTlv) -> &'a [RawAddr]
 }
 
 // Whether a reading looks at these octets that a TLV says of an address.
-fn looks_at_one<L: Looks>(looks: &L, address: &RawAddr, tlv: &AddrTlv, octets: &[u8]) -> bool
+fn is_one_read<L: Looks>(looks: &L, address: &RawAddr, tlv: &AddrTlv, octets: &[u8]) -> bool
     requires { address.now.prefix ≤ 32 }
     ensures { IsTrue result ↔ ((net : Net) → IsIn address.now net → L.reads looks.now net tlv.now.kind tlv.now.ext octets.now) }
 {
     match net_of(address) {
-        Some(net) => looks.looks_at(net, tlv.kind, tlv.ext, octets),
+        Some(net) => looks.is_read(net, tlv.kind, tlv.ext, octets),
         None => false,
     }
 }
 
 // Whether a reading looks at what a TLV says of the addresses that it covers.
-fn looks_at_covered<L: Looks>(looks: &L, covered: &[RawAddr], tlv: &AddrTlv) -> bool
+fn are_covered_read<L: Looks>(looks: &L, covered: &[RawAddr], tlv: &AddrTlv) -> bool
     requires indexes { tlv.now.first ≤ tlv.now.last }
     requires count { length covered.now ≡ tlv.now.last + 1 - tlv.now.first }
     requires narrow { All (λ a. a.prefix ≤ 32) covered.now }
@@ -67,7 +67,7 @@ fn looks_at_covered<L: Looks>(looks: &L, covered: &[RawAddr], tlv: &AddrTlv) -> 
     let size = octets.len() / (tlv.last as usize + 1 - tlv.first as usize);
     let multi = tlv.multi;
     for i in 0..covered.len() {
-        if !looks_at_one(
+        if !is_one_read(
             looks,
             &covered[i],
             tlv,
@@ -80,22 +80,22 @@ fn looks_at_covered<L: Looks>(looks: &L, covered: &[RawAddr], tlv: &AddrTlv) -> 
 }
 
 // Whether a reading looks at what a TLV of a block says.
-fn looks_at_addr_tlv<L: Looks>(looks: &L, addrs: &[RawAddr], tlv: &AddrTlv) -> bool
+fn is_addr_tlv_read<L: Looks>(looks: &L, addrs: &[RawAddr], tlv: &AddrTlv) -> bool
     requires fit { IsFit (length addrs.now) (addr_fields tlv.now) }
     requires narrow { All (λ a. a.prefix ≤ 32) addrs.now }
     ensures { IsTrue result ↔ SaysOnly (L.reads looks.now) addrs.now (addr_fields tlv.now) }
 {
-    looks_at_covered(looks, covered_by(addrs, tlv), tlv)
+    are_covered_read(looks, covered_by(addrs, tlv), tlv)
 }
 
 // The same of all TLVs of a block.
-fn looks_at_block<L: Looks>(looks: &L, addrs: &[RawAddr], tlvs: &[AddrTlv]) -> bool
+fn is_block_read<L: Looks>(looks: &L, addrs: &[RawAddr], tlvs: &[AddrTlv]) -> bool
     requires fit { All (IsFit (length addrs.now)) (map addr_fields tlvs.now) }
     requires narrow { All (λ a. a.prefix ≤ 32) addrs.now }
     ensures { IsTrue result ↔ ((tlv : AddrTlvFields) → Contains (map addr_fields tlvs.now) tlv → SaysOnly (L.reads looks.now) addrs.now tlv) }
 {
     for i in 0..tlvs.len() {
-        if !looks_at_addr_tlv(looks, addrs, &tlvs[i]) {
+        if !is_addr_tlv_read(looks, addrs, &tlvs[i]) {
             return false;
         }
     }
@@ -103,7 +103,7 @@ fn looks_at_block<L: Looks>(looks: &L, addrs: &[RawAddr], tlvs: &[AddrTlv]) -> b
 }
 
 // The same of all blocks.
-fn looks_at_blocks<L: Looks>(looks: &L, blocks: &[Block]) -> bool
+fn are_blocks_read<L: Looks>(looks: &L, blocks: &[Block]) -> bool
     requires fit { All (λ b. All (IsFit (length b.addrs)) b.tlvs) (map fields_of_block blocks.now) }
     requires narrow { All (λ b. All (λ a. a.prefix ≤ 32) b.addrs) (map fields_of_block blocks.now) }
     ensures { IsTrue result ↔ ((b : BlockFields) → Contains (map fields_of_block blocks.now) b → (tlv : AddrTlvFields) → Contains b.tlvs tlv
@@ -111,7 +111,7 @@ fn looks_at_blocks<L: Looks>(looks: &L, blocks: &[Block]) -> bool
 {
     for i in 0..blocks.len() {
         let block = &blocks[i];
-        if !looks_at_block(looks, block.addrs.addrs.as_slice(), block.tlvs.as_slice()) {
+        if !is_block_read(looks, block.addrs.addrs.as_slice(), block.tlvs.as_slice()) {
             return false;
         }
     }
@@ -119,11 +119,11 @@ fn looks_at_blocks<L: Looks>(looks: &L, blocks: &[Block]) -> bool
 }
 
 /// Whether a reading looks at all message TLVs.
-pub(crate) fn looks_at_tlvs<L: Looks>(looks: &L, tlvs: &[Tlv]) -> bool
+pub(crate) fn are_tlvs_read<L: Looks>(looks: &L, tlvs: &[Tlv]) -> bool
     ensures { IsTrue result ↔ ((tlv : TlvFields) → Contains (map fields tlvs.now) tlv → L.reads_tlv looks.now tlv) }
 {
     for i in 0..tlvs.len() {
-        if !looks.looks_at_tlv(&tlvs[i]) {
+        if !looks.is_tlv_read(&tlvs[i]) {
             return false;
         }
     }
@@ -131,10 +131,10 @@ pub(crate) fn looks_at_tlvs<L: Looks>(looks: &L, tlvs: &[Tlv]) -> bool
 }
 
 /// Whether a reading looks at all that a message of IPv4 addresses says of addresses.
-pub(crate) fn looks_at_all<L: Looks>(looks: &L, message: &Message) -> bool
+pub(crate) fn is_all_read<L: Looks>(looks: &L, message: &Message) -> bool
     requires encodable { IsEncodableMessage (fields_of_message message.now) }
     requires width { message.now.width ≡ 4 }
     ensures { IsTrue result ↔ TellsOnly (L.reads looks.now) (fields_of_message message.now) }
 {
-    looks_at_blocks(looks, message.blocks.as_slice())
+    are_blocks_read(looks, message.blocks.as_slice())
 }

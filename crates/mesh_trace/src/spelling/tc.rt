@@ -14,7 +14,7 @@ ghost use Rattle.mesh_wire.specs.Writes.{HasFlag, HasBriefBlocks, WritesTc};
 ghost use Rattle.mesh_trace.specs.Spelling.Looks.{HasTcHeader, SaysTc};
 
 use crate::spelling::brief::is_brief;
-use crate::spelling::parts::{Looks, looks_at_all, looks_at_tlvs};
+use crate::spelling::parts::{Looks, are_tlvs_read, is_all_read};
 use crate::spelling::sole::sole_message;
 use mesh_atoms::tlv_type::{
     CONT_SEQ_NUM, GATEWAY, INTERVAL_TIME, LINK_METRIC, NBR_ADDR_TYPE, VALIDITY_TIME,
@@ -26,7 +26,7 @@ use mesh_wire::{WireFault, only_value, tc_of};
 use std::alloc::{AllocError, Global};
 
 // Whether two TCs say the same.
-fn same_tc(one: &Tc, other: &Tc) -> bool
+fn is_same_tc(one: &Tc, other: &Tc) -> bool
     ensures { IsTrue result ↔ (one.now ≡ other.now) }
 {
     one.originator == other.originator
@@ -56,7 +56,7 @@ fn has_validity(message: &Message, validity: &[u8]) -> bool
 }
 
 // Whether a value shows a metric of the kind that a TC has.
-fn shows_metric(octets: &[u8]) -> bool
+fn has_metric(octets: &[u8]) -> bool
     ensures { IsTrue result ↔ HasFlag Near_out octets.now }
 {
     match octets {
@@ -77,14 +77,14 @@ impl Looks for Advertised {
 
     ghost reads_tlv = { λ _. IsReadOfTc };
 
-    fn looks_at(&self, _net: NetAddr, kind: u8, ext: u8, octets: &[u8]) -> bool {
+    fn is_read(&self, _net: NetAddr, kind: u8, ext: u8, octets: &[u8]) -> bool {
         ext == 0
             && (kind == NBR_ADDR_TYPE
                 || kind == GATEWAY
-                || (kind == LINK_METRIC && shows_metric(octets)))
+                || (kind == LINK_METRIC && has_metric(octets)))
     }
 
-    fn looks_at_tlv(&self, tlv: &Tlv) -> bool {
+    fn is_tlv_read(&self, tlv: &Tlv) -> bool {
         match tlv.kind {
             VALIDITY_TIME => tlv.ext == 0,
             INTERVAL_TIME => tlv.ext == 0,
@@ -96,7 +96,7 @@ impl Looks for Advertised {
 
 // Whether a message that was read says the TC with that hop limit and that value of VALIDITY_TIME, and nothing that the reading
 // ignores.
-fn says_tc(tc: &Tc, read: &Tc, hop_limit: u8, validity: &[u8], message: &Message) -> bool
+fn is_message_of_tc(tc: &Tc, read: &Tc, hop_limit: u8, validity: &[u8], message: &Message) -> bool
     requires encodable { IsEncodableMessage (fields_of_message message.now) }
     requires reads { TcIs (fields_of_message message.now) read.now }
     requires keeps { Keeps (BreaksTc (fields_of_message message.now)) }
@@ -108,13 +108,13 @@ fn says_tc(tc: &Tc, read: &Tc, hop_limit: u8, validity: &[u8], message: &Message
     if !has_validity(message, validity) {
         return false;
     }
-    if !same_tc(read, tc) {
+    if !is_same_tc(read, tc) {
         return false;
     }
-    if !looks_at_tlvs(&Advertised {}, message.tlvs.as_slice()) {
+    if !are_tlvs_read(&Advertised {}, message.tlvs.as_slice()) {
         return false;
     }
-    looks_at_all(&Advertised {}, message)
+    is_all_read(&Advertised {}, message)
 }
 
 // Whether a message that stands there says the TC so, and has each address block in the fewest octets.
@@ -146,7 +146,7 @@ fn tells_tc(
             return Err(e);
         }
     };
-    if !says_tc(tc, &read, hop_limit, validity, message) {
+    if !is_message_of_tc(tc, &read, hop_limit, validity, message) {
         return Ok(false);
     }
     is_brief(alloc, message, bytes, span)

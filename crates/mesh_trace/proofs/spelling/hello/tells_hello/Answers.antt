@@ -6,5 +6,5 @@ use Rattle.mesh_trace.proofs.spelling.hello.tells_hello.Goals as goal
 
 pub returns : goal.returns
 returns c =
-    let says : SaysHello c.args.hello.now (fields_of_message c.args.message.now) = c.says_hello.ensures.0 (search rules) in
+    let says : SaysHello c.args.hello.now (fields_of_message c.args.message.now) = c.is_message_of_hello.ensures.0 (search rules) in
     if_ok c.is_brief.result _ _ (λ yes brief text spelled e. (let iff = brief text spelled e in (λ y. (says, iff.0 y), λ h. iff.1 h.1))) c.is_brief.ensures

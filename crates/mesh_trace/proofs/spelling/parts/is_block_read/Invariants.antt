@@ -3,7 +3,7 @@ use Rattle.mesh_tlv.specs.declared.tlv.AddrTlv.{AddrTlv}
 use Rattle.mesh_tlv.specs.Fields.{addr_fields}
 use Rattle.mesh_trace.specs.Spelling.Looks.{SaysOnly}
 use Rattle.mesh_trace.proofs.SpellingLemmas.Mapped.{HoldsBefore}
-use Rattle.mesh_trace.proofs.spelling.parts.looks_at_block.Given as goal
+use Rattle.mesh_trace.proofs.spelling.parts.is_block_read.Given as goal
 
 abbrev pub invariant-loop-i : goal.invariant-loop-i
 invariant-loop-i g l = HoldsBefore (λ (j : ℕ) (tlv : AddrTlv). SaysOnly (g.L.Looks.reads l.looks) l.addrs (addr_fields tlv)) l.tlvs l.i

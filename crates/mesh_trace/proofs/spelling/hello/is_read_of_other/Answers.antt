@@ -1,7 +1,7 @@
 use Rattle.std.proofs.Common.{arith}
 use Rattle.std.proofs.lemmas.Bool.{leb-true, le-leb}
 use Rattle.mesh_trace.proofs.SpellingLemmas.Flags.{metric_read}
-use Rattle.mesh_trace.proofs.spelling.hello.looks_at_other.Goals as goal
+use Rattle.mesh_trace.proofs.spelling.hello.is_read_of_other.Goals as goal
 
 pub returns-in-len2 : goal.returns-in-len2
 returns-in-len2 c =

@@ -4,7 +4,7 @@ use Rattle.mesh_addr.specs.declared.records.RawAddr.{RawAddr}
 use Rattle.mesh_tlv.specs.Fields.{addr_fields}
 use Rattle.mesh_wire.specs.Parts.{IsIn, octets_of, value_at}
 use Rattle.mesh_trace.proofs.SpellingLemmas.Mapped.{HoldsBefore}
-use Rattle.mesh_trace.proofs.spelling.parts.looks_at_covered.Given as goal
+use Rattle.mesh_trace.proofs.spelling.parts.are_covered_read.Given as goal
 
 abbrev pub invariant-loop-i : goal.invariant-loop-i
 invariant-loop-i g l =

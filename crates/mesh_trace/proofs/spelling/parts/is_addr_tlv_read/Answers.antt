@@ -4,7 +4,7 @@ use Rattle.mesh_addr.specs.declared.records.RawAddr.{RawAddr}
 use Rattle.mesh_tlv.specs.Fields.{addr_fields}
 use Rattle.mesh_wire.specs.Parts.{octets_of, value_at}
 use Rattle.mesh_wire.proofs.Standing.{covered, get_drop, get_take}
-use Rattle.mesh_trace.proofs.spelling.parts.looks_at_addr_tlv.Goals as goal
+use Rattle.mesh_trace.proofs.spelling.parts.is_addr_tlv_read.Goals as goal
 
 pub returns : goal.returns
 returns g c =
@@ -17,8 +17,8 @@ returns g c =
           let i = place - tlv.first in
           let same : tlv.first + i ≡ place = omega (arith, first) in
           subst (λ (k : ℕ). g.L.Looks.reads c.args.looks.now net tlv.kind tlv.ext (octets_of (value_at tlv k))) same
-          (c.looks_at_covered.ensures.0 yes i a net (of i (omega (arith, first, last)) ∙ ap (slice_get addrs) same ∙ at) is),
-      λ all. c.looks_at_covered.ensures.1 (λ i a net at is.
+          (c.are_covered_read.ensures.0 yes i a net (of i (omega (arith, first, last)) ∙ ap (slice_get addrs) same ∙ at) is),
+      λ all. c.are_covered_read.ensures.1 (λ i a net at is.
           let there = covered addrs tlv.first (tlv.last + 1) i a (sym (ap (λ (l : List RawAddr). slice_get l i) c.covered_by.ensures) ∙ at) in
           all (tlv.first + i) a net (omega arith) (omega (arith, there.0)) there.1 is),
     )

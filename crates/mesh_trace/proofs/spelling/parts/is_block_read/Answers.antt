@@ -7,10 +7,10 @@ use Rattle.mesh_tlv.specs.Fields.{addr_fields}
 use Rattle.mesh_tlv.specs.Least.{IsFit}
 use Rattle.mesh_trace.specs.Spelling.Looks.{SaysOnly}
 use Rattle.mesh_trace.proofs.SpellingLemmas.Mapped.{before_more, before_all, all_mapped, one_mapped, mapped_item}
-use Rattle.mesh_trace.proofs.spelling.parts.looks_at_block.Goals as goal
+use Rattle.mesh_trace.proofs.spelling.parts.is_block_read.Goals as goal
 
-pub looks_at_addr_tlv-requires-clause-fit : goal.looks_at_addr_tlv-requires-clause-fit
-looks_at_addr_tlv-requires-clause-fit g c =
+pub is_addr_tlv_read-requires-clause-fit : goal.is_addr_tlv_read-requires-clause-fit
+is_addr_tlv_read-requires-clause-fit g c =
     let none : AddrTlv = record { kind = 0; ext = 0; first = 0; last = 0; multi = false; value = None } in
     let tlvs = c.args.tlvs.now in
     one_mapped addr_fields tlvs (IsFit (length c.args.addrs.now)) c.requires.fit c.loop-i.i (slice_index_or tlvs c.loop-i.i none) (slice_get-get_or tlvs c.loop-i.i none c.loop-i-test.true)
@@ -19,18 +19,18 @@ pub loop-i-preserved : goal.loop-i-preserved
 loop-i-preserved g c =
     let none : AddrTlv = record { kind = 0; ext = 0; first = 0; last = 0; multi = false; value = None } in
     let tlvs = c.args.tlvs.now in
-    let yes : IsTrue c.looks_at_addr_tlv.result = search rules in
+    let yes : IsTrue c.is_addr_tlv_read.result = search rules in
     before_more (λ (j : ℕ) (tlv : AddrTlv). SaysOnly (g.L.Looks.reads c.args.looks.now) c.args.addrs.now (addr_fields tlv)) tlvs c.loop-i.i (slice_index_or tlvs c.loop-i.i none)
-    (slice_get-get_or tlvs c.loop-i.i none c.loop-i-test.true) (c.looks_at_addr_tlv.ensures.0 yes) c.loop-i.invariant
+    (slice_get-get_or tlvs c.loop-i.i none c.loop-i-test.true) (c.is_addr_tlv_read.ensures.0 yes) c.loop-i.invariant
 
-pub returns-then-not-looks_at_addr_tlv : goal.returns-then-not-looks_at_addr_tlv
-returns-then-not-looks_at_addr_tlv g c =
+pub returns-then-not-is_addr_tlv_read : goal.returns-then-not-is_addr_tlv_read
+returns-then-not-is_addr_tlv_read g c =
     let none : AddrTlv = record { kind = 0; ext = 0; first = 0; last = 0; multi = false; value = None } in
     let tlvs = c.args.tlvs.now in
     let tlv : AddrTlv = slice_index_or tlvs c.loop-i.i none in
-    let no : c.looks_at_addr_tlv.result ≡ false = search rules in (
+    let no : c.is_addr_tlv_read.result ≡ false = search rules in (
       λ yes. absurd (false≢true yes),
-      λ all. absurd (false≢true (sym no ∙ c.looks_at_addr_tlv.ensures.1 (all (addr_fields tlv) (mapped_item addr_fields tlvs c.loop-i.i tlv (slice_get-get_or tlvs c.loop-i.i none c.loop-i-test.true))))),
+      λ all. absurd (false≢true (sym no ∙ c.is_addr_tlv_read.ensures.1 (all (addr_fields tlv) (mapped_item addr_fields tlvs c.loop-i.i tlv (slice_get-get_or tlvs c.loop-i.i none c.loop-i-test.true))))),
     )
 
 pub returns : goal.returns

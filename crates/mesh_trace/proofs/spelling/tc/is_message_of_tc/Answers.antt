@@ -9,7 +9,7 @@ use Rattle.mesh_wire.specs.Tc.{TcIs}
 use Rattle.mesh_wire.specs.Writes.{IsReadOfTc}
 use Rattle.mesh_wire.proofs.OneTc.{one_tc}
 use Rattle.mesh_trace.proofs.SpellingLemmas.Tcs.{tc_width, parts_read, parts_looked}
-use Rattle.mesh_trace.proofs.spelling.tc.says_tc.Goals as goal
+use Rattle.mesh_trace.proofs.spelling.tc.is_message_of_tc.Goals as goal
 
 pub returns-then-not-has_header : goal.returns-then-not-has_header
 returns-then-not-has_header c =
@@ -21,35 +21,35 @@ returns-then-not-has_validity c =
     let no : c.has_validity.result ≡ false = search rules in
     (λ yes. absurd (false≢true yes), λ says. absurd (false≢true (sym no ∙ c.has_validity.ensures.1 says.validity_is)))
 
-pub returns-then-not-same_tc : goal.returns-then-not-same_tc
-returns-then-not-same_tc c =
+pub returns-then-not-is_same_tc : goal.returns-then-not-is_same_tc
+returns-then-not-is_same_tc c =
     let m : MessageFields = fields_of_message c.args.message.now in
-    let no : c.same_tc.result ≡ false = search rules in
-    (λ yes. absurd (false≢true yes), λ says. absurd (false≢true (sym no ∙ c.same_tc.ensures.1 (one_tc m c.requires.keeps c.args.read.now c.args.tc.now c.requires.reads says.reads))))
+    let no : c.is_same_tc.result ≡ false = search rules in
+    (λ yes. absurd (false≢true yes), λ says. absurd (false≢true (sym no ∙ c.is_same_tc.ensures.1 (one_tc m c.requires.keeps c.args.read.now c.args.tc.now c.requires.reads says.reads))))
 
-pub returns-then-not-looks_at_tlvs : goal.returns-then-not-looks_at_tlvs
-returns-then-not-looks_at_tlvs c =
-    let no : c.looks_at_tlvs.result ≡ false = search rules in
-    let iff : IsTrue c.looks_at_tlvs.result ↔ ((tlv : TlvFields) → Contains (map fields c.args.message.now.tlvs) tlv → IsReadOfTc tlv) =
-    subst (λ (tlvs : List Tlv). IsTrue c.looks_at_tlvs.result ↔ ((tlv : TlvFields) → Contains (map fields tlvs) tlv → IsReadOfTc tlv)) c.as_slice.ensures c.looks_at_tlvs.ensures in
+pub returns-then-not-are_tlvs_read : goal.returns-then-not-are_tlvs_read
+returns-then-not-are_tlvs_read c =
+    let no : c.are_tlvs_read.result ≡ false = search rules in
+    let iff : IsTrue c.are_tlvs_read.result ↔ ((tlv : TlvFields) → Contains (map fields c.args.message.now.tlvs) tlv → IsReadOfTc tlv) =
+    subst (λ (tlvs : List Tlv). IsTrue c.are_tlvs_read.result ↔ ((tlv : TlvFields) → Contains (map fields tlvs) tlv → IsReadOfTc tlv)) c.as_slice.ensures c.are_tlvs_read.ensures in
     (λ yes. absurd (false≢true yes), λ says. absurd (false≢true (sym no ∙ iff.1 says.tlvs)))
 
-pub looks_at_all-requires-clause-width : goal.looks_at_all-requires-clause-width
-looks_at_all-requires-clause-width c = tc_width (fields_of_message c.args.message.now) c.requires.keeps
+pub is_all_read-requires-clause-width : goal.is_all_read-requires-clause-width
+is_all_read-requires-clause-width c = tc_width (fields_of_message c.args.message.now) c.requires.keeps
 
 pub returns : goal.returns
 returns c =
     let m : MessageFields = fields_of_message c.args.message.now in
-    let same : c.args.read.now ≡ c.args.tc.now = c.same_tc.ensures.0 (search rules) in
-    let iff : IsTrue c.looks_at_tlvs.result ↔ ((tlv : TlvFields) → Contains (map fields c.args.message.now.tlvs) tlv → IsReadOfTc tlv) =
-    subst (λ (tlvs : List Tlv). IsTrue c.looks_at_tlvs.result ↔ ((tlv : TlvFields) → Contains (map fields tlvs) tlv → IsReadOfTc tlv)) c.as_slice.ensures c.looks_at_tlvs.ensures in (
+    let same : c.args.read.now ≡ c.args.tc.now = c.is_same_tc.ensures.0 (search rules) in
+    let iff : IsTrue c.are_tlvs_read.result ↔ ((tlv : TlvFields) → Contains (map fields c.args.message.now.tlvs) tlv → IsReadOfTc tlv) =
+    subst (λ (tlvs : List Tlv). IsTrue c.are_tlvs_read.result ↔ ((tlv : TlvFields) → Contains (map fields tlvs) tlv → IsReadOfTc tlv)) c.as_slice.ensures c.are_tlvs_read.ensures in (
       λ yes. record {
         header = c.has_header.ensures.0 (search rules);
         reads = subst (λ (t : Tc). TcIs m t) same c.requires.reads;
         validity_is = c.has_validity.ensures.0 (search rules);
         keeps = c.requires.keeps;
         tlvs = iff.0 (search rules);
-        parts = parts_read m (c.looks_at_all.ensures.0 yes);
+        parts = parts_read m (c.is_all_read.ensures.0 yes);
       },
-      λ says. c.looks_at_all.ensures.1 (parts_looked m says.parts),
+      λ says. c.is_all_read.ensures.1 (parts_looked m says.parts),
     )

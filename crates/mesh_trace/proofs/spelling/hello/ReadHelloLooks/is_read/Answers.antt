@@ -4,7 +4,7 @@ use Rattle.std.proofs.lemmas.Bool.{false≢true}
 use Rattle.mesh_atoms.specs.declared.hello.HelloRow.{HelloRow}
 use Rattle.mesh_wire.specs.Kinds.{local_if}
 use Rattle.mesh_trace.specs.Spelling.Looks.{IsLocal}
-use Rattle.mesh_trace.proofs.spelling.hello.ReadHelloLooks.looks_at.Goals as goal
+use Rattle.mesh_trace.proofs.spelling.hello.ReadHelloLooks.is_read.Goals as goal
 
 when_not : (b : Bool) → IsTrue (not b) → IsTrue b → ⊥
 when_not true h b = false≢true h
@@ -14,13 +14,13 @@ if_never : (b : Bool) → (IsTrue b → ⊥) → IsTrue (not b)
 if_never true none = absurd (none refl)
 if_never false none = refl
 
-pub returns-then-looks_at_other : goal.returns-then-looks_at_other
-returns-then-looks_at_other c =
+pub returns-then-is_read_of_other : goal.returns-then-is_read_of_other
+returns-then-is_read_of_other c =
     let ext : c.args.ext ≡ 0 = search rules in
     let other : c.args.kind ≡ local_if → ⊥ = search rules in
     let iff : IsTrue c.is_local.result ↔ IsLocal c.args.self.now.hello.rows c.args.net =
     subst (λ (rows : List HelloRow). IsTrue c.is_local.result ↔ IsLocal rows c.args.net) c.as_slice.ensures c.is_local.ensures in
-    let read = c.looks_at_other.ensures.0 (search rules) in (
+    let read = c.is_read_of_other.ensures.0 (search rules) in (
       λ yes. (ext, inr (λ local. when_not c.is_local.result yes (iff.1 local), read)),
       λ looks. if_never c.is_local.result (λ yes. elim looks.1 [
         | inl kind ↦ other kind

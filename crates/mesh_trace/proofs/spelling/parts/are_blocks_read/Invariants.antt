@@ -5,7 +5,7 @@ use Rattle.mesh_packet.specs.Fields.{fields_of_block}
 use Rattle.mesh_tlv.specs.Fields.{AddrTlvFields}
 use Rattle.mesh_trace.specs.Spelling.Looks.{SaysOnly}
 use Rattle.mesh_trace.proofs.SpellingLemmas.Mapped.{HoldsBefore}
-use Rattle.mesh_trace.proofs.spelling.parts.looks_at_blocks.Given as goal
+use Rattle.mesh_trace.proofs.spelling.parts.are_blocks_read.Given as goal
 
 abbrev pub invariant-loop-i : goal.invariant-loop-i
 invariant-loop-i g l =

@@ -2,7 +2,7 @@ use Rattle.std.proofs.Common.{ℕ}
 use Rattle.mesh_tlv.specs.declared.tlv.Tlv.{Tlv}
 use Rattle.mesh_tlv.specs.Fields.{fields}
 use Rattle.mesh_trace.proofs.SpellingLemmas.Mapped.{HoldsBefore}
-use Rattle.mesh_trace.proofs.spelling.parts.looks_at_tlvs.Given as goal
+use Rattle.mesh_trace.proofs.spelling.parts.are_tlvs_read.Given as goal
 
 abbrev pub invariant-loop-i : goal.invariant-loop-i
 invariant-loop-i g l = HoldsBefore (λ (j : ℕ) (tlv : Tlv). g.L.Looks.reads_tlv l.looks (fields tlv)) l.tlvs l.i

@@ -1,7 +1,7 @@
 use Rattle.std.proofs.Common.{◌≡◌, ℕ, List, true, ap, subst, sym, arith, slice_index_or}
 use Rattle.mesh_atoms.specs.Reading.{has}
 use Rattle.mesh_trace.proofs.SpellingLemmas.Flags.{two_items}
-use Rattle.mesh_trace.proofs.spelling.tc.shows_metric.Goals as goal
+use Rattle.mesh_trace.proofs.spelling.tc.has_metric.Goals as goal
 
 pub returns-in-len2 : goal.returns-in-len2
 returns-in-len2 c =
