@@ -33,7 +33,7 @@ pub(crate) enum Move {
 }
 
 // Whether the network has the address.
-fn holds(net: NetAddr, addr: Addr4) -> bool
+fn has_addr(net: NetAddr, addr: Addr4) -> bool
     ensures { IsTrue result ↔ Holds net addr }
 {
     NetAddr::of(addr, net.prefix).addr.0 == net.addr.0
@@ -82,7 +82,7 @@ fn is_address_at(scenario: &Scenario, y: usize, j: usize, addr: Addr4) -> bool
 fn longer(longest: Option<Attached4>, attached: &Attached4, addr: Addr4) -> Option<Attached4>
     ensures { IsLongerOf addr longest attached.now result }
 {
-    if !holds(attached.net, addr) {
+    if !has_addr(attached.net, addr) {
         return longest;
     }
     match longest {

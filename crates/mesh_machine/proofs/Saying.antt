@@ -17,7 +17,7 @@ use Rattle.mesh_atoms.specs.State.{State, state_of, is_symmetric, is_heard, HasS
 use Rattle.mesh_atoms.specs.Words.{IsValue}
 use Rattle.mesh_atoms.proofs.Lookups.{has_found, link_equiv, same_link, looks_up_links, looks_up_neighbours}
 use Rattle.mesh_machine.specs.declared.said.Said.{Said}
-use Rattle.mesh_machine.specs.Said.{IsSaidOf, IsFloodingRelay, shows_symmetric, link_metric_in, link_metric_out, near_metric_in, near_metric_out, or_else}
+use Rattle.mesh_machine.specs.Said.{IsSaidOf, IsFloodingRelay, is_link_symmetric, link_metric_in, link_metric_out, near_metric_in, near_metric_out, or_else}
 use Rattle.mesh_hello.specs.Saying.Said.{IsRelayOf}
 use Rattle.mesh_hello.specs.Saying.Said.{IsNeighbourWith}
 use Rattle.mesh_hello.specs.Saying.Said.{IsLinkWith}
@@ -114,7 +114,7 @@ module _ (s : State) (settings : RouterSettings) (i now : ℕ) (a : Addr4) (soun
   is_of : (e : LinkKey × (Link × ℕ)) (p : LinkState) (l : Link) → IsLinkWith (base_of s.bases.neighbourhood.links i) a e → HasLinkTo s i now a p l → state_of e.1.0 now ≡ p
   is_of e p l with' w = ap (λ (x : Link). state_of x now) (one_link (state_of e.1.0 now) p e.1.0 l (link_to e (state_of e.1.0 now) with' refl) w) ∙ w.3
 
-  link_shows : (link : Option (LinkKey × (Link × ℕ))) → IsValue (IsLinkWith (base_of s.bases.neighbourhood.links i) a) link → IsTrue (shows_symmetric link now) ↔ SaysLink s i now a Is_symmetric
+  link_shows : (link : Option (LinkKey × (Link × ℕ))) → IsValue (IsLinkWith (base_of s.bases.neighbourhood.links i) a) link → IsTrue (is_link_symmetric link now) ↔ SaysLink s i now a Is_symmetric
   link_shows None none = (λ h. absurd cc, λ w. no_link none Is_symmetric w.0 w.1)
   link_shows (Some e) with' = (
     λ h. (e.1.0, link_to e Is_symmetric with' (is_symmetric_to e.1.0 now h)),
@@ -217,7 +217,7 @@ module _ (s : State) (settings : RouterSettings) (i now : ℕ) (a : Addr4) (soun
   )
 
   flooding_of : (link : Option (LinkKey × (Link × ℕ))) (near : Option (Addr4 × (Neighbour × ℕ))) → IsValue (IsLinkWith (base_of s.bases.neighbourhood.links i) a) link →
-      IsValue (IsNeighbourWith s.bases.neighbourhood.neighbours a) near → IsFloodingRelay s.relays.flooding i (shows_symmetric link now) near ↔ Says s i now a Flooding
+      IsValue (IsNeighbourWith s.bases.neighbourhood.neighbours a) near → IsFloodingRelay s.relays.flooding i (is_link_symmetric link now) near ↔ Says s i now a Flooding
   flooding_of link near linked is = (
     λ w.
         let (l, to) = (link_shows link linked).0 w.shown in
@@ -235,11 +235,11 @@ module _ (s : State) (settings : RouterSettings) (i now : ℕ) (a : Addr4) (soun
 
   -- all of it
   pub said_by : (link : Option (LinkKey × (Link × ℕ))) (near : Option (Addr4 × (Neighbour × ℕ))) (said : Said) → IsValue (IsLinkWith (base_of s.bases.neighbourhood.links i) a) link →
-      IsValue (IsNeighbourWith s.bases.neighbourhood.neighbours a) near → said.symmetric ≡ (shows_symmetric link now || is_some near) →
+      IsValue (IsNeighbourWith s.bases.neighbourhood.neighbours a) near → said.symmetric ≡ (is_link_symmetric link now || is_some near) →
       said.metric_in ≡ or_else (near_metric_in near) (link_metric_in link now) → said.metric_out ≡ or_else (near_metric_out near) (link_metric_out link now) →
-      (IsTrue said.flooding ↔ IsFloodingRelay s.relays.flooding i (shows_symmetric link now) near) → (IsTrue said.routing ↔ IsRelayOf s.relays.routing near) → IsSaidOf s i now a said
+      (IsTrue said.flooding ↔ IsFloodingRelay s.relays.flooding i (is_link_symmetric link now) near) → (IsTrue said.routing ↔ IsRelayOf s.relays.routing near) → IsSaidOf s i now a said
   said_by link near said linked is symmetric metric_in metric_out flooding routing = record {
-    symmetric = rw symmetric (either_shows (shows_symmetric link now) (is_some near) (link_shows link linked) (near_shows near is));
+    symmetric = rw symmetric (either_shows (is_link_symmetric link now) (is_some near) (link_shows link linked) (near_shows near is));
     metric_in = rw metric_in (said_is _ _ one_near_in one_link_in (near_metric_in near) (link_metric_in link now) (near_in_of near is) (link_in_of link linked));
     metric_out = rw metric_out (said_is _ _ one_near_out one_link_out (near_metric_out near) (link_metric_out link now) (near_out_of near is) (link_out_of link linked));
     flooding = (λ h. (flooding_of link near linked is).0 (flooding.0 h), λ w. flooding.1 ((flooding_of link near linked is).1 w));

@@ -25,9 +25,9 @@ pub record IsSaidOf (s : State) (i now : ℕ) (a : Addr4) (said : Said) : Type 0
 -- Out of which tuples it is said
 
 -- whether there is a link, and it is SYMMETRIC
-abbrev pub shows_symmetric : Option (LinkKey × (Link × ℕ)) → ℕ → Bool
-shows_symmetric None now = false
-shows_symmetric (Some e) now = is_symmetric e.1.0 now
+abbrev pub is_link_symmetric : Option (LinkKey × (Link × ℕ)) → ℕ → Bool
+is_link_symmetric None now = false
+is_link_symmetric (Some e) now = is_symmetric e.1.0 now
 
 -- the incoming metric of a link that is HEARD or SYMMETRIC
 abbrev pub link_metric_in : Option (LinkKey × (Link × ℕ)) → ℕ → Option Metric

@@ -6,7 +6,7 @@ ghost use Rattle.mesh_atoms.specs.Sound.{SoundNeighbourhood};
 ghost use Rattle.mesh_atoms.specs.State.{State};
 ghost use Rattle.mesh_atoms.specs.Words.{IsValue};
 ghost use Rattle.mesh_nhdp.specs.expire.Table.{entry_of};
-ghost use Rattle.mesh_machine.specs.Said.{IsSaidOf, IsFloodingRelay, shows_symmetric, link_metric_in, link_metric_out, near_metric_in, near_metric_out, or_else};
+ghost use Rattle.mesh_machine.specs.Said.{IsSaidOf, IsFloodingRelay, is_link_symmetric, link_metric_in, link_metric_out, near_metric_in, near_metric_out, or_else};
 ghost use Rattle.mesh_hello.specs.Saying.Said.{IsRelayOf};
 ghost use Rattle.mesh_hello.specs.Saying.Said.{IsNeighbourWith};
 ghost use Rattle.mesh_hello.specs.Saying.Said.{IsLinkWith};
@@ -54,8 +54,8 @@ fn neighbour_with<N: Near4>(near: &N, addr: Addr4) -> Option<(&Addr4, &Neighbour
 }
 
 // Whether there is a link, and it is SYMMETRIC.
-fn shows_symmetric(link: Option<(&LinkKey, &Link, u64)>, now: u64) -> bool
-    ensures { result ≡ shows_symmetric (entry_of link.entry) now }
+fn is_link_symmetric(link: Option<(&LinkKey, &Link, u64)>, now: u64) -> bool
+    ensures { result ≡ is_link_symmetric (entry_of link.entry) now }
 {
     match link {
         Some((_, link, _)) => link.is_symmetric(now),
@@ -125,7 +125,7 @@ fn or_else(first: Option<Metric>, second: Option<Metric>) -> Option<Metric>
 }
 
 // Whether one of the two holds.
-fn either(first: bool, second: bool) -> bool
+fn is_either(first: bool, second: bool) -> bool
     ensures { result ≡ (first || second) }
 {
     first || second
@@ -164,9 +164,9 @@ pub fn said_of<N: Near4>(near: &N, relays: &Relays, iface: usize, now: u64, addr
 {
     let link = link_with(near, iface, addr);
     let neighbour = neighbour_with(near, addr);
-    let symmetric = shows_symmetric(link, now);
+    let symmetric = is_link_symmetric(link, now);
     Said {
-        symmetric: either(symmetric, neighbour.is_some()),
+        symmetric: is_either(symmetric, neighbour.is_some()),
         metric_in: or_else(near_metric_in(neighbour), link_metric_in(link, now)),
         metric_out: or_else(near_metric_out(neighbour), link_metric_out(link, now)),
         flooding: is_flooding_relay(&relays.flooding, iface, symmetric, neighbour),

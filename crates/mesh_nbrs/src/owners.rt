@@ -84,7 +84,7 @@ pub fn remove_owned<T: Table<Addr4, Neighbour>>(
 }
 
 // Whether there is a neighbour with that originator.
-fn stands<T: Table<Addr4, Neighbour>>(table: &T, originator: &Addr4) -> bool
+fn has_neighbour<T: Table<Addr4, Neighbour>>(table: &T, originator: &Addr4) -> bool
     ensures { result ≡ is_some (find addr_eq (T.content table.now) originator.now) }
 {
     table.get(originator).is_some()
@@ -96,7 +96,7 @@ fn purge<T: Table<Addr4, Neighbour>>(owners: &mut IndexMap<Addr4, Addr4>, table:
 {
     // Its keys are distinct, which the proof needs.
     let _count = owners.len();
-    owners.retain(|_, originator| stands(table, originator));
+    owners.retain(|_, originator| has_neighbour(table, originator));
 }
 
 /// Takes out each neighbour that no note is of, with its addresses. Where there is one, goes over the whole map. Takes no memory.
@@ -162,7 +162,7 @@ fn add_standing<T: Table<Addr4, Neighbour>>(
     ensures { OnOk result ((o : _) → contains addr_eq found.new o
         ≡ cond (is_some (find addr_eq (T.content table.now) originator) && addr_eq originator o) true (contains addr_eq found.old o)) }
 {
-    if stands(table, &originator) {
+    if has_neighbour(table, &originator) {
         found.insert(originator)?;
     }
     Ok(())

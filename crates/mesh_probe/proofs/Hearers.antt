@@ -8,7 +8,7 @@ use Rattle.mesh_atoms.specs.declared.settings.Scenario.{Scenario}
 use Rattle.mesh_atoms.specs.Radio.{Joined, Itself, By}
 use Rattle.mesh_paths.proofs.Scenarios.{arc_leads_to}
 use Rattle.mesh_probe.specs.declared.coverage.Sending.{Sending}
-use Rattle.mesh_probe.specs.Flood.{leads_from, hearers_of}
+use Rattle.mesh_probe.specs.Flood.{is_arc_from, hearers_of}
 use Rattle.mesh_probe.specs.Hearing.{BringsTo}
 use Rattle.mesh_probe.specs.Probes.{HearsOne}
 use Rattle.mesh_atoms.proofs.Lists.{contains_tail as in_tail, contains_cases}
@@ -19,10 +19,10 @@ hearer (first ∷ arcs) x i arc c from at = elim (contains_cases first arcs arc 
   | inl same ↦
       let e : nat_eq first.from x ≡ true = eq-eqb first.from x (ap (λ (a : RadioArc). a.from) same ∙ from) in
       let f : nat_eq first.from_iface i ≡ true = eq-eqb first.from_iface i (ap (λ (a : RadioArc). a.from_iface) same ∙ at) in
-      let g : leads_from first x i ≡ true = rw (e, f) refl in
+      let g : is_arc_from first x i ≡ true = rw (e, f) refl in
       subst (λ (b : Bool). Contains (cond b ((first.to, first.to_iface) ∷ hearers_of arcs x i) (hearers_of arcs x i)) (arc.to, arc.to_iface)) (sym g)
       (subst (λ (a : RadioArc). Contains ((first.to, first.to_iface) ∷ hearers_of arcs x i) (a.to, a.to_iface)) same (0, omega arith, refl))
-  | inr later ↦ further (leads_from first x i) (first.to, first.to_iface) (hearers_of arcs x i) (arc.to, arc.to_iface) (hearer arcs x i arc later from at)
+  | inr later ↦ further (is_arc_from first x i) (first.to, first.to_iface) (hearers_of arcs x i) (arc.to, arc.to_iface) (hearer arcs x i arc later from at)
 ]
   where
     further : (b : Bool) (p : ℕ × ℕ) (ps : List (ℕ × ℕ)) (q : ℕ × ℕ) → Contains ps q → Contains (cond b (p ∷ ps) ps) q
@@ -31,14 +31,14 @@ hearer (first ∷ arcs) x i arc c from at = elim (contains_cases first arcs arc 
 
 pub hearer_of : (arcs : List RadioArc) (x i w j : ℕ) → Contains (hearers_of arcs x i) (w, j) → (arc : RadioArc) × Contains arcs arc × (arc.from ≡ x) × (arc.from_iface ≡ i) × (arc.to ≡ w)
 hearer_of [] x i w j c = absurd (omega (arith, c.1))
-hearer_of (first ∷ arcs) x i w j c = elim (which (leads_from first x i) refl (first.to, first.to_iface) (hearers_of arcs x i) (w, j) c) [
+hearer_of (first ∷ arcs) x i w j c = elim (which (is_arc_from first x i) refl (first.to, first.to_iface) (hearers_of arcs x i) (w, j) c) [
   | inl (leads, same) ↦
       let (from, at) = and_parts (nat_eq first.from x) (nat_eq first.from_iface i) leads in
       (first, (0, omega arith, refl), eqb-true first.from x from, eqb-true first.from_iface i at, ap (λ (p : ℕ × ℕ). p.0) same)
   | inr later ↦ let (arc, stands, from, at, to) = hearer_of arcs x i w j later in (arc, in_tail first arcs arc stands, from, at, to)
 ]
   where
-    which : (b : Bool) → leads_from first x i ≡ b → (p : ℕ × ℕ) (ps : List (ℕ × ℕ)) (q : ℕ × ℕ) → Contains (cond b (p ∷ ps) ps) q → ((leads_from first x i ≡ true) × (p ≡ q)) ⊎ Contains ps q
+    which : (b : Bool) → is_arc_from first x i ≡ b → (p : ℕ × ℕ) (ps : List (ℕ × ℕ)) (q : ℕ × ℕ) → Contains (cond b (p ∷ ps) ps) q → ((is_arc_from first x i ≡ true) × (p ≡ q)) ⊎ Contains ps q
     which true e p ps q c = elim (contains_cases p ps q c) [ inl same ↦ inl (e, same) | inr later ↦ inr later ]
     which false e p ps q c = inr c
 

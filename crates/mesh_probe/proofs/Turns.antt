@@ -17,7 +17,7 @@ use Rattle.mesh_machine.specs.Sendable.{IsSendable}
 use Rattle.mesh_paths.proofs.Scenarios.{arc_leads_to}
 use Rattle.mesh_wire.proofs.Standing.{get_set, get_unset}
 use Rattle.mesh_probe.specs.declared.transmission.Transmission.{Transmission}
-use Rattle.mesh_probe.specs.Flood.{leads_from, hearers_of, BecomesAt, AllHear, All_have_heard, Next_hears, sent_by}
+use Rattle.mesh_probe.specs.Flood.{is_arc_from, hearers_of, BecomesAt, AllHear, All_have_heard, Next_hears, sent_by}
 use Rattle.mesh_probe.specs.Hearing.{CanHear, IsOfInterface, HearsFrame}
 
 -- One state is replaced
@@ -83,14 +83,14 @@ module _ (s : Scenario) (now : ℕ) (sender : Addr4) (octets : List ℕ) (x i : 
   left : (at : ℕ) (arc : RadioArc) → arc ≡ get_or s.arcs at arc → at < length s.arcs → drop at s.arcs ≡ arc ∷ drop (at + 1) s.arcs
   left at arc is less = drop_more s.arcs at arc less ∙ ap (λ (a : RadioArc). a ∷ drop (at + 1) s.arcs) (sym is)
 
-  hearers_left : (at : ℕ) (arc : RadioArc) (b : Bool) → arc ≡ get_or s.arcs at arc → at < length s.arcs → leads_from arc x i ≡ b →
+  hearers_left : (at : ℕ) (arc : RadioArc) (b : Bool) → arc ≡ get_or s.arcs at arc → at < length s.arcs → is_arc_from arc x i ≡ b →
       hearers_of (drop at s.arcs) x i ≡ cond b ((arc.to, arc.to_iface) ∷ hearers_of (drop (at + 1) s.arcs) x i) (hearers_of (drop (at + 1) s.arcs) x i)
   hearers_left at arc b is less leads =
       ap (λ arcs. hearers_of arcs x i) (left at arc is less)
       ∙ ap (λ (c : Bool). cond c ((arc.to, arc.to_iface) ∷ hearers_of (drop (at + 1) s.arcs) x i) (hearers_of (drop (at + 1) s.arcs) x i)) leads
 
   -- an arc of another interface
-  pub passes : (at : ℕ) (arc : RadioArc) (b : Bool) (here : List State) (sent : List Transmission) → arc ≡ get_or s.arcs at arc → at < length s.arcs → b ≡ leads_from arc x i → b ≡ false →
+  pub passes : (at : ℕ) (arc : RadioArc) (b : Bool) (here : List State) (sent : List Transmission) → arc ≡ get_or s.arcs at arc → at < length s.arcs → b ≡ is_arc_from arc x i → b ≡ false →
       Turning s now sender octets x i at old here sent → Turning s now sender octets x i (at + 1) old here sent
   passes at arc b here sent is less test leads t = record {
     can = t.can;
@@ -99,7 +99,7 @@ module _ (s : Scenario) (now : ℕ) (sender : Addr4) (octets : List ℕ) (x i : 
   }
 
   -- an arc of the frame's interface
-  pub turns : (at : ℕ) (arc : RadioArc) (b : Bool) (here there : List State) (sent after : List Transmission) → arc ≡ get_or s.arcs at arc → at < length s.arcs → b ≡ leads_from arc x i → b ≡ true →
+  pub turns : (at : ℕ) (arc : RadioArc) (b : Bool) (here there : List State) (sent after : List Transmission) → arc ≡ get_or s.arcs at arc → at < length s.arcs → b ≡ is_arc_from arc x i → b ≡ true →
       HearsFrame now sender octets arc.to arc.to_iface here there sent after →
       Turning s now sender octets x i at old here sent → Turning s now sender octets x i (at + 1) old there after
   turns at arc b here there sent after is less test leads h t = record {

@@ -15,14 +15,14 @@ use Rattle.mesh_probe.specs.declared.transmission.Transmission.{Transmission}
 -- Who hears whom
 
 -- the arc leads from interface i of router x
-abbrev pub leads_from : RadioArc → ℕ → ℕ → Bool
-leads_from arc x i = nat_eq arc.from x && nat_eq arc.from_iface i
+abbrev pub is_arc_from : RadioArc → ℕ → ℕ → Bool
+is_arc_from arc x i = nat_eq arc.from x && nat_eq arc.from_iface i
 
 -- the routers that hear a frame of interface i of router x, each with the interface on which it does: the ends of its arcs, in
 -- their order
 abbrev pub hearers_of : List RadioArc → ℕ → ℕ → List (ℕ × ℕ)
 hearers_of [] x i = []
-hearers_of (arc ∷ arcs) x i = cond (leads_from arc x i) ((arc.to, arc.to_iface) ∷ hearers_of arcs x i) (hearers_of arcs x i)
+hearers_of (arc ∷ arcs) x i = cond (is_arc_from arc x i) ((arc.to, arc.to_iface) ∷ hearers_of arcs x i) (hearers_of arcs x i)
 
 -- the first address of interface i of router x, which is the sender of its frames
 abbrev pub IsInterfaceSender : Scenario → ℕ → ℕ → Addr4 → Type 0

@@ -2,7 +2,7 @@
 ghost use Rattle.std.specs.Prelude.{◌≡◌, ◌<◌, ◌≤◌, ◌^◌, ℕ, List, All, map, length, IfOk, OnOk};
 ghost use Rattle.mesh_atoms.specs.Settled.{At};
 ghost use Rattle.mesh_atoms.specs.State.{State};
-ghost use Rattle.mesh_probe.specs.Flood.{leads_from, hearers_of, IsInterfaceSender, AllHear, Flood};
+ghost use Rattle.mesh_probe.specs.Flood.{is_arc_from, hearers_of, IsInterfaceSender, AllHear, Flood};
 ghost use Rattle.mesh_probe.specs.Hearing.{CanHear, IsOfInterface, HearsFrame, SendsOnceFrom};
 
 use crate::frames::put_sent;
@@ -12,8 +12,8 @@ use mesh_core::{Arrival, Machine, Outbox};
 use std::alloc::{AllocError, Global};
 
 // Whether the arc leads from that interface of the router.
-fn leads_from(arc: &RadioArc, router: usize, iface: usize) -> bool
-    ensures { result ≡ leads_from arc.now router iface }
+fn is_arc_from(arc: &RadioArc, router: usize, iface: usize) -> bool
+    ensures { result ≡ is_arc_from arc.now router iface }
 {
     arc.from == router && arc.from_iface == iface
 }
@@ -72,7 +72,7 @@ fn hear_all<R: Machine>(
     let octets = frame.frame.bytes.as_slice();
     let mut sent = Vec::new(alloc);
     for arc in scenario.arcs.as_slice() {
-        if leads_from(arc, frame.router, frame.frame.iface) {
+        if is_arc_from(arc, frame.router, frame.frame.iface) {
             hear_one(alloc, routers, arc, now, sender, octets, &mut sent)?;
         }
     }

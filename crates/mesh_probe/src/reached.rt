@@ -15,7 +15,7 @@ fn is_sent(sends: &[Sending], router: usize, iface: usize) -> bool
 }
 
 // Whether the arc leads to the router, from an interface that sends.
-fn brings_to(arc: &RadioArc, sends: &[Sending], router: usize) -> bool
+fn is_heard_by(arc: &RadioArc, sends: &[Sending], router: usize) -> bool
     ensures { IsTrue result ↔ BringsTo sends.now router arc.now }
 {
     if arc.to != router {
@@ -25,11 +25,11 @@ fn brings_to(arc: &RadioArc, sends: &[Sending], router: usize) -> bool
 }
 
 // Whether an arc leads to the router from an interface that sends.
-fn hears_one(scenario: &Scenario, sends: &[Sending], router: usize) -> bool
+fn can_hear_one(scenario: &Scenario, sends: &[Sending], router: usize) -> bool
     ensures { IsTrue result ↔ HearsOne scenario.now sends.now router }
 {
     for arc in scenario.arcs.as_slice() {
-        if brings_to(arc, sends, router) {
+        if is_heard_by(arc, sends, router) {
             return true;
         }
     }
@@ -43,7 +43,7 @@ fn is_reached(scenario: &Scenario, origin: usize, sends: &[Sending], router: usi
     if router == origin {
         return false;
     }
-    hears_one(scenario, sends, router)
+    can_hear_one(scenario, sends, router)
 }
 
 /// The other routers than the origin that hear a frame.

@@ -8,7 +8,7 @@ use Rattle.mesh_atoms.specs.declared.gap.Gap.{Gap}
 use Rattle.mesh_atoms.specs.declared.gap.GapKey.{GapKey}
 use Rattle.mesh_settled.specs.declared.gaps.topics.TopologyKind.TheVariants.{Routers, Addresses, Networks}
 use Rattle.mesh_settled.specs.Gaps.Found.{IsGap}
-use Rattle.mesh_settled.specs.Gaps.Gaps.{Look, look, AreSame, HasNoGap, IsFirstGap, rank_of, ranks_before, gap_kind}
+use Rattle.mesh_settled.specs.Gaps.Gaps.{Look, look, AreSame, HasNoGap, IsFirstGap, rank_of, is_ranked_before, gap_kind}
 use Rattle.mesh_settled.specs.Gaps.Topics.{IsTopicKey}
 
 -- a key of a topology tuple
@@ -18,7 +18,7 @@ IsTopologyKey k = IsTopicKey Routers k ⊎ (IsTopicKey Addresses k ⊎ IsTopicKe
 -- the first gap of router x, if it has any
 abbrev pub IsFirstFound : Look → Option Found → Type 0
 IsFirstFound l None = HasNoGap l
-IsFirstFound l (Some f) = IsGap l f × ((key : GapKey) → IsTrue (ranks_before (rank_of key) (rank_of f.key)) → AreSame l key)
+IsFirstFound l (Some f) = IsGap l f × ((key : GapKey) → IsTrue (is_ranked_before (rank_of key) (rank_of f.key)) → AreSame l key)
 
 -- what is found at router x, as a gap of the network
 abbrev pub reported : ℕ → Option Found → Option Gap

@@ -69,7 +69,7 @@ fn ways_of_interface(
 {
     let mut ways = Seq::new(alloc);
     for (number, arc) in arcs.iter().enumerate() {
-        if leaves(arc, router, iface) {
+        if is_arc_from(arc, router, iface) {
             ways.push((number, *arc))?;
         }
     }
@@ -77,7 +77,7 @@ fn ways_of_interface(
 }
 
 /// Whether an arc leaves an interface of a router.
-fn leaves(arc: &RadioArc, router: usize, iface: usize) -> bool
+fn is_arc_from(arc: &RadioArc, router: usize, iface: usize) -> bool
     ensures { result ≡ leaves router iface arc.now }
 {
     arc.from == router && arc.from_iface == iface

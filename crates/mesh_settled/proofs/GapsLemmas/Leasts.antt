@@ -8,7 +8,7 @@ use Rattle.mesh_atoms.specs.declared.gap.GapKey.{GapKey}
 use Rattle.mesh_atoms.proofs.Options.{true_false}
 use Rattle.mesh_settled.specs.declared.gaps.compare.HeldAndPresent.{HeldAndPresent}
 use Rattle.mesh_settled.specs.Gaps.Fields.{Field}
-use Rattle.mesh_settled.specs.Gaps.Gaps.{Look, IsHeldTuple, IsPresentTuple, AreSame, precedes, ranks_before, rank_of}
+use Rattle.mesh_settled.specs.Gaps.Gaps.{Look, IsHeldTuple, IsPresentTuple, AreSame, precedes, is_ranked_before, rank_of}
 use Rattle.mesh_settled.specs.Gaps.Found.{IsLeastGap, IsTest, lesser, found_at}
 
 -- The order
@@ -64,12 +64,12 @@ below k l m e f = let g = ltb-true k l e in let h = ltb-true l m f in lt-ltb k m
 not_below : (k l m : ℕ) → nat_lt k l ≡ true → nat_lt m l ≡ false → nat_lt k m ≡ true
 not_below k l m e f = let g = ltb-true k l e in let h = ltb-false m l f in lt-ltb k m (omega arith)
 
-pub before_trans : (k l m : Rank) → ranks_before k l ≡ true → ranks_before l m ≡ true → ranks_before k m ≡ true
+pub before_trans : (k l m : Rank) → is_ranked_before k l ≡ true → is_ranked_before l m ≡ true → is_ranked_before k m ≡ true
 before_trans k l m =
     then_before k.kind l.kind m.kind _ _ _ (then_before k.iface l.iface m.iface _ _ _ (then_before k.first l.first m.first _ _ _
     (then_before k.second l.second m.second _ _ _ (below k.prefix l.prefix m.prefix))))
 
-pub before_not : (k l m : Rank) → ranks_before k l ≡ true → ranks_before m l ≡ false → ranks_before k m ≡ true
+pub before_not : (k l m : Rank) → is_ranked_before k l ≡ true → is_ranked_before m l ≡ false → is_ranked_before k m ≡ true
 before_not k l m =
     not_before k.kind l.kind m.kind _ _ _ (not_before k.iface l.iface m.iface _ _ _ (not_before k.first l.first m.first _ _ _
     (not_before k.second l.second m.second _ _ _ (not_below k.prefix l.prefix m.prefix))))
@@ -84,9 +84,9 @@ module _ (l : Look) (P Q : GapKey → Type 0) where
   least_lesser None None p q = λ key either. elim either [ inl at ↦ p key at | inr at ↦ q key at ]
   least_lesser None (Some g) p q = (inr q.0, q.1, λ key either first. elim either [ inl at ↦ p key at | inr at ↦ q.2 key at first ])
   least_lesser (Some f) None p q = (inl p.0, p.1, λ key either first. elim either [ inl at ↦ p.2 key at first | inr at ↦ q key at ])
-  least_lesser (Some f) (Some g) p q = by_case (ranks_before (rank_of g.key) (rank_of f.key)) refl
+  least_lesser (Some f) (Some g) p q = by_case (is_ranked_before (rank_of g.key) (rank_of f.key)) refl
     where
-      by_case : (b : Bool) → ranks_before (rank_of g.key) (rank_of f.key) ≡ b → IsLeastGap l Either (cond b (Some g) (Some f))
+      by_case : (b : Bool) → is_ranked_before (rank_of g.key) (rank_of f.key) ≡ b → IsLeastGap l Either (cond b (Some g) (Some f))
       by_case true is = (
         inr q.0,
         q.1,
@@ -112,7 +112,7 @@ module _ (l : Look) (P Q : GapKey → Type 0) where
 -- One key
 pub least_one : (l : Look) (key : GapKey) (v : Option HeldAndPresent) → IsTest l key v → IsLeastGap l (λ k. k ≡ key) (found_at key v)
 least_one l key None test = λ k same. subst (AreSame l) (sym same) test
-least_one l key (Some v) test = (refl, test, λ k same first. absurd (before_self k (subst (λ (j : GapKey). ranks_before (rank_of k) (rank_of j) ≡ true) (sym same) first)))
+least_one l key (Some v) test = (refl, test, λ k same first. absurd (before_self k (subst (λ (j : GapKey). is_ranked_before (rank_of k) (rank_of j) ≡ true) (sym same) first)))
   where
     no_less : (n : ℕ) → nat_lt n n ≡ true → ⊥
     no_less n e = let h = ltb-true n n e in omega arith
@@ -120,7 +120,7 @@ least_one l key (Some v) test = (refl, test, λ k same first. absurd (before_sel
     then_self : (n : ℕ) (r : Bool) → (r ≡ true → ⊥) → precedes n n r ≡ true → ⊥
     then_self n r none e = elim (before_cases n n r e) [ inl less ↦ omega arith | inr rest ↦ none rest.1 ]
 
-    before_self : (k : GapKey) → ranks_before (rank_of k) (rank_of k) ≡ true → ⊥
+    before_self : (k : GapKey) → is_ranked_before (rank_of k) (rank_of k) ≡ true → ⊥
     before_self k =
         let p = rank_of k in
         then_self p.kind _ (then_self p.iface _ (then_self p.first _ (then_self p.second _ (no_less p.prefix))))

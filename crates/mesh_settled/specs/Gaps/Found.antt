@@ -7,7 +7,7 @@ use Rattle.mesh_settled.specs.declared.gaps.compare.HeldAndPresent.{HeldAndPrese
 use Rattle.mesh_settled.specs.declared.gaps.found.Found.{Found}
 use Rattle.mesh_atoms.specs.declared.gap.GapKey.{GapKey}
 use Rattle.mesh_settled.specs.Gaps.Fields.{Field, SaySame, AllSame, Differ, DifferFrom}
-use Rattle.mesh_settled.specs.Gaps.Gaps.{Look, IsGapAt, AreSame, at_field, rank_of, ranks_before}
+use Rattle.mesh_settled.specs.Gaps.Gaps.{Look, IsGapAt, AreSame, at_field, rank_of, is_ranked_before}
 
 -- the test of a field: it finds both numbers where the two say something else
 abbrev pub IsFieldTest : Field → Field → Option Apart → Type 0
@@ -64,13 +64,13 @@ IsGap l f = IsGapAt l f.key f.held f.present × (AreSame l f.key → ⊥)
 abbrev pub IsLeastGap : Look → (GapKey → Type 0) → Option Found → Type 0
 IsLeastGap l P None = (key : GapKey) → P key → AreSame l key
 IsLeastGap l P (Some f) =
-    P f.key × IsGap l f × ((key : GapKey) → P key → IsTrue (ranks_before (rank_of key) (rank_of f.key)) → AreSame l key)
+    P f.key × IsGap l f × ((key : GapKey) → P key → IsTrue (is_ranked_before (rank_of key) (rank_of f.key)) → AreSame l key)
 
 -- the one of the two with the lesser key
 abbrev pub lesser : Option Found → Option Found → Option Found
 lesser None g = g
 lesser (Some f) None = Some f
-lesser (Some f) (Some g) = cond (ranks_before (rank_of g.key) (rank_of f.key)) (Some g) (Some f)
+lesser (Some f) (Some g) = cond (is_ranked_before (rank_of g.key) (rank_of f.key)) (Some g) (Some f)
 
 -- what is found at a key, where its test finds a gap
 abbrev pub found_at : GapKey → Option HeldAndPresent → Option Found

@@ -169,8 +169,8 @@ abbrev pub precedes : ℕ → ℕ → Bool → Bool
 precedes m n next = nat_lt m n || nat_eq m n && next
 
 -- the first number in which the two ranks differ is less in the first
-abbrev pub ranks_before : Rank → Rank → Bool
-ranks_before k l =
+abbrev pub is_ranked_before : Rank → Rank → Bool
+is_ranked_before k l =
     precedes k.kind l.kind (precedes k.iface l.iface
     (precedes k.first l.first (precedes k.second l.second (nat_lt k.prefix l.prefix))))
 
@@ -190,5 +190,5 @@ pub record IsFirstGap (s : Scenario) (states : List State) (now : ℕ) (gap : Ga
   pub kind : gap.kind ≡ gap_kind gap.key
   pub is : IsGapAt (look s states now gap.router p) gap.key gap.held gap.present
   pub no_router_before : (y : ℕ) (q : State) → y < gap.router → At states y q → HasNoGap (look s states now y q)
-  pub no_key_before : (key : GapKey) → IsTrue (ranks_before (rank_of key) (rank_of gap.key)) →
+  pub no_key_before : (key : GapKey) → IsTrue (is_ranked_before (rank_of key) (rank_of gap.key)) →
       AreSame (look s states now gap.router p) key

@@ -1,7 +1,7 @@
 //! Gaps of one router that are found, and the least of them.
 ghost use Rattle.std.specs.Prelude.{◌≡◌};
 ghost use Rattle.mesh_settled.specs.Gaps.Found.{lesser, found_at};
-ghost use Rattle.mesh_settled.specs.Gaps.Gaps.{rank_of, ranks_before};
+ghost use Rattle.mesh_settled.specs.Gaps.Gaps.{rank_of, is_ranked_before};
 
 use crate::gaps::compare::HeldAndPresent;
 use mesh_atoms::{GapKey, GapValue};
@@ -89,8 +89,8 @@ fn rank_of(key: &GapKey) -> Rank
 }
 
 // Whether the one place comes before the other.
-fn ranks_before(k: Rank, l: Rank) -> bool
-    ensures { result ≡ ranks_before k l }
+fn is_ranked_before(k: Rank, l: Rank) -> bool
+    ensures { result ≡ is_ranked_before k l }
 {
     k.kind < l.kind
         || k.kind == l.kind
@@ -108,7 +108,7 @@ pub fn lesser(first: Option<Found>, second: Option<Found>) -> Option<Found>
 {
     match (first, second) {
         (Some(a), Some(b)) => {
-            if ranks_before(rank_of(&b.key), rank_of(&a.key)) {
+            if is_ranked_before(rank_of(&b.key), rank_of(&a.key)) {
                 Some(b)
             } else {
                 Some(a)

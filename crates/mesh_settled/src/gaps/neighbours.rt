@@ -67,7 +67,7 @@ fn is_relay<R: RouterView>(other: &R, addr: Addr4, now: u64) -> bool
 }
 
 // Whether the HELLOs show one of these addresses as a routing relay's.
-fn shows_relay<R: RouterView>(other: &R, addrs: &[Addr4], now: u64) -> bool
+fn is_any_relay<R: RouterView>(other: &R, addrs: &[Addr4], now: u64) -> bool
     requires sound { Sound (R.state other.now) }
     requires moment { (R.state other.now).last ≡ now }
     ensures { IsTrue result ↔ ((a : Addr4) × Contains addrs.now a × Says (R.state other.now) 0 now a Routing) }
@@ -87,7 +87,7 @@ fn is_selector<R: RouterView>(other: &R, settings: &RouterSettings, now: u64) ->
     ensures { IsTrue result ↔ ((a : Addr4) × HasAddress settings.now a × Says (R.state other.now) 0 now a Routing) }
 {
     for i in 0..settings.interfaces.len() {
-        if shows_relay(other, addrs_of(settings, i), now) {
+        if is_any_relay(other, addrs_of(settings, i), now) {
             return true;
         }
     }

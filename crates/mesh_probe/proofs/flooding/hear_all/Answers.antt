@@ -4,7 +4,7 @@ use Rattle.mesh_paths.proofs.Rows.{item_in}
 use Rattle.mesh_probe.specs.Hearing.{HearsFrame}
 use Rattle.mesh_probe.proofs.Turns.{passes, turns, all_turned, router_there}
 use Rattle.mesh_probe.proofs.flooding.hear_all.Goals as goal
-use Rattle.mesh_probe.proofs.flooding.hear_all.Goals.{then-leads_from+in_ok-hear_one, else-leads_from}
+use Rattle.mesh_probe.proofs.flooding.hear_all.Goals.{then-is_arc_from+in_ok-hear_one, else-is_arc_from}
 
 pub hear_one-requires-clause-router : goal.hear_one-requires-clause-router
 hear_one-requires-clause-router g c =
@@ -26,17 +26,17 @@ loop-arc-preserved g c =
     let arc : RadioArc = c.arc-item.result in
     let is : arc ≡ get_or s.arcs at arc = subst (λ (l : List RadioArc). arc ≡ get_or l at arc) c.as_slice-arc-items.ensures c.arc-item.is in
     let less : at < length s.arcs = subst (λ (l : List RadioArc). at < length l) c.as_slice-arc-items.ensures c.loop-arc-test.true in
-    elim c.if-leads_from.branch [
-      | then-leads_from+in_ok-hear_one w ↦
+    elim c.if-is_arc_from.branch [
+      | then-is_arc_from+in_ok-hear_one w ↦
           let here = map state c.loop-arc.routers in
           let there = map state w.hear_one.new.routers in
           let h : HearsFrame c.args.now c.args.sender octets arc.to arc.to_iface here there c.loop-arc.sent.items w.hear_one.new.sent.items =
           subst (λ bytes. HearsFrame c.args.now c.args.sender bytes arc.to arc.to_iface here there c.loop-arc.sent.items w.hear_one.new.sent.items) c.as_slice-octets.ensures w.in_ok-hear_one.ensures in
           rw (w.routers-is, w.sent-is)
-          (turns s c.args.now c.args.sender octets x i old at arc c.leads_from.result here there c.loop-arc.sent.items w.hear_one.new.sent.items is less c.leads_from.ensures w.if-leads_from.true h c.loop-arc.invariant)
-      | else-leads_from w ↦
+          (turns s c.args.now c.args.sender octets x i old at arc c.is_arc_from.result here there c.loop-arc.sent.items w.hear_one.new.sent.items is less c.is_arc_from.ensures w.if-is_arc_from.true h c.loop-arc.invariant)
+      | else-is_arc_from w ↦
           rw (w.routers-is, w.sent-is)
-          (passes s c.args.now c.args.sender octets x i old at arc c.leads_from.result (map state c.loop-arc.routers) c.loop-arc.sent.items is less c.leads_from.ensures w.if-leads_from.false c.loop-arc.invariant)
+          (passes s c.args.now c.args.sender octets x i old at arc c.is_arc_from.result (map state c.loop-arc.routers) c.loop-arc.sent.items is less c.is_arc_from.ensures w.if-is_arc_from.false c.loop-arc.invariant)
     ]
 
 pub returns-clause-hear : goal.returns-clause-hear

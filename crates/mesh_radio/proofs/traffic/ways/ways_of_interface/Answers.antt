@@ -3,17 +3,17 @@ use Rattle.std.specs.List.{filter, enumerate_from}
 use Rattle.std.proofs.lemmas.List.{drop_all}
 use Rattle.mesh_machine.specs.Traffic.{leaves, leaving}
 use Rattle.mesh_radio.proofs.traffic.ways.ways_of_interface.Goals as goal
-use Rattle.mesh_radio.proofs.traffic.ways.ways_of_interface.Goals.{then-leaves+in_ok-push, else-leaves}
+use Rattle.mesh_radio.proofs.traffic.ways.ways_of_interface.Goals.{then-is_arc_from+in_ok-push, else-is_arc_from}
 use Rattle.mesh_machine.proofs.Leaving.{leaving_more}
 
 pub loop-number-preserved : goal.loop-number-preserved
 loop-number-preserved c =
-    elim c.if-leaves.branch [
-      | then-leaves+in_ok-push w ↦
-          let hit : leaves c.args.router c.args.iface c.index-arcs-number.result ≡ true = sym c.leaves.ensures ∙ w.if-leaves.true in
+    elim c.if-is_arc_from.branch [
+      | then-is_arc_from+in_ok-push w ↦
+          let hit : leaves c.args.router c.args.iface c.index-arcs-number.result ≡ true = sym c.is_arc_from.ensures ∙ w.if-is_arc_from.true in
           leaving_more _ _ _ _ c.index-arcs-number.result _ _ _ c.loop-number-test.true c.index-arcs-number.is (rw hit (w.ways-is ∙ w.in_ok-push.ensures.ok)) c.loop-number.invariant
-      | else-leaves w ↦
-          let miss : leaves c.args.router c.args.iface c.index-arcs-number.result ≡ false = sym c.leaves.ensures ∙ w.if-leaves.false in
+      | else-is_arc_from w ↦
+          let miss : leaves c.args.router c.args.iface c.index-arcs-number.result ≡ false = sym c.is_arc_from.ensures ∙ w.if-is_arc_from.false in
           leaving_more _ _ _ _ c.index-arcs-number.result _ _ _ c.loop-number-test.true c.index-arcs-number.is (rw miss (w.ways-is ∙ sym (append-nil c.loop-number.ways))) c.loop-number.invariant
     ]
 

@@ -1,7 +1,7 @@
 use Rattle.std.specs.List.{AllWithin}
 use Rattle.mesh_atoms.specs.declared.settings.RadioArc.{RadioArc}
 use Rattle.mesh_probe.specs.Hearing.{BringsTo}
-use Rattle.mesh_probe.proofs.reached.hears_one.Given as goal
+use Rattle.mesh_probe.proofs.reached.can_hear_one.Given as goal
 
 abbrev pub invariant-loop-arc : goal.invariant-loop-arc
 invariant-loop-arc l = AllWithin (λ (arc : RadioArc). BringsTo l.sends l.router arc → ⊥) l.scenario.arcs 0 l.arc-index

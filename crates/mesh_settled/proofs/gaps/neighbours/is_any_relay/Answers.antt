@@ -1,7 +1,7 @@
 use Rattle.std.proofs.lemmas.Option.{slice_get-get_or}
 use Rattle.mesh_atoms.specs.Hello.{Says, Routing}
 use Rattle.mesh_settled.proofs.GapsLemmas.JointLemmas.{some_here, no_more, none_here, denied}
-use Rattle.mesh_settled.proofs.gaps.neighbours.shows_relay.Goals as goal
+use Rattle.mesh_settled.proofs.gaps.neighbours.is_any_relay.Goals as goal
 
 pub returns-then-is_relay : goal.returns-then-is_relay
 returns-then-is_relay g c =
