@@ -17,7 +17,7 @@ pub fn contains(addrs: &[Addr4], addr: Addr4) -> bool
 }
 
 /// Whether two lists have an address in common. Takes no memory, and time by the product of their lengths.
-pub fn meets(addrs: &[Addr4], others: &[Addr4]) -> bool
+pub fn have_common_addr(addrs: &[Addr4], others: &[Addr4]) -> bool
     ensures { IsTrue result ↔ Meets addrs.now others.now }
 {
     addrs.iter().any(|addr| contains(others, *addr))

@@ -35,7 +35,7 @@ mod tuples;
 mod validity;
 
 pub use addr::{Addr4, Endpoint, NetAddr};
-pub use addresses::{contains, meets};
+pub use addresses::{contains, have_common_addr};
 pub use admit::{Admit, QualityStep, SenderQuality};
 pub use agreement::definitions_agree;
 pub use bytes::Bytes;

@@ -2,7 +2,7 @@
 ghost use Rattle.std.specs.Prelude.{◌≡◌, ◌↔◌, ◌⊎◌, IsTrue};
 ghost use Rattle.mesh_atoms.specs.Words.{Meets, IsBeyond};
 
-use mesh_atoms::{Addr4, contains, meets};
+use mesh_atoms::{Addr4, contains, have_common_addr};
 
 /// Whether the first list has an address outside the second.
 pub fn is_beyond(addrs: &[Addr4], others: &[Addr4]) -> bool
@@ -27,12 +27,12 @@ pub fn are_same(addrs: &[Addr4], others: &[Addr4]) -> bool
 pub fn are_outside(addrs: &[Addr4], old: &[Addr4], new: &[Addr4]) -> bool
     ensures { IsTrue result ↔ (Meets addrs.now old.now × IsBeyond addrs.now new.now) }
 {
-    meets(addrs, old) && is_beyond(addrs, new)
+    have_common_addr(addrs, old) && is_beyond(addrs, new)
 }
 
 /// Whether a list is the other, or has none of its addresses.
 pub fn is_apart(addrs: &[Addr4], others: &[Addr4]) -> bool
     ensures { IsTrue result ↔ ((addrs.now ≡ others.now) ⊎ (Meets addrs.now others.now → ⊥)) }
 {
-    are_same(addrs, others) || !meets(addrs, others)
+    are_same(addrs, others) || !have_common_addr(addrs, others)
 }
